@@ -1,0 +1,22 @@
+-- How a request is served.
+use Rattle.std.specs.Prelude.{ℕ, ◌+◌, ◌*◌, ◌/◌, ◌%◌, ◌<◌, ◌≤◌, ◌≡◌, ◌==◌, nat_le, max, Bool, ◌&&◌, if◌then◌else◌, List, [], ◌∷◌, Option, None, Some}
+use Rattle.pas_profile.specs.Classes.{class_sizes}
+use Rattle.pas_profile.specs.declared.directory.Route.{Route}
+use Rattle.pas_profile.specs.declared.directory.Route.TheVariants.{Class, Bitfit, Large}
+
+-- the number of the first of these class sizes, which are numbered from n on, that is large enough and a multiple of the alignment
+abbrev pub first_class : List ℕ → ℕ → ℕ → ℕ → Option ℕ
+first_class [] n size align = None
+first_class (c ∷ cs) n size align = if nat_le size c && (c % align == 0) then Some n else first_class cs (n + 1) size align
+
+abbrev pub route_without_class : ℕ → Route
+route_without_class size = if nat_le size 2048 then Bitfit else Large
+
+abbrev pub route_with : Option ℕ → ℕ → Route
+route_with None size = route_without_class size
+route_with (Some class) size = Class class
+
+-- The smallest class that is at least the size and a multiple of the alignment; where there is none, a bit-fit page for a size of
+-- at most 2,048 bytes, else whole pages. Size 0 counts as 1.
+abbrev pub route_of : ℕ → ℕ → Route
+route_of size align = route_with (first_class class_sizes 0 (max size 1) align) (max size 1)

@@ -1,0 +1,59 @@
+//! What an actor does to the allocator's machine, and what it is refused.
+
+use crate::directory::Directory;
+use crate::name::{Block, Name};
+
+/// Why the end of a name was refused: its block had ended before, or no such block lives.
+#[derive(Clone, Copy, Debug, PartialEq, Eq, Drop)]
+pub enum Why {
+    Ended = 1,
+    NoBlock = 2,
+}
+
+/// An event of the machine. Actor 0 is the scavenger, the threads are the actors from 1 on.
+#[derive(Clone, Copy, Debug, PartialEq, Eq, Drop)]
+pub enum Event {
+    /// The page has this directory from now on.
+    Deed { actor: u8, page: u32, directory: Directory },
+    /// The page is backed by memory.
+    Back { actor: u8, page: u32 },
+    /// The page's memory went back to the system, by a scavenger that knew this epoch.
+    Unback { actor: u8, page: u32, epoch: u64 },
+    /// The block lives.
+    Give { actor: u8, block: Block },
+    /// The block ended, by an actor that knew this epoch.
+    End { actor: u8, name: Name, epoch: u64 },
+    /// The end of this name was refused.
+    Reject { actor: u8, name: Name, why: Why },
+}
+
+/// Why a request got no block: no page can serve it, or this page was in some actor's hands.
+#[derive(Clone, Copy, Debug, PartialEq, Eq, Drop)]
+pub enum NoRoom {
+    NoSpace,
+    Held(u32),
+}
+
+/// Why a free was refused before any step: the page isn't one of the region, or the address is no multiple of 16.
+#[derive(Clone, Copy, Debug, PartialEq, Eq, Drop)]
+pub enum FreeFault {
+    Outside = 1,
+    Unaligned = 2,
+}
+
+/// What a scavenger's pass came to on one hinted page.
+#[derive(Clone, Copy, Debug, PartialEq, Eq, Drop)]
+pub enum Outcome {
+    Unbacked,
+    Bare,
+    Young(u64),
+    InUse(u8, u64),
+    NotOffered,
+}
+
+/// Pages that follow each other, from the first on.
+#[derive(Clone, Copy, Debug, PartialEq, Eq, Drop)]
+pub struct Range {
+    pub first: u32,
+    pub pages: u32,
+}

@@ -1,0 +1,25 @@
+//! The limits of every region. Each is stated here and nowhere else.
+
+/// Bytes of a page.
+pub const PAGE_BYTES: u32 = 4096;
+
+/// Bytes of a grain.
+pub const GRAIN_BYTES: u32 = 16;
+
+/// The most pages that a region has.
+pub const MOST_PAGES: u32 = 4096;
+
+/// The most threads.
+pub const MOST_THREADS: u8 = 16;
+
+/// The most heaps.
+pub const MOST_HEAPS: u8 = 32;
+
+/// The greatest age, in epochs, at which a page may be given back.
+pub const MOST_AGE: u64 = 1_000_000;
+
+/// The number of classes.
+pub const CLASSES: u8 = 16;
+
+/// The largest size, in bytes, that a bit-fit page serves.
+pub const MOST_BITFIT: u32 = 2048;

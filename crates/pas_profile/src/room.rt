@@ -1,0 +1,58 @@
+//! Rooms of a fixed size for an actor's events.
+
+ghost use Rattle.std.specs.Prelude.{◌≤◌, vec_len, vec_capacity};
+
+use crate::event::Event;
+use std::alloc::Global;
+
+/// Memory was wanting.
+#[derive(Clone, Copy, Debug, PartialEq, Eq, Drop)]
+pub struct NoMemory;
+
+/// Room for a fixed number of events, in the order in which they were made. Adding one takes no memory.
+#[derive(Drop)]
+pub struct EventRoom {
+    events: Vec<Event>,
+    bound: u32,
+    ghost reserved: { bound ≤ vec_capacity events },
+    ghost within: { vec_len events ≤ bound },
+}
+
+impl EventRoom {
+    ghost use Rattle.std.specs.Prelude.{◌≡◌, ◌<◌, ◌+◌, ◌++◌, ◌∷◌, [], IfOk, length};
+    ghost use Rattle.pas_profile.specs.Rooms.{shown, size_of_room};
+
+    /// A room for so many events, with no event in it.
+    pub fn try_new(alloc: Global, bound: u32) -> Result<EventRoom, NoMemory>
+        ensures empty { IfOk result (λ room. shown room ≡ []) }
+        ensures size { IfOk result (λ room. size_of_room room ≡ bound) }
+    {
+        match Vec::with_capacity(alloc, bound as usize) {
+            Ok(events) => Ok(EventRoom { events, bound }),
+            Err(_) => Err(NoMemory),
+        }
+    }
+
+    /// For how many more events there is room.
+    pub fn spare(&self) -> u32
+        ensures { result + length (shown self.now) ≡ size_of_room self.now }
+    {
+        self.bound - self.events.len() as u32
+    }
+
+    /// Adds an event at the end.
+    pub fn push(&mut self, event: Event)
+        requires { length (shown self.old) < size_of_room self.old }
+        ensures added { shown self.new ≡ shown self.old ++ event ∷ [] }
+        ensures size { size_of_room self.new ≡ size_of_room self.old }
+    {
+        self.events.push_reserved(event);
+    }
+
+    /// The events in order.
+    pub fn as_slice(&self) -> &[Event]
+        ensures { result.now ≡ shown self.now }
+    {
+        &self.events
+    }
+}
