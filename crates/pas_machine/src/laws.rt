@@ -1,0 +1,1 @@
+//! What every run of the machine keeps. Each law is the contract of an empty function.

@@ -1,0 +1,70 @@
+-- What the answer of a step promises to its actor beside being the word's old value: it agrees with what the view holds and knows.
+-- One definition by cases, kind by kind and word by word.
+use Rattle.std.specs.Prelude.{ℕ, ◌+◌, ◌*◌, ◌/◌, ◌%◌, ◌^◌, ◌<◌, ◌≤◌, ◌≡◌, ◌≢◌, Bool, true, false, List, [], ◌∷◌, ◌++◌, Option, None, Some}
+use Rattle.pas_profile.specs.Classes.{has_bit}
+use Rattle.pas_profile.specs.Directories.{deed_word_of}
+use Rattle.pas_profile.specs.Lives.{is_live, turn_of, grains_of}
+use Rattle.pas_profile.specs.Profiles.{IsDirectoryOf}
+use Rattle.pas_profile.specs.declared.profile.Profile.{Profile}
+use Rattle.pas_profile.specs.declared.directory.Directory.{Directory}
+use Rattle.pas_profile.specs.declared.word.Word.{Word}
+use Rattle.pas_profile.specs.declared.word.Word.TheVariants as Word
+use Rattle.pas_machine.specs.Runs.{grain_of}
+use Rattle.pas_steps.specs.Effects.{in_mask, life_word_at}
+use Rattle.pas_steps.specs.Views.{View, holds, known_deed, known_free, knows_backed, known_life, epoch_of}
+use Rattle.pas_steps.specs.declared.step.Step.{Step}
+use Rattle.pas_steps.specs.declared.step.Made.{Made}
+use Rattle.pas_steps.specs.declared.step.Step.TheVariants.{Look, Deed, Back, Take, Put, Give, End, Stamp}
+
+-- the word is no deed, or the deed of a directory of the profile
+abbrev pub IsDeedWord : Profile → ℕ → Type 0
+IsDeedWord f a = (a ≢ 0) → (d : Directory) × (a ≡ deed_word_of d) × IsDirectoryOf f d
+
+-- a deed word that is read: a deed that is known is read again
+pub record AgreesDeed (f : Profile) (v : View) (page a : ℕ) : Type 0 where
+  pub a_deed : IsDeedWord f a
+  pub known : known_deed v page ≢ 0 → a ≡ known_deed v page
+
+-- a free word of a page that is read: a grain that is known as free is read as free, one that is held as not free
+pub record AgreesFree (v : View) (page word a : ℕ) : Type 0 where
+  pub free : (g : ℕ) → g / 256 ≡ page → g / 64 % 4 ≡ word → known_free v g ≡ true → has_bit a (g % 64) ≡ true
+  pub held : (g : ℕ) → g / 256 ≡ page → g / 64 % 4 ≡ word → holds v g ≡ true → has_bit a (g % 64) ≡ false
+
+-- a life word that is read: one that is known is read again, no block lives at a grain that is held, and a live block has a length that
+-- fits the region
+pub record AgreesLife (f : Profile) (v : View) (g a : ℕ) : Type 0 where
+  pub known : (w : ℕ) → known_life v g ≡ Some w → a ≡ w
+  pub held : holds v g ≡ true → is_live a ≡ false
+  pub turn : turn_of a < 2 ^ 40
+  pub length : is_live a ≡ true → (1 ≤ grains_of a) × (grains_of a ≤ 256 * f.pages)
+
+-- a backed word that is read: it is 0 or 1, and 1 where the page is known as backed
+pub record AgreesBacked (v : View) (page a : ℕ) : Type 0 where
+  pub small : a ≤ 1
+  pub known : knows_backed v page ≡ true → a ≡ 1
+
+abbrev pub AgreesLook : Profile → View → Word → ℕ → Type 0
+AgreesLook f v Word.Epoch a = epoch_of v ≤ a
+AgreesLook f v (Word.Free page word) a = AgreesFree v page word a
+AgreesLook f v (Word.Life page grain) a = AgreesLife f v (page * 256 + grain) a
+AgreesLook f v (Word.Deed page) a = AgreesDeed f v page a
+AgreesLook f v (Word.Backed page) a = AgreesBacked v page a
+AgreesLook f v (Word.Stamp page) a = a < 2 ^ 64
+AgreesLook f v (Word.Parked j) a = a ≡ 0
+AgreesLook f v (Word.Empty j) a = a ≡ 0
+AgreesLook f v (Word.Eligible d j) a = a ≡ 0
+
+abbrev pub Agrees : Profile → View → Step → ℕ → Type 0
+Agrees f v (Look word) a = AgreesLook f v word a
+Agrees f v (Deed page directory) a = AgreesDeed f v page a
+Agrees f v (Back page) a = AgreesBacked v page a
+Agrees f v (Take page word mask) a = AgreesFree v page word a
+Agrees f v (Put page word mask) a = AgreesFree v page word a
+Agrees f v (Give block) a = AgreesLife f v (grain_of block.name) a
+Agrees f v (End name guess) a = AgreesLife f v (grain_of name) a
+Agrees f v (Stamp page) a = a < 2 ^ 64
+
+-- each answer of these steps, which were made from this view on, agrees with the view of its moment
+abbrev pub Agreed : Profile → View → List Made → Type 0
+Agreed f v [] = Unit {0}
+Agreed f v (m ∷ ms) = Agrees f (ms ++ v) m.step m.answer × Agreed f v ms

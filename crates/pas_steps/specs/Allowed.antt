@@ -1,0 +1,80 @@
+-- Which steps a view allows. It depends on that one view alone.
+use Rattle.std.specs.Prelude.{ℕ, ◌+◌, ◌-◌, ◌*◌, ◌/◌, ◌%◌, ◌^◌, ◌<◌, ◌≤◌, ◌≡◌, ◌≢◌, Bool, true, false, Option, None, Some}
+use Rattle.pas_profile.specs.Directories.{deed_word_of}
+use Rattle.pas_profile.specs.Lives.{turn_of}
+use Rattle.pas_profile.specs.Profiles.{IsPage, IsDirectoryOf, IsWordOf}
+use Rattle.pas_profile.specs.declared.profile.Profile.{Profile}
+use Rattle.pas_profile.specs.declared.directory.Directory.{Directory}
+use Rattle.pas_profile.specs.declared.name.Block.{Block}
+use Rattle.pas_machine.specs.Runs.{in_run, address_of, grain_of, length_of}
+use Rattle.pas_steps.specs.Effects.{in_mask}
+use Rattle.pas_steps.specs.Views.{View, holds, has_right, known_deed, knows_backed, known_life, known_epoch, is_unstamped, given_count}
+use Rattle.pas_steps.specs.declared.step.Step.{Step}
+use Rattle.pas_steps.specs.declared.step.Step.TheVariants.{Look, Deed, Back, Take, Put, Give, End, Stamp}
+
+-- the operands are of the profile
+pub record IsBlockOf (f : Profile) (block : Block) : Type 0 where
+  pub first : 4096 ≤ address_of block.name
+  pub last : address_of block.name + block.room ≤ 4096 * (f.pages + 1)
+  pub heap : block.heap < f.heaps
+  pub turn : block.name.turn < 2 ^ 40
+
+abbrev pub IsStepOf : Profile → Step → Type 0
+IsStepOf f (Look word) = IsWordOf f word
+IsStepOf f (Deed page directory) = IsPage f page × IsDirectoryOf f directory
+IsStepOf f (Back page) = IsPage f page
+IsStepOf f (Take page word mask) = IsPage f page × (word < 4) × (mask < 2 ^ 64)
+IsStepOf f (Put page word mask) = IsPage f page × (word < 4) × (mask < 2 ^ 64)
+IsStepOf f (Give block) = IsBlockOf f block
+IsStepOf f (End name guess) = IsPage f (address_of name / 4096) × (address_of name % 16 ≡ 0) × (name.turn < 2 ^ 40 - 1) × (1 ≤ guess) × (guess ≤ 256 * f.pages)
+IsStepOf f (Stamp page) = IsPage f page
+
+-- the actor holds a grain of the page
+abbrev pub HoldsOn : View → ℕ → Type 0
+HoldsOn v page = (g : ℕ) × (g / 256 ≡ page) × (holds v g ≡ true)
+
+-- the actor knows that the page is of the directory
+abbrev pub KnowsDirectory : View → ℕ → Directory → Type 0
+KnowsDirectory v page d = known_deed v page ≡ deed_word_of d
+
+-- a page is known to bear blocks of the heap, and isn't unstamped
+pub record KnowsBearing (f : Profile) (v : View) (heap page : ℕ) : Type 0 where
+  pub backed : knows_backed v page ≡ true
+  pub directory : Directory
+  pub of_profile : IsDirectoryOf f directory
+  pub deed : KnowsDirectory v page directory
+  pub of_heap : directory.heap ≡ heap
+  pub stamped : is_unstamped v page ≡ false
+
+-- a block may be given now: all its grains are held, on pages that are known to bear it, with the turn of the life word that is known
+pub record MayGiveNow (f : Profile) (v : View) (block : Block) : Type 0 where
+  pub aligned : address_of block.name % 16 ≡ 0
+  pub whole : block.room % 16 ≡ 0
+  pub some : 0 < block.room
+  pub held : (g : ℕ) → in_run (grain_of block.name) (length_of block) g ≡ true → holds v g ≡ true
+  pub bears : (g : ℕ) → in_run (grain_of block.name) (length_of block) g ≡ true → KnowsBearing f v block.heap (g / 256)
+  pub word : ℕ
+  pub known : known_life v (grain_of block.name) ≡ Some word
+  pub turn_is : block.name.turn ≡ turn_of word
+  pub few : given_count v < 2 ^ 32
+
+-- grains may be put back now: there are some, each is held, and the page isn't unstamped
+pub record MayPutNow (v : View) (page word mask : ℕ) : Type 0 where
+  pub some : mask ≢ 0
+  pub held : (g : ℕ) → in_mask page word mask g ≡ true → holds v g ≡ true
+  pub stamped : is_unstamped v page ≡ false
+
+abbrev pub IsEpochKnown : Option ℕ → Type 0
+IsEpochKnown None = ⊥
+IsEpochKnown (Some e) = Unit {0}
+
+-- the view allows the step
+abbrev pub Allowed : Profile → View → Step → Type 0
+Allowed f v (Look word) = Unit {0}
+Allowed f v (Deed page directory) = Unit {0}
+Allowed f v (Back page) = HoldsOn v page × (known_deed v page ≢ 0)
+Allowed f v (Take page word mask) = has_right v page ≡ true
+Allowed f v (Put page word mask) = MayPutNow v page word mask
+Allowed f v (Give block) = MayGiveNow f v block
+Allowed f v (End name guess) = IsEpochKnown (known_epoch v)
+Allowed f v (Stamp page) = HoldsOn v page × IsEpochKnown (known_epoch v)

@@ -1,0 +1,44 @@
+-- What a step does to its one word.
+use Rattle.std.specs.Prelude.{ℕ, ◌+◌, ◌*◌, ◌/◌, ◌%◌, ◌==◌, max, Bool, ◌&&◌, if◌then◌else◌, bit_and, bit_or}
+use Rattle.std.specs.Int.{bit_not, w64}
+use Rattle.pas_profile.specs.Classes.{has_bit}
+use Rattle.pas_profile.specs.Directories.{deed_word_of}
+use Rattle.pas_profile.specs.Lives.{live_word}
+use Rattle.pas_profile.specs.declared.word.Word.{Word}
+use Rattle.pas_profile.specs.declared.word.Word.TheVariants as Word
+use Rattle.pas_machine.specs.Runs.{grain_of, length_of}
+use Rattle.pas_steps.specs.declared.step.Step.{Step}
+use Rattle.pas_steps.specs.declared.step.Step.TheVariants.{Look, Deed, Back, Take, Put, Give, End, Stamp}
+
+-- ---- the words of a grain, which is a number of the region: `page * 256 + grain`
+abbrev pub free_word_at : ℕ → Word
+free_word_at g = Word.Free (g / 256) (g / 64 % 4)
+
+abbrev pub life_word_at : ℕ → Word
+life_word_at g = Word.Life (g / 256) (g % 256)
+
+-- the grain is one of the mask's in this free word of the page
+abbrev pub in_mask : ℕ → ℕ → ℕ → ℕ → Bool
+in_mask page word mask g = (word == g / 64 % 4) && (page == g / 256) && has_bit mask (g % 64)
+
+-- ---- the one word of a step, and its new value
+abbrev pub target : Step → Word
+target (Look word) = word
+target (Deed page directory) = Word.Deed page
+target (Back page) = Word.Backed page
+target (Take page word mask) = Word.Free page word
+target (Put page word mask) = Word.Free page word
+target (Give block) = life_word_at (grain_of block.name)
+target (End name guess) = life_word_at (grain_of name)
+target (Stamp page) = Word.Stamp page
+
+-- the new value, from the epoch that the actor knows (0 where it knows none) and the old value
+abbrev pub new_value : ℕ → Step → ℕ → ℕ
+new_value epoch (Look word) old = old
+new_value epoch (Deed page directory) old = if old == 0 then deed_word_of directory else old
+new_value epoch (Back page) old = bit_or old 1
+new_value epoch (Take page word mask) old = bit_and old (bit_not w64 mask)
+new_value epoch (Put page word mask) old = bit_or old mask
+new_value epoch (Give block) old = live_word block.name.turn (length_of block)
+new_value epoch (End name guess) old = if old == live_word name.turn guess then name.turn + 1 else old
+new_value epoch (Stamp page) old = max old epoch

@@ -1,0 +1,53 @@
+-- The event of a step, and the events of a view.
+use Rattle.std.specs.Prelude.{ℕ, ◌+◌, ◌/◌, ◌==◌, nat_lt, Bool, true, false, ◌&&◌, if◌then◌else◌, List, [], ◌∷◌, Option, None, Some}
+use Rattle.pas_profile.specs.Lives.{live_word, is_live, turn_of}
+use Rattle.pas_profile.specs.declared.name.Name.{Name}
+use Rattle.pas_profile.specs.declared.event.Event.{Event}
+use Rattle.pas_profile.specs.declared.event.Event.TheVariants as Event
+use Rattle.pas_profile.specs.declared.event.Why.{Why}
+use Rattle.pas_profile.specs.declared.event.Why.TheVariants as Why
+use Rattle.pas_steps.specs.Views.{View, epoch_of}
+use Rattle.pas_steps.specs.declared.step.Step.{Step}
+use Rattle.pas_steps.specs.declared.step.Made.{Made}
+use Rattle.pas_steps.specs.declared.step.Step.TheVariants.{Look, Deed, Back, Take, Put, Give, End, Stamp}
+
+-- why the end of a name is refused, from the life word that was read
+abbrev pub reason_of : Name → ℕ → Why
+reason_of name a = if nat_lt name.turn (turn_of a) then Why.Ended else Why.NoBlock
+
+-- An end that succeeds is an `End`. One that read no live block with the name's turn is refused. One that read such a block of another
+-- length makes no event.
+abbrev pub end_event : ℕ → ℕ → Name → ℕ → ℕ → Option Event
+end_event k epoch name guess a = if a == live_word name.turn guess then Some (Event.End k name epoch) else
+    (if is_live a && (turn_of a == name.turn) then None else Some (Event.Reject k name (reason_of name a)))
+
+-- the event of a step of actor k that knows this epoch, with this answer
+abbrev pub event_of : ℕ → ℕ → Step → ℕ → Option Event
+event_of k epoch (Look word) a = None
+event_of k epoch (Deed page directory) a = if a == 0 then Some (Event.Deed k page directory) else None
+event_of k epoch (Back page) a = if a == 0 then Some (Event.Back k page) else None
+event_of k epoch (Take page word mask) a = None
+event_of k epoch (Put page word mask) a = None
+event_of k epoch (Give block) a = Some (Event.Give k block)
+event_of k epoch (End name guess) a = end_event k epoch name guess a
+event_of k epoch (Stamp page) a = None
+
+abbrev pub with_event : Option Event → List Event → List Event
+with_event None es = es
+with_event (Some e) es = e ∷ es
+
+-- the events of an actor's own steps, the newest first
+abbrev pub events_of : ℕ → View → List Event
+events_of k [] = []
+events_of k (m ∷ v) = with_event (event_of k (epoch_of v) m.step m.answer) (events_of k v)
+
+-- how many events a step may make
+abbrev pub wants : Step → ℕ
+wants (Look word) = 0
+wants (Deed page directory) = 1
+wants (Back page) = 1
+wants (Take page word mask) = 0
+wants (Put page word mask) = 0
+wants (Give block) = 1
+wants (End name guess) = 1
+wants (Stamp page) = 0

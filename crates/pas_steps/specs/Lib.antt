@@ -1,0 +1,9 @@
+pub mod Effects
+pub mod Views
+pub mod Events
+pub mod Allowed
+pub mod Lists
+pub mod Agreement
+pub mod Desks
+pub mod Frames
+pub mod Ranges

@@ -1,0 +1,153 @@
+//! One actor's place at a region.
+ghost use Rattle.std.specs.Prelude.{◌≡◌, ◌+◌, ◌-◌, ◌^◌, ◌≤◌, Bool, ℕ, true, min, length, List, reverse};
+ghost use Rattle.pas_profile.specs.declared.event.Event.{Event};
+ghost use Rattle.pas_steps.specs.Views.{View};
+ghost use Rattle.pas_steps.specs.Events.{events_of, wants};
+ghost use Rattle.pas_steps.specs.Lists.{Whole, Legal, part};
+ghost use Rattle.pas_steps.specs.Desks.{Standing, CanMake, Makes};
+
+use crate::step::Step;
+use pas_profile::{Block, Directory, Event, Name, Profile, Word};
+
+/// One actor's place at a region. Every step is made through it.
+///
+/// No step method refuses. Each asks that some view for which the desk stands allows the step, and that there is room for the
+/// event that the step may make. A desk stores no list of its steps.
+pub trait Desk {
+    /// What tells one region from another of the same profile.
+    type Home;
+
+    /// The region. No step changes it.
+    ghost home: { Self → Self.Home };
+
+    /// Whether the desk tells the whole state. It does only where no other desk runs beside it.
+    ghost tells: { Bool };
+
+    /// What the desk means: its seat, and the views and lists for which it stands.
+    ghost standing: { Self → Standing };
+
+    /// For how many more events there is room.
+    ghost spare_of: { Self → ℕ };
+
+    /// The events so far, the oldest first.
+    ghost shown_of: { Self → List Event };
+
+    /// How many steps were made.
+    ghost count_of: { Self → ℕ };
+
+    fn actor(&self) -> u8
+        ensures { result ≡ (standing self.now).seat.actor };
+
+    fn profile(&self) -> &Profile
+        ensures { result.now ≡ (standing self.now).seat.profile };
+
+    /// The number of steps made, which stays at 2^64 - 1 once it is there.
+    fn count(&self) -> u64
+        ensures { result ≡ count_of self.now };
+
+    /// All events made, in order.
+    fn shown(&self) -> &[Event]
+        ensures { result.now ≡ shown_of self.now };
+
+    /// Makes a step, and answers the word's value before it.
+    fn make(&mut self, step: Step) -> u64
+        requires can { CanMake (standing self.old) step }
+        requires room { wants step ≤ spare_of self.old }
+        ensures makes { Makes (standing self.old) (standing self.new) step result }
+        ensures home { home self.new ≡ home self.old };
+
+    /// Loads any word.
+    fn look(&mut self, word: Word) -> u64
+        requires can { CanMake (standing self.old) (Step.Look word) }
+        requires room { wants (Step.Look word) ≤ spare_of self.old }
+        ensures makes { Makes (standing self.old) (standing self.new) (Step.Look word) result }
+        ensures home { home self.new ≡ home self.old }
+    {
+        self.make(Step::Look { word })
+    }
+
+    /// Writes the deed of the page where it has none. Where the answer is 0, the actor has the page's right from now on.
+    fn deed(&mut self, page: u32, directory: Directory) -> u64
+        requires can { CanMake (standing self.old) (Step.Deed page directory) }
+        requires room { wants (Step.Deed page directory) ≤ spare_of self.old }
+        ensures makes { Makes (standing self.old) (standing self.new) (Step.Deed page directory) result }
+        ensures home { home self.new ≡ home self.old }
+    {
+        self.make(Step::Deed { page, directory })
+    }
+
+    /// Backs the page. The actor holds a grain of it and knows its deed.
+    fn back(&mut self, page: u32) -> u64
+        requires can { CanMake (standing self.old) (Step.Back page) }
+        requires room { wants (Step.Back page) ≤ spare_of self.old }
+        ensures makes { Makes (standing self.old) (standing self.new) (Step.Back page) result }
+        ensures home { home self.new ≡ home self.old }
+    {
+        self.make(Step::Back { page })
+    }
+
+    /// Takes the free ones of the mask's grains in a free word of the page, whose right is the actor's.
+    fn take(&mut self, page: u32, word: u8, mask: u64) -> u64
+        requires can { CanMake (standing self.old) (Step.Take page word mask) }
+        requires room { wants (Step.Take page word mask) ≤ spare_of self.old }
+        ensures makes { Makes (standing self.old) (standing self.new) (Step.Take page word mask) result }
+        ensures home { home self.new ≡ home self.old }
+    {
+        self.make(Step::Take { page, word, mask })
+    }
+
+    /// Puts grains back that the actor holds, some at least, on a page that isn't unstamped.
+    fn put(&mut self, page: u32, word: u8, mask: u64) -> u64
+        requires can { CanMake (standing self.old) (Step.Put page word mask) }
+        requires room { wants (Step.Put page word mask) ≤ spare_of self.old }
+        ensures makes { Makes (standing self.old) (standing self.new) (Step.Put page word mask) result }
+        ensures home { home self.new ≡ home self.old }
+    {
+        self.make(Step::Put { page, word, mask })
+    }
+
+    /// Gives the block, all of whose grains the actor holds, with the turn of the life word that it knows.
+    fn give(&mut self, block: Block) -> u64
+        requires can { CanMake (standing self.old) (Step.Give block) }
+        requires room { wants (Step.Give block) ≤ spare_of self.old }
+        ensures makes { Makes (standing self.old) (standing self.new) (Step.Give block) result }
+        ensures home { home self.new ≡ home self.old }
+    {
+        self.make(Step::Give { block })
+    }
+
+    /// Ends the block of this name where it lives with just so many grains. The actor has read the epoch.
+    fn end(&mut self, name: Name, guess: u32) -> u64
+        requires can { CanMake (standing self.old) (Step.End name guess) }
+        requires room { wants (Step.End name guess) ≤ spare_of self.old }
+        ensures makes { Makes (standing self.old) (standing self.new) (Step.End name guess) result }
+        ensures home { home self.new ≡ home self.old }
+    {
+        self.make(Step::End { name, guess })
+    }
+
+    /// Raises the stamp of the page, of which the actor holds a grain, to the epoch that it read.
+    fn stamp(&mut self, page: u32) -> u64
+        requires can { CanMake (standing self.old) (Step.Stamp page) }
+        requires room { wants (Step.Stamp page) ≤ spare_of self.old }
+        ensures makes { Makes (standing self.old) (standing self.new) (Step.Stamp page) result }
+        ensures home { home self.new ≡ home self.old }
+    {
+        self.make(Step::Stamp { page })
+    }
+
+    /// The events shown are those of each view for which the desk stands.
+    ghost shows: { (d : Self) (v : View) (l : Whole) → (standing d).stands v l → shown_of d ≡ reverse (events_of (standing d).seat.actor v) };
+
+    /// The events of a view and the room that is left make up the whole room.
+    ghost spares: { (d : Self) (v : View) (l : Whole) → (standing d).stands v l → spare_of d + length (events_of (standing d).seat.actor v) ≡ (standing d).seat.room };
+
+    /// The count is the length of each view, up to the greatest number of 64 bits.
+    ghost counts: { (d : Self) (v : View) (l : Whole) → (standing d).stands v l → count_of d ≡ min (length v) (2 ^ 64 - 1) };
+
+    /// A desk that tells the whole state stands for legal lists ..
+    ghost told: { (d : Self) (v : View) (l : Whole) → tells ≡ true → (standing d).stands v l → Legal (standing d).seat.profile l };
+
+    /// .. and its view is the part of its actor.
+    ghost told_part: { (d : Self) (v : View) (l : Whole) → tells ≡ true → (standing d).stands v l → part (standing d).seat.actor l ≡ v };
+}

@@ -1,0 +1,128 @@
+//! What a step does, as programs that a desk calls.
+ghost use Rattle.std.specs.Prelude.{◌≡◌, ◌<◌, ◌-◌, ◌^◌};
+ghost use Rattle.pas_steps.specs.Effects.{target as target_word, new_value as the_value, life_word_at as the_life_word_at};
+ghost use Rattle.pas_machine.specs.Runs.{grain_of};
+ghost use Rattle.pas_steps.specs.Views.{epoch_after as the_epoch};
+ghost use Rattle.pas_steps.specs.Events.{event_of as the_event, end_event as the_end_event};
+ghost use Rattle.pas_steps.specs.Ranges.{IsRanged};
+
+use crate::step::Step;
+use pas_profile::{Event, Name, Why, Word, deed_word, life_word, read_life};
+
+/// The one word of a step.
+pub fn target(step: Step) -> Word
+    ensures { result ≡ target_word step }
+{
+    match step {
+        Step::Look { word } => word,
+        Step::Deed { page, directory: _ } => Word::Deed(page),
+        Step::Back { page } => Word::Backed(page),
+        Step::Take {
+            page,
+            word,
+            mask: _,
+        } => Word::Free(page, word),
+        Step::Put {
+            page,
+            word,
+            mask: _,
+        } => Word::Free(page, word),
+        Step::Give { block } => life_word_at(block.name),
+        Step::End { name, guess: _ } => life_word_at(name),
+        Step::Stamp { page } => Word::Stamp(page),
+    }
+}
+
+/// The life word at the address of the name.
+fn life_word_at(name: Name) -> Word
+    ensures { result ≡ the_life_word_at (grain_of name) }
+{
+    let grain = name.address.0 / 16;
+    Word::Life(grain / 256, (grain % 256) as u8)
+}
+
+/// The word's new value, from the epoch that the actor knows and the old value.
+pub fn new_value(epoch: u64, step: Step, old: u64) -> u64
+    requires { IsRanged step }
+    ensures { result ≡ the_value epoch step old }
+{
+    match step {
+        Step::Look { word: _ } => old,
+        Step::Deed { page: _, directory } => { if old == 0 { deed_word(directory) } else { old } }
+        Step::Back { page: _ } => old | 1,
+        Step::Take {
+            page: _,
+            word: _,
+            mask,
+        } => old & !mask,
+        Step::Put {
+            page: _,
+            word: _,
+            mask,
+        } => old | mask,
+        Step::Give { block } => life_word(block.name.turn, block.room / 16, true),
+        Step::End { name, guess } => {
+            if old == life_word(name.turn, guess, true) {
+                name.turn + 1
+            } else {
+                old
+            }
+        }
+        Step::Stamp { page: _ } => old.max(epoch),
+    }
+}
+
+/// The newest epoch that the actor knows after a step with this answer.
+pub fn epoch_after(step: Step, answer: u64, known: Option<u64>) -> Option<u64>
+    ensures { result ≡ the_epoch step answer known }
+{
+    match step {
+        Step::Look { word: Word::Epoch } => Some(answer),
+        _ => known,
+    }
+}
+
+/// The event of an end with this answer.
+fn end_event(actor: u8, epoch: u64, name: Name, guess: u32, answer: u64) -> Option<Event>
+    requires turn { name.turn < 2 ^ 40 - 1 }
+    requires guess { guess < 2 ^ 23 }
+    ensures { result ≡ the_end_event actor epoch name guess answer }
+{
+    if answer == life_word(name.turn, guess, true) {
+        return Some(Event::End { actor, name, epoch });
+    }
+    let (turn, _, live) = read_life(answer);
+    if live && turn == name.turn {
+        None
+    } else if name.turn < turn {
+        Some(Event::Reject {
+            actor,
+            name,
+            why: Why::Ended,
+        })
+    } else {
+        Some(Event::Reject {
+            actor,
+            name,
+            why: Why::NoBlock,
+        })
+    }
+}
+
+/// The event of a step with this answer, of an actor that knows this epoch.
+pub fn event_of(actor: u8, epoch: u64, step: Step, answer: u64) -> Option<Event>
+    requires { IsRanged step }
+    ensures { result ≡ the_event actor epoch step answer }
+{
+    match step {
+        Step::Deed { page, directory } if answer == 0 => Some(Event::Deed {
+            actor,
+            page,
+            directory,
+        }),
+        Step::Back { page } if answer == 0 => Some(Event::Back { actor, page }),
+        Step::Give { block } => Some(Event::Give { actor, block }),
+        Step::End { name, guess } => end_event(actor, epoch, name, guess, answer),
+        _ => None,
+    }
+}

@@ -1,0 +1,31 @@
+//! The steps of an actor.
+
+use pas_profile::{Block, Directory, Name, Word};
+
+/// One step of an actor: one load or one exchange on one word of the region.
+#[derive(Clone, Copy, Debug, PartialEq, Eq, Drop)]
+pub enum Step {
+    /// A load of any word.
+    Look { word: Word },
+    /// Writes the page's deed where it has none, and then has the page's right.
+    Deed { page: u32, directory: Directory },
+    /// Backs the page.
+    Back { page: u32 },
+    /// Clears the mask's bits in a free word (0 to 3) of the page. The actor holds the grains that were free.
+    Take { page: u32, word: u8, mask: u64 },
+    /// Sets the mask's bits in a free word of the page. The grains are free.
+    Put { page: u32, word: u8, mask: u64 },
+    /// Makes the block live. Its grains are no longer held.
+    Give { block: Block },
+    /// Ends the block of this name where it lives with just so many grains, and then holds them.
+    End { name: Name, guess: u32 },
+    /// Raises the page's stamp to the newest epoch that the actor read.
+    Stamp { page: u32 },
+}
+
+/// A step that was made, with its answer: the word's value before it.
+#[derive(Clone, Copy, Debug, PartialEq, Eq, Drop)]
+pub struct Made {
+    pub step: Step,
+    pub answer: u64,
+}
