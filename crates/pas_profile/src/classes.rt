@@ -3,7 +3,9 @@ ghost use Rattle.std.specs.Prelude.{◌≡◌, ◌<◌, ℕ, ◌/◌, ◌%◌, l
 ghost use Rattle.pas_profile.specs.Classes.{IsClass, class_size as size_of_class, usable_grains, has_bit, is_usable};
 
 /// The size of each class, in bytes.
-pub const CLASS_SIZES: [u32; 16] = [16, 32, 48, 64, 80, 96, 112, 128, 160, 192, 224, 256, 320, 384, 448, 512];
+pub const CLASS_SIZES: [u32; 16] = [
+    16, 32, 48, 64, 80, 96, 112, 128, 160, 192, 224, 256, 320, 384, 448, 512,
+];
 
 /// Bytes of a block of the class.
 pub fn class_size(class: u8) -> u32

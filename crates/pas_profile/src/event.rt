@@ -14,17 +14,39 @@ pub enum Why {
 #[derive(Clone, Copy, Debug, PartialEq, Eq, Drop)]
 pub enum Event {
     /// The page has this directory from now on.
-    Deed { actor: u8, page: u32, directory: Directory },
+    Deed {
+        actor: u8,
+        page: u32,
+        directory: Directory,
+    },
     /// The page is backed by memory.
-    Back { actor: u8, page: u32 },
+    Back {
+        actor: u8,
+        page: u32,
+    },
     /// The page's memory went back to the system, by a scavenger that knew this epoch.
-    Unback { actor: u8, page: u32, epoch: u64 },
+    Unback {
+        actor: u8,
+        page: u32,
+        epoch: u64,
+    },
     /// The block lives.
-    Give { actor: u8, block: Block },
+    Give {
+        actor: u8,
+        block: Block,
+    },
     /// The block ended, by an actor that knew this epoch.
-    End { actor: u8, name: Name, epoch: u64 },
+    End {
+        actor: u8,
+        name: Name,
+        epoch: u64,
+    },
     /// The end of this name was refused.
-    Reject { actor: u8, name: Name, why: Why },
+    Reject {
+        actor: u8,
+        name: Name,
+        why: Why,
+    },
 }
 
 /// Why a request got no block: no page can serve it, or this page was in some actor's hands.

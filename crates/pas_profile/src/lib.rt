@@ -22,6 +22,6 @@ pub use event::{Event, FreeFault, NoRoom, Outcome, Range, Why};
 pub use life::{life_word, read_life};
 pub use name::{Address, Block, Name};
 pub use profile::Profile;
-pub use routing::route;
 pub use room::{EventRoom, NoMemory};
+pub use routing::route;
 pub use word::{Layout, Word};

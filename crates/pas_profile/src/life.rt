@@ -17,5 +17,9 @@ pub fn read_life(word: u64) -> (u64, u32, bool)
     ensures grains { result.1 ≡ grains_of word }
     ensures live { result.2 ≡ is_live word }
 {
-    (word % (1 << 40), (word / (1 << 40) % (1 << 23)) as u32, word >= 1 << 63)
+    (
+        word % (1 << 40),
+        (word / (1 << 40) % (1 << 23)) as u32,
+        word >= 1 << 63,
+    )
 }

@@ -8,7 +8,8 @@ use crate::directory::Route;
 
 /// The smallest class of at least so many grains, by the number of grains.
 const CLASS_BY_GRAINS: [u8; 33] = [
-    0, 0, 1, 2, 3, 4, 5, 6, 7, 8, 8, 9, 9, 10, 10, 11, 11, 12, 12, 12, 12, 13, 13, 13, 13, 14, 14, 14, 14, 15, 15, 15, 15,
+    0, 0, 1, 2, 3, 4, 5, 6, 7, 8, 8, 9, 9, 10, 10, 11, 11, 12, 12, 12, 12, 13, 13, 13, 13, 14, 14,
+    14, 14, 15, 15, 15, 15,
 ];
 
 /// The route of a request for so many bytes at a multiple of the alignment: the smallest class that is large enough and a
@@ -25,5 +26,9 @@ pub fn route(size: u32, align: u32) -> Route
             }
         }
     }
-    if size <= 2048 { Route::Bitfit } else { Route::Large }
+    if size <= 2048 {
+        Route::Bitfit
+    } else {
+        Route::Large
+    }
 }

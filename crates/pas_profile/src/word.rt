@@ -49,7 +49,10 @@ impl Layout {
         ensures pages { result.pages ≡ profile.now.pages }
         ensures heaps { result.heaps ≡ profile.now.heaps }
     {
-        Layout { pages: profile.pages, heaps: profile.heaps }
+        Layout {
+            pages: profile.pages,
+            heaps: profile.heaps,
+        }
     }
 
     /// The place of the word among all words. Distinct words have distinct places.
@@ -70,7 +73,10 @@ impl Layout {
             Word::Stamp(page) => 1 + 263 * (page as usize - 1) + 262,
             Word::Parked(j) => vectors + j as usize,
             Word::Empty(j) => vectors + vector + j as usize,
-            Word::Eligible(directory, j) => vectors + 2 * vector + directory as usize * vector + j as usize,
+            Word::Eligible(directory, j) => vectors
+                + 2 * vector
+                + directory as usize * vector
+                + j as usize,
         }
     }
 
