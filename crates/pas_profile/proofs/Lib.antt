@@ -1,3 +1,4 @@
 pub mod Tables
 pub mod Searches
 pub mod Places
+pub mod Codecs
