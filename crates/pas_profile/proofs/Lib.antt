@@ -2,3 +2,4 @@ pub mod Tables
 pub mod Searches
 pub mod Places
 pub mod Codecs
+pub mod ClassFacts
