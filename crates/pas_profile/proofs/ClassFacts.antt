@@ -1,13 +1,12 @@
 -- Sizes of classes, the slots of their pages, and what a route says.
-use Rattle.std.proofs.Common.{◌≡◌, ◌≢◌, ℕ, zero, suc, ◌+◌, ◌-◌, ◌*◌, ◌/◌, ◌%◌, ◌<◌, ◌≤◌, max, Bool, true, false, ◌&&◌, leb, ltb, eqb, if◌then◌else◌, List, [], ◌∷◌, length, get_or, Option, None, Some, refl, ap, sym, ◌∙◌, subst, arith, inl, inr}
-use Rattle.std.proofs.Math.Nat.{dvd-add, dvd-mul_left_of_dvd, dvd-mul_right_of_dvd}
+use Rattle.std.proofs.Common.{◌≡◌, ℕ, zero, suc, ◌+◌, ◌-◌, ◌*◌, ◌/◌, ◌%◌, ◌<◌, ◌≤◌, max, Bool, true, false, ◌&&◌, leb, ltb, eqb, if◌then◌else◌, List, [], ◌∷◌, length, get_or, Option, None, Some, refl, ap, sym, ◌∙◌, subst, arith, inl, inr}
+use Rattle.std.proofs.Math.Nat.{dvd-add, dvd-mul_left_of_dvd}
 use Rattle.std.specs.Int.{◌∣◌}
 use Rattle.std.proofs.lemmas.Nat.{same_from_place, div-add-mod'}
 use Rattle.std.proofs.lemmas.Nat.Gcd.{dvd_of_mod-eq-zero, mod-eq-zero_of_dvd}
-use Rattle.std.proofs.lemmas.Bool.{leb-true, leb-false, ltb-true, ltb-false, eqb-true, eqb-false, le-leb, eq-eqb, and_parts, and_from, cases_Bool, cases_lt, lt-leb, false≢true}
-use Rattle.pas_profile.specs.Classes.{class_sizes, IsClass, class_size, class_grains, slots_of, usable_grains, IsAlignment, IsSlotStart}
+use Rattle.std.proofs.lemmas.Bool.{leb-true, ltb-true, eqb-true, le-leb, eq-eqb, and_parts, and_from, cases_Bool, cases_lt, lt-leb, false≢true}
+use Rattle.pas_profile.specs.Classes.{class_sizes, IsClass, class_size, class_grains, usable_grains, IsSlotStart}
 use Rattle.pas_profile.specs.Routes.{first_class, route_of, route_with, route_without_class, Suits, IsSmallest, NoneSuits, IsRouteOf}
-use Rattle.pas_profile.specs.declared.directory.Route.{Route}
 use Rattle.pas_profile.specs.declared.directory.Route.TheVariants.{Class, Bitfit, Large}
 use Rattle.pas_profile.proofs.Tables.{passes_below, passes_at}
 
@@ -42,7 +41,7 @@ usable_grains_whole class h = eqb-true _ _ (passes_at (λ c. eqb (usable_grains 
 pub class_size-lt : (a b : ℕ) → a < b → IsClass b → class_size a < class_size b
 class_size-lt a b lt h =
     ltb-true _ _ (passes_at (λ a. ltb (class_size a) (class_size b)) b a
-        (passes_at (λ b. passes_below (λ a. ltb (class_size a) (class_size b)) b) 16 b refl h) lt)
+    (passes_at (λ b. passes_below (λ a. ltb (class_size a) (class_size b)) b) 16 b refl h) lt)
 
 -- Slots.
 
@@ -73,8 +72,9 @@ ordered k a b ea eb le lt =
 -- two slots that share a grain are one
 pub same_slot : (class a b : ℕ) → IsSlotStart class a → IsSlotStart class b → a < b + class_grains class → b < a + class_grains class → a ≡ b
 same_slot class a b ha hb p q = elim (cases_lt a b) [
-    inl lt ↦ ordered (class_grains class) a b ha.aligned hb.aligned (omega (arith, lt)) q
-  | inr ge ↦ sym (ordered (class_grains class) b a hb.aligned ha.aligned ge p) ]
+  | inl lt ↦ ordered (class_grains class) a b ha.aligned hb.aligned (omega (arith, lt)) q
+  | inr ge ↦ sym (ordered (class_grains class) b a hb.aligned ha.aligned ge p)
+]
 
 scaled : (k g : ℕ) → g % k ≡ 0 → g / k * (16 * k) ≡ g * 16
 scaled k g e = omega (arith, multiple k g e)
@@ -84,9 +84,9 @@ pub slot_aligned : (class grain page align : ℕ) → IsClass class → IsSlotSt
 slot_aligned class grain page align h s whole fits =
     let k = class_grains class in
     let turn : grain / k * class_size class ≡ grain * 16
-        = ap (λ n. grain / k * n) (class_size-grains class h) ∙ scaled k grain s.aligned in
+    = ap (λ n. grain / k * n) (class_size-grains class h) ∙ scaled k grain s.aligned in
     mod-eq-zero_of_dvd align (dvd-add align (dvd-mul_left_of_dvd align (dvd_of_mod-eq-zero align whole) page)
-        (subst (λ n. align ∣ n) turn (dvd-mul_left_of_dvd align (dvd_of_mod-eq-zero align fits) (grain / k))))
+    (subst (λ n. align ∣ n) turn (dvd-mul_left_of_dvd align (dvd_of_mod-eq-zero align fits) (grain / k))))
 
 -- Routes.
 
@@ -110,17 +110,19 @@ missing_later c cs size align e f (suc k) lt = f k (omega (arith, lt))
 found : (cs : List ℕ) (n size align class : ℕ) → first_class cs n size align ≡ Some class → Found cs n size align class
 found [] n size align class e = absurd (cc)
 found (c ∷ cs) n size align class e = elim (cases_Bool (passes c size align)) [
-    inl good ↦
+  | inl good ↦
       let here : Some n ≡ Some class = ap (λ b. if b then Some n else first_class cs (n + 1) size align) (sym good) ∙ e in
       let same : n ≡ class = cc in
       (0, omega (arith, same), omega arith, good, λ k lt. absurd (omega (arith, lt)))
-  | inr bad ↦ found_later c cs n size align class bad (found cs (n + 1) size align class (ap (λ b. if b then Some n else first_class cs (n + 1) size align) (sym bad) ∙ e)) ]
+  | inr bad ↦ found_later c cs n size align class bad (found cs (n + 1) size align class (ap (λ b. if b then Some n else first_class cs (n + 1) size align) (sym bad) ∙ e))
+]
 
 missing : (cs : List ℕ) (n size align : ℕ) → first_class cs n size align ≡ None → Missing cs size align
 missing [] n size align e = λ k lt. absurd (omega (arith, lt))
 missing (c ∷ cs) n size align e = elim (cases_Bool (passes c size align)) [
-    inl good ↦ let here : Some n ≡ None = ap (λ b. if b then Some n else first_class cs (n + 1) size align) (sym good) ∙ e in absurd (cc)
-  | inr bad ↦ missing_later c cs size align bad (missing cs (n + 1) size align (ap (λ b. if b then Some n else first_class cs (n + 1) size align) (sym bad) ∙ e)) ]
+  | inl good ↦ let here : Some n ≡ None = ap (λ b. if b then Some n else first_class cs (n + 1) size align) (sym good) ∙ e in absurd (cc)
+  | inr bad ↦ missing_later c cs size align bad (missing cs (n + 1) size align (ap (λ b. if b then Some n else first_class cs (n + 1) size align) (sym bad) ∙ e))
+]
 
 suits_from : (size align class : ℕ) → passes (class_size class) (max size 1) align ≡ true → Suits size align class
 suits_from size align class e =
@@ -143,8 +145,9 @@ smallest_from size align class f =
 
 without_class : (size align : ℕ) → NoneSuits size align → IsRouteOf size align (route_without_class (max size 1))
 without_class size align none = elim (cases_lt 2048 size) [
-    inl large ↦ subst (λ b. IsRouteOf size align (if b then Bitfit else Large)) (sym (lt-leb (max size 1) 2048 (omega (arith, large)))) (large, none)
-  | inr small ↦ subst (λ b. IsRouteOf size align (if b then Bitfit else Large)) (sym (le-leb (max size 1) 2048 (omega (arith, small)))) (small, none) ]
+  | inl large ↦ subst (λ b. IsRouteOf size align (if b then Bitfit else Large)) (sym (lt-leb (max size 1) 2048 (omega (arith, large)))) (large, none)
+  | inr small ↦ subst (λ b. IsRouteOf size align (if b then Bitfit else Large)) (sym (le-leb (max size 1) 2048 (omega (arith, small)))) (small, none)
+]
 
 answered : (size align : ℕ) (o : Option ℕ) → first_class class_sizes 0 (max size 1) align ≡ o → IsRouteOf size align (route_with o (max size 1))
 answered size align None e = without_class size align (λ k lt. not_from size align k (missing class_sizes 0 (max size 1) align e k lt))

@@ -1,5 +1,5 @@
 -- The words of deeds and of lives say what they were made from, and nothing else.
-use Rattle.std.proofs.Common.{◌≡◌, ◌≢◌, ℕ, ◌+◌, ◌-◌, ◌*◌, ◌/◌, ◌%◌, ◌^◌, ◌<◌, ◌≤◌, Bool, true, false, leb, ltb, eqb, if◌then◌else◌, Option, None, Some, refl, ap, sym, ◌∙◌, subst, arith, inl, inr}
+use Rattle.std.proofs.Common.{◌≡◌, ◌≢◌, ℕ, ◌-◌, ◌*◌, ◌/◌, ◌%◌, ◌^◌, ◌<◌, ◌≤◌, Bool, true, false, ltb, eqb, if◌then◌else◌, Option, None, Some, refl, ap, sym, ◌∙◌, subst, arith}
 use Rattle.std.proofs.lemmas.Bool.{ltb-true, ltb-false, lt-ltb, le-ltb, eqb-true, le-leb, lt-leb}
 use Rattle.std.proofs.lemmas.Nat.{mul-add-lt, same_from_place}
 use Rattle.pas_profile.specs.Directories.{IsKind, kind_number, IsDirectory, number_of, deed_word_of, kind_of, with_kind, directory_read}
@@ -112,6 +112,14 @@ recorded false true w d p q e =
 -- a word is read as a directory only where it is that directory's deed word
 pub read_is : (w : ℕ) (d : Directory) → directory_read w ≡ Some d → Records w d
 read_is w d e = recorded (ltb w 65536) (ltb w 73728) w d (ltb-false w 65536) (ltb-true w 73728) e
+
+not_read : (w : ℕ) (o : Option Directory) → directory_read w ≡ o → ((d : Directory) → IsDirectory d → w ≢ deed_word_of d) → o ≡ None
+not_read w None e h = refl
+not_read w (Some d) e h = let r = read_is w d e in absurd (h d r.0 r.1)
+
+-- a word that is no deed word is read as none
+pub read_none : (w : ℕ) → ((d : Directory) → IsDirectory d → w ≢ deed_word_of d) → directory_read w ≡ None
+read_none w h = not_read w (directory_read w) refl h
 
 pub same_from_deed_word : (a b : Directory) → IsDirectory a → IsDirectory b → deed_word_of a ≡ deed_word_of b → a ≡ b
 same_from_deed_word a b ha hb e =
