@@ -33,16 +33,10 @@ impl Profile {
     pub fn admits(&self, size: u32, align: u32, heap: u8) -> bool
         ensures { IsTrue result ↔ IsAdmitted self.now size align heap }
     {
-<<<<<<< HEAD
-        size as u64 <= self.pages as u64 * 4096
-            && align.is_power_of_two()
-            && (16..=4096).contains(&align)
-=======
         // A divisor of a page's 4,096 bytes is a power of two.
         size as u64 <= self.pages as u64 * PAGE_BYTES as u64
             && align >= GRAIN_BYTES
             && PAGE_BYTES % align == 0
->>>>>>> 7a60c914341eedc389209a56e6c67f8b0d946422
             && heap < self.heaps
     }
 }
