@@ -3,3 +3,4 @@ pub mod Answers
 pub mod Lines
 pub mod Told
 pub mod Outputs
+pub mod Slots

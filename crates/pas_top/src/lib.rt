@@ -2,5 +2,6 @@
 #![tactic(auto)]
 
 pub mod plan;
+mod replay;
 
 pub use plan::Operation;
