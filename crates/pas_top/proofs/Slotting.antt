@@ -190,3 +190,42 @@ none_past words class slot is start before full h lt other = elim (cases_lt h sl
 
 pub rounded : (free grains : ℕ) → 1 ≤ grains → (free / grains * grains ≤ free) × (free < free / grains * grains + grains)
 rounded free grains h = let d = div-add-mod' free grains in let m = mod_below free grains h in (omega (arith, d), omega (arith, d, m))
+
+-- ---- the search of a page, whose code has the size of the class as a number
+pub none_fits : (words : List ℕ) (class size start free : ℕ) → IsClass class → size ≡ class_size class → NoSlotBelow words class start → IsLowestFree words start free
+    → 4096 / size * (size / 16) < free / (size / 16) * (size / 16) + size / 16 → (h : ℕ) → IsFreeSlotIn words class h → ⊥
+none_fits words class size start free is sized before lowest over h slot =
+    let past : usable_grains class < free / class_grains class * class_grains class + class_grains class = subst (λ s. 4096 / s * (s / 16) < free / (s / 16) * (s / 16) + s / 16) sized over in
+    let r = rounded free (class_grains class) (class_grains_positive class is) in
+    let le = r.0 in
+    let w : h + class_grains class ≤ usable_grains class = slot.start.within in
+    none_to words class start free is before lowest.lowest h (omega (arith, w, past, le)) slot
+
+pub lowest_found : (words : List ℕ) (class size start free : ℕ) → IsClass class → size ≡ class_size class → NoSlotBelow words class start → IsLowestFree words start free
+    → free / (size / 16) * (size / 16) + size / 16 ≤ 4096 / size * (size / 16) → AreFree words (free / (size / 16) * (size / 16)) (size / 16) → IsLowestFreeSlot words class (free / (size / 16) * (size / 16))
+lowest_found words class size start free is sized before lowest within full =
+    let found : IsLowestFreeSlot words class (free / class_grains class * class_grains class) = record {
+        slot = record {
+            start = slot_begins class free is (subst (λ s. free / (s / 16) * (s / 16) + s / 16 ≤ 4096 / s * (s / 16)) sized within);
+            free = subst (λ s. AreFree words (free / (s / 16) * (s / 16)) (s / 16)) sized full;
+          };
+        lowest = λ h lt. none_to words class start free is before lowest.lowest h (let r = rounded free (class_grains class) (class_grains_positive class is) in let le = r.0 in omega (arith, lt, le));
+      } in
+    subst (λ s. IsLowestFreeSlot words class (free / (s / 16) * (s / 16))) (sym sized) found
+
+pub none_so_far : (words : List ℕ) (class size start free : ℕ) → IsClass class → size ≡ class_size class → NoSlotBelow words class start → IsLowestFree words start free
+    → free / (size / 16) * (size / 16) + size / 16 ≤ 4096 / size * (size / 16) → (AreFree words (free / (size / 16) * (size / 16)) (size / 16) → ⊥)
+    → (free / (size / 16) * (size / 16) + size / 16 ≤ 256) × NoSlotBelow words class (free / (size / 16) * (size / 16) + size / 16)
+none_so_far words class size start free is sized before lowest within full =
+    let fits : free / class_grains class * class_grains class + class_grains class ≤ usable_grains class = subst (λ s. free / (s / 16) * (s / 16) + s / 16 ≤ 4096 / s * (s / 16)) sized within in
+    let r = rounded free (class_grains class) (class_grains_positive class is) in
+    let le = r.0 in
+    let below : NoSlotBelow words class (free / class_grains class * class_grains class) = λ h lt. none_to words class start free is before lowest.lowest h (omega (arith, lt, le)) in
+    let past : NoSlotBelow words class (free / class_grains class * class_grains class + class_grains class) = none_past words class (free / class_grains class * class_grains class) is (slot_begins class free is fits) below
+        (subst (λ s. AreFree words (free / (s / 16) * (s / 16)) (s / 16) → ⊥) sized full) in
+    let small : free / class_grains class * class_grains class + class_grains class ≤ 256 = let u = usable_grains_le class is in omega (arith, fits, u) in
+    (subst (λ s. free / (s / 16) * (s / 16) + s / 16 ≤ 256) (sym sized) small, subst (λ s. NoSlotBelow words class (free / (s / 16) * (s / 16) + s / 16)) (sym sized) past)
+
+-- the search goes on above the slot that it tried
+pub goes_on : (class size start free : ℕ) → IsClass class → size ≡ class_size class → start ≤ free → start < free / (size / 16) * (size / 16) + size / 16
+goes_on class size start free is sized le = let p : 1 ≤ size / 16 = subst (λ s. 1 ≤ s / 16) (sym sized) (class_grains_positive class is) in let r = rounded free (size / 16) p in let lt = r.1 in omega (arith, le, lt)

@@ -28,13 +28,14 @@ pub(crate) fn run_mask(word: u8, first: u32, grains: u32) -> u64
 }
 
 /// The lowest free grain from this one on. At most four words are looked at.
-fn lowest_free(words: [u64; 4], from: u32) -> Option<u32>
+fn lowest_free(words: &[u64; 4], from: u32) -> Option<u32>
     requires { from ≤ 256 }
-    ensures { MatchOption result (NoneIsFree words from 256) (λ grain. IsLowestFree words from grain) }
+    ensures { MatchOption result (NoneIsFree words.now from 256) (λ grain. IsLowestFree words.now from grain) }
 {
     for word in from / 64..4 {
         let low = from.saturating_sub(64 * word);
-        let rest = words[word as usize] >> low;
+        let free = words[word as usize];
+        let rest = free >> low;
         if rest != 0 {
             return Some(64 * word + low + rest.trailing_zeros());
         }
@@ -43,12 +44,13 @@ fn lowest_free(words: [u64; 4], from: u32) -> Option<u32>
 }
 
 /// Whether all grains of the run are free. At most two words are looked at where the run has no more than 64 grains.
-fn is_run_free(words: [u64; 4], first: u32, grains: u32) -> bool
+fn is_run_free(words: &[u64; 4], first: u32, grains: u32) -> bool
     requires { first + grains ≤ 256 }
-    ensures { IsTrue result ↔ AreFree words first grains }
+    ensures { IsTrue result ↔ AreFree words.now first grains }
 {
     for word in first / 64..(first + grains).div_ceil(64) {
-        if run_mask(word as u8, first, grains) & !words[word as usize] != 0 {
+        let free = words[word as usize];
+        if run_mask(word as u8, first, grains) & !free != 0 {
             return false;
         }
     }
@@ -65,12 +67,12 @@ pub(crate) fn lowest_slot(words: [u64; 4], class: u8) -> Option<u8>
     let grains = size / 16;
     let usable = 4096 / size * grains;
     let mut start = 0;
-    while let Some(free) = lowest_free(words, start) {
+    while let Some(free) = lowest_free(&words, start) {
         let slot = free / grains * grains;
         if slot + grains > usable {
             return None;
         }
-        if is_run_free(words, slot, grains) {
+        if is_run_free(&words, slot, grains) {
             return Some(slot as u8);
         }
         start = slot + grains;
