@@ -4,3 +4,6 @@ pub mod Lines
 pub mod Told
 pub mod Outputs
 pub mod Slots
+pub mod Calls
+pub mod Names
+pub mod Ledgers
