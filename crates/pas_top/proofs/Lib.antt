@@ -1,1 +1,3 @@
 pub mod Slotting
+pub mod Taking
+pub mod Searching
