@@ -2,6 +2,8 @@
 use Rattle.std.proofs.Common.{◌≡◌, ◌≢◌, ℕ, suc, ◌+◌, ◌-◌, ◌*◌, ◌/◌, ◌%◌, ◌^◌, ◌<◌, ◌≤◌, ◌==◌, Bool, true, false, List, [], ◌∷◌, ◌++◌, length, slice_index, Option, Some, None, inl, inr, refl, ap, sym, ◌∙◌, subst, arith}
 use Rattle.std.specs.Option.{MatchOption}
 use Rattle.std.proofs.lemmas.Bool.{cases_lt, cases_eq}
+use Rattle.pas_profile.specs.Classes.{IsClass}
+use Rattle.pas_profile.proofs.ClassFacts.{slot_lt}
 use Rattle.pas_profile.specs.declared.word.Word.TheVariants as Word
 use Rattle.pas_steps.specs.declared.step.Made.{Made}
 use Rattle.pas_steps.specs.declared.step.Step.{Step}
@@ -100,9 +102,10 @@ sought_full {σ} {σ'} {σ''} {found} classes class page far scan is = record {
         full slot free);
   }
 
-is_found : (l : Whole) (classes : List ℕ) (class page slot : ℕ) → slot < 256 → 1 ≤ page → page ≤ length classes → slice_index classes (page - 1) ≡ class → NoneBelow l classes class page → IsLowestFreeSlot (free_words l page) class slot
+is_found : (l : Whole) (classes : List ℕ) (class page slot : ℕ) → IsClass class → 1 ≤ page → page ≤ length classes → slice_index classes (page - 1) ≡ class → NoneBelow l classes class page → IsLowestFreeSlot (free_words l page) class slot
     → IsFound l classes class (page * 256 + slot)
-is_found l classes class page slot small low high of_class none is =
+is_found l classes class page slot is_class low high of_class none is =
+    let small : slot < 256 = slot_lt class slot is_class is.slot.start in
     let p : page ≡ (page * 256 + slot) / 256 = omega (arith, small) in
     let s : slot ≡ (page * 256 + slot) % 256 = omega (arith, small) in
     record {
@@ -114,14 +117,14 @@ is_found l classes class page slot small low high of_class none is =
     }
 
 -- a page with one
-pub found_on : {σ σ' σ'' : Standing} {found : Option ℕ} (classes : List ℕ) (class page slot : ℕ) → Sought σ σ' classes class page → Scans σ' σ'' page class found → found ≡ Some slot → slot < 256 → 1 ≤ page → page ≤ length classes → slice_index classes (page - 1) ≡ class
+pub found_on : {σ σ' σ'' : Standing} {found : Option ℕ} (classes : List ℕ) (class page slot : ℕ) → Sought σ σ' classes class page → Scans σ' σ'' page class found → found ≡ Some slot → IsClass class → 1 ≤ page → page ≤ length classes → slice_index classes (page - 1) ≡ class
     → Finds σ σ'' classes class (Some (page * 256 + slot))
-found_on {σ} {σ'} {σ''} {found} classes class page slot far scan is small low high of_class = record {
+found_on {σ} {σ'} {σ''} {found} classes class page slot far scan is is_class low high of_class = record {
     steps = scan.steps ++ far.steps;
     adds = adds_call far.adds scan.adds (λ v l stood met. tt);
     looks = looks_append scan.steps far.steps scan.looks far.looks;
     quiet = quiet_append scan.steps far.steps scan.quiet far.quiet;
-    outcome = λ v l stood. is_found l classes class page slot small low high of_class (far.none v l stood)
+    outcome = λ v l stood. is_found l classes class page slot is_class low high of_class (far.none v l stood)
         (subst (λ o. MatchOption o ((slot : ℕ) → IsFreeSlotIn (free_words l page) class slot → ⊥) (λ slot. IsLowestFreeSlot (free_words l page) class slot)) is (scan_at classes class page far scan v l stood));
   }
 
