@@ -1,10 +1,11 @@
 -- How the steps of a call are put together.
-use Rattle.std.proofs.Common.{◌≡◌, ℕ, List, [], ◌∷◌, ◌++◌, refl, ap, sym, ◌∙◌, subst, append_assoc, if◌then◌else◌}
+use Rattle.std.proofs.Common.{◌≡◌, ℕ, ◌+◌, ◌≤◌, List, [], ◌∷◌, ◌++◌, length, refl, ap, sym, ◌∙◌, subst, arith, append_assoc, if◌then◌else◌}
 use Rattle.std.proofs.lemmas.Bool.{eq-eqb}
 use Rattle.pas_profile.specs.declared.profile.Profile.{Profile}
 use Rattle.pas_steps.specs.declared.step.Made.{Made}
 use Rattle.pas_steps.specs.declared.step.Step.{Step}
 use Rattle.pas_steps.specs.Views.{View}
+use Rattle.pas_steps.specs.Events.{events_of}
 use Rattle.pas_steps.specs.Allowed.{Allowed, IsStepOf}
 use Rattle.pas_steps.specs.Agreement.{Agrees, Agreed}
 use Rattle.pas_steps.specs.Lists.{Whole, part, Legal}
@@ -84,3 +85,12 @@ Tells σ = (v : View) (l : Whole) → σ.stands v l → Legal σ.seat.profile l
 
 pub legal_after : {σ σ' : Standing} {C : View → Whole → Type 0} {xs : List Made} → Adds σ σ' C xs → Tells σ' → (v : View) (l : Whole) → σ.stands v l → C v l → Legal σ.seat.profile (triples σ.seat.actor xs ++ l)
 legal_after {σ} {σ'} {C} {xs} adds tells v l stood met = subst (λ s. Legal s.profile (triples σ.seat.actor xs ++ l)) adds.seat_is (tells (xs ++ v) (triples σ.seat.actor xs ++ l) (adds.added v l stood met))
+
+-- ---- room for events
+-- a desk that has room for n more events after these steps has so much to spare
+pub room_left : {σ σ' : Standing} {C : View → Whole → Type 0} {xs : List Made} {spare : ℕ} (n : ℕ) → Adds σ σ' C xs → (can : CanCall σ C) → ((v : View) (l : Whole) → σ'.stands v l → spare + length (events_of σ'.seat.actor v) ≡ σ'.seat.room)
+    → length (events_of σ.seat.actor (xs ++ can.view)) + n ≤ σ.seat.room → n ≤ spare
+room_left {σ} {σ'} {C} {xs} {spare} n adds can spares fits =
+    let law : spare + length (events_of σ.seat.actor (xs ++ can.view)) ≡ σ.seat.room
+        = subst (λ s. spare + length (events_of s.actor (xs ++ can.view)) ≡ s.room) adds.seat_is (spares (xs ++ can.view) (triples σ.seat.actor xs ++ can.whole) (adds.added can.view can.whole can.stood can.met)) in
+    omega (arith, law, fits)
