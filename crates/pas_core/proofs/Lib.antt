@@ -1,3 +1,4 @@
 pub mod Bits
 pub mod Grains
 pub mod Deeds
+pub mod Lives
