@@ -1,0 +1,4 @@
+//! Laws over every legal list of steps, of any actors.
+#![tactic(auto)]
+
+pub mod knowledge_laws;
