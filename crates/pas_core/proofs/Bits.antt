@@ -13,8 +13,7 @@ max_test x y hx hy = grind (arith, nat_tests)
 
 -- a bit after the bits of a mask were cleared
 pub has_bit-clear : (n m b : ℕ) → m < 2 ^ 64 → b < 64 → has_bit (bit_and n (bit_not w64 m)) b ≡ (has_bit n b && not (has_bit m b))
-has_bit-clear n m b hm hb =
-    ap (λ x. x == 1) (bit_at_and n (bit_not w64 m) b ∙ ap (λ y. min (bit_at n b) y) (bit_at_not w64 m b hm hb))
+has_bit-clear n m b hm hb = ap (λ x. x == 1) (bit_at_and n (bit_not w64 m) b ∙ ap (λ y. min (bit_at n b) y) (bit_at_not w64 m b hm hb))
     ∙ min_test (bit_at n b) (bit_at m b) (bit_at-lt n b) (bit_at-lt m b)
 
 -- a bit after the bits of a mask were set

@@ -1,3 +1,5 @@
 pub mod Bits
+pub mod Grains
 pub mod Knowledge
 pub mod Rights
+pub mod Epochs

@@ -2,3 +2,4 @@
 #![tactic(auto)]
 
 pub mod knowledge_laws;
+pub mod laws;
