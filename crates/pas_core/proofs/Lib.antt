@@ -5,3 +5,4 @@ pub mod Grains
 pub mod Epochs
 pub mod Deeds
 pub mod Lives
+pub mod MachineRuns
