@@ -6,3 +6,4 @@ pub mod Epochs
 pub mod Deeds
 pub mod Lives
 pub mod MachineRuns
+pub mod Given
