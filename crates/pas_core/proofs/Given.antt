@@ -19,7 +19,7 @@ use Rattle.pas_steps.specs.declared.step.Step.{Step}
 use Rattle.pas_steps.specs.declared.step.Made.{Made}
 use Rattle.pas_steps.specs.declared.step.Step.TheVariants.{Look, Deed, Back, Take, Put, Give, End, Stamp}
 use Rattle.pas_core.specs.Good.{IsLifeOf}
-use Rattle.pas_core.specs.Given.{WasGiven, gives_counted, count_gives}
+use Rattle.pas_core.specs.Given.{WasGiven}
 use Rattle.pas_core.proofs.MachineRuns.{life_at}
 
 some_is : {A : Type 0} {x y : A} → Some x ≡ Some y → x ≡ y
@@ -92,6 +92,19 @@ one_of_gives : (x : Bool) (n m : ℕ) → n ≤ m → (if x then n + 1 else n) �
 one_of_gives true n m h = omega (arith, h)
 one_of_gives false n m h = omega (arith, h)
 
+-- how many blocks these events gave, at whatever address
+abbrev pub gives_counted : Event → ℕ → ℕ
+gives_counted (Event.Deed k p d) n = n
+gives_counted (Event.Back k p) n = n
+gives_counted (Event.Unback k p e) n = n
+gives_counted (Event.Give k block) n = n + 1
+gives_counted (Event.End k name e) n = n
+gives_counted (Event.Reject k name why) n = n
+
+abbrev pub count_gives : List Event → ℕ
+count_gives [] = 0
+count_gives (e ∷ es) = gives_counted e (count_gives es)
+
 -- the gives at one address are some of all
 pub gives_few : (es : List Event) (address : ℕ) → gives_in es address ≤ count_gives es
 gives_few [] address = omega arith
@@ -142,3 +155,7 @@ own_gives k (m ∷ v) = count_step k (epoch_of v) m.step m.answer (events_of k v
 -- an actor gave no more blocks than it has events
 pub given_few : (k : ℕ) (v : View) → given_count v ≤ length (events_of k v)
 given_few k v = let is = own_gives k v in let few = counts_few (events_of k v) in omega (arith, is, few)
+
+-- no address was given more often than there are events
+pub turns_few : (es : List Event) (address : ℕ) → gives_in es address ≤ length es
+turns_few es address = let some = gives_few es address in let few = counts_few es in omega (arith, some, few)

@@ -7,3 +7,4 @@ pub mod Deeds
 pub mod Lives
 pub mod MachineRuns
 pub mod Given
+pub mod Placed

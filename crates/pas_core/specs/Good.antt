@@ -1,5 +1,5 @@
 -- What holds after every legal list of steps.
-use Rattle.std.specs.Prelude.{◌≢◌, ℕ, ◌+◌, ◌*◌, ◌/◌, ◌%◌, ◌^◌, ◌<◌, ◌≤◌, ◌≡◌, ◌==◌, Bool, true, false, ◌&&◌, Option, Some, None}
+use Rattle.std.specs.Prelude.{◌≢◌, ◌⊎◌, ℕ, ◌+◌, ◌*◌, ◌/◌, ◌%◌, ◌^◌, ◌<◌, ◌≤◌, ◌≡◌, ◌==◌, Bool, true, false, ◌&&◌, Option, Some, None}
 use Rattle.pas_profile.specs.declared.directory.Directory.{Directory}
 use Rattle.pas_profile.specs.declared.profile.Profile.{Profile}
 use Rattle.pas_profile.specs.Classes.{has_bit}
@@ -37,13 +37,43 @@ is_covered_by b (Covered a) = a == b
 abbrev pub covers : ℕ → ℕ → ℕ → Bool
 covers word a g = is_live word && in_run a (grains_of word) g
 
--- The grain is in exactly one place: free, held by exactly one actor, or covered by exactly one live block. Its bit, what the actors
--- hold, and the life words all say so.
+-- What the words say of a grain: its bit, what the actors hold, and the life words all tell the one place where it is.
 pub record IsPlacedOnce (l : Whole) (g : ℕ) : Type 0 where
   pub place : Place
   pub free : has_bit (word_after l (free_word_at g)) (g % 64) ≡ is_free place
   pub held : (k : ℕ) → holds (part k l) g ≡ is_held_by k place
   pub covered : (a : ℕ) → covers (word_after l (life_word_at a)) a g ≡ is_covered_by a place
+
+-- the block that lives at this address has the grain
+abbrev pub IsPartOf : ℕ → ℕ → Live → Type 0
+IsPartOf g address b = in_run (address / 16) (length_of b.block) g ≡ true
+
+-- the grain is free: nobody holds it, and no live block has it
+pub record IsFreeGrain (l : Whole) (g : ℕ) : Type 0 where
+  pub free : has_bit (word_after l (free_word_at g)) (g % 64) ≡ true
+  pub nobody : (k : ℕ) → holds (part k l) g ≡ false
+  pub no_block : (address : ℕ) (b : Live) → live_in (visible l) address ≡ Some b → IsPartOf g address b → ⊥
+
+-- one actor holds the grain and no other does, it isn't free, and no live block has it
+pub record IsHeldByOne (l : Whole) (g : ℕ) : Type 0 where
+  pub actor : ℕ
+  pub not_free : has_bit (word_after l (free_word_at g)) (g % 64) ≡ false
+  pub holder : (k : ℕ) → holds (part k l) g ≡ (actor == k)
+  pub no_block : (address : ℕ) (b : Live) → live_in (visible l) address ≡ Some b → IsPartOf g address b → ⊥
+
+-- one live block has the grain and no other does, it isn't free, and nobody holds it
+pub record IsCoveredByOne (l : Whole) (g : ℕ) : Type 0 where
+  pub address : ℕ
+  pub block : Live
+  pub lives : live_in (visible l) address ≡ Some block
+  pub covered : IsPartOf g address block
+  pub not_free : has_bit (word_after l (free_word_at g)) (g % 64) ≡ false
+  pub nobody : (k : ℕ) → holds (part k l) g ≡ false
+  pub one : (other : ℕ) (b : Live) → live_in (visible l) other ≡ Some b → IsPartOf g other b → other ≡ address
+
+-- the grain is in exactly one place: free, held by exactly one actor, or part of exactly one live block
+abbrev pub IsInOnePlace : Whole → ℕ → Type 0
+IsInOnePlace l g = IsFreeGrain l g ⊎ IsHeldByOne l g ⊎ IsCoveredByOne l g
 
 -- ---- the machine and the words
 -- the deed word of a page with this directory
