@@ -1,22 +1,19 @@
 -- What callers need of the blocks that were given: names keep their blocks, and there are no more gives than events.
-use Rattle.std.proofs.Common.{◌≡◌, ◌≢◌, ℕ, ◌+◌, ◌-◌, ◌*◌, ◌/◌, ◌%◌, ◌^◌, ◌<◌, ◌≤◌, ◌==◌, nat_lt, Bool, true, false, ◌&&◌, if◌then◌else◌, List, [], ◌∷◌, ◌++◌, length, Option, Some, None, refl, ap, sym, ◌∙◌, subst, arith}
-use Rattle.std.proofs.lemmas.Bool.{false≢true, eqb-true, eqb-false, eq-eqb, leb-true}
+use Rattle.std.proofs.Common.{◌≡◌, ℕ, ◌+◌, ◌%◌, ◌^◌, ◌≤◌, ◌==◌, Bool, true, false, ◌&&◌, if◌then◌else◌, List, [], ◌∷◌, ◌++◌, length, Option, Some, None, refl, ap, sym, ◌∙◌, arith}
+use Rattle.std.proofs.lemmas.Bool.{eqb-true, eq-eqb, leb-true}
 use Rattle.pas_profile.specs.Lives.{live_word, is_live, turn_of}
 use Rattle.pas_profile.specs.Profiles.{IsValid}
 use Rattle.pas_profile.specs.declared.profile.Profile.{Profile}
 use Rattle.pas_profile.specs.declared.name.Block.{Block}
-use Rattle.pas_profile.specs.declared.name.Name.{Name}
 use Rattle.pas_profile.specs.declared.event.Event.{Event}
-use Rattle.pas_profile.specs.declared.event.Event.TheVariants as Event
 use Rattle.pas_machine.specs.Runs.{address_of, grain_of, length_of}
 use Rattle.pas_machine.specs.State.{Live, live_in, gives_in, ends_in}
 use Rattle.pas_machine.specs.Machine.{Admits, Run}
 use Rattle.pas_steps.specs.Effects.{life_word_at}
 use Rattle.pas_steps.specs.Views.{View, epoch_of, given_count, given_after}
-use Rattle.pas_steps.specs.Events.{event_of, events_of, end_event, with_event, reason_of}
+use Rattle.pas_steps.specs.Events.{event_of, events_of, with_event, reason_of}
 use Rattle.pas_steps.specs.Lists.{Whole, word_after, visible, Legal}
 use Rattle.pas_steps.specs.declared.step.Step.{Step}
-use Rattle.pas_steps.specs.declared.step.Made.{Made}
 use Rattle.pas_steps.specs.declared.step.Step.TheVariants.{Look, Deed, Back, Take, Put, Give, End, Stamp}
 use Rattle.pas_core.specs.Good.{IsLifeOf}
 use Rattle.pas_core.specs.Given.{WasGiven}
@@ -47,10 +44,10 @@ one_more f (Event.Deed k p d) es block admits given = record { earlier = given.e
 one_more f (Event.Back k p) es block admits given = record { earlier = given.earlier; same = given.same }
 one_more f (Event.Unback k p e) es block admits given = record { earlier = given.earlier; same = given.same }
 one_more f (Event.Give k new) es block admits given = record {
-    earlier = let more = more_gives (address_of new.name == address_of block.name) (gives_in es (address_of block.name)) in let old = given.earlier in omega (arith, more, old);
-    same = given_live (address_of new.name == address_of block.name) (live_in es (address_of block.name)) (record { actor = k; block = new }) block
-        (λ x turn. let next : new.name.turn ≡ gives_in es (address_of block.name) = admits.turn ∙ ap (gives_in es) (eqb-true (address_of new.name) (address_of block.name) x) in let old = given.earlier in absurd (omega (arith, next, turn, old))) given.same;
-  }
+  earlier = let more = more_gives (address_of new.name == address_of block.name) (gives_in es (address_of block.name)) in let old = given.earlier in omega (arith, more, old);
+  same = given_live (address_of new.name == address_of block.name) (live_in es (address_of block.name)) (record { actor = k; block = new }) block
+      (λ x turn. let next : new.name.turn ≡ gives_in es (address_of block.name) = admits.turn ∙ ap (gives_in es) (eqb-true (address_of new.name) (address_of block.name) x) in let old = given.earlier in absurd (omega (arith, next, turn, old))) given.same;
+}
 one_more f (Event.End k name e) es block admits given = record { earlier = given.earlier; same = ended_live (address_of name == address_of block.name) (live_in es (address_of block.name)) block given.same }
 one_more f (Event.Reject k name why) es block admits given = record { earlier = given.earlier; same = given.same }
 
@@ -85,7 +82,7 @@ pub true_length : (f : Profile) (l : Whole) → IsValid f → Legal f l → (blo
     → turn_of (word_after l (life_word_at (grain_of block.name))) ≡ block.name.turn → word_after l (life_word_at (grain_of block.name)) ≡ live_word block.name.turn (length_of block)
 true_length f l valid legal block aligned given live turn =
     true_word f (grain_of block.name) (word_after l (life_word_at (grain_of block.name))) (live_in (visible l) (address_of block.name)) (gives_in (visible l) (address_of block.name)) (ends_in (visible l) (address_of block.name)) block
-        (life_at f l valid legal (address_of block.name) aligned) given.same live turn
+    (life_at f l valid legal (address_of block.name) aligned) given.same live turn
 
 -- ---- no more gives than events
 one_of_gives : (x : Bool) (n m : ℕ) → n ≤ m → (if x then n + 1 else n) ≤ m + 1

@@ -1,24 +1,21 @@
 -- Each grain is in exactly one place: free, held by one actor, or covered by one live block.
-use Rattle.std.proofs.Common.{◌≡◌, ◌≢◌, ℕ, ◌+◌, ◌-◌, ◌*◌, ◌/◌, ◌%◌, ◌^◌, ◌<◌, ◌≤◌, ◌==◌, nat_lt, nat_le, Bool, true, false, not, ◌&&◌, ◌||◌, if◌then◌else◌, min, max, List, [], ◌∷◌, refl, ap, sym, ◌∙◌, subst, arith, bit_and, bit_or, ◌⊎◌, inl, inr}
+use Rattle.std.proofs.Common.{◌≡◌, ℕ, ◌+◌, ◌-◌, ◌*◌, ◌/◌, ◌%◌, ◌^◌, ◌<◌, ◌≤◌, ◌==◌, nat_lt, nat_le, Bool, true, false, not, ◌&&◌, ◌||◌, if◌then◌else◌, [], ◌∷◌, refl, ap, sym, ◌∙◌, arith, bit_and, bit_or}
 use Rattle.std.specs.Int.{bit_not, w64}
 use Rattle.std.proofs.lemmas.Nat.Bits.{bit_at_ones}
-use Rattle.std.proofs.lemmas.Bool.{false≢true, eqb-true, eqb-false, eq-eqb, ne_eqb, and_parts, and_from, cases_Bool, cases_eq, le-leb, lt-leb}
+use Rattle.std.proofs.lemmas.Bool.{eqb-true, eqb-false, and_parts, le-leb, lt-leb}
 use Rattle.std.proofs.lemmas.Bool.Decides.{nat_tests}
 use Rattle.pas_profile.specs.Classes.{has_bit}
 use Rattle.pas_profile.specs.Layouts.{same_word}
-use Rattle.pas_profile.specs.Lives.{live_word, is_live, turn_of, grains_of}
+use Rattle.pas_profile.specs.Lives.{live_word, is_live, grains_of}
 use Rattle.pas_profile.specs.Profiles.{IsValid}
 use Rattle.pas_profile.specs.declared.profile.Profile.{Profile}
 use Rattle.pas_profile.specs.declared.name.Block.{Block}
-use Rattle.pas_profile.specs.declared.name.Name.{Name}
 use Rattle.pas_profile.specs.declared.word.Word.{Word}
-use Rattle.pas_profile.specs.declared.word.Word.TheVariants as Word
 use Rattle.pas_machine.specs.Runs.{in_run, address_of, grain_of, length_of}
 use Rattle.pas_steps.specs.Effects.{free_word_at, life_word_at, in_mask, target, new_value}
 use Rattle.pas_steps.specs.Views.{View, Move, Stays, Gets, Puts, Gives, Ends, grain_move, held_after, holds, epoch_of}
 use Rattle.pas_steps.specs.Allowed.{Allowed, IsStepOf}
-use Rattle.pas_steps.specs.Lists.{Triple, Whole, word_after, part, IsNext, Legal}
-use Rattle.pas_steps.specs.Ranges.{IsRanged}
+use Rattle.pas_steps.specs.Lists.{Whole, word_after, part, IsNext, Legal}
 use Rattle.pas_steps.specs.declared.step.Made.{Made}
 use Rattle.pas_steps.specs.declared.step.Step.{Step}
 use Rattle.pas_steps.specs.declared.step.Step.TheVariants.{Look, Deed, Back, Take, Put, Give, End, Stamp}
@@ -240,13 +237,13 @@ covered_step f l k e (Take page word mask) a g b valid placed of allowed is = re
 covered_step f l k e (Put page word mask) a g b valid placed of allowed is = rests_covered (in_mask page word mask g) (covers (word_after l (life_word_at b)) b g) Puts b refl
 covered_step f l k e (Give block) a g b valid placed of allowed is =
     give_covers (grain_of block.name == b) (same_word (life_word_at (grain_of block.name)) (life_word_at b)) (grain_of block.name) b g block.name.turn (length_of block) (word_after l (life_word_at b)) (life_same (grain_of block.name) b) refl
-        of.turn (give_short f (address_of block.name) block.room valid of.last)
-        (λ e. ap (λ x. covers (word_after l (life_word_at x)) x g) (sym (eqb-true (grain_of block.name) b e)) ∙ not_covering f l k block g (placed (grain_of block.name)) allowed) (in_run (grain_of block.name) (length_of block) g) refl
+    of.turn (give_short f (address_of block.name) block.room valid of.last)
+    (λ e. ap (λ x. covers (word_after l (life_word_at x)) x g) (sym (eqb-true (grain_of block.name) b e)) ∙ not_covering f l k block g (placed (grain_of block.name)) allowed) (in_run (grain_of block.name) (length_of block) g) refl
 covered_step f l k e (End name guess) a g b valid placed of allowed is =
     retold (same_word (life_word_at (grain_of name)) (life_word_at b)) (grain_of name == b) (if word_after l (life_word_at b) == live_word name.turn guess then name.turn + 1 else word_after l (life_word_at b)) (word_after l (life_word_at b)) b g
-        (covered_moved (grain_move (End name guess) a g) b (covers (word_after l (life_word_at b)) b g)) (life_same (grain_of name) b)
-        (end_covers (grain_of name == b) (grain_of name) b g name.turn guess (word_after l (life_word_at b)) a refl of.2 (end_short f guess valid of.4)
-            (λ e. is ∙ ap (λ x. word_after l (life_word_at x)) (eqb-true (grain_of name) b e)) (a == live_word name.turn guess) refl (in_run (grain_of name) guess g) refl)
+    (covered_moved (grain_move (End name guess) a g) b (covers (word_after l (life_word_at b)) b g)) (life_same (grain_of name) b)
+    (end_covers (grain_of name == b) (grain_of name) b g name.turn guess (word_after l (life_word_at b)) a refl of.2 (end_short f guess valid of.4)
+    (λ e. is ∙ ap (λ x. word_after l (life_word_at x)) (eqb-true (grain_of name) b e)) (a == live_word name.turn guess) refl (in_run (grain_of name) guess g) refl)
 covered_step f l k e (Stamp page) a g b valid placed of allowed is = refl
 
 -- ---- a legal step's move fits
@@ -267,7 +264,7 @@ step_fits f l k (Give block) a g at valid of allowed is = fits_if k (Gives (grai
 step_fits f l k (End name guess) a g at valid of allowed is = fits_if k (Ends (grain_of name)) at.place ((a == live_word name.turn guess) && in_run (grain_of name) guess g) (λ h.
     let parts = and_parts (a == live_word name.turn guess) (in_run (grain_of name) guess g) h in
     is_covered_by-true (grain_of name) at.place (sym (at.covered (grain_of name)) ∙ ap (λ w. covers w (grain_of name) g) (sym is ∙ eqb-true a (live_word name.turn guess) parts.0)
-        ∙ covers_live name.turn guess (grain_of name) g (let t = of.2 in omega (arith, t)) (end_short f guess valid of.4) ∙ parts.1))
+    ∙ covers_live name.turn guess (grain_of name) g (let t = of.2 in omega (arith, t)) (end_short f guess valid of.4) ∙ parts.1))
 step_fits f l k (Stamp page) a g at valid of allowed is = tt
 
 -- ---- the induction

@@ -1,25 +1,22 @@
 -- The life words are those of the machine, and what actors know of them is true.
-use Rattle.std.proofs.Common.{◌≡◌, ◌≢◌, ℕ, ◌+◌, ◌-◌, ◌*◌, ◌/◌, ◌%◌, ◌^◌, ◌<◌, ◌≤◌, ◌==◌, nat_lt, nat_le, Bool, true, false, not, ◌&&◌, ◌||◌, if◌then◌else◌, List, [], ◌∷◌, Option, Some, None, refl, ap, sym, ◌∙◌, subst, arith, ◌⊎◌, inl, inr}
+use Rattle.std.proofs.Common.{◌≡◌, ◌≢◌, ℕ, ◌+◌, ◌-◌, ◌*◌, ◌/◌, ◌%◌, ◌^◌, ◌<◌, ◌≤◌, ◌==◌, Bool, true, false, ◌&&◌, if◌then◌else◌, List, [], ◌∷◌, Option, Some, None, refl, ap, sym, ◌∙◌, subst, arith, inl, inr}
 use Rattle.std.proofs.lemmas.Bool.{false≢true, eqb-true, eqb-false, eq-eqb, cases_eq, and_parts, le-leb}
 use Rattle.pas_profile.specs.Layouts.{same_word}
-use Rattle.pas_profile.specs.Lives.{live_word, is_live, turn_of, grains_of}
+use Rattle.pas_profile.specs.Lives.{live_word, is_live, turn_of}
 use Rattle.pas_profile.specs.Profiles.{IsValid}
 use Rattle.pas_profile.specs.declared.profile.Profile.{Profile}
 use Rattle.pas_profile.specs.declared.name.Block.{Block}
 use Rattle.pas_profile.specs.declared.name.Name.{Name}
 use Rattle.pas_profile.specs.declared.word.Word.{Word}
-use Rattle.pas_profile.specs.declared.word.Word.TheVariants as Word
 use Rattle.pas_profile.specs.declared.event.Event.{Event}
-use Rattle.pas_profile.specs.declared.event.Event.TheVariants as Event
 use Rattle.pas_profile.specs.declared.event.Why.{Why}
 use Rattle.pas_machine.specs.Runs.{in_run, address_of, grain_of, length_of}
 use Rattle.pas_machine.specs.State.{Live, live_in, gives_in, ends_in}
-use Rattle.pas_steps.specs.Effects.{life_word_at, in_mask, target, new_value}
-use Rattle.pas_profile.specs.Classes.{has_bit}
+use Rattle.pas_steps.specs.Effects.{life_word_at, target, new_value}
 use Rattle.pas_steps.specs.Views.{View, Move, Stays, Gets, Puts, Gives, Ends, grain_move, held_after, holds, epoch_of, looks_at_life, life_after, known_life}
 use Rattle.pas_steps.specs.Events.{event_of, end_event, with_event, reason_of}
 use Rattle.pas_steps.specs.Allowed.{Allowed, IsStepOf, IsBlockOf}
-use Rattle.pas_steps.specs.Lists.{Triple, Whole, word_after, part, visible, IsNext, Legal}
+use Rattle.pas_steps.specs.Lists.{Whole, word_after, part, visible, IsNext, Legal}
 use Rattle.pas_steps.specs.declared.step.Made.{Made}
 use Rattle.pas_steps.specs.declared.step.Step.{Step}
 use Rattle.pas_steps.specs.declared.step.Step.TheVariants.{Look, Deed, Back, Take, Put, Give, End, Stamp}
@@ -64,10 +61,10 @@ life_rests f l k e (Take page word mask) a g of allowed is still = refl
 life_rests f l k e (Put page word mask) a g of allowed is still = refl
 life_rests f l k e (Give block) a g of allowed is still =
     as_test (same_word (life_word_at (grain_of block.name)) (life_word_at g)) (grain_of block.name == g) (λ w. w ≡ word_after l (life_word_at g)) (live_word block.name.turn (length_of block)) (word_after l (life_word_at g)) (life_same (grain_of block.name) g)
-        (give_rests (grain_of block.name == g) (in_run (grain_of block.name) (length_of block) g) (grain_of block.name) g (length_of block) (word_after l (life_word_at g)) (live_word block.name.turn (length_of block)) refl (some_grain block.room allowed.whole allowed.some) refl still)
+    (give_rests (grain_of block.name == g) (in_run (grain_of block.name) (length_of block) g) (grain_of block.name) g (length_of block) (word_after l (life_word_at g)) (live_word block.name.turn (length_of block)) refl (some_grain block.room allowed.whole allowed.some) refl still)
 life_rests f l k e (End name guess) a g of allowed is still =
     as_test (same_word (life_word_at (grain_of name)) (life_word_at g)) (grain_of name == g) (λ w. w ≡ word_after l (life_word_at g)) (if word_after l (life_word_at g) == live_word name.turn guess then name.turn + 1 else word_after l (life_word_at g)) (word_after l (life_word_at g)) (life_same (grain_of name) g)
-        (end_rests (grain_of name == g) (a == live_word name.turn guess) (in_run (grain_of name) guess g) (grain_of name) g guess (word_after l (life_word_at g)) name.turn a refl (word_is l a (grain_of name) g is) of.3 refl refl still)
+    (end_rests (grain_of name == g) (a == live_word name.turn guess) (in_run (grain_of name) guess g) (grain_of name) g guess (word_after l (life_word_at g)) name.turn a refl (word_is l a (grain_of name) g is) of.3 refl refl still)
 life_rests f l k e (Stamp page) a g of allowed is still = refl
 
 -- ---- what is known of a life word
@@ -136,8 +133,8 @@ life_is_known f (t ∷ l) valid legal k g =
     let fits : Fits t.actor (grain_move t.made.step t.made.answer g) at.place = step_fits f l t.actor t.made.step t.made.answer g at valid next.of_region next.allowed next.answer_is in
     let rests : is_still (grain_move t.made.step t.made.answer g) ≡ true → word_after (t ∷ l) (life_word_at g) ≡ word_after l (life_word_at g) = life_rests f l t.actor e t.made.step t.made.answer g next.of_region next.allowed next.answer_is in
     life_of_part (t.actor == k) t.made (part k l) g (word_after l (life_word_at g)) (word_after (t ∷ l) (life_word_at g)) before
-        (λ other held. rests (no_move t.actor k (grain_move t.made.step t.made.answer g) at.place fits (is_held_by-true k at.place (sym (at.held k) ∙ held)) other))
-        (λ own w. own_life (grain_move t.made.step t.made.answer g) (looks_at_life t.made.step g) (holds (part k l) g) t.made.answer (word_after l (life_word_at g)) (word_after (t ∷ l) (life_word_at g)) (known_life (part k l) g) w rests (look_is l t.made.step t.made.answer g next.answer_is) before)
+    (λ other held. rests (no_move t.actor k (grain_move t.made.step t.made.answer g) at.place fits (is_held_by-true k at.place (sym (at.held k) ∙ held)) other))
+    (λ own w. own_life (grain_move t.made.step t.made.answer g) (looks_at_life t.made.step g) (holds (part k l) g) t.made.answer (word_after l (life_word_at g)) (word_after (t ∷ l) (life_word_at g)) (known_life (part k l) g) w rests (look_is l t.made.step t.made.answer g next.answer_is) before)
 
 -- ---- life words of the machine
 -- the block that a live word tells of
@@ -184,8 +181,17 @@ give_life true f g word k block live gives ends was none new =
     let dead : IsLifeOf f g word None gives ends = subst (λ v. IsLifeOf f g word v gives ends) (none refl) was in
     let n : IsNewAt f g block ends = new refl in
     record {
-      word_is = ap (λ e. live_word e (length_of block)) n.turn; gives_are = ap (λ x. x + 1) dead.gives_are; few = dead.few;
-      turn = n.turn; address = n.address; whole = n.whole; some = n.some; short = n.short; first = n.first; last = n.last; heap = n.heap;
+      word_is = ap (λ e. live_word e (length_of block)) n.turn;
+      gives_are = ap (λ x. x + 1) dead.gives_are;
+      few = dead.few;
+      turn = n.turn;
+      address = n.address;
+      whole = n.whole;
+      some = n.some;
+      short = n.short;
+      first = n.first;
+      last = n.last;
+      heap = n.heap;
     }
 give_life false f g word k block live gives ends was none new = was
 
@@ -230,9 +236,14 @@ new_at f l k block g ends valid of allowed turn x =
     let e : grain_of block.name ≡ g = eqb-true (grain_of block.name) g x in
     let aligned = allowed.aligned in let whole = allowed.whole in let first = of.first in let last = of.last in
     record {
-      turn = turn; address = omega (arith, aligned, e); whole = whole;
-      some = some_grain block.room allowed.whole allowed.some; short = give_short f (address_of block.name) block.room valid of.last;
-      first = omega (arith, first, e); last = omega (arith, last, e, aligned, whole); heap = of.heap;
+      turn = turn;
+      address = omega (arith, aligned, e);
+      whole = whole;
+      some = some_grain block.room allowed.whole allowed.some;
+      short = give_short f (address_of block.name) block.room valid of.last;
+      first = omega (arith, first, e);
+      last = omega (arith, last, e, aligned, whole);
+      heap = of.heap;
     }
 
 life_step : (f : Profile) (l : Whole) (k e : ℕ) (s : Step) (a g : ℕ) → IsValid f → IsStepOf f s → Allowed f (part k l) s → a ≡ word_after l (target s)
@@ -248,16 +259,16 @@ life_step f l k e (Give block) a g valid of allowed is dead tells h =
     let here : (address_of block.name == 16 * g) ≡ true → (grain_of block.name == g) ≡ true = λ x. sym (address_same (address_of block.name) g allowed.aligned) ∙ x in
     let held : (grain_of block.name == g) ≡ true → holds (part k l) g ≡ true = λ x. ap (holds (part k l)) (sym (eqb-true (grain_of block.name) g x)) ∙ allowed.held (grain_of block.name) (own_grain (grain_of block.name) (length_of block) (some_grain block.room allowed.whole allowed.some)) in
     let turn : (grain_of block.name == g) ≡ true → block.name.turn ≡ ends_in (visible l) (16 * g) = λ x.
-        allowed.turn_is ∙ ap turn_of (tells allowed.word (ap (known_life (part k l)) (sym (eqb-true (grain_of block.name) g x)) ∙ allowed.known)).1 ∙ turn_is f g (word_after l (life_word_at g)) (live_in (visible l) (16 * g)) (gives_in (visible l) (16 * g)) (ends_in (visible l) (16 * g)) h in
+    allowed.turn_is ∙ ap turn_of (tells allowed.word (ap (known_life (part k l)) (sym (eqb-true (grain_of block.name) g x)) ∙ allowed.known)).1 ∙ turn_is f g (word_after l (life_word_at g)) (live_in (visible l) (16 * g)) (gives_in (visible l) (16 * g)) (ends_in (visible l) (16 * g)) h in
     as_test (same_word (life_word_at (grain_of block.name)) (life_word_at g)) (address_of block.name == 16 * g) (λ w. LifeIn f g w (Event.Give k block ∷ visible l) (16 * g)) (live_word block.name.turn (length_of block)) (word_after l (life_word_at g))
-        (life_same (grain_of block.name) g ∙ sym (address_same (address_of block.name) g allowed.aligned))
-        (give_life (address_of block.name == 16 * g) f g (word_after l (life_word_at g)) k block (live_in (visible l) (16 * g)) (gives_in (visible l) (16 * g)) (ends_in (visible l) (16 * g)) h (λ x. dead (held (here x)))
-            (λ x. new_at f l k block g (ends_in (visible l) (16 * g)) valid of allowed (turn (here x)) (here x)))
+    (life_same (grain_of block.name) g ∙ sym (address_same (address_of block.name) g allowed.aligned))
+    (give_life (address_of block.name == 16 * g) f g (word_after l (life_word_at g)) k block (live_in (visible l) (16 * g)) (gives_in (visible l) (16 * g)) (ends_in (visible l) (16 * g)) h (λ x. dead (held (here x)))
+    (λ x. new_at f l k block g (ends_in (visible l) (16 * g)) valid of allowed (turn (here x)) (here x)))
 life_step f l k e (End name guess) a g valid of allowed is dead tells h =
     as_test (same_word (life_word_at (grain_of name)) (life_word_at g)) (address_of name == 16 * g) (λ w. LifeIn f g w (with_event (end_event k e name guess a) (visible l)) (16 * g)) (if word_after l (life_word_at g) == live_word name.turn guess then name.turn + 1 else word_after l (life_word_at g)) (word_after l (life_word_at g))
-        (life_same (grain_of name) g ∙ sym (address_same (address_of name) g of.1))
-        (end_life (address_of name == 16 * g) (a == live_word name.turn guess) (is_live a && (turn_of a == name.turn)) f g k e a (word_after l (life_word_at g)) guess name (reason_of name a) (visible l) (16 * g) refl
-            (λ x. word_is l a (grain_of name) g is (sym (address_same (address_of name) g of.1) ∙ x)) refl of.2 h)
+    (life_same (grain_of name) g ∙ sym (address_same (address_of name) g of.1))
+    (end_life (address_of name == 16 * g) (a == live_word name.turn guess) (is_live a && (turn_of a == name.turn)) f g k e a (word_after l (life_word_at g)) guess name (reason_of name a) (visible l) (16 * g) refl
+    (λ x. word_is l a (grain_of name) g is (sym (address_same (address_of name) g of.1) ∙ x)) refl of.2 h)
 life_step f l k e (Stamp page) a g valid of allowed is dead tells h = h
 
 -- a grain of a live block is covered
@@ -281,8 +292,8 @@ life_of f (t ∷ l) valid legal g =
     let next : IsNext f l t = legal.0 in
     let before : IsLifeOf f g (word_after l (life_word_at g)) (live_in (visible l) (16 * g)) (gives_in (visible l) (16 * g)) (ends_in (visible l) (16 * g)) = life_of f l valid legal.1 g in
     life_step f l t.actor (epoch_of (part t.actor l)) t.made.step t.made.answer g valid next.of_region next.allowed next.answer_is
-        (λ held. dead_while_held f l t.actor g (live_in (visible l) (16 * g)) (gives_in (visible l) (16 * g)) (ends_in (visible l) (16 * g)) (placed_once f l valid legal.1 g) held before)
-        (life_is_known f l valid legal.1 t.actor g) before
+    (λ held. dead_while_held f l t.actor g (live_in (visible l) (16 * g)) (gives_in (visible l) (16 * g)) (ends_in (visible l) (16 * g)) (placed_once f l valid legal.1 g) held before)
+    (life_is_known f l valid legal.1 t.actor g) before
 
 -- ---- addresses that are no grain's
 abbrev BareIn : List Event → ℕ → Type 0
@@ -319,7 +330,7 @@ bare_step f v k e (Give block) a es address of allowed un h =
     bare_give (address_of block.name == address) k block address (live_in es address) (gives_in es address) (ends_in es address) (other_address (address_of block.name) address allowed.aligned un (address_of block.name == address) refl) h
 bare_step f v k e (End name guess) a es address of allowed un h =
     bare_end (a == live_word name.turn guess) (is_live a && (turn_of a == name.turn)) (Event.End k name e) (Event.Reject k name (reason_of name a)) es address
-        (bare_ended (address_of name == address) address (live_in es address) (gives_in es address) (ends_in es address) (other_address (address_of name) address of.1 un (address_of name == address) refl) h) h h
+    (bare_ended (address_of name == address) address (live_in es address) (gives_in es address) (ends_in es address) (other_address (address_of name) address of.1 un (address_of name == address) refl) h) h h
 bare_step f v k e (Stamp page) a es address of allowed un h = h
 
 pub bare_of : (f : Profile) (l : Whole) → Legal f l → (address : ℕ) → address % 16 ≢ 0 → IsBare address (live_in (visible l) address) (gives_in (visible l) address) (ends_in (visible l) address)
@@ -337,5 +348,5 @@ live_of f l valid legal address b is =
     let aligned : address % 16 ≡ 0 = live_is_aligned f l legal address b is in
     let e : 16 * (address / 16) ≡ address = omega (arith, aligned) in
     let one : IsLifeOf f (address / 16) (word_after l (life_word_at (address / 16))) (live_in (visible l) address) (gives_in (visible l) address) (ends_in (visible l) address)
-        = subst (λ x. IsLifeOf f (address / 16) (word_after l (life_word_at (address / 16))) (live_in (visible l) x) (gives_in (visible l) x) (ends_in (visible l) x)) e (life_of f l valid legal (address / 16)) in
+    = subst (λ x. IsLifeOf f (address / 16) (word_after l (life_word_at (address / 16))) (live_in (visible l) x) (gives_in (visible l) x) (ends_in (visible l) x)) e (life_of f l valid legal (address / 16)) in
     subst (λ v. IsLifeOf f (address / 16) (word_after l (life_word_at (address / 16))) v (gives_in (visible l) address) (ends_in (visible l) address)) is one

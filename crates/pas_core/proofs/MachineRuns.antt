@@ -1,6 +1,6 @@
 -- The visible events of every legal list are a run of the machine.
-use Rattle.std.proofs.Common.{◌≡◌, ◌≢◌, ℕ, ◌+◌, ◌-◌, ◌*◌, ◌/◌, ◌%◌, ◌^◌, ◌<◌, ◌≤◌, ◌==◌, nat_lt, nat_le, Bool, true, false, not, ◌&&◌, ◌||◌, if◌then◌else◌, List, [], ◌∷◌, Option, Some, None, refl, ap, sym, ◌∙◌, subst, arith, ◌⊎◌, inl, inr}
-use Rattle.std.proofs.lemmas.Bool.{false≢true, eqb-true, eqb-false, eq-eqb, and_from}
+use Rattle.std.proofs.Common.{◌≡◌, ◌≢◌, ℕ, ◌+◌, ◌-◌, ◌*◌, ◌/◌, ◌%◌, ◌^◌, ◌<◌, ◌≤◌, ◌==◌, nat_lt, Bool, true, false, ◌&&◌, if◌then◌else◌, List, [], ◌∷◌, Option, Some, None, refl, ap, sym, ◌∙◌, subst, arith}
+use Rattle.std.proofs.lemmas.Bool.{false≢true, eqb-true, eq-eqb, and_from}
 use Rattle.std.proofs.lemmas.Bool.Decides.{nat_tests}
 use Rattle.pas_profile.specs.Directories.{IsKind, kind_number, deed_word_of}
 use Rattle.pas_profile.specs.Lives.{live_word, is_live, turn_of}
@@ -12,22 +12,19 @@ use Rattle.pas_profile.specs.declared.directory.Kind.TheVariants.{Class, Bitfit,
 use Rattle.pas_profile.specs.declared.name.Block.{Block}
 use Rattle.pas_profile.specs.declared.name.Name.{Name}
 use Rattle.pas_profile.specs.declared.word.Word.{Word}
-use Rattle.pas_profile.specs.declared.word.Word.TheVariants as Word
 use Rattle.pas_profile.specs.declared.event.Event.{Event}
-use Rattle.pas_profile.specs.declared.event.Event.TheVariants as Event
 use Rattle.pas_profile.specs.declared.event.Why.{Why}
-use Rattle.pas_profile.specs.declared.event.Why.TheVariants as Why
 use Rattle.pas_machine.specs.Runs.{in_run, address_of, grain_of, length_of}
 use Rattle.pas_machine.specs.State.{Live, deed_in, backed_in, live_in, gives_in, ends_in}
 use Rattle.pas_machine.specs.Machine.{IsPlace, Bears, IsClear, IsLive, MayGive, IsReason, Admits, Run}
 use Rattle.pas_steps.specs.Effects.{life_word_at, target}
-use Rattle.pas_steps.specs.Views.{holds, epoch_of, known_deed, knows_backed}
-use Rattle.pas_steps.specs.Events.{event_of, end_event, with_event, reason_of}
+use Rattle.pas_steps.specs.Views.{holds, epoch_of, known_deed}
+use Rattle.pas_steps.specs.Events.{event_of, with_event, reason_of}
 use Rattle.pas_steps.specs.Allowed.{Allowed, IsStepOf, IsBlockOf, KnowsBearing}
-use Rattle.pas_steps.specs.Lists.{Triple, Whole, word_after, part, visible, Legal}
+use Rattle.pas_steps.specs.Lists.{Whole, word_after, part, visible, Legal}
 use Rattle.pas_steps.specs.declared.step.Step.{Step}
 use Rattle.pas_steps.specs.declared.step.Step.TheVariants.{Look, Deed, Back, Take, Put, Give, End, Stamp}
-use Rattle.pas_core.specs.Good.{IsPlacedOnce, word_of_deed, word_of_backed, IsLifeOf, IsLifeOfNone, IsLifeOfLive, AgreesWithWords}
+use Rattle.pas_core.specs.Good.{word_of_deed, word_of_backed, IsLifeOf, IsLifeOfNone, IsLifeOfLive, AgreesWithWords}
 use Rattle.pas_core.proofs.Grains.{own_grain, some_grain, placed_once}
 use Rattle.pas_core.proofs.Knowledge.{deeds_known, known_is, backed_known}
 use Rattle.pas_core.proofs.Deeds.{deed_of, backed_of, directory_is_of, is_backed}
@@ -121,13 +118,18 @@ end_admits f true y k ep g a word guess name es run of is small life ze ye =
     ((of, (found.0, found.1, found.2)), run)
 end_admits f false true k ep g a word guess name es run of is small life ze ye = run
 end_admits f false false k ep g a word guess name es run of is small life ze ye =
-    let turn : turn_of a ≡ ends_in es (address_of name) = ap turn_of is ∙ turn_is f g word (live_in es (address_of name)) (gives_in es (address_of name)) (ends_in es (address_of name)) life in
-    ((of, reason (nat_lt name.turn (turn_of a)) es name (turn_of a) turn refl
-        (λ live.
-          let here : IsLifeOfLive f g word live.0 (gives_in es (address_of name)) (ends_in es (address_of name)) = subst (λ v. IsLifeOf f g word v (gives_in es (address_of name)) (ends_in es (address_of name))) live.1 life in
-          false≢true (sym ye ∙ and_from (is_live a) (turn_of a == name.turn)
+    let turn : turn_of a ≡ ends_in es (address_of name) = ap turn_of is ∙ turn_is f g word (live_in es (address_of name)) (gives_in es (address_of name)) (ends_in es (address_of name)) life in (
+      (
+        of,
+        reason (nat_lt name.turn (turn_of a)) es name (turn_of a) turn refl
+            (λ live.
+            let here : IsLifeOfLive f g word live.0 (gives_in es (address_of name)) (ends_in es (address_of name)) = subst (λ v. IsLifeOf f g word v (gives_in es (address_of name)) (ends_in es (address_of name))) live.1 life in
+            false≢true (sym ye ∙ and_from (is_live a) (turn_of a == name.turn)
             (ap is_live is ∙ live_is_live f g word live.0 (gives_in es (address_of name)) (ends_in es (address_of name)) here)
-            (eq-eqb (turn_of a) name.turn (turn ∙ sym here.turn ∙ live.2))))), run)
+            (eq-eqb (turn_of a) name.turn (turn ∙ sym here.turn ∙ live.2)))),
+      ),
+      run,
+    )
 
 -- the life word at an address
 pub life_at : (f : Profile) (l : Whole) → IsValid f → Legal f l → (address : ℕ) → address % 16 ≡ 0
@@ -140,7 +142,7 @@ give_admits : (f : Profile) (l : Whole) → IsValid f → Legal f l → (k : ℕ
 give_admits f l valid legal k block of allowed =
     let g : ℕ = grain_of block.name in
     let life : IsLifeOf f (grain_of block.name) (word_after l (life_word_at (grain_of block.name))) (live_in (visible l) (address_of block.name)) (gives_in (visible l) (address_of block.name)) (ends_in (visible l) (address_of block.name))
-        = life_at f l valid legal (address_of block.name) allowed.aligned in
+    = life_at f l valid legal (address_of block.name) allowed.aligned in
     record {
       aligned = allowed.aligned;
       whole = allowed.whole;
@@ -149,16 +151,18 @@ give_admits f l valid legal k block of allowed =
       clear = clear f l valid legal k (grain_of block.name) (length_of block) allowed.held;
       turn = allowed.turn_is ∙ ap turn_of (life_is_known f l valid legal k (grain_of block.name) allowed.word allowed.known).1
           ∙ give_turn f (grain_of block.name) (word_after l (life_word_at (grain_of block.name))) (live_in (visible l) (address_of block.name)) (gives_in (visible l) (address_of block.name)) (ends_in (visible l) (address_of block.name)) life
-              (dead_while_held f l k (grain_of block.name) (live_in (visible l) (address_of block.name)) (gives_in (visible l) (address_of block.name)) (ends_in (visible l) (address_of block.name)) (placed_once f l valid legal (grain_of block.name))
-                (allowed.held (grain_of block.name) (own_grain (grain_of block.name) (length_of block) (some_grain block.room allowed.whole allowed.some))) life);
+          (dead_while_held f l k (grain_of block.name) (live_in (visible l) (address_of block.name)) (gives_in (visible l) (address_of block.name)) (ends_in (visible l) (address_of block.name)) (placed_once f l valid legal (grain_of block.name))
+          (allowed.held (grain_of block.name) (own_grain (grain_of block.name) (length_of block) (some_grain block.room allowed.whole allowed.some))) life);
     }
 
 admits : (f : Profile) (l : Whole) → IsValid f → Legal f l → (k e : ℕ) (s : Step) (a : ℕ) → IsStepOf f s → Allowed f (part k l) s → a ≡ word_after l (target s) → Run f (visible l) → Run f (with_event (event_of k e s a) (visible l))
 admits f l valid legal k e (Look word) a of allowed is run = run
 admits f l valid legal k e (Deed q d) a of allowed is run = one_if (a == 0) f (Event.Deed k q d) (visible l) run (λ z. (of.0, of.1.heap, no_deed (deed_in (visible l) q) (sym (eqb-true a 0 z) ∙ is ∙ deed_of f l legal q)))
-admits f l valid legal k e (Back q) a of allowed is run = one_if (a == 0) f (Event.Back k q) (visible l) run (λ z.
-    (of, some_deed (deed_in (visible l) q) (λ none. allowed.1 (known_is (known_deed (part k l) q) (word_after l (Word.Deed q)) (deeds_known f l legal k q) allowed.1 ∙ deed_of f l legal q ∙ none)),
-     is_backed true (backed_in (visible l) q) a (is ∙ backed_of f l legal q) z))
+admits f l valid legal k e (Back q) a of allowed is run = one_if (a == 0) f (Event.Back k q) (visible l) run (λ z. (
+  of,
+  some_deed (deed_in (visible l) q) (λ none. allowed.1 (known_is (known_deed (part k l) q) (word_after l (Word.Deed q)) (deeds_known f l legal k q) allowed.1 ∙ deed_of f l legal q ∙ none)),
+  is_backed true (backed_in (visible l) q) a (is ∙ backed_of f l legal q) z,
+))
 admits f l valid legal k e (Take q word mask) a of allowed is run = run
 admits f l valid legal k e (Put q word mask) a of allowed is run = run
 admits f l valid legal k e (Give block) a of allowed is run = (give_admits f l valid legal k block of allowed, run)

@@ -1,8 +1,8 @@
 -- Where a grain is, in the machine's words.
-use Rattle.std.proofs.Common.{◌≡◌, ◌≢◌, ℕ, ◌+◌, ◌-◌, ◌*◌, ◌/◌, ◌%◌, ◌^◌, ◌<◌, ◌≤◌, ◌==◌, Bool, true, false, ◌&&◌, List, [], ◌∷◌, Option, Some, None, refl, ap, sym, ◌∙◌, subst, arith, ◌⊎◌, inl, inr}
+use Rattle.std.proofs.Common.{◌≡◌, ℕ, ◌*◌, ◌/◌, ◌%◌, ◌^◌, ◌≤◌, true, Option, Some, None, refl, ap, sym, ◌∙◌, arith, inl, inr}
 use Rattle.std.proofs.lemmas.Bool.{false≢true, eqb-true, eq-eqb, and_parts, leb-true}
 use Rattle.pas_profile.specs.Classes.{has_bit}
-use Rattle.pas_profile.specs.Lives.{live_word, is_live, grains_of}
+use Rattle.pas_profile.specs.Lives.{is_live, grains_of}
 use Rattle.pas_profile.specs.Profiles.{IsValid}
 use Rattle.pas_profile.specs.declared.profile.Profile.{Profile}
 use Rattle.pas_machine.specs.Runs.{in_run, length_of}
@@ -12,7 +12,7 @@ use Rattle.pas_machine.proofs.LiveBlocks.{all_borne, live_apart}
 use Rattle.pas_steps.specs.Effects.{free_word_at, life_word_at}
 use Rattle.pas_steps.specs.Views.{holds}
 use Rattle.pas_steps.specs.Lists.{Whole, word_after, part, visible, Legal}
-use Rattle.pas_core.specs.Good.{Place, IsFree, Held, Covered, is_free, is_held_by, is_covered_by, covers, IsPlacedOnce, IsPartOf, IsFreeGrain, IsHeldByOne, IsCoveredByOne, IsInOnePlace, IsLifeOf, IsLifeOfLive}
+use Rattle.pas_core.specs.Good.{Place, IsFree, Held, Covered, is_free, is_held_by, is_covered_by, covers, IsPlacedOnce, IsInOnePlace, IsLifeOf, IsLifeOfLive}
 use Rattle.pas_core.proofs.Grains.{covers_live, placed_once}
 use Rattle.pas_core.proofs.Lives.{live_is_aligned, live_of, life_of}
 use Rattle.pas_core.proofs.MachineRuns.{runs}
@@ -57,9 +57,9 @@ pub in_one_place : (f : Profile) (l : Whole) → IsValid f → Legal f l → (g 
 in_one_place f l valid legal g =
     let at : IsPlacedOnce l g = placed_once f l valid legal g in
     in_place f l g legal at.place at.free at.held (part_is f l g valid legal at) (λ a is.
-      let covering : covers (word_after l (life_word_at a)) a g ≡ true = at.covered a ∙ ap (is_covered_by a) is ∙ eq-eqb a a refl in
-      let live = and_parts (is_live (word_after l (life_word_at a))) (in_run a (grains_of (word_after l (life_word_at a))) g) covering in
-      found_block f l a (word_after l (life_word_at a)) (live_in (visible l) (16 * a)) (gives_in (visible l) (16 * a)) (ends_in (visible l) (16 * a)) refl (life_of f l valid legal a) live.0)
+    let covering : covers (word_after l (life_word_at a)) a g ≡ true = at.covered a ∙ ap (is_covered_by a) is ∙ eq-eqb a a refl in
+    let live = and_parts (is_live (word_after l (life_word_at a))) (in_run a (grains_of (word_after l (life_word_at a))) g) covering in
+    found_block f l a (word_after l (life_word_at a)) (live_in (visible l) (16 * a)) (gives_in (visible l) (16 * a)) (ends_in (visible l) (16 * a)) refl (life_of f l valid legal a) live.0)
 
 -- the laws of the machine's runs, for every legal list
 pub lists_borne : (f : Profile) (l : Whole) → IsValid f → Legal f l → AreBorne f (visible l)

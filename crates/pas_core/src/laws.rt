@@ -19,43 +19,37 @@ ghost use Rattle.pas_core.specs.Given.{WasGiven};
 /// refusal had its true reason.
 pub fn events_run()
     ensures { (f : Profile) (l : Whole) → IsValid f → Legal f l → Run f (visible l) }
-{
-}
+{}
 
 /// The words of the region say exactly what the machine says: of each page its deed and whether it is backed, of each grain the block
 /// that lives there and how many ended there. So an actor that reads a word reads the machine's state.
 pub fn agrees()
     ensures { (f : Profile) (l : Whole) → IsValid f → Legal f l → AgreesWithWords f l }
-{
-}
+{}
 
 /// Each grain is free, or held by exactly one actor, or part of exactly one live block. So no memory is given twice, none is lost,
 /// and what an actor holds nobody else has.
 pub fn placed()
     ensures place { (f : Profile) (l : Whole) → IsValid f → Legal f l → (g : ℕ) → IsInOnePlace l g }
     ensures words { (f : Profile) (l : Whole) → IsValid f → Legal f l → (g : ℕ) → IsPlacedOnce l g }
-{
-}
+{}
 
 /// A live block lies on backed pages with deeds of its heap as long as it lives, and shares no grain with another live block.
 pub fn live_on_backed()
     ensures backed { (f : Profile) (l : Whole) → IsValid f → Legal f l → AreBorne f (visible l) }
     ensures apart { (f : Profile) (l : Whole) → IsValid f → Legal f l → AreApart (visible l) }
-{
-}
+{}
 
 /// A name stands for its block for good: from its give on, no other block ever lives under that name, so its room and its heap stay
 /// what they were.
 pub fn names_last()
     ensures new { (f : Profile) (k : ℕ) (block : Block) (es : List Event) → Admits f es (Event.Give k block) → WasGiven (Event.Give k block ∷ es) block }
     ensures kept { (f : Profile) (more es : List Event) (block : Block) → Run f (more ++ es) → WasGiven es block → WasGiven (more ++ es) block }
-{
-}
+{}
 
 /// Turns are small: a name's turn is the number of blocks that were given at its address before, which is at most the number of
 /// events so far, and an actor gave at most as many blocks as it has events.
 pub fn few_gives()
     ensures turns { (es : List Event) (address : ℕ) → gives_in es address ≤ length es }
     ensures own { (k : ℕ) (v : View) → given_count v ≤ length (events_of k v) }
-{
-}
+{}
