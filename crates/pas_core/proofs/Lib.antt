@@ -3,3 +3,5 @@ pub mod Grains
 pub mod Knowledge
 pub mod Rights
 pub mod Epochs
+pub mod Awaited
+pub mod Agreement
