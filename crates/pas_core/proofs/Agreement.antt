@@ -18,7 +18,7 @@ use Rattle.pas_steps.specs.declared.step.Step.{Step}
 use Rattle.pas_steps.specs.declared.step.Step.TheVariants.{Look, Deed, Back, Take, Put, Give, End, Stamp}
 use Rattle.pas_core.specs.Good.{Place, Held, is_free, is_covered_by, covers, IsPlacedOnce, IsLifeOf, IsLifeOfNone, IsLifeOfLive}
 use Rattle.pas_core.proofs.Grains.{is_held_by-true, own_grain, placed_once}
-use Rattle.pas_core.proofs.Awaited.{life_is_known, life_of}
+use Rattle.pas_core.proofs.Lives.{life_is_known, life_of}
 use Rattle.pas_core.proofs.Knowledge.{known_is, deeds_known, deed_words, backed_small, backed_known}
 use Rattle.pas_core.proofs.Rights.{free_known}
 use Rattle.pas_core.proofs.Epochs.{epoch_known, words_fit, nothing_parked, nothing_hinted, nothing_eligible}

@@ -1,11 +1,12 @@
 -- What holds after every legal list of steps.
-use Rattle.std.specs.Prelude.{ℕ, ◌+◌, ◌*◌, ◌/◌, ◌%◌, ◌^◌, ◌<◌, ◌≤◌, ◌≡◌, ◌==◌, Bool, true, false, ◌&&◌, Option, Some, None}
+use Rattle.std.specs.Prelude.{◌≢◌, ℕ, ◌+◌, ◌*◌, ◌/◌, ◌%◌, ◌^◌, ◌<◌, ◌≤◌, ◌≡◌, ◌==◌, Bool, true, false, ◌&&◌, Option, Some, None}
 use Rattle.pas_profile.specs.declared.directory.Directory.{Directory}
+use Rattle.pas_profile.specs.declared.profile.Profile.{Profile}
 use Rattle.pas_profile.specs.Classes.{has_bit}
 use Rattle.pas_profile.specs.Directories.{deed_word_of}
 use Rattle.pas_profile.specs.Lives.{live_word, is_live, grains_of}
 use Rattle.pas_profile.specs.declared.word.Word.TheVariants as Word
-use Rattle.pas_machine.specs.Runs.{in_run, length_of}
+use Rattle.pas_machine.specs.Runs.{in_run, address_of, length_of}
 use Rattle.pas_machine.specs.State.{Live, deed_in, backed_in, live_in, gives_in, ends_in}
 use Rattle.pas_steps.specs.Effects.{free_word_at, life_word_at}
 use Rattle.pas_steps.specs.Views.{holds}
@@ -43,3 +44,53 @@ pub record IsPlacedOnce (l : Whole) (g : ℕ) : Type 0 where
   pub free : has_bit (word_after l (free_word_at g)) (g % 64) ≡ is_free place
   pub held : (k : ℕ) → holds (part k l) g ≡ is_held_by k place
   pub covered : (a : ℕ) → covers (word_after l (life_word_at a)) a g ≡ is_covered_by a place
+
+-- ---- the machine and the words
+-- the deed word of a page with this directory
+abbrev pub word_of_deed : Option Directory → ℕ
+word_of_deed None = 0
+word_of_deed (Some d) = deed_word_of d
+
+-- the backed word of a page
+abbrev pub word_of_backed : Bool → ℕ
+word_of_backed false = 0
+word_of_backed true = 1
+
+-- the life word of a grain where no block lives: the number of blocks that ended there, which were all that were given there
+pub record IsLifeOfNone (word gives ends : ℕ) : Type 0 where
+  pub word_is : word ≡ ends
+  pub gives_are : gives ≡ ends
+  pub few : ends < 2 ^ 40
+
+-- The life word of grain g where this block lives: it has the block's turn, which is the number of blocks that ended there, and the
+-- block's grains. The block begins at the grain, has whole grains and lies in the region.
+pub record IsLifeOfLive (f : Profile) (g word : ℕ) (b : Live) (gives ends : ℕ) : Type 0 where
+  pub word_is : word ≡ live_word ends (length_of b.block)
+  pub gives_are : gives ≡ ends + 1
+  pub few : ends < 2 ^ 40
+  pub turn : b.block.name.turn ≡ ends
+  pub address : address_of b.block.name ≡ 16 * g
+  pub whole : b.block.room % 16 ≡ 0
+  pub some : 0 < length_of b.block
+  pub short : length_of b.block < 2 ^ 23
+  pub first : 256 ≤ g
+  pub last : g + length_of b.block ≤ 256 * (f.pages + 1)
+  pub heap : b.block.heap < f.heaps
+
+-- what the life word of grain g is, from the machine's live block, gives and ends there
+abbrev pub IsLifeOf : Profile → ℕ → ℕ → Option Live → ℕ → ℕ → Type 0
+IsLifeOf f g word None gives ends = IsLifeOfNone word gives ends
+IsLifeOf f g word (Some b) gives ends = IsLifeOfLive f g word b gives ends
+
+-- nothing ever began at an address that is no grain's
+pub record IsBare (address : ℕ) (live : Option Live) (gives ends : ℕ) : Type 0 where
+  pub no_block : live ≡ None
+  pub no_give : gives ≡ 0
+  pub no_end : ends ≡ 0
+
+-- The machine that the visible events reach agrees with the words, at every page and every grain; the grain g has the address 16 * g.
+pub record AgreesWithWords (f : Profile) (l : Whole) : Type 0 where
+  pub deed : (page : ℕ) → word_after l (Word.Deed page) ≡ word_of_deed (deed_in (visible l) page)
+  pub backed : (page : ℕ) → word_after l (Word.Backed page) ≡ word_of_backed (backed_in (visible l) page)
+  pub life : (g : ℕ) → IsLifeOf f g (word_after l (life_word_at g)) (live_in (visible l) (16 * g)) (gives_in (visible l) (16 * g)) (ends_in (visible l) (16 * g))
+  pub bare : (address : ℕ) → address % 16 ≢ 0 → IsBare address (live_in (visible l) address) (gives_in (visible l) address) (ends_in (visible l) address)
