@@ -178,6 +178,17 @@ deed_with l k p at h = subst (λ o. DeedFits o (word_after l (Word.Deed p))) (is
 pub right_has_deed : (f : Profile) (l : Whole) → Legal f l → (k p : ℕ) → has_right (part k l) p ≡ true → word_after l (Word.Deed p) ≢ 0
 right_has_deed f l legal k p h = deed_with l k p (spotted f l legal p) h
 
+with_deed : (o : Spot) (n : ℕ) → DeedFits o n → n ≢ 0 → (k : ℕ) × (o ≡ With k)
+with_deed Nowhere n fits ne = absurd (ne fits)
+with_deed (With k) n fits ne = (k, refl)
+
+-- some actor has the right of a page that has a deed
+pub deed_has_holder : (f : Profile) (l : Whole) → Legal f l → (p : ℕ) → word_after l (Word.Deed p) ≢ 0 → (k : ℕ) × (has_right (part k l) p ≡ true)
+deed_has_holder f l legal p ne =
+    let at : IsSpotted l p = spotted f l legal p in
+    let found : (k : ℕ) × (spot_of l p ≡ With k) = with_deed (spot_of l p) (word_after l (Word.Deed p)) at.deed ne in
+    (found.0, at.has found.0 ∙ ap (is_with found.0) found.1 ∙ eq-eqb found.0 found.0 refl)
+
 -- ---- free grains
 -- the free bit of a grain
 abbrev pub free_bit : Whole → ℕ → Bool
