@@ -1,22 +1,21 @@
 -- The answer of each legal step agrees with its actor's view.
-use Rattle.std.proofs.Common.{◌≡◌, ◌≢◌, ℕ, ◌+◌, ◌-◌, ◌*◌, ◌/◌, ◌%◌, ◌^◌, ◌<◌, ◌≤◌, ◌==◌, Bool, true, false, ◌&&◌, List, [], ◌∷◌, Option, Some, None, refl, ap, sym, ◌∙◌, subst, arith}
+use Rattle.std.proofs.Common.{◌≡◌, ℕ, ◌+◌, ◌*◌, ◌/◌, ◌%◌, ◌^◌, ◌<◌, ◌≤◌, true, false, Option, Some, None, ap, sym, ◌∙◌, subst, arith}
 use Rattle.std.proofs.lemmas.Bool.{false≢true, leb-true, and_from, false_from_ne_true}
 use Rattle.pas_profile.specs.Classes.{has_bit}
-use Rattle.pas_profile.specs.Lives.{live_word, is_live, turn_of, grains_of}
+use Rattle.pas_profile.specs.Lives.{is_live, grains_of}
 use Rattle.pas_profile.specs.Profiles.{IsValid}
 use Rattle.pas_profile.specs.declared.profile.Profile.{Profile}
 use Rattle.pas_profile.specs.declared.word.Word.{Word}
-use Rattle.pas_profile.specs.declared.word.Word.TheVariants as Word
 use Rattle.pas_machine.specs.Runs.{grain_of, in_run, length_of}
 use Rattle.pas_machine.specs.State.{Live, live_in, gives_in, ends_in}
 use Rattle.pas_steps.specs.Effects.{free_word_at, life_word_at, target}
-use Rattle.pas_steps.specs.Views.{View, holds, known_deed, epoch_of}
+use Rattle.pas_steps.specs.Views.{holds, known_deed}
 use Rattle.pas_steps.specs.Allowed.{IsStepOf}
 use Rattle.pas_steps.specs.Lists.{Triple, Whole, part, visible, word_after, IsNext, Legal}
 use Rattle.pas_steps.specs.Agreement.{IsDeedWord, AgreesDeed, AgreesFree, AgreesLife, AgreesBacked, Agrees}
 use Rattle.pas_steps.specs.declared.step.Step.{Step}
 use Rattle.pas_steps.specs.declared.step.Step.TheVariants.{Look, Deed, Back, Take, Put, Give, End, Stamp}
-use Rattle.pas_core.specs.Good.{Place, Held, is_free, is_covered_by, covers, IsPlacedOnce, IsLifeOf, IsLifeOfNone, IsLifeOfLive}
+use Rattle.pas_core.specs.Good.{Held, is_free, is_covered_by, covers, IsPlacedOnce, IsLifeOf}
 use Rattle.pas_core.proofs.Grains.{is_held_by-true, own_grain, placed_once}
 use Rattle.pas_core.proofs.Lives.{life_is_known, life_of}
 use Rattle.pas_core.proofs.Knowledge.{known_is, deeds_known, deed_words, backed_small, backed_known}
@@ -30,20 +29,20 @@ held_place l k g at h = is_held_by-true k at.place (sym (at.held k) ∙ h)
 -- ---- deed words, free words and backed words
 deed_agrees : (f : Profile) (l : Whole) → Legal f l → (k page a : ℕ) → a ≡ word_after l (Word.Deed page) → AgreesDeed f (part k l) page a
 deed_agrees f l legal k page a is = record {
-    a_deed = subst (IsDeedWord f) (sym is) (deed_words f l legal page);
-    known = λ ne. is ∙ sym (known_is (known_deed (part k l) page) (word_after l (Word.Deed page)) (deeds_known f l legal k page) ne);
-  }
+  a_deed = subst (IsDeedWord f) (sym is) (deed_words f l legal page);
+  known = λ ne. is ∙ sym (known_is (known_deed (part k l) page) (word_after l (Word.Deed page)) (deeds_known f l legal k page) ne);
+}
 
 word_at : (l : Whole) (page word a g : ℕ) → a ≡ word_after l (Word.Free page word) → g / 256 ≡ page → g / 64 % 4 ≡ word → a ≡ word_after l (free_word_at g)
 word_at l page word a g is p w = is ∙ ap (λ x. word_after l (Word.Free x word)) (sym p) ∙ ap (λ x. word_after l (Word.Free (g / 256) x)) (sym w)
 
 free_agrees : (f : Profile) (l : Whole) → IsValid f → Legal f l → (k page word a : ℕ) → a ≡ word_after l (Word.Free page word) → AgreesFree (part k l) page word a
 free_agrees f l valid legal k page word a is = record {
-    free = λ g p w h. ap (λ n. has_bit n (g % 64)) (word_at l page word a g is p w) ∙ free_known f l legal k g h;
-    held = λ g p w h.
+  free = λ g p w h. ap (λ n. has_bit n (g % 64)) (word_at l page word a g is p w) ∙ free_known f l legal k g h;
+  held = λ g p w h.
       let at : IsPlacedOnce l g = placed_once f l valid legal g in
       ap (λ n. has_bit n (g % 64)) (word_at l page word a g is p w) ∙ at.free ∙ ap is_free (held_place l k g at h);
-  }
+}
 
 backed_agrees : (f : Profile) (l : Whole) → Legal f l → (k page a : ℕ) → a ≡ word_after l (Word.Backed page) → AgreesBacked (part k l) page a
 backed_agrees f l legal k page a is = record { small = omega (arith, is, backed_small f l legal page); known = λ h. is ∙ backed_known f l legal k page h }
@@ -72,11 +71,11 @@ held_is_dead f l valid legal k g h = false_from_ne_true (is_live (word_after l (
 
 life_agrees : (f : Profile) (l : Whole) → IsValid f → Legal f l → (k g a : ℕ) → a ≡ word_after l (life_word_at g) → AgreesLife f (part k l) g a
 life_agrees f l valid legal k g a is = subst (AgreesLife f (part k l) g) (sym is) record {
-    known = λ w h. sym (life_is_known f l valid legal k g w h).1;
-    held = held_is_dead f l valid legal k g;
-    turn = omega arith;
-    length = word_length f l valid legal g;
-  }
+  known = λ w h. sym (life_is_known f l valid legal k g w h).1;
+  held = held_is_dead f l valid legal k g;
+  turn = omega arith;
+  length = word_length f l valid legal g;
+}
 
 life_at : (l : Whole) (page grain : ℕ) → grain < 256 → word_after l (Word.Life page grain) ≡ word_after l (life_word_at (page * 256 + grain))
 life_at l page grain small =
