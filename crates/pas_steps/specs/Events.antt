@@ -1,5 +1,5 @@
 -- The event of a step, and the events of a view.
-use Rattle.std.specs.Prelude.{ℕ, ◌+◌, ◌/◌, ◌==◌, nat_lt, Bool, true, false, ◌&&◌, if◌then◌else◌, List, [], ◌∷◌, Option, None, Some}
+use Rattle.std.specs.Prelude.{ℕ, ◌+◌, ◌/◌, ◌==◌, nat_lt, Bool, true, false, ◌&&◌, if◌then◌else◌, List, [], ◌∷◌, ◌++◌, Option, None, Some}
 use Rattle.pas_profile.specs.Lives.{live_word, is_live, turn_of}
 use Rattle.pas_profile.specs.declared.name.Name.{Name}
 use Rattle.pas_profile.specs.declared.event.Event.{Event}
@@ -40,6 +40,11 @@ with_event (Some e) es = e ∷ es
 abbrev pub events_of : ℕ → View → List Event
 events_of k [] = []
 events_of k (m ∷ v) = with_event (event_of k (epoch_of v) m.step m.answer) (events_of k v)
+
+-- the events of these steps of actor k, which were made from this view on, the newest first
+abbrev pub events_by : ℕ → View → List Made → List Event
+events_by k v [] = []
+events_by k v (m ∷ ms) = with_event (event_of k (epoch_of (ms ++ v)) m.step m.answer) (events_by k v ms)
 
 -- how many events a step may make
 abbrev pub wants : Step → ℕ

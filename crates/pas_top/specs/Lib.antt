@@ -1,0 +1,5 @@
+pub mod Forms
+pub mod Answers
+pub mod Lines
+pub mod Told
+pub mod Outputs
