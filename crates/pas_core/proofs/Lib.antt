@@ -3,6 +3,7 @@ pub mod Grains
 pub mod Deeds
 pub mod Lives
 pub mod MachineRuns
+pub mod Given
 pub mod Knowledge
 pub mod Rights
 pub mod Epochs

@@ -130,7 +130,7 @@ end_admits f false false k ep g a word guess name es run of is small life ze ye 
             (eq-eqb (turn_of a) name.turn (turn ∙ sym here.turn ∙ live.2))))), run)
 
 -- the life word at an address
-life_at : (f : Profile) (l : Whole) → IsValid f → Legal f l → (address : ℕ) → address % 16 ≡ 0
+pub life_at : (f : Profile) (l : Whole) → IsValid f → Legal f l → (address : ℕ) → address % 16 ≡ 0
     → IsLifeOf f (address / 16) (word_after l (life_word_at (address / 16))) (live_in (visible l) address) (gives_in (visible l) address) (ends_in (visible l) address)
 life_at f l valid legal address aligned =
     let e : 16 * (address / 16) ≡ address = omega (arith, aligned) in
