@@ -1,5 +1,5 @@
 -- The epoch only grows, and every word fits 64 bits.
-use Rattle.std.proofs.Common.{◌≡◌, ◌≢◌, ℕ, ◌+◌, ◌-◌, ◌*◌, ◌/◌, ◌%◌, ◌^◌, ◌<◌, ◌≤◌, ◌==◌, Bool, true, false, ◌&&◌, if◌then◌else◌, max, List, [], ◌∷◌, Option, Some, None, refl, ap, sym, ◌∙◌, subst, arith, bit_and, bit_or}
+use Rattle.std.proofs.Common.{◌≡◌, ℕ, ◌+◌, ◌^◌, ◌<◌, ◌≤◌, ◌==◌, Bool, true, false, if◌then◌else◌, [], ◌∷◌, Option, refl, ◌∙◌, arith}
 use Rattle.std.specs.Int.{bit_not, w64}
 use Rattle.std.proofs.lemmas.Nat.{and_le_l, or_lt}
 use Rattle.pas_profile.specs.Directories.{deed_word_of, kind_number, IsKind}
@@ -11,7 +11,6 @@ use Rattle.pas_profile.specs.declared.directory.Directory.{Directory}
 use Rattle.pas_profile.specs.declared.directory.Kind.{Kind}
 use Rattle.pas_profile.specs.declared.directory.Kind.TheVariants.{Class, Bitfit, Shared, Large}
 use Rattle.pas_profile.specs.declared.word.Word.{Word}
-use Rattle.pas_profile.specs.declared.word.Word.TheVariants as Word
 use Rattle.pas_machine.specs.Runs.{address_of, length_of}
 use Rattle.pas_steps.specs.Effects.{target, new_value}
 use Rattle.pas_steps.specs.Views.{View, epoch_after, known_epoch, or_zero, epoch_of}
@@ -118,7 +117,7 @@ words_fit f (t ∷ l) valid legal word =
     let epoch : word_after l Word.Epoch < 2 ^ 64 = words_fit f l valid legal.1 Word.Epoch in
     let old : word_after l word < 2 ^ 64 = words_fit f l valid legal.1 word in
     if_small (same_word (target t.made.step) word) (new_value (epoch_of (part t.actor l)) t.made.step (word_after l word)) (word_after l word) (2 ^ 64)
-        (value_small f (epoch_of (part t.actor l)) t.made.step (word_after l word) valid next.of_region (omega (arith, known, epoch)) old) old
+    (value_small f (epoch_of (part t.actor l)) t.made.step (word_after l word) valid next.of_region (omega (arith, known, epoch)) old) old
 
 -- the epoch that a view knows fits 64 bits
 pub epoch_fits : (f : Profile) (l : Whole) → IsValid f → Legal f l → (k : ℕ) → epoch_of (part k l) < 2 ^ 64

@@ -1,5 +1,5 @@
 -- What views know of deeds and of backed pages is true.
-use Rattle.std.proofs.Common.{◌≡◌, ◌≢◌, ℕ, ◌+◌, ◌*◌, ◌<◌, ◌≤◌, ◌==◌, Bool, true, false, ◌&&◌, if◌then◌else◌, List, [], ◌∷◌, refl, ap, sym, ◌∙◌, subst, arith, bit_or, ◌⊎◌, inl, inr}
+use Rattle.std.proofs.Common.{◌≡◌, ◌≢◌, ℕ, ◌≤◌, ◌==◌, Bool, true, false, if◌then◌else◌, [], ◌∷◌, refl, ap, sym, ◌∙◌, subst, arith, bit_or, ◌⊎◌, inl, inr}
 use Rattle.std.proofs.lemmas.Bool.{false≢true, eqb-true, ne_eqb, and_parts, cases_eq}
 use Rattle.pas_profile.specs.Directories.{deed_word_of}
 use Rattle.pas_profile.specs.Layouts.{same_word}
@@ -7,7 +7,6 @@ use Rattle.pas_profile.specs.Profiles.{IsDirectoryOf}
 use Rattle.pas_profile.specs.declared.profile.Profile.{Profile}
 use Rattle.pas_profile.specs.declared.directory.Directory.{Directory}
 use Rattle.pas_profile.specs.declared.word.Word.{Word}
-use Rattle.pas_profile.specs.declared.word.Word.TheVariants as Word
 use Rattle.pas_steps.specs.Effects.{target, new_value}
 use Rattle.pas_steps.specs.Views.{View, holds_on, deed_after, known_deed, backed_after, knows_backed, epoch_of}
 use Rattle.pas_steps.specs.Allowed.{IsStepOf}
@@ -95,7 +94,7 @@ deeds_known f (t ∷ l) legal k p =
     let next : IsNext f l t = legal.0 in
     let e : ℕ = epoch_of (part t.actor l) in
     deed_of_part (t.actor == k) t.made (part k l) p (word_after (t ∷ l) (Word.Deed p)) (word_stays e t.made.step p (word_after l (Word.Deed p)) (known_deed (part k l) p) before)
-        (deed_learns l e t.made.step t.made.answer p (known_deed (part k l) p) next.answer_is before)
+    (deed_learns l e t.made.step t.made.answer p (known_deed (part k l) p) next.answer_is before)
 
 -- a deed word that is written stays
 pub deed_kept : (l : Whole) (t : Triple) (p : ℕ) → word_after l (Word.Deed p) ≢ 0 → word_after (t ∷ l) (Word.Deed p) ≡ word_after l (Word.Deed p)
@@ -205,5 +204,5 @@ backed_known f (t ∷ l) legal k p told =
     let next : IsNext f l t = legal.0 in
     let before : knows_backed (part k l) p ≡ true → word_after l (Word.Backed p) ≡ 1 = backed_known f l legal.1 k p in
     backed_of_part (t.actor == k) t.made (part k l) p (word_after (t ∷ l) (Word.Backed p) ≡ 1)
-        (λ h. backed_stays e t.made.step p (word_after l (Word.Backed p)) (before h))
-        (backed_learns l e t.made.step t.made.answer p (knows_backed (part k l) p) next.answer_is (backed_small f l legal.1 p) before) told
+    (λ h. backed_stays e t.made.step p (word_after l (Word.Backed p)) (before h))
+    (backed_learns l e t.made.step t.made.answer p (knows_backed (part k l) p) next.answer_is (backed_small f l legal.1 p) before) told

@@ -1,10 +1,12 @@
 pub mod Bits
-pub mod Knowledge
-pub mod Rights
 pub mod Grains
-pub mod Epochs
 pub mod Deeds
 pub mod Lives
 pub mod MachineRuns
 pub mod Given
 pub mod Placed
+pub mod Knowledge
+pub mod Rights
+pub mod Epochs
+pub mod Agreement
+pub mod Nexts

@@ -1,7 +1,7 @@
 -- The right of each page is in one place after a legal list, and what views know as free is free.
-use Rattle.std.proofs.Common.{◌≡◌, ◌≢◌, ℕ, ◌+◌, ◌-◌, ◌*◌, ◌/◌, ◌%◌, ◌^◌, ◌<◌, ◌≤◌, ◌==◌, Bool, true, false, not, ◌&&◌, ◌||◌, if◌then◌else◌, List, [], ◌∷◌, refl, ap, sym, ◌∙◌, subst, arith, bit_and, bit_or, ◌⊎◌, inl, inr}
+use Rattle.std.proofs.Common.{◌≡◌, ◌≢◌, ℕ, ◌/◌, ◌%◌, ◌^◌, ◌<◌, ◌==◌, Bool, true, false, not, ◌&&◌, ◌||◌, if◌then◌else◌, [], ◌∷◌, refl, ap, sym, ◌∙◌, subst, arith, bit_and, bit_or, inl, inr}
 use Rattle.std.specs.Int.{bit_not, w64}
-use Rattle.std.proofs.lemmas.Bool.{false≢true, eqb-true, eqb-false, eq-eqb, ne_eqb, and_parts, and_left, or_left, or_cases, false_from_ne_true}
+use Rattle.std.proofs.lemmas.Bool.{false≢true, eqb-true, eqb-false, eq-eqb, and_parts, or_left, or_cases, false_from_ne_true}
 use Rattle.std.proofs.lemmas.Nat.Bits.{bit_at_ones}
 use Rattle.pas_profile.specs.Classes.{has_bit}
 use Rattle.pas_profile.specs.Directories.{deed_word_of}
@@ -9,11 +9,10 @@ use Rattle.pas_profile.specs.Layouts.{same_word}
 use Rattle.pas_profile.specs.declared.profile.Profile.{Profile}
 use Rattle.pas_profile.specs.declared.directory.Directory.{Directory}
 use Rattle.pas_profile.specs.declared.word.Word.{Word}
-use Rattle.pas_profile.specs.declared.word.Word.TheVariants as Word
-use Rattle.pas_steps.specs.Effects.{free_word_at, in_mask, target, new_value}
+use Rattle.pas_steps.specs.Effects.{free_word_at, in_mask, target}
 use Rattle.pas_steps.specs.Views.{View, right_after, has_right, free_after, known_free, epoch_of}
 use Rattle.pas_steps.specs.Allowed.{Allowed, IsStepOf}
-use Rattle.pas_steps.specs.Lists.{Triple, Whole, part, word_after, IsNext, Legal}
+use Rattle.pas_steps.specs.Lists.{Whole, part, word_after, IsNext, Legal}
 use Rattle.pas_steps.specs.declared.step.Step.{Step}
 use Rattle.pas_steps.specs.declared.step.Made.{Made}
 use Rattle.pas_steps.specs.declared.step.Step.TheVariants.{Look, Deed, Back, Take, Put, Give, End, Stamp}
@@ -177,6 +176,17 @@ deed_with l k p at h = subst (λ o. DeedFits o (word_after l (Word.Deed p))) (is
 -- a page whose right an actor has has a deed
 pub right_has_deed : (f : Profile) (l : Whole) → Legal f l → (k p : ℕ) → has_right (part k l) p ≡ true → word_after l (Word.Deed p) ≢ 0
 right_has_deed f l legal k p h = deed_with l k p (spotted f l legal p) h
+
+with_deed : (o : Spot) (n : ℕ) → DeedFits o n → n ≢ 0 → (k : ℕ) × (o ≡ With k)
+with_deed Nowhere n fits ne = absurd (ne fits)
+with_deed (With k) n fits ne = (k, refl)
+
+-- some actor has the right of a page that has a deed
+pub deed_has_holder : (f : Profile) (l : Whole) → Legal f l → (p : ℕ) → word_after l (Word.Deed p) ≢ 0 → (k : ℕ) × (has_right (part k l) p ≡ true)
+deed_has_holder f l legal p ne =
+    let at : IsSpotted l p = spotted f l legal p in
+    let found : (k : ℕ) × (spot_of l p ≡ With k) = with_deed (spot_of l p) (word_after l (Word.Deed p)) at.deed ne in
+    (found.0, at.has found.0 ∙ ap (is_with found.0) found.1 ∙ eq-eqb found.0 found.0 refl)
 
 -- ---- free grains
 -- the free bit of a grain
@@ -350,20 +360,21 @@ own_free : (f : Profile) (l : Whole) (j e : ℕ) (s : Step) (a g : ℕ) → IsSp
 own_free f l j e s a g at clear of is h =
     let cases = or_cases (tells_free s a g (has_right (part j l) (g / 256))) (not (takes s g) && known_free (part j l) g) (sym (free_after-is s a g (has_right (part j l) (g / 256)) (known_free (part j l) g)) ∙ h) in
     elim cases [
-        inl told ↦ told_free l j e s a g at clear is told
+      | inl told ↦ told_free l j e s a g at clear is told
       | inr kept ↦
-        let parts = not_from (takes s g) (known_free (part j l) g) kept in
-        let was : (spot_of l (g / 256) ≡ With j) × (free_bit l g ≡ true) = clear.free j parts.1 in
-        (own_spot j (way s a (g / 256)) (spot_of l (g / 256)) was.0, free_stays f e s g (word_after l (free_word_at g)) of parts.0 was.1)
+          let parts = not_from (takes s g) (known_free (part j l) g) kept in
+          let was : (spot_of l (g / 256) ≡ With j) × (free_bit l g ≡ true) = clear.free j parts.1 in
+          (own_spot j (way s a (g / 256)) (spot_of l (g / 256)) was.0, free_stays f e s g (word_after l (free_word_at g)) of parts.0 was.1)
     ]
 
 -- and for another, whose right stays and whose grains nobody takes
 other_free : (f : Profile) (l : Whole) (j k e : ℕ) (s : Step) (a g : ℕ) → IsSpotted l (g / 256) → IsClear l g → IsStepOf f s → Allowed f (part j l) s → a ≡ word_after l (target s) → (j == k) ≡ false → known_free (part k l) g ≡ true
     → Known k (spot_after j (way s a (g / 256)) (spot_of l (g / 256))) (has_bit (next_value e s (free_word_at g) (word_after l (free_word_at g))) (g % 64))
 other_free f l j k e s a g at clear of allowed is ne h =
-    let was : (spot_of l (g / 256) ≡ With k) × (free_bit l g ≡ true) = clear.free k h in
-    (other_spot j k (way s a (g / 256)) (spot_of l (g / 256)) (step_suits l j s a (g / 256) at is) ne was.0,
-     free_stays f e s g (word_after l (free_word_at g)) of (takes_not f l j s g at allowed (with_differs j k (spot_of l (g / 256)) was.0 ne)) was.1)
+    let was : (spot_of l (g / 256) ≡ With k) × (free_bit l g ≡ true) = clear.free k h in (
+      other_spot j k (way s a (g / 256)) (spot_of l (g / 256)) (step_suits l j s a (g / 256) at is) ne was.0,
+      free_stays f e s g (word_after l (free_word_at g)) of (takes_not f l j s g at allowed (with_differs j k (spot_of l (g / 256)) was.0 ne)) was.1,
+    )
 
 nowhere_not_with : (j : ℕ) (o : Spot) → o ≡ Nowhere → o ≡ With j → ⊥
 nowhere_not_with j o h g = let e : Nowhere ≡ With j = sym h ∙ g in absurd cc
@@ -380,11 +391,11 @@ cleared f (t ∷ l) legal g =
     let e : ℕ = epoch_of (part t.actor l) in
     record {
       bare = λ h.
-        let was : spot_of l (g / 256) ≡ Nowhere = was_nowhere j (way s a (g / 256)) (spot_of l (g / 256)) h in
-        free_stays f e s g (word_after l (free_word_at g)) next.of_region (takes_not f l j s g at next.allowed (nowhere_not_with j (spot_of l (g / 256)) was)) (clear.bare was);
+          let was : spot_of l (g / 256) ≡ Nowhere = was_nowhere j (way s a (g / 256)) (spot_of l (g / 256)) h in
+          free_stays f e s g (word_after l (free_word_at g)) next.of_region (takes_not f l j s g at next.allowed (nowhere_not_with j (spot_of l (g / 256)) was)) (clear.bare was);
       free = λ k. free_of_part (j == k) t.made (part k l) g (Known k (spot_of (t ∷ l) (g / 256)) (free_bit (t ∷ l) g))
-        (λ ne h. other_free f l j k e s a g at clear next.of_region next.allowed next.answer_is ne h)
-        (λ same h. let e' : j ≡ k = eqb-true j k same in
+          (λ ne h. other_free f l j k e s a g at clear next.of_region next.allowed next.answer_is ne h)
+          (λ same h. let e' : j ≡ k = eqb-true j k same in
           subst (λ i. Known i (spot_of (t ∷ l) (g / 256)) (free_bit (t ∷ l) g)) e' (own_free f l j e s a g at clear next.of_region next.answer_is (ap (λ i. free_after s a g (has_right (part i l) (g / 256)) (known_free (part i l) g)) e' ∙ h)));
     }
 

@@ -8,12 +8,15 @@
 pub mod classes;
 pub mod directory;
 pub mod event;
+pub mod laws;
 pub mod life;
 pub mod limits;
 pub mod name;
 pub mod profile;
 pub mod room;
 pub mod routing;
+#[cfg(test)]
+mod tests;
 pub mod word;
 
 pub use classes::slot_mask;
