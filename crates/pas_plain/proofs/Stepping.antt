@@ -47,7 +47,7 @@ pass_next f old new s a l stands noted =
     let next = triple k (made s a) ∷ l in
     let here : actor_of old ≡ actor_of new = sym noted.actor in
     let event : events_shown old ++ option_to_list (event_of k (or_zero (epoch_known old)) s a) ≡ reverse (events_of k (made s a ∷ p))
-        = ap (λ e. events_shown old ++ option_to_list (event_of k (or_zero e) s a)) stands.epoch ∙ shown_next (event_of k (epoch_of p) s a) (events_shown old) (events_of k p) stands.shown in
+    = ap (λ e. events_shown old ++ option_to_list (event_of k (or_zero e) s a)) stands.epoch ∙ shown_next (event_of k (epoch_of p) s a) (events_shown old) (events_of k p) stands.shown in
     record {
       actor = subst (λ (x : ℕ). x ≤ f.threads) here stands.actor;
       shown = noted.shown ∙ event ∙ ap (λ v. reverse (events_of k v)) (sym (own_part k (made s a) l)) ∙ ap (λ (x : ℕ). reverse (events_of x (part x next))) here;

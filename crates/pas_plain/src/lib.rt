@@ -8,6 +8,10 @@ pub mod desk;
 pub mod opening;
 pub mod pass;
 pub mod region;
+pub mod session;
+#[cfg(test)]
+mod tests;
 
 pub use pass::PlainPass;
 pub use region::PlainRegion;
+pub use session::{close, try_new};

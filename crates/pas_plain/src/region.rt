@@ -4,8 +4,7 @@ ghost use Rattle.pas_profile.specs.Profiles.{IsValid};
 ghost use Rattle.pas_profile.specs.Layouts.{words_of};
 
 use crate::opening::opening_words;
-use crate::pass::{PlainPass, passes_for};
-use pas_profile::{EventRoom, Layout, NoMemory, Profile};
+use pas_profile::{Layout, NoMemory, Profile};
 use pas_steps::effect::{new_value, target};
 use pas_steps::{State, Step};
 use std::alloc::Global;
@@ -35,9 +34,36 @@ impl PlainRegion {
     ghost use Rattle.pas_profile.specs.Profiles.{IsWordOf};
     ghost use Rattle.pas_steps.specs.Effects.{target as target_word};
     ghost use Rattle.pas_steps.specs.Ranges.{IsRanged};
-    ghost use Rattle.pas_plain.specs.Plain.{profile_of, IsExchanged};
+    ghost use Rattle.std.specs.Prelude.{IfOk, []};
+    ghost use Rattle.pas_profile.specs.declared.word.Word.{Word};
+    ghost use Rattle.pas_steps.specs.States.{profile_of as the_profile_of, word_in};
+    ghost use Rattle.pas_plain.specs.Plain.{profile_of, word_at, RegionStands, IsExchanged};
+
+    /// A region that nobody used yet.
+    pub(crate) fn try_new(alloc: Global, profile: Profile) -> Result<PlainRegion, NoMemory>
+        requires { IsValid profile }
+        ensures profile { IfOk result (λ region. profile_of region ≡ profile) }
+        ensures opening { IfOk result (λ region. RegionStands region []) }
+    {
+        let layout = Layout::new(&profile);
+        let words = opening_words(alloc, &layout)?;
+        Ok(PlainRegion {
+            profile,
+            layout,
+            words,
+        })
+    }
+
+    /// The state of the region. It keeps the region's own vector.
+    pub(crate) fn into_state(self) -> State
+        ensures profile { the_profile_of result ≡ profile_of self }
+        ensures words { (w : Word) → word_in result w ≡ word_at self w }
+    {
+        State::of_words(self.profile, self.words)
+    }
 
     /// The profile of the region.
+    #[inline]
     pub fn profile(&self) -> &Profile
         ensures { result.now ≡ profile_of self.now }
     {
