@@ -1,6 +1,9 @@
 //! The desk of an actor at a plain region.
 ghost use Rattle.std.specs.Prelude.{◌≡◌};
-ghost use Rattle.pas_plain.specs.Seats.{region_of, pass_of, IsPassOf};
+ghost use Rattle.pas_steps.specs.Lists.{Whole, part};
+ghost use Rattle.pas_steps.specs.Views.{View};
+ghost use Rattle.pas_plain.specs.Plain.{profile_of, actor_of, RegionStands, PassStands};
+ghost use Rattle.pas_plain.specs.Seats.{region_of, pass_of, IsPassOf, DeskStands};
 
 use crate::pass::PlainPass;
 use crate::region::PlainRegion;
@@ -21,6 +24,7 @@ impl PlainRegion {
         requires { IsPassOf self pass }
         ensures region { region_of result ≡ self }
         ensures pass { pass_of result ≡ pass }
+        ensures stands { (l : Whole) → RegionStands self l → PassStands (profile_of self) pass l → DeskStands result (part (actor_of pass) l) l }
     {
         PlainDesk { region: self, pass }
     }
@@ -32,7 +36,7 @@ impl PlainDesk {
     ghost use Rattle.pas_steps.specs.Effects.{target};
     ghost use Rattle.pas_steps.specs.Events.{wants};
     ghost use Rattle.pas_steps.specs.Ranges.{IsRanged};
-    ghost use Rattle.pas_plain.specs.Plain.{profile_of, events_shown, room_of_pass};
+    ghost use Rattle.pas_plain.specs.Plain.{events_shown, room_of_pass};
     ghost use Rattle.pas_plain.specs.Seats.{IsChanged};
 
     /// Lets the actor rise: the region, and the actor's pass.
@@ -40,6 +44,8 @@ impl PlainDesk {
     pub fn into_parts(self) -> (PlainRegion, PlainPass)
         ensures region { result.0 ≡ region_of self }
         ensures pass { result.1 ≡ pass_of self }
+        ensures region_stands { (v : View) (l : Whole) → DeskStands self v l → RegionStands result.0 l }
+        ensures pass_stands { (v : View) (l : Whole) → DeskStands self v l → PassStands (profile_of result.0) result.1 l }
     {
         (self.region, self.pass)
     }
@@ -63,7 +69,7 @@ impl Desk for PlainDesk {
     ghost use Rattle.std.proofs.lemmas.List.{length-reverse};
     ghost use Rattle.std.proofs.Math.Nat.{sub-add_cancel};
     ghost use Rattle.pas_steps.specs.Events.{events_of};
-    ghost use Rattle.pas_plain.specs.Plain.{actor_of, events_shown, room_of_pass, count_of_pass};
+    ghost use Rattle.pas_plain.specs.Plain.{events_shown, room_of_pass, count_of_pass};
     ghost use Rattle.pas_plain.specs.Seats.{standing_of};
 
     type Home = ();
