@@ -12,6 +12,7 @@ pub mod session;
 #[cfg(test)]
 mod tests;
 
+pub use desk::PlainDesk;
 pub use pass::PlainPass;
 pub use region::PlainRegion;
 pub use session::{close, try_new};
