@@ -1,5 +1,7 @@
 //! The profile of a region.
 
+use crate::limits::{GRAIN_BYTES, MOST_AGE, MOST_HEAPS, MOST_PAGES, MOST_THREADS, PAGE_BYTES};
+
 /// The numbers that a region is made from. Bit h of `shared` marks heap h as served by shared pages.
 #[derive(Clone, Copy, Debug, PartialEq, Eq, Drop)]
 pub struct Profile {
@@ -19,10 +21,10 @@ impl Profile {
     pub fn is_valid(&self) -> bool
         ensures { IsTrue result ↔ IsValid self.now }
     {
-        (1..=4096).contains(&self.pages)
-            && (1..=16).contains(&self.threads)
-            && (1..=1_000_000).contains(&self.age)
-            && (1..=32).contains(&self.heaps)
+        (1..=MOST_PAGES).contains(&self.pages)
+            && (1..=MOST_THREADS).contains(&self.threads)
+            && (1..=MOST_AGE).contains(&self.age)
+            && (1..=MOST_HEAPS).contains(&self.heaps)
             && (self.shared as u64) < 1u64 << self.heaps
     }
 
@@ -31,10 +33,10 @@ impl Profile {
     pub fn admits(&self, size: u32, align: u32, heap: u8) -> bool
         ensures { IsTrue result ↔ IsAdmitted self.now size align heap }
     {
-        // A divisor of 4,096 is a power of two.
-        size as u64 <= self.pages as u64 * 4096
-            && align >= 16
-            && 4096 % align == 0
+        // A divisor of a page's 4,096 bytes is a power of two.
+        size as u64 <= self.pages as u64 * PAGE_BYTES as u64
+            && align >= GRAIN_BYTES
+            && PAGE_BYTES % align == 0
             && heap < self.heaps
     }
 }

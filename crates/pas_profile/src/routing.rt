@@ -5,6 +5,7 @@ ghost use Rattle.pas_profile.specs.Routes.{route_of};
 
 use crate::classes::CLASS_SIZES;
 use crate::directory::Route;
+use crate::limits::MOST_BITFIT;
 
 /// The smallest class of at least so many grains, by the number of grains.
 const CLASS_BY_GRAINS: [u8; 33] = [
@@ -26,7 +27,7 @@ pub fn route(size: u32, align: u32) -> Route
             }
         }
     }
-    if size <= 2048 {
+    if size <= MOST_BITFIT {
         Route::Bitfit
     } else {
         Route::Large

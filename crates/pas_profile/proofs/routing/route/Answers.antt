@@ -14,22 +14,26 @@ pub returns-then-class-align-eq0 : goal.returns-then-class-align-eq0
 returns-then-class-align-eq0 c =
     let class = c.loop-class.class in
     let size = max c.args.size 1 in
-    let suits = and_from (leb size (get_or class_sizes class 0)) (eqb (get_or class_sizes class 0 % c.args.align) 0)
-    (le-leb _ _ (c.loop-class.invariant.large class (omega arith) c.loop-class-test.true)) (eq-eqb _ _ c.if-class-align-eq0.true) in
+    let block = get_or class_sizes class 0 in
+    let room = le-leb size block (c.loop-class.invariant.large class (omega arith) c.loop-class-test.true) in
+    let aligned = eq-eqb (block % c.args.align) 0 c.if-class-align-eq0.true in
+    let suits = and_from (leb size block) (eqb (block % c.args.align) 0) room aligned in
     route_found c.args.size c.args.align class (sym c.loop-class.invariant.rest ∙ found_here class_sizes class size c.args.align c.loop-class-test.true suits)
 
 pub loop-class-preserved : goal.loop-class-preserved
 loop-class-preserved c =
     let class = c.loop-class.class in
     let size = max c.args.size 1 in
-    let passed = and_right (leb size (get_or class_sizes class 0)) (eqb (get_or class_sizes class 0 % c.args.align) 0) (ne_eqb _ _ c.if-class-align-eq0.false) in
+    let block = get_or class_sizes class 0 in
+    let crooked = ne_eqb (block % c.args.align) 0 c.if-class-align-eq0.false in
+    let passed = and_right (leb size block) (eqb (block % c.args.align) 0) crooked in
     record {
       rest = passed_over class_sizes class size c.args.align c.loop-class-test.true passed ∙ c.loop-class.invariant.rest;
       large = λ k ge lt. c.loop-class.invariant.large k (omega (arith, ge)) lt;
     }
 
-pub returns-then-size-le2048 : goal.returns-then-size-le2048
-returns-then-size-le2048 c = bitfit_for c.args.size c.args.align c.if-size-le2048.true
+pub returns-then-size-le-MOST_BITFIT : goal.returns-then-size-le-MOST_BITFIT
+returns-then-size-le-MOST_BITFIT c = bitfit_for c.args.size c.args.align c.if-size-le-MOST_BITFIT.true
     (elim c.if-size-le512.branch [
       | then-size-le512+else-loop-class-test w ↦ after_all c.args.size c.args.align w.loop-class.class w.loop-class-test.false w.loop-class.invariant.rest
       | else-size-le512 w ↦ none_above c.args.size c.args.align w.if-size-le512.false

@@ -1,0 +1,1 @@
+//! What holds after every legal list of steps, whoever made them.

@@ -1,0 +1,139 @@
+use crate::classes::class_size;
+use crate::*;
+use std::test::Fail;
+
+const PROFILE: Profile = Profile {
+    pages: 4096,
+    threads: 16,
+    age: 1_000_000,
+    heaps: 32,
+    shared: 0,
+};
+
+#[test]
+fn classes_have_their_sizes_slots_and_usable_grains(rt: HostRuntime) {
+    let table: [(u32, u32, u32); 16] = [
+        (16, 256, 256),
+        (32, 128, 256),
+        (48, 85, 255),
+        (64, 64, 256),
+        (80, 51, 255),
+        (96, 42, 252),
+        (112, 36, 252),
+        (128, 32, 256),
+        (160, 25, 250),
+        (192, 21, 252),
+        (224, 18, 252),
+        (256, 16, 256),
+        (320, 12, 240),
+        (384, 10, 240),
+        (448, 9, 252),
+        (512, 8, 256),
+    ];
+    for class in 0..16u8 {
+        let (size, slots, usable) = table[class as usize];
+        assert_eq!(rt; class_size(class), size, "size of class {class}");
+        assert_eq!(rt;
+            4096u32.checked_div(size),
+            Some(slots),
+            "slots of class {class}"
+        );
+        let [first, second, third, last] = slot_mask(class);
+        assert_eq!(rt;
+            [first, second, third],
+            [u64::MAX; 3],
+            "mask of class {class}"
+        );
+        assert_eq!(rt;
+            192 + last.trailing_ones(),
+            usable,
+            "usable grains of class {class}"
+        );
+        assert_eq!(rt;
+            last.trailing_ones(),
+            last.count_ones(),
+            "mask of class {class}"
+        );
+    }
+}
+
+#[test]
+fn requests_have_their_routes(rt: HostRuntime) {
+    let table: [(u32, u32, Route); 9] = [
+        (0, 16, Route::Class(0)),
+        (1, 16, Route::Class(0)),
+        (24, 16, Route::Class(1)),
+        (130, 128, Route::Class(11)),
+        (512, 16, Route::Class(15)),
+        (513, 16, Route::Bitfit),
+        (2048, 16, Route::Bitfit),
+        (2049, 16, Route::Large),
+        (16, 4096, Route::Bitfit),
+    ];
+    for (size, align, want) in table {
+        assert!(rt; PROFILE.admits(size, align, 31), "{size} at {align}");
+        assert_eq!(rt; route(size, align), want, "{size} at {align}");
+    }
+}
+
+#[test]
+fn profiles_have_limits(rt: HostRuntime) {
+    assert!(rt; PROFILE.is_valid());
+    let mut marked = PROFILE;
+    marked.heaps = 3;
+    marked.shared = 7;
+    assert!(rt; marked.is_valid());
+    marked.shared = 8;
+    assert!(rt; !marked.is_valid());
+    for (size, align, heap) in [
+        (16777217, 16, 0),
+        (16, 8, 0),
+        (16, 48, 0),
+        (16, 8192, 0),
+        (16, 16, 32),
+    ] {
+        assert!(rt;
+            !PROFILE.admits(size, align, heap),
+            "{size} at {align} of heap {heap}"
+        );
+    }
+}
+
+#[test]
+fn words_record_deeds_and_lives(rt: HostRuntime) {
+    let shared = Directory {
+        heap: 31,
+        kind: Kind::Shared,
+    };
+    assert_eq!(rt; deed_word(shared), 73493);
+    assert_eq!(rt; shared.number(), 734);
+    assert_eq!(rt; read_deed(73493), Some(shared));
+    for word in [0, 65535, 65552, 65559, 73728] {
+        assert_eq!(rt; read_deed(word), None, "{word}");
+    }
+    assert_eq!(rt; life_word(0, 2, true), 0x8000020000000000);
+    assert_eq!(rt; life_word(1, 0, false), 1);
+    assert_eq!(rt; read_life(0x8000020000000000), (0, 2, true));
+    assert_eq!(rt; read_life(1), (1, 0, false));
+}
+
+#[test]
+fn the_largest_region_has_its_words(rt: HostRuntime) {
+    assert!(rt; PROFILE.is_valid());
+    let layout = Layout::new(&PROFILE);
+    assert_eq!(rt; layout.words(), 1125219);
+    assert_eq!(rt; layout.index(Word::Life(1, 255)), 260);
+    assert_eq!(rt; layout.index(Word::Eligible(735, 64)), 1125218);
+}
+
+#[test]
+fn rooms_take_their_events(rt: HostRuntime) -> Result<(), Fail> {
+    let mut room = EventRoom::try_new(rt.alloc(), 2)?;
+    let event = Event::Back { actor: 1, page: 7 };
+    room.push(event);
+    assert_eq!(rt; room.spare(), 1);
+    room.push(event);
+    assert_eq!(rt; room.spare(), 0);
+    assert_eq!(rt; room.as_slice(), [event, event].as_slice());
+    Ok(())
+}
