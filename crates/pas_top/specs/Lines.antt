@@ -1,18 +1,26 @@
 -- The lines of a transcript. Every line ends with a newline.
-use Rattle.std.specs.Prelude.{ℕ, ◌+◌, ◌*◌, ◌/◌, ◌%◌, ◌^◌, List, [], ◌∷◌, ◌++◌, reverse, codes, if◌then◌else◌, nat_lt}
+use Rattle.std.specs.Prelude.{ℕ, ◌+◌, ◌/◌, ◌%◌, ◌^◌, List, [], ◌∷◌, ◌++◌, reverse, codes, if◌then◌else◌, nat_lt}
 use Rattle.std.specs.Fmt.{decimal}
 use Rattle.pas_profile.specs.Classes.{class_size}
 use Rattle.pas_profile.specs.declared.profile.Profile.{Profile}
+use Rattle.pas_profile.specs.Directories.{IsKind}
 use Rattle.pas_profile.specs.declared.directory.Kind.{Kind}
-use Rattle.pas_profile.specs.declared.directory.Kind.TheVariants as Kind
 use Rattle.pas_profile.specs.declared.directory.Directory.{Directory}
 use Rattle.pas_profile.specs.declared.name.Name.{Name}
 use Rattle.pas_profile.specs.declared.name.Block.{Block}
 use Rattle.pas_profile.specs.declared.event.Event.{Event}
-use Rattle.pas_profile.specs.declared.event.Event.TheVariants as Event
 use Rattle.pas_profile.specs.declared.event.Why.TheVariants as Why
 use Rattle.pas_machine.specs.Runs.{address_of}
 use Rattle.pas_machine.specs.Totals.{deeds_total, backed_total, live_total, given_total, ended_total}
+
+-- The line of an event can be shown: a deed's kind is one that there is. All other events can.
+abbrev pub IsShowable : Event → Type 0
+IsShowable (Event.Deed k page d) = IsKind d.kind
+IsShowable (Event.Back k page) = Unit {0}
+IsShowable (Event.Unback k page epoch) = Unit {0}
+IsShowable (Event.Give k block) = Unit {0}
+IsShowable (Event.End k name epoch) = Unit {0}
+IsShowable (Event.Reject k name why) = Unit {0}
 
 -- a hexadecimal digit, in lower case
 abbrev pub hex_digit : ℕ → ℕ
