@@ -1,6 +1,6 @@
 -- How a request is served.
-use Rattle.std.specs.Prelude.{ℕ, ◌+◌, ◌*◌, ◌/◌, ◌%◌, ◌<◌, ◌≤◌, ◌≡◌, ◌==◌, nat_le, max, Bool, ◌&&◌, if◌then◌else◌, List, [], ◌∷◌, Option, None, Some}
-use Rattle.pas_profile.specs.Classes.{class_sizes}
+use Rattle.std.specs.Prelude.{ℕ, ◌+◌, ◌%◌, ◌<◌, ◌≤◌, ◌≡◌, ◌==◌, nat_le, max, ◌&&◌, if◌then◌else◌, List, [], ◌∷◌, Option, None, Some}
+use Rattle.pas_profile.specs.Classes.{IsClass, class_size, class_sizes}
 use Rattle.pas_profile.specs.declared.directory.Route.{Route}
 use Rattle.pas_profile.specs.declared.directory.Route.TheVariants.{Class, Bitfit, Large}
 
@@ -20,3 +20,23 @@ route_with (Some class) size = Class class
 -- at most 2,048 bytes, else whole pages. Size 0 counts as 1.
 abbrev pub route_of : ℕ → ℕ → Route
 route_of size align = route_with (first_class class_sizes 0 (max size 1) align) (max size 1)
+
+-- blocks of the class are large enough for the request and stand at multiples of the alignment
+pub record Suits (size align class : ℕ) : Type 0 where
+  pub room : max size 1 ≤ class_size class
+  pub aligned : class_size class % align ≡ 0
+
+-- The class is the smallest one that suits.
+pub record IsSmallest (size align class : ℕ) : Type 0 where
+  pub known : IsClass class
+  pub suits : Suits size align class
+  pub smallest : (smaller : ℕ) → smaller < class → ¬ Suits size align smaller
+
+abbrev pub NoneSuits : ℕ → ℕ → Type 0
+NoneSuits size align = (class : ℕ) → IsClass class → ¬ Suits size align class
+
+-- The route that a request should have, with no word of how it is searched for.
+abbrev pub IsRouteOf : ℕ → ℕ → Route → Type 0
+IsRouteOf size align (Class class) = IsSmallest size align class
+IsRouteOf size align Bitfit = (size ≤ 2048) × NoneSuits size align
+IsRouteOf size align Large = (2048 < size) × NoneSuits size align

@@ -8,6 +8,7 @@
 pub mod classes;
 pub mod directory;
 pub mod event;
+pub mod laws;
 pub mod life;
 pub mod limits;
 pub mod name;

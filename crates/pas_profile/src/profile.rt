@@ -31,9 +31,10 @@ impl Profile {
     pub fn admits(&self, size: u32, align: u32, heap: u8) -> bool
         ensures { IsTrue result ↔ IsAdmitted self.now size align heap }
     {
+        // A divisor of 4,096 is a power of two.
         size as u64 <= self.pages as u64 * 4096
-            && align.is_power_of_two()
-            && (16..=4096).contains(&align)
+            && align >= 16
+            && 4096 % align == 0
             && heap < self.heaps
     }
 }

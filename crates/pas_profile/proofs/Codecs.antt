@@ -1,0 +1,155 @@
+-- The words of deeds and of lives say what they were made from, and nothing else.
+use Rattle.std.proofs.Common.{◌≡◌, ◌≢◌, ℕ, ◌-◌, ◌*◌, ◌/◌, ◌%◌, ◌^◌, ◌<◌, ◌≤◌, Bool, true, false, ltb, eqb, if◌then◌else◌, Option, None, Some, refl, ap, sym, ◌∙◌, subst, arith}
+use Rattle.std.proofs.lemmas.Bool.{ltb-true, ltb-false, lt-ltb, le-ltb, eqb-true, le-leb, lt-leb}
+use Rattle.std.proofs.lemmas.Nat.{mul-add-lt, same_from_place}
+use Rattle.pas_profile.specs.Directories.{IsKind, kind_number, IsDirectory, number_of, deed_word_of, kind_of, with_kind, directory_read}
+use Rattle.pas_profile.specs.Lives.{life_word_of, live_word, turn_of, grains_of, is_live}
+use Rattle.pas_profile.specs.declared.directory.Directory.{Directory}
+use Rattle.pas_profile.specs.declared.directory.Kind.{Kind}
+use Rattle.pas_profile.specs.declared.directory.Kind.TheVariants.{Class, Bitfit, Shared, Large}
+
+-- Kinds and their numbers.
+
+pub kind_number_lt : (k : Kind) → IsKind k → kind_number k < 23
+kind_number_lt (Class c) h = omega (arith, h)
+kind_number_lt Bitfit h = omega arith
+kind_number_lt Shared h = omega arith
+kind_number_lt Large h = omega arith
+
+pub kind_of-kind_number : (k : Kind) → IsKind k → kind_of (kind_number k) ≡ Some k
+kind_of-kind_number (Class c) h = ap (λ b. if b then Some (Class c) else (if eqb c 20 then Some Bitfit else (if eqb c 21 then Some Shared else (if eqb c 22 then Some Large else None)))) (lt-ltb c 16 h)
+kind_of-kind_number Bitfit h = refl
+kind_of-kind_number Shared h = refl
+kind_of-kind_number Large h = refl
+
+abbrev Names : ℕ → Kind → Type 0
+Names n k = IsKind k × (kind_number k ≡ n)
+
+named : (small bitfit shared large : Bool) (n : ℕ) (k : Kind) → (small ≡ true → n < 16) → (bitfit ≡ true → n ≡ 20) → (shared ≡ true → n ≡ 21) → (large ≡ true → n ≡ 22) →
+    (if small then Some (Class n) else (if bitfit then Some Bitfit else (if shared then Some Shared else (if large then Some Large else None)))) ≡ Some k → Names n k
+named true b c d n k p q r s e = let same : Class n ≡ k = cc in subst (Names n) same (p refl, refl)
+named false true c d n k p q r s e = let same : Bitfit ≡ k = cc in subst (Names n) same (tt, sym (q refl))
+named false false true d n k p q r s e = let same : Shared ≡ k = cc in subst (Names n) same (tt, sym (r refl))
+named false false false true n k p q r s e = let same : Large ≡ k = cc in subst (Names n) same (tt, sym (s refl))
+named false false false false n k p q r s e = absurd (cc)
+
+pub kind_named : (n : ℕ) (k : Kind) → kind_of n ≡ Some k → Names n k
+kind_named n k e = named (ltb n 16) (eqb n 20) (eqb n 21) (eqb n 22) n k (ltb-true n 16) (eqb-true n 20) (eqb-true n 21) (eqb-true n 22) e
+
+pub same_kind : (a b : Kind) → IsKind a → IsKind b → kind_number a ≡ kind_number b → a ≡ b
+same_kind a b ha hb e =
+    let both : Some a ≡ Some b = sym (kind_of-kind_number a ha) ∙ ap kind_of e ∙ kind_of-kind_number b hb in cc
+
+-- Directories and their numbers.
+
+pub number_lt : (d : Directory) (heaps : ℕ) → d.heap < heaps → IsKind d.kind → number_of d < 23 * heaps
+number_lt d heaps h k = mul-add-lt d.heap 23 (kind_number d.kind) heaps h (kind_number_lt d.kind k)
+
+pub number_below : (d : Directory) → IsDirectory d → number_of d < 23 * 32
+number_below d h = number_lt d 32 h.heap h.kind
+
+same_parts : (a b : Directory) → a.heap ≡ b.heap → a.kind ≡ b.kind → a ≡ b
+same_parts a b h k =
+    let first : a ≡ record { heap = b.heap; kind = a.kind } = ap (λ (n : ℕ). record { heap = n; kind = a.kind }) h in
+    let second : record { heap = b.heap; kind = a.kind } ≡ b = ap (λ (n : Kind). record { heap = b.heap; kind = n }) k in
+    first ∙ second
+
+pub same_from_number : (a b : Directory) → IsDirectory a → IsDirectory b → number_of a ≡ number_of b → a ≡ b
+same_from_number a b ha hb e =
+    let s = same_from_place a.heap (kind_number a.kind) b.heap (kind_number b.kind) 23 (kind_number_lt a.kind ha.kind) (kind_number_lt b.kind hb.kind) e in
+    same_parts a b s.0 (same_kind a.kind b.kind ha.kind hb.kind s.1)
+
+-- Deed words.
+
+pub deed_word_of-positive : (d : Directory) → deed_word_of d ≢ 0
+deed_word_of-positive d e = omega (arith, e)
+
+pub deed_word_lt : (d : Directory) → IsDirectory d → deed_word_of d < 2 ^ 64
+deed_word_lt d h = let k = kind_number_lt d.kind h.kind in let n = h.heap in omega (arith, k, n)
+
+abbrev read_by : Bool → Bool → ℕ → ℕ → Option Directory
+read_by low below heap kind = if low then None else (if below then with_kind heap (kind_of kind) else None)
+
+pub read-deed_word_of : (d : Directory) → IsDirectory d → directory_read (deed_word_of d) ≡ Some d
+read-deed_word_of d h =
+    let w = deed_word_of d in
+    let n : kind_number d.kind < 23 = kind_number_lt d.kind h.kind in
+    let heap : d.heap < 32 = h.heap in
+    let low : ltb w 65536 ≡ false = le-ltb w 65536 (omega arith) in
+    let below : ltb w 73728 ≡ true = lt-ltb w 73728 (omega (arith, n, heap)) in
+    let q : (w - 65536) / 256 ≡ d.heap = omega (arith, n) in
+    let r : w % 256 ≡ kind_number d.kind = omega (arith, n) in
+    ap (λ b. read_by b (ltb w 73728) ((w - 65536) / 256) (w % 256)) low
+    ∙ ap (λ b. read_by false b ((w - 65536) / 256) (w % 256)) below
+    ∙ ap (λ i. read_by false true i (w % 256)) q
+    ∙ ap (λ i. read_by false true d.heap i) r
+    ∙ ap (λ o. with_kind d.heap o) (kind_of-kind_number d.kind h.kind)
+
+abbrev Records : ℕ → Directory → Type 0
+Records w d = IsDirectory d × (w ≡ deed_word_of d)
+
+with_kind_is : (heap : ℕ) (o : Option Kind) (d : Directory) → with_kind heap o ≡ Some d → (k : Kind) × (o ≡ Some k) × (d.heap ≡ heap) × (d.kind ≡ k)
+with_kind_is heap None d e = absurd (cc)
+with_kind_is heap (Some k) d e =
+    let made : Directory = record { heap = heap; kind = k } in
+    let same : Some made ≡ Some d = e in
+    let whole : made ≡ d = cc in
+    (k, refl, ap (λ (x : Directory). x.heap) (sym whole), ap (λ (x : Directory). x.kind) (sym whole))
+
+recorded : (low below : Bool) (w : ℕ) (d : Directory) → (low ≡ false → 65536 ≤ w) → (below ≡ true → w < 73728) → read_by low below ((w - 65536) / 256) (w % 256) ≡ Some d → Records w d
+recorded true b w d p q e = absurd (cc)
+recorded false false w d p q e = absurd (cc)
+recorded false true w d p q e =
+    let s = with_kind_is ((w - 65536) / 256) (kind_of (w % 256)) d e in
+    let n = kind_named (w % 256) s.0 s.1 in
+    let kind : IsKind d.kind = subst IsKind (sym s.3) n.0 in
+    let number : kind_number d.kind ≡ w % 256 = ap kind_number s.3 ∙ n.1 in
+    let heap : d.heap ≡ (w - 65536) / 256 = s.2 in
+    let low : 65536 ≤ w = p refl in
+    let top : w < 73728 = q refl in
+    (record { heap = omega (arith, heap, low, top); kind = kind }, omega (arith, heap, number, low, top))
+
+-- a word is read as a directory only where it is that directory's deed word
+pub read_is : (w : ℕ) (d : Directory) → directory_read w ≡ Some d → Records w d
+read_is w d e = recorded (ltb w 65536) (ltb w 73728) w d (ltb-false w 65536) (ltb-true w 73728) e
+
+not_read : (w : ℕ) (o : Option Directory) → directory_read w ≡ o → ((d : Directory) → IsDirectory d → w ≢ deed_word_of d) → o ≡ None
+not_read w None e h = refl
+not_read w (Some d) e h = let r = read_is w d e in absurd (h d r.0 r.1)
+
+-- a word that is no deed word is read as none
+pub read_none : (w : ℕ) → ((d : Directory) → IsDirectory d → w ≢ deed_word_of d) → directory_read w ≡ None
+read_none w h = not_read w (directory_read w) refl h
+
+pub same_from_deed_word : (a b : Directory) → IsDirectory a → IsDirectory b → deed_word_of a ≡ deed_word_of b → a ≡ b
+same_from_deed_word a b ha hb e =
+    let both : Some a ≡ Some b = sym (read-deed_word_of a ha) ∙ ap directory_read e ∙ read-deed_word_of b hb in cc
+
+-- Life words.
+
+pub turn_of-live_word : (turn grains : ℕ) → turn < 2 ^ 40 → turn_of (live_word turn grains) ≡ turn
+turn_of-live_word turn grains h = omega (arith, h)
+
+pub grains_of-live_word : (turn grains : ℕ) → turn < 2 ^ 40 → grains < 2 ^ 23 → grains_of (live_word turn grains) ≡ grains
+grains_of-live_word turn grains h k = omega (arith, h, k)
+
+pub is_live-live_word : (turn grains : ℕ) → is_live (live_word turn grains) ≡ true
+is_live-live_word turn grains = le-leb (2 ^ 63) _ (omega arith)
+
+pub turn_of-turn : (turn : ℕ) → turn < 2 ^ 40 → turn_of turn ≡ turn
+turn_of-turn turn h = omega (arith, h)
+
+pub grains_of-turn : (turn : ℕ) → turn < 2 ^ 40 → grains_of turn ≡ 0
+grains_of-turn turn h = omega (arith, h)
+
+pub is_live-turn : (turn : ℕ) → turn < 2 ^ 40 → is_live turn ≡ false
+is_live-turn turn h = lt-leb (2 ^ 63) turn (omega (arith, h))
+
+pub life_word_of-live : (turn grains : ℕ) → life_word_of turn grains true ≡ live_word turn grains
+life_word_of-live turn grains = refl
+
+pub life_word_of-ended : (turn : ℕ) → life_word_of turn 0 false ≡ turn
+life_word_of-ended turn = omega arith
+
+pub live_word_lt : (turn grains : ℕ) → turn < 2 ^ 40 → grains < 2 ^ 23 → live_word turn grains < 2 ^ 64
+live_word_lt turn grains h k = omega (arith, h, k)

@@ -1,0 +1,5 @@
+pub mod Tables
+pub mod Searches
+pub mod Places
+pub mod Codecs
+pub mod ClassFacts

@@ -1,0 +1,143 @@
+-- Distinct words have distinct places, and every place is below the number of words.
+use Rattle.std.proofs.Common.{◌≡◌, ◌≢◌, ℕ, ◌*◌, ◌<◌, ◌==◌, true, false, ◌&&◌, if◌then◌else◌, refl, ap, sym, ◌∙◌, arith}
+use Rattle.std.proofs.Math.Nat.{mul_comm}
+use Rattle.std.proofs.lemmas.Nat.{mul-add-lt, same_from_place}
+use Rattle.std.proofs.lemmas.Bool.{eqb-true, eq-eqb, and_parts, and_from}
+use Rattle.pas_profile.specs.declared.word.Word.{Word}
+use Rattle.pas_profile.specs.Profiles.{IsWordIn, vector_words}
+use Rattle.pas_profile.specs.Layouts.{index_of, words_of, same_word, word_kind, word_minor, word_major}
+
+-- two words with one kind and the same two numbers are the same
+both : (x y : Word) → word_kind x ≡ word_kind y → word_minor x ≡ word_minor y → word_major x ≡ word_major y → same_word x y ≡ true
+both x y k i j =
+    and_from (word_kind x == word_kind y && word_minor x == word_minor y) (word_major x == word_major y)
+    (and_from (word_kind x == word_kind y) (word_minor x == word_minor y) (eq-eqb _ _ k) (eq-eqb _ _ i)) (eq-eqb _ _ j)
+
+-- a word is the same as itself
+pub same_word_self : (w : Word) → same_word w w ≡ true
+same_word_self w = both w w refl refl refl
+
+-- the word of these three numbers
+abbrev word_from : ℕ → ℕ → ℕ → Word
+word_from kind i j =
+    if kind == 0 then Word.Epoch else (if kind == 1 then Word.Free j i else (if kind == 2 then Word.Life j i else (if kind == 3 then Word.Deed j else (
+    if kind == 4 then Word.Backed j else (if kind == 5 then Word.Stamp j else (if kind == 6 then Word.Parked j else (if kind == 7 then Word.Empty j else Word.Eligible i j)))))))
+
+from_numbers : (w : Word) → word_from (word_kind w) (word_minor w) (word_major w) ≡ w
+from_numbers Word.Epoch = refl
+from_numbers (Word.Free a b) = refl
+from_numbers (Word.Life a b) = refl
+from_numbers (Word.Deed a) = refl
+from_numbers (Word.Backed a) = refl
+from_numbers (Word.Stamp a) = refl
+from_numbers (Word.Parked a) = refl
+from_numbers (Word.Empty a) = refl
+from_numbers (Word.Eligible a b) = refl
+
+pub same_word-true : (x y : Word) → same_word x y ≡ true → x ≡ y
+same_word-true x y h =
+    let outer = and_parts (word_kind x == word_kind y && word_minor x == word_minor y) (word_major x == word_major y) h in
+    let inner = and_parts (word_kind x == word_kind y) (word_minor x == word_minor y) outer.0 in
+    sym (from_numbers x) ∙ ap (λ k. word_from k (word_minor x) (word_major x)) (eqb-true _ _ inner.0)
+    ∙ ap (λ i. word_from (word_kind y) i (word_major x)) (eqb-true _ _ inner.1)
+    ∙ ap (λ j. word_from (word_kind y) (word_minor y) j) (eqb-true _ _ outer.1) ∙ from_numbers y
+
+pub index_lt : (pages heaps : ℕ) (w : Word) → IsWordIn pages heaps w → index_of pages w < words_of pages heaps
+index_lt pages heaps Word.Epoch h = omega arith
+index_lt pages heaps (Word.Free a b) h = omega (arith, h)
+index_lt pages heaps (Word.Life a b) h = omega (arith, h)
+index_lt pages heaps (Word.Deed a) h = omega (arith, h)
+index_lt pages heaps (Word.Backed a) h = omega (arith, h)
+index_lt pages heaps (Word.Stamp a) h = omega (arith, h)
+index_lt pages heaps (Word.Parked a) h = omega (arith, h)
+index_lt pages heaps (Word.Empty a) h = omega (arith, h)
+index_lt pages heaps (Word.Eligible d j) h = omega (arith, h, mul-add-lt d (vector_words pages) j (23 * heaps) h.0 h.1, mul_comm (vector_words pages) (23 * heaps))
+
+same_place : (pages heaps : ℕ) (x y : Word) → IsWordIn pages heaps x → IsWordIn pages heaps y → index_of pages x ≡ index_of pages y → same_word x y ≡ true
+same_place pages heaps Word.Epoch Word.Epoch hx hy e = refl
+same_place pages heaps Word.Epoch (Word.Free c d) hx hy e = absurd (omega (arith, hy, e))
+same_place pages heaps Word.Epoch (Word.Life c d) hx hy e = absurd (omega (arith, hy, e))
+same_place pages heaps Word.Epoch (Word.Deed c) hx hy e = absurd (omega (arith, hy, e))
+same_place pages heaps Word.Epoch (Word.Backed c) hx hy e = absurd (omega (arith, hy, e))
+same_place pages heaps Word.Epoch (Word.Stamp c) hx hy e = absurd (omega (arith, hy, e))
+same_place pages heaps Word.Epoch (Word.Parked c) hx hy e = absurd (omega (arith, hy, e))
+same_place pages heaps Word.Epoch (Word.Empty c) hx hy e = absurd (omega (arith, hy, e))
+same_place pages heaps Word.Epoch (Word.Eligible c d) hx hy e = absurd (omega (arith, hy, e))
+same_place pages heaps (Word.Free a b) Word.Epoch hx hy e = absurd (omega (arith, hx, e))
+same_place pages heaps (Word.Free a b) (Word.Free c d) hx hy e = both (Word.Free a b) (Word.Free c d) refl (omega (arith, hx, hy, e)) (omega (arith, hx, hy, e))
+same_place pages heaps (Word.Free a b) (Word.Life c d) hx hy e = absurd (omega (arith, hx, hy, e))
+same_place pages heaps (Word.Free a b) (Word.Deed c) hx hy e = absurd (omega (arith, hx, hy, e))
+same_place pages heaps (Word.Free a b) (Word.Backed c) hx hy e = absurd (omega (arith, hx, hy, e))
+same_place pages heaps (Word.Free a b) (Word.Stamp c) hx hy e = absurd (omega (arith, hx, hy, e))
+same_place pages heaps (Word.Free a b) (Word.Parked c) hx hy e = absurd (omega (arith, hx, hy, e))
+same_place pages heaps (Word.Free a b) (Word.Empty c) hx hy e = absurd (omega (arith, hx, hy, e))
+same_place pages heaps (Word.Free a b) (Word.Eligible c d) hx hy e = absurd (omega (arith, hx, hy, e))
+same_place pages heaps (Word.Life a b) Word.Epoch hx hy e = absurd (omega (arith, hx, e))
+same_place pages heaps (Word.Life a b) (Word.Free c d) hx hy e = absurd (omega (arith, hx, hy, e))
+same_place pages heaps (Word.Life a b) (Word.Life c d) hx hy e = both (Word.Life a b) (Word.Life c d) refl (omega (arith, hx, hy, e)) (omega (arith, hx, hy, e))
+same_place pages heaps (Word.Life a b) (Word.Deed c) hx hy e = absurd (omega (arith, hx, hy, e))
+same_place pages heaps (Word.Life a b) (Word.Backed c) hx hy e = absurd (omega (arith, hx, hy, e))
+same_place pages heaps (Word.Life a b) (Word.Stamp c) hx hy e = absurd (omega (arith, hx, hy, e))
+same_place pages heaps (Word.Life a b) (Word.Parked c) hx hy e = absurd (omega (arith, hx, hy, e))
+same_place pages heaps (Word.Life a b) (Word.Empty c) hx hy e = absurd (omega (arith, hx, hy, e))
+same_place pages heaps (Word.Life a b) (Word.Eligible c d) hx hy e = absurd (omega (arith, hx, hy, e))
+same_place pages heaps (Word.Deed a) Word.Epoch hx hy e = absurd (omega (arith, hx, e))
+same_place pages heaps (Word.Deed a) (Word.Free c d) hx hy e = absurd (omega (arith, hx, hy, e))
+same_place pages heaps (Word.Deed a) (Word.Life c d) hx hy e = absurd (omega (arith, hx, hy, e))
+same_place pages heaps (Word.Deed a) (Word.Deed c) hx hy e = both (Word.Deed a) (Word.Deed c) refl refl (omega (arith, hx, hy, e))
+same_place pages heaps (Word.Deed a) (Word.Backed c) hx hy e = absurd (omega (arith, hx, hy, e))
+same_place pages heaps (Word.Deed a) (Word.Stamp c) hx hy e = absurd (omega (arith, hx, hy, e))
+same_place pages heaps (Word.Deed a) (Word.Parked c) hx hy e = absurd (omega (arith, hx, hy, e))
+same_place pages heaps (Word.Deed a) (Word.Empty c) hx hy e = absurd (omega (arith, hx, hy, e))
+same_place pages heaps (Word.Deed a) (Word.Eligible c d) hx hy e = absurd (omega (arith, hx, hy, e))
+same_place pages heaps (Word.Backed a) Word.Epoch hx hy e = absurd (omega (arith, hx, e))
+same_place pages heaps (Word.Backed a) (Word.Free c d) hx hy e = absurd (omega (arith, hx, hy, e))
+same_place pages heaps (Word.Backed a) (Word.Life c d) hx hy e = absurd (omega (arith, hx, hy, e))
+same_place pages heaps (Word.Backed a) (Word.Deed c) hx hy e = absurd (omega (arith, hx, hy, e))
+same_place pages heaps (Word.Backed a) (Word.Backed c) hx hy e = both (Word.Backed a) (Word.Backed c) refl refl (omega (arith, hx, hy, e))
+same_place pages heaps (Word.Backed a) (Word.Stamp c) hx hy e = absurd (omega (arith, hx, hy, e))
+same_place pages heaps (Word.Backed a) (Word.Parked c) hx hy e = absurd (omega (arith, hx, hy, e))
+same_place pages heaps (Word.Backed a) (Word.Empty c) hx hy e = absurd (omega (arith, hx, hy, e))
+same_place pages heaps (Word.Backed a) (Word.Eligible c d) hx hy e = absurd (omega (arith, hx, hy, e))
+same_place pages heaps (Word.Stamp a) Word.Epoch hx hy e = absurd (omega (arith, hx, e))
+same_place pages heaps (Word.Stamp a) (Word.Free c d) hx hy e = absurd (omega (arith, hx, hy, e))
+same_place pages heaps (Word.Stamp a) (Word.Life c d) hx hy e = absurd (omega (arith, hx, hy, e))
+same_place pages heaps (Word.Stamp a) (Word.Deed c) hx hy e = absurd (omega (arith, hx, hy, e))
+same_place pages heaps (Word.Stamp a) (Word.Backed c) hx hy e = absurd (omega (arith, hx, hy, e))
+same_place pages heaps (Word.Stamp a) (Word.Stamp c) hx hy e = both (Word.Stamp a) (Word.Stamp c) refl refl (omega (arith, hx, hy, e))
+same_place pages heaps (Word.Stamp a) (Word.Parked c) hx hy e = absurd (omega (arith, hx, hy, e))
+same_place pages heaps (Word.Stamp a) (Word.Empty c) hx hy e = absurd (omega (arith, hx, hy, e))
+same_place pages heaps (Word.Stamp a) (Word.Eligible c d) hx hy e = absurd (omega (arith, hx, hy, e))
+same_place pages heaps (Word.Parked a) Word.Epoch hx hy e = absurd (omega (arith, hx, e))
+same_place pages heaps (Word.Parked a) (Word.Free c d) hx hy e = absurd (omega (arith, hx, hy, e))
+same_place pages heaps (Word.Parked a) (Word.Life c d) hx hy e = absurd (omega (arith, hx, hy, e))
+same_place pages heaps (Word.Parked a) (Word.Deed c) hx hy e = absurd (omega (arith, hx, hy, e))
+same_place pages heaps (Word.Parked a) (Word.Backed c) hx hy e = absurd (omega (arith, hx, hy, e))
+same_place pages heaps (Word.Parked a) (Word.Stamp c) hx hy e = absurd (omega (arith, hx, hy, e))
+same_place pages heaps (Word.Parked a) (Word.Parked c) hx hy e = both (Word.Parked a) (Word.Parked c) refl refl (omega (arith, hx, hy, e))
+same_place pages heaps (Word.Parked a) (Word.Empty c) hx hy e = absurd (omega (arith, hx, hy, e))
+same_place pages heaps (Word.Parked a) (Word.Eligible c d) hx hy e = absurd (omega (arith, hx, hy, e))
+same_place pages heaps (Word.Empty a) Word.Epoch hx hy e = absurd (omega (arith, hx, e))
+same_place pages heaps (Word.Empty a) (Word.Free c d) hx hy e = absurd (omega (arith, hx, hy, e))
+same_place pages heaps (Word.Empty a) (Word.Life c d) hx hy e = absurd (omega (arith, hx, hy, e))
+same_place pages heaps (Word.Empty a) (Word.Deed c) hx hy e = absurd (omega (arith, hx, hy, e))
+same_place pages heaps (Word.Empty a) (Word.Backed c) hx hy e = absurd (omega (arith, hx, hy, e))
+same_place pages heaps (Word.Empty a) (Word.Stamp c) hx hy e = absurd (omega (arith, hx, hy, e))
+same_place pages heaps (Word.Empty a) (Word.Parked c) hx hy e = absurd (omega (arith, hx, hy, e))
+same_place pages heaps (Word.Empty a) (Word.Empty c) hx hy e = both (Word.Empty a) (Word.Empty c) refl refl (omega (arith, hx, hy, e))
+same_place pages heaps (Word.Empty a) (Word.Eligible c d) hx hy e = absurd (omega (arith, hx, hy, e))
+same_place pages heaps (Word.Eligible a b) Word.Epoch hx hy e = absurd (omega (arith, hx, e))
+same_place pages heaps (Word.Eligible a b) (Word.Free c d) hx hy e = absurd (omega (arith, hx, hy, e))
+same_place pages heaps (Word.Eligible a b) (Word.Life c d) hx hy e = absurd (omega (arith, hx, hy, e))
+same_place pages heaps (Word.Eligible a b) (Word.Deed c) hx hy e = absurd (omega (arith, hx, hy, e))
+same_place pages heaps (Word.Eligible a b) (Word.Backed c) hx hy e = absurd (omega (arith, hx, hy, e))
+same_place pages heaps (Word.Eligible a b) (Word.Stamp c) hx hy e = absurd (omega (arith, hx, hy, e))
+same_place pages heaps (Word.Eligible a b) (Word.Parked c) hx hy e = absurd (omega (arith, hx, hy, e))
+same_place pages heaps (Word.Eligible a b) (Word.Empty c) hx hy e = absurd (omega (arith, hx, hy, e))
+same_place pages heaps (Word.Eligible a b) (Word.Eligible c d) hx hy e = let s = same_from_place a b c d (vector_words pages) hx.1 hy.1 (omega (arith, e)) in both (Word.Eligible a b) (Word.Eligible c d) refl s.0 s.1
+
+pub other_place : (pages heaps : ℕ) (x y : Word) → IsWordIn pages heaps x → IsWordIn pages heaps y → same_word x y ≡ false → index_of pages x ≢ index_of pages y
+other_place pages heaps x y hx hy h e = let t : same_word x y ≡ true = same_place pages heaps x y hx hy e in cc
+
+pub word_from_place : (pages heaps : ℕ) (x y : Word) → IsWordIn pages heaps x → IsWordIn pages heaps y → index_of pages x ≡ index_of pages y → x ≡ y
+word_from_place pages heaps x y hx hy e = same_word-true x y (same_place pages heaps x y hx hy e)

@@ -1,0 +1,83 @@
+//! Laws of the profile's numbers: each function does nothing, and its contract is a fact that holds of all arguments.
+
+ghost use Rattle.std.specs.Prelude.{◌≡◌, ◌≢◌, ◌<◌, ◌≤◌, ◌+◌, ◌*◌, ◌%◌, ◌^◌, ℕ, Some, None, true, false};
+ghost use Rattle.pas_profile.specs.Classes.{IsClass, IsAlignment, IsSlotStart, class_grains};
+ghost use Rattle.pas_profile.specs.Directories.{IsDirectory, number_of, deed_word_of, directory_read};
+ghost use Rattle.pas_profile.specs.Layouts.{index_of};
+ghost use Rattle.pas_profile.specs.Lives.{life_word_of, turn_of, grains_of, is_live};
+ghost use Rattle.pas_profile.specs.Profiles.{IsWordIn};
+ghost use Rattle.pas_profile.specs.Routes.{Suits, IsRouteOf, route_of};
+
+use crate::directory::Directory;
+use crate::word::{Layout, Word};
+
+/// Distinct words of a region have distinct places.
+pub fn distinct_words_have_distinct_places(layout: &Layout, one: Word, other: Word)
+    requires first { IsWordIn layout.now.pages layout.now.heaps one }
+    requires second { IsWordIn layout.now.pages layout.now.heaps other }
+    ensures { one ≢ other → index_of layout.now.pages one ≢ index_of layout.now.pages other }
+{}
+
+/// Distinct directories have distinct numbers, each below 23 times the number of heaps.
+pub fn distinct_directories_have_distinct_numbers(one: Directory, other: Directory)
+    requires first { IsDirectory one }
+    requires second { IsDirectory other }
+    ensures apart { one ≢ other → number_of one ≢ number_of other }
+    ensures below { number_of one < 23 * 32 }
+{}
+
+/// Reading a deed word gives the directory that it was made from. No deed word is 0, which stands for a page with no directory.
+pub fn deed_words_are_read(directory: Directory)
+    requires { IsDirectory directory }
+    ensures read { directory_read (deed_word_of directory) ≡ Some directory }
+    ensures set { deed_word_of directory ≢ 0 }
+{}
+
+/// A word is read as a directory only where it is that directory's deed word, and as none where it is no deed word.
+pub fn only_deed_words_are_read(word: u64)
+    ensures read { (d : Directory) → directory_read word ≡ Some d → IsDirectory d × (word ≡ deed_word_of d) }
+    ensures other { ((d : Directory) → IsDirectory d → word ≢ deed_word_of d) → directory_read word ≡ None }
+{}
+
+/// Reading the life word of a block gives its turn, its grains, and that it lives.
+pub fn life_words_are_read(turn: u64, grains: u32)
+    requires turn { turn < 2 ^ 40 }
+    requires grains { grains < 2 ^ 23 }
+    ensures turn { turn_of (life_word_of turn grains true) ≡ turn }
+    ensures grains { grains_of (life_word_of turn grains true) ≡ grains }
+    ensures live { is_live (life_word_of turn grains true) ≡ true }
+{}
+
+/// Where no block lives the life word is the turn alone, and is read as such.
+pub fn turns_are_read(turn: u64)
+    requires { turn < 2 ^ 40 }
+    ensures alone { life_word_of turn 0 false ≡ turn }
+    ensures turn { turn_of turn ≡ turn }
+    ensures grains { grains_of turn ≡ 0 }
+    ensures ended { is_live turn ≡ false }
+{}
+
+/// The route is the smallest class that is large enough and a multiple of the alignment. Where there is none it is a bit-fit
+/// page up to 2,048 bytes, and whole pages above.
+pub fn routes_are_smallest(size: u32, align: u32)
+    requires { IsAlignment align }
+    ensures { IsRouteOf size align (route_of size align) }
+{}
+
+/// Two slots of a class that share a grain are one, and no slot reaches past the page.
+pub fn slots_are_apart(class: u8, one: u8, other: u8)
+    requires class { IsClass class }
+    requires first { IsSlotStart class one }
+    requires second { IsSlotStart class other }
+    ensures apart { one < other + class_grains class → other < one + class_grains class → one ≡ other }
+    ensures within { one + class_grains class ≤ 256 }
+{}
+
+/// A slot of a class that suits a request begins at a multiple of the request's alignment.
+pub fn slots_are_aligned(class: u8, grain: u8, page: u32, size: u32, align: u32)
+    requires class { IsClass class }
+    requires slot { IsSlotStart class grain }
+    requires align { IsAlignment align }
+    requires suits { Suits size align class }
+    ensures { (page * 4096 + grain * 16) % align ≡ 0 }
+{}
