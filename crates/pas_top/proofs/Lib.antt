@@ -1,2 +1,4 @@
 pub mod Digits
 pub mod Appending
+pub mod Counting
+pub mod Totalled

@@ -76,10 +76,14 @@ abbrev pub lines_of : List Event → List ℕ
 lines_of [] = []
 lines_of (e ∷ es) = line_of e ++ lines_of es
 
+-- the last line, from its five numbers
+abbrev pub totals_text : ℕ → ℕ → ℕ → ℕ → ℕ → List ℕ
+totals_text deeds backed live given ended = codes "total deeds " ++ (decimal deeds ++ (codes " backed " ++ (decimal backed ++ (codes " live " ++ (decimal live
+    ++ (codes " given " ++ (decimal given ++ (codes " ended " ++ (decimal ended ++ codes "\n")))))))))
+
 -- the totals of the machine that the events reach (the newest first)
 abbrev pub total_line : Profile → List Event → List ℕ
-total_line f es = codes "total deeds " ++ (decimal (deeds_total f es) ++ (codes " backed " ++ (decimal (backed_total f es) ++ (codes " live " ++ (decimal (live_total f es)
-    ++ (codes " given " ++ (decimal (given_total f es) ++ (codes " ended " ++ (decimal (ended_total f es) ++ codes "\n")))))))))
+total_line f es = totals_text (deeds_total f es) (backed_total f es) (live_total f es) (given_total f es) (ended_total f es)
 
 -- the transcript of these events (the newest first): a line each, in the order in which they were made, and then the totals
 abbrev pub transcript_text : Profile → List Event → List ℕ

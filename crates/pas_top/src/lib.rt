@@ -2,6 +2,7 @@
 #![tactic(auto)]
 
 mod lines;
+mod totals;
 pub mod plan;
 
 pub use plan::Operation;
