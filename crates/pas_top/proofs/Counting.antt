@@ -1,5 +1,5 @@
 -- Counts and sums below a number: one more, and how great they may be.
-use Rattle.std.proofs.Common.{◌≡◌, ℕ, zero, suc, ◌+◌, ◌*◌, ◌<◌, ◌≤◌, Bool, true, false, if◌then◌else◌, refl, ap, sym, ◌∙◌, subst, arith, add-one}
+use Rattle.std.proofs.Common.{◌≡◌, ℕ, zero, suc, ◌+◌, ◌<◌, Bool, true, false, if◌then◌else◌, refl, ap, ◌∙◌, arith, add-one}
 use Rattle.pas_machine.specs.Totals.{count_below, sum_below}
 
 -- ---- one more

@@ -2,3 +2,4 @@ pub mod Digits
 pub mod Appending
 pub mod Counting
 pub mod Totalled
+pub mod Agreeing

@@ -1,11 +1,11 @@
 -- Where the words of a state agree with the machine that the events reach, their totals are the machine's.
-use Rattle.std.proofs.Common.{◌≡◌, ℕ, zero, suc, ◌+◌, ◌*◌, ◌/◌, ◌%◌, ◌^◌, ◌<◌, ◌≤◌, ◌==◌, not, Bool, true, false, if◌then◌else◌, List, Option, None, Some, refl, ap, sym, ◌∙◌, subst, arith}
+use Rattle.std.proofs.Common.{◌≡◌, ℕ, ◌+◌, ◌^◌, ◌<◌, ◌==◌, not, Bool, true, false, if◌then◌else◌, List, sym, ◌∙◌, arith}
+use Rattle.std.proofs.lemmas.Bool.{le-leb, lt-leb}
 use Rattle.pas_profile.specs.Lives.{turn_of, is_live, live_word}
-use Rattle.pas_profile.specs.declared.profile.Profile.{Profile}
 use Rattle.pas_profile.specs.declared.event.Event.{Event}
 use Rattle.pas_profile.specs.declared.word.Word.TheVariants as Word
 use Rattle.pas_machine.specs.State.{deed_in, backed_in, live_in, gives_in, ends_in}
-use Rattle.pas_machine.specs.Totals.{count_below, sum_below, has_deed, has_block, page_at, address_at, deeds_total, backed_total, live_total, given_total, ended_total}
+use Rattle.pas_machine.specs.Totals.{has_deed, has_block, page_at, address_at, deeds_total, backed_total, live_total, given_total, ended_total}
 use Rattle.pas_steps.specs.States.{profile_of, word_in}
 use Rattle.pas_steps.specs.declared.state.State.{State}
 use Rattle.pas_top.specs.Lines.{totals_text, total_line}
@@ -50,7 +50,8 @@ line_totalled state es agree = λ t. totals_text (deeds_totalled state es agree 
 -- ---- the words of one page or grain
 -- a word that isn't live is the number of blocks that ended
 pub bare_life : (word gives ends : ℕ) → word ≡ ends → gives ≡ ends → ends < 2 ^ 40 → IsLifeWord word false gives ends
-bare_life word gives ends w g few = ?
+bare_life word gives ends w g few = record { live = lt-leb (2 ^ 63) word (omega arith); turn = omega arith; given = omega arith }
 
+-- a live word has the number of blocks that ended before it
 pub live_life : (word gives ends grains : ℕ) → word ≡ live_word ends grains → gives ≡ ends + 1 → ends < 2 ^ 40 → grains < 2 ^ 23 → IsLifeWord word true gives ends
-live_life word gives ends grains w g few short = ?
+live_life word gives ends grains w g few short = record { live = le-leb (2 ^ 63) word (omega arith); turn = omega arith; given = omega arith }

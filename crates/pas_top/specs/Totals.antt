@@ -1,5 +1,5 @@
 -- The totals of a region at rest, from its words.
-use Rattle.std.specs.Prelude.{ℕ, ◌+◌, ◌*◌, ◌/◌, ◌%◌, ◌==◌, not, List, ◌++◌}
+use Rattle.std.specs.Prelude.{ℕ, ◌+◌, ◌*◌, ◌/◌, ◌%◌, ◌==◌, not, List}
 use Rattle.pas_profile.specs.Lives.{turn_of, is_live}
 use Rattle.pas_profile.specs.declared.word.Word.TheVariants as Word
 use Rattle.pas_machine.specs.Totals.{count_below, sum_below, page_at}

@@ -2,7 +2,7 @@
 #![tactic(auto)]
 
 mod lines;
-mod totals;
 pub mod plan;
+mod totals;
 
 pub use plan::Operation;

@@ -48,6 +48,7 @@ fn push_name(text: &mut String, name: Name) -> Result<(), AllocError>
     write!(text, " 0x{address:08x} turn {turn}")
 }
 
+/// Adds the line of a deed.
 fn push_deed(
     text: &mut String,
     actor: u8,
@@ -63,18 +64,21 @@ fn push_deed(
     text.push_str("\n")
 }
 
+/// Adds the line of a page that is backed now.
 fn push_back(text: &mut String, actor: u8, page: u32) -> Result<(), AllocError>
     ensures { OnOk result (string_bytes text.new ≡ string_bytes text.old ++ back_line actor page) }
 {
     write!(text, "{actor} back page {page}\n")
 }
 
+/// Adds the line of a page whose memory went back.
 fn push_unback(text: &mut String, actor: u8, page: u32, epoch: u64) -> Result<(), AllocError>
     ensures { OnOk result (string_bytes text.new ≡ string_bytes text.old ++ unback_line actor page epoch) }
 {
     write!(text, "{actor} unback page {page} epoch {epoch}\n")
 }
 
+/// Adds the line of a block that was given.
 fn push_give(text: &mut String, actor: u8, block: Block) -> Result<(), AllocError>
     ensures { OnOk result (string_bytes text.new ≡ string_bytes text.old ++ give_line actor block) }
 {
@@ -85,6 +89,7 @@ fn push_give(text: &mut String, actor: u8, block: Block) -> Result<(), AllocErro
     write!(text, " room {room} heap {heap}\n")
 }
 
+/// Adds the line of a block that ended.
 fn push_freed(text: &mut String, actor: u8, name: Name, epoch: u64) -> Result<(), AllocError>
     ensures { OnOk result (string_bytes text.new ≡ string_bytes text.old ++ freed_line actor name epoch) }
 {
@@ -93,6 +98,7 @@ fn push_freed(text: &mut String, actor: u8, name: Name, epoch: u64) -> Result<()
     write!(text, " epoch {epoch}\n")
 }
 
+/// Adds the line of an end that was refused, since the block had ended before.
 fn push_ended(text: &mut String, actor: u8, name: Name) -> Result<(), AllocError>
     ensures { OnOk result (string_bytes text.new ≡ string_bytes text.old ++ ended_line actor name) }
 {
@@ -101,6 +107,7 @@ fn push_ended(text: &mut String, actor: u8, name: Name) -> Result<(), AllocError
     text.push_str("\n")
 }
 
+/// Adds the line of an end that was refused, since no such block lives.
 fn push_no_block(text: &mut String, actor: u8, name: Name) -> Result<(), AllocError>
     ensures { OnOk result (string_bytes text.new ≡ string_bytes text.old ++ no_block_line actor name) }
 {
@@ -146,4 +153,127 @@ pub(crate) fn push_lines(text: &mut String, events: &[Event]) -> Result<(), Allo
         push_line(text, *event)?;
     }
     Ok(())
+}
+
+#[cfg(test)]
+mod tests {
+    use super::*;
+    use pas_profile::Address;
+    use std::test::Fail;
+
+    #[test]
+    fn shows_deeds_and_pages(rt: HostRuntime) -> Result<(), Fail> {
+        let mut text = String::new(rt.alloc());
+        push_line(
+            &mut text,
+            Event::Deed {
+                actor: 1,
+                page: 1,
+                directory: Directory {
+                    heap: 0,
+                    kind: Kind::Class(1),
+                },
+            },
+        )?;
+        push_line(
+            &mut text,
+            Event::Deed {
+                actor: 1,
+                page: 3,
+                directory: Directory {
+                    heap: 0,
+                    kind: Kind::Bitfit,
+                },
+            },
+        )?;
+        push_line(
+            &mut text,
+            Event::Deed {
+                actor: 1,
+                page: 1,
+                directory: Directory {
+                    heap: 1,
+                    kind: Kind::Shared,
+                },
+            },
+        )?;
+        push_line(
+            &mut text,
+            Event::Deed {
+                actor: 1,
+                page: 2,
+                directory: Directory {
+                    heap: 0,
+                    kind: Kind::Large,
+                },
+            },
+        )?;
+        push_line(&mut text, Event::Back { actor: 1, page: 1 })?;
+        push_line(
+            &mut text,
+            Event::Unback {
+                actor: 0,
+                page: 1,
+                epoch: 5,
+            },
+        )?;
+        assert_eq!(rt;
+            text.as_str(),
+            "1 deed page 1 heap 0 class 32\n1 deed page 3 heap 0 bitfit\n1 deed page 1 heap 1 shared\n1 deed page 2 heap 0 large\n1 back page 1\n0 unback page 1 epoch 5\n"
+        );
+        Ok(())
+    }
+
+    #[test]
+    fn shows_blocks(rt: HostRuntime) -> Result<(), Fail> {
+        let name = Name {
+            address: Address(4096),
+            turn: 0,
+        };
+        let other = Name {
+            address: Address(4112),
+            turn: 0,
+        };
+        let mut text = String::new(rt.alloc());
+        push_line(
+            &mut text,
+            Event::Give {
+                actor: 1,
+                block: Block {
+                    name,
+                    room: 32,
+                    heap: 0,
+                },
+            },
+        )?;
+        push_line(
+            &mut text,
+            Event::End {
+                actor: 1,
+                name,
+                epoch: 3,
+            },
+        )?;
+        push_line(
+            &mut text,
+            Event::Reject {
+                actor: 1,
+                name,
+                why: Why::Ended,
+            },
+        )?;
+        push_line(
+            &mut text,
+            Event::Reject {
+                actor: 1,
+                name: other,
+                why: Why::NoBlock,
+            },
+        )?;
+        assert_eq!(rt;
+            text.as_str(),
+            "1 give 0x00001000 turn 0 room 32 heap 0\n1 freed 0x00001000 turn 0 epoch 3\n1 ended 0x00001000 turn 0\n1 no-block 0x00001010 turn 0\n"
+        );
+        Ok(())
+    }
 }

@@ -1,4 +1,4 @@
-//! The last line of a transcript: how many deeds, backed pages and blocks the words of a region record.
+//! The last line of a transcript, and the whole of it: how many deeds, backed pages and blocks the words of a region record.
 
 ghost use Rattle.std.specs.Prelude.{◌≡◌, ◌<◌, ◌+◌, ◌^◌, ◌++◌, OnOk, IfOk};
 ghost use Rattle.std.specs.String.{string_bytes};
@@ -12,6 +12,7 @@ use pas_steps::State;
 use std::alloc::{AllocError, Global};
 
 /// How many blocks live in a region, and how many ended there.
+#[derive(Clone, Copy, Debug, PartialEq, Eq, Drop)]
 struct Blocks {
     live: u64,
     ended: u64,
@@ -59,10 +60,20 @@ fn count_blocks(state: &State) -> Blocks
 }
 
 /// Adds the line of five totals.
-fn push_totals(text: &mut String, deeds: u32, backed: u32, live: u64, given: u64, ended: u64) -> Result<(), AllocError>
+fn push_totals(
+    text: &mut String,
+    deeds: u32,
+    backed: u32,
+    live: u64,
+    given: u64,
+    ended: u64,
+) -> Result<(), AllocError>
     ensures { OnOk result (string_bytes text.new ≡ string_bytes text.old ++ totals_text deeds backed live given ended) }
 {
-    write!(text, "total deeds {deeds} backed {backed} live {live} given {given} ended {ended}\n")
+    write!(
+        text,
+        "total deeds {deeds} backed {backed} live {live} given {given} ended {ended}\n"
+    )
 }
 
 /// Adds the line of the totals of a region.
@@ -75,6 +86,7 @@ fn push_total_line(text: &mut String, state: &State) -> Result<(), AllocError>
     push_totals(text, deeds, backed, live, ended + live, ended)
 }
 
+/// Adds the lines of the events, the oldest first, and the line of the totals.
 fn push_transcript(text: &mut String, events: &[Event], state: &State) -> Result<(), AllocError>
     requires { All IsShowable events.now }
     ensures { OnOk result (string_bytes text.new ≡ string_bytes text.old ++ (lines_of events.now ++ counted_line state.now)) }
@@ -93,5 +105,36 @@ pub(crate) fn transcript(alloc: Global, events: &[Event], state: &State) -> Resu
     match push_transcript(&mut text, events, state) {
         Ok(()) => Ok(text),
         Err(_) => Err(NoMemory),
+    }
+}
+
+#[cfg(test)]
+mod tests {
+    use super::*;
+    use pas_profile::Profile;
+    use std::test::Fail;
+
+    /// A region of one page, where one block was given and ended.
+    #[test]
+    fn shows_totals(rt: HostRuntime) -> Result<(), Fail> {
+        let profile = Profile {
+            pages: 1,
+            threads: 1,
+            age: 1,
+            heaps: 1,
+            shared: 0,
+        };
+        let mut words = vec![in rt.alloc(); 0u64; 289]?;
+        words[5] = 1;
+        words[261] = 65537;
+        words[262] = 1;
+        let state = State::of_words(profile, words);
+        let events = [Event::Back { actor: 1, page: 1 }];
+        let text = transcript(rt.alloc(), &events, &state)?;
+        assert_eq!(rt;
+            text.as_str(),
+            "1 back page 1\ntotal deeds 1 backed 1 live 0 given 1 ended 1\n"
+        );
+        Ok(())
     }
 }
