@@ -1,0 +1,5 @@
+pub mod Digits
+pub mod Appending
+pub mod Counting
+pub mod Totalled
+pub mod Agreeing
