@@ -2,4 +2,8 @@ pub mod Forms
 pub mod Answers
 pub mod Lines
 pub mod Told
+pub mod Unread
+pub mod Taken
+pub mod Schedules
+pub mod Inputs
 pub mod Outputs
