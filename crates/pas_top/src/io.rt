@@ -4,11 +4,10 @@
 //! the system, of whose bytes no contract can speak.
 pub mod memory;
 pub mod real;
-pub mod sure;
-pub mod whole;
-
 mod schedule;
+pub mod sure;
 mod unread;
+pub mod whole;
 
 ghost use Rattle.std.specs.Prelude.{◌≡◌, ◌≢◌, ◌<◌, ◌≤◌, ℕ, List, [], Option, length, take, IfOk, OnErr};
 ghost use Rattle.pas_top.specs.Told.{Rose, MovesTold, Writes};

@@ -2,7 +2,10 @@
 #![tactic(auto)]
 
 pub mod io;
+pub mod main_call;
 pub mod plan;
+mod replay_text;
 
 pub use io::{Failed, Sink, Source};
+pub use main_call::pas_main;
 pub use plan::Operation;

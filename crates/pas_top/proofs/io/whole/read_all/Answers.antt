@@ -1,4 +1,4 @@
-use Rattle.std.proofs.Common.{rules, ◌≡◌, ◌≤◌, take, length, ◌∙◌, arith}
+use Rattle.std.proofs.Common.{rules, ◌≡◌, length, ◌∙◌, arith}
 use Rattle.pas_top.proofs.Telling.{front_of_front, whole_input}
 use Rattle.pas_top.proofs.io.whole.read_all.Goals as goal
 
