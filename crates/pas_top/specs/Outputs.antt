@@ -42,7 +42,7 @@ not_built_text = codes "not built\n"
 
 -- a status that writes: 0 the transcript, 2 the usage, 7 that it isn't built; each with its text and its cause
 abbrev pub IsOutput : List (List ℕ) → List ℕ → List ℕ → Type 0
-IsOutput words bytes text = (IsOrder words × IsReplayed bytes text) ⊎ ((IsOrder words → ⊥) × (text ≡ usage_text)) ⊎ (IsOrder words × IsNotBuilt bytes × (text ≡ not_built_text))
+IsOutput words bytes text = (IsOrder words × (length bytes ≤ 65536) × IsReplayed bytes text) ⊎ ((IsOrder words → ⊥) × (text ≡ usage_text)) ⊎ (IsOrder words × IsNotBuilt bytes × (text ≡ not_built_text))
 
 -- ---- what each status says. The sink told `before` and tells `after`; where the source told no bytes, nothing is said of them
 abbrev pub IsStatus : ℕ → Type 0

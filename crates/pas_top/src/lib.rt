@@ -9,3 +9,6 @@ mod replay_text;
 pub use io::{Failed, Sink, Source};
 pub use main_call::pas_main;
 pub use plan::Operation;
+
+#[cfg(test)]
+mod tests;
