@@ -3,3 +3,5 @@ pub mod Appending
 pub mod Counting
 pub mod Totalled
 pub mod Agreeing
+pub mod Telling
+pub mod Ending

@@ -3,4 +3,8 @@ pub mod Answers
 pub mod Lines
 pub mod Totals
 pub mod Told
+pub mod Unread
+pub mod Taken
+pub mod Schedules
+pub mod Inputs
 pub mod Outputs

@@ -4,5 +4,13 @@
 mod lines;
 pub mod plan;
 mod totals;
+pub mod io;
+pub mod main_call;
+mod replay_text;
 
+pub use io::{Failed, Sink, Source};
+pub use main_call::pas_main;
 pub use plan::Operation;
+
+#[cfg(test)]
+mod tests;
