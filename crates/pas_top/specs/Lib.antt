@@ -3,3 +3,5 @@ pub mod Answers
 pub mod Lines
 pub mod Told
 pub mod Outputs
+pub mod Readings
+pub mod NameTables

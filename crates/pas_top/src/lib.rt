@@ -2,5 +2,6 @@
 #![tactic(auto)]
 
 pub mod plan;
+mod reading;
 
-pub use plan::Operation;
+pub use plan::{Operation, Plan};
