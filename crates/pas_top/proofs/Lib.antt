@@ -2,3 +2,4 @@ pub mod Numbers
 pub mod Texts
 pub mod LineEnds
 pub mod NameFacts
+pub mod Plans

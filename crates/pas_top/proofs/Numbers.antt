@@ -48,10 +48,10 @@ zero_from_first (suc m) h e = absurd (let low : 48 < get_or (decimal (suc m)) 0 
 
 pub numeral_decimal : (n : ℕ) → IsShort n → IsNumeral (decimal n)
 numeral_decimal n h = record {
-    some = decimal_nonempty n (wide n h);
-    few = length-decimal-le 9 n (omega arith) (omega (arith, h)) (wide n h);
-    first = λ zero_first. single n (zero_from_first n h zero_first);
-  }
+  some = decimal_nonempty n (wide n h);
+  few = length-decimal-le 9 n (omega arith) (omega (arith, h)) (wide n h);
+  first = λ zero_first. single n (zero_from_first n h zero_first);
+}
 
 -- the value of digits, as far as they are read
 pub value_more : (ds : List ℕ) (i value : ℕ) → AllDigits 10 ds → i < length ds → value ≡ digits_value 10 (take i ds) → value * 10 + (get_or ds i 0 - 48) ≡ digits_value 10 (take (i + 1) ds)

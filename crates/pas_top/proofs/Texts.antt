@@ -71,10 +71,10 @@ region_kind pages age valid = record { valid = valid; one_thread = refl; one_hea
 pub header_reads : (bytes left after left2 after2 : List ℕ) (pages age : ℕ) → bytes ≡ pages_word ++ left → Reads decimal IsShort left pages after → after ≡ age_word ++ left2 → Reads decimal IsShort left2 age after2
     → IsRegion (region pages age) → Reads header_line IsRegion bytes (region pages age) after2
 header_reads bytes left after left2 after2 pages age lit num lit2 num2 kind = record {
-    text = lit ∙ ap (λ t. pages_word ++ t) (num.text ∙ ap (λ t. decimal pages ++ t) (lit2 ∙ ap (λ t. age_word ++ t) num2.text)) ∙ sym (header_parts (region pages age) after2);
-    kind = kind;
-    ends = num2.ends;
-  }
+  text = lit ∙ ap (λ t. pages_word ++ t) (num.text ∙ ap (λ t. decimal pages ++ t) (lit2 ∙ ap (λ t. age_word ++ t) num2.text)) ∙ sym (header_parts (region pages age) after2);
+  kind = kind;
+  ends = num2.ends;
+}
 
 written : (n : ℕ) (r : List ℕ) → IsShort n → IsBreak r → Reads decimal IsShort (decimal n ++ r) n r
 written n r short ends = record { text = refl; kind = short; ends = ends }

@@ -1,23 +1,20 @@
 -- What a table of names tells, and which operations may come next.
-use Rattle.std.specs.Prelude.{ℕ, ◌<◌, ◌≤◌, ◌≡◌, Bool, true, false, List, ◌∷◌, slice_index_or}
+use Rattle.std.specs.Prelude.{ℕ, ◌≤◌, ◌≡◌, Bool, true, false, List, ◌∷◌, slice_index_or}
 use Rattle.pas_profile.specs.declared.profile.Profile.{Profile}
 use Rattle.pas_top.specs.declared.plan.Operation.{Operation}
 use Rattle.pas_top.specs.declared.reading.names.Names.{Names}
 use Rattle.pas_top.specs.Forms.{IsFit, is_named, allocations}
-use Rattle.pas_top.specs.Readings.{IsRequest}
 
 -- the table tells which names the operations, the newest first, have allocated, and how many
 pub record Tells (names : Names) (earlier : List Operation) : Type 0 where
   pub taken : (name : ℕ) → slice_index_or names.taken.items name false ≡ is_named earlier name
   pub count : names.count ≡ allocations earlier
 
--- the table lets the region have this allocation next
-pub record MayAdd (f : Profile) (names : Names) (name size align : ℕ) : Type 0 where
+-- a name of which the table has no allocation
+pub record IsNew (names : Names) (name : ℕ) : Type 0 where
   pub first_name : 1 ≤ name
   pub last_name : name ≤ 1000000
   pub fresh : slice_index_or names.taken.items name false ≡ false
-  pub few : names.count < f.pages
-  pub request : IsRequest f size align
 
 -- the operation may come next
 pub record MayCome (f : Profile) (earlier : List Operation) (op : Operation) : Type 0 where

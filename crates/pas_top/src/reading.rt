@@ -37,5 +37,8 @@ pub(crate) fn read_plan(alloc: Global, bytes: &[u8]) -> Result<Option<Plan>, NoM
         }
         left = after;
     }
-    Ok(Some(Plan { profile, operations }))
+    Ok(Some(Plan {
+        profile,
+        operations,
+    }))
 }

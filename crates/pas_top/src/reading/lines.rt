@@ -15,7 +15,13 @@ fn header(bytes: &[u8]) -> Option<(Profile, &[u8])>
     let (pages, left) = number(left)?;
     let left = literal(left, b" threads 1 heaps 1 age ")?;
     let (age, left) = number(left)?;
-    let profile = Profile { pages, threads: 1, age: age as u64, heaps: 1, shared: 0 };
+    let profile = Profile {
+        pages,
+        threads: 1,
+        age: age as u64,
+        heaps: 1,
+        shared: 0,
+    };
     if profile.is_valid() {
         Some((profile, left))
     } else {

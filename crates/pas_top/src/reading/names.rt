@@ -34,7 +34,7 @@ fn is_request(profile: &Profile, size: u32, align: u32) -> bool
 impl Names {
     ghost use Rattle.std.specs.Prelude.{◌≡◌, ◌<◌, ◌≤◌, ◌↔◌, IsTrue, false, List, [], slice_index_or, IfOk};
     ghost use Rattle.pas_top.specs.declared.plan.Operation.{Operation as OperationOf};
-    ghost use Rattle.pas_top.specs.NameTables.{Tells, MayAdd, Judges};
+    ghost use Rattle.pas_top.specs.NameTables.{IsNew, Tells, Judges};
 
     /// The table before the first operation.
     pub(super) fn try_new(alloc: Global) -> Result<Names, NoMemory>
@@ -56,15 +56,11 @@ impl Names {
         }
     }
 
-    /// Whether an allocation may come next.
-    fn may_add(&self, profile: &Profile, name: u32, size: u32, align: u32) -> bool
-        requires { 0 < profile.now.heaps }
-        ensures { IsTrue result ↔ MayAdd profile.now self.now name size align }
+    /// Whether it is a name, and no operation allocated it.
+    fn is_new(&self, name: u32) -> bool
+        ensures { IsTrue result ↔ IsNew self.now name }
     {
-        (1..=LAST_NAME).contains(&name)
-            && !self.has(name)
-            && self.count < profile.pages
-            && is_request(profile, size, align)
+        (1..=LAST_NAME).contains(&name) && !self.has(name)
     }
 
     /// Whether an allocation may come next, and then it is added.
@@ -72,7 +68,13 @@ impl Names {
         requires { 0 < profile.now.heaps }
         ensures { (earlier : List OperationOf) → Tells self.old earlier → Judges profile.now earlier (Operation.Allocate name size align) self.new result }
     {
-        if !self.may_add(profile, name, size, align) {
+        if self.count >= profile.pages {
+            return false;
+        }
+        if !self.is_new(name) {
+            return false;
+        }
+        if !is_request(profile, size, align) {
             return false;
         }
         self.taken[name as usize] = true;
@@ -87,7 +89,9 @@ impl Names {
         ensures { (earlier : List OperationOf) → Tells self.old earlier → Judges profile.now earlier operation self.new result }
     {
         match operation {
-            Operation::Allocate { name, size, align } => self.admit_allocation(profile, name, size, align),
+            Operation::Allocate { name, size, align } => self.admit_allocation(
+                profile, name, size, align,
+            ),
             Operation::Free { name } => self.has(name),
         }
     }

@@ -32,9 +32,7 @@ fn digit_count(bytes: &[u8]) -> usize
 fn is_numeral(digits: &[u8]) -> bool
     ensures { IsTrue result ↔ IsNumeral digits.now }
 {
-    !digits.is_empty()
-        && digits.len() <= MOST_DIGITS
-        && (digits.len() == 1 || digits[0] != b'0')
+    !digits.is_empty() && digits.len() <= MOST_DIGITS && (digits.len() == 1 || digits[0] != b'0')
 }
 
 /// The number that the digits write.

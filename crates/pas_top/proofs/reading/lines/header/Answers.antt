@@ -14,13 +14,13 @@ returns-in_err-left c =
 pub returns-in_err-left-2 : goal.returns-in_err-left-2
 returns-in_err-left-2 c =
     let none : ReadsNone header_line IsRegion c.args.bytes.now = λ f r reads.
-      c.in_err-left-2.ensures _ (header_pages c.args.bytes.now c.in_ok-left.left.now c.in_ok-pages.left.now c.in_ok-pages.pages c.in_ok-left.ensures c.in_ok-pages.ensures f r reads).1 in
+    c.in_err-left-2.ensures _ (header_pages c.args.bytes.now c.in_ok-left.left.now c.in_ok-pages.left.now c.in_ok-pages.pages c.in_ok-left.ensures c.in_ok-pages.ensures f r reads).1 in
     rw c.from_residual-in_err-left-2.ensures none
 
 pub returns-in_err-age : goal.returns-in_err-age
 returns-in_err-age c =
     let none : ReadsNone header_line IsRegion c.args.bytes.now = λ f r reads.
-      c.in_err-age.ensures f.age r (header_last c.args.bytes.now c.in_ok-left.left.now c.in_ok-pages.left.now c.in_ok-left-2.left.now c.in_ok-pages.pages c.in_ok-left.ensures c.in_ok-pages.ensures c.in_ok-left-2.ensures f r reads) in
+    c.in_err-age.ensures f.age r (header_last c.args.bytes.now c.in_ok-left.left.now c.in_ok-pages.left.now c.in_ok-left-2.left.now c.in_ok-pages.pages c.in_ok-left.ensures c.in_ok-pages.ensures c.in_ok-left-2.ensures f r reads) in
     rw c.from_residual-in_err-age.ensures none
 
 pub returns-then-is_valid : goal.returns-then-is_valid
@@ -32,5 +32,5 @@ pub returns-else-is_valid : goal.returns-else-is_valid
 returns-else-is_valid c =
     let none : IsValid (region c.in_ok-pages.pages c.in_ok-age.age) → ⊥ = search rules in
     λ f r reads.
-      let same = header_age c.args.bytes.now c.in_ok-left.left.now c.in_ok-pages.left.now c.in_ok-left-2.left.now c.in_ok-age.left.now c.in_ok-pages.pages c.in_ok-age.age c.in_ok-left.ensures c.in_ok-pages.ensures c.in_ok-left-2.ensures c.in_ok-age.ensures f r reads in
-      none (subst IsValid (region_is f c.in_ok-pages.pages c.in_ok-age.age reads.kind same.0 same.1) reads.kind.valid)
+    let same = header_age c.args.bytes.now c.in_ok-left.left.now c.in_ok-pages.left.now c.in_ok-left-2.left.now c.in_ok-age.left.now c.in_ok-pages.pages c.in_ok-age.age c.in_ok-left.ensures c.in_ok-pages.ensures c.in_ok-left-2.ensures c.in_ok-age.ensures f r reads in
+    none (subst IsValid (region_is f c.in_ok-pages.pages c.in_ok-age.age reads.kind same.0 same.1) reads.kind.valid)

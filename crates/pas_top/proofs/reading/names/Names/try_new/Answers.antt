@@ -1,9 +1,9 @@
-use Rattle.std.proofs.Common.{rules, ◌≡◌, ◌<◌, ◌↔◌, IsTrue, vec_len, ◌≤◌, false, List, [], slice_index_or, IfOk, ℕ, ◌+◌, ◌-◌, ◌*◌, length, ◌/◌, ◌%◌, Bool, true, nat_eq, nat_lt, ◌∷◌, ◌++◌, slice_set, bit_and, bit_or, Fits, w8, w32, w64, Bor, MutBor}
-use Rattle.pas_top.specs.Readings.{IsRequest}
-use Rattle.pas_top.specs.declared.plan.Operation.{Operation as OperationOf}
-use Rattle.pas_top.specs.NameTables.{Tells, MayAdd, Judges}
+use Rattle.std.proofs.Common.{rules, ◌≡◌, false, refl}
+use Rattle.std.proofs.Math.ListN.{replicate}
+use Rattle.pas_top.proofs.NameFacts.{tells_nothing}
 use Rattle.pas_top.proofs.reading.names.Names.try_new.Goals as goal
 
--- src/reading/names.rt:40:5
 pub returns-in-Ok : goal.returns-in-Ok
-returns-in-Ok c = ?
+returns-in-Ok c =
+    let items : c.in-Ok.taken.items ≡ replicate 1000001 false = c.in-Ok.ensures.items_if_clones_equal (λ y h. h) in
+    tells_nothing _ 1000001 items refl
