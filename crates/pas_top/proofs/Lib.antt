@@ -5,3 +5,8 @@ pub mod Totalled
 pub mod Agreeing
 pub mod Telling
 pub mod Ending
+pub mod Numbers
+pub mod Texts
+pub mod LineEnds
+pub mod NameFacts
+pub mod Plans

@@ -8,3 +8,5 @@ pub mod Taken
 pub mod Schedules
 pub mod Inputs
 pub mod Outputs
+pub mod Readings
+pub mod NameTables

@@ -14,3 +14,5 @@ pub use plan::Operation;
 
 #[cfg(test)]
 mod tests;
+mod reading;
+pub use plan::{Operation, Plan};
