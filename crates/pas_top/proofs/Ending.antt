@@ -1,13 +1,13 @@
 -- How a call ends: its words, and what status 4 says of the text that was cut off.
-use Rattle.std.proofs.Common.{◌≡◌, ℕ, ◌≤◌, ◌<◌, Bool, List, [], ◌∷◌, Option, Some, IsTrue, Bor, map, get_or, length, ap, ◌∙◌, sym, inl, inr, arith, nat_eq}
+use Rattle.std.proofs.Common.{◌≡◌, ℕ, ◌≤◌, ◌<◌, Bool, List, [], ◌∷◌, Option, Some, IsTrue, Bor, get_or, length, ap, ◌∙◌, sym, inl, inr, arith, nat_eq}
 use Rattle.std.proofs.lemmas.Slice.Eq.{slice_eq-Decides}
 use Rattle.std.proofs.lemmas.Bool.Decides.{Decides-eqb}
 use Rattle.std.specs.Cmp.Lexicographic.{pointwise}
-use Rattle.pas_top.specs.Outputs.{IsOrder, IsOutput, IsCutOff, usage_text}
+use Rattle.pas_top.specs.Outputs.{IsOrder, texts_of, IsOutput, IsCutOff, usage_text}
 use Rattle.pas_top.specs.Told.{Tells}
 
 -- one word, which is or isn't the text
-pub only_word : (words : List (Bor (List ℕ))) (d : Bor (List ℕ)) (text : List ℕ) (r : Bool) → 1 ≤ length words → length words < 2 → r ≡ pointwise nat_eq (get_or words 0 d).now text → (IsTrue r → map {A = Bor (List ℕ)} {B = List ℕ} (λ w. w.now) words ≡ text ∷ []) × (map {A = Bor (List ℕ)} {B = List ℕ} (λ w. w.now) words ≡ text ∷ [] → IsTrue r)
+pub only_word : (words : List (Bor (List ℕ))) (d : Bor (List ℕ)) (text : List ℕ) (r : Bool) → 1 ≤ length words → length words < 2 → r ≡ pointwise nat_eq (get_or words 0 d).now text → (IsTrue r → texts_of words ≡ text ∷ []) × (texts_of words ≡ text ∷ [] → IsTrue r)
 only_word [] d text r some few is = absurd (omega arith)
 only_word (word ∷ []) d text r some few is =
     let decides = slice_eq-Decides Decides-eqb word.now text r is in

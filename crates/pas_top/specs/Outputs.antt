@@ -1,5 +1,6 @@
 -- What the top call writes, for each status.
-use Rattle.std.specs.Prelude.{ℕ, ◌<◌, ◌≤◌, ◌≡◌, ◌⊎◌, List, [], ◌∷◌, Option, Some, length, codes}
+use Rattle.std.specs.Prelude.{ℕ, ◌<◌, ◌≤◌, ◌≡◌, ◌⊎◌, List, [], ◌∷◌, Option, Some, length, map, codes}
+use denote.Ref.{Bor}
 use Rattle.pas_profile.specs.declared.profile.Profile.{Profile}
 use Rattle.pas_machine.specs.Machine.{Run}
 use Rattle.pas_steps.specs.Lists.{Whole, Legal, visible}
@@ -29,6 +30,10 @@ IsUnasked bytes = (f : Profile) (ops : List Operation) → Asks bytes f ops → 
 -- the input isn't one that is built: it is longer than 65,536 bytes, or no trace of this form
 abbrev pub IsNotBuilt : List ℕ → Type 0
 IsNotBuilt bytes = (65536 < length bytes) ⊎ IsUnasked bytes
+
+-- the bytes of each word
+abbrev pub texts_of : List (Bor (List ℕ)) → List (List ℕ)
+texts_of words = map (λ w. w.now) words
 
 -- the words are the one word `order`
 abbrev pub IsOrder : List (List ℕ) → Type 0

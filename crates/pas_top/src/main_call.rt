@@ -1,9 +1,9 @@
 //! The call that the program makes.
-ghost use Rattle.std.specs.Prelude.{◌≡◌, ◌≤◌, ◌⊎◌, ◌↔◌, ℕ, List, Some, IsTrue, length, map};
+ghost use Rattle.std.specs.Prelude.{◌≡◌, ◌≤◌, ◌⊎◌, ◌↔◌, ℕ, List, Some, IsTrue, length};
 ghost use Rattle.pas_profile.specs.declared.profile.Profile.{Profile};
 ghost use Rattle.pas_top.specs.declared.plan.Operation.{Operation};
 ghost use Rattle.pas_top.specs.Forms.{Asks};
-ghost use Rattle.pas_top.specs.Outputs.{IsCutOff, IsDone, IsNotBuilt, IsOrder, IsRefused, IsStatus, IsUsage};
+ghost use Rattle.pas_top.specs.Outputs.{IsCutOff, IsDone, IsNotBuilt, IsOrder, IsRefused, IsStatus, IsUsage, texts_of};
 ghost use Rattle.pas_top.specs.Told.{Rose, Tells};
 
 use crate::io::whole::{Input, Stop, read_all, write_all};
@@ -33,16 +33,16 @@ pub fn pas_main<S: Source, K: Sink>(
     sink: &mut K,
 ) -> u8
     ensures status { IsStatus result }
-    ensures done { result ≡ 0 → IsDone (map (λ w. w.now) words.now) (S.rest source.old) (K.held sink.old) (K.held sink.new) }
-    ensures usage { result ≡ 2 → IsUsage (map (λ w. w.now) words.now) (K.held sink.old) (K.held sink.new) }
-    ensures usage_always { (IsOrder (map (λ w. w.now) words.now) → ⊥) → (source.new ≡ source.old) × ((result ≡ 2) ⊎ (result ≡ 4)) }
+    ensures done { result ≡ 0 → IsDone (texts_of words.now) (S.rest source.old) (K.held sink.old) (K.held sink.new) }
+    ensures usage { result ≡ 2 → IsUsage (texts_of words.now) (K.held sink.old) (K.held sink.new) }
+    ensures usage_always { (IsOrder (texts_of words.now) → ⊥) → (source.new ≡ source.old) × ((result ≡ 2) ⊎ (result ≡ 4)) }
     ensures source_failed { result ≡ 3 → Rose (S.faults source.old) (S.faults source.new) × (sink.new ≡ sink.old) }
-    ensures sink_failed { result ≡ 4 → IsCutOff (map (λ w. w.now) words.now) (S.rest source.old) (K.held sink.old) (K.held sink.new) (K.faults sink.old) (K.faults sink.new) }
+    ensures sink_failed { result ≡ 4 → IsCutOff (texts_of words.now) (S.rest source.old) (K.held sink.old) (K.held sink.new) (K.faults sink.old) (K.faults sink.new) }
     ensures memory { result ≡ 5 → sink.new ≡ sink.old }
-    ensures not_built { result ≡ 7 → IsRefused (map (λ w. w.now) words.now) (S.rest source.old) (K.held sink.old) (K.held sink.new) }
-    ensures not_built_always { IsOrder (map (λ w. w.now) words.now) → (bytes : List ℕ) → S.rest source.old ≡ Some bytes → IsNotBuilt bytes
+    ensures not_built { result ≡ 7 → IsRefused (texts_of words.now) (S.rest source.old) (K.held sink.old) (K.held sink.new) }
+    ensures not_built_always { IsOrder (texts_of words.now) → (bytes : List ℕ) → S.rest source.old ≡ Some bytes → IsNotBuilt bytes
         → (result ≡ 7) ⊎ (result ≡ 3) ⊎ (result ≡ 4) ⊎ (result ≡ 5) }
-    ensures complete { IsOrder (map (λ w. w.now) words.now) → (bytes : List ℕ) → S.rest source.old ≡ Some bytes
+    ensures complete { IsOrder (texts_of words.now) → (bytes : List ℕ) → S.rest source.old ≡ Some bytes
         → (f : Profile) (ops : List Operation) → Asks bytes f ops → length bytes ≤ 65536
         → (Rose (S.faults source.old) (S.faults source.new) → ⊥) → (Rose (K.faults sink.old) (K.faults sink.new) → ⊥)
         → (result ≡ 0) ⊎ (result ≡ 5) }
@@ -64,7 +64,7 @@ pub fn pas_main<S: Source, K: Sink>(
 }
 
 fn is_order(words: &[&str]) -> bool
-    ensures { IsTrue result ↔ IsOrder (map (λ w. w.now) words.now) }
+    ensures { IsTrue result ↔ IsOrder (texts_of words.now) }
 {
     match words {
         [word] => *word == "order",
