@@ -2,3 +2,4 @@ pub mod Runs
 pub mod State
 pub mod Machine
 pub mod Totals
+pub mod Laws

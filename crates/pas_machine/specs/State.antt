@@ -1,12 +1,10 @@
 -- The state of the machine, as it follows from the events so far. Lists of events have the NEWEST FIRST, so that what one more event does
 -- is one equation. Each part of the state is a map: a function of the events. For each part one table says what an event does to it, an
 -- event a line, and the state is the table applied event by event to the empty state.
-use Rattle.std.specs.Prelude.{ℕ, ◌+◌, ◌/◌, ◌==◌, max, Bool, true, false, ◌&&◌, if◌then◌else◌, List, [], ◌∷◌, Option, None, Some}
+use Rattle.std.specs.Prelude.{ℕ, ◌+◌, ◌/◌, ◌==◌, max, Bool, true, false, if◌then◌else◌, List, [], ◌∷◌, Option, None, Some}
 use Rattle.pas_profile.specs.declared.directory.Directory.{Directory}
-use Rattle.pas_profile.specs.declared.name.Name.{Name}
 use Rattle.pas_profile.specs.declared.name.Block.{Block}
 use Rattle.pas_profile.specs.declared.event.Event.{Event}
-use Rattle.pas_profile.specs.declared.event.Event.TheVariants as Event
 use Rattle.pas_machine.specs.Runs.{meets_page, address_of, length_of}
 
 -- a live block, beside the address that it is found by

@@ -1,2 +1,5 @@
 pub mod Adding
 pub mod Frames
+pub mod Parts
+pub mod Ranged
+pub mod Targets

@@ -10,6 +10,7 @@ use crate::step::Step;
 use pas_profile::{Event, Name, Why, Word, deed_word, life_word, read_life};
 
 /// The one word of a step.
+#[inline]
 pub fn target(step: Step) -> Word
     ensures { result ≡ target_word step }
 {
@@ -34,6 +35,7 @@ pub fn target(step: Step) -> Word
 }
 
 /// The life word at the address of the name.
+#[inline]
 fn life_word_at(name: Name) -> Word
     ensures { result ≡ the_life_word_at (grain_of name) }
 {
@@ -42,6 +44,7 @@ fn life_word_at(name: Name) -> Word
 }
 
 /// The word's new value, from the epoch that the actor knows and the old value.
+#[inline]
 pub fn new_value(epoch: u64, step: Step, old: u64) -> u64
     requires { IsRanged step }
     ensures { result ≡ the_value epoch step old }
@@ -73,6 +76,7 @@ pub fn new_value(epoch: u64, step: Step, old: u64) -> u64
 }
 
 /// The newest epoch that the actor knows after a step with this answer.
+#[inline]
 pub fn epoch_after(step: Step, answer: u64, known: Option<u64>) -> Option<u64>
     ensures { result ≡ the_epoch step answer known }
 {
@@ -110,6 +114,7 @@ fn end_event(actor: u8, epoch: u64, name: Name, guess: u32, answer: u64) -> Opti
 }
 
 /// The event of a step with this answer, of an actor that knows this epoch.
+#[inline]
 pub fn event_of(actor: u8, epoch: u64, step: Step, answer: u64) -> Option<Event>
     requires { IsRanged step }
     ensures { result ≡ the_event actor epoch step answer }

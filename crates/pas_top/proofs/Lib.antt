@@ -3,3 +3,15 @@ pub mod Taking
 pub mod Searching
 pub mod Quiet
 pub mod Placing
+pub mod Digits
+pub mod Appending
+pub mod Counting
+pub mod Totalled
+pub mod Agreeing
+pub mod Telling
+pub mod Ending
+pub mod Numbers
+pub mod Texts
+pub mod LineEnds
+pub mod NameFacts
+pub mod Plans

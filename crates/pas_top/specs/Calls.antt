@@ -10,8 +10,8 @@ use Rattle.pas_profile.specs.declared.word.Word.{Word}
 use Rattle.pas_profile.specs.declared.word.Word.TheVariants as Word
 use Rattle.pas_profile.specs.declared.event.Event.{Event}
 use Rattle.pas_profile.specs.declared.event.Event.TheVariants as Event
-use Rattle.pas_machine.specs.Runs.{in_run, address_of, grain_of, length_of}
-use Rattle.pas_machine.specs.State.{Live, deed_in, live_in, gives_in}
+use Rattle.pas_machine.specs.Runs.{in_run, address_of, grain_of}
+use Rattle.pas_core.specs.Given.{WasGiven}
 use Rattle.pas_steps.specs.declared.step.Made.{Made}
 use Rattle.pas_steps.specs.declared.step.Step.{Step}
 use Rattle.pas_steps.specs.declared.step.Step.TheVariants.{Look, Deed, Back, Take, Put, Give, End, Stamp}
@@ -204,11 +204,6 @@ pub record Allocates (desk desk' : Standing) (classes : List ℕ) (class : ℕ) 
   pub few : (v : View) → length (events_by desk.seat.actor v steps) ≤ 3
 
 -- ---- a block is freed
--- a block of this name was given, and where it lives it has just its room
-pub record WasGiven (es : List Event) (block : Block) : Type 0 where
-  pub earlier : block.name.turn < gives_in es (address_of block.name)
-  pub sized : (b : Live) → live_in es (address_of block.name) ≡ Some b → b.block.name.turn ≡ block.name.turn → b.block.room ≡ block.room
-
 -- a block of a class is a slot's
 pub record IsSlotBlock (f : Profile) (block : Block) : Type 0 where
   pub class : ℕ

@@ -1,12 +1,11 @@
 -- The form of a trace: which bytes ask for which operations, on which region.
-use Rattle.std.specs.Prelude.{ℕ, ◌+◌, ◌*◌, ◌<◌, ◌≤◌, ◌≡◌, ◌==◌, Bool, true, false, ◌||◌, if◌then◌else◌, ◌⊎◌, List, [], ◌∷◌, ◌++◌, codes}
+use Rattle.std.specs.Prelude.{ℕ, ◌+◌, ◌*◌, ◌≤◌, ◌≡◌, ◌==◌, Bool, true, false, ◌||◌, ◌⊎◌, List, [], ◌∷◌, ◌++◌, codes}
 use Rattle.std.specs.Fmt.{decimal}
 use Rattle.pas_profile.specs.Classes.{IsAlignment}
 use Rattle.pas_profile.specs.Routes.{route_of}
 use Rattle.pas_profile.specs.Profiles.{IsValid}
 use Rattle.pas_profile.specs.declared.profile.Profile.{Profile}
 use Rattle.pas_profile.specs.declared.directory.Route.{Route}
-use Rattle.pas_profile.specs.declared.directory.Route.TheVariants as Route
 use Rattle.pas_top.specs.declared.plan.Operation.{Operation}
 use Rattle.pas_top.specs.declared.plan.Operation.TheVariants.{Allocate, Free}
 

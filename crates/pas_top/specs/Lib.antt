@@ -1,9 +1,16 @@
 pub mod Forms
 pub mod Answers
 pub mod Lines
+pub mod Totals
 pub mod Told
+pub mod Unread
+pub mod Taken
+pub mod Schedules
+pub mod Inputs
 pub mod Outputs
 pub mod Slots
 pub mod Calls
 pub mod Names
 pub mod Ledgers
+pub mod Readings
+pub mod NameTables

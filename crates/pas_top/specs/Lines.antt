@@ -1,18 +1,26 @@
 -- The lines of a transcript. Every line ends with a newline.
-use Rattle.std.specs.Prelude.{ℕ, ◌+◌, ◌*◌, ◌/◌, ◌%◌, ◌^◌, List, [], ◌∷◌, ◌++◌, reverse, codes, if◌then◌else◌, nat_lt}
+use Rattle.std.specs.Prelude.{ℕ, ◌+◌, ◌/◌, ◌%◌, ◌^◌, List, [], ◌∷◌, ◌++◌, reverse, codes, if◌then◌else◌, nat_lt}
 use Rattle.std.specs.Fmt.{decimal}
 use Rattle.pas_profile.specs.Classes.{class_size}
 use Rattle.pas_profile.specs.declared.profile.Profile.{Profile}
+use Rattle.pas_profile.specs.Directories.{IsKind}
 use Rattle.pas_profile.specs.declared.directory.Kind.{Kind}
-use Rattle.pas_profile.specs.declared.directory.Kind.TheVariants as Kind
 use Rattle.pas_profile.specs.declared.directory.Directory.{Directory}
 use Rattle.pas_profile.specs.declared.name.Name.{Name}
 use Rattle.pas_profile.specs.declared.name.Block.{Block}
 use Rattle.pas_profile.specs.declared.event.Event.{Event}
-use Rattle.pas_profile.specs.declared.event.Event.TheVariants as Event
 use Rattle.pas_profile.specs.declared.event.Why.TheVariants as Why
 use Rattle.pas_machine.specs.Runs.{address_of}
 use Rattle.pas_machine.specs.Totals.{deeds_total, backed_total, live_total, given_total, ended_total}
+
+-- The line of an event can be shown: a deed's kind is one that there is. All other events can.
+abbrev pub IsShowable : Event → Type 0
+IsShowable (Event.Deed k page d) = IsKind d.kind
+IsShowable (Event.Back k page) = Unit {0}
+IsShowable (Event.Unback k page epoch) = Unit {0}
+IsShowable (Event.Give k block) = Unit {0}
+IsShowable (Event.End k name epoch) = Unit {0}
+IsShowable (Event.Reject k name why) = Unit {0}
 
 -- a hexadecimal digit, in lower case
 abbrev pub hex_digit : ℕ → ℕ
@@ -68,10 +76,14 @@ abbrev pub lines_of : List Event → List ℕ
 lines_of [] = []
 lines_of (e ∷ es) = line_of e ++ lines_of es
 
+-- the last line, from its five numbers
+abbrev pub totals_text : ℕ → ℕ → ℕ → ℕ → ℕ → List ℕ
+totals_text deeds backed live given ended = codes "total deeds " ++ (decimal deeds ++ (codes " backed " ++ (decimal backed ++ (codes " live " ++ (decimal live
+    ++ (codes " given " ++ (decimal given ++ (codes " ended " ++ (decimal ended ++ codes "\n")))))))))
+
 -- the totals of the machine that the events reach (the newest first)
 abbrev pub total_line : Profile → List Event → List ℕ
-total_line f es = codes "total deeds " ++ (decimal (deeds_total f es) ++ (codes " backed " ++ (decimal (backed_total f es) ++ (codes " live " ++ (decimal (live_total f es)
-    ++ (codes " given " ++ (decimal (given_total f es) ++ (codes " ended " ++ (decimal (ended_total f es) ++ codes "\n")))))))))
+total_line f es = totals_text (deeds_total f es) (backed_total f es) (live_total f es) (given_total f es) (ended_total f es)
 
 -- the transcript of these events (the newest first): a line each, in the order in which they were made, and then the totals
 abbrev pub transcript_text : Profile → List Event → List ℕ

@@ -1,6 +1,6 @@
 -- What sources and sinks tell. A source tells the bytes that it has left, and a sink those that it holds, as `Some`; one over a real file or
 -- terminal tells nothing, as `None`. Each counts its faults.
-use Rattle.std.specs.Prelude.{ℕ, ◌+◌, ◌-◌, ◌^◌, ◌<◌, ◌≤◌, ◌≡◌, ◌⊎◌, List, [], ◌∷◌, ◌++◌, Option, None, Some, take, drop, length}
+use Rattle.std.specs.Prelude.{ℕ, ◌-◌, ◌^◌, ◌<◌, ◌≤◌, ◌≡◌, ◌⊎◌, List, [], ◌++◌, Option, None, Some, take, drop, length}
 
 -- a count of faults rose in a call: it is greater afterwards, or at its last value
 abbrev pub Rose : ℕ → ℕ → Type 0
@@ -25,3 +25,14 @@ Writes (Some held) after bytes = after ≡ Some (held ++ bytes)
 -- some first part of the bytes was written
 abbrev pub WritesFront : Option (List ℕ) → Option (List ℕ) → List ℕ → Type 0
 WritesFront before after bytes = (front : List ℕ) × (back : List ℕ) × (bytes ≡ front ++ back) × Writes before after front
+
+-- The front of the buffer, n bytes long, is a first part of the bytes that were left; and all of them where it is shorter than the buffer.
+pub record Fills (left buffer' : List ℕ) (n : ℕ) : Type 0 where
+  pub within : n ≤ length left
+  pub filled : take n buffer' ≡ take n left
+  pub all : n < length buffer' → n ≡ length left
+
+-- a text was written for a status, or a first part of it and the sink's count of faults rose, which is status 4
+abbrev pub Tells : Option (List ℕ) → Option (List ℕ) → ℕ → ℕ → List ℕ → ℕ → ℕ → Type 0
+Tells before after faults faults' text status answer =
+    ((answer ≡ status) × Writes before after text) ⊎ ((answer ≡ 4) × Rose faults faults' × WritesFront before after text)

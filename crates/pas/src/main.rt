@@ -1,0 +1,40 @@
+//! The program `pas`: reads standard input, writes standard output, and ends with the status of the call.
+#![tactic(auto)]
+
+use pas_top::io::real::{RealSink, RealSource};
+use pas_top::pas_main;
+use std::alloc::AllocError;
+use std::io::ErrorKind;
+use std::process::ExitCode;
+use std::{env, io};
+
+/// The status where memory is wanting.
+const NO_MEMORY: u8 = 5;
+
+fn main(rt: HostRuntime) -> ExitCode {
+    let status = match words(&rt) {
+        Ok(words) => match call(&rt, &words) {
+            Ok(status) => status,
+            Err(_) => NO_MEMORY,
+        },
+        Err(_) => NO_MEMORY,
+    };
+    ExitCode::from(status)
+}
+
+/// The words after the program's name. Where one isn't text there are none, since none of the calls has such a word.
+fn words(rt: &HostRuntime) -> Result<Vec<String>, AllocError> {
+    match env::args(rt) {
+        Ok(words) => words.skip(1).collect(rt.alloc()),
+        Err(error) if error.kind() == ErrorKind::OutOfMemory => Err(AllocError),
+        Err(_) => Ok(Vec::new(rt.alloc())),
+    }
+}
+
+/// Calls with these words, over standard input and output.
+fn call(rt: &HostRuntime, words: &[String]) -> Result<u8, AllocError> {
+    let words: Vec<&str> = words.iter().map(|word| word.as_str()).collect(rt.alloc())?;
+    let mut source = RealSource::new(rt.stdin());
+    let mut sink = RealSink::new(rt.stdout());
+    Ok(pas_main(rt.alloc(), &words, &mut source, &mut sink))
+}
