@@ -12,7 +12,7 @@ use Rattle.pas_steps.specs.Events.{event_of, with_event, events_of, events_by}
 use Rattle.pas_steps.specs.Lists.{Whole, part, word_after, visible}
 use Rattle.pas_steps.specs.Desks.{triples}
 use Rattle.pas_steps.specs.Frames.{IsLook, AreLooks}
-use Rattle.pas_steps.proofs.Adding.{part_append}
+use Rattle.pas_steps.proofs.Parts.{part_of_own}
 
 -- ---- looks
 pub looks_append : (ys xs : List Made) → AreLooks ys → AreLooks xs → AreLooks (ys ++ xs)
@@ -58,7 +58,7 @@ events_split k (m ∷ xs) v = ap (with_event (event_of k (epoch_of (xs ++ v)) m.
 pub visible_split : (k : ℕ) (xs : List Made) (l : Whole) → visible (triples k xs ++ l) ≡ events_by k (part k l) xs ++ visible l
 visible_split k [] l = refl
 visible_split k (m ∷ xs) l =
-    ap (λ v. with_event (event_of k (epoch_of v) m.step m.answer) (visible (triples k xs ++ l))) (part_append k xs l)
+    ap (λ v. with_event (event_of k (epoch_of v) m.step m.answer) (visible (triples k xs ++ l))) (part_of_own k xs l)
     ∙ ap (with_event (event_of k (epoch_of (xs ++ part k l)) m.step m.answer)) (visible_split k xs l)
     ∙ with_append (event_of k (epoch_of (xs ++ part k l)) m.step m.answer) (events_by k (part k l) xs) (visible l)
 

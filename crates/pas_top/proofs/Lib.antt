@@ -15,3 +15,4 @@ pub mod Texts
 pub mod LineEnds
 pub mod NameFacts
 pub mod Plans
+pub mod Choosing

@@ -1,5 +1,5 @@
 -- What quiet steps leave as it was.
-use Rattle.std.proofs.Common.{◌≡◌, ◌≢◌, ℕ, ◌+◌, ◌≤◌, ◌==◌, ◌&&◌, Bool, true, false, if◌then◌else◌, List, [], ◌∷◌, ◌++◌, length, refl, ap, sym, ◌∙◌, subst}
+use Rattle.std.proofs.Common.{◌≡◌, ◌≢◌, ℕ, ◌+◌, ◌≤◌, ◌==◌, ◌&&◌, Bool, true, false, if◌then◌else◌, List, [], ◌∷◌, ◌++◌, length, refl, ap, sym, ◌∙◌, subst, append_assoc}
 use Rattle.pas_profile.specs.Layouts.{same_word}
 use Rattle.pas_profile.specs.Directories.{deed_word_of}
 use Rattle.pas_profile.specs.declared.word.Word.{Word}
@@ -13,6 +13,7 @@ use Rattle.pas_steps.specs.Views.{View, deed_after, known_deed, unstamped_after,
 use Rattle.pas_steps.specs.Events.{event_of, with_event, events_of, events_by}
 use Rattle.pas_steps.specs.Lists.{Whole, part, word_after}
 use Rattle.pas_steps.specs.Desks.{triples}
+use Rattle.pas_steps.proofs.Adding.{triples_append}
 use Rattle.pas_steps.proofs.Frames.{events_split, rights_stay}
 use Rattle.pas_top.specs.Answers.{stamped_by, stamps_of}
 use Rattle.pas_top.specs.Calls.{IsNoDeed, IsQuiet, AreQuiet, IsOpen, AtRest}
@@ -118,3 +119,20 @@ rest_quiet k xs classes v l are was = record {
     bare = λ page above. quiet_deed k xs l page are ∙ was.bare page above;
     stamped = λ page. quiet_unstamped xs v page are ∙ was.stamped page;
   }
+
+-- ---- quiet steps on top of others
+pub quiet_front : (k : ℕ) (xs ys : List Made) (v : View) → AreQuiet xs → events_by k v (xs ++ ys) ≡ events_by k v ys
+quiet_front k [] ys v are = refl
+quiet_front k (m ∷ xs) ys v are = event_step k (epoch_of (xs ++ ys ++ v)) m.step m.answer (events_by k v (xs ++ ys)) are.0 ∙ quiet_front k xs ys v are.1
+
+pub quiet_no_stamps : (xs : List Made) → AreQuiet xs → stamps_of xs ≡ []
+quiet_no_stamps [] are = refl
+quiet_no_stamps (m ∷ xs) are = stamp_step m.step (stamps_of xs) are.0 ∙ quiet_no_stamps xs are.1
+
+pub rest_front : (k : ℕ) (xs ys : List Made) (classes : List ℕ) (v : View) (l : Whole) → AreQuiet xs → AtRest classes (ys ++ v) (triples k ys ++ l) → AtRest classes (xs ++ ys ++ v) (triples k (xs ++ ys) ++ l)
+rest_front k xs ys classes v l are was =
+    subst (λ w. AtRest classes w (triples k (xs ++ ys) ++ l)) (sym (append_assoc xs ys v))
+    (subst (λ w. AtRest classes (xs ++ (ys ++ v)) w) (triples_append k xs ys l) (rest_quiet k xs classes (ys ++ v) (triples k ys ++ l) are was))
+
+pub deed_front : (k : ℕ) (xs ys : List Made) (l : Whole) (p : ℕ) → AreQuiet xs → word_after (triples k (xs ++ ys) ++ l) (Word.Deed p) ≡ word_after (triples k ys ++ l) (Word.Deed p)
+deed_front k xs ys l p are = ap (λ w. word_after w (Word.Deed p)) (sym (triples_append k xs ys l)) ∙ quiet_deed k xs (triples k ys ++ l) p are
