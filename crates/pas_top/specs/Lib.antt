@@ -14,3 +14,4 @@ pub mod Names
 pub mod Ledgers
 pub mod Readings
 pub mod NameTables
+pub mod Replays

@@ -1,7 +1,7 @@
 //! Reading and writing whole texts.
 ghost use Rattle.std.specs.Prelude.{◌≡◌, ◌<◌, ◌≤◌, ℕ, List, Some, length, IfOk, OnOk, OnErr, IsErrOf};
 ghost use Rattle.pas_top.specs.Told.{Fills, Rose, Writes, WritesFront};
-ghost use Rattle.pas_top.specs.Inputs.{IsInput};
+ghost use Rattle.pas_top.specs.Inputs.{IsInput, IsShort};
 
 use crate::io::{Failed, Sink, Source};
 use std::alloc::Global;
@@ -60,6 +60,7 @@ pub enum Stop {
 /// Reads the source to its end, or up to 65,537 bytes, into one buffer of that size.
 pub fn read_all<S: Source>(alloc: Global, source: &mut S) -> Result<Input, Stop>
     ensures input { IfOk result (λ input. (told : List ℕ) → S.rest source.old ≡ Some told → IsInput told input) }
+    ensures short { IfOk result IsShort }
     ensures fault { IsErrOf result Stop.Fault → Rose (S.faults source.old) (S.faults source.new) }
     ensures memory { IsErrOf result Stop.Memory → source.new ≡ source.old }
 {
