@@ -4,9 +4,9 @@
 use pas_top::io::real::{RealSink, RealSource};
 use pas_top::pas_main;
 use std::alloc::AllocError;
+use std::env;
 use std::io::ErrorKind;
 use std::process::ExitCode;
-use std::{env, io};
 
 /// The status where memory is wanting.
 const NO_MEMORY: u8 = 5;

@@ -1,11 +1,11 @@
 -- A region, a pass and a desk after a step.
-use Rattle.std.proofs.Common.{◌≡◌, ℕ, ◌+◌, ◌-◌, ◌^◌, ◌<◌, ◌≤◌, ◌==◌, min, Bool, true, false, if◌then◌else◌, List, [], ◌∷◌, ◌++◌, length, reverse, vec_len, Option, None, Some, refl, ap, sym, ◌∙◌, subst, arith, append-nil}
-use Rattle.std.specs.Prelude.{slice_index, slice_set}
+use Rattle.std.proofs.Common.{◌≡◌, ℕ, ◌+◌, ◌-◌, ◌^◌, ◌≤◌, min, Bool, true, false, if◌then◌else◌, List, [], ◌∷◌, ◌++◌, length, reverse, Option, None, Some, refl, ap, sym, ◌∙◌, subst, arith, append-nil}
+use Rattle.std.specs.Prelude.{slice_index}
 use Rattle.std.specs.Option.{option_to_list}
 use Rattle.std.proofs.lemmas.Bool.{eq-eqb}
 use Rattle.std.proofs.lemmas.List.{reverse-append}
 use Rattle.pas_profile.specs.Layouts.{index_of, words_of, same_word}
-use Rattle.pas_profile.specs.Profiles.{IsValid, IsWordOf}
+use Rattle.pas_profile.specs.Profiles.{IsWordOf}
 use Rattle.pas_profile.specs.declared.event.Event.{Event}
 use Rattle.pas_profile.specs.declared.profile.Profile.{Profile}
 use Rattle.pas_profile.specs.declared.word.Word.{Word}
@@ -14,14 +14,13 @@ use Rattle.pas_steps.specs.Effects.{target, new_value}
 use Rattle.pas_steps.specs.Events.{event_of, events_of, with_event}
 use Rattle.pas_steps.specs.Views.{View, known_epoch, epoch_after, epoch_of, or_zero}
 use Rattle.pas_steps.specs.Allowed.{Allowed, IsStepOf}
-use Rattle.pas_steps.specs.Lists.{Triple, Whole, part, word_after, IsNext, Legal}
-use Rattle.pas_steps.specs.Agreement.{Agrees}
+use Rattle.pas_steps.specs.Lists.{Whole, part, word_after, Legal}
 use Rattle.pas_steps.specs.Desks.{Seat, made, triple, Makes}
 use Rattle.pas_steps.specs.declared.step.Step.{Step}
 use Rattle.pas_steps.specs.declared.step.Made.{Made}
 use Rattle.pas_steps.proofs.Targets.{target_of_region}
 use Rattle.pas_core.proofs.Nexts.{legal_next, agrees_next}
-use Rattle.pas_plain.specs.Plain.{profile_of, word_at, RegionStands, actor_of, events_shown, room_of_pass, count_of_pass, epoch_known, PassStands, IsExchanged, IsNoted}
+use Rattle.pas_plain.specs.Plain.{profile_of, word_at, RegionStands, actor_of, events_shown, count_of_pass, epoch_known, PassStands, IsExchanged, IsNoted}
 use Rattle.pas_plain.specs.Seats.{DeskStands, standing_of, IsChanged}
 use Rattle.pas_plain.specs.declared.region.PlainRegion.{PlainRegion}
 use Rattle.pas_plain.specs.declared.pass.PlainPass.{PlainPass}

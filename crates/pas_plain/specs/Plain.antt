@@ -1,5 +1,5 @@
 -- What a plain region, a pass and a plain desk stand for.
-use Rattle.std.specs.Prelude.{ℕ, ◌+◌, ◌-◌, ◌^◌, ◌≡◌, ◌≤◌, ◌<◌, ◌++◌, List, [], ◌∷◌, length, min, reverse, slice_index, slice_set, Option, None, Some}
+use Rattle.std.specs.Prelude.{ℕ, ◌+◌, ◌-◌, ◌^◌, ◌≡◌, ◌≤◌, ◌++◌, List, [], ◌∷◌, length, min, reverse, slice_index, slice_set, Option, None}
 use Rattle.std.specs.Option.{option_to_list}
 use Rattle.pas_profile.specs.Layouts.{index_of}
 use Rattle.pas_profile.specs.Profiles.{IsWordOf}
@@ -10,7 +10,7 @@ use Rattle.pas_profile.specs.declared.room.EventRoom.{EventRoom}
 use Rattle.pas_profile.specs.declared.word.Word.{Word}
 use Rattle.pas_steps.specs.Effects.{target, new_value}
 use Rattle.pas_steps.specs.Events.{event_of, events_of}
-use Rattle.pas_steps.specs.Views.{View, known_epoch, epoch_after, or_zero}
+use Rattle.pas_steps.specs.Views.{known_epoch, epoch_after, or_zero}
 use Rattle.pas_steps.specs.Lists.{Whole, part, word_after, Legal}
 use Rattle.pas_steps.specs.declared.step.Step.{Step}
 use Rattle.pas_plain.specs.declared.region.PlainRegion.{PlainRegion}

@@ -1,10 +1,10 @@
 //! Reading and writing whole texts.
-ghost use Rattle.std.specs.Prelude.{◌≡◌, ◌<◌, ◌≤◌, ℕ, List, Some, length, IfOk, OnOk, OnErr, IsErrOf};
+ghost use Rattle.std.specs.Prelude.{◌≡◌, ◌<◌, ◌≤◌, ℕ, List, Some, length, IfOk, OnOk, OnErr, IsErrOf, vec_len};
 ghost use Rattle.pas_top.specs.Told.{Fills, Rose, Writes, WritesFront};
 ghost use Rattle.pas_top.specs.Inputs.{IsInput, IsShort};
 
 use crate::io::{Failed, Sink, Source};
-use std::alloc::Global;
+use std::alloc::{AllocError, Global};
 
 /// Writes all the bytes, in as many calls as the sink wants. After a failure some first part of them was written.
 pub fn write_all<K: Sink>(sink: &mut K, bytes: &[u8]) -> Result<(), Failed>
@@ -64,7 +64,7 @@ pub fn read_all<S: Source>(alloc: Global, source: &mut S) -> Result<Input, Stop>
     ensures fault { IsErrOf result Stop.Fault → Rose (S.faults source.old) (S.faults source.new) }
     ensures memory { IsErrOf result Stop.Memory → source.new ≡ source.old }
 {
-    let Ok(mut buffer) = vec![in alloc; 0u8; MOST_BYTES + 1] else {
+    let Ok(mut buffer) = input_buffer(alloc) else {
         return Err(Stop::Memory);
     };
     match fill(source, &mut buffer) {
@@ -75,4 +75,11 @@ pub fn read_all<S: Source>(alloc: Global, source: &mut S) -> Result<Input, Stop>
         Ok(_) => Ok(Input::TooLong),
         Err(Failed) => Err(Stop::Fault),
     }
+}
+
+/// A buffer with one place more than an input may have bytes, so that a longer input shows.
+fn input_buffer(alloc: Global) -> Result<Vec<u8>, AllocError>
+    ensures { IfOk result (λ buffer. vec_len buffer ≡ 65537) }
+{
+    vec![in alloc; 0u8; MOST_BYTES + 1]
 }

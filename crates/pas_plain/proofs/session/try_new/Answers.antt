@@ -1,5 +1,5 @@
-use Rattle.std.proofs.Common.{◌≡◌, ◌+◌, ◌≤◌, All, List, [], length, sym, subst, arith}
-use Rattle.pas_plain.specs.Plain.{PassStands, passes_from}
+use Rattle.std.proofs.Common.{◌+◌, ◌≤◌, All, List, [], length, sym, subst, arith}
+use Rattle.pas_plain.specs.Plain.{PassStands}
 use Rattle.pas_plain.specs.declared.pass.PlainPass.{PlainPass}
 use Rattle.pas_plain.proofs.Passes.{passes_stand}
 use Rattle.pas_plain.proofs.session.try_new.Goals as goal

@@ -1,4 +1,3 @@
-use Rattle.std.proofs.Common.{arith}
 use Rattle.pas_steps.proofs.Ranged.{is_ranged}
 use Rattle.pas_steps.proofs.Targets.{target_of_region}
 use Rattle.pas_plain.specs.Plain.{profile_of}
