@@ -16,3 +16,4 @@ pub mod LineEnds
 pub mod NameFacts
 pub mod Plans
 pub mod Choosing
+pub mod Allocating
