@@ -17,3 +17,4 @@ pub mod NameFacts
 pub mod Plans
 pub mod Choosing
 pub mod Allocating
+pub mod Releasing
