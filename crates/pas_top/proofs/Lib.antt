@@ -17,3 +17,5 @@ pub mod NameFacts
 pub mod Plans
 pub mod Choosing
 pub mod Replayed
+pub mod Allocating
+pub mod Releasing

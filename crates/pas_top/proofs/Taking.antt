@@ -181,12 +181,12 @@ pub can_put_more : {σ σ1 : Standing} (g n m a o : ℕ) → IsShortRun σ.seat.
 can_put_more g n m a o run mask mask_too lt small put can = can_step (one_put g n m a run mask put) can (run.page, (words_of_page g n run).1, small) (λ v l stood met. may_put_more g n m a o v l run mask_too lt met)
 
 pub put_one : {σ σ1 : Standing} (g n m a : ℕ) → IsShortRun σ.seat.profile g n → IsMaskOf (g % 256) n (low_of g) m → Makes σ σ1 (Put (g / 256) (low_of g) m) a → IsPutBack σ σ1 g n
-put_one g n m a run mask put = record { steps = putting g (low_of g) m a; adds = one_put g n m a run mask put; puts = (tt, tt) }
+put_one g n m a run mask put = record { steps = putting g (low_of g) m a; adds = one_put g n m a run mask put; quiet = (tt, tt) }
 
 pub put_two : {σ σ1 σ2 : Standing} (g n m a o b : ℕ) → IsShortRun σ.seat.profile g n → IsMaskOf (g % 256) n (low_of g) m → IsMaskOf (g % 256) n (high_of g n) o → low_of g < high_of g n
     → Makes σ σ1 (Put (g / 256) (low_of g) m) a → Makes σ1 σ2 (Put (g / 256) (high_of g n) o) b → IsPutBack σ σ2 g n
 put_two g n m a o b run mask mask_too lt put more = record {
     steps = made (Put (g / 256) (high_of g n) o) b ∷ putting g (low_of g) m a;
     adds = adds_step (one_put g n m a run mask put) more (λ v l stood met. may_put_more g n m a o v l run mask_too lt met);
-    puts = (tt, (tt, tt));
+    quiet = (tt, (tt, tt));
   }

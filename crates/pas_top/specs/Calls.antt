@@ -31,7 +31,8 @@ Anything v l = Unit {0}
 abbrev pub HasRoom : Standing → ℕ → View → Type 0
 HasRoom desk n v = length (events_of desk.seat.actor v) + n ≤ desk.seat.room
 
--- ---- steps that make no event, and leave all deeds, rights and stamps as they are: looks at other words than deeds, and takes
+-- ---- steps that make no event, and leave all deeds, rights and stamps as they are: looks at other words than deeds,
+-- takes and puts
 abbrev pub IsNoDeed : Word → Type 0
 IsNoDeed Word.Epoch = Unit {0}
 IsNoDeed (Word.Free page word) = Unit {0}
@@ -48,7 +49,7 @@ IsQuiet (Look word) = IsNoDeed word
 IsQuiet (Deed page directory) = ⊥
 IsQuiet (Back page) = ⊥
 IsQuiet (Take page word mask) = Unit {0}
-IsQuiet (Put page word mask) = ⊥
+IsQuiet (Put page word mask) = Unit {0}
 IsQuiet (Give block) = ⊥
 IsQuiet (End name guess) = ⊥
 IsQuiet (Stamp page) = ⊥
@@ -104,25 +105,11 @@ pub record MayPut (g grains : ℕ) (v : View) (l : Whole) : Type 0 where
   pub held : (x : ℕ) → in_run g grains x ≡ true → holds v x ≡ true
   pub stamped : is_unstamped v (g / 256) ≡ false
 
-abbrev pub IsPut : Step → Type 0
-IsPut (Look word) = ⊥
-IsPut (Deed page directory) = ⊥
-IsPut (Back page) = ⊥
-IsPut (Take page word mask) = ⊥
-IsPut (Put page word mask) = Unit {0}
-IsPut (Give block) = ⊥
-IsPut (End name guess) = ⊥
-IsPut (Stamp page) = ⊥
-
-abbrev pub ArePuts : List Made → Type 0
-ArePuts [] = Unit {0}
-ArePuts (m ∷ ms) = IsPut m.step × ArePuts ms
-
 -- the run's grains were put back
 pub record Puts (desk desk' : Standing) (g grains : ℕ) : Type 0 where
   pub steps : List Made
   pub adds : Adds desk desk' (MayPut g grains) steps
-  pub puts : ArePuts steps
+  pub quiet : AreQuiet steps
 
 -- a run of grains of one page, which lies over two free words at most
 pub record IsShortRun (f : Profile) (g grains : ℕ) : Type 0 where
