@@ -1,6 +1,6 @@
 -- Runs as bits of words, and masks that share no bit.
-use Rattle.std.proofs.Common.{◌≡◌, ◌≢◌, ℕ, ◌+◌, ◌-◌, ◌*◌, ◌/◌, ◌%◌, ◌^◌, ◌<◌, ◌≤◌, ◌==◌, ◌⊎◌, ◌&&◌, ◌↔◌, IsTrue, not, min, Bool, true, false, List, length, slice_index, inl, inr, refl, ap, sym, ◌∙◌, arith, lit<, bit_and}
-use Rattle.std.specs.Int.{bit_at, w64, trailing_zeros}
+use Rattle.std.proofs.Common.{◌≡◌, ◌≢◌, ℕ, ◌+◌, ◌-◌, ◌*◌, ◌/◌, ◌%◌, ◌^◌, ◌<◌, ◌≤◌, ◌==◌, ◌⊎◌, ◌&&◌, ◌↔◌, IsTrue, not, min, Bool, true, false, length, slice_index, inl, inr, refl, ap, sym, ◌∙◌, arith, lit<, bit_and}
+use Rattle.std.specs.Int.{w64, trailing_zeros}
 use Rattle.std.proofs.Math.Nat.{pow-le-pow_right}
 use Rattle.std.proofs.lemmas.Bool.{cases_lt, and_parts}
 use Rattle.std.proofs.lemmas.Bool.Decides.{nat_tests}

@@ -1,4 +1,4 @@
-use Rattle.std.proofs.Common.{◌≡◌, ℕ, ◌<◌, ◌^◌, length, rules, slice_index}
+use Rattle.std.proofs.Common.{rules}
 use Rattle.pas_bits.proofs.Counts.{set_ones}
 use Rattle.pas_bits.proofs.mask.Mask4.count.Goals as goal
 

@@ -1,4 +1,4 @@
-use Rattle.std.proofs.Common.{◌≡◌, ◌≢◌, ℕ, ◌+◌, ◌-◌, ◌*◌, ◌/◌, ◌^◌, ◌<◌, ◌≤◌, slice_index, rules, refl, arith, subst}
+use Rattle.std.proofs.Common.{◌≡◌, ◌*◌, rules, refl, arith, subst}
 use Rattle.pas_bits.specs.Masks.{AreClear}
 use Rattle.pas_bits.proofs.Places.{lowest_is, lowest_fits, none_left}
 use Rattle.pas_bits.proofs.mask.Mask4.first_set_from.Goals as goal

@@ -1,4 +1,4 @@
-use Rattle.std.proofs.Common.{◌≡◌, ℕ, ◌<◌, ◌^◌, ◌*◌, length, slice_index, rules, arith, subst, refl}
+use Rattle.std.proofs.Common.{◌≡◌, ◌*◌, rules, arith, subst, refl}
 use Rattle.pas_bits.proofs.Runs.{ApartBelow, apart_more, not_apart, apart_whole}
 use Rattle.pas_bits.proofs.mask.Mask4.is_full.Goals as goal
 

@@ -1,4 +1,4 @@
-use Rattle.std.proofs.Common.{◌≡◌, ◌<◌, ◌^◌, length, arith}
+use Rattle.std.proofs.Common.{arith}
 use Rattle.pas_bits.proofs.Words.{after_set}
 use Rattle.pas_bits.proofs.mask.Mask4.set.Goals as goal
 
