@@ -83,3 +83,9 @@ pub count_le : (n : ℕ) (p : ℕ → Bool) → count_below n p ≤ n
 unfolding count_below
 count_le zero p = omega arith
 count_le (suc n) p = at_most (p n) (count_below n p) n (count_le n p)
+
+-- whatever counts in the same way gives the same count
+pub counts_alike : (other : ℕ → ℕ) (p : ℕ → Bool) → other 0 ≡ 0 → ((n : ℕ) → other (suc n) ≡ (if p n then suc (other n) else other n)) → (n : ℕ) → other n ≡ count_below n p
+unfolding count_below
+counts_alike other p none step zero = none
+counts_alike other p none step (suc n) = step n ∙ ap (λ m. if p n then suc m else m) (counts_alike other p none step n)

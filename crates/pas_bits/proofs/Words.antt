@@ -1,5 +1,5 @@
 -- Bits of words, and the words of a mask.
-use Rattle.std.proofs.Common.{◌≡◌, ◌≢◌, ℕ, ◌+◌, ◌-◌, ◌*◌, ◌/◌, ◌%◌, ◌^◌, ◌<◌, ◌≤◌, ◌==◌, ◌&&◌, ◌||◌, not, min, Bool, true, false, List, [], ◌∷◌, length, slice_index, slice_set, inl, inr, refl, ap, sym, ◌∙◌, arith, bit_and, bit_or, get_or-set_same, get_or-set_other}
+use Rattle.std.proofs.Common.{◌≡◌, ◌≢◌, ℕ, ◌+◌, ◌-◌, ◌*◌, ◌/◌, ◌%◌, ◌^◌, ◌<◌, ◌≤◌, ◌==◌, ◌&&◌, ◌||◌, not, min, Bool, true, false, List, [], ◌∷◌, length, slice_index, slice_set, inl, inr, refl, ap, sym, ◌∙◌, arith, bit_and, bit_or, get_or-set_same, get_or-set_other, ext_get_or}
 use Rattle.std.specs.Int.{bit_at, w64}
 use Rattle.std.proofs.lemmas.Bool.{eqb-true, eqb-false, eq-eqb, ne_eqb, cases_lt, cases_eq}
 use Rattle.std.proofs.lemmas.Bool.Decides.{nat_tests}
@@ -161,3 +161,11 @@ pub after_complement : (mask : Mask4) → WordsFit mask → (g : ℕ) → g < 25
 after_complement mask fits g h =
     four_words (2 ^ 64 - 1 - slice_index mask.0 0) (2 ^ 64 - 1 - slice_index mask.0 1) (2 ^ 64 - 1 - slice_index mask.0 2) (2 ^ 64 - 1 - slice_index mask.0 3) (λ x. not (is_set mask x))
     (λ x lt. other_bits mask 0 x fits lt) (λ x lt. other_bits mask 1 x fits lt) (λ x lt. other_bits mask 2 x fits lt) (λ x lt. other_bits mask 3 x fits lt) g h
+
+-- masks with the same bits are the same
+pub same_mask : (a b : Mask4) → length a.0 ≡ 4 → length b.0 ≡ 4 → WordsFit a → WordsFit b → ((g : ℕ) → g < 256 → is_set a g ≡ is_set b g) → a ≡ b
+same_mask a b long_a long_b fits_a fits_b same =
+    let words : a.0 ≡ b.0 = ext_get_or 0 a.0 b.0 (omega (arith, long_a, long_b)) (λ word h.
+    same_word (slice_index a.0 word) (slice_index b.0 word) (fits_a word) (fits_b word)
+    (λ x lt. sym (at_word a word x lt) ∙ same (64 * word + x) (omega (arith, h, lt, long_a)) ∙ at_word b word x lt)) in
+    ap (λ (w : List ℕ). let m : Mask4 = record { 0 = w } in m) words
