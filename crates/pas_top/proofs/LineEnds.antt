@@ -1,9 +1,9 @@
 -- Where a line ends, and what follows it. The last newline may be missing.
-use Rattle.std.proofs.Common.{◌≡◌, ℕ, ◌+◌, ◌<◌, ◌≤◌, List, [], ◌∷◌, ◌++◌, length, get_or, ◌⊎◌, inl, inr, refl, ap, sym, ◌∙◌, subst, arith, append_assoc, append-nil, length-append}
+use Rattle.std.proofs.Common.{◌≡◌, ℕ, List, [], ◌∷◌, ◌++◌, length, get_or, inl, inr, refl, ap, sym, ◌∙◌, subst, arith, append_assoc, append-nil, length-append}
 use Rattle.pas_top.specs.declared.plan.Operation.{Operation}
 use Rattle.pas_top.specs.declared.plan.Operation.TheVariants.{Allocate, Free}
-use Rattle.pas_top.specs.Forms.{newline, IsTextOf, operation_line, operations_text}
-use Rattle.pas_top.specs.Readings.{IsBreak, Reads, ReadsNone, EndsLine, EndsNoLine, ReadsLine, ReadsNoLine}
+use Rattle.pas_top.specs.Forms.{newline, IsTextOf, operations_text}
+use Rattle.pas_top.specs.Readings.{IsBreak, Reads, EndsLine, EndsNoLine, ReadsLine, ReadsNoLine}
 
 -- a text that holds a line and a newline begins with the line, even where the last newline is missing
 split_missing : (xs ys t : List ℕ) → xs ++ newline ≡ ys ++ (newline ++ t) → (r : List ℕ) × (xs ≡ ys ++ r) × (r ++ newline ≡ newline ++ t)

@@ -1,10 +1,8 @@
 -- Numbers as they are written, and where they end.
-use Rattle.std.proofs.Common.{◌≡◌, ℕ, ◌+◌, ◌*◌, ◌-◌, ◌^◌, ◌<◌, ◌≤◌, List, [], ◌∷◌, ◌++◌, length, get_or, take, zero, suc, refl, ap, sym, ◌∙◌, subst, arith, rules}
+use Rattle.std.proofs.Common.{◌≡◌, ℕ, ◌+◌, ◌*◌, ◌-◌, ◌^◌, ◌<◌, ◌≤◌, List, [], ◌∷◌, ◌++◌, length, get_or, take, zero, suc, refl, ap, sym, ◌∙◌, subst, arith}
 use Rattle.std.specs.Fmt.{decimal}
-use Rattle.std.specs.Int.{IsInRange}
 use Rattle.std.specs.Char.{digit_value}
 use Rattle.std.specs.Str.Parse.{AllDigits, digits_value}
-use Rattle.std.proofs.lemmas.List.{take_all}
 use Rattle.std.proofs.lemmas.Fmt.{digits_decimal, decimal_injective, decimal_nonempty, length-decimal-le, first_decimal, decimal_digit, decimal-digits_value}
 use Rattle.std.proofs.lemmas.Str.{digit_value_digit}
 use Rattle.std.proofs.lemmas.Str.Parse.{IsNumeralModel, numerals_by_value, tells_digits, digit_from_value, digit_at, digits_value_short, digits_value-take-le}
@@ -69,14 +67,8 @@ value_bound ds i all few =
 pub value_room : (ds : List ℕ) (i value : ℕ) → AllDigits 10 ds → length ds ≤ 9 → i < length ds → value ≡ digits_value 10 (take i ds) → value * 10 + (get_or ds i 0 - 48) < 1000000000
 value_room ds i value all few h is = let e = value_more ds i value all h is in let b = value_bound ds (i + 1) all few in omega (arith, e, b)
 
-pub value_all : (ds : List ℕ) (i : ℕ) → length ds ≤ i → digits_value 10 (take i ds) ≡ digits_value 10 ds
-value_all ds i h = ap (digits_value 10) (take_all i ds h)
-
 pub is_digit : (ds : List ℕ) (i : ℕ) → AllDigits 10 ds → i < length ds → 48 ≤ get_or ds i 0
 is_digit ds i all h = (digit_at ds i all h).0
-
-pub digits_all : (bytes : List ℕ) (n : ℕ) → length bytes ≤ n → AllDigits 10 (take n bytes) → AllDigits 10 bytes
-digits_all bytes n h all = subst (AllDigits 10) (take_all n bytes h) all
 
 -- what a numeral writes is read, and nothing else is
 pub reads_number : (bytes ds left : List ℕ) (value : ℕ) → bytes ≡ ds ++ left → AllDigits 10 ds → IsBreak left → IsNumeral ds → value ≡ digits_value 10 ds → Reads decimal IsShort bytes value left

@@ -1,10 +1,10 @@
 -- How far a trace is read, in both directions.
-use Rattle.std.proofs.Common.{◌≡◌, ℕ, ◌+◌, ◌<◌, ◌≤◌, true, false, List, [], ◌∷◌, ◌++◌, length, inl, inr, refl, ap, sym, ◌∙◌, subst, arith, append_assoc, append-nil, length-append}
+use Rattle.std.proofs.Common.{◌≡◌, ℕ, ◌+◌, ◌<◌, ◌≤◌, true, false, List, [], ◌∷◌, ◌++◌, length, inl, inr, refl, ap, sym, subst, arith, append_assoc, append-nil, length-append}
 use Rattle.pas_profile.specs.declared.profile.Profile.{Profile}
 use Rattle.pas_top.specs.declared.plan.Operation.{Operation}
 use Rattle.pas_top.specs.declared.plan.Operation.TheVariants.{Allocate, Free}
 use Rattle.pas_top.specs.declared.reading.names.Names.{Names}
-use Rattle.pas_top.specs.Forms.{newline, header_line, operation_line, operations_text, trace_text, AreFit, allocations, IsPlan, IsTextOf, Asks}
+use Rattle.pas_top.specs.Forms.{newline, header_line, operation_line, operations_text, AreFit, allocations, IsPlan, IsTextOf, Asks}
 use Rattle.pas_top.specs.Outputs.{IsUnasked}
 use Rattle.pas_top.specs.Readings.{IsRegion, IsWritten, ReadsLine, ReadsNoLine, EndsLine}
 use Rattle.pas_top.specs.NameTables.{Tells, MayCome, Judges}

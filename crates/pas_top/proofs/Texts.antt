@@ -1,5 +1,5 @@
 -- What the lines of a trace are made of, piece by piece.
-use Rattle.std.proofs.Common.{◌≡◌, ℕ, ◌<◌, ◌≤◌, List, [], ◌∷◌, ◌++◌, codes, get_or, refl, ap, sym, ◌∙◌, subst, arith, append_assoc}
+use Rattle.std.proofs.Common.{◌≡◌, ℕ, List, [], ◌∷◌, ◌++◌, codes, get_or, refl, ap, sym, ◌∙◌, arith, append_assoc}
 use Rattle.std.specs.Fmt.{decimal}
 use Rattle.std.proofs.lemmas.List.{append_cancel_left}
 use Rattle.pas_profile.specs.declared.profile.Profile.{Profile}
@@ -7,7 +7,7 @@ use Rattle.pas_profile.specs.Profiles.{IsValid}
 use Rattle.pas_top.specs.declared.plan.Operation.{Operation}
 use Rattle.pas_top.specs.declared.plan.Operation.TheVariants.{Allocate, Free}
 use Rattle.pas_top.specs.Forms.{header_line, operation_line}
-use Rattle.pas_top.specs.Readings.{IsBreak, Reads, ReadsNone, IsShort, IsRegion, IsWritten, IsAllocation, IsFree}
+use Rattle.pas_top.specs.Readings.{IsBreak, Reads, IsShort, IsRegion, IsWritten, IsAllocation, IsFree}
 use Rattle.pas_top.proofs.Numbers.{after_number}
 
 -- a header

@@ -46,6 +46,7 @@ abbrev pub IsWritten : Operation → Type 0
 IsWritten (Allocate name size align) = IsShort name × IsShort size × IsShort align
 IsWritten (Free name) = IsShort name
 
+-- such an operation that allocates, and one that frees
 abbrev pub IsAllocation : Operation → Type 0
 IsAllocation (Allocate name size align) = IsWritten (Allocate name size align)
 IsAllocation (Free name) = ⊥

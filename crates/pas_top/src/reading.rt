@@ -6,6 +6,8 @@ ghost use Rattle.pas_top.specs.Outputs.{IsUnasked};
 mod lines;
 mod names;
 mod pieces;
+#[cfg(test)]
+mod tests;
 
 use crate::plan::Plan;
 use lines::{header_line, operation_line};

@@ -1,7 +1,6 @@
-use Rattle.std.proofs.Common.{rules}
 use Rattle.pas_top.specs.Forms.{operation_line}
 use Rattle.pas_top.specs.Readings.{ReadsNone, IsAllocation}
-use Rattle.pas_top.proofs.Texts.{LeftOfName, LeftOfSize, allocation_name, allocation_size, size_next, align_next}
+use Rattle.pas_top.proofs.Texts.{allocation_name, allocation_size, size_next, align_next}
 use Rattle.pas_top.proofs.reading.lines.allocation.Goals as goal
 
 pub returns-in_err-left-2 : goal.returns-in_err-left-2

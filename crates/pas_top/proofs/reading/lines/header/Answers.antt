@@ -1,6 +1,5 @@
-use Rattle.std.proofs.Common.{rules, ◌≡◌, sym, subst}
+use Rattle.std.proofs.Common.{rules, subst}
 use Rattle.pas_profile.specs.Profiles.{IsValid}
-use Rattle.pas_profile.specs.declared.profile.Profile.{Profile}
 use Rattle.pas_top.specs.Forms.{header_line}
 use Rattle.pas_top.specs.Readings.{ReadsNone, IsRegion}
 use Rattle.pas_top.proofs.Texts.{header_first, header_pages, header_age, header_last, header_reads, region, region_is, region_kind}

@@ -1,4 +1,3 @@
-use Rattle.std.proofs.Common.{rules}
 use Rattle.pas_top.specs.Forms.{header_line}
 use Rattle.pas_top.specs.Readings.{ReadsNoLine, IsRegion}
 use Rattle.pas_top.proofs.Texts.{header_one}

@@ -1,4 +1,3 @@
-use Rattle.std.proofs.Common.{rules}
 use Rattle.pas_top.specs.Forms.{operation_line}
 use Rattle.pas_top.specs.Readings.{ReadsNoLine, IsWritten}
 use Rattle.pas_top.proofs.Texts.{operation_one}

@@ -1,4 +1,3 @@
-use Rattle.std.proofs.Common.{rules}
 use Rattle.std.proofs.lemmas.Int.Digits.{digits_more}
 use Rattle.pas_top.proofs.reading.pieces.digit_count.Goals as goal
 

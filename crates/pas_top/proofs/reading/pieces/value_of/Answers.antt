@@ -1,5 +1,5 @@
-use Rattle.std.proofs.Common.{rules, arith}
-use Rattle.pas_top.proofs.Numbers.{value_room, value_more, value_all, is_digit}
+use Rattle.std.proofs.Common.{arith}
+use Rattle.pas_top.proofs.Numbers.{value_room, value_more, is_digit}
 use Rattle.pas_top.proofs.reading.pieces.value_of.Goals as goal
 
 pub overflow_mul-value : goal.overflow_mul-value

@@ -1,4 +1,4 @@
-use Rattle.std.proofs.Common.{rules, ◌≡◌, true, refl, set}
+use Rattle.std.proofs.Common.{rules, refl}
 use Rattle.pas_top.specs.Readings.{IsRequest}
 use Rattle.pas_top.specs.NameTables.{IsNew}
 use Rattle.pas_top.proofs.NameFacts.{added}

@@ -1,4 +1,4 @@
-use Rattle.std.proofs.Common.{rules, ◌≡◌, false, refl}
+use Rattle.std.proofs.Common.{◌≡◌, false, refl}
 use Rattle.std.proofs.Math.ListN.{replicate}
 use Rattle.pas_top.proofs.NameFacts.{tells_nothing}
 use Rattle.pas_top.proofs.reading.names.Names.try_new.Goals as goal

@@ -1,0 +1,171 @@
+-- The lowest bits of a mask, and the lowest places of a run of set bits.
+use Rattle.std.proofs.Common.{◌≡◌, ◌≢◌, ℕ, ◌+◌, ◌-◌, ◌*◌, ◌/◌, ◌%◌, ◌^◌, ◌<◌, ◌≤◌, ◌==◌, not, min, Bool, true, false, refl, slice_index, Option, None, Some, MatchOption, inl, inr, ap, sym, ◌∙◌, arith}
+use Rattle.std.specs.Int.{bit_at, w64, trailing_zeros}
+use Rattle.std.proofs.lemmas.Bool.{cases_lt, cases_order}
+use Rattle.std.proofs.lemmas.Nat.{shr-shr, shr_le, div-add-mod', same_from_place, mod-mul-add}
+use Rattle.std.proofs.lemmas.Nat.Bits.{bit_at-trailing_zeros, bit_at_above}
+use Rattle.std.proofs.lemmas.Grind.{div_ceil_times}
+use Rattle.pas_profile.specs.Classes.{has_bit, class_grains, usable_grains, IsSlotStart}
+use Rattle.pas_bits.specs.declared.mask.Mask4.{Mask4}
+use Rattle.pas_bits.specs.Masks.{is_set, AreSet, AllSetBelow, AreClear, IsLowestSet, IsLowestClear, IsRunEnd, IsPlace, HasNoPlace, IsLowestPlace}
+use Rattle.pas_bits.proofs.Words.{is_one, is_zero, none_of_zero, by_word}
+use Rattle.pas_bits.proofs.Runs.{from_not}
+
+-- ---- the lowest set bit
+-- x is bit `x % 64 - low` of what is left of its word after a shift by `low`
+shifted : (mask : Mask4) (word low x : ℕ) → x / 64 ≡ word → low ≤ x % 64 → is_set mask x ≡ has_bit (slice_index mask.0 word / 2 ^ low) (x % 64 - low)
+shifted mask word low x at h =
+    let whole : x % 64 ≡ low + (x % 64 - low) = omega (arith, h) in
+    by_word mask word x at
+    ∙ ap (λ n. n == 1) (ap (λ i. slice_index mask.0 word / 2 ^ i % 2) whole ∙ ap (λ n. n % 2) (sym (shr-shr (slice_index mask.0 word) low (x % 64 - low))))
+
+-- a word that is left as 0 has no set bit from there on
+pub none_left : (mask : Mask4) (from word low : ℕ) → low ≡ from - 64 * word → slice_index mask.0 word / 2 ^ low ≡ 0 → AreClear mask from (64 * word) → AreClear mask from (64 * (word + 1))
+none_left mask from word low is nothing before x a b = elim (cases_lt x (64 * word)) [
+  | inl lt ↦ before x a lt
+  | inr ge ↦ shifted mask word low x (omega (arith, ge, b)) (omega (arith, is, a, ge, b)) ∙ ap (λ n. has_bit n (x % 64 - low)) nothing ∙ none_of_zero (x % 64 - low)
+]
+
+-- where a word isn't left as 0, its lowest bit there is within it
+pub lowest_fits : (mask : Mask4) (word low : ℕ) → low < 64 → slice_index mask.0 word < 2 ^ 64 → slice_index mask.0 word / 2 ^ low ≢ 0 → low + trailing_zeros w64 (slice_index mask.0 word / 2 ^ low) < 64
+lowest_fits mask word low within fits some =
+    let n = slice_index mask.0 word in
+    let s = shr_le (slice_index mask.0 word) low in
+    let t = bit_at-trailing_zeros w64 (slice_index mask.0 word / 2 ^ low) (omega (arith, some)) (omega (arith, s, fits)) in
+    let z = trailing_zeros w64 (slice_index mask.0 word / 2 ^ low) in
+    let one : bit_at (slice_index mask.0 word) (low + trailing_zeros w64 (slice_index mask.0 word / 2 ^ low)) ≡ 1
+    = ap (λ n. n % 2) (sym (shr-shr (slice_index mask.0 word) low (trailing_zeros w64 (slice_index mask.0 word / 2 ^ low)))) ∙ t.1 in
+    elim (cases_lt (low + trailing_zeros w64 (slice_index mask.0 word / 2 ^ low)) 64) [
+      | inl lt ↦ lt
+      | inr ge ↦ absurd (let a = bit_at_above (slice_index mask.0 word) 64 (low + trailing_zeros w64 (slice_index mask.0 word / 2 ^ low)) fits ge in omega (arith, a, one))
+    ]
+
+-- a bit of the word by its place `b`
+by_place : (mask : Mask4) (word b : ℕ) → b < 64 → (t : Bool) → has_bit (slice_index mask.0 word) b ≡ t → is_set mask (64 * word + b) ≡ t
+by_place mask word b h t is =
+    let at : (64 * word + b) / 64 ≡ word = omega (arith, h) in
+    let bit : (64 * word + b) % 64 ≡ b = omega (arith, h) in
+    by_word mask word (64 * word + b) at ∙ ap (has_bit (slice_index mask.0 word)) bit ∙ is
+
+pub lowest_is : (mask : Mask4) (from word low g : ℕ) → g ≡ 64 * word + low + trailing_zeros w64 (slice_index mask.0 word / 2 ^ low) → low ≡ from - 64 * word → from / 64 ≤ word → word < 4 → slice_index mask.0 word < 2 ^ 64
+    → slice_index mask.0 word / 2 ^ low ≢ 0 → AreClear mask from (64 * word) → IsLowestSet mask from g
+lowest_is mask from word low g at is began small fits some before =
+    let s = shr_le (slice_index mask.0 word) low in
+    let t = bit_at-trailing_zeros w64 (slice_index mask.0 word / 2 ^ low) (omega (arith, some)) (omega (arith, s, fits)) in
+    let z = trailing_zeros w64 (slice_index mask.0 word / 2 ^ low) in
+    let inside = lowest_fits mask word low (omega (arith, is, began)) fits some in
+    let one : bit_at (slice_index mask.0 word) (low + trailing_zeros w64 (slice_index mask.0 word / 2 ^ low)) ≡ 1
+    = ap (λ n. n % 2) (sym (shr-shr (slice_index mask.0 word) low (trailing_zeros w64 (slice_index mask.0 word / 2 ^ low)))) ∙ t.1 in
+    let g_is : g ≡ 64 * word + (low + trailing_zeros w64 (slice_index mask.0 word / 2 ^ low)) = omega (arith, at) in
+    record {
+      above = omega (arith, is, at);
+      within = omega (arith, inside, small, at);
+      set = ap (is_set mask) g_is
+          ∙ by_place mask word (low + trailing_zeros w64 (slice_index mask.0 word / 2 ^ low)) inside true (is_one (slice_index mask.0 word) (low + trailing_zeros w64 (slice_index mask.0 word / 2 ^ low)) one);
+      lowest = λ x a b. elim (cases_lt x (64 * word)) [
+        | inl lt ↦ before x a lt
+        | inr ge ↦ shifted mask word low x (omega (arith, ge, b, at, inside)) (omega (arith, is, a, ge, b, at, inside))
+            ∙ is_zero (slice_index mask.0 word / 2 ^ low) (x % 64 - low) (t.2 (x % 64 - low) (omega (arith, ge, b, at, inside, is, a)))
+      ];
+    }
+
+-- ---- the lowest clear bit, by the other bits of the mask
+abbrev pub AreOthers : Mask4 → Mask4 → Type 0
+AreOthers mask others = (g : ℕ) → g < 256 → is_set others g ≡ not (is_set mask g)
+
+set_where : (mask others : Mask4) (x : ℕ) → AreOthers mask others → x < 256 → is_set others x ≡ false → is_set mask x ≡ true
+set_where mask others x other h none = from_not (is_set others x) (is_set mask x) (other x h) none
+
+when_set : (s t : Bool) → s ≡ not t → s ≡ true → t ≡ false
+when_set s false h e = refl
+when_set s true h e = cc
+
+clear_where : (mask others : Mask4) (x : ℕ) → AreOthers mask others → x < 256 → is_set others x ≡ true → is_set mask x ≡ false
+clear_where mask others x other h one = when_set (is_set others x) (is_set mask x) (other x h) one
+
+pub lowest_clear : (mask others : Mask4) → AreOthers mask others → (r : Option ℕ) → MatchOption r (AreClear others 0 256) (λ g. IsLowestSet others 0 g) → MatchOption r (AllSetBelow mask 256) (λ g. IsLowestClear mask g)
+lowest_clear mask others other None bare = λ x h. set_where mask others x other h (bare x (omega arith) h)
+lowest_clear mask others other (Some g) low = record {
+  within = low.within;
+  clear = clear_where mask others g other low.within low.set;
+  lowest = λ x h. let lt = low.within in set_where mask others x other (omega (arith, h, lt)) (low.lowest x (omega arith) h);
+}
+
+-- ---- places
+multiple : (k g : ℕ) → g % k ≡ 0 → g ≡ g / k * k + 0
+multiple k g e = omega (arith, e, div-add-mod' g k)
+
+-- the next multiple is k away
+pub next_multiple : (k a b : ℕ) → a % k ≡ 0 → b % k ≡ 0 → a < b → a + k ≤ b
+next_multiple k a b ea eb lt = elim (cases_lt b (a + k)) [
+  | inl near ↦
+      let s = same_from_place (b / k) 0 (a / k) (b - a) k (omega (arith, lt, near)) (omega (arith, lt, near)) (omega (arith, multiple k a ea, multiple k b eb, lt)) in
+      let apart = s.1 in absurd (omega (arith, apart, lt))
+  | inr far ↦ far
+]
+
+-- the least multiple from a number on
+pub rounded : (set align up : ℕ) → 1 ≤ align → up ≡ set / align + min 1 (set % align) → (set ≤ up * align) × (up * align < set + align) × (up * align % align ≡ 0)
+rounded set align up h is =
+    let b = div_ceil_times set align h in
+    let same : up * align ≡ (set / align + min 1 (set % align)) * align = ap (λ n. n * align) is in
+    let whole : up * align ≡ up * align + 0 = omega arith in
+    (let le = b.0 in omega (arith, le, same), let lt = b.1 in omega (arith, lt, same), ap (λ n. n % align) whole ∙ mod-mul-add up align 0 h)
+
+-- no place below the number
+abbrev pub NoPlaceBelow : Mask4 → ℕ → ℕ → ℕ → ℕ → Type 0
+NoPlaceBelow mask n align end start = (h : ℕ) → h < start → IsPlace mask n align end h → ⊥
+
+-- a place's own first bit is set
+own : (mask : Mask4) (n align end h : ℕ) → 1 ≤ n → IsPlace mask n align end h → is_set mask h ≡ true
+own mask n align end h some place = place.set h (omega arith) (omega (arith, some))
+
+-- none where no bit is set from `start` on
+pub none_to : (mask : Mask4) (n align end start stop : ℕ) → 1 ≤ n → NoPlaceBelow mask n align end start → AreClear mask start stop → NoPlaceBelow mask n align end stop
+none_to mask n align end start stop some before bare h lt place = elim (cases_lt h start) [
+  | inl below ↦ before h below place
+  | inr ge ↦ let one = own mask n align end h some place in let none = bare h ge lt in absurd (cc)
+]
+
+-- none between the lowest set bit and the next multiple
+pub none_to_place : (mask : Mask4) (n align end start set place : ℕ) → 1 ≤ n → place % align ≡ 0 → place < set + align → NoPlaceBelow mask n align end start → IsLowestSet mask start set → NoPlaceBelow mask n align end place
+none_to_place mask n align end start set place some whole near before low h lt other = elim (cases_lt h set) [
+  | inl below ↦ none_to mask n align end start set some before low.lowest h below other
+  | inr ge ↦ let next = next_multiple align h place other.aligned whole lt in absurd (omega (arith, next, near, ge))
+]
+
+-- none at all where the lowest possible one ends too late
+pub none_within : (mask : Mask4) (n align end place : ℕ) → end < place + n → NoPlaceBelow mask n align end place → HasNoPlace mask n align end
+none_within mask n align end place late before h other = elim (cases_lt h place) [
+  | inl below ↦ before h below other
+  | inr ge ↦ let w = other.within in absurd (omega (arith, w, late, ge))
+]
+
+-- none up to the clear bit that ends a run that is too short
+pub none_past : (mask : Mask4) (n align end place stop : ℕ) → end ≤ 256 → place + n ≤ end → stop < place + n → NoPlaceBelow mask n align end place → IsRunEnd mask place stop → NoPlaceBelow mask n align end (stop + 1)
+none_past mask n align end place stop small within short before run h lt other = elim (cases_lt h place) [
+  | inl below ↦ before h below other
+  | inr ge ↦
+      let clear = run.clear (omega (arith, small, within, short)) in
+      let one = other.set stop (omega (arith, lt)) (omega (arith, ge, short)) in absurd (cc)
+]
+
+pub place_found : (mask : Mask4) (n align end place stop : ℕ) → place % align ≡ 0 → place + n ≤ end → place + n ≤ stop → NoPlaceBelow mask n align end place → IsRunEnd mask place stop → IsLowestPlace mask n align end place
+place_found mask n align end place stop whole within long before run = record {
+  place = record { aligned = whole; within = within; set = λ x a b. run.set x a (omega (arith, b, long)) };
+  lowest = before;
+}
+
+-- two lowest places are one
+pub same_lowest : (mask : Mask4) (n align end g h : ℕ) → IsLowestPlace mask n align end g → IsLowestPlace mask n align end h → g ≡ h
+same_lowest mask n align end g h a b = elim (cases_order g h) [
+  | inl same ↦ same
+  | inr other ↦ elim other [ inl lt ↦ absurd (b.lowest g lt a.place) | inr gt ↦ absurd (a.lowest h gt b.place) ]
+]
+
+-- ---- places of slots of a class
+pub slot_start : (mask : Mask4) (class g : ℕ) → IsPlace mask (class_grains class) (class_grains class) (usable_grains class) g → IsSlotStart class g
+slot_start mask class g place = record { aligned = place.aligned; within = place.within }
+
+pub slot_place : (mask : Mask4) (class g : ℕ) → IsSlotStart class g → AreSet mask g (class_grains class) → IsPlace mask (class_grains class) (class_grains class) (usable_grains class) g
+slot_place mask class g start set = record { aligned = start.aligned; within = start.within; set = set }

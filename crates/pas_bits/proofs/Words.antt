@@ -1,0 +1,171 @@
+-- Bits of words, and the words of a mask.
+use Rattle.std.proofs.Common.{◌≡◌, ◌≢◌, ℕ, ◌+◌, ◌-◌, ◌*◌, ◌/◌, ◌%◌, ◌^◌, ◌<◌, ◌≤◌, ◌==◌, ◌&&◌, ◌||◌, not, min, Bool, true, false, List, [], ◌∷◌, length, slice_index, slice_set, inl, inr, refl, ap, sym, ◌∙◌, arith, bit_and, bit_or, get_or-set_same, get_or-set_other, ext_get_or}
+use Rattle.std.specs.Int.{bit_at, w64}
+use Rattle.std.proofs.lemmas.Bool.{eqb-true, eqb-false, eq-eqb, ne_eqb, cases_lt, cases_eq}
+use Rattle.std.proofs.lemmas.Bool.Decides.{nat_tests}
+use Rattle.std.proofs.lemmas.List.{get_or_past}
+use Rattle.std.proofs.lemmas.Nat.Bits.{bit_at-lt, bit_at-zero, bit_at_and, bit_at_not, bit_at_set_same, bit_at_set_other, bit_at_clear_same, bit_at_clear_other, same_from_bits_below}
+use Rattle.pas_profile.specs.Classes.{has_bit}
+use Rattle.pas_bits.specs.declared.mask.Mask4.{Mask4}
+use Rattle.pas_bits.specs.Masks.{is_set}
+
+-- ---- bits as numbers and as tests
+pub bit_one : (n b : ℕ) → has_bit n b ≡ true → bit_at n b ≡ 1
+bit_one n b h = eqb-true (bit_at n b) 1 h
+
+pub bit_zero : (n b : ℕ) → has_bit n b ≡ false → bit_at n b ≡ 0
+bit_zero n b h = let lt = bit_at-lt n b in let ne = eqb-false (bit_at n b) 1 h in omega (arith, lt, ne)
+
+pub is_one : (n b : ℕ) → bit_at n b ≡ 1 → has_bit n b ≡ true
+is_one n b h = ap (λ x. x == 1) h
+
+pub is_zero : (n b : ℕ) → bit_at n b ≡ 0 → has_bit n b ≡ false
+is_zero n b h = ap (λ x. x == 1) h
+
+pub none_of_zero : (b : ℕ) → has_bit 0 b ≡ false
+none_of_zero b = is_zero 0 b (bit_at-zero b)
+
+same_tests : (x y : ℕ) → x < 2 → y < 2 → (x == 1) ≡ (y == 1) → x ≡ y
+same_tests x y hx hy h = grind (arith, nat_tests)
+
+-- words with the same bits are the same
+pub same_word : (m n : ℕ) → m < 2 ^ 64 → n < 2 ^ 64 → ((b : ℕ) → b < 64 → has_bit m b ≡ has_bit n b) → m ≡ n
+same_word m n hm hn h = same_from_bits_below 64 m n hm hn (λ b lt. same_tests (bit_at m b) (bit_at n b) (bit_at-lt m b) (bit_at-lt n b) (h b lt))
+
+not_test : (x : ℕ) → x < 2 → (1 - x == 1) ≡ not (x == 1)
+not_test x h = grind (arith, nat_tests)
+
+-- the other bits of a word
+pub bit_of_not : (n b : ℕ) → n < 2 ^ 64 → b < 64 → has_bit (2 ^ 64 - 1 - n) b ≡ not (has_bit n b)
+bit_of_not n b fits h = ap (λ x. x == 1) (bit_at_not w64 n b fits h) ∙ not_test (bit_at n b) (bit_at-lt n b)
+
+min_test : (x y : ℕ) → x < 2 → y < 2 → (min x y == 1) ≡ ((x == 1) && (y == 1))
+min_test x y hx hy = grind (arith, nat_tests)
+
+-- the bits that two words share
+pub bit_of_and : (m n b : ℕ) → has_bit (bit_and m n) b ≡ (has_bit m b && has_bit n b)
+bit_of_and m n b = ap (λ x. x == 1) (bit_at_and m n b) ∙ min_test (bit_at m b) (bit_at n b) (bit_at-lt m b) (bit_at-lt n b)
+
+-- ---- the words of a mask
+pub by_word : (mask : Mask4) (word x : ℕ) → x / 64 ≡ word → is_set mask x ≡ has_bit (slice_index mask.0 word) (x % 64)
+by_word mask word x at = ap (λ w. has_bit (slice_index mask.0 w) (x % 64)) at
+
+-- bit b of a word of the mask
+pub at_word : (mask : Mask4) (word b : ℕ) → b < 64 → is_set mask (64 * word + b) ≡ has_bit (slice_index mask.0 word) b
+at_word mask word b h =
+    by_word mask word (64 * word + b) (omega (arith, h)) ∙ ap (has_bit (slice_index mask.0 word)) (omega (arith, h))
+
+-- a mask has no bit from 256 on
+pub none_past : (mask : Mask4) (x : ℕ) → length mask.0 ≡ 4 → 256 ≤ x → is_set mask x ≡ false
+none_past mask x long h = ap (λ n. has_bit n (x % 64)) (get_or_past mask.0 (x / 64) 0 (omega (arith, long, h))) ∙ none_of_zero (x % 64)
+
+pub set_within : (mask : Mask4) (x : ℕ) → length mask.0 ≡ 4 → is_set mask x ≡ true → x < 256
+set_within mask x long h = elim (cases_lt x 256) [ inl lt ↦ lt | inr ge ↦ let no_bit = none_past mask x long ge in absurd (cc) ]
+
+-- ---- the numbers of four words that are written out, word by word
+pub four_words : (a b c d : ℕ) (P : ℕ → Bool) → ((x : ℕ) → x < 64 → has_bit a x ≡ P (0 + x)) → ((x : ℕ) → x < 64 → has_bit b x ≡ P (64 + x)) → ((x : ℕ) → x < 64 → has_bit c x ≡ P (128 + x))
+    → ((x : ℕ) → x < 64 → has_bit d x ≡ P (192 + x)) → (g : ℕ) → g < 256 → has_bit (slice_index (a ∷ b ∷ c ∷ d ∷ []) (g / 64)) (g % 64) ≡ P g
+four_words a b c d P ha hb hc hd g h =
+    let bit : g % 64 < 64 = omega arith in
+    elim (cases_lt g 64) [
+      | inl lt ↦ let word : g / 64 ≡ 0 = omega (arith, lt) in let whole : 0 + g % 64 ≡ g = omega (arith, lt) in
+          ap (λ w. has_bit (slice_index (a ∷ b ∷ c ∷ d ∷ []) w) (g % 64)) word ∙ ha (g % 64) bit ∙ ap P whole
+      | inr ge ↦ elim (cases_lt g 128) [
+        | inl lt ↦ let word : g / 64 ≡ 1 = omega (arith, lt, ge) in let whole : 64 + g % 64 ≡ g = omega (arith, lt, ge) in
+            ap (λ w. has_bit (slice_index (a ∷ b ∷ c ∷ d ∷ []) w) (g % 64)) word ∙ hb (g % 64) bit ∙ ap P whole
+        | inr past ↦ elim (cases_lt g 192) [
+          | inl lt ↦ let word : g / 64 ≡ 2 = omega (arith, lt, past) in let whole : 128 + g % 64 ≡ g = omega (arith, lt, past) in
+              ap (λ w. has_bit (slice_index (a ∷ b ∷ c ∷ d ∷ []) w) (g % 64)) word ∙ hc (g % 64) bit ∙ ap P whole
+          | inr last ↦ let word : g / 64 ≡ 3 = omega (arith, h, last) in let whole : 192 + g % 64 ≡ g = omega (arith, h, last) in
+              ap (λ w. has_bit (slice_index (a ∷ b ∷ c ∷ d ∷ []) w) (g % 64)) word ∙ hd (g % 64) bit ∙ ap P whole
+        ]
+      ]
+    ]
+
+-- ---- one bit set or cleared
+true_or : (s t : Bool) → s ≡ true → true ≡ (s || t)
+true_or true t h = refl
+true_or false t h = cc
+
+false_or : (s t : Bool) → s ≡ false → t ≡ (s || t)
+false_or false t h = refl
+false_or true t h = cc
+
+not_true_and : (s t : Bool) → s ≡ true → false ≡ (not s && t)
+not_true_and true t h = refl
+not_true_and false t h = cc
+
+not_false_and : (s t : Bool) → s ≡ false → t ≡ (not s && t)
+not_false_and false t h = refl
+not_false_and true t h = cc
+
+-- another number has another word or another place in its word
+other_place : (g h : ℕ) → g / 64 ≡ h / 64 → g % 64 ≢ h % 64 → (g == h) ≡ false
+other_place g h word place = ne_eqb g h (λ e. place (ap (λ n. n % 64) e))
+
+other_word : (g h : ℕ) → g / 64 ≢ h / 64 → (g == h) ≡ false
+other_word g h word = ne_eqb g h (λ e. word (ap (λ n. n / 64) e))
+
+same_place : (g h : ℕ) → g / 64 ≡ h / 64 → g % 64 ≡ h % 64 → (g == h) ≡ true
+same_place g h word place = eq-eqb g h (omega (arith, word, place))
+
+-- a mask whose word of `grain` is another has the bits of that word there, and its own elsewhere
+replaced_same : (words : List ℕ) (word n w b : ℕ) → word < length words → w ≡ word → has_bit (slice_index (slice_set words word n) w) b ≡ has_bit n b
+replaced_same words word n w b h e = ap (λ i. has_bit (slice_index (slice_set words word n) i) b) e ∙ ap (λ m. has_bit m b) (get_or-set_same words word n 0 h)
+
+replaced_other : (words : List ℕ) (word n w b : ℕ) → w ≢ word → has_bit (slice_index (slice_set words word n) w) b ≡ has_bit (slice_index words w) b
+replaced_other words word n w b ne = ap (λ m. has_bit m b) (get_or-set_other words word w n 0 ne)
+
+abbrev one_set : ℕ → ℕ → ℕ
+one_set n k = bit_or n (1 * 2 ^ k % 2 ^ 64)
+
+abbrev one_cleared : ℕ → ℕ → ℕ
+one_cleared n k = bit_and n (2 ^ 64 - 1 - 1 * 2 ^ k % 2 ^ 64)
+
+pub after_set : (words : List ℕ) (grain : ℕ) → length words ≡ 4 → grain < 256 → (g : ℕ)
+    → has_bit (slice_index (slice_set words (grain / 64) (one_set (slice_index words (grain / 64)) (grain % 64))) (g / 64)) (g % 64) ≡ ((g == grain) || has_bit (slice_index words (g / 64)) (g % 64))
+after_set words grain long h g = elim (cases_eq (g / 64) (grain / 64)) [
+  | inl word ↦ replaced_same words (grain / 64) (one_set (slice_index words (grain / 64)) (grain % 64)) (g / 64) (g % 64) (omega (arith, long, h)) word
+      ∙ elim (cases_eq (g % 64) (grain % 64)) [
+        | inl place ↦ ap (has_bit (one_set (slice_index words (grain / 64)) (grain % 64))) place ∙ is_one (one_set (slice_index words (grain / 64)) (grain % 64)) (grain % 64) (bit_at_set_same w64 (slice_index words (grain / 64)) (grain % 64) (omega arith))
+            ∙ true_or (g == grain) (has_bit (slice_index words (g / 64)) (g % 64)) (same_place g grain word place)
+        | inr place ↦ ap (λ x. x == 1) (bit_at_set_other w64 (slice_index words (grain / 64)) (grain % 64) (omega arith) (g % 64) place)
+            ∙ ap (λ w. has_bit (slice_index words w) (g % 64)) (sym word) ∙ false_or (g == grain) (has_bit (slice_index words (g / 64)) (g % 64)) (other_place g grain word place)
+      ]
+  | inr word ↦ replaced_other words (grain / 64) (one_set (slice_index words (grain / 64)) (grain % 64)) (g / 64) (g % 64) word ∙ false_or (g == grain) (has_bit (slice_index words (g / 64)) (g % 64)) (other_word g grain word)
+]
+
+pub after_clear : (words : List ℕ) (grain : ℕ) → length words ≡ 4 → grain < 256 → (g : ℕ)
+    → has_bit (slice_index (slice_set words (grain / 64) (one_cleared (slice_index words (grain / 64)) (grain % 64))) (g / 64)) (g % 64) ≡ (not (g == grain) && has_bit (slice_index words (g / 64)) (g % 64))
+after_clear words grain long h g = elim (cases_eq (g / 64) (grain / 64)) [
+  | inl word ↦ replaced_same words (grain / 64) (one_cleared (slice_index words (grain / 64)) (grain % 64)) (g / 64) (g % 64) (omega (arith, long, h)) word
+      ∙ elim (cases_eq (g % 64) (grain % 64)) [
+        | inl place ↦ ap (has_bit (one_cleared (slice_index words (grain / 64)) (grain % 64))) place ∙ is_zero (one_cleared (slice_index words (grain / 64)) (grain % 64)) (grain % 64) (bit_at_clear_same w64 (slice_index words (grain / 64)) (grain % 64) (omega arith))
+            ∙ not_true_and (g == grain) (has_bit (slice_index words (g / 64)) (g % 64)) (same_place g grain word place)
+        | inr place ↦ ap (λ x. x == 1) (bit_at_clear_other w64 (slice_index words (grain / 64)) (grain % 64) (omega arith) (g % 64) (omega arith) place)
+            ∙ ap (λ w. has_bit (slice_index words w) (g % 64)) (sym word) ∙ not_false_and (g == grain) (has_bit (slice_index words (g / 64)) (g % 64)) (other_place g grain word place)
+      ]
+  | inr word ↦ replaced_other words (grain / 64) (one_cleared (slice_index words (grain / 64)) (grain % 64)) (g / 64) (g % 64) word ∙ not_false_and (g == grain) (has_bit (slice_index words (g / 64)) (g % 64)) (other_word g grain word)
+]
+
+-- ---- all other bits
+-- each word of the mask fits
+abbrev pub WordsFit : Mask4 → Type 0
+WordsFit mask = (word : ℕ) → slice_index mask.0 word < 2 ^ 64
+
+other_bits : (mask : Mask4) (word b : ℕ) → WordsFit mask → b < 64 → has_bit (2 ^ 64 - 1 - slice_index mask.0 word) b ≡ not (is_set mask (64 * word + b))
+other_bits mask word b fits h = bit_of_not (slice_index mask.0 word) b (fits word) h ∙ ap not (sym (at_word mask word b h))
+
+pub after_complement : (mask : Mask4) → WordsFit mask → (g : ℕ) → g < 256
+    → has_bit (slice_index ((2 ^ 64 - 1 - slice_index mask.0 0) ∷ (2 ^ 64 - 1 - slice_index mask.0 1) ∷ (2 ^ 64 - 1 - slice_index mask.0 2) ∷ (2 ^ 64 - 1 - slice_index mask.0 3) ∷ []) (g / 64)) (g % 64) ≡ not (is_set mask g)
+after_complement mask fits g h =
+    four_words (2 ^ 64 - 1 - slice_index mask.0 0) (2 ^ 64 - 1 - slice_index mask.0 1) (2 ^ 64 - 1 - slice_index mask.0 2) (2 ^ 64 - 1 - slice_index mask.0 3) (λ x. not (is_set mask x))
+    (λ x lt. other_bits mask 0 x fits lt) (λ x lt. other_bits mask 1 x fits lt) (λ x lt. other_bits mask 2 x fits lt) (λ x lt. other_bits mask 3 x fits lt) g h
+
+-- masks with the same bits are the same
+pub same_mask : (a b : Mask4) → length a.0 ≡ 4 → length b.0 ≡ 4 → WordsFit a → WordsFit b → ((g : ℕ) → g < 256 → is_set a g ≡ is_set b g) → a ≡ b
+same_mask a b long_a long_b fits_a fits_b same =
+    let words : a.0 ≡ b.0 = ext_get_or 0 a.0 b.0 (omega (arith, long_a, long_b)) (λ word h.
+    same_word (slice_index a.0 word) (slice_index b.0 word) (fits_a word) (fits_b word)
+    (λ x lt. sym (at_word a word x lt) ∙ same (64 * word + x) (omega (arith, h, lt, long_a)) ∙ at_word b word x lt)) in
+    ap (λ (w : List ℕ). let m : Mask4 = record { 0 = w } in m) words

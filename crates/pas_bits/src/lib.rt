@@ -1,0 +1,13 @@
+//! Masks of 256 bits: one bit for each grain of a page.
+//!
+//! Bit g is bit `g % 64` of word `g / 64`. A mask is the set of the numbers below 256 whose bits are set, and each call says what
+//! it does to that set, or which of its members it finds. No call refuses, and none allocates.
+#![tactic(auto)]
+
+pub mod mask;
+pub mod run;
+pub mod search;
+#[cfg(test)]
+mod tests;
+
+pub use mask::Mask4;

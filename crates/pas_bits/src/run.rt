@@ -1,0 +1,66 @@
+//! Runs of grains as masks, and what masks have in common.
+ghost use Rattle.std.specs.Prelude.{◌≡◌, ℕ, ◌+◌, ◌-◌, ◌*◌, ◌^◌, ◌<◌, ◌≤◌, ◌↔◌, IsTrue, true, false};
+ghost use Rattle.pas_profile.specs.Classes.{has_bit};
+ghost use Rattle.pas_bits.specs.Masks.{is_set, in_run, AreSet, AreApart};
+
+use crate::mask::Mask4;
+
+/// The number whose lowest so many bits are set, at most 64.
+fn ones(bits: u16) -> u64
+    requires { bits ≤ 64 }
+    ensures { result ≡ 2 ^ bits - 1 }
+{
+    if bits == 0 {
+        0
+    } else {
+        u64::MAX >> (64 - bits)
+    }
+}
+
+/// The bits of a word (0 to 3) whose grains are of the run of so many grains from the first on.
+fn run_word(word: u8, first: u8, grains: u16) -> u64
+    requires word { word < 4 }
+    requires within { first + grains ≤ 256 }
+    ensures { (b : ℕ) → b < 64 → has_bit result b ≡ in_run first grains (64 * word + b) }
+{
+    let base = 64 * word as u16;
+    let low = (first as u16).saturating_sub(base).min(64);
+    let high = (first as u16 + grains).saturating_sub(base).min(64);
+    ones(high) - ones(low)
+}
+
+impl Mask4 {
+    /// The mask of exactly the run of so many grains from the first on. The run ends within the page: `first + grains` is at most 256.
+    pub fn run(first: u8, grains: u16) -> Mask4
+        requires { first + grains ≤ 256 }
+        ensures { (g : ℕ) → is_set result g ≡ in_run first grains g }
+    {
+        Mask4([
+            run_word(0, first, grains),
+            run_word(1, first, grains),
+            run_word(2, first, grains),
+            run_word(3, first, grains),
+        ])
+    }
+
+    /// Whether all bits of the run of so many grains from the first on are set. The run ends within the page: `first + grains` is at
+    /// most 256. Compares four words.
+    pub fn has_run(&self, first: u8, grains: u16) -> bool
+        requires { first + grains ≤ 256 }
+        ensures { IsTrue result ↔ AreSet self.now first grains }
+    {
+        self.complement().is_full(&Mask4::run(first, grains))
+    }
+
+    /// Whether a page with these free grains is full: no bit of the usable ones is set. Compares at most four words.
+    pub fn is_full(&self, usable: &Mask4) -> bool
+        ensures { IsTrue result ↔ AreApart self.now usable.now }
+    {
+        for word in 0..4usize {
+            if self.0[word] & usable.0[word] != 0 {
+                return false;
+            }
+        }
+        true
+    }
+}
