@@ -18,3 +18,4 @@ pub mod Plans
 pub mod Choosing
 pub mod Allocating
 pub mod Releasing
+pub mod Serving
