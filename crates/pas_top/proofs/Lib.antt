@@ -19,3 +19,4 @@ pub mod Choosing
 pub mod Allocating
 pub mod Releasing
 pub mod Serving
+pub mod Ordering
