@@ -19,3 +19,5 @@ pub mod Choosing
 pub mod Replayed
 pub mod Allocating
 pub mod Releasing
+pub mod Serving
+pub mod Ordering

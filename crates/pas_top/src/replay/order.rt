@@ -2,6 +2,7 @@
 ghost use Rattle.std.specs.Prelude.{◌≡◌, ◌<◌, ◌≤◌, ◌*◌, ◌^◌, true, length, [], List};
 ghost use Rattle.std.specs.Result.{OnOk};
 ghost use Rattle.pas_profile.specs.Classes.{IsAlignment};
+ghost use Rattle.pas_profile.specs.Profiles.{IsValid};
 ghost use Rattle.pas_profile.specs.Routes.{route_of};
 ghost use Rattle.pas_steps.specs.Views.{View};
 ghost use Rattle.pas_steps.specs.Lists.{Whole};
@@ -45,8 +46,7 @@ fn serve<D: Desk>(desk: &mut D, ledger: &mut Ledger, name: u32, size: u32, align
     requires align { IsAlignment align }
     requires route { IsClassRoute (route_of size align) }
     requires pages { length (classes_of ledger.old) < (D.standing desk.old).seat.profile.pages }
-    requires few { (D.standing desk.old).seat.profile.pages ≤ 4096 }
-    requires heap { 1 ≤ (D.standing desk.old).seat.profile.heaps }
+    requires valid { IsValid (D.standing desk.old).seat.profile }
     requires limit { (D.standing desk.old).seat.room < 2 ^ 32 }
     requires can { CanCall (D.standing desk.old) (MayAllocate (D.standing desk.old) (classes_of ledger.old)) }
     ensures serves { OnOk result (Serves (D.standing desk.old) (D.standing desk.new) ledger.old ledger.new name size align) }
