@@ -74,10 +74,10 @@ can_place finds is pages is_class can = can_call (searched finds) can (λ v l st
 -- ---- what placing leaves: the list below it is `qs`
 rest_placed : (k : ℕ) (block : Block) (g a life gave : ℕ) (qs : List Made) (classes : List ℕ) (v : View) (l : Whole) → AtRest classes (qs ++ v) (triples k qs ++ l) → AtRest classes (placing block g a life gave qs ++ v) (triples k (placing block g a life gave qs) ++ l)
 rest_placed k block g a life gave qs classes v l was = record {
-    opened = λ page low high. let o = was.opened page low high in record { is_class = o.is_class; right = o.right; known = o.known; word = o.word };
-    bare = λ page above. was.bare page above;
-    stamped = λ page. was.stamped page;
-  }
+  opened = λ page low high. let o = was.opened page low high in record { is_class = o.is_class; right = o.right; known = o.known; word = o.word };
+  bare = λ page above. was.bare page above;
+  stamped = λ page. was.stamped page;
+}
 
 back_ready : (z : Bool) (k p class : ℕ) (es : List Event) → MakeReady (class_directory class) es → MakeReady (class_directory class) (with_event (if z then Some (Event.Back k p) else None) es)
 back_ready true k p class es ready = ready
@@ -187,7 +187,7 @@ rest_more classes class a k w m is first rest =
     let n : length (classes ++ class ∷ []) ≡ length classes + 1 = length-append classes (class ∷ []) in
     record {
       opened = λ p low high. elim (cases_lt (length classes) p) [
-          inl above ↦
+        | inl above ↦
             let at : p ≡ next_page classes = omega (arith, n, high, above) in
             let last : slice_index (classes ++ class ∷ []) (p - 1) ≡ class = ap (λ i. slice_index (classes ++ class ∷ []) i) (omega (arith, at)) ∙ get_or-append_seam classes class [] 0 in
             subst (IsOpen (deeding classes class a ∷ w) (triple k (deeding classes class a) ∷ m) p) (sym last) (new_open classes class a k p w m at is first (rest.bare (next_page classes) (omega arith)))
@@ -196,12 +196,12 @@ rest_more classes class a k w m is first rest =
             let same : slice_index (classes ++ class ∷ []) (p - 1) ≡ slice_index classes (p - 1) = get_or-append classes (class ∷ []) 0 (p - 1) (omega (arith, low, old)) in
             let ne : next_page classes ≡ p → ⊥ = λ e. omega (arith, e, old) in
             subst (IsOpen (deeding classes class a ∷ w) (triple k (deeding classes class a) ∷ m) p) (sym same) (record {
-                is_class = o.is_class;
-                right = right_stays (Deed (next_page classes) (class_directory class)) a p (has_right w p) o.right;
-                known = ap (λ x. if x then (if a == 0 then deed_word_of (class_directory class) else a) else known_deed w p) (ne_eqb (next_page classes) p ne) ∙ o.known;
-                word = other_page classes class a k p m ne ∙ o.word;
-              })
-        ];
+              is_class = o.is_class;
+              right = right_stays (Deed (next_page classes) (class_directory class)) a p (has_right w p) o.right;
+              known = ap (λ x. if x then (if a == 0 then deed_word_of (class_directory class) else a) else known_deed w p) (ne_eqb (next_page classes) p ne) ∙ o.known;
+              word = other_page classes class a k p m ne ∙ o.word;
+            })
+      ];
       bare = λ p above. other_page classes class a k p m (λ e. omega (arith, e, n, above)) ∙ rest.bare p (omega (arith, n, above));
       stamped = λ p. rest.stamped p;
     }

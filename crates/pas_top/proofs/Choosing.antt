@@ -81,16 +81,16 @@ found_slot {f} {classes} {v} {l} {class} {g} pages is rest found =
 
 pub found_lowest : {f : Profile} {classes : List ℕ} {v : View} {l : Whole} {class g : ℕ} → length classes ≤ f.pages → IsClass class → AtRest classes v l → IsFound l classes class g → IsLowestSlot f l class g
 found_lowest {f} {classes} {v} {l} {class} {g} pages is rest found = record {
-    slot = found_slot pages is rest found;
-    lowest = λ h below slot.
-        let d = deeded rest slot in
-        let p = slot.page in
-        let low = p.0 in
-        elim (cases_lt (h / 256) (g / 256)) [
-            inl lt ↦ found.lowest (h / 256) (h % 256) low lt d.1 (on_page h is slot)
-          | inr ge ↦ let same : h / 256 ≡ g / 256 = omega (arith, below, ge) in found.slot.lowest (h % 256) (omega (arith, below, same)) (subst (λ q. IsFreeSlotIn (free_words l q) class (h % 256)) same (on_page h is slot))
-          ];
-  }
+  slot = found_slot pages is rest found;
+  lowest = λ h below slot.
+      let d = deeded rest slot in
+      let p = slot.page in
+      let low = p.0 in
+      elim (cases_lt (h / 256) (g / 256)) [
+        | inl lt ↦ found.lowest (h / 256) (h % 256) low lt d.1 (on_page h is slot)
+        | inr ge ↦ let same : h / 256 ≡ g / 256 = omega (arith, below, ge) in found.slot.lowest (h % 256) (omega (arith, below, same)) (subst (λ q. IsFreeSlotIn (free_words l q) class (h % 256)) same (on_page h is slot))
+      ];
+}
 
 -- ---- or none
 pub none_free : {f : Profile} {classes : List ℕ} {v : View} {l : Whole} {class : ℕ} → IsClass class → AtRest classes v l → NoneBelow l classes class (length classes + 1) → (h : ℕ) → IsFreeSlot f l class h → ⊥

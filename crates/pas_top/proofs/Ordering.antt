@@ -58,8 +58,14 @@ start {σ} {ledger} operations fresh plan room classes none =
     let n : length (classes_of ledger) ≡ 0 = ap (λ cs. length cs) classes in
     record {
       seat = refl;
-      earlier = []; fit = plan.fit; names = []; table = none; known = λ n bad. let b : false ≡ true = bad in absurd cc;
-      view = []; whole = []; stood = fresh;
+      earlier = [];
+      fit = plan.fit;
+      names = [];
+      table = none;
+      known = λ n bad. let b : false ≡ true = bad in absurd cc;
+      view = [];
+      whole = [];
+      stood = fresh;
       at_rest = record { opened = λ page low high. absurd (omega (arith, n, low, high)); bare = λ page above. refl; stamped = λ page. refl };
       few = let few = plan.few in omega (arith, few, n);
       room = omega (arith, room);
@@ -71,9 +77,9 @@ start {σ} {ledger} operations fresh plan room classes none =
 -- ---- before an operation
 pub may_allocate : {σ σ' : Standing} {operations rest : List Operation} {ledger : Ledger} {name size align : ℕ} (far : SoFar σ σ' operations (Allocate name size align ∷ rest) ledger) → MayAllocate σ' (classes_of ledger) far.view far.whole
 may_allocate far = record {
-    room = let room = far.room in subst (λ s. length (events_of s.actor far.view) + 3 ≤ s.room) (sym far.seat) (omega (arith, room));
-    rest = far.at_rest;
-  }
+  room = let room = far.room in subst (λ s. length (events_of s.actor far.view) + 3 ≤ s.room) (sym far.seat) (omega (arith, room));
+  rest = far.at_rest;
+}
 
 pub can_serve : {σ σ' : Standing} {operations rest : List Operation} {ledger : Ledger} {name size align : ℕ} → SoFar σ σ' operations (Allocate name size align ∷ rest) ledger → CanCall σ' (MayAllocate σ' (classes_of ledger))
 can_serve far = record { view = far.view; whole = far.whole; stood = far.stood; met = may_allocate far }
@@ -127,9 +133,9 @@ run_after f k steps l valid legal = subst (Run f) (visible_split k steps l) (run
 
 kept : (f : Profile) (k : ℕ) (steps : List Made) (l : Whole) (block : Block) → IsValid f → Legal f (triples k steps ++ l) → IsGiven f l block → IsGiven f (triples k steps ++ l) block
 kept f k steps l block valid legal was = record {
-    slot = was.slot;
-    given = subst (λ es. WasGiven es block) (sym (visible_split k steps l)) (given_kept f (events_by k (part k l) steps) (visible l) block (run_after f k steps l valid legal) was.given);
-  }
+  slot = was.slot;
+  given = subst (λ es. WasGiven es block) (sym (visible_split k steps l)) (given_kept f (events_by k (part k l) steps) (visible l) block (run_after f k steps l valid legal) was.given);
+}
 
 new_one : (f : Profile) (k : ℕ) (steps : List Made) (l : Whole) (size align : ℕ) (block : Block) → IsValid f → Legal f (triples k steps ++ l) → IsAllocated f k l size align block steps → IsSlotBlock f block → IsGiven f (triples k steps ++ l) block
 new_one f k steps l size align block valid legal made_it slot =
@@ -161,7 +167,7 @@ after_serve {σ} {σ'} {σ''} {operations} {rest} {ledger} {ledger'} {name} {siz
     let seat : σ''.seat ≡ σ.seat = call.adds.seat_is ∙ far.seat in
     let may = may_allocate far in
     let stood : σ''.stands (call.steps ++ far.view) (triples σ.seat.actor call.steps ++ far.whole)
-        = subst (λ s. σ''.stands (call.steps ++ far.view) (triples s.actor call.steps ++ far.whole)) far.seat (call.adds.added far.view far.whole far.stood may) in
+    = subst (λ s. σ''.stands (call.steps ++ far.view) (triples s.actor call.steps ++ far.whole)) far.seat (call.adds.added far.view far.whole far.stood may) in
     let own : part σ.seat.actor far.whole ≡ far.view = subst (λ s. part s.actor far.whole ≡ far.view) far.seat (tells_part far.view far.whole far.stood) in
     let legal : Legal σ.seat.profile (triples σ.seat.actor call.steps ++ far.whole) = subst (λ s. Legal s.profile (triples σ.seat.actor call.steps ++ far.whole)) seat (tells (call.steps ++ far.view) (triples σ.seat.actor call.steps ++ far.whole) stood) in
     let answer : IsAllocated σ.seat.profile σ.seat.actor far.whole size align call.block call.steps = subst (λ s. IsAllocated s.profile s.actor far.whole size align call.block call.steps) far.seat (call.allocated far.view far.whole far.stood may) in
@@ -197,7 +203,7 @@ after_free {σ} {σ'} {σ''} {operations} {rest} {ledger} {name} valid limit far
     let seat : σ''.seat ≡ σ.seat = call.adds.seat_is ∙ far.seat in
     let may = may_release far block is limit in
     let stood : σ''.stands (call.steps ++ far.view) (triples σ.seat.actor call.steps ++ far.whole)
-        = subst (λ s. σ''.stands (call.steps ++ far.view) (triples s.actor call.steps ++ far.whole)) far.seat (call.adds.added far.view far.whole far.stood may) in
+    = subst (λ s. σ''.stands (call.steps ++ far.view) (triples s.actor call.steps ++ far.whole)) far.seat (call.adds.added far.view far.whole far.stood may) in
     let own : part σ.seat.actor far.whole ≡ far.view = subst (λ s. part s.actor far.whole ≡ far.view) far.seat (tells_part far.view far.whole far.stood) in
     let legal : Legal σ.seat.profile (triples σ.seat.actor call.steps ++ far.whole) = subst (λ s. Legal s.profile (triples σ.seat.actor call.steps ++ far.whole)) seat (tells (call.steps ++ far.view) (triples σ.seat.actor call.steps ++ far.whole) stood) in
     let answer : IsFreed σ.seat.actor far.whole block call.steps = subst (λ s. IsFreed s.actor far.whole block call.steps) far.seat (call.freed far.view far.whole far.stood may) in

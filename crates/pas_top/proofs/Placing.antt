@@ -92,9 +92,9 @@ any_from : (n : ℕ) (p : ℕ → Bool) (i : ℕ) → i < n → p i ≡ true →
 unfolding any_below
 any_from zero p i lt h = absurd (omega (arith, lt))
 any_from (suc n) p i lt h = elim (cases_eq i n) [
-    inl e ↦ or_first (p n) (any_below n p) (subst (λ j. p j ≡ true) e h)
+  | inl e ↦ or_first (p n) (any_below n p) (subst (λ j. p j ≡ true) e h)
   | inr ne ↦ or_second (p n) (any_below n p) (any_from n p i (omega (arith, lt, ne)) h)
-  ]
+]
 
 on_page : (v : View) (g : ℕ) → holds v g ≡ true → holds_on v (g / 256) ≡ true
 on_page v g h = any_from 256 (λ b. holds v (g / 256 * 256 + b)) (g % 256) (omega arith) (ap (holds v) (omega arith) ∙ h)
@@ -104,8 +104,8 @@ is_backed w g a life h =
     let here : holds_on (made (Back (g / 256)) a ∷ w) (g / 256) ≡ true = on_page (made (Back (g / 256)) a ∷ w) g h in
     let still : holds_on (made (Look (Word.Life (g / 256) (g % 256))) life ∷ made (Back (g / 256)) a ∷ w) (g / 256) ≡ true = on_page (made (Look (Word.Life (g / 256) (g % 256))) life ∷ made (Back (g / 256)) a ∷ w) g h in
     and_from (knows_backed (made (Back (g / 256)) a ∷ w) (g / 256)) (holds_on (made (Look (Word.Life (g / 256) (g % 256))) life ∷ made (Back (g / 256)) a ∷ w) (g / 256))
-        (and_from (if g / 256 == g / 256 then true else knows_backed w (g / 256)) (holds_on (made (Back (g / 256)) a ∷ w) (g / 256)) (ap (λ t. if t then true else knows_backed w (g / 256)) (eq-eqb (g / 256) (g / 256) refl)) here)
-        still
+    (and_from (if g / 256 == g / 256 then true else knows_backed w (g / 256)) (holds_on (made (Back (g / 256)) a ∷ w) (g / 256)) (ap (λ t. if t then true else knows_backed w (g / 256)) (eq-eqb (g / 256) (g / 256) refl)) here)
+    still
 
 life_read : (w : View) (g a life : ℕ) → holds w g ≡ true → known_life (made (Look (Word.Life (g / 256) (g % 256))) life ∷ made (Back (g / 256)) a ∷ w) g ≡ Some life
 life_read w g a life h =
@@ -132,13 +132,13 @@ may_give {σ} {σ1} class g a life takes slot heaps limit v l stood may =
           let high = r.1 in
           let page : g / 256 ≡ x / 256 = omega (arith, within, low, high) in
           subst (λ p. KnowsBearing σ.seat.profile (made (Look (Word.Life (g / 256) (g % 256))) life ∷ made (Back (g / 256)) a ∷ takes.steps ++ v) 0 p) page (record {
-              backed = is_backed (takes.steps ++ v) g a life mine;
-              directory = class_directory class;
-              of_profile = record { heap = omega (arith, heaps); kind = slot.is_class };
-              deed = is_known class g takes v l may;
-              of_heap = refl;
-              stamped = quiet_unstamped takes.steps v (g / 256) takes.quiet ∙ may.stamped;
-            });
+            backed = is_backed (takes.steps ++ v) g a life mine;
+            directory = class_directory class;
+            of_profile = record { heap = omega (arith, heaps); kind = slot.is_class };
+            deed = is_known class g takes v l may;
+            of_heap = refl;
+            stamped = quiet_unstamped takes.steps v (g / 256) takes.quiet ∙ may.stamped;
+          });
       word = life;
       known = ap (known_life (made (Look (Word.Life (g / 256) (g % 256))) life ∷ made (Back (g / 256)) a ∷ takes.steps ++ v)) same ∙ life_read (takes.steps ++ v) g a life mine;
       turn_is = refl;
@@ -162,7 +162,7 @@ pub can_give : {σ σ1 σ2 σ3 : Standing} (class g a life size : ℕ) (block : 
 can_give {σ} {σ1} {σ2} {σ3} class g a life size block sized is slot heaps limit takes back look can =
     let t = sized_takes class g size sized takes in
     subst (λ b. CanMake σ3 (Give b)) (sym is)
-        (can_step (looked_steps class g a life t back look) can (give_of_region σ.seat.profile class g life slot heaps) (λ v l stood met. may_give class g a life t slot heaps limit v l stood met))
+    (can_step (looked_steps class g a life t back look) can (give_of_region σ.seat.profile class g life slot heaps) (λ v l stood met. may_give class g a life t slot heaps limit v l stood met))
 
 with_le : (t : Bool) (e : Event) (es : List Event) → length (with_event (if t then Some e else None) es) ≤ length es + 1
 with_le true e es = omega arith
@@ -182,7 +182,12 @@ pub places : {σ σ1 σ2 σ3 σ4 : Standing} (class g a life gave size : ℕ) (b
 places {σ} {σ1} {σ2} {σ3} {σ4} class g a life gave size block sized is slot heaps limit takes back look give =
     let t = sized_takes class g size sized takes in
     record {
-      takes = t.steps; backed = a; life = life; gave = gave; quiet = t.quiet; block_is = is;
+      takes = t.steps;
+      backed = a;
+      life = life;
+      gave = gave;
+      quiet = t.quiet;
+      block_is = is;
       adds = adds_step (looked_steps class g a life t back look) give (λ v l stood met.
           subst (λ b. MayGiveNow σ.seat.profile (made (Look (Word.Life (g / 256) (g % 256))) life ∷ made (Back (g / 256)) a ∷ t.steps ++ v) b) (sym is) (may_give class g a life t slot heaps limit v l stood met));
     }

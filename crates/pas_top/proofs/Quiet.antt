@@ -107,18 +107,18 @@ quiet_stamps (m ∷ xs) ys are = stamp_step m.step (stamps_of (xs ++ ys)) are.0 
 -- ---- an open page stays open, and so does the rest
 pub open_quiet : (k : ℕ) (xs : List Made) (v : View) (l : Whole) (page class : ℕ) → AreQuiet xs → IsOpen v l page class → IsOpen (xs ++ v) (triples k xs ++ l) page class
 open_quiet k xs v l page class are was = record {
-    is_class = was.is_class;
-    right = rights_stay xs v page was.right;
-    known = quiet_known xs v page are ∙ was.known;
-    word = quiet_deed k xs l page are ∙ was.word;
-  }
+  is_class = was.is_class;
+  right = rights_stay xs v page was.right;
+  known = quiet_known xs v page are ∙ was.known;
+  word = quiet_deed k xs l page are ∙ was.word;
+}
 
 pub rest_quiet : (k : ℕ) (xs : List Made) (classes : List ℕ) (v : View) (l : Whole) → AreQuiet xs → AtRest classes v l → AtRest classes (xs ++ v) (triples k xs ++ l)
 rest_quiet k xs classes v l are was = record {
-    opened = λ page low high. open_quiet k xs v l page _ are (was.opened page low high);
-    bare = λ page above. quiet_deed k xs l page are ∙ was.bare page above;
-    stamped = λ page. quiet_unstamped xs v page are ∙ was.stamped page;
-  }
+  opened = λ page low high. open_quiet k xs v l page _ are (was.opened page low high);
+  bare = λ page above. quiet_deed k xs l page are ∙ was.bare page above;
+  stamped = λ page. quiet_unstamped xs v page are ∙ was.stamped page;
+}
 
 -- ---- quiet steps on top of others
 pub quiet_front : (k : ℕ) (xs ys : List Made) (v : View) → AreQuiet xs → events_by k v (xs ++ ys) ≡ events_by k v ys

@@ -87,9 +87,9 @@ can_stamp block e a is live look end can = can_step (ended block e a look end) c
 
 may_put_back : (block : Block) (e a s : ℕ) (v : View) (l : Whole) → a ≡ live_word block.name.turn (length_of block) → MayPut (grain_of block.name) (length_of block) (made (Stamp (grain_of block.name / 256)) s ∷ ending block e a ++ v) l
 may_put_back block e a s v l live = record {
-    held = λ x inside. held_now block e a x v live inside;
-    stamped = ap (λ t. if t then false else is_unstamped (ending block e a ++ v) (grain_of block.name / 256)) (eq-eqb (grain_of block.name / 256) (grain_of block.name / 256) refl);
-  }
+  held = λ x inside. held_now block e a x v live inside;
+  stamped = ap (λ t. if t then false else is_unstamped (ending block e a ++ v) (grain_of block.name / 256)) (eq-eqb (grain_of block.name / 256) (grain_of block.name / 256) refl);
+}
 
 pub can_put_back : {σ σ1 σ2 σ3 : Standing} (block : Block) (e a s : ℕ) → IsSlotBlock σ.seat.profile block → a ≡ live_word block.name.turn (length_of block) → Makes σ σ1 (Look Word.Epoch) e → Makes σ1 σ2 (End block.name (length_of block)) a → Makes σ2 σ3 (Stamp (grain_of block.name / 256)) s
     → CanCall σ (MayRelease σ block) → CanCall σ3 (MayPut (grain_of block.name) (length_of block))
@@ -102,41 +102,43 @@ and_second false y h = refl
 
 meets_no_other : (g n p : ℕ) → g % 256 + n ≤ 256 → (g / 256 ≡ p → ⊥) → meets_page g n p ≡ false
 meets_no_other g n p within ne = elim (cases_lt p (g / 256)) [
-    inl below ↦ let past : 256 * p + 256 ≤ g = omega (arith, below) in grind (arith, nat_tests, past)
+  | inl below ↦ let past : 256 * p + 256 ≤ g = omega (arith, below) in grind (arith, nat_tests, past)
   | inr ge ↦ let before : g + n ≤ 256 * p = omega (arith, ge, ne, within) in let t : nat_lt (256 * p) (g + n) ≡ false = grind (arith, nat_tests, before) in and_second (nat_lt g (256 * p + 256)) (nat_lt (256 * p) (g + n)) t
-  ]
+]
 
 unstamped_left : (z : Bool) (g n p : ℕ) (was : Bool) → g % 256 + n ≤ 256 → was ≡ false → (if g / 256 == p then false else (if z && meets_page g n p then true else was)) ≡ false
 unstamped_left z g n p was within h = elim (cases_eq (g / 256) p) [
-    inl e ↦ ap (λ t. if t then false else (if z && meets_page g n p then true else was)) (eq-eqb (g / 256) p e)
+  | inl e ↦ ap (λ t. if t then false else (if z && meets_page g n p then true else was)) (eq-eqb (g / 256) p e)
   | inr ne ↦ ap (λ t. if t then false else (if z && meets_page g n p then true else was)) (ne_eqb (g / 256) p ne)
       ∙ ap (λ t. if t then true else was) (and_second z (meets_page g n p) (meets_no_other g n p within ne)) ∙ h
-  ]
+]
 
 rest_stamped : {f : Profile} (block : Block) (k e a s : ℕ) (classes : List ℕ) (v : View) (l : Whole) → IsSlotBlock f block → AtRest classes v l
     → AtRest classes (made (Stamp (grain_of block.name / 256)) s ∷ ending block e a ++ v) (triples k (made (Stamp (grain_of block.name / 256)) s ∷ ending block e a) ++ l)
 rest_stamped block k e a s classes v l is rest = record {
-    opened = λ page low high. let o = rest.opened page low high in record { is_class = o.is_class; right = o.right; known = o.known; word = o.word };
-    bare = λ page above. rest.bare page above;
-    stamped = λ page. unstamped_left (a == live_word block.name.turn (length_of block)) (grain_of block.name) (length_of block) page (is_unstamped v page) (block_run block is).within (rest.stamped page);
-  }
+  opened = λ page low high. let o = rest.opened page low high in record { is_class = o.is_class; right = o.right; known = o.known; word = o.word };
+  bare = λ page above. rest.bare page above;
+  stamped = λ page. unstamped_left (a == live_word block.name.turn (length_of block)) (grain_of block.name) (length_of block) page (is_unstamped v page) (block_run block is).within (rest.stamped page);
+}
 
 -- ---- the block ended
 pub released : {σ σ1 σ2 σ3 σ4 : Standing} (block : Block) (e a s : ℕ) → IsSlotBlock σ.seat.profile block → a ≡ live_word block.name.turn (length_of block) → Makes σ σ1 (Look Word.Epoch) e → Makes σ1 σ2 (End block.name (length_of block)) a → Makes σ2 σ3 (Stamp (grain_of block.name / 256)) s
     → Puts σ3 σ4 (grain_of block.name) (length_of block) → Releases σ σ4 block
 released {σ} {σ1} {σ2} {σ3} {σ4} block e a s is live look end stamp puts = record {
-    steps = puts.steps ++ made (Stamp (grain_of block.name / 256)) s ∷ ending block e a;
-    adds = adds_call (stamped block e a s is live look end stamp) puts.adds (λ v l stood met. may_put_back block e a s v (triples σ.seat.actor (made (Stamp (grain_of block.name / 256)) s ∷ ending block e a) ++ l) live);
-    freed = λ v l stood met. record {
-        epoch = e;
-        later = puts.steps ++ made (Stamp (grain_of block.name / 256)) s ∷ made (End block.name (length_of block)) a ∷ [];
-        reads = sym (append_assoc puts.steps (made (Stamp (grain_of block.name / 256)) s ∷ made (End block.name (length_of block)) a ∷ []) (made (Look Word.Epoch) e ∷ []));
-        outcome = inl (quiet_front σ.seat.actor puts.steps (made (Stamp (grain_of block.name / 256)) s ∷ ending block e a) (part σ.seat.actor l) puts.quiet
-              ∙ ap (λ t. with_event (if t then Some (Event.End σ.seat.actor block.name e) else (if is_live a && (turn_of a == block.name.turn) then None else Some (Event.Reject σ.seat.actor block.name (reason_of block.name a)))) []) (eq-eqb a (live_word block.name.turn (length_of block)) live),
-            quiet_stamps puts.steps (made (Stamp (grain_of block.name / 256)) s ∷ ending block e a) puts.quiet);
-      };
-    rest = λ v l classes stood met rest. rest_front σ.seat.actor puts.steps (made (Stamp (grain_of block.name / 256)) s ∷ ending block e a) classes v l puts.quiet (rest_stamped block σ.seat.actor e a s classes v l is rest);
-  }
+  steps = puts.steps ++ made (Stamp (grain_of block.name / 256)) s ∷ ending block e a;
+  adds = adds_call (stamped block e a s is live look end stamp) puts.adds (λ v l stood met. may_put_back block e a s v (triples σ.seat.actor (made (Stamp (grain_of block.name / 256)) s ∷ ending block e a) ++ l) live);
+  freed = λ v l stood met. record {
+    epoch = e;
+    later = puts.steps ++ made (Stamp (grain_of block.name / 256)) s ∷ made (End block.name (length_of block)) a ∷ [];
+    reads = sym (append_assoc puts.steps (made (Stamp (grain_of block.name / 256)) s ∷ made (End block.name (length_of block)) a ∷ []) (made (Look Word.Epoch) e ∷ []));
+    outcome = inl (
+      quiet_front σ.seat.actor puts.steps (made (Stamp (grain_of block.name / 256)) s ∷ ending block e a) (part σ.seat.actor l) puts.quiet
+          ∙ ap (λ t. with_event (if t then Some (Event.End σ.seat.actor block.name e) else (if is_live a && (turn_of a == block.name.turn) then None else Some (Event.Reject σ.seat.actor block.name (reason_of block.name a)))) []) (eq-eqb a (live_word block.name.turn (length_of block)) live),
+      quiet_stamps puts.steps (made (Stamp (grain_of block.name / 256)) s ∷ ending block e a) puts.quiet,
+    );
+  };
+  rest = λ v l classes stood met rest. rest_front σ.seat.actor puts.steps (made (Stamp (grain_of block.name / 256)) s ∷ ending block e a) classes v l puts.quiet (rest_stamped block σ.seat.actor e a s classes v l is rest);
+}
 
 -- ---- or its end was refused
 refused_event : (z y : Bool) (yes_event : Event) (no_event : Event) → z ≡ false → (y ≡ true → ⊥) → with_event (if z then Some yes_event else (if y then None else Some no_event)) [] ≡ no_event ∷ []
@@ -146,10 +148,10 @@ refused_event false false e f is other = refl
 
 rest_refused : (block : Block) (k e a : ℕ) (classes : List ℕ) (v : View) (l : Whole) → (a == live_word block.name.turn (length_of block)) ≡ false → AtRest classes v l → AtRest classes (ending block e a ++ v) (triples k (ending block e a) ++ l)
 rest_refused block k e a classes v l other rest = record {
-    opened = λ page low high. let o = rest.opened page low high in record { is_class = o.is_class; right = o.right; known = o.known; word = o.word };
-    bare = λ page above. rest.bare page above;
-    stamped = λ page. ap (λ t. if t && meets_page (grain_of block.name) (length_of block) page then true else is_unstamped v page) other ∙ rest.stamped page;
-  }
+  opened = λ page low high. let o = rest.opened page low high in record { is_class = o.is_class; right = o.right; known = o.known; word = o.word };
+  bare = λ page above. rest.bare page above;
+  stamped = λ page. ap (λ t. if t && meets_page (grain_of block.name) (length_of block) page then true else is_unstamped v page) other ∙ rest.stamped page;
+}
 
 -- a block that lives with this turn has just this length
 not_longer : {σ σ1 σ2 : Standing} (block : Block) (e a : ℕ) → IsValid σ.seat.profile → IsSlotBlock σ.seat.profile block → (a ≡ live_word block.name.turn (length_of block) → ⊥) → Makes σ σ1 (Look Word.Epoch) e → Makes σ1 σ2 (End block.name (length_of block)) a → Tells σ → Tells σ2
@@ -159,7 +161,7 @@ not_longer {σ} {σ1} {σ2} block e a valid is other look end tells tells_too v 
     let told : a ≡ word_after l (life_word_at (grain_of block.name)) = (legal_after (ended block e a look end) tells_too v l stood met).0.answer_is in
     let address = is.address in
     other (told ∙ true_length σ.seat.profile l valid (tells v l stood) block (omega (arith, address)) met.given
-        (ap is_live (sym told) ∙ p.0) (ap turn_of (sym told) ∙ eqb-true (turn_of a) block.name.turn p.1))
+    (ap is_live (sym told) ∙ p.0) (ap turn_of (sym told) ∙ eqb-true (turn_of a) block.name.turn p.1))
 
 pub refused : {σ σ1 σ2 : Standing} (block : Block) (e a : ℕ) → IsValid σ.seat.profile → IsSlotBlock σ.seat.profile block → (a ≡ live_word block.name.turn (length_of block) → ⊥) → Makes σ σ1 (Look Word.Epoch) e → Makes σ1 σ2 (End block.name (length_of block)) a → Tells σ → Tells σ2
     → Releases σ σ2 block
@@ -169,14 +171,16 @@ refused {σ} {σ1} {σ2} block e a valid is other look end tells tells_too =
       steps = ending block e a;
       adds = ended block e a look end;
       freed = λ v l stood met. record {
-          epoch = e;
-          later = made (End block.name (length_of block)) a ∷ [];
-          reads = refl;
-          outcome = inr (reason_of block.name a,
-              refused_event (a == live_word block.name.turn (length_of block)) (is_live a && (turn_of a == block.name.turn)) (Event.End σ.seat.actor block.name e) (Event.Reject σ.seat.actor block.name (reason_of block.name a)) z
-                  (not_longer block e a valid is other look end tells tells_too v l stood met),
-              refl);
-        };
+        epoch = e;
+        later = made (End block.name (length_of block)) a ∷ [];
+        reads = refl;
+        outcome = inr (
+          reason_of block.name a,
+          refused_event (a == live_word block.name.turn (length_of block)) (is_live a && (turn_of a == block.name.turn)) (Event.End σ.seat.actor block.name e) (Event.Reject σ.seat.actor block.name (reason_of block.name a)) z
+              (not_longer block e a valid is other look end tells tells_too v l stood met),
+          refl,
+        );
+      };
       rest = λ v l classes stood met rest. rest_refused block σ.seat.actor e a classes v l z rest;
     }
 

@@ -116,7 +116,12 @@ replayed bytes text f ops pass state asks shows is =
     let agree : AgreesWithWords (profile_of state) shows.whole = subst (λ g. AgreesWithWords g shows.whole) (sym shows.profile) (agrees f shows.whole valid shows.legal) in
     let line : counted_line state ≡ total_line f (visible shows.whole) = line_agrees state shows.whole has agree ∙ ap (λ g. total_line g (visible shows.whole)) shows.profile in
     record {
-      profile = f; operations = ops; asks = asks; whole = shows.whole; legal = shows.legal; answers = shows.answers;
+      profile = f;
+      operations = ops;
+      asks = asks;
+      whole = shows.whole;
+      legal = shows.legal;
+      answers = shows.answers;
       run = runs f shows.whole valid shows.legal;
       text_is = is ∙ ap (λ es. lines_of es ++ counted_line state) (shown_visible f ops pass state shows) ∙ ap (λ t. lines_of (reverse (visible shows.whole)) ++ t) line;
     }

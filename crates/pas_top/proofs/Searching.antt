@@ -43,12 +43,12 @@ read_words {σ} page a b c d adds tells v l stood =
 pub scans_four : {σ σ1 σ2 σ3 σ4 : Standing} {class : ℕ} {found : Option ℕ} (page a b c d : ℕ) → Makes σ σ1 (Look (Word.Free page 0)) a → Makes σ1 σ2 (Look (Word.Free page 1)) b → Makes σ2 σ3 (Look (Word.Free page 2)) c → Makes σ3 σ4 (Look (Word.Free page 3)) d → Tells σ4
     → MatchOption found ((slot : ℕ) → IsFreeSlotIn (a ∷ b ∷ c ∷ d ∷ []) class slot → ⊥) (λ slot. IsLowestFreeSlot (a ∷ b ∷ c ∷ d ∷ []) class slot) → Scans σ σ4 page class found
 scans_four {σ} {σ1} {σ2} {σ3} {σ4} {class} {found} page a b c d la lb lc ld tells is = record {
-    steps = four_looks page a b c d;
-    adds = adds_four page a b c d la lb lc ld;
-    looks = (tt, (tt, (tt, (tt, tt))));
-    quiet = (tt, (tt, (tt, (tt, tt))));
-    outcome = λ v l stood. subst (λ words. MatchOption found ((slot : ℕ) → IsFreeSlotIn words class slot → ⊥) (λ slot. IsLowestFreeSlot words class slot)) (read_words page a b c d (adds_four page a b c d la lb lc ld) tells v l stood) is;
-  }
+  steps = four_looks page a b c d;
+  adds = adds_four page a b c d la lb lc ld;
+  looks = (tt, (tt, (tt, (tt, tt))));
+  quiet = (tt, (tt, (tt, (tt, tt))));
+  outcome = λ v l stood. subst (λ words. MatchOption found ((slot : ℕ) → IsFreeSlotIn words class slot → ⊥) (λ slot. IsLowestFreeSlot words class slot)) (read_words page a b c d (adds_four page a b c d la lb lc ld) tells v l stood) is;
+}
 
 -- ---- page by page
 pub looks_free : (k : ℕ) (xs : List Made) (l : Whole) (page : ℕ) → AreLooks xs → free_words (triples k xs ++ l) page ≡ free_words l page
@@ -72,35 +72,38 @@ sought_none classes class = record { steps = []; adds = adds_none; looks = tt; q
 
 none_more : (l : Whole) (classes : List ℕ) (class page : ℕ) → NoneBelow l classes class page → ((slot : ℕ) → slice_index classes (page - 1) ≡ class → IsFreeSlotIn (free_words l page) class slot → ⊥) → NoneBelow l classes class (page + 1)
 none_more l classes class page before here q slot low high of_class is = elim (cases_lt q page) [
-    inl lt ↦ before q slot low lt of_class is
+  | inl lt ↦ before q slot low lt of_class is
   | inr ge ↦ let e : q ≡ page = omega (arith, high, ge) in here slot (subst (λ p. slice_index classes (p - 1) ≡ class) e of_class) (subst (λ p. IsFreeSlotIn (free_words l p) class slot) e is)
-  ]
+]
 
 -- a page of another class
 pub sought_other : {σ σ' : Standing} (classes : List ℕ) (class page : ℕ) → Sought σ σ' classes class page → slice_index classes (page - 1) ≢ class → Sought σ σ' classes class (page + 1)
 sought_other classes class page far other = record {
-    steps = far.steps; adds = far.adds; looks = far.looks; quiet = far.quiet;
-    none = λ v l stood. none_more l classes class page (far.none v l stood) (λ slot of_class is. other of_class);
-  }
+  steps = far.steps;
+  adds = far.adds;
+  looks = far.looks;
+  quiet = far.quiet;
+  none = λ v l stood. none_more l classes class page (far.none v l stood) (λ slot of_class is. other of_class);
+}
 
 scan_at : {σ σ' σ'' : Standing} {found : Option ℕ} (classes : List ℕ) (class page : ℕ) (far : Sought σ σ' classes class page) → Scans σ' σ'' page class found → (v : View) (l : Whole) → σ.stands v l
     → MatchOption found ((slot : ℕ) → IsFreeSlotIn (free_words l page) class slot → ⊥) (λ slot. IsLowestFreeSlot (free_words l page) class slot)
 scan_at {σ} {σ'} {σ''} {found} classes class page far scan v l stood =
     subst (λ words. MatchOption found ((slot : ℕ) → IsFreeSlotIn words class slot → ⊥) (λ slot. IsLowestFreeSlot words class slot)) (looks_free σ.seat.actor far.steps l page far.looks)
-        (scan.outcome (far.steps ++ v) (triples σ.seat.actor far.steps ++ l) (far.adds.added v l stood tt))
+    (scan.outcome (far.steps ++ v) (triples σ.seat.actor far.steps ++ l) (far.adds.added v l stood tt))
 
 -- a page without a free slot
 pub sought_full : {σ σ' σ'' : Standing} {found : Option ℕ} (classes : List ℕ) (class page : ℕ) → Sought σ σ' classes class page → Scans σ' σ'' page class found → found ≡ None → Sought σ σ'' classes class (page + 1)
 sought_full {σ} {σ'} {σ''} {found} classes class page far scan is = record {
-    steps = scan.steps ++ far.steps;
-    adds = adds_call far.adds scan.adds (λ v l stood met. tt);
-    looks = looks_append scan.steps far.steps scan.looks far.looks;
-    quiet = quiet_append scan.steps far.steps scan.quiet far.quiet;
-    none = λ v l stood. none_more l classes class page (far.none v l stood) (λ slot of_class free.
-        let full : (slot : ℕ) → IsFreeSlotIn (free_words l page) class slot → ⊥
-            = subst (λ o. MatchOption o ((slot : ℕ) → IsFreeSlotIn (free_words l page) class slot → ⊥) (λ slot. IsLowestFreeSlot (free_words l page) class slot)) is (scan_at classes class page far scan v l stood) in
-        full slot free);
-  }
+  steps = scan.steps ++ far.steps;
+  adds = adds_call far.adds scan.adds (λ v l stood met. tt);
+  looks = looks_append scan.steps far.steps scan.looks far.looks;
+  quiet = quiet_append scan.steps far.steps scan.quiet far.quiet;
+  none = λ v l stood. none_more l classes class page (far.none v l stood) (λ slot of_class free.
+      let full : (slot : ℕ) → IsFreeSlotIn (free_words l page) class slot → ⊥
+      = subst (λ o. MatchOption o ((slot : ℕ) → IsFreeSlotIn (free_words l page) class slot → ⊥) (λ slot. IsLowestFreeSlot (free_words l page) class slot)) is (scan_at classes class page far scan v l stood) in
+      full slot free);
+}
 
 is_found : (l : Whole) (classes : List ℕ) (class page slot : ℕ) → IsClass class → 1 ≤ page → page ≤ length classes → slice_index classes (page - 1) ≡ class → NoneBelow l classes class page → IsLowestFreeSlot (free_words l page) class slot
     → IsFound l classes class (page * 256 + slot)
@@ -120,13 +123,13 @@ is_found l classes class page slot is_class low high of_class none is =
 pub found_on : {σ σ' σ'' : Standing} {found : Option ℕ} (classes : List ℕ) (class page slot : ℕ) → Sought σ σ' classes class page → Scans σ' σ'' page class found → found ≡ Some slot → IsClass class → 1 ≤ page → page ≤ length classes → slice_index classes (page - 1) ≡ class
     → Finds σ σ'' classes class (Some (page * 256 + slot))
 found_on {σ} {σ'} {σ''} {found} classes class page slot far scan is is_class low high of_class = record {
-    steps = scan.steps ++ far.steps;
-    adds = adds_call far.adds scan.adds (λ v l stood met. tt);
-    looks = looks_append scan.steps far.steps scan.looks far.looks;
-    quiet = quiet_append scan.steps far.steps scan.quiet far.quiet;
-    outcome = λ v l stood. is_found l classes class page slot is_class low high of_class (far.none v l stood)
-        (subst (λ o. MatchOption o ((slot : ℕ) → IsFreeSlotIn (free_words l page) class slot → ⊥) (λ slot. IsLowestFreeSlot (free_words l page) class slot)) is (scan_at classes class page far scan v l stood));
-  }
+  steps = scan.steps ++ far.steps;
+  adds = adds_call far.adds scan.adds (λ v l stood met. tt);
+  looks = looks_append scan.steps far.steps scan.looks far.looks;
+  quiet = quiet_append scan.steps far.steps scan.quiet far.quiet;
+  outcome = λ v l stood. is_found l classes class page slot is_class low high of_class (far.none v l stood)
+      (subst (λ o. MatchOption o ((slot : ℕ) → IsFreeSlotIn (free_words l page) class slot → ⊥) (λ slot. IsLowestFreeSlot (free_words l page) class slot)) is (scan_at classes class page far scan v l stood));
+}
 
 pub found_none : {σ σ' : Standing} (classes : List ℕ) (class : ℕ) → Sought σ σ' classes class (length classes + 1) → Finds σ σ' classes class None
 found_none classes class far = record { steps = far.steps; adds = far.adds; looks = far.looks; quiet = far.quiet; outcome = far.none }

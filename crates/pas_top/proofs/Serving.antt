@@ -43,29 +43,29 @@ class_deed f l page class valid is legal word = directory_is (deed_in (visible l
 -- ---- what answers a request
 pub allocated : (f : Profile) (k : ℕ) (l : Whole) (size align class : ℕ) (block : Block) (steps : List Made) → IsValid f → 4096 % align ≡ 0 → route_of size align ≡ Route.Class class → Legal f (triples k steps ++ l) → IsServed f k l class block steps → IsAllocated f k l size align block steps
 allocated f k l size align class block steps valid aligned route legal served = record {
-    class = class;
-    route = route;
-    ready = served.ready;
-    events = served.events;
-    only = served.only;
-    stamps = served.stamps;
-    room = served.room;
-    heap = served.heap;
-    aligned =
-        let a = served.address in
-        let same : address_of block.name ≡ grain_of block.name / 256 * 4096 + grain_of block.name % 256 * 16 = omega (arith, a) in
-        ap (λ n. n % align) same ∙ routed_slot_aligned size align class (grain_of block.name % 256) (grain_of block.name / 256) aligned route served.slot.start;
-    of_directory = λ x inside.
-        let n : length_of block ≡ class_grains class = ap (λ r. r / 16) served.room in
-        let r = run_of (grain_of block.name) (length_of block) x inside in
-        let low = r.0 in
-        let high = r.1 in
-        let within = slot_end class (grain_of block.name % 256) served.slot.is_class served.slot.start in
-        let page : grain_of block.name / 256 ≡ x / 256 = omega (arith, n, low, high, within) in
-        subst (λ p. deed_in (visible (triples k steps ++ l)) p ≡ Some (class_directory class)) page
-            (class_deed f (triples k steps ++ l) (grain_of block.name / 256) class valid served.slot.is_class legal served.deed);
-    choice = served.choice;
-  }
+  class = class;
+  route = route;
+  ready = served.ready;
+  events = served.events;
+  only = served.only;
+  stamps = served.stamps;
+  room = served.room;
+  heap = served.heap;
+  aligned =
+      let a = served.address in
+      let same : address_of block.name ≡ grain_of block.name / 256 * 4096 + grain_of block.name % 256 * 16 = omega (arith, a) in
+      ap (λ n. n % align) same ∙ routed_slot_aligned size align class (grain_of block.name % 256) (grain_of block.name / 256) aligned route served.slot.start;
+  of_directory = λ x inside.
+      let n : length_of block ≡ class_grains class = ap (λ r. r / 16) served.room in
+      let r = run_of (grain_of block.name) (length_of block) x inside in
+      let low = r.0 in
+      let high = r.1 in
+      let within = slot_end class (grain_of block.name % 256) served.slot.is_class served.slot.start in
+      let page : grain_of block.name / 256 ≡ x / 256 = omega (arith, n, low, high, within) in
+      subst (λ p. deed_in (visible (triples k steps ++ l)) p ≡ Some (class_directory class)) page
+      (class_deed f (triples k steps ++ l) (grain_of block.name / 256) class valid served.slot.is_class legal served.deed);
+  choice = served.choice;
+}
 
 one_more : (opened : Bool) (classes : List ℕ) (class : ℕ) → length (with_page opened classes class) ≤ length classes + 1
 one_more true classes class = let n = length-append classes (class ∷ []) in omega (arith, n)

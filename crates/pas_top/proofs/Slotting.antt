@@ -37,15 +37,15 @@ min_is a b = elim (cases_lt b a) [ inl lt ↦ inr (grind (arith, nat_tests, lt),
 -- where a run's end is in a word that begins at the grain `base`
 pub cut : (at base b : ℕ) → b < 64 → (b < min (at - base) 64 → base + b < at) × (min (at - base) 64 ≤ b → at ≤ base + b)
 cut at base b h = elim (min_is (at - base) 64) [
-    inl e ↦ (λ lt. let m = e.0 in omega (arith, m, lt), λ le. let m = e.0 in omega (arith, m, le))
+  | inl e ↦ (λ lt. let m = e.0 in omega (arith, m, lt), λ le. let m = e.0 in omega (arith, m, le))
   | inr e ↦ (λ lt. let m = e.1 in omega (arith, m, h), λ le. let m = e.0 in absurd (omega (arith, m, le, h)))
-  ]
+]
 
 pub cut_le : (at to base : ℕ) → at ≤ to → min (at - base) 64 ≤ min (to - base) 64
 cut_le at to base h = elim (min_is (at - base) 64) [
-    inl e ↦ elim (min_is (to - base) 64) [ inl f ↦ let m = e.0 in let n = f.0 in omega (arith, m, n, h) | inr f ↦ let m = e.0 in let n = f.0 in let k = e.1 in omega (arith, m, n, k) ]
+  | inl e ↦ elim (min_is (to - base) 64) [ inl f ↦ let m = e.0 in let n = f.0 in omega (arith, m, n, h) | inr f ↦ let m = e.0 in let n = f.0 in let k = e.1 in omega (arith, m, n, k) ]
   | inr e ↦ elim (min_is (to - base) 64) [ inl f ↦ let m = e.1 in let n = f.1 in absurd (omega (arith, m, n, h)) | inr f ↦ let m = e.0 in let n = f.0 in omega (arith, m, n) ]
-  ]
+]
 
 mask_between : (low high b : ℕ) → low ≤ high → 2 ^ high - 1 - (2 ^ low - 1) ≡ 2 ^ high - 2 ^ low
 mask_between low high b h = let p = pow_pos low in omega (arith, p)
@@ -59,12 +59,12 @@ mask_bit first grains base b h =
     let from = cut first base b h in
     let to = cut (first + grains) base b h in
     ap (λ n. has_bit n b) is ∙ elim (cases_lt b (min (first - base) 64)) [
-        inl lt ↦ ap (λ n. n == 1) (bit_at_mask_below (min (first - base) 64) (min (first + grains - base) 64) b lt) ∙ sym (run_below first grains (base + b) (from.0 lt))
+      | inl lt ↦ ap (λ n. n == 1) (bit_at_mask_below (min (first - base) 64) (min (first + grains - base) 64) b lt) ∙ sym (run_below first grains (base + b) (from.0 lt))
       | inr ge ↦ elim (cases_lt b (min (first + grains - base) 64)) [
-            inl inside ↦ ap (λ n. n == 1) (bit_at_mask_inside (min (first - base) 64) (min (first + grains - base) 64) b ge inside) ∙ sym (to_run first grains (base + b) (from.1 ge) (to.0 inside))
-          | inr above ↦ ap (λ n. n == 1) (bit_at_mask_above (min (first - base) 64) (min (first + grains - base) 64) b above) ∙ sym (run_above first grains (base + b) (to.1 above))
-          ]
+        | inl inside ↦ ap (λ n. n == 1) (bit_at_mask_inside (min (first - base) 64) (min (first + grains - base) 64) b ge inside) ∙ sym (to_run first grains (base + b) (from.1 ge) (to.0 inside))
+        | inr above ↦ ap (λ n. n == 1) (bit_at_mask_above (min (first - base) 64) (min (first + grains - base) 64) b above) ∙ sym (run_above first grains (base + b) (to.1 above))
       ]
+    ]
 
 pub mask_is : (first grains base low high b m : ℕ) → m ≡ high - low → high ≡ 2 ^ min (first + grains - base) 64 - 1 → low ≡ 2 ^ min (first - base) 64 - 1 → b < 64 → has_bit m b ≡ in_run first grains (base + b)
 mask_is first grains base low high b m is is_high is_low h = ap (λ n. has_bit n b) (is ∙ ap (λ n. n - low) is_high ∙ ap (λ n. 2 ^ min (first + grains - base) 64 - 1 - n) is_low) ∙ mask_bit first grains base b h
@@ -91,9 +91,9 @@ shifted words word low x at h =
 -- a word that is left as 0 has no free grain from there on
 pub none_left : (words : List ℕ) (from word low : ℕ) → low ≡ from - 64 * word → slice_index words word / 2 ^ low ≡ 0 → NoneIsFree words from (64 * word) → NoneIsFree words from (64 * (word + 1))
 none_left words from word low is zero before x a b = elim (cases_lt x (64 * word)) [
-    inl lt ↦ before x a lt
+  | inl lt ↦ before x a lt
   | inr ge ↦ shifted words word low x (omega (arith, ge, b)) (omega (arith, is, a, ge, b)) ∙ ap (λ n. has_bit n (x % 64 - low)) zero ∙ is_zero 0 (x % 64 - low) (bit_at-zero (x % 64 - low))
-  ]
+]
 
 pub lowest_is : (words : List ℕ) (from word low : ℕ) → low ≡ from - 64 * word → from / 64 ≤ word → word < 4 → slice_index words word < 2 ^ 64 → slice_index words word / 2 ^ low ≢ 0 → NoneIsFree words from (64 * word)
     → IsLowestFree words from (64 * word + low + trailing_zeros w64 (slice_index words word / 2 ^ low))
@@ -104,9 +104,9 @@ lowest_is words from word low is at small fits some before =
     let z = trailing_zeros w64 (slice_index words word / 2 ^ low) in
     let low_fits : low < 64 = omega (arith, is, at) in
     let one : bit_at (slice_index words word) (low + trailing_zeros w64 (slice_index words word / 2 ^ low)) ≡ 1
-        = ap (λ n. n % 2) (sym (shr-shr (slice_index words word) low (trailing_zeros w64 (slice_index words word / 2 ^ low)))) ∙ t.1 in
+    = ap (λ n. n % 2) (sym (shr-shr (slice_index words word) low (trailing_zeros w64 (slice_index words word / 2 ^ low)))) ∙ t.1 in
     let inside : low + trailing_zeros w64 (slice_index words word / 2 ^ low) < 64
-        = elim (cases_lt (low + trailing_zeros w64 (slice_index words word / 2 ^ low)) 64) [ inl lt ↦ lt | inr ge ↦ absurd (let a = bit_at_above (slice_index words word) 64 (low + trailing_zeros w64 (slice_index words word / 2 ^ low)) fits ge in omega (arith, a, one)) ] in
+    = elim (cases_lt (low + trailing_zeros w64 (slice_index words word / 2 ^ low)) 64) [ inl lt ↦ lt | inr ge ↦ absurd (let a = bit_at_above (slice_index words word) 64 (low + trailing_zeros w64 (slice_index words word / 2 ^ low)) fits ge in omega (arith, a, one)) ] in
     record {
       above = omega (arith, is);
       within = omega (arith, inside, small);
@@ -114,9 +114,9 @@ lowest_is words from word low is at small fits some before =
           let bit : (64 * word + low + trailing_zeros w64 (slice_index words word / 2 ^ low)) % 64 ≡ low + trailing_zeros w64 (slice_index words word / 2 ^ low) = omega (arith, inside) in
           ap (λ w. has_bit (slice_index words w) ((64 * word + low + trailing_zeros w64 (slice_index words word / 2 ^ low)) % 64)) here ∙ ap (λ i. has_bit (slice_index words word) i) bit ∙ is_one (slice_index words word) (low + trailing_zeros w64 (slice_index words word / 2 ^ low)) one;
       lowest = λ x a b. elim (cases_lt x (64 * word)) [
-          inl lt ↦ before x a lt
+        | inl lt ↦ before x a lt
         | inr ge ↦ shifted words word low x (omega (arith, ge, b, inside)) (omega (arith, is, a, ge, b, inside)) ∙ is_zero (slice_index words word / 2 ^ low) (x % 64 - low) (t.2 (x % 64 - low) (omega (arith, ge, b, inside, is, a)))
-        ];
+      ];
     }
 
 -- ---- runs that are free
@@ -133,12 +133,12 @@ has_all m n b fits h zero set =
 pub run_more : (words : List ℕ) (first grains word m : ℕ) → slice_index words word < 2 ^ 64 → ((b : ℕ) → b < 64 → has_bit m b ≡ in_run first grains (64 * word + b)) → bit_and m (bit_not w64 (slice_index words word)) ≡ 0
     → ((x : ℕ) → in_run first grains x ≡ true → x < 64 * word → is_free_in words x ≡ true) → (x : ℕ) → in_run first grains x ≡ true → x < 64 * (word + 1) → is_free_in words x ≡ true
 run_more words first grains word m fits mask zero before x run lt = elim (cases_lt x (64 * word)) [
-    inl below ↦ before x run below
+  | inl below ↦ before x run below
   | inr ge ↦
       let at : x / 64 ≡ word = omega (arith, ge, lt) in
       let same : 64 * word + x % 64 ≡ x = omega (arith, ge, lt) in
       ap (λ w. has_bit (slice_index words w) (x % 64)) at ∙ has_all m (slice_index words word) (x % 64) fits (omega arith) zero (mask (x % 64) (omega arith) ∙ ap (in_run first grains) same ∙ run)
-  ]
+]
 
 pub run_not_free : (words : List ℕ) (first grains word m : ℕ) → slice_index words word < 2 ^ 64 → m < 2 ^ 64 → ((b : ℕ) → b < 64 → has_bit m b ≡ in_run first grains (64 * word + b)) → bit_and m (bit_not w64 (slice_index words word)) ≢ 0
     → AreFree words first grains → ⊥
@@ -151,9 +151,9 @@ run_not_free words first grains word m fits small mask some free =
     let e : min (bit_at m z) (1 - bit_at (slice_index words word) z) ≡ 1 = sym (lacks m (slice_index words word) z fits t.0) ∙ t.1 in
     let two = bit_at-lt m z in
     let both : (bit_at m z ≡ 1) × (bit_at (slice_index words word) z ≡ 0) = elim (min_is (bit_at m z) (1 - bit_at (slice_index words word) z)) [
-        inl f ↦ let k = f.0 in let j = f.1 in (omega (arith, e, k), omega (arith, e, k, j))
+      | inl f ↦ let k = f.0 in let j = f.1 in (omega (arith, e, k), omega (arith, e, k, j))
       | inr f ↦ let k = f.0 in let j = f.1 in (omega (arith, e, k, j, two), omega (arith, e, k))
-      ] in
+    ] in
     let run : in_run first grains (64 * word + z) ≡ true = sym (mask z t.0) ∙ is_one m z both.0 in
     let here : (64 * word + z) / 64 ≡ word = omega (arith, b) in
     let bit : (64 * word + z) % 64 ≡ z = omega (arith, b) in
@@ -177,16 +177,16 @@ none_at_all words class start is before bare h slot = none_to words class start 
 
 pub slot_begins : (class free : ℕ) → IsClass class → free / class_grains class * class_grains class + class_grains class ≤ usable_grains class → IsSlotStart class (free / class_grains class * class_grains class)
 slot_begins class free is within = record {
-    aligned = let p = class_grains_positive class is in ap (λ n. n % class_grains class) (omega arith) ∙ mod-mul-add (free / class_grains class) (class_grains class) 0 (omega (arith, p));
-    within = within;
-  }
+  aligned = let p = class_grains_positive class is in ap (λ n. n % class_grains class) (omega arith) ∙ mod-mul-add (free / class_grains class) (class_grains class) 0 (omega (arith, p));
+  within = within;
+}
 
 -- a slot that isn't free and the grains below it have no free slot up to its end
 pub none_past : (words : List ℕ) (class slot : ℕ) → IsClass class → IsSlotStart class slot → NoSlotBelow words class slot → (AreFree words slot (class_grains class) → ⊥) → NoSlotBelow words class (slot + class_grains class)
 none_past words class slot is start before full h lt other = elim (cases_lt h slot) [
-    inl below ↦ before h below other
+  | inl below ↦ before h below other
   | inr ge ↦ let e : h ≡ slot = same_slot class h slot other.start start lt (let p = class_grains_positive class is in omega (arith, ge, p)) in full (subst (λ g. AreFree words g (class_grains class)) e other.free)
-  ]
+]
 
 pub rounded : (free grains : ℕ) → 1 ≤ grains → (free / grains * grains ≤ free) × (free < free / grains * grains + grains)
 rounded free grains h = let d = div-add-mod' free grains in let m = mod_below free grains h in (omega (arith, d), omega (arith, d, m))
@@ -205,12 +205,12 @@ pub lowest_found : (words : List ℕ) (class size start free : ℕ) → IsClass 
     → free / (size / 16) * (size / 16) + size / 16 ≤ 4096 / size * (size / 16) → AreFree words (free / (size / 16) * (size / 16)) (size / 16) → IsLowestFreeSlot words class (free / (size / 16) * (size / 16))
 lowest_found words class size start free is sized before lowest within full =
     let found : IsLowestFreeSlot words class (free / class_grains class * class_grains class) = record {
-        slot = record {
-            start = slot_begins class free is (subst (λ s. free / (s / 16) * (s / 16) + s / 16 ≤ 4096 / s * (s / 16)) sized within);
-            free = subst (λ s. AreFree words (free / (s / 16) * (s / 16)) (s / 16)) sized full;
-          };
-        lowest = λ h lt. none_to words class start free is before lowest.lowest h (let r = rounded free (class_grains class) (class_grains_positive class is) in let le = r.0 in omega (arith, lt, le));
-      } in
+      slot = record {
+        start = slot_begins class free is (subst (λ s. free / (s / 16) * (s / 16) + s / 16 ≤ 4096 / s * (s / 16)) sized within);
+        free = subst (λ s. AreFree words (free / (s / 16) * (s / 16)) (s / 16)) sized full;
+      };
+      lowest = λ h lt. none_to words class start free is before lowest.lowest h (let r = rounded free (class_grains class) (class_grains_positive class is) in let le = r.0 in omega (arith, lt, le));
+    } in
     subst (λ s. IsLowestFreeSlot words class (free / (s / 16) * (s / 16))) (sym sized) found
 
 pub none_so_far : (words : List ℕ) (class size start free : ℕ) → IsClass class → size ≡ class_size class → NoSlotBelow words class start → IsLowestFree words start free
@@ -222,7 +222,7 @@ none_so_far words class size start free is sized before lowest within full =
     let le = r.0 in
     let below : NoSlotBelow words class (free / class_grains class * class_grains class) = λ h lt. none_to words class start free is before lowest.lowest h (omega (arith, lt, le)) in
     let past : NoSlotBelow words class (free / class_grains class * class_grains class + class_grains class) = none_past words class (free / class_grains class * class_grains class) is (slot_begins class free is fits) below
-        (subst (λ s. AreFree words (free / (s / 16) * (s / 16)) (s / 16) → ⊥) sized full) in
+    (subst (λ s. AreFree words (free / (s / 16) * (s / 16)) (s / 16) → ⊥) sized full) in
     let small : free / class_grains class * class_grains class + class_grains class ≤ 256 = let u = usable_grains_le class is in omega (arith, fits, u) in
     (subst (λ s. free / (s / 16) * (s / 16) + s / 16 ≤ 256) (sym sized) small, subst (λ s. NoSlotBelow words class (free / (s / 16) * (s / 16) + s / 16)) (sym sized) past)
 

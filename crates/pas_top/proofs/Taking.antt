@@ -40,8 +40,8 @@ masked g n x word m run mask inside at =
     let a = r.0 in
     let b = r.1 in
     and_from ((word == x / 64 % 4) && (g / 256 == x / 256)) (has_bit m (x % 64))
-        (and_from (word == x / 64 % 4) (g / 256 == x / 256) (eq-eqb word (x / 64 % 4) at) (eq-eqb (g / 256) (x / 256) (omega (arith, w, a, b))))
-        (mask (x % 64) (omega arith) ∙ to_run (g % 256) n (64 * word + x % 64) (omega (arith, w, a, b, at)) (omega (arith, w, a, b, at)))
+    (and_from (word == x / 64 % 4) (g / 256 == x / 256) (eq-eqb word (x / 64 % 4) at) (eq-eqb (g / 256) (x / 256) (omega (arith, w, a, b))))
+    (mask (x % 64) (omega arith) ∙ to_run (g % 256) n (64 * word + x % 64) (omega (arith, w, a, b, at)) (omega (arith, w, a, b, at)))
 
 -- a grain of the mask is one of the run
 pub of_mask : {f : Profile} (g n x word m : ℕ) → IsShortRun f g n → IsMaskOf (g % 256) n word m → in_mask (g / 256) word m x ≡ true → in_run g n x ≡ true
@@ -108,34 +108,34 @@ take_holds : {f : Profile} (g n x word m a : ℕ) (v : View) (l : Whole) → IsS
     → has_bit (word_after l (free_word_at x)) (x % 64) ≡ true → holds (made (Take (g / 256) word m) a ∷ v) x ≡ true
 take_holds g n x word m a v l run mask told inside at free =
     taken (in_mask (g / 256) word m x) (has_bit a (x % 64)) (holds v x) (masked g n x word m run mask inside at)
-        (ap (λ w. has_bit w (x % 64)) (told ∙ free_at g x word l (same_page g n x run inside) at) ∙ free)
+    (ap (λ w. has_bit w (x % 64)) (told ∙ free_at g x word l (same_page g n x run inside) at) ∙ free)
 
 pub took_one : {σ σ1 : Standing} (g n m a : ℕ) → IsShortRun σ.seat.profile g n → IsMaskOf (g % 256) n (low_of g) m → high_of g n ≤ low_of g → Makes σ σ1 (Take (g / 256) (low_of g) m) a → Tells σ1 → Takes σ σ1 g n
 took_one {σ} {σ1} g n m a run mask one take tells = record {
-    steps = taking g (low_of g) m a;
-    adds = one_take g n (low_of g) m a take;
-    quiet = (tt, tt);
-    held = λ v l stood met x inside.
-        let legal = legal_after (one_take g n (low_of g) m a take) tells v l stood met in
-        elim (low_or_high g n x run inside) [
-            inl at ↦ take_holds g n x (low_of g) m a v l run mask legal.0.answer_is inside at (met.free x inside)
-          | inr more ↦ absurd (let lt = more.0 in omega (arith, lt, one))
-          ];
-  }
+  steps = taking g (low_of g) m a;
+  adds = one_take g n (low_of g) m a take;
+  quiet = (tt, tt);
+  held = λ v l stood met x inside.
+      let legal = legal_after (one_take g n (low_of g) m a take) tells v l stood met in
+      elim (low_or_high g n x run inside) [
+        | inl at ↦ take_holds g n x (low_of g) m a v l run mask legal.0.answer_is inside at (met.free x inside)
+        | inr more ↦ absurd (let lt = more.0 in omega (arith, lt, one))
+      ];
+}
 
 pub took_two : {σ σ1 σ2 : Standing} (g n m a o b : ℕ) → IsShortRun σ.seat.profile g n → IsMaskOf (g % 256) n (low_of g) m → IsMaskOf (g % 256) n (high_of g n) o → low_of g < high_of g n
     → Makes σ σ1 (Take (g / 256) (low_of g) m) a → Makes σ1 σ2 (Take (g / 256) (high_of g n) o) b → Tells σ2 → Takes σ σ2 g n
 took_two {σ} {σ1} {σ2} g n m a o b run mask mask_too lt take more tells = record {
-    steps = made (Take (g / 256) (high_of g n) o) b ∷ taking g (low_of g) m a;
-    adds = two_takes g n (low_of g) m a (high_of g n) o b take more;
-    quiet = (tt, (tt, tt));
-    held = λ v l stood met x inside.
-        let legal = legal_after (two_takes g n (low_of g) m a (high_of g n) o b take more) tells v l stood met in
-        elim (low_or_high g n x run inside) [
-            inl at ↦ still_held (in_mask (g / 256) (high_of g n) o x && has_bit b (x % 64)) (holds (taking g (low_of g) m a ++ v) x) (take_holds g n x (low_of g) m a v l run mask legal.1.0.answer_is inside at (met.free x inside))
-          | inr more ↦ take_holds g n x (high_of g n) o b (taking g (low_of g) m a ++ v) l run mask_too (legal.0.answer_is ∙ after_other (g / 256) (low_of g) (high_of g n) m a σ.seat.actor l lt) inside more.1 (met.free x inside)
-          ];
-  }
+  steps = made (Take (g / 256) (high_of g n) o) b ∷ taking g (low_of g) m a;
+  adds = two_takes g n (low_of g) m a (high_of g n) o b take more;
+  quiet = (tt, (tt, tt));
+  held = λ v l stood met x inside.
+      let legal = legal_after (two_takes g n (low_of g) m a (high_of g n) o b take more) tells v l stood met in
+      elim (low_or_high g n x run inside) [
+        | inl at ↦ still_held (in_mask (g / 256) (high_of g n) o x && has_bit b (x % 64)) (holds (taking g (low_of g) m a ++ v) x) (take_holds g n x (low_of g) m a v l run mask legal.1.0.answer_is inside at (met.free x inside))
+        | inr more ↦ take_holds g n x (high_of g n) o b (taking g (low_of g) m a ++ v) l run mask_too (legal.0.answer_is ∙ after_other (g / 256) (low_of g) (high_of g n) m a σ.seat.actor l lt) inside more.1 (met.free x inside)
+      ];
+}
 
 -- ---- puts
 put_away : (t held : Bool) → t ≡ false → held ≡ true → held_after (if t then Puts else Stays) held ≡ true
@@ -161,14 +161,14 @@ may_put g n m v l run mask met = record { some = low_some g n m run mask; held =
 
 pub may_put_more : {f : Profile} (g n m a o : ℕ) (v : View) (l : Whole) → IsShortRun f g n → IsMaskOf (g % 256) n (high_of g n) o → low_of g < high_of g n → MayPut g n v l → MayPutNow (putting g (low_of g) m a ++ v) (g / 256) (high_of g n) o
 may_put_more g n m a o v l run mask lt met = record {
-    some = high_some g n o run mask;
-    held = λ x inside.
-        let p = and_parts ((high_of g n == x / 64 % 4) && (g / 256 == x / 256)) (has_bit o (x % 64)) inside in
-        let q = and_parts (high_of g n == x / 64 % 4) (g / 256 == x / 256) p.0 in
-        let at : high_of g n ≡ x / 64 % 4 = eqb-true (high_of g n) (x / 64 % 4) q.0 in
-        put_away (in_mask (g / 256) (low_of g) m x) (holds v x) (not_of_word (g / 256) (low_of g) m x (λ e. omega (arith, e, at, lt))) (met.held x (of_mask g n x (high_of g n) o run mask inside));
-    stamped = met.stamped;
-  }
+  some = high_some g n o run mask;
+  held = λ x inside.
+      let p = and_parts ((high_of g n == x / 64 % 4) && (g / 256 == x / 256)) (has_bit o (x % 64)) inside in
+      let q = and_parts (high_of g n == x / 64 % 4) (g / 256 == x / 256) p.0 in
+      let at : high_of g n ≡ x / 64 % 4 = eqb-true (high_of g n) (x / 64 % 4) q.0 in
+      put_away (in_mask (g / 256) (low_of g) m x) (holds v x) (not_of_word (g / 256) (low_of g) m x (λ e. omega (arith, e, at, lt))) (met.held x (of_mask g n x (high_of g n) o run mask inside));
+  stamped = met.stamped;
+}
 
 pub one_put : {σ σ1 : Standing} (g n m a : ℕ) → IsShortRun σ.seat.profile g n → IsMaskOf (g % 256) n (low_of g) m → Makes σ σ1 (Put (g / 256) (low_of g) m) a → Adds σ σ1 (MayPut g n) (putting g (low_of g) m a)
 one_put g n m a run mask put = adds_step adds_none put (λ v l stood met. may_put g n m v l run mask met)
@@ -186,7 +186,7 @@ put_one g n m a run mask put = record { steps = putting g (low_of g) m a; adds =
 pub put_two : {σ σ1 σ2 : Standing} (g n m a o b : ℕ) → IsShortRun σ.seat.profile g n → IsMaskOf (g % 256) n (low_of g) m → IsMaskOf (g % 256) n (high_of g n) o → low_of g < high_of g n
     → Makes σ σ1 (Put (g / 256) (low_of g) m) a → Makes σ1 σ2 (Put (g / 256) (high_of g n) o) b → IsPutBack σ σ2 g n
 put_two g n m a o b run mask mask_too lt put more = record {
-    steps = made (Put (g / 256) (high_of g n) o) b ∷ putting g (low_of g) m a;
-    adds = adds_step (one_put g n m a run mask put) more (λ v l stood met. may_put_more g n m a o v l run mask_too lt met);
-    quiet = (tt, (tt, tt));
-  }
+  steps = made (Put (g / 256) (high_of g n) o) b ∷ putting g (low_of g) m a;
+  adds = adds_step (one_put g n m a run mask put) more (λ v l stood met. may_put_more g n m a o v l run mask_too lt met);
+  quiet = (tt, (tt, tt));
+}

@@ -17,7 +17,9 @@ impl Names {
     pub(crate) fn new(alloc: Global) -> Names
         ensures { (name : ℕ) → block_named result name ≡ None }
     {
-        Names { blocks: Vec::new(alloc) }
+        Names {
+            blocks: Vec::new(alloc),
+        }
     }
 
     /// From now on the name stands for the block.

@@ -41,7 +41,13 @@ fn class_of(size: u32, align: u32) -> u8
 }
 
 /// Serves a request for so many bytes at a multiple of the alignment, and names the block.
-fn serve<D: Desk>(desk: &mut D, ledger: &mut Ledger, name: u32, size: u32, align: u32) -> Result<(), NoMemory>
+fn serve<D: Desk>(
+    desk: &mut D,
+    ledger: &mut Ledger,
+    name: u32,
+    size: u32,
+    align: u32,
+) -> Result<(), NoMemory>
     requires told { D.tells ≡ true }
     requires align { IsAlignment align }
     requires route { IsClassRoute (route_of size align) }
@@ -62,7 +68,11 @@ fn serve<D: Desk>(desk: &mut D, ledger: &mut Ledger, name: u32, size: u32, align
 }
 
 /// Performs the operations in order, by the actor of a desk of a new region. What they did is shown by the desk.
-pub(crate) fn in_order<D: Desk>(alloc: Global, operations: &[Operation], desk: &mut D) -> Result<(), NoMemory>
+pub(crate) fn in_order<D: Desk>(
+    alloc: Global,
+    operations: &[Operation],
+    desk: &mut D,
+) -> Result<(), NoMemory>
     requires told { D.tells ≡ true }
     requires fresh { (D.standing desk.old).stands [] [] }
     requires limit { (D.standing desk.old).seat.room < 2 ^ 32 }
@@ -78,7 +88,13 @@ pub(crate) fn in_order<D: Desk>(alloc: Global, operations: &[Operation], desk: &
     };
     for operation in operations {
         match *operation {
-            Operation::Allocate { name, size, align } => serve(desk, &mut ledger, name, size, align)?,
+            Operation::Allocate { name, size, align } => serve(
+                desk,
+                &mut ledger,
+                name,
+                size,
+                align,
+            )?,
             Operation::Free { name } => {
                 if let Some(block) = ledger.names.get(name) {
                     release(desk, block);

@@ -12,7 +12,11 @@ fn ones(bits: u32) -> u64
     requires { bits ≤ 64 }
     ensures { result ≡ 2 ^ bits - 1 }
 {
-    if bits == 0 { 0 } else { u64::MAX >> (64 - bits) }
+    if bits == 0 {
+        0
+    } else {
+        u64::MAX >> (64 - bits)
+    }
 }
 
 /// The bits of a free word (0 to 3) whose grains are of the run of so many grains from the first on.

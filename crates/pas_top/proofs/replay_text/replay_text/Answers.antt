@@ -22,4 +22,4 @@ returns c =
     let asks = rw c.in-Some.is at c.in_ok-plan.ensures in
     let text : string_bytes c.in_ok-text.text ≡ lines_of c.shown.result.now ++ counted_line c.in_ok-pass.state = c.in_ok-text.ensures in
     replayed c.args.bytes.now (string_bytes c.in_ok-text.text) c.in-Some.plan.profile c.in-Some.plan.operations.items c.in_ok-pass.pass c.in_ok-pass.state asks c.in_ok-pass.ensures
-        (text ∙ ap (λ es. lines_of es ++ counted_line c.in_ok-pass.state) c.shown.ensures)
+    (text ∙ ap (λ es. lines_of es ++ counted_line c.in_ok-pass.state) c.shown.ensures)

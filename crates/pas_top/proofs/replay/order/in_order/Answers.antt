@@ -15,15 +15,15 @@ release-requires-clause-can g c = can_release (next c.loop-operation.operation-i
 
 pub loop-operation-preserved : goal.loop-operation-preserved
 loop-operation-preserved g c = elim c.match-operation.branch [
-    in-Allocate+in_ok-serve-in-Allocate w ↦
+  | in-Allocate+in_ok-serve-in-Allocate w ↦
       let far = after_serve c.requires.plan.valid (next c.loop-operation.operation-index (Allocate w.in-Allocate.name w.in-Allocate.size w.in-Allocate.align) (Allocate 0 0 0) c.loop-operation-test.true w.in-Allocate.is c.loop-operation.invariant.0)
-          (λ v l s. g.met.D.Desk.told_part c.loop-operation.desk v l c.requires.told s) w.in_ok-serve-in-Allocate.ensures.serves (λ v l s. g.met.D.Desk.told w.serve.new.desk v l c.requires.told s) in
+      (λ v l s. g.met.D.Desk.told_part c.loop-operation.desk v l c.requires.told s) w.in_ok-serve-in-Allocate.ensures.serves (λ v l s. g.met.D.Desk.told w.serve.new.desk v l c.requires.told s) in
       let home = w.serve.ensures.home ∙ c.loop-operation.invariant.1 in
       rw (w.desk-is, w.ledger-is) (far, home)
   | in-Free+in-Some w ↦
       let far = after_free c.requires.plan.valid c.requires.limit (next c.loop-operation.operation-index (Free w.in-Free.name) (Allocate 0 0 0) c.loop-operation-test.true w.in-Free.is c.loop-operation.invariant.0) w.in-Some.block (sym w.get.ensures ∙ w.in-Some.is)
-          (λ v l s. g.met.D.Desk.told_part c.loop-operation.desk v l c.requires.told s) w.release.ensures.releases (λ v l s. g.met.D.Desk.told w.release.new.desk v l c.requires.told s) in
+      (λ v l s. g.met.D.Desk.told_part c.loop-operation.desk v l c.requires.told s) w.release.ensures.releases (λ v l s. g.met.D.Desk.told w.release.new.desk v l c.requires.told s) in
       let home = w.release.ensures.home ∙ c.loop-operation.invariant.1 in
       rw (w.desk-is, w.ledger-is) (far, home)
   | in-Free+in_default w ↦ absurd (no_name (next c.loop-operation.operation-index (Free w.in-Free.name) (Allocate 0 0 0) c.loop-operation-test.true w.in-Free.is c.loop-operation.invariant.0) (sym w.get.ensures ∙ w.in_default.is))
-  ]
+]

@@ -28,7 +28,7 @@ returns-in-Some-clause-home g c = c.slot_on-found.ensures.home ∙ c.loop-page.i
 
 pub loop-page-preserved : goal.loop-page-preserved
 loop-page-preserved g c = elim c.if-classes-page.branch [
-    then-classes-page+in_default w ↦
+  | then-classes-page+in_default w ↦
       let far = sought_full c.args.classes.now c.args.class c.loop-page.page c.loop-page.invariant.0 w.slot_on-found.ensures.scans w.in_default.is in
       let home = w.slot_on-found.ensures.home ∙ c.loop-page.invariant.1 in
       rw (w.desk-is) (far, home)
@@ -36,7 +36,7 @@ loop-page-preserved g c = elim c.if-classes-page.branch [
       let far = sought_other c.args.classes.now c.args.class c.loop-page.page c.loop-page.invariant.0 w.if-classes-page.false in
       let home = c.loop-page.invariant.1 in
       rw (w.desk-is) (far, home)
-  ]
+]
 
 pub returns-clause-finds : goal.returns-clause-finds
 returns-clause-finds g c =
