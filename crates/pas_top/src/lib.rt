@@ -1,6 +1,0 @@
-//! The top call: from the words and the bytes that come in to the bytes and the status that go out.
-#![tactic(auto)]
-
-pub mod plan;
-
-pub use plan::Operation;
