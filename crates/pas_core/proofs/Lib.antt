@@ -5,6 +5,8 @@ pub mod Lives
 pub mod MachineRuns
 pub mod Given
 pub mod Placed
+pub mod DeedWords
+pub mod Spots
 pub mod Knowledge
 pub mod Rights
 pub mod Epochs

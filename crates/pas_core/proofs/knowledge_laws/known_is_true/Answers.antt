@@ -2,7 +2,8 @@ use Rattle.std.proofs.Common.{sym}
 use Rattle.pas_profile.specs.declared.word.Word.TheVariants as Word
 use Rattle.pas_steps.specs.Views.{known_deed}
 use Rattle.pas_steps.specs.Lists.{part, word_after}
-use Rattle.pas_core.proofs.Knowledge.{known_is, deeds_known, backed_known}
+use Rattle.pas_core.proofs.DeedWords.{known_is}
+use Rattle.pas_core.proofs.Knowledge.{deeds_known, backed_known}
 use Rattle.pas_core.proofs.Rights.{free_known}
 use Rattle.pas_core.proofs.Lives.{life_is_known}
 use Rattle.pas_core.proofs.Epochs.{epoch_known}
