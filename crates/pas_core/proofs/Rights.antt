@@ -4,7 +4,7 @@ use Rattle.std.specs.Int.{bit_not, w64}
 use Rattle.std.proofs.lemmas.Bool.{false≢true, eqb-true, eqb-false, eq-eqb, and_parts, or_left, or_cases, false_from_ne_true}
 use Rattle.std.proofs.lemmas.Nat.Bits.{bit_at_ones}
 use Rattle.pas_profile.specs.Classes.{has_bit}
-use Rattle.pas_profile.specs.Directories.{number_of, deed_word_of, deed_word_numbered}
+use Rattle.pas_profile.specs.Directories.{IsKind, number_of, deed_word_of, deed_word_numbered}
 use Rattle.pas_profile.specs.Layouts.{same_word}
 use Rattle.pas_profile.specs.Profiles.{IsPage, IsDirectoryOf}
 use Rattle.pas_profile.specs.declared.profile.Profile.{Profile}
@@ -82,6 +82,28 @@ in_place f l p InParked has eligible parked deed word = inr (inr (inr (record { 
 -- the right of each page that has a deed is in exactly one place
 pub right_in_one_place : (f : Profile) (l : Whole) → Legal f l → (p : ℕ) → IsRightInOnePlace f l p
 right_in_one_place f l legal p = let at : IsSpotted l p = spotted f l legal p in in_place f l p (spot_of l p) at.has at.eligible at.parked at.deed (deed_words f l legal p)
+
+-- the bit in the vector of the page's own directory says whether the right is offered
+abbrev pub is_on_offer : Spot → Bool
+is_on_offer Nowhere = false
+is_on_offer (With k) = false
+is_on_offer (Offered n) = true
+is_on_offer InParked = false
+
+own_offer : (o : Spot) (d : Directory) → IsKind d.kind → DeedFits o (deed_word_of d) → is_offered (number_of d) o ≡ is_on_offer o
+own_offer Nowhere d kind fits = refl
+own_offer (With k) d kind fits = refl
+own_offer (Offered n) d kind fits = eq-eqb n (number_of d) (sym (number_told d n kind fits))
+own_offer InParked d kind fits = refl
+
+pub own_eligible : (f : Profile) (l : Whole) → Legal f l → (p : ℕ) (d : Directory) → IsDirectoryOf f d → word_after l (Word.Deed p) ≡ deed_word_of d → eligible_bit l (number_of d) p ≡ is_on_offer (spot_of l p)
+own_eligible f l legal p d of deed =
+    let at : IsSpotted l p = spotted f l legal p in
+    at.eligible (number_of d) ∙ own_offer (spot_of l p) d of.kind (subst (DeedFits (spot_of l p)) deed at.deed)
+
+-- in the vector of another number it is clear
+pub other_eligible : (f : Profile) (l : Whole) → Legal f l → (p n : ℕ) → word_after l (Word.Deed p) ≢ deed_word_numbered n → eligible_bit l n p ≡ false
+other_eligible f l legal p n other = false_from_ne_true (eligible_bit l n p) (λ h. other (offered_has_deed f l legal n p h))
 
 -- a set bit of an eligible word tells the deed that an actor knows, if it knows one
 pub offered_is_known : (f : Profile) (l : Whole) → Legal f l → (k n p : ℕ) → eligible_bit l n p ≡ true → known_deed (part k l) p ≢ 0 → known_deed (part k l) p ≡ deed_word_numbered n
