@@ -7,3 +7,4 @@ pub mod Agreement
 pub mod Desks
 pub mod Frames
 pub mod Ranges
+pub mod States

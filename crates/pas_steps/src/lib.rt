@@ -4,7 +4,9 @@
 
 pub mod desk;
 pub mod effect;
+pub mod state;
 pub mod step;
 
 pub use desk::Desk;
+pub use state::State;
 pub use step::{Made, Step};

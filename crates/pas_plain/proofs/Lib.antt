@@ -1,0 +1,4 @@
+pub mod Awaited
+pub mod FreeWords
+pub mod Passes
+pub mod Stepping

@@ -1,0 +1,11 @@
+use Rattle.std.proofs.Common.{◌≡◌, ◌+◌, ◌≤◌, All, List, [], length, sym, subst, arith}
+use Rattle.pas_plain.specs.Plain.{PassStands, passes_from}
+use Rattle.pas_plain.specs.declared.pass.PlainPass.{PlainPass}
+use Rattle.pas_plain.proofs.Passes.{passes_stand}
+use Rattle.pas_plain.proofs.session.try_new.Goals as goal
+
+pub returns-clause-stand : goal.returns-clause-stand
+returns-clause-stand c =
+    let few : 0 + length c.args.rooms.items ≤ c.args.profile.threads + 1 = omega (arith, c.requires.actors, c.args.rooms.ok.0) in
+    subst (λ (passes : List PlainPass). All (λ pass. PassStands c.args.profile pass []) passes) (sym c.in_ok-passes.ensures)
+    (passes_stand c.args.profile 0 c.args.rooms.items few c.requires.empty)

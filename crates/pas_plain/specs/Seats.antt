@@ -1,0 +1,45 @@
+-- What a plain desk stands for, and which passes are a region's own.
+use Rattle.std.specs.Prelude.{ℕ, ◌≡◌, List, All}
+use Rattle.pas_steps.specs.Views.{View, or_zero}
+use Rattle.pas_steps.specs.Lists.{Whole, part}
+use Rattle.pas_steps.specs.Desks.{Seat, Standing}
+use Rattle.pas_steps.specs.declared.step.Step.{Step}
+use Rattle.pas_plain.specs.Plain.{profile_of, RegionStands, actor_of, room_of_pass, epoch_known, PassStands, IsExchanged, IsNoted}
+use Rattle.pas_plain.specs.declared.region.PlainRegion.{PlainRegion}
+use Rattle.pas_plain.specs.declared.pass.PlainPass.{PlainPass}
+use Rattle.pas_plain.specs.declared.desk.PlainDesk.{PlainDesk}
+
+-- ---- desks
+abbrev pub region_of : PlainDesk → PlainRegion
+region_of desk = desk.region
+
+abbrev pub pass_of : PlainDesk → PlainPass
+pass_of desk = desk.pass
+
+abbrev pub seat_of : PlainDesk → Seat
+seat_of desk = record { actor = actor_of desk.pass; profile = profile_of desk.region; room = room_of_pass desk.pass }
+
+-- the desk stands for the lists for which both its region and its pass stand, and for the part of its actor
+pub record DeskStands (desk : PlainDesk) (v : View) (l : Whole) : Type 0 where
+  pub region : RegionStands desk.region l
+  pub pass : PassStands (profile_of desk.region) desk.pass l
+  pub part_is : part (actor_of desk.pass) l ≡ v
+
+abbrev pub standing_of : PlainDesk → Standing
+standing_of desk = record { seat = seat_of desk; stands = DeskStands desk }
+
+-- the desk after the step with this answer
+pub record IsChanged (old new : PlainDesk) (step : Step) (answer : ℕ) : Type 0 where
+  pub region : IsExchanged old.region new.region (or_zero (epoch_known old.pass)) step answer
+  pub pass : IsNoted old.pass new.pass step answer
+
+-- ---- passes of a region: region and passes stand for one list
+pub record IsPassOf (region : PlainRegion) (pass : PlainPass) : Type 0 where
+  pub whole : Whole
+  pub stands : RegionStands region whole
+  pub its_part : PassStands (profile_of region) pass whole
+
+pub record ArePassesOf (region : PlainRegion) (passes : List PlainPass) : Type 0 where
+  pub whole : Whole
+  pub stands : RegionStands region whole
+  pub parts : All (λ pass. PassStands (profile_of region) pass whole) passes

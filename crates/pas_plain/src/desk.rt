@@ -1,0 +1,123 @@
+//! The desk of an actor at a plain region.
+ghost use Rattle.std.specs.Prelude.{◌≡◌};
+ghost use Rattle.pas_steps.specs.Lists.{Whole, part};
+ghost use Rattle.pas_steps.specs.Views.{View};
+ghost use Rattle.pas_plain.specs.Plain.{profile_of, actor_of, RegionStands, PassStands};
+ghost use Rattle.pas_plain.specs.Seats.{region_of, pass_of, IsPassOf, DeskStands};
+
+use crate::pass::PlainPass;
+use crate::region::PlainRegion;
+use pas_profile::{Event, Profile};
+use pas_steps::{Desk, Step};
+
+/// The place of one actor at a region at which no other actor works.
+#[derive(Drop)]
+pub struct PlainDesk {
+    region: PlainRegion,
+    pass: PlainPass,
+}
+
+impl PlainRegion {
+    /// Seats the actor of this pass, which is one of this region, at the region.
+    #[inline]
+    pub fn desk(self, pass: PlainPass) -> PlainDesk
+        requires { IsPassOf self pass }
+        ensures region { region_of result ≡ self }
+        ensures pass { pass_of result ≡ pass }
+        ensures stands { (l : Whole) → RegionStands self l → PassStands (profile_of self) pass l → DeskStands result (part (actor_of pass) l) l }
+    {
+        PlainDesk { region: self, pass }
+    }
+}
+
+impl PlainDesk {
+    ghost use Rattle.std.specs.Prelude.{◌+◌, ◌≤◌, length};
+    ghost use Rattle.pas_profile.specs.Profiles.{IsWordOf};
+    ghost use Rattle.pas_steps.specs.Effects.{target};
+    ghost use Rattle.pas_steps.specs.Events.{wants};
+    ghost use Rattle.pas_steps.specs.Ranges.{IsRanged};
+    ghost use Rattle.pas_plain.specs.Plain.{events_shown, room_of_pass};
+    ghost use Rattle.pas_plain.specs.Seats.{IsChanged};
+
+    /// Lets the actor rise: the region, and the actor's pass.
+    #[inline]
+    pub fn into_parts(self) -> (PlainRegion, PlainPass)
+        ensures region { result.0 ≡ region_of self }
+        ensures pass { result.1 ≡ pass_of self }
+        ensures region_stands { (v : View) (l : Whole) → DeskStands self v l → RegionStands result.0 l }
+        ensures pass_stands { (v : View) (l : Whole) → DeskStands self v l → PassStands (profile_of result.0) result.1 l }
+    {
+        (self.region, self.pass)
+    }
+
+    #[inline]
+    fn change(&mut self, step: Step) -> u64
+        requires of_region { IsWordOf (profile_of self.old.region) (target step) }
+        requires ranged { IsRanged step }
+        requires room { length (events_shown self.old.pass) + wants step ≤ room_of_pass self.old.pass }
+        ensures { IsChanged self.old self.new step result }
+    {
+        let answer = self.region.exchange(self.pass.epoch(), step);
+        self.pass.note(step, answer);
+        answer
+    }
+}
+
+impl Desk for PlainDesk {
+    ghost use Rattle.std.specs.Prelude.{◌+◌, ◌-◌, ◌^◌, true, length, min, reverse};
+    ghost use Rattle.std.proofs.Common.{ap, sym, subst, ◌∙◌, ◌≤◌};
+    ghost use Rattle.std.proofs.lemmas.List.{length-reverse};
+    ghost use Rattle.std.proofs.Math.Nat.{sub-add_cancel};
+    ghost use Rattle.pas_steps.specs.Events.{events_of};
+    ghost use Rattle.pas_plain.specs.Plain.{events_shown, room_of_pass, count_of_pass};
+    ghost use Rattle.pas_plain.specs.Seats.{standing_of};
+
+    type Home = ();
+
+    ghost home = { λ desk. tt };
+
+    ghost tells = { true };
+
+    ghost standing = { standing_of };
+
+    ghost spare_of = { λ desk. room_of_pass desk.pass - length (events_shown desk.pass) };
+
+    ghost shown_of = { λ desk. events_shown desk.pass };
+
+    ghost count_of = { λ desk. count_of_pass desk.pass };
+
+    #[inline]
+    fn actor(&self) -> u8 {
+        self.pass.actor()
+    }
+
+    #[inline]
+    fn profile(&self) -> &Profile {
+        self.region.profile()
+    }
+
+    #[inline]
+    fn count(&self) -> u64 {
+        self.pass.count()
+    }
+
+    #[inline]
+    fn shown(&self) -> &[Event] {
+        self.pass.shown()
+    }
+
+    #[inline]
+    fn make(&mut self, step: Step) -> u64 {
+        self.change(step)
+    }
+
+    ghost shows = { λ desk v l stood. stood.pass.shown ∙ ap (λ v. reverse (events_of (actor_of desk.pass) v)) stood.part_is };
+
+    ghost spares = { λ desk v l stood. ap (λ n. room_of_pass desk.pass - length (events_shown desk.pass) + n) (sym (ap length (stood.pass.shown ∙ ap (λ v. reverse (events_of (actor_of desk.pass) v)) stood.part_is) ∙ length-reverse (events_of (actor_of desk.pass) v))) ∙ sub-add_cancel {n = room_of_pass desk.pass} {m = length (events_shown desk.pass)} (subst (λ n. n ≤ room_of_pass desk.pass) (desk.pass.room.events.ok.0) desk.pass.room.within) };
+
+    ghost counts = { λ desk v l stood. stood.pass.count ∙ ap (λ v. min (length v) (2 ^ 64 - 1)) stood.part_is };
+
+    ghost told = { λ desk v l tells stood. stood.region.legal };
+
+    ghost told_part = { λ desk v l tells stood. stood.part_is };
+}

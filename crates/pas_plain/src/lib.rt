@@ -1,0 +1,18 @@
+//! A region whose words stand in one vector, and the desk of an actor that works at it alone.
+//!
+//! The actors take turns: `PlainRegion::desk` seats one at the region, and `PlainDesk::into_parts` lets it rise again. Since no
+//! other desk runs beside it, a plain desk tells the whole state.
+#![tactic(auto)]
+
+pub mod desk;
+pub mod opening;
+pub mod pass;
+pub mod region;
+pub mod session;
+#[cfg(test)]
+mod tests;
+
+pub use desk::PlainDesk;
+pub use pass::PlainPass;
+pub use region::PlainRegion;
+pub use session::{close, try_new};

@@ -1,0 +1,85 @@
+//! A region whose words stand in one vector.
+ghost use Rattle.std.specs.Prelude.{◌≡◌, ◌<◌, vec_len, length, slice_index};
+ghost use Rattle.pas_profile.specs.Profiles.{IsValid};
+ghost use Rattle.pas_profile.specs.Layouts.{words_of};
+
+use crate::opening::opening_words;
+use pas_profile::{Layout, NoMemory, Profile};
+use pas_steps::effect::{new_value, target};
+use pas_steps::{State, Step};
+use std::alloc::Global;
+
+/// A region whose words stand in one vector. One actor works at it at a time.
+#[derive(Drop)]
+pub struct PlainRegion {
+    profile: Profile,
+    layout: Layout,
+    words: Vec<u64>,
+    ghost valid: { IsValid profile },
+    ghost pages: { layout.pages ≡ profile.pages },
+    ghost heaps: { layout.heaps ≡ profile.heaps },
+    ghost sized: { vec_len words ≡ words_of profile.pages profile.heaps },
+}
+
+/// A word by its place.
+#[inline]
+fn load(words: &[u64], at: usize) -> u64
+    requires { at < length words.now }
+    ensures { result ≡ slice_index words.now at }
+{
+    words[at]
+}
+
+impl PlainRegion {
+    ghost use Rattle.pas_profile.specs.Profiles.{IsWordOf};
+    ghost use Rattle.pas_steps.specs.Effects.{target as target_word};
+    ghost use Rattle.pas_steps.specs.Ranges.{IsRanged};
+    ghost use Rattle.std.specs.Prelude.{IfOk, []};
+    ghost use Rattle.pas_profile.specs.declared.word.Word.{Word};
+    ghost use Rattle.pas_steps.specs.States.{profile_of as the_profile_of, word_in};
+    ghost use Rattle.pas_plain.specs.Plain.{profile_of, word_at, RegionStands, IsExchanged};
+
+    /// A region that nobody used yet.
+    pub(crate) fn try_new(alloc: Global, profile: Profile) -> Result<PlainRegion, NoMemory>
+        requires { IsValid profile }
+        ensures profile { IfOk result (λ region. profile_of region ≡ profile) }
+        ensures opening { IfOk result (λ region. RegionStands region []) }
+    {
+        let layout = Layout::new(&profile);
+        let words = opening_words(alloc, &layout)?;
+        Ok(PlainRegion {
+            profile,
+            layout,
+            words,
+        })
+    }
+
+    /// The state of the region. It keeps the region's own vector.
+    pub(crate) fn into_state(self) -> State
+        ensures profile { the_profile_of result ≡ profile_of self }
+        ensures words { (w : Word) → word_in result w ≡ word_at self w }
+    {
+        State::of_words(self.profile, self.words)
+    }
+
+    /// The profile of the region.
+    #[inline]
+    pub fn profile(&self) -> &Profile
+        ensures { result.now ≡ profile_of self.now }
+    {
+        &self.profile
+    }
+
+    /// Puts the new value of the step's word in the place of the old one, for an actor that knows this epoch.
+    #[inline]
+    pub(crate) fn exchange(&mut self, epoch: u64, step: Step) -> u64
+        requires of_region { IsWordOf (profile_of self.old) (target_word step) }
+        requires ranged { IsRanged step }
+        ensures { IsExchanged self.old self.new epoch step result }
+    {
+        let at = self.layout.index(target(step));
+        let old = load(&self.words, at);
+        self.words[at] = new_value(epoch, step, old);
+        old
+    }
+}
