@@ -1,3 +1,4 @@
 pub mod Parts
 pub mod Ranged
 pub mod Targets
+pub mod Written
