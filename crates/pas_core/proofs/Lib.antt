@@ -12,3 +12,4 @@ pub mod Rights
 pub mod Epochs
 pub mod Agreement
 pub mod Nexts
+pub mod Running
