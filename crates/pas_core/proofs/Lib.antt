@@ -13,3 +13,4 @@ pub mod Epochs
 pub mod Agreement
 pub mod Nexts
 pub mod Running
+pub mod Checks

@@ -1,12 +1,12 @@
 -- Where the right of each page is.
-use Rattle.std.specs.Prelude.{ℕ, ◌/◌, ◌%◌, ◌≡◌, ◌≢◌, ◌==◌, ◌⊎◌, Bool, true, false}
+use Rattle.std.specs.Prelude.{ℕ, ◌+◌, ◌*◌, ◌/◌, ◌%◌, ◌<◌, ◌≡◌, ◌≢◌, ◌==◌, ◌⊎◌, Bool, true, false}
 use Rattle.pas_profile.specs.Classes.{has_bit}
-use Rattle.pas_profile.specs.Directories.{number_of, deed_word_of}
+use Rattle.pas_profile.specs.Directories.{number_of, deed_word_of, directory_read}
 use Rattle.pas_profile.specs.Profiles.{IsDirectoryOf}
 use Rattle.pas_profile.specs.declared.profile.Profile.{Profile}
 use Rattle.pas_profile.specs.declared.directory.Directory.{Directory}
 use Rattle.pas_profile.specs.declared.word.Word.TheVariants as Word
-use Rattle.pas_steps.specs.Views.{has_right}
+use Rattle.pas_steps.specs.Views.{has_right, usable_by, owes_check}
 use Rattle.pas_steps.specs.Lists.{Whole, part, word_after}
 
 -- the bit of the page in the parked vector, in the empty vector, and in the eligible vector of the directory of this number
@@ -53,3 +53,15 @@ pub record IsRightParked (l : Whole) (page : ℕ) : Type 0 where
 -- the right of the page is in exactly one place, if the page has a deed
 abbrev pub IsRightInOnePlace : Profile → Whole → ℕ → Type 0
 IsRightInOnePlace f l page = HasNoRight l page ⊎ IsRightOfOne l page ⊎ IsRightOffered f l page ⊎ IsRightParked l page
+
+-- ---- parked pages with free grains
+-- this bit of the free word of the page is set, and is that of a grain which blocks of the page's directory may cover
+pub record IsUsableFree (l : Whole) (page word bit : ℕ) : Type 0 where
+  pub small : bit < 64
+  pub free : has_bit (word_after l (Word.Free page word)) bit ≡ true
+  pub usable : usable_by (directory_read (word_after l (Word.Deed page))) (64 * word + bit) ≡ true
+
+-- some actor owes a look at the free word of the page
+pub record IsOwed (l : Whole) (page word : ℕ) : Type 0 where
+  pub actor : ℕ
+  pub owes : owes_check (part actor l) page word ≡ true

@@ -13,7 +13,7 @@ ghost use Rattle.pas_steps.specs.Events.{events_of};
 ghost use Rattle.pas_steps.specs.Lists.{Whole, Legal, visible};
 ghost use Rattle.pas_core.specs.Good.{AgreesWithWords, IsInOnePlace, IsPlacedOnce};
 ghost use Rattle.pas_core.specs.Given.{WasGiven};
-ghost use Rattle.pas_core.specs.Rights.{parked_bit, empty_bit, eligible_bit, IsRightInOnePlace};
+ghost use Rattle.pas_core.specs.Rights.{parked_bit, empty_bit, eligible_bit, IsRightInOnePlace, IsUsableFree, IsOwed};
 
 /// However the steps of the actors fall between each other, what they did is a run of the machine: each block was given where no
 /// other lived, on backed pages of its heap and under a name of its own, each end ended the very block of its name, and each
@@ -40,6 +40,12 @@ pub fn placed()
 /// no bit of a page is set in the vector of another directory, and no actor finds a right offered or parked that another has.
 pub fn one_place_of_a_right()
     ensures { (f : Profile) (l : Whole) → Legal f l → (page : ℕ) → IsRightInOnePlace f l page }
+{}
+
+/// A parked page isn't forgotten: where it has a free grain that blocks of its directory may cover, some actor owes a look at that free
+/// word. So once no actor owes a check, a parked page has nothing to give.
+pub fn parked_pages_are_checked()
+    ensures { (f : Profile) (l : Whole) → Legal f l → (page word bit : ℕ) → parked_bit l page ≡ true → IsUsableFree l page word bit → IsOwed l page word }
 {}
 
 /// Each bit that is set in a page vector is that of a page of the region: never that of page 0 or of one past the last.
