@@ -1,12 +1,12 @@
-use Rattle.std.proofs.Common.{◌≡◌, ℕ, ◌<◌, ◌≤◌, List, length, get_or, replicate, Option, None, refl, ap, sym, ◌∙◌, subst, arith}
+use Rattle.std.proofs.Common.{ℕ, get_or, replicate, None, refl, sym, subst}
 use Rattle.std.proofs.lemmas.List.{take_all, get_or-replicate}
-use Rattle.pas_profile.specs.Profiles.{IsWordOf, IsValid}
+use Rattle.pas_profile.specs.Profiles.{IsWordOf}
 use Rattle.pas_profile.specs.declared.word.Word.TheVariants as Word
 use Rattle.pas_steps.specs.Effects.{target}
 use Rattle.pas_steps.specs.States.{profile_of}
 use Rattle.pas_steps.specs.declared.step.Step.{Step}
 use Rattle.pas_steps.specs.declared.step.Step.TheVariants.{Look}
-use Rattle.pas_core.proofs.Running.{IsSoFar, step_at, at_actor, at_ranged, at_word, so_far_first, so_far_next, so_far_last}
+use Rattle.pas_core.proofs.Running.{step_at, at_actor, at_ranged, at_word, so_far_first, so_far_next, so_far_last}
 use Rattle.pas_core.proofs.run.run_steps.Goals as goal
 
 pub loop-actor-init : goal.loop-actor-init

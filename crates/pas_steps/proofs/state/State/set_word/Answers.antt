@@ -1,4 +1,4 @@
-use Rattle.std.proofs.Common.{ap, sym, ◌∙◌, ◌≡◌, ℕ, List, length, refl, arith}
+use Rattle.std.proofs.Common.{ap, ◌∙◌, ◌≡◌, ℕ, length, refl, arith}
 use Rattle.std.specs.Prelude.{slice_index, slice_set}
 use Rattle.pas_profile.specs.Layouts.{index_of, words_of, same_word}
 use Rattle.pas_steps.proofs.Written.{place_written}
