@@ -1,4 +1,3 @@
-pub mod Awaited
 pub mod FreeWords
 pub mod Passes
 pub mod Stepping

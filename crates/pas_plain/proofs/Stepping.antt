@@ -20,12 +20,12 @@ use Rattle.pas_steps.specs.Desks.{Seat, made, triple, Makes}
 use Rattle.pas_steps.specs.declared.step.Step.{Step}
 use Rattle.pas_steps.specs.declared.step.Made.{Made}
 use Rattle.pas_steps.proofs.Targets.{target_of_region}
+use Rattle.pas_core.proofs.Nexts.{legal_next, agrees_next}
 use Rattle.pas_plain.specs.Plain.{profile_of, word_at, RegionStands, actor_of, events_shown, room_of_pass, count_of_pass, epoch_known, PassStands, IsExchanged, IsNoted}
 use Rattle.pas_plain.specs.Seats.{DeskStands, standing_of, IsChanged}
 use Rattle.pas_plain.specs.declared.region.PlainRegion.{PlainRegion}
 use Rattle.pas_plain.specs.declared.pass.PlainPass.{PlainPass}
 use Rattle.pas_plain.specs.declared.desk.PlainDesk.{PlainDesk}
-use Rattle.pas_plain.proofs.Awaited.{answer_agrees}
 use Rattle.pas_plain.proofs.FreeWords.{place_written}
 
 -- the actor's part has the step
@@ -65,22 +65,12 @@ value_next r l w e k s a is ends ep false same = ends
 sized_words : (r : PlainRegion) → length r.words.items ≡ words_of r.profile.pages r.profile.heaps
 sized_words r = omega (arith, r.sized, r.words.ok.0)
 
-pub next_of : (r : PlainRegion) (l : Whole) (k : ℕ) (s : Step) (a : ℕ) → RegionStands r l → k ≤ (profile_of r).threads → IsStepOf (profile_of r) s → Allowed (profile_of r) (part k l) s → a ≡ word_at r (target s)
-    → IsNext (profile_of r) l (triple k (made s a))
-next_of r l k s a stands actor of allowed is = record {
-  actor = actor;
-  of_region = of;
-  allowed = allowed;
-  answer_is = is ∙ stands.ends (target s) (target_of_region (profile_of r) (part k l) s of allowed);
-}
-
-pub region_next : (old new : PlainRegion) (e : ℕ) (s : Step) (a : ℕ) (l : Whole) (k : ℕ) → RegionStands old l → IsExchanged old new e s a → e ≡ epoch_of (part k l) → IsNext (profile_of old) l (triple k (made s a))
-    → RegionStands new (triple k (made s a) ∷ l)
-region_next old new e s a l k stands changed ep next =
+pub region_next : (old new : PlainRegion) (e : ℕ) (s : Step) (a : ℕ) (l : Whole) (k : ℕ) → RegionStands old l → IsExchanged old new e s a → e ≡ epoch_of (part k l) → IsWordOf (profile_of old) (target s)
+    → Legal (profile_of old) (triple k (made s a) ∷ l) → RegionStands new (triple k (made s a) ∷ l)
+region_next old new e s a l k stands changed ep of legal =
     let f = profile_of old in
-    let of = target_of_region f (part k l) s next.of_region next.allowed in
     record {
-      legal = subst (λ (g : Profile). Legal g (triple k (made s a) ∷ l)) (sym changed.profile) (next, stands.legal);
+      legal = subst (λ (g : Profile). Legal g (triple k (made s a) ∷ l)) (sym changed.profile) legal;
       ends = λ w hw.
           let hw' : IsWordOf f w = subst (λ (g : Profile). IsWordOf g w) changed.profile hw in
           ap (λ (g : Profile). slice_index new.words.items (index_of g.pages w)) changed.profile
@@ -101,10 +91,10 @@ desk_next : (d new : PlainDesk) (s : Step) (a : ℕ) → IsStepOf (profile_of d.
 desk_next d new s a of changed v l stood allowed =
     let f = profile_of d.region in
     let k = actor_of d.pass in
-    let allowed' = subst (λ (x : View). Allowed f x s) (sym stood.part_is) allowed in
-    let next = next_of d.region l k s a stood.region stood.pass.actor of allowed' changed.region.answer_is in
+    let of_word = target_of_region f v s of allowed in
+    let legal = legal_next f l k v s a stood.region.legal stood.pass.actor stood.part_is of allowed (changed.region.answer_is ∙ stood.region.ends (target s) of_word) in
     record {
-      region = region_next d.region new.region (or_zero (epoch_known d.pass)) s a l k stood.region changed.region (ap or_zero stood.pass.epoch) next;
+      region = region_next d.region new.region (or_zero (epoch_known d.pass)) s a l k stood.region changed.region (ap or_zero stood.pass.epoch) of_word legal;
       pass = subst (λ (g : Profile). PassStands g new.pass (triple k (made s a) ∷ l)) (sym changed.region.profile) (pass_next f d.pass new.pass s a l stood.pass changed.pass);
       part_is = ap (λ (x : ℕ). part x (triple k (made s a) ∷ l)) changed.pass.actor ∙ own_part k (made s a) l ∙ ap (λ x. made s a ∷ x) stood.part_is;
     }
@@ -118,7 +108,5 @@ plain_makes d new s a of changed =
       seat_is = seat_same changed.pass.actor changed.region.profile changed.pass.size;
       added = desk_next d new s a of changed;
       agrees = λ v l stood allowed.
-          let allowed' = subst (λ (x : View). Allowed f x s) (sym stood.part_is) allowed in
-          let next = next_of d.region l k s a stood.region stood.pass.actor of allowed' changed.region.answer_is in
-          subst (λ (x : View). Agrees f x s a) stood.part_is (answer_agrees f l (triple k (made s a)) d.region.valid stood.region.legal next);
+          agrees_next f l k v s a d.region.valid stood.region.legal stood.part_is of (changed.region.answer_is ∙ stood.region.ends (target s) (target_of_region f v s of allowed));
     }

@@ -1,11 +1,14 @@
 ghost use Rattle.std.specs.Prelude.{◌≡◌, IfOk, []};
-ghost use Rattle.pas_plain.specs.Plain.{actor_of, profile_of, room_of_pass};
+ghost use Rattle.pas_steps.specs.Lists.{Whole};
+ghost use Rattle.pas_steps.specs.States.{profile_of as the_profile_of};
+ghost use Rattle.pas_steps.specs.Views.{View};
+ghost use Rattle.pas_plain.specs.Plain.{profile_of, room_of_pass};
 ghost use Rattle.pas_plain.specs.Seats.{DeskStands, region_of, pass_of};
 
 use crate::*;
 use pas_profile::*;
-use pas_steps::Desk;
-use std::alloc::Global;
+use pas_steps::{Desk, State};
+use std::alloc::{AllocError, Global};
 use std::test::Fail;
 
 const PROFILE: Profile = Profile {
@@ -19,6 +22,17 @@ const PROFILE: Profile = Profile {
 const DIRECTORY: Directory = Directory {
     heap: 0,
     kind: Kind::Class(0),
+};
+
+const NAME: Name = Name {
+    address: Address(4096),
+    turn: 0,
+};
+
+const BLOCK: Block = Block {
+    name: NAME,
+    room: 16,
+    heap: 0,
 };
 
 /// Actor 1 at a region that nobody used yet.
@@ -37,25 +51,56 @@ fn seated(alloc: Global) -> Result<PlainDesk, Fail>
     Ok(region.desk(pass))
 }
 
+/// The life of a block, with the answers of its steps.
+fn live_and_end(desk: &mut PlainDesk) -> [u64; 7]
+    requires fresh { DeskStands desk.old [] [] }
+    requires profile { profile_of (region_of desk.old) ≡ PROFILE }
+    requires room { room_of_pass (pass_of desk.old) ≡ 16 }
+    ensures stands { (v : View) × (l : Whole) × DeskStands desk.new v l }
+    ensures profile { profile_of (region_of desk.new) ≡ PROFILE }
+{
+    [
+        desk.look(Word::Epoch),
+        desk.deed(1, DIRECTORY),
+        desk.take(1, 0, 1),
+        desk.back(1),
+        desk.look(Word::Life(1, 0)),
+        desk.give(BLOCK),
+        desk.end(NAME, 1),
+    ]
+}
+
+/// The actor rises, and the region is closed.
+fn closed(alloc: Global, desk: PlainDesk) -> Result<State, AllocError>
+    requires stands { (v : View) × (l : Whole) × DeskStands desk v l }
+    requires profile { profile_of (region_of desk) ≡ PROFILE }
+    ensures { IfOk result (λ state. the_profile_of state ≡ PROFILE) }
+{
+    let (region, pass) = desk.into_parts();
+    Ok(close(region, vec![in alloc; pass]?))
+}
+
+/// Some words of the state.
+fn values(state: &State) -> [u64; 8]
+    requires { the_profile_of state.now ≡ PROFILE }
+{
+    [
+        state.word(Word::Epoch),
+        state.word(Word::Free(1, 0)),
+        state.word(Word::Free(1, 1)),
+        state.word(Word::Life(1, 0)),
+        state.word(Word::Deed(1)),
+        state.word(Word::Backed(1)),
+        state.word(Word::Free(2, 3)),
+        state.word(Word::Deed(2)),
+    ]
+}
+
 #[test]
 fn a_block_lives_and_ends(rt: HostRuntime) -> Result<(), Fail> {
     let mut desk = seated(rt.alloc())?;
-    let name = Name {
-        address: Address(4096),
-        turn: 0,
-    };
-    let block = Block {
-        name,
-        room: 16,
-        heap: 0,
-    };
-    assert_eq!(rt; desk.look(Word::Epoch), 0);
-    assert_eq!(rt; desk.deed(1, DIRECTORY), 0);
-    assert_eq!(rt; desk.take(1, 0, 1), u64::MAX);
-    assert_eq!(rt; desk.back(1), 0);
-    assert_eq!(rt; desk.look(Word::Life(1, 0)), 0);
-    assert_eq!(rt; desk.give(block), 0);
-    assert_eq!(rt; desk.end(name, 1), 0x8000010000000000);
+    let answers = live_and_end(&mut desk);
+    assert_eq!(rt; answers, [0, 0, u64::MAX, 0, 0, 0, 0x8000010000000000]);
     let events = [
         Event::Deed {
             actor: 1,
@@ -63,31 +108,24 @@ fn a_block_lives_and_ends(rt: HostRuntime) -> Result<(), Fail> {
             directory: DIRECTORY,
         },
         Event::Back { actor: 1, page: 1 },
-        Event::Give { actor: 1, block },
+        Event::Give {
+            actor: 1,
+            block: BLOCK,
+        },
         Event::End {
             actor: 1,
-            name,
+            name: NAME,
             epoch: 0,
         },
     ];
     assert_eq!(rt; desk.shown(), events.as_slice());
     assert_eq!(rt; desk.count(), 7);
     assert_eq!(rt; desk.actor(), 1);
-    let (region, pass) = desk.into_parts();
-    assert_eq!(rt; pass.count(), 7);
-    let state = close(region, vec![in rt.alloc(); pass]?);
+    let state = closed(rt.alloc(), desk)?;
     assert_eq!(rt; *state.profile(), PROFILE);
-    for (word, value) in [
-        (Word::Epoch, 0),
-        (Word::Free(1, 0), u64::MAX - 1),
-        (Word::Free(1, 1), u64::MAX),
-        (Word::Life(1, 0), 1),
-        (Word::Deed(1), 65536),
-        (Word::Backed(1), 1),
-        (Word::Free(2, 3), u64::MAX),
-        (Word::Deed(2), 0),
-    ] {
-        assert_eq!(rt; state.word(word), value, "{word:?}");
-    }
+    assert_eq!(rt;
+        values(&state),
+        [0, u64::MAX - 1, u64::MAX, 1, 65536, 1, u64::MAX, 0]
+    );
     Ok(())
 }
