@@ -2,6 +2,7 @@
 use Rattle.std.proofs.Common.{◌≡◌, ℕ, ◌+◌, ◌*◌, ◌/◌, ◌%◌, ◌^◌, ◌<◌, ◌≤◌, true, false, Option, Some, None, ap, sym, ◌∙◌, subst, arith}
 use Rattle.std.proofs.lemmas.Bool.{false≢true, leb-true, and_from, false_from_ne_true}
 use Rattle.pas_profile.specs.Classes.{has_bit}
+use Rattle.pas_profile.specs.Directories.{number_of}
 use Rattle.pas_profile.specs.Lives.{is_live, grains_of}
 use Rattle.pas_profile.specs.Profiles.{IsValid}
 use Rattle.pas_profile.specs.declared.profile.Profile.{Profile}
@@ -12,15 +13,17 @@ use Rattle.pas_steps.specs.Effects.{free_word_at, life_word_at, target}
 use Rattle.pas_steps.specs.Views.{holds, known_deed}
 use Rattle.pas_steps.specs.Allowed.{IsStepOf}
 use Rattle.pas_steps.specs.Lists.{Triple, Whole, part, visible, word_after, IsNext, Legal}
-use Rattle.pas_steps.specs.Agreement.{IsDeedWord, AgreesDeed, AgreesFree, AgreesLife, AgreesBacked, Agrees}
+use Rattle.pas_steps.specs.Agreement.{IsDeedWord, AgreesDeed, AgreesFree, AgreesLife, AgreesBacked, AgreesParked, AgreesEmpty, AgreesEligible, Agrees}
 use Rattle.pas_steps.specs.declared.step.Step.{Step}
-use Rattle.pas_steps.specs.declared.step.Step.TheVariants.{Look, Deed, Back, Take, Put, Give, End, Stamp}
+use Rattle.pas_steps.specs.declared.step.Step.TheVariants.{Look, Deed, Back, Take, Put, Give, End, TakeRight, Offer, Park, Unpark, Stamp, Hint}
 use Rattle.pas_core.specs.Good.{Held, is_free, is_covered_by, covers, IsPlacedOnce, IsLifeOf}
 use Rattle.pas_core.proofs.Grains.{is_held_by-true, own_grain, placed_once}
 use Rattle.pas_core.proofs.Lives.{life_is_known, life_of}
-use Rattle.pas_core.proofs.Knowledge.{known_is, deeds_known, deed_words, backed_small, backed_known}
-use Rattle.pas_core.proofs.Rights.{free_known}
-use Rattle.pas_core.proofs.Epochs.{epoch_known, words_fit, nothing_parked, nothing_hinted, nothing_eligible}
+use Rattle.pas_core.specs.Rights.{parked_bit, empty_bit, eligible_bit}
+use Rattle.pas_core.proofs.DeedWords.{known_is, deed_words}
+use Rattle.pas_core.proofs.Knowledge.{deeds_known, backed_small, backed_known}
+use Rattle.pas_core.proofs.Rights.{right_not_offered, right_not_parked, offered_is_known, offered_page, parked_page, hinted_page, free_known}
+use Rattle.pas_core.proofs.Epochs.{epoch_known, words_fit}
 
 -- ---- where a grain is that is held
 held_place : (l : Whole) (k g : ℕ) (at : IsPlacedOnce l g) → holds (part k l) g ≡ true → at.place ≡ Held k
@@ -83,6 +86,39 @@ life_at l page grain small =
     let g : grain ≡ (page * 256 + grain) % 256 = omega arith in
     ap (λ x. word_after l (Word.Life x grain)) p ∙ ap (λ x. word_after l (Word.Life ((page * 256 + grain) / 256) x)) g
 
+-- ---- page vectors
+-- bit b of word j of a page vector is that of the page
+bit_of_page : (words : ℕ → ℕ) (j b a : ℕ) → b < 64 → a ≡ words j → has_bit a b ≡ has_bit (words ((64 * j + b) / 64)) ((64 * j + b) % 64)
+bit_of_page words j b a small is =
+    let word : j ≡ (64 * j + b) / 64 = omega (arith, small) in
+    let bit : b ≡ (64 * j + b) % 64 = omega (arith, small) in
+    ap (λ n. has_bit n b) (is ∙ ap words word) ∙ ap (λ i. has_bit (words ((64 * j + b) / 64)) i) bit
+
+parked_at : (l : Whole) (j b a : ℕ) → b < 64 → a ≡ word_after l (Word.Parked j) → has_bit a b ≡ parked_bit l (64 * j + b)
+parked_at l j b a small is = bit_of_page (λ i. word_after l (Word.Parked i)) j b a small is
+
+empty_at : (l : Whole) (j b a : ℕ) → b < 64 → a ≡ word_after l (Word.Empty j) → has_bit a b ≡ empty_bit l (64 * j + b)
+empty_at l j b a small is = bit_of_page (λ i. word_after l (Word.Empty i)) j b a small is
+
+eligible_at : (l : Whole) (n j b a : ℕ) → b < 64 → a ≡ word_after l (Word.Eligible n j) → has_bit a b ≡ eligible_bit l n (64 * j + b)
+eligible_at l n j b a small is = bit_of_page (λ i. word_after l (Word.Eligible n i)) j b a small is
+
+parked_agrees : (f : Profile) (l : Whole) → Legal f l → (k j a : ℕ) → a ≡ word_after l (Word.Parked j) → AgreesParked f (part k l) j a
+parked_agrees f l legal k j a is = record {
+  page = λ b small set. parked_page f l legal (64 * j + b) (sym (parked_at l j b a small is) ∙ set);
+  right = λ b small has. parked_at l j b a small is ∙ right_not_parked f l legal k (64 * j + b) has;
+}
+
+empty_agrees : (f : Profile) (l : Whole) → Legal f l → (j a : ℕ) → a ≡ word_after l (Word.Empty j) → AgreesEmpty f j a
+empty_agrees f l legal j a is = record { page = λ b small set. hinted_page f l legal (64 * j + b) (sym (empty_at l j b a small is) ∙ set) }
+
+eligible_agrees : (f : Profile) (l : Whole) → Legal f l → (k n j a : ℕ) → a ≡ word_after l (Word.Eligible n j) → AgreesEligible f (part k l) n j a
+eligible_agrees f l legal k n j a is = record {
+  page = λ b small set. offered_page f l legal n (64 * j + b) (sym (eligible_at l n j b a small is) ∙ set);
+  right = λ b small has. eligible_at l n j b a small is ∙ right_not_offered f l legal k n (64 * j + b) has;
+  known = λ b small set ne. offered_is_known f l legal k n (64 * j + b) (sym (eligible_at l n j b a small is) ∙ set) ne;
+}
+
 -- ---- by kinds
 fits_as : (a n : ℕ) → a ≡ n → n < 2 ^ 64 → a < 2 ^ 64
 fits_as a n is h = omega (arith, is)
@@ -95,16 +131,21 @@ answer_agrees_at f l valid legal k (Look (Word.Life q g)) a of is = life_agrees 
 answer_agrees_at f l valid legal k (Look (Word.Deed q)) a of is = deed_agrees f l legal k q a is
 answer_agrees_at f l valid legal k (Look (Word.Backed q)) a of is = backed_agrees f l legal k q a is
 answer_agrees_at f l valid legal k (Look (Word.Stamp q)) a of is = fits_as a (word_after l (Word.Stamp q)) is (words_fit f l valid legal (Word.Stamp q))
-answer_agrees_at f l valid legal k (Look (Word.Parked j)) a of is = is ∙ nothing_parked f l legal j
-answer_agrees_at f l valid legal k (Look (Word.Empty j)) a of is = is ∙ nothing_hinted f l legal j
-answer_agrees_at f l valid legal k (Look (Word.Eligible n j)) a of is = is ∙ nothing_eligible f l legal n j
+answer_agrees_at f l valid legal k (Look (Word.Parked j)) a of is = parked_agrees f l legal k j a is
+answer_agrees_at f l valid legal k (Look (Word.Empty j)) a of is = empty_agrees f l legal j a is
+answer_agrees_at f l valid legal k (Look (Word.Eligible n j)) a of is = eligible_agrees f l legal k n j a is
 answer_agrees_at f l valid legal k (Deed q d) a of is = deed_agrees f l legal k q a is
 answer_agrees_at f l valid legal k (Back q) a of is = backed_agrees f l legal k q a is
 answer_agrees_at f l valid legal k (Take q w mask) a of is = free_agrees f l valid legal k q w a is
 answer_agrees_at f l valid legal k (Put q w mask) a of is = free_agrees f l valid legal k q w a is
 answer_agrees_at f l valid legal k (Give block) a of is = life_agrees f l valid legal k (grain_of block.name) a is
 answer_agrees_at f l valid legal k (End name guess) a of is = life_agrees f l valid legal k (grain_of name) a is
+answer_agrees_at f l valid legal k (TakeRight q d) a of is = eligible_agrees f l legal k (number_of d) (q / 64) a is
+answer_agrees_at f l valid legal k (Offer q d) a of is = eligible_agrees f l legal k (number_of d) (q / 64) a is
+answer_agrees_at f l valid legal k (Park q) a of is = parked_agrees f l legal k (q / 64) a is
+answer_agrees_at f l valid legal k (Unpark q) a of is = parked_agrees f l legal k (q / 64) a is
 answer_agrees_at f l valid legal k (Stamp q) a of is = fits_as a (word_after l (Word.Stamp q)) is (words_fit f l valid legal (Word.Stamp q))
+answer_agrees_at f l valid legal k (Hint q) a of is = empty_agrees f l legal (q / 64) a is
 
 -- the answer of the next legal step agrees with its actor's view
 pub answer_agrees : (f : Profile) (l : Whole) → IsValid f → Legal f l → (t : Triple) → IsNext f l t → Agrees f (part t.actor l) t.made.step t.made.answer

@@ -16,7 +16,7 @@ use Rattle.pas_steps.specs.Events.{event_of, with_event, reason_of}
 use Rattle.pas_steps.specs.Allowed.{IsStepOf}
 use Rattle.pas_steps.specs.Lists.{Whole, word_after, part, visible, Legal}
 use Rattle.pas_steps.specs.declared.step.Step.{Step}
-use Rattle.pas_steps.specs.declared.step.Step.TheVariants.{Look, Deed, Back, Take, Put, Give, End, Stamp}
+use Rattle.pas_steps.specs.declared.step.Step.TheVariants.{Look, Deed, Back, Take, Put, Give, End, TakeRight, Offer, Park, Unpark, Stamp, Hint}
 use Rattle.pas_core.specs.Good.{word_of_deed, word_of_backed}
 
 -- a look leaves the word
@@ -60,7 +60,12 @@ deed_step l k e (Take q word mask) a p is h = h
 deed_step l k e (Put q word mask) a p is h = h
 deed_step l k e (Give block) a p is h = h
 deed_step l k e (End name guess) a p is h = h ∙ ap word_of_deed (sym (end_deed (a == live_word name.turn guess) (is_live a && (turn_of a == name.turn)) (Event.End k name e) (Event.Reject k name (reason_of name a)) (visible l) p refl refl))
+deed_step l k e (TakeRight q directory) a p is h = h
+deed_step l k e (Offer q directory) a p is h = h
+deed_step l k e (Park q) a p is h = h
+deed_step l k e (Unpark q) a p is h = h
 deed_step l k e (Stamp q) a p is h = h
+deed_step l k e (Hint q) a p is h = h
 
 -- the deed word of a page records the machine's directory
 pub deed_of : (f : Profile) (l : Whole) → Legal f l → (p : ℕ) → word_after l (Word.Deed p) ≡ word_of_deed (deed_in (visible l) p)
@@ -90,7 +95,12 @@ directory_step f k e (Take q word mask) a es of rest = rest
 directory_step f k e (Put q word mask) a es of rest = rest
 directory_step f k e (Give block) a es of rest = rest
 directory_step f k e (End name guess) a es of rest = λ p d is. rest p d (sym (end_deed (a == live_word name.turn guess) (is_live a && (turn_of a == name.turn)) (Event.End k name e) (Event.Reject k name (reason_of name a)) es p refl refl) ∙ is)
+directory_step f k e (TakeRight q directory) a es of rest = rest
+directory_step f k e (Offer q directory) a es of rest = rest
+directory_step f k e (Park q) a es of rest = rest
+directory_step f k e (Unpark q) a es of rest = rest
 directory_step f k e (Stamp q) a es of rest = rest
+directory_step f k e (Hint q) a es of rest = rest
 
 pub directory_is_of : (f : Profile) (l : Whole) → Legal f l → (p : ℕ) (d : Directory) → deed_in (visible l) p ≡ Some d → IsDirectoryOf f d
 directory_is_of f [] legal p d is = let bad : None ≡ Some d = is in absurd cc
@@ -123,7 +133,12 @@ back_step l k e (Take q word mask) a p is h = h
 back_step l k e (Put q word mask) a p is h = h
 back_step l k e (Give block) a p is h = h
 back_step l k e (End name guess) a p is h = h ∙ ap word_of_backed (sym (end_backed (a == live_word name.turn guess) (is_live a && (turn_of a == name.turn)) (Event.End k name e) (Event.Reject k name (reason_of name a)) (visible l) p refl refl))
+back_step l k e (TakeRight q directory) a p is h = h
+back_step l k e (Offer q directory) a p is h = h
+back_step l k e (Park q) a p is h = h
+back_step l k e (Unpark q) a p is h = h
 back_step l k e (Stamp q) a p is h = h
+back_step l k e (Hint q) a p is h = h
 
 -- the backed word of a page says whether the machine has it backed
 pub backed_of : (f : Profile) (l : Whole) → Legal f l → (p : ℕ) → word_after l (Word.Backed p) ≡ word_of_backed (backed_in (visible l) p)

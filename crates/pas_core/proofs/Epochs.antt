@@ -1,5 +1,5 @@
 -- The epoch only grows, and every word fits 64 bits.
-use Rattle.std.proofs.Common.{◌≡◌, ℕ, ◌+◌, ◌^◌, ◌<◌, ◌≤◌, ◌==◌, Bool, true, false, if◌then◌else◌, [], ◌∷◌, Option, refl, ◌∙◌, arith}
+use Rattle.std.proofs.Common.{◌≡◌, ℕ, ◌+◌, ◌^◌, ◌<◌, ◌≤◌, ◌==◌, Bool, true, false, if◌then◌else◌, [], ◌∷◌, Option, arith}
 use Rattle.std.specs.Int.{bit_not, w64}
 use Rattle.std.proofs.lemmas.Nat.{and_le_l, or_lt}
 use Rattle.pas_profile.specs.Directories.{deed_word_of, kind_number, IsKind}
@@ -12,15 +12,16 @@ use Rattle.pas_profile.specs.declared.directory.Kind.{Kind}
 use Rattle.pas_profile.specs.declared.directory.Kind.TheVariants.{Class, Bitfit, Shared, Large}
 use Rattle.pas_profile.specs.declared.word.Word.{Word}
 use Rattle.pas_machine.specs.Runs.{address_of, length_of}
-use Rattle.pas_steps.specs.Effects.{target, new_value}
+use Rattle.pas_steps.specs.Effects.{page_mask, target, new_value}
 use Rattle.pas_steps.specs.Views.{View, epoch_after, known_epoch, or_zero, epoch_of}
 use Rattle.pas_steps.specs.Allowed.{IsStepOf}
 use Rattle.pas_steps.specs.Lists.{Triple, Whole, part, word_after, IsNext, Legal}
 use Rattle.pas_steps.specs.declared.step.Step.{Step}
 use Rattle.pas_steps.specs.declared.step.Made.{Made}
-use Rattle.pas_steps.specs.declared.step.Step.TheVariants.{Look, Deed, Back, Take, Put, Give, End, Stamp}
+use Rattle.pas_steps.specs.declared.step.Step.TheVariants.{Look, Deed, Back, Take, Put, Give, End, TakeRight, Offer, Park, Unpark, Stamp, Hint}
 use Rattle.pas_core.proofs.Grains.{give_short}
-use Rattle.pas_core.proofs.Knowledge.{next_value, looked}
+use Rattle.pas_core.proofs.Bits.{page_mask_lt}
+use Rattle.pas_core.proofs.DeedWords.{next_value, looked}
 
 -- ---- the epoch
 -- no step lowers the epoch
@@ -32,7 +33,12 @@ epoch_next e (Take q w mask) old = omega arith
 epoch_next e (Put q w mask) old = omega arith
 epoch_next e (Give block) old = omega arith
 epoch_next e (End name guess) old = omega arith
+epoch_next e (TakeRight q directory) old = omega arith
+epoch_next e (Offer q directory) old = omega arith
+epoch_next e (Park q) old = omega arith
+epoch_next e (Unpark q) old = omega arith
 epoch_next e (Stamp q) old = omega arith
+epoch_next e (Hint q) old = omega arith
 
 pub epoch_grows : (l : Whole) (t : Triple) → word_after l Word.Epoch ≤ word_after (t ∷ l) Word.Epoch
 epoch_grows l t = epoch_next (epoch_of (part t.actor l)) t.made.step (word_after l Word.Epoch)
@@ -54,7 +60,12 @@ epoch_learns l (Take q w mask) a known is h = h
 epoch_learns l (Put q w mask) a known is h = h
 epoch_learns l (Give block) a known is h = h
 epoch_learns l (End name guess) a known is h = h
+epoch_learns l (TakeRight q directory) a known is h = h
+epoch_learns l (Offer q directory) a known is h = h
+epoch_learns l (Park q) a known is h = h
+epoch_learns l (Unpark q) a known is h = h
 epoch_learns l (Stamp q) a known is h = h
+epoch_learns l (Hint q) a known is h = h
 
 epoch_of_part : (t : Bool) (m : Made) (v : View) (n : ℕ) → epoch_of v ≤ n → or_zero (epoch_after m.step m.answer (known_epoch v)) ≤ n → epoch_of (if t then m ∷ v else v) ≤ n
 epoch_of_part true m v n old new = new
@@ -95,7 +106,12 @@ value_small f e (Take q w mask) old valid of he h = omega (arith, and_le_l old (
 value_small f e (Put q w mask) old valid of he h = or_lt 64 old mask h of.2
 value_small f e (Give block) old valid of he h = live_small block.name.turn (length_of block) of.turn (give_short f (address_of block.name) block.room valid of.last)
 value_small f e (End name guess) old valid of he h = if_small (old == live_word name.turn guess) (name.turn + 1) old (2 ^ 64) (omega (arith, of.2)) h
+value_small f e (TakeRight q directory) old valid of he h = omega (arith, and_le_l old (bit_not w64 (page_mask q)))
+value_small f e (Offer q directory) old valid of he h = or_lt 64 old (page_mask q) h (page_mask_lt q)
+value_small f e (Park q) old valid of he h = or_lt 64 old (page_mask q) h (page_mask_lt q)
+value_small f e (Unpark q) old valid of he h = omega (arith, and_le_l old (bit_not w64 (page_mask q)))
 value_small f e (Stamp q) old valid of he h = omega arith
+value_small f e (Hint q) old valid of he h = or_lt 64 old (page_mask q) h (page_mask_lt q)
 
 opening_small : (word : Word) → opening word < 2 ^ 64
 opening_small Word.Epoch = omega arith
@@ -125,46 +141,3 @@ epoch_fits f l valid legal k =
     let known : epoch_of (part k l) ≤ word_after l Word.Epoch = epoch_known f l legal k in
     let fits : word_after l Word.Epoch < 2 ^ 64 = words_fit f l valid legal Word.Epoch in
     omega (arith, known, fits)
-
--- ---- the page vectors, which none of these steps writes
-parked_next : (e : ℕ) (s : Step) (j old : ℕ) → old ≡ 0 → next_value e s (Word.Parked j) old ≡ 0
-parked_next e (Look word) j old h = looked (same_word word (Word.Parked j)) old ∙ h
-parked_next e (Deed q d) j old h = h
-parked_next e (Back q) j old h = h
-parked_next e (Take q w mask) j old h = h
-parked_next e (Put q w mask) j old h = h
-parked_next e (Give block) j old h = h
-parked_next e (End name guess) j old h = h
-parked_next e (Stamp q) j old h = h
-
-pub nothing_parked : (f : Profile) (l : Whole) → Legal f l → (j : ℕ) → word_after l (Word.Parked j) ≡ 0
-nothing_parked f [] legal j = refl
-nothing_parked f (t ∷ l) legal j = parked_next (epoch_of (part t.actor l)) t.made.step j (word_after l (Word.Parked j)) (nothing_parked f l legal.1 j)
-
-empty_next : (e : ℕ) (s : Step) (j old : ℕ) → old ≡ 0 → next_value e s (Word.Empty j) old ≡ 0
-empty_next e (Look word) j old h = looked (same_word word (Word.Empty j)) old ∙ h
-empty_next e (Deed q d) j old h = h
-empty_next e (Back q) j old h = h
-empty_next e (Take q w mask) j old h = h
-empty_next e (Put q w mask) j old h = h
-empty_next e (Give block) j old h = h
-empty_next e (End name guess) j old h = h
-empty_next e (Stamp q) j old h = h
-
-pub nothing_hinted : (f : Profile) (l : Whole) → Legal f l → (j : ℕ) → word_after l (Word.Empty j) ≡ 0
-nothing_hinted f [] legal j = refl
-nothing_hinted f (t ∷ l) legal j = empty_next (epoch_of (part t.actor l)) t.made.step j (word_after l (Word.Empty j)) (nothing_hinted f l legal.1 j)
-
-eligible_next : (e : ℕ) (s : Step) (n j old : ℕ) → old ≡ 0 → next_value e s (Word.Eligible n j) old ≡ 0
-eligible_next e (Look word) n j old h = looked (same_word word (Word.Eligible n j)) old ∙ h
-eligible_next e (Deed q d) n j old h = h
-eligible_next e (Back q) n j old h = h
-eligible_next e (Take q w mask) n j old h = h
-eligible_next e (Put q w mask) n j old h = h
-eligible_next e (Give block) n j old h = h
-eligible_next e (End name guess) n j old h = h
-eligible_next e (Stamp q) n j old h = h
-
-pub nothing_eligible : (f : Profile) (l : Whole) → Legal f l → (n j : ℕ) → word_after l (Word.Eligible n j) ≡ 0
-nothing_eligible f [] legal n j = refl
-nothing_eligible f (t ∷ l) legal n j = eligible_next (epoch_of (part t.actor l)) t.made.step n j (word_after l (Word.Eligible n j)) (nothing_eligible f l legal.1 n j)

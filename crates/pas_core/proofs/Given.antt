@@ -14,7 +14,7 @@ use Rattle.pas_steps.specs.Views.{View, epoch_of, given_count, given_after}
 use Rattle.pas_steps.specs.Events.{event_of, events_of, with_event, reason_of}
 use Rattle.pas_steps.specs.Lists.{Whole, word_after, visible, Legal}
 use Rattle.pas_steps.specs.declared.step.Step.{Step}
-use Rattle.pas_steps.specs.declared.step.Step.TheVariants.{Look, Deed, Back, Take, Put, Give, End, Stamp}
+use Rattle.pas_steps.specs.declared.step.Step.TheVariants.{Look, Deed, Back, Take, Put, Give, End, TakeRight, Offer, Park, Unpark, Stamp, Hint}
 use Rattle.pas_core.specs.Good.{IsLifeOf}
 use Rattle.pas_core.specs.Given.{WasGiven}
 use Rattle.pas_core.proofs.MachineRuns.{life_at}
@@ -143,7 +143,12 @@ count_step k e (Take page word mask) a es = refl
 count_step k e (Put page word mask) a es = refl
 count_step k e (Give block) a es = refl
 count_step k e (End name guess) a es = count_end (a == live_word name.turn guess) (is_live a && (turn_of a == name.turn)) (Event.End k name e) (Event.Reject k name (reason_of name a)) es refl refl
+count_step k e (TakeRight page directory) a es = refl
+count_step k e (Offer page directory) a es = refl
+count_step k e (Park page) a es = refl
+count_step k e (Unpark page) a es = refl
 count_step k e (Stamp page) a es = refl
+count_step k e (Hint page) a es = refl
 
 pub own_gives : (k : ℕ) (v : View) → count_gives (events_of k v) ≡ given_count v
 own_gives k [] = refl

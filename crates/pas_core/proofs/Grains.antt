@@ -18,7 +18,7 @@ use Rattle.pas_steps.specs.Allowed.{Allowed, IsStepOf}
 use Rattle.pas_steps.specs.Lists.{Whole, word_after, part, IsNext, Legal}
 use Rattle.pas_steps.specs.declared.step.Made.{Made}
 use Rattle.pas_steps.specs.declared.step.Step.{Step}
-use Rattle.pas_steps.specs.declared.step.Step.TheVariants.{Look, Deed, Back, Take, Put, Give, End, Stamp}
+use Rattle.pas_steps.specs.declared.step.Step.TheVariants.{Look, Deed, Back, Take, Put, Give, End, TakeRight, Offer, Park, Unpark, Stamp, Hint}
 use Rattle.pas_core.specs.Good.{Place, IsFree, Held, Covered, is_free, is_held_by, is_covered_by, covers, IsPlacedOnce}
 use Rattle.pas_core.proofs.Bits.{has_bit-clear, has_bit-or}
 
@@ -168,7 +168,12 @@ free_step f l e (Take page word mask) a g of is = take_free ((word == g / 64 % 4
 free_step f l e (Put page word mask) a g of is = put_free ((word == g / 64 % 4) && (page == g / 256)) (word_after l (free_word_at g)) mask (g % 64)
 free_step f l e (Give block) a g of is = rests_free (in_run (grain_of block.name) (length_of block) g) (has_bit (word_after l (free_word_at g)) (g % 64)) (Gives (grain_of block.name)) refl
 free_step f l e (End name guess) a g of is = rests_free ((a == live_word name.turn guess) && in_run (grain_of name) guess g) (has_bit (word_after l (free_word_at g)) (g % 64)) (Ends (grain_of name)) refl
+free_step f l e (TakeRight page directory) a g of is = refl
+free_step f l e (Offer page directory) a g of is = refl
+free_step f l e (Park page) a g of is = refl
+free_step f l e (Unpark page) a g of is = refl
 free_step f l e (Stamp page) a g of is = refl
+free_step f l e (Hint page) a g of is = refl
 
 -- ---- the life words
 pub covers_live : (turn n b g : ℕ) → turn < 2 ^ 40 → n < 2 ^ 23 → covers (live_word turn n) b g ≡ in_run b n g
@@ -244,7 +249,12 @@ covered_step f l k e (End name guess) a g b valid placed of allowed is =
     (covered_moved (grain_move (End name guess) a g) b (covers (word_after l (life_word_at b)) b g)) (life_same (grain_of name) b)
     (end_covers (grain_of name == b) (grain_of name) b g name.turn guess (word_after l (life_word_at b)) a refl of.2 (end_short f guess valid of.4)
     (λ e. is ∙ ap (λ x. word_after l (life_word_at x)) (eqb-true (grain_of name) b e)) (a == live_word name.turn guess) refl (in_run (grain_of name) guess g) refl)
+covered_step f l k e (TakeRight page directory) a g b valid placed of allowed is = refl
+covered_step f l k e (Offer page directory) a g b valid placed of allowed is = refl
+covered_step f l k e (Park page) a g b valid placed of allowed is = refl
+covered_step f l k e (Unpark page) a g b valid placed of allowed is = refl
 covered_step f l k e (Stamp page) a g b valid placed of allowed is = refl
+covered_step f l k e (Hint page) a g b valid placed of allowed is = refl
 
 -- ---- a legal step's move fits
 fits_if : (j : ℕ) (m : Move) (o : Place) (t : Bool) → (t ≡ true → Fits j m o) → Fits j (if t then m else Stays) o
@@ -265,7 +275,12 @@ step_fits f l k (End name guess) a g at valid of allowed is = fits_if k (Ends (g
     let parts = and_parts (a == live_word name.turn guess) (in_run (grain_of name) guess g) h in
     is_covered_by-true (grain_of name) at.place (sym (at.covered (grain_of name)) ∙ ap (λ w. covers w (grain_of name) g) (sym is ∙ eqb-true a (live_word name.turn guess) parts.0)
     ∙ covers_live name.turn guess (grain_of name) g (let t = of.2 in omega (arith, t)) (end_short f guess valid of.4) ∙ parts.1))
+step_fits f l k (TakeRight page directory) a g at valid of allowed is = tt
+step_fits f l k (Offer page directory) a g at valid of allowed is = tt
+step_fits f l k (Park page) a g at valid of allowed is = tt
+step_fits f l k (Unpark page) a g at valid of allowed is = tt
 step_fits f l k (Stamp page) a g at valid of allowed is = tt
+step_fits f l k (Hint page) a g at valid of allowed is = tt
 
 -- ---- the induction
 holds_part : (t : Bool) (m : Made) (v : View) (g : ℕ) → holds (if t then m ∷ v else v) g ≡ (if t then held_after (grain_move m.step m.answer g) (holds v g) else holds v g)

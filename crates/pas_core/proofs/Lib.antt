@@ -5,8 +5,12 @@ pub mod Lives
 pub mod MachineRuns
 pub mod Given
 pub mod Placed
+pub mod DeedWords
+pub mod Spots
 pub mod Knowledge
 pub mod Rights
 pub mod Epochs
 pub mod Agreement
 pub mod Nexts
+pub mod Running
+pub mod Checks

@@ -19,7 +19,7 @@ use Rattle.pas_steps.specs.Allowed.{Allowed, IsStepOf, IsBlockOf}
 use Rattle.pas_steps.specs.Lists.{Whole, word_after, part, visible, IsNext, Legal}
 use Rattle.pas_steps.specs.declared.step.Made.{Made}
 use Rattle.pas_steps.specs.declared.step.Step.{Step}
-use Rattle.pas_steps.specs.declared.step.Step.TheVariants.{Look, Deed, Back, Take, Put, Give, End, Stamp}
+use Rattle.pas_steps.specs.declared.step.Step.TheVariants.{Look, Deed, Back, Take, Put, Give, End, TakeRight, Offer, Park, Unpark, Stamp, Hint}
 use Rattle.pas_core.specs.Good.{Place, IsFree, Held, Covered, is_held_by, is_covered_by, covers, IsPlacedOnce, IsLifeOf, IsLifeOfNone, IsLifeOfLive, IsBare}
 use Rattle.pas_core.proofs.Grains.{life_same, give_short, Fits, is_held_by-true, covers_live, own_grain, some_grain, step_fits, placed_once}
 use Rattle.pas_core.proofs.Deeds.{same}
@@ -65,7 +65,12 @@ life_rests f l k e (Give block) a g of allowed is still =
 life_rests f l k e (End name guess) a g of allowed is still =
     as_test (same_word (life_word_at (grain_of name)) (life_word_at g)) (grain_of name == g) (λ w. w ≡ word_after l (life_word_at g)) (if word_after l (life_word_at g) == live_word name.turn guess then name.turn + 1 else word_after l (life_word_at g)) (word_after l (life_word_at g)) (life_same (grain_of name) g)
     (end_rests (grain_of name == g) (a == live_word name.turn guess) (in_run (grain_of name) guess g) (grain_of name) g guess (word_after l (life_word_at g)) name.turn a refl (word_is l a (grain_of name) g is) of.3 refl refl still)
+life_rests f l k e (TakeRight page directory) a g of allowed is still = refl
+life_rests f l k e (Offer page directory) a g of allowed is still = refl
+life_rests f l k e (Park page) a g of allowed is still = refl
+life_rests f l k e (Unpark page) a g of allowed is still = refl
 life_rests f l k e (Stamp page) a g of allowed is still = refl
+life_rests f l k e (Hint page) a g of allowed is still = refl
 
 -- ---- what is known of a life word
 look_is : (l : Whole) (s : Step) (a g : ℕ) → a ≡ word_after l (target s) → looks_at_life s g ≡ true → a ≡ word_after l (life_word_at g)
@@ -85,7 +90,12 @@ look_is l (Take page word mask) a g is h = absurd (false≢true h)
 look_is l (Put page word mask) a g is h = absurd (false≢true h)
 look_is l (Give block) a g is h = absurd (false≢true h)
 look_is l (End name guess) a g is h = absurd (false≢true h)
+look_is l (TakeRight page directory) a g is h = absurd (false≢true h)
+look_is l (Offer page directory) a g is h = absurd (false≢true h)
+look_is l (Park page) a g is h = absurd (false≢true h)
+look_is l (Unpark page) a g is h = absurd (false≢true h)
 look_is l (Stamp page) a g is h = absurd (false≢true h)
+look_is l (Hint page) a g is h = absurd (false≢true h)
 
 none_told : {A : Type 0} {w : A} → None ≡ Some w → ⊥
 none_told h = cc
@@ -269,7 +279,12 @@ life_step f l k e (End name guess) a g valid of allowed is dead tells h =
     (life_same (grain_of name) g ∙ sym (address_same (address_of name) g of.1))
     (end_life (address_of name == 16 * g) (a == live_word name.turn guess) (is_live a && (turn_of a == name.turn)) f g k e a (word_after l (life_word_at g)) guess name (reason_of name a) (visible l) (16 * g) refl
     (λ x. word_is l a (grain_of name) g is (sym (address_same (address_of name) g of.1) ∙ x)) refl of.2 h)
+life_step f l k e (TakeRight page directory) a g valid of allowed is dead tells h = h
+life_step f l k e (Offer page directory) a g valid of allowed is dead tells h = h
+life_step f l k e (Park page) a g valid of allowed is dead tells h = h
+life_step f l k e (Unpark page) a g valid of allowed is dead tells h = h
 life_step f l k e (Stamp page) a g valid of allowed is dead tells h = h
+life_step f l k e (Hint page) a g valid of allowed is dead tells h = h
 
 -- a grain of a live block is covered
 live_covers : (f : Profile) (g word : ℕ) (b : Live) (gives ends x : ℕ) → IsLifeOfLive f g word b gives ends → in_run g (length_of b.block) x ≡ true → covers word g x ≡ true
@@ -331,7 +346,12 @@ bare_step f v k e (Give block) a es address of allowed un h =
 bare_step f v k e (End name guess) a es address of allowed un h =
     bare_end (a == live_word name.turn guess) (is_live a && (turn_of a == name.turn)) (Event.End k name e) (Event.Reject k name (reason_of name a)) es address
     (bare_ended (address_of name == address) address (live_in es address) (gives_in es address) (ends_in es address) (other_address (address_of name) address of.1 un (address_of name == address) refl) h) h h
+bare_step f v k e (TakeRight page directory) a es address of allowed un h = h
+bare_step f v k e (Offer page directory) a es address of allowed un h = h
+bare_step f v k e (Park page) a es address of allowed un h = h
+bare_step f v k e (Unpark page) a es address of allowed un h = h
 bare_step f v k e (Stamp page) a es address of allowed un h = h
+bare_step f v k e (Hint page) a es address of allowed un h = h
 
 pub bare_of : (f : Profile) (l : Whole) → Legal f l → (address : ℕ) → address % 16 ≢ 0 → IsBare address (live_in (visible l) address) (gives_in (visible l) address) (ends_in (visible l) address)
 bare_of f [] legal address un = record { no_block = refl; no_give = refl; no_end = refl }

@@ -23,10 +23,11 @@ use Rattle.pas_steps.specs.Events.{event_of, with_event, reason_of}
 use Rattle.pas_steps.specs.Allowed.{Allowed, IsStepOf, IsBlockOf, KnowsBearing}
 use Rattle.pas_steps.specs.Lists.{Whole, word_after, part, visible, Legal}
 use Rattle.pas_steps.specs.declared.step.Step.{Step}
-use Rattle.pas_steps.specs.declared.step.Step.TheVariants.{Look, Deed, Back, Take, Put, Give, End, Stamp}
+use Rattle.pas_steps.specs.declared.step.Step.TheVariants.{Look, Deed, Back, Take, Put, Give, End, TakeRight, Offer, Park, Unpark, Stamp, Hint}
 use Rattle.pas_core.specs.Good.{word_of_deed, word_of_backed, IsLifeOf, IsLifeOfNone, IsLifeOfLive, AgreesWithWords}
 use Rattle.pas_core.proofs.Grains.{own_grain, some_grain, placed_once}
-use Rattle.pas_core.proofs.Knowledge.{deeds_known, known_is, backed_known}
+use Rattle.pas_core.proofs.DeedWords.{known_is}
+use Rattle.pas_core.proofs.Knowledge.{deeds_known, backed_known}
 use Rattle.pas_core.proofs.Deeds.{deed_of, backed_of, directory_is_of, is_backed}
 use Rattle.pas_core.proofs.Lives.{life_is_known, block_of_word, turn_is, live_is_live, no_block, dead_while_held, life_of, bare_of, live_of}
 
@@ -168,7 +169,12 @@ admits f l valid legal k e (Put q word mask) a of allowed is run = run
 admits f l valid legal k e (Give block) a of allowed is run = (give_admits f l valid legal k block of allowed, run)
 admits f l valid legal k e (End name guess) a of allowed is run =
     end_admits f (a == live_word name.turn guess) (is_live a && (turn_of a == name.turn)) k e (grain_of name) a (word_after l (life_word_at (grain_of name))) guess name (visible l) run (of.0, of.1) is of.2 (life_at f l valid legal (address_of name) of.1) refl refl
+admits f l valid legal k e (TakeRight q directory) a of allowed is run = run
+admits f l valid legal k e (Offer q directory) a of allowed is run = run
+admits f l valid legal k e (Park q) a of allowed is run = run
+admits f l valid legal k e (Unpark q) a of allowed is run = run
 admits f l valid legal k e (Stamp q) a of allowed is run = run
+admits f l valid legal k e (Hint q) a of allowed is run = run
 
 -- the visible events of every legal list are a run of the machine
 pub runs : (f : Profile) (l : Whole) → IsValid f → Legal f l → Run f (visible l)

@@ -1,168 +1,29 @@
--- The right of each page is in one place after a legal list, and what views know as free is free.
+-- Where the right of each page is, the bits of page vectors that are set, and that what views know as free is free.
 use Rattle.std.proofs.Common.{◌≡◌, ◌≢◌, ℕ, ◌/◌, ◌%◌, ◌^◌, ◌<◌, ◌==◌, Bool, true, false, not, ◌&&◌, ◌||◌, if◌then◌else◌, [], ◌∷◌, refl, ap, sym, ◌∙◌, subst, arith, bit_and, bit_or, inl, inr}
 use Rattle.std.specs.Int.{bit_not, w64}
 use Rattle.std.proofs.lemmas.Bool.{false≢true, eqb-true, eqb-false, eq-eqb, and_parts, or_left, or_cases, false_from_ne_true}
 use Rattle.std.proofs.lemmas.Nat.Bits.{bit_at_ones}
 use Rattle.pas_profile.specs.Classes.{has_bit}
-use Rattle.pas_profile.specs.Directories.{deed_word_of}
+use Rattle.pas_profile.specs.Directories.{IsKind, number_of, deed_word_of, deed_word_numbered}
 use Rattle.pas_profile.specs.Layouts.{same_word}
+use Rattle.pas_profile.specs.Profiles.{IsPage, IsDirectoryOf}
 use Rattle.pas_profile.specs.declared.profile.Profile.{Profile}
 use Rattle.pas_profile.specs.declared.directory.Directory.{Directory}
 use Rattle.pas_profile.specs.declared.word.Word.{Word}
 use Rattle.pas_steps.specs.Effects.{free_word_at, in_mask, target}
-use Rattle.pas_steps.specs.Views.{View, right_after, has_right, free_after, known_free, epoch_of}
+use Rattle.pas_steps.specs.Views.{View, has_right, known_deed, free_after, known_free, epoch_of}
 use Rattle.pas_steps.specs.Allowed.{Allowed, IsStepOf}
 use Rattle.pas_steps.specs.Lists.{Whole, part, word_after, IsNext, Legal}
+use Rattle.pas_steps.specs.Agreement.{IsDeedWord}
 use Rattle.pas_steps.specs.declared.step.Step.{Step}
 use Rattle.pas_steps.specs.declared.step.Made.{Made}
-use Rattle.pas_steps.specs.declared.step.Step.TheVariants.{Look, Deed, Back, Take, Put, Give, End, Stamp}
-use Rattle.pas_core.proofs.Bits.{has_bit-clear, has_bit-or}
-use Rattle.pas_core.proofs.Knowledge.{next_value, looked}
+use Rattle.pas_steps.specs.declared.step.Step.TheVariants.{Look, Deed, Back, Take, Put, Give, End, TakeRight, Offer, Park, Unpark, Stamp, Hint}
+use Rattle.pas_core.specs.Rights.{parked_bit, empty_bit, eligible_bit, IsRightInOnePlace}
+use Rattle.pas_core.proofs.Bits.{has_bit-clear, has_bit-or, no_bit, page_bit-set}
+use Rattle.pas_core.proofs.DeedWords.{next_value, looked, known_is, deed_words, deed_has_page, number_told, numbered_ne}
+use Rattle.pas_core.proofs.Spots.{Spot, Nowhere, With, Offered, InParked, is_with, is_offered, is_parked, is_with-true, is_offered-true, is_parked-true, no_deed, Way, Rests, ByDeed, FromOffer, FromParked, ToOffer, ToParked, way, spot_after, spot_of, Suits, DeedFits, IsSpotted, step_suits, spotted}
 
 -- ---- where the right of a page is
-pub data Spot : Type 0 where
-  Nowhere : Spot  -- the page has no deed
-  With : ℕ → Spot  -- this actor has it
-
-abbrev pub is_with : ℕ → Spot → Bool
-is_with k Nowhere = false
-is_with k (With j) = j == k
-
--- how a step moves it
-pub data Way : Type 0 where
-  Rests : Way
-  ByDeed : Way
-
-abbrev pub way : Step → ℕ → ℕ → Way
-way (Look word) a p = Rests
-way (Deed q d) a p = if (q == p) && (a == 0) then ByDeed else Rests
-way (Back q) a p = Rests
-way (Take q w mask) a p = Rests
-way (Put q w mask) a p = Rests
-way (Give block) a p = Rests
-way (End name guess) a p = Rests
-way (Stamp q) a p = Rests
-
-abbrev pub spot_after : ℕ → Way → Spot → Spot
-spot_after j Rests o = o
-spot_after j ByDeed o = With j
-
-abbrev pub spot_of : Whole → ℕ → Spot
-spot_of [] p = Nowhere
-spot_of (t ∷ l) p = spot_after t.actor (way t.made.step t.made.answer p) (spot_of l p)
-
--- the actor may move it so from there
-abbrev pub Suits : ℕ → Way → Spot → Type 0
-Suits j Rests o = Unit {0}
-Suits j ByDeed o = o ≡ Nowhere
-
--- what the deed word says there
-abbrev pub DeedFits : Spot → ℕ → Type 0
-DeedFits Nowhere n = n ≡ 0
-DeedFits (With k) n = n ≢ 0
-
-pub record IsSpotted (l : Whole) (p : ℕ) : Type 0 where
-  pub has : (k : ℕ) → has_right (part k l) p ≡ is_with k (spot_of l p)
-  pub deed : DeedFits (spot_of l p) (word_after l (Word.Deed p))
-
--- ---- the ways, whatever the step
-pub is_with-true : (k : ℕ) (o : Spot) → is_with k o ≡ true → o ≡ With k
-is_with-true k Nowhere h = absurd (false≢true h)
-is_with-true k (With j) h = ap With (eqb-true j k h)
-
-pub no_deed : (o : Spot) → DeedFits o 0 → o ≡ Nowhere
-no_deed Nowhere h = refl
-no_deed (With k) h = absurd (h refl)
-
-abbrev had_after : Way → Bool → Bool
-had_after Rests had = had
-had_after ByDeed had = true
-
-has_after : (m : Way) (o : Spot) (j k : ℕ) (had : Bool) → had ≡ is_with k o → Suits j m o → (same : Bool) → (j == k) ≡ same
-    → (if same then had_after m had else had) ≡ is_with k (spot_after j m o)
-has_after Rests o j k had is fits true e = is
-has_after Rests o j k had is fits false e = is
-has_after ByDeed o j k had is fits true e = sym e
-has_after ByDeed o j k had is fits false e = is ∙ ap (is_with k) fits ∙ sym e
-
-right_if : (x had : Bool) → (if x then true else had) ≡ had_after (if x then ByDeed else Rests) had
-right_if true had = refl
-right_if false had = refl
-
--- the right moves as its way says
-right_way : (s : Step) (a p : ℕ) (had : Bool) → right_after s a p had ≡ had_after (way s a p) had
-right_way (Look word) a p had = refl
-right_way (Deed q d) a p had = right_if ((q == p) && (a == 0)) had
-right_way (Back q) a p had = refl
-right_way (Take q w mask) a p had = refl
-right_way (Put q w mask) a p had = refl
-right_way (Give block) a p had = refl
-right_way (End name guess) a p had = refl
-right_way (Stamp q) a p had = refl
-
--- ---- a legal step's way suits
-suits_if : (j : ℕ) (m : Way) (o : Spot) (t : Bool) → (t ≡ true → Suits j m o) → Suits j (if t then m else Rests) o
-suits_if j m o true h = h refl
-suits_if j m o false h = tt
-
-pub step_suits : (l : Whole) (j : ℕ) (s : Step) (a p : ℕ) → IsSpotted l p → a ≡ word_after l (target s) → Suits j (way s a p) (spot_of l p)
-step_suits l j (Look word) a p at is = tt
-step_suits l j (Deed q d) a p at is = suits_if j ByDeed (spot_of l p) ((q == p) && (a == 0)) (λ h.
-    let parts = and_parts (q == p) (a == 0) h in
-    let none : word_after l (Word.Deed p) ≡ 0 = ap (λ x. word_after l (Word.Deed x)) (sym (eqb-true q p parts.0)) ∙ sym is ∙ eqb-true a 0 parts.1 in
-    no_deed (spot_of l p) (subst (DeedFits (spot_of l p)) none at.deed))
-step_suits l j (Back q) a p at is = tt
-step_suits l j (Take q w mask) a p at is = tt
-step_suits l j (Put q w mask) a p at is = tt
-step_suits l j (Give block) a p at is = tt
-step_suits l j (End name guess) a p at is = tt
-step_suits l j (Stamp q) a p at is = tt
-
--- ---- the deed word at each spot
-deed_ne : (n m : ℕ) → m ≢ 0 → (t : Bool) → (n == 0) ≡ t → (if t then m else n) ≢ 0
-deed_ne n m ne true h = ne
-deed_ne n m ne false h = eqb-false n 0 h
-
-pub deed_word_ne : (d : Directory) → deed_word_of d ≢ 0
-deed_word_ne d z = absurd (omega (arith, z))
-
-deed_fits : (y z : Bool) (d : Directory) (n j : ℕ) (o : Spot) → (y ≡ true → (n == 0) ≡ z) → DeedFits o n
-    → DeedFits (spot_after j (if y && z then ByDeed else Rests) o) (if y then (if n == 0 then deed_word_of d else n) else n)
-deed_fits true true d n j o h fits = deed_ne n (deed_word_of d) (deed_word_ne d) (n == 0) refl
-deed_fits true false d n j o h fits = subst (λ t. DeedFits o (if t then deed_word_of d else n)) (sym (h refl)) fits
-deed_fits false z d n j o h fits = fits
-
-fits_step : (l : Whole) (j e : ℕ) (s : Step) (a p : ℕ) → IsSpotted l p → a ≡ word_after l (target s)
-    → DeedFits (spot_after j (way s a p) (spot_of l p)) (next_value e s (Word.Deed p) (word_after l (Word.Deed p)))
-fits_step l j e (Look word) a p at is = subst (DeedFits (spot_of l p)) (sym (looked (same_word word (Word.Deed p)) (word_after l (Word.Deed p)))) at.deed
-fits_step l j e (Deed q d) a p at is = deed_fits (q == p) (a == 0) d (word_after l (Word.Deed p)) j (spot_of l p) (λ h. ap (λ n. n == 0) (ap (λ x. word_after l (Word.Deed x)) (sym (eqb-true q p h)) ∙ sym is)) at.deed
-fits_step l j e (Back q) a p at is = at.deed
-fits_step l j e (Take q w mask) a p at is = at.deed
-fits_step l j e (Put q w mask) a p at is = at.deed
-fits_step l j e (Give block) a p at is = at.deed
-fits_step l j e (End name guess) a p at is = at.deed
-fits_step l j e (Stamp q) a p at is = at.deed
-
--- ---- the induction
-has_part : (t : Bool) (m : Made) (v : View) (p : ℕ) → has_right (if t then m ∷ v else v) p ≡ (if t then right_after m.step m.answer p (has_right v p) else has_right v p)
-has_part true m v p = refl
-has_part false m v p = refl
-
--- the right of each page is at one spot
-pub spotted : (f : Profile) (l : Whole) → Legal f l → (p : ℕ) → IsSpotted l p
-spotted f [] legal p = record { has = λ k. refl; deed = refl }
-spotted f (t ∷ l) legal p =
-    let at : IsSpotted l p = spotted f l legal.1 p in
-    let s = t.made.step in
-    let a = t.made.answer in
-    let j = t.actor in
-    let next : IsNext f l t = legal.0 in
-    let suits : Suits j (way s a p) (spot_of l p) = step_suits l j s a p at next.answer_is in
-    record {
-      has = λ k. has_part (j == k) t.made (part k l) p ∙ ap (λ b. if j == k then b else has_right (part k l) p) (right_way s a p (has_right (part k l) p)) ∙ has_after (way s a p) (spot_of l p) j k (has_right (part k l) p) (at.has k) suits (j == k) refl;
-      deed = fits_step l j (epoch_of (part j l)) s a p at next.answer_is;
-    }
-
 -- at most one actor has the right of a page
 pub one_has_right : (f : Profile) (l : Whole) → Legal f l → (j k p : ℕ) → has_right (part j l) p ≡ true → has_right (part k l) p ≡ true → j ≡ k
 one_has_right f l legal j k p hj hk =
@@ -170,23 +31,117 @@ one_has_right f l legal j k p hj hk =
     let there : spot_of l p ≡ With j = is_with-true j (spot_of l p) (sym (at.has j) ∙ hj) in
     eqb-true j k (sym (ap (is_with k) there) ∙ sym (at.has k) ∙ hk)
 
-deed_with : (l : Whole) (k p : ℕ) → IsSpotted l p → has_right (part k l) p ≡ true → DeedFits (With k) (word_after l (Word.Deed p))
-deed_with l k p at h = subst (λ o. DeedFits o (word_after l (Word.Deed p))) (is_with-true k (spot_of l p) (sym (at.has k) ∙ h)) at.deed
+-- the spot of a right that an actor has, that is offered, or that is parked
+pub with_spot : (l : Whole) (k p : ℕ) → IsSpotted l p → has_right (part k l) p ≡ true → spot_of l p ≡ With k
+with_spot l k p at h = is_with-true k (spot_of l p) (sym (at.has k) ∙ h)
+
+pub offered_spot : (l : Whole) (n p : ℕ) → IsSpotted l p → eligible_bit l n p ≡ true → spot_of l p ≡ Offered n
+offered_spot l n p at h = is_offered-true n (spot_of l p) (sym (at.eligible n) ∙ h)
+
+pub parked_spot : (l : Whole) (p : ℕ) → IsSpotted l p → parked_bit l p ≡ true → spot_of l p ≡ InParked
+parked_spot l p at h = is_parked-true (spot_of l p) (sym at.parked ∙ h)
+
+deed_at_spot : (l : Whole) (p : ℕ) (o : Spot) → IsSpotted l p → spot_of l p ≡ o → DeedFits o (word_after l (Word.Deed p))
+deed_at_spot l p o at is = subst (λ x. DeedFits x (word_after l (Word.Deed p))) is at.deed
 
 -- a page whose right an actor has has a deed
 pub right_has_deed : (f : Profile) (l : Whole) → Legal f l → (k p : ℕ) → has_right (part k l) p ≡ true → word_after l (Word.Deed p) ≢ 0
-right_has_deed f l legal k p h = deed_with l k p (spotted f l legal p) h
+right_has_deed f l legal k p h = let at : IsSpotted l p = spotted f l legal p in deed_at_spot l p (With k) at (with_spot l k p at h)
 
-with_deed : (o : Spot) (n : ℕ) → DeedFits o n → n ≢ 0 → (k : ℕ) × (o ≡ With k)
-with_deed Nowhere n fits ne = absurd (ne fits)
-with_deed (With k) n fits ne = (k, refl)
+-- a page that is offered in the vector of a directory's number has the deed of that directory
+pub offered_has_deed : (f : Profile) (l : Whole) → Legal f l → (n p : ℕ) → eligible_bit l n p ≡ true → word_after l (Word.Deed p) ≡ deed_word_numbered n
+offered_has_deed f l legal n p h = let at : IsSpotted l p = spotted f l legal p in deed_at_spot l p (Offered n) at (offered_spot l n p at h)
 
--- some actor has the right of a page that has a deed
-pub deed_has_holder : (f : Profile) (l : Whole) → Legal f l → (p : ℕ) → word_after l (Word.Deed p) ≢ 0 → (k : ℕ) × (has_right (part k l) p ≡ true)
-deed_has_holder f l legal p ne =
+-- a page that is parked has a deed
+pub parked_has_deed : (f : Profile) (l : Whole) → Legal f l → (p : ℕ) → parked_bit l p ≡ true → word_after l (Word.Deed p) ≢ 0
+parked_has_deed f l legal p h = let at : IsSpotted l p = spotted f l legal p in deed_at_spot l p InParked at (parked_spot l p at h)
+
+-- whoever has a right sees it neither offered nor parked
+pub right_not_offered : (f : Profile) (l : Whole) → Legal f l → (k n p : ℕ) → has_right (part k l) p ≡ true → eligible_bit l n p ≡ false
+right_not_offered f l legal k n p h = let at : IsSpotted l p = spotted f l legal p in at.eligible n ∙ ap (is_offered n) (with_spot l k p at h)
+
+pub right_not_parked : (f : Profile) (l : Whole) → Legal f l → (k p : ℕ) → has_right (part k l) p ≡ true → parked_bit l p ≡ false
+right_not_parked f l legal k p h = let at : IsSpotted l p = spotted f l legal p in at.parked ∙ ap is_parked (with_spot l k p at h)
+
+in_place : (f : Profile) (l : Whole) (p : ℕ) (o : Spot) → ((k : ℕ) → has_right (part k l) p ≡ is_with k o) → ((n : ℕ) → eligible_bit l n p ≡ is_offered n o) → parked_bit l p ≡ is_parked o → DeedFits o (word_after l (Word.Deed p))
+    → IsDeedWord f (word_after l (Word.Deed p)) → IsRightInOnePlace f l p
+in_place f l p Nowhere has eligible parked deed word = inl (record { no_deed = deed; nobody = has; not_offered = eligible; not_parked = parked })
+in_place f l p (With j) has eligible parked deed word = inr (inl (record { a_deed = deed; actor = j; holder = has; not_offered = eligible; not_parked = parked }))
+in_place f l p (Offered n) has eligible parked deed word =
+    let told : (d : Directory) × (word_after l (Word.Deed p) ≡ deed_word_of d) × IsDirectoryOf f d = word (λ z. numbered_ne n (sym deed ∙ z)) in
+    inr (inr (inl (record {
+      directory = told.0;
+      of_profile = told.2;
+      deed = told.1;
+      nobody = has;
+      offered = λ m. eligible m ∙ ap (λ x. x == m) (sym (number_told told.0 n told.2.kind (sym told.1 ∙ deed)));
+      not_parked = parked;
+    })))
+in_place f l p InParked has eligible parked deed word = inr (inr (inr (record { a_deed = deed; nobody = has; not_offered = eligible; parked = parked })))
+
+-- the right of each page that has a deed is in exactly one place
+pub right_in_one_place : (f : Profile) (l : Whole) → Legal f l → (p : ℕ) → IsRightInOnePlace f l p
+right_in_one_place f l legal p = let at : IsSpotted l p = spotted f l legal p in in_place f l p (spot_of l p) at.has at.eligible at.parked at.deed (deed_words f l legal p)
+
+-- the bit in the vector of the page's own directory says whether the right is offered
+abbrev pub is_on_offer : Spot → Bool
+is_on_offer Nowhere = false
+is_on_offer (With k) = false
+is_on_offer (Offered n) = true
+is_on_offer InParked = false
+
+own_offer : (o : Spot) (d : Directory) → IsKind d.kind → DeedFits o (deed_word_of d) → is_offered (number_of d) o ≡ is_on_offer o
+own_offer Nowhere d kind fits = refl
+own_offer (With k) d kind fits = refl
+own_offer (Offered n) d kind fits = eq-eqb n (number_of d) (sym (number_told d n kind fits))
+own_offer InParked d kind fits = refl
+
+pub own_eligible : (f : Profile) (l : Whole) → Legal f l → (p : ℕ) (d : Directory) → IsDirectoryOf f d → word_after l (Word.Deed p) ≡ deed_word_of d → eligible_bit l (number_of d) p ≡ is_on_offer (spot_of l p)
+own_eligible f l legal p d of deed =
     let at : IsSpotted l p = spotted f l legal p in
-    let found : (k : ℕ) × (spot_of l p ≡ With k) = with_deed (spot_of l p) (word_after l (Word.Deed p)) at.deed ne in
-    (found.0, at.has found.0 ∙ ap (is_with found.0) found.1 ∙ eq-eqb found.0 found.0 refl)
+    at.eligible (number_of d) ∙ own_offer (spot_of l p) d of.kind (subst (DeedFits (spot_of l p)) deed at.deed)
+
+-- in the vector of another number it is clear
+pub other_eligible : (f : Profile) (l : Whole) → Legal f l → (p n : ℕ) → word_after l (Word.Deed p) ≢ deed_word_numbered n → eligible_bit l n p ≡ false
+other_eligible f l legal p n other = false_from_ne_true (eligible_bit l n p) (λ h. other (offered_has_deed f l legal n p h))
+
+-- a set bit of an eligible word tells the deed that an actor knows, if it knows one
+pub offered_is_known : (f : Profile) (l : Whole) → Legal f l → (k n p : ℕ) → eligible_bit l n p ≡ true → known_deed (part k l) p ≢ 0 → known_deed (part k l) p ≡ deed_word_numbered n
+offered_is_known f l legal k n p h ne =
+    let at : IsSpotted l p = spotted f l legal p in
+    known_is (known_deed (part k l) p) (word_after l (Word.Deed p)) (at.known k) ne ∙ offered_has_deed f l legal n p h
+
+-- ---- bits of page vectors are of pages
+pub offered_page : (f : Profile) (l : Whole) → Legal f l → (n p : ℕ) → eligible_bit l n p ≡ true → IsPage f p
+offered_page f l legal n p h = deed_has_page f l legal p (λ z. numbered_ne n (sym (offered_has_deed f l legal n p h) ∙ z))
+
+pub parked_page : (f : Profile) (l : Whole) → Legal f l → (p : ℕ) → parked_bit l p ≡ true → IsPage f p
+parked_page f l legal p h = deed_has_page f l legal p (parked_has_deed f l legal p h)
+
+hint_if : (f : Profile) (x was : Bool) (q p : ℕ) → (q == p) ≡ x → IsPage f q → (was ≡ true → IsPage f p) → (if x then true else was) ≡ true → IsPage f p
+hint_if f true was q p e of h set = subst (IsPage f) (eqb-true q p e) of
+hint_if f false was q p e of h set = h set
+
+hint_next : (f : Profile) (e : ℕ) (s : Step) (p old : ℕ) → IsStepOf f s → (has_bit old (p % 64) ≡ true → IsPage f p) → has_bit (next_value e s (Word.Empty (p / 64)) old) (p % 64) ≡ true → IsPage f p
+hint_next f e (Look word) p old of h set = h (ap (λ n. has_bit n (p % 64)) (sym (looked (same_word word (Word.Empty (p / 64))) old)) ∙ set)
+hint_next f e (Deed q d) p old of h set = h set
+hint_next f e (Back q) p old of h set = h set
+hint_next f e (Take q w mask) p old of h set = h set
+hint_next f e (Put q w mask) p old of h set = h set
+hint_next f e (Give block) p old of h set = h set
+hint_next f e (End name guess) p old of h set = h set
+hint_next f e (TakeRight q d) p old of h set = h set
+hint_next f e (Offer q d) p old of h set = h set
+hint_next f e (Park q) p old of h set = h set
+hint_next f e (Unpark q) p old of h set = h set
+hint_next f e (Stamp q) p old of h set = h set
+hint_next f e (Hint q) p old of h set = hint_if f (q == p) (has_bit old (p % 64)) q p refl of h (sym (page_bit-set q p old true) ∙ set)
+
+pub hinted_page : (f : Profile) (l : Whole) → Legal f l → (p : ℕ) → empty_bit l p ≡ true → IsPage f p
+hinted_page f [] legal p h = absurd (false≢true (sym (no_bit (p % 64)) ∙ h))
+hinted_page f (t ∷ l) legal p h =
+    let next : IsNext f l t = legal.0 in
+    hint_next f (epoch_of (part t.actor l)) t.made.step p (word_after l (Word.Empty (p / 64))) next.of_region (hinted_page f l legal.1 p) h
 
 -- ---- free grains
 -- the free bit of a grain
@@ -202,7 +157,28 @@ takes (Take q w mask) g = in_mask q w mask g
 takes (Put q w mask) g = false
 takes (Give block) g = false
 takes (End name guess) g = false
+takes (TakeRight q d) g = false
+takes (Offer q d) g = false
+takes (Park q) g = false
+takes (Unpark q) g = false
 takes (Stamp q) g = false
+takes (Hint q) g = false
+
+-- the step's actor gives the page's right away
+abbrev leaves : Step → ℕ → Bool
+leaves (Look word) p = false
+leaves (Deed q d) p = false
+leaves (Back q) p = false
+leaves (Take q w mask) p = false
+leaves (Put q w mask) p = false
+leaves (Give block) p = false
+leaves (End name guess) p = false
+leaves (TakeRight q d) p = false
+leaves (Offer q d) p = q == p
+leaves (Park q) p = q == p
+leaves (Unpark q) p = false
+leaves (Stamp q) p = false
+leaves (Hint q) p = false
 
 take_keeps : (x y : Bool) (old mask b : ℕ) → mask < 2 ^ 64 → b < 64 → (x && y && has_bit mask b) ≡ false → has_bit old b ≡ true → has_bit (if x && y then bit_and old (bit_not w64 mask) else old) b ≡ true
 take_keeps true true old mask b hm hb misses h = has_bit-clear old mask b hm hb ∙ ap (λ t. has_bit old b && not t) misses ∙ ap (λ t. t && true) h
@@ -226,7 +202,12 @@ free_stays f e (Take q w mask) g old of misses h = take_keeps (w == g / 64 % 4) 
 free_stays f e (Put q w mask) g old of misses h = put_keeps ((w == g / 64 % 4) && (q == g / 256)) old mask (g % 64) h
 free_stays f e (Give block) g old of misses h = h
 free_stays f e (End name guess) g old of misses h = h
+free_stays f e (TakeRight q d) g old of misses h = h
+free_stays f e (Offer q d) g old of misses h = h
+free_stays f e (Park q) g old of misses h = h
+free_stays f e (Unpark q) g old of misses h = h
 free_stays f e (Stamp q) g old of misses h = h
+free_stays f e (Hint q) g old of misses h = h
 
 takes_page : (q w mask g : ℕ) → in_mask q w mask g ≡ true → q ≡ g / 256
 takes_page q w mask g h =
@@ -242,7 +223,12 @@ takes_with f l j (Take q w mask) g at allowed h = is_with-true j (spot_of l (g /
 takes_with f l j (Put q w mask) g at allowed h = absurd (false≢true h)
 takes_with f l j (Give block) g at allowed h = absurd (false≢true h)
 takes_with f l j (End name guess) g at allowed h = absurd (false≢true h)
+takes_with f l j (TakeRight q d) g at allowed h = absurd (false≢true h)
+takes_with f l j (Offer q d) g at allowed h = absurd (false≢true h)
+takes_with f l j (Park q) g at allowed h = absurd (false≢true h)
+takes_with f l j (Unpark q) g at allowed h = absurd (false≢true h)
 takes_with f l j (Stamp q) g at allowed h = absurd (false≢true h)
+takes_with f l j (Hint q) g at allowed h = absurd (false≢true h)
 
 takes_not : (f : Profile) (l : Whole) (j : ℕ) (s : Step) (g : ℕ) → IsSpotted l (g / 256) → Allowed f (part j l) s → (spot_of l (g / 256) ≡ With j → ⊥) → takes s g ≡ false
 takes_not f l j s g at allowed never = false_from_ne_true (takes s g) (λ h. never (takes_with f l j s g at allowed h))
@@ -250,11 +236,22 @@ takes_not f l j s g at allowed never = false_from_ne_true (takes s g) (λ h. nev
 was_nowhere : (j : ℕ) (m : Way) (o : Spot) → spot_after j m o ≡ Nowhere → o ≡ Nowhere
 was_nowhere j Rests o h = h
 was_nowhere j ByDeed o h = absurd cc
+was_nowhere j (FromOffer n) o h = absurd cc
+was_nowhere j FromParked o h = absurd cc
+was_nowhere j (ToOffer n) o h = absurd cc
+was_nowhere j ToParked o h = absurd cc
+
+with_differs : (j k : ℕ) (o : Spot) → o ≡ With k → (j == k) ≡ false → o ≡ With j → ⊥
+with_differs j k o h ne g = let e : With j ≡ With k = sym g ∙ h in let same : j ≡ k = cc in eqb-false j k ne same
 
 -- what another actor's step leaves
 other_spot : (j k : ℕ) (m : Way) (o : Spot) → Suits j m o → (j == k) ≡ false → o ≡ With k → spot_after j m o ≡ With k
 other_spot j k Rests o suits ne h = h
 other_spot j k ByDeed o suits ne h = let e : Nowhere ≡ With k = sym suits ∙ h in absurd cc
+other_spot j k (FromOffer n) o suits ne h = let e : Offered n ≡ With k = sym suits ∙ h in absurd cc
+other_spot j k FromParked o suits ne h = let e : InParked ≡ With k = sym suits ∙ h in absurd cc
+other_spot j k (ToOffer n) o suits ne h = absurd (with_differs j k o h ne suits)
+other_spot j k ToParked o suits ne h = absurd (with_differs j k o h ne suits)
 
 -- the free bits that follow from the spot of the page's right
 pub record IsClear (l : Whole) (g : ℕ) : Type 0 where
@@ -281,18 +278,27 @@ tells_free (Take q w mask) a g right = false
 tells_free (Put q w mask) a g right = false
 tells_free (Give block) a g right = false
 tells_free (End name guess) a g right = false
+tells_free (TakeRight q d) a g right = false
+tells_free (Offer q d) a g right = false
+tells_free (Park q) a g right = false
+tells_free (Unpark q) a g right = false
 tells_free (Stamp q) a g right = false
+tells_free (Hint q) a g right = false
 
-tells_or : (x known : Bool) → (if x then true else known) ≡ (x || (not false && known))
+tells_or : (x known : Bool) → (if x then true else known) ≡ (x || (not false && not false && known))
 tells_or true known = refl
 tells_or false known = refl
 
-takes_or : (x known : Bool) → (if x then false else known) ≡ (false || (not x && known))
+takes_or : (x known : Bool) → (if x then false else known) ≡ (false || (not x && not false && known))
 takes_or true known = refl
 takes_or false known = refl
 
--- a grain is known as free if the step tells so, or if it was and the step doesn't take it
-free_after-is : (s : Step) (a g : ℕ) (right known : Bool) → free_after s a g right known ≡ (tells_free s a g right || (not (takes s g) && known))
+leaves_or : (x known : Bool) → (if x then false else known) ≡ (false || (not false && not x && known))
+leaves_or true known = refl
+leaves_or false known = refl
+
+-- a grain is known as free if the step tells so, or if it was, and the step neither takes it nor gives the right away
+free_after-is : (s : Step) (a g : ℕ) (right known : Bool) → free_after s a g right known ≡ (tells_free s a g right || (not (takes s g) && not (leaves s (g / 256)) && known))
 free_after-is (Look Word.Epoch) a g right known = refl
 free_after-is (Look (Word.Free q w)) a g right known = tells_or ((w == g / 64 % 4) && (q == g / 256) && right && has_bit a (g % 64)) known
 free_after-is (Look (Word.Life q h)) a g right known = refl
@@ -308,63 +314,90 @@ free_after-is (Take q w mask) a g right known = takes_or (in_mask q w mask g) kn
 free_after-is (Put q w mask) a g right known = refl
 free_after-is (Give block) a g right known = refl
 free_after-is (End name guess) a g right known = refl
+free_after-is (TakeRight q d) a g right known = refl
+free_after-is (Offer q d) a g right known = leaves_or (q == g / 256) known
+free_after-is (Park q) a g right known = leaves_or (q == g / 256) known
+free_after-is (Unpark q) a g right known = refl
 free_after-is (Stamp q) a g right known = refl
+free_after-is (Hint q) a g right known = refl
 
-not_from : (x y : Bool) → (not x && y) ≡ true → (x ≡ false) × (y ≡ true)
-not_from true y h = absurd (false≢true h)
-not_from false y h = (refl, h)
+not_from : (x z y : Bool) → (not x && not z && y) ≡ true → (x ≡ false) × (z ≡ false) × (y ≡ true)
+not_from true z y h = absurd (false≢true h)
+not_from false true y h = absurd (false≢true h)
+not_from false false y h = (refl, refl, h)
 
 -- the step tells it, and it is so
-told_free : (l : Whole) (j e : ℕ) (s : Step) (a g : ℕ) → IsSpotted l (g / 256) → IsClear l g → a ≡ word_after l (target s) → tells_free s a g (has_right (part j l) (g / 256)) ≡ true
+told_free : (f : Profile) (l : Whole) (j e : ℕ) (s : Step) (a g : ℕ) → IsSpotted l (g / 256) → IsClear l g → Allowed f (part j l) s → a ≡ word_after l (target s) → tells_free s a g (has_right (part j l) (g / 256)) ≡ true
     → Known j (spot_after j (way s a (g / 256)) (spot_of l (g / 256))) (has_bit (next_value e s (free_word_at g) (word_after l (free_word_at g))) (g % 64))
-told_free l j e (Look Word.Epoch) a g at clear is h = absurd (false≢true h)
-told_free l j e (Look (Word.Free q w)) a g at clear is h =
+told_free f l j e (Look Word.Epoch) a g at clear allowed is h = absurd (false≢true h)
+told_free f l j e (Look (Word.Free q w)) a g at clear allowed is h =
     let parts = and_parts ((w == g / 64 % 4) && (q == g / 256) && has_right (part j l) (g / 256)) (has_bit a (g % 64)) h in
     let rest = and_parts ((w == g / 64 % 4) && (q == g / 256)) (has_right (part j l) (g / 256)) parts.0 in
     let here = and_parts (w == g / 64 % 4) (q == g / 256) rest.0 in
     let same : a ≡ word_after l (free_word_at g) = is ∙ ap (λ x. word_after l (Word.Free q x)) (eqb-true w (g / 64 % 4) here.0) ∙ ap (λ x. word_after l (Word.Free x (g / 64 % 4))) (eqb-true q (g / 256) here.1) in
     (is_with-true j (spot_of l (g / 256)) (sym (at.has j) ∙ rest.1), look_keeps ((w == g / 64 % 4) && (q == g / 256)) (word_after l (free_word_at g)) (g % 64) (ap (λ n. has_bit n (g % 64)) (sym same) ∙ parts.1))
-told_free l j e (Look (Word.Life q i)) a g at clear is h = absurd (false≢true h)
-told_free l j e (Look (Word.Deed q)) a g at clear is h = absurd (false≢true h)
-told_free l j e (Look (Word.Backed q)) a g at clear is h = absurd (false≢true h)
-told_free l j e (Look (Word.Stamp q)) a g at clear is h = absurd (false≢true h)
-told_free l j e (Look (Word.Parked i)) a g at clear is h = absurd (false≢true h)
-told_free l j e (Look (Word.Empty i)) a g at clear is h = absurd (false≢true h)
-told_free l j e (Look (Word.Eligible d i)) a g at clear is h = absurd (false≢true h)
-told_free l j e (Deed q d) a g at clear is h =
-    let suits : Suits j (way (Deed q d) a (g / 256)) (spot_of l (g / 256)) = step_suits l j (Deed q d) a (g / 256) at is in
+told_free f l j e (Look (Word.Life q i)) a g at clear allowed is h = absurd (false≢true h)
+told_free f l j e (Look (Word.Deed q)) a g at clear allowed is h = absurd (false≢true h)
+told_free f l j e (Look (Word.Backed q)) a g at clear allowed is h = absurd (false≢true h)
+told_free f l j e (Look (Word.Stamp q)) a g at clear allowed is h = absurd (false≢true h)
+told_free f l j e (Look (Word.Parked i)) a g at clear allowed is h = absurd (false≢true h)
+told_free f l j e (Look (Word.Empty i)) a g at clear allowed is h = absurd (false≢true h)
+told_free f l j e (Look (Word.Eligible d i)) a g at clear allowed is h = absurd (false≢true h)
+told_free f l j e (Deed q d) a g at clear allowed is h =
+    let suits : Suits j (way (Deed q d) a (g / 256)) (spot_of l (g / 256)) = step_suits f l j (Deed q d) a (g / 256) at allowed is in
     (ap (λ t. spot_after j (if t then ByDeed else Rests) (spot_of l (g / 256))) h, clear.bare (subst (λ t. Suits j (if t then ByDeed else Rests) (spot_of l (g / 256))) h suits))
-told_free l j e (Back q) a g at clear is h = absurd (false≢true h)
-told_free l j e (Take q w mask) a g at clear is h = absurd (false≢true h)
-told_free l j e (Put q w mask) a g at clear is h = absurd (false≢true h)
-told_free l j e (Give block) a g at clear is h = absurd (false≢true h)
-told_free l j e (End name guess) a g at clear is h = absurd (false≢true h)
-told_free l j e (Stamp q) a g at clear is h = absurd (false≢true h)
+told_free f l j e (Back q) a g at clear allowed is h = absurd (false≢true h)
+told_free f l j e (Take q w mask) a g at clear allowed is h = absurd (false≢true h)
+told_free f l j e (Put q w mask) a g at clear allowed is h = absurd (false≢true h)
+told_free f l j e (Give block) a g at clear allowed is h = absurd (false≢true h)
+told_free f l j e (End name guess) a g at clear allowed is h = absurd (false≢true h)
+told_free f l j e (TakeRight q d) a g at clear allowed is h = absurd (false≢true h)
+told_free f l j e (Offer q d) a g at clear allowed is h = absurd (false≢true h)
+told_free f l j e (Park q) a g at clear allowed is h = absurd (false≢true h)
+told_free f l j e (Unpark q) a g at clear allowed is h = absurd (false≢true h)
+told_free f l j e (Stamp q) a g at clear allowed is h = absurd (false≢true h)
+told_free f l j e (Hint q) a g at clear allowed is h = absurd (false≢true h)
 
--- an actor's own way leaves it a right that it has
-own_spot : (j : ℕ) (m : Way) (o : Spot) → o ≡ With j → spot_after j m o ≡ With j
-own_spot j Rests o h = h
-own_spot j ByDeed o h = refl
+-- an actor's own step leaves it a right that it has and doesn't give away
+moves_to : (j : ℕ) (m : Way) (o : Spot) (x : Bool) → spot_after j m o ≡ With j → o ≡ With j → spot_after j (if x then m else Rests) o ≡ With j
+moves_to j m o true new old = new
+moves_to j m o false new old = old
+
+not_moved : (j : ℕ) (m : Way) (o : Spot) (x : Bool) → x ≡ false → o ≡ With j → spot_after j (if x then m else Rests) o ≡ With j
+not_moved j m o true e h = absurd (false≢true (sym e))
+not_moved j m o false e h = h
+
+own_spot : (j : ℕ) (s : Step) (a p : ℕ) (o : Spot) → leaves s p ≡ false → o ≡ With j → spot_after j (way s a p) o ≡ With j
+own_spot j (Look word) a p o stays h = h
+own_spot j (Deed q d) a p o stays h = moves_to j ByDeed o ((q == p) && (a == 0)) refl h
+own_spot j (Back q) a p o stays h = h
+own_spot j (Take q w mask) a p o stays h = h
+own_spot j (Put q w mask) a p o stays h = h
+own_spot j (Give block) a p o stays h = h
+own_spot j (End name guess) a p o stays h = h
+own_spot j (TakeRight q d) a p o stays h = moves_to j (FromOffer (number_of d)) o ((q == p) && has_bit a (p % 64)) refl h
+own_spot j (Offer q d) a p o stays h = not_moved j (ToOffer (number_of d)) o (q == p) stays h
+own_spot j (Park q) a p o stays h = not_moved j ToParked o (q == p) stays h
+own_spot j (Unpark q) a p o stays h = moves_to j FromParked o ((q == p) && has_bit a (p % 64)) refl h
+own_spot j (Stamp q) a p o stays h = h
+own_spot j (Hint q) a p o stays h = h
 
 free_of_part : (t : Bool) (m : Made) (v : View) (g : ℕ) (P : Type 0) → (t ≡ false → known_free v g ≡ true → P) → (t ≡ true → free_after m.step m.answer g (has_right v (g / 256)) (known_free v g) ≡ true → P) → known_free (if t then m ∷ v else v) g ≡ true → P
 free_of_part true m v g P old new told = new refl told
 free_of_part false m v g P old new told = old refl told
 
-with_differs : (j k : ℕ) (o : Spot) → o ≡ With k → (j == k) ≡ false → o ≡ With j → ⊥
-with_differs j k o h ne g = let e : With j ≡ With k = sym g ∙ h in let same : j ≡ k = cc in eqb-false j k ne same
-
 -- what follows for the actor that made the step
-own_free : (f : Profile) (l : Whole) (j e : ℕ) (s : Step) (a g : ℕ) → IsSpotted l (g / 256) → IsClear l g → IsStepOf f s → a ≡ word_after l (target s)
+own_free : (f : Profile) (l : Whole) (j e : ℕ) (s : Step) (a g : ℕ) → IsSpotted l (g / 256) → IsClear l g → IsStepOf f s → Allowed f (part j l) s → a ≡ word_after l (target s)
     → free_after s a g (has_right (part j l) (g / 256)) (known_free (part j l) g) ≡ true
     → Known j (spot_after j (way s a (g / 256)) (spot_of l (g / 256))) (has_bit (next_value e s (free_word_at g) (word_after l (free_word_at g))) (g % 64))
-own_free f l j e s a g at clear of is h =
-    let cases = or_cases (tells_free s a g (has_right (part j l) (g / 256))) (not (takes s g) && known_free (part j l) g) (sym (free_after-is s a g (has_right (part j l) (g / 256)) (known_free (part j l) g)) ∙ h) in
+own_free f l j e s a g at clear of allowed is h =
+    let cases = or_cases (tells_free s a g (has_right (part j l) (g / 256))) (not (takes s g) && not (leaves s (g / 256)) && known_free (part j l) g) (sym (free_after-is s a g (has_right (part j l) (g / 256)) (known_free (part j l) g)) ∙ h) in
     elim cases [
-      | inl told ↦ told_free l j e s a g at clear is told
+      | inl told ↦ told_free f l j e s a g at clear allowed is told
       | inr kept ↦
-          let parts = not_from (takes s g) (known_free (part j l) g) kept in
-          let was : (spot_of l (g / 256) ≡ With j) × (free_bit l g ≡ true) = clear.free j parts.1 in
-          (own_spot j (way s a (g / 256)) (spot_of l (g / 256)) was.0, free_stays f e s g (word_after l (free_word_at g)) of parts.0 was.1)
+          let parts = not_from (takes s g) (leaves s (g / 256)) (known_free (part j l) g) kept in
+          let was : (spot_of l (g / 256) ≡ With j) × (free_bit l g ≡ true) = clear.free j parts.2 in
+          (own_spot j s a (g / 256) (spot_of l (g / 256)) parts.1 was.0, free_stays f e s g (word_after l (free_word_at g)) of parts.0 was.1)
     ]
 
 -- and for another, whose right stays and whose grains nobody takes
@@ -372,7 +405,7 @@ other_free : (f : Profile) (l : Whole) (j k e : ℕ) (s : Step) (a g : ℕ) → 
     → Known k (spot_after j (way s a (g / 256)) (spot_of l (g / 256))) (has_bit (next_value e s (free_word_at g) (word_after l (free_word_at g))) (g % 64))
 other_free f l j k e s a g at clear of allowed is ne h =
     let was : (spot_of l (g / 256) ≡ With k) × (free_bit l g ≡ true) = clear.free k h in (
-      other_spot j k (way s a (g / 256)) (spot_of l (g / 256)) (step_suits l j s a (g / 256) at is) ne was.0,
+      other_spot j k (way s a (g / 256)) (spot_of l (g / 256)) (step_suits f l j s a (g / 256) at allowed is) ne was.0,
       free_stays f e s g (word_after l (free_word_at g)) of (takes_not f l j s g at allowed (with_differs j k (spot_of l (g / 256)) was.0 ne)) was.1,
     )
 
@@ -396,7 +429,7 @@ cleared f (t ∷ l) legal g =
       free = λ k. free_of_part (j == k) t.made (part k l) g (Known k (spot_of (t ∷ l) (g / 256)) (free_bit (t ∷ l) g))
           (λ ne h. other_free f l j k e s a g at clear next.of_region next.allowed next.answer_is ne h)
           (λ same h. let e' : j ≡ k = eqb-true j k same in
-          subst (λ i. Known i (spot_of (t ∷ l) (g / 256)) (free_bit (t ∷ l) g)) e' (own_free f l j e s a g at clear next.of_region next.answer_is (ap (λ i. free_after s a g (has_right (part i l) (g / 256)) (known_free (part i l) g)) e' ∙ h)));
+          subst (λ i. Known i (spot_of (t ∷ l) (g / 256)) (free_bit (t ∷ l) g)) e' (own_free f l j e s a g at clear next.of_region next.allowed next.answer_is (ap (λ i. free_after s a g (has_right (part i l) (g / 256)) (known_free (part i l) g)) e' ∙ h)));
     }
 
 -- a grain that a view knows as free is free

@@ -9,8 +9,9 @@ ghost use Rattle.pas_steps.specs.Views.{has_right, known_deed, known_free, knows
 ghost use Rattle.pas_steps.specs.Lists.{Triple, Whole, part, word_after, IsNext, Legal};
 ghost use Rattle.pas_steps.specs.Agreement.{Agrees};
 
-/// The answer of a step that may come next agrees with what its actor holds and knows: a word that is known is read again, a grain
-/// that is held isn't free and no block lives at it, and each word has only values of its kind.
+/// The answer of a step that may come next agrees with what its actor holds, has and knows: a word that is known is read again, a
+/// grain that is held isn't free and no block lives at it, a page whose right the actor has is neither offered nor parked, a page
+/// that is offered has the deed of that directory, and each word has only values of its kind.
 pub fn answers_agree()
     ensures { (f : Profile) (l : Whole) → IsValid f → Legal f l → (t : Triple) → IsNext f l t → Agrees f (part t.actor l) t.made.step t.made.answer }
 {}
@@ -21,12 +22,14 @@ pub fn one_right()
     ensures deed { (f : Profile) (l : Whole) → Legal f l → (k page : ℕ) → has_right (part k l) page ≡ true → word_after l (Word.Deed page) ≢ 0 }
 {}
 
-/// What an actor knows is so now, whatever the others did since: the deed of a page, that a page is backed, that a grain is free, and
-/// the life word of a grain. The epoch is at least the one that it read.
+/// What an actor knows is so now, whatever the others did since: the deed of a page (from its deed word, or from a bit that was set in
+/// the eligible vector of its directory), that a page is backed, that a grain is free, whose page's right the actor has then, and the
+/// life word of a grain. The epoch is at least the one that it read.
 pub fn known_is_true()
     ensures deed { (f : Profile) (l : Whole) → Legal f l → (k page : ℕ) → known_deed (part k l) page ≢ 0 → word_after l (Word.Deed page) ≡ known_deed (part k l) page }
     ensures backed { (f : Profile) (l : Whole) → Legal f l → (k page : ℕ) → knows_backed (part k l) page ≡ true → word_after l (Word.Backed page) ≡ 1 }
     ensures free { (f : Profile) (l : Whole) → Legal f l → (k g : ℕ) → known_free (part k l) g ≡ true → has_bit (word_after l (free_word_at g)) (g % 64) ≡ true }
+    ensures right { (f : Profile) (l : Whole) → Legal f l → (k g : ℕ) → known_free (part k l) g ≡ true → has_right (part k l) (g / 256) ≡ true }
     ensures life { (f : Profile) (l : Whole) → IsValid f → Legal f l → (k g w : ℕ) → known_life (part k l) g ≡ Some w → word_after l (life_word_at g) ≡ w }
     ensures epoch { (f : Profile) (l : Whole) → Legal f l → (k : ℕ) → epoch_of (part k l) ≤ word_after l Word.Epoch }
 {}

@@ -1,6 +1,6 @@
 //! What holds after every legal list of steps, whoever made them. Each law is the contract of an empty function.
-ghost use Rattle.std.specs.Prelude.{ℕ, ◌≤◌, List, ◌∷◌, ◌++◌, length};
-ghost use Rattle.pas_profile.specs.Profiles.{IsValid};
+ghost use Rattle.std.specs.Prelude.{ℕ, ◌≤◌, ◌≡◌, true, List, ◌∷◌, ◌++◌, length};
+ghost use Rattle.pas_profile.specs.Profiles.{IsValid, IsPage};
 ghost use Rattle.pas_profile.specs.declared.profile.Profile.{Profile};
 ghost use Rattle.pas_profile.specs.declared.name.Block.{Block};
 ghost use Rattle.pas_profile.specs.declared.event.Event.{Event};
@@ -13,6 +13,7 @@ ghost use Rattle.pas_steps.specs.Events.{events_of};
 ghost use Rattle.pas_steps.specs.Lists.{Whole, Legal, visible};
 ghost use Rattle.pas_core.specs.Good.{AgreesWithWords, IsInOnePlace, IsPlacedOnce};
 ghost use Rattle.pas_core.specs.Given.{WasGiven};
+ghost use Rattle.pas_core.specs.Rights.{parked_bit, empty_bit, eligible_bit, IsRightInOnePlace, IsUsableFree, IsOwed};
 
 /// However the steps of the actors fall between each other, what they did is a run of the machine: each block was given where no
 /// other lived, on backed pages of its heap and under a name of its own, each end ended the very block of its name, and each
@@ -32,6 +33,26 @@ pub fn agrees()
 pub fn placed()
     ensures place { (f : Profile) (l : Whole) → IsValid f → Legal f l → (g : ℕ) → IsInOnePlace l g }
     ensures words { (f : Profile) (l : Whole) → IsValid f → Legal f l → (g : ℕ) → IsPlacedOnce l g }
+{}
+
+/// The right of each page that has a deed is in exactly one place: one actor has it, or the page's bit is set in the eligible vector of
+/// its own directory, or its parked bit is set. A page without a deed has none of these. So no right is lost and none is doubled,
+/// no bit of a page is set in the vector of another directory, and no actor finds a right offered or parked that another has.
+pub fn one_place_of_a_right()
+    ensures { (f : Profile) (l : Whole) → Legal f l → (page : ℕ) → IsRightInOnePlace f l page }
+{}
+
+/// A parked page isn't forgotten: where it has a free grain that blocks of its directory may cover, some actor owes a look at that free
+/// word. So once no actor owes a check, a parked page has nothing to give.
+pub fn parked_pages_are_checked()
+    ensures { (f : Profile) (l : Whole) → Legal f l → (page word bit : ℕ) → parked_bit l page ≡ true → IsUsableFree l page word bit → IsOwed l page word }
+{}
+
+/// Each bit that is set in a page vector is that of a page of the region: never that of page 0 or of one past the last.
+pub fn bits_of_pages()
+    ensures parked { (f : Profile) (l : Whole) → Legal f l → (page : ℕ) → parked_bit l page ≡ true → IsPage f page }
+    ensures empty { (f : Profile) (l : Whole) → Legal f l → (page : ℕ) → empty_bit l page ≡ true → IsPage f page }
+    ensures eligible { (f : Profile) (l : Whole) → Legal f l → (number page : ℕ) → eligible_bit l number page ≡ true → IsPage f page }
 {}
 
 /// A live block lies on backed pages with deeds of its heap as long as it lives, and shares no grain with another live block.

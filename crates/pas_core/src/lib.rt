@@ -3,3 +3,6 @@
 
 pub mod knowledge_laws;
 pub mod laws;
+pub mod run;
+
+pub use run::run_steps;

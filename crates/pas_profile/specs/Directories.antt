@@ -29,6 +29,10 @@ number_of d = d.heap * 23 + kind_number d.kind
 abbrev pub deed_word_of : Directory → ℕ
 deed_word_of d = 65536 + d.heap * 256 + kind_number d.kind
 
+-- the deed word of the directory of this number
+abbrev pub deed_word_numbered : ℕ → ℕ
+deed_word_numbered n = 65536 + n / 23 * 256 + n % 23
+
 -- the kind of this number: 0 to 15 are the classes, 16 to 19 and those from 23 on are none
 abbrev pub kind_of : ℕ → Option Kind
 kind_of n = if nat_lt n 16 then Some (Class n) else (if n == 20 then Some Bitfit else (if n == 21 then Some Shared else (if n == 22 then Some Large else None)))

@@ -3,3 +3,4 @@ pub mod Frames
 pub mod Parts
 pub mod Ranged
 pub mod Targets
+pub mod Written

@@ -2,19 +2,19 @@
 -- One definition by cases, kind by kind and word by word.
 use Rattle.std.specs.Prelude.{ℕ, ◌+◌, ◌*◌, ◌/◌, ◌%◌, ◌^◌, ◌<◌, ◌≤◌, ◌≡◌, ◌≢◌, Bool, true, false, List, [], ◌∷◌, ◌++◌, Option, None, Some}
 use Rattle.pas_profile.specs.Classes.{has_bit}
-use Rattle.pas_profile.specs.Directories.{deed_word_of}
+use Rattle.pas_profile.specs.Directories.{deed_word_of, deed_word_numbered, number_of}
 use Rattle.pas_profile.specs.Lives.{is_live, turn_of, grains_of}
-use Rattle.pas_profile.specs.Profiles.{IsDirectoryOf}
+use Rattle.pas_profile.specs.Profiles.{IsPage, IsDirectoryOf}
 use Rattle.pas_profile.specs.declared.profile.Profile.{Profile}
 use Rattle.pas_profile.specs.declared.directory.Directory.{Directory}
 use Rattle.pas_profile.specs.declared.word.Word.{Word}
 use Rattle.pas_profile.specs.declared.word.Word.TheVariants as Word
 use Rattle.pas_machine.specs.Runs.{grain_of}
 use Rattle.pas_steps.specs.Effects.{in_mask, life_word_at}
-use Rattle.pas_steps.specs.Views.{View, holds, known_deed, known_free, knows_backed, known_life, epoch_of}
+use Rattle.pas_steps.specs.Views.{View, holds, has_right, known_deed, known_free, knows_backed, known_life, epoch_of}
 use Rattle.pas_steps.specs.declared.step.Step.{Step}
 use Rattle.pas_steps.specs.declared.step.Made.{Made}
-use Rattle.pas_steps.specs.declared.step.Step.TheVariants.{Look, Deed, Back, Take, Put, Give, End, Stamp}
+use Rattle.pas_steps.specs.declared.step.Step.TheVariants.{Look, Deed, Back, Take, Put, Give, End, TakeRight, Offer, Park, Unpark, Stamp, Hint}
 
 -- the word is no deed, or the deed of a directory of the profile
 abbrev pub IsDeedWord : Profile → ℕ → Type 0
@@ -43,6 +43,22 @@ pub record AgreesBacked (v : View) (page a : ℕ) : Type 0 where
   pub small : a ≤ 1
   pub known : knows_backed v page ≡ true → a ≡ 1
 
+-- a word of the parked vector that is read: a set bit is of a page, whose right the actor hasn't
+pub record AgreesParked (f : Profile) (v : View) (j a : ℕ) : Type 0 where
+  pub page : (b : ℕ) → b < 64 → has_bit a b ≡ true → IsPage f (64 * j + b)
+  pub right : (b : ℕ) → b < 64 → has_right v (64 * j + b) ≡ true → has_bit a b ≡ false
+
+-- a word of the empty vector that is read: a set bit is of a page
+pub record AgreesEmpty (f : Profile) (j a : ℕ) : Type 0 where
+  pub page : (b : ℕ) → b < 64 → has_bit a b ≡ true → IsPage f (64 * j + b)
+
+-- a word of an eligible vector that is read: a set bit is of a page of that directory, whose right the actor hasn't. A deed that is known is
+-- of that directory then
+pub record AgreesEligible (f : Profile) (v : View) (d j a : ℕ) : Type 0 where
+  pub page : (b : ℕ) → b < 64 → has_bit a b ≡ true → IsPage f (64 * j + b)
+  pub right : (b : ℕ) → b < 64 → has_right v (64 * j + b) ≡ true → has_bit a b ≡ false
+  pub known : (b : ℕ) → b < 64 → has_bit a b ≡ true → known_deed v (64 * j + b) ≢ 0 → known_deed v (64 * j + b) ≡ deed_word_numbered d
+
 abbrev pub AgreesLook : Profile → View → Word → ℕ → Type 0
 AgreesLook f v Word.Epoch a = epoch_of v ≤ a
 AgreesLook f v (Word.Free page word) a = AgreesFree v page word a
@@ -50,9 +66,9 @@ AgreesLook f v (Word.Life page grain) a = AgreesLife f v (page * 256 + grain) a
 AgreesLook f v (Word.Deed page) a = AgreesDeed f v page a
 AgreesLook f v (Word.Backed page) a = AgreesBacked v page a
 AgreesLook f v (Word.Stamp page) a = a < 2 ^ 64
-AgreesLook f v (Word.Parked j) a = a ≡ 0
-AgreesLook f v (Word.Empty j) a = a ≡ 0
-AgreesLook f v (Word.Eligible d j) a = a ≡ 0
+AgreesLook f v (Word.Parked j) a = AgreesParked f v j a
+AgreesLook f v (Word.Empty j) a = AgreesEmpty f j a
+AgreesLook f v (Word.Eligible d j) a = AgreesEligible f v d j a
 
 abbrev pub Agrees : Profile → View → Step → ℕ → Type 0
 Agrees f v (Look word) a = AgreesLook f v word a
@@ -62,7 +78,12 @@ Agrees f v (Take page word mask) a = AgreesFree v page word a
 Agrees f v (Put page word mask) a = AgreesFree v page word a
 Agrees f v (Give block) a = AgreesLife f v (grain_of block.name) a
 Agrees f v (End name guess) a = AgreesLife f v (grain_of name) a
+Agrees f v (TakeRight page directory) a = AgreesEligible f v (number_of directory) (page / 64) a
+Agrees f v (Offer page directory) a = AgreesEligible f v (number_of directory) (page / 64) a
+Agrees f v (Park page) a = AgreesParked f v (page / 64) a
+Agrees f v (Unpark page) a = AgreesParked f v (page / 64) a
 Agrees f v (Stamp page) a = a < 2 ^ 64
+Agrees f v (Hint page) a = AgreesEmpty f (page / 64) a
 
 -- each answer of these steps, which were made from this view on, agrees with the view of its moment
 abbrev pub Agreed : Profile → View → List Made → Type 0

@@ -10,7 +10,7 @@ use Rattle.pas_machine.specs.Runs.{in_run, address_of, grain_of, length_of}
 use Rattle.pas_steps.specs.Effects.{in_mask}
 use Rattle.pas_steps.specs.Views.{View, holds, has_right, known_deed, knows_backed, known_life, known_epoch, is_unstamped, given_count}
 use Rattle.pas_steps.specs.declared.step.Step.{Step}
-use Rattle.pas_steps.specs.declared.step.Step.TheVariants.{Look, Deed, Back, Take, Put, Give, End, Stamp}
+use Rattle.pas_steps.specs.declared.step.Step.TheVariants.{Look, Deed, Back, Take, Put, Give, End, TakeRight, Offer, Park, Unpark, Stamp, Hint}
 
 -- the operands are of the profile
 pub record IsBlockOf (f : Profile) (block : Block) : Type 0 where
@@ -27,7 +27,12 @@ IsStepOf f (Take page word mask) = IsPage f page × (word < 4) × (mask < 2 ^ 64
 IsStepOf f (Put page word mask) = IsPage f page × (word < 4) × (mask < 2 ^ 64)
 IsStepOf f (Give block) = IsBlockOf f block
 IsStepOf f (End name guess) = IsPage f (address_of name / 4096) × (address_of name % 16 ≡ 0) × (name.turn < 2 ^ 40 - 1) × (1 ≤ guess) × (guess ≤ 256 * f.pages)
+IsStepOf f (TakeRight page directory) = IsPage f page × IsDirectoryOf f directory
+IsStepOf f (Offer page directory) = IsPage f page × IsDirectoryOf f directory
+IsStepOf f (Park page) = IsPage f page
+IsStepOf f (Unpark page) = IsPage f page
 IsStepOf f (Stamp page) = IsPage f page
+IsStepOf f (Hint page) = IsPage f page
 
 -- the actor holds a grain of the page
 abbrev pub HoldsOn : View → ℕ → Type 0
@@ -77,4 +82,9 @@ Allowed f v (Take page word mask) = has_right v page ≡ true
 Allowed f v (Put page word mask) = MayPutNow v page word mask
 Allowed f v (Give block) = MayGiveNow f v block
 Allowed f v (End name guess) = IsEpochKnown (known_epoch v)
+Allowed f v (TakeRight page directory) = KnowsDirectory v page directory
+Allowed f v (Offer page directory) = (has_right v page ≡ true) × KnowsDirectory v page directory
+Allowed f v (Park page) = has_right v page ≡ true
+Allowed f v (Unpark page) = known_deed v page ≢ 0
 Allowed f v (Stamp page) = HoldsOn v page × IsEpochKnown (known_epoch v)
+Allowed f v (Hint page) = Unit {0}

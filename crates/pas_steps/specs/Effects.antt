@@ -1,14 +1,15 @@
 -- What a step does to its one word.
-use Rattle.std.specs.Prelude.{ℕ, ◌+◌, ◌*◌, ◌/◌, ◌%◌, ◌==◌, max, Bool, ◌&&◌, if◌then◌else◌, bit_and, bit_or}
+use Rattle.std.specs.Prelude.{ℕ, ◌+◌, ◌*◌, ◌/◌, ◌%◌, ◌^◌, ◌==◌, max, Bool, ◌&&◌, if◌then◌else◌, bit_and, bit_or}
 use Rattle.std.specs.Int.{bit_not, w64}
 use Rattle.pas_profile.specs.Classes.{has_bit}
-use Rattle.pas_profile.specs.Directories.{deed_word_of}
+use Rattle.pas_profile.specs.Directories.{deed_word_of, number_of}
 use Rattle.pas_profile.specs.Lives.{live_word}
+use Rattle.pas_profile.specs.declared.directory.Directory.{Directory}
 use Rattle.pas_profile.specs.declared.word.Word.{Word}
 use Rattle.pas_profile.specs.declared.word.Word.TheVariants as Word
 use Rattle.pas_machine.specs.Runs.{grain_of, length_of}
 use Rattle.pas_steps.specs.declared.step.Step.{Step}
-use Rattle.pas_steps.specs.declared.step.Step.TheVariants.{Look, Deed, Back, Take, Put, Give, End, Stamp}
+use Rattle.pas_steps.specs.declared.step.Step.TheVariants.{Look, Deed, Back, Take, Put, Give, End, TakeRight, Offer, Park, Unpark, Stamp, Hint}
 
 -- ---- the words of a grain, which is a number of the region: `page * 256 + grain`
 abbrev pub free_word_at : ℕ → Word
@@ -21,6 +22,19 @@ life_word_at g = Word.Life (g / 256) (g % 256)
 abbrev pub in_mask : ℕ → ℕ → ℕ → ℕ → Bool
 in_mask page word mask g = (word == g / 64 % 4) && (page == g / 256) && has_bit mask (g % 64)
 
+-- ---- page vectors: page p stands in bit p % 64 of word p / 64
+abbrev pub page_mask : ℕ → ℕ
+page_mask page = 1 * 2 ^ (page % 64) % 2 ^ 64
+
+abbrev pub parked_word_at : ℕ → Word
+parked_word_at page = Word.Parked (page / 64)
+
+abbrev pub empty_word_at : ℕ → Word
+empty_word_at page = Word.Empty (page / 64)
+
+abbrev pub eligible_word_at : Directory → ℕ → Word
+eligible_word_at directory page = Word.Eligible (number_of directory) (page / 64)
+
 -- ---- the one word of a step, and its new value
 abbrev pub target : Step → Word
 target (Look word) = word
@@ -30,7 +44,12 @@ target (Take page word mask) = Word.Free page word
 target (Put page word mask) = Word.Free page word
 target (Give block) = life_word_at (grain_of block.name)
 target (End name guess) = life_word_at (grain_of name)
+target (TakeRight page directory) = eligible_word_at directory page
+target (Offer page directory) = eligible_word_at directory page
+target (Park page) = parked_word_at page
+target (Unpark page) = parked_word_at page
 target (Stamp page) = Word.Stamp page
+target (Hint page) = empty_word_at page
 
 -- the new value, from the epoch that the actor knows (0 where it knows none) and the old value
 abbrev pub new_value : ℕ → Step → ℕ → ℕ
@@ -41,4 +60,9 @@ new_value epoch (Take page word mask) old = bit_and old (bit_not w64 mask)
 new_value epoch (Put page word mask) old = bit_or old mask
 new_value epoch (Give block) old = live_word block.name.turn (length_of block)
 new_value epoch (End name guess) old = if old == live_word name.turn guess then name.turn + 1 else old
+new_value epoch (TakeRight page directory) old = bit_and old (bit_not w64 (page_mask page))
+new_value epoch (Offer page directory) old = bit_or old (page_mask page)
+new_value epoch (Park page) old = bit_or old (page_mask page)
+new_value epoch (Unpark page) old = bit_and old (bit_not w64 (page_mask page))
 new_value epoch (Stamp page) old = max old epoch
+new_value epoch (Hint page) old = bit_or old (page_mask page)

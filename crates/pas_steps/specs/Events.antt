@@ -9,7 +9,7 @@ use Rattle.pas_profile.specs.declared.event.Why.TheVariants as Why
 use Rattle.pas_steps.specs.Views.{View, epoch_of}
 use Rattle.pas_steps.specs.declared.step.Step.{Step}
 use Rattle.pas_steps.specs.declared.step.Made.{Made}
-use Rattle.pas_steps.specs.declared.step.Step.TheVariants.{Look, Deed, Back, Take, Put, Give, End, Stamp}
+use Rattle.pas_steps.specs.declared.step.Step.TheVariants.{Look, Deed, Back, Take, Put, Give, End, TakeRight, Offer, Park, Unpark, Stamp, Hint}
 
 -- why the end of a name is refused, from the life word that was read
 abbrev pub reason_of : Name → ℕ → Why
@@ -30,7 +30,12 @@ event_of k epoch (Take page word mask) a = None
 event_of k epoch (Put page word mask) a = None
 event_of k epoch (Give block) a = Some (Event.Give k block)
 event_of k epoch (End name guess) a = end_event k epoch name guess a
+event_of k epoch (TakeRight page directory) a = None
+event_of k epoch (Offer page directory) a = None
+event_of k epoch (Park page) a = None
+event_of k epoch (Unpark page) a = None
 event_of k epoch (Stamp page) a = None
+event_of k epoch (Hint page) a = None
 
 abbrev pub with_event : Option Event → List Event → List Event
 with_event None es = es
@@ -55,4 +60,9 @@ wants (Take page word mask) = 0
 wants (Put page word mask) = 0
 wants (Give block) = 1
 wants (End name guess) = 1
+wants (TakeRight page directory) = 0
+wants (Offer page directory) = 0
+wants (Park page) = 0
+wants (Unpark page) = 0
 wants (Stamp page) = 0
+wants (Hint page) = 0

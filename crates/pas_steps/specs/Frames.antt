@@ -2,7 +2,7 @@
 use Rattle.std.specs.Prelude.{List, [], ◌∷◌}
 use Rattle.pas_steps.specs.declared.step.Step.{Step}
 use Rattle.pas_steps.specs.declared.step.Made.{Made}
-use Rattle.pas_steps.specs.declared.step.Step.TheVariants.{Look, Deed, Back, Take, Put, Give, End, Stamp}
+use Rattle.pas_steps.specs.declared.step.Step.TheVariants.{Look, Deed, Back, Take, Put, Give, End, TakeRight, Offer, Park, Unpark, Stamp, Hint}
 
 abbrev pub IsLook : Step → Type 0
 IsLook (Look word) = Unit {0}
@@ -12,7 +12,12 @@ IsLook (Take page word mask) = ⊥
 IsLook (Put page word mask) = ⊥
 IsLook (Give block) = ⊥
 IsLook (End name guess) = ⊥
+IsLook (TakeRight page directory) = ⊥
+IsLook (Offer page directory) = ⊥
+IsLook (Park page) = ⊥
+IsLook (Unpark page) = ⊥
 IsLook (Stamp page) = ⊥
+IsLook (Hint page) = ⊥
 
 -- only looks were made
 abbrev pub AreLooks : List Made → Type 0

@@ -3,7 +3,7 @@ use Rattle.std.specs.Prelude.{ℕ, ◌-◌, ◌^◌, ◌<◌}
 use Rattle.pas_profile.specs.Directories.{IsDirectory}
 use Rattle.pas_machine.specs.Runs.{length_of}
 use Rattle.pas_steps.specs.declared.step.Step.{Step}
-use Rattle.pas_steps.specs.declared.step.Step.TheVariants.{Look, Deed, Back, Take, Put, Give, End, Stamp}
+use Rattle.pas_steps.specs.declared.step.Step.TheVariants.{Look, Deed, Back, Take, Put, Give, End, TakeRight, Offer, Park, Unpark, Stamp, Hint}
 
 abbrev pub IsRanged : Step → Type 0
 IsRanged (Look word) = Unit {0}
@@ -13,4 +13,9 @@ IsRanged (Take page word mask) = Unit {0}
 IsRanged (Put page word mask) = Unit {0}
 IsRanged (Give block) = (block.name.turn < 2 ^ 40) × (length_of block < 2 ^ 23)
 IsRanged (End name guess) = (name.turn < 2 ^ 40 - 1) × (guess < 2 ^ 23)
+IsRanged (TakeRight page directory) = IsDirectory directory
+IsRanged (Offer page directory) = IsDirectory directory
+IsRanged (Park page) = Unit {0}
+IsRanged (Unpark page) = Unit {0}
 IsRanged (Stamp page) = Unit {0}
+IsRanged (Hint page) = Unit {0}

@@ -1,8 +1,11 @@
 -- What an actor holds, has and knows. All of it follows from the list of the actor's own steps with their answers, the NEWEST FIRST:
 -- for each thing one table says what a step does to it, a kind of step a line, and the thing is the table applied step by step.
-use Rattle.std.specs.Prelude.{ℕ, zero, suc, ◌+◌, ◌*◌, ◌/◌, ◌%◌, ◌==◌, Bool, true, false, ◌&&◌, ◌||◌, if◌then◌else◌, List, [], ◌∷◌, Option, None, Some}
-use Rattle.pas_profile.specs.Classes.{has_bit}
-use Rattle.pas_profile.specs.Directories.{deed_word_of}
+use Rattle.std.specs.Prelude.{ℕ, zero, suc, ◌+◌, ◌-◌, ◌*◌, ◌/◌, ◌%◌, ◌^◌, ◌==◌, bit_and, Bool, true, false, not, ◌&&◌, ◌||◌, if◌then◌else◌, List, [], ◌∷◌, Option, None, Some}
+use Rattle.pas_profile.specs.Classes.{has_bit, is_usable}
+use Rattle.pas_profile.specs.declared.directory.Directory.{Directory}
+use Rattle.pas_profile.specs.declared.directory.Kind.{Kind}
+use Rattle.pas_profile.specs.declared.directory.Kind.TheVariants as Kind
+use Rattle.pas_profile.specs.Directories.{deed_word_of, deed_word_numbered, directory_read}
 use Rattle.pas_profile.specs.Lives.{live_word}
 use Rattle.pas_profile.specs.declared.word.Word.{Word}
 use Rattle.pas_profile.specs.declared.word.Word.TheVariants as Word
@@ -10,7 +13,7 @@ use Rattle.pas_machine.specs.Runs.{in_run, meets_page, grain_of, length_of}
 use Rattle.pas_steps.specs.Effects.{in_mask}
 use Rattle.pas_steps.specs.declared.step.Step.{Step}
 use Rattle.pas_steps.specs.declared.step.Made.{Made}
-use Rattle.pas_steps.specs.declared.step.Step.TheVariants.{Look, Deed, Back, Take, Put, Give, End, Stamp}
+use Rattle.pas_steps.specs.declared.step.Step.TheVariants.{Look, Deed, Back, Take, Put, Give, End, TakeRight, Offer, Park, Unpark, Stamp, Hint}
 
 abbrev pub View : Type 0
 View = List Made
@@ -32,7 +35,12 @@ grain_move (Take page word mask) a g = if in_mask page word mask g && has_bit a 
 grain_move (Put page word mask) a g = if in_mask page word mask g then Puts else Stays
 grain_move (Give block) a g = if in_run (grain_of block.name) (length_of block) g then Gives (grain_of block.name) else Stays
 grain_move (End name guess) a g = if (a == live_word name.turn guess) && in_run (grain_of name) guess g then Ends (grain_of name) else Stays
+grain_move (TakeRight page directory) a g = Stays
+grain_move (Offer page directory) a g = Stays
+grain_move (Park page) a g = Stays
+grain_move (Unpark page) a g = Stays
 grain_move (Stamp page) a g = Stays
+grain_move (Hint page) a g = Stays
 
 abbrev pub held_after : Move → Bool → Bool
 held_after Stays h = h
@@ -63,13 +71,19 @@ right_after (Take q word mask) a page had = had
 right_after (Put q word mask) a page had = had
 right_after (Give block) a page had = had
 right_after (End name guess) a page had = had
+right_after (TakeRight q directory) a page had = if (q == page) && has_bit a (page % 64) then true else had
+right_after (Offer q directory) a page had = if q == page then false else had
+right_after (Park q) a page had = if q == page then false else had
+right_after (Unpark q) a page had = if (q == page) && has_bit a (page % 64) then true else had
 right_after (Stamp q) a page had = had
+right_after (Hint q) a page had = had
 
 abbrev pub has_right : View → ℕ → Bool
 has_right [] page = false
 has_right (m ∷ v) page = right_after m.step m.answer page (has_right v page)
 
--- ---- deeds: the deed word that is known of the page, 0 where none is. It is known for good
+-- ---- deeds: the deed word that is known of the page, 0 where none is: from the deed word, or from a set bit of an eligible word, which
+-- tells the directory. It is known for good
 abbrev pub deed_after_look : Word → ℕ → ℕ → ℕ → ℕ
 deed_after_look Word.Epoch a page known = known
 deed_after_look (Word.Free q w) a page known = known
@@ -79,7 +93,7 @@ deed_after_look (Word.Backed q) a page known = known
 deed_after_look (Word.Stamp q) a page known = known
 deed_after_look (Word.Parked j) a page known = known
 deed_after_look (Word.Empty j) a page known = known
-deed_after_look (Word.Eligible d j) a page known = known
+deed_after_look (Word.Eligible d j) a page known = if (j == page / 64) && has_bit a (page % 64) then deed_word_numbered d else known
 
 abbrev pub deed_after : Step → ℕ → ℕ → ℕ → ℕ
 deed_after (Look word) a page known = deed_after_look word a page known
@@ -89,14 +103,19 @@ deed_after (Take q word mask) a page known = known
 deed_after (Put q word mask) a page known = known
 deed_after (Give block) a page known = known
 deed_after (End name guess) a page known = known
+deed_after (TakeRight q directory) a page known = known
+deed_after (Offer q directory) a page known = known
+deed_after (Park q) a page known = known
+deed_after (Unpark q) a page known = known
 deed_after (Stamp q) a page known = known
+deed_after (Hint q) a page known = known
 
 abbrev pub known_deed : View → ℕ → ℕ
 known_deed [] page = 0
 known_deed (m ∷ v) page = deed_after m.step m.answer page (known_deed v page)
 
 -- ---- free grains: known as free from a look at the free word while the actor has the right, or from its own deed that succeeded,
--- until the actor takes the grain
+-- until the actor takes the grain or the right goes
 abbrev pub free_after_look : Word → ℕ → ℕ → Bool → Bool → Bool
 free_after_look Word.Epoch a g right known = known
 free_after_look (Word.Free q w) a g right known = if (w == g / 64 % 4) && (q == g / 256) && right && has_bit a (g % 64) then true else known
@@ -116,7 +135,12 @@ free_after (Take q word mask) a g right known = if in_mask q word mask g then fa
 free_after (Put q word mask) a g right known = known
 free_after (Give block) a g right known = known
 free_after (End name guess) a g right known = known
+free_after (TakeRight q directory) a g right known = known
+free_after (Offer q directory) a g right known = if q == g / 256 then false else known
+free_after (Park q) a g right known = if q == g / 256 then false else known
+free_after (Unpark q) a g right known = known
 free_after (Stamp q) a g right known = known
+free_after (Hint q) a g right known = known
 
 abbrev pub known_free : View → ℕ → Bool
 known_free [] g = false
@@ -142,7 +166,12 @@ backed_after (Take q word mask) a page known = known
 backed_after (Put q word mask) a page known = known
 backed_after (Give block) a page known = known
 backed_after (End name guess) a page known = known
+backed_after (TakeRight q directory) a page known = known
+backed_after (Offer q directory) a page known = known
+backed_after (Park q) a page known = known
+backed_after (Unpark q) a page known = known
 backed_after (Stamp q) a page known = known
+backed_after (Hint q) a page known = known
 
 abbrev pub knows_backed : View → ℕ → Bool
 knows_backed [] page = false
@@ -165,7 +194,12 @@ looks_at_life (Take q word mask) g = false
 looks_at_life (Put q word mask) g = false
 looks_at_life (Give block) g = false
 looks_at_life (End name guess) g = false
+looks_at_life (TakeRight q directory) g = false
+looks_at_life (Offer q directory) g = false
+looks_at_life (Park q) g = false
+looks_at_life (Unpark q) g = false
 looks_at_life (Stamp q) g = false
+looks_at_life (Hint q) g = false
 
 abbrev pub life_after : Move → Bool → Bool → ℕ → Option ℕ → Option ℕ
 life_after Stays looks held a known = if looks && held then Some a else known
@@ -198,7 +232,12 @@ epoch_after (Take q word mask) a known = known
 epoch_after (Put q word mask) a known = known
 epoch_after (Give block) a known = known
 epoch_after (End name guess) a known = known
+epoch_after (TakeRight q directory) a known = known
+epoch_after (Offer q directory) a known = known
+epoch_after (Park q) a known = known
+epoch_after (Unpark q) a known = known
 epoch_after (Stamp q) a known = known
+epoch_after (Hint q) a known = known
 
 abbrev pub known_epoch : View → Option ℕ
 known_epoch [] = None
@@ -221,7 +260,12 @@ unstamped_after (Take q word mask) a page was = was
 unstamped_after (Put q word mask) a page was = was
 unstamped_after (Give block) a page was = was
 unstamped_after (End name guess) a page was = if (a == live_word name.turn guess) && meets_page (grain_of name) guess page then true else was
+unstamped_after (TakeRight q directory) a page was = was
+unstamped_after (Offer q directory) a page was = was
+unstamped_after (Park q) a page was = was
+unstamped_after (Unpark q) a page was = was
 unstamped_after (Stamp q) a page was = if q == page then false else was
+unstamped_after (Hint q) a page was = was
 
 abbrev pub is_unstamped : View → ℕ → Bool
 is_unstamped [] page = false
@@ -236,8 +280,100 @@ given_after (Take q word mask) n = n
 given_after (Put q word mask) n = n
 given_after (Give block) n = n + 1
 given_after (End name guess) n = n
+given_after (TakeRight q directory) n = n
+given_after (Offer q directory) n = n
+given_after (Park q) n = n
+given_after (Unpark q) n = n
 given_after (Stamp q) n = n
+given_after (Hint q) n = n
 
 abbrev pub given_count : View → ℕ
 given_count [] = 0
 given_count (m ∷ v) = given_after m.step (given_count v)
+
+-- ---- owed checks: a page was parked, or grains were put back without its right, so a look at this free word is owed, lest a free grain
+-- be left on a page that nobody offers. A free word without a usable bit ends the debt, where the deed is known
+-- the grains of a page that blocks of its directory may cover: those of the slots for a class, all of them otherwise
+abbrev pub usable_by_kind : Kind → ℕ → Bool
+usable_by_kind (Kind.Class class) grain = is_usable class grain
+usable_by_kind Kind.Bitfit grain = true
+usable_by_kind Kind.Shared grain = true
+usable_by_kind Kind.Large grain = true
+
+abbrev pub usable_by : Option Directory → ℕ → Bool
+usable_by None grain = true
+usable_by (Some d) grain = usable_by_kind d.kind grain
+
+-- every number below n passes the test
+unfoldable pub all_below : ℕ → (ℕ → Bool) → Bool
+all_below zero p = true
+all_below (suc n) p = p n && all_below n p
+
+-- no usable grain of this free word is free, on a page with this deed word
+abbrev pub no_usable : ℕ → ℕ → ℕ → Bool
+no_usable deed word a = all_below 64 (λ b. not (has_bit a b && usable_by (directory_read deed) (64 * word + b)))
+
+abbrev pub check_after_look : Word → ℕ → ℕ → ℕ → ℕ → Bool → Bool
+check_after_look Word.Epoch a page word deed owed = owed
+check_after_look (Word.Free q w) a page word deed owed = if (w == word) && (q == page) && not (deed == 0) && no_usable deed word a then false else owed
+check_after_look (Word.Life q g) a page word deed owed = owed
+check_after_look (Word.Deed q) a page word deed owed = owed
+check_after_look (Word.Backed q) a page word deed owed = owed
+check_after_look (Word.Stamp q) a page word deed owed = owed
+check_after_look (Word.Parked j) a page word deed owed = owed
+check_after_look (Word.Empty j) a page word deed owed = owed
+check_after_look (Word.Eligible d j) a page word deed owed = owed
+
+abbrev pub check_after : Step → ℕ → ℕ → ℕ → Bool → ℕ → Bool → Bool
+check_after (Look w) a page word right deed owed = check_after_look w a page word deed owed
+check_after (Deed q directory) a page word right deed owed = owed
+check_after (Back q) a page word right deed owed = owed
+check_after (Take q w mask) a page word right deed owed = owed
+check_after (Put q w mask) a page word right deed owed = if (w == word) && (q == page) && not right then true else owed
+check_after (Give block) a page word right deed owed = owed
+check_after (End name guess) a page word right deed owed = owed
+check_after (TakeRight q directory) a page word right deed owed = owed
+check_after (Offer q directory) a page word right deed owed = if q == page then false else owed
+check_after (Park q) a page word right deed owed = if q == page then true else owed
+check_after (Unpark q) a page word right deed owed = if q == page then false else owed
+check_after (Stamp q) a page word right deed owed = owed
+check_after (Hint q) a page word right deed owed = owed
+
+abbrev pub owes_check : View → ℕ → ℕ → Bool
+owes_check [] page word = false
+owes_check (m ∷ v) page word = check_after m.step m.answer page word (has_right v page) (known_deed v page) (owes_check v page word)
+
+-- ---- owed hints: grains were put back, so the page may be empty, and its hint is owed. A free word that isn't all ones, and a backed word
+-- that is 0, end the debt, and so does the hint itself
+abbrev pub all_ones : ℕ
+all_ones = 2 ^ 64 - 1
+
+abbrev pub hint_after_look : Word → ℕ → ℕ → Bool → Bool
+hint_after_look Word.Epoch a page owed = owed
+hint_after_look (Word.Free q w) a page owed = if (q == page) && not (a == all_ones) then false else owed
+hint_after_look (Word.Life q g) a page owed = owed
+hint_after_look (Word.Deed q) a page owed = owed
+hint_after_look (Word.Backed q) a page owed = if (q == page) && (a == 0) then false else owed
+hint_after_look (Word.Stamp q) a page owed = owed
+hint_after_look (Word.Parked j) a page owed = owed
+hint_after_look (Word.Empty j) a page owed = owed
+hint_after_look (Word.Eligible d j) a page owed = owed
+
+abbrev pub hint_after : Step → ℕ → ℕ → Bool → Bool
+hint_after (Look w) a page owed = hint_after_look w a page owed
+hint_after (Deed q directory) a page owed = owed
+hint_after (Back q) a page owed = owed
+hint_after (Take q w mask) a page owed = if (q == page) && (not (a == all_ones) || not (bit_and a mask == 0)) then false else owed
+hint_after (Put q w mask) a page owed = if q == page then true else owed
+hint_after (Give block) a page owed = owed
+hint_after (End name guess) a page owed = owed
+hint_after (TakeRight q directory) a page owed = owed
+hint_after (Offer q directory) a page owed = owed
+hint_after (Park q) a page owed = owed
+hint_after (Unpark q) a page owed = owed
+hint_after (Stamp q) a page owed = owed
+hint_after (Hint q) a page owed = if q == page then false else owed
+
+abbrev pub owes_hint : View → ℕ → Bool
+owes_hint [] page = false
+owes_hint (m ∷ v) page = hint_after m.step m.answer page (owes_hint v page)

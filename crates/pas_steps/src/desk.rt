@@ -136,6 +136,56 @@ pub trait Desk {
         self.make(Step::Stamp { page })
     }
 
+    /// Takes the right of the page, whose deed is known as the directory. The actor has it where the page's bit of the answer is set.
+    fn take_right(&mut self, page: u32, directory: Directory) -> u64
+        requires can { CanMake (standing self.old) (Step.TakeRight page directory) }
+        requires room { wants (Step.TakeRight page directory) ≤ spare_of self.old }
+        ensures makes { Makes (standing self.old) (standing self.new) (Step.TakeRight page directory) result }
+        ensures home { home self.new ≡ home self.old }
+    {
+        self.make(Step::TakeRight { page, directory })
+    }
+
+    /// Offers the page, whose right is the actor's and whose deed is known as the directory, to any actor.
+    fn offer(&mut self, page: u32, directory: Directory) -> u64
+        requires can { CanMake (standing self.old) (Step.Offer page directory) }
+        requires room { wants (Step.Offer page directory) ≤ spare_of self.old }
+        ensures makes { Makes (standing self.old) (standing self.new) (Step.Offer page directory) result }
+        ensures home { home self.new ≡ home self.old }
+    {
+        self.make(Step::Offer { page, directory })
+    }
+
+    /// Parks the page, whose right is the actor's, as full. Looks at its four free words are owed.
+    fn park(&mut self, page: u32) -> u64
+        requires can { CanMake (standing self.old) (Step.Park page) }
+        requires room { wants (Step.Park page) ≤ spare_of self.old }
+        ensures makes { Makes (standing self.old) (standing self.new) (Step.Park page) result }
+        ensures home { home self.new ≡ home self.old }
+    {
+        self.make(Step::Park { page })
+    }
+
+    /// Takes the right of a parked page, whose deed is known. The actor has it where the page's bit of the answer is set.
+    fn unpark(&mut self, page: u32) -> u64
+        requires can { CanMake (standing self.old) (Step.Unpark page) }
+        requires room { wants (Step.Unpark page) ≤ spare_of self.old }
+        ensures makes { Makes (standing self.old) (standing self.new) (Step.Unpark page) result }
+        ensures home { home self.new ≡ home self.old }
+    {
+        self.make(Step::Unpark { page })
+    }
+
+    /// Tells the scavenger that the page may be empty.
+    fn hint(&mut self, page: u32) -> u64
+        requires can { CanMake (standing self.old) (Step.Hint page) }
+        requires room { wants (Step.Hint page) ≤ spare_of self.old }
+        ensures makes { Makes (standing self.old) (standing self.new) (Step.Hint page) result }
+        ensures home { home self.new ≡ home self.old }
+    {
+        self.make(Step::Hint { page })
+    }
+
     /// The events shown are those of each view for which the desk stands.
     ghost shows: { (d : Self) (v : View) (l : Whole) → (standing d).stands v l → shown_of d ≡ reverse (events_of (standing d).seat.actor v) };
 

@@ -1,6 +1,6 @@
 //! What a step does, as programs that a desk calls.
 ghost use Rattle.std.specs.Prelude.{◌≡◌, ◌<◌, ◌-◌, ◌^◌};
-ghost use Rattle.pas_steps.specs.Effects.{target as target_word, new_value as the_value, life_word_at as the_life_word_at};
+ghost use Rattle.pas_steps.specs.Effects.{target as target_word, new_value as the_value, life_word_at as the_life_word_at, page_mask as the_page_mask};
 ghost use Rattle.pas_machine.specs.Runs.{grain_of};
 ghost use Rattle.pas_steps.specs.Views.{epoch_after as the_epoch};
 ghost use Rattle.pas_steps.specs.Events.{event_of as the_event, end_event as the_end_event};
@@ -9,9 +9,17 @@ ghost use Rattle.pas_steps.specs.Ranges.{IsRanged};
 use crate::step::Step;
 use pas_profile::{Event, Name, Why, Word, deed_word, life_word, read_life};
 
+/// The page's bit in the word of a page vector.
+pub fn page_mask(page: u32) -> u64
+    ensures { result ≡ the_page_mask page }
+{
+    1 << (page % 64)
+}
+
 /// The one word of a step.
 #[inline]
 pub fn target(step: Step) -> Word
+    requires { IsRanged step }
     ensures { result ≡ target_word step }
 {
     match step {
@@ -30,7 +38,12 @@ pub fn target(step: Step) -> Word
         } => Word::Free(page, word),
         Step::Give { block } => life_word_at(block.name),
         Step::End { name, guess: _ } => life_word_at(name),
+        Step::TakeRight { page, directory } => Word::Eligible(directory.number(), page / 64),
+        Step::Offer { page, directory } => Word::Eligible(directory.number(), page / 64),
+        Step::Park { page } => Word::Parked(page / 64),
+        Step::Unpark { page } => Word::Parked(page / 64),
         Step::Stamp { page } => Word::Stamp(page),
+        Step::Hint { page } => Word::Empty(page / 64),
     }
 }
 
@@ -71,7 +84,12 @@ pub fn new_value(epoch: u64, step: Step, old: u64) -> u64
                 old
             }
         }
+        Step::TakeRight { page, directory: _ } => old & !page_mask(page),
+        Step::Offer { page, directory: _ } => old | page_mask(page),
+        Step::Park { page } => old | page_mask(page),
+        Step::Unpark { page } => old & !page_mask(page),
         Step::Stamp { page: _ } => old.max(epoch),
+        Step::Hint { page } => old | page_mask(page),
     }
 }
 

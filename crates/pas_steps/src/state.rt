@@ -15,9 +15,10 @@ pub struct State {
 }
 
 impl State {
-    ghost use Rattle.std.specs.Prelude.{slice_index};
+    ghost use Rattle.std.specs.Prelude.{slice_index, if◌then◌else◌};
     ghost use Rattle.pas_profile.specs.Profiles.{IsWordOf};
-    ghost use Rattle.pas_profile.specs.Layouts.{index_of};
+    ghost use Rattle.pas_profile.specs.Layouts.{index_of, same_word};
+    ghost use Rattle.pas_profile.specs.declared.word.Word.{Word as TheWord};
     ghost use Rattle.pas_steps.specs.States.{profile_of, word_in};
 
     /// The state with these words, each at its place by the profile's layout. It keeps the vector.
@@ -45,5 +46,16 @@ impl State {
     {
         let at = Layout::new(&self.profile).index(word);
         self.words[at]
+    }
+
+    /// Writes a word of the region, and leaves each other one as it was. It costs one store.
+    #[inline]
+    pub fn set_word(&mut self, word: Word, value: u64)
+        requires { IsWordOf (profile_of self.old) word }
+        ensures profile { profile_of self.new ≡ profile_of self.old }
+        ensures words { (other : TheWord) → IsWordOf (profile_of self.old) other → word_in self.new other ≡ (if same_word word other then value else word_in self.old other) }
+    {
+        let at = Layout::new(&self.profile).index(word);
+        self.words[at] = value;
     }
 }

@@ -19,8 +19,18 @@ pub enum Step {
     Give { block: Block },
     /// Ends the block of this name where it lives with just so many grains, and then holds them.
     End { name: Name, guess: u32 },
+    /// Clears the page's bit in the eligible word of its directory. The actor has the right where the bit was set.
+    TakeRight { page: u32, directory: Directory },
+    /// Sets the page's bit in the eligible word of its directory. The right is the actor's no longer.
+    Offer { page: u32, directory: Directory },
+    /// Sets the page's parked bit. The right is the actor's no longer, and it owes a look at each free word of the page.
+    Park { page: u32 },
+    /// Clears the page's parked bit. The actor has the right where the bit was set.
+    Unpark { page: u32 },
     /// Raises the page's stamp to the newest epoch that the actor read.
     Stamp { page: u32 },
+    /// Sets the page's empty bit: the scavenger may look at the page.
+    Hint { page: u32 },
 }
 
 /// A step that was made, with its answer: the word's value before it.

@@ -2,8 +2,9 @@ use Rattle.std.proofs.Common.{sym}
 use Rattle.pas_profile.specs.declared.word.Word.TheVariants as Word
 use Rattle.pas_steps.specs.Views.{known_deed}
 use Rattle.pas_steps.specs.Lists.{part, word_after}
-use Rattle.pas_core.proofs.Knowledge.{known_is, deeds_known, backed_known}
-use Rattle.pas_core.proofs.Rights.{free_known}
+use Rattle.pas_core.proofs.DeedWords.{known_is}
+use Rattle.pas_core.proofs.Knowledge.{deeds_known, backed_known}
+use Rattle.pas_core.proofs.Rights.{free_known, free_known_has_right}
 use Rattle.pas_core.proofs.Lives.{life_is_known}
 use Rattle.pas_core.proofs.Epochs.{epoch_known}
 use Rattle.pas_core.proofs.knowledge_laws.known_is_true.Goals as goal
@@ -16,6 +17,9 @@ returns-clause-backed c = backed_known
 
 pub returns-clause-free : goal.returns-clause-free
 returns-clause-free c = free_known
+
+pub returns-clause-right : goal.returns-clause-right
+returns-clause-right c = free_known_has_right
 
 pub returns-clause-life : goal.returns-clause-life
 returns-clause-life c = λ f l valid legal k g w h. sym (life_is_known f l valid legal k g w h).1
