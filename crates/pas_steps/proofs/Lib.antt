@@ -1,3 +1,6 @@
 pub mod Parts
 pub mod Ranged
 pub mod Targets
+pub mod Adding
+pub mod Past
+pub mod Frames
