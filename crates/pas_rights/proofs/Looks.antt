@@ -31,7 +31,7 @@ pub bit_false : (n i : ℕ) → bit_and (n / 2 ^ i) 1 ≢ 1 → has_bit n i ≡ 
 bit_false n i h = ne_eqb (bit_at n i) 1 (λ e. h (shr_and_one n i ∙ e))
 
 -- ---- a test of every number below n
-below_at : (n k : ℕ) (p : ℕ → Bool) → all_below n p ≡ true → k < n → p k ≡ true
+pub below_at : (n k : ℕ) (p : ℕ → Bool) → all_below n p ≡ true → k < n → p k ≡ true
 unfolding all_below
 below_at zero k p h lt = absurd (omega (arith, lt))
 below_at (suc n) k p h lt =
