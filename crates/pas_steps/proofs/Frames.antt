@@ -1,18 +1,20 @@
 -- What steps leave as it was.
-use Rattle.std.proofs.Common.{◌≡◌, ℕ, ◌≤◌, Bool, true, false, ◌&&◌, List, [], ◌∷◌, ◌++◌, length, Option, Some, None, refl, ap, ◌∙◌, arith, append_assoc, if◌then◌else◌, ◌==◌}
+use Rattle.std.proofs.Common.{◌≡◌, ℕ, ◌≤◌, Bool, true, false, ◌&&◌, List, [], ◌∷◌, ◌++◌, length, Option, Some, None, refl, ap, sym, ◌∙◌, subst, arith, append_assoc, ◌%◌, if◌then◌else◌, ◌==◌}
+use Rattle.std.proofs.lemmas.Bool.{eqb-true}
+use Rattle.pas_profile.specs.Classes.{has_bit}
 use Rattle.pas_profile.specs.declared.event.Event.{Event}
 use Rattle.pas_profile.specs.declared.word.Word.{Word}
 use Rattle.pas_profile.specs.Layouts.{same_word}
 use Rattle.pas_steps.specs.declared.step.Made.{Made}
 use Rattle.pas_steps.specs.declared.step.Step.{Step}
-use Rattle.pas_steps.specs.declared.step.Step.TheVariants.{Look, Deed, Back, Take, Put, Give, End, Stamp}
+use Rattle.pas_steps.specs.declared.step.Step.TheVariants.{Look, Deed, Back, Take, Put, Give, End, TakeRight, Offer, Park, Unpark, Stamp, Hint}
 use Rattle.pas_steps.specs.Effects.{target, new_value}
 use Rattle.pas_steps.specs.Views.{View, right_after, has_right, epoch_of, given_after, given_count}
 use Rattle.pas_steps.specs.Events.{event_of, with_event, events_of, events_by}
 use Rattle.pas_steps.specs.Lists.{Whole, part, word_after, visible}
 use Rattle.pas_steps.specs.Desks.{triples}
-use Rattle.pas_steps.specs.Frames.{IsLook, AreLooks}
-use Rattle.pas_steps.proofs.Parts.{part_of_own}
+use Rattle.pas_steps.specs.Frames.{IsLook, AreLooks, GivesUp, KeepsRight}
+use Rattle.pas_steps.proofs.Adding.{part_append}
 
 -- ---- looks
 pub looks_append : (ys xs : List Made) → AreLooks ys → AreLooks xs → AreLooks (ys ++ xs)
@@ -31,7 +33,12 @@ look_word e (Take p j m) w old is = absurd is
 look_word e (Put p j m) w old is = absurd is
 look_word e (Give b) w old is = absurd is
 look_word e (End n g) w old is = absurd is
+look_word e (TakeRight p d) w old is = absurd is
+look_word e (Offer p d) w old is = absurd is
+look_word e (Park p) w old is = absurd is
+look_word e (Unpark p) w old is = absurd is
 look_word e (Stamp p) w old is = absurd is
+look_word e (Hint p) w old is = absurd is
 
 -- looks leave every word
 pub looks_words : (k : ℕ) (xs : List Made) (l : Whole) (w : Word) → AreLooks xs → word_after (triples k xs ++ l) w ≡ word_after l w
@@ -58,7 +65,7 @@ events_split k (m ∷ xs) v = ap (with_event (event_of k (epoch_of (xs ++ v)) m.
 pub visible_split : (k : ℕ) (xs : List Made) (l : Whole) → visible (triples k xs ++ l) ≡ events_by k (part k l) xs ++ visible l
 visible_split k [] l = refl
 visible_split k (m ∷ xs) l =
-    ap (λ v. with_event (event_of k (epoch_of v) m.step m.answer) (visible (triples k xs ++ l))) (part_of_own k xs l)
+    ap (λ v. with_event (event_of k (epoch_of v) m.step m.answer) (visible (triples k xs ++ l))) (part_append k xs l)
     ∙ ap (with_event (event_of k (epoch_of (xs ++ part k l)) m.step m.answer)) (visible_split k xs l)
     ∙ with_append (event_of k (epoch_of (xs ++ part k l)) m.step m.answer) (events_by k (part k l) xs) (visible l)
 
@@ -74,28 +81,42 @@ given_step k e (Take p j m) a n es h = h
 given_step k e (Put p j m) a n es h = h
 given_step k e (Give b) a n es h = omega (arith, h)
 given_step k e (End name g) a n es h = with_le (event_of k e (End name g) a) es n h
+given_step k e (TakeRight p d) a n es h = h
+given_step k e (Offer p d) a n es h = h
+given_step k e (Park p) a n es h = h
+given_step k e (Unpark p) a n es h = h
 given_step k e (Stamp p) a n es h = h
+given_step k e (Hint p) a n es h = h
 
 -- each block that was given is an event
 pub given_le : (k : ℕ) (v : View) → given_count v ≤ length (events_of k v)
 given_le k [] = omega arith
 given_le k (m ∷ v) = given_step k (epoch_of v) m.step m.answer (given_count v) (events_of k v) (given_le k v)
 
--- ---- rights are for good
+-- ---- a right stays until it is given up
 or_stays : (x had : Bool) → had ≡ true → (if x then true else had) ≡ true
 or_stays true had h = refl
 or_stays false had h = h
 
-pub right_stays : (s : Step) (a p : ℕ) (had : Bool) → had ≡ true → right_after s a p had ≡ true
-right_stays (Deed q d) a p had h = or_stays ((q == p) && (a == 0)) had h
-right_stays (Look w) a p had h = h
-right_stays (Back q) a p had h = h
-right_stays (Take q j m) a p had h = h
-right_stays (Put q j m) a p had h = h
-right_stays (Give b) a p had h = h
-right_stays (End n g) a p had h = h
-right_stays (Stamp q) a p had h = h
+gone : (q p : ℕ) (t had : Bool) → (q == p) ≡ t → (q ≡ p → ⊥) → had ≡ true → (if t then false else had) ≡ true
+gone q p true had e ne h = absurd (ne (eqb-true q p e))
+gone q p false had e ne h = h
 
-pub rights_stay : (xs : List Made) (v : View) (p : ℕ) → has_right v p ≡ true → has_right (xs ++ v) p ≡ true
-rights_stay [] v p h = h
-rights_stay (m ∷ xs) v p h = right_stays m.step m.answer p (has_right (xs ++ v) p) (rights_stay xs v p h)
+pub right_stays : (s : Step) (a p : ℕ) (had : Bool) → (GivesUp p s → ⊥) → had ≡ true → right_after s a p had ≡ true
+right_stays (Deed q d) a p had keeps h = or_stays ((q == p) && (a == 0)) had h
+right_stays (Look w) a p had keeps h = h
+right_stays (Back q) a p had keeps h = h
+right_stays (Take q j m) a p had keeps h = h
+right_stays (Put q j m) a p had keeps h = h
+right_stays (Give b) a p had keeps h = h
+right_stays (End n g) a p had keeps h = h
+right_stays (TakeRight q d) a p had keeps h = or_stays ((q == p) && has_bit a (p % 64)) had h
+right_stays (Offer q d) a p had keeps h = gone q p (q == p) had refl (λ e. keeps (subst (λ x. GivesUp p (Offer x d)) (sym e) (GivesUp.Offers d))) h
+right_stays (Park q) a p had keeps h = gone q p (q == p) had refl (λ e. keeps (subst (λ x. GivesUp p (Park x)) (sym e) GivesUp.Parks)) h
+right_stays (Unpark q) a p had keeps h = or_stays ((q == p) && has_bit a (p % 64)) had h
+right_stays (Stamp q) a p had keeps h = h
+right_stays (Hint q) a p had keeps h = h
+
+pub rights_stay : (xs : List Made) (v : View) (p : ℕ) → KeepsRight p xs → has_right v p ≡ true → has_right (xs ++ v) p ≡ true
+rights_stay [] v p keeps h = h
+rights_stay (m ∷ xs) v p keeps h = right_stays m.step m.answer p (has_right (xs ++ v) p) keeps.0 (rights_stay xs v p keeps.1 h)

@@ -1,6 +1,7 @@
 pub mod Adding
 pub mod Frames
 pub mod Parts
+pub mod Past
 pub mod Ranged
 pub mod Targets
 pub mod Written

@@ -5,6 +5,7 @@ pub mod Allowed
 pub mod Lists
 pub mod Agreement
 pub mod Desks
+pub mod Past
 pub mod Frames
 pub mod Ranges
 pub mod States

@@ -1,0 +1,4 @@
+pub mod Looks
+pub mod Orders
+pub mod Debts
+pub mod Ends

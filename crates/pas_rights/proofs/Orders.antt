@@ -1,0 +1,106 @@
+-- What each step of these calls asks, and how their steps stand in order.
+use Rattle.std.proofs.Common.{◌≡◌, ◌≢◌, ℕ, ◌+◌, ◌/◌, ◌%◌, ◌^◌, ◌<◌, ◌==◌, Bool, true, false, ◌&&◌, if◌then◌else◌, ◌⊎◌, inl, inr, List, [], ◌∷◌, ◌++◌, length, refl, ap, sym, ◌∙◌, subst, arith, append_assoc}
+use Rattle.std.proofs.lemmas.Bool.{eq-eqb}
+use Rattle.pas_profile.specs.Classes.{has_bit}
+use Rattle.pas_profile.specs.Directories.{deed_word_of}
+use Rattle.pas_profile.specs.declared.directory.Directory.{Directory}
+use Rattle.pas_profile.specs.declared.word.Word.TheVariants as Word
+use Rattle.pas_profile.proofs.Codecs.{deed_word_of-positive}
+use Rattle.pas_steps.specs.Views.{View, has_right, known_deed}
+use Rattle.pas_steps.specs.Past.{Once, Always}
+use Rattle.pas_steps.specs.Frames.{IsReturn, GivesUp, AreLooks, OnlyReturns}
+use Rattle.pas_steps.specs.Desks.{made}
+use Rattle.pas_steps.specs.declared.step.Made.{Made}
+use Rattle.pas_steps.specs.declared.step.Step.TheVariants.{Look, TakeRight, Offer, Park, Unpark, Hint}
+use Rattle.pas_steps.proofs.Past.{once_later, always_both}
+use Rattle.pas_rights.specs.Rights.{KnowsDeed, looks, any_usable, are_all_ones, HintSteps, HintsWhere, ReofferSteps, ReoffersWhere, OfferSteps, ParkSteps, EndsLeave, LeaveSteps, ReturnSteps, LosesHere}
+
+-- ---- what looks at the free words keep
+pub right_looks : (p q : ℕ) (answers : List ℕ) (v : View) → has_right (looks p answers ++ v) q ≡ has_right v q
+right_looks p q [] v = refl
+right_looks p q (a ∷ more) v = right_looks p q more v
+
+pub deed_looks : (p q : ℕ) (answers : List ℕ) (v : View) → known_deed (looks p answers ++ v) q ≡ known_deed v q
+deed_looks p q [] v = refl
+deed_looks p q (a ∷ more) v = deed_looks p q more v
+
+-- ---- rights
+pub same_page : (p : ℕ) → (p == p) ≡ true
+same_page p = eq-eqb p p refl
+
+pub ends : (p : ℕ) (before : Bool) → (if p == p then false else before) ≡ false
+ends p before = ap (λ t. if t then false else before) (same_page p)
+
+pub gets : (p a : ℕ) (before : Bool) → has_bit a (p % 64) ≡ true → (if (p == p) && has_bit a (p % 64) then true else before) ≡ true
+gets p a before h = ap (λ t. if t && has_bit a (p % 64) then true else before) (same_page p) ∙ ap (λ t. if t then true else before) h
+
+pub gets_none : (p a : ℕ) (before : Bool) → has_bit a (p % 64) ≡ false → (if (p == p) && has_bit a (p % 64) then true else before) ≡ before
+gets_none p a before h = ap (λ t. if t && has_bit a (p % 64) then true else before) (same_page p) ∙ ap (λ t. if t then true else before) h
+
+-- ---- what may be done
+pub knows_some : (p : ℕ) (d : Directory) (v : View) → KnowsDeed p d v → known_deed v p ≢ 0
+knows_some p d v knows z = deed_word_of-positive d (sym knows ∙ z)
+
+-- ---- only looks at the page and returns of its right
+pub returns_append : (p : ℕ) (ys xs : List Made) → OnlyReturns p ys → OnlyReturns p xs → OnlyReturns p (ys ++ xs)
+returns_append p ys xs a b = always_both (λ m before. IsReturn p m.step) (λ m before. IsReturn p m.step) ys xs (λ m before h. h) a b
+
+looks_return : (p : ℕ) (answers : List ℕ) → OnlyReturns p (looks p answers)
+looks_return p [] = tt
+looks_return p (a ∷ more) = (IsReturn.LooksFree (length more), looks_return p more)
+
+hints_return : (p : ℕ) (all_free : Bool) (steps : List Made) → HintsWhere all_free p steps → OnlyReturns p steps
+hints_return p true steps (inl h) = subst (OnlyReturns p) (sym h.2) (IsReturn.LooksBacked, tt)
+hints_return p true steps (inr h) = subst (OnlyReturns p) (sym h.1) (IsReturn.Hints, (IsReturn.LooksBacked, tt))
+hints_return p false steps h = subst (OnlyReturns p) (sym h) tt
+
+reoffer_returns : (p : ℕ) (d : Directory) (steps : List Made) → ReofferSteps p d steps → OnlyReturns p steps
+reoffer_returns p d steps (inl h) = subst (OnlyReturns p) (sym h.2) (IsReturn.Unparks, tt)
+reoffer_returns p d steps (inr h) = subst (OnlyReturns p) (sym h.3) (IsReturn.Offers d, (IsReturn.Unparks, tt))
+
+reoffers_return : (p : ℕ) (d : Directory) (usable : Bool) (steps : List Made) → ReoffersWhere usable p d steps → OnlyReturns p steps
+reoffers_return p d true steps h = reoffer_returns p d steps h
+reoffers_return p d false steps h = subst (OnlyReturns p) (sym h) tt
+
+end_returns : (p : ℕ) (d : Directory) (usable all_free : Bool) (steps : List Made) → EndsLeave usable p d all_free steps → OnlyReturns p steps
+end_returns p d true all_free steps h = subst (OnlyReturns p) (sym h.steps_are)
+    (returns_append p h.after (made (Offer p d) h.offered ∷ []) (hints_return p all_free h.after h.hints) (IsReturn.Offers d, tt))
+end_returns p d false all_free steps h = subst (OnlyReturns p) (sym h.steps_are)
+    (returns_append p h.after (looks p h.later ++ (made (Park p) h.parked ∷ [])) (reoffers_return p d (any_usable d h.later) h.after h.reoffers)
+        (returns_append p (looks p h.later) (made (Park p) h.parked ∷ []) (looks_return p h.later) (IsReturn.Parks, tt)))
+
+pub leave_returns : (p : ℕ) (d : Directory) (steps : List Made) → LeaveSteps p d steps → OnlyReturns p steps
+leave_returns p d steps h = subst (OnlyReturns p) (sym h.steps_are)
+    (returns_append p h.after (looks p h.answers) (end_returns p d (any_usable d h.answers) (are_all_ones h.answers) h.after h.ends) (looks_return p h.answers))
+
+pub return_returns : (p : ℕ) (d : Directory) (steps : List Made) → ReturnSteps p d steps → OnlyReturns p steps
+return_returns p d steps h = subst (OnlyReturns p) (sym h.steps_are)
+    (returns_append p h.after (looks p h.answers ++ h.first) (hints_return p h.all_free h.after h.hints)
+        (returns_append p (looks p h.answers) h.first (looks_return p h.answers) (reoffer_returns p d h.first h.reoffers)))
+
+-- ---- the steps of a leave, on a view or on a list before them
+looks_are : (p : ℕ) (answers : List ℕ) → AreLooks (looks p answers)
+looks_are p [] = tt
+looks_are p (a ∷ more) = (tt, looks_are p more)
+
+pub offered_on : (p : ℕ) (d : Directory) (all_free : Bool) (steps : List Made) (v : View) (h : OfferSteps p d all_free steps) → steps ++ v ≡ h.after ++ (made (Offer p d) h.offered ∷ v)
+offered_on p d all_free steps v h = ap (λ s. s ++ v) h.steps_are ∙ append_assoc h.after (made (Offer p d) h.offered ∷ []) v
+
+pub parked_on : (p : ℕ) (d : Directory) (steps : List Made) (v : View) (h : ParkSteps p d steps) → steps ++ v ≡ h.after ++ (looks p h.later ++ (made (Park p) h.parked ∷ v))
+parked_on p d steps v h = ap (λ s. s ++ v) h.steps_are ∙ append_assoc h.after (looks p h.later ++ (made (Park p) h.parked ∷ [])) v ∙ ap (λ s. h.after ++ s) (append_assoc (looks p h.later) (made (Park p) h.parked ∷ []) v)
+
+pub left_on : (p : ℕ) (d : Directory) (steps : List Made) (v : View) (h : LeaveSteps p d steps) → steps ++ v ≡ h.after ++ (looks p h.answers ++ v)
+left_on p d steps v h = ap (λ s. s ++ v) h.steps_are ∙ append_assoc h.after (looks p h.answers) v
+
+pub returned_on : (p : ℕ) (d : Directory) (steps : List Made) (v : View) (h : ReturnSteps p d steps) → steps ++ v ≡ h.after ++ (looks p h.answers ++ (h.first ++ v))
+returned_on p d steps v h = ap (λ s. s ++ v) h.steps_are ∙ append_assoc h.after (looks p h.answers ++ h.first) v ∙ ap (λ s. h.after ++ s) (append_assoc (looks p h.answers) h.first v)
+
+end_loses : (p : ℕ) (d : Directory) (usable all_free : Bool) (steps before : List Made) → AreLooks before → EndsLeave usable p d all_free steps → Once (LosesHere p) (steps ++ before)
+end_loses p d true all_free steps before are h = subst (Once (LosesHere p)) (sym (offered_on p d all_free steps before h))
+    (once_later (LosesHere p) h.after (made (Offer p d) h.offered ∷ before) (inl (GivesUp.Offers d, are)))
+end_loses p d false all_free steps before are h = subst (Once (LosesHere p)) (sym (parked_on p d steps before h))
+    (once_later (LosesHere p) h.after (looks p h.later ++ (made (Park p) h.parked ∷ before)) (once_later (LosesHere p) (looks p h.later) (made (Park p) h.parked ∷ before) (inl (GivesUp.Parks, are))))
+
+-- the right is given up after looks alone
+pub leave_loses : (p : ℕ) (d : Directory) (steps : List Made) → LeaveSteps p d steps → Once (LosesHere p) steps
+leave_loses p d steps h = subst (Once (LosesHere p)) (sym h.steps_are) (end_loses p d (any_usable d h.answers) (are_all_ones h.answers) h.after (looks p h.answers) (looks_are p h.answers) h.ends)

@@ -1,0 +1,2 @@
+//! Searches of pages.
+#![tactic(auto)]

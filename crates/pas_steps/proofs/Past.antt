@@ -1,0 +1,37 @@
+-- Once, always and since, over the steps of two calls.
+use Rattle.std.proofs.Common.{◌≡◌, ℕ, List, [], ◌∷◌, ◌++◌, ◌⊎◌, inl, inr, refl}
+use Rattle.pas_steps.specs.declared.step.Made.{Made}
+use Rattle.pas_steps.specs.Past.{Once, Always, Since}
+
+-- later steps
+pub once_later : (P : Made → List Made → Type 0) (ys xs : List Made) → Once P xs → Once P (ys ++ xs)
+once_later P [] xs h = h
+once_later P (y ∷ ys) xs h = inr (once_later P ys xs h)
+
+-- earlier steps, under which P is Q
+pub once_earlier : (P Q : Made → List Made → Type 0) (ys xs : List Made) → ((m : Made) (before : List Made) → P m before → Q m (before ++ xs)) → Once P ys → Once Q (ys ++ xs)
+once_earlier P Q [] xs f h = absurd h
+once_earlier P Q (y ∷ ys) xs f (inl h) = inl (f y ys h)
+once_earlier P Q (y ∷ ys) xs f (inr h) = inr (once_earlier P Q ys xs f h)
+
+pub once_map : (P Q : Made → List Made → Type 0) (ys : List Made) → ((m : Made) (before : List Made) → P m before → Q m before) → Once P ys → Once Q ys
+once_map P Q [] f h = absurd h
+once_map P Q (y ∷ ys) f (inl h) = inl (f y ys h)
+once_map P Q (y ∷ ys) f (inr h) = inr (once_map P Q ys f h)
+
+pub always_map : (P Q : Made → List Made → Type 0) (ys : List Made) → ((m : Made) (before : List Made) → P m before → Q m before) → Always P ys → Always Q ys
+always_map P Q [] f h = tt
+always_map P Q (y ∷ ys) f h = (f y ys h.0, always_map P Q ys f h.1)
+
+pub always_both : (P Q : Made → List Made → Type 0) (ys xs : List Made) → ((m : Made) (before : List Made) → P m before → Q m (before ++ xs)) → Always P ys → Always Q xs → Always Q (ys ++ xs)
+always_both P Q [] xs f a b = b
+always_both P Q (y ∷ ys) xs f a b = (f y ys a.0, always_both P Q ys xs f a.1 b)
+
+pub since_earlier : (P Q P' Q' : Made → List Made → Type 0) (ys xs : List Made) → ((m : Made) (before : List Made) → P m before → P' m (before ++ xs)) → ((m : Made) (before : List Made) → Q m before → Q' m (before ++ xs)) → Since P Q ys → Since P' Q' (ys ++ xs)
+since_earlier P Q P' Q' [] xs f g h = absurd h
+since_earlier P Q P' Q' (y ∷ ys) xs f g (inl h) = inl (f y ys h)
+since_earlier P Q P' Q' (y ∷ ys) xs f g (inr h) = inr (g y ys h.0, since_earlier P Q P' Q' ys xs f g h.1)
+
+pub since_later : (P Q R : Made → List Made → Type 0) (ys xs : List Made) → ((m : Made) (before : List Made) → R m before → Q m (before ++ xs)) → Always R ys → Since P Q xs → Since P Q (ys ++ xs)
+since_later P Q R [] xs f a h = h
+since_later P Q R (y ∷ ys) xs f a h = inr (f y ys a.0, since_later P Q R ys xs f a.1 h)
