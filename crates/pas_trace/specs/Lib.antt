@@ -1,0 +1,5 @@
+pub mod Texts
+pub mod Numbers
+pub mod Items
+pub mod Reasons
+pub mod Plans

@@ -1,0 +1,51 @@
+//! The plan of a trace.
+
+use pas_profile::{Name, Profile};
+
+/// What an operation asks for. Names of allocations are the trace's own numbers, from 1 to 1,000,000; sizes and alignments are in bytes.
+#[derive(Clone, Copy, Debug, PartialEq, Eq, Drop)]
+pub enum What {
+    Alloc { name: u32, heap: u8, size: u32, align: u32 },
+    Free { name: u32 },
+    Raw { block: Name },
+    Flush,
+    Stop,
+    Tick(u64),
+    Pass,
+    Idle(u64),
+}
+
+/// An operation: its line, from 1, its actor (0 for ticks, passes and idle operations), and what it asks for.
+#[derive(Clone, Copy, Debug, PartialEq, Eq, Drop)]
+pub struct Op {
+    pub line: u32,
+    pub actor: u8,
+    pub what: What,
+}
+
+/// The operations of one phase, in the order of the text.
+#[derive(Drop)]
+pub struct Phase {
+    ops: Vec<Op>,
+}
+
+/// The phases of a trace, one at least. A phase may be empty.
+#[derive(Drop)]
+pub struct Phases {
+    phases: Vec<Phase>,
+}
+
+/// How many records each actor's operations may make, by actor.
+#[derive(Drop)]
+pub struct Bounds {
+    bounds: Vec<u32>,
+}
+
+/// The plan of a trace. `total` bounds the records of all actors.
+#[derive(Drop)]
+pub struct Plan {
+    pub profile: Profile,
+    pub phases: Phases,
+    pub bounds: Bounds,
+    pub total: u32,
+}
