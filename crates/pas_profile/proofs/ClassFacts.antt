@@ -10,7 +10,7 @@ use Rattle.pas_profile.specs.Routes.{first_class, route_of, route_with, route_wi
 use Rattle.pas_profile.specs.declared.directory.Route.TheVariants.{Class, Bitfit, Large}
 use Rattle.pas_profile.proofs.Tables.{passes_below, passes_at}
 
--- Sizes.
+-- Sizes are whole grains, of which a block has 1 to 32, and the slots cover 240 to 256 grains of a page.
 
 pub class_size-grains : (class : ℕ) → IsClass class → class_size class ≡ 16 * class_grains class
 class_size-grains class h = eqb-true _ _ (passes_at (λ c. eqb (class_size c) (16 * class_grains c)) 16 class refl h)
@@ -43,7 +43,7 @@ class_size-lt a b lt h =
     ltb-true _ _ (passes_at (λ a. ltb (class_size a) (class_size b)) b a
     (passes_at (λ b. passes_below (λ a. ltb (class_size a) (class_size b)) b) 16 b refl h) lt)
 
--- Slots.
+-- A slot lies within its page, and the page's first grain begins one.
 
 pub slot_lt : (class grain : ℕ) → IsClass class → IsSlotStart class grain → grain < 256
 slot_lt class grain h s =
@@ -88,7 +88,7 @@ slot_aligned class grain page align h s whole fits =
     mod-eq-zero_of_dvd align (dvd-add align (dvd-mul_left_of_dvd align (dvd_of_mod-eq-zero align whole) page)
     (subst (λ n. align ∣ n) turn (dvd-mul_left_of_dvd align (dvd_of_mod-eq-zero align fits) (grain / k))))
 
--- Routes.
+-- What the search of the class list found, or that it found none.
 
 abbrev passes : ℕ → ℕ → ℕ → Bool
 passes c size align = leb size c && eqb (c % align) 0

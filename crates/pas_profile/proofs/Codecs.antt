@@ -1,14 +1,16 @@
 -- The words of deeds and of lives say what they were made from, and nothing else.
-use Rattle.std.proofs.Common.{◌≡◌, ◌≢◌, ℕ, ◌-◌, ◌*◌, ◌/◌, ◌%◌, ◌^◌, ◌<◌, ◌≤◌, Bool, true, false, ltb, eqb, if◌then◌else◌, Option, None, Some, refl, ap, sym, ◌∙◌, subst, arith}
-use Rattle.std.proofs.lemmas.Bool.{ltb-true, ltb-false, lt-ltb, le-ltb, eqb-true, le-leb, lt-leb}
+use Rattle.std.proofs.Common.{◌≡◌, ◌≢◌, ℕ, ◌-◌, ◌*◌, ◌/◌, ◌%◌, ◌^◌, ◌<◌, ◌≤◌, Bool, true, false, ltb, eqb, if◌then◌else◌, Option, None, Some, refl, ap, sym, ◌∙◌, subst, arith, inl, inr}
+use Rattle.std.proofs.lemmas.Bool.{ltb-true, ltb-false, lt-ltb, le-ltb, eqb-true, le-leb, lt-leb, cases_lt}
 use Rattle.std.proofs.lemmas.Nat.{mul-add-lt, same_from_place}
 use Rattle.pas_profile.specs.Directories.{IsKind, kind_number, IsDirectory, number_of, deed_word_of, kind_of, with_kind, directory_read}
+use Rattle.pas_profile.specs.Profiles.{IsValid, IsDirectoryOf}
+use Rattle.pas_profile.specs.declared.profile.Profile.{Profile}
 use Rattle.pas_profile.specs.Lives.{life_word_of, live_word, turn_of, grains_of, is_live}
 use Rattle.pas_profile.specs.declared.directory.Directory.{Directory}
 use Rattle.pas_profile.specs.declared.directory.Kind.{Kind}
 use Rattle.pas_profile.specs.declared.directory.Kind.TheVariants.{Class, Bitfit, Shared, Large}
 
--- Kinds and their numbers.
+-- A kind's number is below 23, and names the kind.
 
 pub kind_number_lt : (k : Kind) → IsKind k → kind_number k < 23
 kind_number_lt (Class c) h = omega (arith, h)
@@ -40,13 +42,20 @@ pub same_kind : (a b : Kind) → IsKind a → IsKind b → kind_number a ≡ kin
 same_kind a b ha hb e =
     let both : Some a ≡ Some b = sym (kind_of-kind_number a ha) ∙ ap kind_of e ∙ kind_of-kind_number b hb in cc
 
--- Directories and their numbers.
+-- A directory's number is below 23 times the number of heaps, and names the directory.
 
 pub number_lt : (d : Directory) (heaps : ℕ) → d.heap < heaps → IsKind d.kind → number_of d < 23 * heaps
 number_lt d heaps h k = mul-add-lt d.heap 23 (kind_number d.kind) heaps h (kind_number_lt d.kind k)
 
 pub number_below : (d : Directory) → IsDirectory d → number_of d < 23 * 32
 number_below d h = number_lt d 32 h.heap h.kind
+
+-- a directory of a profile is one of some region
+pub directory_from_profile : (f : Profile) (d : Directory) → IsValid f → IsDirectoryOf f d → IsDirectory d
+directory_from_profile f d v h =
+    let most : f.heaps ≤ 32 = v.heaps in
+    let low : d.heap < f.heaps = h.heap in
+    record { heap = omega (arith, most, low); kind = h.kind }
 
 same_parts : (a b : Directory) → a.heap ≡ b.heap → a.kind ≡ b.kind → a ≡ b
 same_parts a b h k =
@@ -59,7 +68,7 @@ same_from_number a b ha hb e =
     let s = same_from_place a.heap (kind_number a.kind) b.heap (kind_number b.kind) 23 (kind_number_lt a.kind ha.kind) (kind_number_lt b.kind hb.kind) e in
     same_parts a b s.0 (same_kind a.kind b.kind ha.kind hb.kind s.1)
 
--- Deed words.
+-- A deed word is not 0 and fits its word.
 
 pub deed_word_of-positive : (d : Directory) → deed_word_of d ≢ 0
 deed_word_of-positive d e = omega (arith, e)
@@ -67,6 +76,7 @@ deed_word_of-positive d e = omega (arith, e)
 pub deed_word_lt : (d : Directory) → IsDirectory d → deed_word_of d < 2 ^ 64
 deed_word_lt d h = let k = kind_number_lt d.kind h.kind in let n = h.heap in omega (arith, k, n)
 
+-- a deed word is read as the directory that it was made from
 abbrev read_by : Bool → Bool → ℕ → ℕ → Option Directory
 read_by low below heap kind = if low then None else (if below then with_kind heap (kind_of kind) else None)
 
@@ -121,11 +131,12 @@ not_read w (Some d) e h = let r = read_is w d e in absurd (h d r.0 r.1)
 pub read_none : (w : ℕ) → ((d : Directory) → IsDirectory d → w ≢ deed_word_of d) → directory_read w ≡ None
 read_none w h = not_read w (directory_read w) refl h
 
+-- distinct directories have distinct deed words
 pub same_from_deed_word : (a b : Directory) → IsDirectory a → IsDirectory b → deed_word_of a ≡ deed_word_of b → a ≡ b
 same_from_deed_word a b ha hb e =
     let both : Some a ≡ Some b = sym (read-deed_word_of a ha) ∙ ap directory_read e ∙ read-deed_word_of b hb in cc
 
--- Life words.
+-- A live block's word is read as its turn and its grains, and a turn alone as a turn with no live block.
 
 pub turn_of-live_word : (turn grains : ℕ) → turn < 2 ^ 40 → turn_of (live_word turn grains) ≡ turn
 turn_of-live_word turn grains h = omega (arith, h)
@@ -145,6 +156,7 @@ grains_of-turn turn h = omega (arith, h)
 pub is_live-turn : (turn : ℕ) → turn < 2 ^ 40 → is_live turn ≡ false
 is_live-turn turn h = lt-leb (2 ^ 63) turn (omega (arith, h))
 
+-- the words that the code makes, and their range
 pub life_word_of-live : (turn grains : ℕ) → life_word_of turn grains true ≡ live_word turn grains
 life_word_of-live turn grains = refl
 
@@ -153,3 +165,16 @@ life_word_of-ended turn = omega arith
 
 pub live_word_lt : (turn grains : ℕ) → turn < 2 ^ 40 → grains < 2 ^ 23 → live_word turn grains < 2 ^ 64
 live_word_lt turn grains h k = omega (arith, h, k)
+
+parts_low : (w : ℕ) → w < 2 ^ 63 → life_word_of (turn_of w) (grains_of w) false ≡ w
+parts_low w h = omega (arith, h)
+
+parts_high : (w : ℕ) → w < 2 ^ 64 → 2 ^ 63 ≤ w → life_word_of (turn_of w) (grains_of w) true ≡ w
+parts_high w h k = omega (arith, h, k)
+
+-- a word is the life word of what it is read as
+pub life_word_of-parts : (w : ℕ) → w < 2 ^ 64 → life_word_of (turn_of w) (grains_of w) (is_live w) ≡ w
+life_word_of-parts w h = elim (cases_lt w (2 ^ 63)) [
+  | inl low ↦ ap (λ b. life_word_of (turn_of w) (grains_of w) b) (lt-leb (2 ^ 63) w low) ∙ parts_low w low
+  | inr high ↦ ap (λ b. life_word_of (turn_of w) (grains_of w) b) (le-leb (2 ^ 63) w high) ∙ parts_high w h high
+]

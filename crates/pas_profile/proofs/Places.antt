@@ -1,8 +1,8 @@
 -- Distinct words have distinct places, and every place is below the number of words.
-use Rattle.std.proofs.Common.{◌≡◌, ◌≢◌, ℕ, ◌*◌, ◌<◌, ◌==◌, true, false, ◌&&◌, if◌then◌else◌, refl, ap, sym, ◌∙◌, arith}
+use Rattle.std.proofs.Common.{◌≡◌, ◌≢◌, ℕ, ◌*◌, ◌<◌, ◌==◌, true, false, ◌&&◌, if◌then◌else◌, refl, ap, sym, ◌∙◌, subst, arith}
 use Rattle.std.proofs.Math.Nat.{mul_comm}
 use Rattle.std.proofs.lemmas.Nat.{mul-add-lt, same_from_place}
-use Rattle.std.proofs.lemmas.Bool.{eqb-true, eq-eqb, and_parts, and_from}
+use Rattle.std.proofs.lemmas.Bool.{eqb-true, eq-eqb, and_parts, and_from, false_from_ne_true}
 use Rattle.pas_profile.specs.declared.word.Word.{Word}
 use Rattle.pas_profile.specs.Profiles.{IsWordIn, vector_words}
 use Rattle.pas_profile.specs.Layouts.{index_of, words_of, same_word, word_kind, word_minor, word_major}
@@ -34,6 +34,7 @@ from_numbers (Word.Parked a) = refl
 from_numbers (Word.Empty a) = refl
 from_numbers (Word.Eligible a b) = refl
 
+-- two words that are the same by their numbers are equal
 pub same_word-true : (x y : Word) → same_word x y ≡ true → x ≡ y
 same_word-true x y h =
     let outer = and_parts (word_kind x == word_kind y && word_minor x == word_minor y) (word_major x == word_major y) h in
@@ -42,6 +43,14 @@ same_word-true x y h =
     ∙ ap (λ i. word_from (word_kind y) i (word_major x)) (eqb-true _ _ inner.1)
     ∙ ap (λ j. word_from (word_kind y) (word_minor y) j) (eqb-true _ _ outer.1) ∙ from_numbers y
 
+-- the order of the two words doesn't matter
+pub same_word_turned : (x y : Word) → same_word x y ≡ true → same_word y x ≡ true
+same_word_turned x y h = let e : y ≡ x = sym (same_word-true x y h) in subst (λ z. same_word y z ≡ true) e (same_word_self y)
+
+pub other_word : (x y : Word) → x ≢ y → same_word x y ≡ false
+other_word x y h = false_from_ne_true (same_word x y) (λ e. h (same_word-true x y e))
+
+-- every place is below the number of words
 pub index_lt : (pages heaps : ℕ) (w : Word) → IsWordIn pages heaps w → index_of pages w < words_of pages heaps
 index_lt pages heaps Word.Epoch h = omega arith
 index_lt pages heaps (Word.Free a b) h = omega (arith, h)
@@ -136,6 +145,7 @@ same_place pages heaps (Word.Eligible a b) (Word.Parked c) hx hy e = absurd (ome
 same_place pages heaps (Word.Eligible a b) (Word.Empty c) hx hy e = absurd (omega (arith, hx, hy, e))
 same_place pages heaps (Word.Eligible a b) (Word.Eligible c d) hx hy e = let s = same_from_place a b c d (vector_words pages) hx.1 hy.1 (omega (arith, e)) in both (Word.Eligible a b) (Word.Eligible c d) refl s.0 s.1
 
+-- distinct words have distinct places
 pub other_place : (pages heaps : ℕ) (x y : Word) → IsWordIn pages heaps x → IsWordIn pages heaps y → same_word x y ≡ false → index_of pages x ≢ index_of pages y
 other_place pages heaps x y hx hy h e = let t : same_word x y ≡ true = same_place pages heaps x y hx hy e in cc
 

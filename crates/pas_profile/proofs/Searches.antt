@@ -83,6 +83,7 @@ none_above size align h =
     = λ k lt. let e : get_or class_sizes k 0 ≤ 512 = leb-true _ _ (passes_at (λ k. leb (get_or class_sizes k 0) 512) 16 k refl lt) in omega (arith, e, h) in
     sym (small_ones class_sizes (max size 1) align 16 (omega arith) small)
 
+-- what the search's answer makes of the route
 pub route_found : (size align class : ℕ) → first_class class_sizes 0 (max size 1) align ≡ Some class → Class class ≡ route_of size align
 route_found size align class e = sym (ap (λ o. route_with o (max size 1)) e)
 
@@ -93,7 +94,3 @@ after_all size align class h e = sym e ∙ ap (λ cs. first_class cs class (max 
 
 pub bitfit_for : (size align : ℕ) → size ≤ 2048 → first_class class_sizes 0 (max size 1) align ≡ None → Bitfit ≡ route_of size align
 bitfit_for size align h e = sym (ap (λ o. route_with o (max size 1)) e ∙ ap (λ b. if b then Bitfit else Large) (le-leb (max size 1) 2048 (omega (arith, h))))
-
-pub large_for : (size align : ℕ) → 2048 < size → Large ≡ route_of size align
-large_for size align h =
-    sym (ap (λ o. route_with o (max size 1)) (none_above size align (omega (arith, h))) ∙ ap (λ b. if b then Bitfit else Large) (lt-leb (max size 1) 2048 (omega (arith, h))))

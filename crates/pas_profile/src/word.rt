@@ -1,6 +1,6 @@
 //! The words of a region and where each stands.
 
-ghost use Rattle.std.specs.Prelude.{◌≤◌};
+ghost use Rattle.std.specs.Prelude.{◌≤◌, ◌≡◌, ◌+◌, ◌-◌, ◌*◌};
 
 use crate::profile::Profile;
 
@@ -29,6 +29,17 @@ pub enum Word {
     Eligible(u16, u32),
 }
 
+/// Words of one page: 4 of free grains, 256 of lives, the deed, whether it is backed, and the stamp.
+const PAGE_WORDS: usize = 263;
+
+/// The place of a page's first word. The epoch stands before all pages.
+fn first_word(page: u32) -> usize
+    requires { 1 ≤ page }
+    ensures { result ≡ 1 + 263 * (page - 1) }
+{
+    1 + PAGE_WORDS * (page as usize - 1)
+}
+
 /// Where the words of a region of one profile stand.
 #[derive(Clone, Copy, Debug, PartialEq, Eq, Drop)]
 pub struct Layout {
@@ -39,7 +50,7 @@ pub struct Layout {
 }
 
 impl Layout {
-    ghost use Rattle.std.specs.Prelude.{◌≡◌, ◌<◌};
+    ghost use Rattle.std.specs.Prelude.{◌<◌};
     ghost use Rattle.pas_profile.specs.Profiles.{IsValid, IsWordIn};
     ghost use Rattle.pas_profile.specs.Layouts.{index_of, words_of};
 
@@ -62,15 +73,15 @@ impl Layout {
         ensures within { result < words_of self.now.pages self.now.heaps }
     {
         let pages = self.pages as usize;
-        let vectors = 1 + 263 * pages;
+        let vectors = 1 + PAGE_WORDS * pages;
         let vector = pages / 64 + 1;
         match word {
             Word::Epoch => 0,
-            Word::Free(page, word) => 1 + 263 * (page as usize - 1) + word as usize,
-            Word::Life(page, grain) => 1 + 263 * (page as usize - 1) + 4 + grain as usize,
-            Word::Deed(page) => 1 + 263 * (page as usize - 1) + 260,
-            Word::Backed(page) => 1 + 263 * (page as usize - 1) + 261,
-            Word::Stamp(page) => 1 + 263 * (page as usize - 1) + 262,
+            Word::Free(page, word) => first_word(page) + word as usize,
+            Word::Life(page, grain) => first_word(page) + 4 + grain as usize,
+            Word::Deed(page) => first_word(page) + 260,
+            Word::Backed(page) => first_word(page) + 261,
+            Word::Stamp(page) => first_word(page) + 262,
             Word::Parked(j) => vectors + j as usize,
             Word::Empty(j) => vectors + vector + j as usize,
             Word::Eligible(directory, j) => vectors
@@ -86,6 +97,6 @@ impl Layout {
     {
         let pages = self.pages as usize;
         let vector = pages / 64 + 1;
-        1 + 263 * pages + 2 * vector + 23 * self.heaps as usize * vector
+        1 + PAGE_WORDS * pages + 2 * vector + 23 * self.heaps as usize * vector
     }
 }

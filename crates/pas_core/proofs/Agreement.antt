@@ -1,0 +1,111 @@
+-- The answer of each legal step agrees with its actor's view.
+use Rattle.std.proofs.Common.{◌≡◌, ℕ, ◌+◌, ◌*◌, ◌/◌, ◌%◌, ◌^◌, ◌<◌, ◌≤◌, true, false, Option, Some, None, ap, sym, ◌∙◌, subst, arith}
+use Rattle.std.proofs.lemmas.Bool.{false≢true, leb-true, and_from, false_from_ne_true}
+use Rattle.pas_profile.specs.Classes.{has_bit}
+use Rattle.pas_profile.specs.Lives.{is_live, grains_of}
+use Rattle.pas_profile.specs.Profiles.{IsValid}
+use Rattle.pas_profile.specs.declared.profile.Profile.{Profile}
+use Rattle.pas_profile.specs.declared.word.Word.{Word}
+use Rattle.pas_machine.specs.Runs.{grain_of, in_run, length_of}
+use Rattle.pas_machine.specs.State.{Live, live_in, gives_in, ends_in}
+use Rattle.pas_steps.specs.Effects.{free_word_at, life_word_at, target}
+use Rattle.pas_steps.specs.Views.{holds, known_deed}
+use Rattle.pas_steps.specs.Allowed.{IsStepOf}
+use Rattle.pas_steps.specs.Lists.{Triple, Whole, part, visible, word_after, IsNext, Legal}
+use Rattle.pas_steps.specs.Agreement.{IsDeedWord, AgreesDeed, AgreesFree, AgreesLife, AgreesBacked, Agrees}
+use Rattle.pas_steps.specs.declared.step.Step.{Step}
+use Rattle.pas_steps.specs.declared.step.Step.TheVariants.{Look, Deed, Back, Take, Put, Give, End, Stamp}
+use Rattle.pas_core.specs.Good.{Held, is_free, is_covered_by, covers, IsPlacedOnce, IsLifeOf}
+use Rattle.pas_core.proofs.Grains.{is_held_by-true, own_grain, placed_once}
+use Rattle.pas_core.proofs.Lives.{life_is_known, life_of}
+use Rattle.pas_core.proofs.Knowledge.{known_is, deeds_known, deed_words, backed_small, backed_known}
+use Rattle.pas_core.proofs.Rights.{free_known}
+use Rattle.pas_core.proofs.Epochs.{epoch_known, words_fit, nothing_parked, nothing_hinted, nothing_eligible}
+
+-- ---- where a grain is that is held
+held_place : (l : Whole) (k g : ℕ) (at : IsPlacedOnce l g) → holds (part k l) g ≡ true → at.place ≡ Held k
+held_place l k g at h = is_held_by-true k at.place (sym (at.held k) ∙ h)
+
+-- ---- deed words, free words and backed words
+deed_agrees : (f : Profile) (l : Whole) → Legal f l → (k page a : ℕ) → a ≡ word_after l (Word.Deed page) → AgreesDeed f (part k l) page a
+deed_agrees f l legal k page a is = record {
+  a_deed = subst (IsDeedWord f) (sym is) (deed_words f l legal page);
+  known = λ ne. is ∙ sym (known_is (known_deed (part k l) page) (word_after l (Word.Deed page)) (deeds_known f l legal k page) ne);
+}
+
+word_at : (l : Whole) (page word a g : ℕ) → a ≡ word_after l (Word.Free page word) → g / 256 ≡ page → g / 64 % 4 ≡ word → a ≡ word_after l (free_word_at g)
+word_at l page word a g is p w = is ∙ ap (λ x. word_after l (Word.Free x word)) (sym p) ∙ ap (λ x. word_after l (Word.Free (g / 256) x)) (sym w)
+
+free_agrees : (f : Profile) (l : Whole) → IsValid f → Legal f l → (k page word a : ℕ) → a ≡ word_after l (Word.Free page word) → AgreesFree (part k l) page word a
+free_agrees f l valid legal k page word a is = record {
+  free = λ g p w h. ap (λ n. has_bit n (g % 64)) (word_at l page word a g is p w) ∙ free_known f l legal k g h;
+  held = λ g p w h.
+      let at : IsPlacedOnce l g = placed_once f l valid legal g in
+      ap (λ n. has_bit n (g % 64)) (word_at l page word a g is p w) ∙ at.free ∙ ap is_free (held_place l k g at h);
+}
+
+backed_agrees : (f : Profile) (l : Whole) → Legal f l → (k page a : ℕ) → a ≡ word_after l (Word.Backed page) → AgreesBacked (part k l) page a
+backed_agrees f l legal k page a is = record { small = omega (arith, is, backed_small f l legal page); known = λ h. is ∙ backed_known f l legal k page h }
+
+-- ---- life words
+-- a live block has a length that fits the region
+length_fits : (f : Profile) (g word : ℕ) (live : Option Live) (gives ends : ℕ) → IsLifeOf f g word live gives ends → is_live word ≡ true → (1 ≤ grains_of word) × (grains_of word ≤ 256 * f.pages)
+length_fits f g word None gives ends life h = absurd (omega (arith, life.word_is, life.few, leb-true (2 ^ 63) word h))
+length_fits f g word (Some b) gives ends life h =
+    let n : ℕ = length_of b.block in
+    let is : grains_of word ≡ length_of b.block = ap grains_of life.word_is ∙ omega (arith, life.few, life.short) in
+    (omega (arith, is, life.some), omega (arith, is, life.first, life.last))
+
+word_length : (f : Profile) (l : Whole) → IsValid f → Legal f l → (g : ℕ) → is_live (word_after l (life_word_at g)) ≡ true → (1 ≤ grains_of (word_after l (life_word_at g))) × (grains_of (word_after l (life_word_at g)) ≤ 256 * f.pages)
+word_length f l valid legal g = length_fits f g (word_after l (life_word_at g)) (live_in (visible l) (16 * g)) (gives_in (visible l) (16 * g)) (ends_in (visible l) (16 * g)) (life_of f l valid legal g)
+
+-- no block lives at a grain that is held
+held_is_dead : (f : Profile) (l : Whole) → IsValid f → Legal f l → (k g : ℕ) → holds (part k l) g ≡ true → is_live (word_after l (life_word_at g)) ≡ false
+held_is_dead f l valid legal k g h = false_from_ne_true (is_live (word_after l (life_word_at g))) (λ live.
+    let at : IsPlacedOnce l g = placed_once f l valid legal g in
+    let n : ℕ = grains_of (word_after l (life_word_at g)) in
+    let own : in_run g (grains_of (word_after l (life_word_at g))) g ≡ true = own_grain g (grains_of (word_after l (life_word_at g))) (word_length f l valid legal g live).0 in
+    let covered : covers (word_after l (life_word_at g)) g g ≡ true = and_from (is_live (word_after l (life_word_at g))) (in_run g (grains_of (word_after l (life_word_at g))) g) live own in
+    let not_covered : covers (word_after l (life_word_at g)) g g ≡ false = at.covered g ∙ ap (is_covered_by g) (held_place l k g at h) in
+    false≢true (sym not_covered ∙ covered))
+
+life_agrees : (f : Profile) (l : Whole) → IsValid f → Legal f l → (k g a : ℕ) → a ≡ word_after l (life_word_at g) → AgreesLife f (part k l) g a
+life_agrees f l valid legal k g a is = subst (AgreesLife f (part k l) g) (sym is) record {
+  known = λ w h. sym (life_is_known f l valid legal k g w h).1;
+  held = held_is_dead f l valid legal k g;
+  turn = omega arith;
+  length = word_length f l valid legal g;
+}
+
+life_at : (l : Whole) (page grain : ℕ) → grain < 256 → word_after l (Word.Life page grain) ≡ word_after l (life_word_at (page * 256 + grain))
+life_at l page grain small =
+    let p : page ≡ (page * 256 + grain) / 256 = omega arith in
+    let g : grain ≡ (page * 256 + grain) % 256 = omega arith in
+    ap (λ x. word_after l (Word.Life x grain)) p ∙ ap (λ x. word_after l (Word.Life ((page * 256 + grain) / 256) x)) g
+
+-- ---- by kinds
+fits_as : (a n : ℕ) → a ≡ n → n < 2 ^ 64 → a < 2 ^ 64
+fits_as a n is h = omega (arith, is)
+
+-- what an actor reads at a word of the profile agrees with its view
+pub answer_agrees_at : (f : Profile) (l : Whole) → IsValid f → Legal f l → (k : ℕ) (s : Step) (a : ℕ) → IsStepOf f s → a ≡ word_after l (target s) → Agrees f (part k l) s a
+answer_agrees_at f l valid legal k (Look Word.Epoch) a of is = omega (arith, is, epoch_known f l legal k)
+answer_agrees_at f l valid legal k (Look (Word.Free q w)) a of is = free_agrees f l valid legal k q w a is
+answer_agrees_at f l valid legal k (Look (Word.Life q g)) a of is = life_agrees f l valid legal k (q * 256 + g) a (is ∙ life_at l q g of.2)
+answer_agrees_at f l valid legal k (Look (Word.Deed q)) a of is = deed_agrees f l legal k q a is
+answer_agrees_at f l valid legal k (Look (Word.Backed q)) a of is = backed_agrees f l legal k q a is
+answer_agrees_at f l valid legal k (Look (Word.Stamp q)) a of is = fits_as a (word_after l (Word.Stamp q)) is (words_fit f l valid legal (Word.Stamp q))
+answer_agrees_at f l valid legal k (Look (Word.Parked j)) a of is = is ∙ nothing_parked f l legal j
+answer_agrees_at f l valid legal k (Look (Word.Empty j)) a of is = is ∙ nothing_hinted f l legal j
+answer_agrees_at f l valid legal k (Look (Word.Eligible n j)) a of is = is ∙ nothing_eligible f l legal n j
+answer_agrees_at f l valid legal k (Deed q d) a of is = deed_agrees f l legal k q a is
+answer_agrees_at f l valid legal k (Back q) a of is = backed_agrees f l legal k q a is
+answer_agrees_at f l valid legal k (Take q w mask) a of is = free_agrees f l valid legal k q w a is
+answer_agrees_at f l valid legal k (Put q w mask) a of is = free_agrees f l valid legal k q w a is
+answer_agrees_at f l valid legal k (Give block) a of is = life_agrees f l valid legal k (grain_of block.name) a is
+answer_agrees_at f l valid legal k (End name guess) a of is = life_agrees f l valid legal k (grain_of name) a is
+answer_agrees_at f l valid legal k (Stamp q) a of is = fits_as a (word_after l (Word.Stamp q)) is (words_fit f l valid legal (Word.Stamp q))
+
+-- the answer of the next legal step agrees with its actor's view
+pub answer_agrees : (f : Profile) (l : Whole) → IsValid f → Legal f l → (t : Triple) → IsNext f l t → Agrees f (part t.actor l) t.made.step t.made.answer
+answer_agrees f l valid legal t next = answer_agrees_at f l valid legal t.actor t.made.step t.made.answer next.of_region next.answer_is

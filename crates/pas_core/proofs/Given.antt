@@ -1,0 +1,158 @@
+-- What callers need of the blocks that were given: names keep their blocks, and there are no more gives than events.
+use Rattle.std.proofs.Common.{◌≡◌, ℕ, ◌+◌, ◌%◌, ◌^◌, ◌≤◌, ◌==◌, Bool, true, false, ◌&&◌, if◌then◌else◌, List, [], ◌∷◌, ◌++◌, length, Option, Some, None, refl, ap, sym, ◌∙◌, arith}
+use Rattle.std.proofs.lemmas.Bool.{eqb-true, eq-eqb, leb-true}
+use Rattle.pas_profile.specs.Lives.{live_word, is_live, turn_of}
+use Rattle.pas_profile.specs.Profiles.{IsValid}
+use Rattle.pas_profile.specs.declared.profile.Profile.{Profile}
+use Rattle.pas_profile.specs.declared.name.Block.{Block}
+use Rattle.pas_profile.specs.declared.event.Event.{Event}
+use Rattle.pas_machine.specs.Runs.{address_of, grain_of, length_of}
+use Rattle.pas_machine.specs.State.{Live, live_in, gives_in, ends_in}
+use Rattle.pas_machine.specs.Machine.{Admits, Run}
+use Rattle.pas_steps.specs.Effects.{life_word_at}
+use Rattle.pas_steps.specs.Views.{View, epoch_of, given_count, given_after}
+use Rattle.pas_steps.specs.Events.{event_of, events_of, with_event, reason_of}
+use Rattle.pas_steps.specs.Lists.{Whole, word_after, visible, Legal}
+use Rattle.pas_steps.specs.declared.step.Step.{Step}
+use Rattle.pas_steps.specs.declared.step.Step.TheVariants.{Look, Deed, Back, Take, Put, Give, End, Stamp}
+use Rattle.pas_core.specs.Good.{IsLifeOf}
+use Rattle.pas_core.specs.Given.{WasGiven}
+use Rattle.pas_core.proofs.MachineRuns.{life_at}
+
+some_is : {A : Type 0} {x y : A} → Some x ≡ Some y → x ≡ y
+some_is h = cc
+
+none_told : {A : Type 0} {w : A} → None ≡ Some w → ⊥
+none_told h = cc
+
+-- ---- a block that was given stays so
+more_gives : (x : Bool) (n : ℕ) → n ≤ (if x then n + 1 else n)
+more_gives true n = omega arith
+more_gives false n = omega arith
+
+given_live : (x : Bool) (live : Option Live) (new : Live) (block : Block) → (x ≡ true → new.block.name.turn ≡ block.name.turn → ⊥) → ((b : Live) → live ≡ Some b → b.block.name.turn ≡ block.name.turn → b.block ≡ block)
+    → (b : Live) → (if x then Some new else live) ≡ Some b → b.block.name.turn ≡ block.name.turn → b.block ≡ block
+given_live true live new block other old b is turn = absurd (other refl (ap (λ y. y.block.name.turn) (some_is is) ∙ turn))
+given_live false live new block other old b is turn = old b is turn
+
+ended_live : (x : Bool) (live : Option Live) (block : Block) → ((b : Live) → live ≡ Some b → b.block.name.turn ≡ block.name.turn → b.block ≡ block) → (b : Live) → (if x then None else live) ≡ Some b → b.block.name.turn ≡ block.name.turn → b.block ≡ block
+ended_live true live block old b is turn = absurd (none_told is)
+ended_live false live block old b is turn = old b is turn
+
+pub one_more : (f : Profile) (e : Event) (es : List Event) (block : Block) → Admits f es e → WasGiven es block → WasGiven (e ∷ es) block
+one_more f (Event.Deed k p d) es block admits given = record { earlier = given.earlier; same = given.same }
+one_more f (Event.Back k p) es block admits given = record { earlier = given.earlier; same = given.same }
+one_more f (Event.Unback k p e) es block admits given = record { earlier = given.earlier; same = given.same }
+one_more f (Event.Give k new) es block admits given = record {
+  earlier = let more = more_gives (address_of new.name == address_of block.name) (gives_in es (address_of block.name)) in let old = given.earlier in omega (arith, more, old);
+  same = given_live (address_of new.name == address_of block.name) (live_in es (address_of block.name)) (record { actor = k; block = new }) block
+      (λ x turn. let next : new.name.turn ≡ gives_in es (address_of block.name) = admits.turn ∙ ap (gives_in es) (eqb-true (address_of new.name) (address_of block.name) x) in let old = given.earlier in absurd (omega (arith, next, turn, old))) given.same;
+}
+one_more f (Event.End k name e) es block admits given = record { earlier = given.earlier; same = ended_live (address_of name == address_of block.name) (live_in es (address_of block.name)) block given.same }
+one_more f (Event.Reject k name why) es block admits given = record { earlier = given.earlier; same = given.same }
+
+-- a block that was given stays so, whatever comes after it
+pub given_kept : (f : Profile) (more es : List Event) (block : Block) → Run f (more ++ es) → WasGiven es block → WasGiven (more ++ es) block
+given_kept f [] es block run given = given
+given_kept f (e ∷ more) es block run given = one_more f e (more ++ es) block run.0 (given_kept f more es block run.1 given)
+
+-- the block of a give was given
+pub new_block : (f : Profile) (k : ℕ) (block : Block) (es : List Event) → Admits f es (Event.Give k block) → WasGiven (Event.Give k block ∷ es) block
+new_block f k block es admits =
+    let here : (address_of block.name == address_of block.name) ≡ true = eq-eqb (address_of block.name) (address_of block.name) refl in
+    record {
+      earlier = let one : gives_in (Event.Give k block ∷ es) (address_of block.name) ≡ gives_in es (address_of block.name) + 1 = ap (λ x. if x then gives_in es (address_of block.name) + 1 else gives_in es (address_of block.name)) here in
+          let turn = admits.turn in omega (arith, one, turn);
+      same = λ b is turn.
+          let one : Some (record { actor = k; block = block }) ≡ Some b = sym (ap (λ x. if x then Some (record { actor = k; block = block }) else live_in es (address_of block.name)) here) ∙ is in
+          ap (λ y. y.block) (sym (some_is one));
+    }
+
+-- where a block that was given still lives, its life word has its grains
+true_word : (f : Profile) (g word : ℕ) (live : Option Live) (gives ends : ℕ) (block : Block) → IsLifeOf f g word live gives ends → ((b : Live) → live ≡ Some b → b.block.name.turn ≡ block.name.turn → b.block ≡ block)
+    → is_live word ≡ true → turn_of word ≡ block.name.turn → word ≡ live_word block.name.turn (length_of block)
+true_word f g word None gives ends block life same live turn = let w = life.word_is in let few = life.few in let big : 2 ^ 63 ≤ word = leb-true (2 ^ 63) word live in absurd (omega (arith, w, few, big))
+true_word f g word (Some b) gives ends block life same live turn =
+    let w = life.word_is in let few = life.few in let short = life.short in
+    let ends_are : turn_of word ≡ ends = omega (arith, w, few) in
+    let e : ends ≡ block.name.turn = sym ends_are ∙ turn in
+    life.word_is ∙ ap (λ n. live_word n (length_of b.block)) e ∙ ap (λ x. live_word block.name.turn (length_of x)) (same b refl (life.turn ∙ e))
+
+pub true_length : (f : Profile) (l : Whole) → IsValid f → Legal f l → (block : Block) → address_of block.name % 16 ≡ 0 → WasGiven (visible l) block → is_live (word_after l (life_word_at (grain_of block.name))) ≡ true
+    → turn_of (word_after l (life_word_at (grain_of block.name))) ≡ block.name.turn → word_after l (life_word_at (grain_of block.name)) ≡ live_word block.name.turn (length_of block)
+true_length f l valid legal block aligned given live turn =
+    true_word f (grain_of block.name) (word_after l (life_word_at (grain_of block.name))) (live_in (visible l) (address_of block.name)) (gives_in (visible l) (address_of block.name)) (ends_in (visible l) (address_of block.name)) block
+    (life_at f l valid legal (address_of block.name) aligned) given.same live turn
+
+-- ---- no more gives than events
+one_of_gives : (x : Bool) (n m : ℕ) → n ≤ m → (if x then n + 1 else n) ≤ m + 1
+one_of_gives true n m h = omega (arith, h)
+one_of_gives false n m h = omega (arith, h)
+
+-- how many blocks these events gave, at whatever address
+abbrev pub gives_counted : Event → ℕ → ℕ
+gives_counted (Event.Deed k p d) n = n
+gives_counted (Event.Back k p) n = n
+gives_counted (Event.Unback k p e) n = n
+gives_counted (Event.Give k block) n = n + 1
+gives_counted (Event.End k name e) n = n
+gives_counted (Event.Reject k name why) n = n
+
+abbrev pub count_gives : List Event → ℕ
+count_gives [] = 0
+count_gives (e ∷ es) = gives_counted e (count_gives es)
+
+-- the gives at one address are some of all
+pub gives_few : (es : List Event) (address : ℕ) → gives_in es address ≤ count_gives es
+gives_few [] address = omega arith
+gives_few (Event.Deed k p d ∷ es) address = gives_few es address
+gives_few (Event.Back k p ∷ es) address = gives_few es address
+gives_few (Event.Unback k p e ∷ es) address = gives_few es address
+gives_few (Event.Give k block ∷ es) address = one_of_gives (address_of block.name == address) (gives_in es address) (count_gives es) (gives_few es address)
+gives_few (Event.End k name e ∷ es) address = gives_few es address
+gives_few (Event.Reject k name why ∷ es) address = gives_few es address
+
+-- each give is an event
+counted_few : (e : Event) (n m : ℕ) → n ≤ m → gives_counted e n ≤ m + 1
+counted_few (Event.Deed k p d) n m h = omega (arith, h)
+counted_few (Event.Back k p) n m h = omega (arith, h)
+counted_few (Event.Unback k p e) n m h = omega (arith, h)
+counted_few (Event.Give k block) n m h = omega (arith, h)
+counted_few (Event.End k name e) n m h = omega (arith, h)
+counted_few (Event.Reject k name why) n m h = omega (arith, h)
+
+pub counts_few : (es : List Event) → count_gives es ≤ length es
+counts_few [] = omega arith
+counts_few (e ∷ es) = let rest = counted_few e (count_gives es) (length es) (counts_few es) in omega (arith, rest)
+
+-- the gives of an actor are those of its events
+count_if : (z : Bool) (e : Event) (es : List Event) → gives_counted e (count_gives es) ≡ count_gives es → count_gives (with_event (if z then Some e else None) es) ≡ count_gives es
+count_if true e es h = h
+count_if false e es h = refl
+
+count_end : (z y : Bool) (end reject : Event) (es : List Event) → gives_counted end (count_gives es) ≡ count_gives es → gives_counted reject (count_gives es) ≡ count_gives es → count_gives (with_event (if z then Some end else (if y then None else Some reject)) es) ≡ count_gives es
+count_end true y end reject es ended rejected = ended
+count_end false true end reject es ended rejected = refl
+count_end false false end reject es ended rejected = rejected
+
+count_step : (k e : ℕ) (s : Step) (a : ℕ) (es : List Event) → count_gives (with_event (event_of k e s a) es) ≡ given_after s (count_gives es)
+count_step k e (Look word) a es = refl
+count_step k e (Deed page directory) a es = count_if (a == 0) (Event.Deed k page directory) es refl
+count_step k e (Back page) a es = count_if (a == 0) (Event.Back k page) es refl
+count_step k e (Take page word mask) a es = refl
+count_step k e (Put page word mask) a es = refl
+count_step k e (Give block) a es = refl
+count_step k e (End name guess) a es = count_end (a == live_word name.turn guess) (is_live a && (turn_of a == name.turn)) (Event.End k name e) (Event.Reject k name (reason_of name a)) es refl refl
+count_step k e (Stamp page) a es = refl
+
+pub own_gives : (k : ℕ) (v : View) → count_gives (events_of k v) ≡ given_count v
+own_gives k [] = refl
+own_gives k (m ∷ v) = count_step k (epoch_of v) m.step m.answer (events_of k v) ∙ ap (given_after m.step) (own_gives k v)
+
+-- an actor gave no more blocks than it has events
+pub given_few : (k : ℕ) (v : View) → given_count v ≤ length (events_of k v)
+given_few k v = let is = own_gives k v in let few = counts_few (events_of k v) in omega (arith, is, few)
+
+-- no address was given more often than there are events
+pub turns_few : (es : List Event) (address : ℕ) → gives_in es address ≤ length es
+turns_few es address = let some = gives_few es address in let few = counts_few es in omega (arith, some, few)

@@ -1,0 +1,289 @@
+-- Each grain is in exactly one place: free, held by one actor, or covered by one live block.
+use Rattle.std.proofs.Common.{◌≡◌, ℕ, ◌+◌, ◌-◌, ◌*◌, ◌/◌, ◌%◌, ◌^◌, ◌<◌, ◌≤◌, ◌==◌, nat_lt, nat_le, Bool, true, false, not, ◌&&◌, ◌||◌, if◌then◌else◌, [], ◌∷◌, refl, ap, sym, ◌∙◌, arith, bit_and, bit_or}
+use Rattle.std.specs.Int.{bit_not, w64}
+use Rattle.std.proofs.lemmas.Nat.Bits.{bit_at_ones}
+use Rattle.std.proofs.lemmas.Bool.{eqb-true, eqb-false, and_parts, le-leb, lt-leb}
+use Rattle.std.proofs.lemmas.Bool.Decides.{nat_tests}
+use Rattle.pas_profile.specs.Classes.{has_bit}
+use Rattle.pas_profile.specs.Layouts.{same_word}
+use Rattle.pas_profile.specs.Lives.{live_word, is_live, grains_of}
+use Rattle.pas_profile.specs.Profiles.{IsValid}
+use Rattle.pas_profile.specs.declared.profile.Profile.{Profile}
+use Rattle.pas_profile.specs.declared.name.Block.{Block}
+use Rattle.pas_profile.specs.declared.word.Word.{Word}
+use Rattle.pas_machine.specs.Runs.{in_run, address_of, grain_of, length_of}
+use Rattle.pas_steps.specs.Effects.{free_word_at, life_word_at, in_mask, target, new_value}
+use Rattle.pas_steps.specs.Views.{View, Move, Stays, Gets, Puts, Gives, Ends, grain_move, held_after, holds, epoch_of}
+use Rattle.pas_steps.specs.Allowed.{Allowed, IsStepOf}
+use Rattle.pas_steps.specs.Lists.{Whole, word_after, part, IsNext, Legal}
+use Rattle.pas_steps.specs.declared.step.Made.{Made}
+use Rattle.pas_steps.specs.declared.step.Step.{Step}
+use Rattle.pas_steps.specs.declared.step.Step.TheVariants.{Look, Deed, Back, Take, Put, Give, End, Stamp}
+use Rattle.pas_core.specs.Good.{Place, IsFree, Held, Covered, is_free, is_held_by, is_covered_by, covers, IsPlacedOnce}
+use Rattle.pas_core.proofs.Bits.{has_bit-clear, has_bit-or}
+
+-- ---- words of grains: one for each grain
+split_same : (c b : ℕ) (x y z : Bool) → (c % 256 == b % 256) ≡ x → (c / 256 == b / 256) ≡ y → (c == b) ≡ z → (x && y) ≡ z
+split_same c b true true true ex ey ez = refl
+split_same c b true true false ex ey ez = let m = eqb-true (c % 256) (b % 256) ex in let d = eqb-true (c / 256) (b / 256) ey in let ne = eqb-false c b ez in absurd (omega (arith, m, d, ne))
+split_same c b true false true ex ey ez = let ne = eqb-false (c / 256) (b / 256) ey in absurd (ne (ap (λ n. n / 256) (eqb-true c b ez)))
+split_same c b true false false ex ey ez = refl
+split_same c b false y true ex ey ez = let ne = eqb-false (c % 256) (b % 256) ex in absurd (ne (ap (λ n. n % 256) (eqb-true c b ez)))
+split_same c b false y false ex ey ez = refl
+
+-- two grains have the same life word where they are the same
+pub life_same : (c b : ℕ) → same_word (life_word_at c) (life_word_at b) ≡ (c == b)
+life_same c b = split_same c b (c % 256 == b % 256) (c / 256 == b / 256) (c == b) refl refl refl
+
+-- the free word of a page that a grain stands in
+pub free_same : (l : Whole) (page word g : ℕ) → ((word == g / 64 % 4) && (page == g / 256)) ≡ true → word_after l (Word.Free page word) ≡ word_after l (free_word_at g)
+free_same l page word g h =
+    let parts = and_parts (word == g / 64 % 4) (page == g / 256) h in
+    ap (λ w. word_after l (Word.Free page w)) (eqb-true word (g / 64 % 4) parts.0) ∙ ap (λ p. word_after l (Word.Free p (g / 64 % 4))) (eqb-true page (g / 256) parts.1)
+
+-- ---- the numbers of a step of a valid profile fit
+end_short : (f : Profile) (guess : ℕ) → IsValid f → guess ≤ 256 * f.pages → guess < 2 ^ 23
+end_short f guess valid h = let p = valid.pages in omega (arith, p, h)
+
+pub give_short : (f : Profile) (address room : ℕ) → IsValid f → address + room ≤ 4096 * (f.pages + 1) → room / 16 < 2 ^ 23
+give_short f address room valid h = let p = valid.pages in omega (arith, p, h)
+
+-- ---- places and moves, whatever the step
+abbrev place_after : ℕ → Move → Place → Place
+place_after j Stays o = o
+place_after j Gets o = Held j
+place_after j Puts o = IsFree
+place_after j (Gives a) o = Covered a
+place_after j (Ends a) o = Held j
+
+-- the grain is where the move of actor j takes it from
+abbrev pub Fits : ℕ → Move → Place → Type 0
+Fits j Stays o = Unit {0}
+Fits j Gets o = o ≡ IsFree
+Fits j Puts o = o ≡ Held j
+Fits j (Gives a) o = o ≡ Held j
+Fits j (Ends a) o = o ≡ Covered a
+
+is_free-true : (o : Place) → is_free o ≡ true → o ≡ IsFree
+is_free-true IsFree h = refl
+is_free-true (Held k) h = cc
+is_free-true (Covered a) h = cc
+
+pub is_held_by-true : (k : ℕ) (o : Place) → is_held_by k o ≡ true → o ≡ Held k
+is_held_by-true k IsFree h = cc
+is_held_by-true k (Held j) h = ap Held (eqb-true j k h)
+is_held_by-true k (Covered a) h = cc
+
+is_covered_by-true : (b : ℕ) (o : Place) → is_covered_by b o ≡ true → o ≡ Covered b
+is_covered_by-true b IsFree h = cc
+is_covered_by-true b (Held j) h = cc
+is_covered_by-true b (Covered a) h = ap Covered (eqb-true a b h)
+
+held_next : (m : Move) (o : Place) (j k : ℕ) (had : Bool) → had ≡ is_held_by k o → Fits j m o → (same : Bool) → (j == k) ≡ same → (if same then held_after m had else had) ≡ is_held_by k (place_after j m o)
+held_next Stays o j k had is fits true e = is
+held_next Stays o j k had is fits false e = is
+held_next Gets o j k had is fits true e = sym e
+held_next Gets o j k had is fits false e = is ∙ ap (is_held_by k) fits ∙ sym e
+held_next Puts o j k had is fits true e = refl
+held_next Puts o j k had is fits false e = is ∙ ap (is_held_by k) fits ∙ e
+held_next (Gives a) o j k had is fits true e = refl
+held_next (Gives a) o j k had is fits false e = is ∙ ap (is_held_by k) fits ∙ e
+held_next (Ends a) o j k had is fits true e = sym e
+held_next (Ends a) o j k had is fits false e = is ∙ ap (is_held_by k) fits ∙ sym e
+
+abbrev pub free_moved : Move → Bool → Bool
+free_moved Stays was = was
+free_moved Gets was = false
+free_moved Puts was = true
+free_moved (Gives a) was = was
+free_moved (Ends a) was = was
+
+free_next : (j : ℕ) (m : Move) (o : Place) → Fits j m o → free_moved m (is_free o) ≡ is_free (place_after j m o)
+free_next j Stays o h = refl
+free_next j Gets o h = refl
+free_next j Puts o h = refl
+free_next j (Gives a) o h = ap is_free h
+free_next j (Ends a) o h = ap is_free h
+
+abbrev covered_moved : Move → ℕ → Bool → Bool
+covered_moved Stays b was = was
+covered_moved Gets b was = was
+covered_moved Puts b was = was
+covered_moved (Gives a) b was = if a == b then true else was
+covered_moved (Ends a) b was = if a == b then false else was
+
+if_true : (t : Bool) → (if t then true else false) ≡ t
+if_true true = refl
+if_true false = refl
+
+if_false : (t : Bool) → (if t then false else t) ≡ false
+if_false true = refl
+if_false false = refl
+
+covered_next : (j : ℕ) (m : Move) (b : ℕ) (o : Place) → Fits j m o → covered_moved m b (is_covered_by b o) ≡ is_covered_by b (place_after j m o)
+covered_next j Stays b o h = refl
+covered_next j Gets b o h = ap (is_covered_by b) h
+covered_next j Puts b o h = ap (is_covered_by b) h
+covered_next j (Gives a) b o h = ap (λ x. if a == b then true else is_covered_by b x) h ∙ if_true (a == b)
+covered_next j (Ends a) b o h = ap (λ x. if a == b then false else is_covered_by b x) h ∙ if_false (a == b)
+
+-- ---- the free words
+take_cases : (x y : Bool) → (x && not y) ≡ free_moved (if y && x then Gets else Stays) x
+take_cases true true = refl
+take_cases true false = refl
+take_cases false true = refl
+take_cases false false = refl
+
+put_cases : (x y : Bool) → (x || y) ≡ free_moved (if y then Puts else Stays) x
+put_cases true true = refl
+put_cases true false = refl
+put_cases false true = refl
+put_cases false false = refl
+
+take_free : (t : Bool) (old a mask b : ℕ) → (t ≡ true → a ≡ old) → mask < 2 ^ 64 → b < 64
+    → has_bit (if t then bit_and old (bit_not w64 mask) else old) b ≡ free_moved (if (t && has_bit mask b) && has_bit a b then Gets else Stays) (has_bit old b)
+take_free true old a mask b same hm hb = has_bit-clear old mask b hm hb ∙ take_cases (has_bit old b) (has_bit mask b)
+    ∙ ap (λ n. free_moved (if has_bit mask b && has_bit n b then Gets else Stays) (has_bit old b)) (sym (same refl))
+take_free false old a mask b same hm hb = refl
+
+put_free : (t : Bool) (old mask b : ℕ) → has_bit (if t then bit_or old mask else old) b ≡ free_moved (if t && has_bit mask b then Puts else Stays) (has_bit old b)
+put_free true old mask b = has_bit-or old mask b ∙ put_cases (has_bit old b) (has_bit mask b)
+put_free false old mask b = refl
+
+rests_free : (t was : Bool) (m : Move) → free_moved m was ≡ was → was ≡ free_moved (if t then m else Stays) was
+rests_free true was m h = sym h
+rests_free false was m h = refl
+
+look_free : (t : Bool) (old b : ℕ) → has_bit (if t then old else old) b ≡ has_bit old b
+look_free true old b = refl
+look_free false old b = refl
+
+-- what a step does to the bit of a grain
+pub free_step : (f : Profile) (l : Whole) (e : ℕ) (s : Step) (a g : ℕ) → IsStepOf f s → a ≡ word_after l (target s)
+    → has_bit (if same_word (target s) (free_word_at g) then new_value e s (word_after l (free_word_at g)) else word_after l (free_word_at g)) (g % 64) ≡ free_moved (grain_move s a g) (has_bit (word_after l (free_word_at g)) (g % 64))
+free_step f l e (Look word) a g of is = look_free (same_word word (free_word_at g)) (word_after l (free_word_at g)) (g % 64)
+free_step f l e (Deed page directory) a g of is = refl
+free_step f l e (Back page) a g of is = refl
+free_step f l e (Take page word mask) a g of is = take_free ((word == g / 64 % 4) && (page == g / 256)) (word_after l (free_word_at g)) a mask (g % 64) (λ h. is ∙ free_same l page word g h) of.2 (omega arith)
+free_step f l e (Put page word mask) a g of is = put_free ((word == g / 64 % 4) && (page == g / 256)) (word_after l (free_word_at g)) mask (g % 64)
+free_step f l e (Give block) a g of is = rests_free (in_run (grain_of block.name) (length_of block) g) (has_bit (word_after l (free_word_at g)) (g % 64)) (Gives (grain_of block.name)) refl
+free_step f l e (End name guess) a g of is = rests_free ((a == live_word name.turn guess) && in_run (grain_of name) guess g) (has_bit (word_after l (free_word_at g)) (g % 64)) (Ends (grain_of name)) refl
+free_step f l e (Stamp page) a g of is = refl
+
+-- ---- the life words
+pub covers_live : (turn n b g : ℕ) → turn < 2 ^ 40 → n < 2 ^ 23 → covers (live_word turn n) b g ≡ in_run b n g
+covers_live turn n b g ht hn =
+    let length_is : (turn + n * 2 ^ 40 + 2 ^ 63) / 2 ^ 40 % 2 ^ 23 ≡ n = omega arith in
+    ap (λ t. t && (nat_le b g && nat_lt g (b + live_word turn n / 2 ^ 40 % 2 ^ 23))) (le-leb (2 ^ 63) (live_word turn n) (omega arith))
+    ∙ ap (λ m. nat_le b g && nat_lt g (b + m)) length_is
+
+covers_ended : (turn b g : ℕ) → turn < 2 ^ 40 → covers turn b g ≡ false
+covers_ended turn b g ht = ap (λ t. t && (nat_le b g && nat_lt g (b + turn / 2 ^ 40 % 2 ^ 23))) (lt-leb (2 ^ 63) turn (omega arith))
+
+-- a word that doesn't cover its own first grain covers none
+none_covers : (t : Bool) (c g n : ℕ) → (t && (nat_le c c && nat_lt c (c + n))) ≡ false → (t && (nat_le c g && nat_lt g (c + n))) ≡ false
+none_covers t c g n h = grind (arith, nat_tests)
+
+pub own_grain : (c n : ℕ) → 0 < n → in_run c n c ≡ true
+own_grain c n h = grind (arith, nat_tests)
+
+-- a block of some whole grains has one
+pub some_grain : (room : ℕ) → room % 16 ≡ 0 → 0 < room → 0 < room / 16
+some_grain room whole some = omega arith
+
+not_covering : (f : Profile) (l : Whole) (k : ℕ) (block : Block) (g : ℕ) → IsPlacedOnce l (grain_of block.name) → Allowed f (part k l) (Give block) → covers (word_after l (life_word_at (grain_of block.name))) (grain_of block.name) g ≡ false
+not_covering f l k block g at allowed =
+    let c : ℕ = grain_of block.name in
+    let here : at.place ≡ Held k = is_held_by-true k at.place (sym (at.held k) ∙ allowed.held (grain_of block.name) (own_grain (grain_of block.name) (length_of block) (some_grain block.room allowed.whole allowed.some))) in
+    none_covers (is_live (word_after l (life_word_at (grain_of block.name)))) (grain_of block.name) g (grains_of (word_after l (life_word_at (grain_of block.name)))) (at.covered (grain_of block.name) ∙ ap (is_covered_by (grain_of block.name)) here)
+
+rests_covered : (t was : Bool) (m : Move) (b : ℕ) → covered_moved m b was ≡ was → was ≡ covered_moved (if t then m else Stays) b was
+rests_covered true was m b h = sym h
+rests_covered false was m b h = refl
+
+give_covers : (x y : Bool) (c b g turn n old : ℕ) → y ≡ (c == b) → (c == b) ≡ x → turn < 2 ^ 40 → n < 2 ^ 23 → (x ≡ true → covers old b g ≡ false) → (r : Bool) → in_run c n g ≡ r
+    → covers (if y then live_word turn n else old) b g ≡ covered_moved (if r then Gives c else Stays) b (covers old b g)
+give_covers true y c b g turn n old ye e ht hn dead true run = ap (λ t. covers (if t then live_word turn n else old) b g) (ye ∙ e) ∙ covers_live turn n b g ht hn ∙ ap (λ x. in_run x n g) (sym (eqb-true c b e)) ∙ run ∙ ap (λ t. if t then true else covers old b g) (sym e)
+give_covers true y c b g turn n old ye e ht hn dead false run = ap (λ t. covers (if t then live_word turn n else old) b g) (ye ∙ e) ∙ covers_live turn n b g ht hn ∙ ap (λ x. in_run x n g) (sym (eqb-true c b e)) ∙ run ∙ sym (dead refl)
+give_covers false y c b g turn n old ye e ht hn dead true run = ap (λ t. covers (if t then live_word turn n else old) b g) (ye ∙ e) ∙ ap (λ t. if t then true else covers old b g) (sym e)
+give_covers false y c b g turn n old ye e ht hn dead false run = ap (λ t. covers (if t then live_word turn n else old) b g) (ye ∙ e)
+
+end_covers : (x : Bool) (c b g turn n old a : ℕ) → (c == b) ≡ x → turn < 2 ^ 40 - 1 → n < 2 ^ 23 → (x ≡ true → a ≡ old) → (z : Bool) → (a == live_word turn n) ≡ z → (r : Bool) → in_run c n g ≡ r
+    → covers (if x then (if old == live_word turn n then turn + 1 else old) else old) b g ≡ covered_moved (if z && r then Ends c else Stays) b (covers old b g)
+end_covers true c b g turn n old a e ht hn same true is true run =
+    ap (λ t. covers (if t then (turn + 1) else old) b g) (ap (λ m. m == live_word turn n) (sym (same refl)) ∙ is) ∙ covers_ended (turn + 1) b g (omega arith) ∙ ap (λ t. if t then false else covers old b g) (sym e)
+end_covers true c b g turn n old a e ht hn same true is false run =
+    ap (λ t. covers (if t then (turn + 1) else old) b g) (ap (λ m. m == live_word turn n) (sym (same refl)) ∙ is) ∙ covers_ended (turn + 1) b g (omega arith)
+    ∙ sym (ap (λ m. covers m b g) (sym (same refl) ∙ eqb-true a (live_word turn n) is) ∙ covers_live turn n b g (omega arith) hn ∙ ap (λ x. in_run x n g) (sym (eqb-true c b e)) ∙ run)
+end_covers true c b g turn n old a e ht hn same false is r run = ap (λ t. covers (if t then (turn + 1) else old) b g) (ap (λ m. m == live_word turn n) (sym (same refl)) ∙ is)
+end_covers false c b g turn n old a e ht hn same true is true run = ap (λ t. if t then false else covers old b g) (sym e)
+end_covers false c b g turn n old a e ht hn same true is false run = refl
+end_covers false c b g turn n old a e ht hn same false is r run = refl
+
+look_covers : (t : Bool) (old b g : ℕ) → covers (if t then old else old) b g ≡ covers old b g
+look_covers true old b g = refl
+look_covers false old b g = refl
+
+-- another writing of the test whether two grains are the same
+retold : (y x : Bool) (new old b g : ℕ) (answer : Bool) → y ≡ x → covers (if x then new else old) b g ≡ answer → covers (if y then new else old) b g ≡ answer
+retold y x new old b g answer e h = ap (λ t. covers (if t then new else old) b g) e ∙ h
+
+covered_step : (f : Profile) (l : Whole) (k e : ℕ) (s : Step) (a g b : ℕ) → IsValid f → ((g : ℕ) → IsPlacedOnce l g) → IsStepOf f s → Allowed f (part k l) s → a ≡ word_after l (target s)
+    → covers (if same_word (target s) (life_word_at b) then new_value e s (word_after l (life_word_at b)) else word_after l (life_word_at b)) b g ≡ covered_moved (grain_move s a g) b (covers (word_after l (life_word_at b)) b g)
+covered_step f l k e (Look word) a g b valid placed of allowed is = look_covers (same_word word (life_word_at b)) (word_after l (life_word_at b)) b g
+covered_step f l k e (Deed page directory) a g b valid placed of allowed is = refl
+covered_step f l k e (Back page) a g b valid placed of allowed is = refl
+covered_step f l k e (Take page word mask) a g b valid placed of allowed is = rests_covered (in_mask page word mask g && has_bit a (g % 64)) (covers (word_after l (life_word_at b)) b g) Gets b refl
+covered_step f l k e (Put page word mask) a g b valid placed of allowed is = rests_covered (in_mask page word mask g) (covers (word_after l (life_word_at b)) b g) Puts b refl
+covered_step f l k e (Give block) a g b valid placed of allowed is =
+    give_covers (grain_of block.name == b) (same_word (life_word_at (grain_of block.name)) (life_word_at b)) (grain_of block.name) b g block.name.turn (length_of block) (word_after l (life_word_at b)) (life_same (grain_of block.name) b) refl
+    of.turn (give_short f (address_of block.name) block.room valid of.last)
+    (λ e. ap (λ x. covers (word_after l (life_word_at x)) x g) (sym (eqb-true (grain_of block.name) b e)) ∙ not_covering f l k block g (placed (grain_of block.name)) allowed) (in_run (grain_of block.name) (length_of block) g) refl
+covered_step f l k e (End name guess) a g b valid placed of allowed is =
+    retold (same_word (life_word_at (grain_of name)) (life_word_at b)) (grain_of name == b) (if word_after l (life_word_at b) == live_word name.turn guess then name.turn + 1 else word_after l (life_word_at b)) (word_after l (life_word_at b)) b g
+    (covered_moved (grain_move (End name guess) a g) b (covers (word_after l (life_word_at b)) b g)) (life_same (grain_of name) b)
+    (end_covers (grain_of name == b) (grain_of name) b g name.turn guess (word_after l (life_word_at b)) a refl of.2 (end_short f guess valid of.4)
+    (λ e. is ∙ ap (λ x. word_after l (life_word_at x)) (eqb-true (grain_of name) b e)) (a == live_word name.turn guess) refl (in_run (grain_of name) guess g) refl)
+covered_step f l k e (Stamp page) a g b valid placed of allowed is = refl
+
+-- ---- a legal step's move fits
+fits_if : (j : ℕ) (m : Move) (o : Place) (t : Bool) → (t ≡ true → Fits j m o) → Fits j (if t then m else Stays) o
+fits_if j m o true h = h refl
+fits_if j m o false h = tt
+
+pub step_fits : (f : Profile) (l : Whole) (k : ℕ) (s : Step) (a g : ℕ) (at : IsPlacedOnce l g) → IsValid f → IsStepOf f s → Allowed f (part k l) s → a ≡ word_after l (target s) → Fits k (grain_move s a g) at.place
+step_fits f l k (Look word) a g at valid of allowed is = tt
+step_fits f l k (Deed page directory) a g at valid of allowed is = tt
+step_fits f l k (Back page) a g at valid of allowed is = tt
+step_fits f l k (Take page word mask) a g at valid of allowed is = fits_if k Gets at.place (in_mask page word mask g && has_bit a (g % 64)) (λ h.
+    let parts = and_parts (in_mask page word mask g) (has_bit a (g % 64)) h in
+    let bits = and_parts ((word == g / 64 % 4) && (page == g / 256)) (has_bit mask (g % 64)) parts.0 in
+    is_free-true at.place (sym at.free ∙ ap (λ n. has_bit n (g % 64)) (sym (is ∙ free_same l page word g bits.0)) ∙ parts.1))
+step_fits f l k (Put page word mask) a g at valid of allowed is = fits_if k Puts at.place (in_mask page word mask g) (λ h. is_held_by-true k at.place (sym (at.held k) ∙ allowed.held g h))
+step_fits f l k (Give block) a g at valid of allowed is = fits_if k (Gives (grain_of block.name)) at.place (in_run (grain_of block.name) (length_of block) g) (λ h. is_held_by-true k at.place (sym (at.held k) ∙ allowed.held g h))
+step_fits f l k (End name guess) a g at valid of allowed is = fits_if k (Ends (grain_of name)) at.place ((a == live_word name.turn guess) && in_run (grain_of name) guess g) (λ h.
+    let parts = and_parts (a == live_word name.turn guess) (in_run (grain_of name) guess g) h in
+    is_covered_by-true (grain_of name) at.place (sym (at.covered (grain_of name)) ∙ ap (λ w. covers w (grain_of name) g) (sym is ∙ eqb-true a (live_word name.turn guess) parts.0)
+    ∙ covers_live name.turn guess (grain_of name) g (let t = of.2 in omega (arith, t)) (end_short f guess valid of.4) ∙ parts.1))
+step_fits f l k (Stamp page) a g at valid of allowed is = tt
+
+-- ---- the induction
+holds_part : (t : Bool) (m : Made) (v : View) (g : ℕ) → holds (if t then m ∷ v else v) g ≡ (if t then held_after (grain_move m.step m.answer g) (holds v g) else holds v g)
+holds_part true m v g = refl
+holds_part false m v g = refl
+
+-- after every legal list each grain is in exactly one place
+pub placed_once : (f : Profile) (l : Whole) → IsValid f → Legal f l → (g : ℕ) → IsPlacedOnce l g
+placed_once f [] valid legal g = record { place = IsFree; free = ap (λ x. x == 1) (bit_at_ones 64 (g % 64) (omega arith)); held = λ k. refl; covered = λ a. refl }
+placed_once f (t ∷ l) valid legal g =
+    let at : IsPlacedOnce l g = placed_once f l valid legal.1 g in
+    let next : IsNext f l t = legal.0 in
+    let m : Move = grain_move t.made.step t.made.answer g in
+    let e : ℕ = epoch_of (part t.actor l) in
+    let fits : Fits t.actor (grain_move t.made.step t.made.answer g) at.place = step_fits f l t.actor t.made.step t.made.answer g at valid next.of_region next.allowed next.answer_is in
+    record {
+      place = place_after t.actor m at.place;
+      free = free_step f l e t.made.step t.made.answer g next.of_region next.answer_is ∙ ap (free_moved m) at.free ∙ free_next t.actor m at.place fits;
+      held = λ k. holds_part (t.actor == k) t.made (part k l) g ∙ held_next m at.place t.actor k (holds (part k l) g) (at.held k) fits (t.actor == k) refl;
+      covered = λ b. covered_step f l t.actor e t.made.step t.made.answer g b valid (placed_once f l valid legal.1) next.of_region next.allowed next.answer_is ∙ ap (covered_moved m b) (at.covered b) ∙ covered_next t.actor m b at.place fits;
+    }

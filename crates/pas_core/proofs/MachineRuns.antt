@@ -1,0 +1,176 @@
+-- The visible events of every legal list are a run of the machine.
+use Rattle.std.proofs.Common.{◌≡◌, ◌≢◌, ℕ, ◌+◌, ◌-◌, ◌*◌, ◌/◌, ◌%◌, ◌^◌, ◌<◌, ◌≤◌, ◌==◌, nat_lt, Bool, true, false, ◌&&◌, if◌then◌else◌, List, [], ◌∷◌, Option, Some, None, refl, ap, sym, ◌∙◌, subst, arith}
+use Rattle.std.proofs.lemmas.Bool.{false≢true, eqb-true, eq-eqb, and_from}
+use Rattle.std.proofs.lemmas.Bool.Decides.{nat_tests}
+use Rattle.pas_profile.specs.Directories.{IsKind, kind_number, deed_word_of}
+use Rattle.pas_profile.specs.Lives.{live_word, is_live, turn_of}
+use Rattle.pas_profile.specs.Profiles.{IsValid, IsPage, IsDirectoryOf}
+use Rattle.pas_profile.specs.declared.profile.Profile.{Profile}
+use Rattle.pas_profile.specs.declared.directory.Directory.{Directory}
+use Rattle.pas_profile.specs.declared.directory.Kind.{Kind}
+use Rattle.pas_profile.specs.declared.directory.Kind.TheVariants.{Class, Bitfit, Shared, Large}
+use Rattle.pas_profile.specs.declared.name.Block.{Block}
+use Rattle.pas_profile.specs.declared.name.Name.{Name}
+use Rattle.pas_profile.specs.declared.word.Word.{Word}
+use Rattle.pas_profile.specs.declared.event.Event.{Event}
+use Rattle.pas_profile.specs.declared.event.Why.{Why}
+use Rattle.pas_machine.specs.Runs.{in_run, address_of, grain_of, length_of}
+use Rattle.pas_machine.specs.State.{Live, deed_in, backed_in, live_in, gives_in, ends_in}
+use Rattle.pas_machine.specs.Machine.{IsPlace, Bears, IsClear, IsLive, MayGive, IsReason, Admits, Run}
+use Rattle.pas_steps.specs.Effects.{life_word_at, target}
+use Rattle.pas_steps.specs.Views.{holds, epoch_of, known_deed}
+use Rattle.pas_steps.specs.Events.{event_of, with_event, reason_of}
+use Rattle.pas_steps.specs.Allowed.{Allowed, IsStepOf, IsBlockOf, KnowsBearing}
+use Rattle.pas_steps.specs.Lists.{Whole, word_after, part, visible, Legal}
+use Rattle.pas_steps.specs.declared.step.Step.{Step}
+use Rattle.pas_steps.specs.declared.step.Step.TheVariants.{Look, Deed, Back, Take, Put, Give, End, Stamp}
+use Rattle.pas_core.specs.Good.{word_of_deed, word_of_backed, IsLifeOf, IsLifeOfNone, IsLifeOfLive, AgreesWithWords}
+use Rattle.pas_core.proofs.Grains.{own_grain, some_grain, placed_once}
+use Rattle.pas_core.proofs.Knowledge.{deeds_known, known_is, backed_known}
+use Rattle.pas_core.proofs.Deeds.{deed_of, backed_of, directory_is_of, is_backed}
+use Rattle.pas_core.proofs.Lives.{life_is_known, block_of_word, turn_is, live_is_live, no_block, dead_while_held, life_of, bare_of, live_of}
+
+-- the machine that the visible events reach agrees with the words
+pub agrees : (f : Profile) (l : Whole) → IsValid f → Legal f l → AgreesWithWords f l
+agrees f l valid legal = record { deed = deed_of f l legal; backed = backed_of f l legal; life = life_of f l valid legal; bare = bare_of f l legal }
+
+-- ---- grains of a run
+pub in_run-true : (g n x : ℕ) → in_run g n x ≡ true → (g ≤ x) × (x < g + n)
+in_run-true g n x h = (grind (arith, nat_tests, h), grind (arith, nat_tests, h))
+
+not_true : (t : Bool) → (t ≡ true → ⊥) → t ≡ false
+not_true true h = absurd (h refl)
+not_true false h = refl
+
+page_of_run : (f : Profile) (address room x : ℕ) → 4096 ≤ address → address + room ≤ 4096 * (f.pages + 1) → address % 16 ≡ 0 → in_run (address / 16) (room / 16) x ≡ true → IsPage f (x / 256)
+page_of_run f address room x low high aligned run =
+    let both : (address / 16 ≤ x) × (x < address / 16 + room / 16) = in_run-true (address / 16) (room / 16) x run in
+    (omega (arith, both.0, low), omega (arith, both.1, high, aligned))
+
+-- ---- deeds and backed pages that are known are the machine's
+one_backed : (b : Bool) → 1 ≡ word_of_backed b → b ≡ true
+one_backed true h = refl
+one_backed false h = absurd (omega (arith, h))
+
+kind_small : (kind : Kind) → IsKind kind → kind_number kind < 23
+kind_small (Class class) h = omega (arith, h)
+kind_small Bitfit h = omega arith
+kind_small Shared h = omega arith
+kind_small Large h = omega arith
+
+no_deed : (o : Option Directory) → 0 ≡ word_of_deed o → o ≡ None
+no_deed None h = refl
+no_deed (Some e) h = absurd (omega (arith, h))
+
+some_deed : (o : Option Directory) → word_of_deed o ≢ 0 → o ≢ None
+some_deed o ne h = ne (ap word_of_deed h)
+
+-- the machine's directory, from a deed word that is known
+record HasDeed (f : Profile) (o : Option Directory) (heap : ℕ) : Type 0 where
+  directory : Directory
+  deed : o ≡ Some directory
+  of_heap : directory.heap ≡ heap
+
+deed_from : (f : Profile) (o : Option Directory) (d : Directory) → ((d' : Directory) → o ≡ Some d' → IsDirectoryOf f d') → IsDirectoryOf f d → deed_word_of d ≡ word_of_deed o → HasDeed f o d.heap
+deed_from f None d of is_of h = absurd (omega (arith, h))
+deed_from f (Some d') d of is_of h =
+    let one : kind_number d'.kind < 23 = kind_small d'.kind (of d' refl).kind in
+    let two : kind_number d.kind < 23 = kind_small d.kind is_of.kind in
+    record { directory = d'; deed = refl; of_heap = omega (arith, h, one, two) }
+
+bearing : (f : Profile) (l : Whole) → Legal f l → (k heap p : ℕ) → IsPage f p → KnowsBearing f (part k l) heap p → Bears f (visible l) heap p
+bearing f l legal k heap p page knows =
+    let some : known_deed (part k l) p ≢ 0 = λ z. absurd (omega (arith, sym knows.deed ∙ z)) in
+    let word : known_deed (part k l) p ≡ word_after l (Word.Deed p) = known_is (known_deed (part k l) p) (word_after l (Word.Deed p)) (deeds_known f l legal k p) some in
+    let has : HasDeed f (deed_in (visible l) p) knows.directory.heap = deed_from f (deed_in (visible l) p) knows.directory (directory_is_of f l legal p) knows.of_profile (sym knows.deed ∙ word ∙ deed_of f l legal p) in
+    record {
+      exists = page;
+      directory = has.directory;
+      deed = has.deed;
+      of_heap = has.of_heap ∙ knows.of_heap;
+      backed = one_backed (backed_in (visible l) p) (sym (backed_known f l legal k p knows.backed) ∙ backed_of f l legal p);
+    }
+
+-- no block lives where an actor holds the grains
+clear : (f : Profile) (l : Whole) → IsValid f → Legal f l → (k g n : ℕ) → ((x : ℕ) → in_run g n x ≡ true → holds (part k l) x ≡ true) → IsClear (visible l) g n
+clear f l valid legal k g n held address b live x run = not_true (in_run g n x) (λ here.
+    no_block f l k (address / 16) x b (gives_in (visible l) address) (ends_in (visible l) address) (placed_once f l valid legal x) (held x here) (live_of f l valid legal address b live) run)
+
+give_turn : (f : Profile) (g word : ℕ) (live : Option Live) (gives ends : ℕ) → IsLifeOf f g word live gives ends → live ≡ None → turn_of word ≡ gives
+give_turn f g word live gives ends h none =
+    let dead : IsLifeOfNone word gives ends = subst (λ v. IsLifeOf f g word v gives ends) none h in
+    turn_is f g word live gives ends h ∙ sym dead.gives_are
+
+-- ---- events of steps
+one_if : (z : Bool) (f : Profile) (e : Event) (es : List Event) → Run f es → (z ≡ true → Admits f es e) → Run f (with_event (if z then Some e else None) es)
+one_if true f e es run admits = (admits refl, run)
+one_if false f e es run admits = run
+
+reason : (x : Bool) (es : List Event) (name : Name) (turn : ℕ) → turn ≡ ends_in es (address_of name) → nat_lt name.turn turn ≡ x → (IsLive es name → ⊥) → IsReason es name (if x then Why.Ended else Why.NoBlock)
+reason true es name turn is e dead = let lt : name.turn < turn = grind (arith, nat_tests, e) in omega (arith, lt, is)
+reason false es name turn is e dead = let ge : turn ≤ name.turn = grind (arith, nat_tests, e) in (omega (arith, ge, is), dead)
+
+end_admits : (f : Profile) (z y : Bool) (k ep g a word guess : ℕ) (name : Name) (es : List Event) → Run f es → IsPlace f (address_of name) → a ≡ word → name.turn < 2 ^ 40 - 1
+    → IsLifeOf f g word (live_in es (address_of name)) (gives_in es (address_of name)) (ends_in es (address_of name)) → (a == live_word name.turn guess) ≡ z → (is_live a && (turn_of a == name.turn)) ≡ y
+    → Run f (with_event (if z then Some (Event.End k name ep) else (if y then None else Some (Event.Reject k name (reason_of name a)))) es)
+end_admits f true y k ep g a word guess name es run of is small life ze ye =
+    let found = block_of_word f g word (live_in es (address_of name)) (gives_in es (address_of name)) (ends_in es (address_of name)) name.turn guess life (omega (arith, small)) (sym is ∙ eqb-true a (live_word name.turn guess) ze) in
+    ((of, (found.0, found.1, found.2)), run)
+end_admits f false true k ep g a word guess name es run of is small life ze ye = run
+end_admits f false false k ep g a word guess name es run of is small life ze ye =
+    let turn : turn_of a ≡ ends_in es (address_of name) = ap turn_of is ∙ turn_is f g word (live_in es (address_of name)) (gives_in es (address_of name)) (ends_in es (address_of name)) life in (
+      (
+        of,
+        reason (nat_lt name.turn (turn_of a)) es name (turn_of a) turn refl
+            (λ live.
+            let here : IsLifeOfLive f g word live.0 (gives_in es (address_of name)) (ends_in es (address_of name)) = subst (λ v. IsLifeOf f g word v (gives_in es (address_of name)) (ends_in es (address_of name))) live.1 life in
+            false≢true (sym ye ∙ and_from (is_live a) (turn_of a == name.turn)
+            (ap is_live is ∙ live_is_live f g word live.0 (gives_in es (address_of name)) (ends_in es (address_of name)) here)
+            (eq-eqb (turn_of a) name.turn (turn ∙ sym here.turn ∙ live.2)))),
+      ),
+      run,
+    )
+
+-- the life word at an address
+pub life_at : (f : Profile) (l : Whole) → IsValid f → Legal f l → (address : ℕ) → address % 16 ≡ 0
+    → IsLifeOf f (address / 16) (word_after l (life_word_at (address / 16))) (live_in (visible l) address) (gives_in (visible l) address) (ends_in (visible l) address)
+life_at f l valid legal address aligned =
+    let e : 16 * (address / 16) ≡ address = omega (arith, aligned) in
+    subst (λ x. IsLifeOf f (address / 16) (word_after l (life_word_at (address / 16))) (live_in (visible l) x) (gives_in (visible l) x) (ends_in (visible l) x)) e (life_of f l valid legal (address / 16))
+
+give_admits : (f : Profile) (l : Whole) → IsValid f → Legal f l → (k : ℕ) (block : Block) → IsBlockOf f block → Allowed f (part k l) (Give block) → MayGive f (visible l) block
+give_admits f l valid legal k block of allowed =
+    let g : ℕ = grain_of block.name in
+    let life : IsLifeOf f (grain_of block.name) (word_after l (life_word_at (grain_of block.name))) (live_in (visible l) (address_of block.name)) (gives_in (visible l) (address_of block.name)) (ends_in (visible l) (address_of block.name))
+    = life_at f l valid legal (address_of block.name) allowed.aligned in
+    record {
+      aligned = allowed.aligned;
+      whole = allowed.whole;
+      some = allowed.some;
+      bears = λ x here. bearing f l legal k block.heap (x / 256) (page_of_run f (address_of block.name) block.room x of.first of.last allowed.aligned here) (allowed.bears x here);
+      clear = clear f l valid legal k (grain_of block.name) (length_of block) allowed.held;
+      turn = allowed.turn_is ∙ ap turn_of (life_is_known f l valid legal k (grain_of block.name) allowed.word allowed.known).1
+          ∙ give_turn f (grain_of block.name) (word_after l (life_word_at (grain_of block.name))) (live_in (visible l) (address_of block.name)) (gives_in (visible l) (address_of block.name)) (ends_in (visible l) (address_of block.name)) life
+          (dead_while_held f l k (grain_of block.name) (live_in (visible l) (address_of block.name)) (gives_in (visible l) (address_of block.name)) (ends_in (visible l) (address_of block.name)) (placed_once f l valid legal (grain_of block.name))
+          (allowed.held (grain_of block.name) (own_grain (grain_of block.name) (length_of block) (some_grain block.room allowed.whole allowed.some))) life);
+    }
+
+admits : (f : Profile) (l : Whole) → IsValid f → Legal f l → (k e : ℕ) (s : Step) (a : ℕ) → IsStepOf f s → Allowed f (part k l) s → a ≡ word_after l (target s) → Run f (visible l) → Run f (with_event (event_of k e s a) (visible l))
+admits f l valid legal k e (Look word) a of allowed is run = run
+admits f l valid legal k e (Deed q d) a of allowed is run = one_if (a == 0) f (Event.Deed k q d) (visible l) run (λ z. (of.0, of.1.heap, no_deed (deed_in (visible l) q) (sym (eqb-true a 0 z) ∙ is ∙ deed_of f l legal q)))
+admits f l valid legal k e (Back q) a of allowed is run = one_if (a == 0) f (Event.Back k q) (visible l) run (λ z. (
+  of,
+  some_deed (deed_in (visible l) q) (λ none. allowed.1 (known_is (known_deed (part k l) q) (word_after l (Word.Deed q)) (deeds_known f l legal k q) allowed.1 ∙ deed_of f l legal q ∙ none)),
+  is_backed true (backed_in (visible l) q) a (is ∙ backed_of f l legal q) z,
+))
+admits f l valid legal k e (Take q word mask) a of allowed is run = run
+admits f l valid legal k e (Put q word mask) a of allowed is run = run
+admits f l valid legal k e (Give block) a of allowed is run = (give_admits f l valid legal k block of allowed, run)
+admits f l valid legal k e (End name guess) a of allowed is run =
+    end_admits f (a == live_word name.turn guess) (is_live a && (turn_of a == name.turn)) k e (grain_of name) a (word_after l (life_word_at (grain_of name))) guess name (visible l) run (of.0, of.1) is of.2 (life_at f l valid legal (address_of name) of.1) refl refl
+admits f l valid legal k e (Stamp q) a of allowed is run = run
+
+-- the visible events of every legal list are a run of the machine
+pub runs : (f : Profile) (l : Whole) → IsValid f → Legal f l → Run f (visible l)
+runs f [] valid legal = tt
+runs f (t ∷ l) valid legal = admits f l valid legal.1 t.actor (epoch_of (part t.actor l)) t.made.step t.made.answer legal.0.of_region legal.0.allowed legal.0.answer_is (runs f l valid legal.1)

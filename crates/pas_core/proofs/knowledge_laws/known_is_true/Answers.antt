@@ -1,0 +1,24 @@
+use Rattle.std.proofs.Common.{sym}
+use Rattle.pas_profile.specs.declared.word.Word.TheVariants as Word
+use Rattle.pas_steps.specs.Views.{known_deed}
+use Rattle.pas_steps.specs.Lists.{part, word_after}
+use Rattle.pas_core.proofs.Knowledge.{known_is, deeds_known, backed_known}
+use Rattle.pas_core.proofs.Rights.{free_known}
+use Rattle.pas_core.proofs.Lives.{life_is_known}
+use Rattle.pas_core.proofs.Epochs.{epoch_known}
+use Rattle.pas_core.proofs.knowledge_laws.known_is_true.Goals as goal
+
+pub returns-clause-deed : goal.returns-clause-deed
+returns-clause-deed c = λ f l legal k p ne. sym (known_is (known_deed (part k l) p) (word_after l (Word.Deed p)) (deeds_known f l legal k p) ne)
+
+pub returns-clause-backed : goal.returns-clause-backed
+returns-clause-backed c = backed_known
+
+pub returns-clause-free : goal.returns-clause-free
+returns-clause-free c = free_known
+
+pub returns-clause-life : goal.returns-clause-life
+returns-clause-life c = λ f l valid legal k g w h. sym (life_is_known f l valid legal k g w h).1
+
+pub returns-clause-epoch : goal.returns-clause-epoch
+returns-clause-epoch c = epoch_known

@@ -1,0 +1,37 @@
+//! What an actor may rely on after every legal list of steps, whoever made them. Each law is the contract of an empty function.
+ghost use Rattle.std.specs.Prelude.{ℕ, ◌≡◌, ◌≢◌, ◌≤◌, ◌/◌, ◌%◌, true, Some};
+ghost use Rattle.pas_profile.specs.Classes.{has_bit};
+ghost use Rattle.pas_profile.specs.Profiles.{IsValid};
+ghost use Rattle.pas_profile.specs.declared.profile.Profile.{Profile};
+ghost use Rattle.pas_profile.specs.declared.word.Word.TheVariants as Word;
+ghost use Rattle.pas_steps.specs.Effects.{free_word_at, life_word_at};
+ghost use Rattle.pas_steps.specs.Views.{has_right, known_deed, known_free, knows_backed, known_life, epoch_of};
+ghost use Rattle.pas_steps.specs.Lists.{Triple, Whole, part, word_after, IsNext, Legal};
+ghost use Rattle.pas_steps.specs.Agreement.{Agrees};
+
+/// The answer of a step that may come next agrees with what its actor holds and knows: a word that is known is read again, a grain
+/// that is held isn't free and no block lives at it, and each word has only values of its kind.
+pub fn answers_agree()
+    ensures { (f : Profile) (l : Whole) → IsValid f → Legal f l → (t : Triple) → IsNext f l t → Agrees f (part t.actor l) t.made.step t.made.answer }
+{}
+
+/// At most one actor has the right of a page, and only where the page has a deed.
+pub fn one_right()
+    ensures one { (f : Profile) (l : Whole) → Legal f l → (j k page : ℕ) → has_right (part j l) page ≡ true → has_right (part k l) page ≡ true → j ≡ k }
+    ensures deed { (f : Profile) (l : Whole) → Legal f l → (k page : ℕ) → has_right (part k l) page ≡ true → word_after l (Word.Deed page) ≢ 0 }
+{}
+
+/// What an actor knows is so now, whatever the others did since: the deed of a page, that a page is backed, that a grain is free, and
+/// the life word of a grain. The epoch is at least the one that it read.
+pub fn known_is_true()
+    ensures deed { (f : Profile) (l : Whole) → Legal f l → (k page : ℕ) → known_deed (part k l) page ≢ 0 → word_after l (Word.Deed page) ≡ known_deed (part k l) page }
+    ensures backed { (f : Profile) (l : Whole) → Legal f l → (k page : ℕ) → knows_backed (part k l) page ≡ true → word_after l (Word.Backed page) ≡ 1 }
+    ensures free { (f : Profile) (l : Whole) → Legal f l → (k g : ℕ) → known_free (part k l) g ≡ true → has_bit (word_after l (free_word_at g)) (g % 64) ≡ true }
+    ensures life { (f : Profile) (l : Whole) → IsValid f → Legal f l → (k g w : ℕ) → known_life (part k l) g ≡ Some w → word_after l (life_word_at g) ≡ w }
+    ensures epoch { (f : Profile) (l : Whole) → Legal f l → (k : ℕ) → epoch_of (part k l) ≤ word_after l Word.Epoch }
+{}
+
+/// Each grain of a page without a deed is free.
+pub fn untouched()
+    ensures { (f : Profile) (l : Whole) → Legal f l → (g : ℕ) → word_after l (Word.Deed (g / 256)) ≡ 0 → has_bit (word_after l (free_word_at g)) (g % 64) ≡ true }
+{}

@@ -1,0 +1,5 @@
+//! Laws over every legal list of steps, of any actors.
+#![tactic(auto)]
+
+pub mod knowledge_laws;
+pub mod laws;
