@@ -2,22 +2,10 @@
 use Rattle.std.specs.Prelude.{ℕ, ◌-◌, ◌^◌, ◌==◌, nat_lt, nat_le, Bool, true, false, ◌&&◌, if◌then◌else◌, List, [], ◌∷◌, Option, None, Some, codes, Result, Ok, Err}
 use Rattle.pas_trace.specs.Texts.{words_of}
 use Rattle.pas_trace.specs.Numbers.{number_of, address_of_word}
+use Rattle.pas_trace.specs.declared.item.Item.{Item}
+use Rattle.pas_trace.specs.declared.item.Item.TheVariants.{Blank, Shares, NextPhase, Allocates, Frees, FreesRaw, Flushes, Stops, Ticks, Passes, Idles}
 use Rattle.pas_trace.specs.declared.fault.Reason.{Reason}
 use Rattle.pas_trace.specs.declared.fault.Reason.TheVariants as Reason
-
--- what a line from the second on says
-pub data Item : Type 0 where
-  Blank : Item                                              -- a line without a word, or a comment
-  Shares : ℕ → Item                                         -- this heap is shared
-  NextPhase : Item
-  Allocates : (thread name heap size align : ℕ) → Item
-  Frees : (thread name : ℕ) → Item
-  FreesRaw : (thread address turn : ℕ) → Item
-  Flushes : ℕ → Item
-  Stops : ℕ → Item
-  Ticks : ℕ → Item
-  Passes : Item
-  Idles : ℕ → Item
 
 -- two words are the same bytes
 abbrev pub same_bytes : List ℕ → List ℕ → Bool

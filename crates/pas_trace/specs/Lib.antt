@@ -3,3 +3,4 @@ pub mod Numbers
 pub mod Items
 pub mod Reasons
 pub mod Plans
+pub mod Told

@@ -3,7 +3,8 @@ use Rattle.std.specs.Prelude.{ℕ, zero, suc, ◌+◌, ◌*◌, ◌^◌, ◌≡�
 use Rattle.pas_profile.specs.declared.profile.Profile.{Profile}
 use Rattle.pas_profile.specs.declared.name.Name.{Name}
 use Rattle.pas_trace.specs.Texts.{lines_of}
-use Rattle.pas_trace.specs.Items.{Item, Blank, Shares, NextPhase, Allocates, Frees, FreesRaw, Flushes, Stops, Ticks, Passes, Idles}
+use Rattle.pas_trace.specs.declared.item.Item.{Item}
+use Rattle.pas_trace.specs.declared.item.Item.TheVariants.{Blank, Shares, NextPhase, Allocates, Frees, FreesRaw, Flushes, Stops, Ticks, Passes, Idles}
 use Rattle.pas_trace.specs.Reasons.{header_of, line_says, actor_of, cost_of, record_bound}
 use Rattle.pas_trace.specs.declared.fault.Reason.{Reason}
 use Rattle.pas_trace.specs.declared.fault.Reason.TheVariants as Reason
@@ -12,6 +13,8 @@ use Rattle.pas_trace.specs.declared.plan.What.{What}
 use Rattle.pas_trace.specs.declared.plan.What.TheVariants.{Alloc, Free, Raw, Flush, Stop, Tick, Pass, Idle}
 use Rattle.pas_trace.specs.declared.plan.Op.{Op}
 use Rattle.pas_trace.specs.declared.plan.Phase.{Phase}
+use Rattle.pas_trace.specs.declared.plan.Phases.{Phases}
+use Rattle.pas_trace.specs.declared.plan.Bounds.{Bounds}
 use Rattle.pas_trace.specs.declared.plan.Plan.{Plan}
 
 -- ---- the text, line by line: the items in order, or the fault of the lowest faulty line. `earlier` has the items before, the newest first
@@ -134,12 +137,19 @@ bounds_upto f items (suc n) = bounds_upto f items n ++ bound_of f items n ∷ []
 abbrev pub ops_of : Phase → List Op
 ops_of phase = phase.ops.items
 
+-- the phases and the bounds as lists
+abbrev pub phases_of : Phases → List Phase
+phases_of phases = phases.phases.items
+
+abbrev pub bounds_of : Bounds → List ℕ
+bounds_of bounds = bounds.bounds.items
+
 -- The plan is that of the text: its region, its phases, its bounds and its total.
 pub record IsPlanOf (text : List ℕ) (plan : Plan) : Type 0 where
   pub items : List Item
   pub header : Profile
   pub read : parsed text ≡ Ok (record { header = header; items = items })
   pub profile : plan.profile ≡ record header { shared = shared_in items }
-  pub phases : map ops_of plan.phases.phases.items ≡ phases_in items
-  pub bounds : plan.bounds.bounds.items ≡ bounds_upto header items (header.threads + 1)
+  pub phases : map ops_of (phases_of plan.phases) ≡ phases_in items
+  pub bounds : bounds_of plan.bounds ≡ bounds_upto header items (header.threads + 1)
   pub total : plan.total ≡ record_bound header items

@@ -6,7 +6,9 @@ use Rattle.pas_profile.specs.declared.directory.Route.TheVariants as Route
 use Rattle.pas_profile.specs.Routes.{route_of}
 use Rattle.pas_trace.specs.Texts.{lines_of, words_of}
 use Rattle.pas_trace.specs.Numbers.{number_of}
-use Rattle.pas_trace.specs.Items.{Item, Blank, Shares, NextPhase, Allocates, Frees, FreesRaw, Flushes, Stops, Ticks, Passes, Idles, same_bytes, item_of_line}
+use Rattle.pas_trace.specs.declared.item.Item.{Item}
+use Rattle.pas_trace.specs.declared.item.Item.TheVariants.{Blank, Shares, NextPhase, Allocates, Frees, FreesRaw, Flushes, Stops, Ticks, Passes, Idles}
+use Rattle.pas_trace.specs.Items.{same_bytes, item_of_line}
 use Rattle.pas_trace.specs.declared.fault.Reason.{Reason}
 use Rattle.pas_trace.specs.declared.fault.Reason.TheVariants as Reason
 

@@ -26,19 +26,19 @@ pub struct Op {
 /// The operations of one phase, in the order of the text.
 #[derive(Drop)]
 pub struct Phase {
-    ops: Vec<Op>,
+    pub(crate) ops: Vec<Op>,
 }
 
 /// The phases of a trace, one at least. A phase may be empty.
 #[derive(Drop)]
 pub struct Phases {
-    phases: Vec<Phase>,
+    pub(crate) phases: Vec<Phase>,
 }
 
 /// How many records each actor's operations may make, by actor.
 #[derive(Drop)]
 pub struct Bounds {
-    bounds: Vec<u32>,
+    pub(crate) bounds: Vec<u32>,
 }
 
 /// The plan of a trace. `total` bounds the records of all actors.
@@ -48,4 +48,40 @@ pub struct Plan {
     pub phases: Phases,
     pub bounds: Bounds,
     pub total: u32,
+}
+
+impl Phase {
+    ghost use Rattle.std.specs.Prelude.{◌≡◌};
+    ghost use Rattle.pas_trace.specs.Plans.{ops_of};
+
+    /// The operations, in order.
+    pub fn as_slice(&self) -> &[Op]
+        ensures { result.now ≡ ops_of self.now }
+    {
+        &self.ops
+    }
+}
+
+impl Phases {
+    ghost use Rattle.std.specs.Prelude.{◌≡◌};
+    ghost use Rattle.pas_trace.specs.Plans.{phases_of};
+
+    /// The phases, in order.
+    pub fn as_slice(&self) -> &[Phase]
+        ensures { result.now ≡ phases_of self.now }
+    {
+        &self.phases
+    }
+}
+
+impl Bounds {
+    ghost use Rattle.std.specs.Prelude.{◌≡◌};
+    ghost use Rattle.pas_trace.specs.Plans.{bounds_of};
+
+    /// The bounds, by actor.
+    pub fn as_slice(&self) -> &[u32]
+        ensures { result.now ≡ bounds_of self.now }
+    {
+        &self.bounds
+    }
 }
