@@ -9,6 +9,8 @@ use Rattle.pas_trace.specs.Reasons.{header_of, line_says, actor_of, cost_of, rec
 use Rattle.pas_trace.specs.declared.fault.Reason.{Reason}
 use Rattle.pas_trace.specs.declared.fault.Reason.TheVariants as Reason
 use Rattle.pas_trace.specs.declared.fault.TraceFault.{TraceFault}
+use Rattle.pas_trace.specs.declared.fault.ReadFault.{ReadFault}
+use Rattle.pas_trace.specs.declared.fault.ReadFault.TheVariants.{Trace, NoMemory}
 use Rattle.pas_trace.specs.declared.plan.What.{What}
 use Rattle.pas_trace.specs.declared.plan.What.TheVariants.{Alloc, Free, Raw, Flush, Stop, Tick, Pass, Idle}
 use Rattle.pas_trace.specs.declared.plan.Op.{Op}
@@ -153,3 +155,9 @@ pub record IsPlanOf (text : List ℕ) (plan : Plan) : Type 0 where
   pub phases : map ops_of (phases_of plan.phases) ≡ phases_in items
   pub bounds : bounds_of plan.bounds ≡ bounds_upto header items (header.threads + 1)
   pub total : plan.total ≡ record_bound header items
+
+-- The answer of the reader: the plan of the text, or its first fault. Nothing is said where memory ran out.
+abbrev pub IsReading : List ℕ → Result Plan ReadFault → Type 0
+IsReading text (Ok plan) = IsPlanOf text plan
+IsReading text (Err (Trace fault)) = parsed text ≡ Err fault
+IsReading text (Err NoMemory) = Unit {0}

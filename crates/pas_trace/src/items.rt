@@ -1,5 +1,6 @@
 //! From a line to what it says.
-ghost use Rattle.std.specs.Prelude.{◌≡◌, ℕ, Option, Some, None, MatchResult};
+ghost use Rattle.std.specs.Prelude.{◌≡◌, ℕ, Option, Some, None, ◌≤◌, ◌<◌, ◌^◌, IfOk, MatchResult};
+ghost use Rattle.pas_trace.specs.Told.{IsRanged};
 ghost use Rattle.pas_trace.specs.Items.{plain, trace_name, epoch_word, turn_word, item_of_one, item_of_two, item_of_three, item_of_four, item_of_six, item_of_words, item_of_line};
 ghost use Rattle.pas_trace.specs.Numbers.{address_of_word};
 ghost use Rattle.pas_trace.specs.Texts.{words_of};
@@ -26,7 +27,8 @@ fn number_at(word: &[u8]) -> Result<u64, Reason>
 /// The trace name that a place holds, from 1 to 1,000,000.
 #[inline]
 fn name_at(word: &[u8]) -> Result<u64, Reason>
-    ensures { MatchResult result (λ n. trace_name word.now ≡ Some n) (λ r. (trace_name word.now ≡ None) × (r ≡ Reason.BadNumber)) }
+    ensures small { IfOk result (λ n. n ≤ 1000000) }
+    ensures value { MatchResult result (λ n. trace_name word.now ≡ Some n) (λ r. (trace_name word.now ≡ None) × (r ≡ Reason.BadNumber)) }
 {
     match number(word) {
         Some(value) if value >= 1 && value <= MOST_NAME => Ok(value),
@@ -58,14 +60,16 @@ fn turn_at(word: &[u8]) -> Result<u64, Reason>
 
 /// The address that a place holds.
 fn address_at(word: &[u8]) -> Result<u64, Reason>
-    ensures { MatchResult result (λ n. address_of_word word.now ≡ Some n) (λ r. (address_of_word word.now ≡ None) × (r ≡ Reason.BadNumber)) }
+    ensures small { IfOk result (λ n. n < 2 ^ 32) }
+    ensures value { MatchResult result (λ n. address_of_word word.now ≡ Some n) (λ r. (address_of_word word.now ≡ None) × (r ≡ Reason.BadNumber)) }
 {
     address(word).ok_or(Reason::BadNumber)
 }
 
 /// What a line of one word says.
 fn item_of_one_word(word: &[u8]) -> Result<Item, Reason>
-    ensures { result ≡ item_of_one word.now }
+    ensures value { result ≡ item_of_one word.now }
+    ensures ranged { IfOk result IsRanged }
 {
     if is_word(word, b"pass") {
         Ok(Item::Passes)
@@ -78,7 +82,8 @@ fn item_of_one_word(word: &[u8]) -> Result<Item, Reason>
 
 /// What a line of two words says. A `shared` line may not follow an operation or a `phase` line.
 fn item_of_two_words(started: bool, word: &[u8], a: &[u8]) -> Result<Item, Reason>
-    ensures { result ≡ item_of_two started word.now a.now }
+    ensures value { result ≡ item_of_two started word.now a.now }
+    ensures ranged { IfOk result IsRanged }
 {
     if is_word(word, b"shared") {
         if started {
@@ -101,7 +106,8 @@ fn item_of_two_words(started: bool, word: &[u8], a: &[u8]) -> Result<Item, Reaso
 /// What a line of three words says.
 #[inline]
 fn item_of_three_words(word: &[u8], a: &[u8], b: &[u8]) -> Result<Item, Reason>
-    ensures { result ≡ item_of_three word.now a.now b.now }
+    ensures value { result ≡ item_of_three word.now a.now b.now }
+    ensures ranged { IfOk result IsRanged }
 {
     if !is_word(word, b"f") {
         return Err(Reason::BadWord);
@@ -113,7 +119,8 @@ fn item_of_three_words(word: &[u8], a: &[u8], b: &[u8]) -> Result<Item, Reason>
 
 /// What a line of four words says.
 fn item_of_four_words(word: &[u8], a: &[u8], b: &[u8], c: &[u8]) -> Result<Item, Reason>
-    ensures { result ≡ item_of_four word.now a.now b.now c.now }
+    ensures value { result ≡ item_of_four word.now a.now b.now c.now }
+    ensures ranged { IfOk result IsRanged }
 {
     if !is_word(word, b"r") {
         return Err(Reason::BadWord);
@@ -138,7 +145,8 @@ fn item_of_six_words(
     d: &[u8],
     e: &[u8],
 ) -> Result<Item, Reason>
-    ensures { result ≡ item_of_six word.now a.now b.now c.now d.now e.now }
+    ensures value { result ≡ item_of_six word.now a.now b.now c.now d.now e.now }
+    ensures ranged { IfOk result IsRanged }
 {
     if !is_word(word, b"a") {
         return Err(Reason::BadWord);
@@ -160,7 +168,8 @@ fn item_of_six_words(
 /// What the words of a line say: their number and the first of them choose the kind.
 #[inline]
 fn item_of_words(started: bool, line: &[u8]) -> Result<Item, Reason>
-    ensures { result ≡ item_of_words started (words_of line.now) }
+    ensures value { result ≡ item_of_words started (words_of line.now) }
+    ensures ranged { IfOk result IsRanged }
 {
     let Some((word, rest)) = next_word(line) else {
         return Ok(Item::Blank);
@@ -190,7 +199,8 @@ fn item_of_words(started: bool, line: &[u8]) -> Result<Item, Reason>
 /// before. One pass.
 #[inline]
 pub fn read_item(started: bool, line: &[u8]) -> Result<Item, Reason>
-    ensures { result ≡ item_of_line started line.now }
+    ensures value { result ≡ item_of_line started line.now }
+    ensures ranged { IfOk result IsRanged }
 {
     if !line.is_empty() && line[0] == b'#' {
         return Ok(Item::Blank);

@@ -1,5 +1,5 @@
 //! Numbers and addresses, from words.
-ghost use Rattle.std.specs.Prelude.{◌≡◌, ◌<◌, ◌^◌, ◌&&◌, nat_lt, if◌then◌else◌, Some, None, length};
+ghost use Rattle.std.specs.Prelude.{◌≡◌, ◌<◌, ◌^◌, ◌&&◌, nat_lt, if◌then◌else◌, Some, None, IfSome, length};
 ghost use Rattle.pas_trace.specs.Numbers.{number_of, address_of_word, all_digits, value_from, all_hex, hex_from, is_hex, hex_value};
 
 /// The value of decimal digits. None where a byte is no digit, or the value is 2^64 or more.
@@ -47,7 +47,8 @@ fn digit_value(byte: u8) -> Option<u64>
 /// The value of eight hexadecimal digits. None where a byte is no such digit.
 fn value_of_hex(digits: &[u8]) -> Option<u64>
     requires { length digits.now ≡ 8 }
-    ensures { result ≡ (if all_hex digits.now then Some (hex_from 0 digits.now) else None) }
+    ensures small { IfSome result (λ n. n < 2 ^ 32) }
+    ensures value { result ≡ (if all_hex digits.now then Some (hex_from 0 digits.now) else None) }
 {
     let mut value: u64 = 0;
     for byte in digits {
@@ -61,7 +62,8 @@ fn value_of_hex(digits: &[u8]) -> Option<u64>
 
 /// The address that a word is: `0x` and eight lower-case hexadecimal digits. None for any other word.
 pub fn address(word: &[u8]) -> Option<u64>
-    ensures { result ≡ address_of_word word.now }
+    ensures value { result ≡ address_of_word word.now }
+    ensures small { IfSome result (λ n. n < 2 ^ 32) }
 {
     if word.len() != 10 || word[0] != b'0' || word[1] != b'x' {
         return None;

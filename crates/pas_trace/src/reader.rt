@@ -1,6 +1,10 @@
 //! The reader: what it keeps of the lines before, and how it takes a line.
-ghost use Rattle.std.specs.Prelude.{◌≡◌, ◌<◌, ◌≤◌, ◌+◌, ℕ, List, OnOk, IfOk, MatchResult, length};
-ghost use Rattle.pas_trace.specs.Reasons.{line_says, reason_of, cost_of};
+ghost use Rattle.std.specs.Prelude.{◌≡◌, ◌<◌, ◌≤◌, ◌+◌, ◌∷◌, ◌^◌, [], ℕ, List, Some, None, Ok, Err, OnOk, IfOk, MatchResult, length, slice_index};
+ghost use Rattle.pas_trace.specs.Reasons.{line_says, reason_of, cost_of, started};
+ghost use Rattle.pas_trace.specs.Items.{item_of_line};
+ghost use Rattle.pas_trace.specs.Plans.{IsReading, bounds_of, bounds_upto};
+ghost use Rattle.pas_trace.specs.Told.{IsHeader, IsRanged, Tells, IsOperated, IsNextPhase, IsTaken, IsRead, IsPlanned, told_checks};
+ghost use Rattle.pas_trace.specs.declared.item.Item.{Item};
 
 use crate::counts::Counts;
 use crate::fault::{ReadFault, Reason, TraceFault};
@@ -35,6 +39,9 @@ pub struct Reader {
 impl Reader {
     /// A reader that has read the header.
     fn new(alloc: Global, header: Profile) -> Reader
+        requires { IsHeader header }
+        ensures tells { Tells result [] }
+        ensures header { result.header ≡ header }
     {
         Reader {
             alloc,
@@ -52,6 +59,11 @@ impl Reader {
     /// Adds an operation of the line.
     #[inline]
     fn operate(&mut self, actor: u8, what: What, cost: u32) -> Result<(), AllocError>
+        requires actor { actor < 17 }
+        requires few { self.old.counts.operations < 1000000 }
+        requires small { self.old.counts.bound + cost ≤ 2000000 }
+        requires within { (k : ℕ) → slice_index self.old.counts.costs k ≤ self.old.counts.bound }
+        ensures { OnOk result (IsOperated self.old self.new actor what cost) }
     {
         self.started = true;
         self.counts.add(actor, cost);
@@ -59,17 +71,10 @@ impl Reader {
         self.gathered.add(Op { line, actor, what })
     }
 
-    /// Adds an allocation of the line.
-    #[inline]
-    fn allocate(&mut self, thread: u8, name: u32, heap: u8, size: u32, align: u32, cost: u32) -> Result<(), AllocError>
-    {
-        let phase = self.phase;
-        self.names.give(name as u64, Owner { thread, phase })?;
-        self.operate(thread, What::Alloc { name, heap, size, align }, cost)
-    }
-
     /// Begins the next phase.
     fn next_phase(&mut self) -> Result<(), AllocError>
+        requires { self.old.phase < 2 ^ 25 }
+        ensures { OnOk result (IsNextPhase self.old self.new) }
     {
         self.started = true;
         self.phase += 1;
@@ -80,6 +85,13 @@ impl Reader {
     /// Adds an item that passed its checks.
     #[inline]
     fn add(&mut self, item: Item, cost: u32) -> Result<(), AllocError>
+        requires tells { (items : List Item) × Tells self.old items × (reason_of self.old.header items item ≡ None) }
+        requires ranged { IsRanged item }
+        requires cost { cost ≡ cost_of self.old.header item }
+        requires line { self.old.line < 2 ^ 25 }
+        ensures told { OnOk result ((items : List Item) → Tells self.old items → reason_of self.old.header items item ≡ None → Tells self.new (item ∷ items)) }
+        ensures header { self.new.header ≡ self.old.header }
+        ensures line { self.new.line ≡ self.old.line + 1 }
     {
         self.line += 1;
         match item {
@@ -90,7 +102,10 @@ impl Reader {
                 Ok(())
             }
             Item::Allocates { thread, name, heap, size, align } => {
-                self.allocate(thread as u8, name as u32, heap as u8, size as u32, align as u32, cost)
+                let owner = Owner { thread: thread as u8, phase: self.phase };
+                self.names.give(name, owner)?;
+                let what = What::Alloc { name: name as u32, heap: heap as u8, size: size as u32, align: align as u32 };
+                self.operate(thread as u8, what, cost)
             }
             Item::Frees { thread, name } => {
                 self.operate(thread as u8, What::Free { name: name as u32 }, cost)
@@ -110,6 +125,8 @@ impl Reader {
     /// What a line says after the lines before, with its cost; or the first reason that applies.
     #[inline]
     fn says(&self, line: &[u8]) -> Result<(Item, u32), Reason>
+        requires { IsHeader self.now.header }
+        ensures { (items : List Item) → Tells self.now items → MatchResult result (λ p. (line_says self.now.header items line.now ≡ Ok p.0) × (reason_of self.now.header items p.0 ≡ None) × IsRanged p.0 × (p.1 ≡ cost_of self.now.header p.0)) (λ r. line_says self.now.header items line.now ≡ Err r) }
     {
         let item = read_item(self.started, line)?;
         let cost = self.check(item)?;
@@ -119,6 +136,9 @@ impl Reader {
     /// Reads a line.
     #[inline]
     fn take(&mut self, line: &[u8]) -> Result<(), ReadFault>
+        requires tells { (items : List Item) × Tells self.old items }
+        requires line { self.old.line < 2 ^ 25 }
+        ensures { (items : List Item) → Tells self.old items → IsTaken self.old items line.now self.new result }
     {
         match self.says(line) {
             Ok((item, cost)) => match self.add(item, cost) {
@@ -131,6 +151,9 @@ impl Reader {
 
     /// Reads the lines of a text.
     fn read_lines(&mut self, text: &[u8]) -> Result<(), ReadFault>
+        requires tells { (items : List Item) × Tells self.old items }
+        requires size { self.old.line + length text.now ≤ 2 ^ 24 + 1 }
+        ensures { (items : List Item) → Tells self.old items → IsRead self.old items text.now self.new result }
     {
         let mut rest = text;
         while let Some((line, after)) = next_line(rest) {
@@ -142,6 +165,8 @@ impl Reader {
 
     /// The bounds of the actors: for a thread a deed for each page and its costs, for the scavenger its costs.
     fn bounds(&self) -> Result<Bounds, AllocError>
+        requires { (items : List Item) × Tells self.now items }
+        ensures { IfOk result (λ bounds. (items : List Item) → Tells self.now items → bounds_of bounds ≡ bounds_upto self.now.header items (self.now.header.threads + 1)) }
     {
         let mut bounds = Vec::new(self.alloc);
         for actor in 0..self.header.threads as usize + 1 {
@@ -153,6 +178,8 @@ impl Reader {
 
     /// The plan of the lines.
     fn finish(self) -> Result<Plan, AllocError>
+        requires { (items : List Item) × Tells self items }
+        ensures { IfOk result (λ plan. (items : List Item) → Tells self items → IsPlanned self.header items plan) }
     {
         let bounds = self.bounds()?;
         let Reader { header, shared, counts, gathered, .. } = self;
@@ -171,6 +198,8 @@ const NO_HEADER: ReadFault = ReadFault::Trace(TraceFault { line: 1, reason: Reas
 /// The plan of a text of at most 16 MiB, or the fault of its lowest faulty line. NoMemory only where an allocation fails.
 /// One pass over the bytes, in linear time.
 pub fn read_trace(alloc: Global, text: &[u8]) -> Result<Plan, ReadFault>
+    requires { length text.now ≤ 16777216 }
+    ensures { IsReading text.now result }
 {
     let Some((line, rest)) = next_line(text) else {
         return Err(NO_HEADER);
