@@ -1,2 +1,5 @@
 pub mod Splits
 pub mod Digits
+pub mod Gathering
+pub mod Checking
+pub mod Headers

@@ -1,7 +1,7 @@
 -- What the reader keeps of the lines that it has read.
 use Rattle.std.specs.Prelude.{ℕ, zero, ◌+◌, ◌*◌, ◌^◌, ◌==◌, ◌≡◌, ◌≤◌, ◌<◌, nat_lt, nat_le, Bool, true, not, ◌&&◌, ◌||◌, List, [], ◌∷◌, ◌++◌, map, Option, None, Some, Result, Ok, Err, slice_index, slice_index_or, slice_set}
 use Rattle.pas_profile.specs.declared.profile.Profile.{Profile}
-use Rattle.pas_trace.specs.Reasons.{first_failed, is_thread, is_alignment, cost_of, started, operations_in, is_named, is_named_now, thread_of, record_bound, line_says}
+use Rattle.pas_trace.specs.Reasons.{first_failed, is_thread, is_alignment, cost_of, started, operations_in, is_named, is_named_now, thread_of, record_bound, line_says, reason_of}
 use Rattle.pas_trace.specs.declared.fault.Reason.{Reason}
 use Rattle.pas_trace.specs.declared.fault.Reason.TheVariants as Reason
 use Rattle.pas_trace.specs.declared.item.Item.{Item}
@@ -127,6 +127,12 @@ pub record IsNextPhase (old new : Reader) : Type 0 where
   pub names : (n : ℕ) → owner_in new.names n ≡ owner_in old.names n
   pub counts : new.counts ≡ old.counts
   pub phases : gathered_phases new.gathered ≡ gathered_phases old.gathered ++ [] ∷ []
+
+-- an item was added
+pub record IsAdded (old new : Reader) (item : Item) : Type 0 where
+  pub header : new.header ≡ old.header
+  pub line : new.line ≡ old.line + 1
+  pub tells : (items : List Item) → Tells old items → reason_of old.header items item ≡ None → Tells new (item ∷ items)
 
 -- the next line was taken after these items, or has this fault
 abbrev pub IsTaken : Reader → List Item → List ℕ → Reader → Result (Unit {0}) ReadFault → Type 0

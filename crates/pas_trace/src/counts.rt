@@ -39,7 +39,7 @@ impl Counts {
         requires actor { actor < 17 }
         requires few { self.old.operations < 1000000 }
         requires small { self.old.bound + cost ≤ 2000000 }
-        requires within { (k : ℕ) → slice_index self.old.costs k ≤ self.old.bound }
+        requires within { slice_index self.old.costs actor ≤ self.old.bound }
         ensures operations { self.new.operations ≡ self.old.operations + 1 }
         ensures bound { self.new.bound ≡ self.old.bound + cost }
         ensures costs { self.new.costs ≡ slice_set self.old.costs actor (slice_index self.old.costs actor + cost) }

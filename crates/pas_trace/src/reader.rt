@@ -3,7 +3,7 @@ ghost use Rattle.std.specs.Prelude.{◌≡◌, ◌<◌, ◌≤◌, ◌+◌, ◌�
 ghost use Rattle.pas_trace.specs.Reasons.{line_says, reason_of, cost_of, started};
 ghost use Rattle.pas_trace.specs.Items.{item_of_line};
 ghost use Rattle.pas_trace.specs.Plans.{IsReading, bounds_of, bounds_upto};
-ghost use Rattle.pas_trace.specs.Told.{IsHeader, IsRanged, Tells, IsOperated, IsNextPhase, IsTaken, IsRead, IsPlanned, told_checks};
+ghost use Rattle.pas_trace.specs.Told.{IsHeader, IsRanged, Tells, IsOperated, IsNextPhase, IsAdded, IsTaken, IsRead, IsPlanned, told_checks};
 ghost use Rattle.pas_trace.specs.declared.item.Item.{Item};
 
 use crate::counts::Counts;
@@ -62,7 +62,7 @@ impl Reader {
         requires actor { actor < 17 }
         requires few { self.old.counts.operations < 1000000 }
         requires small { self.old.counts.bound + cost ≤ 2000000 }
-        requires within { (k : ℕ) → slice_index self.old.counts.costs k ≤ self.old.counts.bound }
+        requires within { slice_index self.old.counts.costs actor ≤ self.old.counts.bound }
         ensures { OnOk result (IsOperated self.old self.new actor what cost) }
     {
         self.started = true;
@@ -89,9 +89,7 @@ impl Reader {
         requires ranged { IsRanged item }
         requires cost { cost ≡ cost_of self.old.header item }
         requires line { self.old.line < 2 ^ 25 }
-        ensures told { OnOk result ((items : List Item) → Tells self.old items → reason_of self.old.header items item ≡ None → Tells self.new (item ∷ items)) }
-        ensures header { self.new.header ≡ self.old.header }
-        ensures line { self.new.line ≡ self.old.line + 1 }
+        ensures { OnOk result (IsAdded self.old self.new item) }
     {
         self.line += 1;
         match item {
