@@ -80,3 +80,18 @@ pub says-word : (r : Reader) (items : List Item) (line : List ℕ) (why : Reason
 says-word r items line why h e =
     let s : r.started ≡ started items = h.started in
     ap (λ b. checked r.header items (item_of_line b line)) (sym s) ∙ ap (checked r.header items) (sym e)
+
+-- ---- an allocation that passes its own checks stands by those of every operation
+pub allocation-checked : (r : Reader) (t n h s a : ℕ) (result : Result ℕ Reason)
+    → is_thread r.header t ≡ true → nat_lt h r.header.heaps ≡ true → nat_le s (4096 * r.header.pages) ≡ true → is_alignment a ≡ true → not (has_owner r n) ≡ true
+    → IsChecked (few_told r (cost_of r.header (Allocates t n h s a))) (cost_of r.header (Allocates t n h s a)) result
+    → IsChecked (told_checks r (Allocates t n h s a)) (cost_of r.header (Allocates t n h s a)) result
+allocation-checked r t n h s a result e1 e2 e3 e4 e5 few =
+    let cost = cost_of r.header (Allocates t n h s a) in
+    let l0 : List (Bool × Reason) = few_told r cost in
+    let l1 : List (Bool × Reason) = (not (has_owner r n), Reason.NameTaken) ∷ l0 in
+    let l2 : List (Bool × Reason) = (is_alignment a, Reason.BadAlign) ∷ l1 in
+    let l3 : List (Bool × Reason) = (nat_le s (4096 * r.header.pages), Reason.BadSize) ∷ l2 in
+    let l4 : List (Bool × Reason) = (nat_lt h r.header.heaps, Reason.BadHeap) ∷ l3 in
+    checked-more _ Reason.BadThread l4 cost result e1 (checked-more _ Reason.BadHeap l3 cost result e2 (checked-more _ Reason.BadSize l2 cost result e3
+    (checked-more _ Reason.BadAlign l1 cost result e4 (checked-more _ Reason.NameTaken l0 cost result e5 few))))

@@ -3,3 +3,4 @@ pub mod Digits
 pub mod Gathering
 pub mod Checking
 pub mod Headers
+pub mod Telling

@@ -127,8 +127,10 @@ impl Reader {
         ensures { (items : List Item) → Tells self.now items → MatchResult result (λ p. (line_says self.now.header items line.now ≡ Ok p.0) × (reason_of self.now.header items p.0 ≡ None) × IsRanged p.0 × (p.1 ≡ cost_of self.now.header p.0)) (λ r. line_says self.now.header items line.now ≡ Err r) }
     {
         let item = read_item(self.started, line)?;
-        let cost = self.check(item)?;
-        Ok((item, cost))
+        match self.check(item) {
+            Ok(cost) => Ok((item, cost)),
+            Err(reason) => Err(reason),
+        }
     }
 
     /// Reads a line.
