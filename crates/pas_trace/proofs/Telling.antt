@@ -1,10 +1,11 @@
 -- What the reader keeps after each item.
 use Rattle.std.proofs.Common.{◌≡◌, ◌≢◌, ℕ, zero, suc, ◌+◌, ◌*◌, ◌%◌, ◌<◌, ◌≤◌, ◌==◌, nat_lt, nat_le, Bool, true, false, not, ◌&&◌, ◌||◌, if◌then◌else◌, bit_or, ◌^◌, List, [], ◌∷◌, ◌++◌, length, get_or, set, Option, None, Some, refl, sym, ap, subst, ◌∙◌, arith, inl, inr, add-one}
+use Rattle.std.proofs.Math.ListN.{length-set}
 use Rattle.std.proofs.lemmas.Bool.{ltb-true, leb-true, eqb-true, eq-eqb, ne_eqb, cases_eq, and_parts, and_right}
 use Rattle.pas_profile.specs.declared.profile.Profile.{Profile}
 use Rattle.pas_trace.specs.Reasons.{first_failed, is_thread, is_alignment, cost_of, costs_of, record_bound, few_enough, thread_first, reason_of, operations_in, is_operation, is_phase, actor_of, allocates, is_named, is_named_now, thread_of, started}
 use Rattle.pas_trace.specs.Plans.{shared_by, shared_in, phases_after, phases_in, line_of_newest, own_costs, bound_of, bounds_upto, operation, add_last, name_at}
-use Rattle.pas_trace.specs.Told.{owner_in, gathered_phases, IsHeader, Tells, NameTold, IsOperated, IsNextPhase}
+use Rattle.pas_trace.specs.Told.{owner_in, gathered_phases, IsHeader, Tells, NameTold, IsOperated, IsNextPhase, IsAdded}
 use Rattle.pas_trace.specs.declared.fault.Reason.TheVariants as Reason
 use Rattle.pas_trace.specs.declared.item.Item.{Item}
 use Rattle.pas_trace.specs.declared.item.Item.TheVariants.{Blank, Shares, NextPhase, Allocates, Frees, FreesRaw, Flushes, Stops, Ticks, Passes, Idles}
@@ -179,9 +180,10 @@ cost-added f i items costs actor cost k lt is_actor is_cost told = elim (cases_e
 ]
 
 pub operated : (old new : Reader) (names : Names) (items : List Item) (i : Item) (actor : ℕ) (what : What) (cost : ℕ) → Tells old items → IsOperation old.header i actor what cost
-    → IsReady old actor cost → length old.counts.costs ≡ 17 → ((n : ℕ) → NameTold (owner_in names n) old.phase (i ∷ items) n)
+    → IsReady old actor cost → ((n : ℕ) → NameTold (owner_in names n) old.phase (i ∷ items) n)
     → IsOperated (record old { line = old.line + 1; names = names }) new actor what cost → Tells new (i ∷ items)
-operated old new names items i actor what cost t op can size told h =
+operated old new names items i actor what cost t op can told h =
+    let size : length old.counts.costs ≡ 17 = t.width in
     let actor-lt : actor < length old.counts.costs = omega (arith, size, can.is_actor) in
     let bound : new.counts.bound ≡ old.counts.bound + cost = h.bound in
     let small : old.counts.bound + cost ≤ 2000000 = can.small in
@@ -198,10 +200,71 @@ operated old new names items i actor what cost t op can size told h =
       operations = h.operations ∙ ap (λ n. n + 1) t.operations ∙ sym (ap (λ b. if b then operations_in items + 1 else operations_in items) op.operates);
       bound = bound ∙ ap (λ n. old.counts.bound + n) (sym op.costs) ∙ bound-after old items i t ∙ ap (λ (f : Profile). record_bound f (i ∷ items)) (sym h.header);
       small = omega (arith, bound, small);
+      width = ap length h.costs ∙ length-set old.counts.costs actor (get_or old.counts.costs actor 0 + cost) ∙ size;
       costs = λ k lt. ap (λ xs. get_or xs k 0) h.costs ∙ cost-added old.header i items old.counts.costs actor cost k actor-lt op.thread op.costs (t.costs k lt) ∙ ap (λ (f : Profile). own_costs f k (i ∷ items)) (sym h.header);
       phases = h.phases ∙ ap (λ ps. add_last (Some (operation (old.line + 1) actor what)) ps) t.phases ∙ ap (λ n. add_last (Some (operation (n + 1) actor what)) (phases_in items)) t.line
         ∙ sym (op.phases (line_of_newest (i ∷ items)) (phases_in items));
     }
+
+-- ---- what any item gives
+pub actor-most : (f : Profile) (items : List Item) (i : Item) → reason_of f items i ≡ None → actor_of i ≤ f.threads
+actor-most f items Blank e = omega arith
+actor-most f items (Shares h) e = omega arith
+actor-most f items NextPhase e = omega arith
+actor-most f items (Allocates t n h s a) e = let p = fine-allocation f items t n h s a e in p.thread.most
+actor-most f items (Frees t n) e = let p = fine-free f items t n e in p.0.most
+actor-most f items (FreesRaw t a n) e = let p = fine-thread f items t (FreesRaw t a n) e in p.0.most
+actor-most f items (Flushes t) e = let p = fine-thread f items t (Flushes t) e in p.0.most
+actor-most f items (Stops t) e = let p = fine-thread f items t (Stops t) e in p.0.most
+actor-most f items (Ticks n) e = omega arith
+actor-most f items Passes e = omega arith
+actor-most f items (Idles n) e = omega arith
+
+counts-fine : (f : Profile) (items : List Item) (i : Item) → is_operation i ≡ true → reason_of f items i ≡ None → FineCounts f items i
+counts-fine f items Blank o e = cc
+counts-fine f items (Shares h) o e = cc
+counts-fine f items NextPhase o e = cc
+counts-fine f items (Allocates t n h s a) o e = let p = fine-allocation f items t n h s a e in p.counts
+counts-fine f items (Frees t n) o e = let p = fine-free f items t n e in p.1
+counts-fine f items (FreesRaw t a n) o e = let p = fine-thread f items t (FreesRaw t a n) e in p.1
+counts-fine f items (Flushes t) o e = let p = fine-thread f items t (Flushes t) e in p.1
+counts-fine f items (Stops t) o e = let p = fine-thread f items t (Stops t) e in p.1
+counts-fine f items (Ticks n) o e = fine-counts f items (Ticks n) e
+counts-fine f items Passes o e = fine-counts f items Passes e
+counts-fine f items (Idles n) o e = fine-counts f items (Idles n) e
+
+pub within-item : (r : Reader) (items : List Item) (i : Item) (actor : ℕ) → Tells r items → reason_of r.header items i ≡ None → actor_of i ≡ actor → get_or r.counts.costs actor 0 ≤ r.counts.bound
+within-item r items i actor t e is =
+    let most = actor-most r.header items i e in
+    let header = t.header in
+    let threads : r.header.threads ≤ 16 = header.threads in
+    cost-within r items actor t (omega (arith, most, threads, is))
+
+-- what the names hold after an item
+abbrev pub NamesAfter : Reader → Names → Item → Type 0
+NamesAfter old names i = (items : List Item) → Tells old items → reason_of old.header items i ≡ None → (n : ℕ) → NameTold (owner_in names n) old.phase (i ∷ items) n
+
+pub names-kept : (old : Reader) (i : Item) → is_phase i ≡ false → ((n : ℕ) → allocates i n ≡ false) → NamesAfter old old.names i
+names-kept old i phase none items t e n = kept-name i items (owner_in old.names n) old.phase n phase (none n) (t.names n)
+
+pub names-taken : (old : Reader) (names : Names) (t name h s a : ℕ) → ((n : ℕ) → owner_in names n ≡ (if n == name then record { thread = t; phase = old.phase } else owner_in old.names n)) → NamesAfter old names (Allocates t name h s a)
+names-taken old names t name h s a given items told e n =
+    let fine = fine-allocation old.header items t name h s a e in
+    taken-name t name h s a old.phase items (owner_in old.names n) (owner_in names n) n fine.thread.least (given n) (told.names n)
+
+pub added : (old new : Reader) (names : Names) (i : Item) (actor : ℕ) (what : What) (cost : ℕ) → IsOperation old.header i actor what cost → NamesAfter old names i
+    → IsOperated (record old { line = old.line + 1; names = names }) new actor what cost → IsAdded old new i
+added old new names i actor what cost op after h = record {
+  header = h.header;
+  line = h.line;
+  tells = λ items t e.
+    let most = actor-most old.header items i e in
+    let header = t.header in
+    let threads : old.header.threads ≤ 16 = header.threads in
+    let is : actor_of i ≡ actor = op.thread in
+    let can = ready old items i actor cost t (counts-fine old.header items i op.operates e) (omega (arith, most, threads, is)) (sym op.costs) in
+    operated old new names items i actor what cost t op can (after items t e) h;
+}
 
 -- ---- the kinds of operation
 pub is-allocates : (f : Profile) (t n h s a cost : ℕ) → cost_of f (Allocates t n h s a) ≡ cost → IsOperation f (Allocates t n h s a) t (Alloc n h s a) cost
@@ -245,7 +308,7 @@ blank r items t =
     record {
       header = t.header; shared = t.shared; started = t.started; line = ap (λ n. n + 1) t.line; phase = omega (arith, le);
       names = λ n. kept-name Blank items (owner_in r.names n) r.phase n refl refl (t.names n);
-      operations = t.operations; bound = t.bound ∙ bound-none r.header items Blank refl; small = t.small; costs = λ k lt. t.costs k lt ∙ own-none r.header items Blank k refl; phases = t.phases;
+      operations = t.operations; bound = t.bound ∙ bound-none r.header items Blank refl; small = t.small; width = t.width; costs = λ k lt. t.costs k lt ∙ own-none r.header items Blank k refl; phases = t.phases;
     }
 
 pub shares : (r : Reader) (items : List Item) (h marks : ℕ) → marks ≡ bit_or r.shared (2 ^ h) → Tells r items → Tells (record r { line = r.line + 1; shared = marks }) (Shares h ∷ items)
@@ -254,7 +317,7 @@ shares r items h marks e t =
     record {
       header = t.header; shared = e ∙ ap (λ m. bit_or m (2 ^ h)) t.shared; started = t.started; line = ap (λ n. n + 1) t.line; phase = omega (arith, le);
       names = λ n. kept-name (Shares h) items (owner_in r.names n) r.phase n refl refl (t.names n);
-      operations = t.operations; bound = t.bound ∙ bound-none r.header items (Shares h) refl; small = t.small; costs = λ k lt. t.costs k lt ∙ own-none r.header items (Shares h) k refl; phases = t.phases;
+      operations = t.operations; bound = t.bound ∙ bound-none r.header items (Shares h) refl; small = t.small; width = t.width; costs = λ k lt. t.costs k lt ∙ own-none r.header items (Shares h) k refl; phases = t.phases;
     }
 
 pub next_phase : (old new : Reader) (items : List Item) → Tells old items → IsNextPhase (record old { line = old.line + 1 }) new → Tells new (NextPhase ∷ items)
@@ -273,6 +336,7 @@ next_phase old new items t h =
       operations = ap (λ c. c.operations) h.counts ∙ t.operations;
       bound = ap (λ c. c.bound) h.counts ∙ t.bound ∙ bound-none old.header items NextPhase refl ∙ ap (λ (f : Profile). record_bound f (NextPhase ∷ items)) (sym h.header);
       small = subst (λ c. c.bound ≤ 2000000) (sym h.counts) t.small;
+      width = ap (λ c. length c.costs) h.counts ∙ t.width;
       costs = λ k lt. ap (λ c. get_or c.costs k 0) h.counts ∙ t.costs k lt ∙ own-none old.header items NextPhase k refl ∙ ap (λ (f : Profile). own_costs f k (NextPhase ∷ items)) (sym h.header);
       phases = h.phases ∙ ap (λ ps. ps ++ [] ∷ []) t.phases;
     }

@@ -1,5 +1,5 @@
 -- What the reader keeps of the lines that it has read.
-use Rattle.std.specs.Prelude.{ℕ, zero, ◌+◌, ◌*◌, ◌^◌, ◌==◌, ◌≡◌, ◌≤◌, ◌<◌, nat_lt, nat_le, Bool, true, not, ◌&&◌, ◌||◌, List, [], ◌∷◌, ◌++◌, map, Option, None, Some, Result, Ok, Err, slice_index, slice_index_or, slice_set}
+use Rattle.std.specs.Prelude.{ℕ, zero, ◌+◌, ◌*◌, ◌^◌, ◌==◌, ◌≡◌, ◌≤◌, ◌<◌, nat_lt, nat_le, Bool, true, not, ◌&&◌, ◌||◌, List, [], ◌∷◌, ◌++◌, map, length, Option, None, Some, Result, Ok, Err, slice_index, slice_index_or, slice_set}
 use Rattle.pas_profile.specs.declared.profile.Profile.{Profile}
 use Rattle.pas_trace.specs.Reasons.{first_failed, is_thread, is_alignment, cost_of, started, operations_in, is_named, is_named_now, thread_of, record_bound, line_says, reason_of}
 use Rattle.pas_trace.specs.declared.fault.Reason.{Reason}
@@ -101,6 +101,7 @@ pub record Tells (r : Reader) (items : List Item) : Type 0 where
   pub operations : r.counts.operations ≡ operations_in items
   pub bound : r.counts.bound ≡ record_bound r.header items
   pub small : r.counts.bound ≤ 2000000
+  pub width : length r.counts.costs ≡ 17
   pub costs : (k : ℕ) → k < 17 → slice_index r.counts.costs k ≡ own_costs r.header k items
   pub phases : gathered_phases r.gathered ≡ phases_in items
 

@@ -1,5 +1,5 @@
 //! How many operations were read, and how many records they may make.
-ghost use Rattle.std.specs.Prelude.{◌≡◌, ◌<◌, ◌≤◌, ◌+◌, ◌*◌, ℕ, slice_index, slice_set};
+ghost use Rattle.std.specs.Prelude.{◌≡◌, ◌<◌, ◌≤◌, ◌+◌, ◌*◌, ℕ, length, slice_index, slice_set};
 ghost use Rattle.pas_trace.specs.Told.{IsHeader};
 
 use pas_profile::Profile;
@@ -24,6 +24,7 @@ impl Counts {
         requires { IsHeader header.now }
         ensures operations { result.operations ≡ 0 }
         ensures bound { result.bound ≡ header.now.threads * header.now.pages }
+        ensures width { length result.costs ≡ 17 }
         ensures costs { (k : ℕ) → slice_index result.costs k ≡ 0 }
     {
         Counts {
