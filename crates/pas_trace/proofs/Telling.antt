@@ -1,0 +1,353 @@
+-- What the reader keeps after each item.
+use Rattle.std.proofs.Common.{◌≡◌, ◌≢◌, ℕ, zero, suc, ◌+◌, ◌*◌, ◌%◌, ◌<◌, ◌≤◌, ◌==◌, nat_lt, nat_le, Bool, true, false, not, ◌&&◌, ◌||◌, if◌then◌else◌, bit_or, ◌^◌, List, [], ◌∷◌, ◌++◌, length, get_or, set, Option, None, Some, refl, sym, ap, subst, ◌∙◌, arith, inl, inr, add-one}
+use Rattle.std.proofs.Math.ListN.{length-set}
+use Rattle.std.proofs.lemmas.Bool.{ltb-true, leb-true, eqb-true, eq-eqb, ne_eqb, cases_eq, and_parts, and_right}
+use Rattle.pas_profile.specs.declared.profile.Profile.{Profile}
+use Rattle.pas_trace.specs.Reasons.{first_failed, is_thread, is_alignment, cost_of, costs_of, record_bound, few_enough, thread_first, reason_of, operations_in, is_operation, is_phase, actor_of, allocates, is_named, is_named_now, thread_of, started}
+use Rattle.pas_trace.specs.Plans.{shared_by, shared_in, phases_after, phases_in, line_of_newest, own_costs, bound_of, bounds_upto, operation, add_last, name_at}
+use Rattle.pas_trace.specs.Told.{owner_in, gathered_phases, IsHeader, Tells, NameTold, IsOperated, IsNextPhase, IsAdded}
+use Rattle.pas_trace.specs.declared.fault.Reason.TheVariants as Reason
+use Rattle.pas_trace.specs.declared.item.Item.{Item}
+use Rattle.pas_trace.specs.declared.item.Item.TheVariants.{Blank, Shares, NextPhase, Allocates, Frees, FreesRaw, Flushes, Stops, Ticks, Passes, Idles}
+use Rattle.pas_trace.specs.declared.names.Owner.{Owner}
+use Rattle.pas_trace.specs.declared.names.Names.{Names}
+use Rattle.pas_trace.specs.declared.plan.Op.{Op}
+use Rattle.pas_trace.specs.declared.plan.What.{What}
+use Rattle.pas_trace.specs.declared.plan.What.TheVariants.{Alloc, Free, Raw, Flush, Stop, Tick, Pass, Idle}
+use Rattle.pas_trace.specs.declared.reader.Reader.{Reader}
+use Rattle.pas_trace.proofs.Checking.{first-holds, bound-after}
+use Rattle.pas_trace.proofs.Gathering.{get_or-written}
+
+-- ---- costs
+if-le : (b : Bool) (x y z : ℕ) → x ≤ z → y ≤ z → (if b then x else y) ≤ z
+if-le true x y z p q = p
+if-le false x y z p q = q
+
+-- an actor's own costs are among all
+pub own_costs-le : (f : Profile) (k : ℕ) (items : List Item) → own_costs f k items ≤ costs_of f items
+own_costs-le f k [] = omega arith
+own_costs-le f k (i ∷ items) =
+    let h = own_costs-le f k items in
+    if-le (actor_of i == k) (own_costs f k items + cost_of f i) (own_costs f k items) (costs_of f items + cost_of f i) (omega (arith, h)) (omega (arith, h))
+
+pub cost-within : (r : Reader) (items : List Item) (k : ℕ) → Tells r items → k < 17 → get_or r.counts.costs k 0 ≤ r.counts.bound
+cost-within r items k t lt =
+    let own : get_or r.counts.costs k 0 ≡ own_costs r.header k items = t.costs k lt in
+    let all : r.counts.bound ≡ record_bound r.header items = t.bound in
+    omega (arith, own, all, own_costs-le r.header k items)
+
+-- ---- what the checks give
+pub record FineCounts (f : Profile) (items : List Item) (i : Item) : Type 0 where
+  pub few : operations_in items < 1000000
+  pub small : record_bound f (i ∷ items) ≤ 2000000
+
+pub fine-counts : (f : Profile) (items : List Item) (i : Item) → first_failed (few_enough f items i) ≡ None → FineCounts f items i
+fine-counts f items i e =
+    let a = first-holds (nat_lt (operations_in items) 1000000) Reason.TooManyOps ((nat_le (record_bound f (i ∷ items)) 2000000, Reason.TraceTooLarge) ∷ []) e in
+    let b = first-holds (nat_le (record_bound f (i ∷ items)) 2000000) Reason.TraceTooLarge [] a.1 in
+    record { few = ltb-true _ _ a.0; small = leb-true _ _ b.0 }
+
+pub record IsThread (f : Profile) (t : ℕ) : Type 0 where
+  pub least : 1 ≤ t
+  pub most : t ≤ f.threads
+
+fine-is_thread : (f : Profile) (t : ℕ) → is_thread f t ≡ true → IsThread f t
+fine-is_thread f t e = let p = and_parts (nat_le 1 t) (nat_le t f.threads) e in record { least = leb-true _ _ p.0; most = leb-true _ _ p.1 }
+
+pub fine-thread : (f : Profile) (items : List Item) (t : ℕ) (i : Item) → first_failed (thread_first f items t i) ≡ None → IsThread f t × FineCounts f items i
+fine-thread f items t i e =
+    let a = first-holds (is_thread f t) Reason.BadThread (few_enough f items i) e in
+    (fine-is_thread f t a.0, fine-counts f items i a.1)
+
+pub fine-free : (f : Profile) (items : List Item) (t n : ℕ) → reason_of f items (Frees t n) ≡ None → IsThread f t × FineCounts f items (Frees t n)
+fine-free f items t n e =
+    let few = few_enough f items (Frees t n) in
+    let early = ((t == thread_of items n) || not (is_named_now items n), Reason.TooEarly) ∷ few in
+    let a = first-holds (is_thread f t) Reason.BadThread ((is_named items n, Reason.NameUnknown) ∷ early) e in
+    let b = first-holds (is_named items n) Reason.NameUnknown early a.1 in
+    let d = first-holds ((t == thread_of items n) || not (is_named_now items n)) Reason.TooEarly few b.1 in
+    (fine-is_thread f t a.0, fine-counts f items (Frees t n) d.1)
+
+pub record FineAllocation (f : Profile) (items : List Item) (t n h s a : ℕ) : Type 0 where
+  pub thread : IsThread f t
+  pub heap : h < f.heaps
+  pub size : s ≤ 4096 * f.pages
+  pub align : a ≤ 4096
+  pub counts : FineCounts f items (Allocates t n h s a)
+
+pub fine-allocation : (f : Profile) (items : List Item) (t n h s a : ℕ) → reason_of f items (Allocates t n h s a) ≡ None → FineAllocation f items t n h s a
+fine-allocation f items t n h s a e =
+    let few = few_enough f items (Allocates t n h s a) in
+    let l1 = (not (is_named items n), Reason.NameTaken) ∷ few in
+    let l2 = (is_alignment a, Reason.BadAlign) ∷ l1 in
+    let l3 = (nat_le s (4096 * f.pages), Reason.BadSize) ∷ l2 in
+    let l4 = (nat_lt h f.heaps, Reason.BadHeap) ∷ l3 in
+    let c5 = first-holds (is_thread f t) Reason.BadThread l4 e in
+    let c4 = first-holds (nat_lt h f.heaps) Reason.BadHeap l3 c5.1 in
+    let c3 = first-holds (nat_le s (4096 * f.pages)) Reason.BadSize l2 c4.1 in
+    let c2 = first-holds (is_alignment a) Reason.BadAlign l1 c3.1 in
+    let c1 = first-holds (not (is_named items n)) Reason.NameTaken few c2.1 in
+    let p = and_parts (nat_le 16 a && nat_le a 4096) (4096 % a == 0) c2.0 in
+    let q = and_parts (nat_le 16 a) (nat_le a 4096) p.0 in
+    record { thread = fine-is_thread f t c5.0; heap = ltb-true _ _ c4.0; size = leb-true _ _ c3.0; align = leb-true _ _ q.1; counts = fine-counts f items (Allocates t n h s a) c1.1 }
+
+-- the reader may count an operation of the actor
+pub record IsReady (r : Reader) (actor cost : ℕ) : Type 0 where
+  pub is_actor : actor < 17
+  pub few : r.counts.operations < 1000000
+  pub small : r.counts.bound + cost ≤ 2000000
+  pub within : get_or r.counts.costs actor 0 ≤ r.counts.bound
+
+pub ready : (r : Reader) (items : List Item) (i : Item) (actor cost : ℕ) → Tells r items → FineCounts r.header items i → actor ≤ 16 → cost ≡ cost_of r.header i → IsReady r actor cost
+ready r items i actor cost t fine le e =
+    let few : operations_in items < 1000000 = fine.few in
+    let small : record_bound r.header (i ∷ items) ≤ 2000000 = fine.small in
+    let all = bound-after r items i t in
+    let ops : r.counts.operations ≡ operations_in items = t.operations in
+    record {
+      is_actor = omega (arith, le);
+      few = omega (arith, ops, few);
+      small = omega (arith, all, small, e);
+      within = cost-within r items actor t (omega (arith, le));
+    }
+
+-- ---- names
+pub kept-name : (i : Item) (items : List Item) (o : Owner) (p n : ℕ) → is_phase i ≡ false → allocates i n ≡ false → NameTold o p items n → NameTold o p (i ∷ items) n
+kept-name i items o p n phase none h = record {
+  named = ap (λ b. b || is_named items n) none ∙ h.named;
+  thread = ap (λ b. if b then actor_of i else thread_of items n) none ∙ h.thread;
+  now = ap (λ b. if b then false else (allocates i n || is_named_now items n)) phase ∙ ap (λ b. b || is_named_now items n) none ∙ h.now;
+  before = h.before;
+}
+
+taken-here : (t name h s a p : ℕ) (items : List Item) (n : ℕ) → 1 ≤ t → (name == n) ≡ true → NameTold (record { thread = t; phase = p }) p (Allocates t name h s a ∷ items) n
+taken-here t name h s a p items n least e =
+    let some : (t == 0) ≡ false = ne_eqb t 0 (λ z. absurd (omega (arith, z, least))) in
+    let same : (p == p) ≡ true = eq-eqb p p refl in
+    record {
+      named = ap (λ b. b || is_named items n) e ∙ sym (ap not some);
+      thread = ap (λ b. if b then t else thread_of items n) e;
+      now = ap (λ b. b || is_named_now items n) e ∙ sym (ap (λ b. not b && (p == p)) some ∙ same);
+      before = omega arith;
+    }
+
+pub taken-name : (t name h s a p : ℕ) (items : List Item) (o o' : Owner) (n : ℕ) → 1 ≤ t → o' ≡ (if n == name then record { thread = t; phase = p } else o) → NameTold o p items n → NameTold o' p (Allocates t name h s a ∷ items) n
+taken-name t name h s a p items o o' n least e told = elim (cases_eq n name) [
+  | inl same ↦
+    let here : (n == name) ≡ true = eq-eqb n name same in
+    let is : o' ≡ record { thread = t; phase = p } = e ∙ ap (λ b. if b then record { thread = t; phase = p } else o) here in
+    subst (λ (x : Owner). NameTold x p (Allocates t name h s a ∷ items) n) (sym is) (taken-here t name h s a p items n least (eq-eqb name n (sym same)))
+  | inr other ↦
+    let there : (n == name) ≡ false = ne_eqb n name other in
+    let is : o' ≡ o = e ∙ ap (λ b. if b then record { thread = t; phase = p } else o) there in
+    subst (λ (x : Owner). NameTold x p (Allocates t name h s a ∷ items) n) (sym is) (kept-name (Allocates t name h s a) items o p n refl (ne_eqb name n (λ x. other (sym x))) told)
+]
+
+pub phase-name : (items : List Item) (o : Owner) (p n : ℕ) → NameTold o p items n → NameTold o (p + 1) (NextPhase ∷ items) n
+phase-name items o p n h =
+    let le : o.phase ≤ p = h.before in
+    let past : (o.phase == p + 1) ≡ false = ne_eqb o.phase (p + 1) (λ e. absurd (omega (arith, e, le))) in
+    record {
+      named = h.named;
+      thread = h.thread;
+      now = sym (and_right (not (o.thread == 0)) (o.phase == p + 1) past);
+      before = omega (arith, le);
+    }
+
+-- ---- an item that is an operation
+pub record IsOperation (f : Profile) (i : Item) (actor : ℕ) (what : What) (cost : ℕ) : Type 0 where
+  pub operates : is_operation i ≡ true
+  pub same_phase : is_phase i ≡ false
+  pub marks : (m : ℕ) → shared_by i m ≡ m
+  pub thread : actor_of i ≡ actor
+  pub costs : cost_of f i ≡ cost
+  pub phases : (line : ℕ) (ps : List (List Op)) → phases_after i line ps ≡ add_last (Some (operation line actor what)) ps
+
+cost-added : (f : Profile) (i : Item) (items : List Item) (costs : List ℕ) (actor cost k : ℕ) → actor < length costs → actor_of i ≡ actor → cost_of f i ≡ cost
+    → get_or costs k 0 ≡ own_costs f k items → get_or (set costs actor (get_or costs actor 0 + cost)) k 0 ≡ own_costs f k (i ∷ items)
+cost-added f i items costs actor cost k lt is_actor is_cost told = elim (cases_eq k actor) [
+  | inl same ↦
+    let here : (k == actor) ≡ true = eq-eqb k actor same in
+    let own : (actor_of i == k) ≡ true = eq-eqb (actor_of i) k (is_actor ∙ sym same) in
+    get_or-written costs actor k (get_or costs actor 0 + cost) 0 lt ∙ ap (λ b. if b then get_or costs actor 0 + cost else get_or costs k 0) here
+    ∙ ap (λ m. get_or costs m 0 + cost) (sym same) ∙ ap (λ m. m + cost) told ∙ ap (λ m. own_costs f k items + m) (sym is_cost)
+    ∙ sym (ap (λ b. if b then own_costs f k items + cost_of f i else own_costs f k items) own)
+  | inr other ↦
+    let there : (k == actor) ≡ false = ne_eqb k actor other in
+    let own : (actor_of i == k) ≡ false = ne_eqb (actor_of i) k (λ e. other (sym e ∙ is_actor)) in
+    get_or-written costs actor k (get_or costs actor 0 + cost) 0 lt ∙ ap (λ b. if b then get_or costs actor 0 + cost else get_or costs k 0) there
+    ∙ told ∙ sym (ap (λ b. if b then own_costs f k items + cost_of f i else own_costs f k items) own)
+]
+
+pub operated : (old new : Reader) (names : Names) (items : List Item) (i : Item) (actor : ℕ) (what : What) (cost : ℕ) → Tells old items → IsOperation old.header i actor what cost
+    → IsReady old actor cost → ((n : ℕ) → NameTold (owner_in names n) old.phase (i ∷ items) n)
+    → IsOperated (record old { line = old.line + 1; names = names }) new actor what cost → Tells new (i ∷ items)
+operated old new names items i actor what cost t op can told h =
+    let size : length old.counts.costs ≡ 17 = t.width in
+    let actor-lt : actor < length old.counts.costs = omega (arith, size, can.is_actor) in
+    let bound : new.counts.bound ≡ old.counts.bound + cost = h.bound in
+    let small : old.counts.bound + cost ≤ 2000000 = can.small in
+    let phase : new.phase ≡ old.phase = h.phase in
+    let line : new.line ≡ old.line + 1 = h.line in
+    let le : old.phase ≤ old.line = t.phase in
+    record {
+      header = subst (λ (f : Profile). IsHeader f) (sym h.header) t.header;
+      shared = h.shared ∙ t.shared ∙ sym (op.marks (shared_in items));
+      started = h.started ∙ sym (ap (λ b. b || is_phase i || started items) op.operates);
+      line = line ∙ ap (λ n. n + 1) t.line;
+      phase = omega (arith, phase, line, le);
+      names = λ n. subst (λ (o : Owner). NameTold o new.phase (i ∷ items) n) (sym (h.names n)) (subst (λ (p : ℕ). NameTold (owner_in names n) p (i ∷ items) n) (sym phase) (told n));
+      operations = h.operations ∙ ap (λ n. n + 1) t.operations ∙ sym (ap (λ b. if b then operations_in items + 1 else operations_in items) op.operates);
+      bound = bound ∙ ap (λ n. old.counts.bound + n) (sym op.costs) ∙ bound-after old items i t ∙ ap (λ (f : Profile). record_bound f (i ∷ items)) (sym h.header);
+      small = omega (arith, bound, small);
+      width = ap length h.costs ∙ length-set old.counts.costs actor (get_or old.counts.costs actor 0 + cost) ∙ size;
+      costs = λ k lt. ap (λ xs. get_or xs k 0) h.costs ∙ cost-added old.header i items old.counts.costs actor cost k actor-lt op.thread op.costs (t.costs k lt) ∙ ap (λ (f : Profile). own_costs f k (i ∷ items)) (sym h.header);
+      phases = h.phases ∙ ap (λ ps. add_last (Some (operation (old.line + 1) actor what)) ps) t.phases ∙ ap (λ n. add_last (Some (operation (n + 1) actor what)) (phases_in items)) t.line
+        ∙ sym (op.phases (line_of_newest (i ∷ items)) (phases_in items));
+    }
+
+-- ---- what any item gives
+pub actor-most : (f : Profile) (items : List Item) (i : Item) → reason_of f items i ≡ None → actor_of i ≤ f.threads
+actor-most f items Blank e = omega arith
+actor-most f items (Shares h) e = omega arith
+actor-most f items NextPhase e = omega arith
+actor-most f items (Allocates t n h s a) e = let p = fine-allocation f items t n h s a e in p.thread.most
+actor-most f items (Frees t n) e = let p = fine-free f items t n e in p.0.most
+actor-most f items (FreesRaw t a n) e = let p = fine-thread f items t (FreesRaw t a n) e in p.0.most
+actor-most f items (Flushes t) e = let p = fine-thread f items t (Flushes t) e in p.0.most
+actor-most f items (Stops t) e = let p = fine-thread f items t (Stops t) e in p.0.most
+actor-most f items (Ticks n) e = omega arith
+actor-most f items Passes e = omega arith
+actor-most f items (Idles n) e = omega arith
+
+counts-fine : (f : Profile) (items : List Item) (i : Item) → is_operation i ≡ true → reason_of f items i ≡ None → FineCounts f items i
+counts-fine f items Blank o e = cc
+counts-fine f items (Shares h) o e = cc
+counts-fine f items NextPhase o e = cc
+counts-fine f items (Allocates t n h s a) o e = let p = fine-allocation f items t n h s a e in p.counts
+counts-fine f items (Frees t n) o e = let p = fine-free f items t n e in p.1
+counts-fine f items (FreesRaw t a n) o e = let p = fine-thread f items t (FreesRaw t a n) e in p.1
+counts-fine f items (Flushes t) o e = let p = fine-thread f items t (Flushes t) e in p.1
+counts-fine f items (Stops t) o e = let p = fine-thread f items t (Stops t) e in p.1
+counts-fine f items (Ticks n) o e = fine-counts f items (Ticks n) e
+counts-fine f items Passes o e = fine-counts f items Passes e
+counts-fine f items (Idles n) o e = fine-counts f items (Idles n) e
+
+pub within-item : (r : Reader) (items : List Item) (i : Item) (actor : ℕ) → Tells r items → reason_of r.header items i ≡ None → actor_of i ≡ actor → get_or r.counts.costs actor 0 ≤ r.counts.bound
+within-item r items i actor t e is =
+    let most = actor-most r.header items i e in
+    let header = t.header in
+    let threads : r.header.threads ≤ 16 = header.threads in
+    cost-within r items actor t (omega (arith, most, threads, is))
+
+-- what the names hold after an item
+abbrev pub NamesAfter : Reader → Names → Item → Type 0
+NamesAfter old names i = (items : List Item) → Tells old items → reason_of old.header items i ≡ None → (n : ℕ) → NameTold (owner_in names n) old.phase (i ∷ items) n
+
+pub names-kept : (old : Reader) (i : Item) → is_phase i ≡ false → ((n : ℕ) → allocates i n ≡ false) → NamesAfter old old.names i
+names-kept old i phase none items t e n = kept-name i items (owner_in old.names n) old.phase n phase (none n) (t.names n)
+
+pub names-taken : (old : Reader) (names : Names) (t name h s a : ℕ) → ((n : ℕ) → owner_in names n ≡ (if n == name then record { thread = t; phase = old.phase } else owner_in old.names n)) → NamesAfter old names (Allocates t name h s a)
+names-taken old names t name h s a given items told e n =
+    let fine = fine-allocation old.header items t name h s a e in
+    taken-name t name h s a old.phase items (owner_in old.names n) (owner_in names n) n fine.thread.least (given n) (told.names n)
+
+pub added : (old new : Reader) (names : Names) (i : Item) (actor : ℕ) (what : What) (cost : ℕ) → IsOperation old.header i actor what cost → NamesAfter old names i
+    → IsOperated (record old { line = old.line + 1; names = names }) new actor what cost → IsAdded old new i
+added old new names i actor what cost op after h = record {
+  header = h.header;
+  line = h.line;
+  tells = λ items t e.
+    let most = actor-most old.header items i e in
+    let header = t.header in
+    let threads : old.header.threads ≤ 16 = header.threads in
+    let is : actor_of i ≡ actor = op.thread in
+    let can = ready old items i actor cost t (counts-fine old.header items i op.operates e) (omega (arith, most, threads, is)) (sym op.costs) in
+    operated old new names items i actor what cost t op can (after items t e) h;
+}
+
+-- ---- the kinds of operation
+pub is-allocates : (f : Profile) (t n h s a cost : ℕ) → cost_of f (Allocates t n h s a) ≡ cost → IsOperation f (Allocates t n h s a) t (Alloc n h s a) cost
+is-allocates f t n h s a cost e = record { operates = refl; same_phase = refl; marks = λ m. refl; thread = refl; costs = e; phases = λ line ps. refl }
+
+pub is-frees : (f : Profile) (t n cost : ℕ) → cost_of f (Frees t n) ≡ cost → IsOperation f (Frees t n) t (Free n) cost
+is-frees f t n cost e = record { operates = refl; same_phase = refl; marks = λ m. refl; thread = refl; costs = e; phases = λ line ps. refl }
+
+pub is-raw : (f : Profile) (t a n cost : ℕ) → cost_of f (FreesRaw t a n) ≡ cost → IsOperation f (FreesRaw t a n) t (Raw (name_at a n)) cost
+is-raw f t a n cost e = record { operates = refl; same_phase = refl; marks = λ m. refl; thread = refl; costs = e; phases = λ line ps. refl }
+
+pub is-flushes : (f : Profile) (t cost : ℕ) → cost_of f (Flushes t) ≡ cost → IsOperation f (Flushes t) t Flush cost
+is-flushes f t cost e = record { operates = refl; same_phase = refl; marks = λ m. refl; thread = refl; costs = e; phases = λ line ps. refl }
+
+pub is-stops : (f : Profile) (t cost : ℕ) → cost_of f (Stops t) ≡ cost → IsOperation f (Stops t) t Stop cost
+is-stops f t cost e = record { operates = refl; same_phase = refl; marks = λ m. refl; thread = refl; costs = e; phases = λ line ps. refl }
+
+pub is-ticks : (f : Profile) (n cost : ℕ) → cost_of f (Ticks n) ≡ cost → IsOperation f (Ticks n) 0 (Tick n) cost
+is-ticks f n cost e = record { operates = refl; same_phase = refl; marks = λ m. refl; thread = refl; costs = e; phases = λ line ps. refl }
+
+pub is-passes : (f : Profile) (cost : ℕ) → cost_of f Passes ≡ cost → IsOperation f Passes 0 Pass cost
+is-passes f cost e = record { operates = refl; same_phase = refl; marks = λ m. refl; thread = refl; costs = e; phases = λ line ps. refl }
+
+pub is-idles : (f : Profile) (n cost : ℕ) → cost_of f (Idles n) ≡ cost → IsOperation f (Idles n) 0 (Idle n) cost
+is-idles f n cost e = record { operates = refl; same_phase = refl; marks = λ m. refl; thread = refl; costs = e; phases = λ line ps. refl }
+
+-- ---- the items that are none cost nothing
+bound-none : (f : Profile) (items : List Item) (i : Item) → cost_of f i ≡ 0 → record_bound f items ≡ record_bound f (i ∷ items)
+bound-none f items i e = omega (arith, e)
+
+if-none : (b : Bool) (x n : ℕ) → n ≡ 0 → x ≡ (if b then x + n else x)
+if-none true x n e = omega (arith, e)
+if-none false x n e = refl
+
+own-none : (f : Profile) (items : List Item) (i : Item) (k : ℕ) → cost_of f i ≡ 0 → own_costs f k items ≡ own_costs f k (i ∷ items)
+own-none f items i k e = if-none (actor_of i == k) (own_costs f k items) (cost_of f i) e
+
+pub blank : (r : Reader) (items : List Item) → Tells r items → Tells (record r { line = r.line + 1 }) (Blank ∷ items)
+blank r items t =
+    let le : r.phase ≤ r.line = t.phase in
+    record {
+      header = t.header; shared = t.shared; started = t.started; line = ap (λ n. n + 1) t.line; phase = omega (arith, le);
+      names = λ n. kept-name Blank items (owner_in r.names n) r.phase n refl refl (t.names n);
+      operations = t.operations; bound = t.bound ∙ bound-none r.header items Blank refl; small = t.small; width = t.width; costs = λ k lt. t.costs k lt ∙ own-none r.header items Blank k refl; phases = t.phases;
+    }
+
+pub shares : (r : Reader) (items : List Item) (h marks : ℕ) → marks ≡ bit_or r.shared (2 ^ h) → Tells r items → Tells (record r { line = r.line + 1; shared = marks }) (Shares h ∷ items)
+shares r items h marks e t =
+    let le : r.phase ≤ r.line = t.phase in
+    record {
+      header = t.header; shared = e ∙ ap (λ m. bit_or m (2 ^ h)) t.shared; started = t.started; line = ap (λ n. n + 1) t.line; phase = omega (arith, le);
+      names = λ n. kept-name (Shares h) items (owner_in r.names n) r.phase n refl refl (t.names n);
+      operations = t.operations; bound = t.bound ∙ bound-none r.header items (Shares h) refl; small = t.small; width = t.width; costs = λ k lt. t.costs k lt ∙ own-none r.header items (Shares h) k refl; phases = t.phases;
+    }
+
+pub next_phase : (old new : Reader) (items : List Item) → Tells old items → IsNextPhase (record old { line = old.line + 1 }) new → Tells new (NextPhase ∷ items)
+next_phase old new items t h =
+    let phase : new.phase ≡ old.phase + 1 = h.phase in
+    let line : new.line ≡ old.line + 1 = h.line in
+    let le : old.phase ≤ old.line = t.phase in
+    record {
+      header = subst (λ (f : Profile). IsHeader f) (sym h.header) t.header;
+      shared = h.shared ∙ t.shared;
+      started = h.started;
+      line = line ∙ ap (λ n. n + 1) t.line;
+      phase = omega (arith, phase, line, le);
+      names = λ n. subst (λ (o : Owner). NameTold o new.phase (NextPhase ∷ items) n) (sym (h.names n))
+        (subst (λ (p : ℕ). NameTold (owner_in old.names n) p (NextPhase ∷ items) n) (sym phase) (phase-name items (owner_in old.names n) old.phase n (t.names n)));
+      operations = ap (λ c. c.operations) h.counts ∙ t.operations;
+      bound = ap (λ c. c.bound) h.counts ∙ t.bound ∙ bound-none old.header items NextPhase refl ∙ ap (λ (f : Profile). record_bound f (NextPhase ∷ items)) (sym h.header);
+      small = subst (λ c. c.bound ≤ 2000000) (sym h.counts) t.small;
+      width = ap (λ c. length c.costs) h.counts ∙ t.width;
+      costs = λ k lt. ap (λ c. get_or c.costs k 0) h.counts ∙ t.costs k lt ∙ own-none old.header items NextPhase k refl ∙ ap (λ (f : Profile). own_costs f k (NextPhase ∷ items)) (sym h.header);
+      phases = h.phases ∙ ap (λ ps. ps ++ [] ∷ []) t.phases;
+    }
+
+-- ---- bounds
+pub bounds-more : (f : Profile) (items : List Item) (k deeds cost : ℕ) (bounds more : List ℕ) → bounds ≡ bounds_upto f items k → deeds + cost ≡ bound_of f items k → more ≡ bounds ++ (deeds + cost) ∷ []
+    → more ≡ bounds_upto f items (k + 1)
+bounds-more f items k deeds cost bounds more e b m = m ∙ ap (λ xs. xs ++ (deeds + cost) ∷ []) e ∙ ap (λ n. bounds_upto f items k ++ n ∷ []) b ∙ sym (ap (λ n. bounds_upto f items n) (add-one k))
+
+pub bound-first : (f : Profile) (items : List Item) (k cost : ℕ) → k ≡ 0 → cost ≡ own_costs f k items → 0 + cost ≡ bound_of f items k
+bound-first f items k cost e h = let t : (k == 0) ≡ true = eq-eqb k 0 e in rw (t, h, e) (omega arith)
+
+pub bound-other : (f : Profile) (items : List Item) (k cost : ℕ) → k ≢ 0 → cost ≡ own_costs f k items → f.pages + cost ≡ bound_of f items k
+bound-other f items k cost ne h = let t : (k == 0) ≡ false = ne_eqb k 0 ne in rw (t, h) refl

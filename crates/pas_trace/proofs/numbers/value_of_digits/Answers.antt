@@ -1,0 +1,26 @@
+use Rattle.std.proofs.Common.{◌≡◌, ◌≤◌, ◌<◌, ◌+◌, ◌-◌, ◌*◌, length, drop, get_or, refl, sym, ap, ◌∙◌, arith}
+use Rattle.std.proofs.lemmas.List.{drop_more, drop_all}
+use Rattle.pas_trace.proofs.Digits.{value_after, value-step, value-below, value-above, value-large, value-end}
+use Rattle.pas_trace.proofs.numbers.value_of_digits.Goals as goal
+
+pub returns-then-value-digit : goal.returns-then-value-digit
+returns-then-value-digit c =
+    let w = c.args.word.now in
+    let i = c.loop-byte.byte-index in
+    let v = c.loop-byte.value in
+    let b = get_or w i 0 in
+    sym (sym c.loop-byte.invariant ∙ ap (value_after v) (drop_more w i 0 c.loop-byte-test.true) ∙ value-large v b (drop (i + 1) w) (omega arith))
+
+pub loop-byte-preserved : goal.loop-byte-preserved
+loop-byte-preserved c =
+    let w = c.args.word.now in
+    let i = c.loop-byte.byte-index in
+    let v = c.loop-byte.value in
+    sym (value-step v (get_or w i 0) (drop (i + 1) w) c.if-byte-lt48.false c.if-byte-gt57.false) ∙ sym (ap (value_after v) (drop_more w i 0 c.loop-byte-test.true)) ∙ c.loop-byte.invariant
+
+pub returns : goal.returns
+returns c =
+    let w = c.args.word.now in
+    let v = c.loop-byte.value in
+    let none = ap (value_after v) (drop_all c.loop-byte.byte-index w (omega arith)) in
+    sym (value-end v (omega arith)) ∙ sym none ∙ c.loop-byte.invariant

@@ -1,0 +1,5 @@
+use Rattle.std.proofs.Common.{◌≡◌, ◌≢◌, ◌<◌, ◌≤◌, ℕ, length, slice_index_or, ◌+◌, ◌-◌, ◌*◌}
+use Rattle.pas_trace.proofs.pieces.piece_length.Given as goal
+
+abbrev pub invariant-loop-index : goal.invariant-loop-index
+invariant-loop-index l = (k : ℕ) → k < l.index → slice_index_or l.bytes k 0 ≡ l.separator → ⊥

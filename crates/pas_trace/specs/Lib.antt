@@ -1,0 +1,6 @@
+pub mod Texts
+pub mod Numbers
+pub mod Items
+pub mod Reasons
+pub mod Plans
+pub mod Told

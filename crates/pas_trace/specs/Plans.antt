@@ -1,0 +1,163 @@
+-- The plan of a text, or its first fault.
+use Rattle.std.specs.Prelude.{ℕ, zero, suc, ◌+◌, ◌*◌, ◌^◌, ◌≡◌, ◌==◌, Bool, if◌then◌else◌, bit_or, List, [], ◌∷◌, ◌++◌, map, Option, None, Some, Result, Ok, Err}
+use Rattle.pas_profile.specs.declared.profile.Profile.{Profile}
+use Rattle.pas_profile.specs.declared.name.Name.{Name}
+use Rattle.pas_trace.specs.Texts.{lines_of}
+use Rattle.pas_trace.specs.declared.item.Item.{Item}
+use Rattle.pas_trace.specs.declared.item.Item.TheVariants.{Blank, Shares, NextPhase, Allocates, Frees, FreesRaw, Flushes, Stops, Ticks, Passes, Idles}
+use Rattle.pas_trace.specs.Reasons.{header_of, line_says, actor_of, cost_of, record_bound}
+use Rattle.pas_trace.specs.declared.fault.Reason.{Reason}
+use Rattle.pas_trace.specs.declared.fault.Reason.TheVariants as Reason
+use Rattle.pas_trace.specs.declared.fault.TraceFault.{TraceFault}
+use Rattle.pas_trace.specs.declared.fault.ReadFault.{ReadFault}
+use Rattle.pas_trace.specs.declared.fault.ReadFault.TheVariants.{Trace, NoMemory}
+use Rattle.pas_trace.specs.declared.plan.What.{What}
+use Rattle.pas_trace.specs.declared.plan.What.TheVariants.{Alloc, Free, Raw, Flush, Stop, Tick, Pass, Idle}
+use Rattle.pas_trace.specs.declared.plan.Op.{Op}
+use Rattle.pas_trace.specs.declared.plan.Phase.{Phase}
+use Rattle.pas_trace.specs.declared.plan.Phases.{Phases}
+use Rattle.pas_trace.specs.declared.plan.Bounds.{Bounds}
+use Rattle.pas_trace.specs.declared.plan.Plan.{Plan}
+
+-- ---- the text, line by line: the items in order, or the fault of the lowest faulty line. `earlier` has the items before, the newest first
+abbrev pub fault_at : ℕ → Reason → TraceFault
+fault_at line reason = record { line = line; reason = reason }
+
+-- the fault, or what follows from the item
+abbrev pub after_item : ℕ → Result Item Reason → (Item → Result (List Item) TraceFault) → Result (List Item) TraceFault
+after_item number (Err r) more = Err (fault_at number r)
+after_item number (Ok i) more = more i
+
+abbrev pub items_from : Profile → ℕ → List Item → List (List ℕ) → Result (List Item) TraceFault
+items_from f number earlier [] = Ok earlier
+items_from f number earlier (line ∷ lines) = after_item number (line_says f earlier line) (λ i. items_from f (number + 1) (i ∷ earlier) lines)
+
+-- the region of a text and its items from line 2 on, the newest first; or its first fault
+pub record Parsed : Type 0 where
+  pub header : Profile
+  pub items : List Item
+
+abbrev pub with_items : Profile → Result (List Item) TraceFault → Result Parsed TraceFault
+with_items f (Err fault) = Err fault
+with_items f (Ok items) = Ok record { header = f; items = items }
+
+abbrev pub with_header : Option Profile → List (List ℕ) → Result Parsed TraceFault
+with_header None lines = Err (fault_at 1 Reason.BadHeader)
+with_header (Some f) lines = with_items f (items_from f 2 [] lines)
+
+abbrev pub parsed_lines : List (List ℕ) → Result Parsed TraceFault
+parsed_lines [] = Err (fault_at 1 Reason.BadHeader)
+parsed_lines (line ∷ lines) = with_header (header_of line) lines
+
+abbrev pub parsed : List ℕ → Result Parsed TraceFault
+parsed text = parsed_lines (lines_of text)
+
+-- ---- the plan of items
+-- the marks of shared heaps
+abbrev pub shared_by : Item → ℕ → ℕ
+shared_by Blank marks = marks
+shared_by (Shares h) marks = bit_or marks (2 ^ h)
+shared_by NextPhase marks = marks
+shared_by (Allocates t n h s a) marks = marks
+shared_by (Frees t n) marks = marks
+shared_by (FreesRaw t a n) marks = marks
+shared_by (Flushes t) marks = marks
+shared_by (Stops t) marks = marks
+shared_by (Ticks e) marks = marks
+shared_by Passes marks = marks
+shared_by (Idles n) marks = marks
+
+abbrev pub shared_in : List Item → ℕ
+shared_in [] = 0
+shared_in (i ∷ earlier) = shared_by i (shared_in earlier)
+
+abbrev pub name_at : ℕ → ℕ → Name
+name_at address turn = record { address = record { 0 = address }; turn = turn }
+
+abbrev pub operation : ℕ → ℕ → What → Op
+operation line actor what = record { line = line; actor = actor; what = what }
+
+-- an item's operation, where it is one
+abbrev pub operation_of : ℕ → Item → Option Op
+operation_of line Blank = None
+operation_of line (Shares h) = None
+operation_of line NextPhase = None
+operation_of line (Allocates t n h s a) = Some (operation line t (Alloc n h s a))
+operation_of line (Frees t n) = Some (operation line t (Free n))
+operation_of line (FreesRaw t a n) = Some (operation line t (Raw (name_at a n)))
+operation_of line (Flushes t) = Some (operation line t Flush)
+operation_of line (Stops t) = Some (operation line t Stop)
+operation_of line (Ticks e) = Some (operation line 0 (Tick e))
+operation_of line Passes = Some (operation line 0 Pass)
+operation_of line (Idles n) = Some (operation line 0 (Idle n))
+
+-- the phases so far, with their operations in order, from the items (newest first): a `phase` line begins an empty one, and an operation goes
+-- to the end of the last one
+abbrev pub add_last : Option Op → List (List Op) → List (List Op)
+add_last None phases = phases
+add_last (Some op) [] = (op ∷ []) ∷ []
+add_last (Some op) (p ∷ []) = (p ++ op ∷ []) ∷ []
+add_last (Some op) (p ∷ q ∷ phases) = p ∷ add_last (Some op) (q ∷ phases)
+
+-- the line of the newest of some items, the first of which stood on line 2
+abbrev pub line_of_newest : List Item → ℕ
+line_of_newest [] = 1
+line_of_newest (i ∷ earlier) = line_of_newest earlier + 1
+
+abbrev pub phases_after : Item → ℕ → List (List Op) → List (List Op)
+phases_after Blank line phases = phases
+phases_after (Shares h) line phases = phases
+phases_after NextPhase line phases = phases ++ [] ∷ []
+phases_after (Allocates t n h s a) line phases = add_last (operation_of line (Allocates t n h s a)) phases
+phases_after (Frees t n) line phases = add_last (operation_of line (Frees t n)) phases
+phases_after (FreesRaw t a n) line phases = add_last (operation_of line (FreesRaw t a n)) phases
+phases_after (Flushes t) line phases = add_last (operation_of line (Flushes t)) phases
+phases_after (Stops t) line phases = add_last (operation_of line (Stops t)) phases
+phases_after (Ticks e) line phases = add_last (operation_of line (Ticks e)) phases
+phases_after Passes line phases = add_last (operation_of line Passes) phases
+phases_after (Idles n) line phases = add_last (operation_of line (Idles n)) phases
+
+abbrev pub phases_in : List Item → List (List Op)
+phases_in [] = [] ∷ []
+phases_in (i ∷ earlier) = phases_after i (line_of_newest (i ∷ earlier)) (phases_in earlier)
+
+-- the costs of an actor's own operations
+abbrev pub own_costs : Profile → ℕ → List Item → ℕ
+own_costs f k [] = 0
+own_costs f k (i ∷ earlier) = if actor_of i == k then own_costs f k earlier + cost_of f i else own_costs f k earlier
+
+-- an actor's bound: for a thread a deed for each page and its costs, for the scavenger its costs
+abbrev pub bound_of : Profile → List Item → ℕ → ℕ
+bound_of f items k = if k == 0 then own_costs f 0 items else f.pages + own_costs f k items
+
+-- the bounds of the actors below n, in order
+abbrev pub bounds_upto : Profile → List Item → ℕ → List ℕ
+bounds_upto f items zero = []
+bounds_upto f items (suc n) = bounds_upto f items n ++ bound_of f items n ∷ []
+
+-- the operations of a phase as a list
+abbrev pub ops_of : Phase → List Op
+ops_of phase = phase.ops.items
+
+-- the phases and the bounds as lists
+abbrev pub phases_of : Phases → List Phase
+phases_of phases = phases.phases.items
+
+abbrev pub bounds_of : Bounds → List ℕ
+bounds_of bounds = bounds.bounds.items
+
+-- The plan is that of the text: its region, its phases, its bounds and its total.
+pub record IsPlanOf (text : List ℕ) (plan : Plan) : Type 0 where
+  pub items : List Item
+  pub header : Profile
+  pub read : parsed text ≡ Ok (record { header = header; items = items })
+  pub profile : plan.profile ≡ record header { shared = shared_in items }
+  pub phases : map ops_of (phases_of plan.phases) ≡ phases_in items
+  pub bounds : bounds_of plan.bounds ≡ bounds_upto header items (header.threads + 1)
+  pub total : plan.total ≡ record_bound header items
+
+-- The answer of the reader: the plan of the text, or its first fault. Nothing is said where memory ran out.
+abbrev pub IsReading : List ℕ → Result Plan ReadFault → Type 0
+IsReading text (Ok plan) = IsPlanOf text plan
+IsReading text (Err (Trace fault)) = parsed text ≡ Err fault
+IsReading text (Err NoMemory) = Unit {0}

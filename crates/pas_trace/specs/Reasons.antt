@@ -1,0 +1,196 @@
+-- The faults of a text: on each line the first reason that applies, each check asking about the lines before.
+use Rattle.std.specs.Prelude.{ℕ, ◌+◌, ◌*◌, ◌/◌, ◌%◌, ◌^◌, ◌<◌, ◌≤◌, ◌==◌, nat_lt, nat_le, Bool, true, false, not, ◌&&◌, ◌||◌, if◌then◌else◌, List, [], ◌∷◌, Option, None, Some, codes, Result, Ok, Err}
+use Rattle.pas_profile.specs.declared.profile.Profile.{Profile}
+use Rattle.pas_profile.specs.declared.directory.Route.{Route}
+use Rattle.pas_profile.specs.declared.directory.Route.TheVariants as Route
+use Rattle.pas_profile.specs.Routes.{route_of}
+use Rattle.pas_trace.specs.Texts.{lines_of, words_of}
+use Rattle.pas_trace.specs.Numbers.{number_of}
+use Rattle.pas_trace.specs.declared.item.Item.{Item}
+use Rattle.pas_trace.specs.declared.item.Item.TheVariants.{Blank, Shares, NextPhase, Allocates, Frees, FreesRaw, Flushes, Stops, Ticks, Passes, Idles}
+use Rattle.pas_trace.specs.Items.{same_bytes, item_of_line}
+use Rattle.pas_trace.specs.declared.fault.Reason.{Reason}
+use Rattle.pas_trace.specs.declared.fault.Reason.TheVariants as Reason
+
+-- ---- the header: `pas 1 pages P threads T heaps H age A`, each number within its limits
+abbrev pub within : ℕ → ℕ → Option ℕ → Option ℕ
+within least most None = None
+within least most (Some n) = if nat_le least n && nat_le n most then Some n else None
+
+abbrev pub profile_with : Option ℕ → Option ℕ → Option ℕ → Option ℕ → Option Profile
+profile_with None t h a = None
+profile_with (Some p) None h a = None
+profile_with (Some p) (Some t) None a = None
+profile_with (Some p) (Some t) (Some h) None = None
+profile_with (Some p) (Some t) (Some h) (Some a) = Some record { pages = p; threads = t; age = a; heaps = h; shared = 0 }
+
+abbrev pub header_of_words : List (List ℕ) → Option Profile
+header_of_words (w1 ∷ w2 ∷ w3 ∷ p ∷ w5 ∷ t ∷ w7 ∷ h ∷ w9 ∷ a ∷ []) =
+    if same_bytes w1 (codes "pas") && same_bytes w2 (codes "1") && same_bytes w3 (codes "pages") && same_bytes w5 (codes "threads") && same_bytes w7 (codes "heaps") && same_bytes w9 (codes "age")
+    then profile_with (within 1 4096 (number_of p)) (within 1 16 (number_of t)) (within 1 32 (number_of h)) (within 1 1000000 (number_of a)) else None
+header_of_words other = None
+
+-- the first line is no header where it is empty or begins with `#`, as anywhere
+abbrev pub header_of : List ℕ → Option Profile
+header_of line = header_of_words (words_of line)
+
+-- ---- what the items before a line come to; they have the NEWEST FIRST
+abbrev pub is_operation : Item → Bool
+is_operation Blank = false
+is_operation (Shares h) = false
+is_operation NextPhase = false
+is_operation (Allocates t n h s a) = true
+is_operation (Frees t n) = true
+is_operation (FreesRaw t a n) = true
+is_operation (Flushes t) = true
+is_operation (Stops t) = true
+is_operation (Ticks e) = true
+is_operation Passes = true
+is_operation (Idles n) = true
+
+abbrev pub is_phase : Item → Bool
+is_phase Blank = false
+is_phase (Shares h) = false
+is_phase NextPhase = true
+is_phase (Allocates t n h s a) = false
+is_phase (Frees t n) = false
+is_phase (FreesRaw t a n) = false
+is_phase (Flushes t) = false
+is_phase (Stops t) = false
+is_phase (Ticks e) = false
+is_phase Passes = false
+is_phase (Idles n) = false
+
+-- an operation or a `phase` line stood before
+abbrev pub started : List Item → Bool
+started [] = false
+started (i ∷ earlier) = is_operation i || is_phase i || started earlier
+
+abbrev pub operations_in : List Item → ℕ
+operations_in [] = 0
+operations_in (i ∷ earlier) = if is_operation i then operations_in earlier + 1 else operations_in earlier
+
+-- the item allocates the name
+abbrev pub allocates : Item → ℕ → Bool
+allocates Blank name = false
+allocates (Shares h) name = false
+allocates NextPhase name = false
+allocates (Allocates t n h s a) name = n == name
+allocates (Frees t n) name = false
+allocates (FreesRaw t a n) name = false
+allocates (Flushes t) name = false
+allocates (Stops t) name = false
+allocates (Ticks e) name = false
+allocates Passes name = false
+allocates (Idles n) name = false
+
+-- an allocation before has the name
+abbrev pub is_named : List Item → ℕ → Bool
+is_named [] name = false
+is_named (i ∷ earlier) name = allocates i name || is_named earlier name
+
+-- .. in the present phase
+abbrev pub is_named_now : List Item → ℕ → Bool
+is_named_now [] name = false
+is_named_now (i ∷ earlier) name = if is_phase i then false else (allocates i name || is_named_now earlier name)
+
+-- the thread of a line; 0 for those of the scavenger and those that are no operations
+abbrev pub actor_of : Item → ℕ
+actor_of Blank = 0
+actor_of (Shares h) = 0
+actor_of NextPhase = 0
+actor_of (Allocates t n h s a) = t
+actor_of (Frees t n) = t
+actor_of (FreesRaw t a n) = t
+actor_of (Flushes t) = t
+actor_of (Stops t) = t
+actor_of (Ticks e) = 0
+actor_of Passes = 0
+actor_of (Idles n) = 0
+
+-- the thread that allocated the name
+abbrev pub thread_of : List Item → ℕ → ℕ
+thread_of [] name = 0
+thread_of (i ∷ earlier) name = if allocates i name then actor_of i else thread_of earlier name
+
+-- ---- how many records an item may make
+-- whole pages that hold so many bytes
+abbrev pub pages_for : ℕ → ℕ
+pages_for size = (size + 4095) / 4096
+
+abbrev pub cost_of_route : Route → ℕ → ℕ
+cost_of_route (Route.Class c) size = 2
+cost_of_route Route.Bitfit size = 2
+cost_of_route Route.Large size = 1 + pages_for size
+
+abbrev pub cost_of : Profile → Item → ℕ
+cost_of f Blank = 0
+cost_of f (Shares h) = 0
+cost_of f NextPhase = 0
+cost_of f (Allocates t n h s a) = cost_of_route (route_of s a) s
+cost_of f (Frees t n) = 1
+cost_of f (FreesRaw t a n) = 1
+cost_of f (Flushes t) = 0
+cost_of f (Stops t) = 0
+cost_of f (Ticks e) = 1
+cost_of f Passes = 1 + f.pages
+cost_of f (Idles n) = f.threads
+
+abbrev pub costs_of : Profile → List Item → ℕ
+costs_of f [] = 0
+costs_of f (i ∷ earlier) = costs_of f earlier + cost_of f i
+
+-- the bound of the records: a deed for each thread and page, and the costs
+abbrev pub record_bound : Profile → List Item → ℕ
+record_bound f items = f.threads * f.pages + costs_of f items
+
+-- ---- the checks of one item, in the order of the reasons; the first that fails gives the reason
+abbrev pub first_failed : List (Bool × Reason) → Option Reason
+first_failed [] = None
+first_failed (c ∷ cs) = if c.0 then first_failed cs else Some c.1
+
+-- an alignment is a power of two from 16 to 4,096
+abbrev pub is_alignment : ℕ → Bool
+is_alignment a = nat_le 16 a && nat_le a 4096 && (4096 % a == 0)
+
+abbrev pub is_thread : Profile → ℕ → Bool
+is_thread f t = nat_le 1 t && nat_le t f.threads
+
+abbrev pub few_enough : Profile → List Item → Item → List (Bool × Reason)
+few_enough f earlier i = (nat_lt (operations_in earlier) 1000000, Reason.TooManyOps) ∷ (nat_le (record_bound f (i ∷ earlier)) 2000000, Reason.TraceTooLarge) ∷ []
+
+abbrev pub thread_first : Profile → List Item → ℕ → Item → List (Bool × Reason)
+thread_first f earlier t i = (is_thread f t, Reason.BadThread) ∷ few_enough f earlier i
+
+abbrev pub checks_of : Profile → List Item → Item → List (Bool × Reason)
+checks_of f earlier Blank = []
+checks_of f earlier (Shares h) = (nat_lt h f.heaps, Reason.BadHeap) ∷ []
+checks_of f earlier NextPhase = []
+checks_of f earlier (Allocates t n h s a) =
+    (is_thread f t, Reason.BadThread) ∷ (nat_lt h f.heaps, Reason.BadHeap) ∷ (nat_le s (4096 * f.pages), Reason.BadSize) ∷ (is_alignment a, Reason.BadAlign)
+    ∷ (not (is_named earlier n), Reason.NameTaken) ∷ few_enough f earlier (Allocates t n h s a)
+checks_of f earlier (Frees t n) =
+    (is_thread f t, Reason.BadThread) ∷ (is_named earlier n, Reason.NameUnknown) ∷ ((t == thread_of earlier n) || not (is_named_now earlier n), Reason.TooEarly)
+    ∷ few_enough f earlier (Frees t n)
+checks_of f earlier (FreesRaw t a n) = thread_first f earlier t (FreesRaw t a n)
+checks_of f earlier (Flushes t) = thread_first f earlier t (Flushes t)
+checks_of f earlier (Stops t) = thread_first f earlier t (Stops t)
+checks_of f earlier (Ticks e) = few_enough f earlier (Ticks e)
+checks_of f earlier Passes = few_enough f earlier Passes
+checks_of f earlier (Idles n) = few_enough f earlier (Idles n)
+
+-- the fault of an item after those before it
+abbrev pub reason_of : Profile → List Item → Item → Option Reason
+reason_of f earlier i = first_failed (checks_of f earlier i)
+
+abbrev pub kept : Item → Option Reason → Result Item Reason
+kept i None = Ok i
+kept i (Some r) = Err r
+
+abbrev pub checked : Profile → List Item → Result Item Reason → Result Item Reason
+checked f earlier (Err r) = Err r
+checked f earlier (Ok i) = kept i (reason_of f earlier i)
+
+-- what a line says after the items before it, or its reason
+abbrev pub line_says : Profile → List Item → List ℕ → Result Item Reason
+line_says f earlier line = checked f earlier (item_of_line (started earlier) line)

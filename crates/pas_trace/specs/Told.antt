@@ -1,0 +1,155 @@
+-- What the reader keeps of the lines that it has read.
+use Rattle.std.specs.Prelude.{ℕ, zero, ◌+◌, ◌*◌, ◌^◌, ◌==◌, ◌≡◌, ◌≤◌, ◌<◌, nat_lt, nat_le, Bool, true, not, ◌&&◌, ◌||◌, List, [], ◌∷◌, ◌++◌, map, length, Option, None, Some, Result, Ok, Err, slice_index, slice_index_or, slice_set}
+use Rattle.pas_profile.specs.declared.profile.Profile.{Profile}
+use Rattle.pas_trace.specs.Reasons.{first_failed, is_thread, is_alignment, cost_of, started, operations_in, is_named, is_named_now, thread_of, record_bound, line_says, reason_of}
+use Rattle.pas_trace.specs.declared.fault.Reason.{Reason}
+use Rattle.pas_trace.specs.declared.fault.Reason.TheVariants as Reason
+use Rattle.pas_trace.specs.declared.item.Item.{Item}
+use Rattle.pas_trace.specs.declared.item.Item.TheVariants.{Blank, Shares, NextPhase, Allocates, Frees, FreesRaw, Flushes, Stops, Ticks, Passes, Idles}
+use Rattle.pas_trace.specs.declared.reader.Reader.{Reader}
+use Rattle.pas_trace.specs.Texts.{lines_of}
+use Rattle.pas_trace.specs.Plans.{ops_of, phases_of, bounds_of, phases_in, shared_in, line_of_newest, own_costs, bounds_upto, add_last, operation, fault_at, items_from}
+use Rattle.pas_trace.specs.declared.plan.Op.{Op}
+use Rattle.pas_trace.specs.declared.plan.What.{What}
+use Rattle.pas_trace.specs.declared.plan.Plan.{Plan}
+use Rattle.pas_trace.specs.declared.fault.ReadFault.{ReadFault}
+use Rattle.pas_trace.specs.declared.fault.ReadFault.TheVariants.{Trace, NoMemory}
+use Rattle.pas_trace.specs.declared.names.Owner.{Owner}
+use Rattle.pas_trace.specs.declared.names.Names.{Names}
+use Rattle.pas_trace.specs.declared.gathered.Gathered.{Gathered}
+
+-- the owner that the names give a name
+abbrev pub owner_in : Names → ℕ → Owner
+owner_in names name = slice_index_or names.owners.items name record { thread = 0; phase = 0 }
+
+-- the phases that were gathered, in order
+abbrev pub gathered_phases : Gathered → List (List Op)
+gathered_phases gathered = map ops_of gathered.done.items ++ gathered.present.items ∷ []
+
+-- the limits of a header
+pub record IsHeader (f : Profile) : Type 0 where
+  pub one_page : 1 ≤ f.pages
+  pub pages : f.pages ≤ 4096
+  pub threads : f.threads ≤ 16
+  pub heaps : f.heaps ≤ 32
+
+-- ---- the checks, by what the reader keeps
+abbrev pub few_told : Reader → ℕ → List (Bool × Reason)
+few_told r cost = (nat_lt r.counts.operations 1000000, Reason.TooManyOps) ∷ (nat_le (r.counts.bound + cost) 2000000, Reason.TraceTooLarge) ∷ []
+
+abbrev pub thread_told : Reader → ℕ → ℕ → List (Bool × Reason)
+thread_told r t cost = (is_thread r.header t, Reason.BadThread) ∷ few_told r cost
+
+abbrev pub has_owner : Reader → ℕ → Bool
+has_owner r n = not ((owner_in r.names n).thread == 0)
+
+abbrev pub has_owner_now : Reader → ℕ → Bool
+has_owner_now r n = has_owner r n && ((owner_in r.names n).phase == r.phase)
+
+abbrev pub told_checks : Reader → Item → List (Bool × Reason)
+told_checks r Blank = []
+told_checks r (Shares h) = (nat_lt h r.header.heaps, Reason.BadHeap) ∷ []
+told_checks r NextPhase = []
+told_checks r (Allocates t n h s a) =
+    (is_thread r.header t, Reason.BadThread) ∷ (nat_lt h r.header.heaps, Reason.BadHeap) ∷ (nat_le s (4096 * r.header.pages), Reason.BadSize) ∷ (is_alignment a, Reason.BadAlign)
+    ∷ (not (has_owner r n), Reason.NameTaken) ∷ few_told r (cost_of r.header (Allocates t n h s a))
+told_checks r (Frees t n) =
+    (is_thread r.header t, Reason.BadThread) ∷ (has_owner r n, Reason.NameUnknown) ∷ ((t == (owner_in r.names n).thread) || not (has_owner_now r n), Reason.TooEarly)
+    ∷ few_told r 1
+told_checks r (FreesRaw t a n) = thread_told r t 1
+told_checks r (Flushes t) = thread_told r t 0
+told_checks r (Stops t) = thread_told r t 0
+told_checks r (Ticks e) = few_told r 1
+told_checks r Passes = few_told r (cost_of r.header Passes)
+told_checks r (Idles n) = few_told r (cost_of r.header (Idles n))
+
+-- the answer of the checks: the cost where all hold, or the first reason
+abbrev pub IsChecked : List (Bool × Reason) → ℕ → Result ℕ Reason → Type 0
+IsChecked checks cost (Ok c) = (first_failed checks ≡ None) × (c ≡ cost)
+IsChecked checks cost (Err r) = first_failed checks ≡ Some r
+
+-- ---- the numbers of an item, as far as its words bound them
+abbrev pub IsRanged : Item → Type 0
+IsRanged Blank = Unit {0}
+IsRanged (Shares h) = Unit {0}
+IsRanged NextPhase = Unit {0}
+IsRanged (Allocates t n h s a) = n ≤ 1000000
+IsRanged (Frees t n) = n ≤ 1000000
+IsRanged (FreesRaw t a n) = a < 2 ^ 32
+IsRanged (Flushes t) = Unit {0}
+IsRanged (Stops t) = Unit {0}
+IsRanged (Ticks e) = Unit {0}
+IsRanged Passes = Unit {0}
+IsRanged (Idles n) = Unit {0}
+
+-- ---- what the reader keeps, told by the items that it has read
+
+-- the owner of a name, after these items
+pub record NameTold (owner : Owner) (phase : ℕ) (items : List Item) (n : ℕ) : Type 0 where
+  pub named : is_named items n ≡ not (owner.thread == 0)
+  pub thread : thread_of items n ≡ owner.thread
+  pub now : is_named_now items n ≡ (not (owner.thread == 0) && (owner.phase == phase))
+  pub before : owner.phase ≤ phase
+
+pub record Tells (r : Reader) (items : List Item) : Type 0 where
+  pub header : IsHeader r.header
+  pub shared : r.shared ≡ shared_in items
+  pub started : r.started ≡ started items
+  pub line : r.line ≡ line_of_newest items
+  pub phase : r.phase ≤ r.line
+  pub names : (n : ℕ) → NameTold (owner_in r.names n) r.phase items n
+  pub operations : r.counts.operations ≡ operations_in items
+  pub bound : r.counts.bound ≡ record_bound r.header items
+  pub small : r.counts.bound ≤ 2000000
+  pub width : length r.counts.costs ≡ 17
+  pub costs : (k : ℕ) → k < 17 → slice_index r.counts.costs k ≡ own_costs r.header k items
+  pub phases : gathered_phases r.gathered ≡ phases_in items
+
+-- an operation was added
+pub record IsOperated (old new : Reader) (actor : ℕ) (what : What) (cost : ℕ) : Type 0 where
+  pub header : new.header ≡ old.header
+  pub shared : new.shared ≡ old.shared
+  pub started : new.started ≡ true
+  pub line : new.line ≡ old.line
+  pub phase : new.phase ≡ old.phase
+  pub names : (n : ℕ) → owner_in new.names n ≡ owner_in old.names n
+  pub operations : new.counts.operations ≡ old.counts.operations + 1
+  pub bound : new.counts.bound ≡ old.counts.bound + cost
+  pub costs : new.counts.costs ≡ slice_set old.counts.costs actor (slice_index old.counts.costs actor + cost)
+  pub phases : gathered_phases new.gathered ≡ add_last (Some (operation old.line actor what)) (gathered_phases old.gathered)
+
+-- the next phase was begun
+pub record IsNextPhase (old new : Reader) : Type 0 where
+  pub header : new.header ≡ old.header
+  pub shared : new.shared ≡ old.shared
+  pub started : new.started ≡ true
+  pub line : new.line ≡ old.line
+  pub phase : new.phase ≡ old.phase + 1
+  pub names : (n : ℕ) → owner_in new.names n ≡ owner_in old.names n
+  pub counts : new.counts ≡ old.counts
+  pub phases : gathered_phases new.gathered ≡ gathered_phases old.gathered ++ [] ∷ []
+
+-- an item was added
+pub record IsAdded (old new : Reader) (item : Item) : Type 0 where
+  pub header : new.header ≡ old.header
+  pub line : new.line ≡ old.line + 1
+  pub tells : (items : List Item) → Tells old items → reason_of old.header items item ≡ None → Tells new (item ∷ items)
+
+-- the next line was taken after these items, or has this fault
+abbrev pub IsTaken : Reader → List Item → List ℕ → Reader → Result (Unit {0}) ReadFault → Type 0
+IsTaken old items line new (Ok done) = (i : Item) × (line_says old.header items line ≡ Ok i) × Tells new (i ∷ items) × (new.header ≡ old.header) × (new.line ≡ old.line + 1)
+IsTaken old items line new (Err (Trace fault)) = (r : Reason) × (line_says old.header items line ≡ Err r) × (fault ≡ fault_at (old.line + 1) r)
+IsTaken old items line new (Err NoMemory) = Unit {0}
+
+-- the lines of a text were taken after these items, or have this fault
+abbrev pub IsRead : Reader → List Item → List ℕ → Reader → Result (Unit {0}) ReadFault → Type 0
+IsRead old items text new (Ok done) = (all : List Item) × (items_from old.header (old.line + 1) items (lines_of text) ≡ Ok all) × Tells new all × (new.header ≡ old.header)
+IsRead old items text new (Err (Trace fault)) = items_from old.header (old.line + 1) items (lines_of text) ≡ Err fault
+IsRead old items text new (Err NoMemory) = Unit {0}
+
+-- the plan of a header and items
+pub record IsPlanned (header : Profile) (items : List Item) (plan : Plan) : Type 0 where
+  pub profile : plan.profile ≡ record header { shared = shared_in items }
+  pub phases : map ops_of (phases_of plan.phases) ≡ phases_in items
+  pub bounds : bounds_of plan.bounds ≡ bounds_upto header items (header.threads + 1)
+  pub total : plan.total ≡ record_bound header items

@@ -1,0 +1,77 @@
+//! The first line of a trace.
+ghost use Rattle.std.specs.Prelude.{◌≡◌, ◌<◌, ◌≤◌, ◌∷◌, IfSome, MatchOption, length};
+ghost use Rattle.pas_trace.specs.Texts.{words_of};
+ghost use Rattle.pas_trace.specs.Numbers.{number_of};
+ghost use Rattle.pas_trace.specs.Reasons.{within, profile_with, header_of};
+ghost use Rattle.pas_trace.specs.Told.{IsHeader};
+
+use crate::numbers::number;
+use crate::words::{is_word, next_word};
+use pas_profile::Profile;
+use pas_profile::limits::{MOST_AGE, MOST_HEAPS, MOST_PAGES, MOST_THREADS};
+
+/// The first two words of a line, and the bytes after them. None where there are fewer.
+fn word_pair(line: &[u8]) -> Option<(&[u8], &[u8], &[u8])>
+    ensures { MatchOption result (length (words_of line.now) < 2) (λ p. words_of line.now ≡ p.0.now ∷ p.1.now ∷ words_of p.2.now) }
+{
+    let (first, rest) = next_word(line)?;
+    let (second, rest) = next_word(rest)?;
+    Some((first, second, rest))
+}
+
+/// The number that a word is, if it is within these limits.
+fn number_within(least: u64, most: u64, word: &[u8]) -> Option<u64>
+    ensures value { result ≡ within least most (number_of word.now) }
+    ensures least { IfSome result (λ n. least ≤ n) }
+    ensures most { IfSome result (λ n. n ≤ most) }
+{
+    match number(word) {
+        Some(value) if value >= least && value <= most => Some(value),
+        _ => None,
+    }
+}
+
+/// The region of the numbers in a header, if each is within its limits: 1 to 4,096 pages, 1 to 16 threads, 1 to 32 heaps, and an
+/// age from 1 to 1,000,000. No heap is shared.
+fn header_with(pages: &[u8], threads: &[u8], heaps: &[u8], age: &[u8]) -> Option<Profile>
+    ensures value { result ≡ profile_with (within 1 4096 (number_of pages.now)) (within 1 16 (number_of threads.now)) (within 1 32 (number_of heaps.now)) (within 1 1000000 (number_of age.now)) }
+    ensures limits { IfSome result IsHeader }
+{
+    let pages = number_within(1, MOST_PAGES as u64, pages)?;
+    let threads = number_within(1, MOST_THREADS as u64, threads)?;
+    let heaps = number_within(1, MOST_HEAPS as u64, heaps)?;
+    let age = number_within(1, MOST_AGE, age)?;
+    Some(Profile {
+        pages: pages as u32,
+        threads: threads as u8,
+        age,
+        heaps: heaps as u8,
+        shared: 0,
+    })
+}
+
+/// The region that a header names: `pas 1 pages P threads T heaps H age A`. None for any other line.
+pub fn read_header(line: &[u8]) -> Option<Profile>
+    ensures value { result ≡ header_of line.now }
+    ensures limits { IfSome result IsHeader }
+{
+    let (format, version, rest) = word_pair(line)?;
+    let (pages_label, pages, rest) = word_pair(rest)?;
+    let (threads_label, threads, rest) = word_pair(rest)?;
+    let (heaps_label, heaps, rest) = word_pair(rest)?;
+    let (age_label, age, rest) = word_pair(rest)?;
+    if next_word(rest).is_some() {
+        return None;
+    }
+    let labelled = is_word(format, b"pas")
+        && is_word(version, b"1")
+        && is_word(pages_label, b"pages")
+        && is_word(threads_label, b"threads")
+        && is_word(heaps_label, b"heaps")
+        && is_word(age_label, b"age");
+    if labelled {
+        header_with(pages, threads, heaps, age)
+    } else {
+        None
+    }
+}

@@ -1,0 +1,209 @@
+//! From a line to what it says.
+ghost use Rattle.std.specs.Prelude.{◌≡◌, ℕ, Option, Some, None, ◌≤◌, ◌<◌, ◌^◌, IfOk, MatchResult};
+ghost use Rattle.pas_trace.specs.Told.{IsRanged};
+ghost use Rattle.pas_trace.specs.Items.{plain, trace_name, epoch_word, turn_word, item_of_one, item_of_two, item_of_three, item_of_four, item_of_six, item_of_words, item_of_line};
+ghost use Rattle.pas_trace.specs.Numbers.{address_of_word};
+ghost use Rattle.pas_trace.specs.Texts.{words_of};
+
+use crate::fault::Reason;
+use crate::item::Item;
+use crate::numbers::{address, number};
+use crate::words::{is_word, next_word};
+
+/// The greatest trace name.
+pub const MOST_NAME: u64 = 1_000_000;
+
+/// Epochs, turns and the arguments of idle lines are below this.
+const EPOCHS: u64 = 1 << 40;
+
+/// The number that a place holds.
+#[inline]
+fn number_at(word: &[u8]) -> Result<u64, Reason>
+    ensures { MatchResult result (λ n. plain word.now ≡ Some n) (λ r. (plain word.now ≡ None) × (r ≡ Reason.BadNumber)) }
+{
+    number(word).ok_or(Reason::BadNumber)
+}
+
+/// The trace name that a place holds, from 1 to 1,000,000.
+#[inline]
+fn name_at(word: &[u8]) -> Result<u64, Reason>
+    ensures small { IfOk result (λ n. n ≤ 1000000) }
+    ensures value { MatchResult result (λ n. trace_name word.now ≡ Some n) (λ r. (trace_name word.now ≡ None) × (r ≡ Reason.BadNumber)) }
+{
+    match number(word) {
+        Some(value) if value >= 1 && value <= MOST_NAME => Ok(value),
+        _ => Err(Reason::BadNumber),
+    }
+}
+
+/// The epoch that a place holds, below 2^40.
+#[inline]
+fn epoch_at(word: &[u8]) -> Result<u64, Reason>
+    ensures { MatchResult result (λ n. epoch_word word.now ≡ Some n) (λ r. (epoch_word word.now ≡ None) × (r ≡ Reason.BadNumber)) }
+{
+    match number(word) {
+        Some(value) if value < EPOCHS => Ok(value),
+        _ => Err(Reason::BadNumber),
+    }
+}
+
+/// The turn that a place holds, below 2^40 - 1.
+#[inline]
+fn turn_at(word: &[u8]) -> Result<u64, Reason>
+    ensures { MatchResult result (λ n. turn_word word.now ≡ Some n) (λ r. (turn_word word.now ≡ None) × (r ≡ Reason.BadNumber)) }
+{
+    match number(word) {
+        Some(value) if value < EPOCHS - 1 => Ok(value),
+        _ => Err(Reason::BadNumber),
+    }
+}
+
+/// The address that a place holds.
+fn address_at(word: &[u8]) -> Result<u64, Reason>
+    ensures small { IfOk result (λ n. n < 2 ^ 32) }
+    ensures value { MatchResult result (λ n. address_of_word word.now ≡ Some n) (λ r. (address_of_word word.now ≡ None) × (r ≡ Reason.BadNumber)) }
+{
+    address(word).ok_or(Reason::BadNumber)
+}
+
+/// What a line of one word says.
+fn item_of_one_word(word: &[u8]) -> Result<Item, Reason>
+    ensures value { result ≡ item_of_one word.now }
+    ensures ranged { IfOk result IsRanged }
+{
+    if is_word(word, b"pass") {
+        Ok(Item::Passes)
+    } else if is_word(word, b"phase") {
+        Ok(Item::NextPhase)
+    } else {
+        Err(Reason::BadWord)
+    }
+}
+
+/// What a line of two words says. A `shared` line may not follow an operation or a `phase` line.
+fn item_of_two_words(started: bool, word: &[u8], a: &[u8]) -> Result<Item, Reason>
+    ensures value { result ≡ item_of_two started word.now a.now }
+    ensures ranged { IfOk result IsRanged }
+{
+    if is_word(word, b"shared") {
+        if started {
+            return Err(Reason::BadWord);
+        }
+        Ok(Item::Shares(number_at(a)?))
+    } else if is_word(word, b"flush") {
+        Ok(Item::Flushes(number_at(a)?))
+    } else if is_word(word, b"stop") {
+        Ok(Item::Stops(number_at(a)?))
+    } else if is_word(word, b"tick") {
+        Ok(Item::Ticks(epoch_at(a)?))
+    } else if is_word(word, b"idle") {
+        Ok(Item::Idles(epoch_at(a)?))
+    } else {
+        Err(Reason::BadWord)
+    }
+}
+
+/// What a line of three words says.
+#[inline]
+fn item_of_three_words(word: &[u8], a: &[u8], b: &[u8]) -> Result<Item, Reason>
+    ensures value { result ≡ item_of_three word.now a.now b.now }
+    ensures ranged { IfOk result IsRanged }
+{
+    if !is_word(word, b"f") {
+        return Err(Reason::BadWord);
+    }
+    let thread = number_at(a)?;
+    let name = name_at(b)?;
+    Ok(Item::Frees { thread, name })
+}
+
+/// What a line of four words says.
+fn item_of_four_words(word: &[u8], a: &[u8], b: &[u8], c: &[u8]) -> Result<Item, Reason>
+    ensures value { result ≡ item_of_four word.now a.now b.now c.now }
+    ensures ranged { IfOk result IsRanged }
+{
+    if !is_word(word, b"r") {
+        return Err(Reason::BadWord);
+    }
+    let thread = number_at(a)?;
+    let address = address_at(b)?;
+    let turn = turn_at(c)?;
+    Ok(Item::FreesRaw {
+        thread,
+        address,
+        turn,
+    })
+}
+
+/// What a line of six words says.
+#[inline]
+fn item_of_six_words(
+    word: &[u8],
+    a: &[u8],
+    b: &[u8],
+    c: &[u8],
+    d: &[u8],
+    e: &[u8],
+) -> Result<Item, Reason>
+    ensures value { result ≡ item_of_six word.now a.now b.now c.now d.now e.now }
+    ensures ranged { IfOk result IsRanged }
+{
+    if !is_word(word, b"a") {
+        return Err(Reason::BadWord);
+    }
+    let thread = number_at(a)?;
+    let name = name_at(b)?;
+    let heap = number_at(c)?;
+    let size = number_at(d)?;
+    let align = number_at(e)?;
+    Ok(Item::Allocates {
+        thread,
+        name,
+        heap,
+        size,
+        align,
+    })
+}
+
+/// What the words of a line say: their number and the first of them choose the kind.
+#[inline]
+fn item_of_words(started: bool, line: &[u8]) -> Result<Item, Reason>
+    ensures value { result ≡ item_of_words started (words_of line.now) }
+    ensures ranged { IfOk result IsRanged }
+{
+    let Some((word, rest)) = next_word(line) else {
+        return Ok(Item::Blank);
+    };
+    let Some((a, rest)) = next_word(rest) else {
+        return item_of_one_word(word);
+    };
+    let Some((b, rest)) = next_word(rest) else {
+        return item_of_two_words(started, word, a);
+    };
+    let Some((c, rest)) = next_word(rest) else {
+        return item_of_three_words(word, a, b);
+    };
+    let Some((d, rest)) = next_word(rest) else {
+        return item_of_four_words(word, a, b, c);
+    };
+    let Some((e, rest)) = next_word(rest) else {
+        return Err(Reason::BadWord);
+    };
+    match next_word(rest) {
+        None => item_of_six_words(word, a, b, c, d, e),
+        Some(_) => Err(Reason::BadWord),
+    }
+}
+
+/// What a line from the second on says, or BadWord or BadNumber. `started` says that an operation or a `phase` line stands
+/// before. One pass.
+#[inline]
+pub fn read_item(started: bool, line: &[u8]) -> Result<Item, Reason>
+    ensures value { result ≡ item_of_line started line.now }
+    ensures ranged { IfOk result IsRanged }
+{
+    if !line.is_empty() && line[0] == b'#' {
+        return Ok(Item::Blank);
+    }
+    item_of_words(started, line)
+}

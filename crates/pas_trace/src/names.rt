@@ -1,0 +1,67 @@
+//! The trace names that are taken.
+ghost use Rattle.std.specs.Prelude.{◌≡◌, ◌<◌, ◌≤◌, ◌==◌, ℕ, if◌then◌else◌, OnOk, length, vec_len};
+ghost use Rattle.pas_trace.specs.Told.{owner_in};
+
+use std::alloc::{AllocError, Global};
+
+/// The thread that allocated a name, and the number of the phase in which it did. Thread 0 stands for a name that is free.
+#[derive(Clone, Copy, Debug, PartialEq, Eq, Drop)]
+pub struct Owner {
+    pub thread: u8,
+    pub phase: u32,
+}
+
+/// The owner of a name that nobody took.
+const NOBODY: Owner = Owner {
+    thread: 0,
+    phase: 0,
+};
+
+/// The owners by trace name, up to the greatest name that was taken.
+#[derive(Drop)]
+pub struct Names {
+    owners: Vec<Owner>,
+}
+
+impl Names {
+    /// No name is taken.
+    pub fn new(alloc: Global) -> Names
+        ensures { (n : ℕ) → owner_in result n ≡ record { thread = 0; phase = 0 } }
+    {
+        Names {
+            owners: Vec::new(alloc),
+        }
+    }
+
+    /// The owner of the name.
+    #[inline]
+    pub fn owner(&self, name: u64) -> Owner
+        ensures { result ≡ owner_in self.now name }
+    {
+        match self.owners.get(name as usize) {
+            Some(owner) => *owner,
+            None => NOBODY,
+        }
+    }
+
+    /// Makes room for the name, with nobody as the owner of the new ones.
+    fn grow_to(&mut self, name: u64) -> Result<(), AllocError>
+        ensures same { (n : ℕ) → owner_in self.new n ≡ owner_in self.old n }
+        ensures room { OnOk result (name < vec_len self.new.owners) }
+    {
+        while self.owners.len() as u64 <= name {
+            self.owners.push(NOBODY)?;
+        }
+        Ok(())
+    }
+
+    /// Gives the name to the owner. Amortized constant time over growing names.
+    #[inline]
+    pub fn give(&mut self, name: u64, owner: Owner) -> Result<(), AllocError>
+        ensures { OnOk result ((n : ℕ) → owner_in self.new n ≡ (if n == name then owner else owner_in self.old n)) }
+    {
+        self.grow_to(name)?;
+        self.owners[name as usize] = owner;
+        Ok(())
+    }
+}

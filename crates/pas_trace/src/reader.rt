@@ -1,0 +1,216 @@
+//! The reader: what it keeps of the lines before, and how it takes a line.
+ghost use Rattle.std.specs.Prelude.{◌≡◌, ◌<◌, ◌≤◌, ◌+◌, ◌∷◌, ◌^◌, [], ℕ, List, Some, None, Ok, Err, OnOk, IfOk, MatchResult, length, slice_index};
+ghost use Rattle.pas_trace.specs.Reasons.{line_says, reason_of, cost_of, started};
+ghost use Rattle.pas_trace.specs.Items.{item_of_line};
+ghost use Rattle.pas_trace.specs.Plans.{IsReading, bounds_of, bounds_upto};
+ghost use Rattle.pas_trace.specs.Told.{IsHeader, IsRanged, Tells, IsOperated, IsNextPhase, IsAdded, IsTaken, IsRead, IsPlanned, told_checks};
+ghost use Rattle.pas_trace.specs.declared.item.Item.{Item};
+
+use crate::counts::Counts;
+use crate::fault::{ReadFault, Reason, TraceFault};
+use crate::gathered::Gathered;
+use crate::header::read_header;
+use crate::item::Item;
+use crate::items::read_item;
+use crate::lines::next_line;
+use crate::names::{Names, Owner};
+use crate::plan::{Bounds, Op, Plan, What};
+use pas_profile::{Address, Name, Profile};
+use std::alloc::{AllocError, Global};
+
+/// What the lines so far come to.
+#[derive(Drop)]
+pub struct Reader {
+    pub alloc: Global,
+    pub header: Profile,
+    /// The marks of shared heaps.
+    pub shared: u32,
+    /// Whether an operation or a `phase` line was read.
+    pub started: bool,
+    /// The number of the line that was read last.
+    pub line: u32,
+    /// The number of `phase` lines.
+    pub phase: u32,
+    pub names: Names,
+    pub counts: Counts,
+    pub gathered: Gathered,
+}
+
+impl Reader {
+    /// A reader that has read the header.
+    fn new(alloc: Global, header: Profile) -> Reader
+        requires { IsHeader header }
+        ensures tells { Tells result [] }
+        ensures header { result.header ≡ header }
+    {
+        Reader {
+            alloc,
+            header,
+            shared: 0,
+            started: false,
+            line: 1,
+            phase: 0,
+            names: Names::new(alloc),
+            counts: Counts::new(&header),
+            gathered: Gathered::new(alloc),
+        }
+    }
+
+    /// Adds an operation of the line.
+    #[inline]
+    fn operate(&mut self, actor: u8, what: What, cost: u32) -> Result<(), AllocError>
+        requires actor { actor < 17 }
+        requires few { self.old.counts.operations < 1000000 }
+        requires small { self.old.counts.bound + cost ≤ 2000000 }
+        requires within { slice_index self.old.counts.costs actor ≤ self.old.counts.bound }
+        ensures { OnOk result (IsOperated self.old self.new actor what cost) }
+    {
+        self.started = true;
+        self.counts.add(actor, cost);
+        let line = self.line;
+        self.gathered.add(Op { line, actor, what })
+    }
+
+    /// Begins the next phase.
+    fn next_phase(&mut self) -> Result<(), AllocError>
+        requires { self.old.phase < 2 ^ 25 }
+        ensures { OnOk result (IsNextPhase self.old self.new) }
+    {
+        self.started = true;
+        self.phase += 1;
+        let alloc = self.alloc;
+        self.gathered.next_phase(alloc)
+    }
+
+    /// Adds an item that passed its checks.
+    #[inline]
+    fn add(&mut self, item: Item, cost: u32) -> Result<(), AllocError>
+        requires tells { (items : List Item) × Tells self.old items × (reason_of self.old.header items item ≡ None) }
+        requires ranged { IsRanged item }
+        requires cost { cost ≡ cost_of self.old.header item }
+        requires line { self.old.line < 2 ^ 25 }
+        ensures { OnOk result (IsAdded self.old self.new item) }
+    {
+        self.line += 1;
+        match item {
+            Item::Blank => Ok(()),
+            Item::NextPhase => self.next_phase(),
+            Item::Shares(heap) => {
+                self.shared |= 1u32 << heap;
+                Ok(())
+            }
+            Item::Allocates { thread, name, heap, size, align } => {
+                let owner = Owner { thread: thread as u8, phase: self.phase };
+                self.names.give(name, owner)?;
+                let what = What::Alloc { name: name as u32, heap: heap as u8, size: size as u32, align: align as u32 };
+                self.operate(thread as u8, what, cost)
+            }
+            Item::Frees { thread, name } => {
+                self.operate(thread as u8, What::Free { name: name as u32 }, cost)
+            }
+            Item::FreesRaw { thread, address, turn } => {
+                let block = Name { address: Address(address as u32), turn };
+                self.operate(thread as u8, What::Raw { block }, cost)
+            }
+            Item::Flushes(thread) => self.operate(thread as u8, What::Flush, cost),
+            Item::Stops(thread) => self.operate(thread as u8, What::Stop, cost),
+            Item::Ticks(epoch) => self.operate(0, What::Tick(epoch), cost),
+            Item::Passes => self.operate(0, What::Pass, cost),
+            Item::Idles(time) => self.operate(0, What::Idle(time), cost),
+        }
+    }
+
+    /// What a line says after the lines before, with its cost; or the first reason that applies.
+    #[inline]
+    fn says(&self, line: &[u8]) -> Result<(Item, u32), Reason>
+        requires { IsHeader self.now.header }
+        ensures { (items : List Item) → Tells self.now items → MatchResult result (λ p. (line_says self.now.header items line.now ≡ Ok p.0) × (reason_of self.now.header items p.0 ≡ None) × IsRanged p.0 × (p.1 ≡ cost_of self.now.header p.0)) (λ r. line_says self.now.header items line.now ≡ Err r) }
+    {
+        let item = read_item(self.started, line)?;
+        match self.check(item) {
+            Ok(cost) => Ok((item, cost)),
+            Err(reason) => Err(reason),
+        }
+    }
+
+    /// Reads a line.
+    #[inline]
+    fn take(&mut self, line: &[u8]) -> Result<(), ReadFault>
+        requires tells { (items : List Item) × Tells self.old items }
+        requires line { self.old.line < 2 ^ 25 }
+        ensures { (items : List Item) → Tells self.old items → IsTaken self.old items line.now self.new result }
+    {
+        match self.says(line) {
+            Ok((item, cost)) => match self.add(item, cost) {
+                Ok(()) => Ok(()),
+                Err(AllocError) => Err(ReadFault::NoMemory),
+            },
+            Err(reason) => Err(ReadFault::Trace(TraceFault { line: self.line + 1, reason })),
+        }
+    }
+
+    /// Reads the lines of a text.
+    fn read_lines(&mut self, text: &[u8]) -> Result<(), ReadFault>
+        requires tells { (items : List Item) × Tells self.old items }
+        requires size { self.old.line + length text.now ≤ 2 ^ 24 + 1 }
+        ensures { (items : List Item) → Tells self.old items → IsRead self.old items text.now self.new result }
+    {
+        let mut rest = text;
+        while let Some((line, after)) = next_line(rest) {
+            self.take(line)?;
+            rest = after;
+        }
+        Ok(())
+    }
+
+    /// The bounds of the actors: for a thread a deed for each page and its costs, for the scavenger its costs.
+    fn bounds(&self) -> Result<Bounds, AllocError>
+        requires { (items : List Item) × Tells self.now items }
+        ensures { IfOk result (λ bounds. (items : List Item) → Tells self.now items → bounds_of bounds ≡ bounds_upto self.now.header items (self.now.header.threads + 1)) }
+    {
+        let mut bounds = Vec::new(self.alloc);
+        for actor in 0..self.header.threads as usize + 1 {
+            let deeds = if actor == 0 { 0 } else { self.header.pages };
+            bounds.push(deeds + self.counts.costs[actor])?;
+        }
+        Ok(Bounds { bounds })
+    }
+
+    /// The plan of the lines.
+    fn finish(self) -> Result<Plan, AllocError>
+        requires { (items : List Item) × Tells self items }
+        ensures { IfOk result (λ plan. (items : List Item) → Tells self items → IsPlanned self.header items plan) }
+    {
+        let bounds = self.bounds()?;
+        let Reader { header, shared, counts, gathered, .. } = self;
+        Ok(Plan {
+            profile: Profile { shared, ..header },
+            phases: gathered.finish()?,
+            bounds,
+            total: counts.bound,
+        })
+    }
+}
+
+/// The fault of a text whose first line is no header.
+const NO_HEADER: ReadFault = ReadFault::Trace(TraceFault { line: 1, reason: Reason::BadHeader });
+
+/// The plan of a text of at most 16 MiB, or the fault of its lowest faulty line. NoMemory only where an allocation fails.
+/// One pass over the bytes, in linear time.
+pub fn read_trace(alloc: Global, text: &[u8]) -> Result<Plan, ReadFault>
+    requires { length text.now ≤ 16777216 }
+    ensures { IsReading text.now result }
+{
+    let Some((line, rest)) = next_line(text) else {
+        return Err(NO_HEADER);
+    };
+    let Some(header) = read_header(line) else {
+        return Err(NO_HEADER);
+    };
+    let mut reader = Reader::new(alloc, header);
+    reader.read_lines(rest)?;
+    match reader.finish() {
+        Ok(plan) => Ok(plan),
+        Err(AllocError) => Err(ReadFault::NoMemory),
+    }
+}
