@@ -1,0 +1,24 @@
+use Rattle.std.proofs.Common.{rules, ◌-◌, Some, length, ap, ◌∙◌, arith, length-drop}
+use Rattle.std.proofs.lemmas.List.{drop-drop}
+use Rattle.pas_io.proofs.Telling.{filled_more, left_more}
+use Rattle.pas_io.proofs.whole.fill.Goals as goal
+
+pub loop-taken-preserved : goal.loop-taken-preserved
+loop-taken-preserved g c =
+    let taken = c.loop-taken.taken in
+    let count = c.in_ok-count.count in
+    let buffer = c.loop-taken.buffer in
+    record {
+      within = search rules;
+      told = λ told read.
+          let before = c.loop-taken.invariant.told told read in
+          let moves = left_more told _ _ _ _ taken count before.left c.in_ok-count.ensures.moves in
+          let within = moves.within in
+          let size = length-drop taken told in
+          record {
+            within = omega arith;
+            left = moves.rest ∙ ap Some (drop-drop count taken told);
+            front = filled_more told buffer c.read.new.buffer taken (length buffer - taken) count (search rules) before.front (search rules) moves.moved;
+          };
+      count = search rules;
+    }

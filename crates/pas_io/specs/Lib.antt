@@ -1,0 +1,5 @@
+pub mod Told
+pub mod Unread
+pub mod Taken
+pub mod Schedules
+pub mod Inputs

@@ -1,0 +1,107 @@
+//! Reading and writing whole texts.
+ghost use Rattle.std.specs.Prelude.{◌≡◌, ◌<◌, ◌≤◌, ◌+◌, ◌^◌, ℕ, List, Some, length, IfOk, OnOk, OnErr, IsErrOf};
+ghost use Rattle.pas_io.specs.Told.{Rose, Writes, WritesFront};
+ghost use Rattle.pas_io.specs.Inputs.{HasRead, IsInput, IsShort, Takes};
+
+use crate::{Failed, Sink, Source};
+use std::alloc::Global;
+
+/// Writes all the bytes, in as many calls as the sink wants. After a failure some first part of them was written.
+pub fn write_all<K: Sink>(sink: &mut K, bytes: &[u8]) -> Result<(), Failed>
+    ensures whole { OnOk result (Writes (K.held sink.old) (K.held sink.new) bytes.now) }
+    ensures front { OnErr result (WritesFront (K.held sink.old) (K.held sink.new) bytes.now) }
+    ensures failed { OnErr result (Rose (K.faults sink.old) (K.faults sink.new)) }
+    ensures count { K.faults sink.old ≤ K.faults sink.new }
+{
+    let mut written = 0;
+    while written < bytes.len() {
+        written += sink.write(&bytes[written..])?;
+    }
+    Ok(())
+}
+
+/// Fills the buffer from the source, up to the buffer's end or the source's, where the bytes before `start` stand in it already. It
+/// answers how many stand in it then.
+fn fill<S: Source>(source: &mut S, buffer: &mut [u8], start: usize) -> Result<usize, Failed>
+    requires { start ≤ length buffer.old }
+    ensures within { IfOk result (λ n. n ≤ length buffer.old) }
+    ensures reads { IfOk result (λ n. (told : List ℕ) → HasRead told (S.rest source.old) buffer.old start → HasRead told (S.rest source.new) buffer.new n) }
+    ensures all { IfOk result (λ n. n < length buffer.old → (told : List ℕ) → HasRead told (S.rest source.old) buffer.old start → n ≡ length told) }
+    ensures takes { (told : List ℕ) → HasRead told (S.rest source.old) buffer.old start → Takes told (S.rest source.new) (length buffer.old) }
+    ensures failed { OnErr result (Rose (S.faults source.old) (S.faults source.new)) }
+    ensures count { S.faults source.old ≤ S.faults source.new }
+{
+    let mut taken = start;
+    while taken < buffer.len() {
+        let count = source.read(&mut buffer[taken..])?;
+        if count == 0 {
+            return Ok(taken);
+        }
+        taken += count;
+    }
+    Ok(taken)
+}
+
+/// What a source gave.
+#[derive(Debug, Drop)]
+pub enum Input {
+    /// All its bytes, of which there are at most the limit.
+    Whole(Vec<u8>),
+    /// More bytes than the limit.
+    TooLong,
+}
+
+/// Why a source wasn't read to its end.
+#[derive(Clone, Copy, Debug, PartialEq, Eq, Drop)]
+pub enum Stop {
+    /// A read failed.
+    Fault,
+    /// Memory was wanting.
+    Memory,
+}
+
+/// The size of the first buffer, unless the limit is less.
+const FIRST_SIZE: usize = 65_536;
+
+/// The size of the buffer after one that came full with so many bytes: twice as many, or a byte more than the limit where that isn't
+/// less than the limit.
+fn next_size(taken: usize, most: usize) -> usize
+    requires within { taken ≤ most }
+    requires most { most < 2 ^ 32 }
+    ensures grows { taken < result }
+    ensures within { result ≤ most + 1 }
+{
+    if taken < most / 2 {
+        (2 * taken).max(FIRST_SIZE).min(most + 1)
+    } else {
+        most + 1
+    }
+}
+
+/// Reads the source to its end, or up to `most + 1` bytes. The buffer starts with 64 KiB and doubles as bytes come, so that it has at
+/// most twice the size of what came. Bytes that came before a fault, or before memory was wanting, are lost.
+pub fn read_all<S: Source>(alloc: Global, source: &mut S, most: usize) -> Result<Input, Stop>
+    requires { most < 2 ^ 32 }
+    ensures input { IfOk result (λ input. (told : List ℕ) → S.rest source.old ≡ Some told → IsInput most told input) }
+    ensures short { IfOk result (IsShort most) }
+    ensures takes { (told : List ℕ) → S.rest source.old ≡ Some told → Takes told (S.rest source.new) (most + 1) }
+    ensures fault { IsErrOf result Stop.Fault → Rose (S.faults source.old) (S.faults source.new) }
+    ensures count { S.faults source.old ≤ S.faults source.new }
+{
+    let mut buffer = Vec::new(alloc);
+    let mut taken = 0;
+    while taken == buffer.len() && taken <= most {
+        let Ok(()) = buffer.resize(next_size(taken, most), 0) else {
+            return Err(Stop::Memory);
+        };
+        match fill(source, &mut buffer, taken) {
+            Ok(count) => taken = count,
+            Err(Failed) => return Err(Stop::Fault),
+        }
+    }
+    if taken > most {
+        return Ok(Input::TooLong);
+    }
+    buffer.truncate(taken);
+    Ok(Input::Whole(buffer))
+}

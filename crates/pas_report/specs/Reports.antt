@@ -1,0 +1,58 @@
+-- The report: a line for each page with a deed, in order, and the total line.
+use Rattle.std.specs.Prelude.{ℕ, zero, suc, ◌+◌, ◌*◌, ◌/◌, ◌==◌, Bool, true, false, not, ◌&&◌, ◌||◌, if◌then◌else◌, List, [], ◌∷◌, ◌++◌, Option, None, Some, codes}
+use Rattle.std.specs.Fmt.{decimal}
+use Rattle.pas_profile.specs.declared.profile.Profile.{Profile}
+use Rattle.pas_profile.specs.declared.directory.Directory.{Directory}
+use Rattle.pas_profile.specs.declared.event.Event.{Event}
+use Rattle.pas_machine.specs.Runs.{in_run, length_of}
+use Rattle.pas_machine.specs.State.{Live, deed_in, backed_in, live_in, epoch_in}
+use Rattle.pas_machine.specs.Totals.{count_below, has_block, deeds_total, backed_total, live_total, given_total, ended_total}
+use Rattle.pas_report.specs.Lines.{kind_text}
+use Rattle.pas_report.specs.Marks.{Marked, marks_text}
+
+-- ---- what the machine says of a page
+-- the block that lives at an address covers the grain
+abbrev pub covers : Option Live → ℕ → ℕ → Bool
+covers None address g = false
+covers (Some b) address g = in_run (address / 16) (length_of b.block) g
+
+abbrev pub some_below : ℕ → (ℕ → Bool) → Bool
+some_below zero p = false
+some_below (suc n) p = p n || some_below n p
+
+-- a live block covers the grain: one that begins there or before
+abbrev pub is_covered : List Event → ℕ → Bool
+is_covered es g = some_below (g + 1) (λ x. covers (live_in es (16 * x)) (16 * x) g)
+
+-- the live blocks that begin on the page, and its grains that no live block covers
+abbrev pub live_on : List Event → ℕ → ℕ
+live_on es page = count_below 256 (λ b. has_block (live_in es (16 * (256 * page + b))))
+
+abbrev pub uncovered_on : List Event → ℕ → ℕ
+uncovered_on es page = count_below 256 (λ b. not (is_covered es (256 * page + b)))
+
+-- ---- the lines
+abbrev pub page_text : ℕ → Directory → ℕ → ℕ → ℕ → Marked → List ℕ
+page_text page d live free stamp marks = codes "page " ++ (decimal page ++ (codes " heap " ++ (decimal d.heap ++ (codes " " ++ (kind_text d.kind ++ (codes " live " ++ (decimal live
+    ++ (codes " free " ++ (decimal free ++ (codes " stamp " ++ (decimal stamp ++ (codes " marks " ++ (marks_text marks ++ codes "\n")))))))))))))
+
+abbrev pub totals_text : ℕ → ℕ → ℕ → ℕ → ℕ → List ℕ
+totals_text deeds backed live given ended = codes "total deeds " ++ (decimal deeds ++ (codes " backed " ++ (decimal backed ++ (codes " live " ++ (decimal live
+    ++ (codes " given " ++ (decimal given ++ (codes " ended " ++ (decimal ended ++ codes "\n")))))))))
+
+-- the line of a page of the machine, with these marks; a page without a deed has none
+abbrev pub machine_page : List Event → ℕ → Option Directory → Marked → List ℕ
+machine_page es page None marks = []
+machine_page es page (Some d) marks = page_text page d (live_on es page) (uncovered_on es page) (epoch_in es page) marks
+
+-- the lines of the pages 1 to n
+abbrev pub machine_pages : List Event → (ℕ → Marked) → ℕ → List ℕ
+machine_pages es marks zero = []
+machine_pages es marks (suc n) = machine_pages es marks n ++ machine_page es (suc n) (deed_in es (suc n)) (marks (suc n))
+
+abbrev pub total_line : Profile → List Event → List ℕ
+total_line f es = totals_text (deeds_total f es) (backed_total f es) (live_total f es) (given_total f es) (ended_total f es)
+
+-- THE REPORT of the machine that the events reach, with marks of pages
+abbrev pub report_text : Profile → List Event → (ℕ → Marked) → List ℕ
+report_text f es marks = codes "report\n" ++ (machine_pages es marks f.pages ++ total_line f es)

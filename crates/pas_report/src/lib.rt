@@ -1,0 +1,6 @@
+//! The text of what a replay says, and the report of a state.
+#![tactic(auto)]
+
+pub mod record;
+
+pub use record::{Record, Said};
