@@ -18,7 +18,7 @@ use Rattle.pas_profile.specs.declared.event.Event.TheVariants as Event
 use Rattle.pas_machine.specs.Runs.{in_run, address_of, grain_of}
 use Rattle.pas_steps.specs.declared.step.Made.{Made}
 use Rattle.pas_steps.specs.declared.step.Step.{Step}
-use Rattle.pas_steps.specs.declared.step.Step.TheVariants.{Look, Deed, Back, Take, Put, Give, End, Stamp}
+use Rattle.pas_steps.specs.declared.step.Step.TheVariants.{Look, Deed, Back, Take, Put, Give, End, TakeRight, Offer, Park, Unpark, Stamp, Hint}
 use Rattle.pas_steps.specs.Effects.{free_word_at, new_value}
 use Rattle.pas_steps.specs.Views.{View, has_right, known_deed, is_unstamped, epoch_of}
 use Rattle.pas_steps.specs.Events.{events_of, events_by, with_event, event_of}

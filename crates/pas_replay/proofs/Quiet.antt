@@ -7,7 +7,7 @@ use Rattle.pas_profile.specs.declared.word.Word.TheVariants as Word
 use Rattle.pas_profile.specs.declared.event.Event.{Event}
 use Rattle.pas_steps.specs.declared.step.Made.{Made}
 use Rattle.pas_steps.specs.declared.step.Step.{Step}
-use Rattle.pas_steps.specs.declared.step.Step.TheVariants.{Look, Deed, Back, Take, Put, Give, End, Stamp}
+use Rattle.pas_steps.specs.declared.step.Step.TheVariants.{Look, Deed, Back, Take, Put, Give, End, TakeRight, Offer, Park, Unpark, Stamp, Hint}
 use Rattle.pas_steps.specs.Effects.{target, new_value}
 use Rattle.pas_steps.specs.Views.{View, deed_after, known_deed, unstamped_after, is_unstamped, has_right, epoch_of}
 use Rattle.pas_steps.specs.Events.{event_of, with_event, events_of, events_by}

@@ -16,7 +16,7 @@ use Rattle.pas_machine.specs.Runs.{in_run, meets_page, address_of, grain_of, len
 use Rattle.pas_core.proofs.Given.{true_length}
 use Rattle.pas_steps.specs.declared.step.Made.{Made}
 use Rattle.pas_steps.specs.declared.step.Step.{Step}
-use Rattle.pas_steps.specs.declared.step.Step.TheVariants.{Look, Deed, Back, Take, Put, Give, End, Stamp}
+use Rattle.pas_steps.specs.declared.step.Step.TheVariants.{Look, Deed, Back, Take, Put, Give, End, TakeRight, Offer, Park, Unpark, Stamp, Hint}
 use Rattle.pas_steps.specs.Effects.{life_word_at}
 use Rattle.pas_steps.specs.Views.{View, Move, Stays, Ends, held_after, holds, is_unstamped, epoch_of}
 use Rattle.pas_steps.specs.Events.{events_of, events_by, with_event, end_event, reason_of}

@@ -11,7 +11,7 @@ use Rattle.pas_profile.specs.declared.word.Word.TheVariants as Word
 use Rattle.pas_machine.specs.Runs.{in_run}
 use Rattle.pas_steps.specs.declared.step.Made.{Made}
 use Rattle.pas_steps.specs.declared.step.Step.{Step}
-use Rattle.pas_steps.specs.declared.step.Step.TheVariants.{Look, Deed, Back, Take, Put, Give, End, Stamp}
+use Rattle.pas_steps.specs.declared.step.Step.TheVariants.{Look, Deed, Back, Take, Put, Give, End, TakeRight, Offer, Park, Unpark, Stamp, Hint}
 use Rattle.pas_steps.specs.Effects.{in_mask, target, new_value, free_word_at}
 use Rattle.pas_steps.specs.Views.{View, Move, Stays, Gets, Puts, held_after, grain_move, holds, has_right, is_unstamped, epoch_of}
 use Rattle.pas_steps.specs.Allowed.{Allowed, IsStepOf, MayPutNow}

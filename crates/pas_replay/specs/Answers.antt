@@ -1,5 +1,5 @@
--- Which steps answer the operations of a trace.
-use Rattle.std.specs.Prelude.{ℕ, ◌+◌, ◌/◌, ◌%◌, ◌<◌, ◌≤◌, ◌≡◌, ◌≢◌, ◌==◌, ◌⊎◌, true, if◌then◌else◌, List, [], ◌∷◌, ◌++◌, Option, None, Some}
+-- Which steps and records answer the acts of a replay.
+use Rattle.std.specs.Prelude.{ℕ, ◌+◌, ◌*◌, ◌/◌, ◌%◌, ◌<◌, ◌≤◌, ◌≡◌, ◌≢◌, ◌==◌, ◌⊎◌, Bool, true, false, if◌then◌else◌, List, [], ◌∷◌, ◌++◌, map, reverse, Option, None, Some}
 use Rattle.pas_profile.specs.Classes.{has_bit, class_size, class_grains, IsSlotStart}
 use Rattle.pas_profile.specs.Routes.{route_of}
 use Rattle.pas_profile.specs.Directories.{deed_word_of}
@@ -9,8 +9,10 @@ use Rattle.pas_profile.specs.declared.directory.Directory.{Directory}
 use Rattle.pas_profile.specs.declared.directory.Kind.TheVariants as Kind
 use Rattle.pas_profile.specs.declared.directory.Route.TheVariants as Route
 use Rattle.pas_profile.specs.declared.name.Block.{Block}
+use Rattle.pas_profile.specs.declared.name.Name.{Name}
 use Rattle.pas_profile.specs.declared.word.Word.TheVariants as Word
 use Rattle.pas_profile.specs.declared.event.Event.{Event}
+use Rattle.pas_profile.specs.declared.event.Event.TheVariants as Event
 use Rattle.pas_profile.specs.declared.event.Why.{Why}
 use Rattle.pas_machine.specs.Runs.{in_run, address_of, grain_of, length_of}
 use Rattle.pas_machine.specs.State.{deed_in}
@@ -18,23 +20,30 @@ use Rattle.pas_steps.specs.Effects.{free_word_at}
 use Rattle.pas_steps.specs.Events.{events_by}
 use Rattle.pas_steps.specs.Lists.{Whole, part, word_after, visible}
 use Rattle.pas_steps.specs.Desks.{made, triples}
+use Rattle.pas_steps.specs.Frames.{AreLooks}
 use Rattle.pas_steps.specs.declared.step.Made.{Made}
 use Rattle.pas_steps.specs.declared.step.Step.{Step}
-use Rattle.pas_steps.specs.declared.step.Step.TheVariants.{Look, Deed, Back, Take, Put, Give, End, Stamp}
-use Rattle.pas_replay.specs.declared.plan.Operation.{Operation}
-use Rattle.pas_replay.specs.declared.plan.Operation.TheVariants.{Allocate, Free}
+use Rattle.pas_steps.specs.declared.step.Step.TheVariants.{Look, Deed, Back, Take, Put, Give, End, TakeRight, Offer, Park, Unpark, Stamp, Hint}
+use Rattle.pas_trace.specs.declared.plan.Op.{Op}
+use Rattle.pas_trace.specs.declared.plan.What.{What}
+use Rattle.pas_trace.specs.declared.plan.What.TheVariants.{Alloc, Free, Raw, Flush, Stop, Tick, Pass, Idle}
+use Rattle.pas_report.specs.declared.record.Record.{Record}
+use Rattle.pas_report.specs.declared.record.Record.TheVariants as Record
+use Rattle.pas_report.specs.declared.record.Said.TheVariants as Said
+use Rattle.pas_replay.specs.Acts.{Act, Operates, Begins, Closes}
 
--- ---- what the names of a trace stand for, the newest first
+-- ---- what the names of a trace stand for, the newest first: a block, or nothing where the request was refused
 pub record Named : Type 0 where
   pub name : ℕ
-  pub block : Block
+  pub block : Option Block
 
-abbrev pub named : ℕ → Block → Named
+abbrev pub named : ℕ → Option Block → Named
 named name block = record { name = name; block = block }
 
-abbrev pub block_of : List Named → ℕ → Option Block
-block_of [] name = None
-block_of (n ∷ names) name = if n.name == name then Some n.block else block_of names name
+-- what the name stands for; None where no request had it
+abbrev pub standing_for : List Named → ℕ → Option (Option Block)
+standing_for [] name = None
+standing_for (n ∷ names) name = if n.name == name then Some n.block else standing_for names name
 
 -- ---- an allocation
 -- the directory of heap 0 and the class
@@ -70,7 +79,12 @@ stamped_by (Take page word mask) pages = pages
 stamped_by (Put page word mask) pages = pages
 stamped_by (Give block) pages = pages
 stamped_by (End name guess) pages = pages
+stamped_by (TakeRight page directory) pages = pages
+stamped_by (Offer page directory) pages = pages
+stamped_by (Park page) pages = pages
+stamped_by (Unpark page) pages = pages
 stamped_by (Stamp page) pages = page ∷ pages
+stamped_by (Hint page) pages = pages
 
 abbrev pub stamps_of : List Made → List ℕ
 stamps_of [] = []
@@ -129,11 +143,48 @@ pub record IsFreed (k : ℕ) (l : Whole) (block : Block) (steps : List Made) : T
   pub reads : steps ≡ later ++ made (Look Word.Epoch) epoch ∷ []
   pub outcome : IsFreeing k block epoch (events_by k (part k l) steps) (stamps_of steps)
 
--- ---- the whole: the operations, in order, are answered by pieces of actor k, each of which goes onto the list that those before it left.
--- The list begins as l, with what the names stand for, and ends as l'.
-abbrev pub Follows : Profile → ℕ → List Operation → List Named → Whole → Whole → Type 0
-Follows f k [] names l l' = l' ≡ l
-Follows f k (Allocate name size align ∷ ops) names l l' =
-    (steps : List Made) × (block : Block) × IsAllocated f k l size align block steps × Follows f k ops (named name block ∷ names) (triples k steps ++ l) l'
-Follows f k (Free name ∷ ops) names l l' =
-    (steps : List Made) × (block : Block) × (block_of names name ≡ Some block) × IsFreed k l block steps × Follows f k ops names (triples k steps ++ l) l'
+
+-- the records of steps: their events in the order in which they were made
+abbrev pub records_of : List Event → List Record
+records_of es = map Record.Event (reverse es)
+
+-- The request is refused: no page of the class has a free slot and every page has a deed. Nothing is made but looks, and one record says so.
+pub record IsRefused (f : Profile) (k : ℕ) (l : Whole) (size align : ℕ) (steps : List Made) : Type 0 where
+  pub class : ℕ
+  pub route : route_of size align ≡ Route.Class class
+  pub full : (h : ℕ) → IsFreeSlot f l class h → ⊥
+  pub deeded : (page : ℕ) → IsPage f page → word_after l (Word.Deed page) ≢ 0
+  pub still : AreLooks steps
+
+-- what a request comes to: the block that its name stands for from then on, the steps and the records
+abbrev pub IsServed : Profile → ℕ → Whole → ℕ → ℕ → ℕ → Option Block → List Made → List Record → Type 0
+IsServed f k l name size align (Some block) steps records = IsAllocated f k l size align block steps × (records ≡ records_of (events_by k (part k l) steps))
+IsServed f k l name size align None steps records = IsRefused f k l size align steps × (records ≡ Record.Said k (Said.NoSpace name) ∷ [])
+
+-- what a free comes to: the name was never asked for (which no trace has), its request was refused, or it stands for a block
+abbrev pub IsEnded : ℕ → Whole → ℕ → Option (Option Block) → List Made → List Record → Type 0
+IsEnded k l name None steps records = ⊥
+IsEnded k l name (Some None) steps records = (steps ≡ []) × (records ≡ Record.Said k (Said.Skipped name) ∷ [])
+IsEnded k l name (Some (Some block)) steps records = IsFreed k l block steps × (records ≡ records_of (events_by k (part k l) steps))
+
+-- an operation of actor k is answered by these steps and records, after which the names stand for what they stand for. Those that aren't
+-- built are never replayed
+abbrev pub IsAnswered : Profile → ℕ → What → List Named → Whole → List Made → List Record → List Named → Type 0
+IsAnswered f k (Alloc name heap size align) names l steps records names' = (block : Option Block) × (heap ≡ 0) × IsServed f k l name size align block steps records × (names' ≡ named name block ∷ names)
+IsAnswered f k (Free name) names l steps records names' = IsEnded k l name (standing_for names name) steps records × (names' ≡ names)
+IsAnswered f k (Raw block) names l steps records names' = ⊥
+IsAnswered f k Flush names l steps records names' = ⊥
+IsAnswered f k Stop names l steps records names' = ⊥
+IsAnswered f k (Tick e) names l steps records names' = ⊥
+IsAnswered f k Pass names l steps records names' = ⊥
+IsAnswered f k (Idle n) names l steps records names' = ⊥
+
+-- The acts are answered by pieces, in order: the steps of each go onto the list that those before it left, and its records to the end of the
+-- records. They begin as l and rs, with what the names stand for, and end as l' and rs'.
+abbrev pub Follows : Profile → List Act → List Named → Whole → List Record → Whole → List Record → Type 0
+Follows f [] names l rs l' rs' = (l' ≡ l) × (rs' ≡ rs)
+Follows f (Begins n ∷ acts) names l rs l' rs' = Follows f acts names l (rs ++ Record.Phase n ∷ []) l' rs'
+Follows f (Closes ∷ acts) names l rs l' rs' = Follows f acts names l (rs ++ Record.Close ∷ []) l' rs'
+Follows f (Operates op ∷ acts) names l rs l' rs' =
+    (steps : List Made) × (records : List Record) × (names' : List Named) × IsAnswered f op.actor op.what names l steps records names'
+    × Follows f acts names' (triples op.actor steps ++ l) (rs ++ records) l' rs'

@@ -14,7 +14,7 @@ use Rattle.pas_machine.specs.Runs.{in_run, address_of, grain_of}
 use Rattle.pas_core.specs.Given.{WasGiven}
 use Rattle.pas_steps.specs.declared.step.Made.{Made}
 use Rattle.pas_steps.specs.declared.step.Step.{Step}
-use Rattle.pas_steps.specs.declared.step.Step.TheVariants.{Look, Deed, Back, Take, Put, Give, End, Stamp}
+use Rattle.pas_steps.specs.declared.step.Step.TheVariants.{Look, Deed, Back, Take, Put, Give, End, TakeRight, Offer, Park, Unpark, Stamp, Hint}
 use Rattle.pas_steps.specs.Effects.{free_word_at}
 use Rattle.pas_steps.specs.Views.{View, holds, has_right, known_deed, is_unstamped}
 use Rattle.pas_steps.specs.Events.{events_of, events_by}

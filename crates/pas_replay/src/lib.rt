@@ -1,14 +1,16 @@
-//! The replay of a plan, by one actor alone on a desk that tells the whole state.
+//! The replay of a plan.
 //!
 //! An allocation takes the lowest free slot of the lowest page of its class that has one, else it makes the deed of the lowest
-//! page without one. The actor keeps the right of every page whose deed it made, so no take is refused. A free is ended at once.
+//! page without one; where every page has a deed it is refused. The thread keeps the right of every page whose deed it made, so no
+//! take is refused. A free is ended at once.
+#![tactic(auto)]
 
 mod allocate;
 mod grains;
+mod kit;
 mod names;
 mod order;
 mod release;
 mod search;
-mod slots;
 
-pub(crate) use order::in_order;
+pub use kit::{PlainKit, in_order, is_built};

@@ -1,0 +1,11 @@
+pub mod Slotting
+pub mod Taking
+pub mod Searching
+pub mod Quiet
+pub mod Placing
+pub mod Allocating
+pub mod Choosing
+pub mod Releasing
+pub mod Serving
+pub mod Ordering
+pub mod Replayed
