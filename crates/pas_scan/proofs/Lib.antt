@@ -1,0 +1,5 @@
+pub mod PageBits
+pub mod Marking
+pub mod Singles
+pub mod Reading
+pub mod Judging

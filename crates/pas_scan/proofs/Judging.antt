@@ -1,0 +1,179 @@
+-- The members of a block of pages, and their parked bits.
+use Rattle.std.proofs.Common.{◌≡◌, ◌≢◌, ℕ, ◌+◌, ◌*◌, ◌/◌, ◌%◌, ◌^◌, ◌<◌, ◌≤◌, ◌==◌, Bool, true, false, not, ◌&&◌, ◌||◌, if◌then◌else◌, List, [], ◌∷◌, ◌++◌, refl, ap, sym, ◌∙◌, subst, arith, append_assoc, max, min, ◌⊎◌, inl, inr, bit_and, true≢false}
+use Rattle.std.specs.Int.{bit_not, w64}
+use Rattle.std.proofs.lemmas.Bool.{cases_lt, cases_eq, cases_Bool, eq-eqb, ne_eqb, eqb-true, and_parts}
+use Rattle.pas_profile.specs.Classes.{has_bit}
+use Rattle.pas_profile.specs.Directories.{deed_word_of}
+use Rattle.pas_profile.specs.Profiles.{IsPage}
+use Rattle.pas_profile.specs.declared.directory.Directory.{Directory}
+use Rattle.pas_profile.specs.declared.profile.Profile.{Profile}
+use Rattle.pas_profile.specs.declared.word.Word.TheVariants as Word
+use Rattle.pas_steps.specs.Views.{View, known_deed, deed_after}
+use Rattle.pas_steps.specs.Past.{Once, Always}
+use Rattle.pas_steps.specs.Frames.{IsScan, OnlyScans}
+use Rattle.pas_steps.specs.Desks.{made}
+use Rattle.pas_steps.specs.declared.step.Step.{Step}
+use Rattle.pas_steps.specs.declared.step.Made.{Made}
+use Rattle.pas_steps.specs.declared.step.Step.TheVariants.{Look}
+use Rattle.pas_steps.proofs.Past.{once_later, always_both}
+use Rattle.pas_scan.specs.Marks.{is_marked}
+use Rattle.pas_scan.specs.Evidence.{ReadsParked, ParkedHere, IsOf, IsSingle}
+use Rattle.pas_scan.specs.Scan.{IsMember, AllParked, InBlock}
+use Rattle.pas_scan.proofs.PageBits.{bit_cleared, same_number}
+use Rattle.pas_scan.proofs.Singles.{Below, From, below_more, below_append, single_append, single_more, place_of}
+use Rattle.pas_scan.proofs.Reading.{scans_lack}
+
+-- ---- looks at the deed words of a block
+block_scan : (block : ℕ) (m : Made) → (page : ℕ) × (m.step ≡ Look (Word.Deed page)) × (page / 64 ≡ block) → IsScan m.step
+block_scan block m h = subst IsScan (sym h.1) (IsScan.LooksDeed h.0)
+
+pub block_scans : (block : ℕ) (steps : List Made) → InBlock block steps → OnlyScans steps
+block_scans block [] h = tt
+block_scans block (m ∷ more) h = (block_scan block m h.0, block_scans block more h.1)
+
+pub block_from : (block : ℕ) (steps : List Made) → InBlock block steps → From (65 * block) steps
+block_from block [] h = tt
+block_from block (m ∷ more) h = let e : place_of m.step ≡ h.0.0 + h.0.0 / 64 = ap place_of h.0.1 in let at = h.0.2 in (omega (arith, e, at), block_from block more h.1)
+
+pub block_below : (block : ℕ) (steps : List Made) → InBlock block steps → Below (65 * block + 64) steps
+block_below block [] h = tt
+block_below block (m ∷ more) h = let e : place_of m.step ≡ h.0.0 + h.0.0 / 64 = ap place_of h.0.1 in let at = h.0.2 in (omega (arith, e, at), block_below block more h.1)
+
+other_page : (q p block a known : ℕ) → q / 64 ≡ block → p / 64 ≢ block → (if q == p then a else known) ≡ known
+other_page q p block a known at ne = ap (λ t. if t then a else known) (ne_eqb q p (λ e. ne (ap (λ x. x / 64) (sym e) ∙ at)))
+
+-- they tell nothing of other blocks
+pub other_block : (block : ℕ) (steps : List Made) (v : View) (p : ℕ) → InBlock block steps → p / 64 ≢ block → known_deed (steps ++ v) p ≡ known_deed v p
+other_block block [] v p h ne = refl
+other_block block (m ∷ more) v p h ne =
+    ap (λ s. deed_after s m.answer p (known_deed (more ++ v) p)) h.0.1 ∙ other_page h.0.0 p block m.answer (known_deed (more ++ v) p) h.0.2 ne ∙ other_block block more v p h.1 ne
+
+-- ---- the members so far, of pages from `first` to below `end`
+pub record Members (f : Profile) (marks : List ℕ) (d : Directory) (block first end members : ℕ) (steps : List Made) : Type 0 where
+  pub all : (v : View) (p : ℕ) → p / 64 ≡ block → first ≤ p → p < end → IsOf d p (steps ++ v) → is_marked marks p ≡ false → has_bit members (p % 64) ≡ true
+  pub only : (v : View) (p : ℕ) → p / 64 ≡ block → has_bit members (p % 64) ≡ true → (first ≤ p) × (p < end) × IsOf d p (steps ++ v) × (is_marked marks p ≡ false)
+
+or_cases : (x y z : Bool) → ((x && y) || z) ≡ true → ((x ≡ true) × (y ≡ true)) ⊎ (z ≡ true)
+or_cases true true z h = inl (refl, refl)
+or_cases true false z h = inr h
+or_cases false y z h = inr h
+
+or_true : (x y : Bool) → y ≡ true → (x || y) ≡ true
+or_true true y h = refl
+or_true false y h = h
+
+read_here : (page a known : ℕ) → (if page == page then a else known) ≡ a
+read_here page a known = ap (λ t. if t then a else known) (eq-eqb page page refl)
+
+not_true : (x : Bool) → not x ≡ true → x ≡ false
+not_true true h = cc
+not_true false h = refl
+
+-- one deed word more
+pub members_more : (f : Profile) (marks : List ℕ) (d : Directory) (block first page members more a : ℕ) (steps : List Made) → Members f marks d block first page members steps → page / 64 ≡ block → first ≤ page
+    → ((b : ℕ) → b < 64 → has_bit more b ≡ (((page % 64 == b) && ((a == deed_word_of d) && not (is_marked marks page))) || has_bit members b))
+    → Members f marks d block first (page + 1) more (made (Look (Word.Deed page)) a ∷ steps)
+members_more f marks d block first page members more a steps before at low bits =
+    let open_here : Bool = (a == deed_word_of d) && not (is_marked marks page) in
+    record {
+      all = λ v p e ge lt is unmarked. bits (p % 64) (omega arith) ∙ elim (cases_eq page p) [
+          inl same ↦
+            let known : a ≡ deed_word_of d = sym (read_here page a (known_deed (steps ++ v) page)) ∙ subst (λ q. known_deed (made (Look (Word.Deed page)) a ∷ steps ++ v) q ≡ deed_word_of d) (sym same) is in
+            let unmarked' : is_marked marks page ≡ false = ap (is_marked marks) same ∙ unmarked in
+            ap (λ t. (t && open_here) || has_bit members (p % 64)) (eq-eqb (page % 64) (p % 64) (ap (λ x. x % 64) same))
+            ∙ ap (λ t. (t && not (is_marked marks page)) || has_bit members (p % 64)) (eq-eqb a (deed_word_of d) known)
+            ∙ ap (λ t. not t || has_bit members (p % 64)) unmarked'
+        | inr ne ↦
+            let known : IsOf d p (steps ++ v) = sym (ap (λ t. if t then a else known_deed (steps ++ v) p) (ne_eqb page p ne)) ∙ is in
+            or_true ((page % 64 == p % 64) && open_here) (has_bit members (p % 64)) (before.all v p e ge (omega (arith, lt, ne)) known unmarked)
+        ];
+      only = λ v p e bit. elim (or_cases (page % 64 == p % 64) open_here (has_bit members (p % 64)) (sym (bits (p % 64) (omega arith)) ∙ bit)) [
+          inl here ↦
+            let same : page ≡ p = same_number page p (at ∙ sym e) (eqb-true (page % 64) (p % 64) here.0) in
+            let parts = and_parts (a == deed_word_of d) (not (is_marked marks page)) here.1 in
+            (omega (arith, low, same), omega (arith, same), subst (λ q. known_deed (made (Look (Word.Deed page)) a ∷ steps ++ v) q ≡ deed_word_of d) same (read_here page a (known_deed (steps ++ v) page) ∙ eqb-true a (deed_word_of d) parts.0), ap (is_marked marks) (sym same) ∙ not_true (is_marked marks page) parts.1)
+        | inr there ↦
+            let old = before.only v p e there in let lt = old.1 in
+            (old.0, omega (arith, lt), ap (λ t. if t then a else known_deed (steps ++ v) p) (ne_eqb page p (λ h. absurd (omega (arith, h, lt)))) ∙ old.2, old.3)
+        ];
+    }
+
+-- ---- a parked word more
+member_cut : (f : Profile) (marks : List ℕ) (d : Directory) (j a p : ℕ) (ms steps : List Made) (v : View) → IsMember f marks d (made (Look (Word.Parked j)) a ∷ (ms ++ steps) ++ v) p → IsMember f marks d (ms ++ (steps ++ v)) p
+member_cut f marks d j a p ms steps v is = record { of_region = is.of_region; of_directory = sym (ap (λ s. known_deed s p) (append_assoc ms steps v)) ∙ is.of_directory; unmarked = is.unmarked }
+
+pub member_joined : (f : Profile) (marks : List ℕ) (d : Directory) (j a p : ℕ) (ms steps : List Made) (v : View) → IsMember f marks d (ms ++ (steps ++ v)) p → IsMember f marks d (made (Look (Word.Parked j)) a ∷ (ms ++ steps) ++ v) p
+member_joined f marks d j a p ms steps v is = record { of_region = is.of_region; of_directory = ap (λ s. known_deed s p) (append_assoc ms steps v) ∙ is.of_directory; unmarked = is.unmarked }
+
+-- of a member that isn't read as parked and not a member
+both_tests : (m a : Bool) → m ≡ true → (m && not a) ≡ false → a ≡ true
+both_tests true true e h = refl
+both_tests true false e h = cc
+both_tests false a e h = cc
+
+pub parked_more : (f : Profile) (marks : List ℕ) (d : Directory) (block end members a : ℕ) (ms steps : List Made) → a < 2 ^ 64 → OnlyScans (ms ++ steps) → InBlock block ms → AllParked f marks d (64 * block) steps
+    → ((v : View) (p : ℕ) → p / 64 ≡ block → IsMember f marks d (ms ++ v) p → has_bit members (p % 64) ≡ true)
+    → ((p : ℕ) → 1 ≤ p → p / 64 ≡ block → p < end → has_bit (bit_and members (bit_not w64 a)) (p % 64) ≡ false) → end ≤ 64 * (block + 1)
+    → AllParked f marks d end (made (Look (Word.Parked block)) a ∷ (ms ++ steps))
+parked_more f marks d block end members a ms steps small scans deeds before all none limit v p lt is = elim (cases_lt p (64 * block)) [
+    inl low ↦
+      let cut = member_cut f marks d block a p ms steps v is in
+      let old : IsMember f marks d (steps ++ v) p = record { of_region = cut.of_region; of_directory = sym (other_block block ms (steps ++ v) p deeds (λ e. absurd (omega (arith, e, low)))) ∙ cut.of_directory; unmarked = cut.unmarked } in
+      inr (once_later (ParkedHere true p) ms steps (before v p low old))
+  | inr high ↦
+      let at : p / 64 ≡ block = omega (arith, lt, high, limit) in
+      let cut = member_cut f marks d block a p ms steps v is in
+      let bit = all (steps ++ v) p at cut in
+      let some = is.of_region.0 in
+      inl (ReadsParked.Looks block (sym at), both_tests (has_bit members (p % 64)) (has_bit a (p % 64)) bit (sym (bit_cleared members a (p % 64) small (omega arith)) ∙ none p some at lt), scans_lack (ms ++ steps) p scans)
+  ]
+
+-- a member whose parked bit was read as 0
+both_parts : (m a : Bool) → (m && not a) ≡ true → (m ≡ true) × (a ≡ false)
+both_parts true true h = cc
+both_parts true false h = (refl, refl)
+both_parts false a h = cc
+
+pub held_bits : (members a page : ℕ) → a < 2 ^ 64 → has_bit (bit_and members (bit_not w64 a)) (page % 64) ≡ true → (has_bit members (page % 64) ≡ true) × (has_bit a (page % 64) ≡ false)
+held_bits members a page small h = both_parts (has_bit members (page % 64)) (has_bit a (page % 64)) (sym (bit_cleared members a (page % 64) small (omega arith)) ∙ h)
+
+pub held_here : (page block a : ℕ) (steps : List Made) → OnlyScans steps → page / 64 ≡ block → has_bit a (page % 64) ≡ false → Once (ParkedHere false page) (made (Look (Word.Parked block)) a ∷ steps)
+held_here page block a steps scans at bit = inl (ReadsParked.Looks block (sym at), bit, scans_lack steps page scans)
+
+pub scans_append : (ys xs : List Made) → OnlyScans ys → OnlyScans xs → OnlyScans (ys ++ xs)
+scans_append ys xs a b = always_both (λ m before. IsScan m.step) (λ m before. IsScan m.step) ys xs (λ m before h. h) a b
+
+-- ---- the steps of one turn: the deed words of a block, then its parked word
+pub turn_scans : (block a : ℕ) (ms steps : List Made) → InBlock block ms → OnlyScans steps → OnlyScans (made (Look (Word.Parked block)) a ∷ (ms ++ steps))
+turn_scans block a ms steps deeds scans = (IsScan.LooksParked block, scans_append ms steps (block_scans block ms deeds) scans)
+
+turn_before : (block : ℕ) (ms steps : List Made) → InBlock block ms → Below (65 * block) steps → Below (65 * block + 64) (ms ++ steps)
+turn_before block ms steps deeds below = below_append (65 * block + 64) ms steps (block_below block ms deeds) (below_more (65 * block) (65 * block + 64) steps (omega arith) below)
+
+pub turn_below : (block a : ℕ) (ms steps : List Made) → InBlock block ms → Below (65 * block) steps → Below (65 * (block + 1)) (made (Look (Word.Parked block)) a ∷ (ms ++ steps))
+turn_below block a ms steps deeds below = (omega arith, below_more (65 * block + 64) (65 * (block + 1)) (ms ++ steps) (omega arith) (turn_before block ms steps deeds below))
+
+pub turn_single : (block a : ℕ) (ms steps : List Made) → InBlock block ms → Below (65 * block) steps → IsSingle ms → IsSingle steps → IsSingle (made (Look (Word.Parked block)) a ∷ (ms ++ steps))
+turn_single block a ms steps deeds below single before =
+    single_more (65 * block + 64) (made (Look (Word.Parked block)) a) (ms ++ steps) (turn_before block ms steps deeds below) (omega arith)
+      (single_append (65 * block) ms steps below (block_from block ms deeds) single before)
+
+-- ---- the pages of a block
+pub record IsSpan (block pages first end : ℕ) : Type 0 where
+  pub first_is : first ≡ max (block * 64) 1
+  pub end_is : end ≡ min (block * 64 + 64) (pages + 1)
+
+pub span_block : (block pages first end page : ℕ) → IsSpan block pages first end → first ≤ page → page < end → page / 64 ≡ block
+span_block block pages first end page span low high = let a = span.first_is in let b = span.end_is in omega (arith, a, b, low, high)
+
+pub span_first : (block pages first end p : ℕ) → IsSpan block pages first end → p / 64 ≡ block → 1 ≤ p → first ≤ p
+span_first block pages first end p span at some = let a = span.first_is in omega (arith, a, at, some)
+
+pub span_some : (block pages first end : ℕ) → IsSpan block pages first end → block ≤ pages / 64 → 1 ≤ pages → first ≤ end
+span_some block pages first end span le some = let a = span.first_is in let b = span.end_is in omega (arith, a, b, le, some)
+
+pub span_end : (block pages first end p : ℕ) → IsSpan block pages first end → p / 64 ≡ block → p ≤ pages → p < end
+span_end block pages first end p span at le = let b = span.end_is in omega (arith, b, at, le)
+
+pub span_page : (f : Profile) (block first end p : ℕ) → IsSpan block f.pages first end → first ≤ p → p < end → IsPage f p
+span_page f block first end p span low high = let a = span.first_is in let b = span.end_is in (omega (arith, a, low), omega (arith, b, high))

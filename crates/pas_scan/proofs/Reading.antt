@@ -1,0 +1,85 @@
+-- One reading more.
+use Rattle.std.proofs.Common.{◌≡◌, ◌≢◌, ℕ, ◌+◌, ◌*◌, ◌/◌, ◌%◌, ◌^◌, ◌<◌, ◌≤◌, ◌==◌, Bool, true, false, ◌&&◌, if◌then◌else◌, List, [], ◌∷◌, ◌++◌, refl, ap, sym, ◌∙◌, subst, arith, inl, inr, true≢false}
+use Rattle.std.proofs.lemmas.Bool.{cases_lt, cases_Bool, eq-eqb}
+use Rattle.pas_profile.specs.Classes.{has_bit}
+use Rattle.pas_profile.specs.Directories.{IsKind, kind_number, number_of, deed_word_of, deed_word_numbered}
+use Rattle.pas_profile.specs.Profiles.{IsPage}
+use Rattle.pas_profile.specs.declared.directory.Directory.{Directory}
+use Rattle.pas_profile.specs.declared.profile.Profile.{Profile}
+use Rattle.pas_profile.specs.declared.word.Word.TheVariants as Word
+use Rattle.pas_profile.proofs.Codecs.{kind_number_lt}
+use Rattle.pas_steps.specs.Views.{View, has_right, right_after, known_deed}
+use Rattle.pas_steps.specs.Agreement.{Agreed, AgreesEligible}
+use Rattle.pas_steps.specs.Past.{Once, Always}
+use Rattle.pas_steps.specs.Frames.{IsScan, OnlyScans}
+use Rattle.pas_steps.specs.Desks.{made}
+use Rattle.pas_steps.specs.declared.step.Step.{Step}
+use Rattle.pas_steps.specs.declared.step.Made.{Made}
+use Rattle.pas_steps.specs.declared.step.Step.TheVariants.{Look}
+use Rattle.pas_scan.specs.Evidence.{ReadsEligible, ReadsDeed, ZeroHere, OneHere, DeedHere, NoDeedHere, IsOf}
+use Rattle.pas_scan.specs.Scan.{IsFirstOffered, IsFirstBare}
+
+-- ---- these looks give no right
+scan_right : (s : Step) (a p : ℕ) (had : Bool) → IsScan s → right_after s a p had ≡ had
+scan_right s a p had (IsScan.LooksEligible d j) = refl
+scan_right s a p had (IsScan.LooksDeed q) = refl
+scan_right s a p had (IsScan.LooksParked j) = refl
+
+pub right_scans : (steps : List Made) (v : View) (p : ℕ) → OnlyScans steps → has_right (steps ++ v) p ≡ has_right v p
+right_scans [] v p h = refl
+right_scans (m ∷ more) v p h = scan_right m.step m.answer p (has_right (more ++ v) p) h.0 ∙ right_scans more v p h.1
+
+pub scans_lack : (steps : List Made) (p : ℕ) → OnlyScans steps → has_right steps p ≡ false
+scans_lack [] p h = refl
+scans_lack (m ∷ more) p h = scan_right m.step m.answer p (has_right more p) h.0 ∙ scans_lack more p h.1
+
+-- ---- the eligible bits
+-- one word more was read, whose bits below `end` are 0
+pub zero_more : (d : Directory) (next block end a : ℕ) (steps : List Made) → OnlyScans steps → ((p : ℕ) → next ≤ p → p < 64 * block → Once (ZeroHere d p) steps)
+    → ((p : ℕ) → next ≤ p → p / 64 ≡ block → p < end → has_bit a (p % 64) ≡ false) → end ≤ 64 * (block + 1)
+    → (p : ℕ) → next ≤ p → p < end → Once (ZeroHere d p) (made (Look (Word.Eligible (number_of d) block)) a ∷ steps)
+zero_more d next block end a steps scans before bits limit p low high = elim (cases_lt p (64 * block)) [
+    inl lt ↦ inr (before p low lt)
+  | inr ge ↦ let e : p / 64 ≡ block = omega (arith, ge, high, limit) in inl (ReadsEligible.Looks (number_of d) block refl (sym e), bits p low e high, scans_lack steps p scans)
+  ]
+
+numbered : (heap kind : ℕ) → kind < 23 → (heap * 23 + kind) / 23 * 256 + (heap * 23 + kind) % 23 ≡ heap * 256 + kind
+numbered heap kind lt = let a : (heap * 23 + kind) / 23 ≡ heap = omega (arith, lt) in let b : (heap * 23 + kind) % 23 ≡ kind = omega (arith, lt) in omega (arith, a, b)
+
+deed_from_number : (d : Directory) → IsKind d.kind → deed_word_numbered (number_of d) ≡ deed_word_of d
+deed_from_number d is = let e : number_of d / 23 * 256 + number_of d % 23 ≡ d.heap * 256 + kind_number d.kind = numbered d.heap (kind_number d.kind) (kind_number_lt d.kind is) in omega (arith, e)
+
+-- the first page whose bit was read as 1
+pub first_one : (f : Profile) (d : Directory) (next block page a : ℕ) (steps : List Made) (v : View) → IsKind d.kind → OnlyScans steps → ((p : ℕ) → next ≤ p → p < 64 * block → Once (ZeroHere d p) steps)
+    → next ≤ page → page / 64 ≡ block → has_bit a (page % 64) ≡ true → ((p : ℕ) → next ≤ p → p / 64 ≡ block → p < page → has_bit a (p % 64) ≡ false)
+    → Agreed f v (made (Look (Word.Eligible (number_of d) block)) a ∷ steps)
+    → IsFirstOffered f d next (made (Look (Word.Eligible (number_of d) block)) a ∷ steps) page
+first_one f d next block page a steps v is scans before low e bit bits agreed =
+    let whole : 64 * block + page % 64 ≡ page = omega (arith, e) in
+    record {
+      from_next = low;
+      of_region = subst (IsPage f) whole (agreed.0.page (page % 64) (omega arith) bit);
+      one = inl (ReadsEligible.Looks (number_of d) block refl (sym e), bit, scans_lack steps page scans);
+      lower = zero_more d next block page a steps scans before bits (omega (arith, e));
+      deed = λ w. ap (λ t. if t && has_bit a (page % 64) then deed_word_numbered (number_of d) else known_deed (steps ++ w) page) (eq-eqb block (page / 64) (sym e))
+          ∙ ap (λ t. if t then deed_word_numbered (number_of d) else known_deed (steps ++ w) page) bit ∙ deed_from_number d is;
+      lacks = λ w agreed'. sym (right_scans steps w page scans) ∙ elim (cases_Bool (has_right (steps ++ w) page)) [
+          inl has ↦ absurd (true≢false (sym bit ∙ agreed'.0.right (page % 64) (omega arith) (ap (has_right (steps ++ w)) whole ∙ has)))
+        | inr lacks ↦ lacks
+        ];
+    }
+
+-- ---- deeds
+pub deed_more : (from page : ℕ) (steps : List Made) (a : ℕ) → ((p : ℕ) → from ≤ p → p < page → Once (DeedHere p) steps) → a ≢ 0 → (p : ℕ) → from ≤ p → p < page + 1 → Once (DeedHere p) (made (Look (Word.Deed page)) a ∷ steps)
+deed_more from page steps a before ne p low high = elim (cases_lt p page) [
+    inl lt ↦ inr (before p low lt)
+  | inr ge ↦ let same : page ≡ p = omega (arith, high, ge) in inl (subst (λ q. ReadsDeed p (Look (Word.Deed q))) (sym same) ReadsDeed.Looks, ne)
+  ]
+
+pub first_none : (f : Profile) (from page a : ℕ) (steps : List Made) → 1 ≤ from → from ≤ page → page ≤ f.pages → a ≡ 0 → ((p : ℕ) → from ≤ p → p < page → Once (DeedHere p) steps) → IsFirstBare f from (made (Look (Word.Deed page)) a ∷ steps) page
+first_none f from page a steps some low high z before = record {
+    from_there = low;
+    of_region = (omega (arith, some, low), high);
+    none = inl (ReadsDeed.Looks, z);
+    lower = λ p ge lt. inr (before p ge lt);
+  }

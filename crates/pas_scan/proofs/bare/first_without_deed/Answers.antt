@@ -1,0 +1,46 @@
+use Rattle.std.proofs.Common.{◌≡◌, ℕ, ◌+◌, ◌*◌, ◌/◌, ◌<◌, ◌≤◌, List, ◌∷◌, refl, ap, sym, ◌∙◌, arith}
+use Rattle.pas_profile.specs.declared.word.Word.TheVariants as Word
+use Rattle.pas_steps.specs.declared.step.Made.{Made}
+use Rattle.pas_steps.specs.declared.step.Step.TheVariants.{Look}
+use Rattle.pas_steps.specs.Frames.{IsScan}
+use Rattle.pas_steps.specs.Desks.{made}
+use Rattle.pas_steps.proofs.Adding.{adds_step}
+use Rattle.pas_scan.proofs.Singles.{single_more, below_more}
+use Rattle.pas_scan.proofs.Reading.{deed_more, first_none}
+use Rattle.pas_scan.proofs.bare.first_without_deed.Goals as goal
+
+pub returns-then-deed-eq0-clause-found : goal.returns-then-deed-eq0-clause-found
+returns-then-deed-eq0-clause-found g c =
+    let i = c.loop-page.invariant in let page = c.loop-page.page in let a = c.look-deed.result in let step : Made = made (Look (Word.Deed page)) a in
+    let pages : c.profile.result.now.pages ≡ (g.D.Desk.standing c.args.desk.now).seat.profile.pages = ap (λ f. f.pages) c.profile.ensures in
+    record {
+      steps = step ∷ i.steps;
+      adds = adds_step i.adds c.look-deed.ensures.makes (λ v l stood met. tt);
+      scans = (IsScan.LooksDeed page, i.scans);
+      single = single_more (page + page / 64) step i.steps i.below (omega arith) i.single;
+      outcome = first_none (g.D.Desk.standing c.args.desk.now).seat.profile c.args.from page a i.steps c.requires.from (omega (arith, c.loop-page.auto.page)) (omega (arith, pages, c.loop-page-test.true)) c.if-deed-eq0.true i.deeds;
+    }
+
+pub loop-page-preserved : goal.loop-page-preserved
+loop-page-preserved g c =
+    let i = c.loop-page.invariant in let page = c.loop-page.page in let a = c.look-deed.result in let step : Made = made (Look (Word.Deed page)) a in
+    record {
+      steps = step ∷ i.steps;
+      adds = adds_step i.adds c.look-deed.ensures.makes (λ v l stood met. tt);
+      scans = (IsScan.LooksDeed page, i.scans);
+      single = single_more (page + page / 64) step i.steps i.below (omega arith) i.single;
+      below = (omega arith, below_more (page + page / 64) (page + 1 + (page + 1) / 64) i.steps (omega arith) i.below);
+      deeds = deed_more c.args.from page i.steps a i.deeds c.if-deed-eq0.false;
+      home = c.look-deed.ensures.home ∙ i.home;
+    }
+
+pub returns-clause-found : goal.returns-clause-found
+returns-clause-found g c =
+    let i = c.loop-page.invariant in let pages : c.profile.result.now.pages ≡ (g.D.Desk.standing c.args.desk.now).seat.profile.pages = ap (λ f. f.pages) c.profile.ensures in
+    record {
+      steps = i.steps;
+      adds = i.adds;
+      scans = i.scans;
+      single = i.single;
+      outcome = λ p low high. i.deeds p low (omega (arith, pages, high, c.loop-page-test.false));
+    }

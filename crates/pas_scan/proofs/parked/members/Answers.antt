@@ -1,0 +1,42 @@
+use Rattle.std.proofs.Common.{◌≡◌, ℕ, ◌+◌, ◌*◌, ◌/◌, ◌<◌, ◌≤◌, ◌==◌, ◌&&◌, ◌||◌, ◌%◌, not, max, min, Bool, List, ◌∷◌, refl, ap, sym, ◌∙◌, arith}
+use Rattle.pas_profile.specs.Classes.{has_bit}
+use Rattle.pas_profile.specs.declared.word.Word.TheVariants as Word
+use Rattle.pas_steps.specs.declared.step.Made.{Made}
+use Rattle.pas_steps.specs.declared.step.Step.TheVariants.{Look}
+use Rattle.pas_steps.specs.Desks.{made}
+use Rattle.pas_steps.proofs.Adding.{adds_step}
+use Rattle.pas_scan.proofs.Singles.{single_more, below_more}
+use Rattle.pas_scan.proofs.Judging.{members_more, IsSpan, span_block, span_first, span_some, span_end, span_page}
+use Rattle.pas_scan.proofs.parked.members.Goals as goal
+
+pub loop-page-preserved : goal.loop-page-preserved
+loop-page-preserved g c =
+    let i = c.loop-page.invariant in let page = c.loop-page.page in let a = c.look-deed.result in let step : Made = made (Look (Word.Deed page)) a in let looked = c.args.looked.now in
+    let span : IsSpan c.args.block (g.D.Desk.standing c.args.desk.now).seat.profile.pages c.max-first.result c.min-end.result = record { first_is = c.max-first.ensures; end_is = c.min-end.ensures ∙ ap (λ f. min (c.args.block * 64 + 64) (f.pages + 1)) c.profile.ensures } in
+    let at : page / 64 ≡ c.args.block = span_block c.args.block (g.D.Desk.standing c.args.desk.now).seat.profile.pages c.max-first.result c.min-end.result page span c.loop-page.auto.page c.loop-page-test.true in
+    record {
+      steps = step ∷ i.steps;
+      adds = adds_step i.adds c.look-deed.ensures.makes (λ v l stood met. tt);
+      deeds = ((page, refl, at), i.deeds);
+      single = single_more (page + page / 64) step i.steps i.below (omega arith) i.single;
+      below = (omega arith, below_more (page + page / 64) (page + 1 + (page + 1) / 64) i.steps (omega arith) i.below);
+      members = members_more (g.D.Desk.standing c.args.desk.now).seat.profile looked.unfit looked.directory c.args.block c.max-first.result page c.loop-page.members c.with_page-members.result a i.steps i.members at c.loop-page.auto.page
+          (λ b lt. c.with_page-members.ensures b lt ∙ ap (λ t. ((page % 64 == b) && t) || has_bit c.loop-page.members b) c.is_open.ensures);
+      home = c.look-deed.ensures.home ∙ i.home;
+    }
+
+pub returns-clause-members : goal.returns-clause-members
+returns-clause-members g c =
+    let i = c.loop-page.invariant in let page = c.loop-page.page in let looked = c.args.looked.now in
+    let span : IsSpan c.args.block (g.D.Desk.standing c.args.desk.now).seat.profile.pages c.max-first.result c.min-end.result = record { first_is = c.max-first.ensures; end_is = c.min-end.ensures ∙ ap (λ f. min (c.args.block * 64 + 64) (f.pages + 1)) c.profile.ensures } in
+    let f = (g.D.Desk.standing c.args.desk.now).seat.profile in let first = c.max-first.result in let end = c.min-end.result in
+    let past : end ≤ page = c.loop-page-test.false in
+    let exact : page ≤ end = c.loop-page.auto.page-end (span_some c.args.block f.pages first end span c.requires.block c.requires.valid.some_page) in
+    record {
+      steps = i.steps;
+      adds = i.adds;
+      deeds = i.deeds;
+      single = i.single;
+      members = λ v p at is. i.members.all v p at (span_first c.args.block f.pages first end p span at is.of_region.0) (let lt = span_end c.args.block f.pages first end p span at is.of_region.1 in omega (arith, lt, past)) is.of_directory is.unmarked;
+      only = λ v p at bit. let old = i.members.only v p at bit in let lt = old.1 in record { of_region = span_page f c.args.block first end p span old.0 (omega (arith, lt, exact)); of_directory = old.2; unmarked = old.3 };
+    }

@@ -1,0 +1,102 @@
+-- What the searches promise.
+use Rattle.std.specs.Prelude.{ℕ, ◌+◌, ◌*◌, ◌/◌, ◌%◌, ◌<◌, ◌≤◌, ◌≡◌, ◌≢◌, ◌==◌, Bool, true, false, not, ◌&&◌, ◌⊎◌, List, [], ◌∷◌, ◌++◌, MatchOption, Option}
+use Rattle.pas_profile.specs.Classes.{has_bit}
+use Rattle.pas_profile.specs.Directories.{deed_word_of}
+use Rattle.pas_profile.specs.Profiles.{IsPage}
+use Rattle.pas_profile.specs.declared.directory.Directory.{Directory}
+use Rattle.pas_profile.specs.declared.profile.Profile.{Profile}
+use Rattle.pas_profile.specs.declared.event.NoRoom.{NoRoom}
+use Rattle.pas_profile.specs.declared.event.NoRoom.TheVariants.{NoSpace, Held}
+use Rattle.pas_steps.specs.Views.{View, has_right, known_deed}
+use Rattle.pas_steps.specs.Lists.{Whole}
+use Rattle.pas_steps.specs.Agreement.{Agreed}
+use Rattle.pas_steps.specs.Desks.{Standing, Adds}
+use Rattle.pas_steps.specs.Past.{Once, Always}
+use Rattle.pas_steps.specs.Frames.{OnlyScans}
+use Rattle.pas_steps.specs.declared.step.Made.{Made}
+use Rattle.pas_steps.specs.declared.step.Step.TheVariants.{Look}
+use Rattle.pas_profile.specs.declared.word.Word.TheVariants as Word
+use Rattle.pas_scan.specs.Marks.{is_marked}
+use Rattle.pas_scan.specs.Evidence.{ZeroHere, OneHere, DeedHere, NoDeedHere, ParkedHere, IsOf, IsSingle}
+
+-- nothing is asked
+abbrev pub Anything : View → Whole → Type 0
+Anything v l = Unit {0}
+
+-- ---- the search of offered pages from page `next` on
+-- each page from this one on was read as not offered
+abbrev pub NoneOffered : Profile → Directory → ℕ → List Made → Type 0
+NoneOffered f d next steps = (p : ℕ) → next ≤ p → p ≤ f.pages → Once (ZeroHere d p) steps
+
+-- This page was read as offered, and each lower one from `next` on as not offered. Its deed is known then, and the actor hadn't its right.
+pub record IsFirstOffered (f : Profile) (d : Directory) (next : ℕ) (steps : List Made) (page : ℕ) : Type 0 where
+  pub from_next : next ≤ page
+  pub of_region : IsPage f page
+  pub one : Once (OneHere d page) steps
+  pub lower : (p : ℕ) → next ≤ p → p < page → Once (ZeroHere d p) steps
+  pub deed : (v : View) → IsOf d page (steps ++ v)
+  pub lacks : (v : View) → Agreed f v steps → has_right v page ≡ false
+
+-- `next'` is where the search goes on
+pub record FindsOffered (d : Directory) (next : ℕ) (desk desk' : Standing) (next' : ℕ) (found : Option ℕ) : Type 0 where
+  pub steps : List Made
+  pub adds : Adds desk desk' Anything steps
+  pub scans : OnlyScans steps
+  pub single : IsSingle steps
+  pub outcome : MatchOption found
+    ((next' ≡ next) × NoneOffered desk.seat.profile d next steps)
+    (λ page. (next' ≡ page + 1) × IsFirstOffered desk.seat.profile d next steps page)
+
+-- ---- the search of a page without a deed, from this page on
+pub record IsFirstBare (f : Profile) (from : ℕ) (steps : List Made) (page : ℕ) : Type 0 where
+  pub from_there : from ≤ page
+  pub of_region : IsPage f page
+  pub none : Once (NoDeedHere page) steps
+  pub lower : (p : ℕ) → from ≤ p → p < page → Once (DeedHere p) steps
+
+pub record FindsBare (from : ℕ) (desk desk' : Standing) (found : Option ℕ) : Type 0 where
+  pub steps : List Made
+  pub adds : Adds desk desk' Anything steps
+  pub scans : OnlyScans steps
+  pub single : IsSingle steps
+  pub outcome : MatchOption found
+    ((p : ℕ) → from ≤ p → p ≤ desk.seat.profile.pages → Once (DeedHere p) steps)
+    (IsFirstBare desk.seat.profile from steps)
+
+-- ---- the verdict
+-- the page is of the region, known to be of the directory, and not marked
+pub record IsMember (f : Profile) (marks : List ℕ) (d : Directory) (v : View) (page : ℕ) : Type 0 where
+  pub of_region : IsPage f page
+  pub of_directory : IsOf d page v
+  pub unmarked : is_marked marks page ≡ false
+
+-- the parked bit of each member below this page was read as 1
+abbrev pub AllParked : Profile → List ℕ → Directory → ℕ → List Made → Type 0
+AllParked f marks d end steps = (v : View) (p : ℕ) → p < end → IsMember f marks d (steps ++ v) p → Once (ParkedHere true p) steps
+
+-- `Held` has the lowest member whose parked bit was read as 0. With `NoSpace` that of each was read as 1.
+abbrev pub IsVerdict : Profile → List ℕ → Directory → List Made → NoRoom → Type 0
+IsVerdict f marks d steps NoSpace = AllParked f marks d (f.pages + 1) steps
+IsVerdict f marks d steps (Held page) = ((v : View) → IsMember f marks d (steps ++ v) page) × Once (ParkedHere false page) steps × AllParked f marks d page steps
+
+-- no word is read twice, so no parked bit is read both as 1 and as 0
+pub record Judges (marks : List ℕ) (d : Directory) (desk desk' : Standing) (answer : NoRoom) : Type 0 where
+  pub steps : List Made
+  pub adds : Adds desk desk' Anything steps
+  pub scans : OnlyScans steps
+  pub single : IsSingle steps
+  pub verdict : IsVerdict desk.seat.profile marks d steps answer
+
+-- ---- the members of one word of a page vector
+-- looks at the deed words of pages of this block alone
+abbrev pub InBlock : ℕ → List Made → Type 0
+InBlock block = Always (λ m before. (page : ℕ) × (m.step ≡ Look (Word.Deed page)) × (page / 64 ≡ block))
+
+-- The bits of the answer are those of the members of this block, after looks at the deed words of its pages, from the lowest up.
+pub record FindsMembers (marks : List ℕ) (d : Directory) (block : ℕ) (desk desk' : Standing) (answer : ℕ) : Type 0 where
+  pub steps : List Made
+  pub adds : Adds desk desk' Anything steps
+  pub deeds : InBlock block steps
+  pub single : IsSingle steps
+  pub members : (v : View) (p : ℕ) → p / 64 ≡ block → IsMember desk.seat.profile marks d (steps ++ v) p → has_bit answer (p % 64) ≡ true
+  pub only : (v : View) (p : ℕ) → p / 64 ≡ block → has_bit answer (p % 64) ≡ true → IsMember desk.seat.profile marks d (steps ++ v) p

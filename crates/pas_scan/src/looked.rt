@@ -1,0 +1,57 @@
+//! A search of a directory.
+use pas_profile::{Directory, deed_word};
+
+/// A search of a directory: the next page to try, and the set of pages that didn't fit, as a page vector.
+#[derive(Drop)]
+pub struct Looked {
+    pub directory: Directory,
+    pub next: u32,
+    pub unfit: [u64; 257],
+}
+
+impl Looked {
+    ghost use Rattle.std.specs.Prelude.{ℕ, ◌≡◌, ◌==◌, ◌<◌, ◌&&◌, ◌||◌, false, not};
+    ghost use Rattle.pas_profile.specs.Directories.{deed_word_of, IsDirectory};
+    ghost use Rattle.pas_scan.specs.Marks.{is_marked};
+
+    /// A search that begins at page 1, with no unfit page.
+    pub fn begin(directory: Directory) -> Looked
+        ensures directory { result.directory ≡ directory }
+        ensures next { result.next ≡ 1 }
+        ensures unfit { (p : ℕ) → is_marked result.unfit p ≡ false }
+    {
+        Looked {
+            directory,
+            next: 1,
+            unfit: [0; 257],
+        }
+    }
+
+    /// Adds the page to the unfit ones.
+    pub fn mark_unfit(&mut self, page: u32)
+        requires { page < 16448 }
+        ensures directory { self.new.directory ≡ self.old.directory }
+        ensures next { self.new.next ≡ self.old.next }
+        ensures unfit { (p : ℕ) → is_marked self.new.unfit p ≡ ((page == p) || is_marked self.old.unfit p) }
+    {
+        let block = (page / 64) as usize;
+        self.unfit[block] |= 1 << (page % 64);
+    }
+
+    /// Whether a page with this deed word is of the directory and isn't unfit.
+    pub fn is_open(&self, page: u32, deed: u64) -> bool
+        requires page { page < 16448 }
+        requires directory { IsDirectory self.now.directory }
+        ensures { result ≡ ((deed == deed_word_of self.now.directory) && not (is_marked self.now.unfit page)) }
+    {
+        deed == deed_word(self.directory) && !self.is_unfit(page)
+    }
+
+    /// Whether the page is unfit.
+    fn is_unfit(&self, page: u32) -> bool
+        requires { page < 16448 }
+        ensures { result ≡ is_marked self.now.unfit page }
+    {
+        self.unfit[(page / 64) as usize] >> (page % 64) & 1 == 1
+    }
+}

@@ -1,0 +1,36 @@
+//! The search for an offered page.
+ghost use Rattle.std.specs.Prelude.{◌≡◌, ◌≤◌};
+ghost use Rattle.pas_profile.specs.Profiles.{IsValid, IsDirectoryOf};
+ghost use Rattle.pas_steps.specs.Desks.{CanCall};
+ghost use Rattle.pas_scan.specs.Scan.{Anything, FindsOffered};
+
+use crate::bits::lowest_page;
+use crate::looked::Looked;
+use pas_profile::Word;
+use pas_steps::Desk;
+
+/// The lowest page from `next` on whose eligible bit was read as 1. The search goes on after it.
+///
+/// None exactly where each eligible word from that of `next` on was read, once, and shows no page from `next` on.
+pub fn first_offered<D: Desk>(desk: &mut D, looked: &mut Looked) -> Option<u32>
+    requires valid { IsValid (D.standing desk.old).seat.profile }
+    requires directory { IsDirectoryOf (D.standing desk.old).seat.profile looked.old.directory }
+    requires next { 1 ≤ looked.old.next }
+    requires can { CanCall (D.standing desk.old) Anything }
+    ensures directory { looked.new.directory ≡ looked.old.directory }
+    ensures unfit { looked.new.unfit ≡ looked.old.unfit }
+    ensures found { FindsOffered looked.old.directory looked.old.next (D.standing desk.old) (D.standing desk.new) looked.new.next result }
+    ensures home { D.home desk.new ≡ D.home desk.old }
+{
+    let number = looked.directory.number();
+    let next = looked.next;
+    let end = desk.profile().pages / 64 + 1;
+    for block in next / 64..end {
+        let value = desk.look(Word::Eligible(number, block));
+        if let Some(page) = lowest_page(value, block, next) {
+            looked.next = page + 1;
+            return Some(page);
+        }
+    }
+    None
+}
