@@ -78,3 +78,17 @@ planned text line rest f all plan e h i p = record {
   bounds = p.bounds;
   total = p.total;
 }
+
+from-second : (r : Reader) (f : Profile) (rest : List ℕ) → r.header ≡ f → Tells r [] → items_from f 2 [] (lines_of rest) ≡ items_from r.header (r.line + 1) [] (lines_of rest)
+from-second r f rest header t =
+    ap (λ n. items_from f n [] (lines_of rest)) (sym (ap (λ n. n + 1) t.line)) ∙ ap (λ (g : Profile). items_from g (r.line + 1) [] (lines_of rest)) (sym header)
+
+pub read-planned : (text line rest : List ℕ) (f : Profile) (r new : Reader) (plan : Plan) → lines_of text ≡ line ∷ lines_of rest → header_of line ≡ Some f → r.header ≡ f → Tells r []
+    → IsRead r [] rest new (Ok tt) → ((items : List Item) → Tells new items → IsPlanned new.header items plan) → IsPlanOf text plan
+read-planned text line rest f r new plan cut some header t h made =
+    planned text line rest f h.0 plan cut some (from-second r f rest header t ∙ h.1) (subst (λ (g : Profile). IsPlanned g h.0 plan) (h.3 ∙ header) (made h.0 h.2))
+
+pub read-failed : (text line rest : List ℕ) (f : Profile) (r new : Reader) (fault : ReadFault) → lines_of text ≡ line ∷ lines_of rest → header_of line ≡ Some f → r.header ≡ f → Tells r []
+    → IsRead r [] rest new (Err fault) → IsReading text (Err fault)
+read-failed text line rest f r new (Trace fault) cut some header t h = parsed-items text line rest f cut some ∙ ap (with_items f) (from-second r f rest header t ∙ h)
+read-failed text line rest f r new NoMemory cut some header t h = tt
