@@ -35,8 +35,8 @@ after-line old now new start text rest line after far cut taken =
       tells = t.2;
       header = t.3 ∙ far.header;
       same = far.same ∙ ap (items_from old.header (now.line + 1) far.items) cut
-        ∙ ap (λ says. after_item (now.line + 1) says (λ i. items_from old.header (now.line + 1 + 1) (i ∷ far.items) (lines_of after))) says
-        ∙ ap (λ n. items_from old.header (n + 1) (i ∷ far.items) (lines_of after)) (sym t.4);
+          ∙ ap (λ says. after_item (now.line + 1) says (λ i. items_from old.header (now.line + 1 + 1) (i ∷ far.items) (lines_of after))) says
+          ∙ ap (λ n. items_from old.header (n + 1) (i ∷ far.items) (lines_of after)) (sym t.4);
     }
 
 pub at-fault : (old now new : Reader) (start : List Item) (text rest line after : List ℕ) (fault : TraceFault) → SoFar old start text now rest → lines_of rest ≡ line ∷ lines_of after

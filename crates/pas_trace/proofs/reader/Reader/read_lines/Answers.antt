@@ -37,9 +37,9 @@ loop-line-size c =
 
 pub loop-line-preserved : goal.loop-line-preserved
 loop-line-preserved c = (
-      λ start t. after-line c.args.self.now c.loop-line.self c.take.new.self start c.args.text.now c.loop-line.rest.now c.in-Some.line.now c.in-Some.after.now (c.loop-line.invariant.0 start t) c.in-Some.ensures.0 c.in_ok-take.ensures,
-      loop-line-size c,
-    )
+  λ start t. after-line c.args.self.now c.loop-line.self c.take.new.self start c.args.text.now c.loop-line.rest.now c.in-Some.line.now c.in-Some.after.now (c.loop-line.invariant.0 start t) c.in-Some.ensures.0 c.in_ok-take.ensures,
+  loop-line-size c,
+)
 
 pub returns : goal.returns
 returns c start t = at-end c.args.self.now c.loop-line.self start c.args.text.now c.loop-line.rest.now (c.loop-line.invariant.0 start t) c.in_default.ensures
