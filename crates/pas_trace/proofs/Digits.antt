@@ -49,9 +49,9 @@ number-leading b (c ∷ bs) e lt = let t : nat_le 49 b ≡ false = lt-leb 49 b (
 first-digit : (b : ℕ) (y : Bool) → b ≢ 48 → (nat_le 49 b && (is_digit b && y)) ≡ (is_digit b && y)
 first-digit b y ne = elim (cases_lt b 49) [
   | inl lt ↦
-    let e : is_digit b ≡ false = and_left (nat_le 48 b) (nat_le b 57) (lt-leb 48 b (omega (arith, ne, lt))) in
-    let t : nat_le 49 b ≡ false = lt-leb 49 b lt in
-    rw (t, e) refl
+      let e : is_digit b ≡ false = and_left (nat_le 48 b) (nat_le b 57) (lt-leb 48 b (omega (arith, ne, lt))) in
+      let t : nat_le 49 b ≡ false = lt-leb 49 b lt in
+      rw (t, e) refl
   | inr ge ↦ let t : nat_le 49 b ≡ true = le-leb 49 b ge in rw t refl
 ]
 

@@ -4,3 +4,4 @@ pub mod Gathering
 pub mod Checking
 pub mod Headers
 pub mod Telling
+pub mod Reading

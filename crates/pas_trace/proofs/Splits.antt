@@ -80,9 +80,10 @@ pub cut-found : (bs : List ℕ) (n : ℕ) → NoneBefore 10 bs n → n ≤ lengt
     → IsCut bs (take n bs) (take (length bs - (n + 1)) (drop (n + 1) bs))
 cut-found bs n none le ended ne =
     let lt : n < length bs = omega (arith, ne) in
-    let r = take_rest bs (n + 1) in
-    (lines-found bs n none lt (ended lt) ∙ sym (ap (λ rest. take n bs ∷ lines_of rest) r),
-    subst (λ (rest : List ℕ). length rest < length bs) (sym r) (omega (arith, length-drop (n + 1) bs, lt)))
+    let r = take_rest bs (n + 1) in (
+      lines-found bs n none lt (ended lt) ∙ sym (ap (λ rest. take n bs ∷ lines_of rest) r),
+      subst (λ (rest : List ℕ). length rest < length bs) (sym r) (omega (arith, length-drop (n + 1) bs, lt)),
+    )
 
 -- ---- words
 pub words-skip : (bs : List ℕ) (n : ℕ) → ((k : ℕ) → k < n → get_or bs k 0 ≡ 32) → n ≤ length bs → words_of bs ≡ words_of (drop n bs)

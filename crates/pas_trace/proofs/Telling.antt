@@ -134,13 +134,13 @@ taken-here t name h s a p items n least e =
 pub taken-name : (t name h s a p : ℕ) (items : List Item) (o o' : Owner) (n : ℕ) → 1 ≤ t → o' ≡ (if n == name then record { thread = t; phase = p } else o) → NameTold o p items n → NameTold o' p (Allocates t name h s a ∷ items) n
 taken-name t name h s a p items o o' n least e told = elim (cases_eq n name) [
   | inl same ↦
-    let here : (n == name) ≡ true = eq-eqb n name same in
-    let is : o' ≡ record { thread = t; phase = p } = e ∙ ap (λ b. if b then record { thread = t; phase = p } else o) here in
-    subst (λ (x : Owner). NameTold x p (Allocates t name h s a ∷ items) n) (sym is) (taken-here t name h s a p items n least (eq-eqb name n (sym same)))
+      let here : (n == name) ≡ true = eq-eqb n name same in
+      let is : o' ≡ record { thread = t; phase = p } = e ∙ ap (λ b. if b then record { thread = t; phase = p } else o) here in
+      subst (λ (x : Owner). NameTold x p (Allocates t name h s a ∷ items) n) (sym is) (taken-here t name h s a p items n least (eq-eqb name n (sym same)))
   | inr other ↦
-    let there : (n == name) ≡ false = ne_eqb n name other in
-    let is : o' ≡ o = e ∙ ap (λ b. if b then record { thread = t; phase = p } else o) there in
-    subst (λ (x : Owner). NameTold x p (Allocates t name h s a ∷ items) n) (sym is) (kept-name (Allocates t name h s a) items o p n refl (ne_eqb name n (λ x. other (sym x))) told)
+      let there : (n == name) ≡ false = ne_eqb n name other in
+      let is : o' ≡ o = e ∙ ap (λ b. if b then record { thread = t; phase = p } else o) there in
+      subst (λ (x : Owner). NameTold x p (Allocates t name h s a ∷ items) n) (sym is) (kept-name (Allocates t name h s a) items o p n refl (ne_eqb name n (λ x. other (sym x))) told)
 ]
 
 pub phase-name : (items : List Item) (o : Owner) (p n : ℕ) → NameTold o p items n → NameTold o (p + 1) (NextPhase ∷ items) n
@@ -167,16 +167,16 @@ cost-added : (f : Profile) (i : Item) (items : List Item) (costs : List ℕ) (ac
     → get_or costs k 0 ≡ own_costs f k items → get_or (set costs actor (get_or costs actor 0 + cost)) k 0 ≡ own_costs f k (i ∷ items)
 cost-added f i items costs actor cost k lt is_actor is_cost told = elim (cases_eq k actor) [
   | inl same ↦
-    let here : (k == actor) ≡ true = eq-eqb k actor same in
-    let own : (actor_of i == k) ≡ true = eq-eqb (actor_of i) k (is_actor ∙ sym same) in
-    get_or-written costs actor k (get_or costs actor 0 + cost) 0 lt ∙ ap (λ b. if b then get_or costs actor 0 + cost else get_or costs k 0) here
-    ∙ ap (λ m. get_or costs m 0 + cost) (sym same) ∙ ap (λ m. m + cost) told ∙ ap (λ m. own_costs f k items + m) (sym is_cost)
-    ∙ sym (ap (λ b. if b then own_costs f k items + cost_of f i else own_costs f k items) own)
+      let here : (k == actor) ≡ true = eq-eqb k actor same in
+      let own : (actor_of i == k) ≡ true = eq-eqb (actor_of i) k (is_actor ∙ sym same) in
+      get_or-written costs actor k (get_or costs actor 0 + cost) 0 lt ∙ ap (λ b. if b then get_or costs actor 0 + cost else get_or costs k 0) here
+      ∙ ap (λ m. get_or costs m 0 + cost) (sym same) ∙ ap (λ m. m + cost) told ∙ ap (λ m. own_costs f k items + m) (sym is_cost)
+      ∙ sym (ap (λ b. if b then own_costs f k items + cost_of f i else own_costs f k items) own)
   | inr other ↦
-    let there : (k == actor) ≡ false = ne_eqb k actor other in
-    let own : (actor_of i == k) ≡ false = ne_eqb (actor_of i) k (λ e. other (sym e ∙ is_actor)) in
-    get_or-written costs actor k (get_or costs actor 0 + cost) 0 lt ∙ ap (λ b. if b then get_or costs actor 0 + cost else get_or costs k 0) there
-    ∙ told ∙ sym (ap (λ b. if b then own_costs f k items + cost_of f i else own_costs f k items) own)
+      let there : (k == actor) ≡ false = ne_eqb k actor other in
+      let own : (actor_of i == k) ≡ false = ne_eqb (actor_of i) k (λ e. other (sym e ∙ is_actor)) in
+      get_or-written costs actor k (get_or costs actor 0 + cost) 0 lt ∙ ap (λ b. if b then get_or costs actor 0 + cost else get_or costs k 0) there
+      ∙ told ∙ sym (ap (λ b. if b then own_costs f k items + cost_of f i else own_costs f k items) own)
 ]
 
 pub operated : (old new : Reader) (names : Names) (items : List Item) (i : Item) (actor : ℕ) (what : What) (cost : ℕ) → Tells old items → IsOperation old.header i actor what cost
@@ -203,7 +203,7 @@ operated old new names items i actor what cost t op can told h =
       width = ap length h.costs ∙ length-set old.counts.costs actor (get_or old.counts.costs actor 0 + cost) ∙ size;
       costs = λ k lt. ap (λ xs. get_or xs k 0) h.costs ∙ cost-added old.header i items old.counts.costs actor cost k actor-lt op.thread op.costs (t.costs k lt) ∙ ap (λ (f : Profile). own_costs f k (i ∷ items)) (sym h.header);
       phases = h.phases ∙ ap (λ ps. add_last (Some (operation (old.line + 1) actor what)) ps) t.phases ∙ ap (λ n. add_last (Some (operation (n + 1) actor what)) (phases_in items)) t.line
-        ∙ sym (op.phases (line_of_newest (i ∷ items)) (phases_in items));
+          ∙ sym (op.phases (line_of_newest (i ∷ items)) (phases_in items));
     }
 
 -- ---- what any item gives
@@ -258,12 +258,12 @@ added old new names i actor what cost op after h = record {
   header = h.header;
   line = h.line;
   tells = λ items t e.
-    let most = actor-most old.header items i e in
-    let header = t.header in
-    let threads : old.header.threads ≤ 16 = header.threads in
-    let is : actor_of i ≡ actor = op.thread in
-    let can = ready old items i actor cost t (counts-fine old.header items i op.operates e) (omega (arith, most, threads, is)) (sym op.costs) in
-    operated old new names items i actor what cost t op can (after items t e) h;
+      let most = actor-most old.header items i e in
+      let header = t.header in
+      let threads : old.header.threads ≤ 16 = header.threads in
+      let is : actor_of i ≡ actor = op.thread in
+      let can = ready old items i actor cost t (counts-fine old.header items i op.operates e) (omega (arith, most, threads, is)) (sym op.costs) in
+      operated old new names items i actor what cost t op can (after items t e) h;
 }
 
 -- ---- the kinds of operation
@@ -306,18 +306,36 @@ pub blank : (r : Reader) (items : List Item) → Tells r items → Tells (record
 blank r items t =
     let le : r.phase ≤ r.line = t.phase in
     record {
-      header = t.header; shared = t.shared; started = t.started; line = ap (λ n. n + 1) t.line; phase = omega (arith, le);
+      header = t.header;
+      shared = t.shared;
+      started = t.started;
+      line = ap (λ n. n + 1) t.line;
+      phase = omega (arith, le);
       names = λ n. kept-name Blank items (owner_in r.names n) r.phase n refl refl (t.names n);
-      operations = t.operations; bound = t.bound ∙ bound-none r.header items Blank refl; small = t.small; width = t.width; costs = λ k lt. t.costs k lt ∙ own-none r.header items Blank k refl; phases = t.phases;
+      operations = t.operations;
+      bound = t.bound ∙ bound-none r.header items Blank refl;
+      small = t.small;
+      width = t.width;
+      costs = λ k lt. t.costs k lt ∙ own-none r.header items Blank k refl;
+      phases = t.phases;
     }
 
 pub shares : (r : Reader) (items : List Item) (h marks : ℕ) → marks ≡ bit_or r.shared (2 ^ h) → Tells r items → Tells (record r { line = r.line + 1; shared = marks }) (Shares h ∷ items)
 shares r items h marks e t =
     let le : r.phase ≤ r.line = t.phase in
     record {
-      header = t.header; shared = e ∙ ap (λ m. bit_or m (2 ^ h)) t.shared; started = t.started; line = ap (λ n. n + 1) t.line; phase = omega (arith, le);
+      header = t.header;
+      shared = e ∙ ap (λ m. bit_or m (2 ^ h)) t.shared;
+      started = t.started;
+      line = ap (λ n. n + 1) t.line;
+      phase = omega (arith, le);
       names = λ n. kept-name (Shares h) items (owner_in r.names n) r.phase n refl refl (t.names n);
-      operations = t.operations; bound = t.bound ∙ bound-none r.header items (Shares h) refl; small = t.small; width = t.width; costs = λ k lt. t.costs k lt ∙ own-none r.header items (Shares h) k refl; phases = t.phases;
+      operations = t.operations;
+      bound = t.bound ∙ bound-none r.header items (Shares h) refl;
+      small = t.small;
+      width = t.width;
+      costs = λ k lt. t.costs k lt ∙ own-none r.header items (Shares h) k refl;
+      phases = t.phases;
     }
 
 pub next_phase : (old new : Reader) (items : List Item) → Tells old items → IsNextPhase (record old { line = old.line + 1 }) new → Tells new (NextPhase ∷ items)
@@ -332,7 +350,7 @@ next_phase old new items t h =
       line = line ∙ ap (λ n. n + 1) t.line;
       phase = omega (arith, phase, line, le);
       names = λ n. subst (λ (o : Owner). NameTold o new.phase (NextPhase ∷ items) n) (sym (h.names n))
-        (subst (λ (p : ℕ). NameTold (owner_in old.names n) p (NextPhase ∷ items) n) (sym phase) (phase-name items (owner_in old.names n) old.phase n (t.names n)));
+          (subst (λ (p : ℕ). NameTold (owner_in old.names n) p (NextPhase ∷ items) n) (sym phase) (phase-name items (owner_in old.names n) old.phase n (t.names n)));
       operations = ap (λ c. c.operations) h.counts ∙ t.operations;
       bound = ap (λ c. c.bound) h.counts ∙ t.bound ∙ bound-none old.header items NextPhase refl ∙ ap (λ (f : Profile). record_bound f (NextPhase ∷ items)) (sym h.header);
       small = subst (λ c. c.bound ≤ 2000000) (sym h.counts) t.small;

@@ -18,9 +18,16 @@ pub enum Item {
         align: u64,
     },
     /// The thread frees the block that has the trace name.
-    Frees { thread: u64, name: u64 },
+    Frees {
+        thread: u64,
+        name: u64,
+    },
     /// The thread frees the block with this address and turn.
-    FreesRaw { thread: u64, address: u64, turn: u64 },
+    FreesRaw {
+        thread: u64,
+        address: u64,
+        turn: u64,
+    },
     /// The thread passes on the frees that it has saved.
     Flushes(u64),
     /// The thread stops.

@@ -5,9 +5,18 @@ use pas_profile::{Name, Profile};
 /// What an operation asks for. Names of allocations are the trace's own numbers, from 1 to 1,000,000; sizes and alignments are in bytes.
 #[derive(Clone, Copy, Debug, PartialEq, Eq, Drop)]
 pub enum What {
-    Alloc { name: u32, heap: u8, size: u32, align: u32 },
-    Free { name: u32 },
-    Raw { block: Name },
+    Alloc {
+        name: u32,
+        heap: u8,
+        size: u32,
+        align: u32,
+    },
+    Free {
+        name: u32,
+    },
+    Raw {
+        block: Name,
+    },
     Flush,
     Stop,
     Tick(u64),

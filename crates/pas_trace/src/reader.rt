@@ -99,17 +99,38 @@ impl Reader {
                 self.shared |= 1u32 << heap;
                 Ok(())
             }
-            Item::Allocates { thread, name, heap, size, align } => {
-                let owner = Owner { thread: thread as u8, phase: self.phase };
+            Item::Allocates {
+                thread,
+                name,
+                heap,
+                size,
+                align,
+            } => {
+                let owner = Owner {
+                    thread: thread as u8,
+                    phase: self.phase,
+                };
                 self.names.give(name, owner)?;
-                let what = What::Alloc { name: name as u32, heap: heap as u8, size: size as u32, align: align as u32 };
+                let what = What::Alloc {
+                    name: name as u32,
+                    heap: heap as u8,
+                    size: size as u32,
+                    align: align as u32,
+                };
                 self.operate(thread as u8, what, cost)
             }
             Item::Frees { thread, name } => {
                 self.operate(thread as u8, What::Free { name: name as u32 }, cost)
             }
-            Item::FreesRaw { thread, address, turn } => {
-                let block = Name { address: Address(address as u32), turn };
+            Item::FreesRaw {
+                thread,
+                address,
+                turn,
+            } => {
+                let block = Name {
+                    address: Address(address as u32),
+                    turn,
+                };
                 self.operate(thread as u8, What::Raw { block }, cost)
             }
             Item::Flushes(thread) => self.operate(thread as u8, What::Flush, cost),
@@ -145,7 +166,10 @@ impl Reader {
                 Ok(()) => Ok(()),
                 Err(AllocError) => Err(ReadFault::NoMemory),
             },
-            Err(reason) => Err(ReadFault::Trace(TraceFault { line: self.line + 1, reason })),
+            Err(reason) => Err(ReadFault::Trace(TraceFault {
+                line: self.line + 1,
+                reason,
+            })),
         }
     }
 
@@ -182,7 +206,13 @@ impl Reader {
         ensures { IfOk result (λ plan. (items : List Item) → Tells self items → IsPlanned self.header items plan) }
     {
         let bounds = self.bounds()?;
-        let Reader { header, shared, counts, gathered, .. } = self;
+        let Reader {
+            header,
+            shared,
+            counts,
+            gathered,
+            ..
+        } = self;
         Ok(Plan {
             profile: Profile { shared, ..header },
             phases: gathered.finish()?,
@@ -193,7 +223,10 @@ impl Reader {
 }
 
 /// The fault of a text whose first line is no header.
-const NO_HEADER: ReadFault = ReadFault::Trace(TraceFault { line: 1, reason: Reason::BadHeader });
+const NO_HEADER: ReadFault = ReadFault::Trace(TraceFault {
+    line: 1,
+    reason: Reason::BadHeader,
+});
 
 /// The plan of a text of at most 16 MiB, or the fault of its lowest faulty line. NoMemory only where an allocation fails.
 /// One pass over the bytes, in linear time.

@@ -11,13 +11,22 @@ fn expect_fault(rt: &impl Abort, alloc: Global, text: &[u8], fault: Option<Trace
     let found = match read_trace(alloc, text) {
         Ok(_) => None,
         Err(ReadFault::Trace(fault)) => Some(fault),
-        Err(ReadFault::NoMemory) => Some(TraceFault { line: 0, reason: Reason::BadHeader }),
+        Err(ReadFault::NoMemory) => Some(TraceFault {
+            line: 0,
+            reason: Reason::BadHeader,
+        }),
     };
     assert_eq!(rt; found, fault);
 }
 
 /// Checks the fault of a line after the header and the lines before it.
-fn expect_after(rt: &impl Abort, alloc: Global, before: &[u8], line: &[u8], fault: Option<TraceFault>) -> Result<(), Fail> {
+fn expect_after(
+    rt: &impl Abort,
+    alloc: Global,
+    before: &[u8],
+    line: &[u8],
+    fault: Option<TraceFault>,
+) -> Result<(), Fail> {
     let mut text = HEADER.to_vec(alloc)?;
     text.extend_from_slice(before)?;
     text.extend_from_slice(line)?;
@@ -35,7 +44,11 @@ fn lines_have_faults(rt: HostRuntime) -> Result<(), Fail> {
         (b"a 1 1 0 16 16\n", b"f 2 1\n", at(3, Reason::TooEarly)),
         (b"a 1 1 0 16 16\nphase\n", b"f 2 1\n", None),
         (b"a 1 1 0 16 16\n", b"f 1 1\n", None),
-        (b"a 1 1 0 16 16\n", b"a 2 1 0 16 16\n", at(3, Reason::NameTaken)),
+        (
+            b"a 1 1 0 16 16\n",
+            b"a 2 1 0 16 16\n",
+            at(3, Reason::NameTaken),
+        ),
         (b"", b"f 1 9\n", at(2, Reason::NameUnknown)),
         (b"", b"alloc 1\n", at(2, Reason::BadWord)),
         (b"", b"a 1 01 0 16 16\n", at(2, Reason::BadNumber)),
@@ -43,8 +56,16 @@ fn lines_have_faults(rt: HostRuntime) -> Result<(), Fail> {
         (b"", b"a 1 1 1 16 16\n", at(2, Reason::BadHeap)),
         (b"", b"a 1 1 0 16 24\n", at(2, Reason::BadAlign)),
         (b"", b"a 1 1 0 16 8\n", at(2, Reason::BadAlign)),
-        (b"", b"a 1 1 0 18446744073709551616 16\n", at(2, Reason::BadNumber)),
-        (b"", b"a 1 1 0 18446744073709551615 16\n", at(2, Reason::BadSize)),
+        (
+            b"",
+            b"a 1 1 0 18446744073709551616 16\n",
+            at(2, Reason::BadNumber),
+        ),
+        (
+            b"",
+            b"a 1 1 0 18446744073709551615 16\n",
+            at(2, Reason::BadSize),
+        ),
         (b"", b"tick 1099511627776\n", at(2, Reason::BadNumber)),
         (b"", b"tick 1099511627775\n", None),
         (b"", b"flush 1\r\n", at(2, Reason::BadNumber)),
@@ -55,7 +76,11 @@ fn lines_have_faults(rt: HostRuntime) -> Result<(), Fail> {
         (b"", b"  a  1 1 0   16 16  \n", None),
         (b"", b"flush\t1\n", at(2, Reason::BadWord)),
         (b"", b"r 1 0x00001fF0 0\n", at(2, Reason::BadNumber)),
-        (b"r 1 0x00001ff0 0\nstop 2\npass\nidle 7\nphase\n", b"phase 1\n", at(7, Reason::BadWord)),
+        (
+            b"r 1 0x00001ff0 0\nstop 2\npass\nidle 7\nphase\n",
+            b"phase 1\n",
+            at(7, Reason::BadWord),
+        ),
     ];
     for (before, line, fault) in cases {
         expect_after(&rt, rt.alloc(), before, line, fault)?;
@@ -81,7 +106,9 @@ fn cut_texts_have_faults(rt: HostRuntime) {
 
 #[test]
 fn passes_are_bounded(rt: HostRuntime) -> Result<(), Fail> {
-    let mut text = b"pas 1 pages 4096 threads 1 heaps 1 age 2\n".as_slice().to_vec(rt.alloc())?;
+    let mut text = b"pas 1 pages 4096 threads 1 heaps 1 age 2\n"
+        .as_slice()
+        .to_vec(rt.alloc())?;
     for _ in 0..487 {
         text.extend_from_slice(b"pass\n")?;
     }
@@ -93,7 +120,8 @@ fn passes_are_bounded(rt: HostRuntime) -> Result<(), Fail> {
 
 #[test]
 fn a_plan_is_made(rt: HostRuntime) -> Result<(), Fail> {
-    let text = b"pas 1 pages 4 threads 2 heaps 2 age 2\nshared 1\na 1 7 1 5000 64\nphase\nf 2 7\ntick 5".as_slice();
+    let text =
+        b"pas 1 pages 4 threads 2 heaps 2 age 2\nshared 1\na 1 7 1 5000 64\nphase\nf 2 7\ntick 5".as_slice();
     match read_trace(rt.alloc(), text) {
         Ok(plan) => {
             assert_eq!(rt; plan.profile.shared, 2);

@@ -13,7 +13,7 @@ returns-in_default-clause-value c =
     sym (sym c.loop-byte.invariant.0 ∙ ap (hex_after v) (drop_more w i 0 c.loop-byte-test.true) ∙ hex-stop v b (drop (i + 1) w) (hex-none b c.in_default.ensures))
 
 pub overflow_mul-value : goal.overflow_mul-value
-overflow_mul-value c = 
+overflow_mul-value c =
     let r = hex-room c.loop-byte.value c.loop-byte.byte-index c.loop-byte.invariant.1 (omega arith) in omega arith
 
 pub overflow_add-value : goal.overflow_add-value
@@ -28,9 +28,10 @@ loop-byte-preserved c =
     let i = c.loop-byte.byte-index in
     let v = c.loop-byte.value in
     let b = get_or w i 0 in
-    let d = hex-digit b c.in-Some.digit c.in-Some.ensures in
-    (ap (λ x. hex_after (16 * v + x) (drop (i + 1) w)) d.1 ∙ sym (hex-step v b (drop (i + 1) w) d.0) ∙ sym (ap (hex_after v) (drop_more w i 0 c.loop-byte-test.true)) ∙ c.loop-byte.invariant.0,
-    hex-more v c.in-Some.digit i c.loop-byte.invariant.1 d.2)
+    let d = hex-digit b c.in-Some.digit c.in-Some.ensures in (
+      ap (λ x. hex_after (16 * v + x) (drop (i + 1) w)) d.1 ∙ sym (hex-step v b (drop (i + 1) w) d.0) ∙ sym (ap (hex_after v) (drop_more w i 0 c.loop-byte-test.true)) ∙ c.loop-byte.invariant.0,
+      hex-more v c.in-Some.digit i c.loop-byte.invariant.1 d.2,
+    )
 
 pub returns-clause-small : goal.returns-clause-small
 returns-clause-small c = hex-bound c.loop-byte.value c.loop-byte.byte-index c.loop-byte.invariant.1 (omega arith)
