@@ -1,12 +1,9 @@
 -- The checks by what the reader keeps are those of the items before.
-use Rattle.std.proofs.Common.{◌≡◌, ◌≢◌, ℕ, zero, suc, ◌+◌, ◌*◌, ◌<◌, ◌≤◌, ◌==◌, nat_lt, nat_le, Bool, true, false, not, ◌&&◌, ◌||◌, if◌then◌else◌, List, [], ◌∷◌, length, Option, None, Some, Result, Ok, Err, refl, sym, ap, subst, ◌∙◌, arith, inl, inr}
-use Rattle.std.proofs.lemmas.Bool.{ltb-true, leb-true, eqb-true, and_parts}
-use Rattle.pas_profile.specs.declared.profile.Profile.{Profile}
-use Rattle.pas_trace.specs.Reasons.{first_failed, is_thread, is_alignment, cost_of, costs_of, record_bound, checks_of, few_enough, thread_first, reason_of, operations_in, is_named, is_named_now, thread_of, checked, kept, line_says, started}
+use Rattle.std.proofs.Common.{◌≡◌, ℕ, ◌+◌, ◌*◌, ◌==◌, nat_lt, nat_le, Bool, true, false, not, ◌||◌, List, [], ◌∷◌, None, Some, Result, Ok, Err, refl, sym, ap, ◌∙◌, arith}
+use Rattle.pas_trace.specs.Reasons.{first_failed, is_thread, is_alignment, cost_of, record_bound, checks_of, few_enough, thread_first, reason_of, operations_in, is_named, is_named_now, thread_of, checked, kept, line_says, started}
 use Rattle.pas_trace.specs.Items.{item_of_line}
-use Rattle.pas_trace.specs.Told.{owner_in, few_told, thread_told, told_checks, has_owner, has_owner_now, IsChecked, Tells, NameTold}
+use Rattle.pas_trace.specs.Told.{owner_in, few_told, thread_told, told_checks, has_owner, has_owner_now, IsChecked, Tells}
 use Rattle.pas_trace.specs.declared.fault.Reason.{Reason}
-use Rattle.pas_trace.specs.declared.fault.Reason.TheVariants as Reason
 use Rattle.pas_trace.specs.declared.item.Item.{Item}
 use Rattle.pas_trace.specs.declared.item.Item.TheVariants.{Blank, Shares, NextPhase, Allocates, Frees, FreesRaw, Flushes, Stops, Ticks, Passes, Idles}
 use Rattle.pas_trace.specs.declared.reader.Reader.{Reader}
@@ -75,11 +72,6 @@ says-reason r items line i why h e some =
     let s : r.started ≡ started items = h.started in
     let reason : reason_of r.header items i ≡ Some why = ap first_failed (sym (checks-same r items i h)) ∙ some in
     ap (λ b. checked r.header items (item_of_line b line)) (sym s) ∙ ap (checked r.header items) (sym e) ∙ ap (kept i) reason
-
-pub says-word : (r : Reader) (items : List Item) (line : List ℕ) (why : Reason) → Tells r items → Err why ≡ item_of_line r.started line → line_says r.header items line ≡ Err why
-says-word r items line why h e =
-    let s : r.started ≡ started items = h.started in
-    ap (λ b. checked r.header items (item_of_line b line)) (sym s) ∙ ap (checked r.header items) (sym e)
 
 -- ---- an allocation that passes its own checks stands by those of every operation
 pub allocation-checked : (r : Reader) (t n h s a : ℕ) (result : Result ℕ Reason)

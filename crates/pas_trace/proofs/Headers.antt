@@ -1,11 +1,6 @@
 -- A header has ten words.
-use Rattle.std.proofs.Common.{◌≡◌, ℕ, ◌<◌, List, [], ◌∷◌, length, Option, None, refl, arith}
+use Rattle.std.proofs.Common.{◌≡◌, ℕ, ◌<◌, List, [], ◌∷◌, length, None, refl, arith}
 use Rattle.pas_trace.specs.Reasons.{header_of_words}
-
-pub short2 : (a b : List ℕ) (ws : List (List ℕ)) → length ws < 2 → header_of_words (a ∷ b ∷ ws) ≡ None
-short2 a b [] lt = refl
-short2 a b (x ∷ []) lt = refl
-short2 a b (x ∷ y ∷ ws) lt = absurd (omega arith)
 
 pub short4 : (a b c d : List ℕ) (ws : List (List ℕ)) → length ws < 2 → header_of_words (a ∷ b ∷ c ∷ d ∷ ws) ≡ None
 short4 a b c d [] lt = refl

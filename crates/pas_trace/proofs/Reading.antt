@@ -1,12 +1,10 @@
 -- The lines that are read, and those that are left.
-use Rattle.std.proofs.Common.{◌≡◌, ℕ, ◌+◌, List, [], ◌∷◌, Option, None, Some, Result, Ok, Err, refl, sym, ap, subst, ◌∙◌}
+use Rattle.std.proofs.Common.{◌≡◌, ℕ, ◌+◌, List, [], ◌∷◌, Some, Ok, Err, refl, sym, ap, subst, ◌∙◌}
 use Rattle.pas_profile.specs.declared.profile.Profile.{Profile}
 use Rattle.pas_trace.specs.Texts.{lines_of}
 use Rattle.pas_trace.specs.Reasons.{line_says, header_of}
-use Rattle.pas_trace.specs.Plans.{Parsed, parsed, parsed_lines, with_header, with_items, items_from, after_item, fault_at, IsPlanOf, IsReading}
+use Rattle.pas_trace.specs.Plans.{parsed, parsed_lines, with_header, with_items, items_from, after_item, IsPlanOf, IsReading}
 use Rattle.pas_trace.specs.Told.{Tells, IsTaken, IsRead, IsPlanned}
-use Rattle.pas_trace.specs.declared.fault.Reason.{Reason}
-use Rattle.pas_trace.specs.declared.fault.Reason.TheVariants as Reason
 use Rattle.pas_trace.specs.declared.fault.TraceFault.{TraceFault}
 use Rattle.pas_trace.specs.declared.fault.ReadFault.{ReadFault}
 use Rattle.pas_trace.specs.declared.fault.ReadFault.TheVariants.{Trace, NoMemory}
@@ -57,12 +55,6 @@ pub at-end : (old now : Reader) (start : List Item) (text rest : List ℕ) → S
 at-end old now start text rest far none = (far.items, far.same ∙ ap (items_from old.header (now.line + 1) far.items) none, far.tells, far.header)
 
 -- ---- from the text
-pub parsed-none : (text : List ℕ) → lines_of text ≡ [] → parsed text ≡ Err (fault_at 1 Reason.BadHeader)
-parsed-none text e = ap parsed_lines e
-
-pub parsed-other : (text line rest : List ℕ) → lines_of text ≡ line ∷ lines_of rest → header_of line ≡ None → parsed text ≡ Err (fault_at 1 Reason.BadHeader)
-parsed-other text line rest e h = ap parsed_lines e ∙ ap (λ header. with_header header (lines_of rest)) h
-
 pub parsed-items : (text line rest : List ℕ) (f : Profile) → lines_of text ≡ line ∷ lines_of rest → header_of line ≡ Some f → parsed text ≡ with_items f (items_from f 2 [] (lines_of rest))
 parsed-items text line rest f e h = ap parsed_lines e ∙ ap (λ header. with_header header (lines_of rest)) h
 

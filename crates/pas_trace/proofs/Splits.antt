@@ -1,11 +1,9 @@
 -- Pieces, lines and words against places in the bytes.
-use Rattle.std.proofs.Common.{◌≡◌, ◌≢◌, ℕ, zero, suc, ◌+◌, ◌<◌, ◌≤◌, ◌==◌, nat_lt, Bool, true, false, ◌&&◌, if◌then◌else◌, List, [], ◌∷◌, ◌++◌, take, drop, length, get_or, ◌-◌, refl, sym, ap, subst, ◌∙◌, arith, add-one, add-zero}
-use Rattle.std.proofs.Math.Seq.{take-length, drop-length}
+use Rattle.std.proofs.Common.{◌≡◌, ◌≢◌, ℕ, zero, suc, ◌+◌, ◌<◌, ◌≤◌, ◌==◌, Bool, true, false, if◌then◌else◌, List, [], ◌∷◌, take, drop, length, get_or, ◌-◌, refl, sym, ap, subst, ◌∙◌, arith, add-one, add-zero}
+use Rattle.std.proofs.Math.Seq.{drop-length}
 use Rattle.std.proofs.lemmas.List.{take_rest, length-drop, get_or-drop}
 use Rattle.std.proofs.lemmas.Bool.{eq-eqb, ne_eqb}
-use Rattle.std.specs.Cmp.Lexicographic.{pointwise}
 use Rattle.pas_trace.specs.Texts.{put_first, pieces, without_empty_end, lines_of, without_empty, words_of}
-use Rattle.pas_trace.specs.Items.{same_bytes}
 
 -- no byte among the first n is the separator
 abbrev pub NoneBefore : ℕ → List ℕ → ℕ → Type 0
@@ -146,10 +144,3 @@ word-found bs w n from none le ended ne =
     let r = take_rest w (n + 1) in
     let some : 0 < n = some-before w n from.head (ended lt) in
     from.words ∙ words-found w n none some lt (ended lt) ∙ sym (ap (λ rest. take n w ∷ words_of rest) r)
-
--- ---- the test of two words is that of two slices
-pub same-pointwise : (xs ys : List ℕ) → pointwise (λ (x : ℕ) (y : ℕ). x == y) xs ys ≡ same_bytes xs ys
-same-pointwise [] [] = refl
-same-pointwise [] (y ∷ ys) = refl
-same-pointwise (x ∷ xs) [] = refl
-same-pointwise (x ∷ xs) (y ∷ ys) = ap (λ t. (x == y) && t) (same-pointwise xs ys)

@@ -1,11 +1,11 @@
 -- What the reader keeps after each item.
-use Rattle.std.proofs.Common.{◌≡◌, ◌≢◌, ℕ, zero, suc, ◌+◌, ◌*◌, ◌%◌, ◌<◌, ◌≤◌, ◌==◌, nat_lt, nat_le, Bool, true, false, not, ◌&&◌, ◌||◌, if◌then◌else◌, bit_or, ◌^◌, List, [], ◌∷◌, ◌++◌, length, get_or, set, Option, None, Some, refl, sym, ap, subst, ◌∙◌, arith, inl, inr, add-one}
+use Rattle.std.proofs.Common.{◌≡◌, ◌≢◌, ℕ, ◌+◌, ◌*◌, ◌%◌, ◌<◌, ◌≤◌, ◌==◌, nat_lt, nat_le, Bool, true, false, not, ◌&&◌, ◌||◌, if◌then◌else◌, List, [], ◌∷◌, ◌++◌, length, get_or, set, None, Some, refl, sym, ap, subst, ◌∙◌, arith, inl, inr, add-one}
 use Rattle.std.proofs.Math.ListN.{length-set}
-use Rattle.std.proofs.lemmas.Bool.{ltb-true, leb-true, eqb-true, eq-eqb, ne_eqb, cases_eq, and_parts, and_right}
+use Rattle.std.proofs.lemmas.Bool.{ltb-true, leb-true, eq-eqb, ne_eqb, cases_eq, and_parts}
 use Rattle.pas_profile.specs.declared.profile.Profile.{Profile}
 use Rattle.pas_trace.specs.Reasons.{first_failed, is_thread, is_alignment, cost_of, costs_of, record_bound, few_enough, thread_first, reason_of, operations_in, is_operation, is_phase, actor_of, allocates, is_named, is_named_now, thread_of, started}
-use Rattle.pas_trace.specs.Plans.{shared_by, shared_in, phases_after, phases_in, line_of_newest, own_costs, bound_of, bounds_upto, operation, add_last, name_at}
-use Rattle.pas_trace.specs.Told.{owner_in, gathered_phases, IsHeader, Tells, NameTold, IsOperated, IsNextPhase, IsAdded}
+use Rattle.pas_trace.specs.Plans.{shared_by, shared_in, phases_after, phases_in, line_of_newest, own_costs, bound_of, bounds_upto, operation, add_last}
+use Rattle.pas_trace.specs.Told.{owner_in, IsHeader, Tells, NameTold, IsOperated, IsAdded}
 use Rattle.pas_trace.specs.declared.fault.Reason.TheVariants as Reason
 use Rattle.pas_trace.specs.declared.item.Item.{Item}
 use Rattle.pas_trace.specs.declared.item.Item.TheVariants.{Blank, Shares, NextPhase, Allocates, Frees, FreesRaw, Flushes, Stops, Ticks, Passes, Idles}
@@ -13,7 +13,7 @@ use Rattle.pas_trace.specs.declared.names.Owner.{Owner}
 use Rattle.pas_trace.specs.declared.names.Names.{Names}
 use Rattle.pas_trace.specs.declared.plan.Op.{Op}
 use Rattle.pas_trace.specs.declared.plan.What.{What}
-use Rattle.pas_trace.specs.declared.plan.What.TheVariants.{Alloc, Free, Raw, Flush, Stop, Tick, Pass, Idle}
+use Rattle.pas_trace.specs.declared.plan.What.TheVariants.{Alloc}
 use Rattle.pas_trace.specs.declared.reader.Reader.{Reader}
 use Rattle.pas_trace.proofs.Checking.{first-holds, bound-after}
 use Rattle.pas_trace.proofs.Gathering.{get_or-written}
@@ -143,17 +143,6 @@ taken-name t name h s a p items o o' n least e told = elim (cases_eq n name) [
       subst (λ (x : Owner). NameTold x p (Allocates t name h s a ∷ items) n) (sym is) (kept-name (Allocates t name h s a) items o p n refl (ne_eqb name n (λ x. other (sym x))) told)
 ]
 
-pub phase-name : (items : List Item) (o : Owner) (p n : ℕ) → NameTold o p items n → NameTold o (p + 1) (NextPhase ∷ items) n
-phase-name items o p n h =
-    let le : o.phase ≤ p = h.before in
-    let past : (o.phase == p + 1) ≡ false = ne_eqb o.phase (p + 1) (λ e. absurd (omega (arith, e, le))) in
-    record {
-      named = h.named;
-      thread = h.thread;
-      now = sym (and_right (not (o.thread == 0)) (o.phase == p + 1) past);
-      before = omega (arith, le);
-    }
-
 -- ---- an item that is an operation
 pub record IsOperation (f : Profile) (i : Item) (actor : ℕ) (what : What) (cost : ℕ) : Type 0 where
   pub operates : is_operation i ≡ true
@@ -244,9 +233,6 @@ within-item r items i actor t e is =
 abbrev pub NamesAfter : Reader → Names → Item → Type 0
 NamesAfter old names i = (items : List Item) → Tells old items → reason_of old.header items i ≡ None → (n : ℕ) → NameTold (owner_in names n) old.phase (i ∷ items) n
 
-pub names-kept : (old : Reader) (i : Item) → is_phase i ≡ false → ((n : ℕ) → allocates i n ≡ false) → NamesAfter old old.names i
-names-kept old i phase none items t e n = kept-name i items (owner_in old.names n) old.phase n phase (none n) (t.names n)
-
 pub names-taken : (old : Reader) (names : Names) (t name h s a : ℕ) → ((n : ℕ) → owner_in names n ≡ (if n == name then record { thread = t; phase = old.phase } else owner_in old.names n)) → NamesAfter old names (Allocates t name h s a)
 names-taken old names t name h s a given items told e n =
     let fine = fine-allocation old.header items t name h s a e in
@@ -266,98 +252,9 @@ added old new names i actor what cost op after h = record {
       operated old new names items i actor what cost t op can (after items t e) h;
 }
 
--- ---- the kinds of operation
+-- ---- an allocation is one
 pub is-allocates : (f : Profile) (t n h s a cost : ℕ) → cost_of f (Allocates t n h s a) ≡ cost → IsOperation f (Allocates t n h s a) t (Alloc n h s a) cost
 is-allocates f t n h s a cost e = record { operates = refl; same_phase = refl; marks = λ m. refl; thread = refl; costs = e; phases = λ line ps. refl }
-
-pub is-frees : (f : Profile) (t n cost : ℕ) → cost_of f (Frees t n) ≡ cost → IsOperation f (Frees t n) t (Free n) cost
-is-frees f t n cost e = record { operates = refl; same_phase = refl; marks = λ m. refl; thread = refl; costs = e; phases = λ line ps. refl }
-
-pub is-raw : (f : Profile) (t a n cost : ℕ) → cost_of f (FreesRaw t a n) ≡ cost → IsOperation f (FreesRaw t a n) t (Raw (name_at a n)) cost
-is-raw f t a n cost e = record { operates = refl; same_phase = refl; marks = λ m. refl; thread = refl; costs = e; phases = λ line ps. refl }
-
-pub is-flushes : (f : Profile) (t cost : ℕ) → cost_of f (Flushes t) ≡ cost → IsOperation f (Flushes t) t Flush cost
-is-flushes f t cost e = record { operates = refl; same_phase = refl; marks = λ m. refl; thread = refl; costs = e; phases = λ line ps. refl }
-
-pub is-stops : (f : Profile) (t cost : ℕ) → cost_of f (Stops t) ≡ cost → IsOperation f (Stops t) t Stop cost
-is-stops f t cost e = record { operates = refl; same_phase = refl; marks = λ m. refl; thread = refl; costs = e; phases = λ line ps. refl }
-
-pub is-ticks : (f : Profile) (n cost : ℕ) → cost_of f (Ticks n) ≡ cost → IsOperation f (Ticks n) 0 (Tick n) cost
-is-ticks f n cost e = record { operates = refl; same_phase = refl; marks = λ m. refl; thread = refl; costs = e; phases = λ line ps. refl }
-
-pub is-passes : (f : Profile) (cost : ℕ) → cost_of f Passes ≡ cost → IsOperation f Passes 0 Pass cost
-is-passes f cost e = record { operates = refl; same_phase = refl; marks = λ m. refl; thread = refl; costs = e; phases = λ line ps. refl }
-
-pub is-idles : (f : Profile) (n cost : ℕ) → cost_of f (Idles n) ≡ cost → IsOperation f (Idles n) 0 (Idle n) cost
-is-idles f n cost e = record { operates = refl; same_phase = refl; marks = λ m. refl; thread = refl; costs = e; phases = λ line ps. refl }
-
--- ---- the items that are none cost nothing
-bound-none : (f : Profile) (items : List Item) (i : Item) → cost_of f i ≡ 0 → record_bound f items ≡ record_bound f (i ∷ items)
-bound-none f items i e = omega (arith, e)
-
-if-none : (b : Bool) (x n : ℕ) → n ≡ 0 → x ≡ (if b then x + n else x)
-if-none true x n e = omega (arith, e)
-if-none false x n e = refl
-
-own-none : (f : Profile) (items : List Item) (i : Item) (k : ℕ) → cost_of f i ≡ 0 → own_costs f k items ≡ own_costs f k (i ∷ items)
-own-none f items i k e = if-none (actor_of i == k) (own_costs f k items) (cost_of f i) e
-
-pub blank : (r : Reader) (items : List Item) → Tells r items → Tells (record r { line = r.line + 1 }) (Blank ∷ items)
-blank r items t =
-    let le : r.phase ≤ r.line = t.phase in
-    record {
-      header = t.header;
-      shared = t.shared;
-      started = t.started;
-      line = ap (λ n. n + 1) t.line;
-      phase = omega (arith, le);
-      names = λ n. kept-name Blank items (owner_in r.names n) r.phase n refl refl (t.names n);
-      operations = t.operations;
-      bound = t.bound ∙ bound-none r.header items Blank refl;
-      small = t.small;
-      width = t.width;
-      costs = λ k lt. t.costs k lt ∙ own-none r.header items Blank k refl;
-      phases = t.phases;
-    }
-
-pub shares : (r : Reader) (items : List Item) (h marks : ℕ) → marks ≡ bit_or r.shared (2 ^ h) → Tells r items → Tells (record r { line = r.line + 1; shared = marks }) (Shares h ∷ items)
-shares r items h marks e t =
-    let le : r.phase ≤ r.line = t.phase in
-    record {
-      header = t.header;
-      shared = e ∙ ap (λ m. bit_or m (2 ^ h)) t.shared;
-      started = t.started;
-      line = ap (λ n. n + 1) t.line;
-      phase = omega (arith, le);
-      names = λ n. kept-name (Shares h) items (owner_in r.names n) r.phase n refl refl (t.names n);
-      operations = t.operations;
-      bound = t.bound ∙ bound-none r.header items (Shares h) refl;
-      small = t.small;
-      width = t.width;
-      costs = λ k lt. t.costs k lt ∙ own-none r.header items (Shares h) k refl;
-      phases = t.phases;
-    }
-
-pub next_phase : (old new : Reader) (items : List Item) → Tells old items → IsNextPhase (record old { line = old.line + 1 }) new → Tells new (NextPhase ∷ items)
-next_phase old new items t h =
-    let phase : new.phase ≡ old.phase + 1 = h.phase in
-    let line : new.line ≡ old.line + 1 = h.line in
-    let le : old.phase ≤ old.line = t.phase in
-    record {
-      header = subst (λ (f : Profile). IsHeader f) (sym h.header) t.header;
-      shared = h.shared ∙ t.shared;
-      started = h.started;
-      line = line ∙ ap (λ n. n + 1) t.line;
-      phase = omega (arith, phase, line, le);
-      names = λ n. subst (λ (o : Owner). NameTold o new.phase (NextPhase ∷ items) n) (sym (h.names n))
-          (subst (λ (p : ℕ). NameTold (owner_in old.names n) p (NextPhase ∷ items) n) (sym phase) (phase-name items (owner_in old.names n) old.phase n (t.names n)));
-      operations = ap (λ c. c.operations) h.counts ∙ t.operations;
-      bound = ap (λ c. c.bound) h.counts ∙ t.bound ∙ bound-none old.header items NextPhase refl ∙ ap (λ (f : Profile). record_bound f (NextPhase ∷ items)) (sym h.header);
-      small = subst (λ c. c.bound ≤ 2000000) (sym h.counts) t.small;
-      width = ap (λ c. length c.costs) h.counts ∙ t.width;
-      costs = λ k lt. ap (λ c. get_or c.costs k 0) h.counts ∙ t.costs k lt ∙ own-none old.header items NextPhase k refl ∙ ap (λ (f : Profile). own_costs f k (NextPhase ∷ items)) (sym h.header);
-      phases = h.phases ∙ ap (λ ps. ps ++ [] ∷ []) t.phases;
-    }
 
 -- ---- bounds
 pub bounds-more : (f : Profile) (items : List Item) (k deeds cost : ℕ) (bounds more : List ℕ) → bounds ≡ bounds_upto f items k → deeds + cost ≡ bound_of f items k → more ≡ bounds ++ (deeds + cost) ∷ []

@@ -5,7 +5,6 @@ use Rattle.pas_trace.specs.Numbers.{number_of, address_of_word}
 use Rattle.pas_trace.specs.declared.item.Item.{Item}
 use Rattle.pas_trace.specs.declared.item.Item.TheVariants.{Blank, Shares, NextPhase, Allocates, Frees, FreesRaw, Flushes, Stops, Ticks, Passes, Idles}
 use Rattle.pas_trace.specs.declared.fault.Reason.{Reason}
-use Rattle.pas_trace.specs.declared.fault.Reason.TheVariants as Reason
 
 -- two words are the same bytes
 abbrev pub same_bytes : List ℕ → List ℕ → Bool

@@ -1,16 +1,14 @@
 -- The faults of a text: on each line the first reason that applies, each check asking about the lines before.
-use Rattle.std.specs.Prelude.{ℕ, ◌+◌, ◌*◌, ◌/◌, ◌%◌, ◌^◌, ◌<◌, ◌≤◌, ◌==◌, nat_lt, nat_le, Bool, true, false, not, ◌&&◌, ◌||◌, if◌then◌else◌, List, [], ◌∷◌, Option, None, Some, codes, Result, Ok, Err}
+use Rattle.std.specs.Prelude.{ℕ, ◌+◌, ◌*◌, ◌/◌, ◌%◌, ◌==◌, nat_lt, nat_le, Bool, true, false, not, ◌&&◌, ◌||◌, if◌then◌else◌, List, [], ◌∷◌, Option, None, Some, codes, Result, Ok, Err}
 use Rattle.pas_profile.specs.declared.profile.Profile.{Profile}
 use Rattle.pas_profile.specs.declared.directory.Route.{Route}
-use Rattle.pas_profile.specs.declared.directory.Route.TheVariants as Route
 use Rattle.pas_profile.specs.Routes.{route_of}
-use Rattle.pas_trace.specs.Texts.{lines_of, words_of}
+use Rattle.pas_trace.specs.Texts.{words_of}
 use Rattle.pas_trace.specs.Numbers.{number_of}
 use Rattle.pas_trace.specs.declared.item.Item.{Item}
 use Rattle.pas_trace.specs.declared.item.Item.TheVariants.{Blank, Shares, NextPhase, Allocates, Frees, FreesRaw, Flushes, Stops, Ticks, Passes, Idles}
 use Rattle.pas_trace.specs.Items.{same_bytes, item_of_line}
 use Rattle.pas_trace.specs.declared.fault.Reason.{Reason}
-use Rattle.pas_trace.specs.declared.fault.Reason.TheVariants as Reason
 
 -- ---- the header: `pas 1 pages P threads T heaps H age A`, each number within its limits
 abbrev pub within : ℕ → ℕ → Option ℕ → Option ℕ

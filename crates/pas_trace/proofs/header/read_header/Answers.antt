@@ -1,4 +1,4 @@
-use Rattle.std.proofs.Common.{◌≡◌, ◌∷◌, List, ℕ, sym, ap, ◌∙◌}
+use Rattle.std.proofs.Common.{◌∷◌, sym, ap, ◌∙◌}
 use Rattle.pas_trace.specs.Texts.{words_of}
 use Rattle.pas_trace.specs.Reasons.{header_of_words}
 use Rattle.pas_trace.proofs.Headers.{short4, short6, short8}

@@ -1,5 +1,4 @@
 use Rattle.std.proofs.Common.{length, ◌<◌, arith}
-use Rattle.std.proofs.lemmas.Bool.{eqb-false}
 use Rattle.pas_trace.proofs.Splits.{cut-last, cut-found}
 use Rattle.pas_trace.proofs.lines.next_line.Goals as goal
 

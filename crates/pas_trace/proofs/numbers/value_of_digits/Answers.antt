@@ -1,6 +1,6 @@
-use Rattle.std.proofs.Common.{◌≡◌, ◌≤◌, ◌<◌, ◌+◌, ◌-◌, ◌*◌, length, drop, get_or, refl, sym, ap, ◌∙◌, arith}
+use Rattle.std.proofs.Common.{◌+◌, drop, get_or, sym, ap, ◌∙◌, arith}
 use Rattle.std.proofs.lemmas.List.{drop_more, drop_all}
-use Rattle.pas_trace.proofs.Digits.{value_after, value-step, value-below, value-above, value-large, value-end}
+use Rattle.pas_trace.proofs.Digits.{value_after, value-step, value-large, value-end}
 use Rattle.pas_trace.proofs.numbers.value_of_digits.Goals as goal
 
 pub returns-then-value-digit : goal.returns-then-value-digit

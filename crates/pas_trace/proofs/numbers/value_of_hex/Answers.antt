@@ -1,6 +1,5 @@
-use Rattle.std.proofs.Common.{◌≡◌, ◌≤◌, ◌<◌, ◌+◌, ◌-◌, ◌*◌, ◌^◌, length, drop, get_or, refl, sym, ap, ◌∙◌, arith, Bool, true, false, Option, Some, None, if◌then◌else◌}
+use Rattle.std.proofs.Common.{◌+◌, ◌*◌, drop, get_or, sym, ap, ◌∙◌, arith}
 use Rattle.std.proofs.lemmas.List.{drop_more, drop_all}
-use Rattle.pas_trace.specs.Numbers.{is_hex}
 use Rattle.pas_trace.proofs.Digits.{hex_after, hex-step, hex-stop, hex-digit, hex-none, hex-room, hex-more, hex-bound}
 use Rattle.pas_trace.proofs.numbers.value_of_hex.Goals as goal
 

@@ -1,4 +1,4 @@
-use Rattle.std.proofs.Common.{◌≡◌, ◌≢◌, ◌<◌, ◌≤◌, ℕ, length, slice_index_or, ◌+◌, ◌-◌, ◌*◌}
+use Rattle.std.proofs.Common.{◌≡◌, ◌<◌, ℕ, slice_index_or}
 use Rattle.pas_trace.proofs.pieces.piece_length.Given as goal
 
 abbrev pub invariant-loop-index : goal.invariant-loop-index

@@ -1,6 +1,4 @@
-use Rattle.std.proofs.Common.{◌≡◌, ◌≢◌, ◌∷◌, [], ◌<◌, ◌≤◌, ℕ, length, slice_index_or, MatchOption, ◌+◌, ◌-◌, ◌*◌}
-use Rattle.pas_trace.specs.Texts.{words_of}
-use Rattle.pas_trace.specs.Items.{same_bytes}
+use Rattle.std.proofs.Common.{◌≡◌, ◌<◌, ℕ, slice_index_or}
 use Rattle.pas_trace.proofs.words.leading_spaces.Given as goal
 
 abbrev pub invariant-loop-index : goal.invariant-loop-index

@@ -1,4 +1,3 @@
-use Rattle.std.proofs.Common.{length, ◌-◌, List, ℕ, take, drop}
 use Rattle.pas_trace.proofs.Splits.{words-none, from_word, word-last, word-found}
 use Rattle.pas_trace.proofs.words.next_word.Goals as goal
 

@@ -1,4 +1,4 @@
-use Rattle.std.proofs.Common.{◌≡◌, ℕ, List, get_or, refl, ap, ◌∙◌}
+use Rattle.std.proofs.Common.{List, get_or, ap, ◌∙◌}
 use Rattle.pas_trace.specs.declared.names.Owner.{Owner}
 use Rattle.pas_trace.proofs.Gathering.{get_or-more}
 use Rattle.pas_trace.proofs.names.Names.grow_to.Goals as goal

@@ -1,6 +1,6 @@
-use Rattle.std.proofs.Common.{◌≡◌, ℕ, None, refl, sym, ap, subst, ◌∙◌}
+use Rattle.std.proofs.Common.{sym, ap, subst, ◌∙◌}
 use Rattle.std.proofs.lemmas.Result.{on_ok_weaker}
-use Rattle.pas_trace.specs.Reasons.{actor_of, reason_of, cost_of}
+use Rattle.pas_trace.specs.Reasons.{actor_of, cost_of}
 use Rattle.pas_trace.specs.Told.{IsAdded}
 use Rattle.pas_trace.specs.declared.item.Item.{Item}
 use Rattle.pas_trace.proofs.Telling.{within-item, added, names-taken, is-allocates}

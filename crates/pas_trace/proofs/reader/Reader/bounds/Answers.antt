@@ -1,4 +1,4 @@
-use Rattle.std.proofs.Common.{◌≡◌, ◌≤◌, ◌<◌, ◌+◌, ℕ, List, [], ◌∷◌, ◌++◌, get_or, refl, sym, ap, ◌∙◌, arith, add-one}
+use Rattle.std.proofs.Common.{◌≡◌, ◌≤◌, ◌+◌, get_or, ap, ◌∙◌, arith}
 use Rattle.pas_trace.specs.Plans.{bound_of, bounds_upto, own_costs}
 use Rattle.pas_trace.proofs.Telling.{cost-within, bound-first, bound-other, bounds-more}
 use Rattle.pas_trace.proofs.reader.Reader.bounds.Goals as goal

@@ -1,4 +1,4 @@
-use Rattle.std.proofs.Common.{◌≡◌, ◌≤◌, ◌<◌, ◌*◌, ◌==◌, ℕ, nat_lt, nat_le, not, Bool, true, refl, sym, ap, subst, ◌∙◌, arith}
+use Rattle.std.proofs.Common.{◌≡◌, ◌*◌, ◌==◌, ℕ, nat_lt, nat_le, not, true, sym, ap, subst, ◌∙◌, arith}
 use Rattle.std.proofs.lemmas.Bool.{lt-ltb, le-leb, eq-eqb}
 use Rattle.pas_trace.specs.Reasons.{is_thread, is_alignment}
 use Rattle.pas_trace.specs.Told.{IsChecked, few_told, owner_in, has_owner}

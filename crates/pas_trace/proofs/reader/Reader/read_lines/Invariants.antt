@@ -1,4 +1,4 @@
-use Rattle.std.proofs.Common.{ℕ, ◌+◌, ◌≤◌, ◌^◌, List, length}
+use Rattle.std.proofs.Common.{◌+◌, ◌≤◌, List, length}
 use Rattle.pas_trace.specs.Told.{Tells}
 use Rattle.pas_trace.specs.declared.item.Item.{Item}
 use Rattle.pas_trace.proofs.Reading.{SoFar}
