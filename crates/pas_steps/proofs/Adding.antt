@@ -43,16 +43,16 @@ adds_step {σ} {σ'} {σ''} {C} {xs} {step} {a} before makes allowed =
 pub adds_call : {σ σ' σ'' : Standing} {C D : View → Whole → Type 0} {xs ys : List Made}
     → Adds σ σ' C xs → Adds σ' σ'' D ys → ((v : View) (l : Whole) → σ.stands v l → C v l → D (xs ++ v) (triples σ.seat.actor xs ++ l)) → Adds σ σ'' C (ys ++ xs)
 adds_call {σ} {σ'} {σ''} {C} {D} {xs} {ys} before call meets = record {
-    seat_is = call.seat_is ∙ before.seat_is;
-    added = λ v l stood met.
-        subst (λ w. σ''.stands w (triples σ.seat.actor (ys ++ xs) ++ l)) (sym (append_assoc ys xs v))
-        (subst (λ w. σ''.stands (ys ++ (xs ++ v)) w) (triples_append σ.seat.actor ys xs l)
-        (subst (λ s. σ''.stands (ys ++ (xs ++ v)) (triples s.actor ys ++ (triples σ.seat.actor xs ++ l))) before.seat_is
-        (call.added (xs ++ v) (triples σ.seat.actor xs ++ l) (before.added v l stood met) (meets v l stood met))));
-    agreed = λ v l stood met. agreed_append σ.seat.profile v ys xs
-        (subst (λ s. Agreed s.profile (xs ++ v) ys) before.seat_is (call.agreed (xs ++ v) (triples σ.seat.actor xs ++ l) (before.added v l stood met) (meets v l stood met)))
-        (before.agreed v l stood met);
-  }
+  seat_is = call.seat_is ∙ before.seat_is;
+  added = λ v l stood met.
+      subst (λ w. σ''.stands w (triples σ.seat.actor (ys ++ xs) ++ l)) (sym (append_assoc ys xs v))
+      (subst (λ w. σ''.stands (ys ++ (xs ++ v)) w) (triples_append σ.seat.actor ys xs l)
+      (subst (λ s. σ''.stands (ys ++ (xs ++ v)) (triples s.actor ys ++ (triples σ.seat.actor xs ++ l))) before.seat_is
+      (call.added (xs ++ v) (triples σ.seat.actor xs ++ l) (before.added v l stood met) (meets v l stood met))));
+  agreed = λ v l stood met. agreed_append σ.seat.profile v ys xs
+      (subst (λ s. Agreed s.profile (xs ++ v) ys) before.seat_is (call.agreed (xs ++ v) (triples σ.seat.actor xs ++ l) (before.added v l stood met) (meets v l stood met)))
+      (before.agreed v l stood met);
+}
 
 -- under a condition that says more
 pub adds_under : {σ σ' : Standing} {C D : View → Whole → Type 0} {xs : List Made} → Adds σ σ' C xs → ((v : View) (l : Whole) → σ.stands v l → D v l → C v l) → Adds σ σ' D xs
@@ -62,21 +62,21 @@ adds_under adds under = record { seat_is = adds.seat_is; added = λ v l stood me
 pub can_step : {σ σ' : Standing} {C : View → Whole → Type 0} {xs : List Made} {step : Step}
     → Adds σ σ' C xs → CanCall σ C → IsStepOf σ.seat.profile step → ((v : View) (l : Whole) → σ.stands v l → C v l → Allowed σ.seat.profile (xs ++ v) step) → CanMake σ' step
 can_step {σ} {σ'} {C} {xs} {step} before can of_region allowed = record {
-    of_region = subst (λ s. IsStepOf s.profile step) (sym before.seat_is) of_region;
-    view = xs ++ can.view;
-    whole = triples σ.seat.actor xs ++ can.whole;
-    stood = before.added can.view can.whole can.stood can.met;
-    allowed = subst (λ s. Allowed s.profile (xs ++ can.view) step) (sym before.seat_is) (allowed can.view can.whole can.stood can.met);
-  }
+  of_region = subst (λ s. IsStepOf s.profile step) (sym before.seat_is) of_region;
+  view = xs ++ can.view;
+  whole = triples σ.seat.actor xs ++ can.whole;
+  stood = before.added can.view can.whole can.stood can.met;
+  allowed = subst (λ s. Allowed s.profile (xs ++ can.view) step) (sym before.seat_is) (allowed can.view can.whole can.stood can.met);
+}
 
 pub can_call : {σ σ' : Standing} {C D : View → Whole → Type 0} {xs : List Made}
     → Adds σ σ' C xs → CanCall σ C → ((v : View) (l : Whole) → σ.stands v l → C v l → D (xs ++ v) (triples σ.seat.actor xs ++ l)) → CanCall σ' D
 can_call {σ} {σ'} {C} {D} {xs} before can meets = record {
-    view = xs ++ can.view;
-    whole = triples σ.seat.actor xs ++ can.whole;
-    stood = before.added can.view can.whole can.stood can.met;
-    met = meets can.view can.whole can.stood can.met;
-  }
+  view = xs ++ can.view;
+  whole = triples σ.seat.actor xs ++ can.whole;
+  stood = before.added can.view can.whole can.stood can.met;
+  met = meets can.view can.whole can.stood can.met;
+}
 
 -- ---- on a desk that tells the whole state
 -- each list that the desk stands for is legal
@@ -92,7 +92,7 @@ pub room_left : {σ σ' : Standing} {C : View → Whole → Type 0} {xs : List M
     → length (events_of σ.seat.actor (xs ++ can.view)) + n ≤ σ.seat.room → n ≤ spare
 room_left {σ} {σ'} {C} {xs} {spare} n adds can spares fits =
     let law : spare + length (events_of σ.seat.actor (xs ++ can.view)) ≡ σ.seat.room
-        = subst (λ s. spare + length (events_of s.actor (xs ++ can.view)) ≡ s.room) adds.seat_is (spares (xs ++ can.view) (triples σ.seat.actor xs ++ can.whole) (adds.added can.view can.whole can.stood can.met)) in
+    = subst (λ s. spare + length (events_of s.actor (xs ++ can.view)) ≡ s.room) adds.seat_is (spares (xs ++ can.view) (triples σ.seat.actor xs ++ can.whole) (adds.added can.view can.whole can.stood can.met)) in
     omega (arith, law, fits)
 
 -- ---- a list of steps that agrees, cut

@@ -4,3 +4,4 @@ pub mod Targets
 pub mod Adding
 pub mod Past
 pub mod Frames
+pub mod Kept
