@@ -54,20 +54,20 @@ check_looks p w d (a ∷ more) v knows none lt =
     let deed : known_deed (looks p more ++ v) p ≡ deed_word_of d = deed_looks p p more v ∙ knows in
     let owed : Bool = owes_check (looks p more ++ v) p w in
     elim (cases_lt w (length more)) [
-        inl below ↦ kept_none ((length more == w) && (p == p) && not (known_deed (looks p more ++ v) p == 0) && no_usable (known_deed (looks p more ++ v) p) w a) owed (check_looks p w d more v knows parts.1 below)
+      | inl below ↦ kept_none ((length more == w) && (p == p) && not (known_deed (looks p more ++ v) p == 0) && no_usable (known_deed (looks p more ++ v) p) w a) owed (check_looks p w d more v knows parts.1 below)
       | inr above ↦ let same : length more ≡ w = omega (arith, lt, above) in
           ended (length more) w p (known_deed (looks p more ++ v) p) (no_usable (known_deed (looks p more ++ v) p) w a) owed same
-            (λ z. deed_word_of-positive d (sym deed ∙ z))
-            (ap (λ x. no_usable x w a) deed ∙ ap (λ x. no_usable (deed_word_of d) x a) (sym same) ∙ parts.0)
-      ]
+          (λ z. deed_word_of-positive d (sym deed ∙ z))
+          (ap (λ x. no_usable x w a) deed ∙ ap (λ x. no_usable (deed_word_of d) x a) (sym same) ∙ parts.0)
+    ]
 
 -- ---- looks that show a used grain end the hint
 hint_looks : (p : ℕ) (answers : List ℕ) (v : View) → are_all_ones answers ≡ false → owes_hint (looks p answers ++ v) p ≡ false
 hint_looks p [] v used = absurd (true≢false used)
 hint_looks p (a ∷ more) v used = elim (cases_Bool (a == all_ones)) [
-    inl full ↦ kept_none ((p == p) && not (a == all_ones)) (owes_hint (looks p more ++ v) p) (hint_looks p more v (sym (ap (λ t. t && are_all_ones more) full) ∙ used))
+  | inl full ↦ kept_none ((p == p) && not (a == all_ones)) (owes_hint (looks p more ++ v) p) (hint_looks p more v (sym (ap (λ t. t && are_all_ones more) full) ∙ used))
   | inr not_full ↦ ap (λ t. if t && not (a == all_ones) then false else owes_hint (looks p more ++ v) p) (same_page p) ∙ ap (λ t. if not t then false else owes_hint (looks p more ++ v) p) not_full
-  ]
+]
 
 -- the first grain of each free word is usable
 first_usable : (k : Kind) (w : ℕ) → IsKind k → w < 4 → usable_by_kind k (64 * w + 0) ≡ true
@@ -133,8 +133,8 @@ reoffer_right f p d steps v (inr h) agreed =
     let here : Agreed f v (made (Offer p d) h.1 ∷ made (Unpark p) h.0 ∷ []) = subst (Agreed f v) h.3 agreed in
     let whole : 64 * (p / 64) + p % 64 ≡ p = omega arith in
     ap (λ s. has_right (s ++ v) p) h.3 ∙ ends p (has_right (made (Unpark p) h.0 ∷ v) p) ∙ sym (elim (cases_Bool (has_right v p)) [
-      inl has ↦ absurd (true≢false (sym h.2 ∙ here.1.0.right (p % 64) (omega arith) (ap (has_right v) whole ∙ has)))
-    | inr none ↦ none
+      | inl has ↦ absurd (true≢false (sym h.2 ∙ here.1.0.right (p % 64) (omega arith) (ap (has_right v) whole ∙ has)))
+      | inr none ↦ none
     ])
 
 lacks_after : (p : ℕ) (d : Directory) (usable : Bool) (steps : List Made) (v : View) → ReoffersWhere usable p d steps → has_right v p ≡ false → has_right (steps ++ v) p ≡ false
@@ -157,16 +157,16 @@ end_owes f p d true all_free steps v h agreed knows used hint =
 end_owes f p d false all_free steps v h agreed knows used hint =
     let parked : View = made (Park p) h.parked ∷ v in
     subst (OwesNothing p) (sym (parked_on p d steps v h)) (after_reoffer p d (any_usable d h.later) h.after (looks p h.later ++ parked) h.reoffers
-      (λ w lt none. check_looks p w d h.later parked knows none (let four = h.four in omega (arith, four, lt)))
-      (hint_kept p h.later parked (hint (used refl))))
+    (λ w lt none. check_looks p w d h.later parked knows none (let four = h.four in omega (arith, four, lt)))
+    (hint_kept p h.later parked (hint (used refl))))
 
 pub leave_owes : (f : Profile) (p : ℕ) (d : Directory) (steps : List Made) (v : View) → IsDirectory d → LeaveSteps p d steps → Agreed f v steps → known_deed v p ≡ deed_word_of d → OwesNothing p (steps ++ v)
 leave_owes f p d steps v is h agreed knows = subst (OwesNothing p) (sym (left_on p d steps v h))
     (end_owes f p d (any_usable d h.answers) (are_all_ones h.answers) h.after (looks p h.answers ++ v) h.ends
-      (agreed_first f v h.after (looks p h.answers) (subst (Agreed f v) h.steps_are agreed))
-      (deed_looks p p h.answers v ∙ knows)
-      (used_looks d h.answers is h.four)
-      (hint_looks p h.answers v))
+    (agreed_first f v h.after (looks p h.answers) (subst (Agreed f v) h.steps_are agreed))
+    (deed_looks p p h.answers v ∙ knows)
+    (used_looks d h.answers is h.four)
+    (hint_looks p h.answers v))
 
 end_lacks : (p : ℕ) (d : Directory) (usable all_free : Bool) (steps : List Made) (v : View) → EndsLeave usable p d all_free steps → has_right (steps ++ v) p ≡ false
 end_lacks p d true all_free steps v h = ap (λ s. has_right s p) (offered_on p d all_free steps v h) ∙ hints_right p all_free h.after (made (Offer p d) h.offered ∷ v) h.hints ∙ ends p (has_right v p)

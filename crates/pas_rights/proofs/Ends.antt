@@ -5,11 +5,11 @@ use Rattle.pas_profile.specs.declared.directory.Directory.{Directory}
 use Rattle.pas_steps.specs.Views.{View, has_right, known_deed}
 use Rattle.pas_steps.specs.Lists.{Whole}
 use Rattle.pas_steps.specs.Agreement.{Agreed}
-use Rattle.pas_steps.specs.Desks.{Standing, Adds, made, triples}
+use Rattle.pas_steps.specs.Desks.{Anything, Standing, Adds, made, triples}
 use Rattle.pas_steps.specs.declared.step.Made.{Made}
 use Rattle.pas_steps.specs.declared.step.Step.TheVariants.{Park}
 use Rattle.pas_steps.proofs.Adding.{adds_call, adds_under}
-use Rattle.pas_rights.specs.Rights.{Anything, KnowsDeed, MayLeave, looks, any_usable, are_all_ones, Sees, SeesUntilUsed, EndsLeave, OfferSteps, ParkSteps, LeaveSteps, HintsWhere, ReoffersWhere, ReofferSteps, ReoffersPage, ParksPage, ReturnSteps, Leaves, Returned}
+use Rattle.pas_rights.specs.Rights.{KnowsDeed, MayLeave, looks, any_usable, are_all_ones, Sees, SeesUntilUsed, EndsLeave, OfferSteps, ParkSteps, LeaveSteps, HintsWhere, ReoffersWhere, ReofferSteps, ReoffersPage, ParksPage, ReturnSteps, Leaves, Returned}
 use Rattle.pas_rights.proofs.Orders.{right_looks, deed_looks, leave_returns, leave_loses, return_returns}
 use Rattle.pas_rights.proofs.Debts.{leave_owes, leave_lacks, return_owes, return_right}
 
@@ -19,14 +19,14 @@ may_still p d answers v met = record { right = right_looks p p answers v ∙ met
 
 leaves : {σ σ' : Standing} (p : ℕ) (d : Directory) (steps : List Made) → IsDirectory d → Adds σ σ' (λ v l. MayLeave p d v) steps → LeaveSteps p d steps → Leaves p d σ σ'
 leaves {σ} {σ'} p d steps is adds order = record {
-    steps = steps;
-    adds = adds;
-    order = order;
-    returns = leave_returns p d steps order;
-    left = leave_loses p d steps order;
-    right = λ v. leave_lacks p d steps v order;
-    owes = λ v agreed met. leave_owes σ.seat.profile p d steps v is order agreed met.deed;
-  }
+  steps = steps;
+  adds = adds;
+  order = order;
+  returns = leave_returns p d steps order;
+  left = leave_loses p d steps order;
+  right = λ v. leave_lacks p d steps v order;
+  owes = λ v agreed met. leave_owes σ.seat.profile p d steps v is order agreed met.deed;
+}
 
 -- the looks, and the end that they call for
 pub leaves_by : {σ σ1 σ2 : Standing} {usable all_free : Bool} (p : ℕ) (d : Directory) → IsDirectory d → (s : Sees p d σ σ1 usable all_free) → (after : List Made) → Adds σ1 σ2 (λ v l. MayLeave p d v) after → EndsLeave usable p d all_free after → Leaves p d σ σ2
@@ -35,7 +35,7 @@ leaves_by {σ} {σ1} {σ2} {usable} {all_free} p d is s after adds ends =
     let both : EndsLeave (any_usable d s.answers) p d (are_all_ones s.answers) after = subst (λ t. EndsLeave (any_usable d s.answers) p d t after) s.all_free_is one in
     let first : Adds σ σ1 (λ v l. MayLeave p d v) (looks p s.answers) = adds_under s.adds (λ v l stood met. tt) in
     leaves p d (after ++ looks p s.answers) is (adds_call first adds (λ v l stood met. may_still p d s.answers v met))
-      record { answers = s.answers; four = s.four; after = after; ends = both; steps_are = refl }
+    record { answers = s.answers; four = s.four; after = after; ends = both; steps_are = refl }
 
 -- the deed is known after the parking and the later looks
 pub knows_parked : (p : ℕ) (d : Directory) (k : ℕ) (later : List ℕ) (v : View) → KnowsDeed p d v → KnowsDeed p d (looks p later ++ (made (Park p) k ∷ []) ++ v)

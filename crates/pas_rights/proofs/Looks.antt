@@ -12,10 +12,10 @@ use Rattle.pas_profile.specs.declared.directory.Kind.TheVariants as Kind
 use Rattle.pas_profile.specs.declared.word.Word.TheVariants as Word
 use Rattle.pas_profile.proofs.Codecs.{read-deed_word_of}
 use Rattle.pas_steps.specs.Views.{all_ones, usable_by, usable_by_kind, all_below, no_usable}
-use Rattle.pas_steps.specs.Desks.{Standing, made, Makes, Adds}
+use Rattle.pas_steps.specs.Desks.{Anything, Standing, made, Makes, Adds}
 use Rattle.pas_steps.specs.declared.step.Step.TheVariants.{Look}
 use Rattle.pas_steps.proofs.Adding.{adds_step}
-use Rattle.pas_rights.specs.Rights.{Anything, looks, any_usable, are_all_ones}
+use Rattle.pas_rights.specs.Rights.{looks, any_usable, are_all_ones}
 
 -- one look more
 pub more_looks : {σ σ' σ'' : Standing} (page : ℕ) (answers : List ℕ) (a w : ℕ) → length answers ≡ w
@@ -76,9 +76,9 @@ mask_test : (a m : ℕ) (u : ℕ → Bool) → bit_and a m < 2 ^ 64 → ((b : �
 mask_test a m u small bits =
     let both : (b : ℕ) → b < 64 → has_bit (bit_and a m) b ≡ (has_bit a b && u b) = λ b lt. bit_of_both a m b ∙ ap (λ x. has_bit a b && x) (bits b lt) in
     elim (cases_Bool (all_below 64 (λ b. not (has_bit a b && u b)))) [
-        inl all ↦ eq-eqb (bit_and a m) 0 (is_zero_from (bit_and a m) small (λ b lt. not_is (has_bit (bit_and a m) b) (has_bit a b && u b) (both b lt) (below_at 64 b (λ i. not (has_bit a i && u i)) all lt))) ∙ sym all
+      | inl all ↦ eq-eqb (bit_and a m) 0 (is_zero_from (bit_and a m) small (λ b lt. not_is (has_bit (bit_and a m) b) (has_bit a b && u b) (both b lt) (below_at 64 b (λ i. not (has_bit a i && u i)) all lt))) ∙ sym all
       | inr some ↦ ne_eqb (bit_and a m) 0 (λ z. true≢false (sym (below_all 64 (λ b. not (has_bit a b && u b)) (λ b lt. is_not (has_bit (bit_and a m) b) (has_bit a b && u b) (both b lt) (ap (λ n. has_bit n b) z ∙ no_bit b))) ∙ some)) ∙ sym some
-      ]
+    ]
 
 -- the test of the usable grains of a directory's page
 pub usable_test : (d : Directory) (a m w : ℕ) → IsDirectory d → bit_and a m < 2 ^ 64 → ((b : ℕ) → b < 64 → has_bit m b ≡ usable_by_kind d.kind (64 * w + b)) → (bit_and a m == 0) ≡ no_usable (deed_word_of d) w a

@@ -67,7 +67,7 @@ end_returns p d true all_free steps h = subst (OnlyReturns p) (sym h.steps_are)
     (returns_append p h.after (made (Offer p d) h.offered ∷ []) (hints_return p all_free h.after h.hints) (IsReturn.Offers d, tt))
 end_returns p d false all_free steps h = subst (OnlyReturns p) (sym h.steps_are)
     (returns_append p h.after (looks p h.later ++ (made (Park p) h.parked ∷ [])) (reoffers_return p d (any_usable d h.later) h.after h.reoffers)
-        (returns_append p (looks p h.later) (made (Park p) h.parked ∷ []) (looks_return p h.later) (IsReturn.Parks, tt)))
+    (returns_append p (looks p h.later) (made (Park p) h.parked ∷ []) (looks_return p h.later) (IsReturn.Parks, tt)))
 
 pub leave_returns : (p : ℕ) (d : Directory) (steps : List Made) → LeaveSteps p d steps → OnlyReturns p steps
 leave_returns p d steps h = subst (OnlyReturns p) (sym h.steps_are)
@@ -76,7 +76,7 @@ leave_returns p d steps h = subst (OnlyReturns p) (sym h.steps_are)
 pub return_returns : (p : ℕ) (d : Directory) (steps : List Made) → ReturnSteps p d steps → OnlyReturns p steps
 return_returns p d steps h = subst (OnlyReturns p) (sym h.steps_are)
     (returns_append p h.after (looks p h.answers ++ h.first) (hints_return p h.all_free h.after h.hints)
-        (returns_append p (looks p h.answers) h.first (looks_return p h.answers) (reoffer_returns p d h.first h.reoffers)))
+    (returns_append p (looks p h.answers) h.first (looks_return p h.answers) (reoffer_returns p d h.first h.reoffers)))
 
 -- ---- the steps of a leave, on a view or on a list before them
 looks_are : (p : ℕ) (answers : List ℕ) → AreLooks (looks p answers)

@@ -9,15 +9,11 @@ use Rattle.pas_steps.specs.Lists.{Whole}
 use Rattle.pas_steps.specs.Agreement.{Agreed}
 use Rattle.pas_steps.specs.Past.{Once}
 use Rattle.pas_steps.specs.Frames.{AreLooks, OnlyReturns, GivesUp}
-use Rattle.pas_steps.specs.Desks.{Standing, Adds, made}
+use Rattle.pas_steps.specs.Desks.{Standing, Anything, Adds, made}
 use Rattle.pas_steps.specs.declared.step.Made.{Made}
 use Rattle.pas_steps.specs.declared.step.Step.TheVariants.{Look, TakeRight, Offer, Park, Unpark, Hint}
 
 -- ---- what is asked
--- nothing
-abbrev pub Anything : View → Whole → Type 0
-Anything v l = Unit {0}
-
 -- the page's deed is known, and is this directory
 abbrev pub KnowsDeed : ℕ → Directory → View → Type 0
 KnowsDeed page directory v = known_deed v page ≡ deed_word_of directory

@@ -4,8 +4,8 @@ ghost use Rattle.pas_profile.specs.Classes.{has_bit};
 ghost use Rattle.pas_profile.specs.Directories.{IsKind};
 ghost use Rattle.pas_profile.specs.Profiles.{IsValid, IsPage, IsDirectoryOf};
 ghost use Rattle.pas_steps.specs.Views.{usable_by_kind, all_ones};
-ghost use Rattle.pas_steps.specs.Desks.{CanCall};
-ghost use Rattle.pas_rights.specs.Rights.{Anything, Sees, SeesUntilUsed, Hinted};
+ghost use Rattle.pas_steps.specs.Desks.{Anything, CanCall};
+ghost use Rattle.pas_rights.specs.Rights.{Sees, SeesUntilUsed, Hinted};
 
 use pas_profile::{Directory, Kind, Word, slot_mask};
 use pas_steps::Desk;

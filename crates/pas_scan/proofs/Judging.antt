@@ -77,7 +77,7 @@ members_more f marks d block first page members more a steps before at low bits 
     let open_here : Bool = (a == deed_word_of d) && not (is_marked marks page) in
     record {
       all = λ v p e ge lt is unmarked. bits (p % 64) (omega arith) ∙ elim (cases_eq page p) [
-          inl same ↦
+        | inl same ↦
             let known : a ≡ deed_word_of d = sym (read_here page a (known_deed (steps ++ v) page)) ∙ subst (λ q. known_deed (made (Look (Word.Deed page)) a ∷ steps ++ v) q ≡ deed_word_of d) (sym same) is in
             let unmarked' : is_marked marks page ≡ false = ap (is_marked marks) same ∙ unmarked in
             ap (λ t. (t && open_here) || has_bit members (p % 64)) (eq-eqb (page % 64) (p % 64) (ap (λ x. x % 64) same))
@@ -86,16 +86,16 @@ members_more f marks d block first page members more a steps before at low bits 
         | inr ne ↦
             let known : IsOf d p (steps ++ v) = sym (ap (λ t. if t then a else known_deed (steps ++ v) p) (ne_eqb page p ne)) ∙ is in
             or_true ((page % 64 == p % 64) && open_here) (has_bit members (p % 64)) (before.all v p e ge (omega (arith, lt, ne)) known unmarked)
-        ];
+      ];
       only = λ v p e bit. elim (or_cases (page % 64 == p % 64) open_here (has_bit members (p % 64)) (sym (bits (p % 64) (omega arith)) ∙ bit)) [
-          inl here ↦
+        | inl here ↦
             let same : page ≡ p = same_number page p (at ∙ sym e) (eqb-true (page % 64) (p % 64) here.0) in
             let parts = and_parts (a == deed_word_of d) (not (is_marked marks page)) here.1 in
             (omega (arith, low, same), omega (arith, same), subst (λ q. known_deed (made (Look (Word.Deed page)) a ∷ steps ++ v) q ≡ deed_word_of d) same (read_here page a (known_deed (steps ++ v) page) ∙ eqb-true a (deed_word_of d) parts.0), ap (is_marked marks) (sym same) ∙ not_true (is_marked marks page) parts.1)
         | inr there ↦
             let old = before.only v p e there in let lt = old.1 in
             (old.0, omega (arith, lt), ap (λ t. if t then a else known_deed (steps ++ v) p) (ne_eqb page p (λ h. absurd (omega (arith, h, lt)))) ∙ old.2, old.3)
-        ];
+      ];
     }
 
 -- ---- a parked word more
@@ -116,7 +116,7 @@ pub parked_more : (f : Profile) (marks : List ℕ) (d : Directory) (block end me
     → ((p : ℕ) → 1 ≤ p → p / 64 ≡ block → p < end → has_bit (bit_and members (bit_not w64 a)) (p % 64) ≡ false) → end ≤ 64 * (block + 1)
     → AllParked f marks d end (made (Look (Word.Parked block)) a ∷ (ms ++ steps))
 parked_more f marks d block end members a ms steps small scans deeds before all none limit v p lt is = elim (cases_lt p (64 * block)) [
-    inl low ↦
+  | inl low ↦
       let cut = member_cut f marks d block a p ms steps v is in
       let old : IsMember f marks d (steps ++ v) p = record { of_region = cut.of_region; of_directory = sym (other_block block ms (steps ++ v) p deeds (λ e. absurd (omega (arith, e, low)))) ∙ cut.of_directory; unmarked = cut.unmarked } in
       inr (once_later (ParkedHere true p) ms steps (before v p low old))
@@ -126,7 +126,7 @@ parked_more f marks d block end members a ms steps small scans deeds before all 
       let bit = all (steps ++ v) p at cut in
       let some = is.of_region.0 in
       inl (ReadsParked.Looks block (sym at), both_tests (has_bit members (p % 64)) (has_bit a (p % 64)) bit (sym (bit_cleared members a (p % 64) small (omega arith)) ∙ none p some at lt), scans_lack (ms ++ steps) p scans)
-  ]
+]
 
 -- a member whose parked bit was read as 0
 both_parts : (m a : Bool) → (m && not a) ≡ true → (m ≡ true) × (a ≡ false)
@@ -156,7 +156,7 @@ turn_below block a ms steps deeds below = (omega arith, below_more (65 * block +
 pub turn_single : (block a : ℕ) (ms steps : List Made) → InBlock block ms → Below (65 * block) steps → IsSingle ms → IsSingle steps → IsSingle (made (Look (Word.Parked block)) a ∷ (ms ++ steps))
 turn_single block a ms steps deeds below single before =
     single_more (65 * block + 64) (made (Look (Word.Parked block)) a) (ms ++ steps) (turn_before block ms steps deeds below) (omega arith)
-      (single_append (65 * block) ms steps below (block_from block ms deeds) single before)
+    (single_append (65 * block) ms steps below (block_from block ms deeds) single before)
 
 -- ---- the pages of a block
 pub record IsSpan (block pages first end : ℕ) : Type 0 where

@@ -28,9 +28,9 @@ marked_more words page p small sized = by_block words page p small sized (page /
 
 zeros : (i : ℕ) → ◌≡◌ {A = ℕ} (get_or (replicate 257 0) i 0) 0
 zeros i = elim (cases_lt i 257) [
-    inl lt ↦ get_or-replicate 257 i 0 0 lt
+  | inl lt ↦ get_or-replicate 257 i 0 0 lt
   | inr ge ↦ get_or_past (replicate 257 0) i 0 ge
-  ]
+]
 
 pub marked_none : (p : ℕ) → is_marked (replicate 257 0) p ≡ false
 marked_none p = ap (λ n. has_bit n (p % 64)) (zeros (p / 64)) ∙ no_bit (p % 64)

@@ -36,18 +36,18 @@ mask_is q = let lt : 2 ^ (q % 64) < 2 ^ 64 = pow_below (q % 64) 64 (omega arith)
 
 pub mask_bit : (q b : ℕ) → has_bit (page_mask q) b ≡ (q % 64 == b)
 mask_bit q b = ap (λ n. has_bit n b) (mask_is q) ∙ elim (cases_eq (q % 64) b) [
-    inl e ↦ ap (λ n. has_bit (2 ^ n) b) e ∙ ap (λ x. x == 1) (bit_at-pow_same b) ∙ sym (eq-eqb (q % 64) b e)
+  | inl e ↦ ap (λ n. has_bit (2 ^ n) b) e ∙ ap (λ x. x == 1) (bit_at-pow_same b) ∙ sym (eq-eqb (q % 64) b e)
   | inr ne ↦ ap (λ x. x == 1) (bit_at-pow_other (q % 64) b (λ e. ne (sym e))) ∙ sym (ne_eqb (q % 64) b ne)
-  ]
+]
 
 pub same_number : (q p : ℕ) → q / 64 ≡ p / 64 → q % 64 ≡ p % 64 → q ≡ p
 same_number q p d r = omega arith
 
 pub same_bit : (q p : ℕ) → q / 64 ≡ p / 64 → (q % 64 == p % 64) ≡ (q == p)
 same_bit q p e = elim (cases_eq (q % 64) (p % 64)) [
-    inl same ↦ eq-eqb (q % 64) (p % 64) same ∙ sym (eq-eqb q p (same_number q p e same))
+  | inl same ↦ eq-eqb (q % 64) (p % 64) same ∙ sym (eq-eqb q p (same_number q p e same))
   | inr ne ↦ ne_eqb (q % 64) (p % 64) ne ∙ sym (ne_eqb q p (λ h. ne (ap (λ x. x % 64) h)))
-  ]
+]
 
 pub swap_or : (x y : Bool) → (x || y) ≡ (y || x)
 swap_or true true = refl

@@ -39,9 +39,9 @@ pub zero_more : (d : Directory) (next block end a : ℕ) (steps : List Made) →
     → ((p : ℕ) → next ≤ p → p / 64 ≡ block → p < end → has_bit a (p % 64) ≡ false) → end ≤ 64 * (block + 1)
     → (p : ℕ) → next ≤ p → p < end → Once (ZeroHere d p) (made (Look (Word.Eligible (number_of d) block)) a ∷ steps)
 zero_more d next block end a steps scans before bits limit p low high = elim (cases_lt p (64 * block)) [
-    inl lt ↦ inr (before p low lt)
+  | inl lt ↦ inr (before p low lt)
   | inr ge ↦ let e : p / 64 ≡ block = omega (arith, ge, high, limit) in inl (ReadsEligible.Looks (number_of d) block refl (sym e), bits p low e high, scans_lack steps p scans)
-  ]
+]
 
 numbered : (heap kind : ℕ) → kind < 23 → (heap * 23 + kind) / 23 * 256 + (heap * 23 + kind) % 23 ≡ heap * 256 + kind
 numbered heap kind lt = let a : (heap * 23 + kind) / 23 ≡ heap = omega (arith, lt) in let b : (heap * 23 + kind) % 23 ≡ kind = omega (arith, lt) in omega (arith, a, b)
@@ -64,22 +64,22 @@ first_one f d next block page a steps v is scans before low e bit bits agreed =
       deed = λ w. ap (λ t. if t && has_bit a (page % 64) then deed_word_numbered (number_of d) else known_deed (steps ++ w) page) (eq-eqb block (page / 64) (sym e))
           ∙ ap (λ t. if t then deed_word_numbered (number_of d) else known_deed (steps ++ w) page) bit ∙ deed_from_number d is;
       lacks = λ w agreed'. sym (right_scans steps w page scans) ∙ elim (cases_Bool (has_right (steps ++ w) page)) [
-          inl has ↦ absurd (true≢false (sym bit ∙ agreed'.0.right (page % 64) (omega arith) (ap (has_right (steps ++ w)) whole ∙ has)))
+        | inl has ↦ absurd (true≢false (sym bit ∙ agreed'.0.right (page % 64) (omega arith) (ap (has_right (steps ++ w)) whole ∙ has)))
         | inr lacks ↦ lacks
-        ];
+      ];
     }
 
 -- ---- deeds
 pub deed_more : (from page : ℕ) (steps : List Made) (a : ℕ) → ((p : ℕ) → from ≤ p → p < page → Once (DeedHere p) steps) → a ≢ 0 → (p : ℕ) → from ≤ p → p < page + 1 → Once (DeedHere p) (made (Look (Word.Deed page)) a ∷ steps)
 deed_more from page steps a before ne p low high = elim (cases_lt p page) [
-    inl lt ↦ inr (before p low lt)
+  | inl lt ↦ inr (before p low lt)
   | inr ge ↦ let same : page ≡ p = omega (arith, high, ge) in inl (subst (λ q. ReadsDeed p (Look (Word.Deed q))) (sym same) ReadsDeed.Looks, ne)
-  ]
+]
 
 pub first_none : (f : Profile) (from page a : ℕ) (steps : List Made) → 1 ≤ from → from ≤ page → page ≤ f.pages → a ≡ 0 → ((p : ℕ) → from ≤ p → p < page → Once (DeedHere p) steps) → IsFirstBare f from (made (Look (Word.Deed page)) a ∷ steps) page
 first_none f from page a steps some low high z before = record {
-    from_there = low;
-    of_region = (omega (arith, some, low), high);
-    none = inl (ReadsDeed.Looks, z);
-    lower = λ p ge lt. inr (before p ge lt);
-  }
+  from_there = low;
+  of_region = (omega (arith, some, low), high);
+  none = inl (ReadsDeed.Looks, z);
+  lower = λ p ge lt. inr (before p ge lt);
+}

@@ -10,7 +10,7 @@ use Rattle.pas_profile.specs.declared.event.NoRoom.TheVariants.{NoSpace, Held}
 use Rattle.pas_steps.specs.Views.{View, has_right, known_deed}
 use Rattle.pas_steps.specs.Lists.{Whole}
 use Rattle.pas_steps.specs.Agreement.{Agreed}
-use Rattle.pas_steps.specs.Desks.{Standing, Adds}
+use Rattle.pas_steps.specs.Desks.{Standing, Anything, Adds}
 use Rattle.pas_steps.specs.Past.{Once, Always}
 use Rattle.pas_steps.specs.Frames.{OnlyScans}
 use Rattle.pas_steps.specs.declared.step.Made.{Made}
@@ -18,10 +18,6 @@ use Rattle.pas_steps.specs.declared.step.Step.TheVariants.{Look}
 use Rattle.pas_profile.specs.declared.word.Word.TheVariants as Word
 use Rattle.pas_scan.specs.Marks.{is_marked}
 use Rattle.pas_scan.specs.Evidence.{ZeroHere, OneHere, DeedHere, NoDeedHere, ParkedHere, IsOf, IsSingle}
-
--- nothing is asked
-abbrev pub Anything : View → Whole → Type 0
-Anything v l = Unit {0}
 
 -- ---- the search of offered pages from page `next` on
 -- each page from this one on was read as not offered
@@ -44,8 +40,8 @@ pub record FindsOffered (d : Directory) (next : ℕ) (desk desk' : Standing) (ne
   pub scans : OnlyScans steps
   pub single : IsSingle steps
   pub outcome : MatchOption found
-    ((next' ≡ next) × NoneOffered desk.seat.profile d next steps)
-    (λ page. (next' ≡ page + 1) × IsFirstOffered desk.seat.profile d next steps page)
+      ((next' ≡ next) × NoneOffered desk.seat.profile d next steps)
+      (λ page. (next' ≡ page + 1) × IsFirstOffered desk.seat.profile d next steps page)
 
 -- ---- the search of a page without a deed, from this page on
 pub record IsFirstBare (f : Profile) (from : ℕ) (steps : List Made) (page : ℕ) : Type 0 where
@@ -60,8 +56,8 @@ pub record FindsBare (from : ℕ) (desk desk' : Standing) (found : Option ℕ) :
   pub scans : OnlyScans steps
   pub single : IsSingle steps
   pub outcome : MatchOption found
-    ((p : ℕ) → from ≤ p → p ≤ desk.seat.profile.pages → Once (DeedHere p) steps)
-    (IsFirstBare desk.seat.profile from steps)
+      ((p : ℕ) → from ≤ p → p ≤ desk.seat.profile.pages → Once (DeedHere p) steps)
+      (IsFirstBare desk.seat.profile from steps)
 
 -- ---- the verdict
 -- the page is of the region, known to be of the directory, and not marked

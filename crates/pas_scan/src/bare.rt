@@ -1,8 +1,8 @@
 //! The search for a page without a deed.
 ghost use Rattle.std.specs.Prelude.{◌≡◌, ◌≤◌};
 ghost use Rattle.pas_profile.specs.Profiles.{IsValid};
-ghost use Rattle.pas_steps.specs.Desks.{CanCall};
-ghost use Rattle.pas_scan.specs.Scan.{Anything, FindsBare};
+ghost use Rattle.pas_steps.specs.Desks.{Anything, CanCall};
+ghost use Rattle.pas_scan.specs.Scan.{FindsBare};
 
 use pas_profile::Word;
 use pas_steps::Desk;

@@ -2,8 +2,8 @@
 //! show it.
 #![tactic(auto)]
 
-mod bits;
 mod bare;
+mod bits;
 mod looked;
 mod offered;
 mod parked;

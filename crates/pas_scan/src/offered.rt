@@ -1,8 +1,8 @@
 //! The search for an offered page.
 ghost use Rattle.std.specs.Prelude.{◌≡◌, ◌≤◌};
 ghost use Rattle.pas_profile.specs.Profiles.{IsValid, IsDirectoryOf};
-ghost use Rattle.pas_steps.specs.Desks.{CanCall};
-ghost use Rattle.pas_scan.specs.Scan.{Anything, FindsOffered};
+ghost use Rattle.pas_steps.specs.Desks.{Anything, CanCall};
+ghost use Rattle.pas_scan.specs.Scan.{FindsOffered};
 
 use crate::bits::lowest_page;
 use crate::looked::Looked;

@@ -1,8 +1,8 @@
 //! Why a search found no page.
 ghost use Rattle.std.specs.Prelude.{ℕ, ◌≡◌, ◌≤◌, ◌<◌, ◌/◌, ◌+◌, ◌*◌};
 ghost use Rattle.pas_profile.specs.Profiles.{IsValid, IsDirectoryOf};
-ghost use Rattle.pas_steps.specs.Desks.{CanCall};
-ghost use Rattle.pas_scan.specs.Scan.{Anything, FindsMembers, Judges};
+ghost use Rattle.pas_steps.specs.Desks.{Anything, CanCall};
+ghost use Rattle.pas_scan.specs.Scan.{FindsMembers, Judges};
 
 use crate::bits::{lowest_page, with_page};
 use crate::looked::Looked;

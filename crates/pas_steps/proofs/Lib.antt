@@ -5,3 +5,7 @@ pub mod Past
 pub mod Ranged
 pub mod Targets
 pub mod Written
+pub mod Adding
+pub mod Past
+pub mod Frames
+pub mod Kept

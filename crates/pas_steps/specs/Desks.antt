@@ -46,6 +46,10 @@ pub record Makes (desk desk' : Standing) (step : Step) (answer : ℕ) : Type 0 w
   pub added : (v : View) (l : Whole) → desk.stands v l → Allowed desk.seat.profile v step → desk'.stands (made step answer ∷ v) (triple desk.seat.actor (made step answer) ∷ l)
   pub agrees : (v : View) (l : Whole) → desk.stands v l → Allowed desk.seat.profile v step → Agrees desk.seat.profile v step answer
 
+-- the condition of a call that asks nothing of the view
+abbrev pub Anything : View → Whole → Type 0
+Anything v l = Unit {0}
+
 -- a condition of a call: some view that the desk stands for meets it
 pub record CanCall (desk : Standing) (Meets : View → Whole → Type 0) : Type 0 where
   pub view : View

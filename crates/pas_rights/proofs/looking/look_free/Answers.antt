@@ -1,7 +1,8 @@
 use Rattle.std.proofs.Common.{◌≡◌, ◌==◌, ◌<◌, ◌/◌, ◌%◌, ◌+◌, ◌-◌, ◌*◌, ◌^◌, ◌≤◌, ◌&&◌, ◌||◌, not, ℕ, bit_and, slice_index, length, List, [], ◌∷◌, refl, ap, sym, ◌∙◌, arith}
 use Rattle.std.proofs.lemmas.Nat.{and_le_l}
 use Rattle.pas_profile.proofs.Codecs.{directory_from_profile}
-use Rattle.pas_rights.specs.Rights.{Anything, looks, any_usable, are_all_ones}
+use Rattle.pas_steps.specs.Desks.{Anything}
+use Rattle.pas_rights.specs.Rights.{looks, any_usable, are_all_ones}
 use Rattle.pas_steps.proofs.Adding.{can_step}
 use Rattle.pas_rights.proofs.Looks.{more_looks, usable_test, usable_more, free_more, word_bits}
 use Rattle.pas_rights.proofs.looking.look_free.Goals as goal
@@ -28,6 +29,6 @@ loop-word-preserved g c =
 
 pub returns : goal.returns
 returns g c = let i = c.loop-word.invariant in record {
-    sees = record { answers = i.answers; four = omega (arith, i.so_far, c.loop-word.auto.word-end, c.loop-word-test.false); adds = i.adds; usable_is = i.usable_is; all_free_is = i.all_free_is };
-    home = i.home;
-  }
+  sees = record { answers = i.answers; four = omega (arith, i.so_far, c.loop-word.auto.word-end, c.loop-word-test.false); adds = i.adds; usable_is = i.usable_is; all_free_is = i.all_free_is };
+  home = i.home;
+}

@@ -1,21 +1,20 @@
 use Rattle.std.proofs.Common.{◌≡◌, ℕ, ◌≤◌, ◌<◌, ◌+◌, ◌/◌, List}
 use Rattle.pas_steps.specs.declared.step.Made.{Made}
-use Rattle.pas_steps.specs.Desks.{Adds}
+use Rattle.pas_steps.specs.Desks.{Anything, Adds}
 use Rattle.pas_steps.specs.Past.{Once}
 use Rattle.pas_steps.specs.Frames.{OnlyScans}
 use Rattle.pas_scan.specs.Evidence.{DeedHere, IsSingle}
-use Rattle.pas_scan.specs.Scan.{Anything}
 use Rattle.pas_scan.proofs.Singles.{Below}
 use Rattle.pas_scan.proofs.bare.first_without_deed.Given as goal
 
 -- the deed word of each page from the first to below this one was read as not 0
 abbrev pub invariant-loop-page : goal.invariant-loop-page
 invariant-loop-page g l = let D = g.D.Desk in record {
-    steps : List Made;
-    adds : Adds (D.standing l.fn.desk) (D.standing l.desk) Anything steps;
-    scans : OnlyScans steps;
-    single : IsSingle steps;
-    below : Below (l.page + l.page / 64) steps;
-    deeds : (p : ℕ) → l.from ≤ p → p < l.page → Once (DeedHere p) steps;
-    home : D.home l.desk ≡ D.home l.fn.desk;
-  }
+  steps : List Made;
+  adds : Adds (D.standing l.fn.desk) (D.standing l.desk) Anything steps;
+  scans : OnlyScans steps;
+  single : IsSingle steps;
+  below : Below (l.page + l.page / 64) steps;
+  deeds : (p : ℕ) → l.from ≤ p → p < l.page → Once (DeedHere p) steps;
+  home : D.home l.desk ≡ D.home l.fn.desk;
+}

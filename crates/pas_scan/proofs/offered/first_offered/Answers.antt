@@ -37,8 +37,11 @@ returns-in-Some-clause-found g c =
       adds = adds;
       scans = (IsScan.LooksEligible (number_of d) block, i.scans);
       single = single_more block step i.steps i.below (omega arith) i.single;
-      outcome = (refl, first_one (D.standing c.args.desk.now).seat.profile d c.args.looked.now.next block c.in-Some.page a i.steps can.view c.requires.directory.kind i.scans i.zeros e.0 e.1 e.2 e.3
-          (adds.agreed can.view can.whole can.stood tt));
+      outcome = (
+        refl,
+        first_one (D.standing c.args.desk.now).seat.profile d c.args.looked.now.next block c.in-Some.page a i.steps can.view c.requires.directory.kind i.scans i.zeros e.0 e.1 e.2 e.3
+            (adds.agreed can.view can.whole can.stood tt),
+      );
     }
 
 pub returns-clause-found : goal.returns-clause-found

@@ -1,22 +1,21 @@
 use Rattle.std.proofs.Common.{◌≡◌, ℕ, ◌≤◌, ◌<◌, ◌*◌, List}
 use Rattle.pas_steps.specs.declared.step.Made.{Made}
-use Rattle.pas_steps.specs.Desks.{Adds}
+use Rattle.pas_steps.specs.Desks.{Anything, Adds}
 use Rattle.pas_steps.specs.Past.{Once}
 use Rattle.pas_steps.specs.Frames.{OnlyScans}
 use Rattle.pas_scan.specs.Evidence.{ZeroHere, IsSingle}
-use Rattle.pas_scan.specs.Scan.{Anything}
 use Rattle.pas_scan.proofs.Singles.{Below}
 use Rattle.pas_scan.proofs.offered.first_offered.Given as goal
 
 -- each page from `next` to below this word's was read as 0
 abbrev pub invariant-loop-block : goal.invariant-loop-block
 invariant-loop-block g l = let D = g.D.Desk in record {
-    steps : List Made;
-    adds : Adds (D.standing l.fn.desk) (D.standing l.desk) Anything steps;
-    scans : OnlyScans steps;
-    single : IsSingle steps;
-    below : Below l.block steps;
-    zeros : (p : ℕ) → l.next ≤ p → p < 64 * l.block → Once (ZeroHere l.fn.looked.directory p) steps;
-    looked : l.looked ≡ l.fn.looked;
-    home : D.home l.desk ≡ D.home l.fn.desk;
-  }
+  steps : List Made;
+  adds : Adds (D.standing l.fn.desk) (D.standing l.desk) Anything steps;
+  scans : OnlyScans steps;
+  single : IsSingle steps;
+  below : Below l.block steps;
+  zeros : (p : ℕ) → l.next ≤ p → p < 64 * l.block → Once (ZeroHere l.fn.looked.directory p) steps;
+  looked : l.looked ≡ l.fn.looked;
+  home : D.home l.desk ≡ D.home l.fn.desk;
+}

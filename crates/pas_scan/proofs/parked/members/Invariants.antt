@@ -1,8 +1,8 @@
 use Rattle.std.proofs.Common.{◌≡◌, ℕ, ◌≤◌, ◌<◌, ◌+◌, ◌*◌, ◌/◌, max, List}
 use Rattle.pas_steps.specs.declared.step.Made.{Made}
-use Rattle.pas_steps.specs.Desks.{Adds}
+use Rattle.pas_steps.specs.Desks.{Anything, Adds}
 use Rattle.pas_scan.specs.Evidence.{IsSingle}
-use Rattle.pas_scan.specs.Scan.{Anything, InBlock}
+use Rattle.pas_scan.specs.Scan.{InBlock}
 use Rattle.pas_scan.proofs.Singles.{Below}
 use Rattle.pas_scan.proofs.Judging.{Members}
 use Rattle.pas_scan.proofs.parked.members.Given as goal
@@ -10,11 +10,11 @@ use Rattle.pas_scan.proofs.parked.members.Given as goal
 -- the members of the block below this page
 abbrev pub invariant-loop-page : goal.invariant-loop-page
 invariant-loop-page g l = let D = g.D.Desk in record {
-    steps : List Made;
-    adds : Adds (D.standing l.fn.desk) (D.standing l.desk) Anything steps;
-    deeds : InBlock l.block steps;
-    single : IsSingle steps;
-    below : Below (l.page + l.page / 64) steps;
-    members : Members (D.standing l.fn.desk).seat.profile l.looked.unfit l.looked.directory l.block l.first l.page l.members steps;
-    home : D.home l.desk ≡ D.home l.fn.desk;
-  }
+  steps : List Made;
+  adds : Adds (D.standing l.fn.desk) (D.standing l.desk) Anything steps;
+  deeds : InBlock l.block steps;
+  single : IsSingle steps;
+  below : Below (l.page + l.page / 64) steps;
+  members : Members (D.standing l.fn.desk).seat.profile l.looked.unfit l.looked.directory l.block l.first l.page l.members steps;
+  home : D.home l.desk ≡ D.home l.fn.desk;
+}

@@ -42,8 +42,8 @@ returns-in-Some-clause-judges g c =
             (subst (λ s. IsMember s.profile looked.unfit looked.directory (m.steps ++ (i.steps ++ v)) page) i.adds.seat_is (m.only (i.steps ++ v) page e.1 bits.0)),
         held_here page block a (m.steps ++ i.steps) (scans_append m.steps i.steps (block_scans block m.steps m.deeds) i.scans) e.1 bits.1,
         parked_more f looked.unfit looked.directory block page c.members-members.result a m.steps i.steps c.look-parked.type_inv
-          (scans_append m.steps i.steps (block_scans block m.steps m.deeds) i.scans) m.deeds i.parked
-          (λ v p inside is. m.members v p inside (subst (λ s. IsMember s.profile looked.unfit looked.directory (m.steps ++ v) p) (sym i.adds.seat_is) is))
-          e.3 (omega (arith, at)),
+            (scans_append m.steps i.steps (block_scans block m.steps m.deeds) i.scans) m.deeds i.parked
+            (λ v p inside is. m.members v p inside (subst (λ s. IsMember s.profile looked.unfit looked.directory (m.steps ++ v) p) (sym i.adds.seat_is) is))
+            e.3 (omega (arith, at)),
       );
     }

@@ -1,20 +1,20 @@
 use Rattle.std.proofs.Common.{◌≡◌, ℕ, ◌≤◌, ◌<◌, ◌+◌, ◌*◌, ◌/◌, List}
 use Rattle.pas_steps.specs.declared.step.Made.{Made}
-use Rattle.pas_steps.specs.Desks.{Adds}
+use Rattle.pas_steps.specs.Desks.{Anything, Adds}
 use Rattle.pas_steps.specs.Frames.{OnlyScans}
 use Rattle.pas_scan.specs.Evidence.{IsSingle}
-use Rattle.pas_scan.specs.Scan.{Anything, AllParked}
+use Rattle.pas_scan.specs.Scan.{AllParked}
 use Rattle.pas_scan.proofs.Singles.{Below}
 use Rattle.pas_scan.proofs.parked.verdict.Given as goal
 
 -- the parked bit of each member below this block was read as 1
 abbrev pub invariant-loop-block : goal.invariant-loop-block
 invariant-loop-block g l = let D = g.D.Desk in record {
-    steps : List Made;
-    adds : Adds (D.standing l.fn.desk) (D.standing l.desk) Anything steps;
-    scans : OnlyScans steps;
-    single : IsSingle steps;
-    below : Below (65 * l.block) steps;
-    parked : AllParked (D.standing l.fn.desk).seat.profile l.looked.unfit l.looked.directory (64 * l.block) steps;
-    home : D.home l.desk ≡ D.home l.fn.desk;
-  }
+  steps : List Made;
+  adds : Adds (D.standing l.fn.desk) (D.standing l.desk) Anything steps;
+  scans : OnlyScans steps;
+  single : IsSingle steps;
+  below : Below (65 * l.block) steps;
+  parked : AllParked (D.standing l.fn.desk).seat.profile l.looked.unfit l.looked.directory (64 * l.block) steps;
+  home : D.home l.desk ≡ D.home l.fn.desk;
+}

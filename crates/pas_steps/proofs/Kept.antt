@@ -1,0 +1,445 @@
+-- What the framed steps leave as it was: rights, grains, knowledge, debts and events.
+use Rattle.std.proofs.Common.{◌≡◌, ◌≢◌, ℕ, ◌+◌, ◌*◌, ◌/◌, ◌%◌, ◌<◌, ◌≤◌, ◌==◌, zero, suc, Bool, true, false, not, ◌&&◌, ◌||◌, if◌then◌else◌, List, [], ◌∷◌, ◌++◌, Option, None, Some, refl, ap, sym, ◌∙◌, subst, arith, bit_and, true≢false}
+use Rattle.std.proofs.lemmas.Bool.{ne_eqb, eqb-true, and_parts}
+use Rattle.pas_profile.specs.Classes.{has_bit}
+use Rattle.pas_profile.specs.Directories.{deed_word_of, deed_word_numbered}
+use Rattle.pas_profile.specs.declared.directory.Directory.{Directory}
+use Rattle.pas_profile.specs.declared.event.Event.{Event}
+use Rattle.pas_profile.specs.declared.profile.Profile.{Profile}
+use Rattle.pas_profile.specs.declared.word.Word.{Word}
+use Rattle.pas_profile.specs.declared.word.Word.TheVariants as Word
+use Rattle.pas_steps.specs.declared.step.Made.{Made}
+use Rattle.pas_steps.specs.declared.step.Step.{Step}
+use Rattle.pas_steps.specs.declared.step.Step.TheVariants.{Look, Deed, Back, Take, Put, Give, End, TakeRight, Offer, Park, Unpark, Stamp, Hint}
+use Rattle.pas_steps.specs.Effects.{in_mask}
+use Rattle.pas_steps.specs.Views.{View, Move, Stays, Gets, Puts, grain_move, held_after, holds, any_below, holds_on, right_after, has_right, deed_after, deed_after_look, known_deed, free_after, known_free, life_after, looks_at_life, known_life, epoch_after, known_epoch, epoch_of, unstamped_after, is_unstamped, given_after, given_count, no_usable, check_after, owes_check, all_ones, hint_after, owes_hint, backed_after, knows_backed}
+use Rattle.pas_steps.specs.Events.{event_of, with_event, events_of}
+use Rattle.pas_steps.specs.Agreement.{Agrees, Agreed}
+use Rattle.pas_steps.specs.Past.{Always}
+use Rattle.pas_steps.specs.Frames.{IsOnPage, IsReturn, IsGrains, IsRead, IsScan, OnlyOn, OnlyReturns, OnlyGrains, OnlyReads, OnlyScans, IsLook, AreLooks}
+
+-- ---- tests of another page
+other : (p q : ℕ) → q ≢ p → (p == q) ≡ false
+other p q ne = ne_eqb p q (λ e. ne (sym e))
+
+unless : {A : Type 0} (t u : Bool) (x y : A) → t ≡ false → (if t && u then x else y) ≡ y
+unless t u x y h = ap (λ s. if s && u then x else y) h
+
+when_not : {A : Type 0} (t : Bool) (x y : A) → t ≡ false → (if t then x else y) ≡ y
+when_not t x y h = ap (λ s. if s then x else y) h
+
+ends_none : (t owed : Bool) → owed ≡ false → (if t then false else owed) ≡ false
+ends_none true owed h = refl
+ends_none false owed h = h
+
+and_false : (t : Bool) → (t && false) ≡ false
+and_false true = refl
+and_false false = refl
+
+both : (x y : Bool) → x ≡ true → y ≡ true → (x && y) ≡ true
+both x y h e = ap (λ t. t && y) h ∙ e
+
+-- ---- steps on one page alone: nothing of another page changes, but for what is known of it
+on_right : (p q : ℕ) (s : Step) (a : ℕ) (had : Bool) → IsOnPage p s → q ≢ p → right_after s a q had ≡ had
+on_right p q s a had (IsOnPage.Looks word) ne = refl
+on_right p q s a had (IsOnPage.Deeds d) ne = unless (p == q) (a == 0) true had (other p q ne)
+on_right p q s a had IsOnPage.Backs ne = refl
+on_right p q s a had (IsOnPage.Takes word mask) ne = refl
+on_right p q s a had (IsOnPage.Puts word mask) ne = refl
+on_right p q s a had (IsOnPage.Claims d) ne = unless (p == q) (has_bit a (q % 64)) true had (other p q ne)
+on_right p q s a had (IsOnPage.Offers d) ne = when_not (p == q) false had (other p q ne)
+on_right p q s a had IsOnPage.Parks ne = when_not (p == q) false had (other p q ne)
+on_right p q s a had IsOnPage.Unparks ne = unless (p == q) (has_bit a (q % 64)) true had (other p q ne)
+on_right p q s a had IsOnPage.Stamps ne = refl
+on_right p q s a had IsOnPage.Hints ne = refl
+
+pub right_on : (p q : ℕ) (steps : List Made) (v : View) → OnlyOn p steps → q ≢ p → has_right (steps ++ v) q ≡ has_right v q
+right_on p q [] v h ne = refl
+right_on p q (m ∷ more) v h ne = on_right p q m.step m.answer (has_right (more ++ v) q) h.0 ne ∙ right_on p q more v h.1 ne
+
+outside : (w p mask g : ℕ) → (p == g / 256) ≡ false → in_mask p w mask g ≡ false
+outside w p mask g h = ap (λ t. (w == g / 64 % 4) && t && has_bit mask (g % 64)) h ∙ ap (λ t. t && has_bit mask (g % 64)) (and_false (w == g / 64 % 4))
+
+on_grain : (p : ℕ) (s : Step) (a g : ℕ) → IsOnPage p s → g / 256 ≢ p → grain_move s a g ≡ Stays
+on_grain p s a g (IsOnPage.Looks word) ne = refl
+on_grain p s a g (IsOnPage.Deeds d) ne = refl
+on_grain p s a g IsOnPage.Backs ne = refl
+on_grain p s a g (IsOnPage.Takes word mask) ne = unless (in_mask p word mask g) (has_bit a (g % 64)) Gets Stays (outside word p mask g (other p (g / 256) ne))
+on_grain p s a g (IsOnPage.Puts word mask) ne = when_not (in_mask p word mask g) Puts Stays (outside word p mask g (other p (g / 256) ne))
+on_grain p s a g (IsOnPage.Claims d) ne = refl
+on_grain p s a g (IsOnPage.Offers d) ne = refl
+on_grain p s a g IsOnPage.Parks ne = refl
+on_grain p s a g IsOnPage.Unparks ne = refl
+on_grain p s a g IsOnPage.Stamps ne = refl
+on_grain p s a g IsOnPage.Hints ne = refl
+
+pub holds_on_page : (p g : ℕ) (steps : List Made) (v : View) → OnlyOn p steps → g / 256 ≢ p → holds (steps ++ v) g ≡ holds v g
+holds_on_page p g [] v h ne = refl
+holds_on_page p g (m ∷ more) v h ne = ap (λ x. held_after x (holds (more ++ v) g)) (on_grain p m.step m.answer g h.0 ne) ∙ holds_on_page p g more v h.1 ne
+
+-- looks end checks and hints, and add none
+look_check : (word : Word) (a q w deed : ℕ) (right owed : Bool) → owed ≡ false → check_after (Look word) a q w right deed owed ≡ false
+look_check Word.Epoch a q w deed right owed h = h
+look_check (Word.Free x u) a q w deed right owed h = ends_none ((u == w) && (x == q) && not (deed == 0) && no_usable deed w a) owed h
+look_check (Word.Life x g) a q w deed right owed h = h
+look_check (Word.Deed x) a q w deed right owed h = h
+look_check (Word.Backed x) a q w deed right owed h = h
+look_check (Word.Stamp x) a q w deed right owed h = h
+look_check (Word.Parked j) a q w deed right owed h = h
+look_check (Word.Empty j) a q w deed right owed h = h
+look_check (Word.Eligible d j) a q w deed right owed h = h
+
+look_hint : (word : Word) (a q : ℕ) (owed : Bool) → owed ≡ false → hint_after (Look word) a q owed ≡ false
+look_hint Word.Epoch a q owed h = h
+look_hint (Word.Free x u) a q owed h = ends_none ((x == q) && not (a == all_ones)) owed h
+look_hint (Word.Life x g) a q owed h = h
+look_hint (Word.Deed x) a q owed h = h
+look_hint (Word.Backed x) a q owed h = ends_none ((x == q) && (a == 0)) owed h
+look_hint (Word.Stamp x) a q owed h = h
+look_hint (Word.Parked j) a q owed h = h
+look_hint (Word.Empty j) a q owed h = h
+look_hint (Word.Eligible d j) a q owed h = h
+
+on_check : (p q : ℕ) (s : Step) (a w deed : ℕ) (right owed : Bool) → IsOnPage p s → q ≢ p → owed ≡ false → check_after s a q w right deed owed ≡ false
+on_check p q s a w deed right owed (IsOnPage.Looks word) ne h = look_check word a q w deed right owed h
+on_check p q s a w deed right owed (IsOnPage.Deeds d) ne h = h
+on_check p q s a w deed right owed IsOnPage.Backs ne h = h
+on_check p q s a w deed right owed (IsOnPage.Takes word mask) ne h = h
+on_check p q s a w deed right owed (IsOnPage.Puts word mask) ne h = ap (λ t. if (word == w) && t && not right then true else owed) (other p q ne) ∙ ap (λ t. if t && not right then true else owed) (and_false (word == w)) ∙ h
+on_check p q s a w deed right owed (IsOnPage.Claims d) ne h = h
+on_check p q s a w deed right owed (IsOnPage.Offers d) ne h = ends_none (p == q) owed h
+on_check p q s a w deed right owed IsOnPage.Parks ne h = when_not (p == q) true owed (other p q ne) ∙ h
+on_check p q s a w deed right owed IsOnPage.Unparks ne h = ends_none (p == q) owed h
+on_check p q s a w deed right owed IsOnPage.Stamps ne h = h
+on_check p q s a w deed right owed IsOnPage.Hints ne h = h
+
+-- no check of another page is added, and no hint
+pub check_on : (p q w : ℕ) (steps : List Made) (v : View) → OnlyOn p steps → q ≢ p → owes_check v q w ≡ false → owes_check (steps ++ v) q w ≡ false
+check_on p q w [] v h ne e = e
+check_on p q w (m ∷ more) v h ne e = on_check p q m.step m.answer w (known_deed (more ++ v) q) (has_right (more ++ v) q) (owes_check (more ++ v) q w) h.0 ne (check_on p q w more v h.1 ne e)
+
+on_hint : (p q : ℕ) (s : Step) (a : ℕ) (owed : Bool) → IsOnPage p s → q ≢ p → owed ≡ false → hint_after s a q owed ≡ false
+on_hint p q s a owed (IsOnPage.Looks word) ne h = look_hint word a q owed h
+on_hint p q s a owed (IsOnPage.Deeds d) ne h = h
+on_hint p q s a owed IsOnPage.Backs ne h = h
+on_hint p q s a owed (IsOnPage.Takes word mask) ne h = ends_none ((p == q) && (not (a == all_ones) || not (bit_and a mask == 0))) owed h
+on_hint p q s a owed (IsOnPage.Puts word mask) ne h = when_not (p == q) true owed (other p q ne) ∙ h
+on_hint p q s a owed (IsOnPage.Claims d) ne h = h
+on_hint p q s a owed (IsOnPage.Offers d) ne h = h
+on_hint p q s a owed IsOnPage.Parks ne h = h
+on_hint p q s a owed IsOnPage.Unparks ne h = h
+on_hint p q s a owed IsOnPage.Stamps ne h = h
+on_hint p q s a owed IsOnPage.Hints ne h = ends_none (p == q) owed h
+
+pub hint_on : (p q : ℕ) (steps : List Made) (v : View) → OnlyOn p steps → q ≢ p → owes_hint v q ≡ false → owes_hint (steps ++ v) q ≡ false
+hint_on p q [] v h ne e = e
+hint_on p q (m ∷ more) v h ne e = on_hint p q m.step m.answer (owes_hint (more ++ v) q) h.0 ne (hint_on p q more v h.1 ne e)
+
+on_unstamped : (p : ℕ) (s : Step) (a q : ℕ) (was : Bool) → IsOnPage p s → was ≡ false → unstamped_after s a q was ≡ false
+on_unstamped p s a q was (IsOnPage.Looks word) h = h
+on_unstamped p s a q was (IsOnPage.Deeds d) h = h
+on_unstamped p s a q was IsOnPage.Backs h = h
+on_unstamped p s a q was (IsOnPage.Takes word mask) h = h
+on_unstamped p s a q was (IsOnPage.Puts word mask) h = h
+on_unstamped p s a q was (IsOnPage.Claims d) h = h
+on_unstamped p s a q was (IsOnPage.Offers d) h = h
+on_unstamped p s a q was IsOnPage.Parks h = h
+on_unstamped p s a q was IsOnPage.Unparks h = h
+on_unstamped p s a q was IsOnPage.Stamps h = ends_none (p == q) was h
+on_unstamped p s a q was IsOnPage.Hints h = h
+
+-- no page becomes unstamped
+pub unstamped_on : (p q : ℕ) (steps : List Made) (v : View) → OnlyOn p steps → is_unstamped v q ≡ false → is_unstamped (steps ++ v) q ≡ false
+unstamped_on p q [] v h e = e
+unstamped_on p q (m ∷ more) v h e = on_unstamped p m.step m.answer q (is_unstamped (more ++ v) q) h.0 (unstamped_on p q more v h.1 e)
+
+on_given : (p : ℕ) (s : Step) (n : ℕ) → IsOnPage p s → given_after s n ≡ n
+on_given p s n (IsOnPage.Looks word) = refl
+on_given p s n (IsOnPage.Deeds d) = refl
+on_given p s n IsOnPage.Backs = refl
+on_given p s n (IsOnPage.Takes word mask) = refl
+on_given p s n (IsOnPage.Puts word mask) = refl
+on_given p s n (IsOnPage.Claims d) = refl
+on_given p s n (IsOnPage.Offers d) = refl
+on_given p s n IsOnPage.Parks = refl
+on_given p s n IsOnPage.Unparks = refl
+on_given p s n IsOnPage.Stamps = refl
+on_given p s n IsOnPage.Hints = refl
+
+pub given_on : (p : ℕ) (steps : List Made) (v : View) → OnlyOn p steps → given_count (steps ++ v) ≡ given_count v
+given_on p [] v h = refl
+given_on p (m ∷ more) v h = on_given p m.step (given_count (more ++ v)) h.0 ∙ given_on p more v h.1
+
+-- ---- a deed stays known, whatever the steps
+told_here : (known a word : ℕ) (t z : Bool) → (a == 0) ≡ z → (t ≡ true → a ≡ known) → known ≢ 0 → (if t then (if z then word else a) else known) ≡ known
+told_here known a word true true e same ne = absurd (ne (sym (same refl) ∙ eqb-true a 0 e))
+told_here known a word true false e same ne = same refl
+told_here known a word false z e same ne = refl
+
+told_bit : {A : Type 0} (known word : A) (t : Bool) → (t ≡ true → word ≡ known) → (if t then word else known) ≡ known
+told_bit known word true e = e refl
+told_bit known word false e = refl
+
+look_deed : (f : Profile) (v : View) (word : Word) (a p : ℕ) → Agrees f v (Look word) a → known_deed v p ≢ 0 → deed_after_look word a p (known_deed v p) ≡ known_deed v p
+look_deed f v Word.Epoch a p agrees ne = refl
+look_deed f v (Word.Free q w) a p agrees ne = refl
+look_deed f v (Word.Life q g) a p agrees ne = refl
+look_deed f v (Word.Deed q) a p agrees ne = told_bit (known_deed v p) a (q == p) (λ h. let e : q ≡ p = eqb-true q p h in subst (λ x. known_deed v x ≢ 0 → a ≡ known_deed v x) e agrees.known ne)
+look_deed f v (Word.Backed q) a p agrees ne = refl
+look_deed f v (Word.Stamp q) a p agrees ne = refl
+look_deed f v (Word.Parked j) a p agrees ne = refl
+look_deed f v (Word.Empty j) a p agrees ne = refl
+look_deed f v (Word.Eligible d j) a p agrees ne = told_bit (known_deed v p) (deed_word_numbered d) ((j == p / 64) && has_bit a (p % 64)) (λ h.
+    let parts = and_parts (j == p / 64) (has_bit a (p % 64)) h in
+    let at : j ≡ p / 64 = eqb-true j (p / 64) parts.0 in
+    let whole : 64 * j + p % 64 ≡ p = omega (arith, at) in
+    sym (subst (λ x. known_deed v x ≢ 0 → known_deed v x ≡ deed_word_numbered d) whole (agrees.known (p % 64) (omega arith) parts.1) ne))
+
+deed_same : (f : Profile) (v : View) (s : Step) (a p : ℕ) → Agrees f v s a → known_deed v p ≢ 0 → deed_after s a p (known_deed v p) ≡ known_deed v p
+deed_same f v (Look word) a p agrees ne = look_deed f v word a p agrees ne
+deed_same f v (Deed q d) a p agrees ne = told_here (known_deed v p) a (deed_word_of d) (q == p) (a == 0) refl (λ h. let e : q ≡ p = eqb-true q p h in subst (λ x. known_deed v x ≢ 0 → a ≡ known_deed v x) e agrees.known ne) ne
+deed_same f v (Back q) a p agrees ne = refl
+deed_same f v (Take q w mask) a p agrees ne = refl
+deed_same f v (Put q w mask) a p agrees ne = refl
+deed_same f v (Give block) a p agrees ne = refl
+deed_same f v (End name guess) a p agrees ne = refl
+deed_same f v (TakeRight q d) a p agrees ne = refl
+deed_same f v (Offer q d) a p agrees ne = refl
+deed_same f v (Park q) a p agrees ne = refl
+deed_same f v (Unpark q) a p agrees ne = refl
+deed_same f v (Stamp q) a p agrees ne = refl
+deed_same f v (Hint q) a p agrees ne = refl
+
+pub deed_stays : (f : Profile) (steps : List Made) (v : View) (p : ℕ) → Agreed f v steps → known_deed v p ≢ 0 → known_deed (steps ++ v) p ≡ known_deed v p
+deed_stays f [] v p agreed ne = refl
+deed_stays f (m ∷ more) v p agreed ne =
+    let before : known_deed (more ++ v) p ≡ known_deed v p = deed_stays f more v p agreed.1 ne in
+    deed_same f (more ++ v) m.step m.answer p agreed.0 (λ z. ne (sym before ∙ z)) ∙ before
+
+-- ---- what is on a page
+pub look_on : (p : ℕ) (s : Step) → IsLook s → IsOnPage p s
+look_on p (Look word) h = IsOnPage.Looks word
+look_on p (Deed q d) h = absurd h
+look_on p (Back q) h = absurd h
+look_on p (Take q w mask) h = absurd h
+look_on p (Put q w mask) h = absurd h
+look_on p (Give block) h = absurd h
+look_on p (End name guess) h = absurd h
+look_on p (TakeRight q d) h = absurd h
+look_on p (Offer q d) h = absurd h
+look_on p (Park q) h = absurd h
+look_on p (Unpark q) h = absurd h
+look_on p (Stamp q) h = absurd h
+look_on p (Hint q) h = absurd h
+
+pub looks_on : (p : ℕ) (steps : List Made) → AreLooks steps → OnlyOn p steps
+looks_on p [] h = tt
+looks_on p (m ∷ more) h = (look_on p m.step h.0, looks_on p more h.1)
+
+return_on : (p : ℕ) (s : Step) → IsReturn p s → IsOnPage p s
+return_on p s (IsReturn.LooksFree w) = IsOnPage.Looks (Word.Free p w)
+return_on p s IsReturn.LooksBacked = IsOnPage.Looks (Word.Backed p)
+return_on p s (IsReturn.Offers d) = IsOnPage.Offers d
+return_on p s IsReturn.Parks = IsOnPage.Parks
+return_on p s IsReturn.Unparks = IsOnPage.Unparks
+return_on p s IsReturn.Hints = IsOnPage.Hints
+
+pub returns_on : (p : ℕ) (steps : List Made) → OnlyReturns p steps → OnlyOn p steps
+returns_on p [] h = tt
+returns_on p (m ∷ more) h = (return_on p m.step h.0, returns_on p more h.1)
+
+grains_step_on : (p : ℕ) (s : Step) → IsGrains p s → IsOnPage p s
+grains_step_on p s (IsGrains.Takes w mask) = IsOnPage.Takes w mask
+grains_step_on p s (IsGrains.Puts w mask) = IsOnPage.Puts w mask
+
+pub grains_on : (p : ℕ) (steps : List Made) → OnlyGrains p steps → OnlyOn p steps
+grains_on p [] h = tt
+grains_on p (m ∷ more) h = (grains_step_on p m.step h.0, grains_on p more h.1)
+
+scan_look : (s : Step) → IsScan s → IsLook s
+scan_look s (IsScan.LooksEligible d j) = tt
+scan_look s (IsScan.LooksDeed p) = tt
+scan_look s (IsScan.LooksParked j) = tt
+
+pub scans_look : (steps : List Made) → OnlyScans steps → AreLooks steps
+scans_look [] h = tt
+scans_look (m ∷ more) h = (scan_look m.step h.0, scans_look more h.1)
+
+-- ---- returns of a right move no grain, and change nothing that is known but the free grains of the page and whether it is backed
+pub record IsStill (m : Made) : Type 0 where
+  pub grain : (g : ℕ) → grain_move m.step m.answer g ≡ Stays
+  pub life : (g : ℕ) → looks_at_life m.step g ≡ false
+  pub epoch : (known : Option ℕ) → epoch_after m.step m.answer known ≡ known
+  pub unstamped : (p : ℕ) (was : Bool) → unstamped_after m.step m.answer p was ≡ was
+  pub given : (n : ℕ) → given_after m.step n ≡ n
+  pub event : (k e : ℕ) → event_of k e m.step m.answer ≡ None
+
+return_still : (p : ℕ) (s : Step) (a : ℕ) → IsReturn p s → IsStill record { step = s; answer = a }
+return_still p s a (IsReturn.LooksFree w) = record { grain = λ g. refl; life = λ g. refl; epoch = λ k. refl; unstamped = λ q was. refl; given = λ n. refl; event = λ k e. refl }
+return_still p s a IsReturn.LooksBacked = record { grain = λ g. refl; life = λ g. refl; epoch = λ k. refl; unstamped = λ q was. refl; given = λ n. refl; event = λ k e. refl }
+return_still p s a (IsReturn.Offers d) = record { grain = λ g. refl; life = λ g. refl; epoch = λ k. refl; unstamped = λ q was. refl; given = λ n. refl; event = λ k e. refl }
+return_still p s a IsReturn.Parks = record { grain = λ g. refl; life = λ g. refl; epoch = λ k. refl; unstamped = λ q was. refl; given = λ n. refl; event = λ k e. refl }
+return_still p s a IsReturn.Unparks = record { grain = λ g. refl; life = λ g. refl; epoch = λ k. refl; unstamped = λ q was. refl; given = λ n. refl; event = λ k e. refl }
+return_still p s a IsReturn.Hints = record { grain = λ g. refl; life = λ g. refl; epoch = λ k. refl; unstamped = λ q was. refl; given = λ n. refl; event = λ k e. refl }
+
+scan_still : (s : Step) (a : ℕ) → IsScan s → IsStill record { step = s; answer = a }
+scan_still s a (IsScan.LooksEligible d j) = record { grain = λ g. refl; life = λ g. refl; epoch = λ k. refl; unstamped = λ q was. refl; given = λ n. refl; event = λ k e. refl }
+scan_still s a (IsScan.LooksDeed p) = record { grain = λ g. refl; life = λ g. refl; epoch = λ k. refl; unstamped = λ q was. refl; given = λ n. refl; event = λ k e. refl }
+scan_still s a (IsScan.LooksParked j) = record { grain = λ g. refl; life = λ g. refl; epoch = λ k. refl; unstamped = λ q was. refl; given = λ n. refl; event = λ k e. refl }
+
+abbrev pub AreStill : List Made → Type 0
+AreStill = Always (λ m before. IsStill m)
+
+pub returns_still : (p : ℕ) (steps : List Made) → OnlyReturns p steps → AreStill steps
+returns_still p [] h = tt
+returns_still p (m ∷ more) h = (return_still p m.step m.answer h.0, returns_still p more h.1)
+
+pub scans_still : (steps : List Made) → OnlyScans steps → AreStill steps
+scans_still [] h = tt
+scans_still (m ∷ more) h = (scan_still m.step m.answer h.0, scans_still more h.1)
+
+pub holds_still : (g : ℕ) (steps : List Made) (v : View) → AreStill steps → holds (steps ++ v) g ≡ holds v g
+holds_still g [] v h = refl
+holds_still g (m ∷ more) v h = ap (λ x. held_after x (holds (more ++ v) g)) (h.0.grain g) ∙ holds_still g more v h.1
+
+any_same : (n : ℕ) (p q : ℕ → Bool) → ((k : ℕ) → p k ≡ q k) → any_below n p ≡ any_below n q
+unfolding any_below
+any_same zero p q h = refl
+any_same (suc n) p q h = ap (λ x. x || any_below n p) (h n) ∙ ap (λ x. q n || x) (any_same n p q h)
+
+pub holds_on_still : (p : ℕ) (steps : List Made) (v : View) → AreStill steps → holds_on (steps ++ v) p ≡ holds_on v p
+holds_on_still p steps v h = any_same 256 (λ b. holds (steps ++ v) (p * 256 + b)) (λ b. holds v (p * 256 + b)) (λ b. holds_still (p * 256 + b) steps v h)
+
+life_same : (move : Move) (looks held : Bool) (a : ℕ) (known : Option ℕ) → move ≡ Stays → looks ≡ false → life_after move looks held a known ≡ known
+life_same move looks held a known e n = ap (λ x. life_after x looks held a known) e ∙ ap (λ t. if t && held then Some a else known) n
+
+pub life_still : (g : ℕ) (steps : List Made) (v : View) → AreStill steps → known_life (steps ++ v) g ≡ known_life v g
+life_still g [] v h = refl
+life_still g (m ∷ more) v h = life_same (grain_move m.step m.answer g) (looks_at_life m.step g) (holds (more ++ v) g) m.answer (known_life (more ++ v) g) (h.0.grain g) (h.0.life g) ∙ life_still g more v h.1
+
+pub epoch_still : (steps : List Made) (v : View) → AreStill steps → known_epoch (steps ++ v) ≡ known_epoch v
+epoch_still [] v h = refl
+epoch_still (m ∷ more) v h = h.0.epoch (known_epoch (more ++ v)) ∙ epoch_still more v h.1
+
+pub unstamped_still : (p : ℕ) (steps : List Made) (v : View) → AreStill steps → is_unstamped (steps ++ v) p ≡ is_unstamped v p
+unstamped_still p [] v h = refl
+unstamped_still p (m ∷ more) v h = h.0.unstamped p (is_unstamped (more ++ v) p) ∙ unstamped_still p more v h.1
+
+pub given_still : (steps : List Made) (v : View) → AreStill steps → given_count (steps ++ v) ≡ given_count v
+given_still [] v h = refl
+given_still (m ∷ more) v h = h.0.given (given_count (more ++ v)) ∙ given_still more v h.1
+
+pub events_still : (k : ℕ) (steps : List Made) (v : View) → AreStill steps → events_of k (steps ++ v) ≡ events_of k v
+events_still k [] v h = refl
+events_still k (m ∷ more) v h = ap (λ o. with_event o (events_of k (more ++ v))) (h.0.event k (epoch_of (more ++ v))) ∙ events_still k more v h.1
+
+-- ---- a page that is known as backed stays so, over returns and over scans
+backed_held : (v : View) (q : ℕ) → knows_backed v q ≡ true → holds_on v q ≡ true
+backed_held [] q h = absurd (true≢false (sym h))
+backed_held (m ∷ v) q h = (and_parts (backed_after m.step m.answer q (knows_backed v q)) (holds_on (m ∷ v) q) h).1
+
+one_read : (a q p : ℕ) (known t : Bool) → (p == q) ≡ t → (t ≡ true → a ≡ 1) → known ≡ true → (if t then a == 1 else known) ≡ true
+one_read a q p known true e one h = ap (λ x. x == 1) (one refl)
+one_read a q p known false e one h = h
+
+return_backed : (f : Profile) (p q : ℕ) (v : View) (s : Step) (a : ℕ) → IsReturn p s → Agrees f v s a → knows_backed v q ≡ true → backed_after s a q (knows_backed v q) ≡ true
+return_backed f p q v s a (IsReturn.LooksFree w) agrees h = h
+return_backed f p q v s a IsReturn.LooksBacked agrees h = one_read a q p (knows_backed v q) (p == q) refl (λ e. agrees.known (subst (λ x. knows_backed v x ≡ true) (sym (eqb-true p q e)) h)) h
+return_backed f p q v s a (IsReturn.Offers d) agrees h = h
+return_backed f p q v s a IsReturn.Parks agrees h = h
+return_backed f p q v s a IsReturn.Unparks agrees h = h
+return_backed f p q v s a IsReturn.Hints agrees h = h
+
+scan_backed : (q : ℕ) (s : Step) (a : ℕ) (known : Bool) → IsScan s → backed_after s a q known ≡ known
+scan_backed q s a known (IsScan.LooksEligible d j) = refl
+scan_backed q s a known (IsScan.LooksDeed p) = refl
+scan_backed q s a known (IsScan.LooksParked j) = refl
+
+pub backed_returns : (f : Profile) (p q : ℕ) (steps : List Made) (v : View) → OnlyReturns p steps → Agreed f v steps → knows_backed v q ≡ true → knows_backed (steps ++ v) q ≡ true
+backed_returns f p q [] v h agreed e = e
+backed_returns f p q (m ∷ more) v h agreed e =
+    let before : knows_backed (more ++ v) q ≡ true = backed_returns f p q more v h.1 agreed.1 e in
+    both (backed_after m.step m.answer q (knows_backed (more ++ v) q)) (holds_on (m ∷ more ++ v) q) (return_backed f p q (more ++ v) m.step m.answer h.0 agreed.0 before)
+    (holds_on_still q (m ∷ []) (more ++ v) (return_still p m.step m.answer h.0, tt) ∙ backed_held (more ++ v) q before)
+
+pub backed_scans : (q : ℕ) (steps : List Made) (v : View) → OnlyScans steps → knows_backed v q ≡ true → knows_backed (steps ++ v) q ≡ true
+backed_scans q [] v h e = e
+backed_scans q (m ∷ more) v h e =
+    let before : knows_backed (more ++ v) q ≡ true = backed_scans q more v h.1 e in
+    both (backed_after m.step m.answer q (knows_backed (more ++ v) q)) (holds_on (m ∷ more ++ v) q) (scan_backed q m.step m.answer (knows_backed (more ++ v) q) h.0 ∙ before)
+    (holds_on_still q (m ∷ []) (more ++ v) (scan_still m.step m.answer h.0, tt) ∙ backed_held (more ++ v) q before)
+
+-- ---- grains of a page that are taken and put
+grain_right : (p : ℕ) (s : Step) (a q : ℕ) (had : Bool) → IsGrains p s → right_after s a q had ≡ had
+grain_right p s a q had (IsGrains.Takes w mask) = refl
+grain_right p s a q had (IsGrains.Puts w mask) = refl
+
+pub right_grains : (p q : ℕ) (steps : List Made) (v : View) → OnlyGrains p steps → has_right (steps ++ v) q ≡ has_right v q
+right_grains p q [] v h = refl
+right_grains p q (m ∷ more) v h = grain_right p m.step m.answer q (has_right (more ++ v) q) h.0 ∙ right_grains p q more v h.1
+
+with_right : (t u right owed : Bool) → right ≡ true → owed ≡ false → (if t && u && not right then true else owed) ≡ false
+with_right true true right owed r h = ap (λ x. if not x then true else owed) r ∙ h
+with_right true false right owed r h = h
+with_right false u right owed r h = h
+
+grain_check : (p : ℕ) (s : Step) (a w deed : ℕ) (right owed : Bool) → IsGrains p s → right ≡ true → owed ≡ false → check_after s a p w right deed owed ≡ false
+grain_check p s a w deed right owed (IsGrains.Takes u mask) r h = h
+grain_check p s a w deed right owed (IsGrains.Puts u mask) r h = with_right (u == w) (p == p) right owed r h
+
+-- with the right no check is owed for what is put
+pub check_grains : (p w : ℕ) (steps : List Made) (v : View) → OnlyGrains p steps → has_right v p ≡ true → owes_check v p w ≡ false → owes_check (steps ++ v) p w ≡ false
+check_grains p w [] v h r e = e
+check_grains p w (m ∷ more) v h r e = grain_check p m.step m.answer w (known_deed (more ++ v) p) (has_right (more ++ v) p) (owes_check (more ++ v) p w) h.0 (right_grains p p more v h.1 ∙ r) (check_grains p w more v h.1 r e)
+
+-- ---- steps that changed nothing
+pub look_read : (s : Step) (a : ℕ) → IsLook s → IsRead s a
+look_read (Look word) a h = IsRead.Looks word a
+look_read (Deed q d) a h = absurd h
+look_read (Back q) a h = absurd h
+look_read (Take q w mask) a h = absurd h
+look_read (Put q w mask) a h = absurd h
+look_read (Give block) a h = absurd h
+look_read (End name guess) a h = absurd h
+look_read (TakeRight q d) a h = absurd h
+look_read (Offer q d) a h = absurd h
+look_read (Park q) a h = absurd h
+look_read (Unpark q) a h = absurd h
+look_read (Stamp q) a h = absurd h
+look_read (Hint q) a h = absurd h
+
+pub looks_read : (steps : List Made) → AreLooks steps → OnlyReads steps
+looks_read [] h = tt
+looks_read (m ∷ more) h = (look_read m.step m.answer h.0, looks_read more h.1)
+
+read_right : (s : Step) (a q : ℕ) (had : Bool) → IsRead s a → right_after s a q had ≡ had
+read_right s a q had (IsRead.Looks word b) = refl
+read_right s a q had (IsRead.Reads p d b ne) = ap (λ t. if (p == q) && t then true else had) (ne_eqb a 0 ne) ∙ ap (λ t. if t then true else had) (and_false (p == q))
+
+pub right_reads : (q : ℕ) (steps : List Made) (v : View) → OnlyReads steps → has_right (steps ++ v) q ≡ has_right v q
+right_reads q [] v h = refl
+right_reads q (m ∷ more) v h = read_right m.step m.answer q (has_right (more ++ v) q) h.0 ∙ right_reads q more v h.1
+
+read_grain : (s : Step) (a g : ℕ) → IsRead s a → grain_move s a g ≡ Stays
+read_grain s a g (IsRead.Looks word b) = refl
+read_grain s a g (IsRead.Reads p d b ne) = refl
+
+pub holds_reads : (g : ℕ) (steps : List Made) (v : View) → OnlyReads steps → holds (steps ++ v) g ≡ holds v g
+holds_reads g [] v h = refl
+holds_reads g (m ∷ more) v h = ap (λ x. held_after x (holds (more ++ v) g)) (read_grain m.step m.answer g h.0) ∙ holds_reads g more v h.1
+
+read_check : (s : Step) (a q w deed : ℕ) (right owed : Bool) → IsRead s a → owed ≡ false → check_after s a q w right deed owed ≡ false
+read_check s a q w deed right owed (IsRead.Looks word b) h = look_check word a q w deed right owed h
+read_check s a q w deed right owed (IsRead.Reads p d b ne) h = h
+
+pub check_reads : (q w : ℕ) (steps : List Made) (v : View) → OnlyReads steps → owes_check v q w ≡ false → owes_check (steps ++ v) q w ≡ false
+check_reads q w [] v h e = e
+check_reads q w (m ∷ more) v h e = read_check m.step m.answer q w (known_deed (more ++ v) q) (has_right (more ++ v) q) (owes_check (more ++ v) q w) h.0 (check_reads q w more v h.1 e)
+
+read_hint : (s : Step) (a q : ℕ) (owed : Bool) → IsRead s a → owed ≡ false → hint_after s a q owed ≡ false
+read_hint s a q owed (IsRead.Looks word b) h = look_hint word a q owed h
+read_hint s a q owed (IsRead.Reads p d b ne) h = h
+
+pub hint_reads : (q : ℕ) (steps : List Made) (v : View) → OnlyReads steps → owes_hint v q ≡ false → owes_hint (steps ++ v) q ≡ false
+hint_reads q [] v h e = e
+hint_reads q (m ∷ more) v h e = read_hint m.step m.answer q (owes_hint (more ++ v) q) h.0 (hint_reads q more v h.1 e)
