@@ -3,9 +3,10 @@ use Rattle.std.proofs.Common.{◌≡◌, ℕ, ◌+◌, ◌*◌, ◌/◌, ◌%◌
 use Rattle.std.proofs.lemmas.Bool.{false≢true, leb-true, and_from, false_from_ne_true}
 use Rattle.pas_profile.specs.Classes.{has_bit}
 use Rattle.pas_profile.specs.Directories.{number_of}
-use Rattle.pas_profile.specs.Lives.{is_live, grains_of}
+use Rattle.pas_profile.specs.Lives.{live_word, is_live, turn_of, grains_of}
 use Rattle.pas_profile.specs.Profiles.{IsValid}
 use Rattle.pas_profile.specs.declared.profile.Profile.{Profile}
+use Rattle.pas_profile.specs.declared.name.Name.{Name}
 use Rattle.pas_profile.specs.declared.word.Word.{Word}
 use Rattle.pas_machine.specs.Runs.{grain_of, in_run, length_of}
 use Rattle.pas_machine.specs.State.{Live, live_in, gives_in, ends_in}
@@ -13,27 +14,35 @@ use Rattle.pas_steps.specs.Effects.{free_word_at, life_word_at, target}
 use Rattle.pas_steps.specs.Views.{holds, known_deed}
 use Rattle.pas_steps.specs.Allowed.{IsStepOf}
 use Rattle.pas_steps.specs.Lists.{Triple, Whole, part, visible, word_after, IsNext, Legal}
-use Rattle.pas_steps.specs.Agreement.{IsDeedWord, AgreesDeed, AgreesFree, AgreesLife, AgreesBacked, AgreesParked, AgreesEmpty, AgreesEligible, Agrees}
+use Rattle.pas_steps.specs.Agreement.{IsDeedWord, heap_recorded, AgreesDeed, AgreesFree, AgreesLife, AgreesEnd, AgreesBacked, AgreesParked, AgreesEmpty, AgreesEligible, AgreesEpoch, AgreesStamp, Agrees}
 use Rattle.pas_steps.specs.declared.step.Step.{Step}
 use Rattle.pas_steps.specs.declared.step.Step.TheVariants.{Look, Deed, Back, Take, Put, Give, End, TakeRight, Offer, Park, Unpark, Stamp, Hint}
 use Rattle.pas_core.specs.Good.{Held, is_free, is_covered_by, covers, IsPlacedOnce, IsLifeOf}
 use Rattle.pas_core.proofs.Grains.{is_held_by-true, own_grain, placed_once}
-use Rattle.pas_core.proofs.Lives.{life_is_known, life_of}
+use Rattle.pas_core.proofs.Lives.{life_is_known, live_is_live, life_of}
 use Rattle.pas_core.specs.Rights.{parked_bit, empty_bit, eligible_bit}
 use Rattle.pas_core.proofs.DeedWords.{known_is, deed_words}
 use Rattle.pas_core.proofs.Knowledge.{deeds_known, backed_small, backed_known}
 use Rattle.pas_core.proofs.Rights.{right_not_offered, right_not_parked, offered_is_known, offered_page, parked_page, hinted_page, free_known}
-use Rattle.pas_core.proofs.Epochs.{epoch_known, words_fit}
+use Rattle.pas_core.proofs.Epochs.{epoch_known, epoch_small, stamp_small}
+use Rattle.pas_core.proofs.Turns.{turn_small}
+use Rattle.pas_core.proofs.WasRead.{read_backed, read_again}
+use Rattle.pas_core.proofs.EndedBlocks.{end_within, ended_has_deed, ended_has_heap}
 
 -- ---- where a grain is that is held
 held_place : (l : Whole) (k g : ℕ) (at : IsPlacedOnce l g) → holds (part k l) g ≡ true → at.place ≡ Held k
 held_place l k g at h = is_held_by-true k at.place (sym (at.held k) ∙ h)
 
 -- ---- deed words, free words and backed words
-deed_agrees : (f : Profile) (l : Whole) → Legal f l → (k page a : ℕ) → a ≡ word_after l (Word.Deed page) → AgreesDeed f (part k l) page a
-deed_agrees f l legal k page a is = record {
+deed_agrees : (f : Profile) (l : Whole) → IsValid f → Legal f l → (k page a : ℕ) → a ≡ word_after l (Word.Deed page) → AgreesDeed f (part k l) page a
+deed_agrees f l valid legal k page a is = record {
   a_deed = subst (IsDeedWord f) (sym is) (deed_words f l legal page);
   known = λ ne. is ∙ sym (known_is (known_deed (part k l) page) (word_after l (Word.Deed page)) (deeds_known f l legal k page) ne);
+  backed = λ read z. read_backed f l valid legal k page read (sym is ∙ z);
+  ended = λ end z. ended_has_deed f l valid legal k page end (sym is ∙ z);
+  heap = λ other end ne.
+      ap heap_recorded is ∙ ended_has_heap f l valid legal k page other end
+      ∙ ap heap_recorded (sym (known_is (known_deed (part k l) other) (word_after l (Word.Deed other)) (deeds_known f l legal k other) ne));
 }
 
 word_at : (l : Whole) (page word a g : ℕ) → a ≡ word_after l (Word.Free page word) → g / 256 ≡ page → g / 64 % 4 ≡ word → a ≡ word_after l (free_word_at g)
@@ -72,13 +81,29 @@ held_is_dead f l valid legal k g h = false_from_ne_true (is_live (word_after l (
     let not_covered : covers (word_after l (life_word_at g)) g g ≡ false = at.covered g ∙ ap (is_covered_by g) (held_place l k g at h) in
     false≢true (sym not_covered ∙ covered))
 
+-- a life word is that of a live block, or the turn alone
+live_codec : (f : Profile) (g word : ℕ) (live : Option Live) (gives ends : ℕ) → IsLifeOf f g word live gives ends → is_live word ≡ true → word ≡ live_word (turn_of word) (grains_of word)
+live_codec f g word None gives ends life h = let w = life.word_is in let few = life.few in absurd (omega (arith, w, few, leb-true (2 ^ 63) word h))
+live_codec f g word (Some b) gives ends life h = let w = life.word_is in let few = life.few in let short = life.short in omega (arith, w, few, short)
+
+turn_codec : (f : Profile) (g word : ℕ) (live : Option Live) (gives ends : ℕ) → IsLifeOf f g word live gives ends → is_live word ≡ false → word ≡ turn_of word
+turn_codec f g word None gives ends life h = let w = life.word_is in let few = life.few in omega (arith, w, few)
+turn_codec f g word (Some b) gives ends life h = absurd (false≢true (sym h ∙ live_is_live f g word b gives ends life))
+
 life_agrees : (f : Profile) (l : Whole) → IsValid f → Legal f l → (k g a : ℕ) → a ≡ word_after l (life_word_at g) → AgreesLife f (part k l) g a
 life_agrees f l valid legal k g a is = subst (AgreesLife f (part k l) g) (sym is) record {
   known = λ w h. sym (life_is_known f l valid legal k g w h).1;
   held = held_is_dead f l valid legal k g;
-  turn = omega arith;
+  turn = turn_small f l valid legal g;
   length = word_length f l valid legal g;
+  live = live_codec f g (word_after l (life_word_at g)) (live_in (visible l) (16 * g)) (gives_in (visible l) (16 * g)) (ends_in (visible l) (16 * g)) (life_of f l valid legal g);
+  turn_alone = turn_codec f g (word_after l (life_word_at g)) (live_in (visible l) (16 * g)) (gives_in (visible l) (16 * g)) (ends_in (visible l) (16 * g)) (life_of f l valid legal g);
+  again = read_again f l valid legal k g;
 }
+
+-- the life word of an end
+end_agrees : (f : Profile) (l : Whole) → IsValid f → Legal f l → (k : ℕ) (name : Name) (guess a : ℕ) → IsStepOf f (End name guess) → a ≡ word_after l (life_word_at (grain_of name)) → AgreesEnd f (part k l) name guess a
+end_agrees f l valid legal k name guess a of is = record { life = life_agrees f l valid legal k (grain_of name) a is; within = end_within f l valid legal name guess a of is }
 
 life_at : (l : Whole) (page grain : ℕ) → grain < 256 → word_after l (Word.Life page grain) ≡ word_after l (life_word_at (page * 256 + grain))
 life_at l page grain small =
@@ -120,31 +145,34 @@ eligible_agrees f l legal k n j a is = record {
 }
 
 -- ---- by kinds
-fits_as : (a n : ℕ) → a ≡ n → n < 2 ^ 64 → a < 2 ^ 64
-fits_as a n is h = omega (arith, is)
+epoch_agrees : (f : Profile) (l : Whole) → Legal f l → (k a : ℕ) → a ≡ word_after l Word.Epoch → AgreesEpoch (part k l) a
+epoch_agrees f l legal k a is = record { newer = omega (arith, is, epoch_known f l legal k); small = omega (arith, is, epoch_small f l legal) }
+
+stamp_agrees : (f : Profile) (l : Whole) → Legal f l → (page a : ℕ) → a ≡ word_after l (Word.Stamp page) → AgreesStamp a
+stamp_agrees f l legal page a is = omega (arith, is, stamp_small f l legal page)
 
 -- what an actor reads at a word of the profile agrees with its view
 pub answer_agrees_at : (f : Profile) (l : Whole) → IsValid f → Legal f l → (k : ℕ) (s : Step) (a : ℕ) → IsStepOf f s → a ≡ word_after l (target s) → Agrees f (part k l) s a
-answer_agrees_at f l valid legal k (Look Word.Epoch) a of is = omega (arith, is, epoch_known f l legal k)
+answer_agrees_at f l valid legal k (Look Word.Epoch) a of is = epoch_agrees f l legal k a is
 answer_agrees_at f l valid legal k (Look (Word.Free q w)) a of is = free_agrees f l valid legal k q w a is
 answer_agrees_at f l valid legal k (Look (Word.Life q g)) a of is = life_agrees f l valid legal k (q * 256 + g) a (is ∙ life_at l q g of.2)
-answer_agrees_at f l valid legal k (Look (Word.Deed q)) a of is = deed_agrees f l legal k q a is
+answer_agrees_at f l valid legal k (Look (Word.Deed q)) a of is = deed_agrees f l valid legal k q a is
 answer_agrees_at f l valid legal k (Look (Word.Backed q)) a of is = backed_agrees f l legal k q a is
-answer_agrees_at f l valid legal k (Look (Word.Stamp q)) a of is = fits_as a (word_after l (Word.Stamp q)) is (words_fit f l valid legal (Word.Stamp q))
+answer_agrees_at f l valid legal k (Look (Word.Stamp q)) a of is = stamp_agrees f l legal q a is
 answer_agrees_at f l valid legal k (Look (Word.Parked j)) a of is = parked_agrees f l legal k j a is
 answer_agrees_at f l valid legal k (Look (Word.Empty j)) a of is = empty_agrees f l legal j a is
 answer_agrees_at f l valid legal k (Look (Word.Eligible n j)) a of is = eligible_agrees f l legal k n j a is
-answer_agrees_at f l valid legal k (Deed q d) a of is = deed_agrees f l legal k q a is
+answer_agrees_at f l valid legal k (Deed q d) a of is = deed_agrees f l valid legal k q a is
 answer_agrees_at f l valid legal k (Back q) a of is = backed_agrees f l legal k q a is
 answer_agrees_at f l valid legal k (Take q w mask) a of is = free_agrees f l valid legal k q w a is
 answer_agrees_at f l valid legal k (Put q w mask) a of is = free_agrees f l valid legal k q w a is
 answer_agrees_at f l valid legal k (Give block) a of is = life_agrees f l valid legal k (grain_of block.name) a is
-answer_agrees_at f l valid legal k (End name guess) a of is = life_agrees f l valid legal k (grain_of name) a is
+answer_agrees_at f l valid legal k (End name guess) a of is = end_agrees f l valid legal k name guess a of is
 answer_agrees_at f l valid legal k (TakeRight q d) a of is = eligible_agrees f l legal k (number_of d) (q / 64) a is
 answer_agrees_at f l valid legal k (Offer q d) a of is = eligible_agrees f l legal k (number_of d) (q / 64) a is
 answer_agrees_at f l valid legal k (Park q) a of is = parked_agrees f l legal k (q / 64) a is
 answer_agrees_at f l valid legal k (Unpark q) a of is = parked_agrees f l legal k (q / 64) a is
-answer_agrees_at f l valid legal k (Stamp q) a of is = fits_as a (word_after l (Word.Stamp q)) is (words_fit f l valid legal (Word.Stamp q))
+answer_agrees_at f l valid legal k (Stamp q) a of is = stamp_agrees f l legal q a is
 answer_agrees_at f l valid legal k (Hint q) a of is = empty_agrees f l legal (q / 64) a is
 
 -- the answer of the next legal step agrees with its actor's view

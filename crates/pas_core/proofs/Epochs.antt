@@ -1,5 +1,5 @@
--- The epoch only grows, and every word fits 64 bits.
-use Rattle.std.proofs.Common.{◌≡◌, ℕ, ◌+◌, ◌^◌, ◌<◌, ◌≤◌, ◌==◌, Bool, true, false, if◌then◌else◌, [], ◌∷◌, Option, arith}
+-- The epoch only grows, every word fits 64 bits, and epochs and stamps are below 2 ^ 40.
+use Rattle.std.proofs.Common.{◌≡◌, ℕ, ◌+◌, ◌^◌, ◌<◌, ◌≤◌, ◌==◌, Bool, true, false, if◌then◌else◌, max, [], ◌∷◌, Option, arith}
 use Rattle.std.specs.Int.{bit_not, w64}
 use Rattle.std.proofs.lemmas.Nat.{and_le_l, or_lt}
 use Rattle.pas_profile.specs.Directories.{deed_word_of, kind_number, IsKind}
@@ -141,3 +141,46 @@ epoch_fits f l valid legal k =
     let known : epoch_of (part k l) ≤ word_after l Word.Epoch = epoch_known f l legal k in
     let fits : word_after l Word.Epoch < 2 ^ 64 = words_fit f l valid legal Word.Epoch in
     omega (arith, known, fits)
+
+-- ---- the epoch and the stamps are below 2 ^ 40
+epoch_below : (e : ℕ) (s : Step) (old : ℕ) → old < 2 ^ 40 → next_value e s Word.Epoch old < 2 ^ 40
+epoch_below e (Look word) old h = omega (arith, looked (same_word word Word.Epoch) old, h)
+epoch_below e (Deed q d) old h = h
+epoch_below e (Back q) old h = h
+epoch_below e (Take q w mask) old h = h
+epoch_below e (Put q w mask) old h = h
+epoch_below e (Give block) old h = h
+epoch_below e (End name guess) old h = h
+epoch_below e (TakeRight q d) old h = h
+epoch_below e (Offer q d) old h = h
+epoch_below e (Park q) old h = h
+epoch_below e (Unpark q) old h = h
+epoch_below e (Stamp q) old h = h
+epoch_below e (Hint q) old h = h
+
+-- the epoch is below 2 ^ 40
+pub epoch_small : (f : Profile) (l : Whole) → Legal f l → word_after l Word.Epoch < 2 ^ 40
+epoch_small f [] legal = omega arith
+epoch_small f (t ∷ l) legal = epoch_below (epoch_of (part t.actor l)) t.made.step (word_after l Word.Epoch) (epoch_small f l legal.1)
+
+stamp_below : (e : ℕ) (s : Step) (p old : ℕ) → e < 2 ^ 40 → old < 2 ^ 40 → next_value e s (Word.Stamp p) old < 2 ^ 40
+stamp_below e (Look word) p old he h = omega (arith, looked (same_word word (Word.Stamp p)) old, h)
+stamp_below e (Deed q d) p old he h = h
+stamp_below e (Back q) p old he h = h
+stamp_below e (Take q w mask) p old he h = h
+stamp_below e (Put q w mask) p old he h = h
+stamp_below e (Give block) p old he h = h
+stamp_below e (End name guess) p old he h = h
+stamp_below e (TakeRight q d) p old he h = h
+stamp_below e (Offer q d) p old he h = h
+stamp_below e (Park q) p old he h = h
+stamp_below e (Unpark q) p old he h = h
+stamp_below e (Stamp q) p old he h = if_small (q == p) (max old e) old (2 ^ 40) (omega (arith, he, h)) h
+stamp_below e (Hint q) p old he h = h
+
+-- a stamp is an epoch that an actor read, so it is below 2 ^ 40 too
+pub stamp_small : (f : Profile) (l : Whole) → Legal f l → (p : ℕ) → word_after l (Word.Stamp p) < 2 ^ 40
+stamp_small f [] legal p = omega arith
+stamp_small f (t ∷ l) legal p =
+    let known : epoch_of (part t.actor l) ≤ word_after l Word.Epoch = epoch_known f l legal.1 t.actor in
+    stamp_below (epoch_of (part t.actor l)) t.made.step p (word_after l (Word.Stamp p)) (omega (arith, known, epoch_small f l legal.1)) (stamp_small f l legal.1 p)

@@ -135,7 +135,7 @@ count_end true y end reject es ended rejected = ended
 count_end false true end reject es ended rejected = refl
 count_end false false end reject es ended rejected = rejected
 
-count_step : (k e : ℕ) (s : Step) (a : ℕ) (es : List Event) → count_gives (with_event (event_of k e s a) es) ≡ given_after s (count_gives es)
+pub count_step : (k e : ℕ) (s : Step) (a : ℕ) (es : List Event) → count_gives (with_event (event_of k e s a) es) ≡ given_after s (count_gives es)
 count_step k e (Look word) a es = refl
 count_step k e (Deed page directory) a es = count_if (a == 0) (Event.Deed k page directory) es refl
 count_step k e (Back page) a es = count_if (a == 0) (Event.Back k page) es refl

@@ -10,6 +10,10 @@ pub mod Spots
 pub mod Knowledge
 pub mod Rights
 pub mod Epochs
+pub mod Onces
+pub mod Turns
+pub mod WasRead
+pub mod EndedBlocks
 pub mod Agreement
 pub mod Nexts
 pub mod Running

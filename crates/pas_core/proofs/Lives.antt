@@ -49,7 +49,7 @@ end_rests true true false c g n old t a xe is some ze re still = absurd (false�
 end_rests true false r c g n old t a xe is some ze re still = ap (λ b. if b then t + 1 else old) (ap (λ m. m == live_word t n) (sym (is refl)) ∙ ze)
 
 -- the word of a step on the grain's life word
-word_is : (l : Whole) (a c g : ℕ) → a ≡ word_after l (life_word_at c) → (c == g) ≡ true → a ≡ word_after l (life_word_at g)
+pub word_is : (l : Whole) (a c g : ℕ) → a ≡ word_after l (life_word_at c) → (c == g) ≡ true → a ≡ word_after l (life_word_at g)
 word_is l a c g is x = is ∙ ap (λ b. word_after l (life_word_at b)) (eqb-true c g x)
 
 life_rests : (f : Profile) (l : Whole) (k e : ℕ) (s : Step) (a g : ℕ) → IsStepOf f s → Allowed f (part k l) s → a ≡ word_after l (target s) → is_still (grain_move s a g) ≡ true
@@ -73,7 +73,7 @@ life_rests f l k e (Stamp page) a g of allowed is still = refl
 life_rests f l k e (Hint page) a g of allowed is still = refl
 
 -- ---- what is known of a life word
-look_is : (l : Whole) (s : Step) (a g : ℕ) → a ≡ word_after l (target s) → looks_at_life s g ≡ true → a ≡ word_after l (life_word_at g)
+pub look_is : (l : Whole) (s : Step) (a g : ℕ) → a ≡ word_after l (target s) → looks_at_life s g ≡ true → a ≡ word_after l (life_word_at g)
 look_is l (Look Word.Epoch) a g is h = absurd (false≢true h)
 look_is l (Look (Word.Free q w)) a g is h = absurd (false≢true h)
 look_is l (Look (Word.Life q b)) a g is h = let parts = and_parts (b == g % 256) (q == g / 256) h in

@@ -4,6 +4,7 @@
 //! other desk runs beside it, a plain desk tells the whole state.
 #![tactic(auto)]
 
+pub mod closed;
 pub mod desk;
 pub mod opening;
 pub mod pass;
@@ -12,6 +13,7 @@ pub mod session;
 #[cfg(test)]
 mod tests;
 
+pub use closed::Closed;
 pub use desk::PlainDesk;
 pub use pass::PlainPass;
 pub use region::PlainRegion;

@@ -3,15 +3,16 @@
 use Rattle.std.specs.Prelude.{ℕ, ◌+◌, ◌*◌, ◌/◌, ◌%◌, ◌^◌, ◌<◌, ◌≤◌, ◌≡◌, ◌≢◌, Bool, true, false, List, [], ◌∷◌, ◌++◌, Option, None, Some}
 use Rattle.pas_profile.specs.Classes.{has_bit}
 use Rattle.pas_profile.specs.Directories.{deed_word_of, deed_word_numbered, number_of}
-use Rattle.pas_profile.specs.Lives.{is_live, turn_of, grains_of}
+use Rattle.pas_profile.specs.Lives.{live_word, is_live, turn_of, grains_of}
 use Rattle.pas_profile.specs.Profiles.{IsPage, IsDirectoryOf}
 use Rattle.pas_profile.specs.declared.profile.Profile.{Profile}
 use Rattle.pas_profile.specs.declared.directory.Directory.{Directory}
+use Rattle.pas_profile.specs.declared.name.Name.{Name}
 use Rattle.pas_profile.specs.declared.word.Word.{Word}
 use Rattle.pas_profile.specs.declared.word.Word.TheVariants as Word
 use Rattle.pas_machine.specs.Runs.{grain_of}
 use Rattle.pas_steps.specs.Effects.{in_mask, life_word_at}
-use Rattle.pas_steps.specs.Views.{View, holds, has_right, known_deed, known_free, knows_backed, known_life, epoch_of}
+use Rattle.pas_steps.specs.Views.{View, holds, has_right, known_deed, known_free, knows_backed, known_life, epoch_of, ReadLive, ReadBacked, EndedOn, EndedOnBoth}
 use Rattle.pas_steps.specs.declared.step.Step.{Step}
 use Rattle.pas_steps.specs.declared.step.Made.{Made}
 use Rattle.pas_steps.specs.declared.step.Step.TheVariants.{Look, Deed, Back, Take, Put, Give, End, TakeRight, Offer, Park, Unpark, Stamp, Hint}
@@ -20,23 +21,40 @@ use Rattle.pas_steps.specs.declared.step.Step.TheVariants.{Look, Deed, Back, Tak
 abbrev pub IsDeedWord : Profile → ℕ → Type 0
 IsDeedWord f a = (a ≢ 0) → (d : Directory) × (a ≡ deed_word_of d) × IsDirectoryOf f d
 
--- a deed word that is read: a deed that is known is read again
+-- the heap of the directory that a deed word records
+abbrev pub heap_recorded : ℕ → ℕ
+heap_recorded word = word / 256 % 256
+
+-- A deed word that is read: a deed that is known is read again. A page that was once read as backed has a deed, and so has each page of a
+-- block that the actor ended; all pages of one such block have deeds of one heap.
 pub record AgreesDeed (f : Profile) (v : View) (page a : ℕ) : Type 0 where
   pub a_deed : IsDeedWord f a
   pub known : known_deed v page ≢ 0 → a ≡ known_deed v page
+  pub backed : ReadBacked v page → a ≢ 0
+  pub ended : EndedOn v page → a ≢ 0
+  pub heap : (other : ℕ) → EndedOnBoth v page other → known_deed v other ≢ 0 → heap_recorded a ≡ heap_recorded (known_deed v other)
 
 -- a free word of a page that is read: a grain that is known as free is read as free, one that is held as not free
 pub record AgreesFree (v : View) (page word a : ℕ) : Type 0 where
   pub free : (g : ℕ) → g / 256 ≡ page → g / 64 % 4 ≡ word → known_free v g ≡ true → has_bit a (g % 64) ≡ true
   pub held : (g : ℕ) → g / 256 ≡ page → g / 64 % 4 ≡ word → holds v g ≡ true → has_bit a (g % 64) ≡ false
 
--- a life word that is read: one that is known is read again, no block lives at a grain that is held, and a live block has a length that
--- fits the region
+-- A life word that is read: one that is known is read again, and no block lives at a grain that is held. It is the word of a live block, whose
+-- length fits the region, or else the turn alone. A block that was once read as live and still lives has the length that it had then.
+-- Turns are below 2 ^ 37, since each of at most 17 actors gives at most 2 ^ 32 blocks.
 pub record AgreesLife (f : Profile) (v : View) (g a : ℕ) : Type 0 where
   pub known : (w : ℕ) → known_life v g ≡ Some w → a ≡ w
   pub held : holds v g ≡ true → is_live a ≡ false
-  pub turn : turn_of a < 2 ^ 40
+  pub turn : turn_of a < 2 ^ 37
   pub length : is_live a ≡ true → (1 ≤ grains_of a) × (grains_of a ≤ 256 * f.pages)
+  pub live : is_live a ≡ true → a ≡ live_word (turn_of a) (grains_of a)
+  pub turn_alone : is_live a ≡ false → a ≡ turn_of a
+  pub again : (grains : ℕ) → is_live a ≡ true → ReadLive v g (turn_of a) grains → grains_of a ≡ grains
+
+-- the life word that an end reads. A block that ended lay in the region
+pub record AgreesEnd (f : Profile) (v : View) (name : Name) (guess a : ℕ) : Type 0 where
+  pub life : AgreesLife f v (grain_of name) a
+  pub within : a ≡ live_word name.turn guess → (256 ≤ grain_of name) × (grain_of name + guess ≤ 256 * (f.pages + 1))
 
 -- a backed word that is read: it is 0 or 1, and 1 where the page is known as backed
 pub record AgreesBacked (v : View) (page a : ℕ) : Type 0 where
@@ -59,13 +77,22 @@ pub record AgreesEligible (f : Profile) (v : View) (d j a : ℕ) : Type 0 where
   pub right : (b : ℕ) → b < 64 → has_right v (64 * j + b) ≡ true → has_bit a b ≡ false
   pub known : (b : ℕ) → b < 64 → has_bit a b ≡ true → known_deed v (64 * j + b) ≢ 0 → known_deed v (64 * j + b) ≡ deed_word_numbered d
 
+-- the epoch that is read: it is no older than the newest one that the actor read, and is below 2 ^ 40
+pub record AgreesEpoch (v : View) (a : ℕ) : Type 0 where
+  pub newer : epoch_of v ≤ a
+  pub small : a < 2 ^ 40
+
+-- a stamp that is read: it is an epoch, so it is below 2 ^ 40
+abbrev pub AgreesStamp : ℕ → Type 0
+AgreesStamp a = a < 2 ^ 40
+
 abbrev pub AgreesLook : Profile → View → Word → ℕ → Type 0
-AgreesLook f v Word.Epoch a = epoch_of v ≤ a
+AgreesLook f v Word.Epoch a = AgreesEpoch v a
 AgreesLook f v (Word.Free page word) a = AgreesFree v page word a
 AgreesLook f v (Word.Life page grain) a = AgreesLife f v (page * 256 + grain) a
 AgreesLook f v (Word.Deed page) a = AgreesDeed f v page a
 AgreesLook f v (Word.Backed page) a = AgreesBacked v page a
-AgreesLook f v (Word.Stamp page) a = a < 2 ^ 64
+AgreesLook f v (Word.Stamp page) a = AgreesStamp a
 AgreesLook f v (Word.Parked j) a = AgreesParked f v j a
 AgreesLook f v (Word.Empty j) a = AgreesEmpty f j a
 AgreesLook f v (Word.Eligible d j) a = AgreesEligible f v d j a
@@ -77,12 +104,12 @@ Agrees f v (Back page) a = AgreesBacked v page a
 Agrees f v (Take page word mask) a = AgreesFree v page word a
 Agrees f v (Put page word mask) a = AgreesFree v page word a
 Agrees f v (Give block) a = AgreesLife f v (grain_of block.name) a
-Agrees f v (End name guess) a = AgreesLife f v (grain_of name) a
+Agrees f v (End name guess) a = AgreesEnd f v name guess a
 Agrees f v (TakeRight page directory) a = AgreesEligible f v (number_of directory) (page / 64) a
 Agrees f v (Offer page directory) a = AgreesEligible f v (number_of directory) (page / 64) a
 Agrees f v (Park page) a = AgreesParked f v (page / 64) a
 Agrees f v (Unpark page) a = AgreesParked f v (page / 64) a
-Agrees f v (Stamp page) a = a < 2 ^ 64
+Agrees f v (Stamp page) a = AgreesStamp a
 Agrees f v (Hint page) a = AgreesEmpty f (page / 64) a
 
 -- each answer of these steps, which were made from this view on, agrees with the view of its moment

@@ -1,16 +1,17 @@
 -- What an actor holds, has and knows. All of it follows from the list of the actor's own steps with their answers, the NEWEST FIRST:
 -- for each thing one table says what a step does to it, a kind of step a line, and the thing is the table applied step by step.
-use Rattle.std.specs.Prelude.{ℕ, zero, suc, ◌+◌, ◌-◌, ◌*◌, ◌/◌, ◌%◌, ◌^◌, ◌==◌, bit_and, Bool, true, false, not, ◌&&◌, ◌||◌, if◌then◌else◌, List, [], ◌∷◌, Option, None, Some}
+use Rattle.std.specs.Prelude.{ℕ, zero, suc, ◌+◌, ◌-◌, ◌*◌, ◌/◌, ◌%◌, ◌^◌, ◌≡◌, ◌==◌, bit_and, Bool, true, false, not, ◌&&◌, ◌||◌, if◌then◌else◌, List, [], ◌∷◌, Option, None, Some}
 use Rattle.pas_profile.specs.Classes.{has_bit, is_usable}
 use Rattle.pas_profile.specs.declared.directory.Directory.{Directory}
 use Rattle.pas_profile.specs.declared.directory.Kind.{Kind}
 use Rattle.pas_profile.specs.declared.directory.Kind.TheVariants as Kind
 use Rattle.pas_profile.specs.Directories.{deed_word_of, deed_word_numbered, directory_read}
-use Rattle.pas_profile.specs.Lives.{live_word}
+use Rattle.pas_profile.specs.Lives.{live_word, is_live, turn_of, grains_of}
 use Rattle.pas_profile.specs.declared.word.Word.{Word}
 use Rattle.pas_profile.specs.declared.word.Word.TheVariants as Word
 use Rattle.pas_machine.specs.Runs.{in_run, meets_page, grain_of, length_of}
 use Rattle.pas_steps.specs.Effects.{in_mask}
+use Rattle.pas_steps.specs.Past.{Once}
 use Rattle.pas_steps.specs.declared.step.Step.{Step}
 use Rattle.pas_steps.specs.declared.step.Made.{Made}
 use Rattle.pas_steps.specs.declared.step.Step.TheVariants.{Look, Deed, Back, Take, Put, Give, End, TakeRight, Offer, Park, Unpark, Stamp, Hint}
@@ -270,6 +271,91 @@ unstamped_after (Hint q) a page was = was
 abbrev pub is_unstamped : View → ℕ → Bool
 is_unstamped [] page = false
 is_unstamped (m ∷ v) page = unstamped_after m.step m.answer page (is_unstamped v page)
+
+-- ---- what was read once, however long ago
+-- the step reads the life word of the grain
+abbrev pub reads_life : Step → ℕ → Bool
+reads_life (Look word) g = looks_at_life (Look word) g
+reads_life (Deed q directory) g = false
+reads_life (Back q) g = false
+reads_life (Take q word mask) g = false
+reads_life (Put q word mask) g = false
+reads_life (Give block) g = grain_of block.name == g
+reads_life (End name guess) g = grain_of name == g
+reads_life (TakeRight q directory) g = false
+reads_life (Offer q directory) g = false
+reads_life (Park q) g = false
+reads_life (Unpark q) g = false
+reads_life (Stamp q) g = false
+reads_life (Hint q) g = false
+
+-- the step read that a block of so many grains lives at the grain, with this turn
+pub record IsLiveRead (m : Made) (g turn grains : ℕ) : Type 0 where
+  pub reads : reads_life m.step g ≡ true
+  pub live : is_live m.answer ≡ true
+  pub turn_is : turn_of m.answer ≡ turn
+  pub grains_are : grains_of m.answer ≡ grains
+
+-- the actor once read that a block of so many grains lives at the grain, with this turn
+abbrev pub ReadLive : View → ℕ → ℕ → ℕ → Type 0
+ReadLive v g turn grains = Once (λ m before. IsLiveRead m g turn grains) v
+
+-- the word is the backed word of the page
+abbrev pub is_backed_word : Word → ℕ → Bool
+is_backed_word Word.Epoch page = false
+is_backed_word (Word.Free q w) page = false
+is_backed_word (Word.Life q g) page = false
+is_backed_word (Word.Deed q) page = false
+is_backed_word (Word.Backed q) page = q == page
+is_backed_word (Word.Stamp q) page = false
+is_backed_word (Word.Parked j) page = false
+is_backed_word (Word.Empty j) page = false
+is_backed_word (Word.Eligible d j) page = false
+
+-- the step reads the backed word of the page
+abbrev pub reads_backed : Step → ℕ → Bool
+reads_backed (Look word) page = is_backed_word word page
+reads_backed (Deed q directory) page = false
+reads_backed (Back q) page = q == page
+reads_backed (Take q word mask) page = false
+reads_backed (Put q word mask) page = false
+reads_backed (Give block) page = false
+reads_backed (End name guess) page = false
+reads_backed (TakeRight q directory) page = false
+reads_backed (Offer q directory) page = false
+reads_backed (Park q) page = false
+reads_backed (Unpark q) page = false
+reads_backed (Stamp q) page = false
+reads_backed (Hint q) page = false
+
+-- the actor once read that the page is backed
+abbrev pub ReadBacked : View → ℕ → Type 0
+ReadBacked v page = Once (λ m before. (reads_backed m.step page ≡ true) × (m.answer ≡ 1)) v
+
+-- ---- blocks that the actor ended
+-- the step, with this answer, ended a block that had a grain of the page
+abbrev pub ends_on : Step → ℕ → ℕ → Bool
+ends_on (Look word) a page = false
+ends_on (Deed q directory) a page = false
+ends_on (Back q) a page = false
+ends_on (Take q word mask) a page = false
+ends_on (Put q word mask) a page = false
+ends_on (Give block) a page = false
+ends_on (End name guess) a page = (a == live_word name.turn guess) && meets_page (grain_of name) guess page
+ends_on (TakeRight q directory) a page = false
+ends_on (Offer q directory) a page = false
+ends_on (Park q) a page = false
+ends_on (Unpark q) a page = false
+ends_on (Stamp q) a page = false
+ends_on (Hint q) a page = false
+
+-- the actor once ended a block that had a grain of the page
+abbrev pub EndedOn : View → ℕ → Type 0
+EndedOn v page = Once (λ m before. ends_on m.step m.answer page ≡ true) v
+
+-- the actor once ended one block that had grains of both pages
+abbrev pub EndedOnBoth : View → ℕ → ℕ → Type 0
+EndedOnBoth v page other = Once (λ m before. (ends_on m.step m.answer page ≡ true) × (ends_on m.step m.answer other ≡ true)) v
 
 -- ---- how many blocks the actor gave
 abbrev pub given_after : Step → ℕ → ℕ
