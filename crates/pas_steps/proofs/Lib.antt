@@ -5,7 +5,4 @@ pub mod Past
 pub mod Ranged
 pub mod Targets
 pub mod Written
-pub mod Adding
-pub mod Past
-pub mod Frames
 pub mod Kept
