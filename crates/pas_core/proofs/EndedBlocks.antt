@@ -142,10 +142,10 @@ pub ended_has_deed : (f : Profile) (l : Whole) → IsValid f → Legal f l → (
 ended_has_deed f l valid legal k page =
     since_once f k (λ m before. ends_on m.step m.answer page ≡ true) (λ l. word_after l (Word.Deed page) ≢ 0)
     (λ t l legal h.
-        let next : IsNext f l t = legal.0 in
-        let at : HasEnded l t.made.step t.made.answer = has_ended f l valid legal.1 t.made.step t.made.answer next.of_region next.answer_is in
-        let of : IsOfHeap l page at.heap = at.pages page h in
-        of.a_deed)
+    let next : IsNext f l t = legal.0 in
+    let at : HasEnded l t.made.step t.made.answer = has_ended f l valid legal.1 t.made.step t.made.answer next.of_region next.answer_is in
+    let of : IsOfHeap l page at.heap = at.pages page h in
+    of.a_deed)
     (λ t l legal ne. λ z. ne (sym (deed_kept l t page ne) ∙ z)) l legal
 
 -- both pages have deeds of one heap
@@ -169,10 +169,10 @@ pub ended_has_heap : (f : Profile) (l : Whole) → IsValid f → Legal f l → (
 ended_has_heap f l valid legal k page other h =
     let both : AreOfOne l page other = since_once f k (λ m before. (ends_on m.step m.answer page ≡ true) × (ends_on m.step m.answer other ≡ true)) (λ l. AreOfOne l page other)
     (λ t l legal h.
-        let next : IsNext f l t = legal.0 in
-        let at : HasEnded l t.made.step t.made.answer = has_ended f l valid legal.1 t.made.step t.made.answer next.of_region next.answer_is in
-        let p : IsOfHeap l page at.heap = at.pages page h.0 in
-        let q : IsOfHeap l other at.heap = at.pages other h.1 in
-        record { a_deed = p.a_deed; other_deed = q.a_deed; heaps_are = p.heap_is ∙ sym q.heap_is })
+    let next : IsNext f l t = legal.0 in
+    let at : HasEnded l t.made.step t.made.answer = has_ended f l valid legal.1 t.made.step t.made.answer next.of_region next.answer_is in
+    let p : IsOfHeap l page at.heap = at.pages page h.0 in
+    let q : IsOfHeap l other at.heap = at.pages other h.1 in
+    record { a_deed = p.a_deed; other_deed = q.a_deed; heaps_are = p.heap_is ∙ sym q.heap_is })
     (λ t l legal one. kept_one t l page other one) l legal h in
     both.heaps_are

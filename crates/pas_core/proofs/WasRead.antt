@@ -149,10 +149,10 @@ was_there : (f : Profile) (l : Whole) → IsValid f → Legal f l → (k g turn 
 was_there f l valid legal k g turn grains =
     since_once f k (λ m before. IsLiveRead m g turn grains) (λ l. WasThere l g turn grains)
     (λ t l legal read.
-        let next : IsNext f l t = legal.0 in
-        let word : t.made.answer ≡ word_after l (life_word_at g) = life_read l t.made.step t.made.answer g next.answer_is read.reads in
-        there f l g (word_after l (life_word_at g)) turn grains (gives_in (visible l) (16 * g)) (ends_in (visible l) (16 * g)) (live_in (visible l) (16 * g)) refl refl (life_of f l valid legal.1 g)
-        (ap is_live (sym word) ∙ read.live) (ap turn_of (sym word) ∙ read.turn_is) (ap grains_of (sym word) ∙ read.grains_are))
+    let next : IsNext f l t = legal.0 in
+    let word : t.made.answer ≡ word_after l (life_word_at g) = life_read l t.made.step t.made.answer g next.answer_is read.reads in
+    there f l g (word_after l (life_word_at g)) turn grains (gives_in (visible l) (16 * g)) (ends_in (visible l) (16 * g)) (live_in (visible l) (16 * g)) refl refl (life_of f l valid legal.1 g)
+    (ap is_live (sym word) ∙ read.live) (ap turn_of (sym word) ∙ read.turn_is) (ap grains_of (sym word) ∙ read.grains_are))
     (λ t l legal was. record {
       block = was.block;
       address = was.address;
