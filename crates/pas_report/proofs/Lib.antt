@@ -3,3 +3,4 @@ pub mod Counting
 pub mod MarkBits
 pub mod Totalled
 pub mod Agreeing
+pub mod Pieces
