@@ -1,0 +1,6 @@
+pub mod Texts
+pub mod Counting
+pub mod MarkBits
+pub mod Totalled
+pub mod Agreeing
+pub mod Pieces

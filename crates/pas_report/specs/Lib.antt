@@ -1,3 +1,6 @@
 pub mod Lines
 pub mod Marks
 pub mod Reports
+pub mod Counts
+pub mod Rooms
+pub mod Pieces

@@ -1,5 +1,6 @@
 -- The marks of a page.
-use Rattle.std.specs.Prelude.{ℕ, ◌==◌, Bool, true, false, not, if◌then◌else◌, List, [], ◌∷◌, ◌++◌, codes}
+use Rattle.std.specs.Prelude.{ℕ, ◌+◌, Bool, if◌then◌else◌, List, [], ◌∷◌, ◌++◌, codes}
+use Rattle.pas_profile.specs.Classes.{has_bit}
 
 -- a page is backed, offered, parked, hinted
 pub record Marked : Type 0 where
@@ -23,3 +24,14 @@ joined (w ∷ v ∷ ws) = w ++ (codes "+" ++ joined (v ∷ ws))
 
 abbrev pub marks_text : Marked → List ℕ
 marks_text m = joined (mark_names m)
+
+-- ---- the marks as bits of a number: backed 1, offered 2, parked 4, hinted 8
+abbrev pub mark_bit : Bool → ℕ → ℕ
+mark_bit set n = if set then n else 0
+
+abbrev pub bits_of : Marked → ℕ
+bits_of m = mark_bit m.backed 1 + (mark_bit m.offered 2 + (mark_bit m.parked 4 + mark_bit m.hinted 8))
+
+-- the marks whose bits are set
+abbrev pub marks_of : ℕ → Marked
+marks_of n = record { backed = has_bit n 0; offered = has_bit n 1; parked = has_bit n 2; hinted = has_bit n 3 }

@@ -24,12 +24,16 @@ some_below (suc n) p = p n || some_below n p
 abbrev pub is_covered : List Event → ℕ → Bool
 is_covered es g = some_below (g + 1) (λ x. covers (live_in es (16 * x)) (16 * x) g)
 
+-- how many of the 256 grains of a page pass the test
+unfoldable pub grains_that : (ℕ → Bool) → ℕ
+grains_that p = count_below 256 p
+
 -- the live blocks that begin on the page, and its grains that no live block covers
 abbrev pub live_on : List Event → ℕ → ℕ
-live_on es page = count_below 256 (λ b. has_block (live_in es (16 * (256 * page + b))))
+live_on es page = grains_that (λ b. has_block (live_in es (16 * (256 * page + b))))
 
 abbrev pub uncovered_on : List Event → ℕ → ℕ
-uncovered_on es page = count_below 256 (λ b. not (is_covered es (256 * page + b)))
+uncovered_on es page = grains_that (λ b. not (is_covered es (256 * page + b)))
 
 -- ---- the lines
 abbrev pub page_text : ℕ → Directory → ℕ → ℕ → ℕ → Marked → List ℕ

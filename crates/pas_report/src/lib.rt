@@ -1,6 +1,19 @@
 //! The text of what a replay says, and the report of a state.
 #![tactic(auto)]
 
+mod counts;
+pub mod lines;
+pub mod marking;
+pub mod pages;
 pub mod record;
+pub mod records;
+pub mod reports;
+pub mod text;
 
+pub use lines::{event_line, said_line};
+pub use marking::{Marks, page_marks};
+pub use pages::{page_line, total_line};
 pub use record::{Record, Said};
+pub use records::Records;
+pub use reports::report;
+pub use text::Line;

@@ -1,0 +1,70 @@
+-- A text that goes out in pieces.
+use Rattle.std.proofs.Common.{◌≡◌, ℕ, zero, suc, ◌+◌, ◌-◌, ◌≤◌, List, [], ◌++◌, Option, refl, ap, sym, ◌∙◌, subst, append_assoc, append-nil, add-zero, add-suc, arith, codes}
+use Rattle.pas_io.specs.Told.{Writes, WritesFront}
+use Rattle.pas_io.proofs.Telling.{writes_none, writes_more}
+use Rattle.pas_steps.specs.declared.state.State.{State}
+use Rattle.pas_report.specs.Counts.{page_by_words, pages_by_words, pages_of, report_by_words, totals_by_words}
+use Rattle.pas_report.specs.Pieces.{IsPutOut}
+
+-- a text that waits; and one that was written whole
+pub waits : (held : Option (List ℕ)) (waiting text : List ℕ) → text ≡ waiting → IsPutOut held held waiting text
+waits held waiting text is = record { written = []; text_is = is; writes = writes_none held }
+
+pub flushed : (before now after : Option (List ℕ)) (waiting text : List ℕ) → IsPutOut before now waiting text → Writes now after waiting → Writes before after text
+flushed before now after waiting text out wrote = subst (Writes before after) (sym out.text_is) (writes_more before now after out.written waiting out.writes wrote)
+
+-- one more line that waits, after others or alone
+pub line_waits : (before now : Option (List ℕ)) (waiting more line text : List ℕ) → more ≡ waiting ++ line → IsPutOut before now waiting text → IsPutOut before now more (text ++ line)
+line_waits before now waiting more line text is out = record { written = out.written; text_is = ap (λ (t : List ℕ). t ++ line) out.text_is ∙ append_assoc out.written waiting line ∙ ap (λ (t : List ℕ). out.written ++ t) (sym is); writes = out.writes }
+
+pub line_alone : (before now after : Option (List ℕ)) (waiting none more line text : List ℕ) → none ≡ [] → more ≡ none ++ line → Writes now after waiting → IsPutOut before now waiting text → IsPutOut before after more (text ++ line)
+line_alone before now after waiting none more line text empty is wrote out = record { written = text; text_is = ap (λ (t : List ℕ). text ++ t) (sym (is ∙ ap (λ (t : List ℕ). t ++ line) empty)); writes = flushed before now after waiting text out wrote }
+
+-- a failed write
+pub front_out : (before now after : Option (List ℕ)) (waiting text : List ℕ) → IsPutOut before now waiting text → WritesFront now after waiting → WritesFront before after text
+front_out before now after waiting text out (front, back, is, wrote) =
+    (out.written ++ front, back, out.text_is ∙ ap (λ (t : List ℕ). out.written ++ t) is ∙ sym (append_assoc out.written front back), writes_more before now after out.written front out.writes wrote)
+
+pub front_longer : (before after : Option (List ℕ)) (text more whole : List ℕ) → whole ≡ text ++ more → WritesFront before after text → WritesFront before after whole
+front_longer before after text more whole longer (front, back, is, wrote) = (front, back ++ more, longer ∙ ap (λ (t : List ℕ). t ++ more) is ∙ append_assoc front back more, wrote)
+
+-- ---- the report so far
+abbrev pub so_far : State → ℕ → List ℕ
+so_far state n = codes "report\n" ++ pages_by_words state n
+
+-- .. with the line of one more page
+pub next_page : (state : State) (page : ℕ) → 1 ≤ page → so_far state (page + 1 - 1) ≡ so_far state (page - 1) ++ page_by_words state page
+next_page state zero some = absurd (omega arith)
+next_page state (suc n) some =
+    let after : suc n + 1 - 1 ≡ suc n = omega arith in
+    let before : suc n - 1 ≡ n = omega arith in
+    ap (so_far state) after ∙ sym (ap (λ m. so_far state m ++ page_by_words state (suc n)) before ∙ append_assoc (codes "report\n") (pages_by_words state n) (page_by_words state (suc n)))
+
+-- the rest of the report, after the pages 1 to n
+abbrev pub pages_between : State → ℕ → ℕ → List ℕ
+pages_between state n zero = []
+pages_between state n (suc k) = pages_between state n k ++ page_by_words state (n + suc k)
+
+split_pages : (state : State) (n k : ℕ) → pages_by_words state (n + k) ≡ pages_by_words state n ++ pages_between state n k
+split_pages state n zero = ap (pages_by_words state) (add-zero n) ∙ sym (append-nil (pages_by_words state n))
+split_pages state n (suc k) =
+    ap (pages_by_words state) (add-suc n k) ∙ (λ t. split_pages state n k t ++ page_by_words state (sym (add-suc n k) t)) ∙ append_assoc (pages_by_words state n) (pages_between state n k) (page_by_words state (n + suc k))
+
+-- the lines so far are a front of the report
+so_far_front : (state : State) (n : ℕ) → n ≤ pages_of state → report_by_words state ≡ so_far state n ++ (pages_between state n (pages_of state - n) ++ totals_by_words state)
+so_far_front state n within =
+    let all : pages_of state ≡ n + (pages_of state - n) = omega arith in
+    let pages : pages_by_words state (pages_of state) ≡ pages_by_words state n ++ pages_between state n (pages_of state - n) = ap (pages_by_words state) all ∙ split_pages state n (pages_of state - n) in
+    ap (λ (t : List ℕ). codes "report\n" ++ (t ++ totals_by_words state)) pages
+    ∙ ap (λ (t : List ℕ). codes "report\n" ++ t) (append_assoc (pages_by_words state n) (pages_between state n (pages_of state - n)) (totals_by_words state))
+    ∙ sym (append_assoc (codes "report\n") (pages_by_words state n) (pages_between state n (pages_of state - n) ++ totals_by_words state))
+
+pub report_front : (state : State) (n : ℕ) (before after : Option (List ℕ)) → n ≤ pages_of state → WritesFront before after (so_far state n) → WritesFront before after (report_by_words state)
+report_front state n before after within wrote = front_longer before after (so_far state n) (pages_between state n (pages_of state - n) ++ totals_by_words state) (report_by_words state) (so_far_front state n within) wrote
+
+-- the lines of all pages, and that of the totals
+pub report_is : (state : State) (n : ℕ) (line : List ℕ) → n ≡ pages_of state → line ≡ totals_by_words state → so_far state n ++ line ≡ report_by_words state
+report_is state n line all is = (λ t. so_far state (all t) ++ is t) ∙ append_assoc (codes "report\n") (pages_by_words state (pages_of state)) (totals_by_words state)
+
+pub report_put_out : (state : State) (n : ℕ) (line waiting : List ℕ) (before now : Option (List ℕ)) → n ≡ pages_of state → line ≡ totals_by_words state → IsPutOut before now waiting (so_far state n ++ line) → IsPutOut before now waiting (report_by_words state)
+report_put_out state n line waiting before now all is out = record { written = out.written; text_is = sym (report_is state n line all is) ∙ out.text_is; writes = out.writes }

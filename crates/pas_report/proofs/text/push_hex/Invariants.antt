@@ -1,0 +1,10 @@
+use Rattle.std.proofs.Common.{◌≡◌, ◌+◌, ◌++◌, length}
+use Rattle.pas_report.specs.Lines.{hex_digits}
+use Rattle.pas_report.proofs.text.push_hex.Given as goal
+
+-- the digits that are left make the line whole
+abbrev pub invariant-loop-place : goal.invariant-loop-place
+invariant-loop-place l = record {
+  whole : l.line.bytes ++ hex_digits l.place l.n ≡ l.initial.line.bytes ++ hex_digits l.fn.digits l.n;
+  room : length l.line.bytes + l.place ≡ length l.initial.line.bytes + l.fn.digits;
+}

@@ -1,0 +1,96 @@
+-- The report from the words of a region at rest: counts over its pages and grains, and the marks of a page.
+use Rattle.std.specs.Prelude.{ℕ, zero, suc, ◌+◌, ◌*◌, ◌/◌, ◌%◌, ◌<◌, ◌≤◌, ◌≡◌, ◌==◌, ◌⊎◌, Bool, false, not, List, [], ◌++◌, Option, None, Some, codes}
+use Rattle.pas_profile.specs.Classes.{has_bit}
+use Rattle.pas_profile.specs.Directories.{deed_word_of, number_of, directory_read}
+use Rattle.pas_profile.specs.Lives.{turn_of, is_live}
+use Rattle.pas_profile.specs.Profiles.{IsDirectoryOf, IsPage}
+use Rattle.pas_profile.specs.declared.profile.Profile.{Profile}
+use Rattle.pas_profile.specs.declared.directory.Directory.{Directory}
+use Rattle.pas_profile.specs.declared.word.Word.TheVariants as Word
+use Rattle.pas_machine.specs.Totals.{count_below, sum_below, page_at}
+use Rattle.pas_steps.specs.States.{profile_of, word_in}
+use Rattle.pas_steps.specs.declared.state.State.{State}
+use Rattle.pas_report.specs.Marks.{Marked, marks_text}
+use Rattle.pas_report.specs.Reports.{grains_that, page_text, totals_text}
+
+-- the pages of the region, and its grains
+abbrev pub pages_of : State → ℕ
+pages_of state = (profile_of state).pages
+
+abbrev pub grains_in : State → ℕ
+grains_in state = 256 * pages_of state
+
+-- the word is 0, or it records a directory of the profile
+abbrev pub IsDeedWord : Profile → ℕ → Type 0
+IsDeedWord f word = (word ≡ 0) ⊎ ((d : Directory) × IsDirectoryOf f d × (word ≡ deed_word_of d))
+
+-- the deed word of each page is one of these
+abbrev pub AreDeedWords : State → Type 0
+AreDeedWords state = (page : ℕ) → IsPage (profile_of state) page → IsDeedWord (profile_of state) (word_in state (Word.Deed page))
+
+-- ---- a page
+-- the page has a block at so many of its grains, and so many of them are free
+abbrev pub live_counted_on : State → ℕ → ℕ
+live_counted_on state page = grains_that (λ b. is_live (word_in state (Word.Life page b)))
+
+abbrev pub free_counted_on : State → ℕ → ℕ
+free_counted_on state page = grains_that (λ b. has_bit (word_in state (Word.Free page (b / 64))) (b % 64))
+
+-- the page is offered in this directory: its bit of the directory's page vector is set. A page without a directory isn't
+abbrev pub offered_by : State → ℕ → Option Directory → Bool
+offered_by state page None = false
+offered_by state page (Some d) = has_bit (word_in state (Word.Eligible (number_of d) (page / 64))) (page % 64)
+
+-- the marks of a page: whether it is backed, and its bits of three page vectors
+abbrev pub marked_in : State → ℕ → Marked
+marked_in state page = record {
+  backed = word_in state (Word.Backed page) == 1;
+  offered = offered_by state page (directory_read (word_in state (Word.Deed page)));
+  parked = has_bit (word_in state (Word.Parked (page / 64))) (page % 64);
+  hinted = has_bit (word_in state (Word.Empty (page / 64))) (page % 64);
+}
+
+-- the line of a page with this directory; a page without one has none
+abbrev pub line_by_words : State → ℕ → Option Directory → List ℕ
+line_by_words state page None = []
+line_by_words state page (Some d) = page_text page d (live_counted_on state page) (free_counted_on state page) (word_in state (Word.Stamp page)) (marked_in state page)
+
+abbrev pub page_by_words : State → ℕ → List ℕ
+page_by_words state page = line_by_words state page (directory_read (word_in state (Word.Deed page)))
+
+-- .. of the pages 1 to n
+abbrev pub pages_by_words : State → ℕ → List ℕ
+pages_by_words state zero = []
+pages_by_words state (suc n) = pages_by_words state n ++ page_by_words state (suc n)
+
+-- ---- the region
+-- the life word of the i-th grain of the region, from 0 on
+abbrev pub life_of_grain : State → ℕ → ℕ
+life_of_grain state i = word_in state (Word.Life (page_at (i / 256)) (i % 256))
+
+-- the pages whose deed is written, and those whose backed word is 1
+abbrev pub deeds_counted : State → ℕ
+deeds_counted state = count_below (pages_of state) (λ i. not (word_in state (Word.Deed (page_at i)) == 0))
+
+abbrev pub backed_counted : State → ℕ
+backed_counted state = count_below (pages_of state) (λ i. word_in state (Word.Backed (page_at i)) == 1)
+
+-- the grains where a block lives
+abbrev pub live_counted : State → ℕ
+live_counted state = count_below (grains_in state) (λ i. is_live (life_of_grain state i))
+
+-- the blocks that ended: the turn of a grain is the number of those that ended there
+abbrev pub ended_counted : State → ℕ
+ended_counted state = sum_below (grains_in state) (λ i. turn_of (life_of_grain state i))
+
+-- each block that was given ended or lives
+abbrev pub given_counted : State → ℕ
+given_counted state = ended_counted state + live_counted state
+
+-- the line of these totals
+abbrev pub totals_by_words : State → List ℕ
+totals_by_words state = totals_text (deeds_counted state) (backed_counted state) (live_counted state) (given_counted state) (ended_counted state)
+
+-- THE REPORT by the words
+abbrev pub report_by_words : State → List ℕ
+report_by_words state = codes "report\n" ++ (pages_by_words state (pages_of state) ++ totals_by_words state)

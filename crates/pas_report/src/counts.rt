@@ -1,0 +1,82 @@
+//! What the words of a region at rest count to, on a page and on all.
+ghost use Rattle.std.specs.Prelude.{◌≡◌, ◌<◌, ◌≤◌, ◌+◌, ◌^◌};
+ghost use Rattle.pas_profile.specs.Profiles.{IsPage};
+ghost use Rattle.pas_steps.specs.States.{profile_of};
+ghost use Rattle.pas_report.specs.Counts.{backed_counted, deeds_counted, ended_counted, free_counted_on, live_counted, live_counted_on};
+
+use pas_profile::{Word, read_life};
+use pas_steps::State;
+
+/// The blocks that begin on a page, at most 256. It reads each life word of the page once.
+#[tactic(auto, using(crate::proofs::Counting::count_more))]
+pub(crate) fn live_on(state: &State, page: u32) -> u16
+    requires { IsPage (profile_of state.now) page }
+    ensures { result ≡ live_counted_on state.now page }
+{
+    let mut live = 0;
+    for grain in 0..256u16 {
+        let (_, _, lives) = read_life(state.word(Word::Life(page, grain as u8)));
+        live += lives as u16;
+    }
+    live
+}
+
+/// The free grains of a page, at most 256.
+pub(crate) fn free_on(state: &State, page: u32) -> u16
+    requires { IsPage (profile_of state.now) page }
+    ensures { result ≡ free_counted_on state.now page }
+{
+    let mut free = 0;
+    for word in 0..4u8 {
+        free += state.word(Word::Free(page, word)).count_ones() as u16;
+    }
+    free
+}
+
+/// The number of pages that have a deed.
+#[tactic(auto, using(crate::proofs::Counting::count_more))]
+pub(crate) fn count_deeds(state: &State) -> u32
+    ensures { result ≡ deeds_counted state.now }
+{
+    let mut deeds = 0;
+    for i in 0..state.profile().pages {
+        deeds += (state.word(Word::Deed(i + 1)) != 0) as u32;
+    }
+    deeds
+}
+
+/// The number of backed pages.
+#[tactic(auto, using(crate::proofs::Counting::count_more))]
+pub(crate) fn count_backed(state: &State) -> u32
+    ensures { result ≡ backed_counted state.now }
+{
+    let mut backed = 0;
+    for i in 0..state.profile().pages {
+        backed += (state.word(Word::Backed(i + 1)) == 1) as u32;
+    }
+    backed
+}
+
+/// How many blocks live in a region, and how many ended there.
+#[derive(Clone, Copy, Debug, PartialEq, Eq, Drop)]
+pub(crate) struct Blocks {
+    pub(crate) live: u64,
+    pub(crate) ended: u64,
+}
+
+/// The blocks of a region. It reads the life word of each grain once.
+#[tactic(auto, using(crate::proofs::Counting::count_more, crate::proofs::Counting::sum_more))]
+pub(crate) fn count_blocks(state: &State) -> Blocks
+    ensures live { result.live ≡ live_counted state.now }
+    ensures ended { result.ended ≡ ended_counted state.now }
+    ensures fit { result.ended + result.live < 2 ^ 61 }
+{
+    let mut live = 0;
+    let mut ended = 0;
+    for i in 0..256 * state.profile().pages {
+        let (turn, _, lives) = read_life(state.word(Word::Life(i / 256 + 1, (i % 256) as u8)));
+        ended += turn;
+        live += lives as u64;
+    }
+    Blocks { live, ended }
+}

@@ -1,0 +1,55 @@
+//! A room of a fixed size for the records of a replay.
+ghost use Rattle.std.specs.Prelude.{◌≤◌, ◌<◌, ◌^◌, vec_len, vec_capacity};
+
+use crate::record::Record;
+use pas_profile::NoMemory;
+use std::alloc::Global;
+
+/// Room for a fixed number of records, in the order in which they were made. Adding one takes no memory.
+#[derive(Drop)]
+pub struct Records {
+    items: Vec<Record>,
+    bound: u64,
+    ghost reserved: { bound ≤ vec_capacity items },
+    ghost within: { vec_len items ≤ bound },
+}
+
+impl Records {
+    ghost use Rattle.std.specs.Prelude.{◌≡◌, ◌+◌, ◌++◌, ◌∷◌, [], IfOk, length};
+    ghost use Rattle.pas_report.specs.Rooms.{records_in, room_of};
+
+    /// Room for the records of a replay that says at most `bound` answers in so many phases, with its close: `bound + phases + 1`.
+    pub fn try_new(alloc: Global, bound: u32, phases: u32) -> Result<Records, NoMemory>
+        ensures empty { IfOk result (λ room. records_in room ≡ []) }
+        ensures size { IfOk result (λ room. room_of room ≡ bound + phases + 1) }
+    {
+        let bound = bound as u64 + phases as u64 + 1;
+        match Vec::with_capacity(alloc, bound as usize) {
+            Ok(items) => Ok(Records { items, bound }),
+            Err(_) => Err(NoMemory),
+        }
+    }
+
+    /// For how many more records there is room.
+    pub fn spare(&self) -> u64
+        ensures { result + length (records_in self.now) ≡ room_of self.now }
+    {
+        self.bound - self.items.len() as u64
+    }
+
+    /// Adds a record at the end. There must be room for one.
+    pub fn push(&mut self, item: Record)
+        requires { length (records_in self.old) < room_of self.old }
+        ensures added { records_in self.new ≡ records_in self.old ++ item ∷ [] }
+        ensures size { room_of self.new ≡ room_of self.old }
+    {
+        self.items.push_reserved(item);
+    }
+
+    /// The records in order.
+    pub fn as_slice(&self) -> &[Record]
+        ensures { result.now ≡ records_in self.now }
+    {
+        &self.items
+    }
+}
