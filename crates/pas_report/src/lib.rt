@@ -9,6 +9,7 @@ pub mod record;
 pub mod records;
 pub mod reports;
 pub mod text;
+pub mod transcript;
 
 pub use lines::{event_line, said_line};
 pub use marking::{Marks, page_marks};
@@ -17,3 +18,4 @@ pub use record::{Record, Said};
 pub use records::Records;
 pub use reports::report;
 pub use text::Line;
+pub use transcript::write_lines;

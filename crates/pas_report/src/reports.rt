@@ -11,10 +11,10 @@ use pas_io::{Failed, Sink};
 use pas_steps::State;
 
 /// Lines that wait to be written together.
-type Piece = ArrayString<4096>;
+pub(crate) type Piece = ArrayString<4096>;
 
 /// Adds a line to those that wait, which are written first where there is no room for it.
-fn put_line<K: Sink>(sink: &mut K, piece: &mut Piece, line: &str) -> Result<(), Failed>
+pub(crate) fn put_line<K: Sink>(sink: &mut K, piece: &mut Piece, line: &str) -> Result<(), Failed>
     requires { length line.now ≤ 4096 }
     ensures adds { OnOk result ((before : Option (List ℕ)) (text : List ℕ) → IsPutOut before (K.held sink.old) piece.old.bytes text → IsPutOut before (K.held sink.new) piece.new.bytes (text ++ line.now)) }
     ensures front { OnErr result ((before : Option (List ℕ)) (text : List ℕ) → IsPutOut before (K.held sink.old) piece.old.bytes text → WritesFront before (K.held sink.new) text) }
