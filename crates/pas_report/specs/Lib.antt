@@ -4,3 +4,4 @@ pub mod Reports
 pub mod Counts
 pub mod Rooms
 pub mod Pieces
+pub mod Rests

@@ -118,3 +118,10 @@ IsShowable (Event.Unback k page epoch) = Unit {0}
 IsShowable (Event.Give k block) = Unit {0}
 IsShowable (Event.End k name epoch) = Unit {0}
 IsShowable (Event.Reject k name why) = Unit {0}
+
+-- .. and so does that of a record
+abbrev pub CanShow : Record → Type 0
+CanShow (Record.Event e) = IsShowable e
+CanShow (Record.Said k said) = Unit {0}
+CanShow (Record.Phase n) = Unit {0}
+CanShow Record.Close = Unit {0}
