@@ -1,6 +1,5 @@
 -- The words of a state after a legal list agree with the machine, so its totals are those of the list's visible events.
 use Rattle.std.proofs.Common.{◌≡◌, ℕ, ◌+◌, ◌*◌, ◌/◌, ◌%◌, ◌<◌, ◌==◌, not, Bool, true, false, Option, None, Some, ap, sym, ◌∙◌, subst, arith, eq-eqb, ne_eqb}
-use Rattle.pas_profile.specs.Profiles.{IsWordOf}
 use Rattle.pas_profile.specs.declared.directory.Directory.{Directory}
 use Rattle.pas_profile.specs.declared.profile.Profile.{Profile}
 use Rattle.pas_profile.specs.declared.word.Word.{Word}

@@ -1,13 +1,12 @@
 -- The report by the words of a region at rest is that of the machine.
-use Rattle.std.proofs.Common.{◌≡◌, ℕ, zero, suc, ◌+◌, ◌*◌, ◌/◌, ◌%◌, ◌^◌, ◌<◌, ◌≤◌, ◌==◌, nat_le, nat_lt, Bool, true, false, not, ◌&&◌, ◌||◌, List, [], ◌∷◌, ◌++◌, Option, None, Some, codes, refl, ap, sym, ◌∙◌, subst, inl, inr, arith}
+use Rattle.std.proofs.Common.{◌≡◌, ℕ, zero, suc, ◌+◌, ◌*◌, ◌/◌, ◌%◌, ◌<◌, ◌≤◌, nat_le, nat_lt, Bool, true, false, not, ◌++◌, Option, None, Some, codes, refl, ap, sym, ◌∙◌, inl, inr, arith}
 use Rattle.std.proofs.lemmas.Bool.{false≢true, cases_eq, eq-eqb, and_parts, leb-true, or_from, or_left, or_right}
 use Rattle.pas_profile.specs.Classes.{has_bit}
-use Rattle.pas_profile.specs.Directories.{deed_word_of, directory_read, IsDirectory}
+use Rattle.pas_profile.specs.Directories.{directory_read, IsDirectory}
 use Rattle.pas_profile.specs.Lives.{is_live}
 use Rattle.pas_profile.specs.Profiles.{IsValid, IsPage, IsDirectoryOf}
 use Rattle.pas_profile.specs.declared.directory.Directory.{Directory}
 use Rattle.pas_profile.specs.declared.profile.Profile.{Profile}
-use Rattle.pas_profile.specs.declared.event.Event.{Event}
 use Rattle.pas_profile.specs.declared.word.Word.TheVariants as Word
 use Rattle.pas_profile.proofs.Codecs.{read-deed_word_of}
 use Rattle.pas_machine.specs.Runs.{in_run, length_of}
@@ -17,14 +16,13 @@ use Rattle.pas_steps.specs.Effects.{free_word_at, life_word_at}
 use Rattle.pas_steps.specs.Lists.{Whole, word_after, visible, Legal}
 use Rattle.pas_steps.specs.States.{profile_of, word_in}
 use Rattle.pas_steps.specs.declared.state.State.{State}
-use Rattle.pas_core.specs.Good.{word_of_deed, IsFreeGrain, IsHeldByOne, IsCoveredByOne, IsInOnePlace}
+use Rattle.pas_core.specs.Good.{word_of_deed, IsFreeGrain, IsCoveredByOne, IsInOnePlace}
 use Rattle.pas_core.proofs.Deeds.{deed_of, backed_of, directory_is_of}
 use Rattle.pas_core.proofs.Lives.{life_of, live_is_aligned}
 use Rattle.pas_core.proofs.MachineRuns.{agrees}
 use Rattle.pas_core.proofs.Placed.{in_one_place}
-use Rattle.pas_report.specs.Counts.{IsDeedWord, AreDeedWords, pages_of, live_counted_on, free_counted_on, marked_in, line_by_words, page_by_words, pages_by_words, totals_by_words, report_by_words}
-use Rattle.pas_report.specs.Marks.{Marked}
-use Rattle.pas_report.specs.Reports.{covers, some_below, is_covered, live_on, uncovered_on, page_text, machine_page, machine_pages, total_line, report_text, grains_that}
+use Rattle.pas_report.specs.Counts.{IsDeedWord, AreDeedWords, pages_of, live_counted_on, free_counted_on, marked_in, line_by_words, page_by_words, pages_by_words, report_by_words}
+use Rattle.pas_report.specs.Reports.{covers, some_below, is_covered, live_on, uncovered_on, page_text, machine_page, machine_pages, report_text}
 use Rattle.pas_report.specs.Rests.{HasWords, AreFreeOrCovered, NobodyHolds, AreStamped}
 use Rattle.pas_report.proofs.Agreeing.{backed_agrees, life_agrees, line_agrees}
 use Rattle.pas_report.proofs.Counting.{grains_same}

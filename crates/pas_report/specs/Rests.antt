@@ -4,7 +4,6 @@ use Rattle.pas_profile.specs.Classes.{has_bit}
 use Rattle.pas_profile.specs.Profiles.{IsPage, IsWordOf}
 use Rattle.pas_profile.specs.declared.profile.Profile.{Profile}
 use Rattle.pas_profile.specs.declared.word.Word.{Word}
-use Rattle.pas_profile.specs.declared.word.Word.TheVariants as Word
 use Rattle.pas_machine.specs.State.{epoch_in}
 use Rattle.pas_steps.specs.Effects.{free_word_at}
 use Rattle.pas_steps.specs.Lists.{Whole, part, word_after, visible}

@@ -1,8 +1,8 @@
 use Rattle.std.proofs.Common.{◌≡◌, ℕ, List, ◌++◌, codes, ap, ◌∙◌}
 use Rattle.std.specs.Fmt.{decimal}
-use Rattle.pas_report.specs.Counts.{free_counted_on, live_counted_on, marked_in}
+use Rattle.pas_report.specs.Counts.{marked_in}
 use Rattle.pas_report.specs.Lines.{kind_text}
-use Rattle.pas_report.specs.Marks.{Marked, marks_of, marks_text}
+use Rattle.pas_report.specs.Marks.{marks_of, marks_text}
 use Rattle.pas_report.specs.Reports.{page_text}
 use Rattle.pas_report.proofs.MarkBits.{marks_are}
 use Rattle.pas_report.proofs.Texts.{then_piece, then_field, whole_line}
