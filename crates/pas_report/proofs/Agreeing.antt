@@ -1,6 +1,5 @@
 -- The words of a state after a legal list agree with the machine, so its totals are those of the list's visible events.
 use Rattle.std.proofs.Common.{◌≡◌, ℕ, ◌+◌, ◌*◌, ◌/◌, ◌%◌, ◌<◌, ◌==◌, not, Bool, true, false, Option, None, Some, ap, sym, ◌∙◌, subst, arith, eq-eqb, ne_eqb}
-use Rattle.pas_profile.specs.Profiles.{IsWordOf}
 use Rattle.pas_profile.specs.declared.directory.Directory.{Directory}
 use Rattle.pas_profile.specs.declared.profile.Profile.{Profile}
 use Rattle.pas_profile.specs.declared.word.Word.{Word}
@@ -13,6 +12,7 @@ use Rattle.pas_steps.specs.States.{profile_of, word_in}
 use Rattle.pas_steps.specs.declared.state.State.{State}
 use Rattle.pas_core.specs.Good.{word_of_deed, word_of_backed, IsLifeOf, AgreesWithWords}
 use Rattle.pas_report.specs.Reports.{total_line}
+use Rattle.pas_report.specs.Rests.{HasWords}
 use Rattle.pas_report.specs.Counts.{grains_in, life_of_grain, totals_by_words}
 use Rattle.pas_report.proofs.Totalled.{IsLifeWord, AreTotalled, bare_life, live_life, line_totalled}
 
@@ -21,11 +21,11 @@ deed_agrees : (d : Option Directory) (word : ℕ) → word ≡ word_of_deed d �
 deed_agrees None word e = ap (λ b. not b) (eq-eqb word 0 e)
 deed_agrees (Some d) word e = ap (λ b. not b) (ne_eqb word 0 (λ z. omega arith))
 
-backed_agrees : (b : Bool) (word : ℕ) → word ≡ word_of_backed b → (word == 1) ≡ b
+pub backed_agrees : (b : Bool) (word : ℕ) → word ≡ word_of_backed b → (word == 1) ≡ b
 backed_agrees true word e = eq-eqb word 1 e
 backed_agrees false word e = ne_eqb word 1 (λ z. omega arith)
 
-life_agrees : (f : Profile) (g word : ℕ) (b : Option Live) (gives ends : ℕ) → IsLifeOf f g word b gives ends → IsLifeWord word (has_block b) gives ends
+pub life_agrees : (f : Profile) (g word : ℕ) (b : Option Live) (gives ends : ℕ) → IsLifeOf f g word b gives ends → IsLifeWord word (has_block b) gives ends
 life_agrees f g word None gives ends h = bare_life word gives ends h.word_is h.gives_are h.few
 life_agrees f g word (Some b) gives ends h = live_life word gives ends (length_of b.block) h.word_is h.gives_are h.few h.short
 
@@ -35,10 +35,6 @@ life_after l i =
     let page : (256 + i) / 256 ≡ i / 256 + 1 = omega arith in
     let grain : (256 + i) % 256 ≡ i % 256 = omega arith in
     λ t. word_after l (Word.Life (page t) (grain t))
-
--- the state has the words that the list left
-pub record HasWords (state : State) (l : Whole) : Type 0 where
-  pub words : (word : Word) → IsWordOf (profile_of state) word → word_in state word ≡ word_after l word
 
 module _ (state : State) (l : Whole) (has : HasWords state l) (agree : AgreesWithWords (profile_of state) l) where
   life_totalled : (i : ℕ) → i < grains_in state → IsLifeWord (life_of_grain state i) (has_block (live_in (visible l) (address_at i))) (gives_in (visible l) (address_at i)) (ends_in (visible l) (address_at i))

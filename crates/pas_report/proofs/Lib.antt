@@ -4,3 +4,4 @@ pub mod MarkBits
 pub mod Totalled
 pub mod Agreeing
 pub mod Pieces
+pub mod Resting

@@ -1,5 +1,5 @@
 -- A text that goes out in pieces.
-use Rattle.std.proofs.Common.{◌≡◌, ℕ, zero, suc, ◌+◌, ◌-◌, ◌≤◌, List, [], ◌++◌, Option, refl, ap, sym, ◌∙◌, subst, append_assoc, append-nil, add-zero, add-suc, arith, codes}
+use Rattle.std.proofs.Common.{◌≡◌, ℕ, zero, suc, ◌+◌, ◌-◌, ◌≤◌, List, [], ◌++◌, Option, ap, sym, ◌∙◌, subst, append_assoc, append-nil, add-zero, add-suc, arith, codes}
 use Rattle.pas_io.specs.Told.{Writes, WritesFront}
 use Rattle.pas_io.proofs.Telling.{writes_none, writes_more}
 use Rattle.pas_steps.specs.declared.state.State.{State}

@@ -1,5 +1,5 @@
 -- The report from the words of a region at rest: counts over its pages and grains, and the marks of a page.
-use Rattle.std.specs.Prelude.{ℕ, zero, suc, ◌+◌, ◌*◌, ◌/◌, ◌%◌, ◌<◌, ◌≤◌, ◌≡◌, ◌==◌, ◌⊎◌, Bool, false, not, List, [], ◌++◌, Option, None, Some, codes}
+use Rattle.std.specs.Prelude.{ℕ, zero, suc, ◌+◌, ◌*◌, ◌/◌, ◌%◌, ◌≡◌, ◌==◌, ◌⊎◌, Bool, false, not, List, [], ◌++◌, Option, None, Some, codes}
 use Rattle.pas_profile.specs.Classes.{has_bit}
 use Rattle.pas_profile.specs.Directories.{deed_word_of, number_of, directory_read}
 use Rattle.pas_profile.specs.Lives.{turn_of, is_live}
@@ -10,7 +10,7 @@ use Rattle.pas_profile.specs.declared.word.Word.TheVariants as Word
 use Rattle.pas_machine.specs.Totals.{count_below, sum_below, page_at}
 use Rattle.pas_steps.specs.States.{profile_of, word_in}
 use Rattle.pas_steps.specs.declared.state.State.{State}
-use Rattle.pas_report.specs.Marks.{Marked, marks_text}
+use Rattle.pas_report.specs.Marks.{Marked}
 use Rattle.pas_report.specs.Reports.{grains_that, page_text, totals_text}
 
 -- the pages of the region, and its grains

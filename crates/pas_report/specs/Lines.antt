@@ -1,21 +1,17 @@
 -- The lines of a transcript. Every line ends with a newline; words are separated by single spaces.
-use Rattle.std.specs.Prelude.{ℕ, zero, suc, ◌+◌, ◌*◌, ◌/◌, ◌%◌, ◌^◌, nat_lt, if◌then◌else◌, List, [], ◌∷◌, ◌++◌, codes}
+use Rattle.std.specs.Prelude.{ℕ, zero, suc, ◌+◌, ◌/◌, ◌%◌, ◌^◌, nat_lt, if◌then◌else◌, List, [], ◌∷◌, ◌++◌, codes}
 use Rattle.std.specs.Fmt.{decimal}
 use Rattle.pas_profile.specs.Classes.{class_size}
 use Rattle.pas_profile.specs.Directories.{IsKind}
 use Rattle.pas_profile.specs.declared.directory.Kind.{Kind}
-use Rattle.pas_profile.specs.declared.directory.Kind.TheVariants as Kind
 use Rattle.pas_profile.specs.declared.directory.Directory.{Directory}
 use Rattle.pas_profile.specs.declared.name.Name.{Name}
 use Rattle.pas_profile.specs.declared.name.Block.{Block}
 use Rattle.pas_profile.specs.declared.event.Event.{Event}
-use Rattle.pas_profile.specs.declared.event.Event.TheVariants as Event
 use Rattle.pas_profile.specs.declared.event.Why.TheVariants as Why
 use Rattle.pas_machine.specs.Runs.{address_of}
 use Rattle.pas_report.specs.declared.record.Said.{Said}
-use Rattle.pas_report.specs.declared.record.Said.TheVariants as Said
 use Rattle.pas_report.specs.declared.record.Record.{Record}
-use Rattle.pas_report.specs.declared.record.Record.TheVariants as Record
 
 -- a hexadecimal digit, in lower case
 abbrev pub hex_digit : ℕ → ℕ
@@ -118,3 +114,10 @@ IsShowable (Event.Unback k page epoch) = Unit {0}
 IsShowable (Event.Give k block) = Unit {0}
 IsShowable (Event.End k name epoch) = Unit {0}
 IsShowable (Event.Reject k name why) = Unit {0}
+
+-- .. and so does that of a record
+abbrev pub CanShow : Record → Type 0
+CanShow (Record.Event e) = IsShowable e
+CanShow (Record.Said k said) = Unit {0}
+CanShow (Record.Phase n) = Unit {0}
+CanShow Record.Close = Unit {0}

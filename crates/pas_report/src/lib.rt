@@ -2,20 +2,23 @@
 #![tactic(auto)]
 
 mod counts;
+pub mod laws;
 pub mod lines;
 pub mod marking;
 pub mod pages;
 pub mod record;
 pub mod records;
 pub mod reports;
+#[cfg(test)]
+mod tests;
 pub mod text;
 pub mod transcript;
 
-pub use lines::{event_line, said_line};
+pub use lines::{event_line, record_line, said_line};
 pub use marking::{Marks, page_marks};
 pub use pages::{page_line, total_line};
 pub use record::{Record, Said};
 pub use records::Records;
-pub use reports::report;
+pub use reports::{has_deed_words, report};
 pub use text::Line;
 pub use transcript::write_lines;

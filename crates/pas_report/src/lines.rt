@@ -1,7 +1,9 @@
-//! The line of each event and of each answer.
+//! The line of each record.
 ghost use Rattle.std.specs.Prelude.{◌≡◌, ◌<◌, ◌≤◌, length};
 ghost use Rattle.pas_profile.specs.Directories.{IsKind};
+ghost use Rattle.pas_report.specs.declared.record.Record.TheVariants as Record;
 ghost use Rattle.pas_report.specs.Lines.{
+  CanShow,
   IsShowable,
   back_line as back_text,
   deed_line as deed_text,
@@ -9,6 +11,7 @@ ghost use Rattle.pas_report.specs.Lines.{
   give_line as give_text,
   held_line as held_text,
   in_use_line as in_use_text,
+  line_of,
   line_of_answer,
   line_of_event,
   numbered_line as numbered_text,
@@ -17,9 +20,22 @@ ghost use Rattle.pas_report.specs.Lines.{
   young_line as young_text,
 };
 
-use crate::record::Said;
+use crate::record::{Record, Said};
 use crate::text::{Line, push_field, push_hex, push_kind, push_name, push_number};
 use pas_profile::{Block, Directory, Event, Name, Why};
+
+/// The line of a record. Takes no memory, and time in the length of the line.
+pub fn record_line(item: &Record) -> Line
+    requires { CanShow item.now }
+    ensures { result.bytes ≡ line_of item.now }
+{
+    match item {
+        Record::Event(event) => event_line(event),
+        Record::Said(actor, said) => said_line(*actor, said),
+        Record::Phase(phase) => phase_line(*phase),
+        Record::Close => close_line(),
+    }
+}
 
 /// The line of an event. Takes no memory, and time in the length of the line.
 pub fn event_line(event: &Event) -> Line
@@ -67,6 +83,25 @@ pub fn said_line(actor: u8, said: &Said) -> Line
         Said::NotOffered(page) => numbered_line(actor, " not-offered page ", page as u64),
         Said::Stopped(thread) => numbered_line(actor, " stopped ", thread as u64),
     }
+}
+
+/// The line of the start of a phase.
+fn phase_line(phase: u32) -> Line
+    ensures { result.bytes ≡ line_of (Record.Phase phase) }
+{
+    let mut line = Line::new();
+    push_field(&mut line, "phase ", phase);
+    line.push_str("\n");
+    line
+}
+
+/// The line of the end of the last phase.
+fn close_line() -> Line
+    ensures { result.bytes ≡ line_of Record.Close }
+{
+    let mut line = Line::new();
+    line.push_str("close\n");
+    line
 }
 
 /// The line of a deed.

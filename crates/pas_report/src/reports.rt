@@ -1,14 +1,39 @@
 //! The report of a state, written to a sink.
-ghost use Rattle.std.specs.Prelude.{◌≡◌, ◌≤◌, ◌++◌, ℕ, List, Option, length, OnOk, OnErr};
+ghost use Rattle.std.specs.Prelude.{◌≡◌, ◌≤◌, ◌++◌, ◌↔◌, ℕ, List, Option, IsTrue, length, OnOk, OnErr};
+ghost use Rattle.pas_profile.specs.Profiles.{IsValid};
 ghost use Rattle.pas_io.specs.Told.{Rose, Writes, WritesFront};
-ghost use Rattle.pas_report.specs.Counts.{AreDeedWords, report_by_words};
+ghost use Rattle.pas_report.specs.Counts.{AreDeedWords, IsDeedWord, report_by_words};
 ghost use Rattle.pas_report.specs.Pieces.{IsPutOut};
 
 use crate::pages::{page_line, total_line};
 use arrayvec::ArrayString;
 use pas_io::whole::write_all;
 use pas_io::{Failed, Sink};
+use pas_profile::{Profile, Word, read_deed};
 use pas_steps::State;
+
+/// Whether a word is 0 or records a directory of the profile.
+fn is_deed_word(profile: &Profile, word: u64) -> bool
+    requires { IsValid profile.now }
+    ensures { IsTrue result ↔ IsDeedWord profile.now word }
+{
+    match read_deed(word) {
+        Some(directory) => directory.heap < profile.heaps,
+        None => word == 0,
+    }
+}
+
+/// Whether the deed word of each page is 0 or a directory's of the profile, as `report` wants it.
+pub fn has_deed_words(state: &State) -> bool
+    ensures { IsTrue result ↔ AreDeedWords state.now }
+{
+    for page in 1..state.profile().pages + 1 {
+        if !is_deed_word(state.profile(), state.word(Word::Deed(page))) {
+            return false;
+        }
+    }
+    true
+}
 
 /// Lines that wait to be written together.
 pub(crate) type Piece = ArrayString<4096>;

@@ -1,0 +1,14 @@
+use Rattle.pas_report.proofs.Resting.{are_deed_words, backed_same, nobody_holds, report_agrees}
+use Rattle.pas_report.proofs.laws.reports_agree.Goals as goal
+
+pub returns-clause-deeds : goal.returns-clause-deeds
+returns-clause-deeds c = are_deed_words
+
+pub returns-clause-backed : goal.returns-clause-backed
+returns-clause-backed c = backed_same
+
+pub returns-clause-nobody : goal.returns-clause-nobody
+returns-clause-nobody c = nobody_holds
+
+pub returns-clause-report : goal.returns-clause-report
+returns-clause-report c = report_agrees
