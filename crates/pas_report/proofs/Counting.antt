@@ -73,7 +73,7 @@ ones_counted (suc k) n small =
     let split : n / 2 ^ k * 2 ^ k + n % 2 ^ k ≡ n = shr_split n k in
     let low : n % 2 ^ k < 2 ^ k = mod-lt n some in
     let below : count_below k (has_bit (n % 2 ^ k)) ≡ count_below k (has_bit n) =
-        count_same k _ _ (λ i h. ap (λ t. t == 1) (sym (bit_at_cat_low (n / 2 ^ k) k (n % 2 ^ k) i h) ∙ ap (λ m. bit_at m i) split)) in
+    count_same k _ _ (λ i h. ap (λ t. t == 1) (sym (bit_at_cat_low (n / 2 ^ k) k (n % 2 ^ k) i h) ∙ ap (λ m. bit_at m i) split)) in
     let top : count_ones (n / 2 ^ k) ≡ (if has_bit n k then 1 else 0) = top_ones (n / 2 ^ k) high (has_bit n k) (ap (λ t. t == 1) (sym same)) in
     let ones : count_ones n ≡ count_ones (n / 2 ^ k) + count_ones (n % 2 ^ k) = ap (λ m. count_ones m) (sym split) ∙ ones_cat k (n / 2 ^ k) (n % 2 ^ k) low in
     ones ∙ omega (arith, top, below, ones_counted k (n % 2 ^ k) low, count_suc k (has_bit n) (has_bit n k) refl)
@@ -85,7 +85,7 @@ word_more v i word counted k width is small before =
     let p : ℕ → Bool = λ b. has_bit (v (b / 64)) (b % 64) in
     let parts : 64 * (i + 1) ≡ 64 * i + k = omega arith in
     let bits : count_below k (λ b. has_bit (v ((64 * i + b) / 64)) ((64 * i + b) % 64)) ≡ count_below k (has_bit word) = count_same k _ _ (λ b h.
-        let at : (64 * i + b) / 64 ≡ i = omega arith in
-        let bit : (64 * i + b) % 64 ≡ b = omega arith in
-        (λ t. has_bit (v (at t)) (bit t)) ∙ ap (λ w. has_bit w b) (sym is)) in
+    let at : (64 * i + b) / 64 ≡ i = omega arith in
+    let bit : (64 * i + b) % 64 ≡ b = omega arith in
+    (λ t. has_bit (v (at t)) (bit t)) ∙ ap (λ w. has_bit w b) (sym is)) in
     omega (arith, before, ones_counted k word small, bits, ap (λ n. count_below n (λ b. has_bit (v (b / 64)) (b % 64))) parts, count_add (64 * i) k (λ b. has_bit (v (b / 64)) (b % 64)))

@@ -62,7 +62,10 @@ fn is_offered(state: &State, page: u32) -> bool
 {
     match read_deed(state.word(Word::Deed(page))) {
         Some(directory) => {
-            has_page(state.word(Word::Eligible(directory.number(), page / 64)), page)
+            has_page(
+                state.word(Word::Eligible(directory.number(), page / 64)),
+                page,
+            )
         }
         None => false,
     }
@@ -77,8 +80,14 @@ pub fn page_marks(state: &State, page: u32) -> Marks
     let mut marks = Marks(0);
     marks.set(Marks::BACKED, state.word(Word::Backed(page)) == 1);
     marks.set(Marks::OFFERED, is_offered(state, page));
-    marks.set(Marks::PARKED, has_page(state.word(Word::Parked(page / 64)), page));
-    marks.set(Marks::HINTED, has_page(state.word(Word::Empty(page / 64)), page));
+    marks.set(
+        Marks::PARKED,
+        has_page(state.word(Word::Parked(page / 64)), page),
+    );
+    marks.set(
+        Marks::HINTED,
+        has_page(state.word(Word::Empty(page / 64)), page),
+    );
     marks
 }
 

@@ -1,36 +1,31 @@
 -- One allocation.
-use Rattle.std.proofs.Common.{◌≡◌, ◌≢◌, ℕ, ◌+◌, ◌-◌, ◌*◌, ◌/◌, ◌%◌, ◌^◌, ◌<◌, ◌≤◌, ◌==◌, ◌⊎◌, ◌&&◌, Bool, true, false, if◌then◌else◌, List, [], ◌∷◌, ◌++◌, length, slice_index, Option, Some, None, inl, inr, refl, ap, sym, ◌∙◌, subst, arith, length-append}
+use Rattle.std.proofs.Common.{◌≡◌, ℕ, ◌+◌, ◌-◌, ◌*◌, ◌/◌, ◌%◌, ◌<◌, ◌≤◌, ◌==◌, ◌&&◌, Bool, true, false, if◌then◌else◌, List, [], ◌∷◌, ◌++◌, length, slice_index, Option, Some, None, inl, inr, refl, ap, sym, ◌∙◌, subst, arith, length-append}
 use Rattle.std.specs.Option.{MatchOption}
 use Rattle.std.proofs.Math.ListN.{get_or-append}
 use Rattle.std.proofs.Math.Seq.{get_or-append_seam}
-use Rattle.std.proofs.lemmas.Bool.{eq-eqb, ne_eqb, cases_lt, cases_eq, and_from}
+use Rattle.std.proofs.lemmas.Bool.{eq-eqb, ne_eqb, cases_lt, and_from}
 use Rattle.pas_profile.specs.declared.profile.Profile.{Profile}
 use Rattle.pas_profile.specs.declared.directory.Directory.{Directory}
 use Rattle.pas_profile.specs.declared.name.Block.{Block}
-use Rattle.pas_profile.specs.Profiles.{IsPage, IsDirectoryOf}
 use Rattle.pas_profile.specs.Directories.{deed_word_of}
-use Rattle.pas_profile.specs.Layouts.{same_word}
-use Rattle.pas_profile.specs.Classes.{IsClass, has_bit, class_size, class_grains, IsSlotStart}
+use Rattle.pas_profile.specs.Classes.{IsClass, has_bit, class_grains, IsSlotStart}
 use Rattle.pas_profile.proofs.ClassFacts.{first_slot, slot_end}
 use Rattle.pas_profile.specs.declared.word.Word.TheVariants as Word
 use Rattle.pas_profile.specs.declared.event.Event.{Event}
-use Rattle.pas_profile.specs.declared.event.Event.TheVariants as Event
-use Rattle.pas_machine.specs.Runs.{in_run, address_of, grain_of}
+use Rattle.pas_machine.specs.Runs.{address_of, grain_of}
 use Rattle.pas_steps.specs.declared.step.Made.{Made}
-use Rattle.pas_steps.specs.declared.step.Step.{Step}
-use Rattle.pas_steps.specs.declared.step.Step.TheVariants.{Look, Deed, Back, Take, Put, Give, End, Stamp}
-use Rattle.pas_steps.specs.Effects.{free_word_at, new_value}
-use Rattle.pas_steps.specs.Views.{View, has_right, known_deed, is_unstamped, epoch_of}
-use Rattle.pas_steps.specs.Events.{events_of, events_by, with_event, event_of}
-use Rattle.pas_steps.specs.Allowed.{Allowed, IsStepOf}
+use Rattle.pas_steps.specs.declared.step.Step.TheVariants.{Deed}
+use Rattle.pas_steps.specs.Effects.{free_word_at}
+use Rattle.pas_steps.specs.Views.{View, has_right, known_deed}
+use Rattle.pas_steps.specs.Events.{events_of, events_by, with_event}
 use Rattle.pas_steps.specs.Lists.{Whole, part, word_after, Legal}
-use Rattle.pas_steps.specs.Frames.{AreLooks}
 use Rattle.pas_steps.specs.Desks.{Seat, Standing, made, triple, triples, Makes, CanMake, CanCall, Adds}
-use Rattle.pas_steps.proofs.Adding.{adds_none, adds_step, adds_call, adds_under, can_step, can_call, Tells, legal_after, room_left}
+use Rattle.pas_steps.proofs.Adding.{adds_step, adds_call, adds_under, can_step, can_call, Tells, legal_after, room_left}
+use Rattle.pas_steps.specs.Frames.{GivesUp}
 use Rattle.pas_steps.proofs.Frames.{looks_words, right_stays}
 use Rattle.pas_core.proofs.Rights.{free_without_deed}
-use Rattle.pas_top.specs.Answers.{class_directory, MakeReady, deeds_made, stamps_of, IsFreeSlot, IsLowestSlot, IsNewPage, IsChosen}
-use Rattle.pas_top.specs.Calls.{Anything, HasRoom, AreQuiet, NoneBelow, IsFound, Finds, IsOpen, AtRest, block_at, IsSlotOf, MayPlace, placing, Places, with_page, MayAllocate, IsServed, Allocates}
+use Rattle.pas_top.specs.Answers.{class_directory, MakeReady, deeds_made, IsFreeSlot, IsLowestSlot, IsNewPage}
+use Rattle.pas_top.specs.Calls.{NoneBelow, IsFound, Finds, IsOpen, AtRest, block_at, IsSlotOf, MayPlace, placing, Places, MayAllocate, Allocates}
 use Rattle.pas_top.proofs.Slotting.{run_of}
 use Rattle.pas_top.proofs.Quiet.{quiet_deed, quiet_unstamped, quiet_events, quiet_shown, quiet_stamps, quiet_no_stamps, quiet_front, open_quiet, rest_quiet, rest_front, deed_front}
 use Rattle.pas_top.proofs.Choosing.{found_slot, found_lowest, new_page}
@@ -181,6 +176,10 @@ new_open classes class a k p w m at is first bare =
 other_page : (classes : List ℕ) (class a k p : ℕ) (m : Whole) → (next_page classes ≡ p → ⊥) → word_after (triple k (deeding classes class a) ∷ m) (Word.Deed p) ≡ word_after m (Word.Deed p)
 other_page classes class a k p m ne = ap (λ x. if x then (if word_after m (Word.Deed p) == 0 then deed_word_of (class_directory class) else word_after m (Word.Deed p)) else word_after m (Word.Deed p)) (ne_eqb (next_page classes) p ne)
 
+-- a deed gives no right up
+no_gift : (q p : ℕ) (d : Directory) → GivesUp p (Deed q d) → ⊥
+no_gift q p d gives = elim gives [ ]
+
 -- the pages have one more
 rest_more : (classes : List ℕ) (class a k : ℕ) (w : View) (m : Whole) → IsClass class → a ≡ 0 → AtRest classes w m → AtRest (classes ++ class ∷ []) (deeding classes class a ∷ w) (triple k (deeding classes class a) ∷ m)
 rest_more classes class a k w m is first rest =
@@ -197,7 +196,7 @@ rest_more classes class a k w m is first rest =
             let ne : next_page classes ≡ p → ⊥ = λ e. omega (arith, e, old) in
             subst (IsOpen (deeding classes class a ∷ w) (triple k (deeding classes class a) ∷ m) p) (sym same) (record {
               is_class = o.is_class;
-              right = right_stays (Deed (next_page classes) (class_directory class)) a p (has_right w p) o.right;
+              right = right_stays (Deed (next_page classes) (class_directory class)) a p (has_right w p) (no_gift (next_page classes) p (class_directory class)) o.right;
               known = ap (λ x. if x then (if a == 0 then deed_word_of (class_directory class) else a) else known_deed w p) (ne_eqb (next_page classes) p ne) ∙ o.known;
               word = other_page classes class a k p m ne ∙ o.word;
             })

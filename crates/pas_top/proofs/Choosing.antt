@@ -1,19 +1,18 @@
 -- The choice of a slot: what the search found is what the words after the list say.
-use Rattle.std.proofs.Common.{◌≡◌, ◌≢◌, ℕ, zero, suc, ◌+◌, ◌-◌, ◌*◌, ◌/◌, ◌%◌, ◌<◌, ◌≤◌, ◌==◌, ◌⊎◌, Bool, true, false, List, [], ◌∷◌, ◌++◌, length, slice_index, inl, inr, refl, ap, sym, ◌∙◌, subst, arith}
-use Rattle.std.proofs.lemmas.Bool.{cases_lt, cases_eq}
+use Rattle.std.proofs.Common.{◌≡◌, ℕ, zero, suc, ◌+◌, ◌-◌, ◌*◌, ◌/◌, ◌%◌, ◌<◌, ◌≤◌, true, List, length, slice_index, inl, inr, refl, ap, sym, ◌∙◌, subst, arith}
+use Rattle.std.proofs.lemmas.Bool.{cases_lt}
 use Rattle.pas_profile.specs.declared.profile.Profile.{Profile}
-use Rattle.pas_profile.specs.Profiles.{IsPage}
 use Rattle.pas_profile.specs.Directories.{deed_word_of}
-use Rattle.pas_profile.specs.Classes.{IsClass, has_bit, class_grains, IsSlotStart}
-use Rattle.pas_profile.proofs.ClassFacts.{slot_end, slot_lt}
+use Rattle.pas_profile.specs.Classes.{IsClass, has_bit, class_grains}
+use Rattle.pas_profile.proofs.ClassFacts.{slot_end}
 use Rattle.pas_profile.specs.declared.word.Word.TheVariants as Word
 use Rattle.pas_machine.specs.Runs.{in_run}
 use Rattle.pas_steps.specs.Effects.{free_word_at}
 use Rattle.pas_steps.specs.Views.{View}
 use Rattle.pas_steps.specs.Lists.{Whole, word_after}
-use Rattle.pas_top.specs.Slots.{is_free_in, IsFreeSlotIn, IsLowestFreeSlot}
+use Rattle.pas_top.specs.Slots.{is_free_in, IsFreeSlotIn}
 use Rattle.pas_top.specs.Answers.{class_directory, IsFreeSlot, IsLowestSlot, IsNewPage}
-use Rattle.pas_top.specs.Calls.{free_words, NoneBelow, IsFound, IsOpen, AtRest}
+use Rattle.pas_top.specs.Calls.{free_words, NoneBelow, IsFound, AtRest}
 use Rattle.pas_top.proofs.Slotting.{run_of, to_run}
 
 -- ---- slots of a page and slots of the region

@@ -1,11 +1,9 @@
 -- The operations in order.
-use Rattle.std.proofs.Common.{◌≡◌, ◌≢◌, ℕ, ◌+◌, ◌-◌, ◌*◌, ◌/◌, ◌%◌, ◌^◌, ◌<◌, ◌≤◌, ◌==◌, ◌||◌, Bool, true, false, if◌then◌else◌, List, [], ◌∷◌, ◌++◌, length, Option, Some, None, inl, inr, refl, ap, sym, ◌∙◌, subst, arith, append_assoc, length-append, drop, slice_index_or}
+use Rattle.std.proofs.Common.{◌≡◌, ℕ, ◌+◌, ◌*◌, ◌^◌, ◌<◌, ◌≤◌, ◌==◌, ◌||◌, Bool, true, false, if◌then◌else◌, List, [], ◌∷◌, ◌++◌, length, Option, Some, None, inl, inr, refl, ap, sym, ◌∙◌, subst, arith, length-append, drop, slice_index_or}
 use Rattle.std.proofs.lemmas.List.{drop_more}
-use Rattle.std.proofs.lemmas.Bool.{cases_Bool}
 use Rattle.pas_profile.specs.declared.profile.Profile.{Profile}
 use Rattle.pas_profile.specs.declared.name.Block.{Block}
 use Rattle.pas_profile.specs.declared.event.Event.{Event}
-use Rattle.pas_profile.specs.declared.event.Event.TheVariants as Event
 use Rattle.pas_profile.specs.Profiles.{IsValid}
 use Rattle.pas_machine.specs.Runs.{address_of}
 use Rattle.pas_machine.specs.Machine.{Run}
@@ -16,7 +14,7 @@ use Rattle.pas_steps.specs.declared.step.Made.{Made}
 use Rattle.pas_steps.specs.Views.{View}
 use Rattle.pas_steps.specs.Events.{events_of, events_by}
 use Rattle.pas_steps.specs.Lists.{Whole, part, visible, Legal}
-use Rattle.pas_steps.specs.Desks.{Seat, Standing, triples, CanCall, Adds}
+use Rattle.pas_steps.specs.Desks.{Seat, Standing, triples, CanCall}
 use Rattle.pas_steps.proofs.Adding.{Tells}
 use Rattle.pas_steps.proofs.Frames.{events_split, visible_split}
 use Rattle.pas_top.specs.declared.plan.Operation.{Operation}

@@ -1,30 +1,26 @@
 -- A block is placed.
-use Rattle.std.proofs.Common.{◌≡◌, ◌≢◌, ℕ, zero, suc, ◌+◌, ◌-◌, ◌*◌, ◌/◌, ◌%◌, ◌^◌, ◌<◌, ◌≤◌, ◌==◌, ◌⊎◌, ◌&&◌, ◌||◌, Bool, true, false, if◌then◌else◌, List, [], ◌∷◌, ◌++◌, length, Option, Some, None, inl, inr, refl, ap, sym, ◌∙◌, subst, arith}
+use Rattle.std.proofs.Common.{◌≡◌, ◌≢◌, ℕ, zero, suc, ◌+◌, ◌*◌, ◌/◌, ◌%◌, ◌^◌, ◌<◌, ◌≤◌, ◌==◌, ◌&&◌, ◌||◌, Bool, true, false, if◌then◌else◌, List, ◌∷◌, ◌++◌, length, Some, None, inl, inr, refl, ap, sym, ◌∙◌, subst, arith}
 use Rattle.std.proofs.lemmas.Bool.{eq-eqb, cases_eq, and_from}
 use Rattle.pas_profile.specs.declared.profile.Profile.{Profile}
 use Rattle.pas_profile.specs.declared.name.Block.{Block}
-use Rattle.pas_profile.specs.Profiles.{IsPage, IsDirectoryOf}
 use Rattle.pas_profile.specs.Directories.{deed_word_of}
-use Rattle.pas_profile.specs.Classes.{IsClass, has_bit, class_size, class_grains, IsSlotStart}
+use Rattle.pas_profile.specs.Classes.{class_size, class_grains}
 use Rattle.pas_profile.proofs.ClassFacts.{class_size-grains, class_size_whole, class_grains_positive, class_grains_le, slot_end}
 use Rattle.pas_profile.specs.declared.word.Word.TheVariants as Word
 use Rattle.pas_profile.specs.declared.event.Event.{Event}
-use Rattle.pas_profile.specs.declared.event.Event.TheVariants as Event
-use Rattle.pas_machine.specs.Runs.{in_run, address_of, grain_of, length_of}
-use Rattle.pas_steps.specs.declared.step.Made.{Made}
-use Rattle.pas_steps.specs.declared.step.Step.{Step}
-use Rattle.pas_steps.specs.declared.step.Step.TheVariants.{Look, Deed, Back, Take, Put, Give, End, Stamp}
-use Rattle.pas_steps.specs.Views.{View, any_below, holds, holds_on, has_right, known_deed, knows_backed, known_life, is_unstamped, given_count}
-use Rattle.pas_steps.specs.Events.{events_of, events_by, with_event, event_of}
-use Rattle.pas_steps.specs.Allowed.{Allowed, IsStepOf, IsBlockOf, HoldsOn, KnowsBearing, MayGiveNow}
-use Rattle.pas_steps.specs.Lists.{Whole, part, word_after, Legal}
-use Rattle.pas_steps.specs.Desks.{Standing, made, triple, triples, Makes, CanMake, CanCall, Adds}
-use Rattle.pas_steps.proofs.Adding.{adds_none, adds_step, adds_under, can_step, can_call, Tells, legal_after, room_left}
+use Rattle.pas_machine.specs.Runs.{in_run}
+use Rattle.pas_steps.specs.declared.step.Step.TheVariants.{Look, Back, Give}
+use Rattle.pas_steps.specs.Views.{View, any_below, holds, holds_on, known_deed, knows_backed, known_life}
+use Rattle.pas_steps.specs.Events.{events_of, with_event}
+use Rattle.pas_steps.specs.Allowed.{IsBlockOf, HoldsOn, KnowsBearing, MayGiveNow}
+use Rattle.pas_steps.specs.Lists.{Whole}
+use Rattle.pas_steps.specs.Desks.{Standing, made, Makes, CanMake, CanCall, Adds}
+use Rattle.pas_steps.proofs.Adding.{adds_step, adds_under, can_step, room_left}
 use Rattle.pas_steps.proofs.Frames.{given_le}
 use Rattle.pas_top.specs.Answers.{class_directory}
-use Rattle.pas_top.specs.Calls.{HasRoom, AreQuiet, IsShortRun, MayTake, Takes, IsOpen, block_at, IsSlotOf, MayPlace, placing, Places}
-use Rattle.pas_top.proofs.Slotting.{to_run, run_of, own}
-use Rattle.pas_top.proofs.Quiet.{quiet_known, quiet_deed, quiet_unstamped, quiet_events, quiet_shown, open_quiet}
+use Rattle.pas_top.specs.Calls.{IsShortRun, MayTake, Takes, block_at, IsSlotOf, MayPlace, Places}
+use Rattle.pas_top.proofs.Slotting.{run_of, own}
+use Rattle.pas_top.proofs.Quiet.{quiet_known, quiet_unstamped, quiet_shown}
 
 -- ---- the run of a slot
 pub short_run : (f : Profile) (class g : ℕ) → IsSlotOf f class g → IsShortRun f g (class_grains class)

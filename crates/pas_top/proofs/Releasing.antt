@@ -1,32 +1,28 @@
 -- One free.
-use Rattle.std.proofs.Common.{◌≡◌, ◌≢◌, ℕ, ◌+◌, ◌-◌, ◌*◌, ◌/◌, ◌%◌, ◌^◌, ◌<◌, ◌≤◌, ◌==◌, ◌⊎◌, ◌&&◌, nat_lt, Bool, true, false, if◌then◌else◌, List, [], ◌∷◌, ◌++◌, length, Option, Some, None, inl, inr, refl, ap, sym, ◌∙◌, subst, arith, append_assoc}
-use Rattle.std.proofs.lemmas.Bool.{false≢true, eqb-true, eq-eqb, ne_eqb, cases_lt, cases_eq, cases_Bool, and_from, and_parts}
+use Rattle.std.proofs.Common.{◌≡◌, ℕ, ◌+◌, ◌-◌, ◌*◌, ◌/◌, ◌%◌, ◌^◌, ◌<◌, ◌≤◌, ◌==◌, ◌&&◌, nat_lt, Bool, true, false, if◌then◌else◌, List, [], ◌∷◌, ◌++◌, length, Some, None, inl, inr, refl, ap, sym, ◌∙◌, subst, arith, append_assoc}
+use Rattle.std.proofs.lemmas.Bool.{false≢true, eqb-true, eq-eqb, ne_eqb, cases_lt, cases_eq, and_from, and_parts}
 use Rattle.std.proofs.lemmas.Bool.Decides.{nat_tests}
 use Rattle.pas_profile.specs.declared.profile.Profile.{Profile}
-use Rattle.pas_profile.specs.declared.name.Name.{Name}
 use Rattle.pas_profile.specs.declared.name.Block.{Block}
-use Rattle.pas_profile.specs.Profiles.{IsPage, IsValid}
+use Rattle.pas_profile.specs.Profiles.{IsValid}
 use Rattle.pas_profile.specs.Lives.{live_word, is_live, turn_of}
-use Rattle.pas_profile.specs.Classes.{class_size, class_grains}
+use Rattle.pas_profile.specs.Classes.{class_grains}
 use Rattle.pas_profile.proofs.ClassFacts.{class_grains_positive, class_grains_le}
 use Rattle.pas_profile.specs.declared.word.Word.TheVariants as Word
 use Rattle.pas_profile.specs.declared.event.Event.{Event}
-use Rattle.pas_profile.specs.declared.event.Event.TheVariants as Event
-use Rattle.pas_machine.specs.Runs.{in_run, meets_page, address_of, grain_of, length_of}
+use Rattle.pas_machine.specs.Runs.{in_run, meets_page, grain_of, length_of}
 use Rattle.pas_core.proofs.Given.{true_length}
 use Rattle.pas_steps.specs.declared.step.Made.{Made}
-use Rattle.pas_steps.specs.declared.step.Step.{Step}
-use Rattle.pas_steps.specs.declared.step.Step.TheVariants.{Look, Deed, Back, Take, Put, Give, End, Stamp}
+use Rattle.pas_steps.specs.declared.step.Step.TheVariants.{Look, End, Stamp}
 use Rattle.pas_steps.specs.Effects.{life_word_at}
-use Rattle.pas_steps.specs.Views.{View, Move, Stays, Ends, held_after, holds, is_unstamped, epoch_of}
-use Rattle.pas_steps.specs.Events.{events_of, events_by, with_event, end_event, reason_of}
-use Rattle.pas_steps.specs.Allowed.{Allowed, IsStepOf, HoldsOn}
-use Rattle.pas_steps.specs.Lists.{Whole, part, word_after, visible, Legal}
-use Rattle.pas_steps.specs.Desks.{Seat, Standing, made, triple, triples, Makes, CanMake, CanCall, Adds}
+use Rattle.pas_steps.specs.Views.{View, Stays, Ends, held_after, holds, is_unstamped}
+use Rattle.pas_steps.specs.Events.{events_of, with_event, reason_of}
+use Rattle.pas_steps.specs.Allowed.{IsStepOf, HoldsOn}
+use Rattle.pas_steps.specs.Lists.{Whole, part, word_after}
+use Rattle.pas_steps.specs.Desks.{Seat, Standing, made, triples, Makes, CanMake, CanCall, Adds}
 use Rattle.pas_steps.proofs.Adding.{adds_none, adds_step, adds_call, can_step, can_call, Tells, legal_after, room_left}
-use Rattle.pas_top.specs.Answers.{IsFreed, IsFreeing, stamps_of}
-use Rattle.pas_top.specs.Calls.{AreQuiet, IsShortRun, MayPut, Puts, AtRest, IsSlotBlock, MayRelease, Releases}
-use Rattle.pas_top.proofs.Slotting.{to_run, run_of}
+use Rattle.pas_top.specs.Calls.{IsShortRun, MayPut, Puts, AtRest, IsSlotBlock, MayRelease, Releases}
+use Rattle.pas_top.proofs.Slotting.{to_run}
 use Rattle.pas_top.proofs.Placing.{short_run}
 use Rattle.pas_top.proofs.Quiet.{quiet_front, quiet_stamps, rest_front}
 

@@ -1,33 +1,32 @@
 -- From what the replay shows to the text that was written.
-use Rattle.std.proofs.Common.{◌≡◌, ℕ, ◌+◌, ◌<◌, ◌≤◌, ◌==◌, Bool, true, false, ◌&&◌, if◌then◌else◌, List, [], ◌∷◌, ◌++◌, length, reverse, Option, Some, None, refl, ap, sym, ◌∙◌, subst, arith, length-append, inl, inr}
+use Rattle.std.proofs.Common.{◌≡◌, ℕ, ◌+◌, ◌≤◌, ◌==◌, Bool, true, false, ◌&&◌, if◌then◌else◌, List, [], ◌∷◌, ◌++◌, length, reverse, Option, Some, None, refl, ap, sym, ◌∙◌, subst, arith, length-append, inl, inr}
 use Rattle.std.specs.Prelude.{All}
 use Rattle.std.proofs.lemmas.Bool.{eq-eqb}
 use Rattle.std.proofs.lemmas.List.Elements.{All-nil, All-push}
 use Rattle.std.proofs.lemmas.List.{reverse-append}
 use Rattle.pas_profile.specs.Profiles.{IsValid, IsWordOf}
 use Rattle.pas_profile.specs.declared.profile.Profile.{Profile}
-use Rattle.pas_profile.specs.declared.word.Word.{Word}
 use Rattle.pas_profile.specs.declared.event.Event.{Event}
 use Rattle.pas_profile.specs.Lives.{live_word, is_live, turn_of}
 use Rattle.pas_steps.specs.Views.{View, epoch_of}
 use Rattle.pas_steps.specs.Events.{event_of, events_of, with_event, reason_of}
-use Rattle.pas_steps.specs.Lists.{Triple, Whole, part, word_after, visible, Legal, IsNext}
-use Rattle.pas_steps.specs.Desks.{made, triple, triples}
-use Rattle.pas_steps.specs.States.{profile_of, word_in}
+use Rattle.pas_steps.specs.Lists.{Whole, part, visible, Legal}
+use Rattle.pas_steps.specs.Desks.{triples}
+use Rattle.pas_steps.specs.States.{profile_of}
 use Rattle.pas_steps.specs.Allowed.{IsStepOf}
 use Rattle.pas_steps.specs.declared.step.Made.{Made}
 use Rattle.pas_steps.specs.declared.step.Step.{Step}
-use Rattle.pas_steps.specs.declared.step.Step.TheVariants.{Look, Deed, Back, Take, Put, Give, End, Stamp}
+use Rattle.pas_steps.specs.declared.step.Step.TheVariants.{Look, Deed, Back, Take, Put, Give, End, TakeRight, Offer, Park, Unpark, Stamp, Hint}
 use Rattle.pas_steps.specs.declared.state.State.{State}
 use Rattle.pas_core.specs.Good.{AgreesWithWords}
 use Rattle.pas_core.proofs.MachineRuns.{agrees, runs}
-use Rattle.pas_plain.specs.Plain.{PassStands, actor_of, events_shown}
+use Rattle.pas_plain.specs.Plain.{events_shown}
 use Rattle.pas_plain.specs.declared.pass.PlainPass.{PlainPass}
 use Rattle.pas_top.specs.declared.plan.Operation.{Operation}
 use Rattle.pas_top.specs.declared.plan.Operation.TheVariants.{Allocate, Free}
 use Rattle.pas_top.specs.Forms.{Asks, operations_text, operation_line, trace_text, header_line, newline, IsTextOf}
 use Rattle.pas_top.specs.Answers.{Follows, Named, named}
-use Rattle.pas_top.specs.Lines.{IsShowable, lines_of, total_line, transcript_text}
+use Rattle.pas_top.specs.Lines.{IsShowable, lines_of, total_line}
 use Rattle.pas_top.specs.Outputs.{IsReplayed}
 use Rattle.pas_top.specs.Replays.{Shows}
 use Rattle.pas_top.specs.Totals.{counted_line}
@@ -87,6 +86,11 @@ event_showable f k epoch (Take page w mask) a of e h = let bad : None ≡ Some e
 event_showable f k epoch (Put page w mask) a of e h = let bad : None ≡ Some e = h in absurd cc
 event_showable f k epoch (Give block) a of e h = subst IsShowable (some_is h) tt
 event_showable f k epoch (End name guess) a of e h = if_none (a == live_word name.turn guess) (is_live a && (turn_of a == name.turn)) (Event.End k name epoch) (Event.Reject k name (reason_of name a)) e tt tt h
+event_showable f k epoch (TakeRight page d) a of e h = let bad : None ≡ Some e = h in absurd cc
+event_showable f k epoch (Offer page d) a of e h = let bad : None ≡ Some e = h in absurd cc
+event_showable f k epoch (Park page) a of e h = let bad : None ≡ Some e = h in absurd cc
+event_showable f k epoch (Unpark page) a of e h = let bad : None ≡ Some e = h in absurd cc
+event_showable f k epoch (Hint page) a of e h = let bad : None ≡ Some e = h in absurd cc
 event_showable f k epoch (Stamp page) a of e h = let bad : None ≡ Some e = h in absurd cc
 
 all_showable : (f : Profile) (l : Whole) → Legal f l → AreShowable (visible l)

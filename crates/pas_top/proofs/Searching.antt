@@ -1,21 +1,20 @@
 -- The search for a free slot.
-use Rattle.std.proofs.Common.{◌≡◌, ◌≢◌, ℕ, suc, ◌+◌, ◌-◌, ◌*◌, ◌/◌, ◌%◌, ◌^◌, ◌<◌, ◌≤◌, ◌==◌, Bool, true, false, List, [], ◌∷◌, ◌++◌, length, slice_index, Option, Some, None, inl, inr, refl, ap, sym, ◌∙◌, subst, arith}
+use Rattle.std.proofs.Common.{◌≡◌, ◌≢◌, ℕ, ◌+◌, ◌-◌, ◌*◌, ◌/◌, ◌%◌, ◌<◌, ◌≤◌, List, [], ◌∷◌, ◌++◌, length, slice_index, Option, Some, None, inl, inr, ap, sym, ◌∙◌, subst, arith}
 use Rattle.std.specs.Option.{MatchOption}
-use Rattle.std.proofs.lemmas.Bool.{cases_lt, cases_eq}
+use Rattle.std.proofs.lemmas.Bool.{cases_lt}
 use Rattle.pas_profile.specs.Classes.{IsClass}
 use Rattle.pas_profile.proofs.ClassFacts.{slot_lt}
 use Rattle.pas_profile.specs.declared.word.Word.TheVariants as Word
 use Rattle.pas_steps.specs.declared.step.Made.{Made}
-use Rattle.pas_steps.specs.declared.step.Step.{Step}
-use Rattle.pas_steps.specs.declared.step.Step.TheVariants.{Look, Deed, Back, Take, Put, Give, End, Stamp}
+use Rattle.pas_steps.specs.declared.step.Step.TheVariants.{Look}
 use Rattle.pas_steps.specs.Views.{View}
 use Rattle.pas_steps.specs.Lists.{Whole, word_after}
 use Rattle.pas_steps.specs.Frames.{AreLooks}
-use Rattle.pas_steps.specs.Desks.{Standing, made, triples, Makes, CanCall, Adds}
+use Rattle.pas_steps.specs.Desks.{Standing, made, triples, Makes, Adds}
 use Rattle.pas_steps.proofs.Adding.{adds_none, adds_step, adds_call, Tells, legal_after}
 use Rattle.pas_steps.proofs.Frames.{looks_append, looks_words}
 use Rattle.pas_top.specs.Slots.{IsFreeSlotIn, IsLowestFreeSlot}
-use Rattle.pas_top.specs.Calls.{Anything, IsQuiet, AreQuiet, free_words, Scans, NoneBelow, IsFound, Finds}
+use Rattle.pas_top.specs.Calls.{Anything, AreQuiet, free_words, Scans, NoneBelow, IsFound, Finds}
 
 pub quiet_append : (ys xs : List Made) → AreQuiet ys → AreQuiet xs → AreQuiet (ys ++ xs)
 quiet_append [] xs a b = b

@@ -1,27 +1,26 @@
 -- A request is served.
-use Rattle.std.proofs.Common.{◌≡◌, ◌≢◌, ℕ, ◌+◌, ◌-◌, ◌*◌, ◌/◌, ◌%◌, ◌^◌, ◌<◌, ◌≤◌, ◌==◌, Bool, true, false, if◌then◌else◌, List, [], ◌∷◌, ◌++◌, length, Option, Some, None, refl, ap, sym, ◌∙◌, subst, arith, length-append}
+use Rattle.std.proofs.Common.{◌≡◌, ℕ, ◌+◌, ◌*◌, ◌/◌, ◌%◌, ◌≤◌, ◌==◌, Bool, true, false, if◌then◌else◌, List, [], ◌∷◌, ◌++◌, length, Option, Some, None, refl, ap, sym, ◌∙◌, subst, arith, length-append}
 use Rattle.pas_profile.specs.declared.profile.Profile.{Profile}
 use Rattle.pas_profile.specs.declared.directory.Directory.{Directory}
 use Rattle.pas_profile.specs.declared.directory.Route.TheVariants as Route
 use Rattle.pas_profile.specs.declared.name.Block.{Block}
 use Rattle.pas_profile.specs.declared.word.Word.TheVariants as Word
-use Rattle.pas_profile.specs.Profiles.{IsValid, IsDirectoryOf}
-use Rattle.pas_profile.specs.Classes.{IsClass, IsAlignment, class_size, class_grains}
+use Rattle.pas_profile.specs.Profiles.{IsValid}
+use Rattle.pas_profile.specs.Classes.{IsClass, IsAlignment, class_grains}
 use Rattle.pas_profile.specs.Directories.{IsDirectory, deed_word_of}
 use Rattle.pas_profile.specs.Routes.{route_of}
 use Rattle.pas_profile.proofs.ClassFacts.{class_suits, routed_slot_aligned, slot_end}
 use Rattle.pas_profile.proofs.Codecs.{same_from_deed_word}
-use Rattle.pas_machine.specs.Runs.{in_run, address_of, grain_of, length_of}
+use Rattle.pas_machine.specs.Runs.{address_of, grain_of, length_of}
 use Rattle.pas_machine.specs.State.{deed_in}
 use Rattle.pas_core.specs.Good.{word_of_deed}
 use Rattle.pas_core.proofs.Deeds.{deed_of, directory_is_of}
 use Rattle.pas_steps.specs.declared.step.Made.{Made}
-use Rattle.pas_steps.specs.Views.{View}
 use Rattle.pas_steps.specs.Lists.{Whole, word_after, visible, Legal}
-use Rattle.pas_steps.specs.Desks.{Standing, triples, CanCall, Adds}
+use Rattle.pas_steps.specs.Desks.{Standing, triples, CanCall}
 use Rattle.pas_steps.proofs.Adding.{Tells, legal_after}
 use Rattle.pas_top.specs.Answers.{class_directory, IsAllocated}
-use Rattle.pas_top.specs.Calls.{AtRest, with_page, MayAllocate, IsServed, IsSlotBlock, Allocates}
+use Rattle.pas_top.specs.Calls.{AtRest, with_page, MayAllocate, IsServed, Allocates}
 use Rattle.pas_top.specs.Names.{block_named}
 use Rattle.pas_top.specs.Ledgers.{classes_of, Serves}
 use Rattle.pas_top.specs.declared.replay.order.Ledger.{Ledger}

@@ -1,13 +1,13 @@
 -- Bits of runs and slots.
-use Rattle.std.proofs.Common.{◌≡◌, ◌≢◌, ℕ, suc, ◌+◌, ◌-◌, ◌*◌, ◌/◌, ◌%◌, ◌^◌, ◌<◌, ◌≤◌, ◌==◌, ◌⊎◌, ◌&&◌, min, Bool, true, false, IsTrue, List, slice_index, get_or, Option, Some, None, inl, inr, refl, ap, sym, ◌∙◌, subst, arith, lit<, bit_and}
+use Rattle.std.proofs.Common.{◌≡◌, ◌≢◌, ℕ, ◌+◌, ◌-◌, ◌*◌, ◌/◌, ◌%◌, ◌^◌, ◌<◌, ◌≤◌, ◌==◌, ◌⊎◌, min, true, false, List, slice_index, inl, inr, ap, sym, ◌∙◌, subst, arith, lit<, bit_and}
 use Rattle.std.specs.Int.{bit_at, bit_not, w64, trailing_zeros}
-use Rattle.std.proofs.lemmas.Bool.{false≢true, eqb-true, eqb-false, eq-eqb, ne_eqb, cases_Bool, cases_lt}
+use Rattle.std.proofs.lemmas.Bool.{false≢true, eqb-true, eqb-false, cases_lt}
 use Rattle.std.proofs.lemmas.Bool.Decides.{nat_tests}
 use Rattle.std.proofs.Math.Nat.{pow-le-pow_right}
 use Rattle.std.proofs.lemmas.Nat.{mod_below, pow_pos, shr-shr, shr_le, mod-mul-add, div-add-mod', and_le_l}
 use Rattle.std.proofs.lemmas.Nat.Bits.{bit_at-lt, bit_at-zero, bit_at-trailing_zeros, bit_at_above, bit_at_and, bit_at_not, bit_at_mask_inside, bit_at_mask_below, bit_at_mask_above, ones_shr}
 use Rattle.pas_profile.specs.Classes.{IsClass, has_bit, class_size, class_grains, usable_grains, IsSlotStart}
-use Rattle.pas_profile.proofs.ClassFacts.{class_size-grains, class_grains_positive, class_grains_le, usable_grains_le, slot_lt, slot_end, same_slot}
+use Rattle.pas_profile.proofs.ClassFacts.{class_grains_positive, usable_grains_le, slot_lt, same_slot}
 use Rattle.pas_machine.specs.Runs.{in_run}
 use Rattle.pas_top.specs.Slots.{is_free_in, NoneIsFree, IsLowestFree, AreFree, IsFreeSlotIn, IsLowestFreeSlot}
 

@@ -1,22 +1,19 @@
 -- The grains of a run, taken and put back.
-use Rattle.std.proofs.Common.{◌≡◌, ◌≢◌, ℕ, suc, ◌+◌, ◌-◌, ◌*◌, ◌/◌, ◌%◌, ◌^◌, ◌<◌, ◌≤◌, ◌==◌, ◌⊎◌, ◌&&◌, Bool, true, false, if◌then◌else◌, List, [], ◌∷◌, ◌++◌, inl, inr, refl, ap, sym, ◌∙◌, subst, arith}
-use Rattle.std.proofs.lemmas.Bool.{false≢true, eqb-true, eqb-false, eq-eqb, ne_eqb, cases_lt, cases_eq, and_from, and_parts}
+use Rattle.std.proofs.Common.{◌≡◌, ◌≢◌, ℕ, ◌+◌, ◌-◌, ◌*◌, ◌/◌, ◌%◌, ◌^◌, ◌<◌, ◌≤◌, ◌==◌, ◌⊎◌, ◌&&◌, Bool, true, false, if◌then◌else◌, List, [], ◌∷◌, ◌++◌, inl, inr, refl, ap, sym, ◌∙◌, arith}
+use Rattle.std.proofs.lemmas.Bool.{false≢true, eqb-true, eq-eqb, ne_eqb, cases_eq, and_from, and_parts}
 use Rattle.std.proofs.lemmas.Nat.Bits.{bit_at-zero}
 use Rattle.pas_profile.specs.declared.profile.Profile.{Profile}
-use Rattle.pas_profile.specs.Profiles.{IsPage}
 use Rattle.pas_profile.specs.Classes.{has_bit}
 use Rattle.pas_profile.specs.Layouts.{same_word}
 use Rattle.pas_profile.specs.declared.word.Word.{Word}
-use Rattle.pas_profile.specs.declared.word.Word.TheVariants as Word
 use Rattle.pas_machine.specs.Runs.{in_run}
 use Rattle.pas_steps.specs.declared.step.Made.{Made}
-use Rattle.pas_steps.specs.declared.step.Step.{Step}
-use Rattle.pas_steps.specs.declared.step.Step.TheVariants.{Look, Deed, Back, Take, Put, Give, End, Stamp}
-use Rattle.pas_steps.specs.Effects.{in_mask, target, new_value, free_word_at}
-use Rattle.pas_steps.specs.Views.{View, Move, Stays, Gets, Puts, held_after, grain_move, holds, has_right, is_unstamped, epoch_of}
-use Rattle.pas_steps.specs.Allowed.{Allowed, IsStepOf, MayPutNow}
-use Rattle.pas_steps.specs.Lists.{Triple, Whole, part, word_after, Legal}
-use Rattle.pas_steps.specs.Desks.{Standing, made, triple, triples, Makes, CanMake, CanCall, Adds}
+use Rattle.pas_steps.specs.declared.step.Step.TheVariants.{Take, Put}
+use Rattle.pas_steps.specs.Effects.{in_mask, new_value, free_word_at}
+use Rattle.pas_steps.specs.Views.{View, Stays, Gets, Puts, held_after, holds, epoch_of}
+use Rattle.pas_steps.specs.Allowed.{MayPutNow}
+use Rattle.pas_steps.specs.Lists.{Whole, part, word_after}
+use Rattle.pas_steps.specs.Desks.{Standing, made, triple, Makes, CanMake, CanCall, Adds}
 use Rattle.pas_steps.proofs.Adding.{adds_none, adds_step, can_step, Tells, legal_after}
 use Rattle.pas_top.specs.Calls.{IsShortRun, MayTake, Takes, MayPut, Puts as IsPutBack}
 use Rattle.pas_top.proofs.Slotting.{run_of, to_run}

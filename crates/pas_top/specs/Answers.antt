@@ -20,7 +20,7 @@ use Rattle.pas_steps.specs.Lists.{Whole, part, word_after, visible}
 use Rattle.pas_steps.specs.Desks.{made, triples}
 use Rattle.pas_steps.specs.declared.step.Made.{Made}
 use Rattle.pas_steps.specs.declared.step.Step.{Step}
-use Rattle.pas_steps.specs.declared.step.Step.TheVariants.{Look, Deed, Back, Take, Put, Give, End, Stamp}
+use Rattle.pas_steps.specs.declared.step.Step.TheVariants.{Look, Deed, Back, Take, Put, Give, End, TakeRight, Offer, Park, Unpark, Stamp, Hint}
 use Rattle.pas_top.specs.declared.plan.Operation.{Operation}
 use Rattle.pas_top.specs.declared.plan.Operation.TheVariants.{Allocate, Free}
 
@@ -70,7 +70,12 @@ stamped_by (Take page word mask) pages = pages
 stamped_by (Put page word mask) pages = pages
 stamped_by (Give block) pages = pages
 stamped_by (End name guess) pages = pages
+stamped_by (TakeRight page directory) pages = pages
+stamped_by (Offer page directory) pages = pages
+stamped_by (Park page) pages = pages
+stamped_by (Unpark page) pages = pages
 stamped_by (Stamp page) pages = page ∷ pages
+stamped_by (Hint page) pages = pages
 
 abbrev pub stamps_of : List Made → List ℕ
 stamps_of [] = []

@@ -1,5 +1,5 @@
 -- What the calls of the replay say, on a desk that tells the whole state. Lists of steps are newest first.
-use Rattle.std.specs.Prelude.{ℕ, ◌+◌, ◌-◌, ◌*◌, ◌/◌, ◌%◌, ◌^◌, ◌<◌, ◌≤◌, ◌≡◌, Bool, true, false, List, [], ◌∷◌, ◌++◌, Option, Some, None, length, slice_index}
+use Rattle.std.specs.Prelude.{ℕ, ◌+◌, ◌-◌, ◌*◌, ◌/◌, ◌%◌, ◌^◌, ◌<◌, ◌≤◌, ◌≡◌, Bool, true, false, List, [], ◌∷◌, ◌++◌, Option, length, slice_index}
 use Rattle.std.specs.Option.{MatchOption}
 use Rattle.pas_profile.specs.Classes.{IsClass, has_bit, class_size, class_grains, IsSlotStart}
 use Rattle.pas_profile.specs.Directories.{deed_word_of}
@@ -7,14 +7,12 @@ use Rattle.pas_profile.specs.Profiles.{IsPage}
 use Rattle.pas_profile.specs.declared.profile.Profile.{Profile}
 use Rattle.pas_profile.specs.declared.name.Block.{Block}
 use Rattle.pas_profile.specs.declared.word.Word.{Word}
-use Rattle.pas_profile.specs.declared.word.Word.TheVariants as Word
 use Rattle.pas_profile.specs.declared.event.Event.{Event}
-use Rattle.pas_profile.specs.declared.event.Event.TheVariants as Event
 use Rattle.pas_machine.specs.Runs.{in_run, address_of, grain_of}
 use Rattle.pas_core.specs.Given.{WasGiven}
 use Rattle.pas_steps.specs.declared.step.Made.{Made}
 use Rattle.pas_steps.specs.declared.step.Step.{Step}
-use Rattle.pas_steps.specs.declared.step.Step.TheVariants.{Look, Deed, Back, Take, Put, Give, End, Stamp}
+use Rattle.pas_steps.specs.declared.step.Step.TheVariants.{Look, Deed, Back, Take, Put, Give, End, TakeRight, Offer, Park, Unpark, Stamp, Hint}
 use Rattle.pas_steps.specs.Effects.{free_word_at}
 use Rattle.pas_steps.specs.Views.{View, holds, has_right, known_deed, is_unstamped}
 use Rattle.pas_steps.specs.Events.{events_of, events_by}
@@ -42,7 +40,7 @@ IsNoDeed (Word.Backed page) = Unit {0}
 IsNoDeed (Word.Stamp page) = Unit {0}
 IsNoDeed (Word.Parked j) = Unit {0}
 IsNoDeed (Word.Empty j) = Unit {0}
-IsNoDeed (Word.Eligible d j) = Unit {0}
+IsNoDeed (Word.Eligible d j) = ⊥
 
 abbrev pub IsQuiet : Step → Type 0
 IsQuiet (Look word) = IsNoDeed word
@@ -52,7 +50,12 @@ IsQuiet (Take page word mask) = Unit {0}
 IsQuiet (Put page word mask) = Unit {0}
 IsQuiet (Give block) = ⊥
 IsQuiet (End name guess) = ⊥
+IsQuiet (TakeRight page directory) = ⊥
+IsQuiet (Offer page directory) = ⊥
+IsQuiet (Park page) = ⊥
+IsQuiet (Unpark page) = ⊥
 IsQuiet (Stamp page) = ⊥
+IsQuiet (Hint page) = ⊥
 
 abbrev pub AreQuiet : List Made → Type 0
 AreQuiet [] = Unit {0}

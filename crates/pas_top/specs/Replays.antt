@@ -6,7 +6,7 @@ use Rattle.pas_profile.specs.declared.word.Word.{Word}
 use Rattle.pas_steps.specs.Lists.{Whole, word_after}
 use Rattle.pas_steps.specs.States.{profile_of, word_in}
 use Rattle.pas_steps.specs.declared.state.State.{State}
-use Rattle.pas_plain.specs.Plain.{RegionStands, PassStands, actor_of}
+use Rattle.pas_plain.specs.Plain.{PassStands, actor_of}
 use Rattle.pas_plain.specs.Seats.{DeskStands, seat_of}
 use Rattle.pas_plain.specs.declared.desk.PlainDesk.{PlainDesk}
 use Rattle.pas_plain.specs.declared.pass.PlainPass.{PlainPass}

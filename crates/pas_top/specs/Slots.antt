@@ -1,5 +1,5 @@
 -- Slots among the four free words of a page. Grains are numbers from 0 to 255, in their page.
-use Rattle.std.specs.Prelude.{ℕ, ◌+◌, ◌/◌, ◌%◌, ◌<◌, ◌≤◌, ◌≡◌, Bool, true, false, List, slice_index}
+use Rattle.std.specs.Prelude.{ℕ, ◌/◌, ◌%◌, ◌<◌, ◌≤◌, ◌≡◌, Bool, true, false, List, slice_index}
 use Rattle.pas_profile.specs.Classes.{has_bit, class_grains, IsSlotStart}
 use Rattle.pas_machine.specs.Runs.{in_run}
 

@@ -9,5 +9,5 @@ returns-in_err-write_all-clause-front g c =
     let waiting : c.as_bytes.result.now ≡ c.args.piece.now.bytes = c.as_bytes.ensures.value ∙ c.as_str.ensures.value in
     let wrote = subst (WritesFront (g.K.Sink.held c.args.sink.now) (g.K.Sink.held c.write_all.new.sink)) waiting c.in_err-write_all.ensures.front in
     let front = λ (before : Option (List ℕ)) (text : List ℕ) (out : IsPutOut before (g.K.Sink.held c.args.sink.now) c.args.piece.now.bytes text).
-        front_out before (g.K.Sink.held c.args.sink.now) (g.K.Sink.held c.write_all.new.sink) c.args.piece.now.bytes text out wrote in
+    front_out before (g.K.Sink.held c.args.sink.now) (g.K.Sink.held c.write_all.new.sink) c.args.piece.now.bytes text out wrote in
     search (rules, front)

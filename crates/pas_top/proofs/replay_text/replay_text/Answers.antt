@@ -1,8 +1,6 @@
-use Rattle.std.proofs.Common.{rules, ◌≡◌, ◌++◌, sym, ap, ◌∙◌, subst, length}
-use Rattle.std.specs.Prelude.{All, MatchOption}
+use Rattle.std.proofs.Common.{◌≡◌, ◌++◌, sym, ap, ◌∙◌, subst}
+use Rattle.std.specs.Prelude.{All}
 use Rattle.std.specs.String.{string_bytes}
-use Rattle.pas_top.specs.Forms.{Asks}
-use Rattle.pas_top.specs.Outputs.{IsUnasked}
 use Rattle.pas_top.specs.Lines.{IsShowable, lines_of}
 use Rattle.pas_top.specs.Totals.{counted_line}
 use Rattle.pas_top.proofs.Replayed.{few_operations, shown_showable, replayed}

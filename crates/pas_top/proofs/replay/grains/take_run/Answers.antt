@@ -1,4 +1,4 @@
-use Rattle.pas_top.proofs.Taking.{can_take, can_take_more, took_one, took_two}
+use Rattle.pas_top.proofs.Taking.{can_take_more, took_one, took_two}
 use Rattle.pas_top.proofs.replay.grains.take_run.Goals as goal
 
 pub take-requires-then-low-high-clause-can : goal.take-requires-then-low-high-clause-can

@@ -1,4 +1,4 @@
-use Rattle.std.proofs.Common.{◌≡◌, ◌+◌, drop, refl, ap, sym, ◌∙◌}
+use Rattle.std.proofs.Common.{refl, sym, ◌∙◌}
 use Rattle.pas_top.specs.declared.plan.Operation.TheVariants.{Allocate, Free}
 use Rattle.pas_top.proofs.Ordering.{start, next, can_serve, can_release, no_name, after_serve, after_free}
 use Rattle.pas_top.proofs.replay.order.in_order.Goals as goal

@@ -1,4 +1,4 @@
-use Rattle.std.proofs.Common.{rules, ◌≡◌, ℕ, ◌==◌, if◌then◌else◌, ◌∷◌, ◌++◌, [], Some, sym, ◌∙◌, ap, subst}
+use Rattle.std.proofs.Common.{rules, ◌≡◌, ◌==◌, if◌then◌else◌, ◌∷◌, ◌++◌, [], Some, sym, ◌∙◌, ap, subst}
 use Rattle.std.proofs.lemmas.Result.{on_ok_weaker}
 use Rattle.pas_top.specs.Calls.{with_page, Allocates}
 use Rattle.pas_top.specs.Names.{block_named}

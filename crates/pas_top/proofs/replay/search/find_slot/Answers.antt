@@ -1,4 +1,4 @@
-use Rattle.std.proofs.Common.{◌≡◌, ◌+◌, ◌≤◌, length, sym, ◌∙◌, refl, subst, arith}
+use Rattle.std.proofs.Common.{◌≡◌, ◌+◌, length, sym, ◌∙◌, refl, subst, arith}
 use Rattle.pas_profile.specs.Profiles.{IsPage}
 use Rattle.pas_steps.proofs.Adding.{can_call}
 use Rattle.pas_top.proofs.Searching.{Sought, sought_none, sought_other, sought_full, found_on, found_none}

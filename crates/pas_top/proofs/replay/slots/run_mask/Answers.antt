@@ -1,4 +1,4 @@
-use Rattle.std.proofs.Common.{◌≡◌, ◌+◌, ◌-◌, ◌*◌, ◌^◌, ◌≤◌, min, ap, ◌∙◌, refl, arith, subst, sym}
+use Rattle.std.proofs.Common.{◌+◌, ◌-◌, ◌*◌, ◌^◌, ◌≤◌, min, ap, ◌∙◌, refl, arith}
 use Rattle.pas_top.proofs.Slotting.{mask_is, cut_le, ones_le}
 use Rattle.pas_top.proofs.replay.slots.run_mask.Goals as goal
 
