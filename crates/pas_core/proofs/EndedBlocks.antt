@@ -1,9 +1,9 @@
 -- The pages of a block that an actor ended: they have deeds, all of one heap, and lie in the region.
-use Rattle.std.proofs.Common.{◌≡◌, ◌≢◌, ℕ, ◌+◌, ◌*◌, ◌/◌, ◌%◌, ◌^◌, ◌<◌, ◌≤◌, ◌==◌, Bool, true, false, ◌&&◌, ◌∷◌, Option, Some, None, refl, ap, sym, ◌∙◌, subst, arith, inl, inr}
+use Rattle.std.proofs.Common.{◌≡◌, ◌≢◌, ℕ, ◌+◌, ◌*◌, ◌/◌, ◌^◌, ◌<◌, ◌≤◌, ◌==◌, Bool, true, false, ◌&&◌, ◌∷◌, Option, Some, None, refl, ap, sym, ◌∙◌, subst, arith, inl, inr}
 use Rattle.std.proofs.lemmas.Bool.{false≢true, eqb-true, and_parts, cases_lt}
 use Rattle.std.proofs.lemmas.Bool.Decides.{nat_tests}
-use Rattle.pas_profile.specs.Directories.{deed_word_of, IsKind, kind_number}
-use Rattle.pas_profile.specs.Lives.{live_word, is_live, turn_of, grains_of}
+use Rattle.pas_profile.specs.Directories.{deed_word_of, kind_number}
+use Rattle.pas_profile.specs.Lives.{live_word}
 use Rattle.pas_profile.specs.Profiles.{IsValid, IsDirectoryOf}
 use Rattle.pas_profile.specs.declared.profile.Profile.{Profile}
 use Rattle.pas_profile.specs.declared.directory.Directory.{Directory}
@@ -11,16 +11,16 @@ use Rattle.pas_profile.specs.declared.name.Name.{Name}
 use Rattle.pas_profile.specs.declared.word.Word.{Word}
 use Rattle.pas_profile.proofs.Codecs.{kind_number_lt}
 use Rattle.pas_machine.specs.Runs.{in_run, meets_page, address_of, grain_of, length_of}
-use Rattle.pas_machine.specs.State.{Live, deed_in, live_in, gives_in, ends_in}
+use Rattle.pas_machine.specs.State.{Live, live_in, gives_in, ends_in}
 use Rattle.pas_machine.specs.Machine.{Bears}
 use Rattle.pas_steps.specs.Effects.{life_word_at, target}
-use Rattle.pas_steps.specs.Views.{View, ends_on, EndedOn, EndedOnBoth}
+use Rattle.pas_steps.specs.Views.{ends_on, EndedOn, EndedOnBoth}
 use Rattle.pas_steps.specs.Allowed.{IsStepOf}
 use Rattle.pas_steps.specs.Agreement.{heap_recorded}
 use Rattle.pas_steps.specs.Lists.{Triple, Whole, part, word_after, visible, IsNext, Legal}
 use Rattle.pas_steps.specs.declared.step.Step.{Step}
 use Rattle.pas_steps.specs.declared.step.Step.TheVariants.{Look, Deed, Back, Take, Put, Give, End, TakeRight, Offer, Park, Unpark, Stamp, Hint}
-use Rattle.pas_core.specs.Good.{word_of_deed, IsLifeOf, IsLifeOfLive}
+use Rattle.pas_core.specs.Good.{word_of_deed, IsLifeOf}
 use Rattle.pas_core.proofs.DeedWords.{deed_word_ne, deed_kept}
 use Rattle.pas_core.proofs.Deeds.{deed_of, directory_is_of}
 use Rattle.pas_core.proofs.MachineRuns.{life_at}

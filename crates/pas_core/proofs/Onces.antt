@@ -1,6 +1,5 @@
 -- What a step of an actor told once is so for good, where every later step keeps it.
 use Rattle.std.proofs.Common.{◌≡◌, ℕ, ◌==◌, Bool, true, false, if◌then◌else◌, List, [], ◌∷◌, inl, inr, refl}
-use Rattle.std.proofs.lemmas.Bool.{eqb-true}
 use Rattle.pas_profile.specs.declared.profile.Profile.{Profile}
 use Rattle.pas_steps.specs.Past.{Once}
 use Rattle.pas_steps.specs.Views.{View}

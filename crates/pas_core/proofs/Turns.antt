@@ -9,7 +9,7 @@ use Rattle.pas_machine.specs.Totals.{sum_below}
 use Rattle.pas_steps.specs.Effects.{life_word_at}
 use Rattle.pas_steps.specs.Views.{View, epoch_of, given_after, given_count}
 use Rattle.pas_steps.specs.Allowed.{Allowed}
-use Rattle.pas_steps.specs.Lists.{Triple, Whole, part, word_after, visible, IsNext, Legal}
+use Rattle.pas_steps.specs.Lists.{Whole, part, word_after, visible, IsNext, Legal}
 use Rattle.pas_steps.specs.declared.step.Made.{Made}
 use Rattle.pas_steps.specs.declared.step.Step.{Step}
 use Rattle.pas_steps.specs.declared.step.Step.TheVariants.{Look, Deed, Back, Take, Put, Give, End, TakeRight, Offer, Park, Unpark, Stamp, Hint}

@@ -1,7 +1,7 @@
 -- What an actor read once of a page or a block is so for good: a page that was backed has a deed, and a block that lived has its length.
-use Rattle.std.proofs.Common.{◌≡◌, ◌≢◌, ℕ, ◌+◌, ◌*◌, ◌/◌, ◌%◌, ◌^◌, ◌<◌, ◌≤◌, ◌==◌, Bool, true, false, if◌then◌else◌, List, [], ◌∷◌, Option, Some, None, refl, ap, sym, ◌∙◌, subst, arith}
+use Rattle.std.proofs.Common.{◌≡◌, ◌≢◌, ℕ, ◌*◌, ◌^◌, ◌<◌, ◌≤◌, ◌==◌, Bool, true, false, if◌then◌else◌, List, [], ◌∷◌, Option, Some, None, refl, ap, sym, ◌∙◌, subst, arith}
 use Rattle.std.proofs.lemmas.Bool.{false≢true, eqb-true, leb-true}
-use Rattle.pas_profile.specs.Lives.{live_word, is_live, turn_of, grains_of}
+use Rattle.pas_profile.specs.Lives.{is_live, turn_of, grains_of}
 use Rattle.pas_profile.specs.Profiles.{IsValid}
 use Rattle.pas_profile.specs.declared.profile.Profile.{Profile}
 use Rattle.pas_profile.specs.declared.directory.Directory.{Directory}
@@ -12,10 +12,9 @@ use Rattle.pas_machine.specs.Runs.{address_of, grain_of, length_of}
 use Rattle.pas_machine.specs.State.{Live, deed_in, backed_in, live_in, gives_in, ends_in}
 use Rattle.pas_machine.specs.Machine.{Run}
 use Rattle.pas_steps.specs.Effects.{life_word_at, target}
-use Rattle.pas_steps.specs.Views.{View, epoch_of, reads_life, IsLiveRead, ReadLive, is_backed_word, reads_backed, ReadBacked}
+use Rattle.pas_steps.specs.Views.{epoch_of, reads_life, IsLiveRead, ReadLive, reads_backed, ReadBacked}
 use Rattle.pas_steps.specs.Events.{event_of, with_event}
-use Rattle.pas_steps.specs.Lists.{Triple, Whole, part, word_after, visible, IsNext, Legal}
-use Rattle.pas_steps.specs.declared.step.Made.{Made}
+use Rattle.pas_steps.specs.Lists.{Whole, part, word_after, visible, IsNext, Legal}
 use Rattle.pas_steps.specs.declared.step.Step.{Step}
 use Rattle.pas_steps.specs.declared.step.Step.TheVariants.{Look, Deed, Back, Take, Put, Give, End, TakeRight, Offer, Park, Unpark, Stamp, Hint}
 use Rattle.pas_core.specs.Good.{word_of_deed, word_of_backed, IsLifeOf}

@@ -9,9 +9,11 @@ ghost use Rattle.pas_steps.specs.Views.{has_right, known_deed, known_free, knows
 ghost use Rattle.pas_steps.specs.Lists.{Triple, Whole, part, word_after, IsNext, Legal};
 ghost use Rattle.pas_steps.specs.Agreement.{Agrees};
 
-/// The answer of a step that may come next agrees with what its actor holds, has and knows: a word that is known is read again, a
-/// grain that is held isn't free and no block lives at it, a page whose right the actor has is neither offered nor parked, a page
-/// that is offered has the deed of that directory, and each word has only values of its kind.
+/// The answer of a step that may come next agrees with what its actor holds, has, knows and did: a word that is known is read again, a
+/// grain that is held isn't free and no block lives at it, a page whose right the actor has is neither offered nor parked, and a page
+/// that is offered has the deed of that directory. A page that the actor once read as backed has a deed, and so has each page of a block
+/// that it ended, which lay in the region on pages of one heap. A block that it once read as live, and that still lives, has the length
+/// that it had then. Turns are below 2^37, epochs and stamps below 2^40, and each word has only values of its kind.
 pub fn answers_agree()
     ensures { (f : Profile) (l : Whole) → IsValid f → Legal f l → (t : Triple) → IsNext f l t → Agrees f (part t.actor l) t.made.step t.made.answer }
 {}

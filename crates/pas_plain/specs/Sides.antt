@@ -1,5 +1,4 @@
 -- What a desk stands for that tells of one side only.
-use Rattle.pas_steps.specs.Views.{View}
 use Rattle.pas_steps.specs.Lists.{Whole}
 use Rattle.pas_steps.specs.Desks.{Standing}
 

@@ -2,12 +2,13 @@ ghost use Rattle.std.specs.Prelude.{◌≡◌, IfOk, []};
 ghost use Rattle.pas_steps.specs.Lists.{Whole};
 ghost use Rattle.pas_steps.specs.States.{profile_of as the_profile_of};
 ghost use Rattle.pas_steps.specs.Views.{View};
+ghost use Rattle.pas_steps.specs.Desks.{CanMake};
 ghost use Rattle.pas_plain.specs.Plain.{profile_of, room_of_pass};
 ghost use Rattle.pas_plain.specs.Seats.{DeskStands, region_of, pass_of};
 
 use crate::*;
 use pas_profile::*;
-use pas_steps::{Desk, State};
+use pas_steps::{Desk, State, Step};
 use std::alloc::{AllocError, Global};
 use std::test::Fail;
 
@@ -127,5 +128,26 @@ fn a_block_lives_and_ends(rt: HostRuntime) -> Result<(), Fail> {
         values(&state),
         [0, u64::MAX - 1, u64::MAX, 1, 65536, 1, u64::MAX, 0]
     );
+    Ok(())
+}
+
+/// A step at any desk.
+fn epoch_at<D: Desk>(desk: &mut D) -> u64
+    requires { CanMake (D.standing desk.old) (Step.Look Word.Epoch) }
+    ensures { CanMake (D.standing desk.new) (Step.Look Word.Epoch) }
+{
+    desk.look(Word::Epoch)
+}
+
+#[test]
+fn a_closed_desk_steps(rt: HostRuntime) -> Result<(), Fail> {
+    let mut closed = Closed::new(seated(rt.alloc())?);
+    assert_eq!(rt; epoch_at(&mut closed), 0);
+    assert_eq!(rt; epoch_at(&mut closed), 0);
+    assert_eq!(rt; closed.count(), 2);
+    assert_eq!(rt; closed.actor(), 1);
+    assert_eq!(rt; *closed.profile(), PROFILE);
+    let desk = closed.into_inner();
+    assert_eq!(rt; desk.count(), 2);
     Ok(())
 }

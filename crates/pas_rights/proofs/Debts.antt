@@ -1,25 +1,24 @@
 -- What is owed on a page after the steps of these calls, and whether the right is the actor's.
-use Rattle.std.proofs.Common.{◌≡◌, ◌≢◌, ℕ, ◌+◌, ◌-◌, ◌*◌, ◌/◌, ◌%◌, ◌^◌, ◌<◌, ◌≤◌, ◌==◌, suc, Bool, true, false, not, ◌&&◌, ◌||◌, if◌then◌else◌, ◌⊎◌, inl, inr, List, [], ◌∷◌, ◌++◌, length, refl, ap, sym, ◌∙◌, subst, arith, append_assoc, true≢false, nat_lt}
+use Rattle.std.proofs.Common.{◌≡◌, ◌≢◌, ℕ, ◌+◌, ◌*◌, ◌/◌, ◌%◌, ◌<◌, ◌≤◌, ◌==◌, Bool, true, false, not, ◌&&◌, ◌||◌, if◌then◌else◌, inl, inr, List, [], ◌∷◌, ◌++◌, length, refl, ap, sym, ◌∙◌, subst, arith, append_assoc, true≢false}
 use Rattle.std.proofs.lemmas.Bool.{eq-eqb, ne_eqb, cases_Bool, cases_lt, lt-ltb}
 use Rattle.pas_profile.specs.Classes.{has_bit, usable_grains}
 use Rattle.pas_profile.specs.Directories.{IsDirectory, deed_word_of, directory_read}
 use Rattle.pas_profile.specs.declared.directory.Directory.{Directory}
 use Rattle.pas_profile.specs.declared.directory.Kind.{Kind}
-use Rattle.pas_profile.specs.declared.directory.Kind.TheVariants as Kind
 use Rattle.pas_profile.specs.declared.profile.Profile.{Profile}
 use Rattle.pas_profile.specs.declared.word.Word.TheVariants as Word
 use Rattle.pas_profile.specs.Directories.{IsKind}
 use Rattle.pas_profile.proofs.Codecs.{deed_word_of-positive, read-deed_word_of}
 use Rattle.pas_profile.proofs.ClassFacts.{usable_grains_ge}
-use Rattle.pas_steps.specs.Views.{View, has_right, known_deed, usable_by, usable_by_kind, all_below, no_usable, all_ones, owes_check, owes_hint}
+use Rattle.pas_steps.specs.Views.{View, has_right, known_deed, usable_by, usable_by_kind, no_usable, all_ones, owes_check, owes_hint}
 use Rattle.pas_steps.specs.Agreement.{Agreed}
 use Rattle.pas_steps.specs.Desks.{made}
 use Rattle.pas_steps.specs.declared.step.Made.{Made}
-use Rattle.pas_steps.specs.declared.step.Step.TheVariants.{Look, TakeRight, Offer, Park, Unpark, Hint}
+use Rattle.pas_steps.specs.declared.step.Step.TheVariants.{Look, Offer, Park, Unpark}
 use Rattle.pas_steps.proofs.Adding.{agreed_first, agreed_later}
-use Rattle.pas_rights.specs.Rights.{KnowsDeed, MayLeave, looks, any_usable, are_all_ones, ShowsUsed, LookedUntilUsed, HintSteps, HintsWhere, ReofferSteps, ReoffersWhere, OfferSteps, ParkSteps, EndsLeave, LeaveSteps, ReturnSteps, OwesNothing}
+use Rattle.pas_rights.specs.Rights.{looks, any_usable, are_all_ones, LookedUntilUsed, HintSteps, HintsWhere, ReofferSteps, ReoffersWhere, EndsLeave, LeaveSteps, ReturnSteps, OwesNothing}
 use Rattle.pas_rights.proofs.Looks.{below_at, full_bit}
-use Rattle.pas_rights.proofs.Orders.{right_looks, deed_looks, same_page, ends, gets, gets_none, offered_on, parked_on, left_on, returned_on}
+use Rattle.pas_rights.proofs.Orders.{right_looks, deed_looks, same_page, ends, gets_none, offered_on, parked_on, left_on, returned_on}
 
 -- ---- what an ending keeps
 kept_none : (t owed : Bool) → owed ≡ false → (if t then false else owed) ≡ false

@@ -1,15 +1,13 @@
 -- The promises of the calls, put together from those of their parts.
-use Rattle.std.proofs.Common.{◌≡◌, ℕ, Bool, true, false, List, [], ◌∷◌, ◌++◌, refl, ap, sym, ◌∙◌, subst, append_assoc}
-use Rattle.pas_profile.specs.Directories.{IsDirectory, deed_word_of}
+use Rattle.std.proofs.Common.{ℕ, Bool, List, [], ◌∷◌, ◌++◌, refl, ap, ◌∙◌, subst, append_assoc}
+use Rattle.pas_profile.specs.Directories.{IsDirectory}
 use Rattle.pas_profile.specs.declared.directory.Directory.{Directory}
-use Rattle.pas_steps.specs.Views.{View, has_right, known_deed}
-use Rattle.pas_steps.specs.Lists.{Whole}
-use Rattle.pas_steps.specs.Agreement.{Agreed}
-use Rattle.pas_steps.specs.Desks.{Anything, Standing, Adds, made, triples}
+use Rattle.pas_steps.specs.Views.{View, known_deed}
+use Rattle.pas_steps.specs.Desks.{Anything, Standing, Adds, made}
 use Rattle.pas_steps.specs.declared.step.Made.{Made}
 use Rattle.pas_steps.specs.declared.step.Step.TheVariants.{Park}
 use Rattle.pas_steps.proofs.Adding.{adds_call, adds_under}
-use Rattle.pas_rights.specs.Rights.{KnowsDeed, MayLeave, looks, any_usable, are_all_ones, Sees, SeesUntilUsed, EndsLeave, OfferSteps, ParkSteps, LeaveSteps, HintsWhere, ReoffersWhere, ReofferSteps, ReoffersPage, ParksPage, ReturnSteps, Leaves, Returned}
+use Rattle.pas_rights.specs.Rights.{KnowsDeed, MayLeave, looks, any_usable, are_all_ones, Sees, SeesUntilUsed, EndsLeave, LeaveSteps, HintsWhere, ReoffersPage, ReturnSteps, Leaves, Returned}
 use Rattle.pas_rights.proofs.Orders.{right_looks, deed_looks, leave_returns, leave_loses, return_returns}
 use Rattle.pas_rights.proofs.Debts.{leave_owes, leave_lacks, return_owes, return_right}
 

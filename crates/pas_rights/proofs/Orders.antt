@@ -1,19 +1,17 @@
 -- What each step of these calls asks, and how their steps stand in order.
-use Rattle.std.proofs.Common.{◌≡◌, ◌≢◌, ℕ, ◌+◌, ◌/◌, ◌%◌, ◌^◌, ◌<◌, ◌==◌, Bool, true, false, ◌&&◌, if◌then◌else◌, ◌⊎◌, inl, inr, List, [], ◌∷◌, ◌++◌, length, refl, ap, sym, ◌∙◌, subst, arith, append_assoc}
+use Rattle.std.proofs.Common.{◌≡◌, ◌≢◌, ℕ, ◌%◌, ◌==◌, Bool, true, false, ◌&&◌, if◌then◌else◌, inl, inr, List, [], ◌∷◌, ◌++◌, length, refl, ap, sym, ◌∙◌, subst, append_assoc}
 use Rattle.std.proofs.lemmas.Bool.{eq-eqb}
 use Rattle.pas_profile.specs.Classes.{has_bit}
-use Rattle.pas_profile.specs.Directories.{deed_word_of}
 use Rattle.pas_profile.specs.declared.directory.Directory.{Directory}
-use Rattle.pas_profile.specs.declared.word.Word.TheVariants as Word
 use Rattle.pas_profile.proofs.Codecs.{deed_word_of-positive}
 use Rattle.pas_steps.specs.Views.{View, has_right, known_deed}
-use Rattle.pas_steps.specs.Past.{Once, Always}
+use Rattle.pas_steps.specs.Past.{Once}
 use Rattle.pas_steps.specs.Frames.{IsReturn, GivesUp, AreLooks, OnlyReturns}
 use Rattle.pas_steps.specs.Desks.{made}
 use Rattle.pas_steps.specs.declared.step.Made.{Made}
-use Rattle.pas_steps.specs.declared.step.Step.TheVariants.{Look, TakeRight, Offer, Park, Unpark, Hint}
+use Rattle.pas_steps.specs.declared.step.Step.TheVariants.{Offer, Park}
 use Rattle.pas_steps.proofs.Past.{once_later, always_both}
-use Rattle.pas_rights.specs.Rights.{KnowsDeed, looks, any_usable, are_all_ones, HintSteps, HintsWhere, ReofferSteps, ReoffersWhere, OfferSteps, ParkSteps, EndsLeave, LeaveSteps, ReturnSteps, LosesHere}
+use Rattle.pas_rights.specs.Rights.{KnowsDeed, looks, any_usable, are_all_ones, HintsWhere, ReofferSteps, ReoffersWhere, OfferSteps, ParkSteps, EndsLeave, LeaveSteps, ReturnSteps, LosesHere}
 
 -- ---- what looks at the free words keep
 pub right_looks : (p q : ℕ) (answers : List ℕ) (v : View) → has_right (looks p answers ++ v) q ≡ has_right v q

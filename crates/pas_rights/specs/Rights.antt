@@ -5,7 +5,6 @@ use Rattle.pas_profile.specs.Directories.{deed_word_of}
 use Rattle.pas_profile.specs.declared.directory.Directory.{Directory}
 use Rattle.pas_profile.specs.declared.word.Word.TheVariants as Word
 use Rattle.pas_steps.specs.Views.{View, has_right, known_deed, no_usable, all_ones, owes_check, owes_hint}
-use Rattle.pas_steps.specs.Lists.{Whole}
 use Rattle.pas_steps.specs.Agreement.{Agreed}
 use Rattle.pas_steps.specs.Past.{Once}
 use Rattle.pas_steps.specs.Frames.{AreLooks, OnlyReturns, GivesUp}

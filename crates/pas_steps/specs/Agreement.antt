@@ -1,4 +1,5 @@
--- What the answer of a step promises to its actor beside being the word's old value: it agrees with what the view holds and knows.
+-- What the answer of a step promises to its actor beside being the word's old value: it agrees with what the view holds, has and knows, and
+-- with what its actor read and ended before.
 -- One definition by cases, kind by kind and word by word.
 use Rattle.std.specs.Prelude.{ℕ, ◌+◌, ◌*◌, ◌/◌, ◌%◌, ◌^◌, ◌<◌, ◌≤◌, ◌≡◌, ◌≢◌, Bool, true, false, List, [], ◌∷◌, ◌++◌, Option, None, Some}
 use Rattle.pas_profile.specs.Classes.{has_bit}

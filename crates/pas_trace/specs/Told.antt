@@ -1,5 +1,5 @@
 -- What the reader keeps of the lines that it has read.
-use Rattle.std.specs.Prelude.{ℕ, ◌+◌, ◌*◌, ◌^◌, ◌==◌, ◌≡◌, ◌≤◌, ◌<◌, nat_lt, nat_le, Bool, true, not, ◌&&◌, ◌||◌, List, [], ◌∷◌, ◌++◌, map, length, None, Some, Result, Ok, Err, slice_index, slice_index_or, slice_set}
+use Rattle.std.specs.Prelude.{if◌then◌else◌, ℕ, ◌+◌, ◌*◌, ◌^◌, ◌==◌, ◌≡◌, ◌≤◌, ◌<◌, nat_lt, nat_le, Bool, true, not, ◌&&◌, ◌||◌, List, [], ◌∷◌, ◌++◌, map, length, None, Some, Result, Ok, Err, slice_index, slice_index_or, slice_set}
 use Rattle.pas_profile.specs.declared.profile.Profile.{Profile}
 use Rattle.pas_trace.specs.Reasons.{first_failed, is_thread, is_alignment, cost_of, started, operations_in, is_named, is_named_now, thread_of, record_bound, line_says, reason_of}
 use Rattle.pas_trace.specs.declared.fault.Reason.{Reason}
@@ -10,6 +10,7 @@ use Rattle.pas_trace.specs.Texts.{lines_of}
 use Rattle.pas_trace.specs.Plans.{ops_of, phases_of, bounds_of, phases_in, shared_in, line_of_newest, own_costs, bounds_upto, add_last, operation, fault_at, items_from}
 use Rattle.pas_trace.specs.declared.plan.Op.{Op}
 use Rattle.pas_trace.specs.declared.plan.What.{What}
+use Rattle.pas_trace.specs.declared.plan.What.TheVariants.{Alloc}
 use Rattle.pas_trace.specs.declared.plan.Plan.{Plan}
 use Rattle.pas_trace.specs.declared.fault.ReadFault.{ReadFault}
 use Rattle.pas_trace.specs.declared.fault.ReadFault.TheVariants.{Trace, NoMemory}
@@ -116,6 +117,12 @@ pub record IsOperated (old new : Reader) (actor : ℕ) (what : What) (cost : ℕ
   pub bound : new.counts.bound ≡ old.counts.bound + cost
   pub costs : new.counts.costs ≡ slice_set old.counts.costs actor (slice_index old.counts.costs actor + cost)
   pub phases : gathered_phases new.gathered ≡ add_last (Some (operation old.line actor what)) (gathered_phases old.gathered)
+
+-- an allocation was added, and its name given to the thread
+pub record IsAllocated (old new : Reader) (thread name heap size align cost : ℕ) : Type 0 where
+  pub names : Names
+  pub given : (n : ℕ) → owner_in names n ≡ (if n == name then record { thread = thread; phase = old.phase } else owner_in old.names n)
+  pub operated : IsOperated (record old { names = names }) new thread (Alloc name heap size align) cost
 
 -- the next phase was begun
 pub record IsNextPhase (old new : Reader) : Type 0 where

@@ -2,8 +2,8 @@
 ghost use Rattle.std.specs.Prelude.{◌≡◌, ◌<◌, ◌≤◌, ◌+◌, ◌∷◌, ◌^◌, [], ℕ, List, Some, None, Ok, Err, OnOk, IfOk, MatchResult, length, slice_index};
 ghost use Rattle.pas_trace.specs.Reasons.{line_says, reason_of, cost_of, started};
 ghost use Rattle.pas_trace.specs.Items.{item_of_line};
-ghost use Rattle.pas_trace.specs.Plans.{IsReading, bounds_of, bounds_upto};
-ghost use Rattle.pas_trace.specs.Told.{IsHeader, IsRanged, Tells, IsOperated, IsNextPhase, IsAdded, IsTaken, IsRead, IsPlanned, told_checks};
+ghost use Rattle.pas_trace.specs.Plans.{IsReading, bounds_of, bounds_upto, name_at};
+ghost use Rattle.pas_trace.specs.Told.{IsHeader, IsRanged, Tells, IsOperated, IsAllocated, IsNextPhase, IsAdded, IsTaken, IsRead, IsPlanned, told_checks};
 ghost use Rattle.pas_trace.specs.declared.item.Item.{Item};
 
 use crate::counts::Counts;
@@ -71,6 +71,49 @@ impl Reader {
         self.gathered.add(Op { line, actor, what })
     }
 
+    /// Adds an allocation of the line, and gives its name to the thread.
+    #[inline]
+    fn allocate(
+        &mut self,
+        thread: u8,
+        name: u64,
+        heap: u8,
+        size: u32,
+        align: u32,
+        cost: u32,
+    ) -> Result<(), AllocError>
+        requires name { name ≤ 1000000 }
+        requires actor { thread < 17 }
+        requires few { self.old.counts.operations < 1000000 }
+        requires small { self.old.counts.bound + cost ≤ 2000000 }
+        requires within { slice_index self.old.counts.costs thread ≤ self.old.counts.bound }
+        ensures { OnOk result (IsAllocated self.old self.new thread name heap size align cost) }
+    {
+        let phase = self.phase;
+        self.names.give(name, Owner { thread, phase })?;
+        let name = name as u32;
+        let what = What::Alloc {
+            name,
+            heap,
+            size,
+            align,
+        };
+        self.operate(thread, what, cost)
+    }
+
+    /// Adds a free by address and turn.
+    fn free_raw(&mut self, thread: u8, address: u32, turn: u64, cost: u32) -> Result<(), AllocError>
+        requires actor { thread < 17 }
+        requires few { self.old.counts.operations < 1000000 }
+        requires small { self.old.counts.bound + cost ≤ 2000000 }
+        requires within { slice_index self.old.counts.costs thread ≤ self.old.counts.bound }
+        ensures { OnOk result (IsOperated self.old self.new thread (What.Raw (name_at address turn)) cost) }
+    {
+        let address = Address(address);
+        let block = Name { address, turn };
+        self.operate(thread, What::Raw { block }, cost)
+    }
+
     /// Begins the next phase.
     fn next_phase(&mut self) -> Result<(), AllocError>
         requires { self.old.phase < 2 ^ 25 }
@@ -105,20 +148,14 @@ impl Reader {
                 heap,
                 size,
                 align,
-            } => {
-                let owner = Owner {
-                    thread: thread as u8,
-                    phase: self.phase,
-                };
-                self.names.give(name, owner)?;
-                let what = What::Alloc {
-                    name: name as u32,
-                    heap: heap as u8,
-                    size: size as u32,
-                    align: align as u32,
-                };
-                self.operate(thread as u8, what, cost)
-            }
+            } => self.allocate(
+                thread as u8,
+                name,
+                heap as u8,
+                size as u32,
+                align as u32,
+                cost,
+            ),
             Item::Frees { thread, name } => {
                 self.operate(thread as u8, What::Free { name: name as u32 }, cost)
             }
@@ -126,13 +163,7 @@ impl Reader {
                 thread,
                 address,
                 turn,
-            } => {
-                let block = Name {
-                    address: Address(address as u32),
-                    turn,
-                };
-                self.operate(thread as u8, What::Raw { block }, cost)
-            }
+            } => self.free_raw(thread as u8, address as u32, turn, cost),
             Item::Flushes(thread) => self.operate(thread as u8, What::Flush, cost),
             Item::Stops(thread) => self.operate(thread as u8, What::Stop, cost),
             Item::Ticks(epoch) => self.operate(0, What::Tick(epoch), cost),

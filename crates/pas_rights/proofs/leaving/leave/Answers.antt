@@ -1,4 +1,4 @@
-use Rattle.std.proofs.Common.{◌≡◌, ℕ, Bool, true, false, ◌++◌, sym, subst}
+use Rattle.std.proofs.Common.{sym, subst}
 use Rattle.pas_profile.proofs.Codecs.{directory_from_profile}
 use Rattle.pas_steps.proofs.Adding.{adds_under, can_call}
 use Rattle.pas_rights.specs.Rights.{EndsLeave}

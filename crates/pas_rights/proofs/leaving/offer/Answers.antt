@@ -1,4 +1,4 @@
-use Rattle.std.proofs.Common.{◌≡◌, ℕ, Bool, true, false, [], ◌∷◌, ◌++◌, refl, sym, subst}
+use Rattle.std.proofs.Common.{[], ◌∷◌, ◌++◌, refl, sym, subst}
 use Rattle.pas_steps.specs.declared.step.Step.TheVariants.{Offer}
 use Rattle.pas_steps.specs.Desks.{made}
 use Rattle.pas_steps.proofs.Adding.{adds_none, adds_step, adds_call}

@@ -1,7 +1,6 @@
-use Rattle.std.proofs.Common.{◌≡◌, ℕ, List, [], ◌∷◌, refl, ap, inl, inr}
+use Rattle.std.proofs.Common.{[], ◌∷◌, refl, ap, inl, inr}
 use Rattle.pas_profile.specs.declared.word.Word.TheVariants as Word
 use Rattle.pas_steps.specs.declared.step.Step.TheVariants.{Look, Hint}
-use Rattle.pas_steps.specs.declared.step.Made.{Made}
 use Rattle.pas_steps.specs.Desks.{made}
 use Rattle.pas_steps.proofs.Adding.{adds_none, adds_step}
 use Rattle.pas_rights.proofs.looking.hint_backed.Goals as goal

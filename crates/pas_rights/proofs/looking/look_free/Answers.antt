@@ -1,8 +1,6 @@
-use Rattle.std.proofs.Common.{◌≡◌, ◌==◌, ◌<◌, ◌/◌, ◌%◌, ◌+◌, ◌-◌, ◌*◌, ◌^◌, ◌≤◌, ◌&&◌, ◌||◌, not, ℕ, bit_and, slice_index, length, List, [], ◌∷◌, refl, ap, sym, ◌∙◌, arith}
+use Rattle.std.proofs.Common.{slice_index, length, ◌∷◌, ◌∙◌, arith}
 use Rattle.std.proofs.lemmas.Nat.{and_le_l}
 use Rattle.pas_profile.proofs.Codecs.{directory_from_profile}
-use Rattle.pas_steps.specs.Desks.{Anything}
-use Rattle.pas_rights.specs.Rights.{looks, any_usable, are_all_ones}
 use Rattle.pas_steps.proofs.Adding.{can_step}
 use Rattle.pas_rights.proofs.Looks.{more_looks, usable_test, usable_more, free_more, word_bits}
 use Rattle.pas_rights.proofs.looking.look_free.Goals as goal

@@ -1,4 +1,4 @@
-use Rattle.std.proofs.Common.{◌≡◌, ℕ, ◌%◌, [], ◌∷◌, refl, inl, inr}
+use Rattle.std.proofs.Common.{◌%◌, [], ◌∷◌, refl, inl, inr}
 use Rattle.pas_steps.specs.Views.{has_right}
 use Rattle.pas_steps.specs.declared.step.Step.TheVariants.{Offer, Unpark}
 use Rattle.pas_steps.specs.Desks.{made}

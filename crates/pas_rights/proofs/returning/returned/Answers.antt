@@ -1,4 +1,4 @@
-use Rattle.std.proofs.Common.{◌≡◌, ℕ, Bool, true, false, [], refl, sym, subst}
+use Rattle.std.proofs.Common.{[], refl, sym, subst}
 use Rattle.pas_steps.proofs.Adding.{adds_none}
 use Rattle.pas_rights.specs.Rights.{HintsWhere}
 use Rattle.pas_rights.proofs.Ends.{returned_by}

@@ -1,5 +1,3 @@
-use Rattle.std.proofs.Common.{◌≡◌, ◌==◌, ◌&&◌, ◌||◌, ◌%◌, ◌*◌, ◌^◌, ℕ, Bool, true, false, ap, ◌∙◌, sym, bit_or}
-use Rattle.pas_profile.specs.Classes.{has_bit}
 use Rattle.pas_scan.proofs.PageBits.{bit_with}
 use Rattle.pas_scan.proofs.bits.with_page.Goals as goal
 

@@ -6,18 +6,18 @@ use Rattle.pas_trace.specs.declared.item.Item.{Item}
 use Rattle.pas_trace.proofs.Telling.{within-item, added, names-taken, is-allocates}
 use Rattle.pas_trace.proofs.reader.Reader.add.Goals as goal
 
-pub operate-requires-clause-within : goal.operate-requires-clause-within
-operate-requires-clause-within c =
+pub allocate-requires-clause-within : goal.allocate-requires-clause-within
+allocate-requires-clause-within c =
     let p = c.requires.tells in
     within-item c.args.self.now p.0 c.args.item c.in-Allocates.thread p.1 p.2 (ap actor_of c.in-Allocates.is)
 
-pub operate-requires-in-Frees-clause-within : goal.operate-requires-in-Frees-clause-within
-operate-requires-in-Frees-clause-within c =
+pub operate-requires-clause-within : goal.operate-requires-clause-within
+operate-requires-clause-within c =
     let p = c.requires.tells in
     within-item c.args.self.now p.0 c.args.item c.in-Frees.thread p.1 p.2 (ap actor_of c.in-Frees.is)
 
-pub operate-requires-in-FreesRaw-clause-within : goal.operate-requires-in-FreesRaw-clause-within
-operate-requires-in-FreesRaw-clause-within c =
+pub free_raw-requires-clause-within : goal.free_raw-requires-clause-within
+free_raw-requires-clause-within c =
     let p = c.requires.tells in
     within-item c.args.self.now p.0 c.args.item c.in-FreesRaw.thread p.1 p.2 (ap actor_of c.in-FreesRaw.is)
 
@@ -46,11 +46,11 @@ operate-requires-in-Idles-clause-within c =
     let p = c.requires.tells in
     within-item c.args.self.now p.0 c.args.item 0 p.1 p.2 (ap actor_of c.in-Idles.is)
 
-pub returns-in_ok-give-in-Allocates : goal.returns-in_ok-give-in-Allocates
-returns-in_ok-give-in-Allocates c =
+pub returns-in-Allocates : goal.returns-in-Allocates
+returns-in-Allocates c =
     let r = c.args.self.now in
     let a = c.in-Allocates in
     let cost = sym (c.requires.cost ∙ ap (λ (i : Item). cost_of r.header i) a.is) in
-    on_ok_weaker c.operate.result (λ h. subst (λ (i : Item). IsAdded r c.operate.new.self i) (sym a.is)
-    (added r c.operate.new.self c.give.new.self _ a.thread _ c.args.cost (is-allocates r.header a.thread a.name a.heap a.size a.align c.args.cost cost)
-    (names-taken r c.give.new.self a.thread a.name a.heap a.size a.align c.in_ok-give-in-Allocates.ensures) h)) c.operate.ensures
+    on_ok_weaker c.allocate.result (λ h. subst (λ (i : Item). IsAdded r c.allocate.new.self i) (sym a.is)
+    (added r c.allocate.new.self h.names _ a.thread _ c.args.cost (is-allocates r.header a.thread a.name a.heap a.size a.align c.args.cost cost)
+    (names-taken r h.names a.thread a.name a.heap a.size a.align h.given) h.operated)) c.allocate.ensures

@@ -1,0 +1,57 @@
+-- What several reads or writes in a row do to the bytes that are told.
+use Rattle.std.proofs.Common.{◌≡◌, ℕ, ◌+◌, ◌≤◌, List, [], ◌++◌, Option, None, Some, take, drop, length, refl, ap, sym, ◌∙◌, subst, append_assoc, append-nil, arith, length-take, length-append}
+use Rattle.std.proofs.lemmas.List.{take-append-le, take-append-drop, take_all}
+use Rattle.std.proofs.Math.Seq.{take-add, take-append-add}
+use borrow.Rule.Slice.PartMut.{put_mid, post_of}
+use Rattle.pas_top.specs.Told.{Fills, Moves, MovesTold, Writes, WritesFront}
+
+-- writes: none, one after another, and a first part
+pub writes_none : (held : Option (List ℕ)) → Writes held held []
+writes_none None = refl
+writes_none (Some held) = ap Some (sym (append-nil held))
+
+pub writes_more : (before middle after : Option (List ℕ)) (xs ys : List ℕ) → Writes before middle xs → Writes middle after ys → Writes before after (xs ++ ys)
+writes_more None middle after xs ys first next = let Next : Option (List ℕ) → Type 0 = λ m. Writes m after ys in subst Next first next
+writes_more (Some held) middle after xs ys first next =
+    let Next : Option (List ℕ) → Type 0 = λ m. Writes m after ys in
+    let e : after ≡ Some ((held ++ xs) ++ ys) = subst Next first next in
+    e ∙ ap Some (append_assoc held xs ys)
+
+pub writes_on : (before middle after : Option (List ℕ)) (bytes : List ℕ) (k n : ℕ) → Writes before middle (take k bytes) → Writes middle after (take n (drop k bytes)) → Writes before after (take (k + n) bytes)
+writes_on before middle after bytes k n first next = rw (take-add k n bytes) (writes_more before middle after (take k bytes) (take n (drop k bytes)) first next)
+
+pub front_of : (before after after' : Option (List ℕ)) (bytes : List ℕ) (k : ℕ) → Writes before after (take k bytes) → after' ≡ after → WritesFront before after' bytes
+front_of before after after' bytes k wrote same =
+    let Wrote : Option (List ℕ) → Type 0 = λ h. Writes before h (take k bytes) in
+    (take k bytes, drop k bytes, sym (take-append-drop k bytes), subst Wrote (sym same) wrote)
+
+-- a read after others: what is left, and what the buffer's front holds
+pub filled_more : (told buffer part : List ℕ) (k m n : ℕ) → k ≤ length buffer → take k buffer ≡ take k told → n ≤ length part → take n part ≡ take n (drop k told) → take (k + n) (put_mid k m buffer part) ≡ take (k + n) told
+filled_more told buffer part k m n within front fits moved =
+    let front_length : length (take k buffer) ≡ k = omega (arith, length-take k buffer) in
+    let Taken : ℕ → Type 0 = λ i. take (i + n) (take k buffer ++ (part ++ post_of k m buffer)) ≡ take k buffer ++ take n (part ++ post_of k m buffer) in
+    let whole : take (k + n) (put_mid k m buffer part) ≡ take k buffer ++ take n (part ++ post_of k m buffer) = subst Taken front_length (take-append-add (take k buffer) (part ++ post_of k m buffer) n) in
+    let rest : take n (part ++ post_of k m buffer) ≡ take n part = take-append-le n part (post_of k m buffer) fits in
+    whole ∙ ap (λ (t : List ℕ). take k buffer ++ t) (rest ∙ moved) ∙ ap (λ (t : List ℕ). t ++ take n (drop k told)) front ∙ sym (take-add k n told)
+
+pub left_more : (told : List ℕ) (left left' : Option (List ℕ)) (buffer buffer' : List ℕ) (k n : ℕ) → left ≡ Some (drop k told) → MovesTold left left' buffer buffer' n → Moves (drop k told) left' buffer buffer' n
+left_more told left left' buffer buffer' k n is moves = let Moved : Option (List ℕ) → Type 0 = λ l. MovesTold l left' buffer buffer' n in subst Moved is moves
+
+-- a part of a part, and the front of a longer list
+pub take_less : (bytes : List ℕ) (n m : ℕ) → n ≤ m → n ≤ length bytes → take n (take m bytes) ≡ take n bytes
+take_less bytes n m less fits =
+    let size = length-take m bytes in
+    let inside : n ≤ length (take m bytes) = omega arith in
+    sym (take-append-le n (take m bytes) (drop m bytes) inside) ∙ ap (λ (t : List ℕ). take n t) (take-append-drop m bytes)
+
+pub front_of_front : (bytes more : List ℕ) (n m : ℕ) → n ≤ m → n ≤ length bytes → take n (take m (bytes ++ more)) ≡ take n bytes
+front_of_front bytes more n m less fits =
+    let size = length-append bytes more in
+    let inside : n ≤ length (bytes ++ more) = omega arith in
+    take_less (bytes ++ more) n m less inside ∙ take-append-le n bytes more fits
+
+-- a buffer that didn't come full has all the bytes
+pub whole_input : (told buffer bytes : List ℕ) (n : ℕ) → bytes ≡ take n buffer → length buffer ≡ 65537 → n ≤ 65536 → Fills told buffer n → (bytes ≡ told) × (length told ≤ 65536)
+whole_input told buffer bytes n front size fits fills =
+    let all : n ≡ length told = let f = fills.all in f (omega arith) in
+    (front ∙ fills.filled ∙ take_all n told (omega arith), omega arith)

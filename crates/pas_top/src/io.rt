@@ -1,0 +1,54 @@
+//! Where bytes come from, and where they go.
+//!
+//! Sources and sinks count their faults, and those in memory also tell their bytes to contracts. Only `RealSource` and `RealSink` reach
+//! the system, of whose bytes no contract can speak.
+pub mod memory;
+pub mod real;
+mod schedule;
+pub mod sure;
+mod unread;
+pub mod whole;
+
+ghost use Rattle.std.specs.Prelude.{◌≡◌, ◌≢◌, ◌<◌, ◌≤◌, ℕ, List, [], Option, length, take, IfOk, OnErr};
+ghost use Rattle.pas_top.specs.Told.{Rose, MovesTold, Writes};
+
+/// A read or a write failed.
+#[derive(Clone, Copy, Debug, PartialEq, Eq, Drop)]
+pub struct Failed;
+
+/// What bytes come from.
+pub trait Source {
+    /// The bytes that are left, where the source tells them.
+    ghost rest: { Self → Option (List ℕ) };
+
+    /// How often a read failed. The count ends at 2^64 - 1.
+    ghost faults: { Self → ℕ };
+
+    /// Moves the next bytes into the front of the buffer, and answers how many. None is the end, or no place in the buffer.
+    /// A read that fails loses no byte, and is counted.
+    fn read(&mut self, buffer: &mut [u8]) -> Result<usize, Failed>
+        ensures within { IfOk result (λ n. n ≤ length buffer.old) }
+        ensures moves { IfOk result (λ n. MovesTold (rest self.old) (rest self.new) buffer.old buffer.new n) }
+        ensures keeps { OnErr result (rest self.new ≡ rest self.old) }
+        ensures failed { OnErr result (Rose (faults self.old) (faults self.new)) }
+        ensures count { faults self.old ≤ faults self.new };
+}
+
+/// Where bytes go.
+pub trait Sink {
+    /// The bytes that were taken, where the sink tells them.
+    ghost held: { Self → Option (List ℕ) };
+
+    /// How often a write failed. The count ends at 2^64 - 1.
+    ghost faults: { Self → ℕ };
+
+    /// Takes bytes from the front of the piece, and answers how many: at least one of a piece that isn't empty.
+    /// A write that fails takes none, and is counted.
+    fn write(&mut self, bytes: &[u8]) -> Result<usize, Failed>
+        ensures within { IfOk result (λ n. n ≤ length bytes.now) }
+        ensures some { IfOk result (λ n. bytes.now ≢ [] → 1 ≤ n) }
+        ensures writes { IfOk result (λ n. Writes (held self.old) (held self.new) (take n bytes.now)) }
+        ensures keeps { OnErr result (held self.new ≡ held self.old) }
+        ensures failed { OnErr result (Rose (faults self.old) (faults self.new)) }
+        ensures count { faults self.old ≤ faults self.new };
+}

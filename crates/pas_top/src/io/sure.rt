@@ -1,0 +1,60 @@
+//! A source and a sink that never fail.
+ghost use Rattle.std.specs.Prelude.{◌≡◌, ◌≢◌, ◌≤◌, [], Some, None, length, take, IsOk, IfOk, OnErr};
+ghost use Rattle.pas_top.specs.Told.{Rose, MovesTold, Writes};
+ghost use Rattle.pas_top.specs.Unread.{left};
+
+use crate::io::unread::Unread;
+use crate::io::{Failed, Sink, Source};
+
+/// Bytes in memory, whose reads never fail: its count of faults is always 0.
+#[derive(Drop)]
+pub struct SureSource {
+    unread: Unread,
+}
+
+impl SureSource {
+    /// A source of these bytes.
+    pub fn new(bytes: Vec<u8>) -> SureSource
+        ensures { ⟦<SureSource as Source>⟧.rest result ≡ Some bytes.items }
+    {
+        SureSource {
+            unread: Unread::new(bytes),
+        }
+    }
+}
+
+impl Source for SureSource {
+    ghost rest = { λ s. Some (left s.unread) };
+
+    ghost faults = { λ s. 0 };
+
+    fn read(&mut self, buffer: &mut [u8]) -> Result<usize, Failed>
+        ensures sure { IsOk result }
+        ensures within { IfOk result (λ n. n ≤ length buffer.old) }
+        ensures moves { IfOk result (λ n. MovesTold (Some (left self.old.unread)) (Some (left self.new.unread)) buffer.old buffer.new n) }
+    {
+        Ok(self.unread.fill(buffer))
+    }
+}
+
+/// Takes each piece whole, and never fails. It keeps and tells nothing.
+#[derive(Drop)]
+pub struct SureSink;
+
+impl SureSink {
+    pub fn new() -> SureSink {
+        SureSink
+    }
+}
+
+impl Sink for SureSink {
+    ghost held = { λ s. None };
+
+    ghost faults = { λ s. 0 };
+
+    fn write(&mut self, bytes: &[u8]) -> Result<usize, Failed>
+        ensures { result ≡ Ok (length bytes.now) }
+    {
+        Ok(bytes.len())
+    }
+}
