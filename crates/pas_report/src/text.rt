@@ -21,7 +21,7 @@ pub(crate) fn push_number<I: Integer>(line: &mut Line, n: I)
 }
 
 /// Adds these words and a number.
-pub(crate) fn push_field<I: Integer>(line: &mut Line, words: &str, n: I)
+pub fn push_field<I: Integer>(line: &mut Line, words: &str, n: I)
     requires { array_string_len line.old + length words.now + I.MAX_STR_LEN ≤ 128 }
     ensures bytes { line.new.bytes ≡ line.old.bytes ++ (words.now ++ I.text n) }
     ensures len { array_string_len line.new ≤ array_string_len line.old + length words.now + I.MAX_STR_LEN }

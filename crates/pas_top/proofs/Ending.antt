@@ -1,10 +1,11 @@
--- How a call ends: its words, and what status 4 says of the text that was cut off.
-use Rattle.std.proofs.Common.{◌≡◌, ℕ, ◌≤◌, ◌<◌, Bool, List, [], ◌∷◌, Option, Some, IsTrue, Bor, get_or, length, ap, ◌∙◌, sym, inl, inr, arith, nat_eq}
+-- How a call ends: its words, what it wrote, and what status 4 says of a text that was cut off.
+use Rattle.std.proofs.Common.{◌≡◌, ℕ, ◌≤◌, ◌<◌, ◌⊎◌, Bool, List, [], ◌∷◌, ◌++◌, append_assoc, Option, Some, IsTrue, Bor, get_or, length, ap, ◌∙◌, sym, subst, refl, inl, inr, arith, nat_eq}
 use Rattle.std.proofs.lemmas.Slice.Eq.{slice_eq-Decides}
 use Rattle.std.proofs.lemmas.Bool.Decides.{Decides-eqb}
 use Rattle.std.specs.Cmp.Lexicographic.{pointwise}
-use Rattle.pas_top.specs.Outputs.{IsOrder, texts_of, IsOutput, IsCutOff, usage_text}
-use Rattle.pas_top.specs.Told.{Tells}
+use Rattle.pas_io.specs.Told.{Tells, Writes, WritesFront}
+use Rattle.pas_io.proofs.Telling.{writes_more}
+use Rattle.pas_top.specs.Outputs.{texts_of, IsOutput, IsWriting, IsWritten, IsCutOff}
 
 -- one word, which is or isn't the text
 pub only_word : (words : List (Bor (List ℕ))) (d : Bor (List ℕ)) (text : List ℕ) (r : Bool) → 1 ≤ length words → length words < 2 → r ≡ pointwise nat_eq (get_or words 0 d).now text → (IsTrue r → texts_of words ≡ text ∷ []) × (texts_of words ≡ text ∷ [] → IsTrue r)
@@ -14,10 +15,37 @@ only_word (word ∷ []) d text r some few is =
     (λ t. ap (λ (x : List ℕ). x ∷ []) (decides.0 t), λ e. decides.1 (cc))
 only_word (word ∷ other ∷ words) d text r some few is = absurd (omega arith)
 
--- a sink that failed at a text, whose status isn't 4
-pub cut_off : (words : List (List ℕ)) (told before after : Option (List ℕ)) (faults faults' : ℕ) (text : List ℕ) (status answer : ℕ) → (status ≡ 4 → ⊥) → Tells before after faults faults' text status answer
-    → ((bytes : List ℕ) → told ≡ Some bytes → IsOutput words bytes text) → ((IsOrder words → ⊥) → text ≡ usage_text) → answer ≡ 4 → IsCutOff words told before after faults faults'
-cut_off words told before after faults faults' text status answer other tells output usage four = elim tells [
-  | inl whole ↦ absurd (other (sym whole.0 ∙ four))
-  | inr cut ↦ record { rose = cut.1; text = text; output = output; usage = usage; written = cut.2 }
+-- ---- a call that told a text for a status, which wasn't 4
+pub answered : (before after : Option (List ℕ)) (faults faults' : ℕ) (text : List ℕ) (status answer : ℕ) → Tells before after faults faults' text status answer → (answer ≡ status) ⊎ (answer ≡ 4)
+answered before after faults faults' text status answer tells = elim tells [ inl whole ↦ inl whole.0 | inr cut ↦ inr cut.0 ]
+
+pub written : (words : List (List ℕ)) (told before after : Option (List ℕ)) (faults faults' : ℕ) (text : List ℕ) (status answer : ℕ) → Tells before after faults faults' text status answer
+    → IsOutput words told status text → (answer ≡ 4 → ⊥) → IsWritten words told before after answer
+written words told before after faults faults' text status answer tells output whole = elim tells [
+  | inl wrote ↦ record { text = text; output = subst (λ s. IsOutput words told s text) (sym wrote.0) output; written = wrote.1 }
+  | inr cut ↦ absurd (whole cut.0)
 ]
+
+pub cut_off : (words : List (List ℕ)) (told before after : Option (List ℕ)) (faults faults' : ℕ) (text : List ℕ) (status answer : ℕ) → Tells before after faults faults' text status answer
+    → IsOutput words told status text → (status ≡ 4 → ⊥) → answer ≡ 4 → IsCutOff words told before after faults faults'
+cut_off words told before after faults faults' text status answer tells output other four = elim tells [
+  | inl whole ↦ absurd (other (sym whole.0 ∙ four))
+  | inr cut ↦ record { rose = cut.1; status = status; text = text; output = output; written = cut.2 }
+]
+
+pub not_four : (answer : ℕ) → IsWriting answer → answer ≡ 4 → ⊥
+not_four answer writing four = elim writing [
+  | inl e ↦ omega (arith, e, four)
+  | inr more ↦ elim more [
+    | inl e ↦ omega (arith, e, four)
+    | inr more2 ↦ elim more2 [
+      | inl e ↦ omega (arith, e, four)
+      | inr more3 ↦ elim more3 [ inl e ↦ omega (arith, e, four) | inr e ↦ omega (arith, e, four) ]
+    ]
+  ]
+]
+
+-- a first part of a text that follows one that was written
+pub front_after : (before middle after : Option (List ℕ)) (text more : List ℕ) → Writes before middle text → WritesFront middle after more → WritesFront before after (text ++ more)
+front_after before middle after text more wrote (front, back, is, part) =
+    (text ++ front, back, ap (λ (t : List ℕ). text ++ t) is ∙ sym (append_assoc text front back), writes_more before middle after text front wrote part)

@@ -1,37 +1,50 @@
--- What the top call writes, for each status.
-use Rattle.std.specs.Prelude.{ℕ, ◌<◌, ◌≤◌, ◌≡◌, ◌⊎◌, List, [], ◌∷◌, Option, Some, length, map, codes}
+-- What the top call writes, for each status, and why.
+use Rattle.std.specs.Prelude.{ℕ, ◌<◌, ◌≤◌, ◌≡◌, ◌⊎◌, List, [], ◌∷◌, ◌++◌, Option, Some, Result, Ok, Err, length, codes, map}
 use denote.Ref.{Bor}
-use Rattle.pas_profile.specs.declared.profile.Profile.{Profile}
 use Rattle.pas_machine.specs.Machine.{Run}
+use Rattle.pas_machine.specs.State.{backed_in}
+use Rattle.pas_profile.specs.Profiles.{IsPage}
 use Rattle.pas_steps.specs.Lists.{Whole, Legal, visible}
-use Rattle.pas_top.specs.declared.plan.Operation.{Operation}
-use Rattle.pas_top.specs.Forms.{Asks}
-use Rattle.pas_top.specs.Answers.{Follows}
-use Rattle.pas_top.specs.Lines.{transcript_text}
-use Rattle.pas_top.specs.Told.{Rose, Writes, WritesFront}
+use Rattle.pas_trace.specs.Plans.{IsPlanOf, parsed}
+use Rattle.pas_trace.specs.declared.plan.Plan.{Plan}
+use Rattle.pas_trace.specs.declared.fault.TraceFault.{TraceFault}
+use Rattle.pas_report.specs.Lines.{lines_of}
+use Rattle.pas_report.specs.Marks.{Marked}
+use Rattle.pas_report.specs.Reports.{report_text}
+use Rattle.pas_report.specs.declared.record.Record.{Record}
+use Rattle.pas_replay.specs.Acts.{acts_of}
+use Rattle.pas_replay.specs.Answers.{Follows}
+use Rattle.pas_replay.specs.Replays.{IsBuilt, phases_of}
+use Rattle.pas_io.specs.Told.{Rose, Writes, WritesFront}
+use Rattle.pas_top.specs.Faults.{fault_text}
 
--- THE HEADLINE for one thread. The text is that of a replay of what the bytes ask for: there is a legal list of steps, made of the pieces of
--- actor 1 that answer the operations in order; its visible events are a run of the allocator's machine; and the text has a line for each of
--- these events, in the order in which they were made, and then the totals of the machine that they reach.
+-- the most bytes of an input
+abbrev pub most_bytes : ℕ
+most_bytes = 16777216
+
+-- THE HEADLINE for one thread. The text is that of a replay of the trace that the bytes are: there is a legal list of steps, made of the
+-- pieces of the actors that answer the acts of its plan in order; its visible events are a run of the allocator's machine; and the text has a
+-- line for each record of these pieces, in order, and then the report of the machine that the events reach.
 pub record IsReplayed (bytes text : List ℕ) : Type 0 where
-  pub profile : Profile
-  pub operations : List Operation
-  pub asks : Asks bytes profile operations
+  pub plan : Plan
+  pub read : IsPlanOf bytes plan
+  pub built : IsBuilt plan
   pub whole : Whole
-  pub legal : Legal profile whole
-  pub answers : Follows profile 1 operations [] [] whole
-  pub run : Run profile (visible whole)
-  pub text_is : text ≡ transcript_text profile (visible whole)
+  pub legal : Legal plan.profile whole
+  pub records : List Record
+  pub answers : Follows plan.profile (acts_of (phases_of plan)) [] [] [] whole records
+  pub run : Run plan.profile (visible whole)
+  pub marks : ℕ → Marked
+  pub backed : (page : ℕ) → IsPage plan.profile page → (marks page).backed ≡ backed_in (visible whole) page
+  pub text_is : text ≡ lines_of records ++ report_text plan.profile (visible whole) marks
 
--- no trace has these bytes as its text
-abbrev pub IsUnasked : List ℕ → Type 0
-IsUnasked bytes = (f : Profile) (ops : List Operation) → Asks bytes f ops → ⊥
+-- the bytes are a trace without a fault that can't be replayed yet
+pub record IsUnbuilt (bytes : List ℕ) : Type 0 where
+  pub plan : Plan
+  pub read : IsPlanOf bytes plan
+  pub unbuilt : IsBuilt plan → ⊥
 
--- the input isn't one that is built: it is longer than 65,536 bytes, or no trace of this form
-abbrev pub IsNotBuilt : List ℕ → Type 0
-IsNotBuilt bytes = (65536 < length bytes) ⊎ IsUnasked bytes
-
--- the bytes of each word
+-- the texts of the words
 abbrev pub texts_of : List (Bor (List ℕ)) → List (List ℕ)
 texts_of words = map (λ w. w.now) words
 
@@ -45,37 +58,55 @@ usage_text = codes "usage: pas order\n"
 abbrev pub not_built_text : List ℕ
 not_built_text = codes "not built\n"
 
--- a status that writes: 0 the transcript, 2 the usage, 7 that it isn't built; each with its text and its cause
-abbrev pub IsOutput : List (List ℕ) → List ℕ → List ℕ → Type 0
-IsOutput words bytes text = (IsOrder words × (length bytes ≤ 65536) × IsReplayed bytes text) ⊎ ((IsOrder words → ⊥) × (text ≡ usage_text)) ⊎ (IsOrder words × IsNotBuilt bytes × (text ≡ not_built_text))
+abbrev pub too_long_text : List ℕ
+too_long_text = codes "input too long\n"
 
--- ---- what each status says. The sink told `before` and tells `after`; where the source told no bytes, nothing is said of them
+-- ---- what an input of the source comes to, with the status and the text
+-- 0: its replay; 1: its first fault; 6: it is too long; 7: it can't be replayed yet
+pub record IsTranscript (bytes text : List ℕ) : Type 0 where
+  pub short : length bytes ≤ most_bytes
+  pub replayed : IsReplayed bytes text
+
+pub record IsFaulty (bytes text : List ℕ) : Type 0 where
+  pub short : length bytes ≤ most_bytes
+  pub fault : TraceFault
+  pub first : parsed bytes ≡ Err fault
+  pub text_is : text ≡ fault_text fault
+
+pub record IsNotBuilt (bytes text : List ℕ) : Type 0 where
+  pub short : length bytes ≤ most_bytes
+  pub unbuilt : IsUnbuilt bytes
+  pub text_is : text ≡ not_built_text
+
+pub record IsTooLong (bytes text : List ℕ) : Type 0 where
+  pub long : most_bytes < length bytes
+  pub text_is : text ≡ too_long_text
+
+abbrev pub ComesTo : List ℕ → ℕ → List ℕ → Type 0
+ComesTo bytes status text = ((status ≡ 0) × IsTranscript bytes text) ⊎ ((status ≡ 1) × IsFaulty bytes text) ⊎ ((status ≡ 6) × IsTooLong bytes text) ⊎ ((status ≡ 7) × IsNotBuilt bytes text)
+
+-- what a call with these words writes in full, with its status: the usage where the words are no accepted list, else what the input comes to,
+-- where the source tells it
+abbrev pub IsOutput : List (List ℕ) → Option (List ℕ) → ℕ → List ℕ → Type 0
+IsOutput words told status text = ((IsOrder words → ⊥) × (status ≡ 2) × (text ≡ usage_text)) ⊎ (IsOrder words × ((bytes : List ℕ) → told ≡ Some bytes → ComesTo bytes status text))
+
+-- ---- what each status says. The sink told `before` and tells `after`
+abbrev pub IsWriting : ℕ → Type 0
+IsWriting status = (status ≡ 0) ⊎ (status ≡ 1) ⊎ (status ≡ 2) ⊎ (status ≡ 6) ⊎ (status ≡ 7)
+
 abbrev pub IsStatus : ℕ → Type 0
-IsStatus status = (status ≡ 0) ⊎ (status ≡ 2) ⊎ (status ≡ 3) ⊎ (status ≡ 4) ⊎ (status ≡ 5) ⊎ (status ≡ 7)
+IsStatus status = IsWriting status ⊎ (status ≡ 3) ⊎ (status ≡ 4) ⊎ (status ≡ 5)
 
--- 0: the transcript of a replay was written
-pub record IsDone (words : List (List ℕ)) (told before after : Option (List ℕ)) : Type 0 where
-  pub order : IsOrder words
+-- 0, 1, 2, 6, 7: the whole text was written
+pub record IsWritten (words : List (List ℕ)) (told before after : Option (List ℕ)) (status : ℕ) : Type 0 where
   pub text : List ℕ
-  pub replayed : (bytes : List ℕ) → told ≡ Some bytes → IsReplayed bytes text
-  pub built : (bytes : List ℕ) → told ≡ Some bytes → length bytes ≤ 65536
+  pub output : IsOutput words told status text
   pub written : Writes before after text
-
--- 2: the words are others, and the usage was written
-pub record IsUsage (words : List (List ℕ)) (before after : Option (List ℕ)) : Type 0 where
-  pub other : IsOrder words → ⊥
-  pub written : Writes before after usage_text
 
 -- 4: the sink failed. What was written is a first part of what another status would have written
 pub record IsCutOff (words : List (List ℕ)) (told before after : Option (List ℕ)) (faults faults' : ℕ) : Type 0 where
   pub rose : Rose faults faults'
+  pub status : ℕ
   pub text : List ℕ
-  pub output : (bytes : List ℕ) → told ≡ Some bytes → IsOutput words bytes text
-  pub usage : (IsOrder words → ⊥) → text ≡ usage_text
+  pub output : IsOutput words told status text
   pub written : WritesFront before after text
-
--- 7: the input isn't one that is built, and that was written
-pub record IsRefused (words : List (List ℕ)) (told before after : Option (List ℕ)) : Type 0 where
-  pub order : IsOrder words
-  pub unbuilt : (bytes : List ℕ) → told ≡ Some bytes → IsNotBuilt bytes
-  pub written : Writes before after not_built_text

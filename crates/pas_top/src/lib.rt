@@ -1,17 +1,16 @@
 //! The top call: from the words and the bytes that come in to the bytes and the status that go out.
 #![tactic(auto)]
 
-pub mod io;
-mod lines;
 pub mod main_call;
-pub mod plan;
-mod reading;
-mod replay;
-mod replay_text;
-#[cfg(test)]
-mod tests;
-mod totals;
+mod outcome;
 
-pub use io::{Failed, Sink, Source};
 pub use main_call::pas_main;
-pub use plan::{Operation, Plan};
+
+const USAGE: &str = "usage: pas order\n";
+
+const NOT_BUILT: &str = "not built\n";
+
+const TOO_LONG: &str = "input too long\n";
+
+/// The most bytes of an input.
+const MOST_BYTES: usize = 16_777_216;

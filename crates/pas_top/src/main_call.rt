@@ -1,31 +1,31 @@
 //! The call that the program makes.
-ghost use Rattle.std.specs.Prelude.{◌≡◌, ◌≤◌, ◌⊎◌, ◌↔◌, ℕ, List, Some, IsTrue, length};
-ghost use Rattle.pas_profile.specs.declared.profile.Profile.{Profile};
-ghost use Rattle.pas_top.specs.declared.plan.Operation.{Operation};
-ghost use Rattle.pas_top.specs.Forms.{Asks};
-ghost use Rattle.pas_top.specs.Outputs.{IsCutOff, IsDone, IsNotBuilt, IsOrder, IsRefused, IsStatus, IsUsage, texts_of};
-ghost use Rattle.pas_top.specs.Told.{Rose, Tells};
+ghost use Rattle.std.specs.Prelude.{◌≡◌, ◌<◌, ◌≤◌, ◌⊎◌, ◌↔◌, ℕ, List, Some, Ok, Err, IsTrue, length};
+ghost use Rattle.pas_io.specs.Told.{Rose};
+ghost use Rattle.pas_trace.specs.Plans.{IsPlanOf, parsed};
+ghost use Rattle.pas_trace.specs.declared.plan.Plan.{Plan};
+ghost use Rattle.pas_trace.specs.declared.fault.TraceFault.{TraceFault};
+ghost use Rattle.pas_replay.specs.Replays.{IsBuilt};
+ghost use Rattle.pas_top.specs.Outputs.{most_bytes, texts_of, IsOrder, IsStatus, IsWriting, IsWritten, IsCutOff, IsUnbuilt};
 
-use crate::io::whole::{Input, Stop, read_all, write_all};
-use crate::io::{Sink, Source};
-use crate::replay_text::replay_text;
+use crate::outcome::{outcome_of, tell, tell_outcome};
+use crate::{MOST_BYTES, TOO_LONG, USAGE};
+use pas_io::whole::{Input, Stop, read_all};
+use pas_io::{Sink, Source};
 use std::alloc::Global;
 
-const USAGE: &str = "usage: pas order\n";
-
-const NOT_BUILT: &str = "not built\n";
-
-/// Replays the trace that the source gives, where the words are the one word `order`, and writes its transcript.
+/// Replays the trace that the source gives, where the words are the one word `order`, and writes its transcript and report.
 ///
 /// The status is
-/// - 0: the transcript was written.
+/// - 0: the transcript and the report were written.
+/// - 1: the input is no trace, and its first fault was written.
 /// - 2: the words are others. The usage was written, and nothing was read.
 /// - 3: a read failed. Nothing was written.
-/// - 4: a write failed. A first part of what status 0, 2 or 7 writes was written.
+/// - 4: a write failed. A first part of what status 0, 1, 2, 6 or 7 writes was written.
 /// - 5: memory was wanting. Nothing was written.
-/// - 7: the input is longer than 65,536 bytes or no trace that is built, and that was written.
+/// - 6: the input is longer than 16,777,216 bytes, and that was written.
+/// - 7: the input is a trace that can't be replayed yet, and that was written.
 ///
-/// Nothing is written before the whole output is known.
+/// Nothing is written before the replay has ended. Linear in the input and in the output.
 pub fn pas_main<S: Source, K: Sink>(
     alloc: Global,
     words: &[&str],
@@ -33,32 +33,35 @@ pub fn pas_main<S: Source, K: Sink>(
     sink: &mut K,
 ) -> u8
     ensures status { IsStatus result }
-    ensures done { result ≡ 0 → IsDone (texts_of words.now) (S.rest source.old) (K.held sink.old) (K.held sink.new) }
-    ensures usage { result ≡ 2 → IsUsage (texts_of words.now) (K.held sink.old) (K.held sink.new) }
-    ensures usage_always { (IsOrder (texts_of words.now) → ⊥) → (source.new ≡ source.old) × ((result ≡ 2) ⊎ (result ≡ 4)) }
+    ensures written { IsWriting result → IsWritten (texts_of words.now) (S.rest source.old) (K.held sink.old) (K.held sink.new) result }
+    ensures usage { (IsOrder (texts_of words.now) → ⊥) → (source.new ≡ source.old) × ((result ≡ 2) ⊎ (result ≡ 4)) }
     ensures source_failed { result ≡ 3 → Rose (S.faults source.old) (S.faults source.new) × (sink.new ≡ sink.old) }
     ensures sink_failed { result ≡ 4 → IsCutOff (texts_of words.now) (S.rest source.old) (K.held sink.old) (K.held sink.new) (K.faults sink.old) (K.faults sink.new) }
     ensures memory { result ≡ 5 → sink.new ≡ sink.old }
-    ensures not_built { result ≡ 7 → IsRefused (texts_of words.now) (S.rest source.old) (K.held sink.old) (K.held sink.new) }
-    ensures not_built_always { IsOrder (texts_of words.now) → (bytes : List ℕ) → S.rest source.old ≡ Some bytes → IsNotBuilt bytes
-        → (result ≡ 7) ⊎ (result ≡ 3) ⊎ (result ≡ 4) ⊎ (result ≡ 5) }
-    ensures complete { IsOrder (texts_of words.now) → (bytes : List ℕ) → S.rest source.old ≡ Some bytes
-        → (f : Profile) (ops : List Operation) → Asks bytes f ops → length bytes ≤ 65536
+
+    // Each cause brings its status, but for a fault of the source or the sink and for want of memory.
+    ensures too_long { IsOrder (texts_of words.now) → (bytes : List ℕ) → S.rest source.old ≡ Some bytes → most_bytes < length bytes
+        → (result ≡ 6) ⊎ (result ≡ 3) ⊎ (result ≡ 4) ⊎ (result ≡ 5) }
+    ensures faulty { IsOrder (texts_of words.now) → (bytes : List ℕ) → S.rest source.old ≡ Some bytes → length bytes ≤ most_bytes
+        → (fault : TraceFault) → parsed bytes ≡ Err fault → (result ≡ 1) ⊎ (result ≡ 3) ⊎ (result ≡ 4) ⊎ (result ≡ 5) }
+    ensures not_built { IsOrder (texts_of words.now) → (bytes : List ℕ) → S.rest source.old ≡ Some bytes → length bytes ≤ most_bytes
+        → IsUnbuilt bytes → (result ≡ 7) ⊎ (result ≡ 3) ⊎ (result ≡ 4) ⊎ (result ≡ 5) }
+    ensures complete { IsOrder (texts_of words.now) → (bytes : List ℕ) → S.rest source.old ≡ Some bytes → length bytes ≤ most_bytes
+        → (plan : Plan) → IsPlanOf bytes plan → IsBuilt plan
         → (Rose (S.faults source.old) (S.faults source.new) → ⊥) → (Rose (K.faults sink.old) (K.faults sink.new) → ⊥)
         → (result ≡ 0) ⊎ (result ≡ 5) }
 {
     if !is_order(words) {
         return tell(sink, USAGE, 2);
     }
-    let bytes = match read_all(alloc, source) {
+    let bytes = match read_all(alloc, source, MOST_BYTES) {
         Ok(Input::Whole(bytes)) => bytes,
-        Ok(Input::TooLong) => return tell(sink, NOT_BUILT, 7),
+        Ok(Input::TooLong) => return tell(sink, TOO_LONG, 6),
         Err(Stop::Fault) => return 3,
         Err(Stop::Memory) => return 5,
     };
-    match replay_text(alloc, &bytes) {
-        Ok(Some(text)) => tell(sink, &text, 0),
-        Ok(None) => tell(sink, NOT_BUILT, 7),
+    match outcome_of(alloc, &bytes) {
+        Ok(outcome) => tell_outcome(sink, &outcome),
         Err(_) => 5,
     }
 }
@@ -69,15 +72,5 @@ fn is_order(words: &[&str]) -> bool
     match words {
         [word] => *word == "order",
         _ => false,
-    }
-}
-
-/// Writes the whole text, and answers the status, or 4 where the sink failed.
-fn tell<K: Sink>(sink: &mut K, text: &str, status: u8) -> u8
-    ensures { Tells (K.held sink.old) (K.held sink.new) (K.faults sink.old) (K.faults sink.new) text.now status result }
-{
-    match write_all(sink, text.as_bytes()) {
-        Ok(()) => status,
-        Err(_) => 4,
     }
 }

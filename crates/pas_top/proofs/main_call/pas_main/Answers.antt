@@ -1,19 +1,40 @@
-use Rattle.std.proofs.Common.{rules, refl, inl, inr, arith}
-use Rattle.pas_top.specs.Outputs.{IsOrder, texts_of, usage_text, not_built_text}
-use Rattle.pas_top.proofs.Ending.{cut_off}
+use Rattle.std.proofs.Common.{rules, ◌≡◌, ◌≤◌, ℕ, List, Option, length, refl, sym, ◌∙◌, subst, Some, inl, inr, arith}
+use Rattle.pas_io.specs.Inputs.{IsInput}
+use Rattle.pas_io.specs.declared.whole.Input.TheVariants.{TooLong}
+use Rattle.pas_top.specs.Outcomes.{IsOutcome, outcome_status, outcome_text}
+use Rattle.pas_top.specs.Outputs.{IsOrder, IsOutput, most_bytes, texts_of, usage_text, too_long_text}
+use Rattle.pas_top.proofs.Ending.{cut_off, not_four, written}
+use Rattle.pas_top.proofs.Shown.{can_write, outcome_output, status_not_four}
 use Rattle.pas_top.proofs.main_call.pas_main.Goals as goal
 
 pub returns-then-not-is_order-clause-sink_failed : goal.returns-then-not-is_order-clause-sink_failed
 returns-then-not-is_order-clause-sink_failed g c =
     let other : IsOrder (texts_of c.args.words.now) → ⊥ = search rules in
-    cut_off _ _ _ _ _ _ usage_text 2 c.tell.result (λ e. omega (arith, e)) c.tell.ensures (λ bytes told. inr (inl (other, refl))) (λ not. refl)
+    cut_off _ _ _ _ _ _ usage_text 2 c.tell.result c.tell.ensures (inl (other, refl, refl)) (λ e. omega (arith, e))
 
 pub returns-in-Ok-TooLong-clause-sink_failed : goal.returns-in-Ok-TooLong-clause-sink_failed
 returns-in-Ok-TooLong-clause-sink_failed g c =
     let order : IsOrder (texts_of c.args.words.now) = search rules in
-    cut_off _ _ _ _ _ _ not_built_text 7 c.tell-in-Ok-TooLong.result (λ e. omega (arith, e)) c.tell-in-Ok-TooLong.ensures (λ bytes told. inr (inr (order, inl (search rules), refl))) (λ other. absurd (other order))
+    cut_off _ _ _ _ _ _ too_long_text 6 c.tell-in-Ok-TooLong.result c.tell-in-Ok-TooLong.ensures
+      (inr (order, λ bytes told. inr (inr (inl (refl, record { long = subst (IsInput most_bytes bytes) c.in-Ok-TooLong.field-0-is (c.in-Ok-TooLong.ensures.input bytes told); text_is = refl }))))) (λ e. omega (arith, e))
 
-pub returns-in-Ok-None-clause-sink_failed : goal.returns-in-Ok-None-clause-sink_failed
-returns-in-Ok-None-clause-sink_failed g c =
+pub tell_outcome-requires : goal.tell_outcome-requires
+tell_outcome-requires g c = can_write c.deref.result.now c.in-Ok.outcome c.in-Ok.ensures
+
+pub returns-in-Ok-clause-written : goal.returns-in-Ok-clause-written
+returns-in-Ok-clause-written g c = λ writing.
     let order : IsOrder (texts_of c.args.words.now) = search rules in
-    cut_off _ _ _ _ _ _ not_built_text 7 c.tell-in-Ok-None.result (λ e. omega (arith, e)) c.tell-in-Ok-None.ensures (λ bytes told. inr (inr (order, inr (search rules), refl))) (λ other. absurd (other order))
+    written _ _ _ _ _ _ (outcome_text c.in-Ok.outcome) (outcome_status c.in-Ok.outcome) c.tell_outcome.result c.tell_outcome.ensures
+      (outcome_output (texts_of c.args.words.now) (g.S.Source.rest c.args.source.now) c.deref.result.now c.in-Ok.outcome order
+        (λ bytes told. let input = subst (IsInput most_bytes bytes) c.in-Ok-Whole.field-0-is (c.in-Ok-Whole.ensures.input bytes told) in (c.deref.ensures.value ∙ input.0, input.1))
+        c.in-Ok.ensures)
+      (not_four c.tell_outcome.result writing)
+
+pub returns-in-Ok-clause-sink_failed : goal.returns-in-Ok-clause-sink_failed
+returns-in-Ok-clause-sink_failed g c =
+    let order : IsOrder (texts_of c.args.words.now) = search rules in
+    cut_off _ _ _ _ _ _ (outcome_text c.in-Ok.outcome) (outcome_status c.in-Ok.outcome) c.tell_outcome.result c.tell_outcome.ensures
+      (outcome_output (texts_of c.args.words.now) (g.S.Source.rest c.args.source.now) c.deref.result.now c.in-Ok.outcome order
+        (λ bytes told. let input = subst (IsInput most_bytes bytes) c.in-Ok-Whole.field-0-is (c.in-Ok-Whole.ensures.input bytes told) in (c.deref.ensures.value ∙ input.0, input.1))
+        c.in-Ok.ensures)
+      (status_not_four c.in-Ok.outcome)

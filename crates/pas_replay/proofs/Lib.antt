@@ -1,0 +1,15 @@
+pub mod Taking
+pub mod Quiet
+pub mod Searching
+pub mod Choosing
+pub mod FreeWords
+pub mod Placing
+pub mod Allocating
+pub mod Releasing
+pub mod Built
+pub mod Requests
+pub mod Ordering
+pub mod PlanFacts
+pub mod PlanHolds
+pub mod Starting
+pub mod Replayed

@@ -1,0 +1,9 @@
+pub mod Acts
+pub mod Answers
+pub mod Sets
+pub mod Names
+pub mod Calls
+pub mod Fit
+pub mod Ledgers
+pub mod Replays
+pub mod Kits
