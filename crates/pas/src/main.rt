@@ -1,7 +1,7 @@
 //! The program `pas`: reads standard input, writes standard output, and ends with the status of the call.
 #![tactic(auto)]
 
-use pas_top::io::real::{RealSink, RealSource};
+use pas_io::real::{RealSink, RealSource};
 use pas_top::pas_main;
 use std::alloc::AllocError;
 use std::env;

@@ -27,7 +27,7 @@ fn limit_of(ops: &[Op], least: usize) -> usize
     limit
 }
 
-/// A number above all names that the phases ask for: the least such one.
+/// A number above all names that the phases ask for.
 pub(crate) fn names_limit(phases: &[Phase]) -> usize
     ensures { AllBelow result (map ops_of phases.now) }
 {

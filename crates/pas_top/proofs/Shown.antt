@@ -43,8 +43,8 @@ can_show {bytes} {plan} {records} {state} read shows = record {
 report_is : {bytes : List ℕ} {plan : Plan} {records : List Record} {state : State} → IsPlanOf bytes plan → (shows : Shows plan records state) → report_by_words state ≡ report_text plan.profile (visible shows.whole) (marked_in state)
 report_is {bytes} {plan} {records} {state} read shows =
     report_agrees state shows.whole (has_words shows) (valid_state read shows) (legal_state shows)
-      (nobody_holds (profile_of state) shows.whole (valid_state read shows) (legal_state shows) (record { nobody = shows.at_rest }))
-      (record { stamp = λ page is. stamps_are shows page })
+    (nobody_holds (profile_of state) shows.whole (valid_state read shows) (legal_state shows) (record { nobody = shows.at_rest }))
+    (record { stamp = λ page is. stamps_are shows page })
     ∙ ap (λ (f : Profile). report_text f (visible shows.whole) (marked_in state)) shows.profile
 
 -- ---- what an input comes to

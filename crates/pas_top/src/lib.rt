@@ -3,6 +3,8 @@
 
 pub mod main_call;
 mod outcome;
+#[cfg(test)]
+mod tests;
 
 pub use main_call::pas_main;
 

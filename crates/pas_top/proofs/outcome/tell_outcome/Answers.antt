@@ -7,4 +7,4 @@ use Rattle.pas_top.proofs.outcome.tell_outcome.Goals as goal
 pub returns-in-Err : goal.returns-in-Err
 returns-in-Err g c =
     subst (λ (o : Outcome). Tells (g.K.Sink.held c.args.sink.now) (g.K.Sink.held c.write_replayed.new.sink) (g.K.Sink.faults c.args.sink.now) (g.K.Sink.faults c.write_replayed.new.sink) (outcome_text o) (outcome_status o) 4)
-      (sym c.in-Replayed.is) (inr (refl, c.in-Err.ensures.failed, c.in-Err.ensures.front))
+    (sym c.in-Replayed.is) (inr (refl, c.in-Err.ensures.failed, c.in-Err.ensures.front))

@@ -1,0 +1,228 @@
+ghost use Rattle.std.specs.Prelude.{◌≡◌, ◌⊎◌};
+
+use crate::pas_main;
+use pas_io::memory::{MemorySink, MemorySource};
+use pas_io::sure::{SureSink, SureSource};
+use std::alloc::{AllocError, Global};
+use std::process::Abort;
+use std::test::Fail;
+
+const TRACE: &str = "pas 1 pages 4 threads 1 heaps 1 age 2\na 1 1 0 24 16\nf 1 1\n";
+
+const TRANSCRIPT: &str =
+    "1 deed page 1 heap 0 class 32\n1 back page 1\n1 give 0x00001000 turn 0 room 32 heap 0\n1 freed 0x00001000 turn 0 epoch 0\nclose\nreport\npage 1 heap 0 class 32 live 0 free 256 stamp 0 marks backed\ntotal deeds 1 backed 1 live 0 given 1 ended 1\n";
+
+const USAGE: &str = "usage: pas order\n";
+
+const NOT_BUILT: &str = "not built\n";
+
+/// Room for each of the texts above.
+const ROOM: usize = 512;
+
+/// The status of a call, and what its sink took.
+#[derive(Debug, Drop)]
+struct Outcome {
+    status: u8,
+    taken: Vec<u8>,
+}
+
+/// A call whose listed reads and writes fail, into so many bytes of room. The sink takes a byte a call.
+fn outcome_of(
+    alloc: Global,
+    words: &[&str],
+    input: &[u8],
+    reads: &[u64],
+    writes: &[u64],
+    room: usize,
+) -> Result<Outcome, AllocError> {
+    let mut source = MemorySource::new(
+        Vec::from_slice(alloc, input)?,
+        Vec::from_slice(alloc, reads)?,
+    );
+    let mut sink = MemorySink::new(
+        vec![in alloc; 0u8; room]?,
+        1,
+        Vec::from_slice(alloc, writes)?,
+    );
+    let status = pas_main(alloc, words, &mut source, &mut sink);
+    let taken = Vec::from_slice(alloc, sink.held())?;
+    Ok(Outcome { status, taken })
+}
+
+/// Each write in turn fails, up to the one after the last.
+fn check_cut_off(
+    rt: &(impl Abort + AllocGlobal),
+    words: &[&str],
+    input: &[u8],
+    text: &[u8],
+    status: u8,
+) -> Result<(), Fail> {
+    for done in 0..text.len() {
+        let outcome = outcome_of(rt.alloc(), words, input, &[], &[done as u64 + 1], ROOM)?;
+        assert_eq!(rt; outcome.status, 4, "after {done} bytes");
+        assert_eq!(rt;
+            outcome.taken.as_slice(),
+            &text[..done],
+            "after {done} bytes"
+        );
+    }
+    let outcome = outcome_of(
+        rt.alloc(),
+        words,
+        input,
+        &[],
+        &[text.len() as u64 + 1],
+        ROOM,
+    )?;
+    assert_eq!(rt; outcome.status, status);
+    assert_eq!(rt; outcome.taken.as_slice(), text);
+    Ok(())
+}
+
+#[test]
+fn replays_a_trace(rt: HostRuntime) -> Result<(), Fail> {
+    let outcome = outcome_of(rt.alloc(), &["order"], TRACE.as_bytes(), &[], &[], ROOM)?;
+    assert_eq!(rt; outcome.status, 0);
+    assert_eq!(rt; outcome.taken.as_slice(), TRANSCRIPT.as_bytes());
+    let status = sure_status(rt.alloc(), Vec::from_slice(rt.alloc(), TRACE.as_bytes())?);
+    assert_eq!(rt; status, 0);
+    Ok(())
+}
+
+/// Neither a read nor a write can fail here, so the status is neither 3 nor 4.
+fn sure_status(alloc: Global, input: Vec<u8>) -> u8
+    ensures { (result ≡ 0) ⊎ (result ≡ 1) ⊎ (result ≡ 5) ⊎ (result ≡ 6) ⊎ (result ≡ 7) }
+{
+    pas_main(
+        alloc,
+        &["order"],
+        &mut SureSource::new(input),
+        &mut SureSink::new(),
+    )
+}
+
+#[test]
+fn other_words_read_nothing(rt: HostRuntime) -> Result<(), Fail> {
+    let cases: [&[&str]; 5] = [
+        &[],
+        &["order", "--"],
+        &["gen", "7"],
+        &["Order"],
+        &["order "],
+    ];
+    for words in cases {
+        let outcome = outcome_of(rt.alloc(), words, TRACE.as_bytes(), &[1], &[], ROOM)?;
+        assert_eq!(rt; outcome.status, 2, "at {words:?}");
+        assert_eq!(rt; outcome.taken.as_slice(), USAGE.as_bytes(), "at {words:?}");
+    }
+    check_cut_off(&rt, &["gen", "7"], &[], USAGE.as_bytes(), 2)
+}
+
+#[test]
+fn failing_reads(rt: HostRuntime) -> Result<(), Fail> {
+    for call in 1..3u64 {
+        let outcome = outcome_of(rt.alloc(), &["order"], TRACE.as_bytes(), &[call], &[], ROOM)?;
+        assert_eq!(rt; outcome.status, 3, "at read {call}");
+        assert!(rt; outcome.taken.is_empty(), "at read {call}");
+    }
+    let outcome = outcome_of(rt.alloc(), &["order"], TRACE.as_bytes(), &[3], &[], ROOM)?;
+    assert_eq!(rt; outcome.status, 0);
+    Ok(())
+}
+
+#[test]
+fn failing_writes(rt: HostRuntime) -> Result<(), Fail> {
+    check_cut_off(&rt, &["order"], TRACE.as_bytes(), TRANSCRIPT.as_bytes(), 0)?;
+    let outcome = outcome_of(rt.alloc(), &["order"], TRACE.as_bytes(), &[], &[], 7)?;
+    assert_eq!(rt; outcome.status, 4);
+    assert_eq!(rt; outcome.taken.as_slice(), b"1 deed ".as_slice());
+    Ok(())
+}
+
+/// Inputs, the status and the text of each.
+const OUTCOMES: [(&str, u8, &str); 12] = [
+    (
+        "pas 1 pages 4 threads 1 heaps 1 age 2",
+        0,
+        "close\nreport\ntotal deeds 0 backed 0 live 0 given 0 ended 0\n",
+    ),
+    (
+        "pas 1 pages 1 threads 1 heaps 1 age 2\na 1 1 0 16 16\na 1 2 0 32 16\nf 1 2\nf 1 1\nf 1 1\n",
+        0,
+        "1 deed page 1 heap 0 class 16\n1 back page 1\n1 give 0x00001000 turn 0 room 16 heap 0\n1 no-space name 2\n1 skipped name 2\n1 freed 0x00001000 turn 0 epoch 0\n1 ended 0x00001000 turn 0\nclose\nreport\npage 1 heap 0 class 16 live 0 free 256 stamp 0 marks backed\ntotal deeds 1 backed 1 live 0 given 1 ended 1\n",
+    ),
+    ("", 1, "line 1: BadHeader\n"),
+    ("\n", 1, "line 1: BadHeader\n"),
+    (
+        "pas 1 pages 4 threads 2 heaps 1 age 2\na 1 1 0 16 16\nf 2 1\n",
+        1,
+        "line 3: TooEarly\n",
+    ),
+    (
+        "pas 1 pages 4 threads 2 heaps 1 age 2\nalloc 1\nflush 9\n",
+        1,
+        "line 2: BadWord\n",
+    ),
+    (
+        "pas 1 pages 4 threads 2 heaps 1 age 2\n#\n\nflush 3",
+        1,
+        "line 4: BadThread\n",
+    ),
+    ("pas 1 pages 4 threads 2 heaps 1 age 2\n", 7, NOT_BUILT),
+    (
+        "pas 1 pages 4 threads 1 heaps 1 age 2\nflush 1\n",
+        7,
+        NOT_BUILT,
+    ),
+    (
+        "pas 1 pages 4 threads 1 heaps 2 age 2\na 1 1 1 16 16\n",
+        7,
+        NOT_BUILT,
+    ),
+    (
+        "pas 1 pages 4 threads 1 heaps 1 age 2\na 1 1 0 4097 16\n",
+        7,
+        NOT_BUILT,
+    ),
+    (
+        "pas 1 pages 4 threads 1 heaps 1 age 2\na 1 1 0 4097 16\nf 1 2\n",
+        1,
+        "line 3: NameUnknown\n",
+    ),
+];
+
+#[test]
+fn inputs_have_outcomes(rt: HostRuntime) -> Result<(), Fail> {
+    for (input, status, text) in OUTCOMES {
+        let outcome = outcome_of(rt.alloc(), &["order"], input.as_bytes(), &[], &[], ROOM)?;
+        assert_eq!(rt; outcome.status, status, "at {input:?}");
+        assert_eq!(rt; outcome.taken.as_slice(), text.as_bytes(), "at {input:?}");
+    }
+    check_cut_off(&rt, &["order"], b"", b"line 1: BadHeader\n", 1)?;
+    check_cut_off(
+        &rt,
+        &["order"],
+        b"pas 1 pages 1 threads 1 heaps 2 age 2\nshared 1",
+        NOT_BUILT.as_bytes(),
+        7,
+    )
+}
+
+#[test]
+fn inputs_have_a_limit(rt: HostRuntime) -> Result<(), Fail> {
+    let cases = [
+        (16_777_216, 1, "line 1: BadHeader\n"),
+        (16_777_217, 6, "input too long\n"),
+    ];
+    for (length, status, text) in cases {
+        let input = vec![in rt.alloc(); 10u8; length]?;
+        let outcome = outcome_of(rt.alloc(), &["order"], &input, &[], &[], ROOM)?;
+        assert_eq!(rt; outcome.status, status, "at {length} bytes");
+        assert_eq!(rt;
+            outcome.taken.as_slice(),
+            text.as_bytes(),
+            "at {length} bytes"
+        );
+    }
+    Ok(())
+}
