@@ -18,8 +18,8 @@ past_end = Record.Event (Event.Deed 0 0 (record { heap = 0; kind = Kind.Class 0 
 pub returns-in_err-put_line-clause-front : goal.returns-in_err-put_line-clause-front
 returns-in_err-put_line-clause-front g c =
     let front = front_longer (g.K.Sink.held c.args.sink.now) (g.K.Sink.held c.put_line.new.sink) c.loop-record.invariant.text
-        (lines_of (drop c.loop-record.record-index c.args.records.now)) (lines_of c.args.records.now) (sym c.loop-record.invariant.rest)
-        (c.in_err-put_line.ensures.front (g.K.Sink.held c.args.sink.now) c.loop-record.invariant.text c.loop-record.invariant.put_out) in
+    (lines_of (drop c.loop-record.record-index c.args.records.now)) (lines_of c.args.records.now) (sym c.loop-record.invariant.rest)
+    (c.in_err-put_line.ensures.front (g.K.Sink.held c.args.sink.now) c.loop-record.invariant.text c.loop-record.invariant.put_out) in
     search (rules, front)
 
 pub loop-record-preserved : goal.loop-record-preserved
@@ -40,9 +40,9 @@ pub returns-clause-front : goal.returns-clause-front
 returns-clause-front g c =
     let none : drop c.loop-record.record-index c.args.records.now ≡ [] = drop_all c.loop-record.record-index c.args.records.now (omega (arith, c.loop-record-test.false)) in
     let text : c.loop-record.invariant.text ≡ lines_of c.args.records.now =
-        sym (append-nil c.loop-record.invariant.text) ∙ sym (ap (λ rs. c.loop-record.invariant.text ++ lines_of rs) none) ∙ c.loop-record.invariant.rest in
+    sym (append-nil c.loop-record.invariant.text) ∙ sym (ap (λ rs. c.loop-record.invariant.text ++ lines_of rs) none) ∙ c.loop-record.invariant.rest in
     let out = subst (IsPutOut (g.K.Sink.held c.args.sink.now) (g.K.Sink.held c.loop-record.sink) c.loop-record.piece.bytes) text c.loop-record.invariant.put_out in
     let waiting : c.as_bytes.result.now ≡ c.loop-record.piece.bytes = c.as_bytes.ensures.value ∙ c.as_str-2.ensures.value in
     on_err_weaker c.write_all.result (λ (wrote : WritesFront (g.K.Sink.held c.loop-record.sink) (g.K.Sink.held c.write_all.new.sink) c.as_bytes.result.now).
-        front_out (g.K.Sink.held c.args.sink.now) (g.K.Sink.held c.loop-record.sink) (g.K.Sink.held c.write_all.new.sink) c.loop-record.piece.bytes (lines_of c.args.records.now) out
-        (subst (WritesFront (g.K.Sink.held c.loop-record.sink) (g.K.Sink.held c.write_all.new.sink)) waiting wrote)) c.write_all.ensures.front
+    front_out (g.K.Sink.held c.args.sink.now) (g.K.Sink.held c.loop-record.sink) (g.K.Sink.held c.write_all.new.sink) c.loop-record.piece.bytes (lines_of c.args.records.now) out
+    (subst (WritesFront (g.K.Sink.held c.loop-record.sink) (g.K.Sink.held c.write_all.new.sink)) waiting wrote)) c.write_all.ensures.front
