@@ -4,5 +4,4 @@ pub mod Reports
 pub mod Counts
 pub mod Rooms
 pub mod Pieces
-pub mod Transcripts
 pub mod Rests

@@ -1,4 +1,4 @@
-use Rattle.std.proofs.Common.{rules, ◌≡◌, ℕ, ◌+◌, List, Option, ◌++◌, ◌∷◌, [], ap, sym, ◌∙◌, subst, append_assoc, append-nil, drop, get_or, length, arith}
+use Rattle.std.proofs.Common.{rules, ◌≡◌, ℕ, ◌+◌, List, ◌++◌, [], ap, sym, ◌∙◌, subst, append_assoc, append-nil, drop, get_or, arith}
 use Rattle.std.proofs.lemmas.List.{at_drop_more, drop_all}
 use Rattle.std.proofs.lemmas.Result.{on_err_weaker}
 use Rattle.pas_io.specs.Told.{WritesFront}
@@ -7,7 +7,6 @@ use Rattle.pas_report.specs.Pieces.{IsPutOut}
 use Rattle.pas_profile.specs.declared.event.Event.TheVariants as Event
 use Rattle.pas_profile.specs.declared.directory.Kind.TheVariants as Kind
 use Rattle.pas_report.specs.declared.record.Record.{Record}
-use Rattle.pas_report.specs.declared.record.Record.TheVariants as Record
 use Rattle.pas_report.proofs.Pieces.{front_out, front_longer}
 use Rattle.pas_report.proofs.transcript.write_lines.Goals as goal
 
@@ -17,32 +16,32 @@ past_end = Record.Event (Event.Deed 0 0 (record { heap = 0; kind = Kind.Class 0 
 
 pub returns-in_err-put_line-clause-front : goal.returns-in_err-put_line-clause-front
 returns-in_err-put_line-clause-front g c =
-    let front = front_longer (g.K.Sink.held c.args.sink.now) (g.K.Sink.held c.put_line.new.sink) c.loop-record.invariant.text
-    (lines_of (drop c.loop-record.record-index c.args.records.now)) (lines_of c.args.records.now) (sym c.loop-record.invariant.rest)
-    (c.in_err-put_line.ensures.front (g.K.Sink.held c.args.sink.now) c.loop-record.invariant.text c.loop-record.invariant.put_out) in
+    let front = front_longer (g.K.Sink.held c.args.sink.now) (g.K.Sink.held c.put_line.new.sink) c.loop-item.invariant.text
+    (lines_of (drop c.loop-item.item-index c.args.records.now)) (lines_of c.args.records.now) (sym c.loop-item.invariant.rest)
+    (c.in_err-put_line.ensures.front (g.K.Sink.held c.args.sink.now) c.loop-item.invariant.text c.loop-item.invariant.put_out) in
     search (rules, front)
 
-pub loop-record-preserved : goal.loop-record-preserved
-loop-record-preserved g c =
-    let line : c.as_str.result.now ≡ line_of (get_or c.args.records.now c.loop-record.record-index past_end) = c.as_str.ensures.value ∙ c.record_line.ensures in
-    let more = at_drop_more lines_of c.args.records.now c.loop-record.record-index past_end c.loop-record-test.true in
+pub loop-item-preserved : goal.loop-item-preserved
+loop-item-preserved g c =
+    let line : c.as_str.result.now ≡ line_of (get_or c.args.records.now c.loop-item.item-index past_end) = c.as_str.ensures.value ∙ c.record_line.ensures in
+    let more = at_drop_more lines_of c.args.records.now c.loop-item.item-index past_end c.loop-item-test.true in
     record {
-      text = c.loop-record.invariant.text ++ c.as_str.result.now;
-      put_out = c.in_ok-put_line.ensures.adds (g.K.Sink.held c.args.sink.now) c.loop-record.invariant.text c.loop-record.invariant.put_out;
-      rest = ap (λ (t : List ℕ). (c.loop-record.invariant.text ++ t) ++ lines_of (drop (c.loop-record.record-index + 1) c.args.records.now)) line
-          ∙ append_assoc c.loop-record.invariant.text (line_of (get_or c.args.records.now c.loop-record.record-index past_end)) (lines_of (drop (c.loop-record.record-index + 1) c.args.records.now))
-          ∙ ap (λ (t : List ℕ). c.loop-record.invariant.text ++ t) (sym more)
-          ∙ c.loop-record.invariant.rest;
+      text = c.loop-item.invariant.text ++ c.as_str.result.now;
+      put_out = c.in_ok-put_line.ensures.adds (g.K.Sink.held c.args.sink.now) c.loop-item.invariant.text c.loop-item.invariant.put_out;
+      rest = ap (λ (t : List ℕ). (c.loop-item.invariant.text ++ t) ++ lines_of (drop (c.loop-item.item-index + 1) c.args.records.now)) line
+          ∙ append_assoc c.loop-item.invariant.text (line_of (get_or c.args.records.now c.loop-item.item-index past_end)) (lines_of (drop (c.loop-item.item-index + 1) c.args.records.now))
+          ∙ ap (λ (t : List ℕ). c.loop-item.invariant.text ++ t) (sym more)
+          ∙ c.loop-item.invariant.rest;
       count = search rules;
     }
 
 pub returns-clause-front : goal.returns-clause-front
 returns-clause-front g c =
-    let none : drop c.loop-record.record-index c.args.records.now ≡ [] = drop_all c.loop-record.record-index c.args.records.now (omega (arith, c.loop-record-test.false)) in
-    let text : c.loop-record.invariant.text ≡ lines_of c.args.records.now =
-    sym (append-nil c.loop-record.invariant.text) ∙ sym (ap (λ rs. c.loop-record.invariant.text ++ lines_of rs) none) ∙ c.loop-record.invariant.rest in
-    let out = subst (IsPutOut (g.K.Sink.held c.args.sink.now) (g.K.Sink.held c.loop-record.sink) c.loop-record.piece.bytes) text c.loop-record.invariant.put_out in
-    let waiting : c.as_bytes.result.now ≡ c.loop-record.piece.bytes = c.as_bytes.ensures.value ∙ c.as_str-2.ensures.value in
-    on_err_weaker c.write_all.result (λ (wrote : WritesFront (g.K.Sink.held c.loop-record.sink) (g.K.Sink.held c.write_all.new.sink) c.as_bytes.result.now).
-    front_out (g.K.Sink.held c.args.sink.now) (g.K.Sink.held c.loop-record.sink) (g.K.Sink.held c.write_all.new.sink) c.loop-record.piece.bytes (lines_of c.args.records.now) out
-    (subst (WritesFront (g.K.Sink.held c.loop-record.sink) (g.K.Sink.held c.write_all.new.sink)) waiting wrote)) c.write_all.ensures.front
+    let none : drop c.loop-item.item-index c.args.records.now ≡ [] = drop_all c.loop-item.item-index c.args.records.now (omega (arith, c.loop-item-test.false)) in
+    let text : c.loop-item.invariant.text ≡ lines_of c.args.records.now =
+    sym (append-nil c.loop-item.invariant.text) ∙ sym (ap (λ rs. c.loop-item.invariant.text ++ lines_of rs) none) ∙ c.loop-item.invariant.rest in
+    let out = subst (IsPutOut (g.K.Sink.held c.args.sink.now) (g.K.Sink.held c.loop-item.sink) c.loop-item.piece.bytes) text c.loop-item.invariant.put_out in
+    let waiting : c.as_bytes.result.now ≡ c.loop-item.piece.bytes = c.as_bytes.ensures.value ∙ c.as_str-2.ensures.value in
+    on_err_weaker c.write_all.result (λ (wrote : WritesFront (g.K.Sink.held c.loop-item.sink) (g.K.Sink.held c.write_all.new.sink) c.as_bytes.result.now).
+    front_out (g.K.Sink.held c.args.sink.now) (g.K.Sink.held c.loop-item.sink) (g.K.Sink.held c.write_all.new.sink) c.loop-item.piece.bytes (lines_of c.args.records.now) out
+    (subst (WritesFront (g.K.Sink.held c.loop-item.sink) (g.K.Sink.held c.write_all.new.sink)) waiting wrote)) c.write_all.ensures.front

@@ -4,10 +4,10 @@ use Rattle.pas_report.specs.Pieces.{IsPutOut}
 use Rattle.pas_report.proofs.transcript.write_lines.Given as goal
 
 -- the lines of the records before this one were put out
-abbrev pub invariant-loop-record : goal.invariant-loop-record
-invariant-loop-record g l = record {
+abbrev pub invariant-loop-item : goal.invariant-loop-item
+invariant-loop-item g l = record {
   text : List ℕ;
   put_out : IsPutOut (g.K.Sink.held l.fn.sink) (g.K.Sink.held l.sink) l.piece.bytes text;
-  rest : text ++ lines_of (drop l.record-index l.records) ≡ lines_of l.records;
+  rest : text ++ lines_of (drop l.item-index l.records) ≡ lines_of l.records;
   count : g.K.Sink.faults l.fn.sink ≤ g.K.Sink.faults l.sink;
 }
