@@ -1,9 +1,3 @@
-pub mod Digits
-pub mod Appending
-pub mod Counting
-pub mod Totalled
-pub mod Agreeing
-pub mod Telling
 pub mod Ending
 pub mod Numbers
 pub mod Texts

@@ -1,12 +1,6 @@
 pub mod Forms
 pub mod Answers
 pub mod Lines
-pub mod Totals
-pub mod Told
-pub mod Unread
-pub mod Taken
-pub mod Schedules
-pub mod Inputs
 pub mod Outputs
 pub mod Readings
 pub mod NameTables
