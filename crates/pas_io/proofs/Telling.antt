@@ -1,5 +1,5 @@
 -- What several reads or writes in a row do to the bytes that are told.
-use Rattle.std.proofs.Common.{◌≡◌, ℕ, ◌+◌, ◌≤◌, List, [], ◌++◌, Option, None, Some, take, drop, length, refl, ap, sym, ◌∙◌, subst, append_assoc, append-nil, arith, length-take, length-append}
+use Rattle.std.proofs.Common.{◌≡◌, ℕ, ◌+◌, ◌≤◌, List, [], ◌++◌, Option, None, Some, take, drop, length, refl, ap, sym, ◌∙◌, subst, append_assoc, append-nil, arith, length-take}
 use Rattle.std.proofs.lemmas.List.{take-append-le, take-append-drop, take_all}
 use Rattle.std.proofs.Math.Seq.{take-add, take-append-add}
 use borrow.Rule.Slice.PartMut.{put_mid, post_of}
@@ -38,24 +38,7 @@ filled_more told buffer part k m n within front fits moved =
 pub left_more : (told : List ℕ) (left left' : Option (List ℕ)) (buffer buffer' : List ℕ) (k n : ℕ) → left ≡ Some (drop k told) → MovesTold left left' buffer buffer' n → Moves (drop k told) left' buffer buffer' n
 left_more told left left' buffer buffer' k n is moves = let Moved : Option (List ℕ) → Type 0 = λ l. MovesTold l left' buffer buffer' n in subst Moved is moves
 
--- a part of a part, and the front of a longer list
-pub take_less : (bytes : List ℕ) (n m : ℕ) → n ≤ m → n ≤ length bytes → take n (take m bytes) ≡ take n bytes
-take_less bytes n m less fits =
-    let size = length-take m bytes in
-    let inside : n ≤ length (take m bytes) = omega arith in
-    sym (take-append-le n (take m bytes) (drop m bytes) inside) ∙ ap (λ (t : List ℕ). take n t) (take-append-drop m bytes)
-
-pub front_of_front : (bytes more : List ℕ) (n m : ℕ) → n ≤ m → n ≤ length bytes → take n (take m (bytes ++ more)) ≡ take n bytes
-front_of_front bytes more n m less fits =
-    let size = length-append bytes more in
-    let inside : n ≤ length (bytes ++ more) = omega arith in
-    take_less (bytes ++ more) n m less inside ∙ take-append-le n bytes more fits
-
--- ---- a buffer that grows
-pub has_read_none : (told : List ℕ) (rest : Option (List ℕ)) → rest ≡ Some told → HasRead told rest [] 0
-has_read_none told rest is = record { within = omega arith; left = is; front = refl }
-
--- .. keeps its front
+-- ---- a buffer that grows keeps its front
 pub grown_front : (items new more : List ℕ) (n size : ℕ) → n ≡ length items → n ≤ size → new ≡ take size items ++ more → take n new ≡ take n items
 grown_front items new more n size full less is =
     let whole : take size items ≡ items = take_all size items (omega arith) in

@@ -1,5 +1,5 @@
 -- Counts and sums below a number: one more, and how great they may be.
-use Rattle.std.proofs.Common.{◌≡◌, ℕ, zero, suc, ◌+◌, ◌*◌, ◌/◌, ◌%◌, ◌^◌, ◌<◌, ◌≤◌, ◌==◌, Bool, true, false, if◌then◌else◌, refl, ap, sym, ◌∙◌, arith, add-one, add-zero, add-suc}
+use Rattle.std.proofs.Common.{◌≡◌, ℕ, zero, suc, ◌+◌, ◌*◌, ◌/◌, ◌%◌, ◌^◌, ◌<◌, ◌==◌, Bool, true, false, if◌then◌else◌, refl, ap, sym, ◌∙◌, arith, add-one, add-zero, add-suc}
 use Rattle.std.proofs.Math.Nat.{pow-suc, div-lt_iff_lt-mul, mod-lt}
 use Rattle.std.proofs.lemmas.Nat.{ones_cat, pow_pos, shr_split}
 use Rattle.std.proofs.lemmas.Nat.Bits.{bit_at_cat_low}
@@ -34,18 +34,10 @@ pub sum_and_count : (n : ℕ) (v : ℕ → ℕ) (p : ℕ → Bool) → sum_below
 sum_and_count zero v p = refl
 sum_and_count (suc n) v p = omega (arith, sum_and_count n v p, count_suc n p (p n) refl)
 
--- ---- counts of two parts, and how great a count may be
+-- ---- counts of two parts, and of a page
 pub count_add : (i j : ℕ) (p : ℕ → Bool) → count_below (i + j) p ≡ count_below i p + count_below j (λ b. p (i + b))
 count_add i zero p = ap (λ n. count_below n p) (add-zero i) ∙ omega arith
 count_add i (suc j) p = ap (λ n. count_below n p) (add-suc i j) ∙ count_suc (i + j) p (p (i + j)) refl ∙ omega (arith, count_add i j p, count_suc j (λ b. p (i + b)) (p (i + j)) refl)
-
-one_or_none : (b : Bool) → (if b then 1 else 0) ≤ 1
-one_or_none true = omega arith
-one_or_none false = omega arith
-
-pub count_few : (n : ℕ) (p : ℕ → Bool) → count_below n p ≤ n
-count_few zero p = omega arith
-count_few (suc n) p = omega (arith, count_few n p, count_suc n p (p n) refl, one_or_none (p n))
 
 pub grains_counted : (n : ℕ) (p : ℕ → Bool) → n ≡ 256 → count_below n p ≡ grains_that p
 unfolding grains_that

@@ -1,24 +1,14 @@
 -- A text that goes out in pieces.
 use Rattle.std.proofs.Common.{◌≡◌, ℕ, zero, suc, ◌+◌, ◌-◌, ◌≤◌, List, [], ◌++◌, Option, ap, sym, ◌∙◌, subst, append_assoc, append-nil, add-zero, add-suc, arith, codes}
 use Rattle.pas_io.specs.Told.{Writes, WritesFront}
-use Rattle.pas_io.proofs.Telling.{writes_none, writes_more}
+use Rattle.pas_io.proofs.Telling.{writes_more}
 use Rattle.pas_steps.specs.declared.state.State.{State}
 use Rattle.pas_report.specs.Counts.{page_by_words, pages_by_words, pages_of, report_by_words, totals_by_words}
 use Rattle.pas_report.specs.Pieces.{IsPutOut}
 
--- a text that waits; and one that was written whole
-pub waits : (held : Option (List ℕ)) (waiting text : List ℕ) → text ≡ waiting → IsPutOut held held waiting text
-waits held waiting text is = record { written = []; text_is = is; writes = writes_none held }
-
+-- a text that was written whole
 pub flushed : (before now after : Option (List ℕ)) (waiting text : List ℕ) → IsPutOut before now waiting text → Writes now after waiting → Writes before after text
 flushed before now after waiting text out wrote = subst (Writes before after) (sym out.text_is) (writes_more before now after out.written waiting out.writes wrote)
-
--- one more line that waits, after others or alone
-pub line_waits : (before now : Option (List ℕ)) (waiting more line text : List ℕ) → more ≡ waiting ++ line → IsPutOut before now waiting text → IsPutOut before now more (text ++ line)
-line_waits before now waiting more line text is out = record { written = out.written; text_is = ap (λ (t : List ℕ). t ++ line) out.text_is ∙ append_assoc out.written waiting line ∙ ap (λ (t : List ℕ). out.written ++ t) (sym is); writes = out.writes }
-
-pub line_alone : (before now after : Option (List ℕ)) (waiting none more line text : List ℕ) → none ≡ [] → more ≡ none ++ line → Writes now after waiting → IsPutOut before now waiting text → IsPutOut before after more (text ++ line)
-line_alone before now after waiting none more line text empty is wrote out = record { written = text; text_is = ap (λ (t : List ℕ). text ++ t) (sym (is ∙ ap (λ (t : List ℕ). t ++ line) empty)); writes = flushed before now after waiting text out wrote }
 
 -- a failed write
 pub front_out : (before now after : Option (List ℕ)) (waiting text : List ℕ) → IsPutOut before now waiting text → WritesFront now after waiting → WritesFront before after text

@@ -1,0 +1,3 @@
+pub mod Bringing
+pub mod Besides
+pub mod Found
