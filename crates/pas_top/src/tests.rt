@@ -226,3 +226,20 @@ fn inputs_have_a_limit(rt: HostRuntime) -> Result<(), Fail> {
     }
     Ok(())
 }
+
+#[test]
+fn operations_have_a_limit(rt: HostRuntime) -> Result<(), Fail> {
+    let mut input = b"pas 1 pages 4 threads 2 heaps 1 age 2\n"
+        .as_slice()
+        .to_vec(rt.alloc())?;
+    for _ in 0..1_000_001 {
+        input.extend_from_slice(b"flush 1\n")?;
+    }
+    let outcome = outcome_of(rt.alloc(), &["order"], &input, &[], &[], ROOM)?;
+    assert_eq!(rt; outcome.status, 1);
+    assert_eq!(rt;
+        outcome.taken.as_slice(),
+        b"line 1000002: TooManyOps\n".as_slice()
+    );
+    Ok(())
+}
