@@ -134,138 +134,158 @@ fn a_plan_is_made(rt: HostRuntime) -> Result<(), Fail> {
     Ok(())
 }
 
-/// Lines before, a last line, and the fault: each reason at its border and past it, and bytes that belong to no word of the format.
-const BORDERS: [(&[u8], &[u8], Option<(u32, Reason)>); 77] = [
-    (b"", b"A 1 1 0 16 16\n", Some((2, Reason::BadWord))),
-    (b"", b"a 1 1 0 16\n", Some((2, Reason::BadWord))),
-    (b"", b"a 1 1 0 16 16 16\n", Some((2, Reason::BadWord))),
-    (b"", b"a\n", Some((2, Reason::BadWord))),
-    (b"", b"f 1\n", Some((2, Reason::BadWord))),
-    (b"a 1 1 0 16 16\n", b"f 1 1 1\n", Some((3, Reason::BadWord))),
-    (b"", b"r 1 0x00001000\n", Some((2, Reason::BadWord))),
-    (b"", b"pass 1\n", Some((2, Reason::BadWord))),
-    (b"", b"phase phase\n", Some((2, Reason::BadWord))),
-    (b"", b"flush\n", Some((2, Reason::BadWord))),
-    (b"", b"stop 1 1\n", Some((2, Reason::BadWord))),
-    (b"", b"shared\n", Some((2, Reason::BadWord))),
-    (b"phase\n", b"shared 0\n", Some((3, Reason::BadWord))),
-    (b"#x\n\n", b"shared 0\n", None),
-    (
-        b"",
-        b"pas 1 pages 4 threads 2 heaps 1 age 2\n",
-        Some((2, Reason::BadWord)),
-    ),
-    (b"", b"a\t1 1 0 16 16\n", Some((2, Reason::BadWord))),
-    (b"", b"pass\0\n", Some((2, Reason::BadWord))),
-    (b"", b"\0\n", Some((2, Reason::BadWord))),
-    (b"", b"pass\r\n", Some((2, Reason::BadWord))),
-    (b"", b"\r\n", Some((2, Reason::BadWord))),
-    (b"", b"\t\n", Some((2, Reason::BadWord))),
-    (b"", b"\xff\xfe\n", Some((2, Reason::BadWord))),
-    (b"", b"\xc3\x28 1\n", Some((2, Reason::BadWord))),
-    (b"", b"   pass   ", None),
-    (b"", b"     ", None),
-    (b"", b"#\xff\0\t", None),
-    (b"", b"a 1 1 0 16 16\r\n", Some((2, Reason::BadNumber))),
-    (b"", b"a +1 1 0 16 16\n", Some((2, Reason::BadNumber))),
-    (b"", b"a -1 1 0 16 16\n", Some((2, Reason::BadNumber))),
-    (b"", b"a 1 1 0 0x10 16\n", Some((2, Reason::BadNumber))),
-    (b"", b"a 1 1 0 1_6 16\n", Some((2, Reason::BadNumber))),
-    (b"", b"a 1 1 0 16 016\n", Some((2, Reason::BadNumber))),
-    (b"", b"a 1 1 00 16 16\n", Some((2, Reason::BadNumber))),
-    (b"", b"a 1 0 0 16 16\n", Some((2, Reason::BadNumber))),
-    (b"", b"a 1 1000000 0 16 16\n", None),
-    (b"", b"a 1 1000001 0 16 16\n", Some((2, Reason::BadNumber))),
-    (b"", b"f 1 1000001\n", Some((2, Reason::BadNumber))),
-    (b"", b"f 1 1000000\n", Some((2, Reason::NameUnknown))),
-    (
-        b"",
-        b"flush 18446744073709551616\n",
-        Some((2, Reason::BadNumber)),
-    ),
-    (
-        b"",
-        b"flush 18446744073709551615\n",
-        Some((2, Reason::BadThread)),
-    ),
-    (
-        b"",
-        b"flush 36893488147419103233\n",
-        Some((2, Reason::BadNumber)),
-    ),
-    (
-        b"",
-        b"shared 18446744073709551615\n",
-        Some((2, Reason::BadHeap)),
-    ),
-    (b"", b"idle 1099511627776\n", Some((2, Reason::BadNumber))),
-    (b"", b"idle 1099511627775\n", None),
-    (b"", b"tick 0\n", None),
-    (b"", b"r 1 0x00001000 1099511627774\n", None),
-    (
-        b"",
-        b"r 1 0x00001000 1099511627775\n",
-        Some((2, Reason::BadNumber)),
-    ),
-    (b"", b"r 1 0X00001000 0\n", Some((2, Reason::BadNumber))),
-    (b"", b"r 1 0x0001000 0\n", Some((2, Reason::BadNumber))),
-    (b"", b"r 1 0x000001000 0\n", Some((2, Reason::BadNumber))),
-    (b"", b"r 1 0xffffffff 0\n", None),
-    (b"", b"r 1 4096 0\n", Some((2, Reason::BadNumber))),
-    (b"", b"a 0 1 0 16 16\n", Some((2, Reason::BadThread))),
-    (b"", b"a 2 1 0 16 16\n", None),
-    (b"", b"a 3 1 0 16 16\n", Some((2, Reason::BadThread))),
-    (b"", b"a 3 1 9 99999999 7\n", Some((2, Reason::BadThread))),
-    (b"", b"a 1 1 9 99999999 7\n", Some((2, Reason::BadHeap))),
-    (b"", b"a 1 1 0 99999999 7\n", Some((2, Reason::BadSize))),
-    (b"", b"r 0 0x00001000 0\n", Some((2, Reason::BadThread))),
-    (b"", b"stop 0\n", Some((2, Reason::BadThread))),
-    (b"", b"shared 1\n", Some((2, Reason::BadHeap))),
-    (b"", b"a 1 1 0 0 16\n", None),
-    (b"", b"a 1 1 0 16384 16\n", None),
-    (b"", b"a 1 1 0 16385 16\n", Some((2, Reason::BadSize))),
-    (b"", b"a 1 1 0 16 0\n", Some((2, Reason::BadAlign))),
-    (b"", b"a 1 1 0 16 4096\n", None),
-    (b"", b"a 1 1 0 16 8192\n", Some((2, Reason::BadAlign))),
-    (b"", b"a 1 1 0 16 15\n", Some((2, Reason::BadAlign))),
-    (
-        b"a 1 1 0 16 16\n",
-        b"a 1 1 0 16 24\n",
-        Some((3, Reason::BadAlign)),
-    ),
-    (
-        b"a 1 1 0 16 16\nf 1 1\n",
-        b"a 1 1 0 16 16\n",
-        Some((4, Reason::NameTaken)),
-    ),
-    (b"a 1 1 0 16 16\n", b"f 1 1\n", None),
-    (b"a 1 1 0 16 16\nf 1 1\n", b"f 1 1\n", None),
-    (
-        b"a 1 1 0 16 16\n\n#\n  \n",
-        b"f 2 1\n",
-        Some((6, Reason::TooEarly)),
-    ),
-    (b"a 1 1 0 16 16\nphase\n", b"f 2 1\n", None),
-    (
-        b"a 1 1 0 16 16\nphase\n",
-        b"f 3 1\n",
-        Some((4, Reason::BadThread)),
-    ),
-    (
-        b"phase\nphase\n",
-        b"f 1 1\n",
-        Some((4, Reason::NameUnknown)),
-    ),
-    (b"pass\n", b"f 9\nalloc\n", Some((3, Reason::BadWord))),
-];
+#[test]
+fn words_have_borders(rt: HostRuntime) -> Result<(), Fail> {
+    let cases: [(&[u8], &[u8], Option<TraceFault>); 20] = [
+        (b"", b"A 1 1 0 16 16\n", at(2, Reason::BadWord)),
+        (b"", b"a 1 1 0 16\n", at(2, Reason::BadWord)),
+        (b"", b"a 1 1 0 16 16 16\n", at(2, Reason::BadWord)),
+        (b"", b"a\n", at(2, Reason::BadWord)),
+        (b"", b"f 1\n", at(2, Reason::BadWord)),
+        (b"a 1 1 0 16 16\n", b"f 1 1 1\n", at(3, Reason::BadWord)),
+        (b"", b"r 1 0x00001000\n", at(2, Reason::BadWord)),
+        (b"", b"pass 1\n", at(2, Reason::BadWord)),
+        (b"", b"phase phase\n", at(2, Reason::BadWord)),
+        (b"", b"flush\n", at(2, Reason::BadWord)),
+        (b"", b"stop 1 1\n", at(2, Reason::BadWord)),
+        (b"", b"shared\n", at(2, Reason::BadWord)),
+        (b"phase\n", b"shared 0\n", at(3, Reason::BadWord)),
+        (b"#x\n\n", b"shared 0\n", None),
+        (
+            b"",
+            b"pas 1 pages 4 threads 2 heaps 1 age 2\n",
+            at(2, Reason::BadWord),
+        ),
+        (b"", b"a\t1 1 0 16 16\n", at(2, Reason::BadWord)),
+        (b"", b"pass\0\n", at(2, Reason::BadWord)),
+        (b"", b"\0\n", at(2, Reason::BadWord)),
+        (b"", b"pass\r\n", at(2, Reason::BadWord)),
+        (b"", b"\r\n", at(2, Reason::BadWord)),
+    ];
+    for (before, line, fault) in cases {
+        expect_after(&rt, rt.alloc(), before, line, fault)?;
+    }
+    Ok(())
+}
 
 #[test]
-fn borders_have_faults(rt: HostRuntime) -> Result<(), Fail> {
-    for (before, line, expected) in BORDERS {
-        let fault = match expected {
-            Some((number, reason)) => at(number, reason),
-            None => None,
-        };
+fn numbers_have_borders(rt: HostRuntime) -> Result<(), Fail> {
+    let cases: [(&[u8], &[u8], Option<TraceFault>); 20] = [
+        (b"", b"\t\n", at(2, Reason::BadWord)),
+        (b"", b"\xff\xfe\n", at(2, Reason::BadWord)),
+        (b"", b"\xc3\x28 1\n", at(2, Reason::BadWord)),
+        (b"", b"   pass   ", None),
+        (b"", b"     ", None),
+        (b"", b"#\xff\0\t", None),
+        (b"", b"a 1 1 0 16 16\r\n", at(2, Reason::BadNumber)),
+        (b"", b"a +1 1 0 16 16\n", at(2, Reason::BadNumber)),
+        (b"", b"a -1 1 0 16 16\n", at(2, Reason::BadNumber)),
+        (b"", b"a 1 1 0 0x10 16\n", at(2, Reason::BadNumber)),
+        (b"", b"a 1 1 0 1_6 16\n", at(2, Reason::BadNumber)),
+        (b"", b"a 1 1 0 16 016\n", at(2, Reason::BadNumber)),
+        (b"", b"a 1 1 00 16 16\n", at(2, Reason::BadNumber)),
+        (b"", b"a 1 0 0 16 16\n", at(2, Reason::BadNumber)),
+        (b"", b"a 1 1000000 0 16 16\n", None),
+        (b"", b"a 1 1000001 0 16 16\n", at(2, Reason::BadNumber)),
+        (b"", b"f 1 1000001\n", at(2, Reason::BadNumber)),
+        (b"", b"f 1 1000000\n", at(2, Reason::NameUnknown)),
+        (
+            b"",
+            b"flush 18446744073709551616\n",
+            at(2, Reason::BadNumber),
+        ),
+        (
+            b"",
+            b"flush 18446744073709551615\n",
+            at(2, Reason::BadThread),
+        ),
+    ];
+    for (before, line, fault) in cases {
+        expect_after(&rt, rt.alloc(), before, line, fault)?;
+    }
+    Ok(())
+}
+
+#[test]
+fn values_have_borders(rt: HostRuntime) -> Result<(), Fail> {
+    let cases: [(&[u8], &[u8], Option<TraceFault>); 20] = [
+        (
+            b"",
+            b"flush 36893488147419103233\n",
+            at(2, Reason::BadNumber),
+        ),
+        (
+            b"",
+            b"shared 18446744073709551615\n",
+            at(2, Reason::BadHeap),
+        ),
+        (b"", b"idle 1099511627776\n", at(2, Reason::BadNumber)),
+        (b"", b"idle 1099511627775\n", None),
+        (b"", b"tick 0\n", None),
+        (b"", b"r 1 0x00001000 1099511627774\n", None),
+        (
+            b"",
+            b"r 1 0x00001000 1099511627775\n",
+            at(2, Reason::BadNumber),
+        ),
+        (b"", b"r 1 0X00001000 0\n", at(2, Reason::BadNumber)),
+        (b"", b"r 1 0x0001000 0\n", at(2, Reason::BadNumber)),
+        (b"", b"r 1 0x000001000 0\n", at(2, Reason::BadNumber)),
+        (b"", b"r 1 0xffffffff 0\n", None),
+        (b"", b"r 1 4096 0\n", at(2, Reason::BadNumber)),
+        (b"", b"a 0 1 0 16 16\n", at(2, Reason::BadThread)),
+        (b"", b"a 2 1 0 16 16\n", None),
+        (b"", b"a 3 1 0 16 16\n", at(2, Reason::BadThread)),
+        (b"", b"a 3 1 9 99999999 7\n", at(2, Reason::BadThread)),
+        (b"", b"a 1 1 9 99999999 7\n", at(2, Reason::BadHeap)),
+        (b"", b"a 1 1 0 99999999 7\n", at(2, Reason::BadSize)),
+        (b"", b"r 0 0x00001000 0\n", at(2, Reason::BadThread)),
+        (b"", b"stop 0\n", at(2, Reason::BadThread)),
+    ];
+    for (before, line, fault) in cases {
+        expect_after(&rt, rt.alloc(), before, line, fault)?;
+    }
+    Ok(())
+}
+
+#[test]
+fn names_have_borders(rt: HostRuntime) -> Result<(), Fail> {
+    let cases: [(&[u8], &[u8], Option<TraceFault>); 17] = [
+        (b"", b"shared 1\n", at(2, Reason::BadHeap)),
+        (b"", b"a 1 1 0 0 16\n", None),
+        (b"", b"a 1 1 0 16384 16\n", None),
+        (b"", b"a 1 1 0 16385 16\n", at(2, Reason::BadSize)),
+        (b"", b"a 1 1 0 16 0\n", at(2, Reason::BadAlign)),
+        (b"", b"a 1 1 0 16 4096\n", None),
+        (b"", b"a 1 1 0 16 8192\n", at(2, Reason::BadAlign)),
+        (b"", b"a 1 1 0 16 15\n", at(2, Reason::BadAlign)),
+        (
+            b"a 1 1 0 16 16\n",
+            b"a 1 1 0 16 24\n",
+            at(3, Reason::BadAlign),
+        ),
+        (
+            b"a 1 1 0 16 16\nf 1 1\n",
+            b"a 1 1 0 16 16\n",
+            at(4, Reason::NameTaken),
+        ),
+        (b"a 1 1 0 16 16\n", b"f 1 1\n", None),
+        (b"a 1 1 0 16 16\nf 1 1\n", b"f 1 1\n", None),
+        (
+            b"a 1 1 0 16 16\n\n#\n  \n",
+            b"f 2 1\n",
+            at(6, Reason::TooEarly),
+        ),
+        (b"a 1 1 0 16 16\nphase\n", b"f 2 1\n", None),
+        (
+            b"a 1 1 0 16 16\nphase\n",
+            b"f 3 1\n",
+            at(4, Reason::BadThread),
+        ),
+        (b"phase\nphase\n", b"f 1 1\n", at(4, Reason::NameUnknown)),
+        (b"pass\n", b"f 9\nalloc\n", at(3, Reason::BadWord)),
+    ];
+    for (before, line, fault) in cases {
         expect_after(&rt, rt.alloc(), before, line, fault)?;
     }
     Ok(())
