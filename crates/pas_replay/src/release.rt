@@ -1,6 +1,5 @@
 //! One free.
 ghost use Rattle.std.specs.Prelude.{◌≡◌, ◌≤◌, true};
-ghost use Rattle.pas_profile.specs.Profiles.{IsValid};
 ghost use Rattle.pas_steps.specs.Desks.{CanCall};
 ghost use Rattle.pas_replay.specs.Calls.{IsSlotBlock, MayRelease, Releases};
 
@@ -11,7 +10,6 @@ use pas_steps::Desk;
 /// Ends the block, stamps its page and puts its grains back; or is refused, where it ended before. Two to five steps.
 pub(crate) fn release<D: Desk>(desk: &mut D, block: Block)
     requires told { D.tells ≡ true }
-    requires valid { IsValid (D.standing desk.old).seat.profile }
     requires block { IsSlotBlock (D.standing desk.old).seat.profile block }
     requires can { CanCall (D.standing desk.old) (MayRelease (D.standing desk.old) block) }
     ensures releases { Releases (D.standing desk.old) (D.standing desk.new) block }

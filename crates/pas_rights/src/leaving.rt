@@ -1,6 +1,6 @@
 //! An actor gives the right of a page back.
 ghost use Rattle.std.specs.Prelude.{◌≡◌, Bool};
-ghost use Rattle.pas_profile.specs.Profiles.{IsValid, IsPage, IsDirectoryOf};
+ghost use Rattle.pas_profile.specs.Profiles.{IsPage, IsDirectoryOf};
 ghost use Rattle.pas_steps.specs.Desks.{CanCall};
 ghost use Rattle.pas_rights.specs.Rights.{MayLeave, Leaves, OffersPage, ParksPage};
 
@@ -15,7 +15,6 @@ use pas_steps::Desk;
 /// grain was read as free is hinted where it is backed. After the parking the words are looked at once more, and the page is taken back and
 /// offered where they show a usable grain by then. At most eleven steps. Afterwards the actor owes nothing on the page.
 pub fn leave<D: Desk>(desk: &mut D, page: u32, directory: Directory)
-    requires valid { IsValid (D.standing desk.old).seat.profile }
     requires page { IsPage (D.standing desk.old).seat.profile page }
     requires directory { IsDirectoryOf (D.standing desk.old).seat.profile directory }
     requires can { CanCall (D.standing desk.old) (λ v l. MayLeave page directory v) }
@@ -47,7 +46,6 @@ fn offer<D: Desk>(desk: &mut D, page: u32, directory: Directory, all_free: bool)
 /// Parks the page and looks at its free words once more. Where they show a usable grain, the page is taken back, if it is still parked, and
 /// offered.
 fn park<D: Desk>(desk: &mut D, page: u32, directory: Directory)
-    requires valid { IsValid (D.standing desk.old).seat.profile }
     requires page { IsPage (D.standing desk.old).seat.profile page }
     requires directory { IsDirectoryOf (D.standing desk.old).seat.profile directory }
     requires can { CanCall (D.standing desk.old) (λ v l. MayLeave page directory v) }

@@ -2,7 +2,7 @@
 ghost use Rattle.std.specs.Prelude.{◌≡◌, ◌==◌, ◌<◌, ◌/◌, ◌%◌, ◌&&◌, ◌||◌, not, ℕ, bit_and, slice_index};
 ghost use Rattle.pas_profile.specs.Classes.{has_bit};
 ghost use Rattle.pas_profile.specs.Directories.{IsKind};
-ghost use Rattle.pas_profile.specs.Profiles.{IsValid, IsPage, IsDirectoryOf};
+ghost use Rattle.pas_profile.specs.Profiles.{IsPage, IsDirectoryOf};
 ghost use Rattle.pas_steps.specs.Views.{usable_by_kind, all_ones};
 ghost use Rattle.pas_steps.specs.Desks.{Anything, CanCall};
 ghost use Rattle.pas_rights.specs.Rights.{Sees, SeesUntilUsed, Hinted};
@@ -45,7 +45,6 @@ fn usable_mask(kind: Kind) -> [u64; 4]
 
 /// Looks at the four free words of the page, the lowest first.
 pub fn look_free<D: Desk>(desk: &mut D, page: u32, directory: Directory) -> Seen
-    requires valid { IsValid (D.standing desk.old).seat.profile }
     requires page { IsPage (D.standing desk.old).seat.profile page }
     requires directory { IsDirectoryOf (D.standing desk.old).seat.profile directory }
     requires can { CanCall (D.standing desk.old) Anything }

@@ -1,6 +1,5 @@
 //! The search for a page without a deed.
 ghost use Rattle.std.specs.Prelude.{◌≡◌, ◌≤◌};
-ghost use Rattle.pas_profile.specs.Profiles.{IsValid};
 ghost use Rattle.pas_steps.specs.Desks.{Anything, CanCall};
 ghost use Rattle.pas_scan.specs.Scan.{FindsBare};
 
@@ -11,7 +10,6 @@ use pas_steps::Desk;
 ///
 /// None exactly where each deed word from that of `from` on was read, once, as not 0.
 pub fn first_without_deed<D: Desk>(desk: &mut D, from: u32) -> Option<u32>
-    requires valid { IsValid (D.standing desk.old).seat.profile }
     requires from { 1 ≤ from }
     requires can { CanCall (D.standing desk.old) Anything }
     ensures found { FindsBare from (D.standing desk.old) (D.standing desk.new) result }

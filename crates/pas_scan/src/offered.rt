@@ -1,6 +1,6 @@
 //! The search for an offered page.
 ghost use Rattle.std.specs.Prelude.{◌≡◌, ◌≤◌};
-ghost use Rattle.pas_profile.specs.Profiles.{IsValid, IsDirectoryOf};
+ghost use Rattle.pas_profile.specs.Profiles.{IsDirectoryOf};
 ghost use Rattle.pas_steps.specs.Desks.{Anything, CanCall};
 ghost use Rattle.pas_scan.specs.Scan.{FindsOffered};
 
@@ -13,7 +13,6 @@ use pas_steps::Desk;
 ///
 /// None exactly where each eligible word from that of `next` on was read, once, and shows no page from `next` on.
 pub fn first_offered<D: Desk>(desk: &mut D, looked: &mut Looked) -> Option<u32>
-    requires valid { IsValid (D.standing desk.old).seat.profile }
     requires directory { IsDirectoryOf (D.standing desk.old).seat.profile looked.old.directory }
     requires next { 1 ≤ looked.old.next }
     requires can { CanCall (D.standing desk.old) Anything }

@@ -1,6 +1,6 @@
 //! Why a search found no page.
 ghost use Rattle.std.specs.Prelude.{ℕ, ◌≡◌, ◌≤◌, ◌<◌, ◌/◌, ◌+◌, ◌*◌};
-ghost use Rattle.pas_profile.specs.Profiles.{IsValid, IsDirectoryOf};
+ghost use Rattle.pas_profile.specs.Profiles.{IsDirectoryOf};
 ghost use Rattle.pas_steps.specs.Desks.{Anything, CanCall};
 ghost use Rattle.pas_scan.specs.Scan.{FindsMembers, Judges};
 
@@ -12,7 +12,6 @@ use pas_steps::Desk;
 /// The pages of word `block` of a page vector that are of the directory and aren't unfit, as that word: the deed word of each of its
 /// pages is looked at.
 fn members<D: Desk>(desk: &mut D, looked: &Looked, block: u32) -> u64
-    requires valid { IsValid (D.standing desk.old).seat.profile }
     requires directory { IsDirectoryOf (D.standing desk.old).seat.profile looked.now.directory }
     requires block { block ≤ (D.standing desk.old).seat.profile.pages / 64 }
     requires can { CanCall (D.standing desk.old) Anything }
@@ -34,7 +33,6 @@ fn members<D: Desk>(desk: &mut D, looked: &Looked, block: u32) -> u64
 /// Of the pages that are of the directory and aren't unfit the parked bits are read, each once and the lowest page first. `Held` exactly where
 /// one was read as 0, with the lowest such page. `NoSpace` exactly where each was read as 1.
 pub fn verdict<D: Desk>(desk: &mut D, looked: &Looked) -> NoRoom
-    requires valid { IsValid (D.standing desk.old).seat.profile }
     requires directory { IsDirectoryOf (D.standing desk.old).seat.profile looked.now.directory }
     requires can { CanCall (D.standing desk.old) Anything }
     ensures judges { Judges looked.now.unfit looked.now.directory (D.standing desk.old) (D.standing desk.new) result }

@@ -1,6 +1,7 @@
 //! One actor's place at a region.
 ghost use Rattle.std.specs.Prelude.{◌≡◌, ◌+◌, ◌-◌, ◌^◌, ◌≤◌, Bool, ℕ, true, min, length, List, reverse};
 ghost use Rattle.pas_profile.specs.declared.event.Event.{Event};
+ghost use Rattle.pas_profile.specs.Profiles.{IsValid};
 ghost use Rattle.pas_steps.specs.Views.{View};
 ghost use Rattle.pas_steps.specs.Events.{events_of, wants};
 ghost use Rattle.pas_steps.specs.Lists.{Whole, Legal, part};
@@ -185,6 +186,9 @@ pub trait Desk {
     {
         self.make(Step::Hint { page })
     }
+
+    /// The profile is within the limits.
+    ghost valid: { (d : Self) → IsValid (standing d).seat.profile };
 
     /// The events shown are those of each view for which the desk stands.
     ghost shows: { (d : Self) (v : View) (l : Whole) → (standing d).stands v l → shown_of d ≡ reverse (events_of (standing d).seat.actor v) };

@@ -1,6 +1,6 @@
 //! An actor makes a page its own, and may leave it again.
 ghost use Rattle.std.specs.Prelude.{◌≡◌, ◌≤◌};
-ghost use Rattle.pas_profile.specs.Profiles.{IsValid, IsPage, IsDirectoryOf};
+ghost use Rattle.pas_profile.specs.Profiles.{IsPage, IsDirectoryOf};
 ghost use Rattle.pas_steps.specs.Desks.{Anything, CanCall};
 ghost use Rattle.pas_rights.specs.Rights.{MayLeave};
 ghost use Rattle.pas_trials.specs.Trials.{AnyView, LeftIf, MayLeaveIf, Brings};
@@ -44,7 +44,6 @@ pub fn occupy<D: Desk>(desk: &mut D, page: u32, directory: Directory, words: u8)
 /// Occupies the page, and leaves it again where that is asked and the deed was made. The number of steps of the leave, 0 where there was
 /// none. At most `words + 12` steps, and one event.
 pub fn visit<D: Desk>(desk: &mut D, page: u32, directory: Directory, words: u8, leaves: bool) -> u64
-    requires valid { IsValid (D.standing desk.old).seat.profile }
     requires page { IsPage (D.standing desk.old).seat.profile page }
     requires directory { IsDirectoryOf (D.standing desk.old).seat.profile directory }
     requires words { words ≤ 4 }

@@ -1,6 +1,6 @@
 //! An actor wants a page of a directory.
 ghost use Rattle.std.specs.Prelude.{◌≡◌};
-ghost use Rattle.pas_profile.specs.Profiles.{IsValid, IsPage, IsDirectoryOf};
+ghost use Rattle.pas_profile.specs.Profiles.{IsPage, IsDirectoryOf};
 ghost use Rattle.pas_steps.specs.Desks.{Anything, CanCall};
 ghost use Rattle.pas_trials.specs.Trials.{AnyView, Answered, Brings, Wants};
 
@@ -26,7 +26,6 @@ pub struct Findings {
 ///
 /// None exactly where the page isn't of the directory, true exactly where the right is the actor's from now on.
 pub fn ask<D: Desk>(desk: &mut D, page: u32, directory: Directory) -> Option<bool>
-    requires valid { IsValid (D.standing desk.old).seat.profile }
     requires page { IsPage (D.standing desk.old).seat.profile page }
     requires directory { IsDirectoryOf (D.standing desk.old).seat.profile directory }
     requires can { CanCall (D.standing desk.old) Anything }
@@ -41,7 +40,6 @@ pub fn ask<D: Desk>(desk: &mut D, page: u32, directory: Directory) -> Option<boo
 
 /// Asks for the page, and searches the directory and the pages without a deed after that.
 pub fn want<D: Desk>(desk: &mut D, page: u32, directory: Directory) -> Findings
-    requires valid { IsValid (D.standing desk.old).seat.profile }
     requires page { IsPage (D.standing desk.old).seat.profile page }
     requires directory { IsDirectoryOf (D.standing desk.old).seat.profile directory }
     requires can { CanCall (D.standing desk.old) Anything }

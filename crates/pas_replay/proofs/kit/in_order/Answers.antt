@@ -1,11 +1,10 @@
 use Rattle.std.proofs.Common.{◌∙◌, ap, sym, subst, arith, length, []}
 use Rattle.std.specs.Prelude.{map}
 use Rattle.std.proofs.lemmas.List.{length-map}
-use Rattle.pas_profile.specs.Profiles.{IsValid}
 use Rattle.pas_trace.specs.Plans.{ops_of}
 use Rattle.pas_plain.specs.Plain.{PassStands}
 use Rattle.pas_plain.specs.Seats.{standing_of}
-use Rattle.pas_replay.proofs.PlanHolds.{plan_valid, plan_phases, plan_suffices}
+use Rattle.pas_replay.proofs.PlanHolds.{plan_phases, plan_suffices}
 use Rattle.pas_replay.proofs.Starting.{thread_pass, popped, not_popped, start, shows}
 use Rattle.pas_replay.proofs.kit.in_order.Goals as goal
 
@@ -29,9 +28,6 @@ replay-requires-clause-phases c =
     let k = ap (λ ps. length (map ops_of ps)) c.as_slice.ensures in
     let few = plan_phases c.requires.plan.2 c.requires.plan.1 in
     omega (arith, m, k, few)
-
-pub replay-requires-clause-valid : goal.replay-requires-clause-valid
-replay-requires-clause-valid c = subst IsValid (sym (ap (λ r. r.profile) c.desk-desk.ensures.region ∙ c.requires.kit.profile)) (plan_valid c.requires.plan.2)
 
 pub replay-requires-clause-so_far : goal.replay-requires-clause-so_far
 replay-requires-clause-so_far c =

@@ -51,14 +51,14 @@ pub loop-op-preserved : goal.loop-op-preserved
 loop-op-preserved g c = elim c.match-op.branch [
   | in-Alloc w ↦
       let far = λ (all more : List Act) (so : SoFar (g.D.Desk.standing c.args.desk.now).seat all (map Operates c.args.ops.now ++ more) (g.D.Desk.standing c.args.desk.now) c.args.ledger.now c.args.out.now).
-      after_serve c.requires.valid (op_next more c.args.ops.now c.loop-op.op-index (Alloc w.in-Alloc.name w.in-Alloc.heap w.in-Alloc.size w.in-Alloc.align) first c.loop-op-test.true w.in-Alloc.is (c.loop-op.invariant.far all more so))
+      after_serve (g.met.D.Desk.valid c.args.desk.now) (op_next more c.args.ops.now c.loop-op.op-index (Alloc w.in-Alloc.name w.in-Alloc.heap w.in-Alloc.size w.in-Alloc.align) first c.loop-op-test.true w.in-Alloc.is (c.loop-op.invariant.far all more so))
       (λ v l s. g.met.D.Desk.told_part c.loop-op.desk v l c.requires.told s) w.serve.ensures.serves (λ v l s. g.met.D.Desk.told w.serve.new.desk v l c.requires.told s) in
       let seat = w.serve.ensures.serves.adds.seat_is ∙ c.loop-op.invariant.seat in
       let home = w.serve.ensures.home ∙ c.loop-op.invariant.home in
       rw (w.desk-is, w.ledger-is, w.out-is) (record { far = far; seat = seat; home = home })
   | in-Free w ↦
       let far = λ (all more : List Act) (so : SoFar (g.D.Desk.standing c.args.desk.now).seat all (map Operates c.args.ops.now ++ more) (g.D.Desk.standing c.args.desk.now) c.args.ledger.now c.args.out.now).
-      after_free c.requires.valid c.requires.limit (op_next more c.args.ops.now c.loop-op.op-index (Free w.in-Free.name) first c.loop-op-test.true w.in-Free.is (c.loop-op.invariant.far all more so))
+      after_free (g.met.D.Desk.valid c.args.desk.now) c.requires.limit (op_next more c.args.ops.now c.loop-op.op-index (Free w.in-Free.name) first c.loop-op-test.true w.in-Free.is (c.loop-op.invariant.far all more so))
       (λ v l s. g.met.D.Desk.told_part c.loop-op.desk v l c.requires.told s) w.free.ensures.frees (λ v l s. g.met.D.Desk.told w.free.new.desk v l c.requires.told s) in
       let seat = w.free.ensures.frees.adds.seat_is ∙ c.loop-op.invariant.seat in
       let home = w.free.ensures.home ∙ c.loop-op.invariant.home in

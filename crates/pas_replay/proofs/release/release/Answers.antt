@@ -6,7 +6,7 @@ pub returns-then-old-life_word-clause-releases : goal.returns-then-old-life_word
 returns-then-old-life_word-clause-releases g c = released c.args.block c.look.result c.end-old.result c.stamp.result c.requires.block (c.if-old-life_word.true ∙ c.life_word.ensures) c.look.ensures.makes c.end-old.ensures.makes c.stamp.ensures.makes c.put_run.ensures.puts
 
 pub returns-else-old-life_word-clause-releases : goal.returns-else-old-life_word-clause-releases
-returns-else-old-life_word-clause-releases g c = refused c.args.block c.look.result c.end-old.result c.requires.valid c.requires.block (λ h. c.if-old-life_word.false (h ∙ sym c.life_word.ensures)) c.look.ensures.makes c.end-old.ensures.makes
+returns-else-old-life_word-clause-releases g c = refused c.args.block c.look.result c.end-old.result (g.met.D.Desk.valid c.args.desk.now) c.requires.block (λ h. c.if-old-life_word.false (h ∙ sym c.life_word.ensures)) c.look.ensures.makes c.end-old.ensures.makes
     (λ v l s. g.met.D.Desk.told c.args.desk.now v l c.requires.told s) (λ v l s. g.met.D.Desk.told c.end-old.new.self v l c.requires.told s)
 
 pub end-old-requires-clause-can : goal.end-old-requires-clause-can

@@ -43,7 +43,7 @@ pub returns-clause-frees : goal.returns-clause-frees
 returns-clause-frees g c =
     let few = few_pages c.args.ledger.now.pages in
     let bound = c.requires.pages in
-    let pages = c.requires.valid.pages in
+    let pages = (g.met.D.Desk.valid c.args.desk.now).pages in
     frees_some c.args.ledger.now _ c.args.out.now c.push_events.new.out c.args.name (c.in-Some.block.name.address.0 / 4096) c.in-Some.block c.shown-before.result.now c.shown.result.now (sym c.get.ensures ∙ c.in-Some.is) (omega arith) (omega (arith, few, bound, pages))
     c.requires.can (λ v l s. g.met.D.Desk.told_part c.args.desk.now v l c.requires.told s) c.release.ensures.releases
     (λ v l s. c.shown-before.ensures ∙ g.met.D.Desk.shows c.args.desk.now v l s) (λ v l s. c.shown.ensures ∙ g.met.D.Desk.shows c.release.new.desk v l s)

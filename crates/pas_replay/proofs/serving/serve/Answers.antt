@@ -22,7 +22,7 @@ push_events-requires-clause-room g c =
 
 pub returns-in-Some-clause-serves : goal.returns-in-Some-clause-serves
 returns-in-Some-clause-serves g c = serves_some c.args.ledger.now _ c.args.out.now c.push_events.new.out c.args.name c.args.size c.args.align c.in-Some.field-0 c.shown-before.result.now c.shown.result.now
-    c.requires.valid c.requires.align c.class_of-class.ensures c.requires.can (λ v l s. g.met.D.Desk.told_part c.args.desk.now v l c.requires.told s) (λ v l s. g.met.D.Desk.told c.allocate-block.new.desk v l c.requires.told s)
+    (g.met.D.Desk.valid c.args.desk.now) c.requires.align c.class_of-class.ensures c.requires.can (λ v l s. g.met.D.Desk.told_part c.args.desk.now v l c.requires.told s) (λ v l s. g.met.D.Desk.told c.allocate-block.new.desk v l c.requires.told s)
     c.allocate-block.ensures.allocates c.in-Some.is (λ v l s. c.shown-before.ensures ∙ g.met.D.Desk.shows c.args.desk.now v l s) (λ v l s. c.shown.ensures ∙ g.met.D.Desk.shows c.allocate-block.new.desk v l s)
     (record { pages_are = refl; named = c.set.ensures.names; held = c.set.ensures.room }) c.push_events.ensures.added c.push_events.ensures.room
 

@@ -16,11 +16,11 @@ park-requires-clause-can g c = let s = c.look_free-seen.ensures.sees in
 pub returns-then-seen-clause-leaves : goal.returns-then-seen-clause-leaves
 returns-then-seen-clause-leaves g c =
     let p = c.args.page in let d = c.args.directory in let seen = c.look_free-seen.result in let e = c.offer.ensures.offers in
-    leaves_by p d (directory_from_profile (g.D.Desk.standing c.args.desk.now).seat.profile d c.requires.valid c.requires.directory) c.look_free-seen.ensures.sees e.steps e.adds
+    leaves_by p d (directory_from_profile (g.D.Desk.standing c.args.desk.now).seat.profile d (g.met.D.Desk.valid c.args.desk.now) c.requires.directory) c.look_free-seen.ensures.sees e.steps e.adds
     (subst (λ t. EndsLeave t p d seen.all_free e.steps) (sym c.if-seen.true) e.order)
 
 pub returns-else-seen-clause-leaves : goal.returns-else-seen-clause-leaves
 returns-else-seen-clause-leaves g c =
     let p = c.args.page in let d = c.args.directory in let seen = c.look_free-seen.result in let e = c.park.ensures.parks in
-    leaves_by p d (directory_from_profile (g.D.Desk.standing c.args.desk.now).seat.profile d c.requires.valid c.requires.directory) c.look_free-seen.ensures.sees e.steps e.adds
+    leaves_by p d (directory_from_profile (g.D.Desk.standing c.args.desk.now).seat.profile d (g.met.D.Desk.valid c.args.desk.now) c.requires.directory) c.look_free-seen.ensures.sees e.steps e.adds
     (subst (λ t. EndsLeave t p d seen.all_free e.steps) (sym c.if-seen.false) e.order)

@@ -14,7 +14,7 @@ pub loop-word-preserved : goal.loop-word-preserved
 loop-word-preserved g c =
     let i = c.loop-word.invariant in let d = c.args.directory in let a = c.look-value.result in let word = c.loop-word.word in
     let m = slice_index c.usable_mask-mask.result word in
-    let is = directory_from_profile (g.D.Desk.standing c.args.desk.now).seat.profile d c.requires.valid c.requires.directory in
+    let is = directory_from_profile (g.D.Desk.standing c.args.desk.now).seat.profile d (g.met.D.Desk.valid c.args.desk.now) c.requires.directory in
     record {
       answers = a ∷ i.answers;
       so_far = omega (arith, i.so_far);

@@ -31,7 +31,7 @@ returns-clause-members g c =
     let span : IsSpan c.args.block (g.D.Desk.standing c.args.desk.now).seat.profile.pages c.max-first.result c.min-end.result = record { first_is = c.max-first.ensures; end_is = c.min-end.ensures ∙ ap (λ f. min (c.args.block * 64 + 64) (f.pages + 1)) c.profile.ensures } in
     let f = (g.D.Desk.standing c.args.desk.now).seat.profile in let first = c.max-first.result in let end = c.min-end.result in
     let past : end ≤ page = c.loop-page-test.false in
-    let exact : page ≤ end = c.loop-page.auto.page-end (span_some c.args.block f.pages first end span c.requires.block c.requires.valid.some_page) in
+    let exact : page ≤ end = c.loop-page.auto.page-end (span_some c.args.block f.pages first end span c.requires.block (g.met.D.Desk.valid c.args.desk.now).some_page) in
     record {
       steps = i.steps;
       adds = i.adds;
