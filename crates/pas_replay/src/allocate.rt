@@ -1,5 +1,5 @@
 //! One allocation.
-ghost use Rattle.std.specs.Prelude.{◌≡◌, ◌<◌, ◌≤◌, ◌^◌, true, length};
+ghost use Rattle.std.specs.Prelude.{◌≡◌, ◌≤◌, true};
 ghost use Rattle.pas_profile.specs.Classes.{IsClass};
 ghost use Rattle.pas_steps.specs.Desks.{CanCall};
 ghost use Rattle.pas_replay.specs.Calls.{IsSlotOf, MayPlace, Places, MayAllocate, Allocates};

@@ -1,5 +1,5 @@
 //! One operation.
-ghost use Rattle.std.specs.Prelude.{◌≡◌, ◌+◌, ◌<◌, ◌≤◌, ◌^◌, true, length};
+ghost use Rattle.std.specs.Prelude.{◌≡◌, ◌+◌, ◌<◌, ◌≤◌, true, length};
 ghost use Rattle.pas_profile.specs.Classes.{IsAlignment};
 ghost use Rattle.pas_profile.specs.Routes.{route_of};
 ghost use Rattle.pas_report.specs.Rooms.{records_in, room_of};
