@@ -1,0 +1,93 @@
+-- How the content of a cache changes, over the steps of a call, the newest first.
+use Rattle.std.specs.Prelude.{ℕ, zero, suc, ◌+◌, ◌*◌, ◌%◌, ◌≡◌, ◌≢◌, ◌==◌, nat_le, Bool, true, false, not, ◌&&◌, List, [], ◌∷◌, ◌++◌, length, map, reverse, Option, None, Some}
+use Rattle.std.specs.List.{flat_map}
+use Rattle.pas_profile.specs.Classes.{class_size}
+use Rattle.pas_profile.specs.Lives.{turn_of}
+use Rattle.pas_profile.specs.declared.name.Name.{Name}
+use Rattle.pas_profile.specs.declared.name.Block.{Block}
+use Rattle.pas_profile.specs.declared.word.Word.TheVariants as Word
+use Rattle.pas_bits.specs.Masks.{is_set, IsLowestSet}
+use Rattle.pas_machine.specs.Runs.{address_of}
+use Rattle.pas_steps.specs.Views.{View}
+use Rattle.pas_steps.specs.Events.{events_by}
+use Rattle.pas_steps.specs.Desks.{made}
+use Rattle.pas_steps.specs.declared.step.Made.{Made}
+use Rattle.pas_steps.specs.declared.step.Step.TheVariants.{Look, Give}
+use Rattle.pas_free_log.specs.Stamps.{stamps_by}
+use Rattle.pas_free_log.specs.Flushes.{Settled, EntriesSteps, shown_for, stamps_for}
+use Rattle.pas_segregated.specs.Masks.{IsSome, IsEmpty}
+use Rattle.pas_segregated.specs.Stops.{directory_of, LeavesWhere, StopSteps}
+use Rattle.pas_segregated.specs.declared.slots.Slots.{Slots}
+use Rattle.pas_cache.specs.Locals.{local_for, others_than}
+
+-- ---- a slot is given
+-- the same slots but for the one that begins at this grain of the page
+pub record IsWithoutSlot (slots slots' : Slots) (start : ℕ) : Type 0 where
+  pub page : slots'.page ≡ slots.page
+  pub heap : slots'.heap ≡ slots.heap
+  pub class : slots'.class ≡ slots.class
+  pub right : slots'.right ≡ slots.right
+  pub starts : (g : ℕ) → is_set slots'.starts g ≡ (not (g == start) && is_set slots.starts g)
+
+-- The lowest slot is given in two steps: a look at the life word of its first grain, and the give with the turn that this shows. The block has
+-- the slot's bytes.
+pub record GivesSlot (slots slots' : Slots) (block : Block) (steps : List Made) : Type 0 where
+  pub start : ℕ
+  pub lowest : IsLowestSet slots.starts 0 start
+  pub rest : IsWithoutSlot slots slots' start
+  pub word : ℕ
+  pub answer : ℕ
+  pub address : address_of block.name ≡ slots.page * 4096 + start * 16
+  pub turn : block.name.turn ≡ turn_of word
+  pub room : block.room ≡ class_size slots.class
+  pub heap : block.heap ≡ slots.heap
+  pub steps_are : steps ≡ made (Give block) answer ∷ made (Look (Word.Life slots.page start)) word ∷ []
+
+-- ---- local allocators go
+-- one without a slot is left, where it keeps the right of its page
+abbrev pub LeavesSpent : Option Slots → List Made → Type 0
+LeavesSpent None steps = steps ≡ []
+LeavesSpent (Some slots) steps = IsEmpty slots.starts × LeavesWhere slots.right slots.page (directory_of slots) steps
+
+-- the local allocator of the heap and the class, which has no slot, is taken out, where there is one
+abbrev pub IsTakenOut : ℕ → ℕ → List Slots → List Slots → List Made → Type 0
+IsTakenOut heap class locals locals' steps = LeavesSpent (local_for heap class locals) steps × (locals' ≡ others_than heap class locals)
+
+-- the first is stopped where the list is full
+abbrev pub StopsFirst : Bool → List Slots → List Slots → List Made → Type 0
+StopsFirst full [] locals' steps = (locals' ≡ []) × (steps ≡ [])
+StopsFirst true (oldest ∷ rest) locals' steps = (locals' ≡ rest) × StopSteps oldest steps
+StopsFirst false (oldest ∷ rest) locals' steps = (locals' ≡ oldest ∷ rest) × (steps ≡ [])
+
+-- where 32 are there, the one used longest ago is stopped
+abbrev pub IsShortened : List Slots → List Slots → List Made → Type 0
+IsShortened locals locals' steps = StopsFirst (nat_le 32 (length locals)) locals locals' steps
+
+-- all are stopped, the last one first
+abbrev pub StopsAll : List Slots → List Made → Type 0
+StopsAll [] steps = steps ≡ []
+StopsAll (slots ∷ rest) steps = (piece : List Made) × (before : List Made) × StopSteps slots piece × StopsAll rest before × (steps ≡ piece ++ before)
+
+-- ---- the log is emptied
+-- A look at the epoch, and then the steps for each of these names in order. Each makes one event, with exactly that name and the epoch that was
+-- read; each page of each block that ended is stamped once with it, and no other page. `settled` has what came of each, the newest first.
+pub record EmptiesLog (actor : ℕ) (names : List Name) (steps : List Made) : Type 0 where
+  pub epoch : ℕ
+  pub settled : List Settled
+  pub names_are : reverse (map (λ entry. entry.name) settled) ≡ names
+  pub entries : List Made
+  pub order : EntriesSteps settled entries
+  pub steps_are : steps ≡ entries ++ (made (Look Word.Epoch) epoch ∷ [])
+  pub events : (v : View) → events_by actor v steps ≡ map (shown_for actor epoch) settled
+  pub stamps : (v : View) → stamps_by v steps ≡ flat_map (stamps_for epoch) settled
+
+-- before a name is added: a full log is emptied, and another isn't touched
+abbrev pub EmptiesFull : Bool → ℕ → List Name → List Name → List Made → Type 0
+EmptiesFull true actor log log' steps = EmptiesLog actor log steps × (log' ≡ [])
+EmptiesFull false actor log log' steps = (steps ≡ []) × (log' ≡ log)
+
+-- the name is logged at the end, after a full log was emptied
+pub record LogsName (actor : ℕ) (log log' : List Name) (name : Name) (steps : List Made) : Type 0 where
+  pub kept : List Name
+  pub emptied : EmptiesFull (nat_le 64 (length log)) actor log kept steps
+  pub log_is : log' ≡ kept ++ name ∷ []

@@ -1,0 +1,131 @@
+-- What the parts of the calls ask and promise.
+use Rattle.std.specs.Prelude.{ℕ, ◌^◌, ◌<◌, ◌≤◌, ◌≡◌, Bool, true, false, ◌⊎◌, List, [], ◌∷◌, ◌++◌, length, None, Some, Result, Ok, MatchResult}
+use Rattle.pas_profile.specs.declared.event.NoRoom.{NoRoom}
+use Rattle.pas_profile.specs.declared.name.Block.{Block}
+use Rattle.pas_profile.specs.declared.profile.Profile.{Profile}
+use Rattle.pas_steps.specs.Views.{View, holds, is_unstamped}
+use Rattle.pas_steps.specs.Agreement.{Agreed}
+use Rattle.pas_steps.specs.Lists.{Whole}
+use Rattle.pas_steps.specs.Past.{Always}
+use Rattle.pas_steps.specs.Desks.{Standing, Adds, triples}
+use Rattle.pas_steps.specs.declared.step.Made.{Made}
+use Rattle.pas_steps.specs.declared.step.Step.{Step}
+use Rattle.pas_steps.specs.declared.step.Step.TheVariants.{Look, Deed, Back, Take, Put, Give, End, TakeRight, Offer, Park, Unpark, Stamp, Hint}
+use Rattle.pas_search.specs.Kinds.{AreQuiet}
+use Rattle.pas_search.specs.Searches.{HasRoom}
+use Rattle.pas_search.specs.Telling.{IsTold}
+use Rattle.pas_segregated.specs.Masks.{IsSome}
+use Rattle.pas_segregated.specs.Stops.{class_directory}
+use Rattle.pas_segregated.specs.Refills.{class_rule, served_of}
+use Rattle.pas_segregated.specs.declared.slots.Slots.{Slots}
+use Rattle.pas_cache.specs.Locals.{covers, local_for, others_than, IsLocal, RestsWith}
+use Rattle.pas_cache.specs.Changes.{GivesSlot, IsTakenOut, IsShortened}
+use Rattle.pas_cache.specs.Serves.{IsRefill, ServesLocals, AreAllocating, IsBlockFor, MakesFew, IsSilent, IsToldBy}
+
+-- ---- a slot is given
+-- the grains of the slots are held, what they say of their page is known, and it isn't unstamped
+pub record MayGiveSlot (f : Profile) (slots : Slots) (v : View) : Type 0 where
+  pub held : (g : ℕ) → covers slots g ≡ true → holds v g ≡ true
+  pub local : IsLocal f v slots
+  pub stamped : is_unstamped v slots.page ≡ false
+
+pub record GivesLowest (slots slots' : Slots) (block : Block) (desk desk' : Standing) : Type 0 where
+  pub steps : List Made
+  pub adds : Adds desk desk' (λ v l. MayGiveSlot desk.seat.profile slots v) steps
+  pub gives : GivesSlot slots slots' block steps
+  pub turn : (v : View) → MayGiveSlot desk.seat.profile slots v → Agreed desk.seat.profile v steps → block.name.turn < 2 ^ 37
+
+-- ---- local allocators go
+-- the step gives back: a look, a put, or what is owed after it and with a right
+abbrev pub IsReleasing : Step → Type 0
+IsReleasing (Look word) = Unit {0}
+IsReleasing (Deed page directory) = ⊥
+IsReleasing (Back page) = ⊥
+IsReleasing (Take page word mask) = ⊥
+IsReleasing (Put page word mask) = Unit {0}
+IsReleasing (Give block) = ⊥
+IsReleasing (End name guess) = ⊥
+IsReleasing (TakeRight page directory) = ⊥
+IsReleasing (Offer page directory) = Unit {0}
+IsReleasing (Park page) = Unit {0}
+IsReleasing (Unpark page) = Unit {0}
+IsReleasing (Stamp page) = ⊥
+IsReleasing (Hint page) = Unit {0}
+
+abbrev pub AreReleasing : List Made → Type 0
+AreReleasing = Always (λ m before. IsReleasing m.step)
+
+-- Some local allocators go by these steps, and the actor is at rest with those that are left.
+pub record Releases (Change : List Made → Type 0) (locals locals' : List Slots) (desk desk' : Standing) : Type 0 where
+  pub steps : List Made
+  pub adds : Adds desk desk' (λ v l. RestsWith desk.seat.profile locals v) steps
+  pub change : Change steps
+  pub kinds : AreReleasing steps
+  pub quiet : AreQuiet steps
+  pub rest : (v : View) → RestsWith desk.seat.profile locals v → Agreed desk.seat.profile v steps → RestsWith desk.seat.profile locals' (steps ++ v)
+
+-- ---- slots are obtained
+-- the actor is at rest with the local allocators, and there is room for n events, and for a deed besides where that may be needed
+pub record MayObtain (f : Profile) (n spare : ℕ) (locals : List Slots) (v : View) : Type 0 where
+  pub rest : RestsWith f locals v
+  pub room : HasRoom f n spare v
+
+-- the actor is at rest with these, and with the slots that were found
+abbrev pub RestsWithFound : Profile → List Slots → Result Slots NoRoom → View → Type 0
+RestsWithFound f locals found v = MatchResult found (λ slots. RestsWith f (locals ++ slots ∷ []) v) (λ room. RestsWith f locals v)
+
+-- the list is shortened where it is full, and the refill is made
+pub record FetchesSlots (heap class : ℕ) (tells : Bool) (locals locals' : List Slots) (desk desk' : Standing) (found : Result Slots NoRoom) : Type 0 where
+  pub stopped : List Made
+  pub shortened : IsShortened locals locals' stopped
+  pub kinds : AreReleasing stopped
+  pub quiet : AreQuiet stopped
+  pub searched : List Made
+  pub refill : IsRefill heap class desk.seat.profile searched found
+  pub adds : Adds desk desk' (λ v l. RestsWith desk.seat.profile locals v) (searched ++ stopped)
+  pub few : length locals' < 32
+  pub rest : (v : View) → RestsWith desk.seat.profile locals v → Agreed desk.seat.profile v (searched ++ stopped) → RestsWithFound desk.seat.profile locals' found ((searched ++ stopped) ++ v)
+  pub told : tells ≡ true → (v : View) (l : Whole) → desk.stands v l → RestsWith desk.seat.profile locals v
+      → IsTold (class_rule heap class) desk.seat.profile (class_directory heap class) (triples desk.seat.actor stopped ++ l) (triples desk.seat.actor (searched ++ stopped) ++ l) (served_of found)
+
+-- Where the local allocator has a slot it is taken out of the list, without a step.
+pub record FindsCached (heap class : ℕ) (locals locals' : List Slots) (steps : List Made) (found : Result Slots NoRoom) : Type 0 where
+  pub from : Slots
+  pub found_is : found ≡ Ok from
+  pub cached : local_for heap class locals ≡ Some from
+  pub some : IsSome from.starts
+  pub locals_are : locals' ≡ others_than heap class locals
+  pub no_steps : steps ≡ []
+
+-- otherwise one without a slot is taken out, the list is shortened where it is full, and the refill is made
+pub record FetchesAnew (f : Profile) (heap class : ℕ) (locals locals' : List Slots) (steps : List Made) (found : Result Slots NoRoom) : Type 0 where
+  pub spent : List Made
+  pub kept : List Slots
+  pub taken : IsTakenOut heap class locals kept spent
+  pub stopped : List Made
+  pub shortened : IsShortened kept locals' stopped
+  pub kinds : AreReleasing (stopped ++ spent)
+  pub quiet : AreQuiet (stopped ++ spent)
+  pub searched : List Made
+  pub refill : IsRefill heap class f searched found
+  pub steps_are : steps ≡ searched ++ (stopped ++ spent)
+
+pub record Obtains (heap class : ℕ) (tells : Bool) (locals locals' : List Slots) (desk desk' : Standing) (found : Result Slots NoRoom) : Type 0 where
+  pub steps : List Made
+  pub adds : Adds desk desk' (λ v l. RestsWith desk.seat.profile locals v) steps
+  pub how : FindsCached heap class locals locals' steps found ⊎ FetchesAnew desk.seat.profile heap class locals locals' steps found
+  pub few : length locals' < 32
+  pub rest : (v : View) → RestsWith desk.seat.profile locals v → Agreed desk.seat.profile v steps → RestsWithFound desk.seat.profile locals' found (steps ++ v)
+  pub told : tells ≡ true → (v : View) (l : Whole) → desk.stands v l → RestsWith desk.seat.profile locals v → IsToldBy desk.seat.profile heap class locals l (triples desk.seat.actor steps ++ l) found
+
+-- ---- a request is served from the local allocators
+pub record ServesFrom (heap class : ℕ) (tells : Bool) (locals locals' : List Slots) (desk desk' : Standing) (answer : Result Block NoRoom) : Type 0 where
+  pub steps : List Made
+  pub adds : Adds desk desk' (λ v l. RestsWith desk.seat.profile locals v) steps
+  pub change : ServesLocals desk.seat.profile heap class locals locals' steps answer
+  pub kinds : AreAllocating steps
+  pub few : MakesFew desk.seat.profile (RestsWith desk.seat.profile locals) 2 steps
+  pub outcome : MatchResult answer (IsBlockFor desk.seat.profile (RestsWith desk.seat.profile locals) heap class steps) (λ room. IsSilent steps)
+  pub count : length locals' ≤ 32
+  pub rest : (v : View) → RestsWith desk.seat.profile locals v → Agreed desk.seat.profile v steps → RestsWith desk.seat.profile locals' (steps ++ v)
+  pub told : tells ≡ true → (v : View) (l : Whole) → desk.stands v l → RestsWith desk.seat.profile locals v → IsToldBy desk.seat.profile heap class locals l (triples desk.seat.actor steps ++ l) answer

@@ -1,0 +1,79 @@
+//! The cache of a thread.
+ghost use Rattle.std.specs.Prelude.{All};
+ghost use Rattle.pas_cache.specs.Locals.{HasOneEach, IsFormed};
+
+use arrayvec::ArrayVec;
+use pas_free_log::FreeLog;
+use pas_profile::Word;
+use pas_segregated::Slots;
+use pas_steps::Desk;
+use pas_utility::CacheSeat;
+
+/// What a thread keeps between its requests: at most 32 local allocators, one for each pair of heap and class, and at most 64 names of blocks
+/// that it freed.
+///
+/// It takes no memory. Its calls ask that the desk's actor is at rest with the cache, and leave it so.
+#[derive(Drop)]
+pub struct ThreadCache {
+    pub(crate) seat: CacheSeat,
+    /// In order of last use, the last used at the end.
+    pub(crate) locals: ArrayVec<Slots, 32>,
+    pub(crate) log: FreeLog,
+    pub(crate) idle_since: u64,
+    ghost one_each: { HasOneEach locals.items },
+    ghost formed: { All IsFormed locals.items },
+}
+
+impl ThreadCache {
+    ghost use Rattle.std.specs.Prelude.{◌≡◌, [], length};
+    ghost use Rattle.pas_steps.specs.Desks.{CanCall};
+    ghost use Rattle.pas_utility.specs.Seats.{thread_of};
+    ghost use Rattle.pas_cache.specs.Caches.{cached, seat_of, AtRest};
+    ghost use Rattle.pas_cache.specs.Calls.{Begins};
+
+    /// An empty cache of the seat's thread.
+    pub fn new(seat: CacheSeat) -> ThreadCache
+        ensures actor { seat_of result ≡ thread_of seat }
+        ensures locals { (cached result).locals ≡ [] }
+        ensures log { (cached result).log ≡ [] }
+        ensures idle_since { (cached result).idle_since ≡ 0 }
+    {
+        ThreadCache {
+            seat,
+            locals: ArrayVec::new(),
+            log: FreeLog::new(),
+            idle_since: 0,
+        }
+    }
+
+    /// The thread, which is an actor from 1 on.
+    pub fn actor(&self) -> u8
+        ensures { result ≡ seat_of self.now }
+    {
+        self.seat.actor()
+    }
+
+    /// The epoch that the last `begin` read, and 0 before the first one.
+    pub fn idle_since(&self) -> u64
+        ensures { result ≡ (cached self.now).idle_since }
+    {
+        self.idle_since
+    }
+
+    /// The number of logged names, at most 64.
+    pub fn logged(&self) -> u8
+        ensures { result ≡ length (cached self.now).log }
+    {
+        self.log.len()
+    }
+
+    /// Reads the epoch, from which on the thread counts as idle until it begins again. One step.
+    pub fn begin<D: Desk>(&mut self, desk: &mut D)
+        requires can { CanCall (D.standing desk.old) (λ v l. AtRest (D.standing desk.old).seat.profile (cached self.old) v) }
+        ensures begins { Begins (cached self.old) (cached self.new) (D.standing desk.old) (D.standing desk.new) }
+        ensures actor { seat_of self.new ≡ seat_of self.old }
+        ensures home { D.home desk.new ≡ D.home desk.old }
+    {
+        self.idle_since = desk.look(Word::Epoch);
+    }
+}

@@ -1,0 +1,90 @@
+//! Names are logged, and the log is flushed.
+ghost use Rattle.std.specs.Prelude.{◌≡◌, ◌<◌, ◌≤◌, MatchResult, length, nat_le};
+ghost use Rattle.pas_steps.specs.Desks.{CanCall};
+ghost use Rattle.pas_rights.specs.Rights.{IsClear};
+ghost use Rattle.pas_free_log.specs.Logs.{names_in};
+ghost use Rattle.pas_cache.specs.Names.{IsInRegion, IsFaultOf, MayFlush, EmptiesWhere, LogsInto};
+
+use crate::cache::ThreadCache;
+use pas_free_log::{FreeLog, flush};
+use pas_profile::{FreeFault, Name, Profile};
+use pas_steps::Desk;
+
+/// Whether the address is a multiple of 16 on a page of the region.
+fn check(profile: &Profile, name: Name) -> Result<(), FreeFault>
+    ensures { MatchResult result (λ done. IsInRegion profile.now name) (IsFaultOf profile.now name) }
+{
+    let page = name.address.0 / 4096;
+    if page < 1 || page > profile.pages {
+        return Err(FreeFault::Outside);
+    }
+    if name.address.0 % 16 != 0 {
+        return Err(FreeFault::Unaligned);
+    }
+    Ok(())
+}
+
+/// Flushes the log where it is full.
+fn make_room<D: Desk>(desk: &mut D, log: &mut FreeLog)
+    requires room { 64 ≤ length (names_in log.old) → length (names_in log.old) ≤ D.spare_of desk.old }
+    requires can { CanCall (D.standing desk.old) (λ v l. MayFlush (D.standing desk.old).seat.profile (names_in log.old) v) }
+    ensures empties { EmptiesWhere (nat_le 64 (length (names_in log.old))) (names_in log.old) (names_in log.new) (D.standing desk.old) (D.standing desk.new) }
+    ensures left { length (names_in log.new) < 64 }
+    ensures home { D.home desk.new ≡ D.home desk.old }
+{
+    if log.len() >= 64 {
+        flush(desk, log);
+    }
+}
+
+/// Adds the name at the end of the log, and flushes a full one before.
+fn log_name<D: Desk>(desk: &mut D, log: &mut FreeLog, name: Name)
+    requires room { 64 ≤ length (names_in log.old) → length (names_in log.old) ≤ D.spare_of desk.old }
+    requires can { CanCall (D.standing desk.old) (λ v l. MayFlush (D.standing desk.old).seat.profile (names_in log.old) v) }
+    ensures logs { LogsInto (names_in log.old) (names_in log.new) name (D.standing desk.old) (D.standing desk.new) }
+    ensures home { D.home desk.new ≡ D.home desk.old }
+{
+    make_room(desk, log);
+    log.add(name);
+}
+
+impl ThreadCache {
+    ghost use Rattle.std.specs.Prelude.{◌≡◌, ◌<◌, ◌≤◌, ◌-◌, ◌^◌, ◌+◌, length};
+    ghost use Rattle.pas_steps.specs.Desks.{CanCall};
+    ghost use Rattle.pas_cache.specs.Caches.{cached, seat_of, AtRest};
+    ghost use Rattle.pas_cache.specs.Calls.{Frees, FlushesLog};
+
+    /// Logs the name of a block that is freed; its block ends at the next flush. A log of 64 names is flushed first, and otherwise no step is
+    /// made.
+    ///
+    /// `Outside` exactly where the page of the address isn't one of the region, else `Unaligned` exactly where the address isn't a multiple of
+    /// 16. Nothing is logged then and no step is made. Where 64 names are logged, there is room for 64 events.
+    pub fn free<D: Desk>(&mut self, desk: &mut D, name: Name) -> Result<(), FreeFault>
+        requires turn { name.turn < 2 ^ 40 - 1 }
+        requires room { length (cached self.old).log ≡ 64 → 64 ≤ D.spare_of desk.old }
+        requires can { CanCall (D.standing desk.old) (λ v l. AtRest (D.standing desk.old).seat.profile (cached self.old) v) }
+        ensures frees { Frees name (cached self.old) (cached self.new) (D.standing desk.old) (D.standing desk.new) result }
+        ensures actor { seat_of self.new ≡ seat_of self.old }
+        ensures home { D.home desk.new ≡ D.home desk.old }
+    {
+        if let Err(fault) = check(desk.profile(), name) {
+            return Err(fault);
+        }
+        log_name(desk, &mut self.log, name);
+        Ok(())
+    }
+
+    /// Reads the epoch, and ends the blocks of the logged names in order. The log is empty afterwards.
+    ///
+    /// Each name makes one event, and there is room for them: `End` with the epoch that was read, or `Reject` where no block of this name lives.
+    pub fn flush<D: Desk>(&mut self, desk: &mut D)
+        requires room { length (cached self.old).log ≤ D.spare_of desk.old }
+        requires can { CanCall (D.standing desk.old) (λ v l. AtRest (D.standing desk.old).seat.profile (cached self.old) v) }
+        ensures flushes { FlushesLog (cached self.old) (cached self.new) (D.standing desk.old) (D.standing desk.new) }
+        ensures spare { D.spare_of desk.new + length (cached self.old).log ≡ D.spare_of desk.old }
+        ensures actor { seat_of self.new ≡ seat_of self.old }
+        ensures home { D.home desk.new ≡ D.home desk.old }
+    {
+        flush(desk, &mut self.log);
+    }
+}

@@ -1,0 +1,35 @@
+//! A slot is given.
+ghost use Rattle.std.specs.Prelude.{◌≡◌, ◌≤◌};
+ghost use Rattle.pas_steps.specs.Desks.{CanCall};
+ghost use Rattle.pas_segregated.specs.Masks.{IsSome};
+ghost use Rattle.pas_cache.specs.Pieces.{MayGiveSlot, GivesLowest};
+
+use pas_profile::classes::class_size;
+use pas_profile::{Address, Block, Name, Word, read_life};
+use pas_segregated::Slots;
+use pas_steps::Desk;
+
+/// Gives the lowest of the slots, and answers the others and the block. Two steps and one event.
+pub fn give_lowest<D: Desk>(desk: &mut D, mut slots: Slots) -> (Slots, Block)
+    requires some { IsSome slots.starts }
+    requires can { CanCall (D.standing desk.old) (λ v l. MayGiveSlot (D.standing desk.old).seat.profile slots v) }
+    requires room { 1 ≤ D.spare_of desk.old }
+    ensures gives { GivesLowest slots result.0 result.1 (D.standing desk.old) (D.standing desk.new) }
+    ensures home { D.home desk.new ≡ D.home desk.old }
+{
+    let Some(start) = slots.starts.first_set_from(0) else {
+        unreachable!();
+    };
+    let (turn, _, _) = read_life(desk.look(Word::Life(slots.page, start)));
+    let block = Block {
+        name: Name {
+            address: Address(slots.page * 4096 + start as u32 * 16),
+            turn,
+        },
+        room: class_size(slots.class),
+        heap: slots.heap,
+    };
+    desk.give(block);
+    slots.starts.clear(start);
+    (slots, block)
+}

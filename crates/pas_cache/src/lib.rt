@@ -1,0 +1,12 @@
+//! The cache of a thread: the slots that it took and hasn't given yet, and the names that it freed and whose blocks it hasn't ended yet.
+#![tactic(auto)]
+
+mod cache;
+mod freeing;
+mod giving;
+mod obtaining;
+mod serving;
+mod stopping;
+mod taking;
+
+pub use cache::ThreadCache;

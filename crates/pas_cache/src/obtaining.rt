@@ -1,0 +1,67 @@
+//! Slots are obtained for a request.
+ghost use Rattle.std.specs.Prelude.{◌≡◌, ◌<◌, None};
+ghost use Rattle.pas_profile.specs.Classes.{IsClass};
+ghost use Rattle.pas_steps.specs.Desks.{CanCall};
+ghost use Rattle.pas_cache.specs.Locals.{local_for, RestsWith};
+ghost use Rattle.pas_cache.specs.Changes.{IsShortened};
+ghost use Rattle.pas_cache.specs.Pieces.{MayObtain, Releases, FetchesSlots, Obtains};
+
+use crate::taking::{has_slot, take_out};
+use arrayvec::ArrayVec;
+use pas_profile::NoRoom;
+use pas_segregated::{Slots, refill, stop};
+use pas_steps::Desk;
+
+/// Stops the local allocator that was used longest ago where 32 are there. At most 23 steps, and no event.
+fn shorten<D: Desk>(desk: &mut D, locals: &mut ArrayVec<Slots, 32>)
+    requires can { CanCall (D.standing desk.old) (λ v l. RestsWith (D.standing desk.old).seat.profile locals.old.items v) }
+    ensures shortens { Releases (IsShortened locals.old.items locals.new.items) locals.old.items locals.new.items (D.standing desk.old) (D.standing desk.new) }
+    ensures spare { D.spare_of desk.new ≡ D.spare_of desk.old }
+    ensures home { D.home desk.new ≡ D.home desk.old }
+{
+    if locals.is_full() {
+        let oldest = locals.remove(0);
+        stop(desk, oldest);
+    }
+}
+
+/// Gets slots of a class for which there is no local allocator.
+fn fetch<D: Desk>(
+    desk: &mut D,
+    locals: &mut ArrayVec<Slots, 32>,
+    heap: u8,
+    class: u8,
+) -> Result<Slots, NoRoom>
+    requires heap { heap < (D.standing desk.old).seat.profile.heaps }
+    requires class { IsClass class }
+    requires none { local_for heap class locals.old.items ≡ None }
+    requires can { CanCall (D.standing desk.old) (λ v l. MayObtain (D.standing desk.old).seat.profile 1 (D.spare_of desk.old) locals.old.items v) }
+    ensures fetches { FetchesSlots heap class D.tells locals.old.items locals.new.items (D.standing desk.old) (D.standing desk.new) result }
+    ensures home { D.home desk.new ≡ D.home desk.old }
+{
+    shorten(desk, locals);
+    refill(desk, heap, class)
+}
+
+/// Takes the local allocator of the heap and the class out of the list where it has a slot, and gets new slots otherwise.
+pub fn obtain<D: Desk>(
+    desk: &mut D,
+    locals: &mut ArrayVec<Slots, 32>,
+    heap: u8,
+    class: u8,
+) -> Result<Slots, NoRoom>
+    requires heap { heap < (D.standing desk.old).seat.profile.heaps }
+    requires class { IsClass class }
+    requires can { CanCall (D.standing desk.old) (λ v l. MayObtain (D.standing desk.old).seat.profile 1 (D.spare_of desk.old) locals.old.items v) }
+    ensures obtains { Obtains heap class D.tells locals.old.items locals.new.items (D.standing desk.old) (D.standing desk.new) result }
+    ensures home { D.home desk.new ≡ D.home desk.old }
+{
+    let Some(slots) = take_out(locals, heap, class) else {
+        return fetch(desk, locals, heap, class);
+    };
+    if has_slot(&slots) {
+        return Ok(slots);
+    }
+    stop(desk, slots);
+    fetch(desk, locals, heap, class)
+}
