@@ -16,7 +16,10 @@ use Rattle.pas_search.specs.Searches.{HasRoom}
 use Rattle.pas_search.specs.Telling.{IsTold}
 use Rattle.pas_segregated.specs.Masks.{IsSome}
 use Rattle.pas_segregated.specs.Stops.{class_directory}
-use Rattle.pas_segregated.specs.Refills.{class_rule, served_of}
+use Rattle.pas_search.specs.declared.serving.Served.{Served}
+use Rattle.pas_bits.specs.declared.mask.Mask4.{Mask4}
+use Rattle.pas_segregated.specs.Takes.{exclusive}
+use Rattle.pas_segregated.specs.Refills.{answer_of}
 use Rattle.pas_segregated.specs.declared.slots.Slots.{Slots}
 use Rattle.pas_cache.specs.Locals.{covers, local_for, others_than, IsLocal, RestsWith}
 use Rattle.pas_cache.specs.Changes.{GivesSlot, IsTakenOut, IsShortened}
@@ -75,30 +78,32 @@ abbrev pub RestsWithFound : Profile → List Slots → Result Slots NoRoom → V
 RestsWithFound f locals found v = MatchResult found (λ slots. RestsWith f (locals ++ slots ∷ []) v) (λ room. RestsWith f locals v)
 
 -- the list is shortened where it is full, and the refill is made
-pub record FetchesSlots (heap class : ℕ) (tells : Bool) (locals locals' : List Slots) (desk desk' : Standing) (found : Result Slots NoRoom) : Type 0 where
+pub record FetchesSlots (heap class : ℕ) (tells : Bool) (locals locals' : List Slots) (desk desk' : Standing) (answer : Result Slots NoRoom) : Type 0 where
   pub stopped : List Made
   pub shortened : IsShortened locals locals' stopped
   pub kinds : AreReleasing stopped
   pub quiet : AreQuiet stopped
   pub searched : List Made
+  pub found : Result (Served Mask4) NoRoom
+  pub answer_is : answer ≡ answer_of heap class found
   pub refill : IsRefill heap class desk.seat.profile searched found
   pub adds : Adds desk desk' (λ v l. RestsWith desk.seat.profile locals v) (searched ++ stopped)
   pub few : length locals' < 32
-  pub rest : (v : View) → RestsWith desk.seat.profile locals v → Agreed desk.seat.profile v (searched ++ stopped) → RestsWithFound desk.seat.profile locals' found ((searched ++ stopped) ++ v)
+  pub rest : (v : View) → RestsWith desk.seat.profile locals v → Agreed desk.seat.profile v (searched ++ stopped) → RestsWithFound desk.seat.profile locals' answer ((searched ++ stopped) ++ v)
   pub told : tells ≡ true → (v : View) (l : Whole) → desk.stands v l → RestsWith desk.seat.profile locals v
-      → IsTold (class_rule heap class) desk.seat.profile (class_directory heap class) (triples desk.seat.actor stopped ++ l) (triples desk.seat.actor (searched ++ stopped) ++ l) (served_of found)
+      → IsTold (exclusive class) desk.seat.profile (class_directory heap class) (triples desk.seat.actor stopped ++ l) (triples desk.seat.actor (searched ++ stopped) ++ l) found
 
 -- Where the local allocator has a slot it is taken out of the list, without a step.
-pub record FindsCached (heap class : ℕ) (locals locals' : List Slots) (steps : List Made) (found : Result Slots NoRoom) : Type 0 where
+pub record FindsCached (heap class : ℕ) (locals locals' : List Slots) (steps : List Made) (answer : Result Slots NoRoom) : Type 0 where
   pub from : Slots
-  pub found_is : found ≡ Ok from
+  pub answer_is : answer ≡ Ok from
   pub cached : local_for heap class locals ≡ Some from
   pub some : IsSome from.starts
   pub locals_are : locals' ≡ others_than heap class locals
   pub no_steps : steps ≡ []
 
 -- otherwise one without a slot is taken out, the list is shortened where it is full, and the refill is made
-pub record FetchesAnew (f : Profile) (heap class : ℕ) (locals locals' : List Slots) (steps : List Made) (found : Result Slots NoRoom) : Type 0 where
+pub record FetchesAnew (f : Profile) (heap class : ℕ) (locals locals' : List Slots) (steps : List Made) (answer : Result Slots NoRoom) : Type 0 where
   pub spent : List Made
   pub kept : List Slots
   pub taken : IsTakenOut heap class locals kept spent
@@ -107,16 +112,18 @@ pub record FetchesAnew (f : Profile) (heap class : ℕ) (locals locals' : List S
   pub kinds : AreReleasing (stopped ++ spent)
   pub quiet : AreQuiet (stopped ++ spent)
   pub searched : List Made
+  pub found : Result (Served Mask4) NoRoom
+  pub answer_is : answer ≡ answer_of heap class found
   pub refill : IsRefill heap class f searched found
   pub steps_are : steps ≡ searched ++ (stopped ++ spent)
 
-pub record Obtains (heap class : ℕ) (tells : Bool) (locals locals' : List Slots) (desk desk' : Standing) (found : Result Slots NoRoom) : Type 0 where
+pub record Obtains (heap class : ℕ) (tells : Bool) (locals locals' : List Slots) (desk desk' : Standing) (answer : Result Slots NoRoom) : Type 0 where
   pub steps : List Made
   pub adds : Adds desk desk' (λ v l. RestsWith desk.seat.profile locals v) steps
-  pub how : FindsCached heap class locals locals' steps found ⊎ FetchesAnew desk.seat.profile heap class locals locals' steps found
+  pub how : FindsCached heap class locals locals' steps answer ⊎ FetchesAnew desk.seat.profile heap class locals locals' steps answer
   pub few : length locals' < 32
-  pub rest : (v : View) → RestsWith desk.seat.profile locals v → Agreed desk.seat.profile v steps → RestsWithFound desk.seat.profile locals' found (steps ++ v)
-  pub told : tells ≡ true → (v : View) (l : Whole) → desk.stands v l → RestsWith desk.seat.profile locals v → IsToldBy desk.seat.profile heap class locals l (triples desk.seat.actor steps ++ l) found
+  pub rest : (v : View) → RestsWith desk.seat.profile locals v → Agreed desk.seat.profile v steps → RestsWithFound desk.seat.profile locals' answer (steps ++ v)
+  pub told : tells ≡ true → (v : View) (l : Whole) → desk.stands v l → RestsWith desk.seat.profile locals v → IsToldBy desk.seat.profile heap class locals l (triples desk.seat.actor steps ++ l) answer
 
 -- ---- a request is served from the local allocators
 pub record ServesFrom (heap class : ℕ) (tells : Bool) (locals locals' : List Slots) (desk desk' : Standing) (answer : Result Block NoRoom) : Type 0 where

@@ -1,5 +1,5 @@
 -- Where a local allocator stands in its list.
-use Rattle.std.specs.Prelude.{ℕ, ◌<◌, ◌≡◌, true, List, length, slice_get, Some, None, take}
+use Rattle.std.specs.Prelude.{ℕ, ◌<◌, ◌≡◌, true, List, length, slice_index_or, None, take}
 use Rattle.pas_segregated.specs.declared.slots.Slots.{Slots}
 use Rattle.pas_cache.specs.Locals.{is_for, local_for}
 
@@ -7,6 +7,4 @@ use Rattle.pas_cache.specs.Locals.{is_for, local_for}
 pub record IsPlaceOf (heap class : ℕ) (locals : List Slots) (place : ℕ) : Type 0 where
   pub within : place < length locals
   pub before : local_for heap class (take place locals) ≡ None
-  pub slots : Slots
-  pub here : slice_get locals place ≡ Some slots
-  pub is_it : is_for heap class slots ≡ true
+  pub is_it : (past : Slots) → is_for heap class (slice_index_or locals place past) ≡ true

@@ -1,9 +1,10 @@
 //! Slots are obtained for a request.
-ghost use Rattle.std.specs.Prelude.{◌≡◌, ◌<◌, None};
-ghost use Rattle.pas_profile.specs.Classes.{IsClass};
+ghost use Rattle.std.specs.Prelude.{◌≡◌, None};
+ghost use Rattle.pas_profile.specs.Profiles.{IsDirectoryOf};
 ghost use Rattle.pas_steps.specs.Desks.{CanCall};
 ghost use Rattle.pas_cache.specs.Locals.{local_for, RestsWith};
 ghost use Rattle.pas_cache.specs.Changes.{IsShortened};
+ghost use Rattle.pas_segregated.specs.Stops.{class_directory};
 ghost use Rattle.pas_cache.specs.Pieces.{MayObtain, Releases, FetchesSlots, Obtains};
 
 use crate::taking::{has_slot, take_out};
@@ -32,8 +33,7 @@ fn fetch<D: Desk>(
     heap: u8,
     class: u8,
 ) -> Result<Slots, NoRoom>
-    requires heap { heap < (D.standing desk.old).seat.profile.heaps }
-    requires class { IsClass class }
+    requires directory { IsDirectoryOf (D.standing desk.old).seat.profile (class_directory heap class) }
     requires none { local_for heap class locals.old.items ≡ None }
     requires can { CanCall (D.standing desk.old) (λ v l. MayObtain (D.standing desk.old).seat.profile 1 (D.spare_of desk.old) locals.old.items v) }
     ensures fetches { FetchesSlots heap class D.tells locals.old.items locals.new.items (D.standing desk.old) (D.standing desk.new) result }
@@ -50,8 +50,7 @@ pub fn obtain<D: Desk>(
     heap: u8,
     class: u8,
 ) -> Result<Slots, NoRoom>
-    requires heap { heap < (D.standing desk.old).seat.profile.heaps }
-    requires class { IsClass class }
+    requires directory { IsDirectoryOf (D.standing desk.old).seat.profile (class_directory heap class) }
     requires can { CanCall (D.standing desk.old) (λ v l. MayObtain (D.standing desk.old).seat.profile 1 (D.spare_of desk.old) locals.old.items v) }
     ensures obtains { Obtains heap class D.tells locals.old.items locals.new.items (D.standing desk.old) (D.standing desk.new) result }
     ensures home { D.home desk.new ≡ D.home desk.old }

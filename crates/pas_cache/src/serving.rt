@@ -1,7 +1,8 @@
 //! A request is served.
-ghost use Rattle.std.specs.Prelude.{◌≡◌, ◌<◌};
-ghost use Rattle.pas_profile.specs.Classes.{IsClass};
+ghost use Rattle.std.specs.Prelude.{◌≡◌};
+ghost use Rattle.pas_profile.specs.Profiles.{IsDirectoryOf};
 ghost use Rattle.pas_steps.specs.Desks.{CanCall};
+ghost use Rattle.pas_segregated.specs.Stops.{class_directory};
 ghost use Rattle.pas_cache.specs.Pieces.{MayObtain, ServesFrom};
 
 use crate::cache::ThreadCache;
@@ -19,8 +20,7 @@ fn serve<D: Desk>(
     heap: u8,
     class: u8,
 ) -> Result<Block, NoRoom>
-    requires heap { heap < (D.standing desk.old).seat.profile.heaps }
-    requires class { IsClass class }
+    requires directory { IsDirectoryOf (D.standing desk.old).seat.profile (class_directory heap class) }
     requires can { CanCall (D.standing desk.old) (λ v l. MayObtain (D.standing desk.old).seat.profile 2 (D.spare_of desk.old) locals.old.items v) }
     ensures serves { ServesFrom heap class D.tells locals.old.items locals.new.items (D.standing desk.old) (D.standing desk.new) result }
     ensures home { D.home desk.new ≡ D.home desk.old }

@@ -1,7 +1,7 @@
 //! Local allocators are looked for and taken out of their list.
 ghost use Rattle.std.specs.Prelude.{◌≡◌, ◌<◌, MatchBool, MatchOption, None, Some, length};
 ghost use Rattle.pas_segregated.specs.Masks.{IsSome, IsEmpty};
-ghost use Rattle.pas_cache.specs.Locals.{local_for, others_than, HasOneEach};
+ghost use Rattle.pas_cache.specs.Locals.{is_for, local_for, others_than, HasOneEach};
 ghost use Rattle.pas_cache.specs.Places.{IsPlaceOf};
 
 use arrayvec::ArrayVec;
@@ -14,12 +14,19 @@ pub fn has_slot(slots: &Slots) -> bool
     slots.starts.first_set_from(0).is_some()
 }
 
+/// Whether it serves this heap and class.
+fn serves(slots: &Slots, heap: u8, class: u8) -> bool
+    ensures { result ≡ is_for heap class slots.now }
+{
+    slots.heap == heap && slots.class == class
+}
+
 /// Where the local allocator of the heap and the class stands.
 fn place_of(locals: &[Slots], heap: u8, class: u8) -> Option<usize>
     ensures { MatchOption result (local_for heap class locals.now ≡ None) (IsPlaceOf heap class locals.now) }
 {
     for (place, slots) in locals.iter().enumerate() {
-        if slots.heap == heap && slots.class == class {
+        if serves(slots, heap, class) {
             return Some(place);
         }
     }

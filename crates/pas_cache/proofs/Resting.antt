@@ -1,0 +1,164 @@
+-- An actor at rest with local allocators, when one goes, gives a slot or comes.
+use Rattle.std.proofs.Common.{◌≡◌, ◌≢◌, ℕ, zero, suc, ◌+◌, ◌*◌, ◌/◌, ◌%◌, ◌<◌, ◌≤◌, ◌==◌, Bool, true, false, not, ◌&&◌, ◌||◌, if◌then◌else◌, List, [], ◌∷◌, ◌++◌, Some, None, inl, inr, refl, ap, sym, ◌∙◌, subst, arith, true≢false}
+use Rattle.std.proofs.lemmas.Bool.{eq-eqb, eqb-true, and_parts, and_from, cases_Bool, cases_eq, ne_eqb, false_from_ne_true}
+use Rattle.std.specs.List.{AllByRecursion}
+use Rattle.pas_profile.specs.Classes.{IsClass, class_grains, IsSlotStart}
+use Rattle.pas_profile.specs.Profiles.{IsPage, IsDirectoryOf}
+use Rattle.pas_profile.specs.Directories.{deed_word_of}
+use Rattle.pas_profile.specs.declared.profile.Profile.{Profile}
+use Rattle.pas_profile.specs.declared.name.Block.{Block}
+use Rattle.pas_profile.specs.declared.word.Word.TheVariants as Word
+use Rattle.pas_profile.proofs.Codecs.{deed_word_of-positive}
+use Rattle.pas_profile.proofs.ClassFacts.{slot_lt, class_grains_positive}
+use Rattle.pas_bits.specs.declared.mask.Mask4.{Mask4}
+use Rattle.pas_bits.specs.Masks.{is_set}
+use Rattle.pas_machine.specs.Runs.{in_run, grain_of, length_of}
+use Rattle.pas_steps.specs.Views.{View, Gives, Stays, any_below, holds, holds_on, has_right, known_deed, knows_backed, held_after}
+use Rattle.pas_steps.specs.Agreement.{Agreed}
+use Rattle.pas_steps.specs.Desks.{Standing, made}
+use Rattle.pas_steps.specs.declared.step.Made.{Made}
+use Rattle.pas_steps.specs.declared.step.Step.TheVariants.{Look, Give}
+use Rattle.pas_steps.proofs.Kept.{deed_stays}
+use Rattle.pas_rights.specs.Rights.{IsClear}
+use Rattle.pas_scan.specs.Evidence.{IsOf}
+use Rattle.pas_search.specs.Searches.{MaySearch, IsServed}
+use Rattle.pas_search.specs.declared.serving.Served.{Served}
+use Rattle.pas_search.proofs.Backed.{held_where_backed}
+use Rattle.pas_segregated.specs.Masks.{AreStarts, IsSome, start_of}
+use Rattle.pas_segregated.specs.Takes.{exclusive}
+use Rattle.pas_segregated.specs.Refills.{slots_found}
+use Rattle.pas_segregated.specs.Stops.{class_directory, directory_of, in_slots, MayStop, Stops}
+use Rattle.pas_segregated.specs.declared.slots.Slots.{Slots}
+use Rattle.pas_segregated.proofs.Starts.{start_at, start_below}
+use Rattle.pas_cache.specs.Locals.{covers, keeps_right, any_covers, any_keeps, is_for, local_for, count_for, HasOneEach, IsLocal, RestsWith}
+use Rattle.pas_cache.specs.Changes.{IsWithoutSlot, GivesSlot}
+use Rattle.pas_cache.specs.Pieces.{MayGiveSlot}
+use Rattle.pas_cache.proofs.Locals.{IsWithout, without_last, none_counted, AreElsewhere, elsewhere, grains_elsewhere, rights_elsewhere, map_locals}
+use Rattle.pas_cache.proofs.Lowest.{first_grain, grain_is, InSlot, in_slot, slot_covers, block_of}
+
+-- ---- a page of which a grain is held
+or_first : (a b : Bool) → a ≡ true → (a || b) ≡ true
+or_first a b h = ap (λ t. t || b) h
+
+or_second : (a b : Bool) → b ≡ true → (a || b) ≡ true
+or_second true b h = refl
+or_second false b h = h
+
+any_from : (n : ℕ) (p : ℕ → Bool) (i : ℕ) → i < n → p i ≡ true → any_below n p ≡ true
+unfolding any_below
+any_from zero p i lt h = absurd (omega (arith, lt))
+any_from (suc n) p i lt h = elim (cases_eq i n) [
+  | inl e ↦ or_first (p n) (any_below n p) (subst (λ j. p j ≡ true) e h)
+  | inr ne ↦ or_second (p n) (any_below n p) (any_from n p i (omega (arith, lt, ne)) h)
+]
+
+pub held_on : (v : View) (page g : ℕ) → g / 256 ≡ page → holds v g ≡ true → holds_on v page ≡ true
+held_on v page g at h = any_from 256 (λ b. holds v (page * 256 + b)) (g % 256) (omega arith) (ap (holds v) (omega (arith, at)) ∙ h)
+
+-- slots of which one is left cover a grain of their page
+some_grain : (f : Profile) (v : View) (t : Slots) → IsLocal f v t → (some : IsSome t.starts) → covers t (first_grain t some.0) ≡ true
+some_grain f v t here some =
+    let start : ℕ = some.0 in
+    let lt : start < 256 = some.1 in
+    let slot : IsSlotStart t.class start = here.starts start some.2 in
+    let positive : 1 ≤ class_grains t.class = class_grains_positive t.class here.directory.kind in
+    slot_covers t start (first_grain t start) slot some.2 (record { page = omega (arith, lt); low = omega (arith, lt); high = omega (arith, lt, positive) })
+
+-- where the grains that are covered are held, some grain of its page is held
+pub held_of : (f : Profile) (v w : View) (t : Slots) (locals : List Slots) → IsLocal f v t → IsSome t.starts → ((g : ℕ) → holds w g ≡ any_covers locals g) → ((g : ℕ) → covers t g ≡ true → any_covers locals g ≡ true) → holds_on w t.page ≡ true
+held_of f v w t locals here some grains within =
+    let g : ℕ = first_grain t some.0 in
+    let lt : some.0 < 256 = some.1 in
+    held_on w t.page g (omega (arith, lt)) (grains g ∙ within g (some_grain f v t here some))
+
+pub known_some : (page : ℕ) (t : Slots) (v : View) → known_deed v t.page ≡ deed_word_of (directory_of t) → known_deed v t.page ≢ 0
+known_some page t v knows z = deed_word_of-positive (directory_of t) (sym knows ∙ z)
+
+-- ---- one goes
+less : (c r : Bool) → (c ≡ true → r ≡ false) → (not c && (c || r)) ≡ r
+less true r away = sym (away refl)
+less false r away = refl
+
+more_or_same : (t : Bool) (n : ℕ) → n ≤ (if t then suc n else n)
+more_or_same true n = omega arith
+more_or_same false n = omega arith
+
+fewer_each : (heap class : ℕ) (s : Slots) (rest : List Slots) → count_for heap class rest ≤ count_for heap class (s ∷ rest)
+fewer_each heap class s rest = more_or_same (is_for heap class s) (count_for heap class rest)
+
+module _ (f : Profile) (locals : List Slots) (slots : Slots) (rest : List Slots) (w : IsWithout locals slots rest) (v : View) (h : RestsWith f locals v) where
+  pub here : IsLocal f v slots
+  here = (w.parts (IsLocal f v) h.known).0
+
+  others : AllByRecursion (IsLocal f v) rest
+  others = (w.parts (IsLocal f v) h.known).1
+
+  none_other : count_for slots.heap slots.class rest ≡ 0
+  none_other =
+      let all = h.one_each slots.heap slots.class in
+      let counts = w.count slots.heap slots.class in
+      let this : count_for slots.heap slots.class (slots ∷ rest) ≡ suc (count_for slots.heap slots.class rest)
+      = ap (λ t. if t then suc (count_for slots.heap slots.class rest) else count_for slots.heap slots.class rest) (and_from (slots.heap == slots.heap) (slots.class == slots.class) (eq-eqb slots.heap slots.heap refl) (eq-eqb slots.class slots.class refl)) in
+      omega (arith, all, counts, this)
+
+  away : AreElsewhere slots rest
+  away = elsewhere f v slots rest here others none_other
+
+  held_here : (g : ℕ) → covers slots g ≡ true → holds v g ≡ true
+  held_here g covered = h.grains g ∙ (w.grains g ∙ or_first (covers slots g) (any_covers rest g) covered)
+
+  pub may_stop : MayStop slots v
+  may_stop = record {
+    clear = h.clear;
+    held = held_here;
+    deed = here.deed;
+    right = λ right. h.rights slots.page ∙ (w.rights slots.page ∙ or_first (keeps_right slots slots.page) (any_keeps rest slots.page) (and_from slots.right (slots.page == slots.page) right (eq-eqb slots.page slots.page refl)));
+  }
+
+  pub may_give_slot : MayGiveSlot f slots v
+  may_give_slot = record { held = held_here; local = here; stamped = h.clear.stamped slots.page }
+
+  rest_each : HasOneEach rest
+  rest_each heap class =
+      let all = h.one_each heap class in
+      let counts = w.count heap class in
+      let fewer = fewer_each heap class slots rest in
+      omega (arith, all, counts, fewer)
+
+  module _ {σ σ' : Standing} (stops : Stops slots σ σ') (same : σ.seat.profile ≡ f) (agreed : Agreed f v stops.steps) where
+    ok : Agreed σ.seat.profile v stops.steps
+    ok = subst (λ x. Agreed x v stops.steps) (sym same) agreed
+
+    grains_left : (g : ℕ) → holds (stops.steps ++ v) g ≡ any_covers rest g
+    grains_left g =
+        stops.grains v g ∙ ap (λ t. not (covers slots g) && t) (h.grains g ∙ w.grains g)
+        ∙ less (covers slots g) (any_covers rest g) (grains_elsewhere slots rest g away)
+
+    pub rests_stopped : RestsWith f rest (stops.steps ++ v)
+    rests_stopped = record {
+      grains = grains_left;
+      rights = λ p. stops.rights v ok p ∙ ap (λ t. not (keeps_right slots p) && t) (h.rights p ∙ w.rights p) ∙ less (keeps_right slots p) (any_keeps rest p) (rights_elsewhere slots rest p away);
+      clear = stops.clear v may_stop ok;
+      known = map_locals (IsLocal f v) (IsLocal f (stops.steps ++ v)) rest (λ t within at. record {
+        page = at.page; directory = at.directory; starts = at.starts;
+        deed = stops.deeds v t.page ok (known_some t.page t v at.deed) ∙ at.deed;
+        backed = λ some. stops.backed v t.page ok (at.backed some) (held_of f v (stops.steps ++ v) t rest at some grains_left within);
+      }) others;
+      one_each = rest_each;
+    }
+
+-- the order doesn't matter
+pub rests_moved : (f : Profile) (locals locals' : List Slots) (slots : Slots) (rest : List Slots) → IsWithout locals slots rest → IsWithout locals' slots rest → (v : View) → RestsWith f locals v → RestsWith f locals' v
+rests_moved f locals locals' slots rest w w' v h =
+    let parts = w.parts (IsLocal f v) h.known in
+    record {
+      grains = λ g. h.grains g ∙ (w.grains g ∙ sym (w'.grains g));
+      rights = λ p. h.rights p ∙ (w.rights p ∙ sym (w'.rights p));
+      clear = h.clear;
+      known = w'.joins (IsLocal f v) parts.0 parts.1;
+      one_each = λ heap class.
+          let all = h.one_each heap class in
+          let here = w.count heap class in
+          let there = w'.count heap class in
+          omega (arith, all, here, there);
+    }
