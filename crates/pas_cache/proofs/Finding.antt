@@ -16,7 +16,7 @@ if_so t x y h = ap (λ b. if b then x else y) h
 some_none : {A : Type 0} (s : Slots) → Some s ≡ None → A
 some_none s h = cc
 
-not_first : (heap class : ℕ) (first : Slots) (rest : List Slots) → local_for heap class (first ∷ rest) ≡ None → is_for heap class first ≡ false
+pub not_first : (heap class : ℕ) (first : Slots) (rest : List Slots) → local_for heap class (first ∷ rest) ≡ None → is_for heap class first ≡ false
 not_first heap class first rest h = elim (cases_Bool (is_for heap class first)) [
   | inl this_one ↦ some_none first (sym (if_so (is_for heap class first) (Some first) (local_for heap class rest) this_one) ∙ h)
   | inr another ↦ another

@@ -198,3 +198,13 @@ refuses {σ} c c' name fault is same = record {
   outcome = record { fault_is = is; cache = same; no_steps = refl };
   rest = λ v h agreed. subst (λ x. AtRest σ.seat.profile x v) (sym same) h;
 }
+
+-- room for the events of a full log
+pub full_room : (n spare : ℕ) → n ≤ 64 → (n ≡ 64 → 64 ≤ spare) → 64 ≤ n → n ≤ spare
+full_room n spare most room full =
+    let n64 : n ≡ 64 = omega (arith, most, full) in
+    let some : 64 ≤ spare = room n64 in
+    omega (arith, n64, some)
+
+pub flush_call : {σ : Standing} {c : Cached} → CanCall σ (λ v l. AtRest σ.seat.profile c v) → CanCall σ (λ v l. MayFlush σ.seat.profile c.log v)
+flush_call can = record { view = can.view; whole = can.whole; stood = can.stood; met = record { clear = can.met.locals.clear; each = can.met.names } }

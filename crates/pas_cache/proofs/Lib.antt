@@ -4,3 +4,4 @@ pub mod Resting
 pub mod Going
 pub mod Finding
 pub mod Keeping
+pub mod Coming

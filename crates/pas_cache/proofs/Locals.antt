@@ -124,10 +124,10 @@ elsewhere f v slots (first ∷ rest) here all none = elim (cases_Bool (is_for sl
 covers_page : (s : Slots) (g : ℕ) → covers s g ≡ true → s.page ≡ g / 256
 covers_page s g h = eqb-true s.page (g / 256) (and_parts (s.page == g / 256) _ h).0
 
-keeps_page : (s : Slots) (p : ℕ) → keeps_right s p ≡ true → s.page ≡ p
+pub keeps_page : (s : Slots) (p : ℕ) → keeps_right s p ≡ true → s.page ≡ p
 keeps_page s p h = eqb-true s.page p (and_parts s.right (s.page == p) h).1
 
-either_false : (a b : Bool) → (a ≡ true → ⊥) → b ≡ false → (a || b) ≡ false
+pub either_false : (a b : Bool) → (a ≡ true → ⊥) → b ≡ false → (a || b) ≡ false
 either_false true b f h = absurd (f refl)
 either_false false b f h = h
 

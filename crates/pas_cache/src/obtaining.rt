@@ -1,5 +1,5 @@
 //! Slots are obtained for a request.
-ghost use Rattle.std.specs.Prelude.{◌≡◌, None};
+ghost use Rattle.std.specs.Prelude.{◌≡◌, ◌<◌, None, length};
 ghost use Rattle.pas_profile.specs.Profiles.{IsDirectoryOf};
 ghost use Rattle.pas_steps.specs.Desks.{CanCall};
 ghost use Rattle.pas_cache.specs.Locals.{local_for, RestsWith};
@@ -17,6 +17,7 @@ use pas_steps::Desk;
 fn shorten<D: Desk>(desk: &mut D, locals: &mut ArrayVec<Slots, 32>)
     requires can { CanCall (D.standing desk.old) (λ v l. RestsWith (D.standing desk.old).seat.profile locals.old.items v) }
     ensures shortens { Releases (IsShortened locals.old.items locals.new.items) locals.old.items locals.new.items (D.standing desk.old) (D.standing desk.new) }
+    ensures few { length locals.new.items < 32 }
     ensures spare { D.spare_of desk.new ≡ D.spare_of desk.old }
     ensures home { D.home desk.new ≡ D.home desk.old }
 {

@@ -1,0 +1,197 @@
+-- Slots come by a refill.
+use Rattle.std.proofs.Common.{◌≡◌, ◌≢◌, ℕ, suc, ◌+◌, ◌*◌, ◌/◌, ◌%◌, ◌<◌, ◌≤◌, ◌==◌, Bool, true, false, ◌&&◌, ◌||◌, if◌then◌else◌, List, [], ◌∷◌, ◌++◌, length, Some, None, inl, inr, refl, ap, sym, ◌∙◌, subst, arith, true≢false, append_assoc, Ok, Err, Result}
+use Rattle.std.specs.Prelude.{MatchResult}
+use Rattle.std.specs.List.{AllByRecursion}
+use Rattle.std.proofs.lemmas.Bool.{eq-eqb, eqb-true, and_parts, and_from, cases_Bool}
+use Rattle.pas_profile.specs.Profiles.{IsPage, IsDirectoryOf}
+use Rattle.pas_profile.specs.Directories.{deed_word_of}
+use Rattle.pas_profile.specs.declared.profile.Profile.{Profile}
+use Rattle.pas_profile.specs.declared.directory.Directory.{Directory}
+use Rattle.pas_profile.specs.declared.event.NoRoom.{NoRoom}
+use Rattle.pas_bits.specs.declared.mask.Mask4.{Mask4}
+use Rattle.pas_steps.specs.Views.{View, has_right, known_deed}
+use Rattle.pas_steps.specs.Agreement.{Agreed}
+use Rattle.pas_steps.specs.Lists.{Whole}
+use Rattle.pas_steps.specs.Desks.{Standing, Seat, CanCall, Adds, triples}
+use Rattle.pas_steps.specs.declared.step.Made.{Made}
+use Rattle.pas_steps.proofs.Adding.{adds_call, can_call, triples_append, agreed_first, agreed_later}
+use Rattle.pas_steps.proofs.Kept.{deed_stays}
+use Rattle.pas_scan.specs.Evidence.{IsOf}
+use Rattle.pas_search.specs.Searches.{MaySearch, KnowsAllDeeds, HasRoom, SearchRoom, IsStill, IsServed, IsRefused, Searches}
+use Rattle.pas_search.specs.Telling.{IsTold}
+use Rattle.pas_search.specs.declared.serving.Served.{Served}
+use Rattle.pas_segregated.specs.Masks.{AreStarts, start_of}
+use Rattle.pas_segregated.specs.Takes.{exclusive}
+use Rattle.pas_segregated.specs.Refills.{slots_found, answer_of, Refills}
+use Rattle.pas_segregated.specs.Stops.{class_directory, directory_of}
+use Rattle.pas_segregated.specs.declared.slots.Slots.{Slots}
+use Rattle.pas_cache.specs.Locals.{covers, keeps_right, any_covers, any_keeps, is_for, local_for, count_for, HasOneEach, IsLocal, RestsWith}
+use Rattle.pas_cache.specs.Changes.{StopsFirst, IsShortened}
+use Rattle.pas_cache.specs.Serves.{IsRefill}
+use Rattle.pas_cache.specs.Pieces.{Releases, MayObtain, RestsWithFound, FetchesSlots}
+use Rattle.pas_cache.proofs.Locals.{IsWithout, without_last, none_counted, map_locals, either_false, keeps_page}
+use Rattle.pas_cache.proofs.Finding.{not_first}
+use Rattle.pas_cache.proofs.Resting.{known_some}
+use Rattle.pas_cache.proofs.Going.{rests_call}
+
+if_not : {A : Type 0} (t : Bool) (x y : A) → t ≡ false → (if t then x else y) ≡ y
+if_not t x y h = ap (λ b. if b then x else y) h
+
+if_so : {A : Type 0} (t : Bool) (x y : A) → t ≡ true → (if t then x else y) ≡ x
+if_so t x y h = ap (λ b. if b then x else y) h
+
+-- ---- an actor without a local allocator of a heap and a class has no right of a page of theirs
+same_words : (h c h' c' : ℕ) → c < 16 → c' < 16 → 65536 + h * 256 + c ≡ 65536 + h' * 256 + c' → (h ≡ h') × (c ≡ c')
+same_words h c h' c' a b same = (omega arith, omega arith)
+
+no_right_in : (f : Profile) (v : View) (heap class : ℕ) (locals : List Slots) → class < 16 → AllByRecursion (IsLocal f v) locals → local_for heap class locals ≡ None → (p : ℕ) → IsOf (class_directory heap class) p v → any_keeps locals p ≡ false
+no_right_in f v heap class [] is all none p of = refl
+no_right_in f v heap class (first ∷ rest) is all none p of =
+    let other = not_first heap class first rest none in
+    either_false (keeps_right first p) (any_keeps rest p)
+    (λ keeps.
+        let at : first.page ≡ p = keeps_page first p keeps in
+        let pair = same_words first.heap first.class heap class all.0.directory.kind is (sym all.0.deed ∙ (ap (known_deed v) at ∙ of)) in
+        true≢false (sym (and_from (first.heap == heap) (first.class == class) (eq-eqb first.heap heap pair.0) (eq-eqb first.class class pair.1)) ∙ other))
+    (no_right_in f v heap class rest is all.1 (sym (if_not (is_for heap class first) (Some first) (local_for heap class rest) other) ∙ none) p of)
+
+pub may_search : (f : Profile) (v : View) (heap class : ℕ) (locals : List Slots) → class < 16 → local_for heap class locals ≡ None → RestsWith f locals v → MaySearch (class_directory heap class) v
+may_search f v heap class locals is none h = record { rights = λ p of. h.rights p ∙ no_right_in f v heap class locals is h.known none p of; clear = h.clear }
+
+-- ---- the slots that were found are one more local allocator
+kept_right : (t x : Bool) → (if t then true else x) ≡ ((true && t) || x)
+kept_right true x = refl
+kept_right false x = refl
+
+more_each : (heap class h c : ℕ) (slots : Slots) (locals : List Slots) → slots.heap ≡ heap → slots.class ≡ class → local_for heap class locals ≡ None → count_for h c locals ≤ 1 → count_for h c (slots ∷ locals) ≤ 1
+more_each heap class h c slots locals is_heap is_class none one = elim (cases_Bool (is_for h c slots)) [
+  | inl this_one ↦
+      let parts = and_parts (slots.heap == h) (slots.class == c) this_one in
+      let a : h ≡ heap = sym (eqb-true slots.heap h parts.0) ∙ is_heap in
+      let b : c ≡ class = sym (eqb-true slots.class c parts.1) ∙ is_class in
+      let zero_there : count_for h c locals ≡ 0 = ap (λ n. count_for n c locals) a ∙ (ap (λ n. count_for heap n locals) b ∙ none_counted heap class locals none) in
+      let counts : count_for h c (slots ∷ locals) ≡ suc (count_for h c locals) = if_so (is_for h c slots) (suc (count_for h c locals)) (count_for h c locals) this_one in
+      omega (arith, zero_there, counts)
+  | inr another ↦
+      let counts : count_for h c (slots ∷ locals) ≡ count_for h c locals = if_not (is_for h c slots) (suc (count_for h c locals)) (count_for h c locals) another in
+      omega (arith, one, counts)
+]
+
+module _ (f : Profile) (heap class : ℕ) (locals : List Slots) (is : IsDirectoryOf f (class_directory heap class)) (none : local_for heap class locals ≡ None) (steps : List Made) (v : View) (h : RestsWith f locals v) (agreed : Agreed f v steps) where
+  abbrev may : MaySearch (class_directory heap class) v
+  may = may_search f v heap class locals is.kind none h
+
+  pub rests_refilled : (served : Served Mask4) → IsServed (exclusive class) f (class_directory heap class) steps served → AreStarts class served.found → RestsWith f (locals ++ slots_found heap class served ∷ []) (steps ++ v)
+  rests_refilled served s starts =
+      let slots : Slots = slots_found heap class served in
+      let w : IsWithout (locals ++ slots ∷ []) slots locals = without_last locals slots in
+      record {
+        grains = λ g. s.keeps.grains v may agreed g ∙ (ap (λ t. covers slots g || t) (h.grains g) ∙ sym (w.grains g));
+        rights = λ p. s.keeps.rights v may agreed p ∙ (kept_right (served.page == p) (has_right v p) ∙ (ap (λ t. keeps_right slots p || t) (h.rights p) ∙ sym (w.rights p)));
+        clear = s.keeps.clear v may agreed;
+        known = w.joins (IsLocal f (steps ++ v))
+            (record { page = s.page; directory = is; starts = starts; deed = (s.keeps.known v may agreed).1; backed = λ some. (s.keeps.known v may agreed).0 })
+            (map_locals (IsLocal f v) (IsLocal f (steps ++ v)) locals (λ t within at. record {
+              page = at.page; directory = at.directory; starts = at.starts;
+              deed = deed_stays f steps v t.page agreed (known_some t.page t v at.deed) ∙ at.deed;
+              backed = λ some. s.keeps.backed v may agreed t.page (at.backed some);
+            }) h.known);
+        one_each = λ x y. let counts = w.count x y in let one = more_each heap class x y slots locals refl refl none (h.one_each x y) in omega (arith, counts, one);
+      }
+
+  pub rests_refused : (room : NoRoom) → IsRefused (exclusive class) f (class_directory heap class) steps room → RestsWith f locals (steps ++ v)
+  rests_refused room s = record {
+    grains = λ g. s.still.grains v may agreed g ∙ h.grains g;
+    rights = λ p. s.still.rights v may agreed p ∙ h.rights p;
+    clear = s.still.clear v may agreed;
+    known = map_locals (IsLocal f v) (IsLocal f (steps ++ v)) locals (λ t within at. record {
+      page = at.page; directory = at.directory; starts = at.starts;
+      deed = deed_stays f steps v t.page agreed (known_some t.page t v at.deed) ∙ at.deed;
+      backed = λ some. s.still.backed v may agreed t.page (at.backed some);
+    }) h.known;
+    one_each = h.one_each;
+  }
+
+-- ---- the list is shortened before
+none_first : (heap class : ℕ) (first : Slots) (rest : List Slots) → local_for heap class (first ∷ rest) ≡ None → local_for heap class rest ≡ None
+none_first heap class first rest none = sym (if_not (is_for heap class first) (Some first) (local_for heap class rest) (not_first heap class first rest none)) ∙ none
+
+none_stopped : (heap class : ℕ) (full : Bool) (locals kept : List Slots) (steps : List Made) → StopsFirst full locals kept steps → local_for heap class locals ≡ None → local_for heap class kept ≡ None
+none_stopped heap class full [] kept steps h none = ap (local_for heap class) h.0
+none_stopped heap class true (first ∷ rest) kept steps h none = ap (local_for heap class) h.0 ∙ none_first heap class first rest none
+none_stopped heap class false (first ∷ rest) kept steps h none = ap (local_for heap class) h.0 ∙ none
+
+pub none_shortened : (heap class : ℕ) (locals kept : List Slots) (steps : List Made) → IsShortened locals kept steps → local_for heap class locals ≡ None → local_for heap class kept ≡ None
+none_shortened heap class locals kept steps h none = none_stopped heap class _ locals kept steps h none
+
+-- what was known of deeds is known
+pub all_known : (f : Profile) (steps : List Made) (v : View) → Agreed f v steps → KnowsAllDeeds f v → KnowsAllDeeds f (steps ++ v)
+all_known f steps v agreed all p is z = all p is (sym (deed_stays f steps v p agreed (all p is)) ∙ z)
+
+pub room_after : (f : Profile) (n spare : ℕ) (steps : List Made) (v : View) → Agreed f v steps → HasRoom f n spare v → HasRoom f n spare (steps ++ v)
+room_after f n spare steps v agreed h = (h.0, elim h.1 [ inl all ↦ inl (all_known f steps v agreed all) | inr more ↦ inr more ])
+
+pub obtain_rests : {σ : Standing} {n spare : ℕ} {locals : List Slots} → CanCall σ (λ v l. MayObtain σ.seat.profile n spare locals v) → CanCall σ (λ v l. RestsWith σ.seat.profile locals v)
+obtain_rests can = record { view = can.view; whole = can.whole; stood = can.stood; met = can.met.rest }
+
+-- the same room after local allocators went
+pub obtain_after : {σ σ1 : Standing} {First : List Made → Type 0} {n spare spare1 : ℕ} (locals kept : List Slots) → Releases First locals kept σ σ1 → spare1 ≡ spare → CanCall σ (λ v l. MayObtain σ.seat.profile n spare locals v) → CanCall σ1 (λ v l. MayObtain σ1.seat.profile n spare1 kept v)
+obtain_after {σ} {σ1} {First} {n} {spare} {spare1} locals kept one same can =
+    let f : Profile = σ.seat.profile in
+    let ok : Agreed f can.view one.steps = one.adds.agreed can.view can.whole can.stood can.met.rest in
+    record {
+      view = one.steps ++ can.view;
+      whole = triples σ.seat.actor one.steps ++ can.whole;
+      stood = one.adds.added can.view can.whole can.stood can.met.rest;
+      met = subst (λ (s : Seat). MayObtain s.profile n spare1 kept (one.steps ++ can.view)) (sym one.adds.seat_is)
+          (record { rest = one.rest can.view can.met.rest ok; room = subst (λ m. HasRoom f n m (one.steps ++ can.view)) (sym same) (room_after f n spare one.steps can.view ok can.met.room) });
+    }
+
+pub search_call : {σ : Standing} {n spare : ℕ} (heap class : ℕ) (locals : List Slots) → class < 16 → local_for heap class locals ≡ None → CanCall σ (λ v l. MayObtain σ.seat.profile n spare locals v) → CanCall σ (λ v l. SearchRoom σ.seat.profile (class_directory heap class) n spare v)
+search_call {σ} heap class locals is none can = record {
+  view = can.view; whole = can.whole; stood = can.stood;
+  met = record { may = may_search σ.seat.profile can.view heap class locals is none can.met.rest; room = can.met.room };
+}
+
+-- ---- the refill
+rests_found : (f : Profile) (heap class : ℕ) (locals : List Slots) → IsDirectoryOf f (class_directory heap class) → local_for heap class locals ≡ None → (steps : List Made) (v : View) → RestsWith f locals v → Agreed f v steps → (found : Result (Served Mask4) NoRoom)
+    → MatchResult found (IsServed (exclusive class) f (class_directory heap class) steps) (IsRefused (exclusive class) f (class_directory heap class) steps) → ((slots : Slots) → answer_of heap class found ≡ Ok slots → AreStarts class slots.starts)
+    → RestsWithFound f locals (answer_of heap class found) (steps ++ v)
+rests_found f heap class locals is none steps v h agreed (Ok served) s starts = rests_refilled f heap class locals is none steps v h agreed served s (starts (slots_found heap class served) refl)
+rests_found f heap class locals is none steps v h agreed (Err room) s starts = rests_refused f heap class locals is none steps v h agreed room s
+
+pub fetches : {σ σ1 σ2 : Standing} (heap class : ℕ) (tells : Bool) (locals kept : List Slots) (answer : Result Slots NoRoom) → IsDirectoryOf σ.seat.profile (class_directory heap class) → local_for heap class locals ≡ None
+    → Releases (IsShortened locals kept) locals kept σ σ1 → length kept < 32 → Refills heap class tells σ1 σ2 answer → FetchesSlots heap class tells locals kept σ σ2 answer
+fetches {σ} {σ1} {σ2} heap class tells locals kept answer is none one few two =
+    let f : Profile = σ.seat.profile in
+    let d : Directory = class_directory heap class in
+    let xs : List Made = one.steps in
+    let ys : List Made = two.searches.steps in
+    let left : local_for heap class kept ≡ None = none_shortened heap class locals kept xs one.change none in
+    let outcome : MatchResult two.found (IsServed (exclusive class) f d ys) (IsRefused (exclusive class) f d ys)
+    = subst (λ (s : Seat). MatchResult two.found (IsServed (exclusive class) s.profile d ys) (IsRefused (exclusive class) s.profile d ys)) one.adds.seat_is two.searches.outcome in
+    record {
+      stopped = xs;
+      shortened = one.change;
+      kinds = one.kinds;
+      quiet = one.quiet;
+      searched = ys;
+      found = two.found;
+      answer_is = two.answer_is;
+      refill = record { searches = two.searches.searches; outcome = outcome };
+      adds = adds_call {C = λ v l. RestsWith f locals v} {D = λ v l. MaySearch d v} one.adds two.searches.adds
+          (λ v l stood met. may_search f (xs ++ v) heap class kept is.kind left (one.rest v met (one.adds.agreed v l stood met)));
+      few = few;
+      rest = λ v h agreed.
+          let before = one.rest v h (agreed_later f v ys xs agreed) in
+          subst (RestsWithFound f kept answer) (sym (append_assoc ys xs v))
+          (subst (λ a. RestsWithFound f kept a (ys ++ (xs ++ v))) (sym two.answer_is)
+          (rests_found f heap class kept is left ys (xs ++ v) before (agreed_first f v ys xs agreed) two.found outcome (λ slots e. two.starts slots (two.answer_is ∙ e))));
+      told = λ t v l stood met.
+          let k : ℕ = σ.seat.actor in
+          let ok = one.adds.agreed v l stood met in
+          let may = may_search f (xs ++ v) heap class kept is.kind left (one.rest v met ok) in
+          subst (λ exit. IsTold (exclusive class) f d (triples k xs ++ l) exit two.found) (triples_append k ys xs l)
+          (subst (λ (s : Seat). IsTold (exclusive class) s.profile d (triples k xs ++ l) (triples s.actor ys ++ (triples k xs ++ l)) two.found) one.adds.seat_is
+          (two.searches.told t (xs ++ v) (triples k xs ++ l) (one.adds.added v l stood met) may));
+    }
