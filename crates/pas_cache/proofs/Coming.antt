@@ -182,6 +182,8 @@ fetches {σ} {σ1} {σ2} heap class tells locals kept answer is none one few two
       adds = adds_call {C = λ v l. RestsWith f locals v} {D = λ v l. MaySearch d v} one.adds two.searches.adds
           (λ v l stood met. may_search f (xs ++ v) heap class kept is.kind left (one.rest v met (one.adds.agreed v l stood met)));
       few = few;
+      none = left;
+      ready = one.rest;
       rest = λ v h agreed.
           let before = one.rest v h (agreed_later f v ys xs agreed) in
           subst (RestsWithFound f kept answer) (sym (append_assoc ys xs v))

@@ -5,3 +5,6 @@ pub mod Going
 pub mod Finding
 pub mod Keeping
 pub mod Coming
+pub mod Knowing
+pub mod Fitting
+pub mod Obtained

@@ -4,6 +4,7 @@ use Rattle.pas_profile.specs.declared.event.NoRoom.{NoRoom}
 use Rattle.pas_profile.specs.declared.name.Block.{Block}
 use Rattle.pas_profile.specs.declared.profile.Profile.{Profile}
 use Rattle.pas_steps.specs.Views.{View, holds, is_unstamped}
+use Rattle.pas_steps.specs.Events.{events_by}
 use Rattle.pas_steps.specs.Agreement.{Agreed}
 use Rattle.pas_steps.specs.Lists.{Whole}
 use Rattle.pas_steps.specs.Past.{Always}
@@ -89,6 +90,8 @@ pub record FetchesSlots (heap class : ℕ) (tells : Bool) (locals locals' : List
   pub refill : IsRefill heap class desk.seat.profile searched found
   pub adds : Adds desk desk' (λ v l. RestsWith desk.seat.profile locals v) (searched ++ stopped)
   pub few : length locals' < 32
+  pub none : local_for heap class locals' ≡ None
+  pub ready : (v : View) → RestsWith desk.seat.profile locals v → Agreed desk.seat.profile v stopped → RestsWith desk.seat.profile locals' (stopped ++ v)
   pub rest : (v : View) → RestsWith desk.seat.profile locals v → Agreed desk.seat.profile v (searched ++ stopped) → RestsWithFound desk.seat.profile locals' answer ((searched ++ stopped) ++ v)
   pub told : tells ≡ true → (v : View) (l : Whole) → desk.stands v l → RestsWith desk.seat.profile locals v
       → IsTold (exclusive class) desk.seat.profile (class_directory heap class) (triples desk.seat.actor stopped ++ l) (triples desk.seat.actor (searched ++ stopped) ++ l) found
@@ -122,6 +125,8 @@ pub record Obtains (heap class : ℕ) (tells : Bool) (locals locals' : List Slot
   pub adds : Adds desk desk' (λ v l. RestsWith desk.seat.profile locals v) steps
   pub how : FindsCached heap class locals locals' steps answer ⊎ FetchesAnew desk.seat.profile heap class locals locals' steps answer
   pub few : length locals' < 32
+  pub makes : MakesFew desk.seat.profile (RestsWith desk.seat.profile locals) 1 steps
+  pub most : (k : ℕ) (v : View) → RestsWith desk.seat.profile locals v → Agreed desk.seat.profile v steps → length (events_by k v steps) ≤ 2
   pub rest : (v : View) → RestsWith desk.seat.profile locals v → Agreed desk.seat.profile v steps → RestsWithFound desk.seat.profile locals' answer (steps ++ v)
   pub told : tells ≡ true → (v : View) (l : Whole) → desk.stands v l → RestsWith desk.seat.profile locals v → IsToldBy desk.seat.profile heap class locals l (triples desk.seat.actor steps ++ l) answer
 

@@ -1,5 +1,5 @@
 //! Local allocators are looked for and taken out of their list.
-ghost use Rattle.std.specs.Prelude.{◌≡◌, ◌<◌, MatchBool, MatchOption, None, Some, length};
+ghost use Rattle.std.specs.Prelude.{◌≡◌, ◌<◌, ◌≤◌, MatchBool, MatchOption, None, Some, length};
 ghost use Rattle.pas_segregated.specs.Masks.{IsSome, IsEmpty};
 ghost use Rattle.pas_cache.specs.Locals.{is_for, local_for, others_than, HasOneEach};
 ghost use Rattle.pas_cache.specs.Places.{IsPlaceOf};
@@ -38,6 +38,7 @@ pub fn take_out(locals: &mut ArrayVec<Slots, 32>, heap: u8, class: u8) -> Option
     requires one_each { HasOneEach locals.old.items }
     ensures found { result ≡ local_for heap class locals.old.items }
     ensures others { locals.new.items ≡ others_than heap class locals.old.items }
+    ensures fits { length locals.old.items ≤ 32 }
 {
     match place_of(locals.as_slice(), heap, class) {
         Some(place) => Some(locals.remove(place)),

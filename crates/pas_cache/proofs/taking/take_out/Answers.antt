@@ -1,4 +1,4 @@
-use Rattle.std.proofs.Common.{◌≡◌, sym, ap, ◌∙◌, Some, None, subst, refl}
+use Rattle.std.proofs.Common.{◌≡◌, ◌≤◌, length, sym, ap, ◌∙◌, Some, None, subst, refl}
 use Rattle.pas_cache.specs.Locals.{local_for}
 use Rattle.pas_cache.specs.Places.{IsPlaceOf}
 use Rattle.pas_cache.proofs.Finding.{taken_there, left_there, none_there}
@@ -11,6 +11,7 @@ returns-in-Some c =
     record {
       found = taken_there heap class xs c.in-Some.place c.remove.result place c.remove.ensures.value;
       others = left_there heap class xs c.remove.new.self.items c.in-Some.place c.remove.result (c.requires.one_each heap class) place c.remove.ensures.items;
+      fits = subst (λ ys. length ys ≤ 32) c.as_slice.ensures.value c.as_slice.ensures.fits;
     }
 
 pub returns-in-None-clause-others : goal.returns-in-None-clause-others

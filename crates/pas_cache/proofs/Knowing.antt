@@ -1,0 +1,211 @@
+-- How many pages have a deed that isn't known, and how many events a refill makes.
+use Rattle.std.proofs.Common.{◌≡◌, ◌≢◌, ℕ, zero, suc, ◌+◌, ◌*◌, ◌<◌, ◌≤◌, ◌==◌, Bool, true, false, if◌then◌else◌, List, [], ◌∷◌, ◌++◌, length, Some, None, Ok, Err, Result, inl, inr, refl, ap, sym, ◌∙◌, subst, arith, append_assoc, length-append}
+use Rattle.std.specs.Prelude.{MatchResult}
+use Rattle.std.specs.List.{AllByRecursion}
+use Rattle.std.proofs.lemmas.Bool.{eqb-true, eqb-false, ne_eqb, cases_Bool, cases_eq}
+use Rattle.pas_profile.specs.Profiles.{IsPage}
+use Rattle.pas_profile.specs.Directories.{deed_word_of}
+use Rattle.pas_profile.specs.declared.profile.Profile.{Profile}
+use Rattle.pas_profile.specs.declared.directory.Directory.{Directory}
+use Rattle.pas_profile.specs.declared.event.Event.{Event}
+use Rattle.pas_profile.specs.declared.event.Event.TheVariants as Event
+use Rattle.pas_profile.specs.declared.event.NoRoom.{NoRoom}
+use Rattle.pas_profile.proofs.Codecs.{deed_word_of-positive}
+use Rattle.pas_bits.specs.declared.mask.Mask4.{Mask4}
+use Rattle.pas_steps.specs.Views.{View, known_deed, epoch_of}
+use Rattle.pas_steps.specs.Events.{event_of, with_event, events_by}
+use Rattle.pas_steps.specs.Agreement.{Agrees, Agreed}
+use Rattle.pas_steps.specs.Past.{Once, Always}
+use Rattle.pas_steps.specs.declared.step.Made.{Made}
+use Rattle.pas_steps.specs.declared.step.Step.{Step}
+use Rattle.pas_steps.specs.declared.step.Step.TheVariants.{Look, Deed, Back, Take, Put, Give, End, TakeRight, Offer, Park, Unpark, Stamp, Hint}
+use Rattle.pas_steps.proofs.Adding.{agreed_first, agreed_later}
+use Rattle.pas_steps.proofs.Frames.{events_append}
+use Rattle.pas_steps.proofs.Kept.{deed_stays}
+use Rattle.pas_steps.proofs.Past.{always_map, always_both}
+use Rattle.pas_scan.specs.Evidence.{IsOf}
+use Rattle.pas_search.specs.Kinds.{IsSearch, OnlySearches, IsQuiet, AreQuiet, IsDeedOrBack, EventsAt, deeds_made}
+use Rattle.pas_search.specs.Serving.{Rule}
+use Rattle.pas_search.specs.Searches.{MaySearch, KnowsAllDeeds, HasRoom, DeedMadeHere, FromOffered, ByDeed, IsServed, IsRefused}
+use Rattle.pas_search.specs.declared.serving.Served.{Served}
+use Rattle.pas_search.proofs.StepKinds.{events_quiet}
+use Rattle.pas_segregated.specs.Takes.{exclusive}
+use Rattle.pas_segregated.specs.Stops.{class_directory}
+use Rattle.pas_cache.specs.Knowledge.{unknown_here, unknown_below, unknown_pages}
+use Rattle.pas_cache.specs.Serves.{IsRefill, IsAllocating, AreAllocating, IsPreparing, MakesFew}
+use Rattle.pas_cache.specs.Pieces.{IsReleasing, AreReleasing}
+
+-- ---- unknown pages grow fewer
+abbrev one_if : Bool → ℕ
+one_if t = if t then 1 else 0
+
+no_more : (a b : ℕ) (t u : Bool) → (a == 0) ≡ t → (b == 0) ≡ u → (b ≢ 0 → a ≢ 0) → unknown_here a ≤ unknown_here b
+no_more a b true true ea eb h = let x : unknown_here a ≡ 1 = ap one_if ea in let y : unknown_here b ≡ 1 = ap one_if eb in omega (arith, x, y)
+no_more a b true false ea eb h = absurd (h (eqb-false b 0 eb) (eqb-true a 0 ea))
+no_more a b false u ea eb h = let x : unknown_here a ≡ 0 = ap one_if ea in omega (arith, x)
+
+unknown_kept : (f : Profile) (n : ℕ) (steps : List Made) (v : View) → Agreed f v steps → unknown_below n (steps ++ v) ≤ unknown_below n v
+unknown_kept f zero steps v agreed = omega arith
+unknown_kept f (suc n) steps v agreed =
+    let here = no_more (known_deed (steps ++ v) (suc n)) (known_deed v (suc n)) _ _ refl refl (λ ne z. ne (sym (deed_stays f steps v (suc n) agreed ne) ∙ z)) in
+    let below = unknown_kept f n steps v agreed in
+    omega (arith, here, below)
+
+pub unknown_stays : (f : Profile) (steps : List Made) (v : View) → Agreed f v steps → unknown_pages f (steps ++ v) ≤ unknown_pages f v
+unknown_stays f steps v agreed = unknown_kept f f.pages steps v agreed
+
+unknown_fewer : (f : Profile) (n page : ℕ) (steps : List Made) (v : View) → Agreed f v steps → known_deed v page ≡ 0 → known_deed (steps ++ v) page ≢ 0 → 1 ≤ page → page ≤ n → unknown_below n (steps ++ v) + 1 ≤ unknown_below n v
+unknown_fewer f zero page steps v agreed was now low high = absurd (omega (arith, low, high))
+unknown_fewer f (suc n) page steps v agreed was now low high = elim (cases_eq page (suc n)) [
+  | inl e ↦
+      let before : known_deed v (suc n) ≡ 0 = ap (known_deed v) (sym e) ∙ was in
+      let x : unknown_here (known_deed v (suc n)) ≡ 1 = ap unknown_here before in
+      let other : (known_deed (steps ++ v) (suc n) == 0) ≡ false = ne_eqb (known_deed (steps ++ v) (suc n)) 0 (λ z. now (ap (known_deed (steps ++ v)) e ∙ z)) in
+      let y : unknown_here (known_deed (steps ++ v) (suc n)) ≡ 0 = ap one_if other in
+      let below = unknown_kept f n steps v agreed in
+      omega (arith, x, y, below)
+  | inr ne ↦
+      let here = no_more (known_deed (steps ++ v) (suc n)) (known_deed v (suc n)) _ _ refl refl (λ some z. some (sym (deed_stays f steps v (suc n) agreed some) ∙ z)) in
+      let below = unknown_fewer f n page steps v agreed was now low (omega (arith, high, ne)) in
+      omega (arith, here, below)
+]
+
+pub unknown_less : (f : Profile) (page : ℕ) (steps : List Made) (v : View) → Agreed f v steps → IsPage f page → known_deed v page ≡ 0 → known_deed (steps ++ v) page ≢ 0 → unknown_pages f (steps ++ v) + 1 ≤ unknown_pages f v
+unknown_less f page steps v agreed is was now = unknown_fewer f f.pages page steps v agreed was now is.0 is.1
+
+none_below : (f : Profile) (n : ℕ) (v : View) → KnowsAllDeeds f v → n ≤ f.pages → unknown_below n v ≡ 0
+none_below f zero v all le = refl
+none_below f (suc n) v all le =
+    let here : (known_deed v (suc n) == 0) ≡ false = ne_eqb (known_deed v (suc n)) 0 (all (suc n) (omega arith, le)) in
+    let x : unknown_here (known_deed v (suc n)) ≡ 0 = ap one_if here in
+    let below = none_below f n v all (omega (arith, le)) in
+    omega (arith, x, below)
+
+pub none_unknown : (f : Profile) (v : View) → KnowsAllDeeds f v → unknown_pages f v ≡ 0
+none_unknown f v all = none_below f f.pages v all (omega arith)
+
+all_below : (n : ℕ) (v : View) (page : ℕ) → unknown_below n v ≡ 0 → 1 ≤ page → page ≤ n → known_deed v page ≢ 0
+all_below zero v page none low high = absurd (omega (arith, low, high))
+all_below (suc n) v page none low high = elim (cases_eq page (suc n)) [
+  | inl e ↦ λ z.
+      let here : known_deed v (suc n) ≡ 0 = ap (known_deed v) (sym e) ∙ z in
+      let x : unknown_here (known_deed v (suc n)) ≡ 1 = ap unknown_here here in
+      omega (arith, none, x)
+  | inr ne ↦ all_below n v page (omega (arith, none)) low (omega (arith, high, ne))
+]
+
+-- room for so many events beside the pages whose deed isn't known is room for a request
+pub has_room : (f : Profile) (n spare : ℕ) (v : View) → n + unknown_pages f v ≤ spare → HasRoom f n spare v
+has_room f n spare v fits = (omega (arith, fits), elim (cases_eq (unknown_pages f v) 0) [
+  | inl none ↦ inl (λ page is. all_below f.pages v page none is.0 is.1)
+  | inr some ↦ inr (omega (arith, fits, some))
+])
+
+-- ---- a deed that was made wasn't known before
+made_unknown : {F : Type 0} (rule : Rule F) (f : Profile) (d : Directory) (page : ℕ) (steps : List Made) (v : View) → Agreed f v steps → Once (DeedMadeHere rule f d page) steps → known_deed v page ≢ 0 → ⊥
+made_unknown rule f d page [] v agreed h some = h
+made_unknown rule f d page (m ∷ more) v agreed (inl h) some =
+    let still : known_deed (more ++ v) page ≡ known_deed v page = deed_stays f more v page agreed.1 some in
+    let agrees : Agrees f (more ++ v) (Deed page d) m.answer = subst (λ s. Agrees f (more ++ v) s m.answer) h.deed agreed.0 in
+    let same : m.answer ≡ known_deed (more ++ v) page = agrees.known (λ z. some (sym still ∙ z)) in
+    some (sym still ∙ (sym same ∙ h.made))
+made_unknown rule f d page (m ∷ more) v agreed (inr h) some = made_unknown rule f d page more v agreed.1 h some
+
+zero_from : (n : ℕ) → (n ≢ 0 → ⊥) → n ≡ 0
+zero_from n h = elim (cases_eq n 0) [ inl e ↦ e | inr ne ↦ absurd (h ne) ]
+
+-- ---- the events of a refill
+pub record FewAt (f : Profile) (k : ℕ) (steps : List Made) (v : View) : Type 0 where
+  pub makes : length (events_by k v steps) + unknown_pages f (steps ++ v) ≤ 1 + unknown_pages f v
+  pub most : length (events_by k v steps) ≤ 2
+
+served_few : (f : Profile) (heap class : ℕ) (steps : List Made) (served : Served Mask4) → IsServed (exclusive class) f (class_directory heap class) steps served → (k : ℕ) (v : View) → MaySearch (class_directory heap class) v → Agreed f v steps → FewAt f k steps v
+served_few f heap class steps served s k v may agreed = elim s.choice [
+  | inl offered ↦
+      let events = (s.few k v agreed).0 in
+      let none = offered.no_deed in
+      let fewer = unknown_stays f steps v agreed in
+      record { makes = omega (arith, events, none, fewer); most = omega (arith, events, none) }
+  | inr deed ↦
+      let events = (s.few k v agreed).0 in
+      let one = deed.one_deed in
+      let was : known_deed v served.page ≡ 0 = zero_from (known_deed v served.page) (made_unknown (exclusive class) f (class_directory heap class) served.page steps v agreed deed.made_here) in
+      let fewer = unknown_less f served.page steps v agreed s.page was (λ z. deed_word_of-positive (class_directory heap class) (sym (s.keeps.known v may agreed).1 ∙ z)) in
+      record { makes = omega (arith, events, one, fewer); most = omega (arith, events, one) }
+]
+
+silent_few : (f : Profile) (k : ℕ) (steps : List Made) (v : View) → AreQuiet steps → Agreed f v steps → FewAt f k steps v
+silent_few f k steps v quiet agreed =
+    let none : length (events_by k v steps) ≡ 0 = ap length (events_quiet k v steps quiet) in
+    let fewer = unknown_stays f steps v agreed in
+    record { makes = omega (arith, none, fewer); most = omega (arith, none) }
+
+found_few : (f : Profile) (heap class : ℕ) (steps : List Made) (found : Result (Served Mask4) NoRoom) → MatchResult found (IsServed (exclusive class) f (class_directory heap class) steps) (IsRefused (exclusive class) f (class_directory heap class) steps)
+    → (k : ℕ) (v : View) → MaySearch (class_directory heap class) v → Agreed f v steps → FewAt f k steps v
+found_few f heap class steps (Ok served) h k v may agreed = served_few f heap class steps served h k v may agreed
+found_few f heap class steps (Err room) h k v may agreed = silent_few f k steps v h.quiet agreed
+
+-- after steps without events
+pub refill_few : (f : Profile) (heap class : ℕ) (ys xs : List Made) (found : Result (Served Mask4) NoRoom) → IsRefill heap class f ys found → AreQuiet xs → (k : ℕ) (v : View) → MaySearch (class_directory heap class) (xs ++ v) → Agreed f v (ys ++ xs) → FewAt f k (ys ++ xs) v
+refill_few f heap class ys xs found refill quiet k v may agreed =
+    let here = found_few f heap class ys found refill.outcome k (xs ++ v) may (agreed_first f v ys xs agreed) in
+    let a = here.makes in
+    let b = here.most in
+    let before = unknown_stays f xs v (agreed_later f v ys xs agreed) in
+    let split : length (events_by k v (ys ++ xs)) ≡ length (events_by k (xs ++ v) ys) + length (events_by k v xs) = ap length (events_append k ys xs v) ∙ length-append (events_by k (xs ++ v) ys) (events_by k v xs) in
+    let none : length (events_by k v xs) ≡ 0 = ap length (events_quiet k v xs quiet) in
+    let same : unknown_pages f ((ys ++ xs) ++ v) ≡ unknown_pages f (ys ++ (xs ++ v)) = ap (unknown_pages f) (append_assoc ys xs v) in
+    record { makes = omega (arith, a, before, split, none, same); most = omega (arith, b, split, none) }
+
+-- ---- which events
+with_some : (d : Directory) (t : Bool) (e : Event) (es : List Event) → IsPreparing d e → AllByRecursion (IsPreparing d) es → AllByRecursion (IsPreparing d) (with_event (if t then Some e else None) es)
+with_some d true e es is all = (is, all)
+with_some d false e es is all = all
+
+with_prepared : (d : Directory) (k page e : ℕ) (s : Step) (a : ℕ) (es : List Event) → IsDeedOrBack d page s → AllByRecursion (IsPreparing d) es → AllByRecursion (IsPreparing d) (with_event (event_of k e s a) es)
+with_prepared d k page e s a es IsDeedOrBack.Deeds all = with_some d (a == 0) (Event.Deed k page d) es (IsPreparing.Deeds k page) all
+with_prepared d k page e s a es IsDeedOrBack.Backs all = with_some d (a == 0) (Event.Back k page) es (IsPreparing.Backs k page) all
+
+pub prepared : (d : Directory) (page : ℕ) (steps : List Made) → EventsAt d page steps → (k : ℕ) (v : View) → AllByRecursion (IsPreparing d) (events_by k v steps)
+prepared d page [] at k v = tt
+prepared d page (m ∷ more) at k v = elim at.0 [
+  | inl quiet ↦ subst (λ o. AllByRecursion (IsPreparing d) (with_event o (events_by k v more))) (sym (quiet k (epoch_of (more ++ v)))) (prepared d page more at.1 k v)
+  | inr some ↦ with_prepared d k page (epoch_of (more ++ v)) m.step m.answer (events_by k v more) some (prepared d page more at.1 k v)
+]
+
+-- ---- kinds of steps
+search_allocates : (s : Step) → IsSearch s → IsAllocating s
+search_allocates s (IsSearch.Looks word) = tt
+search_allocates s (IsSearch.Deeds p d) = tt
+search_allocates s (IsSearch.Backs p) = tt
+search_allocates s (IsSearch.Takes p w mask) = tt
+search_allocates s (IsSearch.Puts p w mask) = tt
+search_allocates s (IsSearch.Claims p d) = tt
+search_allocates s (IsSearch.Offers p d) = tt
+search_allocates s (IsSearch.Parks p) = tt
+search_allocates s (IsSearch.Unparks p) = tt
+search_allocates s (IsSearch.Hints p) = tt
+
+pub searches_allocate : (steps : List Made) → OnlySearches steps → AreAllocating steps
+searches_allocate steps h = always_map (λ m before. IsSearch m.step) (λ m before. IsAllocating m.step) steps (λ m before is. search_allocates m.step is) h
+
+release_allocates : (s : Step) → IsReleasing s → IsAllocating s
+release_allocates (Look word) h = tt
+release_allocates (Deed p d) h = tt
+release_allocates (Back p) h = tt
+release_allocates (Take p w mask) h = tt
+release_allocates (Put p w mask) h = tt
+release_allocates (Give block) h = tt
+release_allocates (End name guess) h = h
+release_allocates (TakeRight p d) h = tt
+release_allocates (Offer p d) h = tt
+release_allocates (Park p) h = tt
+release_allocates (Unpark p) h = tt
+release_allocates (Stamp p) h = h
+release_allocates (Hint p) h = tt
+
+pub releases_allocate : (steps : List Made) → AreReleasing steps → AreAllocating steps
+releases_allocate steps h = always_map (λ m before. IsReleasing m.step) (λ m before. IsAllocating m.step) steps (λ m before is. release_allocates m.step is) h
+
+pub allocating_append : (ys xs : List Made) → AreAllocating ys → AreAllocating xs → AreAllocating (ys ++ xs)
+allocating_append ys xs a b = always_both (λ m before. IsAllocating m.step) (λ m before. IsAllocating m.step) ys xs (λ m before h. h) a b
