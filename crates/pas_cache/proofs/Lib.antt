@@ -8,3 +8,4 @@ pub mod Coming
 pub mod Knowing
 pub mod Fitting
 pub mod Obtained
+pub mod Granting

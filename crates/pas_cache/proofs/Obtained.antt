@@ -1,8 +1,8 @@
 -- Slots are obtained: cached ones, or those of a refill.
-use Rattle.std.proofs.Common.{◌≡◌, ℕ, suc, ◌+◌, ◌<◌, ◌≤◌, Bool, true, false, if◌then◌else◌, List, [], ◌∷◌, ◌++◌, length, Option, Some, None, Ok, Err, Result, inl, inr, refl, ap, sym, ◌∙◌, subst, arith, append_assoc, true≢false}
+use Rattle.std.proofs.Common.{◌≡◌, ℕ, suc, ◌+◌, ◌<◌, ◌≤◌, ◌==◌, Bool, true, false, if◌then◌else◌, List, [], ◌∷◌, ◌++◌, length, Option, Some, None, Ok, Err, Result, inl, inr, refl, ap, sym, ◌∙◌, subst, arith, append_assoc, true≢false}
 use Rattle.std.specs.Prelude.{MatchResult}
 use Rattle.std.proofs.Common.{append-nil}
-use Rattle.std.proofs.lemmas.Bool.{cases_Bool}
+use Rattle.std.proofs.lemmas.Bool.{cases_Bool, and_parts, eqb-true}
 use Rattle.pas_profile.specs.Profiles.{IsDirectoryOf}
 use Rattle.pas_profile.specs.declared.profile.Profile.{Profile}
 use Rattle.pas_profile.specs.declared.directory.Directory.{Directory}
@@ -31,7 +31,7 @@ use Rattle.pas_cache.specs.Knowledge.{unknown_pages}
 use Rattle.pas_cache.specs.Locals.{is_for, local_for, others_than, HasOneEach, IsLocal, RestsWith}
 use Rattle.pas_cache.specs.Changes.{LeavesSpent, IsTakenOut}
 use Rattle.pas_cache.specs.Serves.{IsRefill, HasNoneCached, IsTrueRefusal, IsToldBy}
-use Rattle.pas_cache.specs.Pieces.{Releases, RestsWithFound, FetchesSlots, Obtains}
+use Rattle.pas_cache.specs.Pieces.{Releases, RestsWithFound, FetchesSlots, IsFoundFor, Obtains}
 use Rattle.pas_cache.proofs.Locals.{IsWithout, without_last, without_found, none_left}
 use Rattle.pas_cache.proofs.Finding.{none_there}
 use Rattle.pas_cache.proofs.Resting.{rests_moved}
@@ -39,6 +39,9 @@ use Rattle.pas_cache.proofs.Going.{rests_here, releasing_append, releases_by, re
 use Rattle.pas_cache.proofs.Coming.{may_search}
 use Rattle.pas_cache.proofs.Knowing.{FewAt, refill_few}
 use Rattle.pas_cache.proofs.Fitting.{no_fit_before}
+
+some_same : (s t : Slots) → Some s ≡ Some t → s ≡ t
+some_same s t h = cc
 
 -- ---- the local allocator has a slot
 fewer : (t : Bool) (first : Slots) (rest others : List Slots) → length others ≤ length rest → length (if t then others else first ∷ others) ≤ length (first ∷ rest)
@@ -62,6 +65,16 @@ found_fewer heap class (first ∷ rest) slots found = elim (cases_Bool (is_for h
       omega (arith, less, n)
 ]
 
+found_for : (heap class : ℕ) (locals : List Slots) (slots : Slots) → local_for heap class locals ≡ Some slots → (slots.heap ≡ heap) × (slots.class ≡ class)
+found_for heap class [] slots found = cc
+found_for heap class (first ∷ rest) slots found = elim (cases_Bool (is_for heap class first)) [
+  | inl this_one ↦
+      let is : first ≡ slots = some_same first slots (ap (λ t. if t then Some first else local_for heap class rest) (sym this_one) ∙ found) in
+      let parts = and_parts (first.heap == heap) (first.class == class) this_one in
+      (ap (λ s. s.heap) (sym is) ∙ eqb-true first.heap heap parts.0, ap (λ s. s.class) (sym is) ∙ eqb-true first.class class parts.1)
+  | inr another ↦ found_for heap class rest slots (ap (λ t. if t then Some first else local_for heap class rest) (sym another) ∙ found)
+]
+
 pub obtains_cached : {σ : Standing} (heap class : ℕ) (tells : Bool) (locals locals' : List Slots) (slots : Slots) → Some slots ≡ local_for heap class locals → locals' ≡ others_than heap class locals → length locals ≤ 32 → IsSome slots.starts → Obtains heap class tells locals locals' σ σ (Ok slots)
 obtains_cached {σ} heap class tells locals locals' slots found others fits some =
     let f : Profile = σ.seat.profile in
@@ -69,6 +82,7 @@ obtains_cached {σ} heap class tells locals locals' slots found others fits some
       steps = [];
       adds = adds_none;
       how = inl (record { from = slots; answer_is = refl; cached = sym found; some = some; locals_are = others; no_steps = refl });
+      found_for = record { heap_is = (found_for heap class locals slots (sym found)).0; class_is = (found_for heap class locals slots (sym found)).1; some = some };
       few = let less = found_fewer heap class locals slots (sym found) in let n : length locals' ≡ length (others_than heap class locals) = ap length others in omega (arith, less, n, fits);
       makes = λ k v h agreed. omega arith;
       most = λ k v h agreed. omega arith;
@@ -99,9 +113,6 @@ taken_spent heap class locals slots steps found is empty h = (subst (λ o. Leave
 pub none_taken : (heap class : ℕ) (locals : List Slots) → None ≡ local_for heap class locals → IsTakenOut heap class locals (others_than heap class locals) []
 none_taken heap class locals none = (subst (λ o. LeavesSpent o []) none refl, refl)
 
-some_same : (s t : Slots) → Some s ≡ Some t → s ≡ t
-some_same s t h = cc
-
 pub none_cached : (heap class : ℕ) (locals : List Slots) (slots : Slots) → Some slots ≡ local_for heap class locals → IsEmpty slots.starts → HasNoneCached heap class locals
 none_cached heap class locals slots found empty other at some =
     let same : slots ≡ other = some_same slots other (found ∙ at) in
@@ -116,6 +127,10 @@ told_refusal : (f : Profile) (heap class : ℕ) (locals : List Slots) (entry mid
     → IsTold (exclusive class) f (class_directory heap class) middle exit found → IsToldBy f heap class locals entry exit (answer_of heap class found)
 told_refusal f heap class locals entry middle exit (Ok served) none back told = tt
 told_refusal f heap class locals entry middle exit (Err room) none back told = record { cached = none; entry_fit = back told.0; exit_fit = told.1; reason = told.2 }
+
+searched_for : (f : Profile) (heap class : ℕ) (steps : List Made) (found : Result (Served Mask4) NoRoom) → IsRefill heap class f steps found → MatchResult (answer_of heap class found) (IsFoundFor heap class) (λ room. Unit {0})
+searched_for f heap class steps (Ok served) refill = record { heap_is = refl; class_is = refl; some = refill.outcome.serves.some }
+searched_for f heap class steps (Err room) refill = tt
 
 pub obtains_anew : {σ σ1 σ2 : Standing} (heap class : ℕ) (tells : Bool) (locals kept locals' : List Slots) (answer : Result Slots NoRoom) → IsDirectoryOf σ.seat.profile (class_directory heap class) → HasNoneCached heap class locals
     → Releases (IsTakenOut heap class locals kept) locals kept σ σ1 → FetchesSlots heap class tells kept locals' σ1 σ2 answer → Obtains heap class tells locals locals' σ σ2 answer
@@ -148,6 +163,7 @@ obtains_anew {σ} {σ1} {σ2} heap class tells locals kept locals' answer is non
         kinds = releasing_append ys xs two.kinds one.kinds; quiet = quiet;
         searched = zs; found = two.found; answer_is = two.answer_is; refill = refill; steps_are = append_assoc zs ys xs;
       });
+      found_for = subst (λ a. MatchResult a (IsFoundFor heap class) (λ room. Unit {0})) (sym two.answer_is) (searched_for f heap class zs two.found refill);
       few = two.few;
       makes = λ n v h agreed. (few n v h agreed).makes;
       most = λ n v h agreed. (few n v h agreed).most;

@@ -101,7 +101,7 @@ module _ (f : Profile) (locals : List Slots) (slots : Slots) (rest : List Slots)
       = ap (λ t. if t then suc (count_for slots.heap slots.class rest) else count_for slots.heap slots.class rest) (and_from (slots.heap == slots.heap) (slots.class == slots.class) (eq-eqb slots.heap slots.heap refl) (eq-eqb slots.class slots.class refl)) in
       omega (arith, all, counts, this)
 
-  away : AreElsewhere slots rest
+  pub away : AreElsewhere slots rest
   away = elsewhere f v slots rest here others none_other
 
   held_here : (g : ℕ) → covers slots g ≡ true → holds v g ≡ true

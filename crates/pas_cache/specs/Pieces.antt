@@ -120,10 +120,17 @@ pub record FetchesAnew (f : Profile) (heap class : ℕ) (locals locals' : List S
   pub refill : IsRefill heap class f searched found
   pub steps_are : steps ≡ searched ++ (stopped ++ spent)
 
+-- the slots are of the heap and the class, and there are some
+pub record IsFoundFor (heap class : ℕ) (slots : Slots) : Type 0 where
+  pub heap_is : slots.heap ≡ heap
+  pub class_is : slots.class ≡ class
+  pub some : IsSome slots.starts
+
 pub record Obtains (heap class : ℕ) (tells : Bool) (locals locals' : List Slots) (desk desk' : Standing) (answer : Result Slots NoRoom) : Type 0 where
   pub steps : List Made
   pub adds : Adds desk desk' (λ v l. RestsWith desk.seat.profile locals v) steps
   pub how : FindsCached heap class locals locals' steps answer ⊎ FetchesAnew desk.seat.profile heap class locals locals' steps answer
+  pub found_for : MatchResult answer (IsFoundFor heap class) (λ room. Unit {0})
   pub few : length locals' < 32
   pub makes : MakesFew desk.seat.profile (RestsWith desk.seat.profile locals) 1 steps
   pub most : (k : ℕ) (v : View) → RestsWith desk.seat.profile locals v → Agreed desk.seat.profile v steps → length (events_by k v steps) ≤ 2
