@@ -9,3 +9,4 @@ pub mod Knowing
 pub mod Fitting
 pub mod Obtained
 pub mod Granting
+pub mod Answered
