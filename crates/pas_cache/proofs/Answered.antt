@@ -1,6 +1,15 @@
 -- A request is answered from the local allocators.
 use Rattle.std.proofs.Common.{◌≡◌, ◌≢◌, ℕ, suc, ◌+◌, ◌*◌, ◌/◌, ◌^◌, ◌<◌, ◌≤◌, ◌==◌, Bool, true, false, if◌then◌else◌, List, [], ◌∷◌, ◌++◌, length, Some, None, Ok, Err, Result, inl, inr, ◌⊎◌, refl, ap, sym, ◌∙◌, subst, arith, append_assoc, append-nil, length-append}
-use Rattle.std.specs.Prelude.{MatchResult}
+use Rattle.std.specs.Prelude.{MatchResult, All, ◌%◌}
+use Rattle.std.proofs.lemmas.List.Elements.{All-same, All-from_recursion}
+use Rattle.pas_profile.specs.Profiles.{IsAdmitted, IsDirectoryOf}
+use Rattle.pas_profile.specs.Routes.{route_of}
+use Rattle.pas_profile.specs.declared.directory.Route.{Route}
+use Rattle.pas_profile.specs.declared.directory.Route.TheVariants as Route
+use Rattle.pas_profile.proofs.ClassFacts.{class_suits, routed_slot_aligned}
+use Rattle.pas_free_log.specs.Conditions.{IsNameOf}
+use Rattle.pas_cache.specs.Caches.{Cached, AtRest}
+use Rattle.pas_cache.specs.Calls.{MayAllocate, Allocates}
 use Rattle.std.specs.List.{AllByRecursion}
 use Rattle.pas_profile.specs.Classes.{class_size, IsSlotStart}
 use Rattle.pas_profile.specs.Directories.{deed_word_of}
@@ -21,7 +30,7 @@ use Rattle.pas_steps.specs.Lists.{Whole}
 use Rattle.pas_steps.specs.Desks.{Standing, Seat, CanCall, Adds, triples, made}
 use Rattle.pas_steps.specs.declared.step.Made.{Made}
 use Rattle.pas_steps.specs.declared.step.Step.TheVariants.{Look, Give}
-use Rattle.pas_steps.proofs.Adding.{adds_call, can_call, room_left, agreed_first, agreed_later}
+use Rattle.pas_steps.proofs.Adding.{adds_under, adds_call, can_call, room_left, agreed_first, agreed_later}
 use Rattle.pas_steps.proofs.Frames.{events_append, events_split}
 use Rattle.pas_steps.proofs.Kept.{deed_stays}
 use Rattle.pas_search.specs.Kinds.{AreQuiet, EventsAt}
@@ -34,9 +43,9 @@ use Rattle.pas_segregated.specs.Refills.{slots_found, answer_of}
 use Rattle.pas_segregated.specs.Stops.{class_directory, directory_of}
 use Rattle.pas_segregated.specs.declared.slots.Slots.{Slots}
 use Rattle.pas_cache.specs.Knowledge.{unknown_pages}
-use Rattle.pas_cache.specs.Locals.{local_for, IsLocal, RestsWith}
+use Rattle.pas_cache.specs.Locals.{local_for, IsFormed, IsLocal, RestsWith}
 use Rattle.pas_cache.specs.Changes.{GivesSlot}
-use Rattle.pas_cache.specs.Serves.{IsRefill, IsAnswered, GivesCached, Fetches, ServesLocals, AreAllocating, IsPreparing, IsInSlot, IsBlockFor, MakesFew, IsSilent}
+use Rattle.pas_cache.specs.Serves.{IsClassRoute, class_of, IsRefill, IsAnswered, GivesCached, Fetches, ServesLocals, AreAllocating, IsPreparing, IsInSlot, IsBlockFor, MakesFew, IsSilent}
 use Rattle.pas_cache.specs.Pieces.{MayGiveSlot, GivesLowest, MayObtain, RestsWithFound, FindsCached, FetchesAnew, IsFoundFor, Obtains, ServesFrom}
 use Rattle.pas_cache.proofs.Locals.{without_last}
 use Rattle.pas_cache.proofs.Resting.{here, may_give_slot}
@@ -225,3 +234,61 @@ serves_none heap class tells locals fewer room one = record {
   rest = one.rest;
   told = one.told;
 }
+
+-- ---- of a cache
+aligned_answer : (f : Profile) (Meets : View → Type 0) (heap class size align : ℕ) (steps : List Made) (answer : Result Block NoRoom) → 4096 % align ≡ 0 → route_of size align ≡ Route.Class class → MatchResult answer (IsBlockFor f Meets heap class steps) (λ room. IsSilent steps)
+    → MatchResult answer (λ block. address_of block.name % align ≡ 0) (λ room. Unit {0})
+aligned_answer f Meets heap class size align steps (Ok block) whole route h = ap (λ a. a % align) h.slot.address ∙ routed_slot_aligned size align class h.slot.start h.slot.page whole route h.slot.is_start
+aligned_answer f Meets heap class size align steps (Err room) whole route h = tt
+
+for_cache : (f : Profile) (c : Cached) (heap class : ℕ) (steps : List Made) (answer : Result Block NoRoom) → MatchResult answer (IsBlockFor f (RestsWith f c.locals) heap class steps) (λ room. IsSilent steps) → MatchResult answer (IsBlockFor f (AtRest f c) heap class steps) (λ room. IsSilent steps)
+for_cache f c heap class steps (Ok block) h = record { of_heap = h.of_heap; slot = h.slot; turn = λ v rest agreed. h.turn v rest.locals agreed; deeds = λ v rest agreed. h.deeds v rest.locals agreed; events = h.events }
+for_cache f c heap class steps (Err room) h = h
+
+pub class_from : (route : Route) (class : ℕ) → route ≡ Route.Class class → class_of route ≡ class
+class_from route class is = ap class_of is
+
+pub directory_for : (f : Profile) (size align heap class : ℕ) → IsAdmitted f size align heap → route_of size align ≡ Route.Class class → IsDirectoryOf f (class_directory heap class)
+directory_for f size align heap class admitted route = record { heap = admitted.of_profile; kind = (class_suits size align class route).known }
+
+pub allocates : {σ σ' : Standing} (size align heap class : ℕ) (tells : Bool) (c c' : Cached) (answer : Result Block NoRoom) → IsAdmitted σ.seat.profile size align heap → route_of size align ≡ Route.Class class → c'.log ≡ c.log → c'.idle_since ≡ c.idle_since
+    → ServesFrom heap class tells c.locals c'.locals σ σ' answer → Allocates heap (class_of (route_of size align)) align tells c c' σ σ' answer
+allocates {σ} {σ'} size align heap class tells c c' answer admitted route log idle h =
+    let f : Profile = σ.seat.profile in
+    subst (λ n. Allocates heap n align tells c c' σ σ' answer) (sym (class_from (route_of size align) class route)) (record {
+      steps = h.steps;
+      adds = adds_under h.adds (λ v l stood met. met.locals);
+      change = record { locals = h.change; log = log; idle_since = idle };
+      kinds = h.kinds;
+      few = λ k v rest agreed. h.few k v rest.locals agreed;
+      outcome = for_cache f c heap class h.steps answer h.outcome;
+      aligned = aligned_answer f (RestsWith f c.locals) heap class size align h.steps answer admitted.aligned.2 route h.outcome;
+      rest = λ v rest agreed. record {
+        locals = h.rest v rest.locals agreed; few = h.count;
+        names = All-same (IsNameOf f) c'.log c.log log rest.names;
+        few_names = subst (λ xs. length xs ≤ 64) (sym log) rest.few_names;
+      };
+      told = λ t v l stood rest. h.told t v l stood rest.locals;
+    })
+
+pub serve_call : {σ : Standing} {c : Cached} {spare : ℕ} → CanCall σ (λ v l. MayAllocate σ.seat.profile c spare v) → CanCall σ (λ v l. MayObtain σ.seat.profile 2 spare c.locals v)
+serve_call can = record { view = can.view; whole = can.whole; stood = can.stood; met = record { rest = can.met.rest.locals; room = can.met.room } }
+
+-- the local allocators of an actor at rest are well formed
+all_formed : (f : Profile) (v : View) (locals : List Slots) → AllByRecursion (IsLocal f v) locals → AllByRecursion IsFormed locals
+all_formed f v [] h = tt
+all_formed f v (first ∷ rest) h = (record { class = h.0.directory.kind; starts = h.0.starts }, all_formed f v rest h.1)
+
+pub formed : (f : Profile) (v : View) (locals : List Slots) → RestsWith f locals v → All IsFormed locals
+formed f v locals h = All-from_recursion IsFormed locals (all_formed f v locals h.known)
+
+pub rests_after : {σ σ' : Standing} (heap class : ℕ) (tells : Bool) (locals locals' : List Slots) (answer : Result Block NoRoom) → (h : ServesFrom heap class tells locals locals' σ σ' answer) → (can : CanCall σ (λ v l. RestsWith σ.seat.profile locals v)) → RestsWith σ.seat.profile locals' (h.steps ++ can.view)
+rests_after heap class tells locals locals' answer h can = h.rest can.view can.met (h.adds.agreed can.view can.whole can.stood can.met)
+
+not_other : (route : Route) → IsClassRoute route → ((class : ℕ) → route ≡ Route.Class class → ⊥) → ⊥
+not_other (Route.Class class) is none = none class refl
+not_other Route.Bitfit is none = is
+not_other Route.Large is none = is
+
+pub some_class : (route expected : Route) → route ≡ expected → IsClassRoute expected → ((class : ℕ) → route ≡ Route.Class class → ⊥) → ⊥
+some_class route expected same is none = not_other route (subst IsClassRoute (sym same) is) none
