@@ -12,7 +12,7 @@ abbrev profile : Profile
 profile = record { pages = 2; threads = 2; age = 2; heaps = 1; shared = 0 }
 
 -- the last two of three
-last_two : (a b c : PlainPass) (rest : List PlainPass) (x y : PlainPass) → a ∷ b ∷ c ∷ [] ≡ (rest ++ x ∷ []) ++ y ∷ [] → (x ≡ b) × (y ≡ c)
+last_two : {A : Type 0} (a b c : A) (rest : List A) (x y : A) → a ∷ b ∷ c ∷ [] ≡ (rest ++ x ∷ []) ++ y ∷ [] → (x ≡ b) × (y ≡ c)
 last_two a b c [] x y e = absurd (omega (arith, ap length e))
 last_two a b c (r ∷ []) x y e = (cc, cc)
 last_two a b c (r ∷ s ∷ rest) x y e = absurd (omega (arith, simp length-append at (ap length e)))
