@@ -1,0 +1,3 @@
+pub mod StepKinds
+pub mod Backed
+pub mod Claimed
