@@ -1,3 +1,5 @@
 pub mod StepKinds
 pub mod Backed
 pub mod Claimed
+pub mod Going
+pub mod Turning

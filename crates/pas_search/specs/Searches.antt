@@ -64,10 +64,10 @@ pub record IsStill (f : Profile) (d : Directory) (steps : List Made) : Type 0 wh
   pub clear : (v : View) → MaySearch d v → Agreed f v steps → IsClear (steps ++ v)
   pub backed : (v : View) → MaySearch d v → Agreed f v steps → (p : ℕ) → knows_backed v p ≡ true → knows_backed (steps ++ v) p ≡ true
 
--- Besides what it held and had, the actor holds the grains of the answer, and has the right of their page where the answer says so. It is
--- clear, it knows the page as backed and of the directory, and what it knew as backed it still knows so.
+-- Besides what it held, the actor holds the grains of the answer. It has the right of their page exactly where the answer says so, and of other
+-- pages as before. It is clear, it knows the page as backed and of the directory, and what it knew as backed it still knows so.
 pub record Keeps {F : Type 0} (rule : Rule F) (f : Profile) (d : Directory) (page : ℕ) (found : F) (steps : List Made) : Type 0 where
-  pub rights : (v : View) → MaySearch d v → Agreed f v steps → (p : ℕ) → has_right (steps ++ v) p ≡ (((page == p) && rule.keeps_right found) || has_right v p)
+  pub rights : (v : View) → MaySearch d v → Agreed f v steps → (p : ℕ) → has_right (steps ++ v) p ≡ (if page == p then rule.keeps_right found else has_right v p)
   pub grains : (v : View) → MaySearch d v → Agreed f v steps → (g : ℕ) → holds (steps ++ v) g ≡ (((page == g / 256) && rule.kept found (g % 256)) || holds v g)
   pub clear : (v : View) → MaySearch d v → Agreed f v steps → IsClear (steps ++ v)
   pub backed : (v : View) → MaySearch d v → Agreed f v steps → (p : ℕ) → knows_backed v p ≡ true → knows_backed (steps ++ v) p ≡ true
