@@ -57,26 +57,26 @@ claimed_got p d a before bit untouched = record {
 -- ---- the claim was lost
 lost_was : (f : Profile) (p : ℕ) (d : Directory) (a : ℕ) → has_bit a (p % 64) ≡ false → LeavesAsWas f p d (claimed p d a)
 lost_was f p d a bit = record {
-    quiet = (λ k e. refl, tt);
-    right = λ before h. lost_bit p (has_bit a (p % 64)) (has_right before p) bit ∙ h;
-    grains = λ before fresh g at. refl;
-    owes = λ v met agreed. record { checks = λ w lt. met.owes.checks w lt; hint = met.owes.hint };
-    backed = λ v met agreed h. backed_more (made (TakeRight p d) a) v p h h (λ g at. refl);
-  }
+  quiet = (λ k e. refl, tt);
+  right = λ before h. lost_bit p (has_bit a (p % 64)) (has_right before p) bit ∙ h;
+  grains = λ before fresh g at. refl;
+  owes = λ v met agreed. record { checks = λ w lt. met.owes.checks w lt; hint = met.owes.hint };
+  backed = λ v met agreed h. backed_more (made (TakeRight p d) a) v p h h (λ g at. refl);
+}
 
 pub lost_page : {F : Type 0} {rule : Rule F} {σ σ' : Standing} (p : ℕ) (d : Directory) (a : ℕ) → Adds σ σ' (λ v l. KnowsDeed p d v) (claimed p d a) → has_bit a (p % 64) ≡ false → TriesPage rule p d σ σ' Lost
 lost_page {F} {rule} {σ} {σ'} p d a claim bit = record {
-    steps = claimed p d a;
-    adds = adds_under claim (λ v l stood met. met.deed);
-    on = (IsOnPage.Claims d, tt);
-    searches = (IsSearch.Claims p d, tt);
-    no_deed = λ before. refl;
-    outcome = record {
-      was = lost_was σ.seat.profile p d a bit;
-      zero_read = λ before untouched. inl (ReadsEligible.Claims, bit, untouched.right);
-      lacks = λ before untouched lacks. (lost_bit p (has_bit a (p % 64)) (has_right before p) bit ∙ untouched.right, lacks);
-    };
-  }
+  steps = claimed p d a;
+  adds = adds_under claim (λ v l stood met. met.deed);
+  on = (IsOnPage.Claims d, tt);
+  searches = (IsSearch.Claims p d, tt);
+  no_deed = λ before. refl;
+  outcome = record {
+    was = lost_was σ.seat.profile p d a bit;
+    zero_read = λ before untouched. inl (ReadsEligible.Claims, bit, untouched.right);
+    lacks = λ before untouched lacks. (lost_bit p (has_bit a (p % 64)) (has_right before p) bit ∙ untouched.right, lacks);
+  };
+}
 
 -- ---- the right was got
 module _ {F : Type 0} (rule : Rule F) (f : Profile) (p : ℕ) (d : Directory) (a : ℕ) (bit : has_bit a (p % 64) ≡ true) (zs : List Made) where

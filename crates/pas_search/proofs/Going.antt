@@ -116,7 +116,6 @@ backed_of f page ys v on agreed here p h = elim (cases_eq p page) [
 
 module _ {F : Type 0} (rule : Rule F) (f : Profile) (d : Directory) (page : ℕ) (marks : List ℕ) (ys xs : List Made) (on : OnlyOn page ys) (searches : OnlySearches ys) (s : Searching rule f d page marks xs)
     (deed : (v : View) → IsOf d page (xs ++ v)) (lacks : (v : View) → Agreed f v xs → has_right (xs ++ v) page ≡ false) where
-
   pub ready : (v : View) → MaySearch d v → Agreed f v xs → MayTry page d (xs ++ v)
   ready v met agreed = let clear = s.still.clear v met agreed in record { deed = deed v; lacks = lacks v agreed; stamped = clear.stamped page; owes = clear.owes page }
 
@@ -220,7 +219,6 @@ module _ {F : Type 0} (rule : Rule F) (f : Profile) (d : Directory) (page : ℕ)
     (owes : (v : View) → MaySearch d v → Agreed f v (ys ++ xs) → OwesNothing page (ys ++ (xs ++ v)))
     (backed : (v : View) → MaySearch d v → Agreed f v (ys ++ xs) → knows_backed (ys ++ (xs ++ v)) page ≡ true)
     (known : (v : View) → MaySearch d v → Agreed f v (ys ++ xs) → known_deed (ys ++ (xs ++ v)) page ≡ deed_word_of d) where
-
   pub found_keeps : Keeps rule f d page found (ys ++ xs)
   found_keeps = record {
     rights = λ v met agreed p. ap (λ s. has_right s p) (append_assoc ys xs v) ∙ (

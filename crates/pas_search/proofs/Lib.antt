@@ -3,3 +3,4 @@ pub mod Backed
 pub mod Claimed
 pub mod Going
 pub mod Turning
+pub mod Deeding

@@ -47,7 +47,6 @@ pub tried_at : {F : Type 0} {rule : Rule F} {σ1 σ2 : Standing} (f : Profile) (
 tried_at {F} {rule} f p d tried try same = subst (λ x. IsTried rule x p d try.steps tried) same try.outcome
 
 module _ {F : Type 0} (rule : Rule F) {σ σ1 : Standing} (d : Directory) (next next' page : ℕ) (find : FindsOffered d next σ σ1 next' (Some page)) where
-
   abbrev looks : List Made
   looks = find.steps
 
@@ -87,21 +86,27 @@ module _ {F : Type 0} (rule : Rule F) {σ σ1 : Standing} (d : Directory) (next 
   turn_lost marks marks' same try = let e = find.outcome.1.from_next in let e2 = find.outcome.0 in record {
     steps = try.steps ++ looks;
     adds = tried_adds Lost try;
-    outcome = (omega (arith, e, e2), λ before g.
-      subst (λ s. GoesOn rule f d next' marks' s) (sym (append_assoc try.steps looks before))
-      (subst (λ m. GoesOn rule f d next' m (try.steps ++ (looks ++ before))) (sym same)
-      (subst (λ n. GoesOn rule f d n marks (try.steps ++ (looks ++ before))) (sym e2)
-      (lost_goes_on rule f d page marks try.steps (looks ++ before) try.on try.searches (at_page marks before g) (deed_at before) (lacks_at before) (tried_at f page d Lost try same_profile) (rest_at marks before g)))));
+    outcome = (
+      omega (arith, e, e2),
+      λ before g.
+          subst (λ s. GoesOn rule f d next' marks' s) (sym (append_assoc try.steps looks before))
+          (subst (λ m. GoesOn rule f d next' m (try.steps ++ (looks ++ before))) (sym same)
+          (subst (λ n. GoesOn rule f d n marks (try.steps ++ (looks ++ before))) (sym e2)
+          (lost_goes_on rule f d page marks try.steps (looks ++ before) try.on try.searches (at_page marks before g) (deed_at before) (lacks_at before) (tried_at f page d Lost try same_profile) (rest_at marks before g)))),
+    );
   }
 
   pub turn_unfit : {σ2 : Standing} (marks marks' : List ℕ) (next2 : ℕ) → next2 ≡ next' → ((p : ℕ) → is_marked marks' p ≡ ((page == p) || is_marked marks p)) → TriesPage rule page d σ1 σ2 Unfit → TriesNext rule d next marks σ σ2 next2 marks' Again
   turn_unfit marks marks' next2 same more try = let e = find.outcome.1.from_next in let e2 = same ∙ find.outcome.0 in record {
     steps = try.steps ++ looks;
     adds = tried_adds Unfit try;
-    outcome = (omega (arith, e, e2), λ before g.
-      subst (λ s. GoesOn rule f d next2 marks' s) (sym (append_assoc try.steps looks before))
-      (subst (λ n. GoesOn rule f d n marks' (try.steps ++ (looks ++ before))) (sym e2)
-      (unfit_goes_on rule f d page marks try.steps (looks ++ before) try.on try.searches (at_page marks before g) (deed_at before) (lacks_at before) marks' more (tried_at f page d Unfit try same_profile) (rest_at marks before g))));
+    outcome = (
+      omega (arith, e, e2),
+      λ before g.
+          subst (λ s. GoesOn rule f d next2 marks' s) (sym (append_assoc try.steps looks before))
+          (subst (λ n. GoesOn rule f d n marks' (try.steps ++ (looks ++ before))) (sym e2)
+          (unfit_goes_on rule f d page marks try.steps (looks ++ before) try.on try.searches (at_page marks before g) (deed_at before) (lacks_at before) marks' more (tried_at f page d Unfit try same_profile) (rest_at marks before g))),
+    );
   }
 
   found_at : {σ2 : Standing} (marks : List ℕ) (found : F) (try : TriesPage rule page d σ1 σ2 (Fits found)) (before : List Made) → GoesOn rule f d next marks before → IsFound rule f d (try.steps ++ (looks ++ before)) (record { page = page; found = found })
@@ -143,8 +148,8 @@ done_search {F} {rule} {σ0} {σ} d next next' marks marks' xs adds g turn =
       steps = turn.steps ++ xs;
       adds = adds_call {D = λ v l. IsClear v} adds turn.adds (λ v l stood met. g.searching.still.clear v met (adds.agreed v l stood met));
       outcome =
-        subst (λ m. Searching rule σ0.seat.profile d (σ0.seat.profile.pages + 1) m (turn.steps ++ xs)) (sym turn.outcome.0)
-        (subst (λ x. Searching rule x d (x.pages + 1) marks (turn.steps ++ xs)) same (turn.outcome.1 xs (subst (λ x. GoesOn rule x d next marks xs) (sym same) g)));
+          subst (λ m. Searching rule σ0.seat.profile d (σ0.seat.profile.pages + 1) m (turn.steps ++ xs)) (sym turn.outcome.0)
+          (subst (λ x. Searching rule x d (x.pages + 1) marks (turn.steps ++ xs)) same (turn.outcome.1 xs (subst (λ x. GoesOn rule x d next marks xs) (sym same) g)));
     }
 
 pub found_search : {F : Type 0} {rule : Rule F} {σ0 σ σ' : Standing} (d : Directory) (next next' : ℕ) (marks marks' : List ℕ) (xs : List Made) (served : Served F) → (adds : Adds σ0 σ (λ v l. MaySearch d v) xs) → GoesOn rule σ0.seat.profile d next marks xs
@@ -156,3 +161,23 @@ found_search {F} {rule} {σ0} {σ} d next next' marks marks' xs served adds g tu
       adds = adds_call {D = λ v l. IsClear v} adds turn.adds (λ v l stood met. g.searching.still.clear v met (adds.agreed v l stood met));
       outcome = subst (λ x. IsPage x served.page × IsFound rule x d (turn.steps ++ xs) served) same (turn.outcome.0, turn.outcome.1 xs (subst (λ x. GoesOn rule x d next marks xs) (sym same) g));
     }
+
+-- the last page was passed
+pub ended_search : {F : Type 0} {rule : Rule F} {σ0 σ : Standing} (d : Directory) (next pages : ℕ) (marks : List ℕ) (xs : List Made) → Adds σ0 σ (λ v l. MaySearch d v) xs → GoesOn rule σ0.seat.profile d next marks xs
+    → pages ≡ σ0.seat.profile.pages → pages < next → SearchesOffered rule d σ0 σ marks None
+ended_search {F} {rule} {σ0} {σ} d next pages marks xs adds g same past = record {
+  steps = xs;
+  adds = adds;
+  outcome = zeros_searching rule σ0.seat.profile d next (σ0.seat.profile.pages + 1) marks [] xs tt g (λ p low high. absurd (omega (arith, low, high, same, past)));
+}
+
+-- a turn more
+pub again_adds : {F : Type 0} {rule : Rule F} {σ0 σ σ' : Standing} (d : Directory) (next next' : ℕ) (marks marks' : List ℕ) (xs : List Made) → (adds : Adds σ0 σ (λ v l. MaySearch d v) xs) → GoesOn rule σ0.seat.profile d next marks xs
+    → (turn : TriesNext rule d next marks σ σ' next' marks' Again) → Adds σ0 σ' (λ v l. MaySearch d v) (turn.steps ++ xs)
+again_adds {F} {rule} {σ0} {σ} d next next' marks marks' xs adds g turn = adds_call {D = λ v l. IsClear v} adds turn.adds (λ v l stood met. g.searching.still.clear v met (adds.agreed v l stood met))
+
+pub again_goes : {F : Type 0} {rule : Rule F} {σ0 σ σ' : Standing} (d : Directory) (next next' : ℕ) (marks marks' : List ℕ) (xs : List Made) → (adds : Adds σ0 σ (λ v l. MaySearch d v) xs) → GoesOn rule σ0.seat.profile d next marks xs
+    → (turn : TriesNext rule d next marks σ σ' next' marks' Again) → GoesOn rule σ0.seat.profile d next' marks' (turn.steps ++ xs)
+again_goes {F} {rule} {σ0} {σ} d next next' marks marks' xs adds g turn =
+    let same : σ.seat.profile ≡ σ0.seat.profile = ap (λ (s : Seat). s.profile) adds.seat_is in
+    subst (λ x. GoesOn rule x d next' marks' (turn.steps ++ xs)) same (turn.outcome.1 xs (subst (λ x. GoesOn rule x d next marks xs) (sym same) g))

@@ -1,5 +1,6 @@
 use Rattle.std.proofs.Common.{sym, ◌∙◌, refl}
 use Rattle.pas_steps.proofs.Adding.{can_call, adds_under}
+use Rattle.pas_search.specs.Serving.{MayServe}
 use Rattle.pas_search.specs.Searches.{MayTry}
 use Rattle.pas_search.proofs.StepKinds.{room_kept}
 use Rattle.pas_search.proofs.Claimed.{lost_page, unfit_page, fits_page, claimed_may}
@@ -10,7 +11,7 @@ returns-then-not-claim-clause-tries g c = let h = c.claim.ensures.claims in lost
 
 pub serve-requires-clause-can : goal.serve-requires-clause-can
 serve-requires-clause-can g c = let h = c.claim.ensures.claims in let p = c.args.page in let d = c.args.directory in
-    can_call {C = λ v l. MayTry p d v} (adds_under h.adds (λ v l stood met. met.deed)) c.requires.can (λ v l stood met. claimed_may p d h.answer v (sym h.got_is ∙ c.if-not-claim.false) met)
+    can_call {C = λ v l. MayTry p d v} {D = λ v l. MayServe p d v} (adds_under h.adds (λ v l stood met. met.deed)) c.requires.can (λ v l stood met. claimed_may p d h.answer v (sym h.got_is ∙ c.if-not-claim.false) met)
 
 pub serve-requires-clause-room : goal.serve-requires-clause-room
 serve-requires-clause-room g c = let h = c.claim.ensures.claims in
