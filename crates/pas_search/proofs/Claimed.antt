@@ -17,7 +17,7 @@ use Rattle.pas_steps.specs.Frames.{IsOnPage, OnlyOn}
 use Rattle.pas_steps.proofs.Adding.{adds_call, adds_under, agreed_first, agreed_later}
 use Rattle.pas_steps.proofs.Frames.{events_append}
 use Rattle.pas_rights.specs.Rights.{KnowsDeed, OwesNothing, Claims}
-use Rattle.pas_scan.specs.Evidence.{ReadsEligible, ZeroHere, GetsRight, GetsHere, UnfitHere, LacksAfter}
+use Rattle.pas_scan.specs.Evidence.{ReadsEligible, ZeroHere, GetsRight, GetsHere, UnfitHere, LacksAfter, ShowsHere}
 use Rattle.pas_search.specs.Kinds.{IsServe, OnlyServes, IsSearch, OnlySearches, AreQuiet, deeds_made}
 use Rattle.pas_search.specs.Serving.{Rule, MayServe, HoldsNone, FreshAt, GotBefore, ShowsFit, LeavesPage, KeepsPage, ServesPage}
 use Rattle.pas_search.specs.Searches.{IsUntouched, MayTry, LeavesAsWas, LosesPage, FailsPage, FitsPage, TriesPage}
@@ -114,7 +114,12 @@ module _ {F : Type 0} (rule : Rule F) (f : Profile) (p : ℕ) (d : Directory) (a
     grains = λ v met agreed g at. ap (λ s. holds s g) (served_on v) ∙ keeps.grains (claimed p d a ++ v) (claimed_may p d a v bit met) (served_agreed v agreed) g at;
     owes = λ v met agreed. subst (OwesNothing p) (sym (served_on v)) (keeps.owes (claimed p d a ++ v) (claimed_may p d a v bit met) (served_agreed v agreed));
     backed = λ v met agreed. ap (λ s. knows_backed s p) (served_on v) ∙ keeps.backed (claimed p d a ++ v) (claimed_may p d a v bit met) (served_agreed v agreed);
-    fits = λ before untouched. subst (ShowsFit rule.no_fit p) (sym (served_on before)) (keeps.fits (claimed p d a ++ before) (claimed_got p d a before bit untouched));
+    shows = record {
+      readings = keeps.shows.readings;
+      fits = keeps.shows.fits;
+      read = λ before untouched w lt. subst (Once (ShowsHere p w keeps.shows.readings)) (sym (served_on before)) (keeps.shows.read (claimed p d a ++ before) (claimed_got p d a before bit untouched) w lt);
+      held = λ v met agreed g at h. keeps.shows.held (claimed p d a ++ v) (claimed_may p d a v bit met) (served_agreed v agreed) g at h;
+    };
     serves = λ before untouched. subst (λ s. rule.serves p s found) (sym (served_on before)) (keeps.serves (claimed p d a ++ before) (claimed_got p d a before bit untouched));
     few = λ k v. subst (λ es. length es ≤ rule.events) (sym (events_append k zs (claimed p d a) v ∙ append-nil (events_by k (claimed p d a ++ v) zs))) (few k (claimed p d a ++ v));
   }

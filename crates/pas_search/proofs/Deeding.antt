@@ -23,10 +23,10 @@ use Rattle.pas_steps.proofs.Past.{once_later, once_earlier}
 use Rattle.pas_steps.proofs.Frames.{events_append, events_split}
 use Rattle.pas_steps.proofs.Kept.{deed_stays}
 use Rattle.pas_rights.specs.Rights.{KnowsDeed, OwesNothing}
-use Rattle.pas_scan.specs.Evidence.{ReadsDeed, DeedHere, NoDeedHere, GetsRight, GetsHere, AllDeeds, Searched, IsOf}
+use Rattle.pas_scan.specs.Evidence.{ReadsDeed, DeedHere, NoDeedHere, GetsRight, GetsHere, AllDeeds, Searched, ShowsHere, IsOf}
 use Rattle.pas_scan.specs.Scan.{FindsBare}
 use Rattle.pas_search.specs.Kinds.{IsSearch, OnlyServes, OnlySearches, AreQuiet, deeds_made}
-use Rattle.pas_search.specs.Serving.{Rule, MayServe, HoldsNone, GotBefore, ShowsFit, LeavesPage, KeepsPage, ServesPage}
+use Rattle.pas_search.specs.Serving.{Rule, MayServe, HoldsNone, GotBefore, LeavesPage, KeepsPage, ServesPage}
 use Rattle.pas_search.specs.Searches.{IsClear, MaySearch, KnowsAllDeeds, HasRoom, BareRoom, IsStill, IsUntouched, Searching, Keeps, DeedMadeHere, ByDeed, FewEvents, IsFoundBare, SearchesBare}
 use Rattle.pas_search.specs.declared.serving.Served.{Served}
 use Rattle.pas_search.proofs.StepKinds.{serves_on, serves_search, reads_search, searches_append, on_append, scans_read, reads_append, reads_quiet, quiet_append, events_quiet, no_deeds, deeds_serves}
@@ -188,7 +188,12 @@ module _ {F : Type 0} (rule : Rule F) (f : Profile) (d : Directory) (p : ℕ) (a
             (λ v met agreed. ap (λ s. known_deed s p) (at v) ∙ deed_kept_known f d p zs (w v) (ok v agreed) (deed_known p d a (list ++ v) e));
         searches = searches_append ys list ys_search s.searches;
         deed = by_deed list s.searched all s.quiet;
-        fits = subst (ShowsFit rule.no_fit p) (sym (append_assoc zs first list)) (keeps.fits (first ++ list) (got_at list (s.untouched p)));
+        shows = record {
+          readings = keeps.shows.readings;
+          fits = keeps.shows.fits;
+          read = λ word lt. subst (Once (ShowsHere p word keeps.shows.readings)) (sym (append_assoc zs first list)) (keeps.shows.read (first ++ list) (got_at list (s.untouched p)) word lt);
+          held = λ v met agreed g here h. keeps.shows.held (w v) (may v met agreed) (ok v agreed) g here (s.still.grains v met (agreed_later f v ys list agreed) g ∙ h);
+        };
         serves = subst (λ s. rule.serves p s found) (sym (append_assoc zs first list)) (keeps.serves (first ++ list) (got_at list (s.untouched p)));
         few = few_events list s.quiet is;
       }

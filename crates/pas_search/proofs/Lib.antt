@@ -4,3 +4,5 @@ pub mod Claimed
 pub mod Going
 pub mod Turning
 pub mod Deeding
+pub mod Refusing
+pub mod Ending

@@ -127,7 +127,12 @@ module _ {F : Type 0} (rule : Rule F) {σ σ1 : Standing} (d : Directory) (next 
         first = found_first rule f d page marks try.steps xs try.on try.searches s (deed_at before) (lacks_at before)
             (offered_before d page looks before reads (g.searching.untouched page).right (g.searching.lacked page (rest_at marks before g page (omega arith))) find.outcome.1.one)
             try.no_deed;
-        fits = fit.fits xs (s.untouched page);
+        shows = record {
+          readings = fit.shows.readings;
+          fits = fit.shows.fits;
+          read = fit.shows.read xs (s.untouched page);
+          held = λ v met agreed g at h. fit.shows.held (xs ++ v) (may v met agreed) (first v agreed) g at (s.still.grains v met (agreed_later f v try.steps xs agreed) g ∙ h);
+        };
         serves = fit.serves xs (s.untouched page);
         few = λ k v. subst (λ es. length es ≤ rule.events) (sym (events_after_quiet k v try.steps xs s.quiet)) (fit.few k (xs ++ v));
       }

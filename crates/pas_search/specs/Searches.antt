@@ -17,7 +17,7 @@ use Rattle.pas_steps.specs.declared.step.Made.{Made}
 use Rattle.pas_steps.specs.declared.step.Step.TheVariants.{Deed}
 use Rattle.pas_rights.specs.Rights.{KnowsDeed, OwesNothing}
 use Rattle.pas_scan.specs.Marks.{is_marked}
-use Rattle.pas_scan.specs.Evidence.{ZeroHere, OneHere, UnfitHere, Searched, AllDeeds, Accounted, HeldHere, LacksAfter, IsOf}
+use Rattle.pas_scan.specs.Evidence.{Readings, ShowsHere, ZeroHere, OneHere, UnfitHere, Searched, AllDeeds, Accounted, HeldHere, LacksAfter, IsOf}
 use Rattle.pas_search.specs.Kinds.{OnlySearches, AreQuiet, deeds_made}
 use Rattle.pas_search.specs.Serving.{Rule, HoldsNone, FreshAt, ShowsFit}
 use Rattle.pas_search.specs.Telling.{IsTold}
@@ -97,6 +97,13 @@ pub record ByDeed {F : Type 0} (rule : Rule F) (f : Profile) (d : Directory) (pa
   pub made_here : Once (DeedMadeHere rule f d page) steps
   pub one_deed : deeds_made steps ≡ 1
 
+-- Each free word of the page was read with its right, and the readings show a fit. A grain that the actor held before the call isn't read as free.
+pub record IsShownFit (no_fit : Readings → Type 0) (f : Profile) (d : Directory) (page : ℕ) (steps : List Made) : Type 0 where
+  pub readings : Readings
+  pub fits : no_fit readings → ⊥
+  pub read : (word : ℕ) → word < 4 → Once (ShowsHere page word readings) steps
+  pub held : (v : View) → MaySearch d v → Agreed f v steps → (g : ℕ) → g / 256 ≡ page → holds v g ≡ true → readings (g % 256) ≡ false
+
 -- at most n events were made, and one more where not all deeds were known
 abbrev pub FewEvents : Profile → Directory → ℕ → List Made → Type 0
 FewEvents f d n steps = (k : ℕ) (v : View) → Agreed f v steps → (length (events_by k v steps) ≤ n + 1) × (KnowsAllDeeds f v → length (events_by k v steps) ≤ n)
@@ -105,7 +112,7 @@ pub record IsServed {F : Type 0} (rule : Rule F) (f : Profile) (d : Directory) (
   pub page : IsPage f served.page
   pub keeps : Keeps rule f d served.page served.found steps
   pub choice : FromOffered rule d served.page steps ⊎ ByDeed rule f d served.page steps
-  pub fits : ShowsFit rule.no_fit served.page steps
+  pub shows : IsShownFit rule.no_fit f d served.page steps
   pub serves : rule.serves served.page steps served.found
   pub few : FewEvents f d rule.events steps
 
@@ -114,11 +121,12 @@ pub record IsServed {F : Type 0} (rule : Rule F) (f : Profile) (d : Directory) (
 abbrev pub AllAccounted : Profile → Directory → ℕ → List Made → Type 0
 AllAccounted f d end steps = (v : View) → Agreed f v steps → (p : ℕ) → 1 ≤ p → p < end → IsOf d p (steps ++ v) → Accounted d p steps
 
--- a page of the directory was in some actor's hands
+-- a page of the directory was in some actor's hands, and its right never in this call's
 pub record IsHeld (f : Profile) (d : Directory) (steps : List Made) (page : ℕ) : Type 0 where
   pub page_of : IsPage f page
   pub of_directory : (v : View) → Agreed f v steps → IsOf d page (steps ++ v)
   pub held : Once (HeldHere d page) steps
+  pub lacked : Always (LacksAfter page) steps
   pub lower : AllAccounted f d page steps
 
 abbrev pub IsRefusal : Profile → Directory → List Made → NoRoom → Type 0
@@ -197,7 +205,7 @@ pub record FitsPage {F : Type 0} (rule : Rule F) (f : Profile) (page : ℕ) (d :
   pub grains : (v : View) → MayTry page d v → Agreed f v steps → (g : ℕ) → g / 256 ≡ page → holds (steps ++ v) g ≡ (rule.kept found (g % 256) || holds v g)
   pub owes : (v : View) → MayTry page d v → Agreed f v steps → OwesNothing page (steps ++ v)
   pub backed : (v : View) → MayTry page d v → Agreed f v steps → knows_backed (steps ++ v) page ≡ true
-  pub fits : (before : List Made) → IsUntouched page before → ShowsFit rule.no_fit page (steps ++ before)
+  pub shows : ShowsFit rule.no_fit f page (IsUntouched page) (MayTry page d) steps
   pub serves : (before : List Made) → IsUntouched page before → rule.serves page (steps ++ before) found
   pub few : (k : ℕ) (v : View) → length (events_by k v steps) ≤ rule.events
 
@@ -220,7 +228,7 @@ pub record IsFound {F : Type 0} (rule : Rule F) (f : Profile) (d : Directory) (s
   pub keeps : Keeps rule f d served.page served.found steps
   pub searches : OnlySearches steps
   pub first : FromOffered rule d served.page steps
-  pub fits : ShowsFit rule.no_fit served.page steps
+  pub shows : IsShownFit rule.no_fit f d served.page steps
   pub serves : rule.serves served.page steps served.found
   pub few : (k : ℕ) (v : View) → length (events_by k v steps) ≤ rule.events
 
@@ -246,7 +254,7 @@ pub record IsFoundBare {F : Type 0} (rule : Rule F) (f : Profile) (d : Directory
   pub keeps : Keeps rule f d served.page served.found steps
   pub searches : OnlySearches steps
   pub deed : ByDeed rule f d served.page steps
-  pub fits : ShowsFit rule.no_fit served.page steps
+  pub shows : IsShownFit rule.no_fit f d served.page steps
   pub serves : rule.serves served.page steps served.found
   pub few : FewEvents f d rule.events steps
 

@@ -49,11 +49,13 @@ pub record GotBefore (page : ℕ) (before : List Made) : Type 0 where
   pub none : HoldsNone page before
 
 -- ---- what it promises
--- each free word was read with the right, and the readings show a fit
-pub record ShowsFit (no_fit : Readings → Type 0) (page : ℕ) (steps : List Made) : Type 0 where
+-- Each free word was read with the right, whatever list that meets the one condition stood before, and the readings show a fit. A grain that
+-- the actor held in a view that meets the other isn't read as free.
+pub record ShowsFit (no_fit : Readings → Type 0) (f : Profile) (page : ℕ) (Before : List Made → Type 0) (Meets : View → Type 0) (steps : List Made) : Type 0 where
   pub readings : Readings
   pub fits : no_fit readings → ⊥
-  pub read : (word : ℕ) → word < 4 → Once (ShowsHere page word readings) steps
+  pub read : (before : List Made) → Before before → (word : ℕ) → word < 4 → Once (ShowsHere page word readings) (steps ++ before)
+  pub held : (v : View) → Meets v → Agreed f v steps → (g : ℕ) → g / 256 ≡ page → holds v g ≡ true → readings (g % 256) ≡ false
 
 -- Nothing fits, which one reading of the four free words shows. The page was left: its grains are held as before, and nothing is owed on it.
 -- No event was made. A page all of whose grains are known as free isn't left so.
@@ -73,7 +75,7 @@ pub record KeepsPage {Found : Type 0} (rule : Rule Found) (f : Profile) (page : 
   pub grains : (v : View) → MayServe page d v → Agreed f v steps → (g : ℕ) → g / 256 ≡ page → holds (steps ++ v) g ≡ (rule.kept found (g % 256) || holds v g)
   pub owes : (v : View) → MayServe page d v → Agreed f v steps → OwesNothing page (steps ++ v)
   pub backed : (v : View) → MayServe page d v → Agreed f v steps → knows_backed (steps ++ v) page ≡ true
-  pub fits : (before : List Made) → GotBefore page before → ShowsFit rule.no_fit page (steps ++ before)
+  pub shows : ShowsFit rule.no_fit f page (GotBefore page) (MayServe page d) steps
   pub serves : (before : List Made) → GotBefore page before → rule.serves page (steps ++ before) found
 
 -- the steps of one call of a back end on the page
