@@ -6,3 +6,4 @@ pub mod Turning
 pub mod Deeding
 pub mod Refusing
 pub mod Ending
+pub mod Spotting
