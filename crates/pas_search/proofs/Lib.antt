@@ -7,3 +7,4 @@ pub mod Deeding
 pub mod Refusing
 pub mod Ending
 pub mod Spotting
+pub mod Grained

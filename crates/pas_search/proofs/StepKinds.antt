@@ -121,7 +121,7 @@ no_deed_event : (t : Bool) (e : Event) → (if t then Some e else None) ≡ None
 no_deed_event true e h = absurd (none_some e h)
 no_deed_event false e h = refl
 
-quiet_deed : (s : Step) (a : ℕ) → IsQuiet record { step = s; answer = a } → makes_deed s a ≡ false
+pub quiet_deed : (s : Step) (a : ℕ) → IsQuiet record { step = s; answer = a } → makes_deed s a ≡ false
 quiet_deed (Look word) a h = refl
 quiet_deed (Deed q d) a h = no_deed_event (a == 0) (Event.Deed 0 q d) (h 0 0)
 quiet_deed (Back q) a h = refl

@@ -3,6 +3,7 @@ use Rattle.pas_profile.specs.declared.directory.Directory.{Directory}
 use Rattle.pas_steps.specs.Desks.{CanCall}
 use Rattle.pas_search.specs.Searches.{MaySearch}
 use Rattle.pas_search.proofs.Spotting.{not_in_hands}
+use Rattle.pas_search.proofs.Grained.{deed_none}
 use Rattle.pas_search.proofs.Ending.{ends_offered, ends_bare, ends_refused, may_call, bare_call}
 use Rattle.pas_search.proofs.rooms.find_room.Goals as goal
 
