@@ -1,26 +1,24 @@
 -- The ends of one offered page: a claim, and the back end's steps.
-use Rattle.std.proofs.Common.{◌≡◌, ◌≢◌, ℕ, suc, ◌+◌, ◌/◌, ◌%◌, ◌<◌, ◌≤◌, ◌==◌, Bool, true, false, ◌&&◌, ◌||◌, if◌then◌else◌, List, [], ◌∷◌, ◌++◌, Option, None, Some, length, refl, ap, sym, ◌∙◌, subst, arith, ◌⊎◌, inl, inr, append_assoc, append-nil}
-use Rattle.std.proofs.lemmas.Bool.{eq-eqb, ne_eqb}
+use Rattle.std.proofs.Common.{◌≡◌, ℕ, ◌%◌, ◌≤◌, ◌==◌, Bool, true, false, ◌&&◌, if◌then◌else◌, List, [], ◌∷◌, ◌++◌, None, Some, length, refl, ap, sym, ◌∙◌, subst, inl, inr, append_assoc, append-nil}
+use Rattle.std.proofs.lemmas.Bool.{eq-eqb}
 use Rattle.pas_profile.specs.Classes.{has_bit}
-use Rattle.pas_profile.specs.Directories.{deed_word_of}
 use Rattle.pas_profile.specs.declared.directory.Directory.{Directory}
 use Rattle.pas_profile.specs.declared.profile.Profile.{Profile}
 use Rattle.pas_steps.specs.declared.step.Made.{Made}
 use Rattle.pas_steps.specs.declared.step.Step.TheVariants.{TakeRight}
-use Rattle.pas_steps.specs.Views.{View, holds, has_right, known_deed, knows_backed, holds_on, owes_check, owes_hint}
-use Rattle.pas_steps.specs.Events.{events_of, events_by}
+use Rattle.pas_steps.specs.Views.{View, holds, has_right, knows_backed}
+use Rattle.pas_steps.specs.Events.{events_by}
 use Rattle.pas_steps.specs.Agreement.{Agreed}
-use Rattle.pas_steps.specs.Desks.{Seat, Standing, made, Adds, CanCall}
-use Rattle.pas_steps.specs.Lists.{Whole}
-use Rattle.pas_steps.specs.Past.{Once, Always}
+use Rattle.pas_steps.specs.Desks.{Seat, Standing, made, Adds}
+use Rattle.pas_steps.specs.Past.{Once}
 use Rattle.pas_steps.specs.Frames.{IsOnPage, OnlyOn}
-use Rattle.pas_steps.proofs.Adding.{adds_call, adds_under, agreed_first, agreed_later}
+use Rattle.pas_steps.proofs.Adding.{adds_call, adds_under, agreed_first}
 use Rattle.pas_steps.proofs.Frames.{events_append}
-use Rattle.pas_rights.specs.Rights.{KnowsDeed, OwesNothing, Claims}
-use Rattle.pas_scan.specs.Evidence.{ReadsEligible, ZeroHere, GetsRight, GetsHere, UnfitHere, LacksAfter, ShowsHere}
-use Rattle.pas_search.specs.Kinds.{IsServe, OnlyServes, IsSearch, OnlySearches, AreQuiet, deeds_made}
-use Rattle.pas_search.specs.Serving.{Rule, MayServe, HoldsNone, FreshAt, GotBefore, ShowsFit, LeavesPage, KeepsPage, ServesPage}
-use Rattle.pas_search.specs.Searches.{IsUntouched, MayTry, LeavesAsWas, LosesPage, FailsPage, FitsPage, TriesPage}
+use Rattle.pas_rights.specs.Rights.{KnowsDeed, OwesNothing}
+use Rattle.pas_scan.specs.Evidence.{ReadsEligible, GetsRight, UnfitHere, ShowsHere}
+use Rattle.pas_search.specs.Kinds.{OnlyServes, IsSearch, OnlySearches, deeds_made}
+use Rattle.pas_search.specs.Serving.{Rule, MayServe, FreshAt, GotBefore, LeavesPage, KeepsPage, ServesPage}
+use Rattle.pas_search.specs.Searches.{IsUntouched, MayTry, LeavesAsWas, FailsPage, FitsPage, TriesPage}
 use Rattle.pas_search.specs.declared.trying.Tried.TheVariants.{Lost, Unfit, Fits}
 use Rattle.pas_search.proofs.Backed.{backed_more}
 use Rattle.pas_search.proofs.StepKinds.{serves_on, serves_search, searches_append, on_append, quiet_append, deeds_serves}

@@ -1,35 +1,32 @@
 -- The search of pages without a deed.
-use Rattle.std.proofs.Common.{◌≡◌, ◌≢◌, ℕ, zero, suc, ◌+◌, ◌/◌, ◌%◌, ◌<◌, ◌≤◌, ◌==◌, Bool, true, false, not, ◌&&◌, ◌||◌, if◌then◌else◌, List, [], ◌∷◌, ◌++◌, length, refl, ap, sym, ◌∙◌, subst, arith, ◌⊎◌, inl, inr, append_assoc, append-nil, length-append, Some, None, Option}
-use Rattle.std.proofs.lemmas.Bool.{cases_lt, eq-eqb, ne_eqb}
+use Rattle.std.proofs.Common.{◌≡◌, ◌≢◌, ℕ, suc, ◌+◌, ◌/◌, ◌≤◌, ◌==◌, true, ◌&&◌, if◌then◌else◌, List, [], ◌∷◌, ◌++◌, length, refl, ap, sym, ◌∙◌, subst, arith, inl, inr, append_assoc, length-append, Some, None, Option}
+use Rattle.std.proofs.lemmas.Bool.{cases_lt, eq-eqb}
 use Rattle.pas_profile.specs.Directories.{deed_word_of}
 use Rattle.pas_profile.specs.Profiles.{IsPage}
 use Rattle.pas_profile.specs.declared.directory.Directory.{Directory}
 use Rattle.pas_profile.specs.declared.profile.Profile.{Profile}
-use Rattle.pas_profile.specs.declared.event.Event.TheVariants as Event
 use Rattle.pas_profile.specs.declared.event.Event.{Event}
 use Rattle.pas_steps.specs.declared.step.Made.{Made}
 use Rattle.pas_steps.specs.declared.step.Step.{Step}
-use Rattle.pas_steps.specs.declared.step.Step.TheVariants.{Deed, Look}
-use Rattle.pas_profile.specs.declared.word.Word.TheVariants as Word
-use Rattle.pas_steps.specs.Views.{View, holds, has_right, known_deed, known_free, knows_backed, is_unstamped, epoch_of}
+use Rattle.pas_steps.specs.declared.step.Step.TheVariants.{Deed}
+use Rattle.pas_steps.specs.Views.{View, holds, has_right, known_deed, known_free, knows_backed, epoch_of}
 use Rattle.pas_steps.specs.Events.{event_of, with_event, events_of, events_by}
 use Rattle.pas_steps.specs.Agreement.{Agrees, Agreed}
-use Rattle.pas_steps.specs.Desks.{Seat, Standing, Anything, made, Adds, Makes, CanCall}
+use Rattle.pas_steps.specs.Desks.{Seat, Standing, Anything, made, Adds, CanCall}
 use Rattle.pas_steps.specs.Lists.{Whole}
-use Rattle.pas_steps.specs.Past.{Once, Always}
+use Rattle.pas_steps.specs.Past.{Once}
 use Rattle.pas_steps.specs.Frames.{IsOnPage, IsRead, OnlyOn, OnlyReads}
-use Rattle.pas_steps.proofs.Adding.{adds_step, adds_call, adds_under, agreed_first, agreed_later, room_left}
+use Rattle.pas_steps.proofs.Adding.{adds_call, agreed_first, agreed_later, room_left}
 use Rattle.pas_steps.proofs.Past.{once_later, once_earlier}
 use Rattle.pas_steps.proofs.Frames.{events_append, events_split}
 use Rattle.pas_steps.proofs.Kept.{deed_stays}
-use Rattle.pas_rights.specs.Rights.{KnowsDeed, OwesNothing}
-use Rattle.pas_scan.specs.Evidence.{ReadsDeed, DeedHere, NoDeedHere, GetsRight, GetsHere, AllDeeds, Searched, ShowsHere, IsOf}
+use Rattle.pas_rights.specs.Rights.{OwesNothing}
+use Rattle.pas_scan.specs.Evidence.{ReadsDeed, DeedHere, NoDeedHere, GetsRight, AllDeeds, Searched, ShowsHere}
 use Rattle.pas_scan.specs.Scan.{FindsBare}
 use Rattle.pas_search.specs.Kinds.{IsSearch, OnlyServes, OnlySearches, AreQuiet, deeds_made}
-use Rattle.pas_search.specs.Serving.{Rule, MayServe, HoldsNone, GotBefore, LeavesPage, KeepsPage, ServesPage}
-use Rattle.pas_search.specs.Searches.{IsClear, MaySearch, KnowsAllDeeds, HasRoom, BareRoom, IsStill, IsUntouched, Searching, Keeps, DeedMadeHere, ByDeed, FewEvents, IsFoundBare, SearchesBare}
-use Rattle.pas_search.specs.declared.serving.Served.{Served}
-use Rattle.pas_search.proofs.StepKinds.{serves_on, serves_search, reads_search, searches_append, on_append, scans_read, reads_append, reads_quiet, quiet_append, events_quiet, no_deeds, deeds_serves}
+use Rattle.pas_search.specs.Serving.{Rule, MayServe, GotBefore, KeepsPage, ServesPage}
+use Rattle.pas_search.specs.Searches.{IsClear, MaySearch, BareRoom, IsUntouched, Searching, DeedMadeHere, ByDeed, FewEvents, IsFoundBare, SearchesBare}
+use Rattle.pas_search.proofs.StepKinds.{serves_on, serves_search, searches_append, on_append, scans_read, reads_append, reads_quiet, events_quiet, no_deeds, deeds_serves}
 use Rattle.pas_search.proofs.Going.{clear_after_reads, reads_searching, found_keeps, deed_kept_known}
 use Rattle.pas_search.proofs.Turning.{events_after_quiet}
 

@@ -1,27 +1,28 @@
 -- The ends of a search.
-use Rattle.std.proofs.Common.{◌≡◌, ◌≢◌, ℕ, ◌+◌, ◌<◌, ◌≤◌, Bool, true, false, List, [], ◌∷◌, ◌++◌, length, refl, ap, sym, ◌∙◌, subst, arith, ◌⊎◌, inl, inr, append_assoc, Some, None, Result, Ok, Err, MatchResult}
-use Rattle.pas_profile.specs.Profiles.{IsPage}
+use Rattle.std.proofs.Common.{◌≡◌, ℕ, ◌+◌, ◌≤◌, Bool, true, List, ◌++◌, length, ap, sym, ◌∙◌, subst, arith, inl, inr, Some, None, Result, Ok, Err, MatchResult}
+use Rattle.pas_profile.specs.Profiles.{IsValid, IsPage, IsDirectoryOf}
 use Rattle.pas_profile.specs.declared.directory.Directory.{Directory}
 use Rattle.pas_profile.specs.declared.profile.Profile.{Profile}
 use Rattle.pas_profile.specs.declared.event.NoRoom.{NoRoom}
 use Rattle.pas_steps.specs.declared.step.Made.{Made}
-use Rattle.pas_steps.specs.Views.{View, known_deed}
+use Rattle.pas_steps.specs.Views.{View}
 use Rattle.pas_steps.specs.Events.{events_of}
-use Rattle.pas_steps.specs.Lists.{Whole}
+use Rattle.pas_steps.specs.Lists.{Whole, part, Legal}
 use Rattle.pas_steps.specs.Agreement.{Agreed}
 use Rattle.pas_steps.specs.Desks.{Seat, Standing, Anything, Adds, CanCall}
-use Rattle.pas_steps.proofs.Adding.{adds_call, can_call, room_left}
+use Rattle.pas_steps.proofs.Adding.{adds_call, legal_after}
 use Rattle.pas_steps.proofs.Past.{once_earlier}
 use Rattle.pas_steps.proofs.Kept.{deed_stays}
 use Rattle.pas_scan.specs.Evidence.{DeedHere, AllDeeds}
 use Rattle.pas_scan.specs.Scan.{Judges, IsVerdict}
-use Rattle.pas_search.specs.Kinds.{OnlySearches, AreQuiet}
-use Rattle.pas_search.specs.Serving.{Rule}
-use Rattle.pas_search.specs.Searches.{IsClear, MaySearch, KnowsAllDeeds, HasRoom, SearchRoom, BareRoom, Searching, SearchesOffered, SearchesBare, IsFound, IsFoundBare, FewEvents, IsServed, IsRefused}
+use Rattle.pas_search.specs.Kinds.{OnlySearches}
+use Rattle.pas_search.specs.Serving.{Rule, IsAntitone}
+use Rattle.pas_search.specs.Searches.{IsClear, MaySearch, HasRoom, SearchRoom, BareRoom, Searching, SearchesOffered, SearchesBare, IsFound, IsFoundBare, IsServed, IsRefused, Searches}
 use Rattle.pas_search.specs.declared.serving.Served.{Served}
 use Rattle.pas_search.proofs.StepKinds.{room_kept, scans_read, reads_search, searches_append}
 use Rattle.pas_search.proofs.Going.{reads_searching}
 use Rattle.pas_search.proofs.Refusing.{refused}
+use Rattle.pas_search.proofs.Told.{all_told}
 
 -- what a search promises of its steps
 pub record Ends {F : Type 0} (rule : Rule F) (d : Directory) (desk desk' : Standing) (answer : Result (Served F) NoRoom) : Type 0 where
@@ -123,3 +124,20 @@ bare_call {F} {rule} {σ} {σ1} {spare} {spare'} e d marks same offered' can law
         );
       };
     }
+
+-- ---- with what it says on a desk that tells the whole state
+pub searches_by : {F : Type 0} {rule : Rule F} {σ σ' : Standing} {answer : Result (Served F) NoRoom} (tells : Bool) (d : Directory) → IsValid σ.seat.profile → IsDirectoryOf σ.seat.profile d → IsAntitone rule.no_fit
+    → ((v : View) (l : Whole) → tells ≡ true → σ'.stands v l → Legal σ'.seat.profile l) → ((v : View) (l : Whole) → tells ≡ true → σ.stands v l → part σ.seat.actor l ≡ v) → Ends rule d σ σ' answer → Searches rule tells d σ σ' answer
+searches_by {F} {rule} {σ} {σ'} {answer} tells d valid of fewer told parts ends = record {
+  steps = ends.steps;
+  adds = ends.adds;
+  searches = ends.searches;
+  outcome = ends.outcome;
+  told = λ yes_tells v l stood met.
+      let f : Profile = σ.seat.profile in
+      let same : part σ.seat.actor l ≡ v = parts v l yes_tells stood in
+      all_told rule f σ.seat.actor l d ends.steps valid of fewer
+      (legal_after ends.adds (λ x y s. told x y yes_tells s) v l stood met)
+      ends.searches (subst (MaySearch d) (sym same) met) (subst (λ x. Agreed f x ends.steps) (sym same) (ends.adds.agreed v l stood met))
+      answer ends.outcome;
+}

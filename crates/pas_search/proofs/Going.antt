@@ -1,15 +1,14 @@
 -- The search goes on by one call more.
-use Rattle.std.proofs.Common.{true≢false, ◌≡◌, ◌≢◌, ℕ, zero, suc, ◌+◌, ◌/◌, ◌%◌, ◌<◌, ◌≤◌, ◌==◌, Bool, true, false, not, ◌&&◌, ◌||◌, if◌then◌else◌, List, [], ◌∷◌, ◌++◌, length, refl, ap, sym, ◌∙◌, subst, arith, ◌⊎◌, inl, inr, append_assoc}
-use Rattle.std.proofs.lemmas.Bool.{cases_Bool, cases_lt, cases_eq, eq-eqb, ne_eqb}
+use Rattle.std.proofs.Common.{true≢false, ◌≡◌, ◌≢◌, ℕ, ◌+◌, ◌/◌, ◌%◌, ◌<◌, ◌≤◌, ◌==◌, true, false, ◌&&◌, ◌||◌, if◌then◌else◌, List, [], ◌∷◌, ◌++◌, refl, ap, sym, ◌∙◌, subst, arith, ◌⊎◌, inl, inr, append_assoc}
+use Rattle.std.proofs.lemmas.Bool.{cases_lt, cases_eq, eq-eqb, ne_eqb}
 use Rattle.pas_profile.specs.Directories.{deed_word_of}
 use Rattle.pas_profile.specs.declared.directory.Directory.{Directory}
 use Rattle.pas_profile.specs.declared.profile.Profile.{Profile}
 use Rattle.pas_steps.specs.declared.step.Made.{Made}
-use Rattle.pas_steps.specs.Views.{View, holds, has_right, right_after, known_deed, knows_backed, is_unstamped, owes_check, owes_hint}
-use Rattle.pas_steps.specs.Events.{events_by}
+use Rattle.pas_steps.specs.Views.{View, holds, has_right, known_deed, knows_backed}
 use Rattle.pas_steps.specs.Agreement.{Agreed}
 use Rattle.pas_steps.specs.Past.{Once, Always}
-use Rattle.pas_steps.specs.Frames.{IsOnPage, IsRead, OnlyOn, OnlyReads, OnlyScans}
+use Rattle.pas_steps.specs.Frames.{OnlyOn, OnlyReads}
 use Rattle.pas_steps.proofs.Adding.{agreed_first, agreed_later}
 use Rattle.pas_steps.proofs.Past.{once_later, once_earlier}
 use Rattle.pas_steps.proofs.Kept.{right_on, right_reads, holds_on_page, holds_reads, check_on, check_reads, hint_on, hint_reads, deed_stays}
@@ -17,10 +16,10 @@ use Rattle.pas_profile.proofs.Codecs.{deed_word_of-positive}
 use Rattle.pas_rights.specs.Rights.{OwesNothing}
 use Rattle.pas_scan.specs.Evidence.{UnfitHere, ZeroHere, LacksAfter, Searched, IsOf}
 use Rattle.pas_scan.specs.Marks.{is_marked}
-use Rattle.pas_search.specs.Kinds.{OnlySearches, AreQuiet, deeds_made}
-use Rattle.pas_search.specs.Serving.{Rule, HoldsNone, FreshAt}
+use Rattle.pas_search.specs.Kinds.{OnlySearches, deeds_made}
+use Rattle.pas_search.specs.Serving.{Rule}
 use Rattle.pas_search.specs.Searches.{IsClear, MaySearch, IsStill, Keeps, OfferedHere, FromOffered, IsUntouched, Searching, GoesOn, MayTry, LeavesAsWas, LosesPage, FailsPage}
-use Rattle.pas_search.proofs.StepKinds.{reads_search, reads_quiet, searches_append, quiet_append, unstamped_searches, right_own, deeds_quiet, no_deeds}
+use Rattle.pas_search.proofs.StepKinds.{reads_search, reads_quiet, searches_append, quiet_append, unstamped_searches, right_own, no_deeds}
 use Rattle.pas_search.proofs.Backed.{backed_on, backed_reads}
 
 -- readings without the right, with what stood before

@@ -1,24 +1,22 @@
 -- Which grains are free before and after the steps of one actor's search, where the whole list is legal; and deed words.
-use Rattle.std.proofs.Common.{◌≡◌, ◌≢◌, ℕ, ◌+◌, ◌*◌, ◌/◌, ◌%◌, ◌<◌, ◌≤◌, ◌==◌, Bool, true, false, not, ◌&&◌, ◌||◌, if◌then◌else◌, List, [], ◌∷◌, ◌++◌, refl, ap, sym, ◌∙◌, subst, arith, ◌⊎◌, inl, inr, true≢false}
-use Rattle.std.proofs.lemmas.Bool.{cases_Bool, eq-eqb, ne_eqb, eqb-true, eqb-false, false≢true}
+use Rattle.std.proofs.Common.{◌≡◌, ◌≢◌, ℕ, ◌+◌, ◌*◌, ◌/◌, ◌%◌, ◌<◌, ◌==◌, Bool, true, false, ◌&&◌, ◌||◌, if◌then◌else◌, List, [], ◌∷◌, ◌++◌, refl, ap, sym, ◌∙◌, arith, inl, inr, true≢false}
+use Rattle.std.proofs.lemmas.Bool.{cases_Bool, eq-eqb, eqb-true, false≢true}
 use Rattle.pas_profile.specs.Classes.{has_bit}
 use Rattle.pas_profile.specs.Directories.{deed_word_of}
 use Rattle.pas_profile.specs.Layouts.{same_word}
 use Rattle.pas_profile.specs.Profiles.{IsValid}
 use Rattle.pas_profile.specs.declared.profile.Profile.{Profile}
 use Rattle.pas_profile.specs.declared.word.Word.{Word}
-use Rattle.pas_profile.specs.declared.word.Word.TheVariants as Word
 use Rattle.pas_steps.specs.Effects.{free_word_at, in_mask, target, new_value}
 use Rattle.pas_steps.specs.Views.{View, Move, Stays, Gets, Puts, Gives, Ends, grain_move, held_after, holds, epoch_of}
-use Rattle.pas_steps.specs.Allowed.{IsStepOf}
 use Rattle.pas_steps.specs.Lists.{Whole, part, word_after, Legal}
 use Rattle.pas_steps.specs.Desks.{triple, triples}
-use Rattle.pas_steps.specs.Past.{Once, Always, Since}
+use Rattle.pas_steps.specs.Past.{Once, Since}
 use Rattle.pas_steps.specs.declared.step.Step.{Step}
 use Rattle.pas_steps.specs.declared.step.Made.{Made}
 use Rattle.pas_steps.specs.declared.step.Step.TheVariants.{Look, Deed, Back, Take, Put, Give, End, TakeRight, Offer, Park, Unpark, Stamp, Hint}
 use Rattle.pas_steps.proofs.Parts.{part_of_own}
-use Rattle.pas_core.specs.Good.{Place, IsFree, Held, Covered, is_free, is_held_by, IsPlacedOnce}
+use Rattle.pas_core.specs.Good.{Place, Held, is_free, is_held_by, IsPlacedOnce}
 use Rattle.pas_core.proofs.DeedWords.{looked, deed_kept, deed_was_none}
 use Rattle.pas_core.proofs.Grains.{Fits, free_moved, free_step, step_fits, placed_once, is_held_by-true}
 use Rattle.pas_scan.specs.Evidence.{Readings, ReadsFree, ReadsDeed, ShowsHere, KeptHere, UnfitHere, DeedHere}
@@ -103,8 +101,8 @@ used_next f k l g m xs valid legal search used =
     let w : Whole = triples k xs ++ l in
     let at : IsPlacedOnce w g = placed_once f w valid legal.1 g in
     let moved = used_move k (grain_move m.step m.answer g) at.place (bit_of w g) (holds (xs ++ part k l) g) (search_plain m.step m.answer g search)
-        (step_fits f w k m.step m.answer g at valid legal.0.of_region legal.0.allowed legal.0.answer_is)
-        (sym at.free ∙ used.0) (sym (at.held k) ∙ ap (λ v. holds v g) (part_of_own k xs l) ∙ used.1) used.0 used.1 in
+    (step_fits f w k m.step m.answer g at valid legal.0.of_region legal.0.allowed legal.0.answer_is)
+    (sym at.free ∙ used.0) (sym (at.held k) ∙ ap (λ v. holds v g) (part_of_own k xs l) ∙ used.1) used.0 used.1 in
     (bit_moved f k l g m xs legal ∙ moved.0, moved.1)
 
 used_all : (f : Profile) (k : ℕ) (l : Whole) (g : ℕ) (xs : List Made) → IsValid f → Legal f (triples k xs ++ l) → OnlySearches xs → Used k l g [] → Used k l g xs
@@ -168,7 +166,7 @@ unfit_entry no_fit f k l page [] fewer legal searches h = absurd h
 unfit_entry no_fit f k l page (m ∷ xs) fewer legal searches (inr h) = unfit_entry no_fit f k l page xs fewer legal.1 searches.1 h
 unfit_entry no_fit f k l page (m ∷ xs) fewer legal searches (inl u) =
     fewer u.readings (free_of_page l page) (λ b lt free. free_shown f k l page b u.readings xs legal.1 searches.1 lt (sym (of_page l page b) ∙ free)
-      (since_once (ShowsHere page (b / 64) u.readings) (KeptHere page) xs (u.read (b / 64) (omega (arith, lt))))) u.none
+    (since_once (ShowsHere page (b / 64) u.readings) (KeptHere page) xs (u.read (b / 64) (omega (arith, lt))))) u.none
 
 unfit_used : (no_fit : Readings → Type 0) (f : Profile) (k : ℕ) (l : Whole) (page : ℕ) (xs : List Made) → IsValid f → Legal f (triples k xs ++ l) → OnlySearches xs → Once (UnfitHere no_fit page) xs
     → (r : Readings) × no_fit r × ((b : ℕ) → b < 256 → r b ≡ false → holds (part k l) (page * 256 + b) ≡ false → Used k l (page * 256 + b) xs)
@@ -176,9 +174,12 @@ unfit_used no_fit f k l page [] valid legal searches h = absurd h
 unfit_used no_fit f k l page (m ∷ xs) valid legal searches (inr h) =
     let old = unfit_used no_fit f k l page xs valid legal.1 searches.1 h in
     (old.0, old.1, λ b lt miss none. used_next f k l (page * 256 + b) m xs valid legal searches.0 (old.2 b lt miss none))
-unfit_used no_fit f k l page (m ∷ xs) valid legal searches (inl u) =
-    (u.readings, u.none, λ b lt miss none. used_next f k l (page * 256 + b) m xs valid legal searches.0
-      (shown_used f k l page b u.readings xs valid legal.1 searches.1 lt miss none (since_once (ShowsHere page (b / 64) u.readings) (KeptHere page) xs (u.read (b / 64) (omega (arith, lt))))))
+unfit_used no_fit f k l page (m ∷ xs) valid legal searches (inl u) = (
+  u.readings,
+  u.none,
+  λ b lt miss none. used_next f k l (page * 256 + b) m xs valid legal searches.0
+      (shown_used f k l page b u.readings xs valid legal.1 searches.1 lt miss none (since_once (ShowsHere page (b / 64) u.readings) (KeptHere page) xs (u.read (b / 64) (omega (arith, lt))))),
+)
 
 -- .. nor at exit, where the actor holds what it held
 pub unfit_exit : (no_fit : Readings → Type 0) (f : Profile) (k : ℕ) (l : Whole) (page : ℕ) (xs : List Made) → IsAntitone no_fit → IsValid f → Legal f (triples k xs ++ l) → OnlySearches xs → ((g : ℕ) → holds (xs ++ part k l) g ≡ holds (part k l) g) → Once (UnfitHere no_fit page) xs → no_fit (free_of_page (triples k xs ++ l) page)
@@ -186,30 +187,30 @@ unfit_exit no_fit f k l page xs fewer valid legal searches still h =
     let w : Whole = triples k xs ++ l in
     let r = unfit_used no_fit f k l page xs valid legal searches h in
     fewer r.0 (free_of_page w page) (λ b lt free. let g : ℕ = page * 256 + b in
-      elim (cases_Bool (r.0 b)) [
-        | inl hit ↦ hit
-        | inr miss ↦ elim (cases_Bool (holds (part k l) g)) [
-          | inr none ↦ absurd (true≢false (sym free ∙ of_page w page b ∙ (r.2 b lt miss none).0))
-          | inl held ↦
-              let at : IsPlacedOnce w g = placed_once f w valid legal g in
-              let mine : is_held_by k at.place ≡ true = sym (at.held k) ∙ ap (λ v. holds v g) (part_of_own k xs l) ∙ still g ∙ held in
-              absurd (true≢false (sym free ∙ of_page w page b ∙ at.free ∙ ap is_free (is_held_by-true k at.place mine)))
-        ]
-      ]) r.1
+    elim (cases_Bool (r.0 b)) [
+      | inl hit ↦ hit
+      | inr miss ↦ elim (cases_Bool (holds (part k l) g)) [
+        | inr none ↦ absurd (true≢false (sym free ∙ of_page w page b ∙ (r.2 b lt miss none).0))
+        | inl held ↦
+            let at : IsPlacedOnce w g = placed_once f w valid legal g in
+            let mine : is_held_by k at.place ≡ true = sym (at.held k) ∙ ap (λ v. holds v g) (part_of_own k xs l) ∙ still g ∙ held in
+            absurd (true≢false (sym free ∙ of_page w page b ∙ at.free ∙ ap is_free (is_held_by-true k at.place mine)))
+      ]
+    ]) r.1
 
 -- a page that was read as fitting fitted at entry, where no grain that the actor held was read as free
 pub fit_entry : (no_fit : Readings → Type 0) (f : Profile) (k : ℕ) (l : Whole) (page : ℕ) (r : Readings) (xs : List Made) → IsAntitone no_fit → IsValid f → Legal f (triples k xs ++ l) → OnlySearches xs
     → (no_fit r → ⊥) → ((word : ℕ) → word < 4 → Once (ShowsHere page word r) xs) → ((g : ℕ) → g / 256 ≡ page → holds (part k l) g ≡ true → r (g % 256) ≡ false) → no_fit (free_of_page l page) → ⊥
 fit_entry no_fit f k l page r xs fewer valid legal searches fits read held none =
     fits (fewer (free_of_page l page) r (λ b lt hit. let g : ℕ = page * 256 + b in
-      let rest : g % 256 ≡ b = omega (arith, lt) in
-      elim (cases_Bool (bit_of l g)) [
-        | inl free ↦ of_page l page b ∙ free
-        | inr used ↦ elim (cases_Bool (holds (part k l) g)) [
-          | inl mine ↦ absurd (true≢false (sym hit ∙ ap r (sym rest) ∙ held g (omega (arith, lt)) mine))
-          | inr none ↦ absurd (true≢false (sym hit ∙ used_shown f k l page b r xs valid legal searches lt (used, none) (read (b / 64) (omega (arith, lt)))))
-        ]
-      ]) none)
+    let rest : g % 256 ≡ b = omega (arith, lt) in
+    elim (cases_Bool (bit_of l g)) [
+      | inl free ↦ of_page l page b ∙ free
+      | inr used ↦ elim (cases_Bool (holds (part k l) g)) [
+        | inl mine ↦ absurd (true≢false (sym hit ∙ ap r (sym rest) ∙ held g (omega (arith, lt)) mine))
+        | inr none ↦ absurd (true≢false (sym hit ∙ used_shown f k l page b r xs valid legal searches lt (used, none) (read (b / 64) (omega (arith, lt)))))
+      ]
+    ]) none)
 
 -- ---- deed words
 no_deed_written : (t z : Bool) (word old : ℕ) → (t ≡ true → z ≡ false) → (if t then (if z then word else old) else old) ≡ old

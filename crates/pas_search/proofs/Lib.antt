@@ -5,6 +5,7 @@ pub mod Going
 pub mod Turning
 pub mod Deeding
 pub mod Refusing
-pub mod Ending
 pub mod Spotting
 pub mod Grained
+pub mod Told
+pub mod Ending

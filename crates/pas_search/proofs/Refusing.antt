@@ -1,27 +1,25 @@
 -- The evidence of a refusal.
-use Rattle.std.proofs.Common.{◌≡◌, ◌≢◌, ℕ, zero, suc, ◌+◌, ◌%◌, ◌<◌, ◌≤◌, Bool, true, false, List, [], ◌∷◌, ◌++◌, refl, ap, sym, ◌∙◌, subst, arith, ◌⊎◌, inl, inr, append_assoc, true≢false}
+use Rattle.std.proofs.Common.{◌≡◌, ℕ, ◌+◌, ◌<◌, ◌≤◌, true, false, List, [], ◌∷◌, ◌++◌, refl, sym, ◌∙◌, subst, arith, ◌⊎◌, inl, inr, append_assoc, true≢false}
 use Rattle.std.proofs.lemmas.Bool.{cases_Bool}
 use Rattle.pas_profile.specs.declared.directory.Directory.{Directory}
 use Rattle.pas_profile.specs.declared.profile.Profile.{Profile}
 use Rattle.pas_profile.specs.declared.event.NoRoom.{NoRoom}
 use Rattle.pas_profile.specs.declared.event.NoRoom.TheVariants.{NoSpace, Held}
 use Rattle.pas_steps.specs.declared.step.Made.{Made}
-use Rattle.pas_steps.specs.Views.{View, has_right}
-use Rattle.pas_steps.specs.Agreement.{Agreed}
+use Rattle.pas_steps.specs.Views.{has_right}
 use Rattle.pas_steps.specs.Past.{Once, Always, Since}
 use Rattle.pas_steps.specs.Frames.{OnlyReads, OnlyScans}
-use Rattle.pas_steps.proofs.Adding.{agreed_first}
 use Rattle.pas_steps.proofs.Past.{once_later, once_earlier, once_map}
 use Rattle.pas_scan.specs.Evidence.{UnfitHere, ZeroHere, DeedHere, ParkedHere, ParkedLater, LeftHere, LacksAfter, MissingHere, HeldHere, Accounted, AllDeeds, IsOf}
 use Rattle.pas_scan.specs.Marks.{is_marked}
 use Rattle.pas_scan.specs.Scan.{IsMember, AllParked, IsVerdict}
 use Rattle.pas_search.specs.Serving.{Rule}
-use Rattle.pas_search.specs.Searches.{Searching, AllAccounted, IsHeld, IsRefusal, IsRefused}
+use Rattle.pas_search.specs.Searches.{Searching, AllAccounted, IsRefusal, IsRefused}
 use Rattle.pas_search.proofs.StepKinds.{scans_read, right_own, no_deeds}
 use Rattle.pas_search.proofs.Going.{lacks_reads, reads_searching}
 
 -- a page that didn't fit was got, and left
-unfit_left : {F : Type 0} (rule : Rule F) (p : ℕ) (xs : List Made) → Once (UnfitHere rule.no_fit p) xs → Once (LeftHere p) xs
+pub unfit_left : {F : Type 0} (rule : Rule F) (p : ℕ) (xs : List Made) → Once (UnfitHere rule.no_fit p) xs → Once (LeftHere p) xs
 unfit_left rule p xs h = once_map (UnfitHere rule.no_fit p) (LeftHere p) xs (λ m before u. (u.left, u.kept, u.got)) h
 
 pub lacks_now : (p : ℕ) (xs : List Made) → Always (LacksAfter p) xs → has_right xs p ≡ false
@@ -29,7 +27,7 @@ lacks_now p [] h = refl
 lacks_now p (m ∷ more) h = h.0
 
 -- so the call had its right
-unfit_lacks : {F : Type 0} (rule : Rule F) (p : ℕ) (xs : List Made) → Once (UnfitHere rule.no_fit p) xs → Always (LacksAfter p) xs → ⊥
+pub unfit_lacks : {F : Type 0} (rule : Rule F) (p : ℕ) (xs : List Made) → Once (UnfitHere rule.no_fit p) xs → Always (LacksAfter p) xs → ⊥
 unfit_lacks rule p [] h lacks = h
 unfit_lacks rule p (m ∷ more) (inl u) lacks = true≢false (sym u.kept ∙ lacks_now p more lacks.1)
 unfit_lacks rule p (m ∷ more) (inr h) lacks = unfit_lacks rule p more h lacks.1

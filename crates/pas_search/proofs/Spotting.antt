@@ -1,5 +1,5 @@
 -- Where the right of a page is before and after the steps of one actor, where the whole list is legal.
-use Rattle.std.proofs.Common.{◌≡◌, ◌≢◌, ℕ, ◌+◌, ◌/◌, ◌%◌, ◌<◌, ◌≤◌, ◌==◌, Bool, true, false, not, ◌&&◌, ◌||◌, if◌then◌else◌, List, [], ◌∷◌, ◌++◌, refl, ap, sym, ◌∙◌, subst, arith, ◌⊎◌, inl, inr, true≢false}
+use Rattle.std.proofs.Common.{◌≡◌, ◌≢◌, ℕ, ◌/◌, ◌%◌, ◌==◌, Bool, true, false, ◌&&◌, if◌then◌else◌, List, [], ◌∷◌, ◌++◌, refl, ap, sym, ◌∙◌, subst, inl, inr, true≢false}
 use Rattle.std.proofs.lemmas.Bool.{cases_Bool, cases_eq, eq-eqb, eqb-true, false≢true, and_parts}
 use Rattle.pas_profile.specs.Classes.{has_bit}
 use Rattle.pas_profile.specs.Directories.{deed_word_of, number_of}
@@ -11,8 +11,8 @@ use Rattle.pas_profile.proofs.Codecs.{deed_word_of-positive}
 use Rattle.pas_steps.specs.Effects.{target}
 use Rattle.pas_steps.specs.Views.{View, right_after, has_right, deed_after, known_deed}
 use Rattle.pas_steps.specs.Allowed.{Allowed}
-use Rattle.pas_steps.specs.Agreement.{Agrees, Agreed}
-use Rattle.pas_steps.specs.Lists.{Triple, Whole, part, word_after, IsNext, Legal}
+use Rattle.pas_steps.specs.Agreement.{Agrees}
+use Rattle.pas_steps.specs.Lists.{Whole, part, word_after, Legal}
 use Rattle.pas_steps.specs.Desks.{triple, triples}
 use Rattle.pas_steps.specs.Past.{Once, Always}
 use Rattle.pas_steps.specs.declared.step.Step.{Step}
@@ -20,12 +20,12 @@ use Rattle.pas_steps.specs.declared.step.Made.{Made}
 use Rattle.pas_steps.specs.declared.step.Step.TheVariants.{Look, Deed, Back, Take, Put, Give, End, TakeRight, Offer, Park, Unpark, Stamp, Hint}
 use Rattle.pas_steps.proofs.Kept.{deed_stays}
 use Rattle.pas_steps.proofs.Parts.{part_of_own, part_of_others}
-use Rattle.pas_core.specs.Rights.{parked_bit, eligible_bit}
-use Rattle.pas_core.proofs.DeedWords.{IsKnown, known_is, deed_kept, numbered, number_told}
-use Rattle.pas_core.proofs.Spots.{Spot, Nowhere, With, Offered, InParked, is_with, is_offered, is_parked, is_with-true, Way, Rests, ByDeed, FromOffer, FromParked, ToOffer, ToParked, way, spot_after, spot_of, Suits, DeedFits, IsSpotted, step_suits, spotted}
+use Rattle.pas_core.specs.Rights.{eligible_bit}
+use Rattle.pas_core.proofs.DeedWords.{known_is, deed_kept, numbered}
+use Rattle.pas_core.proofs.Spots.{Spot, Nowhere, With, Offered, InParked, is_with, is_offered, is_parked, Way, Rests, ByDeed, FromOffer, FromParked, ToOffer, ToParked, way, spot_after, spot_of, Suits, DeedFits, IsSpotted, step_suits, spotted}
 use Rattle.pas_core.proofs.Rights.{one_has_right, offered_has_deed, offered_spot, own_eligible, is_on_offer}
 use Rattle.pas_core.proofs.Nexts.{agrees_next}
-use Rattle.pas_scan.specs.Evidence.{ReadsEligible, ReadsParked, ZeroHere, OneHere, ParkedHere, LacksAfter, KeptHere}
+use Rattle.pas_scan.specs.Evidence.{ReadsEligible, ReadsParked, ZeroHere, ParkedHere, LacksAfter, KeptHere}
 use Rattle.pas_search.specs.Telling.{IsInHands}
 use Rattle.pas_search.specs.Searches.{MaySearch, OfferedHere}
 use Rattle.pas_search.proofs.StepKinds.{right_own}
@@ -179,10 +179,10 @@ pub right_known : (f : Profile) (l : Whole) → IsValid f → Legal f l → (k p
 right_known f [] valid legal k p h = absurd (false≢true h)
 right_known f (t ∷ l) valid legal k p h =
     part_known (t.actor == k) t.made (part k l) p (right_known f l valid legal.1 k p) (λ mine has.
-      let same : t.actor ≡ k = eqb-true t.actor k mine in
-      let allowed : Allowed f (part k l) t.made.step = subst (λ j. Allowed f (part j l) t.made.step) same legal.0.allowed in
-      let agrees : Agrees f (part k l) t.made.step t.made.answer = agrees_next f l k (part k l) t.made.step t.made.answer valid legal.1 refl legal.0.of_region legal.0.answer_is in
-      own_known f (part k l) t.made p allowed agrees (right_known f l valid legal.1 k p) (has_right (part k l) p) refl has) h
+    let same : t.actor ≡ k = eqb-true t.actor k mine in
+    let allowed : Allowed f (part k l) t.made.step = subst (λ j. Allowed f (part j l) t.made.step) same legal.0.allowed in
+    let agrees : Agrees f (part k l) t.made.step t.made.answer = agrees_next f l k (part k l) t.made.step t.made.answer valid legal.1 refl legal.0.of_region legal.0.answer_is in
+    own_known f (part k l) t.made p allowed agrees (right_known f l valid legal.1 k p) (has_right (part k l) p) refl has) h
 
 -- An actor that may search had no right at entry of a page that turns out to be of the directory.
 pub entry_lacks : (f : Profile) (k : ℕ) (l : Whole) (d : Directory) (p : ℕ) (xs : List Made) → IsValid f → Legal f l → MaySearch d (part k l) → word_after (triples k xs ++ l) (Word.Deed p) ≡ deed_word_of d → has_right (part k l) p ≡ false
@@ -213,8 +213,8 @@ had_then f k l p j (m ∷ xs) legal ne (inr h) there = had_then f k l p j xs leg
 had_then f k l p j (m ∷ xs) legal ne (inl h) there =
     let w : Whole = triples k xs ++ l in
     ne (one_has_right f w legal.1 k j p
-      (ap (λ v. has_right v p) (part_of_own k xs l) ∙ right_of_own p xs (part k l) h)
-      (ap (λ v. has_right v p) (part_of_others j k xs l ne) ∙ there))
+    (ap (λ v. has_right v p) (part_of_own k xs l) ∙ right_of_own p xs (part k l) h)
+    (ap (λ v. has_right v p) (part_of_others j k xs l ne) ∙ there))
 
 -- the page has a deed, and is neither offered nor parked, so some actor has its right
 in_hands : (o : Spot) (word : ℕ) → DeedFits o word → word ≢ 0 → is_on_offer o ≡ false → is_parked o ≡ false → (j : ℕ) × (o ≡ With j)
@@ -229,7 +229,7 @@ not_in_hands f k l d p xs of legal lacks once hands =
     let at : IsSpotted w p = spotted f w legal p in
     let some : word_after w (Word.Deed p) ≢ 0 = λ z. deed_word_of-positive d (sym hands.of_directory ∙ z) in
     let with : (j : ℕ) × (spot_of w p ≡ With j) = in_hands (spot_of w p) (word_after w (Word.Deed p)) at.deed some
-        (sym (own_eligible f w legal p d of hands.of_directory) ∙ hands.not_offered) (sym at.parked ∙ hands.not_parked) in
+    (sym (own_eligible f w legal p d of hands.of_directory) ∙ hands.not_offered) (sym at.parked ∙ hands.not_parked) in
     let j : ℕ = with.0 in
     let has : has_right (part j w) p ≡ true = at.has j ∙ ap (is_with j) with.1 ∙ is_with_own j in
     elim (cases_eq k j) [

@@ -1,15 +1,13 @@
 -- What the kinds of steps of a search are, and what they leave as it was.
-use Rattle.std.proofs.Common.{◌≡◌, ◌≢◌, ℕ, suc, ◌+◌, ◌/◌, ◌%◌, ◌≤◌, ◌==◌, length, arith, Bool, true, false, not, ◌&&◌, if◌then◌else◌, List, [], ◌∷◌, ◌++◌, Option, None, Some, refl, ap, sym, ◌∙◌, subst, true≢false}
-use Rattle.std.proofs.lemmas.Bool.{ne_eqb, eqb-true}
-use Rattle.pas_profile.specs.Classes.{has_bit}
+use Rattle.std.proofs.Common.{◌≡◌, ◌≢◌, ℕ, suc, ◌+◌, ◌≤◌, ◌==◌, length, arith, Bool, true, false, if◌then◌else◌, List, [], ◌∷◌, ◌++◌, None, Some, refl, ap, ◌∙◌}
+use Rattle.std.proofs.lemmas.Bool.{ne_eqb}
 use Rattle.pas_profile.specs.declared.word.Word.{Word}
 use Rattle.pas_profile.specs.declared.event.Event.{Event}
-use Rattle.pas_profile.specs.declared.event.Event.TheVariants as Event
 use Rattle.pas_steps.specs.declared.step.Made.{Made}
 use Rattle.pas_steps.specs.declared.step.Step.{Step}
 use Rattle.pas_steps.specs.declared.step.Step.TheVariants.{Look, Deed, Back, Take, Put, Give, End, TakeRight, Offer, Park, Unpark, Stamp, Hint}
 use Rattle.pas_steps.specs.Views.{View, right_after, has_right, unstamped_after, is_unstamped, epoch_of}
-use Rattle.pas_steps.specs.Events.{event_of, with_event, events_of, events_by}
+use Rattle.pas_steps.specs.Events.{with_event, events_of, events_by}
 use Rattle.pas_steps.specs.Past.{Always}
 use Rattle.pas_steps.specs.Frames.{IsOnPage, IsReturn, IsGrains, IsRead, OnlyOn, OnlyReturns, OnlyGrains, OnlyReads, OnlyScans}
 use Rattle.pas_steps.specs.Desks.{Standing, Adds, CanCall}

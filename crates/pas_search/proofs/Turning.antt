@@ -1,6 +1,5 @@
 -- The ends of one turn, and of the search of offered pages.
-use Rattle.std.proofs.Common.{◌≡◌, ◌≢◌, ℕ, ◌+◌, ◌/◌, ◌%◌, ◌<◌, ◌≤◌, ◌==◌, Bool, true, false, ◌||◌, List, [], ◌∷◌, ◌++◌, length, refl, ap, sym, ◌∙◌, subst, arith, ◌⊎◌, inl, inr, append_assoc, append-nil, Some, None}
-use Rattle.std.proofs.lemmas.Bool.{cases_lt}
+use Rattle.std.proofs.Common.{◌≡◌, ℕ, ◌+◌, ◌<◌, ◌≤◌, ◌==◌, false, ◌||◌, List, [], ◌∷◌, ◌++◌, length, ap, sym, ◌∙◌, subst, arith, inl, inr, append_assoc, append-nil, Some, None}
 use Rattle.pas_profile.specs.Profiles.{IsPage}
 use Rattle.pas_profile.specs.declared.directory.Directory.{Directory}
 use Rattle.pas_profile.specs.declared.profile.Profile.{Profile}
@@ -8,16 +7,16 @@ use Rattle.pas_steps.specs.declared.step.Made.{Made}
 use Rattle.pas_steps.specs.Views.{View, has_right}
 use Rattle.pas_steps.specs.Events.{events_by}
 use Rattle.pas_steps.specs.Agreement.{Agreed}
-use Rattle.pas_steps.specs.Desks.{Seat, Standing, Anything, Adds}
+use Rattle.pas_steps.specs.Desks.{Seat, Standing, Adds}
 use Rattle.pas_steps.specs.Past.{Once, Always}
 use Rattle.pas_steps.specs.Frames.{OnlyReads}
 use Rattle.pas_steps.proofs.Adding.{adds_call, adds_under, agreed_first, agreed_later}
 use Rattle.pas_steps.proofs.Frames.{events_append}
 use Rattle.pas_scan.specs.Evidence.{OneHere, LacksAfter, IsOf}
 use Rattle.pas_scan.specs.Marks.{is_marked}
-use Rattle.pas_scan.specs.Scan.{FindsOffered, IsFirstOffered}
+use Rattle.pas_scan.specs.Scan.{FindsOffered}
 use Rattle.pas_scan.proofs.Reading.{right_scans}
-use Rattle.pas_search.specs.Kinds.{OnlySearches, AreQuiet}
+use Rattle.pas_search.specs.Kinds.{AreQuiet}
 use Rattle.pas_search.specs.Serving.{Rule}
 use Rattle.pas_search.specs.Searches.{IsClear, MaySearch, OfferedHere, Searching, GoesOn, MayTry, IsTried, FitsPage, TriesPage, IsFound, TriesNext, SearchesOffered}
 use Rattle.pas_search.specs.declared.trying.Tried.{Tried}

@@ -1,5 +1,5 @@
 -- Kinds of steps of a search.
-use Rattle.std.specs.Prelude.{ℕ, ◌≡◌, ◌==◌, suc, Bool, true, false, if◌then◌else◌, List, [], ◌∷◌, Option, None}
+use Rattle.std.specs.Prelude.{ℕ, ◌≡◌, ◌==◌, suc, Bool, false, if◌then◌else◌, List, [], ◌∷◌, None}
 use Rattle.pas_profile.specs.declared.directory.Directory.{Directory}
 use Rattle.pas_profile.specs.declared.word.Word.{Word}
 use Rattle.pas_steps.specs.Past.{Always}

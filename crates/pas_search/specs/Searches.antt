@@ -1,16 +1,15 @@
 -- What a search asks and promises.
-use Rattle.std.specs.Prelude.{ℕ, ◌+◌, ◌/◌, ◌%◌, ◌<◌, ◌≤◌, ◌≡◌, ◌≢◌, ◌==◌, Bool, true, false, ◌&&◌, ◌||◌, ◌⊎◌, if◌then◌else◌, List, ◌∷◌, ◌++◌, length, Result, MatchResult, Option, MatchOption}
+use Rattle.std.specs.Prelude.{ℕ, ◌+◌, ◌/◌, ◌%◌, ◌<◌, ◌≤◌, ◌≡◌, ◌≢◌, ◌==◌, Bool, true, false, ◌&&◌, ◌||◌, ◌⊎◌, if◌then◌else◌, List, ◌++◌, length, Result, MatchResult, Option, MatchOption}
 use Rattle.pas_profile.specs.Profiles.{IsPage}
-use Rattle.pas_profile.specs.Directories.{deed_word_of}
 use Rattle.pas_profile.specs.declared.directory.Directory.{Directory}
 use Rattle.pas_profile.specs.declared.profile.Profile.{Profile}
 use Rattle.pas_profile.specs.declared.event.NoRoom.{NoRoom}
 use Rattle.pas_profile.specs.declared.event.NoRoom.TheVariants.{NoSpace, Held}
-use Rattle.pas_steps.specs.Views.{View, holds, has_right, known_deed, knows_backed, is_unstamped, owes_check, owes_hint}
+use Rattle.pas_steps.specs.Views.{View, holds, has_right, known_deed, knows_backed, is_unstamped}
 use Rattle.pas_steps.specs.Events.{events_by}
 use Rattle.pas_steps.specs.Lists.{Whole}
 use Rattle.pas_steps.specs.Agreement.{Agreed}
-use Rattle.pas_steps.specs.Desks.{Standing, Anything, Adds, triples}
+use Rattle.pas_steps.specs.Desks.{Standing, Adds, triples}
 use Rattle.pas_steps.specs.Past.{Once, Always}
 use Rattle.pas_steps.specs.Frames.{OnlyOn, OnlyReads}
 use Rattle.pas_steps.specs.declared.step.Made.{Made}

@@ -1,8 +1,8 @@
 -- What a back end promises of one page.
-use Rattle.std.specs.Prelude.{ℕ, ◌+◌, ◌/◌, ◌%◌, ◌<◌, ◌≤◌, ◌≡◌, ◌⊎◌, Bool, true, false, ◌||◌, List, ◌++◌, length, Option, MatchOption}
+use Rattle.std.specs.Prelude.{ℕ, ◌/◌, ◌%◌, ◌<◌, ◌≤◌, ◌≡◌, ◌⊎◌, Bool, true, false, ◌||◌, List, ◌++◌, length, Option, MatchOption}
 use Rattle.pas_profile.specs.declared.directory.Directory.{Directory}
 use Rattle.pas_profile.specs.declared.profile.Profile.{Profile}
-use Rattle.pas_steps.specs.Views.{View, holds, has_right, known_deed, known_free, knows_backed, is_unstamped, owes_check, owes_hint}
+use Rattle.pas_steps.specs.Views.{View, holds, has_right, known_free, knows_backed, is_unstamped}
 use Rattle.pas_steps.specs.Events.{events_by}
 use Rattle.pas_steps.specs.Agreement.{Agreed}
 use Rattle.pas_steps.specs.Desks.{Standing, Adds}

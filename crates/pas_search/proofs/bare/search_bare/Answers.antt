@@ -1,11 +1,11 @@
-use Rattle.std.proofs.Common.{◌≡◌, ℕ, ◌+◌, ◌≤◌, ◌∷◌, ◌++◌, ◌∙◌, sym, refl, ap, subst, arith}
+use Rattle.std.proofs.Common.{◌≡◌, ◌∷◌, ◌++◌, ◌∙◌, ap, subst, arith}
 use Rattle.pas_profile.specs.Profiles.{IsPage}
 use Rattle.pas_profile.specs.declared.profile.Profile.{Profile}
 use Rattle.pas_steps.specs.declared.step.Step.TheVariants.{Deed}
 use Rattle.pas_steps.specs.Desks.{Seat, made}
-use Rattle.pas_steps.proofs.Adding.{adds_step, adds_call, can_call}
+use Rattle.pas_steps.proofs.Adding.{adds_step, can_call}
 use Rattle.pas_search.specs.Serving.{MayServe}
-use Rattle.pas_search.specs.Searches.{IsClear, BareRoom}
+use Rattle.pas_search.specs.Searches.{IsClear}
 use Rattle.pas_search.proofs.StepKinds.{room_kept, reads_quiet}
 use Rattle.pas_search.proofs.Going.{clear_after_reads}
 use Rattle.pas_search.proofs.Deeding.{found_reads, found_deeds, deed_reads, deed_deeds, bare_adds, no_bare, bare_read, clear_call, deed_room, deed_may, serve_room, deed_not_left, bare_found}

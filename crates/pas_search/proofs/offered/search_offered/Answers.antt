@@ -1,6 +1,5 @@
-use Rattle.std.proofs.Common.{◌≡◌, ℕ, ◌≤◌, ◌++◌, ◌∙◌, sym, refl, ap, subst, arith}
+use Rattle.std.proofs.Common.{◌++◌, ◌∙◌, ap, subst, arith}
 use Rattle.pas_profile.specs.declared.profile.Profile.{Profile}
-use Rattle.pas_steps.specs.Desks.{Seat}
 use Rattle.pas_search.specs.declared.offered.Turn.TheVariants.{Done, Again, Found}
 use Rattle.pas_search.specs.Searches.{MaySearch, TriesNext}
 use Rattle.pas_search.proofs.StepKinds.{room_kept}

@@ -1,4 +1,4 @@
-use Rattle.std.proofs.Common.{◌≡◌, ℕ, ◌∙◌, sym, refl, ap, ◌==◌, ◌||◌}
+use Rattle.std.proofs.Common.{◌∙◌, ap, ◌==◌, ◌||◌}
 use Rattle.pas_steps.proofs.Adding.{can_call, adds_under}
 use Rattle.pas_scan.specs.Marks.{is_marked}
 use Rattle.pas_search.specs.Searches.{IsClear, MayTry}
