@@ -9,3 +9,4 @@ pub mod Spotting
 pub mod Grained
 pub mod Told
 pub mod Ending
+pub mod Unfitting
