@@ -10,3 +10,4 @@ pub mod Grained
 pub mod Told
 pub mod Ending
 pub mod Unfitting
+pub mod Leftover
