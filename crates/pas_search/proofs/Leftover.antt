@@ -1,8 +1,7 @@
 -- For callers: how much room a search leaves.
-use Rattle.std.proofs.Common.{◌≡◌, ℕ, ◌+◌, ◌≤◌, Bool, List, ◌++◌, length, length-append, ap, ◌∙◌, arith, inl, inr, Result, Ok, Err}
+use Rattle.std.proofs.Common.{◌≡◌, ℕ, ◌+◌, ◌≤◌, Bool, List, ◌++◌, length, length-append, ap, ◌∙◌, arith, inl, inr, Ok, Err}
 use Rattle.pas_profile.specs.declared.directory.Directory.{Directory}
 use Rattle.pas_profile.specs.declared.event.NoRoom.{NoRoom}
-use Rattle.pas_profile.specs.declared.profile.Profile.{Profile}
 use Rattle.pas_steps.specs.declared.step.Made.{Made}
 use Rattle.pas_steps.specs.Views.{View}
 use Rattle.pas_steps.specs.Events.{events_of, events_by}
@@ -11,7 +10,7 @@ use Rattle.pas_steps.specs.Desks.{Standing, CanCall}
 use Rattle.pas_steps.proofs.Adding.{room_left}
 use Rattle.pas_steps.proofs.Frames.{events_split}
 use Rattle.pas_search.specs.Serving.{Rule}
-use Rattle.pas_search.specs.Searches.{SearchRoom, FewEvents, Searches}
+use Rattle.pas_search.specs.Searches.{MaySearch, SearchRoom, Searches}
 use Rattle.pas_search.specs.declared.serving.Served.{Served}
 use Rattle.pas_search.proofs.Ending.{may_call}
 use Rattle.pas_search.proofs.StepKinds.{room_kept}
@@ -33,7 +32,8 @@ room_over {F} {rule} {tells} {d} {σ} {σ'} {served} {spare} {spare'} m found ca
       | inl known ↦ let most = few.1 known in omega (arith, now, count, most, low)
       | inr wide ↦ let most = few.0 in omega (arith, now, count, most, wide)
     ] in
-    room_left m found.adds (may_call can) law' fits
+    let may : CanCall σ (λ v l. MaySearch d v) = record { view = can.view; whole = can.whole; stood = can.stood; met = can.met.may } in
+    room_left m found.adds may law' fits
 
 -- a refusal leaves all of it
 pub room_still : {F : Type 0} {rule : Rule F} {tells : Bool} {d : Directory} {σ σ' : Standing} {room : NoRoom} {n spare spare' : ℕ} (m : ℕ) → Searches rule tells d σ σ' (Err room)
