@@ -1,0 +1,5 @@
+pub mod Staying
+pub mod Masks
+pub mod Tries
+pub mod Silent
+pub mod Pages
