@@ -3,3 +3,4 @@ pub mod Masks
 pub mod Tries
 pub mod Silent
 pub mod Pages
+pub mod Blocks

@@ -9,7 +9,7 @@ use Rattle.pas_profile.specs.declared.profile.Profile.{Profile}
 use Rattle.pas_profile.specs.declared.word.Word.TheVariants as Word
 use Rattle.pas_profile.proofs.Codecs.{read-deed_word_of, directory_from_profile}
 use Rattle.pas_machine.specs.Runs.{in_run, meets_page}
-use Rattle.pas_bits.proofs.Runs.{to_run}
+use Rattle.pas_bits.proofs.Runs.{run_of, to_run}
 use Rattle.pas_steps.specs.declared.step.Made.{Made}
 use Rattle.pas_steps.specs.declared.step.Step.TheVariants.{Look, Stamp}
 use Rattle.pas_steps.specs.Views.{View, holds, has_right, known_deed, known_epoch, epoch_of, or_zero, is_unstamped, EndedOn}
@@ -68,11 +68,8 @@ pub knows_deed : (p deed stamped : ℕ) (d : Directory) (puts : List Made) (v : 
 knows_deed p deed stamped d puts v g n at is order = puts_deed (g / 256) p puts (stamping p deed stamped ++ v) order.puts ∙ ap (λ t. if t then deed else known_deed v p) (same_page p) ∙ is
 
 -- ---- what the steps leave
-one_page : (g n page : ℕ) → g % 256 + n ≤ 256 → meets_page g n page ≡ true → page ≡ g / 256
-one_page g n page within meets =
-    let lt : g < 256 * page + 256 = grind (arith, nat_tests, meets) in
-    let gt : 256 * page < g + n = grind (arith, nat_tests, meets) in
-    omega (arith, within, lt, gt)
+one_page : (g n x : ℕ) → g % 256 + n ≤ 256 → in_run g n x ≡ true → x / 256 ≡ g / 256
+one_page g n x within inside = let r = run_of g n x inside in let a = r.0 in let b = r.1 in omega (arith, within, a, b)
 
 count_one : (g n : ℕ) → 1 ≤ n → g % 256 + n ≤ 256 → page_count g n ≡ 1
 count_one g n some within = ap (λ t. if t then 0 else (g + n - 1) / 256 - g / 256 + 1) (ne_eqb n 0 (λ z. omega (arith, z, some))) ∙ omega (arith, some, within)
@@ -109,10 +106,10 @@ page_back f g n deed stamped puts after some within order returns right owes =
         | inr other ↦ record { checks = λ w lt. check_on p q w whole v only other (none.checks w lt); hint = hint_on p q whole v only other none.hint }
       ];
       stamped = λ v q h. unstamped_on p q whole v only h;
-      met = λ v q meets.
+      met = λ v x inside.
           let here : is_unstamped (whole ++ v) p ≡ false
           = ap (λ s. is_unstamped s p) (piece_on p deed stamped puts after v) ∙ unstamped_still p after (puts ++ (stamping p deed stamped ++ v)) still ∙ unstamped_on p p puts (stamping p deed stamped ++ v) (grains_on p puts grains) (ends p (is_unstamped v p)) in
-          subst (λ x. is_unstamped (whole ++ v) x ≡ false) (sym (one_page g n q within meets)) here;
+          subst (λ q. is_unstamped (whole ++ v) q ≡ false) (sym (one_page g n x within inside)) here;
       epoch = λ v. ap known_epoch (piece_on p deed stamped puts after v) ∙ epoch_still after (puts ++ (stamping p deed stamped ++ v)) still ∙ puts_epoch p puts (stamping p deed stamped ++ v) order.puts;
       events = λ k v. silent_events k v after (puts ++ stamping p deed stamped) (returns_silent p after returns) ∙ silent_events k v puts (stamping p deed stamped) (puts_silent p puts order.puts);
       stamps = λ v. silent_stamps v after (puts ++ stamping p deed stamped) (returns_silent p after returns) ∙ silent_stamps v puts (stamping p deed stamped) (puts_silent p puts order.puts) ∙ ap (stamps_with (epoch_of v)) (sym (pages_one g n some within));

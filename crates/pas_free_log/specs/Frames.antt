@@ -1,7 +1,7 @@
 -- What steps leave as it was, said of every view from which they may have been made.
-use Rattle.std.specs.Prelude.{ℕ, ◌≡◌, ◌≢◌, Bool, true, false, List, [], ◌∷◌, ◌++◌}
+use Rattle.std.specs.Prelude.{ℕ, ◌/◌, ◌≡◌, Bool, true, false, List, [], ◌∷◌, ◌++◌}
 use Rattle.pas_profile.specs.declared.profile.Profile.{Profile}
-use Rattle.pas_machine.specs.Runs.{in_run, meets_page}
+use Rattle.pas_machine.specs.Runs.{in_run}
 use Rattle.pas_steps.specs.Views.{View, Stays, grain_move, holds, has_right, known_epoch, epoch_of, is_unstamped}
 use Rattle.pas_steps.specs.Events.{events_by}
 use Rattle.pas_steps.specs.Agreement.{Agreed}
@@ -44,7 +44,7 @@ pub record PutsBack (f : Profile) (g n : ℕ) (steps : List Made) : Type 0 where
   pub right : (v : View) → Agreed f v steps → (page : ℕ) → has_right (steps ++ v) page ≡ has_right v page
   pub owes : (v : View) → Agreed f v steps → (page : ℕ) → OwesNothing page v → OwesNothing page (steps ++ v)
   pub stamped : (v : View) (page : ℕ) → is_unstamped v page ≡ false → is_unstamped (steps ++ v) page ≡ false
-  pub met : (v : View) (page : ℕ) → meets_page g n page ≡ true → is_unstamped (steps ++ v) page ≡ false
+  pub met : (v : View) (x : ℕ) → in_run g n x ≡ true → is_unstamped (steps ++ v) (x / 256) ≡ false
   pub epoch : (v : View) → known_epoch (steps ++ v) ≡ known_epoch v
   pub events : (k : ℕ) (v : View) → events_by k v steps ≡ []
   pub stamps : (v : View) → stamps_by v steps ≡ stamps_with (epoch_of v) (pages_met g n)
