@@ -4,3 +4,7 @@ pub mod Tries
 pub mod Silent
 pub mod Pages
 pub mod Blocks
+pub mod Idle
+pub mod Entries
+pub mod Spares
+pub mod Flushed

@@ -20,8 +20,9 @@ fn settle<D: Desk>(desk: &mut D, name: Name)
     ensures spare { D.spare_of desk.new + 1 ≡ D.spare_of desk.old }
     ensures home { D.home desk.new ≡ D.home desk.old }
 {
-    if let Outcome::Ended { grains } = end_named(desk, name) {
-        return_run(desk, name.address.0 / 16, grains);
+    match end_named(desk, name) {
+        Outcome::Ended { grains } => return_run(desk, name.address.0 / 16, grains),
+        Outcome::Refused { read: _ } => {}
     }
 }
 
@@ -40,7 +41,8 @@ pub fn flush<D: Desk>(desk: &mut D, log: &mut FreeLog)
     ensures home { D.home desk.new ≡ D.home desk.old }
 {
     desk.look(Word::Epoch);
-    for name in log.as_slice() {
+    let names = log.as_slice();
+    for name in names {
         settle(desk, *name);
     }
     log.clear();
