@@ -1,17 +1,14 @@
 -- The pages of a block, put back one after the other.
-use Rattle.std.proofs.Common.{◌≡◌, ◌≢◌, ℕ, suc, ◌+◌, ◌-◌, ◌*◌, ◌/◌, ◌%◌, ◌^◌, ◌<◌, ◌≤◌, ◌==◌, ◌⊎◌, ◌&&◌, min, max, Bool, true, false, if◌then◌else◌, List, [], ◌∷◌, ◌++◌, Option, Some, None, inl, inr, refl, ap, sym, ◌∙◌, subst, arith, append_assoc, add-one}
-use Rattle.std.specs.Prelude.{map}
+use Rattle.std.proofs.Common.{◌≡◌, ℕ, suc, ◌+◌, ◌-◌, ◌*◌, ◌/◌, ◌%◌, ◌<◌, ◌≤◌, ◌⊎◌, min, true, false, if◌then◌else◌, List, [], ◌∷◌, ◌++◌, inl, inr, refl, ap, sym, ◌∙◌, subst, arith, append_assoc}
 use Rattle.std.proofs.lemmas.List.{map-append}
-use Rattle.std.proofs.lemmas.Bool.{false≢true, cases_Bool, cases_lt, cases_eq, ne_eqb}
+use Rattle.std.proofs.lemmas.Bool.{false≢true, cases_lt, cases_eq, ne_eqb}
 use Rattle.std.proofs.lemmas.Bool.Decides.{nat_tests}
-use Rattle.pas_profile.specs.Profiles.{IsPage}
 use Rattle.pas_profile.specs.declared.profile.Profile.{Profile}
 use Rattle.pas_machine.specs.Runs.{in_run, meets_page}
 use Rattle.pas_bits.proofs.Runs.{run_of, to_run, run_below, run_above}
 use Rattle.pas_steps.specs.declared.step.Made.{Made}
-use Rattle.pas_steps.specs.Views.{View, holds, has_right, known_epoch, epoch_of, or_zero, is_unstamped, ends_on, EndedOn}
+use Rattle.pas_steps.specs.Views.{View, holds, has_right, known_epoch, epoch_of, or_zero, is_unstamped, ends_on}
 use Rattle.pas_steps.specs.Allowed.{IsEpochKnown}
-use Rattle.pas_steps.specs.Agreement.{Agreed}
 use Rattle.pas_steps.specs.Events.{events_by}
 use Rattle.pas_steps.proofs.Adding.{agreed_first, agreed_later}
 use Rattle.pas_steps.proofs.Frames.{events_append}

@@ -1,19 +1,18 @@
 -- One entry of a log.
-use Rattle.std.proofs.Common.{◌≡◌, ◌≢◌, ℕ, ◌+◌, ◌-◌, ◌*◌, ◌/◌, ◌^◌, ◌<◌, ◌≤◌, ◌==◌, ◌&&◌, max, Bool, true, false, if◌then◌else◌, List, [], ◌∷◌, ◌++◌, Option, Some, None, inl, inr, refl, ap, sym, ◌∙◌, subst, arith, append_assoc}
+use Rattle.std.proofs.Common.{◌≡◌, ◌≢◌, ℕ, ◌+◌, ◌*◌, ◌/◌, ◌<◌, ◌≤◌, ◌==◌, max, true, false, List, [], ◌∷◌, ◌++◌, inl, inr, refl, ap, sym, ◌∙◌, subst, arith, append_assoc}
 use Rattle.std.proofs.lemmas.List.{append-nil}
-use Rattle.std.proofs.lemmas.Bool.{false≢true, cases_Bool, false_from_ne_true, eq-eqb, ne_eqb, and_from}
+use Rattle.std.proofs.lemmas.Bool.{false≢true, cases_Bool, false_from_ne_true, eq-eqb, and_from}
 use Rattle.std.proofs.lemmas.Bool.Decides.{nat_tests}
 use Rattle.pas_profile.specs.Directories.{directory_read}
 use Rattle.pas_profile.specs.Lives.{live_word}
 use Rattle.pas_profile.specs.declared.name.Name.{Name}
 use Rattle.pas_profile.specs.declared.profile.Profile.{Profile}
 use Rattle.pas_profile.specs.declared.event.Event.{Event}
-use Rattle.pas_profile.specs.declared.event.Event.TheVariants as Event
 use Rattle.pas_machine.specs.Runs.{in_run, meets_page, grain_of}
 use Rattle.pas_bits.proofs.Runs.{to_run}
 use Rattle.pas_steps.specs.declared.step.Made.{Made}
 use Rattle.pas_steps.specs.declared.step.Step.TheVariants.{End}
-use Rattle.pas_steps.specs.Views.{View, Stays, Ends, held_after, holds, has_right, known_epoch, epoch_of, or_zero, is_unstamped, ends_on, EndedOn}
+use Rattle.pas_steps.specs.Views.{View, Stays, Ends, held_after, holds, has_right, known_epoch, epoch_of, or_zero, is_unstamped}
 use Rattle.pas_steps.specs.Allowed.{IsEpochKnown}
 use Rattle.pas_steps.specs.Agreement.{Agreed, AgreesEnd}
 use Rattle.pas_steps.specs.Events.{events_by, with_event, reason_of}
@@ -21,18 +20,17 @@ use Rattle.pas_steps.specs.Desks.{Standing, made, Adds}
 use Rattle.pas_steps.proofs.Adding.{agreed_first, agreed_later, adds_call}
 use Rattle.pas_steps.proofs.Frames.{events_append}
 use Rattle.pas_rights.specs.Rights.{OwesNothing}
-use Rattle.pas_free_log.specs.Conditions.{IsNameOf, KnowsEpoch, IsRun}
+use Rattle.pas_free_log.specs.Conditions.{IsNameOf, KnowsEpoch}
 use Rattle.pas_free_log.specs.Stamps.{stamps_by, pages_met, stamps_with}
 use Rattle.pas_free_log.specs.Frames.{StaysAt, PutsBack, Restores}
-use Rattle.pas_free_log.specs.Endings.{guess_by, is_of, Tries, EndSteps, EndsName}
+use Rattle.pas_free_log.specs.Endings.{guess_by, is_of, EndSteps, EndsName}
 use Rattle.pas_free_log.specs.Returns.{MayReturn, ReturnsRun}
-use Rattle.pas_free_log.specs.Flushes.{event_for, stamps_by_outcome, Settles}
-use Rattle.pas_free_log.specs.declared.ending.Outcome.{Outcome}
+use Rattle.pas_free_log.specs.Flushes.{event_for, Settles}
 use Rattle.pas_free_log.specs.declared.ending.Outcome.TheVariants.{Ended, Refused}
 use Rattle.pas_free_log.proofs.Staying.{holds_stays, stays_append, kinds_append}
 use Rattle.pas_free_log.proofs.Silent.{stamps_append}
 use Rattle.pas_free_log.proofs.Tries.{first_look}
-use Rattle.pas_free_log.proofs.Idle.{AreIdle, first_fails, second_fails, both_hold, failed_stays, failed_stamped, refusal, success, not_live, tries_idle}
+use Rattle.pas_free_log.proofs.Idle.{AreIdle, second_fails, both_hold, failed_stays, failed_stamped, refusal, success, not_live, tries_idle}
 
 -- the steps of an end: idle ones, and the last try
 abbrev pub ending : Name → ℕ → ℕ → List Made → List Made

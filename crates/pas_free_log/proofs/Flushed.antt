@@ -1,5 +1,5 @@
 -- All entries of a log.
-use Rattle.std.proofs.Common.{◌≡◌, ◌≢◌, ℕ, ◌+◌, ◌<◌, true, List, [], ◌∷◌, ◌++◌, Some, refl, ap, sym, ◌∙◌, subst, arith, append_assoc, take, get_or, length}
+use Rattle.std.proofs.Common.{◌≡◌, ℕ, ◌+◌, ◌<◌, List, [], ◌∷◌, ◌++◌, Some, refl, ap, sym, ◌∙◌, subst, append_assoc, take, get_or, length}
 use Rattle.std.specs.Prelude.{map, reverse}
 use Rattle.std.specs.List.{flat_map}
 use Rattle.std.proofs.lemmas.List.{append-nil, reverse-append, take_more}
@@ -8,22 +8,21 @@ use Rattle.pas_profile.specs.declared.profile.Profile.{Profile}
 use Rattle.pas_profile.specs.declared.word.Word.TheVariants as Word
 use Rattle.pas_steps.specs.declared.step.Made.{Made}
 use Rattle.pas_steps.specs.declared.step.Step.TheVariants.{Look}
-use Rattle.pas_steps.specs.Views.{View, holds, has_right, knows_backed, known_deed, known_epoch, epoch_of, or_zero, is_unstamped}
+use Rattle.pas_steps.specs.Views.{View, holds, has_right, known_epoch, epoch_of, or_zero, is_unstamped}
 use Rattle.pas_steps.specs.Allowed.{IsEpochKnown}
 use Rattle.pas_steps.specs.Agreement.{Agreed}
 use Rattle.pas_steps.specs.Events.{events_by}
-use Rattle.pas_steps.specs.Lists.{Whole}
-use Rattle.pas_steps.specs.Desks.{Standing, made, triples, Adds}
-use Rattle.pas_steps.proofs.Adding.{agreed_first, agreed_later, adds_call}
+use Rattle.pas_steps.specs.Desks.{Standing, made, Adds}
+use Rattle.pas_steps.proofs.Adding.{agreed_first, agreed_later}
 use Rattle.pas_steps.proofs.Frames.{events_append}
 use Rattle.pas_steps.proofs.Kept.{deed_stays}
 use Rattle.pas_steps.proofs.Backed.{backed_stays}
 use Rattle.pas_rights.specs.Rights.{OwesNothing}
 use Rattle.pas_free_log.specs.Conditions.{KnowsEpoch, IsClear}
 use Rattle.pas_free_log.specs.Stamps.{stamps_by}
-use Rattle.pas_free_log.specs.Frames.{StaysAt, Restores}
-use Rattle.pas_free_log.specs.Flushes.{Settled, event_for, shown_for, stamps_by_outcome, stamps_for, EntriesSteps, Settles, Flushes}
-use Rattle.pas_free_log.proofs.Staying.{holds_stays, stays_append, kinds_append}
+use Rattle.pas_free_log.specs.Frames.{Restores}
+use Rattle.pas_free_log.specs.Flushes.{Settled, event_for, shown_for, stamps_by_outcome, stamps_for, EntriesSteps, Flushes}
+use Rattle.pas_free_log.proofs.Staying.{stays_append, kinds_append}
 use Rattle.pas_free_log.proofs.Silent.{stamps_append}
 
 -- ---- steps that restore what was, one after the other

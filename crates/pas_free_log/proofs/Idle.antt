@@ -1,16 +1,14 @@
 -- Tries that change nothing, and a try that ends the block.
-use Rattle.std.proofs.Common.{◌≡◌, ◌≢◌, ℕ, ◌+◌, ◌/◌, ◌-◌, ◌^◌, ◌<◌, ◌==◌, ◌&&◌, Bool, true, false, if◌then◌else◌, List, [], ◌∷◌, ◌++◌, Option, Some, None, inl, inr, refl, ap, sym, ◌∙◌, subst, arith}
+use Rattle.std.proofs.Common.{◌≡◌, ◌≢◌, ℕ, ◌-◌, ◌^◌, ◌<◌, ◌==◌, ◌&&◌, Bool, true, false, if◌then◌else◌, List, [], ◌∷◌, ◌++◌, Some, None, inl, inr, refl, ap, sym, ◌∙◌, subst, arith}
 use Rattle.std.proofs.lemmas.Bool.{false≢true, eq-eqb, ne_eqb, and_from}
 use Rattle.pas_profile.specs.Lives.{live_word, is_live, turn_of}
 use Rattle.pas_profile.specs.declared.name.Name.{Name}
 use Rattle.pas_profile.specs.declared.event.Event.{Event}
-use Rattle.pas_profile.specs.declared.event.Event.TheVariants as Event
-use Rattle.pas_profile.specs.declared.word.Word.TheVariants as Word
 use Rattle.pas_profile.proofs.Codecs.{is_live-live_word, turn_of-live_word}
-use Rattle.pas_machine.specs.Runs.{in_run, meets_page, address_of, grain_of}
+use Rattle.pas_machine.specs.Runs.{in_run, meets_page, grain_of}
 use Rattle.pas_steps.specs.declared.step.Made.{Made}
-use Rattle.pas_steps.specs.declared.step.Step.TheVariants.{Look, End}
-use Rattle.pas_steps.specs.Views.{View, Stays, Ends, held_after, holds, has_right, known_epoch, or_zero, is_unstamped, owes_check, owes_hint}
+use Rattle.pas_steps.specs.declared.step.Step.TheVariants.{End}
+use Rattle.pas_steps.specs.Views.{View, Stays, Ends, has_right, known_epoch, or_zero, is_unstamped, owes_check, owes_hint}
 use Rattle.pas_steps.specs.Events.{events_by, with_event, end_event, reason_of}
 use Rattle.pas_steps.specs.Desks.{made}
 use Rattle.pas_free_log.specs.Endings.{is_of, Tries}

@@ -1,21 +1,20 @@
 -- The steps for the grains of one page.
-use Rattle.std.proofs.Common.{◌≡◌, ◌≢◌, ℕ, ◌+◌, ◌-◌, ◌*◌, ◌/◌, ◌%◌, ◌^◌, ◌<◌, ◌≤◌, ◌==◌, ◌⊎◌, ◌&&◌, Bool, true, false, if◌then◌else◌, List, [], ◌∷◌, ◌++◌, Option, Some, None, inl, inr, refl, ap, sym, ◌∙◌, subst, arith, append_assoc}
-use Rattle.std.proofs.lemmas.Bool.{false≢true, cases_Bool, cases_eq, eqb-true, eq-eqb, ne_eqb, and_parts, and_from}
+use Rattle.std.proofs.Common.{◌≡◌, ℕ, ◌+◌, ◌-◌, ◌/◌, ◌%◌, ◌≤◌, true, false, if◌then◌else◌, List, [], ◌∷◌, ◌++◌, Option, Some, inl, inr, refl, ap, sym, ◌∙◌, subst, arith, append_assoc}
+use Rattle.std.proofs.lemmas.Bool.{cases_eq, ne_eqb}
 use Rattle.std.proofs.lemmas.Bool.Decides.{nat_tests}
-use Rattle.pas_profile.specs.Directories.{IsDirectory, deed_word_of, directory_read}
-use Rattle.pas_profile.specs.Profiles.{IsValid, IsDirectoryOf, IsPage}
+use Rattle.pas_profile.specs.Directories.{deed_word_of, directory_read}
+use Rattle.pas_profile.specs.Profiles.{IsValid, IsDirectoryOf}
 use Rattle.pas_profile.specs.declared.directory.Directory.{Directory}
 use Rattle.pas_profile.specs.declared.profile.Profile.{Profile}
 use Rattle.pas_profile.specs.declared.word.Word.TheVariants as Word
 use Rattle.pas_profile.proofs.Codecs.{read-deed_word_of, directory_from_profile}
-use Rattle.pas_machine.specs.Runs.{in_run, meets_page}
+use Rattle.pas_machine.specs.Runs.{in_run}
 use Rattle.pas_bits.proofs.Runs.{run_of, to_run}
 use Rattle.pas_steps.specs.declared.step.Made.{Made}
 use Rattle.pas_steps.specs.declared.step.Step.TheVariants.{Look, Stamp}
-use Rattle.pas_steps.specs.Views.{View, holds, has_right, known_deed, known_epoch, epoch_of, or_zero, is_unstamped, EndedOn}
+use Rattle.pas_steps.specs.Views.{View, holds, has_right, known_deed, known_epoch, epoch_of, is_unstamped}
 use Rattle.pas_steps.specs.Allowed.{HoldsOn, IsEpochKnown}
 use Rattle.pas_steps.specs.Agreement.{Agreed, AgreesDeed}
-use Rattle.pas_steps.specs.Past.{Always}
 use Rattle.pas_steps.specs.Frames.{IsOnPage, OnlyOn, OnlyReturns}
 use Rattle.pas_steps.specs.Desks.{Standing, made, Makes, Adds}
 use Rattle.pas_steps.proofs.Adding.{agreed_first, adds_none, adds_step, adds_call}
@@ -24,12 +23,12 @@ use Rattle.pas_steps.proofs.Kept.{right_on, check_on, hint_on, unstamped_on, ret
 use Rattle.pas_rights.specs.Rights.{KnowsDeed, OwesNothing, Returned}
 use Rattle.pas_rights.proofs.Orders.{same_page, ends}
 use Rattle.pas_free_log.specs.Conditions.{IsRunOnPage}
-use Rattle.pas_free_log.specs.Stamps.{stamps_by, page_count, pages_from, pages_met, stamps_with}
+use Rattle.pas_free_log.specs.Stamps.{page_count, pages_from, pages_met, stamps_with}
 use Rattle.pas_free_log.specs.Frames.{PutsBack}
-use Rattle.pas_free_log.specs.Returns.{PutSteps, MayPutRun, PutsRun, MayReturn, PageSteps, ReturnsPage}
+use Rattle.pas_free_log.specs.Returns.{PutSteps, MayPutRun, PutsRun, MayReturn, ReturnsPage}
 use Rattle.pas_free_log.proofs.Staying.{stays_append, kinds_append, still_stays}
 use Rattle.pas_free_log.proofs.Masks.{puts_grains}
-use Rattle.pas_free_log.proofs.Silent.{silent_append, silent_kinds, silent_events, silent_stamps, returns_silent, puts_silent, puts_deed, puts_epoch}
+use Rattle.pas_free_log.proofs.Silent.{silent_kinds, silent_events, silent_stamps, returns_silent, puts_silent, puts_deed, puts_epoch}
 
 -- ---- the steps, on a view
 abbrev pub stamping : ℕ → ℕ → ℕ → List Made

@@ -1,13 +1,12 @@
 -- Steps that make no event and stamp no page, and steps on grains.
 use Rattle.std.proofs.Common.{◌≡◌, ℕ, List, [], ◌∷◌, ◌++◌, Option, None, refl, ap, ◌∙◌, append_assoc}
-use Rattle.pas_profile.specs.declared.event.Event.{Event}
 use Rattle.pas_steps.specs.declared.step.Made.{Made}
 use Rattle.pas_steps.specs.declared.step.Step.{Step}
 use Rattle.pas_steps.specs.declared.step.Step.TheVariants.{Look, Deed, Back, Take, Put, Give, End, TakeRight, Offer, Park, Unpark, Stamp, Hint}
 use Rattle.pas_steps.specs.Views.{View, known_deed, deed_after, known_epoch, epoch_after, epoch_of}
 use Rattle.pas_steps.specs.Events.{event_of, with_event, events_by}
 use Rattle.pas_steps.specs.Past.{Always}
-use Rattle.pas_steps.specs.Frames.{IsGrains, OnlyGrains, IsReturn, OnlyReturns}
+use Rattle.pas_steps.specs.Frames.{IsReturn, OnlyReturns}
 use Rattle.pas_steps.proofs.Past.{always_both}
 use Rattle.pas_free_log.specs.Stamps.{stamped_by, stamps_by}
 use Rattle.pas_free_log.specs.Frames.{IsFreeing, AreFreeing}

@@ -1,12 +1,10 @@
 -- The end of one name: the tries, and what the last one came to.
-use Rattle.std.proofs.Common.{◌≡◌, ◌≢◌, ℕ, ◌+◌, ◌-◌, ◌*◌, ◌/◌, ◌%◌, ◌^◌, ◌<◌, ◌≤◌, ◌==◌, ◌⊎◌, ◌&&◌, Bool, true, false, List, [], ◌∷◌, ◌++◌, Option, Some, None, inl, inr, refl, ap, sym, ◌∙◌, subst, arith}
-use Rattle.std.proofs.lemmas.Bool.{false≢true, cases_Bool, eqb-true, eq-eqb, ne_eqb, and_parts, and_from}
-use Rattle.pas_profile.specs.Classes.{IsClass, class_grains}
+use Rattle.std.proofs.Common.{◌≡◌, ◌≢◌, ℕ, ◌*◌, ◌/◌, ◌^◌, ◌<◌, ◌≤◌, ◌==◌, ◌&&◌, Bool, true, false, List, [], ◌∷◌, ◌++◌, Option, Some, None, inl, inr, refl, ap, sym, ◌∙◌, subst, arith}
+use Rattle.std.proofs.lemmas.Bool.{cases_Bool, eqb-true, eq-eqb, ne_eqb, and_parts, and_from}
 use Rattle.pas_profile.specs.Directories.{IsKind, directory_read}
 use Rattle.pas_profile.specs.Lives.{live_word, is_live, turn_of, grains_of}
 use Rattle.pas_profile.specs.declared.directory.Directory.{Directory}
 use Rattle.pas_profile.specs.declared.directory.Kind.{Kind}
-use Rattle.pas_profile.specs.declared.directory.Kind.TheVariants as Kind
 use Rattle.pas_profile.specs.declared.name.Name.{Name}
 use Rattle.pas_profile.specs.declared.profile.Profile.{Profile}
 use Rattle.pas_profile.specs.declared.word.Word.TheVariants as Word
@@ -15,16 +13,14 @@ use Rattle.pas_profile.proofs.Codecs.{read_is, is_live-live_word, turn_of-live_w
 use Rattle.pas_machine.specs.Runs.{address_of, grain_of}
 use Rattle.pas_steps.specs.declared.step.Made.{Made}
 use Rattle.pas_steps.specs.declared.step.Step.TheVariants.{Look, End}
-use Rattle.pas_steps.specs.Views.{View, known_epoch, ReadLive}
+use Rattle.pas_steps.specs.Views.{View, known_epoch}
 use Rattle.pas_steps.specs.Allowed.{IsStepOf, IsEpochKnown}
 use Rattle.pas_steps.specs.Agreement.{AgreesLife, AgreesEnd}
-use Rattle.pas_steps.specs.Lists.{Whole}
 use Rattle.pas_steps.specs.Desks.{Standing, made, Makes, CanMake, CanCall, Adds}
 use Rattle.pas_steps.proofs.Adding.{adds_none, adds_step, can_step}
 use Rattle.pas_free_log.specs.Conditions.{IsNameOf, KnowsEpoch, IsRun}
-use Rattle.pas_free_log.specs.Endings.{guess_by, guess_by_kind, is_of, Tries, IsEndOf, EndSteps, IsOfRegion, EndsName}
+use Rattle.pas_free_log.specs.Endings.{guess_by, guess_by_kind, is_of, Tries, IsEndOf, IsOfRegion, EndsName}
 use Rattle.pas_free_log.specs.declared.ending.Outcome.{Outcome}
-use Rattle.pas_free_log.specs.declared.ending.Outcome.TheVariants.{Ended, Refused}
 
 -- ---- guesses
 abbrev pub IsLength : ℕ → Type 0

@@ -6,7 +6,6 @@ use Rattle.pas_profile.specs.Lives.{live_word, is_live, turn_of, grains_of}
 use Rattle.pas_profile.specs.declared.profile.Profile.{Profile}
 use Rattle.pas_profile.specs.declared.directory.Directory.{Directory}
 use Rattle.pas_profile.specs.declared.directory.Kind.{Kind}
-use Rattle.pas_profile.specs.declared.directory.Kind.TheVariants as Kind
 use Rattle.pas_profile.specs.declared.name.Name.{Name}
 use Rattle.pas_profile.specs.declared.word.Word.TheVariants as Word
 use Rattle.pas_machine.specs.Runs.{address_of, grain_of}

@@ -1,11 +1,9 @@
 -- The flush of a log.
 use Rattle.std.specs.Prelude.{ℕ, ◌≡◌, ◌≢◌, true, List, [], ◌∷◌, ◌++◌, map, reverse, Some}
 use Rattle.std.specs.List.{flat_map}
-use Rattle.pas_profile.specs.declared.profile.Profile.{Profile}
 use Rattle.pas_profile.specs.declared.name.Name.{Name}
 use Rattle.pas_profile.specs.declared.word.Word.TheVariants as Word
 use Rattle.pas_profile.specs.declared.event.Event.{Event}
-use Rattle.pas_profile.specs.declared.event.Event.TheVariants as Event
 use Rattle.pas_machine.specs.Runs.{grain_of}
 use Rattle.pas_steps.specs.Views.{View, holds, has_right, known_deed, knows_backed, known_epoch, epoch_of}
 use Rattle.pas_steps.specs.Events.{reason_of, events_by}

@@ -1,5 +1,5 @@
 -- What steps leave as it was, said of every view from which they may have been made.
-use Rattle.std.specs.Prelude.{ℕ, ◌/◌, ◌≡◌, Bool, true, false, List, [], ◌∷◌, ◌++◌}
+use Rattle.std.specs.Prelude.{ℕ, ◌/◌, ◌≡◌, true, false, List, [], ◌++◌}
 use Rattle.pas_profile.specs.declared.profile.Profile.{Profile}
 use Rattle.pas_machine.specs.Runs.{in_run}
 use Rattle.pas_steps.specs.Views.{View, Stays, grain_move, holds, has_right, known_epoch, epoch_of, is_unstamped}

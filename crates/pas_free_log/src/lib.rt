@@ -6,7 +6,8 @@ mod flushing;
 mod log;
 mod putting;
 mod returning;
+#[cfg(test)]
+mod tests;
 
-pub use ending::Outcome;
 pub use flushing::flush;
 pub use log::FreeLog;

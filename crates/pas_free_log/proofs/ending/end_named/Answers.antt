@@ -1,9 +1,8 @@
-use Rattle.std.proofs.Common.{◌≡◌, ◌≤◌, ◌<◌, ◌*◌, ℕ, [], ◌∷◌, ◌++◌, refl, ap, sym, ◌∙◌, inl, inr, subst, arith, true}
-use Rattle.pas_profile.specs.Lives.{is_live, turn_of, grains_of}
+use Rattle.std.proofs.Common.{[], ◌∷◌, ◌++◌, refl, sym, ◌∙◌, inl, arith}
 use Rattle.pas_steps.specs.declared.step.Step.TheVariants.{End}
 use Rattle.pas_steps.specs.Desks.{made}
 use Rattle.pas_free_log.specs.declared.ending.Outcome.TheVariants.{Ended, Refused}
-use Rattle.pas_free_log.proofs.Tries.{guess_length, looked, tried, ends_by, ended_run, dead_is_none, other_is_none, is_of_name, gone_since, ended_again, again, first_look}
+use Rattle.pas_free_log.proofs.Tries.{guess_length, looked, tried, ends_by, ended_run, gone_since, ended_again, again, first_look}
 use Rattle.pas_free_log.proofs.ending.end_named.Goals as goal
 
 pub life_word-requires-clause-grains : goal.life_word-requires-clause-grains

@@ -1,4 +1,4 @@
-use Rattle.std.proofs.Common.{◌≡◌, List, length, ap, sym, subst}
+use Rattle.std.proofs.Common.{List, length, ap, sym, subst}
 use Rattle.pas_profile.specs.declared.event.Event.{Event}
 use Rattle.pas_machine.specs.Runs.{grain_of}
 use Rattle.pas_steps.proofs.Adding.{can_call}

@@ -1,8 +1,6 @@
-use Rattle.std.proofs.Common.{◌≡◌, ℕ, ◌+◌, ◌*◌, ◌/◌, ◌%◌, ◌≤◌, ◌⊎◌, List, [], ◌∷◌, length, slice_index, ap, sym, ◌∙◌, subst, inl, inr, refl, arith}
+use Rattle.std.proofs.Common.{◌+◌, ◌*◌, ◌/◌, ◌%◌, [], ◌∷◌, slice_index, ap, sym, ◌∙◌, subst, refl, arith}
 use Rattle.pas_profile.specs.Classes.{has_bit}
-use Rattle.pas_machine.specs.Runs.{in_run}
 use Rattle.pas_bits.proofs.Words.{at_word}
-use Rattle.pas_steps.specs.declared.step.Made.{Made}
 use Rattle.pas_steps.specs.declared.step.Step.TheVariants.{Put}
 use Rattle.pas_steps.specs.Desks.{Adds, made}
 use Rattle.pas_steps.proofs.Adding.{adds_none, adds_step, can_step}

@@ -1,4 +1,4 @@
-use Rattle.std.proofs.Common.{◌≡◌, ℕ, ◌≤◌, ◌/◌, List, length}
+use Rattle.std.proofs.Common.{◌≡◌, ◌≤◌, ◌/◌, List, length}
 use Rattle.pas_steps.specs.declared.step.Made.{Made}
 use Rattle.pas_steps.specs.Desks.{Adds}
 use Rattle.pas_free_log.specs.Returns.{MayPutRun, OnlyPuts}

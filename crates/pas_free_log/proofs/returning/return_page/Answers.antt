@@ -1,7 +1,5 @@
-use Rattle.std.proofs.Common.{◌≡◌, ◌/◌, ◌++◌, Some, Option, sym, ◌∙◌, subst}
-use Rattle.pas_profile.specs.Directories.{deed_word_of}
+use Rattle.std.proofs.Common.{sym, ◌∙◌, subst}
 use Rattle.pas_profile.specs.Profiles.{IsDirectoryOf}
-use Rattle.pas_profile.specs.declared.directory.Directory.{Directory}
 use Rattle.pas_steps.proofs.Adding.{can_call}
 use Rattle.pas_free_log.specs.Returns.{MayReturn}
 use Rattle.pas_free_log.proofs.Pages.{read_here, directory_told, directory_is, put_so, knows_so, page_returned}
