@@ -2,6 +2,8 @@
 #![tactic(auto)]
 
 pub mod holding;
+#[cfg(test)]
+mod log_tests;
 pub mod seats;
 #[cfg(test)]
 mod tests;
