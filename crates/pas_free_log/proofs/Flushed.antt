@@ -17,8 +17,8 @@ use Rattle.pas_steps.proofs.Adding.{agreed_first, agreed_later}
 use Rattle.pas_steps.proofs.Frames.{events_append}
 use Rattle.pas_steps.proofs.Kept.{deed_stays}
 use Rattle.pas_steps.proofs.Backed.{backed_stays}
-use Rattle.pas_rights.specs.Rights.{OwesNothing}
-use Rattle.pas_free_log.specs.Conditions.{KnowsEpoch, IsClear}
+use Rattle.pas_rights.specs.Rights.{OwesNothing, IsClear}
+use Rattle.pas_free_log.specs.Conditions.{KnowsEpoch}
 use Rattle.pas_free_log.specs.Stamps.{stamps_by}
 use Rattle.pas_free_log.specs.Frames.{Restores}
 use Rattle.pas_free_log.specs.Flushes.{Settled, event_for, shown_for, stamps_by_outcome, stamps_for, EntriesSteps, Flushes}

@@ -4,9 +4,8 @@ use Rattle.pas_profile.specs.Profiles.{IsPage}
 use Rattle.pas_profile.specs.declared.profile.Profile.{Profile}
 use Rattle.pas_profile.specs.declared.name.Name.{Name}
 use Rattle.pas_machine.specs.Runs.{address_of}
-use Rattle.pas_steps.specs.Views.{View, known_epoch, is_unstamped}
+use Rattle.pas_steps.specs.Views.{View, known_epoch}
 use Rattle.pas_steps.specs.Allowed.{IsEpochKnown}
-use Rattle.pas_rights.specs.Rights.{OwesNothing}
 
 -- The end of this name may be tried: its address is a multiple of 16 on a page of the region, and its turn has a next one.
 pub record IsNameOf (f : Profile) (name : Name) : Type 0 where
@@ -17,11 +16,6 @@ pub record IsNameOf (f : Profile) (name : Name) : Type 0 where
 -- the actor read the epoch
 abbrev pub KnowsEpoch : View → Type 0
 KnowsEpoch v = IsEpochKnown (known_epoch v)
-
--- The actor is clear: no page is unstamped for it, and it owes no check and no hint.
-pub record IsClear (v : View) : Type 0 where
-  pub stamped : (page : ℕ) → is_unstamped v page ≡ false
-  pub owes : (page : ℕ) → OwesNothing page v
 
 -- a run of some grains of the region
 pub record IsRun (f : Profile) (g n : ℕ) : Type 0 where
