@@ -25,7 +25,7 @@ use Rattle.pas_free_log.specs.Stamps.{stamps_by, pages_met, stamps_with}
 use Rattle.pas_free_log.specs.Frames.{StaysAt, PutsBack, Restores}
 use Rattle.pas_free_log.specs.Endings.{guess_by, is_of, EndSteps, EndsName}
 use Rattle.pas_free_log.specs.Returns.{MayReturn, ReturnsRun}
-use Rattle.pas_free_log.specs.Flushes.{event_for, Settles}
+use Rattle.pas_free_log.specs.Flushes.{event_for, EndsEntry}
 use Rattle.pas_free_log.specs.declared.ending.Outcome.TheVariants.{Ended, Refused}
 use Rattle.pas_free_log.proofs.Staying.{holds_stays, stays_append, kinds_append}
 use Rattle.pas_free_log.proofs.Silent.{stamps_append}
@@ -56,8 +56,8 @@ refused_event k name guess a read pre v idle ne is same =
     ap (λ o. with_event o (events_by k v pre)) (refusal k (epoch_of (pre ++ v)) name guess a ne is)
     ∙ ap (λ es. Event.Reject k name (reason_of name a) ∷ es) (idle.events k v) ∙ ap (λ n. Event.Reject k name (reason_of name n) ∷ []) (sym same)
 
-pub settled_refused : {σ σ1 : Standing} (name : Name) (read : ℕ) → IsNameOf σ.seat.profile name → EndsName name σ σ1 (Refused read) → Settles name σ σ1
-settled_refused {σ} {σ1} name read named e =
+pub entry_refused : {σ σ1 : Standing} (name : Name) (read : ℕ) → IsNameOf σ.seat.profile name → EndsName name σ σ1 (Refused read) → EndsEntry name σ σ1
+entry_refused {σ} {σ1} name read named e =
     let o = e.order in
     let pre = o.before ++ first_look name o.deed in
     let steps : List Made = ending name o.guess o.answer pre in
@@ -166,8 +166,8 @@ is_ended {σ} {σ1} name grains e = let o = e.order in record {
 pub may_now : {σ σ1 : Standing} (name : Name) (grains : ℕ) (e : IsEnded name grains σ σ1) (v : View) → KnowsEpoch v → MayReturn (grain_of name) grains (ending name e.guess e.answer e.pre ++ v)
 may_now name grains e v knows = subst (λ n. MayReturn (grain_of name) n (ending name e.guess e.answer e.pre ++ v)) (sym e.length_is) (may_return name e.guess e.answer e.pre v e.idle e.live knows)
 
-pub settled_ended : {σ σ1 σ2 : Standing} (name : Name) (grains : ℕ) → IsEnded name grains σ σ1 → ReturnsRun (grain_of name) grains σ1 σ2 → Settles name σ σ2
-settled_ended {σ} {σ1} {σ2} name grains e r =
+pub entry_ended : {σ σ1 σ2 : Standing} (name : Name) (grains : ℕ) → IsEnded name grains σ σ1 → ReturnsRun (grain_of name) grains σ1 σ2 → EndsEntry name σ σ2
+entry_ended {σ} {σ1} {σ2} name grains e r =
     let ends : List Made = ending name e.guess e.answer e.pre in
     let back : PutsBack σ.seat.profile (grain_of name) e.guess r.steps = subst (λ s. PutsBack s.profile (grain_of name) e.guess r.steps) e.adds.seat_is (subst (λ n. PutsBack σ1.seat.profile (grain_of name) n r.steps) e.length_is r.back) in
     record {

@@ -75,8 +75,8 @@ names_more settled entry names i d lt is before =
 pub epoch_after_entries : (f : Profile) (epoch : ℕ) (entries : List Made) (v : View) → Restores f entries → known_epoch (entries ++ (made (Look Word.Epoch) epoch ∷ []) ++ v) ≡ Some epoch
 epoch_after_entries f epoch entries v a = ap known_epoch (append_assoc entries (made (Look Word.Epoch) epoch ∷ []) v) ∙ a.epoch (made (Look Word.Epoch) epoch ∷ v)
 
-pub may_settle : (f : Profile) (epoch : ℕ) (entries : List Made) (v : View) → Restores f entries → KnowsEpoch (entries ++ (made (Look Word.Epoch) epoch ∷ []) ++ v)
-may_settle f epoch entries v a = subst IsEpochKnown (sym (epoch_after_entries f epoch entries v a)) tt
+pub may_end_entry : (f : Profile) (epoch : ℕ) (entries : List Made) (v : View) → Restores f entries → KnowsEpoch (entries ++ (made (Look Word.Epoch) epoch ∷ []) ++ v)
+may_end_entry f epoch entries v a = subst IsEpochKnown (sym (epoch_after_entries f epoch entries v a)) tt
 
 -- ---- the whole flush
 agreed_entries : (f : Profile) (epoch : ℕ) (entries : List Made) (v : View) → Agreed f v (entries ++ made (Look Word.Epoch) epoch ∷ []) → Agreed f (made (Look Word.Epoch) epoch ∷ v) entries

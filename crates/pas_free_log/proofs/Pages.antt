@@ -16,7 +16,7 @@ use Rattle.pas_steps.specs.Views.{View, holds, has_right, known_deed, known_epoc
 use Rattle.pas_steps.specs.Allowed.{HoldsOn, IsEpochKnown}
 use Rattle.pas_steps.specs.Agreement.{Agreed, AgreesDeed}
 use Rattle.pas_steps.specs.Frames.{IsOnPage, OnlyOn, OnlyReturns}
-use Rattle.pas_steps.specs.Desks.{Standing, made, Makes, Adds}
+use Rattle.pas_steps.specs.Desks.{Standing, made, Makes, CanCall, Adds}
 use Rattle.pas_steps.proofs.Adding.{agreed_first, adds_none, adds_step, adds_call}
 use Rattle.pas_steps.proofs.Past.{always_both}
 use Rattle.pas_steps.proofs.Kept.{right_on, check_on, hint_on, unstamped_on, returns_on, grains_on, right_grains, returns_still, holds_still, epoch_still, unstamped_still}
@@ -124,6 +124,12 @@ some_is a b e = cc
 
 pub directory_is : (f : Profile) (deed : ℕ) (r : Option Directory) (d : Directory) → ((d : Directory) × (r ≡ Some d) × (deed ≡ deed_word_of d) × IsDirectoryOf f d) → r ≡ Some d → (deed ≡ deed_word_of d) × IsDirectoryOf f d
 directory_is f deed r d told is = let same : told.0 ≡ d = some_is told.0 d (sym told.1 ∙ is) in (told.2 ∙ ap deed_word_of same, subst (IsDirectoryOf f) same told.3)
+
+-- the directory of a page on which the actor ended a block
+pub page_directory : {σ σ1 : Standing} (g n deed : ℕ) (r : Option Directory) → IsValid σ.seat.profile → 1 ≤ n → CanCall σ (λ v l. MayReturn g n v) → Makes σ σ1 (Look (Word.Deed (g / 256))) deed → r ≡ directory_read deed
+    → (d : Directory) × (r ≡ Some d) × (deed ≡ deed_word_of d) × IsDirectoryOf σ.seat.profile d
+page_directory {σ} {σ1} g n deed r valid some can look read =
+    directory_told σ.seat.profile deed r valid read (read_here σ.seat.profile can.view g n deed some can.met (look.agrees can.view can.whole can.stood tt))
 
 pub stamped_so : {σ σ1 σ2 : Standing} (g n deed stamped : ℕ) → 1 ≤ n → Makes σ σ1 (Look (Word.Deed (g / 256))) deed → Makes σ1 σ2 (Stamp (g / 256)) stamped → Adds σ σ2 (λ v l. MayReturn g n v) (stamping (g / 256) deed stamped)
 stamped_so g n deed stamped some look stamp = adds_step (adds_step adds_none look (λ v l stood met. tt)) stamp (λ v l stood met. may_stamp g n deed v some met)

@@ -48,18 +48,18 @@ AfterEnd name (Ended grains) steps = RunSteps (grain_of name) grains steps
 AfterEnd name (Refused read) steps = steps ≡ []
 
 -- the steps for one entry
-pub record SettleSteps (entry : Settled) (steps : List Made) : Type 0 where
+pub record EntrySteps (entry : Settled) (steps : List Made) : Type 0 where
   pub ends : List Made
   pub order : EndSteps entry.name entry.outcome ends
   pub after : List Made
   pub returns : AfterEnd entry.name entry.outcome after
   pub steps_are : steps ≡ after ++ ends
 
-pub record Settles (name : Name) (desk desk' : Standing) : Type 0 where
+pub record EndsEntry (name : Name) (desk desk' : Standing) : Type 0 where
   pub outcome : Outcome
   pub steps : List Made
   pub adds : Adds desk desk' (λ v l. KnowsEpoch v) steps
-  pub order : SettleSteps record { name = name; outcome = outcome } steps
+  pub order : EntrySteps record { name = name; outcome = outcome } steps
   pub restores : Restores desk.seat.profile steps
   pub event : (v : View) → events_by desk.seat.actor v steps ≡ event_for desk.seat.actor (epoch_of v) name outcome ∷ []
   pub stamps : (v : View) → stamps_by v steps ≡ stamps_by_outcome (epoch_of v) name outcome
@@ -68,7 +68,7 @@ pub record Settles (name : Name) (desk desk' : Standing) : Type 0 where
 -- the steps for the entries, the newest first
 abbrev pub EntriesSteps : List Settled → List Made → Type 0
 EntriesSteps [] steps = steps ≡ []
-EntriesSteps (entry ∷ earlier) steps = (piece : List Made) × (before : List Made) × SettleSteps entry piece × EntriesSteps earlier before × (steps ≡ piece ++ before)
+EntriesSteps (entry ∷ earlier) steps = (piece : List Made) × (before : List Made) × EntrySteps entry piece × EntriesSteps earlier before × (steps ≡ piece ++ before)
 
 -- A flush of these names: a look at the epoch, and then the steps for each name in order. `settled` has what came of each, the newest first.
 -- Each makes one event, with the epoch that was read; each page of each block that ended is stamped once with it, and no other page.

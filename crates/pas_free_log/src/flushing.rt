@@ -4,7 +4,7 @@ ghost use Rattle.pas_steps.specs.Desks.{CanCall};
 ghost use Rattle.pas_free_log.specs.Logs.{names_in};
 ghost use Rattle.pas_rights.specs.Rights.{IsClear};
 ghost use Rattle.pas_free_log.specs.Conditions.{IsNameOf, KnowsEpoch};
-ghost use Rattle.pas_free_log.specs.Flushes.{Settles, Flushes};
+ghost use Rattle.pas_free_log.specs.Flushes.{EndsEntry, Flushes};
 
 use crate::ending::{Outcome, end_named};
 use crate::log::FreeLog;
@@ -13,11 +13,11 @@ use pas_profile::{Name, Word};
 use pas_steps::Desk;
 
 /// Ends the block of this name, and stamps its pages and puts its grains back where it ended. One event.
-fn settle<D: Desk>(desk: &mut D, name: Name)
+fn end_entry<D: Desk>(desk: &mut D, name: Name)
     requires name { IsNameOf (D.standing desk.old).seat.profile name }
     requires room { 1 ≤ D.spare_of desk.old }
     requires can { CanCall (D.standing desk.old) (λ v l. KnowsEpoch v) }
-    ensures settles { Settles name (D.standing desk.old) (D.standing desk.new) }
+    ensures ends { EndsEntry name (D.standing desk.old) (D.standing desk.new) }
     ensures spare { D.spare_of desk.new + 1 ≡ D.spare_of desk.old }
     ensures home { D.home desk.new ≡ D.home desk.old }
 {
@@ -44,7 +44,7 @@ pub fn flush<D: Desk>(desk: &mut D, log: &mut FreeLog)
     desk.look(Word::Epoch);
     let names = log.as_slice();
     for name in names {
-        settle(desk, *name);
+        end_entry(desk, *name);
     }
     log.clear();
 }

@@ -11,7 +11,7 @@ use Rattle.pas_free_log.specs.Logs.{names_in}
 use Rattle.pas_rights.specs.Rights.{IsClear}
 use Rattle.pas_free_log.specs.Frames.{Restores}
 use Rattle.pas_free_log.specs.Flushes.{Settled, event_for}
-use Rattle.pas_free_log.proofs.Flushed.{restores_none, restores_append, events_more, stamps_more, names_more, may_settle, flushed}
+use Rattle.pas_free_log.proofs.Flushed.{restores_none, restores_append, events_more, stamps_more, names_more, may_end_entry, flushed}
 use Rattle.pas_free_log.proofs.Spares.{spare_falls}
 use Rattle.pas_free_log.proofs.flushing.flush.Goals as goal
 
@@ -33,34 +33,34 @@ loop-name-init g c =
       home = c.look.ensures.home;
     }
 
-pub settle-requires-clause-can : goal.settle-requires-clause-can
-settle-requires-clause-can g c =
+pub end_entry-requires-clause-can : goal.end_entry-requires-clause-can
+end_entry-requires-clause-can g c =
     let i = c.loop-name.invariant in
-    can_call {C = λ v l. IsClear v} i.adds c.requires.can (λ v l stood met. may_settle (g.D.Desk.standing c.args.desk.now).seat.profile i.epoch i.entries v i.restores)
+    can_call {C = λ v l. IsClear v} i.adds c.requires.can (λ v l stood met. may_end_entry (g.D.Desk.standing c.args.desk.now).seat.profile i.epoch i.entries v i.restores)
 
 pub loop-name-preserved : goal.loop-name-preserved
 loop-name-preserved g c =
-    let D = g.D.Desk in let i = c.loop-name.invariant in let s = c.settle.ensures.settles in let σ = D.standing c.args.desk.now in let index = c.loop-name.name-index in
+    let D = g.D.Desk in let i = c.loop-name.invariant in let s = c.end_entry.ensures.ends in let σ = D.standing c.args.desk.now in let index = c.loop-name.name-index in
     let names = c.as_slice-names.result.now in
     let blank : Name = record { address = record { 0 = 0 }; turn = 0 } in
     let entry : Settled = record { name = get_or names index blank; outcome = s.outcome } in
     let restores : Restores σ.seat.profile s.steps = subst (λ t. Restores t.profile s.steps) i.adds.seat_is s.restores in
     let event : (v : View) → events_by σ.seat.actor v s.steps ≡ event_for σ.seat.actor (epoch_of v) entry.name s.outcome ∷ []
     = subst (λ t. (v : View) → events_by t.actor v s.steps ≡ event_for t.actor (epoch_of v) entry.name s.outcome ∷ []) i.adds.seat_is s.event in
-    let before = i.spare in let one = c.settle.ensures.spare in
+    let before = i.spare in let one = c.end_entry.ensures.spare in
     record {
       epoch = i.epoch;
       settled = entry ∷ i.settled;
       names_are = names_more i.settled entry names index blank c.loop-name-test.true refl i.names_are;
       entries = s.steps ++ i.entries;
       order = (s.steps, i.entries, s.order, i.order, refl);
-      adds = subst (λ xs. Adds σ (D.standing c.settle.new.desk) (λ v l. IsClear v) xs) (sym (append_assoc s.steps i.entries (made (Look Word.Epoch) i.epoch ∷ [])))
-          (adds_call {C = λ v l. IsClear v} i.adds s.adds (λ v l stood met. may_settle σ.seat.profile i.epoch i.entries v i.restores));
+      adds = subst (λ xs. Adds σ (D.standing c.end_entry.new.desk) (λ v l. IsClear v) xs) (sym (append_assoc s.steps i.entries (made (Look Word.Epoch) i.epoch ∷ [])))
+          (adds_call {C = λ v l. IsClear v} i.adds s.adds (λ v l stood met. may_end_entry σ.seat.profile i.epoch i.entries v i.restores));
       restores = restores_append σ.seat.profile s.steps i.entries restores i.restores;
       events = events_more σ.seat.profile σ.seat.actor i.epoch entry i.settled s.steps i.entries i.restores i.events event;
       stamps = stamps_more σ.seat.profile i.epoch entry i.settled s.steps i.entries i.restores i.stamps s.stamps;
       spare = omega (arith, before, one);
-      home = c.settle.ensures.home ∙ i.home;
+      home = c.end_entry.ensures.home ∙ i.home;
     }
 
 pub returns-clause-flushes : goal.returns-clause-flushes

@@ -26,7 +26,7 @@ put-requires-clause-can g c =
     let word = c.loop-word.word in
     let mask : IsMaskOf (c.args.grain % 256) c.args.grains word (slice_index c.words-masks.result word)
     = λ b h. ap (λ w. has_bit (slice_index w word) b) c.words-masks.ensures ∙ sym (at_word c.run.result word b h) ∙ c.run.ensures (64 * word + b) in
-    can_step i.adds c.requires.can (c.requires.run.page, c.loop-word-test.true, c.loop-word-test.element_fits.fits)
+    can_step {C = λ v l. MayPutRun c.args.grain c.args.grains v} i.adds c.requires.can (c.requires.run.page, c.loop-word-test.true, c.loop-word-test.element_fits.fits)
     (λ v l stood met. may_put c.args.grain c.args.grains word (slice_index c.words-masks.result word) i.steps v c.requires.run.within mask c.if-mask-ne0.true i.puts i.stays met)
 
 pub loop-word-preserved : goal.loop-word-preserved
