@@ -1,2 +1,6 @@
 pub mod Bits
 pub mod Starts
+pub mod Puts
+pub mod Backs
+pub mod Stopped
+pub mod Taken

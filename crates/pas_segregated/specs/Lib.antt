@@ -1,1 +1,4 @@
 pub mod Masks
+pub mod Returns
+pub mod Stops
+pub mod Takes

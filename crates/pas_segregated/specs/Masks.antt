@@ -1,5 +1,5 @@
 -- Masks as sets of grains of a page, and the slots of a class in them.
-use Rattle.std.specs.Prelude.{ℕ, ◌+◌, ◌-◌, ◌*◌, ◌/◌, ◌%◌, ◌<◌, ◌≤◌, ◌≡◌, ◌==◌, nat_le, nat_lt, Bool, true, ◌&&◌, if◌then◌else◌}
+use Rattle.std.specs.Prelude.{ℕ, ◌+◌, ◌-◌, ◌*◌, ◌/◌, ◌%◌, ◌<◌, ◌≤◌, ◌≡◌, ◌==◌, nat_le, nat_lt, Bool, true, false, ◌&&◌, if◌then◌else◌}
 use Rattle.pas_profile.specs.Classes.{has_bit, class_grains, usable_grains, IsSlotStart}
 use Rattle.pas_bits.specs.declared.mask.Mask4.{Mask4}
 use Rattle.pas_bits.specs.Masks.{is_set, AreSet}
@@ -23,3 +23,11 @@ start_of class g = g / class_grains class * class_grains class
 -- each set bit is the first grain of a slot of the class
 abbrev pub AreStarts : ℕ → Mask4 → Type 0
 AreStarts class starts = (g : ℕ) → is_set starts g ≡ true → IsSlotStart class g
+
+-- no bit is set
+abbrev pub IsEmpty : Mask4 → Type 0
+IsEmpty mask = (g : ℕ) → g < 256 → is_set mask g ≡ false
+
+-- some bit is set
+abbrev pub IsSome : Mask4 → Type 0
+IsSome mask = (g : ℕ) × (g < 256) × (is_set mask g ≡ true)

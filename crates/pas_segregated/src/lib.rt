@@ -2,6 +2,10 @@
 #![tactic(auto)]
 
 mod masks;
+mod putting;
 mod slots;
+mod stopping;
+mod taking;
 
-pub use slots::{covered, whole_slots};
+pub use slots::Slots;
+pub use stopping::stop;

@@ -1,4 +1,4 @@
-//! The slots of a class in a mask of grains.
+//! Slots of a class: those of a mask of grains, and those that an actor holds.
 ghost use Rattle.std.specs.Prelude.{◌≡◌, ℕ, ◌<◌, ◌↔◌, IsTrue};
 ghost use Rattle.pas_profile.specs.Classes.{IsClass, IsSlotStart, class_grains};
 ghost use Rattle.pas_bits.specs.Masks.{is_set, AreSet};
@@ -7,6 +7,35 @@ ghost use Rattle.pas_segregated.specs.Masks.{is_start, start_of, AreStarts};
 use crate::masks::{both, runs, spread};
 use pas_bits::Mask4;
 use pas_profile::classes::class_size;
+use pas_profile::{Directory, Kind};
+
+/// Slots of one page that an actor holds and that no block covers yet.
+#[derive(Clone, Copy, Debug, PartialEq, Eq)]
+pub struct Slots {
+    pub page: u32,
+    /// The heap and the class of the page.
+    pub heap: u8,
+    pub class: u8,
+    /// One bit for each slot that is left: that of its first grain.
+    pub starts: Mask4,
+    /// Whether the actor has the page's right as long as it has these slots.
+    pub right: bool,
+}
+
+impl Slots {
+    ghost use Rattle.std.specs.Prelude.{◌≡◌};
+    ghost use Rattle.pas_segregated.specs.Stops.{directory_of};
+
+    /// The directory of the page.
+    pub fn directory(&self) -> Directory
+        ensures { result ≡ directory_of self.now }
+    {
+        Directory {
+            heap: self.heap,
+            kind: Kind::Class(self.class),
+        }
+    }
+}
 
 /// The first grains of the slots of each class, as masks of 256 bits.
 const STARTS: [[u64; 4]; 16] = [

@@ -1,0 +1,3 @@
+use Rattle.pas_segregated.proofs.Taken.{takes_owe}
+use Rattle.pas_segregated.proofs.taking.take_slots.Goals as goal
+
