@@ -26,7 +26,7 @@ use Rattle.pas_segregated.specs.Returns.{on_page, PutSteps, MayPut, PutsBelow, P
 use Rattle.pas_segregated.proofs.Puts.{put_holds, puts_only, all_put, grains_keep}
 
 -- ---- with the right, what follows puts doesn't give it up
-keeps_append : (page : ℕ) (ys xs : List Made) → KeepsRight page ys → KeepsRight page xs → KeepsRight page (ys ++ xs)
+pub keeps_append : (page : ℕ) (ys xs : List Made) → KeepsRight page ys → KeepsRight page xs → KeepsRight page (ys ++ xs)
 keeps_append page ys xs a b = always_both (λ m before. GivesUp page m.step → ⊥) (λ m before. GivesUp page m.step → ⊥) ys xs (λ m before h. h) a b
 
 looks_keep : (page : ℕ) (answers : List ℕ) → KeepsRight page (looks page answers)

@@ -4,3 +4,5 @@ pub mod Puts
 pub mod Backs
 pub mod Stopped
 pub mod Taken
+pub mod Complete
+pub mod Served

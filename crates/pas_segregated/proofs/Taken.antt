@@ -154,13 +154,17 @@ takes_read page masks [] r reads before right none w lt small = absurd (omega (a
 takes_read page masks (a ∷ more) r reads before right none w lt small =
     let kept : has_right (takes page masks more ++ before) page ≡ true = right_grains page page (takes page masks more) before (takes_only page masks more) ∙ right in
     elim (cases_eq (length more) w) [
-      | inl e ↦ inl (subst (λ n. ReadsFree page w (Take page n (slice_index masks n))) (sym e) (ReadsFree.Takes (slice_index masks w)), kept, λ b hb.
-          let g : ℕ = page * 256 + (64 * w + b) in
-          let word : (page * 256 + (64 * w + b)) / 64 % 4 ≡ w = omega (arith, small, hb) in
-          let unheld : holds (takes page masks more ++ before) (page * 256 + (64 * w + b)) ≡ false =
-              takes_hold page masks more (page * 256 + (64 * w + b)) before
-              ∙ none_got page masks more (page * 256 + (64 * w + b)) (holds before (page * 256 + (64 * w + b))) (omega (arith, word, e)) ∙ none (page * 256 + (64 * w + b)) (omega (arith, small, hb)) in
-          reads_last r a more w b reads e hb ∙ or_none (has_bit a b) (holds (takes page masks more ++ before) (page * 256 + (64 * w + b))) unheld)
+      | inl e ↦ inl (
+        subst (λ n. ReadsFree page w (Take page n (slice_index masks n))) (sym e) (ReadsFree.Takes (slice_index masks w)),
+        kept,
+        λ b hb.
+            let g : ℕ = page * 256 + (64 * w + b) in
+            let word : (page * 256 + (64 * w + b)) / 64 % 4 ≡ w = omega (arith, small, hb) in
+            let unheld : holds (takes page masks more ++ before) (page * 256 + (64 * w + b)) ≡ false =
+            takes_hold page masks more (page * 256 + (64 * w + b)) before
+            ∙ none_got page masks more (page * 256 + (64 * w + b)) (holds before (page * 256 + (64 * w + b))) (omega (arith, word, e)) ∙ none (page * 256 + (64 * w + b)) (omega (arith, small, hb)) in
+            reads_last r a more w b reads e hb ∙ or_none (has_bit a b) (holds (takes page masks more ++ before) (page * 256 + (64 * w + b))) unheld,
+      )
       | inr ne ↦ inr (kept, takes_read page masks more r (reads_fewer r a more reads) before right none w (omega (arith, lt, ne)) small)
     ]
 
@@ -191,7 +195,7 @@ takes_backed page masks (a ∷ more) q v h =
     and_from (knows_backed (takes page masks more ++ v) q) (holds_on (takes page masks (a ∷ more) ++ v) q) before
     (any_where 256 (λ b. holds (takes page masks more ++ v) (q * 256 + b)) (λ b. holds (takes page masks (a ∷ more) ++ v) (q * 256 + b))
     (λ b e. got_where (in_mask page (length more) (slice_index masks (length more)) (q * 256 + b) && has_bit a ((q * 256 + b) % 64)) (holds (takes page masks more ++ v) (q * 256 + b))
-        ∙ or_stays (in_mask page (length more) (slice_index masks (length more)) (q * 256 + b) && has_bit a ((q * 256 + b) % 64)) (holds (takes page masks more ++ v) (q * 256 + b)) e)
+    ∙ or_stays (in_mask page (length more) (slice_index masks (length more)) (q * 256 + b) && has_bit a ((q * 256 + b) % 64)) (holds (takes page masks more ++ v) (q * 256 + b)) e)
     (held_where_backed (takes page masks more ++ v) q before))
 
 kept_none : (t owed : Bool) → owed ≡ false → (if t then false else owed) ≡ false
@@ -221,11 +225,11 @@ pub got_words : (class : ℕ) (masks : List ℕ) (a b c d : ℕ) → AreUsable c
 got_words class masks a b c d usable g lt =
     let answers : List ℕ = d ∷ c ∷ b ∷ a ∷ [] in
     let word = λ (w n x : ℕ) (hw : w < 4) (h : x < 64) (is : read_word (d ∷ c ∷ b ∷ a ∷ []) w ≡ n).
-        let at : (64 * w + x) / 64 ≡ w = omega (arith, h) in let bit : (64 * w + x) % 64 ≡ x = omega (arith, h) in
-        let u : has_bit (slice_index masks w) x ≡ is_usable class (64 * w + x) =
-            ap (λ i. has_bit (slice_index masks i) x) (sym at) ∙ ap (has_bit (slice_index masks ((64 * w + x) / 64))) (sym bit) ∙ usable (64 * w + x) (omega (arith, h, hw)) in
-        let r : has_bit n x ≡ read_free (d ∷ c ∷ b ∷ a ∷ []) (64 * w + x) =
-            ap (λ m. has_bit m x) (sym is) ∙ ap (λ i. has_bit (read_word (d ∷ c ∷ b ∷ a ∷ []) i) x) (sym at) ∙ ap (has_bit (read_word (d ∷ c ∷ b ∷ a ∷ []) ((64 * w + x) / 64))) (sym bit) in
-        bit_of_and n (slice_index masks w) x ∙ ap (λ t. t && has_bit (slice_index masks w) x) r ∙ ap (λ t. read_free (d ∷ c ∷ b ∷ a ∷ []) (64 * w + x) && t) u in
+    let at : (64 * w + x) / 64 ≡ w = omega (arith, h) in let bit : (64 * w + x) % 64 ≡ x = omega (arith, h) in
+    let u : has_bit (slice_index masks w) x ≡ is_usable class (64 * w + x) =
+    ap (λ i. has_bit (slice_index masks i) x) (sym at) ∙ ap (has_bit (slice_index masks ((64 * w + x) / 64))) (sym bit) ∙ usable (64 * w + x) (omega (arith, h, hw)) in
+    let r : has_bit n x ≡ read_free (d ∷ c ∷ b ∷ a ∷ []) (64 * w + x) =
+    ap (λ m. has_bit m x) (sym is) ∙ ap (λ i. has_bit (read_word (d ∷ c ∷ b ∷ a ∷ []) i) x) (sym at) ∙ ap (has_bit (read_word (d ∷ c ∷ b ∷ a ∷ []) ((64 * w + x) / 64))) (sym bit) in
+    bit_of_and n (slice_index masks w) x ∙ ap (λ t. t && has_bit (slice_index masks w) x) r ∙ ap (λ t. read_free (d ∷ c ∷ b ∷ a ∷ []) (64 * w + x) && t) u in
     four_words (bit_and a (slice_index masks 0)) (bit_and b (slice_index masks 1)) (bit_and c (slice_index masks 2)) (bit_and d (slice_index masks 3)) (λ x. read_free (d ∷ c ∷ b ∷ a ∷ []) x && is_usable class x)
     (λ x h. word 0 a x (omega arith) h refl) (λ x h. word 1 b x (omega arith) h refl) (λ x h. word 2 c x (omega arith) h refl) (λ x h. word 3 d x (omega arith) h refl) g lt

@@ -16,7 +16,7 @@ use Rattle.pas_steps.specs.declared.step.Step.TheVariants.{Take}
 use Rattle.pas_rights.specs.Rights.{OwesNothing}
 use Rattle.pas_scan.specs.Evidence.{Readings, ShowsHere, KeptHere}
 use Rattle.pas_search.specs.Kinds.{OnlyServes, AreQuiet}
-use Rattle.pas_search.specs.Serving.{Rule, MayServe, FreshAt, GotBefore}
+use Rattle.pas_search.specs.Serving.{Rule, MayServe, FreshAt, GotBefore, IsAntitone}
 use Rattle.pas_segregated.specs.Masks.{start_of, IsSome}
 
 -- ---- four takes
@@ -48,9 +48,9 @@ pub record TakesUsable (page class : ℕ) (desk desk' : Standing) (got : Mask4) 
   pub got_is : (g : ℕ) → g < 256 → is_set got g ≡ (read_free answers g && is_usable class g)
 
 -- ---- slots
--- each grain of the n from s on was read as free
+-- each grain of the page, 0 to 255, that is one of the n from s on was read as free
 abbrev pub AllFree : Readings → ℕ → ℕ → Type 0
-AllFree r s n = (g : ℕ) → s ≤ g → g < s + n → r g ≡ true
+AllFree r s n = (g : ℕ) → g < 256 → s ≤ g → g < s + n → r g ≡ true
 
 -- no slot of the class was read as free with all its grains
 abbrev pub NoSlot : ℕ → Readings → Type 0
@@ -65,11 +65,14 @@ abbrev pub in_starts : ℕ → Mask4 → ℕ → Bool
 in_starts class starts g = is_set starts (start_of class g)
 
 -- the step takes this free word of the page with all its usable grains as the mask, and reads it so
-pub record TakesHere (class page word : ℕ) (r : Readings) (m : Made) (before : List Made) : Type 0 where
+pub record IsWholeTake (class page word : ℕ) (r : Readings) (m : Made) : Type 0 where
   pub mask : ℕ
   pub step_is : m.step ≡ Take page word mask
   pub usable : (b : ℕ) → b < 64 → has_bit mask b ≡ is_usable class (64 * word + b)
   pub read : (b : ℕ) → b < 64 → r (64 * word + b) ≡ has_bit m.answer b
+
+abbrev pub TakesHere : ℕ → ℕ → ℕ → Readings → Made → List Made → Type 0
+TakesHere class page word r m before = IsWholeTake class page word r m
 
 -- Each free word of the page was taken with all its usable grains as the mask. The slots are those all of whose grains these takes got, and
 -- there are some.
@@ -95,6 +98,10 @@ pub record TakesSlots (class page : ℕ) (d : Directory) (desk desk' : Standing)
   pub read : (before : List Made) → GotBefore page before → (word : ℕ) → word < 4 → Since (ShowsHere page word readings) (KeptHere page) (steps ++ before)
   pub are : AreFreeSlots class readings starts
   pub all_free : (v : View) → Agreed desk.seat.profile v steps → ((g : ℕ) → g / 256 ≡ page → known_free v g ≡ true) → IsSome starts
+
+-- fewer free grains show no slot where more of them show none
+pub fewer_slots : (class : ℕ) → IsAntitone (NoSlot class)
+fewer_slots class r fewer less no_slot s slot free = no_slot s slot (λ g within low high. less g within (free g within low high))
 
 -- ---- exclusive pages, for the search
 -- All free slots of a page of the class are taken, by their first grains, and the page's right is kept. One event, when the page is backed.

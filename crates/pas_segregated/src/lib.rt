@@ -3,6 +3,7 @@
 
 mod masks;
 mod putting;
+mod serving;
 mod slots;
 mod stopping;
 mod taking;
