@@ -1,28 +1,25 @@
 -- What giving grains back leaves: rights, debts, and which pages are known as backed.
-use Rattle.std.proofs.Common.{◌≡◌, ◌≢◌, ℕ, zero, suc, ◌+◌, ◌*◌, ◌/◌, ◌%◌, ◌<◌, ◌==◌, Bool, true, false, not, ◌&&◌, ◌||◌, List, [], ◌∷◌, ◌++◌, slice_index, refl, ap, sym, ◌∙◌, subst, arith, inl, inr, append_assoc, true≢false}
-use Rattle.std.proofs.lemmas.Bool.{cases_eq, cases_Bool, and_parts, and_from}
-use Rattle.pas_profile.specs.Classes.{has_bit}
+use Rattle.std.proofs.Common.{◌≡◌, ℕ, zero, suc, ◌+◌, ◌*◌, ◌/◌, ◌%◌, ◌==◌, Bool, true, false, not, ◌&&◌, ◌||◌, List, [], ◌∷◌, ◌++◌, slice_index, refl, ap, sym, ◌∙◌, subst, arith, inl, inr, append_assoc, true≢false}
+use Rattle.std.proofs.lemmas.Bool.{cases_eq, cases_Bool, and_from}
 use Rattle.pas_profile.specs.declared.directory.Directory.{Directory}
 use Rattle.pas_profile.specs.declared.profile.Profile.{Profile}
 use Rattle.pas_bits.specs.declared.mask.Mask4.{Mask4}
-use Rattle.pas_bits.specs.Masks.{is_set}
 use Rattle.pas_steps.specs.Effects.{in_mask}
-use Rattle.pas_steps.specs.Views.{View, holds, any_below, holds_on, has_right, deed_after, known_deed, backed_after, knows_backed}
+use Rattle.pas_steps.specs.Views.{View, holds, any_below, holds_on, has_right, deed_after, known_deed, knows_backed}
 use Rattle.pas_steps.specs.Agreement.{Agreed}
-use Rattle.pas_steps.specs.Frames.{IsOnPage, IsGrains, GivesUp, OnlyGrains, OnlyReturns, OnlyOn, KeepsRight, IsReturn}
-use Rattle.pas_steps.specs.Past.{Always}
-use Rattle.pas_steps.specs.Desks.{Standing, made, Adds}
+use Rattle.pas_steps.specs.Frames.{IsOnPage, IsGrains, GivesUp, OnlyGrains, OnlyReturns, OnlyOn, KeepsRight}
+use Rattle.pas_steps.specs.Desks.{Standing, made}
 use Rattle.pas_steps.specs.declared.step.Made.{Made}
 use Rattle.pas_steps.specs.declared.step.Step.{Step}
-use Rattle.pas_steps.specs.declared.step.Step.TheVariants.{Look, Put, Offer, Unpark, Hint}
+use Rattle.pas_steps.specs.declared.step.Step.TheVariants.{Put, Offer, Unpark}
 use Rattle.pas_steps.proofs.Adding.{adds_none, adds_call, adds_under, agreed_first, agreed_later}
 use Rattle.pas_steps.proofs.Past.{always_both, always_map}
-use Rattle.pas_steps.proofs.Kept.{IsStill, right_on, grains_on, returns_on, right_grains, returns_still, holds_still, holds_on_still, backed_returns, deed_stays}
-use Rattle.pas_rights.specs.Rights.{KnowsDeed, looks, HintSteps, HintsWhere, ReofferSteps, ReturnSteps, Returned, OwesNothing}
+use Rattle.pas_steps.proofs.Kept.{IsStill, right_on, grains_on, returns_on, right_grains, returns_still, holds_still, holds_on_still, backed_returns}
+use Rattle.pas_rights.specs.Rights.{KnowsDeed, looks, HintsWhere, ReofferSteps, ReturnSteps, Returned, OwesNothing}
 use Rattle.pas_search.specs.Kinds.{IsQuiet, AreQuiet}
 use Rattle.pas_search.proofs.StepKinds.{grains_serve, returns_serve, serves_append, quiet_append}
 use Rattle.pas_segregated.specs.Masks.{IsEmpty, IsSome}
-use Rattle.pas_segregated.specs.Returns.{on_page, PutSteps, MayPut, PutsBelow, PutsMask, MayGiveBack, BackSteps, GivesBack}
+use Rattle.pas_segregated.specs.Returns.{on_page, PutSteps, PutsBelow, PutsMask, MayGiveBack, GivesBack}
 use Rattle.pas_segregated.proofs.Puts.{put_holds, puts_only, all_put, grains_keep}
 
 -- ---- with the right, what follows puts doesn't give it up

@@ -1,7 +1,7 @@
 -- Masks that are moved, joined and spread.
-use Rattle.std.proofs.Common.{◌≡◌, ℕ, zero, suc, ◌+◌, ◌-◌, ◌*◌, ◌/◌, ◌%◌, ◌^◌, ◌<◌, ◌≤◌, ◌==◌, ◌↔◌, nat_le, nat_lt, IsTrue, Bool, true, false, ◌&&◌, ◌||◌, min, max, if◌then◌else◌, List, [], ◌∷◌, length, slice_index, refl, ap, sym, ◌∙◌, subst, arith, bit_and, bit_or, inl, inr, true≢false}
+use Rattle.std.proofs.Common.{◌≡◌, ℕ, ◌+◌, ◌-◌, ◌*◌, ◌/◌, ◌%◌, ◌^◌, ◌<◌, ◌≤◌, ◌==◌, ◌↔◌, nat_le, IsTrue, Bool, true, false, ◌&&◌, ◌||◌, max, if◌then◌else◌, [], ◌∷◌, length, slice_index, refl, ap, sym, ◌∙◌, subst, arith, bit_and, bit_or, inl, inr}
 use Rattle.std.specs.Int.{bit_at}
-use Rattle.std.proofs.lemmas.Bool.{cases_lt, cases_Bool, and_parts, lt-ltb, le-ltb, le-leb, lt-leb, or_left, or_right, or_from, false_from_ne_true}
+use Rattle.std.proofs.lemmas.Bool.{cases_lt, cases_Bool, and_parts, lt-ltb, le-ltb, le-leb, lt-leb, or_left, or_right}
 use Rattle.std.proofs.lemmas.Bool.Decides.{nat_tests}
 use Rattle.std.proofs.lemmas.List.{get_or_past}
 use Rattle.std.proofs.lemmas.Nat.{div-add-mod', shr-shr, pow_pos}
@@ -9,7 +9,7 @@ use Rattle.std.proofs.lemmas.Nat.Bits.{bit_at-zero, bit_at-lt, bit_at_or, bit_at
 use Rattle.pas_profile.specs.Classes.{has_bit}
 use Rattle.pas_bits.specs.declared.mask.Mask4.{Mask4}
 use Rattle.pas_bits.specs.Masks.{is_set, AreSet}
-use Rattle.pas_bits.proofs.Words.{is_zero, none_of_zero, bit_of_and, at_word, none_past, set_within, four_words}
+use Rattle.pas_bits.proofs.Words.{is_zero, none_of_zero, bit_of_and, at_word, none_past, four_words}
 use Rattle.pas_segregated.specs.Masks.{bit_of_two, IsNear}
 
 -- ---- bits of a word that was moved

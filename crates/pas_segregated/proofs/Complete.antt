@@ -1,6 +1,6 @@
 -- The slots that the takes of a page got whole, and the grains that are put back.
-use Rattle.std.proofs.Common.{◌≡◌, ◌≢◌, ℕ, zero, suc, ◌+◌, ◌-◌, ◌*◌, ◌/◌, ◌%◌, ◌<◌, ◌≤◌, ◌==◌, ◌↔◌, IsTrue, nat_lt, Bool, true, false, not, ◌&&◌, ◌||◌, if◌then◌else◌, List, [], ◌∷◌, ◌++◌, length, slice_index, refl, ap, sym, ◌∙◌, subst, arith, ◌⊎◌, inl, inr, append_assoc}
-use Rattle.std.proofs.lemmas.Bool.{cases_Bool, eq-eqb, and_parts, and_from, lt-ltb}
+use Rattle.std.proofs.Common.{◌≡◌, ℕ, ◌+◌, ◌*◌, ◌/◌, ◌%◌, ◌<◌, ◌==◌, ◌↔◌, IsTrue, Bool, true, false, not, ◌&&◌, ◌||◌, List, ◌++◌, length, refl, ap, sym, ◌∙◌, subst, arith, inl, inr, append_assoc}
+use Rattle.std.proofs.lemmas.Bool.{eq-eqb, and_parts, and_from, lt-ltb}
 use Rattle.pas_profile.specs.Classes.{has_bit, IsClass, class_grains, usable_grains, is_usable, IsSlotStart}
 use Rattle.pas_profile.specs.declared.directory.Directory.{Directory}
 use Rattle.pas_profile.specs.declared.profile.Profile.{Profile}
@@ -9,26 +9,24 @@ use Rattle.pas_bits.specs.declared.mask.Mask4.{Mask4}
 use Rattle.pas_bits.specs.Masks.{is_set, AreSet}
 use Rattle.pas_steps.specs.Views.{View, holds, holds_on, has_right, known_free, knows_backed}
 use Rattle.pas_steps.specs.Agreement.{Agreed}
-use Rattle.pas_steps.specs.Lists.{Whole}
-use Rattle.pas_steps.specs.Past.{Once, Since}
-use Rattle.pas_steps.specs.Frames.{IsOnPage, OnlyGrains, KeepsRight}
+use Rattle.pas_steps.specs.Past.{Since}
+use Rattle.pas_steps.specs.Frames.{OnlyGrains, KeepsRight}
 use Rattle.pas_steps.specs.Desks.{Seat, Standing, CanCall, Adds}
 use Rattle.pas_steps.specs.declared.step.Made.{Made}
 use Rattle.pas_steps.proofs.Adding.{adds_call, adds_under, agreed_first, agreed_later}
 use Rattle.pas_steps.proofs.Past.{once_later}
 use Rattle.pas_steps.proofs.Kept.{right_grains, grains_on, unstamped_on}
 use Rattle.pas_rights.specs.Rights.{OwesNothing}
-use Rattle.pas_scan.specs.Evidence.{Readings, ShowsHere, KeptHere}
-use Rattle.pas_search.specs.Kinds.{OnlyServes}
-use Rattle.pas_search.specs.Serving.{MayServe, HoldsNone, FreshAt, GotBefore}
+use Rattle.pas_scan.specs.Evidence.{ShowsHere, KeptHere}
+use Rattle.pas_search.specs.Serving.{MayServe, FreshAt}
 use Rattle.pas_search.proofs.StepKinds.{grains_serve, serves_append, quiet_append}
 use Rattle.pas_segregated.specs.Masks.{start_of, IsSome}
-use Rattle.pas_segregated.specs.Returns.{on_page, MayPut, MayGiveBack, GivesBack}
-use Rattle.pas_segregated.specs.Takes.{takes, read_word, read_free, AreUsable, TakesUsable, AllFree, AreFreeSlots, in_starts, TakesHere, TakesSlots}
+use Rattle.pas_segregated.specs.Returns.{on_page, MayGiveBack, GivesBack}
+use Rattle.pas_segregated.specs.Takes.{takes, read_word, read_free, TakesUsable, AreFreeSlots, in_starts, TakesHere, TakesSlots}
 use Rattle.pas_segregated.proofs.Puts.{grains_keep}
 use Rattle.pas_segregated.proofs.Backs.{keeps_append, deed_grains, grains_quiet}
 use Rattle.pas_segregated.proofs.Starts.{start_below}
-use Rattle.pas_segregated.proofs.Taken.{takes_only, got_bit, takes_hold, got_on, got_unheld, free_read, Reads, takes_read, takes_here, takes_backed, takes_owe, since_kept}
+use Rattle.pas_segregated.proofs.Taken.{takes_only, got_bit, takes_hold, got_on, got_unheld, free_read, held_unread, Reads, takes_read, takes_here, takes_backed, takes_owe, since_kept}
 
 -- the starts are those of the slots all of whose grains are in the mask
 abbrev pub AreWhole : ℕ → Mask4 → Mask4 → Type 0
@@ -161,6 +159,12 @@ module _ (class page : ℕ) (d : Directory) (is : IsClass class) {σ σ1 : Stand
         ap (λ i. has_bit (read_word taken.answers i) (g % 64)) (sym word) ∙ ap (has_bit (read_word taken.answers ((page * 256 + g) / 64 % 4))) (sym bit)
         ∙ free_read profile page taken.masks taken.answers v (first_agreed v agreed) (page * 256 + g) at (has_word ((page * 256 + g) / 64 % 4) (omega arith)) (free (page * 256 + g) at)
 
+    held_then : (v : View) → Agreed profile v all → (g : ℕ) → g / 256 ≡ page → holds v g ≡ true → read_free taken.answers (g % 256) ≡ false
+    held_then v agreed g at held =
+        let word : g % 256 / 64 ≡ g / 64 % 4 = omega arith in let bit : g % 256 % 64 ≡ g % 64 = omega arith in
+        ap (λ i. has_bit (read_word taken.answers i) (g % 256 % 64)) word ∙ ap (has_bit (read_word taken.answers (g / 64 % 4))) bit
+        ∙ held_unread profile page taken.masks taken.answers v (first_agreed v agreed) g at held
+
     pub takes_slots : TakesSlots class page d σ σ2 starts
     takes_slots = record {
       steps = all;
@@ -176,6 +180,7 @@ module _ (class page : ℕ) (d : Directory) (is : IsClass class) {σ σ1 : Stand
       read = λ before met w lt. subst (Since (ShowsHere page w (read_free taken.answers)) (KeptHere page)) (sym (all_at before))
           (since_kept (ShowsHere page w (read_free taken.answers)) page back.steps (first ++ before) back_keeps (first_right before met.right)
           (takes_read page taken.masks taken.answers (read_free taken.answers) reads before met.right met.none w (has_word w lt) lt));
+      held = held_then;
       are = free_slots class is got starts taken.answers taken.got_is whole;
       all_free = λ v agreed free. some_slot class is got starts taken.answers taken.got_is whole (free_first v agreed free);
     }

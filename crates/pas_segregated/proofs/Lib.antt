@@ -6,3 +6,4 @@ pub mod Stopped
 pub mod Taken
 pub mod Complete
 pub mod Served
+pub mod Refilled

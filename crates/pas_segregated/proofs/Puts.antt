@@ -1,19 +1,16 @@
 -- Puts of a mask's grains, word by word.
-use Rattle.std.proofs.Common.{◌≡◌, ◌≢◌, ℕ, zero, suc, ◌+◌, ◌*◌, ◌/◌, ◌%◌, ◌^◌, ◌<◌, ◌≤◌, ◌==◌, nat_lt, Bool, true, false, not, ◌&&◌, ◌||◌, if◌then◌else◌, List, [], ◌∷◌, ◌++◌, slice_index, Option, None, Some, MatchOption, MatchBool, refl, ap, sym, ◌∙◌, subst, arith, ◌⊎◌, inl, inr, append_assoc, true≢false}
-use Rattle.std.proofs.lemmas.Bool.{cases_lt, cases_eq, cases_Bool, eq-eqb, ne_eqb, eqb-true, and_parts, lt-ltb, le-ltb}
+use Rattle.std.proofs.Common.{◌≡◌, ◌≢◌, ℕ, zero, suc, ◌/◌, ◌%◌, ◌==◌, nat_lt, Bool, true, false, not, ◌&&◌, if◌then◌else◌, List, ◌++◌, slice_index, Option, None, Some, MatchOption, MatchBool, refl, ap, sym, ◌∙◌, subst, arith, inl, inr, append_assoc}
+use Rattle.std.proofs.lemmas.Bool.{cases_lt, cases_eq, eq-eqb, ne_eqb, eqb-true, and_parts, lt-ltb, le-ltb}
 use Rattle.std.specs.Option.{is_some}
 use Rattle.pas_profile.specs.Classes.{has_bit}
 use Rattle.pas_bits.specs.declared.mask.Mask4.{Mask4}
-use Rattle.pas_bits.specs.Masks.{is_set, AreClear, IsLowestSet}
-use Rattle.pas_bits.proofs.Words.{none_of_zero, none_past}
+use Rattle.pas_bits.specs.Masks.{AreClear, IsLowestSet}
+use Rattle.pas_bits.proofs.Words.{none_of_zero}
 use Rattle.pas_steps.specs.Effects.{in_mask}
-use Rattle.pas_steps.specs.Views.{View, Puts, Stays, held_after, holds, any_below, holds_on, knows_backed, is_unstamped}
+use Rattle.pas_steps.specs.Views.{View, Puts, Stays, held_after, holds}
 use Rattle.pas_steps.specs.Frames.{IsGrains, GivesUp, OnlyGrains, KeepsRight}
-use Rattle.pas_steps.specs.Past.{Always}
-use Rattle.pas_steps.specs.Desks.{Standing, made, Adds}
 use Rattle.pas_steps.specs.declared.step.Made.{Made}
 use Rattle.pas_steps.specs.declared.step.Step.{Step}
-use Rattle.pas_steps.specs.declared.step.Step.TheVariants.{Put}
 use Rattle.pas_steps.proofs.Past.{always_both, always_map}
 use Rattle.pas_steps.proofs.Kept.{grains_on, unstamped_on}
 use Rattle.pas_segregated.specs.Masks.{IsEmpty, IsSome}

@@ -1,7 +1,7 @@
 -- The two ends of a page that was to serve: its slots are kept, or it was left.
-use Rattle.std.proofs.Common.{◌≡◌, ◌≢◌, ℕ, zero, suc, ◌+◌, ◌*◌, ◌/◌, ◌%◌, ◌<◌, ◌≤◌, ◌==◌, Bool, true, false, ◌&&◌, ◌||◌, if◌then◌else◌, List, [], ◌∷◌, ◌++◌, length, Option, None, Some, refl, ap, sym, ◌∙◌, subst, arith, inl, inr, append_assoc, true≢false}
+use Rattle.std.proofs.Common.{◌≡◌, ◌≢◌, ℕ, zero, suc, ◌+◌, ◌*◌, ◌/◌, ◌%◌, ◌<◌, ◌≤◌, ◌==◌, Bool, true, false, ◌||◌, if◌then◌else◌, List, [], ◌∷◌, ◌++◌, length, None, Some, refl, ap, sym, ◌∙◌, subst, arith, inl, inr, append_assoc, true≢false}
 use Rattle.std.proofs.lemmas.Bool.{cases_eq, eq-eqb, and_from}
-use Rattle.pas_profile.specs.Classes.{IsClass, class_grains, IsSlotStart}
+use Rattle.pas_profile.specs.Classes.{IsClass, IsSlotStart}
 use Rattle.pas_profile.specs.Directories.{IsKind}
 use Rattle.pas_profile.specs.declared.directory.Directory.{Directory}
 use Rattle.pas_profile.specs.declared.directory.Kind.TheVariants as Kind
@@ -10,15 +10,14 @@ use Rattle.pas_profile.proofs.Codecs.{deed_word_of-positive}
 use Rattle.pas_profile.proofs.ClassFacts.{class_grains_positive, slot_lt}
 use Rattle.pas_bits.specs.declared.mask.Mask4.{Mask4}
 use Rattle.pas_bits.specs.Masks.{is_set}
-use Rattle.pas_steps.specs.Views.{View, holds, any_below, holds_on, has_right, known_deed, known_free, knows_backed}
+use Rattle.pas_steps.specs.Views.{View, holds, any_below, holds_on, has_right, known_deed, knows_backed}
 use Rattle.pas_profile.specs.declared.event.Event.{Event}
-use Rattle.pas_profile.specs.declared.event.Event.TheVariants as Event
 use Rattle.pas_steps.specs.Events.{with_event, events_by}
-use Rattle.pas_steps.specs.Allowed.{Allowed, HoldsOn}
+use Rattle.pas_steps.specs.Allowed.{HoldsOn}
 use Rattle.pas_steps.specs.Agreement.{Agreed}
-use Rattle.pas_steps.specs.Past.{Once, Always, Since}
+use Rattle.pas_steps.specs.Past.{Once, Since}
 use Rattle.pas_steps.specs.Frames.{IsLook, AreLooks, GivesUp, KeepsRight}
-use Rattle.pas_steps.specs.Desks.{Seat, Standing, made, Makes, Adds}
+use Rattle.pas_steps.specs.Desks.{Seat, Standing, made, Makes}
 use Rattle.pas_steps.specs.declared.step.Made.{Made}
 use Rattle.pas_steps.specs.declared.step.Step.{Step}
 use Rattle.pas_steps.specs.declared.step.Step.TheVariants.{Look, Deed, Back, Take, Put, Give, End, TakeRight, Offer, Park, Unpark, Stamp, Hint}
@@ -28,12 +27,12 @@ use Rattle.pas_steps.proofs.Past.{once_later, once_earlier}
 use Rattle.pas_steps.proofs.Kept.{returns_still, holds_still, backed_returns, deed_stays}
 use Rattle.pas_rights.specs.Rights.{MayLeave, Leaves, LosesHere, OwesNothing}
 use Rattle.pas_scan.specs.Evidence.{Readings, ShowsHere, KeptHere, GetsHere, UnfitHere}
-use Rattle.pas_search.specs.Kinds.{IsServe, OnlyServes, AreQuiet}
-use Rattle.pas_search.specs.Serving.{MayServe, FreshAt, GotBefore, ShowsFit, LeavesPage, KeepsPage, ServesPage}
+use Rattle.pas_search.specs.Kinds.{IsServe, AreQuiet}
+use Rattle.pas_search.specs.Serving.{MayServe, FreshAt, LeavesPage, KeepsPage, ServesPage}
 use Rattle.pas_search.proofs.StepKinds.{returns_serve, serves_append, quiet_append, events_quiet}
 use Rattle.pas_search.proofs.Backed.{same_on, held_where_backed}
 use Rattle.pas_segregated.specs.Masks.{start_of, IsEmpty, IsSome}
-use Rattle.pas_segregated.specs.Takes.{in_starts, AllFree, NoSlot, TakesHere, TookSlots, TakesSlots, exclusive}
+use Rattle.pas_segregated.specs.Takes.{in_starts, NoSlot, TakesHere, TakesSlots, exclusive}
 use Rattle.pas_segregated.proofs.Backs.{returns_quiet}
 use Rattle.pas_segregated.proofs.Starts.{start_at, start_below}
 use Rattle.pas_segregated.proofs.Taken.{since_kept}
@@ -204,10 +203,11 @@ module _ (class page : ℕ) (d : Directory) (is : IsClass class) (starts : Mask4
         grains = λ v met agreed g at. taken.grains v (inl agreed.1) g at;
         owes = λ v met agreed. let o = taken.owes v met agreed.1 in record { checks = λ w lt. o.checks w lt; hint = o.hint };
         backed = keeps_taken;
-        fits = λ before met. record {
+        shows = record {
           readings = taken.readings;
           fits = λ none. none some.0 first_slot_is ((taken.are some.0).0 some.2).1;
-          read = λ w lt. inr (since_once (ShowsHere page w taken.readings) (KeptHere page) (taken.steps ++ before) (taken.read before met w lt));
+          read = λ before met w lt. inr (since_once (ShowsHere page w taken.readings) (KeptHere page) (taken.steps ++ before) (taken.read before met w lt));
+          held = λ v met agreed g at held. taken.held v agreed.1 g at held;
         };
         serves = λ before met. record {
           readings = taken.readings;

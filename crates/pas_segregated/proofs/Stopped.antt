@@ -1,24 +1,21 @@
 -- The steps of a stop.
-use Rattle.std.proofs.Common.{◌≡◌, ◌≢◌, ℕ, zero, suc, ◌+◌, ◌*◌, ◌/◌, ◌%◌, ◌<◌, ◌==◌, Bool, true, false, not, ◌&&◌, List, [], ◌∷◌, ◌++◌, refl, ap, sym, ◌∙◌, subst, arith, inl, inr, append_assoc}
-use Rattle.std.proofs.lemmas.Bool.{cases_eq, cases_Bool, eq-eqb, ne_eqb}
+use Rattle.std.proofs.Common.{◌≡◌, ℕ, ◌/◌, ◌%◌, ◌==◌, true, false, not, ◌&&◌, List, [], ◌++◌, refl, ap, sym, ◌∙◌, subst, arith, inl, inr, append_assoc}
+use Rattle.std.proofs.lemmas.Bool.{cases_eq, eq-eqb, ne_eqb}
 use Rattle.pas_profile.specs.declared.directory.Directory.{Directory}
-use Rattle.pas_profile.specs.declared.profile.Profile.{Profile}
 use Rattle.pas_profile.proofs.Codecs.{deed_word_of-positive}
 use Rattle.pas_bits.specs.declared.mask.Mask4.{Mask4}
-use Rattle.pas_bits.specs.Masks.{is_set}
-use Rattle.pas_steps.specs.Views.{View, holds, holds_on, has_right, known_deed, knows_backed}
+use Rattle.pas_steps.specs.Views.{View, holds, holds_on, has_right, knows_backed}
 use Rattle.pas_steps.specs.Agreement.{Agreed}
 use Rattle.pas_steps.specs.Frames.{OnlyOn}
 use Rattle.pas_steps.specs.Desks.{Seat, Standing, Adds}
 use Rattle.pas_steps.specs.declared.step.Made.{Made}
 use Rattle.pas_steps.proofs.Adding.{adds_call, adds_under, agreed_first, agreed_later}
 use Rattle.pas_steps.proofs.Kept.{right_on, check_on, hint_on, unstamped_on, returns_on, returns_still, holds_still, holds_on_still, backed_returns, deed_stays}
-use Rattle.pas_rights.specs.Rights.{KnowsDeed, MayLeave, Leaves, OwesNothing}
+use Rattle.pas_rights.specs.Rights.{MayLeave, Leaves, OwesNothing}
 use Rattle.pas_search.specs.Searches.{IsClear}
 use Rattle.pas_search.proofs.StepKinds.{serves_on, on_append, quiet_append}
-use Rattle.pas_segregated.specs.Masks.{start_of}
-use Rattle.pas_segregated.specs.Returns.{on_page, MayPut, MayGiveBack, GivesBack}
-use Rattle.pas_segregated.specs.Stops.{directory_of, in_slots, AreGrains, MayStop, LeavesWhere, StopSteps, Stops}
+use Rattle.pas_segregated.specs.Returns.{on_page, MayGiveBack, GivesBack}
+use Rattle.pas_segregated.specs.Stops.{directory_of, in_slots, AreGrains, MayStop, LeavesWhere, Stops}
 use Rattle.pas_segregated.specs.declared.slots.Slots.{Slots}
 use Rattle.pas_segregated.proofs.Backs.{returns_quiet}
 

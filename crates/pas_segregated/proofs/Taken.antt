@@ -1,17 +1,16 @@
 -- The four takes of a page.
-use Rattle.std.proofs.Common.{◌≡◌, ◌≢◌, ℕ, zero, suc, ◌+◌, ◌-◌, ◌*◌, ◌/◌, ◌%◌, ◌^◌, ◌<◌, ◌≤◌, ◌==◌, ◌↔◌, IsTrue, nat_lt, Bool, true, false, not, ◌&&◌, ◌||◌, if◌then◌else◌, List, [], ◌∷◌, ◌++◌, length, slice_index, bit_and, refl, ap, sym, ◌∙◌, subst, arith, ◌⊎◌, inl, inr, append_assoc, true≢false}
-use Rattle.std.proofs.lemmas.Bool.{cases_lt, cases_eq, cases_Bool, eq-eqb, ne_eqb, eqb-true, and_parts, and_from, or_parts}
+use Rattle.std.proofs.Common.{◌≡◌, ◌≢◌, ℕ, ◌+◌, ◌*◌, ◌/◌, ◌%◌, ◌<◌, ◌≤◌, ◌==◌, Bool, true, false, not, ◌&&◌, ◌||◌, if◌then◌else◌, List, [], ◌∷◌, ◌++◌, length, slice_index, bit_and, refl, ap, sym, ◌∙◌, subst, arith, inl, inr, true≢false}
+use Rattle.std.proofs.lemmas.Bool.{cases_eq, eq-eqb, ne_eqb, eqb-true, and_parts, and_from, or_parts, or_right}
 use Rattle.pas_profile.specs.Classes.{has_bit, is_usable}
 use Rattle.pas_profile.specs.declared.profile.Profile.{Profile}
 use Rattle.pas_bits.specs.declared.mask.Mask4.{Mask4}
 use Rattle.pas_bits.specs.Masks.{is_set}
 use Rattle.pas_bits.proofs.Words.{none_of_zero, bit_of_and, four_words}
 use Rattle.pas_steps.specs.Effects.{in_mask}
-use Rattle.pas_steps.specs.Views.{View, Gets, Stays, held_after, holds, any_below, holds_on, has_right, known_free, knows_backed, all_ones, owes_check, owes_hint}
+use Rattle.pas_steps.specs.Views.{View, Gets, Stays, held_after, holds, holds_on, has_right, known_free, knows_backed, all_ones, owes_check, owes_hint}
 use Rattle.pas_steps.specs.Agreement.{Agreed}
 use Rattle.pas_steps.specs.Past.{Once, Since}
 use Rattle.pas_steps.specs.Frames.{IsGrains, OnlyGrains, KeepsRight}
-use Rattle.pas_steps.specs.Desks.{made}
 use Rattle.pas_steps.specs.declared.step.Made.{Made}
 use Rattle.pas_steps.specs.declared.step.Step.TheVariants.{Take}
 use Rattle.pas_steps.proofs.Frames.{rights_stay}
@@ -132,6 +131,16 @@ free_read f page masks [] v agreed g at lt known = absurd (omega (arith, lt))
 free_read f page masks (a ∷ more) v agreed g at lt known = elim (cases_eq (length more) (g / 64 % 4)) [
   | inl e ↦ ap (λ n. has_bit n (g % 64)) (read_here a more (g / 64 % 4) e) ∙ agreed.0.free g at (sym e) (still_free page masks more v g (omega (arith, e)) ∙ known)
   | inr ne ↦ ap (λ n. has_bit n (g % 64)) (read_before a more (g / 64 % 4) ne) ∙ free_read f page masks more v agreed.1 g at (omega (arith, lt, ne)) known
+]
+
+-- what is held is read as not free
+pub held_unread : (f : Profile) (page : ℕ) (masks answers : List ℕ) (v : View) → Agreed f v (takes page masks answers) → (g : ℕ) → g / 256 ≡ page → holds v g ≡ true → has_bit (read_word answers (g / 64 % 4)) (g % 64) ≡ false
+held_unread f page masks [] v agreed g at held = none_of_zero (g % 64)
+held_unread f page masks (a ∷ more) v agreed g at held = elim (cases_eq (length more) (g / 64 % 4)) [
+  | inl e ↦
+      ap (λ n. has_bit n (g % 64)) (read_here a more (g / 64 % 4) e)
+      ∙ agreed.0.held g at (sym e) (takes_hold page masks more g v ∙ or_right (got_bit page masks more g) (holds v g) held)
+  | inr ne ↦ ap (λ n. has_bit n (g % 64)) (read_before a more (g / 64 % 4) ne) ∙ held_unread f page masks more v agreed.1 g at held
 ]
 
 -- ---- the readings

@@ -2,7 +2,7 @@
 use Rattle.std.specs.Prelude.{ℕ, ◌+◌, ◌-◌, ◌*◌, ◌/◌, ◌%◌, ◌<◌, ◌≤◌, ◌≡◌, ◌==◌, nat_le, nat_lt, Bool, true, false, ◌&&◌, if◌then◌else◌}
 use Rattle.pas_profile.specs.Classes.{has_bit, class_grains, usable_grains, IsSlotStart}
 use Rattle.pas_bits.specs.declared.mask.Mask4.{Mask4}
-use Rattle.pas_bits.specs.Masks.{is_set, AreSet}
+use Rattle.pas_bits.specs.Masks.{is_set}
 
 -- bit i of the 128 bits of two words, the lower one first
 abbrev pub bit_of_two : ℕ → ℕ → ℕ → Bool

@@ -3,7 +3,6 @@ use Rattle.std.specs.Prelude.{ℕ, ◌+◌, ◌*◌, ◌/◌, ◌%◌, ◌<◌, 
 use Rattle.pas_profile.specs.Classes.{has_bit, is_usable, class_grains, IsSlotStart}
 use Rattle.pas_profile.specs.declared.directory.Directory.{Directory}
 use Rattle.pas_profile.specs.declared.directory.Kind.TheVariants as Kind
-use Rattle.pas_profile.specs.declared.profile.Profile.{Profile}
 use Rattle.pas_bits.specs.declared.mask.Mask4.{Mask4}
 use Rattle.pas_bits.specs.Masks.{is_set}
 use Rattle.pas_steps.specs.Views.{View, holds, holds_on, has_right, known_free, knows_backed}
@@ -96,6 +95,7 @@ pub record TakesSlots (class page : ℕ) (d : Directory) (desk desk' : Standing)
   pub readings : Readings
   pub takes_all : (word : ℕ) → word < 4 → Once (TakesHere class page word readings) steps
   pub read : (before : List Made) → GotBefore page before → (word : ℕ) → word < 4 → Since (ShowsHere page word readings) (KeptHere page) (steps ++ before)
+  pub held : (v : View) → Agreed desk.seat.profile v steps → (g : ℕ) → g / 256 ≡ page → holds v g ≡ true → readings (g % 256) ≡ false
   pub are : AreFreeSlots class readings starts
   pub all_free : (v : View) → Agreed desk.seat.profile v steps → ((g : ℕ) → g / 256 ≡ page → known_free v g ≡ true) → IsSome starts
 

@@ -3,10 +3,12 @@
 
 mod masks;
 mod putting;
+mod refilling;
 mod serving;
 mod slots;
 mod stopping;
 mod taking;
 
+pub use refilling::refill;
 pub use slots::Slots;
 pub use stopping::stop;

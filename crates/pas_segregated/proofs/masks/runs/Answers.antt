@@ -1,4 +1,4 @@
-use Rattle.std.proofs.Common.{◌+◌, arith}
+use Rattle.std.proofs.Common.{arith}
 use Rattle.pas_segregated.proofs.Bits.{runs_longer}
 use Rattle.pas_segregated.proofs.masks.runs.Goals as goal
 

@@ -1,4 +1,4 @@
-use Rattle.std.proofs.Common.{◌+◌, arith}
+use Rattle.std.proofs.Common.{arith}
 use Rattle.pas_segregated.proofs.Bits.{near_longer}
 use Rattle.pas_segregated.proofs.masks.spread.Goals as goal
 

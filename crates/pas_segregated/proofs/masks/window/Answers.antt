@@ -1,4 +1,3 @@
-use Rattle.std.proofs.Common.{rules}
 use Rattle.pas_segregated.proofs.Bits.{window_bit}
 use Rattle.pas_segregated.proofs.masks.window.Goals as goal
 

@@ -1,4 +1,4 @@
-use Rattle.std.proofs.Common.{◌++◌, refl, ◌∙◌, subst, sym, arith, add-one}
+use Rattle.std.proofs.Common.{◌++◌, refl, ◌∙◌, subst, sym, add-one}
 use Rattle.pas_profile.specs.Profiles.{IsPage}
 use Rattle.pas_steps.proofs.Adding.{adds_call, can_call}
 use Rattle.pas_segregated.specs.Returns.{PutsBelow}

@@ -1,6 +1,4 @@
-use Rattle.std.proofs.Common.{◌/◌, ◌↔◌, ◌∙◌, IsTrue, ap, subst}
-use Rattle.pas_profile.specs.Classes.{class_grains}
-use Rattle.pas_bits.specs.Masks.{is_set, AreSet}
+use Rattle.std.proofs.Common.{◌/◌, subst}
 use Rattle.pas_segregated.proofs.Starts.{whole_is}
 use Rattle.pas_segregated.proofs.Bits.{BeginRuns}
 use Rattle.pas_segregated.proofs.slots.whole_slots.Goals as goal

@@ -1,4 +1,3 @@
-use Rattle.std.proofs.Common.{◌∙◌}
 use Rattle.pas_steps.proofs.Adding.{can_call}
 use Rattle.pas_segregated.proofs.Complete.{rest_is, first_adds, may_give_back, takes_slots}
 use Rattle.pas_segregated.proofs.taking.take_slots.Goals as goal

@@ -1,0 +1,51 @@
+-- What a search of exclusive pages found, as slots.
+use Rattle.std.proofs.Common.{◌≡◌, ℕ, Bool, true, ◌||◌, if◌then◌else◌, ◌++◌, Ok, Err, refl, ap, ◌∙◌, subst}
+use Rattle.std.proofs.lemmas.Bool.{eq-eqb}
+use Rattle.pas_profile.specs.Profiles.{IsPage}
+use Rattle.pas_profile.specs.declared.event.NoRoom.{NoRoom}
+use Rattle.pas_bits.specs.declared.mask.Mask4.{Mask4}
+use Rattle.pas_steps.specs.Views.{View, holds, has_right}
+use Rattle.pas_steps.specs.Agreement.{Agreed}
+use Rattle.pas_steps.specs.Desks.{Standing}
+use Rattle.pas_search.specs.Searches.{MaySearch, Searches}
+use Rattle.pas_search.specs.declared.serving.Served.{Served}
+use Rattle.pas_segregated.specs.Masks.{AreStarts}
+use Rattle.pas_segregated.specs.Takes.{exclusive}
+use Rattle.pas_segregated.specs.Stops.{class_directory, MayStop}
+use Rattle.pas_segregated.specs.Refills.{slots_found, Refills}
+use Rattle.pas_segregated.specs.declared.slots.Slots.{Slots}
+
+module _ (heap class : ℕ) {tells : Bool} {σ σ' : Standing} (served : Served Mask4) (searches : Searches (exclusive class) tells (class_directory heap class) σ σ' (Ok served)) where
+  abbrev found : Slots
+  found = slots_found heap class served
+
+  found_starts : AreStarts class served.found
+  found_starts s h = ((searches.outcome.serves.are s).0 h).0
+
+  found_may_stop : (v : View) → MaySearch (class_directory heap class) v → Agreed σ.seat.profile v searches.steps → MayStop (slots_found heap class served) (searches.steps ++ v)
+  found_may_stop v met agreed = let keeps = searches.outcome.keeps in record {
+    clear = keeps.clear v met agreed;
+    held = λ g here. keeps.grains v met agreed g ∙ ap (λ t. t || holds v g) here;
+    deed = (keeps.known v met agreed).1;
+    right = λ has. keeps.rights v met agreed served.page ∙ ap (λ t. if t then true else has_right v served.page) (eq-eqb served.page served.page refl);
+  }
+
+  pub refills_ok : Refills heap class tells σ σ' (Ok (slots_found heap class served))
+  refills_ok = record {
+    found = Ok served;
+    answer_is = refl;
+    searches = searches;
+    page = λ slots e. let same : slots_found heap class served ≡ slots = cc in subst (λ s. IsPage σ.seat.profile s.page) same searches.outcome.page;
+    starts = λ slots e. let same : slots_found heap class served ≡ slots = cc in subst (λ s. AreStarts class s.starts) same found_starts;
+    may_stop = λ slots e v met agreed. let same : slots_found heap class served ≡ slots = cc in subst (λ s. MayStop s (searches.steps ++ v)) same (found_may_stop v met agreed);
+  }
+
+pub refills_err : (heap class : ℕ) {tells : Bool} {σ σ' : Standing} (room : NoRoom) → Searches (exclusive class) tells (class_directory heap class) σ σ' (Err room) → Refills heap class tells σ σ' (Err room)
+refills_err heap class room searches = record {
+  found = Err room;
+  answer_is = refl;
+  searches = searches;
+  page = λ slots e. absurd (cc);
+  starts = λ slots e. absurd (cc);
+  may_stop = λ slots e. absurd (cc);
+}
