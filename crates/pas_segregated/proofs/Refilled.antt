@@ -1,5 +1,5 @@
 -- What a search of exclusive pages found, as slots.
-use Rattle.std.proofs.Common.{◌≡◌, ℕ, Bool, true, ◌||◌, if◌then◌else◌, ◌++◌, Ok, Err, refl, ap, ◌∙◌, subst}
+use Rattle.std.proofs.Common.{◌≡◌, ℕ, Bool, true, ◌||◌, if◌then◌else◌, ◌++◌, Ok, Err, refl, ap, sym, ◌∙◌, subst}
 use Rattle.std.proofs.lemmas.Bool.{eq-eqb}
 use Rattle.pas_profile.specs.Profiles.{IsPage}
 use Rattle.pas_profile.specs.declared.event.NoRoom.{NoRoom}
@@ -11,7 +11,7 @@ use Rattle.pas_search.specs.Searches.{MaySearch, Searches}
 use Rattle.pas_search.specs.declared.serving.Served.{Served}
 use Rattle.pas_segregated.specs.Masks.{AreStarts}
 use Rattle.pas_segregated.specs.Takes.{exclusive}
-use Rattle.pas_segregated.specs.Stops.{class_directory, MayStop}
+use Rattle.pas_segregated.specs.Stops.{class_directory, directory_of, MayStop}
 use Rattle.pas_segregated.specs.Refills.{slots_found, Refills}
 use Rattle.pas_segregated.specs.declared.slots.Slots.{Slots}
 
@@ -36,7 +36,8 @@ module _ (heap class : ℕ) {tells : Bool} {σ σ' : Standing} (served : Served 
     answer_is = refl;
     searches = searches;
     page = λ slots e. let same : slots_found heap class served ≡ slots = cc in subst (λ s. IsPage σ.seat.profile s.page) same searches.outcome.page;
-    starts = λ slots e. let same : slots_found heap class served ≡ slots = cc in subst (λ s. AreStarts class s.starts) same found_starts;
+    named = λ slots e. let same : slots_found heap class served ≡ slots = cc in ap directory_of (sym same);
+    starts = λ slots e. let same : slots_found heap class served ≡ slots = cc in subst (λ s. AreStarts s.class s.starts) same found_starts;
     may_stop = λ slots e v met agreed. let same : slots_found heap class served ≡ slots = cc in subst (λ s. MayStop s (searches.steps ++ v)) same (found_may_stop v met agreed);
   }
 
@@ -46,6 +47,7 @@ refills_err heap class room searches = record {
   answer_is = refl;
   searches = searches;
   page = λ slots e. absurd (cc);
+  named = λ slots e. absurd (cc);
   starts = λ slots e. absurd (cc);
   may_stop = λ slots e. absurd (cc);
 }

@@ -10,7 +10,7 @@ use Rattle.pas_search.specs.Searches.{MaySearch, Searches}
 use Rattle.pas_search.specs.declared.serving.Served.{Served}
 use Rattle.pas_segregated.specs.Masks.{AreStarts}
 use Rattle.pas_segregated.specs.Takes.{exclusive}
-use Rattle.pas_segregated.specs.Stops.{class_directory, MayStop}
+use Rattle.pas_segregated.specs.Stops.{class_directory, directory_of, MayStop}
 use Rattle.pas_segregated.specs.declared.slots.Slots.{Slots}
 
 -- the slots of the page that a search found, with its right
@@ -27,5 +27,6 @@ pub record Refills (heap class : ℕ) (tells : Bool) (desk desk' : Standing) (an
   pub answer_is : answer ≡ answer_of heap class found
   pub searches : Searches (exclusive class) tells (class_directory heap class) desk desk' found
   pub page : (slots : Slots) → answer ≡ Ok slots → IsPage desk.seat.profile slots.page
-  pub starts : (slots : Slots) → answer ≡ Ok slots → AreStarts class slots.starts
+  pub named : (slots : Slots) → answer ≡ Ok slots → directory_of slots ≡ class_directory heap class
+  pub starts : (slots : Slots) → answer ≡ Ok slots → AreStarts slots.class slots.starts
   pub may_stop : (slots : Slots) → answer ≡ Ok slots → (v : View) → MaySearch (class_directory heap class) v → Agreed desk.seat.profile v searches.steps → MayStop slots (searches.steps ++ v)

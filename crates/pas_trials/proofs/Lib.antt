@@ -1,3 +1,4 @@
 pub mod Bringing
 pub mod Besides
 pub mod Found
+pub mod Fills
