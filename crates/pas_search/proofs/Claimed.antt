@@ -1,5 +1,5 @@
 -- The ends of one offered page: a claim, and the back end's steps.
-use Rattle.std.proofs.Common.{◌≡◌, ℕ, ◌%◌, ◌≤◌, ◌==◌, Bool, true, false, ◌&&◌, if◌then◌else◌, List, [], ◌∷◌, ◌++◌, None, Some, length, refl, ap, sym, ◌∙◌, subst, inl, inr, append_assoc, append-nil}
+use Rattle.std.proofs.Common.{◌≡◌, ℕ, ◌%◌, ◌≤◌, ◌==◌, Bool, true, false, ◌&&◌, if◌then◌else◌, List, [], ◌∷◌, ◌++◌, None, Some, length, refl, ap, sym, ◌∙◌, subst, inl, inr, append_assoc, append-nil, ◌+◌}
 use Rattle.std.proofs.lemmas.Bool.{eq-eqb}
 use Rattle.pas_profile.specs.Classes.{has_bit}
 use Rattle.pas_profile.specs.declared.directory.Directory.{Directory}
@@ -7,12 +7,13 @@ use Rattle.pas_profile.specs.declared.profile.Profile.{Profile}
 use Rattle.pas_steps.specs.declared.step.Made.{Made}
 use Rattle.pas_steps.specs.declared.step.Step.TheVariants.{TakeRight}
 use Rattle.pas_steps.specs.Views.{View, holds, has_right, knows_backed}
-use Rattle.pas_steps.specs.Events.{events_by}
+use Rattle.pas_steps.specs.Events.{events_by, events_of}
 use Rattle.pas_steps.specs.Agreement.{Agreed}
-use Rattle.pas_steps.specs.Desks.{Seat, Standing, made, Adds}
+use Rattle.pas_steps.specs.Lists.{Whole}
+use Rattle.pas_steps.specs.Desks.{Seat, Standing, made, Adds, CanCall}
 use Rattle.pas_steps.specs.Past.{Once}
 use Rattle.pas_steps.specs.Frames.{IsOnPage, OnlyOn}
-use Rattle.pas_steps.proofs.Adding.{adds_call, adds_under, agreed_first}
+use Rattle.pas_steps.proofs.Adding.{can_call, adds_call, adds_under, agreed_first}
 use Rattle.pas_steps.proofs.Frames.{events_append}
 use Rattle.pas_rights.specs.Rights.{KnowsDeed, OwesNothing}
 use Rattle.pas_scan.specs.Evidence.{ReadsEligible, GetsRight, UnfitHere, ShowsHere}
@@ -21,7 +22,7 @@ use Rattle.pas_search.specs.Serving.{Rule, MayServe, FreshAt, GotBefore, LeavesP
 use Rattle.pas_search.specs.Searches.{IsUntouched, MayTry, LeavesAsWas, FailsPage, FitsPage, TriesPage}
 use Rattle.pas_search.specs.declared.trying.Tried.TheVariants.{Lost, Unfit, Fits}
 use Rattle.pas_search.proofs.Backed.{backed_more}
-use Rattle.pas_search.proofs.StepKinds.{serves_on, serves_search, searches_append, on_append, quiet_append, deeds_serves}
+use Rattle.pas_search.proofs.StepKinds.{room_kept, serves_on, serves_search, searches_append, on_append, quiet_append, deeds_serves, serves_events, quiet_events, events_at_append}
 
 -- ---- the claim
 abbrev pub claimed : ℕ → Directory → ℕ → List Made
@@ -106,8 +107,8 @@ module _ {F : Type 0} (rule : Rule F) (f : Profile) (p : ℕ) (d : Directory) (a
     unfit = λ before untouched. subst (Once (UnfitHere rule.no_fit p)) (sym (served_on before)) (leaves.unfit (claimed p d a ++ before) (claimed_got p d a before bit untouched));
   }
 
-  fits_by : (found : F) → ((k : ℕ) (v : View) → length (events_by k v zs) ≤ rule.events) → KeepsPage rule f p d zs found → FitsPage rule f p d all found
-  fits_by found few keeps = record {
+  fits_by : (found : F) → OnlyServes p zs → ((k : ℕ) (v : View) → length (events_by k v zs) ≤ rule.events) → KeepsPage rule f p d zs found → FitsPage rule f p d all found
+  fits_by found only few keeps = record {
     right = λ v met agreed. ap (λ s. has_right s p) (served_on v) ∙ keeps.right (claimed p d a ++ v) (claimed_may p d a v bit met) (served_agreed v agreed);
     grains = λ v met agreed g at. ap (λ s. holds s g) (served_on v) ∙ keeps.grains (claimed p d a ++ v) (claimed_may p d a v bit met) (served_agreed v agreed) g at;
     owes = λ v met agreed. subst (OwesNothing p) (sym (served_on v)) (keeps.owes (claimed p d a ++ v) (claimed_may p d a v bit met) (served_agreed v agreed));
@@ -120,6 +121,7 @@ module _ {F : Type 0} (rule : Rule F) (f : Profile) (p : ℕ) (d : Directory) (a
     };
     serves = λ before untouched. subst (λ s. rule.serves p s found) (sym (served_on before)) (keeps.serves (claimed p d a ++ before) (claimed_got p d a before bit untouched));
     few = λ k v. subst (λ es. length es ≤ rule.events) (sym (events_append k zs (claimed p d a) v ∙ append-nil (events_by k (claimed p d a ++ v) zs))) (few k (claimed p d a ++ v));
+    events = events_at_append d p zs (claimed p d a) (serves_events d p zs only) (quiet_events d p (claimed p d a) (λ k e. refl, tt));
   }
 
 tried_adds : {σ σ1 σ2 : Standing} (p : ℕ) (d : Directory) (a : ℕ) (zs : List Made) → Adds σ σ1 (λ v l. KnowsDeed p d v) (claimed p d a) → has_bit a (p % 64) ≡ true → Adds σ1 σ2 (λ v l. MayServe p d v) zs → Adds σ σ2 (λ v l. MayTry p d v) (zs ++ claimed p d a)
@@ -151,5 +153,13 @@ fits_page {F} {rule} {σ} {σ1} {σ2} p d a claim bit found serves = record {
   on = tried_on p d a serves.steps serves.only;
   searches = tried_only p d a serves.steps serves.only;
   no_deed = tried_deeds p d a serves.steps serves.only;
-  outcome = subst (λ (s : Seat). FitsPage rule s.profile p d (serves.steps ++ claimed p d a) found) claim.seat_is (fits_by rule σ1.seat.profile p d a bit serves.steps found serves.few serves.outcome);
+  outcome = subst (λ (s : Seat). FitsPage rule s.profile p d (serves.steps ++ claimed p d a) found) claim.seat_is (fits_by rule σ1.seat.profile p d a bit serves.steps found serves.only serves.few serves.outcome);
 }
+
+-- ---- what the back end asks
+pub claim_call : {σ σ1 : Standing} (p : ℕ) (d : Directory) (a : ℕ) → Adds σ σ1 (λ v l. KnowsDeed p d v) (claimed p d a) → has_bit a (p % 64) ≡ true → CanCall σ (λ v l. MayTry p d v) → CanCall σ1 (λ v l. MayServe p d v)
+claim_call p d a claim bit can = can_call {C = λ v l. MayTry p d v} {D = λ v l. MayServe p d v} (adds_under {C = λ v l. KnowsDeed p d v} claim (λ v l stood met. met.deed)) can (λ v l stood met. claimed_may p d a v bit met)
+
+pub claim_room : {σ σ1 : Standing} (p : ℕ) (d : Directory) (a : ℕ) {spare spare' : ℕ} (n : ℕ) → Adds σ σ1 (λ v l. KnowsDeed p d v) (claimed p d a) → CanCall σ (λ v l. MayTry p d v)
+    → ((v : View) (l : Whole) → σ.stands v l → spare + length (events_of σ.seat.actor v) ≡ σ.seat.room) → ((v : View) (l : Whole) → σ1.stands v l → spare' + length (events_of σ1.seat.actor v) ≡ σ1.seat.room) → n ≤ spare → n ≤ spare'
+claim_room p d a n claim can law law' fits = room_kept {C = λ v l. MayTry p d v} n (adds_under {C = λ v l. KnowsDeed p d v} claim (λ v l stood met. met.deed)) can (λ k e. refl, tt) law law' fits

@@ -12,21 +12,21 @@ use Rattle.pas_steps.specs.declared.step.Step.TheVariants.{Deed}
 use Rattle.pas_steps.specs.Views.{View, holds, has_right, known_deed, known_free, knows_backed, epoch_of}
 use Rattle.pas_steps.specs.Events.{event_of, with_event, events_of, events_by}
 use Rattle.pas_steps.specs.Agreement.{Agrees, Agreed}
-use Rattle.pas_steps.specs.Desks.{Seat, Standing, Anything, made, Adds, CanCall}
+use Rattle.pas_steps.specs.Desks.{Makes, Seat, Standing, Anything, made, Adds, CanCall}
 use Rattle.pas_steps.specs.Lists.{Whole}
 use Rattle.pas_steps.specs.Past.{Once}
 use Rattle.pas_steps.specs.Frames.{IsOnPage, IsRead, OnlyOn, OnlyReads}
-use Rattle.pas_steps.proofs.Adding.{adds_call, agreed_first, agreed_later, room_left}
+use Rattle.pas_steps.proofs.Adding.{adds_step, can_call, adds_call, agreed_first, agreed_later, room_left}
 use Rattle.pas_steps.proofs.Past.{once_later, once_earlier}
 use Rattle.pas_steps.proofs.Frames.{events_append, events_split}
 use Rattle.pas_steps.proofs.Kept.{deed_stays}
 use Rattle.pas_rights.specs.Rights.{OwesNothing}
 use Rattle.pas_scan.specs.Evidence.{ReadsDeed, DeedHere, NoDeedHere, GetsRight, AllDeeds, Searched, ShowsHere}
 use Rattle.pas_scan.specs.Scan.{FindsBare}
-use Rattle.pas_search.specs.Kinds.{IsSearch, OnlyServes, OnlySearches, AreQuiet, deeds_made}
+use Rattle.pas_search.specs.Kinds.{IsDeedOrBack, IsSearch, OnlyServes, OnlySearches, AreQuiet, deeds_made}
 use Rattle.pas_search.specs.Serving.{Rule, MayServe, GotBefore, KeepsPage, ServesPage}
 use Rattle.pas_search.specs.Searches.{IsClear, MaySearch, BareRoom, IsUntouched, Searching, DeedMadeHere, ByDeed, FewEvents, IsFoundBare, SearchesBare}
-use Rattle.pas_search.proofs.StepKinds.{serves_on, serves_search, searches_append, on_append, scans_read, reads_append, reads_quiet, events_quiet, no_deeds, deeds_serves}
+use Rattle.pas_search.proofs.StepKinds.{serves_on, serves_search, searches_append, on_append, scans_read, reads_append, reads_quiet, events_quiet, no_deeds, deeds_serves, serves_events, quiet_events, events_at_append}
 use Rattle.pas_search.proofs.Going.{clear_after_reads, reads_searching, found_keeps, deed_kept_known}
 use Rattle.pas_search.proofs.Turning.{events_after_quiet}
 
@@ -54,6 +54,10 @@ deed_deeds page d a xs ne all p low high = elim (cases_lt p page) [
 
 pub bare_adds : {σ0 σ σ1 : Standing} {from : ℕ} {page : ℕ} (xs : List Made) → Adds σ0 σ (λ v l. IsClear v) xs → (find : FindsBare from σ σ1 (Some page)) → Adds σ0 σ1 (λ v l. IsClear v) (find.steps ++ xs)
 bare_adds xs adds find = adds_call {D = Anything} adds find.adds (λ v l stood met. tt)
+
+-- the step of the deed
+pub deed_adds : {σ0 σ1 σ2 : Standing} (page : ℕ) (d : Directory) (a : ℕ) (xs : List Made) → Adds σ0 σ1 (λ v l. IsClear v) xs → Makes σ1 σ2 (Deed page d) a → Adds σ0 σ2 (λ v l. IsClear v) (made (Deed page d) a ∷ xs)
+deed_adds page d a xs adds makes = adds_step {C = λ v l. IsClear v} {step = Deed page d} adds makes (λ v l stood met. tt)
 
 pub no_bare : {F : Type 0} {rule : Rule F} {σ0 σ σ1 : Standing} (d : Directory) (from : ℕ) (xs : List Made) → Adds σ0 σ (λ v l. IsClear v) xs → OnlyReads xs → AllDeeds from xs → FindsBare from σ σ1 None → SearchesBare rule d σ0 σ1 None
 no_bare {F} {rule} {σ0} {σ} d from xs adds reads all find = record {
@@ -126,6 +130,10 @@ serve_room {σ} {σ2} {n} {spare} {spare'} page d a xs reads adds can law law' w
 pub clear_call : {σ : Standing} {f : Profile} {n spare : ℕ} → CanCall σ (λ v l. BareRoom f n spare v) → CanCall σ (λ v l. IsClear v)
 clear_call can = record { view = can.view; whole = can.whole; stood = can.stood; met = can.met.clear }
 
+-- the back end may serve from there
+pub deed_call : {σ0 σ2 : Standing} {f : Profile} {n spare : ℕ} (page : ℕ) (d : Directory) (a : ℕ) (xs : List Made) → a ≡ 0 → OnlyReads xs → Adds σ0 σ2 (λ v l. IsClear v) (made (Deed page d) a ∷ xs) → CanCall σ0 (λ v l. BareRoom f n spare v) → CanCall σ2 (λ v l. MayServe page d v)
+deed_call page d a xs e reads adds can = can_call {C = λ v l. IsClear v} {D = λ v l. MayServe page d v} adds (clear_call can) (λ v l stood met. deed_may page d a (xs ++ v) e (clear_after_reads xs v reads met))
+
 -- a page whose deed was just made isn't left: all its grains are known as free
 pub deed_not_left : {F : Type 0} {rule : Rule F} {σ σ1 σ2 : Standing} {f : Profile} {n spare : ℕ} (p : ℕ) (d : Directory) (a : ℕ) → a ≡ 0 → (xs : List Made) → OnlyReads xs → Adds σ σ1 (λ v l. IsClear v) (made (Deed p d) a ∷ xs)
     → CanCall σ (λ v l. BareRoom f n spare v) → ServesPage rule p d σ1 σ2 None → ⊥
@@ -193,6 +201,7 @@ module _ {F : Type 0} (rule : Rule F) (f : Profile) (d : Directory) (p : ℕ) (a
         };
         serves = subst (λ s. rule.serves p s found) (sym (append_assoc zs first list)) (keeps.serves (first ++ list) (got_at list (s.untouched p)));
         few = few_events list s.quiet is;
+        events = events_at_append d p ys list (events_at_append d p zs first (serves_events d p zs only) (inr IsDeedOrBack.Deeds, tt)) (quiet_events d p list s.quiet);
       }
 
 pub bare_found : {F : Type 0} {rule : Rule F} {σ0 σ1 σ2 : Standing} (d : Directory) (p : ℕ) (a : ℕ) → a ≡ 0 → (found : F) → (serves : ServesPage rule p d σ1 σ2 (Some found)) → (xs : List Made) → Adds σ0 σ1 (λ v l. IsClear v) (made (Deed p d) a ∷ xs) → OnlyReads xs → AllDeeds p xs → IsPage σ0.seat.profile p

@@ -50,6 +50,7 @@ ends_offered {F} {rule} {σ} {σ1} e d marks served same first =
         shows = found.shows;
         serves = found.serves;
         few = λ k v agreed. let n = found.few k v in (omega (arith, n), λ known. n);
+        events = found.events;
       };
     }
 
@@ -73,6 +74,7 @@ ends_bare {F} {rule} {σ} {σ1} {σ2} e d marks served same first bare =
         shows = found.shows;
         serves = found.serves;
         few = found.few;
+        events = found.events;
       };
     }
 
@@ -132,6 +134,7 @@ searches_by {F} {rule} {σ} {σ'} {answer} tells d valid of fewer told parts end
   steps = ends.steps;
   adds = ends.adds;
   searches = ends.searches;
+  deeds = λ v agreed p known. deed_stays σ.seat.profile ends.steps v p agreed known;
   outcome = ends.outcome;
   told = λ yes_tells v l stood met.
       let f : Profile = σ.seat.profile in

@@ -36,20 +36,17 @@ lacks_on page p [] xs h ne none all = all
 lacks_on page p (m ∷ more) xs h ne none all = (right_on page p (m ∷ more) xs h ne ∙ none, lacks_on page p more xs h.1 ne none all)
 
 -- ---- steps that changed nothing
-clear_reads : (ys : List Made) (v : View) → OnlyReads ys → IsClear v → IsClear (ys ++ v)
-clear_reads ys v reads clear = record {
+pub clear_after_reads : (ys : List Made) (v : View) → OnlyReads ys → IsClear v → IsClear (ys ++ v)
+clear_after_reads ys v reads clear = record {
   stamped = λ p. unstamped_searches p ys v (reads_search ys reads) ∙ clear.stamped p;
   owes = λ p. record { checks = λ w lt. check_reads p w ys v reads ((clear.owes p).checks w lt); hint = hint_reads p ys v reads (clear.owes p).hint };
 }
-
-pub clear_after_reads : (ys : List Made) (v : View) → OnlyReads ys → IsClear v → IsClear (ys ++ v)
-clear_after_reads ys v reads clear = clear_reads ys v reads clear
 
 pub reads_still : (f : Profile) (d : Directory) (ys xs : List Made) → OnlyReads ys → IsStill f d xs → IsStill f d (ys ++ xs)
 reads_still f d ys xs reads still = record {
   rights = λ v met agreed p. ap (λ s. has_right s p) (append_assoc ys xs v) ∙ right_reads p ys (xs ++ v) reads ∙ still.rights v met (agreed_later f v ys xs agreed) p;
   grains = λ v met agreed g. ap (λ s. holds s g) (append_assoc ys xs v) ∙ holds_reads g ys (xs ++ v) reads ∙ still.grains v met (agreed_later f v ys xs agreed) g;
-  clear = λ v met agreed. subst IsClear (sym (append_assoc ys xs v)) (clear_reads ys (xs ++ v) reads (still.clear v met (agreed_later f v ys xs agreed)));
+  clear = λ v met agreed. subst IsClear (sym (append_assoc ys xs v)) (clear_after_reads ys (xs ++ v) reads (still.clear v met (agreed_later f v ys xs agreed)));
   backed = λ v met agreed p h. ap (λ s. knows_backed s p) (append_assoc ys xs v) ∙ backed_reads f p ys (xs ++ v) reads (agreed_first f v ys xs agreed) (still.backed v met (agreed_later f v ys xs agreed) p h);
 }
 

@@ -9,3 +9,5 @@ pub mod Spotting
 pub mod Grained
 pub mod Told
 pub mod Ending
+pub mod Unfitting
+pub mod Leftover

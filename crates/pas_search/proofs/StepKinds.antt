@@ -1,6 +1,7 @@
 -- What the kinds of steps of a search are, and what they leave as it was.
-use Rattle.std.proofs.Common.{◌≡◌, ◌≢◌, ℕ, suc, ◌+◌, ◌≤◌, ◌==◌, length, arith, Bool, true, false, if◌then◌else◌, List, [], ◌∷◌, ◌++◌, None, Some, refl, ap, ◌∙◌}
+use Rattle.std.proofs.Common.{◌≡◌, ◌≢◌, ℕ, suc, ◌+◌, ◌≤◌, ◌==◌, length, arith, Bool, true, false, if◌then◌else◌, List, [], ◌∷◌, ◌++◌, ◌⊎◌, inl, inr, None, Some, refl, ap, ◌∙◌}
 use Rattle.std.proofs.lemmas.Bool.{ne_eqb}
+use Rattle.pas_profile.specs.declared.directory.Directory.{Directory}
 use Rattle.pas_profile.specs.declared.word.Word.{Word}
 use Rattle.pas_profile.specs.declared.event.Event.{Event}
 use Rattle.pas_steps.specs.declared.step.Made.{Made}
@@ -15,8 +16,8 @@ use Rattle.pas_steps.specs.Lists.{Whole}
 use Rattle.pas_steps.proofs.Adding.{room_left}
 use Rattle.pas_steps.proofs.Frames.{events_split}
 use Rattle.pas_steps.proofs.Past.{always_both, always_map}
-use Rattle.pas_steps.proofs.Kept.{scans_look, looks_read}
-use Rattle.pas_search.specs.Kinds.{IsServe, OnlyServes, IsSearch, OnlySearches, IsQuiet, AreQuiet, makes_deed, deeds_made}
+use Rattle.pas_steps.proofs.Kept.{IsStill, AreStill, scans_look, looks_read}
+use Rattle.pas_search.specs.Kinds.{IsServe, OnlyServes, IsSearch, OnlySearches, IsQuiet, AreQuiet, IsDeedOrBack, EventsAt, makes_deed, deeds_made}
 
 -- ---- one kind is another
 serve_on : (p : ℕ) (s : Step) → IsServe p s → IsOnPage p s
@@ -94,12 +95,35 @@ read_quiet s a (IsRead.Reads p d b ne) = λ k e. ap (λ t. if t then Some (Event
 pub reads_quiet : (steps : List Made) → OnlyReads steps → AreQuiet steps
 reads_quiet steps h = always_map (λ m before. IsRead m.step m.answer) (λ m before. IsQuiet m) steps (λ m before is. read_quiet m.step m.answer is) h
 
+-- steps that leave all that is known, so also those of a leave, make none
+pub quiet_still : (steps : List Made) → AreStill steps → AreQuiet steps
+quiet_still steps h = always_map (λ m before. IsStill m) (λ m before. IsQuiet m) steps (λ m before still k e. still.event k e) h
+
 pub quiet_append : (ys xs : List Made) → AreQuiet ys → AreQuiet xs → AreQuiet (ys ++ xs)
 quiet_append ys xs a b = always_both (λ m before. IsQuiet m) (λ m before. IsQuiet m) ys xs (λ m before h. h) a b
 
 pub events_quiet : (k : ℕ) (v : View) (steps : List Made) → AreQuiet steps → events_by k v steps ≡ []
 events_quiet k v [] h = refl
 events_quiet k v (m ∷ more) h = ap (λ o. with_event o (events_by k v more)) (h.0 k (epoch_of (more ++ v))) ∙ events_quiet k v more h.1
+
+serve_event : (d : Directory) (p : ℕ) (s : Step) (a : ℕ) → IsServe p s → IsQuiet record { step = s; answer = a } ⊎ IsDeedOrBack d p s
+serve_event d p s a (IsServe.Looks word) = inl (λ k e. refl)
+serve_event d p s a IsServe.Backs = inr IsDeedOrBack.Backs
+serve_event d p s a (IsServe.Takes w mask) = inl (λ k e. refl)
+serve_event d p s a (IsServe.Puts w mask) = inl (λ k e. refl)
+serve_event d p s a (IsServe.Offers x) = inl (λ k e. refl)
+serve_event d p s a IsServe.Parks = inl (λ k e. refl)
+serve_event d p s a IsServe.Unparks = inl (λ k e. refl)
+serve_event d p s a IsServe.Hints = inl (λ k e. refl)
+
+pub serves_events : (d : Directory) (p : ℕ) (steps : List Made) → OnlyServes p steps → EventsAt d p steps
+serves_events d p steps h = always_map (λ m before. IsServe p m.step) (λ m before. IsQuiet m ⊎ IsDeedOrBack d p m.step) steps (λ m before is. serve_event d p m.step m.answer is) h
+
+pub quiet_events : (d : Directory) (p : ℕ) (steps : List Made) → AreQuiet steps → EventsAt d p steps
+quiet_events d p steps h = always_map (λ m before. IsQuiet m) (λ m before. IsQuiet m ⊎ IsDeedOrBack d p m.step) steps (λ m before q. inl q) h
+
+pub events_at_append : (d : Directory) (p : ℕ) (ys xs : List Made) → EventsAt d p ys → EventsAt d p xs → EventsAt d p (ys ++ xs)
+events_at_append d p ys xs a b = always_both (λ m before. IsQuiet m ⊎ IsDeedOrBack d p m.step) (λ m before. IsQuiet m ⊎ IsDeedOrBack d p m.step) ys xs (λ m before h. h) a b
 
 -- a desk that has room keeps it over steps that make no event
 pub room_kept : {σ σ' : Standing} {C : View → Whole → Type 0} {xs : List Made} {spare spare' : ℕ} (n : ℕ) → Adds σ σ' C xs → (can : CanCall σ C) → AreQuiet xs

@@ -23,7 +23,7 @@ use Rattle.pas_search.specs.declared.trying.Tried.{Tried}
 use Rattle.pas_search.specs.declared.trying.Tried.TheVariants.{Lost, Unfit, Fits}
 use Rattle.pas_search.specs.declared.offered.Turn.TheVariants.{Done, Again, Found}
 use Rattle.pas_search.specs.declared.serving.Served.{Served}
-use Rattle.pas_search.proofs.StepKinds.{scans_read, searches_append, events_quiet, right_own}
+use Rattle.pas_search.proofs.StepKinds.{scans_read, searches_append, events_quiet, right_own, quiet_events, events_at_append}
 use Rattle.pas_search.proofs.Going.{clear_after_reads, lacks_reads, zeros_searching, lost_goes_on, unfit_goes_on, ready, found_first, found_keeps, deed_kept_known}
 
 pub turn_done : {F : Type 0} {rule : Rule F} {σ σ1 : Standing} (d : Directory) (next next' : ℕ) (marks marks' : List ℕ) → FindsOffered d next σ σ1 next' None → marks' ≡ marks → TriesNext rule d next marks σ σ1 next' marks' Done
@@ -134,6 +134,7 @@ module _ {F : Type 0} (rule : Rule F) {σ σ1 : Standing} (d : Directory) (next 
         };
         serves = fit.serves xs (s.untouched page);
         few = λ k v. subst (λ es. length es ≤ rule.events) (sym (events_after_quiet k v try.steps xs s.quiet)) (fit.few k (xs ++ v));
+        events = events_at_append d page try.steps xs fit.events (quiet_events d page xs s.quiet);
       }
 
   pub turn_found : {σ2 : Standing} (marks marks' : List ℕ) (found : F) → TriesPage rule page d σ1 σ2 (Fits found) → TriesNext rule d next marks σ σ2 next' marks' (Found (record { page = page; found = found }))

@@ -1,5 +1,5 @@
 -- Kinds of steps of a search.
-use Rattle.std.specs.Prelude.{ℕ, ◌≡◌, ◌==◌, suc, Bool, false, if◌then◌else◌, List, [], ◌∷◌, None}
+use Rattle.std.specs.Prelude.{◌⊎◌, ℕ, ◌≡◌, ◌==◌, suc, Bool, false, if◌then◌else◌, List, [], ◌∷◌, None}
 use Rattle.pas_profile.specs.declared.directory.Directory.{Directory}
 use Rattle.pas_profile.specs.declared.word.Word.{Word}
 use Rattle.pas_steps.specs.Past.{Always}
@@ -44,6 +44,15 @@ IsQuiet m = (k epoch : ℕ) → event_of k epoch m.step m.answer ≡ None
 
 abbrev pub AreQuiet : List Made → Type 0
 AreQuiet = Always (λ m before. IsQuiet m)
+
+-- the step is the deed of the page, or its backing
+pub data IsDeedOrBack (d : Directory) (page : ℕ) : Step → Type 0 where
+  Deeds : IsDeedOrBack d page (Deed page d)
+  Backs : IsDeedOrBack d page (Back page)
+
+-- no other step made an event
+abbrev pub EventsAt : Directory → ℕ → List Made → Type 0
+EventsAt d page = Always (λ m before. IsQuiet m ⊎ IsDeedOrBack d page m.step)
 
 -- ---- deeds
 -- the step, with this answer, made a deed

@@ -17,7 +17,7 @@ use Rattle.pas_steps.specs.declared.step.Step.TheVariants.{Deed}
 use Rattle.pas_rights.specs.Rights.{KnowsDeed, OwesNothing}
 use Rattle.pas_scan.specs.Marks.{is_marked}
 use Rattle.pas_scan.specs.Evidence.{Readings, ShowsHere, ZeroHere, OneHere, UnfitHere, Searched, AllDeeds, Accounted, HeldHere, LacksAfter, IsOf}
-use Rattle.pas_search.specs.Kinds.{OnlySearches, AreQuiet, deeds_made}
+use Rattle.pas_search.specs.Kinds.{OnlySearches, AreQuiet, EventsAt, deeds_made}
 use Rattle.pas_search.specs.Serving.{Rule, HoldsNone, FreshAt, ShowsFit}
 use Rattle.pas_search.specs.Telling.{IsTold}
 use Rattle.pas_search.specs.declared.serving.Served.{Served}
@@ -114,6 +114,7 @@ pub record IsServed {F : Type 0} (rule : Rule F) (f : Profile) (d : Directory) (
   pub shows : IsShownFit rule.no_fit f d served.page steps
   pub serves : rule.serves served.page steps served.found
   pub few : FewEvents f d rule.events steps
+  pub events : EventsAt d served.page steps
 
 -- ---- refusals
 -- each page of the directory from 1 to below this one is accounted for
@@ -143,10 +144,13 @@ pub record IsRefused {F : Type 0} (rule : Rule F) (f : Profile) (d : Directory) 
   pub answer : IsRefusal f d steps room
 
 -- ---- a search
+-- Its steps, which give and end no block. What it knew of deeds it still knows. The answer has its reasons in the steps, and is true of the states
+-- at entry and at exit where the desk tells them.
 pub record Searches {F : Type 0} (rule : Rule F) (tells : Bool) (d : Directory) (desk desk' : Standing) (answer : Result (Served F) NoRoom) : Type 0 where
   pub steps : List Made
   pub adds : Adds desk desk' (λ v l. MaySearch d v) steps
   pub searches : OnlySearches steps
+  pub deeds : (v : View) → Agreed desk.seat.profile v steps → (p : ℕ) → known_deed v p ≢ 0 → known_deed (steps ++ v) p ≡ known_deed v p
   pub outcome : MatchResult answer (IsServed rule desk.seat.profile d steps) (IsRefused rule desk.seat.profile d steps)
   pub told : tells ≡ true → (v : View) (l : Whole) → desk.stands v l → MaySearch d v → IsTold rule desk.seat.profile d l (triples desk.seat.actor steps ++ l) answer
 
@@ -207,6 +211,7 @@ pub record FitsPage {F : Type 0} (rule : Rule F) (f : Profile) (page : ℕ) (d :
   pub shows : ShowsFit rule.no_fit f page (IsUntouched page) (MayTry page d) steps
   pub serves : (before : List Made) → IsUntouched page before → rule.serves page (steps ++ before) found
   pub few : (k : ℕ) (v : View) → length (events_by k v steps) ≤ rule.events
+  pub events : EventsAt d page steps
 
 abbrev pub IsTried : {F : Type 0} → Rule F → Profile → ℕ → Directory → List Made → Tried F → Type 0
 IsTried rule f page d steps Lost = LosesPage f page d steps
@@ -230,6 +235,7 @@ pub record IsFound {F : Type 0} (rule : Rule F) (f : Profile) (d : Directory) (s
   pub shows : IsShownFit rule.no_fit f d served.page steps
   pub serves : rule.serves served.page steps served.found
   pub few : (k : ℕ) (v : View) → length (events_by k v steps) ≤ rule.events
+  pub events : EventsAt d served.page steps
 
 abbrev pub IsTurn : {F : Type 0} → Rule F → Profile → Directory → ℕ → List ℕ → ℕ → List ℕ → List Made → Turn F → Type 0
 IsTurn rule f d next marks next' marks' steps Done = (marks' ≡ marks) × ((before : List Made) → GoesOn rule f d next marks before → Searching rule f d (f.pages + 1) marks (steps ++ before))
@@ -256,6 +262,7 @@ pub record IsFoundBare {F : Type 0} (rule : Rule F) (f : Profile) (d : Directory
   pub shows : IsShownFit rule.no_fit f d served.page steps
   pub serves : rule.serves served.page steps served.found
   pub few : FewEvents f d rule.events steps
+  pub events : EventsAt d served.page steps
 
 pub record SearchesBare {F : Type 0} (rule : Rule F) (d : Directory) (desk desk' : Standing) (found : Option (Served F)) : Type 0 where
   pub steps : List Made

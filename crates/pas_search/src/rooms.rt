@@ -13,9 +13,12 @@ use pas_steps::Desk;
 
 /// Finds a page that serves the request, and what the back end takes of it.
 ///
-/// The offered pages of the directory are tried from the lowest up. Then a deed is made on the lowest page without one, and the request is
-/// served from that page. `NoSpace` and `Held` come where there is neither: `Held` with the lowest page of the directory that was in some
-/// actor's hands, `NoSpace` where none was.
+/// The offered pages of the directory are tried from the lowest up. Where none of them serves, a deed is made on the lowest page without one,
+/// and the request is served from that page. Where there is none either, the answer is `Held` with the lowest page of the directory that
+/// was in some actor's hands, and `NoSpace` where none was. At most one deed is made, and a refusal makes no event and changes no block.
+///
+/// Steps: a look at each eligible word and one more for each page that is tried; a claim for each of these, and the back end's steps; a look at
+/// each deed word, and a step for each that is read as 0. A refusal looks at each deed word once more, and at the parked words.
 pub fn find_room<S: Serving, D: Desk>(
     serving: &S,
     desk: &mut D,

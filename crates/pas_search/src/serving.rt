@@ -13,12 +13,14 @@ pub trait Serving {
     /// What it takes of a page.
     type Found: Copy;
 
-    /// What it means by fitting, by what it takes and by what it keeps.
+    /// What it means: the directories that it serves from, when nothing fits, which grains and whether the right are kept, what its choice
+    /// inside the page is, and how many events it makes at most.
     ghost rule: { Self → Rule Self.Found };
 
     /// Serves a request from the page, whose right the actor just got, if the page's free grains fit.
     ///
-    /// None where they don't: the grains were put back, and the page was left.
+    /// None where they don't: the grains were put back, and the page was left. A page whose deed the actor just made, all of whose grains are
+    /// known as free, is served from.
     fn serve<D: Desk>(&self, desk: &mut D, page: u32, directory: Directory) -> Option<Self::Found>
         requires page { IsPage (D.standing desk.old).seat.profile page }
         requires directory { IsDirectoryOf (D.standing desk.old).seat.profile directory }

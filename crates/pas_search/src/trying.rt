@@ -21,6 +21,8 @@ pub enum Tried<F> {
 }
 
 /// Claims a page whose deed is known as the directory, and lets the back end serve from it.
+///
+/// One step where another actor was first.
 pub fn try_page<S: Serving, D: Desk>(
     serving: &S,
     desk: &mut D,
