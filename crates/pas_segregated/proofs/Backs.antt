@@ -7,17 +7,17 @@ use Rattle.pas_bits.specs.declared.mask.Mask4.{Mask4}
 use Rattle.pas_steps.specs.Effects.{in_mask}
 use Rattle.pas_steps.specs.Views.{View, holds, any_below, holds_on, has_right, deed_after, known_deed, knows_backed}
 use Rattle.pas_steps.specs.Agreement.{Agreed}
-use Rattle.pas_steps.specs.Frames.{IsOnPage, IsGrains, GivesUp, OnlyGrains, OnlyReturns, OnlyOn, KeepsRight}
+use Rattle.pas_steps.specs.Frames.{IsOnPage, IsGrains, GivesUp, OnlyGrains, OnlyOn, KeepsRight}
 use Rattle.pas_steps.specs.Desks.{Standing, made}
 use Rattle.pas_steps.specs.declared.step.Made.{Made}
 use Rattle.pas_steps.specs.declared.step.Step.{Step}
 use Rattle.pas_steps.specs.declared.step.Step.TheVariants.{Put, Offer, Unpark}
 use Rattle.pas_steps.proofs.Adding.{adds_none, adds_call, adds_under, agreed_first, agreed_later}
 use Rattle.pas_steps.proofs.Past.{always_both, always_map}
-use Rattle.pas_steps.proofs.Kept.{IsStill, right_on, grains_on, returns_on, right_grains, returns_still, holds_still, holds_on_still, backed_returns}
+use Rattle.pas_steps.proofs.Kept.{right_on, grains_on, returns_on, right_grains, returns_still, holds_still, holds_on_still, backed_returns}
 use Rattle.pas_rights.specs.Rights.{KnowsDeed, looks, HintsWhere, ReofferSteps, ReturnSteps, Returned, OwesNothing}
 use Rattle.pas_search.specs.Kinds.{IsQuiet, AreQuiet}
-use Rattle.pas_search.proofs.StepKinds.{grains_serve, returns_serve, serves_append, quiet_append}
+use Rattle.pas_search.proofs.StepKinds.{grains_serve, returns_serve, serves_append, quiet_append, quiet_still}
 use Rattle.pas_segregated.specs.Masks.{IsEmpty, IsSome}
 use Rattle.pas_segregated.specs.Returns.{on_page, PutSteps, PutsBelow, PutsMask, MayGiveBack, GivesBack}
 use Rattle.pas_segregated.proofs.Puts.{put_holds, puts_only, all_put, grains_keep}
@@ -93,16 +93,13 @@ pub deed_grains : (page q : ℕ) (ys : List Made) (v : View) → OnlyGrains page
 deed_grains page q [] v h = refl
 deed_grains page q (m ∷ more) v h = grain_deed page q m.step m.answer (known_deed (more ++ v) q) h.0 ∙ deed_grains page q more v h.1
 
--- ---- neither they nor returns of a right make an event
+-- ---- they make no event
 grain_quiet : (page : ℕ) (s : Step) (a : ℕ) → IsGrains page s → IsQuiet record { step = s; answer = a }
 grain_quiet page s a (IsGrains.Takes w mask) = λ k e. refl
 grain_quiet page s a (IsGrains.Puts w mask) = λ k e. refl
 
 pub grains_quiet : (page : ℕ) (ys : List Made) → OnlyGrains page ys → AreQuiet ys
 grains_quiet page ys h = always_map (λ m before. IsGrains page m.step) (λ m before. IsQuiet m) ys (λ m before is. grain_quiet page m.step m.answer is) h
-
-pub returns_quiet : (page : ℕ) (ys : List Made) → OnlyReturns page ys → AreQuiet ys
-returns_quiet page ys h = always_map (λ m before. IsStill m) (λ m before. IsQuiet m) ys (λ m before is. is.event) (returns_still page ys h)
 
 -- ---- nothing was put
 none_at : (t : Bool) → (t && false) ≡ false
@@ -175,7 +172,7 @@ module _ {σ σ1 σ2 : Standing} (page : ℕ) (d : Directory) (mask : Mask4) (so
     adds = adds_call (adds_under puts.adds (λ v l stood met. met.puts)) ret.adds (λ v l stood met. knows_later page d mask puts v met);
     order = inr (some, puts.steps, ret.steps, puts.order, ret.order, refl);
     only = serves_append page ret.steps puts.steps (returns_serve page ret.steps ret.returns) (grains_serve page puts.steps only_puts);
-    quiet = quiet_append ret.steps puts.steps (returns_quiet page ret.steps ret.returns) (grains_quiet page puts.steps only_puts);
+    quiet = quiet_append ret.steps puts.steps (quiet_still ret.steps (returns_still page ret.steps ret.returns)) (grains_quiet page puts.steps only_puts);
     grains = grains_same;
     rights = right_same;
     keeps = keeps_right;

@@ -1,7 +1,6 @@
 -- What a search of exclusive pages found, as slots.
-use Rattle.std.proofs.Common.{◌≡◌, ℕ, Bool, true, ◌||◌, if◌then◌else◌, ◌++◌, Ok, Err, refl, ap, sym, ◌∙◌, subst}
+use Rattle.std.proofs.Common.{ℕ, Bool, true, ◌||◌, if◌then◌else◌, ◌++◌, Ok, Err, refl, ap, ◌∙◌}
 use Rattle.std.proofs.lemmas.Bool.{eq-eqb}
-use Rattle.pas_profile.specs.Profiles.{IsPage}
 use Rattle.pas_profile.specs.declared.event.NoRoom.{NoRoom}
 use Rattle.pas_bits.specs.declared.mask.Mask4.{Mask4}
 use Rattle.pas_steps.specs.Views.{View, holds, has_right}
@@ -11,7 +10,7 @@ use Rattle.pas_search.specs.Searches.{MaySearch, Searches}
 use Rattle.pas_search.specs.declared.serving.Served.{Served}
 use Rattle.pas_segregated.specs.Masks.{AreStarts}
 use Rattle.pas_segregated.specs.Takes.{exclusive}
-use Rattle.pas_segregated.specs.Stops.{class_directory, directory_of, MayStop}
+use Rattle.pas_segregated.specs.Stops.{class_directory, MayStop}
 use Rattle.pas_segregated.specs.Refills.{slots_found, Refills}
 use Rattle.pas_segregated.specs.declared.slots.Slots.{Slots}
 
@@ -35,19 +34,18 @@ module _ (heap class : ℕ) {tells : Bool} {σ σ' : Standing} (served : Served 
     found = Ok served;
     answer_is = refl;
     searches = searches;
-    page = λ slots e. let same : slots_found heap class served ≡ slots = cc in subst (λ s. IsPage σ.seat.profile s.page) same searches.outcome.page;
-    named = λ slots e. let same : slots_found heap class served ≡ slots = cc in ap directory_of (sym same);
-    starts = λ slots e. let same : slots_found heap class served ≡ slots = cc in subst (λ s. AreStarts s.class s.starts) same found_starts;
-    may_stop = λ slots e v met agreed. let same : slots_found heap class served ≡ slots = cc in subst (λ s. MayStop s (searches.steps ++ v)) same (found_may_stop v met agreed);
+    gives = record {
+      page = searches.outcome.page;
+      named = refl;
+      with_right = refl;
+      starts = found_starts;
+      took = searches.outcome.serves;
+      grains = λ v met agreed g. searches.outcome.keeps.grains v met agreed g;
+      rights = λ v met agreed p. searches.outcome.keeps.rights v met agreed p;
+      backed = λ v met agreed. (searches.outcome.keeps.known v met agreed).0;
+      may_stop = found_may_stop;
+    };
   }
 
 pub refills_err : (heap class : ℕ) {tells : Bool} {σ σ' : Standing} (room : NoRoom) → Searches (exclusive class) tells (class_directory heap class) σ σ' (Err room) → Refills heap class tells σ σ' (Err room)
-refills_err heap class room searches = record {
-  found = Err room;
-  answer_is = refl;
-  searches = searches;
-  page = λ slots e. absurd (cc);
-  named = λ slots e. absurd (cc);
-  starts = λ slots e. absurd (cc);
-  may_stop = λ slots e. absurd (cc);
-}
+refills_err heap class room searches = record { found = Err room; answer_is = refl; searches = searches; gives = tt }

@@ -1,5 +1,5 @@
 -- The two ends of a page that was to serve: its slots are kept, or it was left.
-use Rattle.std.proofs.Common.{◌≡◌, ◌≢◌, ℕ, zero, suc, ◌+◌, ◌*◌, ◌/◌, ◌%◌, ◌<◌, ◌≤◌, ◌==◌, Bool, true, false, ◌||◌, if◌then◌else◌, List, [], ◌∷◌, ◌++◌, length, None, Some, refl, ap, sym, ◌∙◌, subst, arith, inl, inr, append_assoc, true≢false}
+use Rattle.std.proofs.Common.{◌≡◌, ◌≢◌, ℕ, zero, suc, ◌+◌, ◌*◌, ◌/◌, ◌%◌, ◌<◌, ◌≤◌, ◌==◌, Bool, true, false, ◌||◌, if◌then◌else◌, List, [], ◌∷◌, ◌++◌, length, None, Some, refl, ap, sym, ◌∙◌, subst, arith, inl, inr, true≢false}
 use Rattle.std.proofs.lemmas.Bool.{cases_eq, eq-eqb, and_from}
 use Rattle.pas_profile.specs.Classes.{IsClass, IsSlotStart}
 use Rattle.pas_profile.specs.Directories.{IsKind}
@@ -15,67 +15,24 @@ use Rattle.pas_profile.specs.declared.event.Event.{Event}
 use Rattle.pas_steps.specs.Events.{with_event, events_by}
 use Rattle.pas_steps.specs.Allowed.{HoldsOn}
 use Rattle.pas_steps.specs.Agreement.{Agreed}
-use Rattle.pas_steps.specs.Past.{Once, Since}
-use Rattle.pas_steps.specs.Frames.{IsLook, AreLooks, GivesUp, KeepsRight}
 use Rattle.pas_steps.specs.Desks.{Seat, Standing, made, Makes}
 use Rattle.pas_steps.specs.declared.step.Made.{Made}
-use Rattle.pas_steps.specs.declared.step.Step.{Step}
-use Rattle.pas_steps.specs.declared.step.Step.TheVariants.{Look, Deed, Back, Take, Put, Give, End, TakeRight, Offer, Park, Unpark, Stamp, Hint}
-use Rattle.pas_steps.proofs.Adding.{adds_step, adds_call, agreed_first, agreed_later}
+use Rattle.pas_steps.specs.declared.step.Step.TheVariants.{Back}
+use Rattle.pas_steps.proofs.Adding.{adds_step, adds_call}
 use Rattle.pas_steps.proofs.Frames.{rights_stay}
-use Rattle.pas_steps.proofs.Past.{once_later, once_earlier}
-use Rattle.pas_steps.proofs.Kept.{returns_still, holds_still, backed_returns, deed_stays}
-use Rattle.pas_rights.specs.Rights.{MayLeave, Leaves, LosesHere, OwesNothing}
-use Rattle.pas_scan.specs.Evidence.{Readings, ShowsHere, KeptHere, GetsHere, UnfitHere}
+use Rattle.pas_steps.proofs.Past.{once_earlier}
+use Rattle.pas_steps.proofs.Kept.{returns_still, deed_stays}
+use Rattle.pas_rights.specs.Rights.{MayLeave, Leaves}
+use Rattle.pas_scan.specs.Evidence.{ShowsHere, KeptHere}
 use Rattle.pas_search.specs.Kinds.{IsServe, AreQuiet}
-use Rattle.pas_search.specs.Serving.{MayServe, FreshAt, LeavesPage, KeepsPage, ServesPage}
-use Rattle.pas_search.proofs.StepKinds.{returns_serve, serves_append, quiet_append, events_quiet}
+use Rattle.pas_search.specs.Serving.{MayServe, FreshAt, KeepsPage, ServesPage}
+use Rattle.pas_search.proofs.StepKinds.{returns_serve, serves_append, quiet_append, quiet_still, events_quiet}
+use Rattle.pas_search.proofs.Grained.{since_once}
+use Rattle.pas_search.proofs.Unfitting.{left_page}
 use Rattle.pas_search.proofs.Backed.{same_on, held_where_backed}
 use Rattle.pas_segregated.specs.Masks.{start_of, IsEmpty, IsSome}
 use Rattle.pas_segregated.specs.Takes.{in_starts, NoSlot, TakesHere, TakesSlots, exclusive}
-use Rattle.pas_segregated.proofs.Backs.{returns_quiet}
 use Rattle.pas_segregated.proofs.Starts.{start_at, start_below}
-use Rattle.pas_segregated.proofs.Taken.{since_kept}
-
--- ---- past operators
-pub since_once : (P Q : Made → List Made → Type 0) (xs : List Made) → Since P Q xs → Once P xs
-since_once P Q [] h = absurd h
-since_once P Q (x ∷ xs) (inl h) = inl h
-since_once P Q (x ∷ xs) (inr h) = inr (since_once P Q xs h.1)
-
-look_keeps : (page : ℕ) (s : Step) → IsLook s → GivesUp page s → ⊥
-look_keeps page (Look word) is up = elim up [ ]
-look_keeps page (Deed p d) is up = absurd is
-look_keeps page (Back p) is up = absurd is
-look_keeps page (Take p w mask) is up = absurd is
-look_keeps page (Put p w mask) is up = absurd is
-look_keeps page (Give block) is up = absurd is
-look_keeps page (End name guess) is up = absurd is
-look_keeps page (TakeRight p d) is up = absurd is
-look_keeps page (Offer p d) is up = absurd is
-look_keeps page (Park p) is up = absurd is
-look_keeps page (Unpark p) is up = absurd is
-look_keeps page (Stamp p) is up = absurd is
-look_keeps page (Hint p) is up = absurd is
-
-pub looks_keep_right : (page : ℕ) (ys : List Made) → AreLooks ys → KeepsRight page ys
-looks_keep_right page [] h = tt
-looks_keep_right page (y ∷ ys) h = (look_keeps page y.step h.0, looks_keep_right page ys h.1)
-
--- a page that was got, and is given up after looks alone, didn't fit
-pub unfit_left : (no_fit : Readings → Type 0) (page : ℕ) (ys xs : List Made) → Once (LosesHere page) ys → has_right xs page ≡ true → Once (GetsHere page) xs → (r : Readings) → no_fit r → ((w : ℕ) → w < 4 → Since (ShowsHere page w r) (KeptHere page) xs) → Once (UnfitHere no_fit page) (ys ++ xs)
-unfit_left no_fit page [] xs left right got r none read = absurd left
-unfit_left no_fit page (y ∷ ys) xs (inl h) right got r none read =
-    let keeps : KeepsRight page ys = looks_keep_right page ys h.1 in
-    inl record {
-      left = h.0;
-      kept = rights_stay ys xs page keeps right;
-      got = once_later (GetsHere page) ys xs got;
-      readings = r;
-      none = none;
-      read = λ w lt. since_kept (ShowsHere page w r) page ys xs keeps right (read w lt);
-    }
-unfit_left no_fit page (y ∷ ys) xs (inr h) right got r none read = inr (unfit_left no_fit page ys xs h right got r none read)
 
 or_true : (t : Bool) → (t || true) ≡ true
 or_true true = refl
@@ -124,50 +81,21 @@ module _ (class page : ℕ) (d : Directory) (is : IsClass class) (starts : Mask4
     shows_none : NoSlot class taken.readings
     shows_none s slot free = true≢false (sym ((taken.are s).1 (slot, free)) ∙ empty s (slot_lt class s is slot))
 
+    still_backed : (v : View) → Agreed profile v taken.steps → knows_backed v page ≡ true → knows_backed (taken.steps ++ v) page ≡ true
+    still_backed v agreed h = taken.backed v agreed h (same_on v (taken.steps ++ v) page (as_before v (inl agreed)) ∙ held_where_backed v page h)
+
     module _ {σ2 : Standing} (left : Leaves page d σ1 σ2) where
-      abbrev all : List Made
-      all = left.steps ++ taken.steps
-
-      all_at : (v : List Made) → all ++ v ≡ left.steps ++ (taken.steps ++ v)
-      all_at v = append_assoc left.steps taken.steps v
-
-      taken_agreed : (v : View) → Agreed profile v all → Agreed profile v taken.steps
-      taken_agreed v agreed = agreed_later profile v left.steps taken.steps agreed
-
-      left_agreed : (v : View) → Agreed profile v all → Agreed σ1.seat.profile (taken.steps ++ v) left.steps
-      left_agreed v agreed = subst (λ (s : Seat). Agreed s.profile (taken.steps ++ v) left.steps) (sym taken.adds.seat_is) (agreed_first profile v left.steps taken.steps agreed)
-
-      taken_fresh : (v : List Made) → FreshAt profile page all v → FreshAt profile page taken.steps v
-      taken_fresh v (inl agreed) = inl (taken_agreed v agreed)
-      taken_fresh v (inr none) = inr (λ g at. none g at)
-
-      still_backed : (v : View) → Agreed profile v all → knows_backed v page ≡ true → knows_backed (all ++ v) page ≡ true
-      still_backed v agreed h =
-          let on : holds_on (taken.steps ++ v) page ≡ true = same_on v (taken.steps ++ v) page (as_before v (inl (taken_agreed v agreed))) ∙ held_where_backed v page h in
-          ap (λ s. knows_backed s page) (all_at v) ∙ backed_returns σ1.seat.profile page page left.steps (taken.steps ++ v) left.returns (left_agreed v agreed) (taken.backed v (taken_agreed v agreed) h on)
-
-      leaves : LeavesPage (exclusive class) profile page d all
-      leaves = record {
-        quiet = quiet_append left.steps taken.steps (returns_quiet page left.steps left.returns) taken.quiet;
-        right = λ before. ap (λ s. has_right s page) (all_at before) ∙ left.right (taken.steps ++ before);
-        grains = λ before fresh g at. ap (λ s. holds s g) (all_at before) ∙ holds_still g left.steps (taken.steps ++ before) (returns_still page left.steps left.returns) ∙ as_before before (taken_fresh before fresh) g at;
-        owes = λ v met agreed. subst (OwesNothing page) (sym (all_at v)) (left.owes (taken.steps ++ v) (left_agreed v agreed) (may_leave v met (taken_agreed v agreed)));
-        backed = λ v met agreed h. still_backed v agreed h;
-        unfit = λ before met. subst (Once (UnfitHere (NoSlot class) page)) (sym (all_at before))
-            (unfit_left (NoSlot class) page left.steps (taken.steps ++ before) left.left (taken_right before met.right) (once_later (GetsHere page) taken.steps before met.got) taken.readings shows_none (taken.read before met));
-        not_free = λ v met agreed free. not_empty starts empty (taken.all_free v (taken_agreed v agreed) free);
-      }
-
-      all_quiet : AreQuiet all
-      all_quiet = quiet_append left.steps taken.steps (returns_quiet page left.steps left.returns) taken.quiet
+      all_quiet : AreQuiet (left.steps ++ taken.steps)
+      all_quiet = quiet_append left.steps taken.steps (quiet_still left.steps (returns_still page left.steps left.returns)) taken.quiet
 
       pub leaves_page : ServesPage (exclusive class) page d σ σ2 None
       leaves_page = record {
-        steps = all;
+        steps = left.steps ++ taken.steps;
         adds = adds_call taken.adds left.adds (λ v l stood met. may_leave v met (taken.adds.agreed v l stood met));
         only = serves_append page left.steps taken.steps (returns_serve page left.steps left.returns) taken.only;
-        few = λ k v. subst (λ es. length es ≤ 1) (sym (events_quiet k v all all_quiet)) (omega arith);
-        outcome = leaves;
+        few = λ k v. subst (λ es. length es ≤ 1) (sym (events_quiet k v (left.steps ++ taken.steps) all_quiet)) (omega arith);
+        outcome = left_page (exclusive class) profile page d taken.steps taken.quiet taken_right as_before (λ v met agreed h. still_backed v agreed h)
+            taken.readings shows_none taken.read (λ v met agreed free. not_empty starts empty (taken.all_free v agreed free)) (ap (λ (s : Seat). s.profile) taken.adds.seat_is) left;
       }
 
   -- ---- some slot is whole

@@ -13,11 +13,10 @@ use Rattle.pas_steps.proofs.Adding.{adds_call, adds_under, agreed_first, agreed_
 use Rattle.pas_steps.proofs.Kept.{right_on, check_on, hint_on, unstamped_on, returns_on, returns_still, holds_still, holds_on_still, backed_returns, deed_stays}
 use Rattle.pas_rights.specs.Rights.{MayLeave, Leaves, OwesNothing}
 use Rattle.pas_search.specs.Searches.{IsClear}
-use Rattle.pas_search.proofs.StepKinds.{serves_on, on_append, quiet_append}
+use Rattle.pas_search.proofs.StepKinds.{serves_on, on_append, quiet_append, quiet_still}
 use Rattle.pas_segregated.specs.Returns.{on_page, MayGiveBack, GivesBack}
 use Rattle.pas_segregated.specs.Stops.{directory_of, in_slots, AreGrains, MayStop, LeavesWhere, Stops}
 use Rattle.pas_segregated.specs.declared.slots.Slots.{Slots}
-use Rattle.pas_segregated.proofs.Backs.{returns_quiet}
 
 -- an actor that was clear is so again after steps on one page, where it owes nothing
 pub clear_on : (page : ℕ) (steps : List Made) (v : View) → OnlyOn page steps → IsClear v → OwesNothing page (steps ++ v) → IsClear (steps ++ v)
@@ -111,7 +110,7 @@ module _ (slots : Slots) (mask : Mask4) (are : AreGrains slots mask) where
         adds = adds_call back_adds left.adds (λ v l stood met. may_leave v met (back_adds.agreed v l stood met) has);
         order = record { mask = mask; grains = are; back = back.steps; puts = back.order; left = left.steps; leaves = subst (λ t. LeavesWhere t page d left.steps) (sym has) left.order; steps_are = refl };
         on = all_on;
-        quiet = quiet_append left.steps back.steps (returns_quiet page left.steps left.returns) back.quiet;
+        quiet = quiet_append left.steps back.steps (quiet_still left.steps (returns_still page left.steps left.returns)) back.quiet;
         grains = λ v g. ap (λ s. holds s g) (all_at v) ∙ holds_still g left.steps (back.steps ++ v) (returns_still page left.steps left.returns) ∙ back_grains v g;
         rights = rights_then;
         clear = λ v met agreed. clear_on page all v all_on met.clear (subst (OwesNothing page) (sym (all_at v)) (left.owes (back.steps ++ v) (left_agreed v agreed) (may_leave v met (back_agreed v agreed) has)));

@@ -1,16 +1,19 @@
 -- A refill.
-use Rattle.std.specs.Prelude.{ℕ, ◌≡◌, Bool, true, ◌++◌, Result, Ok, Err}
+use Rattle.std.specs.Prelude.{ℕ, ◌≡◌, ◌==◌, Bool, true, ◌||◌, if◌then◌else◌, List, ◌++◌, Result, Ok, Err, IfOk}
 use Rattle.pas_profile.specs.Profiles.{IsPage}
+use Rattle.pas_profile.specs.declared.directory.Directory.{Directory}
+use Rattle.pas_profile.specs.declared.profile.Profile.{Profile}
 use Rattle.pas_profile.specs.declared.event.NoRoom.{NoRoom}
 use Rattle.pas_bits.specs.declared.mask.Mask4.{Mask4}
-use Rattle.pas_steps.specs.Views.{View}
+use Rattle.pas_steps.specs.Views.{View, holds, has_right, knows_backed}
 use Rattle.pas_steps.specs.Agreement.{Agreed}
 use Rattle.pas_steps.specs.Desks.{Standing}
+use Rattle.pas_steps.specs.declared.step.Made.{Made}
 use Rattle.pas_search.specs.Searches.{MaySearch, Searches}
 use Rattle.pas_search.specs.declared.serving.Served.{Served}
 use Rattle.pas_segregated.specs.Masks.{AreStarts}
-use Rattle.pas_segregated.specs.Takes.{exclusive}
-use Rattle.pas_segregated.specs.Stops.{class_directory, directory_of, MayStop}
+use Rattle.pas_segregated.specs.Takes.{TookSlots, exclusive}
+use Rattle.pas_segregated.specs.Stops.{class_directory, directory_of, in_slots, MayStop}
 use Rattle.pas_segregated.specs.declared.slots.Slots.{Slots}
 
 -- the slots of the page that a search found, with its right
@@ -21,12 +24,22 @@ abbrev pub answer_of : ℕ → ℕ → Result (Served Mask4) NoRoom → Result S
 answer_of heap class (Ok served) = Ok (slots_found heap class served)
 answer_of heap class (Err room) = Err room
 
--- The search of exclusive pages of the class was made, and this is its answer. Slots that it gives may be stopped from then on.
+-- The slots are of a page of the directory, and are those that the takes of this page got whole. Their grains are held besides what was held,
+-- the page's right is the actor's besides what it had, and it knows the page as backed. The slots may be stopped from then on.
+pub record GivesSlots (f : Profile) (d : Directory) (steps : List Made) (slots : Slots) : Type 0 where
+  pub page : IsPage f slots.page
+  pub named : directory_of slots ≡ d
+  pub with_right : slots.right ≡ true
+  pub starts : AreStarts slots.class slots.starts
+  pub took : TookSlots slots.class slots.page steps slots.starts
+  pub grains : (v : View) → MaySearch d v → Agreed f v steps → (g : ℕ) → holds (steps ++ v) g ≡ (in_slots slots g || holds v g)
+  pub rights : (v : View) → MaySearch d v → Agreed f v steps → (p : ℕ) → has_right (steps ++ v) p ≡ (if slots.page == p then true else has_right v p)
+  pub backed : (v : View) → MaySearch d v → Agreed f v steps → knows_backed (steps ++ v) slots.page ≡ true
+  pub may_stop : (v : View) → MaySearch d v → Agreed f v steps → MayStop slots (steps ++ v)
+
+-- the pages of the class were searched, and this is the answer
 pub record Refills (heap class : ℕ) (tells : Bool) (desk desk' : Standing) (answer : Result Slots NoRoom) : Type 0 where
   pub found : Result (Served Mask4) NoRoom
   pub answer_is : answer ≡ answer_of heap class found
   pub searches : Searches (exclusive class) tells (class_directory heap class) desk desk' found
-  pub page : (slots : Slots) → answer ≡ Ok slots → IsPage desk.seat.profile slots.page
-  pub named : (slots : Slots) → answer ≡ Ok slots → directory_of slots ≡ class_directory heap class
-  pub starts : (slots : Slots) → answer ≡ Ok slots → AreStarts slots.class slots.starts
-  pub may_stop : (slots : Slots) → answer ≡ Ok slots → (v : View) → MaySearch (class_directory heap class) v → Agreed desk.seat.profile v searches.steps → MayStop slots (searches.steps ++ v)
+  pub gives : IfOk answer (λ slots. GivesSlots desk.seat.profile (class_directory heap class) searches.steps slots)

@@ -22,7 +22,7 @@ impl Serving for Exclusive {
 
     /// All free slots of the page, by their first grains. The page is backed then, and its right is kept.
     ///
-    /// None where no slot is free with all its grains. At most four takes, four puts, and 19 steps more.
+    /// None where no slot is free with all its grains. At most 27 steps.
     fn serve<D: Desk>(&self, desk: &mut D, page: u32, directory: Directory) -> Option<Mask4> {
         let starts = take_slots(desk, page, directory, self.class);
         if is_empty(&starts) {
