@@ -15,7 +15,7 @@ use Rattle.pas_plain.specs.declared.region.PlainRegion.{PlainRegion}
 use Rattle.pas_plain.proofs.Passes.{pass_rests}
 use Rattle.pas_search.specs.Searches.{MaySearch, SearchRoom}
 use Rattle.pas_trials.specs.Trials.{Beside}
-use Rattle.pas_trials.specs.Filling.{Steps, Waits}
+use Rattle.pas_trials.specs.Filling.{Steps, Waits, Opens}
 
 -- an actor that made no step may search
 pub may_search : (d : Directory) → MaySearch d []
@@ -29,6 +29,9 @@ can_search desk d l stood room =
     let none : events_shown (pass_of desk) ≡ reverse (events_of k []) = stood.pass.shown ∙ ap (λ v. reverse (events_of k v)) stood.part_is in
     let empty : length (events_shown (pass_of desk)) ≡ 0 = ap length none in
     record { view = []; whole = l; stood = stood; met = record { may = may_search d; room = (omega (arith, room, empty), inr (omega (arith, room, empty))) } }
+
+pub opens_beside : {desk : PlainDesk} {pass : PlainPass} {room : ℕ} → Opens desk pass room → Beside desk pass
+opens_beside o = record { view = []; whole = []; stood = o.stood; rests = o.rests; other = o.other }
 
 -- ---- the steps of the one actor leave the other at rest
 module _ {d d' : PlainDesk} {B : View → Type 0} (taken : Steps (standing_of d) (standing_of d') B) (pass : PlainPass) (v : View) (l : Whole) (stood : DeskStands d v l) (met : B v) (rests : PassStands (profile_of (region_of d)) pass l) (other : actor_of (pass_of d) ≢ actor_of pass) where

@@ -1,5 +1,6 @@
 -- What refills leave behind, and which desks may make them.
 use Rattle.std.specs.Prelude.{ℕ, ◌≡◌, ◌≢◌, List, []}
+use Rattle.pas_profile.specs.declared.profile.Profile.{Profile}
 use Rattle.pas_steps.specs.Views.{View}
 use Rattle.pas_steps.specs.Lists.{Whole, part}
 use Rattle.pas_steps.specs.Desks.{Standing, Adds}
@@ -8,6 +9,10 @@ use Rattle.pas_plain.specs.Plain.{profile_of, actor_of, room_of_pass, PassStands
 use Rattle.pas_plain.specs.Seats.{region_of, pass_of, DeskStands}
 use Rattle.pas_plain.specs.declared.desk.PlainDesk.{PlainDesk}
 use Rattle.pas_plain.specs.declared.pass.PlainPass.{PlainPass}
+
+-- a region of so many pages, two threads and one heap
+abbrev pub two_threads : ℕ → Profile
+two_threads pages = record { pages = pages; threads = 2; age = 2; heaps = 1; shared = 0 }
 
 -- a call made some steps
 pub record Steps (desk desk' : Standing) (Before : View → Type 0) : Type 0 where

@@ -3,6 +3,8 @@
 
 pub mod filling;
 pub mod holding;
+#[cfg(test)]
+mod seating;
 pub mod seats;
 #[cfg(test)]
 mod slot_tests;

@@ -1,23 +1,12 @@
-ghost use Rattle.std.specs.Prelude.{◌≡◌, ◌<◌, ◌≤◌, IfOk};
-ghost use Rattle.pas_plain.specs.Plain.{profile_of};
-ghost use Rattle.pas_plain.specs.Seats.{region_of};
-ghost use Rattle.pas_trials.specs.Filling.{Opens};
+ghost use Rattle.std.specs.Prelude.{◌<◌, ◌≤◌};
 
+use crate::seating::seated;
 use crate::*;
 use pas_bits::Mask4;
-use pas_plain::{PlainDesk, PlainPass, try_new};
 use pas_profile::*;
 use pas_segregated::Slots;
 use std::alloc::Global;
 use std::test::Fail;
-
-const PROFILE: Profile = Profile {
-    pages: 1,
-    threads: 2,
-    age: 2,
-    heaps: 1,
-    shared: 0,
-};
 
 /// What came of two refills. In the vectors page 1 is bit 1.
 #[derive(Clone, Copy, Debug, PartialEq, Eq)]
@@ -28,30 +17,11 @@ struct Trial {
     hinted: u64,
 }
 
-/// Actor 1 at a region of one page that nobody used yet, beside the pass of actor 2. Each has room for two events.
-fn seated(alloc: Global) -> Result<(PlainDesk, PlainPass), Fail>
-    ensures opens { IfOk result (λ opened. Opens opened.0 opened.1 2) }
-    ensures profile { IfOk result (λ opened. profile_of (region_of opened.0) ≡ PROFILE) }
-{
-    let mut rooms = Vec::new(alloc);
-    rooms.push(EventRoom::try_new(alloc, 0)?)?;
-    rooms.push(EventRoom::try_new(alloc, 2)?)?;
-    rooms.push(EventRoom::try_new(alloc, 2)?)?;
-    let (region, mut passes) = try_new(alloc, PROFILE, rooms)?;
-    let Some(second) = passes.pop() else {
-        return Err(NoMemory.into());
-    };
-    let Some(first) = passes.pop() else {
-        return Err(NoMemory.into());
-    };
-    Ok((region.desk(first), second))
-}
-
 /// Actor 1 refills the class, and stops the slots where that is asked. Then actor 2 refills the class, and stops its slots.
 fn two_refills(alloc: Global, class: u8, stops: bool) -> Result<Trial, Fail>
     requires { class < 16 }
 {
-    let (mut desk, pass) = seated(alloc)?;
+    let (mut desk, pass) = seated(alloc, 1, 2)?;
     let first = fill(&mut desk, 0, class, stops);
     let (mut desk, pass) = change(desk, pass);
     let second = fill(&mut desk, 0, class, true);
@@ -70,7 +40,7 @@ fn refill_beside(alloc: Global, class: u8, words: u8) -> Result<Result<Filled, N
     requires class { class < 16 }
     requires words { words ≤ 4 }
 {
-    let (mut desk, pass) = seated(alloc)?;
+    let (mut desk, pass) = seated(alloc, 1, 2)?;
     let directory = Directory {
         heap: 0,
         kind: Kind::Class(class),
