@@ -157,10 +157,13 @@ module _ {F : Type 0} (rule : Rule F) (f : Profile) (d : Directory) (p : ℕ) (a
   ys_search : OnlySearches ys
   ys_search = searches_append zs first (serves_search p zs only) (IsSearch.Deeds p d, tt)
 
+  deed_count : (list : List Made) → AreQuiet list → deeds_made (zs ++ (first ++ list)) ≡ 1
+  deed_count list quiet = deeds_serves p zs (first ++ list) only ∙ ap (λ t. if t then suc (deeds_made list) else deeds_made list) (eq-eqb a 0 e) ∙ ap (λ n. suc n) (no_deeds list quiet)
+
   by_deed : (list : List Made) → Searched rule.no_fit d (f.pages + 1) list → AllDeeds p list → AreQuiet list → ByDeed rule f d p (ys ++ list)
   by_deed list searched all quiet = subst (ByDeed rule f d p) (sym (append_assoc zs first list)) (record {
     made_here = once_later (DeedMadeHere rule f d p) zs (first ++ list) (inl (record { deed = refl; made = e; searched = searched; lower = all; quiet = quiet }));
-    one_deed = deeds_serves p zs (first ++ list) only ∙ ap (λ t. if t then suc (deeds_made list) else deeds_made list) (eq-eqb a 0 e) ∙ ap (λ n. suc n) (no_deeds list quiet);
+    one_deed = deed_count list quiet;
   })
 
   deed_read : (list : List Made) → Once (NoDeedHere p) (ys ++ list)
@@ -173,7 +176,8 @@ module _ {F : Type 0} (rule : Rule F) (f : Profile) (d : Directory) (p : ℕ) (a
       let counts : length (events_by k v (ys ++ list)) ≡ length (events_by k (first ++ w) zs) + length (events_by k w first) = ap length split ∙ length-append (events_by k (first ++ w) zs) (events_by k w first) in
       let one : length (events_by k w first) ≤ 0 + 1 = few_more (event_of k (epoch_of w) (Deed p d) a) [] in
       let some : length (events_by k (first ++ w) zs) ≤ rule.events = few k (first ++ w) in
-      (omega (arith, counts, one, some), λ known. absurd (unknown f v p (ys ++ list) agreed (deed_read list) (known p is)))
+      let deed : deeds_made (ys ++ list) ≡ 1 = ap deeds_made (append_assoc zs first list) ∙ deed_count list quiet in
+      (omega (arith, counts, one, some, deed), λ known. absurd (unknown f v p (ys ++ list) agreed (deed_read list) (known p is)))
 
   got_at : (list : List Made) → IsUntouched p list → GotBefore p (first ++ list)
   got_at list untouched = record { right = deed_gives p d a list e; got = inl (GetsRight.Deeds d a e); none = λ g at. untouched.none g at }

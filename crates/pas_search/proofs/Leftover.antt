@@ -30,7 +30,10 @@ room_over {F} {rule} {tells} {d} {σ} {σ'} {served} {spare} {spare'} m found ca
     let low = can.met.room.0 in
     let fits : length (events_of k (xs ++ v)) + m ≤ σ.seat.room = elim can.met.room.1 [
       | inl known ↦ let most = few.1 known in omega (arith, now, count, most, low)
-      | inr wide ↦ let most = few.0 in omega (arith, now, count, most, wide)
+      | inr wide ↦ let most = few.0 in elim found.outcome.choice [
+        | inl first ↦ let none = first.no_deed in omega (arith, now, count, most, wide, none)
+        | inr deed ↦ let one = deed.one_deed in omega (arith, now, count, most, wide, one)
+      ]
     ] in
     let may : CanCall σ (λ v l. MaySearch d v) = record { view = can.view; whole = can.whole; stood = can.stood; met = can.met.may } in
     room_left m found.adds may law' fits

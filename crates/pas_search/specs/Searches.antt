@@ -103,9 +103,9 @@ pub record IsShownFit (no_fit : Readings → Type 0) (f : Profile) (d : Director
   pub read : (word : ℕ) → word < 4 → Once (ShowsHere page word readings) steps
   pub held : (v : View) → MaySearch d v → Agreed f v steps → (g : ℕ) → g / 256 ≡ page → holds v g ≡ true → readings (g % 256) ≡ false
 
--- at most n events were made, and one more where not all deeds were known
+-- at most n events were made beside the deeds, and no more than n in all where all deeds were known
 abbrev pub FewEvents : Profile → Directory → ℕ → List Made → Type 0
-FewEvents f d n steps = (k : ℕ) (v : View) → Agreed f v steps → (length (events_by k v steps) ≤ n + 1) × (KnowsAllDeeds f v → length (events_by k v steps) ≤ n)
+FewEvents f d n steps = (k : ℕ) (v : View) → Agreed f v steps → (length (events_by k v steps) ≤ n + deeds_made steps) × (KnowsAllDeeds f v → length (events_by k v steps) ≤ n)
 
 pub record IsServed {F : Type 0} (rule : Rule F) (f : Profile) (d : Directory) (steps : List Made) (served : Served F) : Type 0 where
   pub page : IsPage f served.page
