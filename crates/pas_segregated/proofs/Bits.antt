@@ -1,15 +1,16 @@
 -- Masks that are moved, joined and spread.
-use Rattle.std.proofs.Common.{◌≡◌, ℕ, ◌+◌, ◌-◌, ◌*◌, ◌/◌, ◌%◌, ◌^◌, ◌<◌, ◌≤◌, ◌==◌, ◌↔◌, nat_le, IsTrue, Bool, true, false, ◌&&◌, ◌||◌, max, if◌then◌else◌, [], ◌∷◌, length, slice_index, refl, ap, sym, ◌∙◌, subst, arith, bit_and, bit_or, inl, inr}
+use Rattle.std.proofs.Common.{◌≡◌, ℕ, ◌+◌, ◌-◌, ◌*◌, ◌/◌, ◌%◌, ◌^◌, ◌<◌, ◌≤◌, ◌==◌, ◌↔◌, nat_le, IsTrue, Bool, true, false, ◌&&◌, ◌||◌, if◌then◌else◌, [], ◌∷◌, length, slice_index, refl, ap, sym, ◌∙◌, subst, arith, bit_and, bit_or, inl, inr}
 use Rattle.std.specs.Int.{bit_at}
 use Rattle.std.proofs.lemmas.Bool.{cases_lt, cases_Bool, and_parts, lt-ltb, le-ltb, le-leb, lt-leb, or_left, or_right}
 use Rattle.std.proofs.lemmas.Bool.Decides.{nat_tests}
 use Rattle.std.proofs.lemmas.List.{get_or_past}
 use Rattle.std.proofs.lemmas.Nat.{div-add-mod', shr-shr, pow_pos}
-use Rattle.std.proofs.lemmas.Nat.Bits.{bit_at-zero, bit_at-lt, bit_at_or, bit_at_above, bit_at_cat_low, bit_at_cat_high}
+use Rattle.std.proofs.lemmas.Nat.Bits.{bit_at-zero, bit_at_above, bit_at_cat_low, bit_at_cat_high}
 use Rattle.pas_profile.specs.Classes.{has_bit}
 use Rattle.pas_bits.specs.declared.mask.Mask4.{Mask4}
 use Rattle.pas_bits.specs.Masks.{is_set, AreSet}
 use Rattle.pas_bits.proofs.Words.{is_zero, none_of_zero, bit_of_and, at_word, none_past, four_words}
+use Rattle.pas_scan.proofs.PageBits.{bit_set}
 use Rattle.pas_segregated.specs.Masks.{bit_of_two, IsNear}
 
 -- ---- bits of a word that was moved
@@ -28,20 +29,13 @@ shifted_above m k i h ge = ap (λ x. x == 1) (bit_of_mod (m * 2 ^ k) 64 i h ∙ 
 shifted_down : (n k i : ℕ) → has_bit (n / 2 ^ k) i ≡ has_bit n (k + i)
 shifted_down n k i = ap (λ m. m % 2 == 1) (shr-shr n k i)
 
-max_test : (x y : ℕ) → x < 2 → y < 2 → (max x y == 1) ≡ ((x == 1) || (y == 1))
-max_test x y hx hy = grind (arith, nat_tests)
-
--- the bits that one of two words has
-pub bit_of_or : (m n b : ℕ) → has_bit (bit_or m n) b ≡ (has_bit m b || has_bit n b)
-bit_of_or m n b = ap (λ x. x == 1) (bit_at_or m n b) ∙ max_test (bit_at m b) (bit_at n b) (bit_at-lt m b) (bit_at-lt n b)
-
 or_none : (x y : Bool) → y ≡ false → (x || y) ≡ x
 or_none true y h = refl
 or_none false y h = h
 
 -- 64 bits of two words, from one of the lower word's on
 pub window_bit : (low high from b : ℕ) → low < 2 ^ 64 → 1 ≤ from → from < 64 → b < 64 → has_bit (bit_or (low / 2 ^ from) (high * 2 ^ (64 - from) % 2 ^ 64)) b ≡ bit_of_two low high (b + from)
-window_bit low high from b fits some few h = bit_of_or (low / 2 ^ from) (high * 2 ^ (64 - from) % 2 ^ 64) b ∙ elim (cases_lt (b + from) 64) [
+window_bit low high from b fits some few h = bit_set (low / 2 ^ from) (high * 2 ^ (64 - from) % 2 ^ 64) b ∙ elim (cases_lt (b + from) 64) [
   | inl lt ↦
       or_none (has_bit (low / 2 ^ from) b) (has_bit (high * 2 ^ (64 - from) % 2 ^ 64) b) (shifted_below high (64 - from) b h (omega (arith, lt)))
       ∙ shifted_down low from b ∙ ap (has_bit low) (omega arith)
@@ -131,7 +125,7 @@ both_are m n long g =
 
 pub either_is : (m n : Mask4) → length m.0 ≡ 4 → length n.0 ≡ 4 → (g : ℕ) → is_set (four (bit_or (slice_index m.0 0) (slice_index n.0 0)) (bit_or (slice_index m.0 1) (slice_index n.0 1)) (bit_or (slice_index m.0 2) (slice_index n.0 2)) (bit_or (slice_index m.0 3) (slice_index n.0 3))) g ≡ (is_set m g || is_set n g)
 either_is m n long_m long_n g =
-    let word = λ (w x : ℕ) (h : x < 64). bit_of_or (slice_index m.0 w) (slice_index n.0 w) x ∙ ap (λ t. t || has_bit (slice_index n.0 w) x) (sym (at_word m w x h)) ∙ ap (λ t. is_set m (64 * w + x) || t) (sym (at_word n w x h)) in
+    let word = λ (w x : ℕ) (h : x < 64). bit_set (slice_index m.0 w) (slice_index n.0 w) x ∙ ap (λ t. t || has_bit (slice_index n.0 w) x) (sym (at_word m w x h)) ∙ ap (λ t. is_set m (64 * w + x) || t) (sym (at_word n w x h)) in
     let a = bit_or (slice_index m.0 0) (slice_index n.0 0) in let b = bit_or (slice_index m.0 1) (slice_index n.0 1) in let c = bit_or (slice_index m.0 2) (slice_index n.0 2) in let d = bit_or (slice_index m.0 3) (slice_index n.0 3) in
     elim (cases_lt g 256) [
       | inl lt ↦ four_words a b c d (λ x. is_set m x || is_set n x) (word 0) (word 1) (word 2) (word 3) g lt

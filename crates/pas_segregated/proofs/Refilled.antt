@@ -39,11 +39,17 @@ module _ (heap class : ℕ) {tells : Bool} {σ σ' : Standing} (served : Served 
       named = refl;
       with_right = refl;
       starts = found_starts;
+      some = searches.outcome.serves.some;
       took = searches.outcome.serves;
       grains = λ v met agreed g. searches.outcome.keeps.grains v met agreed g;
       rights = λ v met agreed p. searches.outcome.keeps.rights v met agreed p;
-      backed = λ v met agreed. (searches.outcome.keeps.known v met agreed).0;
+      clear = searches.outcome.keeps.clear;
+      known = searches.outcome.keeps.known;
+      backed = searches.outcome.keeps.backed;
       may_stop = found_may_stop;
+      choice = searches.outcome.choice;
+      few = searches.outcome.few;
+      events = searches.outcome.events;
     };
   }
 

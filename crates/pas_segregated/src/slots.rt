@@ -10,7 +10,7 @@ use pas_profile::classes::class_size;
 use pas_profile::{Directory, Kind};
 
 /// Slots of one page that an actor holds and that no block covers yet.
-#[derive(Clone, Copy, Debug, PartialEq, Eq)]
+#[derive(Clone, Copy, Debug, PartialEq, Eq, Drop)]
 pub struct Slots {
     pub page: u32,
     /// The heap and the class of the page.
@@ -20,6 +20,19 @@ pub struct Slots {
     pub starts: Mask4,
     /// Whether the actor has the page's right as long as it has these slots.
     pub right: bool,
+}
+
+impl Default for Slots {
+    /// No slots, of no page.
+    fn default() -> Slots {
+        Slots {
+            page: 0,
+            heap: 0,
+            class: 0,
+            starts: Mask4([0; 4]),
+            right: false,
+        }
+    }
 }
 
 impl Slots {
