@@ -5,6 +5,7 @@ use Rattle.pas_profile.specs.Classes.{has_bit}
 use Rattle.pas_profile.specs.Directories.{number_of}
 use Rattle.pas_profile.specs.Lives.{live_word, is_live, turn_of, grains_of}
 use Rattle.pas_profile.specs.Profiles.{IsValid}
+use Rattle.pas_profile.proofs.Codecs.{is_live-live_word, grains_of-live_word}
 use Rattle.pas_profile.specs.declared.profile.Profile.{Profile}
 use Rattle.pas_profile.specs.declared.name.Name.{Name}
 use Rattle.pas_profile.specs.declared.word.Word.{Word}
@@ -71,15 +72,19 @@ length_fits f g word (Some b) gives ends life h =
 word_length : (f : Profile) (l : Whole) → IsValid f → Legal f l → (g : ℕ) → is_live (word_after l (life_word_at g)) ≡ true → (1 ≤ grains_of (word_after l (life_word_at g))) × (grains_of (word_after l (life_word_at g)) ≤ 256 * f.pages)
 word_length f l valid legal g = length_fits f g (word_after l (life_word_at g)) (live_in (visible l) (16 * g)) (gives_in (visible l) (16 * g)) (ends_in (visible l) (16 * g)) (life_of f l valid legal g)
 
+-- no grain of a live block is held
+covered_is_free : (f : Profile) (l : Whole) → IsValid f → Legal f l → (k g x : ℕ) → is_live (word_after l (life_word_at g)) ≡ true → in_run g (grains_of (word_after l (life_word_at g))) x ≡ true → holds (part k l) x ≡ false
+covered_is_free f l valid legal k g x live inside = false_from_ne_true (holds (part k l) x) (λ h.
+    let at : IsPlacedOnce l x = placed_once f l valid legal x in
+    let covered : covers (word_after l (life_word_at g)) g x ≡ true = and_from (is_live (word_after l (life_word_at g))) (in_run g (grains_of (word_after l (life_word_at g))) x) live inside in
+    let not_covered : covers (word_after l (life_word_at g)) g x ≡ false = at.covered g ∙ ap (is_covered_by g) (held_place l k x at h) in
+    false≢true (sym not_covered ∙ covered))
+
 -- no block lives at a grain that is held
 held_is_dead : (f : Profile) (l : Whole) → IsValid f → Legal f l → (k g : ℕ) → holds (part k l) g ≡ true → is_live (word_after l (life_word_at g)) ≡ false
 held_is_dead f l valid legal k g h = false_from_ne_true (is_live (word_after l (life_word_at g))) (λ live.
-    let at : IsPlacedOnce l g = placed_once f l valid legal g in
-    let n : ℕ = grains_of (word_after l (life_word_at g)) in
     let own : in_run g (grains_of (word_after l (life_word_at g))) g ≡ true = own_grain g (grains_of (word_after l (life_word_at g))) (word_length f l valid legal g live).0 in
-    let covered : covers (word_after l (life_word_at g)) g g ≡ true = and_from (is_live (word_after l (life_word_at g))) (in_run g (grains_of (word_after l (life_word_at g))) g) live own in
-    let not_covered : covers (word_after l (life_word_at g)) g g ≡ false = at.covered g ∙ ap (is_covered_by g) (held_place l k g at h) in
-    false≢true (sym not_covered ∙ covered))
+    false≢true (sym (covered_is_free f l valid legal k g g live own) ∙ h))
 
 -- a life word is that of a live block, or the turn alone
 live_codec : (f : Profile) (g word : ℕ) (live : Option Live) (gives ends : ℕ) → IsLifeOf f g word live gives ends → is_live word ≡ true → word ≡ live_word (turn_of word) (grains_of word)
@@ -101,9 +106,25 @@ life_agrees f l valid legal k g a is = subst (AgreesLife f (part k l) g) (sym is
   again = read_again f l valid legal k g;
 }
 
--- the life word of an end
+-- ---- the life word of an end
+guess_small : (guess pages : ℕ) → pages ≤ 4096 → guess ≤ 256 * pages → guess < 2 ^ 23
+guess_small guess pages few low = omega arith
+
+-- no grain of the block that ends is held
+end_apart : (f : Profile) (l : Whole) → IsValid f → Legal f l → (k : ℕ) (name : Name) (guess a : ℕ) → IsStepOf f (End name guess) → a ≡ word_after l (life_word_at (grain_of name)) → a ≡ live_word name.turn guess → (x : ℕ) → in_run (grain_of name) guess x ≡ true
+    → holds (part k l) x ≡ false
+end_apart f l valid legal k name guess a of is live x inside =
+    let turn : name.turn < 2 ^ 40 = let t = of.2 in omega (arith, t) in
+    let word : live_word name.turn guess ≡ word_after l (life_word_at (grain_of name)) = sym live ∙ is in
+    let n : guess ≡ grains_of (word_after l (life_word_at (grain_of name))) = sym (grains_of-live_word name.turn guess turn (guess_small guess f.pages valid.pages of.4)) ∙ ap grains_of word in
+    covered_is_free f l valid legal k (grain_of name) x (ap is_live (sym word) ∙ is_live-live_word name.turn guess) (ap (λ m. in_run (grain_of name) m x) (sym n) ∙ inside)
+
 end_agrees : (f : Profile) (l : Whole) → IsValid f → Legal f l → (k : ℕ) (name : Name) (guess a : ℕ) → IsStepOf f (End name guess) → a ≡ word_after l (life_word_at (grain_of name)) → AgreesEnd f (part k l) name guess a
-end_agrees f l valid legal k name guess a of is = record { life = life_agrees f l valid legal k (grain_of name) a is; within = end_within f l valid legal name guess a of is }
+end_agrees f l valid legal k name guess a of is = record {
+  life = life_agrees f l valid legal k (grain_of name) a is;
+  within = end_within f l valid legal name guess a of is;
+  apart = end_apart f l valid legal k name guess a of is;
+}
 
 life_at : (l : Whole) (page grain : ℕ) → grain < 256 → word_after l (Word.Life page grain) ≡ word_after l (life_word_at (page * 256 + grain))
 life_at l page grain small =

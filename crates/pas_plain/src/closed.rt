@@ -83,6 +83,8 @@ impl<D: Desk> Desk for Closed<D> {
 
     ghost valid = { λ closed. D.valid closed.desk };
 
+    ghost limited = { λ closed. D.limited closed.desk };
+
     ghost shows = { λ closed v l stood. D.shows closed.desk v stood.0 stood.1 };
 
     ghost spares = { λ closed v l stood. D.spares closed.desk v stood.0 stood.1 };

@@ -1,6 +1,6 @@
 //! Rooms of a fixed size for an actor's events.
 
-ghost use Rattle.std.specs.Prelude.{◌≤◌, vec_len, vec_capacity};
+ghost use Rattle.std.specs.Prelude.{◌<◌, ◌≤◌, ◌^◌, vec_len, vec_capacity};
 
 use crate::event::Event;
 use std::alloc::Global;
@@ -16,6 +16,7 @@ pub struct EventRoom {
     bound: u32,
     ghost reserved: { bound ≤ vec_capacity events },
     ghost within: { vec_len events ≤ bound },
+    ghost limited: { bound < 2 ^ 32 },
 }
 
 impl EventRoom {

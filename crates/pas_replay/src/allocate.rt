@@ -1,5 +1,5 @@
 //! One allocation.
-ghost use Rattle.std.specs.Prelude.{◌≡◌, ◌<◌, ◌≤◌, ◌^◌, true, length};
+ghost use Rattle.std.specs.Prelude.{◌≡◌, ◌≤◌, true};
 ghost use Rattle.pas_profile.specs.Classes.{IsClass};
 ghost use Rattle.pas_steps.specs.Desks.{CanCall};
 ghost use Rattle.pas_replay.specs.Calls.{IsSlotOf, MayPlace, Places, MayAllocate, Allocates};
@@ -17,7 +17,6 @@ fn place<D: Desk>(desk: &mut D, grain: u32, class: u8) -> Block
     requires slot { IsSlotOf (D.standing desk.old).seat.profile class grain }
     requires pages { (D.standing desk.old).seat.profile.pages ≤ 4096 }
     requires heap { 1 ≤ (D.standing desk.old).seat.profile.heaps }
-    requires limit { (D.standing desk.old).seat.room < 2 ^ 32 }
     requires can { CanCall (D.standing desk.old) (MayPlace (D.standing desk.old) class grain) }
     ensures places { Places (D.standing desk.old) (D.standing desk.new) class grain result }
     ensures home { D.home desk.new ≡ D.home desk.old }
@@ -46,7 +45,6 @@ pub(crate) fn allocate<D: Desk>(desk: &mut D, pages: &mut Pages, class: u8) -> O
     requires pages { pages.old.bound ≡ (D.standing desk.old).seat.profile.pages }
     requires few { (D.standing desk.old).seat.profile.pages ≤ 4096 }
     requires heap { 1 ≤ (D.standing desk.old).seat.profile.heaps }
-    requires limit { (D.standing desk.old).seat.room < 2 ^ 32 }
     requires class { IsClass class }
     requires can { CanCall (D.standing desk.old) (MayAllocate (D.standing desk.old) pages.old) }
     ensures allocates { Allocates (D.standing desk.old) (D.standing desk.new) pages.old pages.new class result }

@@ -17,7 +17,6 @@ const UNMARKED: u32 = 1;
 /// Performs the operations of one phase in order.
 fn perform<D: Desk>(ops: &[Op], desk: &mut D, ledger: &mut Ledger, out: &mut Records)
     requires told { D.tells ≡ true }
-    requires limit { (D.standing desk.old).seat.room < 2 ^ 32 }
     requires so_far { (all : List Act) × (more : List Act) × SoFar (D.standing desk.old).seat all (map Operates ops.now ++ more) (D.standing desk.old) ledger.old out.old }
     ensures so_far { (all more : List Act) → SoFar (D.standing desk.old).seat all (map Operates ops.now ++ more) (D.standing desk.old) ledger.old out.old → SoFar (D.standing desk.old).seat all more (D.standing desk.new) ledger.new out.new }
     ensures seat { (D.standing desk.new).seat ≡ (D.standing desk.old).seat }
@@ -45,7 +44,6 @@ pub(crate) fn replay<D: Desk>(
     out: &mut Records,
 )
     requires told { D.tells ≡ true }
-    requires limit { (D.standing desk.old).seat.room < 2 ^ 32 }
     requires phases { length phases.now < 2 ^ 32 }
     requires so_far { SoFar (D.standing desk.old).seat (acts_of (map ops_of phases.now)) (acts_of (map ops_of phases.now)) (D.standing desk.old) ledger.old out.old }
     ensures so_far { SoFar (D.standing desk.old).seat (acts_of (map ops_of phases.now)) [] (D.standing desk.new) ledger.new out.new }

@@ -1,5 +1,5 @@
 //! One operation.
-ghost use Rattle.std.specs.Prelude.{◌≡◌, ◌+◌, ◌<◌, ◌≤◌, ◌^◌, true, length};
+ghost use Rattle.std.specs.Prelude.{◌≡◌, ◌+◌, ◌<◌, ◌≤◌, true, length};
 ghost use Rattle.pas_profile.specs.Classes.{IsAlignment};
 ghost use Rattle.pas_profile.specs.Routes.{route_of};
 ghost use Rattle.pas_report.specs.Rooms.{records_in, room_of};
@@ -43,7 +43,6 @@ pub(crate) fn serve<D: Desk>(
     requires route { IsClassRoute (route_of size align) }
     requires name { name < names_held ledger.old.names }
     requires pages { ledger.old.pages.bound ≡ (D.standing desk.old).seat.profile.pages }
-    requires limit { (D.standing desk.old).seat.room < 2 ^ 32 }
     requires room { length (records_in out.old) + 2 + bare_pages (D.standing desk.old).seat.profile ledger.old.pages ≤ room_of out.old }
     requires can { CanCall (D.standing desk.old) (MayAllocate (D.standing desk.old) ledger.old.pages) }
     ensures serves { Serves (D.standing desk.old) (D.standing desk.new) ledger.old ledger.new out.old out.new name size align }

@@ -4,7 +4,7 @@ use Rattle.pas_profile.specs.Classes.{has_bit}
 use Rattle.pas_profile.specs.Directories.{deed_word_of}
 use Rattle.pas_profile.specs.declared.directory.Directory.{Directory}
 use Rattle.pas_profile.specs.declared.word.Word.TheVariants as Word
-use Rattle.pas_steps.specs.Views.{View, has_right, known_deed, no_usable, all_ones, owes_check, owes_hint}
+use Rattle.pas_steps.specs.Views.{View, has_right, known_deed, no_usable, all_ones, is_unstamped, owes_check, owes_hint}
 use Rattle.pas_steps.specs.Agreement.{Agreed}
 use Rattle.pas_steps.specs.Past.{Once}
 use Rattle.pas_steps.specs.Frames.{AreLooks, OnlyReturns, GivesUp}
@@ -148,6 +148,11 @@ pub record LeaveSteps (page : ℕ) (directory : Directory) (steps : List Made) :
 pub record OwesNothing (page : ℕ) (v : View) : Type 0 where
   pub checks : (word : ℕ) → word < 4 → owes_check v page word ≡ false
   pub hint : owes_hint v page ≡ false
+
+-- the actor is clear: no page is unstamped for it, and it owes no check and no hint
+pub record IsClear (v : View) : Type 0 where
+  pub stamped : (page : ℕ) → is_unstamped v page ≡ false
+  pub owes : (page : ℕ) → OwesNothing page v
 
 -- this step gives the right up, and only looks stand before it
 abbrev pub LosesHere : ℕ → Made → List Made → Type 0

@@ -20,12 +20,12 @@ use Rattle.pas_steps.proofs.Adding.{adds_step, can_call, adds_call, agreed_first
 use Rattle.pas_steps.proofs.Past.{once_later, once_earlier}
 use Rattle.pas_steps.proofs.Frames.{events_append, events_split}
 use Rattle.pas_steps.proofs.Kept.{deed_stays}
-use Rattle.pas_rights.specs.Rights.{OwesNothing}
+use Rattle.pas_rights.specs.Rights.{OwesNothing, IsClear}
 use Rattle.pas_scan.specs.Evidence.{ReadsDeed, DeedHere, NoDeedHere, GetsRight, AllDeeds, Searched, ShowsHere}
 use Rattle.pas_scan.specs.Scan.{FindsBare}
 use Rattle.pas_search.specs.Kinds.{IsDeedOrBack, IsSearch, OnlyServes, OnlySearches, AreQuiet, deeds_made}
 use Rattle.pas_search.specs.Serving.{Rule, MayServe, GotBefore, KeepsPage, ServesPage}
-use Rattle.pas_search.specs.Searches.{IsClear, MaySearch, BareRoom, IsUntouched, Searching, DeedMadeHere, ByDeed, FewEvents, IsFoundBare, SearchesBare}
+use Rattle.pas_search.specs.Searches.{MaySearch, BareRoom, IsUntouched, Searching, DeedMadeHere, ByDeed, FewEvents, IsFoundBare, SearchesBare}
 use Rattle.pas_search.proofs.StepKinds.{serves_on, serves_search, searches_append, on_append, scans_read, reads_append, reads_quiet, events_quiet, no_deeds, deeds_serves, serves_events, quiet_events, events_at_append}
 use Rattle.pas_search.proofs.Going.{clear_after_reads, reads_searching, found_keeps, deed_kept_known}
 use Rattle.pas_search.proofs.Turning.{events_after_quiet}

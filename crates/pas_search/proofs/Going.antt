@@ -13,12 +13,12 @@ use Rattle.pas_steps.proofs.Adding.{agreed_first, agreed_later}
 use Rattle.pas_steps.proofs.Past.{once_later, once_earlier}
 use Rattle.pas_steps.proofs.Kept.{right_on, right_reads, holds_on_page, holds_reads, check_on, check_reads, hint_on, hint_reads, deed_stays}
 use Rattle.pas_profile.proofs.Codecs.{deed_word_of-positive}
-use Rattle.pas_rights.specs.Rights.{OwesNothing}
+use Rattle.pas_rights.specs.Rights.{OwesNothing, IsClear}
 use Rattle.pas_scan.specs.Evidence.{UnfitHere, ZeroHere, LacksAfter, Searched, IsOf}
 use Rattle.pas_scan.specs.Marks.{is_marked}
 use Rattle.pas_search.specs.Kinds.{OnlySearches, deeds_made}
 use Rattle.pas_search.specs.Serving.{Rule}
-use Rattle.pas_search.specs.Searches.{IsClear, MaySearch, IsStill, Keeps, OfferedHere, FromOffered, IsUntouched, Searching, GoesOn, MayTry, LeavesAsWas, LosesPage, FailsPage}
+use Rattle.pas_search.specs.Searches.{MaySearch, IsStill, Keeps, OfferedHere, FromOffered, IsUntouched, Searching, GoesOn, MayTry, LeavesAsWas, LosesPage, FailsPage}
 use Rattle.pas_search.proofs.StepKinds.{reads_search, reads_quiet, searches_append, quiet_append, unstamped_searches, right_own, no_deeds}
 use Rattle.pas_search.proofs.Backed.{backed_on, backed_reads}
 

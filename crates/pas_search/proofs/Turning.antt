@@ -18,7 +18,8 @@ use Rattle.pas_scan.specs.Scan.{FindsOffered}
 use Rattle.pas_scan.proofs.Reading.{right_scans}
 use Rattle.pas_search.specs.Kinds.{AreQuiet}
 use Rattle.pas_search.specs.Serving.{Rule}
-use Rattle.pas_search.specs.Searches.{IsClear, MaySearch, OfferedHere, Searching, GoesOn, MayTry, IsTried, FitsPage, TriesPage, IsFound, TriesNext, SearchesOffered}
+use Rattle.pas_rights.specs.Rights.{IsClear}
+use Rattle.pas_search.specs.Searches.{MaySearch, OfferedHere, Searching, GoesOn, MayTry, IsTried, FitsPage, TriesPage, IsFound, TriesNext, SearchesOffered}
 use Rattle.pas_search.specs.declared.trying.Tried.{Tried}
 use Rattle.pas_search.specs.declared.trying.Tried.TheVariants.{Lost, Unfit, Fits}
 use Rattle.pas_search.specs.declared.offered.Turn.TheVariants.{Done, Again, Found}

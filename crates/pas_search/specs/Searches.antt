@@ -14,7 +14,7 @@ use Rattle.pas_steps.specs.Past.{Once, Always}
 use Rattle.pas_steps.specs.Frames.{OnlyOn, OnlyReads}
 use Rattle.pas_steps.specs.declared.step.Made.{Made}
 use Rattle.pas_steps.specs.declared.step.Step.TheVariants.{Deed}
-use Rattle.pas_rights.specs.Rights.{KnowsDeed, OwesNothing}
+use Rattle.pas_rights.specs.Rights.{KnowsDeed, OwesNothing, IsClear}
 use Rattle.pas_scan.specs.Marks.{is_marked}
 use Rattle.pas_scan.specs.Evidence.{Readings, ShowsHere, ZeroHere, OneHere, UnfitHere, Searched, AllDeeds, Accounted, HeldHere, LacksAfter, IsOf}
 use Rattle.pas_search.specs.Kinds.{OnlySearches, AreQuiet, EventsAt, deeds_made}
@@ -27,11 +27,6 @@ use Rattle.pas_search.specs.declared.trying.Tried.{Tried}
 use Rattle.pas_search.specs.declared.trying.Tried.TheVariants.{Lost, Unfit, Fits}
 
 -- ---- what is asked
--- the actor has nothing unstamped, and owes neither a check nor a hint
-pub record IsClear (v : View) : Type 0 where
-  pub stamped : (p : ℕ) → is_unstamped v p ≡ false
-  pub owes : (p : ℕ) → OwesNothing p v
-
 -- besides, it has no right of a page of the directory
 pub record MaySearch (d : Directory) (v : View) : Type 0 where
   pub rights : (p : ℕ) → IsOf d p v → has_right v p ≡ false

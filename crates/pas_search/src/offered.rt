@@ -3,7 +3,8 @@ ghost use Rattle.std.specs.Prelude.{ℕ, ◌≡◌, ◌≤◌, false};
 ghost use Rattle.pas_profile.specs.Profiles.{IsDirectoryOf};
 ghost use Rattle.pas_steps.specs.Desks.{CanCall};
 ghost use Rattle.pas_scan.specs.Marks.{is_marked};
-ghost use Rattle.pas_search.specs.Searches.{IsClear, MaySearch, TriesNext, SearchesOffered};
+ghost use Rattle.pas_rights.specs.Rights.{IsClear};
+ghost use Rattle.pas_search.specs.Searches.{MaySearch, TriesNext, SearchesOffered};
 
 use crate::serving::{Served, Serving};
 use crate::trying::{Tried, try_page};

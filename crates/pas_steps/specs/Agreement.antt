@@ -11,7 +11,7 @@ use Rattle.pas_profile.specs.declared.directory.Directory.{Directory}
 use Rattle.pas_profile.specs.declared.name.Name.{Name}
 use Rattle.pas_profile.specs.declared.word.Word.{Word}
 use Rattle.pas_profile.specs.declared.word.Word.TheVariants as Word
-use Rattle.pas_machine.specs.Runs.{grain_of}
+use Rattle.pas_machine.specs.Runs.{in_run, grain_of}
 use Rattle.pas_steps.specs.Effects.{in_mask, life_word_at}
 use Rattle.pas_steps.specs.Views.{View, holds, has_right, known_deed, known_free, knows_backed, known_life, epoch_of, ReadLive, ReadBacked, EndedOn, EndedOnBoth}
 use Rattle.pas_steps.specs.declared.step.Step.{Step}
@@ -52,10 +52,11 @@ pub record AgreesLife (f : Profile) (v : View) (g a : ℕ) : Type 0 where
   pub turn_alone : is_live a ≡ false → a ≡ turn_of a
   pub again : (grains : ℕ) → is_live a ≡ true → ReadLive v g (turn_of a) grains → grains_of a ≡ grains
 
--- the life word that an end reads. A block that ended lay in the region
+-- the life word that an end reads. A block that ended lay in the region, and the actor held no grain of it before
 pub record AgreesEnd (f : Profile) (v : View) (name : Name) (guess a : ℕ) : Type 0 where
   pub life : AgreesLife f v (grain_of name) a
   pub within : a ≡ live_word name.turn guess → (256 ≤ grain_of name) × (grain_of name + guess ≤ 256 * (f.pages + 1))
+  pub apart : a ≡ live_word name.turn guess → (x : ℕ) → in_run (grain_of name) guess x ≡ true → holds v x ≡ false
 
 -- a backed word that is read: it is 0 or 1, and 1 where the page is known as backed
 pub record AgreesBacked (v : View) (page a : ℕ) : Type 0 where

@@ -1,5 +1,5 @@
 //! One actor's place at a region.
-ghost use Rattle.std.specs.Prelude.{◌≡◌, ◌+◌, ◌-◌, ◌^◌, ◌≤◌, Bool, ℕ, true, min, length, List, reverse};
+ghost use Rattle.std.specs.Prelude.{◌≡◌, ◌+◌, ◌-◌, ◌^◌, ◌<◌, ◌≤◌, Bool, ℕ, true, min, length, List, reverse};
 ghost use Rattle.pas_profile.specs.declared.event.Event.{Event};
 ghost use Rattle.pas_profile.specs.Profiles.{IsValid};
 ghost use Rattle.pas_steps.specs.Views.{View};
@@ -189,6 +189,10 @@ pub trait Desk {
 
     /// The profile is within the limits.
     ghost valid: { (d : Self) → IsValid (standing d).seat.profile };
+
+    /// The actor's room holds fewer than 2^32 events. So the blocks that it gives are few enough for `give` wherever there is room for
+    /// one more event.
+    ghost limited: { (d : Self) → (standing d).seat.room < 2 ^ 32 };
 
     /// The events shown are those of each view for which the desk stands.
     ghost shows: { (d : Self) (v : View) (l : Whole) → (standing d).stands v l → shown_of d ≡ reverse (events_of (standing d).seat.actor v) };

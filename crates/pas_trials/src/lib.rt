@@ -4,6 +4,8 @@
 pub mod filling;
 pub mod holding;
 #[cfg(test)]
+mod log_tests;
+#[cfg(test)]
 mod seating;
 pub mod seats;
 #[cfg(test)]

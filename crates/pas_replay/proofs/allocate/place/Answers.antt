@@ -18,11 +18,11 @@ look-life-requires-clause-can g c = can_look c.args.class c.args.grain c.back.re
 
 pub give-requires-clause-can : goal.give-requires-clause-can
 give-requires-clause-can g c = can_give c.args.class c.args.grain c.back.result c.look-life.result c.class_size-room.result _ c.class_size-room.ensures (block_is c.args.class c.args.grain c.look-life.result c.class_size-room.result c.class_size-room.ensures)
-    c.requires.slot c.requires.heap c.requires.limit c.take_run.ensures.takes c.back.ensures.makes c.look-life.ensures.makes c.requires.can
+    c.requires.slot c.requires.heap (g.met.D.Desk.limited c.args.desk.now) c.take_run.ensures.takes c.back.ensures.makes c.look-life.ensures.makes c.requires.can
 
 pub give-requires-clause-room : goal.give-requires-clause-room
 give-requires-clause-room g c = give_room c.args.class c.args.grain c.back.result c.look-life.result c.class_size-room.result c.class_size-room.ensures c.take_run.ensures.takes c.back.ensures.makes c.look-life.ensures.makes c.requires.can (λ v l s. g.met.D.Desk.spares c.look-life.new.self v l s)
 
 pub returns-clause-places : goal.returns-clause-places
 returns-clause-places g c = places c.args.class c.args.grain c.back.result c.look-life.result c.give.result c.class_size-room.result _ c.class_size-room.ensures (block_is c.args.class c.args.grain c.look-life.result c.class_size-room.result c.class_size-room.ensures)
-    c.requires.slot c.requires.heap c.requires.limit c.take_run.ensures.takes c.back.ensures.makes c.look-life.ensures.makes c.give.ensures.makes
+    c.requires.slot c.requires.heap (g.met.D.Desk.limited c.args.desk.now) c.take_run.ensures.takes c.back.ensures.makes c.look-life.ensures.makes c.give.ensures.makes

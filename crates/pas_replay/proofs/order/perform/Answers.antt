@@ -40,7 +40,7 @@ pub free-requires-clause-room : goal.free-requires-clause-room
 free-requires-clause-room g c = free_room (op_next c.requires.so_far.1 c.args.ops.now c.loop-op.op-index (Free c.in-Free.name) first c.loop-op-test.true c.in-Free.is (c.loop-op.invariant.far c.requires.so_far.0 c.requires.so_far.1 c.requires.so_far.2))
 
 pub free-requires-clause-can : goal.free-requires-clause-can
-free-requires-clause-can g c = can_free (op_next c.requires.so_far.1 c.args.ops.now c.loop-op.op-index (Free c.in-Free.name) first c.loop-op-test.true c.in-Free.is (c.loop-op.invariant.far c.requires.so_far.0 c.requires.so_far.1 c.requires.so_far.2)) c.requires.limit
+free-requires-clause-can g c = can_free (op_next c.requires.so_far.1 c.args.ops.now c.loop-op.op-index (Free c.in-Free.name) first c.loop-op-test.true c.in-Free.is (c.loop-op.invariant.far c.requires.so_far.0 c.requires.so_far.1 c.requires.so_far.2)) (g.met.D.Desk.limited c.args.desk.now)
 
 pub unreachable-requires : goal.unreachable-requires
 unreachable-requires g c =
@@ -58,7 +58,7 @@ loop-op-preserved g c = elim c.match-op.branch [
       rw (w.desk-is, w.ledger-is, w.out-is) (record { far = far; seat = seat; home = home })
   | in-Free w ↦
       let far = λ (all more : List Act) (so : SoFar (g.D.Desk.standing c.args.desk.now).seat all (map Operates c.args.ops.now ++ more) (g.D.Desk.standing c.args.desk.now) c.args.ledger.now c.args.out.now).
-      after_free (g.met.D.Desk.valid c.args.desk.now) c.requires.limit (op_next more c.args.ops.now c.loop-op.op-index (Free w.in-Free.name) first c.loop-op-test.true w.in-Free.is (c.loop-op.invariant.far all more so))
+      after_free (g.met.D.Desk.valid c.args.desk.now) (g.met.D.Desk.limited c.args.desk.now) (op_next more c.args.ops.now c.loop-op.op-index (Free w.in-Free.name) first c.loop-op-test.true w.in-Free.is (c.loop-op.invariant.far all more so))
       (λ v l s. g.met.D.Desk.told_part c.loop-op.desk v l c.requires.told s) w.free.ensures.frees (λ v l s. g.met.D.Desk.told w.free.new.desk v l c.requires.told s) in
       let seat = w.free.ensures.frees.adds.seat_is ∙ c.loop-op.invariant.seat in
       let home = w.free.ensures.home ∙ c.loop-op.invariant.home in

@@ -10,7 +10,7 @@ use Rattle.pas_trials.specs.Filling.{two_threads}
 use Rattle.pas_trials.proofs.seating.seated.Goals as goal
 
 -- the last two of three
-last_two : (a b c : PlainPass) (rest : List PlainPass) (x y : PlainPass) → a ∷ b ∷ c ∷ [] ≡ (rest ++ x ∷ []) ++ y ∷ [] → (x ≡ b) × (y ≡ c)
+last_two : {A : Type 0} (a b c : A) (rest : List A) (x y : A) → a ∷ b ∷ c ∷ [] ≡ (rest ++ x ∷ []) ++ y ∷ [] → (x ≡ b) × (y ≡ c)
 last_two a b c [] x y e = absurd (omega (arith, ap length e))
 last_two a b c (r ∷ []) x y e = (cc, cc)
 last_two a b c (r ∷ s ∷ rest) x y e = absurd (omega (arith, simp length-append at (ap length e)))

@@ -1,0 +1,33 @@
+use crate::*;
+use pas_profile::Profile;
+use std::test::Fail;
+
+const PROFILE: Profile = Profile {
+    pages: 1,
+    threads: 2,
+    age: 2,
+    heaps: 1,
+    shared: 0,
+};
+
+#[test]
+fn each_part_is_handed_out_once(rt: HostRuntime) -> Result<(), Fail> {
+    let mut utility = Utility::try_new(rt.alloc(), &PROFILE, &[3, 5, 7])?;
+    let sizes = [
+        utility.event_room(0).map(|room| room.spare()),
+        utility.event_room(1).map(|room| room.spare()),
+        utility.event_room(1).map(|room| room.spare()),
+        utility.event_room(2).map(|room| room.spare()),
+        utility.event_room(2).map(|room| room.spare()),
+        utility.event_room(0).map(|room| room.spare()),
+    ];
+    assert_eq!(rt; sizes, [Some(3), Some(5), None, Some(7), None, None]);
+    let threads = [
+        utility.cache_seat(2).map(|seat| seat.actor()),
+        utility.cache_seat(1).map(|seat| seat.actor()),
+        utility.cache_seat(2).map(|seat| seat.actor()),
+        utility.cache_seat(1).map(|seat| seat.actor()),
+    ];
+    assert_eq!(rt; threads, [Some(2), Some(1), None, None]);
+    Ok(())
+}

@@ -1,0 +1,101 @@
+//! The pools of a region.
+ghost use Rattle.std.specs.Prelude.{◌≡◌, ◌+◌, vec_len, length, IfOk, ℕ, ◌≤◌};
+ghost use Rattle.pas_utility.specs.Parts.{AreEmpty, AreNamed, AreRooms, AreSeats};
+
+use crate::seat::CacheSeat;
+use pas_profile::{EventRoom, NoMemory, Profile};
+use std::alloc::Global;
+
+/// An event room for each actor and a cache's seat for each thread, as far as they weren't handed out yet.
+#[derive(Drop)]
+pub struct Utility {
+    /// By actor, from the scavenger on.
+    rooms: Vec<Option<EventRoom>>,
+    /// By actor. The scavenger has none.
+    seats: Vec<Option<CacheSeat>>,
+    ghost some: { 1 ≤ vec_len rooms },
+    ghost matched: { vec_len rooms ≡ vec_len seats },
+    ghost empty: { AreEmpty rooms.items },
+    ghost named: { AreNamed seats.items },
+}
+
+/// A room for the events of each actor, by their bounds.
+fn rooms_for(alloc: Global, bounds: &[u32]) -> Result<Vec<Option<EventRoom>>, NoMemory>
+    ensures { IfOk result (λ rooms. AreRooms bounds.now rooms.items) }
+{
+    let Ok(mut rooms) = Vec::with_capacity(alloc, bounds.len()) else {
+        return Err(NoMemory);
+    };
+    for bound in bounds {
+        let room = EventRoom::try_new(alloc, *bound)?;
+        rooms.push_reserved(Some(room));
+    }
+    Ok(rooms)
+}
+
+/// A seat for each of so many threads.
+fn seats_for(alloc: Global, threads: u8) -> Result<Vec<Option<CacheSeat>>, NoMemory>
+    requires { threads ≤ 16 }
+    ensures { IfOk result (λ seats. AreSeats threads seats.items) }
+{
+    let Ok(mut seats) = Vec::with_capacity(alloc, threads as usize + 1) else {
+        return Err(NoMemory);
+    };
+    seats.push_reserved(None);
+    for thread in 1..threads + 1 {
+        seats.push_reserved(Some(CacheSeat::new(thread)));
+    }
+    Ok(seats)
+}
+
+impl Utility {
+    ghost use Rattle.std.specs.Prelude.{◌≢◌, ◌∷◌, [], MatchOption, Some, None, slice_index, Bool, true, false};
+    ghost use Rattle.pas_profile.specs.Profiles.{IsValid};
+    ghost use Rattle.pas_profile.specs.Rooms.{shown, size_of_room};
+    ghost use Rattle.pas_utility.specs.Seats.{thread_of};
+    ghost use Rattle.pas_utility.specs.Pools.{threads_of, room_of, has_seat};
+
+    /// All parts for a region of this profile: for actor k a room of `bounds[k]` events without an event, and for each thread a seat.
+    ///
+    /// NoMemory where memory was wanting. Costs one pass over the bounds.
+    pub fn try_new(alloc: Global, profile: &Profile, bounds: &[u32]) -> Result<Utility, NoMemory>
+        requires valid { IsValid profile.now }
+        requires bounds { length bounds.now ≡ profile.now.threads + 1 }
+        ensures threads { IfOk result (λ utility. threads_of utility ≡ profile.now.threads) }
+        ensures rooms { IfOk result (λ utility. (k : ℕ) → k ≤ profile.now.threads → room_of utility k ≡ Some (slice_index bounds.now k)) }
+        ensures seats { IfOk result (λ utility. (k : ℕ) → 1 ≤ k → k ≤ profile.now.threads → has_seat utility k ≡ true) }
+    {
+        let rooms = rooms_for(alloc, bounds)?;
+        let seats = seats_for(alloc, profile.threads)?;
+        Ok(Utility { rooms, seats })
+    }
+
+    /// The event room of the actor, which has no event. None exactly where it was handed out before.
+    ///
+    /// All other parts stay as they are. Takes no memory.
+    pub fn event_room(&mut self, actor: u8) -> Option<EventRoom>
+        requires { actor ≤ threads_of self.old }
+        ensures room { MatchOption result (room_of self.old actor ≡ None) (λ room. (room_of self.old actor ≡ Some (size_of_room room)) × (shown room ≡ [])) }
+        ensures gone { room_of self.new actor ≡ None }
+        ensures others { (k : ℕ) → k ≢ actor → room_of self.new k ≡ room_of self.old k }
+        ensures seats { (k : ℕ) → has_seat self.new k ≡ has_seat self.old k }
+        ensures threads { threads_of self.new ≡ threads_of self.old }
+    {
+        self.rooms[actor as usize].take()
+    }
+
+    /// The seat of the thread's cache. None exactly where it was handed out before.
+    ///
+    /// All other parts stay as they are. Takes no memory.
+    pub fn cache_seat(&mut self, actor: u8) -> Option<CacheSeat>
+        requires thread { 1 ≤ actor }
+        requires exists { actor ≤ threads_of self.old }
+        ensures seat { MatchOption result (has_seat self.old actor ≡ false) (λ seat. (has_seat self.old actor ≡ true) × (thread_of seat ≡ actor)) }
+        ensures gone { has_seat self.new actor ≡ false }
+        ensures others { (k : ℕ) → k ≢ actor → has_seat self.new k ≡ has_seat self.old k }
+        ensures rooms { (k : ℕ) → room_of self.new k ≡ room_of self.old k }
+        ensures threads { threads_of self.new ≡ threads_of self.old }
+    {
+        self.seats[actor as usize].take()
+    }
+}
