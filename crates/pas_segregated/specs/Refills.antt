@@ -9,9 +9,10 @@ use Rattle.pas_steps.specs.Views.{View, holds, has_right, knows_backed}
 use Rattle.pas_steps.specs.Agreement.{Agreed}
 use Rattle.pas_steps.specs.Desks.{Standing}
 use Rattle.pas_steps.specs.declared.step.Made.{Made}
+use Rattle.pas_rights.specs.Rights.{IsClear}
 use Rattle.pas_scan.specs.Evidence.{IsOf}
 use Rattle.pas_search.specs.Kinds.{EventsAt}
-use Rattle.pas_search.specs.Searches.{IsClear, MaySearch, FromOffered, ByDeed, FewEvents, Searches}
+use Rattle.pas_search.specs.Searches.{MaySearch, FromOffered, ByDeed, FewEvents, Searches}
 use Rattle.pas_search.specs.declared.serving.Served.{Served}
 use Rattle.pas_segregated.specs.Masks.{AreStarts, IsSome}
 use Rattle.pas_segregated.specs.Takes.{TookSlots, exclusive}

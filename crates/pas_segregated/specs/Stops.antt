@@ -9,9 +9,8 @@ use Rattle.pas_steps.specs.Agreement.{Agreed}
 use Rattle.pas_steps.specs.Frames.{OnlyOn}
 use Rattle.pas_steps.specs.Desks.{Standing, Adds}
 use Rattle.pas_steps.specs.declared.step.Made.{Made}
-use Rattle.pas_rights.specs.Rights.{KnowsDeed, LeaveSteps}
+use Rattle.pas_rights.specs.Rights.{IsClear, KnowsDeed, LeaveSteps}
 use Rattle.pas_search.specs.Kinds.{AreQuiet}
-use Rattle.pas_search.specs.Searches.{IsClear}
 use Rattle.pas_segregated.specs.Masks.{start_of}
 use Rattle.pas_segregated.specs.Returns.{BackSteps}
 use Rattle.pas_segregated.specs.declared.slots.Slots.{Slots}
