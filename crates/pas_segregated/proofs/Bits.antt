@@ -137,9 +137,6 @@ either_is m n long_m long_n g =
 abbrev pub BeginRuns : Mask4 → ℕ → Mask4 → Type 0
 BeginRuns mask n begins = (g : ℕ) → IsTrue (is_set begins g) ↔ AreSet mask g n
 
-pub runs_of_one : (mask : Mask4) → BeginRuns mask 1 mask
-runs_of_one mask g = (λ h x a b. let e : g ≡ x = omega (arith, a, b) in subst (λ y. is_set mask y ≡ true) e h, λ all. all g (omega arith) (omega arith))
-
 pub runs_longer : (mask begins moved longer : Mask4) (n by : ℕ) → by ≤ n → BeginRuns mask n begins → ((g : ℕ) → is_set moved g ≡ is_set begins (g + by)) → ((g : ℕ) → is_set longer g ≡ (is_set begins g && is_set moved g)) → BeginRuns mask (n + by) longer
 runs_longer mask begins moved longer n by few runs down joined g = (
   λ h x a b.
@@ -157,9 +154,6 @@ runs_longer mask begins moved longer n by few runs down joined g = (
 -- ---- bits that are spread
 abbrev pub AreNear : Mask4 → ℕ → Mask4 → Type 0
 AreNear mask n near = (g : ℕ) → g < 256 → IsTrue (is_set near g) ↔ IsNear mask g n
-
-pub near_of_one : (mask : Mask4) → AreNear mask 1 mask
-near_of_one mask g within = (λ h. (g, omega arith, omega arith, h), λ near. let a = near.1 in let b = near.2 in let e : near.0 ≡ g = omega (arith, a, b) in subst (λ y. is_set mask y ≡ true) e near.3)
 
 one_of : (x y : Bool) → (x || y) ≡ true → x ≡ false → y ≡ true
 one_of true y h e = cc
