@@ -4,7 +4,7 @@ use Rattle.pas_profile.specs.Classes.{has_bit}
 use Rattle.pas_profile.specs.Directories.{deed_word_of}
 use Rattle.pas_profile.specs.declared.directory.Directory.{Directory}
 use Rattle.pas_profile.specs.declared.word.Word.TheVariants as Word
-use Rattle.pas_steps.specs.Views.{View, has_right, known_deed, is_unstamped, no_usable, all_ones, owes_check, owes_hint}
+use Rattle.pas_steps.specs.Views.{View, has_right, known_deed, no_usable, all_ones, is_unstamped, owes_check, owes_hint}
 use Rattle.pas_steps.specs.Agreement.{Agreed}
 use Rattle.pas_steps.specs.Past.{Once}
 use Rattle.pas_steps.specs.Frames.{AreLooks, OnlyReturns, GivesUp}
@@ -149,7 +149,7 @@ pub record OwesNothing (page : ℕ) (v : View) : Type 0 where
   pub checks : (word : ℕ) → word < 4 → owes_check v page word ≡ false
   pub hint : owes_hint v page ≡ false
 
--- the actor has nothing unstamped, and owes neither a check nor a hint
+-- the actor is clear: no page is unstamped for it, and it owes no check and no hint
 pub record IsClear (v : View) : Type 0 where
   pub stamped : (page : ℕ) → is_unstamped v page ≡ false
   pub owes : (page : ℕ) → OwesNothing page v

@@ -6,3 +6,4 @@ pub mod Ranged
 pub mod Targets
 pub mod Written
 pub mod Kept
+pub mod Backed

@@ -1,3 +1,5 @@
 pub mod Bringing
 pub mod Besides
 pub mod Found
+pub mod Fills
+pub mod Stood

@@ -1,12 +1,20 @@
 //! Trials of the calls on rights and of the searches: what two actors that sit at one plain region after each other do, and what they find.
 #![tactic(auto)]
 
+pub mod filling;
 pub mod holding;
+#[cfg(test)]
+mod log_tests;
+#[cfg(test)]
+mod seating;
 pub mod seats;
+#[cfg(test)]
+mod slot_tests;
 #[cfg(test)]
 mod tests;
 pub mod wanting;
 
+pub use filling::{Filled, fill};
 pub use holding::{occupy, visit};
 pub use seats::{change, close_both};
 pub use wanting::{Findings, ask, want};

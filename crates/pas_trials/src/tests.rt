@@ -1,21 +1,10 @@
-ghost use Rattle.std.specs.Prelude.{◌≡◌, ◌-◌, ◌≤◌, IfOk, length};
-ghost use Rattle.pas_plain.specs.Plain.{profile_of, events_shown, room_of_pass};
-ghost use Rattle.pas_plain.specs.Seats.{region_of, pass_of};
-ghost use Rattle.pas_trials.specs.Trials.{Beside};
+ghost use Rattle.std.specs.Prelude.{◌≤◌};
 
+use crate::seating::seated;
 use crate::*;
-use pas_plain::{PlainDesk, PlainPass, try_new};
 use pas_profile::*;
 use std::alloc::Global;
 use std::test::Fail;
-
-const PROFILE: Profile = Profile {
-    pages: 2,
-    threads: 2,
-    age: 2,
-    heaps: 1,
-    shared: 0,
-};
 
 /// Slots of 512 bytes, eight on a page.
 const DIRECTORY: Directory = Directory {
@@ -32,32 +21,12 @@ struct Trial {
     eligible: u64,
 }
 
-/// Actor 1 at a region that nobody used yet, with room for one event, beside the pass of actor 2.
-fn seated(alloc: Global) -> Result<(PlainDesk, PlainPass), Fail>
-    ensures beside { IfOk result (λ opened. Beside opened.0 opened.1) }
-    ensures profile { IfOk result (λ opened. profile_of (region_of opened.0) ≡ PROFILE) }
-    ensures room { IfOk result (λ opened. 1 ≤ room_of_pass (pass_of opened.0) - length (events_shown (pass_of opened.0))) }
-{
-    let mut rooms = Vec::new(alloc);
-    rooms.push(EventRoom::try_new(alloc, 0)?)?;
-    rooms.push(EventRoom::try_new(alloc, 1)?)?;
-    rooms.push(EventRoom::try_new(alloc, 0)?)?;
-    let (region, mut passes) = try_new(alloc, PROFILE, rooms)?;
-    let Some(second) = passes.pop() else {
-        return Err(NoMemory.into());
-    };
-    let Some(first) = passes.pop() else {
-        return Err(NoMemory.into());
-    };
-    Ok((region.desk(first), second))
-}
-
 /// Actor 1 makes the deed of page 1 and takes the grains of so many of its free words, and leaves it where that is asked. Then actor 2
 /// wants the page.
 fn two_turns(alloc: Global, words: u8, leaves: bool) -> Result<Trial, Fail>
     requires { words ≤ 4 }
 {
-    let (mut desk, pass) = seated(alloc)?;
+    let (mut desk, pass) = seated(alloc, 2, 1)?;
     let left_in = visit(&mut desk, 1, DIRECTORY, words, leaves);
     let (mut desk, pass) = change(desk, pass);
     let findings = want(&mut desk, 1, DIRECTORY);

@@ -1,0 +1,10 @@
+pub mod Staying
+pub mod Masks
+pub mod Tries
+pub mod Silent
+pub mod Pages
+pub mod Blocks
+pub mod Idle
+pub mod Entries
+pub mod Spares
+pub mod Flushed

@@ -1,0 +1,127 @@
+-- The end of one name: the tries, and what the last one came to.
+use Rattle.std.proofs.Common.{◌≡◌, ◌≢◌, ℕ, ◌*◌, ◌/◌, ◌^◌, ◌<◌, ◌≤◌, ◌==◌, ◌&&◌, Bool, true, false, List, [], ◌∷◌, ◌++◌, Option, Some, None, inl, inr, refl, ap, sym, ◌∙◌, subst, arith}
+use Rattle.std.proofs.lemmas.Bool.{cases_Bool, eqb-true, eq-eqb, ne_eqb, and_parts, and_from}
+use Rattle.pas_profile.specs.Directories.{IsKind, directory_read}
+use Rattle.pas_profile.specs.Lives.{live_word, is_live, turn_of, grains_of}
+use Rattle.pas_profile.specs.declared.directory.Directory.{Directory}
+use Rattle.pas_profile.specs.declared.directory.Kind.{Kind}
+use Rattle.pas_profile.specs.declared.name.Name.{Name}
+use Rattle.pas_profile.specs.declared.profile.Profile.{Profile}
+use Rattle.pas_profile.specs.declared.word.Word.TheVariants as Word
+use Rattle.pas_profile.proofs.ClassFacts.{class_grains_positive, class_grains_le}
+use Rattle.pas_profile.proofs.Codecs.{read_is, is_live-live_word, turn_of-live_word}
+use Rattle.pas_machine.specs.Runs.{address_of, grain_of}
+use Rattle.pas_steps.specs.declared.step.Made.{Made}
+use Rattle.pas_steps.specs.declared.step.Step.TheVariants.{Look, End}
+use Rattle.pas_steps.specs.Views.{View, known_epoch}
+use Rattle.pas_steps.specs.Allowed.{IsStepOf, IsEpochKnown}
+use Rattle.pas_steps.specs.Agreement.{AgreesLife, AgreesEnd}
+use Rattle.pas_steps.specs.Desks.{Standing, made, Makes, CanMake, CanCall, Adds}
+use Rattle.pas_steps.proofs.Adding.{adds_none, adds_step, can_step}
+use Rattle.pas_free_log.specs.Conditions.{IsNameOf, KnowsEpoch, IsRun}
+use Rattle.pas_free_log.specs.Endings.{guess_by, guess_by_kind, is_of, Tries, IsEndOf, IsOfRegion, EndsName}
+use Rattle.pas_free_log.specs.declared.ending.Outcome.{Outcome}
+
+-- ---- guesses
+abbrev pub IsLength : ℕ → Type 0
+IsLength n = (1 ≤ n) × (n ≤ 256)
+
+kind_length : (k : Kind) → IsKind k → IsLength (guess_by_kind k)
+kind_length (Kind.Class class) is = let some = class_grains_positive class is in let few = class_grains_le class is in (omega (arith, some), omega (arith, few))
+kind_length Kind.Bitfit is = (omega arith, omega arith)
+kind_length Kind.Shared is = (omega arith, omega arith)
+kind_length Kind.Large is = (omega arith, omega arith)
+
+by_length : (o : Option Directory) → ((d : Directory) → o ≡ Some d → IsKind d.kind) → IsLength (guess_by o)
+by_length None is = (omega arith, omega arith)
+by_length (Some d) is = kind_length d.kind (is d refl)
+
+pub guess_length : (deed : ℕ) → IsLength (guess_by (directory_read deed))
+guess_length deed = by_length (directory_read deed) (λ d e. (read_is deed d e).0.kind)
+
+-- ---- the steps
+-- the look at the deed word
+abbrev pub first_look : Name → ℕ → List Made
+first_look name deed = made (Look (Word.Deed (address_of name / 4096))) deed ∷ []
+
+epoch_before : (name : Name) (deed first guess : ℕ) (before : List Made) (v : View) → Tries name first guess before → known_epoch (before ++ first_look name deed ++ v) ≡ known_epoch v
+epoch_before name deed first guess before v (inl t) = ap (λ s. known_epoch (s ++ first_look name deed ++ v)) t.1
+epoch_before name deed first guess before v (inr t) = ap (λ s. known_epoch (s ++ first_look name deed ++ v)) t.4
+
+pub may_end : (name : Name) (deed first guess : ℕ) (before : List Made) (v : View) → Tries name first guess before → KnowsEpoch v → KnowsEpoch (before ++ first_look name deed ++ v)
+may_end name deed first guess before v tries knows = subst (λ o. IsEpochKnown o) (sym (epoch_before name deed first guess before v tries)) knows
+
+pub looked : {σ σ1 : Standing} (name : Name) (deed : ℕ) → Makes σ σ1 (Look (Word.Deed (address_of name / 4096))) deed → Adds σ σ1 (λ v l. KnowsEpoch v) (first_look name deed)
+looked name deed makes = adds_step adds_none makes (λ v l stood met. tt)
+
+pub tried : {σ σ1 σ2 : Standing} (name : Name) (deed first guess a : ℕ) (before : List Made) → Tries name first guess before → Adds σ σ1 (λ v l. KnowsEpoch v) (before ++ first_look name deed) → Makes σ1 σ2 (End name guess) a
+    → Adds σ σ2 (λ v l. KnowsEpoch v) (made (End name guess) a ∷ before ++ first_look name deed)
+tried name deed first guess a before tries adds makes = adds_step adds makes (λ v l stood met. may_end name deed first guess before v tries met)
+
+-- a try of the name with a length that some block may have
+pub end_of_region : (f : Profile) (name : Name) (guess : ℕ) → IsNameOf f name → 1 ≤ guess → guess ≤ 256 * f.pages → IsStepOf f (End name guess)
+end_of_region f name guess is some few = (is.page, is.aligned, is.turn, some, few)
+
+pub can_try : {σ σ1 : Standing} (name : Name) (deed first guess : ℕ) (before : List Made) → Tries name first guess before → Adds σ σ1 (λ v l. KnowsEpoch v) (before ++ first_look name deed) → CanCall σ (λ v l. KnowsEpoch v)
+    → IsStepOf σ.seat.profile (End name guess) → CanMake σ1 (End name guess)
+can_try {σ} name deed first guess before tries adds can of = can_step {C = λ v l. KnowsEpoch v} adds can of (λ v l stood met. may_end name deed first guess before v tries met)
+
+-- what the last try came to, by what its answer agrees with
+pub ends_by : {σ σ1 σ2 : Standing} (name : Name) (outcome : Outcome) (deed guess a : ℕ) (before : List Made) → Tries name (guess_by (directory_read deed)) guess before → Adds σ σ1 (λ v l. KnowsEpoch v) (before ++ first_look name deed) → Makes σ1 σ2 (End name guess) a
+    → CanCall σ (λ v l. KnowsEpoch v) → ((v : View) → AgreesEnd σ.seat.profile (before ++ first_look name deed ++ v) name guess a → IsEndOf name guess a outcome × IsOfRegion σ.seat.profile name outcome) → EndsName name σ σ2 outcome
+ends_by {σ} {σ1} {σ2} name outcome deed guess a before tries adds makes can told =
+    let all : Adds σ σ2 (λ v l. KnowsEpoch v) (made (End name guess) a ∷ before ++ first_look name deed) = tried name deed (guess_by (directory_read deed)) guess a before tries adds makes in
+    let came = told can.view (all.agreed can.view can.whole can.stood can.met).0 in
+    record {
+      steps = made (End name guess) a ∷ before ++ first_look name deed;
+      adds = all;
+      order = record { deed = deed; before = before; guess = guess; answer = a; tries = tries; comes_to = came.0; steps_are = refl };
+      of_region = came.1;
+    }
+
+-- ---- what a try tells
+pub ended_run : (f : Profile) (v : View) (name : Name) (guess a : ℕ) → 1 ≤ guess → a ≡ live_word name.turn guess → AgreesEnd f v name guess a → IsRun f (grain_of name) guess
+ended_run f v name guess a some live agrees = let w = agrees.within live in record { some = some; first = w.0; last = w.1 }
+
+pub dead_is_none : (name : Name) (a : ℕ) → is_live a ≡ false → is_of name a ≡ false
+dead_is_none name a h = ap (λ t. t && (turn_of a == name.turn)) h
+
+and_no : (t : Bool) → (t && false) ≡ false
+and_no true = refl
+and_no false = refl
+
+pub other_is_none : (name : Name) (a : ℕ) → turn_of a ≢ name.turn → is_of name a ≡ false
+other_is_none name a ne = ap (λ t. is_live a && t) (ne_eqb (turn_of a) name.turn ne) ∙ and_no (is_live a)
+
+pub is_of_name : (name : Name) (a : ℕ) → is_live a ≡ true → turn_of a ≡ name.turn → is_of name a ≡ true
+is_of_name name a live turn = and_from (is_live a) (turn_of a == name.turn) live (eq-eqb (turn_of a) name.turn turn)
+
+-- a block that was read as live with the name's turn, and still lives, has the length that it had
+still_length : (f : Profile) (v : View) (name : Name) (first guess read a : ℕ) → is_of name read ≡ true → guess ≡ grains_of read → AgreesLife f (made (End name first) read ∷ v) (grain_of name) a → is_of name a ≡ true → grains_of a ≡ guess
+still_length f v name first guess read a is length agrees lives =
+    let old = and_parts (is_live read) (turn_of read == name.turn) is in
+    let now = and_parts (is_live a) (turn_of a == name.turn) lives in
+    agrees.again guess now.0
+    (inl record { reads = eq-eqb (grain_of name) (grain_of name) refl; live = old.0; turn_is = eqb-true (turn_of read) name.turn old.1 ∙ sym (eqb-true (turn_of a) name.turn now.1); grains_are = sym length })
+
+-- where another life word is read then, it lives no longer
+pub gone_since : (f : Profile) (v : View) (name : Name) (first guess read a : ℕ) → is_of name read ≡ true → guess ≡ grains_of read → AgreesLife f (made (End name first) read ∷ v) (grain_of name) a → a ≢ live_word name.turn guess → is_of name a ≡ false
+gone_since f v name first guess read a is length agrees ne = elim (cases_Bool (is_of name a)) [
+  | inl lives ↦
+      let now = and_parts (is_live a) (turn_of a == name.turn) lives in
+      absurd (ne (agrees.live now.0 ∙ ap (λ t. live_word t (grains_of a)) (eqb-true (turn_of a) name.turn now.1) ∙ ap (λ n. live_word name.turn n) (still_length f v name first guess read a is length agrees lives)))
+  | inr none ↦ none
+]
+
+-- the block that ended at the second try
+pub ended_again : (f : Profile) (v : View) (name : Name) (first guess read a : ℕ) → IsNameOf f name → is_of name read ≡ true → guess ≡ grains_of read → a ≡ live_word name.turn guess → AgreesEnd f (made (End name first) read ∷ v) name guess a → IsRun f (grain_of name) guess
+ended_again f v name first guess read a named is length live agrees =
+    let turn : name.turn < 2 ^ 40 = let t = named.turn in omega (arith, t) in
+    let lives : is_live a ≡ true = ap is_live live ∙ is_live-live_word name.turn guess in
+    let same = still_length f v name first guess read a is length agrees.life (is_of_name name a lives (ap turn_of live ∙ turn_of-live_word name.turn guess turn)) in
+    let some = (agrees.life.length lives).0 in
+    ended_run f (made (End name first) read ∷ v) name guess a (omega (arith, same, some)) live agrees
+
+-- the first try read another length
+pub again : (name : Name) (deed first guess read : ℕ) → first ≡ guess_by (directory_read deed) → read ≢ live_word name.turn first → is_of name read ≡ true → guess ≡ grains_of read → Tries name (guess_by (directory_read deed)) guess (made (End name first) read ∷ [])
+again name deed first guess read first_is ne is length = inr (read, (λ e. ne (e ∙ ap (λ n. live_word name.turn n) (sym first_is))), is, length, ap (λ n. made (End name n) read ∷ []) first_is)

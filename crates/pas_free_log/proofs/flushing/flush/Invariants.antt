@@ -1,0 +1,30 @@
+use Rattle.std.proofs.Common.{◌≡◌, ℕ, ◌+◌, List, [], ◌∷◌, ◌++◌, take}
+use Rattle.std.specs.Prelude.{map, reverse}
+use Rattle.std.specs.List.{flat_map}
+use Rattle.pas_profile.specs.declared.word.Word.TheVariants as Word
+use Rattle.pas_steps.specs.declared.step.Made.{Made}
+use Rattle.pas_steps.specs.declared.step.Step.TheVariants.{Look}
+use Rattle.pas_steps.specs.Views.{View, epoch_of}
+use Rattle.pas_steps.specs.Events.{events_by}
+use Rattle.pas_steps.specs.Desks.{Adds, made}
+use Rattle.pas_rights.specs.Rights.{IsClear}
+use Rattle.pas_free_log.specs.Stamps.{stamps_by}
+use Rattle.pas_free_log.specs.Frames.{Restores}
+use Rattle.pas_free_log.specs.Flushes.{Settled, shown_for, stamps_for, EntriesSteps}
+use Rattle.pas_free_log.proofs.flushing.flush.Given as goal
+
+-- the names so far were settled
+abbrev pub invariant-loop-name : goal.invariant-loop-name
+invariant-loop-name g l = let D = g.D.Desk in record {
+  epoch : ℕ;
+  settled : List Settled;
+  names_are : reverse (map (λ entry. entry.name) settled) ≡ take l.name-index l.names;
+  entries : List Made;
+  order : EntriesSteps settled entries;
+  adds : Adds (D.standing l.fn.desk) (D.standing l.desk) (λ v w. IsClear v) (entries ++ made (Look Word.Epoch) epoch ∷ []);
+  restores : Restores (D.standing l.fn.desk).seat.profile entries;
+  events : (v : View) → epoch_of v ≡ epoch → events_by (D.standing l.fn.desk).seat.actor v entries ≡ map (shown_for (D.standing l.fn.desk).seat.actor epoch) settled;
+  stamps : (v : View) → epoch_of v ≡ epoch → stamps_by v entries ≡ flat_map (stamps_for epoch) settled;
+  spare : D.spare_of l.desk + l.name-index ≡ D.spare_of l.fn.desk;
+  home : D.home l.desk ≡ D.home l.fn.desk;
+}

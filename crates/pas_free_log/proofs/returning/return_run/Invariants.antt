@@ -1,0 +1,24 @@
+use Rattle.std.proofs.Common.{◌≡◌, ◌-◌, ◌+◌, ◌≤◌, List}
+use Rattle.pas_steps.specs.declared.step.Made.{Made}
+use Rattle.pas_steps.specs.Desks.{Adds}
+use Rattle.pas_free_log.specs.Stamps.{page_count}
+use Rattle.pas_free_log.specs.Frames.{PutsBack}
+use Rattle.pas_free_log.specs.Returns.{MayReturn, PagesSteps}
+use Rattle.pas_free_log.proofs.Blocks.{IsBorder}
+use Rattle.pas_free_log.proofs.returning.return_run.Given as goal
+
+-- the run up to the grain `from` was put back
+abbrev pub invariant-loop-from : goal.invariant-loop-from
+invariant-loop-from g l = let D = g.D.Desk in record {
+  steps : List Made;
+  adds : Adds (D.standing l.fn.desk) (D.standing l.desk) (λ v w. MayReturn l.grain l.grains v) steps;
+  order : PagesSteps (page_count l.grain (l.from - l.grain)) l.grain l.grains steps;
+  back : PutsBack (D.standing l.fn.desk).seat.profile l.grain (l.from - l.grain) steps;
+  low : l.grain ≤ l.from;
+  high : l.from ≤ l.grain + l.grains;
+  border : IsBorder l.grain l.grains l.from;
+  home : D.home l.desk ≡ D.home l.fn.desk;
+}
+
+abbrev pub decreases-loop-from : goal.decreases-loop-from
+decreases-loop-from g l = l.end - l.from

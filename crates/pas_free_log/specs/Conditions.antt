@@ -1,0 +1,30 @@
+-- What the calls of this crate ask.
+use Rattle.std.specs.Prelude.{ℕ, ◌+◌, ◌-◌, ◌*◌, ◌/◌, ◌%◌, ◌^◌, ◌<◌, ◌≤◌, ◌≡◌, false}
+use Rattle.pas_profile.specs.Profiles.{IsPage}
+use Rattle.pas_profile.specs.declared.profile.Profile.{Profile}
+use Rattle.pas_profile.specs.declared.name.Name.{Name}
+use Rattle.pas_machine.specs.Runs.{address_of}
+use Rattle.pas_steps.specs.Views.{View, known_epoch}
+use Rattle.pas_steps.specs.Allowed.{IsEpochKnown}
+
+-- The end of this name may be tried: its address is a multiple of 16 on a page of the region, and its turn has a next one.
+pub record IsNameOf (f : Profile) (name : Name) : Type 0 where
+  pub page : IsPage f (address_of name / 4096)
+  pub aligned : address_of name % 16 ≡ 0
+  pub turn : name.turn < 2 ^ 40 - 1
+
+-- the actor read the epoch
+abbrev pub KnowsEpoch : View → Type 0
+KnowsEpoch v = IsEpochKnown (known_epoch v)
+
+-- a run of some grains of the region
+pub record IsRun (f : Profile) (g n : ℕ) : Type 0 where
+  pub some : 1 ≤ n
+  pub first : 256 ≤ g
+  pub last : g + n ≤ 256 * (f.pages + 1)
+
+-- .. that lies on one page
+pub record IsRunOnPage (f : Profile) (g n : ℕ) : Type 0 where
+  pub some : 1 ≤ n
+  pub page : IsPage f (g / 256)
+  pub within : g % 256 + n ≤ 256

@@ -1,0 +1,85 @@
+-- The grains of a block that ended, stamped and put back.
+use Rattle.std.specs.Prelude.{ℕ, zero, suc, ◌+◌, ◌-◌, ◌*◌, ◌/◌, ◌≤◌, ◌≡◌, min, max, true, false, List, [], ◌∷◌, ◌++◌, length}
+use Rattle.pas_profile.specs.Directories.{deed_word_of}
+use Rattle.pas_profile.specs.declared.directory.Directory.{Directory}
+use Rattle.pas_profile.specs.declared.word.Word.TheVariants as Word
+use Rattle.pas_machine.specs.Runs.{in_run, meets_page}
+use Rattle.pas_steps.specs.Views.{View, holds, is_unstamped, EndedOn}
+use Rattle.pas_steps.specs.Desks.{Standing, Adds, made}
+use Rattle.pas_steps.specs.Past.{Always}
+use Rattle.pas_steps.specs.declared.step.Made.{Made}
+use Rattle.pas_steps.specs.declared.step.Step.{Step}
+use Rattle.pas_steps.specs.declared.step.Step.TheVariants.{Look, Put, Stamp}
+use Rattle.pas_rights.specs.Rights.{ReturnSteps}
+use Rattle.pas_free_log.specs.Conditions.{KnowsEpoch}
+use Rattle.pas_free_log.specs.Stamps.{page_count}
+use Rattle.pas_free_log.specs.Frames.{StaysAt, PutsBack}
+
+-- ---- grains of one page
+pub record MayPutRun (g n : ℕ) (v : View) : Type 0 where
+  pub held : (x : ℕ) → in_run g n x ≡ true → holds v x ≡ true
+  pub stamped : is_unstamped v (g / 256) ≡ false
+
+-- the step puts grains of the page back
+pub data IsPut (page : ℕ) : Step → Type 0 where
+  Puts : (word mask : ℕ) → IsPut page (Put page word mask)
+
+abbrev pub OnlyPuts : ℕ → List Made → Type 0
+OnlyPuts page = Always (λ m before. IsPut page m.step)
+
+-- puts on the page of the run, at most one for each of its four free words, which put exactly the grains of the run
+pub record PutSteps (g n : ℕ) (steps : List Made) : Type 0 where
+  pub puts : OnlyPuts (g / 256) steps
+  pub few : length steps ≤ 4
+  pub stays : (x : ℕ) → in_run g n x ≡ false → StaysAt x steps
+  pub away : (v : View) (x : ℕ) → in_run g n x ≡ true → holds (steps ++ v) x ≡ false
+
+pub record PutsRun (g n : ℕ) (desk desk' : Standing) : Type 0 where
+  pub steps : List Made
+  pub adds : Adds desk desk' (λ v l. MayPutRun g n v) steps
+  pub order : PutSteps g n steps
+
+-- ---- a page of a block that ended
+-- the actor holds the grains of the run, ended a block on each of its pages, and read the epoch
+pub record MayReturn (g n : ℕ) (v : View) : Type 0 where
+  pub held : (x : ℕ) → in_run g n x ≡ true → holds v x ≡ true
+  pub ended : (page : ℕ) → meets_page g n page ≡ true → EndedOn v page
+  pub epoch : KnowsEpoch v
+
+-- The steps for a run on one page: a look at its deed word, the stamp, and only then the grains are put back; and then what is owed on the page.
+pub record PageSteps (g n : ℕ) (steps : List Made) : Type 0 where
+  pub directory : Directory
+  pub stamped : ℕ
+  pub puts : List Made
+  pub order : PutSteps g n puts
+  pub after : List Made
+  pub returns : ReturnSteps (g / 256) directory after
+  pub steps_are : steps ≡ after ++ (puts ++ (made (Stamp (g / 256)) stamped ∷ made (Look (Word.Deed (g / 256))) (deed_word_of directory) ∷ []))
+
+pub record ReturnsPage (g n : ℕ) (desk desk' : Standing) : Type 0 where
+  pub steps : List Made
+  pub adds : Adds desk desk' (λ v l. MayReturn g n v) steps
+  pub order : PageSteps g n steps
+  pub back : PutsBack desk.seat.profile g n steps
+
+-- ---- all pages of the block
+-- the part of the run of n grains from g that lies on a page: its first grain, and how many there are
+abbrev pub first_on : ℕ → ℕ → ℕ
+first_on g page = max g (256 * page)
+
+abbrev pub count_on : ℕ → ℕ → ℕ → ℕ
+count_on g n page = min (g + n) (256 * page + 256) - first_on g page
+
+-- the steps for the first so many pages of the run, page by page from the lowest one
+abbrev pub PagesSteps : ℕ → ℕ → ℕ → List Made → Type 0
+PagesSteps zero g n steps = steps ≡ []
+PagesSteps (suc k) g n steps = (piece : List Made) × (before : List Made) × PageSteps (first_on g (g / 256 + k)) (count_on g n (g / 256 + k)) piece × PagesSteps k g n before × (steps ≡ piece ++ before)
+
+abbrev pub RunSteps : ℕ → ℕ → List Made → Type 0
+RunSteps g n steps = PagesSteps (page_count g n) g n steps
+
+pub record ReturnsRun (g n : ℕ) (desk desk' : Standing) : Type 0 where
+  pub steps : List Made
+  pub adds : Adds desk desk' (λ v l. MayReturn g n v) steps
+  pub order : RunSteps g n steps
+  pub back : PutsBack desk.seat.profile g n steps

@@ -1,0 +1,75 @@
+//! The end of one name.
+ghost use Rattle.std.specs.Prelude.{◌≡◌, ◌≤◌, true, false, MatchOption};
+ghost use Rattle.pas_profile.specs.Lives.{grains_of};
+ghost use Rattle.pas_profile.specs.Directories.{directory_read};
+ghost use Rattle.pas_steps.specs.Desks.{CanCall};
+ghost use Rattle.pas_free_log.specs.Conditions.{IsNameOf, KnowsEpoch};
+ghost use Rattle.pas_free_log.specs.Endings.{guess_by, is_of, EndsName};
+
+use pas_profile::classes::class_size;
+use pas_profile::{Directory, Kind, Name, Word, life_word, read_deed, read_life};
+use pas_steps::Desk;
+
+/// What came of the end of a name.
+#[derive(Clone, Copy, Debug, PartialEq, Eq, Drop)]
+pub enum Outcome {
+    /// A block of so many grains ended. The actor holds them.
+    Ended { grains: u32 },
+    /// This life word was read, which isn't that of the name's block.
+    Refused { read: u64 },
+}
+
+/// How many grains a block has that begins on a page with this deed word: right for every block of a class, and 1 otherwise.
+fn guess(deed: u64) -> u32
+    ensures { result ≡ guess_by (directory_read deed) }
+{
+    match read_deed(deed) {
+        Some(
+            Directory {
+                heap: _,
+                kind: Kind::Class(class),
+            },
+        ) => class_size(class) / 16,
+        _ => 1,
+    }
+}
+
+/// The length of the name's block in grains. None exactly where the life word isn't that of a live block with the name's turn.
+fn length_in(name: Name, read: u64) -> Option<u32>
+    ensures { MatchOption result (is_of name read ≡ false) (λ grains. (is_of name read ≡ true) × (grains ≡ grains_of read)) }
+{
+    let (turn, grains, live) = read_life(read);
+    if live && turn == name.turn {
+        Some(grains)
+    } else {
+        None
+    }
+}
+
+/// Ends the block of this name, whatever its length. Two or three steps, and one event.
+///
+/// The first try is made with a length that is guessed by the deed of the name's page. Where it reads a live block of the name's turn with
+/// another length, a second try is made with that length.
+pub fn end_named<D: Desk>(desk: &mut D, name: Name) -> Outcome
+    requires name { IsNameOf (D.standing desk.old).seat.profile name }
+    requires room { 1 ≤ D.spare_of desk.old }
+    requires can { CanCall (D.standing desk.old) (λ v l. KnowsEpoch v) }
+    ensures ends { EndsName name (D.standing desk.old) (D.standing desk.new) result }
+    ensures home { D.home desk.new ≡ D.home desk.old }
+{
+    let deed = desk.look(Word::Deed(name.address.0 / 4096));
+    let first = guess(deed);
+    let read = desk.end(name, first);
+    if read == life_word(name.turn, first, true) {
+        return Outcome::Ended { grains: first };
+    }
+    let Some(grains) = length_in(name, read) else {
+        return Outcome::Refused { read };
+    };
+    let read = desk.end(name, grains);
+    if read == life_word(name.turn, grains, true) {
+        Outcome::Ended { grains }
+    } else {
+        Outcome::Refused { read }
+    }
+}

@@ -1,0 +1,50 @@
+//! The flush of a log.
+ghost use Rattle.std.specs.Prelude.{◌≡◌, ◌≤◌, ◌+◌, [], All, length};
+ghost use Rattle.pas_steps.specs.Desks.{CanCall};
+ghost use Rattle.pas_free_log.specs.Logs.{names_in};
+ghost use Rattle.pas_rights.specs.Rights.{IsClear};
+ghost use Rattle.pas_free_log.specs.Conditions.{IsNameOf, KnowsEpoch};
+ghost use Rattle.pas_free_log.specs.Flushes.{EndsEntry, Flushes};
+
+use crate::ending::{Outcome, end_named};
+use crate::log::FreeLog;
+use crate::returning::return_run;
+use pas_profile::{Name, Word};
+use pas_steps::Desk;
+
+/// Ends the block of this name, and stamps its pages and puts its grains back where it ended. One event.
+fn end_entry<D: Desk>(desk: &mut D, name: Name)
+    requires name { IsNameOf (D.standing desk.old).seat.profile name }
+    requires room { 1 ≤ D.spare_of desk.old }
+    requires can { CanCall (D.standing desk.old) (λ v l. KnowsEpoch v) }
+    ensures ends { EndsEntry name (D.standing desk.old) (D.standing desk.new) }
+    ensures spare { D.spare_of desk.new + 1 ≡ D.spare_of desk.old }
+    ensures home { D.home desk.new ≡ D.home desk.old }
+{
+    match end_named(desk, name) {
+        Outcome::Ended { grains } => return_run(desk, name.address.0 / 16, grains),
+        Outcome::Refused { read: _ } => {}
+    }
+}
+
+/// Reads the epoch, and ends the blocks of the logged names in order. The log is empty afterwards.
+///
+/// Each name makes one event: `End` with the epoch that was read, or `Reject` where no block of this name lives. The pages of a block that
+/// ended are stamped, its grains are free again, and nothing is owed on its pages. The actor holds the grains and has the rights that it
+/// had before. One step, and for each name at most three, and fourteen for each page of its block.
+pub fn flush<D: Desk>(desk: &mut D, log: &mut FreeLog)
+    requires names { All (IsNameOf (D.standing desk.old).seat.profile) (names_in log.old) }
+    requires room { length (names_in log.old) ≤ D.spare_of desk.old }
+    requires can { CanCall (D.standing desk.old) (λ v l. IsClear v) }
+    ensures flushes { Flushes (names_in log.old) (D.standing desk.old) (D.standing desk.new) }
+    ensures empty { names_in log.new ≡ [] }
+    ensures spare { D.spare_of desk.new + length (names_in log.old) ≡ D.spare_of desk.old }
+    ensures home { D.home desk.new ≡ D.home desk.old }
+{
+    desk.look(Word::Epoch);
+    let names = log.as_slice();
+    for name in names {
+        end_entry(desk, *name);
+    }
+    log.clear();
+}

@@ -1,0 +1,13 @@
+//! The deallocation log of a thread's cache: names that were freed, and the flush that ends their blocks.
+#![tactic(auto)]
+
+mod ending;
+mod flushing;
+mod log;
+mod putting;
+mod returning;
+#[cfg(test)]
+mod tests;
+
+pub use flushing::flush;
+pub use log::FreeLog;

@@ -1,0 +1,13 @@
+pub mod StepKinds
+pub mod Backed
+pub mod Claimed
+pub mod Going
+pub mod Turning
+pub mod Deeding
+pub mod Refusing
+pub mod Spotting
+pub mod Grained
+pub mod Told
+pub mod Ending
+pub mod Unfitting
+pub mod Leftover

@@ -1,0 +1,238 @@
+-- Where the right of a page is before and after the steps of one actor, where the whole list is legal.
+use Rattle.std.proofs.Common.{◌≡◌, ◌≢◌, ℕ, ◌/◌, ◌%◌, ◌==◌, Bool, true, false, ◌&&◌, if◌then◌else◌, List, [], ◌∷◌, ◌++◌, refl, ap, sym, ◌∙◌, subst, inl, inr, true≢false}
+use Rattle.std.proofs.lemmas.Bool.{cases_Bool, cases_eq, eq-eqb, eqb-true, false≢true, and_parts}
+use Rattle.pas_profile.specs.Classes.{has_bit}
+use Rattle.pas_profile.specs.Directories.{deed_word_of, number_of}
+use Rattle.pas_profile.specs.Profiles.{IsValid, IsDirectoryOf}
+use Rattle.pas_profile.specs.declared.directory.Directory.{Directory}
+use Rattle.pas_profile.specs.declared.profile.Profile.{Profile}
+use Rattle.pas_profile.specs.declared.word.Word.TheVariants as Word
+use Rattle.pas_profile.proofs.Codecs.{deed_word_of-positive}
+use Rattle.pas_steps.specs.Effects.{target}
+use Rattle.pas_steps.specs.Views.{View, right_after, has_right, deed_after, known_deed}
+use Rattle.pas_steps.specs.Allowed.{Allowed}
+use Rattle.pas_steps.specs.Agreement.{Agrees}
+use Rattle.pas_steps.specs.Lists.{Whole, part, word_after, Legal}
+use Rattle.pas_steps.specs.Desks.{triple, triples}
+use Rattle.pas_steps.specs.Past.{Once, Always}
+use Rattle.pas_steps.specs.declared.step.Step.{Step}
+use Rattle.pas_steps.specs.declared.step.Made.{Made}
+use Rattle.pas_steps.specs.declared.step.Step.TheVariants.{Look, Deed, Back, Take, Put, Give, End, TakeRight, Offer, Park, Unpark, Stamp, Hint}
+use Rattle.pas_steps.proofs.Kept.{deed_stays}
+use Rattle.pas_steps.proofs.Parts.{part_of_own, part_of_others}
+use Rattle.pas_core.specs.Rights.{eligible_bit}
+use Rattle.pas_core.proofs.DeedWords.{known_is, deed_kept, numbered}
+use Rattle.pas_core.proofs.Spots.{Spot, Nowhere, With, Offered, InParked, is_with, is_offered, is_parked, Way, Rests, ByDeed, FromOffer, FromParked, ToOffer, ToParked, way, spot_after, spot_of, Suits, DeedFits, IsSpotted, step_suits, spotted}
+use Rattle.pas_core.proofs.Rights.{one_has_right, offered_has_deed, offered_spot, own_eligible, is_on_offer}
+use Rattle.pas_core.proofs.Nexts.{agrees_next}
+use Rattle.pas_scan.specs.Evidence.{ReadsEligible, ReadsParked, ZeroHere, ParkedHere, LacksAfter, KeptHere}
+use Rattle.pas_search.specs.Telling.{IsInHands}
+use Rattle.pas_search.specs.Searches.{MaySearch, OfferedHere}
+use Rattle.pas_search.proofs.StepKinds.{right_own}
+use Rattle.pas_search.proofs.Refusing.{lacks_now}
+
+-- ---- what a step does to the right, by its way
+abbrev had_after : Way → Bool → Bool
+had_after Rests had = had
+had_after ByDeed had = true
+had_after (FromOffer n) had = true
+had_after FromParked had = true
+had_after (ToOffer n) had = false
+had_after ToParked had = false
+
+moved_if : (t had : Bool) (w : Way) → (if t then had_after w had else had) ≡ had_after (if t then w else Rests) had
+moved_if true had w = refl
+moved_if false had w = refl
+
+right_way : (s : Step) (a p : ℕ) (had : Bool) → right_after s a p had ≡ had_after (way s a p) had
+right_way (Look w) a p had = refl
+right_way (Deed q d) a p had = moved_if ((q == p) && (a == 0)) had ByDeed
+right_way (Back q) a p had = refl
+right_way (Take q w mask) a p had = refl
+right_way (Put q w mask) a p had = refl
+right_way (Give b) a p had = refl
+right_way (End n g) a p had = refl
+right_way (TakeRight q d) a p had = moved_if ((q == p) && has_bit a (p % 64)) had (FromOffer (number_of d))
+right_way (Offer q d) a p had = moved_if (q == p) had (ToOffer (number_of d))
+right_way (Park q) a p had = moved_if (q == p) had ToParked
+right_way (Unpark q) a p had = moved_if ((q == p) && has_bit a (p % 64)) had FromParked
+right_way (Stamp q) a p had = refl
+right_way (Hint q) a p had = refl
+
+-- a right that the call's own steps tell is one of the view
+more_right : (w : Way) (own had : Bool) → (own ≡ true → had ≡ true) → had_after w own ≡ true → had_after w had ≡ true
+more_right Rests own had more h = more h
+more_right ByDeed own had more h = refl
+more_right (FromOffer n) own had more h = refl
+more_right FromParked own had more h = refl
+more_right (ToOffer n) own had more h = h
+more_right ToParked own had more h = h
+
+pub right_of_own : (p : ℕ) (xs : List Made) (v : View) → has_right xs p ≡ true → has_right (xs ++ v) p ≡ true
+right_of_own p [] v h = absurd (false≢true h)
+right_of_own p (m ∷ xs) v h = right_way m.step m.answer p (has_right (xs ++ v) p)
+    ∙ more_right (way m.step m.answer p) (has_right xs p) (has_right (xs ++ v) p) (right_of_own p xs v) (sym (right_way m.step m.answer p (has_right xs p)) ∙ h)
+
+-- ---- a page whose right the call never had stays where it was
+stays_put : (k : ℕ) (w : Way) (o : Spot) → had_after w false ≡ false → Suits k w o → (o ≡ With k → ⊥) → spot_after k w o ≡ o
+stays_put k Rests o lacks suits not_with = refl
+stays_put k ByDeed o lacks suits not_with = absurd (true≢false lacks)
+stays_put k (FromOffer n) o lacks suits not_with = absurd (true≢false lacks)
+stays_put k FromParked o lacks suits not_with = absurd (true≢false lacks)
+stays_put k (ToOffer n) o lacks suits not_with = absurd (not_with suits)
+stays_put k ToParked o lacks suits not_with = absurd (not_with suits)
+
+is_with_own : (k : ℕ) → is_with k (With k) ≡ true
+is_with_own k = eq-eqb k k refl
+
+not_with : (l : Whole) (k p : ℕ) → IsSpotted l p → has_right (part k l) p ≡ false → spot_of l p ≡ With k → ⊥
+not_with l k p at lacks e = true≢false (sym (at.has k ∙ ap (is_with k) e ∙ is_with_own k) ∙ lacks)
+
+pub spot_same : (f : Profile) (k : ℕ) (l : Whole) (p : ℕ) (xs : List Made) → Legal f (triples k xs ++ l) → has_right (part k l) p ≡ false → Always (LacksAfter p) xs → spot_of (triples k xs ++ l) p ≡ spot_of l p
+spot_same f k l p [] legal none lacks = refl
+spot_same f k l p (m ∷ xs) legal none lacks =
+    let w : Whole = triples k xs ++ l in
+    let at : IsSpotted w p = spotted f w legal.1 p in
+    let own : has_right xs p ≡ false = lacks_now p xs lacks.1 in
+    let view : has_right (part k w) p ≡ false = ap (λ v. has_right v p) (part_of_own k xs l) ∙ right_own p xs (part k l) none ∙ own in
+    let moved : had_after (way m.step m.answer p) false ≡ false = ap (had_after (way m.step m.answer p)) (sym own) ∙ sym (right_way m.step m.answer p (has_right xs p)) ∙ lacks.0 in
+    stays_put k (way m.step m.answer p) (spot_of w p) moved (step_suits f w k m.step m.answer p at legal.0.allowed legal.0.answer_is) (not_with w k p at view)
+    ∙ spot_same f k l p xs legal.1 none lacks.1
+
+-- ---- readings of the page's bits
+eligible_read : (d : Directory) (p : ℕ) (s : Step) (w : Whole) → ReadsEligible d p s → word_after w (target s) ≡ word_after w (Word.Eligible (number_of d) (p / 64))
+eligible_read d p s w (ReadsEligible.Looks n j en ej) = ap (λ x. word_after w (Word.Eligible x j)) en ∙ ap (λ x. word_after w (Word.Eligible (number_of d) x)) ej
+eligible_read d p s w ReadsEligible.Claims = refl
+
+pub zero_told : (f : Profile) (k : ℕ) (l : Whole) (d : Directory) (p : ℕ) (xs : List Made) → Legal f (triples k xs ++ l) → has_right (part k l) p ≡ false → Always (LacksAfter p) xs → Once (ZeroHere d p) xs → is_offered (number_of d) (spot_of l p) ≡ false
+zero_told f k l d p [] legal none lacks h = absurd h
+zero_told f k l d p (m ∷ xs) legal none lacks (inr h) = zero_told f k l d p xs legal.1 none lacks.1 h
+zero_told f k l d p (m ∷ xs) legal none lacks (inl z) =
+    let w : Whole = triples k xs ++ l in
+    let at : IsSpotted w p = spotted f w legal.1 p in
+    ap (is_offered (number_of d)) (sym (spot_same f k l p xs legal.1 none lacks.1)) ∙ sym (at.eligible (number_of d))
+    ∙ ap (λ n. has_bit n (p % 64)) (sym (eligible_read d p m.step w z.0) ∙ sym legal.0.answer_is) ∙ z.1
+
+-- the page was offered when the call read its bit as 1
+pub one_told : (f : Profile) (k : ℕ) (l : Whole) (d : Directory) (p : ℕ) (xs : List Made) → Legal f (triples k xs ++ l) → Once (OfferedHere d p) xs → (ys : List Made) × Legal f (triples k ys ++ l) × Always (LacksAfter p) ys × (eligible_bit (triples k ys ++ l) (number_of d) p ≡ true)
+one_told f k l d p [] legal h = absurd h
+one_told f k l d p (m ∷ xs) legal (inr h) = one_told f k l d p xs legal.1 h
+one_told f k l d p (m ∷ xs) legal (inl z) = (xs, legal.1, z.1, ap (λ n. has_bit n (p % 64)) (sym (eligible_read d p m.step (triples k xs ++ l) z.0.0) ∙ sym legal.0.answer_is) ∙ z.0.1)
+
+parked_read : (p : ℕ) (s : Step) (w : Whole) → ReadsParked p s → word_after w (target s) ≡ word_after w (Word.Parked (p / 64))
+parked_read p s w (ReadsParked.Looks j ej) = ap (λ x. word_after w (Word.Parked x)) ej
+
+pub parked_told : (f : Profile) (k : ℕ) (l : Whole) (p : ℕ) (set : Bool) (xs : List Made) → Legal f (triples k xs ++ l) → has_right (part k l) p ≡ false → Always (LacksAfter p) xs → Once (ParkedHere set p) xs → is_parked (spot_of l p) ≡ set
+parked_told f k l p set [] legal none lacks h = absurd h
+parked_told f k l p set (m ∷ xs) legal none lacks (inr h) = parked_told f k l p set xs legal.1 none lacks.1 h
+parked_told f k l p set (m ∷ xs) legal none lacks (inl z) =
+    let w : Whole = triples k xs ++ l in
+    let at : IsSpotted w p = spotted f w legal.1 p in
+    ap is_parked (sym (spot_same f k l p xs legal.1 none lacks.1)) ∙ sym at.parked
+    ∙ ap (λ n. has_bit n (p % 64)) (sym (parked_read p m.step w z.0) ∙ sym legal.0.answer_is) ∙ z.1
+
+-- ---- the deed word stays, once it is there
+pub deed_later : (k : ℕ) (l : Whole) (p : ℕ) (xs : List Made) → word_after l (Word.Deed p) ≢ 0 → word_after (triples k xs ++ l) (Word.Deed p) ≡ word_after l (Word.Deed p)
+deed_later k l p [] some = refl
+deed_later k l p (m ∷ xs) some = let e = deed_later k l p xs some in deed_kept (triples k xs ++ l) (triple k m) p (λ z. some (sym e ∙ z)) ∙ e
+
+-- ---- an actor that has a right knows the page's deed
+got_if : (t : Bool) → (if t then true else false) ≡ true → t ≡ true
+got_if true h = refl
+got_if false h = absurd (false≢true h)
+
+deed_here : (t z : Bool) (d : Directory) (a known : ℕ) → t ≡ true → z ≡ true → (if t then (if z then deed_word_of d else a) else known) ≢ 0
+deed_here t z d a known ht hz e = deed_word_of-positive d (sym (ap (λ x. if x then (if z then deed_word_of d else a) else known) ht ∙ ap (λ x. if x then deed_word_of d else a) hz) ∙ e)
+
+never : (t : Bool) → (if t then false else false) ≡ true → ⊥
+never true h = false≢true h
+never false h = false≢true h
+
+gains_known : (f : Profile) (v : View) (s : Step) (a p : ℕ) → Allowed f v s → right_after s a p false ≡ true → deed_after s a p (known_deed v p) ≢ 0
+gains_known f v (Look w) a p allowed h = absurd (false≢true h)
+gains_known f v (Deed q d) a p allowed h = let parts = and_parts (q == p) (a == 0) (got_if ((q == p) && (a == 0)) h) in deed_here (q == p) (a == 0) d a (known_deed v p) parts.0 parts.1
+gains_known f v (Back q) a p allowed h = absurd (false≢true h)
+gains_known f v (Take q w mask) a p allowed h = absurd (false≢true h)
+gains_known f v (Put q w mask) a p allowed h = absurd (false≢true h)
+gains_known f v (Give b) a p allowed h = absurd (false≢true h)
+gains_known f v (End n g) a p allowed h = absurd (false≢true h)
+gains_known f v (TakeRight q d) a p allowed h =
+    let parts = and_parts (q == p) (has_bit a (p % 64)) (got_if ((q == p) && has_bit a (p % 64)) h) in
+    λ z. deed_word_of-positive d (sym allowed ∙ ap (known_deed v) (eqb-true q p parts.0) ∙ z)
+gains_known f v (Offer q d) a p allowed h = absurd (never (q == p) h)
+gains_known f v (Park q) a p allowed h = absurd (never (q == p) h)
+gains_known f v (Unpark q) a p allowed h =
+    let parts = and_parts (q == p) (has_bit a (p % 64)) (got_if ((q == p) && has_bit a (p % 64)) h) in
+    λ z. allowed (ap (known_deed v) (eqb-true q p parts.0) ∙ z)
+gains_known f v (Stamp q) a p allowed h = absurd (false≢true h)
+gains_known f v (Hint q) a p allowed h = absurd (false≢true h)
+
+own_known : (f : Profile) (v : View) (m : Made) (p : ℕ) → Allowed f v m.step → Agrees f v m.step m.answer → (has_right v p ≡ true → known_deed v p ≢ 0) → (had : Bool) → has_right v p ≡ had → right_after m.step m.answer p had ≡ true → known_deed (m ∷ v) p ≢ 0
+own_known f v m p allowed agrees known true e h = λ z. known e (sym (deed_stays f (m ∷ []) v p (agrees, tt) (known e)) ∙ z)
+own_known f v m p allowed agrees known false e h = gains_known f v m.step m.answer p allowed h
+
+part_known : (t : Bool) (m : Made) (v : View) (p : ℕ) → (has_right v p ≡ true → known_deed v p ≢ 0) → (t ≡ true → has_right (m ∷ v) p ≡ true → known_deed (m ∷ v) p ≢ 0) → has_right (if t then m ∷ v else v) p ≡ true → known_deed (if t then m ∷ v else v) p ≢ 0
+part_known true m v p old new h = new refl h
+part_known false m v p old new h = old h
+
+pub right_known : (f : Profile) (l : Whole) → IsValid f → Legal f l → (k p : ℕ) → has_right (part k l) p ≡ true → known_deed (part k l) p ≢ 0
+right_known f [] valid legal k p h = absurd (false≢true h)
+right_known f (t ∷ l) valid legal k p h =
+    part_known (t.actor == k) t.made (part k l) p (right_known f l valid legal.1 k p) (λ mine has.
+    let same : t.actor ≡ k = eqb-true t.actor k mine in
+    let allowed : Allowed f (part k l) t.made.step = subst (λ j. Allowed f (part j l) t.made.step) same legal.0.allowed in
+    let agrees : Agrees f (part k l) t.made.step t.made.answer = agrees_next f l k (part k l) t.made.step t.made.answer valid legal.1 refl legal.0.of_region legal.0.answer_is in
+    own_known f (part k l) t.made p allowed agrees (right_known f l valid legal.1 k p) (has_right (part k l) p) refl has) h
+
+-- An actor that may search had no right at entry of a page that turns out to be of the directory.
+pub entry_lacks : (f : Profile) (k : ℕ) (l : Whole) (d : Directory) (p : ℕ) (xs : List Made) → IsValid f → Legal f l → MaySearch d (part k l) → word_after (triples k xs ++ l) (Word.Deed p) ≡ deed_word_of d → has_right (part k l) p ≡ false
+entry_lacks f k l d p xs valid legal may deed = elim (cases_Bool (has_right (part k l) p)) [
+  | inl has ↦
+      let known : known_deed (part k l) p ≢ 0 = right_known f l valid legal k p has in
+      let is : known_deed (part k l) p ≡ word_after l (Word.Deed p) = known_is (known_deed (part k l) p) (word_after l (Word.Deed p)) ((spotted f l legal p).known k) known in
+      let there : word_after (triples k xs ++ l) (Word.Deed p) ≡ word_after l (Word.Deed p) = deed_later k l p xs (λ z. known (is ∙ z)) in
+      absurd (true≢false (sym has ∙ may.rights p (is ∙ sym there ∙ deed)))
+  | inr none ↦ none
+]
+
+pub legal_before : (f : Profile) (k : ℕ) (xs : List Made) (l : Whole) → Legal f (triples k xs ++ l) → Legal f l
+legal_before f k [] l legal = legal
+legal_before f k (x ∷ xs) l legal = legal_before f k xs l legal.1
+
+-- the deed of a page that is offered to a directory
+pub offered_deed : (f : Profile) (l : Whole) (d : Directory) (p : ℕ) → IsDirectoryOf f d → Legal f l → eligible_bit l (number_of d) p ≡ true → word_after l (Word.Deed p) ≡ deed_word_of d
+offered_deed f l d p of legal bit = offered_has_deed f l legal (number_of d) p bit ∙ numbered d of.kind
+
+pub offered_lacks : (f : Profile) (k : ℕ) (l : Whole) (n p : ℕ) → Legal f l → eligible_bit l n p ≡ true → has_right (part k l) p ≡ false
+offered_lacks f k l n p legal bit = let at : IsSpotted l p = spotted f l legal p in at.has k ∙ ap (is_with k) (offered_spot l n p at bit)
+
+-- ---- a page whose right the call once had is in nobody's hands but the actor's
+had_then : (f : Profile) (k : ℕ) (l : Whole) (p j : ℕ) (xs : List Made) → Legal f (triples k xs ++ l) → k ≢ j → Once (KeptHere p) xs → has_right (part j l) p ≡ true → ⊥
+had_then f k l p j [] legal ne h there = h
+had_then f k l p j (m ∷ xs) legal ne (inr h) there = had_then f k l p j xs legal.1 ne h there
+had_then f k l p j (m ∷ xs) legal ne (inl h) there =
+    let w : Whole = triples k xs ++ l in
+    ne (one_has_right f w legal.1 k j p
+    (ap (λ v. has_right v p) (part_of_own k xs l) ∙ right_of_own p xs (part k l) h)
+    (ap (λ v. has_right v p) (part_of_others j k xs l ne) ∙ there))
+
+-- the page has a deed, and is neither offered nor parked, so some actor has its right
+in_hands : (o : Spot) (word : ℕ) → DeedFits o word → word ≢ 0 → is_on_offer o ≡ false → is_parked o ≡ false → (j : ℕ) × (o ≡ With j)
+in_hands Nowhere word fits some offer parked = absurd (some fits)
+in_hands (With j) word fits some offer parked = (j, refl)
+in_hands (Offered n) word fits some offer parked = absurd (true≢false offer)
+in_hands InParked word fits some offer parked = absurd (true≢false parked)
+
+pub not_in_hands : (f : Profile) (k : ℕ) (l : Whole) (d : Directory) (p : ℕ) (xs : List Made) → IsDirectoryOf f d → Legal f (triples k xs ++ l) → has_right (xs ++ part k l) p ≡ false → Once (KeptHere p) xs → IsInHands f d (triples k xs ++ l) p → ⊥
+not_in_hands f k l d p xs of legal lacks once hands =
+    let w : Whole = triples k xs ++ l in
+    let at : IsSpotted w p = spotted f w legal p in
+    let some : word_after w (Word.Deed p) ≢ 0 = λ z. deed_word_of-positive d (sym hands.of_directory ∙ z) in
+    let with : (j : ℕ) × (spot_of w p ≡ With j) = in_hands (spot_of w p) (word_after w (Word.Deed p)) at.deed some
+    (sym (own_eligible f w legal p d of hands.of_directory) ∙ hands.not_offered) (sym at.parked ∙ hands.not_parked) in
+    let j : ℕ = with.0 in
+    let has : has_right (part j w) p ≡ true = at.has j ∙ ap (is_with j) with.1 ∙ is_with_own j in
+    elim (cases_eq k j) [
+      | inl same ↦ true≢false (sym (ap (λ x. has_right (part x w) p) same ∙ has) ∙ ap (λ v. has_right v p) (part_of_own k xs l) ∙ lacks)
+      | inr ne ↦ had_then f k l p j xs legal ne once (sym (ap (λ v. has_right v p) (part_of_others j k xs l ne)) ∙ has)
+    ]

@@ -1,0 +1,32 @@
+use Rattle.std.proofs.Common.{sym, subst}
+use Rattle.pas_profile.specs.declared.directory.Directory.{Directory}
+use Rattle.pas_steps.specs.Desks.{CanCall}
+use Rattle.pas_search.specs.Searches.{MaySearch}
+use Rattle.pas_search.proofs.Ending.{ends_offered, ends_bare, ends_refused, may_call, bare_call, searches_by}
+use Rattle.pas_search.proofs.rooms.find_room.Goals as goal
+
+pub search_offered-requires-clause-can : goal.search_offered-requires-clause-can
+search_offered-requires-clause-can g c = subst (λ (x : Directory). CanCall (g.D.Desk.standing c.args.desk.now) (λ v l. MaySearch x v)) (sym c.begin-looked.ensures.directory) (may_call c.requires.can)
+
+pub search_bare-requires-clause-can : goal.search_bare-requires-clause-can
+search_bare-requires-clause-can g c = bare_call c.begin-looked.result.directory c.args.directory c.search_offered.new.looked.unfit c.begin-looked.ensures.directory c.in_default.ensures.found c.requires.can
+    (g.met.D.Desk.spares c.args.desk.now) (g.met.D.Desk.spares c.search_offered.new.desk)
+
+pub returns-in-Some-clause-searches : goal.returns-in-Some-clause-searches
+returns-in-Some-clause-searches g c =
+    searches_by g.D.Desk.tells c.args.directory (g.met.D.Desk.valid c.args.desk.now) c.requires.directory (g.met.S.Serving.fewer c.args.serving.now)
+    (g.met.D.Desk.told c.search_offered.new.desk) (g.met.D.Desk.told_part c.args.desk.now)
+    (ends_offered c.begin-looked.result.directory c.args.directory c.search_offered.new.looked.unfit c.in-Some.served c.begin-looked.ensures.directory c.in-Some.ensures.found)
+
+pub returns-in-Some-search_bare-clause-searches : goal.returns-in-Some-search_bare-clause-searches
+returns-in-Some-search_bare-clause-searches g c =
+    searches_by g.D.Desk.tells c.args.directory (g.met.D.Desk.valid c.args.desk.now) c.requires.directory (g.met.S.Serving.fewer c.args.serving.now)
+    (g.met.D.Desk.told c.search_bare.new.desk) (g.met.D.Desk.told_part c.args.desk.now)
+    (ends_bare c.begin-looked.result.directory c.args.directory c.search_offered.new.looked.unfit c.in-Some-search_bare.served c.begin-looked.ensures.directory c.in_default.ensures.found c.in-Some-search_bare.ensures.found)
+
+pub returns-clause-searches : goal.returns-clause-searches
+returns-clause-searches g c =
+    searches_by g.D.Desk.tells c.args.directory (g.met.D.Desk.valid c.args.desk.now) c.requires.directory (g.met.S.Serving.fewer c.args.serving.now)
+    (g.met.D.Desk.told c.verdict.new.desk) (g.met.D.Desk.told_part c.args.desk.now)
+    (ends_refused c.begin-looked.result.directory c.args.directory c.search_offered.new.looked.directory c.search_offered.new.looked.unfit c.verdict.result c.begin-looked.ensures.directory c.search_offered.ensures.directory
+    c.in_default.ensures.found c.in_default-search_bare.ensures.found c.verdict.ensures.judges)

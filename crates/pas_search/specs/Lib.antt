@@ -1,0 +1,4 @@
+pub mod Kinds
+pub mod Serving
+pub mod Searches
+pub mod Telling

@@ -1,0 +1,79 @@
+-- The slots of a class in a mask.
+use Rattle.std.proofs.Common.{◌≡◌, ℕ, ◌+◌, ◌-◌, ◌*◌, ◌/◌, ◌%◌, ◌<◌, ◌≤◌, ◌==◌, ◌↔◌, nat_le, IsTrue, Bool, true, false, ◌&&◌, List, length, slice_index, get_or, refl, ap, sym, ◌∙◌, arith, inl, inr}
+use Rattle.std.proofs.lemmas.Bool.{agree_below, agree_below_at, and_parts, and_from, eqb-true, eq-eqb, leb-true, le-leb, lt-leb, cases_lt, and_right, false_from_ne_true}
+use Rattle.std.proofs.lemmas.Nat.{div-add-mod', same_from_place}
+use Rattle.std.proofs.Math.Nat.{mod-lt}
+use Rattle.pas_profile.specs.Classes.{has_bit, IsClass, class_grains, usable_grains, IsSlotStart}
+use Rattle.pas_profile.proofs.Tables.{passes_below, passes_at}
+use Rattle.pas_profile.proofs.ClassFacts.{class_grains_positive, usable_grains_le, slot_end}
+use Rattle.pas_bits.specs.declared.mask.Mask4.{Mask4}
+use Rattle.pas_bits.specs.Masks.{is_set, AreSet}
+use Rattle.pas_bits.proofs.Words.{none_past}
+use Rattle.pas_segregated.specs.Masks.{is_start, start_of, AreStarts, IsNear}
+
+-- ---- the first grains of all slots
+pub start_is : (class g : ℕ) → is_start class g ≡ true → IsSlotStart class g
+start_is class g h =
+    let parts = and_parts (g % class_grains class == 0) (nat_le (g + class_grains class) (usable_grains class)) h in
+    record { aligned = eqb-true (g % class_grains class) 0 parts.0; within = leb-true (g + class_grains class) (usable_grains class) parts.1 }
+
+pub is_start-from : (class g : ℕ) → IsSlotStart class g → is_start class g ≡ true
+is_start-from class g s = and_from (g % class_grains class == 0) (nat_le (g + class_grains class) (usable_grains class)) (eq-eqb (g % class_grains class) 0 s.aligned) (le-leb (g + class_grains class) (usable_grains class) s.within)
+
+-- no slot begins past the page
+none_begins : (class g : ℕ) → IsClass class → 256 ≤ g → is_start class g ≡ false
+none_begins class g is ge = and_right (g % class_grains class == 0) (nat_le (g + class_grains class) (usable_grains class)) (let some = class_grains_positive class is in let few = usable_grains_le class is in lt-leb (g + class_grains class) (usable_grains class) (omega (arith, some, few, ge)))
+
+-- a table of masks, computed class by class
+abbrev pub agrees : List (List ℕ) → List ℕ → ℕ → Bool
+agrees table default class = agree_below (λ g. has_bit (slice_index (get_or table class default) (g / 64)) (g % 64)) (is_start class) 256
+
+abbrev pub row : List (List ℕ) → List ℕ → ℕ → Mask4
+row table default class = record { 0 = get_or table class default }
+
+pub table_bits : (table : List (List ℕ)) (default : List ℕ) → passes_below (agrees table default) 16 ≡ true → passes_below (λ class. length (get_or table class default) == 4) 16 ≡ true
+    → (class : ℕ) → IsClass class → (g : ℕ) → is_set (row table default class) g ≡ is_start class g
+table_bits table default computed sized class is g = elim (cases_lt g 256) [
+  | inl lt ↦ agree_below_at (λ g. has_bit (slice_index (get_or table class default) (g / 64)) (g % 64)) (is_start class) 256 g (passes_at (agrees table default) 16 class computed is) lt
+  | inr ge ↦ none_past (row table default class) g (eqb-true (length (get_or table class default)) 4 (passes_at (λ class. length (get_or table class default) == 4) 16 class sized is)) ge ∙ sym (none_begins class g is ge)
+]
+
+-- ---- whole slots
+pub whole_is : (class : ℕ) (mask begins starts whole : Mask4) → ((g : ℕ) → IsTrue (is_set begins g) ↔ AreSet mask g (class_grains class)) → ((g : ℕ) → is_set starts g ≡ is_start class g) → ((g : ℕ) → is_set whole g ≡ (is_set begins g && is_set starts g))
+    → (g : ℕ) → IsTrue (is_set whole g) ↔ (IsSlotStart class g × AreSet mask g (class_grains class))
+whole_is class mask begins starts whole runs all joined g = (
+  λ h. let parts = and_parts (is_set begins g) (is_set starts g) (sym (joined g) ∙ h) in (start_is class g (sym (all g) ∙ parts.1), (runs g).0 parts.0),
+  λ both. joined g ∙ and_from (is_set begins g) (is_set starts g) ((runs g).1 both.1) (all g ∙ is_start-from class g both.0),
+)
+
+-- ---- the grains of slots
+-- a slot that covers the grain begins at the multiple of the class's grains that is next below it
+pub start_at : (class s g : ℕ) → IsSlotStart class s → s ≤ g → g < s + class_grains class → start_of class g ≡ s
+start_at class s g slot low high =
+    let k = class_grains class in let first = div-add-mod' s (class_grains class) in let here = div-add-mod' g (class_grains class) in
+    let aligned = slot.aligned in
+    let inside : g % class_grains class < class_grains class = mod-lt g (omega (arith, low, high)) in
+    let place = same_from_place (g / class_grains class) (g % class_grains class) (s / class_grains class) (g - s) (class_grains class) inside (omega (arith, low, high)) (omega (arith, first, here, aligned, low)) in
+    let same : g / class_grains class * class_grains class ≡ s / class_grains class * class_grains class = ap (λ n. n * class_grains class) place.0 in
+    omega (arith, same, first, aligned)
+
+pub start_below : (class g : ℕ) → IsClass class → (start_of class g ≤ g) × (g < start_of class g + class_grains class)
+start_below class g is =
+    let some = class_grains_positive class is in let whole = div-add-mod' g (class_grains class) in
+    let inside : g % class_grains class < class_grains class = mod-lt g (omega (arith, some)) in
+    (omega (arith, whole), omega (arith, whole, inside))
+
+-- two answers, each of which brings the other
+pub alike : (x y : Bool) → (x ≡ true → y ≡ true) → (y ≡ true → x ≡ true) → x ≡ y
+alike true y f h = sym (f refl)
+alike false true f h = h refl
+alike false false f h = refl
+
+pub covered_is : (class : ℕ) (starts near : Mask4) → IsClass class → length near.0 ≡ 4 → AreStarts class starts → ((g : ℕ) → g < 256 → IsTrue (is_set near g) ↔ IsNear starts g (class_grains class)) → (g : ℕ) → is_set near g ≡ is_set starts (start_of class g)
+covered_is class starts near is long all spread g = elim (cases_lt g 256) [
+  | inl lt ↦ alike (is_set near g) (is_set starts (start_of class g))
+      (λ h. let found = (spread g lt).0 h in ap (is_set starts) (start_at class found.0 g (all found.0 found.3) found.1 found.2) ∙ found.3)
+      (λ h. let at = start_below class g is in (spread g lt).1 (start_of class g, at.0, at.1, h))
+  | inr ge ↦ none_past near g long ge ∙ sym (false_from_ne_true (is_set starts (start_of class g)) (λ h.
+      let ends = slot_end class (start_of class g) is (all (start_of class g) h) in let at = start_below class g is in let high = at.1 in omega (arith, ends, high, ge)))
+]

@@ -1,0 +1,5 @@
+pub mod Masks
+pub mod Returns
+pub mod Stops
+pub mod Takes
+pub mod Refills

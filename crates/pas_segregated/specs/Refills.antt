@@ -1,0 +1,56 @@
+-- A refill.
+use Rattle.std.specs.Prelude.{ℕ, ◌≡◌, ◌==◌, Bool, true, ◌||◌, ◌⊎◌, if◌then◌else◌, List, ◌++◌, Result, Ok, Err, IfOk}
+use Rattle.pas_profile.specs.Profiles.{IsPage}
+use Rattle.pas_profile.specs.declared.directory.Directory.{Directory}
+use Rattle.pas_profile.specs.declared.profile.Profile.{Profile}
+use Rattle.pas_profile.specs.declared.event.NoRoom.{NoRoom}
+use Rattle.pas_bits.specs.declared.mask.Mask4.{Mask4}
+use Rattle.pas_steps.specs.Views.{View, holds, has_right, knows_backed}
+use Rattle.pas_steps.specs.Agreement.{Agreed}
+use Rattle.pas_steps.specs.Desks.{Standing}
+use Rattle.pas_steps.specs.declared.step.Made.{Made}
+use Rattle.pas_rights.specs.Rights.{IsClear}
+use Rattle.pas_scan.specs.Evidence.{IsOf}
+use Rattle.pas_search.specs.Kinds.{EventsAt}
+use Rattle.pas_search.specs.Searches.{MaySearch, FromOffered, ByDeed, FewEvents, Searches}
+use Rattle.pas_search.specs.declared.serving.Served.{Served}
+use Rattle.pas_segregated.specs.Masks.{AreStarts, IsSome}
+use Rattle.pas_segregated.specs.Takes.{TookSlots, exclusive}
+use Rattle.pas_segregated.specs.Stops.{class_directory, directory_of, in_slots, MayStop}
+use Rattle.pas_segregated.specs.declared.slots.Slots.{Slots}
+
+-- the slots of the page that a search found, with its right
+abbrev pub slots_found : ℕ → ℕ → Served Mask4 → Slots
+slots_found heap class served = record { page = served.page; heap = heap; class = class; starts = served.found; right = true }
+
+abbrev pub answer_of : ℕ → ℕ → Result (Served Mask4) NoRoom → Result Slots NoRoom
+answer_of heap class (Ok served) = Ok (slots_found heap class served)
+answer_of heap class (Err room) = Err room
+
+-- The slots are of a page of the directory, and are those that the takes of this page got whole. Their grains are held besides what was held, and
+-- the page's right is the actor's besides what it had. The actor is clear, it knows the page as backed and of the directory, and what it knew as
+-- backed it still knows so. The slots may be stopped from then on. The page is the lowest offered one that has a free slot, or the lowest
+-- without a deed; one event backs it, and one more makes its deed.
+pub record GivesSlots (f : Profile) (d : Directory) (steps : List Made) (slots : Slots) : Type 0 where
+  pub page : IsPage f slots.page
+  pub named : directory_of slots ≡ d
+  pub with_right : slots.right ≡ true
+  pub starts : AreStarts slots.class slots.starts
+  pub some : IsSome slots.starts
+  pub took : TookSlots slots.class slots.page steps slots.starts
+  pub grains : (v : View) → MaySearch d v → Agreed f v steps → (g : ℕ) → holds (steps ++ v) g ≡ (in_slots slots g || holds v g)
+  pub rights : (v : View) → MaySearch d v → Agreed f v steps → (p : ℕ) → has_right (steps ++ v) p ≡ (if slots.page == p then true else has_right v p)
+  pub clear : (v : View) → MaySearch d v → Agreed f v steps → IsClear (steps ++ v)
+  pub known : (v : View) → MaySearch d v → Agreed f v steps → (knows_backed (steps ++ v) slots.page ≡ true) × IsOf d slots.page (steps ++ v)
+  pub backed : (v : View) → MaySearch d v → Agreed f v steps → (p : ℕ) → knows_backed v p ≡ true → knows_backed (steps ++ v) p ≡ true
+  pub may_stop : (v : View) → MaySearch d v → Agreed f v steps → MayStop slots (steps ++ v)
+  pub choice : FromOffered (exclusive slots.class) d slots.page steps ⊎ ByDeed (exclusive slots.class) f d slots.page steps
+  pub few : FewEvents f d 1 steps
+  pub events : EventsAt d slots.page steps
+
+-- the pages of the class were searched, and this is the answer
+pub record Refills (heap class : ℕ) (tells : Bool) (desk desk' : Standing) (answer : Result Slots NoRoom) : Type 0 where
+  pub found : Result (Served Mask4) NoRoom
+  pub answer_is : answer ≡ answer_of heap class found
+  pub searches : Searches (exclusive class) tells (class_directory heap class) desk desk' found
+  pub gives : IfOk answer (λ slots. GivesSlots desk.seat.profile (class_directory heap class) searches.steps slots)

@@ -1,0 +1,67 @@
+-- Slots that an actor holds, and how they are stopped.
+use Rattle.std.specs.Prelude.{ℕ, ◌/◌, ◌%◌, ◌<◌, ◌≡◌, ◌≢◌, ◌==◌, Bool, true, false, not, ◌&&◌, List, [], ◌++◌}
+use Rattle.pas_profile.specs.declared.directory.Directory.{Directory}
+use Rattle.pas_profile.specs.declared.directory.Kind.TheVariants as Kind
+use Rattle.pas_bits.specs.declared.mask.Mask4.{Mask4}
+use Rattle.pas_bits.specs.Masks.{is_set}
+use Rattle.pas_steps.specs.Views.{View, holds, holds_on, has_right, known_deed, knows_backed}
+use Rattle.pas_steps.specs.Agreement.{Agreed}
+use Rattle.pas_steps.specs.Frames.{OnlyOn}
+use Rattle.pas_steps.specs.Desks.{Standing, Adds}
+use Rattle.pas_steps.specs.declared.step.Made.{Made}
+use Rattle.pas_rights.specs.Rights.{IsClear, KnowsDeed, LeaveSteps}
+use Rattle.pas_search.specs.Kinds.{AreQuiet}
+use Rattle.pas_segregated.specs.Masks.{start_of}
+use Rattle.pas_segregated.specs.Returns.{BackSteps}
+use Rattle.pas_segregated.specs.declared.slots.Slots.{Slots}
+
+-- the pages of one class of a heap
+abbrev pub class_directory : ℕ → ℕ → Directory
+class_directory heap class = record { heap = heap; kind = Kind.Class class }
+
+abbrev pub directory_of : Slots → Directory
+directory_of slots = class_directory slots.heap slots.class
+
+-- the grain, a number of the region, is one of these slots'
+abbrev pub in_slots : Slots → ℕ → Bool
+in_slots slots g = (slots.page == g / 256) && is_set slots.starts (start_of slots.class (g % 256))
+
+-- the mask has the grains of these slots, and no others
+abbrev pub AreGrains : Slots → Mask4 → Type 0
+AreGrains slots mask = (g : ℕ) → g < 256 → is_set mask g ≡ is_set slots.starts (start_of slots.class g)
+
+-- The actor is clear, it holds the grains of the slots and knows the deed of their page. It has the page's right where the slots say so.
+pub record MayStop (slots : Slots) (v : View) : Type 0 where
+  pub clear : IsClear v
+  pub held : (g : ℕ) → in_slots slots g ≡ true → holds v g ≡ true
+  pub deed : KnowsDeed slots.page (directory_of slots) v
+  pub right : slots.right ≡ true → has_right v slots.page ≡ true
+
+-- the page is left where its right came with the slots
+abbrev pub LeavesWhere : Bool → ℕ → Directory → List Made → Type 0
+LeavesWhere true page d steps = LeaveSteps page d steps
+LeavesWhere false page d steps = steps ≡ []
+
+-- the grains are put back, and then the page is left
+pub record StopSteps (slots : Slots) (steps : List Made) : Type 0 where
+  pub mask : Mask4
+  pub grains : AreGrains slots mask
+  pub back : List Made
+  pub puts : BackSteps slots.page (directory_of slots) mask back
+  pub left : List Made
+  pub leaves : LeavesWhere slots.right slots.page (directory_of slots) left
+  pub steps_are : steps ≡ left ++ back
+
+-- The grains of the slots and the right that came with them are gone. All else is held and had as before, the actor is clear, what it knew of
+-- deeds it still knows, and so it does of backed pages of which it holds a grain. No event was made.
+pub record Stops (slots : Slots) (desk desk' : Standing) : Type 0 where
+  pub steps : List Made
+  pub adds : Adds desk desk' (λ v l. MayStop slots v) steps
+  pub order : StopSteps slots steps
+  pub on : OnlyOn slots.page steps
+  pub quiet : AreQuiet steps
+  pub grains : (v : View) (g : ℕ) → holds (steps ++ v) g ≡ (not (in_slots slots g) && holds v g)
+  pub rights : (v : View) → Agreed desk.seat.profile v steps → (q : ℕ) → has_right (steps ++ v) q ≡ (not (slots.right && (slots.page == q)) && has_right v q)
+  pub clear : (v : View) → MayStop slots v → Agreed desk.seat.profile v steps → IsClear (steps ++ v)
+  pub deeds : (v : View) (q : ℕ) → Agreed desk.seat.profile v steps → known_deed v q ≢ 0 → known_deed (steps ++ v) q ≡ known_deed v q
+  pub backed : (v : View) (q : ℕ) → Agreed desk.seat.profile v steps → knows_backed v q ≡ true → holds_on (steps ++ v) q ≡ true → knows_backed (steps ++ v) q ≡ true

@@ -1,0 +1,14 @@
+//! Exclusive pages: pages of one class, of which one actor at a time takes all free slots.
+#![tactic(auto)]
+
+mod masks;
+mod putting;
+mod refilling;
+mod serving;
+mod slots;
+mod stopping;
+mod taking;
+
+pub use refilling::refill;
+pub use slots::Slots;
+pub use stopping::stop;

@@ -1,0 +1,30 @@
+//! Slots are given up.
+ghost use Rattle.std.specs.Prelude.{◌≡◌};
+ghost use Rattle.pas_profile.specs.Profiles.{IsPage, IsDirectoryOf};
+ghost use Rattle.pas_steps.specs.Desks.{CanCall};
+ghost use Rattle.pas_segregated.specs.Masks.{AreStarts};
+ghost use Rattle.pas_segregated.specs.Stops.{directory_of, MayStop, Stops};
+
+use crate::putting::give_back;
+use crate::slots::{Slots, covered};
+use pas_rights::leave;
+use pas_steps::Desk;
+
+/// Puts the grains of the slots back, and leaves their page where its right came with them.
+///
+/// Where no slot is left nothing is put, and the page isn't looked at on that account. At most 23 steps, and no event.
+pub fn stop<D: Desk>(desk: &mut D, slots: Slots)
+    requires page { IsPage (D.standing desk.old).seat.profile slots.page }
+    requires directory { IsDirectoryOf (D.standing desk.old).seat.profile (directory_of slots) }
+    requires starts { AreStarts slots.class slots.starts }
+    requires can { CanCall (D.standing desk.old) (λ v l. MayStop slots v) }
+    ensures stops { Stops slots (D.standing desk.old) (D.standing desk.new) }
+    ensures home { D.home desk.new ≡ D.home desk.old }
+{
+    let directory = slots.directory();
+    let grains = covered(&slots.starts, slots.class);
+    give_back(desk, slots.page, directory, &grains);
+    if slots.right {
+        leave(desk, slots.page, directory);
+    }
+}

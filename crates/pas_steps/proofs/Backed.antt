@@ -1,0 +1,98 @@
+-- A page that is known as backed stays so while a grain of it that is held isn't moved, whatever the steps.
+use Rattle.std.proofs.Common.{◌≡◌, ℕ, suc, zero, ◌+◌, ◌*◌, ◌<◌, ◌==◌, Bool, true, false, ◌||◌, if◌then◌else◌, List, [], ◌∷◌, ◌++◌, refl, ap, sym, ◌∙◌, subst, arith, inl, inr, true≢false}
+use Rattle.std.proofs.lemmas.Bool.{cases_Bool, cases_eq, eqb-true, and_parts, and_from}
+use Rattle.pas_profile.specs.declared.profile.Profile.{Profile}
+use Rattle.pas_profile.specs.declared.word.Word.{Word}
+use Rattle.pas_steps.specs.declared.step.Made.{Made}
+use Rattle.pas_steps.specs.declared.step.Step.{Step}
+use Rattle.pas_steps.specs.declared.step.Step.TheVariants.{Look, Deed, Back, Take, Put, Give, End, TakeRight, Offer, Park, Unpark, Stamp, Hint}
+use Rattle.pas_steps.specs.Views.{View, Stays, grain_move, held_after, holds, any_below, holds_on, backed_after, backed_after_look, knows_backed}
+use Rattle.pas_steps.specs.Agreement.{Agrees, Agreed}
+use Rattle.pas_steps.specs.Past.{Always}
+
+-- ---- some number below a bound
+or_cases : (x y : Bool) → (x || y) ≡ true → x ≡ false → y ≡ true
+or_cases true y h e = absurd (true≢false e)
+or_cases false y h e = h
+
+pub any_one : (n : ℕ) (p : ℕ → Bool) → any_below n p ≡ true → (i : ℕ) × (i < n) × (p i ≡ true)
+unfolding any_below
+any_one zero p h = absurd (true≢false (sym h))
+any_one (suc n) p h = elim (cases_Bool (p n)) [
+  | inl here ↦ (n, omega arith, here)
+  | inr not_here ↦ let some = any_one n p (or_cases (p n) (any_below n p) h not_here) in let lt = some.1 in (some.0, omega (arith, lt), some.2)
+]
+
+or_first : (x y : Bool) → x ≡ true → (x || y) ≡ true
+or_first x y h = ap (λ t. t || y) h
+
+or_second : (x y : Bool) → y ≡ true → (x || y) ≡ true
+or_second true y h = refl
+or_second false y h = h
+
+pub any_from : (n : ℕ) (p : ℕ → Bool) (i : ℕ) → i < n → p i ≡ true → any_below n p ≡ true
+unfolding any_below
+any_from zero p i lt h = absurd (omega (arith, lt))
+any_from (suc n) p i lt h = elim (cases_eq i n) [
+  | inl e ↦ or_first (p n) (any_below n p) (subst (λ j. p j ≡ true) e h)
+  | inr ne ↦ or_second (p n) (any_below n p) (any_from n p i (omega (arith, lt, ne)) h)
+]
+
+-- ---- one step
+one_read : (a : ℕ) (t known : Bool) → (t ≡ true → a ≡ 1) → known ≡ true → (if t then a == 1 else known) ≡ true
+one_read a true known one h = ap (λ x. x == 1) (one refl)
+one_read a false known one h = h
+
+or_true : (t known : Bool) → known ≡ true → (if t then true else known) ≡ true
+or_true true known h = refl
+or_true false known h = h
+
+look_backed : (f : Profile) (v : View) (w : Word) (a q : ℕ) → Agrees f v (Look w) a → knows_backed v q ≡ true → backed_after_look w a q (knows_backed v q) ≡ true
+look_backed f v Word.Epoch a q agrees h = h
+look_backed f v (Word.Free p w) a q agrees h = h
+look_backed f v (Word.Life p g) a q agrees h = h
+look_backed f v (Word.Deed p) a q agrees h = h
+look_backed f v (Word.Backed p) a q agrees h = one_read a (p == q) (knows_backed v q) (λ e. agrees.known (subst (λ x. knows_backed v x ≡ true) (sym (eqb-true p q e)) h)) h
+look_backed f v (Word.Stamp p) a q agrees h = h
+look_backed f v (Word.Parked j) a q agrees h = h
+look_backed f v (Word.Empty j) a q agrees h = h
+look_backed f v (Word.Eligible d j) a q agrees h = h
+
+still_backed : (f : Profile) (v : View) (s : Step) (a q : ℕ) → Agrees f v s a → knows_backed v q ≡ true → backed_after s a q (knows_backed v q) ≡ true
+still_backed f v (Look w) a q agrees h = look_backed f v w a q agrees h
+still_backed f v (Deed p d) a q agrees h = h
+still_backed f v (Back p) a q agrees h = or_true (p == q) (knows_backed v q) h
+still_backed f v (Take p w m) a q agrees h = h
+still_backed f v (Put p w m) a q agrees h = h
+still_backed f v (Give b) a q agrees h = h
+still_backed f v (End n g) a q agrees h = h
+still_backed f v (TakeRight p d) a q agrees h = h
+still_backed f v (Offer p d) a q agrees h = h
+still_backed f v (Park p) a q agrees h = h
+still_backed f v (Unpark p) a q agrees h = h
+still_backed f v (Stamp p) a q agrees h = h
+still_backed f v (Hint p) a q agrees h = h
+
+-- ---- all steps
+still_held : (x : ℕ) (steps : List Made) (v : View) → Always (λ m before. grain_move m.step m.answer x ≡ Stays) steps → holds v x ≡ true → holds (steps ++ v) x ≡ true
+still_held x [] v stays h = h
+still_held x (m ∷ more) v stays h = ap (λ t. held_after t (holds (more ++ v) x)) stays.0 ∙ still_held x more v stays.1 h
+
+-- grain b of the page is held, and no step moves it
+backed_with : (f : Profile) (q b : ℕ) (steps : List Made) (v : View) → b < 256 → Agreed f v steps → Always (λ m before. grain_move m.step m.answer (q * 256 + b) ≡ Stays) steps → holds v (q * 256 + b) ≡ true → knows_backed v q ≡ true
+    → knows_backed (steps ++ v) q ≡ true
+backed_with f q b [] v lt agreed stays held h = h
+backed_with f q b (m ∷ more) v lt agreed stays held h =
+    let before : knows_backed (more ++ v) q ≡ true = backed_with f q b more v lt agreed.1 stays.1 held h in
+    and_from (backed_after m.step m.answer q (knows_backed (more ++ v) q)) (holds_on (m ∷ more ++ v) q) (still_backed f (more ++ v) m.step m.answer q agreed.0 before)
+    (any_from 256 (λ i. holds (m ∷ more ++ v) (q * 256 + i)) b lt (still_held (q * 256 + b) (m ∷ more) v stays held))
+
+backed_holds : (v : View) (q : ℕ) → knows_backed v q ≡ true → holds_on v q ≡ true
+backed_holds [] q h = absurd (true≢false (sym h))
+backed_holds (m ∷ v) q h = (and_parts (backed_after m.step m.answer q (knows_backed v q)) (holds_on (m ∷ v) q) h).1
+
+-- where no grain that is held is moved
+pub backed_stays : (f : Profile) (steps : List Made) (v : View) (q : ℕ) → Agreed f v steps → ((x : ℕ) → holds v x ≡ true → Always (λ m before. grain_move m.step m.answer x ≡ Stays) steps) → knows_backed v q ≡ true → knows_backed (steps ++ v) q ≡ true
+backed_stays f steps v q agreed stays h =
+    let one = any_one 256 (λ i. holds v (q * 256 + i)) (backed_holds v q h) in
+    backed_with f q one.0 steps v one.1 agreed (stays (q * 256 + one.0) one.2) one.2 h
