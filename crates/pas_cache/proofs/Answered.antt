@@ -1,11 +1,10 @@
 -- A request is answered from the local allocators.
-use Rattle.std.proofs.Common.{◌≡◌, ◌≢◌, ℕ, suc, ◌+◌, ◌*◌, ◌/◌, ◌^◌, ◌<◌, ◌≤◌, ◌==◌, Bool, true, false, if◌then◌else◌, List, [], ◌∷◌, ◌++◌, length, Some, None, Ok, Err, Result, inl, inr, ◌⊎◌, refl, ap, sym, ◌∙◌, subst, arith, append_assoc, append-nil, length-append}
+use Rattle.std.proofs.Common.{◌≡◌, ℕ, ◌+◌, ◌/◌, ◌^◌, ◌<◌, ◌≤◌, Bool, List, [], ◌∷◌, ◌++◌, length, Ok, Err, Result, inl, inr, ◌⊎◌, refl, ap, sym, ◌∙◌, subst, arith, append_assoc, append-nil, length-append}
 use Rattle.std.specs.Prelude.{MatchResult, All, ◌%◌}
 use Rattle.std.proofs.lemmas.List.Elements.{All-same, All-from_recursion}
 use Rattle.pas_profile.specs.Profiles.{IsAdmitted, IsDirectoryOf}
 use Rattle.pas_profile.specs.Routes.{route_of}
 use Rattle.pas_profile.specs.declared.directory.Route.{Route}
-use Rattle.pas_profile.specs.declared.directory.Route.TheVariants as Route
 use Rattle.pas_profile.proofs.ClassFacts.{class_suits, routed_slot_aligned}
 use Rattle.pas_free_log.specs.Conditions.{IsNameOf}
 use Rattle.pas_cache.specs.Caches.{Cached, AtRest}
@@ -16,37 +15,31 @@ use Rattle.pas_profile.specs.Directories.{deed_word_of}
 use Rattle.pas_profile.specs.declared.profile.Profile.{Profile}
 use Rattle.pas_profile.specs.declared.directory.Directory.{Directory}
 use Rattle.pas_profile.specs.declared.event.Event.{Event}
-use Rattle.pas_profile.specs.declared.event.Event.TheVariants as Event
 use Rattle.pas_profile.specs.declared.event.NoRoom.{NoRoom}
 use Rattle.pas_profile.specs.declared.name.Block.{Block}
-use Rattle.pas_profile.specs.declared.word.Word.TheVariants as Word
 use Rattle.pas_profile.proofs.Codecs.{deed_word_of-positive}
 use Rattle.pas_bits.specs.declared.mask.Mask4.{Mask4}
-use Rattle.pas_machine.specs.Runs.{in_run, address_of, grain_of, length_of}
+use Rattle.pas_machine.specs.Runs.{address_of}
 use Rattle.pas_steps.specs.Views.{View, known_deed}
 use Rattle.pas_steps.specs.Events.{events_of, events_by}
 use Rattle.pas_steps.specs.Agreement.{Agreed}
 use Rattle.pas_steps.specs.Lists.{Whole}
-use Rattle.pas_steps.specs.Desks.{Standing, Seat, CanCall, Adds, triples, made}
+use Rattle.pas_steps.specs.Desks.{Standing, Seat, CanCall}
 use Rattle.pas_steps.specs.declared.step.Made.{Made}
-use Rattle.pas_steps.specs.declared.step.Step.TheVariants.{Look, Give}
 use Rattle.pas_steps.proofs.Adding.{adds_under, adds_call, can_call, room_left, agreed_first, agreed_later}
 use Rattle.pas_steps.proofs.Frames.{events_append, events_split}
 use Rattle.pas_steps.proofs.Kept.{deed_stays}
 use Rattle.pas_search.specs.Kinds.{AreQuiet, EventsAt}
-use Rattle.pas_search.specs.Searches.{HasRoom, IsServed, IsRefused}
 use Rattle.pas_search.specs.declared.serving.Served.{Served}
 use Rattle.pas_search.proofs.StepKinds.{events_quiet, quiet_events, events_at_append, quiet_append}
-use Rattle.pas_segregated.specs.Masks.{AreStarts, IsSome}
-use Rattle.pas_segregated.specs.Takes.{exclusive}
 use Rattle.pas_segregated.specs.Refills.{slots_found, answer_of}
 use Rattle.pas_segregated.specs.Stops.{class_directory, directory_of}
 use Rattle.pas_segregated.specs.declared.slots.Slots.{Slots}
 use Rattle.pas_cache.specs.Knowledge.{unknown_pages}
-use Rattle.pas_cache.specs.Locals.{local_for, IsFormed, IsLocal, RestsWith}
+use Rattle.pas_cache.specs.Locals.{IsFormed, IsLocal, RestsWith}
 use Rattle.pas_cache.specs.Changes.{GivesSlot}
-use Rattle.pas_cache.specs.Serves.{IsClassRoute, class_of, IsRefill, IsAnswered, GivesCached, Fetches, ServesLocals, AreAllocating, IsPreparing, IsInSlot, IsBlockFor, MakesFew, IsSilent}
-use Rattle.pas_cache.specs.Pieces.{MayGiveSlot, GivesLowest, MayObtain, RestsWithFound, FindsCached, FetchesAnew, IsFoundFor, Obtains, ServesFrom}
+use Rattle.pas_cache.specs.Serves.{IsClassRoute, class_of, IsRefill, IsAnswered, ServesLocals, AreAllocating, IsPreparing, IsInSlot, IsBlockFor, IsSilent}
+use Rattle.pas_cache.specs.Pieces.{MayGiveSlot, GivesLowest, MayObtain, FindsCached, FetchesAnew, Obtains, ServesFrom}
 use Rattle.pas_cache.proofs.Locals.{without_last}
 use Rattle.pas_cache.proofs.Resting.{here, may_give_slot}
 use Rattle.pas_cache.proofs.Granting.{rests_given, given_page, given_deed}
@@ -57,7 +50,9 @@ pub fewer_room : {σ : Standing} {spare : ℕ} {locals : List Slots} → CanCall
 fewer_room {σ} {spare} can =
     let two : 2 ≤ spare = can.met.room.0 in
     record {
-      view = can.view; whole = can.whole; stood = can.stood;
+      view = can.view;
+      whole = can.whole;
+      stood = can.stood;
       met = record { rest = can.met.rest; room = (omega (arith, two), inr (omega (arith, two))) };
     }
 
@@ -111,22 +106,47 @@ refused heap class fewer room (Err why) is = (cc, refl, refl)
 
 changed : {f : Profile} (heap class : ℕ) (locals fewer after : List Slots) (steps given : List Made) (slots rest : Slots) (block : Block) → FindsCached heap class locals fewer steps (Ok slots) ⊎ FetchesAnew f heap class locals fewer steps (Ok slots)
     → GivesSlot slots rest block given → after ≡ fewer ++ rest ∷ [] → ServesLocals f heap class locals after (given ++ steps) (Ok block)
-changed heap class locals fewer after steps given slots rest block (inl h) gives list = inl (block, refl, record {
-  from = h.from; to = rest; cached = h.cached; some = h.some;
-  gives = subst (λ s. GivesSlot s rest block (given ++ steps)) (ok_same slots h.from h.answer_is) (subst (GivesSlot slots rest block) (sym (ap (λ xs. given ++ xs) h.no_steps ∙ append-nil given)) gives);
-  locals_are = list ∙ ap (λ xs. xs ++ rest ∷ []) h.locals_are;
-})
+changed heap class locals fewer after steps given slots rest block (inl h) gives list = inl (
+  block,
+  refl,
+  record {
+    from = h.from;
+    to = rest;
+    cached = h.cached;
+    some = h.some;
+    gives = subst (λ s. GivesSlot s rest block (given ++ steps)) (ok_same slots h.from h.answer_is) (subst (GivesSlot slots rest block) (sym (ap (λ xs. given ++ xs) h.no_steps ∙ append-nil given)) gives);
+    locals_are = list ∙ ap (λ xs. xs ++ rest ∷ []) h.locals_are;
+  },
+)
 changed heap class locals fewer after steps given slots rest block (inr h) gives list = inr (record {
-  spent = h.spent; kept = h.kept; taken = h.taken; stopped = h.stopped; fewer = fewer; shortened = h.shortened; searched = h.searched; found = h.found; refill = h.refill;
-  given = given; ends = answered heap class fewer after given slots rest block h.found h.answer_is gives list;
+  spent = h.spent;
+  kept = h.kept;
+  taken = h.taken;
+  stopped = h.stopped;
+  fewer = fewer;
+  shortened = h.shortened;
+  searched = h.searched;
+  found = h.found;
+  refill = h.refill;
+  given = given;
+  ends = answered heap class fewer after given slots rest block h.found h.answer_is gives list;
   steps_are = ap (λ xs. given ++ xs) h.steps_are;
 })
 
 changed_none : {f : Profile} (heap class : ℕ) (locals fewer : List Slots) (steps : List Made) (room : NoRoom) → FindsCached heap class locals fewer steps (Err room) ⊎ FetchesAnew f heap class locals fewer steps (Err room) → ServesLocals f heap class locals fewer steps (Err room)
 changed_none heap class locals fewer steps room (inl h) = err_ok room h.from h.answer_is
 changed_none heap class locals fewer steps room (inr h) = inr (record {
-  spent = h.spent; kept = h.kept; taken = h.taken; stopped = h.stopped; fewer = fewer; shortened = h.shortened; searched = h.searched; found = h.found; refill = h.refill;
-  given = []; ends = refused heap class fewer room h.found h.answer_is;
+  spent = h.spent;
+  kept = h.kept;
+  taken = h.taken;
+  stopped = h.stopped;
+  fewer = fewer;
+  shortened = h.shortened;
+  searched = h.searched;
+  found = h.found;
+  refill = h.refill;
+  given = [];
+  ends = refused heap class fewer room h.found h.answer_is;
   steps_are = h.steps_are;
 })
 
@@ -264,7 +284,8 @@ allocates {σ} {σ'} size align heap class tells c c' answer admitted route log 
       outcome = for_cache f c heap class h.steps answer h.outcome;
       aligned = aligned_answer f (RestsWith f c.locals) heap class size align h.steps answer admitted.aligned.2 route h.outcome;
       rest = λ v rest agreed. record {
-        locals = h.rest v rest.locals agreed; few = h.count;
+        locals = h.rest v rest.locals agreed;
+        few = h.count;
         names = All-same (IsNameOf f) c'.log c.log log rest.names;
         few_names = subst (λ xs. length xs ≤ 64) (sym log) rest.few_names;
       };

@@ -1,38 +1,34 @@
 -- Slots come by a refill.
-use Rattle.std.proofs.Common.{◌≡◌, ◌≢◌, ℕ, suc, ◌+◌, ◌*◌, ◌/◌, ◌%◌, ◌<◌, ◌≤◌, ◌==◌, Bool, true, false, ◌&&◌, ◌||◌, if◌then◌else◌, List, [], ◌∷◌, ◌++◌, length, Some, None, inl, inr, refl, ap, sym, ◌∙◌, subst, arith, true≢false, append_assoc, Ok, Err, Result}
-use Rattle.std.specs.Prelude.{MatchResult}
+use Rattle.std.proofs.Common.{◌≡◌, ℕ, suc, ◌+◌, ◌*◌, ◌<◌, ◌≤◌, ◌==◌, Bool, true, false, ◌&&◌, ◌||◌, if◌then◌else◌, List, [], ◌∷◌, ◌++◌, length, Some, None, inl, inr, refl, ap, sym, ◌∙◌, subst, arith, true≢false, append_assoc, Ok, Err, Result}
+use Rattle.std.specs.Prelude.{MatchResult, IfOk}
 use Rattle.std.specs.List.{AllByRecursion}
 use Rattle.std.proofs.lemmas.Bool.{eq-eqb, eqb-true, and_parts, and_from, cases_Bool}
-use Rattle.pas_profile.specs.Profiles.{IsPage, IsDirectoryOf}
-use Rattle.pas_profile.specs.Directories.{deed_word_of}
+use Rattle.pas_profile.specs.Profiles.{IsDirectoryOf}
 use Rattle.pas_profile.specs.declared.profile.Profile.{Profile}
 use Rattle.pas_profile.specs.declared.directory.Directory.{Directory}
 use Rattle.pas_profile.specs.declared.event.NoRoom.{NoRoom}
 use Rattle.pas_bits.specs.declared.mask.Mask4.{Mask4}
 use Rattle.pas_steps.specs.Views.{View, has_right, known_deed}
 use Rattle.pas_steps.specs.Agreement.{Agreed}
-use Rattle.pas_steps.specs.Lists.{Whole}
-use Rattle.pas_steps.specs.Desks.{Standing, Seat, CanCall, Adds, triples}
+use Rattle.pas_steps.specs.Desks.{Standing, Seat, CanCall, triples}
 use Rattle.pas_steps.specs.declared.step.Made.{Made}
-use Rattle.pas_steps.proofs.Adding.{adds_call, can_call, triples_append, agreed_first, agreed_later}
+use Rattle.pas_steps.proofs.Adding.{adds_call, triples_append, agreed_first, agreed_later}
 use Rattle.pas_steps.proofs.Kept.{deed_stays}
 use Rattle.pas_scan.specs.Evidence.{IsOf}
-use Rattle.pas_search.specs.Searches.{MaySearch, KnowsAllDeeds, HasRoom, SearchRoom, IsStill, IsServed, IsRefused, Searches}
+use Rattle.pas_search.specs.Searches.{MaySearch, KnowsAllDeeds, HasRoom, SearchRoom, IsServed, IsRefused}
 use Rattle.pas_search.specs.Telling.{IsTold}
 use Rattle.pas_search.specs.declared.serving.Served.{Served}
-use Rattle.pas_segregated.specs.Masks.{AreStarts, start_of}
+use Rattle.pas_segregated.specs.Masks.{AreStarts}
 use Rattle.pas_segregated.specs.Takes.{exclusive}
-use Rattle.pas_segregated.specs.Refills.{slots_found, answer_of, Refills}
-use Rattle.pas_segregated.specs.Stops.{class_directory, directory_of}
+use Rattle.pas_segregated.specs.Refills.{slots_found, answer_of, GivesSlots, Refills}
+use Rattle.pas_segregated.specs.Stops.{class_directory}
 use Rattle.pas_segregated.specs.declared.slots.Slots.{Slots}
-use Rattle.pas_cache.specs.Locals.{covers, keeps_right, any_covers, any_keeps, is_for, local_for, count_for, HasOneEach, IsLocal, RestsWith}
+use Rattle.pas_cache.specs.Locals.{covers, keeps_right, any_keeps, is_for, local_for, count_for, IsLocal, RestsWith}
 use Rattle.pas_cache.specs.Changes.{StopsFirst, IsShortened}
-use Rattle.pas_cache.specs.Serves.{IsRefill}
 use Rattle.pas_cache.specs.Pieces.{Releases, MayObtain, RestsWithFound, FetchesSlots}
 use Rattle.pas_cache.proofs.Locals.{IsWithout, without_last, none_counted, map_locals, either_false, keeps_page}
 use Rattle.pas_cache.proofs.Finding.{not_first}
 use Rattle.pas_cache.proofs.Resting.{known_some}
-use Rattle.pas_cache.proofs.Going.{rests_call}
 
 if_not : {A : Type 0} (t : Bool) (x y : A) → t ≡ false → (if t then x else y) ≡ y
 if_not t x y h = ap (λ b. if b then x else y) h
@@ -50,9 +46,9 @@ no_right_in f v heap class (first ∷ rest) is all none p of =
     let other = not_first heap class first rest none in
     either_false (keeps_right first p) (any_keeps rest p)
     (λ keeps.
-        let at : first.page ≡ p = keeps_page first p keeps in
-        let pair = same_words first.heap first.class heap class all.0.directory.kind is (sym all.0.deed ∙ (ap (known_deed v) at ∙ of)) in
-        true≢false (sym (and_from (first.heap == heap) (first.class == class) (eq-eqb first.heap heap pair.0) (eq-eqb first.class class pair.1)) ∙ other))
+    let at : first.page ≡ p = keeps_page first p keeps in
+    let pair = same_words first.heap first.class heap class all.0.directory.kind is (sym all.0.deed ∙ (ap (known_deed v) at ∙ of)) in
+    true≢false (sym (and_from (first.heap == heap) (first.class == class) (eq-eqb first.heap heap pair.0) (eq-eqb first.class class pair.1)) ∙ other))
     (no_right_in f v heap class rest is all.1 (sym (if_not (is_for heap class first) (Some first) (local_for heap class rest) other) ∙ none) p of)
 
 pub may_search : (f : Profile) (v : View) (heap class : ℕ) (locals : List Slots) → class < 16 → local_for heap class locals ≡ None → RestsWith f locals v → MaySearch (class_directory heap class) v
@@ -92,7 +88,9 @@ module _ (f : Profile) (heap class : ℕ) (locals : List Slots) (is : IsDirector
         known = w.joins (IsLocal f (steps ++ v))
             (record { page = s.page; directory = is; starts = starts; deed = (s.keeps.known v may agreed).1; backed = λ some. (s.keeps.known v may agreed).0 })
             (map_locals (IsLocal f v) (IsLocal f (steps ++ v)) locals (λ t within at. record {
-              page = at.page; directory = at.directory; starts = at.starts;
+              page = at.page;
+              directory = at.directory;
+              starts = at.starts;
               deed = deed_stays f steps v t.page agreed (known_some t.page t v at.deed) ∙ at.deed;
               backed = λ some. s.keeps.backed v may agreed t.page (at.backed some);
             }) h.known);
@@ -105,7 +103,9 @@ module _ (f : Profile) (heap class : ℕ) (locals : List Slots) (is : IsDirector
     rights = λ p. s.still.rights v may agreed p ∙ h.rights p;
     clear = s.still.clear v may agreed;
     known = map_locals (IsLocal f v) (IsLocal f (steps ++ v)) locals (λ t within at. record {
-      page = at.page; directory = at.directory; starts = at.starts;
+      page = at.page;
+      directory = at.directory;
+      starts = at.starts;
       deed = deed_stays f steps v t.page agreed (known_some t.page t v at.deed) ∙ at.deed;
       backed = λ some. s.still.backed v may agreed t.page (at.backed some);
     }) h.known;
@@ -149,16 +149,22 @@ obtain_after {σ} {σ1} {First} {n} {spare} {spare1} locals kept one same can =
 
 pub search_call : {σ : Standing} {n spare : ℕ} (heap class : ℕ) (locals : List Slots) → class < 16 → local_for heap class locals ≡ None → CanCall σ (λ v l. MayObtain σ.seat.profile n spare locals v) → CanCall σ (λ v l. SearchRoom σ.seat.profile (class_directory heap class) n spare v)
 search_call {σ} heap class locals is none can = record {
-  view = can.view; whole = can.whole; stood = can.stood;
+  view = can.view;
+  whole = can.whole;
+  stood = can.stood;
   met = record { may = may_search σ.seat.profile can.view heap class locals is none can.met.rest; room = can.met.room };
 }
 
 -- ---- the refill
 rests_found : (f : Profile) (heap class : ℕ) (locals : List Slots) → IsDirectoryOf f (class_directory heap class) → local_for heap class locals ≡ None → (steps : List Made) (v : View) → RestsWith f locals v → Agreed f v steps → (found : Result (Served Mask4) NoRoom)
-    → MatchResult found (IsServed (exclusive class) f (class_directory heap class) steps) (IsRefused (exclusive class) f (class_directory heap class) steps) → ((slots : Slots) → answer_of heap class found ≡ Ok slots → AreStarts class slots.starts)
+    → MatchResult found (IsServed (exclusive class) f (class_directory heap class) steps) (IsRefused (exclusive class) f (class_directory heap class) steps) → IfOk (answer_of heap class found) (λ slots. AreStarts slots.class slots.starts)
     → RestsWithFound f locals (answer_of heap class found) (steps ++ v)
-rests_found f heap class locals is none steps v h agreed (Ok served) s starts = rests_refilled f heap class locals is none steps v h agreed served s (starts (slots_found heap class served) refl)
+rests_found f heap class locals is none steps v h agreed (Ok served) s starts = rests_refilled f heap class locals is none steps v h agreed served s starts
 rests_found f heap class locals is none steps v h agreed (Err room) s starts = rests_refused f heap class locals is none steps v h agreed room s
+
+found_starts : (f : Profile) (d : Directory) (steps : List Made) (heap class : ℕ) (found : Result (Served Mask4) NoRoom) → IfOk (answer_of heap class found) (GivesSlots f d steps) → IfOk (answer_of heap class found) (λ slots. AreStarts slots.class slots.starts)
+found_starts f d steps heap class (Ok served) h = h.starts
+found_starts f d steps heap class (Err room) h = tt
 
 pub fetches : {σ σ1 σ2 : Standing} (heap class : ℕ) (tells : Bool) (locals kept : List Slots) (answer : Result Slots NoRoom) → IsDirectoryOf σ.seat.profile (class_directory heap class) → local_for heap class locals ≡ None
     → Releases (IsShortened locals kept) locals kept σ σ1 → length kept < 32 → Refills heap class tells σ1 σ2 answer → FetchesSlots heap class tells locals kept σ σ2 answer
@@ -170,6 +176,7 @@ fetches {σ} {σ1} {σ2} heap class tells locals kept answer is none one few two
     let left : local_for heap class kept ≡ None = none_shortened heap class locals kept xs one.change none in
     let outcome : MatchResult two.found (IsServed (exclusive class) f d ys) (IsRefused (exclusive class) f d ys)
     = subst (λ (s : Seat). MatchResult two.found (IsServed (exclusive class) s.profile d ys) (IsRefused (exclusive class) s.profile d ys)) one.adds.seat_is two.searches.outcome in
+    let starts = found_starts σ1.seat.profile d ys heap class two.found (subst (λ a. IfOk a (GivesSlots σ1.seat.profile d ys)) two.answer_is two.gives) in
     record {
       stopped = xs;
       shortened = one.change;
@@ -188,7 +195,7 @@ fetches {σ} {σ1} {σ2} heap class tells locals kept answer is none one few two
           let before = one.rest v h (agreed_later f v ys xs agreed) in
           subst (RestsWithFound f kept answer) (sym (append_assoc ys xs v))
           (subst (λ a. RestsWithFound f kept a (ys ++ (xs ++ v))) (sym two.answer_is)
-          (rests_found f heap class kept is left ys (xs ++ v) before (agreed_first f v ys xs agreed) two.found outcome (λ slots e. two.starts slots (two.answer_is ∙ e))));
+          (rests_found f heap class kept is left ys (xs ++ v) before (agreed_first f v ys xs agreed) two.found outcome starts));
       told = λ t v l stood met.
           let k : ℕ = σ.seat.actor in
           let ok = one.adds.agreed v l stood met in

@@ -1,12 +1,12 @@
 -- What steps that give back do to words: free grains, offered pages and deeds stay.
-use Rattle.std.proofs.Common.{◌≡◌, ℕ, ◌+◌, ◌*◌, ◌/◌, ◌%◌, ◌<◌, ◌==◌, Bool, true, false, ◌&&◌, ◌||◌, if◌then◌else◌, List, [], ◌∷◌, ◌++◌, refl, ap, sym, ◌∙◌, bit_or}
+use Rattle.std.proofs.Common.{◌≡◌, ℕ, ◌+◌, ◌*◌, ◌/◌, ◌%◌, Bool, true, false, ◌||◌, if◌then◌else◌, List, [], ◌∷◌, ◌++◌, refl, ap, ◌∙◌, bit_or}
 use Rattle.pas_profile.specs.Classes.{has_bit}
 use Rattle.pas_profile.specs.Directories.{number_of}
 use Rattle.pas_profile.specs.Layouts.{same_word}
 use Rattle.pas_profile.specs.declared.profile.Profile.{Profile}
 use Rattle.pas_profile.specs.declared.directory.Directory.{Directory}
 use Rattle.pas_profile.specs.declared.word.Word.{Word}
-use Rattle.pas_steps.specs.Effects.{target, new_value, free_word_at, page_mask}
+use Rattle.pas_steps.specs.Effects.{target, new_value, page_mask}
 use Rattle.pas_steps.specs.Views.{epoch_of}
 use Rattle.pas_steps.specs.Lists.{Whole, part, word_after}
 use Rattle.pas_steps.specs.Desks.{triples}
@@ -15,7 +15,7 @@ use Rattle.pas_steps.specs.declared.step.Step.{Step}
 use Rattle.pas_steps.specs.declared.step.Step.TheVariants.{Look, Deed, Back, Take, Put, Give, End, TakeRight, Offer, Park, Unpark, Stamp, Hint}
 use Rattle.pas_core.proofs.Bits.{has_bit-or}
 use Rattle.pas_search.specs.Serving.{Rule, IsAntitone}
-use Rattle.pas_search.specs.Telling.{free_of_page, IsOfferedFit, IsBarePage, HasNoFit}
+use Rattle.pas_search.specs.Telling.{free_of_page, HasNoFit}
 use Rattle.pas_cache.specs.Pieces.{IsReleasing, AreReleasing}
 
 same : {A : Type 0} (t : Bool) (x : A) → (if t then x else x) ≡ x

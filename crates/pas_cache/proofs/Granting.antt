@@ -1,12 +1,10 @@
 -- An actor at rest with local allocators, when one of them gives a slot.
-use Rattle.std.proofs.Common.{◌≡◌, ◌≢◌, ℕ, suc, ◌+◌, ◌*◌, ◌/◌, ◌%◌, ◌<◌, ◌≤◌, ◌==◌, Bool, true, false, not, ◌&&◌, ◌||◌, if◌then◌else◌, List, [], ◌∷◌, ◌++◌, inl, inr, refl, ap, sym, ◌∙◌, subst, arith, true≢false}
-use Rattle.std.specs.List.{AllByRecursion}
-use Rattle.std.proofs.lemmas.Bool.{eq-eqb, eqb-true, and_parts, and_from, cases_Bool}
+use Rattle.std.proofs.Common.{◌≡◌, ℕ, suc, ◌/◌, ◌%◌, ◌==◌, Bool, true, false, not, ◌&&◌, ◌||◌, if◌then◌else◌, List, [], ◌∷◌, ◌++◌, refl, ap, sym, ◌∙◌, subst, arith, true≢false}
+use Rattle.std.proofs.lemmas.Bool.{eq-eqb, eqb-true, and_parts, and_from}
 use Rattle.pas_profile.specs.Classes.{class_grains, IsSlotStart}
 use Rattle.pas_profile.specs.Profiles.{IsPage, IsDirectoryOf}
 use Rattle.pas_profile.specs.Directories.{deed_word_of}
 use Rattle.pas_profile.specs.declared.profile.Profile.{Profile}
-use Rattle.pas_profile.specs.declared.directory.Directory.{Directory}
 use Rattle.pas_profile.specs.declared.name.Block.{Block}
 use Rattle.pas_profile.specs.declared.word.Word.TheVariants as Word
 use Rattle.pas_bits.specs.Masks.{is_set}
@@ -21,8 +19,8 @@ use Rattle.pas_segregated.specs.Masks.{AreStarts, IsSome, start_of}
 use Rattle.pas_segregated.specs.Stops.{class_directory, directory_of}
 use Rattle.pas_segregated.specs.declared.slots.Slots.{Slots}
 use Rattle.pas_segregated.proofs.Starts.{start_at, start_below}
-use Rattle.pas_cache.specs.Locals.{covers, keeps_right, any_covers, any_keeps, is_for, count_for, IsLocal, RestsWith}
-use Rattle.pas_cache.specs.Changes.{IsWithoutSlot, GivesSlot}
+use Rattle.pas_cache.specs.Locals.{covers, any_covers, any_keeps, is_for, count_for, IsLocal, RestsWith}
+use Rattle.pas_cache.specs.Changes.{GivesSlot}
 use Rattle.pas_cache.proofs.Locals.{IsWithout, without_last, map_locals, grains_elsewhere}
 use Rattle.pas_cache.proofs.Lowest.{first_grain, grain_is, InSlot, in_slot, slot_covers}
 use Rattle.pas_cache.proofs.Resting.{here, away, held_of}
@@ -128,11 +126,17 @@ module _ (f : Profile) (locals : List Slots) (slots rest : Slots) (block : Block
     clear = record { stamped = h.clear.stamped; owes = λ p. record { checks = (h.clear.owes p).checks; hint = (h.clear.owes p).hint } };
     known = w'.joins (IsLocal f (two ++ v))
         (record {
-          page = rest_before.page; directory = rest_before.directory; starts = rest_before.starts; deed = rest_before.deed;
+          page = rest_before.page;
+          directory = rest_before.directory;
+          starts = rest_before.starts;
+          deed = rest_before.deed;
           backed = λ left. known_page rest.page (rest_before.backed left) (held_of f v (two ++ v) rest (locals ++ rest ∷ []) rest_before left grains_two (λ g covered. w'.grains g ∙ ap (λ t. t || any_covers locals g) covered));
         })
         (map_locals (IsLocal f v) (IsLocal f (two ++ v)) locals (λ t within at. record {
-          page = at.page; directory = at.directory; starts = at.starts; deed = at.deed;
+          page = at.page;
+          directory = at.directory;
+          starts = at.starts;
+          deed = at.deed;
           backed = λ left. known_page t.page (at.backed left) (held_of f v (two ++ v) t (locals ++ rest ∷ []) at left grains_two (λ g covered. w'.grains g ∙ or_second (covers rest g) (any_covers locals g) (within g covered)));
         }) (w.parts (IsLocal f v) h.known).1);
     one_each = λ heap class.

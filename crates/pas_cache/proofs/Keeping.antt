@@ -1,7 +1,6 @@
 -- Steps that keep what the actor holds, has and knows; flushes, and the names that are logged.
-use Rattle.std.proofs.Common.{◌≡◌, ◌≢◌, ℕ, ◌+◌, ◌-◌, ◌/◌, ◌%◌, ◌^◌, ◌<◌, ◌≤◌, ◌&&◌, nat_le, Bool, true, false, List, [], ◌∷◌, ◌++◌, length, inl, inr, true≢false, refl, ap, sym, ◌∙◌, subst, arith, append_assoc, length-append}
-use Rattle.std.specs.Prelude.{All, Ok, Err, Result}
-use Rattle.std.specs.List.{AllByRecursion}
+use Rattle.std.proofs.Common.{◌≡◌, ℕ, ◌+◌, ◌-◌, ◌^◌, ◌<◌, ◌≤◌, nat_le, Bool, true, false, List, [], ◌∷◌, ◌++◌, length, inl, inr, true≢false, refl, ap, sym, ◌∙◌, subst, arith, append_assoc, length-append}
+use Rattle.std.specs.Prelude.{All, Ok, Err}
 use Rattle.std.proofs.lemmas.Bool.{and_from, le-leb, lt-leb, cases_lt}
 use Rattle.std.proofs.lemmas.List.Elements.{All-nil, All-push, All-same}
 use Rattle.pas_profile.specs.declared.profile.Profile.{Profile}
@@ -10,8 +9,7 @@ use Rattle.pas_profile.specs.declared.word.Word.TheVariants as Word
 use Rattle.pas_profile.specs.declared.event.FreeFault.{FreeFault}
 use Rattle.pas_steps.specs.Views.{View, holds_on, knows_backed}
 use Rattle.pas_steps.specs.Agreement.{Agreed}
-use Rattle.pas_steps.specs.Lists.{Whole}
-use Rattle.pas_steps.specs.Desks.{Standing, Seat, CanCall, Makes, Adds, made}
+use Rattle.pas_steps.specs.Desks.{Standing, Seat, CanCall, Makes, made}
 use Rattle.pas_steps.specs.declared.step.Made.{Made}
 use Rattle.pas_steps.specs.declared.step.Step.TheVariants.{Look}
 use Rattle.pas_steps.proofs.Adding.{adds_none, adds_step, adds_under, adds_call, can_call, agreed_first, agreed_later}
@@ -37,7 +35,9 @@ rests_kept f locals steps keeps v h agreed = record {
   rights = λ p. keeps.right v agreed p ∙ h.rights p;
   clear = keeps.clear v agreed h.clear;
   known = map_locals (IsLocal f v) (IsLocal f (steps ++ v)) locals (λ t within at. record {
-    page = at.page; directory = at.directory; starts = at.starts;
+    page = at.page;
+    directory = at.directory;
+    starts = at.starts;
     deed = keeps.deeds v agreed t.page (known_some t.page t v at.deed) ∙ at.deed;
     backed = λ some. keeps.backed v agreed t.page (at.backed some);
   }) h.known;
@@ -79,7 +79,9 @@ begins {σ} c c' epoch locals log idle look =
       adds = adds_step {step = Look Word.Epoch} adds_none look (λ v l stood met. tt);
       rest = λ v h agreed. subst (λ x. AtRest σ.seat.profile x (made (Look Word.Epoch) epoch ∷ v)) (sym is) (record {
         locals = rests_kept σ.seat.profile c.locals (made (Look Word.Epoch) epoch ∷ []) (keeps_look σ.seat.profile epoch) v h.locals agreed;
-        few = h.few; names = h.names; few_names = h.few_names;
+        few = h.few;
+        names = h.names;
+        few_names = h.few_names;
       });
     }
 
@@ -103,7 +105,9 @@ flushes_log {σ} c c' locals log idle flush =
       cache = is;
       rest = λ v h agreed. subst (λ x. AtRest σ.seat.profile x (flush.steps ++ v)) (sym is) (record {
         locals = rests_kept σ.seat.profile c.locals flush.steps (keeps_flush c.log flush) v h.locals agreed;
-        few = h.few; names = All-nil (IsNameOf σ.seat.profile); few_names = few_none;
+        few = h.few;
+        names = All-nil (IsNameOf σ.seat.profile);
+        few_names = few_none;
       });
     }
 
@@ -133,7 +137,9 @@ stops_cache {σ} {σ1} {σ2} c c' locals log idle flush stops =
         locals = subst (RestsWith f []) (sym (append_assoc stops.steps flush.steps v))
             (subst (λ (s : Seat). RestsWith s.profile c.locals (flush.steps ++ v) → Agreed s.profile (flush.steps ++ v) stops.steps → RestsWith s.profile [] (stops.steps ++ (flush.steps ++ v))) flush.adds.seat_is (stops.rest (flush.steps ++ v))
             (kept v h.locals (agreed_later f v stops.steps flush.steps agreed)) (agreed_first f v stops.steps flush.steps agreed));
-        few = omega arith; names = All-nil (IsNameOf f); few_names = few_none;
+        few = omega arith;
+        names = All-nil (IsNameOf f);
+        few_names = few_none;
       });
     }
 

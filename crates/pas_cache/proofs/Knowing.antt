@@ -1,21 +1,19 @@
 -- How many pages have a deed that isn't known, and how many events a refill makes.
-use Rattle.std.proofs.Common.{◌≡◌, ◌≢◌, ℕ, zero, suc, ◌+◌, ◌*◌, ◌<◌, ◌≤◌, ◌==◌, Bool, true, false, if◌then◌else◌, List, [], ◌∷◌, ◌++◌, length, Some, None, Ok, Err, Result, inl, inr, refl, ap, sym, ◌∙◌, subst, arith, append_assoc, length-append}
+use Rattle.std.proofs.Common.{◌≡◌, ◌≢◌, ℕ, zero, suc, ◌+◌, ◌≤◌, ◌==◌, Bool, true, false, if◌then◌else◌, List, [], ◌∷◌, ◌++◌, length, Some, None, Ok, Err, Result, inl, inr, refl, ap, sym, ◌∙◌, subst, arith, append_assoc, length-append}
 use Rattle.std.specs.Prelude.{MatchResult}
 use Rattle.std.specs.List.{AllByRecursion}
-use Rattle.std.proofs.lemmas.Bool.{eqb-true, eqb-false, ne_eqb, cases_Bool, cases_eq}
+use Rattle.std.proofs.lemmas.Bool.{eqb-true, eqb-false, ne_eqb, cases_eq}
 use Rattle.pas_profile.specs.Profiles.{IsPage}
-use Rattle.pas_profile.specs.Directories.{deed_word_of}
 use Rattle.pas_profile.specs.declared.profile.Profile.{Profile}
 use Rattle.pas_profile.specs.declared.directory.Directory.{Directory}
 use Rattle.pas_profile.specs.declared.event.Event.{Event}
-use Rattle.pas_profile.specs.declared.event.Event.TheVariants as Event
 use Rattle.pas_profile.specs.declared.event.NoRoom.{NoRoom}
 use Rattle.pas_profile.proofs.Codecs.{deed_word_of-positive}
 use Rattle.pas_bits.specs.declared.mask.Mask4.{Mask4}
 use Rattle.pas_steps.specs.Views.{View, known_deed, epoch_of}
 use Rattle.pas_steps.specs.Events.{event_of, with_event, events_by}
 use Rattle.pas_steps.specs.Agreement.{Agrees, Agreed}
-use Rattle.pas_steps.specs.Past.{Once, Always}
+use Rattle.pas_steps.specs.Past.{Once}
 use Rattle.pas_steps.specs.declared.step.Made.{Made}
 use Rattle.pas_steps.specs.declared.step.Step.{Step}
 use Rattle.pas_steps.specs.declared.step.Step.TheVariants.{Look, Deed, Back, Take, Put, Give, End, TakeRight, Offer, Park, Unpark, Stamp, Hint}
@@ -23,16 +21,15 @@ use Rattle.pas_steps.proofs.Adding.{agreed_first, agreed_later}
 use Rattle.pas_steps.proofs.Frames.{events_append}
 use Rattle.pas_steps.proofs.Kept.{deed_stays}
 use Rattle.pas_steps.proofs.Past.{always_map, always_both}
-use Rattle.pas_scan.specs.Evidence.{IsOf}
-use Rattle.pas_search.specs.Kinds.{IsSearch, OnlySearches, IsQuiet, AreQuiet, IsDeedOrBack, EventsAt, deeds_made}
+use Rattle.pas_search.specs.Kinds.{IsSearch, OnlySearches, AreQuiet, IsDeedOrBack, EventsAt}
 use Rattle.pas_search.specs.Serving.{Rule}
-use Rattle.pas_search.specs.Searches.{MaySearch, KnowsAllDeeds, HasRoom, DeedMadeHere, FromOffered, ByDeed, IsServed, IsRefused}
+use Rattle.pas_search.specs.Searches.{MaySearch, KnowsAllDeeds, HasRoom, DeedMadeHere, IsServed, IsRefused}
 use Rattle.pas_search.specs.declared.serving.Served.{Served}
 use Rattle.pas_search.proofs.StepKinds.{events_quiet}
 use Rattle.pas_segregated.specs.Takes.{exclusive}
 use Rattle.pas_segregated.specs.Stops.{class_directory}
 use Rattle.pas_cache.specs.Knowledge.{unknown_here, unknown_below, unknown_pages}
-use Rattle.pas_cache.specs.Serves.{IsRefill, IsAllocating, AreAllocating, IsPreparing, MakesFew}
+use Rattle.pas_cache.specs.Serves.{IsRefill, IsAllocating, AreAllocating, IsPreparing}
 use Rattle.pas_cache.specs.Pieces.{IsReleasing, AreReleasing}
 
 -- ---- unknown pages grow fewer
@@ -96,10 +93,13 @@ all_below (suc n) v page none low high = elim (cases_eq page (suc n)) [
 
 -- room for so many events beside the pages whose deed isn't known is room for a request
 pub has_room : (f : Profile) (n spare : ℕ) (v : View) → n + unknown_pages f v ≤ spare → HasRoom f n spare v
-has_room f n spare v fits = (omega (arith, fits), elim (cases_eq (unknown_pages f v) 0) [
-  | inl none ↦ inl (λ page is. all_below f.pages v page none is.0 is.1)
-  | inr some ↦ inr (omega (arith, fits, some))
-])
+has_room f n spare v fits = (
+  omega (arith, fits),
+  elim (cases_eq (unknown_pages f v) 0) [
+    | inl none ↦ inl (λ page is. all_below f.pages v page none is.0 is.1)
+    | inr some ↦ inr (omega (arith, fits, some))
+  ],
+)
 
 -- ---- a deed that was made wasn't known before
 made_unknown : {F : Type 0} (rule : Rule F) (f : Profile) (d : Directory) (page : ℕ) (steps : List Made) (v : View) → Agreed f v steps → Once (DeedMadeHere rule f d page) steps → known_deed v page ≢ 0 → ⊥

@@ -1,13 +1,11 @@
 -- Lists of local allocators with one more or one fewer.
-use Rattle.std.proofs.Common.{◌≡◌, ◌≢◌, ℕ, zero, suc, ◌+◌, ◌*◌, ◌/◌, ◌%◌, ◌<◌, ◌≤◌, ◌==◌, Bool, true, false, not, ◌&&◌, ◌||◌, if◌then◌else◌, List, [], ◌∷◌, ◌++◌, Option, Some, None, inl, inr, refl, ap, sym, ◌∙◌, subst, arith, true≢false}
+use Rattle.std.proofs.Common.{◌≡◌, ◌≢◌, ℕ, suc, ◌+◌, ◌*◌, ◌/◌, ◌<◌, ◌≤◌, ◌==◌, Bool, true, false, ◌||◌, if◌then◌else◌, List, [], ◌∷◌, ◌++◌, Some, None, inl, inr, refl, ap, sym, ◌∙◌, subst, arith, true≢false}
 use Rattle.std.proofs.lemmas.Bool.{eq-eqb, eqb-true, and_parts, and_from, cases_Bool}
 use Rattle.std.specs.List.{AllByRecursion}
-use Rattle.pas_profile.specs.Classes.{IsClass}
-use Rattle.pas_profile.specs.Directories.{deed_word_of}
 use Rattle.pas_profile.specs.declared.profile.Profile.{Profile}
 use Rattle.pas_steps.specs.Views.{View, known_deed}
 use Rattle.pas_segregated.specs.declared.slots.Slots.{Slots}
-use Rattle.pas_cache.specs.Locals.{covers, keeps_right, any_covers, any_keeps, is_for, local_for, others_than, count_for, HasOneEach, IsLocal}
+use Rattle.pas_cache.specs.Locals.{covers, keeps_right, any_covers, any_keeps, is_for, local_for, others_than, count_for, IsLocal}
 
 -- ---- one fewer
 -- the list has the slots and the others
@@ -116,9 +114,9 @@ elsewhere f v slots [] here all none = tt
 elsewhere f v slots (first ∷ rest) here all none = elim (cases_Bool (is_for slots.heap slots.class first)) [
   | inl this_one ↦ let more : suc (count_for slots.heap slots.class rest) ≡ 0 = ap (λ t. if t then suc (count_for slots.heap slots.class rest) else count_for slots.heap slots.class rest) (sym this_one) ∙ none in absurd (omega (arith, more))
   | inr another ↦ (
-      other_page f v slots first here all.0 another,
-      elsewhere f v slots rest here all.1 (ap (λ t. if t then suc (count_for slots.heap slots.class rest) else count_for slots.heap slots.class rest) (sym another) ∙ none),
-    )
+    other_page f v slots first here all.0 another,
+    elsewhere f v slots rest here all.1 (ap (λ t. if t then suc (count_for slots.heap slots.class rest) else count_for slots.heap slots.class rest) (sym another) ∙ none),
+  )
 ]
 
 covers_page : (s : Slots) (g : ℕ) → covers s g ≡ true → s.page ≡ g / 256

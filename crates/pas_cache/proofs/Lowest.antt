@@ -1,8 +1,7 @@
 -- The lowest slot is given.
-use Rattle.std.proofs.Common.{◌≡◌, ◌≢◌, ℕ, ◌+◌, ◌*◌, ◌/◌, ◌%◌, ◌^◌, ◌<◌, ◌≤◌, ◌==◌, nat_le, nat_lt, Bool, true, false, not, ◌&&◌, if◌then◌else◌, List, [], ◌∷◌, ◌++◌, length, Some, None, refl, ap, sym, ◌∙◌, subst, arith}
+use Rattle.std.proofs.Common.{◌≡◌, ℕ, ◌+◌, ◌*◌, ◌/◌, ◌%◌, ◌^◌, ◌<◌, ◌≤◌, ◌==◌, true, ◌&&◌, if◌then◌else◌, [], ◌∷◌, length, Some, refl, ap, sym, ◌∙◌, subst, arith}
 use Rattle.std.proofs.lemmas.Bool.{eq-eqb, and_from}
 use Rattle.pas_profile.specs.Classes.{IsClass, class_size, class_grains, IsSlotStart}
-use Rattle.pas_profile.specs.Directories.{deed_word_of}
 use Rattle.pas_profile.specs.Lives.{turn_of}
 use Rattle.pas_profile.specs.declared.profile.Profile.{Profile}
 use Rattle.pas_profile.specs.declared.name.Block.{Block}
@@ -11,21 +10,20 @@ use Rattle.pas_profile.proofs.ClassFacts.{class_size-grains, class_size_whole, c
 use Rattle.pas_bits.specs.Masks.{is_set, IsLowestSet}
 use Rattle.pas_bits.proofs.Runs.{run_of, to_run}
 use Rattle.pas_machine.specs.Runs.{in_run, grain_of, length_of}
-use Rattle.pas_steps.specs.Views.{View, holds, holds_on, known_deed, knows_backed, known_life, is_unstamped, given_count}
+use Rattle.pas_steps.specs.Views.{View, holds, holds_on, knows_backed, known_life, given_count}
 use Rattle.pas_steps.specs.Events.{events_of}
 use Rattle.pas_steps.specs.Allowed.{IsBlockOf, KnowsBearing, MayGiveNow}
-use Rattle.pas_steps.specs.Agreement.{Agreed}
 use Rattle.pas_steps.specs.Lists.{Whole}
 use Rattle.pas_steps.specs.Desks.{Standing, made, Makes, CanMake, CanCall, Adds}
 use Rattle.pas_steps.specs.declared.step.Step.TheVariants.{Look, Give}
 use Rattle.pas_steps.proofs.Adding.{adds_none, adds_step, can_step, room_left}
 use Rattle.pas_steps.proofs.Frames.{given_le}
 use Rattle.pas_search.proofs.Backed.{held_where_backed}
-use Rattle.pas_segregated.specs.Stops.{directory_of, in_slots}
+use Rattle.pas_segregated.specs.Stops.{directory_of}
 use Rattle.pas_segregated.specs.declared.slots.Slots.{Slots}
 use Rattle.pas_segregated.proofs.Starts.{start_at}
-use Rattle.pas_cache.specs.Locals.{covers, IsLocal}
-use Rattle.pas_cache.specs.Changes.{IsWithoutSlot, GivesSlot}
+use Rattle.pas_cache.specs.Locals.{covers}
+use Rattle.pas_cache.specs.Changes.{IsWithoutSlot}
 use Rattle.pas_cache.specs.Pieces.{MayGiveSlot, GivesLowest}
 
 -- the block in the slot that begins at this grain of the page, with the turn that a life word shows
@@ -168,8 +166,15 @@ gives_lowest {σ} {σ1} {σ2} spare slots slots' start word answer block is lowe
   adds = adds_step {step = Give block} (look_steps slots start word look) give (λ v l stood met.
       subst (MayGiveNow σ.seat.profile (made (Look (Word.Life slots.page start)) word ∷ v)) (sym is) (may_give σ.seat.profile slots start word lowest v met (few_given σ spare v l stood spares limit)));
   gives = record {
-    start = start; lowest = lowest; rest = rest; word = word; answer = answer;
-    address = ap (λ b. b.name.address.0) is; turn = ap (λ b. b.name.turn) is; room = ap (λ b. b.room) is; heap = ap (λ b. b.heap) is;
+    start = start;
+    lowest = lowest;
+    rest = rest;
+    word = word;
+    answer = answer;
+    address = ap (λ b. b.name.address.0) is;
+    turn = ap (λ b. b.name.turn) is;
+    room = ap (λ b. b.room) is;
+    heap = ap (λ b. b.heap) is;
     steps_are = refl;
   };
   turn = λ v met agreed. subst (λ (b : Block). b.name.turn < 2 ^ 37) (sym is) agreed.1.0.turn;

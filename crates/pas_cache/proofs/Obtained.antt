@@ -1,5 +1,5 @@
 -- Slots are obtained: cached ones, or those of a refill.
-use Rattle.std.proofs.Common.{◌≡◌, ℕ, suc, ◌+◌, ◌<◌, ◌≤◌, ◌==◌, Bool, true, false, if◌then◌else◌, List, [], ◌∷◌, ◌++◌, length, Option, Some, None, Ok, Err, Result, inl, inr, refl, ap, sym, ◌∙◌, subst, arith, append_assoc, true≢false}
+use Rattle.std.proofs.Common.{◌≡◌, ℕ, ◌<◌, ◌≤◌, ◌==◌, Bool, true, false, if◌then◌else◌, List, [], ◌∷◌, ◌++◌, length, Some, None, Ok, Err, Result, inl, inr, refl, ap, sym, ◌∙◌, subst, arith, append_assoc, true≢false}
 use Rattle.std.specs.Prelude.{MatchResult}
 use Rattle.std.proofs.Common.{append-nil}
 use Rattle.std.proofs.lemmas.Bool.{cases_Bool, and_parts, eqb-true}
@@ -10,10 +10,9 @@ use Rattle.pas_profile.specs.declared.event.NoRoom.{NoRoom}
 use Rattle.pas_bits.specs.declared.mask.Mask4.{Mask4}
 use Rattle.pas_bits.specs.Masks.{is_set}
 use Rattle.pas_steps.specs.Views.{View}
-use Rattle.pas_steps.specs.Events.{events_by}
 use Rattle.pas_steps.specs.Agreement.{Agreed}
 use Rattle.pas_steps.specs.Lists.{Whole}
-use Rattle.pas_steps.specs.Desks.{Standing, Seat, CanCall, Adds, triples}
+use Rattle.pas_steps.specs.Desks.{Standing, Seat, triples}
 use Rattle.pas_steps.specs.declared.step.Made.{Made}
 use Rattle.pas_steps.proofs.Adding.{adds_none, adds_call, triples_append, agreed_first, agreed_later}
 use Rattle.pas_search.specs.Searches.{MaySearch}
@@ -27,10 +26,9 @@ use Rattle.pas_segregated.specs.Returns.{BackSteps}
 use Rattle.pas_segregated.specs.Stops.{class_directory, directory_of, LeavesWhere, StopSteps, Stops}
 use Rattle.pas_segregated.specs.declared.slots.Slots.{Slots}
 use Rattle.pas_segregated.proofs.Starts.{start_below}
-use Rattle.pas_cache.specs.Knowledge.{unknown_pages}
-use Rattle.pas_cache.specs.Locals.{is_for, local_for, others_than, HasOneEach, IsLocal, RestsWith}
+use Rattle.pas_cache.specs.Locals.{is_for, local_for, others_than, HasOneEach, RestsWith}
 use Rattle.pas_cache.specs.Changes.{LeavesSpent, IsTakenOut}
-use Rattle.pas_cache.specs.Serves.{IsRefill, HasNoneCached, IsTrueRefusal, IsToldBy}
+use Rattle.pas_cache.specs.Serves.{IsRefill, HasNoneCached, IsToldBy}
 use Rattle.pas_cache.specs.Pieces.{Releases, RestsWithFound, FetchesSlots, IsFoundFor, Obtains}
 use Rattle.pas_cache.proofs.Locals.{IsWithout, without_last, without_found, none_left}
 use Rattle.pas_cache.proofs.Finding.{none_there}
@@ -150,18 +148,27 @@ obtains_anew {σ} {σ1} {σ2} heap class tells locals kept locals' answer is non
     let quiet = quiet_append ys xs two.quiet one.quiet in
     let few : (n : ℕ) (v : View) → RestsWith f locals v → Agreed f v ((zs ++ ys) ++ xs) → FewAt f n ((zs ++ ys) ++ xs) v
     = λ n v h agreed.
-        let ok : Agreed f v (zs ++ (ys ++ xs)) = subst (Agreed f v) (append_assoc zs ys xs) agreed in
-        let before : Agreed f v (ys ++ xs) = agreed_later f v zs (ys ++ xs) ok in
-        let here = ready (xs ++ v) (one.rest v h (agreed_later f v ys xs before)) (agreed_first f v ys xs before) in
-        let may : MaySearch d ((ys ++ xs) ++ v) = subst (MaySearch d) (sym (append_assoc ys xs v)) (may_search f (ys ++ (xs ++ v)) heap class locals' is.kind two.none here) in
-        subst (λ s. FewAt f n s v) (sym (append_assoc zs ys xs)) (refill_few f heap class zs (ys ++ xs) two.found refill quiet n v may ok) in
+    let ok : Agreed f v (zs ++ (ys ++ xs)) = subst (Agreed f v) (append_assoc zs ys xs) agreed in
+    let before : Agreed f v (ys ++ xs) = agreed_later f v zs (ys ++ xs) ok in
+    let here = ready (xs ++ v) (one.rest v h (agreed_later f v ys xs before)) (agreed_first f v ys xs before) in
+    let may : MaySearch d ((ys ++ xs) ++ v) = subst (MaySearch d) (sym (append_assoc ys xs v)) (may_search f (ys ++ (xs ++ v)) heap class locals' is.kind two.none here) in
+    subst (λ s. FewAt f n s v) (sym (append_assoc zs ys xs)) (refill_few f heap class zs (ys ++ xs) two.found refill quiet n v may ok) in
     record {
       steps = (zs ++ ys) ++ xs;
       adds = adds_call {C = λ v l. RestsWith f locals v} {D = λ v l. RestsWith σ1.seat.profile kept v} one.adds two.adds (rests_here locals kept one);
       how = inr (record {
-        spent = xs; kept = kept; taken = one.change; stopped = ys; shortened = two.shortened;
-        kinds = releasing_append ys xs two.kinds one.kinds; quiet = quiet;
-        searched = zs; found = two.found; answer_is = two.answer_is; refill = refill; steps_are = append_assoc zs ys xs;
+        spent = xs;
+        kept = kept;
+        taken = one.change;
+        stopped = ys;
+        shortened = two.shortened;
+        kinds = releasing_append ys xs two.kinds one.kinds;
+        quiet = quiet;
+        searched = zs;
+        found = two.found;
+        answer_is = two.answer_is;
+        refill = refill;
+        steps_are = append_assoc zs ys xs;
       });
       found_for = subst (λ a. MatchResult a (IsFoundFor heap class) (λ room. Unit {0})) (sym two.answer_is) (searched_for f heap class zs two.found refill);
       few = two.few;

@@ -1,40 +1,22 @@
 -- An actor at rest with local allocators, when one goes, gives a slot or comes.
-use Rattle.std.proofs.Common.{◌≡◌, ◌≢◌, ℕ, zero, suc, ◌+◌, ◌*◌, ◌/◌, ◌%◌, ◌<◌, ◌≤◌, ◌==◌, Bool, true, false, not, ◌&&◌, ◌||◌, if◌then◌else◌, List, [], ◌∷◌, ◌++◌, Some, None, inl, inr, refl, ap, sym, ◌∙◌, subst, arith, true≢false}
-use Rattle.std.proofs.lemmas.Bool.{eq-eqb, eqb-true, and_parts, and_from, cases_Bool, cases_eq, ne_eqb, false_from_ne_true}
+use Rattle.std.proofs.Common.{◌≡◌, ◌≢◌, ℕ, zero, suc, ◌+◌, ◌*◌, ◌/◌, ◌%◌, ◌<◌, ◌≤◌, ◌==◌, Bool, true, false, not, ◌&&◌, ◌||◌, if◌then◌else◌, List, ◌∷◌, ◌++◌, inl, inr, refl, ap, sym, ◌∙◌, subst, arith}
+use Rattle.std.proofs.lemmas.Bool.{eq-eqb, and_from, cases_eq}
 use Rattle.std.specs.List.{AllByRecursion}
-use Rattle.pas_profile.specs.Classes.{IsClass, class_grains, IsSlotStart}
-use Rattle.pas_profile.specs.Profiles.{IsPage, IsDirectoryOf}
+use Rattle.pas_profile.specs.Classes.{class_grains, IsSlotStart}
 use Rattle.pas_profile.specs.Directories.{deed_word_of}
 use Rattle.pas_profile.specs.declared.profile.Profile.{Profile}
-use Rattle.pas_profile.specs.declared.name.Block.{Block}
-use Rattle.pas_profile.specs.declared.word.Word.TheVariants as Word
 use Rattle.pas_profile.proofs.Codecs.{deed_word_of-positive}
-use Rattle.pas_profile.proofs.ClassFacts.{slot_lt, class_grains_positive}
-use Rattle.pas_bits.specs.declared.mask.Mask4.{Mask4}
-use Rattle.pas_bits.specs.Masks.{is_set}
-use Rattle.pas_machine.specs.Runs.{in_run, grain_of, length_of}
-use Rattle.pas_steps.specs.Views.{View, Gives, Stays, any_below, holds, holds_on, has_right, known_deed, knows_backed, held_after}
+use Rattle.pas_profile.proofs.ClassFacts.{class_grains_positive}
+use Rattle.pas_steps.specs.Views.{View, any_below, holds, holds_on, known_deed}
 use Rattle.pas_steps.specs.Agreement.{Agreed}
-use Rattle.pas_steps.specs.Desks.{Standing, made}
-use Rattle.pas_steps.specs.declared.step.Made.{Made}
-use Rattle.pas_steps.specs.declared.step.Step.TheVariants.{Look, Give}
-use Rattle.pas_steps.proofs.Kept.{deed_stays}
-use Rattle.pas_rights.specs.Rights.{IsClear}
-use Rattle.pas_scan.specs.Evidence.{IsOf}
-use Rattle.pas_search.specs.Searches.{MaySearch, IsServed}
-use Rattle.pas_search.specs.declared.serving.Served.{Served}
-use Rattle.pas_search.proofs.Backed.{held_where_backed}
-use Rattle.pas_segregated.specs.Masks.{AreStarts, IsSome, start_of}
-use Rattle.pas_segregated.specs.Takes.{exclusive}
-use Rattle.pas_segregated.specs.Refills.{slots_found}
-use Rattle.pas_segregated.specs.Stops.{class_directory, directory_of, in_slots, MayStop, Stops}
+use Rattle.pas_steps.specs.Desks.{Standing}
+use Rattle.pas_segregated.specs.Masks.{IsSome}
+use Rattle.pas_segregated.specs.Stops.{directory_of, MayStop, Stops}
 use Rattle.pas_segregated.specs.declared.slots.Slots.{Slots}
-use Rattle.pas_segregated.proofs.Starts.{start_at, start_below}
-use Rattle.pas_cache.specs.Locals.{covers, keeps_right, any_covers, any_keeps, is_for, local_for, count_for, HasOneEach, IsLocal, RestsWith}
-use Rattle.pas_cache.specs.Changes.{IsWithoutSlot, GivesSlot}
+use Rattle.pas_cache.specs.Locals.{covers, keeps_right, any_covers, any_keeps, is_for, count_for, HasOneEach, IsLocal, RestsWith}
 use Rattle.pas_cache.specs.Pieces.{MayGiveSlot}
-use Rattle.pas_cache.proofs.Locals.{IsWithout, without_last, none_counted, AreElsewhere, elsewhere, grains_elsewhere, rights_elsewhere, map_locals}
-use Rattle.pas_cache.proofs.Lowest.{first_grain, grain_is, InSlot, in_slot, slot_covers, block_of}
+use Rattle.pas_cache.proofs.Locals.{IsWithout, AreElsewhere, elsewhere, grains_elsewhere, rights_elsewhere, map_locals}
+use Rattle.pas_cache.proofs.Lowest.{first_grain, slot_covers}
 
 -- ---- a page of which a grain is held
 or_first : (a b : Bool) → a ≡ true → (a || b) ≡ true
@@ -140,7 +122,9 @@ module _ (f : Profile) (locals : List Slots) (slots : Slots) (rest : List Slots)
       rights = λ p. stops.rights v ok p ∙ ap (λ t. not (keeps_right slots p) && t) (h.rights p ∙ w.rights p) ∙ less (keeps_right slots p) (any_keeps rest p) (rights_elsewhere slots rest p away);
       clear = stops.clear v may_stop ok;
       known = map_locals (IsLocal f v) (IsLocal f (stops.steps ++ v)) rest (λ t within at. record {
-        page = at.page; directory = at.directory; starts = at.starts;
+        page = at.page;
+        directory = at.directory;
+        starts = at.starts;
         deed = stops.deeds v t.page ok (known_some t.page t v at.deed) ∙ at.deed;
         backed = λ some. stops.backed v t.page ok (at.backed some) (held_of f v (stops.steps ++ v) t rest at some grains_left within);
       }) others;

@@ -1,5 +1,5 @@
 -- What a cache contains, and when its actor is at rest with it.
-use Rattle.std.specs.Prelude.{ℕ, ◌≤◌, List, [], length, All}
+use Rattle.std.specs.Prelude.{ℕ, ◌≤◌, List, length, All}
 use Rattle.pas_profile.specs.declared.name.Name.{Name}
 use Rattle.pas_profile.specs.declared.profile.Profile.{Profile}
 use Rattle.pas_steps.specs.Views.{View}

@@ -1,5 +1,5 @@
 -- How the content of a cache changes, over the steps of a call, the newest first.
-use Rattle.std.specs.Prelude.{ℕ, zero, suc, ◌+◌, ◌*◌, ◌%◌, ◌≡◌, ◌≢◌, ◌==◌, nat_le, Bool, true, false, not, ◌&&◌, List, [], ◌∷◌, ◌++◌, length, map, reverse, Option, None, Some}
+use Rattle.std.specs.Prelude.{ℕ, ◌+◌, ◌*◌, ◌≡◌, ◌==◌, nat_le, Bool, true, false, not, ◌&&◌, List, [], ◌∷◌, ◌++◌, length, map, reverse, Option, None, Some}
 use Rattle.std.specs.List.{flat_map}
 use Rattle.pas_profile.specs.Classes.{class_size}
 use Rattle.pas_profile.specs.Lives.{turn_of}
@@ -15,7 +15,7 @@ use Rattle.pas_steps.specs.declared.step.Made.{Made}
 use Rattle.pas_steps.specs.declared.step.Step.TheVariants.{Look, Give}
 use Rattle.pas_free_log.specs.Stamps.{stamps_by}
 use Rattle.pas_free_log.specs.Flushes.{Settled, EntriesSteps, shown_for, stamps_for}
-use Rattle.pas_segregated.specs.Masks.{IsSome, IsEmpty}
+use Rattle.pas_segregated.specs.Masks.{IsEmpty}
 use Rattle.pas_segregated.specs.Stops.{directory_of, LeavesWhere, StopSteps}
 use Rattle.pas_segregated.specs.declared.slots.Slots.{Slots}
 use Rattle.pas_cache.specs.Locals.{local_for, others_than}

@@ -1,5 +1,5 @@
 -- Names that are logged, and the flush of a full log.
-use Rattle.std.specs.Prelude.{ℕ, ◌/◌, ◌%◌, ◌≡◌, ◌≢◌, Bool, true, false, List, [], ◌++◌, length, nat_le, All}
+use Rattle.std.specs.Prelude.{ℕ, ◌/◌, ◌%◌, ◌≡◌, ◌≢◌, Bool, true, List, ◌++◌, All}
 use Rattle.pas_profile.specs.Profiles.{IsPage}
 use Rattle.pas_profile.specs.declared.event.FreeFault.{FreeFault}
 use Rattle.pas_profile.specs.declared.event.FreeFault.TheVariants.{Outside, Unaligned}

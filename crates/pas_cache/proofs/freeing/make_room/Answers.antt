@@ -1,5 +1,4 @@
-use Rattle.std.proofs.Common.{sym, subst, ◌∙◌, arith, ◌<◌, ◌≤◌, length}
-use Rattle.pas_free_log.specs.Logs.{names_in}
+use Rattle.std.proofs.Common.{arith}
 use Rattle.pas_cache.proofs.Keeping.{empties_where, empties_nothing}
 use Rattle.pas_cache.proofs.freeing.make_room.Goals as goal
 

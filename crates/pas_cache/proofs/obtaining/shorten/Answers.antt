@@ -1,8 +1,4 @@
-use Rattle.std.proofs.Common.{◌≡◌, ◌∷◌, [], ◌<◌, ◌≤◌, ℕ, length, refl, sym, ◌∙◌, arith, true, false}
-use Rattle.std.proofs.lemmas.Bool.{eqb-true, eqb-false}
-use Rattle.pas_steps.proofs.Adding.{adds_none}
-use Rattle.pas_cache.specs.Changes.{IsShortened}
-use Rattle.pas_cache.proofs.Resting.{may_stop}
+use Rattle.std.proofs.Common.{sym, ◌∙◌}
 use Rattle.pas_cache.proofs.Going.{local_of, may_call, releases_by, releases_none, spare_kept, full_removed, shortens_full, shortens_none, without_removed}
 use Rattle.pas_cache.proofs.obtaining.shorten.Goals as goal
 

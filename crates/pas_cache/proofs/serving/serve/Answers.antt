@@ -1,4 +1,3 @@
-use Rattle.std.proofs.Common.{subst, sym, ◌∙◌}
 use Rattle.pas_cache.proofs.Coming.{obtain_rests}
 use Rattle.pas_cache.proofs.Answered.{fewer_room, room_to_give, give_call, serves_given, serves_none}
 use Rattle.pas_cache.proofs.serving.serve.Goals as goal

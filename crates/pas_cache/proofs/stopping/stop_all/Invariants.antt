@@ -1,5 +1,4 @@
 use Rattle.std.proofs.Common.{◌≡◌, ◌++◌, List, length}
-use Rattle.pas_steps.specs.Desks.{Adds}
 use Rattle.pas_segregated.specs.declared.slots.Slots.{Slots}
 use Rattle.pas_cache.specs.Changes.{StopsAll}
 use Rattle.pas_cache.specs.Pieces.{Releases}

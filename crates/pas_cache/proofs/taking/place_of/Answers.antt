@@ -1,4 +1,4 @@
-use Rattle.std.proofs.Common.{◌≡◌, ◌+◌, suc, None, take, ap, ◌∙◌, sym, subst, arith}
+use Rattle.std.proofs.Common.{◌≡◌, ◌+◌, suc, None, take, ◌∙◌, sym, subst, arith}
 use Rattle.pas_cache.specs.Locals.{local_for}
 use Rattle.pas_cache.proofs.Finding.{none_more, is_place}
 use Rattle.pas_cache.proofs.taking.place_of.Goals as goal

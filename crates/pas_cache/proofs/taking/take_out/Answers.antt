@@ -1,4 +1,4 @@
-use Rattle.std.proofs.Common.{◌≡◌, ◌≤◌, length, sym, ap, ◌∙◌, Some, None, subst, refl}
+use Rattle.std.proofs.Common.{◌≡◌, ◌≤◌, length, None, subst}
 use Rattle.pas_cache.specs.Locals.{local_for}
 use Rattle.pas_cache.specs.Places.{IsPlaceOf}
 use Rattle.pas_cache.proofs.Finding.{taken_there, left_there, none_there}
