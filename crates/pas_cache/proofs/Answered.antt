@@ -18,7 +18,6 @@ use Rattle.pas_profile.specs.declared.event.Event.{Event}
 use Rattle.pas_profile.specs.declared.event.NoRoom.{NoRoom}
 use Rattle.pas_profile.specs.declared.name.Block.{Block}
 use Rattle.pas_profile.proofs.Codecs.{deed_word_of-positive}
-use Rattle.pas_bits.specs.declared.mask.Mask4.{Mask4}
 use Rattle.pas_machine.specs.Runs.{address_of}
 use Rattle.pas_steps.specs.Views.{View, known_deed}
 use Rattle.pas_steps.specs.Events.{events_of, events_by}
@@ -29,16 +28,13 @@ use Rattle.pas_steps.specs.declared.step.Made.{Made}
 use Rattle.pas_steps.proofs.Adding.{adds_under, adds_call, can_call, room_left, agreed_first, agreed_later}
 use Rattle.pas_steps.proofs.Frames.{events_append, events_split}
 use Rattle.pas_steps.proofs.Kept.{deed_stays}
-use Rattle.pas_search.specs.Kinds.{AreQuiet, EventsAt}
-use Rattle.pas_search.specs.declared.serving.Served.{Served}
 use Rattle.pas_search.proofs.StepKinds.{events_quiet, quiet_events, events_at_append, quiet_append}
-use Rattle.pas_segregated.specs.Refills.{slots_found, answer_of}
 use Rattle.pas_segregated.specs.Stops.{class_directory, directory_of}
 use Rattle.pas_segregated.specs.declared.slots.Slots.{Slots}
 use Rattle.pas_cache.specs.Knowledge.{unknown_pages}
 use Rattle.pas_cache.specs.Locals.{IsFormed, IsLocal, RestsWith}
 use Rattle.pas_cache.specs.Changes.{GivesSlot}
-use Rattle.pas_cache.specs.Serves.{IsClassRoute, class_of, IsRefill, IsAnswered, ServesLocals, AreAllocating, IsPreparing, IsInSlot, IsBlockFor, IsSilent}
+use Rattle.pas_cache.specs.Serves.{IsClassRoute, class_of, ServesLocals, AreAllocating, IsPreparing, IsInSlot, IsBlockFor, IsSilent}
 use Rattle.pas_cache.specs.Pieces.{MayGiveSlot, GivesLowest, MayObtain, FindsCached, FetchesAnew, Obtains, ServesFrom}
 use Rattle.pas_cache.proofs.Locals.{without_last}
 use Rattle.pas_cache.proofs.Resting.{here, may_give_slot}
@@ -95,15 +91,6 @@ ok_same s t h = cc
 err_ok : {A : Type 0} (room : NoRoom) (s : Slots) → no_slots room ≡ found_slots s → A
 err_ok room s h = cc
 
-answered : (heap class : ℕ) (fewer locals : List Slots) (steps : List Made) (slots rest : Slots) (block : Block) (found : Result (Served Mask4) NoRoom) → found_slots slots ≡ answer_of heap class found → GivesSlot slots rest block steps → locals ≡ fewer ++ rest ∷ []
-    → IsAnswered heap class fewer locals steps found (Ok block)
-answered heap class fewer locals steps slots rest block (Ok served) is gives list = (rest, subst (λ s. GivesSlot s rest block steps) (ok_same slots (slots_found heap class served) is) gives, list)
-answered heap class fewer locals steps slots rest block (Err room) is gives list = cc
-
-refused : (heap class : ℕ) (fewer : List Slots) (room : NoRoom) (found : Result (Served Mask4) NoRoom) → no_slots room ≡ answer_of heap class found → IsAnswered heap class fewer fewer [] found (Err room)
-refused heap class fewer room (Ok served) is = cc
-refused heap class fewer room (Err why) is = (cc, refl, refl)
-
 changed : {f : Profile} (heap class : ℕ) (locals fewer after : List Slots) (steps given : List Made) (slots rest : Slots) (block : Block) → FindsCached heap class locals fewer steps (Ok slots) ⊎ FetchesAnew f heap class locals fewer steps (Ok slots)
     → GivesSlot slots rest block given → after ≡ fewer ++ rest ∷ [] → ServesLocals f heap class locals after (given ++ steps) (Ok block)
 changed heap class locals fewer after steps given slots rest block (inl h) gives list = inl (
@@ -126,10 +113,10 @@ changed heap class locals fewer after steps given slots rest block (inr h) gives
   fewer = fewer;
   shortened = h.shortened;
   searched = h.searched;
-  found = h.found;
+  found = found_slots slots;
   refill = h.refill;
   given = given;
-  ends = answered heap class fewer after given slots rest block h.found h.answer_is gives list;
+  ends = (rest, gives, list);
   steps_are = ap (λ xs. given ++ xs) h.steps_are;
 })
 
@@ -143,10 +130,10 @@ changed_none heap class locals fewer steps room (inr h) = inr (record {
   fewer = fewer;
   shortened = h.shortened;
   searched = h.searched;
-  found = h.found;
+  found = no_slots room;
   refill = h.refill;
   given = [];
-  ends = refused heap class fewer room h.found h.answer_is;
+  ends = (refl, refl, refl);
   steps_are = h.steps_are;
 })
 
@@ -155,25 +142,16 @@ kinds_before : {f : Profile} (heap class : ℕ) (locals fewer : List Slots) (ste
 kinds_before heap class locals fewer steps answer (inl h) = subst AreAllocating (sym h.no_steps) tt
 kinds_before heap class locals fewer steps answer (inr h) = subst AreAllocating (sym h.steps_are) (allocating_append h.searched (h.stopped ++ h.spent) (searches_allocate h.searched h.refill.searches) (releases_allocate (h.stopped ++ h.spent) h.kinds))
 
-found_events : (f : Profile) (heap class : ℕ) (steps : List Made) (slots : Slots) (found : Result (Served Mask4) NoRoom) → found_slots slots ≡ answer_of heap class found → IsRefill heap class f steps found → (page : ℕ) × EventsAt (class_directory heap class) page steps
-found_events f heap class steps slots (Ok served) is refill = (served.page, refill.outcome.events)
-found_events f heap class steps slots (Err room) is refill = cc
-
 prepared_before : {f : Profile} (heap class : ℕ) (locals fewer : List Slots) (steps : List Made) (slots : Slots) → FindsCached heap class locals fewer steps (Ok slots) ⊎ FetchesAnew f heap class locals fewer steps (Ok slots) → (k : ℕ) (v : View) → AllByRecursion (IsPreparing (class_directory heap class)) (events_by k v steps)
 prepared_before heap class locals fewer steps slots (inl h) k v = subst (λ xs. AllByRecursion (IsPreparing (class_directory heap class)) (events_by k v xs)) (sym h.no_steps) tt
 prepared_before {f} heap class locals fewer steps slots (inr h) k v =
     let d : Directory = class_directory heap class in
-    let at = found_events f heap class h.searched slots h.found h.answer_is h.refill in
     subst (λ xs. AllByRecursion (IsPreparing d) (events_by k v xs)) (sym h.steps_are)
-    (prepared d at.0 (h.searched ++ (h.stopped ++ h.spent)) (events_at_append d at.0 h.searched (h.stopped ++ h.spent) at.1 (quiet_events d at.0 (h.stopped ++ h.spent) h.quiet)) k v)
-
-silent_found : (f : Profile) (heap class : ℕ) (steps before : List Made) (room : NoRoom) (found : Result (Served Mask4) NoRoom) → no_slots room ≡ answer_of heap class found → IsRefill heap class f steps found → AreQuiet before → IsSilent (steps ++ before)
-silent_found f heap class steps before room (Ok served) is refill quiet = cc
-silent_found f heap class steps before room (Err why) is refill quiet = λ k v. events_quiet k v (steps ++ before) (quiet_append steps before refill.outcome.quiet quiet)
+    (prepared d slots.page (h.searched ++ (h.stopped ++ h.spent)) (events_at_append d slots.page h.searched (h.stopped ++ h.spent) h.refill.outcome.events (quiet_events d slots.page (h.stopped ++ h.spent) h.quiet)) k v)
 
 silent_before : {f : Profile} (heap class : ℕ) (locals fewer : List Slots) (steps : List Made) (room : NoRoom) → FindsCached heap class locals fewer steps (Err room) ⊎ FetchesAnew f heap class locals fewer steps (Err room) → IsSilent steps
 silent_before heap class locals fewer steps room (inl h) = err_ok room h.from h.answer_is
-silent_before {f} heap class locals fewer steps room (inr h) = subst IsSilent (sym h.steps_are) (silent_found f heap class h.searched (h.stopped ++ h.spent) room h.found h.answer_is h.refill h.quiet)
+silent_before {f} heap class locals fewer steps room (inr h) = subst IsSilent (sym h.steps_are) (λ k v. events_quiet k v (h.searched ++ (h.stopped ++ h.spent)) (quiet_append h.searched (h.stopped ++ h.spent) h.refill.outcome.quiet h.quiet))
 
 -- ---- the give
 give_event : (slots rest : Slots) (block : Block) (steps : List Made) → GivesSlot slots rest block steps → (k : ℕ) (v : View) → events_by k v steps ≡ Event.Give k block ∷ []

@@ -3,9 +3,12 @@ use Rattle.std.proofs.Common.{◌≡◌, ℕ, suc, ◌+◌, ◌*◌, ◌<◌, �
 use Rattle.std.specs.Prelude.{MatchResult, IfOk}
 use Rattle.std.specs.List.{AllByRecursion}
 use Rattle.std.proofs.lemmas.Bool.{eq-eqb, eqb-true, and_parts, and_from, cases_Bool}
+use Rattle.pas_profile.specs.Directories.{deed_word_of}
+use Rattle.pas_steps.specs.Lists.{Whole}
 use Rattle.pas_profile.specs.Profiles.{IsDirectoryOf}
 use Rattle.pas_profile.specs.declared.profile.Profile.{Profile}
 use Rattle.pas_profile.specs.declared.directory.Directory.{Directory}
+use Rattle.pas_profile.specs.declared.directory.Kind.TheVariants as Kind
 use Rattle.pas_profile.specs.declared.event.NoRoom.{NoRoom}
 use Rattle.pas_bits.specs.declared.mask.Mask4.{Mask4}
 use Rattle.pas_steps.specs.Views.{View, has_right, known_deed}
@@ -18,14 +21,13 @@ use Rattle.pas_scan.specs.Evidence.{IsOf}
 use Rattle.pas_search.specs.Searches.{MaySearch, KnowsAllDeeds, HasRoom, SearchRoom, IsServed, IsRefused}
 use Rattle.pas_search.specs.Telling.{IsTold}
 use Rattle.pas_search.specs.declared.serving.Served.{Served}
-use Rattle.pas_segregated.specs.Masks.{AreStarts}
 use Rattle.pas_segregated.specs.Takes.{exclusive}
-use Rattle.pas_segregated.specs.Refills.{slots_found, answer_of, GivesSlots, Refills}
-use Rattle.pas_segregated.specs.Stops.{class_directory}
+use Rattle.pas_segregated.specs.Refills.{answer_of, GivesSlots, Refills}
+use Rattle.pas_segregated.specs.Stops.{class_directory, directory_of}
 use Rattle.pas_segregated.specs.declared.slots.Slots.{Slots}
 use Rattle.pas_cache.specs.Locals.{covers, keeps_right, any_keeps, is_for, local_for, count_for, IsLocal, RestsWith}
 use Rattle.pas_cache.specs.Changes.{StopsFirst, IsShortened}
-use Rattle.pas_cache.specs.Pieces.{Releases, MayObtain, RestsWithFound, FetchesSlots}
+use Rattle.pas_cache.specs.Pieces.{IsToldAfter, Releases, MayObtain, RestsWithFound, FetchesSlots}
 use Rattle.pas_cache.proofs.Locals.{IsWithout, without_last, none_counted, map_locals, either_false, keeps_page}
 use Rattle.pas_cache.proofs.Finding.{not_first}
 use Rattle.pas_cache.proofs.Resting.{known_some}
@@ -55,6 +57,12 @@ pub may_search : (f : Profile) (v : View) (heap class : ℕ) (locals : List Slot
 may_search f v heap class locals is none h = record { rights = λ p of. h.rights p ∙ no_right_in f v heap class locals is h.known none p of; clear = h.clear }
 
 -- ---- the slots that were found are one more local allocator
+same_class : (a b : ℕ) → Kind.Class a ≡ Kind.Class b → a ≡ b
+same_class a b h = cc
+
+pub of_pair : (slots : Slots) (heap class : ℕ) → directory_of slots ≡ class_directory heap class → (slots.heap ≡ heap) × (slots.class ≡ class)
+of_pair slots heap class is = (ap (λ d. d.heap) is, same_class slots.class class (ap (λ d. d.kind) is))
+
 kept_right : (t x : Bool) → (if t then true else x) ≡ ((true && t) || x)
 kept_right true x = refl
 kept_right false x = refl
@@ -77,24 +85,24 @@ module _ (f : Profile) (heap class : ℕ) (locals : List Slots) (is : IsDirector
   abbrev may : MaySearch (class_directory heap class) v
   may = may_search f v heap class locals is.kind none h
 
-  pub rests_refilled : (served : Served Mask4) → IsServed (exclusive class) f (class_directory heap class) steps served → AreStarts class served.found → RestsWith f (locals ++ slots_found heap class served ∷ []) (steps ++ v)
-  rests_refilled served s starts =
-      let slots : Slots = slots_found heap class served in
+  pub rests_refilled : (slots : Slots) → GivesSlots f (class_directory heap class) steps slots → RestsWith f (locals ++ slots ∷ []) (steps ++ v)
+  rests_refilled slots s =
+      let pair = of_pair slots heap class s.named in
       let w : IsWithout (locals ++ slots ∷ []) slots locals = without_last locals slots in
       record {
-        grains = λ g. s.keeps.grains v may agreed g ∙ (ap (λ t. covers slots g || t) (h.grains g) ∙ sym (w.grains g));
-        rights = λ p. s.keeps.rights v may agreed p ∙ (kept_right (served.page == p) (has_right v p) ∙ (ap (λ t. keeps_right slots p || t) (h.rights p) ∙ sym (w.rights p)));
-        clear = s.keeps.clear v may agreed;
+        grains = λ g. s.grains v may agreed g ∙ (ap (λ t. covers slots g || t) (h.grains g) ∙ sym (w.grains g));
+        rights = λ p. s.rights v may agreed p ∙ (kept_right (slots.page == p) (has_right v p) ∙ (ap (λ r. (r && (slots.page == p)) || has_right v p) (sym s.with_right) ∙ (ap (λ t. keeps_right slots p || t) (h.rights p) ∙ sym (w.rights p))));
+        clear = s.clear v may agreed;
         known = w.joins (IsLocal f (steps ++ v))
-            (record { page = s.page; directory = is; starts = starts; deed = (s.keeps.known v may agreed).1; backed = λ some. (s.keeps.known v may agreed).0 })
+            (record { page = s.page; directory = subst (IsDirectoryOf f) (sym s.named) is; starts = s.starts; deed = (s.known v may agreed).1 ∙ ap deed_word_of (sym s.named); backed = λ some. (s.known v may agreed).0 })
             (map_locals (IsLocal f v) (IsLocal f (steps ++ v)) locals (λ t within at. record {
               page = at.page;
               directory = at.directory;
               starts = at.starts;
               deed = deed_stays f steps v t.page agreed (known_some t.page t v at.deed) ∙ at.deed;
-              backed = λ some. s.keeps.backed v may agreed t.page (at.backed some);
+              backed = λ some. s.backed v may agreed t.page (at.backed some);
             }) h.known);
-        one_each = λ x y. let counts = w.count x y in let one = more_each heap class x y slots locals refl refl none (h.one_each x y) in omega (arith, counts, one);
+        one_each = λ x y. let counts = w.count x y in let one = more_each heap class x y slots locals pair.0 pair.1 none (h.one_each x y) in omega (arith, counts, one);
       }
 
   pub rests_refused : (room : NoRoom) → IsRefused (exclusive class) f (class_directory heap class) steps room → RestsWith f locals (steps ++ v)
@@ -156,15 +164,20 @@ search_call {σ} heap class locals is none can = record {
 }
 
 -- ---- the refill
-rests_found : (f : Profile) (heap class : ℕ) (locals : List Slots) → IsDirectoryOf f (class_directory heap class) → local_for heap class locals ≡ None → (steps : List Made) (v : View) → RestsWith f locals v → Agreed f v steps → (found : Result (Served Mask4) NoRoom)
-    → MatchResult found (IsServed (exclusive class) f (class_directory heap class) steps) (IsRefused (exclusive class) f (class_directory heap class) steps) → IfOk (answer_of heap class found) (λ slots. AreStarts slots.class slots.starts)
-    → RestsWithFound f locals (answer_of heap class found) (steps ++ v)
-rests_found f heap class locals is none steps v h agreed (Ok served) s starts = rests_refilled f heap class locals is none steps v h agreed served s starts
-rests_found f heap class locals is none steps v h agreed (Err room) s starts = rests_refused f heap class locals is none steps v h agreed room s
+rests_found : (f : Profile) (heap class : ℕ) (locals : List Slots) → IsDirectoryOf f (class_directory heap class) → local_for heap class locals ≡ None → (steps : List Made) (v : View) → RestsWith f locals v → Agreed f v steps → (answer : Result Slots NoRoom)
+    → MatchResult answer (GivesSlots f (class_directory heap class) steps) (IsRefused (exclusive class) f (class_directory heap class) steps) → RestsWithFound f locals answer (steps ++ v)
+rests_found f heap class locals is none steps v h agreed (Ok slots) s = rests_refilled f heap class locals is none steps v h agreed slots s
+rests_found f heap class locals is none steps v h agreed (Err room) s = rests_refused f heap class locals is none steps v h agreed room s
 
-found_starts : (f : Profile) (d : Directory) (steps : List Made) (heap class : ℕ) (found : Result (Served Mask4) NoRoom) → IfOk (answer_of heap class found) (GivesSlots f d steps) → IfOk (answer_of heap class found) (λ slots. AreStarts slots.class slots.starts)
-found_starts f d steps heap class (Ok served) h = h.starts
-found_starts f d steps heap class (Err room) h = tt
+-- what the refill says, by its answer
+refill_outcome : (f : Profile) (d : Directory) (heap class : ℕ) (steps : List Made) (found : Result (Served Mask4) NoRoom) → MatchResult found (IsServed (exclusive class) f d steps) (IsRefused (exclusive class) f d steps) → IfOk (answer_of heap class found) (GivesSlots f d steps)
+    → MatchResult (answer_of heap class found) (GivesSlots f d steps) (IsRefused (exclusive class) f d steps)
+refill_outcome f d heap class steps (Ok served) h gives = gives
+refill_outcome f d heap class steps (Err room) h gives = h
+
+refill_told : (f : Profile) (heap class : ℕ) (entry exit : Whole) (found : Result (Served Mask4) NoRoom) → IsTold (exclusive class) f (class_directory heap class) entry exit found → IsToldAfter f heap class entry exit (answer_of heap class found)
+refill_told f heap class entry exit (Ok served) told = tt
+refill_told f heap class entry exit (Err room) told = told
 
 pub fetches : {σ σ1 σ2 : Standing} (heap class : ℕ) (tells : Bool) (locals kept : List Slots) (answer : Result Slots NoRoom) → IsDirectoryOf σ.seat.profile (class_directory heap class) → local_for heap class locals ≡ None
     → Releases (IsShortened locals kept) locals kept σ σ1 → length kept < 32 → Refills heap class tells σ1 σ2 answer → FetchesSlots heap class tells locals kept σ σ2 answer
@@ -174,17 +187,17 @@ fetches {σ} {σ1} {σ2} heap class tells locals kept answer is none one few two
     let xs : List Made = one.steps in
     let ys : List Made = two.searches.steps in
     let left : local_for heap class kept ≡ None = none_shortened heap class locals kept xs one.change none in
-    let outcome : MatchResult two.found (IsServed (exclusive class) f d ys) (IsRefused (exclusive class) f d ys)
+    let searched : MatchResult two.found (IsServed (exclusive class) f d ys) (IsRefused (exclusive class) f d ys)
     = subst (λ (s : Seat). MatchResult two.found (IsServed (exclusive class) s.profile d ys) (IsRefused (exclusive class) s.profile d ys)) one.adds.seat_is two.searches.outcome in
-    let starts = found_starts σ1.seat.profile d ys heap class two.found (subst (λ a. IfOk a (GivesSlots σ1.seat.profile d ys)) two.answer_is two.gives) in
+    let gives : IfOk (answer_of heap class two.found) (GivesSlots f d ys) = subst (λ a. IfOk a (GivesSlots f d ys)) two.answer_is (subst (λ (s : Seat). IfOk answer (GivesSlots s.profile d ys)) one.adds.seat_is two.gives) in
+    let outcome : MatchResult answer (GivesSlots f d ys) (IsRefused (exclusive class) f d ys)
+    = subst (λ a. MatchResult a (GivesSlots f d ys) (IsRefused (exclusive class) f d ys)) (sym two.answer_is) (refill_outcome f d heap class ys two.found searched gives) in
     record {
       stopped = xs;
       shortened = one.change;
       kinds = one.kinds;
       quiet = one.quiet;
       searched = ys;
-      found = two.found;
-      answer_is = two.answer_is;
       refill = record { searches = two.searches.searches; outcome = outcome };
       adds = adds_call {C = λ v l. RestsWith f locals v} {D = λ v l. MaySearch d v} one.adds two.searches.adds
           (λ v l stood met. may_search f (xs ++ v) heap class kept is.kind left (one.rest v met (one.adds.agreed v l stood met)));
@@ -193,14 +206,12 @@ fetches {σ} {σ1} {σ2} heap class tells locals kept answer is none one few two
       ready = one.rest;
       rest = λ v h agreed.
           let before = one.rest v h (agreed_later f v ys xs agreed) in
-          subst (RestsWithFound f kept answer) (sym (append_assoc ys xs v))
-          (subst (λ a. RestsWithFound f kept a (ys ++ (xs ++ v))) (sym two.answer_is)
-          (rests_found f heap class kept is left ys (xs ++ v) before (agreed_first f v ys xs agreed) two.found outcome starts));
+          subst (RestsWithFound f kept answer) (sym (append_assoc ys xs v)) (rests_found f heap class kept is left ys (xs ++ v) before (agreed_first f v ys xs agreed) answer outcome);
       told = λ t v l stood met.
           let k : ℕ = σ.seat.actor in
           let ok = one.adds.agreed v l stood met in
           let may = may_search f (xs ++ v) heap class kept is.kind left (one.rest v met ok) in
-          subst (λ exit. IsTold (exclusive class) f d (triples k xs ++ l) exit two.found) (triples_append k ys xs l)
-          (subst (λ (s : Seat). IsTold (exclusive class) s.profile d (triples k xs ++ l) (triples s.actor ys ++ (triples k xs ++ l)) two.found) one.adds.seat_is
-          (two.searches.told t (xs ++ v) (triples k xs ++ l) (one.adds.added v l stood met) may));
+          let told = subst (λ (s : Seat). IsTold (exclusive class) s.profile d (triples k xs ++ l) (triples s.actor ys ++ (triples k xs ++ l)) two.found) one.adds.seat_is (two.searches.told t (xs ++ v) (triples k xs ++ l) (one.adds.added v l stood met) may) in
+          subst (IsToldAfter f heap class (triples k xs ++ l) (triples k (ys ++ xs) ++ l)) (sym two.answer_is)
+          (subst (λ exit. IsToldAfter f heap class (triples k xs ++ l) exit (answer_of heap class two.found)) (triples_append k ys xs l) (refill_told f heap class (triples k xs ++ l) (triples k ys ++ (triples k xs ++ l)) two.found told));
     }

@@ -20,7 +20,7 @@ use Rattle.pas_free_log.specs.Conditions.{IsNameOf}
 use Rattle.pas_free_log.specs.Flushes.{Flushes}
 use Rattle.pas_segregated.specs.declared.slots.Slots.{Slots}
 use Rattle.pas_cache.specs.Locals.{IsLocal, RestsWith}
-use Rattle.pas_cache.specs.Caches.{Cached, AtRest}
+use Rattle.pas_cache.specs.Caches.{Cached, HasNothing, AtRest}
 use Rattle.pas_cache.specs.Changes.{EmptiesLog, EmptiesFull, LogsName, StopsAll}
 use Rattle.pas_cache.specs.Names.{IsInRegion, IsFaultOf, KeepsAll, MayFlush, EmptiesWhere, LogsInto}
 use Rattle.pas_cache.specs.Pieces.{Releases}
@@ -68,6 +68,21 @@ clear_call can = record { view = can.view; whole = can.whole; stood = can.stood;
 
 pub locals_call : {σ : Standing} {c : Cached} → CanCall σ (λ v l. AtRest σ.seat.profile c v) → CanCall σ (λ v l. RestsWith σ.seat.profile c.locals v)
 locals_call can = record { view = can.view; whole = can.whole; stood = can.stood; met = can.met.locals }
+
+-- ---- an empty cache
+no_locals : (f : Profile) (v : View) → HasNothing v → RestsWith f [] v
+no_locals f v none = record { grains = none.grains; rights = none.rights; clear = none.clear; known = tt; one_each = λ heap class. omega arith }
+
+pub rests_empty : (f : Profile) (c : Cached) (v : View) → c.locals ≡ [] → c.log ≡ [] → HasNothing v → AtRest f c v
+rests_empty f c v locals log none = record {
+  locals = subst (λ xs. RestsWith f xs v) (sym locals) (no_locals f v none);
+  few = subst (λ xs. length xs ≤ 32) (sym locals) (omega arith);
+  names = All-same (IsNameOf f) c.log [] log (All-nil (IsNameOf f));
+  few_names = subst (λ xs. length xs ≤ 64) (sym log) (omega arith);
+}
+
+has_nothing : (f : Profile) (v : View) → RestsWith f [] v → HasNothing v
+has_nothing f v h = record { grains = h.grains; rights = h.rights; clear = h.clear }
 
 -- ---- begin
 pub begins : {σ σ' : Standing} (c c' : Cached) (epoch : ℕ) → c'.locals ≡ c.locals → c'.log ≡ c.log → c'.idle_since ≡ epoch → Makes σ σ' (Look Word.Epoch) epoch → Begins c c' σ σ'
@@ -119,29 +134,29 @@ flushed_call {σ} {σ1} c flush can =
     (λ v l stood met. subst (λ (s : Seat). RestsWith s.profile c.locals (flush.steps ++ v)) (sym flush.adds.seat_is)
     (rests_kept σ.seat.profile c.locals flush.steps (keeps_flush c.log flush) v met.1 (flush.adds.agreed v l stood met.0)))
 
-pub stops_cache : {σ σ1 σ2 : Standing} (c c' : Cached) → c'.locals ≡ [] → c'.log ≡ [] → c'.idle_since ≡ c.idle_since → Flushes c.log σ σ1 → Releases (StopsAll c.locals) c.locals [] σ1 σ2 → StopsCache c c' σ σ2
-stops_cache {σ} {σ1} {σ2} c c' locals log idle flush stops =
-    let f : Profile = σ.seat.profile in
-    let is : c' ≡ record { locals = []; log = []; idle_since = c.idle_since } = same_cached (record { locals = []; log = []; idle_since = c.idle_since }) c' [] c.idle_since locals log idle in
-    let kept = λ (v : View) (h : RestsWith f c.locals v) (agreed : Agreed f v flush.steps). rests_kept f c.locals flush.steps (keeps_flush c.log flush) v h agreed in
-    record {
-      flushed = flush.steps;
-      stopped = stops.steps;
-      adds = adds_call {C = λ v l. AtRest f c v} {D = λ v l. RestsWith σ1.seat.profile c.locals v} (adds_under flush.adds (λ v l stood met. met.locals.clear)) stops.adds
-          (λ v l stood met. subst (λ (s : Seat). RestsWith s.profile c.locals (flush.steps ++ v)) (sym flush.adds.seat_is) (kept v met.locals (flush.adds.agreed v l stood met.locals.clear)));
-      empties = empties c.log flush;
-      stops = stops.change;
-      silent = λ k v. events_quiet k v stops.steps stops.quiet;
-      cache = is;
-      rest = λ v h agreed. subst (λ x. AtRest f x ((stops.steps ++ flush.steps) ++ v)) (sym is) (record {
-        locals = subst (RestsWith f []) (sym (append_assoc stops.steps flush.steps v))
-            (subst (λ (s : Seat). RestsWith s.profile c.locals (flush.steps ++ v) → Agreed s.profile (flush.steps ++ v) stops.steps → RestsWith s.profile [] (stops.steps ++ (flush.steps ++ v))) flush.adds.seat_is (stops.rest (flush.steps ++ v))
-            (kept v h.locals (agreed_later f v stops.steps flush.steps agreed)) (agreed_first f v stops.steps flush.steps agreed));
-        few = omega arith;
-        names = All-nil (IsNameOf f);
-        few_names = few_none;
-      });
-    }
+module _ {σ σ1 σ2 : Standing} (c : Cached) (flush : Flushes c.log σ σ1) (stops : Releases (StopsAll c.locals) c.locals [] σ1 σ2) where
+  kept : (v : View) → RestsWith σ.seat.profile c.locals v → Agreed σ.seat.profile v flush.steps → RestsWith σ.seat.profile c.locals (flush.steps ++ v)
+  kept v h agreed = rests_kept σ.seat.profile c.locals flush.steps (keeps_flush c.log flush) v h agreed
+
+  stopped_rest : (v : View) → RestsWith σ.seat.profile c.locals v → Agreed σ.seat.profile v (stops.steps ++ flush.steps) → RestsWith σ.seat.profile [] ((stops.steps ++ flush.steps) ++ v)
+  stopped_rest v h agreed =
+      subst (RestsWith σ.seat.profile []) (sym (append_assoc stops.steps flush.steps v))
+      (subst (λ (s : Seat). RestsWith s.profile c.locals (flush.steps ++ v) → Agreed s.profile (flush.steps ++ v) stops.steps → RestsWith s.profile [] (stops.steps ++ (flush.steps ++ v))) flush.adds.seat_is (stops.rest (flush.steps ++ v))
+      (kept v h (agreed_later σ.seat.profile v stops.steps flush.steps agreed)) (agreed_first σ.seat.profile v stops.steps flush.steps agreed))
+
+  pub stops_cache : (c' : Cached) → c'.locals ≡ [] → c'.log ≡ [] → c'.idle_since ≡ c.idle_since → StopsCache c c' σ σ2
+  stops_cache c' locals log idle = record {
+    flushed = flush.steps;
+    stopped = stops.steps;
+    adds = adds_call {C = λ v l. AtRest σ.seat.profile c v} {D = λ v l. RestsWith σ1.seat.profile c.locals v} (adds_under flush.adds (λ v l stood met. met.locals.clear)) stops.adds
+        (λ v l stood met. subst (λ (s : Seat). RestsWith s.profile c.locals (flush.steps ++ v)) (sym flush.adds.seat_is) (kept v met.locals (flush.adds.agreed v l stood met.locals.clear)));
+    empties = empties c.log flush;
+    stops = stops.change;
+    silent = λ k v. events_quiet k v stops.steps stops.quiet;
+    cache = same_cached (record { locals = []; log = []; idle_since = c.idle_since }) c' [] c.idle_since locals log idle;
+    rest = λ v h agreed. rests_empty σ.seat.profile c' ((stops.steps ++ flush.steps) ++ v) locals log (has_nothing σ.seat.profile ((stops.steps ++ flush.steps) ++ v) (stopped_rest v h.locals agreed));
+    nothing = λ v h agreed. has_nothing σ.seat.profile ((stops.steps ++ flush.steps) ++ v) (stopped_rest v h.locals agreed);
+  }
 
 -- ---- names
 pub empties_where : {σ σ' : Standing} (log log' : List Name) → 64 ≤ length log → log' ≡ [] → Flushes log σ σ' → EmptiesWhere (nat_le 64 (length log)) log log' σ σ'

@@ -9,7 +9,6 @@ use Rattle.pas_profile.specs.declared.directory.Directory.{Directory}
 use Rattle.pas_profile.specs.declared.event.Event.{Event}
 use Rattle.pas_profile.specs.declared.event.NoRoom.{NoRoom}
 use Rattle.pas_profile.proofs.Codecs.{deed_word_of-positive}
-use Rattle.pas_bits.specs.declared.mask.Mask4.{Mask4}
 use Rattle.pas_steps.specs.Views.{View, known_deed, epoch_of}
 use Rattle.pas_steps.specs.Events.{event_of, with_event, events_by}
 use Rattle.pas_steps.specs.Agreement.{Agrees, Agreed}
@@ -23,8 +22,9 @@ use Rattle.pas_steps.proofs.Kept.{deed_stays}
 use Rattle.pas_steps.proofs.Past.{always_map, always_both}
 use Rattle.pas_search.specs.Kinds.{IsSearch, OnlySearches, AreQuiet, IsDeedOrBack, EventsAt}
 use Rattle.pas_search.specs.Serving.{Rule}
-use Rattle.pas_search.specs.Searches.{MaySearch, KnowsAllDeeds, HasRoom, DeedMadeHere, IsServed, IsRefused}
-use Rattle.pas_search.specs.declared.serving.Served.{Served}
+use Rattle.pas_search.specs.Searches.{MaySearch, KnowsAllDeeds, HasRoom, DeedMadeHere, IsRefused}
+use Rattle.pas_segregated.specs.Refills.{GivesSlots}
+use Rattle.pas_segregated.specs.declared.slots.Slots.{Slots}
 use Rattle.pas_search.proofs.StepKinds.{events_quiet}
 use Rattle.pas_segregated.specs.Takes.{exclusive}
 use Rattle.pas_segregated.specs.Stops.{class_directory}
@@ -119,8 +119,8 @@ pub record FewAt (f : Profile) (k : ℕ) (steps : List Made) (v : View) : Type 0
   pub makes : length (events_by k v steps) + unknown_pages f (steps ++ v) ≤ 1 + unknown_pages f v
   pub most : length (events_by k v steps) ≤ 2
 
-served_few : (f : Profile) (heap class : ℕ) (steps : List Made) (served : Served Mask4) → IsServed (exclusive class) f (class_directory heap class) steps served → (k : ℕ) (v : View) → MaySearch (class_directory heap class) v → Agreed f v steps → FewAt f k steps v
-served_few f heap class steps served s k v may agreed = elim s.choice [
+served_few : (f : Profile) (heap class : ℕ) (steps : List Made) (slots : Slots) → GivesSlots f (class_directory heap class) steps slots → (k : ℕ) (v : View) → MaySearch (class_directory heap class) v → Agreed f v steps → FewAt f k steps v
+served_few f heap class steps slots s k v may agreed = elim s.choice [
   | inl offered ↦
       let events = (s.few k v agreed).0 in
       let none = offered.no_deed in
@@ -129,8 +129,8 @@ served_few f heap class steps served s k v may agreed = elim s.choice [
   | inr deed ↦
       let events = (s.few k v agreed).0 in
       let one = deed.one_deed in
-      let was : known_deed v served.page ≡ 0 = zero_from (known_deed v served.page) (made_unknown (exclusive class) f (class_directory heap class) served.page steps v agreed deed.made_here) in
-      let fewer = unknown_less f served.page steps v agreed s.page was (λ z. deed_word_of-positive (class_directory heap class) (sym (s.keeps.known v may agreed).1 ∙ z)) in
+      let was : known_deed v slots.page ≡ 0 = zero_from (known_deed v slots.page) (made_unknown (exclusive slots.class) f (class_directory heap class) slots.page steps v agreed deed.made_here) in
+      let fewer = unknown_less f slots.page steps v agreed s.page was (λ z. deed_word_of-positive (class_directory heap class) (sym (s.known v may agreed).1 ∙ z)) in
       record { makes = omega (arith, events, one, fewer); most = omega (arith, events, one) }
 ]
 
@@ -140,13 +140,13 @@ silent_few f k steps v quiet agreed =
     let fewer = unknown_stays f steps v agreed in
     record { makes = omega (arith, none, fewer); most = omega (arith, none) }
 
-found_few : (f : Profile) (heap class : ℕ) (steps : List Made) (found : Result (Served Mask4) NoRoom) → MatchResult found (IsServed (exclusive class) f (class_directory heap class) steps) (IsRefused (exclusive class) f (class_directory heap class) steps)
+found_few : (f : Profile) (heap class : ℕ) (steps : List Made) (found : Result Slots NoRoom) → MatchResult found (GivesSlots f (class_directory heap class) steps) (IsRefused (exclusive class) f (class_directory heap class) steps)
     → (k : ℕ) (v : View) → MaySearch (class_directory heap class) v → Agreed f v steps → FewAt f k steps v
-found_few f heap class steps (Ok served) h k v may agreed = served_few f heap class steps served h k v may agreed
+found_few f heap class steps (Ok slots) h k v may agreed = served_few f heap class steps slots h k v may agreed
 found_few f heap class steps (Err room) h k v may agreed = silent_few f k steps v h.quiet agreed
 
 -- after steps without events
-pub refill_few : (f : Profile) (heap class : ℕ) (ys xs : List Made) (found : Result (Served Mask4) NoRoom) → IsRefill heap class f ys found → AreQuiet xs → (k : ℕ) (v : View) → MaySearch (class_directory heap class) (xs ++ v) → Agreed f v (ys ++ xs) → FewAt f k (ys ++ xs) v
+pub refill_few : (f : Profile) (heap class : ℕ) (ys xs : List Made) (found : Result Slots NoRoom) → IsRefill heap class f ys found → AreQuiet xs → (k : ℕ) (v : View) → MaySearch (class_directory heap class) (xs ++ v) → Agreed f v (ys ++ xs) → FewAt f k (ys ++ xs) v
 refill_few f heap class ys xs found refill quiet k v may agreed =
     let here = found_few f heap class ys found refill.outcome k (xs ++ v) may (agreed_first f v ys xs agreed) in
     let a = here.makes in

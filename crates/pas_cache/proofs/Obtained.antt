@@ -7,7 +7,6 @@ use Rattle.pas_profile.specs.Profiles.{IsDirectoryOf}
 use Rattle.pas_profile.specs.declared.profile.Profile.{Profile}
 use Rattle.pas_profile.specs.declared.directory.Directory.{Directory}
 use Rattle.pas_profile.specs.declared.event.NoRoom.{NoRoom}
-use Rattle.pas_bits.specs.declared.mask.Mask4.{Mask4}
 use Rattle.pas_bits.specs.Masks.{is_set}
 use Rattle.pas_steps.specs.Views.{View}
 use Rattle.pas_steps.specs.Agreement.{Agreed}
@@ -16,12 +15,10 @@ use Rattle.pas_steps.specs.Desks.{Standing, Seat, triples}
 use Rattle.pas_steps.specs.declared.step.Made.{Made}
 use Rattle.pas_steps.proofs.Adding.{adds_none, adds_call, triples_append, agreed_first, agreed_later}
 use Rattle.pas_search.specs.Searches.{MaySearch}
-use Rattle.pas_search.specs.Telling.{HasNoFit, IsTold}
-use Rattle.pas_search.specs.declared.serving.Served.{Served}
+use Rattle.pas_search.specs.Telling.{HasNoFit}
 use Rattle.pas_search.proofs.StepKinds.{quiet_append}
 use Rattle.pas_segregated.specs.Masks.{IsSome, IsEmpty, start_of}
 use Rattle.pas_segregated.specs.Takes.{exclusive, fewer_slots}
-use Rattle.pas_segregated.specs.Refills.{answer_of}
 use Rattle.pas_segregated.specs.Returns.{BackSteps}
 use Rattle.pas_segregated.specs.Stops.{class_directory, directory_of, LeavesWhere, StopSteps, Stops}
 use Rattle.pas_segregated.specs.declared.slots.Slots.{Slots}
@@ -29,12 +26,12 @@ use Rattle.pas_segregated.proofs.Starts.{start_below}
 use Rattle.pas_cache.specs.Locals.{is_for, local_for, others_than, HasOneEach, RestsWith}
 use Rattle.pas_cache.specs.Changes.{LeavesSpent, IsTakenOut}
 use Rattle.pas_cache.specs.Serves.{IsRefill, HasNoneCached, IsToldBy}
-use Rattle.pas_cache.specs.Pieces.{Releases, RestsWithFound, FetchesSlots, IsFoundFor, Obtains}
+use Rattle.pas_cache.specs.Pieces.{IsToldAfter, Releases, RestsWithFound, FetchesSlots, IsFoundFor, Obtains}
 use Rattle.pas_cache.proofs.Locals.{IsWithout, without_last, without_found, none_left}
 use Rattle.pas_cache.proofs.Finding.{none_there}
 use Rattle.pas_cache.proofs.Resting.{rests_moved}
 use Rattle.pas_cache.proofs.Going.{rests_here, releasing_append, releases_by, releases_none}
-use Rattle.pas_cache.proofs.Coming.{may_search}
+use Rattle.pas_cache.proofs.Coming.{may_search, of_pair}
 use Rattle.pas_cache.proofs.Knowing.{FewAt, refill_few}
 use Rattle.pas_cache.proofs.Fitting.{no_fit_before}
 
@@ -120,14 +117,14 @@ pub none_at_all : (heap class : ℕ) (locals : List Slots) → None ≡ local_fo
 none_at_all heap class locals none other at some = cc
 
 -- ---- the refill
-told_refusal : (f : Profile) (heap class : ℕ) (locals : List Slots) (entry middle exit : Whole) (found : Result (Served Mask4) NoRoom) → HasNoneCached heap class locals
+told_refusal : (f : Profile) (heap class : ℕ) (locals : List Slots) (entry middle exit : Whole) (answer : Result Slots NoRoom) → HasNoneCached heap class locals
     → (HasNoFit (exclusive class) f (class_directory heap class) middle → HasNoFit (exclusive class) f (class_directory heap class) entry)
-    → IsTold (exclusive class) f (class_directory heap class) middle exit found → IsToldBy f heap class locals entry exit (answer_of heap class found)
-told_refusal f heap class locals entry middle exit (Ok served) none back told = tt
+    → IsToldAfter f heap class middle exit answer → IsToldBy f heap class locals entry exit answer
+told_refusal f heap class locals entry middle exit (Ok slots) none back told = tt
 told_refusal f heap class locals entry middle exit (Err room) none back told = record { cached = none; entry_fit = back told.0; exit_fit = told.1; reason = told.2 }
 
-searched_for : (f : Profile) (heap class : ℕ) (steps : List Made) (found : Result (Served Mask4) NoRoom) → IsRefill heap class f steps found → MatchResult (answer_of heap class found) (IsFoundFor heap class) (λ room. Unit {0})
-searched_for f heap class steps (Ok served) refill = record { heap_is = refl; class_is = refl; some = refill.outcome.serves.some }
+searched_for : (f : Profile) (heap class : ℕ) (steps : List Made) (answer : Result Slots NoRoom) → IsRefill heap class f steps answer → MatchResult answer (IsFoundFor heap class) (λ room. Unit {0})
+searched_for f heap class steps (Ok slots) refill = let pair = of_pair slots heap class refill.outcome.named in record { heap_is = pair.0; class_is = pair.1; some = refill.outcome.some }
 searched_for f heap class steps (Err room) refill = tt
 
 pub obtains_anew : {σ σ1 σ2 : Standing} (heap class : ℕ) (tells : Bool) (locals kept locals' : List Slots) (answer : Result Slots NoRoom) → IsDirectoryOf σ.seat.profile (class_directory heap class) → HasNoneCached heap class locals
@@ -140,7 +137,7 @@ obtains_anew {σ} {σ1} {σ2} heap class tells locals kept locals' answer is non
     let ys : List Made = two.stopped in
     let zs : List Made = two.searched in
     let e : σ1.seat ≡ σ.seat = one.adds.seat_is in
-    let refill : IsRefill heap class f zs two.found = subst (λ (s : Seat). IsRefill heap class s.profile zs two.found) e two.refill in
+    let refill : IsRefill heap class f zs answer = subst (λ (s : Seat). IsRefill heap class s.profile zs answer) e two.refill in
     let ready : (v : View) → RestsWith f kept v → Agreed f v ys → RestsWith f locals' (ys ++ v)
     = subst (λ (s : Seat). (v : View) → RestsWith s.profile kept v → Agreed s.profile v ys → RestsWith s.profile locals' (ys ++ v)) e two.ready in
     let rests : (v : View) → RestsWith f kept v → Agreed f v (zs ++ ys) → RestsWithFound f locals' answer ((zs ++ ys) ++ v)
@@ -152,7 +149,7 @@ obtains_anew {σ} {σ1} {σ2} heap class tells locals kept locals' answer is non
     let before : Agreed f v (ys ++ xs) = agreed_later f v zs (ys ++ xs) ok in
     let here = ready (xs ++ v) (one.rest v h (agreed_later f v ys xs before)) (agreed_first f v ys xs before) in
     let may : MaySearch d ((ys ++ xs) ++ v) = subst (MaySearch d) (sym (append_assoc ys xs v)) (may_search f (ys ++ (xs ++ v)) heap class locals' is.kind two.none here) in
-    subst (λ s. FewAt f n s v) (sym (append_assoc zs ys xs)) (refill_few f heap class zs (ys ++ xs) two.found refill quiet n v may ok) in
+    subst (λ s. FewAt f n s v) (sym (append_assoc zs ys xs)) (refill_few f heap class zs (ys ++ xs) answer refill quiet n v may ok) in
     record {
       steps = (zs ++ ys) ++ xs;
       adds = adds_call {C = λ v l. RestsWith f locals v} {D = λ v l. RestsWith σ1.seat.profile kept v} one.adds two.adds (rests_here locals kept one);
@@ -165,12 +162,10 @@ obtains_anew {σ} {σ1} {σ2} heap class tells locals kept locals' answer is non
         kinds = releasing_append ys xs two.kinds one.kinds;
         quiet = quiet;
         searched = zs;
-        found = two.found;
-        answer_is = two.answer_is;
         refill = refill;
         steps_are = append_assoc zs ys xs;
       });
-      found_for = subst (λ a. MatchResult a (IsFoundFor heap class) (λ room. Unit {0})) (sym two.answer_is) (searched_for f heap class zs two.found refill);
+      found_for = searched_for f heap class zs answer refill;
       few = two.few;
       makes = λ n v h agreed. (few n v h agreed).makes;
       most = λ n v h agreed. (few n v h agreed).most;
@@ -178,12 +173,11 @@ obtains_anew {σ} {σ1} {σ2} heap class tells locals kept locals' answer is non
       told = λ t v l stood h.
           let ok = one.adds.agreed v l stood h in
           let entry : Whole = triples k xs ++ l in
-          let told : IsTold (exclusive class) f d (triples k ys ++ entry) (triples k (zs ++ ys) ++ entry) two.found
-          = subst (λ (s : Seat). IsTold (exclusive class) s.profile d (triples s.actor ys ++ entry) (triples s.actor (zs ++ ys) ++ entry) two.found) e (two.told t (xs ++ v) entry (one.adds.added v l stood h) (rests_here locals kept one v l stood h)) in
-          subst (λ a. IsToldBy f heap class locals l (triples k ((zs ++ ys) ++ xs) ++ l) a) (sym two.answer_is)
-          (subst (λ exit. IsToldBy f heap class locals l exit (answer_of heap class two.found)) (triples_append k (zs ++ ys) xs l)
-          (told_refusal f heap class locals l (triples k ys ++ entry) (triples k (zs ++ ys) ++ entry) two.found none
-          (λ unfit. no_fit_before (exclusive class) f d k xs l (fewer_slots class) one.kinds (no_fit_before (exclusive class) f d k ys entry (fewer_slots class) two.kinds unfit)) told));
+          let told : IsToldAfter f heap class (triples k ys ++ entry) (triples k (zs ++ ys) ++ entry) answer
+          = subst (λ (s : Seat). IsToldAfter s.profile heap class (triples s.actor ys ++ entry) (triples s.actor (zs ++ ys) ++ entry) answer) e (two.told t (xs ++ v) entry (one.adds.added v l stood h) (rests_here locals kept one v l stood h)) in
+          subst (λ exit. IsToldBy f heap class locals l exit answer) (triples_append k (zs ++ ys) xs l)
+          (told_refusal f heap class locals l (triples k ys ++ entry) (triples k (zs ++ ys) ++ entry) answer none
+          (λ unfit. no_fit_before (exclusive class) f d k xs l (fewer_slots class) one.kinds (no_fit_before (exclusive class) f d k ys entry (fewer_slots class) two.kinds unfit)) told);
     }
 
 -- ---- what was taken out

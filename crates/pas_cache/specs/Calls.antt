@@ -15,7 +15,7 @@ use Rattle.pas_steps.specs.Desks.{Standing, Adds, triples, made}
 use Rattle.pas_steps.specs.declared.step.Made.{Made}
 use Rattle.pas_steps.specs.declared.step.Step.TheVariants.{Look}
 use Rattle.pas_search.specs.Searches.{HasRoom}
-use Rattle.pas_cache.specs.Caches.{Cached, AtRest}
+use Rattle.pas_cache.specs.Caches.{Cached, HasNothing, AtRest}
 use Rattle.pas_cache.specs.Names.{IsInRegion, IsFaultOf}
 use Rattle.pas_cache.specs.Changes.{EmptiesLog, LogsName, StopsAll}
 use Rattle.pas_cache.specs.Serves.{ServesRequest, AreAllocating, IsBlockFor, MakesFew, IsSilent, IsToldBy}
@@ -89,3 +89,4 @@ pub record StopsCache (c c' : Cached) (desk desk' : Standing) : Type 0 where
   pub silent : (k : ℕ) (v : View) → events_by k v stopped ≡ []
   pub cache : c' ≡ record { locals = []; log = []; idle_since = c.idle_since }
   pub rest : StaysAtRest desk.seat.profile c c' (stopped ++ flushed)
+  pub nothing : (v : View) → AtRest desk.seat.profile c v → Agreed desk.seat.profile v (stopped ++ flushed) → HasNothing ((stopped ++ flushed) ++ v)

@@ -14,13 +14,10 @@ use Rattle.pas_steps.specs.declared.step.Step.{Step}
 use Rattle.pas_steps.specs.declared.step.Step.TheVariants.{Look, Deed, Back, Take, Put, Give, End, TakeRight, Offer, Park, Unpark, Stamp, Hint}
 use Rattle.pas_search.specs.Kinds.{AreQuiet}
 use Rattle.pas_search.specs.Searches.{HasRoom}
-use Rattle.pas_search.specs.Telling.{IsTold}
+use Rattle.pas_search.specs.Telling.{HasNoFit, IsTrueReason}
 use Rattle.pas_segregated.specs.Masks.{IsSome}
 use Rattle.pas_segregated.specs.Stops.{class_directory}
-use Rattle.pas_search.specs.declared.serving.Served.{Served}
-use Rattle.pas_bits.specs.declared.mask.Mask4.{Mask4}
 use Rattle.pas_segregated.specs.Takes.{exclusive}
-use Rattle.pas_segregated.specs.Refills.{answer_of}
 use Rattle.pas_segregated.specs.declared.slots.Slots.{Slots}
 use Rattle.pas_cache.specs.Locals.{covers, local_for, others_than, IsLocal, RestsWith}
 use Rattle.pas_cache.specs.Changes.{GivesSlot, IsTakenOut, IsShortened}
@@ -78,6 +75,11 @@ pub record MayObtain (f : Profile) (n spare : ℕ) (locals : List Slots) (v : Vi
 abbrev pub RestsWithFound : Profile → List Slots → Result Slots NoRoom → View → Type 0
 RestsWithFound f locals found v = MatchResult found (λ slots. RestsWith f (locals ++ slots ∷ []) v) (λ room. RestsWith f locals v)
 
+-- where the refill is refused, no page could serve at its entry, nor can one at its exit, and the reason is true at its exit
+abbrev pub IsToldAfter : Profile → ℕ → ℕ → Whole → Whole → Result Slots NoRoom → Type 0
+IsToldAfter f heap class entry exit answer = MatchResult answer (λ slots. Unit {0})
+    (λ room. HasNoFit (exclusive class) f (class_directory heap class) entry × HasNoFit (exclusive class) f (class_directory heap class) exit × IsTrueReason f (class_directory heap class) exit room)
+
 -- the list is shortened where it is full, and the refill is made
 pub record FetchesSlots (heap class : ℕ) (tells : Bool) (locals locals' : List Slots) (desk desk' : Standing) (answer : Result Slots NoRoom) : Type 0 where
   pub stopped : List Made
@@ -85,16 +87,14 @@ pub record FetchesSlots (heap class : ℕ) (tells : Bool) (locals locals' : List
   pub kinds : AreReleasing stopped
   pub quiet : AreQuiet stopped
   pub searched : List Made
-  pub found : Result (Served Mask4) NoRoom
-  pub answer_is : answer ≡ answer_of heap class found
-  pub refill : IsRefill heap class desk.seat.profile searched found
+  pub refill : IsRefill heap class desk.seat.profile searched answer
   pub adds : Adds desk desk' (λ v l. RestsWith desk.seat.profile locals v) (searched ++ stopped)
   pub few : length locals' < 32
   pub none : local_for heap class locals' ≡ None
   pub ready : (v : View) → RestsWith desk.seat.profile locals v → Agreed desk.seat.profile v stopped → RestsWith desk.seat.profile locals' (stopped ++ v)
   pub rest : (v : View) → RestsWith desk.seat.profile locals v → Agreed desk.seat.profile v (searched ++ stopped) → RestsWithFound desk.seat.profile locals' answer ((searched ++ stopped) ++ v)
   pub told : tells ≡ true → (v : View) (l : Whole) → desk.stands v l → RestsWith desk.seat.profile locals v
-      → IsTold (exclusive class) desk.seat.profile (class_directory heap class) (triples desk.seat.actor stopped ++ l) (triples desk.seat.actor (searched ++ stopped) ++ l) found
+      → IsToldAfter desk.seat.profile heap class (triples desk.seat.actor stopped ++ l) (triples desk.seat.actor (searched ++ stopped) ++ l) answer
 
 -- Where the local allocator has a slot it is taken out of the list, without a step.
 pub record FindsCached (heap class : ℕ) (locals locals' : List Slots) (steps : List Made) (answer : Result Slots NoRoom) : Type 0 where
@@ -115,9 +115,7 @@ pub record FetchesAnew (f : Profile) (heap class : ℕ) (locals locals' : List S
   pub kinds : AreReleasing (stopped ++ spent)
   pub quiet : AreQuiet (stopped ++ spent)
   pub searched : List Made
-  pub found : Result (Served Mask4) NoRoom
-  pub answer_is : answer ≡ answer_of heap class found
-  pub refill : IsRefill heap class f searched found
+  pub refill : IsRefill heap class f searched answer
   pub steps_are : steps ≡ searched ++ (stopped ++ spent)
 
 -- the slots are of the heap and the class, and there are some

@@ -19,14 +19,12 @@ use Rattle.pas_steps.specs.declared.step.Step.{Step}
 use Rattle.pas_steps.specs.declared.step.Step.TheVariants.{Look, Deed, Back, Take, Put, Give, End, TakeRight, Offer, Park, Unpark, Stamp, Hint}
 use Rattle.pas_rights.specs.Rights.{KnowsDeed}
 use Rattle.pas_search.specs.Kinds.{OnlySearches}
-use Rattle.pas_search.specs.Searches.{IsServed, IsRefused}
+use Rattle.pas_search.specs.Searches.{IsRefused}
 use Rattle.pas_search.specs.Telling.{HasNoFit, IsTrueReason}
-use Rattle.pas_search.specs.declared.serving.Served.{Served}
 use Rattle.pas_segregated.specs.Masks.{IsSome}
 use Rattle.pas_segregated.specs.Stops.{class_directory}
 use Rattle.pas_segregated.specs.Takes.{exclusive}
-use Rattle.pas_segregated.specs.Refills.{slots_found}
-use Rattle.pas_bits.specs.declared.mask.Mask4.{Mask4}
+use Rattle.pas_segregated.specs.Refills.{GivesSlots}
 use Rattle.pas_segregated.specs.declared.slots.Slots.{Slots}
 use Rattle.pas_cache.specs.Locals.{local_for, others_than}
 use Rattle.pas_cache.specs.Knowledge.{unknown_pages}
@@ -55,17 +53,17 @@ pub record GivesCached (heap class : ℕ) (locals locals' : List Slots) (steps :
   pub gives : GivesSlot from to block steps
   pub locals_are : locals' ≡ others_than heap class locals ++ to ∷ []
 
--- the steps of a refill, and the page with its slots that it found
-pub record IsRefill (heap class : ℕ) (f : Profile) (steps : List Made) (found : Result (Served Mask4) NoRoom) : Type 0 where
+-- the steps of a refill, and the slots that it got
+pub record IsRefill (heap class : ℕ) (f : Profile) (steps : List Made) (found : Result Slots NoRoom) : Type 0 where
   pub searches : OnlySearches steps
-  pub outcome : MatchResult found (IsServed (exclusive class) f (class_directory heap class) steps) (IsRefused (exclusive class) f (class_directory heap class) steps)
+  pub outcome : MatchResult found (GivesSlots f (class_directory heap class) steps) (IsRefused (exclusive class) f (class_directory heap class) steps)
 
 -- After the refill its lowest slot is given, and the rest is the new local allocator at the end. A refusal is that of the refill.
-abbrev pub IsAnswered : ℕ → ℕ → List Slots → List Slots → List Made → Result (Served Mask4) NoRoom → Result Block NoRoom → Type 0
-IsAnswered heap class fewer locals' steps (Ok served) (Ok block) = (rest : Slots) × GivesSlot (slots_found heap class served) rest block steps × (locals' ≡ fewer ++ rest ∷ [])
-IsAnswered heap class fewer locals' steps (Ok served) (Err room) = ⊥
-IsAnswered heap class fewer locals' steps (Err why) (Ok block) = ⊥
-IsAnswered heap class fewer locals' steps (Err why) (Err room) = (room ≡ why) × (locals' ≡ fewer) × (steps ≡ [])
+abbrev pub IsAnswered : List Slots → List Slots → List Made → Result Slots NoRoom → Result Block NoRoom → Type 0
+IsAnswered fewer locals' steps (Ok slots) (Ok block) = (rest : Slots) × GivesSlot slots rest block steps × (locals' ≡ fewer ++ rest ∷ [])
+IsAnswered fewer locals' steps (Ok slots) (Err room) = ⊥
+IsAnswered fewer locals' steps (Err why) (Ok block) = ⊥
+IsAnswered fewer locals' steps (Err why) (Err room) = (room ≡ why) × (locals' ≡ fewer) × (steps ≡ [])
 
 -- No slot is cached: the local allocator of the heap and the class is taken out, the list is shortened where it is full, and the refill is made.
 pub record Fetches (f : Profile) (heap class : ℕ) (locals locals' : List Slots) (steps : List Made) (answer : Result Block NoRoom) : Type 0 where
@@ -76,10 +74,10 @@ pub record Fetches (f : Profile) (heap class : ℕ) (locals locals' : List Slots
   pub fewer : List Slots
   pub shortened : IsShortened kept fewer stopped
   pub searched : List Made
-  pub found : Result (Served Mask4) NoRoom
+  pub found : Result Slots NoRoom
   pub refill : IsRefill heap class f searched found
   pub given : List Made
-  pub ends : IsAnswered heap class fewer locals' given found answer
+  pub ends : IsAnswered fewer locals' given found answer
   pub steps_are : steps ≡ given ++ (searched ++ (stopped ++ spent))
 
 abbrev pub ServesLocals : Profile → ℕ → ℕ → List Slots → List Slots → List Made → Result Block NoRoom → Type 0

@@ -28,15 +28,18 @@ impl ThreadCache {
     ghost use Rattle.std.specs.Prelude.{◌≡◌, [], length};
     ghost use Rattle.pas_steps.specs.Desks.{CanCall};
     ghost use Rattle.pas_utility.specs.Seats.{thread_of};
-    ghost use Rattle.pas_cache.specs.Caches.{cached, seat_of, AtRest};
+    ghost use Rattle.pas_cache.specs.Caches.{cached, seat_of, HasNothing, AtRest};
+    ghost use Rattle.pas_profile.specs.declared.profile.Profile.{Profile};
+    ghost use Rattle.pas_steps.specs.Views.{View};
     ghost use Rattle.pas_cache.specs.Calls.{Begins};
 
-    /// An empty cache of the seat's thread.
+    /// An empty cache of the seat's thread. An actor that holds and has nothing is at rest with it.
     pub fn new(seat: CacheSeat) -> ThreadCache
         ensures actor { seat_of result ≡ thread_of seat }
         ensures locals { (cached result).locals ≡ [] }
         ensures log { (cached result).log ≡ [] }
         ensures idle_since { (cached result).idle_since ≡ 0 }
+        ensures rest { (f : Profile) (v : View) → HasNothing v → AtRest f (cached result) v }
     {
         ThreadCache {
             seat,

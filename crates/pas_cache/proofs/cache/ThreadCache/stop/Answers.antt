@@ -12,4 +12,4 @@ pub stop_all-requires : goal.stop_all-requires
 stop_all-requires g c = record { can = flushed_call _ c.flush.ensures.flushes c.requires.can }
 
 pub returns-clause-stops : goal.returns-clause-stops
-returns-clause-stops g c = stops_cache _ _ c.stop_all.ensures.empty c.flush.ensures.empty refl c.flush.ensures.flushes c.stop_all.ensures.stops
+returns-clause-stops g c = stops_cache _ c.flush.ensures.flushes c.stop_all.ensures.stops _ c.stop_all.ensures.empty c.flush.ensures.empty refl
