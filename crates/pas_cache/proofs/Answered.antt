@@ -160,7 +160,7 @@ give_event slots rest block steps gives k v = ap (events_by k v) gives.steps_are
 give_kinds : (slots rest : Slots) (block : Block) (steps : List Made) → GivesSlot slots rest block steps → AreAllocating steps
 give_kinds slots rest block steps gives = subst AreAllocating (sym gives.steps_are) (tt, (tt, tt))
 
-pub in_slot_of : (f : Profile) (v : View) (class : ℕ) (slots rest : Slots) (block : Block) (steps : List Made) → GivesSlot slots rest block steps → IsLocal f v slots → slots.class ≡ class → IsInSlot class block
+abbrev pub in_slot_of : (f : Profile) (v : View) (class : ℕ) (slots rest : Slots) (block : Block) (steps : List Made) → GivesSlot slots rest block steps → IsLocal f v slots → slots.class ≡ class → IsInSlot class block
 in_slot_of f v class slots rest block steps gives local is = record {
   page = slots.page;
   start = gives.start;
@@ -203,6 +203,7 @@ serves_given {σ} {σ1} {σ2} heap class tells locals fewer after slots rest blo
       outcome = record {
         of_heap = two.gives.heap ∙ for.heap_is;
         slot = in_slot_of f (xs ++ can.view) class slots rest block ys two.gives local for.class_is;
+        of_region = local.page;
         turn = λ v h agreed. turn (xs ++ v) (may (xs ++ v) (rests v h (agreed_later f v ys xs agreed))) (agreed_first f v ys xs agreed);
         deeds = λ v h agreed g inside.
             let before = rests v h (agreed_later f v ys xs agreed) in
@@ -240,7 +241,7 @@ aligned_answer f Meets heap class size align steps (Ok block) whole route h = ap
 aligned_answer f Meets heap class size align steps (Err room) whole route h = tt
 
 for_cache : (f : Profile) (c : Cached) (heap class : ℕ) (steps : List Made) (answer : Result Block NoRoom) → MatchResult answer (IsBlockFor f (RestsWith f c.locals) heap class steps) (λ room. IsSilent steps) → MatchResult answer (IsBlockFor f (AtRest f c) heap class steps) (λ room. IsSilent steps)
-for_cache f c heap class steps (Ok block) h = record { of_heap = h.of_heap; slot = h.slot; turn = λ v rest agreed. h.turn v rest.locals agreed; deeds = λ v rest agreed. h.deeds v rest.locals agreed; events = h.events }
+for_cache f c heap class steps (Ok block) h = record { of_heap = h.of_heap; slot = h.slot; of_region = h.of_region; turn = λ v rest agreed. h.turn v rest.locals agreed; deeds = λ v rest agreed. h.deeds v rest.locals agreed; events = h.events }
 for_cache f c heap class steps (Err room) h = h
 
 pub class_from : (route : Route) (class : ℕ) → route ≡ Route.Class class → class_of route ≡ class

@@ -152,6 +152,7 @@ module _ {σ σ1 σ2 : Standing} (c : Cached) (flush : Flushes c.log σ σ1) (st
         (λ v l stood met. subst (λ (s : Seat). RestsWith s.profile c.locals (flush.steps ++ v)) (sym flush.adds.seat_is) (kept v met.locals (flush.adds.agreed v l stood met.locals.clear)));
     empties = empties c.log flush;
     stops = stops.change;
+    kinds = stops.kinds;
     silent = λ k v. events_quiet k v stops.steps stops.quiet;
     cache = same_cached (record { locals = []; log = []; idle_since = c.idle_since }) c' [] c.idle_since locals log idle;
     rest = λ v h agreed. rests_empty σ.seat.profile c' ((stops.steps ++ flush.steps) ++ v) locals log (has_nothing σ.seat.profile ((stops.steps ++ flush.steps) ++ v) (stopped_rest v h.locals agreed));

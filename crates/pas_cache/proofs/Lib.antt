@@ -10,3 +10,4 @@ pub mod Fitting
 pub mod Obtained
 pub mod Granting
 pub mod Answered
+pub mod Budget

@@ -18,6 +18,7 @@ use Rattle.pas_search.specs.Searches.{HasRoom}
 use Rattle.pas_cache.specs.Caches.{Cached, HasNothing, AtRest}
 use Rattle.pas_cache.specs.Names.{IsInRegion, IsFaultOf}
 use Rattle.pas_cache.specs.Changes.{EmptiesLog, LogsName, StopsAll}
+use Rattle.pas_cache.specs.Pieces.{AreReleasing}
 use Rattle.pas_cache.specs.Serves.{ServesRequest, AreAllocating, IsBlockFor, MakesFew, IsSilent, IsToldBy}
 
 -- an actor that is at rest with a cache is at rest with the other after these steps
@@ -79,13 +80,14 @@ pub record FlushesLog (c c' : Cached) (desk desk' : Standing) : Type 0 where
   pub rest : StaysAtRest desk.seat.profile c c' steps
 
 -- The log is emptied, and then each local allocator is stopped. The cache is empty then, so the actor holds and has nothing. The stops make no
--- event.
+-- event and stamp no page.
 pub record StopsCache (c c' : Cached) (desk desk' : Standing) : Type 0 where
   pub flushed : List Made
   pub stopped : List Made
   pub adds : Adds desk desk' (λ v l. AtRest desk.seat.profile c v) (stopped ++ flushed)
   pub empties : EmptiesLog desk.seat.actor c.log flushed
   pub stops : StopsAll c.locals stopped
+  pub kinds : AreReleasing stopped
   pub silent : (k : ℕ) (v : View) → events_by k v stopped ≡ []
   pub cache : c' ≡ record { locals = []; log = []; idle_since = c.idle_since }
   pub rest : StaysAtRest desk.seat.profile c c' (stopped ++ flushed)

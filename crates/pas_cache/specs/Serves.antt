@@ -1,6 +1,7 @@
 -- How a request of a class changes a cache, and what its block is.
 use Rattle.std.specs.Prelude.{ℕ, ◌+◌, ◌*◌, ◌/◌, ◌^◌, ◌<◌, ◌≤◌, ◌≡◌, true, ◌⊎◌, List, [], ◌∷◌, ◌++◌, length, Some, Result, Ok, Err, MatchResult}
 use Rattle.std.specs.List.{AllByRecursion}
+use Rattle.pas_profile.specs.Profiles.{IsPage}
 use Rattle.pas_profile.specs.Classes.{IsSlotStart, class_size}
 use Rattle.pas_profile.specs.declared.directory.Directory.{Directory}
 use Rattle.pas_profile.specs.declared.directory.Route.{Route}
@@ -123,11 +124,12 @@ pub record IsInSlot (class : ℕ) (block : Block) : Type 0 where
   pub address : address_of block.name ≡ page * 4096 + start * 16
   pub room : block.room ≡ class_size class
 
--- The block is of the heap, and in a slot of the class. Each page of its run is known to have the request's directory as its deed. It is given
+-- The block is of the heap, and in a slot of the class on a page of the region. Each page of its run is known to have the request's directory as its deed. It is given
 -- last, after deeds of this directory and backs.
 pub record IsBlockFor (f : Profile) (Meets : View → Type 0) (heap class : ℕ) (steps : List Made) (block : Block) : Type 0 where
   pub of_heap : block.heap ≡ heap
   pub slot : IsInSlot class block
+  pub of_region : IsPage f slot.page
   pub turn : (v : View) → Meets v → Agreed f v steps → block.name.turn < 2 ^ 37
   pub deeds : (v : View) → Meets v → Agreed f v steps → (g : ℕ) → in_run (grain_of block.name) (length_of block) g ≡ true → KnowsDeed (g / 256) (class_directory heap class) (steps ++ v)
   pub events : (k : ℕ) (v : View) → (before : List Event) × (events_by k v steps ≡ Event.Give k block ∷ before) × AllByRecursion (IsPreparing (class_directory heap class)) before

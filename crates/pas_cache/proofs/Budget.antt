@@ -1,0 +1,58 @@
+-- For callers: the room of one request after another.
+use Rattle.std.proofs.Common.{◌≡◌, ℕ, zero, suc, ◌+◌, ◌≤◌, [], ◌++◌, length, refl, ap, sym, ◌∙◌, subst, arith, length-append, Result, Bool}
+use Rattle.pas_profile.specs.declared.profile.Profile.{Profile}
+use Rattle.pas_profile.specs.declared.event.NoRoom.{NoRoom}
+use Rattle.pas_profile.specs.declared.name.Block.{Block}
+use Rattle.pas_steps.specs.Views.{View}
+use Rattle.pas_steps.specs.Events.{events_of, events_by}
+use Rattle.pas_steps.specs.Lists.{Whole}
+use Rattle.pas_steps.specs.Desks.{Standing, Seat, CanCall, triples}
+use Rattle.pas_steps.proofs.Frames.{events_split}
+use Rattle.pas_cache.specs.Knowledge.{unknown_below, unknown_pages}
+use Rattle.pas_cache.specs.Caches.{Cached, AtRest}
+use Rattle.pas_cache.specs.Calls.{MayAllocate, Allocates}
+use Rattle.pas_cache.proofs.Knowing.{has_room}
+
+fresh_below : (n : ℕ) → unknown_below n [] ≡ n
+fresh_below zero = refl
+fresh_below (suc n) = let below = fresh_below n in omega (arith, below)
+
+-- who made no step knows no deed
+pub unknown_fresh : (f : Profile) → unknown_pages f [] ≡ f.pages
+unknown_fresh f = fresh_below f.pages
+
+-- The actor is at rest, and there is room for n events and for a deed of each page whose deed isn't known.
+pub record HasBudget (f : Profile) (c : Cached) (n spare : ℕ) (v : View) : Type 0 where
+  pub rest : AtRest f c v
+  pub room : n + unknown_pages f v ≤ spare
+
+-- two of the n are enough for a request
+pub may_allocate : {σ : Standing} {c : Cached} {spare : ℕ} (n : ℕ) → 2 ≤ n → CanCall σ (λ v l. HasBudget σ.seat.profile c n spare v) → CanCall σ (λ v l. MayAllocate σ.seat.profile c spare v)
+may_allocate {σ} {c} {spare} n two can = record {
+  view = can.view;
+  whole = can.whole;
+  stood = can.stood;
+  met = record { rest = can.met.rest; room = let room = can.met.room in has_room σ.seat.profile 2 spare can.view (omega (arith, two, room)) };
+}
+
+-- and the others are left after it
+pub budget_left : {σ σ' : Standing} {c c' : Cached} {answer : Result Block NoRoom} {heap class align spare spare' : ℕ} {tells : Bool} (n : ℕ) → (h : Allocates heap class align tells c c' σ σ' answer) → CanCall σ (λ v l. HasBudget σ.seat.profile c (n + 2) spare v)
+    → ((v : View) (l : Whole) → σ.stands v l → spare + length (events_of σ.seat.actor v) ≡ σ.seat.room) → ((v : View) (l : Whole) → σ'.stands v l → spare' + length (events_of σ'.seat.actor v) ≡ σ'.seat.room)
+    → CanCall σ' (λ v l. HasBudget σ'.seat.profile c' n spare' v)
+budget_left {σ} {σ'} {c} {c'} {spare = spare} {spare' = spare'} n h can law law' =
+    let f : Profile = σ.seat.profile in
+    let k : ℕ = σ.seat.actor in
+    let v : View = can.view in
+    let ok = h.adds.agreed v can.whole can.stood can.met.rest in
+    let before : spare + length (events_of k v) ≡ σ.seat.room = law v can.whole can.stood in
+    let after : spare' + length (events_of k (h.steps ++ v)) ≡ σ.seat.room
+    = subst (λ (s : Seat). spare' + length (events_of s.actor (h.steps ++ v)) ≡ s.room) h.adds.seat_is (law' (h.steps ++ v) (triples k h.steps ++ can.whole) (h.adds.added v can.whole can.stood can.met.rest)) in
+    let split : length (events_of k (h.steps ++ v)) ≡ length (events_by k v h.steps) + length (events_of k v) = ap length (events_split k h.steps v) ∙ length-append (events_by k v h.steps) (events_of k v) in
+    let few = h.few k v can.met.rest ok in
+    let room = can.met.room in
+    record {
+      view = h.steps ++ v;
+      whole = triples k h.steps ++ can.whole;
+      stood = h.adds.added v can.whole can.stood can.met.rest;
+      met = subst (λ (s : Seat). HasBudget s.profile c' n spare' (h.steps ++ v)) (sym h.adds.seat_is) (record { rest = h.rest v can.met.rest ok; room = omega (arith, before, after, split, few, room) });
+    }
