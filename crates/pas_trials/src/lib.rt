@@ -1,6 +1,9 @@
 //! Trials of the calls on rights and of the searches: what two actors that sit at one plain region after each other do, and what they find.
 #![tactic(auto)]
 
+#[cfg(test)]
+mod cache_tests;
+pub mod caching;
 pub mod filling;
 pub mod holding;
 #[cfg(test)]
@@ -14,6 +17,7 @@ mod slot_tests;
 mod tests;
 pub mod wanting;
 
+pub use caching::{borrow_two, words_of_first};
 pub use filling::{Filled, fill};
 pub use holding::{occupy, visit};
 pub use seats::{change, close_both};

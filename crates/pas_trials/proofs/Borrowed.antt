@@ -1,0 +1,89 @@
+-- Two requests, a free and a stop, over any desk.
+use Rattle.std.proofs.Common.{◌≡◌, ℕ, ◌+◌, ◌^◌, ◌<◌, ◌≤◌, nat_le, Bool, true, false, List, [], ◌∷◌, ◌++◌, length, Ok, Err, Result, true≢false, refl, ap, sym, ◌∙◌, subst, arith, length-append}
+use Rattle.std.specs.Prelude.{MatchResult}
+use Rattle.pas_profile.specs.Profiles.{IsValid, IsAdmitted}
+use Rattle.pas_profile.specs.declared.profile.Profile.{Profile}
+use Rattle.pas_profile.specs.declared.event.NoRoom.{NoRoom}
+use Rattle.pas_profile.specs.declared.event.FreeFault.{FreeFault}
+use Rattle.pas_profile.specs.declared.name.Name.{Name}
+use Rattle.pas_profile.specs.declared.name.Block.{Block}
+use Rattle.pas_steps.specs.Views.{View}
+use Rattle.pas_steps.specs.Events.{events_of}
+use Rattle.pas_steps.specs.Lists.{Whole}
+use Rattle.pas_steps.specs.Desks.{Standing, Seat, CanCall}
+use Rattle.pas_steps.specs.declared.step.Made.{Made}
+use Rattle.pas_steps.proofs.Adding.{can_call}
+use Rattle.pas_search.specs.Kinds.{AreQuiet}
+use Rattle.pas_cache.specs.Knowledge.{unknown_pages}
+use Rattle.pas_cache.specs.Caches.{Cached, AtRest}
+use Rattle.pas_cache.specs.Changes.{EmptiesFull}
+use Rattle.pas_cache.specs.Calls.{Allocates, TakesName, RefusesName, Frees, StopsCache}
+use Rattle.pas_cache.proofs.Budget.{HasBudget}
+use Rattle.pas_cache.proofs.Going.{spare_kept}
+
+-- the request is one that every profile admits
+pub admitted : (f : Profile) → IsValid f → IsAdmitted f 24 16 0
+admitted f valid =
+    let pages = valid.some_page in
+    let heaps = valid.some_heap in
+    record { within = omega (arith, pages); aligned = (omega arith, omega arith, refl); of_profile = omega (arith, heaps) }
+
+pub budget_call : {σ : Standing} {c : Cached} {n spare : ℕ} → CanCall σ (λ v l. AtRest σ.seat.profile c v × (n + unknown_pages σ.seat.profile v ≤ spare)) → CanCall σ (λ v l. HasBudget σ.seat.profile c n spare v)
+budget_call can = record { view = can.view; whole = can.whole; stood = can.stood; met = record { rest = can.met.0; room = can.met.1 } }
+
+pub rest_call : {σ : Standing} {c : Cached} {n spare : ℕ} → CanCall σ (λ v l. HasBudget σ.seat.profile c n spare v) → CanCall σ (λ v l. AtRest σ.seat.profile c v)
+rest_call can = record { view = can.view; whole = can.whole; stood = can.stood; met = can.met.rest }
+
+small_answer : {σ σ' : Standing} {c c' : Cached} {heap class align : ℕ} {tells : Bool} (answer : Result Block NoRoom) → Allocates heap class align tells c c' σ σ' answer → CanCall σ (λ v l. AtRest σ.seat.profile c v) → MatchResult answer (λ block. block.name.turn < 2 ^ 37) (λ room. Unit {0})
+small_answer (Ok block) h can = h.outcome.turn can.view can.met (h.adds.agreed can.view can.whole can.stood can.met)
+small_answer (Err room) h can = tt
+
+pub small_turn : {σ σ' : Standing} {c c' : Cached} {heap class align : ℕ} {tells : Bool} {answer : Result Block NoRoom} → Allocates heap class align tells c c' σ σ' answer → CanCall σ (λ v l. AtRest σ.seat.profile c v) → MatchResult answer (λ block. block.name.turn < 2 ^ 37) (λ room. Unit {0})
+small_turn {answer = answer} h can = small_answer answer h can
+
+-- ---- the free of a name into an empty log
+impossible : true ≡ nat_le 64 (length {A = Name} []) → ⊥
+impossible h = true≢false h
+
+empties_none : (full : Bool) (actor : ℕ) (log kept : List Name) (steps : List Made) → full ≡ nat_le 64 (length log) → log ≡ [] → EmptiesFull full actor log kept steps → (kept ≡ []) × (steps ≡ [])
+empties_none true actor log kept steps full none h = absurd (impossible (full ∙ ap (λ xs. nat_le 64 (length xs)) none))
+empties_none false actor log kept steps full none h = (h.1 ∙ none, h.0)
+
+pub record LogsOne (c c' : Cached) (steps : List Made) : Type 0 where
+  pub log : length c'.log ≤ 1
+  pub no_steps : steps ≡ []
+
+logs_one : (f : Profile) (actor : ℕ) (c c' : Cached) (name : Name) (steps : List Made) (answer : Result (Unit {0}) FreeFault) → c.log ≡ [] → MatchResult answer (λ done. TakesName f actor c c' name steps) (RefusesName f c c' name steps) → LogsOne c c' steps
+logs_one f actor c c' name steps (Ok done) none h =
+    let kept = empties_none (nat_le 64 (length c.log)) actor c.log h.logs.kept steps refl none h.logs.emptied in
+    let n : length c'.log ≡ length h.logs.kept + 1 = ap length h.logs.log_is ∙ length-append h.logs.kept (name ∷ []) in
+    let m : length h.logs.kept ≡ 0 = ap length kept.0 in
+    record { log = omega (arith, n, m); no_steps = kept.1 }
+logs_one f actor c c' name steps (Err fault) none h =
+    let n : length c'.log ≡ 0 = ap (λ x. length x.log) h.cache ∙ ap length none in
+    record { log = omega (arith, n); no_steps = h.no_steps }
+
+pub freed_one : {σ σ' : Standing} {c c' : Cached} {name : Name} {answer : Result (Unit {0}) FreeFault} → c.log ≡ [] → (h : Frees name c c' σ σ' answer) → LogsOne c c' h.steps
+freed_one {σ} {σ'} {c} {c'} {name} {answer} none h = logs_one σ.seat.profile σ.seat.actor c c' name h.steps answer none h.outcome
+
+pub freed_call : {σ σ' : Standing} {c c' : Cached} {name : Name} {answer : Result (Unit {0}) FreeFault} → Frees name c c' σ σ' answer → CanCall σ (λ v l. AtRest σ.seat.profile c v) → CanCall σ' (λ v l. AtRest σ'.seat.profile c' v)
+freed_call {σ} {σ'} {c} {c'} h can = can_call {C = λ v l. AtRest σ.seat.profile c v} {D = λ v l. AtRest σ'.seat.profile c' v} h.adds can
+    (λ v l stood met. subst (λ (s : Seat). AtRest s.profile c' (h.steps ++ v)) (sym h.adds.seat_is) (h.rest v met (h.adds.agreed v l stood met)))
+
+-- so there is room for its event
+pub stop_room : {σ σ' : Standing} {c c' : Cached} {name : Name} {answer : Result (Unit {0}) FreeFault} {spare spare' : ℕ} → c.log ≡ [] → (h : Frees name c c' σ σ' answer) → CanCall σ (λ v l. HasBudget σ.seat.profile c 1 spare v)
+    → ((v : View) (l : Whole) → σ.stands v l → spare + length (events_of σ.seat.actor v) ≡ σ.seat.room) → ((v : View) (l : Whole) → σ'.stands v l → spare' + length (events_of σ'.seat.actor v) ≡ σ'.seat.room)
+    → length c'.log ≤ spare'
+stop_room {spare = spare} {spare' = spare'} none h can law law' =
+    let one = freed_one none h in
+    let same : spare' ≡ spare = spare_kept h.adds (rest_call can) (subst AreQuiet (sym one.no_steps) tt) law law' in
+    let few = one.log in
+    let room = can.met.room in
+    omega (arith, same, few, room)
+
+pub stopped_call : {σ σ' : Standing} {c c' : Cached} → StopsCache c c' σ σ' → CanCall σ (λ v l. AtRest σ.seat.profile c v) → CanCall σ' (λ v l. AtRest σ'.seat.profile c' v)
+stopped_call {σ} {σ'} {c} {c'} h can = can_call {C = λ v l. AtRest σ.seat.profile c v} {D = λ v l. AtRest σ'.seat.profile c' v} h.adds can
+    (λ v l stood met. subst (λ (s : Seat). AtRest s.profile c' ((h.stopped ++ h.flushed) ++ v)) (sym h.adds.seat_is) (h.rest v met (h.adds.agreed v l stood met)))
+
+pub not_full : (c : Cached) (P : Type 0) → c.log ≡ [] → length c.log ≡ 64 → P
+not_full c P none full = let n : length c.log ≡ 0 = ap length none in absurd (omega (arith, n, full))
