@@ -13,7 +13,8 @@ use Rattle.std.proofs.Math.ListN.{drop_of_length-le}
 use Rattle.pas_trace.specs.Plans.{ops_of}
 use Rattle.pas_trace.specs.declared.plan.Op.{Op}
 use Rattle.pas_trace.specs.declared.plan.Phase.{Phase}
-use Rattle.pas_replay.specs.Replays.{IsClassRoute, IsBuiltWhat, AreBuilt, AllBuilt}
+use Rattle.pas_cache.specs.Serves.{IsClassRoute}
+use Rattle.pas_replay.specs.Replays.{IsBuiltWhat, AreBuilt, AllBuilt}
 
 either : (t : Bool) (n : ℕ) (o : Option ℕ) (size : ℕ) → IsClassRoute (route_with o size) → IsClassRoute (route_with (if t then Some n else o) size)
 either true n o size is = tt

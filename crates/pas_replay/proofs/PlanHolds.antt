@@ -1,9 +1,11 @@
 -- The plan of a text: its region, its bounds and its phases.
-use Rattle.std.proofs.Common.{◌≡◌, ℕ, zero, suc, ◌+◌, ◌*◌, ◌^◌, ◌<◌, ◌≤◌, ◌==◌, ◌&&◌, Bool, true, false, if◌then◌else◌, List, [], ◌∷◌, length, slice_index, Option, Some, None, refl, ap, sym, ◌∙◌, subst, arith, length-append}
+use Rattle.std.proofs.Common.{◌≡◌, ℕ, zero, suc, ◌+◌, ◌*◌, ◌^◌, ◌<◌, ◌≤◌, ◌==◌, ◌&&◌, Bool, true, false, if◌then◌else◌, List, [], ◌∷◌, ◌++◌, length, slice_index, inl, inr, Option, Some, None, refl, ap, sym, ◌∙◌, subst, arith, length-append}
 use Rattle.std.specs.Prelude.{Result, Ok, Err, nat_le, nat_lt, codes}
 use Rattle.std.proofs.Math.Pow.{pow-lt}
 use Rattle.std.proofs.lemmas.Nat.{or_lt, pow_pos}
-use Rattle.std.proofs.lemmas.Bool.{leb-true, ltb-true, and_parts}
+use Rattle.std.proofs.lemmas.Bool.{leb-true, ltb-true, and_parts, cases_lt}
+use Rattle.std.proofs.lemmas.List.{get_or_append_left}
+use Rattle.std.proofs.Math.Seq.{get_or-append_seam}
 use Rattle.pas_profile.specs.Profiles.{IsValid}
 use Rattle.pas_profile.specs.declared.profile.Profile.{Profile}
 use Rattle.pas_trace.specs.Texts.{pieces, put_first, without_empty_end, lines_of, words_of}
@@ -16,10 +18,11 @@ use Rattle.pas_trace.specs.declared.fault.TraceFault.{TraceFault}
 use Rattle.pas_trace.specs.declared.item.Item.{Item}
 use Rattle.pas_trace.specs.declared.item.Item.TheVariants.{Blank, Shares, NextPhase, Allocates, Frees, FreesRaw, Flushes, Stops, Ticks, Passes, Idles}
 use Rattle.pas_trace.specs.declared.plan.Plan.{Plan}
+use Rattle.pas_trace.proofs.Telling.{bound-other}
 use Rattle.pas_replay.specs.Acts.{acts_of}
-use Rattle.pas_replay.specs.Fit.{AreFit, costs_of, ops_in, marks_in, AllBelow}
-use Rattle.pas_replay.specs.Replays.{AllBuilt, phases_of, IsBuilt}
-use Rattle.pas_replay.proofs.PlanFacts.{flat, acts_ops, acts_marks, built_flat, below_flat, AreChecked, AreRead, all_read, first_holds, good, own_within, phases_few}
+use Rattle.pas_replay.specs.Fit.{AreFit, costs_of, own_costs_of, ops_in, marks_in, AllBelow}
+use Rattle.pas_replay.specs.Replays.{AreBuilt, AllBuilt, phases_of, IsBuilt}
+use Rattle.pas_replay.proofs.PlanFacts.{flat, acts_ops, acts_marks, built_flat, below_flat, some_is, if_some, ok_is, AreChecked, AreRead, all_read, first_holds, counted, good, phases_few}
 
 -- ---- lines are no more than bytes
 put_few : (b : ℕ) (ps : List (List ℕ)) → length (put_first b ps) ≤ length ps + 1
@@ -53,13 +56,6 @@ record IsHeader (f : Profile) : Type 0 where
   heaps : f.heaps ≤ 32
   some_age : 1 ≤ f.age
   age : f.age ≤ 1000000
-
-some_is : {A : Type 0} {x y : A} → Some x ≡ Some y → x ≡ y
-some_is h = cc
-
-if_some : {A : Type 0} (t : Bool) (o : Option A) (x : A) → (if t then o else None) ≡ Some x → (t ≡ true) × (o ≡ Some x)
-if_some true o x e = (refl, e)
-if_some false o x e = absurd (let bad : None ≡ Some x = e in cc)
 
 in_range : (least most n : ℕ) (o : Option ℕ) → within least most o ≡ Some n → (least ≤ n) × (n ≤ most)
 in_range least most n None e = absurd (let bad : None ≡ Some n = e in cc)
@@ -104,27 +100,21 @@ header_words (a ∷ b ∷ c ∷ d ∷ g ∷ h ∷ i ∷ j ∷ k ∷ m ∷ []) f 
 header_words (a ∷ b ∷ c ∷ d ∷ g ∷ h ∷ i ∷ j ∷ k ∷ m ∷ n ∷ ws) f e = no_header f e
 
 -- ---- the marks of shared heaps are of its heaps
-power_some : (k : ℕ) → 0 < 2 ^ k
-power_some k = pow_pos k
-
 shared_lt : (f : Profile) (items : List Item) → AreChecked f items → shared_in items < 2 ^ f.heaps
-shared_lt f [] passed = power_some f.heaps
-shared_lt f (Blank ∷ earlier) passed = shared_lt f earlier passed.1
-shared_lt f (Shares h ∷ earlier) passed = or_lt f.heaps (shared_in earlier) (2 ^ h) (shared_lt f earlier passed.1) (pow-lt (ltb-true h f.heaps (first_holds (nat_lt h f.heaps) Reason.BadHeap _ passed.0).0))
-shared_lt f (NextPhase ∷ earlier) passed = shared_lt f earlier passed.1
-shared_lt f (Allocates t n h s a ∷ earlier) passed = shared_lt f earlier passed.1
-shared_lt f (Frees t n ∷ earlier) passed = shared_lt f earlier passed.1
-shared_lt f (FreesRaw t a n ∷ earlier) passed = shared_lt f earlier passed.1
-shared_lt f (Flushes t ∷ earlier) passed = shared_lt f earlier passed.1
-shared_lt f (Stops t ∷ earlier) passed = shared_lt f earlier passed.1
-shared_lt f (Ticks e ∷ earlier) passed = shared_lt f earlier passed.1
-shared_lt f (Passes ∷ earlier) passed = shared_lt f earlier passed.1
-shared_lt f (Idles n ∷ earlier) passed = shared_lt f earlier passed.1
+shared_lt f [] checked = pow_pos f.heaps
+shared_lt f (Blank ∷ earlier) checked = shared_lt f earlier checked.1
+shared_lt f (Shares h ∷ earlier) checked = or_lt f.heaps (shared_in earlier) (2 ^ h) (shared_lt f earlier checked.1) (pow-lt (ltb-true h f.heaps (first_holds (nat_lt h f.heaps) Reason.BadHeap _ checked.0.passes).0))
+shared_lt f (NextPhase ∷ earlier) checked = shared_lt f earlier checked.1
+shared_lt f (Allocates t n h s a ∷ earlier) checked = shared_lt f earlier checked.1
+shared_lt f (Frees t n ∷ earlier) checked = shared_lt f earlier checked.1
+shared_lt f (FreesRaw t a n ∷ earlier) checked = shared_lt f earlier checked.1
+shared_lt f (Flushes t ∷ earlier) checked = shared_lt f earlier checked.1
+shared_lt f (Stops t ∷ earlier) checked = shared_lt f earlier checked.1
+shared_lt f (Ticks e ∷ earlier) checked = shared_lt f earlier checked.1
+shared_lt f (Passes ∷ earlier) checked = shared_lt f earlier checked.1
+shared_lt f (Idles n ∷ earlier) checked = shared_lt f earlier checked.1
 
 -- ---- the text that was read
-ok_is : {A B : Type 0} {x y : A} → (let a : Result A B = Ok x in a) ≡ Ok y → x ≡ y
-ok_is h = cc
-
 abbrev parts : Profile → List Item → Parsed
 parts header items = record { header = header; items = items }
 
@@ -147,7 +137,7 @@ with_header_is line (Some f) header items lines is e =
 
 record AreOf (header : Profile) (items : List Item) (count : ℕ) : Type 0 where
   limits : IsHeader header
-  passed : AreChecked header items
+  checked : AreChecked header items
   few : length items ≤ count
 
 lines_parsed : (lines : List (List ℕ)) (header : Profile) (items : List Item) → parsed_lines lines ≡ Ok (parts header items) → AreOf header items (length lines)
@@ -155,7 +145,7 @@ lines_parsed [] header items e = absurd (let bad : Err _ ≡ Ok (parts header it
 lines_parsed (line ∷ lines) header items e =
     let p = with_header_is line (header_of line) header items lines refl e in
     let few = p.read.few in
-    record { limits = p.limits; passed = p.read.passed; few = omega (arith, few) }
+    record { limits = p.limits; checked = p.read.checked; few = omega (arith, few) }
 
 text_parsed : (text : List ℕ) (header : Profile) (items : List Item) → parsed text ≡ Ok (parts header items) → AreOf header items (length (lines_of text))
 text_parsed text header items e = lines_parsed (lines_of text) header items e
@@ -176,7 +166,7 @@ plan_valid {text} {plan} is =
       age = all.limits.age;
       some_heap = all.limits.one_heap;
       heaps = all.limits.heaps;
-      shared = shared_lt is.header is.items all.passed;
+      shared = shared_lt is.header is.items all.checked;
     })
 
 bounds_count : (f : Profile) (items : List Item) (n : ℕ) → length (bounds_upto f items n) ≡ n
@@ -196,32 +186,49 @@ plan_phases {text} {plan} is short =
     let high = p.1 in
     omega (arith, n, few, lines, high, short)
 
--- what a plan that can be replayed keeps
-pub record Suffices (limit : ℕ) (plan : Plan) : Type 0 where
-  pub fit : AreFit limit 1 [] (ops_in (acts_of (phases_of plan)))
-  pub bound : plan.profile.pages + costs_of (ops_in (acts_of (phases_of plan))) ≤ slice_index (bounds_of plan.bounds) 1
-  pub total : plan.profile.pages + costs_of (ops_in (acts_of (phases_of plan))) ≤ plan.total
-  pub marks : marks_in (acts_of (phases_of plan)) ≤ length (phases_of plan) + 1
+-- its acts have a mark for each phase at most, and one more
+pub plan_marks : (plan : Plan) → marks_in (acts_of plan.profile.threads (phases_of plan)) ≤ length (phases_of plan) + 1
+plan_marks plan = acts_marks plan.profile.threads (phases_of plan)
 
-second_bound : (f : Profile) (items : List Item) (n : ℕ) → n ≡ 1 → slice_index (bounds_upto f items (n + 1)) 1 ≡ f.pages + own_costs f 1 items
-second_bound f items n is = ap (λ k. slice_index (bounds_upto f items (k + 1)) 1) is
+-- its operations are those of the items
+plan_ops : {text : List ℕ} {plan : Plan} (is : IsPlanOf text plan) → ops_in (acts_of plan.profile.threads (phases_of plan)) ≡ flat (phases_in is.items)
+plan_ops {text} {plan} is = acts_ops plan.profile.threads (phases_of plan) ∙ ap flat is.phases
 
-pub plan_suffices : {text : List ℕ} {plan : Plan} (limit : ℕ) → IsPlanOf text plan → IsBuilt plan → AllBelow limit (phases_of plan) → Suffices limit plan
-plan_suffices {text} {plan} limit is built below =
-    let all = of_plan is in
-    let one : is.header.threads ≡ 1 = ap (λ f. f.threads) (sym is.profile) ∙ built.one_thread in
-    let pages : plan.profile.pages ≡ is.header.pages = ap (λ f. f.pages) is.profile in
-    let g = good limit is.header is.items one all.passed (built_flat (phases_in is.items) (subst AllBuilt is.phases built.built)) (below_flat limit (phases_in is.items) (subst (AllBelow limit) is.phases below)) in
-    let ops : ops_in (acts_of (phases_of plan)) ≡ flat (phases_in is.items) = acts_ops (phases_of plan) ∙ ap flat is.phases in
-    let n = ap costs_of ops in
-    let cost = g.cost in
-    record {
-      fit = subst (AreFit limit 1 []) (sym ops) g.fit;
-      bound = let b = ap (λ bs. slice_index bs 1) is.bounds ∙ second_bound is.header is.items is.header.threads one in omega (arith, n, cost, b, pages);
-      total =
-          let own = own_within is.header 1 is.items in
-          let t = is.total in
-          let product = ap (λ k. k * is.header.pages) one in
-          omega (arith, n, cost, own, t, product, pages);
-      marks = acts_marks (phases_of plan);
-    }
+plan_built : {text : List ℕ} {plan : Plan} (is : IsPlanOf text plan) → IsBuilt plan → AreBuilt (flat (phases_in is.items))
+plan_built {text} {plan} is built = built_flat (phases_in is.items) (subst AllBuilt is.phases built.built)
+
+-- they can be replayed one after the other
+pub plan_fit : {text : List ℕ} {plan : Plan} → IsPlanOf text plan → IsBuilt plan → (limit : ℕ) → AllBelow limit (phases_of plan) → AreFit plan.profile limit [] (ops_in (acts_of plan.profile.threads (phases_of plan)))
+plan_fit {text} {plan} is built limit below =
+    let g = good limit (shared_in is.items) is.header is.items (of_plan is).checked (plan_built is built) (below_flat limit (phases_in is.items) (subst (AllBelow limit) is.phases below)) in
+    subst (λ f. AreFit f limit [] (ops_in (acts_of plan.profile.threads (phases_of plan)))) (sym is.profile) (subst (AreFit (record is.header { shared = shared_in is.items }) limit []) (sym (plan_ops is)) g.fit)
+
+bound_at : (f : Profile) (items : List Item) (k n : ℕ) → k < n → slice_index (bounds_upto f items n) k ≡ bound_of f items k
+bound_at f items k zero lt = absurd (omega (arith, lt))
+bound_at f items k (suc n) lt =
+    let count = bounds_count f items n in
+    elim (cases_lt k n) [
+      | inl below ↦ get_or_append_left (bounds_upto f items n) (bound_of f items n ∷ []) 0 k (omega (arith, below, count)) ∙ bound_at f items k n below
+      | inr ge ↦
+          let same : k ≡ n = omega (arith, lt, ge) in
+          ap (slice_index (bounds_upto f items n ++ bound_of f items n ∷ [])) (same ∙ sym count) ∙ get_or-append_seam (bounds_upto f items n) (bound_of f items n) [] 0 ∙ ap (bound_of f items) (sym same)
+    ]
+
+-- the bound of a thread suffices for its operations, and for a deed of each page
+pub plan_own : {text : List ℕ} {plan : Plan} → IsPlanOf text plan → IsBuilt plan → (k : ℕ) → 1 ≤ k → k ≤ plan.profile.threads
+    → plan.profile.pages + own_costs_of k (ops_in (acts_of plan.profile.threads (phases_of plan))) ≤ slice_index (bounds_of plan.bounds) k
+plan_own {text} {plan} is built k some le =
+    let threads = ap (λ f. f.threads) is.profile in
+    let pages = ap (λ f. f.pages) is.profile in
+    let at = ap (λ bs. slice_index bs k) is.bounds ∙ bound_at is.header is.items k (is.header.threads + 1) (omega (arith, le, threads)) in
+    let bound = bound-other is.header is.items k (own_costs is.header k is.items) (λ none. absurd (omega (arith, some, none))) refl in
+    let own = ap (own_costs_of k) (plan_ops is) ∙ (counted is.header is.items (plan_built is built)).own k in
+    omega (arith, at, bound, own, pages)
+
+-- .. and the total for those of all threads
+pub plan_total : {text : List ℕ} {plan : Plan} → IsPlanOf text plan → IsBuilt plan → plan.profile.threads * plan.profile.pages + costs_of (ops_in (acts_of plan.profile.threads (phases_of plan))) ≤ plan.total
+plan_total {text} {plan} is built =
+    let deeds = ap (λ f. f.threads * f.pages) is.profile in
+    let cost = ap costs_of (plan_ops is) ∙ (counted is.header is.items (plan_built is built)).total in
+    let total = is.total in
+    omega (arith, deeds, cost, total)

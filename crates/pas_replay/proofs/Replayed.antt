@@ -11,19 +11,17 @@ use Rattle.pas_profile.specs.Layouts.{same_word}
 use Rattle.pas_profile.specs.Lives.{live_word, is_live, turn_of}
 use Rattle.pas_profile.specs.declared.profile.Profile.{Profile}
 use Rattle.pas_profile.specs.declared.directory.Directory.{Directory}
-use Rattle.pas_profile.specs.declared.name.Block.{Block}
 use Rattle.pas_profile.specs.declared.name.Name.{Name}
 use Rattle.pas_profile.specs.declared.word.Word.{Word}
 use Rattle.pas_profile.specs.declared.event.Event.{Event}
 use Rattle.pas_machine.specs.Runs.{address_of}
 use Rattle.pas_machine.specs.State.{live_in, touches, epoch_in}
 use Rattle.pas_steps.specs.Effects.{target, new_value}
-use Rattle.pas_steps.specs.Views.{View, epoch_of}
+use Rattle.pas_steps.specs.Views.{epoch_of}
 use Rattle.pas_steps.specs.Events.{event_of, events_by, with_event, reason_of}
 use Rattle.pas_steps.specs.Allowed.{IsStepOf}
 use Rattle.pas_steps.specs.Lists.{Whole, part, word_after, visible, Legal}
-use Rattle.pas_steps.specs.Desks.{triples}
-use Rattle.pas_steps.specs.Frames.{IsLook, AreLooks}
+use Rattle.pas_steps.specs.Desks.{made, triples}
 use Rattle.pas_steps.specs.States.{profile_of, word_in}
 use Rattle.pas_steps.specs.declared.state.State.{State}
 use Rattle.pas_steps.specs.declared.step.Made.{Made}
@@ -32,14 +30,13 @@ use Rattle.pas_steps.specs.declared.step.Step.TheVariants.{Look, Deed, Back, Tak
 use Rattle.pas_steps.proofs.Frames.{visible_split}
 use Rattle.pas_core.proofs.DeedWords.{deed_words}
 use Rattle.pas_core.proofs.Epochs.{epoch_known}
-use Rattle.pas_trace.specs.declared.plan.What.{What}
-use Rattle.pas_trace.specs.declared.plan.What.TheVariants.{Alloc, Free, Raw, Flush, Stop, Tick, Pass, Idle}
 use Rattle.pas_trace.specs.declared.plan.Plan.{Plan}
 use Rattle.pas_report.specs.Lines.{CanShow, IsShowable}
 use Rattle.pas_report.specs.declared.record.Record.{Record}
-use Rattle.pas_replay.specs.Acts.{Act, Operates, Begins, Closes, acts_of}
-use Rattle.pas_replay.specs.Answers.{Named, standing_for, records_of, IsServed, IsEnded, IsAnswered, Follows}
-use Rattle.pas_replay.specs.Replays.{phases_of, Shows}
+use Rattle.pas_report.specs.declared.record.Said.{Said}
+use Rattle.pas_replay.specs.Acts.{Act, Operates, Begins, Wakes, Closes, Ends, acts_of}
+use Rattle.pas_replay.specs.Answers.{Named, Caches, with_cache, begun, records_of, said_by, Follows}
+use Rattle.pas_replay.specs.Replays.{phases_of, empty_caches, Shows}
 
 -- ---- the events among the records
 abbrev pub events_in : List Record → List Event
@@ -60,64 +57,38 @@ events_told : (es : List Event) → events_in (map Record.Event es) ≡ es
 events_told [] = refl
 events_told (e ∷ es) = ap (λ x. e ∷ x) (events_told es)
 
--- looks make no event
-look_event : (k epoch : ℕ) (s : Step) (a : ℕ) (es : List Event) → IsLook s → with_event (event_of k epoch s a) es ≡ es
-look_event k epoch (Look w) a es is = refl
-look_event k epoch (Deed q d) a es is = absurd is
-look_event k epoch (Back q) a es is = absurd is
-look_event k epoch (Take q j m) a es is = absurd is
-look_event k epoch (Put q j m) a es is = absurd is
-look_event k epoch (Give b) a es is = absurd is
-look_event k epoch (End n g) a es is = absurd is
-look_event k epoch (TakeRight q d) a es is = absurd is
-look_event k epoch (Offer q d) a es is = absurd is
-look_event k epoch (Park q) a es is = absurd is
-look_event k epoch (Unpark q) a es is = absurd is
-look_event k epoch (Stamp q) a es is = absurd is
-look_event k epoch (Hint q) a es is = absurd is
+-- ---- the records of steps have their events
+told : (es : List Event) → events_in (records_of es) ≡ reverse es
+told es = events_told (reverse es)
 
-looks_events : (k : ℕ) (v : View) (xs : List Made) → AreLooks xs → events_by k v xs ≡ []
-looks_events k v [] looks = refl
-looks_events k v (m ∷ xs) looks = look_event k (epoch_of (xs ++ v)) m.step m.answer (events_by k v xs) looks.0 ∙ looks_events k v xs looks.1
+said_none : (k : ℕ) (said : Option Said) → events_in (said_by k said) ≡ []
+said_none k None = refl
+said_none k (Some said) = refl
 
--- ---- the records of an operation have its events
-told : (records : List Record) (es : List Event) → records ≡ records_of es → events_in records ≡ reverse es
-told records es is = ap events_in is ∙ events_told (reverse es)
-
-served_events : (f : Profile) (k : ℕ) (l : Whole) (name size align : ℕ) (block : Option Block) (steps : List Made) (records : List Record) → IsServed f k l name size align block steps records → events_in records ≡ reverse (events_by k (part k l) steps)
-served_events f k l name size align (Some block) steps records is = told records (events_by k (part k l) steps) is.1
-served_events f k l name size align None steps records is = ap events_in is.1 ∙ ap reverse (sym (looks_events k (part k l) steps is.0.still))
-
-ended_events : (k : ℕ) (l : Whole) (name : ℕ) (o : Option (Option Block)) (steps : List Made) (records : List Record) → IsEnded k l name o steps records → events_in records ≡ reverse (events_by k (part k l) steps)
-ended_events k l name None steps records is = absurd is
-ended_events k l name (Some None) steps records is = ap events_in is.1 ∙ ap (λ ms. reverse (events_by k (part k l) ms)) (sym is.0)
-ended_events k l name (Some (Some block)) steps records is = told records (events_by k (part k l) steps) is.1
-
-answered_events : (f : Profile) (k : ℕ) (what : What) (names : List Named) (l : Whole) (steps : List Made) (records : List Record) (names' : List Named) → IsAnswered f k what names l steps records names' → events_in records ≡ reverse (events_by k (part k l) steps)
-answered_events f k (Alloc name heap size align) names l steps records names' is = served_events f k l name size align is.0 steps records is.2
-answered_events f k (Free name) names l steps records names' is = ended_events k l name (standing_for names name) steps records is.0
-answered_events f k (Raw block) names l steps records names' is = absurd is
-answered_events f k Flush names l steps records names' is = absurd is
-answered_events f k Stop names l steps records names' is = absurd is
-answered_events f k (Tick e) names l steps records names' is = absurd is
-answered_events f k Pass names l steps records names' is = absurd is
-answered_events f k (Idle n) names l steps records names' is = absurd is
+told_and_said : (k : ℕ) (es : List Event) (said : Option Said) → events_in (records_of es ++ said_by k said) ≡ reverse es
+told_and_said k es said = events_both (records_of es) (said_by k said) ∙ ap (λ (x : List Event). events_in (records_of es) ++ x) (said_none k said) ∙ append-nil (events_in (records_of es)) ∙ told es
 
 more_events : (k : ℕ) (l : Whole) (steps : List Made) (rs records : List Record) → events_in rs ≡ reverse (visible l) → events_in records ≡ reverse (events_by k (part k l) steps) → events_in (rs ++ records) ≡ reverse (visible (triples k steps ++ l))
 more_events k l steps rs records before here =
     events_both rs records ∙ ap (λ es. es ++ events_in records) before ∙ ap (λ es. reverse (visible l) ++ es) here
     ∙ sym (reverse-append (events_by k (part k l) steps) (visible l)) ∙ ap reverse (sym (visible_split k steps l))
 
-follows_events : (f : Profile) (acts : List Act) (names : List Named) (l l' : Whole) (rs rs' : List Record) → Follows f acts names l rs l' rs' → events_in rs ≡ reverse (visible l) → events_in rs' ≡ reverse (visible l')
-follows_events f [] names l l' rs rs' is before = ap events_in is.1 ∙ before ∙ ap (λ w. reverse (visible w)) (sym is.0)
-follows_events f (Begins n ∷ acts) names l l' rs rs' is before = follows_events f acts names l l' (rs ++ Record.Phase n ∷ []) rs' is (events_both rs (Record.Phase n ∷ []) ∙ append-nil (events_in rs) ∙ before)
-follows_events f (Closes ∷ acts) names l l' rs rs' is before = follows_events f acts names l l' (rs ++ Record.Close ∷ []) rs' is (events_both rs (Record.Close ∷ []) ∙ append-nil (events_in rs) ∙ before)
-follows_events f (Operates op ∷ acts) names l l' rs rs' is before =
-    follows_events f acts is.2 (triples op.actor is.0 ++ l) l' (rs ++ is.1) rs' is.4 (more_events op.actor l is.0 rs is.1 before (answered_events f op.actor op.what names l is.0 is.1 is.2 is.3))
+follows_events : (f : Profile) (acts : List Act) (names : List Named) (caches : Caches) (l l' : Whole) (rs rs' : List Record) → Follows f acts names caches l rs l' rs' → events_in rs ≡ reverse (visible l) → events_in rs' ≡ reverse (visible l')
+follows_events f [] names caches l l' rs rs' is before = ap events_in is.1 ∙ before ∙ ap (λ w. reverse (visible w)) (sym is.0)
+follows_events f (Begins n ∷ acts) names caches l l' rs rs' is before = follows_events f acts names caches l l' (rs ++ Record.Phase n ∷ []) rs' is (events_both rs (Record.Phase n ∷ []) ∙ append-nil (events_in rs) ∙ before)
+follows_events f (Closes ∷ acts) names caches l l' rs rs' is before = follows_events f acts names caches l l' (rs ++ Record.Close ∷ []) rs' is (events_both rs (Record.Close ∷ []) ∙ append-nil (events_in rs) ∙ before)
+follows_events f (Wakes k ∷ acts) names caches l l' rs rs' is before =
+    follows_events f acts names (with_cache caches k (begun (caches k) is.0)) (triples k (made (Look Word.Epoch) is.0 ∷ []) ++ l) l' rs rs' is.1 before
+follows_events f (Operates op ∷ acts) names caches l l' rs rs' is before =
+    follows_events f acts is.2 (with_cache caches op.actor is.3) (triples op.actor is.0 ++ l) l' (rs ++ (records_of (events_by op.actor (part op.actor l) is.0) ++ said_by op.actor is.1)) rs' is.5
+    (more_events op.actor l is.0 rs (records_of (events_by op.actor (part op.actor l) is.0) ++ said_by op.actor is.1) before (told_and_said op.actor (events_by op.actor (part op.actor l) is.0) is.1))
+follows_events f (Ends k ∷ acts) names caches l l' rs rs' is before =
+    follows_events f acts names (with_cache caches k is.1) (triples k is.0 ++ l) l' (rs ++ records_of (events_by k (part k l) is.0)) rs' is.3
+    (more_events k l is.0 rs (records_of (events_by k (part k l) is.0)) before (told (events_by k (part k l) is.0)))
 
 -- the events among the records are the visible ones, in the order in which they were made
 pub visible_told : {plan : Plan} {records : List Record} {state : State} (shows : Shows plan records state) → events_in records ≡ reverse (visible shows.whole)
-visible_told {plan} {records} {state} shows = follows_events plan.profile (acts_of (phases_of plan)) [] [] shows.whole [] records shows.answers refl
+visible_told {plan} {records} {state} shows = follows_events plan.profile (acts_of plan.profile.threads (phases_of plan)) [] empty_caches [] shows.whole [] records shows.answers refl
 
 -- ---- each record can be shown
 abbrev AreShowable : List Event → Type 0

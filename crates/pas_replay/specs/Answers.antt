@@ -1,32 +1,34 @@
 -- Which steps and records answer the acts of a replay.
-use Rattle.std.specs.Prelude.{ℕ, ◌+◌, ◌/◌, ◌%◌, ◌<◌, ◌≤◌, ◌≡◌, ◌≢◌, ◌==◌, ◌⊎◌, true, if◌then◌else◌, List, [], ◌∷◌, ◌++◌, map, reverse, Option, None, Some}
-use Rattle.pas_profile.specs.Classes.{has_bit, class_size, class_grains, IsSlotStart}
+use Rattle.std.specs.Prelude.{ℕ, ◌/◌, ◌%◌, ◌≡◌, ◌==◌, ◌⊎◌, true, if◌then◌else◌, List, [], ◌∷◌, ◌++◌, map, reverse, Option, None, Some, Result, Ok, Err, MatchResult}
+use Rattle.std.specs.List.{AllByRecursion}
 use Rattle.pas_profile.specs.Routes.{route_of}
-use Rattle.pas_profile.specs.Directories.{deed_word_of}
-use Rattle.pas_profile.specs.Profiles.{IsPage}
 use Rattle.pas_profile.specs.declared.profile.Profile.{Profile}
-use Rattle.pas_profile.specs.declared.directory.Directory.{Directory}
-use Rattle.pas_profile.specs.declared.directory.Kind.TheVariants as Kind
-use Rattle.pas_profile.specs.declared.directory.Route.TheVariants as Route
+use Rattle.pas_profile.specs.declared.name.Name.{Name}
 use Rattle.pas_profile.specs.declared.name.Block.{Block}
 use Rattle.pas_profile.specs.declared.word.Word.TheVariants as Word
 use Rattle.pas_profile.specs.declared.event.Event.{Event}
-use Rattle.pas_profile.specs.declared.event.Why.{Why}
+use Rattle.pas_profile.specs.declared.event.FreeFault.{FreeFault}
+use Rattle.pas_profile.specs.declared.event.FreeFault.TheVariants.{Outside, Unaligned}
+use Rattle.pas_profile.specs.declared.event.NoRoom.{NoRoom}
+use Rattle.pas_profile.specs.declared.event.NoRoom.TheVariants.{NoSpace, Held}
 use Rattle.pas_machine.specs.Runs.{in_run, address_of, grain_of, length_of}
 use Rattle.pas_machine.specs.State.{deed_in}
-use Rattle.pas_steps.specs.Effects.{free_word_at}
+use Rattle.pas_steps.specs.Views.{View}
 use Rattle.pas_steps.specs.Events.{events_by}
-use Rattle.pas_steps.specs.Lists.{Whole, part, word_after, visible}
+use Rattle.pas_steps.specs.Lists.{Whole, part, visible}
 use Rattle.pas_steps.specs.Desks.{made, triples}
-use Rattle.pas_steps.specs.Frames.{AreLooks}
 use Rattle.pas_steps.specs.declared.step.Made.{Made}
-use Rattle.pas_steps.specs.declared.step.Step.{Step}
-use Rattle.pas_steps.specs.declared.step.Step.TheVariants.{Look, Deed, Back, Take, Put, Give, End, TakeRight, Offer, Park, Unpark, Stamp, Hint}
+use Rattle.pas_steps.specs.declared.step.Step.TheVariants.{Look}
 use Rattle.pas_trace.specs.declared.plan.What.{What}
 use Rattle.pas_trace.specs.declared.plan.What.TheVariants.{Alloc, Free, Raw, Flush, Stop, Tick, Pass, Idle}
 use Rattle.pas_report.specs.declared.record.Record.{Record}
-use Rattle.pas_report.specs.declared.record.Said.TheVariants as Said
-use Rattle.pas_replay.specs.Acts.{Act, Operates, Begins, Closes}
+use Rattle.pas_report.specs.declared.record.Said.{Said}
+use Rattle.pas_segregated.specs.Stops.{class_directory}
+use Rattle.pas_cache.specs.Caches.{Cached}
+use Rattle.pas_cache.specs.Changes.{EmptiesLog, StopsAll}
+use Rattle.pas_cache.specs.Serves.{class_of, ServesRequest, AreAllocating, IsPreparing, IsInSlot, IsClassRoute}
+use Rattle.pas_cache.specs.Calls.{TakesName, RefusesName}
+use Rattle.pas_replay.specs.Acts.{Act, Operates, Begins, Wakes, Closes, Ends}
 
 -- ---- what the names of a trace stand for, the newest first: a block, or nothing where the request was refused
 pub record Named : Type 0 where
@@ -41,145 +43,127 @@ abbrev pub standing_for : List Named → ℕ → Option (Option Block)
 standing_for [] name = None
 standing_for (n ∷ names) name = if n.name == name then Some n.block else standing_for names name
 
--- ---- an allocation
--- the directory of heap 0 and the class
-abbrev pub class_directory : ℕ → Directory
-class_directory class = record { heap = 0; kind = Kind.Class class }
+-- ---- what the caches hold, by thread
+abbrev pub Caches : Type 0
+Caches = ℕ → Cached
 
--- these events make pages ready for the directory: its deeds, and backs
-abbrev pub MakeReady : Directory → List Event → Type 0
-MakeReady directory [] = Unit {0}
-MakeReady directory (Event.Deed k page d ∷ es) = (d ≡ directory) × MakeReady directory es
-MakeReady directory (Event.Back k page ∷ es) = MakeReady directory es
-MakeReady directory (Event.Unback k page e ∷ es) = ⊥
-MakeReady directory (Event.Give k block ∷ es) = ⊥
-MakeReady directory (Event.End k name e ∷ es) = ⊥
-MakeReady directory (Event.Reject k name why ∷ es) = ⊥
+-- that of thread k has become c
+abbrev pub with_cache : Caches → ℕ → Cached → Caches
+with_cache caches k c j = if j == k then c else caches j
 
--- how many deeds the events make
-abbrev pub deeds_made : List Event → ℕ
-deeds_made [] = 0
-deeds_made (Event.Deed k page d ∷ es) = deeds_made es + 1
-deeds_made (Event.Back k page ∷ es) = deeds_made es
-deeds_made (Event.Unback k page e ∷ es) = deeds_made es
-deeds_made (Event.Give k block ∷ es) = deeds_made es
-deeds_made (Event.End k name e ∷ es) = deeds_made es
-deeds_made (Event.Reject k name why ∷ es) = deeds_made es
-
--- the pages that the steps stamp, the newest first
-abbrev pub stamped_by : Step → List ℕ → List ℕ
-stamped_by (Look word) pages = pages
-stamped_by (Deed page directory) pages = pages
-stamped_by (Back page) pages = pages
-stamped_by (Take page word mask) pages = pages
-stamped_by (Put page word mask) pages = pages
-stamped_by (Give block) pages = pages
-stamped_by (End name guess) pages = pages
-stamped_by (TakeRight page directory) pages = pages
-stamped_by (Offer page directory) pages = pages
-stamped_by (Park page) pages = pages
-stamped_by (Unpark page) pages = pages
-stamped_by (Stamp page) pages = page ∷ pages
-stamped_by (Hint page) pages = pages
-
-abbrev pub stamps_of : List Made → List ℕ
-stamps_of [] = []
-stamps_of (m ∷ ms) = stamped_by m.step (stamps_of ms)
-
--- a slot of the class begins at the grain, on a page of the class, and all its grains are free after the list
-pub record IsFreeSlot (f : Profile) (l : Whole) (class g : ℕ) : Type 0 where
-  pub page : IsPage f (g / 256)
-  pub deed : word_after l (Word.Deed (g / 256)) ≡ deed_word_of (class_directory class)
-  pub start : IsSlotStart class (g % 256)
-  pub free : (x : ℕ) → in_run g (class_grains class) x ≡ true → has_bit (word_after l (free_word_at x)) (x % 64) ≡ true
-
--- The choice of an allocation, from the words before it: the lowest free slot of the lowest page of the class that has one, and no deed;
--- or, where no page of the class has a free slot, the first slot of the lowest page without a deed, whose deed is made.
-pub record IsLowestSlot (f : Profile) (l : Whole) (class g : ℕ) : Type 0 where
-  pub slot : IsFreeSlot f l class g
-  pub lowest : (h : ℕ) → h < g → IsFreeSlot f l class h → ⊥
-
-pub record IsNewPage (f : Profile) (l : Whole) (class g : ℕ) : Type 0 where
-  pub full : (h : ℕ) → IsFreeSlot f l class h → ⊥
-  pub first : g % 256 ≡ 0
-  pub page : IsPage f (g / 256)
-  pub bare : word_after l (Word.Deed (g / 256)) ≡ 0
-  pub lowest : (page : ℕ) → 1 ≤ page → page < g / 256 → word_after l (Word.Deed page) ≢ 0
-
-abbrev pub IsChosen : Profile → Whole → ℕ → ℕ → ℕ → Type 0
-IsChosen f l class g deeds = (IsLowestSlot f l class g × (deeds ≡ 0)) ⊎ (IsNewPage f l class g × (deeds ≡ 1))
-
--- The steps, which actor k made after the list, answer a request for so many bytes at a multiple of the alignment by this block: they
--- make pages ready and then give it. It has the room of its class, heap 0 and an aligned address, each page of its run has a deed of the
--- request's directory then, and it is where the choice says.
-pub record IsAllocated (f : Profile) (k : ℕ) (l : Whole) (size align : ℕ) (block : Block) (steps : List Made) : Type 0 where
-  pub class : ℕ
-  pub route : route_of size align ≡ Route.Class class
-  pub ready : List Event
-  pub events : events_by k (part k l) steps ≡ Event.Give k block ∷ ready
-  pub only : MakeReady (class_directory class) ready
-  pub stamps : stamps_of steps ≡ []
-  pub room : block.room ≡ class_size class
-  pub heap : block.heap ≡ 0
-  pub aligned : address_of block.name % align ≡ 0
-  pub of_directory : (x : ℕ) → in_run (grain_of block.name) (length_of block) x ≡ true → deed_in (visible (triples k steps ++ l)) (x / 256) ≡ Some (class_directory class)
-  pub choice : IsChosen f l class (grain_of block.name) (deeds_made ready)
-
--- ---- a free
--- the block ended, with the epoch, and its page was stamped; or its end was refused, and nothing was stamped
-abbrev pub IsFreeing : ℕ → Block → ℕ → List Event → List ℕ → Type 0
-IsFreeing k block epoch events stamps = ((events ≡ Event.End k block.name epoch ∷ []) × (stamps ≡ grain_of block.name / 256 ∷ []))
-    ⊎ ((why : Why) × (events ≡ Event.Reject k block.name why ∷ []) × (stamps ≡ []))
-
--- The steps, which actor k made after the list, answer the free of this block: the epoch is read first, and then its end succeeds or is
--- refused, with exactly the block's name.
-pub record IsFreed (k : ℕ) (l : Whole) (block : Block) (steps : List Made) : Type 0 where
-  pub epoch : ℕ
-  pub later : List Made
-  pub reads : steps ≡ later ++ made (Look Word.Epoch) epoch ∷ []
-  pub outcome : IsFreeing k block epoch (events_by k (part k l) steps) (stamps_of steps)
-
--- the records of steps: their events in the order in which they were made
+-- ---- records
+-- those of steps: their events in the order in which they were made
 abbrev pub records_of : List Event → List Record
 records_of es = map Record.Event (reverse es)
 
--- The request is refused: no page of the class has a free slot and every page has a deed. Nothing is made but looks, and one record says so.
-pub record IsRefused (f : Profile) (k : ℕ) (l : Whole) (size align : ℕ) (steps : List Made) : Type 0 where
-  pub class : ℕ
-  pub route : route_of size align ≡ Route.Class class
-  pub full : (h : ℕ) → IsFreeSlot f l class h → ⊥
-  pub deeded : (page : ℕ) → IsPage f page → word_after l (Word.Deed page) ≢ 0
-  pub still : AreLooks steps
+-- .. and what is said besides
+abbrev pub said_by : ℕ → Option Said → List Record
+said_by k None = []
+said_by k (Some said) = Record.Said k said ∷ []
 
--- what a request comes to: the block that its name stands for from then on, the steps and the records
-abbrev pub IsServed : Profile → ℕ → Whole → ℕ → ℕ → ℕ → Option Block → List Made → List Record → Type 0
-IsServed f k l name size align (Some block) steps records = IsAllocated f k l size align block steps × (records ≡ records_of (events_by k (part k l) steps))
-IsServed f k l name size align None steps records = IsRefused f k l size align steps × (records ≡ Record.Said k (Said.NoSpace name) ∷ [])
+-- ---- a request
+-- what is said where it was refused
+abbrev pub said_of_room : ℕ → NoRoom → Said
+said_of_room name NoSpace = Said.NoSpace name
+said_of_room name (Held page) = Said.Held page name
 
--- what a free comes to: the name was never asked for (which no trace has), its request was refused, or it stands for a block
-abbrev pub IsEnded : ℕ → Whole → ℕ → Option (Option Block) → List Made → List Record → Type 0
-IsEnded k l name None steps records = ⊥
-IsEnded k l name (Some None) steps records = (steps ≡ []) × (records ≡ Record.Said k (Said.Skipped name) ∷ [])
-IsEnded k l name (Some (Some block)) steps records = IsFreed k l block steps × (records ≡ records_of (events_by k (part k l) steps))
+abbrev pub said_of_request : ℕ → Result Block NoRoom → Option Said
+said_of_request name (Ok block) = None
+said_of_request name (Err room) = Some (said_of_room name room)
 
--- an operation of actor k is answered by these steps and records, after which the names stand for what they stand for. Those that aren't
--- built are never replayed
-abbrev pub IsAnswered : Profile → ℕ → What → List Named → Whole → List Made → List Record → List Named → Type 0
-IsAnswered f k (Alloc name heap size align) names l steps records names' = (block : Option Block) × (heap ≡ 0) × IsServed f k l name size align block steps records × (names' ≡ named name block ∷ names)
-IsAnswered f k (Free name) names l steps records names' = IsEnded k l name (standing_for names name) steps records × (names' ≡ names)
-IsAnswered f k (Raw block) names l steps records names' = ⊥
-IsAnswered f k Flush names l steps records names' = ⊥
-IsAnswered f k Stop names l steps records names' = ⊥
-IsAnswered f k (Tick e) names l steps records names' = ⊥
-IsAnswered f k Pass names l steps records names' = ⊥
-IsAnswered f k (Idle n) names l steps records names' = ⊥
+-- the block that its name stands for from then on
+abbrev pub block_of : Result Block NoRoom → Option Block
+block_of (Ok block) = Some block
+block_of (Err room) = None
+
+-- The block that actor k gave with these steps after the list is of the heap, in a slot of the class, and at a multiple of the alignment. Each page of its run has a deed of
+-- the request's directory then. It was given last, after deeds of this directory and backs.
+pub record IsGiven (k : ℕ) (l : Whole) (heap class align : ℕ) (steps : List Made) (block : Block) : Type 0 where
+  pub of_heap : block.heap ≡ heap
+  pub slot : IsInSlot class block
+  pub aligned : address_of block.name % align ≡ 0
+  pub of_directory : (g : ℕ) → in_run (grain_of block.name) (length_of block) g ≡ true → deed_in (visible (triples k steps ++ l)) (g / 256) ≡ Some (class_directory heap class)
+  pub before : List Event
+  pub events : events_by k (part k l) steps ≡ Event.Give k block ∷ before
+  pub prepared : AllByRecursion (IsPreparing (class_directory heap class)) before
+
+-- a refused request makes no event
+abbrev pub RequestEnds : ℕ → Whole → ℕ → ℕ → ℕ → List Made → Result Block NoRoom → Type 0
+RequestEnds k l heap class align steps answer = MatchResult answer (IsGiven k l heap class align steps) (λ room. events_by k (part k l) steps ≡ [])
+
+-- Actor k's cache, which held c, serves the request, or refuses it with the evidence of its search. Only a flush stamps pages, and none is made.
+pub record IsServed (f : Profile) (k : ℕ) (l : Whole) (c c' : Cached) (name heap size align : ℕ) (steps : List Made) (said : Option Said) (block : Option Block) : Type 0 where
+  pub route : IsClassRoute (route_of size align)
+  pub answer : Result Block NoRoom
+  pub serves : ServesRequest f heap (class_of (route_of size align)) c c' steps answer
+  pub kinds : AreAllocating steps
+  pub ends : RequestEnds k l heap (class_of (route_of size align)) align steps answer
+  pub said_is : said ≡ said_of_request name answer
+  pub block_is : block ≡ block_of answer
+
+-- ---- a free
+abbrev pub said_of_fault : Name → FreeFault → Said
+said_of_fault name Outside = Said.Outside name
+said_of_fault name Unaligned = Said.Unaligned name
+
+-- the name is logged, after a full log was emptied; or it can't be any block's, which is said
+abbrev pub IsFreed : Profile → ℕ → Cached → Cached → Name → List Made → Option Said → Type 0
+IsFreed f k c c' name steps said =
+    (TakesName f k c c' name steps × (said ≡ None))
+    ⊎ ((fault : FreeFault) × RefusesName f c c' name steps fault × (said ≡ Some (said_of_fault name fault)))
+
+-- what a free by a name of the trace comes to: the name was never asked for (which no trace has), its request was refused, or it stands for a
+-- block
+abbrev pub IsFreedBy : Profile → ℕ → Cached → Cached → ℕ → Option (Option Block) → List Made → Option Said → Type 0
+IsFreedBy f k c c' name None steps said = ⊥
+IsFreedBy f k c c' name (Some None) steps said = (steps ≡ []) × (c' ≡ c) × (said ≡ Some (Said.Skipped name))
+IsFreedBy f k c c' name (Some (Some block)) steps said = IsFreed f k c c' block.name steps said
+
+-- ---- a flush and a stop
+pub record IsFlushed (k : ℕ) (c c' : Cached) (steps : List Made) : Type 0 where
+  pub empties : EmptiesLog k c.log steps
+  pub cache : c' ≡ record { locals = c.locals; log = []; idle_since = c.idle_since }
+
+-- the log is emptied, then each local allocator is stopped, without an event, and nothing is cached then
+pub record IsStopped (k : ℕ) (c c' : Cached) (steps : List Made) : Type 0 where
+  pub flushed : List Made
+  pub stopped : List Made
+  pub empties : EmptiesLog k c.log flushed
+  pub stops : StopsAll c.locals stopped
+  pub silent : (v : View) → events_by k v stopped ≡ []
+  pub cache : c' ≡ record { locals = []; log = []; idle_since = c.idle_since }
+  pub steps_are : steps ≡ stopped ++ flushed
+
+-- ---- operations and acts
+-- An operation of actor k is answered by these steps and what is said, after which the names stand for what they stand for and the cache holds
+-- what it holds. Those that aren't built are never replayed.
+abbrev pub IsAnswered : Profile → ℕ → What → List Named → Whole → Cached → List Made → Option Said → List Named → Cached → Type 0
+IsAnswered f k (Alloc name heap size align) names l c steps said names' c' = (block : Option Block) × IsServed f k l c c' name heap size align steps said block × (names' ≡ named name block ∷ names)
+IsAnswered f k (Free name) names l c steps said names' c' = IsFreedBy f k c c' name (standing_for names name) steps said × (names' ≡ names)
+IsAnswered f k (Raw block) names l c steps said names' c' = IsFreed f k c c' block steps said × (names' ≡ names)
+IsAnswered f k Flush names l c steps said names' c' = IsFlushed k c c' steps × (said ≡ None) × (names' ≡ names)
+IsAnswered f k Stop names l c steps said names' c' = IsStopped k c c' steps × (said ≡ None) × (names' ≡ names)
+IsAnswered f k (Tick e) names l c steps said names' c' = ⊥
+IsAnswered f k Pass names l c steps said names' c' = ⊥
+IsAnswered f k (Idle n) names l c steps said names' c' = ⊥
+
+-- the cache after its thread read this epoch at the start of a phase
+abbrev pub begun : Cached → ℕ → Cached
+begun c epoch = record { locals = c.locals; log = c.log; idle_since = epoch }
 
 -- The acts are answered by pieces, in order: the steps of each go onto the list that those before it left, and its records to the end of the
--- records. They begin as l and rs, with what the names stand for, and end as l' and rs'.
-abbrev pub Follows : Profile → List Act → List Named → Whole → List Record → Whole → List Record → Type 0
-Follows f [] names l rs l' rs' = (l' ≡ l) × (rs' ≡ rs)
-Follows f (Begins n ∷ acts) names l rs l' rs' = Follows f acts names l (rs ++ Record.Phase n ∷ []) l' rs'
-Follows f (Closes ∷ acts) names l rs l' rs' = Follows f acts names l (rs ++ Record.Close ∷ []) l' rs'
-Follows f (Operates op ∷ acts) names l rs l' rs' =
-    (steps : List Made) × (records : List Record) × (names' : List Named) × IsAnswered f op.actor op.what names l steps records names'
-    × Follows f acts names' (triples op.actor steps ++ l) (rs ++ records) l' rs'
+-- records: the events of the steps, and what is said. They begin as l and rs, with what the names stand for and what the caches hold, and end as
+-- l' and rs'.
+abbrev pub Follows : Profile → List Act → List Named → Caches → Whole → List Record → Whole → List Record → Type 0
+Follows f [] names caches l rs l' rs' = (l' ≡ l) × (rs' ≡ rs)
+Follows f (Begins n ∷ acts) names caches l rs l' rs' = Follows f acts names caches l (rs ++ Record.Phase n ∷ []) l' rs'
+Follows f (Closes ∷ acts) names caches l rs l' rs' = Follows f acts names caches l (rs ++ Record.Close ∷ []) l' rs'
+Follows f (Wakes k ∷ acts) names caches l rs l' rs' =
+    (epoch : ℕ) × Follows f acts names (with_cache caches k (begun (caches k) epoch)) (triples k (made (Look Word.Epoch) epoch ∷ []) ++ l) rs l' rs'
+Follows f (Operates op ∷ acts) names caches l rs l' rs' =
+    (steps : List Made) × (said : Option Said) × (names' : List Named) × (c' : Cached)
+    × IsAnswered f op.actor op.what names l (caches op.actor) steps said names' c'
+    × Follows f acts names' (with_cache caches op.actor c') (triples op.actor steps ++ l) (rs ++ (records_of (events_by op.actor (part op.actor l) steps) ++ said_by op.actor said)) l' rs'
+Follows f (Ends k ∷ acts) names caches l rs l' rs' =
+    (steps : List Made) × (c' : Cached) × IsStopped k (caches k) c' steps
+    × Follows f acts names (with_cache caches k c') (triples k steps ++ l) (rs ++ records_of (events_by k (part k l) steps)) l' rs'

@@ -1,12 +1,13 @@
 -- What the operations of a plan keep, one after the other, and how many events and records they may make.
-use Rattle.std.specs.Prelude.{ℕ, ◌+◌, ◌<◌, ◌≡◌, ◌==◌, ◌||◌, Bool, true, false, List, [], ◌∷◌}
-use Rattle.pas_profile.specs.Classes.{IsAlignment}
+use Rattle.std.specs.Prelude.{ℕ, ◌+◌, ◌-◌, ◌^◌, ◌<◌, ◌≤◌, ◌≡◌, ◌==◌, ◌||◌, Bool, true, false, if◌then◌else◌, List, [], ◌∷◌}
+use Rattle.pas_profile.specs.Profiles.{IsAdmitted}
 use Rattle.pas_profile.specs.Routes.{route_of}
+use Rattle.pas_profile.specs.declared.profile.Profile.{Profile}
 use Rattle.pas_trace.specs.declared.plan.What.{What}
 use Rattle.pas_trace.specs.declared.plan.What.TheVariants.{Alloc, Free, Raw, Flush, Stop, Tick, Pass, Idle}
 use Rattle.pas_trace.specs.declared.plan.Op.{Op}
-use Rattle.pas_replay.specs.Acts.{Act, Operates, Begins, Closes}
-use Rattle.pas_replay.specs.Replays.{IsClassRoute}
+use Rattle.pas_replay.specs.Acts.{Act, Operates, Begins, Wakes, Closes, Ends}
+use Rattle.pas_cache.specs.Serves.{IsClassRoute}
 
 -- the name is one of these
 abbrev pub is_asked : List ℕ → ℕ → Bool
@@ -24,27 +25,31 @@ asked_after (Tick epoch) asked = asked
 asked_after Pass asked = asked
 asked_after (Idle n) asked = asked
 
--- The operation can be replayed after those that asked for these names. Names are below the limit, and a free has one of those
-abbrev pub IsFitWhat : ℕ → List ℕ → What → Type 0
-IsFitWhat limit asked (Alloc name heap size align) = (name < limit) × IsAlignment align × (heap ≡ 0) × IsClassRoute (route_of size align)
-IsFitWhat limit asked (Free name) = is_asked asked name ≡ true
-IsFitWhat limit asked (Raw block) = ⊥
-IsFitWhat limit asked Flush = ⊥
-IsFitWhat limit asked Stop = ⊥
-IsFitWhat limit asked (Tick epoch) = ⊥
-IsFitWhat limit asked Pass = ⊥
-IsFitWhat limit asked (Idle n) = ⊥
+-- The operation can be replayed after those that asked for these names. Names are below the limit, a free has one of those that were asked for, and
+-- a turn has a next one.
+abbrev pub IsFitWhat : Profile → ℕ → List ℕ → What → Type 0
+IsFitWhat f limit asked (Alloc name heap size align) = (name < limit) × IsAdmitted f size align heap × IsClassRoute (route_of size align)
+IsFitWhat f limit asked (Free name) = is_asked asked name ≡ true
+IsFitWhat f limit asked (Raw block) = block.turn < 2 ^ 40 - 1
+IsFitWhat f limit asked Flush = Unit {0}
+IsFitWhat f limit asked Stop = Unit {0}
+IsFitWhat f limit asked (Tick epoch) = ⊥
+IsFitWhat f limit asked Pass = ⊥
+IsFitWhat f limit asked (Idle n) = ⊥
 
--- the operations are all actor k's and can be replayed one after the other
-abbrev pub AreFit : ℕ → ℕ → List ℕ → List Op → Type 0
-AreFit limit k asked [] = Unit {0}
-AreFit limit k asked (op ∷ ops) = (op.actor ≡ k) × IsFitWhat limit asked op.what × AreFit limit k (asked_after op.what asked) ops
+abbrev pub IsThread : Profile → ℕ → Type 0
+IsThread f k = (1 ≤ k) × (k ≤ f.threads)
 
--- how many events an operation may make, beside a deed
+-- the operations are those of threads and can be replayed one after the other
+abbrev pub AreFit : Profile → ℕ → List ℕ → List Op → Type 0
+AreFit f limit asked [] = Unit {0}
+AreFit f limit asked (op ∷ ops) = IsThread f op.actor × IsFitWhat f limit asked op.what × AreFit f limit (asked_after op.what asked) ops
+
+-- how many events an operation may make in the end, beside a deed; a free makes its one at a flush
 abbrev pub cost_of_what : What → ℕ
 cost_of_what (Alloc name heap size align) = 2
 cost_of_what (Free name) = 1
-cost_of_what (Raw block) = 0
+cost_of_what (Raw block) = 1
 cost_of_what Flush = 0
 cost_of_what Stop = 0
 cost_of_what (Tick epoch) = 0
@@ -55,18 +60,27 @@ abbrev pub costs_of : List Op → ℕ
 costs_of [] = 0
 costs_of (op ∷ ops) = cost_of_what op.what + costs_of ops
 
+-- .. of the operations of one thread
+abbrev pub own_costs_of : ℕ → List Op → ℕ
+own_costs_of k [] = 0
+own_costs_of k (op ∷ ops) = (if op.actor == k then cost_of_what op.what else 0) + own_costs_of k ops
+
 -- the operations of the acts, and how many of the acts are marks
 abbrev pub ops_in : List Act → List Op
 ops_in [] = []
 ops_in (Operates op ∷ acts) = op ∷ ops_in acts
 ops_in (Begins n ∷ acts) = ops_in acts
+ops_in (Wakes k ∷ acts) = ops_in acts
 ops_in (Closes ∷ acts) = ops_in acts
+ops_in (Ends k ∷ acts) = ops_in acts
 
 abbrev pub marks_in : List Act → ℕ
 marks_in [] = 0
 marks_in (Operates op ∷ acts) = marks_in acts
 marks_in (Begins n ∷ acts) = marks_in acts + 1
+marks_in (Wakes k ∷ acts) = marks_in acts
 marks_in (Closes ∷ acts) = marks_in acts + 1
+marks_in (Ends k ∷ acts) = marks_in acts
 
 -- ---- the names of the operations are below the limit
 abbrev pub IsBelow : ℕ → What → Type 0

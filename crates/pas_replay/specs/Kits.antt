@@ -1,26 +1,45 @@
 -- A kit that nobody used, made for a plan.
-use Rattle.std.specs.Prelude.{ℕ, ◌≡◌, false, List, [], All, None, map}
-use Rattle.pas_profile.specs.Rooms.{size_of_room}
+use Rattle.std.specs.Prelude.{ℕ, ◌+◌, ◌<◌, ◌≡◌, List, [], length, Option, Some, None, All, slice_index, slice_index_or}
+use Rattle.pas_profile.specs.Rooms.{shown, size_of_room}
 use Rattle.pas_profile.specs.declared.room.EventRoom.{EventRoom}
 use Rattle.pas_trace.specs.Plans.{bounds_of}
 use Rattle.pas_trace.specs.declared.plan.Plan.{Plan}
-use Rattle.pas_plain.specs.Plain.{profile_of, RegionStands, PassStands, passes_from}
-use Rattle.pas_replay.specs.Calls.{classes_of}
+use Rattle.pas_plain.specs.Plain.{profile_of, actor_of, room_of_pass, RegionStands, PassStands}
+use Rattle.pas_plain.specs.declared.pass.PlainPass.{PlainPass}
+use Rattle.pas_cache.specs.Caches.{cached}
 use Rattle.pas_replay.specs.Fit.{AllBelow}
 use Rattle.pas_replay.specs.Names.{block_named, names_held}
-use Rattle.pas_replay.specs.Replays.{phases_of}
-use Rattle.pas_replay.specs.Sets.{is_member}
+use Rattle.pas_replay.specs.Replays.{phases_of, empty_cache}
 use Rattle.pas_replay.specs.declared.kit.PlainKit.{PlainKit}
+use Rattle.pas_replay.specs.declared.seats.Thread.{Thread}
+
+-- ---- the parts of a kit
+-- a room for each of so many actors, from actor 0 on, of the size that was left for it, with no event
+pub record AreRooms (sizes : ℕ → Option ℕ) (count : ℕ) (rooms : List EventRoom) : Type 0 where
+  pub many : length rooms ≡ count
+  pub each : (k : ℕ) (d : EventRoom) → k < count → sizes k ≡ Some (size_of_room (slice_index_or rooms k d))
+  pub empty : All (λ room. shown room ≡ []) rooms
+
+-- a thread for each pass but the first, with that pass and an empty cache
+pub record AreThreads (passes : List PlainPass) (threads : List Thread) : Type 0 where
+  pub many : length threads + 1 ≡ length passes
+  pub each : (i : ℕ) (d : Thread) (p : PlainPass) → i < length threads
+      → ((slice_index_or threads i d).pass ≡ Some (slice_index_or passes (1 + i) p)) × (cached (slice_index_or threads i d).cache ≡ empty_cache)
+
+-- a thread that did nothing yet: its pass has room for its bound, and its cache is empty
+pub record IsFresh (plan : Plan) (k : ℕ) (thread : Thread) : Type 0 where
+  pub pass : PlainPass
+  pub present : thread.pass ≡ Some pass
+  pub actor : actor_of pass ≡ k
+  pub stands : PassStands plan.profile pass []
+  pub room : room_of_pass pass ≡ slice_index (bounds_of plan.bounds) k
+  pub cache : cached thread.cache ≡ empty_cache
 
 pub record IsKitOf (plan : Plan) (kit : PlainKit) : Type 0 where
   pub profile : profile_of kit.region ≡ plan.profile
-  pub fresh : RegionStands kit.region []
-  pub rooms : List EventRoom
-  pub sizes : map size_of_room rooms ≡ bounds_of plan.bounds
-  pub passes : kit.passes.items ≡ passes_from 0 rooms
-  pub stand : All (λ pass. PassStands plan.profile pass []) kit.passes.items
-  pub no_page : classes_of kit.ledger.pages ≡ []
-  pub no_member : (class page : ℕ) → is_member kit.ledger.pages.sets class page ≡ false
-  pub bound : kit.ledger.pages.bound ≡ plan.profile.pages
-  pub no_name : (name : ℕ) → block_named kit.ledger.names name ≡ None
-  pub names : AllBelow (names_held kit.ledger.names) (phases_of plan)
+  pub opening : RegionStands kit.region []
+  pub count : length kit.threads.items ≡ plan.profile.threads
+  pub fresh : (i : ℕ) (d : Thread) → i < length kit.threads.items → IsFresh plan (1 + i) (slice_index_or kit.threads.items i d)
+  pub no_name : (name : ℕ) → block_named kit.names name ≡ None
+  pub names : AllBelow (names_held kit.names) (phases_of plan)
+  pub none_left : kit.passes.items ≡ []

@@ -1,9 +1,8 @@
 pub mod Acts
 pub mod Answers
-pub mod Sets
+pub mod Replays
+pub mod Fit
 pub mod Names
 pub mod Calls
-pub mod Fit
-pub mod Ledgers
-pub mod Replays
+pub mod Sessions
 pub mod Kits

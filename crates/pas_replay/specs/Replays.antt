@@ -2,9 +2,8 @@
 use Rattle.std.specs.Prelude.{ℕ, ◌≡◌, false, List, [], ◌∷◌, map}
 use Rattle.pas_profile.specs.Profiles.{IsWordOf}
 use Rattle.pas_profile.specs.Routes.{route_of}
-use Rattle.pas_profile.specs.declared.directory.Route.{Route}
 use Rattle.pas_profile.specs.declared.word.Word.{Word}
-use Rattle.pas_steps.specs.Views.{holds}
+use Rattle.pas_steps.specs.Views.{holds, has_right}
 use Rattle.pas_steps.specs.Lists.{Whole, part, word_after, Legal}
 use Rattle.pas_steps.specs.States.{profile_of, word_in}
 use Rattle.pas_steps.specs.declared.state.State.{State}
@@ -14,21 +13,18 @@ use Rattle.pas_trace.specs.declared.plan.What.TheVariants.{Alloc, Free, Raw, Flu
 use Rattle.pas_trace.specs.declared.plan.Op.{Op}
 use Rattle.pas_trace.specs.declared.plan.Plan.{Plan}
 use Rattle.pas_report.specs.declared.record.Record.{Record}
+use Rattle.pas_cache.specs.Caches.{Cached}
+use Rattle.pas_cache.specs.Serves.{IsClassRoute}
 use Rattle.pas_replay.specs.Acts.{acts_of}
-use Rattle.pas_replay.specs.Answers.{Follows}
+use Rattle.pas_replay.specs.Answers.{Caches, Follows}
 
--- ---- what can be replayed today: one thread, no shared heap, and requests of heap 0 and a class and their frees
-abbrev pub IsClassRoute : Route → Type 0
-IsClassRoute (Route.Class class) = Unit {0}
-IsClassRoute Route.Bitfit = ⊥
-IsClassRoute Route.Large = ⊥
-
+-- ---- what can be replayed today: no heap is shared, each request is of a class, and the scavenger has no operation
 abbrev pub IsBuiltWhat : What → Type 0
-IsBuiltWhat (Alloc name heap size align) = (heap ≡ 0) × IsClassRoute (route_of size align)
+IsBuiltWhat (Alloc name heap size align) = IsClassRoute (route_of size align)
 IsBuiltWhat (Free name) = Unit {0}
-IsBuiltWhat (Raw block) = ⊥
-IsBuiltWhat Flush = ⊥
-IsBuiltWhat Stop = ⊥
+IsBuiltWhat (Raw block) = Unit {0}
+IsBuiltWhat Flush = Unit {0}
+IsBuiltWhat Stop = Unit {0}
 IsBuiltWhat (Tick epoch) = ⊥
 IsBuiltWhat Pass = ⊥
 IsBuiltWhat (Idle n) = ⊥
@@ -46,16 +42,24 @@ abbrev pub phases_of : Plan → List (List Op)
 phases_of plan = map ops_of plan.phases.phases.items
 
 pub record IsBuilt (plan : Plan) : Type 0 where
-  pub one_thread : plan.profile.threads ≡ 1
   pub unshared : plan.profile.shared ≡ 0
   pub built : AllBuilt (phases_of plan)
 
--- ---- what a replay shows: a legal list whose pieces and records answer the acts of the plan, at whose end nobody holds a grain, and the state
--- has the words after it
+-- ---- what a replay shows
+-- a cache that nobody used
+abbrev pub empty_cache : Cached
+empty_cache = record { locals = []; log = []; idle_since = 0 }
+
+abbrev pub empty_caches : Caches
+empty_caches k = empty_cache
+
+-- a legal list whose pieces and records answer the acts of the plan, at whose end no actor holds a grain or has a right, and the state has the
+-- words after it
 pub record Shows (plan : Plan) (records : List Record) (state : State) : Type 0 where
   pub whole : Whole
   pub legal : Legal plan.profile whole
-  pub answers : Follows plan.profile (acts_of (phases_of plan)) [] [] [] whole records
+  pub answers : Follows plan.profile (acts_of plan.profile.threads (phases_of plan)) [] empty_caches [] [] whole records
   pub at_rest : (k g : ℕ) → holds (part k whole) g ≡ false
+  pub rights : (k page : ℕ) → has_right (part k whole) page ≡ false
   pub profile : profile_of state ≡ plan.profile
   pub words : (word : Word) → IsWordOf plan.profile word → word_in state word ≡ word_after whole word

@@ -2,7 +2,8 @@
 ghost use Rattle.std.specs.Prelude.{◌↔◌, IsTrue, map};
 ghost use Rattle.pas_profile.specs.Routes.{route_of};
 ghost use Rattle.pas_trace.specs.Plans.{ops_of};
-ghost use Rattle.pas_replay.specs.Replays.{IsClassRoute, IsBuiltWhat, AreBuilt, AllBuilt, IsBuilt};
+ghost use Rattle.pas_cache.specs.Serves.{IsClassRoute};
+ghost use Rattle.pas_replay.specs.Replays.{IsBuiltWhat, AreBuilt, AllBuilt, IsBuilt};
 
 use pas_profile::classes::class_size;
 use pas_trace::{Op, Phase, Plan, What};
@@ -28,14 +29,9 @@ fn is_built_what(what: What) -> bool
     ensures { IsTrue result ↔ IsBuiltWhat what }
 {
     match what {
-        What::Alloc {
-            heap,
-            size,
-            align,
-            ..
-        } => heap == 0 && has_class(size, align),
-        What::Free { .. } => true,
-        _ => false,
+        What::Alloc { size, align, .. } => has_class(size, align),
+        What::Free { .. } | What::Raw { .. } | What::Flush | What::Stop => true,
+        What::Tick(_) | What::Pass | What::Idle(_) => false,
     }
 }
 
@@ -63,10 +59,9 @@ fn all_built(phases: &[Phase]) -> bool
     true
 }
 
-/// Whether the plan can be replayed: it has one thread, no shared heap, and asks for nothing but blocks of classes of heap 0 and their
-/// frees by name.
+/// Whether the plan can be replayed: it has no shared heap, asks for blocks of classes alone, and has no operation of the scavenger.
 pub fn is_built(plan: &Plan) -> bool
     ensures { IsTrue result ↔ IsBuilt plan.now }
 {
-    plan.profile.threads == 1 && plan.profile.shared == 0 && all_built(plan.phases.as_slice())
+    plan.profile.shared == 0 && all_built(plan.phases.as_slice())
 }

@@ -1,61 +1,120 @@
-//! The operations of a plan in order.
-ghost use Rattle.std.specs.Prelude.{◌≡◌, ◌+◌, ◌<◌, ◌++◌, ◌^◌, true, length, map, [], List};
-ghost use Rattle.pas_steps.specs.Desks.{Seat};
+//! The phases of a plan in order, and the close.
+ghost use Rattle.std.specs.Prelude.{◌≡◌, ◌+◌, ◌<◌, ◌++◌, ◌^◌, ℕ, map, length, [], List};
+ghost use Rattle.pas_bits.specs.Masks.{is_set};
 ghost use Rattle.pas_trace.specs.Plans.{ops_of};
-ghost use Rattle.pas_replay.specs.Acts.{Act, Operates, acts_of};
-ghost use Rattle.pas_replay.specs.Ledgers.{SoFar};
+ghost use Rattle.pas_plain.specs.Plain.{profile_of};
+ghost use Rattle.pas_replay.specs.Acts.{Act, Wakes, Operates, Ends, is_active, active_from, numbers_from, acts_of};
+ghost use Rattle.pas_replay.specs.Sessions.{SoFar, AreEmpty};
+ghost use Rattle.pas_report.specs.declared.records.Records.{Records as TheRecords};
+ghost use Rattle.pas_replay.specs.declared.names.Names.{Names as TheNames};
 
-use crate::ledger::Ledger;
-use crate::serving::{free, serve};
+use crate::names::Names;
+use crate::seats::{Thread, operate, wake};
+use pas_bits::Mask4;
+use pas_plain::PlainRegion;
 use pas_report::{Record, Records};
-use pas_steps::Desk;
 use pas_trace::{Op, Phase, What};
 
 /// The number of the phase that begins without a mark.
 const UNMARKED: u32 = 1;
 
-/// Performs the operations of one phase in order.
-fn perform<D: Desk>(ops: &[Op], desk: &mut D, ledger: &mut Ledger, out: &mut Records)
-    requires told { D.tells ≡ true }
-    requires so_far { (all : List Act) × (more : List Act) × SoFar (D.standing desk.old).seat all (map Operates ops.now ++ more) (D.standing desk.old) ledger.old out.old }
-    ensures so_far { (all more : List Act) → SoFar (D.standing desk.old).seat all (map Operates ops.now ++ more) (D.standing desk.old) ledger.old out.old → SoFar (D.standing desk.old).seat all more (D.standing desk.new) ledger.new out.new }
-    ensures seat { (D.standing desk.new).seat ≡ (D.standing desk.old).seat }
-    ensures home { D.home desk.new ≡ D.home desk.old }
+/// The threads that have an operation among these, by their numbers.
+fn active(ops: &[Op]) -> Mask4
+    ensures { (k : ℕ) → is_set result k ≡ is_active ops.now k }
 {
+    let mut threads = Mask4::of([0; 4]);
     for op in ops {
-        match op.what {
-            What::Alloc {
-                name,
-                heap: _,
-                size,
-                align,
-            } => serve(desk, ledger, out, name, size, align),
-            What::Free { name } => free(desk, ledger, out, name),
-            _ => unreachable!(),
-        }
+        threads.set(op.actor);
     }
+    threads
 }
 
-/// Performs the operations of the phases in order, with a mark before each phase from the second on and one at the close.
-pub(crate) fn replay<D: Desk>(
-    phases: &[Phase],
-    desk: &mut D,
-    ledger: &mut Ledger,
-    out: &mut Records,
-)
-    requires told { D.tells ≡ true }
-    requires phases { length phases.now < 2 ^ 32 }
-    requires so_far { SoFar (D.standing desk.old).seat (acts_of (map ops_of phases.now)) (acts_of (map ops_of phases.now)) (D.standing desk.old) ledger.old out.old }
-    ensures so_far { SoFar (D.standing desk.old).seat (acts_of (map ops_of phases.now)) [] (D.standing desk.new) ledger.new out.new }
-    ensures home { D.home desk.new ≡ D.home desk.old }
+/// Each thread that has an operation in the phase reads the epoch.
+fn wake_all(region: PlainRegion, threads: &mut [Thread], ops: &[Op]) -> PlainRegion
+    requires few { length threads.old < 32 }
+    requires so_far { (all : List Act) × (more : List Act) × (table : TheNames) × (out : TheRecords)
+        × SoFar (profile_of region) all (map Wakes (active_from 1 (length threads.old) ops.now) ++ more) region threads.old table out }
+    ensures so_far { (all more : List Act) (table : TheNames) (out : TheRecords) → SoFar (profile_of region) all (map Wakes (active_from 1 (length threads.old) ops.now) ++ more) region threads.old table out
+        → SoFar (profile_of region) all more result threads.new table out }
 {
+    let mut region = region;
+    let awake = active(ops);
+    for index in 0..threads.len() {
+        if awake.get(index as u8 + 1) {
+            region = wake(region, &mut threads[index]);
+        }
+    }
+    region
+}
+
+/// Performs the operations of a phase in order.
+fn perform(
+    region: PlainRegion,
+    threads: &mut [Thread],
+    names: &mut Names,
+    ops: &[Op],
+    out: &mut Records,
+) -> PlainRegion
+    requires so_far { (all : List Act) × (more : List Act) × SoFar (profile_of region) all (map Operates ops.now ++ more) region threads.old names.old out.old }
+    ensures so_far { (all more : List Act) → SoFar (profile_of region) all (map Operates ops.now ++ more) region threads.old names.old out.old
+        → SoFar (profile_of region) all more result threads.new names.new out.new }
+{
+    let mut region = region;
+    for op in ops {
+        region = operate(
+            region,
+            &mut threads[op.actor as usize - 1],
+            names,
+            op.what,
+            out,
+        );
+    }
+    region
+}
+
+/// Stops each thread, in order.
+fn stop_all(
+    region: PlainRegion,
+    threads: &mut [Thread],
+    names: &mut Names,
+    out: &mut Records,
+) -> PlainRegion
+    requires so_far { (all : List Act) × (more : List Act) × SoFar (profile_of region) all (map Ends (numbers_from 1 (length threads.old)) ++ more) region threads.old names.old out.old }
+    ensures so_far { (all more : List Act) → SoFar (profile_of region) all (map Ends (numbers_from 1 (length threads.old)) ++ more) region threads.old names.old out.old
+        → SoFar (profile_of region) all more result threads.new names.new out.new }
+    ensures empty { AreEmpty threads.new }
+{
+    let mut region = region;
+    for index in 0..threads.len() {
+        region = operate(region, &mut threads[index], names, What::Stop, out);
+    }
+    region
+}
+
+/// Performs the phases in order, with a mark before each from the second on, and closes: a mark, and the stop of each thread.
+pub(crate) fn replay(
+    region: PlainRegion,
+    threads: &mut [Thread],
+    names: &mut Names,
+    phases: &[Phase],
+    out: &mut Records,
+) -> PlainRegion
+    requires phases { length phases.now < 2 ^ 32 }
+    requires few { length threads.old < 32 }
+    requires so_far { SoFar (profile_of region) (acts_of (length threads.old) (map ops_of phases.now)) (acts_of (length threads.old) (map ops_of phases.now)) region threads.old names.old out.old }
+    ensures so_far { SoFar (profile_of region) (acts_of (length threads.old) (map ops_of phases.now)) [] result threads.new names.new out.new }
+    ensures empty { AreEmpty threads.new }
+{
+    let mut region = region;
     let mut number = 0;
     for phase in phases {
         number += 1;
         if number > UNMARKED {
             out.push(Record::Phase(number));
         }
-        perform(phase.as_slice(), desk, ledger, out);
+        region = wake_all(region, threads, phase.as_slice());
+        region = perform(region, threads, names, phase.as_slice(), out);
     }
     out.push(Record::Close);
+    stop_all(region, threads, names, out)
 }

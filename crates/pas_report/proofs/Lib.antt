@@ -5,3 +5,4 @@ pub mod Totalled
 pub mod Agreeing
 pub mod Pieces
 pub mod Resting
+pub mod Placing

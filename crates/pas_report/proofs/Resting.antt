@@ -71,7 +71,7 @@ deed_is_word : (f : Profile) (o : Option Directory) (word : ℕ) → word ≡ wo
 deed_is_word f None word is of = inl is
 deed_is_word f (Some d) word is of = inr (d, of d refl, is)
 
-directory_of : (f : Profile) (d : Directory) → IsValid f → IsDirectoryOf f d → IsDirectory d
+pub directory_of : (f : Profile) (d : Directory) → IsValid f → IsDirectoryOf f d → IsDirectory d
 directory_of f d valid of = let few = valid.heaps in let heap = of.heap in record { heap = omega arith; kind = of.kind }
 
 deed_is_read : (o : Option Directory) (word : ℕ) → word ≡ word_of_deed o → ((d : Directory) → o ≡ Some d → IsDirectory d) → directory_read word ≡ o
@@ -83,7 +83,7 @@ module _ (state : State) (l : Whole) (has : HasWords state l) (valid : IsValid (
   are_deed_words = λ page of.
       deed_is_word (profile_of state) (deed_in (visible l) page) (word_in state (Word.Deed page)) (has.words (Word.Deed page) of ∙ deed_of (profile_of state) l legal page) (directory_is_of (profile_of state) l legal page)
 
-  deed_read : (page : ℕ) → IsPage (profile_of state) page → directory_read (word_in state (Word.Deed page)) ≡ deed_in (visible l) page
+  pub deed_read : (page : ℕ) → IsPage (profile_of state) page → directory_read (word_in state (Word.Deed page)) ≡ deed_in (visible l) page
   deed_read page of = deed_is_read (deed_in (visible l) page) (word_in state (Word.Deed page)) (has.words (Word.Deed page) of ∙ deed_of (profile_of state) l legal page)
       (λ d is. directory_of (profile_of state) d valid (directory_is_of (profile_of state) l legal page d is))
 

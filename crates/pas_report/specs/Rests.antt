@@ -8,7 +8,7 @@ use Rattle.pas_machine.specs.State.{epoch_in}
 use Rattle.pas_steps.specs.Effects.{free_word_at}
 use Rattle.pas_steps.specs.Lists.{Whole, part, word_after, visible}
 use Rattle.pas_steps.specs.States.{profile_of, word_in}
-use Rattle.pas_steps.specs.Views.{holds}
+use Rattle.pas_steps.specs.Views.{holds, has_right}
 use Rattle.pas_steps.specs.declared.state.State.{State}
 use Rattle.pas_report.specs.Reports.{is_covered}
 
@@ -23,6 +23,10 @@ pub record AreFreeOrCovered (f : Profile) (l : Whole) : Type 0 where
 -- no actor holds a grain
 pub record NobodyHolds (l : Whole) : Type 0 where
   pub nobody : (k g : ℕ) → holds (part k l) g ≡ false
+
+-- no actor has the right of a page: each actor gave up every right that it took
+pub record NobodyHasRights (l : Whole) : Type 0 where
+  pub nobody : (k page : ℕ) → has_right (part k l) page ≡ false
 
 -- the stamp of each page is the greatest epoch of an end there: each actor stamped each page where it ended a block
 pub record AreStamped (f : Profile) (l : Whole) : Type 0 where

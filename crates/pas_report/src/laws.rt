@@ -1,14 +1,14 @@
-//! What the report of a region at rest says of the allocator's machine. The law is the contract of an empty function.
-ghost use Rattle.std.specs.Prelude.{◌≡◌, ℕ};
+//! What the report of a region at rest says of the allocator's machine. Each law is the contract of an empty function.
+ghost use Rattle.std.specs.Prelude.{◌≡◌, ◌≢◌, ℕ, not, None};
 ghost use Rattle.pas_profile.specs.Profiles.{IsPage, IsValid};
 ghost use Rattle.pas_profile.specs.declared.profile.Profile.{Profile};
-ghost use Rattle.pas_machine.specs.State.{backed_in};
+ghost use Rattle.pas_machine.specs.State.{backed_in, deed_in};
 ghost use Rattle.pas_steps.specs.Lists.{Legal, Whole, visible};
 ghost use Rattle.pas_steps.specs.States.{profile_of};
 ghost use Rattle.pas_steps.specs.declared.state.State.{State};
 ghost use Rattle.pas_report.specs.Counts.{AreDeedWords, marked_in, report_by_words};
 ghost use Rattle.pas_report.specs.Reports.{report_text};
-ghost use Rattle.pas_report.specs.Rests.{AreFreeOrCovered, AreStamped, HasWords, NobodyHolds};
+ghost use Rattle.pas_report.specs.Rests.{AreFreeOrCovered, AreStamped, HasWords, NobodyHasRights, NobodyHolds};
 
 /// Where the words of a region are those after a legal list of steps, each page's deed word is 0 or a directory's. Where besides each
 /// grain is free or covered by a live block, as when no actor holds one, and each page is stamped, the report by the words is the
@@ -21,4 +21,12 @@ pub fn reports_agree()
     ensures report { (state : State) (l : Whole) → HasWords state l → IsValid (profile_of state) → Legal (profile_of state) l
         → AreFreeOrCovered (profile_of state) l → AreStamped (profile_of state) l
         → report_by_words state ≡ report_text (profile_of state) (visible l) (marked_in state) }
+{}
+
+/// When no actor has the right of a page any more, each page with a deed is marked as offered or as parked, and never as both. So a
+/// report at rest shows of each such page where its right is.
+pub fn rights_are_shown()
+    ensures { (state : State) (l : Whole) → HasWords state l → IsValid (profile_of state) → Legal (profile_of state) l → NobodyHasRights l
+        → (page : ℕ) → IsPage (profile_of state) page → deed_in (visible l) page ≢ None
+        → (marked_in state page).parked ≡ not ((marked_in state page).offered) }
 {}

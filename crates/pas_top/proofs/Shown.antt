@@ -14,6 +14,7 @@ use Rattle.pas_report.specs.Reports.{report_text}
 use Rattle.pas_report.specs.Rests.{AreFreeOrCovered, AreStamped, HasWords}
 use Rattle.pas_report.specs.Rooms.{records_in}
 use Rattle.pas_report.specs.declared.record.Record.{Record}
+use Rattle.pas_report.proofs.Placing.{rights_shown}
 use Rattle.pas_report.proofs.Resting.{are_deed_words, backed_same, nobody_holds, report_agrees}
 use Rattle.pas_trace.specs.Plans.{IsPlanOf}
 use Rattle.pas_replay.specs.Replays.{Shows}
@@ -65,6 +66,7 @@ replayed bytes records state replay = let shows = replay.shows in record {
   run = runs replay.plan.profile shows.whole (plan_valid replay.read) shows.legal;
   marks = marked_in state;
   backed = λ page is. backed_same state shows.whole (has_words shows) (valid_state replay.read shows) (legal_state shows) page (subst (λ (f : Profile). IsPage f page) (sym shows.profile) is);
+  placed = λ page is deeded. rights_shown state shows.whole (has_words shows) (valid_state replay.read shows) (legal_state shows) (record { nobody = shows.rights }) page (subst (λ (f : Profile). IsPage f page) (sym shows.profile) is) deeded;
   text_is = ap (λ (t : List ℕ). lines_of records ++ t) (report_is replay.read shows);
 }
 

@@ -1,8 +1,8 @@
 -- What the top call writes, for each status, and why.
-use Rattle.std.specs.Prelude.{ℕ, ◌<◌, ◌≤◌, ◌≡◌, ◌⊎◌, List, [], ◌∷◌, ◌++◌, Option, Some, Result, Ok, Err, length, codes, map}
+use Rattle.std.specs.Prelude.{ℕ, ◌<◌, ◌≤◌, ◌≡◌, ◌≢◌, ◌⊎◌, not, List, [], ◌∷◌, ◌++◌, Option, None, Some, Result, Ok, Err, length, codes, map}
 use denote.Ref.{Bor}
 use Rattle.pas_machine.specs.Machine.{Run}
-use Rattle.pas_machine.specs.State.{backed_in}
+use Rattle.pas_machine.specs.State.{deed_in, backed_in}
 use Rattle.pas_profile.specs.Profiles.{IsPage}
 use Rattle.pas_steps.specs.Lists.{Whole, Legal, visible}
 use Rattle.pas_trace.specs.Plans.{IsPlanOf, parsed}
@@ -14,7 +14,7 @@ use Rattle.pas_report.specs.Reports.{report_text}
 use Rattle.pas_report.specs.declared.record.Record.{Record}
 use Rattle.pas_replay.specs.Acts.{acts_of}
 use Rattle.pas_replay.specs.Answers.{Follows}
-use Rattle.pas_replay.specs.Replays.{IsBuilt, phases_of}
+use Rattle.pas_replay.specs.Replays.{IsBuilt, phases_of, empty_caches}
 use Rattle.pas_io.specs.Told.{Rose, Writes, WritesFront}
 use Rattle.pas_top.specs.Faults.{fault_text}
 
@@ -22,9 +22,10 @@ use Rattle.pas_top.specs.Faults.{fault_text}
 abbrev pub most_bytes : ℕ
 most_bytes = 16777216
 
--- THE HEADLINE for one thread. The text is that of a replay of the trace that the bytes are: there is a legal list of steps, made of the
--- pieces of the actors that answer the acts of its plan in order; its visible events are a run of the allocator's machine; and the text has a
--- line for each record of these pieces, in order, and then the report of the machine that the events reach.
+-- THE HEADLINE for the order of the text. The text is that of a replay of the trace that the bytes are: there is a legal list of steps, made of
+-- the pieces of its threads that answer the acts of its plan in order, each by the thread's own cache; its visible events are a run of the
+-- allocator's machine; and the text has a line for each record of these pieces, in order, and then the report of the machine that the events
+-- reach. The report marks a page as backed exactly where the machine has it backed, and each page with a deed as offered or as parked.
 pub record IsReplayed (bytes text : List ℕ) : Type 0 where
   pub plan : Plan
   pub read : IsPlanOf bytes plan
@@ -32,10 +33,11 @@ pub record IsReplayed (bytes text : List ℕ) : Type 0 where
   pub whole : Whole
   pub legal : Legal plan.profile whole
   pub records : List Record
-  pub answers : Follows plan.profile (acts_of (phases_of plan)) [] [] [] whole records
+  pub answers : Follows plan.profile (acts_of plan.profile.threads (phases_of plan)) [] empty_caches [] [] whole records
   pub run : Run plan.profile (visible whole)
   pub marks : ℕ → Marked
   pub backed : (page : ℕ) → IsPage plan.profile page → (marks page).backed ≡ backed_in (visible whole) page
+  pub placed : (page : ℕ) → IsPage plan.profile page → deed_in (visible whole) page ≢ None → (marks page).parked ≡ not (marks page).offered
   pub text_is : text ≡ lines_of records ++ report_text plan.profile (visible whole) marks
 
 -- the bytes are a trace without a fault that can't be replayed yet

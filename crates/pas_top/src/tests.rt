@@ -10,14 +10,14 @@ use std::test::Fail;
 const TRACE: &str = "pas 1 pages 4 threads 1 heaps 1 age 2\na 1 1 0 24 16\nf 1 1\n";
 
 const TRANSCRIPT: &str =
-    "1 deed page 1 heap 0 class 32\n1 back page 1\n1 give 0x00001000 turn 0 room 32 heap 0\n1 freed 0x00001000 turn 0 epoch 0\nclose\nreport\npage 1 heap 0 class 32 live 0 free 256 stamp 0 marks backed\ntotal deeds 1 backed 1 live 0 given 1 ended 1\n";
+    "1 deed page 1 heap 0 class 32\n1 back page 1\n1 give 0x00001000 turn 0 room 32 heap 0\nclose\n1 freed 0x00001000 turn 0 epoch 0\nreport\npage 1 heap 0 class 32 live 0 free 256 stamp 0 marks backed+offered+hinted\ntotal deeds 1 backed 1 live 0 given 1 ended 1\n";
 
 const USAGE: &str = "usage: pas order\n";
 
 const NOT_BUILT: &str = "not built\n";
 
 /// Room for each of the texts above.
-const ROOM: usize = 512;
+const ROOM: usize = 1024;
 
 /// The status of a call, and what its sink took.
 #[derive(Debug, Drop)]
@@ -140,7 +140,7 @@ fn failing_writes(rt: HostRuntime) -> Result<(), Fail> {
 }
 
 /// Inputs, the status and the text of each.
-const OUTCOMES: [(&str, u8, &str); 12] = [
+const OUTCOMES: [(&str, u8, &str); 18] = [
     (
         "pas 1 pages 4 threads 1 heaps 1 age 2",
         0,
@@ -149,10 +149,43 @@ const OUTCOMES: [(&str, u8, &str); 12] = [
     (
         "pas 1 pages 1 threads 1 heaps 1 age 2\na 1 1 0 16 16\na 1 2 0 32 16\nf 1 2\nf 1 1\nf 1 1\n",
         0,
-        "1 deed page 1 heap 0 class 16\n1 back page 1\n1 give 0x00001000 turn 0 room 16 heap 0\n1 no-space name 2\n1 skipped name 2\n1 freed 0x00001000 turn 0 epoch 0\n1 ended 0x00001000 turn 0\nclose\nreport\npage 1 heap 0 class 16 live 0 free 256 stamp 0 marks backed\ntotal deeds 1 backed 1 live 0 given 1 ended 1\n",
+        "1 deed page 1 heap 0 class 16\n1 back page 1\n1 give 0x00001000 turn 0 room 16 heap 0\n1 no-space name 2\n1 skipped name 2\nclose\n1 freed 0x00001000 turn 0 epoch 0\n1 ended 0x00001000 turn 0\nreport\npage 1 heap 0 class 16 live 0 free 256 stamp 0 marks backed+offered+hinted\ntotal deeds 1 backed 1 live 0 given 1 ended 1\n",
     ),
-    ("", 1, "line 1: BadHeader\n"),
-    ("\n", 1, "line 1: BadHeader\n"),
+    (
+        "pas 1 pages 1 threads 1 heaps 2 age 2\na 1 1 0 16 16\nf 1 1\nstop 1\na 1 2 1 16 16\nf 1 2\n",
+        0,
+        "1 deed page 1 heap 0 class 16\n1 back page 1\n1 give 0x00001000 turn 0 room 16 heap 0\n1 freed 0x00001000 turn 0 epoch 0\n1 no-space name 2\n1 skipped name 2\nclose\nreport\npage 1 heap 0 class 16 live 0 free 256 stamp 0 marks backed+offered+hinted\ntotal deeds 1 backed 1 live 0 given 1 ended 1\n",
+    ),
+    (
+        "pas 1 pages 1 threads 2 heaps 1 age 2\na 1 1 0 16 16\nf 1 1\nstop 1\na 2 2 0 16 16\nf 1 1\nflush 1\n",
+        0,
+        "1 deed page 1 heap 0 class 16\n1 back page 1\n1 give 0x00001000 turn 0 room 16 heap 0\n1 freed 0x00001000 turn 0 epoch 0\n2 give 0x00001000 turn 1 room 16 heap 0\n1 ended 0x00001000 turn 0\nclose\nreport\npage 1 heap 0 class 16 live 1 free 255 stamp 0 marks backed+offered+hinted\ntotal deeds 1 backed 1 live 1 given 2 ended 1\n",
+    ),
+    (
+        "pas 1 pages 1 threads 1 heaps 1 age 2\na 1 1 0 32 16\nr 1 0x00001000 1\nr 1 0x00001010 0\nr 1 0x00000008 0\nr 1 0x00001008 0\nr 1 0x00002000 0\nr 1 0x00001000 0\n",
+        0,
+        "1 deed page 1 heap 0 class 32\n1 back page 1\n1 give 0x00001000 turn 0 room 32 heap 0\n1 outside 0x00000008 turn 0\n1 unaligned 0x00001008 turn 0\n1 outside 0x00002000 turn 0\nclose\n1 no-block 0x00001000 turn 1\n1 no-block 0x00001010 turn 0\n1 freed 0x00001000 turn 0 epoch 0\nreport\npage 1 heap 0 class 32 live 0 free 256 stamp 0 marks backed+offered+hinted\ntotal deeds 1 backed 1 live 0 given 1 ended 1\n",
+    ),
+    (
+        "pas 1 pages 1 threads 2 heaps 1 age 2\na 1 1 0 16 16\na 2 2 0 16 16\nf 2 2\n",
+        0,
+        "1 deed page 1 heap 0 class 16\n1 back page 1\n1 give 0x00001000 turn 0 room 16 heap 0\n2 held 1 name 2\n2 skipped name 2\nclose\nreport\npage 1 heap 0 class 16 live 1 free 255 stamp 0 marks backed+offered\ntotal deeds 1 backed 1 live 1 given 1 ended 0\n",
+    ),
+    (
+        "pas 1 pages 4 threads 2 heaps 1 age 2\nflush 2\nphase\nstop 1\n",
+        0,
+        "phase 2\nclose\nreport\ntotal deeds 0 backed 0 live 0 given 0 ended 0\n",
+    ),
+    (
+        "",
+        1,
+        "line 1: BadHeader\n",
+    ),
+    (
+        "\n",
+        1,
+        "line 1: BadHeader\n",
+    ),
     (
         "pas 1 pages 4 threads 2 heaps 1 age 2\na 1 1 0 16 16\nf 2 1\n",
         1,
@@ -168,14 +201,13 @@ const OUTCOMES: [(&str, u8, &str); 12] = [
         1,
         "line 4: BadThread\n",
     ),
-    ("pas 1 pages 4 threads 2 heaps 1 age 2\n", 7, NOT_BUILT),
     (
-        "pas 1 pages 4 threads 1 heaps 1 age 2\nflush 1\n",
-        7,
-        NOT_BUILT,
+        "pas 1 pages 4 threads 1 heaps 1 age 2\na 1 1 0 4097 16\nf 1 2\n",
+        1,
+        "line 3: NameUnknown\n",
     ),
     (
-        "pas 1 pages 4 threads 1 heaps 2 age 2\na 1 1 1 16 16\n",
+        "pas 1 pages 4 threads 1 heaps 1 age 2\na 1 1 0 513 16\n",
         7,
         NOT_BUILT,
     ),
@@ -185,9 +217,19 @@ const OUTCOMES: [(&str, u8, &str); 12] = [
         NOT_BUILT,
     ),
     (
-        "pas 1 pages 4 threads 1 heaps 1 age 2\na 1 1 0 4097 16\nf 1 2\n",
-        1,
-        "line 3: NameUnknown\n",
+        "pas 1 pages 4 threads 1 heaps 1 age 2\ntick 0\n",
+        7,
+        NOT_BUILT,
+    ),
+    (
+        "pas 1 pages 4 threads 1 heaps 1 age 2\npass\n",
+        7,
+        NOT_BUILT,
+    ),
+    (
+        "pas 1 pages 4 threads 1 heaps 1 age 2\nidle 0\n",
+        7,
+        NOT_BUILT,
     ),
 ];
 

@@ -1,7 +1,7 @@
 use Rattle.std.proofs.Common.{refl, ◌%◌, ◌∙◌, ap, subst, sym, arith}
 use Rattle.std.proofs.lemmas.Bool.{false≢true}
 use Rattle.pas_profile.specs.Routes.{route_of}
-use Rattle.pas_replay.specs.Replays.{IsClassRoute}
+use Rattle.pas_cache.specs.Serves.{IsClassRoute}
 use Rattle.pas_replay.proofs.Built.{NoneServes, serves, serves_not, never, none_more}
 use Rattle.pas_replay.proofs.buildable.has_class.Goals as goal
 use Rattle.pas_replay.proofs.buildable.has_class.Goals.{else-size-room-via-then-size-room+else-room-align-eq0, else-size-room-via-else-size-room}

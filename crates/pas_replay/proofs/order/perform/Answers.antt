@@ -1,69 +1,49 @@
-use Rattle.std.proofs.Common.{◌++◌, ◌∙◌, refl, List, slice_index_or}
+use Rattle.std.proofs.Common.{◌∙◌, ◌-◌, slice_index_or, ap, arith}
 use Rattle.pas_trace.specs.declared.plan.Op.{Op}
-use Rattle.pas_trace.specs.declared.plan.What.TheVariants.{Alloc, Free}
-use Rattle.std.specs.Prelude.{map}
-use Rattle.pas_replay.specs.Acts.{Act, Operates}
-use Rattle.pas_replay.specs.Ledgers.{SoFar}
-use Rattle.pas_replay.specs.Names.{names_held}
-use Rattle.pas_replay.proofs.Ordering.{can_serve, serve_room, free_room, far_pages, only_two, can_free, after_serve, after_free, op_next, op_last}
+use Rattle.pas_trace.specs.declared.plan.What.TheVariants.{Alloc}
+use Rattle.pas_plain.specs.Plain.{profile_of}
+use Rattle.pas_replay.proofs.Operating.{operation, fit_now, known_now, can_operate, operated}
+use Rattle.pas_replay.proofs.Ordering.{op_next, op_last, place_of}
 use Rattle.pas_replay.proofs.order.perform.Goals as goal
-use Rattle.pas_replay.proofs.order.perform.Goals.{in-Alloc, in-Free}
 
 abbrev first : Op
 first = record { line = 0; actor = 0; what = Alloc 0 0 0 0 }
 
 pub loop-op-init : goal.loop-op-init
-loop-op-init g c = record { far = λ all more far. far; seat = refl; home = refl }
+loop-op-init c = record { far = λ all more far. far }
 
-pub serve-requires-clause-align : goal.serve-requires-clause-align
-serve-requires-clause-align g c = (op_next c.requires.so_far.1 c.args.ops.now c.loop-op.op-index (Alloc c.in-Alloc.name c.in-Alloc.heap c.in-Alloc.size c.in-Alloc.align) first c.loop-op-test.true c.in-Alloc.is (c.loop-op.invariant.far c.requires.so_far.0 c.requires.so_far.1 c.requires.so_far.2)).fit.1.1
+pub overflow_sub-op : goal.overflow_sub-op
+overflow_sub-op c = let low = (op_next c.requires.so_far.1 c.args.ops.now c.loop-op.op-index first c.loop-op-test.true (c.loop-op.invariant.far c.requires.so_far.0 c.requires.so_far.1 c.requires.so_far.2)).fit.0.0 in omega (arith, low)
 
-pub serve-requires-clause-route : goal.serve-requires-clause-route
-serve-requires-clause-route g c = (op_next c.requires.so_far.1 c.args.ops.now c.loop-op.op-index (Alloc c.in-Alloc.name c.in-Alloc.heap c.in-Alloc.size c.in-Alloc.align) first c.loop-op-test.true c.in-Alloc.is (c.loop-op.invariant.far c.requires.so_far.0 c.requires.so_far.1 c.requires.so_far.2)).fit.1.3
+pub bounds-threads-op : goal.bounds-threads-op
+bounds-threads-op c = (place_of (op_next c.requires.so_far.1 c.args.ops.now c.loop-op.op-index first c.loop-op-test.true (c.loop-op.invariant.far c.requires.so_far.0 c.requires.so_far.1 c.requires.so_far.2))).1
 
-pub serve-requires-clause-name : goal.serve-requires-clause-name
-serve-requires-clause-name g c = (op_next c.requires.so_far.1 c.args.ops.now c.loop-op.op-index (Alloc c.in-Alloc.name c.in-Alloc.heap c.in-Alloc.size c.in-Alloc.align) first c.loop-op-test.true c.in-Alloc.is (c.loop-op.invariant.far c.requires.so_far.0 c.requires.so_far.1 c.requires.so_far.2)).fit.1.0
+pub operate-region-requires-clause-unshared : goal.operate-region-requires-clause-unshared
+operate-region-requires-clause-unshared c =
+    let so = c.loop-op.invariant.far c.requires.so_far.0 c.requires.so_far.1 c.requires.so_far.2 in
+    ap (λ f. f.shared) so.profile_is ∙ so.unshared
 
-pub serve-requires-clause-pages : goal.serve-requires-clause-pages
-serve-requires-clause-pages g c = far_pages (op_next c.requires.so_far.1 c.args.ops.now c.loop-op.op-index (Alloc c.in-Alloc.name c.in-Alloc.heap c.in-Alloc.size c.in-Alloc.align) first c.loop-op-test.true c.in-Alloc.is (c.loop-op.invariant.far c.requires.so_far.0 c.requires.so_far.1 c.requires.so_far.2))
+pub operate-region-requires-clause-fit : goal.operate-region-requires-clause-fit
+operate-region-requires-clause-fit c = fit_now (op_next c.requires.so_far.1 c.args.ops.now c.loop-op.op-index first c.loop-op-test.true (c.loop-op.invariant.far c.requires.so_far.0 c.requires.so_far.1 c.requires.so_far.2))
 
-pub serve-requires-clause-room : goal.serve-requires-clause-room
-serve-requires-clause-room g c = serve_room (op_next c.requires.so_far.1 c.args.ops.now c.loop-op.op-index (Alloc c.in-Alloc.name c.in-Alloc.heap c.in-Alloc.size c.in-Alloc.align) first c.loop-op-test.true c.in-Alloc.is (c.loop-op.invariant.far c.requires.so_far.0 c.requires.so_far.1 c.requires.so_far.2))
+pub operate-region-requires-clause-turns : goal.operate-region-requires-clause-turns
+operate-region-requires-clause-turns c = (c.loop-op.invariant.far c.requires.so_far.0 c.requires.so_far.1 c.requires.so_far.2).turns
 
-pub serve-requires-clause-can : goal.serve-requires-clause-can
-serve-requires-clause-can g c = can_serve (op_next c.requires.so_far.1 c.args.ops.now c.loop-op.op-index (Alloc c.in-Alloc.name c.in-Alloc.heap c.in-Alloc.size c.in-Alloc.align) first c.loop-op-test.true c.in-Alloc.is (c.loop-op.invariant.far c.requires.so_far.0 c.requires.so_far.1 c.requires.so_far.2))
-
-pub free-requires-clause-pages : goal.free-requires-clause-pages
-free-requires-clause-pages g c = far_pages (op_next c.requires.so_far.1 c.args.ops.now c.loop-op.op-index (Free c.in-Free.name) first c.loop-op-test.true c.in-Free.is (c.loop-op.invariant.far c.requires.so_far.0 c.requires.so_far.1 c.requires.so_far.2))
-
-pub free-requires-clause-room : goal.free-requires-clause-room
-free-requires-clause-room g c = free_room (op_next c.requires.so_far.1 c.args.ops.now c.loop-op.op-index (Free c.in-Free.name) first c.loop-op-test.true c.in-Free.is (c.loop-op.invariant.far c.requires.so_far.0 c.requires.so_far.1 c.requires.so_far.2))
-
-pub free-requires-clause-can : goal.free-requires-clause-can
-free-requires-clause-can g c = can_free (op_next c.requires.so_far.1 c.args.ops.now c.loop-op.op-index (Free c.in-Free.name) first c.loop-op-test.true c.in-Free.is (c.loop-op.invariant.far c.requires.so_far.0 c.requires.so_far.1 c.requires.so_far.2)) (g.met.D.Desk.limited c.args.desk.now)
-
-pub unreachable-requires : goal.unreachable-requires
-unreachable-requires g c =
-    let far = op_next c.requires.so_far.1 c.args.ops.now c.loop-op.op-index (slice_index_or c.args.ops.now c.loop-op.op-index first).what first c.loop-op-test.true refl (c.loop-op.invariant.far c.requires.so_far.0 c.requires.so_far.1 c.requires.so_far.2) in
-    only_two (names_held c.loop-op.ledger.names) far.asked (slice_index_or c.args.ops.now c.loop-op.op-index first).what far.fit.1 (λ n h s a is. c.in_default.not-Alloc n h s a is) (λ n is. c.in_default.not-Free n is)
+pub operate-region-requires-clause-can : goal.operate-region-requires-clause-can
+operate-region-requires-clause-can c =
+    let so = op_next c.requires.so_far.1 c.args.ops.now c.loop-op.op-index first c.loop-op-test.true (c.loop-op.invariant.far c.requires.so_far.0 c.requires.so_far.1 c.requires.so_far.2) in
+    let op = slice_index_or c.args.ops.now c.loop-op.op-index first in
+    let place = place_of so in
+    can_operate op.actor (op.actor - 1) c.index-threads-op.result (operation (profile_of c.args.region) op) place.0 place.1 so
 
 pub loop-op-preserved : goal.loop-op-preserved
-loop-op-preserved g c = elim c.match-op.branch [
-  | in-Alloc w ↦
-      let far = λ (all more : List Act) (so : SoFar (g.D.Desk.standing c.args.desk.now).seat all (map Operates c.args.ops.now ++ more) (g.D.Desk.standing c.args.desk.now) c.args.ledger.now c.args.out.now).
-      after_serve (g.met.D.Desk.valid c.args.desk.now) (op_next more c.args.ops.now c.loop-op.op-index (Alloc w.in-Alloc.name w.in-Alloc.heap w.in-Alloc.size w.in-Alloc.align) first c.loop-op-test.true w.in-Alloc.is (c.loop-op.invariant.far all more so))
-      (λ v l s. g.met.D.Desk.told_part c.loop-op.desk v l c.requires.told s) w.serve.ensures.serves (λ v l s. g.met.D.Desk.told w.serve.new.desk v l c.requires.told s) in
-      let seat = w.serve.ensures.serves.adds.seat_is ∙ c.loop-op.invariant.seat in
-      let home = w.serve.ensures.home ∙ c.loop-op.invariant.home in
-      rw (w.desk-is, w.ledger-is, w.out-is) (record { far = far; seat = seat; home = home })
-  | in-Free w ↦
-      let far = λ (all more : List Act) (so : SoFar (g.D.Desk.standing c.args.desk.now).seat all (map Operates c.args.ops.now ++ more) (g.D.Desk.standing c.args.desk.now) c.args.ledger.now c.args.out.now).
-      after_free (g.met.D.Desk.valid c.args.desk.now) (g.met.D.Desk.limited c.args.desk.now) (op_next more c.args.ops.now c.loop-op.op-index (Free w.in-Free.name) first c.loop-op-test.true w.in-Free.is (c.loop-op.invariant.far all more so))
-      (λ v l s. g.met.D.Desk.told_part c.loop-op.desk v l c.requires.told s) w.free.ensures.frees (λ v l s. g.met.D.Desk.told w.free.new.desk v l c.requires.told s) in
-      let seat = w.free.ensures.frees.adds.seat_is ∙ c.loop-op.invariant.seat in
-      let home = w.free.ensures.home ∙ c.loop-op.invariant.home in
-      rw (w.desk-is, w.ledger-is, w.out-is) (record { far = far; seat = seat; home = home })
-]
+loop-op-preserved c = record {
+  far = λ all more so0.
+      let so = op_next more c.args.ops.now c.loop-op.op-index first c.loop-op-test.true (c.loop-op.invariant.far all more so0) in
+      let op = slice_index_or c.args.ops.now c.loop-op.op-index first in
+      let place = place_of so in
+      operated op.actor (op.actor - 1) c.index-threads-op.result c.operate-region.new.thread (operation (profile_of c.args.region) op) place.0 place.1 so (known_now so) c.operate-region.ensures.turn c.operate-region.ensures.turns;
+}
 
-pub returns-clause-so_far : goal.returns-clause-so_far
-returns-clause-so_far g c all more far = op_last more c.args.ops.now c.loop-op.op-index c.loop-op-test.false (c.loop-op.invariant.far all more far)
+pub returns : goal.returns
+returns c = record { so_far = λ all more so. op_last more c.args.ops.now c.loop-op.op-index c.loop-op-test.false (c.loop-op.invariant.far all more so) }

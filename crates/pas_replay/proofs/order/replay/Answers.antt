@@ -1,54 +1,104 @@
-use Rattle.std.proofs.Common.{◌+◌, ◌++◌, ◌∙◌, refl, sym, ap, arith, drop}
+use Rattle.std.proofs.Common.{◌≡◌, ◌+◌, ◌++◌, ◌∙◌, [], length, refl, sym, ap, arith, drop}
 use Rattle.std.specs.Prelude.{map}
 use Rattle.pas_trace.specs.Plans.{ops_of}
-use Rattle.pas_replay.specs.Acts.{Operates, acts_of}
-use Rattle.pas_replay.specs.Ledgers.{SoFar}
-use Rattle.pas_replay.proofs.Ordering.{acts_left, phase_next, begins_first, marked, same_seat, back_seat, after_close, ends_here}
+use Rattle.pas_plain.specs.Plain.{profile_of}
+use Rattle.pas_replay.specs.Acts.{Operates, phase_acts, acts_of}
+use Rattle.pas_replay.specs.Sessions.{SoFar}
+use Rattle.pas_replay.proofs.Ordering.{acts_left, phase_next, begins_first, marked, wakes_first, same_phase, at_region, of_profile, after_close, ends_here, ends_first}
 use Rattle.pas_replay.proofs.order.replay.Goals as goal
 use Rattle.pas_replay.proofs.order.replay.Goals.{then-number-gt-UNMARKED, else-number-gt-UNMARKED}
 
 pub loop-phase-init : goal.loop-phase-init
-loop-phase-init g c = record { far = c.requires.so_far; count = refl; home = refl }
+loop-phase-init c = record { far = c.requires.so_far; count = refl }
 
-pub perform-requires-clause-so_far : goal.perform-requires-clause-so_far
-perform-requires-clause-so_far g c =
-    let far = (phase_next c.args.phases.now c.loop-phase.phase-index c.phase-item.result c.as_slice.result.now c.loop-phase-test.true (ap ops_of (sym c.phase-item.is) ∙ sym c.as_slice.ensures) c.loop-phase.invariant.far) in
-    let here : SoFar (g.D.Desk.standing c.args.desk.now).seat (acts_of (map ops_of c.args.phases.now)) (map Operates c.as_slice.result.now ++ acts_left (c.loop-phase.phase-index + 1) (map ops_of (drop (c.loop-phase.phase-index + 1) c.args.phases.now))) (g.D.Desk.standing c.loop-phase.desk) c.loop-phase.ledger c.if-number-gt-UNMARKED.out
+pub wake_all-region-requires-clause-so_far : goal.wake_all-region-requires-clause-so_far
+wake_all-region-requires-clause-so_far c =
+    let ops = c.as_slice.result.now in
+    let threads = length c.args.threads.now in
+    let rest = map ops_of (drop (c.loop-phase.phase-index + 1) c.args.phases.now) in
+    let left = acts_left threads (c.loop-phase.phase-index + 1) rest in
+    let all = acts_of threads (map ops_of c.args.phases.now) in
+    let far = phase_next threads c.args.phases.now c.loop-phase.phase-index c.phase-item.result ops c.loop-phase-test.true (ap ops_of (sym c.phase-item.is) ∙ sym c.as_slice.ensures) c.loop-phase.invariant.far in
+    let count = c.loop-phase.invariant.count in
+    let here : SoFar (profile_of c.args.region) all (phase_acts threads ops ++ left) c.loop-phase.region c.loop-phase.threads c.loop-phase.names c.if-number-gt-UNMARKED.out
     = elim c.if-number-gt-UNMARKED.branch [
       | then-number-gt-UNMARKED w ↦
-          let count = c.loop-phase.invariant.count in
           let more = w.if-number-gt-UNMARKED.true in
-          let is = marked c.loop-phase.phase-index (c.loop-phase.number + 1) c.as_slice.result.now (map ops_of (drop (c.loop-phase.phase-index + 1) c.args.phases.now)) (omega (arith, count, more)) (omega (arith, count)) far w.push.ensures.added w.push.ensures.size in
+          let is = marked threads c.loop-phase.phase-index (c.loop-phase.number + 1) ops rest (omega (arith, count, more)) (omega (arith, count)) far w.push.ensures.added w.push.ensures.size in
           rw (w.out-is) is
       | else-number-gt-UNMARKED w ↦
-          let count = c.loop-phase.invariant.count in
           let less = w.if-number-gt-UNMARKED.false in
-          let is = begins_first c.loop-phase.phase-index c.as_slice.result.now (map ops_of (drop (c.loop-phase.phase-index + 1) c.args.phases.now)) (omega (arith, count, less)) far in
+          let is = begins_first threads c.loop-phase.phase-index ops rest (omega (arith, count, less)) far in
           rw (w.out-is) is
     ] in
-    (acts_of (map ops_of c.args.phases.now), acts_left (c.loop-phase.phase-index + 1) (map ops_of (drop (c.loop-phase.phase-index + 1) c.args.phases.now)), same_seat here.seat_is here)
+    let wakes = wakes_first threads ops left c.loop-phase.auto.threads here in
+    (all, map Operates ops ++ left, c.loop-phase.names, c.if-number-gt-UNMARKED.out, wakes)
+
+pub perform-region-requires : goal.perform-region-requires
+perform-region-requires c =
+    let ops = c.as_slice.result.now in
+    let threads = length c.args.threads.now in
+    let rest = map ops_of (drop (c.loop-phase.phase-index + 1) c.args.phases.now) in
+    let left = acts_left threads (c.loop-phase.phase-index + 1) rest in
+    let all = acts_of threads (map ops_of c.args.phases.now) in
+    let far = phase_next threads c.args.phases.now c.loop-phase.phase-index c.phase-item.result ops c.loop-phase-test.true (ap ops_of (sym c.phase-item.is) ∙ sym c.as_slice.ensures) c.loop-phase.invariant.far in
+    let count = c.loop-phase.invariant.count in
+    let here : SoFar (profile_of c.args.region) all (phase_acts threads ops ++ left) c.loop-phase.region c.loop-phase.threads c.loop-phase.names c.if-number-gt-UNMARKED.out
+    = elim c.if-number-gt-UNMARKED.branch [
+      | then-number-gt-UNMARKED w ↦
+          let more = w.if-number-gt-UNMARKED.true in
+          let is = marked threads c.loop-phase.phase-index (c.loop-phase.number + 1) ops rest (omega (arith, count, more)) (omega (arith, count)) far w.push.ensures.added w.push.ensures.size in
+          rw (w.out-is) is
+      | else-number-gt-UNMARKED w ↦
+          let less = w.if-number-gt-UNMARKED.false in
+          let is = begins_first threads c.loop-phase.phase-index ops rest (omega (arith, count, less)) far in
+          rw (w.out-is) is
+    ] in
+    let wakes = wakes_first threads ops left c.loop-phase.auto.threads here in
+    let woke = of_profile here.profile_is (c.wake_all-region.ensures.so_far all (map Operates ops ++ left) c.loop-phase.names c.if-number-gt-UNMARKED.out wakes) in
+    let again : c.as_slice.result.now ≡ c.as_slice-in-loop-phase.result.now = c.as_slice.ensures ∙ sym c.as_slice-in-loop-phase.ensures in
+    let ready = at_region (same_phase c.as_slice.result.now c.as_slice-in-loop-phase.result.now left again woke) in
+    record { so_far = (all, left, ready) }
 
 pub loop-phase-preserved : goal.loop-phase-preserved
-loop-phase-preserved g c =
-    let far = (phase_next c.args.phases.now c.loop-phase.phase-index c.phase-item.result c.as_slice.result.now c.loop-phase-test.true (ap ops_of (sym c.phase-item.is) ∙ sym c.as_slice.ensures) c.loop-phase.invariant.far) in
-    let here : SoFar (g.D.Desk.standing c.args.desk.now).seat (acts_of (map ops_of c.args.phases.now)) (map Operates c.as_slice.result.now ++ acts_left (c.loop-phase.phase-index + 1) (map ops_of (drop (c.loop-phase.phase-index + 1) c.args.phases.now))) (g.D.Desk.standing c.loop-phase.desk) c.loop-phase.ledger c.if-number-gt-UNMARKED.out
+loop-phase-preserved c =
+    let ops = c.as_slice.result.now in
+    let threads = length c.args.threads.now in
+    let rest = map ops_of (drop (c.loop-phase.phase-index + 1) c.args.phases.now) in
+    let left = acts_left threads (c.loop-phase.phase-index + 1) rest in
+    let all = acts_of threads (map ops_of c.args.phases.now) in
+    let far = phase_next threads c.args.phases.now c.loop-phase.phase-index c.phase-item.result ops c.loop-phase-test.true (ap ops_of (sym c.phase-item.is) ∙ sym c.as_slice.ensures) c.loop-phase.invariant.far in
+    let count = c.loop-phase.invariant.count in
+    let here : SoFar (profile_of c.args.region) all (phase_acts threads ops ++ left) c.loop-phase.region c.loop-phase.threads c.loop-phase.names c.if-number-gt-UNMARKED.out
     = elim c.if-number-gt-UNMARKED.branch [
       | then-number-gt-UNMARKED w ↦
-          let count = c.loop-phase.invariant.count in
           let more = w.if-number-gt-UNMARKED.true in
-          let is = marked c.loop-phase.phase-index (c.loop-phase.number + 1) c.as_slice.result.now (map ops_of (drop (c.loop-phase.phase-index + 1) c.args.phases.now)) (omega (arith, count, more)) (omega (arith, count)) far w.push.ensures.added w.push.ensures.size in
+          let is = marked threads c.loop-phase.phase-index (c.loop-phase.number + 1) ops rest (omega (arith, count, more)) (omega (arith, count)) far w.push.ensures.added w.push.ensures.size in
           rw (w.out-is) is
       | else-number-gt-UNMARKED w ↦
-          let count = c.loop-phase.invariant.count in
           let less = w.if-number-gt-UNMARKED.false in
-          let is = begins_first c.loop-phase.phase-index c.as_slice.result.now (map ops_of (drop (c.loop-phase.phase-index + 1) c.args.phases.now)) (omega (arith, count, less)) far in
+          let is = begins_first threads c.loop-phase.phase-index ops rest (omega (arith, count, less)) far in
           rw (w.out-is) is
     ] in
+    let wakes = wakes_first threads ops left c.loop-phase.auto.threads here in
+    let woke = of_profile here.profile_is (c.wake_all-region.ensures.so_far all (map Operates ops ++ left) c.loop-phase.names c.if-number-gt-UNMARKED.out wakes) in
+    let again : c.as_slice.result.now ≡ c.as_slice-in-loop-phase.result.now = c.as_slice.ensures ∙ sym c.as_slice-in-loop-phase.ensures in
+    let ready = at_region (same_phase c.as_slice.result.now c.as_slice-in-loop-phase.result.now left again woke) in
     record {
-      far = back_seat here.seat_is (c.perform.ensures.so_far (acts_of (map ops_of c.args.phases.now)) (acts_left (c.loop-phase.phase-index + 1) (map ops_of (drop (c.loop-phase.phase-index + 1) c.args.phases.now))) (same_seat here.seat_is here));
+      far = of_profile woke.profile_is (c.perform-region.ensures.so_far all left ready);
       count = ap (λ n. n + 1) c.loop-phase.invariant.count;
-      home = c.perform.ensures.home ∙ c.loop-phase.invariant.home;
     }
 
+pub stop_all-requires : goal.stop_all-requires
+stop_all-requires c =
+    let threads = length c.args.threads.now in
+    let all = acts_of threads (map ops_of c.args.phases.now) in
+    let closed = after_close (ends_here threads c.args.phases.now c.loop-phase.phase-index c.loop-phase-test.false c.loop-phase.invariant.far) c.push-2.ensures.added c.push-2.ensures.size in
+    record { so_far = (all, [], ends_first threads c.loop-phase.auto.threads closed) }
+
 pub returns-clause-so_far : goal.returns-clause-so_far
-returns-clause-so_far g c = after_close (ends_here c.args.phases.now c.loop-phase.phase-index c.loop-phase-test.false c.loop-phase.invariant.far) c.push-2.ensures.added c.push-2.ensures.size
+returns-clause-so_far c =
+    let threads = length c.args.threads.now in
+    let all = acts_of threads (map ops_of c.args.phases.now) in
+    let closed = after_close (ends_here threads c.args.phases.now c.loop-phase.phase-index c.loop-phase-test.false c.loop-phase.invariant.far) c.push-2.ensures.added c.push-2.ensures.size in
+    of_profile closed.profile_is (c.stop_all.ensures.so_far all [] (ends_first threads c.loop-phase.auto.threads closed))

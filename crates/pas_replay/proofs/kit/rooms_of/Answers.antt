@@ -1,0 +1,60 @@
+use Rattle.std.proofs.Common.{refl, sym, ◌∙◌, subst, arith}
+use Rattle.pas_utility.specs.Pools.{room_of}
+use Rattle.pas_replay.specs.Kits.{AreRooms}
+use Rattle.pas_replay.proofs.Opening.{no_rooms, next_room, left_room}
+use Rattle.pas_replay.proofs.kit.rooms_of.Goals as goal
+
+pub loop-actor-init : goal.loop-actor-init
+loop-actor-init c = record {
+  made = no_rooms (room_of c.args.utility.now) c.in-Ok.rooms.items c.in-Ok.ensures.items;
+  left = λ k at. refl;
+  seats = λ k. refl;
+  threads = refl;
+  reserved = c.in-Ok.ensures.capacity;
+}
+
+pub event_room-requires : goal.event_room-requires
+event_room-requires c =
+    let few = c.requires.threads in
+    let same = c.loop-actor.invariant.threads in
+    let lt = c.loop-actor-test.true in
+    omega (arith, few, same, lt)
+
+pub unreachable-requires : goal.unreachable-requires
+unreachable-requires c =
+    let lt = c.loop-actor-test.true in
+    let left = c.requires.left c.loop-actor.actor (omega (arith, lt)) in
+    left_room (room_of c.args.utility.now c.loop-actor.actor) left.0 (sym (c.loop-actor.invariant.left c.loop-actor.actor (omega arith)) ∙ c.in_default-event_room.ensures.room) left.1
+
+pub push_reserved-requires : goal.push_reserved-requires
+push_reserved-requires c =
+    let lt = c.loop-actor-test.true in
+    let many = c.loop-actor.invariant.made.many in
+    let reserved = c.loop-actor.invariant.reserved in
+    let ok = c.loop-actor.rooms.ok.0 in
+    omega (arith, lt, many, reserved, ok)
+
+pub loop-actor-preserved : goal.loop-actor-preserved
+loop-actor-preserved c =
+    let i = c.loop-actor.invariant in
+    let reserved = i.reserved in
+    let same = c.push_reserved.ensures.capacity in
+    record {
+      made = next_room _ c.in-Some.room c.push_reserved.ensures.items (sym (i.left c.loop-actor.actor (omega arith)) ∙ c.in-Some.ensures.room.0) c.in-Some.ensures.room.1 i.made;
+      left = λ k at. c.event_room.ensures.others k (λ e. absurd (omega (arith, e, at))) ∙ i.left k (omega (arith, at));
+      seats = λ k. c.event_room.ensures.seats k ∙ i.seats k;
+      threads = c.event_room.ensures.threads ∙ i.threads;
+      reserved = omega (arith, reserved, same);
+    }
+
+pub returns-clause-rooms : goal.returns-clause-rooms
+returns-clause-rooms c =
+    let past = c.loop-actor-test.false in
+    let end = c.loop-actor.auto.actor-end in
+    subst (λ n. AreRooms (room_of c.args.utility.now) n c.loop-actor.rooms.items) (omega (arith, past, end)) c.loop-actor.invariant.made
+
+pub returns-clause-seats : goal.returns-clause-seats
+returns-clause-seats c = c.loop-actor.invariant.seats
+
+pub returns-clause-threads : goal.returns-clause-threads
+returns-clause-threads c = c.loop-actor.invariant.threads

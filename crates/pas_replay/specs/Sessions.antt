@@ -1,0 +1,99 @@
+-- What stands between two acts of a replay: one legal list, for which the region and the pass of each thread stand, and at whose end each thread
+-- is at rest with its cache.
+use Rattle.std.specs.Prelude.{ℕ, ◌+◌, ◌-◌, ◌<◌, ◌≤◌, ◌≡◌, ◌⊎◌, true, List, [], ◌∷◌, length, Option, Some, slice_index_or}
+use Rattle.pas_profile.specs.declared.profile.Profile.{Profile}
+use Rattle.pas_profile.specs.declared.name.Block.{Block}
+use Rattle.pas_steps.specs.Events.{events_of}
+use Rattle.pas_steps.specs.Lists.{Whole, part}
+use Rattle.pas_steps.specs.Desks.{Standing}
+use Rattle.pas_plain.specs.Plain.{profile_of, actor_of, events_shown, room_of_pass, RegionStands, PassStands}
+use Rattle.pas_plain.specs.Seats.{region_of, pass_of, standing_of, IsPassOf}
+use Rattle.pas_plain.specs.declared.region.PlainRegion.{PlainRegion}
+use Rattle.pas_plain.specs.declared.pass.PlainPass.{PlainPass}
+use Rattle.pas_plain.specs.declared.desk.PlainDesk.{PlainDesk}
+use Rattle.pas_report.specs.Rooms.{records_in, room_of}
+use Rattle.pas_report.specs.declared.record.Record.{Record}
+use Rattle.pas_report.specs.declared.records.Records.{Records}
+use Rattle.pas_cache.specs.Caches.{cached, AtRest}
+use Rattle.pas_replay.specs.Acts.{Act}
+use Rattle.pas_replay.specs.Answers.{Named, Caches, standing_for, Follows}
+use Rattle.pas_replay.specs.Calls.{Tells, HasTurns, owed_events}
+use Rattle.pas_replay.specs.Fit.{is_asked, AreFit, costs_of, own_costs_of, ops_in, marks_in}
+use Rattle.pas_replay.specs.Names.{names_held}
+use Rattle.pas_replay.specs.Replays.{empty_caches}
+use Rattle.pas_replay.specs.declared.names.Names.{Names}
+use Rattle.pas_replay.specs.declared.seats.Thread.{Thread}
+
+-- ---- a thread at its desk
+pub record IsSeated (region : PlainRegion) (thread : Thread) (desk : PlainDesk) : Type 0 where
+  pub region_is : region_of desk ≡ region
+  pub pass_is : thread.pass ≡ Some (pass_of desk)
+
+-- the thread has its pass, which is one of the region, and at its desk this may be called
+pub record MaySit (region : PlainRegion) (thread : Thread) (May : PlainDesk → Type 0) : Type 0 where
+  pub desk : PlainDesk
+  pub seated : IsSeated region thread desk
+  pub of_region : IsPassOf region (pass_of desk)
+  pub may : May desk
+
+-- a thread sat down, did this at its desk, and rose again
+pub record Turn (region region' : PlainRegion) (thread thread' : Thread) (Did : Standing → Standing → Type 0) : Type 0 where
+  pub desk : PlainDesk
+  pub desk' : PlainDesk
+  pub seated : IsSeated region thread desk
+  pub risen : IsSeated region' thread' desk'
+  pub did : Did (standing_of desk) (standing_of desk')
+
+-- for how many more events there is room
+abbrev pub spare_at : PlainDesk → ℕ
+spare_at desk = room_of_pass (pass_of desk) - length (events_shown (pass_of desk))
+
+-- ---- all threads
+-- Thread k has its pass, which stands for the list, and is at rest with its cache. There is room for the events that it owes, and for those of the
+-- operations that are left, which cost `own`.
+pub record ThreadStands (f : Profile) (k : ℕ) (thread : Thread) (l : Whole) (own : ℕ) : Type 0 where
+  pub pass : PlainPass
+  pub present : thread.pass ≡ Some pass
+  pub actor : actor_of pass ≡ k
+  pub stands : PassStands f pass l
+  pub rest : AtRest f (cached thread.cache) (part k l)
+  pub room : length (events_of k (part k l)) + (owed_events f (cached thread.cache) (part k l) + own) ≤ room_of_pass pass
+
+-- the events that the threads from thread k on owe
+abbrev pub owed_from : Profile → Whole → ℕ → List Thread → ℕ
+owed_from f l k [] = 0
+owed_from f l k (thread ∷ threads) = owed_events f (cached thread.cache) (part k l) + owed_from f l (k + 1) threads
+
+-- each of the threads from thread k on stands
+abbrev pub AllStand : Profile → Whole → List Act → ℕ → List Thread → Type 0
+AllStand f l acts k [] = Unit {0}
+AllStand f l acts k (thread ∷ threads) = ThreadStands f k thread l (own_costs_of k (ops_in acts)) × AllStand f l acts (k + 1) threads
+
+-- what the caches hold
+abbrev pub AreCaches : Caches → ℕ → List Thread → Type 0
+AreCaches caches k [] = Unit {0}
+AreCaches caches k (thread ∷ threads) = (caches k ≡ cached thread.cache) × AreCaches caches (k + 1) threads
+
+-- no cache has a local allocator
+abbrev pub AreEmpty : List Thread → Type 0
+AreEmpty threads = (i : ℕ) (d : Thread) → i < length threads → (cached (slice_index_or threads i d).cache).locals ≡ []
+
+-- The acts are left of `all`: however they are answered from here on, the whole is answered so. There is room for what they may make.
+pub record SoFar (f : Profile) (all acts : List Act) (region : PlainRegion) (threads : List Thread) (table : Names) (out : Records) : Type 0 where
+  pub profile_is : profile_of region ≡ f
+  pub unshared : f.shared ≡ 0
+  pub count : length threads ≡ f.threads
+  pub whole : Whole
+  pub stands : RegionStands region whole
+  pub each : AllStand f whole acts 1 threads
+  pub nobody : (k : ℕ) → (k ≡ 0) ⊎ (f.threads < k) → part k whole ≡ []
+  pub asked : List ℕ
+  pub fit : AreFit f (names_held table) asked (ops_in acts)
+  pub names : List Named
+  pub tells : Tells table names
+  pub turns : HasTurns table
+  pub known : (n : ℕ) → is_asked asked n ≡ true → (block : Option Block) × (standing_for names n ≡ Some block)
+  pub caches : Caches
+  pub caches_are : AreCaches caches 1 threads
+  pub spare : length (records_in out) + (owed_from f whole 1 threads + (costs_of (ops_in acts) + marks_in acts)) ≤ room_of out
+  pub answers : (l : Whole) (rs : List Record) → Follows f acts names caches whole (records_in out) l rs → Follows f all [] empty_caches [] [] l rs

@@ -1,0 +1,5 @@
+use Rattle.pas_report.proofs.Placing.{rights_shown}
+use Rattle.pas_report.proofs.laws.rights_are_shown.Goals as goal
+
+pub returns : goal.returns
+returns c = rights_shown
