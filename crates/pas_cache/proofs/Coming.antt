@@ -31,12 +31,7 @@ use Rattle.pas_cache.specs.Pieces.{IsToldAfter, Releases, MayObtain, RestsWithFo
 use Rattle.pas_cache.proofs.Locals.{IsWithout, without_last, none_counted, map_locals, either_false, keeps_page}
 use Rattle.pas_cache.proofs.Finding.{not_first}
 use Rattle.pas_cache.proofs.Resting.{known_some}
-
-if_not : {A : Type 0} (t : Bool) (x y : A) → t ≡ false → (if t then x else y) ≡ y
-if_not t x y h = ap (λ b. if b then x else y) h
-
-if_so : {A : Type 0} (t : Bool) (x y : A) → t ≡ true → (if t then x else y) ≡ x
-if_so t x y h = ap (λ b. if b then x else y) h
+use Rattle.pas_cache.proofs.Tests.{if_not, if_so}
 
 -- ---- an actor without a local allocator of a heap and a class has no right of a page of theirs
 same_words : (h c h' c' : ℕ) → c < 16 → c' < 16 → 65536 + h * 256 + c ≡ 65536 + h' * 256 + c' → (h ≡ h') × (c ≡ c')

@@ -1,17 +1,12 @@
 -- The local allocator of a heap and a class, by its place.
-use Rattle.std.proofs.Common.{◌≡◌, ℕ, zero, suc, ◌<◌, ◌≤◌, Bool, true, false, if◌then◌else◌, List, [], ◌∷◌, length, take, get_or, Some, None, refl, ap, sym, ◌∙◌, arith, inl, inr}
+use Rattle.std.proofs.Common.{◌≡◌, ℕ, zero, suc, ◌<◌, ◌≤◌, true, false, List, [], ◌∷◌, length, take, get_or, Some, None, refl, ap, sym, ◌∙◌, arith, inl, inr}
 use Rattle.std.specs.Prelude.{remove}
 use Rattle.std.proofs.lemmas.Bool.{cases_Bool}
 use Rattle.pas_segregated.specs.declared.slots.Slots.{Slots}
 use Rattle.pas_cache.specs.Locals.{is_for, local_for, others_than, count_for}
 use Rattle.pas_cache.specs.Places.{IsPlaceOf}
 use Rattle.pas_cache.proofs.Locals.{all_others, none_counted}
-
-if_not : {A : Type 0} (t : Bool) (x y : A) → t ≡ false → (if t then x else y) ≡ y
-if_not t x y h = ap (λ b. if b then x else y) h
-
-if_so : {A : Type 0} (t : Bool) (x y : A) → t ≡ true → (if t then x else y) ≡ x
-if_so t x y h = ap (λ b. if b then x else y) h
+use Rattle.pas_cache.proofs.Tests.{if_not, if_so}
 
 some_none : {A : Type 0} (s : Slots) → Some s ≡ None → A
 some_none s h = cc

@@ -24,10 +24,7 @@ use Rattle.pas_cache.specs.Changes.{GivesSlot}
 use Rattle.pas_cache.proofs.Locals.{IsWithout, without_last, map_locals, grains_elsewhere}
 use Rattle.pas_cache.proofs.Lowest.{first_grain, grain_is, InSlot, in_slot, slot_covers}
 use Rattle.pas_cache.proofs.Resting.{here, away, held_of}
-
-or_second : (a b : Bool) → b ≡ true → (a || b) ≡ true
-or_second true b h = refl
-or_second false b h = h
+use Rattle.pas_cache.proofs.Tests.{or_second}
 
 and_no : (a : Bool) → (a && false) ≡ false
 and_no true = refl

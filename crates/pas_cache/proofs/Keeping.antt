@@ -66,9 +66,6 @@ same_cached c c' log idle a b d =
 pub clear_call : {σ : Standing} {c : Cached} → CanCall σ (λ v l. AtRest σ.seat.profile c v) → CanCall σ (λ v l. IsClear v)
 clear_call can = record { view = can.view; whole = can.whole; stood = can.stood; met = can.met.locals.clear }
 
-pub locals_call : {σ : Standing} {c : Cached} → CanCall σ (λ v l. AtRest σ.seat.profile c v) → CanCall σ (λ v l. RestsWith σ.seat.profile c.locals v)
-locals_call can = record { view = can.view; whole = can.whole; stood = can.stood; met = can.met.locals }
-
 -- ---- an empty cache
 no_locals : (f : Profile) (v : View) → HasNothing v → RestsWith f [] v
 no_locals f v none = record { grains = none.grains; rights = none.rights; clear = none.clear; known = tt; one_each = λ heap class. omega arith }

@@ -1,3 +1,4 @@
+pub mod Tests
 pub mod Lowest
 pub mod Locals
 pub mod Resting

@@ -6,6 +6,7 @@ use Rattle.pas_profile.specs.declared.profile.Profile.{Profile}
 use Rattle.pas_steps.specs.Views.{View, known_deed}
 use Rattle.pas_segregated.specs.declared.slots.Slots.{Slots}
 use Rattle.pas_cache.specs.Locals.{covers, keeps_right, any_covers, any_keeps, is_for, local_for, others_than, count_for, IsLocal}
+use Rattle.pas_cache.proofs.Tests.{or_first, or_second}
 
 -- ---- one fewer
 -- the list has the slots and the others
@@ -138,13 +139,6 @@ rights_elsewhere slots [] p away here = refl
 rights_elsewhere slots (first ∷ rest) p away here = either_false (keeps_right first p) (any_keeps rest p) (λ there. away.0 (keeps_page slots p here ∙ sym (keeps_page first p there))) (rights_elsewhere slots rest p away.1 here)
 
 -- ---- what is known of each, where it may use that its grains are covered
-or_first : (a b : Bool) → a ≡ true → (a || b) ≡ true
-or_first a b h = ap (λ t. t || b) h
-
-or_second : (a b : Bool) → b ≡ true → (a || b) ≡ true
-or_second true b h = refl
-or_second false b h = h
-
 map_within : (P Q : Slots → Type 0) (all rest : List Slots) → ((g : ℕ) → any_covers rest g ≡ true → any_covers all g ≡ true) → ((t : Slots) → ((g : ℕ) → covers t g ≡ true → any_covers all g ≡ true) → P t → Q t) → AllByRecursion P rest → AllByRecursion Q rest
 map_within P Q all [] sub f h = tt
 map_within P Q all (first ∷ rest) sub f h = (

@@ -65,9 +65,6 @@ slot_covers slots start g slot set at =
     (ap (is_set slots.starts) (start_at slots.class start (g % 256) slot at.low at.high) ∙ set)
 
 -- ---- the look, and what may be given then
-pub slot_word : {f : Profile} {slots : Slots} {v : View} (start : ℕ) → MayGiveSlot f slots v → start < 256 → (1 ≤ slots.page) × (slots.page ≤ f.pages) × (start < 256)
-slot_word start may lt = (may.local.page.0, may.local.page.1, lt)
-
 life_read : (slots : Slots) (start word : ℕ) (v : View) → start < 256 → holds v (first_grain slots start) ≡ true → known_life (made (Look (Word.Life slots.page start)) word ∷ v) (first_grain slots start) ≡ Some word
 life_read slots start word v lt held =
     let at : start ≡ first_grain slots start % 256 = omega (arith, lt) in

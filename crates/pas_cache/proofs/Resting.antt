@@ -17,15 +17,9 @@ use Rattle.pas_cache.specs.Locals.{covers, keeps_right, any_covers, any_keeps, i
 use Rattle.pas_cache.specs.Pieces.{MayGiveSlot}
 use Rattle.pas_cache.proofs.Locals.{IsWithout, AreElsewhere, elsewhere, grains_elsewhere, rights_elsewhere, map_locals}
 use Rattle.pas_cache.proofs.Lowest.{first_grain, slot_covers}
+use Rattle.pas_cache.proofs.Tests.{or_first, or_second}
 
 -- ---- a page of which a grain is held
-or_first : (a b : Bool) → a ≡ true → (a || b) ≡ true
-or_first a b h = ap (λ t. t || b) h
-
-or_second : (a b : Bool) → b ≡ true → (a || b) ≡ true
-or_second true b h = refl
-or_second false b h = h
-
 any_from : (n : ℕ) (p : ℕ → Bool) (i : ℕ) → i < n → p i ≡ true → any_below n p ≡ true
 unfolding any_below
 any_from zero p i lt h = absurd (omega (arith, lt))
