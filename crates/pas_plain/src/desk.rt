@@ -50,7 +50,7 @@ impl PlainDesk {
         (self.region, self.pass)
     }
 
-    #[inline]
+    #[inline(always)]
     fn change(&mut self, step: Step) -> u64
         requires of_region { IsWordOf (profile_of self.old.region) (target step) }
         requires ranged { IsRanged step }
@@ -106,7 +106,7 @@ impl Desk for PlainDesk {
         self.pass.shown()
     }
 
-    #[inline]
+    #[inline(always)]
     fn make(&mut self, step: Step) -> u64 {
         self.change(step)
     }

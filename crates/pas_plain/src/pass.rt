@@ -85,7 +85,7 @@ impl PlainPass {
     }
 
     /// Notes a step that the actor made, and its event.
-    #[inline]
+    #[inline(always)]
     pub(crate) fn note(&mut self, step: Step, answer: u64)
         requires ranged { IsRanged step }
         requires room { length (events_shown self.old) + wants step ≤ room_of_pass self.old }

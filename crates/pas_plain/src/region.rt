@@ -71,7 +71,7 @@ impl PlainRegion {
     }
 
     /// Puts the new value of the step's word in the place of the old one, for an actor that knows this epoch.
-    #[inline]
+    #[inline(always)]
     pub(crate) fn exchange(&mut self, epoch: u64, step: Step) -> u64
         requires of_region { IsWordOf (profile_of self.old) (target_word step) }
         requires ranged { IsRanged step }

@@ -33,6 +33,7 @@ pub enum Word {
 const PAGE_WORDS: usize = 263;
 
 /// The place of a page's first word. The epoch stands before all pages.
+#[inline]
 fn first_word(page: u32) -> usize
     requires { 1 ≤ page }
     ensures { result ≡ 1 + 263 * (page - 1) }
@@ -67,6 +68,7 @@ impl Layout {
     }
 
     /// The place of the word among all words. Distinct words have distinct places.
+    #[inline(always)]
     pub fn index(&self, word: Word) -> usize
         requires { IsWordIn self.now.pages self.now.heaps word }
         ensures value { result ≡ index_of self.now.pages word }

@@ -1,4 +1,5 @@
 pub mod PageBits
+pub mod LowestBits
 pub mod Marking
 pub mod Singles
 pub mod Reading

@@ -58,6 +58,7 @@ pub trait Desk {
         ensures home { home self.new ≡ home self.old };
 
     /// Loads any word.
+    #[inline]
     fn look(&mut self, word: Word) -> u64
         requires can { CanMake (standing self.old) (Step.Look word) }
         requires room { wants (Step.Look word) ≤ spare_of self.old }
@@ -68,6 +69,7 @@ pub trait Desk {
     }
 
     /// Writes the deed of the page where it has none. Where the answer is 0, the actor has the page's right from now on.
+    #[inline]
     fn deed(&mut self, page: u32, directory: Directory) -> u64
         requires can { CanMake (standing self.old) (Step.Deed page directory) }
         requires room { wants (Step.Deed page directory) ≤ spare_of self.old }
@@ -78,6 +80,7 @@ pub trait Desk {
     }
 
     /// Backs the page. The actor holds a grain of it and knows its deed.
+    #[inline]
     fn back(&mut self, page: u32) -> u64
         requires can { CanMake (standing self.old) (Step.Back page) }
         requires room { wants (Step.Back page) ≤ spare_of self.old }
@@ -88,6 +91,7 @@ pub trait Desk {
     }
 
     /// Takes the free ones of the mask's grains in a free word of the page, whose right is the actor's.
+    #[inline]
     fn take(&mut self, page: u32, word: u8, mask: u64) -> u64
         requires can { CanMake (standing self.old) (Step.Take page word mask) }
         requires room { wants (Step.Take page word mask) ≤ spare_of self.old }
@@ -98,6 +102,7 @@ pub trait Desk {
     }
 
     /// Puts grains back that the actor holds, some at least, on a page that isn't unstamped.
+    #[inline]
     fn put(&mut self, page: u32, word: u8, mask: u64) -> u64
         requires can { CanMake (standing self.old) (Step.Put page word mask) }
         requires room { wants (Step.Put page word mask) ≤ spare_of self.old }
@@ -108,6 +113,7 @@ pub trait Desk {
     }
 
     /// Gives the block, all of whose grains the actor holds, with the turn of the life word that it knows.
+    #[inline]
     fn give(&mut self, block: Block) -> u64
         requires can { CanMake (standing self.old) (Step.Give block) }
         requires room { wants (Step.Give block) ≤ spare_of self.old }
@@ -118,6 +124,7 @@ pub trait Desk {
     }
 
     /// Ends the block of this name where it lives with just so many grains. The actor has read the epoch.
+    #[inline]
     fn end(&mut self, name: Name, guess: u32) -> u64
         requires can { CanMake (standing self.old) (Step.End name guess) }
         requires room { wants (Step.End name guess) ≤ spare_of self.old }
@@ -128,6 +135,7 @@ pub trait Desk {
     }
 
     /// Raises the stamp of the page, of which the actor holds a grain, to the epoch that it read.
+    #[inline]
     fn stamp(&mut self, page: u32) -> u64
         requires can { CanMake (standing self.old) (Step.Stamp page) }
         requires room { wants (Step.Stamp page) ≤ spare_of self.old }
@@ -138,6 +146,7 @@ pub trait Desk {
     }
 
     /// Takes the right of the page, whose deed is known as the directory. The actor has it where the page's bit of the answer is set.
+    #[inline]
     fn take_right(&mut self, page: u32, directory: Directory) -> u64
         requires can { CanMake (standing self.old) (Step.TakeRight page directory) }
         requires room { wants (Step.TakeRight page directory) ≤ spare_of self.old }
@@ -148,6 +157,7 @@ pub trait Desk {
     }
 
     /// Offers the page, whose right is the actor's and whose deed is known as the directory, to any actor.
+    #[inline]
     fn offer(&mut self, page: u32, directory: Directory) -> u64
         requires can { CanMake (standing self.old) (Step.Offer page directory) }
         requires room { wants (Step.Offer page directory) ≤ spare_of self.old }
@@ -158,6 +168,7 @@ pub trait Desk {
     }
 
     /// Parks the page, whose right is the actor's, as full. Looks at its four free words are owed.
+    #[inline]
     fn park(&mut self, page: u32) -> u64
         requires can { CanMake (standing self.old) (Step.Park page) }
         requires room { wants (Step.Park page) ≤ spare_of self.old }
@@ -168,6 +179,7 @@ pub trait Desk {
     }
 
     /// Takes the right of a parked page, whose deed is known. The actor has it where the page's bit of the answer is set.
+    #[inline]
     fn unpark(&mut self, page: u32) -> u64
         requires can { CanMake (standing self.old) (Step.Unpark page) }
         requires room { wants (Step.Unpark page) ≤ spare_of self.old }
@@ -178,6 +190,7 @@ pub trait Desk {
     }
 
     /// Tells the scavenger that the page may be empty.
+    #[inline]
     fn hint(&mut self, page: u32) -> u64
         requires can { CanMake (standing self.old) (Step.Hint page) }
         requires room { wants (Step.Hint page) ≤ spare_of self.old }

@@ -17,7 +17,7 @@ pub fn page_mask(page: u32) -> u64
 }
 
 /// The one word of a step.
-#[inline]
+#[inline(always)]
 pub fn target(step: Step) -> Word
     requires { IsRanged step }
     ensures { result ≡ target_word step }
@@ -57,7 +57,7 @@ fn life_word_at(name: Name) -> Word
 }
 
 /// The word's new value, from the epoch that the actor knows and the old value.
-#[inline]
+#[inline(always)]
 pub fn new_value(epoch: u64, step: Step, old: u64) -> u64
     requires { IsRanged step }
     ensures { result ≡ the_value epoch step old }
@@ -94,7 +94,7 @@ pub fn new_value(epoch: u64, step: Step, old: u64) -> u64
 }
 
 /// The newest epoch that the actor knows after a step with this answer.
-#[inline]
+#[inline(always)]
 pub fn epoch_after(step: Step, answer: u64, known: Option<u64>) -> Option<u64>
     ensures { result ≡ the_epoch step answer known }
 {
@@ -132,7 +132,7 @@ fn end_event(actor: u8, epoch: u64, name: Name, guess: u32, answer: u64) -> Opti
 }
 
 /// The event of a step with this answer, of an actor that knows this epoch.
-#[inline]
+#[inline(always)]
 pub fn event_of(actor: u8, epoch: u64, step: Step, answer: u64) -> Option<Event>
     requires { IsRanged step }
     ensures { result ≡ the_event actor epoch step answer }

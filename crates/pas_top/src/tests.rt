@@ -176,16 +176,8 @@ const OUTCOMES: [(&str, u8, &str); 18] = [
         0,
         "phase 2\nclose\nreport\ntotal deeds 0 backed 0 live 0 given 0 ended 0\n",
     ),
-    (
-        "",
-        1,
-        "line 1: BadHeader\n",
-    ),
-    (
-        "\n",
-        1,
-        "line 1: BadHeader\n",
-    ),
+    ("", 1, "line 1: BadHeader\n"),
+    ("\n", 1, "line 1: BadHeader\n"),
     (
         "pas 1 pages 4 threads 2 heaps 1 age 2\na 1 1 0 16 16\nf 2 1\n",
         1,
