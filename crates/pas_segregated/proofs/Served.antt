@@ -140,6 +140,7 @@ module _ (class page : ℕ) (d : Directory) (is : IsClass class) (starts : Mask4
         serves = λ before met. record {
           readings = taken.readings;
           takes_all = λ w lt. inr (once_earlier (TakesHere class page w taken.readings) (TakesHere class page w taken.readings) taken.steps before (λ m b h. h) (taken.takes_all w lt));
+          once = taken.count before met.newest;
           are = taken.are;
           some = some;
         };
