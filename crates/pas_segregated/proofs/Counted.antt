@@ -52,7 +52,7 @@ puts_aside : (page : ℕ) (mask : Mask4) (n : ℕ) (ys : List Made) → PutsBelo
 puts_aside page mask zero ys h = subst (AreAside page) (sym h) tt
 puts_aside page mask (suc n) ys h = subst (AreAside page) (sym h.4) (aside_append page h.0 h.1 (put_aside page n (slice_index mask.0 n) h.0 h.2) (puts_aside page mask n h.1 h.3))
 
-back_aside : (page : ℕ) (d : Directory) (mask : Mask4) (ys : List Made) → BackSteps page d mask ys → AreAside page ys
+pub back_aside : (page : ℕ) (d : Directory) (mask : Mask4) (ys : List Made) → BackSteps page d mask ys → AreAside page ys
 back_aside page d mask ys (inl none) = subst (AreAside page) (sym none.1) tt
 back_aside page d mask ys (inr some) = subst (AreAside page) (sym some.5) (aside_append page some.2 some.1 (returns_aside page some.2 (return_returns page d some.2 some.4)) (puts_aside page mask 4 some.1 some.3))
 

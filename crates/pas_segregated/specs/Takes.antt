@@ -7,7 +7,7 @@ use Rattle.pas_bits.specs.declared.mask.Mask4.{Mask4}
 use Rattle.pas_bits.specs.Masks.{is_set}
 use Rattle.pas_steps.specs.Views.{View, holds, holds_on, has_right, known_free, knows_backed}
 use Rattle.pas_steps.specs.Agreement.{Agreed}
-use Rattle.pas_steps.specs.Past.{Once, Since}
+use Rattle.pas_steps.specs.Past.{Since}
 use Rattle.pas_steps.specs.Frames.{KeepsRight}
 use Rattle.pas_steps.specs.Desks.{Standing, Adds, made}
 use Rattle.pas_steps.specs.declared.step.Made.{Made}
@@ -81,6 +81,10 @@ gets_right page (Unpark p) a = false
 gets_right page (Stamp p) a = false
 gets_right page (Hint p) a = false
 
+-- this step got none
+abbrev pub GetsNoneHere : ℕ → Made → List Made → Type 0
+GetsNoneHere page m before = gets_right page m.step m.answer ≡ false
+
 -- the step takes a free word of the page
 abbrev pub is_take_of : ℕ → Step → Bool
 is_take_of page (Look word) = false
@@ -112,11 +116,11 @@ pub record IsWholeTake (class page word : ℕ) (r : Readings) (m : Made) : Type 
 abbrev pub TakesHere : ℕ → ℕ → ℕ → Readings → Made → List Made → Type 0
 TakesHere class page word r m before = IsWholeTake class page word r m
 
--- Since the page's right was got, each free word of the page was taken with all its usable grains as the mask, and just once: there are four
--- takes, and four words. The slots are those all of whose grains these takes got, and there are some.
+-- Since the page's right was got, each free word of the page was taken with all its usable grains as the mask, and just once: no more
+-- than four takes were made. The slots are those all of whose grains these takes got, and there are some.
 pub record TookSlots (class page : ℕ) (steps : List Made) (starts : Mask4) : Type 0 where
   pub readings : Readings
-  pub takes_all : (word : ℕ) → word < 4 → Once (TakesHere class page word readings) steps
+  pub takes_all : (word : ℕ) → word < 4 → Since (TakesHere class page word readings) (GetsNoneHere page) steps
   pub once : takes_since page steps ≡ 4
   pub are : AreFreeSlots class readings starts
   pub some : IsSome starts
@@ -133,7 +137,7 @@ pub record TakesSlots (class page : ℕ) (d : Directory) (desk desk' : Standing)
   pub owes : (v : View) → MayServe page d v → Agreed desk.seat.profile v steps → OwesNothing page (steps ++ v)
   pub backed : (v : View) → Agreed desk.seat.profile v steps → knows_backed v page ≡ true → holds_on (steps ++ v) page ≡ true → knows_backed (steps ++ v) page ≡ true
   pub readings : Readings
-  pub takes_all : (word : ℕ) → word < 4 → Once (TakesHere class page word readings) steps
+  pub takes_all : (word : ℕ) → word < 4 → Since (TakesHere class page word readings) (GetsNoneHere page) steps
   pub count : (before : List Made) → IsJustGot page before → takes_since page (steps ++ before) ≡ 4
   pub read : (before : List Made) → GotBefore page before → (word : ℕ) → word < 4 → Since (ShowsHere page word readings) (KeptHere page) (steps ++ before)
   pub held : (v : View) → Agreed desk.seat.profile v steps → (g : ℕ) → g / 256 ≡ page → holds v g ≡ true → readings (g % 256) ≡ false
