@@ -51,6 +51,7 @@ claimed_got p d a before bit untouched = record {
   right = claim_right p d a before bit;
   got = inl (GetsRight.Claims d a bit);
   none = λ g at. untouched.none g at;
+  newest = GetsRight.Claims d a bit;
 }
 
 -- ---- the claim was lost

@@ -180,7 +180,7 @@ module _ {F : Type 0} (rule : Rule F) (f : Profile) (d : Directory) (p : ℕ) (a
       (omega (arith, counts, one, some, deed), λ known. absurd (unknown f v p (ys ++ list) agreed (deed_read list) (known p is)))
 
   got_at : (list : List Made) → IsUntouched p list → GotBefore p (first ++ list)
-  got_at list untouched = record { right = deed_gives p d a list e; got = inl (GetsRight.Deeds d a e); none = λ g at. untouched.none g at }
+  got_at list untouched = record { right = deed_gives p d a list e; got = inl (GetsRight.Deeds d a e); none = λ g at. untouched.none g at; newest = GetsRight.Deeds d a e }
 
   bare_done : (list : List Made) (marks : List ℕ) → Searching rule f d (f.pages + 1) marks list → AllDeeds p list → IsPage f p → IsFoundBare rule f d (ys ++ list) (record { page = p; found = found })
   bare_done list marks s all is =

@@ -1,5 +1,5 @@
 -- What a back end promises of one page.
-use Rattle.std.specs.Prelude.{ℕ, ◌/◌, ◌%◌, ◌<◌, ◌≤◌, ◌≡◌, ◌⊎◌, Bool, true, false, ◌||◌, List, ◌++◌, length, Option, MatchOption}
+use Rattle.std.specs.Prelude.{ℕ, ◌/◌, ◌%◌, ◌<◌, ◌≤◌, ◌≡◌, ◌⊎◌, Bool, true, false, ◌||◌, List, [], ◌∷◌, ◌++◌, length, Option, MatchOption}
 use Rattle.pas_profile.specs.declared.directory.Directory.{Directory}
 use Rattle.pas_profile.specs.declared.profile.Profile.{Profile}
 use Rattle.pas_steps.specs.Views.{View, holds, has_right, known_free, knows_backed, is_unstamped}
@@ -42,11 +42,17 @@ HoldsNone page before = (g : ℕ) → g / 256 ≡ page → holds before g ≡ fa
 abbrev pub FreshAt : Profile → ℕ → List Made → List Made → Type 0
 FreshAt f page steps before = Agreed f before steps ⊎ HoldsNone page before
 
--- the call got the page's right, and holds none of its grains
+-- the newest of these steps got the page's right
+abbrev pub IsJustGot : ℕ → List Made → Type 0
+IsJustGot page [] = ⊥
+IsJustGot page (m ∷ before) = GetsHere page m before
+
+-- the call got the page's right, by the newest step before those of the back end, and holds none of its grains
 pub record GotBefore (page : ℕ) (before : List Made) : Type 0 where
   pub right : has_right before page ≡ true
   pub got : Once (GetsHere page) before
   pub none : HoldsNone page before
+  pub newest : IsJustGot page before
 
 -- ---- what it promises
 -- Each free word was read with the right, whatever list that meets the one condition stood before, and the readings show a fit. A grain that

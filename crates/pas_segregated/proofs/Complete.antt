@@ -14,7 +14,7 @@ use Rattle.pas_steps.specs.Frames.{OnlyGrains, KeepsRight}
 use Rattle.pas_steps.specs.Desks.{Seat, Standing, CanCall, Adds}
 use Rattle.pas_steps.specs.declared.step.Made.{Made}
 use Rattle.pas_steps.proofs.Adding.{adds_call, adds_under, agreed_first, agreed_later}
-use Rattle.pas_steps.proofs.Past.{once_later}
+use Rattle.pas_steps.proofs.Past.{since_later}
 use Rattle.pas_steps.proofs.Kept.{right_grains, grains_on, unstamped_on}
 use Rattle.pas_rights.specs.Rights.{OwesNothing}
 use Rattle.pas_scan.specs.Evidence.{ShowsHere, KeptHere}
@@ -22,9 +22,10 @@ use Rattle.pas_search.specs.Serving.{MayServe, FreshAt}
 use Rattle.pas_search.proofs.StepKinds.{grains_serve, serves_append, quiet_append}
 use Rattle.pas_segregated.specs.Masks.{start_of, IsSome}
 use Rattle.pas_segregated.specs.Returns.{on_page, MayGiveBack, GivesBack}
-use Rattle.pas_segregated.specs.Takes.{takes, read_word, read_free, TakesUsable, AreFreeSlots, in_starts, TakesHere, TakesSlots}
+use Rattle.pas_segregated.specs.Takes.{takes, read_word, read_free, TakesUsable, AreFreeSlots, in_starts, GetsNoneHere, takes_since, TakesHere, TakesSlots}
 use Rattle.pas_segregated.proofs.Puts.{grains_keep}
 use Rattle.pas_segregated.proofs.Backs.{keeps_append, deed_grains, grains_quiet}
+use Rattle.pas_segregated.proofs.Counted.{IsAside, back_aside, back_count, takes_count, counts_four}
 use Rattle.pas_segregated.proofs.Starts.{start_below}
 use Rattle.pas_segregated.proofs.Taken.{takes_only, got_bit, takes_hold, got_on, got_unheld, free_read, held_unread, Reads, takes_read, takes_here, takes_backed, takes_owe, since_kept}
 
@@ -176,7 +177,9 @@ module _ (class page : ℕ) (d : Directory) (is : IsClass class) {σ σ1 : Stand
       owes = λ v met agreed. subst (OwesNothing page) (sym (all_at v)) (back.owes (first ++ v) (back_agreed v agreed) (takes_owe page taken.masks taken.answers v met.owes));
       backed = λ v agreed h on. ap (λ s. knows_backed s page) (all_at v) ∙ back.backed (first ++ v) page (back_agreed v agreed) (takes_backed page taken.masks taken.answers page v h) (ap (λ s. holds_on s page) (sym (all_at v)) ∙ on);
       readings = read_free taken.answers;
-      takes_all = λ w lt. once_later (TakesHere class page w (read_free taken.answers)) back.steps first (takes_here class page taken.masks taken.answers (read_free taken.answers) taken.usable reads w (has_word w lt) lt);
+      takes_all = λ w lt. since_later (TakesHere class page w (read_free taken.answers)) (GetsNoneHere page) (λ m before. IsAside page m) back.steps first (λ m before h. h.0) (back_aside page d rest back.steps back.order)
+          (takes_here class page taken.masks taken.answers (read_free taken.answers) taken.usable reads w (has_word w lt) lt);
+      count = λ before newest. ap (takes_since page) (all_at before) ∙ back_count page d rest back.steps (first ++ before) back.order ∙ takes_count page taken.masks taken.answers before ∙ counts_four page taken.answers before taken.four newest;
       read = λ before met w lt. subst (Since (ShowsHere page w (read_free taken.answers)) (KeptHere page)) (sym (all_at before))
           (since_kept (ShowsHere page w (read_free taken.answers)) page back.steps (first ++ before) back_keeps (first_right before met.right)
           (takes_read page taken.masks taken.answers (read_free taken.answers) reads before met.right met.none w (has_word w lt) lt));

@@ -4,6 +4,7 @@ pub mod Puts
 pub mod Backs
 pub mod Stopped
 pub mod Taken
+pub mod Counted
 pub mod Complete
 pub mod Served
 pub mod Refilled

@@ -20,7 +20,7 @@ use Rattle.pas_steps.specs.declared.step.Made.{Made}
 use Rattle.pas_steps.specs.declared.step.Step.TheVariants.{Back}
 use Rattle.pas_steps.proofs.Adding.{adds_step, adds_call}
 use Rattle.pas_steps.proofs.Frames.{rights_stay}
-use Rattle.pas_steps.proofs.Past.{once_earlier}
+use Rattle.pas_steps.proofs.Past.{since_earlier}
 use Rattle.pas_steps.proofs.Kept.{returns_still, deed_stays}
 use Rattle.pas_rights.specs.Rights.{MayLeave, Leaves}
 use Rattle.pas_scan.specs.Evidence.{ShowsHere, KeptHere}
@@ -31,7 +31,7 @@ use Rattle.pas_search.proofs.Grained.{since_once}
 use Rattle.pas_search.proofs.Unfitting.{left_page}
 use Rattle.pas_search.proofs.Backed.{same_on, held_where_backed}
 use Rattle.pas_segregated.specs.Masks.{start_of, IsEmpty, IsSome}
-use Rattle.pas_segregated.specs.Takes.{in_starts, NoSlot, TakesHere, TakesSlots, exclusive}
+use Rattle.pas_segregated.specs.Takes.{in_starts, NoSlot, GetsNoneHere, TakesHere, TakesSlots, exclusive}
 use Rattle.pas_segregated.proofs.Starts.{start_at, start_below}
 
 or_true : (t : Bool) → (t || true) ≡ true
@@ -139,7 +139,8 @@ module _ (class page : ℕ) (d : Directory) (is : IsClass class) (starts : Mask4
         };
         serves = λ before met. record {
           readings = taken.readings;
-          takes_all = λ w lt. inr (once_earlier (TakesHere class page w taken.readings) (TakesHere class page w taken.readings) taken.steps before (λ m b h. h) (taken.takes_all w lt));
+          takes_all = λ w lt. inr (refl, since_earlier (TakesHere class page w taken.readings) (GetsNoneHere page) (TakesHere class page w taken.readings) (GetsNoneHere page) taken.steps before (λ m b h. h) (λ m b h. h) (taken.takes_all w lt));
+          once = taken.count before met.newest;
           are = taken.are;
           some = some;
         };

@@ -9,7 +9,7 @@ use Rattle.pas_bits.proofs.Words.{none_of_zero, bit_of_and, four_words}
 use Rattle.pas_steps.specs.Effects.{in_mask}
 use Rattle.pas_steps.specs.Views.{View, Gets, Stays, held_after, holds, holds_on, has_right, known_free, knows_backed, all_ones, owes_check, owes_hint}
 use Rattle.pas_steps.specs.Agreement.{Agreed}
-use Rattle.pas_steps.specs.Past.{Once, Since}
+use Rattle.pas_steps.specs.Past.{Since}
 use Rattle.pas_steps.specs.Frames.{IsGrains, OnlyGrains, KeepsRight}
 use Rattle.pas_steps.specs.declared.step.Made.{Made}
 use Rattle.pas_steps.specs.declared.step.Step.TheVariants.{Take}
@@ -20,7 +20,7 @@ use Rattle.pas_scan.specs.Evidence.{Readings, ReadsFree, ShowsHere, KeptHere}
 use Rattle.pas_search.specs.Serving.{HoldsNone}
 use Rattle.pas_search.proofs.Backed.{held_where_backed}
 use Rattle.pas_segregated.specs.Returns.{on_page}
-use Rattle.pas_segregated.specs.Takes.{takes, read_word, read_free, AreUsable, TakesHere}
+use Rattle.pas_segregated.specs.Takes.{takes, read_word, read_free, AreUsable, GetsNoneHere, TakesHere}
 use Rattle.pas_segregated.proofs.Backs.{any_where}
 
 -- ---- answers
@@ -177,7 +177,7 @@ takes_read page masks (a ∷ more) r reads before right none w lt small =
       | inr ne ↦ inr (kept, takes_read page masks more r (reads_fewer r a more reads) before right none w (omega (arith, lt, ne)) small)
     ]
 
-pub takes_here : (class page : ℕ) (masks answers : List ℕ) (r : Readings) → AreUsable class masks → Reads r answers → (w : ℕ) → w < length answers → w < 4 → Once (TakesHere class page w r) (takes page masks answers)
+pub takes_here : (class page : ℕ) (masks answers : List ℕ) (r : Readings) → AreUsable class masks → Reads r answers → (w : ℕ) → w < length answers → w < 4 → Since (TakesHere class page w r) (GetsNoneHere page) (takes page masks answers)
 takes_here class page masks [] r usable reads w lt small = absurd (omega (arith, lt))
 takes_here class page masks (a ∷ more) r usable reads w lt small = elim (cases_eq (length more) w) [
   | inl e ↦ inl record {
@@ -188,7 +188,7 @@ takes_here class page masks (a ∷ more) r usable reads w lt small = elim (cases
         ap (λ n. has_bit (slice_index masks n) b) (sym word) ∙ ap (has_bit (slice_index masks ((64 * w + b) / 64))) (sym bit) ∙ usable (64 * w + b) (omega (arith, hb, small));
     read = λ b hb. reads_last r a more w b reads e hb;
   }
-  | inr ne ↦ inr (takes_here class page masks more r usable (reads_fewer r a more reads) w (omega (arith, lt, ne)) small)
+  | inr ne ↦ inr (refl, takes_here class page masks more r usable (reads_fewer r a more reads) w (omega (arith, lt, ne)) small)
 ]
 
 -- ---- what takes leave

@@ -1,5 +1,5 @@
 -- The slots of a page that are taken.
-use Rattle.std.specs.Prelude.{ℕ, ◌+◌, ◌*◌, ◌/◌, ◌%◌, ◌<◌, ◌≤◌, ◌≡◌, ◌==◌, ◌↔◌, IsTrue, Bool, true, false, ◌&&◌, ◌||◌, if◌then◌else◌, List, [], ◌∷◌, ◌++◌, length, slice_index}
+use Rattle.std.specs.Prelude.{ℕ, suc, ◌+◌, ◌*◌, ◌/◌, ◌%◌, ◌<◌, ◌≤◌, ◌≡◌, ◌==◌, ◌↔◌, IsTrue, Bool, true, false, ◌&&◌, ◌||◌, if◌then◌else◌, List, [], ◌∷◌, ◌++◌, length, slice_index}
 use Rattle.pas_profile.specs.Classes.{has_bit, is_usable, class_grains, IsSlotStart}
 use Rattle.pas_profile.specs.declared.directory.Directory.{Directory}
 use Rattle.pas_profile.specs.declared.directory.Kind.TheVariants as Kind
@@ -7,15 +7,16 @@ use Rattle.pas_bits.specs.declared.mask.Mask4.{Mask4}
 use Rattle.pas_bits.specs.Masks.{is_set}
 use Rattle.pas_steps.specs.Views.{View, holds, holds_on, has_right, known_free, knows_backed}
 use Rattle.pas_steps.specs.Agreement.{Agreed}
-use Rattle.pas_steps.specs.Past.{Once, Since}
+use Rattle.pas_steps.specs.Past.{Since}
 use Rattle.pas_steps.specs.Frames.{KeepsRight}
 use Rattle.pas_steps.specs.Desks.{Standing, Adds, made}
 use Rattle.pas_steps.specs.declared.step.Made.{Made}
-use Rattle.pas_steps.specs.declared.step.Step.TheVariants.{Take}
+use Rattle.pas_steps.specs.declared.step.Step.{Step}
+use Rattle.pas_steps.specs.declared.step.Step.TheVariants.{Look, Deed, Back, Take, Put, Give, End, TakeRight, Offer, Park, Unpark, Stamp, Hint}
 use Rattle.pas_rights.specs.Rights.{OwesNothing}
 use Rattle.pas_scan.specs.Evidence.{Readings, ShowsHere, KeptHere}
 use Rattle.pas_search.specs.Kinds.{OnlyServes, AreQuiet}
-use Rattle.pas_search.specs.Serving.{Rule, MayServe, FreshAt, GotBefore, IsAntitone}
+use Rattle.pas_search.specs.Serving.{Rule, MayServe, FreshAt, IsJustGot, GotBefore, IsAntitone}
 use Rattle.pas_segregated.specs.Masks.{start_of, IsSome}
 
 -- ---- four takes
@@ -63,6 +64,48 @@ AreFreeSlots class r starts = (s : ℕ) → IsTrue (is_set starts s) ↔ (IsSlot
 abbrev pub in_starts : ℕ → Mask4 → ℕ → Bool
 in_starts class starts g = is_set starts (start_of class g)
 
+-- ---- how often the page was taken from
+-- the step, with this answer, got the page's right, by a claim or a deed
+abbrev pub gets_right : ℕ → Step → ℕ → Bool
+gets_right page (Look word) a = false
+gets_right page (Deed p directory) a = (page == p) && (a == 0)
+gets_right page (Back p) a = false
+gets_right page (Take p word mask) a = false
+gets_right page (Put p word mask) a = false
+gets_right page (Give block) a = false
+gets_right page (End name guess) a = false
+gets_right page (TakeRight p directory) a = (page == p) && has_bit a (page % 64)
+gets_right page (Offer p directory) a = false
+gets_right page (Park p) a = false
+gets_right page (Unpark p) a = false
+gets_right page (Stamp p) a = false
+gets_right page (Hint p) a = false
+
+-- this step got none
+abbrev pub GetsNoneHere : ℕ → Made → List Made → Type 0
+GetsNoneHere page m before = gets_right page m.step m.answer ≡ false
+
+-- the step takes a free word of the page
+abbrev pub is_take_of : ℕ → Step → Bool
+is_take_of page (Look word) = false
+is_take_of page (Deed p directory) = false
+is_take_of page (Back p) = false
+is_take_of page (Take p word mask) = page == p
+is_take_of page (Put p word mask) = false
+is_take_of page (Give block) = false
+is_take_of page (End name guess) = false
+is_take_of page (TakeRight p directory) = false
+is_take_of page (Offer p directory) = false
+is_take_of page (Park p) = false
+is_take_of page (Unpark p) = false
+is_take_of page (Stamp p) = false
+is_take_of page (Hint p) = false
+
+-- how many takes of the page were made since its right was got last, or in all where it never was
+abbrev pub takes_since : ℕ → List Made → ℕ
+takes_since page [] = 0
+takes_since page (m ∷ before) = if gets_right page m.step m.answer then 0 else (if is_take_of page m.step then suc (takes_since page before) else takes_since page before)
+
 -- the step takes this free word of the page with all its usable grains as the mask, and reads it so
 pub record IsWholeTake (class page word : ℕ) (r : Readings) (m : Made) : Type 0 where
   pub mask : ℕ
@@ -73,11 +116,12 @@ pub record IsWholeTake (class page word : ℕ) (r : Readings) (m : Made) : Type 
 abbrev pub TakesHere : ℕ → ℕ → ℕ → Readings → Made → List Made → Type 0
 TakesHere class page word r m before = IsWholeTake class page word r m
 
--- Each free word of the page was taken with all its usable grains as the mask. The slots are those all of whose grains these takes got, and
--- there are some.
+-- Since the page's right was got, each free word of the page was taken with all its usable grains as the mask, and just once: no more
+-- than four takes were made. The slots are those all of whose grains these takes got, and there are some.
 pub record TookSlots (class page : ℕ) (steps : List Made) (starts : Mask4) : Type 0 where
   pub readings : Readings
-  pub takes_all : (word : ℕ) → word < 4 → Once (TakesHere class page word readings) steps
+  pub takes_all : (word : ℕ) → word < 4 → Since (TakesHere class page word readings) (GetsNoneHere page) steps
+  pub once : takes_since page steps ≡ 4
   pub are : AreFreeSlots class readings starts
   pub some : IsSome starts
 
@@ -93,7 +137,8 @@ pub record TakesSlots (class page : ℕ) (d : Directory) (desk desk' : Standing)
   pub owes : (v : View) → MayServe page d v → Agreed desk.seat.profile v steps → OwesNothing page (steps ++ v)
   pub backed : (v : View) → Agreed desk.seat.profile v steps → knows_backed v page ≡ true → holds_on (steps ++ v) page ≡ true → knows_backed (steps ++ v) page ≡ true
   pub readings : Readings
-  pub takes_all : (word : ℕ) → word < 4 → Once (TakesHere class page word readings) steps
+  pub takes_all : (word : ℕ) → word < 4 → Since (TakesHere class page word readings) (GetsNoneHere page) steps
+  pub count : (before : List Made) → IsJustGot page before → takes_since page (steps ++ before) ≡ 4
   pub read : (before : List Made) → GotBefore page before → (word : ℕ) → word < 4 → Since (ShowsHere page word readings) (KeptHere page) (steps ++ before)
   pub held : (v : View) → Agreed desk.seat.profile v steps → (g : ℕ) → g / 256 ≡ page → holds v g ≡ true → readings (g % 256) ≡ false
   pub are : AreFreeSlots class readings starts
