@@ -61,7 +61,7 @@ impl Mask4 {
 
     /// The lowest multiple g of `align` with `g + grains` at most `end` where the bits g to `g + grains - 1` are all set. A run that
     /// is too short is left behind with the clear bit that ends it.
-    fn first_place(&self, grains: u16, align: u16, end: u16) -> Option<u8>
+    pub fn first_place(&self, grains: u16, align: u16, end: u16) -> Option<u8>
         requires grains { (1 ≤ grains) × (grains ≤ 256) }
         requires align { (1 ≤ align) × (align ≤ 256) }
         requires end { end ≤ 256 }

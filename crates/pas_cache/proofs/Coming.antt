@@ -62,7 +62,7 @@ kept_right : (t x : Bool) → (if t then true else x) ≡ ((true && t) || x)
 kept_right true x = refl
 kept_right false x = refl
 
-more_each : (heap class h c : ℕ) (slots : Slots) (locals : List Slots) → slots.heap ≡ heap → slots.class ≡ class → local_for heap class locals ≡ None → count_for h c locals ≤ 1 → count_for h c (slots ∷ locals) ≤ 1
+pub more_each : (heap class h c : ℕ) (slots : Slots) (locals : List Slots) → slots.heap ≡ heap → slots.class ≡ class → local_for heap class locals ≡ None → count_for h c locals ≤ 1 → count_for h c (slots ∷ locals) ≤ 1
 more_each heap class h c slots locals is_heap is_class none one = elim (cases_Bool (is_for h c slots)) [
   | inl this_one ↦
       let parts = and_parts (slots.heap == h) (slots.class == c) this_one in
@@ -84,20 +84,27 @@ module _ (f : Profile) (heap class : ℕ) (locals : List Slots) (is : IsDirector
   rests_refilled slots s =
       let pair = of_pair slots heap class s.named in
       let w : IsWithout (locals ++ slots ∷ []) slots locals = without_last locals slots in
+      let later : AllByRecursion (IsLocal f (steps ++ v)) locals = map_locals (IsLocal f v) (IsLocal f (steps ++ v)) locals (λ t within at. record {
+        page = at.page;
+        directory = at.directory;
+        starts = at.starts;
+        deed = deed_stays f steps v t.page agreed (known_some t.page t v at.deed) ∙ at.deed;
+        backed = λ some. s.backed v may agreed t.page (at.backed some);
+      }) h.known in
       record {
         grains = λ g. s.grains v may agreed g ∙ (ap (λ t. covers slots g || t) (h.grains g) ∙ sym (w.grains g));
         rights = λ p. s.rights v may agreed p ∙ (kept_right (slots.page == p) (has_right v p) ∙ (ap (λ r. (r && (slots.page == p)) || has_right v p) (sym s.with_right) ∙ (ap (λ t. keeps_right slots p || t) (h.rights p) ∙ sym (w.rights p))));
         clear = s.clear v may agreed;
         known = w.joins (IsLocal f (steps ++ v))
             (record { page = s.page; directory = subst (IsDirectoryOf f) (sym s.named) is; starts = s.starts; deed = (s.known v may agreed).1 ∙ ap deed_word_of (sym s.named); backed = λ some. (s.known v may agreed).0 })
-            (map_locals (IsLocal f v) (IsLocal f (steps ++ v)) locals (λ t within at. record {
-              page = at.page;
-              directory = at.directory;
-              starts = at.starts;
-              deed = deed_stays f steps v t.page agreed (known_some t.page t v at.deed) ∙ at.deed;
-              backed = λ some. s.backed v may agreed t.page (at.backed some);
-            }) h.known);
+            later;
         one_each = λ x y. let counts = w.count x y in let one = more_each heap class x y slots locals pair.0 pair.1 none (h.one_each x y) in omega (arith, counts, one);
+        apart = w.join_apart
+            (record {
+              grains = λ g here. sym (h.grains g) ∙ s.apart v may agreed g here;
+              rights = λ p keeps. no_right_in f (steps ++ v) heap class locals is.kind later none p (subst (λ q. IsOf (class_directory heap class) q (steps ++ v)) (keeps_page slots p keeps) (s.known v may agreed).1);
+            })
+            h.apart;
       }
 
   pub rests_refused : (room : NoRoom) → IsRefused (exclusive class) f (class_directory heap class) steps room → RestsWith f locals (steps ++ v)
@@ -113,6 +120,7 @@ module _ (f : Profile) (heap class : ℕ) (locals : List Slots) (is : IsDirector
       backed = λ some. s.still.backed v may agreed t.page (at.backed some);
     }) h.known;
     one_each = h.one_each;
+    apart = h.apart;
   }
 
 -- ---- the list is shortened before

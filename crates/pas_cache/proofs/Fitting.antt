@@ -12,7 +12,7 @@ use Rattle.pas_steps.specs.Lists.{Whole, part, word_after}
 use Rattle.pas_steps.specs.Desks.{triples}
 use Rattle.pas_steps.specs.declared.step.Made.{Made}
 use Rattle.pas_steps.specs.declared.step.Step.{Step}
-use Rattle.pas_steps.specs.declared.step.Step.TheVariants.{Look, Deed, Back, Take, Put, Give, End, TakeRight, Offer, Park, Unpark, Stamp, Hint}
+use Rattle.pas_steps.specs.declared.step.Step.TheVariants.{Look, Deed, Back, Take, Put, Give, End, TakeRight, Offer, Park, Unpark, Stamp, Hint, Tick, Unback, Unhint}
 use Rattle.pas_core.proofs.Bits.{has_bit-or}
 use Rattle.pas_search.specs.Serving.{Rule, IsAntitone}
 use Rattle.pas_search.specs.Telling.{free_of_page, HasNoFit}
@@ -35,6 +35,9 @@ free_step e (Offer q d) p w old b is h = h
 free_step e (Park q) p w old b is h = h
 free_step e (Unpark q) p w old b is h = h
 free_step e (Hint q) p w old b is h = h
+free_step e (Tick raised) p w old b is h = h
+free_step e (Unback q) p w old b is h = h
+free_step e (Unhint q) p w old b is h = h
 free_step e (Deed q d) p w old b is h = absurd is
 free_step e (Back q) p w old b is h = absurd is
 free_step e (Take q j m) p w old b is h = absurd is
@@ -55,6 +58,9 @@ offered_step e (Offer q d) n j old b is h = or_keeps (same_word (Word.Eligible (
 offered_step e (Park q) n j old b is h = h
 offered_step e (Unpark q) n j old b is h = h
 offered_step e (Hint q) n j old b is h = h
+offered_step e (Tick raised) n j old b is h = h
+offered_step e (Unback q) n j old b is h = h
+offered_step e (Unhint q) n j old b is h = h
 offered_step e (Deed q d) n j old b is h = absurd is
 offered_step e (Back q) n j old b is h = absurd is
 offered_step e (Take q i m) n j old b is h = absurd is
@@ -75,6 +81,9 @@ deed_step e (Offer q d) p old is = refl
 deed_step e (Park q) p old is = refl
 deed_step e (Unpark q) p old is = refl
 deed_step e (Hint q) p old is = refl
+deed_step e (Tick raised) p old is = refl
+deed_step e (Unback q) p old is = refl
+deed_step e (Unhint q) p old is = refl
 deed_step e (Deed q d) p old is = absurd is
 deed_step e (Back q) p old is = absurd is
 deed_step e (Take q i m) p old is = absurd is

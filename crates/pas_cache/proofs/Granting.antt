@@ -19,9 +19,9 @@ use Rattle.pas_segregated.specs.Masks.{AreStarts, IsSome, start_of}
 use Rattle.pas_segregated.specs.Stops.{class_directory, directory_of}
 use Rattle.pas_segregated.specs.declared.slots.Slots.{Slots}
 use Rattle.pas_segregated.proofs.Starts.{start_at, start_below}
-use Rattle.pas_cache.specs.Locals.{covers, any_covers, any_keeps, is_for, count_for, IsLocal, RestsWith}
+use Rattle.pas_cache.specs.Locals.{covers, any_covers, any_keeps, is_for, count_for, IsLocal, IsAway, RestsWith}
 use Rattle.pas_cache.specs.Changes.{GivesSlot}
-use Rattle.pas_cache.proofs.Locals.{IsWithout, without_last, map_locals, grains_elsewhere}
+use Rattle.pas_cache.proofs.Locals.{IsWithout, without_last, map_locals}
 use Rattle.pas_cache.proofs.Lowest.{first_grain, grain_is, InSlot, in_slot, slot_covers}
 use Rattle.pas_cache.proofs.Resting.{here, away, held_of}
 use Rattle.pas_cache.proofs.Tests.{or_second}
@@ -79,7 +79,7 @@ module _ (f : Profile) (locals : List Slots) (slots rest : Slots) (block : Block
       let at : InSlot slots start g = in_slot slots start g local.directory.kind slot inside in
       let same : (start_here g == start) ≡ true = eq-eqb (start_here g) start (start_at slots.class start (g % 256) slot at.low at.high) in
       let gone : covers rest g ≡ false = covers_rest g ∙ (ap (λ t. (slots.page == g / 256) && (not t && is_set slots.starts (start_here g))) same ∙ and_no (slots.page == g / 256)) in
-      ap (λ t. t || any_covers locals g) gone ∙ grains_elsewhere slots locals g (away f (locals ++ slots ∷ []) slots locals w v h) (slot_covers slots start g slot gives.lowest.set at)
+      ap (λ t. t || any_covers locals g) gone ∙ (away f (locals ++ slots ∷ []) slots locals w v h).grains g (slot_covers slots start g slot gives.lowest.set at)
 
   outside_same : (g : ℕ) → in_run (first_grain slots start) (class_grains slots.class) g ≡ false → covers rest g ≡ covers slots g
   outside_same g outside = covers_rest g ∙ unless_start (slots.page == g / 256) (start_here g == start) (is_set slots.starts (start_here g)) (λ page at.
@@ -116,6 +116,14 @@ module _ (f : Profile) (locals : List Slots) (slots rest : Slots) (block : Block
   same_pair : (heap class : ℕ) → is_for heap class rest ≡ is_for heap class slots
   same_pair heap class = ap (λ x. (x == heap) && (rest.class == class)) gives.rest.heap ∙ ap (λ x. (slots.heap == heap) && (x == class)) gives.rest.class
 
+  rest_away : IsAway rest locals
+  rest_away = let all = away f (locals ++ slots ∷ []) slots locals w v h in record {
+    grains = λ g here.
+        let parts = and_parts (slots.page == g / 256) (not (start_here g == start) && is_set slots.starts (start_here g)) (sym (covers_rest g) ∙ here) in
+        all.grains g (and_from (slots.page == g / 256) (is_set slots.starts (start_here g)) parts.0 (and_parts (not (start_here g == start)) (is_set slots.starts (start_here g)) parts.1).1);
+    rights = λ p here. all.rights p (sym (ap (λ r. r && (rest.page == p)) gives.rest.right ∙ ap (λ q. slots.right && (q == p)) gives.rest.page) ∙ here);
+  }
+
   rests_two : RestsWith f (locals ++ rest ∷ []) (two ++ v)
   rests_two = record {
     grains = grains_two;
@@ -142,6 +150,7 @@ module _ (f : Profile) (locals : List Slots) (slots rest : Slots) (block : Block
         let after = w'.count heap class in
         let same : count_for heap class (rest ∷ locals) ≡ count_for heap class (slots ∷ locals) = ap (λ t. if t then suc (count_for heap class locals) else count_for heap class locals) (same_pair heap class) in
         omega (arith, one, before, after, same);
+    apart = w'.join_apart rest_away (w.apart h.apart).1;
   }
 
   pub rests_given : RestsWith f (locals ++ rest ∷ []) (steps ++ v)

@@ -13,14 +13,14 @@ use Rattle.pas_steps.specs.Desks.{Standing, Seat, CanCall, Makes, made}
 use Rattle.pas_steps.specs.declared.step.Made.{Made}
 use Rattle.pas_steps.specs.declared.step.Step.TheVariants.{Look}
 use Rattle.pas_steps.proofs.Adding.{adds_none, adds_step, adds_under, adds_call, can_call, agreed_first, agreed_later}
-use Rattle.pas_rights.specs.Rights.{IsClear}
+use Rattle.pas_steps.specs.Rests.{IsClear, HasNothing}
 use Rattle.pas_search.proofs.Backed.{held_where_backed}
 use Rattle.pas_search.proofs.StepKinds.{events_quiet}
 use Rattle.pas_free_log.specs.Conditions.{IsNameOf}
 use Rattle.pas_free_log.specs.Flushes.{Flushes}
 use Rattle.pas_segregated.specs.declared.slots.Slots.{Slots}
 use Rattle.pas_cache.specs.Locals.{IsLocal, RestsWith}
-use Rattle.pas_cache.specs.Caches.{Cached, HasNothing, AtRest}
+use Rattle.pas_cache.specs.Caches.{Cached, AtRest}
 use Rattle.pas_cache.specs.Changes.{EmptiesLog, EmptiesFull, LogsName, StopsAll}
 use Rattle.pas_cache.specs.Names.{IsInRegion, IsFaultOf, KeepsAll, MayFlush, EmptiesWhere, LogsInto}
 use Rattle.pas_cache.specs.Pieces.{Releases}
@@ -42,6 +42,7 @@ rests_kept f locals steps keeps v h agreed = record {
     backed = λ some. keeps.backed v agreed t.page (at.backed some);
   }) h.known;
   one_each = h.one_each;
+  apart = h.apart;
 }
 
 pub keeps_none : (f : Profile) → KeepsAll f []
@@ -68,7 +69,7 @@ clear_call can = record { view = can.view; whole = can.whole; stood = can.stood;
 
 -- ---- an empty cache
 no_locals : (f : Profile) (v : View) → HasNothing v → RestsWith f [] v
-no_locals f v none = record { grains = none.grains; rights = none.rights; clear = none.clear; known = tt; one_each = λ heap class. omega arith }
+no_locals f v none = record { grains = none.grains; rights = none.rights; clear = none.clear; known = tt; one_each = λ heap class. omega arith; apart = tt }
 
 pub rests_empty : (f : Profile) (c : Cached) (v : View) → c.locals ≡ [] → c.log ≡ [] → HasNothing v → AtRest f c v
 rests_empty f c v locals log none = record {

@@ -15,7 +15,7 @@ use Rattle.pas_steps.specs.Agreement.{Agrees, Agreed}
 use Rattle.pas_steps.specs.Past.{Once}
 use Rattle.pas_steps.specs.declared.step.Made.{Made}
 use Rattle.pas_steps.specs.declared.step.Step.{Step}
-use Rattle.pas_steps.specs.declared.step.Step.TheVariants.{Look, Deed, Back, Take, Put, Give, End, TakeRight, Offer, Park, Unpark, Stamp, Hint}
+use Rattle.pas_steps.specs.declared.step.Step.TheVariants.{Look, Deed, Back, Take, Put, Give, End, TakeRight, Offer, Park, Unpark, Stamp, Hint, Tick, Unback, Unhint}
 use Rattle.pas_steps.proofs.Adding.{agreed_first, agreed_later}
 use Rattle.pas_steps.proofs.Frames.{events_append}
 use Rattle.pas_steps.proofs.Kept.{deed_stays}
@@ -203,6 +203,9 @@ release_allocates (Park p) h = tt
 release_allocates (Unpark p) h = tt
 release_allocates (Stamp p) h = h
 release_allocates (Hint p) h = tt
+release_allocates (Tick raised) h = h
+release_allocates (Unback p) h = h
+release_allocates (Unhint p) h = h
 
 pub releases_allocate : (steps : List Made) → AreReleasing steps → AreAllocating steps
 releases_allocate steps h = always_map (λ m before. IsReleasing m.step) (λ m before. IsAllocating m.step) steps (λ m before is. release_allocates m.step is) h

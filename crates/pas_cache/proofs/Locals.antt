@@ -1,12 +1,14 @@
 -- Lists of local allocators with one more or one fewer.
-use Rattle.std.proofs.Common.{◌≡◌, ◌≢◌, ℕ, suc, ◌+◌, ◌*◌, ◌/◌, ◌<◌, ◌≤◌, ◌==◌, Bool, true, false, ◌||◌, if◌then◌else◌, List, [], ◌∷◌, ◌++◌, Some, None, inl, inr, refl, ap, sym, ◌∙◌, subst, arith, true≢false}
-use Rattle.std.proofs.lemmas.Bool.{eq-eqb, eqb-true, and_parts, and_from, cases_Bool}
+use Rattle.std.proofs.Common.{◌≡◌, ℕ, suc, ◌≤◌, ◌==◌, Bool, true, false, ◌||◌, if◌then◌else◌, List, [], ◌∷◌, ◌++◌, Some, None, inl, inr, refl, ap, sym, ◌∙◌, subst, arith, true≢false}
+use Rattle.std.proofs.lemmas.Bool.{eqb-true, and_parts, or_parts, cases_Bool}
 use Rattle.std.specs.List.{AllByRecursion}
-use Rattle.pas_profile.specs.declared.profile.Profile.{Profile}
-use Rattle.pas_steps.specs.Views.{View, known_deed}
 use Rattle.pas_segregated.specs.declared.slots.Slots.{Slots}
-use Rattle.pas_cache.specs.Locals.{covers, keeps_right, any_covers, any_keeps, is_for, local_for, others_than, count_for, IsLocal}
+use Rattle.pas_cache.specs.Locals.{covers, keeps_right, any_covers, any_keeps, is_for, local_for, others_than, count_for, IsAway, AreApart}
 use Rattle.pas_cache.proofs.Tests.{or_first, or_second}
+
+pub either_false : (a b : Bool) → (a ≡ true → ⊥) → b ≡ false → (a || b) ≡ false
+either_false true b f h = absurd (f refl)
+either_false false b f h = h
 
 -- ---- one fewer
 -- the list has the slots and the others
@@ -16,9 +18,11 @@ pub record IsWithout (locals : List Slots) (slots : Slots) (rest : List Slots) :
   pub count : (heap class : ℕ) → count_for heap class locals ≡ count_for heap class (slots ∷ rest)
   pub parts : (P : Slots → Type 0) → AllByRecursion P locals → P slots × AllByRecursion P rest
   pub joins : (P : Slots → Type 0) → P slots → AllByRecursion P rest → AllByRecursion P locals
+  pub apart : AreApart locals → IsAway slots rest × AreApart rest
+  pub join_apart : IsAway slots rest → AreApart rest → AreApart locals
 
 pub without_first : (slots : Slots) (rest : List Slots) → IsWithout (slots ∷ rest) slots rest
-without_first slots rest = record { grains = λ g. refl; rights = λ p. refl; count = λ heap class. refl; parts = λ P all. all; joins = λ P here all. (here, all) }
+without_first slots rest = record { grains = λ g. refl; rights = λ p. refl; count = λ heap class. refl; parts = λ P all. all; joins = λ P here all. (here, all); apart = λ both. both; join_apart = λ here all. (here, all) }
 
 swapped : (a b c : Bool) → (a || (b || c)) ≡ (b || (a || c))
 swapped true true c = refl
@@ -38,6 +42,31 @@ without_later first locals slots rest w = record {
   count = λ heap class. counted (is_for heap class first) (is_for heap class slots) (count_for heap class locals) (count_for heap class rest) (w.count heap class);
   parts = λ P all. let p = w.parts P all.1 in (p.0, (all.0, p.1));
   joins = λ P here all. (all.0, w.joins P here all.1);
+  apart = λ both. let p = w.apart both.1 in (
+    record {
+      grains = λ g here. either_false (covers first g) (any_covers rest g) (λ there. true≢false (sym (w.grains g ∙ or_first (covers slots g) (any_covers rest g) here) ∙ both.0.grains g there)) (p.0.grains g here);
+      rights = λ q here. either_false (keeps_right first q) (any_keeps rest q) (λ there. true≢false (sym (w.rights q ∙ or_first (keeps_right slots q) (any_keeps rest q) here) ∙ both.0.rights q there)) (p.0.rights q here);
+    },
+    (
+      record {
+        grains = λ g there. (or_parts (covers slots g) (any_covers rest g) (sym (w.grains g) ∙ both.0.grains g there)).1;
+        rights = λ q there. (or_parts (keeps_right slots q) (any_keeps rest q) (sym (w.rights q) ∙ both.0.rights q there)).1;
+      },
+      p.1,
+    ),
+  );
+  join_apart = λ here all. (
+    record {
+      grains = λ g there. w.grains g ∙ either_false (covers slots g) (any_covers rest g) (λ h. true≢false (sym (or_first (covers first g) (any_covers rest g) there) ∙ here.grains g h)) (all.0.grains g there);
+      rights = λ q there. w.rights q ∙ either_false (keeps_right slots q) (any_keeps rest q) (λ h. true≢false (sym (or_first (keeps_right first q) (any_keeps rest q) there) ∙ here.rights q h)) (all.0.rights q there);
+    },
+    w.join_apart
+        (record {
+          grains = λ g h. (or_parts (covers first g) (any_covers rest g) (here.grains g h)).1;
+          rights = λ q h. (or_parts (keeps_right first q) (any_keeps rest q) (here.rights q h)).1;
+        })
+        all.1,
+  );
 }
 
 pub without_last : (rest : List Slots) (slots : Slots) → IsWithout (rest ++ slots ∷ []) slots rest
@@ -92,51 +121,8 @@ without_found heap class (first ∷ rest) slots one found = elim (cases_Bool (is
       (without_found heap class rest slots (omega (arith, one, counts)) (ap (λ t. if t then Some first else local_for heap class rest) (sym another) ∙ found)))
 ]
 
--- ---- pages are different ones
--- two local allocators of one page are for the same heap and class, since the page has one deed
-pub same_pair : (f : Profile) (v : View) (s t : Slots) → IsLocal f v s → IsLocal f v t → s.page ≡ t.page → (t.heap ≡ s.heap) × (t.class ≡ s.class)
-same_pair f v s t hs ht same =
-    let words : 65536 + s.heap * 256 + s.class ≡ 65536 + t.heap * 256 + t.class = sym hs.deed ∙ (ap (known_deed v) same ∙ ht.deed) in
-    let a : s.class < 16 = hs.directory.kind in
-    let b : t.class < 16 = ht.directory.kind in
-    (omega (arith, words, a, b), omega (arith, words, a, b))
-
-other_page : (f : Profile) (v : View) (s t : Slots) → IsLocal f v s → IsLocal f v t → is_for s.heap s.class t ≡ false → s.page ≡ t.page → ⊥
-other_page f v s t hs ht other same =
-    let pair = same_pair f v s t hs ht same in
-    true≢false (sym (and_from (t.heap == s.heap) (t.class == s.class) (eq-eqb t.heap s.heap pair.0) (eq-eqb t.class s.class pair.1)) ∙ other)
-
--- the page of the slots is none of the others'
-abbrev pub AreElsewhere : Slots → List Slots → Type 0
-AreElsewhere slots rest = AllByRecursion (λ t. slots.page ≢ t.page) rest
-
-pub elsewhere : (f : Profile) (v : View) (slots : Slots) (rest : List Slots) → IsLocal f v slots → AllByRecursion (IsLocal f v) rest → count_for slots.heap slots.class rest ≡ 0 → AreElsewhere slots rest
-elsewhere f v slots [] here all none = tt
-elsewhere f v slots (first ∷ rest) here all none = elim (cases_Bool (is_for slots.heap slots.class first)) [
-  | inl this_one ↦ let more : suc (count_for slots.heap slots.class rest) ≡ 0 = ap (λ t. if t then suc (count_for slots.heap slots.class rest) else count_for slots.heap slots.class rest) (sym this_one) ∙ none in absurd (omega (arith, more))
-  | inr another ↦ (
-    other_page f v slots first here all.0 another,
-    elsewhere f v slots rest here all.1 (ap (λ t. if t then suc (count_for slots.heap slots.class rest) else count_for slots.heap slots.class rest) (sym another) ∙ none),
-  )
-]
-
-covers_page : (s : Slots) (g : ℕ) → covers s g ≡ true → s.page ≡ g / 256
-covers_page s g h = eqb-true s.page (g / 256) (and_parts (s.page == g / 256) _ h).0
-
 pub keeps_page : (s : Slots) (p : ℕ) → keeps_right s p ≡ true → s.page ≡ p
 keeps_page s p h = eqb-true s.page p (and_parts s.right (s.page == p) h).1
-
-pub either_false : (a b : Bool) → (a ≡ true → ⊥) → b ≡ false → (a || b) ≡ false
-either_false true b f h = absurd (f refl)
-either_false false b f h = h
-
-pub grains_elsewhere : (slots : Slots) (rest : List Slots) (g : ℕ) → AreElsewhere slots rest → covers slots g ≡ true → any_covers rest g ≡ false
-grains_elsewhere slots [] g away here = refl
-grains_elsewhere slots (first ∷ rest) g away here = either_false (covers first g) (any_covers rest g) (λ there. away.0 (covers_page slots g here ∙ sym (covers_page first g there))) (grains_elsewhere slots rest g away.1 here)
-
-pub rights_elsewhere : (slots : Slots) (rest : List Slots) (p : ℕ) → AreElsewhere slots rest → keeps_right slots p ≡ true → any_keeps rest p ≡ false
-rights_elsewhere slots [] p away here = refl
-rights_elsewhere slots (first ∷ rest) p away here = either_false (keeps_right first p) (any_keeps rest p) (λ there. away.0 (keeps_page slots p here ∙ sym (keeps_page first p there))) (rights_elsewhere slots rest p away.1 here)
 
 -- ---- what is known of each, where it may use that its grains are covered
 map_within : (P Q : Slots → Type 0) (all rest : List Slots) → ((g : ℕ) → any_covers rest g ≡ true → any_covers all g ≡ true) → ((t : Slots) → ((g : ℕ) → covers t g ≡ true → any_covers all g ≡ true) → P t → Q t) → AllByRecursion P rest → AllByRecursion Q rest

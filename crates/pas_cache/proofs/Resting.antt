@@ -13,9 +13,9 @@ use Rattle.pas_steps.specs.Desks.{Standing}
 use Rattle.pas_segregated.specs.Masks.{IsSome}
 use Rattle.pas_segregated.specs.Stops.{directory_of, MayStop, Stops}
 use Rattle.pas_segregated.specs.declared.slots.Slots.{Slots}
-use Rattle.pas_cache.specs.Locals.{covers, keeps_right, any_covers, any_keeps, is_for, count_for, HasOneEach, IsLocal, RestsWith}
+use Rattle.pas_cache.specs.Locals.{covers, keeps_right, any_covers, any_keeps, is_for, count_for, HasOneEach, IsLocal, IsAway, RestsWith}
 use Rattle.pas_cache.specs.Pieces.{MayGiveSlot}
-use Rattle.pas_cache.proofs.Locals.{IsWithout, AreElsewhere, elsewhere, grains_elsewhere, rights_elsewhere, map_locals}
+use Rattle.pas_cache.proofs.Locals.{IsWithout, map_locals}
 use Rattle.pas_cache.proofs.Lowest.{first_grain, slot_covers}
 use Rattle.pas_cache.proofs.Tests.{or_first, or_second}
 
@@ -51,7 +51,7 @@ pub known_some : (page : ℕ) (t : Slots) (v : View) → known_deed v t.page ≡
 known_some page t v knows z = deed_word_of-positive (directory_of t) (sym knows ∙ z)
 
 -- ---- one goes
-less : (c r : Bool) → (c ≡ true → r ≡ false) → (not c && (c || r)) ≡ r
+pub less : (c r : Bool) → (c ≡ true → r ≡ false) → (not c && (c || r)) ≡ r
 less true r away = sym (away refl)
 less false r away = refl
 
@@ -59,7 +59,7 @@ more_or_same : (t : Bool) (n : ℕ) → n ≤ (if t then suc n else n)
 more_or_same true n = omega arith
 more_or_same false n = omega arith
 
-fewer_each : (heap class : ℕ) (s : Slots) (rest : List Slots) → count_for heap class rest ≤ count_for heap class (s ∷ rest)
+pub fewer_each : (heap class : ℕ) (s : Slots) (rest : List Slots) → count_for heap class rest ≤ count_for heap class (s ∷ rest)
 fewer_each heap class s rest = more_or_same (is_for heap class s) (count_for heap class rest)
 
 module _ (f : Profile) (locals : List Slots) (slots : Slots) (rest : List Slots) (w : IsWithout locals slots rest) (v : View) (h : RestsWith f locals v) where
@@ -69,16 +69,8 @@ module _ (f : Profile) (locals : List Slots) (slots : Slots) (rest : List Slots)
   others : AllByRecursion (IsLocal f v) rest
   others = (w.parts (IsLocal f v) h.known).1
 
-  none_other : count_for slots.heap slots.class rest ≡ 0
-  none_other =
-      let all = h.one_each slots.heap slots.class in
-      let counts = w.count slots.heap slots.class in
-      let this : count_for slots.heap slots.class (slots ∷ rest) ≡ suc (count_for slots.heap slots.class rest)
-      = ap (λ t. if t then suc (count_for slots.heap slots.class rest) else count_for slots.heap slots.class rest) (and_from (slots.heap == slots.heap) (slots.class == slots.class) (eq-eqb slots.heap slots.heap refl) (eq-eqb slots.class slots.class refl)) in
-      omega (arith, all, counts, this)
-
-  pub away : AreElsewhere slots rest
-  away = elsewhere f v slots rest here others none_other
+  pub away : IsAway slots rest
+  away = (w.apart h.apart).0
 
   held_here : (g : ℕ) → covers slots g ≡ true → holds v g ≡ true
   held_here g covered = h.grains g ∙ (w.grains g ∙ or_first (covers slots g) (any_covers rest g) covered)
@@ -108,12 +100,12 @@ module _ (f : Profile) (locals : List Slots) (slots : Slots) (rest : List Slots)
     grains_left : (g : ℕ) → holds (stops.steps ++ v) g ≡ any_covers rest g
     grains_left g =
         stops.grains v g ∙ ap (λ t. not (covers slots g) && t) (h.grains g ∙ w.grains g)
-        ∙ less (covers slots g) (any_covers rest g) (grains_elsewhere slots rest g away)
+        ∙ less (covers slots g) (any_covers rest g) (away.grains g)
 
     pub rests_stopped : RestsWith f rest (stops.steps ++ v)
     rests_stopped = record {
       grains = grains_left;
-      rights = λ p. stops.rights v ok p ∙ ap (λ t. not (keeps_right slots p) && t) (h.rights p ∙ w.rights p) ∙ less (keeps_right slots p) (any_keeps rest p) (rights_elsewhere slots rest p away);
+      rights = λ p. stops.rights v ok p ∙ ap (λ t. not (keeps_right slots p) && t) (h.rights p ∙ w.rights p) ∙ less (keeps_right slots p) (any_keeps rest p) (away.rights p);
       clear = stops.clear v may_stop ok;
       known = map_locals (IsLocal f v) (IsLocal f (stops.steps ++ v)) rest (λ t within at. record {
         page = at.page;
@@ -123,6 +115,7 @@ module _ (f : Profile) (locals : List Slots) (slots : Slots) (rest : List Slots)
         backed = λ some. stops.backed v t.page ok (at.backed some) (held_of f v (stops.steps ++ v) t rest at some grains_left within);
       }) others;
       one_each = rest_each;
+      apart = (w.apart h.apart).1;
     }
 
 -- the order doesn't matter
@@ -139,4 +132,5 @@ rests_moved f locals locals' slots rest w w' v h =
           let here = w.count heap class in
           let there = w'.count heap class in
           omega (arith, all, here, there);
+      apart = let p = w.apart h.apart in w'.join_apart p.0 p.1;
     }

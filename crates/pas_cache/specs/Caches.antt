@@ -3,7 +3,7 @@ use Rattle.std.specs.Prelude.{ℕ, ◌≤◌, List, length, All, ◌≡◌, fals
 use Rattle.pas_profile.specs.declared.name.Name.{Name}
 use Rattle.pas_profile.specs.declared.profile.Profile.{Profile}
 use Rattle.pas_steps.specs.Views.{View, holds, has_right}
-use Rattle.pas_rights.specs.Rights.{IsClear}
+use Rattle.pas_steps.specs.Rests.{IsClear}
 use Rattle.pas_free_log.specs.Conditions.{IsNameOf}
 use Rattle.pas_free_log.specs.Logs.{names_in}
 use Rattle.pas_segregated.specs.declared.slots.Slots.{Slots}
@@ -23,12 +23,6 @@ seat_of cache = thread_of cache.seat
 
 abbrev pub cached : ThreadCache → Cached
 cached cache = record { locals = cache.locals.items; log = names_in cache.log; idle_since = cache.idle_since }
-
--- the actor holds no grain, has no right and is clear
-pub record HasNothing (v : View) : Type 0 where
-  pub grains : (g : ℕ) → holds v g ≡ false
-  pub rights : (page : ℕ) → has_right v page ≡ false
-  pub clear : IsClear v
 
 -- The actor has what the local allocators have, and nothing else. There are at most 32 of them, and at most 64 logged names, each of which
 -- may be ended.

@@ -15,7 +15,8 @@ use Rattle.pas_steps.specs.Desks.{Standing, Adds, triples, made}
 use Rattle.pas_steps.specs.declared.step.Made.{Made}
 use Rattle.pas_steps.specs.declared.step.Step.TheVariants.{Look}
 use Rattle.pas_search.specs.Searches.{HasRoom}
-use Rattle.pas_cache.specs.Caches.{Cached, HasNothing, AtRest}
+use Rattle.pas_cache.specs.Caches.{Cached, AtRest}
+use Rattle.pas_steps.specs.Rests.{HasNothing}
 use Rattle.pas_cache.specs.Names.{IsInRegion, IsFaultOf}
 use Rattle.pas_cache.specs.Changes.{EmptiesLog, LogsName, StopsAll}
 use Rattle.pas_cache.specs.Pieces.{AreReleasing}

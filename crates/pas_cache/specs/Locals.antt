@@ -6,7 +6,8 @@ use Rattle.pas_profile.specs.Classes.{IsClass}
 use Rattle.pas_profile.specs.Profiles.{IsPage, IsDirectoryOf}
 use Rattle.pas_profile.specs.declared.profile.Profile.{Profile}
 use Rattle.pas_steps.specs.Views.{View, holds, has_right, knows_backed}
-use Rattle.pas_rights.specs.Rights.{KnowsDeed, IsClear}
+use Rattle.pas_rights.specs.Rights.{KnowsDeed}
+use Rattle.pas_steps.specs.Rests.{IsClear}
 use Rattle.pas_segregated.specs.Masks.{AreStarts, IsSome}
 use Rattle.pas_segregated.specs.Stops.{directory_of, in_slots}
 use Rattle.pas_segregated.specs.declared.slots.Slots.{Slots}
@@ -65,11 +66,22 @@ pub record IsLocal (f : Profile) (v : View) (slots : Slots) : Type 0 where
   pub deed : KnowsDeed slots.page (directory_of slots) v
   pub backed : IsSome slots.starts → knows_backed v slots.page ≡ true
 
+-- no grain of the slots is of another's, and no right that they keep
+pub record IsAway (slots : Slots) (rest : List Slots) : Type 0 where
+  pub grains : (g : ℕ) → covers slots g ≡ true → any_covers rest g ≡ false
+  pub rights : (p : ℕ) → keeps_right slots p ≡ true → any_keeps rest p ≡ false
+
+-- no grain is of two of them, and no page's right is kept by two
+abbrev pub AreApart : List Slots → Type 0
+AreApart [] = Unit {0}
+AreApart (slots ∷ rest) = IsAway slots rest × AreApart rest
+
 -- The actor holds exactly the grains of the unused slots, has exactly the rights that the local allocators keep, is clear, and knows what they
--- say of their pages. So their pages are different ones, since each page has one deed.
+-- say of their pages. Two of them may be of one page, and then have different slots of it.
 pub record RestsWith (f : Profile) (locals : List Slots) (v : View) : Type 0 where
   pub grains : (g : ℕ) → holds v g ≡ any_covers locals g
   pub rights : (page : ℕ) → has_right v page ≡ any_keeps locals page
   pub clear : IsClear v
   pub known : AllByRecursion (IsLocal f v) locals
   pub one_each : HasOneEach locals
+  pub apart : AreApart locals

@@ -10,7 +10,7 @@ use Rattle.pas_steps.specs.Views.{View, holds, has_right, known_deed, knows_back
 use Rattle.pas_steps.specs.Agreement.{Agreed}
 use Rattle.pas_steps.specs.Desks.{Standing, Adds}
 use Rattle.pas_steps.specs.declared.step.Made.{Made}
-use Rattle.pas_rights.specs.Rights.{IsClear}
+use Rattle.pas_steps.specs.Rests.{IsClear}
 use Rattle.pas_free_log.specs.Conditions.{IsNameOf}
 use Rattle.pas_cache.specs.Changes.{EmptiesFull, LogsName}
 

@@ -11,7 +11,7 @@ use Rattle.pas_steps.specs.Past.{Always}
 use Rattle.pas_steps.specs.Desks.{Standing, Adds, triples}
 use Rattle.pas_steps.specs.declared.step.Made.{Made}
 use Rattle.pas_steps.specs.declared.step.Step.{Step}
-use Rattle.pas_steps.specs.declared.step.Step.TheVariants.{Look, Deed, Back, Take, Put, Give, End, TakeRight, Offer, Park, Unpark, Stamp, Hint}
+use Rattle.pas_steps.specs.declared.step.Step.TheVariants.{Look, Deed, Back, Take, Put, Give, End, TakeRight, Offer, Park, Unpark, Stamp, Hint, Tick, Unback, Unhint}
 use Rattle.pas_search.specs.Kinds.{AreQuiet}
 use Rattle.pas_search.specs.Searches.{HasRoom}
 use Rattle.pas_search.specs.Telling.{HasNoFit, IsTrueReason}
@@ -52,6 +52,9 @@ IsReleasing (Park page) = Unit {0}
 IsReleasing (Unpark page) = Unit {0}
 IsReleasing (Stamp page) = ⊥
 IsReleasing (Hint page) = Unit {0}
+IsReleasing (Tick raised) = ⊥
+IsReleasing (Unback page) = ⊥
+IsReleasing (Unhint page) = ⊥
 
 abbrev pub AreReleasing : List Made → Type 0
 AreReleasing = Always (λ m before. IsReleasing m.step)

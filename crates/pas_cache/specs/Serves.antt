@@ -17,7 +17,7 @@ use Rattle.pas_steps.specs.Lists.{Whole}
 use Rattle.pas_steps.specs.Past.{Always}
 use Rattle.pas_steps.specs.declared.step.Made.{Made}
 use Rattle.pas_steps.specs.declared.step.Step.{Step}
-use Rattle.pas_steps.specs.declared.step.Step.TheVariants.{Look, Deed, Back, Take, Put, Give, End, TakeRight, Offer, Park, Unpark, Stamp, Hint}
+use Rattle.pas_steps.specs.declared.step.Step.TheVariants.{Look, Deed, Back, Take, Put, Give, End, TakeRight, Offer, Park, Unpark, Stamp, Hint, Tick, Unback, Unhint}
 use Rattle.pas_rights.specs.Rights.{KnowsDeed}
 use Rattle.pas_search.specs.Kinds.{OnlySearches}
 use Rattle.pas_search.specs.Searches.{IsRefused}
@@ -107,6 +107,9 @@ IsAllocating (Park page) = Unit {0}
 IsAllocating (Unpark page) = Unit {0}
 IsAllocating (Stamp page) = ⊥
 IsAllocating (Hint page) = Unit {0}
+IsAllocating (Tick raised) = ⊥
+IsAllocating (Unback page) = ⊥
+IsAllocating (Unhint page) = ⊥
 
 abbrev pub AreAllocating : List Made → Type 0
 AreAllocating = Always (λ m before. IsAllocating m.step)

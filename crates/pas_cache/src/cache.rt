@@ -28,7 +28,8 @@ impl ThreadCache {
     ghost use Rattle.std.specs.Prelude.{◌≡◌, [], length};
     ghost use Rattle.pas_steps.specs.Desks.{CanCall};
     ghost use Rattle.pas_utility.specs.Seats.{thread_of};
-    ghost use Rattle.pas_cache.specs.Caches.{cached, seat_of, HasNothing, AtRest};
+    ghost use Rattle.pas_cache.specs.Caches.{cached, seat_of, AtRest};
+    ghost use Rattle.pas_steps.specs.Rests.{HasNothing};
     ghost use Rattle.pas_profile.specs.declared.profile.Profile.{Profile};
     ghost use Rattle.pas_steps.specs.Views.{View};
     ghost use Rattle.pas_cache.specs.Calls.{Begins};

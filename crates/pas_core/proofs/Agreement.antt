@@ -17,7 +17,7 @@ use Rattle.pas_steps.specs.Allowed.{IsStepOf}
 use Rattle.pas_steps.specs.Lists.{Triple, Whole, part, visible, word_after, IsNext, Legal}
 use Rattle.pas_steps.specs.Agreement.{IsDeedWord, heap_recorded, AgreesDeed, AgreesFree, AgreesLife, AgreesEnd, AgreesBacked, AgreesParked, AgreesEmpty, AgreesEligible, AgreesEpoch, AgreesStamp, Agrees}
 use Rattle.pas_steps.specs.declared.step.Step.{Step}
-use Rattle.pas_steps.specs.declared.step.Step.TheVariants.{Look, Deed, Back, Take, Put, Give, End, TakeRight, Offer, Park, Unpark, Stamp, Hint}
+use Rattle.pas_steps.specs.declared.step.Step.TheVariants.{Look, Deed, Back, Take, Put, Give, End, TakeRight, Offer, Park, Unpark, Stamp, Hint, Tick, Unback, Unhint}
 use Rattle.pas_core.specs.Good.{Held, is_free, is_covered_by, covers, IsPlacedOnce, IsLifeOf}
 use Rattle.pas_core.proofs.Grains.{is_held_by-true, own_grain, placed_once}
 use Rattle.pas_core.proofs.Lives.{life_is_known, live_is_live, life_of}
@@ -26,6 +26,7 @@ use Rattle.pas_core.proofs.DeedWords.{known_is, deed_words}
 use Rattle.pas_core.proofs.Knowledge.{deeds_known, backed_small, backed_known}
 use Rattle.pas_core.proofs.Rights.{right_not_offered, right_not_parked, offered_is_known, offered_page, parked_page, hinted_page, free_known}
 use Rattle.pas_core.proofs.Epochs.{epoch_known, epoch_small, stamp_small}
+use Rattle.pas_core.proofs.Stamps.{stamp_known}
 use Rattle.pas_core.proofs.Turns.{turn_small}
 use Rattle.pas_core.proofs.WasRead.{read_backed, read_again}
 use Rattle.pas_core.proofs.EndedBlocks.{end_within, ended_has_deed, ended_has_heap}
@@ -57,8 +58,8 @@ free_agrees f l valid legal k page word a is = record {
       ap (λ n. has_bit n (g % 64)) (word_at l page word a g is p w) ∙ at.free ∙ ap is_free (held_place l k g at h);
 }
 
-backed_agrees : (f : Profile) (l : Whole) → Legal f l → (k page a : ℕ) → a ≡ word_after l (Word.Backed page) → AgreesBacked (part k l) page a
-backed_agrees f l legal k page a is = record { small = omega (arith, is, backed_small f l legal page); known = λ h. is ∙ backed_known f l legal k page h }
+backed_agrees : (f : Profile) (l : Whole) → IsValid f → Legal f l → (k page a : ℕ) → a ≡ word_after l (Word.Backed page) → AgreesBacked (part k l) page a
+backed_agrees f l valid legal k page a is = record { small = omega (arith, is, backed_small f l legal page); known = λ h. is ∙ backed_known f l valid legal k page h }
 
 -- ---- life words
 -- a live block has a length that fits the region
@@ -169,8 +170,8 @@ eligible_agrees f l legal k n j a is = record {
 epoch_agrees : (f : Profile) (l : Whole) → Legal f l → (k a : ℕ) → a ≡ word_after l Word.Epoch → AgreesEpoch (part k l) a
 epoch_agrees f l legal k a is = record { newer = omega (arith, is, epoch_known f l legal k); small = omega (arith, is, epoch_small f l legal) }
 
-stamp_agrees : (f : Profile) (l : Whole) → Legal f l → (page a : ℕ) → a ≡ word_after l (Word.Stamp page) → AgreesStamp a
-stamp_agrees f l legal page a is = omega (arith, is, stamp_small f l legal page)
+stamp_agrees : (f : Profile) (l : Whole) → IsValid f → Legal f l → (k page a : ℕ) → a ≡ word_after l (Word.Stamp page) → AgreesStamp (part k l) page a
+stamp_agrees f l valid legal k page a is = record { small = omega (arith, is, stamp_small f l legal page); known = λ s h. is ∙ stamp_known f l valid legal k page s h }
 
 -- what an actor reads at a word of the profile agrees with its view
 pub answer_agrees_at : (f : Profile) (l : Whole) → IsValid f → Legal f l → (k : ℕ) (s : Step) (a : ℕ) → IsStepOf f s → a ≡ word_after l (target s) → Agrees f (part k l) s a
@@ -178,13 +179,13 @@ answer_agrees_at f l valid legal k (Look Word.Epoch) a of is = epoch_agrees f l 
 answer_agrees_at f l valid legal k (Look (Word.Free q w)) a of is = free_agrees f l valid legal k q w a is
 answer_agrees_at f l valid legal k (Look (Word.Life q g)) a of is = life_agrees f l valid legal k (q * 256 + g) a (is ∙ life_at l q g of.2)
 answer_agrees_at f l valid legal k (Look (Word.Deed q)) a of is = deed_agrees f l valid legal k q a is
-answer_agrees_at f l valid legal k (Look (Word.Backed q)) a of is = backed_agrees f l legal k q a is
-answer_agrees_at f l valid legal k (Look (Word.Stamp q)) a of is = stamp_agrees f l legal q a is
+answer_agrees_at f l valid legal k (Look (Word.Backed q)) a of is = backed_agrees f l valid legal k q a is
+answer_agrees_at f l valid legal k (Look (Word.Stamp q)) a of is = stamp_agrees f l valid legal k q a is
 answer_agrees_at f l valid legal k (Look (Word.Parked j)) a of is = parked_agrees f l legal k j a is
 answer_agrees_at f l valid legal k (Look (Word.Empty j)) a of is = empty_agrees f l legal j a is
 answer_agrees_at f l valid legal k (Look (Word.Eligible n j)) a of is = eligible_agrees f l legal k n j a is
 answer_agrees_at f l valid legal k (Deed q d) a of is = deed_agrees f l valid legal k q a is
-answer_agrees_at f l valid legal k (Back q) a of is = backed_agrees f l legal k q a is
+answer_agrees_at f l valid legal k (Back q) a of is = backed_agrees f l valid legal k q a is
 answer_agrees_at f l valid legal k (Take q w mask) a of is = free_agrees f l valid legal k q w a is
 answer_agrees_at f l valid legal k (Put q w mask) a of is = free_agrees f l valid legal k q w a is
 answer_agrees_at f l valid legal k (Give block) a of is = life_agrees f l valid legal k (grain_of block.name) a is
@@ -193,8 +194,11 @@ answer_agrees_at f l valid legal k (TakeRight q d) a of is = eligible_agrees f l
 answer_agrees_at f l valid legal k (Offer q d) a of is = eligible_agrees f l legal k (number_of d) (q / 64) a is
 answer_agrees_at f l valid legal k (Park q) a of is = parked_agrees f l legal k (q / 64) a is
 answer_agrees_at f l valid legal k (Unpark q) a of is = parked_agrees f l legal k (q / 64) a is
-answer_agrees_at f l valid legal k (Stamp q) a of is = stamp_agrees f l legal q a is
+answer_agrees_at f l valid legal k (Stamp q) a of is = stamp_agrees f l valid legal k q a is
 answer_agrees_at f l valid legal k (Hint q) a of is = empty_agrees f l legal (q / 64) a is
+answer_agrees_at f l valid legal k (Tick raised) a of is = epoch_agrees f l legal k a is
+answer_agrees_at f l valid legal k (Unback q) a of is = backed_agrees f l valid legal k q a is
+answer_agrees_at f l valid legal k (Unhint q) a of is = empty_agrees f l legal (q / 64) a is
 
 -- the answer of the next legal step agrees with its actor's view
 pub answer_agrees : (f : Profile) (l : Whole) → IsValid f → Legal f l → (t : Triple) → IsNext f l t → Agrees f (part t.actor l) t.made.step t.made.answer

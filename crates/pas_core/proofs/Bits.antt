@@ -1,13 +1,14 @@
 -- The tests of bits that steps change.
-use Rattle.std.proofs.Common.{◌≡◌, ℕ, ◌-◌, ◌/◌, ◌%◌, ◌^◌, ◌<◌, ◌==◌, Bool, true, false, not, ◌&&◌, ◌||◌, if◌then◌else◌, min, max, refl, ap, sym, ◌∙◌, arith, bit_and, bit_or, inl, inr}
+use Rattle.std.proofs.Common.{◌≡◌, ℕ, zero, suc, ◌-◌, ◌/◌, ◌%◌, ◌^◌, ◌<◌, ◌==◌, Bool, true, false, not, ◌&&◌, ◌||◌, if◌then◌else◌, min, max, refl, ap, sym, ◌∙◌, arith, bit_and, bit_or, inl, inr}
 use Rattle.std.specs.Int.{bit_at, bit_not, w64}
 use Rattle.std.proofs.Math.Pow.{pow_pos}
 use Rattle.std.proofs.lemmas.Nat.{pow_below}
 use Rattle.std.proofs.lemmas.Nat.Bits.{bit_at_and, bit_at_or, bit_at_not, bit_at-lt, bit_at-zero, bit_at-pow_same, bit_at-pow_other}
-use Rattle.std.proofs.lemmas.Bool.{eqb-true, eqb-false, eq-eqb, ne_eqb, cases_eq}
+use Rattle.std.proofs.lemmas.Bool.{eqb-true, eqb-false, eq-eqb, ne_eqb, and_parts, cases_eq}
 use Rattle.std.proofs.lemmas.Bool.Decides.{nat_tests}
 use Rattle.pas_profile.specs.Classes.{has_bit}
 use Rattle.pas_steps.specs.Effects.{page_mask}
+use Rattle.pas_steps.specs.Views.{all_below}
 
 min_test : (x y : ℕ) → x < 2 → y < 2 → (min x (1 - y) == 1) ≡ ((x == 1) && not (y == 1))
 min_test x y hx hy = grind (arith, nat_tests)
@@ -76,3 +77,11 @@ page_bit-clear q p old x = clear_page q p old x (q / 64 == p / 64) refl
 
 pub page_bit-set : (q p old : ℕ) (x : Bool) → has_bit (if x && (q / 64 == p / 64) then bit_or old (page_mask q) else old) (p % 64) ≡ (if x && (q == p) then true else has_bit old (p % 64))
 page_bit-set q p old x = set_page q p old x (q / 64 == p / 64) refl
+
+-- ---- a test of all numbers below a bound
+pub all_below-at : (n k : ℕ) (p : ℕ → Bool) → all_below n p ≡ true → k < n → p k ≡ true
+unfolding all_below
+all_below-at zero k p h lt = absurd (omega (arith, lt))
+all_below-at (suc n) k p h lt =
+    let parts = and_parts (p n) (all_below n p) h in
+    elim (cases_eq k n) [ inl e ↦ ap p e ∙ parts.0 | inr ne ↦ all_below-at n k p parts.1 (omega (arith, lt, ne)) ]

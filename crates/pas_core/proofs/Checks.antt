@@ -14,9 +14,9 @@ use Rattle.pas_steps.specs.Lists.{Whole, part, word_after, IsNext, Legal}
 use Rattle.pas_steps.specs.Desks.{made, triple}
 use Rattle.pas_steps.specs.declared.step.Step.{Step}
 use Rattle.pas_steps.specs.declared.step.Made.{Made}
-use Rattle.pas_steps.specs.declared.step.Step.TheVariants.{Look, Deed, Back, Take, Put, Give, End, TakeRight, Offer, Park, Unpark, Stamp, Hint}
+use Rattle.pas_steps.specs.declared.step.Step.TheVariants.{Look, Deed, Back, Take, Put, Give, End, TakeRight, Offer, Park, Unpark, Stamp, Hint, Tick, Unback, Unhint}
 use Rattle.pas_core.specs.Rights.{parked_bit, IsUsableFree, IsOwed}
-use Rattle.pas_core.proofs.Bits.{has_bit-clear}
+use Rattle.pas_core.proofs.Bits.{has_bit-clear, all_below-at}
 use Rattle.pas_core.proofs.DeedWords.{next_value, looked, known_is, word_stays}
 use Rattle.pas_core.proofs.Spots.{Spot, InParked, is_with, is_parked, Way, Rests, ByDeed, FromOffer, FromParked, ToOffer, ToParked, way, spot_after, spot_of, DeedFits, IsSpotted, spotted}
 use Rattle.pas_core.proofs.Rights.{parked_spot}
@@ -61,13 +61,6 @@ gets_if true = refl
 gets_if false = refl
 
 -- ---- a look that finds no usable bit
-pub all_below-at : (n k : ℕ) (p : ℕ → Bool) → all_below n p ≡ true → k < n → p k ≡ true
-unfolding all_below
-all_below-at zero k p h lt = absurd (omega (arith, lt))
-all_below-at (suc n) k p h lt =
-    let parts = and_parts (p n) (all_below n p) h in
-    elim (cases_eq k n) [ inl e ↦ ap p e ∙ parts.0 | inr ne ↦ all_below-at n k p parts.1 (omega (arith, lt, ne)) ]
-
 not_both : (x y : Bool) → x ≡ true → y ≡ true → not (x && y) ≡ true → ⊥
 not_both x y hx hy h = false≢true (sym (ap not (and_from x y hx hy)) ∙ h)
 
@@ -153,6 +146,9 @@ owed_step f l j e (Unpark q) a p w b small at of is before usable o free =
     keeps_owed l j (Unpark q) a p w (λ k. kept_if (q == p) (unpark_other l q a p at is was.1 was.0)) (before was.1 free)
 owed_step f l j e (Stamp q) a p w b small at of is before usable o free = keeps_owed l j (Stamp q) a p w (λ k. refl) (before o free)
 owed_step f l j e (Hint q) a p w b small at of is before usable o free = keeps_owed l j (Hint q) a p w (λ k. refl) (before o free)
+owed_step f l j e (Tick raised) a p w b small at of is before usable o free = keeps_owed l j (Tick raised) a p w (λ k. refl) (before o free)
+owed_step f l j e (Unback q) a p w b small at of is before usable o free = keeps_owed l j (Unback q) a p w (λ k. refl) (before o free)
+owed_step f l j e (Unhint q) a p w b small at of is before usable o free = keeps_owed l j (Unhint q) a p w (λ k. refl) (before o free)
 
 -- the induction
 owed_at : (f : Profile) (l : Whole) → Legal f l → (p w b : ℕ) → spot_of l p ≡ InParked → IsUsableFree l p w b → IsOwed l p w

@@ -14,7 +14,7 @@ use Rattle.pas_steps.specs.Allowed.{IsStepOf}
 use Rattle.pas_steps.specs.Lists.{Triple, Whole, part, word_after, IsNext, Legal}
 use Rattle.pas_steps.specs.Agreement.{IsDeedWord}
 use Rattle.pas_steps.specs.declared.step.Step.{Step}
-use Rattle.pas_steps.specs.declared.step.Step.TheVariants.{Look, Deed, Back, Take, Put, Give, End, TakeRight, Offer, Park, Unpark, Stamp, Hint}
+use Rattle.pas_steps.specs.declared.step.Step.TheVariants.{Look, Deed, Back, Take, Put, Give, End, TakeRight, Offer, Park, Unpark, Stamp, Hint, Tick, Unback, Unhint}
 
 -- a word's value after a step of an actor that knows this epoch
 abbrev pub next_value : ℕ → Step → Word → ℕ → ℕ
@@ -54,6 +54,9 @@ word_stays e (Park q) p old known h = h
 word_stays e (Unpark q) p old known h = h
 word_stays e (Stamp q) p old known h = h
 word_stays e (Hint q) p old known h = h
+word_stays e (Tick raised) p old known h = h
+word_stays e (Unback q) p old known h = h
+word_stays e (Unhint q) p old known h = h
 
 pub deed_tells : (x : Bool) (d : Directory) (old a known : ℕ) → (x ≡ true → a ≡ old) → IsKnown known old
     → IsKnown (if x then (if a == 0 then deed_word_of d else a) else known) (if x then (if old == 0 then deed_word_of d else old) else old)
@@ -95,6 +98,9 @@ deed_word_next f e (Park q) p old of h = h
 deed_word_next f e (Unpark q) p old of h = h
 deed_word_next f e (Stamp q) p old of h = h
 deed_word_next f e (Hint q) p old of h = h
+deed_word_next f e (Tick raised) p old of h = h
+deed_word_next f e (Unback q) p old of h = h
+deed_word_next f e (Unhint q) p old of h = h
 
 pub deed_words : (f : Profile) (l : Whole) → Legal f l → (p : ℕ) → IsDeedWord f (word_after l (Word.Deed p))
 deed_words f [] legal p = λ ne. absurd (ne refl)
@@ -121,6 +127,9 @@ deed_page_next f e (Park q) p old of h ne = h ne
 deed_page_next f e (Unpark q) p old of h ne = h ne
 deed_page_next f e (Stamp q) p old of h ne = h ne
 deed_page_next f e (Hint q) p old of h ne = h ne
+deed_page_next f e (Tick raised) p old of h ne = h ne
+deed_page_next f e (Unback q) p old of h ne = h ne
+deed_page_next f e (Unhint q) p old of h ne = h ne
 
 -- what has a deed is a page of the profile
 pub deed_has_page : (f : Profile) (l : Whole) → Legal f l → (p : ℕ) → word_after l (Word.Deed p) ≢ 0 → IsPage f p

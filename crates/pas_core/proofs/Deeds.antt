@@ -16,7 +16,7 @@ use Rattle.pas_steps.specs.Events.{event_of, with_event, reason_of}
 use Rattle.pas_steps.specs.Allowed.{IsStepOf}
 use Rattle.pas_steps.specs.Lists.{Whole, word_after, part, visible, Legal}
 use Rattle.pas_steps.specs.declared.step.Step.{Step}
-use Rattle.pas_steps.specs.declared.step.Step.TheVariants.{Look, Deed, Back, Take, Put, Give, End, TakeRight, Offer, Park, Unpark, Stamp, Hint}
+use Rattle.pas_steps.specs.declared.step.Step.TheVariants.{Look, Deed, Back, Take, Put, Give, End, TakeRight, Offer, Park, Unpark, Stamp, Hint, Tick, Unback, Unhint}
 use Rattle.pas_core.specs.Good.{word_of_deed, word_of_backed}
 
 -- a look leaves the word
@@ -66,6 +66,9 @@ deed_step l k e (Park q) a p is h = h
 deed_step l k e (Unpark q) a p is h = h
 deed_step l k e (Stamp q) a p is h = h
 deed_step l k e (Hint q) a p is h = h
+deed_step l k e (Tick raised) a p is h = h
+deed_step l k e (Unback q) a p is h = h
+deed_step l k e (Unhint q) a p is h = h
 
 -- the deed word of a page records the machine's directory
 pub deed_of : (f : Profile) (l : Whole) → Legal f l → (p : ℕ) → word_after l (Word.Deed p) ≡ word_of_deed (deed_in (visible l) p)
@@ -101,6 +104,9 @@ directory_step f k e (Park q) a es of rest = rest
 directory_step f k e (Unpark q) a es of rest = rest
 directory_step f k e (Stamp q) a es of rest = rest
 directory_step f k e (Hint q) a es of rest = rest
+directory_step f k e (Tick raised) a es of rest = rest
+directory_step f k e (Unback q) a es of rest = rest
+directory_step f k e (Unhint q) a es of rest = rest
 
 pub directory_is_of : (f : Profile) (l : Whole) → Legal f l → (p : ℕ) (d : Directory) → deed_in (visible l) p ≡ Some d → IsDirectoryOf f d
 directory_is_of f [] legal p d is = let bad : None ≡ Some d = is in absurd cc
@@ -124,6 +130,10 @@ back_agrees true false k q p old a es xe is ze h = or_one (backed_in es p) old h
 back_agrees false true k q p old a es xe is ze h = h ∙ ap (λ b. word_of_backed (if b then true else backed_in es p)) (sym xe)
 back_agrees false false k q p old a es xe is ze h = h
 
+unback_agrees : (x : Bool) (old : ℕ) (was : Bool) → old ≡ word_of_backed was → (if x then 0 else old) ≡ word_of_backed (if x then false else was)
+unback_agrees true old was h = refl
+unback_agrees false old was h = h
+
 back_step : (l : Whole) (k e : ℕ) (s : Step) (a p : ℕ) → a ≡ word_after l (target s) → word_after l (Word.Backed p) ≡ word_of_backed (backed_in (visible l) p)
     → (if same_word (target s) (Word.Backed p) then new_value e s (word_after l (Word.Backed p)) else word_after l (Word.Backed p)) ≡ word_of_backed (backed_in (with_event (event_of k e s a) (visible l)) p)
 back_step l k e (Look word) a p is h = same (same_word word (Word.Backed p)) (word_after l (Word.Backed p)) ∙ h
@@ -139,6 +149,9 @@ back_step l k e (Park q) a p is h = h
 back_step l k e (Unpark q) a p is h = h
 back_step l k e (Stamp q) a p is h = h
 back_step l k e (Hint q) a p is h = h
+back_step l k e (Tick raised) a p is h = h
+back_step l k e (Unback q) a p is h = unback_agrees (q == p) (word_after l (Word.Backed p)) (backed_in (visible l) p) h
+back_step l k e (Unhint q) a p is h = h
 
 -- the backed word of a page says whether the machine has it backed
 pub backed_of : (f : Profile) (l : Whole) → Legal f l → (p : ℕ) → word_after l (Word.Backed p) ≡ word_of_backed (backed_in (visible l) p)

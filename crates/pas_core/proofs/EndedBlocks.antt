@@ -19,59 +19,15 @@ use Rattle.pas_steps.specs.Allowed.{IsStepOf}
 use Rattle.pas_steps.specs.Agreement.{heap_recorded}
 use Rattle.pas_steps.specs.Lists.{Triple, Whole, part, word_after, visible, IsNext, Legal}
 use Rattle.pas_steps.specs.declared.step.Step.{Step}
-use Rattle.pas_steps.specs.declared.step.Step.TheVariants.{Look, Deed, Back, Take, Put, Give, End, TakeRight, Offer, Park, Unpark, Stamp, Hint}
+use Rattle.pas_steps.specs.declared.step.Step.TheVariants.{Look, Deed, Back, Take, Put, Give, End, TakeRight, Offer, Park, Unpark, Stamp, Hint, Tick, Unback, Unhint}
 use Rattle.pas_core.specs.Good.{word_of_deed, IsLifeOf}
 use Rattle.pas_core.proofs.DeedWords.{deed_word_ne, deed_kept}
 use Rattle.pas_core.proofs.Deeds.{deed_of, directory_is_of}
-use Rattle.pas_core.proofs.MachineRuns.{life_at}
+use Rattle.pas_core.proofs.Ends.{IsMet, met, IsFound, end_finds}
 use Rattle.pas_core.proofs.Placed.{lists_borne}
 use Rattle.pas_core.proofs.Onces.{since_once}
 
--- ---- pages and runs
--- a grain that the run has on the page that it meets
-record IsMet (g n page : ℕ) : Type 0 where
-  grain : ℕ
-  of_run : in_run g n grain ≡ true
-  of_page : grain / 256 ≡ page
-
-met_at : (g n page : ℕ) → 0 < n → g < 256 * page + 256 → 256 * page < g + n → IsMet g n page
-met_at g n page some low high = elim (cases_lt (256 * page) g) [
-  | inl gt ↦ record { grain = g; of_run = grind (arith, nat_tests, some); of_page = omega (arith, gt, low) }
-  | inr le ↦ record { grain = 256 * page; of_run = grind (arith, nat_tests, le, high); of_page = omega arith }
-]
-
-meets-true : (g n page : ℕ) → meets_page g n page ≡ true → (g < 256 * page + 256) × (256 * page < g + n)
-meets-true g n page h = (grind (arith, nat_tests, h), grind (arith, nat_tests, h))
-
-met : (g n page : ℕ) → 0 < n → meets_page g n page ≡ true → IsMet g n page
-met g n page some h = let both = meets-true g n page h in met_at g n page some both.0 both.1
-
--- ---- the block that an end found
-record IsFound (f : Profile) (l : Whole) (name : Name) (guess : ℕ) : Type 0 where
-  block : Live
-  lives : live_in (visible l) (address_of name) ≡ Some block
-  grains_are : length_of block.block ≡ guess
-  first : 256 ≤ grain_of name
-  last : grain_of name + guess ≤ 256 * (f.pages + 1)
-
-found : (f : Profile) (l : Whole) (name : Name) (word guess gives ends : ℕ) (live : Option Live) → live_in (visible l) (address_of name) ≡ live → IsLifeOf f (grain_of name) word live gives ends
-    → name.turn < 2 ^ 40 → guess < 2 ^ 23 → word ≡ live_word name.turn guess → IsFound f l name guess
-found f l name word guess gives ends None is life turn short h = let w = life.word_is in let few = life.few in absurd (omega (arith, w, few, h))
-found f l name word guess gives ends (Some b) is life turn short h =
-    let w = life.word_is in let few = life.few in let small = life.short in
-    let first = life.first in let last = life.last in
-    let n : length_of b.block ≡ guess = omega (arith, w, few, small, turn, short, h) in
-    record { block = b; lives = is; grains_are = n; first = first; last = omega (arith, n, last) }
-
-guess_short : (f : Profile) (guess : ℕ) → IsValid f → guess ≤ 256 * f.pages → guess < 2 ^ 23
-guess_short f guess valid low = let pages = valid.pages in omega (arith, pages, low)
-
-end_finds : (f : Profile) (l : Whole) → IsValid f → Legal f l → (name : Name) (guess a : ℕ) → IsStepOf f (End name guess) → a ≡ word_after l (life_word_at (grain_of name)) → a ≡ live_word name.turn guess → IsFound f l name guess
-end_finds f l valid legal name guess a of is hit =
-    let turn = of.2 in
-    found f l name (word_after l (life_word_at (grain_of name))) guess (gives_in (visible l) (address_of name)) (ends_in (visible l) (address_of name)) (live_in (visible l) (address_of name)) refl (life_at f l valid legal (address_of name) of.1)
-    (omega (arith, turn)) (guess_short f guess valid of.4) (sym is ∙ hit)
-
+-- ---- where it lay
 -- a block that ends lies in the region
 pub end_within : (f : Profile) (l : Whole) → IsValid f → Legal f l → (name : Name) (guess a : ℕ) → IsStepOf f (End name guess) → a ≡ word_after l (life_word_at (grain_of name)) → a ≡ live_word name.turn guess → (256 ≤ grain_of name) × (grain_of name + guess ≤ 256 * (f.pages + 1))
 end_within f l valid legal name guess a of is hit = let at : IsFound f l name guess = end_finds f l valid legal name guess a of is hit in (at.first, at.last)
@@ -136,6 +92,9 @@ has_ended f l valid legal (Park q) a of is = no_end l (Park q) a (λ page. refl)
 has_ended f l valid legal (Unpark q) a of is = no_end l (Unpark q) a (λ page. refl)
 has_ended f l valid legal (Stamp q) a of is = no_end l (Stamp q) a (λ page. refl)
 has_ended f l valid legal (Hint q) a of is = no_end l (Hint q) a (λ page. refl)
+has_ended f l valid legal (Tick raised) a of is = no_end l (Tick raised) a (λ page. refl)
+has_ended f l valid legal (Unback q) a of is = no_end l (Unback q) a (λ page. refl)
+has_ended f l valid legal (Unhint q) a of is = no_end l (Unhint q) a (λ page. refl)
 
 -- a page of a block that an actor once ended has a deed
 pub ended_has_deed : (f : Profile) (l : Whole) → IsValid f → Legal f l → (k page : ℕ) → EndedOn (part k l) page → word_after l (Word.Deed page) ≢ 0

@@ -18,7 +18,7 @@ use Rattle.pas_steps.specs.Allowed.{IsStepOf}
 use Rattle.pas_steps.specs.Lists.{Triple, Whole, part, word_after, IsNext, Legal}
 use Rattle.pas_steps.specs.declared.step.Step.{Step}
 use Rattle.pas_steps.specs.declared.step.Made.{Made}
-use Rattle.pas_steps.specs.declared.step.Step.TheVariants.{Look, Deed, Back, Take, Put, Give, End, TakeRight, Offer, Park, Unpark, Stamp, Hint}
+use Rattle.pas_steps.specs.declared.step.Step.TheVariants.{Look, Deed, Back, Take, Put, Give, End, TakeRight, Offer, Park, Unpark, Stamp, Hint, Tick, Unback, Unhint}
 use Rattle.pas_core.proofs.Grains.{give_short}
 use Rattle.pas_core.proofs.Bits.{page_mask_lt}
 use Rattle.pas_core.proofs.DeedWords.{next_value, looked}
@@ -39,33 +39,39 @@ epoch_next e (Park q) old = omega arith
 epoch_next e (Unpark q) old = omega arith
 epoch_next e (Stamp q) old = omega arith
 epoch_next e (Hint q) old = omega arith
+epoch_next e (Tick raised) old = omega arith
+epoch_next e (Unback q) old = omega arith
+epoch_next e (Unhint q) old = omega arith
 
 pub epoch_grows : (l : Whole) (t : Triple) → word_after l Word.Epoch ≤ word_after (t ∷ l) Word.Epoch
 epoch_grows l t = epoch_next (epoch_of (part t.actor l)) t.made.step (word_after l Word.Epoch)
 
--- an actor learns no epoch but that of the word
-epoch_learns : (l : Whole) (s : Step) (a : ℕ) (known : Option ℕ) → a ≡ word_after l (target s) → or_zero known ≤ word_after l Word.Epoch → or_zero (epoch_after s a known) ≤ word_after l Word.Epoch
-epoch_learns l (Look Word.Epoch) a known is h = omega (arith, is)
-epoch_learns l (Look (Word.Free q w)) a known is h = h
-epoch_learns l (Look (Word.Life q g)) a known is h = h
-epoch_learns l (Look (Word.Deed q)) a known is h = h
-epoch_learns l (Look (Word.Backed q)) a known is h = h
-epoch_learns l (Look (Word.Stamp q)) a known is h = h
-epoch_learns l (Look (Word.Parked j)) a known is h = h
-epoch_learns l (Look (Word.Empty j)) a known is h = h
-epoch_learns l (Look (Word.Eligible d j)) a known is h = h
-epoch_learns l (Deed q d) a known is h = h
-epoch_learns l (Back q) a known is h = h
-epoch_learns l (Take q w mask) a known is h = h
-epoch_learns l (Put q w mask) a known is h = h
-epoch_learns l (Give block) a known is h = h
-epoch_learns l (End name guess) a known is h = h
-epoch_learns l (TakeRight q directory) a known is h = h
-epoch_learns l (Offer q directory) a known is h = h
-epoch_learns l (Park q) a known is h = h
-epoch_learns l (Unpark q) a known is h = h
-epoch_learns l (Stamp q) a known is h = h
-epoch_learns l (Hint q) a known is h = h
+-- an actor learns no epoch but that of the word, and its tick the one that it makes
+epoch_learns : (l : Whole) (e : ℕ) (s : Step) (a : ℕ) (known : Option ℕ) → a ≡ word_after l (target s) → or_zero known ≤ word_after l Word.Epoch → or_zero (epoch_after s a known) ≤ next_value e s Word.Epoch (word_after l Word.Epoch)
+epoch_learns l e (Look Word.Epoch) a known is h = omega (arith, is)
+epoch_learns l e (Look (Word.Free q w)) a known is h = h
+epoch_learns l e (Look (Word.Life q g)) a known is h = h
+epoch_learns l e (Look (Word.Deed q)) a known is h = h
+epoch_learns l e (Look (Word.Backed q)) a known is h = h
+epoch_learns l e (Look (Word.Stamp q)) a known is h = h
+epoch_learns l e (Look (Word.Parked j)) a known is h = h
+epoch_learns l e (Look (Word.Empty j)) a known is h = h
+epoch_learns l e (Look (Word.Eligible d j)) a known is h = h
+epoch_learns l e (Deed q d) a known is h = h
+epoch_learns l e (Back q) a known is h = h
+epoch_learns l e (Take q w mask) a known is h = h
+epoch_learns l e (Put q w mask) a known is h = h
+epoch_learns l e (Give block) a known is h = h
+epoch_learns l e (End name guess) a known is h = h
+epoch_learns l e (TakeRight q directory) a known is h = h
+epoch_learns l e (Offer q directory) a known is h = h
+epoch_learns l e (Park q) a known is h = h
+epoch_learns l e (Unpark q) a known is h = h
+epoch_learns l e (Stamp q) a known is h = h
+epoch_learns l e (Hint q) a known is h = h
+epoch_learns l e (Tick raised) a known is h = omega (arith, is, h)
+epoch_learns l e (Unback q) a known is h = h
+epoch_learns l e (Unhint q) a known is h = h
 
 epoch_of_part : (t : Bool) (m : Made) (v : View) (n : ℕ) → epoch_of v ≤ n → or_zero (epoch_after m.step m.answer (known_epoch v)) ≤ n → epoch_of (if t then m ∷ v else v) ≤ n
 epoch_of_part true m v n old new = new
@@ -77,9 +83,9 @@ epoch_known f [] legal k = omega arith
 epoch_known f (t ∷ l) legal k =
     let next : IsNext f l t = legal.0 in
     let before : epoch_of (part k l) ≤ word_after l Word.Epoch = epoch_known f l legal.1 k in
-    let new : or_zero (epoch_after t.made.step t.made.answer (known_epoch (part k l))) ≤ word_after l Word.Epoch = epoch_learns l t.made.step t.made.answer (known_epoch (part k l)) next.answer_is before in
+    let new : or_zero (epoch_after t.made.step t.made.answer (known_epoch (part k l))) ≤ word_after (t ∷ l) Word.Epoch = epoch_learns l (epoch_of (part t.actor l)) t.made.step t.made.answer (known_epoch (part k l)) next.answer_is before in
     let grows : word_after l Word.Epoch ≤ word_after (t ∷ l) Word.Epoch = epoch_grows l t in
-    epoch_of_part (t.actor == k) t.made (part k l) (word_after (t ∷ l) Word.Epoch) (omega (arith, before, grows)) (omega (arith, new, grows))
+    epoch_of_part (t.actor == k) t.made (part k l) (word_after (t ∷ l) Word.Epoch) (omega (arith, before, grows)) new
 
 -- ---- every word is below 2 ^ 64
 kind_small : (kind : Kind) → IsKind kind → kind_number kind ≤ 22
@@ -112,6 +118,9 @@ value_small f e (Park q) old valid of he h = or_lt 64 old (page_mask q) h (page_
 value_small f e (Unpark q) old valid of he h = omega (arith, and_le_l old (bit_not w64 (page_mask q)))
 value_small f e (Stamp q) old valid of he h = omega arith
 value_small f e (Hint q) old valid of he h = or_lt 64 old (page_mask q) h (page_mask_lt q)
+value_small f e (Tick raised) old valid of he h = omega (arith, of, h)
+value_small f e (Unback q) old valid of he h = omega arith
+value_small f e (Unhint q) old valid of he h = omega (arith, and_le_l old (bit_not w64 (page_mask q)))
 
 opening_small : (word : Word) → opening word < 2 ^ 64
 opening_small Word.Epoch = omega arith
@@ -143,25 +152,28 @@ epoch_fits f l valid legal k =
     omega (arith, known, fits)
 
 -- ---- the epoch and the stamps are below 2 ^ 40
-epoch_below : (e : ℕ) (s : Step) (old : ℕ) → old < 2 ^ 40 → next_value e s Word.Epoch old < 2 ^ 40
-epoch_below e (Look word) old h = omega (arith, looked (same_word word Word.Epoch) old, h)
-epoch_below e (Deed q d) old h = h
-epoch_below e (Back q) old h = h
-epoch_below e (Take q w mask) old h = h
-epoch_below e (Put q w mask) old h = h
-epoch_below e (Give block) old h = h
-epoch_below e (End name guess) old h = h
-epoch_below e (TakeRight q d) old h = h
-epoch_below e (Offer q d) old h = h
-epoch_below e (Park q) old h = h
-epoch_below e (Unpark q) old h = h
-epoch_below e (Stamp q) old h = h
-epoch_below e (Hint q) old h = h
+epoch_below : (f : Profile) (e : ℕ) (s : Step) (old : ℕ) → IsStepOf f s → old < 2 ^ 40 → next_value e s Word.Epoch old < 2 ^ 40
+epoch_below f e (Look word) old of h = omega (arith, looked (same_word word Word.Epoch) old, h)
+epoch_below f e (Deed q d) old of h = h
+epoch_below f e (Back q) old of h = h
+epoch_below f e (Take q w mask) old of h = h
+epoch_below f e (Put q w mask) old of h = h
+epoch_below f e (Give block) old of h = h
+epoch_below f e (End name guess) old of h = h
+epoch_below f e (TakeRight q d) old of h = h
+epoch_below f e (Offer q d) old of h = h
+epoch_below f e (Park q) old of h = h
+epoch_below f e (Unpark q) old of h = h
+epoch_below f e (Stamp q) old of h = h
+epoch_below f e (Hint q) old of h = h
+epoch_below f e (Tick raised) old of h = omega (arith, of, h)
+epoch_below f e (Unback q) old of h = h
+epoch_below f e (Unhint q) old of h = h
 
 -- the epoch is below 2 ^ 40
 pub epoch_small : (f : Profile) (l : Whole) → Legal f l → word_after l Word.Epoch < 2 ^ 40
 epoch_small f [] legal = omega arith
-epoch_small f (t ∷ l) legal = epoch_below (epoch_of (part t.actor l)) t.made.step (word_after l Word.Epoch) (epoch_small f l legal.1)
+epoch_small f (t ∷ l) legal = let next : IsNext f l t = legal.0 in epoch_below f (epoch_of (part t.actor l)) t.made.step (word_after l Word.Epoch) next.of_region (epoch_small f l legal.1)
 
 stamp_below : (e : ℕ) (s : Step) (p old : ℕ) → e < 2 ^ 40 → old < 2 ^ 40 → next_value e s (Word.Stamp p) old < 2 ^ 40
 stamp_below e (Look word) p old he h = omega (arith, looked (same_word word (Word.Stamp p)) old, h)
@@ -177,6 +189,9 @@ stamp_below e (Park q) p old he h = h
 stamp_below e (Unpark q) p old he h = h
 stamp_below e (Stamp q) p old he h = if_small (q == p) (max old e) old (2 ^ 40) (omega (arith, he, h)) h
 stamp_below e (Hint q) p old he h = h
+stamp_below e (Tick raised) p old he h = h
+stamp_below e (Unback q) p old he h = h
+stamp_below e (Unhint q) p old he h = h
 
 -- a stamp is an epoch that an actor read, so it is below 2 ^ 40 too
 pub stamp_small : (f : Profile) (l : Whole) → Legal f l → (p : ℕ) → word_after l (Word.Stamp p) < 2 ^ 40

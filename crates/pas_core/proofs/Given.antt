@@ -14,10 +14,10 @@ use Rattle.pas_steps.specs.Views.{View, epoch_of, given_count, given_after}
 use Rattle.pas_steps.specs.Events.{event_of, events_of, with_event, reason_of}
 use Rattle.pas_steps.specs.Lists.{Whole, word_after, visible, Legal}
 use Rattle.pas_steps.specs.declared.step.Step.{Step}
-use Rattle.pas_steps.specs.declared.step.Step.TheVariants.{Look, Deed, Back, Take, Put, Give, End, TakeRight, Offer, Park, Unpark, Stamp, Hint}
+use Rattle.pas_steps.specs.declared.step.Step.TheVariants.{Look, Deed, Back, Take, Put, Give, End, TakeRight, Offer, Park, Unpark, Stamp, Hint, Tick, Unback, Unhint}
 use Rattle.pas_core.specs.Good.{IsLifeOf}
 use Rattle.pas_core.specs.Given.{WasGiven}
-use Rattle.pas_core.proofs.MachineRuns.{life_at}
+use Rattle.pas_core.proofs.Lives.{life_at}
 
 some_is : {A : Type 0} {x y : A} → Some x ≡ Some y → x ≡ y
 some_is h = cc
@@ -149,6 +149,9 @@ count_step k e (Park page) a es = refl
 count_step k e (Unpark page) a es = refl
 count_step k e (Stamp page) a es = refl
 count_step k e (Hint page) a es = refl
+count_step k e (Tick raised) a es = refl
+count_step k e (Unback page) a es = refl
+count_step k e (Unhint page) a es = refl
 
 pub own_gives : (k : ℕ) (v : View) → count_gives (events_of k v) ≡ given_count v
 own_gives k [] = refl

@@ -18,7 +18,7 @@ use Rattle.pas_steps.specs.Allowed.{Allowed, IsStepOf}
 use Rattle.pas_steps.specs.Lists.{Whole, word_after, part, IsNext, Legal}
 use Rattle.pas_steps.specs.declared.step.Made.{Made}
 use Rattle.pas_steps.specs.declared.step.Step.{Step}
-use Rattle.pas_steps.specs.declared.step.Step.TheVariants.{Look, Deed, Back, Take, Put, Give, End, TakeRight, Offer, Park, Unpark, Stamp, Hint}
+use Rattle.pas_steps.specs.declared.step.Step.TheVariants.{Look, Deed, Back, Take, Put, Give, End, TakeRight, Offer, Park, Unpark, Stamp, Hint, Tick, Unback, Unhint}
 use Rattle.pas_core.specs.Good.{Place, IsFree, Held, Covered, is_free, is_held_by, is_covered_by, covers, IsPlacedOnce}
 use Rattle.pas_core.proofs.Bits.{has_bit-clear, has_bit-or}
 
@@ -174,6 +174,9 @@ free_step f l e (Park page) a g of is = refl
 free_step f l e (Unpark page) a g of is = refl
 free_step f l e (Stamp page) a g of is = refl
 free_step f l e (Hint page) a g of is = refl
+free_step f l e (Tick raised) a g of is = refl
+free_step f l e (Unback page) a g of is = refl
+free_step f l e (Unhint page) a g of is = refl
 
 -- ---- the life words
 pub covers_live : (turn n b g : ℕ) → turn < 2 ^ 40 → n < 2 ^ 23 → covers (live_word turn n) b g ≡ in_run b n g
@@ -255,6 +258,9 @@ covered_step f l k e (Park page) a g b valid placed of allowed is = refl
 covered_step f l k e (Unpark page) a g b valid placed of allowed is = refl
 covered_step f l k e (Stamp page) a g b valid placed of allowed is = refl
 covered_step f l k e (Hint page) a g b valid placed of allowed is = refl
+covered_step f l k e (Tick raised) a g b valid placed of allowed is = refl
+covered_step f l k e (Unback page) a g b valid placed of allowed is = refl
+covered_step f l k e (Unhint page) a g b valid placed of allowed is = refl
 
 -- ---- a legal step's move fits
 fits_if : (j : ℕ) (m : Move) (o : Place) (t : Bool) → (t ≡ true → Fits j m o) → Fits j (if t then m else Stays) o
@@ -281,6 +287,9 @@ step_fits f l k (Park page) a g at valid of allowed is = tt
 step_fits f l k (Unpark page) a g at valid of allowed is = tt
 step_fits f l k (Stamp page) a g at valid of allowed is = tt
 step_fits f l k (Hint page) a g at valid of allowed is = tt
+step_fits f l k (Tick raised) a g at valid of allowed is = tt
+step_fits f l k (Unback page) a g at valid of allowed is = tt
+step_fits f l k (Unhint page) a g at valid of allowed is = tt
 
 -- ---- the induction
 holds_part : (t : Bool) (m : Made) (v : View) (g : ℕ) → holds (if t then m ∷ v else v) g ≡ (if t then held_after (grain_move m.step m.answer g) (holds v g) else holds v g)
@@ -302,3 +311,10 @@ placed_once f (t ∷ l) valid legal g =
       held = λ k. holds_part (t.actor == k) t.made (part k l) g ∙ held_next m at.place t.actor k (holds (part k l) g) (at.held k) fits (t.actor == k) refl;
       covered = λ b. covered_step f l t.actor e t.made.step t.made.answer g b valid (placed_once f l valid legal.1) next.of_region next.allowed next.answer_is ∙ ap (covered_moved m b) (at.covered b) ∙ covered_next t.actor m b at.place fits;
     }
+
+-- no two actors hold one grain
+pub one_holder : (f : Profile) (l : Whole) → IsValid f → Legal f l → (j k g : ℕ) → holds (part j l) g ≡ true → holds (part k l) g ≡ true → (j == k) ≡ true
+one_holder f l valid legal j k g hj hk =
+    let at : IsPlacedOnce l g = placed_once f l valid legal g in
+    let here : at.place ≡ Held j = is_held_by-true j at.place (sym (at.held j) ∙ hj) in
+    sym (ap (is_held_by k) here) ∙ sym (at.held k) ∙ hk

@@ -1,15 +1,20 @@
 -- What views know of deeds and of backed pages is true.
-use Rattle.std.proofs.Common.{◌≡◌, ℕ, ◌≤◌, ◌==◌, Bool, true, false, if◌then◌else◌, [], ◌∷◌, refl, ap, sym, ◌∙◌, arith, bit_or, inl, inr}
-use Rattle.std.proofs.lemmas.Bool.{false≢true, eqb-true, and_parts, cases_eq}
+use Rattle.std.proofs.Common.{◌≡◌, ℕ, ◌+◌, ◌*◌, ◌/◌, ◌<◌, ◌≤◌, ◌==◌, Bool, true, false, if◌then◌else◌, [], ◌∷◌, refl, ap, sym, ◌∙◌, arith, bit_or, inl, inr}
+use Rattle.std.proofs.lemmas.Bool.{false≢true, eqb-true, and_parts, cases_eq, false_from_ne_true}
 use Rattle.pas_profile.specs.Layouts.{same_word}
+use Rattle.pas_profile.specs.Profiles.{IsValid}
 use Rattle.pas_profile.specs.declared.profile.Profile.{Profile}
 use Rattle.pas_profile.specs.declared.word.Word.{Word}
 use Rattle.pas_steps.specs.Effects.{target}
-use Rattle.pas_steps.specs.Views.{View, holds_on, known_deed, backed_after, knows_backed, epoch_of}
-use Rattle.pas_steps.specs.Lists.{Whole, part, word_after, IsNext, Legal}
+use Rattle.pas_steps.specs.Frames.{unbacks}
+use Rattle.pas_steps.specs.Allowed.{Allowed, MayUnback}
+use Rattle.pas_steps.proofs.Backed.{any_one, backed_holds}
+use Rattle.pas_steps.specs.Views.{View, holds, holds_on, known_deed, backed_after, knows_backed, epoch_of}
+use Rattle.pas_steps.specs.Lists.{Triple, Whole, part, word_after, IsNext, Legal}
 use Rattle.pas_steps.specs.declared.step.Step.{Step}
 use Rattle.pas_steps.specs.declared.step.Made.{Made}
-use Rattle.pas_steps.specs.declared.step.Step.TheVariants.{Look, Deed, Back, Take, Put, Give, End, TakeRight, Offer, Park, Unpark, Stamp, Hint}
+use Rattle.pas_steps.specs.declared.step.Step.TheVariants.{Look, Deed, Back, Take, Put, Give, End, TakeRight, Offer, Park, Unpark, Stamp, Hint, Tick, Unback, Unhint}
+use Rattle.pas_core.proofs.Grains.{one_holder}
 use Rattle.pas_core.proofs.DeedWords.{next_value, looked, IsKnown}
 use Rattle.pas_core.proofs.Spots.{IsSpotted, spotted}
 
@@ -25,6 +30,10 @@ backs : (x : Bool) (old : ℕ) → old ≤ 1 → (if x then bit_or old 1 else ol
 backs true old h = omega (arith, or_one old h)
 backs false old h = h
 
+unbacks_small : (x : Bool) (old : ℕ) → old ≤ 1 → (if x then 0 else old) ≤ 1
+unbacks_small true old h = omega arith
+unbacks_small false old h = h
+
 backed_next : (e : ℕ) (s : Step) (p old : ℕ) → old ≤ 1 → next_value e s (Word.Backed p) old ≤ 1
 backed_next e (Look w) p old h = omega (arith, looked (same_word w (Word.Backed p)) old)
 backed_next e (Back q) p old h = backs (q == p) old h
@@ -39,6 +48,9 @@ backed_next e (Park q) p old h = h
 backed_next e (Unpark q) p old h = h
 backed_next e (Stamp q) p old h = h
 backed_next e (Hint q) p old h = h
+backed_next e (Tick raised) p old h = h
+backed_next e (Unback q) p old h = unbacks_small (q == p) old h
+backed_next e (Unhint q) p old h = h
 
 -- a backed word is 0 or 1
 pub backed_small : (f : Profile) (l : Whole) → Legal f l → (p : ℕ) → word_after l (Word.Backed p) ≤ 1
@@ -49,25 +61,32 @@ back_rests : (x : Bool) (old : ℕ) → old ≡ 1 → (if x then bit_or old 1 el
 back_rests true old h = ap (λ n. bit_or n 1) h
 back_rests false old h = h
 
--- a page that is backed stays so
-backed_stays : (e : ℕ) (s : Step) (p old : ℕ) → old ≡ 1 → next_value e s (Word.Backed p) old ≡ 1
-backed_stays e (Look w) p old h = looked (same_word w (Word.Backed p)) old ∙ h
-backed_stays e (Back q) p old h = back_rests (q == p) old h
-backed_stays e (Deed q d) p old h = h
-backed_stays e (Take q w m) p old h = h
-backed_stays e (Put q w m) p old h = h
-backed_stays e (Give b) p old h = h
-backed_stays e (End n u) p old h = h
-backed_stays e (TakeRight q directory) p old h = h
-backed_stays e (Offer q directory) p old h = h
-backed_stays e (Park q) p old h = h
-backed_stays e (Unpark q) p old h = h
-backed_stays e (Stamp q) p old h = h
-backed_stays e (Hint q) p old h = h
+-- a page that is backed stays so, but where the step ends its backing
+backed_stays : (e : ℕ) (s : Step) (p old : ℕ) → unbacks s p ≡ false → old ≡ 1 → next_value e s (Word.Backed p) old ≡ 1
+backed_stays e (Look w) p old keep h = looked (same_word w (Word.Backed p)) old ∙ h
+backed_stays e (Back q) p old keep h = back_rests (q == p) old h
+backed_stays e (Deed q d) p old keep h = h
+backed_stays e (Take q w m) p old keep h = h
+backed_stays e (Put q w m) p old keep h = h
+backed_stays e (Give b) p old keep h = h
+backed_stays e (End n u) p old keep h = h
+backed_stays e (TakeRight q directory) p old keep h = h
+backed_stays e (Offer q directory) p old keep h = h
+backed_stays e (Park q) p old keep h = h
+backed_stays e (Unpark q) p old keep h = h
+backed_stays e (Stamp q) p old keep h = h
+backed_stays e (Hint q) p old keep h = h
+backed_stays e (Tick raised) p old keep h = h
+backed_stays e (Unback q) p old keep h = ap (λ t. if t then 0 else old) keep ∙ h
+backed_stays e (Unhint q) p old keep h = h
 
 back_tells : (x known : Bool) (old : ℕ) → old ≤ 1 → (known ≡ true → old ≡ 1) → (if x then true else known) ≡ true → (if x then bit_or old 1 else old) ≡ 1
 back_tells true known old small was told = or_one old small
 back_tells false known old small was told = was told
+
+unback_tells : (x known : Bool) (old : ℕ) → (known ≡ true → old ≡ 1) → (if x then false else known) ≡ true → (if x then 0 else old) ≡ 1
+unback_tells true known old was told = absurd (false≢true told)
+unback_tells false known old was told = was told
 
 look_backed : (x known : Bool) (old a : ℕ) → (x ≡ true → a ≡ old) → (known ≡ true → old ≡ 1) → (if x then a == 1 else known) ≡ true → (if x then old else old) ≡ 1
 look_backed true known old a is was told = sym (is refl) ∙ eqb-true a 1 told
@@ -97,18 +116,51 @@ backed_learns l e (Park q) a p known is small was told = was told
 backed_learns l e (Unpark q) a p known is small was told = was told
 backed_learns l e (Stamp q) a p known is small was told = was told
 backed_learns l e (Hint q) a p known is small was told = was told
+backed_learns l e (Tick raised) a p known is small was told = was told
+backed_learns l e (Unback q) a p known is small was told = unback_tells (q == p) known (word_after l (Word.Backed p)) was told
+backed_learns l e (Unhint q) a p known is small was told = was told
 
-backed_of_part : (t : Bool) (m : Made) (v : View) (p : ℕ) (P : Type 0) → (knows_backed v p ≡ true → P) → (backed_after m.step m.answer p (knows_backed v p) ≡ true → P) → knows_backed (if t then m ∷ v else v) p ≡ true → P
+backed_of_part : (t : Bool) (m : Made) (v : View) (p : ℕ) (P : Type 0) → (t ≡ false → knows_backed v p ≡ true → P) → (backed_after m.step m.answer p (knows_backed v p) ≡ true → P) → knows_backed (if t then m ∷ v else v) p ≡ true → P
 backed_of_part true m v p P old new told = new (and_parts (backed_after m.step m.answer p (knows_backed v p)) (holds_on (m ∷ v) p) told).0
-backed_of_part false m v p P old new told = old told
+backed_of_part false m v p P old new told = old refl told
+
+-- only an actor that holds each grain of a page ends its backing
+allowed_at : (f : Profile) (v : View) (q p : ℕ) → MayUnback f v q → q ≡ p → (g : ℕ) → g / 256 ≡ p → holds v g ≡ true
+allowed_at f v q p may e g here = may.held g (here ∙ sym e)
+
+unbacks_held : (f : Profile) (v : View) (s : Step) (p : ℕ) → Allowed f v s → unbacks s p ≡ true → (g : ℕ) → g / 256 ≡ p → holds v g ≡ true
+unbacks_held f v (Look w) p allowed h = absurd (false≢true h)
+unbacks_held f v (Deed q d) p allowed h = absurd (false≢true h)
+unbacks_held f v (Back q) p allowed h = absurd (false≢true h)
+unbacks_held f v (Take q w m) p allowed h = absurd (false≢true h)
+unbacks_held f v (Put q w m) p allowed h = absurd (false≢true h)
+unbacks_held f v (Give b) p allowed h = absurd (false≢true h)
+unbacks_held f v (End n u) p allowed h = absurd (false≢true h)
+unbacks_held f v (TakeRight q d) p allowed h = absurd (false≢true h)
+unbacks_held f v (Offer q d) p allowed h = absurd (false≢true h)
+unbacks_held f v (Park q) p allowed h = absurd (false≢true h)
+unbacks_held f v (Unpark q) p allowed h = absurd (false≢true h)
+unbacks_held f v (Stamp q) p allowed h = absurd (false≢true h)
+unbacks_held f v (Hint q) p allowed h = absurd (false≢true h)
+unbacks_held f v (Tick raised) p allowed h = absurd (false≢true h)
+unbacks_held f v (Unback q) p allowed h = allowed_at f v q p allowed (eqb-true q p h)
+unbacks_held f v (Unhint q) p allowed h = absurd (false≢true h)
+
+-- so no other does while this actor holds one
+other_unbacks : (f : Profile) (l : Whole) → IsValid f → Legal f l → (t : Triple) (k p : ℕ) → IsNext f l t → (t.actor == k) ≡ false → holds_on (part k l) p ≡ true → unbacks t.made.step p ≡ false
+other_unbacks f l valid legal t k p next other held = false_from_ne_true (unbacks t.made.step p) (λ h.
+    let one = any_one 256 (λ i. holds (part k l) (p * 256 + i)) held in
+    let lt = one.1 in
+    let all : holds (part t.actor l) (p * 256 + one.0) ≡ true = unbacks_held f (part t.actor l) t.made.step p next.allowed h (p * 256 + one.0) (omega (arith, lt)) in
+    false≢true (sym other ∙ one_holder f l valid legal t.actor k (p * 256 + one.0) all one.2))
 
 -- a page that a view knows as backed is
-pub backed_known : (f : Profile) (l : Whole) → Legal f l → (k p : ℕ) → knows_backed (part k l) p ≡ true → word_after l (Word.Backed p) ≡ 1
-backed_known f [] legal k p told = absurd (false≢true told)
-backed_known f (t ∷ l) legal k p told =
+pub backed_known : (f : Profile) (l : Whole) → IsValid f → Legal f l → (k p : ℕ) → knows_backed (part k l) p ≡ true → word_after l (Word.Backed p) ≡ 1
+backed_known f [] valid legal k p told = absurd (false≢true told)
+backed_known f (t ∷ l) valid legal k p told =
     let e : ℕ = epoch_of (part t.actor l) in
     let next : IsNext f l t = legal.0 in
-    let before : knows_backed (part k l) p ≡ true → word_after l (Word.Backed p) ≡ 1 = backed_known f l legal.1 k p in
+    let before : knows_backed (part k l) p ≡ true → word_after l (Word.Backed p) ≡ 1 = backed_known f l valid legal.1 k p in
     backed_of_part (t.actor == k) t.made (part k l) p (word_after (t ∷ l) (Word.Backed p) ≡ 1)
-    (λ h. backed_stays e t.made.step p (word_after l (Word.Backed p)) (before h))
+    (λ other h. backed_stays e t.made.step p (word_after l (Word.Backed p)) (other_unbacks f l valid legal.1 t k p next other (backed_holds (part k l) p h)) (before h))
     (backed_learns l e t.made.step t.made.answer p (knows_backed (part k l) p) next.answer_is (backed_small f l legal.1 p) before) told

@@ -2,6 +2,11 @@ pub mod Bits
 pub mod Grains
 pub mod Deeds
 pub mod Lives
+pub mod Ends
+pub mod Stamps
+pub mod StampedEnds
+pub mod CanUnback
+pub mod Hints
 pub mod MachineRuns
 pub mod Given
 pub mod Placed
@@ -18,3 +23,5 @@ pub mod Agreement
 pub mod Nexts
 pub mod Running
 pub mod Checks
+pub mod Idle
+pub mod Offers

@@ -19,7 +19,7 @@ use Rattle.pas_steps.specs.Allowed.{Allowed, IsStepOf, IsBlockOf}
 use Rattle.pas_steps.specs.Lists.{Whole, word_after, part, visible, IsNext, Legal}
 use Rattle.pas_steps.specs.declared.step.Made.{Made}
 use Rattle.pas_steps.specs.declared.step.Step.{Step}
-use Rattle.pas_steps.specs.declared.step.Step.TheVariants.{Look, Deed, Back, Take, Put, Give, End, TakeRight, Offer, Park, Unpark, Stamp, Hint}
+use Rattle.pas_steps.specs.declared.step.Step.TheVariants.{Look, Deed, Back, Take, Put, Give, End, TakeRight, Offer, Park, Unpark, Stamp, Hint, Tick, Unback, Unhint}
 use Rattle.pas_core.specs.Good.{Place, IsFree, Held, Covered, is_held_by, is_covered_by, covers, IsPlacedOnce, IsLifeOf, IsLifeOfNone, IsLifeOfLive, IsBare}
 use Rattle.pas_core.proofs.Grains.{life_same, give_short, Fits, is_held_by-true, covers_live, own_grain, some_grain, step_fits, placed_once}
 use Rattle.pas_core.proofs.Deeds.{same}
@@ -71,6 +71,9 @@ life_rests f l k e (Park page) a g of allowed is still = refl
 life_rests f l k e (Unpark page) a g of allowed is still = refl
 life_rests f l k e (Stamp page) a g of allowed is still = refl
 life_rests f l k e (Hint page) a g of allowed is still = refl
+life_rests f l k e (Tick raised) a g of allowed is still = refl
+life_rests f l k e (Unback page) a g of allowed is still = refl
+life_rests f l k e (Unhint page) a g of allowed is still = refl
 
 -- ---- what is known of a life word
 pub look_is : (l : Whole) (s : Step) (a g : ℕ) → a ≡ word_after l (target s) → looks_at_life s g ≡ true → a ≡ word_after l (life_word_at g)
@@ -96,6 +99,9 @@ look_is l (Park page) a g is h = absurd (false≢true h)
 look_is l (Unpark page) a g is h = absurd (false≢true h)
 look_is l (Stamp page) a g is h = absurd (false≢true h)
 look_is l (Hint page) a g is h = absurd (false≢true h)
+look_is l (Tick raised) a g is h = absurd (false≢true h)
+look_is l (Unback page) a g is h = absurd (false≢true h)
+look_is l (Unhint page) a g is h = absurd (false≢true h)
 
 none_told : {A : Type 0} {w : A} → None ≡ Some w → ⊥
 none_told h = cc
@@ -285,6 +291,9 @@ life_step f l k e (Park page) a g valid of allowed is dead tells h = h
 life_step f l k e (Unpark page) a g valid of allowed is dead tells h = h
 life_step f l k e (Stamp page) a g valid of allowed is dead tells h = h
 life_step f l k e (Hint page) a g valid of allowed is dead tells h = h
+life_step f l k e (Tick raised) a g valid of allowed is dead tells h = h
+life_step f l k e (Unback page) a g valid of allowed is dead tells h = h
+life_step f l k e (Unhint page) a g valid of allowed is dead tells h = h
 
 -- a grain of a live block is covered
 live_covers : (f : Profile) (g word : ℕ) (b : Live) (gives ends x : ℕ) → IsLifeOfLive f g word b gives ends → in_run g (length_of b.block) x ≡ true → covers word g x ≡ true
@@ -352,6 +361,9 @@ bare_step f v k e (Park page) a es address of allowed un h = h
 bare_step f v k e (Unpark page) a es address of allowed un h = h
 bare_step f v k e (Stamp page) a es address of allowed un h = h
 bare_step f v k e (Hint page) a es address of allowed un h = h
+bare_step f v k e (Tick raised) a es address of allowed un h = h
+bare_step f v k e (Unback page) a es address of allowed un h = h
+bare_step f v k e (Unhint page) a es address of allowed un h = h
 
 pub bare_of : (f : Profile) (l : Whole) → Legal f l → (address : ℕ) → address % 16 ≢ 0 → IsBare address (live_in (visible l) address) (gives_in (visible l) address) (ends_in (visible l) address)
 bare_of f [] legal address un = record { no_block = refl; no_give = refl; no_end = refl }
@@ -370,3 +382,10 @@ live_of f l valid legal address b is =
     let one : IsLifeOf f (address / 16) (word_after l (life_word_at (address / 16))) (live_in (visible l) address) (gives_in (visible l) address) (ends_in (visible l) address)
     = subst (λ x. IsLifeOf f (address / 16) (word_after l (life_word_at (address / 16))) (live_in (visible l) x) (gives_in (visible l) x) (ends_in (visible l) x)) e (life_of f l valid legal (address / 16)) in
     subst (λ v. IsLifeOf f (address / 16) (word_after l (life_word_at (address / 16))) v (gives_in (visible l) address) (ends_in (visible l) address)) is one
+
+-- the life word at an address
+pub life_at : (f : Profile) (l : Whole) → IsValid f → Legal f l → (address : ℕ) → address % 16 ≡ 0
+    → IsLifeOf f (address / 16) (word_after l (life_word_at (address / 16))) (live_in (visible l) address) (gives_in (visible l) address) (ends_in (visible l) address)
+life_at f l valid legal address aligned =
+    let e : 16 * (address / 16) ≡ address = omega (arith, aligned) in
+    subst (λ x. IsLifeOf f (address / 16) (word_after l (life_word_at (address / 16))) (live_in (visible l) x) (gives_in (visible l) x) (ends_in (visible l) x)) e (life_of f l valid legal (address / 16))

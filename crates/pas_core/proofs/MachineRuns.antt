@@ -14,22 +14,24 @@ use Rattle.pas_profile.specs.declared.name.Name.{Name}
 use Rattle.pas_profile.specs.declared.word.Word.{Word}
 use Rattle.pas_profile.specs.declared.event.Event.{Event}
 use Rattle.pas_profile.specs.declared.event.Why.{Why}
-use Rattle.pas_machine.specs.Runs.{in_run, address_of, grain_of, length_of}
-use Rattle.pas_machine.specs.State.{Live, deed_in, backed_in, live_in, gives_in, ends_in}
+use Rattle.pas_machine.specs.Runs.{in_run, meets_page, address_of, grain_of, length_of}
+use Rattle.pas_machine.specs.State.{Live, deed_in, backed_in, live_in, gives_in, ends_in, touches, epoch_in}
 use Rattle.pas_machine.specs.Machine.{IsPlace, Bears, IsClear, IsLive, MayGive, IsReason, Admits, Run}
 use Rattle.pas_steps.specs.Effects.{life_word_at, target}
 use Rattle.pas_steps.specs.Views.{holds, epoch_of, known_deed}
 use Rattle.pas_steps.specs.Events.{event_of, with_event, reason_of}
-use Rattle.pas_steps.specs.Allowed.{Allowed, IsStepOf, IsBlockOf, KnowsBearing}
+use Rattle.pas_steps.specs.Allowed.{Allowed, IsStepOf, IsBlockOf, KnowsBearing, MayUnback}
 use Rattle.pas_steps.specs.Lists.{Whole, word_after, part, visible, Legal}
 use Rattle.pas_steps.specs.declared.step.Step.{Step}
-use Rattle.pas_steps.specs.declared.step.Step.TheVariants.{Look, Deed, Back, Take, Put, Give, End, TakeRight, Offer, Park, Unpark, Stamp, Hint}
+use Rattle.pas_steps.specs.declared.step.Step.TheVariants.{Look, Deed, Back, Take, Put, Give, End, TakeRight, Offer, Park, Unpark, Stamp, Hint, Tick, Unback, Unhint}
 use Rattle.pas_core.specs.Good.{word_of_deed, word_of_backed, IsLifeOf, IsLifeOfNone, IsLifeOfLive, AgreesWithWords}
 use Rattle.pas_core.proofs.Grains.{own_grain, some_grain, placed_once}
 use Rattle.pas_core.proofs.DeedWords.{known_is}
 use Rattle.pas_core.proofs.Knowledge.{deeds_known, backed_known}
 use Rattle.pas_core.proofs.Deeds.{deed_of, backed_of, directory_is_of, is_backed}
-use Rattle.pas_core.proofs.Lives.{life_is_known, block_of_word, turn_is, live_is_live, no_block, dead_while_held, life_of, bare_of, live_of}
+use Rattle.pas_core.proofs.Lives.{life_is_known, block_of_word, turn_is, live_is_live, no_block, dead_while_held, life_of, life_at, bare_of, live_of}
+use Rattle.pas_core.proofs.Ends.{IsMet, met}
+use Rattle.pas_core.proofs.Stamps.{stamp_known, ends_before}
 
 -- the machine that the visible events reach agrees with the words
 pub agrees : (f : Profile) (l : Whole) → IsValid f → Legal f l → AgreesWithWords f l
@@ -79,8 +81,8 @@ deed_from f (Some d') d of is_of h =
     let two : kind_number d.kind < 23 = kind_small d.kind is_of.kind in
     record { directory = d'; deed = refl; of_heap = omega (arith, h, one, two) }
 
-bearing : (f : Profile) (l : Whole) → Legal f l → (k heap p : ℕ) → IsPage f p → KnowsBearing f (part k l) heap p → Bears f (visible l) heap p
-bearing f l legal k heap p page knows =
+bearing : (f : Profile) (l : Whole) → IsValid f → Legal f l → (k heap p : ℕ) → IsPage f p → KnowsBearing f (part k l) heap p → Bears f (visible l) heap p
+bearing f l valid legal k heap p page knows =
     let some : known_deed (part k l) p ≢ 0 = λ z. absurd (omega (arith, sym knows.deed ∙ z)) in
     let word : known_deed (part k l) p ≡ word_after l (Word.Deed p) = known_is (known_deed (part k l) p) (word_after l (Word.Deed p)) (deeds_known f l legal k p) some in
     let has : HasDeed f (deed_in (visible l) p) knows.directory.heap = deed_from f (deed_in (visible l) p) knows.directory (directory_is_of f l legal p) knows.of_profile (sym knows.deed ∙ word ∙ deed_of f l legal p) in
@@ -89,7 +91,7 @@ bearing f l legal k heap p page knows =
       directory = has.directory;
       deed = has.deed;
       of_heap = has.of_heap ∙ knows.of_heap;
-      backed = one_backed (backed_in (visible l) p) (sym (backed_known f l legal k p knows.backed) ∙ backed_of f l legal p);
+      backed = one_backed (backed_in (visible l) p) (sym (backed_known f l valid legal k p knows.backed) ∙ backed_of f l legal p);
     }
 
 -- no block lives where an actor holds the grains
@@ -132,13 +134,6 @@ end_admits f false false k ep g a word guess name es run of is small life ze ye 
       run,
     )
 
--- the life word at an address
-pub life_at : (f : Profile) (l : Whole) → IsValid f → Legal f l → (address : ℕ) → address % 16 ≡ 0
-    → IsLifeOf f (address / 16) (word_after l (life_word_at (address / 16))) (live_in (visible l) address) (gives_in (visible l) address) (ends_in (visible l) address)
-life_at f l valid legal address aligned =
-    let e : 16 * (address / 16) ≡ address = omega (arith, aligned) in
-    subst (λ x. IsLifeOf f (address / 16) (word_after l (life_word_at (address / 16))) (live_in (visible l) x) (gives_in (visible l) x) (ends_in (visible l) x)) e (life_of f l valid legal (address / 16))
-
 give_admits : (f : Profile) (l : Whole) → IsValid f → Legal f l → (k : ℕ) (block : Block) → IsBlockOf f block → Allowed f (part k l) (Give block) → MayGive f (visible l) block
 give_admits f l valid legal k block of allowed =
     let g : ℕ = grain_of block.name in
@@ -148,7 +143,7 @@ give_admits f l valid legal k block of allowed =
       aligned = allowed.aligned;
       whole = allowed.whole;
       some = allowed.some;
-      bears = λ x here. bearing f l legal k block.heap (x / 256) (page_of_run f (address_of block.name) block.room x of.first of.last allowed.aligned here) (allowed.bears x here);
+      bears = λ x here. bearing f l valid legal k block.heap (x / 256) (page_of_run f (address_of block.name) block.room x of.first of.last allowed.aligned here) (allowed.bears x here);
       clear = clear f l valid legal k (grain_of block.name) (length_of block) allowed.held;
       turn = allowed.turn_is ∙ ap turn_of (life_is_known f l valid legal k (grain_of block.name) allowed.word allowed.known).1
           ∙ give_turn f (grain_of block.name) (word_after l (life_word_at (grain_of block.name))) (live_in (visible l) (address_of block.name)) (gives_in (visible l) (address_of block.name)) (ends_in (visible l) (address_of block.name)) life
@@ -156,27 +151,51 @@ give_admits f l valid legal k block of allowed =
           (allowed.held (grain_of block.name) (own_grain (grain_of block.name) (length_of block) (some_grain block.room allowed.whole allowed.some))) life);
     }
 
-admits : (f : Profile) (l : Whole) → IsValid f → Legal f l → (k e : ℕ) (s : Step) (a : ℕ) → IsStepOf f s → Allowed f (part k l) s → a ≡ word_after l (target s) → Run f (visible l) → Run f (with_event (event_of k e s a) (visible l))
-admits f l valid legal k e (Look word) a of allowed is run = run
-admits f l valid legal k e (Deed q d) a of allowed is run = one_if (a == 0) f (Event.Deed k q d) (visible l) run (λ z. (of.0, of.1.heap, no_deed (deed_in (visible l) q) (sym (eqb-true a 0 z) ∙ is ∙ deed_of f l legal q)))
-admits f l valid legal k e (Back q) a of allowed is run = one_if (a == 0) f (Event.Back k q) (visible l) run (λ z. (
+-- no live block touches a page each of whose grains an actor holds
+untouched_if : (f : Profile) (l : Whole) → IsValid f → Legal f l → (k page address : ℕ) → ((g : ℕ) → g / 256 ≡ page → holds (part k l) g ≡ true) → (live : Option Live) → live_in (visible l) address ≡ live → touches live page ≡ false
+untouched_if f l valid legal k page address held None is = refl
+untouched_if f l valid legal k page address held (Some b) is = not_true (touches (Some b) page) (λ h.
+    let life : IsLifeOfLive f (address / 16) (word_after l (life_word_at (address / 16))) b (gives_in (visible l) address) (ends_in (visible l) address) = live_of f l valid legal address b is in
+    let first : address_of b.block.name / 16 ≡ address / 16 = let e = life.address in omega (arith, e) in
+    let at : IsMet (address / 16) (length_of b.block) page = met (address / 16) (length_of b.block) page life.some (ap (λ g. meets_page g (length_of b.block) page) (sym first) ∙ h) in
+    no_block f l k (address / 16) at.grain b (gives_in (visible l) address) (ends_in (visible l) address) (placed_once f l valid legal at.grain) (held at.grain at.of_page) life at.of_run)
+
+-- a page that may be unbacked: its last end is old enough, since its stamp is
+unback_admits : (f : Profile) (l : Whole) → IsValid f → Legal f l → (k page : ℕ) → IsPage f page → MayUnback f (part k l) page → Admits f (visible l) (Event.Unback k page (epoch_of (part k l)))
+unback_admits f l valid legal k page of may =
+    let late : epoch_in (visible l) page ≤ word_after l (Word.Stamp page) = ends_before f l valid legal k page may.held may.stamped in
+    let stamp : word_after l (Word.Stamp page) ≡ may.stamp = stamp_known f l valid legal k page may.stamp may.known in
+    let old = may.old in (
+      of,
+      one_backed (backed_in (visible l) page) (sym (backed_known f l valid legal k page may.backed) ∙ backed_of f l legal page),
+      (λ address. untouched_if f l valid legal k page address may.held (live_in (visible l) address) refl),
+      omega (arith, late, stamp, old),
+    )
+
+admits : (f : Profile) (l : Whole) → IsValid f → Legal f l → (k : ℕ) (s : Step) (a : ℕ) → IsStepOf f s → Allowed f (part k l) s → a ≡ word_after l (target s) → Run f (visible l) → Run f (with_event (event_of k (epoch_of (part k l)) s a) (visible l))
+admits f l valid legal k (Look word) a of allowed is run = run
+admits f l valid legal k (Deed q d) a of allowed is run = one_if (a == 0) f (Event.Deed k q d) (visible l) run (λ z. (of.0, of.1.heap, no_deed (deed_in (visible l) q) (sym (eqb-true a 0 z) ∙ is ∙ deed_of f l legal q)))
+admits f l valid legal k (Back q) a of allowed is run = one_if (a == 0) f (Event.Back k q) (visible l) run (λ z. (
   of,
   some_deed (deed_in (visible l) q) (λ none. allowed.1 (known_is (known_deed (part k l) q) (word_after l (Word.Deed q)) (deeds_known f l legal k q) allowed.1 ∙ deed_of f l legal q ∙ none)),
   is_backed true (backed_in (visible l) q) a (is ∙ backed_of f l legal q) z,
 ))
-admits f l valid legal k e (Take q word mask) a of allowed is run = run
-admits f l valid legal k e (Put q word mask) a of allowed is run = run
-admits f l valid legal k e (Give block) a of allowed is run = (give_admits f l valid legal k block of allowed, run)
-admits f l valid legal k e (End name guess) a of allowed is run =
-    end_admits f (a == live_word name.turn guess) (is_live a && (turn_of a == name.turn)) k e (grain_of name) a (word_after l (life_word_at (grain_of name))) guess name (visible l) run (of.0, of.1) is of.2 (life_at f l valid legal (address_of name) of.1) refl refl
-admits f l valid legal k e (TakeRight q directory) a of allowed is run = run
-admits f l valid legal k e (Offer q directory) a of allowed is run = run
-admits f l valid legal k e (Park q) a of allowed is run = run
-admits f l valid legal k e (Unpark q) a of allowed is run = run
-admits f l valid legal k e (Stamp q) a of allowed is run = run
-admits f l valid legal k e (Hint q) a of allowed is run = run
+admits f l valid legal k (Take q word mask) a of allowed is run = run
+admits f l valid legal k (Put q word mask) a of allowed is run = run
+admits f l valid legal k (Give block) a of allowed is run = (give_admits f l valid legal k block of allowed, run)
+admits f l valid legal k (End name guess) a of allowed is run =
+    end_admits f (a == live_word name.turn guess) (is_live a && (turn_of a == name.turn)) k (epoch_of (part k l)) (grain_of name) a (word_after l (life_word_at (grain_of name))) guess name (visible l) run (of.0, of.1) is of.2 (life_at f l valid legal (address_of name) of.1) refl refl
+admits f l valid legal k (TakeRight q directory) a of allowed is run = run
+admits f l valid legal k (Offer q directory) a of allowed is run = run
+admits f l valid legal k (Park q) a of allowed is run = run
+admits f l valid legal k (Unpark q) a of allowed is run = run
+admits f l valid legal k (Stamp q) a of allowed is run = run
+admits f l valid legal k (Hint q) a of allowed is run = run
+admits f l valid legal k (Tick raised) a of allowed is run = run
+admits f l valid legal k (Unback q) a of allowed is run = (unback_admits f l valid legal k q of allowed, run)
+admits f l valid legal k (Unhint q) a of allowed is run = run
 
 -- the visible events of every legal list are a run of the machine
 pub runs : (f : Profile) (l : Whole) → IsValid f → Legal f l → Run f (visible l)
 runs f [] valid legal = tt
-runs f (t ∷ l) valid legal = admits f l valid legal.1 t.actor (epoch_of (part t.actor l)) t.made.step t.made.answer legal.0.of_region legal.0.allowed legal.0.answer_is (runs f l valid legal.1)
+runs f (t ∷ l) valid legal = admits f l valid legal.1 t.actor t.made.step t.made.answer legal.0.of_region legal.0.allowed legal.0.answer_is (runs f l valid legal.1)

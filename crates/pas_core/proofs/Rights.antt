@@ -17,9 +17,9 @@ use Rattle.pas_steps.specs.Lists.{Whole, part, word_after, IsNext, Legal}
 use Rattle.pas_steps.specs.Agreement.{IsDeedWord}
 use Rattle.pas_steps.specs.declared.step.Step.{Step}
 use Rattle.pas_steps.specs.declared.step.Made.{Made}
-use Rattle.pas_steps.specs.declared.step.Step.TheVariants.{Look, Deed, Back, Take, Put, Give, End, TakeRight, Offer, Park, Unpark, Stamp, Hint}
+use Rattle.pas_steps.specs.declared.step.Step.TheVariants.{Look, Deed, Back, Take, Put, Give, End, TakeRight, Offer, Park, Unpark, Stamp, Hint, Tick, Unback, Unhint}
 use Rattle.pas_core.specs.Rights.{parked_bit, empty_bit, eligible_bit, IsRightInOnePlace}
-use Rattle.pas_core.proofs.Bits.{has_bit-clear, has_bit-or, no_bit, page_bit-set}
+use Rattle.pas_core.proofs.Bits.{has_bit-clear, has_bit-or, no_bit, page_bit-clear, page_bit-set}
 use Rattle.pas_core.proofs.DeedWords.{next_value, looked, known_is, deed_words, deed_has_page, number_told, numbered_ne}
 use Rattle.pas_core.proofs.Spots.{Spot, Nowhere, With, Offered, InParked, is_with, is_offered, is_parked, is_with-true, is_offered-true, is_parked-true, no_deed, Way, Rests, ByDeed, FromOffer, FromParked, ToOffer, ToParked, way, spot_after, spot_of, Suits, DeedFits, IsSpotted, step_suits, spotted}
 
@@ -122,6 +122,10 @@ hint_if : (f : Profile) (x was : Bool) (q p : ℕ) → (q == p) ≡ x → IsPage
 hint_if f true was q p e of h set = subst (IsPage f) (eqb-true q p e) of
 hint_if f false was q p e of h set = h set
 
+unhint_was : (x was : Bool) → (if x then false else was) ≡ true → was ≡ true
+unhint_was true was h = absurd (false≢true h)
+unhint_was false was h = h
+
 hint_next : (f : Profile) (e : ℕ) (s : Step) (p old : ℕ) → IsStepOf f s → (has_bit old (p % 64) ≡ true → IsPage f p) → has_bit (next_value e s (Word.Empty (p / 64)) old) (p % 64) ≡ true → IsPage f p
 hint_next f e (Look word) p old of h set = h (ap (λ n. has_bit n (p % 64)) (sym (looked (same_word word (Word.Empty (p / 64))) old)) ∙ set)
 hint_next f e (Deed q d) p old of h set = h set
@@ -136,6 +140,9 @@ hint_next f e (Park q) p old of h set = h set
 hint_next f e (Unpark q) p old of h set = h set
 hint_next f e (Stamp q) p old of h set = h set
 hint_next f e (Hint q) p old of h set = hint_if f (q == p) (has_bit old (p % 64)) q p refl of h (sym (page_bit-set q p old true) ∙ set)
+hint_next f e (Tick raised) p old of h set = h set
+hint_next f e (Unback q) p old of h set = h set
+hint_next f e (Unhint q) p old of h set = h (unhint_was (q == p) (has_bit old (p % 64)) (sym (page_bit-clear q p old true) ∙ set))
 
 pub hinted_page : (f : Profile) (l : Whole) → Legal f l → (p : ℕ) → empty_bit l p ≡ true → IsPage f p
 hinted_page f [] legal p h = absurd (false≢true (sym (no_bit (p % 64)) ∙ h))
@@ -163,6 +170,9 @@ takes (Park q) g = false
 takes (Unpark q) g = false
 takes (Stamp q) g = false
 takes (Hint q) g = false
+takes (Tick raised) g = false
+takes (Unback q) g = false
+takes (Unhint q) g = false
 
 -- the step's actor gives the page's right away
 abbrev leaves : Step → ℕ → Bool
@@ -179,6 +189,9 @@ leaves (Park q) p = q == p
 leaves (Unpark q) p = false
 leaves (Stamp q) p = false
 leaves (Hint q) p = false
+leaves (Tick raised) p = false
+leaves (Unback q) p = false
+leaves (Unhint q) p = false
 
 take_keeps : (x y : Bool) (old mask b : ℕ) → mask < 2 ^ 64 → b < 64 → (x && y && has_bit mask b) ≡ false → has_bit old b ≡ true → has_bit (if x && y then bit_and old (bit_not w64 mask) else old) b ≡ true
 take_keeps true true old mask b hm hb misses h = has_bit-clear old mask b hm hb ∙ ap (λ t. has_bit old b && not t) misses ∙ ap (λ t. t && true) h
@@ -208,6 +221,9 @@ free_stays f e (Park q) g old of misses h = h
 free_stays f e (Unpark q) g old of misses h = h
 free_stays f e (Stamp q) g old of misses h = h
 free_stays f e (Hint q) g old of misses h = h
+free_stays f e (Tick raised) g old of misses h = h
+free_stays f e (Unback q) g old of misses h = h
+free_stays f e (Unhint q) g old of misses h = h
 
 takes_page : (q w mask g : ℕ) → in_mask q w mask g ≡ true → q ≡ g / 256
 takes_page q w mask g h =
@@ -229,6 +245,9 @@ takes_with f l j (Park q) g at allowed h = absurd (false≢true h)
 takes_with f l j (Unpark q) g at allowed h = absurd (false≢true h)
 takes_with f l j (Stamp q) g at allowed h = absurd (false≢true h)
 takes_with f l j (Hint q) g at allowed h = absurd (false≢true h)
+takes_with f l j (Tick raised) g at allowed h = absurd (false≢true h)
+takes_with f l j (Unback q) g at allowed h = absurd (false≢true h)
+takes_with f l j (Unhint q) g at allowed h = absurd (false≢true h)
 
 takes_not : (f : Profile) (l : Whole) (j : ℕ) (s : Step) (g : ℕ) → IsSpotted l (g / 256) → Allowed f (part j l) s → (spot_of l (g / 256) ≡ With j → ⊥) → takes s g ≡ false
 takes_not f l j s g at allowed never = false_from_ne_true (takes s g) (λ h. never (takes_with f l j s g at allowed h))
@@ -284,6 +303,9 @@ tells_free (Park q) a g right = false
 tells_free (Unpark q) a g right = false
 tells_free (Stamp q) a g right = false
 tells_free (Hint q) a g right = false
+tells_free (Tick raised) a g right = false
+tells_free (Unback q) a g right = false
+tells_free (Unhint q) a g right = false
 
 tells_or : (x known : Bool) → (if x then true else known) ≡ (x || (not false && not false && known))
 tells_or true known = refl
@@ -320,6 +342,9 @@ free_after-is (Park q) a g right known = leaves_or (q == g / 256) known
 free_after-is (Unpark q) a g right known = refl
 free_after-is (Stamp q) a g right known = refl
 free_after-is (Hint q) a g right known = refl
+free_after-is (Tick raised) a g right known = refl
+free_after-is (Unback q) a g right known = refl
+free_after-is (Unhint q) a g right known = refl
 
 not_from : (x z y : Bool) → (not x && not z && y) ≡ true → (x ≡ false) × (z ≡ false) × (y ≡ true)
 not_from true z y h = absurd (false≢true h)
@@ -357,6 +382,9 @@ told_free f l j e (Park q) a g at clear allowed is h = absurd (false≢true h)
 told_free f l j e (Unpark q) a g at clear allowed is h = absurd (false≢true h)
 told_free f l j e (Stamp q) a g at clear allowed is h = absurd (false≢true h)
 told_free f l j e (Hint q) a g at clear allowed is h = absurd (false≢true h)
+told_free f l j e (Tick raised) a g at clear allowed is h = absurd (false≢true h)
+told_free f l j e (Unback q) a g at clear allowed is h = absurd (false≢true h)
+told_free f l j e (Unhint q) a g at clear allowed is h = absurd (false≢true h)
 
 -- an actor's own step leaves it a right that it has and doesn't give away
 moves_to : (j : ℕ) (m : Way) (o : Spot) (x : Bool) → spot_after j m o ≡ With j → o ≡ With j → spot_after j (if x then m else Rests) o ≡ With j
@@ -381,6 +409,9 @@ own_spot j (Park q) a p o stays h = not_moved j ToParked o (q == p) stays h
 own_spot j (Unpark q) a p o stays h = moves_to j FromParked o ((q == p) && has_bit a (p % 64)) refl h
 own_spot j (Stamp q) a p o stays h = h
 own_spot j (Hint q) a p o stays h = h
+own_spot j (Tick raised) a p o stays h = h
+own_spot j (Unback q) a p o stays h = h
+own_spot j (Unhint q) a p o stays h = h
 
 free_of_part : (t : Bool) (m : Made) (v : View) (g : ℕ) (P : Type 0) → (t ≡ false → known_free v g ≡ true → P) → (t ≡ true → free_after m.step m.answer g (has_right v (g / 256)) (known_free v g) ≡ true → P) → known_free (if t then m ∷ v else v) g ≡ true → P
 free_of_part true m v g P old new told = new refl told

@@ -14,7 +14,7 @@ use Rattle.pas_steps.specs.Allowed.{Allowed, IsStepOf}
 use Rattle.pas_steps.specs.Lists.{Whole, part, word_after, IsNext, Legal}
 use Rattle.pas_steps.specs.declared.step.Step.{Step}
 use Rattle.pas_steps.specs.declared.step.Made.{Made}
-use Rattle.pas_steps.specs.declared.step.Step.TheVariants.{Look, Deed, Back, Take, Put, Give, End, TakeRight, Offer, Park, Unpark, Stamp, Hint}
+use Rattle.pas_steps.specs.declared.step.Step.TheVariants.{Look, Deed, Back, Take, Put, Give, End, TakeRight, Offer, Park, Unpark, Stamp, Hint, Tick, Unback, Unhint}
 use Rattle.pas_core.specs.Rights.{parked_bit, eligible_bit}
 use Rattle.pas_core.proofs.Bits.{no_bit, page_bit-clear, page_bit-set}
 use Rattle.pas_core.proofs.DeedWords.{next_value, looked, IsKnown, known_is, word_stays, deed_tells, look_tells, deed_at, deed_word_ne, numbered, numbered_ne}
@@ -73,6 +73,9 @@ way (Park q) a p = if q == p then ToParked else Rests
 way (Unpark q) a p = if (q == p) && has_bit a (p % 64) then FromParked else Rests
 way (Stamp q) a p = Rests
 way (Hint q) a p = Rests
+way (Tick raised) a p = Rests
+way (Unback q) a p = Rests
+way (Unhint q) a p = Rests
 
 abbrev pub spot_after : ℕ → Way → Spot → Spot
 spot_after j Rests o = o
@@ -229,6 +232,9 @@ right_way (Park q) a p had = loses_right (q == p) had ToParked refl
 right_way (Unpark q) a p had = gets_right ((q == p) && has_bit a (p % 64)) had FromParked refl
 right_way (Stamp q) a p had = refl
 right_way (Hint q) a p had = refl
+right_way (Tick raised) a p had = refl
+right_way (Unback q) a p had = refl
+right_way (Unhint q) a p had = refl
 
 -- ---- the parked words
 unpark_cases : (y g was : Bool) → (y ≡ true → g ≡ was) → (if y then false else was) ≡ parked_moved (if y && g then FromParked else Rests) was
@@ -264,6 +270,9 @@ parked_step l e (Unpark q) a p is = page_bit-clear q p (word_after l (Word.Parke
     ∙ unpark_cases (q == p) (has_bit a (p % 64)) (parked_bit l p) (λ h. ap (λ n. has_bit n (p % 64)) (is ∙ ap (λ x. word_after l (Word.Parked (x / 64))) (eqb-true q p h)))
 parked_step l e (Stamp q) a p is = refl
 parked_step l e (Hint q) a p is = refl
+parked_step l e (Tick raised) a p is = refl
+parked_step l e (Unback q) a p is = refl
+parked_step l e (Unhint q) a p is = refl
 
 -- ---- the eligible words
 take_right_cases : (x y g was : Bool) (m n : ℕ) → (m == n) ≡ x → (x ≡ true → y ≡ true → g ≡ was) → (if x && y then false else was) ≡ offered_moved (if y && g then FromOffer m else Rests) n was
@@ -303,6 +312,9 @@ eligible_step l e (Park q) a p n is = offered_rests (q == p) (eligible_bit l n p
 eligible_step l e (Unpark q) a p n is = offered_rests ((q == p) && has_bit a (p % 64)) (eligible_bit l n p) n FromParked (λ b. refl)
 eligible_step l e (Stamp q) a p n is = refl
 eligible_step l e (Hint q) a p n is = refl
+eligible_step l e (Tick raised) a p n is = refl
+eligible_step l e (Unback q) a p n is = refl
+eligible_step l e (Unhint q) a p n is = refl
 
 -- ---- a legal step's way suits
 suits_if : (j : ℕ) (m : Way) (o : Spot) (t : Bool) → (t ≡ true → Suits j m o) → Suits j (if t then m else Rests) o
@@ -336,6 +348,9 @@ step_suits f l j (Unpark q) a p at allowed is = suits_if j FromParked (spot_of l
     is_parked-true (spot_of l p) (sym at.parked ∙ ap (λ x. has_bit (word_after l (Word.Parked (x / 64))) (p % 64)) (sym (eqb-true q p parts.0)) ∙ ap (λ n. has_bit n (p % 64)) (sym is) ∙ parts.1))
 step_suits f l j (Stamp q) a p at allowed is = tt
 step_suits f l j (Hint q) a p at allowed is = tt
+step_suits f l j (Tick raised) a p at allowed is = tt
+step_suits f l j (Unback q) a p at allowed is = tt
+step_suits f l j (Unhint q) a p at allowed is = tt
 
 suits_then : (j : ℕ) (m : Way) (o : Spot) (t : Bool) → t ≡ true → Suits j (if t then m else Rests) o → Suits j m o
 suits_then j m o t e h = subst (λ b. Suits j (if b then m else Rests) o) e h
@@ -380,6 +395,9 @@ fits_step f l j e (Unpark q) a p at of allowed is suits = moved_fits ((q == p) &
     (λ h. somewhere (spot_of l p) (word_after l (Word.Deed p)) at.deed (ap is_nowhere (suits_then j FromParked (spot_of l p) ((q == p) && has_bit a (p % 64)) h suits))) at.deed
 fits_step f l j e (Stamp q) a p at of allowed is suits = at.deed
 fits_step f l j e (Hint q) a p at of allowed is suits = at.deed
+fits_step f l j e (Tick raised) a p at of allowed is suits = at.deed
+fits_step f l j e (Unback q) a p at of allowed is suits = at.deed
+fits_step f l j e (Unhint q) a p at of allowed is suits = at.deed
 
 -- ---- what is known of deeds
 -- a set bit of an eligible word tells the deed
@@ -416,6 +434,9 @@ deed_learns l e (Park q) a p known at is h = h
 deed_learns l e (Unpark q) a p known at is h = h
 deed_learns l e (Stamp q) a p known at is h = h
 deed_learns l e (Hint q) a p known at is h = h
+deed_learns l e (Tick raised) a p known at is h = h
+deed_learns l e (Unback q) a p known at is h = h
+deed_learns l e (Unhint q) a p known at is h = h
 
 deed_of_part : (t : Bool) (m : Made) (v : View) (p word : ℕ) → IsKnown (known_deed v p) word → IsKnown (deed_after m.step m.answer p (known_deed v p)) word → IsKnown (known_deed (if t then m ∷ v else v) p) word
 deed_of_part true m v p word old new = new

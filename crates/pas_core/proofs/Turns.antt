@@ -12,7 +12,7 @@ use Rattle.pas_steps.specs.Allowed.{Allowed}
 use Rattle.pas_steps.specs.Lists.{Whole, part, word_after, visible, IsNext, Legal}
 use Rattle.pas_steps.specs.declared.step.Made.{Made}
 use Rattle.pas_steps.specs.declared.step.Step.{Step}
-use Rattle.pas_steps.specs.declared.step.Step.TheVariants.{Look, Deed, Back, Take, Put, Give, End, TakeRight, Offer, Park, Unpark, Stamp, Hint}
+use Rattle.pas_steps.specs.declared.step.Step.TheVariants.{Look, Deed, Back, Take, Put, Give, End, TakeRight, Offer, Park, Unpark, Stamp, Hint, Tick, Unback, Unhint}
 use Rattle.pas_core.specs.Good.{IsLifeOf}
 use Rattle.pas_core.proofs.Lives.{life_of, turn_is}
 use Rattle.pas_core.proofs.Given.{count_gives, gives_few, count_step}
@@ -32,6 +32,9 @@ few_next f v (Park q) allowed h = h
 few_next f v (Unpark q) allowed h = h
 few_next f v (Stamp q) allowed h = h
 few_next f v (Hint q) allowed h = h
+few_next f v (Tick raised) allowed h = h
+few_next f v (Unback q) allowed h = h
+few_next f v (Unhint q) allowed h = h
 
 few_part : (k j : ℕ) (t : Bool) (m : Made) (v : View) → (j == k) ≡ t → given_count v ≤ 2 ^ 32 → ((j ≡ k) → given_after m.step (given_count v) ≤ 2 ^ 32) → given_count (if t then m ∷ v else v) ≤ 2 ^ 32
 few_part k j true m v e old new = new (eqb-true j k e)
@@ -60,6 +63,9 @@ more_given (Park q) n = omega arith
 more_given (Unpark q) n = omega arith
 more_given (Stamp q) n = omega arith
 more_given (Hint q) n = omega arith
+more_given (Tick raised) n = omega arith
+more_given (Unback q) n = omega arith
+more_given (Unhint q) n = omega arith
 
 sum_grows : (n : ℕ) (v w : ℕ → ℕ) → ((k : ℕ) → v k ≤ w k) → sum_below n v ≤ sum_below n w
 sum_grows zero v w h = omega arith

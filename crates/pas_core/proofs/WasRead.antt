@@ -16,7 +16,7 @@ use Rattle.pas_steps.specs.Views.{epoch_of, reads_life, IsLiveRead, ReadLive, re
 use Rattle.pas_steps.specs.Events.{event_of, with_event}
 use Rattle.pas_steps.specs.Lists.{Whole, part, word_after, visible, IsNext, Legal}
 use Rattle.pas_steps.specs.declared.step.Step.{Step}
-use Rattle.pas_steps.specs.declared.step.Step.TheVariants.{Look, Deed, Back, Take, Put, Give, End, TakeRight, Offer, Park, Unpark, Stamp, Hint}
+use Rattle.pas_steps.specs.declared.step.Step.TheVariants.{Look, Deed, Back, Take, Put, Give, End, TakeRight, Offer, Park, Unpark, Stamp, Hint, Tick, Unback, Unhint}
 use Rattle.pas_core.specs.Good.{word_of_deed, word_of_backed, IsLifeOf}
 use Rattle.pas_core.specs.Given.{WasGiven}
 use Rattle.pas_core.proofs.DeedWords.{deed_word_ne, deed_kept}
@@ -88,6 +88,9 @@ backed_read l (Park q) a p is h = absurd (false≢true h)
 backed_read l (Unpark q) a p is h = absurd (false≢true h)
 backed_read l (Stamp q) a p is h = absurd (false≢true h)
 backed_read l (Hint q) a p is h = absurd (false≢true h)
+backed_read l (Tick raised) a p is h = absurd (false≢true h)
+backed_read l (Unback q) a p is h = backed_word l a q p is h
+backed_read l (Unhint q) a p is h = absurd (false≢true h)
 
 -- a page that an actor once read as backed has a deed
 pub read_backed : (f : Profile) (l : Whole) → IsValid f → Legal f l → (k p : ℕ) → ReadBacked (part k l) p → word_after l (Word.Deed p) ≢ 0
@@ -111,6 +114,9 @@ life_read l (Park q) a g is h = absurd (false≢true h)
 life_read l (Unpark q) a g is h = absurd (false≢true h)
 life_read l (Stamp q) a g is h = absurd (false≢true h)
 life_read l (Hint q) a g is h = absurd (false≢true h)
+life_read l (Tick raised) a g is h = absurd (false≢true h)
+life_read l (Unback q) a g is h = absurd (false≢true h)
+life_read l (Unhint q) a g is h = absurd (false≢true h)
 
 -- a block of so many grains was given at the grain, with this turn
 record WasThere (l : Whole) (g turn grains : ℕ) : Type 0 where

@@ -1,5 +1,5 @@
 -- Where the right of each page is.
-use Rattle.std.specs.Prelude.{ℕ, ◌+◌, ◌*◌, ◌/◌, ◌%◌, ◌<◌, ◌≡◌, ◌≢◌, ◌==◌, ◌⊎◌, Bool, true, false}
+use Rattle.std.specs.Prelude.{ℕ, ◌+◌, ◌*◌, ◌/◌, ◌%◌, ◌<◌, ◌≤◌, ◌≡◌, ◌≢◌, ◌==◌, ◌⊎◌, Bool, true, false}
 use Rattle.pas_profile.specs.Classes.{has_bit}
 use Rattle.pas_profile.specs.Directories.{number_of, deed_word_of, directory_read}
 use Rattle.pas_profile.specs.Profiles.{IsDirectoryOf}
@@ -8,6 +8,7 @@ use Rattle.pas_profile.specs.declared.directory.Directory.{Directory}
 use Rattle.pas_profile.specs.declared.word.Word.TheVariants as Word
 use Rattle.pas_steps.specs.Views.{has_right, usable_by, owes_check}
 use Rattle.pas_steps.specs.Lists.{Whole, part, word_after}
+use Rattle.pas_steps.specs.Rests.{IsClear}
 
 -- the bit of the page in the parked vector, in the empty vector, and in the eligible vector of the directory of this number
 abbrev pub parked_bit : Whole → ℕ → Bool
@@ -65,3 +66,20 @@ pub record IsUsableFree (l : Whole) (page word bit : ℕ) : Type 0 where
 pub record IsOwed (l : Whole) (page word : ℕ) : Type 0 where
   pub actor : ℕ
   pub owes : owes_check (part actor l) page word ≡ true
+
+-- no actor has the right of the page
+abbrev pub NobodyHasRight : Whole → ℕ → Type 0
+NobodyHasRight l page = (k : ℕ) → has_right (part k l) page ≡ false
+
+-- no actor owes a look at the free word of the page
+abbrev pub NobodyOwes : Whole → ℕ → ℕ → Type 0
+NobodyOwes l page word = (k : ℕ) → owes_check (part k l) page word ≡ false
+
+-- each actor of the profile is clear: nothing is unstamped for it, and it owes nothing
+abbrev pub AllClear : Profile → Whole → Type 0
+AllClear f l = (k : ℕ) → k ≤ f.threads → IsClear (part k l)
+
+-- all actors are at rest, and none has a right: nothing is owed, and the right of each page with a deed is offered or parked
+pub record AllRest (f : Profile) (l : Whole) : Type 0 where
+  pub clear : AllClear f l
+  pub rights : (page : ℕ) → NobodyHasRight l page

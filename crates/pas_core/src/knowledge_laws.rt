@@ -5,7 +5,7 @@ ghost use Rattle.pas_profile.specs.Profiles.{IsValid};
 ghost use Rattle.pas_profile.specs.declared.profile.Profile.{Profile};
 ghost use Rattle.pas_profile.specs.declared.word.Word.TheVariants as Word;
 ghost use Rattle.pas_steps.specs.Effects.{free_word_at, life_word_at};
-ghost use Rattle.pas_steps.specs.Views.{has_right, known_deed, known_free, knows_backed, known_life, epoch_of};
+ghost use Rattle.pas_steps.specs.Views.{has_right, known_deed, known_free, knows_backed, known_life, known_stamp, epoch_of};
 ghost use Rattle.pas_steps.specs.Lists.{Triple, Whole, part, word_after, IsNext, Legal};
 ghost use Rattle.pas_steps.specs.Agreement.{Agrees};
 
@@ -25,14 +25,15 @@ pub fn one_right()
 {}
 
 /// What an actor knows is so now, whatever the others did since: the deed of a page (from its deed word, or from a bit that was set in
-/// the eligible vector of its directory), that a page is backed, that a grain is free, whose page's right the actor has then, and the
+/// the eligible vector of its directory), that a page is backed and what its stamp is, that a grain is free, whose page's right the actor has then, and the
 /// life word of a grain. The epoch is at least the one that it read.
 pub fn known_is_true()
     ensures deed { (f : Profile) (l : Whole) → Legal f l → (k page : ℕ) → known_deed (part k l) page ≢ 0 → word_after l (Word.Deed page) ≡ known_deed (part k l) page }
-    ensures backed { (f : Profile) (l : Whole) → Legal f l → (k page : ℕ) → knows_backed (part k l) page ≡ true → word_after l (Word.Backed page) ≡ 1 }
+    ensures backed { (f : Profile) (l : Whole) → IsValid f → Legal f l → (k page : ℕ) → knows_backed (part k l) page ≡ true → word_after l (Word.Backed page) ≡ 1 }
     ensures free { (f : Profile) (l : Whole) → Legal f l → (k g : ℕ) → known_free (part k l) g ≡ true → has_bit (word_after l (free_word_at g)) (g % 64) ≡ true }
     ensures right { (f : Profile) (l : Whole) → Legal f l → (k g : ℕ) → known_free (part k l) g ≡ true → has_right (part k l) (g / 256) ≡ true }
     ensures life { (f : Profile) (l : Whole) → IsValid f → Legal f l → (k g w : ℕ) → known_life (part k l) g ≡ Some w → word_after l (life_word_at g) ≡ w }
+    ensures stamp { (f : Profile) (l : Whole) → IsValid f → Legal f l → (k page s : ℕ) → known_stamp (part k l) page ≡ Some s → word_after l (Word.Stamp page) ≡ s }
     ensures epoch { (f : Profile) (l : Whole) → Legal f l → (k : ℕ) → epoch_of (part k l) ≤ word_after l Word.Epoch }
 {}
 

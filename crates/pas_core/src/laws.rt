@@ -1,19 +1,26 @@
 //! What holds after every legal list of steps, whoever made them. Each law is the contract of an empty function.
-ghost use Rattle.std.specs.Prelude.{ℕ, ◌≤◌, ◌≡◌, true, List, ◌∷◌, ◌++◌, length};
+ghost use Rattle.std.specs.Prelude.{ℕ, ◌<◌, ◌≤◌, ◌≡◌, ◌≢◌, ◌/◌, true, false, List, ◌∷◌, ◌++◌, length, ◌⊎◌, []};
 ghost use Rattle.pas_profile.specs.Profiles.{IsValid, IsPage};
 ghost use Rattle.pas_profile.specs.declared.profile.Profile.{Profile};
 ghost use Rattle.pas_profile.specs.declared.name.Block.{Block};
 ghost use Rattle.pas_profile.specs.declared.event.Event.{Event};
 ghost use Rattle.pas_profile.specs.declared.event.Event.TheVariants as Event;
-ghost use Rattle.pas_machine.specs.State.{gives_in};
 ghost use Rattle.pas_machine.specs.Machine.{Admits, Run};
 ghost use Rattle.pas_machine.specs.Laws.{AreApart, AreBorne};
-ghost use Rattle.pas_steps.specs.Views.{View, given_count};
+ghost use Rattle.pas_profile.specs.declared.word.Word.TheVariants as Word;
+ghost use Rattle.pas_machine.specs.State.{gives_in, epoch_in};
+ghost use Rattle.pas_steps.specs.Allowed.{HoldsOn};
+ghost use Rattle.pas_steps.specs.Views.{View, holds, has_right, is_unstamped, given_count};
 ghost use Rattle.pas_steps.specs.Events.{events_of};
-ghost use Rattle.pas_steps.specs.Lists.{Whole, Legal, visible};
+ghost use Rattle.pas_steps.specs.Lists.{Whole, Legal, part, visible, word_after};
 ghost use Rattle.pas_core.specs.Good.{AgreesWithWords, IsInOnePlace, IsPlacedOnce};
 ghost use Rattle.pas_core.specs.Given.{WasGiven};
-ghost use Rattle.pas_core.specs.Rights.{parked_bit, empty_bit, eligible_bit, IsRightInOnePlace, IsUsableFree, IsOwed};
+ghost use Rattle.pas_core.specs.Stamps.{EachEnd, IsStampedOr, AllKeepToEnds};
+ghost use Rattle.pas_core.specs.Hints.{IsEmptyBacked, IsMinded};
+ghost use Rattle.pas_core.specs.Rest.{AreIdle};
+ghost use Rattle.pas_core.specs.Rights.{parked_bit, empty_bit, eligible_bit, IsRightInOnePlace, IsRightOffered, IsUsableFree, IsOwed, IsRightParked, NobodyHasRight, NobodyOwes, AllClear};
+ghost use Rattle.pas_steps.specs.Desks.{triples};
+ghost use Rattle.pas_steps.specs.declared.step.Made.{Made};
 
 /// However the steps of the actors fall between each other, what they did is a run of the machine: each block was given where no
 /// other lived, on backed pages of its heap and under a name of its own, each end ended the very block of its name, and each
@@ -46,6 +53,62 @@ pub fn one_place_of_a_right()
 /// word. So once no actor owes a check, a parked page has nothing to give.
 pub fn parked_pages_are_checked()
     ensures { (f : Profile) (l : Whole) → Legal f l → (page word bit : ℕ) → parked_bit l page ≡ true → IsUsableFree l page word bit → IsOwed l page word }
+{}
+
+/// However late an actor stamps the pages of a block that it ended: the epoch of each end on a page is at most the page's stamp, or the page is
+/// unstamped for the actor that made the end, which knows an epoch at least as great. An actor holds a grain of each page that is unstamped
+/// for it. So whoever holds all grains of a page reads a stamp that no end on the page is past.
+pub fn ends_are_stamped()
+    ensures ends { (f : Profile) (l : Whole) → IsValid f → Legal f l → (page : ℕ) → EachEnd (IsStampedOr l page) (visible l) page }
+    ensures held { (f : Profile) (l : Whole) → Legal f l → (k page : ℕ) → is_unstamped (part k l) page ≡ true → HoldsOn (part k l) page }
+    ensures before { (f : Profile) (l : Whole) → IsValid f → Legal f l → (k page : ℕ) → ((g : ℕ) → g / 256 ≡ page → holds (part k l) g ≡ true) → is_unstamped (part k l) page ≡ false → epoch_in (visible l) page ≤ word_after l (Word.Stamp page) }
+{}
+
+/// Where each actor learns no epoch between an end and its stamps, and stamps only pages on which it ended a block since, the stamp of a page is
+/// just the greatest epoch of an end on it, once the page is unstamped for nobody.
+pub fn stamps_are_ends()
+    ensures { (f : Profile) (l : Whole) → IsValid f → Legal f l → AllKeepToEnds l → (page : ℕ) → ((k : ℕ) → is_unstamped (part k l) page ≡ false) → word_after l (Word.Stamp page) ≡ epoch_in (visible l) page }
+{}
+
+/// No empty page is forgotten: where a page is backed and each of its grains is free, its empty bit is set, or some actor owes its hint, or
+/// some actor examines it.
+pub fn empty_pages_are_minded()
+    ensures { (f : Profile) (l : Whole) → IsValid f → Legal f l → (page : ℕ) → IsEmptyBacked l page → IsMinded l page }
+{}
+
+/// Once all actors are idle nothing is lost: a page with a deed and a free grain that its blocks may cover, whose right nobody has, is
+/// offered, and a page that is backed and each of whose grains is free is hinted.
+pub fn nothing_is_lost()
+    ensures offered { (f : Profile) (l : Whole) → Legal f l → AreIdle l → (page word bit : ℕ) → word < 4 → ((k : ℕ) → has_right (part k l) page ≡ false) → word_after l (Word.Deed page) ≢ 0 → IsUsableFree l page word bit → IsRightOffered f l page }
+    ensures hinted { (f : Profile) (l : Whole) → IsValid f → Legal f l → AreIdle l → (page : ℕ) → IsEmptyBacked l page → empty_bit l page ≡ true }
+{}
+
+/// A page can be unbacked: in every region some legal list does it.
+pub fn unbacks_happen()
+    ensures { (f : Profile) → IsValid f → (l : Whole) × Legal f l × (more : List Event) × (visible l ≡ Event.Unback 0 1 f.age ∷ more) }
+{}
+
+/// No page with room is lost: where a page with a deed has a free grain that blocks of its directory may cover, while no actor has the page's
+/// right and no actor owes a look at that free word, the page is offered to its directory. So once each actor is at rest, each such
+/// page is offered whose right no cache keeps.
+pub fn free_pages_are_offered()
+    ensures offered { (f : Profile) (l : Whole) → Legal f l → (page word bit : ℕ) → word_after l (Word.Deed page) ≢ 0 → IsUsableFree l page word bit
+        → NobodyHasRight l page → NobodyOwes l page word → IsRightOffered f l page }
+    ensures at_rest { (f : Profile) (l : Whole) → Legal f l → AllClear f l → (page word bit : ℕ) → word < 4 → word_after l (Word.Deed page) ≢ 0 → IsUsableFree l page word bit
+        → NobodyHasRight l page → IsRightOffered f l page }
+{}
+
+/// While one actor alone goes on after a list at whose end nobody has the right of a page, the page is offered or parked wherever it has a deed
+/// and that actor hasn't its right. So what it reads as neither is its own.
+pub fn a_lone_actor_misses_no_right()
+    ensures { (f : Profile) (l : Whole) (k : ℕ) (steps : List Made) → Legal f (triples k steps ++ l) → (page : ℕ) → NobodyHasRight l page
+        → word_after (triples k steps ++ l) (Word.Deed page) ≢ 0 → has_right (part k (triples k steps ++ l)) page ≡ false
+        → IsRightOffered f (triples k steps ++ l) page ⊎ IsRightParked (triples k steps ++ l) page }
+{}
+
+/// The actors of a list are the scavenger and the threads of the profile: any other made no step.
+pub fn actors_are_few()
+    ensures { (f : Profile) (l : Whole) → Legal f l → (k : ℕ) → f.threads < k → part k l ≡ [] }
 {}
 
 /// Each bit that is set in a page vector is that of a page of the region: never that of page 0 or of one past the last.

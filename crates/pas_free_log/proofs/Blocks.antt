@@ -13,7 +13,7 @@ use Rattle.pas_steps.specs.Events.{events_by}
 use Rattle.pas_steps.proofs.Adding.{agreed_first, agreed_later}
 use Rattle.pas_steps.proofs.Frames.{events_append}
 use Rattle.pas_steps.proofs.Past.{once_later}
-use Rattle.pas_rights.specs.Rights.{OwesNothing}
+use Rattle.pas_steps.specs.Rests.{OwesNothing}
 use Rattle.pas_free_log.specs.Conditions.{IsRun, IsRunOnPage}
 use Rattle.pas_free_log.specs.Stamps.{stamps_by, page_count, pages_from, pages_met, stamps_with}
 use Rattle.pas_free_log.specs.Frames.{PutsBack}

@@ -19,7 +19,7 @@ use Rattle.pas_steps.specs.Events.{events_by, with_event, reason_of}
 use Rattle.pas_steps.specs.Desks.{Standing, made, Adds}
 use Rattle.pas_steps.proofs.Adding.{agreed_first, agreed_later, adds_call}
 use Rattle.pas_steps.proofs.Frames.{events_append}
-use Rattle.pas_rights.specs.Rights.{OwesNothing}
+use Rattle.pas_steps.specs.Rests.{OwesNothing}
 use Rattle.pas_free_log.specs.Conditions.{IsNameOf, KnowsEpoch}
 use Rattle.pas_free_log.specs.Stamps.{stamps_by, pages_met, stamps_with}
 use Rattle.pas_free_log.specs.Frames.{StaysAt, PutsBack, Restores}

@@ -17,13 +17,13 @@ use Rattle.pas_steps.proofs.Adding.{agreed_first, agreed_later}
 use Rattle.pas_steps.proofs.Frames.{events_append}
 use Rattle.pas_steps.proofs.Kept.{deed_stays}
 use Rattle.pas_steps.proofs.Backed.{backed_stays}
-use Rattle.pas_rights.specs.Rights.{OwesNothing, IsClear}
+use Rattle.pas_steps.specs.Rests.{OwesNothing, IsClear}
 use Rattle.pas_free_log.specs.Conditions.{KnowsEpoch}
 use Rattle.pas_free_log.specs.Stamps.{stamps_by}
 use Rattle.pas_free_log.specs.Frames.{Restores}
 use Rattle.pas_free_log.specs.Flushes.{Settled, event_for, shown_for, stamps_by_outcome, stamps_for, EntriesSteps, Flushes}
 use Rattle.pas_free_log.proofs.Staying.{stays_append, kinds_append}
-use Rattle.pas_free_log.proofs.Silent.{stamps_append}
+use Rattle.pas_free_log.proofs.Silent.{stamps_append, freeing_all_keep}
 
 -- ---- steps that restore what was, one after the other
 pub restores_none : (f : Profile) → Restores f []
@@ -110,7 +110,7 @@ flushed {σ} {σ'} epoch settled names entries names_are order adds a events sta
         stamped = λ page. ap (λ s. is_unstamped s page) (append_assoc entries look v) ∙ a.stamped (look ++ v) page (clear.stamped page);
         owes = λ page. subst (OwesNothing page) (sym (append_assoc entries look v)) (a.owes (look ++ v) (agreed_entries f epoch entries v agreed) page (still_clear epoch page v (clear.owes page)));
       };
-      backed = λ v agreed page h. backed_stays f (entries ++ look) v page agreed (λ x held. stays_append x entries look (a.stays (look ++ v) (agreed_entries f epoch entries v agreed) x held) (refl, tt)) h;
+      backed = λ v agreed page h. backed_stays f (entries ++ look) v page agreed (freeing_all_keep page (entries ++ look) (kinds_append entries look a.kinds (tt, tt))) (λ x held. stays_append x entries look (a.stays (look ++ v) (agreed_entries f epoch entries v agreed) x held) (refl, tt)) h;
       deeds = λ v agreed page ne. deed_stays f (entries ++ look) v page agreed ne;
       epoch_known = λ v. epoch_after_entries f epoch entries v a;
     }

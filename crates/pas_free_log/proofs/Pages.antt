@@ -20,7 +20,8 @@ use Rattle.pas_steps.specs.Desks.{Standing, made, Makes, CanCall, Adds}
 use Rattle.pas_steps.proofs.Adding.{agreed_first, adds_none, adds_step, adds_call}
 use Rattle.pas_steps.proofs.Past.{always_both}
 use Rattle.pas_steps.proofs.Kept.{right_on, check_on, hint_on, unstamped_on, returns_on, grains_on, right_grains, returns_still, holds_still, epoch_still, unstamped_still}
-use Rattle.pas_rights.specs.Rights.{KnowsDeed, OwesNothing, Returned}
+use Rattle.pas_rights.specs.Rights.{KnowsDeed, Returned}
+use Rattle.pas_steps.specs.Rests.{OwesNothing}
 use Rattle.pas_rights.proofs.Orders.{same_page, ends}
 use Rattle.pas_free_log.specs.Conditions.{IsRunOnPage}
 use Rattle.pas_free_log.specs.Stamps.{page_count, pages_from, pages_met, stamps_with}

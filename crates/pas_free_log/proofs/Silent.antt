@@ -1,13 +1,13 @@
 -- Steps that make no event and stamp no page, and steps on grains.
-use Rattle.std.proofs.Common.{◌≡◌, ℕ, List, [], ◌∷◌, ◌++◌, Option, None, refl, ap, ◌∙◌, append_assoc}
+use Rattle.std.proofs.Common.{◌≡◌, ℕ, false, List, [], ◌∷◌, ◌++◌, Option, None, refl, ap, ◌∙◌, append_assoc}
 use Rattle.pas_steps.specs.declared.step.Made.{Made}
 use Rattle.pas_steps.specs.declared.step.Step.{Step}
-use Rattle.pas_steps.specs.declared.step.Step.TheVariants.{Look, Deed, Back, Take, Put, Give, End, TakeRight, Offer, Park, Unpark, Stamp, Hint}
+use Rattle.pas_steps.specs.declared.step.Step.TheVariants.{Look, Deed, Back, Take, Put, Give, End, TakeRight, Offer, Park, Unpark, Stamp, Hint, Tick, Unback, Unhint}
 use Rattle.pas_steps.specs.Views.{View, known_deed, deed_after, known_epoch, epoch_after, epoch_of}
 use Rattle.pas_steps.specs.Events.{event_of, with_event, events_by}
 use Rattle.pas_steps.specs.Past.{Always}
-use Rattle.pas_steps.specs.Frames.{IsReturn, OnlyReturns}
-use Rattle.pas_steps.proofs.Past.{always_both}
+use Rattle.pas_steps.specs.Frames.{unbacks, IsReturn, OnlyReturns}
+use Rattle.pas_steps.proofs.Past.{always_map, always_both}
 use Rattle.pas_free_log.specs.Stamps.{stamped_by, stamps_by}
 use Rattle.pas_free_log.specs.Frames.{IsFreeing, AreFreeing}
 use Rattle.pas_free_log.specs.Returns.{IsPut, OnlyPuts}
@@ -51,6 +51,9 @@ stamped_more (Park p) e ys xs = refl
 stamped_more (Unpark p) e ys xs = refl
 stamped_more (Stamp p) e ys xs = refl
 stamped_more (Hint p) e ys xs = refl
+stamped_more (Tick raised) e ys xs = refl
+stamped_more (Unback p) e ys xs = refl
+stamped_more (Unhint p) e ys xs = refl
 
 -- the stamps of two calls
 pub stamps_append : (v : View) (ys xs : List Made) → stamps_by v (ys ++ xs) ≡ stamps_by (xs ++ v) ys ++ stamps_by v xs
@@ -94,3 +97,25 @@ put_epoch p s a known (IsPut.Puts w mask) = refl
 pub puts_epoch : (p : ℕ) (steps : List Made) (v : View) → OnlyPuts p steps → known_epoch (steps ++ v) ≡ known_epoch v
 puts_epoch p [] v h = refl
 puts_epoch p (m ∷ more) v h = put_epoch p m.step m.answer (known_epoch (more ++ v)) h.0 ∙ puts_epoch p more v h.1
+
+-- a step that gives back ends no backing
+freeing_keeps : (s : Step) (q : ℕ) → IsFreeing s → unbacks s q ≡ false
+freeing_keeps (Look w) q h = refl
+freeing_keeps (Deed p d) q h = refl
+freeing_keeps (Back p) q h = refl
+freeing_keeps (Take p w m) q h = refl
+freeing_keeps (Put p w m) q h = refl
+freeing_keeps (Give b) q h = refl
+freeing_keeps (End n g) q h = refl
+freeing_keeps (TakeRight p d) q h = refl
+freeing_keeps (Offer p d) q h = refl
+freeing_keeps (Park p) q h = refl
+freeing_keeps (Unpark p) q h = refl
+freeing_keeps (Stamp p) q h = refl
+freeing_keeps (Hint p) q h = refl
+freeing_keeps (Tick raised) q h = refl
+freeing_keeps (Unback p) q h = absurd h
+freeing_keeps (Unhint p) q h = refl
+
+pub freeing_all_keep : (q : ℕ) (steps : List Made) → AreFreeing steps → Always (λ m before. unbacks m.step q ≡ false) steps
+freeing_all_keep q steps h = always_map (λ m before. IsFreeing m.step) (λ m before. unbacks m.step q ≡ false) steps (λ m before is. freeing_keeps m.step q is) h

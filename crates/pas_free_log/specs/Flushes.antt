@@ -11,7 +11,7 @@ use Rattle.pas_steps.specs.Agreement.{Agreed}
 use Rattle.pas_steps.specs.Desks.{Standing, Adds, made}
 use Rattle.pas_steps.specs.declared.step.Made.{Made}
 use Rattle.pas_steps.specs.declared.step.Step.TheVariants.{Look}
-use Rattle.pas_rights.specs.Rights.{IsClear}
+use Rattle.pas_steps.specs.Rests.{IsClear}
 use Rattle.pas_free_log.specs.Conditions.{KnowsEpoch}
 use Rattle.pas_free_log.specs.Stamps.{stamps_by, pages_met, stamps_with}
 use Rattle.pas_free_log.specs.Frames.{AreFreeing, Restores}

@@ -8,8 +8,8 @@ use Rattle.pas_steps.specs.Agreement.{Agreed}
 use Rattle.pas_steps.specs.Past.{Always}
 use Rattle.pas_steps.specs.declared.step.Made.{Made}
 use Rattle.pas_steps.specs.declared.step.Step.{Step}
-use Rattle.pas_steps.specs.declared.step.Step.TheVariants.{Look, Deed, Back, Take, Put, Give, End, TakeRight, Offer, Park, Unpark, Stamp, Hint}
-use Rattle.pas_rights.specs.Rights.{OwesNothing}
+use Rattle.pas_steps.specs.declared.step.Step.TheVariants.{Look, Deed, Back, Take, Put, Give, End, TakeRight, Offer, Park, Unpark, Stamp, Hint, Tick, Unback, Unhint}
+use Rattle.pas_steps.specs.Rests.{OwesNothing}
 use Rattle.pas_free_log.specs.Stamps.{stamps_by, pages_met, stamps_with}
 
 -- the step takes and gives nothing: it makes no deed, backs no page, takes no grain, gives no block and claims no page
@@ -27,6 +27,9 @@ IsFreeing (Park page) = Unit {0}
 IsFreeing (Unpark page) = Unit {0}
 IsFreeing (Stamp page) = Unit {0}
 IsFreeing (Hint page) = Unit {0}
+IsFreeing (Tick raised) = ⊥
+IsFreeing (Unback page) = ⊥
+IsFreeing (Unhint page) = ⊥
 
 abbrev pub AreFreeing : List Made → Type 0
 AreFreeing = Always (λ m before. IsFreeing m.step)

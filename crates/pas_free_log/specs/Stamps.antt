@@ -3,7 +3,7 @@ use Rattle.std.specs.Prelude.{ℕ, zero, suc, ◌+◌, ◌-◌, ◌/◌, ◌==�
 use Rattle.pas_steps.specs.Views.{View, epoch_of}
 use Rattle.pas_steps.specs.declared.step.Made.{Made}
 use Rattle.pas_steps.specs.declared.step.Step.{Step}
-use Rattle.pas_steps.specs.declared.step.Step.TheVariants.{Look, Deed, Back, Take, Put, Give, End, TakeRight, Offer, Park, Unpark, Stamp, Hint}
+use Rattle.pas_steps.specs.declared.step.Step.TheVariants.{Look, Deed, Back, Take, Put, Give, End, TakeRight, Offer, Park, Unpark, Stamp, Hint, Tick, Unback, Unhint}
 
 abbrev pub stamped_by : Step → ℕ → List (ℕ × ℕ) → List (ℕ × ℕ)
 stamped_by (Look word) epoch stamps = stamps
@@ -19,6 +19,9 @@ stamped_by (Park page) epoch stamps = stamps
 stamped_by (Unpark page) epoch stamps = stamps
 stamped_by (Stamp page) epoch stamps = (page, epoch) ∷ stamps
 stamped_by (Hint page) epoch stamps = stamps
+stamped_by (Tick raised) epoch stamps = stamps
+stamped_by (Unback page) epoch stamps = stamps
+stamped_by (Unhint page) epoch stamps = stamps
 
 -- the pages that these steps stamp, which were made from this view on, each with the epoch of its step; the newest first
 abbrev pub stamps_by : View → List Made → List (ℕ × ℕ)

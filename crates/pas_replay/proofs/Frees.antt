@@ -80,7 +80,7 @@ performs_free {σ} {σ'} {said} what table c c' name block is named frees = subs
   adds = frees.adds;
   rest = frees.rest;
   few = frees.few;
-  answered = λ v l stood rest part_is names tells known. (
+  answered = λ v l stood rest names tells known. (
     names,
     tells,
     (subst (λ o. IsFreedBy σ.seat.profile σ.seat.actor c c' name o frees.steps said) (sym (stands_for table names name (Some block) named tells known)) frees.freed, refl),
@@ -95,7 +95,7 @@ performs_skip {σ} what table c name is named = subst (λ w. Performs w table ta
   adds = adds_none;
   rest = λ v rest agreed. rest;
   few = λ v rest agreed. omega arith;
-  answered = λ v l stood rest part_is names tells known. (
+  answered = λ v l stood rest names tells known. (
     names,
     tells,
     (subst (λ o. IsFreedBy σ.seat.profile σ.seat.actor c c name o [] (Some (Said.Skipped name))) (sym (stands_for table names name None named tells known)) (refl, refl, refl), refl),
@@ -110,7 +110,7 @@ performs_raw {σ} {σ'} {said} what table c c' block is frees = subst (λ w. Per
   adds = frees.adds;
   rest = frees.rest;
   few = frees.few;
-  answered = λ v l stood rest part_is names tells known. (names, tells, (frees.freed, refl));
+  answered = λ v l stood rest names tells known. (names, tells, (frees.freed, refl));
   held = refl;
 }
 
@@ -125,7 +125,7 @@ performs_flush {σ} {σ'} what table c c' is flushes = subst (λ w. Performs w t
       let none = ap (λ (d : Cached). length d.log) flushes.cache in
       let unknown = unknown_kept σ.seat.profile flushes.steps v agreed in
       omega (arith, events, none, unknown);
-  answered = λ v l stood rest part_is names tells known. (names, tells, (record { empties = flushes.empties; cache = flushes.cache }, refl, refl));
+  answered = λ v l stood rest names tells known. (names, tells, (record { empties = flushes.empties; cache = flushes.cache }, refl, refl));
   held = refl;
 }
 
@@ -143,7 +143,7 @@ performs_stop {σ} {σ'} what table c c' is stops = subst (λ w. Performs w tabl
       let none = ap (λ (d : Cached). length d.log) stops.cache in
       let unknown = unknown_kept σ.seat.profile (stops.stopped ++ stops.flushed) v agreed in
       omega (arith, events, none, unknown);
-  answered = λ v l stood rest part_is names tells known. (
+  answered = λ v l stood rest names tells known. (
     names,
     tells,
     (

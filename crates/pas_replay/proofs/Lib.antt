@@ -11,4 +11,7 @@ pub mod Operating
 pub mod Ordering
 pub mod Showing
 pub mod Replayed
+pub mod Keeping
 pub mod Opening
+pub mod Speaking
+pub mod Weaving

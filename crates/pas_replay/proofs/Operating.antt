@@ -48,8 +48,8 @@ one_more false block rest old known is = known is
 same_names : (asked : List ℕ) {names names' : List Named} → names' ≡ names → AreKnown asked names → AreKnown asked names'
 same_names asked same known = subst (λ (ns : List Named). AreKnown asked ns) (sym same) known
 
-pub known_after : (f : Profile) (k : ℕ) (what : What) (asked : List ℕ) (names names' : List Named) (l : Whole) (c c' : Cached) (steps : List Made) (said : Option Said)
-    → IsAnswered f k what names l c steps said names' c' → AreKnown asked names → AreKnown (asked_after what asked) names'
+pub known_after : (f : Profile) (k : ℕ) (what : What) (asked : List ℕ) (names names' : List Named) (v : View) (c c' : Cached) (steps : List Made) (said : Option Said)
+    → IsAnswered f k what names v c steps said names' c' → AreKnown asked names → AreKnown (asked_after what asked) names'
 known_after f k (Alloc name heap size align) asked names names' l c c' steps said answered known = subst (λ (ns : List Named). AreKnown (name ∷ asked) ns) (sym answered.2)
     (λ n is. one_more (name == n) answered.0 (standing_for names n) (is_asked asked n) (known n) is)
 known_after f k (Free name) asked names names' l c c' steps said answered known = same_names asked answered.1 known
@@ -69,7 +69,7 @@ pub record IsActOf (f : Profile) (act : Act) (k : ℕ) (what : What) : Type 0 wh
   pub marks : (more : List Act) → marks_in (act ∷ more) ≡ marks_in more
   pub fit : (more : List Act) (limit : ℕ) (asked : List ℕ) → AreFit f limit asked (ops_in (act ∷ more)) → AreFit f limit (asked_after what asked) (ops_in more)
   pub follows : (more : List Act) (names : List Named) (caches : Caches) (l : Whole) (rs : List Record) (l' : Whole) (rs' : List Record)
-      (steps : List Made) (said : Option Said) (names' : List Named) (c' : Cached) → IsAnswered f k what names l (caches k) steps said names' c'
+      (steps : List Made) (said : Option Said) (names' : List Named) (c' : Cached) → IsAnswered f k what names (part k l) (caches k) steps said names' c'
       → Follows f more names' (with_cache caches k c') (triples k steps ++ l) (rs ++ (records_of (events_by k (part k l) steps) ++ said_by k said)) l' rs'
       → Follows f (act ∷ more) names caches l rs l' rs'
 
@@ -117,7 +117,7 @@ pub fit_now : {f : Profile} {all more : List Act} {op : Op} {region : PlainRegio
     → (asked : List ℕ) × IsFitWhat (profile_of region) (names_held table) asked op.what
 fit_now {f} {all} {more} {op} {region} {threads} {table} so = (so.asked, subst (λ (g : Profile). IsFitWhat g (names_held table) so.asked op.what) (sym so.profile_is) so.fit.1)
 
-known_if : (f : Profile) (limit : ℕ) (asked : List ℕ) (names : List Named) (what : What) → IsFitWhat f limit asked what → AreKnown asked names → IsKnown names what
+pub known_if : (f : Profile) (limit : ℕ) (asked : List ℕ) (names : List Named) (what : What) → IsFitWhat f limit asked what → AreKnown asked names → IsKnown names what
 known_if f limit asked names (Alloc name heap size align) fit known = tt
 known_if f limit asked names (Free name) fit known = known name fit
 known_if f limit asked names (Raw block) fit known = tt
@@ -156,21 +156,21 @@ can_operate {f} {all} {more} {act} {what} {region} {threads} {table} {out} k i d
 at_seat : {f : Profile} {k : ℕ} {c : Cached} {desk : PlainDesk} {l : Whole} {own : ℕ} → Sits f k c desk l own → (P : ℕ → Profile → Type 0) → P (actor_of (pass_of desk)) (profile_of (region_of desk)) → P k f
 at_seat {f} {k} {c} {desk} s P p = subst (λ (g : Profile). P k g) s.profile (subst (λ (m : ℕ). P m (profile_of (region_of desk))) s.actor p)
 
-records_count : (es : List Event) → length (records_of es) ≡ length es
+pub records_count : (es : List Event) → length (records_of es) ≡ length es
 records_count es = length-map (reverse es) Record.Event ∙ length-reverse es
 
 -- what the operation was answered by
-pub record IsDone (f : Profile) (k : ℕ) (what : What) (table' : Names) (names : List Named) (l : Whole) (c c' : Cached) (steps : List Made) (said : Option Said) : Type 0 where
+pub record IsDone (f : Profile) (k : ℕ) (what : What) (table' : Names) (names : List Named) (v : View) (c c' : Cached) (steps : List Made) (said : Option Said) : Type 0 where
   pub after : List Named
   pub tells : Tells table' after
-  pub answer : IsAnswered f k what names l c steps said after c'
+  pub answer : IsAnswered f k what names v c steps said after c'
 
 pub done : {f : Profile} {all more : List Act} {act : Act} {what : What} {region region' : PlainRegion} {threads : List Thread} {table table' : Names} {out out' : Records} (k i : ℕ) (d thread' : Thread)
     → k ≡ 1 + i → i < length threads
     → (so : SoFar f all (act ∷ more) region threads table out)
     → IsKnown so.names what
     → (turn : Turn region region' (get_or threads i d) thread' (Answers what table table' (cached (get_or threads i d).cache) (cached thread'.cache) out out'))
-    → IsDone f k what table' so.names so.whole (so.caches k) (cached thread'.cache) turn.did.performs.steps turn.did.said
+    → IsDone f k what table' so.names (part k so.whole) (so.caches k) (cached thread'.cache) turn.did.performs.steps turn.did.said
 done {f} {all} {more} {act} {what} {region} {region'} {threads} {table} {table'} k i d thread' at lt so known turn =
     let c = cached (get_or threads i d).cache in
     let c' = cached thread'.cache in
@@ -178,13 +178,13 @@ done {f} {all} {more} {act} {what} {region} {region'} {threads} {table} {table'}
     let did = turn.did in
     let v = part k so.whole in
     let rest = subst (λ (g : Profile). AtRest g c v) (sym s.profile) s.rest in
-    let answered = did.performs.answered v so.whole s.stood rest (ap (λ (m : ℕ). part m so.whole) s.actor) so.names so.tells known in
+    let answered = did.performs.answered v so.whole s.stood rest so.names so.tells known in
     let held = cache_at so.caches 1 threads i k d at lt so.caches_are in
     record {
       after = answered.0;
       tells = answered.1;
-      answer = subst (λ (old : Cached). IsAnswered f k what so.names so.whole old did.performs.steps did.said answered.0 c') (sym held)
-          (at_seat s (λ (m : ℕ) (g : Profile). IsAnswered g m what so.names so.whole c did.performs.steps did.said answered.0 c') answered.2);
+      answer = subst (λ (old : Cached). IsAnswered f k what so.names v old did.performs.steps did.said answered.0 c') (sym held)
+          (at_seat s (λ (m : ℕ) (g : Profile). IsAnswered g m what so.names v c did.performs.steps did.said answered.0 c') answered.2);
     }
 
 pub operated : {f : Profile} {all more : List Act} {act : Act} {what : What} {region region' : PlainRegion} {threads : List Thread} {table table' : Names} {out out' : Records} (k i : ℕ) (d thread' : Thread)
@@ -234,7 +234,7 @@ operated {f} {all} {more} {act} {what} {region} {region'} {threads} {table} {tab
       names = was.after;
       tells = was.tells;
       turns = turns;
-      known = known_after f k what so.asked so.names was.after so.whole (so.caches k) c' steps said was.answer so.known;
+      known = known_after f k what so.asked so.names was.after v (so.caches k) c' steps said was.answer so.known;
       caches = with_cache so.caches k c';
       caches_are = set_caches so.caches 1 threads i k thread' at lt so.caches_are;
       spare = omega (arith, grown, both, count, owed, mine, costs, marks, spare, room, few);

@@ -1,6 +1,6 @@
 -- What the items of a text keep: their operations can be replayed one after the other, and cost what the items cost.
 use Rattle.std.proofs.Common.{◌≡◌, ℕ, ◌+◌, ◌*◌, ◌%◌, ◌<◌, ◌≤◌, ◌==◌, ◌&&◌, ◌||◌, Bool, true, false, if◌then◌else◌, List, [], ◌∷◌, ◌++◌, length, Option, Some, None, refl, ap, sym, ◌∙◌, subst, arith, append_assoc, length-append, take, slice_index_or}
-use Rattle.std.specs.Prelude.{◌-◌, ◌^◌, map, Result, Ok, Err, IfOk, nat_le, nat_lt, codes}
+use Rattle.std.specs.Prelude.{◌-◌, ◌^◌, not, map, Result, Ok, Err, IfOk, nat_le, nat_lt, codes}
 use Rattle.std.proofs.lemmas.List.{append-nil, take_more, map-append}
 use Rattle.pas_trace.specs.declared.plan.Phase.{Phase}
 use Rattle.std.proofs.lemmas.Bool.{leb-true, ltb-true, eqb-true, and_parts}
@@ -377,6 +377,10 @@ more limit shared f i earlier op is built below all next =
 or_same : (x y z : Bool) → y ≡ z → (x || y) ≡ (x || z)
 or_same x y z e = ap (λ t. x || t) e
 
+not_true : (t : Bool) → not t ≡ true → t ≡ false
+not_true true is = absurd (let bad : false ≡ true = is in cc)
+not_true false is = refl
+
 next_alloc : (limit shared : ℕ) (f : Profile) (earlier : List Item) (t n h s a : ℕ) → reason_of f earlier (Allocates t n h s a) ≡ None → IsClassRoute (route_of s a) → n < limit
     → ((m : ℕ) → is_asked (asked_all [] (flat (phases_in earlier))) m ≡ is_named earlier m) → IsNext limit shared f (Allocates t n h s a) earlier (op_after earlier t (Alloc n h s a))
 next_alloc limit shared f earlier t n h s a passes class lt asked =
@@ -384,10 +388,11 @@ next_alloc limit shared f earlier t n h s a passes class lt asked =
     let c2 = first_holds (nat_lt h f.heaps) Reason.BadHeap _ c1.1 in
     let c3 = first_holds (nat_le s (4096 * f.pages)) Reason.BadSize _ c2.1 in
     let c4 = first_holds (is_alignment a) Reason.BadAlign _ c3.1 in
+    let c5 = first_holds (not (is_named earlier n)) Reason.NameTaken _ c4.1 in
     let size = leb-true s (4096 * f.pages) c3.0 in
     record {
       thread = c1.0;
-      what = (lt, record { within = omega (arith, size); aligned = alignment a c4.0; of_profile = ltb-true h f.heaps c2.0 }, class);
+      what = (lt, record { within = omega (arith, size); aligned = alignment a c4.0; of_profile = ltb-true h f.heaps c2.0 }, class, asked n ∙ not_true (is_named earlier n) c5.0);
       asked = λ m. or_same (n == m) (is_asked (asked_all [] (flat (phases_in earlier))) m) (is_named earlier m) (asked m);
     }
 

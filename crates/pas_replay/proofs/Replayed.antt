@@ -1,23 +1,18 @@
 -- What follows from what a replay shows: its records are those of the visible events, each can be shown, and the words of deeds and stamps
 -- are those of the machine.
-use Rattle.std.proofs.Common.{◌≡◌, ℕ, ◌==◌, ◌&&◌, ◌⊎◌, max, Bool, true, false, if◌then◌else◌, List, [], ◌∷◌, ◌++◌, reverse, Option, Some, None, inl, inr, refl, ap, sym, ◌∙◌, subst, arith}
+use Rattle.std.proofs.Common.{◌≡◌, ℕ, zero, suc, ◌+◌, ◌==◌, ◌&&◌, ◌⊎◌, Bool, true, false, if◌then◌else◌, List, [], ◌∷◌, ◌++◌, reverse, Option, Some, None, inl, inr, refl, ap, sym, ◌∙◌, subst}
 use Rattle.std.specs.Prelude.{All, map}
-use Rattle.std.proofs.lemmas.Bool.{cases_eq}
+use Rattle.std.proofs.lemmas.Bool.{cases_eq, eq-eqb}
 use Rattle.std.proofs.lemmas.List.{reverse-append, append-nil}
 use Rattle.std.proofs.lemmas.List.Elements.{All-nil, All-push, All-append}
 use Rattle.pas_profile.specs.Profiles.{IsPage, IsDirectoryOf}
 use Rattle.pas_profile.specs.Directories.{deed_word_of}
-use Rattle.pas_profile.specs.Layouts.{same_word}
 use Rattle.pas_profile.specs.Lives.{live_word, is_live, turn_of}
 use Rattle.pas_profile.specs.declared.profile.Profile.{Profile}
 use Rattle.pas_profile.specs.declared.directory.Directory.{Directory}
-use Rattle.pas_profile.specs.declared.name.Name.{Name}
 use Rattle.pas_profile.specs.declared.word.Word.{Word}
 use Rattle.pas_profile.specs.declared.event.Event.{Event}
-use Rattle.pas_machine.specs.Runs.{address_of}
-use Rattle.pas_machine.specs.State.{live_in, touches, epoch_in}
-use Rattle.pas_steps.specs.Effects.{target, new_value}
-use Rattle.pas_steps.specs.Views.{epoch_of}
+use Rattle.pas_steps.specs.Views.{View, epoch_of}
 use Rattle.pas_steps.specs.Events.{event_of, events_by, with_event, reason_of}
 use Rattle.pas_steps.specs.Allowed.{IsStepOf}
 use Rattle.pas_steps.specs.Lists.{Whole, part, word_after, visible, Legal}
@@ -26,10 +21,9 @@ use Rattle.pas_steps.specs.States.{profile_of, word_in}
 use Rattle.pas_steps.specs.declared.state.State.{State}
 use Rattle.pas_steps.specs.declared.step.Made.{Made}
 use Rattle.pas_steps.specs.declared.step.Step.{Step}
-use Rattle.pas_steps.specs.declared.step.Step.TheVariants.{Look, Deed, Back, Take, Put, Give, End, TakeRight, Offer, Park, Unpark, Stamp, Hint}
+use Rattle.pas_steps.specs.declared.step.Step.TheVariants.{Look, Deed, Back, Take, Put, Give, End, TakeRight, Offer, Park, Unpark, Stamp, Hint, Tick, Unback, Unhint}
 use Rattle.pas_steps.proofs.Frames.{visible_split}
 use Rattle.pas_core.proofs.DeedWords.{deed_words}
-use Rattle.pas_core.proofs.Epochs.{epoch_known}
 use Rattle.pas_trace.specs.declared.plan.Plan.{Plan}
 use Rattle.pas_report.specs.Lines.{CanShow, IsShowable}
 use Rattle.pas_report.specs.declared.record.Record.{Record}
@@ -37,6 +31,7 @@ use Rattle.pas_report.specs.declared.record.Said.{Said}
 use Rattle.pas_replay.specs.Acts.{Act, Operates, Begins, Wakes, Closes, Ends, acts_of}
 use Rattle.pas_replay.specs.Answers.{Named, Caches, with_cache, begun, records_of, said_by, Follows}
 use Rattle.pas_replay.specs.Replays.{phases_of, empty_caches, Shows}
+use Rattle.pas_replay.specs.Ways.{Way, InOrder, OnThreads, IsOneOrder, is_of, records_by, by_actors, by_phases, arranged}
 
 -- ---- the events among the records
 abbrev pub events_in : List Record → List Event
@@ -86,9 +81,14 @@ follows_events f (Ends k ∷ acts) names caches l l' rs rs' is before =
     follows_events f acts names (with_cache caches k is.1) (triples k is.0 ++ l) l' (rs ++ records_of (events_by k (part k l) is.0)) rs' is.3
     (more_events k l is.0 rs (records_of (events_by k (part k l) is.0)) before (told (events_by k (part k l) is.0)))
 
--- the events among the records are the visible ones, in the order in which they were made
-pub visible_told : {plan : Plan} {records : List Record} {state : State} (shows : Shows plan records state) → events_in records ≡ reverse (visible shows.whole)
-visible_told {plan} {records} {state} shows = follows_events plan.profile (acts_of plan.profile.threads (phases_of plan)) [] empty_caches [] shows.whole [] records shows.answers refl
+-- the events among the records in the order of the acts are the visible ones of the pieces in that order
+pub visible_told : {way : Way} {plan : Plan} {records : List Record} {state : State} (shows : Shows way plan records state) → events_in shows.said ≡ reverse (visible shows.told)
+visible_told {way} {plan} {records} {state} shows = follows_events plan.profile (acts_of plan.profile.threads (phases_of plan)) [] empty_caches [] shows.told [] shows.said shows.answers refl
+
+-- ---- each actor's part is that of the pieces
+pub same_parts : (way : Way) (told whole : Whole) → IsOneOrder way told whole → (k : ℕ) → part k whole ≡ part k told
+same_parts InOrder told whole same k = ap (λ (l : Whole). part k l) same
+same_parts OnThreads told whole same k = same k
 
 -- ---- each record can be shown
 abbrev AreShowable : List Event → Type 0
@@ -128,11 +128,42 @@ event_showable f k epoch (Park q) a of e h = none_is e h
 event_showable f k epoch (Unpark q) a of e h = none_is e h
 event_showable f k epoch (Stamp q) a of e h = none_is e h
 event_showable f k epoch (Hint q) a of e h = none_is e h
+event_showable f k epoch (Tick raised) a of e h = none_is e h
+event_showable f k epoch (Unback q) a of e h = subst IsShowable (some_is h) tt
+event_showable f k epoch (Unhint q) a of e h = none_is e h
 
-all_showable : (f : Profile) (l : Whole) → Legal f l → AreShowable (visible l)
-all_showable f [] legal = tt
-all_showable f (t ∷ l) legal = with_showable (event_of t.actor (epoch_of (part t.actor l)) t.made.step t.made.answer) (visible l)
-    (event_showable f t.actor (epoch_of (part t.actor l)) t.made.step t.made.answer legal.0.of_region) (all_showable f l legal.1)
+-- the steps of a list, and of a part, are of the region
+abbrev pub AreOf : Profile → Whole → Type 0
+AreOf f [] = Unit {0}
+AreOf f (t ∷ l) = IsStepOf f t.made.step × AreOf f l
+
+abbrev pub PartOf : Profile → View → Type 0
+PartOf f [] = Unit {0}
+PartOf f (m ∷ v) = IsStepOf f m.step × PartOf f v
+
+one_of : (f : Profile) (t : Bool) (m : Made) (v : View) → IsStepOf f m.step → PartOf f v → PartOf f (if t then m ∷ v else v)
+one_of f true m v one rest = (one, rest)
+one_of f false m v one rest = rest
+
+pub legal_part : (f : Profile) (l : Whole) (k : ℕ) → Legal f l → PartOf f (part k l)
+legal_part f [] k legal = tt
+legal_part f (t ∷ l) k legal = one_of f (t.actor == k) t.made (part k l) legal.0.of_region (legal_part f l k legal.1)
+
+later_of : (f : Profile) (t : Bool) (m : Made) (v : View) → PartOf f (if t then m ∷ v else v) → PartOf f v
+later_of f true m v all = all.1
+later_of f false m v all = all
+
+pub parts_of : (f : Profile) (l : Whole) → ((k : ℕ) → PartOf f (part k l)) → AreOf f l
+parts_of f [] all = tt
+parts_of f (t ∷ l) all = (
+  (subst (λ (b : Bool). PartOf f (if b then t.made ∷ part t.actor l else part t.actor l)) (eq-eqb t.actor t.actor refl) (all t.actor)).0,
+  parts_of f l (λ k. later_of f (t.actor == k) t.made (part k l) (all k)),
+)
+
+all_showable : (f : Profile) (l : Whole) → AreOf f l → AreShowable (visible l)
+all_showable f [] all = tt
+all_showable f (t ∷ l) all = with_showable (event_of t.actor (epoch_of (part t.actor l)) t.made.step t.made.answer) (visible l)
+    (event_showable f t.actor (epoch_of (part t.actor l)) t.made.step t.made.answer all.0) (all_showable f l all.1)
 
 showable_append : (xs ys : List Event) → AreShowable xs → AreShowable ys → AreShowable (xs ++ ys)
 showable_append [] ys a b = b
@@ -148,106 +179,59 @@ only_one r one = All-push CanShow [] r (All-nil CanShow) one
 first_shown : (r : Record) (rs : List Record) → CanShow r → All CanShow rs → All CanShow (r ∷ rs)
 first_shown r rs one all = All-append CanShow (r ∷ []) rs (only_one r one) all
 
-records_shown : (rs : List Record) → AreShowable (events_in rs) → All CanShow rs
-records_shown [] all = All-nil CanShow
-records_shown (Record.Event e ∷ rs) all = first_shown (Record.Event e) rs all.0 (records_shown rs all.1)
-records_shown (Record.Said k said ∷ rs) all = first_shown (Record.Said k said) rs tt (records_shown rs all)
-records_shown (Record.Phase n ∷ rs) all = first_shown (Record.Phase n) rs tt (records_shown rs all)
-records_shown (Record.Close ∷ rs) all = first_shown Record.Close rs tt (records_shown rs all)
+-- .. and so it is where they stand actor by actor
+abbrev EachShown : List Record → Type 0
+EachShown [] = Unit {0}
+EachShown (r ∷ rs) = CanShow r × EachShown rs
 
-pub can_be_shown : {plan : Plan} {records : List Record} {state : State} → Shows plan records state → All CanShow records
-can_be_shown {plan} {records} {state} shows = records_shown records (subst AreShowable (sym (visible_told shows)) (showable_reverse (visible shows.whole) (all_showable plan.profile shows.whole shows.legal)))
+each_both : (xs ys : List Record) → EachShown xs → EachShown ys → EachShown (xs ++ ys)
+each_both [] ys a b = b
+each_both (x ∷ xs) ys a b = (a.0, each_both xs ys a.1 b)
 
--- ---- no tick is made, so every epoch is 0
-same : {A : Type 0} (t : Bool) (x : A) → (if t then x else x) ≡ x
-same true x = refl
-same false x = refl
+one_by : (t : Bool) (r : Record) (rs : List Record) → CanShow r → EachShown rs → EachShown (if t then r ∷ rs else rs)
+one_by true r rs one rest = (one, rest)
+one_by false r rs one rest = rest
 
-epoch_step : (e : ℕ) (s : Step) (old : ℕ) → (if same_word (target s) Word.Epoch then new_value e s old else old) ≡ old
-epoch_step e (Look w) old = same (same_word w Word.Epoch) old
-epoch_step e (Deed q d) old = refl
-epoch_step e (Back q) old = refl
-epoch_step e (Take q j m) old = refl
-epoch_step e (Put q j m) old = refl
-epoch_step e (Give b) old = refl
-epoch_step e (End n g) old = refl
-epoch_step e (TakeRight q d) old = refl
-epoch_step e (Offer q d) old = refl
-epoch_step e (Park q) old = refl
-epoch_step e (Unpark q) old = refl
-epoch_step e (Stamp q) old = refl
-epoch_step e (Hint q) old = refl
+each_by : (k : ℕ) (rs : List Record) → EachShown rs → EachShown (records_by k rs)
+each_by k [] all = tt
+each_by k (r ∷ rs) all = one_by (is_of k r) r (records_by k rs) all.0 (each_by k rs all.1)
 
-epoch_word : (l : Whole) → word_after l Word.Epoch ≡ 0
-epoch_word [] = refl
-epoch_word (t ∷ l) = epoch_step (epoch_of (part t.actor l)) t.made.step (word_after l Word.Epoch) ∙ epoch_word l
+each_actors : (k n : ℕ) (rs : List Record) → EachShown rs → EachShown (by_actors k n rs)
+each_actors k zero rs all = tt
+each_actors k (suc n) rs all = each_both (records_by k rs) (by_actors (k + 1) n rs) (each_by k rs all) (each_actors (k + 1) n rs all)
 
-no_epoch : (f : Profile) (l : Whole) → Legal f l → (k : ℕ) → epoch_of (part k l) ≡ 0
-no_epoch f l legal k = let le = epoch_known f l legal k in let z = epoch_word l in omega (arith, le, z)
+each_phases : (threads : ℕ) (since rs : List Record) → EachShown since → EachShown rs → EachShown (by_phases threads since rs)
+each_phases threads since [] a b = each_actors 0 (threads + 1) since a
+each_phases threads since (Record.Phase n ∷ rs) a b = each_both (by_actors 0 (threads + 1) since) (Record.Phase n ∷ by_phases threads [] rs) (each_actors 0 (threads + 1) since a) (tt, each_phases threads [] rs tt b.1)
+each_phases threads since (Record.Close ∷ rs) a b = each_both (by_actors 0 (threads + 1) since) (Record.Close ∷ by_phases threads [] rs) (each_actors 0 (threads + 1) since a) (tt, each_phases threads [] rs tt b.1)
+each_phases threads since (Record.Event e ∷ rs) a b = each_phases threads (since ++ Record.Event e ∷ []) rs (each_both since (Record.Event e ∷ []) a (b.0, tt)) b.1
+each_phases threads since (Record.Said k said ∷ rs) a b = each_phases threads (since ++ Record.Said k said ∷ []) rs (each_both since (Record.Said k said ∷ []) a (b.0, tt)) b.1
 
-stamped : (t : Bool) (e old : ℕ) → e ≡ 0 → old ≡ 0 → (if t then max old e else old) ≡ 0
-stamped true e old a b = omega (arith, a, b)
-stamped false e old a b = b
+each_arranged : (way : Way) (threads : ℕ) (rs : List Record) → EachShown rs → EachShown (arranged way threads rs)
+each_arranged InOrder threads rs all = all
+each_arranged OnThreads threads rs all = each_phases threads [] rs tt all
 
-stamp_step : (e : ℕ) (s : Step) (p old : ℕ) → e ≡ 0 → old ≡ 0 → (if same_word (target s) (Word.Stamp p) then new_value e s old else old) ≡ 0
-stamp_step e (Look w) p old a b = same (same_word w (Word.Stamp p)) old ∙ b
-stamp_step e (Deed q d) p old a b = b
-stamp_step e (Back q) p old a b = b
-stamp_step e (Take q j m) p old a b = b
-stamp_step e (Put q j m) p old a b = b
-stamp_step e (Give block) p old a b = b
-stamp_step e (End n g) p old a b = b
-stamp_step e (TakeRight q d) p old a b = b
-stamp_step e (Offer q d) p old a b = b
-stamp_step e (Park q) p old a b = b
-stamp_step e (Unpark q) p old a b = b
-stamp_step e (Stamp q) p old a b = stamped (q == p) e old a b
-stamp_step e (Hint q) p old a b = b
+each_shown : (rs : List Record) → AreShowable (events_in rs) → EachShown rs
+each_shown [] all = tt
+each_shown (Record.Event e ∷ rs) all = (all.0, each_shown rs all.1)
+each_shown (Record.Said k said ∷ rs) all = (tt, each_shown rs all)
+each_shown (Record.Phase n ∷ rs) all = (tt, each_shown rs all)
+each_shown (Record.Close ∷ rs) all = (tt, each_shown rs all)
 
-stamp_word : (f : Profile) (l : Whole) (p : ℕ) → Legal f l → word_after l (Word.Stamp p) ≡ 0
-stamp_word f [] p legal = refl
-stamp_word f (t ∷ l) p legal = stamp_step (epoch_of (part t.actor l)) t.made.step p (word_after l (Word.Stamp p)) (no_epoch f l legal.1 t.actor) (stamp_word f l p legal.1)
+all_shown : (rs : List Record) → EachShown rs → All CanShow rs
+all_shown [] all = All-nil CanShow
+all_shown (r ∷ rs) all = first_shown r rs all.0 (all_shown rs all.1)
 
-either_deed : (t : Bool) (k q : ℕ) (d : Directory) (es : List Event) (p : ℕ) → epoch_in es p ≡ 0 → epoch_in (with_event (if t then Some (Event.Deed k q d) else None) es) p ≡ 0
-either_deed true k q d es p h = h
-either_deed false k q d es p h = h
-
-either_back : (t : Bool) (k q : ℕ) (es : List Event) (p : ℕ) → epoch_in es p ≡ 0 → epoch_in (with_event (if t then Some (Event.Back k q) else None) es) p ≡ 0
-either_back true k q es p h = h
-either_back false k q es p h = h
-
-either_end : (z y : Bool) (k e guess a : ℕ) (name : Name) (es : List Event) (p : ℕ) → e ≡ 0 → epoch_in es p ≡ 0 → epoch_in (with_event (if z then Some (Event.End k name e) else (if y then None else Some (Event.Reject k name (reason_of name a)))) es) p ≡ 0
-either_end true y k e guess a name es p zero_epoch h = stamped (touches (live_in es (address_of name)) p) e (epoch_in es p) zero_epoch h
-either_end false true k e guess a name es p zero_epoch h = h
-either_end false false k e guess a name es p zero_epoch h = h
-
-event_epoch : (k e : ℕ) (s : Step) (a : ℕ) (es : List Event) (p : ℕ) → e ≡ 0 → epoch_in es p ≡ 0 → epoch_in (with_event (event_of k e s a) es) p ≡ 0
-event_epoch k e (Look w) a es p z h = h
-event_epoch k e (Deed q d) a es p z h = either_deed (a == 0) k q d es p h
-event_epoch k e (Back q) a es p z h = either_back (a == 0) k q es p h
-event_epoch k e (Give b) a es p z h = h
-event_epoch k e (End name guess) a es p z h = either_end (a == live_word name.turn guess) (is_live a && (turn_of a == name.turn)) k e guess a name es p z h
-event_epoch k e (Take q j m) a es p z h = h
-event_epoch k e (Put q j m) a es p z h = h
-event_epoch k e (TakeRight q d) a es p z h = h
-event_epoch k e (Offer q d) a es p z h = h
-event_epoch k e (Park q) a es p z h = h
-event_epoch k e (Unpark q) a es p z h = h
-event_epoch k e (Stamp q) a es p z h = h
-event_epoch k e (Hint q) a es p z h = h
-
-end_epochs : (f : Profile) (l : Whole) (p : ℕ) → Legal f l → epoch_in (visible l) p ≡ 0
-end_epochs f [] p legal = refl
-end_epochs f (t ∷ l) p legal = event_epoch t.actor (epoch_of (part t.actor l)) t.made.step t.made.answer (visible l) p (no_epoch f l legal.1 t.actor) (end_epochs f l p legal.1)
-
--- the stamp of each page is the greatest epoch of an end there
-pub stamps_are : {plan : Plan} {records : List Record} {state : State} (shows : Shows plan records state) → (page : ℕ) → word_after shows.whole (Word.Stamp page) ≡ epoch_in (visible shows.whole) page
-stamps_are {plan} {records} {state} shows page = stamp_word plan.profile shows.whole page shows.legal ∙ sym (end_epochs plan.profile shows.whole page shows.legal)
+pub can_be_shown : {way : Way} {plan : Plan} {records : List Record} {state : State} → Shows way plan records state → All CanShow records
+can_be_shown {way} {plan} {records} {state} shows =
+    let steps = parts_of plan.profile shows.told (λ k. subst (λ (v : View). PartOf plan.profile v) (same_parts way shows.told shows.whole shows.one_order k) (legal_part plan.profile shows.whole k shows.legal)) in
+    let said = each_shown shows.said (subst AreShowable (sym (visible_told shows)) (showable_reverse (visible shows.told) (all_showable plan.profile shows.told steps))) in
+    subst (λ (rs : List Record). All CanShow rs) (sym shows.records_are) (all_shown (arranged way plan.profile.threads shows.said) (each_arranged way plan.profile.threads shows.said said))
 
 -- ---- deed words
 -- the deed word of each page is 0 or that of a directory of the profile
-pub deeds_are : {plan : Plan} {records : List Record} {state : State} → Shows plan records state → (page : ℕ) → IsPage (profile_of state) page → (word_in state (Word.Deed page) ≡ 0) ⊎ ((d : Directory) × IsDirectoryOf (profile_of state) d × (word_in state (Word.Deed page) ≡ deed_word_of d))
-deeds_are {plan} {records} {state} shows page is =
+pub deeds_are : {way : Way} {plan : Plan} {records : List Record} {state : State} → Shows way plan records state → (page : ℕ) → IsPage (profile_of state) page → (word_in state (Word.Deed page) ≡ 0) ⊎ ((d : Directory) × IsDirectoryOf (profile_of state) d × (word_in state (Word.Deed page) ≡ deed_word_of d))
+deeds_are {way} {plan} {records} {state} shows page is =
     let word : word_in state (Word.Deed page) ≡ word_after shows.whole (Word.Deed page) = shows.words (Word.Deed page) (subst (λ f. IsPage f page) shows.profile is) in
     elim (cases_eq (word_after shows.whole (Word.Deed page)) 0) [
       | inl e ↦ inl (word ∙ e)

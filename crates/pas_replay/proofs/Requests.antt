@@ -1,9 +1,9 @@
 -- What a request promises.
-use Rattle.std.proofs.Common.{◌≡◌, ◌≢◌, ℕ, ◌+◌, ◌-◌, ◌/◌, ◌%◌, ◌^◌, ◌<◌, ◌≤◌, ◌==◌, ◌++◌, Bool, true, false, if◌then◌else◌, List, [], ◌∷◌, length, Option, Some, None, Result, Ok, Err, refl, ap, sym, ◌∙◌, subst, arith}
+use Rattle.std.proofs.Common.{◌≡◌, ◌≢◌, ℕ, ◌+◌, ◌-◌, ◌%◌, ◌^◌, ◌<◌, ◌≤◌, ◌==◌, ◌++◌, Bool, true, false, if◌then◌else◌, List, [], ◌∷◌, length, Option, Some, None, Result, Ok, Err, refl, ap, sym, ◌∙◌, subst, arith}
 use Rattle.std.specs.Prelude.{MatchResult}
 use Rattle.pas_profile.specs.Classes.{has_bit, IsClass}
 use Rattle.pas_profile.specs.Directories.{IsDirectory, deed_word_of}
-use Rattle.pas_profile.specs.Profiles.{IsValid, IsAdmitted, IsDirectoryOf}
+use Rattle.pas_profile.specs.Profiles.{IsValid, IsDirectoryOf}
 use Rattle.pas_profile.specs.Routes.{route_of}
 use Rattle.pas_profile.specs.declared.profile.Profile.{Profile}
 use Rattle.pas_profile.specs.declared.directory.Directory.{Directory}
@@ -26,10 +26,8 @@ use Rattle.pas_steps.specs.Views.{View, known_deed}
 use Rattle.pas_steps.specs.Events.{events_by}
 use Rattle.pas_steps.specs.Agreement.{Agreed}
 use Rattle.pas_steps.specs.Lists.{Whole, part, word_after, visible, Legal}
-use Rattle.pas_steps.specs.Desks.{Standing, triples, CanCall}
-use Rattle.pas_steps.proofs.Adding.{Tells as TellsAll, legal_after, part_append}
+use Rattle.pas_steps.specs.Desks.{Standing, CanCall}
 use Rattle.pas_rights.specs.Rights.{KnowsDeed}
-use Rattle.pas_segregated.specs.Stops.{class_directory}
 use Rattle.pas_trace.specs.declared.plan.What.TheVariants.{Alloc}
 use Rattle.pas_cache.specs.Caches.{Cached, AtRest}
 use Rattle.pas_cache.specs.Calls.{MayAllocate, Allocates}
@@ -129,10 +127,10 @@ turns_refused table table' name turns sets = turns_with table table' name None t
 
 -- ---- a request
 pub performs_given : {σ σ' : Standing} {answer : Result Block NoRoom} {tells : Bool} (table table' : Names) (c c' : Cached) (name heap size align : ℕ) (block : Block)
-    → IsValid σ.seat.profile → IsAdmitted σ.seat.profile size align heap → IsClassRoute (route_of size align) → ((v : View) (l : Whole) → σ.stands v l → part σ.seat.actor l ≡ v) → TellsAll σ'
+    → IsClassRoute (route_of size align)
     → Allocates heap (class_of (route_of size align)) align tells c c' σ σ' answer → answer ≡ Ok block → SetsName table table' name (Some block) → names_held table' ≡ names_held table
     → Performs (Alloc name heap size align) table table' c c' σ σ' None
-performs_given {σ} {σ'} {answer} {tells} table table' c c' name heap size align block valid admitted route part_is legal call is sets held =
+performs_given {σ} {σ'} {answer} {tells} table table' c c' name heap size align block route call is sets held =
     let class = class_of (route_of size align) in
     let of : IsBlockFor σ.seat.profile (AtRest σ.seat.profile c) heap class call.steps block
     = subst (λ a. MatchResult a (IsBlockFor σ.seat.profile (AtRest σ.seat.profile c) heap class call.steps) (λ room. IsSilent call.steps)) is call.outcome in
@@ -141,7 +139,7 @@ performs_given {σ} {σ'} {answer} {tells} table table' c c' name heap size alig
       adds = call.adds;
       rest = call.rest;
       few = λ v rest agreed. given_few σ.seat.profile σ.seat.actor c c' call.steps v call.change.log (call.few σ.seat.actor v rest agreed);
-      answered = λ v l stood rest is_part names tells known. (
+      answered = λ v l stood rest names tells known. (
         named name (Some block) ∷ names,
         tells_more table table' names name (Some block) tells sets,
         (
@@ -155,12 +153,10 @@ performs_given {σ} {σ'} {answer} {tells} table table' c c' name heap size alig
               of_heap = of.of_heap;
               slot = of.slot;
               aligned = subst (λ a. MatchResult a (λ block. address_of block.name % align ≡ 0) (λ room. Unit {0})) is call.aligned;
-              of_directory = λ g inside. known_directory σ.seat.profile (triples σ.seat.actor call.steps ++ l) σ.seat.actor (g / 256) (class_directory heap class) valid (legal_after call.adds legal v l stood rest)
-                  (record { heap = admitted.of_profile; kind = class_exists size align route })
-                  (subst (λ w. KnowsDeed (g / 256) (class_directory heap class) w) (sym (part_append σ.seat.actor call.steps l ∙ ap (λ w. call.steps ++ w) is_part)) (of.deeds v rest (call.adds.agreed v l stood rest) g inside));
-              before = (of.events σ.seat.actor (part σ.seat.actor l)).0;
-              events = (of.events σ.seat.actor (part σ.seat.actor l)).1;
-              prepared = (of.events σ.seat.actor (part σ.seat.actor l)).2;
+              of_directory = λ g inside. of.deeds v rest (call.adds.agreed v l stood rest) g inside;
+              before = (of.events σ.seat.actor v).0;
+              events = (of.events σ.seat.actor v).1;
+              prepared = (of.events σ.seat.actor v).2;
             };
             said_is = refl;
             block_is = refl;
@@ -183,7 +179,7 @@ performs_refused {σ} {σ'} {answer} {tells} table table' c c' name heap size al
       adds = call.adds;
       rest = call.rest;
       few = λ v rest agreed. refused_few σ.seat.profile σ.seat.actor c c' call.steps v call.change.log (silent σ.seat.actor v) agreed;
-      answered = λ v l stood rest is_part names tells known. (
+      answered = λ v l stood rest names tells known. (
         named name None ∷ names,
         tells_more table table' names name None tells sets,
         (
@@ -193,7 +189,7 @@ performs_refused {σ} {σ'} {answer} {tells} table table' c c' name heap size al
             answer = Err room;
             serves = subst (λ a. ServesRequest σ.seat.profile heap class c c' call.steps a) is call.change;
             kinds = call.kinds;
-            ends = silent σ.seat.actor (part σ.seat.actor l);
+            ends = silent σ.seat.actor v;
             said_is = refl;
             block_is = refl;
           },

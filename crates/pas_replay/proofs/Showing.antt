@@ -5,7 +5,6 @@ use Rattle.std.proofs.Math.Nat.{suc-mul}
 use Rattle.pas_profile.specs.Profiles.{IsWordOf}
 use Rattle.pas_profile.specs.declared.profile.Profile.{Profile}
 use Rattle.pas_profile.specs.declared.word.Word.{Word}
-use Rattle.pas_steps.specs.Views.{View, holds, has_right}
 use Rattle.pas_steps.specs.Lists.{Whole, part, word_after, Legal}
 use Rattle.pas_steps.specs.States.{profile_of as the_profile_of, word_in}
 use Rattle.pas_steps.specs.declared.state.State.{State}
@@ -18,7 +17,8 @@ use Rattle.pas_report.specs.Rooms.{records_in, room_of}
 use Rattle.pas_report.specs.declared.record.Record.{Record}
 use Rattle.pas_report.specs.declared.records.Records.{Records}
 use Rattle.pas_cache.specs.Locals.{any_covers, any_keeps}
-use Rattle.pas_cache.specs.Caches.{Cached, cached, HasNothing, AtRest}
+use Rattle.pas_cache.specs.Caches.{Cached, cached, AtRest}
+use Rattle.pas_steps.specs.Rests.{HasNothing}
 use Rattle.pas_cache.specs.Knowledge.{unknown_below}
 use Rattle.pas_cache.proofs.Keeping.{rests_empty}
 use Rattle.pas_segregated.specs.declared.slots.Slots.{Slots}
@@ -29,6 +29,7 @@ use Rattle.pas_replay.specs.Fit.{own_costs_of, ops_in}
 use Rattle.pas_replay.specs.Kits.{IsFresh, IsKitOf}
 use Rattle.pas_replay.specs.Names.{names_held}
 use Rattle.pas_replay.specs.Replays.{phases_of, IsBuilt, empty_cache, empty_caches, Shows}
+use Rattle.pas_replay.specs.Ways.{InOrder}
 use Rattle.pas_replay.specs.Sessions.{ThreadStands, AllStand, AreCaches, AreEmpty, SoFar, owed_from}
 use Rattle.pas_replay.specs.declared.kit.PlainKit.{PlainKit}
 use Rattle.pas_replay.specs.declared.names.Names.{Names}
@@ -126,23 +127,23 @@ start {text} {plan} {kit} {out} read built made empty room =
 no_slots : (locals : List Slots) → locals ≡ [] → (g : ℕ) → (any_covers locals g ≡ false) × (any_keeps locals g ≡ false)
 no_slots locals is g = (ap (λ (xs : List Slots). any_covers xs g) is, ap (λ (xs : List Slots). any_keeps xs g) is)
 
--- the threads from this one on hold and have nothing
+-- the threads from this one on hold, have and owe nothing
 ends_bare : (f : Profile) (l : Whole) (acts : List Act) (k : ℕ) (threads : List Thread) → AllStand f l acts k threads → AreEmpty threads → (j : ℕ) → k ≤ j → j < k + length threads
-    → ((g : ℕ) → holds (part j l) g ≡ false) × ((page : ℕ) → has_right (part j l) page ≡ false)
+    → HasNothing (part j l)
 ends_bare f l acts k [] all empty j low high = absurd (omega (arith, low, high))
 ends_bare f l acts k (t ∷ ts) all empty j low high = elim (cases_eq k j) [
   | inl same ↦
       let rest : AtRest f (cached t.cache) (part j l) = subst (λ (n : ℕ). AtRest f (cached t.cache) (part n l)) same all.0.rest in
       let none = no_slots (cached t.cache).locals (empty 0 t (omega arith)) in
-      (λ g. rest.locals.grains g ∙ (none g).0, λ page. rest.locals.rights page ∙ (none page).1)
+      record { grains = λ g. rest.locals.grains g ∙ (none g).0; rights = λ page. rest.locals.rights page ∙ (none page).1; clear = rest.locals.clear }
   | inr other ↦ ends_bare f l acts (k + 1) ts all.1 (λ i d lt. empty (suc i) d (omega (arith, lt))) j (omega (arith, low, other)) (omega (arith, high))
 ]
 
-did_nothing : (l : Whole) (k : ℕ) → part k l ≡ [] → ((g : ℕ) → holds (part k l) g ≡ false) × ((page : ℕ) → has_right (part k l) page ≡ false)
-did_nothing l k none = (λ g. ap (λ (v : View). holds v g) none, λ page. ap (λ (v : View). has_right v page) none)
+did_nothing : (l : Whole) (k : ℕ) → part k l ≡ [] → HasNothing (part k l)
+did_nothing l k none = subst HasNothing (sym none) nothing
 
 bare_at : {f : Profile} {all : List Act} {region : PlainRegion} {threads : List Thread} {table : Names} {out : Records} → (so : SoFar f all [] region threads table out) → AreEmpty threads → (k : ℕ)
-    → ((g : ℕ) → holds (part k so.whole) g ≡ false) × ((page : ℕ) → has_right (part k so.whole) page ≡ false)
+    → HasNothing (part k so.whole)
 bare_at {f} {all} {region} {threads} so empty k =
     let count = so.count in
     elim (cases_eq k 0) [
@@ -157,13 +158,18 @@ pub shows : {plan : Plan} {region : PlainRegion} {threads : List Thread} {table 
     → SoFar plan.profile (acts_of plan.profile.threads (phases_of plan)) [] region threads table out → AreEmpty threads
     → the_profile_of state ≡ profile_of region
     → ((l : Whole) → RegionStands region l → (w : Word) → IsWordOf (profile_of region) w → word_in state w ≡ word_after l w)
-    → Shows plan (records_in out) state
+    → Shows InOrder plan (records_in out) state
 shows {plan} {region} {threads} {table} {out} {state} so empty profile words = record {
+  told = so.whole;
+  said = records_in out;
+  records_are = refl;
+  one_order = refl;
   whole = so.whole;
   legal = subst (λ (f : Profile). Legal f so.whole) so.profile_is so.stands.legal;
   answers = so.answers so.whole (records_in out) (refl, refl);
-  at_rest = λ k g. (bare_at so empty k).0 g;
-  rights = λ k page. (bare_at so empty k).1 page;
+  at_rest = λ k g. (bare_at so empty k).grains g;
+  rights = λ k page. (bare_at so empty k).rights page;
+  clear = λ k. (bare_at so empty k).clear;
   profile = profile ∙ so.profile_is;
   words = λ w of. words so.whole so.stands w (subst (λ (f : Profile). IsWordOf f w) (sym so.profile_is) of);
 }

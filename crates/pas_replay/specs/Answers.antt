@@ -12,10 +12,9 @@ use Rattle.pas_profile.specs.declared.event.FreeFault.TheVariants.{Outside, Unal
 use Rattle.pas_profile.specs.declared.event.NoRoom.{NoRoom}
 use Rattle.pas_profile.specs.declared.event.NoRoom.TheVariants.{NoSpace, Held}
 use Rattle.pas_machine.specs.Runs.{in_run, address_of, grain_of, length_of}
-use Rattle.pas_machine.specs.State.{deed_in}
 use Rattle.pas_steps.specs.Views.{View}
 use Rattle.pas_steps.specs.Events.{events_by}
-use Rattle.pas_steps.specs.Lists.{Whole, part, visible}
+use Rattle.pas_steps.specs.Lists.{Whole, part}
 use Rattle.pas_steps.specs.Desks.{made, triples}
 use Rattle.pas_steps.specs.declared.step.Made.{Made}
 use Rattle.pas_steps.specs.declared.step.Step.TheVariants.{Look}
@@ -23,6 +22,7 @@ use Rattle.pas_trace.specs.declared.plan.What.{What}
 use Rattle.pas_trace.specs.declared.plan.What.TheVariants.{Alloc, Free, Raw, Flush, Stop, Tick, Pass, Idle}
 use Rattle.pas_report.specs.declared.record.Record.{Record}
 use Rattle.pas_report.specs.declared.record.Said.{Said}
+use Rattle.pas_rights.specs.Rights.{KnowsDeed}
 use Rattle.pas_segregated.specs.Stops.{class_directory}
 use Rattle.pas_cache.specs.Caches.{Cached}
 use Rattle.pas_cache.specs.Changes.{EmptiesLog, StopsAll}
@@ -76,28 +76,28 @@ abbrev pub block_of : Result Block NoRoom → Option Block
 block_of (Ok block) = Some block
 block_of (Err room) = None
 
--- The block that actor k gave with these steps after the list is of the heap, in a slot of the class, and at a multiple of the alignment. Each page of its run has a deed of
--- the request's directory then. It was given last, after deeds of this directory and backs.
-pub record IsGiven (k : ℕ) (l : Whole) (heap class align : ℕ) (steps : List Made) (block : Block) : Type 0 where
+-- The block that actor k gave with these steps after the view is of the heap, in a slot of the class, and at a multiple of the alignment. Each page of its run is known to have
+-- the request's directory as its deed then. It was given last, after deeds of this directory and backs.
+pub record IsGiven (k : ℕ) (v : View) (heap class align : ℕ) (steps : List Made) (block : Block) : Type 0 where
   pub of_heap : block.heap ≡ heap
   pub slot : IsInSlot class block
   pub aligned : address_of block.name % align ≡ 0
-  pub of_directory : (g : ℕ) → in_run (grain_of block.name) (length_of block) g ≡ true → deed_in (visible (triples k steps ++ l)) (g / 256) ≡ Some (class_directory heap class)
+  pub of_directory : (g : ℕ) → in_run (grain_of block.name) (length_of block) g ≡ true → KnowsDeed (g / 256) (class_directory heap class) (steps ++ v)
   pub before : List Event
-  pub events : events_by k (part k l) steps ≡ Event.Give k block ∷ before
+  pub events : events_by k v steps ≡ Event.Give k block ∷ before
   pub prepared : AllByRecursion (IsPreparing (class_directory heap class)) before
 
 -- a refused request makes no event
-abbrev pub RequestEnds : ℕ → Whole → ℕ → ℕ → ℕ → List Made → Result Block NoRoom → Type 0
-RequestEnds k l heap class align steps answer = MatchResult answer (IsGiven k l heap class align steps) (λ room. events_by k (part k l) steps ≡ [])
+abbrev pub RequestEnds : ℕ → View → ℕ → ℕ → ℕ → List Made → Result Block NoRoom → Type 0
+RequestEnds k v heap class align steps answer = MatchResult answer (IsGiven k v heap class align steps) (λ room. events_by k v steps ≡ [])
 
 -- Actor k's cache, which held c, serves the request, or refuses it with the evidence of its search. Only a flush stamps pages, and none is made.
-pub record IsServed (f : Profile) (k : ℕ) (l : Whole) (c c' : Cached) (name heap size align : ℕ) (steps : List Made) (said : Option Said) (block : Option Block) : Type 0 where
+pub record IsServed (f : Profile) (k : ℕ) (v : View) (c c' : Cached) (name heap size align : ℕ) (steps : List Made) (said : Option Said) (block : Option Block) : Type 0 where
   pub route : IsClassRoute (route_of size align)
   pub answer : Result Block NoRoom
   pub serves : ServesRequest f heap (class_of (route_of size align)) c c' steps answer
   pub kinds : AreAllocating steps
-  pub ends : RequestEnds k l heap (class_of (route_of size align)) align steps answer
+  pub ends : RequestEnds k v heap (class_of (route_of size align)) align steps answer
   pub said_is : said ≡ said_of_request name answer
   pub block_is : block ≡ block_of answer
 
@@ -137,15 +137,15 @@ pub record IsStopped (k : ℕ) (c c' : Cached) (steps : List Made) : Type 0 wher
 -- ---- operations and acts
 -- An operation of actor k is answered by these steps and what is said, after which the names stand for what they stand for and the cache holds
 -- what it holds. Those that aren't built are never replayed.
-abbrev pub IsAnswered : Profile → ℕ → What → List Named → Whole → Cached → List Made → Option Said → List Named → Cached → Type 0
-IsAnswered f k (Alloc name heap size align) names l c steps said names' c' = (block : Option Block) × IsServed f k l c c' name heap size align steps said block × (names' ≡ named name block ∷ names)
-IsAnswered f k (Free name) names l c steps said names' c' = IsFreedBy f k c c' name (standing_for names name) steps said × (names' ≡ names)
-IsAnswered f k (Raw block) names l c steps said names' c' = IsFreed f k c c' block steps said × (names' ≡ names)
-IsAnswered f k Flush names l c steps said names' c' = IsFlushed k c c' steps × (said ≡ None) × (names' ≡ names)
-IsAnswered f k Stop names l c steps said names' c' = IsStopped k c c' steps × (said ≡ None) × (names' ≡ names)
-IsAnswered f k (Tick e) names l c steps said names' c' = ⊥
-IsAnswered f k Pass names l c steps said names' c' = ⊥
-IsAnswered f k (Idle n) names l c steps said names' c' = ⊥
+abbrev pub IsAnswered : Profile → ℕ → What → List Named → View → Cached → List Made → Option Said → List Named → Cached → Type 0
+IsAnswered f k (Alloc name heap size align) names v c steps said names' c' = (block : Option Block) × IsServed f k v c c' name heap size align steps said block × (names' ≡ named name block ∷ names)
+IsAnswered f k (Free name) names v c steps said names' c' = IsFreedBy f k c c' name (standing_for names name) steps said × (names' ≡ names)
+IsAnswered f k (Raw block) names v c steps said names' c' = IsFreed f k c c' block steps said × (names' ≡ names)
+IsAnswered f k Flush names v c steps said names' c' = IsFlushed k c c' steps × (said ≡ None) × (names' ≡ names)
+IsAnswered f k Stop names v c steps said names' c' = IsStopped k c c' steps × (said ≡ None) × (names' ≡ names)
+IsAnswered f k (Tick e) names v c steps said names' c' = ⊥
+IsAnswered f k Pass names v c steps said names' c' = ⊥
+IsAnswered f k (Idle n) names v c steps said names' c' = ⊥
 
 -- the cache after its thread read this epoch at the start of a phase
 abbrev pub begun : Cached → ℕ → Cached
@@ -153,7 +153,8 @@ begun c epoch = record { locals = c.locals; log = c.log; idle_since = epoch }
 
 -- The acts are answered by pieces, in order: the steps of each go onto the list that those before it left, and its records to the end of the
 -- records: the events of the steps, and what is said. They begin as l and rs, with what the names stand for and what the caches hold, and end as
--- l' and rs'.
+-- l' and rs'. A piece is about the part of its own actor in the list and about its cache, and about nothing else: so the list says of each actor
+-- which pieces its part is made of, in the order of its acts, and puts the pieces of different actors in the order of the acts.
 abbrev pub Follows : Profile → List Act → List Named → Caches → Whole → List Record → Whole → List Record → Type 0
 Follows f [] names caches l rs l' rs' = (l' ≡ l) × (rs' ≡ rs)
 Follows f (Begins n ∷ acts) names caches l rs l' rs' = Follows f acts names caches l (rs ++ Record.Phase n ∷ []) l' rs'
@@ -162,7 +163,7 @@ Follows f (Wakes k ∷ acts) names caches l rs l' rs' =
     (epoch : ℕ) × Follows f acts names (with_cache caches k (begun (caches k) epoch)) (triples k (made (Look Word.Epoch) epoch ∷ []) ++ l) rs l' rs'
 Follows f (Operates op ∷ acts) names caches l rs l' rs' =
     (steps : List Made) × (said : Option Said) × (names' : List Named) × (c' : Cached)
-    × IsAnswered f op.actor op.what names l (caches op.actor) steps said names' c'
+    × IsAnswered f op.actor op.what names (part op.actor l) (caches op.actor) steps said names' c'
     × Follows f acts names' (with_cache caches op.actor c') (triples op.actor steps ++ l) (rs ++ (records_of (events_by op.actor (part op.actor l) steps) ++ said_by op.actor said)) l' rs'
 Follows f (Ends k ∷ acts) names caches l rs l' rs' =
     (steps : List Made) × (c' : Cached) × IsStopped k (caches k) c' steps

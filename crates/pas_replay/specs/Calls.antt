@@ -6,7 +6,7 @@ use Rattle.pas_profile.specs.declared.name.Block.{Block}
 use Rattle.pas_steps.specs.Views.{View}
 use Rattle.pas_steps.specs.Agreement.{Agreed}
 use Rattle.pas_steps.specs.Events.{events_by}
-use Rattle.pas_steps.specs.Lists.{Whole, part}
+use Rattle.pas_steps.specs.Lists.{Whole}
 use Rattle.pas_steps.specs.Desks.{Standing, Adds}
 use Rattle.pas_steps.specs.declared.step.Made.{Made}
 use Rattle.pas_trace.specs.declared.plan.What.{What}
@@ -66,8 +66,8 @@ pub record Performs (what : What) (table table' : Names) (c c' : Cached) (desk d
   pub rest : StaysAtRest desk.seat.profile c c' steps
   pub few : (v : View) → AtRest desk.seat.profile c v → Agreed desk.seat.profile v steps
       → length (events_by desk.seat.actor v steps) + length (said_by desk.seat.actor said) + owed_events desk.seat.profile c' (steps ++ v) ≤ cost_of_what what + owed_events desk.seat.profile c v
-  pub answered : (v : View) (l : Whole) → desk.stands v l → AtRest desk.seat.profile c v → part desk.seat.actor l ≡ v → (names : List Named) → Tells table names → IsKnown names what
-      → (names' : List Named) × Tells table' names' × IsAnswered desk.seat.profile desk.seat.actor what names l c steps said names' c'
+  pub answered : (v : View) (l : Whole) → desk.stands v l → AtRest desk.seat.profile c v → (names : List Named) → Tells table names → IsKnown names what
+      → (names' : List Named) × Tells table' names' × IsAnswered desk.seat.profile desk.seat.actor what names v c steps said names' c'
   pub held : names_held table' ≡ names_held table
 
 -- a free by name and turn

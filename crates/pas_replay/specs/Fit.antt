@@ -25,10 +25,10 @@ asked_after (Tick epoch) asked = asked
 asked_after Pass asked = asked
 asked_after (Idle n) asked = asked
 
--- The operation can be replayed after those that asked for these names. Names are below the limit, a free has one of those that were asked for, and
--- a turn has a next one.
+-- The operation can be replayed after those that asked for these names. A request has a new name below the limit, a free has one of those that were
+-- asked for, and a turn has a next one.
 abbrev pub IsFitWhat : Profile → ℕ → List ℕ → What → Type 0
-IsFitWhat f limit asked (Alloc name heap size align) = (name < limit) × IsAdmitted f size align heap × IsClassRoute (route_of size align)
+IsFitWhat f limit asked (Alloc name heap size align) = (name < limit) × IsAdmitted f size align heap × IsClassRoute (route_of size align) × (is_asked asked name ≡ false)
 IsFitWhat f limit asked (Free name) = is_asked asked name ≡ true
 IsFitWhat f limit asked (Raw block) = block.turn < 2 ^ 40 - 1
 IsFitWhat f limit asked Flush = Unit {0}

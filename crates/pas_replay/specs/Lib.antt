@@ -1,5 +1,7 @@
 pub mod Acts
 pub mod Answers
+pub mod Own
+pub mod Ways
 pub mod Replays
 pub mod Fit
 pub mod Names

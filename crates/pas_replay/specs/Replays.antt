@@ -5,6 +5,7 @@ use Rattle.pas_profile.specs.Routes.{route_of}
 use Rattle.pas_profile.specs.declared.word.Word.{Word}
 use Rattle.pas_steps.specs.Views.{holds, has_right}
 use Rattle.pas_steps.specs.Lists.{Whole, part, word_after, Legal}
+use Rattle.pas_steps.specs.Rests.{IsClear}
 use Rattle.pas_steps.specs.States.{profile_of, word_in}
 use Rattle.pas_steps.specs.declared.state.State.{State}
 use Rattle.pas_trace.specs.Plans.{ops_of}
@@ -17,6 +18,7 @@ use Rattle.pas_cache.specs.Caches.{Cached}
 use Rattle.pas_cache.specs.Serves.{IsClassRoute}
 use Rattle.pas_replay.specs.Acts.{acts_of}
 use Rattle.pas_replay.specs.Answers.{Caches, Follows}
+use Rattle.pas_replay.specs.Ways.{Way, IsOneOrder, arranged}
 
 -- ---- what can be replayed today: no heap is shared, each request is of a class, and the scavenger has no operation
 abbrev pub IsBuiltWhat : What → Type 0
@@ -53,13 +55,19 @@ empty_cache = record { locals = []; log = []; idle_since = 0 }
 abbrev pub empty_caches : Caches
 empty_caches k = empty_cache
 
--- a legal list whose pieces and records answer the acts of the plan, at whose end no actor holds a grain or has a right, and the state has the
--- words after it
-pub record Shows (plan : Plan) (records : List Record) (state : State) : Type 0 where
+-- The acts of the plan are answered by pieces, which stand in `told` in the order of the acts with their records in `said`. There is a legal list
+-- whose part of each actor is that in `told`; at its end no actor holds a grain, has a right or owes anything, and the state has the words after it. The records
+-- are those of the pieces, in the order of this way.
+pub record Shows (way : Way) (plan : Plan) (records : List Record) (state : State) : Type 0 where
+  pub told : Whole
+  pub said : List Record
+  pub answers : Follows plan.profile (acts_of plan.profile.threads (phases_of plan)) [] empty_caches [] [] told said
+  pub records_are : records ≡ arranged way plan.profile.threads said
   pub whole : Whole
   pub legal : Legal plan.profile whole
-  pub answers : Follows plan.profile (acts_of plan.profile.threads (phases_of plan)) [] empty_caches [] [] whole records
+  pub one_order : IsOneOrder way told whole
   pub at_rest : (k g : ℕ) → holds (part k whole) g ≡ false
   pub rights : (k page : ℕ) → has_right (part k whole) page ≡ false
+  pub clear : (k : ℕ) → IsClear (part k whole)
   pub profile : profile_of state ≡ plan.profile
   pub words : (word : Word) → IsWordOf plan.profile word → word_in state word ≡ word_after whole word

@@ -49,7 +49,6 @@ fn allocate<D: Desk>(
     size: u32,
     align: u32,
 ) -> Option<Said>
-    requires told { D.tells ≡ true }
     requires unshared { (D.standing desk.old).seat.profile.shared ≡ 0 }
     requires fit { (asked : List ℕ) × IsFitWhat (D.standing desk.old).seat.profile (names_held names.old) asked (TheWhat.Alloc name heap size align) }
     requires turns { HasTurns names.old }
@@ -91,7 +90,6 @@ fn perform<D: Desk>(
     names: &mut Names,
     what: What,
 ) -> Option<Said>
-    requires told { D.tells ≡ true }
     requires unshared { (D.standing desk.old).seat.profile.shared ≡ 0 }
     requires fit { (asked : List ℕ) × IsFitWhat (D.standing desk.old).seat.profile (names_held names.old) asked what }
     requires turns { HasTurns names.old }
@@ -125,14 +123,13 @@ fn perform<D: Desk>(
 }
 
 /// Performs the operation, and adds its events and what is said to the records.
-pub(crate) fn answer<D: Desk>(
+pub fn answer<D: Desk>(
     desk: &mut D,
     cache: &mut ThreadCache,
     names: &mut Names,
     what: What,
     out: &mut Records,
 )
-    requires told { D.tells ≡ true }
     requires unshared { (D.standing desk.old).seat.profile.shared ≡ 0 }
     requires fit { (asked : List ℕ) × IsFitWhat (D.standing desk.old).seat.profile (names_held names.old) asked what }
     requires turns { HasTurns names.old }

@@ -8,6 +8,7 @@ ghost use Rattle.pas_utility.specs.Pools.{threads_of, room_of as room_for, has_s
 ghost use Rattle.pas_plain.specs.Plain.{passes_from};
 ghost use Rattle.pas_report.specs.Rooms.{records_in, room_of};
 ghost use Rattle.pas_replay.specs.Replays.{phases_of, IsBuilt, Shows};
+ghost use Rattle.pas_replay.specs.Ways.{InOrder};
 ghost use Rattle.pas_replay.specs.Kits.{AreRooms, AreThreads, IsKitOf};
 
 use crate::limits::names_limit;
@@ -106,15 +107,15 @@ impl PlainKit {
     }
 }
 
-/// Replays the plan in the order of the text, and says what was done. The state of the region at the end, at which no actor holds a grain or has
-/// a right. Takes no memory.
+/// Replays the plan in the order of the text, and says what was done. The state of the region at the end, at which no actor holds a grain, has
+/// a right or owes anything. Takes no memory.
 pub fn in_order(plan: &Plan, kit: PlainKit, out: &mut Records) -> State
     requires plan { (text : List ℕ) × (length text ≤ 16777216) × IsPlanOf text plan.now }
     requires built { IsBuilt plan.now }
     requires kit { IsKitOf plan.now kit }
     requires empty { records_in out.old ≡ [] }
     requires room { plan.now.total + length (phases_of plan.now) + 1 ≤ room_of out.old }
-    ensures { Shows plan.now (records_in out.new) result }
+    ensures { Shows InOrder plan.now (records_in out.new) result }
 {
     let PlainKit {
         region,

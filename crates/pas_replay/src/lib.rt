@@ -5,9 +5,10 @@ mod answering;
 mod buildable;
 mod kit;
 mod limits;
-mod names;
+pub mod names;
 mod order;
 mod seats;
 
+pub use answering::answer;
 pub use buildable::is_built;
 pub use kit::{PlainKit, in_order};

@@ -7,13 +7,13 @@ use std::alloc::Global;
 
 /// A block by each name, at the place of the name; None where no request had it, or the request was refused.
 #[derive(Drop)]
-pub(crate) struct Names {
+pub struct Names {
     blocks: Vec<Option<Block>>,
 }
 
 impl Names {
     /// No name stands for a block. There is room for the names below the limit.
-    pub(crate) fn try_new(alloc: Global, limit: usize) -> Result<Names, NoMemory>
+    pub fn try_new(alloc: Global, limit: usize) -> Result<Names, NoMemory>
         ensures empty { IfOk result (λ names. (name : ℕ) → block_named names name ≡ None) }
         ensures room { IfOk result (λ names. names_held names ≡ limit) }
     {
@@ -24,7 +24,7 @@ impl Names {
     }
 
     /// From now on the name stands for this.
-    pub(crate) fn set(&mut self, name: u32, block: Option<Block>)
+    pub fn set(&mut self, name: u32, block: Option<Block>)
         requires { name < names_held self.old }
         ensures names { (n : ℕ) → block_named self.new n ≡ (if name == n then block else block_named self.old n) }
         ensures room { names_held self.new ≡ names_held self.old }
@@ -33,7 +33,7 @@ impl Names {
     }
 
     /// What the name stands for.
-    pub(crate) fn get(&self, name: u32) -> Option<Block>
+    pub fn get(&self, name: u32) -> Option<Block>
         ensures { result ≡ block_named self.now name }
     {
         match self.blocks.get(name as usize) {

@@ -1,13 +1,16 @@
 //! What the report of a region at rest says of the allocator's machine. Each law is the contract of an empty function.
-ghost use Rattle.std.specs.Prelude.{◌≡◌, ◌≢◌, ℕ, not, None};
+ghost use Rattle.std.specs.Prelude.{◌≡◌, ◌≢◌, ◌<◌, ◌+◌, ◌*◌, ℕ, not, true, false, None, Some};
 ghost use Rattle.pas_profile.specs.Profiles.{IsPage, IsValid};
 ghost use Rattle.pas_profile.specs.declared.profile.Profile.{Profile};
+ghost use Rattle.pas_profile.specs.declared.directory.Directory.{Directory};
 ghost use Rattle.pas_machine.specs.State.{backed_in, deed_in};
 ghost use Rattle.pas_steps.specs.Lists.{Legal, Whole, visible};
 ghost use Rattle.pas_steps.specs.States.{profile_of};
+ghost use Rattle.pas_steps.specs.Views.{usable_by_kind};
 ghost use Rattle.pas_steps.specs.declared.state.State.{State};
+ghost use Rattle.pas_core.specs.Rights.{AllClear};
 ghost use Rattle.pas_report.specs.Counts.{AreDeedWords, marked_in, report_by_words};
-ghost use Rattle.pas_report.specs.Reports.{report_text};
+ghost use Rattle.pas_report.specs.Reports.{is_covered, report_text};
 ghost use Rattle.pas_report.specs.Rests.{AreFreeOrCovered, AreStamped, HasWords, NobodyHasRights, NobodyHolds};
 
 /// Where the words of a region are those after a legal list of steps, each page's deed word is 0 or a directory's. Where besides each
@@ -29,4 +32,14 @@ pub fn rights_are_shown()
     ensures { (state : State) (l : Whole) → HasWords state l → IsValid (profile_of state) → Legal (profile_of state) l → NobodyHasRights l
         → (page : ℕ) → IsPage (profile_of state) page → deed_in (visible l) page ≢ None
         → (marked_in state page).parked ≡ not ((marked_in state page).offered) }
+{}
+
+/// When besides no actor holds a grain or owes anything any more, each page is marked as offered on which some grain that blocks of its
+/// directory may cover is not covered. So a report at rest loses no page that has room.
+pub fn room_is_shown()
+    ensures { (state : State) (l : Whole) → HasWords state l → IsValid (profile_of state) → Legal (profile_of state) l
+        → AreFreeOrCovered (profile_of state) l → AllClear (profile_of state) l → NobodyHasRights l
+        → (page : ℕ) → IsPage (profile_of state) page → (d : Directory) → deed_in (visible l) page ≡ Some d
+        → (b : ℕ) → b < 256 → usable_by_kind d.kind b ≡ true → is_covered (visible l) (256 * page + b) ≡ false
+        → (marked_in state page).offered ≡ true }
 {}

@@ -7,6 +7,7 @@ use Rattle.pas_profile.specs.declared.word.Word.TheVariants as Word
 use Rattle.pas_steps.specs.Views.{View, has_right, known_deed, no_usable, all_ones, is_unstamped, owes_check, owes_hint}
 use Rattle.pas_steps.specs.Agreement.{Agreed}
 use Rattle.pas_steps.specs.Past.{Once}
+use Rattle.pas_steps.specs.Rests.{OwesNothing}
 use Rattle.pas_steps.specs.Frames.{AreLooks, OnlyReturns, GivesUp}
 use Rattle.pas_steps.specs.Desks.{Standing, Anything, Adds, made}
 use Rattle.pas_steps.specs.declared.step.Made.{Made}
@@ -144,16 +145,6 @@ pub record LeaveSteps (page : ℕ) (directory : Directory) (steps : List Made) :
   pub steps_are : steps ≡ after ++ looks page answers
 
 -- ---- what is left
--- the actor owes neither a check nor the hint of the page
-pub record OwesNothing (page : ℕ) (v : View) : Type 0 where
-  pub checks : (word : ℕ) → word < 4 → owes_check v page word ≡ false
-  pub hint : owes_hint v page ≡ false
-
--- the actor is clear: no page is unstamped for it, and it owes no check and no hint
-pub record IsClear (v : View) : Type 0 where
-  pub stamped : (page : ℕ) → is_unstamped v page ≡ false
-  pub owes : (page : ℕ) → OwesNothing page v
-
 -- this step gives the right up, and only looks stand before it
 abbrev pub LosesHere : ℕ → Made → List Made → Type 0
 LosesHere page m before = GivesUp page m.step × AreLooks before

@@ -15,7 +15,8 @@ use Rattle.pas_steps.specs.Past.{Once}
 use Rattle.pas_steps.specs.Frames.{IsOnPage, OnlyOn}
 use Rattle.pas_steps.proofs.Adding.{can_call, adds_call, adds_under, agreed_first}
 use Rattle.pas_steps.proofs.Frames.{events_append}
-use Rattle.pas_rights.specs.Rights.{KnowsDeed, OwesNothing}
+use Rattle.pas_rights.specs.Rights.{KnowsDeed}
+use Rattle.pas_steps.specs.Rests.{OwesNothing}
 use Rattle.pas_scan.specs.Evidence.{ReadsEligible, GetsRight, UnfitHere, ShowsHere}
 use Rattle.pas_search.specs.Kinds.{OnlyServes, IsSearch, OnlySearches, deeds_made}
 use Rattle.pas_search.specs.Serving.{Rule, MayServe, FreshAt, GotBefore, LeavesPage, KeepsPage, ServesPage}
@@ -117,6 +118,7 @@ module _ {F : Type 0} (rule : Rule F) (f : Profile) (p : ℕ) (d : Directory) (a
     shows = record {
       readings = keeps.shows.readings;
       fits = keeps.shows.fits;
+      took = keeps.shows.took;
       read = λ before untouched w lt. subst (Once (ShowsHere p w keeps.shows.readings)) (sym (served_on before)) (keeps.shows.read (claimed p d a ++ before) (claimed_got p d a before bit untouched) w lt);
       held = λ v met agreed g at h. keeps.shows.held (claimed p d a ++ v) (claimed_may p d a v bit met) (served_agreed v agreed) g at h;
     };

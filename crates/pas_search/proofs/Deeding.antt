@@ -20,7 +20,7 @@ use Rattle.pas_steps.proofs.Adding.{adds_step, can_call, adds_call, agreed_first
 use Rattle.pas_steps.proofs.Past.{once_later, once_earlier}
 use Rattle.pas_steps.proofs.Frames.{events_append, events_split}
 use Rattle.pas_steps.proofs.Kept.{deed_stays}
-use Rattle.pas_rights.specs.Rights.{OwesNothing, IsClear}
+use Rattle.pas_steps.specs.Rests.{OwesNothing, IsClear}
 use Rattle.pas_scan.specs.Evidence.{ReadsDeed, DeedHere, NoDeedHere, GetsRight, AllDeeds, Searched, ShowsHere}
 use Rattle.pas_scan.specs.Scan.{FindsBare}
 use Rattle.pas_search.specs.Kinds.{IsDeedOrBack, IsSearch, OnlyServes, OnlySearches, AreQuiet, deeds_made}
@@ -200,6 +200,7 @@ module _ {F : Type 0} (rule : Rule F) (f : Profile) (d : Directory) (p : ℕ) (a
         shows = record {
           readings = keeps.shows.readings;
           fits = keeps.shows.fits;
+          took = keeps.shows.took;
           read = λ word lt. subst (Once (ShowsHere p word keeps.shows.readings)) (sym (append_assoc zs first list)) (keeps.shows.read (first ++ list) (got_at list (s.untouched p)) word lt);
           held = λ v met agreed g here h. keeps.shows.held (w v) (may v met agreed) (ok v agreed) g here (s.still.grains v met (agreed_later f v ys list agreed) g ∙ h);
         };

@@ -17,7 +17,7 @@ use Rattle.pas_scan.specs.Evidence.{DeedHere, AllDeeds}
 use Rattle.pas_scan.specs.Scan.{Judges, IsVerdict}
 use Rattle.pas_search.specs.Kinds.{OnlySearches}
 use Rattle.pas_search.specs.Serving.{Rule, IsAntitone}
-use Rattle.pas_rights.specs.Rights.{IsClear}
+use Rattle.pas_steps.specs.Rests.{IsClear}
 use Rattle.pas_search.specs.Searches.{MaySearch, HasRoom, SearchRoom, BareRoom, Searching, SearchesOffered, SearchesBare, IsFound, IsFoundBare, IsServed, IsRefused, Searches}
 use Rattle.pas_search.specs.declared.serving.Served.{Served}
 use Rattle.pas_search.proofs.StepKinds.{room_kept, scans_read, reads_search, searches_append}

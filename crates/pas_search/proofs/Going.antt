@@ -13,7 +13,7 @@ use Rattle.pas_steps.proofs.Adding.{agreed_first, agreed_later}
 use Rattle.pas_steps.proofs.Past.{once_later, once_earlier}
 use Rattle.pas_steps.proofs.Kept.{right_on, right_reads, holds_on_page, holds_reads, check_on, check_reads, hint_on, hint_reads, deed_stays}
 use Rattle.pas_profile.proofs.Codecs.{deed_word_of-positive}
-use Rattle.pas_rights.specs.Rights.{OwesNothing, IsClear}
+use Rattle.pas_steps.specs.Rests.{OwesNothing, IsClear}
 use Rattle.pas_scan.specs.Evidence.{UnfitHere, ZeroHere, LacksAfter, Searched, IsOf}
 use Rattle.pas_scan.specs.Marks.{is_marked}
 use Rattle.pas_search.specs.Kinds.{OnlySearches, deeds_made}

@@ -14,7 +14,7 @@ use Rattle.pas_steps.specs.Desks.{triple, triples}
 use Rattle.pas_steps.specs.Past.{Once, Since}
 use Rattle.pas_steps.specs.declared.step.Step.{Step}
 use Rattle.pas_steps.specs.declared.step.Made.{Made}
-use Rattle.pas_steps.specs.declared.step.Step.TheVariants.{Look, Deed, Back, Take, Put, Give, End, TakeRight, Offer, Park, Unpark, Stamp, Hint}
+use Rattle.pas_steps.specs.declared.step.Step.TheVariants.{Look, Deed, Back, Take, Put, Give, End, TakeRight, Offer, Park, Unpark, Stamp, Hint, Tick, Unback, Unhint}
 use Rattle.pas_steps.proofs.Parts.{part_of_own}
 use Rattle.pas_core.specs.Good.{Place, Held, is_free, is_held_by, IsPlacedOnce}
 use Rattle.pas_core.proofs.DeedWords.{looked, deed_kept, deed_was_none}
@@ -233,6 +233,9 @@ deed_step w e (Park q) a p is quiet = refl
 deed_step w e (Unpark q) a p is quiet = refl
 deed_step w e (Stamp q) a p is quiet = refl
 deed_step w e (Hint q) a p is quiet = refl
+deed_step w e (Tick raised) a p is quiet = refl
+deed_step w e (Unback q) a p is quiet = refl
+deed_step w e (Unhint q) a p is quiet = refl
 
 -- without events it stays as it was
 pub deed_quiet : (f : Profile) (k : ℕ) (l : Whole) (p : ℕ) (xs : List Made) → Legal f (triples k xs ++ l) → AreQuiet xs → word_after (triples k xs ++ l) (Word.Deed p) ≡ word_after l (Word.Deed p)

@@ -17,7 +17,7 @@ use Rattle.pas_steps.specs.Desks.{triple, triples}
 use Rattle.pas_steps.specs.Past.{Once, Always}
 use Rattle.pas_steps.specs.declared.step.Step.{Step}
 use Rattle.pas_steps.specs.declared.step.Made.{Made}
-use Rattle.pas_steps.specs.declared.step.Step.TheVariants.{Look, Deed, Back, Take, Put, Give, End, TakeRight, Offer, Park, Unpark, Stamp, Hint}
+use Rattle.pas_steps.specs.declared.step.Step.TheVariants.{Look, Deed, Back, Take, Put, Give, End, TakeRight, Offer, Park, Unpark, Stamp, Hint, Tick, Unback, Unhint}
 use Rattle.pas_steps.proofs.Kept.{deed_stays}
 use Rattle.pas_steps.proofs.Parts.{part_of_own, part_of_others}
 use Rattle.pas_core.specs.Rights.{eligible_bit}
@@ -58,6 +58,9 @@ right_way (Park q) a p had = moved_if (q == p) had ToParked
 right_way (Unpark q) a p had = moved_if ((q == p) && has_bit a (p % 64)) had FromParked
 right_way (Stamp q) a p had = refl
 right_way (Hint q) a p had = refl
+right_way (Tick raised) a p had = refl
+right_way (Unback q) a p had = refl
+right_way (Unhint q) a p had = refl
 
 -- a right that the call's own steps tell is one of the view
 more_right : (w : Way) (own had : Bool) → (own ≡ true → had ≡ true) → had_after w own ≡ true → had_after w had ≡ true
@@ -82,7 +85,7 @@ stays_put k FromParked o lacks suits not_with = absurd (true≢false lacks)
 stays_put k (ToOffer n) o lacks suits not_with = absurd (not_with suits)
 stays_put k ToParked o lacks suits not_with = absurd (not_with suits)
 
-is_with_own : (k : ℕ) → is_with k (With k) ≡ true
+pub is_with_own : (k : ℕ) → is_with k (With k) ≡ true
 is_with_own k = eq-eqb k k refl
 
 not_with : (l : Whole) (k p : ℕ) → IsSpotted l p → has_right (part k l) p ≡ false → spot_of l p ≡ With k → ⊥
@@ -166,6 +169,9 @@ gains_known f v (Unpark q) a p allowed h =
     λ z. allowed (ap (known_deed v) (eqb-true q p parts.0) ∙ z)
 gains_known f v (Stamp q) a p allowed h = absurd (false≢true h)
 gains_known f v (Hint q) a p allowed h = absurd (false≢true h)
+gains_known f v (Tick raised) a p allowed h = absurd (false≢true h)
+gains_known f v (Unback q) a p allowed h = absurd (false≢true h)
+gains_known f v (Unhint q) a p allowed h = absurd (false≢true h)
 
 own_known : (f : Profile) (v : View) (m : Made) (p : ℕ) → Allowed f v m.step → Agrees f v m.step m.answer → (has_right v p ≡ true → known_deed v p ≢ 0) → (had : Bool) → has_right v p ≡ had → right_after m.step m.answer p had ≡ true → known_deed (m ∷ v) p ≢ 0
 own_known f v m p allowed agrees known true e h = λ z. known e (sym (deed_stays f (m ∷ []) v p (agrees, tt) (known e)) ∙ z)
@@ -217,7 +223,7 @@ had_then f k l p j (m ∷ xs) legal ne (inl h) there =
     (ap (λ v. has_right v p) (part_of_others j k xs l ne) ∙ there))
 
 -- the page has a deed, and is neither offered nor parked, so some actor has its right
-in_hands : (o : Spot) (word : ℕ) → DeedFits o word → word ≢ 0 → is_on_offer o ≡ false → is_parked o ≡ false → (j : ℕ) × (o ≡ With j)
+pub in_hands : (o : Spot) (word : ℕ) → DeedFits o word → word ≢ 0 → is_on_offer o ≡ false → is_parked o ≡ false → (j : ℕ) × (o ≡ With j)
 in_hands Nowhere word fits some offer parked = absurd (some fits)
 in_hands (With j) word fits some offer parked = (j, refl)
 in_hands (Offered n) word fits some offer parked = absurd (true≢false offer)

@@ -6,7 +6,7 @@ use Rattle.pas_profile.specs.declared.word.Word.{Word}
 use Rattle.pas_profile.specs.declared.event.Event.{Event}
 use Rattle.pas_steps.specs.declared.step.Made.{Made}
 use Rattle.pas_steps.specs.declared.step.Step.{Step}
-use Rattle.pas_steps.specs.declared.step.Step.TheVariants.{Look, Deed, Back, Take, Put, Give, End, TakeRight, Offer, Park, Unpark, Stamp, Hint}
+use Rattle.pas_steps.specs.declared.step.Step.TheVariants.{Look, Deed, Back, Take, Put, Give, End, TakeRight, Offer, Park, Unpark, Stamp, Hint, Tick, Unback, Unhint}
 use Rattle.pas_steps.specs.Views.{View, right_after, has_right, unstamped_after, is_unstamped, epoch_of}
 use Rattle.pas_steps.specs.Events.{with_event, events_of, events_by}
 use Rattle.pas_steps.specs.Past.{Always}
@@ -157,6 +157,9 @@ quiet_deed (Park q) a h = refl
 quiet_deed (Unpark q) a h = refl
 quiet_deed (Stamp q) a h = refl
 quiet_deed (Hint q) a h = refl
+quiet_deed (Tick raised) a h = refl
+quiet_deed (Unback q) a h = refl
+quiet_deed (Unhint q) a h = refl
 
 abbrev pub MakesNone : List Made → Type 0
 MakesNone = Always (λ m before. makes_deed m.step m.answer ≡ false)

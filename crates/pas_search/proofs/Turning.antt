@@ -18,7 +18,7 @@ use Rattle.pas_scan.specs.Scan.{FindsOffered}
 use Rattle.pas_scan.proofs.Reading.{right_scans}
 use Rattle.pas_search.specs.Kinds.{AreQuiet}
 use Rattle.pas_search.specs.Serving.{Rule}
-use Rattle.pas_rights.specs.Rights.{IsClear}
+use Rattle.pas_steps.specs.Rests.{IsClear}
 use Rattle.pas_search.specs.Searches.{MaySearch, OfferedHere, Searching, GoesOn, MayTry, IsTried, FitsPage, TriesPage, IsFound, TriesNext, SearchesOffered}
 use Rattle.pas_search.specs.declared.trying.Tried.{Tried}
 use Rattle.pas_search.specs.declared.trying.Tried.TheVariants.{Lost, Unfit, Fits}
@@ -130,6 +130,7 @@ module _ {F : Type 0} (rule : Rule F) {σ σ1 : Standing} (d : Directory) (next 
         shows = record {
           readings = fit.shows.readings;
           fits = fit.shows.fits;
+          took = fit.shows.took;
           read = fit.shows.read xs (s.untouched page);
           held = λ v met agreed g at h. fit.shows.held (xs ++ v) (may v met agreed) (first v agreed) g at (s.still.grains v met (agreed_later f v try.steps xs agreed) g ∙ h);
         };

@@ -6,7 +6,7 @@ use Rattle.pas_steps.specs.Past.{Always}
 use Rattle.pas_steps.specs.Events.{event_of}
 use Rattle.pas_steps.specs.declared.step.Step.{Step}
 use Rattle.pas_steps.specs.declared.step.Made.{Made}
-use Rattle.pas_steps.specs.declared.step.Step.TheVariants.{Look, Deed, Back, Take, Put, Give, End, TakeRight, Offer, Park, Unpark, Stamp, Hint}
+use Rattle.pas_steps.specs.declared.step.Step.TheVariants.{Look, Deed, Back, Take, Put, Give, End, TakeRight, Offer, Park, Unpark, Stamp, Hint, Tick, Unback, Unhint}
 
 -- what a back end may do on a page whose right was got: it makes no deed, claims nothing, stamps nothing, gives and ends no block
 pub data IsServe (page : ℕ) : Step → Type 0 where
@@ -70,6 +70,9 @@ makes_deed (Park page) a = false
 makes_deed (Unpark page) a = false
 makes_deed (Stamp page) a = false
 makes_deed (Hint page) a = false
+makes_deed (Tick raised) a = false
+makes_deed (Unback page) a = false
+makes_deed (Unhint page) a = false
 
 -- how many deeds were made
 abbrev pub deeds_made : List Made → ℕ

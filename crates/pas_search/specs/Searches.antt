@@ -14,7 +14,8 @@ use Rattle.pas_steps.specs.Past.{Once, Always}
 use Rattle.pas_steps.specs.Frames.{OnlyOn, OnlyReads}
 use Rattle.pas_steps.specs.declared.step.Made.{Made}
 use Rattle.pas_steps.specs.declared.step.Step.TheVariants.{Deed}
-use Rattle.pas_rights.specs.Rights.{KnowsDeed, OwesNothing, IsClear}
+use Rattle.pas_rights.specs.Rights.{KnowsDeed}
+use Rattle.pas_steps.specs.Rests.{OwesNothing, IsClear}
 use Rattle.pas_scan.specs.Marks.{is_marked}
 use Rattle.pas_scan.specs.Evidence.{Readings, ShowsHere, ZeroHere, OneHere, UnfitHere, Searched, AllDeeds, Accounted, HeldHere, LacksAfter, IsOf}
 use Rattle.pas_search.specs.Kinds.{OnlySearches, AreQuiet, EventsAt, deeds_made}
@@ -91,10 +92,12 @@ pub record ByDeed {F : Type 0} (rule : Rule F) (f : Profile) (d : Directory) (pa
   pub made_here : Once (DeedMadeHere rule f d page) steps
   pub one_deed : deeds_made steps ≡ 1
 
--- Each free word of the page was read with its right, and the readings show a fit. A grain that the actor held before the call isn't read as free.
-pub record IsShownFit (no_fit : Readings → Type 0) (f : Profile) (d : Directory) (page : ℕ) (steps : List Made) : Type 0 where
+-- Each free word of the page was read with its right, and the readings show a fit. What is kept was read as free, and a grain that the actor held before
+-- the call wasn't.
+pub record IsShownFit (no_fit : Readings → Type 0) (kept : ℕ → Bool) (f : Profile) (d : Directory) (page : ℕ) (steps : List Made) : Type 0 where
   pub readings : Readings
   pub fits : no_fit readings → ⊥
+  pub took : (b : ℕ) → b < 256 → kept b ≡ true → readings b ≡ true
   pub read : (word : ℕ) → word < 4 → Once (ShowsHere page word readings) steps
   pub held : (v : View) → MaySearch d v → Agreed f v steps → (g : ℕ) → g / 256 ≡ page → holds v g ≡ true → readings (g % 256) ≡ false
 
@@ -106,7 +109,7 @@ pub record IsServed {F : Type 0} (rule : Rule F) (f : Profile) (d : Directory) (
   pub page : IsPage f served.page
   pub keeps : Keeps rule f d served.page served.found steps
   pub choice : FromOffered rule d served.page steps ⊎ ByDeed rule f d served.page steps
-  pub shows : IsShownFit rule.no_fit f d served.page steps
+  pub shows : IsShownFit rule.no_fit (rule.kept served.found) f d served.page steps
   pub serves : rule.serves served.page steps served.found
   pub few : FewEvents f d rule.events steps
   pub events : EventsAt d served.page steps
@@ -203,7 +206,7 @@ pub record FitsPage {F : Type 0} (rule : Rule F) (f : Profile) (page : ℕ) (d :
   pub grains : (v : View) → MayTry page d v → Agreed f v steps → (g : ℕ) → g / 256 ≡ page → holds (steps ++ v) g ≡ (rule.kept found (g % 256) || holds v g)
   pub owes : (v : View) → MayTry page d v → Agreed f v steps → OwesNothing page (steps ++ v)
   pub backed : (v : View) → MayTry page d v → Agreed f v steps → knows_backed (steps ++ v) page ≡ true
-  pub shows : ShowsFit rule.no_fit f page (IsUntouched page) (MayTry page d) steps
+  pub shows : ShowsFit rule.no_fit (rule.kept found) f page (IsUntouched page) (MayTry page d) steps
   pub serves : (before : List Made) → IsUntouched page before → rule.serves page (steps ++ before) found
   pub few : (k : ℕ) (v : View) → length (events_by k v steps) ≤ rule.events
   pub events : EventsAt d page steps
@@ -227,7 +230,7 @@ pub record IsFound {F : Type 0} (rule : Rule F) (f : Profile) (d : Directory) (s
   pub keeps : Keeps rule f d served.page served.found steps
   pub searches : OnlySearches steps
   pub first : FromOffered rule d served.page steps
-  pub shows : IsShownFit rule.no_fit f d served.page steps
+  pub shows : IsShownFit rule.no_fit (rule.kept served.found) f d served.page steps
   pub serves : rule.serves served.page steps served.found
   pub few : (k : ℕ) (v : View) → length (events_by k v steps) ≤ rule.events
   pub events : EventsAt d served.page steps
@@ -254,7 +257,7 @@ pub record IsFoundBare {F : Type 0} (rule : Rule F) (f : Profile) (d : Directory
   pub keeps : Keeps rule f d served.page served.found steps
   pub searches : OnlySearches steps
   pub deed : ByDeed rule f d served.page steps
-  pub shows : IsShownFit rule.no_fit f d served.page steps
+  pub shows : IsShownFit rule.no_fit (rule.kept served.found) f d served.page steps
   pub serves : rule.serves served.page steps served.found
   pub few : FewEvents f d rule.events steps
   pub events : EventsAt d served.page steps

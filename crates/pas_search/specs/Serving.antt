@@ -8,7 +8,8 @@ use Rattle.pas_steps.specs.Agreement.{Agreed}
 use Rattle.pas_steps.specs.Desks.{Standing, Adds}
 use Rattle.pas_steps.specs.Past.{Once}
 use Rattle.pas_steps.specs.declared.step.Made.{Made}
-use Rattle.pas_rights.specs.Rights.{KnowsDeed, OwesNothing}
+use Rattle.pas_rights.specs.Rights.{KnowsDeed}
+use Rattle.pas_steps.specs.Rests.{OwesNothing}
 use Rattle.pas_scan.specs.Evidence.{Readings, ShowsHere, GetsHere, UnfitHere}
 use Rattle.pas_search.specs.Kinds.{OnlyServes, AreQuiet}
 
@@ -55,11 +56,12 @@ pub record GotBefore (page : ℕ) (before : List Made) : Type 0 where
   pub newest : IsJustGot page before
 
 -- ---- what it promises
--- Each free word was read with the right, whatever list that meets the one condition stood before, and the readings show a fit. A grain that
--- the actor held in a view that meets the other isn't read as free.
-pub record ShowsFit (no_fit : Readings → Type 0) (f : Profile) (page : ℕ) (Before : List Made → Type 0) (Meets : View → Type 0) (steps : List Made) : Type 0 where
+-- Each free word was read with the right, whatever list that meets the one condition stood before, and the readings show a fit. What is kept was
+-- read as free. A grain that the actor held in a view that meets the other isn't read as free.
+pub record ShowsFit (no_fit : Readings → Type 0) (kept : ℕ → Bool) (f : Profile) (page : ℕ) (Before : List Made → Type 0) (Meets : View → Type 0) (steps : List Made) : Type 0 where
   pub readings : Readings
   pub fits : no_fit readings → ⊥
+  pub took : (b : ℕ) → b < 256 → kept b ≡ true → readings b ≡ true
   pub read : (before : List Made) → Before before → (word : ℕ) → word < 4 → Once (ShowsHere page word readings) (steps ++ before)
   pub held : (v : View) → Meets v → Agreed f v steps → (g : ℕ) → g / 256 ≡ page → holds v g ≡ true → readings (g % 256) ≡ false
 
@@ -81,7 +83,7 @@ pub record KeepsPage {Found : Type 0} (rule : Rule Found) (f : Profile) (page : 
   pub grains : (v : View) → MayServe page d v → Agreed f v steps → (g : ℕ) → g / 256 ≡ page → holds (steps ++ v) g ≡ (rule.kept found (g % 256) || holds v g)
   pub owes : (v : View) → MayServe page d v → Agreed f v steps → OwesNothing page (steps ++ v)
   pub backed : (v : View) → MayServe page d v → Agreed f v steps → knows_backed (steps ++ v) page ≡ true
-  pub shows : ShowsFit rule.no_fit f page (GotBefore page) (MayServe page d) steps
+  pub shows : ShowsFit rule.no_fit (rule.kept found) f page (GotBefore page) (MayServe page d) steps
   pub serves : (before : List Made) → GotBefore page before → rule.serves page (steps ++ before) found
 
 -- the steps of one call of a back end on the page

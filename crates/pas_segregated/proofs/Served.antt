@@ -38,7 +38,7 @@ or_true : (t : Bool) → (t || true) ≡ true
 or_true true = refl
 or_true false = refl
 
-any_at : (n k : ℕ) (p : ℕ → Bool) → k < n → p k ≡ true → any_below n p ≡ true
+pub any_at : (n k : ℕ) (p : ℕ → Bool) → k < n → p k ≡ true → any_below n p ≡ true
 unfolding any_below
 any_at zero k p lt h = absurd (omega (arith, lt))
 any_at (suc n) k p lt h = elim (cases_eq k n) [
@@ -46,7 +46,7 @@ any_at (suc n) k p lt h = elim (cases_eq k n) [
   | inr ne ↦ ap (λ t. p n || t) (any_at n k p (omega (arith, lt, ne)) h) ∙ or_true (p n)
 ]
 
-at_most_one : (t : Bool) (e : Event) (es : List Event) → es ≡ [] → length (with_event (if t then Some e else None) es) ≤ 1
+pub at_most_one : (t : Bool) (e : Event) (es : List Event) → es ≡ [] → length (with_event (if t then Some e else None) es) ≤ 1
 at_most_one true e es h = let none : length es ≡ 0 = ap length h in omega (arith, none)
 at_most_one false e es h = let none : length es ≡ 0 = ap length h in omega (arith, none)
 
@@ -134,6 +134,7 @@ module _ (class page : ℕ) (d : Directory) (is : IsClass class) (starts : Mask4
         shows = record {
           readings = taken.readings;
           fits = λ none. none some.0 first_slot_is ((taken.are some.0).0 some.2).1;
+          took = λ b lt kept. let at = start_below class b is in ((taken.are (start_of class b)).0 kept).1 b lt at.0 at.1;
           read = λ before met w lt. inr (since_once (ShowsHere page w taken.readings) (KeptHere page) (taken.steps ++ before) (taken.read before met w lt));
           held = λ v met agreed g at held. taken.held v agreed.1 g at held;
         };

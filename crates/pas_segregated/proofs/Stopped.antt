@@ -11,10 +11,11 @@ use Rattle.pas_steps.specs.Desks.{Seat, Standing, Adds}
 use Rattle.pas_steps.specs.declared.step.Made.{Made}
 use Rattle.pas_steps.proofs.Adding.{adds_call, adds_under, agreed_first, agreed_later}
 use Rattle.pas_steps.proofs.Kept.{right_on, check_on, hint_on, unstamped_on, returns_on, returns_still, holds_still, holds_on_still, backed_returns, deed_stays}
-use Rattle.pas_rights.specs.Rights.{IsClear, MayLeave, Leaves, OwesNothing}
+use Rattle.pas_rights.specs.Rights.{MayLeave, Leaves}
+use Rattle.pas_steps.specs.Rests.{IsClear, OwesNothing}
 use Rattle.pas_search.proofs.StepKinds.{serves_on, on_append, quiet_append, quiet_still}
 use Rattle.pas_segregated.specs.Returns.{on_page, MayGiveBack, GivesBack}
-use Rattle.pas_segregated.specs.Stops.{directory_of, in_slots, AreGrains, MayStop, LeavesWhere, Stops}
+use Rattle.pas_segregated.specs.Stops.{in_slots, AreGrains, MayStopAt, LeavesWhere, StopsAt}
 use Rattle.pas_segregated.specs.declared.slots.Slots.{Slots}
 
 -- an actor that was clear is so again after steps on one page, where it owes nothing
@@ -27,21 +28,18 @@ clear_on page steps v on clear owes = record {
   ];
 }
 
-module _ (slots : Slots) (mask : Mask4) (are : AreGrains slots mask) where
+module _ (d : Directory) (slots : Slots) (mask : Mask4) (are : AreGrains slots mask) where
   abbrev page : ℕ
   page = slots.page
-
-  abbrev d : Directory
-  d = directory_of slots
 
   in_mask_of : (g : ℕ) → on_page page mask g ≡ in_slots slots g
   in_mask_of g = ap (λ t. (page == g / 256) && t) (are (g % 256) (omega arith))
 
-  pub may_give_back : (v : View) → MayStop slots v → MayGiveBack page d mask v
+  pub may_give_back : (v : View) → MayStopAt d slots v → MayGiveBack page d mask v
   may_give_back v met = record { deed = met.deed; puts = record { held = λ g here. met.held g (sym (in_mask_of g) ∙ here); stamped = met.clear.stamped page } }
 
   module _ {σ σ1 : Standing} (back : GivesBack page d mask σ σ1) where
-    pub back_adds : Adds σ σ1 (λ v l. MayStop slots v) back.steps
+    pub back_adds : Adds σ σ1 (λ v l. MayStopAt d slots v) back.steps
     back_adds = adds_under back.adds (λ v l stood met. may_give_back v met)
 
     back_on : OnlyOn page back.steps
@@ -50,14 +48,14 @@ module _ (slots : Slots) (mask : Mask4) (are : AreGrains slots mask) where
     back_grains : (v : View) (g : ℕ) → holds (back.steps ++ v) g ≡ (not (in_slots slots g) && holds v g)
     back_grains v g = back.grains v g ∙ ap (λ t. not t && holds v g) (in_mask_of g)
 
-    pub may_leave : (v : View) → MayStop slots v → Agreed σ.seat.profile v back.steps → slots.right ≡ true → MayLeave page d (back.steps ++ v)
+    pub may_leave : (v : View) → MayStopAt d slots v → Agreed σ.seat.profile v back.steps → slots.right ≡ true → MayLeave page d (back.steps ++ v)
     may_leave v met agreed right = record {
       right = back.rights v agreed page ∙ met.right right;
       deed = deed_stays σ.seat.profile back.steps v page agreed (λ z. deed_word_of-positive d (sym met.deed ∙ z)) ∙ met.deed;
     }
 
     -- the slots had no right
-    pub stops_without : slots.right ≡ false → Stops slots σ σ1
+    pub stops_without : slots.right ≡ false → StopsAt d slots σ σ1
     stops_without none = record {
       steps = back.steps;
       adds = back_adds;
@@ -103,7 +101,7 @@ module _ (slots : Slots) (mask : Mask4) (are : AreGrains slots mask) where
           let on_back : holds_on (back.steps ++ v) q ≡ true = sym (holds_on_still q left.steps (back.steps ++ v) (returns_still page left.steps left.returns)) ∙ (ap (λ s. holds_on s q) (sym (all_at v)) ∙ on) in
           ap (λ s. knows_backed s q) (all_at v) ∙ backed_returns σ1.seat.profile page q left.steps (back.steps ++ v) left.returns (left_agreed v agreed) (back.backed v q (back_agreed v agreed) h on_back)
 
-      pub stops_with : Stops slots σ σ2
+      pub stops_with : StopsAt d slots σ σ2
       stops_with = record {
         steps = all;
         adds = adds_call back_adds left.adds (λ v l stood met. may_leave v met (back_adds.agreed v l stood met) has);

@@ -1,5 +1,5 @@
 -- A refill.
-use Rattle.std.specs.Prelude.{ℕ, ◌≡◌, ◌==◌, Bool, true, ◌||◌, ◌⊎◌, if◌then◌else◌, List, ◌++◌, Result, Ok, Err, IfOk}
+use Rattle.std.specs.Prelude.{ℕ, ◌≡◌, ◌==◌, Bool, true, false, ◌||◌, ◌⊎◌, if◌then◌else◌, List, ◌++◌, Result, Ok, Err, IfOk}
 use Rattle.pas_profile.specs.Profiles.{IsPage}
 use Rattle.pas_profile.specs.declared.directory.Directory.{Directory}
 use Rattle.pas_profile.specs.declared.profile.Profile.{Profile}
@@ -9,7 +9,7 @@ use Rattle.pas_steps.specs.Views.{View, holds, has_right, knows_backed}
 use Rattle.pas_steps.specs.Agreement.{Agreed}
 use Rattle.pas_steps.specs.Desks.{Standing}
 use Rattle.pas_steps.specs.declared.step.Made.{Made}
-use Rattle.pas_rights.specs.Rights.{IsClear}
+use Rattle.pas_steps.specs.Rests.{IsClear}
 use Rattle.pas_scan.specs.Evidence.{IsOf}
 use Rattle.pas_search.specs.Kinds.{EventsAt}
 use Rattle.pas_search.specs.Searches.{MaySearch, FromOffered, ByDeed, FewEvents, Searches}
@@ -27,8 +27,8 @@ abbrev pub answer_of : ℕ → ℕ → Result (Served Mask4) NoRoom → Result S
 answer_of heap class (Ok served) = Ok (slots_found heap class served)
 answer_of heap class (Err room) = Err room
 
--- The slots are of a page of the directory, and are those that the takes of this page got whole. Their grains are held besides what was held, and
--- the page's right is the actor's besides what it had. The actor is clear, it knows the page as backed and of the directory, and what it knew as
+-- The slots are of a page of the directory, and are those that the takes of this page got whole. Their grains are held besides what was held, of
+-- which they were none, and the page's right is the actor's besides what it had. The actor is clear, it knows the page as backed and of the directory, and what it knew as
 -- backed it still knows so. The slots may be stopped from then on. The page is the lowest offered one that has a free slot, or the lowest
 -- without a deed; one event backs it, and one more makes its deed.
 pub record GivesSlots (f : Profile) (d : Directory) (steps : List Made) (slots : Slots) : Type 0 where
@@ -39,6 +39,7 @@ pub record GivesSlots (f : Profile) (d : Directory) (steps : List Made) (slots :
   pub some : IsSome slots.starts
   pub took : TookSlots slots.class slots.page steps slots.starts
   pub grains : (v : View) → MaySearch d v → Agreed f v steps → (g : ℕ) → holds (steps ++ v) g ≡ (in_slots slots g || holds v g)
+  pub apart : (v : View) → MaySearch d v → Agreed f v steps → (g : ℕ) → in_slots slots g ≡ true → holds v g ≡ false
   pub rights : (v : View) → MaySearch d v → Agreed f v steps → (p : ℕ) → has_right (steps ++ v) p ≡ (if slots.page == p then true else has_right v p)
   pub clear : (v : View) → MaySearch d v → Agreed f v steps → IsClear (steps ++ v)
   pub known : (v : View) → MaySearch d v → Agreed f v steps → (knows_backed (steps ++ v) slots.page ≡ true) × IsOf d slots.page (steps ++ v)

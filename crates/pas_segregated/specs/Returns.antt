@@ -10,7 +10,8 @@ use Rattle.pas_steps.specs.Frames.{KeepsRight}
 use Rattle.pas_steps.specs.Desks.{Standing, Adds, made}
 use Rattle.pas_steps.specs.declared.step.Made.{Made}
 use Rattle.pas_steps.specs.declared.step.Step.TheVariants.{Put}
-use Rattle.pas_rights.specs.Rights.{KnowsDeed, ReturnSteps, OwesNothing}
+use Rattle.pas_rights.specs.Rights.{KnowsDeed, ReturnSteps}
+use Rattle.pas_steps.specs.Rests.{OwesNothing}
 use Rattle.pas_search.specs.Kinds.{OnlyServes, AreQuiet}
 use Rattle.pas_segregated.specs.Masks.{IsEmpty, IsSome}
 

@@ -9,7 +9,8 @@ use Rattle.pas_steps.specs.Agreement.{Agreed}
 use Rattle.pas_steps.specs.Frames.{OnlyOn}
 use Rattle.pas_steps.specs.Desks.{Standing, Adds}
 use Rattle.pas_steps.specs.declared.step.Made.{Made}
-use Rattle.pas_rights.specs.Rights.{IsClear, KnowsDeed, LeaveSteps}
+use Rattle.pas_rights.specs.Rights.{KnowsDeed, LeaveSteps}
+use Rattle.pas_steps.specs.Rests.{IsClear}
 use Rattle.pas_search.specs.Kinds.{AreQuiet}
 use Rattle.pas_segregated.specs.Masks.{start_of}
 use Rattle.pas_segregated.specs.Returns.{BackSteps}
@@ -31,10 +32,10 @@ abbrev pub AreGrains : Slots → Mask4 → Type 0
 AreGrains slots mask = (g : ℕ) → g < 256 → is_set mask g ≡ is_set slots.starts (start_of slots.class g)
 
 -- The actor is clear, it holds the grains of the slots and knows the deed of their page. It has the page's right where the slots say so.
-pub record MayStop (slots : Slots) (v : View) : Type 0 where
+pub record MayStopAt (d : Directory) (slots : Slots) (v : View) : Type 0 where
   pub clear : IsClear v
   pub held : (g : ℕ) → in_slots slots g ≡ true → holds v g ≡ true
-  pub deed : KnowsDeed slots.page (directory_of slots) v
+  pub deed : KnowsDeed slots.page d v
   pub right : slots.right ≡ true → has_right v slots.page ≡ true
 
 -- the page is left where its right came with the slots
@@ -43,25 +44,35 @@ LeavesWhere true page d steps = LeaveSteps page d steps
 LeavesWhere false page d steps = steps ≡ []
 
 -- the grains are put back, and then the page is left
-pub record StopSteps (slots : Slots) (steps : List Made) : Type 0 where
+pub record StopStepsAt (d : Directory) (slots : Slots) (steps : List Made) : Type 0 where
   pub mask : Mask4
   pub grains : AreGrains slots mask
   pub back : List Made
-  pub puts : BackSteps slots.page (directory_of slots) mask back
+  pub puts : BackSteps slots.page d mask back
   pub left : List Made
-  pub leaves : LeavesWhere slots.right slots.page (directory_of slots) left
+  pub leaves : LeavesWhere slots.right slots.page d left
   pub steps_are : steps ≡ left ++ back
 
 -- The grains of the slots and the right that came with them are gone. All else is held and had as before, the actor is clear, what it knew of
 -- deeds it still knows, and so it does of backed pages of which it holds a grain. No event was made.
-pub record Stops (slots : Slots) (desk desk' : Standing) : Type 0 where
+pub record StopsAt (d : Directory) (slots : Slots) (desk desk' : Standing) : Type 0 where
   pub steps : List Made
-  pub adds : Adds desk desk' (λ v l. MayStop slots v) steps
-  pub order : StopSteps slots steps
+  pub adds : Adds desk desk' (λ v l. MayStopAt d slots v) steps
+  pub order : StopStepsAt d slots steps
   pub on : OnlyOn slots.page steps
   pub quiet : AreQuiet steps
   pub grains : (v : View) (g : ℕ) → holds (steps ++ v) g ≡ (not (in_slots slots g) && holds v g)
   pub rights : (v : View) → Agreed desk.seat.profile v steps → (q : ℕ) → has_right (steps ++ v) q ≡ (not (slots.right && (slots.page == q)) && has_right v q)
-  pub clear : (v : View) → MayStop slots v → Agreed desk.seat.profile v steps → IsClear (steps ++ v)
+  pub clear : (v : View) → MayStopAt d slots v → Agreed desk.seat.profile v steps → IsClear (steps ++ v)
   pub deeds : (v : View) (q : ℕ) → Agreed desk.seat.profile v steps → known_deed v q ≢ 0 → known_deed (steps ++ v) q ≡ known_deed v q
   pub backed : (v : View) (q : ℕ) → Agreed desk.seat.profile v steps → knows_backed v q ≡ true → holds_on (steps ++ v) q ≡ true → knows_backed (steps ++ v) q ≡ true
+
+-- the same of exclusive pages
+abbrev pub MayStop : Slots → View → Type 0
+MayStop slots v = MayStopAt (directory_of slots) slots v
+
+abbrev pub Stops : Slots → Standing → Standing → Type 0
+Stops slots desk desk' = StopsAt (directory_of slots) slots desk desk'
+
+abbrev pub StopSteps : Slots → List Made → Type 0
+StopSteps slots steps = StopStepsAt (directory_of slots) slots steps

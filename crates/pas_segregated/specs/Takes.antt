@@ -12,8 +12,8 @@ use Rattle.pas_steps.specs.Frames.{KeepsRight}
 use Rattle.pas_steps.specs.Desks.{Standing, Adds, made}
 use Rattle.pas_steps.specs.declared.step.Made.{Made}
 use Rattle.pas_steps.specs.declared.step.Step.{Step}
-use Rattle.pas_steps.specs.declared.step.Step.TheVariants.{Look, Deed, Back, Take, Put, Give, End, TakeRight, Offer, Park, Unpark, Stamp, Hint}
-use Rattle.pas_rights.specs.Rights.{OwesNothing}
+use Rattle.pas_steps.specs.declared.step.Step.TheVariants.{Look, Deed, Back, Take, Put, Give, End, TakeRight, Offer, Park, Unpark, Stamp, Hint, Tick, Unback, Unhint}
+use Rattle.pas_steps.specs.Rests.{OwesNothing}
 use Rattle.pas_scan.specs.Evidence.{Readings, ShowsHere, KeptHere}
 use Rattle.pas_search.specs.Kinds.{OnlyServes, AreQuiet}
 use Rattle.pas_search.specs.Serving.{Rule, MayServe, FreshAt, IsJustGot, GotBefore, IsAntitone}
@@ -80,6 +80,9 @@ gets_right page (Park p) a = false
 gets_right page (Unpark p) a = false
 gets_right page (Stamp p) a = false
 gets_right page (Hint p) a = false
+gets_right page (Tick raised) a = false
+gets_right page (Unback p) a = false
+gets_right page (Unhint p) a = false
 
 -- this step got none
 abbrev pub GetsNoneHere : ℕ → Made → List Made → Type 0
@@ -100,6 +103,9 @@ is_take_of page (Park p) = false
 is_take_of page (Unpark p) = false
 is_take_of page (Stamp p) = false
 is_take_of page (Hint p) = false
+is_take_of page (Tick raised) = false
+is_take_of page (Unback p) = false
+is_take_of page (Unhint p) = false
 
 -- how many takes of the page were made since its right was got last, or in all where it never was
 abbrev pub takes_since : ℕ → List Made → ℕ

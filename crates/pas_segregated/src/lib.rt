@@ -10,5 +10,5 @@ mod stopping;
 mod taking;
 
 pub use refilling::refill;
-pub use slots::Slots;
-pub use stopping::stop;
+pub use slots::{Slots, whole_slots};
+pub use stopping::{stop, stop_on};

@@ -1,12 +1,14 @@
 //! Slots are given up.
 ghost use Rattle.std.specs.Prelude.{◌≡◌};
+ghost use Rattle.pas_profile.specs.Classes.{IsClass};
 ghost use Rattle.pas_profile.specs.Profiles.{IsPage, IsDirectoryOf};
 ghost use Rattle.pas_steps.specs.Desks.{CanCall};
 ghost use Rattle.pas_segregated.specs.Masks.{AreStarts};
-ghost use Rattle.pas_segregated.specs.Stops.{directory_of, MayStop, Stops};
+ghost use Rattle.pas_segregated.specs.Stops.{directory_of, MayStop, MayStopAt, Stops, StopsAt};
 
 use crate::putting::give_back;
 use crate::slots::{Slots, covered};
+use pas_profile::Directory;
 use pas_rights::leave;
 use pas_steps::Desk;
 
@@ -22,6 +24,19 @@ pub fn stop<D: Desk>(desk: &mut D, slots: Slots)
     ensures home { D.home desk.new ≡ D.home desk.old }
 {
     let directory = slots.directory();
+    stop_on(desk, slots, directory);
+}
+
+/// The same for slots of a page of any directory.
+pub fn stop_on<D: Desk>(desk: &mut D, slots: Slots, directory: Directory)
+    requires page { IsPage (D.standing desk.old).seat.profile slots.page }
+    requires directory { IsDirectoryOf (D.standing desk.old).seat.profile directory }
+    requires class { IsClass slots.class }
+    requires starts { AreStarts slots.class slots.starts }
+    requires can { CanCall (D.standing desk.old) (λ v l. MayStopAt directory slots v) }
+    ensures stops { StopsAt directory slots (D.standing desk.old) (D.standing desk.new) }
+    ensures home { D.home desk.new ≡ D.home desk.old }
+{
     let grains = covered(&slots.starts, slots.class);
     give_back(desk, slots.page, directory, &grains);
     if slots.right {

@@ -5,10 +5,11 @@ use Rattle.pas_profile.specs.declared.profile.Profile.{Profile}
 use Rattle.pas_profile.specs.declared.word.Word.{Word}
 use Rattle.pas_steps.specs.declared.step.Made.{Made}
 use Rattle.pas_steps.specs.declared.step.Step.{Step}
-use Rattle.pas_steps.specs.declared.step.Step.TheVariants.{Look, Deed, Back, Take, Put, Give, End, TakeRight, Offer, Park, Unpark, Stamp, Hint}
+use Rattle.pas_steps.specs.declared.step.Step.TheVariants.{Look, Deed, Back, Take, Put, Give, End, TakeRight, Offer, Park, Unpark, Stamp, Hint, Tick, Unback, Unhint}
 use Rattle.pas_steps.specs.Views.{View, Stays, grain_move, held_after, holds, any_below, holds_on, backed_after, backed_after_look, knows_backed}
 use Rattle.pas_steps.specs.Agreement.{Agrees, Agreed}
 use Rattle.pas_steps.specs.Past.{Always}
+use Rattle.pas_steps.specs.Frames.{unbacks}
 
 -- ---- some number below a bound
 or_cases : (x y : Bool) → (x || y) ≡ true → x ≡ false → y ≡ true
@@ -58,20 +59,23 @@ look_backed f v (Word.Parked j) a q agrees h = h
 look_backed f v (Word.Empty j) a q agrees h = h
 look_backed f v (Word.Eligible d j) a q agrees h = h
 
-still_backed : (f : Profile) (v : View) (s : Step) (a q : ℕ) → Agrees f v s a → knows_backed v q ≡ true → backed_after s a q (knows_backed v q) ≡ true
-still_backed f v (Look w) a q agrees h = look_backed f v w a q agrees h
-still_backed f v (Deed p d) a q agrees h = h
-still_backed f v (Back p) a q agrees h = or_true (p == q) (knows_backed v q) h
-still_backed f v (Take p w m) a q agrees h = h
-still_backed f v (Put p w m) a q agrees h = h
-still_backed f v (Give b) a q agrees h = h
-still_backed f v (End n g) a q agrees h = h
-still_backed f v (TakeRight p d) a q agrees h = h
-still_backed f v (Offer p d) a q agrees h = h
-still_backed f v (Park p) a q agrees h = h
-still_backed f v (Unpark p) a q agrees h = h
-still_backed f v (Stamp p) a q agrees h = h
-still_backed f v (Hint p) a q agrees h = h
+still_backed : (f : Profile) (v : View) (s : Step) (a q : ℕ) → Agrees f v s a → unbacks s q ≡ false → knows_backed v q ≡ true → backed_after s a q (knows_backed v q) ≡ true
+still_backed f v (Look w) a q agrees keep h = look_backed f v w a q agrees h
+still_backed f v (Deed p d) a q agrees keep h = h
+still_backed f v (Back p) a q agrees keep h = or_true (p == q) (knows_backed v q) h
+still_backed f v (Take p w m) a q agrees keep h = h
+still_backed f v (Put p w m) a q agrees keep h = h
+still_backed f v (Give b) a q agrees keep h = h
+still_backed f v (End n g) a q agrees keep h = h
+still_backed f v (TakeRight p d) a q agrees keep h = h
+still_backed f v (Offer p d) a q agrees keep h = h
+still_backed f v (Park p) a q agrees keep h = h
+still_backed f v (Unpark p) a q agrees keep h = h
+still_backed f v (Stamp p) a q agrees keep h = h
+still_backed f v (Hint p) a q agrees keep h = h
+still_backed f v (Tick raised) a q agrees keep h = h
+still_backed f v (Unback p) a q agrees other h = ap (λ t. if t then false else knows_backed v q) other ∙ h
+still_backed f v (Unhint p) a q agrees keep h = h
 
 -- ---- all steps
 still_held : (x : ℕ) (steps : List Made) (v : View) → Always (λ m before. grain_move m.step m.answer x ≡ Stays) steps → holds v x ≡ true → holds (steps ++ v) x ≡ true
@@ -79,20 +83,20 @@ still_held x [] v stays h = h
 still_held x (m ∷ more) v stays h = ap (λ t. held_after t (holds (more ++ v) x)) stays.0 ∙ still_held x more v stays.1 h
 
 -- grain b of the page is held, and no step moves it
-backed_with : (f : Profile) (q b : ℕ) (steps : List Made) (v : View) → b < 256 → Agreed f v steps → Always (λ m before. grain_move m.step m.answer (q * 256 + b) ≡ Stays) steps → holds v (q * 256 + b) ≡ true → knows_backed v q ≡ true
+backed_with : (f : Profile) (q b : ℕ) (steps : List Made) (v : View) → b < 256 → Agreed f v steps → Always (λ m before. unbacks m.step q ≡ false) steps → Always (λ m before. grain_move m.step m.answer (q * 256 + b) ≡ Stays) steps → holds v (q * 256 + b) ≡ true → knows_backed v q ≡ true
     → knows_backed (steps ++ v) q ≡ true
-backed_with f q b [] v lt agreed stays held h = h
-backed_with f q b (m ∷ more) v lt agreed stays held h =
-    let before : knows_backed (more ++ v) q ≡ true = backed_with f q b more v lt agreed.1 stays.1 held h in
-    and_from (backed_after m.step m.answer q (knows_backed (more ++ v) q)) (holds_on (m ∷ more ++ v) q) (still_backed f (more ++ v) m.step m.answer q agreed.0 before)
+backed_with f q b [] v lt agreed keep stays held h = h
+backed_with f q b (m ∷ more) v lt agreed keep stays held h =
+    let before : knows_backed (more ++ v) q ≡ true = backed_with f q b more v lt agreed.1 keep.1 stays.1 held h in
+    and_from (backed_after m.step m.answer q (knows_backed (more ++ v) q)) (holds_on (m ∷ more ++ v) q) (still_backed f (more ++ v) m.step m.answer q agreed.0 keep.0 before)
     (any_from 256 (λ i. holds (m ∷ more ++ v) (q * 256 + i)) b lt (still_held (q * 256 + b) (m ∷ more) v stays held))
 
-backed_holds : (v : View) (q : ℕ) → knows_backed v q ≡ true → holds_on v q ≡ true
+pub backed_holds : (v : View) (q : ℕ) → knows_backed v q ≡ true → holds_on v q ≡ true
 backed_holds [] q h = absurd (true≢false (sym h))
 backed_holds (m ∷ v) q h = (and_parts (backed_after m.step m.answer q (knows_backed v q)) (holds_on (m ∷ v) q) h).1
 
--- where no grain that is held is moved
-pub backed_stays : (f : Profile) (steps : List Made) (v : View) (q : ℕ) → Agreed f v steps → ((x : ℕ) → holds v x ≡ true → Always (λ m before. grain_move m.step m.answer x ≡ Stays) steps) → knows_backed v q ≡ true → knows_backed (steps ++ v) q ≡ true
-backed_stays f steps v q agreed stays h =
+-- where no grain that is held is moved, and no step ends its backing
+pub backed_stays : (f : Profile) (steps : List Made) (v : View) (q : ℕ) → Agreed f v steps → Always (λ m before. unbacks m.step q ≡ false) steps → ((x : ℕ) → holds v x ≡ true → Always (λ m before. grain_move m.step m.answer x ≡ Stays) steps) → knows_backed v q ≡ true → knows_backed (steps ++ v) q ≡ true
+backed_stays f steps v q agreed keep stays h =
     let one = any_one 256 (λ i. holds v (q * 256 + i)) (backed_holds v q h) in
-    backed_with f q one.0 steps v one.1 agreed (stays (q * 256 + one.0) one.2) one.2 h
+    backed_with f q one.0 steps v one.1 agreed keep (stays (q * 256 + one.0) one.2) one.2 h

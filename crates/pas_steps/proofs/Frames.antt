@@ -7,7 +7,7 @@ use Rattle.pas_profile.specs.declared.word.Word.{Word}
 use Rattle.pas_profile.specs.Layouts.{same_word}
 use Rattle.pas_steps.specs.declared.step.Made.{Made}
 use Rattle.pas_steps.specs.declared.step.Step.{Step}
-use Rattle.pas_steps.specs.declared.step.Step.TheVariants.{Look, Deed, Back, Take, Put, Give, End, TakeRight, Offer, Park, Unpark, Stamp, Hint}
+use Rattle.pas_steps.specs.declared.step.Step.TheVariants.{Look, Deed, Back, Take, Put, Give, End, TakeRight, Offer, Park, Unpark, Stamp, Hint, Tick, Unback, Unhint}
 use Rattle.pas_steps.specs.Effects.{target, new_value}
 use Rattle.pas_steps.specs.Views.{View, right_after, has_right, epoch_of, given_after, given_count}
 use Rattle.pas_steps.specs.Events.{event_of, with_event, events_of, events_by}
@@ -39,6 +39,9 @@ look_word e (Park p) w old is = absurd is
 look_word e (Unpark p) w old is = absurd is
 look_word e (Stamp p) w old is = absurd is
 look_word e (Hint p) w old is = absurd is
+look_word e (Tick raised) w old is = absurd is
+look_word e (Unback p) w old is = absurd is
+look_word e (Unhint p) w old is = absurd is
 
 -- looks leave every word
 pub looks_words : (k : ℕ) (xs : List Made) (l : Whole) (w : Word) → AreLooks xs → word_after (triples k xs ++ l) w ≡ word_after l w
@@ -87,6 +90,9 @@ given_step k e (Park p) a n es h = h
 given_step k e (Unpark p) a n es h = h
 given_step k e (Stamp p) a n es h = h
 given_step k e (Hint p) a n es h = h
+given_step k e (Tick raised) a n es h = h
+given_step k e (Unback p) a n es h = omega (arith, h)
+given_step k e (Unhint p) a n es h = h
 
 -- each block that was given is an event
 pub given_le : (k : ℕ) (v : View) → given_count v ≤ length (events_of k v)
@@ -116,6 +122,9 @@ right_stays (Park q) a p had keeps h = gone q p (q == p) had refl (λ e. keeps (
 right_stays (Unpark q) a p had keeps h = or_stays ((q == p) && has_bit a (p % 64)) had h
 right_stays (Stamp q) a p had keeps h = h
 right_stays (Hint q) a p had keeps h = h
+right_stays (Tick raised) a p had keeps h = h
+right_stays (Unback q) a p had keeps h = h
+right_stays (Unhint q) a p had keeps h = h
 
 pub rights_stay : (xs : List Made) (v : View) (p : ℕ) → KeepsRight p xs → has_right v p ≡ true → has_right (xs ++ v) p ≡ true
 rights_stay [] v p keeps h = h

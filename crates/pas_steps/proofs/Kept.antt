@@ -7,7 +7,7 @@ use Rattle.pas_profile.specs.declared.profile.Profile.{Profile}
 use Rattle.pas_profile.specs.declared.word.Word.{Word}
 use Rattle.pas_steps.specs.declared.step.Made.{Made}
 use Rattle.pas_steps.specs.declared.step.Step.{Step}
-use Rattle.pas_steps.specs.declared.step.Step.TheVariants.{Look, Deed, Back, Take, Put, Give, End, TakeRight, Offer, Park, Unpark, Stamp, Hint}
+use Rattle.pas_steps.specs.declared.step.Step.TheVariants.{Look, Deed, Back, Take, Put, Give, End, TakeRight, Offer, Park, Unpark, Stamp, Hint, Tick, Unback, Unhint}
 use Rattle.pas_steps.specs.Effects.{in_mask}
 use Rattle.pas_steps.specs.Views.{View, Move, Stays, Gets, Puts, grain_move, held_after, holds, any_below, holds_on, right_after, has_right, deed_after, deed_after_look, known_deed, life_after, looks_at_life, known_life, epoch_after, known_epoch, epoch_of, unstamped_after, is_unstamped, given_after, given_count, no_usable, check_after, owes_check, all_ones, hint_after, owes_hint, backed_after, knows_backed}
 use Rattle.pas_steps.specs.Events.{event_of, with_event, events_of}
@@ -206,6 +206,9 @@ deed_same f v (Park q) a p agrees ne = refl
 deed_same f v (Unpark q) a p agrees ne = refl
 deed_same f v (Stamp q) a p agrees ne = refl
 deed_same f v (Hint q) a p agrees ne = refl
+deed_same f v (Tick raised) a p agrees ne = refl
+deed_same f v (Unback q) a p agrees ne = refl
+deed_same f v (Unhint q) a p agrees ne = refl
 
 pub deed_stays : (f : Profile) (steps : List Made) (v : View) (p : ℕ) → Agreed f v steps → known_deed v p ≢ 0 → known_deed (steps ++ v) p ≡ known_deed v p
 deed_stays f [] v p agreed ne = refl
@@ -228,6 +231,9 @@ look_on p (Park q) h = absurd h
 look_on p (Unpark q) h = absurd h
 look_on p (Stamp q) h = absurd h
 look_on p (Hint q) h = absurd h
+look_on p (Tick raised) h = absurd h
+look_on p (Unback q) h = absurd h
+look_on p (Unhint q) h = absurd h
 
 pub looks_on : (p : ℕ) (steps : List Made) → AreLooks steps → OnlyOn p steps
 looks_on p [] h = tt
@@ -404,6 +410,9 @@ look_read (Park q) a h = absurd h
 look_read (Unpark q) a h = absurd h
 look_read (Stamp q) a h = absurd h
 look_read (Hint q) a h = absurd h
+look_read (Tick raised) a h = absurd h
+look_read (Unback q) a h = absurd h
+look_read (Unhint q) a h = absurd h
 
 pub looks_read : (steps : List Made) → AreLooks steps → OnlyReads steps
 looks_read [] h = tt

@@ -8,7 +8,7 @@ use Rattle.pas_steps.specs.Effects.{target}
 use Rattle.pas_steps.specs.Views.{View}
 use Rattle.pas_steps.specs.Allowed.{Allowed, IsStepOf}
 use Rattle.pas_steps.specs.declared.step.Step.{Step}
-use Rattle.pas_steps.specs.declared.step.Step.TheVariants.{Look, Deed, Back, Take, Put, Give, End, TakeRight, Offer, Park, Unpark, Stamp, Hint}
+use Rattle.pas_steps.specs.declared.step.Step.TheVariants.{Look, Deed, Back, Take, Put, Give, End, TakeRight, Offer, Park, Unpark, Stamp, Hint, Tick, Unback, Unhint}
 
 given_page : (first room pages : ℕ) → 4096 ≤ first → first + room ≤ 4096 * (pages + 1) → 0 < room → (1 ≤ first / 16 / 256) × (first / 16 / 256 ≤ pages) × (first / 16 % 256 < 256)
 given_page first room pages low high some = (omega arith, omega arith, omega arith)
@@ -35,3 +35,6 @@ target_of_region f v (Park page) of allowed = vector_has page f.pages of.1
 target_of_region f v (Unpark page) of allowed = vector_has page f.pages of.1
 target_of_region f v (Stamp page) of allowed = of
 target_of_region f v (Hint page) of allowed = vector_has page f.pages of.1
+target_of_region f v (Tick raised) of allowed = tt
+target_of_region f v (Unback page) of allowed = of
+target_of_region f v (Unhint page) of allowed = vector_has page f.pages of.1

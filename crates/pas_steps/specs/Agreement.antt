@@ -13,10 +13,10 @@ use Rattle.pas_profile.specs.declared.word.Word.{Word}
 use Rattle.pas_profile.specs.declared.word.Word.TheVariants as Word
 use Rattle.pas_machine.specs.Runs.{in_run, grain_of}
 use Rattle.pas_steps.specs.Effects.{in_mask, life_word_at}
-use Rattle.pas_steps.specs.Views.{View, holds, has_right, known_deed, known_free, knows_backed, known_life, epoch_of, ReadLive, ReadBacked, EndedOn, EndedOnBoth}
+use Rattle.pas_steps.specs.Views.{View, holds, has_right, known_deed, known_free, knows_backed, known_life, epoch_of, known_stamp, ReadLive, ReadBacked, EndedOn, EndedOnBoth}
 use Rattle.pas_steps.specs.declared.step.Step.{Step}
 use Rattle.pas_steps.specs.declared.step.Made.{Made}
-use Rattle.pas_steps.specs.declared.step.Step.TheVariants.{Look, Deed, Back, Take, Put, Give, End, TakeRight, Offer, Park, Unpark, Stamp, Hint}
+use Rattle.pas_steps.specs.declared.step.Step.TheVariants.{Look, Deed, Back, Take, Put, Give, End, TakeRight, Offer, Park, Unpark, Stamp, Hint, Tick, Unback, Unhint}
 
 -- the word is no deed, or the deed of a directory of the profile
 abbrev pub IsDeedWord : Profile → ℕ → Type 0
@@ -84,9 +84,10 @@ pub record AgreesEpoch (v : View) (a : ℕ) : Type 0 where
   pub newer : epoch_of v ≤ a
   pub small : a < 2 ^ 40
 
--- a stamp that is read: it is an epoch, so it is below 2 ^ 40
-abbrev pub AgreesStamp : ℕ → Type 0
-AgreesStamp a = a < 2 ^ 40
+-- a stamp that is read: it is an epoch, so it is below 2 ^ 40, and a stamp that is known is read again
+pub record AgreesStamp (v : View) (page a : ℕ) : Type 0 where
+  pub small : a < 2 ^ 40
+  pub known : (s : ℕ) → known_stamp v page ≡ Some s → a ≡ s
 
 abbrev pub AgreesLook : Profile → View → Word → ℕ → Type 0
 AgreesLook f v Word.Epoch a = AgreesEpoch v a
@@ -94,7 +95,7 @@ AgreesLook f v (Word.Free page word) a = AgreesFree v page word a
 AgreesLook f v (Word.Life page grain) a = AgreesLife f v (page * 256 + grain) a
 AgreesLook f v (Word.Deed page) a = AgreesDeed f v page a
 AgreesLook f v (Word.Backed page) a = AgreesBacked v page a
-AgreesLook f v (Word.Stamp page) a = AgreesStamp a
+AgreesLook f v (Word.Stamp page) a = AgreesStamp v page a
 AgreesLook f v (Word.Parked j) a = AgreesParked f v j a
 AgreesLook f v (Word.Empty j) a = AgreesEmpty f j a
 AgreesLook f v (Word.Eligible d j) a = AgreesEligible f v d j a
@@ -111,8 +112,11 @@ Agrees f v (TakeRight page directory) a = AgreesEligible f v (number_of director
 Agrees f v (Offer page directory) a = AgreesEligible f v (number_of directory) (page / 64) a
 Agrees f v (Park page) a = AgreesParked f v (page / 64) a
 Agrees f v (Unpark page) a = AgreesParked f v (page / 64) a
-Agrees f v (Stamp page) a = AgreesStamp a
+Agrees f v (Stamp page) a = AgreesStamp v page a
 Agrees f v (Hint page) a = AgreesEmpty f (page / 64) a
+Agrees f v (Tick raised) a = AgreesEpoch v a
+Agrees f v (Unback page) a = AgreesBacked v page a
+Agrees f v (Unhint page) a = AgreesEmpty f (page / 64) a
 
 -- each answer of these steps, which were made from this view on, agrees with the view of its moment
 abbrev pub Agreed : Profile → View → List Made → Type 0

@@ -8,9 +8,9 @@ use Rattle.pas_profile.specs.declared.directory.Directory.{Directory}
 use Rattle.pas_profile.specs.declared.name.Block.{Block}
 use Rattle.pas_machine.specs.Runs.{in_run, address_of, grain_of, length_of}
 use Rattle.pas_steps.specs.Effects.{in_mask}
-use Rattle.pas_steps.specs.Views.{View, holds, has_right, known_deed, knows_backed, known_life, known_epoch, is_unstamped, given_count}
+use Rattle.pas_steps.specs.Views.{View, holds, has_right, known_deed, knows_backed, known_life, known_epoch, epoch_of, known_stamp, is_unstamped, given_count}
 use Rattle.pas_steps.specs.declared.step.Step.{Step}
-use Rattle.pas_steps.specs.declared.step.Step.TheVariants.{Look, Deed, Back, Take, Put, Give, End, TakeRight, Offer, Park, Unpark, Stamp, Hint}
+use Rattle.pas_steps.specs.declared.step.Step.TheVariants.{Look, Deed, Back, Take, Put, Give, End, TakeRight, Offer, Park, Unpark, Stamp, Hint, Tick, Unback, Unhint}
 
 -- the operands are of the profile
 pub record IsBlockOf (f : Profile) (block : Block) : Type 0 where
@@ -33,6 +33,9 @@ IsStepOf f (Park page) = IsPage f page
 IsStepOf f (Unpark page) = IsPage f page
 IsStepOf f (Stamp page) = IsPage f page
 IsStepOf f (Hint page) = IsPage f page
+IsStepOf f (Tick raised) = raised < 2 ^ 40
+IsStepOf f (Unback page) = IsPage f page
+IsStepOf f (Unhint page) = IsPage f page
 
 -- the actor holds a grain of the page
 abbrev pub HoldsOn : View → ℕ → Type 0
@@ -73,6 +76,17 @@ abbrev pub IsEpochKnown : Option ℕ → Type 0
 IsEpochKnown None = ⊥
 IsEpochKnown (Some e) = Unit {0}
 
+-- the page may be unbacked now: all its grains are held, it isn't unstamped, it is known as backed, and its stamp is known and old enough for the
+-- epoch that the actor read
+pub record MayUnback (f : Profile) (v : View) (page : ℕ) : Type 0 where
+  pub held : (g : ℕ) → g / 256 ≡ page → holds v g ≡ true
+  pub stamped : is_unstamped v page ≡ false
+  pub backed : knows_backed v page ≡ true
+  pub stamp : ℕ
+  pub known : known_stamp v page ≡ Some stamp
+  pub read : IsEpochKnown (known_epoch v)
+  pub old : stamp + f.age ≤ epoch_of v
+
 -- the view allows the step
 abbrev pub Allowed : Profile → View → Step → Type 0
 Allowed f v (Look word) = Unit {0}
@@ -88,3 +102,6 @@ Allowed f v (Park page) = has_right v page ≡ true
 Allowed f v (Unpark page) = known_deed v page ≢ 0
 Allowed f v (Stamp page) = HoldsOn v page × IsEpochKnown (known_epoch v)
 Allowed f v (Hint page) = Unit {0}
+Allowed f v (Tick raised) = Unit {0}
+Allowed f v (Unback page) = MayUnback f v page
+Allowed f v (Unhint page) = Unit {0}

@@ -9,7 +9,7 @@ use Rattle.pas_profile.specs.declared.word.Word.{Word}
 use Rattle.pas_profile.specs.declared.word.Word.TheVariants as Word
 use Rattle.pas_machine.specs.Runs.{grain_of, length_of}
 use Rattle.pas_steps.specs.declared.step.Step.{Step}
-use Rattle.pas_steps.specs.declared.step.Step.TheVariants.{Look, Deed, Back, Take, Put, Give, End, TakeRight, Offer, Park, Unpark, Stamp, Hint}
+use Rattle.pas_steps.specs.declared.step.Step.TheVariants.{Look, Deed, Back, Take, Put, Give, End, TakeRight, Offer, Park, Unpark, Stamp, Hint, Tick, Unback, Unhint}
 
 -- ---- the words of a grain, which is a number of the region: `page * 256 + grain`
 abbrev pub free_word_at : ℕ → Word
@@ -50,6 +50,9 @@ target (Park page) = parked_word_at page
 target (Unpark page) = parked_word_at page
 target (Stamp page) = Word.Stamp page
 target (Hint page) = empty_word_at page
+target (Tick raised) = Word.Epoch
+target (Unback page) = Word.Backed page
+target (Unhint page) = empty_word_at page
 
 -- the new value, from the epoch that the actor knows (0 where it knows none) and the old value
 abbrev pub new_value : ℕ → Step → ℕ → ℕ
@@ -66,3 +69,6 @@ new_value epoch (Park page) old = bit_or old (page_mask page)
 new_value epoch (Unpark page) old = bit_and old (bit_not w64 (page_mask page))
 new_value epoch (Stamp page) old = max old epoch
 new_value epoch (Hint page) old = bit_or old (page_mask page)
+new_value epoch (Tick raised) old = max old raised
+new_value epoch (Unback page) old = 0
+new_value epoch (Unhint page) old = bit_and old (bit_not w64 (page_mask page))

@@ -9,7 +9,7 @@ use Rattle.pas_profile.specs.declared.event.Why.TheVariants as Why
 use Rattle.pas_steps.specs.Views.{View, epoch_of}
 use Rattle.pas_steps.specs.declared.step.Step.{Step}
 use Rattle.pas_steps.specs.declared.step.Made.{Made}
-use Rattle.pas_steps.specs.declared.step.Step.TheVariants.{Look, Deed, Back, Take, Put, Give, End, TakeRight, Offer, Park, Unpark, Stamp, Hint}
+use Rattle.pas_steps.specs.declared.step.Step.TheVariants.{Look, Deed, Back, Take, Put, Give, End, TakeRight, Offer, Park, Unpark, Stamp, Hint, Tick, Unback, Unhint}
 
 -- why the end of a name is refused, from the life word that was read
 abbrev pub reason_of : Name → ℕ → Why
@@ -36,6 +36,9 @@ event_of k epoch (Park page) a = None
 event_of k epoch (Unpark page) a = None
 event_of k epoch (Stamp page) a = None
 event_of k epoch (Hint page) a = None
+event_of k epoch (Tick raised) a = None
+event_of k epoch (Unback page) a = Some (Event.Unback k page epoch)
+event_of k epoch (Unhint page) a = None
 
 abbrev pub with_event : Option Event → List Event → List Event
 with_event None es = es
@@ -66,3 +69,6 @@ wants (Park page) = 0
 wants (Unpark page) = 0
 wants (Stamp page) = 0
 wants (Hint page) = 0
+wants (Tick raised) = 0
+wants (Unback page) = 1
+wants (Unhint page) = 0

@@ -1,11 +1,11 @@
 -- Kinds of steps that leave much as it was.
-use Rattle.std.specs.Prelude.{ℕ, ◌≢◌, List, [], ◌∷◌}
+use Rattle.std.specs.Prelude.{ℕ, ◌≢◌, ◌==◌, Bool, false, List, [], ◌∷◌}
 use Rattle.pas_profile.specs.declared.directory.Directory.{Directory}
 use Rattle.pas_profile.specs.declared.word.Word.{Word}
 use Rattle.pas_steps.specs.Past.{Always}
 use Rattle.pas_steps.specs.declared.step.Step.{Step}
 use Rattle.pas_steps.specs.declared.step.Made.{Made}
-use Rattle.pas_steps.specs.declared.step.Step.TheVariants.{Look, Deed, Back, Take, Put, Give, End, TakeRight, Offer, Park, Unpark, Stamp, Hint}
+use Rattle.pas_steps.specs.declared.step.Step.TheVariants.{Look, Deed, Back, Take, Put, Give, End, TakeRight, Offer, Park, Unpark, Stamp, Hint, Tick, Unback, Unhint}
 
 abbrev pub IsLook : Step → Type 0
 IsLook (Look word) = Unit {0}
@@ -21,6 +21,28 @@ IsLook (Park page) = ⊥
 IsLook (Unpark page) = ⊥
 IsLook (Stamp page) = ⊥
 IsLook (Hint page) = ⊥
+IsLook (Tick raised) = ⊥
+IsLook (Unback page) = ⊥
+IsLook (Unhint page) = ⊥
+
+-- the step ends the page's backing
+abbrev pub unbacks : Step → ℕ → Bool
+unbacks (Look word) page = false
+unbacks (Deed q directory) page = false
+unbacks (Back q) page = false
+unbacks (Take q word mask) page = false
+unbacks (Put q word mask) page = false
+unbacks (Give block) page = false
+unbacks (End name guess) page = false
+unbacks (TakeRight q directory) page = false
+unbacks (Offer q directory) page = false
+unbacks (Park q) page = false
+unbacks (Unpark q) page = false
+unbacks (Stamp q) page = false
+unbacks (Hint q) page = false
+unbacks (Tick raised) page = false
+unbacks (Unback q) page = q == page
+unbacks (Unhint q) page = false
 
 -- only looks were made
 abbrev pub AreLooks : List Made → Type 0

@@ -9,3 +9,4 @@ pub mod Past
 pub mod Frames
 pub mod Ranges
 pub mod States
+pub mod Rests

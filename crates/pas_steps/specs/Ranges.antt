@@ -3,7 +3,7 @@ use Rattle.std.specs.Prelude.{ℕ, ◌-◌, ◌^◌, ◌<◌}
 use Rattle.pas_profile.specs.Directories.{IsDirectory}
 use Rattle.pas_machine.specs.Runs.{length_of}
 use Rattle.pas_steps.specs.declared.step.Step.{Step}
-use Rattle.pas_steps.specs.declared.step.Step.TheVariants.{Look, Deed, Back, Take, Put, Give, End, TakeRight, Offer, Park, Unpark, Stamp, Hint}
+use Rattle.pas_steps.specs.declared.step.Step.TheVariants.{Look, Deed, Back, Take, Put, Give, End, TakeRight, Offer, Park, Unpark, Stamp, Hint, Tick, Unback, Unhint}
 
 abbrev pub IsRanged : Step → Type 0
 IsRanged (Look word) = Unit {0}
@@ -19,3 +19,6 @@ IsRanged (Park page) = Unit {0}
 IsRanged (Unpark page) = Unit {0}
 IsRanged (Stamp page) = Unit {0}
 IsRanged (Hint page) = Unit {0}
+IsRanged (Tick raised) = Unit {0}
+IsRanged (Unback page) = Unit {0}
+IsRanged (Unhint page) = Unit {0}

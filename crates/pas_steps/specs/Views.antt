@@ -1,6 +1,6 @@
 -- What an actor holds, has and knows. All of it follows from the list of the actor's own steps with their answers, the NEWEST FIRST:
 -- for each thing one table says what a step does to it, a kind of step a line, and the thing is the table applied step by step.
-use Rattle.std.specs.Prelude.{ℕ, zero, suc, ◌+◌, ◌-◌, ◌*◌, ◌/◌, ◌%◌, ◌^◌, ◌≡◌, ◌==◌, bit_and, Bool, true, false, not, ◌&&◌, ◌||◌, if◌then◌else◌, List, [], ◌∷◌, Option, None, Some}
+use Rattle.std.specs.Prelude.{ℕ, zero, suc, ◌+◌, ◌-◌, ◌*◌, ◌/◌, ◌%◌, ◌^◌, ◌≡◌, ◌==◌, max, bit_and, Bool, true, false, not, ◌&&◌, ◌||◌, if◌then◌else◌, List, [], ◌∷◌, Option, None, Some}
 use Rattle.pas_profile.specs.Classes.{has_bit, is_usable}
 use Rattle.pas_profile.specs.declared.directory.Directory.{Directory}
 use Rattle.pas_profile.specs.declared.directory.Kind.{Kind}
@@ -14,7 +14,7 @@ use Rattle.pas_steps.specs.Effects.{in_mask}
 use Rattle.pas_steps.specs.Past.{Once}
 use Rattle.pas_steps.specs.declared.step.Step.{Step}
 use Rattle.pas_steps.specs.declared.step.Made.{Made}
-use Rattle.pas_steps.specs.declared.step.Step.TheVariants.{Look, Deed, Back, Take, Put, Give, End, TakeRight, Offer, Park, Unpark, Stamp, Hint}
+use Rattle.pas_steps.specs.declared.step.Step.TheVariants.{Look, Deed, Back, Take, Put, Give, End, TakeRight, Offer, Park, Unpark, Stamp, Hint, Tick, Unback, Unhint}
 
 abbrev pub View : Type 0
 View = List Made
@@ -42,6 +42,9 @@ grain_move (Park page) a g = Stays
 grain_move (Unpark page) a g = Stays
 grain_move (Stamp page) a g = Stays
 grain_move (Hint page) a g = Stays
+grain_move (Tick raised) a g = Stays
+grain_move (Unback page) a g = Stays
+grain_move (Unhint page) a g = Stays
 
 abbrev pub held_after : Move → Bool → Bool
 held_after Stays h = h
@@ -63,6 +66,15 @@ any_below (suc n) p = p n || any_below n p
 abbrev pub holds_on : View → ℕ → Bool
 holds_on v page = any_below 256 (λ b. holds v (page * 256 + b))
 
+-- every number below n passes the test
+unfoldable pub all_below : ℕ → (ℕ → Bool) → Bool
+all_below zero p = true
+all_below (suc n) p = p n && all_below n p
+
+-- the actor holds each of its grains
+abbrev pub holds_all : View → ℕ → Bool
+holds_all v page = all_below 256 (λ b. holds v (page * 256 + b))
+
 -- ---- rights: the actor alone may take grains from the page's free words
 abbrev pub right_after : Step → ℕ → ℕ → Bool → Bool
 right_after (Look word) a page had = had
@@ -78,6 +90,9 @@ right_after (Park q) a page had = if q == page then false else had
 right_after (Unpark q) a page had = if (q == page) && has_bit a (page % 64) then true else had
 right_after (Stamp q) a page had = had
 right_after (Hint q) a page had = had
+right_after (Tick raised) a page had = had
+right_after (Unback q) a page had = had
+right_after (Unhint q) a page had = had
 
 abbrev pub has_right : View → ℕ → Bool
 has_right [] page = false
@@ -110,6 +125,9 @@ deed_after (Park q) a page known = known
 deed_after (Unpark q) a page known = known
 deed_after (Stamp q) a page known = known
 deed_after (Hint q) a page known = known
+deed_after (Tick raised) a page known = known
+deed_after (Unback q) a page known = known
+deed_after (Unhint q) a page known = known
 
 abbrev pub known_deed : View → ℕ → ℕ
 known_deed [] page = 0
@@ -142,6 +160,9 @@ free_after (Park q) a g right known = if q == g / 256 then false else known
 free_after (Unpark q) a g right known = known
 free_after (Stamp q) a g right known = known
 free_after (Hint q) a g right known = known
+free_after (Tick raised) a g right known = known
+free_after (Unback q) a g right known = known
+free_after (Unhint q) a g right known = known
 
 abbrev pub known_free : View → ℕ → Bool
 known_free [] g = false
@@ -173,6 +194,9 @@ backed_after (Park q) a page known = known
 backed_after (Unpark q) a page known = known
 backed_after (Stamp q) a page known = known
 backed_after (Hint q) a page known = known
+backed_after (Tick raised) a page known = known
+backed_after (Unback q) a page known = if q == page then false else known
+backed_after (Unhint q) a page known = known
 
 abbrev pub knows_backed : View → ℕ → Bool
 knows_backed [] page = false
@@ -201,6 +225,9 @@ looks_at_life (Park q) g = false
 looks_at_life (Unpark q) g = false
 looks_at_life (Stamp q) g = false
 looks_at_life (Hint q) g = false
+looks_at_life (Tick raised) g = false
+looks_at_life (Unback q) g = false
+looks_at_life (Unhint q) g = false
 
 abbrev pub life_after : Move → Bool → Bool → ℕ → Option ℕ → Option ℕ
 life_after Stays looks held a known = if looks && held then Some a else known
@@ -239,6 +266,9 @@ epoch_after (Park q) a known = known
 epoch_after (Unpark q) a known = known
 epoch_after (Stamp q) a known = known
 epoch_after (Hint q) a known = known
+epoch_after (Tick raised) a known = Some (max a raised)
+epoch_after (Unback q) a known = known
+epoch_after (Unhint q) a known = known
 
 abbrev pub known_epoch : View → Option ℕ
 known_epoch [] = None
@@ -251,6 +281,41 @@ or_zero (Some e) = e
 
 abbrev pub epoch_of : View → ℕ
 epoch_of v = or_zero (known_epoch v)
+
+-- ---- stamps: known from a look at the page's stamp while the actor holds all 256 grains of the page, until one of them goes. An own stamp
+-- ends the knowledge
+abbrev pub stamp_after_look : Word → ℕ → ℕ → Option ℕ → Option ℕ
+stamp_after_look Word.Epoch a page known = known
+stamp_after_look (Word.Free q w) a page known = known
+stamp_after_look (Word.Life q g) a page known = known
+stamp_after_look (Word.Deed q) a page known = known
+stamp_after_look (Word.Backed q) a page known = known
+stamp_after_look (Word.Stamp q) a page known = if q == page then Some a else known
+stamp_after_look (Word.Parked j) a page known = known
+stamp_after_look (Word.Empty j) a page known = known
+stamp_after_look (Word.Eligible d j) a page known = known
+
+abbrev pub stamp_after : Step → ℕ → ℕ → Option ℕ → Option ℕ
+stamp_after (Look word) a page known = stamp_after_look word a page known
+stamp_after (Deed q directory) a page known = known
+stamp_after (Back q) a page known = known
+stamp_after (Take q word mask) a page known = known
+stamp_after (Put q word mask) a page known = known
+stamp_after (Give block) a page known = known
+stamp_after (End name guess) a page known = known
+stamp_after (TakeRight q directory) a page known = known
+stamp_after (Offer q directory) a page known = known
+stamp_after (Park q) a page known = known
+stamp_after (Unpark q) a page known = known
+stamp_after (Stamp q) a page known = if q == page then None else known
+stamp_after (Hint q) a page known = known
+stamp_after (Tick raised) a page known = known
+stamp_after (Unback q) a page known = known
+stamp_after (Unhint q) a page known = known
+
+abbrev pub known_stamp : View → ℕ → Option ℕ
+known_stamp [] page = None
+known_stamp (m ∷ v) page = if holds_all (m ∷ v) page then stamp_after m.step m.answer page (known_stamp v page) else None
 
 -- ---- unstamped pages: the actor ended a block on the page, and didn't stamp the page since
 abbrev pub unstamped_after : Step → ℕ → ℕ → Bool → Bool
@@ -267,6 +332,9 @@ unstamped_after (Park q) a page was = was
 unstamped_after (Unpark q) a page was = was
 unstamped_after (Stamp q) a page was = if q == page then false else was
 unstamped_after (Hint q) a page was = was
+unstamped_after (Tick raised) a page was = was
+unstamped_after (Unback q) a page was = was
+unstamped_after (Unhint q) a page was = was
 
 abbrev pub is_unstamped : View → ℕ → Bool
 is_unstamped [] page = false
@@ -288,6 +356,9 @@ reads_life (Park q) g = false
 reads_life (Unpark q) g = false
 reads_life (Stamp q) g = false
 reads_life (Hint q) g = false
+reads_life (Tick raised) g = false
+reads_life (Unback q) g = false
+reads_life (Unhint q) g = false
 
 -- the step read that a block of so many grains lives at the grain, with this turn
 pub record IsLiveRead (m : Made) (g turn grains : ℕ) : Type 0 where
@@ -327,6 +398,9 @@ reads_backed (Park q) page = false
 reads_backed (Unpark q) page = false
 reads_backed (Stamp q) page = false
 reads_backed (Hint q) page = false
+reads_backed (Tick raised) page = false
+reads_backed (Unback q) page = q == page
+reads_backed (Unhint q) page = false
 
 -- the actor once read that the page is backed
 abbrev pub ReadBacked : View → ℕ → Type 0
@@ -348,6 +422,9 @@ ends_on (Park q) a page = false
 ends_on (Unpark q) a page = false
 ends_on (Stamp q) a page = false
 ends_on (Hint q) a page = false
+ends_on (Tick raised) a page = false
+ends_on (Unback q) a page = false
+ends_on (Unhint q) a page = false
 
 -- the actor once ended a block that had a grain of the page
 abbrev pub EndedOn : View → ℕ → Type 0
@@ -372,6 +449,9 @@ given_after (Park q) n = n
 given_after (Unpark q) n = n
 given_after (Stamp q) n = n
 given_after (Hint q) n = n
+given_after (Tick raised) n = n
+given_after (Unback q) n = n
+given_after (Unhint q) n = n
 
 abbrev pub given_count : View → ℕ
 given_count [] = 0
@@ -389,11 +469,6 @@ usable_by_kind Kind.Large grain = true
 abbrev pub usable_by : Option Directory → ℕ → Bool
 usable_by None grain = true
 usable_by (Some d) grain = usable_by_kind d.kind grain
-
--- every number below n passes the test
-unfoldable pub all_below : ℕ → (ℕ → Bool) → Bool
-all_below zero p = true
-all_below (suc n) p = p n && all_below n p
 
 -- no usable grain of this free word is free, on a page with this deed word
 abbrev pub no_usable : ℕ → ℕ → ℕ → Bool
@@ -424,6 +499,9 @@ check_after (Park q) a page word right deed owed = if q == page then true else o
 check_after (Unpark q) a page word right deed owed = if q == page then false else owed
 check_after (Stamp q) a page word right deed owed = owed
 check_after (Hint q) a page word right deed owed = owed
+check_after (Tick raised) a page word right deed owed = owed
+check_after (Unback q) a page word right deed owed = owed
+check_after (Unhint q) a page word right deed owed = owed
 
 abbrev pub owes_check : View → ℕ → ℕ → Bool
 owes_check [] page word = false
@@ -459,7 +537,34 @@ hint_after (Park q) a page owed = owed
 hint_after (Unpark q) a page owed = owed
 hint_after (Stamp q) a page owed = owed
 hint_after (Hint q) a page owed = if q == page then false else owed
+hint_after (Tick raised) a page owed = owed
+hint_after (Unback q) a page owed = owed
+hint_after (Unhint q) a page owed = owed
 
 abbrev pub owes_hint : View → ℕ → Bool
 owes_hint [] page = false
 owes_hint (m ∷ v) page = hint_after m.step m.answer page (owes_hint v page)
+
+-- ---- examined pages: the actor cleared the page's empty bit, so it is the one that looks whether the page is empty. A free word that isn't all
+-- ones, and a backed word that is 0, end the examination, and so does a hint
+abbrev pub examined_after : Step → ℕ → ℕ → Bool → Bool
+examined_after (Look word) a page was = hint_after_look word a page was
+examined_after (Deed q directory) a page was = was
+examined_after (Back q) a page was = was
+examined_after (Take q word mask) a page was = hint_after (Take q word mask) a page was
+examined_after (Put q word mask) a page was = was
+examined_after (Give block) a page was = was
+examined_after (End name guess) a page was = was
+examined_after (TakeRight q directory) a page was = was
+examined_after (Offer q directory) a page was = was
+examined_after (Park q) a page was = was
+examined_after (Unpark q) a page was = was
+examined_after (Stamp q) a page was = was
+examined_after (Hint q) a page was = if q == page then false else was
+examined_after (Tick raised) a page was = was
+examined_after (Unback q) a page was = was
+examined_after (Unhint q) a page was = if (q == page) && has_bit a (page % 64) then true else was
+
+abbrev pub examines : View → ℕ → Bool
+examines [] page = false
+examines (m ∷ v) page = examined_after m.step m.answer page (examines v page)

@@ -200,6 +200,39 @@ pub trait Desk {
         self.make(Step::Hint { page })
     }
 
+    /// Raises the epoch, which the actor knows then.
+    #[inline]
+    fn tick(&mut self, epoch: u64) -> u64
+        requires can { CanMake (standing self.old) (Step.Tick epoch) }
+        requires room { wants (Step.Tick epoch) ≤ spare_of self.old }
+        ensures makes { Makes (standing self.old) (standing self.new) (Step.Tick epoch) result }
+        ensures home { home self.new ≡ home self.old }
+    {
+        self.make(Step::Tick { epoch })
+    }
+
+    /// Ends the backing of the page, whose grains the actor holds, all of them, and whose stamp is old enough.
+    #[inline]
+    fn unback(&mut self, page: u32) -> u64
+        requires can { CanMake (standing self.old) (Step.Unback page) }
+        requires room { wants (Step.Unback page) ≤ spare_of self.old }
+        ensures makes { Makes (standing self.old) (standing self.new) (Step.Unback page) result }
+        ensures home { home self.new ≡ home self.old }
+    {
+        self.make(Step::Unback { page })
+    }
+
+    /// Clears the empty bit of the page. Where it was set the actor examines the page.
+    #[inline]
+    fn unhint(&mut self, page: u32) -> u64
+        requires can { CanMake (standing self.old) (Step.Unhint page) }
+        requires room { wants (Step.Unhint page) ≤ spare_of self.old }
+        ensures makes { Makes (standing self.old) (standing self.new) (Step.Unhint page) result }
+        ensures home { home self.new ≡ home self.old }
+    {
+        self.make(Step::Unhint { page })
+    }
+
     /// The profile is within the limits.
     ghost valid: { (d : Self) → IsValid (standing d).seat.profile };
 

@@ -44,6 +44,9 @@ pub fn target(step: Step) -> Word
         Step::Unpark { page } => Word::Parked(page / 64),
         Step::Stamp { page } => Word::Stamp(page),
         Step::Hint { page } => Word::Empty(page / 64),
+        Step::Tick { epoch: _ } => Word::Epoch,
+        Step::Unback { page } => Word::Backed(page),
+        Step::Unhint { page } => Word::Empty(page / 64),
     }
 }
 
@@ -90,6 +93,9 @@ pub fn new_value(epoch: u64, step: Step, old: u64) -> u64
         Step::Unpark { page } => old & !page_mask(page),
         Step::Stamp { page: _ } => old.max(epoch),
         Step::Hint { page } => old | page_mask(page),
+        Step::Tick { epoch: raised } => old.max(raised),
+        Step::Unback { page: _ } => 0,
+        Step::Unhint { page } => old & !page_mask(page),
     }
 }
 
@@ -100,6 +106,7 @@ pub fn epoch_after(step: Step, answer: u64, known: Option<u64>) -> Option<u64>
 {
     match step {
         Step::Look { word: Word::Epoch } => Some(answer),
+        Step::Tick { epoch } => Some(answer.max(epoch)),
         _ => known,
     }
 }
@@ -146,6 +153,7 @@ pub fn event_of(actor: u8, epoch: u64, step: Step, answer: u64) -> Option<Event>
         Step::Back { page } if answer == 0 => Some(Event::Back { actor, page }),
         Step::Give { block } => Some(Event::Give { actor, block }),
         Step::End { name, guess } => end_event(actor, epoch, name, guess, answer),
+        Step::Unback { page } => Some(Event::Unback { actor, page, epoch }),
         _ => None,
     }
 }

@@ -31,6 +31,12 @@ pub enum Step {
     Stamp { page: u32 },
     /// Sets the page's empty bit: the scavenger may look at the page.
     Hint { page: u32 },
+    /// Raises the epoch to at least this.
+    Tick { epoch: u64 },
+    /// Ends the page's backing.
+    Unback { page: u32 },
+    /// Clears the page's empty bit. The actor examines the page where the bit was set.
+    Unhint { page: u32 },
 }
 
 /// A step that was made, with its answer: the word's value before it.

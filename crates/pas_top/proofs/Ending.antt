@@ -1,5 +1,5 @@
 -- How a call ends: its words, what it wrote, and what status 4 says of a text that was cut off.
-use Rattle.std.proofs.Common.{◌≡◌, ℕ, ◌≤◌, ◌<◌, ◌⊎◌, Bool, List, [], ◌∷◌, ◌++◌, append_assoc, Option, Some, IsTrue, Bor, get_or, length, ap, ◌∙◌, sym, subst, refl, inl, inr, arith, nat_eq}
+use Rattle.std.proofs.Common.{◌≡◌, ℕ, ◌≤◌, ◌<◌, ◌⊎◌, Bool, List, [], ◌∷◌, ◌++◌, append_assoc, Option, IsTrue, Bor, get_or, length, ap, ◌∙◌, sym, subst, inl, inr, arith, nat_eq}
 use Rattle.std.proofs.lemmas.Slice.Eq.{slice_eq-Decides}
 use Rattle.std.proofs.lemmas.Bool.Decides.{Decides-eqb}
 use Rattle.std.specs.Cmp.Lexicographic.{pointwise}

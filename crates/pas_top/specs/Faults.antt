@@ -2,7 +2,6 @@
 use Rattle.std.specs.Prelude.{ℕ, List, ◌++◌, codes}
 use Rattle.std.specs.Fmt.{decimal}
 use Rattle.pas_trace.specs.declared.fault.Reason.{Reason}
-use Rattle.pas_trace.specs.declared.fault.Reason.TheVariants as Reason
 use Rattle.pas_trace.specs.declared.fault.TraceFault.{TraceFault}
 
 abbrev pub reason_text : Reason → List ℕ

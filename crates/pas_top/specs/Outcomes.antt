@@ -1,5 +1,5 @@
 -- What an input comes to, before it is written.
-use Rattle.std.specs.Prelude.{ℕ, ◌≡◌, List, ◌++◌, Result, Err, All}
+use Rattle.std.specs.Prelude.{ℕ, ◌≡◌, List, ◌++◌, Err, All}
 use Rattle.pas_steps.specs.declared.state.State.{State}
 use Rattle.pas_trace.specs.Plans.{IsPlanOf, parsed}
 use Rattle.pas_trace.specs.declared.plan.Plan.{Plan}
@@ -8,6 +8,7 @@ use Rattle.pas_report.specs.Lines.{lines_of, CanShow}
 use Rattle.pas_report.specs.Counts.{AreDeedWords, report_by_words}
 use Rattle.pas_report.specs.declared.record.Record.{Record}
 use Rattle.pas_replay.specs.Replays.{IsBuilt, Shows}
+use Rattle.pas_replay.specs.Ways.{InOrder}
 use Rattle.pas_top.specs.Outputs.{IsUnbuilt, not_built_text}
 use Rattle.pas_top.specs.Faults.{fault_text}
 use Rattle.pas_top.specs.declared.outcome.Outcome.{Outcome}
@@ -18,7 +19,7 @@ pub record IsReplay (bytes : List ℕ) (records : List Record) (state : State) :
   pub plan : Plan
   pub read : IsPlanOf bytes plan
   pub built : IsBuilt plan
-  pub shows : Shows plan records state
+  pub shows : Shows InOrder plan records state
 
 abbrev pub IsOutcome : List ℕ → Outcome → Type 0
 IsOutcome bytes (Replayed records state) = IsReplay bytes (records_in records) state

@@ -6,6 +6,7 @@ use Rattle.pas_core.proofs.DeedWords.{known_is}
 use Rattle.pas_core.proofs.Knowledge.{deeds_known, backed_known}
 use Rattle.pas_core.proofs.Rights.{free_known, free_known_has_right}
 use Rattle.pas_core.proofs.Lives.{life_is_known}
+use Rattle.pas_core.proofs.Stamps.{stamp_known}
 use Rattle.pas_core.proofs.Epochs.{epoch_known}
 use Rattle.pas_core.proofs.knowledge_laws.known_is_true.Goals as goal
 
@@ -23,6 +24,9 @@ returns-clause-right c = free_known_has_right
 
 pub returns-clause-life : goal.returns-clause-life
 returns-clause-life c = λ f l valid legal k g w h. sym (life_is_known f l valid legal k g w h).1
+
+pub returns-clause-stamp : goal.returns-clause-stamp
+returns-clause-stamp c = stamp_known
 
 pub returns-clause-epoch : goal.returns-clause-epoch
 returns-clause-epoch c = epoch_known

@@ -15,8 +15,7 @@ alloc-requires-clause-can g c = can_allocate (cached c.args.cache.now) c.args.na
 
 pub returns-in-Ok-clause-performs : goal.returns-in-Ok-clause-performs
 returns-in-Ok-clause-performs g c = performs_given c.args.names.now c.set.new.self (cached c.args.cache.now) (cached c.alloc.new.self) c.args.name c.args.heap c.args.size c.args.align c.in-Ok.block
-    (g.met.D.Desk.valid c.args.desk.now) c.requires.fit.1.1 c.requires.fit.1.2 (λ v l stood. g.met.D.Desk.told_part c.args.desk.now v l c.requires.told stood) (λ v l stood. g.met.D.Desk.told c.alloc.new.desk v l c.requires.told stood)
-    c.alloc.ensures.allocates c.in-Ok.is c.set.ensures.names c.set.ensures.room
+    c.requires.fit.1.2 c.alloc.ensures.allocates c.in-Ok.is c.set.ensures.names c.set.ensures.room
 
 pub returns-in-Ok-clause-turns : goal.returns-in-Ok-clause-turns
 returns-in-Ok-clause-turns g c = turns_given c.args.names.now c.set.new.self (cached c.args.cache.now) (cached c.alloc.new.self) c.args.name c.args.heap c.args.size c.args.align (class_of (route_of c.args.size c.args.align)) (g.D.Desk.spare_of c.args.desk.now) c.in-Ok.block

@@ -1,8 +1,7 @@
-use Rattle.std.proofs.Common.{rules, ◌≡◌, ◌≤◌, ℕ, List, Option, length, refl, sym, ◌∙◌, subst, Some, inl, inr, arith}
+use Rattle.std.proofs.Common.{rules, refl, ◌∙◌, subst, inl, inr, arith}
 use Rattle.pas_io.specs.Inputs.{IsInput}
-use Rattle.pas_io.specs.declared.whole.Input.TheVariants.{TooLong}
-use Rattle.pas_top.specs.Outcomes.{IsOutcome, outcome_status, outcome_text}
-use Rattle.pas_top.specs.Outputs.{IsOrder, IsOutput, most_bytes, texts_of, usage_text, too_long_text}
+use Rattle.pas_top.specs.Outcomes.{outcome_status, outcome_text}
+use Rattle.pas_top.specs.Outputs.{IsOrder, most_bytes, texts_of, usage_text, too_long_text}
 use Rattle.pas_top.proofs.Ending.{cut_off, not_four, written}
 use Rattle.pas_top.proofs.Shown.{can_write, outcome_output, status_not_four}
 use Rattle.pas_top.proofs.main_call.pas_main.Goals as goal

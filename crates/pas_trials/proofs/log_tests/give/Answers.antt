@@ -12,7 +12,7 @@ use Rattle.pas_steps.specs.Allowed.{Allowed, KnowsBearing}
 use Rattle.pas_steps.specs.Desks.{made}
 use Rattle.pas_steps.specs.Views.{View, any_below, holds, has_right, known_deed, knows_backed, known_life, owes_hint, all_ones}
 use Rattle.pas_steps.specs.declared.step.Step.TheVariants.{Look, Deed, Back, Take, Give}
-use Rattle.pas_rights.specs.Rights.{IsClear}
+use Rattle.pas_steps.specs.Rests.{IsClear}
 use Rattle.pas_trials.proofs.Stood.{At, next, can, told, spare}
 use Rattle.pas_trials.proofs.log_tests.give.Goals as goal
 

@@ -1,0 +1,224 @@
+-- Where actors learn no epoch between an end and its stamps, and stamp only what they ended on, the stamp of a page is the greatest epoch of an end
+-- on it, once no page is unstamped.
+use Rattle.std.proofs.Common.{◌≡◌, ℕ, ◌+◌, ◌/◌, ◌<◌, ◌≤◌, ◌==◌, ◌⊎◌, Bool, true, false, ◌&&◌, if◌then◌else◌, max, List, [], ◌∷◌, Option, Some, None, refl, ap, sym, ◌∙◌, subst, arith, inl, inr}
+use Rattle.std.proofs.lemmas.Bool.{false≢true, eqb-true, and_parts, cases_Bool}
+use Rattle.pas_profile.specs.Layouts.{same_word}
+use Rattle.pas_profile.specs.Lives.{live_word, is_live, turn_of}
+use Rattle.pas_profile.specs.Profiles.{IsValid}
+use Rattle.pas_profile.specs.declared.profile.Profile.{Profile}
+use Rattle.pas_profile.specs.declared.name.Name.{Name}
+use Rattle.pas_profile.specs.declared.event.Event.{Event}
+use Rattle.pas_profile.specs.declared.event.Event.TheVariants as Event
+use Rattle.pas_profile.specs.declared.word.Word.{Word}
+use Rattle.pas_profile.specs.declared.word.Word.TheVariants as Word
+use Rattle.pas_machine.specs.Runs.{meets_page, address_of, grain_of, length_of}
+use Rattle.pas_machine.specs.State.{live_in, touches, epoch_in}
+use Rattle.pas_steps.specs.Effects.{life_word_at, target}
+use Rattle.pas_steps.specs.Views.{View, epoch_of, unstamped_after, is_unstamped, ends_on}
+use Rattle.pas_steps.specs.Events.{event_of, with_event, reason_of}
+use Rattle.pas_steps.specs.Allowed.{IsStepOf}
+use Rattle.pas_steps.specs.Lists.{Triple, Whole, part, word_after, visible, IsNext, Legal}
+use Rattle.pas_steps.specs.Desks.{made}
+use Rattle.pas_steps.specs.declared.step.Made.{Made}
+use Rattle.pas_steps.specs.declared.step.Step.{Step}
+use Rattle.pas_steps.specs.declared.step.Step.TheVariants.{Look, Deed, Back, Take, Put, Give, End, TakeRight, Offer, Park, Unpark, Stamp, Hint, Tick, Unback, Unhint}
+use Rattle.pas_core.specs.Stamps.{IsStampedOr, KeepsToEnds, AllKeepToEnds}
+use Rattle.pas_core.proofs.DeedWords.{next_value, looked}
+use Rattle.pas_core.proofs.Ends.{IsFound, end_finds}
+use Rattle.pas_core.proofs.Stamps.{stamps, stamp_rests, ends_map, ends_bound, ends_stamped}
+
+-- ---- the machine's epoch of a page only grows
+raised : (x : Bool) (old e : ℕ) → old ≤ (if x then max old e else old)
+raised true old e = omega arith
+raised false old e = omega arith
+
+more_epoch : (e : Event) (es : List Event) (p : ℕ) → epoch_in es p ≤ epoch_in (e ∷ es) p
+more_epoch (Event.Deed k q d) es p = omega arith
+more_epoch (Event.Back k q) es p = omega arith
+more_epoch (Event.Unback k q e) es p = omega arith
+more_epoch (Event.Give k block) es p = omega arith
+more_epoch (Event.End k name e) es p = raised (touches (live_in es (address_of name)) p) (epoch_in es p) e
+more_epoch (Event.Reject k name why) es p = omega arith
+
+with_more : (o : Option Event) (es : List Event) (p : ℕ) → epoch_in es p ≤ epoch_in (with_event o es) p
+with_more None es p = omega arith
+with_more (Some e) es p = more_epoch e es p
+
+-- a block that an end ended touches each page that its run meets
+touched_by_end : (f : Profile) (l : Whole) → IsValid f → Legal f l → (name : Name) (guess a p : ℕ) → IsStepOf f (End name guess) → a ≡ word_after l (life_word_at (grain_of name)) → (a == live_word name.turn guess) ≡ true → meets_page (grain_of name) guess p ≡ true
+    → touches (live_in (visible l) (address_of name)) p ≡ true
+touched_by_end f l valid legal name guess a p of is hit meets =
+    let at : IsFound f l name guess = end_finds f l valid legal name guess a of is (eqb-true a (live_word name.turn guess) hit) in
+    let e = at.address_is in
+    let first : address_of at.block.block.name / 16 ≡ grain_of name = omega (arith, e) in
+    ap (λ o. touches o p) at.lives ∙ ap (λ n. meets_page (address_of at.block.block.name / 16) n p) at.grains_are ∙ ap (λ g. meets_page g guess p) first ∙ meets
+
+reached : (t : Bool) (old e : ℕ) → t ≡ true → e ≤ (if t then max old e else old)
+reached true old e h = omega arith
+reached false old e h = absurd (false≢true h)
+
+end_reached : (z y : Bool) (k e : ℕ) (name : Name) (reject : Event) (es : List Event) (p : ℕ) → z ≡ true → touches (live_in es (address_of name)) p ≡ true → e ≤ epoch_in (with_event (if z then Some (Event.End k name e) else (if y then None else Some reject)) es) p
+end_reached true y k e name reject es p h on = reached (touches (live_in es (address_of name)) p) (epoch_in es p) e on
+end_reached false y k e name reject es p h on = absurd (false≢true h)
+
+end_reaches : (f : Profile) (l : Whole) → IsValid f → Legal f l → (k e : ℕ) (s : Step) (a p : ℕ) → IsStepOf f s → a ≡ word_after l (target s) → ends_on s a p ≡ true → e ≤ epoch_in (with_event (event_of k e s a) (visible l)) p
+end_reaches f l valid legal k e (Look word) a p of is h = absurd (false≢true h)
+end_reaches f l valid legal k e (Deed q d) a p of is h = absurd (false≢true h)
+end_reaches f l valid legal k e (Back q) a p of is h = absurd (false≢true h)
+end_reaches f l valid legal k e (Take q w mask) a p of is h = absurd (false≢true h)
+end_reaches f l valid legal k e (Put q w mask) a p of is h = absurd (false≢true h)
+end_reaches f l valid legal k e (Give block) a p of is h = absurd (false≢true h)
+end_reaches f l valid legal k e (End name guess) a p of is h = let parts = and_parts (a == live_word name.turn guess) (meets_page (grain_of name) guess p) h in
+    end_reached (a == live_word name.turn guess) (is_live a && (turn_of a == name.turn)) k e name (Event.Reject k name (reason_of name a)) (visible l) p parts.0 (touched_by_end f l valid legal name guess a p of is parts.0 parts.1)
+end_reaches f l valid legal k e (TakeRight q d) a p of is h = absurd (false≢true h)
+end_reaches f l valid legal k e (Offer q d) a p of is h = absurd (false≢true h)
+end_reaches f l valid legal k e (Park q) a p of is h = absurd (false≢true h)
+end_reaches f l valid legal k e (Unpark q) a p of is h = absurd (false≢true h)
+end_reaches f l valid legal k e (Stamp q) a p of is h = absurd (false≢true h)
+end_reaches f l valid legal k e (Hint q) a p of is h = absurd (false≢true h)
+end_reaches f l valid legal k e (Tick raised) a p of is h = absurd (false≢true h)
+end_reaches f l valid legal k e (Unback q) a p of is h = absurd (false≢true h)
+end_reaches f l valid legal k e (Unhint q) a p of is h = absurd (false≢true h)
+
+-- ---- steps
+keeps_unstamped : (v : View) (s : Step) (p : ℕ) → KeepsToEnds v s → stamps s p ≡ true → is_unstamped v p ≡ true
+keeps_unstamped v (Look word) p keeps h = absurd (false≢true h)
+keeps_unstamped v (Deed q d) p keeps h = absurd (false≢true h)
+keeps_unstamped v (Back q) p keeps h = absurd (false≢true h)
+keeps_unstamped v (Take q w mask) p keeps h = absurd (false≢true h)
+keeps_unstamped v (Put q w mask) p keeps h = absurd (false≢true h)
+keeps_unstamped v (Give block) p keeps h = absurd (false≢true h)
+keeps_unstamped v (End name guess) p keeps h = absurd (false≢true h)
+keeps_unstamped v (TakeRight q d) p keeps h = absurd (false≢true h)
+keeps_unstamped v (Offer q d) p keeps h = absurd (false≢true h)
+keeps_unstamped v (Park q) p keeps h = absurd (false≢true h)
+keeps_unstamped v (Unpark q) p keeps h = absurd (false≢true h)
+keeps_unstamped v (Stamp q) p keeps h = ap (is_unstamped v) (sym (eqb-true q p h)) ∙ keeps
+keeps_unstamped v (Hint q) p keeps h = absurd (false≢true h)
+keeps_unstamped v (Tick raised) p keeps h = absurd (false≢true h)
+keeps_unstamped v (Unback q) p keeps h = absurd (false≢true h)
+keeps_unstamped v (Unhint q) p keeps h = absurd (false≢true h)
+
+stamp_most : (x : Bool) (e old : ℕ) → (if x then max old e else old) ≤ max old e
+stamp_most true e old = omega arith
+stamp_most false e old = omega arith
+
+stamp_value : (e : ℕ) (s : Step) (p old : ℕ) → next_value e s (Word.Stamp p) old ≤ max old e
+stamp_value e (Look word) p old = omega (arith, looked (same_word word (Word.Stamp p)) old)
+stamp_value e (Deed q d) p old = omega arith
+stamp_value e (Back q) p old = omega arith
+stamp_value e (Take q w mask) p old = omega arith
+stamp_value e (Put q w mask) p old = omega arith
+stamp_value e (Give block) p old = omega arith
+stamp_value e (End name guess) p old = omega arith
+stamp_value e (TakeRight q d) p old = omega arith
+stamp_value e (Offer q d) p old = omega arith
+stamp_value e (Park q) p old = omega arith
+stamp_value e (Unpark q) p old = omega arith
+stamp_value e (Stamp q) p old = stamp_most (q == p) e old
+stamp_value e (Hint q) p old = omega arith
+stamp_value e (Tick raised) p old = omega arith
+stamp_value e (Unback q) p old = omega arith
+stamp_value e (Unhint q) p old = omega arith
+
+-- while a page is unstamped no epoch is learned
+same_epoch : (v : View) (s : Step) (a p : ℕ) → KeepsToEnds v s → unstamped_after s a p (is_unstamped v p) ≡ true → epoch_of (made s a ∷ v) ≡ epoch_of v
+same_epoch v (Look Word.Epoch) a p keeps h = absurd (false≢true (sym (keeps p) ∙ h))
+same_epoch v (Look (Word.Free q w)) a p keeps h = refl
+same_epoch v (Look (Word.Life q g)) a p keeps h = refl
+same_epoch v (Look (Word.Deed q)) a p keeps h = refl
+same_epoch v (Look (Word.Backed q)) a p keeps h = refl
+same_epoch v (Look (Word.Stamp q)) a p keeps h = refl
+same_epoch v (Look (Word.Parked i)) a p keeps h = refl
+same_epoch v (Look (Word.Empty i)) a p keeps h = refl
+same_epoch v (Look (Word.Eligible n i)) a p keeps h = refl
+same_epoch v (Deed q d) a p keeps h = refl
+same_epoch v (Back q) a p keeps h = refl
+same_epoch v (Take q w mask) a p keeps h = refl
+same_epoch v (Put q w mask) a p keeps h = refl
+same_epoch v (Give block) a p keeps h = refl
+same_epoch v (End name guess) a p keeps h = refl
+same_epoch v (TakeRight q d) a p keeps h = refl
+same_epoch v (Offer q d) a p keeps h = refl
+same_epoch v (Park q) a p keeps h = refl
+same_epoch v (Unpark q) a p keeps h = refl
+same_epoch v (Stamp q) a p keeps h = refl
+same_epoch v (Hint q) a p keeps h = refl
+same_epoch v (Tick raised) a p keeps h = absurd (false≢true (sym (keeps p) ∙ h))
+same_epoch v (Unback q) a p keeps h = refl
+same_epoch v (Unhint q) a p keeps h = refl
+
+left : (x was : Bool) → (if x then false else was) ≡ true → was ≡ true
+left true was h = absurd (false≢true h)
+left false was h = h
+
+ended_or : (x was : Bool) → (if x then true else was) ≡ true → (was ≡ true) ⊎ (x ≡ true)
+ended_or true was h = inr refl
+ended_or false was h = inl h
+
+was_or_ends : (s : Step) (a p : ℕ) (was : Bool) → unstamped_after s a p was ≡ true → (was ≡ true) ⊎ (ends_on s a p ≡ true)
+was_or_ends (Look word) a p was h = inl h
+was_or_ends (Deed q d) a p was h = inl h
+was_or_ends (Back q) a p was h = inl h
+was_or_ends (Take q w mask) a p was h = inl h
+was_or_ends (Put q w mask) a p was h = inl h
+was_or_ends (Give block) a p was h = inl h
+was_or_ends (End name guess) a p was h = ended_or ((a == live_word name.turn guess) && meets_page (grain_of name) guess p) was h
+was_or_ends (TakeRight q d) a p was h = inl h
+was_or_ends (Offer q d) a p was h = inl h
+was_or_ends (Park q) a p was h = inl h
+was_or_ends (Unpark q) a p was h = inl h
+was_or_ends (Stamp q) a p was h = inl (left (q == p) was h)
+was_or_ends (Hint q) a p was h = inl h
+was_or_ends (Tick raised) a p was h = inl h
+was_or_ends (Unback q) a p was h = inl h
+was_or_ends (Unhint q) a p was h = inl h
+
+-- ---- the induction
+-- the stamp is the epoch of some end, and so is what an actor knows while the page is unstamped for it
+record IsExact (l : Whole) (p : ℕ) : Type 0 where
+  stamp : word_after l (Word.Stamp p) ≤ epoch_in (visible l) p
+  late : (k : ℕ) → is_unstamped (part k l) p ≡ true → epoch_of (part k l) ≤ epoch_in (visible l) p
+
+late_part : (t : Bool) (m : Made) (v : View) (p n : ℕ) → (is_unstamped v p ≡ true → epoch_of v ≤ n) → (t ≡ true → is_unstamped (m ∷ v) p ≡ true → epoch_of (m ∷ v) ≤ n) → is_unstamped (if t then m ∷ v else v) p ≡ true → epoch_of (if t then m ∷ v else v) ≤ n
+late_part true m v p n old new = new refl
+late_part false m v p n old new = old
+
+exact : (f : Profile) (l : Whole) → IsValid f → Legal f l → AllKeepToEnds l → (p : ℕ) → IsExact l p
+exact f [] valid legal keeps p = record { stamp = omega arith; late = λ k h. absurd (false≢true h) }
+exact f (t ∷ l) valid legal keeps p =
+    let next : IsNext f l t = legal.0 in
+    let before : IsExact l p = exact f l valid legal.1 keeps.1 p in
+    let s = t.made.step in
+    let a = t.made.answer in
+    let e : ℕ = epoch_of (part t.actor l) in
+    let more : epoch_in (visible l) p ≤ epoch_in (visible (t ∷ l)) p = with_more (event_of t.actor (epoch_of (part t.actor l)) t.made.step t.made.answer) (visible l) p in
+    let old = before.stamp in
+    let own : is_unstamped (t.made ∷ part t.actor l) p ≡ true → epoch_of (t.made ∷ part t.actor l) ≤ epoch_in (visible (t ∷ l)) p = λ h.
+    let same : epoch_of (t.made ∷ part t.actor l) ≡ epoch_of (part t.actor l) = same_epoch (part t.actor l) t.made.step t.made.answer p keeps.0 h in
+    elim (was_or_ends t.made.step t.made.answer p (is_unstamped (part t.actor l) p) h) [
+      | inl was ↦ let le = before.late t.actor was in omega (arith, same, le, more)
+      | inr ends ↦ let le = end_reaches f l valid legal.1 t.actor (epoch_of (part t.actor l)) t.made.step t.made.answer p next.of_region next.answer_is ends in omega (arith, same, le)
+    ] in
+    record {
+      stamp = elim (cases_Bool (stamps t.made.step p)) [
+        | inl h ↦
+            let le = before.late t.actor (keeps_unstamped (part t.actor l) t.made.step p keeps.0 h) in
+            let value = stamp_value (epoch_of (part t.actor l)) t.made.step p (word_after l (Word.Stamp p)) in
+            omega (arith, old, more, le, value)
+        | inr h ↦ let same = stamp_rests (epoch_of (part t.actor l)) t.made.step p (word_after l (Word.Stamp p)) h in omega (arith, old, more, same)
+      ];
+      late = λ k. late_part (t.actor == k) t.made (part k l) p (epoch_in (visible (t ∷ l)) p) (λ h. let le = before.late k h in omega (arith, le, more))
+          (λ here. subst (λ j. is_unstamped (t.made ∷ part j l) p ≡ true → epoch_of (t.made ∷ part j l) ≤ epoch_in (visible (t ∷ l)) p) (eqb-true t.actor k here) own);
+    }
+
+-- the stamp of a page is the greatest epoch of an end on it, once the page is unstamped for nobody
+pub stamps_are_ends : (f : Profile) (l : Whole) → IsValid f → Legal f l → AllKeepToEnds l → (p : ℕ) → ((k : ℕ) → is_unstamped (part k l) p ≡ false) → word_after l (Word.Stamp p) ≡ epoch_in (visible l) p
+stamps_are_ends f l valid legal keeps p settled =
+    let at : IsExact l p = exact f l valid legal keeps p in
+    let most = at.stamp in
+    let least : epoch_in (visible l) p ≤ word_after l (Word.Stamp p) = ends_bound (visible l) p (word_after l (Word.Stamp p)) (ends_map (IsStampedOr l p) (λ j e. e ≤ word_after l (Word.Stamp p)) (visible l) p (λ j n late. elim late [
+      | inl le ↦ le
+      | inr un ↦ absurd (false≢true (sym (settled j) ∙ un.0))
+    ]) (ends_stamped f l valid legal p)) in
+    omega (arith, most, least)

@@ -1,0 +1,5 @@
+use Rattle.pas_report.proofs.Placing.{room_shown}
+use Rattle.pas_report.proofs.laws.room_is_shown.Goals as goal
+
+pub returns : goal.returns
+returns c = room_shown
