@@ -18,7 +18,7 @@ use Rattle.pas_profile.specs.declared.event.Event.{Event}
 use Rattle.pas_profile.specs.declared.event.NoRoom.{NoRoom}
 use Rattle.pas_profile.specs.declared.name.Block.{Block}
 use Rattle.pas_profile.proofs.Codecs.{deed_word_of-positive}
-use Rattle.pas_machine.specs.Runs.{address_of}
+use Rattle.pas_profile.specs.Runs.{address_of}
 use Rattle.pas_steps.specs.Views.{View, known_deed}
 use Rattle.pas_steps.specs.Events.{events_of, events_by}
 use Rattle.pas_steps.specs.Agreement.{Agreed}
@@ -31,7 +31,7 @@ use Rattle.pas_steps.proofs.Kept.{deed_stays}
 use Rattle.pas_search.proofs.StepKinds.{events_quiet, quiet_events, events_at_append, quiet_append}
 use Rattle.pas_segregated.specs.Stops.{class_directory, directory_of}
 use Rattle.pas_segregated.specs.declared.slots.Slots.{Slots}
-use Rattle.pas_cache.specs.Knowledge.{unknown_pages}
+use Rattle.pas_steps.specs.Unknown.{unknown_pages}
 use Rattle.pas_cache.specs.Locals.{IsFormed, IsLocal, RestsWith}
 use Rattle.pas_cache.specs.Changes.{GivesSlot}
 use Rattle.pas_cache.specs.Serves.{IsClassRoute, class_of, ServesLocals, AreAllocating, IsPreparing, IsInSlot, IsBlockFor, IsSilent}
@@ -39,7 +39,8 @@ use Rattle.pas_cache.specs.Pieces.{MayGiveSlot, GivesLowest, MayObtain, FindsCac
 use Rattle.pas_cache.proofs.Locals.{without_last}
 use Rattle.pas_cache.proofs.Resting.{here, may_give_slot}
 use Rattle.pas_cache.proofs.Granting.{rests_given, given_page, given_deed}
-use Rattle.pas_cache.proofs.Knowing.{unknown_stays, none_unknown, prepared, searches_allocate, releases_allocate, allocating_append}
+use Rattle.pas_cache.proofs.Knowing.{prepared, searches_allocate, releases_allocate, allocating_append}
+use Rattle.pas_steps.proofs.Unknown.{unknown_stays, none_unknown}
 
 -- ---- room
 pub fewer_room : {σ : Standing} {spare : ℕ} {locals : List Slots} → CanCall σ (λ v l. MayObtain σ.seat.profile 2 spare locals v) → CanCall σ (λ v l. MayObtain σ.seat.profile 1 spare locals v)

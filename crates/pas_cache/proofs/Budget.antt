@@ -8,18 +8,10 @@ use Rattle.pas_steps.specs.Events.{events_of, events_by}
 use Rattle.pas_steps.specs.Lists.{Whole}
 use Rattle.pas_steps.specs.Desks.{Standing, Seat, CanCall, triples}
 use Rattle.pas_steps.proofs.Frames.{events_split}
-use Rattle.pas_cache.specs.Knowledge.{unknown_below, unknown_pages}
+use Rattle.pas_steps.specs.Unknown.{unknown_below, unknown_pages}
 use Rattle.pas_cache.specs.Caches.{Cached, AtRest}
 use Rattle.pas_cache.specs.Calls.{MayAllocate, Allocates}
-use Rattle.pas_cache.proofs.Knowing.{has_room}
-
-fresh_below : (n : ℕ) → unknown_below n [] ≡ n
-fresh_below zero = refl
-fresh_below (suc n) = let below = fresh_below n in omega (arith, below)
-
--- who made no step knows no deed
-pub unknown_fresh : (f : Profile) → unknown_pages f [] ≡ f.pages
-unknown_fresh f = fresh_below f.pages
+use Rattle.pas_steps.proofs.Unknown.{has_room}
 
 -- The actor is at rest, and there is room for n events and for a deed of each page whose deed isn't known.
 pub record HasBudget (f : Profile) (c : Cached) (n spare : ℕ) (v : View) : Type 0 where

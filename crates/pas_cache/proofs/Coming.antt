@@ -1,4 +1,5 @@
 -- Slots come by a refill.
+use Rattle.pas_steps.proofs.Unknown.{room_after}
 use Rattle.std.proofs.Common.{◌≡◌, ℕ, suc, ◌+◌, ◌*◌, ◌<◌, ◌≤◌, ◌==◌, Bool, true, false, ◌&&◌, ◌||◌, if◌then◌else◌, List, [], ◌∷◌, ◌++◌, length, Some, None, inl, inr, refl, ap, sym, ◌∙◌, subst, arith, true≢false, append_assoc, Ok, Err, Result}
 use Rattle.std.specs.Prelude.{MatchResult, IfOk}
 use Rattle.std.specs.List.{AllByRecursion}
@@ -11,14 +12,14 @@ use Rattle.pas_profile.specs.declared.directory.Directory.{Directory}
 use Rattle.pas_profile.specs.declared.directory.Kind.TheVariants as Kind
 use Rattle.pas_profile.specs.declared.event.NoRoom.{NoRoom}
 use Rattle.pas_bits.specs.declared.mask.Mask4.{Mask4}
-use Rattle.pas_steps.specs.Views.{View, has_right, known_deed}
+use Rattle.pas_steps.specs.Views.{View, has_right, known_deed, KnowsDeed}
 use Rattle.pas_steps.specs.Agreement.{Agreed}
 use Rattle.pas_steps.specs.Desks.{Standing, Seat, CanCall, triples}
 use Rattle.pas_steps.specs.declared.step.Made.{Made}
 use Rattle.pas_steps.proofs.Adding.{adds_call, triples_append, agreed_first, agreed_later}
 use Rattle.pas_steps.proofs.Kept.{deed_stays}
-use Rattle.pas_scan.specs.Evidence.{IsOf}
-use Rattle.pas_search.specs.Searches.{MaySearch, KnowsAllDeeds, HasRoom, SearchRoom, IsServed, IsRefused}
+use Rattle.pas_search.specs.Searches.{MaySearch, SearchRoom, IsServed, IsRefused}
+use Rattle.pas_steps.specs.Unknown.{KnowsAllDeeds, HasRoom}
 use Rattle.pas_search.specs.Telling.{IsTold}
 use Rattle.pas_search.specs.declared.serving.Served.{Served}
 use Rattle.pas_segregated.specs.Takes.{exclusive}
@@ -37,7 +38,7 @@ use Rattle.pas_cache.proofs.Tests.{if_not, if_so}
 same_words : (h c h' c' : ℕ) → c < 16 → c' < 16 → 65536 + h * 256 + c ≡ 65536 + h' * 256 + c' → (h ≡ h') × (c ≡ c')
 same_words h c h' c' a b same = (omega arith, omega arith)
 
-no_right_in : (f : Profile) (v : View) (heap class : ℕ) (locals : List Slots) → class < 16 → AllByRecursion (IsLocal f v) locals → local_for heap class locals ≡ None → (p : ℕ) → IsOf (class_directory heap class) p v → any_keeps locals p ≡ false
+no_right_in : (f : Profile) (v : View) (heap class : ℕ) (locals : List Slots) → class < 16 → AllByRecursion (IsLocal f v) locals → local_for heap class locals ≡ None → (p : ℕ) → KnowsDeed p (class_directory heap class) v → any_keeps locals p ≡ false
 no_right_in f v heap class [] is all none p of = refl
 no_right_in f v heap class (first ∷ rest) is all none p of =
     let other = not_first heap class first rest none in
@@ -102,7 +103,7 @@ module _ (f : Profile) (heap class : ℕ) (locals : List Slots) (is : IsDirector
         apart = w.join_apart
             (record {
               grains = λ g here. sym (h.grains g) ∙ s.apart v may agreed g here;
-              rights = λ p keeps. no_right_in f (steps ++ v) heap class locals is.kind later none p (subst (λ q. IsOf (class_directory heap class) q (steps ++ v)) (keeps_page slots p keeps) (s.known v may agreed).1);
+              rights = λ p keeps. no_right_in f (steps ++ v) heap class locals is.kind later none p (subst (λ q. KnowsDeed q (class_directory heap class) (steps ++ v)) (keeps_page slots p keeps) (s.known v may agreed).1);
             })
             h.apart;
       }
@@ -134,13 +135,6 @@ none_stopped heap class false (first ∷ rest) kept steps h none = ap (local_for
 
 pub none_shortened : (heap class : ℕ) (locals kept : List Slots) (steps : List Made) → IsShortened locals kept steps → local_for heap class locals ≡ None → local_for heap class kept ≡ None
 none_shortened heap class locals kept steps h none = none_stopped heap class _ locals kept steps h none
-
--- what was known of deeds is known
-pub all_known : (f : Profile) (steps : List Made) (v : View) → Agreed f v steps → KnowsAllDeeds f v → KnowsAllDeeds f (steps ++ v)
-all_known f steps v agreed all p is z = all p is (sym (deed_stays f steps v p agreed (all p is)) ∙ z)
-
-pub room_after : (f : Profile) (n spare : ℕ) (steps : List Made) (v : View) → Agreed f v steps → HasRoom f n spare v → HasRoom f n spare (steps ++ v)
-room_after f n spare steps v agreed h = (h.0, elim h.1 [ inl all ↦ inl (all_known f steps v agreed all) | inr more ↦ inr more ])
 
 pub obtain_rests : {σ : Standing} {n spare : ℕ} {locals : List Slots} → CanCall σ (λ v l. MayObtain σ.seat.profile n spare locals v) → CanCall σ (λ v l. RestsWith σ.seat.profile locals v)
 obtain_rests can = record { view = can.view; whole = can.whole; stood = can.stood; met = can.met.rest }

@@ -31,13 +31,6 @@ or_keeps false n m b h = h
 free_step : (e : ℕ) (s : Step) (p w old b : ℕ) → IsReleasing s → has_bit old b ≡ true → has_bit (if same_word (target s) (Word.Free p w) then new_value e s old else old) b ≡ true
 free_step e (Look x) p w old b is h = ap (λ n. has_bit n b) (same (same_word x (Word.Free p w)) old) ∙ h
 free_step e (Put q j m) p w old b is h = or_keeps (same_word (Word.Free q j) (Word.Free p w)) old m b h
-free_step e (Offer q d) p w old b is h = h
-free_step e (Park q) p w old b is h = h
-free_step e (Unpark q) p w old b is h = h
-free_step e (Hint q) p w old b is h = h
-free_step e (Tick raised) p w old b is h = h
-free_step e (Unback q) p w old b is h = h
-free_step e (Unhint q) p w old b is h = h
 free_step e (Deed q d) p w old b is h = absurd is
 free_step e (Back q) p w old b is h = absurd is
 free_step e (Take q j m) p w old b is h = absurd is
@@ -45,7 +38,7 @@ free_step e (Give block) p w old b is h = absurd is
 free_step e (End name guess) p w old b is h = absurd is
 free_step e (TakeRight q d) p w old b is h = absurd is
 free_step e (Stamp q) p w old b is h = absurd is
-
+free_step e s p w old b is h = h
 free_stays : (k : ℕ) (xs : List Made) (l : Whole) (p w b : ℕ) → AreReleasing xs → has_bit (word_after l (Word.Free p w)) b ≡ true → has_bit (word_after (triples k xs ++ l) (Word.Free p w)) b ≡ true
 free_stays k [] l p w b are h = h
 free_stays k (m ∷ xs) l p w b are h = free_step (epoch_of (part k (triples k xs ++ l))) m.step p w (word_after (triples k xs ++ l) (Word.Free p w)) b are.0 (free_stays k xs l p w b are.1 h)
@@ -53,14 +46,7 @@ free_stays k (m ∷ xs) l p w b are h = free_step (epoch_of (part k (triples k x
 -- ---- eligible words
 offered_step : (e : ℕ) (s : Step) (n j old b : ℕ) → IsReleasing s → has_bit old b ≡ true → has_bit (if same_word (target s) (Word.Eligible n j) then new_value e s old else old) b ≡ true
 offered_step e (Look x) n j old b is h = ap (λ a. has_bit a b) (same (same_word x (Word.Eligible n j)) old) ∙ h
-offered_step e (Put q i m) n j old b is h = h
 offered_step e (Offer q d) n j old b is h = or_keeps (same_word (Word.Eligible (number_of d) (q / 64)) (Word.Eligible n j)) old (page_mask q) b h
-offered_step e (Park q) n j old b is h = h
-offered_step e (Unpark q) n j old b is h = h
-offered_step e (Hint q) n j old b is h = h
-offered_step e (Tick raised) n j old b is h = h
-offered_step e (Unback q) n j old b is h = h
-offered_step e (Unhint q) n j old b is h = h
 offered_step e (Deed q d) n j old b is h = absurd is
 offered_step e (Back q) n j old b is h = absurd is
 offered_step e (Take q i m) n j old b is h = absurd is
@@ -68,7 +54,7 @@ offered_step e (Give block) n j old b is h = absurd is
 offered_step e (End name guess) n j old b is h = absurd is
 offered_step e (TakeRight q d) n j old b is h = absurd is
 offered_step e (Stamp q) n j old b is h = absurd is
-
+offered_step e s n j old b is h = h
 offered_stays : (k : ℕ) (xs : List Made) (l : Whole) (n j b : ℕ) → AreReleasing xs → has_bit (word_after l (Word.Eligible n j)) b ≡ true → has_bit (word_after (triples k xs ++ l) (Word.Eligible n j)) b ≡ true
 offered_stays k [] l n j b are h = h
 offered_stays k (m ∷ xs) l n j b are h = offered_step (epoch_of (part k (triples k xs ++ l))) m.step n j (word_after (triples k xs ++ l) (Word.Eligible n j)) b are.0 (offered_stays k xs l n j b are.1 h)
@@ -76,14 +62,6 @@ offered_stays k (m ∷ xs) l n j b are h = offered_step (epoch_of (part k (tripl
 -- ---- deed words
 deed_step : (e : ℕ) (s : Step) (p old : ℕ) → IsReleasing s → (if same_word (target s) (Word.Deed p) then new_value e s old else old) ≡ old
 deed_step e (Look x) p old is = same (same_word x (Word.Deed p)) old
-deed_step e (Put q i m) p old is = refl
-deed_step e (Offer q d) p old is = refl
-deed_step e (Park q) p old is = refl
-deed_step e (Unpark q) p old is = refl
-deed_step e (Hint q) p old is = refl
-deed_step e (Tick raised) p old is = refl
-deed_step e (Unback q) p old is = refl
-deed_step e (Unhint q) p old is = refl
 deed_step e (Deed q d) p old is = absurd is
 deed_step e (Back q) p old is = absurd is
 deed_step e (Take q i m) p old is = absurd is
@@ -91,7 +69,7 @@ deed_step e (Give block) p old is = absurd is
 deed_step e (End name guess) p old is = absurd is
 deed_step e (TakeRight q d) p old is = absurd is
 deed_step e (Stamp q) p old is = absurd is
-
+deed_step e s p old is = refl
 deed_same : (k : ℕ) (xs : List Made) (l : Whole) (p : ℕ) → AreReleasing xs → word_after (triples k xs ++ l) (Word.Deed p) ≡ word_after l (Word.Deed p)
 deed_same k [] l p are = refl
 deed_same k (m ∷ xs) l p are = deed_step (epoch_of (part k (triples k xs ++ l))) m.step p (word_after (triples k xs ++ l) (Word.Deed p)) are.0 ∙ deed_same k xs l p are.1

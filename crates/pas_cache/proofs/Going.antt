@@ -29,13 +29,8 @@ use Rattle.pas_cache.proofs.Resting.{here, may_stop, rests_stopped}
 
 -- ---- the kinds of steps of a stop
 return_releases : (p : ℕ) (s : Step) → IsReturn p s → IsReleasing s
-return_releases p s (IsReturn.LooksFree w) = tt
-return_releases p s IsReturn.LooksBacked = tt
-return_releases p s (IsReturn.Offers d) = tt
-return_releases p s IsReturn.Parks = tt
-return_releases p s IsReturn.Unparks = tt
 return_releases p s IsReturn.Hints = tt
-
+return_releases p s step = tt
 returns_release : (p : ℕ) (steps : List Made) → OnlyReturns p steps → AreReleasing steps
 returns_release p steps h = always_map (λ m before. IsReturn p m.step) (λ m before. IsReleasing m.step) steps (λ m before is. return_releases p m.step is) h
 

@@ -13,7 +13,7 @@ use Rattle.pas_steps.specs.Desks.{Standing, Seat, CanCall, Makes, made}
 use Rattle.pas_steps.specs.declared.step.Made.{Made}
 use Rattle.pas_steps.specs.declared.step.Step.TheVariants.{Look}
 use Rattle.pas_steps.proofs.Adding.{adds_none, adds_step, adds_under, adds_call, can_call, agreed_first, agreed_later}
-use Rattle.pas_steps.specs.Rests.{IsClear, HasNothing}
+use Rattle.pas_steps.specs.Clear.{IsClear, HasNothing}
 use Rattle.pas_search.proofs.Backed.{held_where_backed}
 use Rattle.pas_search.proofs.StepKinds.{events_quiet}
 use Rattle.pas_free_log.specs.Conditions.{IsNameOf}

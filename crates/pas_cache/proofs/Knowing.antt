@@ -1,4 +1,5 @@
 -- How many pages have a deed that isn't known, and how many events a refill makes.
+use Rattle.pas_steps.proofs.Unknown.{unknown_stays, unknown_less}
 use Rattle.std.proofs.Common.{◌≡◌, ◌≢◌, ℕ, zero, suc, ◌+◌, ◌≤◌, ◌==◌, Bool, true, false, if◌then◌else◌, List, [], ◌∷◌, ◌++◌, length, Some, None, Ok, Err, Result, inl, inr, refl, ap, sym, ◌∙◌, subst, arith, append_assoc, length-append}
 use Rattle.std.specs.Prelude.{MatchResult}
 use Rattle.std.specs.List.{AllByRecursion}
@@ -22,84 +23,15 @@ use Rattle.pas_steps.proofs.Kept.{deed_stays}
 use Rattle.pas_steps.proofs.Past.{always_map, always_both}
 use Rattle.pas_search.specs.Kinds.{IsSearch, OnlySearches, AreQuiet, IsDeedOrBack, EventsAt}
 use Rattle.pas_search.specs.Serving.{Rule}
-use Rattle.pas_search.specs.Searches.{MaySearch, KnowsAllDeeds, HasRoom, DeedMadeHere, IsRefused}
+use Rattle.pas_search.specs.Searches.{MaySearch, DeedMadeHere, IsRefused}
 use Rattle.pas_segregated.specs.Refills.{GivesSlots}
 use Rattle.pas_segregated.specs.declared.slots.Slots.{Slots}
 use Rattle.pas_search.proofs.StepKinds.{events_quiet}
 use Rattle.pas_segregated.specs.Takes.{exclusive}
 use Rattle.pas_segregated.specs.Stops.{class_directory}
-use Rattle.pas_cache.specs.Knowledge.{unknown_here, unknown_below, unknown_pages}
+use Rattle.pas_steps.specs.Unknown.{unknown_here, unknown_below, unknown_pages, KnowsAllDeeds, HasRoom}
 use Rattle.pas_cache.specs.Serves.{IsRefill, IsAllocating, AreAllocating, IsPreparing}
 use Rattle.pas_cache.specs.Pieces.{IsReleasing, AreReleasing}
-
--- ---- unknown pages grow fewer
-abbrev one_if : Bool → ℕ
-one_if t = if t then 1 else 0
-
-no_more : (a b : ℕ) (t u : Bool) → (a == 0) ≡ t → (b == 0) ≡ u → (b ≢ 0 → a ≢ 0) → unknown_here a ≤ unknown_here b
-no_more a b true true ea eb h = let x : unknown_here a ≡ 1 = ap one_if ea in let y : unknown_here b ≡ 1 = ap one_if eb in omega (arith, x, y)
-no_more a b true false ea eb h = absurd (h (eqb-false b 0 eb) (eqb-true a 0 ea))
-no_more a b false u ea eb h = let x : unknown_here a ≡ 0 = ap one_if ea in omega (arith, x)
-
-unknown_kept : (f : Profile) (n : ℕ) (steps : List Made) (v : View) → Agreed f v steps → unknown_below n (steps ++ v) ≤ unknown_below n v
-unknown_kept f zero steps v agreed = omega arith
-unknown_kept f (suc n) steps v agreed =
-    let here = no_more (known_deed (steps ++ v) (suc n)) (known_deed v (suc n)) _ _ refl refl (λ ne z. ne (sym (deed_stays f steps v (suc n) agreed ne) ∙ z)) in
-    let below = unknown_kept f n steps v agreed in
-    omega (arith, here, below)
-
-pub unknown_stays : (f : Profile) (steps : List Made) (v : View) → Agreed f v steps → unknown_pages f (steps ++ v) ≤ unknown_pages f v
-unknown_stays f steps v agreed = unknown_kept f f.pages steps v agreed
-
-unknown_fewer : (f : Profile) (n page : ℕ) (steps : List Made) (v : View) → Agreed f v steps → known_deed v page ≡ 0 → known_deed (steps ++ v) page ≢ 0 → 1 ≤ page → page ≤ n → unknown_below n (steps ++ v) + 1 ≤ unknown_below n v
-unknown_fewer f zero page steps v agreed was now low high = absurd (omega (arith, low, high))
-unknown_fewer f (suc n) page steps v agreed was now low high = elim (cases_eq page (suc n)) [
-  | inl e ↦
-      let before : known_deed v (suc n) ≡ 0 = ap (known_deed v) (sym e) ∙ was in
-      let x : unknown_here (known_deed v (suc n)) ≡ 1 = ap unknown_here before in
-      let other : (known_deed (steps ++ v) (suc n) == 0) ≡ false = ne_eqb (known_deed (steps ++ v) (suc n)) 0 (λ z. now (ap (known_deed (steps ++ v)) e ∙ z)) in
-      let y : unknown_here (known_deed (steps ++ v) (suc n)) ≡ 0 = ap one_if other in
-      let below = unknown_kept f n steps v agreed in
-      omega (arith, x, y, below)
-  | inr ne ↦
-      let here = no_more (known_deed (steps ++ v) (suc n)) (known_deed v (suc n)) _ _ refl refl (λ some z. some (sym (deed_stays f steps v (suc n) agreed some) ∙ z)) in
-      let below = unknown_fewer f n page steps v agreed was now low (omega (arith, high, ne)) in
-      omega (arith, here, below)
-]
-
-pub unknown_less : (f : Profile) (page : ℕ) (steps : List Made) (v : View) → Agreed f v steps → IsPage f page → known_deed v page ≡ 0 → known_deed (steps ++ v) page ≢ 0 → unknown_pages f (steps ++ v) + 1 ≤ unknown_pages f v
-unknown_less f page steps v agreed is was now = unknown_fewer f f.pages page steps v agreed was now is.0 is.1
-
-none_below : (f : Profile) (n : ℕ) (v : View) → KnowsAllDeeds f v → n ≤ f.pages → unknown_below n v ≡ 0
-none_below f zero v all le = refl
-none_below f (suc n) v all le =
-    let here : (known_deed v (suc n) == 0) ≡ false = ne_eqb (known_deed v (suc n)) 0 (all (suc n) (omega arith, le)) in
-    let x : unknown_here (known_deed v (suc n)) ≡ 0 = ap one_if here in
-    let below = none_below f n v all (omega (arith, le)) in
-    omega (arith, x, below)
-
-pub none_unknown : (f : Profile) (v : View) → KnowsAllDeeds f v → unknown_pages f v ≡ 0
-none_unknown f v all = none_below f f.pages v all (omega arith)
-
-all_below : (n : ℕ) (v : View) (page : ℕ) → unknown_below n v ≡ 0 → 1 ≤ page → page ≤ n → known_deed v page ≢ 0
-all_below zero v page none low high = absurd (omega (arith, low, high))
-all_below (suc n) v page none low high = elim (cases_eq page (suc n)) [
-  | inl e ↦ λ z.
-      let here : known_deed v (suc n) ≡ 0 = ap (known_deed v) (sym e) ∙ z in
-      let x : unknown_here (known_deed v (suc n)) ≡ 1 = ap unknown_here here in
-      omega (arith, none, x)
-  | inr ne ↦ all_below n v page (omega (arith, none)) low (omega (arith, high, ne))
-]
-
--- room for so many events beside the pages whose deed isn't known is room for a request
-pub has_room : (f : Profile) (n spare : ℕ) (v : View) → n + unknown_pages f v ≤ spare → HasRoom f n spare v
-has_room f n spare v fits = (
-  omega (arith, fits),
-  elim (cases_eq (unknown_pages f v) 0) [
-    | inl none ↦ inl (λ page is. all_below f.pages v page none is.0 is.1)
-    | inr some ↦ inr (omega (arith, fits, some))
-  ],
-)
 
 -- ---- a deed that was made wasn't known before
 made_unknown : {F : Type 0} (rule : Rule F) (f : Profile) (d : Directory) (page : ℕ) (steps : List Made) (v : View) → Agreed f v steps → Once (DeedMadeHere rule f d page) steps → known_deed v page ≢ 0 → ⊥
@@ -175,37 +107,19 @@ prepared d page (m ∷ more) at k v = elim at.0 [
 
 -- ---- kinds of steps
 search_allocates : (s : Step) → IsSearch s → IsAllocating s
-search_allocates s (IsSearch.Looks word) = tt
-search_allocates s (IsSearch.Deeds p d) = tt
-search_allocates s (IsSearch.Backs p) = tt
-search_allocates s (IsSearch.Takes p w mask) = tt
-search_allocates s (IsSearch.Puts p w mask) = tt
-search_allocates s (IsSearch.Claims p d) = tt
-search_allocates s (IsSearch.Offers p d) = tt
-search_allocates s (IsSearch.Parks p) = tt
-search_allocates s (IsSearch.Unparks p) = tt
 search_allocates s (IsSearch.Hints p) = tt
+search_allocates s step = tt
 
 pub searches_allocate : (steps : List Made) → OnlySearches steps → AreAllocating steps
 searches_allocate steps h = always_map (λ m before. IsSearch m.step) (λ m before. IsAllocating m.step) steps (λ m before is. search_allocates m.step is) h
 
 release_allocates : (s : Step) → IsReleasing s → IsAllocating s
-release_allocates (Look word) h = tt
-release_allocates (Deed p d) h = tt
-release_allocates (Back p) h = tt
-release_allocates (Take p w mask) h = tt
-release_allocates (Put p w mask) h = tt
-release_allocates (Give block) h = tt
 release_allocates (End name guess) h = h
-release_allocates (TakeRight p d) h = tt
-release_allocates (Offer p d) h = tt
-release_allocates (Park p) h = tt
-release_allocates (Unpark p) h = tt
 release_allocates (Stamp p) h = h
-release_allocates (Hint p) h = tt
 release_allocates (Tick raised) h = h
 release_allocates (Unback p) h = h
 release_allocates (Unhint p) h = h
+release_allocates s h = tt
 
 pub releases_allocate : (steps : List Made) → AreReleasing steps → AreAllocating steps
 releases_allocate steps h = always_map (λ m before. IsReleasing m.step) (λ m before. IsAllocating m.step) steps (λ m before is. release_allocates m.step is) h

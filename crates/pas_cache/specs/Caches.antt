@@ -3,7 +3,7 @@ use Rattle.std.specs.Prelude.{ℕ, ◌≤◌, List, length, All, ◌≡◌, fals
 use Rattle.pas_profile.specs.declared.name.Name.{Name}
 use Rattle.pas_profile.specs.declared.profile.Profile.{Profile}
 use Rattle.pas_steps.specs.Views.{View, holds, has_right}
-use Rattle.pas_steps.specs.Rests.{IsClear}
+use Rattle.pas_steps.specs.Clear.{IsClear}
 use Rattle.pas_free_log.specs.Conditions.{IsNameOf}
 use Rattle.pas_free_log.specs.Logs.{names_in}
 use Rattle.pas_segregated.specs.declared.slots.Slots.{Slots}

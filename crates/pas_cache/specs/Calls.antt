@@ -6,7 +6,7 @@ use Rattle.pas_profile.specs.declared.name.Name.{Name}
 use Rattle.pas_profile.specs.declared.name.Block.{Block}
 use Rattle.pas_profile.specs.declared.profile.Profile.{Profile}
 use Rattle.pas_profile.specs.declared.word.Word.TheVariants as Word
-use Rattle.pas_machine.specs.Runs.{address_of}
+use Rattle.pas_profile.specs.Runs.{address_of}
 use Rattle.pas_steps.specs.Views.{View}
 use Rattle.pas_steps.specs.Events.{events_by}
 use Rattle.pas_steps.specs.Agreement.{Agreed}
@@ -14,9 +14,9 @@ use Rattle.pas_steps.specs.Lists.{Whole}
 use Rattle.pas_steps.specs.Desks.{Standing, Adds, triples, made}
 use Rattle.pas_steps.specs.declared.step.Made.{Made}
 use Rattle.pas_steps.specs.declared.step.Step.TheVariants.{Look}
-use Rattle.pas_search.specs.Searches.{HasRoom}
+use Rattle.pas_steps.specs.Unknown.{HasRoom}
 use Rattle.pas_cache.specs.Caches.{Cached, AtRest}
-use Rattle.pas_steps.specs.Rests.{HasNothing}
+use Rattle.pas_steps.specs.Clear.{HasNothing}
 use Rattle.pas_cache.specs.Names.{IsInRegion, IsFaultOf}
 use Rattle.pas_cache.specs.Changes.{EmptiesLog, LogsName, StopsAll}
 use Rattle.pas_cache.specs.Pieces.{AreReleasing}

@@ -7,7 +7,7 @@ use Rattle.pas_profile.specs.declared.name.Name.{Name}
 use Rattle.pas_profile.specs.declared.name.Block.{Block}
 use Rattle.pas_profile.specs.declared.word.Word.TheVariants as Word
 use Rattle.pas_bits.specs.Masks.{is_set, IsLowestSet}
-use Rattle.pas_machine.specs.Runs.{address_of}
+use Rattle.pas_profile.specs.Runs.{address_of}
 use Rattle.pas_steps.specs.Views.{View}
 use Rattle.pas_steps.specs.Events.{events_by}
 use Rattle.pas_steps.specs.Desks.{made}

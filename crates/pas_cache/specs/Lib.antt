@@ -1,7 +1,6 @@
 pub mod Locals
 pub mod Places
 pub mod Caches
-pub mod Knowledge
 pub mod Changes
 pub mod Names
 pub mod Serves

@@ -5,9 +5,8 @@ use Rattle.std.specs.List.{AllByRecursion}
 use Rattle.pas_profile.specs.Classes.{IsClass}
 use Rattle.pas_profile.specs.Profiles.{IsPage, IsDirectoryOf}
 use Rattle.pas_profile.specs.declared.profile.Profile.{Profile}
-use Rattle.pas_steps.specs.Views.{View, holds, has_right, knows_backed}
-use Rattle.pas_rights.specs.Rights.{KnowsDeed}
-use Rattle.pas_steps.specs.Rests.{IsClear}
+use Rattle.pas_steps.specs.Views.{View, holds, has_right, knows_backed, KnowsDeed}
+use Rattle.pas_steps.specs.Clear.{IsClear}
 use Rattle.pas_segregated.specs.Masks.{AreStarts, IsSome}
 use Rattle.pas_segregated.specs.Stops.{directory_of, in_slots}
 use Rattle.pas_segregated.specs.declared.slots.Slots.{Slots}

@@ -13,7 +13,7 @@ use Rattle.pas_steps.specs.declared.step.Made.{Made}
 use Rattle.pas_steps.specs.declared.step.Step.{Step}
 use Rattle.pas_steps.specs.declared.step.Step.TheVariants.{Look, Deed, Back, Take, Put, Give, End, TakeRight, Offer, Park, Unpark, Stamp, Hint, Tick, Unback, Unhint}
 use Rattle.pas_search.specs.Kinds.{AreQuiet}
-use Rattle.pas_search.specs.Searches.{HasRoom}
+use Rattle.pas_steps.specs.Unknown.{HasRoom}
 use Rattle.pas_search.specs.Telling.{HasNoFit, IsTrueReason}
 use Rattle.pas_segregated.specs.Masks.{IsSome}
 use Rattle.pas_segregated.specs.Stops.{class_directory}

@@ -29,7 +29,7 @@ impl ThreadCache {
     ghost use Rattle.pas_steps.specs.Desks.{CanCall};
     ghost use Rattle.pas_utility.specs.Seats.{thread_of};
     ghost use Rattle.pas_cache.specs.Caches.{cached, seat_of, AtRest};
-    ghost use Rattle.pas_steps.specs.Rests.{HasNothing};
+    ghost use Rattle.pas_steps.specs.Clear.{HasNothing};
     ghost use Rattle.pas_profile.specs.declared.profile.Profile.{Profile};
     ghost use Rattle.pas_steps.specs.Views.{View};
     ghost use Rattle.pas_cache.specs.Calls.{Begins};

@@ -1,7 +1,7 @@
 //! Names are logged, and the log is flushed.
 ghost use Rattle.std.specs.Prelude.{◌≡◌, ◌<◌, ◌≤◌, MatchResult, length, nat_le};
 ghost use Rattle.pas_steps.specs.Desks.{CanCall};
-ghost use Rattle.pas_steps.specs.Rests.{IsClear};
+ghost use Rattle.pas_steps.specs.Clear.{IsClear};
 ghost use Rattle.pas_free_log.specs.Logs.{names_in};
 ghost use Rattle.pas_cache.specs.Names.{IsInRegion, IsFaultOf, MayFlush, EmptiesWhere, LogsInto};
 

@@ -9,7 +9,7 @@ use Rattle.pas_profile.proofs.Codecs.{is_live-live_word, grains_of-live_word}
 use Rattle.pas_profile.specs.declared.profile.Profile.{Profile}
 use Rattle.pas_profile.specs.declared.name.Name.{Name}
 use Rattle.pas_profile.specs.declared.word.Word.{Word}
-use Rattle.pas_machine.specs.Runs.{grain_of, in_run, length_of}
+use Rattle.pas_profile.specs.Runs.{grain_of, in_run, length_of}
 use Rattle.pas_machine.specs.State.{Live, live_in, gives_in, ends_in}
 use Rattle.pas_steps.specs.Effects.{free_word_at, life_word_at, target}
 use Rattle.pas_steps.specs.Views.{holds, known_deed}

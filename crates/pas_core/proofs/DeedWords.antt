@@ -43,20 +43,7 @@ deed_stays true d old known (inr h) = elim (cases_eq old 0) [ inl e ↦ inl (h �
 pub word_stays : (e : ℕ) (s : Step) (p old known : ℕ) → IsKnown known old → IsKnown known (next_value e s (Word.Deed p) old)
 word_stays e (Look w) p old known h = subst (IsKnown known) (sym (looked (same_word w (Word.Deed p)) old)) h
 word_stays e (Deed q d) p old known h = deed_stays (q == p) d old known h
-word_stays e (Back q) p old known h = h
-word_stays e (Take q w m) p old known h = h
-word_stays e (Put q w m) p old known h = h
-word_stays e (Give b) p old known h = h
-word_stays e (End n u) p old known h = h
-word_stays e (TakeRight q directory) p old known h = h
-word_stays e (Offer q directory) p old known h = h
-word_stays e (Park q) p old known h = h
-word_stays e (Unpark q) p old known h = h
-word_stays e (Stamp q) p old known h = h
-word_stays e (Hint q) p old known h = h
-word_stays e (Tick raised) p old known h = h
-word_stays e (Unback q) p old known h = h
-word_stays e (Unhint q) p old known h = h
+word_stays e s p old known h = h
 
 pub deed_tells : (x : Bool) (d : Directory) (old a known : ℕ) → (x ≡ true → a ≡ old) → IsKnown known old
     → IsKnown (if x then (if a == 0 then deed_word_of d else a) else known) (if x then (if old == 0 then deed_word_of d else old) else old)
@@ -87,20 +74,7 @@ deed_written f false z d old of h = h
 deed_word_next : (f : Profile) (e : ℕ) (s : Step) (p old : ℕ) → IsStepOf f s → IsDeedWord f old → IsDeedWord f (next_value e s (Word.Deed p) old)
 deed_word_next f e (Look w) p old of h = subst (IsDeedWord f) (sym (looked (same_word w (Word.Deed p)) old)) h
 deed_word_next f e (Deed q d) p old of h = deed_written f (q == p) (old == 0) d old of.1 h
-deed_word_next f e (Back q) p old of h = h
-deed_word_next f e (Take q w m) p old of h = h
-deed_word_next f e (Put q w m) p old of h = h
-deed_word_next f e (Give b) p old of h = h
-deed_word_next f e (End n u) p old of h = h
-deed_word_next f e (TakeRight q directory) p old of h = h
-deed_word_next f e (Offer q directory) p old of h = h
-deed_word_next f e (Park q) p old of h = h
-deed_word_next f e (Unpark q) p old of h = h
-deed_word_next f e (Stamp q) p old of h = h
-deed_word_next f e (Hint q) p old of h = h
-deed_word_next f e (Tick raised) p old of h = h
-deed_word_next f e (Unback q) p old of h = h
-deed_word_next f e (Unhint q) p old of h = h
+deed_word_next f e s p old of h = h
 
 pub deed_words : (f : Profile) (l : Whole) → Legal f l → (p : ℕ) → IsDeedWord f (word_after l (Word.Deed p))
 deed_words f [] legal p = λ ne. absurd (ne refl)
@@ -116,20 +90,7 @@ page_if f false q p new old e of h ne = h ne
 deed_page_next : (f : Profile) (e : ℕ) (s : Step) (p old : ℕ) → IsStepOf f s → (old ≢ 0 → IsPage f p) → next_value e s (Word.Deed p) old ≢ 0 → IsPage f p
 deed_page_next f e (Look w) p old of h ne = h (λ z. ne (looked (same_word w (Word.Deed p)) old ∙ z))
 deed_page_next f e (Deed q d) p old of h ne = page_if f (q == p) q p (if old == 0 then deed_word_of d else old) old refl of.0 h ne
-deed_page_next f e (Back q) p old of h ne = h ne
-deed_page_next f e (Take q w m) p old of h ne = h ne
-deed_page_next f e (Put q w m) p old of h ne = h ne
-deed_page_next f e (Give b) p old of h ne = h ne
-deed_page_next f e (End n u) p old of h ne = h ne
-deed_page_next f e (TakeRight q directory) p old of h ne = h ne
-deed_page_next f e (Offer q directory) p old of h ne = h ne
-deed_page_next f e (Park q) p old of h ne = h ne
-deed_page_next f e (Unpark q) p old of h ne = h ne
-deed_page_next f e (Stamp q) p old of h ne = h ne
-deed_page_next f e (Hint q) p old of h ne = h ne
-deed_page_next f e (Tick raised) p old of h ne = h ne
-deed_page_next f e (Unback q) p old of h ne = h ne
-deed_page_next f e (Unhint q) p old of h ne = h ne
+deed_page_next f e s p old of h ne = h ne
 
 -- what has a deed is a page of the profile
 pub deed_has_page : (f : Profile) (l : Whole) → Legal f l → (p : ℕ) → word_after l (Word.Deed p) ≢ 0 → IsPage f p

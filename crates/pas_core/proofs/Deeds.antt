@@ -56,19 +56,8 @@ deed_step : (l : Whole) (k e : ℕ) (s : Step) (a p : ℕ) → a ≡ word_after 
 deed_step l k e (Look word) a p is h = same (same_word word (Word.Deed p)) (word_after l (Word.Deed p)) ∙ h
 deed_step l k e (Deed q d) a p is h = deed_agrees (q == p) (a == 0) k q d p (word_after l (Word.Deed p)) a (visible l) refl (λ t. is ∙ ap (λ n. word_after l (Word.Deed n)) (eqb-true q p t)) refl h
 deed_step l k e (Back q) a p is h = h ∙ ap word_of_deed (sym (deed_rests (a == 0) (Event.Back k q) (visible l) p refl))
-deed_step l k e (Take q word mask) a p is h = h
-deed_step l k e (Put q word mask) a p is h = h
-deed_step l k e (Give block) a p is h = h
 deed_step l k e (End name guess) a p is h = h ∙ ap word_of_deed (sym (end_deed (a == live_word name.turn guess) (is_live a && (turn_of a == name.turn)) (Event.End k name e) (Event.Reject k name (reason_of name a)) (visible l) p refl refl))
-deed_step l k e (TakeRight q directory) a p is h = h
-deed_step l k e (Offer q directory) a p is h = h
-deed_step l k e (Park q) a p is h = h
-deed_step l k e (Unpark q) a p is h = h
-deed_step l k e (Stamp q) a p is h = h
-deed_step l k e (Hint q) a p is h = h
-deed_step l k e (Tick raised) a p is h = h
-deed_step l k e (Unback q) a p is h = h
-deed_step l k e (Unhint q) a p is h = h
+deed_step l k e s a p is h = h
 
 -- the deed word of a page records the machine's directory
 pub deed_of : (f : Profile) (l : Whole) → Legal f l → (p : ℕ) → word_after l (Word.Deed p) ≡ word_of_deed (deed_in (visible l) p)
@@ -91,22 +80,10 @@ directory_if f true k q d es of rest p d' is = one_directory f (q == p) d (deed_
 directory_if f false k q d es of rest p d' is = rest p d' is
 
 directory_step : (f : Profile) (k e : ℕ) (s : Step) (a : ℕ) (es : List Event) → IsStepOf f s → AreOf f es → AreOf f (with_event (event_of k e s a) es)
-directory_step f k e (Look word) a es of rest = rest
 directory_step f k e (Deed q d) a es of rest = directory_if f (a == 0) k q d es of.1 rest
 directory_step f k e (Back q) a es of rest = λ p d is. rest p d (sym (deed_rests (a == 0) (Event.Back k q) es p refl) ∙ is)
-directory_step f k e (Take q word mask) a es of rest = rest
-directory_step f k e (Put q word mask) a es of rest = rest
-directory_step f k e (Give block) a es of rest = rest
 directory_step f k e (End name guess) a es of rest = λ p d is. rest p d (sym (end_deed (a == live_word name.turn guess) (is_live a && (turn_of a == name.turn)) (Event.End k name e) (Event.Reject k name (reason_of name a)) es p refl refl) ∙ is)
-directory_step f k e (TakeRight q directory) a es of rest = rest
-directory_step f k e (Offer q directory) a es of rest = rest
-directory_step f k e (Park q) a es of rest = rest
-directory_step f k e (Unpark q) a es of rest = rest
-directory_step f k e (Stamp q) a es of rest = rest
-directory_step f k e (Hint q) a es of rest = rest
-directory_step f k e (Tick raised) a es of rest = rest
-directory_step f k e (Unback q) a es of rest = rest
-directory_step f k e (Unhint q) a es of rest = rest
+directory_step f k e s a es of rest = rest
 
 pub directory_is_of : (f : Profile) (l : Whole) → Legal f l → (p : ℕ) (d : Directory) → deed_in (visible l) p ≡ Some d → IsDirectoryOf f d
 directory_is_of f [] legal p d is = let bad : None ≡ Some d = is in absurd cc
@@ -139,19 +116,9 @@ back_step : (l : Whole) (k e : ℕ) (s : Step) (a p : ℕ) → a ≡ word_after 
 back_step l k e (Look word) a p is h = same (same_word word (Word.Backed p)) (word_after l (Word.Backed p)) ∙ h
 back_step l k e (Deed q d) a p is h = h ∙ ap word_of_backed (sym (backed_rests (a == 0) (Event.Deed k q d) (visible l) p refl))
 back_step l k e (Back q) a p is h = back_agrees (q == p) (a == 0) k q p (word_after l (Word.Backed p)) a (visible l) refl (λ t. is ∙ ap (λ n. word_after l (Word.Backed n)) (eqb-true q p t)) refl h
-back_step l k e (Take q word mask) a p is h = h
-back_step l k e (Put q word mask) a p is h = h
-back_step l k e (Give block) a p is h = h
 back_step l k e (End name guess) a p is h = h ∙ ap word_of_backed (sym (end_backed (a == live_word name.turn guess) (is_live a && (turn_of a == name.turn)) (Event.End k name e) (Event.Reject k name (reason_of name a)) (visible l) p refl refl))
-back_step l k e (TakeRight q directory) a p is h = h
-back_step l k e (Offer q directory) a p is h = h
-back_step l k e (Park q) a p is h = h
-back_step l k e (Unpark q) a p is h = h
-back_step l k e (Stamp q) a p is h = h
-back_step l k e (Hint q) a p is h = h
-back_step l k e (Tick raised) a p is h = h
 back_step l k e (Unback q) a p is h = unback_agrees (q == p) (word_after l (Word.Backed p)) (backed_in (visible l) p) h
-back_step l k e (Unhint q) a p is h = h
+back_step l k e s a p is h = h
 
 -- the backed word of a page says whether the machine has it backed
 pub backed_of : (f : Profile) (l : Whole) → Legal f l → (p : ℕ) → word_after l (Word.Backed p) ≡ word_of_backed (backed_in (visible l) p)

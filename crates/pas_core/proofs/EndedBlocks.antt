@@ -10,7 +10,7 @@ use Rattle.pas_profile.specs.declared.directory.Directory.{Directory}
 use Rattle.pas_profile.specs.declared.name.Name.{Name}
 use Rattle.pas_profile.specs.declared.word.Word.{Word}
 use Rattle.pas_profile.proofs.Codecs.{kind_number_lt}
-use Rattle.pas_machine.specs.Runs.{in_run, meets_page, address_of, grain_of, length_of}
+use Rattle.pas_profile.specs.Runs.{in_run, meets_page, address_of, grain_of, length_of}
 use Rattle.pas_machine.specs.State.{Live, live_in, gives_in, ends_in}
 use Rattle.pas_machine.specs.Machine.{Bears}
 use Rattle.pas_steps.specs.Effects.{life_word_at, target}

@@ -6,7 +6,7 @@ use Rattle.pas_profile.specs.Lives.{live_word}
 use Rattle.pas_profile.specs.Profiles.{IsValid}
 use Rattle.pas_profile.specs.declared.profile.Profile.{Profile}
 use Rattle.pas_profile.specs.declared.name.Name.{Name}
-use Rattle.pas_machine.specs.Runs.{in_run, meets_page, address_of, grain_of, length_of}
+use Rattle.pas_profile.specs.Runs.{in_run, meets_page, address_of, grain_of, length_of}
 use Rattle.pas_machine.specs.State.{Live, live_in, gives_in, ends_in}
 use Rattle.pas_steps.specs.Effects.{life_word_at}
 use Rattle.pas_steps.specs.Allowed.{IsStepOf}

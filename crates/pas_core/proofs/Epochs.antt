@@ -11,7 +11,7 @@ use Rattle.pas_profile.specs.declared.directory.Directory.{Directory}
 use Rattle.pas_profile.specs.declared.directory.Kind.{Kind}
 use Rattle.pas_profile.specs.declared.directory.Kind.TheVariants.{Class, Bitfit, Shared, Large}
 use Rattle.pas_profile.specs.declared.word.Word.{Word}
-use Rattle.pas_machine.specs.Runs.{address_of, length_of}
+use Rattle.pas_profile.specs.Runs.{address_of, length_of}
 use Rattle.pas_steps.specs.Effects.{page_mask, target, new_value}
 use Rattle.pas_steps.specs.Views.{View, epoch_after, known_epoch, or_zero, epoch_of}
 use Rattle.pas_steps.specs.Allowed.{IsStepOf}
@@ -49,30 +49,8 @@ epoch_grows l t = epoch_next (epoch_of (part t.actor l)) t.made.step (word_after
 -- an actor learns no epoch but that of the word, and its tick the one that it makes
 epoch_learns : (l : Whole) (e : ℕ) (s : Step) (a : ℕ) (known : Option ℕ) → a ≡ word_after l (target s) → or_zero known ≤ word_after l Word.Epoch → or_zero (epoch_after s a known) ≤ next_value e s Word.Epoch (word_after l Word.Epoch)
 epoch_learns l e (Look Word.Epoch) a known is h = omega (arith, is)
-epoch_learns l e (Look (Word.Free q w)) a known is h = h
-epoch_learns l e (Look (Word.Life q g)) a known is h = h
-epoch_learns l e (Look (Word.Deed q)) a known is h = h
-epoch_learns l e (Look (Word.Backed q)) a known is h = h
-epoch_learns l e (Look (Word.Stamp q)) a known is h = h
-epoch_learns l e (Look (Word.Parked j)) a known is h = h
-epoch_learns l e (Look (Word.Empty j)) a known is h = h
-epoch_learns l e (Look (Word.Eligible d j)) a known is h = h
-epoch_learns l e (Deed q d) a known is h = h
-epoch_learns l e (Back q) a known is h = h
-epoch_learns l e (Take q w mask) a known is h = h
-epoch_learns l e (Put q w mask) a known is h = h
-epoch_learns l e (Give block) a known is h = h
-epoch_learns l e (End name guess) a known is h = h
-epoch_learns l e (TakeRight q directory) a known is h = h
-epoch_learns l e (Offer q directory) a known is h = h
-epoch_learns l e (Park q) a known is h = h
-epoch_learns l e (Unpark q) a known is h = h
-epoch_learns l e (Stamp q) a known is h = h
-epoch_learns l e (Hint q) a known is h = h
 epoch_learns l e (Tick raised) a known is h = omega (arith, is, h)
-epoch_learns l e (Unback q) a known is h = h
-epoch_learns l e (Unhint q) a known is h = h
-
+epoch_learns l e s a known is h = h
 epoch_of_part : (t : Bool) (m : Made) (v : View) (n : ℕ) → epoch_of v ≤ n → or_zero (epoch_after m.step m.answer (known_epoch v)) ≤ n → epoch_of (if t then m ∷ v else v) ≤ n
 epoch_of_part true m v n old new = new
 epoch_of_part false m v n old new = old
@@ -154,21 +132,8 @@ epoch_fits f l valid legal k =
 -- ---- the epoch and the stamps are below 2 ^ 40
 epoch_below : (f : Profile) (e : ℕ) (s : Step) (old : ℕ) → IsStepOf f s → old < 2 ^ 40 → next_value e s Word.Epoch old < 2 ^ 40
 epoch_below f e (Look word) old of h = omega (arith, looked (same_word word Word.Epoch) old, h)
-epoch_below f e (Deed q d) old of h = h
-epoch_below f e (Back q) old of h = h
-epoch_below f e (Take q w mask) old of h = h
-epoch_below f e (Put q w mask) old of h = h
-epoch_below f e (Give block) old of h = h
-epoch_below f e (End name guess) old of h = h
-epoch_below f e (TakeRight q d) old of h = h
-epoch_below f e (Offer q d) old of h = h
-epoch_below f e (Park q) old of h = h
-epoch_below f e (Unpark q) old of h = h
-epoch_below f e (Stamp q) old of h = h
-epoch_below f e (Hint q) old of h = h
 epoch_below f e (Tick raised) old of h = omega (arith, of, h)
-epoch_below f e (Unback q) old of h = h
-epoch_below f e (Unhint q) old of h = h
+epoch_below f e s old of h = h
 
 -- the epoch is below 2 ^ 40
 pub epoch_small : (f : Profile) (l : Whole) → Legal f l → word_after l Word.Epoch < 2 ^ 40
@@ -177,21 +142,8 @@ epoch_small f (t ∷ l) legal = let next : IsNext f l t = legal.0 in epoch_below
 
 stamp_below : (e : ℕ) (s : Step) (p old : ℕ) → e < 2 ^ 40 → old < 2 ^ 40 → next_value e s (Word.Stamp p) old < 2 ^ 40
 stamp_below e (Look word) p old he h = omega (arith, looked (same_word word (Word.Stamp p)) old, h)
-stamp_below e (Deed q d) p old he h = h
-stamp_below e (Back q) p old he h = h
-stamp_below e (Take q w mask) p old he h = h
-stamp_below e (Put q w mask) p old he h = h
-stamp_below e (Give block) p old he h = h
-stamp_below e (End name guess) p old he h = h
-stamp_below e (TakeRight q d) p old he h = h
-stamp_below e (Offer q d) p old he h = h
-stamp_below e (Park q) p old he h = h
-stamp_below e (Unpark q) p old he h = h
 stamp_below e (Stamp q) p old he h = if_small (q == p) (max old e) old (2 ^ 40) (omega (arith, he, h)) h
-stamp_below e (Hint q) p old he h = h
-stamp_below e (Tick raised) p old he h = h
-stamp_below e (Unback q) p old he h = h
-stamp_below e (Unhint q) p old he h = h
+stamp_below e s p old he h = h
 
 -- a stamp is an epoch that an actor read, so it is below 2 ^ 40 too
 pub stamp_small : (f : Profile) (l : Whole) → Legal f l → (p : ℕ) → word_after l (Word.Stamp p) < 2 ^ 40

@@ -6,7 +6,7 @@ use Rattle.pas_profile.specs.Profiles.{IsValid}
 use Rattle.pas_profile.specs.declared.profile.Profile.{Profile}
 use Rattle.pas_profile.specs.declared.name.Block.{Block}
 use Rattle.pas_profile.specs.declared.event.Event.{Event}
-use Rattle.pas_machine.specs.Runs.{address_of, grain_of, length_of}
+use Rattle.pas_profile.specs.Runs.{address_of, grain_of, length_of}
 use Rattle.pas_machine.specs.State.{Live, live_in, gives_in, ends_in}
 use Rattle.pas_machine.specs.Machine.{Admits, Run}
 use Rattle.pas_steps.specs.Effects.{life_word_at}
@@ -40,16 +40,13 @@ ended_live true live block old b is turn = absurd (none_told is)
 ended_live false live block old b is turn = old b is turn
 
 pub one_more : (f : Profile) (e : Event) (es : List Event) (block : Block) → Admits f es e → WasGiven es block → WasGiven (e ∷ es) block
-one_more f (Event.Deed k p d) es block admits given = record { earlier = given.earlier; same = given.same }
-one_more f (Event.Back k p) es block admits given = record { earlier = given.earlier; same = given.same }
-one_more f (Event.Unback k p e) es block admits given = record { earlier = given.earlier; same = given.same }
 one_more f (Event.Give k new) es block admits given = record {
   earlier = let more = more_gives (address_of new.name == address_of block.name) (gives_in es (address_of block.name)) in let old = given.earlier in omega (arith, more, old);
   same = given_live (address_of new.name == address_of block.name) (live_in es (address_of block.name)) (record { actor = k; block = new }) block
       (λ x turn. let next : new.name.turn ≡ gives_in es (address_of block.name) = admits.turn ∙ ap (gives_in es) (eqb-true (address_of new.name) (address_of block.name) x) in let old = given.earlier in absurd (omega (arith, next, turn, old))) given.same;
 }
 one_more f (Event.End k name e) es block admits given = record { earlier = given.earlier; same = ended_live (address_of name == address_of block.name) (live_in es (address_of block.name)) block given.same }
-one_more f (Event.Reject k name why) es block admits given = record { earlier = given.earlier; same = given.same }
+one_more f s es block admits given = record { earlier = given.earlier; same = given.same }
 
 -- a block that was given stays so, whatever comes after it
 pub given_kept : (f : Profile) (more es : List Event) (block : Block) → Run f (more ++ es) → WasGiven es block → WasGiven (more ++ es) block
@@ -136,22 +133,10 @@ count_end false true end reject es ended rejected = refl
 count_end false false end reject es ended rejected = rejected
 
 pub count_step : (k e : ℕ) (s : Step) (a : ℕ) (es : List Event) → count_gives (with_event (event_of k e s a) es) ≡ given_after s (count_gives es)
-count_step k e (Look word) a es = refl
 count_step k e (Deed page directory) a es = count_if (a == 0) (Event.Deed k page directory) es refl
 count_step k e (Back page) a es = count_if (a == 0) (Event.Back k page) es refl
-count_step k e (Take page word mask) a es = refl
-count_step k e (Put page word mask) a es = refl
-count_step k e (Give block) a es = refl
 count_step k e (End name guess) a es = count_end (a == live_word name.turn guess) (is_live a && (turn_of a == name.turn)) (Event.End k name e) (Event.Reject k name (reason_of name a)) es refl refl
-count_step k e (TakeRight page directory) a es = refl
-count_step k e (Offer page directory) a es = refl
-count_step k e (Park page) a es = refl
-count_step k e (Unpark page) a es = refl
-count_step k e (Stamp page) a es = refl
-count_step k e (Hint page) a es = refl
-count_step k e (Tick raised) a es = refl
-count_step k e (Unback page) a es = refl
-count_step k e (Unhint page) a es = refl
+count_step k e s a es = refl
 
 pub own_gives : (k : ℕ) (v : View) → count_gives (events_of k v) ≡ given_count v
 own_gives k [] = refl

@@ -11,7 +11,7 @@ use Rattle.pas_profile.specs.Profiles.{IsValid}
 use Rattle.pas_profile.specs.declared.profile.Profile.{Profile}
 use Rattle.pas_profile.specs.declared.name.Block.{Block}
 use Rattle.pas_profile.specs.declared.word.Word.{Word}
-use Rattle.pas_machine.specs.Runs.{in_run, address_of, grain_of, length_of}
+use Rattle.pas_profile.specs.Runs.{in_run, address_of, grain_of, length_of}
 use Rattle.pas_steps.specs.Effects.{free_word_at, life_word_at, in_mask, target, new_value}
 use Rattle.pas_steps.specs.Views.{View, Move, Stays, Gets, Puts, Gives, Ends, grain_move, held_after, holds, epoch_of}
 use Rattle.pas_steps.specs.Allowed.{Allowed, IsStepOf}
@@ -99,11 +99,9 @@ free_moved (Gives a) was = was
 free_moved (Ends a) was = was
 
 free_next : (j : ℕ) (m : Move) (o : Place) → Fits j m o → free_moved m (is_free o) ≡ is_free (place_after j m o)
-free_next j Stays o h = refl
-free_next j Gets o h = refl
-free_next j Puts o h = refl
 free_next j (Gives a) o h = ap is_free h
 free_next j (Ends a) o h = ap is_free h
+free_next j s o h = refl
 
 abbrev covered_moved : Move → ℕ → Bool → Bool
 covered_moved Stays b was = was
@@ -162,21 +160,11 @@ look_free false old b = refl
 pub free_step : (f : Profile) (l : Whole) (e : ℕ) (s : Step) (a g : ℕ) → IsStepOf f s → a ≡ word_after l (target s)
     → has_bit (if same_word (target s) (free_word_at g) then new_value e s (word_after l (free_word_at g)) else word_after l (free_word_at g)) (g % 64) ≡ free_moved (grain_move s a g) (has_bit (word_after l (free_word_at g)) (g % 64))
 free_step f l e (Look word) a g of is = look_free (same_word word (free_word_at g)) (word_after l (free_word_at g)) (g % 64)
-free_step f l e (Deed page directory) a g of is = refl
-free_step f l e (Back page) a g of is = refl
 free_step f l e (Take page word mask) a g of is = take_free ((word == g / 64 % 4) && (page == g / 256)) (word_after l (free_word_at g)) a mask (g % 64) (λ h. is ∙ free_same l page word g h) of.2 (omega arith)
 free_step f l e (Put page word mask) a g of is = put_free ((word == g / 64 % 4) && (page == g / 256)) (word_after l (free_word_at g)) mask (g % 64)
 free_step f l e (Give block) a g of is = rests_free (in_run (grain_of block.name) (length_of block) g) (has_bit (word_after l (free_word_at g)) (g % 64)) (Gives (grain_of block.name)) refl
 free_step f l e (End name guess) a g of is = rests_free ((a == live_word name.turn guess) && in_run (grain_of name) guess g) (has_bit (word_after l (free_word_at g)) (g % 64)) (Ends (grain_of name)) refl
-free_step f l e (TakeRight page directory) a g of is = refl
-free_step f l e (Offer page directory) a g of is = refl
-free_step f l e (Park page) a g of is = refl
-free_step f l e (Unpark page) a g of is = refl
-free_step f l e (Stamp page) a g of is = refl
-free_step f l e (Hint page) a g of is = refl
-free_step f l e (Tick raised) a g of is = refl
-free_step f l e (Unback page) a g of is = refl
-free_step f l e (Unhint page) a g of is = refl
+free_step f l e s a g of is = refl
 
 -- ---- the life words
 pub covers_live : (turn n b g : ℕ) → turn < 2 ^ 40 → n < 2 ^ 23 → covers (live_word turn n) b g ≡ in_run b n g
@@ -239,8 +227,6 @@ retold y x new old b g answer e h = ap (λ t. covers (if t then new else old) b 
 covered_step : (f : Profile) (l : Whole) (k e : ℕ) (s : Step) (a g b : ℕ) → IsValid f → ((g : ℕ) → IsPlacedOnce l g) → IsStepOf f s → Allowed f (part k l) s → a ≡ word_after l (target s)
     → covers (if same_word (target s) (life_word_at b) then new_value e s (word_after l (life_word_at b)) else word_after l (life_word_at b)) b g ≡ covered_moved (grain_move s a g) b (covers (word_after l (life_word_at b)) b g)
 covered_step f l k e (Look word) a g b valid placed of allowed is = look_covers (same_word word (life_word_at b)) (word_after l (life_word_at b)) b g
-covered_step f l k e (Deed page directory) a g b valid placed of allowed is = refl
-covered_step f l k e (Back page) a g b valid placed of allowed is = refl
 covered_step f l k e (Take page word mask) a g b valid placed of allowed is = rests_covered (in_mask page word mask g && has_bit a (g % 64)) (covers (word_after l (life_word_at b)) b g) Gets b refl
 covered_step f l k e (Put page word mask) a g b valid placed of allowed is = rests_covered (in_mask page word mask g) (covers (word_after l (life_word_at b)) b g) Puts b refl
 covered_step f l k e (Give block) a g b valid placed of allowed is =
@@ -252,15 +238,7 @@ covered_step f l k e (End name guess) a g b valid placed of allowed is =
     (covered_moved (grain_move (End name guess) a g) b (covers (word_after l (life_word_at b)) b g)) (life_same (grain_of name) b)
     (end_covers (grain_of name == b) (grain_of name) b g name.turn guess (word_after l (life_word_at b)) a refl of.2 (end_short f guess valid of.4)
     (λ e. is ∙ ap (λ x. word_after l (life_word_at x)) (eqb-true (grain_of name) b e)) (a == live_word name.turn guess) refl (in_run (grain_of name) guess g) refl)
-covered_step f l k e (TakeRight page directory) a g b valid placed of allowed is = refl
-covered_step f l k e (Offer page directory) a g b valid placed of allowed is = refl
-covered_step f l k e (Park page) a g b valid placed of allowed is = refl
-covered_step f l k e (Unpark page) a g b valid placed of allowed is = refl
-covered_step f l k e (Stamp page) a g b valid placed of allowed is = refl
-covered_step f l k e (Hint page) a g b valid placed of allowed is = refl
-covered_step f l k e (Tick raised) a g b valid placed of allowed is = refl
-covered_step f l k e (Unback page) a g b valid placed of allowed is = refl
-covered_step f l k e (Unhint page) a g b valid placed of allowed is = refl
+covered_step f l k e s a g b valid placed of allowed is = refl
 
 -- ---- a legal step's move fits
 fits_if : (j : ℕ) (m : Move) (o : Place) (t : Bool) → (t ≡ true → Fits j m o) → Fits j (if t then m else Stays) o
@@ -268,9 +246,6 @@ fits_if j m o true h = h refl
 fits_if j m o false h = tt
 
 pub step_fits : (f : Profile) (l : Whole) (k : ℕ) (s : Step) (a g : ℕ) (at : IsPlacedOnce l g) → IsValid f → IsStepOf f s → Allowed f (part k l) s → a ≡ word_after l (target s) → Fits k (grain_move s a g) at.place
-step_fits f l k (Look word) a g at valid of allowed is = tt
-step_fits f l k (Deed page directory) a g at valid of allowed is = tt
-step_fits f l k (Back page) a g at valid of allowed is = tt
 step_fits f l k (Take page word mask) a g at valid of allowed is = fits_if k Gets at.place (in_mask page word mask g && has_bit a (g % 64)) (λ h.
     let parts = and_parts (in_mask page word mask g) (has_bit a (g % 64)) h in
     let bits = and_parts ((word == g / 64 % 4) && (page == g / 256)) (has_bit mask (g % 64)) parts.0 in
@@ -281,15 +256,7 @@ step_fits f l k (End name guess) a g at valid of allowed is = fits_if k (Ends (g
     let parts = and_parts (a == live_word name.turn guess) (in_run (grain_of name) guess g) h in
     is_covered_by-true (grain_of name) at.place (sym (at.covered (grain_of name)) ∙ ap (λ w. covers w (grain_of name) g) (sym is ∙ eqb-true a (live_word name.turn guess) parts.0)
     ∙ covers_live name.turn guess (grain_of name) g (let t = of.2 in omega (arith, t)) (end_short f guess valid of.4) ∙ parts.1))
-step_fits f l k (TakeRight page directory) a g at valid of allowed is = tt
-step_fits f l k (Offer page directory) a g at valid of allowed is = tt
-step_fits f l k (Park page) a g at valid of allowed is = tt
-step_fits f l k (Unpark page) a g at valid of allowed is = tt
-step_fits f l k (Stamp page) a g at valid of allowed is = tt
-step_fits f l k (Hint page) a g at valid of allowed is = tt
-step_fits f l k (Tick raised) a g at valid of allowed is = tt
-step_fits f l k (Unback page) a g at valid of allowed is = tt
-step_fits f l k (Unhint page) a g at valid of allowed is = tt
+step_fits f l k s a g at valid of allowed is = tt
 
 -- ---- the induction
 holds_part : (t : Bool) (m : Made) (v : View) (g : ℕ) → holds (if t then m ∷ v else v) g ≡ (if t then held_after (grain_move m.step m.answer g) (holds v g) else holds v g)

@@ -101,21 +101,11 @@ was_empty f l valid legal j (Look word) a p of allowed other h = record {
   backed = sym (looked (same_word word (Word.Backed p)) (word_after l (Word.Backed p))) ∙ h.backed;
   free = λ g e. ap (λ n. has_bit n (g % 64)) (sym (looked (same_word word (free_word_at g)) (word_after l (free_word_at g)))) ∙ h.free g e;
 }
-was_empty f l valid legal j (Deed q d) a p of allowed other h = record { backed = h.backed; free = h.free }
 was_empty f l valid legal j (Back q) a p of allowed other h = record { backed = back_was (q == p) (word_after l (Word.Backed p)) (back_not_empty f l valid legal j q p allowed.0 h.free) h.backed; free = h.free }
 was_empty f l valid legal j (Take q w mask) a p of allowed other h = record { backed = h.backed; free = λ g e. clear_was ((w == g / 64 % 4) && (q == g / 256)) (word_after l (free_word_at g)) mask (g % 64) of.2 (omega arith) (h.free g e) }
 was_empty f l valid legal j (Put q w mask) a p of allowed other h = record { backed = h.backed; free = λ g e. ap (λ t. has_bit (if t then bit_or (word_after l (free_word_at g)) mask else word_after l (free_word_at g)) (g % 64)) (sym (put_misses q w p g other e)) ∙ h.free g e }
-was_empty f l valid legal j (Give block) a p of allowed other h = record { backed = h.backed; free = h.free }
-was_empty f l valid legal j (End name guess) a p of allowed other h = record { backed = h.backed; free = h.free }
-was_empty f l valid legal j (TakeRight q d) a p of allowed other h = record { backed = h.backed; free = h.free }
-was_empty f l valid legal j (Offer q d) a p of allowed other h = record { backed = h.backed; free = h.free }
-was_empty f l valid legal j (Park q) a p of allowed other h = record { backed = h.backed; free = h.free }
-was_empty f l valid legal j (Unpark q) a p of allowed other h = record { backed = h.backed; free = h.free }
-was_empty f l valid legal j (Stamp q) a p of allowed other h = record { backed = h.backed; free = h.free }
-was_empty f l valid legal j (Hint q) a p of allowed other h = record { backed = h.backed; free = h.free }
-was_empty f l valid legal j (Tick raised) a p of allowed other h = record { backed = h.backed; free = h.free }
 was_empty f l valid legal j (Unback q) a p of allowed other h = record { backed = unback_was (q == p) (word_after l (Word.Backed p)) h.backed; free = h.free }
-was_empty f l valid legal j (Unhint q) a p of allowed other h = record { backed = h.backed; free = h.free }
+was_empty f l valid legal j s a p of allowed other h = record { backed = h.backed; free = h.free }
 
 -- ---- debts and examinations
 hint_of_part : (t : Bool) (m : Made) (v : View) (p : ℕ) → owes_hint v p ≡ true → hint_after m.step m.answer p true ≡ true → owes_hint (if t then m ∷ v else v) p ≡ true
@@ -147,22 +137,8 @@ kept_if t h = ap (λ x. if x then false else true) h
 
 -- who puts grains of a page back owes its hint
 put_owes : (s : Step) (a p : ℕ) (was : Bool) → puts s p ≡ true → hint_after s a p was ≡ true
-put_owes (Look word) a p was h = absurd (false≢true h)
-put_owes (Deed q d) a p was h = absurd (false≢true h)
-put_owes (Back q) a p was h = absurd (false≢true h)
-put_owes (Take q w mask) a p was h = absurd (false≢true h)
 put_owes (Put q w mask) a p was h = ap (λ t. if t then true else was) h
-put_owes (Give block) a p was h = absurd (false≢true h)
-put_owes (End name guess) a p was h = absurd (false≢true h)
-put_owes (TakeRight q d) a p was h = absurd (false≢true h)
-put_owes (Offer q d) a p was h = absurd (false≢true h)
-put_owes (Park q) a p was h = absurd (false≢true h)
-put_owes (Unpark q) a p was h = absurd (false≢true h)
-put_owes (Stamp q) a p was h = absurd (false≢true h)
-put_owes (Hint q) a p was h = absurd (false≢true h)
-put_owes (Tick raised) a p was h = absurd (false≢true h)
-put_owes (Unback q) a p was h = absurd (false≢true h)
-put_owes (Unhint q) a p was h = absurd (false≢true h)
+put_owes s a p was h = absurd (false≢true h)
 
 -- a look at a free word of the page, or at its backed word, ends nothing
 look_free_keeps : (f : Profile) (l : Whole) → IsValid f → Legal f l → (q w a p : ℕ) → w < 4 → a ≡ word_after l (Word.Free q w) → IsEmptyBacked l p → ((q == p) && not (a == all_ones)) ≡ false
@@ -292,30 +268,12 @@ ends_if true was h = refl
 ends_if false was h = h
 
 not_examined : (s : Step) (a p : ℕ) (was : Bool) → clears s ≡ false → was ≡ false → examined_after s a p was ≡ false
-not_examined (Look Word.Epoch) a p was other h = h
 not_examined (Look (Word.Free q w)) a p was other h = ends_if ((q == p) && not (a == all_ones)) was h
-not_examined (Look (Word.Life q g)) a p was other h = h
-not_examined (Look (Word.Deed q)) a p was other h = h
 not_examined (Look (Word.Backed q)) a p was other h = ends_if ((q == p) && (a == 0)) was h
-not_examined (Look (Word.Stamp q)) a p was other h = h
-not_examined (Look (Word.Parked i)) a p was other h = h
-not_examined (Look (Word.Empty i)) a p was other h = h
-not_examined (Look (Word.Eligible n i)) a p was other h = h
-not_examined (Deed q d) a p was other h = h
-not_examined (Back q) a p was other h = h
 not_examined (Take q w mask) a p was other h = ends_if ((q == p) && (not (a == all_ones) || not (bit_and a mask == 0))) was h
-not_examined (Put q w mask) a p was other h = h
-not_examined (Give block) a p was other h = h
-not_examined (End name guess) a p was other h = h
-not_examined (TakeRight q d) a p was other h = h
-not_examined (Offer q d) a p was other h = h
-not_examined (Park q) a p was other h = h
-not_examined (Unpark q) a p was other h = h
-not_examined (Stamp q) a p was other h = h
 not_examined (Hint q) a p was other h = ends_if (q == p) was h
-not_examined (Tick raised) a p was other h = h
-not_examined (Unback q) a p was other h = h
 not_examined (Unhint q) a p was other h = absurd (false≢true (sym other))
+not_examined s a p was other h = h
 
 -- after steps that clear no empty bit an actor examines a page only if it did before
 pub examines_none : (steps : List Made) (v : View) (p : ℕ) → Always (λ m before. clears m.step ≡ false) steps → examines v p ≡ false → examines (steps ++ v) p ≡ false

@@ -37,20 +37,8 @@ unbacks_small false old h = h
 backed_next : (e : ℕ) (s : Step) (p old : ℕ) → old ≤ 1 → next_value e s (Word.Backed p) old ≤ 1
 backed_next e (Look w) p old h = omega (arith, looked (same_word w (Word.Backed p)) old)
 backed_next e (Back q) p old h = backs (q == p) old h
-backed_next e (Deed q d) p old h = h
-backed_next e (Take q w m) p old h = h
-backed_next e (Put q w m) p old h = h
-backed_next e (Give b) p old h = h
-backed_next e (End n u) p old h = h
-backed_next e (TakeRight q directory) p old h = h
-backed_next e (Offer q directory) p old h = h
-backed_next e (Park q) p old h = h
-backed_next e (Unpark q) p old h = h
-backed_next e (Stamp q) p old h = h
-backed_next e (Hint q) p old h = h
-backed_next e (Tick raised) p old h = h
 backed_next e (Unback q) p old h = unbacks_small (q == p) old h
-backed_next e (Unhint q) p old h = h
+backed_next e s p old h = h
 
 -- a backed word is 0 or 1
 pub backed_small : (f : Profile) (l : Whole) → Legal f l → (p : ℕ) → word_after l (Word.Backed p) ≤ 1
@@ -65,21 +53,8 @@ back_rests false old h = h
 backed_stays : (e : ℕ) (s : Step) (p old : ℕ) → unbacks s p ≡ false → old ≡ 1 → next_value e s (Word.Backed p) old ≡ 1
 backed_stays e (Look w) p old keep h = looked (same_word w (Word.Backed p)) old ∙ h
 backed_stays e (Back q) p old keep h = back_rests (q == p) old h
-backed_stays e (Deed q d) p old keep h = h
-backed_stays e (Take q w m) p old keep h = h
-backed_stays e (Put q w m) p old keep h = h
-backed_stays e (Give b) p old keep h = h
-backed_stays e (End n u) p old keep h = h
-backed_stays e (TakeRight q directory) p old keep h = h
-backed_stays e (Offer q directory) p old keep h = h
-backed_stays e (Park q) p old keep h = h
-backed_stays e (Unpark q) p old keep h = h
-backed_stays e (Stamp q) p old keep h = h
-backed_stays e (Hint q) p old keep h = h
-backed_stays e (Tick raised) p old keep h = h
 backed_stays e (Unback q) p old keep h = ap (λ t. if t then 0 else old) keep ∙ h
-backed_stays e (Unhint q) p old keep h = h
-
+backed_stays e s p old keep h = h
 back_tells : (x known : Bool) (old : ℕ) → old ≤ 1 → (known ≡ true → old ≡ 1) → (if x then true else known) ≡ true → (if x then bit_or old 1 else old) ≡ 1
 back_tells true known old small was told = or_one old small
 back_tells false known old small was told = was told
@@ -96,30 +71,9 @@ look_backed false known old a is was told = was told
 backed_learns : (l : Whole) (e : ℕ) (s : Step) (a p : ℕ) (known : Bool) → a ≡ word_after l (target s) → word_after l (Word.Backed p) ≤ 1 → (known ≡ true → word_after l (Word.Backed p) ≡ 1) → backed_after s a p known ≡ true
     → next_value e s (Word.Backed p) (word_after l (Word.Backed p)) ≡ 1
 backed_learns l e (Look (Word.Backed q)) a p known is small was told = look_backed (q == p) known (word_after l (Word.Backed p)) a (λ t. is ∙ ap (λ n. word_after l (Word.Backed n)) (eqb-true q p t)) was told
-backed_learns l e (Look Word.Epoch) a p known is small was told = was told
-backed_learns l e (Look (Word.Free q w)) a p known is small was told = was told
-backed_learns l e (Look (Word.Life q g)) a p known is small was told = was told
-backed_learns l e (Look (Word.Deed q)) a p known is small was told = was told
-backed_learns l e (Look (Word.Stamp q)) a p known is small was told = was told
-backed_learns l e (Look (Word.Parked j)) a p known is small was told = was told
-backed_learns l e (Look (Word.Empty j)) a p known is small was told = was told
-backed_learns l e (Look (Word.Eligible d j)) a p known is small was told = was told
-backed_learns l e (Deed q d) a p known is small was told = was told
 backed_learns l e (Back q) a p known is small was told = back_tells (q == p) known (word_after l (Word.Backed p)) small was told
-backed_learns l e (Take q w m) a p known is small was told = was told
-backed_learns l e (Put q w m) a p known is small was told = was told
-backed_learns l e (Give b) a p known is small was told = was told
-backed_learns l e (End n u) a p known is small was told = was told
-backed_learns l e (TakeRight q directory) a p known is small was told = was told
-backed_learns l e (Offer q directory) a p known is small was told = was told
-backed_learns l e (Park q) a p known is small was told = was told
-backed_learns l e (Unpark q) a p known is small was told = was told
-backed_learns l e (Stamp q) a p known is small was told = was told
-backed_learns l e (Hint q) a p known is small was told = was told
-backed_learns l e (Tick raised) a p known is small was told = was told
 backed_learns l e (Unback q) a p known is small was told = unback_tells (q == p) known (word_after l (Word.Backed p)) was told
-backed_learns l e (Unhint q) a p known is small was told = was told
-
+backed_learns l e s a p known is small was told = was told
 backed_of_part : (t : Bool) (m : Made) (v : View) (p : ℕ) (P : Type 0) → (t ≡ false → knows_backed v p ≡ true → P) → (backed_after m.step m.answer p (knows_backed v p) ≡ true → P) → knows_backed (if t then m ∷ v else v) p ≡ true → P
 backed_of_part true m v p P old new told = new (and_parts (backed_after m.step m.answer p (knows_backed v p)) (holds_on (m ∷ v) p) told).0
 backed_of_part false m v p P old new told = old refl told
@@ -129,22 +83,8 @@ allowed_at : (f : Profile) (v : View) (q p : ℕ) → MayUnback f v q → q ≡ 
 allowed_at f v q p may e g here = may.held g (here ∙ sym e)
 
 unbacks_held : (f : Profile) (v : View) (s : Step) (p : ℕ) → Allowed f v s → unbacks s p ≡ true → (g : ℕ) → g / 256 ≡ p → holds v g ≡ true
-unbacks_held f v (Look w) p allowed h = absurd (false≢true h)
-unbacks_held f v (Deed q d) p allowed h = absurd (false≢true h)
-unbacks_held f v (Back q) p allowed h = absurd (false≢true h)
-unbacks_held f v (Take q w m) p allowed h = absurd (false≢true h)
-unbacks_held f v (Put q w m) p allowed h = absurd (false≢true h)
-unbacks_held f v (Give b) p allowed h = absurd (false≢true h)
-unbacks_held f v (End n u) p allowed h = absurd (false≢true h)
-unbacks_held f v (TakeRight q d) p allowed h = absurd (false≢true h)
-unbacks_held f v (Offer q d) p allowed h = absurd (false≢true h)
-unbacks_held f v (Park q) p allowed h = absurd (false≢true h)
-unbacks_held f v (Unpark q) p allowed h = absurd (false≢true h)
-unbacks_held f v (Stamp q) p allowed h = absurd (false≢true h)
-unbacks_held f v (Hint q) p allowed h = absurd (false≢true h)
-unbacks_held f v (Tick raised) p allowed h = absurd (false≢true h)
 unbacks_held f v (Unback q) p allowed h = allowed_at f v q p allowed (eqb-true q p h)
-unbacks_held f v (Unhint q) p allowed h = absurd (false≢true h)
+unbacks_held f v s p allowed h = absurd (false≢true h)
 
 -- so no other does while this actor holds one
 other_unbacks : (f : Profile) (l : Whole) → IsValid f → Legal f l → (t : Triple) (k p : ℕ) → IsNext f l t → (t.actor == k) ≡ false → holds_on (part k l) p ≡ true → unbacks t.made.step p ≡ false

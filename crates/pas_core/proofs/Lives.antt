@@ -10,7 +10,7 @@ use Rattle.pas_profile.specs.declared.name.Name.{Name}
 use Rattle.pas_profile.specs.declared.word.Word.{Word}
 use Rattle.pas_profile.specs.declared.event.Event.{Event}
 use Rattle.pas_profile.specs.declared.event.Why.{Why}
-use Rattle.pas_machine.specs.Runs.{in_run, address_of, grain_of, length_of}
+use Rattle.pas_profile.specs.Runs.{in_run, address_of, grain_of, length_of}
 use Rattle.pas_machine.specs.State.{Live, live_in, gives_in, ends_in}
 use Rattle.pas_steps.specs.Effects.{life_word_at, target, new_value}
 use Rattle.pas_steps.specs.Views.{View, Move, Stays, Gets, Puts, Gives, Ends, grain_move, held_after, holds, epoch_of, looks_at_life, life_after, known_life}
@@ -55,54 +55,19 @@ word_is l a c g is x = is ∙ ap (λ b. word_after l (life_word_at b)) (eqb-true
 life_rests : (f : Profile) (l : Whole) (k e : ℕ) (s : Step) (a g : ℕ) → IsStepOf f s → Allowed f (part k l) s → a ≡ word_after l (target s) → is_still (grain_move s a g) ≡ true
     → (if same_word (target s) (life_word_at g) then new_value e s (word_after l (life_word_at g)) else word_after l (life_word_at g)) ≡ word_after l (life_word_at g)
 life_rests f l k e (Look word) a g of allowed is still = same (same_word word (life_word_at g)) (word_after l (life_word_at g))
-life_rests f l k e (Deed page directory) a g of allowed is still = refl
-life_rests f l k e (Back page) a g of allowed is still = refl
-life_rests f l k e (Take page word mask) a g of allowed is still = refl
-life_rests f l k e (Put page word mask) a g of allowed is still = refl
 life_rests f l k e (Give block) a g of allowed is still =
     as_test (same_word (life_word_at (grain_of block.name)) (life_word_at g)) (grain_of block.name == g) (λ w. w ≡ word_after l (life_word_at g)) (live_word block.name.turn (length_of block)) (word_after l (life_word_at g)) (life_same (grain_of block.name) g)
     (give_rests (grain_of block.name == g) (in_run (grain_of block.name) (length_of block) g) (grain_of block.name) g (length_of block) (word_after l (life_word_at g)) (live_word block.name.turn (length_of block)) refl (some_grain block.room allowed.whole allowed.some) refl still)
 life_rests f l k e (End name guess) a g of allowed is still =
     as_test (same_word (life_word_at (grain_of name)) (life_word_at g)) (grain_of name == g) (λ w. w ≡ word_after l (life_word_at g)) (if word_after l (life_word_at g) == live_word name.turn guess then name.turn + 1 else word_after l (life_word_at g)) (word_after l (life_word_at g)) (life_same (grain_of name) g)
     (end_rests (grain_of name == g) (a == live_word name.turn guess) (in_run (grain_of name) guess g) (grain_of name) g guess (word_after l (life_word_at g)) name.turn a refl (word_is l a (grain_of name) g is) of.3 refl refl still)
-life_rests f l k e (TakeRight page directory) a g of allowed is still = refl
-life_rests f l k e (Offer page directory) a g of allowed is still = refl
-life_rests f l k e (Park page) a g of allowed is still = refl
-life_rests f l k e (Unpark page) a g of allowed is still = refl
-life_rests f l k e (Stamp page) a g of allowed is still = refl
-life_rests f l k e (Hint page) a g of allowed is still = refl
-life_rests f l k e (Tick raised) a g of allowed is still = refl
-life_rests f l k e (Unback page) a g of allowed is still = refl
-life_rests f l k e (Unhint page) a g of allowed is still = refl
+life_rests f l k e s a g of allowed is still = refl
 
 -- ---- what is known of a life word
 pub look_is : (l : Whole) (s : Step) (a g : ℕ) → a ≡ word_after l (target s) → looks_at_life s g ≡ true → a ≡ word_after l (life_word_at g)
-look_is l (Look Word.Epoch) a g is h = absurd (false≢true h)
-look_is l (Look (Word.Free q w)) a g is h = absurd (false≢true h)
 look_is l (Look (Word.Life q b)) a g is h = let parts = and_parts (b == g % 256) (q == g / 256) h in
     is ∙ ap (λ x. word_after l (Word.Life q x)) (eqb-true b (g % 256) parts.0) ∙ ap (λ x. word_after l (Word.Life x (g % 256))) (eqb-true q (g / 256) parts.1)
-look_is l (Look (Word.Deed q)) a g is h = absurd (false≢true h)
-look_is l (Look (Word.Backed q)) a g is h = absurd (false≢true h)
-look_is l (Look (Word.Stamp q)) a g is h = absurd (false≢true h)
-look_is l (Look (Word.Parked j)) a g is h = absurd (false≢true h)
-look_is l (Look (Word.Empty j)) a g is h = absurd (false≢true h)
-look_is l (Look (Word.Eligible d j)) a g is h = absurd (false≢true h)
-look_is l (Deed page directory) a g is h = absurd (false≢true h)
-look_is l (Back page) a g is h = absurd (false≢true h)
-look_is l (Take page word mask) a g is h = absurd (false≢true h)
-look_is l (Put page word mask) a g is h = absurd (false≢true h)
-look_is l (Give block) a g is h = absurd (false≢true h)
-look_is l (End name guess) a g is h = absurd (false≢true h)
-look_is l (TakeRight page directory) a g is h = absurd (false≢true h)
-look_is l (Offer page directory) a g is h = absurd (false≢true h)
-look_is l (Park page) a g is h = absurd (false≢true h)
-look_is l (Unpark page) a g is h = absurd (false≢true h)
-look_is l (Stamp page) a g is h = absurd (false≢true h)
-look_is l (Hint page) a g is h = absurd (false≢true h)
-look_is l (Tick raised) a g is h = absurd (false≢true h)
-look_is l (Unback page) a g is h = absurd (false≢true h)
-look_is l (Unhint page) a g is h = absurd (false≢true h)
-
+look_is l s a g is h = absurd (false≢true h)
 none_told : {A : Type 0} {w : A} → None ≡ Some w → ⊥
 none_told h = cc
 
@@ -269,8 +234,6 @@ life_step : (f : Profile) (l : Whole) (k e : ℕ) (s : Step) (a g : ℕ) → IsV
 life_step f l k e (Look word) a g valid of allowed is dead tells h = subst (λ x. LifeIn f g x (visible l) (16 * g)) (sym (same (same_word word (life_word_at g)) (word_after l (life_word_at g)))) h
 life_step f l k e (Deed page directory) a g valid of allowed is dead tells h = life_if f g (a == 0) (Event.Deed k page directory) (visible l) (16 * g) (word_after l (life_word_at g)) h h
 life_step f l k e (Back page) a g valid of allowed is dead tells h = life_if f g (a == 0) (Event.Back k page) (visible l) (16 * g) (word_after l (life_word_at g)) h h
-life_step f l k e (Take page word mask) a g valid of allowed is dead tells h = h
-life_step f l k e (Put page word mask) a g valid of allowed is dead tells h = h
 life_step f l k e (Give block) a g valid of allowed is dead tells h =
     let here : (address_of block.name == 16 * g) ≡ true → (grain_of block.name == g) ≡ true = λ x. sym (address_same (address_of block.name) g allowed.aligned) ∙ x in
     let held : (grain_of block.name == g) ≡ true → holds (part k l) g ≡ true = λ x. ap (holds (part k l)) (sym (eqb-true (grain_of block.name) g x)) ∙ allowed.held (grain_of block.name) (own_grain (grain_of block.name) (length_of block) (some_grain block.room allowed.whole allowed.some)) in
@@ -285,15 +248,7 @@ life_step f l k e (End name guess) a g valid of allowed is dead tells h =
     (life_same (grain_of name) g ∙ sym (address_same (address_of name) g of.1))
     (end_life (address_of name == 16 * g) (a == live_word name.turn guess) (is_live a && (turn_of a == name.turn)) f g k e a (word_after l (life_word_at g)) guess name (reason_of name a) (visible l) (16 * g) refl
     (λ x. word_is l a (grain_of name) g is (sym (address_same (address_of name) g of.1) ∙ x)) refl of.2 h)
-life_step f l k e (TakeRight page directory) a g valid of allowed is dead tells h = h
-life_step f l k e (Offer page directory) a g valid of allowed is dead tells h = h
-life_step f l k e (Park page) a g valid of allowed is dead tells h = h
-life_step f l k e (Unpark page) a g valid of allowed is dead tells h = h
-life_step f l k e (Stamp page) a g valid of allowed is dead tells h = h
-life_step f l k e (Hint page) a g valid of allowed is dead tells h = h
-life_step f l k e (Tick raised) a g valid of allowed is dead tells h = h
-life_step f l k e (Unback page) a g valid of allowed is dead tells h = h
-life_step f l k e (Unhint page) a g valid of allowed is dead tells h = h
+life_step f l k e s a g valid of allowed is dead tells h = h
 
 -- a grain of a live block is covered
 live_covers : (f : Profile) (g word : ℕ) (b : Live) (gives ends x : ℕ) → IsLifeOfLive f g word b gives ends → in_run g (length_of b.block) x ≡ true → covers word g x ≡ true
@@ -345,25 +300,14 @@ bare_ended true address live gives ends e h = absurd (false≢true (sym e))
 bare_ended false address live gives ends e h = h
 
 bare_step : (f : Profile) (v : View) (k e : ℕ) (s : Step) (a : ℕ) (es : List Event) (address : ℕ) → IsStepOf f s → Allowed f v s → address % 16 ≢ 0 → BareIn es address → BareIn (with_event (event_of k e s a) es) address
-bare_step f v k e (Look word) a es address of allowed un h = h
 bare_step f v k e (Deed page directory) a es address of allowed un h = bare_if (a == 0) (Event.Deed k page directory) es address h h
 bare_step f v k e (Back page) a es address of allowed un h = bare_if (a == 0) (Event.Back k page) es address h h
-bare_step f v k e (Take page word mask) a es address of allowed un h = h
-bare_step f v k e (Put page word mask) a es address of allowed un h = h
 bare_step f v k e (Give block) a es address of allowed un h =
     bare_give (address_of block.name == address) k block address (live_in es address) (gives_in es address) (ends_in es address) (other_address (address_of block.name) address allowed.aligned un (address_of block.name == address) refl) h
 bare_step f v k e (End name guess) a es address of allowed un h =
     bare_end (a == live_word name.turn guess) (is_live a && (turn_of a == name.turn)) (Event.End k name e) (Event.Reject k name (reason_of name a)) es address
     (bare_ended (address_of name == address) address (live_in es address) (gives_in es address) (ends_in es address) (other_address (address_of name) address of.1 un (address_of name == address) refl) h) h h
-bare_step f v k e (TakeRight page directory) a es address of allowed un h = h
-bare_step f v k e (Offer page directory) a es address of allowed un h = h
-bare_step f v k e (Park page) a es address of allowed un h = h
-bare_step f v k e (Unpark page) a es address of allowed un h = h
-bare_step f v k e (Stamp page) a es address of allowed un h = h
-bare_step f v k e (Hint page) a es address of allowed un h = h
-bare_step f v k e (Tick raised) a es address of allowed un h = h
-bare_step f v k e (Unback page) a es address of allowed un h = h
-bare_step f v k e (Unhint page) a es address of allowed un h = h
+bare_step f v k e s a es address of allowed un h = h
 
 pub bare_of : (f : Profile) (l : Whole) → Legal f l → (address : ℕ) → address % 16 ≢ 0 → IsBare address (live_in (visible l) address) (gives_in (visible l) address) (ends_in (visible l) address)
 bare_of f [] legal address un = record { no_block = refl; no_give = refl; no_end = refl }

@@ -14,7 +14,7 @@ use Rattle.pas_profile.specs.declared.name.Name.{Name}
 use Rattle.pas_profile.specs.declared.word.Word.{Word}
 use Rattle.pas_profile.specs.declared.event.Event.{Event}
 use Rattle.pas_profile.specs.declared.event.Why.{Why}
-use Rattle.pas_machine.specs.Runs.{in_run, meets_page, address_of, grain_of, length_of}
+use Rattle.pas_profile.specs.Runs.{in_run, meets_page, address_of, grain_of, length_of}
 use Rattle.pas_machine.specs.State.{Live, deed_in, backed_in, live_in, gives_in, ends_in, touches, epoch_in}
 use Rattle.pas_machine.specs.Machine.{IsPlace, Bears, IsClear, IsLive, MayGive, IsReason, Admits, Run}
 use Rattle.pas_steps.specs.Effects.{life_word_at, target}
@@ -173,27 +173,17 @@ unback_admits f l valid legal k page of may =
     )
 
 admits : (f : Profile) (l : Whole) → IsValid f → Legal f l → (k : ℕ) (s : Step) (a : ℕ) → IsStepOf f s → Allowed f (part k l) s → a ≡ word_after l (target s) → Run f (visible l) → Run f (with_event (event_of k (epoch_of (part k l)) s a) (visible l))
-admits f l valid legal k (Look word) a of allowed is run = run
 admits f l valid legal k (Deed q d) a of allowed is run = one_if (a == 0) f (Event.Deed k q d) (visible l) run (λ z. (of.0, of.1.heap, no_deed (deed_in (visible l) q) (sym (eqb-true a 0 z) ∙ is ∙ deed_of f l legal q)))
 admits f l valid legal k (Back q) a of allowed is run = one_if (a == 0) f (Event.Back k q) (visible l) run (λ z. (
   of,
   some_deed (deed_in (visible l) q) (λ none. allowed.1 (known_is (known_deed (part k l) q) (word_after l (Word.Deed q)) (deeds_known f l legal k q) allowed.1 ∙ deed_of f l legal q ∙ none)),
   is_backed true (backed_in (visible l) q) a (is ∙ backed_of f l legal q) z,
 ))
-admits f l valid legal k (Take q word mask) a of allowed is run = run
-admits f l valid legal k (Put q word mask) a of allowed is run = run
 admits f l valid legal k (Give block) a of allowed is run = (give_admits f l valid legal k block of allowed, run)
 admits f l valid legal k (End name guess) a of allowed is run =
     end_admits f (a == live_word name.turn guess) (is_live a && (turn_of a == name.turn)) k (epoch_of (part k l)) (grain_of name) a (word_after l (life_word_at (grain_of name))) guess name (visible l) run (of.0, of.1) is of.2 (life_at f l valid legal (address_of name) of.1) refl refl
-admits f l valid legal k (TakeRight q directory) a of allowed is run = run
-admits f l valid legal k (Offer q directory) a of allowed is run = run
-admits f l valid legal k (Park q) a of allowed is run = run
-admits f l valid legal k (Unpark q) a of allowed is run = run
-admits f l valid legal k (Stamp q) a of allowed is run = run
-admits f l valid legal k (Hint q) a of allowed is run = run
-admits f l valid legal k (Tick raised) a of allowed is run = run
 admits f l valid legal k (Unback q) a of allowed is run = (unback_admits f l valid legal k q of allowed, run)
-admits f l valid legal k (Unhint q) a of allowed is run = run
+admits f l valid legal k s a of allowed is run = run
 
 -- the visible events of every legal list are a run of the machine
 pub runs : (f : Profile) (l : Whole) → IsValid f → Legal f l → Run f (visible l)

@@ -5,7 +5,7 @@ use Rattle.pas_profile.specs.Classes.{has_bit}
 use Rattle.pas_profile.specs.Lives.{is_live, grains_of}
 use Rattle.pas_profile.specs.Profiles.{IsValid}
 use Rattle.pas_profile.specs.declared.profile.Profile.{Profile}
-use Rattle.pas_machine.specs.Runs.{in_run, length_of}
+use Rattle.pas_profile.specs.Runs.{in_run, length_of}
 use Rattle.pas_machine.specs.State.{Live, live_in, gives_in, ends_in}
 use Rattle.pas_machine.specs.Laws.{AreBorne, AreApart}
 use Rattle.pas_machine.proofs.LiveBlocks.{all_borne, live_apart}

@@ -128,21 +128,9 @@ unhint_was false was h = h
 
 hint_next : (f : Profile) (e : ℕ) (s : Step) (p old : ℕ) → IsStepOf f s → (has_bit old (p % 64) ≡ true → IsPage f p) → has_bit (next_value e s (Word.Empty (p / 64)) old) (p % 64) ≡ true → IsPage f p
 hint_next f e (Look word) p old of h set = h (ap (λ n. has_bit n (p % 64)) (sym (looked (same_word word (Word.Empty (p / 64))) old)) ∙ set)
-hint_next f e (Deed q d) p old of h set = h set
-hint_next f e (Back q) p old of h set = h set
-hint_next f e (Take q w mask) p old of h set = h set
-hint_next f e (Put q w mask) p old of h set = h set
-hint_next f e (Give block) p old of h set = h set
-hint_next f e (End name guess) p old of h set = h set
-hint_next f e (TakeRight q d) p old of h set = h set
-hint_next f e (Offer q d) p old of h set = h set
-hint_next f e (Park q) p old of h set = h set
-hint_next f e (Unpark q) p old of h set = h set
-hint_next f e (Stamp q) p old of h set = h set
 hint_next f e (Hint q) p old of h set = hint_if f (q == p) (has_bit old (p % 64)) q p refl of h (sym (page_bit-set q p old true) ∙ set)
-hint_next f e (Tick raised) p old of h set = h set
-hint_next f e (Unback q) p old of h set = h set
 hint_next f e (Unhint q) p old of h set = h (unhint_was (q == p) (has_bit old (p % 64)) (sym (page_bit-clear q p old true) ∙ set))
+hint_next f e s p old of h set = h set
 
 pub hinted_page : (f : Profile) (l : Whole) → Legal f l → (p : ℕ) → empty_bit l p ≡ true → IsPage f p
 hinted_page f [] legal p h = absurd (false≢true (sym (no_bit (p % 64)) ∙ h))
@@ -209,22 +197,9 @@ look_keeps false old b h = h
 -- a step that doesn't take a free grain leaves it free
 free_stays : (f : Profile) (e : ℕ) (s : Step) (g old : ℕ) → IsStepOf f s → takes s g ≡ false → has_bit old (g % 64) ≡ true → has_bit (next_value e s (free_word_at g) old) (g % 64) ≡ true
 free_stays f e (Look word) g old of misses h = look_keeps (same_word word (free_word_at g)) old (g % 64) h
-free_stays f e (Deed q d) g old of misses h = h
-free_stays f e (Back q) g old of misses h = h
 free_stays f e (Take q w mask) g old of misses h = take_keeps (w == g / 64 % 4) (q == g / 256) old mask (g % 64) of.2 (omega arith) misses h
 free_stays f e (Put q w mask) g old of misses h = put_keeps ((w == g / 64 % 4) && (q == g / 256)) old mask (g % 64) h
-free_stays f e (Give block) g old of misses h = h
-free_stays f e (End name guess) g old of misses h = h
-free_stays f e (TakeRight q d) g old of misses h = h
-free_stays f e (Offer q d) g old of misses h = h
-free_stays f e (Park q) g old of misses h = h
-free_stays f e (Unpark q) g old of misses h = h
-free_stays f e (Stamp q) g old of misses h = h
-free_stays f e (Hint q) g old of misses h = h
-free_stays f e (Tick raised) g old of misses h = h
-free_stays f e (Unback q) g old of misses h = h
-free_stays f e (Unhint q) g old of misses h = h
-
+free_stays f e s g old of misses h = h
 takes_page : (q w mask g : ℕ) → in_mask q w mask g ≡ true → q ≡ g / 256
 takes_page q w mask g h =
     let parts = and_parts ((w == g / 64 % 4) && (q == g / 256)) (has_bit mask (g % 64)) h in
@@ -232,34 +207,14 @@ takes_page q w mask g h =
 
 -- only the actor that has the right takes
 takes_with : (f : Profile) (l : Whole) (j : ℕ) (s : Step) (g : ℕ) → IsSpotted l (g / 256) → Allowed f (part j l) s → takes s g ≡ true → spot_of l (g / 256) ≡ With j
-takes_with f l j (Look word) g at allowed h = absurd (false≢true h)
-takes_with f l j (Deed q d) g at allowed h = absurd (false≢true h)
-takes_with f l j (Back q) g at allowed h = absurd (false≢true h)
 takes_with f l j (Take q w mask) g at allowed h = is_with-true j (spot_of l (g / 256)) (sym (at.has j) ∙ ap (has_right (part j l)) (sym (takes_page q w mask g h)) ∙ allowed)
-takes_with f l j (Put q w mask) g at allowed h = absurd (false≢true h)
-takes_with f l j (Give block) g at allowed h = absurd (false≢true h)
-takes_with f l j (End name guess) g at allowed h = absurd (false≢true h)
-takes_with f l j (TakeRight q d) g at allowed h = absurd (false≢true h)
-takes_with f l j (Offer q d) g at allowed h = absurd (false≢true h)
-takes_with f l j (Park q) g at allowed h = absurd (false≢true h)
-takes_with f l j (Unpark q) g at allowed h = absurd (false≢true h)
-takes_with f l j (Stamp q) g at allowed h = absurd (false≢true h)
-takes_with f l j (Hint q) g at allowed h = absurd (false≢true h)
-takes_with f l j (Tick raised) g at allowed h = absurd (false≢true h)
-takes_with f l j (Unback q) g at allowed h = absurd (false≢true h)
-takes_with f l j (Unhint q) g at allowed h = absurd (false≢true h)
-
+takes_with f l j s g at allowed h = absurd (false≢true h)
 takes_not : (f : Profile) (l : Whole) (j : ℕ) (s : Step) (g : ℕ) → IsSpotted l (g / 256) → Allowed f (part j l) s → (spot_of l (g / 256) ≡ With j → ⊥) → takes s g ≡ false
 takes_not f l j s g at allowed never = false_from_ne_true (takes s g) (λ h. never (takes_with f l j s g at allowed h))
 
 was_nowhere : (j : ℕ) (m : Way) (o : Spot) → spot_after j m o ≡ Nowhere → o ≡ Nowhere
 was_nowhere j Rests o h = h
-was_nowhere j ByDeed o h = absurd cc
-was_nowhere j (FromOffer n) o h = absurd cc
-was_nowhere j FromParked o h = absurd cc
-was_nowhere j (ToOffer n) o h = absurd cc
-was_nowhere j ToParked o h = absurd cc
-
+was_nowhere j s o h = absurd cc
 with_differs : (j k : ℕ) (o : Spot) → o ≡ With k → (j == k) ≡ false → o ≡ With j → ⊥
 with_differs j k o h ne g = let e : With j ≡ With k = sym g ∙ h in let same : j ≡ k = cc in eqb-false j k ne same
 
@@ -321,31 +276,12 @@ leaves_or false known = refl
 
 -- a grain is known as free if the step tells so, or if it was, and the step neither takes it nor gives the right away
 free_after-is : (s : Step) (a g : ℕ) (right known : Bool) → free_after s a g right known ≡ (tells_free s a g right || (not (takes s g) && not (leaves s (g / 256)) && known))
-free_after-is (Look Word.Epoch) a g right known = refl
 free_after-is (Look (Word.Free q w)) a g right known = tells_or ((w == g / 64 % 4) && (q == g / 256) && right && has_bit a (g % 64)) known
-free_after-is (Look (Word.Life q h)) a g right known = refl
-free_after-is (Look (Word.Deed q)) a g right known = refl
-free_after-is (Look (Word.Backed q)) a g right known = refl
-free_after-is (Look (Word.Stamp q)) a g right known = refl
-free_after-is (Look (Word.Parked i)) a g right known = refl
-free_after-is (Look (Word.Empty i)) a g right known = refl
-free_after-is (Look (Word.Eligible d i)) a g right known = refl
 free_after-is (Deed q d) a g right known = tells_or ((q == g / 256) && (a == 0)) known
-free_after-is (Back q) a g right known = refl
 free_after-is (Take q w mask) a g right known = takes_or (in_mask q w mask g) known
-free_after-is (Put q w mask) a g right known = refl
-free_after-is (Give block) a g right known = refl
-free_after-is (End name guess) a g right known = refl
-free_after-is (TakeRight q d) a g right known = refl
 free_after-is (Offer q d) a g right known = leaves_or (q == g / 256) known
 free_after-is (Park q) a g right known = leaves_or (q == g / 256) known
-free_after-is (Unpark q) a g right known = refl
-free_after-is (Stamp q) a g right known = refl
-free_after-is (Hint q) a g right known = refl
-free_after-is (Tick raised) a g right known = refl
-free_after-is (Unback q) a g right known = refl
-free_after-is (Unhint q) a g right known = refl
-
+free_after-is s a g right known = refl
 not_from : (x z y : Bool) → (not x && not z && y) ≡ true → (x ≡ false) × (z ≡ false) × (y ≡ true)
 not_from true z y h = absurd (false≢true h)
 not_from false true y h = absurd (false≢true h)
@@ -354,37 +290,17 @@ not_from false false y h = (refl, refl, h)
 -- the step tells it, and it is so
 told_free : (f : Profile) (l : Whole) (j e : ℕ) (s : Step) (a g : ℕ) → IsSpotted l (g / 256) → IsClear l g → Allowed f (part j l) s → a ≡ word_after l (target s) → tells_free s a g (has_right (part j l) (g / 256)) ≡ true
     → Known j (spot_after j (way s a (g / 256)) (spot_of l (g / 256))) (has_bit (next_value e s (free_word_at g) (word_after l (free_word_at g))) (g % 64))
-told_free f l j e (Look Word.Epoch) a g at clear allowed is h = absurd (false≢true h)
 told_free f l j e (Look (Word.Free q w)) a g at clear allowed is h =
     let parts = and_parts ((w == g / 64 % 4) && (q == g / 256) && has_right (part j l) (g / 256)) (has_bit a (g % 64)) h in
     let rest = and_parts ((w == g / 64 % 4) && (q == g / 256)) (has_right (part j l) (g / 256)) parts.0 in
     let here = and_parts (w == g / 64 % 4) (q == g / 256) rest.0 in
     let same : a ≡ word_after l (free_word_at g) = is ∙ ap (λ x. word_after l (Word.Free q x)) (eqb-true w (g / 64 % 4) here.0) ∙ ap (λ x. word_after l (Word.Free x (g / 64 % 4))) (eqb-true q (g / 256) here.1) in
     (is_with-true j (spot_of l (g / 256)) (sym (at.has j) ∙ rest.1), look_keeps ((w == g / 64 % 4) && (q == g / 256)) (word_after l (free_word_at g)) (g % 64) (ap (λ n. has_bit n (g % 64)) (sym same) ∙ parts.1))
-told_free f l j e (Look (Word.Life q i)) a g at clear allowed is h = absurd (false≢true h)
-told_free f l j e (Look (Word.Deed q)) a g at clear allowed is h = absurd (false≢true h)
-told_free f l j e (Look (Word.Backed q)) a g at clear allowed is h = absurd (false≢true h)
-told_free f l j e (Look (Word.Stamp q)) a g at clear allowed is h = absurd (false≢true h)
-told_free f l j e (Look (Word.Parked i)) a g at clear allowed is h = absurd (false≢true h)
-told_free f l j e (Look (Word.Empty i)) a g at clear allowed is h = absurd (false≢true h)
-told_free f l j e (Look (Word.Eligible d i)) a g at clear allowed is h = absurd (false≢true h)
 told_free f l j e (Deed q d) a g at clear allowed is h =
     let suits : Suits j (way (Deed q d) a (g / 256)) (spot_of l (g / 256)) = step_suits f l j (Deed q d) a (g / 256) at allowed is in
     (ap (λ t. spot_after j (if t then ByDeed else Rests) (spot_of l (g / 256))) h, clear.bare (subst (λ t. Suits j (if t then ByDeed else Rests) (spot_of l (g / 256))) h suits))
-told_free f l j e (Back q) a g at clear allowed is h = absurd (false≢true h)
-told_free f l j e (Take q w mask) a g at clear allowed is h = absurd (false≢true h)
-told_free f l j e (Put q w mask) a g at clear allowed is h = absurd (false≢true h)
-told_free f l j e (Give block) a g at clear allowed is h = absurd (false≢true h)
-told_free f l j e (End name guess) a g at clear allowed is h = absurd (false≢true h)
-told_free f l j e (TakeRight q d) a g at clear allowed is h = absurd (false≢true h)
-told_free f l j e (Offer q d) a g at clear allowed is h = absurd (false≢true h)
-told_free f l j e (Park q) a g at clear allowed is h = absurd (false≢true h)
-told_free f l j e (Unpark q) a g at clear allowed is h = absurd (false≢true h)
-told_free f l j e (Stamp q) a g at clear allowed is h = absurd (false≢true h)
-told_free f l j e (Hint q) a g at clear allowed is h = absurd (false≢true h)
-told_free f l j e (Tick raised) a g at clear allowed is h = absurd (false≢true h)
-told_free f l j e (Unback q) a g at clear allowed is h = absurd (false≢true h)
 told_free f l j e (Unhint q) a g at clear allowed is h = absurd (false≢true h)
+told_free f l j e s a g at clear allowed is h = absurd (false≢true h)
 
 -- an actor's own step leaves it a right that it has and doesn't give away
 moves_to : (j : ℕ) (m : Way) (o : Spot) (x : Bool) → spot_after j m o ≡ With j → o ≡ With j → spot_after j (if x then m else Rests) o ≡ With j
@@ -396,23 +312,12 @@ not_moved j m o true e h = absurd (false≢true (sym e))
 not_moved j m o false e h = h
 
 own_spot : (j : ℕ) (s : Step) (a p : ℕ) (o : Spot) → leaves s p ≡ false → o ≡ With j → spot_after j (way s a p) o ≡ With j
-own_spot j (Look word) a p o stays h = h
 own_spot j (Deed q d) a p o stays h = moves_to j ByDeed o ((q == p) && (a == 0)) refl h
-own_spot j (Back q) a p o stays h = h
-own_spot j (Take q w mask) a p o stays h = h
-own_spot j (Put q w mask) a p o stays h = h
-own_spot j (Give block) a p o stays h = h
-own_spot j (End name guess) a p o stays h = h
 own_spot j (TakeRight q d) a p o stays h = moves_to j (FromOffer (number_of d)) o ((q == p) && has_bit a (p % 64)) refl h
 own_spot j (Offer q d) a p o stays h = not_moved j (ToOffer (number_of d)) o (q == p) stays h
 own_spot j (Park q) a p o stays h = not_moved j ToParked o (q == p) stays h
 own_spot j (Unpark q) a p o stays h = moves_to j FromParked o ((q == p) && has_bit a (p % 64)) refl h
-own_spot j (Stamp q) a p o stays h = h
-own_spot j (Hint q) a p o stays h = h
-own_spot j (Tick raised) a p o stays h = h
-own_spot j (Unback q) a p o stays h = h
-own_spot j (Unhint q) a p o stays h = h
-
+own_spot j s a p o stays h = h
 free_of_part : (t : Bool) (m : Made) (v : View) (g : ℕ) (P : Type 0) → (t ≡ false → known_free v g ≡ true → P) → (t ≡ true → free_after m.step m.answer g (has_right v (g / 256)) (known_free v g) ≡ true → P) → known_free (if t then m ∷ v else v) g ≡ true → P
 free_of_part true m v g P old new told = new refl told
 free_of_part false m v g P old new told = old refl told

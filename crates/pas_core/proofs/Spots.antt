@@ -60,30 +60,18 @@ pub data Way : Type 0 where
   ToParked : Way
 
 abbrev pub way : Step → ℕ → ℕ → Way
-way (Look word) a p = Rests
 way (Deed q d) a p = if (q == p) && (a == 0) then ByDeed else Rests
-way (Back q) a p = Rests
-way (Take q w mask) a p = Rests
-way (Put q w mask) a p = Rests
-way (Give block) a p = Rests
-way (End name guess) a p = Rests
 way (TakeRight q d) a p = if (q == p) && has_bit a (p % 64) then FromOffer (number_of d) else Rests
 way (Offer q d) a p = if q == p then ToOffer (number_of d) else Rests
 way (Park q) a p = if q == p then ToParked else Rests
 way (Unpark q) a p = if (q == p) && has_bit a (p % 64) then FromParked else Rests
-way (Stamp q) a p = Rests
-way (Hint q) a p = Rests
-way (Tick raised) a p = Rests
-way (Unback q) a p = Rests
-way (Unhint q) a p = Rests
+way s a p = Rests
 
 abbrev pub spot_after : ℕ → Way → Spot → Spot
 spot_after j Rests o = o
-spot_after j ByDeed o = With j
-spot_after j (FromOffer n) o = With j
-spot_after j FromParked o = With j
 spot_after j (ToOffer n) o = Offered n
 spot_after j ToParked o = InParked
+spot_after j s o = With j
 
 abbrev pub spot_of : Whole → ℕ → Spot
 spot_of [] p = Nowhere
@@ -127,10 +115,8 @@ is_offered-true n (Offered m) h = ap Offered (eqb-true m n h)
 is_offered-true n InParked h = absurd (false≢true h)
 
 pub is_parked-true : (o : Spot) → is_parked o ≡ true → o ≡ InParked
-is_parked-true Nowhere h = absurd (false≢true h)
-is_parked-true (With j) h = absurd (false≢true h)
-is_parked-true (Offered n) h = absurd (false≢true h)
 is_parked-true InParked h = refl
+is_parked-true s h = absurd (false≢true h)
 
 pub no_deed : (o : Spot) → DeedFits o 0 → o ≡ Nowhere
 no_deed Nowhere h = refl
@@ -179,11 +165,9 @@ parked_moved ToParked was = true
 
 parked_next : (j : ℕ) (m : Way) (o : Spot) → Suits j m o → parked_moved m (is_parked o) ≡ is_parked (spot_after j m o)
 parked_next j Rests o h = refl
-parked_next j ByDeed o h = ap is_parked h
-parked_next j (FromOffer n) o h = ap is_parked h
 parked_next j FromParked o h = refl
-parked_next j (ToOffer n) o h = ap is_parked h
 parked_next j ToParked o h = refl
+parked_next j s o h = ap is_parked h
 
 abbrev offered_moved : Way → ℕ → Bool → Bool
 offered_moved Rests n was = was
@@ -219,22 +203,12 @@ loses_right true had m h = sym h
 loses_right false had m h = refl
 
 right_way : (s : Step) (a p : ℕ) (had : Bool) → right_after s a p had ≡ had_after (way s a p) had
-right_way (Look word) a p had = refl
 right_way (Deed q d) a p had = gets_right ((q == p) && (a == 0)) had ByDeed refl
-right_way (Back q) a p had = refl
-right_way (Take q w mask) a p had = refl
-right_way (Put q w mask) a p had = refl
-right_way (Give block) a p had = refl
-right_way (End name guess) a p had = refl
 right_way (TakeRight q d) a p had = gets_right ((q == p) && has_bit a (p % 64)) had (FromOffer (number_of d)) refl
 right_way (Offer q d) a p had = loses_right (q == p) had (ToOffer (number_of d)) refl
 right_way (Park q) a p had = loses_right (q == p) had ToParked refl
 right_way (Unpark q) a p had = gets_right ((q == p) && has_bit a (p % 64)) had FromParked refl
-right_way (Stamp q) a p had = refl
-right_way (Hint q) a p had = refl
-right_way (Tick raised) a p had = refl
-right_way (Unback q) a p had = refl
-right_way (Unhint q) a p had = refl
+right_way s a p had = refl
 
 -- ---- the parked words
 unpark_cases : (y g was : Bool) → (y ≡ true → g ≡ was) → (if y then false else was) ≡ parked_moved (if y && g then FromParked else Rests) was
@@ -258,21 +232,12 @@ parked_step : (l : Whole) (e : ℕ) (s : Step) (a p : ℕ) → a ≡ word_after 
     → has_bit (next_value e s (Word.Parked (p / 64)) (word_after l (Word.Parked (p / 64)))) (p % 64) ≡ parked_moved (way s a p) (parked_bit l p)
 parked_step l e (Look word) a p is = same_bit (same_word word (Word.Parked (p / 64))) (word_after l (Word.Parked (p / 64))) (p % 64)
 parked_step l e (Deed q d) a p is = parked_rests ((q == p) && (a == 0)) (parked_bit l p) ByDeed (λ b. refl)
-parked_step l e (Back q) a p is = refl
-parked_step l e (Take q w mask) a p is = refl
-parked_step l e (Put q w mask) a p is = refl
-parked_step l e (Give block) a p is = refl
-parked_step l e (End name guess) a p is = refl
 parked_step l e (TakeRight q d) a p is = parked_rests ((q == p) && has_bit a (p % 64)) (parked_bit l p) (FromOffer (number_of d)) (λ b. refl)
 parked_step l e (Offer q d) a p is = parked_rests (q == p) (parked_bit l p) (ToOffer (number_of d)) (λ b. refl)
 parked_step l e (Park q) a p is = page_bit-set q p (word_after l (Word.Parked (p / 64))) true ∙ park_cases (q == p) (parked_bit l p)
 parked_step l e (Unpark q) a p is = page_bit-clear q p (word_after l (Word.Parked (p / 64))) true
     ∙ unpark_cases (q == p) (has_bit a (p % 64)) (parked_bit l p) (λ h. ap (λ n. has_bit n (p % 64)) (is ∙ ap (λ x. word_after l (Word.Parked (x / 64))) (eqb-true q p h)))
-parked_step l e (Stamp q) a p is = refl
-parked_step l e (Hint q) a p is = refl
-parked_step l e (Tick raised) a p is = refl
-parked_step l e (Unback q) a p is = refl
-parked_step l e (Unhint q) a p is = refl
+parked_step l e s a p is = refl
 
 -- ---- the eligible words
 take_right_cases : (x y g was : Bool) (m n : ℕ) → (m == n) ≡ x → (x ≡ true → y ≡ true → g ≡ was) → (if x && y then false else was) ≡ offered_moved (if y && g then FromOffer m else Rests) n was
@@ -300,21 +265,12 @@ eligible_step : (l : Whole) (e : ℕ) (s : Step) (a p n : ℕ) → a ≡ word_af
     → has_bit (next_value e s (Word.Eligible n (p / 64)) (word_after l (Word.Eligible n (p / 64)))) (p % 64) ≡ offered_moved (way s a p) n (eligible_bit l n p)
 eligible_step l e (Look word) a p n is = same_bit (same_word word (Word.Eligible n (p / 64))) (word_after l (Word.Eligible n (p / 64))) (p % 64)
 eligible_step l e (Deed q d) a p n is = offered_rests ((q == p) && (a == 0)) (eligible_bit l n p) n ByDeed (λ b. refl)
-eligible_step l e (Back q) a p n is = refl
-eligible_step l e (Take q w mask) a p n is = refl
-eligible_step l e (Put q w mask) a p n is = refl
-eligible_step l e (Give block) a p n is = refl
-eligible_step l e (End name guess) a p n is = refl
 eligible_step l e (TakeRight q d) a p n is = page_bit-clear q p (word_after l (Word.Eligible n (p / 64))) (number_of d == n)
     ∙ take_right_cases (number_of d == n) (q == p) (has_bit a (p % 64)) (eligible_bit l n p) (number_of d) n refl (λ x y. eligible_at l a (number_of d) n q p is x y)
 eligible_step l e (Offer q d) a p n is = page_bit-set q p (word_after l (Word.Eligible n (p / 64))) (number_of d == n) ∙ offer_cases (number_of d == n) (q == p) (eligible_bit l n p) (number_of d) n refl
 eligible_step l e (Park q) a p n is = offered_rests (q == p) (eligible_bit l n p) n ToParked (λ b. refl)
 eligible_step l e (Unpark q) a p n is = offered_rests ((q == p) && has_bit a (p % 64)) (eligible_bit l n p) n FromParked (λ b. refl)
-eligible_step l e (Stamp q) a p n is = refl
-eligible_step l e (Hint q) a p n is = refl
-eligible_step l e (Tick raised) a p n is = refl
-eligible_step l e (Unback q) a p n is = refl
-eligible_step l e (Unhint q) a p n is = refl
+eligible_step l e s a p n is = refl
 
 -- ---- a legal step's way suits
 suits_if : (j : ℕ) (m : Way) (o : Spot) (t : Bool) → (t ≡ true → Suits j m o) → Suits j (if t then m else Rests) o
@@ -328,16 +284,10 @@ with_here : (f : Profile) (l : Whole) (j q p : ℕ) → IsSpotted l p → has_ri
 with_here f l j q p at has h = is_with-true j (spot_of l p) (sym (at.has j) ∙ ap (has_right (part j l)) (sym (eqb-true q p h)) ∙ has)
 
 pub step_suits : (f : Profile) (l : Whole) (j : ℕ) (s : Step) (a p : ℕ) → IsSpotted l p → Allowed f (part j l) s → a ≡ word_after l (target s) → Suits j (way s a p) (spot_of l p)
-step_suits f l j (Look word) a p at allowed is = tt
 step_suits f l j (Deed q d) a p at allowed is = suits_if j ByDeed (spot_of l p) ((q == p) && (a == 0)) (λ h.
     let parts = and_parts (q == p) (a == 0) h in
     let none : word_after l (Word.Deed p) ≡ 0 = ap (λ x. word_after l (Word.Deed x)) (sym (eqb-true q p parts.0)) ∙ sym is ∙ eqb-true a 0 parts.1 in
     no_deed (spot_of l p) (subst (DeedFits (spot_of l p)) none at.deed))
-step_suits f l j (Back q) a p at allowed is = tt
-step_suits f l j (Take q w mask) a p at allowed is = tt
-step_suits f l j (Put q w mask) a p at allowed is = tt
-step_suits f l j (Give block) a p at allowed is = tt
-step_suits f l j (End name guess) a p at allowed is = tt
 step_suits f l j (TakeRight q d) a p at allowed is = suits_if j (FromOffer (number_of d)) (spot_of l p) ((q == p) && has_bit a (p % 64)) (λ h.
     let parts = and_parts (q == p) (has_bit a (p % 64)) h in
     offered_here l a (number_of d) (q / 64) p at is (ap (λ x. x / 64) (eqb-true q p parts.0)) parts.1)
@@ -346,12 +296,7 @@ step_suits f l j (Park q) a p at allowed is = suits_if j ToParked (spot_of l p) 
 step_suits f l j (Unpark q) a p at allowed is = suits_if j FromParked (spot_of l p) ((q == p) && has_bit a (p % 64)) (λ h.
     let parts = and_parts (q == p) (has_bit a (p % 64)) h in
     is_parked-true (spot_of l p) (sym at.parked ∙ ap (λ x. has_bit (word_after l (Word.Parked (x / 64))) (p % 64)) (sym (eqb-true q p parts.0)) ∙ ap (λ n. has_bit n (p % 64)) (sym is) ∙ parts.1))
-step_suits f l j (Stamp q) a p at allowed is = tt
-step_suits f l j (Hint q) a p at allowed is = tt
-step_suits f l j (Tick raised) a p at allowed is = tt
-step_suits f l j (Unback q) a p at allowed is = tt
-step_suits f l j (Unhint q) a p at allowed is = tt
-
+step_suits f l j s a p at allowed is = tt
 suits_then : (j : ℕ) (m : Way) (o : Spot) (t : Bool) → t ≡ true → Suits j (if t then m else Rests) o → Suits j m o
 suits_then j m o t e h = subst (λ b. Suits j (if b then m else Rests) o) e h
 
@@ -380,11 +325,6 @@ fits_step : (f : Profile) (l : Whole) (j e : ℕ) (s : Step) (a p : ℕ) → IsS
     → DeedFits (spot_after j (way s a p) (spot_of l p)) (next_value e s (Word.Deed p) (word_after l (Word.Deed p)))
 fits_step f l j e (Look word) a p at of allowed is suits = subst (DeedFits (spot_of l p)) (sym (looked (same_word word (Word.Deed p)) (word_after l (Word.Deed p)))) at.deed
 fits_step f l j e (Deed q d) a p at of allowed is suits = deed_fits (q == p) (a == 0) d (word_after l (Word.Deed p)) j (spot_of l p) (λ h. ap (λ n. n == 0) (ap (λ x. word_after l (Word.Deed x)) (sym (eqb-true q p h)) ∙ sym is)) at.deed
-fits_step f l j e (Back q) a p at of allowed is suits = at.deed
-fits_step f l j e (Take q w mask) a p at of allowed is suits = at.deed
-fits_step f l j e (Put q w mask) a p at of allowed is suits = at.deed
-fits_step f l j e (Give block) a p at of allowed is suits = at.deed
-fits_step f l j e (End name guess) a p at of allowed is suits = at.deed
 fits_step f l j e (TakeRight q d) a p at of allowed is suits = moved_fits ((q == p) && has_bit a (p % 64)) (FromOffer (number_of d)) (word_after l (Word.Deed p)) j (spot_of l p)
     (λ h. somewhere (spot_of l p) (word_after l (Word.Deed p)) at.deed (ap is_nowhere (suits_then j (FromOffer (number_of d)) (spot_of l p) ((q == p) && has_bit a (p % 64)) h suits))) at.deed
 fits_step f l j e (Offer q d) a p at of allowed is suits = moved_fits (q == p) (ToOffer (number_of d)) (word_after l (Word.Deed p)) j (spot_of l p)
@@ -393,11 +333,7 @@ fits_step f l j e (Park q) a p at of allowed is suits = moved_fits (q == p) ToPa
     (λ h. somewhere (spot_of l p) (word_after l (Word.Deed p)) at.deed (ap is_nowhere (suits_then j ToParked (spot_of l p) (q == p) h suits))) at.deed
 fits_step f l j e (Unpark q) a p at of allowed is suits = moved_fits ((q == p) && has_bit a (p % 64)) FromParked (word_after l (Word.Deed p)) j (spot_of l p)
     (λ h. somewhere (spot_of l p) (word_after l (Word.Deed p)) at.deed (ap is_nowhere (suits_then j FromParked (spot_of l p) ((q == p) && has_bit a (p % 64)) h suits))) at.deed
-fits_step f l j e (Stamp q) a p at of allowed is suits = at.deed
-fits_step f l j e (Hint q) a p at of allowed is suits = at.deed
-fits_step f l j e (Tick raised) a p at of allowed is suits = at.deed
-fits_step f l j e (Unback q) a p at of allowed is suits = at.deed
-fits_step f l j e (Unhint q) a p at of allowed is suits = at.deed
+fits_step f l j e s a p at of allowed is suits = at.deed
 
 -- ---- what is known of deeds
 -- a set bit of an eligible word tells the deed
@@ -414,30 +350,9 @@ offered_deed l a n j p at is h =
 deed_learns : (l : Whole) (e : ℕ) (s : Step) (a p known : ℕ) → IsSpotted l p → a ≡ word_after l (target s) → IsKnown known (word_after l (Word.Deed p))
     → IsKnown (deed_after s a p known) (next_value e s (Word.Deed p) (word_after l (Word.Deed p)))
 deed_learns l e (Look (Word.Deed q)) a p known at is h = look_tells (q == p) (word_after l (Word.Deed p)) a known (deed_at l a q p is) h
-deed_learns l e (Look Word.Epoch) a p known at is h = h
-deed_learns l e (Look (Word.Free q w)) a p known at is h = h
-deed_learns l e (Look (Word.Life q g)) a p known at is h = h
-deed_learns l e (Look (Word.Backed q)) a p known at is h = h
-deed_learns l e (Look (Word.Stamp q)) a p known at is h = h
-deed_learns l e (Look (Word.Parked j)) a p known at is h = h
-deed_learns l e (Look (Word.Empty j)) a p known at is h = h
 deed_learns l e (Look (Word.Eligible n j)) a p known at is h = eligible_tells ((j == p / 64) && has_bit a (p % 64)) (word_after l (Word.Deed p)) known n (offered_deed l a n j p at is) h
 deed_learns l e (Deed q d) a p known at is h = deed_tells (q == p) d (word_after l (Word.Deed p)) a known (deed_at l a q p is) h
-deed_learns l e (Back q) a p known at is h = h
-deed_learns l e (Take q w m) a p known at is h = h
-deed_learns l e (Put q w m) a p known at is h = h
-deed_learns l e (Give b) a p known at is h = h
-deed_learns l e (End n u) a p known at is h = h
-deed_learns l e (TakeRight q d) a p known at is h = h
-deed_learns l e (Offer q d) a p known at is h = h
-deed_learns l e (Park q) a p known at is h = h
-deed_learns l e (Unpark q) a p known at is h = h
-deed_learns l e (Stamp q) a p known at is h = h
-deed_learns l e (Hint q) a p known at is h = h
-deed_learns l e (Tick raised) a p known at is h = h
-deed_learns l e (Unback q) a p known at is h = h
-deed_learns l e (Unhint q) a p known at is h = h
-
+deed_learns l e s a p known at is h = h
 deed_of_part : (t : Bool) (m : Made) (v : View) (p word : ℕ) → IsKnown (known_deed v p) word → IsKnown (deed_after m.step m.answer p (known_deed v p)) word → IsKnown (known_deed (if t then m ∷ v else v) p) word
 deed_of_part true m v p word old new = new
 deed_of_part false m v p word old new = old

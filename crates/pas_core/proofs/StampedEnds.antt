@@ -11,7 +11,7 @@ use Rattle.pas_profile.specs.declared.event.Event.{Event}
 use Rattle.pas_profile.specs.declared.event.Event.TheVariants as Event
 use Rattle.pas_profile.specs.declared.word.Word.{Word}
 use Rattle.pas_profile.specs.declared.word.Word.TheVariants as Word
-use Rattle.pas_machine.specs.Runs.{meets_page, address_of, grain_of, length_of}
+use Rattle.pas_profile.specs.Runs.{meets_page, address_of, grain_of, length_of}
 use Rattle.pas_machine.specs.State.{live_in, touches, epoch_in}
 use Rattle.pas_steps.specs.Effects.{life_word_at, target}
 use Rattle.pas_steps.specs.Views.{View, epoch_of, unstamped_after, is_unstamped, ends_on}
@@ -62,43 +62,14 @@ end_reached true y k e name reject es p h on = reached (touches (live_in es (add
 end_reached false y k e name reject es p h on = absurd (false≢true h)
 
 end_reaches : (f : Profile) (l : Whole) → IsValid f → Legal f l → (k e : ℕ) (s : Step) (a p : ℕ) → IsStepOf f s → a ≡ word_after l (target s) → ends_on s a p ≡ true → e ≤ epoch_in (with_event (event_of k e s a) (visible l)) p
-end_reaches f l valid legal k e (Look word) a p of is h = absurd (false≢true h)
-end_reaches f l valid legal k e (Deed q d) a p of is h = absurd (false≢true h)
-end_reaches f l valid legal k e (Back q) a p of is h = absurd (false≢true h)
-end_reaches f l valid legal k e (Take q w mask) a p of is h = absurd (false≢true h)
-end_reaches f l valid legal k e (Put q w mask) a p of is h = absurd (false≢true h)
-end_reaches f l valid legal k e (Give block) a p of is h = absurd (false≢true h)
 end_reaches f l valid legal k e (End name guess) a p of is h = let parts = and_parts (a == live_word name.turn guess) (meets_page (grain_of name) guess p) h in
     end_reached (a == live_word name.turn guess) (is_live a && (turn_of a == name.turn)) k e name (Event.Reject k name (reason_of name a)) (visible l) p parts.0 (touched_by_end f l valid legal name guess a p of is parts.0 parts.1)
-end_reaches f l valid legal k e (TakeRight q d) a p of is h = absurd (false≢true h)
-end_reaches f l valid legal k e (Offer q d) a p of is h = absurd (false≢true h)
-end_reaches f l valid legal k e (Park q) a p of is h = absurd (false≢true h)
-end_reaches f l valid legal k e (Unpark q) a p of is h = absurd (false≢true h)
-end_reaches f l valid legal k e (Stamp q) a p of is h = absurd (false≢true h)
-end_reaches f l valid legal k e (Hint q) a p of is h = absurd (false≢true h)
-end_reaches f l valid legal k e (Tick raised) a p of is h = absurd (false≢true h)
-end_reaches f l valid legal k e (Unback q) a p of is h = absurd (false≢true h)
-end_reaches f l valid legal k e (Unhint q) a p of is h = absurd (false≢true h)
+end_reaches f l valid legal k e s a p of is h = absurd (false≢true h)
 
 -- ---- steps
 keeps_unstamped : (v : View) (s : Step) (p : ℕ) → KeepsToEnds v s → stamps s p ≡ true → is_unstamped v p ≡ true
-keeps_unstamped v (Look word) p keeps h = absurd (false≢true h)
-keeps_unstamped v (Deed q d) p keeps h = absurd (false≢true h)
-keeps_unstamped v (Back q) p keeps h = absurd (false≢true h)
-keeps_unstamped v (Take q w mask) p keeps h = absurd (false≢true h)
-keeps_unstamped v (Put q w mask) p keeps h = absurd (false≢true h)
-keeps_unstamped v (Give block) p keeps h = absurd (false≢true h)
-keeps_unstamped v (End name guess) p keeps h = absurd (false≢true h)
-keeps_unstamped v (TakeRight q d) p keeps h = absurd (false≢true h)
-keeps_unstamped v (Offer q d) p keeps h = absurd (false≢true h)
-keeps_unstamped v (Park q) p keeps h = absurd (false≢true h)
-keeps_unstamped v (Unpark q) p keeps h = absurd (false≢true h)
 keeps_unstamped v (Stamp q) p keeps h = ap (is_unstamped v) (sym (eqb-true q p h)) ∙ keeps
-keeps_unstamped v (Hint q) p keeps h = absurd (false≢true h)
-keeps_unstamped v (Tick raised) p keeps h = absurd (false≢true h)
-keeps_unstamped v (Unback q) p keeps h = absurd (false≢true h)
-keeps_unstamped v (Unhint q) p keeps h = absurd (false≢true h)
-
+keeps_unstamped v s p keeps h = absurd (false≢true h)
 stamp_most : (x : Bool) (e old : ℕ) → (if x then max old e else old) ≤ max old e
 stamp_most true e old = omega arith
 stamp_most false e old = omega arith
@@ -124,30 +95,8 @@ stamp_value e (Unhint q) p old = omega arith
 -- while a page is unstamped no epoch is learned
 same_epoch : (v : View) (s : Step) (a p : ℕ) → KeepsToEnds v s → unstamped_after s a p (is_unstamped v p) ≡ true → epoch_of (made s a ∷ v) ≡ epoch_of v
 same_epoch v (Look Word.Epoch) a p keeps h = absurd (false≢true (sym (keeps p) ∙ h))
-same_epoch v (Look (Word.Free q w)) a p keeps h = refl
-same_epoch v (Look (Word.Life q g)) a p keeps h = refl
-same_epoch v (Look (Word.Deed q)) a p keeps h = refl
-same_epoch v (Look (Word.Backed q)) a p keeps h = refl
-same_epoch v (Look (Word.Stamp q)) a p keeps h = refl
-same_epoch v (Look (Word.Parked i)) a p keeps h = refl
-same_epoch v (Look (Word.Empty i)) a p keeps h = refl
-same_epoch v (Look (Word.Eligible n i)) a p keeps h = refl
-same_epoch v (Deed q d) a p keeps h = refl
-same_epoch v (Back q) a p keeps h = refl
-same_epoch v (Take q w mask) a p keeps h = refl
-same_epoch v (Put q w mask) a p keeps h = refl
-same_epoch v (Give block) a p keeps h = refl
-same_epoch v (End name guess) a p keeps h = refl
-same_epoch v (TakeRight q d) a p keeps h = refl
-same_epoch v (Offer q d) a p keeps h = refl
-same_epoch v (Park q) a p keeps h = refl
-same_epoch v (Unpark q) a p keeps h = refl
-same_epoch v (Stamp q) a p keeps h = refl
-same_epoch v (Hint q) a p keeps h = refl
 same_epoch v (Tick raised) a p keeps h = absurd (false≢true (sym (keeps p) ∙ h))
-same_epoch v (Unback q) a p keeps h = refl
-same_epoch v (Unhint q) a p keeps h = refl
-
+same_epoch v s a p keeps h = refl
 left : (x was : Bool) → (if x then false else was) ≡ true → was ≡ true
 left true was h = absurd (false≢true h)
 left false was h = h
@@ -157,22 +106,9 @@ ended_or true was h = inr refl
 ended_or false was h = inl h
 
 was_or_ends : (s : Step) (a p : ℕ) (was : Bool) → unstamped_after s a p was ≡ true → (was ≡ true) ⊎ (ends_on s a p ≡ true)
-was_or_ends (Look word) a p was h = inl h
-was_or_ends (Deed q d) a p was h = inl h
-was_or_ends (Back q) a p was h = inl h
-was_or_ends (Take q w mask) a p was h = inl h
-was_or_ends (Put q w mask) a p was h = inl h
-was_or_ends (Give block) a p was h = inl h
 was_or_ends (End name guess) a p was h = ended_or ((a == live_word name.turn guess) && meets_page (grain_of name) guess p) was h
-was_or_ends (TakeRight q d) a p was h = inl h
-was_or_ends (Offer q d) a p was h = inl h
-was_or_ends (Park q) a p was h = inl h
-was_or_ends (Unpark q) a p was h = inl h
 was_or_ends (Stamp q) a p was h = inl (left (q == p) was h)
-was_or_ends (Hint q) a p was h = inl h
-was_or_ends (Tick raised) a p was h = inl h
-was_or_ends (Unback q) a p was h = inl h
-was_or_ends (Unhint q) a p was h = inl h
+was_or_ends s a p was h = inl h
 
 -- ---- the induction
 -- the stamp is the epoch of some end, and so is what an actor knows while the page is unstamped for it

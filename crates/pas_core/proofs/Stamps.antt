@@ -13,7 +13,7 @@ use Rattle.pas_profile.specs.declared.event.Event.{Event}
 use Rattle.pas_profile.specs.declared.event.Event.TheVariants as Event
 use Rattle.pas_profile.specs.declared.word.Word.{Word}
 use Rattle.pas_profile.specs.declared.word.Word.TheVariants as Word
-use Rattle.pas_machine.specs.Runs.{in_run, meets_page, address_of, grain_of, length_of}
+use Rattle.pas_profile.specs.Runs.{in_run, meets_page, address_of, grain_of, length_of}
 use Rattle.pas_machine.specs.State.{Live, live_in, touches, epoch_in}
 use Rattle.pas_steps.specs.Effects.{in_mask, life_word_at, target}
 use Rattle.pas_steps.specs.Views.{View, Move, Stays, Gets, Puts, Gives, Ends, grain_move, held_after, holds, all_below, holds_all, or_zero, known_epoch, epoch_after, epoch_of, stamp_after, known_stamp, unstamped_after, is_unstamped, ends_on}
@@ -52,41 +52,13 @@ stamps (Unhint q) p = false
 
 pub stamp_rests : (e : ℕ) (s : Step) (p old : ℕ) → stamps s p ≡ false → next_value e s (Word.Stamp p) old ≡ old
 stamp_rests e (Look word) p old other = looked (same_word word (Word.Stamp p)) old
-stamp_rests e (Deed q d) p old other = refl
-stamp_rests e (Back q) p old other = refl
-stamp_rests e (Take q w mask) p old other = refl
-stamp_rests e (Put q w mask) p old other = refl
-stamp_rests e (Give block) p old other = refl
-stamp_rests e (End name guess) p old other = refl
-stamp_rests e (TakeRight q d) p old other = refl
-stamp_rests e (Offer q d) p old other = refl
-stamp_rests e (Park q) p old other = refl
-stamp_rests e (Unpark q) p old other = refl
 stamp_rests e (Stamp q) p old other = ap (λ t. if t then max old e else old) other
-stamp_rests e (Hint q) p old other = refl
-stamp_rests e (Tick raised) p old other = refl
-stamp_rests e (Unback q) p old other = refl
-stamp_rests e (Unhint q) p old other = refl
+stamp_rests e s p old other = refl
 
 -- whoever stamps a page holds a grain of it
 stamps_held : (f : Profile) (v : View) (s : Step) (p : ℕ) → Allowed f v s → stamps s p ≡ true → HoldsOn v p
-stamps_held f v (Look word) p allowed h = absurd (false≢true h)
-stamps_held f v (Deed q d) p allowed h = absurd (false≢true h)
-stamps_held f v (Back q) p allowed h = absurd (false≢true h)
-stamps_held f v (Take q w mask) p allowed h = absurd (false≢true h)
-stamps_held f v (Put q w mask) p allowed h = absurd (false≢true h)
-stamps_held f v (Give block) p allowed h = absurd (false≢true h)
-stamps_held f v (End name guess) p allowed h = absurd (false≢true h)
-stamps_held f v (TakeRight q d) p allowed h = absurd (false≢true h)
-stamps_held f v (Offer q d) p allowed h = absurd (false≢true h)
-stamps_held f v (Park q) p allowed h = absurd (false≢true h)
-stamps_held f v (Unpark q) p allowed h = absurd (false≢true h)
 stamps_held f v (Stamp q) p allowed h = subst (HoldsOn v) (eqb-true q p h) allowed.0
-stamps_held f v (Hint q) p allowed h = absurd (false≢true h)
-stamps_held f v (Tick raised) p allowed h = absurd (false≢true h)
-stamps_held f v (Unback q) p allowed h = absurd (false≢true h)
-stamps_held f v (Unhint q) p allowed h = absurd (false≢true h)
-
+stamps_held f v s p allowed h = absurd (false≢true h)
 none_told : {A : Type 0} {w : A} → None ≡ Some w → ⊥
 none_told h = cc
 
@@ -118,31 +90,9 @@ own_stamp false e word known s old h = old s h
 -- an actor's own step tells it the stamp
 stamp_learns : (l : Whole) (e : ℕ) (t : Step) (a p : ℕ) (known : Option ℕ) (s : ℕ) → a ≡ word_after l (target t) → ((s : ℕ) → known ≡ Some s → word_after l (Word.Stamp p) ≡ s) → stamp_after t a p known ≡ Some s
     → next_value e t (Word.Stamp p) (word_after l (Word.Stamp p)) ≡ s
-stamp_learns l e (Look Word.Epoch) a p known s is old h = old s h
-stamp_learns l e (Look (Word.Free q w)) a p known s is old h = old s h
-stamp_learns l e (Look (Word.Life q g)) a p known s is old h = old s h
-stamp_learns l e (Look (Word.Deed q)) a p known s is old h = old s h
-stamp_learns l e (Look (Word.Backed q)) a p known s is old h = old s h
 stamp_learns l e (Look (Word.Stamp q)) a p known s is old h = looked (q == p) (word_after l (Word.Stamp p)) ∙ look_stamp (q == p) a (word_after l (Word.Stamp p)) known s (λ x. is ∙ ap (λ n. word_after l (Word.Stamp n)) (eqb-true q p x)) old h
-stamp_learns l e (Look (Word.Parked i)) a p known s is old h = old s h
-stamp_learns l e (Look (Word.Empty i)) a p known s is old h = old s h
-stamp_learns l e (Look (Word.Eligible n i)) a p known s is old h = old s h
-stamp_learns l e (Deed q d) a p known s is old h = old s h
-stamp_learns l e (Back q) a p known s is old h = old s h
-stamp_learns l e (Take q w mask) a p known s is old h = old s h
-stamp_learns l e (Put q w mask) a p known s is old h = old s h
-stamp_learns l e (Give block) a p known s is old h = old s h
-stamp_learns l e (End name guess) a p known s is old h = old s h
-stamp_learns l e (TakeRight q d) a p known s is old h = old s h
-stamp_learns l e (Offer q d) a p known s is old h = old s h
-stamp_learns l e (Park q) a p known s is old h = old s h
-stamp_learns l e (Unpark q) a p known s is old h = old s h
 stamp_learns l e (Stamp q) a p known s is old h = own_stamp (q == p) e (word_after l (Word.Stamp p)) known s old h
-stamp_learns l e (Hint q) a p known s is old h = old s h
-stamp_learns l e (Tick raised) a p known s is old h = old s h
-stamp_learns l e (Unback q) a p known s is old h = old s h
-stamp_learns l e (Unhint q) a p known s is old h = old s h
-
+stamp_learns l e step a p known s is old h = old s h
 stamp_of_part : (t : Bool) (m : Made) (v : View) (p s : ℕ) (P : Type 0) → (t ≡ false → known_stamp v p ≡ Some s → P) → (known_stamp (m ∷ v) p ≡ Some s → P) → known_stamp (if t then m ∷ v else v) p ≡ Some s → P
 stamp_of_part true m v p s P old new told = new told
 stamp_of_part false m v p s P old new told = old refl told
@@ -201,23 +151,12 @@ stamp_leaves true was h = absurd (false≢true h)
 stamp_leaves false was h = h
 
 keeps_held : (f : Profile) (v : View) (s : Step) (a p : ℕ) → IsStepOf f s → Allowed f v s → (is_unstamped v p ≡ true → HoldsOn v p) → unstamped_after s a p (is_unstamped v p) ≡ true → HoldsOn (made s a ∷ v) p
-keeps_held f v (Look word) a p of allowed before h = let was = before h in (was.0, was.1, was.2)
-keeps_held f v (Deed q d) a p of allowed before h = let was = before h in (was.0, was.1, was.2)
-keeps_held f v (Back q) a p of allowed before h = let was = before h in (was.0, was.1, was.2)
 keeps_held f v (Take q w mask) a p of allowed before h = let was = before h in (was.0, was.1, takes_held (in_mask q w mask was.0 && has_bit a (was.0 % 64)) (holds v was.0) was.2)
 keeps_held f v (Put q w mask) a p of allowed before h = let was = before h in (was.0, was.1, moves_held (in_mask q w mask was.0) (holds v was.0) Puts (put_misses v q w mask p was.0 allowed h was.1) was.2)
 keeps_held f v (Give block) a p of allowed before h = let was = before h in (was.0, was.1, moves_held (in_run (grain_of block.name) (length_of block) was.0) (holds v was.0) (Gives (grain_of block.name)) (give_misses f v block p was.0 allowed h was.1) was.2)
 keeps_held f v (End name guess) a p of allowed before h = end_keeps v name guess a p of.3 before (a == live_word name.turn guess) refl (meets_page (grain_of name) guess p) refl h
-keeps_held f v (TakeRight q d) a p of allowed before h = let was = before h in (was.0, was.1, was.2)
-keeps_held f v (Offer q d) a p of allowed before h = let was = before h in (was.0, was.1, was.2)
-keeps_held f v (Park q) a p of allowed before h = let was = before h in (was.0, was.1, was.2)
-keeps_held f v (Unpark q) a p of allowed before h = let was = before h in (was.0, was.1, was.2)
 keeps_held f v (Stamp q) a p of allowed before h = let was = before (stamp_leaves (q == p) (is_unstamped v p) h) in (was.0, was.1, was.2)
-keeps_held f v (Hint q) a p of allowed before h = let was = before h in (was.0, was.1, was.2)
-keeps_held f v (Tick raised) a p of allowed before h = let was = before h in (was.0, was.1, was.2)
-keeps_held f v (Unback q) a p of allowed before h = let was = before h in (was.0, was.1, was.2)
-keeps_held f v (Unhint q) a p of allowed before h = let was = before h in (was.0, was.1, was.2)
-
+keeps_held f v s a p of allowed before h = let was = before h in (was.0, was.1, was.2)
 held_of_part : (t : Bool) (m : Made) (v : View) (p : ℕ) → (is_unstamped v p ≡ true → HoldsOn v p) → (t ≡ true → is_unstamped (m ∷ v) p ≡ true → HoldsOn (m ∷ v) p) → is_unstamped (if t then m ∷ v else v) p ≡ true → HoldsOn (if t then m ∷ v else v) p
 held_of_part true m v p old new = new refl
 held_of_part false m v p old new = old
@@ -345,23 +284,9 @@ unstamped_end true was h = refl
 unstamped_end false was h = h
 
 own_late : (e : ℕ) (s : Step) (a p : ℕ) (was : Bool) (n old : ℕ) → was ≡ true → n ≤ e → (unstamped_after s a p was ≡ true) ⊎ (n ≤ next_value e s (Word.Stamp p) old)
-own_late e (Look word) a p was n old h le = inl h
-own_late e (Deed q d) a p was n old h le = inl h
-own_late e (Back q) a p was n old h le = inl h
-own_late e (Take q w mask) a p was n old h le = inl h
-own_late e (Put q w mask) a p was n old h le = inl h
-own_late e (Give block) a p was n old h le = inl h
 own_late e (End name guess) a p was n old h le = inl (unstamped_end ((a == live_word name.turn guess) && meets_page (grain_of name) guess p) was h)
-own_late e (TakeRight q d) a p was n old h le = inl h
-own_late e (Offer q d) a p was n old h le = inl h
-own_late e (Park q) a p was n old h le = inl h
-own_late e (Unpark q) a p was n old h le = inl h
 own_late e (Stamp q) a p was n old h le = stamped_now (q == p) was e n old h le
-own_late e (Hint q) a p was n old h le = inl h
-own_late e (Tick raised) a p was n old h le = inl h
-own_late e (Unback q) a p was n old h le = inl h
-own_late e (Unhint q) a p was n old h le = inl h
-
+own_late e s a p was n old h le = inl h
 late_of_part : (t : Bool) (m : Made) (v : View) (p n stamp : ℕ) → (t ≡ false → (is_unstamped v p ≡ true) × (n ≤ epoch_of v)) → (t ≡ true → ((is_unstamped (m ∷ v) p ≡ true) ⊎ (n ≤ stamp)) × (n ≤ epoch_of (m ∷ v)))
     → (n ≤ stamp) ⊎ ((is_unstamped (if t then m ∷ v else v) p ≡ true) × (n ≤ epoch_of (if t then m ∷ v else v)))
 late_of_part true m v p n stamp old new = let now = new refl in elim now.0 [ inl h ↦ inr (h, now.1) | inr h ↦ inl h ]
@@ -381,41 +306,11 @@ late_next f t l legal p k n (inr late) =
 
 -- an end that is made now
 new_unstamped : (s : Step) (a p : ℕ) (was : Bool) → ends_on s a p ≡ true → unstamped_after s a p was ≡ true
-new_unstamped (Look word) a p was h = absurd (false≢true h)
-new_unstamped (Deed q d) a p was h = absurd (false≢true h)
-new_unstamped (Back q) a p was h = absurd (false≢true h)
-new_unstamped (Take q w mask) a p was h = absurd (false≢true h)
-new_unstamped (Put q w mask) a p was h = absurd (false≢true h)
-new_unstamped (Give block) a p was h = absurd (false≢true h)
 new_unstamped (End name guess) a p was h = ap (λ t. if t then true else was) h
-new_unstamped (TakeRight q d) a p was h = absurd (false≢true h)
-new_unstamped (Offer q d) a p was h = absurd (false≢true h)
-new_unstamped (Park q) a p was h = absurd (false≢true h)
-new_unstamped (Unpark q) a p was h = absurd (false≢true h)
-new_unstamped (Stamp q) a p was h = absurd (false≢true h)
-new_unstamped (Hint q) a p was h = absurd (false≢true h)
-new_unstamped (Tick raised) a p was h = absurd (false≢true h)
-new_unstamped (Unback q) a p was h = absurd (false≢true h)
-new_unstamped (Unhint q) a p was h = absurd (false≢true h)
-
+new_unstamped s a p was h = absurd (false≢true h)
 new_epoch : (s : Step) (a p : ℕ) (known : Option ℕ) → ends_on s a p ≡ true → or_zero known ≤ or_zero (epoch_after s a known)
-new_epoch (Look word) a p known h = absurd (false≢true h)
-new_epoch (Deed q d) a p known h = absurd (false≢true h)
-new_epoch (Back q) a p known h = absurd (false≢true h)
-new_epoch (Take q w mask) a p known h = absurd (false≢true h)
-new_epoch (Put q w mask) a p known h = absurd (false≢true h)
-new_epoch (Give block) a p known h = absurd (false≢true h)
 new_epoch (End name guess) a p known h = omega arith
-new_epoch (TakeRight q d) a p known h = absurd (false≢true h)
-new_epoch (Offer q d) a p known h = absurd (false≢true h)
-new_epoch (Park q) a p known h = absurd (false≢true h)
-new_epoch (Unpark q) a p known h = absurd (false≢true h)
-new_epoch (Stamp q) a p known h = absurd (false≢true h)
-new_epoch (Hint q) a p known h = absurd (false≢true h)
-new_epoch (Tick raised) a p known h = absurd (false≢true h)
-new_epoch (Unback q) a p known h = absurd (false≢true h)
-new_epoch (Unhint q) a p known h = absurd (false≢true h)
-
+new_epoch s a p known h = absurd (false≢true h)
 unstamped_part : (t : Bool) (m : Made) (v : View) (p : ℕ) → t ≡ true → is_unstamped (m ∷ v) p ≡ true → is_unstamped (if t then m ∷ v else v) p ≡ true
 unstamped_part t m v p e h = ap (λ b. is_unstamped (if b then m ∷ v else v) p) e ∙ h
 

@@ -19,23 +19,8 @@ use Rattle.pas_core.proofs.Given.{count_gives, gives_few, count_step}
 
 -- ---- an actor gives at most 2 ^ 32 blocks
 few_next : (f : Profile) (v : View) (s : Step) → Allowed f v s → given_count v ≤ 2 ^ 32 → given_after s (given_count v) ≤ 2 ^ 32
-few_next f v (Look word) allowed h = h
-few_next f v (Deed q d) allowed h = h
-few_next f v (Back q) allowed h = h
-few_next f v (Take q w mask) allowed h = h
-few_next f v (Put q w mask) allowed h = h
 few_next f v (Give block) allowed h = let few = allowed.few in omega (arith, few)
-few_next f v (End name guess) allowed h = h
-few_next f v (TakeRight q d) allowed h = h
-few_next f v (Offer q d) allowed h = h
-few_next f v (Park q) allowed h = h
-few_next f v (Unpark q) allowed h = h
-few_next f v (Stamp q) allowed h = h
-few_next f v (Hint q) allowed h = h
-few_next f v (Tick raised) allowed h = h
-few_next f v (Unback q) allowed h = h
-few_next f v (Unhint q) allowed h = h
-
+few_next f v s allowed h = h
 few_part : (k j : ℕ) (t : Bool) (m : Made) (v : View) → (j == k) ≡ t → given_count v ≤ 2 ^ 32 → ((j ≡ k) → given_after m.step (given_count v) ≤ 2 ^ 32) → given_count (if t then m ∷ v else v) ≤ 2 ^ 32
 few_part k j true m v e old new = new (eqb-true j k e)
 few_part k j false m v e old new = old

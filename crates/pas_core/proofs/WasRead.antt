@@ -8,7 +8,7 @@ use Rattle.pas_profile.specs.declared.directory.Directory.{Directory}
 use Rattle.pas_profile.specs.declared.name.Block.{Block}
 use Rattle.pas_profile.specs.declared.word.Word.{Word}
 use Rattle.pas_profile.specs.declared.event.Event.{Event}
-use Rattle.pas_machine.specs.Runs.{address_of, grain_of, length_of}
+use Rattle.pas_profile.specs.Runs.{address_of, grain_of, length_of}
 use Rattle.pas_machine.specs.State.{Live, deed_in, backed_in, live_in, gives_in, ends_in}
 use Rattle.pas_machine.specs.Machine.{Run}
 use Rattle.pas_steps.specs.Effects.{life_word_at, target}
@@ -67,30 +67,10 @@ backed_word : (l : Whole) (a q p : ℕ) → a ≡ word_after l (Word.Backed q) �
 backed_word l a q p is e = is ∙ ap (λ n. word_after l (Word.Backed n)) (eqb-true q p e)
 
 backed_read : (l : Whole) (s : Step) (a p : ℕ) → a ≡ word_after l (target s) → reads_backed s p ≡ true → a ≡ word_after l (Word.Backed p)
-backed_read l (Look Word.Epoch) a p is h = absurd (false≢true h)
-backed_read l (Look (Word.Free q w)) a p is h = absurd (false≢true h)
-backed_read l (Look (Word.Life q g)) a p is h = absurd (false≢true h)
-backed_read l (Look (Word.Deed q)) a p is h = absurd (false≢true h)
 backed_read l (Look (Word.Backed q)) a p is h = backed_word l a q p is h
-backed_read l (Look (Word.Stamp q)) a p is h = absurd (false≢true h)
-backed_read l (Look (Word.Parked j)) a p is h = absurd (false≢true h)
-backed_read l (Look (Word.Empty j)) a p is h = absurd (false≢true h)
-backed_read l (Look (Word.Eligible d j)) a p is h = absurd (false≢true h)
-backed_read l (Deed q d) a p is h = absurd (false≢true h)
 backed_read l (Back q) a p is h = backed_word l a q p is h
-backed_read l (Take q w mask) a p is h = absurd (false≢true h)
-backed_read l (Put q w mask) a p is h = absurd (false≢true h)
-backed_read l (Give block) a p is h = absurd (false≢true h)
-backed_read l (End name guess) a p is h = absurd (false≢true h)
-backed_read l (TakeRight q d) a p is h = absurd (false≢true h)
-backed_read l (Offer q d) a p is h = absurd (false≢true h)
-backed_read l (Park q) a p is h = absurd (false≢true h)
-backed_read l (Unpark q) a p is h = absurd (false≢true h)
-backed_read l (Stamp q) a p is h = absurd (false≢true h)
-backed_read l (Hint q) a p is h = absurd (false≢true h)
-backed_read l (Tick raised) a p is h = absurd (false≢true h)
 backed_read l (Unback q) a p is h = backed_word l a q p is h
-backed_read l (Unhint q) a p is h = absurd (false≢true h)
+backed_read l s a p is h = absurd (false≢true h)
 
 -- a page that an actor once read as backed has a deed
 pub read_backed : (f : Profile) (l : Whole) → IsValid f → Legal f l → (k p : ℕ) → ReadBacked (part k l) p → word_after l (Word.Deed p) ≢ 0
@@ -102,21 +82,9 @@ read_backed f l valid legal k p =
 -- ---- a block that was read as live
 life_read : (l : Whole) (s : Step) (a g : ℕ) → a ≡ word_after l (target s) → reads_life s g ≡ true → a ≡ word_after l (life_word_at g)
 life_read l (Look word) a g is h = look_is l (Look word) a g is h
-life_read l (Deed q d) a g is h = absurd (false≢true h)
-life_read l (Back q) a g is h = absurd (false≢true h)
-life_read l (Take q w mask) a g is h = absurd (false≢true h)
-life_read l (Put q w mask) a g is h = absurd (false≢true h)
 life_read l (Give block) a g is h = word_is l a (grain_of block.name) g is h
 life_read l (End name guess) a g is h = word_is l a (grain_of name) g is h
-life_read l (TakeRight q d) a g is h = absurd (false≢true h)
-life_read l (Offer q d) a g is h = absurd (false≢true h)
-life_read l (Park q) a g is h = absurd (false≢true h)
-life_read l (Unpark q) a g is h = absurd (false≢true h)
-life_read l (Stamp q) a g is h = absurd (false≢true h)
-life_read l (Hint q) a g is h = absurd (false≢true h)
-life_read l (Tick raised) a g is h = absurd (false≢true h)
-life_read l (Unback q) a g is h = absurd (false≢true h)
-life_read l (Unhint q) a g is h = absurd (false≢true h)
+life_read l s a g is h = absurd (false≢true h)
 
 -- a block of so many grains was given at the grain, with this turn
 record WasThere (l : Whole) (g turn grains : ℕ) : Type 0 where

@@ -8,7 +8,7 @@ use Rattle.pas_profile.specs.declared.directory.Directory.{Directory}
 use Rattle.pas_profile.specs.declared.word.Word.TheVariants as Word
 use Rattle.pas_steps.specs.Views.{has_right, usable_by, owes_check}
 use Rattle.pas_steps.specs.Lists.{Whole, part, word_after}
-use Rattle.pas_steps.specs.Rests.{IsClear}
+use Rattle.pas_steps.specs.Clear.{IsClear}
 
 -- the bit of the page in the parked vector, in the empty vector, and in the eligible vector of the directory of this number
 abbrev pub parked_bit : Whole → ℕ → Bool

@@ -4,7 +4,7 @@ use Rattle.std.proofs.lemmas.List.{map-append}
 use Rattle.std.proofs.lemmas.Bool.{false≢true, cases_lt, cases_eq, ne_eqb}
 use Rattle.std.proofs.lemmas.Bool.Decides.{nat_tests}
 use Rattle.pas_profile.specs.declared.profile.Profile.{Profile}
-use Rattle.pas_machine.specs.Runs.{in_run, meets_page}
+use Rattle.pas_profile.specs.Runs.{in_run, meets_page}
 use Rattle.pas_bits.proofs.Runs.{run_of, to_run, run_below, run_above}
 use Rattle.pas_steps.specs.declared.step.Made.{Made}
 use Rattle.pas_steps.specs.Views.{View, holds, has_right, known_epoch, epoch_of, or_zero, is_unstamped, ends_on}
@@ -13,7 +13,7 @@ use Rattle.pas_steps.specs.Events.{events_by}
 use Rattle.pas_steps.proofs.Adding.{agreed_first, agreed_later}
 use Rattle.pas_steps.proofs.Frames.{events_append}
 use Rattle.pas_steps.proofs.Past.{once_later}
-use Rattle.pas_steps.specs.Rests.{OwesNothing}
+use Rattle.pas_steps.specs.Clear.{OwesNothing}
 use Rattle.pas_free_log.specs.Conditions.{IsRun, IsRunOnPage}
 use Rattle.pas_free_log.specs.Stamps.{stamps_by, page_count, pages_from, pages_met, stamps_with}
 use Rattle.pas_free_log.specs.Frames.{PutsBack}

@@ -8,7 +8,7 @@ use Rattle.pas_profile.specs.Lives.{live_word}
 use Rattle.pas_profile.specs.declared.name.Name.{Name}
 use Rattle.pas_profile.specs.declared.profile.Profile.{Profile}
 use Rattle.pas_profile.specs.declared.event.Event.{Event}
-use Rattle.pas_machine.specs.Runs.{in_run, meets_page, grain_of}
+use Rattle.pas_profile.specs.Runs.{in_run, meets_page, grain_of}
 use Rattle.pas_bits.proofs.Runs.{to_run}
 use Rattle.pas_steps.specs.declared.step.Made.{Made}
 use Rattle.pas_steps.specs.declared.step.Step.TheVariants.{End}
@@ -19,7 +19,7 @@ use Rattle.pas_steps.specs.Events.{events_by, with_event, reason_of}
 use Rattle.pas_steps.specs.Desks.{Standing, made, Adds}
 use Rattle.pas_steps.proofs.Adding.{agreed_first, agreed_later, adds_call}
 use Rattle.pas_steps.proofs.Frames.{events_append}
-use Rattle.pas_steps.specs.Rests.{OwesNothing}
+use Rattle.pas_steps.specs.Clear.{OwesNothing}
 use Rattle.pas_free_log.specs.Conditions.{IsNameOf, KnowsEpoch}
 use Rattle.pas_free_log.specs.Stamps.{stamps_by, pages_met, stamps_with}
 use Rattle.pas_free_log.specs.Frames.{StaysAt, PutsBack, Restores}

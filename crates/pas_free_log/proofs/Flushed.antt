@@ -17,7 +17,7 @@ use Rattle.pas_steps.proofs.Adding.{agreed_first, agreed_later}
 use Rattle.pas_steps.proofs.Frames.{events_append}
 use Rattle.pas_steps.proofs.Kept.{deed_stays}
 use Rattle.pas_steps.proofs.Backed.{backed_stays}
-use Rattle.pas_steps.specs.Rests.{OwesNothing, IsClear}
+use Rattle.pas_steps.specs.Clear.{OwesNothing, IsClear}
 use Rattle.pas_free_log.specs.Conditions.{KnowsEpoch}
 use Rattle.pas_free_log.specs.Stamps.{stamps_by}
 use Rattle.pas_free_log.specs.Frames.{Restores}

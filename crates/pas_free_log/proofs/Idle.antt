@@ -5,7 +5,7 @@ use Rattle.pas_profile.specs.Lives.{live_word, is_live, turn_of}
 use Rattle.pas_profile.specs.declared.name.Name.{Name}
 use Rattle.pas_profile.specs.declared.event.Event.{Event}
 use Rattle.pas_profile.proofs.Codecs.{is_live-live_word, turn_of-live_word}
-use Rattle.pas_machine.specs.Runs.{in_run, meets_page, grain_of}
+use Rattle.pas_profile.specs.Runs.{in_run, meets_page, grain_of}
 use Rattle.pas_steps.specs.declared.step.Made.{Made}
 use Rattle.pas_steps.specs.declared.step.Step.TheVariants.{End}
 use Rattle.pas_steps.specs.Views.{View, Stays, Ends, has_right, known_epoch, or_zero, is_unstamped, owes_check, owes_hint}

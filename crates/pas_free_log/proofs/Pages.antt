@@ -8,11 +8,11 @@ use Rattle.pas_profile.specs.declared.directory.Directory.{Directory}
 use Rattle.pas_profile.specs.declared.profile.Profile.{Profile}
 use Rattle.pas_profile.specs.declared.word.Word.TheVariants as Word
 use Rattle.pas_profile.proofs.Codecs.{read-deed_word_of, directory_from_profile}
-use Rattle.pas_machine.specs.Runs.{in_run}
+use Rattle.pas_profile.specs.Runs.{in_run}
 use Rattle.pas_bits.proofs.Runs.{run_of, to_run}
 use Rattle.pas_steps.specs.declared.step.Made.{Made}
 use Rattle.pas_steps.specs.declared.step.Step.TheVariants.{Look, Stamp}
-use Rattle.pas_steps.specs.Views.{View, holds, has_right, known_deed, known_epoch, epoch_of, is_unstamped}
+use Rattle.pas_steps.specs.Views.{View, holds, has_right, known_deed, known_epoch, epoch_of, is_unstamped, KnowsDeed}
 use Rattle.pas_steps.specs.Allowed.{HoldsOn, IsEpochKnown}
 use Rattle.pas_steps.specs.Agreement.{Agreed, AgreesDeed}
 use Rattle.pas_steps.specs.Frames.{IsOnPage, OnlyOn, OnlyReturns}
@@ -20,8 +20,8 @@ use Rattle.pas_steps.specs.Desks.{Standing, made, Makes, CanCall, Adds}
 use Rattle.pas_steps.proofs.Adding.{agreed_first, adds_none, adds_step, adds_call}
 use Rattle.pas_steps.proofs.Past.{always_both}
 use Rattle.pas_steps.proofs.Kept.{right_on, check_on, hint_on, unstamped_on, returns_on, grains_on, right_grains, returns_still, holds_still, epoch_still, unstamped_still}
-use Rattle.pas_rights.specs.Rights.{KnowsDeed, Returned}
-use Rattle.pas_steps.specs.Rests.{OwesNothing}
+use Rattle.pas_rights.specs.Rights.{Returned}
+use Rattle.pas_steps.specs.Clear.{OwesNothing}
 use Rattle.pas_rights.proofs.Orders.{same_page, ends}
 use Rattle.pas_free_log.specs.Conditions.{IsRunOnPage}
 use Rattle.pas_free_log.specs.Stamps.{page_count, pages_from, pages_met, stamps_with}

@@ -38,22 +38,8 @@ silent_stamps v [] xs h = refl
 silent_stamps v (y ∷ ys) xs h = h.0.stamp (epoch_of (ys ++ xs ++ v)) (stamps_by v (ys ++ xs)) ∙ silent_stamps v ys xs h.1
 
 stamped_more : (s : Step) (e : ℕ) (ys xs : List (ℕ × ℕ)) → stamped_by s e (ys ++ xs) ≡ stamped_by s e ys ++ xs
-stamped_more (Look w) e ys xs = refl
-stamped_more (Deed p d) e ys xs = refl
-stamped_more (Back p) e ys xs = refl
-stamped_more (Take p w m) e ys xs = refl
-stamped_more (Put p w m) e ys xs = refl
-stamped_more (Give b) e ys xs = refl
-stamped_more (End n g) e ys xs = refl
-stamped_more (TakeRight p d) e ys xs = refl
-stamped_more (Offer p d) e ys xs = refl
-stamped_more (Park p) e ys xs = refl
-stamped_more (Unpark p) e ys xs = refl
-stamped_more (Stamp p) e ys xs = refl
-stamped_more (Hint p) e ys xs = refl
-stamped_more (Tick raised) e ys xs = refl
-stamped_more (Unback p) e ys xs = refl
 stamped_more (Unhint p) e ys xs = refl
+stamped_more s e ys xs = refl
 
 -- the stamps of two calls
 pub stamps_append : (v : View) (ys xs : List Made) → stamps_by v (ys ++ xs) ≡ stamps_by (xs ++ v) ys ++ stamps_by v xs
@@ -65,12 +51,8 @@ stamps_append v (y ∷ ys) xs =
 
 -- ---- puts, and returns of a right
 return_silent : (p : ℕ) (s : Step) (a : ℕ) → IsReturn p s → IsSilent s a
-return_silent p s a (IsReturn.LooksFree w) = record { event = λ k e. refl; stamp = λ e stamps. refl; kind = tt }
-return_silent p s a IsReturn.LooksBacked = record { event = λ k e. refl; stamp = λ e stamps. refl; kind = tt }
-return_silent p s a (IsReturn.Offers d) = record { event = λ k e. refl; stamp = λ e stamps. refl; kind = tt }
-return_silent p s a IsReturn.Parks = record { event = λ k e. refl; stamp = λ e stamps. refl; kind = tt }
-return_silent p s a IsReturn.Unparks = record { event = λ k e. refl; stamp = λ e stamps. refl; kind = tt }
 return_silent p s a IsReturn.Hints = record { event = λ k e. refl; stamp = λ e stamps. refl; kind = tt }
+return_silent p s a step = record { event = λ k e. refl; stamp = λ e stamps. refl; kind = tt }
 
 pub returns_silent : (p : ℕ) (steps : List Made) → OnlyReturns p steps → AreSilent steps
 returns_silent p [] h = tt
@@ -100,22 +82,8 @@ puts_epoch p (m ∷ more) v h = put_epoch p m.step m.answer (known_epoch (more +
 
 -- a step that gives back ends no backing
 freeing_keeps : (s : Step) (q : ℕ) → IsFreeing s → unbacks s q ≡ false
-freeing_keeps (Look w) q h = refl
-freeing_keeps (Deed p d) q h = refl
-freeing_keeps (Back p) q h = refl
-freeing_keeps (Take p w m) q h = refl
-freeing_keeps (Put p w m) q h = refl
-freeing_keeps (Give b) q h = refl
-freeing_keeps (End n g) q h = refl
-freeing_keeps (TakeRight p d) q h = refl
-freeing_keeps (Offer p d) q h = refl
-freeing_keeps (Park p) q h = refl
-freeing_keeps (Unpark p) q h = refl
-freeing_keeps (Stamp p) q h = refl
-freeing_keeps (Hint p) q h = refl
-freeing_keeps (Tick raised) q h = refl
 freeing_keeps (Unback p) q h = absurd h
-freeing_keeps (Unhint p) q h = refl
+freeing_keeps s q h = refl
 
 pub freeing_all_keep : (q : ℕ) (steps : List Made) → AreFreeing steps → Always (λ m before. unbacks m.step q ≡ false) steps
 freeing_all_keep q steps h = always_map (λ m before. IsFreeing m.step) (λ m before. unbacks m.step q ≡ false) steps (λ m before is. freeing_keeps m.step q is) h

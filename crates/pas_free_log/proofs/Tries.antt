@@ -10,7 +10,7 @@ use Rattle.pas_profile.specs.declared.profile.Profile.{Profile}
 use Rattle.pas_profile.specs.declared.word.Word.TheVariants as Word
 use Rattle.pas_profile.proofs.ClassFacts.{class_grains_positive, class_grains_le}
 use Rattle.pas_profile.proofs.Codecs.{read_is, is_live-live_word, turn_of-live_word}
-use Rattle.pas_machine.specs.Runs.{address_of, grain_of}
+use Rattle.pas_profile.specs.Runs.{address_of, grain_of}
 use Rattle.pas_steps.specs.declared.step.Made.{Made}
 use Rattle.pas_steps.specs.declared.step.Step.TheVariants.{Look, End}
 use Rattle.pas_steps.specs.Views.{View, known_epoch}

@@ -4,14 +4,14 @@ use Rattle.std.specs.List.{flat_map}
 use Rattle.pas_profile.specs.declared.name.Name.{Name}
 use Rattle.pas_profile.specs.declared.word.Word.TheVariants as Word
 use Rattle.pas_profile.specs.declared.event.Event.{Event}
-use Rattle.pas_machine.specs.Runs.{grain_of}
+use Rattle.pas_profile.specs.Runs.{grain_of}
 use Rattle.pas_steps.specs.Views.{View, holds, has_right, known_deed, knows_backed, known_epoch, epoch_of}
 use Rattle.pas_steps.specs.Events.{reason_of, events_by}
 use Rattle.pas_steps.specs.Agreement.{Agreed}
 use Rattle.pas_steps.specs.Desks.{Standing, Adds, made}
 use Rattle.pas_steps.specs.declared.step.Made.{Made}
 use Rattle.pas_steps.specs.declared.step.Step.TheVariants.{Look}
-use Rattle.pas_steps.specs.Rests.{IsClear}
+use Rattle.pas_steps.specs.Clear.{IsClear}
 use Rattle.pas_free_log.specs.Conditions.{KnowsEpoch}
 use Rattle.pas_free_log.specs.Stamps.{stamps_by, pages_met, stamps_with}
 use Rattle.pas_free_log.specs.Frames.{AreFreeing, Restores}

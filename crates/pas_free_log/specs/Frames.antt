@@ -1,7 +1,7 @@
 -- What steps leave as it was, said of every view from which they may have been made.
 use Rattle.std.specs.Prelude.{ℕ, ◌/◌, ◌≡◌, true, false, List, [], ◌++◌}
 use Rattle.pas_profile.specs.declared.profile.Profile.{Profile}
-use Rattle.pas_machine.specs.Runs.{in_run}
+use Rattle.pas_profile.specs.Runs.{in_run}
 use Rattle.pas_steps.specs.Views.{View, Stays, grain_move, holds, has_right, known_epoch, epoch_of, is_unstamped}
 use Rattle.pas_steps.specs.Events.{events_by}
 use Rattle.pas_steps.specs.Agreement.{Agreed}
@@ -9,7 +9,7 @@ use Rattle.pas_steps.specs.Past.{Always}
 use Rattle.pas_steps.specs.declared.step.Made.{Made}
 use Rattle.pas_steps.specs.declared.step.Step.{Step}
 use Rattle.pas_steps.specs.declared.step.Step.TheVariants.{Look, Deed, Back, Take, Put, Give, End, TakeRight, Offer, Park, Unpark, Stamp, Hint, Tick, Unback, Unhint}
-use Rattle.pas_steps.specs.Rests.{OwesNothing}
+use Rattle.pas_steps.specs.Clear.{OwesNothing}
 use Rattle.pas_free_log.specs.Stamps.{stamps_by, pages_met, stamps_with}
 
 -- the step takes and gives nothing: it makes no deed, backs no page, takes no grain, gives no block and claims no page

@@ -2,7 +2,7 @@
 ghost use Rattle.std.specs.Prelude.{◌≡◌, ◌≤◌, ◌+◌, [], All, length};
 ghost use Rattle.pas_steps.specs.Desks.{CanCall};
 ghost use Rattle.pas_free_log.specs.Logs.{names_in};
-ghost use Rattle.pas_steps.specs.Rests.{IsClear};
+ghost use Rattle.pas_steps.specs.Clear.{IsClear};
 ghost use Rattle.pas_free_log.specs.Conditions.{IsNameOf, KnowsEpoch};
 ghost use Rattle.pas_free_log.specs.Flushes.{EndsEntry, Flushes};
 

@@ -1,4 +1,3 @@
-pub mod Runs
 pub mod State
 pub mod Machine
 pub mod Totals

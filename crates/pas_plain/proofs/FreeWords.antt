@@ -19,15 +19,8 @@ place_written pages heaps words x w n sized hx hw false e =
 
 -- a word's value where the first n free words are filled, 4 a page
 abbrev pub filled : ℕ → Word → ℕ
-filled n Word.Epoch = 0
 filled n (Word.Free page word) = if nat_lt (4 * (page - 1) + word) n then 2 ^ 64 - 1 else 0
-filled n (Word.Life page grain) = 0
-filled n (Word.Deed page) = 0
-filled n (Word.Backed page) = 0
-filled n (Word.Stamp page) = 0
-filled n (Word.Parked j) = 0
-filled n (Word.Empty j) = 0
-filled n (Word.Eligible d j) = 0
+filled n s = 0
 
 abbrev pub free_word_of : ℕ → Word
 free_word_of n = Word.Free (n / 4 + 1) (n % 4)
@@ -51,16 +44,8 @@ test_same n page word some few e = elim (cases_lt (4 * (page - 1) + word) n) [
 ]
 
 filled_same : (pages heaps n : ℕ) (w : Word) → IsWordIn pages heaps w → same_word (free_word_of n) w ≡ false → filled n w ≡ filled (n + 1) w
-filled_same pages heaps n Word.Epoch h e = refl
 filled_same pages heaps n (Word.Free page word) h e = ap (λ (b : Bool). if b then 2 ^ 64 - 1 else 0) (sym (test_same n page word h.0 h.2 e))
-filled_same pages heaps n (Word.Life page grain) h e = refl
-filled_same pages heaps n (Word.Deed page) h e = refl
-filled_same pages heaps n (Word.Backed page) h e = refl
-filled_same pages heaps n (Word.Stamp page) h e = refl
-filled_same pages heaps n (Word.Parked j) h e = refl
-filled_same pages heaps n (Word.Empty j) h e = refl
-filled_same pages heaps n (Word.Eligible d j) h e = refl
-
+filled_same pages heaps n s h e = refl
 filled_next : (pages heaps n : ℕ) (w : Word) (v : ℕ) → IsWordIn pages heaps w → v ≡ filled n w → (same : Bool) → same_word (free_word_of n) w ≡ same → (if same then 2 ^ 64 - 1 else v) ≡ filled (n + 1) w
 filled_next pages heaps n w v h is true e = sym (filled_here n) ∙ ap (filled (n + 1)) (same_word-true (free_word_of n) w e)
 filled_next pages heaps n w v h is false e = is ∙ filled_same pages heaps n w h e
@@ -75,24 +60,10 @@ free_filled pages heaps n words sized lt are w h =
 
 -- nothing is filled at first ..
 pub none_filled : (w : Word) → 0 ≡ filled 0 w
-none_filled Word.Epoch = refl
 none_filled (Word.Free page word) = ap (λ (b : Bool). if b then 2 ^ 64 - 1 else 0) (sym (le-ltb (4 * (page - 1) + word) 0 (omega arith)))
-none_filled (Word.Life page grain) = refl
-none_filled (Word.Deed page) = refl
-none_filled (Word.Backed page) = refl
-none_filled (Word.Stamp page) = refl
-none_filled (Word.Parked j) = refl
-none_filled (Word.Empty j) = refl
-none_filled (Word.Eligible d j) = refl
+none_filled s = refl
 
 -- .. and at last all is as at the opening
 pub all_filled : (pages heaps : ℕ) (w : Word) → IsWordIn pages heaps w → filled (4 * pages) w ≡ opening w
-all_filled pages heaps Word.Epoch h = refl
 all_filled pages heaps (Word.Free page word) h = ap (λ (b : Bool). if b then 2 ^ 64 - 1 else 0) (lt-ltb (4 * (page - 1) + word) (4 * pages) (omega (arith, h)))
-all_filled pages heaps (Word.Life page grain) h = refl
-all_filled pages heaps (Word.Deed page) h = refl
-all_filled pages heaps (Word.Backed page) h = refl
-all_filled pages heaps (Word.Stamp page) h = refl
-all_filled pages heaps (Word.Parked j) h = refl
-all_filled pages heaps (Word.Empty j) h = refl
-all_filled pages heaps (Word.Eligible d j) h = refl
+all_filled pages heaps s h = refl

@@ -5,3 +5,4 @@ pub mod Lives
 pub mod Profiles
 pub mod Layouts
 pub mod Rooms
+pub mod Runs

@@ -22,7 +22,8 @@ use Rattle.pas_replay.specs.Answers.{Named, standing_for, said_of_fault, IsFreed
 use Rattle.pas_replay.specs.Names.{block_named}
 use Rattle.pas_replay.specs.Calls.{block_behind, Tells, IsKnown, owed_events, Performs, FreesOne}
 use Rattle.pas_replay.specs.declared.names.Names.{Names}
-use Rattle.pas_replay.proofs.Owed.{unknown_kept, emptied_events, full_events}
+use Rattle.pas_replay.proofs.Owed.{emptied_events, full_events}
+use Rattle.pas_steps.proofs.Unknown.{unknown_stays}
 
 -- ---- a free
 -- the events of the flush of a full log, and what is owed with the name in the log
@@ -31,7 +32,7 @@ taken_few : (f : Profile) (k : ℕ) (c c' : Cached) (name : Name) (steps : List 
 taken_few f k c c' name steps v takes agreed =
     let events = full_events (nat_le 64 (length c.log)) k c.log takes.logs.kept steps v takes.logs.emptied in
     let log = ap (λ (ns : List Name). length ns) takes.logs.log_is ∙ length-append takes.logs.kept (name ∷ []) in
-    let unknown = unknown_kept f steps v agreed in
+    let unknown = unknown_stays f steps v agreed in
     omega (arith, events, log, unknown)
 
 refused_few : (f : Profile) (k : ℕ) (c c' : Cached) (name : Name) (steps : List Made) (fault : FreeFault) (v : View) → RefusesName f c c' name steps fault
@@ -123,7 +124,7 @@ performs_flush {σ} {σ'} what table c c' is flushes = subst (λ w. Performs w t
   few = λ v rest agreed.
       let events = emptied_events σ.seat.actor c.log flushes.steps v flushes.empties in
       let none = ap (λ (d : Cached). length d.log) flushes.cache in
-      let unknown = unknown_kept σ.seat.profile flushes.steps v agreed in
+      let unknown = unknown_stays σ.seat.profile flushes.steps v agreed in
       omega (arith, events, none, unknown);
   answered = λ v l stood rest names tells known. (names, tells, (record { empties = flushes.empties; cache = flushes.cache }, refl, refl));
   held = refl;
@@ -141,7 +142,7 @@ performs_stop {σ} {σ'} what table c c' is stops = subst (λ w. Performs w tabl
   few = λ v rest agreed.
       let events = stopped_events σ.seat.actor c.log v stops.stopped stops.flushed (emptied_events σ.seat.actor c.log stops.flushed v stops.empties) (stops.silent σ.seat.actor (stops.flushed ++ v)) in
       let none = ap (λ (d : Cached). length d.log) stops.cache in
-      let unknown = unknown_kept σ.seat.profile (stops.stopped ++ stops.flushed) v agreed in
+      let unknown = unknown_stays σ.seat.profile (stops.stopped ++ stops.flushed) v agreed in
       omega (arith, events, none, unknown);
   answered = λ v l stood rest names tells known. (
     names,

@@ -10,7 +10,7 @@ use Rattle.pas_profile.specs.declared.profile.Profile.{Profile}
 use Rattle.pas_profile.specs.declared.name.Name.{Name}
 use Rattle.pas_profile.specs.declared.name.Block.{Block}
 use Rattle.pas_profile.specs.declared.word.Word.{Word}
-use Rattle.pas_machine.specs.Runs.{meets_page, address_of, grain_of}
+use Rattle.pas_profile.specs.Runs.{meets_page, address_of, grain_of}
 use Rattle.pas_machine.specs.State.{epoch_in}
 use Rattle.pas_steps.specs.Views.{View, unstamped_after, is_unstamped}
 use Rattle.pas_steps.specs.Events.{events_by}
@@ -67,48 +67,13 @@ done_none v h = record { keeps = tt; stamped = h }
 -- ---- requests and what gives back
 allocating_keeps : (v : View) (s : Step) → IsAllocating s → AllStamped v → KeepsToEnds v s
 allocating_keeps v (Look Word.Epoch) is h = h
-allocating_keeps v (Look (Word.Free q w)) is h = tt
-allocating_keeps v (Look (Word.Life q g)) is h = tt
-allocating_keeps v (Look (Word.Deed q)) is h = tt
-allocating_keeps v (Look (Word.Backed q)) is h = tt
-allocating_keeps v (Look (Word.Stamp q)) is h = tt
-allocating_keeps v (Look (Word.Parked i)) is h = tt
-allocating_keeps v (Look (Word.Empty i)) is h = tt
-allocating_keeps v (Look (Word.Eligible n i)) is h = tt
-allocating_keeps v (Deed q d) is h = tt
-allocating_keeps v (Back q) is h = tt
-allocating_keeps v (Take q w mask) is h = tt
-allocating_keeps v (Put q w mask) is h = tt
-allocating_keeps v (Give block) is h = tt
-allocating_keeps v (End name guess) is h = tt
-allocating_keeps v (TakeRight q d) is h = tt
-allocating_keeps v (Offer q d) is h = tt
-allocating_keeps v (Park q) is h = tt
-allocating_keeps v (Unpark q) is h = tt
 allocating_keeps v (Stamp q) is h = absurd is
-allocating_keeps v (Hint q) is h = tt
 allocating_keeps v (Tick up) is h = absurd is
-allocating_keeps v (Unback q) is h = tt
-allocating_keeps v (Unhint q) is h = tt
-
+allocating_keeps v s is h = tt
 allocating_stamps : (s : Step) (a p : ℕ) (was : Bool) → IsAllocating s → unstamped_after s a p was ≡ was
-allocating_stamps (Look word) a p was is = refl
-allocating_stamps (Deed q d) a p was is = refl
-allocating_stamps (Back q) a p was is = refl
-allocating_stamps (Take q w mask) a p was is = refl
-allocating_stamps (Put q w mask) a p was is = refl
-allocating_stamps (Give block) a p was is = refl
 allocating_stamps (End name guess) a p was is = absurd is
-allocating_stamps (TakeRight q d) a p was is = refl
-allocating_stamps (Offer q d) a p was is = refl
-allocating_stamps (Park q) a p was is = refl
-allocating_stamps (Unpark q) a p was is = refl
 allocating_stamps (Stamp q) a p was is = absurd is
-allocating_stamps (Hint q) a p was is = refl
-allocating_stamps (Tick up) a p was is = refl
-allocating_stamps (Unback q) a p was is = refl
-allocating_stamps (Unhint q) a p was is = refl
-
+allocating_stamps s a p was is = refl
 allocating_done : (steps : List Made) (v : View) → AreAllocating steps → AllStamped v → Done v steps
 allocating_done [] v are h = done_none v h
 allocating_done (m ∷ more) v are h =
@@ -120,21 +85,11 @@ allocating_done (m ∷ more) v are h =
 
 -- ---- the pages of a block
 return_keeps : (p : ℕ) (s : Step) (v : View) → IsReturn p s → KeepsToEnds v s
-return_keeps p s v (IsReturn.LooksFree w) = tt
-return_keeps p s v IsReturn.LooksBacked = tt
-return_keeps p s v (IsReturn.Offers d) = tt
-return_keeps p s v IsReturn.Parks = tt
-return_keeps p s v IsReturn.Unparks = tt
 return_keeps p s v IsReturn.Hints = tt
-
+return_keeps p s v step = tt
 return_stamps : (p : ℕ) (s : Step) (a q : ℕ) (was : Bool) → IsReturn p s → unstamped_after s a q was ≡ was
-return_stamps p s a q was (IsReturn.LooksFree w) = refl
-return_stamps p s a q was IsReturn.LooksBacked = refl
-return_stamps p s a q was (IsReturn.Offers d) = refl
-return_stamps p s a q was IsReturn.Parks = refl
-return_stamps p s a q was IsReturn.Unparks = refl
 return_stamps p s a q was IsReturn.Hints = refl
-
+return_stamps p s a q was step = refl
 put_keeps : (p : ℕ) (s : Step) (v : View) → IsPut p s → KeepsToEnds v s
 put_keeps p s v (IsPut.Puts w mask) = tt
 

@@ -118,14 +118,8 @@ pub fit_now : {f : Profile} {all more : List Act} {op : Op} {region : PlainRegio
 fit_now {f} {all} {more} {op} {region} {threads} {table} so = (so.asked, subst (λ (g : Profile). IsFitWhat g (names_held table) so.asked op.what) (sym so.profile_is) so.fit.1)
 
 pub known_if : (f : Profile) (limit : ℕ) (asked : List ℕ) (names : List Named) (what : What) → IsFitWhat f limit asked what → AreKnown asked names → IsKnown names what
-known_if f limit asked names (Alloc name heap size align) fit known = tt
 known_if f limit asked names (Free name) fit known = known name fit
-known_if f limit asked names (Raw block) fit known = tt
-known_if f limit asked names Flush fit known = tt
-known_if f limit asked names Stop fit known = tt
-known_if f limit asked names (Tick e) fit known = tt
-known_if f limit asked names Pass fit known = tt
-known_if f limit asked names (Idle n) fit known = tt
+known_if f limit asked names s fit known = tt
 
 pub known_now : {f : Profile} {all more : List Act} {op : Op} {region : PlainRegion} {threads : List Thread} {table : Names} {out : Records} → (so : SoFar f all (Operates op ∷ more) region threads table out) → IsKnown so.names op.what
 known_now {f} {all} {more} {op} {region} {threads} {table} so = known_if f (names_held table) so.asked so.names op.what so.fit.1 so.known

@@ -31,7 +31,7 @@ use Rattle.pas_replay.specs.Replays.{empty_caches}
 use Rattle.pas_replay.specs.Sessions.{Turn, MaySit, SoFar, AreCaches, owed_from}
 use Rattle.pas_replay.specs.declared.names.Names.{Names}
 use Rattle.pas_replay.specs.declared.seats.Thread.{Thread}
-use Rattle.pas_replay.proofs.Owed.{unknown_kept}
+use Rattle.pas_steps.proofs.Unknown.{unknown_stays}
 use Rattle.pas_replay.proofs.Threads.{stands_at, cache_at, set_stands, set_caches, set_owed, same_ops}
 use Rattle.pas_replay.proofs.Turning.{sits, desk_for, may_sit, its_pass, rises, other_stands}
 
@@ -107,7 +107,7 @@ woken {f} {all} {more} {region} {region'} {threads} {table} {out} k i d thread' 
     let after = triples k steps ++ so.whole in
     let rest = subst (λ (g : Profile). AtRest g c v) (sym s.profile) s.rest in
     let agreed = subst (λ (g : Profile). Agreed g v steps) s.profile (did.adds.agreed v so.whole s.stood rest) in
-    let unknown = unknown_kept f steps v agreed in
+    let unknown = unknown_stays f steps v agreed in
     let log = ap (λ (x : Cached). length x.log) did.cache in
     let r = rises {own' = own_costs_of k (ops_in more)} s turn.risen did.adds did.rest (omega (arith, unknown, log)) in
     let owed = set_owed f so.whole after 1 threads i k d thread' at lt (λ j ne. part_of_others j k steps so.whole (λ e. ne (sym e))) in

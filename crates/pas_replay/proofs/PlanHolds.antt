@@ -78,16 +78,6 @@ no_header : {A : Type 0} (f : Profile) → None ≡ Some f → A
 no_header f bad = absurd (cc)
 
 header_words : (ws : List (List ℕ)) (f : Profile) → header_of_words ws ≡ Some f → IsHeader f
-header_words [] f e = no_header f e
-header_words (a ∷ []) f e = no_header f e
-header_words (a ∷ b ∷ []) f e = no_header f e
-header_words (a ∷ b ∷ c ∷ []) f e = no_header f e
-header_words (a ∷ b ∷ c ∷ d ∷ []) f e = no_header f e
-header_words (a ∷ b ∷ c ∷ d ∷ g ∷ []) f e = no_header f e
-header_words (a ∷ b ∷ c ∷ d ∷ g ∷ h ∷ []) f e = no_header f e
-header_words (a ∷ b ∷ c ∷ d ∷ g ∷ h ∷ i ∷ []) f e = no_header f e
-header_words (a ∷ b ∷ c ∷ d ∷ g ∷ h ∷ i ∷ j ∷ []) f e = no_header f e
-header_words (a ∷ b ∷ c ∷ d ∷ g ∷ h ∷ i ∷ j ∷ k ∷ []) f e = no_header f e
 header_words (a ∷ b ∷ c ∷ d ∷ g ∷ h ∷ i ∷ j ∷ k ∷ m ∷ []) f e =
     let q = if_some (same_bytes a (codes "pas") && same_bytes b (codes "1") && same_bytes c (codes "pages") && same_bytes g (codes "threads") && same_bytes i (codes "heaps") && same_bytes k (codes "age"))
     (profile_with (within 1 4096 (number_of d)) (within 1 16 (number_of h)) (within 1 32 (number_of j)) (within 1 1000000 (number_of m))) f e in
@@ -98,6 +88,7 @@ header_words (a ∷ b ∷ c ∷ d ∷ g ∷ h ∷ i ∷ j ∷ k ∷ m ∷ []) f 
     let age = in_range 1 1000000 f.age (number_of m) is.3 in
     record { one_page = pages.0; pages = pages.1; one_thread = threads.0; threads = threads.1; one_heap = heaps.0; heaps = heaps.1; some_age = age.0; age = age.1 }
 header_words (a ∷ b ∷ c ∷ d ∷ g ∷ h ∷ i ∷ j ∷ k ∷ m ∷ n ∷ ws) f e = no_header f e
+header_words s f e = no_header f e
 
 -- ---- the marks of shared heaps are of its heaps
 shared_lt : (f : Profile) (items : List Item) → AreChecked f items → shared_in items < 2 ^ f.heaps

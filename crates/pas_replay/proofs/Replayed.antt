@@ -115,22 +115,12 @@ if_none false true e d b one other h = none_is b h
 if_none false false e d b one other h = subst IsShowable (some_is h) other
 
 event_showable : (f : Profile) (k epoch : ℕ) (s : Step) (a : ℕ) → IsStepOf f s → (e : Event) → event_of k epoch s a ≡ Some e → IsShowable e
-event_showable f k epoch (Look w) a of e h = none_is e h
 event_showable f k epoch (Deed page d) a of e h = if_some (a == 0) (Event.Deed k page d) e of.1.kind h
 event_showable f k epoch (Back page) a of e h = if_some (a == 0) (Event.Back k page) e tt h
 event_showable f k epoch (Give block) a of e h = subst IsShowable (some_is h) tt
 event_showable f k epoch (End name guess) a of e h = if_none (a == live_word name.turn guess) (is_live a && (turn_of a == name.turn)) (Event.End k name epoch) (Event.Reject k name (reason_of name a)) e tt tt h
-event_showable f k epoch (Take q j m) a of e h = none_is e h
-event_showable f k epoch (Put q j m) a of e h = none_is e h
-event_showable f k epoch (TakeRight q d) a of e h = none_is e h
-event_showable f k epoch (Offer q d) a of e h = none_is e h
-event_showable f k epoch (Park q) a of e h = none_is e h
-event_showable f k epoch (Unpark q) a of e h = none_is e h
-event_showable f k epoch (Stamp q) a of e h = none_is e h
-event_showable f k epoch (Hint q) a of e h = none_is e h
-event_showable f k epoch (Tick raised) a of e h = none_is e h
 event_showable f k epoch (Unback q) a of e h = subst IsShowable (some_is h) tt
-event_showable f k epoch (Unhint q) a of e h = none_is e h
+event_showable f k epoch s a of e h = none_is e h
 
 -- the steps of a list, and of a part, are of the region
 abbrev pub AreOf : Profile → Whole → Type 0

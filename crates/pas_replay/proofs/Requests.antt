@@ -14,7 +14,7 @@ use Rattle.pas_profile.specs.declared.name.Block.{Block}
 use Rattle.pas_profile.specs.declared.word.Word.TheVariants as Word
 use Rattle.pas_profile.proofs.ClassFacts.{class_suits}
 use Rattle.pas_profile.proofs.Codecs.{same_from_deed_word}
-use Rattle.pas_machine.specs.Runs.{address_of}
+use Rattle.pas_profile.specs.Runs.{address_of}
 use Rattle.pas_machine.specs.State.{deed_in}
 use Rattle.pas_core.specs.Good.{word_of_deed}
 use Rattle.pas_core.proofs.Bits.{no_bit}
@@ -22,22 +22,21 @@ use Rattle.pas_core.proofs.DeedWords.{known_is, deed_word_ne}
 use Rattle.pas_core.proofs.Deeds.{deed_of, directory_is_of}
 use Rattle.pas_core.proofs.Knowledge.{deeds_known}
 use Rattle.pas_steps.specs.declared.step.Made.{Made}
-use Rattle.pas_steps.specs.Views.{View, known_deed}
+use Rattle.pas_steps.specs.Views.{View, known_deed, KnowsDeed}
 use Rattle.pas_steps.specs.Events.{events_by}
 use Rattle.pas_steps.specs.Agreement.{Agreed}
 use Rattle.pas_steps.specs.Lists.{Whole, part, word_after, visible, Legal}
 use Rattle.pas_steps.specs.Desks.{Standing, CanCall}
-use Rattle.pas_rights.specs.Rights.{KnowsDeed}
 use Rattle.pas_trace.specs.declared.plan.What.TheVariants.{Alloc}
 use Rattle.pas_cache.specs.Caches.{Cached, AtRest}
 use Rattle.pas_cache.specs.Calls.{MayAllocate, Allocates}
 use Rattle.pas_cache.specs.Serves.{IsClassRoute, class_of, ServesRequest, IsBlockFor, IsSilent}
-use Rattle.pas_cache.specs.Knowledge.{unknown_pages}
+use Rattle.pas_steps.specs.Unknown.{unknown_pages}
 use Rattle.pas_replay.specs.Answers.{Named, named, standing_for, said_of_room}
 use Rattle.pas_replay.specs.Names.{block_named, names_held}
 use Rattle.pas_replay.specs.Calls.{block_behind, Tells, HasTurns, owed_events, MayPerform, Performs}
 use Rattle.pas_replay.specs.declared.names.Names.{Names}
-use Rattle.pas_replay.proofs.Owed.{unknown_kept, has_room}
+use Rattle.pas_steps.proofs.Unknown.{unknown_stays, has_room}
 
 -- ---- what a request asks
 -- where no heap is shared this one isn't
@@ -85,7 +84,7 @@ refused_few : (f : Profile) (k : ℕ) (c c' : Cached) (steps : List Made) (v : V
 refused_few f k c c' steps v same silent agreed =
     let log = ap (λ names. length names) same in
     let none = ap (λ (es : List Event). length es) silent in
-    let unknown = unknown_kept f steps v agreed in
+    let unknown = unknown_stays f steps v agreed in
     omega (arith, log, none, unknown)
 
 -- ---- the names

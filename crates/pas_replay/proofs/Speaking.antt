@@ -39,23 +39,12 @@ if_none j false true e d one other = tt
 if_none j false false e d one other = other
 
 event_is_of : (j epoch : ℕ) (s : Step) (a : ℕ) → MayBeOf j (event_of j epoch s a)
-event_is_of j epoch (Look w) a = tt
 event_is_of j epoch (Deed page d) a = if_some j (a == 0) (Event.Deed j page d) (λ k. refl)
 event_is_of j epoch (Back page) a = if_some j (a == 0) (Event.Back j page) (λ k. refl)
 event_is_of j epoch (Give block) a = λ k. refl
 event_is_of j epoch (End name guess) a = if_none j (a == live_word name.turn guess) (is_live a && (turn_of a == name.turn)) (Event.End j name epoch) (Event.Reject j name (reason_of name a)) (λ k. refl) (λ k. refl)
-event_is_of j epoch (Take q i m) a = tt
-event_is_of j epoch (Put q i m) a = tt
-event_is_of j epoch (TakeRight q d) a = tt
-event_is_of j epoch (Offer q d) a = tt
-event_is_of j epoch (Park q) a = tt
-event_is_of j epoch (Unpark q) a = tt
-event_is_of j epoch (Stamp q) a = tt
-event_is_of j epoch (Hint q) a = tt
-event_is_of j epoch (Tick raised) a = tt
 event_is_of j epoch (Unback q) a = λ k. refl
-event_is_of j epoch (Unhint q) a = tt
-
+event_is_of j epoch s a = tt
 with_one : (j : ℕ) (o : Option Event) (es : List Event) → MayBeOf j o → EventsOf j es → EventsOf j (with_event o es)
 with_one j None es one rest = rest
 with_one j (Some e) es one rest = (one, rest)

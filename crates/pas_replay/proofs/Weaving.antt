@@ -261,13 +261,8 @@ asks_one : (f : Profile) (k : ℕ) (what : What) (names names1 : List Named) (v 
     → IsAnswered f k what names v c steps said names1 c1 → IsAskFor what n → Has names1 n
 asks_one f k (Alloc name heap size align) names names1 v c c1 steps said n answered asks =
     (answered.0, ap (λ (ns : List Named). standing_for ns n) answered.2 ∙ ap (λ (t : Bool). if t then Some answered.0 else standing_for names n) (eq-eqb name n asks))
-asks_one f k (Free name) names names1 v c c1 steps said n answered asks = absurd asks
-asks_one f k (Raw block) names names1 v c c1 steps said n answered asks = absurd asks
-asks_one f k Flush names names1 v c c1 steps said n answered asks = absurd asks
-asks_one f k Stop names names1 v c c1 steps said n answered asks = absurd asks
-asks_one f k (Tick e) names names1 v c c1 steps said n answered asks = absurd asks
-asks_one f k Pass names names1 v c c1 steps said n answered asks = absurd asks
 asks_one f k (Idle m) names names1 v c c1 steps said n answered asks = absurd asks
+asks_one f k s names names1 v c c1 steps said n answered asks = absurd asks
 
 pub own_has : (f : Profile) (k : ℕ) (whats : List What) (names names' : List Named) (v v' : View) (c c' : Cached) (rs rs' : List Record) (n : ℕ)
     → FollowsOwn f k whats names v c rs names' v' c' rs' → Has names n → Has names' n
@@ -303,13 +298,10 @@ any_asks j (op ∷ ops) n asks = elim asks [
 -- ---- operations that can be replayed one after the other ask for no name twice
 one_new : (f : Profile) (limit : ℕ) (asked : List ℕ) (what : What) → IsFitWhat f limit asked what → IsNew asked what
 one_new f limit asked (Alloc name heap size align) fit = fit.3
-one_new f limit asked (Free name) fit = tt
-one_new f limit asked (Raw block) fit = tt
-one_new f limit asked Flush fit = tt
-one_new f limit asked Stop fit = tt
 one_new f limit asked (Tick e) fit = absurd fit
 one_new f limit asked Pass fit = absurd fit
 one_new f limit asked (Idle n) fit = absurd fit
+one_new f limit asked s fit = tt
 
 pub fit_new : (f : Profile) (limit : ℕ) (asked : List ℕ) (ops : List Op) → AreFit f limit asked ops → AreNew asked ops
 fit_new f limit asked [] fit = tt

@@ -11,8 +11,8 @@ use Rattle.pas_profile.specs.declared.event.FreeFault.{FreeFault}
 use Rattle.pas_profile.specs.declared.event.FreeFault.TheVariants.{Outside, Unaligned}
 use Rattle.pas_profile.specs.declared.event.NoRoom.{NoRoom}
 use Rattle.pas_profile.specs.declared.event.NoRoom.TheVariants.{NoSpace, Held}
-use Rattle.pas_machine.specs.Runs.{in_run, address_of, grain_of, length_of}
-use Rattle.pas_steps.specs.Views.{View}
+use Rattle.pas_profile.specs.Runs.{in_run, address_of, grain_of, length_of}
+use Rattle.pas_steps.specs.Views.{View, KnowsDeed}
 use Rattle.pas_steps.specs.Events.{events_by}
 use Rattle.pas_steps.specs.Lists.{Whole, part}
 use Rattle.pas_steps.specs.Desks.{made, triples}
@@ -22,7 +22,6 @@ use Rattle.pas_trace.specs.declared.plan.What.{What}
 use Rattle.pas_trace.specs.declared.plan.What.TheVariants.{Alloc, Free, Raw, Flush, Stop, Tick, Pass, Idle}
 use Rattle.pas_report.specs.declared.record.Record.{Record}
 use Rattle.pas_report.specs.declared.record.Said.{Said}
-use Rattle.pas_rights.specs.Rights.{KnowsDeed}
 use Rattle.pas_segregated.specs.Stops.{class_directory}
 use Rattle.pas_cache.specs.Caches.{Cached}
 use Rattle.pas_cache.specs.Changes.{EmptiesLog, StopsAll}

@@ -16,7 +16,7 @@ use Rattle.pas_report.specs.declared.record.Said.{Said}
 use Rattle.pas_report.specs.declared.records.Records.{Records}
 use Rattle.pas_cache.specs.Caches.{Cached, AtRest}
 use Rattle.pas_cache.specs.Calls.{StaysAtRest}
-use Rattle.pas_cache.specs.Knowledge.{unknown_pages}
+use Rattle.pas_steps.specs.Unknown.{unknown_pages}
 use Rattle.pas_replay.specs.Answers.{Named, standing_for, IsFreed, IsAnswered, records_of, said_by}
 use Rattle.pas_replay.specs.Fit.{cost_of_what}
 use Rattle.pas_replay.specs.Names.{block_named, names_held}

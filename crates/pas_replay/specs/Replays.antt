@@ -5,7 +5,7 @@ use Rattle.pas_profile.specs.Routes.{route_of}
 use Rattle.pas_profile.specs.declared.word.Word.{Word}
 use Rattle.pas_steps.specs.Views.{holds, has_right}
 use Rattle.pas_steps.specs.Lists.{Whole, part, word_after, Legal}
-use Rattle.pas_steps.specs.Rests.{IsClear}
+use Rattle.pas_steps.specs.Clear.{IsClear}
 use Rattle.pas_steps.specs.States.{profile_of, word_in}
 use Rattle.pas_steps.specs.declared.state.State.{State}
 use Rattle.pas_trace.specs.Plans.{ops_of}

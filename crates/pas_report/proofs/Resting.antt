@@ -9,7 +9,7 @@ use Rattle.pas_profile.specs.declared.directory.Directory.{Directory}
 use Rattle.pas_profile.specs.declared.profile.Profile.{Profile}
 use Rattle.pas_profile.specs.declared.word.Word.TheVariants as Word
 use Rattle.pas_profile.proofs.Codecs.{read-deed_word_of}
-use Rattle.pas_machine.specs.Runs.{in_run, length_of}
+use Rattle.pas_profile.specs.Runs.{in_run, length_of}
 use Rattle.pas_machine.specs.State.{Live, deed_in, backed_in, live_in, gives_in, ends_in, epoch_in}
 use Rattle.pas_machine.specs.Totals.{has_block}
 use Rattle.pas_steps.specs.Effects.{free_word_at, life_word_at}

@@ -2,12 +2,12 @@
 use Rattle.std.proofs.Common.{ℕ, Bool, List, [], ◌∷◌, ◌++◌, refl, ap, ◌∙◌, subst, append_assoc}
 use Rattle.pas_profile.specs.Directories.{IsDirectory}
 use Rattle.pas_profile.specs.declared.directory.Directory.{Directory}
-use Rattle.pas_steps.specs.Views.{View, known_deed}
+use Rattle.pas_steps.specs.Views.{View, known_deed, KnowsDeed}
 use Rattle.pas_steps.specs.Desks.{Anything, Standing, Adds, made}
 use Rattle.pas_steps.specs.declared.step.Made.{Made}
 use Rattle.pas_steps.specs.declared.step.Step.TheVariants.{Park}
 use Rattle.pas_steps.proofs.Adding.{adds_call, adds_under}
-use Rattle.pas_rights.specs.Rights.{KnowsDeed, MayLeave, looks, any_usable, are_all_ones, Sees, SeesUntilUsed, EndsLeave, LeaveSteps, HintsWhere, ReoffersPage, ReturnSteps, Leaves, Returned}
+use Rattle.pas_rights.specs.Rights.{MayLeave, looks, any_usable, are_all_ones, Sees, SeesUntilUsed, EndsLeave, LeaveSteps, HintsWhere, ReoffersPage, ReturnSteps, Leaves, Returned}
 use Rattle.pas_rights.proofs.Orders.{right_looks, deed_looks, leave_returns, leave_loses, return_returns}
 use Rattle.pas_rights.proofs.Debts.{leave_owes, leave_lacks, return_owes, return_right}
 

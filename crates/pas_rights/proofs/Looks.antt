@@ -90,12 +90,8 @@ pub full_bit : (b : ℕ) → b < 64 → has_bit (2 ^ 64 - 1) b ≡ true
 full_bit b h = eq-eqb (bit_at (2 ^ 64 - 1) b) 1 (bit_at_ones 64 b h)
 
 four_full : (i : ℕ) → i < 4 → slice_index ((2 ^ 64 - 1) ∷ (2 ^ 64 - 1) ∷ (2 ^ 64 - 1) ∷ (2 ^ 64 - 1) ∷ []) i ≡ 2 ^ 64 - 1
-four_full zero h = refl
-four_full (suc zero) h = refl
-four_full (suc (suc zero)) h = refl
-four_full (suc (suc (suc zero))) h = refl
 four_full (suc (suc (suc (suc i)))) h = absurd (omega (arith, h))
-
+four_full s h = refl
 any_kind : (k : Kind) (g : ℕ) → (k ≡ Kind.Bitfit) ⊎ ((k ≡ Kind.Shared) ⊎ (k ≡ Kind.Large)) → usable_by_kind k g ≡ true
 any_kind k g (inl e) = ap (λ x. usable_by_kind x g) e
 any_kind k g (inr (inl e)) = ap (λ x. usable_by_kind x g) e

@@ -4,14 +4,14 @@ use Rattle.std.proofs.lemmas.Bool.{eq-eqb}
 use Rattle.pas_profile.specs.Classes.{has_bit}
 use Rattle.pas_profile.specs.declared.directory.Directory.{Directory}
 use Rattle.pas_profile.proofs.Codecs.{deed_word_of-positive}
-use Rattle.pas_steps.specs.Views.{View, has_right, known_deed}
+use Rattle.pas_steps.specs.Views.{View, has_right, known_deed, KnowsDeed}
 use Rattle.pas_steps.specs.Past.{Once}
 use Rattle.pas_steps.specs.Frames.{IsReturn, GivesUp, AreLooks, OnlyReturns}
 use Rattle.pas_steps.specs.Desks.{made}
 use Rattle.pas_steps.specs.declared.step.Made.{Made}
 use Rattle.pas_steps.specs.declared.step.Step.TheVariants.{Offer, Park}
 use Rattle.pas_steps.proofs.Past.{once_later, always_both}
-use Rattle.pas_rights.specs.Rights.{KnowsDeed, looks, any_usable, are_all_ones, HintsWhere, ReofferSteps, ReoffersWhere, OfferSteps, ParkSteps, EndsLeave, LeaveSteps, ReturnSteps, LosesHere}
+use Rattle.pas_rights.specs.Rights.{looks, any_usable, are_all_ones, HintsWhere, ReofferSteps, ReoffersWhere, OfferSteps, ParkSteps, EndsLeave, LeaveSteps, ReturnSteps, LosesHere}
 
 -- ---- what looks at the free words keep
 pub right_looks : (p q : ℕ) (answers : List ℕ) (v : View) → has_right (looks p answers ++ v) q ≡ has_right v q

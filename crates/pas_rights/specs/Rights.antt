@@ -4,21 +4,17 @@ use Rattle.pas_profile.specs.Classes.{has_bit}
 use Rattle.pas_profile.specs.Directories.{deed_word_of}
 use Rattle.pas_profile.specs.declared.directory.Directory.{Directory}
 use Rattle.pas_profile.specs.declared.word.Word.TheVariants as Word
-use Rattle.pas_steps.specs.Views.{View, has_right, known_deed, no_usable, all_ones, is_unstamped, owes_check, owes_hint}
+use Rattle.pas_steps.specs.Views.{View, has_right, known_deed, no_usable, all_ones, is_unstamped, owes_check, owes_hint, KnowsDeed}
 use Rattle.pas_steps.specs.Agreement.{Agreed}
 use Rattle.pas_steps.specs.Past.{Once}
-use Rattle.pas_steps.specs.Rests.{OwesNothing}
+use Rattle.pas_steps.specs.Clear.{OwesNothing}
 use Rattle.pas_steps.specs.Frames.{AreLooks, OnlyReturns, GivesUp}
 use Rattle.pas_steps.specs.Desks.{Standing, Anything, Adds, made}
 use Rattle.pas_steps.specs.declared.step.Made.{Made}
 use Rattle.pas_steps.specs.declared.step.Step.TheVariants.{Look, TakeRight, Offer, Park, Unpark, Hint}
 
 -- ---- what is asked
--- the page's deed is known, and is this directory
-abbrev pub KnowsDeed : ℕ → Directory → View → Type 0
-KnowsDeed page directory v = known_deed v page ≡ deed_word_of directory
-
--- besides, the right is the actor's
+-- the page's deed is known, and the right is the actor's
 pub record MayLeave (page : ℕ) (directory : Directory) (v : View) : Type 0 where
   pub right : has_right v page ≡ true
   pub deed : KnowsDeed page directory v

@@ -8,7 +8,7 @@ use Rattle.pas_profile.specs.Profiles.{IsPage}
 use Rattle.pas_profile.specs.declared.directory.Directory.{Directory}
 use Rattle.pas_profile.specs.declared.profile.Profile.{Profile}
 use Rattle.pas_profile.specs.declared.word.Word.TheVariants as Word
-use Rattle.pas_steps.specs.Views.{View, known_deed, deed_after}
+use Rattle.pas_steps.specs.Views.{View, known_deed, deed_after, KnowsDeed}
 use Rattle.pas_steps.specs.Past.{Once}
 use Rattle.pas_steps.specs.Frames.{IsScan, OnlyScans}
 use Rattle.pas_steps.specs.Desks.{made}
@@ -16,7 +16,7 @@ use Rattle.pas_steps.specs.declared.step.Made.{Made}
 use Rattle.pas_steps.specs.declared.step.Step.TheVariants.{Look}
 use Rattle.pas_steps.proofs.Past.{once_later, always_both}
 use Rattle.pas_scan.specs.Marks.{is_marked}
-use Rattle.pas_scan.specs.Evidence.{ReadsParked, ParkedHere, IsOf, IsSingle}
+use Rattle.pas_steps.specs.Evidence.{ReadsParked, ParkedHere, IsSingle}
 use Rattle.pas_scan.specs.Scan.{IsMember, AllParked, InBlock}
 use Rattle.pas_scan.proofs.PageBits.{bit_cleared, same_number}
 use Rattle.pas_scan.proofs.Singles.{Below, From, below_more, below_append, single_append, single_more, place_of}
@@ -49,8 +49,8 @@ other_block block (m ∷ more) v p h ne =
 
 -- ---- the members so far, of pages from `first` to below `end`
 pub record Members (f : Profile) (marks : List ℕ) (d : Directory) (block first end members : ℕ) (steps : List Made) : Type 0 where
-  pub all : (v : View) (p : ℕ) → p / 64 ≡ block → first ≤ p → p < end → IsOf d p (steps ++ v) → is_marked marks p ≡ false → has_bit members (p % 64) ≡ true
-  pub only : (v : View) (p : ℕ) → p / 64 ≡ block → has_bit members (p % 64) ≡ true → (first ≤ p) × (p < end) × IsOf d p (steps ++ v) × (is_marked marks p ≡ false)
+  pub all : (v : View) (p : ℕ) → p / 64 ≡ block → first ≤ p → p < end → KnowsDeed p d (steps ++ v) → is_marked marks p ≡ false → has_bit members (p % 64) ≡ true
+  pub only : (v : View) (p : ℕ) → p / 64 ≡ block → has_bit members (p % 64) ≡ true → (first ≤ p) × (p < end) × KnowsDeed p d (steps ++ v) × (is_marked marks p ≡ false)
 
 or_cases : (x y z : Bool) → ((x && y) || z) ≡ true → ((x ≡ true) × (y ≡ true)) ⊎ (z ≡ true)
 or_cases true true z h = inl (refl, refl)
@@ -83,7 +83,7 @@ members_more f marks d block first page members more a steps before at low bits 
             ∙ ap (λ t. (t && not (is_marked marks page)) || has_bit members (p % 64)) (eq-eqb a (deed_word_of d) known)
             ∙ ap (λ t. not t || has_bit members (p % 64)) unmarked'
         | inr ne ↦
-            let known : IsOf d p (steps ++ v) = sym (ap (λ t. if t then a else known_deed (steps ++ v) p) (ne_eqb page p ne)) ∙ is in
+            let known : KnowsDeed p d (steps ++ v) = sym (ap (λ t. if t then a else known_deed (steps ++ v) p) (ne_eqb page p ne)) ∙ is in
             or_true ((page % 64 == p % 64) && open_here) (has_bit members (p % 64)) (before.all v p e ge (omega (arith, lt, ne)) known unmarked)
       ];
       only = λ v p e bit. elim (or_cases (page % 64 == p % 64) open_here (has_bit members (p % 64)) (sym (bits (p % 64) (omega arith)) ∙ bit)) [

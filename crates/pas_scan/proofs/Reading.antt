@@ -16,7 +16,7 @@ use Rattle.pas_steps.specs.Desks.{made}
 use Rattle.pas_steps.specs.declared.step.Step.{Step}
 use Rattle.pas_steps.specs.declared.step.Made.{Made}
 use Rattle.pas_steps.specs.declared.step.Step.TheVariants.{Look}
-use Rattle.pas_scan.specs.Evidence.{ReadsEligible, ReadsDeed, ZeroHere, DeedHere}
+use Rattle.pas_steps.specs.Evidence.{ReadsEligible, ReadsDeed, ZeroHere, DeedHere}
 use Rattle.pas_scan.specs.Scan.{IsFirstOffered, IsFirstBare}
 
 -- ---- these looks give no right

@@ -5,7 +5,7 @@ use Rattle.pas_steps.specs.Past.{Once, Always}
 use Rattle.pas_steps.specs.declared.step.Step.{Step}
 use Rattle.pas_steps.specs.declared.step.Made.{Made}
 use Rattle.pas_steps.specs.declared.step.Step.TheVariants.{Look}
-use Rattle.pas_scan.specs.Evidence.{IsSingle}
+use Rattle.pas_steps.specs.Evidence.{IsSingle}
 
 -- the deed words of a block of pages stand before its parked word, and behind all words of lower blocks
 abbrev pub place_of : Step → ℕ

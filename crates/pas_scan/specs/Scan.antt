@@ -6,7 +6,7 @@ use Rattle.pas_profile.specs.declared.directory.Directory.{Directory}
 use Rattle.pas_profile.specs.declared.profile.Profile.{Profile}
 use Rattle.pas_profile.specs.declared.event.NoRoom.{NoRoom}
 use Rattle.pas_profile.specs.declared.event.NoRoom.TheVariants.{NoSpace, Held}
-use Rattle.pas_steps.specs.Views.{View, has_right}
+use Rattle.pas_steps.specs.Views.{View, has_right, KnowsDeed}
 use Rattle.pas_steps.specs.Agreement.{Agreed}
 use Rattle.pas_steps.specs.Desks.{Standing, Anything, Adds}
 use Rattle.pas_steps.specs.Past.{Once, Always}
@@ -15,7 +15,7 @@ use Rattle.pas_steps.specs.declared.step.Made.{Made}
 use Rattle.pas_steps.specs.declared.step.Step.TheVariants.{Look}
 use Rattle.pas_profile.specs.declared.word.Word.TheVariants as Word
 use Rattle.pas_scan.specs.Marks.{is_marked}
-use Rattle.pas_scan.specs.Evidence.{ZeroHere, OneHere, DeedHere, NoDeedHere, ParkedHere, IsOf, IsSingle}
+use Rattle.pas_steps.specs.Evidence.{ZeroHere, OneHere, DeedHere, NoDeedHere, ParkedHere, IsSingle}
 
 -- ---- the search of offered pages from page `next` on
 -- each page from this one on was read as not offered
@@ -28,7 +28,7 @@ pub record IsFirstOffered (f : Profile) (d : Directory) (next : ℕ) (steps : Li
   pub of_region : IsPage f page
   pub one : Once (OneHere d page) steps
   pub lower : (p : ℕ) → next ≤ p → p < page → Once (ZeroHere d p) steps
-  pub deed : (v : View) → IsOf d page (steps ++ v)
+  pub deed : (v : View) → KnowsDeed page d (steps ++ v)
   pub lacks : (v : View) → Agreed f v steps → has_right v page ≡ false
 
 -- `next'` is where the search goes on
@@ -61,7 +61,7 @@ pub record FindsBare (from : ℕ) (desk desk' : Standing) (found : Option ℕ) :
 -- the page is of the region, known to be of the directory, and not marked
 pub record IsMember (f : Profile) (marks : List ℕ) (d : Directory) (v : View) (page : ℕ) : Type 0 where
   pub of_region : IsPage f page
-  pub of_directory : IsOf d page v
+  pub of_directory : KnowsDeed page d v
   pub unmarked : is_marked marks page ≡ false
 
 -- the parked bit of each member below this page was read as 1

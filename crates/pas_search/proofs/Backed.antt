@@ -37,32 +37,16 @@ one_read a q p known true one h = ap (λ x. x == 1) (one refl)
 one_read a q p known false one h = h
 
 pub look_backed : (f : Profile) (v : View) (word : Word) (a q : ℕ) → Agrees f v (Look word) a → knows_backed v q ≡ true → backed_after (Look word) a q (knows_backed v q) ≡ true
-look_backed f v Word.Epoch a q agrees h = h
-look_backed f v (Word.Free p w) a q agrees h = h
-look_backed f v (Word.Life p g) a q agrees h = h
-look_backed f v (Word.Deed p) a q agrees h = h
 look_backed f v (Word.Backed p) a q agrees h = one_read a q p (knows_backed v q) (p == q) (λ e. agrees.known (subst (λ x. knows_backed v x ≡ true) (sym (eqb-true p q e)) h)) h
-look_backed f v (Word.Stamp p) a q agrees h = h
-look_backed f v (Word.Parked j) a q agrees h = h
-look_backed f v (Word.Empty j) a q agrees h = h
-look_backed f v (Word.Eligible d j) a q agrees h = h
-
+look_backed f v s a q agrees h = h
 either : (t known : Bool) → known ≡ true → (if t then true else known) ≡ true
 either true known h = refl
 either false known h = h
 
 on_backed : (f : Profile) (p q : ℕ) (v : View) (s : Step) (a : ℕ) → IsOnPage p s → Agrees f v s a → knows_backed v q ≡ true → backed_after s a q (knows_backed v q) ≡ true
 on_backed f p q v s a (IsOnPage.Looks word) agrees h = look_backed f v word a q agrees h
-on_backed f p q v s a (IsOnPage.Deeds d) agrees h = h
 on_backed f p q v s a IsOnPage.Backs agrees h = either (p == q) (knows_backed v q) h
-on_backed f p q v s a (IsOnPage.Takes w mask) agrees h = h
-on_backed f p q v s a (IsOnPage.Puts w mask) agrees h = h
-on_backed f p q v s a (IsOnPage.Claims d) agrees h = h
-on_backed f p q v s a (IsOnPage.Offers d) agrees h = h
-on_backed f p q v s a IsOnPage.Parks agrees h = h
-on_backed f p q v s a IsOnPage.Unparks agrees h = h
-on_backed f p q v s a IsOnPage.Stamps agrees h = h
-on_backed f p q v s a IsOnPage.Hints agrees h = h
+on_backed f p q v s a step agrees h = h
 
 -- a page on which a grain stays held, over steps on one page: this page or another
 pub backed_held : (f : Profile) (p q g : ℕ) (steps : List Made) (v : View) → OnlyOn p steps → Agreed f v steps → ((ys zs : List Made) → ys ++ zs ≡ steps → holds_on (zs ++ v) q ≡ true) → knows_backed v q ≡ true → knows_backed (steps ++ v) q ≡ true

@@ -6,7 +6,7 @@ use Rattle.pas_profile.specs.declared.directory.Directory.{Directory}
 use Rattle.pas_profile.specs.declared.profile.Profile.{Profile}
 use Rattle.pas_steps.specs.declared.step.Made.{Made}
 use Rattle.pas_steps.specs.declared.step.Step.TheVariants.{TakeRight}
-use Rattle.pas_steps.specs.Views.{View, holds, has_right, knows_backed}
+use Rattle.pas_steps.specs.Views.{View, holds, has_right, knows_backed, KnowsDeed}
 use Rattle.pas_steps.specs.Events.{events_by, events_of}
 use Rattle.pas_steps.specs.Agreement.{Agreed}
 use Rattle.pas_steps.specs.Lists.{Whole}
@@ -15,9 +15,8 @@ use Rattle.pas_steps.specs.Past.{Once}
 use Rattle.pas_steps.specs.Frames.{IsOnPage, OnlyOn}
 use Rattle.pas_steps.proofs.Adding.{can_call, adds_call, adds_under, agreed_first}
 use Rattle.pas_steps.proofs.Frames.{events_append}
-use Rattle.pas_rights.specs.Rights.{KnowsDeed}
-use Rattle.pas_steps.specs.Rests.{OwesNothing}
-use Rattle.pas_scan.specs.Evidence.{ReadsEligible, GetsRight, UnfitHere, ShowsHere}
+use Rattle.pas_steps.specs.Clear.{OwesNothing}
+use Rattle.pas_steps.specs.Evidence.{ReadsEligible, GetsRight, UnfitHere, ShowsHere}
 use Rattle.pas_search.specs.Kinds.{OnlyServes, IsSearch, OnlySearches, deeds_made}
 use Rattle.pas_search.specs.Serving.{Rule, MayServe, FreshAt, GotBefore, LeavesPage, KeepsPage, ServesPage}
 use Rattle.pas_search.specs.Searches.{IsUntouched, MayTry, LeavesAsWas, FailsPage, FitsPage, TriesPage}

@@ -20,8 +20,8 @@ use Rattle.pas_steps.proofs.Adding.{adds_step, can_call, adds_call, agreed_first
 use Rattle.pas_steps.proofs.Past.{once_later, once_earlier}
 use Rattle.pas_steps.proofs.Frames.{events_append, events_split}
 use Rattle.pas_steps.proofs.Kept.{deed_stays}
-use Rattle.pas_steps.specs.Rests.{OwesNothing, IsClear}
-use Rattle.pas_scan.specs.Evidence.{ReadsDeed, DeedHere, NoDeedHere, GetsRight, AllDeeds, Searched, ShowsHere}
+use Rattle.pas_steps.specs.Clear.{OwesNothing, IsClear}
+use Rattle.pas_steps.specs.Evidence.{ReadsDeed, DeedHere, NoDeedHere, GetsRight, AllDeeds, Searched, ShowsHere}
 use Rattle.pas_scan.specs.Scan.{FindsBare}
 use Rattle.pas_search.specs.Kinds.{IsDeedOrBack, IsSearch, OnlyServes, OnlySearches, AreQuiet, deeds_made}
 use Rattle.pas_search.specs.Serving.{Rule, MayServe, GotBefore, KeepsPage, ServesPage}

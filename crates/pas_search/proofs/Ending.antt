@@ -13,12 +13,13 @@ use Rattle.pas_steps.specs.Desks.{Seat, Standing, Anything, Adds, CanCall}
 use Rattle.pas_steps.proofs.Adding.{adds_call, legal_after}
 use Rattle.pas_steps.proofs.Past.{once_earlier}
 use Rattle.pas_steps.proofs.Kept.{deed_stays}
-use Rattle.pas_scan.specs.Evidence.{DeedHere, AllDeeds}
+use Rattle.pas_steps.specs.Evidence.{DeedHere, AllDeeds}
 use Rattle.pas_scan.specs.Scan.{Judges, IsVerdict}
 use Rattle.pas_search.specs.Kinds.{OnlySearches}
 use Rattle.pas_search.specs.Serving.{Rule, IsAntitone}
-use Rattle.pas_steps.specs.Rests.{IsClear}
-use Rattle.pas_search.specs.Searches.{MaySearch, HasRoom, SearchRoom, BareRoom, Searching, SearchesOffered, SearchesBare, IsFound, IsFoundBare, IsServed, IsRefused, Searches}
+use Rattle.pas_steps.specs.Clear.{IsClear}
+use Rattle.pas_search.specs.Searches.{MaySearch, SearchRoom, BareRoom, Searching, SearchesOffered, SearchesBare, IsFound, IsFoundBare, IsServed, IsRefused, Searches}
+use Rattle.pas_steps.specs.Unknown.{HasRoom}
 use Rattle.pas_search.specs.declared.serving.Served.{Served}
 use Rattle.pas_search.proofs.StepKinds.{room_kept, scans_read, reads_search, searches_append}
 use Rattle.pas_search.proofs.Going.{reads_searching}

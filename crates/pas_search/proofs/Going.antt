@@ -5,7 +5,7 @@ use Rattle.pas_profile.specs.Directories.{deed_word_of}
 use Rattle.pas_profile.specs.declared.directory.Directory.{Directory}
 use Rattle.pas_profile.specs.declared.profile.Profile.{Profile}
 use Rattle.pas_steps.specs.declared.step.Made.{Made}
-use Rattle.pas_steps.specs.Views.{View, holds, has_right, known_deed, knows_backed}
+use Rattle.pas_steps.specs.Views.{View, holds, has_right, known_deed, knows_backed, KnowsDeed}
 use Rattle.pas_steps.specs.Agreement.{Agreed}
 use Rattle.pas_steps.specs.Past.{Once, Always}
 use Rattle.pas_steps.specs.Frames.{OnlyOn, OnlyReads}
@@ -13,8 +13,8 @@ use Rattle.pas_steps.proofs.Adding.{agreed_first, agreed_later}
 use Rattle.pas_steps.proofs.Past.{once_later, once_earlier}
 use Rattle.pas_steps.proofs.Kept.{right_on, right_reads, holds_on_page, holds_reads, check_on, check_reads, hint_on, hint_reads, deed_stays}
 use Rattle.pas_profile.proofs.Codecs.{deed_word_of-positive}
-use Rattle.pas_steps.specs.Rests.{OwesNothing, IsClear}
-use Rattle.pas_scan.specs.Evidence.{UnfitHere, ZeroHere, LacksAfter, Searched, IsOf}
+use Rattle.pas_steps.specs.Clear.{OwesNothing, IsClear}
+use Rattle.pas_steps.specs.Evidence.{UnfitHere, ZeroHere, LacksAfter, Searched}
 use Rattle.pas_scan.specs.Marks.{is_marked}
 use Rattle.pas_search.specs.Kinds.{OnlySearches, deeds_made}
 use Rattle.pas_search.specs.Serving.{Rule}
@@ -111,7 +111,7 @@ backed_of f page ys v on agreed here p h = elim (cases_eq p page) [
 ]
 
 module _ {F : Type 0} (rule : Rule F) (f : Profile) (d : Directory) (page : ℕ) (marks : List ℕ) (ys xs : List Made) (on : OnlyOn page ys) (searches : OnlySearches ys) (s : Searching rule f d page marks xs)
-    (deed : (v : View) → IsOf d page (xs ++ v)) (lacks : (v : View) → Agreed f v xs → has_right (xs ++ v) page ≡ false) where
+    (deed : (v : View) → KnowsDeed page d (xs ++ v)) (lacks : (v : View) → Agreed f v xs → has_right (xs ++ v) page ≡ false) where
   pub ready : (v : View) → MaySearch d v → Agreed f v xs → MayTry page d (xs ++ v)
   ready v met agreed = let clear = s.still.clear v met agreed in record { deed = deed v; lacks = lacks v agreed; stamped = clear.stamped page; owes = clear.owes page }
 
@@ -236,5 +236,5 @@ module _ {F : Type 0} (rule : Rule F) (f : Profile) (d : Directory) (page : ℕ)
   }
 
 -- a page whose deed is known stays known so
-pub deed_kept_known : (f : Profile) (d : Directory) (page : ℕ) (ys : List Made) (v : View) → Agreed f v ys → IsOf d page v → known_deed (ys ++ v) page ≡ deed_word_of d
+pub deed_kept_known : (f : Profile) (d : Directory) (page : ℕ) (ys : List Made) (v : View) → Agreed f v ys → KnowsDeed page d v → known_deed (ys ++ v) page ≡ deed_word_of d
 deed_kept_known f d page ys v agreed is = deed_stays f ys v page agreed (λ z. deed_word_of-positive d (sym is ∙ z)) ∙ is

@@ -19,7 +19,7 @@ use Rattle.pas_steps.proofs.Parts.{part_of_own}
 use Rattle.pas_core.specs.Good.{Place, Held, is_free, is_held_by, IsPlacedOnce}
 use Rattle.pas_core.proofs.DeedWords.{looked, deed_kept, deed_was_none}
 use Rattle.pas_core.proofs.Grains.{Fits, free_moved, free_step, step_fits, placed_once, is_held_by-true}
-use Rattle.pas_scan.specs.Evidence.{Readings, ReadsFree, ReadsDeed, ShowsHere, KeptHere, UnfitHere, DeedHere}
+use Rattle.pas_steps.specs.Evidence.{Readings, ReadsFree, ReadsDeed, ShowsHere, KeptHere, UnfitHere, DeedHere}
 use Rattle.pas_search.specs.Kinds.{IsSearch, OnlySearches, IsQuiet, AreQuiet}
 use Rattle.pas_search.specs.Serving.{IsAntitone}
 use Rattle.pas_search.specs.Telling.{free_of_page}
@@ -43,16 +43,9 @@ plain_if true m h = h
 plain_if false m h = tt
 
 search_plain : (s : Step) (a g : ℕ) → IsSearch s → IsPlain (grain_move s a g)
-search_plain s a g (IsSearch.Looks word) = tt
-search_plain s a g (IsSearch.Deeds p d) = tt
-search_plain s a g (IsSearch.Backs p) = tt
 search_plain s a g (IsSearch.Takes p w mask) = plain_if (in_mask p w mask g && has_bit a (g % 64)) Gets tt
 search_plain s a g (IsSearch.Puts p w mask) = plain_if (in_mask p w mask g) Puts tt
-search_plain s a g (IsSearch.Claims p d) = tt
-search_plain s a g (IsSearch.Offers p d) = tt
-search_plain s a g (IsSearch.Parks p) = tt
-search_plain s a g (IsSearch.Unparks p) = tt
-search_plain s a g (IsSearch.Hints p) = tt
+search_plain s a g step = tt
 
 abbrev bit_of : Whole → ℕ → Bool
 bit_of l g = has_bit (word_after l (free_word_at g)) (g % 64)

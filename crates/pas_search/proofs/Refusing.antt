@@ -6,11 +6,11 @@ use Rattle.pas_profile.specs.declared.profile.Profile.{Profile}
 use Rattle.pas_profile.specs.declared.event.NoRoom.{NoRoom}
 use Rattle.pas_profile.specs.declared.event.NoRoom.TheVariants.{NoSpace, Held}
 use Rattle.pas_steps.specs.declared.step.Made.{Made}
-use Rattle.pas_steps.specs.Views.{has_right}
+use Rattle.pas_steps.specs.Views.{has_right, KnowsDeed}
 use Rattle.pas_steps.specs.Past.{Once, Always, Since}
 use Rattle.pas_steps.specs.Frames.{OnlyReads, OnlyScans}
 use Rattle.pas_steps.proofs.Past.{once_later, once_earlier, once_map}
-use Rattle.pas_scan.specs.Evidence.{UnfitHere, ZeroHere, DeedHere, ParkedHere, ParkedLater, LeftHere, LacksAfter, MissingHere, HeldHere, Accounted, AllDeeds, IsOf}
+use Rattle.pas_steps.specs.Evidence.{UnfitHere, ZeroHere, DeedHere, ParkedHere, ParkedLater, LeftHere, LacksAfter, MissingHere, HeldHere, Accounted, AllDeeds}
 use Rattle.pas_scan.specs.Marks.{is_marked}
 use Rattle.pas_scan.specs.Scan.{IsMember, AllParked, IsVerdict}
 use Rattle.pas_search.specs.Serving.{Rule}
@@ -58,7 +58,7 @@ module _ {F : Type 0} (rule : Rule F) (f : Profile) (d : Directory) (marks : Lis
   all_accounted : (end : ℕ) → end ≤ f.pages + 1 → AllParked f marks d end ys → AllAccounted f d end (ys ++ xs)
   all_accounted end limit all v agreed p low high is = account p low (omega (arith, limit, high)) (elim (cases_Bool (is_marked marks p)) [
     | inl m ↦ inl m
-    | inr m ↦ inr (all (xs ++ v) p high (record { of_region = (low, omega (arith, limit, high)); of_directory = subst (IsOf d p) (append_assoc ys xs v) is; unmarked = m }))
+    | inr m ↦ inr (all (xs ++ v) p high (record { of_region = (low, omega (arith, limit, high)); of_directory = subst (KnowsDeed p d) (append_assoc ys xs v) is; unmarked = m }))
   ])
 
   zero_of : (p : ℕ) → 1 ≤ p → p < f.pages + 1 → is_marked marks p ≡ false → Once (ZeroHere d p) xs
@@ -72,7 +72,7 @@ module _ {F : Type 0} (rule : Rule F) (f : Profile) (d : Directory) (marks : Lis
   refusal (Held page) h =
       let m : IsMember f marks d (ys ++ []) page = h.0 [] in let is = m.of_region in record {
         page_of = is;
-        of_directory = λ v agreed. subst (IsOf d page) (sym (append_assoc ys xs v)) (h.0 (xs ++ v)).of_directory;
+        of_directory = λ v agreed. subst (KnowsDeed page d) (sym (append_assoc ys xs v)) (h.0 (xs ++ v)).of_directory;
         held = held_here d page ys xs (scans_read ys scans) (s.untouched page).right (zero_of page is.0 (omega (arith, is.1)) m.unmarked) (s.lacked page m.unmarked) h.1;
         lacked = lacks_reads page ys xs (scans_read ys scans) (s.untouched page).right (s.lacked page m.unmarked);
         lower = all_accounted page (omega (arith, is.1)) h.2;

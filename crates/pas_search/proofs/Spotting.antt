@@ -25,7 +25,7 @@ use Rattle.pas_core.proofs.DeedWords.{known_is, deed_kept, numbered}
 use Rattle.pas_core.proofs.Spots.{Spot, Nowhere, With, Offered, InParked, is_with, is_offered, is_parked, Way, Rests, ByDeed, FromOffer, FromParked, ToOffer, ToParked, way, spot_after, spot_of, Suits, DeedFits, IsSpotted, step_suits, spotted}
 use Rattle.pas_core.proofs.Rights.{one_has_right, offered_has_deed, offered_spot, own_eligible, is_on_offer}
 use Rattle.pas_core.proofs.Nexts.{agrees_next}
-use Rattle.pas_scan.specs.Evidence.{ReadsEligible, ReadsParked, ZeroHere, ParkedHere, LacksAfter, KeptHere}
+use Rattle.pas_steps.specs.Evidence.{ReadsEligible, ReadsParked, ZeroHere, ParkedHere, LacksAfter, KeptHere}
 use Rattle.pas_search.specs.Telling.{IsInHands}
 use Rattle.pas_search.specs.Searches.{MaySearch, OfferedHere}
 use Rattle.pas_search.proofs.StepKinds.{right_own}
@@ -45,31 +45,19 @@ moved_if true had w = refl
 moved_if false had w = refl
 
 right_way : (s : Step) (a p : ℕ) (had : Bool) → right_after s a p had ≡ had_after (way s a p) had
-right_way (Look w) a p had = refl
 right_way (Deed q d) a p had = moved_if ((q == p) && (a == 0)) had ByDeed
-right_way (Back q) a p had = refl
-right_way (Take q w mask) a p had = refl
-right_way (Put q w mask) a p had = refl
-right_way (Give b) a p had = refl
-right_way (End n g) a p had = refl
 right_way (TakeRight q d) a p had = moved_if ((q == p) && has_bit a (p % 64)) had (FromOffer (number_of d))
 right_way (Offer q d) a p had = moved_if (q == p) had (ToOffer (number_of d))
 right_way (Park q) a p had = moved_if (q == p) had ToParked
 right_way (Unpark q) a p had = moved_if ((q == p) && has_bit a (p % 64)) had FromParked
-right_way (Stamp q) a p had = refl
-right_way (Hint q) a p had = refl
-right_way (Tick raised) a p had = refl
-right_way (Unback q) a p had = refl
-right_way (Unhint q) a p had = refl
+right_way s a p had = refl
 
 -- a right that the call's own steps tell is one of the view
 more_right : (w : Way) (own had : Bool) → (own ≡ true → had ≡ true) → had_after w own ≡ true → had_after w had ≡ true
 more_right Rests own had more h = more h
-more_right ByDeed own had more h = refl
-more_right (FromOffer n) own had more h = refl
-more_right FromParked own had more h = refl
 more_right (ToOffer n) own had more h = h
 more_right ToParked own had more h = h
+more_right s own had more h = refl
 
 pub right_of_own : (p : ℕ) (xs : List Made) (v : View) → has_right xs p ≡ true → has_right (xs ++ v) p ≡ true
 right_of_own p [] v h = absurd (false≢true h)
@@ -79,11 +67,9 @@ right_of_own p (m ∷ xs) v h = right_way m.step m.answer p (has_right (xs ++ v)
 -- ---- a page whose right the call never had stays where it was
 stays_put : (k : ℕ) (w : Way) (o : Spot) → had_after w false ≡ false → Suits k w o → (o ≡ With k → ⊥) → spot_after k w o ≡ o
 stays_put k Rests o lacks suits not_with = refl
-stays_put k ByDeed o lacks suits not_with = absurd (true≢false lacks)
-stays_put k (FromOffer n) o lacks suits not_with = absurd (true≢false lacks)
-stays_put k FromParked o lacks suits not_with = absurd (true≢false lacks)
 stays_put k (ToOffer n) o lacks suits not_with = absurd (not_with suits)
 stays_put k ToParked o lacks suits not_with = absurd (not_with suits)
+stays_put k s o lacks suits not_with = absurd (true≢false lacks)
 
 pub is_with_own : (k : ℕ) → is_with k (With k) ≡ true
 is_with_own k = eq-eqb k k refl
@@ -152,13 +138,7 @@ never true h = false≢true h
 never false h = false≢true h
 
 gains_known : (f : Profile) (v : View) (s : Step) (a p : ℕ) → Allowed f v s → right_after s a p false ≡ true → deed_after s a p (known_deed v p) ≢ 0
-gains_known f v (Look w) a p allowed h = absurd (false≢true h)
 gains_known f v (Deed q d) a p allowed h = let parts = and_parts (q == p) (a == 0) (got_if ((q == p) && (a == 0)) h) in deed_here (q == p) (a == 0) d a (known_deed v p) parts.0 parts.1
-gains_known f v (Back q) a p allowed h = absurd (false≢true h)
-gains_known f v (Take q w mask) a p allowed h = absurd (false≢true h)
-gains_known f v (Put q w mask) a p allowed h = absurd (false≢true h)
-gains_known f v (Give b) a p allowed h = absurd (false≢true h)
-gains_known f v (End n g) a p allowed h = absurd (false≢true h)
 gains_known f v (TakeRight q d) a p allowed h =
     let parts = and_parts (q == p) (has_bit a (p % 64)) (got_if ((q == p) && has_bit a (p % 64)) h) in
     λ z. deed_word_of-positive d (sym allowed ∙ ap (known_deed v) (eqb-true q p parts.0) ∙ z)
@@ -167,12 +147,7 @@ gains_known f v (Park q) a p allowed h = absurd (never (q == p) h)
 gains_known f v (Unpark q) a p allowed h =
     let parts = and_parts (q == p) (has_bit a (p % 64)) (got_if ((q == p) && has_bit a (p % 64)) h) in
     λ z. allowed (ap (known_deed v) (eqb-true q p parts.0) ∙ z)
-gains_known f v (Stamp q) a p allowed h = absurd (false≢true h)
-gains_known f v (Hint q) a p allowed h = absurd (false≢true h)
-gains_known f v (Tick raised) a p allowed h = absurd (false≢true h)
-gains_known f v (Unback q) a p allowed h = absurd (false≢true h)
-gains_known f v (Unhint q) a p allowed h = absurd (false≢true h)
-
+gains_known f v s a p allowed h = absurd (false≢true h)
 own_known : (f : Profile) (v : View) (m : Made) (p : ℕ) → Allowed f v m.step → Agrees f v m.step m.answer → (has_right v p ≡ true → known_deed v p ≢ 0) → (had : Bool) → has_right v p ≡ had → right_after m.step m.answer p had ≡ true → known_deed (m ∷ v) p ≢ 0
 own_known f v m p allowed agrees known true e h = λ z. known e (sym (deed_stays f (m ∷ []) v p (agrees, tt) (known e)) ∙ z)
 own_known f v m p allowed agrees known false e h = gains_known f v m.step m.answer p allowed h

@@ -144,22 +144,8 @@ no_deed_event true e h = absurd (none_some e h)
 no_deed_event false e h = refl
 
 pub quiet_deed : (s : Step) (a : ℕ) → IsQuiet record { step = s; answer = a } → makes_deed s a ≡ false
-quiet_deed (Look word) a h = refl
 quiet_deed (Deed q d) a h = no_deed_event (a == 0) (Event.Deed 0 q d) (h 0 0)
-quiet_deed (Back q) a h = refl
-quiet_deed (Take q w mask) a h = refl
-quiet_deed (Put q w mask) a h = refl
-quiet_deed (Give block) a h = refl
-quiet_deed (End name guess) a h = refl
-quiet_deed (TakeRight q d) a h = refl
-quiet_deed (Offer q d) a h = refl
-quiet_deed (Park q) a h = refl
-quiet_deed (Unpark q) a h = refl
-quiet_deed (Stamp q) a h = refl
-quiet_deed (Hint q) a h = refl
-quiet_deed (Tick raised) a h = refl
-quiet_deed (Unback q) a h = refl
-quiet_deed (Unhint q) a h = refl
+quiet_deed s a h = refl
 
 abbrev pub MakesNone : List Made → Type 0
 MakesNone = Always (λ m before. makes_deed m.step m.answer ≡ false)
@@ -176,30 +162,16 @@ no_deeds [] h = refl
 no_deeds (m ∷ more) h = ap (λ t. if t then suc (deeds_made more) else deeds_made more) (quiet_deed m.step m.answer h.0) ∙ no_deeds more h.1
 
 serve_deed : (p : ℕ) (s : Step) (a : ℕ) → IsServe p s → makes_deed s a ≡ false
-serve_deed p s a (IsServe.Looks word) = refl
-serve_deed p s a IsServe.Backs = refl
-serve_deed p s a (IsServe.Takes w mask) = refl
-serve_deed p s a (IsServe.Puts w mask) = refl
-serve_deed p s a (IsServe.Offers d) = refl
-serve_deed p s a IsServe.Parks = refl
-serve_deed p s a IsServe.Unparks = refl
 serve_deed p s a IsServe.Hints = refl
+serve_deed p s a step = refl
 
 pub deeds_serves : (p : ℕ) (ys xs : List Made) → OnlyServes p ys → deeds_made (ys ++ xs) ≡ deeds_made xs
 deeds_serves p ys xs h = deeds_none ys xs (always_map (λ m before. IsServe p m.step) (λ m before. makes_deed m.step m.answer ≡ false) ys (λ m before is. serve_deed p m.step m.answer is) h)
 
 -- ---- a page that isn't unstamped stays so
 search_unstamped : (s : Step) (a q : ℕ) (was : Bool) → IsSearch s → unstamped_after s a q was ≡ was
-search_unstamped s a q was (IsSearch.Looks word) = refl
-search_unstamped s a q was (IsSearch.Deeds p d) = refl
-search_unstamped s a q was (IsSearch.Backs p) = refl
-search_unstamped s a q was (IsSearch.Takes p w mask) = refl
-search_unstamped s a q was (IsSearch.Puts p w mask) = refl
-search_unstamped s a q was (IsSearch.Claims p d) = refl
-search_unstamped s a q was (IsSearch.Offers p d) = refl
-search_unstamped s a q was (IsSearch.Parks p) = refl
-search_unstamped s a q was (IsSearch.Unparks p) = refl
 search_unstamped s a q was (IsSearch.Hints p) = refl
+search_unstamped s a q was step = refl
 
 pub unstamped_searches : (q : ℕ) (steps : List Made) (v : View) → OnlySearches steps → is_unstamped (steps ++ v) q ≡ is_unstamped v q
 unstamped_searches q [] v h = refl

@@ -10,7 +10,7 @@ use Rattle.pas_profile.specs.declared.event.NoRoom.TheVariants.{NoSpace, Held}
 use Rattle.pas_profile.specs.declared.word.Word.TheVariants as Word
 use Rattle.pas_profile.proofs.Codecs.{deed_word_of-positive}
 use Rattle.pas_steps.specs.Effects.{target}
-use Rattle.pas_steps.specs.Views.{View, has_right, deed_after, known_deed}
+use Rattle.pas_steps.specs.Views.{View, has_right, deed_after, known_deed, KnowsDeed}
 use Rattle.pas_steps.specs.Agreement.{Agreed}
 use Rattle.pas_steps.specs.Lists.{Whole, part, word_after, Legal}
 use Rattle.pas_steps.specs.Desks.{triples}
@@ -22,7 +22,7 @@ use Rattle.pas_steps.proofs.Kept.{deed_stays}
 use Rattle.pas_steps.proofs.Parts.{part_of_own}
 use Rattle.pas_core.proofs.DeedWords.{known_is}
 use Rattle.pas_core.proofs.Spots.{is_offered, is_parked, IsSpotted, spotted}
-use Rattle.pas_scan.specs.Evidence.{ReadsDeed, DeedHere, ParkedHere, ParkedLater, LeftHere, HeldHere, KeptHere, UnfitHere, Searched, Accounted, IsOf}
+use Rattle.pas_steps.specs.Evidence.{ReadsDeed, DeedHere, ParkedHere, ParkedLater, LeftHere, HeldHere, KeptHere, UnfitHere, Searched, Accounted}
 use Rattle.pas_search.specs.Kinds.{OnlySearches}
 use Rattle.pas_search.specs.Serving.{Rule, IsAntitone}
 use Rattle.pas_search.specs.Searches.{MaySearch, DeedMadeHere, IsHeld, IsServed, IsRefused}
@@ -127,7 +127,7 @@ module _ {F : Type 0} (rule : Rule F) (f : Profile) (k : ℕ) (l : Whole) (d : D
       let same : known_deed (part k w) p ≡ known_deed (xs ++ part k l) p = ap (λ v. known_deed v p) (part_of_own k xs l) in
       sym same ∙ known_is (known_deed (part k w) p) (word_after w (Word.Deed p)) (at.known k) (λ z. some (sym same ∙ z))
 
-  accounted_out : (room : NoRoom) → IsRefused rule f d xs room → (p : ℕ) → (IsOf d p (xs ++ part k l) → Accounted d p xs) → IsInHands f d w p → ⊥
+  accounted_out : (room : NoRoom) → IsRefused rule f d xs room → (p : ℕ) → (KnowsDeed p d (xs ++ part k l) → Accounted d p xs) → IsInHands f d w p → ⊥
   accounted_out room is p account hands =
       let low = hands.of_region.0 in let high = hands.of_region.1 in
       let none : has_right (part k l) p ≡ false = entry_lacks f k l d p xs valid first may hands.of_directory in

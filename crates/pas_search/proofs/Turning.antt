@@ -4,7 +4,7 @@ use Rattle.pas_profile.specs.Profiles.{IsPage}
 use Rattle.pas_profile.specs.declared.directory.Directory.{Directory}
 use Rattle.pas_profile.specs.declared.profile.Profile.{Profile}
 use Rattle.pas_steps.specs.declared.step.Made.{Made}
-use Rattle.pas_steps.specs.Views.{View, has_right}
+use Rattle.pas_steps.specs.Views.{View, has_right, KnowsDeed}
 use Rattle.pas_steps.specs.Events.{events_by}
 use Rattle.pas_steps.specs.Agreement.{Agreed}
 use Rattle.pas_steps.specs.Desks.{Seat, Standing, Adds}
@@ -12,13 +12,13 @@ use Rattle.pas_steps.specs.Past.{Once, Always}
 use Rattle.pas_steps.specs.Frames.{OnlyReads}
 use Rattle.pas_steps.proofs.Adding.{adds_call, adds_under, agreed_first, agreed_later}
 use Rattle.pas_steps.proofs.Frames.{events_append}
-use Rattle.pas_scan.specs.Evidence.{OneHere, LacksAfter, IsOf}
+use Rattle.pas_steps.specs.Evidence.{OneHere, LacksAfter}
 use Rattle.pas_scan.specs.Marks.{is_marked}
 use Rattle.pas_scan.specs.Scan.{FindsOffered}
 use Rattle.pas_scan.proofs.Reading.{right_scans}
 use Rattle.pas_search.specs.Kinds.{AreQuiet}
 use Rattle.pas_search.specs.Serving.{Rule}
-use Rattle.pas_steps.specs.Rests.{IsClear}
+use Rattle.pas_steps.specs.Clear.{IsClear}
 use Rattle.pas_search.specs.Searches.{MaySearch, OfferedHere, Searching, GoesOn, MayTry, IsTried, FitsPage, TriesPage, IsFound, TriesNext, SearchesOffered}
 use Rattle.pas_search.specs.declared.trying.Tried.{Tried}
 use Rattle.pas_search.specs.declared.trying.Tried.TheVariants.{Lost, Unfit, Fits}
@@ -67,8 +67,8 @@ module _ {F : Type 0} (rule : Rule F) {σ σ1 : Standing} (d : Directory) (next 
     owes = clear.owes page;
   }
 
-  deed_at : (before : List Made) (v : View) → IsOf d page ((looks ++ before) ++ v)
-  deed_at before v = subst (IsOf d page) (sym (append_assoc looks before v)) (find.outcome.1.deed (before ++ v))
+  deed_at : (before : List Made) (v : View) → KnowsDeed page d ((looks ++ before) ++ v)
+  deed_at before v = subst (KnowsDeed page d) (sym (append_assoc looks before v)) (find.outcome.1.deed (before ++ v))
 
   lacks_at : (before : List Made) (v : View) → Agreed f v (looks ++ before) → has_right ((looks ++ before) ++ v) page ≡ false
   lacks_at before v agreed = ap (λ s. has_right s page) (append_assoc looks before v) ∙ right_scans looks (before ++ v) page find.scans ∙ find.outcome.1.lacks (before ++ v) (agreed_first f v looks before agreed)

@@ -13,8 +13,8 @@ use Rattle.pas_steps.proofs.Adding.{agreed_first, agreed_later}
 use Rattle.pas_steps.proofs.Past.{once_later}
 use Rattle.pas_steps.proofs.Kept.{looks_read, right_reads, returns_still, holds_still, backed_returns, deed_stays}
 use Rattle.pas_rights.specs.Rights.{MayLeave, LosesHere, Leaves}
-use Rattle.pas_steps.specs.Rests.{OwesNothing}
-use Rattle.pas_scan.specs.Evidence.{Readings, ShowsHere, KeptHere, GetsHere, UnfitHere}
+use Rattle.pas_steps.specs.Clear.{OwesNothing}
+use Rattle.pas_steps.specs.Evidence.{Readings, ShowsHere, KeptHere, GetsHere, UnfitHere}
 use Rattle.pas_search.specs.Kinds.{AreQuiet}
 use Rattle.pas_search.specs.Serving.{Rule, MayServe, FreshAt, GotBefore, LeavesPage}
 use Rattle.pas_search.proofs.StepKinds.{quiet_append, quiet_still}

@@ -1,11 +1,12 @@
 -- What a search asks and promises.
+use Rattle.pas_steps.specs.Unknown.{KnowsAllDeeds, HasRoom}
 use Rattle.std.specs.Prelude.{ℕ, ◌+◌, ◌/◌, ◌%◌, ◌<◌, ◌≤◌, ◌≡◌, ◌≢◌, ◌==◌, Bool, true, false, ◌&&◌, ◌||◌, ◌⊎◌, if◌then◌else◌, List, ◌++◌, length, Result, MatchResult, Option, MatchOption}
 use Rattle.pas_profile.specs.Profiles.{IsPage}
 use Rattle.pas_profile.specs.declared.directory.Directory.{Directory}
 use Rattle.pas_profile.specs.declared.profile.Profile.{Profile}
 use Rattle.pas_profile.specs.declared.event.NoRoom.{NoRoom}
 use Rattle.pas_profile.specs.declared.event.NoRoom.TheVariants.{NoSpace, Held}
-use Rattle.pas_steps.specs.Views.{View, holds, has_right, known_deed, knows_backed, is_unstamped}
+use Rattle.pas_steps.specs.Views.{View, holds, has_right, known_deed, knows_backed, is_unstamped, KnowsDeed}
 use Rattle.pas_steps.specs.Events.{events_by}
 use Rattle.pas_steps.specs.Lists.{Whole}
 use Rattle.pas_steps.specs.Agreement.{Agreed}
@@ -14,10 +15,9 @@ use Rattle.pas_steps.specs.Past.{Once, Always}
 use Rattle.pas_steps.specs.Frames.{OnlyOn, OnlyReads}
 use Rattle.pas_steps.specs.declared.step.Made.{Made}
 use Rattle.pas_steps.specs.declared.step.Step.TheVariants.{Deed}
-use Rattle.pas_rights.specs.Rights.{KnowsDeed}
-use Rattle.pas_steps.specs.Rests.{OwesNothing, IsClear}
+use Rattle.pas_steps.specs.Clear.{OwesNothing, IsClear}
 use Rattle.pas_scan.specs.Marks.{is_marked}
-use Rattle.pas_scan.specs.Evidence.{Readings, ShowsHere, ZeroHere, OneHere, UnfitHere, Searched, AllDeeds, Accounted, HeldHere, LacksAfter, IsOf}
+use Rattle.pas_steps.specs.Evidence.{Readings, ShowsHere, ZeroHere, OneHere, UnfitHere, Searched, AllDeeds, Accounted, HeldHere, LacksAfter}
 use Rattle.pas_search.specs.Kinds.{OnlySearches, AreQuiet, EventsAt, deeds_made}
 use Rattle.pas_search.specs.Serving.{Rule, HoldsNone, FreshAt, ShowsFit}
 use Rattle.pas_search.specs.Telling.{IsTold}
@@ -30,16 +30,8 @@ use Rattle.pas_search.specs.declared.trying.Tried.TheVariants.{Lost, Unfit, Fits
 -- ---- what is asked
 -- besides, it has no right of a page of the directory
 pub record MaySearch (d : Directory) (v : View) : Type 0 where
-  pub rights : (p : ℕ) → IsOf d p v → has_right v p ≡ false
+  pub rights : (p : ℕ) → KnowsDeed p d v → has_right v p ≡ false
   pub clear : IsClear v
-
--- the deed of each page is known
-abbrev pub KnowsAllDeeds : Profile → View → Type 0
-KnowsAllDeeds f v = (p : ℕ) → IsPage f p → known_deed v p ≢ 0
-
--- room for n events, and for a deed besides where the deed of some page isn't known
-abbrev pub HasRoom : Profile → ℕ → ℕ → View → Type 0
-HasRoom f n spare v = (n ≤ spare) × (KnowsAllDeeds f v ⊎ (n + 1 ≤ spare))
 
 -- the condition of a search: it may search, and has the room
 pub record SearchRoom (f : Profile) (d : Directory) (n spare : ℕ) (v : View) : Type 0 where
@@ -66,7 +58,7 @@ pub record Keeps {F : Type 0} (rule : Rule F) (f : Profile) (d : Directory) (pag
   pub grains : (v : View) → MaySearch d v → Agreed f v steps → (g : ℕ) → holds (steps ++ v) g ≡ (((page == g / 256) && rule.kept found (g % 256)) || holds v g)
   pub clear : (v : View) → MaySearch d v → Agreed f v steps → IsClear (steps ++ v)
   pub backed : (v : View) → MaySearch d v → Agreed f v steps → (p : ℕ) → knows_backed v p ≡ true → knows_backed (steps ++ v) p ≡ true
-  pub known : (v : View) → MaySearch d v → Agreed f v steps → (knows_backed (steps ++ v) page ≡ true) × IsOf d page (steps ++ v)
+  pub known : (v : View) → MaySearch d v → Agreed f v steps → (knows_backed (steps ++ v) page ≡ true) × KnowsDeed page d (steps ++ v)
 
 -- ---- how the page was chosen
 -- its eligible bit was read as 1, and the call never had its right before
@@ -117,12 +109,12 @@ pub record IsServed {F : Type 0} (rule : Rule F) (f : Profile) (d : Directory) (
 -- ---- refusals
 -- each page of the directory from 1 to below this one is accounted for
 abbrev pub AllAccounted : Profile → Directory → ℕ → List Made → Type 0
-AllAccounted f d end steps = (v : View) → Agreed f v steps → (p : ℕ) → 1 ≤ p → p < end → IsOf d p (steps ++ v) → Accounted d p steps
+AllAccounted f d end steps = (v : View) → Agreed f v steps → (p : ℕ) → 1 ≤ p → p < end → KnowsDeed p d (steps ++ v) → Accounted d p steps
 
 -- a page of the directory was in some actor's hands, and its right never in this call's
 pub record IsHeld (f : Profile) (d : Directory) (steps : List Made) (page : ℕ) : Type 0 where
   pub page_of : IsPage f page
-  pub of_directory : (v : View) → Agreed f v steps → IsOf d page (steps ++ v)
+  pub of_directory : (v : View) → Agreed f v steps → KnowsDeed page d (steps ++ v)
   pub held : Once (HeldHere d page) steps
   pub lacked : Always (LacksAfter page) steps
   pub lower : AllAccounted f d page steps

@@ -2,15 +2,14 @@
 use Rattle.std.specs.Prelude.{ℕ, ◌/◌, ◌%◌, ◌<◌, ◌≤◌, ◌≡◌, ◌⊎◌, Bool, true, false, ◌||◌, List, [], ◌∷◌, ◌++◌, length, Option, MatchOption}
 use Rattle.pas_profile.specs.declared.directory.Directory.{Directory}
 use Rattle.pas_profile.specs.declared.profile.Profile.{Profile}
-use Rattle.pas_steps.specs.Views.{View, holds, has_right, known_free, knows_backed, is_unstamped}
+use Rattle.pas_steps.specs.Views.{View, holds, has_right, known_free, knows_backed, is_unstamped, KnowsDeed}
 use Rattle.pas_steps.specs.Events.{events_by}
 use Rattle.pas_steps.specs.Agreement.{Agreed}
 use Rattle.pas_steps.specs.Desks.{Standing, Adds}
 use Rattle.pas_steps.specs.Past.{Once}
 use Rattle.pas_steps.specs.declared.step.Made.{Made}
-use Rattle.pas_rights.specs.Rights.{KnowsDeed}
-use Rattle.pas_steps.specs.Rests.{OwesNothing}
-use Rattle.pas_scan.specs.Evidence.{Readings, ShowsHere, GetsHere, UnfitHere}
+use Rattle.pas_steps.specs.Clear.{OwesNothing}
+use Rattle.pas_steps.specs.Evidence.{Readings, ShowsHere, GetsHere, UnfitHere}
 use Rattle.pas_search.specs.Kinds.{OnlyServes, AreQuiet}
 
 -- ---- what a back end means by its answers

@@ -11,7 +11,7 @@ use Rattle.pas_profile.specs.declared.word.Word.TheVariants as Word
 use Rattle.pas_steps.specs.Effects.{free_word_at}
 use Rattle.pas_steps.specs.Lists.{Whole, word_after}
 use Rattle.pas_core.specs.Rights.{eligible_bit, parked_bit}
-use Rattle.pas_scan.specs.Evidence.{Readings}
+use Rattle.pas_steps.specs.Evidence.{Readings}
 use Rattle.pas_search.specs.Serving.{Rule}
 use Rattle.pas_search.specs.declared.serving.Served.{Served}
 

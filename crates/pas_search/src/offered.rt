@@ -3,7 +3,7 @@ ghost use Rattle.std.specs.Prelude.{ℕ, ◌≡◌, ◌≤◌, false};
 ghost use Rattle.pas_profile.specs.Profiles.{IsDirectoryOf};
 ghost use Rattle.pas_steps.specs.Desks.{CanCall};
 ghost use Rattle.pas_scan.specs.Marks.{is_marked};
-ghost use Rattle.pas_steps.specs.Rests.{IsClear};
+ghost use Rattle.pas_steps.specs.Clear.{IsClear};
 ghost use Rattle.pas_search.specs.Searches.{MaySearch, TriesNext, SearchesOffered};
 
 use crate::serving::{Served, Serving};

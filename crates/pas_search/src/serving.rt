@@ -7,7 +7,7 @@ pub trait Serving {
     ghost use Rattle.std.specs.Prelude.{ℕ, ◌≡◌, ◌≤◌, ◌<◌, true, None, Some, MatchOption, Bool};
     ghost use Rattle.pas_profile.specs.Profiles.{IsPage, IsDirectoryOf};
     ghost use Rattle.pas_steps.specs.Desks.{CanCall};
-    ghost use Rattle.pas_scan.specs.Evidence.{Readings};
+    ghost use Rattle.pas_steps.specs.Evidence.{Readings};
     ghost use Rattle.pas_search.specs.Serving.{Rule, MayServe, ServesPage, IsAntitone};
 
     /// What it takes of a page.

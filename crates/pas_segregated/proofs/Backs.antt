@@ -5,7 +5,7 @@ use Rattle.pas_profile.specs.declared.directory.Directory.{Directory}
 use Rattle.pas_profile.specs.declared.profile.Profile.{Profile}
 use Rattle.pas_bits.specs.declared.mask.Mask4.{Mask4}
 use Rattle.pas_steps.specs.Effects.{in_mask}
-use Rattle.pas_steps.specs.Views.{View, holds, any_below, holds_on, has_right, deed_after, known_deed, knows_backed}
+use Rattle.pas_steps.specs.Views.{View, holds, any_below, holds_on, has_right, deed_after, known_deed, knows_backed, KnowsDeed}
 use Rattle.pas_steps.specs.Agreement.{Agreed}
 use Rattle.pas_steps.specs.Frames.{IsOnPage, IsGrains, GivesUp, OnlyGrains, OnlyOn, KeepsRight}
 use Rattle.pas_steps.specs.Desks.{Standing, made}
@@ -15,8 +15,8 @@ use Rattle.pas_steps.specs.declared.step.Step.TheVariants.{Put, Offer, Unpark}
 use Rattle.pas_steps.proofs.Adding.{adds_none, adds_call, adds_under, agreed_first, agreed_later}
 use Rattle.pas_steps.proofs.Past.{always_both, always_map}
 use Rattle.pas_steps.proofs.Kept.{right_on, grains_on, returns_on, right_grains, returns_still, holds_still, holds_on_still, backed_returns}
-use Rattle.pas_rights.specs.Rights.{KnowsDeed, looks, HintsWhere, ReofferSteps, ReturnSteps, Returned}
-use Rattle.pas_steps.specs.Rests.{OwesNothing}
+use Rattle.pas_rights.specs.Rights.{looks, HintsWhere, ReofferSteps, ReturnSteps, Returned}
+use Rattle.pas_steps.specs.Clear.{OwesNothing}
 use Rattle.pas_search.specs.Kinds.{IsQuiet, AreQuiet}
 use Rattle.pas_search.proofs.StepKinds.{grains_serve, returns_serve, serves_append, quiet_append, quiet_still}
 use Rattle.pas_segregated.specs.Masks.{IsEmpty, IsSome}

@@ -16,8 +16,8 @@ use Rattle.pas_steps.specs.declared.step.Made.{Made}
 use Rattle.pas_steps.proofs.Adding.{adds_call, adds_under, agreed_first, agreed_later}
 use Rattle.pas_steps.proofs.Past.{since_later}
 use Rattle.pas_steps.proofs.Kept.{right_grains, grains_on, unstamped_on}
-use Rattle.pas_steps.specs.Rests.{OwesNothing}
-use Rattle.pas_scan.specs.Evidence.{ShowsHere, KeptHere}
+use Rattle.pas_steps.specs.Clear.{OwesNothing}
+use Rattle.pas_steps.specs.Evidence.{ShowsHere, KeptHere}
 use Rattle.pas_search.specs.Serving.{MayServe, FreshAt}
 use Rattle.pas_search.proofs.StepKinds.{grains_serve, serves_append, quiet_append}
 use Rattle.pas_segregated.specs.Masks.{start_of, IsSome}

@@ -10,7 +10,7 @@ use Rattle.pas_steps.specs.declared.step.Made.{Made}
 use Rattle.pas_steps.specs.declared.step.Step.{Step}
 use Rattle.pas_steps.proofs.Past.{always_both, always_map}
 use Rattle.pas_rights.proofs.Orders.{return_returns}
-use Rattle.pas_scan.specs.Evidence.{GetsRight}
+use Rattle.pas_steps.specs.Evidence.{GetsRight}
 use Rattle.pas_search.specs.Serving.{IsJustGot}
 use Rattle.pas_segregated.specs.Returns.{PutSteps, PutsBelow, BackSteps}
 use Rattle.pas_segregated.specs.Takes.{takes, gets_right, is_take_of, takes_since}
@@ -34,13 +34,8 @@ aside_append : (page : ℕ) (ys xs : List Made) → AreAside page ys → AreAsid
 aside_append page ys xs a b = always_both (λ m before. IsAside page m) (λ m before. IsAside page m) ys xs (λ m before h. h) a b
 
 return_aside : (page : ℕ) (s : Step) (a : ℕ) → IsReturn page s → (gets_right page s a ≡ false) × (is_take_of page s ≡ false)
-return_aside page s a (IsReturn.LooksFree word) = (refl, refl)
-return_aside page s a IsReturn.LooksBacked = (refl, refl)
-return_aside page s a (IsReturn.Offers d) = (refl, refl)
-return_aside page s a IsReturn.Parks = (refl, refl)
-return_aside page s a IsReturn.Unparks = (refl, refl)
 return_aside page s a IsReturn.Hints = (refl, refl)
-
+return_aside page s a step = (refl, refl)
 returns_aside : (page : ℕ) (ys : List Made) → OnlyReturns page ys → AreAside page ys
 returns_aside page ys h = always_map (λ m before. IsReturn page m.step) (λ m before. IsAside page m) ys (λ m before is. return_aside page m.step m.answer is) h
 

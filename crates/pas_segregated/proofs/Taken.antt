@@ -15,8 +15,8 @@ use Rattle.pas_steps.specs.declared.step.Made.{Made}
 use Rattle.pas_steps.specs.declared.step.Step.TheVariants.{Take}
 use Rattle.pas_steps.proofs.Frames.{rights_stay}
 use Rattle.pas_steps.proofs.Kept.{right_grains}
-use Rattle.pas_steps.specs.Rests.{OwesNothing}
-use Rattle.pas_scan.specs.Evidence.{Readings, ReadsFree, ShowsHere, KeptHere}
+use Rattle.pas_steps.specs.Clear.{OwesNothing}
+use Rattle.pas_steps.specs.Evidence.{Readings, ReadsFree, ShowsHere, KeptHere}
 use Rattle.pas_search.specs.Serving.{HoldsNone}
 use Rattle.pas_search.proofs.Backed.{held_where_backed}
 use Rattle.pas_segregated.specs.Returns.{on_page}

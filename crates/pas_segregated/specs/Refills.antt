@@ -5,12 +5,11 @@ use Rattle.pas_profile.specs.declared.directory.Directory.{Directory}
 use Rattle.pas_profile.specs.declared.profile.Profile.{Profile}
 use Rattle.pas_profile.specs.declared.event.NoRoom.{NoRoom}
 use Rattle.pas_bits.specs.declared.mask.Mask4.{Mask4}
-use Rattle.pas_steps.specs.Views.{View, holds, has_right, knows_backed}
+use Rattle.pas_steps.specs.Views.{View, holds, has_right, knows_backed, KnowsDeed}
 use Rattle.pas_steps.specs.Agreement.{Agreed}
 use Rattle.pas_steps.specs.Desks.{Standing}
 use Rattle.pas_steps.specs.declared.step.Made.{Made}
-use Rattle.pas_steps.specs.Rests.{IsClear}
-use Rattle.pas_scan.specs.Evidence.{IsOf}
+use Rattle.pas_steps.specs.Clear.{IsClear}
 use Rattle.pas_search.specs.Kinds.{EventsAt}
 use Rattle.pas_search.specs.Searches.{MaySearch, FromOffered, ByDeed, FewEvents, Searches}
 use Rattle.pas_search.specs.declared.serving.Served.{Served}
@@ -42,7 +41,7 @@ pub record GivesSlots (f : Profile) (d : Directory) (steps : List Made) (slots :
   pub apart : (v : View) → MaySearch d v → Agreed f v steps → (g : ℕ) → in_slots slots g ≡ true → holds v g ≡ false
   pub rights : (v : View) → MaySearch d v → Agreed f v steps → (p : ℕ) → has_right (steps ++ v) p ≡ (if slots.page == p then true else has_right v p)
   pub clear : (v : View) → MaySearch d v → Agreed f v steps → IsClear (steps ++ v)
-  pub known : (v : View) → MaySearch d v → Agreed f v steps → (knows_backed (steps ++ v) slots.page ≡ true) × IsOf d slots.page (steps ++ v)
+  pub known : (v : View) → MaySearch d v → Agreed f v steps → (knows_backed (steps ++ v) slots.page ≡ true) × KnowsDeed slots.page d (steps ++ v)
   pub backed : (v : View) → MaySearch d v → Agreed f v steps → (p : ℕ) → knows_backed v p ≡ true → knows_backed (steps ++ v) p ≡ true
   pub may_stop : (v : View) → MaySearch d v → Agreed f v steps → MayStop slots (steps ++ v)
   pub choice : FromOffered (exclusive slots.class) d slots.page steps ⊎ ByDeed (exclusive slots.class) f d slots.page steps

@@ -4,14 +4,14 @@ use Rattle.pas_profile.specs.declared.directory.Directory.{Directory}
 use Rattle.pas_bits.specs.declared.mask.Mask4.{Mask4}
 use Rattle.pas_bits.specs.Masks.{is_set}
 use Rattle.pas_steps.specs.Effects.{in_mask}
-use Rattle.pas_steps.specs.Views.{View, holds, holds_on, has_right, knows_backed, is_unstamped}
+use Rattle.pas_steps.specs.Views.{View, holds, holds_on, has_right, knows_backed, is_unstamped, KnowsDeed}
 use Rattle.pas_steps.specs.Agreement.{Agreed}
 use Rattle.pas_steps.specs.Frames.{KeepsRight}
 use Rattle.pas_steps.specs.Desks.{Standing, Adds, made}
 use Rattle.pas_steps.specs.declared.step.Made.{Made}
 use Rattle.pas_steps.specs.declared.step.Step.TheVariants.{Put}
-use Rattle.pas_rights.specs.Rights.{KnowsDeed, ReturnSteps}
-use Rattle.pas_steps.specs.Rests.{OwesNothing}
+use Rattle.pas_rights.specs.Rights.{ReturnSteps}
+use Rattle.pas_steps.specs.Clear.{OwesNothing}
 use Rattle.pas_search.specs.Kinds.{OnlyServes, AreQuiet}
 use Rattle.pas_segregated.specs.Masks.{IsEmpty, IsSome}
 

@@ -4,13 +4,13 @@ use Rattle.pas_profile.specs.declared.directory.Directory.{Directory}
 use Rattle.pas_profile.specs.declared.directory.Kind.TheVariants as Kind
 use Rattle.pas_bits.specs.declared.mask.Mask4.{Mask4}
 use Rattle.pas_bits.specs.Masks.{is_set}
-use Rattle.pas_steps.specs.Views.{View, holds, holds_on, has_right, known_deed, knows_backed}
+use Rattle.pas_steps.specs.Views.{View, holds, holds_on, has_right, known_deed, knows_backed, KnowsDeed}
 use Rattle.pas_steps.specs.Agreement.{Agreed}
 use Rattle.pas_steps.specs.Frames.{OnlyOn}
 use Rattle.pas_steps.specs.Desks.{Standing, Adds}
 use Rattle.pas_steps.specs.declared.step.Made.{Made}
-use Rattle.pas_rights.specs.Rights.{KnowsDeed, LeaveSteps}
-use Rattle.pas_steps.specs.Rests.{IsClear}
+use Rattle.pas_rights.specs.Rights.{LeaveSteps}
+use Rattle.pas_steps.specs.Clear.{IsClear}
 use Rattle.pas_search.specs.Kinds.{AreQuiet}
 use Rattle.pas_segregated.specs.Masks.{start_of}
 use Rattle.pas_segregated.specs.Returns.{BackSteps}

@@ -13,8 +13,8 @@ use Rattle.pas_steps.specs.Desks.{Standing, Adds, made}
 use Rattle.pas_steps.specs.declared.step.Made.{Made}
 use Rattle.pas_steps.specs.declared.step.Step.{Step}
 use Rattle.pas_steps.specs.declared.step.Step.TheVariants.{Look, Deed, Back, Take, Put, Give, End, TakeRight, Offer, Park, Unpark, Stamp, Hint, Tick, Unback, Unhint}
-use Rattle.pas_steps.specs.Rests.{OwesNothing}
-use Rattle.pas_scan.specs.Evidence.{Readings, ShowsHere, KeptHere}
+use Rattle.pas_steps.specs.Clear.{OwesNothing}
+use Rattle.pas_steps.specs.Evidence.{Readings, ShowsHere, KeptHere}
 use Rattle.pas_search.specs.Kinds.{OnlyServes, AreQuiet}
 use Rattle.pas_search.specs.Serving.{Rule, MayServe, FreshAt, IsJustGot, GotBefore, IsAntitone}
 use Rattle.pas_segregated.specs.Masks.{start_of, IsSome}

@@ -49,33 +49,13 @@ or_true true known h = refl
 or_true false known h = h
 
 look_backed : (f : Profile) (v : View) (w : Word) (a q : ℕ) → Agrees f v (Look w) a → knows_backed v q ≡ true → backed_after_look w a q (knows_backed v q) ≡ true
-look_backed f v Word.Epoch a q agrees h = h
-look_backed f v (Word.Free p w) a q agrees h = h
-look_backed f v (Word.Life p g) a q agrees h = h
-look_backed f v (Word.Deed p) a q agrees h = h
 look_backed f v (Word.Backed p) a q agrees h = one_read a (p == q) (knows_backed v q) (λ e. agrees.known (subst (λ x. knows_backed v x ≡ true) (sym (eqb-true p q e)) h)) h
-look_backed f v (Word.Stamp p) a q agrees h = h
-look_backed f v (Word.Parked j) a q agrees h = h
-look_backed f v (Word.Empty j) a q agrees h = h
-look_backed f v (Word.Eligible d j) a q agrees h = h
-
+look_backed f v s a q agrees h = h
 still_backed : (f : Profile) (v : View) (s : Step) (a q : ℕ) → Agrees f v s a → unbacks s q ≡ false → knows_backed v q ≡ true → backed_after s a q (knows_backed v q) ≡ true
 still_backed f v (Look w) a q agrees keep h = look_backed f v w a q agrees h
-still_backed f v (Deed p d) a q agrees keep h = h
 still_backed f v (Back p) a q agrees keep h = or_true (p == q) (knows_backed v q) h
-still_backed f v (Take p w m) a q agrees keep h = h
-still_backed f v (Put p w m) a q agrees keep h = h
-still_backed f v (Give b) a q agrees keep h = h
-still_backed f v (End n g) a q agrees keep h = h
-still_backed f v (TakeRight p d) a q agrees keep h = h
-still_backed f v (Offer p d) a q agrees keep h = h
-still_backed f v (Park p) a q agrees keep h = h
-still_backed f v (Unpark p) a q agrees keep h = h
-still_backed f v (Stamp p) a q agrees keep h = h
-still_backed f v (Hint p) a q agrees keep h = h
-still_backed f v (Tick raised) a q agrees keep h = h
 still_backed f v (Unback p) a q agrees other h = ap (λ t. if t then false else knows_backed v q) other ∙ h
-still_backed f v (Unhint p) a q agrees keep h = h
+still_backed f v s a q agrees keep h = h
 
 -- ---- all steps
 still_held : (x : ℕ) (steps : List Made) (v : View) → Always (λ m before. grain_move m.step m.answer x ≡ Stays) steps → holds v x ≡ true → holds (steps ++ v) x ≡ true
@@ -83,7 +63,7 @@ still_held x [] v stays h = h
 still_held x (m ∷ more) v stays h = ap (λ t. held_after t (holds (more ++ v) x)) stays.0 ∙ still_held x more v stays.1 h
 
 -- grain b of the page is held, and no step moves it
-backed_with : (f : Profile) (q b : ℕ) (steps : List Made) (v : View) → b < 256 → Agreed f v steps → Always (λ m before. unbacks m.step q ≡ false) steps → Always (λ m before. grain_move m.step m.answer (q * 256 + b) ≡ Stays) steps → holds v (q * 256 + b) ≡ true → knows_backed v q ≡ true
+pub backed_with : (f : Profile) (q b : ℕ) (steps : List Made) (v : View) → b < 256 → Agreed f v steps → Always (λ m before. unbacks m.step q ≡ false) steps → Always (λ m before. grain_move m.step m.answer (q * 256 + b) ≡ Stays) steps → holds v (q * 256 + b) ≡ true → knows_backed v q ≡ true
     → knows_backed (steps ++ v) q ≡ true
 backed_with f q b [] v lt agreed keep stays held h = h
 backed_with f q b (m ∷ more) v lt agreed keep stays held h =

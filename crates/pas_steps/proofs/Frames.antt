@@ -27,21 +27,7 @@ same false x = refl
 
 look_word : (e : ℕ) (s : Step) (w : Word) (old : ℕ) → IsLook s → (if same_word (target s) w then new_value e s old else old) ≡ old
 look_word e (Look x) w old is = same (same_word x w) old
-look_word e (Deed p d) w old is = absurd is
-look_word e (Back p) w old is = absurd is
-look_word e (Take p j m) w old is = absurd is
-look_word e (Put p j m) w old is = absurd is
-look_word e (Give b) w old is = absurd is
-look_word e (End n g) w old is = absurd is
-look_word e (TakeRight p d) w old is = absurd is
-look_word e (Offer p d) w old is = absurd is
-look_word e (Park p) w old is = absurd is
-look_word e (Unpark p) w old is = absurd is
-look_word e (Stamp p) w old is = absurd is
-look_word e (Hint p) w old is = absurd is
-look_word e (Tick raised) w old is = absurd is
-look_word e (Unback p) w old is = absurd is
-look_word e (Unhint p) w old is = absurd is
+look_word e s w old is = absurd is
 
 -- looks leave every word
 pub looks_words : (k : ℕ) (xs : List Made) (l : Whole) (w : Word) → AreLooks xs → word_after (triples k xs ++ l) w ≡ word_after l w
@@ -77,22 +63,12 @@ with_le None es n h = h
 with_le (Some e) es n h = omega (arith, h)
 
 given_step : (k e : ℕ) (s : Step) (a n : ℕ) (es : List Event) → n ≤ length es → given_after s n ≤ length (with_event (event_of k e s a) es)
-given_step k e (Look w) a n es h = h
 given_step k e (Deed p d) a n es h = with_le (event_of k e (Deed p d) a) es n h
 given_step k e (Back p) a n es h = with_le (event_of k e (Back p) a) es n h
-given_step k e (Take p j m) a n es h = h
-given_step k e (Put p j m) a n es h = h
 given_step k e (Give b) a n es h = omega (arith, h)
 given_step k e (End name g) a n es h = with_le (event_of k e (End name g) a) es n h
-given_step k e (TakeRight p d) a n es h = h
-given_step k e (Offer p d) a n es h = h
-given_step k e (Park p) a n es h = h
-given_step k e (Unpark p) a n es h = h
-given_step k e (Stamp p) a n es h = h
-given_step k e (Hint p) a n es h = h
-given_step k e (Tick raised) a n es h = h
 given_step k e (Unback p) a n es h = omega (arith, h)
-given_step k e (Unhint p) a n es h = h
+given_step k e s a n es h = h
 
 -- each block that was given is an event
 pub given_le : (k : ℕ) (v : View) → given_count v ≤ length (events_of k v)
@@ -110,21 +86,11 @@ gone q p false had e ne h = h
 
 pub right_stays : (s : Step) (a p : ℕ) (had : Bool) → (GivesUp p s → ⊥) → had ≡ true → right_after s a p had ≡ true
 right_stays (Deed q d) a p had keeps h = or_stays ((q == p) && (a == 0)) had h
-right_stays (Look w) a p had keeps h = h
-right_stays (Back q) a p had keeps h = h
-right_stays (Take q j m) a p had keeps h = h
-right_stays (Put q j m) a p had keeps h = h
-right_stays (Give b) a p had keeps h = h
-right_stays (End n g) a p had keeps h = h
 right_stays (TakeRight q d) a p had keeps h = or_stays ((q == p) && has_bit a (p % 64)) had h
 right_stays (Offer q d) a p had keeps h = gone q p (q == p) had refl (λ e. keeps (subst (λ x. GivesUp p (Offer x d)) (sym e) (GivesUp.Offers d))) h
 right_stays (Park q) a p had keeps h = gone q p (q == p) had refl (λ e. keeps (subst (λ x. GivesUp p (Park x)) (sym e) GivesUp.Parks)) h
 right_stays (Unpark q) a p had keeps h = or_stays ((q == p) && has_bit a (p % 64)) had h
-right_stays (Stamp q) a p had keeps h = h
-right_stays (Hint q) a p had keeps h = h
-right_stays (Tick raised) a p had keeps h = h
-right_stays (Unback q) a p had keeps h = h
-right_stays (Unhint q) a p had keeps h = h
+right_stays s a p had keeps h = h
 
 pub rights_stay : (xs : List Made) (v : View) (p : ℕ) → KeepsRight p xs → has_right v p ≡ true → has_right (xs ++ v) p ≡ true
 rights_stay [] v p keeps h = h

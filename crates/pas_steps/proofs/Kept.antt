@@ -2,14 +2,14 @@
 use Rattle.std.proofs.Common.{◌≡◌, ◌≢◌, ℕ, ◌+◌, ◌*◌, ◌/◌, ◌%◌, ◌==◌, zero, suc, Bool, true, false, not, ◌&&◌, ◌||◌, if◌then◌else◌, List, [], ◌∷◌, ◌++◌, Option, None, Some, refl, ap, sym, ◌∙◌, subst, arith, bit_and, true≢false}
 use Rattle.std.proofs.lemmas.Bool.{ne_eqb, eqb-true, and_parts}
 use Rattle.pas_profile.specs.Classes.{has_bit}
-use Rattle.pas_profile.specs.Directories.{deed_word_of, deed_word_numbered}
+use Rattle.pas_profile.specs.Directories.{deed_word_of, deed_word_numbered, number_of}
 use Rattle.pas_profile.specs.declared.profile.Profile.{Profile}
 use Rattle.pas_profile.specs.declared.word.Word.{Word}
 use Rattle.pas_steps.specs.declared.step.Made.{Made}
 use Rattle.pas_steps.specs.declared.step.Step.{Step}
 use Rattle.pas_steps.specs.declared.step.Step.TheVariants.{Look, Deed, Back, Take, Put, Give, End, TakeRight, Offer, Park, Unpark, Stamp, Hint, Tick, Unback, Unhint}
 use Rattle.pas_steps.specs.Effects.{in_mask}
-use Rattle.pas_steps.specs.Views.{View, Move, Stays, Gets, Puts, grain_move, held_after, holds, any_below, holds_on, right_after, has_right, deed_after, deed_after_look, known_deed, life_after, looks_at_life, known_life, epoch_after, known_epoch, epoch_of, unstamped_after, is_unstamped, given_after, given_count, no_usable, check_after, owes_check, all_ones, hint_after, owes_hint, backed_after, knows_backed}
+use Rattle.pas_steps.specs.Views.{View, Move, Stays, Gets, Puts, grain_move, held_after, holds, any_below, holds_on, right_after, has_right, deed_after, deed_after_look, known_deed, life_after, looks_at_life, known_life, epoch_after, known_epoch, epoch_of, unstamped_after, is_unstamped, given_after, given_count, no_usable, check_after, owes_check, all_ones, hint_after, owes_hint, examined_after, examines, backed_after, knows_backed}
 use Rattle.pas_steps.specs.Events.{event_of, with_event, events_of}
 use Rattle.pas_steps.specs.Agreement.{Agrees, Agreed}
 use Rattle.pas_steps.specs.Past.{Always}
@@ -38,17 +38,12 @@ both x y h e = ap (λ t. t && y) h ∙ e
 
 -- ---- steps on one page alone: nothing of another page changes, but for what is known of it
 on_right : (p q : ℕ) (s : Step) (a : ℕ) (had : Bool) → IsOnPage p s → q ≢ p → right_after s a q had ≡ had
-on_right p q s a had (IsOnPage.Looks word) ne = refl
 on_right p q s a had (IsOnPage.Deeds d) ne = unless (p == q) (a == 0) true had (other p q ne)
-on_right p q s a had IsOnPage.Backs ne = refl
-on_right p q s a had (IsOnPage.Takes word mask) ne = refl
-on_right p q s a had (IsOnPage.Puts word mask) ne = refl
 on_right p q s a had (IsOnPage.Claims d) ne = unless (p == q) (has_bit a (q % 64)) true had (other p q ne)
 on_right p q s a had (IsOnPage.Offers d) ne = when_not (p == q) false had (other p q ne)
 on_right p q s a had IsOnPage.Parks ne = when_not (p == q) false had (other p q ne)
 on_right p q s a had IsOnPage.Unparks ne = unless (p == q) (has_bit a (q % 64)) true had (other p q ne)
-on_right p q s a had IsOnPage.Stamps ne = refl
-on_right p q s a had IsOnPage.Hints ne = refl
+on_right p q s a had step ne = refl
 
 pub right_on : (p q : ℕ) (steps : List Made) (v : View) → OnlyOn p steps → q ≢ p → has_right (steps ++ v) q ≡ has_right v q
 right_on p q [] v h ne = refl
@@ -58,17 +53,9 @@ outside : (w p mask g : ℕ) → (p == g / 256) ≡ false → in_mask p w mask g
 outside w p mask g h = ap (λ t. (w == g / 64 % 4) && t && has_bit mask (g % 64)) h ∙ ap (λ t. t && has_bit mask (g % 64)) (and_false (w == g / 64 % 4))
 
 on_grain : (p : ℕ) (s : Step) (a g : ℕ) → IsOnPage p s → g / 256 ≢ p → grain_move s a g ≡ Stays
-on_grain p s a g (IsOnPage.Looks word) ne = refl
-on_grain p s a g (IsOnPage.Deeds d) ne = refl
-on_grain p s a g IsOnPage.Backs ne = refl
 on_grain p s a g (IsOnPage.Takes word mask) ne = unless (in_mask p word mask g) (has_bit a (g % 64)) Gets Stays (outside word p mask g (other p (g / 256) ne))
 on_grain p s a g (IsOnPage.Puts word mask) ne = when_not (in_mask p word mask g) Puts Stays (outside word p mask g (other p (g / 256) ne))
-on_grain p s a g (IsOnPage.Claims d) ne = refl
-on_grain p s a g (IsOnPage.Offers d) ne = refl
-on_grain p s a g IsOnPage.Parks ne = refl
-on_grain p s a g IsOnPage.Unparks ne = refl
-on_grain p s a g IsOnPage.Stamps ne = refl
-on_grain p s a g IsOnPage.Hints ne = refl
+on_grain p s a g step ne = refl
 
 pub holds_on_page : (p g : ℕ) (steps : List Made) (v : View) → OnlyOn p steps → g / 256 ≢ p → holds (steps ++ v) g ≡ holds v g
 holds_on_page p g [] v h ne = refl
@@ -76,39 +63,19 @@ holds_on_page p g (m ∷ more) v h ne = ap (λ x. held_after x (holds (more ++ v
 
 -- looks end checks and hints, and add none
 look_check : (word : Word) (a q w deed : ℕ) (right owed : Bool) → owed ≡ false → check_after (Look word) a q w right deed owed ≡ false
-look_check Word.Epoch a q w deed right owed h = h
 look_check (Word.Free x u) a q w deed right owed h = ends_none ((u == w) && (x == q) && not (deed == 0) && no_usable deed w a) owed h
-look_check (Word.Life x g) a q w deed right owed h = h
-look_check (Word.Deed x) a q w deed right owed h = h
-look_check (Word.Backed x) a q w deed right owed h = h
-look_check (Word.Stamp x) a q w deed right owed h = h
-look_check (Word.Parked j) a q w deed right owed h = h
-look_check (Word.Empty j) a q w deed right owed h = h
-look_check (Word.Eligible d j) a q w deed right owed h = h
-
+look_check s a q w deed right owed h = h
 look_hint : (word : Word) (a q : ℕ) (owed : Bool) → owed ≡ false → hint_after (Look word) a q owed ≡ false
-look_hint Word.Epoch a q owed h = h
 look_hint (Word.Free x u) a q owed h = ends_none ((x == q) && not (a == all_ones)) owed h
-look_hint (Word.Life x g) a q owed h = h
-look_hint (Word.Deed x) a q owed h = h
 look_hint (Word.Backed x) a q owed h = ends_none ((x == q) && (a == 0)) owed h
-look_hint (Word.Stamp x) a q owed h = h
-look_hint (Word.Parked j) a q owed h = h
-look_hint (Word.Empty j) a q owed h = h
-look_hint (Word.Eligible d j) a q owed h = h
-
+look_hint s a q owed h = h
 on_check : (p q : ℕ) (s : Step) (a w deed : ℕ) (right owed : Bool) → IsOnPage p s → q ≢ p → owed ≡ false → check_after s a q w right deed owed ≡ false
 on_check p q s a w deed right owed (IsOnPage.Looks word) ne h = look_check word a q w deed right owed h
-on_check p q s a w deed right owed (IsOnPage.Deeds d) ne h = h
-on_check p q s a w deed right owed IsOnPage.Backs ne h = h
-on_check p q s a w deed right owed (IsOnPage.Takes word mask) ne h = h
 on_check p q s a w deed right owed (IsOnPage.Puts word mask) ne h = ap (λ t. if (word == w) && t && not right then true else owed) (other p q ne) ∙ ap (λ t. if t && not right then true else owed) (and_false (word == w)) ∙ h
-on_check p q s a w deed right owed (IsOnPage.Claims d) ne h = h
 on_check p q s a w deed right owed (IsOnPage.Offers d) ne h = ends_none (p == q) owed h
 on_check p q s a w deed right owed IsOnPage.Parks ne h = when_not (p == q) true owed (other p q ne) ∙ h
 on_check p q s a w deed right owed IsOnPage.Unparks ne h = ends_none (p == q) owed h
-on_check p q s a w deed right owed IsOnPage.Stamps ne h = h
-on_check p q s a w deed right owed IsOnPage.Hints ne h = h
+on_check p q s a w deed right owed step ne h = h
 
 -- no check of another page is added, and no hint
 pub check_on : (p q w : ℕ) (steps : List Made) (v : View) → OnlyOn p steps → q ≢ p → owes_check v q w ≡ false → owes_check (steps ++ v) q w ≡ false
@@ -117,33 +84,29 @@ check_on p q w (m ∷ more) v h ne e = on_check p q m.step m.answer w (known_dee
 
 on_hint : (p q : ℕ) (s : Step) (a : ℕ) (owed : Bool) → IsOnPage p s → q ≢ p → owed ≡ false → hint_after s a q owed ≡ false
 on_hint p q s a owed (IsOnPage.Looks word) ne h = look_hint word a q owed h
-on_hint p q s a owed (IsOnPage.Deeds d) ne h = h
-on_hint p q s a owed IsOnPage.Backs ne h = h
 on_hint p q s a owed (IsOnPage.Takes word mask) ne h = ends_none ((p == q) && (not (a == all_ones) || not (bit_and a mask == 0))) owed h
 on_hint p q s a owed (IsOnPage.Puts word mask) ne h = when_not (p == q) true owed (other p q ne) ∙ h
-on_hint p q s a owed (IsOnPage.Claims d) ne h = h
-on_hint p q s a owed (IsOnPage.Offers d) ne h = h
-on_hint p q s a owed IsOnPage.Parks ne h = h
-on_hint p q s a owed IsOnPage.Unparks ne h = h
-on_hint p q s a owed IsOnPage.Stamps ne h = h
 on_hint p q s a owed IsOnPage.Hints ne h = ends_none (p == q) owed h
+on_hint p q s a owed step ne h = h
 
 pub hint_on : (p q : ℕ) (steps : List Made) (v : View) → OnlyOn p steps → q ≢ p → owes_hint v q ≡ false → owes_hint (steps ++ v) q ≡ false
 hint_on p q [] v h ne e = e
 hint_on p q (m ∷ more) v h ne e = on_hint p q m.step m.answer (owes_hint (more ++ v) q) h.0 ne (hint_on p q more v h.1 ne e)
 
+on_examined : (p : ℕ) (s : Step) (a q : ℕ) (was : Bool) → IsOnPage p s → was ≡ false → examined_after s a q was ≡ false
+on_examined p s a q was (IsOnPage.Looks word) h = look_hint word a q was h
+on_examined p s a q was (IsOnPage.Takes word mask) h = ends_none ((p == q) && (not (a == all_ones) || not (bit_and a mask == 0))) was h
+on_examined p s a q was IsOnPage.Hints h = ends_none (p == q) was h
+on_examined p s a q was is h = h
+
+-- no page becomes one that is examined
+pub examined_on : (p q : ℕ) (steps : List Made) (v : View) → OnlyOn p steps → examines v q ≡ false → examines (steps ++ v) q ≡ false
+examined_on p q [] v h e = e
+examined_on p q (m ∷ more) v h e = on_examined p m.step m.answer q (examines (more ++ v) q) h.0 (examined_on p q more v h.1 e)
+
 on_unstamped : (p : ℕ) (s : Step) (a q : ℕ) (was : Bool) → IsOnPage p s → was ≡ false → unstamped_after s a q was ≡ false
-on_unstamped p s a q was (IsOnPage.Looks word) h = h
-on_unstamped p s a q was (IsOnPage.Deeds d) h = h
-on_unstamped p s a q was IsOnPage.Backs h = h
-on_unstamped p s a q was (IsOnPage.Takes word mask) h = h
-on_unstamped p s a q was (IsOnPage.Puts word mask) h = h
-on_unstamped p s a q was (IsOnPage.Claims d) h = h
-on_unstamped p s a q was (IsOnPage.Offers d) h = h
-on_unstamped p s a q was IsOnPage.Parks h = h
-on_unstamped p s a q was IsOnPage.Unparks h = h
 on_unstamped p s a q was IsOnPage.Stamps h = ends_none (p == q) was h
-on_unstamped p s a q was IsOnPage.Hints h = h
+on_unstamped p s a q was step h = h
 
 -- no page becomes unstamped
 pub unstamped_on : (p q : ℕ) (steps : List Made) (v : View) → OnlyOn p steps → is_unstamped v q ≡ false → is_unstamped (steps ++ v) q ≡ false
@@ -151,17 +114,8 @@ unstamped_on p q [] v h e = e
 unstamped_on p q (m ∷ more) v h e = on_unstamped p m.step m.answer q (is_unstamped (more ++ v) q) h.0 (unstamped_on p q more v h.1 e)
 
 on_given : (p : ℕ) (s : Step) (n : ℕ) → IsOnPage p s → given_after s n ≡ n
-on_given p s n (IsOnPage.Looks word) = refl
-on_given p s n (IsOnPage.Deeds d) = refl
-on_given p s n IsOnPage.Backs = refl
-on_given p s n (IsOnPage.Takes word mask) = refl
-on_given p s n (IsOnPage.Puts word mask) = refl
-on_given p s n (IsOnPage.Claims d) = refl
-on_given p s n (IsOnPage.Offers d) = refl
-on_given p s n IsOnPage.Parks = refl
-on_given p s n IsOnPage.Unparks = refl
-on_given p s n IsOnPage.Stamps = refl
 on_given p s n IsOnPage.Hints = refl
+on_given p s n step = refl
 
 pub given_on : (p : ℕ) (steps : List Made) (v : View) → OnlyOn p steps → given_count (steps ++ v) ≡ given_count v
 given_on p [] v h = refl
@@ -178,37 +132,19 @@ told_bit known word true e = e refl
 told_bit known word false e = refl
 
 look_deed : (f : Profile) (v : View) (word : Word) (a p : ℕ) → Agrees f v (Look word) a → known_deed v p ≢ 0 → deed_after_look word a p (known_deed v p) ≡ known_deed v p
-look_deed f v Word.Epoch a p agrees ne = refl
-look_deed f v (Word.Free q w) a p agrees ne = refl
-look_deed f v (Word.Life q g) a p agrees ne = refl
 look_deed f v (Word.Deed q) a p agrees ne = told_bit (known_deed v p) a (q == p) (λ h. let e : q ≡ p = eqb-true q p h in subst (λ x. known_deed v x ≢ 0 → a ≡ known_deed v x) e agrees.known ne)
-look_deed f v (Word.Backed q) a p agrees ne = refl
-look_deed f v (Word.Stamp q) a p agrees ne = refl
-look_deed f v (Word.Parked j) a p agrees ne = refl
-look_deed f v (Word.Empty j) a p agrees ne = refl
 look_deed f v (Word.Eligible d j) a p agrees ne = told_bit (known_deed v p) (deed_word_numbered d) ((j == p / 64) && has_bit a (p % 64)) (λ h.
     let parts = and_parts (j == p / 64) (has_bit a (p % 64)) h in
     let at : j ≡ p / 64 = eqb-true j (p / 64) parts.0 in
     let whole : 64 * j + p % 64 ≡ p = omega (arith, at) in
     sym (subst (λ x. known_deed v x ≢ 0 → known_deed v x ≡ deed_word_numbered d) whole (agrees.known (p % 64) (omega arith) parts.1) ne))
-
+look_deed f v s a p agrees ne = refl
 deed_same : (f : Profile) (v : View) (s : Step) (a p : ℕ) → Agrees f v s a → known_deed v p ≢ 0 → deed_after s a p (known_deed v p) ≡ known_deed v p
 deed_same f v (Look word) a p agrees ne = look_deed f v word a p agrees ne
+deed_same f v (TakeRight q d) a p agrees ne = look_deed f v (Word.Eligible (number_of d) (q / 64)) a p agrees ne
+deed_same f v (Offer q d) a p agrees ne = look_deed f v (Word.Eligible (number_of d) (q / 64)) a p agrees ne
 deed_same f v (Deed q d) a p agrees ne = told_here (known_deed v p) a (deed_word_of d) (q == p) (a == 0) refl (λ h. let e : q ≡ p = eqb-true q p h in subst (λ x. known_deed v x ≢ 0 → a ≡ known_deed v x) e agrees.known ne) ne
-deed_same f v (Back q) a p agrees ne = refl
-deed_same f v (Take q w mask) a p agrees ne = refl
-deed_same f v (Put q w mask) a p agrees ne = refl
-deed_same f v (Give block) a p agrees ne = refl
-deed_same f v (End name guess) a p agrees ne = refl
-deed_same f v (TakeRight q d) a p agrees ne = refl
-deed_same f v (Offer q d) a p agrees ne = refl
-deed_same f v (Park q) a p agrees ne = refl
-deed_same f v (Unpark q) a p agrees ne = refl
-deed_same f v (Stamp q) a p agrees ne = refl
-deed_same f v (Hint q) a p agrees ne = refl
-deed_same f v (Tick raised) a p agrees ne = refl
-deed_same f v (Unback q) a p agrees ne = refl
-deed_same f v (Unhint q) a p agrees ne = refl
+deed_same f v s a p agrees ne = refl
 
 pub deed_stays : (f : Profile) (steps : List Made) (v : View) (p : ℕ) → Agreed f v steps → known_deed v p ≢ 0 → known_deed (steps ++ v) p ≡ known_deed v p
 deed_stays f [] v p agreed ne = refl
@@ -219,21 +155,7 @@ deed_stays f (m ∷ more) v p agreed ne =
 -- ---- what is on a page
 pub look_on : (p : ℕ) (s : Step) → IsLook s → IsOnPage p s
 look_on p (Look word) h = IsOnPage.Looks word
-look_on p (Deed q d) h = absurd h
-look_on p (Back q) h = absurd h
-look_on p (Take q w mask) h = absurd h
-look_on p (Put q w mask) h = absurd h
-look_on p (Give block) h = absurd h
-look_on p (End name guess) h = absurd h
-look_on p (TakeRight q d) h = absurd h
-look_on p (Offer q d) h = absurd h
-look_on p (Park q) h = absurd h
-look_on p (Unpark q) h = absurd h
-look_on p (Stamp q) h = absurd h
-look_on p (Hint q) h = absurd h
-look_on p (Tick raised) h = absurd h
-look_on p (Unback q) h = absurd h
-look_on p (Unhint q) h = absurd h
+look_on p s h = absurd h
 
 pub looks_on : (p : ℕ) (steps : List Made) → AreLooks steps → OnlyOn p steps
 looks_on p [] h = tt
@@ -346,13 +268,8 @@ one_read a q p known true e one h = ap (λ x. x == 1) (one refl)
 one_read a q p known false e one h = h
 
 return_backed : (f : Profile) (p q : ℕ) (v : View) (s : Step) (a : ℕ) → IsReturn p s → Agrees f v s a → knows_backed v q ≡ true → backed_after s a q (knows_backed v q) ≡ true
-return_backed f p q v s a (IsReturn.LooksFree w) agrees h = h
 return_backed f p q v s a IsReturn.LooksBacked agrees h = one_read a q p (knows_backed v q) (p == q) refl (λ e. agrees.known (subst (λ x. knows_backed v x ≡ true) (sym (eqb-true p q e)) h)) h
-return_backed f p q v s a (IsReturn.Offers d) agrees h = h
-return_backed f p q v s a IsReturn.Parks agrees h = h
-return_backed f p q v s a IsReturn.Unparks agrees h = h
-return_backed f p q v s a IsReturn.Hints agrees h = h
-
+return_backed f p q v s a step agrees h = h
 scan_backed : (q : ℕ) (s : Step) (a : ℕ) (known : Bool) → IsScan s → backed_after s a q known ≡ known
 scan_backed q s a known (IsScan.LooksEligible d j) = refl
 scan_backed q s a known (IsScan.LooksDeed p) = refl
@@ -398,21 +315,7 @@ check_grains p w (m ∷ more) v h r e = grain_check p m.step m.answer w (known_d
 -- ---- steps that changed nothing
 pub look_read : (s : Step) (a : ℕ) → IsLook s → IsRead s a
 look_read (Look word) a h = IsRead.Looks word a
-look_read (Deed q d) a h = absurd h
-look_read (Back q) a h = absurd h
-look_read (Take q w mask) a h = absurd h
-look_read (Put q w mask) a h = absurd h
-look_read (Give block) a h = absurd h
-look_read (End name guess) a h = absurd h
-look_read (TakeRight q d) a h = absurd h
-look_read (Offer q d) a h = absurd h
-look_read (Park q) a h = absurd h
-look_read (Unpark q) a h = absurd h
-look_read (Stamp q) a h = absurd h
-look_read (Hint q) a h = absurd h
-look_read (Tick raised) a h = absurd h
-look_read (Unback q) a h = absurd h
-look_read (Unhint q) a h = absurd h
+look_read s a h = absurd h
 
 pub looks_read : (steps : List Made) → AreLooks steps → OnlyReads steps
 looks_read [] h = tt

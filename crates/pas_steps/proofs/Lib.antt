@@ -7,3 +7,8 @@ pub mod Targets
 pub mod Written
 pub mod Kept
 pub mod Backed
+pub mod Apart
+pub mod Calls
+pub mod Called
+pub mod Sets
+pub mod Unknown

@@ -2,7 +2,7 @@
 use Rattle.std.proofs.Common.{ℕ, ◌+◌, ◌*◌, ◌/◌, ◌^◌, ◌<◌, ◌≤◌, arith}
 use Rattle.pas_profile.specs.Profiles.{IsValid}
 use Rattle.pas_profile.specs.declared.profile.Profile.{Profile}
-use Rattle.pas_machine.specs.Runs.{address_of}
+use Rattle.pas_profile.specs.Runs.{address_of}
 use Rattle.pas_steps.specs.Allowed.{IsStepOf}
 use Rattle.pas_steps.specs.Ranges.{IsRanged}
 use Rattle.pas_steps.specs.declared.step.Step.{Step}
@@ -19,19 +19,9 @@ heap_fits heap heaps few low = omega arith
 
 -- the numbers of a step of a valid profile fit
 pub is_ranged : (f : Profile) (s : Step) → IsValid f → IsStepOf f s → IsRanged s
-is_ranged f (Look word) valid of = tt
 is_ranged f (Deed page directory) valid of = record { heap = heap_fits directory.heap f.heaps valid.heaps of.1.heap; kind = of.1.kind }
-is_ranged f (Back page) valid of = tt
-is_ranged f (Take page word mask) valid of = tt
-is_ranged f (Put page word mask) valid of = tt
 is_ranged f (Give block) valid of = (of.turn, grains_fit (address_of block.name) block.room f.pages valid.pages of.first of.last)
 is_ranged f (End name guess) valid of = (of.2, guess_fits guess f.pages valid.pages of.4)
 is_ranged f (TakeRight page directory) valid of = record { heap = heap_fits directory.heap f.heaps valid.heaps of.1.heap; kind = of.1.kind }
 is_ranged f (Offer page directory) valid of = record { heap = heap_fits directory.heap f.heaps valid.heaps of.1.heap; kind = of.1.kind }
-is_ranged f (Park page) valid of = tt
-is_ranged f (Unpark page) valid of = tt
-is_ranged f (Stamp page) valid of = tt
-is_ranged f (Hint page) valid of = tt
-is_ranged f (Tick raised) valid of = tt
-is_ranged f (Unback page) valid of = tt
-is_ranged f (Unhint page) valid of = tt
+is_ranged f s valid of = tt

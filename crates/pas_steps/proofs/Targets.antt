@@ -3,7 +3,7 @@ use Rattle.std.proofs.Common.{ℕ, ◌+◌, ◌*◌, ◌/◌, ◌%◌, ◌<◌, 
 use Rattle.pas_profile.specs.Profiles.{vector_words, IsWordOf}
 use Rattle.pas_profile.specs.declared.profile.Profile.{Profile}
 use Rattle.pas_profile.proofs.Codecs.{number_lt}
-use Rattle.pas_machine.specs.Runs.{address_of}
+use Rattle.pas_profile.specs.Runs.{address_of}
 use Rattle.pas_steps.specs.Effects.{target}
 use Rattle.pas_steps.specs.Views.{View}
 use Rattle.pas_steps.specs.Allowed.{Allowed, IsStepOf}
@@ -22,9 +22,7 @@ vector_has page pages low = omega arith
 
 -- only a block of no bytes may begin past the last page, and it isn't given
 pub target_of_region : (f : Profile) (v : View) (s : Step) → IsStepOf f s → Allowed f v s → IsWordOf f (target s)
-target_of_region f v (Look word) of allowed = of
 target_of_region f v (Deed page directory) of allowed = of.0
-target_of_region f v (Back page) of allowed = of
 target_of_region f v (Take page word mask) of allowed = (of.0.0, of.0.1, of.1)
 target_of_region f v (Put page word mask) of allowed = (of.0.0, of.0.1, of.1)
 target_of_region f v (Give block) of allowed = given_page (address_of block.name) block.room f.pages of.first of.last allowed.some
@@ -33,8 +31,7 @@ target_of_region f v (TakeRight page directory) of allowed = (number_lt director
 target_of_region f v (Offer page directory) of allowed = (number_lt directory f.heaps of.1.heap of.1.kind, vector_has page f.pages of.0.1)
 target_of_region f v (Park page) of allowed = vector_has page f.pages of.1
 target_of_region f v (Unpark page) of allowed = vector_has page f.pages of.1
-target_of_region f v (Stamp page) of allowed = of
 target_of_region f v (Hint page) of allowed = vector_has page f.pages of.1
 target_of_region f v (Tick raised) of allowed = tt
-target_of_region f v (Unback page) of allowed = of
 target_of_region f v (Unhint page) of allowed = vector_has page f.pages of.1
+target_of_region f v s of allowed = of

@@ -11,7 +11,7 @@ use Rattle.pas_profile.specs.declared.directory.Directory.{Directory}
 use Rattle.pas_profile.specs.declared.name.Name.{Name}
 use Rattle.pas_profile.specs.declared.word.Word.{Word}
 use Rattle.pas_profile.specs.declared.word.Word.TheVariants as Word
-use Rattle.pas_machine.specs.Runs.{in_run, grain_of}
+use Rattle.pas_profile.specs.Runs.{in_run, grain_of}
 use Rattle.pas_steps.specs.Effects.{in_mask, life_word_at}
 use Rattle.pas_steps.specs.Views.{View, holds, has_right, known_deed, known_free, knows_backed, known_life, epoch_of, known_stamp, ReadLive, ReadBacked, EndedOn, EndedOnBoth}
 use Rattle.pas_steps.specs.declared.step.Step.{Step}

@@ -1,14 +1,13 @@
 -- Which steps a view allows. It depends on that one view alone.
 use Rattle.std.specs.Prelude.{ℕ, ◌+◌, ◌-◌, ◌*◌, ◌/◌, ◌%◌, ◌^◌, ◌<◌, ◌≤◌, ◌≡◌, ◌≢◌, Bool, true, false, Option, None, Some}
-use Rattle.pas_profile.specs.Directories.{deed_word_of}
 use Rattle.pas_profile.specs.Lives.{turn_of}
 use Rattle.pas_profile.specs.Profiles.{IsPage, IsDirectoryOf, IsWordOf}
 use Rattle.pas_profile.specs.declared.profile.Profile.{Profile}
 use Rattle.pas_profile.specs.declared.directory.Directory.{Directory}
 use Rattle.pas_profile.specs.declared.name.Block.{Block}
-use Rattle.pas_machine.specs.Runs.{in_run, address_of, grain_of, length_of}
+use Rattle.pas_profile.specs.Runs.{in_run, address_of, grain_of, length_of}
 use Rattle.pas_steps.specs.Effects.{in_mask}
-use Rattle.pas_steps.specs.Views.{View, holds, has_right, known_deed, knows_backed, known_life, known_epoch, epoch_of, known_stamp, is_unstamped, given_count}
+use Rattle.pas_steps.specs.Views.{View, holds, has_right, known_deed, KnowsDeed, knows_backed, known_life, known_epoch, epoch_of, known_stamp, is_unstamped, given_count}
 use Rattle.pas_steps.specs.declared.step.Step.{Step}
 use Rattle.pas_steps.specs.declared.step.Step.TheVariants.{Look, Deed, Back, Take, Put, Give, End, TakeRight, Offer, Park, Unpark, Stamp, Hint, Tick, Unback, Unhint}
 
@@ -41,16 +40,12 @@ IsStepOf f (Unhint page) = IsPage f page
 abbrev pub HoldsOn : View → ℕ → Type 0
 HoldsOn v page = (g : ℕ) × (g / 256 ≡ page) × (holds v g ≡ true)
 
--- the actor knows that the page is of the directory
-abbrev pub KnowsDirectory : View → ℕ → Directory → Type 0
-KnowsDirectory v page d = known_deed v page ≡ deed_word_of d
-
 -- a page is known to bear blocks of the heap, and isn't unstamped
 pub record KnowsBearing (f : Profile) (v : View) (heap page : ℕ) : Type 0 where
   pub backed : knows_backed v page ≡ true
   pub directory : Directory
   pub of_profile : IsDirectoryOf f directory
-  pub deed : KnowsDirectory v page directory
+  pub deed : KnowsDeed page directory v
   pub of_heap : directory.heap ≡ heap
   pub stamped : is_unstamped v page ≡ false
 
@@ -96,8 +91,8 @@ Allowed f v (Take page word mask) = has_right v page ≡ true
 Allowed f v (Put page word mask) = MayPutNow v page word mask
 Allowed f v (Give block) = MayGiveNow f v block
 Allowed f v (End name guess) = IsEpochKnown (known_epoch v)
-Allowed f v (TakeRight page directory) = KnowsDirectory v page directory
-Allowed f v (Offer page directory) = (has_right v page ≡ true) × KnowsDirectory v page directory
+Allowed f v (TakeRight page directory) = KnowsDeed page directory v
+Allowed f v (Offer page directory) = (has_right v page ≡ true) × KnowsDeed page directory v
 Allowed f v (Park page) = has_right v page ≡ true
 Allowed f v (Unpark page) = known_deed v page ≢ 0
 Allowed f v (Stamp page) = HoldsOn v page × IsEpochKnown (known_epoch v)

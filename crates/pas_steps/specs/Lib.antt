@@ -9,4 +9,8 @@ pub mod Past
 pub mod Frames
 pub mod Ranges
 pub mod States
-pub mod Rests
+pub mod Clear
+pub mod Evidence
+pub mod Kinds
+pub mod Calls
+pub mod Unknown

@@ -5,11 +5,11 @@ use Rattle.pas_profile.specs.Classes.{has_bit, is_usable}
 use Rattle.pas_profile.specs.declared.directory.Directory.{Directory}
 use Rattle.pas_profile.specs.declared.directory.Kind.{Kind}
 use Rattle.pas_profile.specs.declared.directory.Kind.TheVariants as Kind
-use Rattle.pas_profile.specs.Directories.{deed_word_of, deed_word_numbered, directory_read}
+use Rattle.pas_profile.specs.Directories.{deed_word_of, deed_word_numbered, directory_read, number_of}
 use Rattle.pas_profile.specs.Lives.{live_word, is_live, turn_of, grains_of}
 use Rattle.pas_profile.specs.declared.word.Word.{Word}
 use Rattle.pas_profile.specs.declared.word.Word.TheVariants as Word
-use Rattle.pas_machine.specs.Runs.{in_run, meets_page, grain_of, length_of}
+use Rattle.pas_profile.specs.Runs.{in_run, meets_page, grain_of, length_of}
 use Rattle.pas_steps.specs.Effects.{in_mask}
 use Rattle.pas_steps.specs.Past.{Once}
 use Rattle.pas_steps.specs.declared.step.Step.{Step}
@@ -99,7 +99,7 @@ has_right [] page = false
 has_right (m ∷ v) page = right_after m.step m.answer page (has_right v page)
 
 -- ---- deeds: the deed word that is known of the page, 0 where none is: from the deed word, or from a set bit of an eligible word, which
--- tells the directory. It is known for good
+-- tells the directory, whether that word was looked at or read by a claim or an offer. It is known for good
 abbrev pub deed_after_look : Word → ℕ → ℕ → ℕ → ℕ
 deed_after_look Word.Epoch a page known = known
 deed_after_look (Word.Free q w) a page known = known
@@ -119,8 +119,8 @@ deed_after (Take q word mask) a page known = known
 deed_after (Put q word mask) a page known = known
 deed_after (Give block) a page known = known
 deed_after (End name guess) a page known = known
-deed_after (TakeRight q directory) a page known = known
-deed_after (Offer q directory) a page known = known
+deed_after (TakeRight q directory) a page known = deed_after_look (Word.Eligible (number_of directory) (q / 64)) a page known
+deed_after (Offer q directory) a page known = deed_after_look (Word.Eligible (number_of directory) (q / 64)) a page known
 deed_after (Park q) a page known = known
 deed_after (Unpark q) a page known = known
 deed_after (Stamp q) a page known = known
@@ -132,6 +132,10 @@ deed_after (Unhint q) a page known = known
 abbrev pub known_deed : View → ℕ → ℕ
 known_deed [] page = 0
 known_deed (m ∷ v) page = deed_after m.step m.answer page (known_deed v page)
+
+-- the page is known to be of the directory
+abbrev pub KnowsDeed : ℕ → Directory → View → Type 0
+KnowsDeed page directory v = known_deed v page ≡ deed_word_of directory
 
 -- ---- free grains: known as free from a look at the free word while the actor has the right, or from its own deed that succeeded,
 -- until the actor takes the grain or the right goes

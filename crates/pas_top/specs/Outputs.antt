@@ -6,8 +6,7 @@ use Rattle.pas_machine.specs.State.{deed_in, backed_in}
 use Rattle.pas_profile.specs.Profiles.{IsPage, IsDirectoryOf}
 use Rattle.pas_profile.specs.declared.directory.Directory.{Directory}
 use Rattle.pas_steps.specs.Lists.{Whole, Legal, visible, part}
-use Rattle.pas_steps.specs.Views.{usable_by_kind}
-use Rattle.pas_rights.specs.Rights.{KnowsDeed}
+use Rattle.pas_steps.specs.Views.{usable_by_kind, KnowsDeed}
 use Rattle.pas_trace.specs.Plans.{IsPlanOf, parsed}
 use Rattle.pas_trace.specs.declared.plan.Plan.{Plan}
 use Rattle.pas_trace.specs.declared.fault.TraceFault.{TraceFault}

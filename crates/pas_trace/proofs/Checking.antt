@@ -33,9 +33,6 @@ thread-same : (r : Reader) (items : List Item) (t : ℕ) (i : Item) → Tells r 
 thread-same r items t i h = ap (λ cs. (is_thread r.header t, Reason.BadThread) ∷ cs) (few-same r items i h)
 
 pub checks-same : (r : Reader) (items : List Item) (i : Item) → Tells r items → told_checks r i ≡ checks_of r.header items i
-checks-same r items Blank h = refl
-checks-same r items (Shares n) h = refl
-checks-same r items NextPhase h = refl
 checks-same r items (Allocates t n hp s a) h =
     let named : is_named items n ≡ has_owner r n = (h.names n).named in
     let i = Allocates t n hp s a in
@@ -57,6 +54,7 @@ checks-same r items (Stops t) h = thread-same r items t (Stops t) h
 checks-same r items (Ticks e) h = few-same r items (Ticks e) h
 checks-same r items Passes h = few-same r items Passes h
 checks-same r items (Idles n) h = few-same r items (Idles n) h
+checks-same r items s h = refl
 
 -- ---- what a line says
 pub says-item : (r : Reader) (items : List Item) (line : List ℕ) (i : Item) → Tells r items → Ok i ≡ item_of_line r.started line → first_failed (told_checks r i) ≡ None

@@ -210,9 +210,6 @@ actor-most f items Passes e = omega arith
 actor-most f items (Idles n) e = omega arith
 
 counts-fine : (f : Profile) (items : List Item) (i : Item) → is_operation i ≡ true → reason_of f items i ≡ None → FineCounts f items i
-counts-fine f items Blank o e = cc
-counts-fine f items (Shares h) o e = cc
-counts-fine f items NextPhase o e = cc
 counts-fine f items (Allocates t n h s a) o e = let p = fine-allocation f items t n h s a e in p.counts
 counts-fine f items (Frees t n) o e = let p = fine-free f items t n e in p.1
 counts-fine f items (FreesRaw t a n) o e = let p = fine-thread f items t (FreesRaw t a n) e in p.1
@@ -221,6 +218,7 @@ counts-fine f items (Stops t) o e = let p = fine-thread f items t (Stops t) e in
 counts-fine f items (Ticks n) o e = fine-counts f items (Ticks n) e
 counts-fine f items Passes o e = fine-counts f items Passes e
 counts-fine f items (Idles n) o e = fine-counts f items (Idles n) e
+counts-fine f items s o e = cc
 
 pub within-item : (r : Reader) (items : List Item) (i : Item) (actor : ℕ) → Tells r items → reason_of r.header items i ≡ None → actor_of i ≡ actor → get_or r.counts.costs actor 0 ≤ r.counts.bound
 within-item r items i actor t e is =

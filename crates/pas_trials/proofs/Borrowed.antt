@@ -14,7 +14,7 @@ use Rattle.pas_steps.specs.Desks.{Standing, Seat, CanCall}
 use Rattle.pas_steps.specs.declared.step.Made.{Made}
 use Rattle.pas_steps.proofs.Adding.{can_call}
 use Rattle.pas_search.specs.Kinds.{AreQuiet}
-use Rattle.pas_cache.specs.Knowledge.{unknown_pages}
+use Rattle.pas_steps.specs.Unknown.{unknown_pages}
 use Rattle.pas_cache.specs.Caches.{Cached, AtRest}
 use Rattle.pas_cache.specs.Changes.{EmptiesFull}
 use Rattle.pas_cache.specs.Calls.{Allocates, TakesName, RefusesName, Frees, StopsCache}

@@ -5,12 +5,12 @@ use Rattle.pas_profile.specs.declared.directory.Directory.{Directory}
 use Rattle.pas_profile.specs.declared.word.Word.TheVariants as Word
 use Rattle.pas_steps.specs.Allowed.{Allowed}
 use Rattle.pas_steps.specs.Desks.{Standing, made, Makes, CanCall, Adds}
-use Rattle.pas_steps.specs.Views.{View, has_right, known_deed}
+use Rattle.pas_steps.specs.Views.{View, has_right, known_deed, KnowsDeed}
 use Rattle.pas_steps.specs.declared.step.Made.{Made}
 use Rattle.pas_steps.specs.declared.step.Step.{Step}
 use Rattle.pas_steps.specs.declared.step.Step.TheVariants.{Look, Deed}
 use Rattle.pas_steps.proofs.Adding.{adds_none, adds_step, adds_call, can_call}
-use Rattle.pas_rights.specs.Rights.{MayLeave, KnowsDeed}
+use Rattle.pas_rights.specs.Rights.{MayLeave}
 use Rattle.pas_rights.proofs.Orders.{same_page}
 use Rattle.pas_trials.specs.Trials.{Brings}
 

@@ -5,7 +5,7 @@ use Rattle.pas_profile.specs.declared.event.NoRoom.{NoRoom}
 use Rattle.pas_profile.specs.declared.profile.Profile.{Profile}
 use Rattle.pas_steps.specs.Desks.{Standing}
 use Rattle.pas_steps.specs.Past.{Once}
-use Rattle.pas_scan.specs.Evidence.{DeedHere}
+use Rattle.pas_steps.specs.Evidence.{DeedHere}
 use Rattle.pas_scan.specs.Scan.{NoneOffered, IsFirstOffered, FindsOffered, IsFirstBare, FindsBare, IsVerdict, Judges}
 use Rattle.pas_trials.specs.Trials.{AnyView, Brings, Wants}
 use Rattle.pas_trials.specs.declared.wanting.Findings.{Findings}

@@ -3,7 +3,7 @@ ghost use Rattle.std.specs.Prelude.{◌≡◌, ◌+◌, ◌-◌, ◌^◌, ◌<�
 ghost use Rattle.pas_profile.specs.Classes.{has_bit};
 ghost use Rattle.pas_steps.specs.Desks.{Anything, CanCall};
 ghost use Rattle.pas_cache.specs.Caches.{cached, AtRest};
-ghost use Rattle.pas_cache.specs.Knowledge.{unknown_pages};
+ghost use Rattle.pas_steps.specs.Unknown.{unknown_pages};
 
 use pas_cache::ThreadCache;
 use pas_profile::{Address, Block, Name, NoRoom, Word};

@@ -5,7 +5,7 @@ ghost use Rattle.pas_steps.specs.States.{profile_of as the_profile_of};
 ghost use Rattle.pas_steps.specs.Views.{View};
 ghost use Rattle.pas_plain.specs.Plain.{profile_of, events_shown, room_of_pass};
 ghost use Rattle.pas_plain.specs.Seats.{DeskStands, region_of, pass_of, standing_of};
-ghost use Rattle.pas_steps.specs.Rests.{IsClear};
+ghost use Rattle.pas_steps.specs.Clear.{IsClear};
 ghost use Rattle.pas_free_log.specs.Logs.{names_in};
 
 use pas_free_log::{FreeLog, flush};

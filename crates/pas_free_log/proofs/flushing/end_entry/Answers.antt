@@ -1,6 +1,6 @@
 use Rattle.std.proofs.Common.{List, length, ap, sym, subst}
 use Rattle.pas_profile.specs.declared.event.Event.{Event}
-use Rattle.pas_machine.specs.Runs.{grain_of}
+use Rattle.pas_profile.specs.Runs.{grain_of}
 use Rattle.pas_steps.proofs.Adding.{can_call}
 use Rattle.pas_free_log.specs.Conditions.{KnowsEpoch, IsRun}
 use Rattle.pas_free_log.proofs.Entries.{is_ended, may_now, entry_ended, entry_refused}

@@ -8,7 +8,7 @@ use Rattle.pas_steps.specs.Events.{events_by}
 use Rattle.pas_steps.specs.Desks.{Adds, made}
 use Rattle.pas_steps.proofs.Adding.{adds_none, adds_step, adds_call, can_call}
 use Rattle.pas_free_log.specs.Logs.{names_in}
-use Rattle.pas_steps.specs.Rests.{IsClear}
+use Rattle.pas_steps.specs.Clear.{IsClear}
 use Rattle.pas_free_log.specs.Frames.{Restores}
 use Rattle.pas_free_log.specs.Flushes.{Settled, event_for}
 use Rattle.pas_free_log.proofs.Flushed.{restores_none, restores_append, events_more, stamps_more, names_more, may_end_entry, flushed}

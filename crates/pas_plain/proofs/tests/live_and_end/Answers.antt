@@ -9,7 +9,7 @@ use Rattle.pas_profile.specs.declared.name.Block.{Block}
 use Rattle.pas_profile.specs.declared.name.Name.{Name}
 use Rattle.pas_profile.specs.declared.profile.Profile.{Profile}
 use Rattle.pas_profile.specs.declared.word.Word.TheVariants as Word
-use Rattle.pas_machine.specs.Runs.{in_run}
+use Rattle.pas_profile.specs.Runs.{in_run}
 use Rattle.pas_steps.specs.Allowed.{Allowed, IsStepOf, KnowsBearing}
 use Rattle.pas_steps.specs.Desks.{Seat, made, triple, CanMake, Makes}
 use Rattle.pas_steps.specs.Effects.{target}

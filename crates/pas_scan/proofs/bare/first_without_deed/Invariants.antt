@@ -3,7 +3,7 @@ use Rattle.pas_steps.specs.declared.step.Made.{Made}
 use Rattle.pas_steps.specs.Desks.{Anything, Adds}
 use Rattle.pas_steps.specs.Past.{Once}
 use Rattle.pas_steps.specs.Frames.{OnlyScans}
-use Rattle.pas_scan.specs.Evidence.{DeedHere, IsSingle}
+use Rattle.pas_steps.specs.Evidence.{DeedHere, IsSingle}
 use Rattle.pas_scan.proofs.Singles.{Below}
 use Rattle.pas_scan.proofs.bare.first_without_deed.Given as goal
 

@@ -3,7 +3,7 @@ use Rattle.pas_steps.specs.declared.step.Made.{Made}
 use Rattle.pas_steps.specs.Desks.{Anything, Adds}
 use Rattle.pas_steps.specs.Past.{Once}
 use Rattle.pas_steps.specs.Frames.{OnlyScans}
-use Rattle.pas_scan.specs.Evidence.{ZeroHere, IsSingle}
+use Rattle.pas_steps.specs.Evidence.{ZeroHere, IsSingle}
 use Rattle.pas_scan.proofs.Singles.{Below}
 use Rattle.pas_scan.proofs.offered.first_offered.Given as goal
 

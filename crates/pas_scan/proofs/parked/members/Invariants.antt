@@ -1,7 +1,7 @@
 use Rattle.std.proofs.Common.{◌≡◌, ◌+◌, ◌/◌, List}
 use Rattle.pas_steps.specs.declared.step.Made.{Made}
 use Rattle.pas_steps.specs.Desks.{Anything, Adds}
-use Rattle.pas_scan.specs.Evidence.{IsSingle}
+use Rattle.pas_steps.specs.Evidence.{IsSingle}
 use Rattle.pas_scan.specs.Scan.{InBlock}
 use Rattle.pas_scan.proofs.Singles.{Below}
 use Rattle.pas_scan.proofs.Judging.{Members}

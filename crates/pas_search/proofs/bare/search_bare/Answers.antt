@@ -3,7 +3,7 @@ use Rattle.pas_profile.specs.Profiles.{IsPage}
 use Rattle.pas_profile.specs.declared.profile.Profile.{Profile}
 use Rattle.pas_steps.specs.declared.step.Step.TheVariants.{Deed}
 use Rattle.pas_steps.specs.Desks.{Seat, made}
-use Rattle.pas_steps.specs.Rests.{IsClear}
+use Rattle.pas_steps.specs.Clear.{IsClear}
 use Rattle.pas_search.proofs.StepKinds.{room_kept, reads_quiet}
 use Rattle.pas_search.proofs.Deeding.{deed_adds, deed_call, found_reads, found_deeds, deed_reads, deed_deeds, bare_adds, no_bare, bare_read, clear_call, deed_room, serve_room, deed_not_left, bare_found}
 use Rattle.pas_search.proofs.bare.search_bare.Goals as goal

@@ -2,8 +2,8 @@ use Rattle.std.proofs.Common.{◌+◌, ◌-◌, ◌≡◌, ◌≤◌, List}
 use Rattle.pas_steps.specs.declared.step.Made.{Made}
 use Rattle.pas_steps.specs.Desks.{Adds}
 use Rattle.pas_steps.specs.Frames.{OnlyReads}
-use Rattle.pas_scan.specs.Evidence.{AllDeeds}
-use Rattle.pas_steps.specs.Rests.{IsClear}
+use Rattle.pas_steps.specs.Evidence.{AllDeeds}
+use Rattle.pas_steps.specs.Clear.{IsClear}
 use Rattle.pas_search.proofs.bare.search_bare.Given as goal
 
 -- each deed word below that of the next page was read as not 0

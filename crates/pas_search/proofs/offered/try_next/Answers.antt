@@ -1,7 +1,7 @@
 use Rattle.std.proofs.Common.{◌∙◌, ap, ◌==◌, ◌||◌}
 use Rattle.pas_steps.proofs.Adding.{can_call, adds_under}
 use Rattle.pas_scan.specs.Marks.{is_marked}
-use Rattle.pas_steps.specs.Rests.{IsClear}
+use Rattle.pas_steps.specs.Clear.{IsClear}
 use Rattle.pas_search.specs.Searches.{MayTry}
 use Rattle.pas_search.proofs.StepKinds.{room_kept, scans_read, reads_quiet}
 use Rattle.pas_search.proofs.Turning.{turn_done, may_try, turn_lost, turn_unfit, turn_found}

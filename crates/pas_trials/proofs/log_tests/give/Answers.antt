@@ -7,12 +7,12 @@ use Rattle.pas_profile.specs.declared.name.Block.{Block}
 use Rattle.pas_profile.specs.declared.name.Name.{Name}
 use Rattle.pas_profile.specs.declared.profile.Profile.{Profile}
 use Rattle.pas_profile.specs.declared.word.Word.TheVariants as Word
-use Rattle.pas_machine.specs.Runs.{in_run}
+use Rattle.pas_profile.specs.Runs.{in_run}
 use Rattle.pas_steps.specs.Allowed.{Allowed, KnowsBearing}
 use Rattle.pas_steps.specs.Desks.{made}
 use Rattle.pas_steps.specs.Views.{View, any_below, holds, has_right, known_deed, knows_backed, known_life, owes_hint, all_ones}
 use Rattle.pas_steps.specs.declared.step.Step.TheVariants.{Look, Deed, Back, Take, Give}
-use Rattle.pas_steps.specs.Rests.{IsClear}
+use Rattle.pas_steps.specs.Clear.{IsClear}
 use Rattle.pas_trials.proofs.Stood.{At, next, can, told, spare}
 use Rattle.pas_trials.proofs.log_tests.give.Goals as goal
 

@@ -2,10 +2,10 @@
 -- it. For a page of the directory a reading of its eligible or parked bit counts only where the call hasn't the page's right before that step.
 use Rattle.std.specs.Prelude.{ℕ, ◌+◌, ◌*◌, ◌/◌, ◌%◌, ◌<◌, ◌≤◌, ◌≡◌, ◌≢◌, ◌⊎◌, Bool, true, false, ◌||◌, List, ◌∷◌}
 use Rattle.pas_profile.specs.Classes.{has_bit}
-use Rattle.pas_profile.specs.Directories.{deed_word_of, number_of}
+use Rattle.pas_profile.specs.Directories.{number_of}
 use Rattle.pas_profile.specs.declared.directory.Directory.{Directory}
 use Rattle.pas_profile.specs.declared.word.Word.TheVariants as Word
-use Rattle.pas_steps.specs.Views.{View, holds, has_right, known_deed}
+use Rattle.pas_steps.specs.Views.{holds, has_right}
 use Rattle.pas_steps.specs.Past.{Once, Always, Since}
 use Rattle.pas_steps.specs.Frames.{GivesUp}
 use Rattle.pas_steps.specs.declared.step.Step.{Step}
@@ -53,10 +53,6 @@ NoDeedHere page m before = ReadsDeed page m.step × (m.answer ≡ 0)
 -- the parked bit was read so
 abbrev pub ParkedHere : Bool → ℕ → Made → List Made → Type 0
 ParkedHere set page m before = ReadsParked page m.step × (has_bit m.answer (page % 64) ≡ set) × (has_right before page ≡ false)
-
--- the actor knows that the page is of the directory
-abbrev pub IsOf : Directory → ℕ → View → Type 0
-IsOf d page v = known_deed v page ≡ deed_word_of d
 
 -- no word is looked at twice
 abbrev pub IsSingle : List Made → Type 0

@@ -1,0 +1,356 @@
+-- What a call does, of no step, of one, and of two calls; and of steps by their kinds and their page.
+use Rattle.std.proofs.Common.{◌≡◌, ◌≢◌, ℕ, ◌+◌, ◌*◌, ◌/◌, ◌%◌, ◌==◌, Bool, true, false, not, ◌&&◌, ◌||◌, ◌⊎◌, if◌then◌else◌, List, [], ◌∷◌, ◌++◌, inl, inr, refl, ap, sym, ◌∙◌, subst, arith, append_assoc, true≢false, bit_and}
+use Rattle.std.proofs.lemmas.Bool.{eq-eqb, eqb-true, ne_eqb}
+use Rattle.pas_profile.specs.Classes.{has_bit}
+use Rattle.pas_profile.specs.Lives.{live_word}
+use Rattle.pas_profile.specs.declared.name.Name.{Name}
+use Rattle.pas_profile.specs.declared.profile.Profile.{Profile}
+use Rattle.pas_profile.specs.declared.word.Word.{Word}
+use Rattle.pas_profile.specs.Runs.{in_run, meets_page, grain_of}
+use Rattle.pas_steps.specs.Agreement.{Agrees, Agreed}
+use Rattle.pas_steps.specs.Calls.{Leads, AnyView, Fate, Kept, Gained, Lost, now, later, Effect, nothing, put, freed, on_page, and_then, ClearAfter, Bears, Does, grain_fate, right_fate, opens, step_effect}
+use Rattle.pas_steps.specs.Clear.{IsClearOn, IsClear}
+use Rattle.pas_steps.specs.Desks.{Seat, Standing, made, CanCall, Adds}
+use Rattle.pas_steps.specs.Effects.{in_mask}
+use Rattle.pas_steps.specs.Views.{View, Move, Stays, Puts, Ends, grain_move, held_after, holds, right_after, has_right, known_deed, unstamped_after, is_unstamped, no_usable, check_after, owes_check, all_ones, hint_after, owes_hint, examined_after, examines, knows_backed}
+use Rattle.pas_steps.specs.declared.step.Made.{Made}
+use Rattle.pas_steps.specs.declared.step.Step.{Step}
+use Rattle.pas_steps.specs.declared.step.Step.TheVariants.{Look, Deed, Take, Put, Give, End, TakeRight, Offer, Park, Unpark, Stamp, Hint, Unback, Unhint}
+use Rattle.pas_steps.proofs.Adding.{agreed_first, agreed_later, can_call}
+use Rattle.pas_steps.proofs.Apart.{in_apart, grain_same, holds_same}
+use Rattle.pas_steps.proofs.Kept.{right_on, check_on, hint_on, examined_on, unstamped_on, returns_on}
+use Rattle.pas_steps.proofs.Past.{always_map}
+use Rattle.pas_steps.specs.Frames.{IsReturn, OnlyOn, OnlyReturns, unbacks}
+use Rattle.pas_steps.specs.Kinds.{Kinds, kind_of, look_kind, place_of, is_in, apart, Only, moving, unbacking, changing, returning}
+use Rattle.pas_steps.proofs.Backed.{any_one, backed_with, backed_holds}
+
+-- ---- two calls: the one place where their lists are put together
+pub leads_none : {f : Profile} {B : View → Type 0} {R : View → View → Type 0} → ((v : View) → B v → R v v) → Leads f B R []
+leads_none r = record { from = λ v met agreed. r v met }
+
+pub leads_then : {f : Profile} {B C : View → Type 0} {R S : View → View → Type 0} {ys xs : List Made} (T : View → View → Type 0)
+    → Leads f B R xs → Leads f C S ys → ((v w : View) → B v → R v w → C w) → ((v w u : View) → R v w → S w u → T v u) → Leads f B T (ys ++ xs)
+leads_then {f} {ys = ys} {xs = xs} T first second meets both = record {
+  from = λ v met agreed.
+      let here = first.from v met (agreed_later f v ys xs agreed) in
+      subst (T v) (sym (append_assoc ys xs v)) (both v (xs ++ v) (ys ++ (xs ++ v)) here (second.from (xs ++ v) (meets v (xs ++ v) met here) (agreed_first f v ys xs agreed)));
+}
+
+pub leads_as : {f : Profile} {B C : View → Type 0} {R S : View → View → Type 0} {xs : List Made} → Leads f B R xs → ((v : View) → C v → B v) → ((v w : View) → C v → R v w → S v w) → Leads f C S xs
+leads_as {xs = xs} leads under more = record { from = λ v met agreed. more v (xs ++ v) met (leads.from v (under v met) agreed) }
+
+-- at another desk of the same seat
+pub leads_at : {s s' : Seat} {B : View → Type 0} {R : View → View → Type 0} {xs : List Made} → s' ≡ s → Leads s'.profile B R xs → Leads s.profile B R xs
+leads_at {B = B} {R = R} {xs = xs} same leads = subst (λ t. Leads t.profile B R xs) same leads
+
+-- what may come next
+pub can_after : {σ σ' : Standing} {B C : View → Type 0} {R : View → View → Type 0} {xs : List Made} → Adds σ σ' (λ v l. B v) xs → CanCall σ (λ v l. B v) → Leads σ.seat.profile B R xs → ((v w : View) → B v → R v w → C w) → CanCall σ' (λ v l. C v)
+can_after {xs = xs} adds can leads meets = can_call adds can (λ v l stood met. meets v (xs ++ v) met (leads.from v met (adds.agreed v l stood met)))
+
+-- ---- effects of two calls
+pub does_none : (v : View) → Does nothing v v
+does_none v = record { held = λ x. refl; right = λ page. refl; clear = λ page is. is; backed = λ x kept bears. bears }
+
+now_later : (a b : Fate) (had : Bool) → now (later a b) had ≡ now b (now a had)
+now_later a Kept had = refl
+now_later a Gained had = refl
+now_later a Lost had = refl
+
+kept_both : (a b : Fate) → later a b ≡ Kept → (a ≡ Kept) × (b ≡ Kept)
+kept_both a Kept h = (h, refl)
+kept_both a Gained h = cc
+kept_both a Lost h = cc
+
+clear_kept : (a : Fate) (page : ℕ) (v w u : View) → ClearAfter a page v w → (IsClearOn page w → IsClearOn page u) → ClearAfter a page v u
+clear_kept Kept page v w u first next = λ is. next (first is)
+clear_kept Gained page v w u first next = next first
+clear_kept Lost page v w u first next = tt
+
+clear_later : (a b : Fate) (page : ℕ) (v w u : View) → ClearAfter a page v w → ClearAfter b page w u → ClearAfter (later a b) page v u
+clear_later a Kept page v w u first next = clear_kept a page v w u first next
+clear_later a Gained page v w u first next = next
+clear_later a Lost page v w u first next = tt
+
+pub does_then : {d e : Effect} {v w u : View} → Does d v w → Does e w u → Does (and_then d e) v u
+does_then {d} {e} {v} {w} {u} a b = record {
+  held = λ x. b.held x ∙ ap (now (e.grains x)) (a.held x) ∙ sym (now_later (d.grains x) (e.grains x) (holds v x));
+  right = λ page. b.right page ∙ ap (now (e.rights page)) (a.right page) ∙ sym (now_later (d.rights page) (e.rights page) (has_right v page));
+  clear = λ page. clear_later (d.clears page) (e.clears page) page v w u (a.clear page) (b.clear page);
+  backed = λ x kept bears. let k = kept_both (d.grains x) (e.grains x) kept in b.backed x k.1 (a.backed x k.0 bears);
+}
+
+-- ---- one effect in the words of another, for an actor with this view
+-- the grain has the same fate, or wasn't held
+abbrev pub SameGrain : Fate → Fate → Bool → Type 0
+SameGrain a b held = (a ≡ b) ⊎ ((held ≡ false) × (now a false ≡ now b false))
+
+same_held : (a b : Fate) (held : Bool) → SameGrain a b held → now a held ≡ now b held
+same_held a b held (inl e) = ap (λ t. now t held) e
+same_held a b held (inr h) = ap (now a) h.0 ∙ h.1 ∙ ap (now b) (sym h.0)
+
+was_kept : (a b : Fate) (held : Bool) → SameGrain a b held → b ≡ Kept → held ≡ true → a ≡ Kept
+was_kept a b held (inl e) kept h = e ∙ kept
+was_kept a b held (inr n) kept h = absurd (true≢false (sym h ∙ n.0))
+
+pub does_as : {d : Effect} {v w : View} (e : Effect) → Does d v w → ((x : ℕ) → SameGrain (d.grains x) (e.grains x) (holds v x)) → ((page : ℕ) → d.rights page ≡ e.rights page)
+    → ((page : ℕ) → ClearAfter (d.clears page) page v w → ClearAfter (e.clears page) page v w) → Does e v w
+does_as {d} {v} {w} e does grains rights clears = record {
+  held = λ x. does.held x ∙ same_held (d.grains x) (e.grains x) (holds v x) (grains x);
+  right = λ page. does.right page ∙ ap (λ t. now t (has_right v page)) (rights page);
+  clear = λ page. clears page (does.clear page);
+  backed = λ x kept bears. does.backed x (was_kept (d.grains x) (e.grains x) (holds v x) (grains x) kept bears.held) bears;
+}
+
+pub kept_first : (b : Fate) → later Kept b ≡ b
+kept_first Kept = refl
+kept_first Gained = refl
+kept_first Lost = refl
+
+-- after a call that did nothing. That a call does nothing afterwards needs no lemma, since `and_then e nothing` computes to e
+pub does_after_nothing : {v w u : View} (e : Effect) → Does nothing v w → Does e w u → Does e v u
+does_after_nothing {v} {w} {u} e a b = does_as e (does_then a b) (λ x. inl (kept_first (e.grains x))) (λ page. kept_first (e.rights page)) (λ page. subst (λ t. ClearAfter t page v u) (kept_first (e.clears page)))
+
+-- ---- what follows where nothing is lost
+pub still_clear : {v w : View} → Does nothing v w → IsClear v → IsClear w
+still_clear does clear = record { on = λ page. does.clear page (clear.on page) }
+
+-- a page that is known as backed is so for a grain that is held there
+pub bears_some : (v : View) (page : ℕ) → knows_backed v page ≡ true → (x : ℕ) × (x / 256 ≡ page) × Bears v x
+bears_some v page h =
+    let one = any_one 256 (λ b. holds v (page * 256 + b)) (backed_holds v page h) in
+    let lt = one.1 in
+    let at : (page * 256 + one.0) / 256 ≡ page = omega (arith, lt) in
+    (page * 256 + one.0, at, record { held = one.2; backed = subst (λ q. knows_backed v q ≡ true) (sym at) h })
+
+pub still_backed_all : {v w : View} (page : ℕ) → Does nothing v w → knows_backed v page ≡ true → knows_backed w page ≡ true
+still_backed_all {v} {w} page does h = let some = bears_some v page h in subst (λ q. knows_backed w q ≡ true) some.1 (does.backed some.0 refl some.2).backed
+
+-- ---- one step
+fate_is : (m : Move) (had : Bool) → held_after m had ≡ now (grain_fate m) had
+fate_is (Ends b) had = refl
+fate_is s had = refl
+
+gains : (t had : Bool) → (if t then true else had) ≡ now (if t then Gained else Kept) had
+gains true had = refl
+gains false had = refl
+
+loses : (t had : Bool) → (if t then false else had) ≡ now (if t then Lost else Kept) had
+loses true had = refl
+loses false had = refl
+
+right_is : (s : Step) (a p : ℕ) (had : Bool) → right_after s a p had ≡ now (right_fate s a p) had
+right_is (Deed q d) a p had = gains ((q == p) && (a == 0)) had
+right_is (TakeRight q d) a p had = gains ((q == p) && has_bit a (p % 64)) had
+right_is (Offer q d) a p had = loses (q == p) had
+right_is (Park q) a p had = loses (q == p) had
+right_is (Unpark q) a p had = gains ((q == p) && has_bit a (p % 64)) had
+right_is s a p had = refl
+
+ends_none : (t owed : Bool) → owed ≡ false → (if t then false else owed) ≡ false
+ends_none true owed h = refl
+ends_none false owed h = h
+
+unless : (t was : Bool) → t ≡ false → was ≡ false → (if t then true else was) ≡ false
+unless t was shut h = ap (λ x. if x then true else was) shut ∙ h
+
+and_false : (t u : Bool) → u ≡ false → (t && u) ≡ false
+and_false true u h = h
+and_false false u h = refl
+
+unstamped_shut : (s : Step) (a p : ℕ) (was : Bool) → opens s a p ≡ false → was ≡ false → unstamped_after s a p was ≡ false
+unstamped_shut (End n g) a p was shut h = unless ((a == live_word n.turn g) && meets_page (grain_of n) g p) was shut h
+unstamped_shut (Stamp q) a p was shut h = ends_none (q == p) was h
+unstamped_shut s a p was shut h = h
+
+look_shut : (word : Word) (a p w deed : ℕ) (right owed : Bool) → owed ≡ false → check_after (Look word) a p w right deed owed ≡ false
+look_shut (Word.Free q u) a p w deed right owed h = ends_none ((u == w) && (q == p) && not (deed == 0) && no_usable deed w a) owed h
+look_shut word a p w deed right owed h = h
+
+check_shut : (s : Step) (a p w deed : ℕ) (right owed : Bool) → opens s a p ≡ false → owed ≡ false → check_after s a p w right deed owed ≡ false
+check_shut (Look word) a p w deed right owed shut h = look_shut word a p w deed right owed h
+check_shut (Put q u m) a p w deed right owed shut h = unless ((u == w) && (q == p) && not right) owed (ap (λ t. t && not right) (and_false (u == w) (q == p) shut)) h
+check_shut (Offer q d) a p w deed right owed shut h = ends_none (q == p) owed h
+check_shut (Park q) a p w deed right owed shut h = unless (q == p) owed shut h
+check_shut (Unpark q) a p w deed right owed shut h = ends_none (q == p) owed h
+check_shut s a p w deed right owed shut h = h
+
+look_hint_shut : (word : Word) (a p : ℕ) (owed : Bool) → owed ≡ false → hint_after (Look word) a p owed ≡ false
+look_hint_shut (Word.Free q u) a p owed h = ends_none ((q == p) && not (a == all_ones)) owed h
+look_hint_shut (Word.Backed q) a p owed h = ends_none ((q == p) && (a == 0)) owed h
+look_hint_shut word a p owed h = h
+
+hint_shut : (s : Step) (a p : ℕ) (owed : Bool) → opens s a p ≡ false → owed ≡ false → hint_after s a p owed ≡ false
+hint_shut (Look word) a p owed shut h = look_hint_shut word a p owed h
+hint_shut (Take q u m) a p owed shut h = ends_none ((q == p) && (not (a == all_ones) || not (bit_and a m == 0))) owed h
+hint_shut (Put q u m) a p owed shut h = unless (q == p) owed shut h
+hint_shut (Hint q) a p owed shut h = ends_none (q == p) owed h
+hint_shut s a p owed shut h = h
+
+and_first : (t u : Bool) → t ≡ false → (t && u) ≡ false
+and_first t u h = ap (λ x. x && u) h
+
+examined_shut : (s : Step) (a p : ℕ) (was : Bool) → opens s a p ≡ false → was ≡ false → examined_after s a p was ≡ false
+examined_shut (Look word) a p was shut h = look_hint_shut word a p was h
+examined_shut (Take q u m) a p was shut h = hint_shut (Take q u m) a p was shut h
+examined_shut (Hint q) a p was shut h = ends_none (q == p) was h
+examined_shut (Unhint q) a p was shut h = unless ((q == p) && has_bit a (p % 64)) was (and_first (q == p) (has_bit a (p % 64)) shut) h
+examined_shut s a p was shut h = h
+
+clear_shut : (s : Step) (a p : ℕ) (v : View) → opens s a p ≡ false → IsClearOn p v → IsClearOn p (made s a ∷ v)
+clear_shut s a p v shut is = record {
+  stamped = unstamped_shut s a p (is_unstamped v p) shut is.stamped;
+  owes = record {
+    checks = λ w lt. check_shut s a p w (known_deed v p) (has_right v p) (owes_check v p w) shut (is.owes.checks w lt);
+    hint = hint_shut s a p (owes_hint v p) shut is.owes.hint;
+  };
+  examined = examined_shut s a p (examines v p) shut is.examined;
+}
+
+clear_step : (t : Bool) (p : ℕ) (v w : View) → (t ≡ false → IsClearOn p v → IsClearOn p w) → ClearAfter (if t then Lost else Kept) p v w
+clear_step true p v w shut = tt
+clear_step false p v w shut = shut refl
+
+stays_by : (m : Move) → grain_fate m ≡ Kept → m ≡ Stays
+stays_by Stays h = refl
+stays_by (Ends b) h = cc
+stays_by s h = cc
+
+no_unback : (s : Step) (page : ℕ) → is_in unbacking (kind_of s) ≡ false → unbacks s page ≡ false
+no_unback (Unback q) page h = absurd (true≢false h)
+no_unback s page h = refl
+
+pub bears_step : (f : Profile) (s : Step) (a x : ℕ) (v : View) → Agrees f v s a → is_in unbacking (kind_of s) ≡ false → grain_move s a x ≡ Stays → Bears v x → Bears (made s a ∷ v) x
+bears_step f s a x v agrees keeps stays bears =
+    let at : x / 256 * 256 + x % 256 ≡ x = omega arith in
+    record {
+      held = ap (λ m. held_after m (holds v x)) stays ∙ bears.held;
+      backed = backed_with f (x / 256) (x % 256) (made s a ∷ []) v (omega arith) (agrees, tt) (no_unback s (x / 256) keeps, tt) (subst (λ y. grain_move s a y ≡ Stays) (sym at) stays, tt) (subst (λ y. holds v y ≡ true) (sym at) bears.held) bears.backed;
+    }
+
+-- any step that ends no page's backing
+pub does_step : (f : Profile) (s : Step) (a : ℕ) (v : View) → is_in unbacking (kind_of s) ≡ false → Agrees f v s a → Does (step_effect s a) v (made s a ∷ v)
+does_step f s a v keeps agrees = record {
+  held = λ x. fate_is (grain_move s a x) (holds v x);
+  right = λ page. right_is s a page (has_right v page);
+  clear = λ page. clear_step (opens s a page) page v (made s a ∷ v) (λ shut. clear_shut s a page v shut);
+  backed = λ x kept bears. bears_step f s a x v agrees keeps (stays_by (grain_move s a x) kept) bears;
+}
+
+pub leads_step : (f : Profile) (s : Step) (a : ℕ) → is_in unbacking (kind_of s) ≡ false → Leads f AnyView (Does (step_effect s a)) (made s a ∷ [])
+leads_step f s a keeps = record { from = λ v met agreed. does_step f s a v keeps agreed.0 }
+
+-- ---- steps of kinds that change nothing
+look_keeps : (word : Word) → is_in unbacking (look_kind word) ≡ false
+look_keeps Word.Epoch = refl
+look_keeps word = refl
+
+does_idle : (f : Profile) (s : Step) (a : ℕ) (v : View) → is_in changing (kind_of s) ≡ false → Agrees f v s a → Does nothing v (made s a ∷ v)
+does_idle f (Look word) a v h agrees = does_step f (Look word) a v (look_keeps word) agrees
+does_idle f (Take p w m) a v h agrees = absurd (true≢false h)
+does_idle f (Put p w m) a v h agrees = absurd (true≢false h)
+does_idle f (Give b) a v h agrees = absurd (true≢false h)
+does_idle f (End n g) a v h agrees = absurd (true≢false h)
+does_idle f (Deed p d) a v h agrees = absurd (true≢false h)
+does_idle f (TakeRight p d) a v h agrees = absurd (true≢false h)
+does_idle f (Offer p d) a v h agrees = absurd (true≢false h)
+does_idle f (Park p) a v h agrees = absurd (true≢false h)
+does_idle f (Unpark p) a v h agrees = absurd (true≢false h)
+does_idle f (Unback p) a v h agrees = absurd (true≢false h)
+does_idle f (Unhint p) a v h agrees = absurd (true≢false h)
+does_idle f s a v h agrees = does_step f s a v refl agrees
+
+pub does_idly : (f : Profile) (ks : Kinds) → apart ks changing ≡ true → (steps : List Made) (v : View) → Only ks steps → Agreed f v steps → Does nothing v (steps ++ v)
+does_idly f ks w [] v only agreed = does_none v
+does_idly f ks w (m ∷ more) v only agreed = does_then (does_idly f ks w more v only.1 agreed.1) (does_idle f m.step m.answer (more ++ v) (in_apart ks changing (place_of (kind_of m.step)) w only.0) agreed.0)
+
+pub leads_idly : (f : Profile) (ks : Kinds) → apart ks changing ≡ true → (steps : List Made) → Only ks steps → Leads f AnyView (Does nothing) steps
+leads_idly f ks w steps only = record { from = λ v met agreed. does_idly f ks w steps v only agreed }
+
+-- ---- steps on one page that move no grain: its right, and whether it is clear, are told
+bears_over : (f : Profile) (x : ℕ) (ks : Kinds) → apart ks moving ≡ true → apart ks unbacking ≡ true → (steps : List Made) (v : View) → Only ks steps → Agreed f v steps → Bears v x → Bears (steps ++ v) x
+bears_over f x ks w k [] v only agreed bears = bears
+bears_over f x ks w k (m ∷ more) v only agreed bears =
+    bears_step f m.step m.answer x (more ++ v) agreed.0 (in_apart ks unbacking (place_of (kind_of m.step)) k only.0) (grain_same m.step m.answer x (in_apart ks moving (place_of (kind_of m.step)) w only.0)) (bears_over f x ks w k more v only.1 agreed.1 bears)
+
+right_at : (p q : ℕ) (t : Bool) (r : Fate) (v w : View) → (p == q) ≡ t → has_right w p ≡ now r (has_right v p) → (q ≢ p → has_right w q ≡ has_right v q) → has_right w q ≡ now (if t then r else Kept) (has_right v q)
+right_at p q true r v w e here there = let at : q ≡ p = sym (eqb-true p q e) in subst (λ x. has_right w x ≡ now r (has_right v x)) (sym at) here
+right_at p q false r v w e here there = there (λ at. true≢false (sym (eq-eqb p q (sym at)) ∙ e))
+
+clear_at : (p q : ℕ) (t : Bool) (c : Fate) (v w : View) → (p == q) ≡ t → ClearAfter c p v w → (q ≢ p → IsClearOn q v → IsClearOn q w) → ClearAfter (if t then c else Kept) q v w
+clear_at p q true c v w e here there = let at : q ≡ p = sym (eqb-true p q e) in subst (λ x. ClearAfter c x v w) (sym at) here
+clear_at p q false c v w e here there = there (λ at. true≢false (sym (eq-eqb p q (sym at)) ∙ e))
+
+pub does_on_page : (f : Profile) (p : ℕ) (r c : Fate) (ks : Kinds) → apart ks moving ≡ true → apart ks unbacking ≡ true → (steps : List Made) (v : View) → Only ks steps → OnlyOn p steps → Agreed f v steps → has_right (steps ++ v) p ≡ now r (has_right v p) → ClearAfter c p v (steps ++ v)
+    → Does (on_page p r c) v (steps ++ v)
+does_on_page f p r c ks w k steps v only on agreed right clear =
+    record {
+      held = λ x. holds_same ks w x steps v only;
+      right = λ q. right_at p q (p == q) r v (steps ++ v) refl right (λ ne. right_on p q steps v on ne);
+      clear = λ q. clear_at p q (p == q) c v (steps ++ v) refl clear (λ ne is. record {
+        stamped = unstamped_on p q steps v on is.stamped;
+        owes = record { checks = λ u lt. check_on p q u steps v on ne (is.owes.checks u lt); hint = hint_on p q steps v on ne is.owes.hint };
+        examined = examined_on p q steps v on is.examined;
+      });
+      backed = λ x kept bears. bears_over f x ks w k steps v only agreed bears;
+    }
+
+return_kind : (p : ℕ) (s : Step) → IsReturn p s → is_in returning (kind_of s) ≡ true
+return_kind p s (IsReturn.LooksFree w) = refl
+return_kind p s is = refl
+
+pub returns_are : (p : ℕ) (steps : List Made) → OnlyReturns p steps → Only returning steps
+returns_are p steps = always_map (λ m before. IsReturn p m.step) (λ m before. is_in returning (kind_of m.step) ≡ true) steps (λ m before is. return_kind p m.step is)
+
+-- steps of a return or a leave
+pub does_returns : (f : Profile) (p : ℕ) (r c : Fate) (steps : List Made) (v : View) → OnlyReturns p steps → Agreed f v steps → has_right (steps ++ v) p ≡ now r (has_right v p) → ClearAfter c p v (steps ++ v) → Does (on_page p r c) v (steps ++ v)
+does_returns f p r c steps v only agreed right clear = does_on_page f p r c returning refl refl steps v (returns_are p steps only) (returns_on p steps only) agreed right clear
+
+-- ---- an end
+-- what an end does with this guess, where it read the live word of the name or didn't
+abbrev pub end_effect : Bool → ℕ → ℕ → Effect
+end_effect ended g n = record { grains = λ x. grain_fate (if ended && in_run g n x then Ends g else Stays); rights = λ page. Kept; clears = λ page. if ended && meets_page g n page then Lost else Kept }
+
+end_does : (f : Profile) (name : Name) (guess a : ℕ) (t : Bool) (v : View) → (a == live_word name.turn guess) ≡ t → Agrees f v (End name guess) a → Does (end_effect t (grain_of name) guess) v (made (End name guess) a ∷ v)
+end_does f name guess a t v e agrees = subst (λ x. Does (end_effect x (grain_of name) guess) v (made (End name guess) a ∷ v)) e (does_step f (End name guess) a v refl agrees)
+
+pub end_fails : (f : Profile) (name : Name) (guess a : ℕ) → a ≢ live_word name.turn guess → Leads f AnyView (Does nothing) (made (End name guess) a ∷ [])
+end_fails f name guess a ne = record { from = λ v met agreed. end_does f name guess a false v (ne_eqb a (live_word name.turn guess) ne) agreed.0 }
+
+-- the block's grains, none of which was held before
+pub record EndsBlock (g n : ℕ) (v w : View) : Type 0 where
+  pub does : Does (end_effect true g n) v w
+  pub apart : (x : ℕ) → in_run g n x ≡ true → holds v x ≡ false
+
+pub end_succeeds : (f : Profile) (name : Name) (guess a : ℕ) → a ≡ live_word name.turn guess → Leads f AnyView (EndsBlock (grain_of name) guess) (made (End name guess) a ∷ [])
+end_succeeds f name guess a live = record { from = λ v met agreed. record { does = end_does f name guess a true v (eq-eqb a (live_word name.turn guess) live) agreed.0; apart = agreed.0.apart live } }
+
+-- ---- two calls that leave all as it was
+pub nothing_then : {f : Profile} {ys xs : List Made} → Leads f AnyView (Does nothing) xs → Leads f AnyView (Does nothing) ys → Leads f AnyView (Does nothing) (ys ++ xs)
+nothing_then a b = leads_then (Does nothing) a b (λ v w met d. tt) (λ v w u d e. does_then d e)
+
+pub nothing_none : {f : Profile} → Leads f AnyView (Does nothing) []
+nothing_none = leads_none (λ v met. does_none v)
+
+-- ---- a put
+put_fate : (t : Bool) → grain_fate (if t then Puts else Stays) ≡ (if t then Lost else Kept)
+put_fate true = refl
+put_fate false = refl
+
+pub leads_put : (f : Profile) (page word mask a : ℕ) → Leads f AnyView (Does (put (in_mask page word mask) page)) (made (Put page word mask) a ∷ [])
+leads_put f page word mask a = record { from = λ v met agreed. does_as (put (in_mask page word mask) page) (does_step f (Put page word mask) a v refl agreed.0) (λ x. inl (put_fate (in_mask page word mask x))) (λ q. refl) (λ q h. h) }
+
+-- ---- an end whose grains were put back leaves all as it was, since none of them was held
+back_grain : (t held : Bool) (g : ℕ) → (t ≡ true → held ≡ false) → SameGrain (later (grain_fate (if t then Ends g else Stays)) (if t then Lost else Kept)) Kept held
+back_grain true held g none = inr (none refl, refl)
+back_grain false held g none = inl refl
+
+back_clear : (t u : Bool) (page : ℕ) (v w : View) → (t ≡ true → u ≡ true) → ClearAfter (later (if t then Lost else Kept) (if u then Gained else Kept)) page v w → IsClearOn page v → IsClearOn page w
+back_clear t true page v w covers h is = h
+back_clear false false page v w covers h is = h is
+back_clear true false page v w covers h is = absurd (true≢false (sym (covers refl)))
+
+pub ends_back : {v w u : View} (g n : ℕ) (pages : ℕ → Bool) → EndsBlock g n v w → Does (freed (in_run g n) pages) w u → ((page : ℕ) → meets_page g n page ≡ true → pages page ≡ true) → Does nothing v u
+ends_back {v} {w} {u} g n pages e b covers = does_as nothing (does_then e.does b) (λ x. back_grain (in_run g n x) (holds v x) g (e.apart x)) (λ page. refl) (λ page. back_clear (meets_page g n page) (pages page) page v u (covers page))
+
+pub end_later : {v w u : View} (g n : ℕ) → Does nothing v w → EndsBlock g n w u → EndsBlock g n v u
+end_later g n d e = record { does = does_after_nothing (end_effect true g n) d e.does; apart = λ x inside. sym (d.held x) ∙ e.apart x inside }
