@@ -79,12 +79,32 @@ fn requests_have_their_routes(rt: HostRuntime) {
 #[test]
 fn profiles_have_limits(rt: HostRuntime) {
     assert!(rt; PROFILE.is_valid());
-    let mut marked = PROFILE;
-    marked.heaps = 3;
-    marked.shared = 7;
-    assert!(rt; marked.is_valid());
-    marked.shared = 8;
-    assert!(rt; !marked.is_valid());
+    let table: [(u32, u8, u64, u8, bool); 10] = [
+        (1, 1, 1, 1, true),
+        (4096, 16, 1_000_000, 32, true),
+        (0, 1, 1, 1, false),
+        (4097, 1, 1, 1, false),
+        (1, 0, 1, 1, false),
+        (1, 17, 1, 1, false),
+        (1, 1, 0, 1, false),
+        (1, 1, 1_000_001, 1, false),
+        (1, 1, 1, 0, false),
+        (1, 1, 1, 33, false),
+    ];
+    for (pages, threads, age, heaps, valid) in table {
+        let profile = Profile {
+            pages,
+            threads,
+            age,
+            heaps,
+            shared: 8,
+        };
+        assert_eq!(rt;
+            profile.is_valid(),
+            valid,
+            "{pages} pages, {threads} threads, age {age}, {heaps} heaps"
+        );
+    }
     for (size, align, heap) in [
         (16777217, 16, 0),
         (16, 8, 0),
