@@ -3,3 +3,4 @@ pub mod Searches
 pub mod Places
 pub mod Codecs
 pub mod ClassFacts
+pub mod Requests

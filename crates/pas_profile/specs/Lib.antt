@@ -7,3 +7,4 @@ pub mod Layouts
 pub mod Rooms
 pub mod Runs
 pub mod Refusals
+pub mod Requests

@@ -24,8 +24,8 @@ pub const MOST_AGE: u64 = 1_000_000;
 /// The largest size, in bytes, that a bit-fit page serves.
 pub const MOST_BITFIT: u32 = 2048;
 
-/// The most bytes that a request asks for, which are those of the largest region.
-pub const MOST_BYTES: u32 = 16_777_216;
+/// The most bytes of an input.
+pub const MOST_BYTES: usize = 16_777_216;
 
 /// The most local allocators of a thread's cache.
 pub const MOST_LOCALS: usize = 32;
