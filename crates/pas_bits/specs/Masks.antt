@@ -1,23 +1,15 @@
--- Masks of 256 bits as sets of numbers. A run of n from g are the numbers from g on and below g + n.
-use Rattle.std.specs.Prelude.{ℕ, zero, suc, ◌+◌, ◌/◌, ◌%◌, ◌<◌, ◌≤◌, ◌≡◌, nat_le, nat_lt, Bool, true, false, ◌&&◌, if◌then◌else◌, slice_index}
+-- Masks of 256 bits as sets of numbers.
+use Rattle.std.specs.Prelude.{ℕ, ◌+◌, ◌/◌, ◌%◌, ◌<◌, ◌≤◌, ◌≡◌, Bool, true, false, slice_index}
 use Rattle.pas_profile.specs.Classes.{has_bit}
+use Rattle.pas_profile.specs.Runs.{count_below}
 use Rattle.pas_bits.specs.declared.mask.Mask4.{Mask4}
 
 -- bit g of the mask is set. There are no bits from 256 on
 abbrev pub is_set : Mask4 → ℕ → Bool
 is_set mask g = has_bit (slice_index mask.0 (g / 64)) (g % 64)
 
--- the run of n from g has the number x
-abbrev pub in_run : ℕ → ℕ → ℕ → Bool
-in_run g n x = nat_le g x && nat_lt x (g + n)
-
--- how many numbers below n pass the test
-unfoldable pub count_below : ℕ → (ℕ → Bool) → ℕ
-count_below zero p = 0
-count_below (suc n) p = if p n then suc (count_below n p) else count_below n p
-
 -- how many bits are set
-abbrev pub set_count : Mask4 → ℕ
+unfoldable pub set_count : Mask4 → ℕ
 set_count mask = count_below 256 (is_set mask)
 
 -- all bits of the run of n from g are set

@@ -13,7 +13,7 @@ use Rattle.pas_steps.specs.Allowed.{MayPutNow}
 use Rattle.pas_steps.specs.Frames.{IsGrains, OnlyGrains}
 use Rattle.pas_steps.specs.Desks.{made}
 use Rattle.pas_steps.proofs.Kept.{grains_on, unstamped_on}
-use Rattle.pas_bits.proofs.Runs.{run_of, to_run}
+use Rattle.pas_profile.proofs.Runs.{run_of, to_run}
 use Rattle.pas_free_log.specs.Frames.{StaysAt}
 use Rattle.pas_free_log.specs.Returns.{MayPutRun, IsPut, OnlyPuts}
 use Rattle.pas_free_log.proofs.Staying.{holds_stays}

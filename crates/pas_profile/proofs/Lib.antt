@@ -4,3 +4,5 @@ pub mod Places
 pub mod Codecs
 pub mod ClassFacts
 pub mod Requests
+pub mod Runs
+pub mod Counts
