@@ -2,3 +2,4 @@ pub mod Words
 pub mod Runs
 pub mod Counts
 pub mod Places
+pub mod MovedMasks

@@ -1,13 +1,14 @@
 -- The lowest bits of a mask, and the lowest places of a run of set bits.
-use Rattle.std.proofs.Common.{◌≡◌, ◌≢◌, ℕ, ◌+◌, ◌-◌, ◌*◌, ◌/◌, ◌%◌, ◌^◌, ◌<◌, ◌≤◌, ◌==◌, not, min, Bool, true, false, refl, slice_index, Option, None, Some, MatchOption, inl, inr, ap, sym, ◌∙◌, arith}
+use Rattle.std.proofs.Common.{◌≡◌, ◌≢◌, ℕ, ◌+◌, ◌-◌, ◌*◌, ◌/◌, ◌%◌, ◌^◌, ◌<◌, ◌≤◌, ◌==◌, not, min, Bool, true, false, refl, slice_index, Option, None, Some, MatchBool, MatchOption, inl, inr, ap, sym, ◌∙◌, arith}
 use Rattle.std.specs.Int.{bit_at, w64, trailing_zeros}
+use Rattle.std.specs.Option.{is_some}
 use Rattle.std.proofs.lemmas.Bool.{cases_lt, cases_order}
 use Rattle.std.proofs.lemmas.Nat.{shr-shr, shr_le, div-add-mod', same_from_place, mod-mul-add}
 use Rattle.std.proofs.lemmas.Nat.Bits.{bit_at-trailing_zeros, bit_at_above}
 use Rattle.std.proofs.lemmas.Grind.{div_ceil_times}
 use Rattle.pas_profile.specs.Classes.{has_bit, class_grains, usable_grains, IsSlotStart}
 use Rattle.pas_bits.specs.declared.mask.Mask4.{Mask4}
-use Rattle.pas_bits.specs.Masks.{is_set, AreSet, AllSetBelow, AreClear, IsLowestSet, IsLowestClear, IsRunEnd, IsPlace, HasNoPlace, IsLowestPlace}
+use Rattle.pas_bits.specs.Masks.{is_set, AreSet, AllSetBelow, AreClear, IsLowestSet, IsLowestClear, IsEmpty, HasMember, IsRunEnd, IsPlace, HasNoPlace, IsLowestPlace}
 use Rattle.pas_bits.proofs.Words.{is_one, is_zero, none_of_zero, by_word}
 use Rattle.pas_bits.proofs.Runs.{from_not}
 
@@ -68,6 +69,13 @@ lowest_is mask from word low g at is began small fits some before =
             ∙ is_zero (slice_index mask.0 word / 2 ^ low) (x % 64 - low) (t.2 (x % 64 - low) (omega (arith, ge, b, at, inside, is, a)))
       ];
     }
+
+-- there is none exactly in an empty mask
+pub is_empty_by : (mask : Mask4) (o : Option ℕ) → MatchOption o (AreClear mask 0 256) (λ g. IsLowestSet mask 0 g) → (t : Bool) → is_some o ≡ not t → MatchBool t (IsEmpty mask) (HasMember mask)
+is_empty_by mask None clear true e = λ g lt. clear g (omega arith) lt
+is_empty_by mask None clear false e = cc
+is_empty_by mask (Some g) low true e = cc
+is_empty_by mask (Some g) low false e = (g, low.within, low.set)
 
 -- ---- the lowest clear bit, by the other bits of the mask
 abbrev pub AreOthers : Mask4 → Mask4 → Type 0

@@ -1,5 +1,5 @@
 -- Masks of 256 bits as sets of numbers.
-use Rattle.std.specs.Prelude.{ℕ, ◌+◌, ◌/◌, ◌%◌, ◌<◌, ◌≤◌, ◌≡◌, Bool, true, false, slice_index}
+use Rattle.std.specs.Prelude.{ℕ, ◌+◌, ◌-◌, ◌/◌, ◌%◌, ◌<◌, ◌≤◌, ◌≡◌, nat_lt, Bool, true, false, if◌then◌else◌, slice_index}
 use Rattle.pas_profile.specs.Classes.{has_bit}
 use Rattle.pas_profile.specs.Runs.{count_below}
 use Rattle.pas_bits.specs.declared.mask.Mask4.{Mask4}
@@ -27,6 +27,22 @@ AreClear mask from end = (x : ℕ) → from ≤ x → x < end → is_set mask x 
 -- no bit is set in both
 abbrev pub AreApart : Mask4 → Mask4 → Type 0
 AreApart a b = (x : ℕ) → is_set b x ≡ true → is_set a x ≡ false
+
+-- no bit is set
+abbrev pub IsEmpty : Mask4 → Type 0
+IsEmpty mask = (g : ℕ) → g < 256 → is_set mask g ≡ false
+
+-- some bit is set
+abbrev pub HasMember : Mask4 → Type 0
+HasMember mask = (g : ℕ) × (g < 256) × (is_set mask g ≡ true)
+
+-- a bit is set at the number, or at one of the n - 1 numbers below it
+abbrev pub IsNear : Mask4 → ℕ → ℕ → Type 0
+IsNear mask x n = (g : ℕ) × (g ≤ x) × (x < g + n) × (is_set mask g ≡ true)
+
+-- bit i of the 128 bits of two words, the lower one first
+abbrev pub bit_of_two : ℕ → ℕ → ℕ → Bool
+bit_of_two low high i = if nat_lt i 64 then has_bit low i else has_bit high (i - 64)
 
 -- the bit is set, and none from the first one on is that is lower
 pub record IsLowestSet (mask : Mask4) (from g : ℕ) : Type 0 where

@@ -5,6 +5,7 @@
 #![tactic(auto)]
 
 pub mod mask;
+mod moving;
 pub mod run;
 pub mod search;
 #[cfg(test)]

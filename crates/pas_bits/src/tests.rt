@@ -17,7 +17,7 @@ fn bits_stand_at_their_places(rt: HostRuntime) {
     for (grain, words) in table {
         let mut mask = EMPTY;
         mask.set(grain);
-        assert_eq!(rt; mask.words(), words, "only grain {grain} is set");
+        assert_eq!(rt; mask.0, words, "only grain {grain} is set");
         assert!(rt; mask.get(grain), "grain {grain} is set");
         assert_eq!(rt; mask, Mask4::run(grain, 1), "grain {grain} as a run");
         assert_eq!(rt; mask.count(), 1, "grain {grain} counts");
@@ -43,7 +43,7 @@ fn mask_without(grain: u8) -> Mask4 {
 
 #[test]
 fn the_lowest_set_bit_is_found_from_each_place(rt: HostRuntime) {
-    let mask = Mask4::of([1 << 5, 0, 1 << 2 | 1 << 63, 0]);
+    let mask = Mask4([1 << 5, 0, 1 << 2 | 1 << 63, 0]);
     let table: [(u16, Option<u8>); 7] = [
         (0, Some(5)),
         (5, Some(5)),
@@ -61,7 +61,7 @@ fn the_lowest_set_bit_is_found_from_each_place(rt: HostRuntime) {
 #[test]
 fn runs_are_the_lowest_aligned_ones(rt: HostRuntime) {
     // 3 to 9, 60 to 70, 128 to 255
-    let mask = Mask4::of([0xf000_0000_0000_03f8, 0x7f, u64::MAX, u64::MAX]);
+    let mask = Mask4([0xf000_0000_0000_03f8, 0x7f, u64::MAX, u64::MAX]);
     let table: [(u16, Option<u8>); 6] = [
         (1, Some(3)),
         (7, Some(3)),
@@ -93,7 +93,7 @@ fn runs_are_the_lowest_aligned_ones(rt: HostRuntime) {
 fn slots_are_the_lowest_free_ones_that_are_usable(rt: HostRuntime) {
     // slots of 3 grains, of which the page has 85: 255 is no grain of one
     let usable = Mask4::run(0, 255);
-    let last = Mask4::of([0, 0, 0, 0xf << 60]);
+    let last = Mask4([0, 0, 0, 0xf << 60]);
     assert_eq!(rt; last.first_slot(3, 255), Some(252), "the last slot");
     assert_eq!(rt; last.first_slot(3, 252), None, "a slot that is not usable");
     assert_eq!(rt;
