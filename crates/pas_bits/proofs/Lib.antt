@@ -3,3 +3,5 @@ pub mod Runs
 pub mod Counts
 pub mod Places
 pub mod MovedMasks
+pub mod LowestBits
+pub mod PageVectors
