@@ -132,16 +132,4 @@ place_found mask n align end place stop whole within long before run = record {
   lowest = before;
 }
 
--- two lowest places are one
-pub same_lowest : (mask : Mask4) (n align end g h : ℕ) → IsLowestPlace mask n align end g → IsLowestPlace mask n align end h → g ≡ h
-same_lowest mask n align end g h a b = elim (cases_order g h) [
-  | inl same ↦ same
-  | inr other ↦ elim other [ inl lt ↦ absurd (b.lowest g lt a.place) | inr gt ↦ absurd (a.lowest h gt b.place) ]
-]
-
 -- ---- places of slots of a class
-pub slot_start : (mask : Mask4) (class g : ℕ) → IsPlace mask (class_grains class) (class_grains class) (usable_grains class) g → IsSlotStart class g
-slot_start mask class g place = record { aligned = place.aligned; within = place.within }
-
-pub slot_place : (mask : Mask4) (class g : ℕ) → IsSlotStart class g → AreSet mask g (class_grains class) → IsPlace mask (class_grains class) (class_grains class) (usable_grains class) g
-slot_place mask class g start set = record { aligned = start.aligned; within = start.within; set = set }

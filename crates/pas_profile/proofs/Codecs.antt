@@ -73,9 +73,6 @@ same_from_number a b ha hb e =
 pub deed_word_of-positive : (d : Directory) → deed_word_of d ≢ 0
 deed_word_of-positive d e = omega (arith, e)
 
-pub deed_word_lt : (d : Directory) → IsDirectory d → deed_word_of d < 2 ^ 64
-deed_word_lt d h = let k = kind_number_lt d.kind h.kind in let n = h.heap in omega (arith, k, n)
-
 -- a deed word is read as the directory that it was made from
 abbrev read_by : Bool → Bool → ℕ → ℕ → Option Directory
 read_by low below heap kind = if low then None else (if below then with_kind heap (kind_of kind) else None)
@@ -156,25 +153,5 @@ grains_of-turn turn h = omega (arith, h)
 pub is_live-turn : (turn : ℕ) → turn < 2 ^ 40 → is_live turn ≡ false
 is_live-turn turn h = lt-leb (2 ^ 63) turn (omega (arith, h))
 
--- the words that the code makes, and their range
-pub life_word_of-live : (turn grains : ℕ) → life_word_of turn grains true ≡ live_word turn grains
-life_word_of-live turn grains = refl
-
 pub life_word_of-ended : (turn : ℕ) → life_word_of turn 0 false ≡ turn
 life_word_of-ended turn = omega arith
-
-pub live_word_lt : (turn grains : ℕ) → turn < 2 ^ 40 → grains < 2 ^ 23 → live_word turn grains < 2 ^ 64
-live_word_lt turn grains h k = omega (arith, h, k)
-
-parts_low : (w : ℕ) → w < 2 ^ 63 → life_word_of (turn_of w) (grains_of w) false ≡ w
-parts_low w h = omega (arith, h)
-
-parts_high : (w : ℕ) → w < 2 ^ 64 → 2 ^ 63 ≤ w → life_word_of (turn_of w) (grains_of w) true ≡ w
-parts_high w h k = omega (arith, h, k)
-
--- a word is the life word of what it is read as
-pub life_word_of-parts : (w : ℕ) → w < 2 ^ 64 → life_word_of (turn_of w) (grains_of w) (is_live w) ≡ w
-life_word_of-parts w h = elim (cases_lt w (2 ^ 63)) [
-  | inl low ↦ ap (λ b. life_word_of (turn_of w) (grains_of w) b) (lt-leb (2 ^ 63) w low) ∙ parts_low w low
-  | inr high ↦ ap (λ b. life_word_of (turn_of w) (grains_of w) b) (le-leb (2 ^ 63) w high) ∙ parts_high w h high
-]

@@ -20,7 +20,7 @@ pub fn route(size: u32, align: u32) -> Route
     ensures { result ≡ route_of size align }
 {
     if size <= 512 {
-        let first = CLASS_BY_GRAINS[size.div_ceil(16) as usize];
+        let first = CLASS_BY_GRAINS[size.div_ceil(GRAIN_BYTES) as usize];
         for class in first..16 {
             if CLASS_SIZES[class as usize] % align == 0 {
                 return Route::Class(class);
