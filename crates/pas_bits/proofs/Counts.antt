@@ -1,7 +1,6 @@
 -- How many bits of a mask are set.
 use Rattle.std.proofs.Common.{◌≡◌, ℕ, ◌+◌, ◌*◌, ◌^◌, ◌<◌, slice_index, ap, ◌∙◌, sym, subst, arith, refl}
 use Rattle.std.specs.Int.RustNames.{count_ones}
-use Rattle.pas_profile.specs.Classes.{has_bit}
 use Rattle.pas_profile.specs.Runs.{count_below}
 use Rattle.pas_profile.proofs.Counts.{count_same, count_add, ones_counted}
 use Rattle.pas_bits.specs.declared.mask.Mask4.{Mask4}

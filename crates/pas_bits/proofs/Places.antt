@@ -1,14 +1,12 @@
 -- The lowest bits of a mask, and the lowest places of a run of set bits.
-use Rattle.std.proofs.Common.{◌≡◌, ◌≢◌, ℕ, ◌+◌, ◌-◌, ◌*◌, ◌/◌, ◌%◌, ◌^◌, ◌<◌, ◌≤◌, ◌==◌, not, min, Bool, true, false, refl, slice_index, Option, None, Some, MatchBool, MatchOption, inl, inr, ap, sym, ◌∙◌, arith}
-use Rattle.std.specs.Int.{bit_at, w64, trailing_zeros}
+use Rattle.std.proofs.Common.{◌≡◌, ◌≢◌, ℕ, ◌+◌, ◌-◌, ◌*◌, ◌/◌, ◌%◌, ◌^◌, ◌<◌, ◌≤◌, not, min, Bool, true, false, refl, slice_index, Option, None, Some, MatchBool, MatchOption, inl, inr, ap, ◌∙◌, arith}
+use Rattle.std.specs.Int.{w64, trailing_zeros}
 use Rattle.std.specs.Option.{is_some}
-use Rattle.std.proofs.lemmas.Bool.{cases_lt, cases_order}
-use Rattle.std.proofs.lemmas.Nat.{shr-shr, shr_le, div-add-mod', same_from_place, mod-mul-add}
-use Rattle.std.proofs.lemmas.Nat.Bits.{bit_at-trailing_zeros, bit_at_above}
+use Rattle.std.proofs.lemmas.Bool.{cases_lt}
+use Rattle.std.proofs.lemmas.Nat.{div-add-mod', same_from_place, mod-mul-add}
 use Rattle.std.proofs.lemmas.Grind.{div_ceil_times}
-use Rattle.pas_profile.specs.Classes.{has_bit, class_grains, usable_grains, IsSlotStart}
 use Rattle.pas_bits.specs.declared.mask.Mask4.{Mask4}
-use Rattle.pas_bits.specs.Masks.{is_set, AreSet, AllSetBelow, AreClear, IsLowestSet, IsLowestClear, IsEmpty, HasMember, IsRunEnd, IsPlace, HasNoPlace, IsLowestPlace}
+use Rattle.pas_bits.specs.Masks.{is_set, AllSetBelow, AreClear, IsLowestSet, IsLowestClear, IsEmpty, HasMember, IsRunEnd, IsPlace, HasNoPlace, IsLowestPlace}
 use Rattle.pas_bits.proofs.LowestBits.{none_from, lowest_from}
 use Rattle.pas_bits.proofs.Words.{by_word, at_word}
 use Rattle.pas_bits.proofs.Runs.{from_not}

@@ -121,35 +121,38 @@ fn slots_are_the_lowest_free_ones_that_are_usable(rt: HostRuntime) {
 #[test]
 fn masks_are_moved_joined_and_spread(rt: HostRuntime) {
     let run = Mask4::run(62, 4);
-    assert_eq!(rt; run.moved_down(60), Mask4::run(2, 4), "down by 60");
-    assert_eq!(rt; run.moved_up(63), Mask4::run(125, 4), "up by 63");
-    assert_eq!(rt; Mask4::run(254, 2).moved_up(1), Mask4::run(255, 1), "up over the end");
-    assert_eq!(rt; Mask4::run(0, 2).moved_down(1), Mask4::run(0, 1), "down over the end");
-    assert_eq!(rt; run.both(&Mask4::run(0, 64)), Mask4::run(62, 2), "both");
-    assert_eq!(rt; run.either(&Mask4::run(66, 2)), Mask4::run(62, 6), "either");
-    assert_eq!(rt; run.runs(3), Mask4::run(62, 2), "runs of 3");
-    assert_eq!(rt; Mask4::run(100, 64).runs(64), Mask4::run(100, 1), "a run of 64");
-    assert_eq!(rt; Mask4::run(62, 1).spread(5), Mask4::run(62, 5), "spread over 5");
+    let table: [(Mask4, Mask4); 9] = [
+        (run.moved_down(60), Mask4::run(2, 4)),
+        (Mask4::run(0, 2).moved_down(1), Mask4::run(0, 1)),
+        (run.moved_up(63), Mask4::run(125, 4)),
+        (Mask4::run(254, 2).moved_up(1), Mask4::run(255, 1)),
+        (run.both(&Mask4::run(0, 64)), Mask4::run(62, 2)),
+        (run.either(&Mask4::run(66, 2)), Mask4::run(62, 6)),
+        (run.runs(3), Mask4::run(62, 2)),
+        (Mask4::run(100, 64).runs(64), Mask4::run(100, 1)),
+        (Mask4::run(62, 1).spread(5), Mask4::run(62, 5)),
+    ];
+    for (made, wanted) in table {
+        assert_eq!(rt; made, wanted);
+    }
     assert!(rt; EMPTY.is_empty(), "no bit");
-    assert!(rt; !Mask4::run(255, 1).is_empty(), "the last bit");
+    assert!(rt; !run.is_empty(), "four bits");
 }
 
 #[test]
 fn pages_stand_in_their_words(rt: HostRuntime) {
+    // pages 70 and 127, in word 1
     let word = with_page(with_page(0, 70), 127);
-    assert_eq!(rt; word, 1 << 6 | 1 << 63, "pages 70 and 127");
-    assert_eq!(rt; page_mask(4096), 1, "page 4,096 is the first of its word");
-    assert!(rt; has_page(word, 70), "page 70 is in its word");
-    assert!(rt; !has_page(word, 71), "page 71 isn't");
-    let table: [(u32, Option<u32>); 5] = [
-        (1, Some(70)),
-        (70, Some(70)),
-        (71, Some(127)),
-        (127, Some(127)),
-        (128, None),
+    assert_eq!(rt; word, page_mask(6) | page_mask(4095));
+    let table: [(u32, bool, Option<u32>); 5] = [
+        (69, false, Some(70)),
+        (70, true, Some(70)),
+        (71, false, Some(127)),
+        (127, true, Some(127)),
+        (128, false, None),
     ];
-    for (next, lowest) in table {
-        assert_eq!(rt; lowest_page(word, 1, next), lowest, "from {next}");
+    for (page, has, lowest) in table {
+        assert_eq!(rt; has_page(word, page), has, "page {page}");
+        assert_eq!(rt; lowest_page(word, 1, page), lowest, "from {page}");
     }
-    assert_eq!(rt; lowest_page(0, 1, 1), None, "no page");
 }

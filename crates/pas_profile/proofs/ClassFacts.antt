@@ -1,14 +1,14 @@
 -- Sizes of classes, the slots of their pages, and what a route says.
-use Rattle.std.proofs.Common.{◌≡◌, ℕ, zero, suc, ◌+◌, ◌-◌, ◌*◌, ◌/◌, ◌%◌, ◌<◌, ◌≤◌, max, Bool, true, false, ◌&&◌, leb, ltb, eqb, if◌then◌else◌, List, [], ◌∷◌, length, get_or, Option, None, Some, refl, ap, sym, ◌∙◌, subst, arith, inl, inr}
+use Rattle.std.proofs.Common.{◌≡◌, ℕ, zero, suc, ◌+◌, ◌-◌, ◌*◌, ◌/◌, ◌%◌, ◌<◌, ◌≤◌, max, Bool, true, false, ◌&&◌, leb, eqb, if◌then◌else◌, List, [], ◌∷◌, length, get_or, Option, None, Some, refl, ap, sym, ◌∙◌, subst, arith, inl, inr}
 use Rattle.std.proofs.Math.Nat.{dvd-add, dvd-mul_left_of_dvd}
 use Rattle.std.specs.Int.{◌∣◌}
 use Rattle.std.proofs.lemmas.Nat.{same_from_place, div-add-mod'}
 use Rattle.std.proofs.lemmas.Nat.Gcd.{dvd_of_mod-eq-zero, mod-eq-zero_of_dvd}
-use Rattle.std.proofs.lemmas.Bool.{leb-true, ltb-true, eqb-true, le-leb, eq-eqb, and_parts, and_from, cases_Bool, cases_lt, lt-leb, false≢true}
+use Rattle.std.proofs.lemmas.Bool.{leb-true, eqb-true, le-leb, eq-eqb, and_parts, and_from, cases_Bool, cases_lt, lt-leb, false≢true}
 use Rattle.pas_profile.specs.Classes.{class_sizes, IsClass, class_size, class_grains, usable_grains, IsSlotStart}
 use Rattle.pas_profile.specs.Routes.{first_class, route_of, route_with, route_without_class, Suits, IsSmallest, NoneSuits, IsRouteOf}
 use Rattle.pas_profile.specs.declared.directory.Route.TheVariants.{Class, Bitfit, Large}
-use Rattle.pas_profile.proofs.Tables.{passes_below, passes_at}
+use Rattle.pas_profile.proofs.Tables.{passes_at}
 
 -- Sizes are whole grains, of which a block has 1 to 32, and the slots cover 240 to 256 grains of a page.
 

@@ -51,4 +51,3 @@ ones_counted (suc k) n small =
     let top : count_ones (n / 2 ^ k) ≡ (if has_bit n k then 1 else 0) = top_ones (n / 2 ^ k) high (has_bit n k) (ap (λ t. t == 1) (sym same)) in
     let ones : count_ones n ≡ count_ones (n / 2 ^ k) + count_ones (n % 2 ^ k) = ap (λ m. count_ones m) (sym split) ∙ ones_cat k (n / 2 ^ k) (n % 2 ^ k) low in
     ones ∙ omega (arith, top, below, ones_counted k (n % 2 ^ k) low, count_suc k (has_bit n) (has_bit n k) refl)
-

@@ -1,10 +1,9 @@
 -- The room of a request is large enough, and its directory is one of the profile.
-use Rattle.std.proofs.Common.{◌≡◌, ℕ, ◌+◌, ◌*◌, ◌/◌, ◌%◌, ◌<◌, ◌≤◌, max, Bool, true, false, ap, sym, ◌∙◌, subst, refl, arith}
-use Rattle.pas_profile.specs.Classes.{class_size}
+use Rattle.std.proofs.Common.{◌≡◌, ℕ, max, Bool, true, false, ap, sym, arith}
 use Rattle.pas_profile.specs.Directories.{IsKind}
 use Rattle.pas_profile.specs.Profiles.{IsAdmitted, IsDirectoryOf}
-use Rattle.pas_profile.specs.Requests.{is_shared, kind_of_class, kind_of_route, directory_for}
-use Rattle.pas_profile.specs.Routes.{route_of, rounded_up, room_by, room_of, IsRouteOf, IsRoomFor}
+use Rattle.pas_profile.specs.Requests.{is_shared, kind_of_route, directory_for}
+use Rattle.pas_profile.specs.Routes.{route_of, room_by, room_of, IsRouteOf, IsRoomFor}
 use Rattle.pas_profile.specs.declared.directory.Route.{Route}
 use Rattle.pas_profile.specs.declared.directory.Route.TheVariants.{Class, Bitfit, Large}
 use Rattle.pas_profile.specs.declared.profile.Profile.{Profile}

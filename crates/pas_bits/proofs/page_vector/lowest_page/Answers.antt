@@ -1,4 +1,4 @@
-use Rattle.std.proofs.Common.{◌≡◌, arith}
+use Rattle.std.proofs.Common.{arith}
 use Rattle.pas_bits.proofs.PageVectors.{no_page, lowest_found}
 use Rattle.pas_bits.proofs.page_vector.lowest_page.Goals as goal
 

@@ -1,4 +1,4 @@
-use Rattle.std.proofs.Common.{◌≡◌, ◌%◌, ap, ◌∙◌}
+use Rattle.std.proofs.Common.{◌%◌, ap, ◌∙◌}
 use Rattle.std.proofs.Common.{bit_or}
 use Rattle.pas_profile.specs.Classes.{has_bit}
 use Rattle.pas_bits.proofs.PageVectors.{page_added}
