@@ -68,10 +68,12 @@ allocating_keeps v (Look Word.Epoch) is h = h
 allocating_keeps v (Stamp q) is h = absurd is
 allocating_keeps v (Tick up) is h = absurd is
 allocating_keeps v s is h = tt
+
 allocating_stamps : (s : Step) (a p : ℕ) (was : Bool) → IsAllocating s → unstamped_after s a p was ≡ was
 allocating_stamps (End name guess) a p was is = absurd is
 allocating_stamps (Stamp q) a p was is = absurd is
 allocating_stamps s a p was is = refl
+
 allocating_done : (steps : List Made) (v : View) → AreAllocating steps → AllStamped v → Done v steps
 allocating_done [] v are h = done_none v h
 allocating_done (m ∷ more) v are h =
@@ -85,9 +87,11 @@ allocating_done (m ∷ more) v are h =
 return_keeps : (p : ℕ) (s : Step) (v : View) → IsReturn p s → KeepsToEnds v s
 return_keeps p s v IsReturn.Hints = tt
 return_keeps p s v step = tt
+
 return_stamps : (p : ℕ) (s : Step) (a q : ℕ) (was : Bool) → IsReturn p s → unstamped_after s a q was ≡ was
 return_stamps p s a q was IsReturn.Hints = refl
 return_stamps p s a q was step = refl
+
 put_keeps : (p : ℕ) (s : Step) (v : View) → IsPut p s → KeepsToEnds v s
 put_keeps p s v (IsPut.Puts w mask) = tt
 
