@@ -5,7 +5,7 @@ use Rattle.pas_trace.specs.Items.{item_of_line}
 use Rattle.pas_trace.specs.Told.{owner_in, few_told, thread_told, told_checks, has_owner, has_owner_now, IsChecked, Tells}
 use Rattle.pas_trace.specs.declared.fault.Reason.{Reason}
 use Rattle.pas_trace.specs.declared.item.Item.{Item}
-use Rattle.pas_trace.specs.declared.item.Item.TheVariants.{Blank, Shares, NextPhase, Allocates, Frees, FreesRaw, Flushes, Stops, Ticks, Passes, Idles}
+use Rattle.pas_trace.specs.declared.item.Item.TheVariants.{Allocates, Frees, FreesRaw, Flushes, Stops, Ticks, Passes, Idles}
 use Rattle.pas_trace.specs.declared.reader.Reader.{Reader}
 
 -- ---- lists of checks

@@ -1,5 +1,6 @@
 -- What the reader keeps of the lines that it has read.
 use Rattle.std.specs.Prelude.{if◌then◌else◌, ℕ, ◌+◌, ◌*◌, ◌^◌, ◌==◌, ◌≡◌, ◌≤◌, ◌<◌, nat_lt, nat_le, Bool, true, not, ◌&&◌, ◌||◌, List, [], ◌∷◌, ◌++◌, map, length, None, Some, Result, Ok, Err, slice_index, slice_index_or, slice_set}
+use Rattle.pas_profile.specs.Profiles.{IsValid}
 use Rattle.pas_profile.specs.declared.profile.Profile.{Profile}
 use Rattle.pas_trace.specs.Reasons.{first_failed, is_thread, is_alignment, cost_of, started, operations_in, is_named, is_named_now, thread_of, record_bound, line_says, reason_of}
 use Rattle.pas_trace.specs.declared.fault.Reason.{Reason}
@@ -25,13 +26,6 @@ owner_in names name = slice_index_or names.owners.items name record { thread = 0
 -- the phases that were gathered, in order
 abbrev pub gathered_phases : Gathered → List (List Op)
 gathered_phases gathered = map ops_of gathered.done.items ++ gathered.present.items ∷ []
-
--- the limits of a header
-pub record IsHeader (f : Profile) : Type 0 where
-  pub one_page : 1 ≤ f.pages
-  pub pages : f.pages ≤ 4096
-  pub threads : f.threads ≤ 16
-  pub heaps : f.heaps ≤ 32
 
 -- ---- the checks, by what the reader keeps
 abbrev pub few_told : Reader → ℕ → List (Bool × Reason)
@@ -92,7 +86,7 @@ pub record NameTold (owner : Owner) (phase : ℕ) (items : List Item) (n : ℕ) 
   pub before : owner.phase ≤ phase
 
 pub record Tells (r : Reader) (items : List Item) : Type 0 where
-  pub header : IsHeader r.header
+  pub header : IsValid r.header
   pub shared : r.shared ≡ shared_in items
   pub started : r.started ≡ started items
   pub line : r.line ≡ line_of_newest items

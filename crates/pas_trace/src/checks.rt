@@ -1,9 +1,10 @@
 //! The checks of a line's item, in the order of the reasons.
 ghost use Rattle.std.specs.Prelude.{◌≡◌, ◌<◌, ◌≤◌, ◌^◌};
+ghost use Rattle.pas_profile.specs.Profiles.{IsValid};
 ghost use Rattle.pas_profile.specs.Classes.{IsAlignment};
 ghost use Rattle.pas_profile.specs.Routes.{route_of};
 ghost use Rattle.pas_trace.specs.Reasons.{cost_of, cost_of_route, is_alignment, is_thread};
-ghost use Rattle.pas_trace.specs.Told.{IsHeader, IsChecked, few_told, thread_told, told_checks};
+ghost use Rattle.pas_trace.specs.Told.{IsChecked, few_told, thread_told, told_checks};
 
 use crate::counts::{MOST_OPERATIONS, MOST_RECORDS};
 use crate::fault::Reason;
@@ -77,7 +78,7 @@ impl Reader {
         size: u64,
         align: u64,
     ) -> Result<u32, Reason>
-        requires { IsHeader self.now.header }
+        requires { IsValid self.now.header }
         ensures { IsChecked (told_checks self.now (Item.Allocates thread name heap size align)) (cost_of self.now.header (Item.Allocates thread name heap size align)) result }
     {
         if !self.has_thread(thread) {
@@ -119,7 +120,7 @@ impl Reader {
     /// The cost of an item that passes its checks, or the first reason that applies.
     #[inline]
     pub fn check(&self, item: Item) -> Result<u32, Reason>
-        requires { IsHeader self.now.header }
+        requires { IsValid self.now.header }
         ensures { IsChecked (told_checks self.now item) (cost_of self.now.header item) result }
     {
         match item {

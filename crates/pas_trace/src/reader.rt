@@ -1,9 +1,10 @@
 //! The reader: what it keeps of the lines before, and how it takes a line.
 ghost use Rattle.std.specs.Prelude.{◌≡◌, ◌<◌, ◌≤◌, ◌+◌, ◌∷◌, ◌^◌, [], ℕ, List, Some, None, Ok, Err, OnOk, IfOk, MatchResult, length, slice_index};
+ghost use Rattle.pas_profile.specs.Profiles.{IsValid};
 ghost use Rattle.pas_trace.specs.Reasons.{line_says, reason_of, cost_of, started};
 ghost use Rattle.pas_trace.specs.Items.{item_of_line};
 ghost use Rattle.pas_trace.specs.Plans.{IsReading, bounds_of, bounds_upto, name_at};
-ghost use Rattle.pas_trace.specs.Told.{IsHeader, IsRanged, Tells, IsOperated, IsAllocated, IsNextPhase, IsAdded, IsTaken, IsRead, IsPlanned, told_checks};
+ghost use Rattle.pas_trace.specs.Told.{IsRanged, Tells, IsOperated, IsAllocated, IsNextPhase, IsAdded, IsTaken, IsRead, IsPlanned, told_checks};
 ghost use Rattle.pas_trace.specs.declared.item.Item.{Item};
 
 use crate::counts::Counts;
@@ -39,7 +40,7 @@ pub struct Reader {
 impl Reader {
     /// A reader that has read the header.
     fn new(alloc: Global, header: Profile) -> Reader
-        requires { IsHeader header }
+        requires { IsValid header }
         ensures tells { Tells result [] }
         ensures header { result.header ≡ header }
     {
@@ -175,7 +176,7 @@ impl Reader {
     /// What a line says after the lines before, with its cost; or the first reason that applies.
     #[inline]
     fn says(&self, line: &[u8]) -> Result<(Item, u32), Reason>
-        requires { IsHeader self.now.header }
+        requires { IsValid self.now.header }
         ensures { (items : List Item) → Tells self.now items → MatchResult result (λ p. (line_says self.now.header items line.now ≡ Ok p.0) × (reason_of self.now.header items p.0 ≡ None) × IsRanged p.0 × (p.1 ≡ cost_of self.now.header p.0)) (λ r. line_says self.now.header items line.now ≡ Err r) }
     {
         let item = read_item(self.started, line)?;

@@ -1,0 +1,154 @@
+-- The operations of items follow one another soundly, and may make as many records as the items.
+use Rattle.std.proofs.Common.{◌≡◌, ℕ, ◌+◌, ◌≤◌, ◌==◌, ◌||◌, Bool, true, false, if◌then◌else◌, List, [], ◌∷◌, ◌++◌, length, Option, Some, None, refl, ap, sym, ◌∙◌, subst, arith, append_assoc, length-append}
+use Rattle.std.proofs.lemmas.List.{append-nil}
+use Rattle.pas_profile.specs.declared.profile.Profile.{Profile}
+use Rattle.pas_trace.specs.Reasons.{is_named, actor_of, cost_of, costs_of, reason_of}
+use Rattle.pas_trace.specs.Plans.{operation_of, add_last, phases_in, phases_after, line_of_newest, own_costs}
+use Rattle.pas_trace.specs.EveryPlan.{all_ops, is_asked, asked_after, asked_by, AreSound, records_of_ops, own_records}
+use Rattle.pas_trace.specs.declared.item.Item.{Item}
+use Rattle.pas_trace.specs.declared.item.Item.TheVariants.{Blank, Shares, NextPhase, Allocates, Frees, FreesRaw, Flushes, Stops, Ticks, Passes, Idles}
+use Rattle.pas_trace.specs.declared.plan.Op.{Op}
+use Rattle.pas_trace.proofs.ItemRanges.{IsInRange}
+use Rattle.pas_trace.proofs.ParsedItems.{AreChecked}
+use Rattle.pas_trace.proofs.PassedChecks.{fine-thread, fine-free, fine-allocation}
+
+-- ---- the operations of items in one list: those before, and that of the newest item, where it is one
+abbrev pub ops_in : List Item → List Op
+ops_in items = all_ops (phases_in items)
+
+abbrev one : Option Op → List Op
+one None = []
+one (Some op) = op ∷ []
+
+abbrev new_ops : Item → List Item → List Op
+new_ops i earlier = one (operation_of (line_of_newest (i ∷ earlier)) i)
+
+all_more : (phases : List (List Op)) → all_ops (phases ++ [] ∷ []) ≡ all_ops phases
+all_more [] = refl
+all_more (p ∷ ps) = ap (λ ops. p ++ ops) (all_more ps)
+
+all_add : (op : Op) (phases : List (List Op)) → all_ops (add_last (Some op) phases) ≡ all_ops phases ++ op ∷ []
+all_add op [] = refl
+all_add op (p ∷ []) = append-nil (p ++ op ∷ []) ∙ ap (λ ops. ops ++ op ∷ []) (sym (append-nil p))
+all_add op (p ∷ q ∷ phases) = ap (λ ops. p ++ ops) (all_add op (q ∷ phases)) ∙ sym (append_assoc p (all_ops (q ∷ phases)) (op ∷ []))
+
+ops_next : (i : Item) (earlier : List Item) → ops_in (i ∷ earlier) ≡ ops_in earlier ++ new_ops i earlier
+ops_next Blank earlier = sym (append-nil (ops_in earlier))
+ops_next (Shares h) earlier = sym (append-nil (ops_in earlier))
+ops_next NextPhase earlier = all_more (phases_in earlier) ∙ sym (append-nil (ops_in earlier))
+ops_next i earlier = all_add _ (phases_in earlier)
+
+-- ---- they follow one another
+asked_both : (asked : List ℕ) (xs ys : List Op) → asked_by asked (xs ++ ys) ≡ asked_by (asked_by asked xs) ys
+asked_both asked [] ys = refl
+asked_both asked (x ∷ xs) ys = asked_both (asked_after x.what asked) xs ys
+
+sound_both : (f : Profile) (asked : List ℕ) (xs ys : List Op) → AreSound f asked xs → AreSound f (asked_by asked xs) ys → AreSound f asked (xs ++ ys)
+sound_both f asked [] ys a b = b
+sound_both f asked (x ∷ xs) ys a b = (a.0, a.1, sound_both f (asked_after x.what asked) xs ys a.2 b)
+
+-- the names are those that the items allocate
+abbrev AreNames : List ℕ → List Item → Type 0
+AreNames asked items = (n : ℕ) → is_asked asked n ≡ is_named items n
+
+abbrev sharing : Profile → ℕ → Profile
+sharing f shared = record f { shared = shared }
+
+item_sound : (f : Profile) (shared : ℕ) (i : Item) (earlier : List Item) (asked : List ℕ) → reason_of f earlier i ≡ None → IsInRange i → AreNames asked earlier → AreSound (sharing f shared) asked (new_ops i earlier)
+item_sound f shared (Allocates t n h s a) earlier asked passes range names =
+    let fine = fine-allocation f earlier t n h s a passes in
+    let size = fine.size in
+    (fine.thread, (record { within = omega (arith, size); aligned = fine.align; of_profile = fine.heap }, names n ∙ fine.new), tt)
+item_sound f shared (Frees t n) earlier asked passes range names = let fine = fine-free f earlier t n passes in (fine.thread, names n ∙ fine.named, tt)
+item_sound f shared (FreesRaw t a n) earlier asked passes range names = ((fine-thread f earlier t (FreesRaw t a n) passes).0, range, tt)
+item_sound f shared (Flushes t) earlier asked passes range names = ((fine-thread f earlier t (Flushes t) passes).0, range, tt)
+item_sound f shared (Stops t) earlier asked passes range names = ((fine-thread f earlier t (Stops t) passes).0, range, tt)
+item_sound f shared (Ticks e) earlier asked passes range names = (refl, range, tt)
+item_sound f shared Passes earlier asked passes range names = (refl, range, tt)
+item_sound f shared (Idles n) earlier asked passes range names = (refl, range, tt)
+item_sound f shared i earlier asked passes range names = tt
+
+item_names : (i : Item) (earlier : List Item) (asked : List ℕ) → AreNames asked earlier → AreNames (asked_by asked (new_ops i earlier)) (i ∷ earlier)
+item_names (Allocates t n h s a) earlier asked names m = ap (λ b. (n == m) || b) (names m)
+item_names i earlier asked names m = names m
+
+pub record AreFollowing (f : Profile) (shared : ℕ) (items : List Item) : Type 0 where
+  pub sound : AreSound (sharing f shared) [] (ops_in items)
+  pub names : AreNames (asked_by [] (ops_in items)) items
+
+pub following : (f : Profile) (shared : ℕ) (items : List Item) → AreChecked f items → AreFollowing f shared items
+following f shared [] checked = record { sound = tt; names = λ n. refl }
+following f shared (i ∷ earlier) checked =
+    let before = following f shared earlier checked.1 in
+    let asked = asked_by [] (ops_in earlier) in
+    record {
+      sound = subst (AreSound (sharing f shared) []) (sym (ops_next i earlier))
+          (sound_both (sharing f shared) [] (ops_in earlier) (new_ops i earlier) before.sound (item_sound f shared i earlier asked checked.0.passes checked.0.range before.names));
+      names = subst (λ now. AreNames now (i ∷ earlier)) (sym (ap (asked_by []) (ops_next i earlier) ∙ asked_both [] (ops_in earlier) (new_ops i earlier))) (item_names i earlier asked before.names);
+    }
+
+-- ---- how many records
+records_both : (f : Profile) (xs ys : List Op) → records_of_ops f (xs ++ ys) ≡ records_of_ops f xs + records_of_ops f ys
+records_both f [] ys = omega arith
+records_both f (x ∷ xs) ys = omega (arith, records_both f xs ys)
+
+own_both : (f : Profile) (k : ℕ) (xs ys : List Op) → own_records f k (xs ++ ys) ≡ own_records f k xs + own_records f k ys
+own_both f k [] ys = omega arith
+own_both f k (x ∷ xs) ys = omega (arith, own_both f k xs ys)
+
+item_records : (f : Profile) (shared : ℕ) (i : Item) (earlier : List Item) → records_of_ops (sharing f shared) (new_ops i earlier) ≡ cost_of f i
+item_records f shared Blank earlier = refl
+item_records f shared i earlier = omega arith
+
+if_same : (t : Bool) (n : ℕ) → n ≡ (if t then n else n)
+if_same true n = refl
+if_same false n = refl
+
+item_own : (f : Profile) (shared k : ℕ) (i : Item) (earlier : List Item) → own_records (sharing f shared) k (new_ops i earlier) ≡ (if actor_of i == k then cost_of f i else 0)
+item_own f shared k Blank earlier = if_same (0 == k) 0
+item_own f shared k (Shares h) earlier = if_same (0 == k) 0
+item_own f shared k NextPhase earlier = if_same (0 == k) 0
+item_own f shared k i earlier = omega arith
+
+own_more : (t : Bool) (own cost : ℕ) → own + (if t then cost else 0) ≡ (if t then own + cost else own)
+own_more true own cost = refl
+own_more false own cost = omega arith
+
+pub all_records : (f : Profile) (shared : ℕ) (items : List Item) → records_of_ops (sharing f shared) (ops_in items) ≡ costs_of f items
+all_records f shared [] = refl
+all_records f shared (i ∷ earlier) =
+    let g = sharing f shared in
+    ap (records_of_ops g) (ops_next i earlier) ∙ omega (arith, records_both g (ops_in earlier) (new_ops i earlier), item_records f shared i earlier, all_records f shared earlier)
+
+pub all_own : (f : Profile) (shared k : ℕ) (items : List Item) → own_records (sharing f shared) k (ops_in items) ≡ own_costs f k items
+all_own f shared k [] = refl
+all_own f shared k (i ∷ earlier) =
+    let g = sharing f shared in
+    ap (own_records g k) (ops_next i earlier) ∙ own_both g k (ops_in earlier) (new_ops i earlier) ∙ ap (λ n. own_records g k (ops_in earlier) + n) (item_own f shared k i earlier)
+    ∙ ap (λ n. n + (if actor_of i == k then cost_of f i else 0)) (all_own f shared k earlier) ∙ own_more (actor_of i == k) (own_costs f k earlier) (cost_of f i)
+
+-- ---- how many phases: one, and one for each item at most
+add_kept : (op : Op) (phases : List (List Op)) → 1 ≤ length phases → length (add_last (Some op) phases) ≡ length phases
+add_kept op [] some = absurd (omega (arith, some))
+add_kept op (p ∷ []) some = refl
+add_kept op (p ∷ q ∷ phases) some = omega (arith, add_kept op (q ∷ phases) (omega arith))
+
+record AreFewPhases (phases : List (List Op)) (items : ℕ) : Type 0 where
+  some : 1 ≤ length phases
+  few : length phases ≤ items + 1
+
+added_few : (op : Op) (n : ℕ) (phases : List (List Op)) → AreFewPhases phases n → AreFewPhases (add_last (Some op) phases) (n + 1)
+added_few op n phases p = let some = p.some in let few = p.few in let same = add_kept op phases some in record { some = omega (arith, some, same); few = omega (arith, few, same) }
+
+phases_after_few : (i : Item) (line n : ℕ) (phases : List (List Op)) → AreFewPhases phases n → AreFewPhases (phases_after i line phases) (n + 1)
+phases_after_few Blank line n phases p = let few = p.few in record { some = p.some; few = omega (arith, few) }
+phases_after_few (Shares h) line n phases p = let few = p.few in record { some = p.some; few = omega (arith, few) }
+phases_after_few NextPhase line n phases p = let few = p.few in let more = length-append phases ([] ∷ []) in record { some = omega (arith, more); few = omega (arith, more, few) }
+phases_after_few i line n phases p = added_few _ n phases p
+
+phases_few : (items : List Item) → AreFewPhases (phases_in items) (length items)
+phases_few [] = record { some = omega arith; few = omega arith }
+phases_few (i ∷ earlier) = let p = phases_after_few i (line_of_newest (i ∷ earlier)) (length earlier) (phases_in earlier) (phases_few earlier) in let few = p.few in record { some = p.some; few = omega (arith, few) }
+
+pub phases_within : (items : List Item) → length (phases_in items) ≤ length items + 1
+phases_within items = (phases_few items).few
