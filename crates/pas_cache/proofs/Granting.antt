@@ -128,7 +128,7 @@ module _ (f : Profile) (locals : List Slots) (slots rest : Slots) (block : Block
   rests_two = record {
     grains = grains_two;
     rights = λ p. h.rights p ∙ (w.rights p ∙ (ap (λ t. t || any_keeps locals p) (sym (ap (λ r. r && (rest.page == p)) gives.rest.right ∙ ap (λ q. slots.right && (q == p)) gives.rest.page)) ∙ sym (w'.rights p)));
-    clear = record { stamped = h.clear.stamped; owes = λ p. record { checks = (h.clear.owes p).checks; hint = (h.clear.owes p).hint } };
+    clear = record { on = λ p. let was = h.clear.on p in record { stamped = was.stamped; owes = record { checks = was.owes.checks; hint = was.owes.hint }; examined = was.examined } };
     known = w'.joins (IsLocal f (two ++ v))
         (record {
           page = rest_before.page;

@@ -52,7 +52,7 @@ pub keeps_look : (f : Profile) (epoch : ℕ) → KeepsAll f (made (Look Word.Epo
 keeps_look f epoch = record {
   held = λ v a g. refl;
   right = λ v a p. refl;
-  clear = λ v a h. record { stamped = h.stamped; owes = λ p. record { checks = (h.owes p).checks; hint = (h.owes p).hint } };
+  clear = λ v a h. record { on = λ p. let was = h.on p in record { stamped = was.stamped; owes = record { checks = was.owes.checks; hint = was.owes.hint }; examined = was.examined } };
   backed = λ v a p h. and_from (knows_backed v p) (holds_on v p) h (held_where_backed v p h);
   deeds = λ v a p h. refl;
 }

@@ -84,7 +84,7 @@ module _ (f : Profile) (locals : List Slots) (slots : Slots) (rest : List Slots)
   }
 
   pub may_give_slot : MayGiveSlot f slots v
-  may_give_slot = record { held = held_here; local = here; stamped = h.clear.stamped slots.page }
+  may_give_slot = record { held = held_here; local = here; stamped = (h.clear.on slots.page).stamped }
 
   rest_each : HasOneEach rest
   rest_each heap class =

@@ -23,5 +23,4 @@ pub mod Agreement
 pub mod Nexts
 pub mod Running
 pub mod Checks
-pub mod Idle
 pub mod Offers

@@ -1,4 +1,5 @@
--- A page with a free usable grain, whose right no actor has and whose check no actor owes, is offered. And actors are those of the profile.
+-- Nothing is lost: a page with a free usable grain, whose right no actor has and whose check no actor owes, is offered, and once all actors are clear
+-- an empty page that is backed is hinted. And actors are those of the profile.
 use Rattle.std.proofs.Common.{◌≡◌, ◌≢◌, ◌⊎◌, ℕ, ◌≤◌, ◌<◌, ◌==◌, Bool, true, false, if◌then◌else◌, List, [], ◌∷◌, ◌++◌, refl, ap, sym, ◌∙◌, subst, arith, inl, inr}
 use Rattle.std.proofs.lemmas.Bool.{false≢true, eq-eqb, ne_eqb, cases_lt, cases_eq}
 use Rattle.pas_profile.specs.declared.profile.Profile.{Profile}
@@ -9,9 +10,12 @@ use Rattle.pas_steps.specs.Lists.{Whole, part, word_after, Legal}
 use Rattle.pas_steps.specs.Desks.{triples}
 use Rattle.pas_steps.specs.declared.step.Made.{Made}
 use Rattle.pas_steps.proofs.Parts.{part_of_others}
-use Rattle.pas_core.specs.Rights.{IsRightInOnePlace, IsRightOffered, IsRightParked, IsUsableFree, IsOwed, NobodyHasRight, NobodyOwes, AllClear}
+use Rattle.pas_core.specs.Rights.{IsRightInOnePlace, IsRightOffered, IsRightParked, IsUsableFree, IsOwed, NobodyHasRight, NobodyOwes, AllClear, empty_bit}
 use Rattle.pas_core.proofs.Rights.{right_in_one_place}
 use Rattle.pas_core.proofs.Checks.{parked_is_owed}
+use Rattle.pas_core.proofs.Hints.{empty_is_minded}
+use Rattle.pas_core.specs.Hints.{IsEmptyBacked}
+use Rattle.pas_profile.specs.Profiles.{IsValid}
 
 offered_place : (f : Profile) (l : Whole) → Legal f l → (p w b : ℕ) → word_after l (Word.Deed p) ≢ 0 → IsUsableFree l p w b → NobodyHasRight l p → NobodyOwes l p w → IsRightInOnePlace f l p → IsRightOffered f l p
 offered_place f l legal p w b deed free lacks paid (inl none) = absurd (deed none.no_deed)
@@ -40,20 +44,27 @@ debtor f l legal k p w owes past = false≢true (ap (λ v. owes_check v p w) (sy
 clear_owes : (f : Profile) (l : Whole) → Legal f l → AllClear f l → (p w : ℕ) → w < 4 → NobodyOwes l p w
 clear_owes f l legal clear p w small = λ k. elim (cases_lt f.threads k) [
   | inl past ↦ ap (λ v. owes_check v p w) (no_other_actor f l legal k past)
-  | inr within ↦ ((clear k within).owes p).checks w small
+  | inr within ↦ ((clear k within).on p).owes.checks w small
 ]
 
 pub offered_at_rest : (f : Profile) (l : Whole) → Legal f l → AllClear f l → (p w b : ℕ) → w < 4 → word_after l (Word.Deed p) ≢ 0 → IsUsableFree l p w b → NobodyHasRight l p → IsRightOffered f l p
 offered_at_rest f l legal clear p w b small deed free lacks = free_is_offered f l legal p w b deed free lacks (clear_owes f l legal clear p w small)
 
 nothing_owed : IsClear []
-nothing_owed = record { stamped = λ page. refl; owes = λ page. record { checks = λ word lt. refl; hint = refl } }
+nothing_owed = record { on = λ page. record { stamped = refl; owes = record { checks = λ word lt. refl; hint = refl }; examined = refl } }
 
 -- so is any actor
 pub each_clear : (f : Profile) (l : Whole) → Legal f l → AllClear f l → (k : ℕ) → IsClear (part k l)
 each_clear f l legal clear k = elim (cases_lt f.threads k) [
   | inl past ↦ subst IsClear (sym (no_other_actor f l legal k past)) nothing_owed
   | inr within ↦ clear k within
+]
+
+pub hinted_at_rest : (f : Profile) (l : Whole) → IsValid f → Legal f l → AllClear f l → (page : ℕ) → IsEmptyBacked l page → empty_bit l page ≡ true
+hinted_at_rest f l valid legal clear page h = elim (empty_is_minded f l valid legal page h) [
+  | inl set ↦ set
+  | inr (inl owed) ↦ absurd (false≢true (sym ((each_clear f l legal clear owed.actor).on page).owes.hint ∙ owed.owes))
+  | inr (inr at) ↦ absurd (false≢true (sym ((each_clear f l legal clear at.actor).on page).examined ∙ at.examines_it))
 ]
 
 -- ---- one actor alone goes on

@@ -351,8 +351,11 @@ deed_learns : (l : Whole) (e : ℕ) (s : Step) (a p known : ℕ) → IsSpotted l
     → IsKnown (deed_after s a p known) (next_value e s (Word.Deed p) (word_after l (Word.Deed p)))
 deed_learns l e (Look (Word.Deed q)) a p known at is h = look_tells (q == p) (word_after l (Word.Deed p)) a known (deed_at l a q p is) h
 deed_learns l e (Look (Word.Eligible n j)) a p known at is h = eligible_tells ((j == p / 64) && has_bit a (p % 64)) (word_after l (Word.Deed p)) known n (offered_deed l a n j p at is) h
+deed_learns l e (TakeRight q d) a p known at is h = eligible_tells ((q / 64 == p / 64) && has_bit a (p % 64)) (word_after l (Word.Deed p)) known (number_of d) (offered_deed l a (number_of d) (q / 64) p at is) h
+deed_learns l e (Offer q d) a p known at is h = eligible_tells ((q / 64 == p / 64) && has_bit a (p % 64)) (word_after l (Word.Deed p)) known (number_of d) (offered_deed l a (number_of d) (q / 64) p at is) h
 deed_learns l e (Deed q d) a p known at is h = deed_tells (q == p) d (word_after l (Word.Deed p)) a known (deed_at l a q p is) h
 deed_learns l e s a p known at is h = h
+
 deed_of_part : (t : Bool) (m : Made) (v : View) (p word : ℕ) → IsKnown (known_deed v p) word → IsKnown (deed_after m.step m.answer p (known_deed v p)) word → IsKnown (known_deed (if t then m ∷ v else v) p) word
 deed_of_part true m v p word old new = new
 deed_of_part false m v p word old new = old

@@ -17,7 +17,6 @@ ghost use Rattle.pas_core.specs.Good.{AgreesWithWords, IsInOnePlace, IsPlacedOnc
 ghost use Rattle.pas_core.specs.Given.{WasGiven};
 ghost use Rattle.pas_core.specs.Stamps.{EachEnd, IsStampedOr, AllKeepToEnds};
 ghost use Rattle.pas_core.specs.Hints.{IsEmptyBacked, IsMinded};
-ghost use Rattle.pas_core.specs.Rest.{AreIdle};
 ghost use Rattle.pas_core.specs.Rights.{parked_bit, empty_bit, eligible_bit, IsRightInOnePlace, IsRightOffered, IsUsableFree, IsOwed, IsRightParked, NobodyHasRight, NobodyOwes, AllClear};
 ghost use Rattle.pas_steps.specs.Desks.{triples};
 ghost use Rattle.pas_steps.specs.declared.step.Made.{Made};
@@ -76,11 +75,11 @@ pub fn empty_pages_are_minded()
     ensures { (f : Profile) (l : Whole) → IsValid f → Legal f l → (page : ℕ) → IsEmptyBacked l page → IsMinded l page }
 {}
 
-/// Once all actors are idle nothing is lost: a page with a deed and a free grain that its blocks may cover, whose right nobody has, is
+/// Once each actor is clear nothing is lost: a page with a deed and a free grain that its blocks may cover, whose right nobody has, is
 /// offered, and a page that is backed and each of whose grains is free is hinted.
 pub fn nothing_is_lost()
-    ensures offered { (f : Profile) (l : Whole) → Legal f l → AreIdle l → (page word bit : ℕ) → word < 4 → ((k : ℕ) → has_right (part k l) page ≡ false) → word_after l (Word.Deed page) ≢ 0 → IsUsableFree l page word bit → IsRightOffered f l page }
-    ensures hinted { (f : Profile) (l : Whole) → IsValid f → Legal f l → AreIdle l → (page : ℕ) → IsEmptyBacked l page → empty_bit l page ≡ true }
+    ensures offered { (f : Profile) (l : Whole) → Legal f l → AllClear f l → (page word bit : ℕ) → word < 4 → word_after l (Word.Deed page) ≢ 0 → IsUsableFree l page word bit → NobodyHasRight l page → IsRightOffered f l page }
+    ensures hinted { (f : Profile) (l : Whole) → IsValid f → Legal f l → AllClear f l → (page : ℕ) → IsEmptyBacked l page → empty_bit l page ≡ true }
 {}
 
 /// A page can be unbacked: in every region some legal list does it.
@@ -89,13 +88,10 @@ pub fn unbacks_happen()
 {}
 
 /// No page with room is lost: where a page with a deed has a free grain that blocks of its directory may cover, while no actor has the page's
-/// right and no actor owes a look at that free word, the page is offered to its directory. So once each actor is at rest, each such
-/// page is offered whose right no cache keeps.
+/// right and no actor owes a look at that free word, the page is offered to its directory.
 pub fn free_pages_are_offered()
-    ensures offered { (f : Profile) (l : Whole) → Legal f l → (page word bit : ℕ) → word_after l (Word.Deed page) ≢ 0 → IsUsableFree l page word bit
+    ensures { (f : Profile) (l : Whole) → Legal f l → (page word bit : ℕ) → word_after l (Word.Deed page) ≢ 0 → IsUsableFree l page word bit
         → NobodyHasRight l page → NobodyOwes l page word → IsRightOffered f l page }
-    ensures at_rest { (f : Profile) (l : Whole) → Legal f l → AllClear f l → (page word bit : ℕ) → word < 4 → word_after l (Word.Deed page) ≢ 0 → IsUsableFree l page word bit
-        → NobodyHasRight l page → IsRightOffered f l page }
 {}
 
 /// While one actor alone goes on after a list at whose end nobody has the right of a page, the page is offered or parked wherever it has a deed

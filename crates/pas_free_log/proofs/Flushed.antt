@@ -23,7 +23,7 @@ use Rattle.pas_free_log.specs.Stamps.{stamps_by}
 use Rattle.pas_free_log.specs.Frames.{Restores}
 use Rattle.pas_free_log.specs.Flushes.{Settled, event_for, shown_for, stamps_by_outcome, stamps_for, EntriesSteps, Flushes}
 use Rattle.pas_free_log.proofs.Staying.{stays_append, kinds_append}
-use Rattle.pas_free_log.proofs.Silent.{stamps_append, freeing_all_keep}
+use Rattle.pas_free_log.proofs.Silent.{stamps_append, freeing_all_keep, freeing_examines}
 
 -- ---- steps that restore what was, one after the other
 pub restores_none : (f : Profile) → Restores f []
@@ -107,8 +107,11 @@ flushed {σ} {σ'} epoch settled names entries names_are order adds a events sta
       held = λ v agreed x. ap (λ s. holds s x) (append_assoc entries look v) ∙ a.held (look ++ v) (agreed_entries f epoch entries v agreed) x;
       right = λ v agreed page. ap (λ s. has_right s page) (append_assoc entries look v) ∙ a.right (look ++ v) (agreed_entries f epoch entries v agreed) page;
       clear = λ v agreed clear. record {
-        stamped = λ page. ap (λ s. is_unstamped s page) (append_assoc entries look v) ∙ a.stamped (look ++ v) page (clear.stamped page);
-        owes = λ page. subst (OwesNothing page) (sym (append_assoc entries look v)) (a.owes (look ++ v) (agreed_entries f epoch entries v agreed) page (still_clear epoch page v (clear.owes page)));
+        on = λ page. let was = clear.on page in record {
+          stamped = ap (λ s. is_unstamped s page) (append_assoc entries look v) ∙ a.stamped (look ++ v) page was.stamped;
+          owes = subst (OwesNothing page) (sym (append_assoc entries look v)) (a.owes (look ++ v) (agreed_entries f epoch entries v agreed) page (still_clear epoch page v was.owes));
+          examined = freeing_examines page (entries ++ look) v (kinds_append entries look a.kinds (tt, tt)) was.examined;
+        };
       };
       backed = λ v agreed page h. backed_stays f (entries ++ look) v page agreed (freeing_all_keep page (entries ++ look) (kinds_append entries look a.kinds (tt, tt))) (λ x held. stays_append x entries look (a.stays (look ++ v) (agreed_entries f epoch entries v agreed) x held) (refl, tt)) h;
       deeds = λ v agreed page ne. deed_stays f (entries ++ look) v page agreed ne;

@@ -1,12 +1,13 @@
 -- Steps that make no event and stamp no page, and steps on grains.
-use Rattle.std.proofs.Common.{◌≡◌, ℕ, false, List, [], ◌∷◌, ◌++◌, Option, None, refl, ap, ◌∙◌, append_assoc}
+use Rattle.std.proofs.Common.{◌≡◌, ℕ, Bool, false, ◌==◌, List, [], ◌∷◌, ◌++◌, Option, None, refl, ap, ◌∙◌, append_assoc}
 use Rattle.pas_steps.specs.declared.step.Made.{Made}
 use Rattle.pas_steps.specs.declared.step.Step.{Step}
 use Rattle.pas_steps.specs.declared.step.Step.TheVariants.{Look, Deed, Back, Take, Put, Give, End, TakeRight, Offer, Park, Unpark, Stamp, Hint, Tick, Unback, Unhint}
-use Rattle.pas_steps.specs.Views.{View, known_deed, deed_after, known_epoch, epoch_after, epoch_of}
+use Rattle.pas_steps.specs.Views.{examined_after, examines, View, known_deed, deed_after, known_epoch, epoch_after, epoch_of}
 use Rattle.pas_steps.specs.Events.{event_of, with_event, events_by}
 use Rattle.pas_steps.specs.Past.{Always}
 use Rattle.pas_steps.specs.Frames.{unbacks, IsReturn, OnlyReturns}
+use Rattle.pas_steps.proofs.Kept.{look_hint, ends_none}
 use Rattle.pas_steps.proofs.Past.{always_map, always_both}
 use Rattle.pas_free_log.specs.Stamps.{stamped_by, stamps_by}
 use Rattle.pas_free_log.specs.Frames.{IsFreeing, AreFreeing}
@@ -87,3 +88,16 @@ freeing_keeps s q h = refl
 
 pub freeing_all_keep : (q : ℕ) (steps : List Made) → AreFreeing steps → Always (λ m before. unbacks m.step q ≡ false) steps
 freeing_all_keep q steps h = always_map (λ m before. IsFreeing m.step) (λ m before. unbacks m.step q ≡ false) steps (λ m before is. freeing_keeps m.step q is) h
+
+-- ---- pages that are examined
+freeing_step_examines : (s : Step) (a q : ℕ) (was : Bool) → IsFreeing s → was ≡ false → examined_after s a q was ≡ false
+freeing_step_examines (Look word) a q was is h = look_hint word a q was h
+freeing_step_examines (Take p w mask) a q was is h = absurd is
+freeing_step_examines (Hint p) a q was is h = ends_none (p == q) was h
+freeing_step_examines (Unhint p) a q was is h = absurd is
+freeing_step_examines s a q was is h = h
+
+-- no page becomes one that is examined
+pub freeing_examines : (q : ℕ) (steps : List Made) (v : View) → AreFreeing steps → examines v q ≡ false → examines (steps ++ v) q ≡ false
+freeing_examines q [] v are h = h
+freeing_examines q (m ∷ more) v are h = freeing_step_examines m.step m.answer q (examines (more ++ v) q) are.0 (freeing_examines q more v are.1 h)

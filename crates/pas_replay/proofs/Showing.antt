@@ -56,7 +56,7 @@ nothing_owed : (f : Profile) (c : Cached) → c ≡ empty_cache → owed_events 
 nothing_owed f c is = ap (λ (x : Cached). owed_events f x []) is ∙ (let all = unknown_all f.pages in omega (arith, all))
 
 nothing : HasNothing []
-nothing = record { grains = λ g. refl; rights = λ page. refl; clear = record { stamped = λ page. refl; owes = λ page. record { checks = λ word lt. refl; hint = refl } } }
+nothing = record { grains = λ g. refl; rights = λ page. refl; clear = record { on = λ page. record { stamped = refl; owes = record { checks = λ word lt. refl; hint = refl }; examined = refl } } }
 
 starts_at : (plan : Plan) (acts : List Act) (k : ℕ) (t : Thread) → (plan.profile.pages + own_costs_of k (ops_in acts) ≤ slice_index (bounds_of plan.bounds) k) → IsFresh plan k t → ThreadStands plan.profile k t [] (own_costs_of k (ops_in acts))
 starts_at plan acts k t within fresh =

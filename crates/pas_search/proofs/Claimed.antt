@@ -13,7 +13,8 @@ use Rattle.pas_steps.specs.Lists.{Whole}
 use Rattle.pas_steps.specs.Desks.{Seat, Standing, made, Adds, CanCall}
 use Rattle.pas_steps.specs.Past.{Once}
 use Rattle.pas_steps.specs.Frames.{IsOnPage, OnlyOn}
-use Rattle.pas_steps.proofs.Adding.{can_call, adds_call, adds_under, agreed_first}
+use Rattle.pas_steps.proofs.Adding.{can_call, adds_call, adds_under, agreed_first, agreed_later}
+use Rattle.pas_steps.proofs.Kept.{knows_still}
 use Rattle.pas_steps.proofs.Frames.{events_append}
 use Rattle.pas_steps.specs.Clear.{OwesNothing}
 use Rattle.pas_steps.specs.Evidence.{ReadsEligible, GetsRight, UnfitHere, ShowsHere}
@@ -38,10 +39,10 @@ pub claim_right : (p : ℕ) (d : Directory) (a : ℕ) (v : View) → has_bit a (
 claim_right p d a v h = won_bit p (has_bit a (p % 64)) (has_right v p) h
 
 -- the page is ready to be served from, once its right is got
-pub claimed_may : (p : ℕ) (d : Directory) (a : ℕ) (v : View) → has_bit a (p % 64) ≡ true → MayTry p d v → MayServe p d (claimed p d a ++ v)
-claimed_may p d a v bit met = record {
+pub claimed_may : (f : Profile) (p : ℕ) (d : Directory) (a : ℕ) (v : View) → has_bit a (p % 64) ≡ true → Agreed f v (claimed p d a) → MayTry p d v → MayServe p d (claimed p d a ++ v)
+claimed_may f p d a v bit agreed met = record {
   right = claim_right p d a v bit;
-  deed = met.deed;
+  deed = knows_still f d p (claimed p d a) v agreed met.deed;
   stamped = met.stamped;
   owes = record { checks = λ w lt. met.owes.checks w lt; hint = met.owes.hint };
 }
@@ -89,6 +90,9 @@ module _ {F : Type 0} (rule : Rule F) (f : Profile) (p : ℕ) (d : Directory) (a
   served_agreed : (v : View) → Agreed f v all → Agreed f (claimed p d a ++ v) zs
   served_agreed v agreed = agreed_first f v zs (claimed p d a) agreed
 
+  claim_agreed : (v : View) → Agreed f v all → Agreed f v (claimed p d a)
+  claim_agreed v agreed = agreed_later f v zs (claimed p d a) agreed
+
   served_fresh : (v : List Made) → FreshAt f p all v → FreshAt f p zs (claimed p d a ++ v)
   served_fresh v (inl agreed) = inl (served_agreed v agreed)
   served_fresh v (inr none) = inr (λ g at. none g at)
@@ -102,24 +106,24 @@ module _ {F : Type 0} (rule : Rule F) (f : Profile) (p : ℕ) (d : Directory) (a
       quiet = quiet_append zs (claimed p d a) leaves.quiet (λ k e. refl, tt);
       right = λ before h. ap (λ s. has_right s p) (served_on before) ∙ leaves.right (claimed p d a ++ before);
       grains = λ before fresh g at. ap (λ s. holds s g) (served_on before) ∙ leaves.grains (claimed p d a ++ before) (served_fresh before fresh) g at;
-      owes = λ v met agreed. subst (OwesNothing p) (sym (served_on v)) (leaves.owes (claimed p d a ++ v) (claimed_may p d a v bit met) (served_agreed v agreed));
-      backed = λ v met agreed h. ap (λ s. knows_backed s p) (served_on v) ∙ leaves.backed (claimed p d a ++ v) (claimed_may p d a v bit met) (served_agreed v agreed) (claim_knows_backed v h);
+      owes = λ v met agreed. subst (OwesNothing p) (sym (served_on v)) (leaves.owes (claimed p d a ++ v) (claimed_may f p d a v bit (claim_agreed v agreed) met) (served_agreed v agreed));
+      backed = λ v met agreed h. ap (λ s. knows_backed s p) (served_on v) ∙ leaves.backed (claimed p d a ++ v) (claimed_may f p d a v bit (claim_agreed v agreed) met) (served_agreed v agreed) (claim_knows_backed v h);
     };
     unfit = λ before untouched. subst (Once (UnfitHere rule.no_fit p)) (sym (served_on before)) (leaves.unfit (claimed p d a ++ before) (claimed_got p d a before bit untouched));
   }
 
   fits_by : (found : F) → OnlyServes p zs → ((k : ℕ) (v : View) → length (events_by k v zs) ≤ rule.events) → KeepsPage rule f p d zs found → FitsPage rule f p d all found
   fits_by found only few keeps = record {
-    right = λ v met agreed. ap (λ s. has_right s p) (served_on v) ∙ keeps.right (claimed p d a ++ v) (claimed_may p d a v bit met) (served_agreed v agreed);
-    grains = λ v met agreed g at. ap (λ s. holds s g) (served_on v) ∙ keeps.grains (claimed p d a ++ v) (claimed_may p d a v bit met) (served_agreed v agreed) g at;
-    owes = λ v met agreed. subst (OwesNothing p) (sym (served_on v)) (keeps.owes (claimed p d a ++ v) (claimed_may p d a v bit met) (served_agreed v agreed));
-    backed = λ v met agreed. ap (λ s. knows_backed s p) (served_on v) ∙ keeps.backed (claimed p d a ++ v) (claimed_may p d a v bit met) (served_agreed v agreed);
+    right = λ v met agreed. ap (λ s. has_right s p) (served_on v) ∙ keeps.right (claimed p d a ++ v) (claimed_may f p d a v bit (claim_agreed v agreed) met) (served_agreed v agreed);
+    grains = λ v met agreed g at. ap (λ s. holds s g) (served_on v) ∙ keeps.grains (claimed p d a ++ v) (claimed_may f p d a v bit (claim_agreed v agreed) met) (served_agreed v agreed) g at;
+    owes = λ v met agreed. subst (OwesNothing p) (sym (served_on v)) (keeps.owes (claimed p d a ++ v) (claimed_may f p d a v bit (claim_agreed v agreed) met) (served_agreed v agreed));
+    backed = λ v met agreed. ap (λ s. knows_backed s p) (served_on v) ∙ keeps.backed (claimed p d a ++ v) (claimed_may f p d a v bit (claim_agreed v agreed) met) (served_agreed v agreed);
     shows = record {
       readings = keeps.shows.readings;
       fits = keeps.shows.fits;
       took = keeps.shows.took;
       read = λ before untouched w lt. subst (Once (ShowsHere p w keeps.shows.readings)) (sym (served_on before)) (keeps.shows.read (claimed p d a ++ before) (claimed_got p d a before bit untouched) w lt);
-      held = λ v met agreed g at h. keeps.shows.held (claimed p d a ++ v) (claimed_may p d a v bit met) (served_agreed v agreed) g at h;
+      held = λ v met agreed g at h. keeps.shows.held (claimed p d a ++ v) (claimed_may f p d a v bit (claim_agreed v agreed) met) (served_agreed v agreed) g at h;
     };
     serves = λ before untouched. subst (λ s. rule.serves p s found) (sym (served_on before)) (keeps.serves (claimed p d a ++ before) (claimed_got p d a before bit untouched));
     few = λ k v. subst (λ es. length es ≤ rule.events) (sym (events_append k zs (claimed p d a) v ∙ append-nil (events_by k (claimed p d a ++ v) zs))) (few k (claimed p d a ++ v));
@@ -127,7 +131,7 @@ module _ {F : Type 0} (rule : Rule F) (f : Profile) (p : ℕ) (d : Directory) (a
   }
 
 tried_adds : {σ σ1 σ2 : Standing} (p : ℕ) (d : Directory) (a : ℕ) (zs : List Made) → Adds σ σ1 (λ v l. KnowsDeed p d v) (claimed p d a) → has_bit a (p % 64) ≡ true → Adds σ1 σ2 (λ v l. MayServe p d v) zs → Adds σ σ2 (λ v l. MayTry p d v) (zs ++ claimed p d a)
-tried_adds p d a zs claim bit adds = adds_call {D = λ v l. MayServe p d v} (adds_under claim (λ v l stood met. met.deed)) adds (λ v l stood met. claimed_may p d a v bit met)
+tried_adds {σ} p d a zs claim bit adds = adds_call {D = λ v l. MayServe p d v} (adds_under claim (λ v l stood met. met.deed)) adds (λ v l stood met. claimed_may σ.seat.profile p d a v bit (claim.agreed v l stood met.deed) met)
 
 tried_only : (p : ℕ) (d : Directory) (a : ℕ) (zs : List Made) → OnlyServes p zs → OnlySearches (zs ++ claimed p d a)
 tried_only p d a zs only = searches_append zs (claimed p d a) (serves_search p zs only) (IsSearch.Claims p d, tt)
@@ -160,7 +164,7 @@ fits_page {F} {rule} {σ} {σ1} {σ2} p d a claim bit found serves = record {
 
 -- ---- what the back end asks
 pub claim_call : {σ σ1 : Standing} (p : ℕ) (d : Directory) (a : ℕ) → Adds σ σ1 (λ v l. KnowsDeed p d v) (claimed p d a) → has_bit a (p % 64) ≡ true → CanCall σ (λ v l. MayTry p d v) → CanCall σ1 (λ v l. MayServe p d v)
-claim_call p d a claim bit can = can_call {C = λ v l. MayTry p d v} {D = λ v l. MayServe p d v} (adds_under {C = λ v l. KnowsDeed p d v} claim (λ v l stood met. met.deed)) can (λ v l stood met. claimed_may p d a v bit met)
+claim_call {σ} p d a claim bit can = can_call {C = λ v l. MayTry p d v} {D = λ v l. MayServe p d v} (adds_under {C = λ v l. KnowsDeed p d v} claim (λ v l stood met. met.deed)) can (λ v l stood met. claimed_may σ.seat.profile p d a v bit (claim.agreed v l stood met.deed) met)
 
 pub claim_room : {σ σ1 : Standing} (p : ℕ) (d : Directory) (a : ℕ) {spare spare' : ℕ} (n : ℕ) → Adds σ σ1 (λ v l. KnowsDeed p d v) (claimed p d a) → CanCall σ (λ v l. MayTry p d v)
     → ((v : View) (l : Whole) → σ.stands v l → spare + length (events_of σ.seat.actor v) ≡ σ.seat.room) → ((v : View) (l : Whole) → σ1.stands v l → spare' + length (events_of σ1.seat.actor v) ≡ σ1.seat.room) → n ≤ spare → n ≤ spare'

@@ -106,8 +106,8 @@ pub deed_may : (p : ℕ) (d : Directory) (a : ℕ) (v : View) → a ≡ 0 → Is
 deed_may p d a v e clear = record {
   right = deed_gives p d a v e;
   deed = deed_known p d a v e;
-  stamped = clear.stamped p;
-  owes = record { checks = λ w lt. (clear.owes p).checks w lt; hint = (clear.owes p).hint };
+  stamped = (clear.on p).stamped;
+  owes = record { checks = λ w lt. (clear.on p).owes.checks w lt; hint = (clear.on p).owes.hint };
 }
 
 few_more : (o : Option Event) (es : List Event) → length (with_event o es) ≤ length es + 1

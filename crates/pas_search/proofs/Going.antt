@@ -11,7 +11,7 @@ use Rattle.pas_steps.specs.Past.{Once, Always}
 use Rattle.pas_steps.specs.Frames.{OnlyOn, OnlyReads}
 use Rattle.pas_steps.proofs.Adding.{agreed_first, agreed_later}
 use Rattle.pas_steps.proofs.Past.{once_later, once_earlier}
-use Rattle.pas_steps.proofs.Kept.{right_on, right_reads, holds_on_page, holds_reads, check_on, check_reads, hint_on, hint_reads, deed_stays}
+use Rattle.pas_steps.proofs.Kept.{examined_on, examined_reads, right_on, right_reads, holds_on_page, holds_reads, check_on, check_reads, hint_on, hint_reads, deed_stays}
 use Rattle.pas_profile.proofs.Codecs.{deed_word_of-positive}
 use Rattle.pas_steps.specs.Clear.{OwesNothing, IsClear}
 use Rattle.pas_steps.specs.Evidence.{UnfitHere, ZeroHere, LacksAfter, Searched}
@@ -38,8 +38,11 @@ lacks_on page p (m ∷ more) xs h ne none all = (right_on page p (m ∷ more) xs
 -- ---- steps that changed nothing
 pub clear_after_reads : (ys : List Made) (v : View) → OnlyReads ys → IsClear v → IsClear (ys ++ v)
 clear_after_reads ys v reads clear = record {
-  stamped = λ p. unstamped_searches p ys v (reads_search ys reads) ∙ clear.stamped p;
-  owes = λ p. record { checks = λ w lt. check_reads p w ys v reads ((clear.owes p).checks w lt); hint = hint_reads p ys v reads (clear.owes p).hint };
+  on = λ p. let was = clear.on p in record {
+    stamped = unstamped_searches p ys v (reads_search ys reads) ∙ was.stamped;
+    owes = record { checks = λ w lt. check_reads p w ys v reads (was.owes.checks w lt); hint = hint_reads p ys v reads was.owes.hint };
+    examined = examined_reads p ys v reads was.examined;
+  };
 }
 
 pub reads_still : (f : Profile) (d : Directory) (ys xs : List Made) → OnlyReads ys → IsStill f d xs → IsStill f d (ys ++ xs)
@@ -97,11 +100,14 @@ owes_on page p ys v on ne old = record { checks = λ w lt. check_on page p w ys 
 
 pub clear_on : (page : ℕ) (ys : List Made) (v : View) → OnlyOn page ys → OnlySearches ys → IsClear v → OwesNothing page (ys ++ v) → IsClear (ys ++ v)
 clear_on page ys v on searches clear here = record {
-  stamped = λ p. unstamped_searches p ys v searches ∙ clear.stamped p;
-  owes = λ p. elim (cases_eq p page) [
-    | inl e ↦ subst (λ q. OwesNothing q (ys ++ v)) (sym e) here
-    | inr ne ↦ owes_on page p ys v on ne (clear.owes p)
-  ];
+  on = λ p. record {
+    stamped = unstamped_searches p ys v searches ∙ (clear.on p).stamped;
+    owes = elim (cases_eq p page) [
+      | inl e ↦ subst (λ q. OwesNothing q (ys ++ v)) (sym e) here
+      | inr ne ↦ owes_on page p ys v on ne (clear.on p).owes
+    ];
+    examined = examined_on page p ys v on (clear.on p).examined;
+  };
 }
 
 pub backed_of : (f : Profile) (page : ℕ) (ys : List Made) (v : View) → OnlyOn page ys → Agreed f v ys → (knows_backed v page ≡ true → knows_backed (ys ++ v) page ≡ true) → (p : ℕ) → knows_backed v p ≡ true → knows_backed (ys ++ v) p ≡ true
@@ -113,7 +119,7 @@ backed_of f page ys v on agreed here p h = elim (cases_eq p page) [
 module _ {F : Type 0} (rule : Rule F) (f : Profile) (d : Directory) (page : ℕ) (marks : List ℕ) (ys xs : List Made) (on : OnlyOn page ys) (searches : OnlySearches ys) (s : Searching rule f d page marks xs)
     (deed : (v : View) → KnowsDeed page d (xs ++ v)) (lacks : (v : View) → Agreed f v xs → has_right (xs ++ v) page ≡ false) where
   pub ready : (v : View) → MaySearch d v → Agreed f v xs → MayTry page d (xs ++ v)
-  ready v met agreed = let clear = s.still.clear v met agreed in record { deed = deed v; lacks = lacks v agreed; stamped = clear.stamped page; owes = clear.owes page }
+  ready v met agreed = let clear = s.still.clear v met agreed in record { deed = deed v; lacks = lacks v agreed; stamped = (clear.on page).stamped; owes = (clear.on page).owes }
 
   tried_still : LeavesAsWas f page d ys → IsStill f d (ys ++ xs)
   tried_still was = record {

@@ -2,7 +2,7 @@
 use Rattle.std.proofs.Common.{◌≡◌, ◌≢◌, ℕ, ◌/◌, ◌%◌, ◌==◌, Bool, true, false, ◌&&◌, if◌then◌else◌, List, [], ◌∷◌, ◌++◌, refl, ap, sym, ◌∙◌, subst, inl, inr, true≢false}
 use Rattle.std.proofs.lemmas.Bool.{cases_Bool, cases_eq, eq-eqb, eqb-true, false≢true, and_parts}
 use Rattle.pas_profile.specs.Classes.{has_bit}
-use Rattle.pas_profile.specs.Directories.{deed_word_of, number_of}
+use Rattle.pas_profile.specs.Directories.{deed_word_of, deed_word_numbered, number_of}
 use Rattle.pas_profile.specs.Profiles.{IsValid, IsDirectoryOf}
 use Rattle.pas_profile.specs.declared.directory.Directory.{Directory}
 use Rattle.pas_profile.specs.declared.profile.Profile.{Profile}
@@ -21,7 +21,7 @@ use Rattle.pas_steps.specs.declared.step.Step.TheVariants.{Look, Deed, Back, Tak
 use Rattle.pas_steps.proofs.Kept.{deed_stays}
 use Rattle.pas_steps.proofs.Parts.{part_of_own, part_of_others}
 use Rattle.pas_core.specs.Rights.{eligible_bit}
-use Rattle.pas_core.proofs.DeedWords.{known_is, deed_kept, numbered}
+use Rattle.pas_core.proofs.DeedWords.{known_is, deed_kept, numbered, numbered_ne}
 use Rattle.pas_core.proofs.Spots.{Spot, Nowhere, With, Offered, InParked, is_with, is_offered, is_parked, Way, Rests, ByDeed, FromOffer, FromParked, ToOffer, ToParked, way, spot_after, spot_of, Suits, DeedFits, IsSpotted, step_suits, spotted}
 use Rattle.pas_core.proofs.Rights.{one_has_right, offered_has_deed, offered_spot, own_eligible, is_on_offer}
 use Rattle.pas_core.proofs.Nexts.{agrees_next}
@@ -137,17 +137,22 @@ never : (t : Bool) → (if t then false else false) ≡ true → ⊥
 never true h = false≢true h
 never false h = false≢true h
 
+either_ne : (t : Bool) (n m : ℕ) → n ≢ 0 → m ≢ 0 → (if t then n else m) ≢ 0
+either_ne true n m h k = h
+either_ne false n m h k = k
+
 gains_known : (f : Profile) (v : View) (s : Step) (a p : ℕ) → Allowed f v s → right_after s a p false ≡ true → deed_after s a p (known_deed v p) ≢ 0
 gains_known f v (Deed q d) a p allowed h = let parts = and_parts (q == p) (a == 0) (got_if ((q == p) && (a == 0)) h) in deed_here (q == p) (a == 0) d a (known_deed v p) parts.0 parts.1
 gains_known f v (TakeRight q d) a p allowed h =
     let parts = and_parts (q == p) (has_bit a (p % 64)) (got_if ((q == p) && has_bit a (p % 64)) h) in
-    λ z. deed_word_of-positive d (sym allowed ∙ ap (known_deed v) (eqb-true q p parts.0) ∙ z)
+    either_ne ((q / 64 == p / 64) && has_bit a (p % 64)) (deed_word_numbered (number_of d)) (known_deed v p) (numbered_ne (number_of d)) (λ z. deed_word_of-positive d (sym allowed ∙ ap (known_deed v) (eqb-true q p parts.0) ∙ z))
 gains_known f v (Offer q d) a p allowed h = absurd (never (q == p) h)
 gains_known f v (Park q) a p allowed h = absurd (never (q == p) h)
 gains_known f v (Unpark q) a p allowed h =
     let parts = and_parts (q == p) (has_bit a (p % 64)) (got_if ((q == p) && has_bit a (p % 64)) h) in
     λ z. allowed (ap (known_deed v) (eqb-true q p parts.0) ∙ z)
 gains_known f v s a p allowed h = absurd (false≢true h)
+
 own_known : (f : Profile) (v : View) (m : Made) (p : ℕ) → Allowed f v m.step → Agrees f v m.step m.answer → (has_right v p ≡ true → known_deed v p ≢ 0) → (had : Bool) → has_right v p ≡ had → right_after m.step m.answer p had ≡ true → known_deed (m ∷ v) p ≢ 0
 own_known f v m p allowed agrees known true e h = λ z. known e (sym (deed_stays f (m ∷ []) v p (agrees, tt) (known e)) ∙ z)
 own_known f v m p allowed agrees known false e h = gains_known f v m.step m.answer p allowed h

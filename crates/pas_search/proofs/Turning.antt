@@ -63,8 +63,8 @@ module _ {F : Type 0} (rule : Rule F) {σ σ1 : Standing} (d : Directory) (next 
   may_try v met agreed = let clear = clear_after_reads looks v reads met in record {
     deed = find.outcome.1.deed v;
     lacks = right_scans looks v page find.scans ∙ find.outcome.1.lacks v agreed;
-    stamped = clear.stamped page;
-    owes = clear.owes page;
+    stamped = (clear.on page).stamped;
+    owes = (clear.on page).owes;
   }
 
   deed_at : (before : List Made) (v : View) → KnowsDeed page d ((looks ++ before) ++ v)

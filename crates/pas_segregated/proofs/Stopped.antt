@@ -10,7 +10,7 @@ use Rattle.pas_steps.specs.Frames.{OnlyOn}
 use Rattle.pas_steps.specs.Desks.{Seat, Standing, Adds}
 use Rattle.pas_steps.specs.declared.step.Made.{Made}
 use Rattle.pas_steps.proofs.Adding.{adds_call, adds_under, agreed_first, agreed_later}
-use Rattle.pas_steps.proofs.Kept.{right_on, check_on, hint_on, unstamped_on, returns_on, returns_still, holds_still, holds_on_still, backed_returns, deed_stays}
+use Rattle.pas_steps.proofs.Kept.{right_on, check_on, hint_on, unstamped_on, examined_on, returns_on, returns_still, holds_still, holds_on_still, backed_returns, deed_stays}
 use Rattle.pas_rights.specs.Rights.{MayLeave, Leaves}
 use Rattle.pas_steps.specs.Clear.{IsClear, OwesNothing}
 use Rattle.pas_search.proofs.StepKinds.{serves_on, on_append, quiet_append, quiet_still}
@@ -21,11 +21,14 @@ use Rattle.pas_segregated.specs.declared.slots.Slots.{Slots}
 -- an actor that was clear is so again after steps on one page, where it owes nothing
 pub clear_on : (page : ℕ) (steps : List Made) (v : View) → OnlyOn page steps → IsClear v → OwesNothing page (steps ++ v) → IsClear (steps ++ v)
 clear_on page steps v on clear owes = record {
-  stamped = λ q. unstamped_on page q steps v on (clear.stamped q);
-  owes = λ q. elim (cases_eq q page) [
-    | inl e ↦ subst (λ p. OwesNothing p (steps ++ v)) (sym e) owes
-    | inr ne ↦ record { checks = λ w lt. check_on page q w steps v on ne ((clear.owes q).checks w lt); hint = hint_on page q steps v on ne (clear.owes q).hint }
-  ];
+  on = λ q. record {
+    stamped = unstamped_on page q steps v on (clear.on q).stamped;
+    owes = elim (cases_eq q page) [
+      | inl e ↦ subst (λ x. OwesNothing x (steps ++ v)) (sym e) owes
+      | inr ne ↦ let was = (clear.on q).owes in record { checks = λ w lt. check_on page q w steps v on ne (was.checks w lt); hint = hint_on page q steps v on ne was.hint }
+    ];
+    examined = examined_on page q steps v on (clear.on q).examined;
+  };
 }
 
 module _ (d : Directory) (slots : Slots) (mask : Mask4) (are : AreGrains slots mask) where
@@ -36,7 +39,7 @@ module _ (d : Directory) (slots : Slots) (mask : Mask4) (are : AreGrains slots m
   in_mask_of g = ap (λ t. (page == g / 256) && t) (are (g % 256) (omega arith))
 
   pub may_give_back : (v : View) → MayStopAt d slots v → MayGiveBack page d mask v
-  may_give_back v met = record { deed = met.deed; puts = record { held = λ g here. met.held g (sym (in_mask_of g) ∙ here); stamped = met.clear.stamped page } }
+  may_give_back v met = record { deed = met.deed; puts = record { held = λ g here. met.held g (sym (in_mask_of g) ∙ here); stamped = (met.clear.on page).stamped } }
 
   module _ {σ σ1 : Standing} (back : GivesBack page d mask σ σ1) where
     pub back_adds : Adds σ σ1 (λ v l. MayStopAt d slots v) back.steps
@@ -64,7 +67,7 @@ module _ (d : Directory) (slots : Slots) (mask : Mask4) (are : AreGrains slots m
       quiet = back.quiet;
       grains = back_grains;
       rights = λ v agreed q. back.rights v agreed q ∙ sym (ap (λ t. not (t && (page == q)) && has_right v q) none);
-      clear = λ v met agreed. clear_on page back.steps v back_on met.clear (back.owes v agreed (met.clear.owes page));
+      clear = λ v met agreed. clear_on page back.steps v back_on met.clear (back.owes v agreed (met.clear.on page).owes);
       deeds = λ v q agreed ne. deed_stays σ.seat.profile back.steps v q agreed ne;
       backed = back.backed;
     }

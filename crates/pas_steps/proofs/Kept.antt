@@ -3,13 +3,15 @@ use Rattle.std.proofs.Common.{◌≡◌, ◌≢◌, ℕ, ◌+◌, ◌*◌, ◌/�
 use Rattle.std.proofs.lemmas.Bool.{ne_eqb, eqb-true, and_parts}
 use Rattle.pas_profile.specs.Classes.{has_bit}
 use Rattle.pas_profile.specs.Directories.{deed_word_of, deed_word_numbered, number_of}
+use Rattle.pas_profile.specs.declared.directory.Directory.{Directory}
 use Rattle.pas_profile.specs.declared.profile.Profile.{Profile}
+use Rattle.pas_profile.proofs.Codecs.{deed_word_of-positive}
 use Rattle.pas_profile.specs.declared.word.Word.{Word}
 use Rattle.pas_steps.specs.declared.step.Made.{Made}
 use Rattle.pas_steps.specs.declared.step.Step.{Step}
 use Rattle.pas_steps.specs.declared.step.Step.TheVariants.{Look, Deed, Back, Take, Put, Give, End, TakeRight, Offer, Park, Unpark, Stamp, Hint, Tick, Unback, Unhint}
 use Rattle.pas_steps.specs.Effects.{in_mask}
-use Rattle.pas_steps.specs.Views.{View, Move, Stays, Gets, Puts, grain_move, held_after, holds, any_below, holds_on, right_after, has_right, deed_after, deed_after_look, known_deed, life_after, looks_at_life, known_life, epoch_after, known_epoch, epoch_of, unstamped_after, is_unstamped, given_after, given_count, no_usable, check_after, owes_check, all_ones, hint_after, owes_hint, examined_after, examines, backed_after, knows_backed}
+use Rattle.pas_steps.specs.Views.{View, Move, Stays, Gets, Puts, grain_move, held_after, holds, any_below, holds_on, right_after, has_right, deed_after, deed_after_look, known_deed, KnowsDeed, life_after, looks_at_life, known_life, epoch_after, known_epoch, epoch_of, unstamped_after, is_unstamped, given_after, given_count, no_usable, check_after, owes_check, all_ones, hint_after, owes_hint, examined_after, examines, backed_after, knows_backed}
 use Rattle.pas_steps.specs.Events.{event_of, with_event, events_of}
 use Rattle.pas_steps.specs.Agreement.{Agrees, Agreed}
 use Rattle.pas_steps.specs.Past.{Always}
@@ -25,7 +27,7 @@ unless t u x y h = ap (λ s. if s && u then x else y) h
 when_not : {A : Type 0} (t : Bool) (x y : A) → t ≡ false → (if t then x else y) ≡ y
 when_not t x y h = ap (λ s. if s then x else y) h
 
-ends_none : (t owed : Bool) → owed ≡ false → (if t then false else owed) ≡ false
+pub ends_none : (t owed : Bool) → owed ≡ false → (if t then false else owed) ≡ false
 ends_none true owed h = refl
 ends_none false owed h = h
 
@@ -65,7 +67,7 @@ holds_on_page p g (m ∷ more) v h ne = ap (λ x. held_after x (holds (more ++ v
 look_check : (word : Word) (a q w deed : ℕ) (right owed : Bool) → owed ≡ false → check_after (Look word) a q w right deed owed ≡ false
 look_check (Word.Free x u) a q w deed right owed h = ends_none ((u == w) && (x == q) && not (deed == 0) && no_usable deed w a) owed h
 look_check s a q w deed right owed h = h
-look_hint : (word : Word) (a q : ℕ) (owed : Bool) → owed ≡ false → hint_after (Look word) a q owed ≡ false
+pub look_hint : (word : Word) (a q : ℕ) (owed : Bool) → owed ≡ false → hint_after (Look word) a q owed ≡ false
 look_hint (Word.Free x u) a q owed h = ends_none ((x == q) && not (a == all_ones)) owed h
 look_hint (Word.Backed x) a q owed h = ends_none ((x == q) && (a == 0)) owed h
 look_hint s a q owed h = h
@@ -151,6 +153,10 @@ deed_stays f [] v p agreed ne = refl
 deed_stays f (m ∷ more) v p agreed ne =
     let before : known_deed (more ++ v) p ≡ known_deed v p = deed_stays f more v p agreed.1 ne in
     deed_same f (more ++ v) m.step m.answer p agreed.0 (λ z. ne (sym before ∙ z)) ∙ before
+
+-- so does that a page is of a directory
+pub knows_still : (f : Profile) (d : Directory) (page : ℕ) (steps : List Made) (v : View) → Agreed f v steps → KnowsDeed page d v → KnowsDeed page d (steps ++ v)
+knows_still f d page steps v agreed known = deed_stays f steps v page agreed (λ z. deed_word_of-positive d (sym known ∙ z)) ∙ known
 
 -- ---- what is on a page
 pub look_on : (p : ℕ) (s : Step) → IsLook s → IsOnPage p s
@@ -352,3 +358,11 @@ read_hint s a q owed (IsRead.Reads p d b ne) h = h
 pub hint_reads : (q : ℕ) (steps : List Made) (v : View) → OnlyReads steps → owes_hint v q ≡ false → owes_hint (steps ++ v) q ≡ false
 hint_reads q [] v h e = e
 hint_reads q (m ∷ more) v h e = read_hint m.step m.answer q (owes_hint (more ++ v) q) h.0 (hint_reads q more v h.1 e)
+
+read_examined : (s : Step) (a q : ℕ) (was : Bool) → IsRead s a → was ≡ false → examined_after s a q was ≡ false
+read_examined s a q was (IsRead.Looks word b) h = look_hint word a q was h
+read_examined s a q was (IsRead.Reads p d b ne) h = h
+
+pub examined_reads : (q : ℕ) (steps : List Made) (v : View) → OnlyReads steps → examines v q ≡ false → examines (steps ++ v) q ≡ false
+examined_reads q [] v h e = e
+examined_reads q (m ∷ more) v h e = read_examined m.step m.answer q (examines (more ++ v) q) h.0 (examined_reads q more v h.1 e)

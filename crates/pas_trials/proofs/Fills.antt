@@ -19,7 +19,7 @@ use Rattle.pas_trials.specs.Filling.{Steps, Waits, Opens}
 
 -- an actor that made no step may search
 pub may_search : (d : Directory) → MaySearch d []
-may_search d = record { rights = λ p of. refl; clear = record { stamped = λ p. refl; owes = λ p. record { checks = λ w lt. refl; hint = refl } } }
+may_search d = record { rights = λ p of. refl; clear = record { on = λ p. record { stamped = refl; owes = record { checks = λ w lt. refl; hint = refl }; examined = refl } } }
 
 -- with room for two events at a desk for which the actor made no step
 pub can_search : (desk : PlainDesk) (d : Directory) (l : Whole) → DeskStands desk [] l → room_of_pass (pass_of desk) ≡ 2

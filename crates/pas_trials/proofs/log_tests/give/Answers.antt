@@ -10,7 +10,7 @@ use Rattle.pas_profile.specs.declared.word.Word.TheVariants as Word
 use Rattle.pas_profile.specs.Runs.{in_run}
 use Rattle.pas_steps.specs.Allowed.{Allowed, KnowsBearing}
 use Rattle.pas_steps.specs.Desks.{made}
-use Rattle.pas_steps.specs.Views.{View, any_below, holds, has_right, known_deed, knows_backed, known_life, owes_hint, all_ones}
+use Rattle.pas_steps.specs.Views.{View, any_below, holds, has_right, known_deed, knows_backed, known_life, owes_hint, examines, all_ones}
 use Rattle.pas_steps.specs.declared.step.Step.TheVariants.{Look, Deed, Back, Take, Give}
 use Rattle.pas_steps.specs.Clear.{IsClear}
 use Rattle.pas_trials.proofs.Stood.{At, next, can, told, spare}
@@ -253,10 +253,13 @@ no_hint false u owed h = h
 
 clear : (a1 a2 a3 a4 a5 a6 a7 a8 : ℕ) → IsClear (made (Give block) a8 ∷ v7 a1 a2 a3 a4 a5 a6 a7)
 clear a1 a2 a3 a4 a5 a6 a7 a8 = record {
-  stamped = λ page. refl;
-  owes = λ page. record {
-    checks = λ word lt. refl;
-    hint = no_hint (2 == page) (not (a4 == all_ones) || not (bit_and a4 1 == 0)) (owes_hint (v3 a1 a2 a3) page) (no_hint (1 == page) (not (a3 == all_ones) || not (bit_and a3 (2 ^ 63) == 0)) false refl);
+  on = λ page. record {
+    stamped = refl;
+    owes = record {
+      checks = λ word lt. refl;
+      hint = no_hint (2 == page) (not (a4 == all_ones) || not (bit_and a4 1 == 0)) (owes_hint (v3 a1 a2 a3) page) (no_hint (1 == page) (not (a3 == all_ones) || not (bit_and a3 (2 ^ 63) == 0)) false refl);
+    };
+    examined = no_hint (2 == page) (not (a4 == all_ones) || not (bit_and a4 1 == 0)) (examines (v3 a1 a2 a3) page) (no_hint (1 == page) (not (a3 == all_ones) || not (bit_and a3 (2 ^ 63) == 0)) false refl);
   };
 }
 
