@@ -14,10 +14,6 @@ checked-more true r cs cost (Ok c) e h = h
 checked-more true r cs cost (Err s) e h = h
 checked-more false r cs cost result e h = cc
 
-pub first-holds : (c : Bool) (r : Reason) (cs : List (Bool × Reason)) → first_failed ((c, r) ∷ cs) ≡ None → (c ≡ true) × (first_failed cs ≡ None)
-first-holds true r cs e = (refl, e)
-first-holds false r cs e = cc
-
 -- ---- the tables tell what the checks ask
 pub bound-after : (r : Reader) (items : List Item) (i : Item) → Tells r items → r.counts.bound + cost_of r.header i ≡ record_bound r.header (i ∷ items)
 bound-after r items i t = let b : r.counts.bound ≡ record_bound r.header items = t.bound in omega (arith, b)

@@ -1,5 +1,5 @@
 -- A header has ten words, and its numbers are within the limits.
-use Rattle.std.proofs.Common.{◌≡◌, ℕ, ◌<◌, ◌≤◌, ◌&&◌, nat_le, Bool, true, false, if◌then◌else◌, List, [], ◌∷◌, length, Option, None, Some, refl, arith}
+use Rattle.std.proofs.Common.{◌≡◌, ℕ, ◌<◌, ◌≤◌, ◌&&◌, nat_le, Bool, true, false, if◌then◌else◌, List, [], ◌∷◌, length, Option, None, Some, refl, subst, arith}
 use Rattle.std.specs.Prelude.{codes}
 use Rattle.std.proofs.lemmas.Bool.{leb-true, and_parts}
 use Rattle.std.proofs.lemmas.Nat.{pow_pos}
@@ -40,19 +40,19 @@ in_range least most n (Some m) e =
     let high = leb-true m most q.1 in
     (omega (arith, same, low), omega (arith, same, high))
 
-record HasNumbers (p t h a : Option ℕ) (f : Profile) : Type 0 where
-  pages : p ≡ Some f.pages
-  threads : t ≡ Some f.threads
-  heaps : h ≡ Some f.heaps
-  age : a ≡ Some f.age
-  unshared : f.shared ≡ 0
+-- a number that is there is within these limits
+abbrev Within : ℕ → ℕ → Option ℕ → Type 0
+Within least most o = (n : ℕ) → o ≡ Some n → (least ≤ n) × (n ≤ most)
 
-numbers : (p t h a : Option ℕ) (f : Profile) → profile_with p t h a ≡ Some f → HasNumbers p t h a f
-numbers None t h a f e = absurd (cc)
-numbers (Some p) None h a f e = absurd (cc)
-numbers (Some p) (Some t) None a f e = absurd (cc)
-numbers (Some p) (Some t) (Some h) None f e = absurd (cc)
-numbers (Some p) (Some t) (Some h) (Some a) f e = record { pages = cc; threads = cc; heaps = cc; age = cc; unshared = cc }
+numbers_valid : (p t h a : Option ℕ) (f : Profile) → Within 1 4096 p → Within 1 16 t → Within 1 32 h → Within 1 1000000 a → profile_with p t h a ≡ Some f → IsValid f
+numbers_valid None t h a f ps ts hs es e = absurd (cc)
+numbers_valid (Some p) None h a f ps ts hs es e = absurd (cc)
+numbers_valid (Some p) (Some t) None a f ps ts hs es e = absurd (cc)
+numbers_valid (Some p) (Some t) (Some h) None f ps ts hs es e = absurd (cc)
+numbers_valid (Some p) (Some t) (Some h) (Some a) f ps ts hs es e =
+    let page = ps p refl in let thread = ts t refl in let heap = hs h refl in let age = es a refl in
+    let is : record { pages = p; threads = t; age = a; heaps = h; shared = 0 } ≡ f = cc in
+    subst IsValid is (record { some_page = page.0; pages = page.1; some_thread = thread.0; threads = thread.1; some_age = age.0; age = age.1; some_heap = heap.0; heaps = heap.1; shared = pow_pos h })
 
 no_header : {A : Type 0} (f : Profile) → None ≡ Some f → A
 no_header f bad = absurd (cc)
@@ -61,14 +61,7 @@ words_valid : (ws : List (List ℕ)) (f : Profile) → header_of_words ws ≡ So
 words_valid (a ∷ b ∷ c ∷ d ∷ g ∷ h ∷ i ∷ j ∷ k ∷ m ∷ []) f e =
     let q = if_some (same_bytes a (codes "pas") && same_bytes b (codes "1") && same_bytes c (codes "pages") && same_bytes g (codes "threads") && same_bytes i (codes "heaps") && same_bytes k (codes "age"))
     (profile_with (within 1 4096 (number_of d)) (within 1 16 (number_of h)) (within 1 32 (number_of j)) (within 1 1000000 (number_of m))) f e in
-    let is = numbers (within 1 4096 (number_of d)) (within 1 16 (number_of h)) (within 1 32 (number_of j)) (within 1 1000000 (number_of m)) f q.1 in
-    let pages = in_range 1 4096 f.pages (number_of d) is.pages in
-    let threads = in_range 1 16 f.threads (number_of h) is.threads in
-    let heaps = in_range 1 32 f.heaps (number_of j) is.heaps in
-    let age = in_range 1 1000000 f.age (number_of m) is.age in
-    let unshared = is.unshared in
-    let some = pow_pos f.heaps in
-    record { some_page = pages.0; pages = pages.1; some_thread = threads.0; threads = threads.1; some_age = age.0; age = age.1; some_heap = heaps.0; heaps = heaps.1; shared = omega (arith, unshared, some) }
+    numbers_valid _ _ _ _ f (λ n. in_range 1 4096 n (number_of d)) (λ n. in_range 1 16 n (number_of h)) (λ n. in_range 1 32 n (number_of j)) (λ n. in_range 1 1000000 n (number_of m)) q.1
 words_valid (a ∷ b ∷ c ∷ d ∷ g ∷ h ∷ i ∷ j ∷ k ∷ m ∷ n ∷ ws) f e = no_header f e
 words_valid s f e = no_header f e
 

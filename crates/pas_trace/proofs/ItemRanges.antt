@@ -7,21 +7,14 @@ use Rattle.pas_trace.specs.Numbers.{number_of, address_of_word}
 use Rattle.pas_trace.specs.Items.{same_bytes, below, trace_name, epoch_word, turn_word, item1, item2, item3, item5, item_of_two, item_of_words, item_of_line}
 use Rattle.pas_trace.specs.declared.fault.Reason.{Reason}
 use Rattle.pas_trace.specs.declared.item.Item.{Item}
-use Rattle.pas_trace.specs.declared.item.Item.TheVariants.{Blank, Shares, NextPhase, Allocates, Frees, FreesRaw, Flushes, Stops, Ticks, Passes, Idles}
+use Rattle.pas_trace.specs.declared.item.Item.TheVariants.{Shares, Allocates, Frees, FreesRaw, Flushes, Stops, Ticks, Idles}
 
 -- a turn has a next one, and epochs are below 2^40
 abbrev pub IsInRange : Item → Type 0
-IsInRange Blank = Unit {0}
-IsInRange (Shares h) = Unit {0}
-IsInRange NextPhase = Unit {0}
-IsInRange (Allocates t n h s a) = Unit {0}
-IsInRange (Frees t n) = Unit {0}
 IsInRange (FreesRaw t a n) = n < 2 ^ 40 - 1
-IsInRange (Flushes t) = Unit {0}
-IsInRange (Stops t) = Unit {0}
 IsInRange (Ticks e) = e < 2 ^ 40
-IsInRange Passes = Unit {0}
 IsInRange (Idles n) = n < 2 ^ 40
+IsInRange i = Unit {0}
 
 if_range : (t : Bool) (a b : Result Item Reason) → IfOk a IsInRange → IfOk b IsInRange → IfOk (if t then a else b) IsInRange
 if_range true a b x y = x

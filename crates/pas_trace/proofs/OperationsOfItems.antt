@@ -1,5 +1,6 @@
 -- The operations of items follow one another soundly, and may make as many records as the items.
-use Rattle.std.proofs.Common.{◌≡◌, ℕ, ◌+◌, ◌≤◌, ◌==◌, ◌||◌, Bool, true, false, if◌then◌else◌, List, [], ◌∷◌, ◌++◌, length, Option, Some, None, refl, ap, sym, ◌∙◌, subst, arith, append_assoc, length-append}
+use Rattle.std.proofs.Common.{◌≡◌, ℕ, ◌+◌, ◌*◌, ◌≤◌, ◌==◌, ◌||◌, Bool, true, false, if◌then◌else◌, List, [], ◌∷◌, ◌++◌, length, Option, Some, None, refl, ap, sym, ◌∙◌, subst, arith, append_assoc, length-append}
+use Rattle.std.proofs.lemmas.Bool.{leb-true, ltb-true}
 use Rattle.std.proofs.lemmas.List.{append-nil}
 use Rattle.pas_profile.specs.declared.profile.Profile.{Profile}
 use Rattle.pas_trace.specs.Reasons.{is_named, actor_of, cost_of, costs_of, reason_of}
@@ -10,7 +11,7 @@ use Rattle.pas_trace.specs.declared.item.Item.TheVariants.{Blank, Shares, NextPh
 use Rattle.pas_trace.specs.declared.plan.Op.{Op}
 use Rattle.pas_trace.proofs.ItemRanges.{IsInRange}
 use Rattle.pas_trace.proofs.ParsedItems.{AreChecked}
-use Rattle.pas_trace.proofs.PassedChecks.{fine-thread, fine-free, fine-allocation}
+use Rattle.pas_trace.proofs.PassedChecks.{passes, thread_within, aligns, is_not}
 
 -- ---- the operations of items in one list: those before, and that of the newest item, where it is one
 abbrev pub ops_in : List Item → List Op
@@ -55,18 +56,18 @@ abbrev sharing : Profile → ℕ → Profile
 sharing f shared = record f { shared = shared }
 
 item_sound : (f : Profile) (shared : ℕ) (i : Item) (earlier : List Item) (asked : List ℕ) → reason_of f earlier i ≡ None → IsInRange i → AreNames asked earlier → AreSound (sharing f shared) asked (new_ops i earlier)
-item_sound f shared (Allocates t n h s a) earlier asked passes range names =
-    let fine = fine-allocation f earlier t n h s a passes in
-    let size = fine.size in
-    (fine.thread, (record { within = omega (arith, size); aligned = fine.align; of_profile = fine.heap }, names n ∙ fine.new), tt)
-item_sound f shared (Frees t n) earlier asked passes range names = let fine = fine-free f earlier t n passes in (fine.thread, names n ∙ fine.named, tt)
-item_sound f shared (FreesRaw t a n) earlier asked passes range names = ((fine-thread f earlier t (FreesRaw t a n) passes).0, range, tt)
-item_sound f shared (Flushes t) earlier asked passes range names = ((fine-thread f earlier t (Flushes t) passes).0, range, tt)
-item_sound f shared (Stops t) earlier asked passes range names = ((fine-thread f earlier t (Stops t) passes).0, range, tt)
-item_sound f shared (Ticks e) earlier asked passes range names = (refl, range, tt)
-item_sound f shared Passes earlier asked passes range names = (refl, range, tt)
-item_sound f shared (Idles n) earlier asked passes range names = (refl, range, tt)
-item_sound f shared i earlier asked passes range names = tt
+item_sound f shared (Allocates t n h s a) earlier asked passed range names =
+    let held = passes f earlier (Allocates t n h s a) passed in
+    let size = leb-true s (4096 * f.pages) held.1.1.0 in
+    (thread_within f t held.0, (record { within = omega (arith, size); aligned = aligns a held.1.1.1.0; of_profile = ltb-true h f.heaps held.1.0 }, names n ∙ is_not (is_named earlier n) held.1.1.1.1.0), tt)
+item_sound f shared (Frees t n) earlier asked passed range names = let held = passes f earlier (Frees t n) passed in (thread_within f t held.0, names n ∙ held.1.0, tt)
+item_sound f shared (FreesRaw t a n) earlier asked passed range names = (thread_within f t (passes f earlier (FreesRaw t a n) passed).0, range, tt)
+item_sound f shared (Flushes t) earlier asked passed range names = (thread_within f t (passes f earlier (Flushes t) passed).0, range, tt)
+item_sound f shared (Stops t) earlier asked passed range names = (thread_within f t (passes f earlier (Stops t) passed).0, range, tt)
+item_sound f shared (Ticks e) earlier asked passed range names = (refl, range, tt)
+item_sound f shared Passes earlier asked passed range names = (refl, range, tt)
+item_sound f shared (Idles n) earlier asked passed range names = (refl, range, tt)
+item_sound f shared i earlier asked passed range names = tt
 
 item_names : (i : Item) (earlier : List Item) (asked : List ℕ) → AreNames asked earlier → AreNames (asked_by asked (new_ops i earlier)) (i ∷ earlier)
 item_names (Allocates t n h s a) earlier asked names m = ap (λ b. (n == m) || b) (names m)
@@ -128,27 +129,17 @@ all_own f shared k (i ∷ earlier) =
     ∙ ap (λ n. n + (if actor_of i == k then cost_of f i else 0)) (all_own f shared k earlier) ∙ own_more (actor_of i == k) (own_costs f k earlier) (cost_of f i)
 
 -- ---- how many phases: one, and one for each item at most
-add_kept : (op : Op) (phases : List (List Op)) → 1 ≤ length phases → length (add_last (Some op) phases) ≡ length phases
-add_kept op [] some = absurd (omega (arith, some))
-add_kept op (p ∷ []) some = refl
-add_kept op (p ∷ q ∷ phases) some = omega (arith, add_kept op (q ∷ phases) (omega arith))
+add_few : (op : Op) (phases : List (List Op)) → length (add_last (Some op) phases) ≤ length phases + 1
+add_few op [] = omega arith
+add_few op (p ∷ []) = omega arith
+add_few op (p ∷ q ∷ phases) = omega (arith, add_few op (q ∷ phases))
 
-record AreFewPhases (phases : List (List Op)) (items : ℕ) : Type 0 where
-  some : 1 ≤ length phases
-  few : length phases ≤ items + 1
-
-added_few : (op : Op) (n : ℕ) (phases : List (List Op)) → AreFewPhases phases n → AreFewPhases (add_last (Some op) phases) (n + 1)
-added_few op n phases p = let some = p.some in let few = p.few in let same = add_kept op phases some in record { some = omega (arith, some, same); few = omega (arith, few, same) }
-
-phases_after_few : (i : Item) (line n : ℕ) (phases : List (List Op)) → AreFewPhases phases n → AreFewPhases (phases_after i line phases) (n + 1)
-phases_after_few Blank line n phases p = let few = p.few in record { some = p.some; few = omega (arith, few) }
-phases_after_few (Shares h) line n phases p = let few = p.few in record { some = p.some; few = omega (arith, few) }
-phases_after_few NextPhase line n phases p = let few = p.few in let more = length-append phases ([] ∷ []) in record { some = omega (arith, more); few = omega (arith, more, few) }
-phases_after_few i line n phases p = added_few _ n phases p
-
-phases_few : (items : List Item) → AreFewPhases (phases_in items) (length items)
-phases_few [] = record { some = omega arith; few = omega arith }
-phases_few (i ∷ earlier) = let p = phases_after_few i (line_of_newest (i ∷ earlier)) (length earlier) (phases_in earlier) (phases_few earlier) in let few = p.few in record { some = p.some; few = omega (arith, few) }
+after_few : (i : Item) (line : ℕ) (phases : List (List Op)) → length (phases_after i line phases) ≤ length phases + 1
+after_few Blank line phases = omega arith
+after_few (Shares h) line phases = omega arith
+after_few NextPhase line phases = omega (arith, length-append phases ([] ∷ []))
+after_few i line phases = add_few _ phases
 
 pub phases_within : (items : List Item) → length (phases_in items) ≤ length items + 1
-phases_within items = (phases_few items).few
+phases_within [] = omega arith
+phases_within (i ∷ earlier) = omega (arith, after_few i (line_of_newest (i ∷ earlier)) (phases_in earlier), phases_within earlier)

@@ -1,6 +1,6 @@
 -- The items of a text have passed their checks, and there are no more of them than lines after the first.
 use Rattle.std.proofs.Common.{◌≡◌, ℕ, ◌+◌, ◌<◌, ◌≤◌, List, [], ◌∷◌, length, Option, Some, None, Result, Ok, Err, refl, ap, sym, ◌∙◌, subst, arith}
-use Rattle.std.specs.Prelude.{◌^◌, nat_lt, IfOk}
+use Rattle.std.specs.Prelude.{◌^◌, IfOk}
 use Rattle.std.proofs.Math.Pow.{pow-lt}
 use Rattle.std.proofs.lemmas.Nat.{or_lt, pow_pos}
 use Rattle.std.proofs.lemmas.Bool.{ltb-true}
@@ -11,13 +11,12 @@ use Rattle.pas_trace.specs.Items.{item_of_line}
 use Rattle.pas_trace.specs.Reasons.{started, reason_of, kept, checked, line_says, header_of}
 use Rattle.pas_trace.specs.Plans.{after_item, items_from, Parsed, with_items, with_header, parsed, parsed_lines, shared_in}
 use Rattle.pas_trace.specs.declared.fault.Reason.{Reason}
-use Rattle.pas_trace.specs.declared.fault.Reason.TheVariants as Reasons
 use Rattle.pas_trace.specs.declared.fault.TraceFault.{TraceFault}
 use Rattle.pas_trace.specs.declared.item.Item.{Item}
 use Rattle.pas_trace.specs.declared.item.Item.TheVariants.{Shares}
-use Rattle.pas_trace.proofs.Checking.{first-holds}
 use Rattle.pas_trace.proofs.Headers.{header_valid}
 use Rattle.pas_trace.proofs.ItemRanges.{IsInRange, line_range}
+use Rattle.pas_trace.proofs.PassedChecks.{passes}
 
 pub record IsPassed (f : Profile) (earlier : List Item) (i : Item) : Type 0 where
   pub passes : reason_of f earlier i ≡ None
@@ -93,5 +92,5 @@ parts_of text header items e = of_lines (lines_of text) header items e
 pub shared_lt : (f : Profile) (items : List Item) → AreChecked f items → shared_in items < 2 ^ f.heaps
 shared_lt f [] checked = pow_pos f.heaps
 shared_lt f (Shares h ∷ earlier) checked =
-    or_lt f.heaps (shared_in earlier) (2 ^ h) (shared_lt f earlier checked.1) (pow-lt (ltb-true h f.heaps (first-holds (nat_lt h f.heaps) Reasons.BadHeap [] checked.0.passes).0))
+    or_lt f.heaps (shared_in earlier) (2 ^ h) (shared_lt f earlier checked.1) (pow-lt (ltb-true h f.heaps (passes f earlier (Shares h) checked.0.passes).0))
 shared_lt f (i ∷ earlier) checked = shared_lt f earlier checked.1

@@ -17,7 +17,7 @@ use Rattle.pas_trace.specs.declared.plan.What.TheVariants.{Alloc}
 use Rattle.pas_trace.specs.declared.reader.Reader.{Reader}
 use Rattle.pas_trace.proofs.Checking.{bound-after}
 use Rattle.pas_trace.proofs.Gathering.{get_or-written}
-use Rattle.pas_trace.proofs.PassedChecks.{FineCounts, fine-allocation, actor-most, counts-fine}
+use Rattle.pas_trace.proofs.PassedChecks.{FineCounts, passes, thread_within, actor_within, counts_within}
 
 -- ---- costs
 if-le : (b : Bool) (x y z : ℕ) → x ≤ z → y ≤ z → (if b then x else y) ≤ z
@@ -144,7 +144,7 @@ operated old new names items i actor what cost t op can told h =
 -- ---- what any item gives
 pub within-item : (r : Reader) (items : List Item) (i : Item) (actor : ℕ) → Tells r items → reason_of r.header items i ≡ None → actor_of i ≡ actor → get_or r.counts.costs actor 0 ≤ r.counts.bound
 within-item r items i actor t e is =
-    let most = actor-most r.header items i e in
+    let most = actor_within r.header items i e in
     let header = t.header in
     let threads : r.header.threads ≤ 16 = header.threads in
     cost-within r items actor t (omega (arith, most, threads, is))
@@ -155,8 +155,8 @@ NamesAfter old names i = (items : List Item) → Tells old items → reason_of o
 
 pub names-taken : (old : Reader) (names : Names) (t name h s a : ℕ) → ((n : ℕ) → owner_in names n ≡ (if n == name then record { thread = t; phase = old.phase } else owner_in old.names n)) → NamesAfter old names (Allocates t name h s a)
 names-taken old names t name h s a given items told e n =
-    let fine = fine-allocation old.header items t name h s a e in
-    taken-name t name h s a old.phase items (owner_in old.names n) (owner_in names n) n fine.thread.0 (given n) (told.names n)
+    let thread = thread_within old.header t (passes old.header items (Allocates t name h s a) e).0 in
+    taken-name t name h s a old.phase items (owner_in old.names n) (owner_in names n) n thread.0 (given n) (told.names n)
 
 pub added : (old new : Reader) (names : Names) (i : Item) (actor : ℕ) (what : What) (cost : ℕ) → IsOperation old.header i actor what cost → NamesAfter old names i
     → IsOperated (record old { line = old.line + 1; names = names }) new actor what cost → IsAdded old new i
@@ -164,11 +164,11 @@ added old new names i actor what cost op after h = record {
   header = h.header;
   line = h.line;
   tells = λ items t e.
-      let most = actor-most old.header items i e in
+      let most = actor_within old.header items i e in
       let header = t.header in
       let threads : old.header.threads ≤ 16 = header.threads in
       let is : actor_of i ≡ actor = op.thread in
-      let can = ready old items i actor cost t (counts-fine old.header items i op.operates e) (omega (arith, most, threads, is)) (sym op.costs) in
+      let can = ready old items i actor cost t (counts_within old.header items i op.operates e) (omega (arith, most, threads, is)) (sym op.costs) in
       operated old new names items i actor what cost t op can (after items t e) h;
 }
 
