@@ -62,7 +62,7 @@ words_range started (w ∷ a ∷ b ∷ c ∷ []) =
     if_range (same_bytes w (codes "r")) _ _ (range3 FreesRaw (number_of a) (address_of_word b) (turn_word c) (λ x y z is. below_lt (2 ^ 40 - 1) z (number_of c) is)) tt
 words_range started (w ∷ a ∷ b ∷ c ∷ d ∷ []) = tt
 words_range started (w ∷ a ∷ b ∷ c ∷ d ∷ e ∷ []) =
-    if_range (same_bytes w (codes "a")) _ _ (range5 Allocates (number_of a) (trace_name b) (number_of c) (number_of d) (number_of e) (λ v w x y z is. tt)) tt
+    if_range (same_bytes w (codes "a")) _ _ (range5 (λ t n h s a. Allocates t record { name = n; heap = h; size = s; align = a }) (number_of a) (trace_name b) (number_of c) (number_of d) (number_of e) (λ v w x y z is. tt)) tt
 words_range started (w ∷ a ∷ b ∷ c ∷ d ∷ e ∷ g ∷ more) = tt
 
 pub line_range : (started : Bool) (line : List ℕ) → IfOk (item_of_line started line) IsInRange

@@ -56,10 +56,10 @@ abbrev sharing : Profile → ℕ → Profile
 sharing f shared = record f { shared = shared }
 
 item_sound : (f : Profile) (shared : ℕ) (i : Item) (earlier : List Item) (asked : List ℕ) → reason_of f earlier i ≡ None → IsInRange i → AreNames asked earlier → AreSound (sharing f shared) asked (new_ops i earlier)
-item_sound f shared (Allocates t n h s a) earlier asked passed range names =
-    let held = passes f earlier (Allocates t n h s a) passed in
-    let size = leb-true s (4096 * f.pages) held.1.1.0 in
-    (thread_within f t held.0, (record { within = omega (arith, size); aligned = aligns a held.1.1.1.0; of_profile = ltb-true h f.heaps held.1.0 }, names n ∙ is_not (is_named earlier n) held.1.1.1.1.0), tt)
+item_sound f shared (Allocates t q) earlier asked passed range names =
+    let held = passes f earlier (Allocates t q) passed in
+    let size = leb-true q.size (4096 * f.pages) held.1.1.0 in
+    (thread_within f t held.0, (record { within = omega (arith, size); aligned = aligns q.align held.1.1.1.0; of_profile = ltb-true q.heap f.heaps held.1.0 }, names q.name ∙ is_not (is_named earlier q.name) held.1.1.1.1.0), tt)
 item_sound f shared (Frees t n) earlier asked passed range names = let held = passes f earlier (Frees t n) passed in (thread_within f t held.0, names n ∙ held.1.0, tt)
 item_sound f shared (FreesRaw t a n) earlier asked passed range names = (thread_within f t (passes f earlier (FreesRaw t a n) passed).0, range, tt)
 item_sound f shared (Flushes t) earlier asked passed range names = (thread_within f t (passes f earlier (Flushes t) passed).0, range, tt)
@@ -70,7 +70,7 @@ item_sound f shared (Idles n) earlier asked passed range names = (refl, range, t
 item_sound f shared i earlier asked passed range names = tt
 
 item_names : (i : Item) (earlier : List Item) (asked : List ℕ) → AreNames asked earlier → AreNames (asked_by asked (new_ops i earlier)) (i ∷ earlier)
-item_names (Allocates t n h s a) earlier asked names m = ap (λ b. (n == m) || b) (names m)
+item_names (Allocates t q) earlier asked names m = ap (λ b. (q.name == m) || b) (names m)
 item_names i earlier asked names m = names m
 
 pub record AreFollowing (f : Profile) (shared : ℕ) (items : List Item) : Type 0 where

@@ -47,7 +47,7 @@ counts_fit f items i h = record { few = ltb-true _ _ h.0; small = leb-true _ _ h
 
 -- ---- what any item gives
 pub actor_within : (f : Profile) (items : List Item) (i : Item) → reason_of f items i ≡ None → actor_of i ≤ f.threads
-actor_within f items (Allocates t n h s a) e = (thread_within f t (passes f items (Allocates t n h s a) e).0).1
+actor_within f items (Allocates t q) e = (thread_within f t (passes f items (Allocates t q) e).0).1
 actor_within f items (Frees t n) e = (thread_within f t (passes f items (Frees t n) e).0).1
 actor_within f items (FreesRaw t a n) e = (thread_within f t (passes f items (FreesRaw t a n) e).0).1
 actor_within f items (Flushes t) e = (thread_within f t (passes f items (Flushes t) e).0).1
@@ -55,7 +55,7 @@ actor_within f items (Stops t) e = (thread_within f t (passes f items (Stops t) 
 actor_within f items i e = omega arith
 
 pub counts_within : (f : Profile) (items : List Item) (i : Item) → is_operation i ≡ true → reason_of f items i ≡ None → FineCounts f items i
-counts_within f items (Allocates t n h s a) o e = counts_fit f items (Allocates t n h s a) (passes f items (Allocates t n h s a) e).1.1.1.1.1
+counts_within f items (Allocates t q) o e = counts_fit f items (Allocates t q) (passes f items (Allocates t q) e).1.1.1.1.1
 counts_within f items (Frees t n) o e = counts_fit f items (Frees t n) (passes f items (Frees t n) e).1.1.1
 counts_within f items (FreesRaw t a n) o e = counts_fit f items (FreesRaw t a n) (passes f items (FreesRaw t a n) e).1
 counts_within f items (Flushes t) o e = counts_fit f items (Flushes t) (passes f items (Flushes t) e).1

@@ -7,6 +7,7 @@ use Rattle.pas_profile.specs.declared.profile.Profile.{Profile}
 use Rattle.pas_trace.specs.Reasons.{cost_of, costs_of, record_bound, reason_of, operations_in, is_operation, is_phase, actor_of, allocates, is_named, is_named_now, thread_of, started}
 use Rattle.pas_trace.specs.Plans.{shared_by, shared_in, phases_after, phases_in, line_of_newest, own_costs, bound_of, bounds_upto, operation, add_last}
 use Rattle.pas_trace.specs.Told.{owner_in, Tells, NameTold, IsOperated, IsAdded}
+use Rattle.pas_trace.specs.declared.item.Request.{Request}
 use Rattle.pas_trace.specs.declared.item.Item.{Item}
 use Rattle.pas_trace.specs.declared.item.Item.TheVariants.{Allocates}
 use Rattle.pas_trace.specs.declared.names.Owner.{Owner}
@@ -66,8 +67,8 @@ kept-name i items o p n phase none h = record {
   before = h.before;
 }
 
-taken-here : (t name h s a p : ℕ) (items : List Item) (n : ℕ) → 1 ≤ t → (name == n) ≡ true → NameTold (record { thread = t; phase = p }) p (Allocates t name h s a ∷ items) n
-taken-here t name h s a p items n least e =
+taken-here : (t p : ℕ) (q : Request) (items : List Item) (n : ℕ) → 1 ≤ t → (q.name == n) ≡ true → NameTold (record { thread = t; phase = p }) p (Allocates t q ∷ items) n
+taken-here t p q items n least e =
     let some : (t == 0) ≡ false = ne_eqb t 0 (λ z. absurd (omega (arith, z, least))) in
     let same : (p == p) ≡ true = eq-eqb p p refl in
     record {
@@ -77,16 +78,16 @@ taken-here t name h s a p items n least e =
       before = omega arith;
     }
 
-pub taken-name : (t name h s a p : ℕ) (items : List Item) (o o' : Owner) (n : ℕ) → 1 ≤ t → o' ≡ (if n == name then record { thread = t; phase = p } else o) → NameTold o p items n → NameTold o' p (Allocates t name h s a ∷ items) n
-taken-name t name h s a p items o o' n least e told = elim (cases_eq n name) [
+pub taken-name : (t p : ℕ) (q : Request) (items : List Item) (o o' : Owner) (n : ℕ) → 1 ≤ t → o' ≡ (if n == q.name then record { thread = t; phase = p } else o) → NameTold o p items n → NameTold o' p (Allocates t q ∷ items) n
+taken-name t p q items o o' n least e told = elim (cases_eq n q.name) [
   | inl same ↦
-      let here : (n == name) ≡ true = eq-eqb n name same in
+      let here : (n == q.name) ≡ true = eq-eqb n q.name same in
       let is : o' ≡ record { thread = t; phase = p } = e ∙ ap (λ b. if b then record { thread = t; phase = p } else o) here in
-      subst (λ (x : Owner). NameTold x p (Allocates t name h s a ∷ items) n) (sym is) (taken-here t name h s a p items n least (eq-eqb name n (sym same)))
+      subst (λ (x : Owner). NameTold x p (Allocates t q ∷ items) n) (sym is) (taken-here t p q items n least (eq-eqb q.name n (sym same)))
   | inr other ↦
-      let there : (n == name) ≡ false = ne_eqb n name other in
+      let there : (n == q.name) ≡ false = ne_eqb n q.name other in
       let is : o' ≡ o = e ∙ ap (λ b. if b then record { thread = t; phase = p } else o) there in
-      subst (λ (x : Owner). NameTold x p (Allocates t name h s a ∷ items) n) (sym is) (kept-name (Allocates t name h s a) items o p n refl (ne_eqb name n (λ x. other (sym x))) told)
+      subst (λ (x : Owner). NameTold x p (Allocates t q ∷ items) n) (sym is) (kept-name (Allocates t q) items o p n refl (ne_eqb q.name n (λ x. other (sym x))) told)
 ]
 
 -- ---- an item that is an operation
@@ -153,10 +154,10 @@ within-item r items i actor t e is =
 abbrev pub NamesAfter : Reader → Names → Item → Type 0
 NamesAfter old names i = (items : List Item) → Tells old items → reason_of old.header items i ≡ None → (n : ℕ) → NameTold (owner_in names n) old.phase (i ∷ items) n
 
-pub names-taken : (old : Reader) (names : Names) (t name h s a : ℕ) → ((n : ℕ) → owner_in names n ≡ (if n == name then record { thread = t; phase = old.phase } else owner_in old.names n)) → NamesAfter old names (Allocates t name h s a)
-names-taken old names t name h s a given items told e n =
-    let thread = thread_within old.header t (passes old.header items (Allocates t name h s a) e).0 in
-    taken-name t name h s a old.phase items (owner_in old.names n) (owner_in names n) n thread.0 (given n) (told.names n)
+pub names-taken : (old : Reader) (names : Names) (t : ℕ) (q : Request) → ((n : ℕ) → owner_in names n ≡ (if n == q.name then record { thread = t; phase = old.phase } else owner_in old.names n)) → NamesAfter old names (Allocates t q)
+names-taken old names t q given items told e n =
+    let thread = thread_within old.header t (passes old.header items (Allocates t q) e).0 in
+    taken-name t old.phase q items (owner_in old.names n) (owner_in names n) n thread.0 (given n) (told.names n)
 
 pub added : (old new : Reader) (names : Names) (i : Item) (actor : ℕ) (what : What) (cost : ℕ) → IsOperation old.header i actor what cost → NamesAfter old names i
     → IsOperated (record old { line = old.line + 1; names = names }) new actor what cost → IsAdded old new i
@@ -173,8 +174,8 @@ added old new names i actor what cost op after h = record {
 }
 
 -- ---- an allocation is one
-pub is-allocates : (f : Profile) (t n h s a cost : ℕ) → cost_of f (Allocates t n h s a) ≡ cost → IsOperation f (Allocates t n h s a) t (Alloc n h s a) cost
-is-allocates f t n h s a cost e = record { operates = refl; same_phase = refl; marks = λ m. refl; thread = refl; costs = e; phases = λ line ps. refl }
+pub is-allocates : (f : Profile) (t : ℕ) (q : Request) (cost : ℕ) → cost_of f (Allocates t q) ≡ cost → IsOperation f (Allocates t q) t (Alloc q.name q.heap q.size q.align) cost
+is-allocates f t q cost e = record { operates = refl; same_phase = refl; marks = λ m. refl; thread = refl; costs = e; phases = λ line ps. refl }
 
 -- ---- bounds
 pub bounds-more : (f : Profile) (items : List Item) (k deeds cost : ℕ) (bounds more : List ℕ) → bounds ≡ bounds_upto f items k → deeds + cost ≡ bound_of f items k → more ≡ bounds ++ (deeds + cost) ∷ []
