@@ -15,7 +15,7 @@ pub fn put_run<D: Desk>(desk: &mut D, grain: u32, grains: u32)
     ensures home { D.home desk.new ≡ D.home desk.old }
 {
     let page = grain / 256;
-    let masks = Mask4::run((grain % 256) as u8, grains as u16).words();
+    let masks = Mask4::run((grain % 256) as u8, grains as u16).0;
     for word in 0..4u8 {
         let mask = masks[word as usize];
         if mask != 0 {

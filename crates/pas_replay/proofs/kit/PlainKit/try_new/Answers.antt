@@ -5,7 +5,7 @@ use Rattle.pas_utility.specs.Pools.{room_of}
 use Rattle.pas_replay.specs.Fit.{AllBelow}
 use Rattle.pas_replay.specs.Replays.{phases_of}
 use Rattle.pas_replay.proofs.Opening.{passes_count, fresh_thread}
-use Rattle.pas_replay.proofs.PlanHolds.{plan_valid, plan_bounds}
+use Rattle.pas_replay.proofs.BuiltPlans.{plan_valid, plan_bounds}
 use Rattle.pas_replay.proofs.kit.PlainKit.try_new.Goals as goal
 
 pub try_new-requires-clause-valid : goal.try_new-requires-clause-valid
