@@ -24,10 +24,10 @@ pub put-requires-clause-can : goal.put-requires-clause-can
 put-requires-clause-can g c =
     let i = c.loop-word.invariant in
     let word = c.loop-word.word in
-    let mask : IsMaskOf (c.args.grain % 256) c.args.grains word (slice_index c.words-masks.result word)
-    = λ b h. ap (λ w. has_bit (slice_index w word) b) c.words-masks.ensures ∙ sym (at_word c.run.result word b h) ∙ c.run.ensures (64 * word + b) in
+    let mask : IsMaskOf (c.args.grain % 256) c.args.grains word (slice_index c.run.result.0 word)
+    = λ b h. sym (at_word c.run.result word b h) ∙ c.run.ensures (64 * word + b) in
     can_step {C = λ v l. MayPutRun c.args.grain c.args.grains v} i.adds c.requires.can (c.requires.run.page, c.loop-word-test.true, c.loop-word-test.element_fits.fits)
-    (λ v l stood met. may_put c.args.grain c.args.grains word (slice_index c.words-masks.result word) i.steps v c.requires.run.within mask c.if-mask-ne0.true i.puts i.stays met)
+    (λ v l stood met. may_put c.args.grain c.args.grains word (slice_index c.run.result.0 word) i.steps v c.requires.run.within mask c.if-mask-ne0.true i.puts i.stays met)
 
 pub loop-word-preserved : goal.loop-word-preserved
 loop-word-preserved g c =
@@ -36,9 +36,9 @@ loop-word-preserved g c =
     let word = c.loop-word.word in
     let grain = c.args.grain in
     let grains = c.args.grains in
-    let m = slice_index c.words-masks.result word in
+    let m = slice_index c.run.result.0 word in
     let mask : IsMaskOf (grain % 256) grains word m
-    = λ b h. ap (λ w. has_bit (slice_index w word) b) c.words-masks.ensures ∙ sym (at_word c.run.result word b h) ∙ c.run.ensures (64 * word + b) in
+    = λ b h. sym (at_word c.run.result word b h) ∙ c.run.ensures (64 * word + b) in
     elim c.if-mask-ne0.branch [
       | then-mask-ne0 w ↦ record {
         steps = made (Put (grain / 256) word m) w.put.result ∷ i.steps;
