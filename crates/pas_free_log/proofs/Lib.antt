@@ -1,7 +1,6 @@
-pub mod Staying
+pub mod Stamped
 pub mod Masks
 pub mod Tries
-pub mod Silent
 pub mod Pages
 pub mod Blocks
 pub mod Idle

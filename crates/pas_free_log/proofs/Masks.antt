@@ -1,22 +1,26 @@
 -- The grains of a run on one page, put back word by word.
-use Rattle.std.proofs.Common.{◌≡◌, ◌≢◌, ℕ, ◌+◌, ◌*◌, ◌/◌, ◌%◌, ◌<◌, ◌≤◌, ◌==◌, ◌⊎◌, ◌&&◌, Bool, true, false, if◌then◌else◌, List, [], ◌∷◌, ◌++◌, inl, inr, refl, ap, sym, ◌∙◌, arith}
-use Rattle.std.proofs.lemmas.Bool.{false≢true, cases_Bool, eqb-true, eq-eqb, cases_eq, and_from, and_parts}
+use Rattle.std.proofs.Common.{◌≡◌, ◌≢◌, ℕ, ◌+◌, ◌*◌, ◌/◌, ◌%◌, ◌<◌, ◌≤◌, ◌==◌, ◌&&◌, ◌||◌, Bool, true, false, if◌then◌else◌, List, [], ◌∷◌, ◌++◌, refl, ap, sym, ◌∙◌, arith, true≢false}
+use Rattle.std.specs.Prelude.{nat_lt}
+use Rattle.std.proofs.lemmas.Bool.{eqb-true, eq-eqb, lt-ltb, and_from, and_parts}
+use Rattle.std.proofs.lemmas.Bool.Decides.{nat_tests}
 use Rattle.std.proofs.lemmas.Nat.Bits.{bit_at-zero}
 use Rattle.pas_profile.specs.Classes.{has_bit}
+use Rattle.pas_profile.specs.declared.profile.Profile.{Profile}
 use Rattle.pas_profile.specs.Runs.{in_run}
-use Rattle.pas_steps.specs.declared.step.Made.{Made}
-use Rattle.pas_steps.specs.declared.step.Step.{Step}
-use Rattle.pas_steps.specs.declared.step.Step.TheVariants.{Put}
-use Rattle.pas_steps.specs.Effects.{in_mask}
-use Rattle.pas_steps.specs.Views.{View, Stays, Puts, held_after, holds}
-use Rattle.pas_steps.specs.Allowed.{MayPutNow}
-use Rattle.pas_steps.specs.Frames.{IsGrains, OnlyGrains}
-use Rattle.pas_steps.specs.Desks.{made}
-use Rattle.pas_steps.proofs.Kept.{grains_on, unstamped_on}
 use Rattle.pas_bits.proofs.Runs.{run_of, to_run}
-use Rattle.pas_free_log.specs.Frames.{StaysAt}
-use Rattle.pas_free_log.specs.Returns.{MayPutRun, IsPut, OnlyPuts}
-use Rattle.pas_free_log.proofs.Staying.{holds_stays}
+use Rattle.pas_steps.specs.declared.step.Made.{Made}
+use Rattle.pas_steps.specs.declared.step.Step.TheVariants.{Put}
+use Rattle.pas_steps.specs.Agreement.{Agreed}
+use Rattle.pas_steps.specs.Allowed.{MayPutNow}
+use Rattle.pas_steps.specs.Calls.{Leads, AnyView, Kept, Lost, now, put, Does}
+use Rattle.pas_steps.specs.Desks.{made}
+use Rattle.pas_steps.specs.Effects.{in_mask}
+use Rattle.pas_steps.specs.Kinds.{Putting, Only}
+use Rattle.pas_steps.specs.Views.{View, holds}
+use Rattle.pas_steps.proofs.Apart.{unstamped_same}
+use Rattle.pas_steps.proofs.Calls.{leads_none, leads_then, leads_as, does_none, leads_put}
+use Rattle.pas_steps.proofs.Sets.{same_truth, put_both, put_as, put_nothing}
+use Rattle.pas_free_log.specs.Returns.{MayPutRun}
 
 -- the bits of the mask are the run's grains in this word of its page
 abbrev pub IsMaskOf : ℕ → ℕ → ℕ → ℕ → Type 0
@@ -43,71 +47,70 @@ of_mask g n x word m w mask inside =
     let b = r.1 in
     (to_run g n x (omega (arith, at, page, a)) (omega (arith, at, page, b)), at)
 
-no_mask : (g n x word m : ℕ) → g % 256 + n ≤ 256 → IsMaskOf (g % 256) n word m → (in_run g n x ≡ false) ⊎ (word + 1 ≤ x / 64 % 4) → in_mask (g / 256) word m x ≡ false
-no_mask g n x word m w mask outside = elim (cases_Bool (in_mask (g / 256) word m x)) [
-  | inl bad ↦
-      let of = of_mask g n x word m w mask bad in
-      elim outside [ inl out ↦ absurd (false≢true (sym out ∙ of.0)) | inr above ↦ let at = of.1 in absurd (omega (arith, at, above)) ]
-  | inr none ↦ none
-]
+in_mask_is : (g n x word m : ℕ) → g % 256 + n ≤ 256 → IsMaskOf (g % 256) n word m → in_mask (g / 256) word m x ≡ (in_run g n x && (word == x / 64 % 4))
+in_mask_is g n x word m w mask = same_truth (in_mask (g / 256) word m x) (in_run g n x && (word == x / 64 % 4))
+    (λ h. let of = of_mask g n x word m w mask h in and_from (in_run g n x) (word == x / 64 % 4) of.0 (eq-eqb word (x / 64 % 4) of.1))
+    (λ h. let p = and_parts (in_run g n x) (word == x / 64 % 4) h in masked g n x word m w mask p.0 (eqb-true word (x / 64 % 4) p.1))
 
--- ---- one put
-when_put : (t : Bool) → t ≡ false → (if t then Puts else Stays) ≡ Stays
-when_put t e = ap (λ x. if x then Puts else Stays) e
+-- ---- the words so far
+-- the grain is one of the run, in a word below this one
+abbrev pub below : ℕ → ℕ → ℕ → ℕ → Bool
+below g n word x = in_run g n x && nat_lt (x / 64 % 4) word
 
-was_put : (t held : Bool) → t ≡ true → held_after (if t then Puts else Stays) held ≡ false
-was_put t held e = ap (λ x. held_after (if x then Puts else Stays) held) e
+next_word : (y word : ℕ) → nat_lt y (word + 1) ≡ (nat_lt y word || (word == y))
+next_word y word = grind (arith, nat_tests)
 
-gone_still : (t held : Bool) → held ≡ false → held_after (if t then Puts else Stays) held ≡ false
-gone_still true held h = refl
-gone_still false held h = h
+spread : (r s t : Bool) → (r && (s || t)) ≡ ((r && s) || (r && t))
+spread true s t = refl
+spread false s t = refl
 
-no_bit : (m b : ℕ) → m ≡ 0 → has_bit m b ≡ false
-no_bit m b z = ap (λ n. has_bit n b) z ∙ ap (λ x. x == 1) (bit_at-zero b)
+below_more : (g n word m x : ℕ) → g % 256 + n ≤ 256 → IsMaskOf (g % 256) n word m → below g n (word + 1) x ≡ (below g n word x || in_mask (g / 256) word m x)
+below_more g n word m x w mask =
+    ap (λ t. in_run g n x && t) (next_word (x / 64 % 4) word) ∙ spread (in_run g n x) (nat_lt (x / 64 % 4) word) (word == x / 64 % 4) ∙ ap (λ t. below g n word x || t) (sym (in_mask_is g n x word m w mask))
 
--- ---- the words so far: those below this one
--- a grain that isn't of the run, or lies in a later word, wasn't moved
-abbrev pub StaysPast : ℕ → ℕ → ℕ → List Made → Type 0
-StaysPast g n word steps = (x : ℕ) → (in_run g n x ≡ false) ⊎ (word ≤ x / 64 % 4) → StaysAt x steps
+-- the grains in the words below this one were put
+abbrev pub PutBelow : ℕ → ℕ → ℕ → List Made → Type 0
+PutBelow g n word steps = (f : Profile) → Leads f AnyView (Does (put (below g n word) (g / 256))) steps
 
--- a grain of the run in an earlier word was put back
-abbrev pub AwayBelow : ℕ → ℕ → ℕ → List Made → Type 0
-AwayBelow g n word steps = (v : View) (x : ℕ) → in_run g n x ≡ true → x / 64 % 4 < word → holds (steps ++ v) x ≡ false
+none_below : (g n x : ℕ) → below g n 0 x ≡ false
+none_below g n x = same_truth (below g n 0 x) false (λ h. let lt : x / 64 % 4 < 0 = let p = (and_parts (in_run g n x) (nat_lt (x / 64 % 4) 0) h).1 in grind (arith, nat_tests, p) in absurd (omega (arith, lt))) (λ h. absurd (true≢false (sym h)))
 
-weaker : (g n word x : ℕ) → (in_run g n x ≡ false) ⊎ (word + 1 ≤ x / 64 % 4) → (in_run g n x ≡ false) ⊎ (word ≤ x / 64 % 4)
-weaker g n word x (inl out) = inl out
-weaker g n word x (inr above) = inr (omega (arith, above))
+pub put_none : (g n : ℕ) → PutBelow g n 0 []
+put_none g n f = leads_none (λ v met. put_nothing (below g n 0) (g / 256) (does_none v) (none_below g n))
 
-pub stays_more : (g n word m a : ℕ) (steps : List Made) → g % 256 + n ≤ 256 → IsMaskOf (g % 256) n word m → StaysPast g n word steps → StaysPast g n (word + 1) (made (Put (g / 256) word m) a ∷ steps)
-stays_more g n word m a steps w mask stays x outside = (when_put (in_mask (g / 256) word m x) (no_mask g n x word m w mask outside), stays x (weaker g n word x outside))
+pub put_more : (g n word m a : ℕ) (steps : List Made) → g % 256 + n ≤ 256 → IsMaskOf (g % 256) n word m → PutBelow g n word steps → PutBelow g n (word + 1) (made (Put (g / 256) word m) a ∷ steps)
+put_more g n word m a steps w mask before f = leads_then (Does (put (below g n (word + 1)) (g / 256))) (before f) (leads_put f (g / 256) word m a) (λ v u met d. tt)
+    (λ v u z d e. put_both (below g n word) (in_mask (g / 256) word m) (below g n (word + 1)) (g / 256) d e (λ x. sym (below_more g n word m x w mask)))
 
-pub stays_skip : (g n word : ℕ) (steps : List Made) → StaysPast g n word steps → StaysPast g n (word + 1) steps
-stays_skip g n word steps stays x outside = stays x (weaker g n word x outside)
+same_put : (g n : ℕ) (a b : ℕ → Bool) (steps : List Made) → ((x : ℕ) → a x ≡ b x) → ((f : Profile) → Leads f AnyView (Does (put a (g / 256))) steps) → (f : Profile) → Leads f AnyView (Does (put b (g / 256))) steps
+same_put g n a b steps same does f = leads_as (does f) (λ v met. met) (λ v w met d. put_as a b (g / 256) d same)
 
-pub away_more : (g n word m a : ℕ) (steps : List Made) → g % 256 + n ≤ 256 → IsMaskOf (g % 256) n word m → AwayBelow g n word steps → AwayBelow g n (word + 1) (made (Put (g / 256) word m) a ∷ steps)
-away_more g n word m a steps w mask away v x inside lt = elim (cases_eq word (x / 64 % 4)) [
-  | inl at ↦ was_put (in_mask (g / 256) word m x) (holds (steps ++ v) x) (masked g n x word m w mask inside at)
-  | inr other ↦ gone_still (in_mask (g / 256) word m x) (holds (steps ++ v) x) (away v x inside (omega (arith, lt, other)))
-]
+no_bit : (t : Bool) (m b : ℕ) → m ≡ 0 → (t && has_bit m b) ≡ false
+no_bit true m b z = ap (λ n. has_bit n b) z ∙ ap (λ x. x == 1) (bit_at-zero b)
+no_bit false m b z = refl
 
-pub away_skip : (g n word m : ℕ) (steps : List Made) → g % 256 + n ≤ 256 → IsMaskOf (g % 256) n word m → m ≡ 0 → AwayBelow g n word steps → AwayBelow g n (word + 1) steps
-away_skip g n word m steps w mask zero away v x inside lt = elim (cases_eq word (x / 64 % 4)) [
-  | inl at ↦ absurd (false≢true (sym (no_bit m (x % 64) zero) ∙ (and_parts ((word == x / 64 % 4) && (g / 256 == x / 256)) (has_bit m (x % 64)) (masked g n x word m w mask inside at)).1))
-  | inr other ↦ away v x inside (omega (arith, lt, other))
-]
+or_none : (s t : Bool) → t ≡ false → s ≡ (s || t)
+or_none true t h = refl
+or_none false t h = sym h
 
--- ---- puts are steps on grains of the page
-put_grains : (page : ℕ) (s : Step) → IsPut page s → IsGrains page s
-put_grains page s (IsPut.Puts word mask) = IsGrains.Puts word mask
+pub put_skip : (g n word m : ℕ) (steps : List Made) → g % 256 + n ≤ 256 → IsMaskOf (g % 256) n word m → m ≡ 0 → PutBelow g n word steps → PutBelow g n (word + 1) steps
+put_skip g n word m steps w mask zero = same_put g n (below g n word) (below g n (word + 1)) steps
+    (λ x. or_none (below g n word x) (in_mask (g / 256) word m x) (no_bit ((word == x / 64 % 4) && (g / 256 == x / 256)) m (x % 64) zero) ∙ sym (below_more g n word m x w mask))
 
-pub puts_grains : (page : ℕ) (steps : List Made) → OnlyPuts page steps → OnlyGrains page steps
-puts_grains page [] h = tt
-puts_grains page (m ∷ more) h = (put_grains page m.step h.0, puts_grains page more h.1)
+and_true : (r t : Bool) → t ≡ true → (r && t) ≡ r
+and_true true t h = h
+and_true false t h = refl
+
+pub put_all : (g n : ℕ) (steps : List Made) → PutBelow g n 4 steps → (f : Profile) → Leads f AnyView (Does (put (in_run g n) (g / 256))) steps
+put_all g n steps = same_put g n (below g n 4) (in_run g n) steps (λ x. and_true (in_run g n x) (nat_lt (x / 64 % 4) 4) (lt-ltb (x / 64 % 4) 4 (omega arith)))
 
 -- the grains of the mask may be put
-pub may_put : (g n word m : ℕ) (steps : List Made) (v : View) → g % 256 + n ≤ 256 → IsMaskOf (g % 256) n word m → m ≢ 0 → OnlyPuts (g / 256) steps → StaysPast g n word steps → MayPutRun g n v → MayPutNow (steps ++ v) (g / 256) word m
-may_put g n word m steps v w mask some puts stays met = record {
+not_below : (g n word x : ℕ) → word ≡ x / 64 % 4 → below g n word x ≡ false
+not_below g n word x at = same_truth (below g n word x) false (λ h. let p = (and_parts (in_run g n x) (nat_lt (x / 64 % 4) word) h).1 in let lt : x / 64 % 4 < word = grind (arith, nat_tests, p) in absurd (omega (arith, lt, at))) (λ h. absurd (true≢false (sym h)))
+
+pub may_put : (f : Profile) (g n word m : ℕ) (steps : List Made) (v : View) → g % 256 + n ≤ 256 → IsMaskOf (g % 256) n word m → m ≢ 0 → Only (Putting ∷ []) steps → PutBelow g n word steps → Agreed f v steps → MayPutRun g n v → MayPutNow (steps ++ v) (g / 256) word m
+may_put f g n word m steps v w mask some puts does agreed met = record {
   some = some;
-  held = λ x inside. let of = of_mask g n x word m w mask inside in let at = of.1 in holds_stays x steps v (stays x (inr (omega (arith, at)))) ∙ met.held x of.0;
-  stamped = unstamped_on (g / 256) (g / 256) steps v (grains_on (g / 256) steps (puts_grains (g / 256) steps puts)) met.stamped;
+  held = λ x inside. let of = of_mask g n x word m w mask inside in ((does f).from v tt agreed).held x ∙ ap (λ t. now (if t then Lost else Kept) (holds v x)) (not_below g n word x of.1) ∙ met.held x of.0;
+  stamped = unstamped_same (Putting ∷ []) refl (g / 256) steps v puts ∙ met.stamped;
 }

@@ -6,33 +6,28 @@ use Rattle.pas_profile.specs.declared.word.Word.TheVariants as Word
 use Rattle.pas_profile.specs.Runs.{in_run, meets_page}
 use Rattle.pas_steps.specs.Views.{View, holds, is_unstamped, EndedOn}
 use Rattle.pas_steps.specs.Desks.{Standing, Adds, made}
-use Rattle.pas_steps.specs.Past.{Always}
+use Rattle.pas_steps.specs.Calls.{Leads, AnyView, Does, Calls, put}
+use Rattle.pas_steps.specs.Frames.{OnlyOn}
+use Rattle.pas_steps.specs.Kinds.{Putting, Only}
+use Rattle.pas_profile.specs.declared.profile.Profile.{Profile}
 use Rattle.pas_steps.specs.declared.step.Made.{Made}
-use Rattle.pas_steps.specs.declared.step.Step.{Step}
-use Rattle.pas_steps.specs.declared.step.Step.TheVariants.{Look, Put, Stamp}
+use Rattle.pas_steps.specs.declared.step.Step.TheVariants.{Look, Stamp}
 use Rattle.pas_rights.specs.Rights.{ReturnSteps}
 use Rattle.pas_free_log.specs.Conditions.{KnowsEpoch}
 use Rattle.pas_free_log.specs.Stamps.{page_count}
-use Rattle.pas_free_log.specs.Frames.{StaysAt, PutsBack}
+use Rattle.pas_free_log.specs.Frames.{run_freed, PutsBack}
 
 -- ---- grains of one page
 pub record MayPutRun (g n : ℕ) (v : View) : Type 0 where
   pub held : (x : ℕ) → in_run g n x ≡ true → holds v x ≡ true
   pub stamped : is_unstamped v (g / 256) ≡ false
 
--- the step puts grains of the page back
-pub data IsPut (page : ℕ) : Step → Type 0 where
-  Puts : (word mask : ℕ) → IsPut page (Put page word mask)
-
-abbrev pub OnlyPuts : ℕ → List Made → Type 0
-OnlyPuts page = Always (λ m before. IsPut page m.step)
-
 -- puts on the page of the run, at most one for each of its four free words, which put exactly the grains of the run
 pub record PutSteps (g n : ℕ) (steps : List Made) : Type 0 where
-  pub puts : OnlyPuts (g / 256) steps
+  pub puts : Only (Putting ∷ []) steps
+  pub on : OnlyOn (g / 256) steps
   pub few : length steps ≤ 4
-  pub stays : (x : ℕ) → in_run g n x ≡ false → StaysAt x steps
-  pub away : (v : View) (x : ℕ) → in_run g n x ≡ true → holds (steps ++ v) x ≡ false
+  pub does : (f : Profile) → Leads f AnyView (Does (put (in_run g n) (g / 256))) steps
 
 pub record PutsRun (g n : ℕ) (desk desk' : Standing) : Type 0 where
   pub steps : List Made
@@ -58,9 +53,9 @@ pub record PageSteps (g n : ℕ) (steps : List Made) : Type 0 where
 
 pub record ReturnsPage (g n : ℕ) (desk desk' : Standing) : Type 0 where
   pub steps : List Made
-  pub adds : Adds desk desk' (λ v l. MayReturn g n v) steps
+  pub calls : Calls desk desk' (MayReturn g n) (Does (run_freed g n)) steps
   pub order : PageSteps g n steps
-  pub back : PutsBack desk.seat.profile g n steps
+  pub back : PutsBack g n steps
 
 -- ---- all pages of the block
 -- the part of the run of n grains from g that lies on a page: its first grain, and how many there are
@@ -80,6 +75,6 @@ RunSteps g n steps = PagesSteps (page_count g n) g n steps
 
 pub record ReturnsRun (g n : ℕ) (desk desk' : Standing) : Type 0 where
   pub steps : List Made
-  pub adds : Adds desk desk' (λ v l. MayReturn g n v) steps
+  pub calls : Calls desk desk' (MayReturn g n) (Does (run_freed g n)) steps
   pub order : RunSteps g n steps
-  pub back : PutsBack desk.seat.profile g n steps
+  pub back : PutsBack g n steps

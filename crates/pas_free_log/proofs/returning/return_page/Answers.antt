@@ -1,8 +1,7 @@
 use Rattle.std.proofs.Common.{sym, ◌∙◌, subst}
 use Rattle.pas_profile.specs.Profiles.{IsDirectoryOf}
-use Rattle.pas_steps.proofs.Adding.{can_call}
-use Rattle.pas_free_log.specs.Returns.{MayReturn}
-use Rattle.pas_free_log.proofs.Pages.{page_directory, directory_is, put_so, knows_so, page_returned}
+use Rattle.pas_steps.proofs.Called.{next_call}
+use Rattle.pas_free_log.proofs.Pages.{page_directory, directory_is, put_so, page_returned}
 use Rattle.pas_free_log.proofs.returning.return_page.Goals as goal
 
 pub unreachable-requires : goal.unreachable-requires
@@ -21,8 +20,7 @@ returned-requires-clause-can g c =
     let grain = c.args.grain in let grains = c.args.grains in let p = c.put_run.ensures.puts in
     let told = page_directory grain grains c.look.result c.read_deed.result (g.met.D.Desk.valid c.args.desk.now) c.requires.run.some c.requires.can c.look.ensures.makes c.read_deed.ensures in
     let is = directory_is (g.D.Desk.standing c.args.desk.now).seat.profile c.look.result c.read_deed.result c.in-Some.directory told c.in-Some.is in
-    can_call {C = λ v l. MayReturn grain grains v} (put_so grain grains c.look.result c.stamp.result c.requires.run.some c.look.ensures.makes c.stamp.ensures.makes p) c.requires.can
-    (λ v l stood met. knows_so grain grains c.look.result c.stamp.result c.in-Some.directory p.steps v is.0 p.order)
+    next_call (put_so grain grains c.look.result c.stamp.result c.requires.run.some c.look.ensures.makes c.stamp.ensures.makes p) c.requires.can (λ v met r. r.1 ∙ is.0)
 
 pub returns-clause-returns : goal.returns-clause-returns
 returns-clause-returns g c =
