@@ -1,3 +1,4 @@
+pub mod Puts
 pub mod Looks
 pub mod Orders
 pub mod Debts
