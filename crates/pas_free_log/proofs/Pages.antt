@@ -24,7 +24,7 @@ use Rattle.pas_steps.proofs.Apart.{only_within, only_both, deeds_same, unstamped
 use Rattle.pas_steps.proofs.Called.{call_then}
 use Rattle.pas_steps.proofs.Calls.{leads_as, does_after_nothing, does_idly, returns_are}
 use Rattle.pas_steps.proofs.Sets.{put_freed}
-use Rattle.pas_rights.specs.Rights.{Returned}
+use Rattle.pas_rights.specs.Returns.{Returned}
 use Rattle.pas_rights.proofs.Ends.{returned_call}
 use Rattle.pas_rights.proofs.Orders.{same_page, ends}
 use Rattle.pas_free_log.specs.Conditions.{IsRunOnPage}

@@ -12,7 +12,7 @@ use Rattle.pas_steps.specs.Kinds.{Putting, Only}
 use Rattle.pas_profile.specs.declared.profile.Profile.{Profile}
 use Rattle.pas_steps.specs.declared.step.Made.{Made}
 use Rattle.pas_steps.specs.declared.step.Step.TheVariants.{Look, Stamp}
-use Rattle.pas_rights.specs.Rights.{ReturnSteps}
+use Rattle.pas_rights.specs.Returns.{ReturnSteps}
 use Rattle.pas_free_log.specs.Conditions.{KnowsEpoch}
 use Rattle.pas_free_log.specs.Stamps.{page_count}
 use Rattle.pas_free_log.specs.Frames.{run_freed, PutsBack}

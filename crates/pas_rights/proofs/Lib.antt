@@ -3,3 +3,4 @@ pub mod Looks
 pub mod Orders
 pub mod Debts
 pub mod Ends
+pub mod Claimed

@@ -12,7 +12,7 @@ use Rattle.pas_steps.specs.Frames.{AreLooks}
 use Rattle.pas_steps.proofs.Adding.{agreed_first, agreed_later}
 use Rattle.pas_steps.proofs.Past.{once_later}
 use Rattle.pas_steps.proofs.Kept.{looks_read, right_reads, returns_still, holds_still, backed_returns, deed_stays}
-use Rattle.pas_rights.specs.Rights.{MayLeave, LosesHere, Leaves}
+use Rattle.pas_rights.specs.Leaves.{MayLeave, LosesHere, Leaves}
 use Rattle.pas_steps.specs.Clear.{OwesNothing}
 use Rattle.pas_steps.specs.Evidence.{Readings, ShowsHere, KeptHere, GetsHere, UnfitHere}
 use Rattle.pas_search.specs.Kinds.{AreQuiet}

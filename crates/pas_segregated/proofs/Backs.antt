@@ -15,7 +15,8 @@ use Rattle.pas_steps.specs.declared.step.Step.TheVariants.{Put, Offer, Unpark}
 use Rattle.pas_steps.proofs.Adding.{adds_none, adds_call, adds_under, agreed_first, agreed_later}
 use Rattle.pas_steps.proofs.Past.{always_both, always_map}
 use Rattle.pas_steps.proofs.Kept.{right_on, grains_on, returns_on, right_grains, returns_still, holds_still, holds_on_still, backed_returns}
-use Rattle.pas_rights.specs.Rights.{looks, HintsWhere, ReofferSteps, ReturnSteps, Returned}
+use Rattle.pas_rights.specs.Returns.{ReofferSteps, ReturnSteps, Returned}
+use Rattle.pas_rights.specs.Looks.{looks, HintsWhere}
 use Rattle.pas_steps.specs.Clear.{OwesNothing}
 use Rattle.pas_search.specs.Kinds.{IsQuiet, AreQuiet}
 use Rattle.pas_search.proofs.StepKinds.{grains_serve, returns_serve, serves_append, quiet_append, quiet_still}

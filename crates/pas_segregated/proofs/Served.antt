@@ -22,7 +22,7 @@ use Rattle.pas_steps.proofs.Adding.{adds_step, adds_call}
 use Rattle.pas_steps.proofs.Frames.{rights_stay}
 use Rattle.pas_steps.proofs.Past.{since_earlier}
 use Rattle.pas_steps.proofs.Kept.{returns_still, deed_stays}
-use Rattle.pas_rights.specs.Rights.{MayLeave, Leaves}
+use Rattle.pas_rights.specs.Leaves.{MayLeave, Leaves}
 use Rattle.pas_steps.specs.Evidence.{ShowsHere, KeptHere}
 use Rattle.pas_search.specs.Kinds.{IsServe, AreQuiet}
 use Rattle.pas_search.specs.Serving.{MayServe, FreshAt, KeepsPage, ServesPage}

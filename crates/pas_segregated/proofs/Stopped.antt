@@ -11,7 +11,7 @@ use Rattle.pas_steps.specs.Desks.{Seat, Standing, Adds}
 use Rattle.pas_steps.specs.declared.step.Made.{Made}
 use Rattle.pas_steps.proofs.Adding.{adds_call, adds_under, agreed_first, agreed_later}
 use Rattle.pas_steps.proofs.Kept.{right_on, check_on, hint_on, unstamped_on, examined_on, returns_on, returns_still, holds_still, holds_on_still, backed_returns, deed_stays}
-use Rattle.pas_rights.specs.Rights.{MayLeave, Leaves}
+use Rattle.pas_rights.specs.Leaves.{MayLeave, Leaves}
 use Rattle.pas_steps.specs.Clear.{IsClear, OwesNothing}
 use Rattle.pas_search.proofs.StepKinds.{serves_on, on_append, quiet_append, quiet_still}
 use Rattle.pas_segregated.specs.Returns.{on_page, MayGiveBack, GivesBack}

@@ -10,7 +10,7 @@ use Rattle.pas_steps.specs.declared.step.Made.{Made}
 use Rattle.pas_steps.specs.declared.step.Step.{Step}
 use Rattle.pas_steps.specs.declared.step.Step.TheVariants.{Look, Deed}
 use Rattle.pas_steps.proofs.Adding.{adds_none, adds_step, adds_call, can_call}
-use Rattle.pas_rights.specs.Rights.{MayLeave}
+use Rattle.pas_rights.specs.Leaves.{MayLeave}
 use Rattle.pas_rights.proofs.Orders.{same_page}
 use Rattle.pas_trials.specs.Trials.{Brings}
 

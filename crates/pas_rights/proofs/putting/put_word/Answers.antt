@@ -1,6 +1,4 @@
 use Rattle.std.proofs.Common.{[], ◌∷◌, refl, inl, inr}
-use Rattle.pas_steps.specs.Calls.{Does, put}
-use Rattle.pas_steps.specs.Effects.{in_mask}
 use Rattle.pas_steps.specs.Desks.{made}
 use Rattle.pas_steps.specs.declared.step.Step.TheVariants.{Put}
 use Rattle.pas_steps.proofs.Adding.{adds_none, adds_step}
