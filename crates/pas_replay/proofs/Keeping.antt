@@ -11,14 +11,12 @@ use Rattle.pas_profile.specs.declared.name.Name.{Name}
 use Rattle.pas_profile.specs.declared.name.Block.{Block}
 use Rattle.pas_profile.specs.declared.word.Word.{Word}
 use Rattle.pas_profile.specs.Runs.{meets_page, address_of, grain_of}
-use Rattle.pas_machine.specs.State.{epoch_in}
 use Rattle.pas_steps.specs.Views.{View, unstamped_after, is_unstamped}
 use Rattle.pas_steps.specs.Events.{events_by}
 use Rattle.pas_steps.specs.Allowed.{IsStepOf}
-use Rattle.pas_steps.specs.Lists.{Whole, part, word_after, visible}
+use Rattle.pas_steps.specs.Lists.{Whole, part, Legal}
 use Rattle.pas_steps.specs.Desks.{made, triple, triples}
 use Rattle.pas_steps.specs.Frames.{IsReturn, OnlyReturns}
-use Rattle.pas_steps.specs.declared.state.State.{State}
 use Rattle.pas_steps.specs.declared.step.Made.{Made}
 use Rattle.pas_steps.specs.declared.step.Step.{Step}
 use Rattle.pas_steps.specs.declared.step.Step.TheVariants.{Look, Deed, Back, Take, Put, Give, End, TakeRight, Offer, Park, Unpark, Stamp, Hint, Tick, Unback, Unhint}
@@ -39,14 +37,14 @@ use Rattle.pas_cache.specs.Changes.{StopsAll, EmptiesLog, EmptiesFull}
 use Rattle.pas_cache.specs.Serves.{IsAllocating, AreAllocating}
 use Rattle.pas_cache.proofs.Going.{stop_releases}
 use Rattle.pas_cache.proofs.Knowing.{releases_allocate}
-use Rattle.pas_trace.specs.declared.plan.Plan.{Plan}
 use Rattle.pas_trace.specs.declared.plan.What.{What}
 use Rattle.pas_report.specs.declared.record.Record.{Record}
 use Rattle.pas_report.specs.declared.record.Said.{Said}
-use Rattle.pas_replay.specs.Acts.{Act, Operates, Begins, Wakes, Closes, Ends, acts_of}
+use Rattle.pas_replay.specs.Acts.{Act, Operates, Begins, Wakes, Closes, Ends}
 use Rattle.pas_replay.specs.Answers.{Named, Caches, with_cache, begun, records_of, said_by, standing_for, IsFreed, IsFreedBy, IsStopped, IsAnswered, Follows}
-use Rattle.pas_replay.specs.Replays.{phases_of, empty_caches, Shows}
-use Rattle.pas_replay.specs.Ways.{Way}
+use Rattle.pas_report.specs.Rests.{AreStamped}
+use Rattle.pas_replay.specs.Replays.{empty_caches}
+use Rattle.pas_replay.specs.Ways.{Way, IsOneOrder}
 use Rattle.pas_replay.proofs.Replayed.{AreOf, PartOf, legal_part, parts_of, same_parts}
 
 -- ---- steps from a view for which nothing is unstamped, to one
@@ -414,11 +412,11 @@ parts_kept (t ∷ l) all = (
   parts_kept l (λ k. later_kept (t.actor == k) t.made (part k l) (all k)),
 )
 
--- the stamp of each page is the greatest epoch of an end there
-pub stamps_are : {way : Way} {plan : Plan} {records : List Record} {state : State} (shows : Shows way plan records state) → IsValid plan.profile → (page : ℕ) → word_after shows.whole (Word.Stamp page) ≡ epoch_in (visible shows.whole) page
-stamps_are {way} {plan} {records} {state} shows valid page =
-    let same : (k : ℕ) → part k shows.whole ≡ part k shows.told = same_parts way shows.told shows.whole shows.one_order in
-    let of : AreOf plan.profile shows.told = parts_of plan.profile shows.told (λ k. subst (λ (v : View). PartOf plan.profile v) (same k) (legal_part plan.profile shows.whole k shows.legal)) in
-    let done : AllDone shows.told = follows_done plan.profile (acts_of plan.profile.threads (phases_of plan)) [] empty_caches [] shows.told [] shows.said shows.answers of (record { keeps = tt; stamped = λ k p. refl }) in
-    let keeps : AllKeepToEnds shows.whole = parts_kept shows.whole (λ k. subst KeptPart (sym (same k)) (kept_part shows.told done.keeps k)) in
-    stamps_are_ends plan.profile shows.whole valid shows.legal keeps page (λ k. subst AllStamped (sym (same k)) (done.stamped k) page)
+-- THE STAMP of each page is the greatest epoch of an end there
+pub stamps_are : (way : Way) (f : Profile) (acts : List Act) (told whole : Whole) (said : List Record) → IsValid f → Follows f acts [] empty_caches [] [] told said → IsOneOrder way told whole → Legal f whole → AreStamped f whole
+stamps_are way f acts told whole said valid answers one_order legal =
+    let same : (k : ℕ) → part k whole ≡ part k told = same_parts way told whole one_order in
+    let of : AreOf f told = parts_of f told (λ k. subst (λ (v : View). PartOf f v) (same k) (legal_part f whole k legal)) in
+    let done : AllDone told = follows_done f acts [] empty_caches [] told [] said answers of (record { keeps = tt; stamped = λ k p. refl }) in
+    let keeps : AllKeepToEnds whole = parts_kept whole (λ k. subst KeptPart (sym (same k)) (kept_part told done.keeps k)) in
+    record { stamp = λ page is. stamps_are_ends f whole valid legal keeps page (λ k. subst AllStamped (sym (same k)) (done.stamped k) page) }

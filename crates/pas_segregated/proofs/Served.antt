@@ -91,7 +91,7 @@ module _ (class page : ℕ) (d : Directory) (is : IsClass class) (starts : Mask4
       pub leaves_page : ServesPage (exclusive class) page d σ σ2 None
       leaves_page = record {
         steps = left.steps ++ taken.steps;
-        adds = adds_call taken.adds left.adds (λ v l stood met. may_leave v met (taken.adds.agreed v l stood met));
+        adds = adds_call taken.adds left.calls.adds (λ v l stood met. may_leave v met (taken.adds.agreed v l stood met));
         only = serves_append page left.steps taken.steps (returns_serve page left.steps left.returns) taken.only;
         few = λ k v. subst (λ es. length es ≤ 1) (sym (events_quiet k v (left.steps ++ taken.steps) all_quiet)) (omega arith);
         outcome = left_page (exclusive class) profile page d taken.steps taken.quiet taken_right as_before (λ v met agreed h. still_backed v agreed h)
