@@ -11,7 +11,7 @@ use Rattle.pas_steps.specs.Calls.{Kept, Lost, now, Does}
 use Rattle.pas_steps.specs.Views.{View, holds, epoch_of, or_zero, ends_on}
 use Rattle.pas_steps.specs.Allowed.{IsEpochKnown}
 use Rattle.pas_steps.proofs.Apart.{only_both, epoch_same}
-use Rattle.pas_steps.proofs.Calls.{does_none}
+use Rattle.pas_steps.proofs.Calls.{does_none, unexamined_over}
 use Rattle.pas_steps.proofs.Sets.{freed_both, freed_nothing}
 use Rattle.pas_steps.proofs.Past.{once_later}
 use Rattle.pas_free_log.specs.Conditions.{IsRun, IsRunOnPage}
@@ -141,6 +141,7 @@ may_more g n from next xs v low is back does met =
           let b = r.1 in
           does.held x ∙ ap (λ t. now (if t then Lost else Kept) (holds v x)) (run_above g (from - g) x (omega (arith, a, low))) ∙ met.held x (to_run g n x (omega (arith, a, low)) (omega (arith, b, some, within)));
       ended = λ page meets. once_later (λ m before. ends_on m.step m.answer page ≡ true) xs v (met.ended page (meets_more g n from (next - from) page low (omega (arith, some, within)) meets));
+      examined = λ page meets. unexamined_over putting_back refl page xs v back.kinds (met.examined page (meets_more g n from (next - from) page low (omega (arith, some, within)) meets));
       epoch = subst IsEpochKnown (sym (epoch_same putting_back refl xs v back.kinds)) met.epoch;
     }
 

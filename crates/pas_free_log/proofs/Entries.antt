@@ -19,9 +19,10 @@ use Rattle.pas_steps.specs.Kinds.{Only}
 use Rattle.pas_steps.specs.Events.{events_by, with_event, reason_of}
 use Rattle.pas_steps.specs.Desks.{Standing, made, Adds}
 use Rattle.pas_steps.proofs.Apart.{only_within, only_both, epoch_same, events_same}
+use Rattle.pas_steps.proofs.Adding.{adds_under}
 use Rattle.pas_steps.proofs.Called.{call_then}
-use Rattle.pas_steps.proofs.Calls.{leads_as, leads_then, nothing_then, end_fails, end_succeeds, end_later, ends_back, EndsBlock}
-use Rattle.pas_free_log.specs.Conditions.{IsNameOf, KnowsEpoch}
+use Rattle.pas_steps.proofs.Calls.{leads_as, leads_then, nothing_then, end_fails, end_succeeds, end_later, ends_back, EndsBlock, unexamined_over}
+use Rattle.pas_free_log.specs.Conditions.{IsNameOf, KnowsEpoch, MayEnd}
 use Rattle.pas_free_log.specs.Stamps.{stamps_by, page_count, pages_met, stamps_with}
 use Rattle.pas_free_log.specs.Frames.{putting_back, ending, PutsBack}
 use Rattle.pas_free_log.specs.Endings.{guess_by, is_of, EndSteps, EndsName}
@@ -53,7 +54,7 @@ entry_refused {σ} {σ1} name read named e =
     record {
       outcome = Refused read;
       steps = steps;
-      calls = record { adds = subst (λ s. Adds σ σ1 (λ v l. KnowsEpoch v) s) o.steps_are e.adds; leads = leads_as (nothing_then (idle.does σ.seat.profile) (end_fails σ.seat.profile name o.guess o.answer ne)) (λ v met. tt) (λ v w met d. d) };
+      calls = record { adds = adds_under (subst (λ s. Adds σ σ1 (λ v l. KnowsEpoch v) s) o.steps_are e.adds) (λ v l stood met. met.epoch); leads = leads_as (nothing_then (idle.does σ.seat.profile) (end_fails σ.seat.profile name o.guess o.answer ne)) (λ v met. tt) (λ v w met d. d) };
       kinds = (refl, only_within trying ending pre refl idle.kinds);
       order = record { ends = steps; order = subst (λ s. EndSteps name (Refused read) s) o.steps_are e.order; after = []; returns = refl; steps_are = refl };
       event = λ v. refused_event σ.seat.actor name o.guess o.answer read pre v idle ne o.comes_to.0 o.comes_to.1;
@@ -64,11 +65,12 @@ entry_refused {σ} {σ1} name read named e =
 ended_held : (t inside : Bool) (held : Bool) (g : ℕ) → t ≡ true → inside ≡ true → held_after (if t && inside then Ends g else Stays) held ≡ true
 ended_held t inside held g a b = ap (λ x. held_after (if x && inside then Ends g else Stays) held) a ∙ ap (λ x. held_after (if x then Ends g else Stays) held) b
 
-pub may_return : (name : Name) (guess a : ℕ) (pre : List Made) (v : View) → AreIdle pre → a ≡ live_word name.turn guess → KnowsEpoch v → MayReturn (grain_of name) guess (ending_steps name guess a pre ++ v)
-may_return name guess a pre v idle live knows = record {
+pub may_return : (name : Name) (guess a : ℕ) (pre : List Made) (v : View) → AreIdle pre → a ≡ live_word name.turn guess → MayEnd v → MayReturn (grain_of name) guess (ending_steps name guess a pre ++ v)
+may_return name guess a pre v idle live met = record {
   held = λ x inside. ended_held (a == live_word name.turn guess) (in_run (grain_of name) guess x) (holds (pre ++ v) x) (grain_of name) (eq-eqb a (live_word name.turn guess) live) inside;
   ended = λ page meets. inl (and_from (a == live_word name.turn guess) (meets_page (grain_of name) guess page) (eq-eqb a (live_word name.turn guess) live) meets);
-  epoch = subst IsEpochKnown (sym (epoch_same trying refl pre v idle.kinds)) knows;
+  examined = λ page meets. unexamined_over trying refl page pre v idle.kinds (met.examined page);
+  epoch = subst IsEpochKnown (sym (epoch_same trying refl pre v idle.kinds)) met.epoch;
 }
 
 -- ---- what it does
@@ -109,7 +111,7 @@ pub record IsEnded (name : Name) (grains : ℕ) (σ σ1 : Standing) : Type 0 whe
   pub live : answer ≡ live_word name.turn guess
   pub length_is : grains ≡ guess
   pub some : 1 ≤ guess
-  pub calls : Calls σ σ1 KnowsEpoch (λ v w. EndsBlock (grain_of name) grains v w × MayReturn (grain_of name) grains w) (ending_steps name guess answer pre)
+  pub calls : Calls σ σ1 MayEnd (λ v w. EndsBlock (grain_of name) grains v w × MayReturn (grain_of name) grains w) (ending_steps name guess answer pre)
   pub order : EndSteps name (Ended grains) (ending_steps name guess answer pre)
 
 pub is_ended : {σ σ1 : Standing} (name : Name) (grains : ℕ) → EndsName name σ σ1 (Ended grains) → IsEnded name grains σ σ1
@@ -126,10 +128,10 @@ is_ended {σ} {σ1} name grains e =
       length_is = o.comes_to.1;
       some = subst (λ n. 1 ≤ n) o.comes_to.1 e.of_region.some;
       calls = record {
-        adds = subst (λ s. Adds σ σ1 (λ v l. KnowsEpoch v) s) o.steps_are e.adds;
+        adds = adds_under (subst (λ s. Adds σ σ1 (λ v l. KnowsEpoch v) s) o.steps_are e.adds) (λ v l stood met. met.epoch);
         leads = record {
-          from = λ v knows agreed. subst (λ n. EndsBlock (grain_of name) n v (ending_steps name o.guess o.answer pre ++ v) × MayReturn (grain_of name) n (ending_steps name o.guess o.answer pre ++ v)) (sym o.comes_to.1)
-              ((ends_block σ.seat.profile name o.guess o.answer pre idle o.comes_to.0).from v tt agreed, may_return name o.guess o.answer pre v idle o.comes_to.0 knows);
+          from = λ v met agreed. subst (λ n. EndsBlock (grain_of name) n v (ending_steps name o.guess o.answer pre ++ v) × MayReturn (grain_of name) n (ending_steps name o.guess o.answer pre ++ v)) (sym o.comes_to.1)
+              ((ends_block σ.seat.profile name o.guess o.answer pre idle o.comes_to.0).from v tt agreed, may_return name o.guess o.answer pre v idle o.comes_to.0 met);
         };
       };
       order = subst (λ s. EndSteps name (Ended grains) s) o.steps_are e.order;

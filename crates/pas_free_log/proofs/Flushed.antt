@@ -1,5 +1,5 @@
 -- All entries of a log.
-use Rattle.std.proofs.Common.{◌≡◌, ℕ, ◌+◌, ◌<◌, List, [], ◌∷◌, ◌++◌, Some, refl, ap, sym, ◌∙◌, append_assoc, take, get_or, length}
+use Rattle.std.proofs.Common.{◌≡◌, ℕ, ◌+◌, ◌<◌, List, [], ◌∷◌, ◌++◌, Some, refl, ap, sym, ◌∙◌, append_assoc, take, get_or, length, subst}
 use Rattle.std.specs.Prelude.{map, reverse}
 use Rattle.std.specs.List.{flat_map}
 use Rattle.std.proofs.lemmas.List.{append-nil, reverse-append, take_more}
@@ -19,6 +19,9 @@ use Rattle.pas_free_log.specs.Stamps.{stamps_by}
 use Rattle.pas_free_log.specs.Frames.{ending, freeing}
 use Rattle.pas_free_log.specs.Flushes.{Settled, event_for, shown_for, stamps_by_outcome, stamps_for, EntriesSteps, Flushes}
 use Rattle.pas_free_log.proofs.Stamped.{stamps_append}
+use Rattle.pas_steps.specs.Allowed.{IsEpochKnown}
+use Rattle.pas_steps.proofs.Calls.{still_clear}
+use Rattle.pas_free_log.specs.Conditions.{MayEnd}
 
 -- ---- one entry more
 pub events_more : (k epoch : ℕ) (entry : Settled) (settled : List Settled) (ys xs : List Made) → Only ending xs
@@ -46,6 +49,10 @@ names_more settled entry names i d lt is before =
 -- ---- the whole flush
 pub epoch_after_entries : (epoch : ℕ) (entries : List Made) (v : View) → Only ending entries → known_epoch ((entries ++ made (Look Word.Epoch) epoch ∷ []) ++ v) ≡ Some epoch
 epoch_after_entries epoch entries v kinds = ap known_epoch (append_assoc entries (made (Look Word.Epoch) epoch ∷ []) v) ∙ epoch_same ending refl entries (made (Look Word.Epoch) epoch ∷ v) kinds
+
+-- the next entry may be ended
+pub may_end : (epoch : ℕ) (entries : List Made) (v : View) → Only ending entries → Does nothing v ((entries ++ made (Look Word.Epoch) epoch ∷ []) ++ v) → IsClear v → MayEnd ((entries ++ made (Look Word.Epoch) epoch ∷ []) ++ v)
+may_end epoch entries v kinds does clear = record { epoch = subst IsEpochKnown (sym (epoch_after_entries epoch entries v kinds)) tt; examined = λ page. ((still_clear does clear).on page).examined }
 
 pub flushed : {σ σ' : Standing} (epoch : ℕ) (settled : List Settled) (names : List Name) (entries : List Made) → reverse (map (λ e. e.name) settled) ≡ names → EntriesSteps settled entries
     → Calls σ σ' IsClear (Does nothing) (entries ++ made (Look Word.Epoch) epoch ∷ []) → Only ending entries

@@ -1,5 +1,4 @@
 pub mod Stamped
-pub mod Masks
 pub mod Tries
 pub mod Pages
 pub mod Blocks

@@ -13,7 +13,7 @@ use Rattle.pas_steps.specs.Desks.{Standing, made}
 use Rattle.pas_steps.specs.declared.step.Made.{Made}
 use Rattle.pas_steps.specs.declared.step.Step.TheVariants.{Look}
 use Rattle.pas_steps.specs.Clear.{IsClear}
-use Rattle.pas_free_log.specs.Conditions.{KnowsEpoch}
+use Rattle.pas_free_log.specs.Conditions.{MayEnd}
 use Rattle.pas_free_log.specs.Stamps.{stamps_by, pages_met, stamps_with}
 use Rattle.pas_free_log.specs.Frames.{ending, freeing}
 use Rattle.pas_free_log.specs.Endings.{EndSteps}
@@ -60,7 +60,7 @@ pub record EntrySteps (entry : Settled) (steps : List Made) : Type 0 where
 pub record EndsEntry (name : Name) (desk desk' : Standing) : Type 0 where
   pub outcome : Outcome
   pub steps : List Made
-  pub calls : Calls desk desk' KnowsEpoch (Does nothing) steps
+  pub calls : Calls desk desk' MayEnd (Does nothing) steps
   pub kinds : Only ending steps
   pub order : EntrySteps record { name = name; outcome = outcome } steps
   pub event : (v : View) → events_by desk.seat.actor v steps ≡ event_for desk.seat.actor (epoch_of v) name outcome ∷ []

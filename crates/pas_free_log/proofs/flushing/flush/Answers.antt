@@ -16,7 +16,7 @@ use Rattle.pas_free_log.specs.Logs.{names_in}
 use Rattle.pas_steps.specs.Clear.{IsClear}
 use Rattle.pas_free_log.specs.Frames.{ending}
 use Rattle.pas_free_log.specs.Flushes.{Settled, event_for}
-use Rattle.pas_free_log.proofs.Flushed.{events_more, stamps_more, names_more, epoch_after_entries, flushed}
+use Rattle.pas_free_log.proofs.Flushed.{events_more, stamps_more, names_more, may_end, flushed}
 use Rattle.pas_free_log.proofs.Spares.{spare_falls}
 use Rattle.pas_free_log.proofs.flushing.flush.Goals as goal
 
@@ -41,7 +41,7 @@ loop-name-init g c =
 pub end_entry-requires-clause-can : goal.end_entry-requires-clause-can
 end_entry-requires-clause-can g c =
     let i = c.loop-name.invariant in
-    next_call i.calls c.requires.can (λ v met d. subst IsEpochKnown (sym (epoch_after_entries i.epoch i.entries v i.kinds)) tt)
+    next_call i.calls c.requires.can (λ v met d. may_end i.epoch i.entries v i.kinds d met)
 
 pub loop-name-preserved : goal.loop-name-preserved
 loop-name-preserved g c =
@@ -59,7 +59,7 @@ loop-name-preserved g c =
       entries = s.steps ++ i.entries;
       order = (s.steps, i.entries, s.order, i.order, refl);
       calls = subst (λ xs. Calls σ (D.standing c.end_entry.new.desk) IsClear (Does nothing) xs) (sym (append_assoc s.steps i.entries (made (Look Word.Epoch) i.epoch ∷ [])))
-          (call_then (Does nothing) i.calls s.calls (λ v met d. subst IsEpochKnown (sym (epoch_after_entries i.epoch i.entries v i.kinds)) tt) (λ v met d e. does_then d e));
+          (call_then (Does nothing) i.calls s.calls (λ v met d. may_end i.epoch i.entries v i.kinds d met) (λ v met d e. does_then d e));
       kinds = only_both ending s.steps i.entries s.kinds i.kinds;
       events = events_more σ.seat.actor i.epoch entry i.settled s.steps i.entries i.kinds i.events event;
       stamps = stamps_more i.epoch entry i.settled s.steps i.entries i.kinds i.stamps s.stamps;
