@@ -50,7 +50,9 @@ costs f what built = refl
 fit_all : (f : Profile) (limit : ℕ) (asked : List ℕ) (ops : List Op) → AreBuilt ops → AreBelow limit ops → AreSound f asked ops → AreFit f limit asked ops
 fit_all f limit asked [] built below sound = tt
 fit_all f limit asked (op ∷ ops) built below sound = (
-  threads_own f op.what op.actor built.0 sound.0, fits f limit asked op.what built.0 below.0 sound.1, fit_all f limit (asked_after op.what asked) ops built.1 below.1 sound.2,
+  threads_own f op.what op.actor built.0 sound.0,
+  fits f limit asked op.what built.0 below.0 sound.1,
+  fit_all f limit (asked_after op.what asked) ops built.1 below.1 sound.2,
 )
 
 costs_all : (f : Profile) (ops : List Op) → AreBuilt ops → records_of_ops f ops ≡ costs_of ops

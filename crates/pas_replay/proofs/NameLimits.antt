@@ -21,6 +21,7 @@ below_all limit (p ∷ ps) all = below_both limit p (all_ops ps) all.0 (below_al
 below_what : (limit higher : ℕ) (what : What) → limit ≤ higher → IsBelow limit what → IsBelow higher what
 below_what limit higher (Alloc n h s a) le is = omega (arith, le, is)
 below_what limit higher s le is = tt
+
 below_higher : (limit higher : ℕ) (ops : List Op) → limit ≤ higher → AreBelow limit ops → AreBelow higher ops
 below_higher limit higher [] le all = tt
 below_higher limit higher (op ∷ ops) le all = (below_what limit higher op.what le all.0, below_higher limit higher ops le all.1)

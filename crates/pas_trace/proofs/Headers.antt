@@ -52,7 +52,7 @@ numbers_valid (Some p) (Some t) (Some h) None f ps ts hs es e = absurd (cc)
 numbers_valid (Some p) (Some t) (Some h) (Some a) f ps ts hs es e =
     let page = ps p refl in let thread = ts t refl in let heap = hs h refl in let age = es a refl in
     let is : record { pages = p; threads = t; age = a; heaps = h; shared = 0 } ≡ f = cc in
-    subst IsValid is (record { some_page = page.0; pages = page.1; some_thread = thread.0; threads = thread.1; some_age = age.0; age = age.1; some_heap = heap.0; heaps = heap.1; shared = pow_pos h })
+    subst IsValid is (record { some_page = page.0; pages = page.1; some_thread = thread.0; threads = thread.1; some_age = age.0; age = age.1; some_heap = heap.0; heaps = heap.1 })
 
 no_header : {A : Type 0} (f : Profile) → None ≡ Some f → A
 no_header f bad = absurd (cc)
