@@ -9,7 +9,7 @@ use Rattle.pas_replay.proofs.BuiltPlans.{plan_valid, plan_bounds}
 use Rattle.pas_replay.proofs.kit.PlainKit.try_new.Goals as goal
 
 pub try_new-requires : goal.try_new-requires
-try_new-requires c = ap (λ bs. length bs) c.as_slice.ensures ∙ plan_bounds c.requires.1
+try_new-requires c = record { bounds = ap (λ bs. length bs) c.as_slice.ensures ∙ plan_bounds c.requires.1 }
 
 pub rooms_of-requires-clause-few : goal.rooms_of-requires-clause-few
 rooms_of-requires-clause-few c = (plan_valid c.requires.1).threads
