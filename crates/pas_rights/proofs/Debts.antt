@@ -10,7 +10,7 @@ use Rattle.pas_profile.specs.declared.word.Word.TheVariants as Word
 use Rattle.pas_profile.specs.Directories.{IsKind}
 use Rattle.pas_profile.proofs.Codecs.{deed_word_of-positive, read-deed_word_of}
 use Rattle.pas_profile.proofs.ClassFacts.{usable_grains_ge}
-use Rattle.pas_steps.specs.Views.{View, ToOffer, ToParked, has_right, known_deed, usable_by, usable_by_kind, no_usable, all_ones, owes_check, owes_hint}
+use Rattle.pas_steps.specs.Views.{View, ToOffer, FromParked, ToParked, has_right, known_deed, usable_by, usable_by_kind, no_usable, all_ones, owes_check, owes_hint}
 use Rattle.pas_steps.specs.Agreement.{Agreed}
 use Rattle.pas_steps.specs.Desks.{made}
 use Rattle.pas_steps.specs.declared.step.Made.{Made}
@@ -125,12 +125,12 @@ reoffer_hint p d steps v (inl h) = ap (λ s. owes_hint (s ++ v) p) h.2
 reoffer_hint p d steps v (inr h) = ap (λ s. owes_hint (s ++ v) p) h.3
 
 reoffer_lacks : (p : ℕ) (d : Directory) (steps : List Made) (v : View) → ReofferSteps p d steps → has_right v p ≡ false → has_right (steps ++ v) p ≡ false
-reoffer_lacks p d steps v (inl h) lacks = ap (λ s. has_right (s ++ v) p) h.2 ∙ gets_none p h.0 (has_right v p) h.1 ∙ lacks
+reoffer_lacks p d steps v (inl h) lacks = ap (λ s. has_right (s ++ v) p) h.2 ∙ gets_none p FromParked h.0 (has_right v p) h.1 ∙ lacks
 reoffer_lacks p d steps v (inr h) lacks = ap (λ s. has_right (s ++ v) p) h.3 ∙ gives p (ToOffer (number_of d)) (has_right (made (Unpark p) h.0 ∷ v) p) refl
 
 -- with the right the parked bit is read as 0
 reoffer_right : (f : Profile) (p : ℕ) (d : Directory) (steps : List Made) (v : View) → ReofferSteps p d steps → Agreed f v steps → has_right (steps ++ v) p ≡ has_right v p
-reoffer_right f p d steps v (inl h) agreed = ap (λ s. has_right (s ++ v) p) h.2 ∙ gets_none p h.0 (has_right v p) h.1
+reoffer_right f p d steps v (inl h) agreed = ap (λ s. has_right (s ++ v) p) h.2 ∙ gets_none p FromParked h.0 (has_right v p) h.1
 reoffer_right f p d steps v (inr h) agreed =
     let here : Agreed f v (made (Offer p d) h.1 ∷ made (Unpark p) h.0 ∷ []) = subst (Agreed f v) h.3 agreed in
     let whole : 64 * (p / 64) + p % 64 ≡ p = omega arith in
