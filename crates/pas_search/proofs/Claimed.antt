@@ -1,12 +1,13 @@
 -- The ends of one offered page: a claim, and the back end's steps.
 use Rattle.std.proofs.Common.{◌≡◌, ℕ, ◌%◌, ◌≤◌, ◌==◌, Bool, true, false, ◌&&◌, if◌then◌else◌, List, [], ◌∷◌, ◌++◌, None, Some, length, refl, ap, sym, ◌∙◌, subst, inl, inr, append_assoc, append-nil, ◌+◌}
 use Rattle.std.proofs.lemmas.Bool.{eq-eqb}
+use Rattle.pas_profile.specs.Directories.{number_of}
 use Rattle.pas_profile.specs.Classes.{has_bit}
 use Rattle.pas_profile.specs.declared.directory.Directory.{Directory}
 use Rattle.pas_profile.specs.declared.profile.Profile.{Profile}
 use Rattle.pas_steps.specs.declared.step.Made.{Made}
 use Rattle.pas_steps.specs.declared.step.Step.TheVariants.{TakeRight}
-use Rattle.pas_steps.specs.Views.{View, holds, has_right, knows_backed, KnowsDeed}
+use Rattle.pas_steps.specs.Views.{Rests, FromOffer, had_after, View, holds, has_right, knows_backed, KnowsDeed}
 use Rattle.pas_steps.specs.Events.{events_by, events_of}
 use Rattle.pas_steps.specs.Agreement.{Agreed}
 use Rattle.pas_steps.specs.Lists.{Whole}
@@ -29,14 +30,14 @@ use Rattle.pas_search.proofs.StepKinds.{room_kept, serves_on, serves_search, sea
 abbrev pub claimed : ℕ → Directory → ℕ → List Made
 claimed p d a = made (TakeRight p d) a ∷ []
 
-lost_bit : (p : ℕ) (x had : Bool) → x ≡ false → (if (p == p) && x then true else had) ≡ had
-lost_bit p x had h = ap (λ t. if t && x then true else had) (eq-eqb p p refl) ∙ ap (λ t. if t then true else had) h
+lost_bit : (p n : ℕ) (x had : Bool) → x ≡ false → had_after (if (p == p) && x then FromOffer n else Rests) had ≡ had
+lost_bit p n x had h = ap (λ t. had_after (if t && x then FromOffer n else Rests) had) (eq-eqb p p refl) ∙ ap (λ t. had_after (if t then FromOffer n else Rests) had) h
 
-won_bit : (p : ℕ) (x had : Bool) → x ≡ true → (if (p == p) && x then true else had) ≡ true
-won_bit p x had h = ap (λ t. if t && x then true else had) (eq-eqb p p refl) ∙ ap (λ t. if t then true else had) h
+won_bit : (p n : ℕ) (x had : Bool) → x ≡ true → had_after (if (p == p) && x then FromOffer n else Rests) had ≡ true
+won_bit p n x had h = ap (λ t. had_after (if t && x then FromOffer n else Rests) had) (eq-eqb p p refl) ∙ ap (λ t. had_after (if t then FromOffer n else Rests) had) h
 
 pub claim_right : (p : ℕ) (d : Directory) (a : ℕ) (v : View) → has_bit a (p % 64) ≡ true → has_right (claimed p d a ++ v) p ≡ true
-claim_right p d a v h = won_bit p (has_bit a (p % 64)) (has_right v p) h
+claim_right p d a v h = won_bit p (number_of d) (has_bit a (p % 64)) (has_right v p) h
 
 -- the page is ready to be served from, once its right is got
 pub claimed_may : (f : Profile) (p : ℕ) (d : Directory) (a : ℕ) (v : View) → has_bit a (p % 64) ≡ true → Agreed f v (claimed p d a) → MayTry p d v → MayServe p d (claimed p d a ++ v)
@@ -59,7 +60,7 @@ claimed_got p d a before bit untouched = record {
 lost_was : (f : Profile) (p : ℕ) (d : Directory) (a : ℕ) → has_bit a (p % 64) ≡ false → LeavesAsWas f p d (claimed p d a)
 lost_was f p d a bit = record {
   quiet = (λ k e. refl, tt);
-  right = λ before h. lost_bit p (has_bit a (p % 64)) (has_right before p) bit ∙ h;
+  right = λ before h. lost_bit p (number_of d) (has_bit a (p % 64)) (has_right before p) bit ∙ h;
   grains = λ before fresh g at. refl;
   owes = λ v met agreed. record { checks = λ w lt. met.owes.checks w lt; hint = met.owes.hint };
   backed = λ v met agreed h. backed_more (made (TakeRight p d) a) v p h h (λ g at. refl);
@@ -75,7 +76,7 @@ lost_page {F} {rule} {σ} {σ'} p d a claim bit = record {
   outcome = record {
     was = lost_was σ.seat.profile p d a bit;
     zero_read = λ before untouched. inl (ReadsEligible.Claims, bit, untouched.right);
-    lacks = λ before untouched lacks. (lost_bit p (has_bit a (p % 64)) (has_right before p) bit ∙ untouched.right, lacks);
+    lacks = λ before untouched lacks. (lost_bit p (number_of d) (has_bit a (p % 64)) (has_right before p) bit ∙ untouched.right, lacks);
   };
 }
 

@@ -9,7 +9,7 @@ use Rattle.pas_profile.specs.declared.event.Event.{Event}
 use Rattle.pas_steps.specs.declared.step.Made.{Made}
 use Rattle.pas_steps.specs.declared.step.Step.{Step}
 use Rattle.pas_steps.specs.declared.step.Step.TheVariants.{Deed}
-use Rattle.pas_steps.specs.Views.{View, holds, has_right, known_deed, known_free, knows_backed, epoch_of}
+use Rattle.pas_steps.specs.Views.{Way, Rests, had_after, View, holds, has_right, known_deed, known_free, knows_backed, epoch_of}
 use Rattle.pas_steps.specs.Events.{event_of, with_event, events_of, events_by}
 use Rattle.pas_steps.specs.Agreement.{Agrees, Agreed}
 use Rattle.pas_steps.specs.Desks.{Makes, Seat, Standing, Anything, made, Adds, CanCall}
@@ -94,7 +94,7 @@ deed_room {σ} {σ1} {n} {spare} page xs adds can is read = elim can.met.room.1 
 
 -- ---- the deed was made
 pub deed_gives : (p : ℕ) (d : Directory) (a : ℕ) (v : View) → a ≡ 0 → has_right (made (Deed p d) a ∷ v) p ≡ true
-deed_gives p d a v e = ap (λ t. if t && (a == 0) then true else has_right v p) (eq-eqb p p refl) ∙ ap (λ t. if t then true else has_right v p) (eq-eqb a 0 e)
+deed_gives p d a v e = ap (λ t. had_after (if t && (a == 0) then Way.ByDeed else Rests) (has_right v p)) (eq-eqb p p refl) ∙ ap (λ t. had_after (if t then Way.ByDeed else Rests) (has_right v p)) (eq-eqb a 0 e)
 
 deed_known : (p : ℕ) (d : Directory) (a : ℕ) (v : View) → a ≡ 0 → known_deed (made (Deed p d) a ∷ v) p ≡ deed_word_of d
 deed_known p d a v e = ap (λ t. if t then (if a == 0 then deed_word_of d else a) else known_deed v p) (eq-eqb p p refl) ∙ ap (λ t. if t then deed_word_of d else a) (eq-eqb a 0 e)

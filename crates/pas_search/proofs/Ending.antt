@@ -21,7 +21,7 @@ use Rattle.pas_steps.specs.Clear.{IsClear}
 use Rattle.pas_search.specs.Searches.{MaySearch, SearchRoom, BareRoom, Searching, SearchesOffered, SearchesBare, IsFound, IsFoundBare, IsServed, IsRefused, Searches}
 use Rattle.pas_steps.specs.Unknown.{HasRoom}
 use Rattle.pas_search.specs.declared.serving.Served.{Served}
-use Rattle.pas_search.proofs.StepKinds.{room_kept, scans_read, reads_search, searches_append}
+use Rattle.pas_search.proofs.StepKinds.{lends_none, room_kept, scans_read, reads_search, searches_append}
 use Rattle.pas_search.proofs.Going.{reads_searching}
 use Rattle.pas_search.proofs.Refusing.{refused}
 use Rattle.pas_search.proofs.Told.{all_told}
@@ -143,6 +143,6 @@ searches_by {F} {rule} {σ} {σ'} {answer} tells d valid of fewer told parts end
       let same : part σ.seat.actor l ≡ v = parts v l yes_tells stood in
       all_told rule f σ.seat.actor l d ends.steps valid of fewer
       (legal_after ends.adds (λ x y s. told x y yes_tells s) v l stood met)
-      ends.searches (subst (MaySearch d) (sym same) met) (subst (λ x. Agreed f x ends.steps) (sym same) (ends.adds.agreed v l stood met))
+      (lends_none ends.steps ends.searches) (subst (MaySearch d) (sym same) met) (subst (λ x. Agreed f x ends.steps) (sym same) (ends.adds.agreed v l stood met))
       answer ends.outcome;
 }

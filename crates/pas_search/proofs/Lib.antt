@@ -5,8 +5,6 @@ pub mod Going
 pub mod Turning
 pub mod Deeding
 pub mod Refusing
-pub mod Spotting
-pub mod Grained
 pub mod Told
 pub mod Ending
 pub mod Unfitting

@@ -10,6 +10,7 @@ use Rattle.pas_steps.specs.declared.step.Step.TheVariants.{Look, Deed, Back, Tak
 use Rattle.pas_steps.specs.Views.{View, right_after, has_right, unstamped_after, is_unstamped, epoch_of}
 use Rattle.pas_steps.specs.Events.{with_event, events_of, events_by}
 use Rattle.pas_steps.specs.Past.{Always}
+use Rattle.pas_steps.specs.Kinds.{kind_of, is_in, lending}
 use Rattle.pas_steps.specs.Frames.{IsOnPage, IsReturn, IsGrains, IsRead, OnlyOn, OnlyReturns, OnlyGrains, OnlyReads, OnlyScans}
 use Rattle.pas_steps.specs.Desks.{Standing, Adds, CanCall}
 use Rattle.pas_steps.specs.Lists.{Whole}
@@ -181,3 +182,12 @@ unstamped_searches q (m ∷ more) v h = search_unstamped m.step m.answer q (is_u
 pub right_own : (p : ℕ) (ys xs : List Made) → has_right xs p ≡ false → has_right (ys ++ xs) p ≡ has_right ys p
 right_own p [] xs h = h
 right_own p (y ∷ ys) xs h = ap (λ x. right_after y.step y.answer p x) (right_own p ys xs h)
+
+-- no block is given or ended
+search_lends : (s : Step) → IsSearch s → is_in lending (kind_of s) ≡ false
+search_lends s (IsSearch.Looks Word.Epoch) = refl
+search_lends s (IsSearch.Looks word) = refl
+search_lends s step = refl
+
+pub lends_none : (steps : List Made) → OnlySearches steps → Always (λ m before. is_in lending (kind_of m.step) ≡ false) steps
+lends_none steps h = always_map (λ m before. IsSearch m.step) (λ m before. is_in lending (kind_of m.step) ≡ false) steps (λ m before is. search_lends m.step is) h

@@ -27,7 +27,7 @@ use Rattle.pas_steps.specs.Evidence.{ShowsHere, KeptHere}
 use Rattle.pas_search.specs.Kinds.{IsServe, AreQuiet}
 use Rattle.pas_search.specs.Serving.{MayServe, FreshAt, KeepsPage, ServesPage}
 use Rattle.pas_search.proofs.StepKinds.{returns_serve, serves_append, quiet_append, quiet_still, events_quiet}
-use Rattle.pas_search.proofs.Grained.{since_once}
+use Rattle.pas_steps.proofs.Past.{since_once}
 use Rattle.pas_search.proofs.Unfitting.{left_page}
 use Rattle.pas_search.proofs.Backed.{same_on, held_where_backed}
 use Rattle.pas_segregated.specs.Masks.{start_of, IsEmpty, IsSome}
