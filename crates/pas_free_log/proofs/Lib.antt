@@ -5,4 +5,5 @@ pub mod Blocks
 pub mod Idle
 pub mod Entries
 pub mod Spares
+pub mod StepCounts
 pub mod Flushed

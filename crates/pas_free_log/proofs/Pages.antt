@@ -84,12 +84,6 @@ page_back g n deed stamped puts after some within kinds returns =
       stamps = λ v. stamps_same returning refl v after (puts ++ stamping p deed stamped) are ∙ stamps_same (Putting ∷ []) refl v puts (stamping p deed stamped) kinds ∙ ap (stamps_with (epoch_of v)) (sym (pages_one g n some within));
     }
 
-page_few : (p deed stamped : ℕ) (puts after : List Made) → length puts ≤ 4 → length after ≤ 8 → length (piece p deed stamped puts after) ≤ 14
-page_few p deed stamped puts after few more =
-    let n = length-append after (puts ++ stamping p deed stamped) in
-    let m = length-append puts (stamping p deed stamped) in
-    omega (arith, n, m, few, more)
-
 -- ---- the call
 -- the directory that was read
 pub directory_told : (f : Profile) (deed : ℕ) (r : Option Directory) → IsValid f → r ≡ directory_read deed → ((d : Directory) × (deed ≡ deed_word_of d) × IsDirectoryOf f d) → (d : Directory) × (r ≡ Some d) × (deed ≡ deed_word_of d) × IsDirectoryOf f d
@@ -147,5 +141,4 @@ module _ {σ σ1 σ2 : Standing} (g n deed stamped : ℕ) (mask : Mask4) (some :
         (λ v met q s. put_freed (in_run g n) (in_run page (page_count g n)) page q.0 (settled_clear page Kept s q.1.stamped q.1.examined) (λ x. its_page g n x (count_one g n some within)));
     order = record { directory = d; stamped = stamped; mask = mask; grains = grains; puts = p.steps; order = p.order; after = r.steps; returns = r.order; steps_are = ap (λ x. piece page x stamped p.steps r.steps) is };
     back = page_back g n deed stamped p.steps r.steps some within p.kinds r.returns;
-    few = page_few page deed stamped p.steps r.steps p.few r.few;
   }

@@ -88,6 +88,9 @@ puts_kinds page mask n = in_turn_always (λ word piece. WordPut page word (slice
 puts_on : (page : ℕ) (mask : Mask4) (n : ℕ) (steps : List Made) → PutsBelow page mask n steps → OnlyOn page steps
 puts_on page mask n = in_turn_always (λ word piece. WordPut page word (slice_index mask.0 word) piece) (λ m. IsOnPage page m.step) (λ word. word_on page word (slice_index mask.0 word)) (numbers_below n)
 
+pub puts_few : (page : ℕ) (mask : Mask4) (steps : List Made) → PutsBelow page mask 4 steps → length steps ≤ 4
+puts_few page mask = in_turn_length (λ word piece. WordPut page word (slice_index mask.0 word) piece) 1 (λ word. word_few page word (slice_index mask.0 word)) (numbers_below 4)
+
 -- ---- the calls
 pub may_put_word : (page : ℕ) (mask : Mask4) (n : ℕ) (steps : List Made) (v : View) → PutsBelow page mask n steps → MayPut page mask v → Does (put (masked_below page mask n) page) v (steps ++ v) → MayPutWord page n (slice_index mask.0 n) (steps ++ v)
 may_put_word page mask n steps v order met does = record {
@@ -113,5 +116,5 @@ puts_all page mask steps order calls = record {
   order = order;
   kinds = puts_kinds page mask 4 steps order;
   on = puts_on page mask 4 steps order;
-  few = in_turn_length (λ word piece. WordPut page word (slice_index mask.0 word) piece) 1 (λ word. word_few page word (slice_index mask.0 word)) (numbers_below 4) steps order;
+  few = puts_few page mask steps order;
 }
