@@ -16,8 +16,8 @@ use Rattle.pas_free_log.specs.Logs.{names_in}
 use Rattle.pas_steps.specs.Clear.{IsClear}
 use Rattle.pas_free_log.specs.Frames.{ending}
 use Rattle.pas_free_log.specs.Flushes.{Settled, event_for}
-use Rattle.pas_free_log.proofs.Flushed.{events_more, stamps_more, names_more, may_end, flushed}
-use Rattle.pas_free_log.proofs.Spares.{spare_falls}
+use Rattle.pas_free_log.proofs.AllEntries.{events_more, stamps_more, names_more, may_end, flushed}
+use Rattle.pas_free_log.proofs.SpareRoom.{spare_falls}
 use Rattle.pas_free_log.proofs.flushing.flush.Goals as goal
 
 pub loop-name-init : goal.loop-name-init
