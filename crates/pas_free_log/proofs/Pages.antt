@@ -1,5 +1,5 @@
 -- The steps for the grains of one page.
-use Rattle.std.proofs.Common.{◌≡◌, ℕ, ◌+◌, ◌-◌, ◌/◌, ◌%◌, ◌≤◌, ◌==◌, false, if◌then◌else◌, List, [], ◌∷◌, ◌++◌, Option, Some, refl, ap, sym, ◌∙◌, subst, arith, length, length-append, ◌&&◌, true}
+use Rattle.std.proofs.Common.{◌≡◌, ℕ, ◌+◌, ◌-◌, ◌/◌, ◌%◌, ◌≤◌, ◌==◌, false, if◌then◌else◌, List, [], ◌∷◌, ◌++◌, Option, Some, refl, ap, sym, ◌∙◌, subst, arith, ◌&&◌, true}
 use Rattle.std.proofs.lemmas.Bool.{ne_eqb}
 use Rattle.std.proofs.lemmas.Bool.Decides.{nat_tests}
 use Rattle.pas_profile.specs.Directories.{deed_word_of, directory_read}
@@ -22,12 +22,11 @@ use Rattle.pas_steps.specs.Desks.{Standing, made, Makes, CanCall}
 use Rattle.pas_steps.proofs.Adding.{adds_none, adds_step}
 use Rattle.pas_steps.proofs.Apart.{only_within, only_both, deeds_same, unstamped_same, examines_same}
 use Rattle.pas_steps.proofs.Called.{call_then}
-use Rattle.pas_steps.proofs.Calls.{leads_as, does_after_nothing, does_idly, returns_are}
+use Rattle.pas_steps.proofs.Calls.{does_after_nothing, does_idly, returns_are}
 use Rattle.pas_steps.proofs.Sets.{put_freed, put_as}
 use Rattle.pas_rights.specs.Returns.{Returned}
 use Rattle.pas_rights.proofs.Ends.{settled_clear}
 use Rattle.pas_rights.proofs.Orders.{same_page, ends}
-use Rattle.pas_free_log.specs.Conditions.{IsRunOnPage}
 use Rattle.pas_free_log.specs.Stamps.{page_count, pages_from, pages_met, stamps_with}
 use Rattle.pas_free_log.specs.Frames.{putting_back, run_freed, PutsBack}
 use Rattle.pas_free_log.specs.Returns.{MayReturn, ReturnsPage}

@@ -1,5 +1,5 @@
 -- How many steps a flush makes at most.
-use Rattle.std.proofs.Common.{◌≡◌, ℕ, zero, suc, ◌+◌, ◌*◌, ◌/◌, ◌≤◌, List, [], ◌∷◌, ◌++◌, length, inl, inr, ap, sym, ◌∙◌, arith, length-append, refl}
+use Rattle.std.proofs.Common.{◌≡◌, ℕ, ◌+◌, ◌*◌, ◌/◌, ◌≤◌, List, [], ◌∷◌, ◌++◌, length, inl, inr, ap, sym, ◌∙◌, arith, length-append}
 use Rattle.std.specs.Prelude.{map, reverse}
 use Rattle.std.specs.List.{flat_map}
 use Rattle.std.proofs.lemmas.List.{length-map, length-reverse}
@@ -13,10 +13,10 @@ use Rattle.pas_steps.specs.declared.step.Step.TheVariants.{Look, Stamp}
 use Rattle.pas_steps.proofs.InTurn.{in_turn_length}
 use Rattle.pas_rights.proofs.Orders.{return_few}
 use Rattle.pas_rights.proofs.Puts.{puts_few}
-use Rattle.pas_free_log.specs.Stamps.{page_count, pages_from, pages_met, stamps_with}
+use Rattle.pas_free_log.specs.Stamps.{pages_met, stamps_with}
 use Rattle.pas_free_log.specs.Endings.{guess_by, Tries, EndSteps}
-use Rattle.pas_free_log.specs.Returns.{PageSteps, RunSteps, first_on, count_on}
-use Rattle.pas_free_log.specs.Flushes.{Settled, stamps_by_outcome, stamps_for, AfterEnd, EntrySteps, EntriesSteps}
+use Rattle.pas_free_log.specs.Returns.{PageSteps, first_on, count_on}
+use Rattle.pas_free_log.specs.Flushes.{Settled, stamps_by_outcome, stamps_for, AfterEnd, EntriesSteps}
 use Rattle.pas_free_log.specs.declared.ending.Outcome.{Outcome}
 use Rattle.pas_free_log.specs.declared.ending.Outcome.TheVariants.{Ended, Refused}
 

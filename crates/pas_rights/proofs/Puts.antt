@@ -1,13 +1,13 @@
 -- The grains of a mask of one page, put back word by word.
-use Rattle.std.proofs.Common.{◌≡◌, ◌≢◌, ℕ, zero, suc, ◌+◌, ◌/◌, ◌%◌, ◌<◌, ◌≤◌, ◌==◌, nat_lt, Bool, true, false, ◌&&◌, ◌||◌, if◌then◌else◌, List, [], ◌∷◌, ◌++◌, length, slice_index, inl, inr, refl, ap, sym, ◌∙◌, subst, arith}
-use Rattle.std.proofs.lemmas.Bool.{eqb-true, eq-eqb, lt-ltb, le-ltb, and_parts}
+use Rattle.std.proofs.Common.{◌≡◌, ℕ, ◌+◌, ◌/◌, ◌%◌, ◌≤◌, ◌==◌, nat_lt, Bool, true, false, ◌&&◌, ◌||◌, if◌then◌else◌, List, [], ◌∷◌, ◌++◌, length, slice_index, inl, inr, refl, ap, sym, ◌∙◌, subst, arith}
+use Rattle.std.proofs.lemmas.Bool.{eqb-true, lt-ltb, le-ltb, and_parts}
 use Rattle.std.proofs.lemmas.Bool.Decides.{nat_tests}
 use Rattle.pas_profile.specs.Classes.{has_bit}
 use Rattle.pas_bits.specs.declared.mask.Mask4.{Mask4}
 use Rattle.pas_bits.specs.Masks.{is_set}
 use Rattle.pas_bits.proofs.Words.{none_of_zero}
-use Rattle.pas_steps.specs.Calls.{Calls, Does, Kept, Lost, now, put, nothing}
-use Rattle.pas_steps.specs.Desks.{Standing, made}
+use Rattle.pas_steps.specs.Calls.{Calls, Does, Kept, Lost, now, put}
+use Rattle.pas_steps.specs.Desks.{Standing}
 use Rattle.pas_steps.specs.Effects.{in_mask}
 use Rattle.pas_steps.specs.Frames.{IsOnPage, OnlyOn}
 use Rattle.pas_steps.specs.InTurn.{numbers_below}

@@ -5,7 +5,6 @@ use Rattle.pas_profile.specs.declared.word.Word.TheVariants as Word
 use Rattle.pas_steps.specs.declared.step.Step.TheVariants.{Look}
 use Rattle.pas_steps.specs.Views.{View, epoch_of}
 use Rattle.pas_steps.specs.Events.{events_by}
-use Rattle.pas_steps.specs.Allowed.{IsEpochKnown}
 use Rattle.pas_steps.specs.Calls.{nothing, Does, Calls}
 use Rattle.pas_steps.specs.Kinds.{LookEpoch}
 use Rattle.pas_steps.specs.Desks.{made}
