@@ -1,10 +1,6 @@
 pub mod Bits
 pub mod Starts
-pub mod Puts
-pub mod Backs
-pub mod Stopped
-pub mod Taken
-pub mod Counted
-pub mod Complete
-pub mod Served
-pub mod Refilled
+pub mod TakesOnce
+pub mod GiveBack
+pub mod StopSlots
+pub mod FourTakes

@@ -10,7 +10,7 @@ use Rattle.pas_steps.specs.Agreement.{Agreed}
 use Rattle.pas_steps.specs.Desks.{Standing}
 use Rattle.pas_steps.specs.declared.step.Made.{Made}
 use Rattle.pas_steps.specs.Clear.{IsClear}
-use Rattle.pas_search.specs.Kinds.{EventsAt}
+use Rattle.pas_segregated.specs.TempKinds.{EventsAt}
 use Rattle.pas_search.specs.Searches.{MaySearch, FromOffered, ByDeed, FewEvents, Searches}
 use Rattle.pas_search.specs.declared.serving.Served.{Served}
 use Rattle.pas_segregated.specs.Masks.{AreStarts, IsSome}

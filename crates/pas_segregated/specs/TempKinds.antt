@@ -1,0 +1,82 @@
+-- Kinds of steps of a search, and which events they make.
+use Rattle.std.specs.Prelude.{◌⊎◌, ℕ, ◌≡◌, ◌==◌, suc, Bool, false, if◌then◌else◌, List, [], ◌∷◌, None}
+use Rattle.pas_profile.specs.declared.directory.Directory.{Directory}
+use Rattle.pas_steps.specs.Past.{Once, Always}
+use Rattle.pas_steps.specs.Events.{event_of}
+use Rattle.pas_steps.specs.Evidence.{GetsHere}
+use Rattle.pas_steps.specs.Frames.{OnlyOn}
+use Rattle.pas_steps.specs.Kinds.{Kinds, LookEpoch, LookFree, LookLife, LookDeed, LookBacked, LookStamp, LookParked, LookEmpty, LookEligible, Deeding, Backing, Taking, Putting, Claiming, Offering, Parking, Unparking, Hinting, Only}
+use Rattle.pas_steps.specs.declared.step.Step.{Step}
+use Rattle.pas_steps.specs.declared.step.Made.{Made}
+use Rattle.pas_steps.specs.declared.step.Step.TheVariants.{Look, Deed, Back, Take, Put, Give, End, TakeRight, Offer, Park, Unpark, Stamp, Hint, Tick, Unback, Unhint}
+
+-- ---- kinds
+-- what a back end may do on a page whose right was got: it makes no deed, claims nothing, stamps nothing, gives and ends no block
+abbrev pub serving : Kinds
+serving = LookEpoch ∷ LookFree ∷ LookLife ∷ LookDeed ∷ LookBacked ∷ LookStamp ∷ LookParked ∷ LookEmpty ∷ LookEligible ∷ Backing ∷ Taking ∷ Putting ∷ Offering ∷ Parking ∷ Unparking ∷ Hinting ∷ []
+
+pub record OnlyServes (page : ℕ) (steps : List Made) : Type 0 where
+  pub kinds : Only serving steps
+  pub on : OnlyOn page steps
+
+-- what a search may do: it gives and ends no block, and stamps nothing
+abbrev pub searching : Kinds
+searching = Deeding ∷ Claiming ∷ serving
+
+-- the step gives up the right of the page, takes it back from the parked pages, or hints the page
+pub data IsReturnOf (page : ℕ) : Step → Type 0 where
+  Offers : (d : Directory) → IsReturnOf page (Offer page d)
+  Parks : IsReturnOf page (Park page)
+  Unparks : IsReturnOf page (Unpark page)
+  Hints : IsReturnOf page (Hint page)
+
+-- the call got the right of the page before
+abbrev pub ReturnsGot : Made → List Made → Type 0
+ReturnsGot m before = (page : ℕ) → IsReturnOf page m.step → Once (GetsHere page) before
+
+-- the steps of a search, which offers, parks, unparks and hints no page but those whose right it got
+pub record AreSearch (steps : List Made) : Type 0 where
+  pub kinds : Only searching steps
+  pub returns : Always ReturnsGot steps
+
+-- ---- events
+-- the steps made no event, whoever made them
+abbrev pub IsQuiet : Made → Type 0
+IsQuiet m = (k epoch : ℕ) → event_of k epoch m.step m.answer ≡ None
+
+abbrev pub AreQuiet : List Made → Type 0
+AreQuiet = Always (λ m before. IsQuiet m)
+
+-- the step is the deed of the page, or its backing
+pub data IsDeedOrBack (d : Directory) (page : ℕ) : Step → Type 0 where
+  Deeds : IsDeedOrBack d page (Deed page d)
+  Backs : IsDeedOrBack d page (Back page)
+
+-- no other step made an event
+abbrev pub EventsAt : Directory → ℕ → List Made → Type 0
+EventsAt d page = Always (λ m before. IsQuiet m ⊎ IsDeedOrBack d page m.step)
+
+-- ---- deeds
+-- the step, with this answer, made a deed
+abbrev pub makes_deed : Step → ℕ → Bool
+makes_deed (Look word) a = false
+makes_deed (Deed page directory) a = a == 0
+makes_deed (Back page) a = false
+makes_deed (Take page word mask) a = false
+makes_deed (Put page word mask) a = false
+makes_deed (Give block) a = false
+makes_deed (End name guess) a = false
+makes_deed (TakeRight page directory) a = false
+makes_deed (Offer page directory) a = false
+makes_deed (Park page) a = false
+makes_deed (Unpark page) a = false
+makes_deed (Stamp page) a = false
+makes_deed (Hint page) a = false
+makes_deed (Tick raised) a = false
+makes_deed (Unback page) a = false
+makes_deed (Unhint page) a = false
+
+-- how many deeds were made
+abbrev pub deeds_made : List Made → ℕ
+deeds_made [] = 0
+deeds_made (m ∷ before) = if makes_deed m.step m.answer then suc (deeds_made before) else deeds_made before
