@@ -8,7 +8,7 @@ use Rattle.pas_profile.specs.declared.profile.Profile.{Profile}
 use Rattle.pas_bits.specs.declared.mask.Mask4.{Mask4}
 use Rattle.pas_bits.specs.Masks.{is_set}
 use Rattle.pas_bits.proofs.Words.{at_word}
-use Rattle.pas_segregated.specs.TempPuts.{masked}
+use Rattle.pas_rights.specs.Puts.{masked}
 use Rattle.pas_steps.specs.Effects.{in_mask}
 use Rattle.pas_steps.specs.Views.{View, Gets, Stays, held_after, holds, has_right, known_free}
 use Rattle.pas_steps.specs.Agreement.{Agrees, Agreed}
@@ -20,7 +20,7 @@ use Rattle.pas_steps.specs.declared.step.Step.TheVariants.{Take}
 use Rattle.pas_steps.specs.Evidence.{ReadsFree, ShowsHere, KeptHere}
 use Rattle.pas_steps.proofs.Calls.{does_none, does_then, does_as, does_step}
 use Rattle.pas_steps.proofs.Sets.{both_fates}
-use Rattle.pas_segregated.specs.TempServing.{HoldsNone}
+use Rattle.pas_search.specs.Serving.{HoldsNone}
 use Rattle.pas_segregated.specs.Takes.{word_take, four_takes, taken, GetsGrains, takes_after, takes_since}
 
 pub four_words : (P : ℕ → Type 0) → P 0 → P 1 → P 2 → P 3 → (w : ℕ) → w < 4 → P w
@@ -127,7 +127,8 @@ pub first_free : (f : Profile) (page : ℕ) (usable answers : Mask4) (v : View) 
 first_free f page usable answers v agreed free g lt =
     let at : (page * 256 + g) / 256 ≡ page = omega (arith, lt) in let word : (page * 256 + g) / 64 % 4 ≡ 0 = omega (arith, lt) in
     let bit : (page * 256 + g) % 64 ≡ g = omega (arith, lt) in
-    at_word answers 0 g lt ∙ ap (has_bit (slice_index answers.0 0)) (sym bit) ∙ agreed.1.1.1.0.free (page * 256 + g) at word (free (page * 256 + g) at)
+    let place : g ≡ 64 * 0 + g = omega arith in
+    ap (is_set answers) place ∙ at_word answers 0 g lt ∙ ap (has_bit (slice_index answers.0 0)) (sym bit) ∙ agreed.1.1.1.0.free (page * 256 + g) at word (free (page * 256 + g) at)
 
 -- ---- after steps that got the right of the page and hold none of its grains
 module _ (page : ℕ) (usable answers : Mask4) where
@@ -146,15 +147,16 @@ module _ (page : ℕ) (usable answers : Mask4) where
 
   pub takes_read : (before : List Made) → has_right before page ≡ true → HoldsNone page before → (word : ℕ) → word < 4 → Since (ShowsHere page word (is_set answers)) (KeptHere page) (four_takes page usable answers ++ before)
   takes_read before right none =
-      let none0 : NoneFrom 0 before = (λ g at ge. none g at) in
-      let none1 = none_more 0 before none0 in
-      let none2 = none_more 1 (word_take page usable answers 0 ∷ before) none1 in
-      let none3 = none_more 2 (word_take page usable answers 1 ∷ word_take page usable answers 0 ∷ before) none2 in
+      let s1 : List Made = word_take page usable answers 0 ∷ before in
+      let s2 : List Made = word_take page usable answers 1 ∷ s1 in
+      let s3 : List Made = word_take page usable answers 2 ∷ s2 in
+      let none1 : NoneFrom 1 (word_take page usable answers 0 ∷ before) = none_more 0 before (λ g at ge. none g at) in
+      let none2 : NoneFrom 2 (word_take page usable answers 1 ∷ word_take page usable answers 0 ∷ before) = none_more 1 s1 none1 in
       four_words (λ w. Since (ShowsHere page w (is_set answers)) (KeptHere page) (four_takes page usable answers ++ before))
-      (inr (right, inr (right, inr (right, inl (shows 0 before (omega arith) right none0)))))
-      (inr (right, inr (right, inl (shows 1 _ (omega arith) right none1))))
-      (inr (right, inl (shows 2 _ (omega arith) right none2)))
-      (inl (shows 3 _ (omega arith) right none3))
+      (inr (right, inr (right, inr (right, inl (shows 0 before (omega arith) right (λ g at ge. none g at))))))
+      (inr (right, inr (right, inl (shows 1 s1 (omega arith) right none1))))
+      (inr (right, inl (shows 2 s2 (omega arith) right none2)))
+      (inl (shows 3 s3 (omega arith) right (none_more 2 s2 none2)))
 
   one_more : (n : ℕ) (before : List Made) → takes_after page (Take page n (slice_index usable.0 n)) (slice_index answers.0 n) before ≡ word_take page usable answers n ∷ before
   one_more n before = ap (λ t. if t then word_take page usable answers n ∷ before else before) (eq-eqb page page refl)

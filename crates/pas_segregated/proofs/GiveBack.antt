@@ -18,8 +18,8 @@ use Rattle.pas_steps.proofs.Calls.{does_none, does_then, does_as, returns_are}
 use Rattle.pas_steps.proofs.Called.{call_none, call_as, call_then, next_call}
 use Rattle.pas_steps.proofs.Kept.{returns_on}
 use Rattle.pas_steps.proofs.Past.{always_both}
-use Rattle.pas_segregated.specs.TempPuts.{masked, PutsMask}
-use Rattle.pas_segregated.specs.TempReturns.{Settles, Returned}
+use Rattle.pas_rights.specs.Puts.{masked, PutsMask}
+use Rattle.pas_rights.specs.Returns.{Settles, Returned}
 use Rattle.pas_segregated.specs.Masks.{IsEmpty, IsSome}
 use Rattle.pas_segregated.specs.Returns.{MayGiveBack, giving_back, given_back, GivesBack}
 use Rattle.pas_segregated.proofs.TakesOnce.{keeps_by, return_keeps}

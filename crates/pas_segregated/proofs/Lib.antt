@@ -4,3 +4,6 @@ pub mod TakesOnce
 pub mod GiveBack
 pub mod StopSlots
 pub mod FourTakes
+pub mod WholeSlots
+pub mod Serve
+pub mod Refilled

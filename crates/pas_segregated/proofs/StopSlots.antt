@@ -13,9 +13,8 @@ use Rattle.pas_steps.proofs.Calls.{does_then, does_as, returns_are}
 use Rattle.pas_steps.proofs.Called.{call_as, call_then, call_knows, next_call}
 use Rattle.pas_steps.proofs.Kept.{returns_on}
 use Rattle.pas_steps.proofs.Past.{always_both}
-use Rattle.pas_segregated.specs.TempPuts.{masked}
-use Rattle.pas_rights.specs.Rights.{MayLeave}
-use Rattle.pas_segregated.specs.TempLeaves.{Leaves}
+use Rattle.pas_rights.specs.Puts.{masked}
+use Rattle.pas_rights.specs.Leaves.{MayLeave, Leaves}
 use Rattle.pas_segregated.specs.Returns.{MayGiveBack, giving_back, given_back, GivesBack}
 use Rattle.pas_segregated.specs.Stops.{in_slots, AreGrains, MayStopAt, LeavesWhere, stopped, StopsAt}
 use Rattle.pas_segregated.specs.declared.slots.Slots.{Slots}

@@ -17,9 +17,9 @@ use Rattle.pas_steps.specs.declared.step.Step.TheVariants.{Deed, Take, Put, Give
 use Rattle.pas_steps.proofs.Adding.{agreed_later}
 use Rattle.pas_steps.proofs.Apart.{in_apart, only_both, same_over, holds_over}
 use Rattle.pas_steps.proofs.Past.{always_map}
-use Rattle.pas_rights.specs.Rights.{looks, HintsWhere}
-use Rattle.pas_rights.specs.Rights.{ReofferSteps, ReturnSteps}
-use Rattle.pas_segregated.specs.TempServing.{IsJustGot}
+use Rattle.pas_rights.specs.Looks.{looks, HintsWhere}
+use Rattle.pas_rights.specs.Returns.{ReofferSteps, ReturnSteps}
+use Rattle.pas_search.specs.Serving.{IsJustGot}
 use Rattle.pas_segregated.specs.Returns.{giving_back}
 use Rattle.pas_segregated.specs.Takes.{takes_after, takes_since}
 

@@ -1,9 +1,3 @@
-pub mod TempTurn
-pub mod TempPuts
-pub mod TempReturns
-pub mod TempLeaves
-pub mod TempKinds
-pub mod TempServing
 pub mod Masks
 pub mod Returns
 pub mod Stops

@@ -2,8 +2,8 @@
 use Rattle.std.specs.Prelude.{ℕ, ◌≤◌, ◌≡◌, ◌⊎◌, Bool, true, false, List, [], ◌∷◌, ◌++◌, length}
 use Rattle.pas_profile.specs.declared.directory.Directory.{Directory}
 use Rattle.pas_bits.specs.declared.mask.Mask4.{Mask4}
-use Rattle.pas_segregated.specs.TempPuts.{masked, MayPut, PutsBelow}
-use Rattle.pas_rights.specs.Rights.{ReturnSteps}
+use Rattle.pas_rights.specs.Puts.{masked, MayPut, PutsBelow}
+use Rattle.pas_rights.specs.Returns.{ReturnSteps}
 use Rattle.pas_steps.specs.Agreement.{Agreed}
 use Rattle.pas_steps.specs.Calls.{Calls, Effect, Does, freed}
 use Rattle.pas_steps.specs.Desks.{Standing}

@@ -6,7 +6,7 @@ use Rattle.pas_profile.specs.declared.directory.Kind.TheVariants as Kind
 use Rattle.pas_profile.specs.declared.profile.Profile.{Profile}
 use Rattle.pas_bits.specs.declared.mask.Mask4.{Mask4}
 use Rattle.pas_bits.specs.Masks.{is_set}
-use Rattle.pas_segregated.specs.TempPuts.{masked}
+use Rattle.pas_rights.specs.Puts.{masked}
 use Rattle.pas_steps.specs.Views.{View, holds, has_right, known_free}
 use Rattle.pas_steps.specs.Agreement.{Agreed}
 use Rattle.pas_steps.specs.Calls.{Calls, Leads, Effect, Kept, Gained, Does, AnyView}
@@ -18,8 +18,8 @@ use Rattle.pas_steps.specs.declared.step.Made.{Made}
 use Rattle.pas_steps.specs.declared.step.Step.{Step}
 use Rattle.pas_steps.specs.declared.step.Step.TheVariants.{Look, Deed, Back, Take, Put, Give, End, TakeRight, Offer, Park, Unpark, Stamp, Hint, Tick, Unback, Unhint}
 use Rattle.pas_steps.specs.Evidence.{Readings, ShowsHere, KeptHere}
-use Rattle.pas_segregated.specs.TempServing.{Rule, MayServe, HoldsNone, IsJustGot, GotBefore, ReadsNoneHeld, IsAntitone}
-use Rattle.pas_segregated.specs.Masks.{start_of, IsSome}
+use Rattle.pas_search.specs.Serving.{Rule, MayServe, HoldsNone, IsJustGot, GotBefore, ReadsNoneHeld, IsAntitone}
+use Rattle.pas_segregated.specs.Masks.{start_of, IsEmpty, IsSome}
 use Rattle.pas_segregated.specs.Returns.{giving_back}
 
 -- ---- four takes
@@ -127,7 +127,7 @@ pub record TakesSlots (class page : ℕ) (d : Directory) (desk desk' : Standing)
   pub keeps : KeepsRight page steps
   pub takes : (before : List Made) → IsJustGot page before → takes_since page (steps ++ before) ≡ four_takes page usable answers
   pub read : (before : List Made) → GotBefore page before → (word : ℕ) → word < 4 → Since (ShowsHere page word (is_set answers)) (KeptHere page) (steps ++ before)
-  pub none : (before : List Made) → HoldsNone page before → ((g : ℕ) → is_set starts g ≡ false) → HoldsNone page (steps ++ before)
+  pub none : (before : List Made) → HoldsNone page before → IsEmpty starts → HoldsNone page (steps ++ before)
 
 -- fewer free grains show no slot where more of them show none
 pub fewer_slots : (class : ℕ) → IsAntitone (NoSlot class)

@@ -163,7 +163,7 @@ given_step_same s n h = refl
 pub given_same : (ks : Kinds) → apart ks giving ≡ true → (steps : List Made) (v : View) → Only ks steps → given_count (steps ++ v) ≡ given_count v
 given_same ks w = same_over given_count giving ks (λ m v h. given_step_same m.step (given_count v) h) w
 
-no_event : (k e : ℕ) (s : Step) (a : ℕ) → is_in showing (kind_of s) ≡ false → event_of k e s a ≡ None
+pub no_event : (k e : ℕ) (s : Step) (a : ℕ) → is_in showing (kind_of s) ≡ false → event_of k e s a ≡ None
 no_event k e (Deed p d) a h = absurd (true≢false h)
 no_event k e (Back p) a h = absurd (true≢false h)
 no_event k e (Give b) a h = absurd (true≢false h)

@@ -13,4 +13,5 @@ pub returned-requires-clause-can : goal.returned-requires-clause-can
 returned-requires-clause-can g c = may_return c.args.page c.args.directory c.args.mask.now c.put_mask.ensures.puts c.requires.can
 
 pub returns-clause-gives : goal.returns-clause-gives
-returns-clause-gives g c = let m = c.args.mask.now in gives_some c.args.page c.args.directory m c.put_mask.ensures.puts (MatchBool-at_false (IsEmpty m) (IsSome m) c.if-is_empty.false c.is_empty.ensures) c.returned.ensures.returns
+returns-clause-gives g c = let m = c.args.mask.now in
+    gives_some c.args.page c.args.directory m c.put_mask.ensures.puts c.returned.ensures.returns (MatchBool-at_false (IsEmpty m) (IsSome m) c.if-is_empty.false c.is_empty.ensures)

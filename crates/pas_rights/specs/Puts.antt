@@ -6,7 +6,7 @@ use Rattle.pas_steps.specs.Calls.{Calls, Does, put}
 use Rattle.pas_steps.specs.Desks.{Standing, made}
 use Rattle.pas_steps.specs.Effects.{in_mask}
 use Rattle.pas_steps.specs.Frames.{OnlyOn}
-use Rattle.pas_segregated.specs.TempTurn.{InTurn, numbers_below}
+use Rattle.pas_steps.specs.InTurn.{InTurn, numbers_below}
 use Rattle.pas_steps.specs.Kinds.{Putting, Only}
 use Rattle.pas_steps.specs.Views.{View, holds, is_unstamped}
 use Rattle.pas_steps.specs.declared.step.Made.{Made}
