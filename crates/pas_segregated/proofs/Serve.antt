@@ -75,7 +75,7 @@ at_most_one : (t : Bool) (e : Event) (es : List Event) → es ≡ [] → length 
 at_most_one true e es h = let none : length es ≡ 0 = ap length h in omega (arith, none)
 at_most_one false e es h = let none : length es ≡ 0 = ap length h in omega (arith, none)
 
-quiet_by : (steps : List Made) → Only taking_slots steps → AreQuiet steps
+pub quiet_by : (steps : List Made) → Only taking_slots steps → AreQuiet steps
 quiet_by steps = always_map (λ m before. is_in taking_slots (kind_of m.step) ≡ true) (λ m before. IsQuiet m) steps (λ m before is k e. no_event k e m.step m.answer (in_apart taking_slots showing (place_of (kind_of m.step)) refl is))
 
 -- the right of a page that the actor has is kept
