@@ -1,6 +1,6 @@
 -- A replay keeps the stamps to the epochs of ends: no thread learns an epoch between an end and its stamps, and a page is stamped only where it is
 -- unstamped. So at its end the stamp of each page is the greatest epoch of an end there.
-use Rattle.std.proofs.Common.{◌≡◌, ℕ, zero, suc, ◌+◌, ◌-◌, ◌*◌, ◌/◌, ◌^◌, ◌<◌, ◌≤◌, ◌==◌, nat_le, Bool, true, false, ◌&&◌, if◌then◌else◌, List, [], ◌∷◌, ◌++◌, length, Option, Some, None, inl, inr, refl, ap, sym, ◌∙◌, subst, arith, append_assoc}
+use Rattle.std.proofs.Common.{true≢false, ◌≡◌, ℕ, zero, suc, ◌+◌, ◌-◌, ◌*◌, ◌/◌, ◌^◌, ◌<◌, ◌≤◌, ◌==◌, nat_le, Bool, true, false, ◌&&◌, if◌then◌else◌, List, [], ◌∷◌, ◌++◌, length, Option, Some, None, inl, inr, refl, ap, sym, ◌∙◌, subst, arith, append_assoc}
 use Rattle.std.proofs.lemmas.Bool.{false≢true, eqb-true, eqb-false, eq-eqb, ne_eqb, cases_eq, false_from_ne_true}
 use Rattle.std.proofs.lemmas.Bool.Decides.{nat_tests}
 use Rattle.pas_profile.specs.Lives.{live_word}
@@ -11,23 +11,22 @@ use Rattle.pas_profile.specs.declared.name.Name.{Name}
 use Rattle.pas_profile.specs.declared.name.Block.{Block}
 use Rattle.pas_profile.specs.declared.word.Word.{Word}
 use Rattle.pas_profile.specs.Runs.{meets_page, address_of, grain_of}
-use Rattle.pas_machine.specs.State.{epoch_in}
 use Rattle.pas_steps.specs.Views.{View, unstamped_after, is_unstamped}
 use Rattle.pas_steps.specs.Events.{events_by}
 use Rattle.pas_steps.specs.Allowed.{IsStepOf}
-use Rattle.pas_steps.specs.Lists.{Whole, part, word_after, visible}
+use Rattle.pas_steps.specs.Lists.{Whole, part, Legal}
 use Rattle.pas_steps.specs.Desks.{made, triple, triples}
 use Rattle.pas_steps.specs.Frames.{IsReturn, OnlyReturns}
-use Rattle.pas_steps.specs.declared.state.State.{State}
 use Rattle.pas_steps.specs.declared.step.Made.{Made}
 use Rattle.pas_steps.specs.declared.step.Step.{Step}
-use Rattle.pas_steps.specs.declared.step.Step.TheVariants.{Look, Deed, Back, Take, Put, Give, End, TakeRight, Offer, Park, Unpark, Stamp, Hint, Tick, Unback, Unhint}
+use Rattle.pas_steps.specs.declared.step.Step.TheVariants.{Look, End, Stamp, Tick}
 use Rattle.pas_steps.proofs.Parts.{part_of_own, part_of_others}
 use Rattle.pas_core.specs.Stamps.{AllStamped, KeepsToEnds, AllKeepToEnds, Keeps}
 use Rattle.pas_core.proofs.StampedEnds.{stamps_are_ends}
 use Rattle.pas_rights.proofs.Orders.{return_returns}
+use Rattle.pas_rights.proofs.Puts.{puts_kinds}
 use Rattle.pas_free_log.specs.Endings.{guess_by, Tries, IsEndOf, EndSteps}
-use Rattle.pas_free_log.specs.Returns.{IsPut, OnlyPuts, PageSteps, PagesSteps, first_on, count_on}
+use Rattle.pas_free_log.specs.Returns.{PageSteps, PagesSteps, first_on, count_on}
 use Rattle.pas_free_log.specs.Stamps.{page_count}
 use Rattle.pas_free_log.specs.Flushes.{Settled, AfterEnd, EntrySteps, EntriesSteps}
 use Rattle.pas_free_log.specs.declared.ending.Outcome.{Outcome}
@@ -36,17 +35,18 @@ use Rattle.pas_free_log.proofs.Idle.{not_live}
 use Rattle.pas_segregated.specs.declared.slots.Slots.{Slots}
 use Rattle.pas_cache.specs.Caches.{Cached}
 use Rattle.pas_cache.specs.Changes.{StopsAll, EmptiesLog, EmptiesFull}
-use Rattle.pas_cache.specs.Serves.{IsAllocating, AreAllocating}
-use Rattle.pas_cache.proofs.Going.{stop_releases}
-use Rattle.pas_cache.proofs.Knowing.{releases_allocate}
-use Rattle.pas_trace.specs.declared.plan.Plan.{Plan}
+use Rattle.pas_steps.specs.Kinds.{Only, kind_of, is_in, Putting}
+use Rattle.pas_cache.specs.Kinds.{releasing, allocating}
+use Rattle.pas_cache.proofs.Below.{stop_only}
+use Rattle.pas_steps.proofs.Apart.{only_within, unstamped_same}
 use Rattle.pas_trace.specs.declared.plan.What.{What}
 use Rattle.pas_report.specs.declared.record.Record.{Record}
 use Rattle.pas_report.specs.declared.record.Said.{Said}
-use Rattle.pas_replay.specs.Acts.{Act, Operates, Begins, Wakes, Closes, Ends, acts_of}
+use Rattle.pas_replay.specs.Acts.{Act, Operates, Begins, Wakes, Closes, Ends}
 use Rattle.pas_replay.specs.Answers.{Named, Caches, with_cache, begun, records_of, said_by, standing_for, IsFreed, IsFreedBy, IsStopped, IsAnswered, Follows}
-use Rattle.pas_replay.specs.Replays.{phases_of, empty_caches, Shows}
-use Rattle.pas_replay.specs.Ways.{Way}
+use Rattle.pas_report.specs.Rests.{AreStamped}
+use Rattle.pas_replay.specs.Replays.{empty_caches}
+use Rattle.pas_replay.specs.Ways.{Way, IsOneOrder}
 use Rattle.pas_replay.proofs.Replayed.{AreOf, PartOf, legal_part, parts_of, same_parts}
 
 -- ---- steps from a view for which nothing is unstamped, to one
@@ -65,36 +65,32 @@ done_none : (v : View) → AllStamped v → Done v []
 done_none v h = record { keeps = tt; stamped = h }
 
 -- ---- requests and what gives back
-allocating_keeps : (v : View) (s : Step) → IsAllocating s → AllStamped v → KeepsToEnds v s
+allocating_keeps : (v : View) (s : Step) → is_in allocating (kind_of s) ≡ true → AllStamped v → KeepsToEnds v s
 allocating_keeps v (Look Word.Epoch) is h = h
-allocating_keeps v (Stamp q) is h = absurd is
-allocating_keeps v (Tick up) is h = absurd is
+allocating_keeps v (Stamp q) is h = absurd (true≢false (sym is))
+allocating_keeps v (Tick up) is h = absurd (true≢false (sym is))
 allocating_keeps v s is h = tt
-allocating_stamps : (s : Step) (a p : ℕ) (was : Bool) → IsAllocating s → unstamped_after s a p was ≡ was
-allocating_stamps (End name guess) a p was is = absurd is
-allocating_stamps (Stamp q) a p was is = absurd is
-allocating_stamps s a p was is = refl
-allocating_done : (steps : List Made) (v : View) → AreAllocating steps → AllStamped v → Done v steps
-allocating_done [] v are h = done_none v h
-allocating_done (m ∷ more) v are h =
-    let before : Done v more = allocating_done more v are.1 h in
-    record {
-      keeps = (allocating_keeps (more ++ v) m.step are.0 before.stamped, before.keeps);
-      stamped = λ p. allocating_stamps m.step m.answer p (is_unstamped (more ++ v) p) are.0 ∙ before.stamped p;
-    }
+allocating_keep : (steps : List Made) (v : View) → Only allocating steps → AllStamped v → Keeps v steps
+allocating_keep [] v are h = tt
+allocating_keep (m ∷ more) v are h = (allocating_keeps (more ++ v) m.step are.0 (λ p. unstamped_same allocating refl p more v are.1 ∙ h p), allocating_keep more v are.1 h)
+
+allocating_done : (steps : List Made) (v : View) → Only allocating steps → AllStamped v → Done v steps
+allocating_done steps v are h = record { keeps = allocating_keep steps v are h; stamped = λ p. unstamped_same allocating refl p steps v are ∙ h p }
 
 -- ---- the pages of a block
 return_keeps : (p : ℕ) (s : Step) (v : View) → IsReturn p s → KeepsToEnds v s
 return_keeps p s v IsReturn.Hints = tt
 return_keeps p s v step = tt
+
 return_stamps : (p : ℕ) (s : Step) (a q : ℕ) (was : Bool) → IsReturn p s → unstamped_after s a q was ≡ was
 return_stamps p s a q was IsReturn.Hints = refl
 return_stamps p s a q was step = refl
-put_keeps : (p : ℕ) (s : Step) (v : View) → IsPut p s → KeepsToEnds v s
-put_keeps p s v (IsPut.Puts w mask) = tt
 
-put_stamps : (p : ℕ) (s : Step) (a q : ℕ) (was : Bool) → IsPut p s → unstamped_after s a q was ≡ was
-put_stamps p s a q was (IsPut.Puts w mask) = refl
+put_keeps : (s : Step) (v : View) → is_in (Putting ∷ []) (kind_of s) ≡ true → KeepsToEnds v s
+put_keeps (Look Word.Epoch) v h = absurd (false≢true h)
+put_keeps (Stamp q) v h = absurd (false≢true h)
+put_keeps (Tick up) v h = absurd (false≢true h)
+put_keeps s v h = tt
 
 returns_keep : (p : ℕ) (steps : List Made) (v : View) → OnlyReturns p steps → Keeps v steps
 returns_keep p [] v h = tt
@@ -104,13 +100,9 @@ returns_stamp : (p q : ℕ) (steps : List Made) (v : View) → OnlyReturns p ste
 returns_stamp p q [] v h = refl
 returns_stamp p q (m ∷ more) v h = return_stamps p m.step m.answer q (is_unstamped (more ++ v) q) h.0 ∙ returns_stamp p q more v h.1
 
-puts_keep : (p : ℕ) (steps : List Made) (v : View) → OnlyPuts p steps → Keeps v steps
-puts_keep p [] v h = tt
-puts_keep p (m ∷ more) v h = (put_keeps p m.step (more ++ v) h.0, puts_keep p more v h.1)
-
-puts_stamp : (p q : ℕ) (steps : List Made) (v : View) → OnlyPuts p steps → is_unstamped (steps ++ v) q ≡ is_unstamped v q
-puts_stamp p q [] v h = refl
-puts_stamp p q (m ∷ more) v h = put_stamps p m.step m.answer q (is_unstamped (more ++ v) q) h.0 ∙ puts_stamp p q more v h.1
+puts_keep : (steps : List Made) (v : View) → Only (Putting ∷ []) steps → Keeps v steps
+puts_keep [] v h = tt
+puts_keep (m ∷ more) v h = (put_keeps m.step (more ++ v) h.0, puts_keep more v h.1)
 
 -- the steps for a page that is unstamped: afterwards it isn't, and the others are as they were
 record PageDone (p : ℕ) (v : View) (steps : List Made) : Type 0 where
@@ -121,10 +113,11 @@ page_done : (g n : ℕ) (steps : List Made) (v : View) → PageSteps g n steps �
 page_done g n steps v h un =
     let first : List Made = made (Stamp (g / 256)) h.stamped ∷ made (Look (Word.Deed (g / 256))) (deed_word_of h.directory) ∷ [] in
     let after : OnlyReturns (g / 256) h.after = return_returns (g / 256) h.directory h.after h.returns in
+    let puts : Only (Putting ∷ []) h.puts = puts_kinds (g / 256) h.mask 4 h.puts h.order in
     subst (PageDone (g / 256) v) (sym h.steps_are) record {
-      keeps = keeps_append h.after (h.puts ++ first) v (keeps_append h.puts first v (un, (tt, tt)) (puts_keep (g / 256) h.puts (first ++ v) h.order.puts)) (returns_keep (g / 256) h.after ((h.puts ++ first) ++ v) after);
+      keeps = keeps_append h.after (h.puts ++ first) v (keeps_append h.puts first v (un, (tt, tt)) (puts_keep h.puts (first ++ v) puts)) (returns_keep (g / 256) h.after ((h.puts ++ first) ++ v) after);
       stamps = λ q. ap (λ u. is_unstamped u q) (append_assoc h.after (h.puts ++ first) v) ∙ returns_stamp (g / 256) q h.after ((h.puts ++ first) ++ v) after
-          ∙ ap (λ u. is_unstamped u q) (append_assoc h.puts first v) ∙ puts_stamp (g / 256) q h.puts (first ++ v) h.order.puts;
+          ∙ ap (λ u. is_unstamped u q) (append_assoc h.puts first v) ∙ unstamped_same (Putting ∷ []) refl q h.puts (first ++ v) puts;
     }
 
 -- of the pages that the run meets just those from the kth on are unstamped
@@ -311,7 +304,7 @@ stops_done : (locals : List Slots) (steps : List Made) (v : View) → StopsAll l
 stops_done [] steps v h stamped = subst (Done v) (sym h) (done_none v stamped)
 stops_done (slots ∷ rest) steps v h stamped =
     let before : Done v h.1 = stops_done rest h.1 v h.3 stamped in
-    subst (Done v) (sym h.4) (done_append h.0 h.1 v before (allocating_done h.0 (h.1 ++ v) (releases_allocate h.0 (stop_releases slots h.0 h.2)) before.stamped))
+    subst (Done v) (sym h.4) (done_append h.0 h.1 v before (allocating_done h.0 (h.1 ++ v) (only_within releasing allocating h.0 refl (stop_only slots h.0 h.2)) before.stamped))
 
 -- ---- operations
 stop_done : (f : Profile) (k : ℕ) (l : Whole) (c c' : Cached) (steps : List Made) → AllStamped (part k l) → AreOf f (triples k steps ++ l) → IsStopped k c c' steps → Done (part k l) steps
@@ -414,11 +407,11 @@ parts_kept (t ∷ l) all = (
   parts_kept l (λ k. later_kept (t.actor == k) t.made (part k l) (all k)),
 )
 
--- the stamp of each page is the greatest epoch of an end there
-pub stamps_are : {way : Way} {plan : Plan} {records : List Record} {state : State} (shows : Shows way plan records state) → IsValid plan.profile → (page : ℕ) → word_after shows.whole (Word.Stamp page) ≡ epoch_in (visible shows.whole) page
-stamps_are {way} {plan} {records} {state} shows valid page =
-    let same : (k : ℕ) → part k shows.whole ≡ part k shows.told = same_parts way shows.told shows.whole shows.one_order in
-    let of : AreOf plan.profile shows.told = parts_of plan.profile shows.told (λ k. subst (λ (v : View). PartOf plan.profile v) (same k) (legal_part plan.profile shows.whole k shows.legal)) in
-    let done : AllDone shows.told = follows_done plan.profile (acts_of plan.profile.threads (phases_of plan)) [] empty_caches [] shows.told [] shows.said shows.answers of (record { keeps = tt; stamped = λ k p. refl }) in
-    let keeps : AllKeepToEnds shows.whole = parts_kept shows.whole (λ k. subst KeptPart (sym (same k)) (kept_part shows.told done.keeps k)) in
-    stamps_are_ends plan.profile shows.whole valid shows.legal keeps page (λ k. subst AllStamped (sym (same k)) (done.stamped k) page)
+-- THE STAMP of each page is the greatest epoch of an end there
+pub stamps_are : (way : Way) (f : Profile) (acts : List Act) (told whole : Whole) (said : List Record) → IsValid f → Follows f acts [] empty_caches [] [] told said → IsOneOrder way told whole → Legal f whole → AreStamped f whole
+stamps_are way f acts told whole said valid answers one_order legal =
+    let same : (k : ℕ) → part k whole ≡ part k told = same_parts way told whole one_order in
+    let of : AreOf f told = parts_of f told (λ k. subst (λ (v : View). PartOf f v) (same k) (legal_part f whole k legal)) in
+    let done : AllDone told = follows_done f acts [] empty_caches [] told [] said answers of (record { keeps = tt; stamped = λ k p. refl }) in
+    let keeps : AllKeepToEnds whole = parts_kept whole (λ k. subst KeptPart (sym (same k)) (kept_part told done.keeps k)) in
+    record { stamp = λ page is. stamps_are_ends f whole valid legal keeps page (λ k. subst AllStamped (sym (same k)) (done.stamped k) page) }

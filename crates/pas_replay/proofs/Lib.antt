@@ -15,3 +15,4 @@ pub mod Keeping
 pub mod Opening
 pub mod Speaking
 pub mod Weaving
+pub mod Consequences

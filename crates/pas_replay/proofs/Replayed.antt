@@ -1,12 +1,9 @@
--- What follows from what a replay shows: its records are those of the visible events, each can be shown, and the words of deeds and stamps
--- are those of the machine.
+-- Each record of a replay can be shown: the events among them are the visible ones of a legal list.
 use Rattle.std.proofs.Common.{◌≡◌, ℕ, zero, suc, ◌+◌, ◌==◌, ◌&&◌, ◌⊎◌, Bool, true, false, if◌then◌else◌, List, [], ◌∷◌, ◌++◌, reverse, Option, Some, None, inl, inr, refl, ap, sym, ◌∙◌, subst}
 use Rattle.std.specs.Prelude.{All, map}
 use Rattle.std.proofs.lemmas.Bool.{cases_eq, eq-eqb}
 use Rattle.std.proofs.lemmas.List.{reverse-append, append-nil}
 use Rattle.std.proofs.lemmas.List.Elements.{All-nil, All-push, All-append}
-use Rattle.pas_profile.specs.Profiles.{IsPage, IsDirectoryOf}
-use Rattle.pas_profile.specs.Directories.{deed_word_of}
 use Rattle.pas_profile.specs.Lives.{live_word, is_live, turn_of}
 use Rattle.pas_profile.specs.declared.profile.Profile.{Profile}
 use Rattle.pas_profile.specs.declared.directory.Directory.{Directory}
@@ -17,20 +14,17 @@ use Rattle.pas_steps.specs.Events.{event_of, events_by, with_event, reason_of}
 use Rattle.pas_steps.specs.Allowed.{IsStepOf}
 use Rattle.pas_steps.specs.Lists.{Whole, part, word_after, visible, Legal}
 use Rattle.pas_steps.specs.Desks.{made, triples}
-use Rattle.pas_steps.specs.States.{profile_of, word_in}
-use Rattle.pas_steps.specs.declared.state.State.{State}
 use Rattle.pas_steps.specs.declared.step.Made.{Made}
 use Rattle.pas_steps.specs.declared.step.Step.{Step}
 use Rattle.pas_steps.specs.declared.step.Step.TheVariants.{Look, Deed, Back, Take, Put, Give, End, TakeRight, Offer, Park, Unpark, Stamp, Hint, Tick, Unback, Unhint}
 use Rattle.pas_steps.proofs.Frames.{visible_split}
-use Rattle.pas_core.proofs.DeedWords.{deed_words}
 use Rattle.pas_trace.specs.declared.plan.Plan.{Plan}
 use Rattle.pas_report.specs.Lines.{CanShow, IsShowable}
 use Rattle.pas_report.specs.declared.record.Record.{Record}
 use Rattle.pas_report.specs.declared.record.Said.{Said}
 use Rattle.pas_replay.specs.Acts.{Act, Operates, Begins, Wakes, Closes, Ends, acts_of}
 use Rattle.pas_replay.specs.Answers.{Named, Caches, with_cache, begun, records_of, said_by, Follows}
-use Rattle.pas_replay.specs.Replays.{phases_of, empty_caches, Shows}
+use Rattle.pas_replay.specs.Replays.{phases_of, empty_caches, IsReplay}
 use Rattle.pas_replay.specs.Ways.{Way, InOrder, OnThreads, IsOneOrder, is_of, records_by, by_actors, by_phases, arranged}
 
 -- ---- the events among the records
@@ -80,10 +74,6 @@ follows_events f (Operates op ∷ acts) names caches l l' rs rs' is before =
 follows_events f (Ends k ∷ acts) names caches l l' rs rs' is before =
     follows_events f acts names (with_cache caches k is.1) (triples k is.0 ++ l) l' (rs ++ records_of (events_by k (part k l) is.0)) rs' is.3
     (more_events k l is.0 rs (records_of (events_by k (part k l) is.0)) before (told (events_by k (part k l) is.0)))
-
--- the events among the records in the order of the acts are the visible ones of the pieces in that order
-pub visible_told : {way : Way} {plan : Plan} {records : List Record} {state : State} (shows : Shows way plan records state) → events_in shows.said ≡ reverse (visible shows.told)
-visible_told {way} {plan} {records} {state} shows = follows_events plan.profile (acts_of plan.profile.threads (phases_of plan)) [] empty_caches [] shows.told [] shows.said shows.answers refl
 
 -- ---- each actor's part is that of the pieces
 pub same_parts : (way : Way) (told whole : Whole) → IsOneOrder way told whole → (k : ℕ) → part k whole ≡ part k told
@@ -212,18 +202,9 @@ all_shown : (rs : List Record) → EachShown rs → All CanShow rs
 all_shown [] all = All-nil CanShow
 all_shown (r ∷ rs) all = first_shown r rs all.0 (all_shown rs all.1)
 
-pub can_be_shown : {way : Way} {plan : Plan} {records : List Record} {state : State} → Shows way plan records state → All CanShow records
-can_be_shown {way} {plan} {records} {state} shows =
-    let steps = parts_of plan.profile shows.told (λ k. subst (λ (v : View). PartOf plan.profile v) (same_parts way shows.told shows.whole shows.one_order k) (legal_part plan.profile shows.whole k shows.legal)) in
-    let said = each_shown shows.said (subst AreShowable (sym (visible_told shows)) (showable_reverse (visible shows.told) (all_showable plan.profile shows.told steps))) in
-    subst (λ (rs : List Record). All CanShow rs) (sym shows.records_are) (all_shown (arranged way plan.profile.threads shows.said) (each_arranged way plan.profile.threads shows.said said))
-
--- ---- deed words
--- the deed word of each page is 0 or that of a directory of the profile
-pub deeds_are : {way : Way} {plan : Plan} {records : List Record} {state : State} → Shows way plan records state → (page : ℕ) → IsPage (profile_of state) page → (word_in state (Word.Deed page) ≡ 0) ⊎ ((d : Directory) × IsDirectoryOf (profile_of state) d × (word_in state (Word.Deed page) ≡ deed_word_of d))
-deeds_are {way} {plan} {records} {state} shows page is =
-    let word : word_in state (Word.Deed page) ≡ word_after shows.whole (Word.Deed page) = shows.words (Word.Deed page) (subst (λ f. IsPage f page) shows.profile is) in
-    elim (cases_eq (word_after shows.whole (Word.Deed page)) 0) [
-      | inl e ↦ inl (word ∙ e)
-      | inr ne ↦ let d = deed_words plan.profile shows.whole shows.legal page ne in inr (d.0, subst (λ f. IsDirectoryOf f d.0) (sym shows.profile) d.2, word ∙ d.1)
-    ]
+pub can_be_shown : {way : Way} {plan : Plan} {whole : Whole} {records : List Record} → IsReplay way plan whole records → All CanShow records
+can_be_shown {way} {plan} {whole} {records} is =
+    let steps = parts_of plan.profile is.told (λ k. subst (λ (v : View). PartOf plan.profile v) (same_parts way is.told whole is.one_order k) (legal_part plan.profile whole k is.legal)) in
+    let told = follows_events plan.profile (acts_of plan.profile.threads (phases_of plan)) [] empty_caches [] is.told [] is.said is.answers refl in
+    let said = each_shown is.said (subst AreShowable (sym told) (showable_reverse (visible is.told) (all_showable plan.profile is.told steps))) in
+    subst (λ (rs : List Record). All CanShow rs) (sym is.records_are) (all_shown (arranged way plan.profile.threads is.said) (each_arranged way plan.profile.threads is.said said))

@@ -2,7 +2,7 @@
 use Rattle.std.proofs.Common.{◌≡◌, ℕ, zero, suc, ◌+◌, ◌*◌, ◌<◌, ◌≤◌, true, false, inl, inr, List, [], ◌∷◌, length, get_or, Some, None, refl, ap, sym, ◌∙◌, subst, arith, slice_index}
 use Rattle.std.proofs.lemmas.Bool.{cases_eq, cases_lt}
 use Rattle.std.proofs.Math.Nat.{suc-mul}
-use Rattle.pas_profile.specs.Profiles.{IsWordOf}
+use Rattle.pas_profile.specs.Profiles.{IsValid, IsWordOf}
 use Rattle.pas_profile.specs.declared.profile.Profile.{Profile}
 use Rattle.pas_profile.specs.declared.word.Word.{Word}
 use Rattle.pas_steps.specs.Lists.{Whole, part, word_after, Legal}
@@ -35,6 +35,7 @@ use Rattle.pas_replay.specs.declared.kit.PlainKit.{PlainKit}
 use Rattle.pas_replay.specs.declared.names.Names.{Names}
 use Rattle.pas_replay.specs.declared.seats.Thread.{Thread}
 use Rattle.pas_replay.proofs.PlanHolds.{plan_fit, plan_own, plan_total, plan_marks}
+use Rattle.pas_replay.proofs.Consequences.{replays}
 use Rattle.pas_replay.proofs.Ordering.{at_region, of_profile}
 
 -- ---- the start
@@ -154,22 +155,15 @@ bare_at {f} {all} {region} {threads} so empty k =
       ]
     ]
 
-pub shows : {plan : Plan} {region : PlainRegion} {threads : List Thread} {table : Names} {out : Records} {state : State}
+pub shows : {plan : Plan} {region : PlainRegion} {threads : List Thread} {table : Names} {out : Records} {state : State} → IsValid plan.profile
     → SoFar plan.profile (acts_of plan.profile.threads (phases_of plan)) [] region threads table out → AreEmpty threads
     → the_profile_of state ≡ profile_of region
     → ((l : Whole) → RegionStands region l → (w : Word) → IsWordOf (profile_of region) w → word_in state w ≡ word_after l w)
     → Shows InOrder plan (records_in out) state
-shows {plan} {region} {threads} {table} {out} {state} so empty profile words = record {
-  told = so.whole;
-  said = records_in out;
-  records_are = refl;
-  one_order = refl;
+shows {plan} {region} {threads} {table} {out} {state} valid so empty profile words = record {
   whole = so.whole;
-  legal = subst (λ (f : Profile). Legal f so.whole) so.profile_is so.stands.legal;
-  answers = so.answers so.whole (records_in out) (refl, refl);
-  at_rest = λ k g. (bare_at so empty k).grains g;
-  rights = λ k page. (bare_at so empty k).rights page;
-  clear = λ k. (bare_at so empty k).clear;
+  replay = replays InOrder plan so.whole so.whole (records_in out) (records_in out) valid (so.answers so.whole (records_in out) (refl, refl)) refl refl
+      (subst (λ (f : Profile). Legal f so.whole) so.profile_is so.stands.legal) (bare_at so empty);
   profile = profile ∙ so.profile_is;
   words = λ w of. words so.whole so.stands w (subst (λ (f : Profile). IsWordOf f w) (sym so.profile_is) of);
 }

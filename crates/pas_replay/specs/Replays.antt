@@ -1,11 +1,14 @@
 -- Which plans can be replayed, and what a replay shows.
-use Rattle.std.specs.Prelude.{ℕ, ◌≡◌, false, List, [], ◌∷◌, map}
-use Rattle.pas_profile.specs.Profiles.{IsWordOf}
+use Rattle.std.specs.Prelude.{ℕ, ◌≡◌, List, [], ◌∷◌, Some, map}
+use Rattle.pas_profile.specs.Profiles.{IsDirectoryOf, IsWordOf}
 use Rattle.pas_profile.specs.Routes.{route_of}
 use Rattle.pas_profile.specs.declared.word.Word.{Word}
-use Rattle.pas_steps.specs.Views.{holds, has_right}
-use Rattle.pas_steps.specs.Lists.{Whole, part, word_after, Legal}
-use Rattle.pas_steps.specs.Clear.{IsClear}
+use Rattle.pas_profile.specs.declared.directory.Directory.{Directory}
+use Rattle.pas_machine.specs.Machine.{Run}
+use Rattle.pas_machine.specs.State.{deed_in}
+use Rattle.pas_steps.specs.Views.{KnowsDeed}
+use Rattle.pas_steps.specs.Lists.{Whole, part, word_after, visible, Legal}
+use Rattle.pas_steps.specs.Clear.{HasNothing}
 use Rattle.pas_steps.specs.States.{profile_of, word_in}
 use Rattle.pas_steps.specs.declared.state.State.{State}
 use Rattle.pas_trace.specs.Plans.{ops_of}
@@ -13,6 +16,7 @@ use Rattle.pas_trace.specs.declared.plan.What.{What}
 use Rattle.pas_trace.specs.declared.plan.What.TheVariants.{Alloc, Free, Raw, Flush, Stop, Tick, Pass, Idle}
 use Rattle.pas_trace.specs.declared.plan.Op.{Op}
 use Rattle.pas_trace.specs.declared.plan.Plan.{Plan}
+use Rattle.pas_report.specs.Rests.{AreStamped, AreTrueMarks}
 use Rattle.pas_report.specs.declared.record.Record.{Record}
 use Rattle.pas_cache.specs.Caches.{Cached}
 use Rattle.pas_cache.specs.Serves.{IsClassRoute}
@@ -55,19 +59,27 @@ empty_cache = record { locals = []; log = []; idle_since = 0 }
 abbrev pub empty_caches : Caches
 empty_caches k = empty_cache
 
--- The acts of the plan are answered by pieces, which stand in `told` in the order of the acts with their records in `said`. There is a legal list
--- whose part of each actor is that in `told`; at its end no actor holds a grain, has a right or owes anything, and the state has the words after it. The records
--- are those of the pieces, in the order of this way.
-pub record Shows (way : Way) (plan : Plan) (records : List Record) (state : State) : Type 0 where
+-- A REPLAY of a plan, for both ways: a list of steps and the records of it. The acts of the plan are answered by pieces, each by the thread's own
+-- cache, which stand in `told` in the order of the acts with their records in `said`. The list has of each actor the same part as `told`, and the records
+-- are those of the pieces, in the order of this way. The list is legal, and at its end all actors have nothing and owe nothing. Its visible events are a run
+-- of the allocator's machine, whose pages have the deeds that the threads know. The stamp of each page is the greatest epoch of an end there, and the
+-- marks of the pages are true.
+pub record IsReplay (way : Way) (plan : Plan) (whole : Whole) (records : List Record) : Type 0 where
   pub told : Whole
   pub said : List Record
   pub answers : Follows plan.profile (acts_of plan.profile.threads (phases_of plan)) [] empty_caches [] [] told said
-  pub records_are : records ≡ arranged way plan.profile.threads said
-  pub whole : Whole
-  pub legal : Legal plan.profile whole
   pub one_order : IsOneOrder way told whole
-  pub at_rest : (k g : ℕ) → holds (part k whole) g ≡ false
-  pub rights : (k page : ℕ) → has_right (part k whole) page ≡ false
-  pub clear : (k : ℕ) → IsClear (part k whole)
+  pub records_are : records ≡ arranged way plan.profile.threads said
+  pub legal : Legal plan.profile whole
+  pub nothing : (k : ℕ) → HasNothing (part k whole)
+  pub run : Run plan.profile (visible whole)
+  pub deeds : (k page : ℕ) (d : Directory) → IsDirectoryOf plan.profile d → KnowsDeed page d (part k whole) → deed_in (visible whole) page ≡ Some d
+  pub stamps : AreStamped plan.profile whole
+  pub marks : AreTrueMarks plan.profile whole
+
+-- the plan was replayed with these records, and the state has the words after its list
+pub record Shows (way : Way) (plan : Plan) (records : List Record) (state : State) : Type 0 where
+  pub whole : Whole
+  pub replay : IsReplay way plan whole records
   pub profile : profile_of state ≡ plan.profile
   pub words : (word : Word) → IsWordOf plan.profile word → word_in state word ≡ word_after whole word

@@ -1,14 +1,14 @@
 -- The report by the words of a region at rest is that of the machine.
-use Rattle.std.proofs.Common.{◌≡◌, ℕ, zero, suc, ◌+◌, ◌*◌, ◌/◌, ◌%◌, ◌<◌, ◌≤◌, nat_le, nat_lt, Bool, true, false, not, ◌++◌, Option, None, Some, codes, refl, ap, sym, ◌∙◌, inl, inr, arith}
+use Rattle.std.proofs.Common.{◌≡◌, ℕ, zero, suc, ◌+◌, ◌*◌, ◌/◌, ◌%◌, ◌<◌, ◌≤◌, ◌==◌, nat_le, nat_lt, Bool, true, false, not, ◌++◌, Option, None, Some, codes, refl, ap, sym, ◌∙◌, inl, inr, arith}
 use Rattle.std.proofs.lemmas.Bool.{false≢true, cases_eq, eq-eqb, and_parts, leb-true, or_from, or_left, or_right}
 use Rattle.pas_profile.specs.Classes.{has_bit}
-use Rattle.pas_profile.specs.Directories.{directory_read, IsDirectory}
+use Rattle.pas_profile.specs.Directories.{number_of, directory_read, IsDirectory}
 use Rattle.pas_profile.specs.Lives.{is_live}
 use Rattle.pas_profile.specs.Profiles.{IsValid, IsPage, IsDirectoryOf}
 use Rattle.pas_profile.specs.declared.directory.Directory.{Directory}
 use Rattle.pas_profile.specs.declared.profile.Profile.{Profile}
 use Rattle.pas_profile.specs.declared.word.Word.TheVariants as Word
-use Rattle.pas_profile.proofs.Codecs.{read-deed_word_of}
+use Rattle.pas_profile.proofs.Codecs.{number_lt, read-deed_word_of}
 use Rattle.pas_profile.specs.Runs.{in_run, length_of}
 use Rattle.pas_machine.specs.State.{Live, deed_in, backed_in, live_in, gives_in, ends_in, epoch_in}
 use Rattle.pas_machine.specs.Totals.{has_block}
@@ -21,7 +21,8 @@ use Rattle.pas_core.proofs.Deeds.{deed_of, backed_of, directory_is_of}
 use Rattle.pas_core.proofs.Lives.{life_of, live_is_aligned}
 use Rattle.pas_core.proofs.MachineRuns.{agrees}
 use Rattle.pas_core.proofs.Placed.{in_one_place}
-use Rattle.pas_report.specs.Counts.{IsDeedWord, AreDeedWords, pages_of, live_counted_on, free_counted_on, marked_in, line_by_words, page_by_words, pages_by_words, report_by_words}
+use Rattle.pas_report.specs.Counts.{IsDeedWord, AreDeedWords, pages_of, live_counted_on, free_counted_on, offered_by, marked_in, line_by_words, page_by_words, pages_by_words, report_by_words}
+use Rattle.pas_report.specs.Marks.{offered_after, marks_after}
 use Rattle.pas_report.specs.Reports.{covers, some_below, is_covered, live_on, uncovered_on, page_text, machine_page, machine_pages, report_text}
 use Rattle.pas_report.specs.Rests.{HasWords, AreFreeOrCovered, NobodyHolds, AreStamped}
 use Rattle.pas_report.proofs.Agreeing.{backed_agrees, life_agrees, line_agrees}
@@ -78,17 +79,41 @@ deed_is_read : (o : Option Directory) (word : ℕ) → word ≡ word_of_deed o �
 deed_is_read None word is of = ap directory_read is
 deed_is_read (Some d) word is of = ap directory_read is ∙ read-deed_word_of d (of d refl)
 
+pub deed_read_after : (f : Profile) (l : Whole) → IsValid f → Legal f l → (page : ℕ) → directory_read (word_after l (Word.Deed page)) ≡ deed_in (visible l) page
+deed_read_after f l valid legal page = deed_is_read (deed_in (visible l) page) (word_after l (Word.Deed page)) (deed_of f l legal page) (λ d is. directory_of f d valid (directory_is_of f l legal page d is))
+
+-- a page is backed where the machine's is
+pub backed_after : (f : Profile) (l : Whole) → Legal f l → (page : ℕ) → (marks_after l page).backed ≡ backed_in (visible l) page
+backed_after f l legal page = backed_agrees (backed_in (visible l) page) (word_after l (Word.Backed page)) (backed_of f l legal page)
+
 module _ (state : State) (l : Whole) (has : HasWords state l) (valid : IsValid (profile_of state)) (legal : Legal (profile_of state) l) where
   pub are_deed_words : AreDeedWords state
   are_deed_words = λ page of.
       deed_is_word (profile_of state) (deed_in (visible l) page) (word_in state (Word.Deed page)) (has.words (Word.Deed page) of ∙ deed_of (profile_of state) l legal page) (directory_is_of (profile_of state) l legal page)
 
-  pub deed_read : (page : ℕ) → IsPage (profile_of state) page → directory_read (word_in state (Word.Deed page)) ≡ deed_in (visible l) page
-  deed_read page of = deed_is_read (deed_in (visible l) page) (word_in state (Word.Deed page)) (has.words (Word.Deed page) of ∙ deed_of (profile_of state) l legal page)
-      (λ d is. directory_of (profile_of state) d valid (directory_is_of (profile_of state) l legal page d is))
+  deed_read : (page : ℕ) → IsPage (profile_of state) page → directory_read (word_in state (Word.Deed page)) ≡ deed_in (visible l) page
+  deed_read page of = ap directory_read (has.words (Word.Deed page) of) ∙ deed_read_after (profile_of state) l valid legal page
 
-  pub backed_same : (page : ℕ) → IsPage (profile_of state) page → (marked_in state page).backed ≡ backed_in (visible l) page
-  backed_same page of = backed_agrees (backed_in (visible l) page) (word_in state (Word.Backed page)) (has.words (Word.Backed page) of ∙ backed_of (profile_of state) l legal page)
+  -- ---- the marks
+  -- the bit of a page in the vector of its machine's directory
+  offered_same : (page : ℕ) → IsPage (profile_of state) page → (o : Option Directory) → ((d : Directory) → o ≡ Some d → IsDirectoryOf (profile_of state) d) → offered_by state page o ≡ offered_after l page o
+  offered_same page of None own = refl
+  offered_same page of (Some d) own =
+      let last = of.1 in
+      let at = own d refl in
+      ap (λ w. has_bit w (page % 64)) (has.words (Word.Eligible (number_of d) (page / 64)) (number_lt d (profile_of state).heaps at.heap at.kind, omega arith))
+
+  -- EACH PAGE HAS THE MARKS that the list left
+  pub marks_are : (page : ℕ) → IsPage (profile_of state) page → marked_in state page ≡ marks_after l page
+  marks_are page of =
+      let last = of.1 in
+      let machine = deed_in (visible l) page in
+      let offered : offered_by state page (directory_read (word_in state (Word.Deed page))) ≡ offered_after l page (directory_read (word_after l (Word.Deed page))) =
+      ap (offered_by state page) (deed_read page of) ∙ offered_same page of machine (directory_is_of (profile_of state) l legal page) ∙ ap (offered_after l page) (sym (deed_read_after (profile_of state) l valid legal page)) in
+      let backed = has.words (Word.Backed page) of in
+      let parked = has.words (Word.Parked (page / 64)) (omega arith) in
+      let hinted = has.words (Word.Empty (page / 64)) (omega arith) in
+      λ t. record { backed = backed t == 1; offered = offered t; parked = has_bit (parked t) (page % 64); hinted = has_bit (hinted t) (page % 64) }
 
   -- ---- the counts of a page
   live_at : (page b : ℕ) → IsPage (profile_of state) page → b < 256 → is_live (word_in state (Word.Life page b)) ≡ has_block (live_in (visible l) (16 * (256 * page + b)))
@@ -120,17 +145,17 @@ module _ (state : State) (l : Whole) (has : HasWords state l) (valid : IsValid (
     stamp_same page of = has.words (Word.Stamp page) of ∙ stamps.stamp page of
 
     -- ---- the lines
-    line_same : (page : ℕ) → IsPage (profile_of state) page → (o : Option Directory) → line_by_words state page o ≡ machine_page (visible l) page o (marked_in state page)
+    line_same : (page : ℕ) → IsPage (profile_of state) page → (o : Option Directory) → line_by_words state page o ≡ machine_page (visible l) page o (marks_after l page)
     line_same page of None = refl
-    line_same page of (Some d) = λ t. page_text page d (live_same page of t) (free_same page of t) (stamp_same page of t) (marked_in state page)
+    line_same page of (Some d) = λ t. page_text page d (live_same page of t) (free_same page of t) (stamp_same page of t) (marks_are page of t)
 
-    page_same : (page : ℕ) → IsPage (profile_of state) page → page_by_words state page ≡ machine_page (visible l) page (deed_in (visible l) page) (marked_in state page)
+    page_same : (page : ℕ) → IsPage (profile_of state) page → page_by_words state page ≡ machine_page (visible l) page (deed_in (visible l) page) (marks_after l page)
     page_same page of = ap (line_by_words state page) (deed_read page of) ∙ line_same page of (deed_in (visible l) page)
 
-    pages_same : (n : ℕ) → n ≤ pages_of state → pages_by_words state n ≡ machine_pages (visible l) (marked_in state) n
+    pages_same : (n : ℕ) → n ≤ pages_of state → pages_by_words state n ≡ machine_pages (visible l) (marks_after l) n
     pages_same zero within = refl
     pages_same (suc n) within = λ t. pages_same n (omega arith) t ++ page_same (suc n) (omega arith, omega arith) t
 
     -- THE REPORT by the words is the machine's
-    pub report_agrees : report_by_words state ≡ report_text (profile_of state) (visible l) (marked_in state)
+    pub report_agrees : report_by_words state ≡ report_text (profile_of state) (visible l) (marks_after l)
     report_agrees = λ t. codes "report\n" ++ (pages_same (pages_of state) (omega arith) t ++ line_agrees state l has (agrees (profile_of state) l valid legal) t)

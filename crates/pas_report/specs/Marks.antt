@@ -1,6 +1,11 @@
 -- The marks of a page.
-use Rattle.std.specs.Prelude.{ℕ, ◌+◌, Bool, if◌then◌else◌, List, [], ◌∷◌, ◌++◌, codes}
+use Rattle.std.specs.Prelude.{ℕ, ◌+◌, ◌==◌, Bool, false, if◌then◌else◌, List, [], ◌∷◌, ◌++◌, Option, None, Some, codes}
 use Rattle.pas_profile.specs.Classes.{has_bit}
+use Rattle.pas_profile.specs.Directories.{number_of, directory_read}
+use Rattle.pas_profile.specs.declared.directory.Directory.{Directory}
+use Rattle.pas_profile.specs.declared.word.Word.TheVariants as Word
+use Rattle.pas_steps.specs.Lists.{Whole, word_after}
+use Rattle.pas_core.specs.Rights.{parked_bit, empty_bit, eligible_bit}
 
 -- a page is backed, offered, parked, hinted
 pub record Marked : Type 0 where
@@ -35,3 +40,18 @@ bits_of m = mark_bit m.backed 1 + (mark_bit m.offered 2 + (mark_bit m.parked 4 +
 -- the marks whose bits are set
 abbrev pub marks_of : ℕ → Marked
 marks_of n = record { backed = has_bit n 0; offered = has_bit n 1; parked = has_bit n 2; hinted = has_bit n 3 }
+
+-- ---- the marks after a list of steps
+-- the page is offered in this directory: its bit of the directory's page vector is set. A page without a directory isn't
+abbrev pub offered_after : Whole → ℕ → Option Directory → Bool
+offered_after l page None = false
+offered_after l page (Some d) = eligible_bit l (number_of d) page
+
+-- a page is backed where its backed word is 1; offered in the directory of its own deed word; parked and hinted by its bits of these two page vectors
+abbrev pub marks_after : Whole → ℕ → Marked
+marks_after l page = record {
+  backed = word_after l (Word.Backed page) == 1;
+  offered = offered_after l page (directory_read (word_after l (Word.Deed page)));
+  parked = parked_bit l page;
+  hinted = empty_bit l page;
+}

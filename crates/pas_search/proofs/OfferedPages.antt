@@ -12,7 +12,6 @@ use Rattle.pas_steps.specs.declared.step.Made.{Made}
 use Rattle.pas_steps.specs.declared.step.Step.TheVariants.{TakeRight}
 use Rattle.pas_steps.proofs.Adding.{adds_call, can_call, agreed_first, agreed_later}
 use Rattle.pas_steps.proofs.Kept.{scans_look, looks_read, knows_still}
-use Rattle.pas_rights.specs.Rights.{Claims}
 use Rattle.pas_scan.specs.Marks.{is_marked}
 use Rattle.pas_scan.specs.Scan.{IsFirstOffered, FindsOffered}
 use Rattle.pas_search.specs.Kinds.{AreQuiet}

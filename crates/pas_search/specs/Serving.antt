@@ -1,5 +1,5 @@
 -- What a back end promises of one page.
-use Rattle.std.specs.Prelude.{ℕ, ◌/◌, ◌%◌, ◌<◌, ◌≤◌, ◌≡◌, ◌==◌, ◌⊎◌, Bool, true, false, ◌&&◌, if◌then◌else◌, List, [], ◌∷◌, ◌++◌, length, Option, MatchOption}
+use Rattle.std.specs.Prelude.{ℕ, ◌/◌, ◌%◌, ◌<◌, ◌≤◌, ◌≡◌, ◌==◌, Bool, true, false, ◌&&◌, if◌then◌else◌, List, [], ◌∷◌, ◌++◌, length, Option, MatchOption}
 use Rattle.pas_profile.specs.declared.directory.Directory.{Directory}
 use Rattle.pas_profile.specs.declared.profile.Profile.{Profile}
 use Rattle.pas_steps.specs.Views.{View, holds, has_right, known_free, knows_backed, KnowsDeed}
@@ -21,6 +21,7 @@ pub record Rule (Found : Type 0) : Type 1 where
   pub keeps_right : Found → Bool  -- whether it keeps the page's right
   pub serves : ℕ → List Made → Found → Type 0  -- it took the lowest of the page that fits: what the steps of the call show of that
   pub events : ℕ  -- how many events it makes at most
+  pub steps : ℕ  -- and how many steps
 
 -- where some readings show no fit, neither do readings of fewer free grains
 abbrev pub IsAntitone : (Readings → Type 0) → Type 0
@@ -109,13 +110,10 @@ pub record KeepsPage {Found : Type 0} (rule : Rule Found) (f : Profile) (page : 
 pub record ServeSteps {Found : Type 0} (rule : Rule Found) (f : Profile) (page : ℕ) (d : Directory) (steps : List Made) (answer : Option Found) : Type 0 where
   pub only : OnlyServes page steps
   pub few : (k : ℕ) (v : View) → length (events_by k v steps) ≤ rule.events
+  pub short : length steps ≤ rule.steps
   pub outcome : MatchOption answer (LeavesPage rule f page d steps) (KeepsPage rule f page d steps)
 
 pub record ServesPage {Found : Type 0} (rule : Rule Found) (page : ℕ) (d : Directory) (desk desk' : Standing) (answer : Option Found) : Type 0 where
   pub steps : List Made
   pub adds : Adds desk desk' (λ v l. MayServe page d v) steps
   pub serves : ServeSteps rule desk.seat.profile page d steps answer
-
--- each answer agrees with what stood before, or that holds no grain of the page
-abbrev pub FreshAt : Profile → ℕ → List Made → List Made → Type 0
-FreshAt f page steps before = Agreed f before steps ⊎ HoldsNone page before

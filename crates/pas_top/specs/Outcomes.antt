@@ -14,15 +14,15 @@ use Rattle.pas_top.specs.Faults.{fault_text}
 use Rattle.pas_top.specs.declared.outcome.Outcome.{Outcome}
 use Rattle.pas_top.specs.declared.outcome.Outcome.TheVariants.{Replayed, Faulty, Unbuilt}
 
--- the bytes are a trace, and this is its replay
-pub record IsReplay (bytes : List ℕ) (records : List Record) (state : State) : Type 0 where
+-- the bytes are a trace, and its replay shows these
+pub record IsShowing (bytes : List ℕ) (records : List Record) (state : State) : Type 0 where
   pub plan : Plan
   pub read : IsPlanOf bytes plan
   pub built : IsBuilt plan
   pub shows : Shows InOrder plan records state
 
 abbrev pub IsOutcome : List ℕ → Outcome → Type 0
-IsOutcome bytes (Replayed records state) = IsReplay bytes (records_in records) state
+IsOutcome bytes (Replayed records state) = IsShowing bytes (records_in records) state
 IsOutcome bytes (Faulty fault) = parsed bytes ≡ Err fault
 IsOutcome bytes Unbuilt = IsUnbuilt bytes
 

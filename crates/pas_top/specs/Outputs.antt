@@ -1,23 +1,17 @@
 -- What the top call writes, for each status, and why.
-use Rattle.std.specs.Prelude.{ℕ, ◌+◌, ◌*◌, ◌<◌, ◌≤◌, ◌≡◌, ◌≢◌, ◌⊎◌, true, false, not, List, [], ◌∷◌, ◌++◌, Option, None, Some, Err, length, codes, map}
+use Rattle.std.specs.Prelude.{ℕ, ◌+◌, ◌<◌, ◌≤◌, ◌≡◌, ◌≢◌, ◌⊎◌, List, [], ◌∷◌, ◌++◌, Option, Some, Err, length, codes, map}
 use denote.Ref.{Bor}
-use Rattle.pas_machine.specs.Machine.{Run}
-use Rattle.pas_machine.specs.State.{deed_in, backed_in}
-use Rattle.pas_profile.specs.Profiles.{IsPage, IsDirectoryOf}
-use Rattle.pas_profile.specs.declared.directory.Directory.{Directory}
-use Rattle.pas_steps.specs.Lists.{Whole, Legal, visible, part}
-use Rattle.pas_steps.specs.Views.{usable_by_kind, KnowsDeed}
+use Rattle.pas_steps.specs.Lists.{Whole, visible}
 use Rattle.pas_trace.specs.Plans.{IsPlanOf, parsed}
 use Rattle.pas_trace.specs.declared.plan.Plan.{Plan}
 use Rattle.pas_trace.specs.declared.fault.TraceFault.{TraceFault}
 use Rattle.pas_report.specs.Lines.{lines_of}
-use Rattle.pas_report.specs.Marks.{Marked}
-use Rattle.pas_report.specs.Reports.{is_covered, report_text}
+use Rattle.pas_report.specs.Marks.{marks_after}
+use Rattle.pas_report.specs.Reports.{report_text}
 use Rattle.pas_report.specs.declared.record.Record.{Record}
-use Rattle.pas_replay.specs.Acts.{acts_of}
-use Rattle.pas_replay.specs.Answers.{Follows}
-use Rattle.pas_replay.specs.Replays.{IsBuilt, phases_of, empty_caches}
-use Rattle.pas_replay.specs.Ways.{Way, InOrder, IsOneOrder, arranged}
+use Rattle.pas_replay.specs.Replays.{IsBuilt, IsReplay}
+use Rattle.pas_replay.specs.Ways.{Way, InOrder}
+use Rattle.pas_io.specs.Inputs.{Takes}
 use Rattle.pas_io.specs.Told.{Rose, Writes, WritesFront}
 use Rattle.pas_top.specs.Faults.{fault_text}
 
@@ -25,30 +19,16 @@ use Rattle.pas_top.specs.Faults.{fault_text}
 abbrev pub most_bytes : ℕ
 most_bytes = 16777216
 
--- THE HEADLINE, for both ways. The text is that of a replay of the trace that the bytes are: there is a legal list of steps whose part of each
--- thread is made of the pieces that answer its acts in the order of the plan, each by the thread's own cache. In the order of the text that list
--- has the pieces one after the other. Its visible events are a run of the allocator's machine, whose pages have the deeds that the threads know;
--- and the text has a line for each record of these pieces, in the order of this way, and then the report of the machine that the events
--- reach. The report marks a page as backed exactly where the machine has it backed, each page with a deed as offered or as parked, and as offered
--- wherever a grain that blocks of its directory may cover is not covered by a live block.
+-- THE HEADLINE, for both ways. The bytes are a trace, and the text is that of a replay of its plan: a line for each of the replay's records, and then
+-- the report of the machine that the visible events of its list reach, where each page has the marks that the words after the list say.
 pub record IsReplayed (way : Way) (bytes text : List ℕ) : Type 0 where
   pub plan : Plan
   pub read : IsPlanOf bytes plan
   pub built : IsBuilt plan
-  pub told : Whole
-  pub said : List Record
-  pub answers : Follows plan.profile (acts_of plan.profile.threads (phases_of plan)) [] empty_caches [] [] told said
   pub whole : Whole
-  pub legal : Legal plan.profile whole
-  pub one_order : IsOneOrder way told whole
-  pub run : Run plan.profile (visible whole)
-  pub deeds : (k page : ℕ) (d : Directory) → IsDirectoryOf plan.profile d → KnowsDeed page d (part k whole) → deed_in (visible whole) page ≡ Some d
-  pub marks : ℕ → Marked
-  pub backed : (page : ℕ) → IsPage plan.profile page → (marks page).backed ≡ backed_in (visible whole) page
-  pub placed : (page : ℕ) → IsPage plan.profile page → deed_in (visible whole) page ≢ None → (marks page).parked ≡ not (marks page).offered
-  pub offered : (page : ℕ) → IsPage plan.profile page → (d : Directory) → deed_in (visible whole) page ≡ Some d → (b : ℕ) → b < 256 → usable_by_kind d.kind b ≡ true
-      → is_covered (visible whole) (256 * page + b) ≡ false → (marks page).offered ≡ true
-  pub text_is : text ≡ lines_of (arranged way plan.profile.threads said) ++ report_text plan.profile (visible whole) marks
+  pub records : List Record
+  pub replay : IsReplay way plan whole records
+  pub text_is : text ≡ lines_of records ++ report_text plan.profile (visible whole) (marks_after whole)
 
 -- the bytes are a trace without a fault that can't be replayed yet
 pub record IsUnbuilt (bytes : List ℕ) : Type 0 where
@@ -97,10 +77,10 @@ pub record IsTooLong (bytes text : List ℕ) : Type 0 where
 abbrev pub ComesTo : List ℕ → ℕ → List ℕ → Type 0
 ComesTo bytes status text = ((status ≡ 0) × IsTranscript bytes text) ⊎ ((status ≡ 1) × IsFaulty bytes text) ⊎ ((status ≡ 6) × IsTooLong bytes text) ⊎ ((status ≡ 7) × IsNotBuilt bytes text)
 
--- what a call with these words writes in full, with its status: the usage where the words are no accepted list, else what the input comes to,
--- where the source tells it
+-- what a call with these words writes in full, with its status: the usage where the words are no accepted list, else another status and what the input
+-- comes to, where the source tells it
 abbrev pub IsOutput : List (List ℕ) → Option (List ℕ) → ℕ → List ℕ → Type 0
-IsOutput words told status text = ((IsOrder words → ⊥) × (status ≡ 2) × (text ≡ usage_text)) ⊎ (IsOrder words × ((bytes : List ℕ) → told ≡ Some bytes → ComesTo bytes status text))
+IsOutput words told status text = ((IsOrder words → ⊥) × (status ≡ 2) × (text ≡ usage_text)) ⊎ (IsOrder words × (status ≢ 2) × ((bytes : List ℕ) → told ≡ Some bytes → ComesTo bytes status text))
 
 -- ---- what each status says. The sink told `before` and tells `after`
 abbrev pub IsWriting : ℕ → Type 0
@@ -114,6 +94,11 @@ pub record IsWritten (words : List (List ℕ)) (told before after : Option (List
   pub text : List ℕ
   pub output : IsOutput words told status text
   pub written : Writes before after text
+
+-- 3: a read failed. Where the source tells its bytes, no more of them were taken than an input may have
+pub record HasFailed (told told' : Option (List ℕ)) (faults faults' : ℕ) : Type 0 where
+  pub rose : Rose faults faults'
+  pub taken : (bytes : List ℕ) → told ≡ Some bytes → Takes bytes told' most_bytes
 
 -- 4: the sink failed. What was written is a first part of what another status would have written
 pub record IsCutOff (words : List (List ℕ)) (told before after : Option (List ℕ)) (faults faults' : ℕ) : Type 0 where

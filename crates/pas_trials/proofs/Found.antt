@@ -7,7 +7,8 @@ use Rattle.pas_steps.specs.Desks.{Standing}
 use Rattle.pas_steps.specs.Past.{Once}
 use Rattle.pas_steps.specs.Evidence.{DeedHere}
 use Rattle.pas_scan.specs.Scan.{NoneOffered, IsFirstOffered, FindsOffered, IsFirstBare, FindsBare, IsVerdict, Judges}
-use Rattle.pas_trials.specs.Trials.{AnyView, Brings, Wants}
+use Rattle.pas_steps.specs.Calls.{AnyView}
+use Rattle.pas_trials.specs.Trials.{Brings, Wants}
 use Rattle.pas_trials.specs.declared.wanting.Findings.{Findings}
 
 pub offered_found : {σ σ' : Standing} {d' : Directory} {n n' : ℕ} (o : Option ℕ) (f : Profile) (d : Directory) → σ.seat.profile ≡ f → d' ≡ d → n ≡ 1 → (h : FindsOffered d' n σ σ' n' o)
@@ -27,4 +28,4 @@ verdict_found {σ} {σ'} {marks} {d'} {answer} f d ef ed h =
 
 -- the steps of all of them
 pub wants_bring : {σ σ' : Standing} {page : ℕ} {d : Directory} {found : Findings} → Wants page d σ σ' found → Brings σ σ' AnyView AnyView
-wants_bring w = record { steps = _; adds = w.adds; brings = λ v m. tt }
+wants_bring w = record { steps = _; calls = record { adds = w.adds; leads = record { from = λ v m agreed. tt } } }

@@ -3,13 +3,14 @@ use Rattle.std.specs.Prelude.{ℕ, ◌<◌, ◌≤◌, ◌≡◌, ◌≢◌, Boo
 use Rattle.pas_profile.specs.declared.directory.Directory.{Directory}
 use Rattle.pas_steps.specs.Views.{View, has_right, KnowsDeed}
 use Rattle.pas_steps.specs.Lists.{Whole}
+use Rattle.pas_steps.specs.Calls.{Leads, AnyView, Calls}
 use Rattle.pas_steps.specs.Desks.{Standing, Adds}
 use Rattle.pas_steps.specs.declared.step.Made.{Made}
 use Rattle.pas_plain.specs.Plain.{profile_of, actor_of, PassStands}
 use Rattle.pas_plain.specs.Seats.{region_of, pass_of, DeskStands}
 use Rattle.pas_plain.specs.declared.desk.PlainDesk.{PlainDesk}
 use Rattle.pas_plain.specs.declared.pass.PlainPass.{PlainPass}
-use Rattle.pas_rights.specs.Rights.{MayLeave}
+use Rattle.pas_rights.specs.Leaves.{MayLeave}
 use Rattle.pas_steps.specs.Evidence.{DeedHere}
 use Rattle.pas_scan.specs.Marks.{is_marked}
 use Rattle.pas_scan.specs.Scan.{NoneOffered, IsFirstOffered, IsFirstBare, IsVerdict}
@@ -17,10 +18,6 @@ use Rattle.pas_steps.specs.Past.{Once}
 use Rattle.pas_trials.specs.declared.wanting.Findings.{Findings}
 
 -- ---- calls
--- the condition that each view meets
-abbrev pub AnyView : View → Type 0
-AnyView v = Unit {0}
-
 -- where the test is true, the right of the page is the actor's, and its deed is known
 abbrev pub MayLeaveIf : Bool → ℕ → Directory → View → Type 0
 MayLeaveIf true page d v = MayLeave page d v
@@ -38,8 +35,7 @@ Answered (Some got) page d v = KnowsDeed page d v × (got ≡ true → has_right
 -- a call made some steps, after which each view that met the one condition meets the other
 pub record Brings (desk desk' : Standing) (Before After : View → Type 0) : Type 0 where
   pub steps : List Made
-  pub adds : Adds desk desk' (λ v l. Before v) steps
-  pub brings : (v : View) → Before v → After (steps ++ v)
+  pub calls : Calls desk desk' Before (λ v w. After w) steps
 
 -- The page was asked for, and three searches followed, with what their steps show: a search of offered pages from page 1 on, one of pages
 -- without a deed from the page on, and a verdict in which no page is left out.
@@ -49,7 +45,7 @@ pub record Wants (page : ℕ) (d : Directory) (desk desk' : Standing) (found : F
   pub bares : List Made
   pub judged : List Made
   pub adds : Adds desk desk' (λ v l. AnyView v) (judged ++ (bares ++ (offers ++ asked)))
-  pub claimed : (v : View) → Answered found.claimed page d (asked ++ v)
+  pub claimed : Leads desk.seat.profile AnyView (λ v w. Answered found.claimed page d w) asked
   pub offered : MatchOption found.offered (NoneOffered desk.seat.profile d 1 offers) (IsFirstOffered desk.seat.profile d 1 offers)
   pub bare : MatchOption found.bare ((p : ℕ) → page ≤ p → p ≤ desk.seat.profile.pages → Once (DeedHere p) bares) (IsFirstBare desk.seat.profile page bares)
   pub marks : List ℕ

@@ -2,8 +2,9 @@
 ghost use Rattle.std.specs.Prelude.{◌≡◌, ◌≤◌};
 ghost use Rattle.pas_profile.specs.Profiles.{IsPage, IsDirectoryOf};
 ghost use Rattle.pas_steps.specs.Desks.{Anything, CanCall};
-ghost use Rattle.pas_rights.specs.Rights.{MayLeave};
-ghost use Rattle.pas_trials.specs.Trials.{AnyView, LeftIf, MayLeaveIf, Brings};
+ghost use Rattle.pas_rights.specs.Leaves.{MayLeave};
+ghost use Rattle.pas_steps.specs.Calls.{AnyView};
+ghost use Rattle.pas_trials.specs.Trials.{LeftIf, MayLeaveIf, Brings};
 
 use pas_profile::Directory;
 use pas_rights::leave;

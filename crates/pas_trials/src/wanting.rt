@@ -2,7 +2,8 @@
 ghost use Rattle.std.specs.Prelude.{◌≡◌};
 ghost use Rattle.pas_profile.specs.Profiles.{IsPage, IsDirectoryOf};
 ghost use Rattle.pas_steps.specs.Desks.{Anything, CanCall};
-ghost use Rattle.pas_trials.specs.Trials.{AnyView, Answered, Brings, Wants};
+ghost use Rattle.pas_steps.specs.Calls.{AnyView};
+ghost use Rattle.pas_trials.specs.Trials.{Answered, Brings, Wants};
 
 use pas_profile::{Directory, NoRoom, Word, deed_word};
 use pas_rights::claim;

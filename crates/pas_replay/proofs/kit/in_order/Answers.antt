@@ -3,7 +3,7 @@ use Rattle.std.specs.Prelude.{map}
 use Rattle.std.proofs.lemmas.List.{length-map}
 use Rattle.pas_trace.specs.Plans.{ops_of}
 use Rattle.pas_trace.specs.declared.plan.Phase.{Phase}
-use Rattle.pas_replay.proofs.PlanHolds.{plan_phases}
+use Rattle.pas_replay.proofs.PlanHolds.{plan_phases, plan_valid}
 use Rattle.pas_replay.proofs.Showing.{start, shows, handed, handed_back}
 use Rattle.pas_replay.specs.declared.seats.Thread.{Thread}
 use Rattle.pas_replay.proofs.kit.in_order.Goals as goal
@@ -24,6 +24,6 @@ replay-region-requires-clause-so_far c =
 pub returns : goal.returns
 returns c =
     let count = ap (λ (ts : List Thread). length ts) c.deref_mut.ensures.value ∙ c.requires.kit.count in
-    shows {plan = c.args.plan.now}
+    shows {plan = c.args.plan.now} (plan_valid c.requires.plan.2)
     (handed_back c.args.plan.now (length c.deref_mut.result.now) (map ops_of c.as_slice.result.now) c.requires.kit.profile count (ap (λ (ps : List Phase). map ops_of ps) c.as_slice.ensures) c.replay-region.ensures.so_far)
     c.replay-region.ensures.empty c.close.ensures.profile c.close.ensures.words

@@ -1,11 +1,11 @@
-use Rattle.pas_report.proofs.Resting.{are_deed_words, backed_same, nobody_holds, report_agrees}
+use Rattle.pas_report.proofs.Resting.{are_deed_words, marks_are, nobody_holds, report_agrees}
 use Rattle.pas_report.proofs.laws.reports_agree.Goals as goal
 
 pub returns-clause-deeds : goal.returns-clause-deeds
 returns-clause-deeds c = are_deed_words
 
-pub returns-clause-backed : goal.returns-clause-backed
-returns-clause-backed c = backed_same
+pub returns-clause-marks : goal.returns-clause-marks
+returns-clause-marks c = marks_are
 
 pub returns-clause-nobody : goal.returns-clause-nobody
 returns-clause-nobody c = nobody_holds

@@ -19,20 +19,20 @@ pub serve-requires-clause-can : goal.serve-requires-clause-can
 serve-requires-clause-can g c =
     let i = c.loop-looked.invariant in let l = c.loop-looked.looked in let D = g.D.Desk in let d = c.args.looked.now.directory in let n = c.first_offered.new.looked in let p = c.in-Some.page in let h = c.claim.ensures.claims in
     let find = subst (λ x. FindsOffered x l.next (D.standing c.loop-looked.desk) (D.standing c.first_offered.new.desk) n.next (Some p)) i.directory c.in-Some.ensures.found in
-    serve_can d l.next l.unfit i.steps i.adds i.goes n.next p find h.answer h.adds (sym h.got_is ∙ c.if-claim.true) c.requires.can
+    serve_can d l.next l.unfit i.steps i.adds i.goes n.next p find h.answer h.calls.adds (sym h.got_is ∙ c.if-claim.true) c.requires.can
 
 pub serve-requires-clause-room : goal.serve-requires-clause-room
 serve-requires-clause-room g c =
     let i = c.loop-looked.invariant in let l = c.loop-looked.looked in let D = g.D.Desk in let d = c.args.looked.now.directory in let n = c.first_offered.new.looked in let p = c.in-Some.page in let h = c.claim.ensures.claims in
     let find = subst (λ x. FindsOffered x l.next (D.standing c.loop-looked.desk) (D.standing c.first_offered.new.desk) n.next (Some p)) i.directory c.in-Some.ensures.found in
-    room_kept {C = λ v l. MaySearch d v} (g.S.Serving.rule c.args.serving.now).events (claim_adds d l.next l.unfit i.steps i.adds i.goes n.next p find h.answer h.adds) c.requires.can
-    (claim_quiet d l.next l.unfit i.steps i.adds i.goes n.next p find h.answer h.adds) (g.met.D.Desk.spares c.args.desk.now) (g.met.D.Desk.spares c.claim.new.desk) c.requires.room
+    room_kept {C = λ v l. MaySearch d v} (g.S.Serving.rule c.args.serving.now).events (claim_adds d l.next l.unfit i.steps i.adds i.goes n.next p find h.answer h.calls.adds) c.requires.can
+    (claim_quiet d l.next l.unfit i.steps i.adds i.goes n.next p find h.answer h.calls.adds) (g.met.D.Desk.spares c.args.desk.now) (g.met.D.Desk.spares c.claim.new.desk) c.requires.room
 
 pub returns-in-Some-serve-clause-found : goal.returns-in-Some-serve-clause-found
 returns-in-Some-serve-clause-found g c =
     let i = c.loop-looked.invariant in let l = c.loop-looked.looked in let D = g.D.Desk in let d = c.args.looked.now.directory in let n = c.first_offered.new.looked in let p = c.in-Some.page in let h = c.claim.ensures.claims in
     let find = subst (λ x. FindsOffered x l.next (D.standing c.loop-looked.desk) (D.standing c.first_offered.new.desk) n.next (Some p)) i.directory c.in-Some.ensures.found in
-    found_there d l.next l.unfit i.steps i.adds i.goes n.next p find h.answer h.adds (sym h.got_is ∙ c.if-claim.true) n.unfit c.in-Some-serve.found c.in-Some-serve.ensures.serves
+    found_there d l.next l.unfit i.steps i.adds i.goes n.next p find h.answer h.calls.adds (sym h.got_is ∙ c.if-claim.true) n.unfit c.in-Some-serve.found c.in-Some-serve.ensures.serves
 
 pub loop-looked-preserved-then-claim : goal.loop-looked-preserved-then-claim
 loop-looked-preserved-then-claim g c =
@@ -43,9 +43,9 @@ loop-looked-preserved-then-claim g c =
       low = omega (arith, next);
       directory = c.mark_unfit.ensures.directory ∙ c.first_offered.ensures.directory ∙ i.directory;
       steps = serves.steps ++ (made (TakeRight p d) h.answer ∷ (find.steps ++ i.steps));
-      adds = serve_adds d l.next l.unfit i.steps i.adds i.goes n.next p find h.answer h.adds bit None serves;
+      adds = serve_adds d l.next l.unfit i.steps i.adds i.goes n.next p find h.answer h.calls.adds bit None serves;
       goes = subst (λ k. GoesOn (g.S.Serving.rule c.args.serving.now) (D.standing c.args.desk.now).seat.profile d k marked.unfit (serves.steps ++ (made (TakeRight p d) h.answer ∷ (find.steps ++ i.steps)))) (sym next)
-          (left_goes d l.next l.unfit i.steps i.adds i.goes n.next p find h.answer h.adds bit marked.unfit (λ q. c.mark_unfit.ensures.unfit q ∙ ap (λ m. (p == q) || is_marked m q) c.first_offered.ensures.unfit) serves);
+          (left_goes d l.next l.unfit i.steps i.adds i.goes n.next p find h.answer h.calls.adds bit marked.unfit (λ q. c.mark_unfit.ensures.unfit q ∙ ap (λ m. (p == q) || is_marked m q) c.first_offered.ensures.unfit) serves);
       home = c.serve.ensures.home ∙ c.claim.ensures.home ∙ c.first_offered.ensures.home ∙ i.home;
     }
 
@@ -57,9 +57,9 @@ loop-looked-preserved g c =
       low = omega (arith, next);
       directory = c.first_offered.ensures.directory ∙ i.directory;
       steps = made (TakeRight p d) h.answer ∷ (find.steps ++ i.steps);
-      adds = claim_adds d l.next l.unfit i.steps i.adds i.goes n.next p find h.answer h.adds;
+      adds = claim_adds d l.next l.unfit i.steps i.adds i.goes n.next p find h.answer h.calls.adds;
       goes = subst (λ m. GoesOn (g.S.Serving.rule c.args.serving.now) (D.standing c.args.desk.now).seat.profile d n.next m (made (TakeRight p d) h.answer ∷ (find.steps ++ i.steps))) (sym c.first_offered.ensures.unfit)
           (subst (λ k. GoesOn (g.S.Serving.rule c.args.serving.now) (D.standing c.args.desk.now).seat.profile d k l.unfit (made (TakeRight p d) h.answer ∷ (find.steps ++ i.steps))) (sym next)
-          (lost_goes d l.next l.unfit i.steps i.adds i.goes n.next p find h.answer h.adds (sym h.got_is ∙ c.if-claim.false)));
+          (lost_goes d l.next l.unfit i.steps i.adds i.goes n.next p find h.answer h.calls.adds (sym h.got_is ∙ c.if-claim.false)));
       home = c.claim.ensures.home ∙ c.first_offered.ensures.home ∙ i.home;
     }
