@@ -1,10 +1,9 @@
 pub mod Bits
 pub mod Starts
-pub mod Puts
-pub mod Backs
-pub mod Stopped
-pub mod Taken
-pub mod Counted
-pub mod Complete
-pub mod Served
+pub mod TakesOnce
+pub mod GiveBack
+pub mod StopSlots
+pub mod FourTakes
+pub mod WholeSlots
+pub mod Serve
 pub mod Refilled

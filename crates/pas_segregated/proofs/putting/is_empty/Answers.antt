@@ -1,4 +1,4 @@
-use Rattle.pas_segregated.proofs.Puts.{is_empty_by}
+use Rattle.pas_segregated.proofs.GiveBack.{is_empty_by}
 use Rattle.pas_segregated.proofs.putting.is_empty.Goals as goal
 
 pub returns : goal.returns
