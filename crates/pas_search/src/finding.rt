@@ -19,7 +19,7 @@ use pas_steps::Desk;
 ///
 /// Steps: a look at each eligible word and one more for each page that is tried; a claim for each of these, and the back end's steps; a look at
 /// each deed word, and a step for each that is read as 0. A refusal looks at each deed word once more, and at the parked words.
-pub fn find_room<S: Serving, D: Desk>(
+pub fn find_page<S: Serving, D: Desk>(
     serving: &S,
     desk: &mut D,
     directory: Directory,

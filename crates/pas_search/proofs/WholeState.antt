@@ -23,12 +23,13 @@ use Rattle.pas_steps.proofs.Parts.{part_of_own}
 use Rattle.pas_core.proofs.DeedWords.{known_is}
 use Rattle.pas_core.proofs.Spots.{is_offered, is_parked, IsSpotted, spotted}
 use Rattle.pas_steps.specs.Evidence.{ReadsDeed, DeedHere, ParkedHere, ParkedLater, LeftHere, HeldHere, KeptHere, UnfitHere, Searched, Accounted}
-use Rattle.pas_search.specs.Kinds.{OnlySearches}
+use Rattle.pas_steps.specs.Kinds.{Only}
+use Rattle.pas_search.specs.Kinds.{searching}
 use Rattle.pas_search.specs.Serving.{Rule, IsAntitone}
 use Rattle.pas_search.specs.Searches.{MaySearch, DeedMadeHere, IsHeld, IsServed, IsRefused}
 use Rattle.pas_search.specs.Telling.{IsOfferedFit, HasNoFit, IsLowestOffered, IsLowestBare, IsInHands, IsTrueReason, IsTold}
 use Rattle.pas_search.specs.declared.serving.Served.{Served}
-use Rattle.pas_search.proofs.Refusing.{unfit_lacks}
+use Rattle.pas_search.proofs.Refusals.{unfit_lacks}
 use Rattle.pas_search.proofs.Spotting.{spot_same, zero_told, one_told, parked_told, entry_lacks, legal_before, offered_deed, offered_lacks, not_in_hands}
 use Rattle.pas_search.proofs.Grained.{unfit_entry, unfit_exit, fit_entry, deed_quiet, deed_exit, deed_none}
 
@@ -47,7 +48,7 @@ deed_known f v p (m ∷ xs) agreed (inr h) =
     let some = deed_known f v p xs agreed.1 h in λ e. some (sym (deed_stays f (m ∷ []) (xs ++ v) p (agreed.0, tt) some) ∙ e)
 
 -- ---- a page that was searched in vain was no fit at entry
-vain : {F : Type 0} (rule : Rule F) (f : Profile) (k : ℕ) (l : Whole) (d : Directory) (end : ℕ) (xs : List Made) → IsAntitone rule.no_fit → Legal f (triples k xs ++ l) → OnlySearches xs → Searched rule.no_fit d end xs → (page : ℕ) → page < end → IsOfferedFit rule f d l page → ⊥
+vain : {F : Type 0} (rule : Rule F) (f : Profile) (k : ℕ) (l : Whole) (d : Directory) (end : ℕ) (xs : List Made) → IsAntitone rule.no_fit → Legal f (triples k xs ++ l) → Only searching xs → Searched rule.no_fit d end xs → (page : ℕ) → page < end → IsOfferedFit rule f d l page → ⊥
 vain rule f k l d end xs fewer legal searches searched page high fit =
     let n : ℕ = number_of d in
     let first : Legal f l = legal_before f k xs l legal in
@@ -58,7 +59,7 @@ vain rule f k l d end xs fewer legal searches searched page high fit =
     ]
 
 -- ---- by a deed
-by_deed : {F : Type 0} (rule : Rule F) (f : Profile) (k : ℕ) (l : Whole) (d : Directory) (page : ℕ) (xs : List Made) → IsAntitone rule.no_fit → IsPage f page → Legal f (triples k xs ++ l) → OnlySearches xs → Once (DeedMadeHere rule f d page) xs → IsLowestBare rule f d l page
+by_deed : {F : Type 0} (rule : Rule F) (f : Profile) (k : ℕ) (l : Whole) (d : Directory) (page : ℕ) (xs : List Made) → IsAntitone rule.no_fit → IsPage f page → Legal f (triples k xs ++ l) → Only searching xs → Once (DeedMadeHere rule f d page) xs → IsLowestBare rule f d l page
 by_deed rule f k l d page [] fewer is legal searches h = absurd h
 by_deed rule f k l d page (m ∷ xs) fewer is legal searches (inr h) = by_deed rule f k l d page xs fewer is legal.1 searches.1 h
 by_deed rule f k l d page (m ∷ xs) fewer is legal searches (inl h) = record {
@@ -68,7 +69,7 @@ by_deed rule f k l d page (m ∷ xs) fewer is legal searches (inl h) = record {
 }
 
 module _ {F : Type 0} (rule : Rule F) (f : Profile) (k : ℕ) (l : Whole) (d : Directory) (xs : List Made) (valid : IsValid f) (of : IsDirectoryOf f d) (fewer : IsAntitone rule.no_fit)
-    (legal : Legal f (triples k xs ++ l)) (searches : OnlySearches xs) (may : MaySearch d (part k l)) (agreed : Agreed f (part k l) xs) where
+    (legal : Legal f (triples k xs ++ l)) (searches : Only searching xs) (may : MaySearch d (part k l)) (agreed : Agreed f (part k l) xs) where
   abbrev w : Whole
   w = triples k xs ++ l
 
@@ -90,7 +91,7 @@ module _ {F : Type 0} (rule : Rule F) (f : Profile) (k : ℕ) (l : Whole) (d : D
           this = record {
             of_region = is.page;
             offered = at.eligible n ∙ ap (is_offered n) (sym (spot_same f k l p read.0 read.1 lacks read.2)) ∙ sym (now.eligible n) ∙ read.3;
-            fits = fit_entry rule.no_fit f k l p is.shows.readings xs fewer valid legal searches is.shows.fits is.shows.read (is.shows.held (part k l) may agreed);
+            fits = fit_entry rule.no_fit f k l p is.shows.readings xs fewer valid legal searches is.shows.fits is.shows.read (is.shows.held.from (part k l) may agreed);
           };
           lowest = λ other fit. not_below p other (λ lt. vain rule f k l d p xs fewer legal searches from.searched other lt fit);
         })
@@ -106,12 +107,12 @@ module _ {F : Type 0} (rule : Rule F) (f : Profile) (k : ℕ) (l : Whole) (d : D
 
   -- the right of a page that the actor hasn't at exit it hadn't at entry
   lacks_back : (room : NoRoom) → IsRefused rule f d xs room → (p : ℕ) → has_right (part k w) p ≡ false → has_right (part k l) p ≡ false
-  lacks_back room is p lacks = sym (is.still.rights (part k l) may agreed p) ∙ ap (λ v. has_right v p) (sym (part_of_own k xs l)) ∙ lacks
+  lacks_back room is p lacks = sym ((is.still.from (part k l) may agreed).right p) ∙ ap (λ v. has_right v p) (sym (part_of_own k xs l)) ∙ lacks
 
   exit_none : (room : NoRoom) → IsRefused rule f d xs room → HasNoFit rule f d w
   exit_none room is = record {
     offered = λ page fit. let high = fit.of_region.1 in elim (is.searched page fit.of_region.0 (omega (arith, high))) [
-      | inl u ↦ fit.fits (unfit_exit rule.no_fit f k l page xs fewer valid legal searches (is.still.grains (part k l) may agreed) u)
+      | inl u ↦ fit.fits (unfit_exit rule.no_fit f k l page xs fewer valid legal searches (λ g. (is.still.from (part k l) may agreed).held g) u)
       | inr z ↦
           let lacks : has_right (part k l) page ≡ false = lacks_back room is page (offered_lacks f k w n page legal fit.offered) in
           let at : IsSpotted w page = spotted f w legal page in
@@ -131,7 +132,7 @@ module _ {F : Type 0} (rule : Rule F) (f : Profile) (k : ℕ) (l : Whole) (d : D
   accounted_out room is p account hands =
       let low = hands.of_region.0 in let high = hands.of_region.1 in
       let none : has_right (part k l) p ≡ false = entry_lacks f k l d p xs valid first may hands.of_directory in
-      let lacks : has_right (xs ++ part k l) p ≡ false = is.still.rights (part k l) may agreed p ∙ none in
+      let lacks : has_right (xs ++ part k l) p ≡ false = (is.still.from (part k l) may agreed).right p ∙ none in
       let some : known_deed (xs ++ part k l) p ≢ 0 = deed_known f (part k l) p xs agreed (is.deeds p low (omega (arith, high))) in
       elim (account (known_exit p some ∙ hands.of_directory)) [
         | inl left ↦ not_in_hands f k l d p xs of legal lacks (once_map (LeftHere p) (KeptHere p) xs (λ m before h. h.1) left) hands
