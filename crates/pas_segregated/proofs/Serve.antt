@@ -35,29 +35,11 @@ use Rattle.pas_steps.proofs.Kept.{looks_read, right_reads, returns_on}
 use Rattle.pas_steps.proofs.Past.{once_later, always_both, always_map}
 use Rattle.pas_search.specs.Kinds.{serving, IsQuiet, AreQuiet}
 use Rattle.pas_search.specs.Serving.{MayServe, HoldsNone, IsUntouched, GotBefore, right_of, served, Keeps, LeavesPage, KeepsPage, ServeSteps, ServesPage}
+use Rattle.pas_search.proofs.ForBackEnds.{unfit_left}
 use Rattle.pas_segregated.specs.Masks.{start_of, IsEmpty, IsSome}
 use Rattle.pas_segregated.specs.Takes.{in_starts, slots_on, GetsGrains, NoSlot, taking_slots, TakesSlots, exclusive}
 use Rattle.pas_segregated.proofs.Starts.{start_at, start_below}
 use Rattle.pas_segregated.proofs.GiveBack.{kept_kept}
-
--- ---- a page on which nothing fits is left
-since_looks : (P : Made → List Made → Type 0) (page : ℕ) (ys xs : List Made) → AreLooks ys → has_right xs page ≡ true → Since P (KeptHere page) xs → Since P (KeptHere page) (ys ++ xs)
-since_looks P page [] xs looks right h = h
-since_looks P page (y ∷ ys) xs looks right h = inr (right_reads page ys xs (looks_read ys looks.1) ∙ right, since_looks P page ys xs looks.1 right h)
-
--- the right was kept from one reading of the free words on, which shows no fit
-unfit_left : (no_fit : Readings → Type 0) (page : ℕ) (ys xs : List Made) → Once (LosesHere page) ys → has_right xs page ≡ true → Once (GetsHere page) xs → (r : Readings) → no_fit r → ((word : ℕ) → word < 4 → Since (ShowsHere page word r) (KeptHere page) xs)
-    → Once (UnfitHere no_fit page) (ys ++ xs)
-unfit_left no_fit page [] xs left right got r none read = absurd left
-unfit_left no_fit page (y ∷ ys) xs (inl h) right got r none read = inl (record {
-  left = h.0;
-  kept = right_reads page ys xs (looks_read ys h.1) ∙ right;
-  got = once_later (GetsHere page) ys xs got;
-  readings = r;
-  none = none;
-  read = λ word lt. since_looks (ShowsHere page word r) page ys xs h.1 right (read word lt);
-})
-unfit_left no_fit page (y ∷ ys) xs (inr h) right got r none read = inr (unfit_left no_fit page ys xs h right got r none read)
 
 since_once : (P Q : Made → List Made → Type 0) (xs : List Made) → Since P Q xs → Once P xs
 since_once P Q [] h = h
