@@ -1,5 +1,4 @@
 pub mod Starts
-mod Bits
 mod TakesOnce
 mod GiveBack
 mod StopSlots
