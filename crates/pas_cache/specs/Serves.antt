@@ -18,7 +18,7 @@ use Rattle.pas_steps.specs.declared.step.Made.{Made}
 use Rattle.pas_search.specs.Kinds.{AreSearch}
 use Rattle.pas_search.specs.Searches.{IsRefused}
 use Rattle.pas_search.specs.Telling.{HasNoFit, IsTrueReason}
-use Rattle.pas_segregated.specs.Masks.{IsSome}
+use Rattle.pas_bits.specs.Masks.{HasMember}
 use Rattle.pas_segregated.specs.Stops.{class_directory}
 use Rattle.pas_segregated.specs.Takes.{exclusive}
 use Rattle.pas_segregated.specs.Refills.{GivesSlots}
@@ -46,7 +46,7 @@ pub record GivesCached (heap class : ℕ) (locals locals' : List Slots) (steps :
   pub from : Slots
   pub to : Slots
   pub cached : local_for heap class locals ≡ Some from
-  pub some : IsSome from.starts
+  pub some : HasMember from.starts
   pub gives : GivesSlot from to block steps
   pub locals_are : locals' ≡ others_than heap class locals ++ to ∷ []
 
@@ -123,7 +123,7 @@ IsSilent steps = (k : ℕ) (v : View) → events_by k v steps ≡ []
 -- ---- on a desk that tells the whole state
 -- no slot is cached for the heap and the class
 abbrev pub HasNoneCached : ℕ → ℕ → List Slots → Type 0
-HasNoneCached heap class locals = (slots : Slots) → local_for heap class locals ≡ Some slots → IsSome slots.starts → ⊥
+HasNoneCached heap class locals = (slots : Slots) → local_for heap class locals ≡ Some slots → HasMember slots.starts → ⊥
 
 -- Where the request is refused, no slot was cached and no page could serve at entry, nor can one at exit, and the reason is true at exit. So a
 -- request is served wherever a slot is cached, an offered page fits or a page has no deed.

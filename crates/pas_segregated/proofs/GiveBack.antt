@@ -4,7 +4,7 @@ use Rattle.std.proofs.lemmas.Bool.{and_right, eqb-true}
 use Rattle.std.specs.Option.{is_some}
 use Rattle.pas_profile.specs.declared.directory.Directory.{Directory}
 use Rattle.pas_bits.specs.declared.mask.Mask4.{Mask4}
-use Rattle.pas_bits.specs.Masks.{is_set, AreClear, IsLowestSet}
+use Rattle.pas_bits.specs.Masks.{is_set, AreClear, IsLowestSet, IsEmpty, HasMember}
 use Rattle.pas_steps.specs.Agreement.{Agreed}
 use Rattle.pas_steps.specs.Calls.{Calls, Kept, Lost, later, put, ClearAfter, Does}
 use Rattle.pas_steps.specs.Clear.{IsClearOn}
@@ -20,15 +20,8 @@ use Rattle.pas_steps.proofs.Kept.{returns_on}
 use Rattle.pas_steps.proofs.Past.{always_both}
 use Rattle.pas_rights.specs.Puts.{masked, PutsMask}
 use Rattle.pas_rights.specs.Returns.{Settles, Returned}
-use Rattle.pas_segregated.specs.Masks.{IsEmpty, IsSome}
 use Rattle.pas_segregated.specs.Returns.{MayGiveBack, giving_back, given_back, GivesBack}
 use Rattle.pas_segregated.proofs.TakesOnce.{keeps_by, return_keeps}
-
-pub is_empty_by : (mask : Mask4) (o : Option ℕ) → MatchOption o (AreClear mask 0 256) (λ g. IsLowestSet mask 0 g) → (t : Bool) → is_some o ≡ not t → MatchBool t (IsEmpty mask) (IsSome mask)
-is_empty_by mask None clear true e = λ g lt. clear g (omega arith) lt
-is_empty_by mask None clear false e = cc
-is_empty_by mask (Some g) low true e = cc
-is_empty_by mask (Some g) low false e = (g, low.within, low.set)
 
 -- the grains of a mask that has none
 none_masked : (page : ℕ) (mask : Mask4) (g : ℕ) → IsEmpty mask → masked page mask g ≡ false
@@ -75,7 +68,7 @@ module _ {σ : Standing} (page : ℕ) (d : Directory) (mask : Mask4) where
           (return_keeps σ.seat.profile page d ret.steps (puts.steps ++ v) ret.order (agreed_first σ.seat.profile v ret.steps puts.steps agreed) (rights_same (Putting ∷ []) refl page puts.steps v puts.kinds ∙ right))
           (keeps_by page (Putting ∷ []) puts.steps refl puts.kinds)
 
-      pub gives_some : IsSome mask → GivesBack page d mask σ σ2
+      pub gives_some : HasMember mask → GivesBack page d mask σ σ2
       gives_some some = record {
         steps = ret.steps ++ puts.steps;
         calls = call_then (Does (given_back (masked page mask))) put_call ret.calls (λ v met does. knows_still v met)

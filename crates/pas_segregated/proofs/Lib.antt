@@ -1,9 +1,8 @@
-pub mod Bits
 pub mod Starts
-pub mod TakesOnce
-pub mod GiveBack
-pub mod StopSlots
-pub mod FourTakes
-pub mod WholeSlots
-pub mod Serve
-pub mod Refilled
+mod TakesOnce
+mod GiveBack
+mod StopSlots
+mod FourTakes
+mod WholeSlots
+mod Serve
+mod Refilled

@@ -10,7 +10,7 @@ use Rattle.pas_profile.specs.declared.event.Event.{Event}
 use Rattle.pas_profile.proofs.Codecs.{deed_word_of-positive}
 use Rattle.pas_profile.proofs.ClassFacts.{class_grains_positive, slot_lt}
 use Rattle.pas_bits.specs.declared.mask.Mask4.{Mask4}
-use Rattle.pas_bits.specs.Masks.{is_set}
+use Rattle.pas_bits.specs.Masks.{is_set, IsEmpty, HasMember}
 use Rattle.pas_rights.specs.Leaves.{MayLeave, LosesHere, Leaves}
 use Rattle.pas_rights.proofs.Debts.{leave_lacks}
 use Rattle.pas_steps.specs.Views.{View, holds, holds_on, has_right, known_deed, knows_backed, KnowsDeed}
@@ -35,29 +35,11 @@ use Rattle.pas_steps.proofs.Kept.{looks_read, right_reads, returns_on}
 use Rattle.pas_steps.proofs.Past.{once_later, always_both, always_map}
 use Rattle.pas_search.specs.Kinds.{serving, IsQuiet, AreQuiet}
 use Rattle.pas_search.specs.Serving.{MayServe, HoldsNone, IsUntouched, GotBefore, right_of, served, Keeps, LeavesPage, KeepsPage, ServeSteps, ServesPage}
-use Rattle.pas_segregated.specs.Masks.{start_of, IsEmpty, IsSome}
+use Rattle.pas_search.proofs.ForBackEnds.{unfit_left}
+use Rattle.pas_segregated.specs.Masks.{start_of}
 use Rattle.pas_segregated.specs.Takes.{in_starts, slots_on, GetsGrains, NoSlot, taking_slots, TakesSlots, exclusive}
 use Rattle.pas_segregated.proofs.Starts.{start_at, start_below}
 use Rattle.pas_segregated.proofs.GiveBack.{kept_kept}
-
--- ---- a page on which nothing fits is left
-since_looks : (P : Made → List Made → Type 0) (page : ℕ) (ys xs : List Made) → AreLooks ys → has_right xs page ≡ true → Since P (KeptHere page) xs → Since P (KeptHere page) (ys ++ xs)
-since_looks P page [] xs looks right h = h
-since_looks P page (y ∷ ys) xs looks right h = inr (right_reads page ys xs (looks_read ys looks.1) ∙ right, since_looks P page ys xs looks.1 right h)
-
--- the right was kept from one reading of the free words on, which shows no fit
-unfit_left : (no_fit : Readings → Type 0) (page : ℕ) (ys xs : List Made) → Once (LosesHere page) ys → has_right xs page ≡ true → Once (GetsHere page) xs → (r : Readings) → no_fit r → ((word : ℕ) → word < 4 → Since (ShowsHere page word r) (KeptHere page) xs)
-    → Once (UnfitHere no_fit page) (ys ++ xs)
-unfit_left no_fit page [] xs left right got r none read = absurd left
-unfit_left no_fit page (y ∷ ys) xs (inl h) right got r none read = inl (record {
-  left = h.0;
-  kept = right_reads page ys xs (looks_read ys h.1) ∙ right;
-  got = once_later (GetsHere page) ys xs got;
-  readings = r;
-  none = none;
-  read = λ word lt. since_looks (ShowsHere page word r) page ys xs h.1 right (read word lt);
-})
-unfit_left no_fit page (y ∷ ys) xs (inr h) right got r none read = inr (unfit_left no_fit page ys xs h right got r none read)
 
 since_once : (P Q : Made → List Made → Type 0) (xs : List Made) → Since P Q xs → Once P xs
 since_once P Q [] h = h
@@ -68,7 +50,7 @@ since_once P Q (x ∷ xs) (inr h) = inr (since_once P Q xs h.1)
 pub class_of : (class : ℕ) (d : Directory) → IsKind d.kind → d.kind ≡ Kind.Class class → IsClass class
 class_of class d known same = subst IsKind same known
 
-not_empty : (starts : Mask4) → IsEmpty starts → IsSome starts → ⊥
+not_empty : (starts : Mask4) → IsEmpty starts → HasMember starts → ⊥
 not_empty starts empty some = true≢false (sym some.2 ∙ empty some.0 some.1)
 
 at_most_one : (t : Bool) (e : Event) (es : List Event) → es ≡ [] → length (with_event (if t then Some e else None) es) ≤ 1
@@ -135,7 +117,7 @@ module _ (class page : ℕ) (d : Directory) (is : IsClass class) (starts : Mask4
     }
 
   -- ---- some slot is whole
-  module _ (some : IsSome starts) where
+  module _ (some : HasMember starts) where
     first_slot_is : IsSlotStart class some.0
     first_slot_is = ((took.are some.0).0 some.2).0
 

@@ -5,7 +5,7 @@ use Rattle.pas_profile.specs.Classes.{IsClass, class_grains, usable_grains, is_u
 use Rattle.pas_profile.specs.declared.directory.Directory.{Directory}
 use Rattle.pas_profile.proofs.ClassFacts.{class_grains_le, usable_grains_le, first_slot}
 use Rattle.pas_bits.specs.declared.mask.Mask4.{Mask4}
-use Rattle.pas_bits.specs.Masks.{is_set, AreSet}
+use Rattle.pas_bits.specs.Masks.{is_set, AreSet, IsEmpty, HasMember}
 use Rattle.pas_rights.specs.Puts.{masked}
 use Rattle.pas_steps.specs.Views.{View, holds, has_right, known_free, KnowsDeed}
 use Rattle.pas_steps.specs.Agreement.{Agreed}
@@ -23,7 +23,7 @@ use Rattle.pas_steps.proofs.Called.{call_as, call_then, next_call}
 use Rattle.pas_steps.proofs.Frames.{rights_stay}
 use Rattle.pas_steps.proofs.Past.{always_both}
 use Rattle.pas_search.specs.Serving.{MayServe, HoldsNone, IsJustGot, GotBefore, ReadsNoneHeld}
-use Rattle.pas_segregated.specs.Masks.{start_of, IsEmpty, IsSome}
+use Rattle.pas_segregated.specs.Masks.{start_of}
 use Rattle.pas_segregated.specs.Returns.{MayGiveBack, giving_back, given_back, GivesBack}
 use Rattle.pas_segregated.specs.Takes.{four_takes, GetsGrains, taken, TakesUsable, AreFreeSlots, in_starts, slots_on, takes_since, taking_slots, TakesSlots}
 use Rattle.pas_segregated.proofs.Starts.{start_below}

@@ -12,7 +12,8 @@ use Rattle.pas_steps.specs.declared.step.Made.{Made}
 use Rattle.pas_search.specs.Kinds.{EventsAt}
 use Rattle.pas_search.specs.Searches.{MaySearch, FromOffered, ByDeed, FewEvents, Searches}
 use Rattle.pas_search.specs.declared.serving.Served.{Served}
-use Rattle.pas_segregated.specs.Masks.{AreStarts, IsSome}
+use Rattle.pas_segregated.specs.Masks.{AreStarts}
+use Rattle.pas_bits.specs.Masks.{HasMember}
 use Rattle.pas_segregated.specs.Takes.{TookSlots, exclusive}
 use Rattle.pas_segregated.specs.Stops.{class_directory, directory_of, in_slots, MayStopAt}
 use Rattle.pas_segregated.specs.declared.slots.Slots.{Slots}
@@ -47,7 +48,7 @@ pub record GivesSlots (f : Profile) (d : Directory) (steps : List Made) (slots :
   pub named : directory_of slots ≡ d
   pub with_right : slots.right ≡ true
   pub starts : AreStarts slots.class slots.starts
-  pub some : IsSome slots.starts
+  pub some : HasMember slots.starts
   pub took : TookSlots slots.class slots.page steps slots.starts
   pub gets : Leads f (MaySearch d) (GetsSlots d slots) steps
   pub choice : FromOffered (exclusive slots.class) d slots.page steps ⊎ ByDeed (exclusive slots.class) f d slots.page steps

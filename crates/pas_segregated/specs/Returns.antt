@@ -11,7 +11,7 @@ use Rattle.pas_steps.specs.Frames.{OnlyOn, KeepsRight}
 use Rattle.pas_steps.specs.Kinds.{Kinds, Putting, Only, returning}
 use Rattle.pas_steps.specs.Views.{View, has_right, KnowsDeed}
 use Rattle.pas_steps.specs.declared.step.Made.{Made}
-use Rattle.pas_segregated.specs.Masks.{IsEmpty, IsSome}
+use Rattle.pas_bits.specs.Masks.{IsEmpty, HasMember}
 
 -- ---- what follows puts
 pub record MayGiveBack (page : ℕ) (directory : Directory) (mask : Mask4) (v : View) : Type 0 where
@@ -22,7 +22,7 @@ pub record MayGiveBack (page : ℕ) (directory : Directory) (mask : Mask4) (v : 
 abbrev pub BackSteps : ℕ → Directory → Mask4 → List Made → Type 0
 BackSteps page directory mask steps =
     (IsEmpty mask × (steps ≡ []))
-    ⊎ (IsSome mask × (puts : List Made) × (after : List Made) × PutsBelow page mask 4 puts × ReturnSteps page directory after × (steps ≡ after ++ puts))
+    ⊎ (HasMember mask × (puts : List Made) × (after : List Made) × PutsBelow page mask 4 puts × ReturnSteps page directory after × (steps ≡ after ++ puts))
 
 abbrev pub giving_back : Kinds
 giving_back = Putting ∷ returning

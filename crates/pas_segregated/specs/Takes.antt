@@ -5,7 +5,7 @@ use Rattle.pas_profile.specs.declared.directory.Directory.{Directory}
 use Rattle.pas_profile.specs.declared.directory.Kind.TheVariants as Kind
 use Rattle.pas_profile.specs.declared.profile.Profile.{Profile}
 use Rattle.pas_bits.specs.declared.mask.Mask4.{Mask4}
-use Rattle.pas_bits.specs.Masks.{is_set}
+use Rattle.pas_bits.specs.Masks.{is_set, IsEmpty, HasMember}
 use Rattle.pas_rights.specs.Puts.{masked}
 use Rattle.pas_steps.specs.Views.{View, holds, has_right, known_free}
 use Rattle.pas_steps.specs.Agreement.{Agreed}
@@ -19,7 +19,7 @@ use Rattle.pas_steps.specs.declared.step.Step.{Step}
 use Rattle.pas_steps.specs.declared.step.Step.TheVariants.{Look, Deed, Back, Take, Put, Give, End, TakeRight, Offer, Park, Unpark, Stamp, Hint, Tick, Unback, Unhint}
 use Rattle.pas_steps.specs.Evidence.{Readings, ShowsHere, KeptHere}
 use Rattle.pas_search.specs.Serving.{Rule, MayServe, HoldsNone, IsJustGot, GotBefore, ReadsNoneHeld, IsAntitone}
-use Rattle.pas_segregated.specs.Masks.{start_of, IsEmpty, IsSome}
+use Rattle.pas_segregated.specs.Masks.{start_of}
 use Rattle.pas_segregated.specs.Returns.{giving_back}
 
 -- ---- four takes
@@ -105,7 +105,7 @@ pub record TookSlots (class page : ℕ) (steps : List Made) (starts : Mask4) : T
   pub answers : Mask4
   pub takes : takes_since page steps ≡ four_takes page usable answers
   pub are : AreFreeSlots class (is_set answers) starts
-  pub some : IsSome starts
+  pub some : HasMember starts
 
 abbrev pub taking_slots : Kinds
 taking_slots = Taking ∷ giving_back
@@ -123,7 +123,7 @@ pub record TakesSlots (class page : ℕ) (d : Directory) (desk desk' : Standing)
   pub answers : Mask4
   pub are : AreFreeSlots class (is_set answers) starts
   pub held : Leads desk.seat.profile (MayServe page d) (ReadsNoneHeld page (is_set answers)) steps
-  pub all_free : (v : View) → Agreed desk.seat.profile v steps → ((g : ℕ) → g / 256 ≡ page → known_free v g ≡ true) → IsSome starts
+  pub all_free : (v : View) → Agreed desk.seat.profile v steps → ((g : ℕ) → g / 256 ≡ page → known_free v g ≡ true) → HasMember starts
   pub keeps : KeepsRight page steps
   pub takes : (before : List Made) → IsJustGot page before → takes_since page (steps ++ before) ≡ four_takes page usable answers
   pub read : (before : List Made) → GotBefore page before → (word : ℕ) → word < 4 → Since (ShowsHere page word (is_set answers)) (KeptHere page) (steps ++ before)

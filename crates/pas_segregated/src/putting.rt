@@ -1,21 +1,13 @@
 //! Grains of one page are put back.
-ghost use Rattle.std.specs.Prelude.{◌≡◌, MatchBool};
+ghost use Rattle.std.specs.Prelude.{◌≡◌};
 ghost use Rattle.pas_profile.specs.Profiles.{IsPage, IsDirectoryOf};
 ghost use Rattle.pas_steps.specs.Desks.{CanCall};
-ghost use Rattle.pas_segregated.specs.Masks.{IsEmpty, IsSome};
 ghost use Rattle.pas_segregated.specs.Returns.{MayGiveBack, GivesBack};
 
 use pas_bits::Mask4;
 use pas_profile::Directory;
 use pas_rights::{put_mask, returned};
 use pas_steps::Desk;
-
-/// Whether no bit of the mask is set.
-pub fn is_empty(mask: &Mask4) -> bool
-    ensures { MatchBool result (IsEmpty mask.now) (IsSome mask.now) }
-{
-    mask.first_set_from(0).is_none()
-}
 
 /// Puts the mask's grains of a page back, whose deed is known as the directory, and then does what `returned` does.
 ///
@@ -27,7 +19,7 @@ pub fn give_back<D: Desk>(desk: &mut D, page: u32, directory: Directory, mask: &
     ensures gives { GivesBack page directory mask.now (D.standing desk.old) (D.standing desk.new) }
     ensures home { D.home desk.new ≡ D.home desk.old }
 {
-    if is_empty(mask) {
+    if mask.is_empty() {
         return;
     }
     put_mask(desk, page, mask);

@@ -7,7 +7,6 @@ ghost use Rattle.pas_steps.specs.Views.{has_right};
 ghost use Rattle.pas_search.specs.Serving.{MayServe};
 ghost use Rattle.pas_segregated.specs.Takes.{TakesUsable, TakesSlots};
 
-use crate::masks::both;
 use crate::putting::give_back;
 use crate::slots::{covered, whole_slots};
 use pas_bits::Mask4;
@@ -29,7 +28,7 @@ fn take_usable<D: Desk>(desk: &mut D, page: u32, class: u8) -> Mask4
         desk.take(page, 2, usable.0[2]),
         desk.take(page, 3, usable.0[3]),
     ]);
-    both(&read, &usable)
+    read.both(&usable)
 }
 
 /// Takes all free slots of the page, and answers their first grains. Grains of incomplete slots are put back.
@@ -43,7 +42,7 @@ pub fn take_slots<D: Desk>(desk: &mut D, page: u32, directory: Directory, class:
 {
     let got = take_usable(desk, page, class);
     let starts = whole_slots(&got, class);
-    let rest = both(&got, &covered(&starts, class).complement());
+    let rest = got.both(&covered(&starts, class).complement());
     give_back(desk, page, directory, &rest);
     starts
 }

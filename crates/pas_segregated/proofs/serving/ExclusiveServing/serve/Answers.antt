@@ -1,5 +1,5 @@
 use Rattle.std.proofs.lemmas.Bool.{MatchBool-at_true, MatchBool-at_false}
-use Rattle.pas_segregated.specs.Masks.{IsEmpty, IsSome}
+use Rattle.pas_bits.specs.Masks.{IsEmpty, HasMember}
 use Rattle.pas_segregated.specs.Takes.{taking_slots}
 use Rattle.pas_segregated.proofs.Serve.{class_of, quiet_by, can_leave, leaves_page, can_back, keeps_page}
 use Rattle.pas_search.proofs.KindsAndEvents.{room_kept}
@@ -11,12 +11,12 @@ leave-requires-clause-can g c = can_leave c.args.self.now.class c.args.page c.ar
 pub returns-then-is_empty-clause-serves : goal.returns-then-is_empty-clause-serves
 returns-then-is_empty-clause-serves g c = let starts = c.take_slots-starts.result in
     leaves_page c.args.self.now.class c.args.page c.args.directory (class_of c.args.self.now.class c.args.directory c.requires.directory.kind c.requires.suits) starts c.take_slots-starts.ensures.takes
-    (MatchBool-at_true (IsEmpty starts) (IsSome starts) c.if-is_empty.true c.is_empty.ensures) c.leave.ensures.leaves
+    (MatchBool-at_true (IsEmpty starts) (HasMember starts) c.if-is_empty.true c.is_empty.ensures) c.leave.ensures.leaves
 
 pub back-requires-clause-can : goal.back-requires-clause-can
 back-requires-clause-can g c = let starts = c.take_slots-starts.result in
     can_back c.args.self.now.class c.args.page c.args.directory (class_of c.args.self.now.class c.args.directory c.requires.directory.kind c.requires.suits) starts c.take_slots-starts.ensures.takes
-    (MatchBool-at_false (IsEmpty starts) (IsSome starts) c.if-is_empty.false c.is_empty.ensures) c.requires.can c.requires.page
+    (MatchBool-at_false (IsEmpty starts) (HasMember starts) c.if-is_empty.false c.is_empty.ensures) c.requires.can c.requires.page
 
 pub back-requires-clause-room : goal.back-requires-clause-room
 back-requires-clause-room g c = let t = c.take_slots-starts.ensures.takes in
@@ -25,4 +25,4 @@ back-requires-clause-room g c = let t = c.take_slots-starts.ensures.takes in
 pub returns-clause-serves : goal.returns-clause-serves
 returns-clause-serves g c = let starts = c.take_slots-starts.result in
     keeps_page c.args.self.now.class c.args.page c.args.directory (class_of c.args.self.now.class c.args.directory c.requires.directory.kind c.requires.suits) starts c.take_slots-starts.ensures.takes
-    (MatchBool-at_false (IsEmpty starts) (IsSome starts) c.if-is_empty.false c.is_empty.ensures) c.back.result c.back.ensures.makes
+    (MatchBool-at_false (IsEmpty starts) (HasMember starts) c.if-is_empty.false c.is_empty.ensures) c.back.result c.back.ensures.makes

@@ -1,13 +1,13 @@
 use Rattle.std.proofs.Common.{◌-◌, ◌≤◌}
-use Rattle.pas_segregated.proofs.Bits.{AreNear}
-use Rattle.pas_segregated.proofs.masks.spread.Given as goal
+use Rattle.pas_bits.proofs.MovedMasks.{BeginRuns}
+use Rattle.pas_bits.proofs.mask.Mask4.runs.Given as goal
 
--- the bits are spread over this length
+-- runs of this length begin there
 abbrev pub invariant-loop-length : goal.invariant-loop-length
 invariant-loop-length l = record {
   some : 1 ≤ l.length;
   most : l.length ≤ l.grains;
-  so_far : AreNear l.mask l.length l.spread;
+  so_far : BeginRuns l.self l.length l.runs;
 }
 
 abbrev pub decreases-loop-length : goal.decreases-loop-length

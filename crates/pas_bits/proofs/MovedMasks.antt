@@ -8,10 +8,8 @@ use Rattle.std.proofs.lemmas.Nat.{div-add-mod', shr-shr, pow_pos}
 use Rattle.std.proofs.lemmas.Nat.Bits.{bit_at-zero, bit_at_above, bit_at_cat_low, bit_at_cat_high}
 use Rattle.pas_profile.specs.Classes.{has_bit}
 use Rattle.pas_bits.specs.declared.mask.Mask4.{Mask4}
-use Rattle.pas_bits.specs.Masks.{is_set, AreSet}
-use Rattle.pas_bits.proofs.Words.{is_zero, none_of_zero, bit_of_and, at_word, none_past, four_words}
-use Rattle.pas_scan.proofs.PageBits.{bit_set}
-use Rattle.pas_segregated.specs.Masks.{bit_of_two, IsNear}
+use Rattle.pas_bits.specs.Masks.{is_set, AreSet, IsNear, bit_of_two}
+use Rattle.pas_bits.proofs.Words.{is_zero, none_of_zero, bit_of_and, bit_of_or, at_word, none_past, four_words}
 
 -- ---- bits of a word that was moved
 bit_of_mod : (n w i : ℕ) → i < w → bit_at (n % 2 ^ w) i ≡ bit_at n i
@@ -35,7 +33,7 @@ or_none false y h = h
 
 -- 64 bits of two words, from one of the lower word's on
 pub window_bit : (low high from b : ℕ) → low < 2 ^ 64 → 1 ≤ from → from < 64 → b < 64 → has_bit (bit_or (low / 2 ^ from) (high * 2 ^ (64 - from) % 2 ^ 64)) b ≡ bit_of_two low high (b + from)
-window_bit low high from b fits some few h = bit_set (low / 2 ^ from) (high * 2 ^ (64 - from) % 2 ^ 64) b ∙ elim (cases_lt (b + from) 64) [
+window_bit low high from b fits some few h = bit_of_or (low / 2 ^ from) (high * 2 ^ (64 - from) % 2 ^ 64) b ∙ elim (cases_lt (b + from) 64) [
   | inl lt ↦
       or_none (has_bit (low / 2 ^ from) b) (has_bit (high * 2 ^ (64 - from) % 2 ^ 64) b) (shifted_below high (64 - from) b h (omega (arith, lt)))
       ∙ shifted_down low from b ∙ ap (has_bit low) (omega arith)
@@ -125,7 +123,7 @@ both_are m n long g =
 
 pub either_is : (m n : Mask4) → length m.0 ≡ 4 → length n.0 ≡ 4 → (g : ℕ) → is_set (four (bit_or (slice_index m.0 0) (slice_index n.0 0)) (bit_or (slice_index m.0 1) (slice_index n.0 1)) (bit_or (slice_index m.0 2) (slice_index n.0 2)) (bit_or (slice_index m.0 3) (slice_index n.0 3))) g ≡ (is_set m g || is_set n g)
 either_is m n long_m long_n g =
-    let word = λ (w x : ℕ) (h : x < 64). bit_set (slice_index m.0 w) (slice_index n.0 w) x ∙ ap (λ t. t || has_bit (slice_index n.0 w) x) (sym (at_word m w x h)) ∙ ap (λ t. is_set m (64 * w + x) || t) (sym (at_word n w x h)) in
+    let word = λ (w x : ℕ) (h : x < 64). bit_of_or (slice_index m.0 w) (slice_index n.0 w) x ∙ ap (λ t. t || has_bit (slice_index n.0 w) x) (sym (at_word m w x h)) ∙ ap (λ t. is_set m (64 * w + x) || t) (sym (at_word n w x h)) in
     let a = bit_or (slice_index m.0 0) (slice_index n.0 0) in let b = bit_or (slice_index m.0 1) (slice_index n.0 1) in let c = bit_or (slice_index m.0 2) (slice_index n.0 2) in let d = bit_or (slice_index m.0 3) (slice_index n.0 3) in
     elim (cases_lt g 256) [
       | inl lt ↦ four_words a b c d (λ x. is_set m x || is_set n x) (word 0) (word 1) (word 2) (word 3) g lt
