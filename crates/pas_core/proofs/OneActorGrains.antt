@@ -14,9 +14,10 @@ use Rattle.pas_steps.specs.Lists.{Whole, part, word_after, Legal}
 use Rattle.pas_steps.specs.Desks.{triple, triples}
 use Rattle.pas_steps.specs.Past.{Once, Always}
 use Rattle.pas_steps.specs.Events.{event_of}
-use Rattle.pas_steps.specs.Kinds.{kind_of, is_in, lending}
+use Rattle.pas_steps.specs.Kinds.{Kinds, kind_of, place_of, is_in, apart, Only, lending}
 use Rattle.pas_profile.specs.declared.event.Event.{Event}
-use Rattle.pas_steps.proofs.Past.{since_once}
+use Rattle.pas_steps.proofs.Apart.{in_apart}
+use Rattle.pas_steps.proofs.Past.{since_once, always_map}
 use Rattle.pas_core.specs.Rights.{free_of_page}
 use Rattle.pas_steps.specs.declared.step.Step.{Step}
 use Rattle.pas_steps.specs.declared.step.Made.{Made}
@@ -49,6 +50,9 @@ plain_move s a g h = tt
 -- no block is given or ended
 abbrev pub LendsNone : List Made → Type 0
 LendsNone = Always (λ m before. is_in lending (kind_of m.step) ≡ false)
+
+pub lends_none : (ks : Kinds) → apart ks lending ≡ true → (xs : List Made) → Only ks xs → LendsNone xs
+lends_none ks w xs = always_map (λ m before. is_in ks (kind_of m.step) ≡ true) (λ m before. is_in lending (kind_of m.step) ≡ false) xs (λ m before is. in_apart ks lending (place_of (kind_of m.step)) w is)
 
 abbrev bit_of : Whole → ℕ → Bool
 bit_of l g = has_bit (word_after l (free_word_at g)) (g % 64)

@@ -4,7 +4,8 @@ use Rattle.pas_profile.specs.Classes.{has_bit}
 use Rattle.pas_profile.specs.Directories.{number_of}
 use Rattle.pas_profile.specs.Layouts.{same_word}
 use Rattle.pas_profile.specs.declared.word.Word.{Word}
-use Rattle.pas_steps.specs.Effects.{target, new_value, page_mask}
+use Rattle.pas_bits.specs.PageVectors.{page_mask}
+use Rattle.pas_steps.specs.Effects.{target, new_value}
 use Rattle.pas_steps.specs.Views.{epoch_of}
 use Rattle.pas_steps.specs.Lists.{Whole, part, word_after}
 use Rattle.pas_steps.specs.Desks.{triples}

@@ -8,11 +8,11 @@ use Rattle.pas_profile.specs.declared.profile.Profile.{Profile}
 use Rattle.pas_profile.specs.declared.word.Word.{Word}
 use Rattle.pas_profile.specs.Runs.{in_run, meets_page, grain_of}
 use Rattle.pas_steps.specs.Agreement.{Agrees, Agreed}
-use Rattle.pas_steps.specs.Calls.{Leads, AnyView, Fate, Kept, Gained, Lost, now, later, Effect, nothing, put, freed, on_page, and_then, ClearAfter, Bears, Does, grain_fate, way_fate, opens, step_effect}
+use Rattle.pas_steps.specs.Calls.{Leads, AnyView, Fate, Kept, Gained, Lost, now, later, Effect, nothing, put, freed, on_page, and_then, ClearAfter, Bears, Does, grain_fate, way_fate, right_fate, opens, step_effect}
 use Rattle.pas_steps.specs.Clear.{IsClearOn, IsClear}
 use Rattle.pas_steps.specs.Desks.{Seat, Standing, made, CanCall, Adds}
 use Rattle.pas_steps.specs.Effects.{in_mask}
-use Rattle.pas_steps.specs.Views.{View, Move, Stays, Puts, Ends, grain_move, held_after, holds, Way, ByDeed, way, had_after, has_right, known_deed, unstamped_after, is_unstamped, no_usable, check_after, owes_check, all_ones, hint_after, owes_hint, examined_after, examines, knows_backed}
+use Rattle.pas_steps.specs.Views.{View, Move, Stays, Puts, Ends, grain_move, held_after, holds, Way, ByDeed, way, had_after, right_after, has_right, known_deed, unstamped_after, is_unstamped, no_usable, check_after, owes_check, all_ones, hint_after, owes_hint, examined_after, examines, knows_backed}
 use Rattle.pas_steps.specs.declared.step.Made.{Made}
 use Rattle.pas_steps.specs.declared.step.Step.{Step}
 use Rattle.pas_steps.specs.declared.step.Step.TheVariants.{Look, Deed, Take, Put, Give, End, TakeRight, Offer, Park, Unpark, Stamp, Hint, Unback, Unhint}
@@ -126,13 +126,16 @@ pub still_backed_all : {v w : View} (page : ℕ) → Does nothing v w → knows_
 still_backed_all {v} {w} page does h = let some = bears_some v page h in subst (λ q. knows_backed w q ≡ true) some.1 (does.backed some.0 refl some.2).backed
 
 -- ---- one step
-fate_is : (m : Move) (had : Bool) → held_after m had ≡ now (grain_fate m) had
+pub fate_is : (m : Move) (had : Bool) → held_after m had ≡ now (grain_fate m) had
 fate_is (Ends b) had = refl
 fate_is s had = refl
 
 had_is : (w : Way) (had : Bool) → had_after w had ≡ now (way_fate w) had
 had_is ByDeed had = refl
 had_is w had = refl
+
+pub right_is : (s : Step) (a p : ℕ) (had : Bool) → right_after s a p had ≡ now (right_fate s a p) had
+right_is s a p had = had_is (way s a p) had
 
 ends_none : (t owed : Bool) → owed ≡ false → (if t then false else owed) ≡ false
 ends_none true owed h = refl

@@ -101,6 +101,9 @@ way_fate FromParked = Gained
 way_fate (ToOffer number) = Lost
 way_fate ToParked = Lost
 
+abbrev pub right_fate : Step → ℕ → ℕ → Fate
+right_fate step a page = way_fate (way step a page)
+
 -- the page may be clear no longer
 abbrev pub opens : Step → ℕ → ℕ → Bool
 opens (Look word) a page = false
@@ -121,4 +124,4 @@ opens (Unback q) a page = false
 opens (Unhint q) a page = q == page
 
 abbrev pub step_effect : Step → ℕ → Effect
-step_effect s a = record { grains = λ x. grain_fate (grain_move s a x); rights = λ page. way_fate (way s a page); clears = λ page. if opens s a page then Lost else Kept }
+step_effect s a = record { grains = λ x. grain_fate (grain_move s a x); rights = λ page. right_fate s a page; clears = λ page. if opens s a page then Lost else Kept }
