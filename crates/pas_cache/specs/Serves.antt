@@ -15,7 +15,7 @@ use Rattle.pas_steps.specs.Events.{events_by}
 use Rattle.pas_steps.specs.Agreement.{Agreed}
 use Rattle.pas_steps.specs.Lists.{Whole}
 use Rattle.pas_steps.specs.declared.step.Made.{Made}
-use Rattle.pas_search.specs.Kinds.{OnlySearches}
+use Rattle.pas_search.specs.Kinds.{AreSearch}
 use Rattle.pas_search.specs.Searches.{IsRefused}
 use Rattle.pas_search.specs.Telling.{HasNoFit, IsTrueReason}
 use Rattle.pas_bits.specs.Masks.{HasMember}
@@ -52,7 +52,7 @@ pub record GivesCached (heap class : ℕ) (locals locals' : List Slots) (steps :
 
 -- the steps of a refill, and the slots that it got
 pub record IsRefill (heap class : ℕ) (f : Profile) (steps : List Made) (found : Result Slots NoRoom) : Type 0 where
-  pub searches : OnlySearches steps
+  pub searches : AreSearch steps
   pub outcome : MatchResult found (GivesSlots f (class_directory heap class) steps) (IsRefused (exclusive class) f (class_directory heap class) steps)
 
 -- After the refill its lowest slot is given, and the rest is the new local allocator at the end. A refusal is that of the refill.
