@@ -1,17 +1,17 @@
 -- What a search of exclusive pages found, as slots.
-use Rattle.std.proofs.Common.{◌≡◌, ℕ, ◌/◌, ◌%◌, ◌==◌, Bool, true, false, if◌then◌else◌, ◌++◌, Ok, Err, refl, ap, sym, ◌∙◌, arith, true≢false}
+use Rattle.std.proofs.Common.{ℕ, ◌/◌, ◌%◌, ◌==◌, Bool, if◌then◌else◌, Ok, Err, refl, ap, sym, ◌∙◌, arith, true≢false}
 use Rattle.std.proofs.lemmas.Bool.{eq-eqb, eqb-true, and_parts, false_from_ne_true}
 use Rattle.pas_profile.specs.declared.event.NoRoom.{NoRoom}
 use Rattle.pas_bits.specs.declared.mask.Mask4.{Mask4}
 use Rattle.pas_bits.specs.Masks.{is_set}
 use Rattle.pas_steps.specs.Calls.{Kept, Gained, Leads, now}
-use Rattle.pas_steps.specs.Views.{View, holds, has_right}
+use Rattle.pas_steps.specs.Views.{holds, has_right}
 use Rattle.pas_steps.specs.Desks.{Standing}
-use Rattle.pas_search.specs.Searches.{MaySearch, KeepsFound, Searches}
+use Rattle.pas_search.specs.Searches.{MaySearch, Searches}
 use Rattle.pas_search.specs.declared.serving.Served.{Served}
 use Rattle.pas_segregated.specs.Masks.{AreStarts, start_of}
 use Rattle.pas_segregated.specs.Takes.{exclusive}
-use Rattle.pas_segregated.specs.Stops.{class_directory, in_slots}
+use Rattle.pas_segregated.specs.Stops.{class_directory}
 use Rattle.pas_segregated.specs.Refills.{slots_found, GetsSlots, Refills}
 
 module _ (heap class : ℕ) {tells : Bool} {σ σ' : Standing} (served : Served Mask4) (searches : Searches (exclusive class) tells (class_directory heap class) σ σ' (Ok served)) where

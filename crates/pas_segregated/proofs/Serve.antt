@@ -1,5 +1,5 @@
 -- The two ends of a page that was to serve: its slots are kept, or it was left.
-use Rattle.std.proofs.Common.{◌≡◌, ◌≢◌, ℕ, ◌+◌, ◌*◌, ◌/◌, ◌%◌, ◌<◌, ◌≤◌, ◌==◌, Bool, true, false, ◌&&◌, if◌then◌else◌, List, [], ◌∷◌, ◌++◌, length, None, Some, refl, ap, sym, ◌∙◌, subst, arith, inl, inr, append_assoc, length-append, true≢false}
+use Rattle.std.proofs.Common.{◌≡◌, ℕ, ◌+◌, ◌*◌, ◌/◌, ◌%◌, ◌≤◌, ◌==◌, Bool, true, false, if◌then◌else◌, List, [], ◌∷◌, ◌++◌, length, None, Some, refl, ap, sym, ◌∙◌, subst, arith, inl, inr, append_assoc, length-append, true≢false}
 use Rattle.std.proofs.lemmas.Bool.{eq-eqb, eqb-true, and_from, and_right}
 use Rattle.pas_profile.specs.Classes.{IsClass, IsSlotStart}
 use Rattle.pas_profile.specs.Directories.{IsKind}
@@ -11,16 +11,15 @@ use Rattle.pas_profile.proofs.Codecs.{deed_word_of-positive}
 use Rattle.pas_profile.proofs.ClassFacts.{class_grains_positive, slot_lt}
 use Rattle.pas_bits.specs.declared.mask.Mask4.{Mask4}
 use Rattle.pas_bits.specs.Masks.{is_set, IsEmpty, HasMember}
-use Rattle.pas_rights.specs.Leaves.{MayLeave, LosesHere, Leaves}
+use Rattle.pas_rights.specs.Leaves.{MayLeave, Leaves}
 use Rattle.pas_rights.proofs.Debts.{leave_lacks}
-use Rattle.pas_steps.specs.Views.{View, holds, holds_on, has_right, known_deed, knows_backed, KnowsDeed}
+use Rattle.pas_steps.specs.Views.{View, holds, holds_on, has_right, knows_backed, KnowsDeed}
 use Rattle.pas_steps.specs.Events.{with_event, events_by}
-use Rattle.pas_steps.specs.Allowed.{Allowed, HoldsOn}
-use Rattle.pas_steps.specs.Agreement.{Agreed}
-use Rattle.pas_steps.specs.Calls.{Calls, Kept, Gained, Lost, later, now, ClearAfter, Does}
+use Rattle.pas_steps.specs.Allowed.{Allowed}
+use Rattle.pas_steps.specs.Calls.{Calls, Kept, Gained, Lost, now, ClearAfter, Does}
 use Rattle.pas_steps.specs.Desks.{Standing, CanCall, made, Makes, CanMake}
-use Rattle.pas_steps.specs.Evidence.{Readings, ShowsHere, KeptHere, GetsHere, UnfitHere}
-use Rattle.pas_steps.specs.Frames.{AreLooks, IsOnPage}
+use Rattle.pas_steps.specs.Evidence.{ShowsHere, KeptHere, GetsHere, UnfitHere}
+use Rattle.pas_steps.specs.Frames.{IsOnPage}
 use Rattle.pas_steps.specs.Kinds.{Backing, Only, kind_of, place_of, is_in, showing, returning}
 use Rattle.pas_steps.specs.Past.{Once, Since}
 use Rattle.pas_steps.specs.declared.step.Made.{Made}
@@ -31,10 +30,10 @@ use Rattle.pas_steps.proofs.Backed.{any_from}
 use Rattle.pas_steps.proofs.Called.{call_then, call_knows, call_step, next_call, next_step}
 use Rattle.pas_steps.proofs.Calls.{does_then, does_as, does_idly, returns_are, kept_first}
 use Rattle.pas_steps.proofs.Frames.{rights_stay}
-use Rattle.pas_steps.proofs.Kept.{looks_read, right_reads, returns_on}
+use Rattle.pas_steps.proofs.Kept.{returns_on}
 use Rattle.pas_steps.proofs.Past.{once_later, always_both, always_map}
 use Rattle.pas_search.specs.Kinds.{serving, IsQuiet, AreQuiet}
-use Rattle.pas_search.specs.Serving.{MayServe, HoldsNone, IsUntouched, GotBefore, right_of, served, Keeps, LeavesPage, KeepsPage, ServeSteps, ServesPage}
+use Rattle.pas_search.specs.Serving.{MayServe, right_of, Keeps, KeepsPage, ServesPage}
 use Rattle.pas_search.proofs.ForBackEnds.{unfit_left}
 use Rattle.pas_segregated.specs.Masks.{start_of}
 use Rattle.pas_segregated.specs.Takes.{in_starts, slots_on, GetsGrains, NoSlot, taking_slots, TakesSlots, exclusive}

@@ -1,5 +1,5 @@
 -- Slots are given up.
-use Rattle.std.proofs.Common.{◌≡◌, ℕ, ◌/◌, ◌%◌, ◌==◌, Bool, true, false, ◌&&◌, if◌then◌else◌, List, [], ◌++◌, refl, ap, sym, ◌∙◌, subst, arith, inl, length-append}
+use Rattle.std.proofs.Common.{◌≡◌, ℕ, ◌/◌, ◌%◌, ◌==◌, Bool, true, false, ◌&&◌, if◌then◌else◌, [], ◌++◌, refl, ap, sym, ◌∙◌, subst, arith, inl, length-append}
 use Rattle.pas_profile.specs.declared.directory.Directory.{Directory}
 use Rattle.pas_bits.specs.declared.mask.Mask4.{Mask4}
 use Rattle.pas_steps.specs.Calls.{Calls, Kept, Lost, later, ClearAfter, Does}
@@ -7,7 +7,6 @@ use Rattle.pas_steps.specs.Desks.{Standing, CanCall}
 use Rattle.pas_steps.specs.Frames.{IsOnPage}
 use Rattle.pas_steps.specs.Kinds.{returning}
 use Rattle.pas_steps.specs.Views.{View, KnowsDeed}
-use Rattle.pas_steps.proofs.Adding.{adds_under}
 use Rattle.pas_steps.proofs.Apart.{only_within, only_both}
 use Rattle.pas_steps.proofs.Calls.{does_then, does_as, returns_are}
 use Rattle.pas_steps.proofs.Called.{call_as, call_then, call_knows, next_call}
