@@ -31,8 +31,7 @@ use Rattle.pas_free_log.specs.Flushes.{event_for, EndsEntry}
 use Rattle.pas_free_log.specs.declared.ending.Outcome.TheVariants.{Ended, Refused}
 use Rattle.pas_free_log.proofs.Blocks.{count_some}
 use Rattle.pas_free_log.proofs.Stamped.{stamps_append, no_stamps}
-use Rattle.pas_free_log.proofs.Tries.{first_look}
-use Rattle.pas_free_log.proofs.Idle.{AreIdle, trying, refusal, success, not_live, tries_idle}
+use Rattle.pas_free_log.proofs.Tries.{first_look, AreIdle, trying, refusal, success, not_live, tries_idle}
 
 -- the steps of an end: idle ones, and the last try
 abbrev pub ending_steps : Name → ℕ → ℕ → List Made → List Made

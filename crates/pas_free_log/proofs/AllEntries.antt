@@ -1,5 +1,5 @@
 -- All entries of a log.
-use Rattle.std.proofs.Common.{◌≡◌, ℕ, ◌+◌, ◌<◌, List, [], ◌∷◌, ◌++◌, Some, refl, ap, sym, ◌∙◌, append_assoc, take, get_or, length, subst}
+use Rattle.std.proofs.Common.{◌≡◌, ℕ, ◌+◌, ◌<◌, List, [], ◌∷◌, ◌++◌, Some, refl, ap, sym, ◌∙◌, append_assoc, take, get_or, length, subst, length-append, arith}
 use Rattle.std.specs.Prelude.{map, reverse}
 use Rattle.std.specs.List.{flat_map}
 use Rattle.std.proofs.lemmas.List.{append-nil, reverse-append, take_more}
@@ -22,6 +22,7 @@ use Rattle.pas_free_log.proofs.Stamped.{stamps_append}
 use Rattle.pas_steps.specs.Allowed.{IsEpochKnown}
 use Rattle.pas_steps.proofs.Calls.{still_clear}
 use Rattle.pas_free_log.specs.Conditions.{MayEnd}
+use Rattle.pas_free_log.proofs.StepCounts.{entries_few, settled_count}
 
 -- ---- one entry more
 pub events_more : (k epoch : ℕ) (entry : Settled) (settled : List Settled) (ys xs : List Made) → Only ending xs
@@ -72,5 +73,6 @@ flushed {σ} {σ'} epoch settled names entries names_are order calls kinds event
       kinds = only_both freeing entries look (only_within ending freeing entries refl kinds) (refl, tt);
       events = λ v. events_append σ.seat.actor entries look v ∙ append-nil (events_by σ.seat.actor (look ++ v) entries) ∙ events (look ++ v) refl;
       stamps = λ v. stamps_append v entries look ∙ append-nil (stamps_by (look ++ v) entries) ∙ stamps (look ++ v) refl;
+      few = (let few = entries_few epoch settled entries order in let n = length-append entries look in let count = settled_count settled names names_are in omega (arith, few, n, count));
       epoch_known = λ v. epoch_after_entries epoch entries v kinds;
     }
