@@ -1,5 +1,4 @@
 pub mod Starts
-mod TakesOnce
 mod GiveBack
 mod FourTakes
 mod WholeSlots

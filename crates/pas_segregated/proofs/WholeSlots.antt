@@ -28,7 +28,7 @@ use Rattle.pas_segregated.specs.Returns.{MayGiveBack, giving_back, GivesBack}
 use Rattle.pas_segregated.specs.Takes.{four_takes, GetsGrains, taken, TakesUsable, AreFreeSlots, in_starts, slots_on, takes_since, taking_slots, TakesSlots}
 use Rattle.pas_segregated.proofs.Starts.{start_below}
 use Rattle.pas_segregated.proofs.FourTakes.{takes_leave, held_unread, first_free, takes_read, takes_count}
-use Rattle.pas_segregated.proofs.TakesOnce.{back_count, none_yet, back_holds, same_after, keeps_by}
+use Rattle.pas_segregated.proofs.GiveBack.{back_count, none_yet, back_holds, same_after, keeps_by}
 
 -- the starts are those of the slots all of whose grains are in the mask
 abbrev pub AreWhole : ℕ → Mask4 → Mask4 → Type 0
