@@ -24,41 +24,17 @@ use Rattle.pas_report.specs.declared.record.Record.{Record}
 use Rattle.pas_report.specs.declared.record.Said.{Said}
 use Rattle.pas_report.specs.declared.records.Records.{Records}
 use Rattle.pas_cache.specs.Caches.{Cached, cached, AtRest}
-use Rattle.pas_replay.specs.Acts.{Act, Operates, Ends}
-use Rattle.pas_replay.specs.Answers.{Named, Caches, with_cache, standing_for, IsAnswered, records_of, said_by, Follows}
-use Rattle.pas_replay.specs.Calls.{Tells, HasTurns, IsKnown, owed_events, MayAnswer, Answers}
-use Rattle.pas_replay.specs.Fit.{is_asked, asked_after, IsFitWhat, AreFit, cost_of_what, costs_of, own_costs_of, ops_in, marks_in}
-use Rattle.pas_replay.specs.Names.{names_held}
+use Rattle.pas_answers.specs.Acts.{Act, Operates, Ends}
+use Rattle.pas_answers.specs.Answers.{Named, Caches, with_cache, standing_for, IsAnswered, records_of, said_by, Follows}
+use Rattle.pas_answers.specs.Calls.{Tells, HasTurns, IsKnown, owed_events, MayAnswer, Answers}
+use Rattle.pas_answers.specs.Fit.{is_asked, asked_after, IsFitWhat, AreFit, cost_of_what, costs_of, own_costs_of, ops_in, marks_in}
+use Rattle.pas_answers.specs.Names.{names_held}
+use Rattle.pas_answers.proofs.KnownNames.{AreKnown, known_after}
 use Rattle.pas_replay.specs.Sessions.{Turn, MaySit, SoFar, spare_at}
-use Rattle.pas_replay.specs.declared.names.Names.{Names}
+use Rattle.pas_answers.specs.declared.names.Names.{Names}
 use Rattle.pas_replay.specs.declared.seats.Thread.{Thread}
 use Rattle.pas_replay.proofs.Threads.{stands_at, cache_at, set_stands, set_caches, set_owed, owed_at}
 use Rattle.pas_replay.proofs.Turning.{Sits, sits, spare_is, desk_for, may_sit, its_pass, rises, other_stands}
-
--- ---- names
--- a name that was asked for stands for something
-abbrev pub AreKnown : List ℕ → List Named → Type 0
-AreKnown asked names = (n : ℕ) → is_asked asked n ≡ true → (block : Option Block) × (standing_for names n ≡ Some block)
-
-one_more : (t : Bool) (block : Option Block) (rest : Option (Option Block)) (old : Bool) → (old ≡ true → (b : Option Block) × (rest ≡ Some b)) → t || old ≡ true
-    → (b : Option Block) × ((if t then Some block else rest) ≡ Some b)
-one_more true block rest old known is = (block, refl)
-one_more false block rest old known is = known is
-
-same_names : (asked : List ℕ) {names names' : List Named} → names' ≡ names → AreKnown asked names → AreKnown asked names'
-same_names asked same known = subst (λ (ns : List Named). AreKnown asked ns) (sym same) known
-
-pub known_after : (f : Profile) (k : ℕ) (what : What) (asked : List ℕ) (names names' : List Named) (v : View) (c c' : Cached) (steps : List Made) (said : Option Said)
-    → IsAnswered f k what names v c steps said names' c' → AreKnown asked names → AreKnown (asked_after what asked) names'
-known_after f k (Alloc name heap size align) asked names names' l c c' steps said answered known = subst (λ (ns : List Named). AreKnown (name ∷ asked) ns) (sym answered.2)
-    (λ n is. one_more (name == n) answered.0 (standing_for names n) (is_asked asked n) (known n) is)
-known_after f k (Free name) asked names names' l c c' steps said answered known = same_names asked answered.1 known
-known_after f k (Raw block) asked names names' l c c' steps said answered known = same_names asked answered.1 known
-known_after f k Flush asked names names' l c c' steps said answered known = same_names asked answered.2 known
-known_after f k Stop asked names names' l c c' steps said answered known = same_names asked answered.2 known
-known_after f k (Tick e) asked names names' l c c' steps said answered known = absurd answered
-known_after f k Pass asked names names' l c c' steps said answered known = absurd answered
-known_after f k (Idle n) asked names names' l c c' steps said answered known = absurd answered
 
 -- ---- what an act costs
 -- this act is an operation of thread k

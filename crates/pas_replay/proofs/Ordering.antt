@@ -22,14 +22,14 @@ use Rattle.pas_report.specs.declared.record.Record.{Record}
 use Rattle.pas_report.specs.declared.records.Records.{Records}
 use Rattle.pas_cache.specs.Caches.{Cached, cached, AtRest}
 use Rattle.pas_cache.specs.Calls.{Begins}
-use Rattle.pas_replay.specs.Acts.{Act, Operates, Begins as Marks, Wakes, Closes, Ends, is_active, active_from, numbers_from, phase_acts, close_acts, acts_from, acts_of}
-use Rattle.pas_replay.specs.Answers.{with_cache, begun, Follows}
-use Rattle.pas_replay.specs.Calls.{owed_events}
-use Rattle.pas_replay.specs.Fit.{AreFit, costs_of, own_costs_of, ops_in, marks_in}
-use Rattle.pas_replay.specs.Names.{names_held}
-use Rattle.pas_replay.specs.Replays.{empty_caches}
+use Rattle.pas_answers.specs.Acts.{Act, Operates, MarksPhase as Marks, Wakes, MarksClose, Ends, is_active, active_from, numbers_from, phase_acts, close_acts, acts_from, acts_of}
+use Rattle.pas_answers.specs.Answers.{with_cache, begun, Follows}
+use Rattle.pas_answers.specs.Calls.{owed_events}
+use Rattle.pas_answers.specs.Fit.{AreFit, costs_of, own_costs_of, ops_in, marks_in}
+use Rattle.pas_answers.specs.Names.{names_held}
+use Rattle.pas_answers.specs.Replays.{empty_caches}
 use Rattle.pas_replay.specs.Sessions.{Turn, MaySit, SoFar, AreCaches, owed_from}
-use Rattle.pas_replay.specs.declared.names.Names.{Names}
+use Rattle.pas_answers.specs.declared.names.Names.{Names}
 use Rattle.pas_replay.specs.declared.seats.Thread.{Thread}
 use Rattle.pas_steps.proofs.Unknown.{unknown_stays}
 use Rattle.pas_replay.proofs.Threads.{stands_at, cache_at, set_stands, set_caches, set_owed, same_ops}
@@ -67,7 +67,7 @@ after_mark {f} {all} {more} {region} {threads} {table} {out} {out'} n so pushed 
     (let spare = so.spare in let m = ap length pushed ∙ length-append (records_in out) (Record.Phase n ∷ []) in omega (arith, spare, m, room))
     (λ l rs follows. so.answers l rs (subst (λ (r : List Record). Follows f more so.names so.caches so.whole r l rs) pushed follows))
 
-pub after_close : {f : Profile} {all more : List Act} {region : PlainRegion} {threads : List Thread} {table : Names} {out out' : Records} → SoFar f all (Closes ∷ more) region threads table out
+pub after_close : {f : Profile} {all more : List Act} {region : PlainRegion} {threads : List Thread} {table : Names} {out out' : Records} → SoFar f all (MarksClose ∷ more) region threads table out
     → records_in out' ≡ records_in out ++ Record.Close ∷ [] → room_of out' ≡ room_of out → SoFar f all more region threads table out'
 after_close {f} {all} {more} {region} {threads} {table} {out} {out'} so pushed room = marked_so Record.Close so refl
     (let spare = so.spare in let m = ap length pushed ∙ length-append (records_in out) (Record.Close ∷ []) in omega (arith, spare, m, room))
@@ -77,7 +77,7 @@ after_close {f} {all} {more} {region} {threads} {table} {out} {out'} so pushed r
 pub mark_room : {f : Profile} {all more : List Act} {region : PlainRegion} {threads : List Thread} {table : Names} {out : Records} (n : ℕ) → SoFar f all (Marks n ∷ more) region threads table out → length (records_in out) < room_of out
 mark_room n so = let spare = so.spare in omega (arith, spare)
 
-pub close_room : {f : Profile} {all more : List Act} {region : PlainRegion} {threads : List Thread} {table : Names} {out : Records} → SoFar f all (Closes ∷ more) region threads table out → length (records_in out) < room_of out
+pub close_room : {f : Profile} {all more : List Act} {region : PlainRegion} {threads : List Thread} {table : Names} {out : Records} → SoFar f all (MarksClose ∷ more) region threads table out → length (records_in out) < room_of out
 close_room so = let spare = so.spare in omega (arith, spare)
 
 -- ---- a thread reads the epoch

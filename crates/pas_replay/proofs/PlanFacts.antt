@@ -19,10 +19,10 @@ use Rattle.pas_trace.specs.declared.item.Item.TheVariants.{Blank, Shares, NextPh
 use Rattle.pas_trace.specs.declared.plan.What.{What}
 use Rattle.pas_trace.specs.declared.plan.What.TheVariants.{Alloc, Free, Raw, Flush, Stop, Tick, Pass, Idle}
 use Rattle.pas_trace.specs.declared.plan.Op.{Op}
-use Rattle.pas_replay.specs.Acts.{Act, Operates, Wakes, Ends, active_from, numbers_from, phase_acts, acts_from, acts_of}
-use Rattle.pas_replay.specs.Fit.{is_asked, asked_after, IsThread, IsFitWhat, AreFit, cost_of_what, costs_of, own_costs_of, ops_in, marks_in, IsBelow, AreBelow, AllBelow}
+use Rattle.pas_answers.specs.Acts.{Act, Operates, Wakes, Ends, active_from, numbers_from, phase_acts, acts_from, acts_of}
+use Rattle.pas_answers.specs.Fit.{is_asked, asked_after, IsThread, IsFitWhat, AreFit, cost_of_what, costs_of, own_costs_of, ops_in, marks_in, IsBelow, AreBelow, AllBelow}
 use Rattle.pas_cache.specs.Serves.{IsClassRoute}
-use Rattle.pas_replay.specs.Replays.{IsBuiltWhat, AreBuilt, AllBuilt}
+use Rattle.pas_answers.specs.Replays.{IsBuiltWhat, AreBuilt, AllBuilt}
 
 -- ---- the operations of all phases in one list
 abbrev pub flat : List (List Op) → List Op

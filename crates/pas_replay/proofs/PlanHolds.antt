@@ -19,9 +19,9 @@ use Rattle.pas_trace.specs.declared.item.Item.{Item}
 use Rattle.pas_trace.specs.declared.item.Item.TheVariants.{Blank, Shares, NextPhase, Allocates, Frees, FreesRaw, Flushes, Stops, Ticks, Passes, Idles}
 use Rattle.pas_trace.specs.declared.plan.Plan.{Plan}
 use Rattle.pas_trace.proofs.Telling.{bound-other}
-use Rattle.pas_replay.specs.Acts.{acts_of}
-use Rattle.pas_replay.specs.Fit.{AreFit, costs_of, own_costs_of, ops_in, marks_in, AllBelow}
-use Rattle.pas_replay.specs.Replays.{AreBuilt, AllBuilt, phases_of, IsBuilt}
+use Rattle.pas_answers.specs.Acts.{acts_of}
+use Rattle.pas_answers.specs.Fit.{AreFit, costs_of, own_costs_of, ops_in, marks_in, AllBelow}
+use Rattle.pas_answers.specs.Replays.{AreBuilt, AllBuilt, phases_of, IsBuilt}
 use Rattle.pas_replay.proofs.PlanFacts.{flat, acts_ops, acts_marks, built_flat, below_flat, some_is, if_some, ok_is, AreChecked, AreRead, all_read, first_holds, counted, good, phases_few}
 
 -- ---- lines are no more than bytes

@@ -22,20 +22,20 @@ use Rattle.pas_steps.specs.Clear.{HasNothing}
 use Rattle.pas_steps.specs.Unknown.{unknown_below}
 use Rattle.pas_cache.proofs.Keeping.{rests_empty}
 use Rattle.pas_segregated.specs.declared.slots.Slots.{Slots}
-use Rattle.pas_replay.specs.Acts.{Act, acts_of}
-use Rattle.pas_replay.specs.Answers.{Follows}
-use Rattle.pas_replay.specs.Calls.{owed_events}
-use Rattle.pas_replay.specs.Fit.{own_costs_of, ops_in}
+use Rattle.pas_answers.specs.Acts.{Act, acts_of}
+use Rattle.pas_answers.specs.Answers.{Follows}
+use Rattle.pas_answers.specs.Calls.{owed_events}
+use Rattle.pas_answers.specs.Fit.{own_costs_of, ops_in}
 use Rattle.pas_replay.specs.Kits.{IsFresh, IsKitOf}
-use Rattle.pas_replay.specs.Names.{names_held}
-use Rattle.pas_replay.specs.Replays.{phases_of, IsBuilt, empty_cache, empty_caches, Shows}
-use Rattle.pas_replay.specs.Ways.{InOrder}
+use Rattle.pas_answers.specs.Names.{names_held}
+use Rattle.pas_answers.specs.Replays.{phases_of, IsBuilt, empty_cache, empty_caches, Shows}
+use Rattle.pas_answers.specs.Ways.{InOrder}
 use Rattle.pas_replay.specs.Sessions.{ThreadStands, AllStand, AreCaches, AreEmpty, SoFar, owed_from}
 use Rattle.pas_replay.specs.declared.kit.PlainKit.{PlainKit}
-use Rattle.pas_replay.specs.declared.names.Names.{Names}
+use Rattle.pas_answers.specs.declared.names.Names.{Names}
 use Rattle.pas_replay.specs.declared.seats.Thread.{Thread}
 use Rattle.pas_replay.proofs.PlanHolds.{plan_fit, plan_own, plan_total, plan_marks}
-use Rattle.pas_replay.proofs.Consequences.{replays}
+use Rattle.pas_answers.proofs.Consequences.{replays}
 use Rattle.pas_replay.proofs.Ordering.{at_region, of_profile}
 
 -- ---- the start

@@ -15,13 +15,13 @@ use Rattle.pas_report.specs.Rooms.{records_in, room_of}
 use Rattle.pas_report.specs.declared.record.Record.{Record}
 use Rattle.pas_report.specs.declared.records.Records.{Records}
 use Rattle.pas_cache.specs.Caches.{cached, AtRest}
-use Rattle.pas_replay.specs.Acts.{Act}
-use Rattle.pas_replay.specs.Answers.{Named, Caches, standing_for, Follows}
-use Rattle.pas_replay.specs.Calls.{Tells, HasTurns, owed_events}
-use Rattle.pas_replay.specs.Fit.{is_asked, AreFit, costs_of, own_costs_of, ops_in, marks_in}
-use Rattle.pas_replay.specs.Names.{names_held}
-use Rattle.pas_replay.specs.Replays.{empty_caches}
-use Rattle.pas_replay.specs.declared.names.Names.{Names}
+use Rattle.pas_answers.specs.Acts.{Act}
+use Rattle.pas_answers.specs.Answers.{Named, Caches, standing_for, Follows}
+use Rattle.pas_answers.specs.Calls.{Tells, HasTurns, owed_events}
+use Rattle.pas_answers.specs.Fit.{is_asked, AreFit, costs_of, own_costs_of, ops_in, marks_in}
+use Rattle.pas_answers.specs.Names.{names_held}
+use Rattle.pas_answers.specs.Replays.{empty_caches}
+use Rattle.pas_answers.specs.declared.names.Names.{Names}
 use Rattle.pas_replay.specs.declared.seats.Thread.{Thread}
 
 -- ---- a thread at its desk

@@ -3,12 +3,12 @@ ghost use Rattle.std.specs.Prelude.{◌≡◌, ◌+◌, ◌<◌, ◌++◌, ◌^�
 ghost use Rattle.pas_bits.specs.Masks.{is_set};
 ghost use Rattle.pas_trace.specs.Plans.{ops_of};
 ghost use Rattle.pas_plain.specs.Plain.{profile_of};
-ghost use Rattle.pas_replay.specs.Acts.{Act, Wakes, Operates, Ends, is_active, active_from, numbers_from, acts_of};
+ghost use Rattle.pas_answers.specs.Acts.{Act, Wakes, Operates, Ends, is_active, active_from, numbers_from, acts_of};
 ghost use Rattle.pas_replay.specs.Sessions.{SoFar, AreEmpty};
 ghost use Rattle.pas_report.specs.declared.records.Records.{Records as TheRecords};
-ghost use Rattle.pas_replay.specs.declared.names.Names.{Names as TheNames};
+ghost use Rattle.pas_answers.specs.declared.names.Names.{Names as TheNames};
 
-use crate::names::Names;
+use pas_answers::names::Names;
 use crate::seats::{Thread, operate, wake};
 use pas_bits::Mask4;
 use pas_plain::PlainRegion;

@@ -5,13 +5,13 @@ ghost use Rattle.pas_plain.specs.Plain.{profile_of};
 ghost use Rattle.pas_plain.specs.Seats.{standing_of};
 ghost use Rattle.pas_cache.specs.Caches.{cached, AtRest};
 ghost use Rattle.pas_cache.specs.Calls.{Begins};
-ghost use Rattle.pas_replay.specs.Calls.{HasTurns, MayAnswer, Answers};
-ghost use Rattle.pas_replay.specs.Fit.{IsFitWhat};
-ghost use Rattle.pas_replay.specs.Names.{names_held};
+ghost use Rattle.pas_answers.specs.Calls.{HasTurns, MayAnswer, Answers};
+ghost use Rattle.pas_answers.specs.Fit.{IsFitWhat};
+ghost use Rattle.pas_answers.specs.Names.{names_held};
 ghost use Rattle.pas_replay.specs.Sessions.{IsSeated, MaySit, Turn, spare_at};
 
-use crate::answering::answer;
-use crate::names::Names;
+use pas_answers::answer;
+use pas_answers::names::Names;
 use pas_cache::ThreadCache;
 use pas_plain::{PlainDesk, PlainPass, PlainRegion};
 use pas_report::Records;

@@ -1,7 +1,7 @@
 use Rattle.std.proofs.Common.{◌∙◌, ◌+◌, ◌-◌, ◌++◌, ℕ, List, length, ap, subst, arith}
 use Rattle.std.specs.Prelude.{map}
 use Rattle.pas_plain.specs.Plain.{profile_of}
-use Rattle.pas_replay.specs.Acts.{Act, Ends, numbers_from}
+use Rattle.pas_answers.specs.Acts.{Act, Ends, numbers_from}
 use Rattle.pas_replay.specs.Sessions.{SoFar}
 use Rattle.pas_replay.proofs.Operating.{ending, can_operate, operated, emptied, empty_next}
 use Rattle.pas_replay.proofs.Ordering.{end_next, end_last}

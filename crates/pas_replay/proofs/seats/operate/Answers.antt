@@ -1,7 +1,7 @@
 use Rattle.std.proofs.Common.{sym, ap, subst}
 use Rattle.pas_plain.specs.Seats.{standing_of}
 use Rattle.pas_cache.specs.Caches.{Cached, cached}
-use Rattle.pas_replay.specs.Calls.{Answers}
+use Rattle.pas_answers.specs.Calls.{Answers}
 use Rattle.pas_replay.proofs.seats.operate.Goals as goal
 
 pub returns-clause-turn : goal.returns-clause-turn

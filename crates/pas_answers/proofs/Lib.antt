@@ -1,0 +1,11 @@
+pub mod Built
+pub mod Owed
+pub mod Frees
+pub mod Requests
+pub mod Said
+pub mod KnownNames
+pub mod Speaking
+pub mod Weaving
+pub mod Replayed
+pub mod Keeping
+pub mod Consequences
