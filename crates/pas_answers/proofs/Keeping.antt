@@ -1,6 +1,6 @@
 -- A replay keeps the stamps to the epochs of ends: no thread learns an epoch between an end and its stamps, and a page is stamped only where it is
 -- unstamped. So at its end the stamp of each page is the greatest epoch of an end there.
-use Rattle.std.proofs.Common.{◌≡◌, ℕ, zero, suc, ◌+◌, ◌-◌, ◌*◌, ◌/◌, ◌^◌, ◌<◌, ◌≤◌, ◌==◌, nat_le, Bool, true, false, ◌&&◌, if◌then◌else◌, List, [], ◌∷◌, ◌++◌, length, Option, Some, None, inl, inr, refl, ap, sym, ◌∙◌, subst, arith, append_assoc}
+use Rattle.std.proofs.Common.{true≢false, ◌≡◌, ℕ, zero, suc, ◌+◌, ◌-◌, ◌*◌, ◌/◌, ◌^◌, ◌<◌, ◌≤◌, ◌==◌, nat_le, Bool, true, false, ◌&&◌, if◌then◌else◌, List, [], ◌∷◌, ◌++◌, length, Option, Some, None, inl, inr, refl, ap, sym, ◌∙◌, subst, arith, append_assoc}
 use Rattle.std.proofs.lemmas.Bool.{false≢true, eqb-true, eqb-false, eq-eqb, ne_eqb, cases_eq, false_from_ne_true}
 use Rattle.std.proofs.lemmas.Bool.Decides.{nat_tests}
 use Rattle.pas_profile.specs.Lives.{live_word}
@@ -19,7 +19,7 @@ use Rattle.pas_steps.specs.Desks.{made, triple, triples}
 use Rattle.pas_steps.specs.Frames.{IsReturn, OnlyReturns}
 use Rattle.pas_steps.specs.declared.step.Made.{Made}
 use Rattle.pas_steps.specs.declared.step.Step.{Step}
-use Rattle.pas_steps.specs.declared.step.Step.TheVariants.{Look, Deed, Back, Take, Put, Give, End, TakeRight, Offer, Park, Unpark, Stamp, Hint, Tick, Unback, Unhint}
+use Rattle.pas_steps.specs.declared.step.Step.TheVariants.{Look, End, Stamp, Tick}
 use Rattle.pas_steps.proofs.Parts.{part_of_own, part_of_others}
 use Rattle.pas_core.specs.Stamps.{AllStamped, KeepsToEnds, AllKeepToEnds, Keeps}
 use Rattle.pas_core.proofs.StampedEnds.{stamps_are_ends}
@@ -34,9 +34,10 @@ use Rattle.pas_free_log.proofs.Idle.{not_live}
 use Rattle.pas_segregated.specs.declared.slots.Slots.{Slots}
 use Rattle.pas_cache.specs.Caches.{Cached}
 use Rattle.pas_cache.specs.Changes.{StopsAll, EmptiesLog, EmptiesFull}
-use Rattle.pas_cache.specs.Serves.{IsAllocating, AreAllocating}
-use Rattle.pas_cache.proofs.Going.{stop_releases}
-use Rattle.pas_cache.proofs.Knowing.{releases_allocate}
+use Rattle.pas_steps.specs.Kinds.{Only, kind_of, is_in}
+use Rattle.pas_cache.specs.Kinds.{releasing, allocating}
+use Rattle.pas_cache.proofs.Below.{stop_only}
+use Rattle.pas_steps.proofs.Apart.{only_within, unstamped_same}
 use Rattle.pas_trace.specs.declared.plan.What.{What}
 use Rattle.pas_report.specs.declared.record.Record.{Record}
 use Rattle.pas_report.specs.declared.record.Said.{Said}
@@ -63,25 +64,17 @@ done_none : (v : View) → AllStamped v → Done v []
 done_none v h = record { keeps = tt; stamped = h }
 
 -- ---- requests and what gives back
-allocating_keeps : (v : View) (s : Step) → IsAllocating s → AllStamped v → KeepsToEnds v s
+allocating_keeps : (v : View) (s : Step) → is_in allocating (kind_of s) ≡ true → AllStamped v → KeepsToEnds v s
 allocating_keeps v (Look Word.Epoch) is h = h
-allocating_keeps v (Stamp q) is h = absurd is
-allocating_keeps v (Tick up) is h = absurd is
+allocating_keeps v (Stamp q) is h = absurd (true≢false (sym is))
+allocating_keeps v (Tick up) is h = absurd (true≢false (sym is))
 allocating_keeps v s is h = tt
+allocating_keep : (steps : List Made) (v : View) → Only allocating steps → AllStamped v → Keeps v steps
+allocating_keep [] v are h = tt
+allocating_keep (m ∷ more) v are h = (allocating_keeps (more ++ v) m.step are.0 (λ p. unstamped_same allocating refl p more v are.1 ∙ h p), allocating_keep more v are.1 h)
 
-allocating_stamps : (s : Step) (a p : ℕ) (was : Bool) → IsAllocating s → unstamped_after s a p was ≡ was
-allocating_stamps (End name guess) a p was is = absurd is
-allocating_stamps (Stamp q) a p was is = absurd is
-allocating_stamps s a p was is = refl
-
-allocating_done : (steps : List Made) (v : View) → AreAllocating steps → AllStamped v → Done v steps
-allocating_done [] v are h = done_none v h
-allocating_done (m ∷ more) v are h =
-    let before : Done v more = allocating_done more v are.1 h in
-    record {
-      keeps = (allocating_keeps (more ++ v) m.step are.0 before.stamped, before.keeps);
-      stamped = λ p. allocating_stamps m.step m.answer p (is_unstamped (more ++ v) p) are.0 ∙ before.stamped p;
-    }
+allocating_done : (steps : List Made) (v : View) → Only allocating steps → AllStamped v → Done v steps
+allocating_done steps v are h = record { keeps = allocating_keep steps v are h; stamped = λ p. unstamped_same allocating refl p steps v are ∙ h p }
 
 -- ---- the pages of a block
 return_keeps : (p : ℕ) (s : Step) (v : View) → IsReturn p s → KeepsToEnds v s
@@ -313,7 +306,7 @@ stops_done : (locals : List Slots) (steps : List Made) (v : View) → StopsAll l
 stops_done [] steps v h stamped = subst (Done v) (sym h) (done_none v stamped)
 stops_done (slots ∷ rest) steps v h stamped =
     let before : Done v h.1 = stops_done rest h.1 v h.3 stamped in
-    subst (Done v) (sym h.4) (done_append h.0 h.1 v before (allocating_done h.0 (h.1 ++ v) (releases_allocate h.0 (stop_releases slots h.0 h.2)) before.stamped))
+    subst (Done v) (sym h.4) (done_append h.0 h.1 v before (allocating_done h.0 (h.1 ++ v) (only_within releasing allocating h.0 refl (stop_only slots h.0 h.2)) before.stamped))
 
 -- ---- operations
 stop_done : (f : Profile) (k : ℕ) (l : Whole) (c c' : Cached) (steps : List Made) → AllStamped (part k l) → AreOf f (triples k steps ++ l) → IsStopped k c c' steps → Done (part k l) steps

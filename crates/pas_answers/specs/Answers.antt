@@ -25,7 +25,9 @@ use Rattle.pas_report.specs.declared.record.Said.{Said}
 use Rattle.pas_segregated.specs.Stops.{class_directory}
 use Rattle.pas_cache.specs.Caches.{Cached}
 use Rattle.pas_cache.specs.Changes.{EmptiesLog, StopsAll}
-use Rattle.pas_cache.specs.Serves.{class_of, ServesRequest, AreAllocating, IsPreparing, IsInSlot, IsClassRoute}
+use Rattle.pas_steps.specs.Kinds.{Only}
+use Rattle.pas_cache.specs.Kinds.{allocating}
+use Rattle.pas_cache.specs.Serves.{class_of, ServesRequest, IsPreparing, IsInSlot, IsClassRoute}
 use Rattle.pas_cache.specs.Calls.{TakesName, RefusesName}
 use Rattle.pas_answers.specs.Acts.{Act, Operates, MarksPhase, Wakes, MarksClose, Ends}
 
@@ -95,7 +97,7 @@ pub record IsServed (f : Profile) (k : ℕ) (v : View) (c c' : Cached) (name hea
   pub route : IsClassRoute (route_of size align)
   pub answer : Result Block NoRoom
   pub serves : ServesRequest f heap (class_of (route_of size align)) c c' steps answer
-  pub kinds : AreAllocating steps
+  pub kinds : Only allocating steps
   pub ends : RequestEnds k v heap (class_of (route_of size align)) align steps answer
   pub said_is : said ≡ said_of_request name answer
   pub block_is : block ≡ block_of answer

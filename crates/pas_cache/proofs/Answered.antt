@@ -28,18 +28,22 @@ use Rattle.pas_steps.specs.declared.step.Made.{Made}
 use Rattle.pas_steps.proofs.Adding.{adds_under, adds_call, can_call, room_left, agreed_first, agreed_later}
 use Rattle.pas_steps.proofs.Frames.{events_append, events_split}
 use Rattle.pas_steps.proofs.Kept.{deed_stays}
-use Rattle.pas_search.proofs.StepKinds.{events_quiet, quiet_events, events_at_append, quiet_append}
+use Rattle.pas_search.proofs.StepKinds.{events_quiet}
 use Rattle.pas_segregated.specs.Stops.{class_directory, directory_of}
 use Rattle.pas_segregated.specs.declared.slots.Slots.{Slots}
 use Rattle.pas_steps.specs.Unknown.{unknown_pages}
 use Rattle.pas_cache.specs.Locals.{IsFormed, IsLocal, RestsWith}
 use Rattle.pas_cache.specs.Changes.{GivesSlot}
-use Rattle.pas_cache.specs.Serves.{IsClassRoute, class_of, ServesLocals, AreAllocating, IsPreparing, IsInSlot, IsBlockFor, IsSilent}
+use Rattle.pas_cache.specs.Serves.{IsClassRoute, class_of, ServesLocals, IsPreparing, IsInSlot, IsBlockFor, IsSilent}
 use Rattle.pas_cache.specs.Pieces.{MayGiveSlot, GivesLowest, MayObtain, FindsCached, FetchesAnew, Obtains, ServesFrom}
+use Rattle.pas_steps.specs.Kinds.{Only}
+use Rattle.pas_steps.proofs.Apart.{no_events, only_both, only_within}
+use Rattle.pas_cache.specs.Kinds.{releasing, searching, allocating}
+use Rattle.pas_cache.proofs.Below.{search_only}
 use Rattle.pas_cache.proofs.Locals.{without_last}
 use Rattle.pas_cache.proofs.Resting.{here, may_give_slot}
 use Rattle.pas_cache.proofs.Granting.{rests_given, given_page, given_deed}
-use Rattle.pas_cache.proofs.Knowing.{prepared, searches_allocate, releases_allocate, allocating_append}
+use Rattle.pas_cache.proofs.Knowing.{prepared}
 use Rattle.pas_steps.proofs.Unknown.{unknown_stays, none_unknown}
 
 -- ---- room
@@ -139,27 +143,30 @@ changed_none heap class locals fewer steps room (inr h) = inr (record {
 })
 
 -- ---- kinds and events of what was made before the give
-kinds_before : {f : Profile} (heap class : ℕ) (locals fewer : List Slots) (steps : List Made) (answer : Result Slots NoRoom) → FindsCached heap class locals fewer steps answer ⊎ FetchesAnew f heap class locals fewer steps answer → AreAllocating steps
-kinds_before heap class locals fewer steps answer (inl h) = subst AreAllocating (sym h.no_steps) tt
-kinds_before heap class locals fewer steps answer (inr h) = subst AreAllocating (sym h.steps_are) (allocating_append h.searched (h.stopped ++ h.spent) (searches_allocate h.searched h.refill.searches) (releases_allocate (h.stopped ++ h.spent) h.kinds))
+events_later : (ys xs : List Made) → Only releasing xs → (k : ℕ) (v : View) → events_by k v (ys ++ xs) ≡ events_by k (xs ++ v) ys
+events_later ys xs kinds k v = events_append k ys xs v ∙ (ap (λ es. events_by k (xs ++ v) ys ++ es) (no_events releasing refl k v xs kinds) ∙ append-nil (events_by k (xs ++ v) ys))
+
+kinds_before : {f : Profile} (heap class : ℕ) (locals fewer : List Slots) (steps : List Made) (answer : Result Slots NoRoom) → FindsCached heap class locals fewer steps answer ⊎ FetchesAnew f heap class locals fewer steps answer → Only allocating steps
+kinds_before heap class locals fewer steps answer (inl h) = subst (Only allocating) (sym h.no_steps) tt
+kinds_before heap class locals fewer steps answer (inr h) = subst (Only allocating) (sym h.steps_are) (only_both allocating h.searched (h.stopped ++ h.spent) (only_within searching allocating h.searched refl (search_only h.searched h.refill.searches)) (only_within releasing allocating (h.stopped ++ h.spent) refl h.kinds))
 
 prepared_before : {f : Profile} (heap class : ℕ) (locals fewer : List Slots) (steps : List Made) (slots : Slots) → FindsCached heap class locals fewer steps (Ok slots) ⊎ FetchesAnew f heap class locals fewer steps (Ok slots) → (k : ℕ) (v : View) → AllByRecursion (IsPreparing (class_directory heap class)) (events_by k v steps)
 prepared_before heap class locals fewer steps slots (inl h) k v = subst (λ xs. AllByRecursion (IsPreparing (class_directory heap class)) (events_by k v xs)) (sym h.no_steps) tt
 prepared_before {f} heap class locals fewer steps slots (inr h) k v =
     let d : Directory = class_directory heap class in
     subst (λ xs. AllByRecursion (IsPreparing d) (events_by k v xs)) (sym h.steps_are)
-    (prepared d slots.page (h.searched ++ (h.stopped ++ h.spent)) (events_at_append d slots.page h.searched (h.stopped ++ h.spent) h.refill.outcome.events (quiet_events d slots.page (h.stopped ++ h.spent) h.quiet)) k v)
+    (subst (AllByRecursion (IsPreparing d)) (sym (events_later h.searched (h.stopped ++ h.spent) h.kinds k v)) (prepared d slots.page h.searched h.refill.outcome.events k ((h.stopped ++ h.spent) ++ v)))
 
 silent_before : {f : Profile} (heap class : ℕ) (locals fewer : List Slots) (steps : List Made) (room : NoRoom) → FindsCached heap class locals fewer steps (Err room) ⊎ FetchesAnew f heap class locals fewer steps (Err room) → IsSilent steps
 silent_before heap class locals fewer steps room (inl h) = err_ok room h.from h.answer_is
-silent_before {f} heap class locals fewer steps room (inr h) = subst IsSilent (sym h.steps_are) (λ k v. events_quiet k v (h.searched ++ (h.stopped ++ h.spent)) (quiet_append h.searched (h.stopped ++ h.spent) h.refill.outcome.quiet h.quiet))
+silent_before {f} heap class locals fewer steps room (inr h) = subst IsSilent (sym h.steps_are) (λ k v. events_later h.searched (h.stopped ++ h.spent) h.kinds k v ∙ events_quiet k ((h.stopped ++ h.spent) ++ v) h.searched h.refill.outcome.quiet)
 
 -- ---- the give
 give_event : (slots rest : Slots) (block : Block) (steps : List Made) → GivesSlot slots rest block steps → (k : ℕ) (v : View) → events_by k v steps ≡ Event.Give k block ∷ []
 give_event slots rest block steps gives k v = ap (events_by k v) gives.steps_are
 
-give_kinds : (slots rest : Slots) (block : Block) (steps : List Made) → GivesSlot slots rest block steps → AreAllocating steps
-give_kinds slots rest block steps gives = subst AreAllocating (sym gives.steps_are) (tt, (tt, tt))
+give_kinds : (slots rest : Slots) (block : Block) (steps : List Made) → GivesSlot slots rest block steps → Only allocating steps
+give_kinds slots rest block steps gives = subst (Only allocating) (sym gives.steps_are) (refl, (refl, tt))
 
 abbrev pub in_slot_of : (f : Profile) (v : View) (class : ℕ) (slots rest : Slots) (block : Block) (steps : List Made) → GivesSlot slots rest block steps → IsLocal f v slots → slots.class ≡ class → IsInSlot class block
 in_slot_of f v class slots rest block steps gives local is = record {
@@ -193,7 +200,7 @@ serves_given {σ} {σ1} {σ2} heap class tells locals fewer after slots rest blo
       adds = adds_call {C = λ v l. RestsWith f locals v} {D = λ v l. MayGiveSlot σ1.seat.profile slots v} one.adds two.adds
           (λ v l stood met. subst (λ (s : Seat). MayGiveSlot s.profile slots (xs ++ v)) (sym one.adds.seat_is) (may (xs ++ v) (rests v met (one.adds.agreed v l stood met))));
       change = changed heap class locals fewer after xs ys slots rest block one.how two.gives list;
-      kinds = allocating_append ys xs (give_kinds slots rest block ys two.gives) (kinds_before heap class locals fewer xs (Ok slots) one.how);
+      kinds = only_both allocating ys xs (give_kinds slots rest block ys two.gives) (kinds_before heap class locals fewer xs (Ok slots) one.how);
       few = λ k v h agreed.
           let few = one.makes k v h (agreed_later f v ys xs agreed) in
           let fewer_left = unknown_stays f ys (xs ++ v) (agreed_first f v ys xs agreed) in

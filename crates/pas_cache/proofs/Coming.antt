@@ -1,6 +1,6 @@
 -- Slots come by a refill.
 use Rattle.pas_steps.proofs.Unknown.{room_after}
-use Rattle.std.proofs.Common.{◌≡◌, ℕ, suc, ◌+◌, ◌*◌, ◌<◌, ◌≤◌, ◌==◌, Bool, true, false, ◌&&◌, ◌||◌, if◌then◌else◌, List, [], ◌∷◌, ◌++◌, length, Some, None, inl, inr, refl, ap, sym, ◌∙◌, subst, arith, true≢false, append_assoc, Ok, Err, Result}
+use Rattle.std.proofs.Common.{◌≡◌, ℕ, suc, ◌+◌, ◌*◌, ◌<◌, ◌≤◌, ◌==◌, Bool, true, false, ◌||◌, if◌then◌else◌, List, [], ◌∷◌, ◌++◌, length, Some, None, inl, inr, refl, ap, sym, ◌∙◌, subst, arith, true≢false, append_assoc, Ok, Err, Result}
 use Rattle.std.specs.Prelude.{MatchResult, IfOk}
 use Rattle.std.specs.List.{AllByRecursion}
 use Rattle.std.proofs.lemmas.Bool.{eq-eqb, eqb-true, and_parts, and_from, cases_Bool}
@@ -12,26 +12,28 @@ use Rattle.pas_profile.specs.declared.directory.Directory.{Directory}
 use Rattle.pas_profile.specs.declared.directory.Kind.TheVariants as Kind
 use Rattle.pas_profile.specs.declared.event.NoRoom.{NoRoom}
 use Rattle.pas_bits.specs.declared.mask.Mask4.{Mask4}
-use Rattle.pas_steps.specs.Views.{View, has_right, known_deed, KnowsDeed}
+use Rattle.pas_steps.specs.Views.{View, known_deed, KnowsDeed}
 use Rattle.pas_steps.specs.Agreement.{Agreed}
 use Rattle.pas_steps.specs.Desks.{Standing, Seat, CanCall, triples}
 use Rattle.pas_steps.specs.declared.step.Made.{Made}
 use Rattle.pas_steps.proofs.Adding.{adds_call, triples_append, agreed_first, agreed_later}
-use Rattle.pas_steps.proofs.Kept.{deed_stays}
 use Rattle.pas_search.specs.Searches.{MaySearch, SearchRoom, IsServed, IsRefused}
-use Rattle.pas_steps.specs.Unknown.{KnowsAllDeeds, HasRoom}
+use Rattle.pas_steps.specs.Unknown.{HasRoom}
 use Rattle.pas_search.specs.Telling.{IsTold}
 use Rattle.pas_search.specs.declared.serving.Served.{Served}
 use Rattle.pas_segregated.specs.Takes.{exclusive}
 use Rattle.pas_segregated.specs.Refills.{answer_of, GivesSlots, Refills}
 use Rattle.pas_segregated.specs.Stops.{class_directory, directory_of}
 use Rattle.pas_segregated.specs.declared.slots.Slots.{Slots}
-use Rattle.pas_cache.specs.Locals.{covers, keeps_right, any_keeps, is_for, local_for, count_for, IsLocal, RestsWith}
+use Rattle.pas_cache.specs.Locals.{covers, any_covers, keeps_right, any_keeps, is_for, local_for, count_for, IsLocal, RestsWith}
 use Rattle.pas_cache.specs.Changes.{StopsFirst, IsShortened}
 use Rattle.pas_cache.specs.Pieces.{IsToldAfter, Releases, MayObtain, RestsWithFound, FetchesSlots}
 use Rattle.pas_cache.proofs.Locals.{IsWithout, without_last, none_counted, map_locals, either_false, keeps_page}
+use Rattle.pas_steps.specs.Calls.{Kept, Gained, now}
+use Rattle.pas_cache.specs.Effects.{of_slots, Gains}
+use Rattle.pas_cache.proofs.Below.{refill_leads, refusal_leads}
+use Rattle.pas_cache.proofs.Resting.{unless_covered, still_clear_by, local_after, rests_kept}
 use Rattle.pas_cache.proofs.Finding.{not_first}
-use Rattle.pas_cache.proofs.Resting.{known_some}
 use Rattle.pas_cache.proofs.Tests.{if_not, if_so}
 
 -- ---- an actor without a local allocator of a heap and a class has no right of a page of theirs
@@ -59,10 +61,6 @@ same_class a b h = cc
 pub of_pair : (slots : Slots) (heap class : ℕ) → directory_of slots ≡ class_directory heap class → (slots.heap ≡ heap) × (slots.class ≡ class)
 of_pair slots heap class is = (ap (λ d. d.heap) is, same_class slots.class class (ap (λ d. d.kind) is))
 
-kept_right : (t x : Bool) → (if t then true else x) ≡ ((true && t) || x)
-kept_right true x = refl
-kept_right false x = refl
-
 pub more_each : (heap class h c : ℕ) (slots : Slots) (locals : List Slots) → slots.heap ≡ heap → slots.class ≡ class → local_for heap class locals ≡ None → count_for h c locals ≤ 1 → count_for h c (slots ∷ locals) ≤ 1
 more_each heap class h c slots locals is_heap is_class none one = elim (cases_Bool (is_for h c slots)) [
   | inl this_one ↦
@@ -77,52 +75,34 @@ more_each heap class h c slots locals is_heap is_class none one = elim (cases_Bo
       omega (arith, one, counts)
 ]
 
-module _ (f : Profile) (heap class : ℕ) (locals : List Slots) (is : IsDirectoryOf f (class_directory heap class)) (none : local_for heap class locals ≡ None) (steps : List Made) (v : View) (h : RestsWith f locals v) (agreed : Agreed f v steps) where
-  abbrev may : MaySearch (class_directory heap class) v
-  may = may_search f v heap class locals is.kind none h
+gained : (c r : Bool) → now (if c then Gained else Kept) r ≡ (c || r)
+gained true r = refl
+gained false r = refl
 
+module _ (f : Profile) (heap class : ℕ) (locals : List Slots) (is : IsDirectoryOf f (class_directory heap class)) (none : local_for heap class locals ≡ None) (steps : List Made) (v : View) (h : RestsWith f locals v) (agreed : Agreed f v steps) where
   pub rests_refilled : (slots : Slots) → GivesSlots f (class_directory heap class) steps slots → RestsWith f (locals ++ slots ∷ []) (steps ++ v)
   rests_refilled slots s =
+      let gains : Gains slots (class_directory heap class) v (steps ++ v) = (refill_leads s).from v (may_search f v heap class locals is.kind none h) agreed in
       let pair = of_pair slots heap class s.named in
       let w : IsWithout (locals ++ slots ∷ []) slots locals = without_last locals slots in
-      let later : AllByRecursion (IsLocal f (steps ++ v)) locals = map_locals (IsLocal f v) (IsLocal f (steps ++ v)) locals (λ t within at. record {
-        page = at.page;
-        directory = at.directory;
-        starts = at.starts;
-        deed = deed_stays f steps v t.page agreed (known_some t.page t v at.deed) ∙ at.deed;
-        backed = λ some. s.backed v may agreed t.page (at.backed some);
-      }) h.known in
+      let later : AllByRecursion (IsLocal f (steps ++ v)) locals = map_locals (IsLocal f v) (IsLocal f (steps ++ v)) locals (λ t within at. local_after f (of_slots slots Gained) steps v t gains.does agreed (λ g here.
+          let held = h.grains g ∙ within g here in (held, unless_covered (covers slots g) Gained (λ mine. true≢false (sym held ∙ gains.apart g mine)))) at) h.known in
       record {
-        grains = λ g. s.grains v may agreed g ∙ (ap (λ t. covers slots g || t) (h.grains g) ∙ sym (w.grains g));
-        rights = λ p. s.rights v may agreed p ∙ (kept_right (slots.page == p) (has_right v p) ∙ (ap (λ r. (r && (slots.page == p)) || has_right v p) (sym s.with_right) ∙ (ap (λ t. keeps_right slots p || t) (h.rights p) ∙ sym (w.rights p))));
-        clear = s.clear v may agreed;
-        known = w.joins (IsLocal f (steps ++ v))
-            (record { page = s.page; directory = subst (IsDirectoryOf f) (sym s.named) is; starts = s.starts; deed = (s.known v may agreed).1 ∙ ap deed_word_of (sym s.named); backed = λ some. (s.known v may agreed).0 })
-            later;
+        grains = λ g. gains.does.held g ∙ (ap (now (if covers slots g then Gained else Kept)) (h.grains g) ∙ gained (covers slots g) (any_covers locals g) ∙ sym (w.grains g));
+        rights = λ p. gains.does.right p ∙ (ap (now (if keeps_right slots p then Gained else Kept)) (h.rights p) ∙ gained (keeps_right slots p) (any_keeps locals p) ∙ sym (w.rights p));
+        clear = still_clear_by gains.does (λ p. refl) h.clear;
+        known = w.joins (IsLocal f (steps ++ v)) (record { page = s.page; directory = subst (IsDirectoryOf f) (sym s.named) is; starts = s.starts; deed = gains.deed ∙ ap deed_word_of (sym s.named); backed = λ some. gains.backed }) later;
         one_each = λ x y. let counts = w.count x y in let one = more_each heap class x y slots locals pair.0 pair.1 none (h.one_each x y) in omega (arith, counts, one);
         apart = w.join_apart
             (record {
-              grains = λ g here. sym (h.grains g) ∙ s.apart v may agreed g here;
-              rights = λ p keeps. no_right_in f (steps ++ v) heap class locals is.kind later none p (subst (λ q. KnowsDeed q (class_directory heap class) (steps ++ v)) (keeps_page slots p keeps) (s.known v may agreed).1);
+              grains = λ g here. sym (h.grains g) ∙ gains.apart g here;
+              rights = λ p keeps. no_right_in f (steps ++ v) heap class locals is.kind later none p (subst (λ q. KnowsDeed q (class_directory heap class) (steps ++ v)) (keeps_page slots p keeps) gains.deed);
             })
             h.apart;
       }
 
   pub rests_refused : (room : NoRoom) → IsRefused (exclusive class) f (class_directory heap class) steps room → RestsWith f locals (steps ++ v)
-  rests_refused room s = record {
-    grains = λ g. s.still.grains v may agreed g ∙ h.grains g;
-    rights = λ p. s.still.rights v may agreed p ∙ h.rights p;
-    clear = s.still.clear v may agreed;
-    known = map_locals (IsLocal f v) (IsLocal f (steps ++ v)) locals (λ t within at. record {
-      page = at.page;
-      directory = at.directory;
-      starts = at.starts;
-      deed = deed_stays f steps v t.page agreed (known_some t.page t v at.deed) ∙ at.deed;
-      backed = λ some. s.still.backed v may agreed t.page (at.backed some);
-    }) h.known;
-    one_each = h.one_each;
-    apart = h.apart;
-  }
+  rests_refused room s = rests_kept f locals steps v ((refusal_leads s).from v (may_search f v heap class locals is.kind none h) agreed) agreed h
 
 -- ---- the list is shortened before
 none_first : (heap class : ℕ) (first : Slots) (rest : List Slots) → local_for heap class (first ∷ rest) ≡ None → local_for heap class rest ≡ None
@@ -193,7 +173,6 @@ fetches {σ} {σ1} {σ2} heap class tells locals kept answer is none one few two
       stopped = xs;
       shortened = one.change;
       kinds = one.kinds;
-      quiet = one.quiet;
       searched = ys;
       refill = record { searches = two.searches.searches; outcome = outcome };
       adds = adds_call {C = λ v l. RestsWith f locals v} {D = λ v l. MaySearch d v} one.adds two.searches.adds

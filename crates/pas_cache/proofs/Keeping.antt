@@ -1,61 +1,35 @@
 -- Steps that keep what the actor holds, has and knows; flushes, and the names that are logged.
 use Rattle.std.proofs.Common.{◌≡◌, ℕ, ◌+◌, ◌-◌, ◌^◌, ◌<◌, ◌≤◌, nat_le, Bool, true, false, List, [], ◌∷◌, ◌++◌, length, inl, inr, true≢false, refl, ap, sym, ◌∙◌, subst, arith, append_assoc, length-append}
 use Rattle.std.specs.Prelude.{All, Ok, Err}
-use Rattle.std.proofs.lemmas.Bool.{and_from, le-leb, lt-leb, cases_lt}
+use Rattle.std.proofs.lemmas.Bool.{le-leb, lt-leb, cases_lt}
 use Rattle.std.proofs.lemmas.List.Elements.{All-nil, All-push, All-same}
 use Rattle.pas_profile.specs.declared.profile.Profile.{Profile}
 use Rattle.pas_profile.specs.declared.name.Name.{Name}
 use Rattle.pas_profile.specs.declared.word.Word.TheVariants as Word
 use Rattle.pas_profile.specs.declared.event.FreeFault.{FreeFault}
-use Rattle.pas_steps.specs.Views.{View, holds_on, knows_backed}
+use Rattle.pas_steps.specs.Views.{View}
 use Rattle.pas_steps.specs.Agreement.{Agreed}
 use Rattle.pas_steps.specs.Desks.{Standing, Seat, CanCall, Makes, made}
 use Rattle.pas_steps.specs.declared.step.Made.{Made}
 use Rattle.pas_steps.specs.declared.step.Step.TheVariants.{Look}
 use Rattle.pas_steps.proofs.Adding.{adds_none, adds_step, adds_under, adds_call, can_call, agreed_first, agreed_later}
 use Rattle.pas_steps.specs.Clear.{IsClear, HasNothing}
-use Rattle.pas_search.proofs.Backed.{held_where_backed}
-use Rattle.pas_search.proofs.StepKinds.{events_quiet}
 use Rattle.pas_free_log.specs.Conditions.{IsNameOf}
 use Rattle.pas_free_log.specs.Flushes.{Flushes}
-use Rattle.pas_segregated.specs.declared.slots.Slots.{Slots}
-use Rattle.pas_cache.specs.Locals.{IsLocal, RestsWith}
+use Rattle.pas_cache.specs.Locals.{RestsWith}
 use Rattle.pas_cache.specs.Caches.{Cached, AtRest}
 use Rattle.pas_cache.specs.Changes.{EmptiesLog, EmptiesFull, LogsName, StopsAll}
-use Rattle.pas_cache.specs.Names.{IsInRegion, IsFaultOf, KeepsAll, MayFlush, EmptiesWhere, LogsInto}
+use Rattle.pas_cache.specs.Names.{IsInRegion, IsFaultOf, MayFlush, EmptiesWhere, LogsInto}
 use Rattle.pas_cache.specs.Pieces.{Releases}
 use Rattle.pas_cache.specs.Calls.{StaysAtRest, Begins, Frees, FlushesLog, StopsCache}
-use Rattle.pas_cache.proofs.Locals.{map_locals}
-use Rattle.pas_cache.proofs.Resting.{known_some}
-
--- ---- all is kept
-pub rests_kept : (f : Profile) (locals : List Slots) (steps : List Made) → KeepsAll f steps → (v : View) → RestsWith f locals v → Agreed f v steps → RestsWith f locals (steps ++ v)
-rests_kept f locals steps keeps v h agreed = record {
-  grains = λ g. keeps.held v agreed g ∙ h.grains g;
-  rights = λ p. keeps.right v agreed p ∙ h.rights p;
-  clear = keeps.clear v agreed h.clear;
-  known = map_locals (IsLocal f v) (IsLocal f (steps ++ v)) locals (λ t within at. record {
-    page = at.page;
-    directory = at.directory;
-    starts = at.starts;
-    deed = keeps.deeds v agreed t.page (known_some t.page t v at.deed) ∙ at.deed;
-    backed = λ some. keeps.backed v agreed t.page (at.backed some);
-  }) h.known;
-  one_each = h.one_each;
-  apart = h.apart;
-}
-
-pub keeps_none : (f : Profile) → KeepsAll f []
-keeps_none f = record { held = λ v a g. refl; right = λ v a p. refl; clear = λ v a h. h; backed = λ v a p h. h; deeds = λ v a p h. refl }
-
-pub keeps_look : (f : Profile) (epoch : ℕ) → KeepsAll f (made (Look Word.Epoch) epoch ∷ [])
-keeps_look f epoch = record {
-  held = λ v a g. refl;
-  right = λ v a p. refl;
-  clear = λ v a h. record { on = λ p. let was = h.on p in record { stamped = was.stamped; owes = record { checks = was.owes.checks; hint = was.owes.hint }; examined = was.examined } };
-  backed = λ v a p h. and_from (knows_backed v p) (holds_on v p) h (held_where_backed v p h);
-  deeds = λ v a p h. refl;
-}
+use Rattle.pas_steps.specs.Calls.{Leads, Does, nothing}
+use Rattle.pas_steps.specs.Kinds.{looking}
+use Rattle.pas_steps.proofs.Apart.{no_events}
+use Rattle.pas_steps.proofs.Called.{call_none}
+use Rattle.pas_steps.proofs.Calls.{does_none, does_idly}
+use Rattle.pas_cache.specs.Kinds.{releasing}
+use Rattle.pas_cache.proofs.Below.{flush_calls}
+use Rattle.pas_cache.proofs.Resting.{rests_kept}
 
 -- a cache by its parts
 pub same_cached : (c c' : Cached) (log : _) (idle : ℕ) → c'.locals ≡ c.locals → c'.log ≡ log → c'.idle_since ≡ idle → c' ≡ record { locals = c.locals; log = log; idle_since = idle }
@@ -91,7 +65,7 @@ begins {σ} c c' epoch locals log idle look =
       cache = is;
       adds = adds_step {step = Look Word.Epoch} adds_none look (λ v l stood met. tt);
       rest = λ v h agreed. subst (λ x. AtRest σ.seat.profile x (made (Look Word.Epoch) epoch ∷ v)) (sym is) (record {
-        locals = rests_kept σ.seat.profile c.locals (made (Look Word.Epoch) epoch ∷ []) (keeps_look σ.seat.profile epoch) v h.locals agreed;
+        locals = rests_kept σ.seat.profile c.locals (made (Look Word.Epoch) epoch ∷ []) v (does_idly σ.seat.profile looking refl (made (Look Word.Epoch) epoch ∷ []) v (refl, tt) agreed) agreed h.locals;
         few = h.few;
         names = h.names;
         few_names = h.few_names;
@@ -99,9 +73,6 @@ begins {σ} c c' epoch locals log idle look =
     }
 
 -- ---- flushes
-pub keeps_flush : {σ σ' : Standing} (names : List Name) (flush : Flushes names σ σ') → KeepsAll σ.seat.profile flush.steps
-keeps_flush names flush = record { held = flush.held; right = flush.right; clear = flush.clear; backed = flush.backed; deeds = flush.deeds }
-
 pub empties : {σ σ' : Standing} (names : List Name) (flush : Flushes names σ σ') → EmptiesLog σ.seat.actor names flush.steps
 empties names flush = record { epoch = flush.epoch; settled = flush.settled; names_are = flush.names_are; entries = flush.entries; order = flush.order; steps_are = flush.steps_are; events = flush.events; stamps = flush.stamps }
 
@@ -113,11 +84,11 @@ flushes_log {σ} c c' locals log idle flush =
     let is : c' ≡ record { locals = c.locals; log = []; idle_since = c.idle_since } = same_cached c c' [] c.idle_since locals log idle in
     record {
       steps = flush.steps;
-      adds = adds_under flush.adds (λ v l stood met. met.locals.clear);
+      adds = adds_under (flush_calls flush).adds (λ v l stood met. met.locals.clear);
       empties = empties c.log flush;
       cache = is;
       rest = λ v h agreed. subst (λ x. AtRest σ.seat.profile x (flush.steps ++ v)) (sym is) (record {
-        locals = rests_kept σ.seat.profile c.locals flush.steps (keeps_flush c.log flush) v h.locals agreed;
+        locals = rests_kept σ.seat.profile c.locals flush.steps v ((flush_calls flush).leads.from v h.locals.clear agreed) agreed h.locals;
         few = h.few;
         names = All-nil (IsNameOf σ.seat.profile);
         few_names = few_none;
@@ -125,33 +96,33 @@ flushes_log {σ} c c' locals log idle flush =
     }
 
 -- ---- stop
+kept_flush : {σ σ1 : Standing} (c : Cached) (flush : Flushes c.log σ σ1) (v : View) → RestsWith σ.seat.profile c.locals v → Agreed σ.seat.profile v flush.steps → RestsWith σ.seat.profile c.locals (flush.steps ++ v)
+kept_flush {σ} c flush v h agreed = rests_kept σ.seat.profile c.locals flush.steps v ((flush_calls flush).leads.from v h.clear agreed) agreed h
+
 pub flushed_call : {σ σ1 : Standing} (c : Cached) → Flushes c.log σ σ1 → CanCall σ (λ v l. AtRest σ.seat.profile c v) → CanCall σ1 (λ v l. RestsWith σ1.seat.profile c.locals v)
 flushed_call {σ} {σ1} c flush can =
-    can_call {C = λ v l. IsClear v × RestsWith σ.seat.profile c.locals v} {D = λ v l. RestsWith σ1.seat.profile c.locals v} (adds_under flush.adds (λ v l stood met. met.0))
+    can_call {C = λ v l. IsClear v × RestsWith σ.seat.profile c.locals v} {D = λ v l. RestsWith σ1.seat.profile c.locals v} (adds_under (flush_calls flush).adds (λ v l stood met. met.0))
     (record { view = can.view; whole = can.whole; stood = can.stood; met = (can.met.locals.clear, can.met.locals) })
-    (λ v l stood met. subst (λ (s : Seat). RestsWith s.profile c.locals (flush.steps ++ v)) (sym flush.adds.seat_is)
-    (rests_kept σ.seat.profile c.locals flush.steps (keeps_flush c.log flush) v met.1 (flush.adds.agreed v l stood met.0)))
+    (λ v l stood met. subst (λ (s : Seat). RestsWith s.profile c.locals (flush.steps ++ v)) (sym (flush_calls flush).adds.seat_is)
+    (kept_flush c flush v met.1 ((flush_calls flush).adds.agreed v l stood met.0)))
 
 module _ {σ σ1 σ2 : Standing} (c : Cached) (flush : Flushes c.log σ σ1) (stops : Releases (StopsAll c.locals) c.locals [] σ1 σ2) where
-  kept : (v : View) → RestsWith σ.seat.profile c.locals v → Agreed σ.seat.profile v flush.steps → RestsWith σ.seat.profile c.locals (flush.steps ++ v)
-  kept v h agreed = rests_kept σ.seat.profile c.locals flush.steps (keeps_flush c.log flush) v h agreed
-
   stopped_rest : (v : View) → RestsWith σ.seat.profile c.locals v → Agreed σ.seat.profile v (stops.steps ++ flush.steps) → RestsWith σ.seat.profile [] ((stops.steps ++ flush.steps) ++ v)
   stopped_rest v h agreed =
       subst (RestsWith σ.seat.profile []) (sym (append_assoc stops.steps flush.steps v))
-      (subst (λ (s : Seat). RestsWith s.profile c.locals (flush.steps ++ v) → Agreed s.profile (flush.steps ++ v) stops.steps → RestsWith s.profile [] (stops.steps ++ (flush.steps ++ v))) flush.adds.seat_is (stops.rest (flush.steps ++ v))
-      (kept v h (agreed_later σ.seat.profile v stops.steps flush.steps agreed)) (agreed_first σ.seat.profile v stops.steps flush.steps agreed))
+      (subst (λ (s : Seat). RestsWith s.profile c.locals (flush.steps ++ v) → Agreed s.profile (flush.steps ++ v) stops.steps → RestsWith s.profile [] (stops.steps ++ (flush.steps ++ v))) (flush_calls flush).adds.seat_is (stops.rest (flush.steps ++ v))
+      (kept_flush c flush v h (agreed_later σ.seat.profile v stops.steps flush.steps agreed)) (agreed_first σ.seat.profile v stops.steps flush.steps agreed))
 
   pub stops_cache : (c' : Cached) → c'.locals ≡ [] → c'.log ≡ [] → c'.idle_since ≡ c.idle_since → StopsCache c c' σ σ2
   stops_cache c' locals log idle = record {
     flushed = flush.steps;
     stopped = stops.steps;
-    adds = adds_call {C = λ v l. AtRest σ.seat.profile c v} {D = λ v l. RestsWith σ1.seat.profile c.locals v} (adds_under flush.adds (λ v l stood met. met.locals.clear)) stops.adds
-        (λ v l stood met. subst (λ (s : Seat). RestsWith s.profile c.locals (flush.steps ++ v)) (sym flush.adds.seat_is) (kept v met.locals (flush.adds.agreed v l stood met.locals.clear)));
+    adds = adds_call {C = λ v l. AtRest σ.seat.profile c v} {D = λ v l. RestsWith σ1.seat.profile c.locals v} (adds_under (flush_calls flush).adds (λ v l stood met. met.locals.clear)) stops.adds
+        (λ v l stood met. subst (λ (s : Seat). RestsWith s.profile c.locals (flush.steps ++ v)) (sym (flush_calls flush).adds.seat_is) (kept_flush c flush v met.locals ((flush_calls flush).adds.agreed v l stood met.locals.clear)));
     empties = empties c.log flush;
     stops = stops.change;
     kinds = stops.kinds;
-    silent = λ k v. events_quiet k v stops.steps stops.quiet;
+    silent = λ k v. no_events releasing refl k v stops.steps stops.kinds;
     cache = same_cached (record { locals = []; log = []; idle_since = c.idle_since }) c' [] c.idle_since locals log idle;
     rest = λ v h agreed. rests_empty σ.seat.profile c' ((stops.steps ++ flush.steps) ++ v) locals log (has_nothing σ.seat.profile ((stops.steps ++ flush.steps) ++ v) (stopped_rest v h.locals agreed));
     nothing = λ v h agreed. has_nothing σ.seat.profile ((stops.steps ++ flush.steps) ++ v) (stopped_rest v h.locals agreed);
@@ -161,25 +132,22 @@ module _ {σ σ1 σ2 : Standing} (c : Cached) (flush : Flushes c.log σ σ1) (st
 pub empties_where : {σ σ' : Standing} (log log' : List Name) → 64 ≤ length log → log' ≡ [] → Flushes log σ σ' → EmptiesWhere (nat_le 64 (length log)) log log' σ σ'
 empties_where {σ} {σ'} log log' full none flush = record {
   steps = flush.steps;
-  adds = flush.adds;
+  calls = flush_calls flush;
   empties = subst (λ t. EmptiesFull t σ.seat.actor log log' flush.steps) (sym (le-leb 64 (length log) full)) (empties log flush, none);
-  keeps = keeps_flush log flush;
 }
 
 pub empties_nothing : {σ : Standing} (log : List Name) → length log < 64 → EmptiesWhere (nat_le 64 (length log)) log log σ σ
 empties_nothing {σ} log few = record {
   steps = [];
-  adds = adds_none;
+  calls = call_none (λ v clear. does_none v);
   empties = subst (λ t. EmptiesFull t σ.seat.actor log log []) (sym (lt-leb 64 (length log) few)) (refl, refl);
-  keeps = keeps_none σ.seat.profile;
 }
 
 pub logs_into : {σ σ' : Standing} (log kept log' : List Name) (name : Name) → EmptiesWhere (nat_le 64 (length log)) log kept σ σ' → log' ≡ kept ++ name ∷ [] → LogsInto log log' name σ σ'
 logs_into log kept log' name emptied is = record {
   steps = emptied.steps;
-  adds = emptied.adds;
+  calls = emptied.calls;
   logs = record { kept = kept; emptied = emptied.empties; log_is = is };
-  keeps = emptied.keeps;
 }
 
 -- the names of a log after one more
@@ -193,11 +161,11 @@ kept_names : (f : Profile) (full : Bool) (k : ℕ) (log kept : List Name) (steps
 kept_names f true k log kept steps full h names = (All-same (IsNameOf f) kept [] h.1 (All-nil (IsNameOf f)), subst (λ xs. length xs < 64) (sym h.1) (omega arith))
 kept_names f false k log kept steps full h names = (All-same (IsNameOf f) kept log h.1 names, subst (λ xs. length xs < 64) (sym h.1) (not_full (length log) full))
 
-pub logged_rest : (f : Profile) (k : ℕ) (c c' : Cached) (name : Name) (steps : List Made) → LogsName k c.log c'.log name steps → c'.locals ≡ c.locals → IsNameOf f name → KeepsAll f steps → StaysAtRest f c c' steps
+pub logged_rest : (f : Profile) (k : ℕ) (c c' : Cached) (name : Name) (steps : List Made) → LogsName k c.log c'.log name steps → c'.locals ≡ c.locals → IsNameOf f name → Leads f IsClear (Does nothing) steps → StaysAtRest f c c' steps
 logged_rest f k c c' name steps logs locals is keeps v h agreed =
     let kept = kept_names f (nat_le 64 (length c.log)) k c.log logs.kept steps refl logs.emptied h.names in
     record {
-      locals = subst (λ xs. RestsWith f xs (steps ++ v)) (sym locals) (rests_kept f c.locals steps keeps v h.locals agreed);
+      locals = subst (λ xs. RestsWith f xs (steps ++ v)) (sym locals) (rests_kept f c.locals steps v (keeps.from v h.locals.clear agreed) agreed h.locals);
       few = subst (λ xs. length xs ≤ 32) (sym locals) h.few;
       names = All-same (IsNameOf f) c'.log (logs.kept ++ name ∷ []) logs.log_is (All-push (IsNameOf f) logs.kept name kept.0 is);
       few_names = let n : length c'.log ≡ length logs.kept + 1 = ap length logs.log_is ∙ length-append logs.kept (name ∷ []) in let few = kept.1 in omega (arith, n, few);
@@ -206,9 +174,9 @@ logged_rest f k c c' name steps logs locals is keeps v h agreed =
 pub frees : {σ σ' : Standing} (c c' : Cached) (name : Name) → name.turn < 2 ^ 40 - 1 → IsInRegion σ.seat.profile name → LogsInto c.log c'.log name σ σ' → c'.locals ≡ c.locals → c'.idle_since ≡ c.idle_since → Frees name c c' σ σ' (Ok tt)
 frees {σ} c c' name turn region logs locals idle = record {
   steps = logs.steps;
-  adds = adds_under logs.adds (λ v l stood met. met.locals.clear);
+  adds = adds_under logs.calls.adds (λ v l stood met. met.locals.clear);
   outcome = record { region = region; logs = logs.logs; locals = locals; idle_since = idle };
-  rest = logged_rest σ.seat.profile σ.seat.actor c c' name logs.steps logs.logs locals (record { page = region.page; aligned = region.aligned; turn = turn }) logs.keeps;
+  rest = logged_rest σ.seat.profile σ.seat.actor c c' name logs.steps logs.logs locals (record { page = region.page; aligned = region.aligned; turn = turn }) logs.calls.leads;
 }
 
 pub refuses : {σ : Standing} (c c' : Cached) (name : Name) (fault : FreeFault) → IsFaultOf σ.seat.profile name fault → c' ≡ c → Frees name c c' σ σ (Err fault)

@@ -1,10 +1,9 @@
 -- How many pages have a deed that isn't known, and how many events a refill makes.
 use Rattle.pas_steps.proofs.Unknown.{unknown_stays, unknown_less}
-use Rattle.std.proofs.Common.{◌≡◌, ◌≢◌, ℕ, zero, suc, ◌+◌, ◌≤◌, ◌==◌, Bool, true, false, if◌then◌else◌, List, [], ◌∷◌, ◌++◌, length, Some, None, Ok, Err, Result, inl, inr, refl, ap, sym, ◌∙◌, subst, arith, append_assoc, length-append}
+use Rattle.std.proofs.Common.{◌≡◌, ◌≢◌, ℕ, ◌+◌, ◌≤◌, ◌==◌, Bool, true, false, if◌then◌else◌, List, [], ◌∷◌, ◌++◌, length, Some, None, Ok, Err, Result, inl, inr, refl, ap, sym, ◌∙◌, subst, arith, append_assoc, length-append}
 use Rattle.std.specs.Prelude.{MatchResult}
 use Rattle.std.specs.List.{AllByRecursion}
-use Rattle.std.proofs.lemmas.Bool.{eqb-true, eqb-false, ne_eqb, cases_eq}
-use Rattle.pas_profile.specs.Profiles.{IsPage}
+use Rattle.std.proofs.lemmas.Bool.{cases_eq}
 use Rattle.pas_profile.specs.declared.profile.Profile.{Profile}
 use Rattle.pas_profile.specs.declared.directory.Directory.{Directory}
 use Rattle.pas_profile.specs.declared.event.Event.{Event}
@@ -16,12 +15,11 @@ use Rattle.pas_steps.specs.Agreement.{Agrees, Agreed}
 use Rattle.pas_steps.specs.Past.{Once}
 use Rattle.pas_steps.specs.declared.step.Made.{Made}
 use Rattle.pas_steps.specs.declared.step.Step.{Step}
-use Rattle.pas_steps.specs.declared.step.Step.TheVariants.{Look, Deed, Back, Take, Put, Give, End, TakeRight, Offer, Park, Unpark, Stamp, Hint, Tick, Unback, Unhint}
+use Rattle.pas_steps.specs.declared.step.Step.TheVariants.{Deed}
 use Rattle.pas_steps.proofs.Adding.{agreed_first, agreed_later}
 use Rattle.pas_steps.proofs.Frames.{events_append}
 use Rattle.pas_steps.proofs.Kept.{deed_stays}
-use Rattle.pas_steps.proofs.Past.{always_map, always_both}
-use Rattle.pas_search.specs.Kinds.{IsSearch, OnlySearches, AreQuiet, IsDeedOrBack, EventsAt}
+use Rattle.pas_search.specs.Kinds.{AreQuiet, IsDeedOrBack, EventsAt}
 use Rattle.pas_search.specs.Serving.{Rule}
 use Rattle.pas_search.specs.Searches.{MaySearch, DeedMadeHere, IsRefused}
 use Rattle.pas_segregated.specs.Refills.{GivesSlots}
@@ -29,9 +27,11 @@ use Rattle.pas_segregated.specs.declared.slots.Slots.{Slots}
 use Rattle.pas_search.proofs.StepKinds.{events_quiet}
 use Rattle.pas_segregated.specs.Takes.{exclusive}
 use Rattle.pas_segregated.specs.Stops.{class_directory}
-use Rattle.pas_steps.specs.Unknown.{unknown_here, unknown_below, unknown_pages, KnowsAllDeeds, HasRoom}
-use Rattle.pas_cache.specs.Serves.{IsRefill, IsAllocating, AreAllocating, IsPreparing}
-use Rattle.pas_cache.specs.Pieces.{IsReleasing, AreReleasing}
+use Rattle.pas_steps.specs.Unknown.{unknown_pages}
+use Rattle.pas_cache.specs.Serves.{IsRefill, IsPreparing}
+use Rattle.pas_steps.specs.Kinds.{Only}
+use Rattle.pas_steps.proofs.Apart.{no_events}
+use Rattle.pas_cache.specs.Kinds.{releasing}
 
 -- ---- a deed that was made wasn't known before
 made_unknown : {F : Type 0} (rule : Rule F) (f : Profile) (d : Directory) (page : ℕ) (steps : List Made) (v : View) → Agreed f v steps → Once (DeedMadeHere rule f d page) steps → known_deed v page ≢ 0 → ⊥
@@ -78,14 +78,14 @@ found_few f heap class steps (Ok slots) h k v may agreed = served_few f heap cla
 found_few f heap class steps (Err room) h k v may agreed = silent_few f k steps v h.quiet agreed
 
 -- after steps without events
-pub refill_few : (f : Profile) (heap class : ℕ) (ys xs : List Made) (found : Result Slots NoRoom) → IsRefill heap class f ys found → AreQuiet xs → (k : ℕ) (v : View) → MaySearch (class_directory heap class) (xs ++ v) → Agreed f v (ys ++ xs) → FewAt f k (ys ++ xs) v
-refill_few f heap class ys xs found refill quiet k v may agreed =
+pub refill_few : (f : Profile) (heap class : ℕ) (ys xs : List Made) (found : Result Slots NoRoom) → IsRefill heap class f ys found → Only releasing xs → (k : ℕ) (v : View) → MaySearch (class_directory heap class) (xs ++ v) → Agreed f v (ys ++ xs) → FewAt f k (ys ++ xs) v
+refill_few f heap class ys xs found refill kinds k v may agreed =
     let here = found_few f heap class ys found refill.outcome k (xs ++ v) may (agreed_first f v ys xs agreed) in
     let a = here.makes in
     let b = here.most in
     let before = unknown_stays f xs v (agreed_later f v ys xs agreed) in
     let split : length (events_by k v (ys ++ xs)) ≡ length (events_by k (xs ++ v) ys) + length (events_by k v xs) = ap length (events_append k ys xs v) ∙ length-append (events_by k (xs ++ v) ys) (events_by k v xs) in
-    let none : length (events_by k v xs) ≡ 0 = ap length (events_quiet k v xs quiet) in
+    let none : length (events_by k v xs) ≡ 0 = ap length (no_events releasing refl k v xs kinds) in
     let same : unknown_pages f ((ys ++ xs) ++ v) ≡ unknown_pages f (ys ++ (xs ++ v)) = ap (unknown_pages f) (append_assoc ys xs v) in
     record { makes = omega (arith, a, before, split, none, same); most = omega (arith, b, split, none) }
 
@@ -104,25 +104,3 @@ prepared d page (m ∷ more) at k v = elim at.0 [
   | inl quiet ↦ subst (λ o. AllByRecursion (IsPreparing d) (with_event o (events_by k v more))) (sym (quiet k (epoch_of (more ++ v)))) (prepared d page more at.1 k v)
   | inr some ↦ with_prepared d k page (epoch_of (more ++ v)) m.step m.answer (events_by k v more) some (prepared d page more at.1 k v)
 ]
-
--- ---- kinds of steps
-search_allocates : (s : Step) → IsSearch s → IsAllocating s
-search_allocates s (IsSearch.Hints p) = tt
-search_allocates s step = tt
-
-pub searches_allocate : (steps : List Made) → OnlySearches steps → AreAllocating steps
-searches_allocate steps h = always_map (λ m before. IsSearch m.step) (λ m before. IsAllocating m.step) steps (λ m before is. search_allocates m.step is) h
-
-release_allocates : (s : Step) → IsReleasing s → IsAllocating s
-release_allocates (End name guess) h = h
-release_allocates (Stamp p) h = h
-release_allocates (Tick raised) h = h
-release_allocates (Unback p) h = h
-release_allocates (Unhint p) h = h
-release_allocates s h = tt
-
-pub releases_allocate : (steps : List Made) → AreReleasing steps → AreAllocating steps
-releases_allocate steps h = always_map (λ m before. IsReleasing m.step) (λ m before. IsAllocating m.step) steps (λ m before is. release_allocates m.step is) h
-
-pub allocating_append : (ys xs : List Made) → AreAllocating ys → AreAllocating xs → AreAllocating (ys ++ xs)
-allocating_append ys xs a b = always_both (λ m before. IsAllocating m.step) (λ m before. IsAllocating m.step) ys xs (λ m before h. h) a b

@@ -1,3 +1,4 @@
+pub mod Below
 pub mod Tests
 pub mod Lowest
 pub mod Locals

@@ -16,7 +16,9 @@ use Rattle.pas_steps.specs.declared.step.Made.{Made}
 use Rattle.pas_steps.proofs.Adding.{adds_none, adds_call, triples_append, agreed_first, agreed_later}
 use Rattle.pas_search.specs.Searches.{MaySearch}
 use Rattle.pas_search.specs.Telling.{HasNoFit}
-use Rattle.pas_search.proofs.StepKinds.{quiet_append}
+use Rattle.pas_steps.specs.Kinds.{Only}
+use Rattle.pas_steps.proofs.Apart.{only_both}
+use Rattle.pas_cache.specs.Kinds.{releasing}
 use Rattle.pas_segregated.specs.Masks.{IsSome, IsEmpty, start_of}
 use Rattle.pas_segregated.specs.Takes.{exclusive, fewer_slots}
 use Rattle.pas_segregated.specs.Returns.{BackSteps}
@@ -30,7 +32,7 @@ use Rattle.pas_cache.specs.Pieces.{IsToldAfter, Releases, RestsWithFound, Fetche
 use Rattle.pas_cache.proofs.Locals.{IsWithout, without_last, without_found, none_left}
 use Rattle.pas_cache.proofs.Finding.{none_there}
 use Rattle.pas_cache.proofs.Resting.{rests_moved}
-use Rattle.pas_cache.proofs.Going.{rests_here, releasing_append, releases_by, releases_none}
+use Rattle.pas_cache.proofs.Going.{rests_here, releases_by, releases_none}
 use Rattle.pas_cache.proofs.Coming.{may_search, of_pair}
 use Rattle.pas_cache.proofs.Knowing.{FewAt, refill_few}
 use Rattle.pas_cache.proofs.Fitting.{no_fit_before}
@@ -142,14 +144,14 @@ obtains_anew {σ} {σ1} {σ2} heap class tells locals kept locals' answer is non
     = subst (λ (s : Seat). (v : View) → RestsWith s.profile kept v → Agreed s.profile v ys → RestsWith s.profile locals' (ys ++ v)) e two.ready in
     let rests : (v : View) → RestsWith f kept v → Agreed f v (zs ++ ys) → RestsWithFound f locals' answer ((zs ++ ys) ++ v)
     = subst (λ (s : Seat). (v : View) → RestsWith s.profile kept v → Agreed s.profile v (zs ++ ys) → RestsWithFound s.profile locals' answer ((zs ++ ys) ++ v)) e two.rest in
-    let quiet = quiet_append ys xs two.quiet one.quiet in
+    let kinds : Only releasing (ys ++ xs) = only_both releasing ys xs two.kinds one.kinds in
     let few : (n : ℕ) (v : View) → RestsWith f locals v → Agreed f v ((zs ++ ys) ++ xs) → FewAt f n ((zs ++ ys) ++ xs) v
     = λ n v h agreed.
     let ok : Agreed f v (zs ++ (ys ++ xs)) = subst (Agreed f v) (append_assoc zs ys xs) agreed in
     let before : Agreed f v (ys ++ xs) = agreed_later f v zs (ys ++ xs) ok in
     let here = ready (xs ++ v) (one.rest v h (agreed_later f v ys xs before)) (agreed_first f v ys xs before) in
     let may : MaySearch d ((ys ++ xs) ++ v) = subst (MaySearch d) (sym (append_assoc ys xs v)) (may_search f (ys ++ (xs ++ v)) heap class locals' is.kind two.none here) in
-    subst (λ s. FewAt f n s v) (sym (append_assoc zs ys xs)) (refill_few f heap class zs (ys ++ xs) answer refill quiet n v may ok) in
+    subst (λ s. FewAt f n s v) (sym (append_assoc zs ys xs)) (refill_few f heap class zs (ys ++ xs) answer refill kinds n v may ok) in
     record {
       steps = (zs ++ ys) ++ xs;
       adds = adds_call {C = λ v l. RestsWith f locals v} {D = λ v l. RestsWith σ1.seat.profile kept v} one.adds two.adds (rests_here locals kept one);
@@ -159,8 +161,7 @@ obtains_anew {σ} {σ1} {σ2} heap class tells locals kept locals' answer is non
         taken = one.change;
         stopped = ys;
         shortened = two.shortened;
-        kinds = releasing_append ys xs two.kinds one.kinds;
-        quiet = quiet;
+        kinds = kinds;
         searched = zs;
         refill = refill;
         steps_are = append_assoc zs ys xs;

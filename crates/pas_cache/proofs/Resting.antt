@@ -1,5 +1,5 @@
 -- An actor at rest with local allocators, when one goes, gives a slot or comes.
-use Rattle.std.proofs.Common.{◌≡◌, ◌≢◌, ℕ, zero, suc, ◌+◌, ◌*◌, ◌/◌, ◌%◌, ◌<◌, ◌≤◌, ◌==◌, Bool, true, false, not, ◌&&◌, ◌||◌, if◌then◌else◌, List, ◌∷◌, ◌++◌, inl, inr, refl, ap, sym, ◌∙◌, subst, arith}
+use Rattle.std.proofs.Common.{◌≡◌, ◌≢◌, ℕ, zero, suc, ◌+◌, ◌*◌, ◌/◌, ◌%◌, ◌<◌, ◌≤◌, ◌==◌, Bool, true, false, ◌||◌, if◌then◌else◌, true≢false, List, ◌∷◌, ◌++◌, inl, inr, refl, ap, sym, ◌∙◌, subst, arith}
 use Rattle.std.proofs.lemmas.Bool.{eq-eqb, and_from, cases_eq}
 use Rattle.std.specs.List.{AllByRecursion}
 use Rattle.pas_profile.specs.Classes.{class_grains, IsSlotStart}
@@ -7,11 +7,15 @@ use Rattle.pas_profile.specs.Directories.{deed_word_of}
 use Rattle.pas_profile.specs.declared.profile.Profile.{Profile}
 use Rattle.pas_profile.proofs.Codecs.{deed_word_of-positive}
 use Rattle.pas_profile.proofs.ClassFacts.{class_grains_positive}
-use Rattle.pas_steps.specs.Views.{View, any_below, holds, holds_on, known_deed}
+use Rattle.pas_steps.specs.Views.{View, any_below, knows_backed, holds, holds_on, known_deed}
 use Rattle.pas_steps.specs.Agreement.{Agreed}
-use Rattle.pas_steps.specs.Desks.{Standing}
+use Rattle.pas_steps.specs.Calls.{Effect, Fate, Kept, Lost, now, nothing, ClearAfter, Does}
+use Rattle.pas_steps.specs.Clear.{IsClear}
+use Rattle.pas_cache.specs.Effects.{of_slots}
+use Rattle.pas_steps.proofs.Kept.{deed_stays}
+use Rattle.pas_steps.specs.declared.step.Made.{Made}
 use Rattle.pas_segregated.specs.Masks.{IsSome}
-use Rattle.pas_segregated.specs.Stops.{directory_of, MayStop, Stops}
+use Rattle.pas_segregated.specs.Stops.{directory_of, MayStop}
 use Rattle.pas_segregated.specs.declared.slots.Slots.{Slots}
 use Rattle.pas_cache.specs.Locals.{covers, keeps_right, any_covers, any_keeps, is_for, count_for, HasOneEach, IsLocal, IsAway, RestsWith}
 use Rattle.pas_cache.specs.Pieces.{MayGiveSlot}
@@ -50,8 +54,43 @@ held_of f v w t locals here some grains within =
 pub known_some : (page : ℕ) (t : Slots) (v : View) → known_deed v t.page ≡ deed_word_of (directory_of t) → known_deed v t.page ≢ 0
 known_some page t v knows z = deed_word_of-positive (directory_of t) (sym knows ∙ z)
 
+-- ---- after a call
+pub unless_covered : (t : Bool) (fate : Fate) → (t ≡ true → ⊥) → (if t then fate else Kept) ≡ Kept
+unless_covered true fate not_so = absurd (not_so refl)
+unless_covered false fate not_so = refl
+
+pub still_clear_by : {e : Effect} {v w : View} → Does e v w → ((page : ℕ) → e.clears page ≡ Kept) → IsClear v → IsClear w
+still_clear_by {e} {v} {w} does kept clear = record { on = λ page. subst (λ t. ClearAfter t page v w) (kept page) (does.clear page) (clear.on page) }
+
+-- a local allocator whose grains were all kept
+pub local_after : (f : Profile) (e : Effect) (steps : List Made) (v : View) (t : Slots) → Does e v (steps ++ v) → Agreed f v steps → ((g : ℕ) → covers t g ≡ true → (holds v g ≡ true) × (e.grains g ≡ Kept)) → IsLocal f v t → IsLocal f (steps ++ v) t
+local_after f e steps v t does agreed stays at = record {
+  page = at.page;
+  directory = at.directory;
+  starts = at.starts;
+  deed = deed_stays f steps v t.page agreed (known_some t.page t v at.deed) ∙ at.deed;
+  backed = λ some.
+      let start : ℕ = some.0 in
+      let lt : start < 256 = some.1 in
+      let g : ℕ = first_grain t start in
+      let on : g / 256 ≡ t.page = omega (arith, lt) in
+      let here = stays g (some_grain f v t at some) in
+      subst (λ p. knows_backed (steps ++ v) p ≡ true) on (does.backed g here.1 (record { held = here.0; backed = subst (λ p. knows_backed v p ≡ true) (sym on) (at.backed some) })).backed;
+}
+
+-- a call that did nothing
+pub rests_kept : (f : Profile) (locals : List Slots) (steps : List Made) (v : View) → Does nothing v (steps ++ v) → Agreed f v steps → RestsWith f locals v → RestsWith f locals (steps ++ v)
+rests_kept f locals steps v does agreed h = record {
+  grains = λ g. does.held g ∙ h.grains g;
+  rights = λ p. does.right p ∙ h.rights p;
+  clear = still_clear_by does (λ p. refl) h.clear;
+  known = map_locals (IsLocal f v) (IsLocal f (steps ++ v)) locals (λ t within at. local_after f nothing steps v t does agreed (λ g here. (h.grains g ∙ within g here, refl)) at) h.known;
+  one_each = h.one_each;
+  apart = h.apart;
+}
+
 -- ---- one goes
-pub less : (c r : Bool) → (c ≡ true → r ≡ false) → (not c && (c || r)) ≡ r
+pub less : (c r : Bool) → (c ≡ true → r ≡ false) → now (if c then Lost else Kept) (c || r) ≡ r
 less true r away = sym (away refl)
 less false r away = refl
 
@@ -93,27 +132,15 @@ module _ (f : Profile) (locals : List Slots) (slots : Slots) (rest : List Slots)
       let fewer = fewer_each heap class slots rest in
       omega (arith, all, counts, fewer)
 
-  module _ {σ σ' : Standing} (stops : Stops slots σ σ') (same : σ.seat.profile ≡ f) (agreed : Agreed f v stops.steps) where
-    ok : Agreed σ.seat.profile v stops.steps
-    ok = subst (λ x. Agreed x v stops.steps) (sym same) agreed
-
-    grains_left : (g : ℕ) → holds (stops.steps ++ v) g ≡ any_covers rest g
-    grains_left g =
-        stops.grains v g ∙ ap (λ t. not (covers slots g) && t) (h.grains g ∙ w.grains g)
-        ∙ less (covers slots g) (any_covers rest g) (away.grains g)
-
-    pub rests_stopped : RestsWith f rest (stops.steps ++ v)
+  module _ (steps : List Made) (does : Does (of_slots slots Lost) v (steps ++ v)) (agreed : Agreed f v steps) where
+    pub rests_stopped : RestsWith f rest (steps ++ v)
     rests_stopped = record {
-      grains = grains_left;
-      rights = λ p. stops.rights v ok p ∙ ap (λ t. not (keeps_right slots p) && t) (h.rights p ∙ w.rights p) ∙ less (keeps_right slots p) (any_keeps rest p) (away.rights p);
-      clear = stops.clear v may_stop ok;
-      known = map_locals (IsLocal f v) (IsLocal f (stops.steps ++ v)) rest (λ t within at. record {
-        page = at.page;
-        directory = at.directory;
-        starts = at.starts;
-        deed = stops.deeds v t.page ok (known_some t.page t v at.deed) ∙ at.deed;
-        backed = λ some. stops.backed v t.page ok (at.backed some) (held_of f v (stops.steps ++ v) t rest at some grains_left within);
-      }) others;
+      grains = λ g. does.held g ∙ ap (now (if covers slots g then Lost else Kept)) (h.grains g ∙ w.grains g) ∙ less (covers slots g) (any_covers rest g) (away.grains g);
+      rights = λ p. does.right p ∙ ap (now (if keeps_right slots p then Lost else Kept)) (h.rights p ∙ w.rights p) ∙ less (keeps_right slots p) (any_keeps rest p) (away.rights p);
+      clear = still_clear_by does (λ p. refl) h.clear;
+      known = map_locals (IsLocal f v) (IsLocal f (steps ++ v)) rest (λ t within at. local_after f (of_slots slots Lost) steps v t does agreed (λ g here.
+          let there = or_second (covers slots g) (any_covers rest g) (within g here) in
+          (h.grains g ∙ (w.grains g ∙ there), unless_covered (covers slots g) Lost (λ mine. true≢false (sym (within g here) ∙ away.grains g mine)))) at) others;
       one_each = rest_each;
       apart = (w.apart h.apart).1;
     }

@@ -1,9 +1,8 @@
 -- What a cache contains, and when its actor is at rest with it.
-use Rattle.std.specs.Prelude.{ℕ, ◌≤◌, List, length, All, ◌≡◌, false}
+use Rattle.std.specs.Prelude.{ℕ, ◌≤◌, List, length, All}
 use Rattle.pas_profile.specs.declared.name.Name.{Name}
 use Rattle.pas_profile.specs.declared.profile.Profile.{Profile}
-use Rattle.pas_steps.specs.Views.{View, holds, has_right}
-use Rattle.pas_steps.specs.Clear.{IsClear}
+use Rattle.pas_steps.specs.Views.{View}
 use Rattle.pas_free_log.specs.Conditions.{IsNameOf}
 use Rattle.pas_free_log.specs.Logs.{names_in}
 use Rattle.pas_segregated.specs.declared.slots.Slots.{Slots}

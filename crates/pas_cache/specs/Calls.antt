@@ -19,8 +19,9 @@ use Rattle.pas_cache.specs.Caches.{Cached, AtRest}
 use Rattle.pas_steps.specs.Clear.{HasNothing}
 use Rattle.pas_cache.specs.Names.{IsInRegion, IsFaultOf}
 use Rattle.pas_cache.specs.Changes.{EmptiesLog, LogsName, StopsAll}
-use Rattle.pas_cache.specs.Pieces.{AreReleasing}
-use Rattle.pas_cache.specs.Serves.{ServesRequest, AreAllocating, IsBlockFor, MakesFew, IsSilent, IsToldBy}
+use Rattle.pas_steps.specs.Kinds.{Only}
+use Rattle.pas_cache.specs.Kinds.{releasing, allocating}
+use Rattle.pas_cache.specs.Serves.{ServesRequest, IsBlockFor, MakesFew, IsSilent, IsToldBy}
 
 -- an actor that is at rest with a cache is at rest with the other after these steps
 abbrev pub StaysAtRest : Profile → Cached → Cached → List Made → Type 0
@@ -45,7 +46,7 @@ pub record Allocates (heap class align : ℕ) (tells : Bool) (c c' : Cached) (de
   pub steps : List Made
   pub adds : Adds desk desk' (λ v l. AtRest desk.seat.profile c v) steps
   pub change : ServesRequest desk.seat.profile heap class c c' steps answer
-  pub kinds : AreAllocating steps
+  pub kinds : Only allocating steps
   pub few : MakesFew desk.seat.profile (AtRest desk.seat.profile c) 2 steps
   pub outcome : MatchResult answer (IsBlockFor desk.seat.profile (AtRest desk.seat.profile c) heap class steps) (λ room. IsSilent steps)
   pub aligned : MatchResult answer (λ block. address_of block.name % align ≡ 0) (λ room. Unit {0})
@@ -88,7 +89,7 @@ pub record StopsCache (c c' : Cached) (desk desk' : Standing) : Type 0 where
   pub adds : Adds desk desk' (λ v l. AtRest desk.seat.profile c v) (stopped ++ flushed)
   pub empties : EmptiesLog desk.seat.actor c.log flushed
   pub stops : StopsAll c.locals stopped
-  pub kinds : AreReleasing stopped
+  pub kinds : Only releasing stopped
   pub silent : (k : ℕ) (v : View) → events_by k v stopped ≡ []
   pub cache : c' ≡ record { locals = []; log = []; idle_since = c.idle_since }
   pub rest : StaysAtRest desk.seat.profile c c' (stopped ++ flushed)

@@ -1,3 +1,5 @@
+pub mod Kinds
+pub mod Effects
 pub mod Locals
 pub mod Places
 pub mod Caches

@@ -7,12 +7,10 @@ use Rattle.pas_steps.specs.Views.{View, holds, is_unstamped}
 use Rattle.pas_steps.specs.Events.{events_by}
 use Rattle.pas_steps.specs.Agreement.{Agreed}
 use Rattle.pas_steps.specs.Lists.{Whole}
-use Rattle.pas_steps.specs.Past.{Always}
 use Rattle.pas_steps.specs.Desks.{Standing, Adds, triples}
 use Rattle.pas_steps.specs.declared.step.Made.{Made}
-use Rattle.pas_steps.specs.declared.step.Step.{Step}
-use Rattle.pas_steps.specs.declared.step.Step.TheVariants.{Look, Deed, Back, Take, Put, Give, End, TakeRight, Offer, Park, Unpark, Stamp, Hint, Tick, Unback, Unhint}
-use Rattle.pas_search.specs.Kinds.{AreQuiet}
+use Rattle.pas_steps.specs.Kinds.{Only}
+use Rattle.pas_cache.specs.Kinds.{releasing, allocating}
 use Rattle.pas_steps.specs.Unknown.{HasRoom}
 use Rattle.pas_search.specs.Telling.{HasNoFit, IsTrueReason}
 use Rattle.pas_segregated.specs.Masks.{IsSome}
@@ -21,7 +19,7 @@ use Rattle.pas_segregated.specs.Takes.{exclusive}
 use Rattle.pas_segregated.specs.declared.slots.Slots.{Slots}
 use Rattle.pas_cache.specs.Locals.{covers, local_for, others_than, IsLocal, RestsWith}
 use Rattle.pas_cache.specs.Changes.{GivesSlot, IsTakenOut, IsShortened}
-use Rattle.pas_cache.specs.Serves.{IsRefill, ServesLocals, AreAllocating, IsBlockFor, MakesFew, IsSilent, IsToldBy}
+use Rattle.pas_cache.specs.Serves.{IsRefill, ServesLocals, IsBlockFor, MakesFew, IsSilent, IsToldBy}
 
 -- ---- a slot is given
 -- the grains of the slots are held, what they say of their page is known, and it isn't unstamped
@@ -37,35 +35,12 @@ pub record GivesLowest (slots slots' : Slots) (block : Block) (desk desk' : Stan
   pub turn : (v : View) → MayGiveSlot desk.seat.profile slots v → Agreed desk.seat.profile v steps → block.name.turn < 2 ^ 37
 
 -- ---- local allocators go
--- the step gives back: a look, a put, or what is owed after it and with a right
-abbrev pub IsReleasing : Step → Type 0
-IsReleasing (Look word) = Unit {0}
-IsReleasing (Deed page directory) = ⊥
-IsReleasing (Back page) = ⊥
-IsReleasing (Take page word mask) = ⊥
-IsReleasing (Put page word mask) = Unit {0}
-IsReleasing (Give block) = ⊥
-IsReleasing (End name guess) = ⊥
-IsReleasing (TakeRight page directory) = ⊥
-IsReleasing (Offer page directory) = Unit {0}
-IsReleasing (Park page) = Unit {0}
-IsReleasing (Unpark page) = Unit {0}
-IsReleasing (Stamp page) = ⊥
-IsReleasing (Hint page) = Unit {0}
-IsReleasing (Tick raised) = ⊥
-IsReleasing (Unback page) = ⊥
-IsReleasing (Unhint page) = ⊥
-
-abbrev pub AreReleasing : List Made → Type 0
-AreReleasing = Always (λ m before. IsReleasing m.step)
-
 -- Some local allocators go by these steps, and the actor is at rest with those that are left.
 pub record Releases (Change : List Made → Type 0) (locals locals' : List Slots) (desk desk' : Standing) : Type 0 where
   pub steps : List Made
   pub adds : Adds desk desk' (λ v l. RestsWith desk.seat.profile locals v) steps
   pub change : Change steps
-  pub kinds : AreReleasing steps
-  pub quiet : AreQuiet steps
+  pub kinds : Only releasing steps
   pub rest : (v : View) → RestsWith desk.seat.profile locals v → Agreed desk.seat.profile v steps → RestsWith desk.seat.profile locals' (steps ++ v)
 
 -- ---- slots are obtained
@@ -87,8 +62,7 @@ IsToldAfter f heap class entry exit answer = MatchResult answer (λ slots. Unit 
 pub record FetchesSlots (heap class : ℕ) (tells : Bool) (locals locals' : List Slots) (desk desk' : Standing) (answer : Result Slots NoRoom) : Type 0 where
   pub stopped : List Made
   pub shortened : IsShortened locals locals' stopped
-  pub kinds : AreReleasing stopped
-  pub quiet : AreQuiet stopped
+  pub kinds : Only releasing stopped
   pub searched : List Made
   pub refill : IsRefill heap class desk.seat.profile searched answer
   pub adds : Adds desk desk' (λ v l. RestsWith desk.seat.profile locals v) (searched ++ stopped)
@@ -115,8 +89,7 @@ pub record FetchesAnew (f : Profile) (heap class : ℕ) (locals locals' : List S
   pub taken : IsTakenOut heap class locals kept spent
   pub stopped : List Made
   pub shortened : IsShortened kept locals' stopped
-  pub kinds : AreReleasing (stopped ++ spent)
-  pub quiet : AreQuiet (stopped ++ spent)
+  pub kinds : Only releasing (stopped ++ spent)
   pub searched : List Made
   pub refill : IsRefill heap class f searched answer
   pub steps_are : steps ≡ searched ++ (stopped ++ spent)
@@ -143,7 +116,7 @@ pub record ServesFrom (heap class : ℕ) (tells : Bool) (locals locals' : List S
   pub steps : List Made
   pub adds : Adds desk desk' (λ v l. RestsWith desk.seat.profile locals v) steps
   pub change : ServesLocals desk.seat.profile heap class locals locals' steps answer
-  pub kinds : AreAllocating steps
+  pub kinds : Only allocating steps
   pub few : MakesFew desk.seat.profile (RestsWith desk.seat.profile locals) 2 steps
   pub outcome : MatchResult answer (IsBlockFor desk.seat.profile (RestsWith desk.seat.profile locals) heap class steps) (λ room. IsSilent steps)
   pub count : length locals' ≤ 32

@@ -14,10 +14,7 @@ use Rattle.pas_steps.specs.Views.{View, KnowsDeed}
 use Rattle.pas_steps.specs.Events.{events_by}
 use Rattle.pas_steps.specs.Agreement.{Agreed}
 use Rattle.pas_steps.specs.Lists.{Whole}
-use Rattle.pas_steps.specs.Past.{Always}
 use Rattle.pas_steps.specs.declared.step.Made.{Made}
-use Rattle.pas_steps.specs.declared.step.Step.{Step}
-use Rattle.pas_steps.specs.declared.step.Step.TheVariants.{Look, Deed, Back, Take, Put, Give, End, TakeRight, Offer, Park, Unpark, Stamp, Hint, Tick, Unback, Unhint}
 use Rattle.pas_search.specs.Kinds.{OnlySearches}
 use Rattle.pas_search.specs.Searches.{IsRefused}
 use Rattle.pas_search.specs.Telling.{HasNoFit, IsTrueReason}
@@ -91,28 +88,6 @@ pub record ServesRequest (f : Profile) (heap class : ℕ) (c c' : Cached) (steps
   pub idle_since : c'.idle_since ≡ c.idle_since
 
 -- ---- kinds of steps and events
--- what a request may do: it ends no block and stamps no page
-abbrev pub IsAllocating : Step → Type 0
-IsAllocating (Look word) = Unit {0}
-IsAllocating (Deed page directory) = Unit {0}
-IsAllocating (Back page) = Unit {0}
-IsAllocating (Take page word mask) = Unit {0}
-IsAllocating (Put page word mask) = Unit {0}
-IsAllocating (Give block) = Unit {0}
-IsAllocating (End name guess) = ⊥
-IsAllocating (TakeRight page directory) = Unit {0}
-IsAllocating (Offer page directory) = Unit {0}
-IsAllocating (Park page) = Unit {0}
-IsAllocating (Unpark page) = Unit {0}
-IsAllocating (Stamp page) = ⊥
-IsAllocating (Hint page) = Unit {0}
-IsAllocating (Tick raised) = ⊥
-IsAllocating (Unback page) = ⊥
-IsAllocating (Unhint page) = ⊥
-
-abbrev pub AreAllocating : List Made → Type 0
-AreAllocating = Always (λ m before. IsAllocating m.step)
-
 -- what may be shown before a give: deeds of the request's directory, and backs
 pub data IsPreparing (d : Directory) : Event → Type 0 where
   Deeds : (k page : ℕ) → IsPreparing d (Event.Deed k page d)

@@ -13,12 +13,13 @@ use Rattle.pas_steps.specs.Lists.{Whole}
 use Rattle.pas_steps.specs.Desks.{Standing, Seat, CanCall}
 use Rattle.pas_steps.specs.declared.step.Made.{Made}
 use Rattle.pas_steps.proofs.Adding.{can_call}
-use Rattle.pas_search.specs.Kinds.{AreQuiet}
 use Rattle.pas_steps.specs.Unknown.{unknown_pages}
 use Rattle.pas_cache.specs.Caches.{Cached, AtRest}
 use Rattle.pas_cache.specs.Changes.{EmptiesFull}
 use Rattle.pas_cache.specs.Calls.{Allocates, TakesName, RefusesName, Frees, StopsCache}
 use Rattle.pas_cache.proofs.Budget.{HasBudget}
+use Rattle.pas_steps.specs.Kinds.{Only}
+use Rattle.pas_cache.specs.Kinds.{releasing}
 use Rattle.pas_cache.proofs.Going.{spare_kept}
 
 -- the request is one that every profile admits
@@ -76,7 +77,7 @@ pub stop_room : {σ σ' : Standing} {c c' : Cached} {name : Name} {answer : Resu
     → length c'.log ≤ spare'
 stop_room {spare = spare} {spare' = spare'} none h can law law' =
     let one = freed_one none h in
-    let same : spare' ≡ spare = spare_kept h.adds (rest_call can) (subst AreQuiet (sym one.no_steps) tt) law law' in
+    let same : spare' ≡ spare = spare_kept h.adds (rest_call can) (subst (Only releasing) (sym one.no_steps) tt) law law' in
     let few = one.log in
     let room = can.met.room in
     omega (arith, same, few, room)

@@ -2,6 +2,7 @@ use Rattle.std.proofs.Common.{sym, ◌∙◌, refl, subst}
 use Rattle.pas_profile.specs.Profiles.{IsDirectoryOf}
 use Rattle.pas_steps.specs.Desks.{Seat}
 use Rattle.pas_segregated.specs.Stops.{class_directory}
+use Rattle.pas_cache.proofs.Below.{stop_only}
 use Rattle.pas_cache.proofs.Going.{local_of, may_call, spare_kept}
 use Rattle.pas_cache.proofs.Coming.{obtain_rests, obtain_after}
 use Rattle.pas_cache.proofs.Obtained.{obtains_cached, obtains_anew, none_cached, none_at_all, found_without, none_releases, spent_releases, none_of}
@@ -56,7 +57,7 @@ fetch-requires-2-clause-can g c =
     let w = found_without c.args.heap c.args.class _ _ c.in-Some.slots can.met.one_each found c.take_out.ensures.others in
     let s = c.stop.ensures.stops in
     obtain_after _ _ (spent_releases c.args.heap c.args.class _ _ c.in-Some.slots can.met.one_each found c.take_out.ensures.others (local_of _ _ _ w can).directory.kind c.if-has_slot.ensures s)
-    (spare_kept s.adds (may_call _ _ _ w can) s.quiet (λ v l q. g.met.D.Desk.spares c.args.desk.now v l q) (λ v l q. g.met.D.Desk.spares c.stop.new.desk v l q)) c.requires.can
+    (spare_kept s.adds (may_call _ _ _ w can) (stop_only _ _ s.order) (λ v l q. g.met.D.Desk.spares c.args.desk.now v l q) (λ v l q. g.met.D.Desk.spares c.stop.new.desk v l q)) c.requires.can
 
 pub returns-clause-obtains : goal.returns-clause-obtains
 returns-clause-obtains g c =

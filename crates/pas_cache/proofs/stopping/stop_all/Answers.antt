@@ -1,4 +1,5 @@
 use Rattle.std.proofs.Common.{◌∷◌, ◌∙◌, ap, true≢false, append_assoc, append-nil, refl, [], ◌++◌, sym}
+use Rattle.pas_cache.proofs.Below.{stop_only}
 use Rattle.pas_cache.proofs.Going.{rests_call, local_of, may_call, spare_kept, last_popped, stops_more, stops_none, all_stopped, popped_none}
 use Rattle.pas_cache.proofs.stopping.stop_all.Goals as goal
 
@@ -28,7 +29,7 @@ loop-slots-preserved g c =
       stopped = x ∷ i.stopped;
       whole = i.whole ∙ (ap (λ xs. xs ++ i.stopped) c.in-Some.ensures.items ∙ append_assoc c.pop.new.self.items (x ∷ []) i.stopped);
       releases = stops_more _ _ _ x i.stopped c.in-Some.ensures.items i.releases s;
-      spare = spare_kept s.adds (may_call _ _ _ (last_popped _ _ _ c.in-Some.ensures.items) (rests_call _ _ i.releases c.requires.can)) s.quiet
+      spare = spare_kept s.adds (may_call _ _ _ (last_popped _ _ _ c.in-Some.ensures.items) (rests_call _ _ i.releases c.requires.can)) (stop_only _ _ s.order)
           (λ v l q. g.met.D.Desk.spares c.loop-slots.desk v l q) (λ v l q. g.met.D.Desk.spares c.stop.new.desk v l q) ∙ i.spare;
       home = c.stop.ensures.home ∙ i.home;
     }
