@@ -22,7 +22,7 @@ use Rattle.pas_report.specs.declared.record.Record.{Record}
 use Rattle.pas_report.specs.declared.records.Records.{Records}
 use Rattle.pas_cache.specs.Caches.{Cached, cached, AtRest}
 use Rattle.pas_cache.specs.Calls.{Begins}
-use Rattle.pas_answers.specs.Acts.{Act, Operates, MarksPhase as Marks, Wakes, MarksClose, Ends, is_active, active_from, numbers_from, phase_acts, close_acts, acts_from, acts_of}
+use Rattle.pas_answers.specs.Acts.{Act, Operates, MarksPhase, Wakes, MarksClose, Ends, is_active, active_from, numbers_from, phase_acts, close_acts, acts_from, acts_of}
 use Rattle.pas_answers.specs.Answers.{with_cache, begun, Follows}
 use Rattle.pas_answers.specs.Calls.{owed_events}
 use Rattle.pas_answers.specs.Fit.{AreFit, costs_of, own_costs_of, ops_in, marks_in}
@@ -61,7 +61,7 @@ marked_so {f} {all} {more} {act} {region} {threads} {table} {out} {out'} mark so
   answers = answers;
 }
 
-pub after_mark : {f : Profile} {all more : List Act} {region : PlainRegion} {threads : List Thread} {table : Names} {out out' : Records} (n : ℕ) → SoFar f all (Marks n ∷ more) region threads table out
+pub after_mark : {f : Profile} {all more : List Act} {region : PlainRegion} {threads : List Thread} {table : Names} {out out' : Records} (n : ℕ) → SoFar f all (MarksPhase n ∷ more) region threads table out
     → records_in out' ≡ records_in out ++ Record.Phase n ∷ [] → room_of out' ≡ room_of out → SoFar f all more region threads table out'
 after_mark {f} {all} {more} {region} {threads} {table} {out} {out'} n so pushed room = marked_so (Record.Phase n) so refl
     (let spare = so.spare in let m = ap length pushed ∙ length-append (records_in out) (Record.Phase n ∷ []) in omega (arith, spare, m, room))
@@ -74,7 +74,7 @@ after_close {f} {all} {more} {region} {threads} {table} {out} {out'} so pushed r
     (λ l rs follows. so.answers l rs (subst (λ (r : List Record). Follows f more so.names so.caches so.whole r l rs) pushed follows))
 
 -- there is room for the mark
-pub mark_room : {f : Profile} {all more : List Act} {region : PlainRegion} {threads : List Thread} {table : Names} {out : Records} (n : ℕ) → SoFar f all (Marks n ∷ more) region threads table out → length (records_in out) < room_of out
+pub mark_room : {f : Profile} {all more : List Act} {region : PlainRegion} {threads : List Thread} {table : Names} {out : Records} (n : ℕ) → SoFar f all (MarksPhase n ∷ more) region threads table out → length (records_in out) < room_of out
 mark_room n so = let spare = so.spare in omega (arith, spare)
 
 pub close_room : {f : Profile} {all more : List Act} {region : PlainRegion} {threads : List Thread} {table : Names} {out : Records} → SoFar f all (MarksClose ∷ more) region threads table out → length (records_in out) < room_of out
@@ -178,8 +178,8 @@ left_is : (threads n : ℕ) (phases : List (List Op)) → 1 ≤ n → acts_left 
 left_is threads zero phases some = absurd (omega (arith, some))
 left_is threads (suc n) phases some = refl
 
-pub other_phase : (threads n : ℕ) (phase : List Op) (phases : List (List Op)) → 1 ≤ n → acts_left threads n (phase ∷ phases) ≡ Marks (n + 1) ∷ (phase_acts threads phase ++ acts_left threads (n + 1) phases)
-other_phase threads n phase phases some = left_is threads n (phase ∷ phases) some ∙ ap (λ (acts : List Act). Marks (n + 1) ∷ (phase_acts threads phase ++ acts)) (sym (left_is threads (n + 1) phases (omega arith)))
+pub other_phase : (threads n : ℕ) (phase : List Op) (phases : List (List Op)) → 1 ≤ n → acts_left threads n (phase ∷ phases) ≡ MarksPhase (n + 1) ∷ (phase_acts threads phase ++ acts_left threads (n + 1) phases)
+other_phase threads n phase phases some = left_is threads n (phase ∷ phases) some ∙ ap (λ (acts : List Act). MarksPhase (n + 1) ∷ (phase_acts threads phase ++ acts)) (sym (left_is threads (n + 1) phases (omega arith)))
 
 first_phase : (threads n : ℕ) (phase : List Op) (phases : List (List Op)) → n ≡ 0 → acts_left threads n (phase ∷ phases) ≡ phase_acts threads phase ++ acts_left threads (n + 1) phases
 first_phase threads zero phase phases is = refl
@@ -198,7 +198,7 @@ begins_first {f} {all} {region} {list} {table} {out} threads i ops rest is so = 
 
 -- another one
 begins_other : {f : Profile} {all : List Act} {region : PlainRegion} {list : List Thread} {table : Names} {out : Records} (threads i : ℕ) (ops : List Op) (rest : List (List Op)) → 1 ≤ i → SoFar f all (acts_left threads i (ops ∷ rest)) region list table out
-    → SoFar f all (Marks (i + 1) ∷ (phase_acts threads ops ++ acts_left threads (i + 1) rest)) region list table out
+    → SoFar f all (MarksPhase (i + 1) ∷ (phase_acts threads ops ++ acts_left threads (i + 1) rest)) region list table out
 begins_other {f} {all} {region} {list} {table} {out} threads i ops rest some so = subst (λ (acts : List Act). SoFar f all acts region list table out) (other_phase threads i ops rest some) so
 
 pub marked : {f : Profile} {all : List Act} {region : PlainRegion} {list : List Thread} {table : Names} {out out' : Records} (threads i n : ℕ) (ops : List Op) (rest : List (List Op)) → 1 ≤ i → n ≡ i + 1 → SoFar f all (acts_left threads i (ops ∷ rest)) region list table out
