@@ -9,12 +9,12 @@ use Rattle.pas_report.specs.declared.record.Record.{Record}
 use Rattle.pas_report.proofs.Placing.{true_marks}
 use Rattle.pas_answers.specs.Acts.{acts_of}
 use Rattle.pas_answers.specs.Answers.{Follows}
-use Rattle.pas_answers.specs.Replays.{phases_of, empty_caches, IsReplay}
+use Rattle.pas_answers.specs.Replays.{at_start, phases_of, empty_caches, IsReplay}
 use Rattle.pas_answers.specs.Ways.{Way, IsOneOrder, arranged}
 use Rattle.pas_answers.proofs.Keeping.{stamps_are}
 use Rattle.pas_answers.proofs.Requests.{known_directory}
 
-pub replays : (way : Way) (plan : Plan) (told whole : Whole) (said records : List Record) → IsValid plan.profile → Follows plan.profile (acts_of plan.profile.threads (phases_of plan)) [] empty_caches [] [] told said
+pub replays : (way : Way) (plan : Plan) (told whole : Whole) (said records : List Record) → IsValid plan.profile → Follows plan.profile (acts_of plan.profile.threads (phases_of plan)) at_start told said
     → IsOneOrder way told whole → records ≡ arranged way plan.profile.threads said → Legal plan.profile whole → ((k : ℕ) → HasNothing (part k whole)) → IsReplay way plan whole records
 replays way plan told whole said records valid answers one_order records_are legal nothing = record {
   told = told;

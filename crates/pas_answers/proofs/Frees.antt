@@ -20,7 +20,7 @@ use Rattle.pas_cache.specs.Caches.{Cached}
 use Rattle.pas_cache.specs.Calls.{TakesName, RefusesName, Frees, FlushesLog, StopsCache}
 use Rattle.pas_answers.specs.Answers.{Named, standing_for, said_of_fault, IsFreedBy}
 use Rattle.pas_answers.specs.Names.{block_named}
-use Rattle.pas_answers.specs.Calls.{block_behind, Tells, IsKnown, owed_events, Performs, FreesOne}
+use Rattle.pas_answers.specs.Calls.{works, block_behind, Tells, IsKnown, owed_events, Performs, FreesOne}
 use Rattle.pas_answers.specs.declared.names.Names.{Names}
 use Rattle.pas_answers.proofs.Owed.{emptied_events, full_events}
 use Rattle.pas_steps.proofs.Unknown.{unknown_stays}
@@ -75,8 +75,8 @@ stands_for : (table : Names) (names : List Named) (name : ℕ) (block : Option B
 stands_for table names name block named tells known =
     known.1 ∙ ap (λ b. Some b) (sym (behind (standing_for names name) known.0 known.1) ∙ sym (tells name) ∙ named)
 
-pub performs_free : {σ σ' : Standing} {said : Option Said} (what : What) (table : Names) (c c' : Cached) (name : ℕ) (block : Block) → what ≡ Free name → block_named table name ≡ Some block → FreesOne block.name c c' σ σ' said → Performs what table table c c' σ σ' said
-performs_free {σ} {σ'} {said} what table c c' name block is named frees = subst (λ w. Performs w table table c c' σ σ' said) (sym is) record {
+pub performs_free : {σ σ' : Standing} {said : Option Said} (what : What) (table : Names) (c c' : Cached) (name : ℕ) (block : Block) → what ≡ Free name → block_named table name ≡ Some block → FreesOne block.name c c' σ σ' said → Performs what (works table c) (works table c') σ σ' said
+performs_free {σ} {σ'} {said} what table c c' name block is named frees = subst (λ w. Performs w (works table c) (works table c') σ σ' said) (sym is) record {
   steps = frees.steps;
   adds = frees.adds;
   rest = frees.rest;
@@ -90,8 +90,8 @@ performs_free {σ} {σ'} {said} what table c c' name block is named frees = subs
 }
 
 -- its request was refused
-pub performs_skip : {σ : Standing} (what : What) (table : Names) (c : Cached) (name : ℕ) → what ≡ Free name → block_named table name ≡ None → Performs what table table c c σ σ (Some (Said.Skipped name))
-performs_skip {σ} what table c name is named = subst (λ w. Performs w table table c c σ σ (Some (Said.Skipped name))) (sym is) record {
+pub performs_skip : {σ : Standing} (what : What) (table : Names) (c : Cached) (name : ℕ) → what ≡ Free name → block_named table name ≡ None → Performs what (works table c) (works table c) σ σ (Some (Said.Skipped name))
+performs_skip {σ} what table c name is named = subst (λ w. Performs w (works table c) (works table c) σ σ (Some (Said.Skipped name))) (sym is) record {
   steps = [];
   adds = adds_none;
   rest = λ v rest agreed. rest;
@@ -105,8 +105,8 @@ performs_skip {σ} what table c name is named = subst (λ w. Performs w table ta
 }
 
 -- a free by address and turn
-pub performs_raw : {σ σ' : Standing} {said : Option Said} (what : What) (table : Names) (c c' : Cached) (block : Name) → what ≡ Raw block → FreesOne block c c' σ σ' said → Performs what table table c c' σ σ' said
-performs_raw {σ} {σ'} {said} what table c c' block is frees = subst (λ w. Performs w table table c c' σ σ' said) (sym is) record {
+pub performs_raw : {σ σ' : Standing} {said : Option Said} (what : What) (table : Names) (c c' : Cached) (block : Name) → what ≡ Raw block → FreesOne block c c' σ σ' said → Performs what (works table c) (works table c') σ σ' said
+performs_raw {σ} {σ'} {said} what table c c' block is frees = subst (λ w. Performs w (works table c) (works table c') σ σ' said) (sym is) record {
   steps = frees.steps;
   adds = frees.adds;
   rest = frees.rest;
@@ -116,8 +116,8 @@ performs_raw {σ} {σ'} {said} what table c c' block is frees = subst (λ w. Per
 }
 
 -- ---- a flush and a stop
-pub performs_flush : {σ σ' : Standing} (what : What) (table : Names) (c c' : Cached) → what ≡ Flush → FlushesLog c c' σ σ' → Performs what table table c c' σ σ' None
-performs_flush {σ} {σ'} what table c c' is flushes = subst (λ w. Performs w table table c c' σ σ' None) (sym is) record {
+pub performs_flush : {σ σ' : Standing} (what : What) (table : Names) (c c' : Cached) → what ≡ Flush → FlushesLog c c' σ σ' → Performs what (works table c) (works table c') σ σ' None
+performs_flush {σ} {σ'} what table c c' is flushes = subst (λ w. Performs w (works table c) (works table c') σ σ' None) (sym is) record {
   steps = flushes.steps;
   adds = flushes.adds;
   rest = flushes.rest;
@@ -134,8 +134,8 @@ stopped_events : (k : ℕ) (names : List Name) (v : View) (stopped flushed : Lis
 stopped_events k names v stopped flushed events silent =
     ap (λ (es : List Event). length es) (events_append k stopped flushed v ∙ ap (λ (es : List Event). es ++ events_by k v flushed) silent) ∙ events
 
-pub performs_stop : {σ σ' : Standing} (what : What) (table : Names) (c c' : Cached) → what ≡ Stop → StopsCache c c' σ σ' → Performs what table table c c' σ σ' None
-performs_stop {σ} {σ'} what table c c' is stops = subst (λ w. Performs w table table c c' σ σ' None) (sym is) record {
+pub performs_stop : {σ σ' : Standing} (what : What) (table : Names) (c c' : Cached) → what ≡ Stop → StopsCache c c' σ σ' → Performs what (works table c) (works table c') σ σ' None
+performs_stop {σ} {σ'} what table c c' is stops = subst (λ w. Performs w (works table c) (works table c') σ σ' None) (sym is) record {
   steps = stops.stopped ++ stops.flushed;
   adds = stops.adds;
   rest = stops.rest;

@@ -42,9 +42,9 @@ use Rattle.pas_trace.specs.declared.plan.What.{What}
 use Rattle.pas_report.specs.declared.record.Record.{Record}
 use Rattle.pas_report.specs.declared.record.Said.{Said}
 use Rattle.pas_answers.specs.Acts.{Act, Operates, MarksPhase, Wakes, MarksClose, Ends}
-use Rattle.pas_answers.specs.Answers.{Named, Caches, with_cache, begun, records_of, said_by, standing_for, IsFreed, IsFreedBy, IsStopped, IsAnswered, Follows}
+use Rattle.pas_answers.specs.Answers.{having, answer_of, progress, Named, Caches, with_cache, begun, records_of, said_by, standing_for, IsFreed, IsFreedBy, IsStopped, IsAnswered, Follows}
 use Rattle.pas_report.specs.Rests.{AreStamped}
-use Rattle.pas_answers.specs.Replays.{empty_caches}
+use Rattle.pas_answers.specs.Replays.{at_start, empty_caches}
 use Rattle.pas_answers.specs.Ways.{Way, IsOneOrder}
 use Rattle.pas_answers.proofs.Replayed.{AreOf, PartOf, legal_part, parts_of, same_parts}
 
@@ -329,8 +329,8 @@ freed_done f k l c c' name (Some None) steps said stamped of h = subst (Done (pa
 freed_done f k l c c' name (Some (Some block)) steps said stamped of h = free_done f k l c c' block.name steps said stamped of h
 
 answer_done : (f : Profile) (k : ℕ) (what : What) (names : List Named) (l : Whole) (c : Cached) (steps : List Made) (said : Option Said) (names' : List Named) (c' : Cached) → AllStamped (part k l) → AreOf f (triples k steps ++ l)
-    → IsAnswered f k what names (part k l) c steps said names' c' → Done (part k l) steps
-answer_done f k (What.Alloc name heap size align) names l c steps said names' c' stamped of h = allocating_done steps (part k l) h.1.kinds stamped
+    → IsAnswered f k what (having names (part k l) c) (answer_of steps said names' c') → Done (part k l) steps
+answer_done f k (What.Alloc name heap size align) names l c steps said names' c' stamped of h = allocating_done steps (part k l) h.kinds stamped
 answer_done f k (What.Free name) names l c steps said names' c' stamped of h = freed_done f k l c c' name (standing_for names name) steps said stamped of h.0
 answer_done f k (What.Raw block) names l c steps said names' c' stamped of h = free_done f k l c c' block steps said stamped of h.0
 answer_done f k What.Flush names l c steps said names' c' stamped of h = flush_done f k l c.log steps stamped of h.0.empties
@@ -358,18 +358,18 @@ more_done : (k : ℕ) (steps : List Made) (l : Whole) → AllDone l → Done (pa
 more_done k steps l all new = record { keeps = keeps_whole k steps l all.keeps new.keeps; stamped = λ j. stamped_part j k steps l (all.stamped j) new }
 
 -- the acts go on from a list of steps of the region
-follows_of : (f : Profile) (acts : List Act) (names : List Named) (caches : Caches) (l l' : Whole) (rs rs' : List Record) → Follows f acts names caches l rs l' rs' → AreOf f l' → AreOf f l
+follows_of : (f : Profile) (acts : List Act) (names : List Named) (caches : Caches) (l l' : Whole) (rs rs' : List Record) → Follows f acts (progress names caches l rs) l' rs' → AreOf f l' → AreOf f l
 follows_of f [] names caches l l' rs rs' is of = subst (AreOf f) is.0 of
 follows_of f (MarksPhase n ∷ acts) names caches l l' rs rs' is of = follows_of f acts names caches l l' (rs ++ Record.Phase n ∷ []) rs' is of
 follows_of f (MarksClose ∷ acts) names caches l l' rs rs' is of = follows_of f acts names caches l l' (rs ++ Record.Close ∷ []) rs' is of
 follows_of f (Wakes k ∷ acts) names caches l l' rs rs' is of =
     of_rest f k (made (Look Word.Epoch) is.0 ∷ []) l (follows_of f acts names (with_cache caches k (begun (caches k) is.0)) (triples k (made (Look Word.Epoch) is.0 ∷ []) ++ l) l' rs rs' is.1 of)
 follows_of f (Operates op ∷ acts) names caches l l' rs rs' is of =
-    of_rest f op.actor is.0 l (follows_of f acts is.2 (with_cache caches op.actor is.3) (triples op.actor is.0 ++ l) l' (rs ++ (records_of (events_by op.actor (part op.actor l) is.0) ++ said_by op.actor is.1)) rs' is.5 of)
+    of_rest f op.actor is.0.steps l (follows_of f acts is.0.names (with_cache caches op.actor is.0.cache) (triples op.actor is.0.steps ++ l) l' (rs ++ (records_of (events_by op.actor (part op.actor l) is.0.steps) ++ said_by op.actor is.0.said)) rs' is.2 of)
 follows_of f (Ends k ∷ acts) names caches l l' rs rs' is of =
     of_rest f k is.0 l (follows_of f acts names (with_cache caches k is.1) (triples k is.0 ++ l) l' (rs ++ records_of (events_by k (part k l) is.0)) rs' is.3 of)
 
-follows_done : (f : Profile) (acts : List Act) (names : List Named) (caches : Caches) (l l' : Whole) (rs rs' : List Record) → Follows f acts names caches l rs l' rs' → AreOf f l' → AllDone l → AllDone l'
+follows_done : (f : Profile) (acts : List Act) (names : List Named) (caches : Caches) (l l' : Whole) (rs rs' : List Record) → Follows f acts (progress names caches l rs) l' rs' → AreOf f l' → AllDone l → AllDone l'
 follows_done f [] names caches l l' rs rs' is of all = subst AllDone (sym is.0) all
 follows_done f (MarksPhase n ∷ acts) names caches l l' rs rs' is of all = follows_done f acts names caches l l' (rs ++ Record.Phase n ∷ []) rs' is of all
 follows_done f (MarksClose ∷ acts) names caches l l' rs rs' is of all = follows_done f acts names caches l l' (rs ++ Record.Close ∷ []) rs' is of all
@@ -377,9 +377,9 @@ follows_done f (Wakes k ∷ acts) names caches l l' rs rs' is of all =
     follows_done f acts names (with_cache caches k (begun (caches k) is.0)) (triples k (made (Look Word.Epoch) is.0 ∷ []) ++ l) l' rs rs' is.1 of
     (more_done k (made (Look Word.Epoch) is.0 ∷ []) l all (record { keeps = (all.stamped k, tt); stamped = all.stamped k }))
 follows_done f (Operates op ∷ acts) names caches l l' rs rs' is of all =
-    let here : AreOf f (triples op.actor is.0 ++ l) = follows_of f acts is.2 (with_cache caches op.actor is.3) (triples op.actor is.0 ++ l) l' (rs ++ (records_of (events_by op.actor (part op.actor l) is.0) ++ said_by op.actor is.1)) rs' is.5 of in
-    follows_done f acts is.2 (with_cache caches op.actor is.3) (triples op.actor is.0 ++ l) l' (rs ++ (records_of (events_by op.actor (part op.actor l) is.0) ++ said_by op.actor is.1)) rs' is.5 of
-    (more_done op.actor is.0 l all (answer_done f op.actor op.what names l (caches op.actor) is.0 is.1 is.2 is.3 (all.stamped op.actor) here is.4))
+    let here : AreOf f (triples op.actor is.0.steps ++ l) = follows_of f acts is.0.names (with_cache caches op.actor is.0.cache) (triples op.actor is.0.steps ++ l) l' (rs ++ (records_of (events_by op.actor (part op.actor l) is.0.steps) ++ said_by op.actor is.0.said)) rs' is.2 of in
+    follows_done f acts is.0.names (with_cache caches op.actor is.0.cache) (triples op.actor is.0.steps ++ l) l' (rs ++ (records_of (events_by op.actor (part op.actor l) is.0.steps) ++ said_by op.actor is.0.said)) rs' is.2 of
+    (more_done op.actor is.0.steps l all (answer_done f op.actor op.what names l (caches op.actor) is.0.steps is.0.said is.0.names is.0.cache (all.stamped op.actor) here is.1))
 follows_done f (Ends k ∷ acts) names caches l l' rs rs' is of all =
     let here : AreOf f (triples k is.0 ++ l) = follows_of f acts names (with_cache caches k is.1) (triples k is.0 ++ l) l' (rs ++ records_of (events_by k (part k l) is.0)) rs' is.3 of in
     follows_done f acts names (with_cache caches k is.1) (triples k is.0 ++ l) l' (rs ++ records_of (events_by k (part k l) is.0)) rs' is.3 of
@@ -410,7 +410,7 @@ parts_kept (t ∷ l) all = (
 )
 
 -- THE STAMP of each page is the greatest epoch of an end there
-pub stamps_are : (way : Way) (f : Profile) (acts : List Act) (told whole : Whole) (said : List Record) → IsValid f → Follows f acts [] empty_caches [] [] told said → IsOneOrder way told whole → Legal f whole → AreStamped f whole
+pub stamps_are : (way : Way) (f : Profile) (acts : List Act) (told whole : Whole) (said : List Record) → IsValid f → Follows f acts at_start told said → IsOneOrder way told whole → Legal f whole → AreStamped f whole
 stamps_are way f acts told whole said valid answers one_order legal =
     let same : (k : ℕ) → part k whole ≡ part k told = same_parts way told whole one_order in
     let of : AreOf f told = parts_of f told (λ k. subst (λ (v : View). PartOf f v) (same k) (legal_part f whole k legal)) in

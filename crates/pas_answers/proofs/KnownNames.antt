@@ -8,7 +8,7 @@ use Rattle.pas_trace.specs.declared.plan.What.{What}
 use Rattle.pas_trace.specs.declared.plan.What.TheVariants.{Alloc, Free, Raw, Flush, Stop, Tick, Pass, Idle}
 use Rattle.pas_report.specs.declared.record.Said.{Said}
 use Rattle.pas_cache.specs.Caches.{Cached}
-use Rattle.pas_answers.specs.Answers.{Named, standing_for, IsAnswered}
+use Rattle.pas_answers.specs.Answers.{block_of, having, answer_of, Named, standing_for, IsAnswered}
 use Rattle.pas_answers.specs.Fit.{is_asked, asked_after}
 
 abbrev pub AreKnown : List ℕ → List Named → Type 0
@@ -23,9 +23,9 @@ same_names : (asked : List ℕ) {names names' : List Named} → names' ≡ names
 same_names asked same known = subst (λ (ns : List Named). AreKnown asked ns) (sym same) known
 
 pub known_after : (f : Profile) (k : ℕ) (what : What) (asked : List ℕ) (names names' : List Named) (v : View) (c c' : Cached) (steps : List Made) (said : Option Said)
-    → IsAnswered f k what names v c steps said names' c' → AreKnown asked names → AreKnown (asked_after what asked) names'
-known_after f k (Alloc name heap size align) asked names names' l c c' steps said answered known = subst (λ (ns : List Named). AreKnown (name ∷ asked) ns) (sym answered.2)
-    (λ n is. one_more (name == n) answered.0 (standing_for names n) (is_asked asked n) (known n) is)
+    → IsAnswered f k what (having names v c) (answer_of steps said names' c') → AreKnown asked names → AreKnown (asked_after what asked) names'
+known_after f k (Alloc name heap size align) asked names names' l c c' steps said answered known = subst (λ (ns : List Named). AreKnown (name ∷ asked) ns) (sym answered.names_are)
+    (λ n is. one_more (name == n) (block_of answered.answer) (standing_for names n) (is_asked asked n) (known n) is)
 known_after f k (Free name) asked names names' l c c' steps said answered known = same_names asked answered.1 known
 known_after f k (Raw block) asked names names' l c c' steps said answered known = same_names asked answered.1 known
 known_after f k Flush asked names names' l c c' steps said answered known = same_names asked answered.2 known

@@ -23,7 +23,7 @@ use Rattle.pas_report.specs.Lines.{CanShow, IsShowable}
 use Rattle.pas_report.specs.declared.record.Record.{Record}
 use Rattle.pas_report.specs.declared.record.Said.{Said}
 use Rattle.pas_answers.specs.Acts.{Act, Operates, MarksPhase, Wakes, MarksClose, Ends, acts_of}
-use Rattle.pas_answers.specs.Answers.{Named, Caches, with_cache, begun, records_of, said_by, Follows}
+use Rattle.pas_answers.specs.Answers.{progress, Named, Caches, with_cache, begun, records_of, said_by, Follows}
 use Rattle.pas_answers.specs.Replays.{phases_of, empty_caches, IsReplay}
 use Rattle.pas_answers.specs.Ways.{Way, InOrder, OnThreads, IsOneOrder, is_of, records_by, by_actors, by_phases, arranged}
 
@@ -62,15 +62,15 @@ more_events k l steps rs records before here =
     events_both rs records ∙ ap (λ es. es ++ events_in records) before ∙ ap (λ es. reverse (visible l) ++ es) here
     ∙ sym (reverse-append (events_by k (part k l) steps) (visible l)) ∙ ap reverse (sym (visible_split k steps l))
 
-follows_events : (f : Profile) (acts : List Act) (names : List Named) (caches : Caches) (l l' : Whole) (rs rs' : List Record) → Follows f acts names caches l rs l' rs' → events_in rs ≡ reverse (visible l) → events_in rs' ≡ reverse (visible l')
+follows_events : (f : Profile) (acts : List Act) (names : List Named) (caches : Caches) (l l' : Whole) (rs rs' : List Record) → Follows f acts (progress names caches l rs) l' rs' → events_in rs ≡ reverse (visible l) → events_in rs' ≡ reverse (visible l')
 follows_events f [] names caches l l' rs rs' is before = ap events_in is.1 ∙ before ∙ ap (λ w. reverse (visible w)) (sym is.0)
 follows_events f (MarksPhase n ∷ acts) names caches l l' rs rs' is before = follows_events f acts names caches l l' (rs ++ Record.Phase n ∷ []) rs' is (events_both rs (Record.Phase n ∷ []) ∙ append-nil (events_in rs) ∙ before)
 follows_events f (MarksClose ∷ acts) names caches l l' rs rs' is before = follows_events f acts names caches l l' (rs ++ Record.Close ∷ []) rs' is (events_both rs (Record.Close ∷ []) ∙ append-nil (events_in rs) ∙ before)
 follows_events f (Wakes k ∷ acts) names caches l l' rs rs' is before =
     follows_events f acts names (with_cache caches k (begun (caches k) is.0)) (triples k (made (Look Word.Epoch) is.0 ∷ []) ++ l) l' rs rs' is.1 before
 follows_events f (Operates op ∷ acts) names caches l l' rs rs' is before =
-    follows_events f acts is.2 (with_cache caches op.actor is.3) (triples op.actor is.0 ++ l) l' (rs ++ (records_of (events_by op.actor (part op.actor l) is.0) ++ said_by op.actor is.1)) rs' is.5
-    (more_events op.actor l is.0 rs (records_of (events_by op.actor (part op.actor l) is.0) ++ said_by op.actor is.1) before (told_and_said op.actor (events_by op.actor (part op.actor l) is.0) is.1))
+    follows_events f acts is.0.names (with_cache caches op.actor is.0.cache) (triples op.actor is.0.steps ++ l) l' (rs ++ (records_of (events_by op.actor (part op.actor l) is.0.steps) ++ said_by op.actor is.0.said)) rs' is.2
+    (more_events op.actor l is.0.steps rs (records_of (events_by op.actor (part op.actor l) is.0.steps) ++ said_by op.actor is.0.said) before (told_and_said op.actor (events_by op.actor (part op.actor l) is.0.steps) is.0.said))
 follows_events f (Ends k ∷ acts) names caches l l' rs rs' is before =
     follows_events f acts names (with_cache caches k is.1) (triples k is.0 ++ l) l' (rs ++ records_of (events_by k (part k l) is.0)) rs' is.3
     (more_events k l is.0 rs (records_of (events_by k (part k l) is.0)) before (told (events_by k (part k l) is.0)))

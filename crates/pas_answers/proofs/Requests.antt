@@ -34,7 +34,7 @@ use Rattle.pas_cache.specs.Serves.{IsClassRoute, class_of, ServesRequest, IsBloc
 use Rattle.pas_steps.specs.Unknown.{unknown_pages}
 use Rattle.pas_answers.specs.Answers.{Named, named, standing_for, said_of_room}
 use Rattle.pas_answers.specs.Names.{block_named, names_held}
-use Rattle.pas_answers.specs.Calls.{block_behind, Tells, HasTurns, owed_events, MayPerform, Performs}
+use Rattle.pas_answers.specs.Calls.{works, block_behind, Tells, HasTurns, owed_events, MayPerform, Performs}
 use Rattle.pas_answers.specs.declared.names.Names.{Names}
 use Rattle.pas_steps.proofs.Unknown.{unknown_stays, has_room}
 
@@ -128,7 +128,7 @@ turns_refused table table' name turns sets = turns_with table table' name None t
 pub performs_given : {σ σ' : Standing} {answer : Result Block NoRoom} {tells : Bool} (table table' : Names) (c c' : Cached) (name heap size align : ℕ) (block : Block)
     → IsClassRoute (route_of size align)
     → Allocates heap (class_of (route_of size align)) align tells c c' σ σ' answer → answer ≡ Ok block → SetsName table table' name (Some block) → names_held table' ≡ names_held table
-    → Performs (Alloc name heap size align) table table' c c' σ σ' None
+    → Performs (Alloc name heap size align) (works table c) (works table' c') σ σ' None
 performs_given {σ} {σ'} {answer} {tells} table table' c c' name heap size align block route call is sets held =
     let class = class_of (route_of size align) in
     let of : IsBlockFor σ.seat.profile (AtRest σ.seat.profile c) heap class call.steps block
@@ -141,34 +141,30 @@ performs_given {σ} {σ'} {answer} {tells} table table' c c' name heap size alig
       answered = λ v l stood rest names tells known. (
         named name (Some block) ∷ names,
         tells_more table table' names name (Some block) tells sets,
-        (
-          Some block,
-          record {
-            route = route;
-            answer = Ok block;
-            serves = subst (λ a. ServesRequest σ.seat.profile heap class c c' call.steps a) is call.change;
-            kinds = call.kinds;
-            ends = record {
-              of_heap = of.of_heap;
-              slot = of.slot;
-              aligned = subst (λ a. MatchResult a (λ block. address_of block.name % align ≡ 0) (λ room. Unit {0})) is call.aligned;
-              of_directory = λ g inside. of.deeds v rest (call.adds.agreed v l stood rest) g inside;
-              before = (of.events σ.seat.actor v).0;
-              events = (of.events σ.seat.actor v).1;
-              prepared = (of.events σ.seat.actor v).2;
-            };
-            said_is = refl;
-            block_is = refl;
-          },
-          refl,
-        ),
+        record {
+          route = route;
+          answer = Ok block;
+          serves = subst (λ a. ServesRequest σ.seat.profile heap class c c' call.steps a) is call.change;
+          kinds = call.kinds;
+          ends = record {
+            of_heap = of.of_heap;
+            slot = of.slot;
+            aligned = subst (λ a. MatchResult a (λ block. address_of block.name % align ≡ 0) (λ room. Unit {0})) is call.aligned;
+            of_directory = λ g inside. of.deeds v rest (call.adds.agreed v l stood rest) g inside;
+            before = (of.events σ.seat.actor v).0;
+            events = (of.events σ.seat.actor v).1;
+            prepared = (of.events σ.seat.actor v).2;
+          };
+          said_is = refl;
+          names_are = refl;
+        },
       );
       held = held;
     }
 
 pub performs_refused : {σ σ' : Standing} {answer : Result Block NoRoom} {tells : Bool} (table table' : Names) (c c' : Cached) (name heap size align : ℕ) (room : NoRoom)
     → IsClassRoute (route_of size align) → Allocates heap (class_of (route_of size align)) align tells c c' σ σ' answer → answer ≡ Err room → SetsName table table' name None → names_held table' ≡ names_held table
-    → Performs (Alloc name heap size align) table table' c c' σ σ' (Some (said_of_room name room))
+    → Performs (Alloc name heap size align) (works table c) (works table' c') σ σ' (Some (said_of_room name room))
 performs_refused {σ} {σ'} {answer} {tells} table table' c c' name heap size align room route call is sets held =
     let class = class_of (route_of size align) in
     let silent : IsSilent call.steps
@@ -181,19 +177,15 @@ performs_refused {σ} {σ'} {answer} {tells} table table' c c' name heap size al
       answered = λ v l stood rest names tells known. (
         named name None ∷ names,
         tells_more table table' names name None tells sets,
-        (
-          None,
-          record {
-            route = route;
-            answer = Err room;
-            serves = subst (λ a. ServesRequest σ.seat.profile heap class c c' call.steps a) is call.change;
-            kinds = call.kinds;
-            ends = silent σ.seat.actor v;
-            said_is = refl;
-            block_is = refl;
-          },
-          refl,
-        ),
+        record {
+          route = route;
+          answer = Err room;
+          serves = subst (λ a. ServesRequest σ.seat.profile heap class c c' call.steps a) is call.change;
+          kinds = call.kinds;
+          ends = silent σ.seat.actor v;
+          said_is = refl;
+          names_are = refl;
+        },
       );
       held = held;
     }

@@ -17,7 +17,7 @@ use Rattle.pas_report.specs.declared.record.Said.{Said}
 use Rattle.pas_report.specs.declared.records.Records.{Records}
 use Rattle.pas_cache.specs.Caches.{Cached, AtRest}
 use Rattle.pas_answers.specs.Answers.{records_of, said_by}
-use Rattle.pas_answers.specs.Calls.{Performs, MayAnswer, Answers}
+use Rattle.pas_answers.specs.Calls.{works, Performs, MayAnswer, Answers}
 use Rattle.pas_answers.specs.declared.names.Names.{Names}
 
 -- ---- what the desk shows
@@ -51,7 +51,7 @@ can_rest {σ} c what spare out can = record { view = can.view; whole = can.whole
 -- ---- the records
 -- there is room for the events, and for what is said besides
 pub records_fit : {σ σ' : Standing} {said : Option Said} {c' : Cached} (what : What) (table table' : Names) (c : Cached) (spare : ℕ) (out : Records) (old new : List Event) → (can : CanCall σ (λ v l. MayAnswer σ.seat.profile c what spare out v))
-    → Performs what table table' c c' σ σ' said → IsShown σ old → IsShown σ' new → length (records_in out) + length (drop (length old) new) + length (said_by σ.seat.actor said) ≤ room_of out
+    → Performs what (works table c) (works table' c') σ σ' said → IsShown σ old → IsShown σ' new → length (records_in out) + length (drop (length old) new) + length (said_by σ.seat.actor said) ≤ room_of out
 unfolding can_rest
 records_fit {σ} {σ'} {said} {c'} what table table' c spare out old new can performs before after =
     let rest = can_rest c what spare out can in
@@ -75,7 +75,7 @@ said_fits {said} k out pushed events message is fits added same =
 
 -- nothing is said besides
 pub answers_silent : {σ σ' : Standing} {said : Option Said} (what : What) (table table' : Names) (c c' : Cached) (out out' : Records) (old new : List Event) → said ≡ None
-    → Performs what table table' c c' σ σ' said → IsShown σ old → IsShown σ' new → records_in out' ≡ records_in out ++ map Record.Event (drop (length old) new) → room_of out' ≡ room_of out → Answers what table table' c c' out out' σ σ'
+    → Performs what (works table c) (works table' c') σ σ' said → IsShown σ old → IsShown σ' new → records_in out' ≡ records_in out ++ map Record.Event (drop (length old) new) → room_of out' ≡ room_of out → Answers what (works table c) (works table' c') out out' σ σ'
 answers_silent {σ} {σ'} {said} what table table' c c' out out' old new is performs before after added room = record {
   said = said;
   performs = performs;
@@ -86,8 +86,8 @@ answers_silent {σ} {σ'} {said} what table table' c c' out out' old new is perf
 
 -- this is said besides
 pub answers_said : {σ σ' : Standing} {said : Option Said} (what : What) (table table' : Names) (c c' : Cached) (out pushed out' : Records) (old new : List Event) (message : Said) (actor : ℕ) → said ≡ Some message → actor ≡ σ'.seat.actor
-    → Performs what table table' c c' σ σ' said → IsShown σ old → IsShown σ' new → records_in pushed ≡ records_in out ++ map Record.Event (drop (length old) new) → room_of pushed ≡ room_of out
-    → records_in out' ≡ records_in pushed ++ Record.Said actor message ∷ [] → room_of out' ≡ room_of pushed → Answers what table table' c c' out out' σ σ'
+    → Performs what (works table c) (works table' c') σ σ' said → IsShown σ old → IsShown σ' new → records_in pushed ≡ records_in out ++ map Record.Event (drop (length old) new) → room_of pushed ≡ room_of out
+    → records_in out' ≡ records_in pushed ++ Record.Said actor message ∷ [] → room_of out' ≡ room_of pushed → Answers what (works table c) (works table' c') out out' σ σ'
 answers_said {σ} {σ'} {said} what table table' c c' out pushed out' old new message actor is actor_is performs before after added same last room =
     let own : actor ≡ σ.seat.actor = actor_is ∙ ap (λ s. s.actor) performs.adds.seat_is in
     record {

@@ -18,9 +18,9 @@ use Rattle.pas_report.specs.declared.record.Record.{Record}
 use Rattle.pas_report.specs.declared.record.Said.{Said}
 use Rattle.pas_cache.specs.Caches.{Cached}
 use Rattle.pas_answers.specs.Acts.{Act, Operates}
-use Rattle.pas_answers.specs.Answers.{Named, named, Caches, with_cache, standing_for, IsFreedBy, IsAnswered, records_of, said_by, Follows}
+use Rattle.pas_answers.specs.Answers.{block_of, having, answer_of, progress, Named, named, Caches, with_cache, standing_for, IsFreedBy, IsAnswered, records_of, said_by, Follows}
 use Rattle.pas_answers.specs.Fit.{is_asked, asked_after, IsFitWhat, AreFit}
-use Rattle.pas_answers.specs.Own.{own_of, FollowsOwn, IsNew, AreNew, asked_by, IsAskFor, AreOther, AsksFor}
+use Rattle.pas_answers.specs.Own.{own_state, own_of, FollowsOwn, IsNew, AreNew, asked_by, IsAskFor, AreOther, AsksFor}
 use Rattle.pas_answers.specs.Ways.{AreSpoken, records_by}
 use Rattle.pas_answers.proofs.KnownNames.{AreKnown, known_after}
 use Rattle.pas_answers.proofs.Speaking.{spoken_piece, spoken_both, by_piece, piece_of, records_both}
@@ -54,7 +54,7 @@ asked_more false block names old none is = none is
 -- the same answer beside more names
 pub record Retold (f : Profile) (k : ℕ) (what : What) (asked : List ℕ) (names : List Named) (v : View) (c : Cached) (steps : List Made) (said : Option Said) (names1 : List Named) (c1 : Cached) : Type 0 where
   pub after : List Named
-  pub answered : IsAnswered f k what names v c steps said after c1
+  pub answered : IsAnswered f k what (having names v c) (answer_of steps said after c1)
   pub own : SubMap names1 after
   pub others : (few : List Named) → SubMap few names → SubMap few after
   pub asked_is : AllAsked (asked_after what asked) after
@@ -66,7 +66,7 @@ freed_same f k c c1 name None many steps said sub is = absurd is
 freed_same f k c c1 name (Some b) many steps said sub is = subst (λ (o : Option (Option Block)). IsFreedBy f k c c1 name o steps said) (sym (sub b refl)) is
 
 same_names : (f : Profile) (k : ℕ) (what : What) (asked : List ℕ) (few names : List Named) (v : View) (c : Cached) (steps : List Made) (said : Option Said) (names1 : List Named) (c1 : Cached)
-    → names1 ≡ few → SubMap few names → AllAsked (asked_after what asked) names → IsAnswered f k what names v c steps said names c1 → Retold f k what asked names v c steps said names1 c1
+    → names1 ≡ few → SubMap few names → AllAsked (asked_after what asked) names → IsAnswered f k what (having names v c) (answer_of steps said names c1) → Retold f k what asked names v c steps said names1 c1
 same_names f k what asked few names v c steps said names1 c1 same sub all answered = record {
   after = names;
   answered = answered;
@@ -77,14 +77,22 @@ same_names f k what asked few names v c steps said names1 c1 same sub all answer
 }
 
 pub retold : (f : Profile) (k : ℕ) (what : What) (asked : List ℕ) (few names : List Named) (v : View) (c : Cached) (steps : List Made) (said : Option Said) (names1 : List Named) (c1 : Cached)
-    → SubMap few names → AllAsked asked names → IsNew asked what → IsAnswered f k what few v c steps said names1 c1 → Retold f k what asked names v c steps said names1 c1
+    → SubMap few names → AllAsked asked names → IsNew asked what → IsAnswered f k what (having few v c) (answer_of steps said names1 c1) → Retold f k what asked names v c steps said names1 c1
 retold f k (Alloc name heap size align) asked few names v c steps said names1 c1 sub all new answered = record {
-  after = named name answered.0 ∷ names;
-  answered = (answered.0, answered.1, refl);
-  own = subst (λ (ns : List Named). SubMap ns (named name answered.0 ∷ names)) (sym answered.2) (λ n b is. both_more (name == n) answered.0 (standing_for few n) (standing_for names n) b (sub n b) is);
-  others = λ more is n b known. new_here name n answered.0 names b (all name new) (is n b known);
-  asked_is = λ n is. asked_more (name == n) answered.0 (standing_for names n) (is_asked asked n) (all n) is;
-  only = λ n other. ap (λ (t : Bool). if t then Some answered.0 else standing_for names n) (ne_eqb name n other);
+  after = named name (block_of answered.answer) ∷ names;
+  answered = record {
+    route = answered.route;
+    answer = answered.answer;
+    serves = answered.serves;
+    kinds = answered.kinds;
+    ends = answered.ends;
+    said_is = answered.said_is;
+    names_are = refl;
+  };
+  own = subst (λ (ns : List Named). SubMap ns (named name (block_of answered.answer) ∷ names)) (sym answered.names_are) (λ n b is. both_more (name == n) (block_of answered.answer) (standing_for few n) (standing_for names n) b (sub n b) is);
+  others = λ more is n b known. new_here name n (block_of answered.answer) names b (all name new) (is n b known);
+  asked_is = λ n is. asked_more (name == n) (block_of answered.answer) (standing_for names n) (is_asked asked n) (all n) is;
+  only = λ n other. ap (λ (t : Bool). if t then Some (block_of answered.answer) else standing_for names n) (ne_eqb name n other);
 }
 retold f k (Free name) asked few names v c steps said names1 c1 sub all new answered = same_names f k (Free name) asked few names v c steps said names1 c1 answered.1 sub all (freed_same f k c c1 name (standing_for few name) (standing_for names name) steps said (sub name) answered.0, refl)
 retold f k (Raw block) asked few names v c steps said names1 c1 sub all new answered = same_names f k (Raw block) asked few names v c steps said names1 c1 answered.1 sub all (answered.0, refl)
@@ -106,7 +114,7 @@ at_other g k a j ne = ap (λ (t : Bool). if t then a else g j) (ne_eqb j k ne)
 
 -- ---- the operations are woven
 abbrev pub EachOwn : Profile → List Op → (ℕ → List Named) → (ℕ → View) → Caches → (ℕ → List Record) → (ℕ → List Named) → (ℕ → View) → Caches → (ℕ → List Record) → Type 0
-EachOwn f ops N V C R N' V' C' R' = (k : ℕ) → FollowsOwn f k (own_of k ops) (N k) (V k) (C k) (R k) (N' k) (V' k) (C' k) (R' k)
+EachOwn f ops N V C R N' V' C' R' = (k : ℕ) → FollowsOwn f k (own_of k ops) (own_state (N k) (V k) (C k) (R k)) (own_state (N' k) (V' k) (C' k) (R' k))
 
 -- The operations in their order are answered by the pieces: `told` and `said` have them, and `after` has what the names stand for then.
 pub record Woven (f : Profile) (ops : List Op) (asked : List ℕ) (names : List Named) (told : Whole) (C : Caches) (R : ℕ → List Record) (N' : ℕ → List Named) (V' : ℕ → View) (C' : Caches) (R' : ℕ → List Record) : Type 0 where
@@ -121,7 +129,7 @@ pub record Woven (f : Profile) (ops : List Op) (asked : List ℕ) (names : List 
   pub spoken : AreSpoken said
   pub known : AreKnown asked names → AreKnown (asked_by asked ops) after
   pub only : (n : ℕ) → AreOther ops n → standing_for after n ≡ standing_for names n
-  pub follows : (more : List Act) (rs : List Record) (l' : Whole) (rs' : List Record) → Follows f more after C' list (rs ++ said) l' rs' → Follows f (map Operates ops ++ more) names C told rs l' rs'
+  pub follows : (more : List Act) (rs : List Record) (l' : Whole) (rs' : List Record) → Follows f more (progress after C' list (rs ++ said)) l' rs' → Follows f (map Operates ops ++ more) (progress names C told rs) l' rs'
 
 pub weave : (f : Profile) (ops : List Op) (asked : List ℕ) (names : List Named) (told : Whole) (N : ℕ → List Named) (V : ℕ → View) (C : Caches) (R : ℕ → List Record) (N' : ℕ → List Named) (V' : ℕ → View) (C' : Caches) (R' : ℕ → List Record)
     → AreNew asked ops → AllAsked asked names → ((k : ℕ) → SubMap (N k) names) → ((k : ℕ) → part k told ≡ V k)
@@ -140,30 +148,30 @@ weave f [] asked names told N V C R N' V' C' R' new all subs parts own = record 
   only = λ n other. refl;
   follows = λ more rs l' rs' is.
       let caches : C' ≡ C = λ i k. (own k).2 i in
-      subst (λ (now : List Record). Follows f more names C told now l' rs') (append-nil rs) (subst (λ (cs : Caches). Follows f more names cs told (rs ++ []) l' rs') caches is);
+      subst (λ (now : List Record). Follows f more (progress names C told now) l' rs') (append-nil rs) (subst (λ (cs : Caches). Follows f more (progress names cs told (rs ++ [])) l' rs') caches is);
 }
 weave f (op ∷ ops) asked names told N V C R N' V' C' R' new all subs parts own =
     let j = op.actor in
-    let mine : FollowsOwn f j (op.what ∷ own_of j ops) (N j) (V j) (C j) (R j) (N' j) (V' j) (C' j) (R' j)
-    = subst (λ (t : Bool). FollowsOwn f j (if t then op.what ∷ own_of j ops else own_of j ops) (N j) (V j) (C j) (R j) (N' j) (V' j) (C' j) (R' j)) (eq-eqb j j refl) (own j) in
-    let steps = mine.0 in
-    let said = mine.1 in
-    let names1 = mine.2 in
-    let c1 = mine.3 in
+    let mine : FollowsOwn f j (op.what ∷ own_of j ops) (own_state (N j) (V j) (C j) (R j)) (own_state (N' j) (V' j) (C' j) (R' j))
+    = subst (λ (t : Bool). FollowsOwn f j (if t then op.what ∷ own_of j ops else own_of j ops) (own_state (N j) (V j) (C j) (R j)) (own_state (N' j) (V' j) (C' j) (R' j))) (eq-eqb j j refl) (own j) in
+    let steps = mine.0.steps in
+    let said = mine.0.said in
+    let names1 = mine.0.names in
+    let c1 = mine.0.cache in
     let piece = records_of (events_by j (V j) steps) ++ said_by j said in
     let told1 = triples j steps ++ told in
-    let again = retold f j op.what asked (N j) names (V j) (C j) steps said names1 c1 (subs j) all new.0 mine.4 in
+    let again = retold f j op.what asked (N j) names (V j) (C j) steps said names1 c1 (subs j) all new.0 mine.1 in
     let N1 = with_at N j names1 in
     let V1 = with_at V j (steps ++ V j) in
     let C1 = with_cache C j c1 in
     let R1 = with_at R j (R j ++ piece) in
     let own1 : EachOwn f ops N1 V1 C1 R1 N' V' C' R' = λ k. elim (cases_eq k j) [
       | inl same ↦
-          subst (λ (t : Bool). FollowsOwn f k (own_of k ops) (if t then names1 else N k) (if t then steps ++ V j else V k) (if t then c1 else C k) (if t then R j ++ piece else R k) (N' k) (V' k) (C' k) (R' k)) (sym (eq-eqb k j same))
-          (subst (λ (m : ℕ). FollowsOwn f m (own_of m ops) names1 (steps ++ V j) c1 (R j ++ piece) (N' m) (V' m) (C' m) (R' m)) (sym same) mine.5)
+          subst (λ (t : Bool). FollowsOwn f k (own_of k ops) (own_state (if t then names1 else N k) (if t then steps ++ V j else V k) (if t then c1 else C k) (if t then R j ++ piece else R k)) (own_state (N' k) (V' k) (C' k) (R' k))) (sym (eq-eqb k j same))
+          (subst (λ (m : ℕ). FollowsOwn f m (own_of m ops) (own_state names1 (steps ++ V j) c1 (R j ++ piece)) (own_state (N' m) (V' m) (C' m) (R' m))) (sym same) mine.2)
       | inr other ↦
-          subst (λ (t : Bool). FollowsOwn f k (own_of k ops) (if t then names1 else N k) (if t then steps ++ V j else V k) (if t then c1 else C k) (if t then R j ++ piece else R k) (N' k) (V' k) (C' k) (R' k)) (sym (ne_eqb k j other))
-          (subst (λ (t : Bool). FollowsOwn f k (if t then op.what ∷ own_of k ops else own_of k ops) (N k) (V k) (C k) (R k) (N' k) (V' k) (C' k) (R' k)) (ne_eqb j k (λ e. other (sym e))) (own k))
+          subst (λ (t : Bool). FollowsOwn f k (own_of k ops) (own_state (if t then names1 else N k) (if t then steps ++ V j else V k) (if t then c1 else C k) (if t then R j ++ piece else R k)) (own_state (N' k) (V' k) (C' k) (R' k))) (sym (ne_eqb k j other))
+          (subst (λ (t : Bool). FollowsOwn f k (if t then op.what ∷ own_of k ops else own_of k ops) (own_state (N k) (V k) (C k) (R k)) (own_state (N' k) (V' k) (C' k) (R' k))) (ne_eqb j k (λ e. other (sym e))) (own k))
     ] in
     let parts1 : (k : ℕ) → part k told1 ≡ V1 k = λ k. elim (cases_eq k j) [
       | inl same ↦ ap (λ (m : ℕ). part m told1) same ∙ part_of_own j steps told ∙ ap (λ (v : View). steps ++ v) (parts j) ∙ sym (at_same V j (steps ++ V j) k same)
@@ -194,21 +202,18 @@ weave f (op ∷ ops) asked names told N V C R N' V' C' R' new all subs parts own
             ∙ ap (λ (rs : List Record). R k ++ rs) (ap (λ (rs : List Record). rs ++ records_by k rest.said) (sym (by_piece k j piece (piece_of j (V j) steps said) ∙ ap (λ (t : Bool). if t then piece else []) (ne_eqb j k (λ e. other (sym e))))) ∙ sym (records_both k piece rest.said))
       ];
       follows = λ more rs l' rs' is. (
-        steps,
-        said,
-        again.after,
-        c1,
-        subst (λ (v : View). IsAnswered f j op.what names v (C j) steps said again.after c1) (sym (parts j)) again.answered,
+        answer_of steps said again.after c1,
+        subst (λ (v : View). IsAnswered f j op.what (having names v (C j)) (answer_of steps said again.after c1)) (sym (parts j)) again.answered,
         rest.follows more (rs ++ (records_of (events_by j (part j told) steps) ++ said_by j said)) l' rs'
-            (subst (λ (now : List Record). Follows f more rest.after C' rest.list now l' rs')
+            (subst (λ (now : List Record). Follows f more (progress rest.after C' rest.list now) l' rs')
             (sym (ap (λ (v : View). (rs ++ (records_of (events_by j v steps) ++ said_by j said)) ++ rest.said) (parts j) ∙ append_assoc rs piece rest.said)) is),
       );
     }
 
 -- ---- what names stand for to one actor
 own_one_only : (f : Profile) (k : ℕ) (what : What) (names names1 : List Named) (v : View) (c c1 : Cached) (steps : List Made) (said : Option Said) (n : ℕ)
-    → IsAnswered f k what names v c steps said names1 c1 → (IsAskFor what n → ⊥) → standing_for names1 n ≡ standing_for names n
-own_one_only f k (Alloc name heap size align) names names1 v c c1 steps said n answered other = ap (λ (ns : List Named). standing_for ns n) answered.2 ∙ ap (λ (t : Bool). if t then Some answered.0 else standing_for names n) (ne_eqb name n other)
+    → IsAnswered f k what (having names v c) (answer_of steps said names1 c1) → (IsAskFor what n → ⊥) → standing_for names1 n ≡ standing_for names n
+own_one_only f k (Alloc name heap size align) names names1 v c c1 steps said n answered other = ap (λ (ns : List Named). standing_for ns n) answered.names_are ∙ ap (λ (t : Bool). if t then Some (block_of answered.answer) else standing_for names n) (ne_eqb name n other)
 own_one_only f k (Free name) names names1 v c c1 steps said n answered other = ap (λ (ns : List Named). standing_for ns n) answered.1
 own_one_only f k (Raw block) names names1 v c c1 steps said n answered other = ap (λ (ns : List Named). standing_for ns n) answered.1
 own_one_only f k Flush names names1 v c c1 steps said n answered other = ap (λ (ns : List Named). standing_for ns n) answered.2
@@ -222,11 +227,11 @@ NoneAsks [] n = Unit {0}
 NoneAsks (what ∷ whats) n = (IsAskFor what n → ⊥) × NoneAsks whats n
 
 pub own_only : (f : Profile) (k : ℕ) (whats : List What) (names names' : List Named) (v v' : View) (c c' : Cached) (rs rs' : List Record) (n : ℕ)
-    → FollowsOwn f k whats names v c rs names' v' c' rs' → NoneAsks whats n → standing_for names' n ≡ standing_for names n
+    → FollowsOwn f k whats (own_state names v c rs) (own_state names' v' c' rs') → NoneAsks whats n → standing_for names' n ≡ standing_for names n
 own_only f k [] names names' v v' c c' rs rs' n follows none = ap (λ (ns : List Named). standing_for ns n) follows.0
 own_only f k (what ∷ whats) names names' v v' c c' rs rs' n follows none =
-    own_only f k whats follows.2 names' (follows.0 ++ v) v' follows.3 c' (rs ++ (records_of (events_by k v follows.0) ++ said_by k follows.1)) rs' n follows.5 none.1
-    ∙ own_one_only f k what names follows.2 v c follows.3 follows.0 follows.1 n follows.4 none.0
+    own_only f k whats follows.0.names names' (follows.0.steps ++ v) v' follows.0.cache c' (rs ++ (records_of (events_by k v follows.0.steps) ++ said_by k follows.0.said)) rs' n follows.2 none.1
+    ∙ own_one_only f k what names follows.0.names v c follows.0.cache follows.0.steps follows.0.said n follows.1 none.0
 
 none_one : (t : Bool) (what : What) (whats : List What) (n : ℕ) → (IsAskFor what n → ⊥) → NoneAsks whats n → NoneAsks (if t then what ∷ whats else whats) n
 none_one true what whats n one rest = (one, rest)
@@ -247,8 +252,8 @@ has_same : (names names1 : List Named) (n : ℕ) → names1 ≡ names → Has na
 has_same names names1 n same has = subst (λ (ns : List Named). Has ns n) (sym same) has
 
 has_one : (f : Profile) (k : ℕ) (what : What) (names names1 : List Named) (v : View) (c c1 : Cached) (steps : List Made) (said : Option Said) (n : ℕ)
-    → IsAnswered f k what names v c steps said names1 c1 → Has names n → Has names1 n
-has_one f k (Alloc name heap size align) names names1 v c c1 steps said n answered has = subst (λ (ns : List Named). Has ns n) (sym answered.2) (has_if (name == n) answered.0 (standing_for names n) has)
+    → IsAnswered f k what (having names v c) (answer_of steps said names1 c1) → Has names n → Has names1 n
+has_one f k (Alloc name heap size align) names names1 v c c1 steps said n answered has = subst (λ (ns : List Named). Has ns n) (sym answered.names_are) (has_if (name == n) (block_of answered.answer) (standing_for names n) has)
 has_one f k (Free name) names names1 v c c1 steps said n answered has = has_same names names1 n answered.1 has
 has_one f k (Raw block) names names1 v c c1 steps said n answered has = has_same names names1 n answered.1 has
 has_one f k Flush names names1 v c c1 steps said n answered has = has_same names names1 n answered.2 has
@@ -258,30 +263,30 @@ has_one f k Pass names names1 v c c1 steps said n answered has = absurd answered
 has_one f k (Idle m) names names1 v c c1 steps said n answered has = absurd answered
 
 asks_one : (f : Profile) (k : ℕ) (what : What) (names names1 : List Named) (v : View) (c c1 : Cached) (steps : List Made) (said : Option Said) (n : ℕ)
-    → IsAnswered f k what names v c steps said names1 c1 → IsAskFor what n → Has names1 n
+    → IsAnswered f k what (having names v c) (answer_of steps said names1 c1) → IsAskFor what n → Has names1 n
 asks_one f k (Alloc name heap size align) names names1 v c c1 steps said n answered asks =
-    (answered.0, ap (λ (ns : List Named). standing_for ns n) answered.2 ∙ ap (λ (t : Bool). if t then Some answered.0 else standing_for names n) (eq-eqb name n asks))
+    ((block_of answered.answer), ap (λ (ns : List Named). standing_for ns n) answered.names_are ∙ ap (λ (t : Bool). if t then Some (block_of answered.answer) else standing_for names n) (eq-eqb name n asks))
 asks_one f k (Idle m) names names1 v c c1 steps said n answered asks = absurd asks
 asks_one f k s names names1 v c c1 steps said n answered asks = absurd asks
 
 pub own_has : (f : Profile) (k : ℕ) (whats : List What) (names names' : List Named) (v v' : View) (c c' : Cached) (rs rs' : List Record) (n : ℕ)
-    → FollowsOwn f k whats names v c rs names' v' c' rs' → Has names n → Has names' n
+    → FollowsOwn f k whats (own_state names v c rs) (own_state names' v' c' rs') → Has names n → Has names' n
 own_has f k [] names names' v v' c c' rs rs' n follows has = has_same names names' n follows.0 has
 own_has f k (what ∷ whats) names names' v v' c c' rs rs' n follows has =
-    own_has f k whats follows.2 names' (follows.0 ++ v) v' follows.3 c' (rs ++ (records_of (events_by k v follows.0) ++ said_by k follows.1)) rs' n follows.5
-    (has_one f k what names follows.2 v c follows.3 follows.0 follows.1 n follows.4 has)
+    own_has f k whats follows.0.names names' (follows.0.steps ++ v) v' follows.0.cache c' (rs ++ (records_of (events_by k v follows.0.steps) ++ said_by k follows.0.said)) rs' n follows.2
+    (has_one f k what names follows.0.names v c follows.0.cache follows.0.steps follows.0.said n follows.1 has)
 
 abbrev pub AnyAsks : List What → ℕ → Type 0
 AnyAsks [] n = ⊥
 AnyAsks (what ∷ whats) n = IsAskFor what n ⊎ AnyAsks whats n
 
 pub own_asks : (f : Profile) (k : ℕ) (whats : List What) (names names' : List Named) (v v' : View) (c c' : Cached) (rs rs' : List Record) (n : ℕ)
-    → FollowsOwn f k whats names v c rs names' v' c' rs' → AnyAsks whats n → Has names' n
+    → FollowsOwn f k whats (own_state names v c rs) (own_state names' v' c' rs') → AnyAsks whats n → Has names' n
 own_asks f k [] names names' v v' c c' rs rs' n follows asks = absurd asks
 own_asks f k (what ∷ whats) names names' v v' c c' rs rs' n follows asks = elim asks [
-  | inl one ↦ own_has f k whats follows.2 names' (follows.0 ++ v) v' follows.3 c' (rs ++ (records_of (events_by k v follows.0) ++ said_by k follows.1)) rs' n follows.5
-      (asks_one f k what names follows.2 v c follows.3 follows.0 follows.1 n follows.4 one)
-  | inr more ↦ own_asks f k whats follows.2 names' (follows.0 ++ v) v' follows.3 c' (rs ++ (records_of (events_by k v follows.0) ++ said_by k follows.1)) rs' n follows.5 more
+  | inl one ↦ own_has f k whats follows.0.names names' (follows.0.steps ++ v) v' follows.0.cache c' (rs ++ (records_of (events_by k v follows.0.steps) ++ said_by k follows.0.said)) rs' n follows.2
+      (asks_one f k what names follows.0.names v c follows.0.cache follows.0.steps follows.0.said n follows.1 one)
+  | inr more ↦ own_asks f k whats follows.0.names names' (follows.0.steps ++ v) v' follows.0.cache c' (rs ++ (records_of (events_by k v follows.0.steps) ++ said_by k follows.0.said)) rs' n follows.2 more
 ]
 
 any_more : (t : Bool) (what : What) (whats : List What) (n : ℕ) → AnyAsks whats n → AnyAsks (if t then what ∷ whats else whats) n

@@ -52,6 +52,26 @@ Caches = ℕ → Cached
 abbrev pub with_cache : Caches → ℕ → Cached → Caches
 with_cache caches k c j = if j == k then c else caches j
 
+-- ---- one operation
+-- what an actor has before it: what the names stand for, the actor's view, and what its cache holds
+pub record Having : Type 0 where
+  pub names : List Named
+  pub view : View
+  pub cache : Cached
+
+abbrev pub having : List Named → View → Cached → Having
+having names v c = record { names = names; view = v; cache = c }
+
+-- an answer: its steps, what is said besides, and then what the names stand for and what the cache holds
+pub record Answer : Type 0 where
+  pub steps : List Made
+  pub said : Option Said
+  pub names : List Named
+  pub cache : Cached
+
+abbrev pub answer_of : List Made → Option Said → List Named → Cached → Answer
+answer_of steps said names c = record { steps = steps; said = said; names = names; cache = c }
+
 -- ---- records
 -- those of steps: their events in the order in which they were made
 abbrev pub records_of : List Event → List Record
@@ -77,30 +97,42 @@ abbrev pub block_of : Result Block NoRoom → Option Block
 block_of (Ok block) = Some block
 block_of (Err room) = None
 
+-- what is asked for: under which name, of which heap, how many bytes, and at a multiple of what
+pub record Request : Type 0 where
+  pub name : ℕ
+  pub heap : ℕ
+  pub size : ℕ
+  pub align : ℕ
+
+-- the class that serves it
+abbrev pub class_for : Request → ℕ
+class_for r = class_of (route_of r.size r.align)
+
 -- The block that actor k gave with these steps after the view is of the heap, in a slot of the class, and at a multiple of the alignment. Each page of its run is known to have
 -- the request's directory as its deed then. It was given last, after deeds of this directory and backs.
-pub record IsGiven (k : ℕ) (v : View) (heap class align : ℕ) (steps : List Made) (block : Block) : Type 0 where
-  pub of_heap : block.heap ≡ heap
-  pub slot : IsInSlot class block
-  pub aligned : address_of block.name % align ≡ 0
-  pub of_directory : (g : ℕ) → in_run (grain_of block.name) (length_of block) g ≡ true → KnowsDeed (g / 256) (class_directory heap class) (steps ++ v)
+pub record IsGiven (k : ℕ) (r : Request) (v : View) (steps : List Made) (block : Block) : Type 0 where
+  pub of_heap : block.heap ≡ r.heap
+  pub slot : IsInSlot (class_for r) block
+  pub aligned : address_of block.name % r.align ≡ 0
+  pub of_directory : (g : ℕ) → in_run (grain_of block.name) (length_of block) g ≡ true → KnowsDeed (g / 256) (class_directory r.heap (class_for r)) (steps ++ v)
   pub before : List Event
   pub events : events_by k v steps ≡ Event.Give k block ∷ before
-  pub prepared : AllByRecursion (IsPreparing (class_directory heap class)) before
+  pub prepared : AllByRecursion (IsPreparing (class_directory r.heap (class_for r))) before
 
 -- a refused request makes no event
-abbrev pub RequestEnds : ℕ → View → ℕ → ℕ → ℕ → List Made → Result Block NoRoom → Type 0
-RequestEnds k v heap class align steps answer = MatchResult answer (IsGiven k v heap class align steps) (λ room. events_by k v steps ≡ [])
+abbrev pub RequestEnds : ℕ → Request → View → List Made → Result Block NoRoom → Type 0
+RequestEnds k r v steps served = MatchResult served (IsGiven k r v steps) (λ room. events_by k v steps ≡ [])
 
--- Actor k's cache, which held c, serves the request, or refuses it with the evidence of its search. Only a flush stamps pages, and none is made.
-pub record IsServed (f : Profile) (k : ℕ) (v : View) (c c' : Cached) (name heap size align : ℕ) (steps : List Made) (said : Option Said) (block : Option Block) : Type 0 where
-  pub route : IsClassRoute (route_of size align)
+-- Actor k's cache serves the request, or refuses it with the evidence of its search. Only a flush stamps pages, and none is made. From then on the name
+-- stands for the block, or for nothing.
+pub record IsServed (f : Profile) (k : ℕ) (r : Request) (before : Having) (after : Answer) : Type 0 where
+  pub route : IsClassRoute (route_of r.size r.align)
   pub answer : Result Block NoRoom
-  pub serves : ServesRequest f heap (class_of (route_of size align)) c c' steps answer
-  pub kinds : Only allocating steps
-  pub ends : RequestEnds k v heap (class_of (route_of size align)) align steps answer
-  pub said_is : said ≡ said_of_request name answer
-  pub block_is : block ≡ block_of answer
+  pub serves : ServesRequest f r.heap (class_for r) before.cache after.cache after.steps answer
+  pub kinds : Only allocating after.steps
+  pub ends : RequestEnds k r before.view after.steps answer
+  pub said_is : after.said ≡ said_of_request r.name answer
+  pub names_are : after.names ≡ named r.name (block_of answer) ∷ before.names
 
 -- ---- a free
 abbrev pub said_of_fault : Name → FreeFault → Said
@@ -136,36 +168,51 @@ pub record IsStopped (k : ℕ) (c c' : Cached) (steps : List Made) : Type 0 wher
   pub steps_are : steps ≡ stopped ++ flushed
 
 -- ---- operations and acts
--- An operation of actor k is answered by these steps and what is said, after which the names stand for what they stand for and the cache holds
--- what it holds. Those that aren't built are never replayed.
-abbrev pub IsAnswered : Profile → ℕ → What → List Named → View → Cached → List Made → Option Said → List Named → Cached → Type 0
-IsAnswered f k (Alloc name heap size align) names v c steps said names' c' = (block : Option Block) × IsServed f k v c c' name heap size align steps said block × (names' ≡ named name block ∷ names)
-IsAnswered f k (Free name) names v c steps said names' c' = IsFreedBy f k c c' name (standing_for names name) steps said × (names' ≡ names)
-IsAnswered f k (Raw block) names v c steps said names' c' = IsFreed f k c c' block steps said × (names' ≡ names)
-IsAnswered f k Flush names v c steps said names' c' = IsFlushed k c c' steps × (said ≡ None) × (names' ≡ names)
-IsAnswered f k Stop names v c steps said names' c' = IsStopped k c c' steps × (said ≡ None) × (names' ≡ names)
-IsAnswered f k (Tick e) names v c steps said names' c' = ⊥
-IsAnswered f k Pass names v c steps said names' c' = ⊥
-IsAnswered f k (Idle n) names v c steps said names' c' = ⊥
+-- An operation of actor k is answered so. Those that aren't built are never replayed.
+abbrev pub IsAnswered : Profile → ℕ → What → Having → Answer → Type 0
+IsAnswered f k (Alloc name heap size align) b a = IsServed f k (record { name = name; heap = heap; size = size; align = align }) b a
+IsAnswered f k (Free name) b a = IsFreedBy f k b.cache a.cache name (standing_for b.names name) a.steps a.said × (a.names ≡ b.names)
+IsAnswered f k (Raw block) b a = IsFreed f k b.cache a.cache block a.steps a.said × (a.names ≡ b.names)
+IsAnswered f k Flush b a = IsFlushed k b.cache a.cache a.steps × (a.said ≡ None) × (a.names ≡ b.names)
+IsAnswered f k Stop b a = IsStopped k b.cache a.cache a.steps × (a.said ≡ None) × (a.names ≡ b.names)
+IsAnswered f k (Tick e) b a = ⊥
+IsAnswered f k Pass b a = ⊥
+IsAnswered f k (Idle n) b a = ⊥
 
 -- the cache after its thread read this epoch at the start of a phase
 abbrev pub begun : Cached → ℕ → Cached
 begun c epoch = record { locals = c.locals; log = c.log; idle_since = epoch }
 
+-- how far a replay has come: what the names stand for, what the caches hold, the list of the steps, and the records
+pub record Progress : Type 0 where
+  pub names : List Named
+  pub caches : Caches
+  pub list : Whole
+  pub records : List Record
+
+abbrev pub progress : List Named → Caches → Whole → List Record → Progress
+progress names caches l rs = record { names = names; caches = caches; list = l; records = rs }
+
+-- .. with records more at the end
+abbrev pub with_records : Progress → List Record → Progress
+with_records p rs = record p { records = p.records ++ rs }
+
+-- .. after actor k's steps, whose cache holds c then
+abbrev pub with_steps : Progress → ℕ → List Made → Cached → Progress
+with_steps p k steps c = record p { caches = with_cache p.caches k c; list = triples k steps ++ p.list }
+
 -- The acts are answered by pieces, in order: the steps of each go onto the list that those before it left, and its records to the end of the
--- records: the events of the steps, and what is said. They begin as l and rs, with what the names stand for and what the caches hold, and end as
--- l' and rs'. A piece is about the part of its own actor in the list and about its cache, and about nothing else: so the list says of each actor
--- which pieces its part is made of, in the order of its acts, and puts the pieces of different actors in the order of the acts.
-abbrev pub Follows : Profile → List Act → List Named → Caches → Whole → List Record → Whole → List Record → Type 0
-Follows f [] names caches l rs l' rs' = (l' ≡ l) × (rs' ≡ rs)
-Follows f (MarksPhase n ∷ acts) names caches l rs l' rs' = Follows f acts names caches l (rs ++ Record.Phase n ∷ []) l' rs'
-Follows f (MarksClose ∷ acts) names caches l rs l' rs' = Follows f acts names caches l (rs ++ Record.Close ∷ []) l' rs'
-Follows f (Wakes k ∷ acts) names caches l rs l' rs' =
-    (epoch : ℕ) × Follows f acts names (with_cache caches k (begun (caches k) epoch)) (triples k (made (Look Word.Epoch) epoch ∷ []) ++ l) rs l' rs'
-Follows f (Operates op ∷ acts) names caches l rs l' rs' =
-    (steps : List Made) × (said : Option Said) × (names' : List Named) × (c' : Cached)
-    × IsAnswered f op.actor op.what names (part op.actor l) (caches op.actor) steps said names' c'
-    × Follows f acts names' (with_cache caches op.actor c') (triples op.actor steps ++ l) (rs ++ (records_of (events_by op.actor (part op.actor l) steps) ++ said_by op.actor said)) l' rs'
-Follows f (Ends k ∷ acts) names caches l rs l' rs' =
-    (steps : List Made) × (c' : Cached) × IsStopped k (caches k) c' steps
-    × Follows f acts names (with_cache caches k c') (triples k steps ++ l) (rs ++ records_of (events_by k (part k l) steps)) l' rs'
+-- records: the events of the steps, and what is said. They begin as far as p, and end with the list l and the records rs. A piece is about the part of its
+-- own actor in the list and about its cache, and about nothing else: so the list says of each actor which pieces its part is made of, in the order of its
+-- acts, and puts the pieces of different actors in the order of the acts.
+abbrev pub Follows : Profile → List Act → Progress → Whole → List Record → Type 0
+Follows f [] p l rs = (l ≡ p.list) × (rs ≡ p.records)
+Follows f (MarksPhase n ∷ acts) p l rs = Follows f acts (with_records p (Record.Phase n ∷ [])) l rs
+Follows f (MarksClose ∷ acts) p l rs = Follows f acts (with_records p (Record.Close ∷ [])) l rs
+Follows f (Wakes k ∷ acts) p l rs = (epoch : ℕ) × Follows f acts (with_steps p k (made (Look Word.Epoch) epoch ∷ []) (begun (p.caches k) epoch)) l rs
+Follows f (Operates op ∷ acts) p l rs =
+    (a : Answer) × IsAnswered f op.actor op.what (having p.names (part op.actor p.list) (p.caches op.actor)) a
+    × Follows f acts (with_records (record (with_steps p op.actor a.steps a.cache) { names = a.names }) (records_of (events_by op.actor (part op.actor p.list) a.steps) ++ said_by op.actor a.said)) l rs
+Follows f (Ends k ∷ acts) p l rs =
+    (steps : List Made) × (c : Cached) × IsStopped k (p.caches k) c steps
+    × Follows f acts (with_records (with_steps p k steps c) (records_of (events_by k (part k p.list) steps))) l rs

@@ -17,7 +17,7 @@ use Rattle.pas_report.specs.declared.records.Records.{Records}
 use Rattle.pas_cache.specs.Caches.{Cached, AtRest}
 use Rattle.pas_cache.specs.Calls.{StaysAtRest}
 use Rattle.pas_steps.specs.Unknown.{unknown_pages}
-use Rattle.pas_answers.specs.Answers.{Named, standing_for, IsFreed, IsAnswered, records_of, said_by}
+use Rattle.pas_answers.specs.Answers.{having, answer_of, Named, standing_for, IsFreed, IsAnswered, records_of, said_by}
 use Rattle.pas_answers.specs.Fit.{cost_of_what}
 use Rattle.pas_answers.specs.Names.{block_named, names_held}
 use Rattle.pas_answers.specs.declared.names.Names.{Names}
@@ -59,16 +59,24 @@ pub record MayPerform (f : Profile) (c : Cached) (what : What) (spare : ℕ) (v 
   pub rest : AtRest f c v
   pub room : cost_of_what what + owed_events f c v ≤ spare
 
+-- what an operation works on beside its desk: the table of names, and what the cache holds
+pub record Works : Type 0 where
+  pub table : Names
+  pub cache : Cached
+
+abbrev pub works : Names → Cached → Works
+works table c = record { table = table; cache = c }
+
 -- The steps and what is said answer the operation, and the actor is at rest again. The events and what is said are paid for.
-pub record Performs (what : What) (table table' : Names) (c c' : Cached) (desk desk' : Standing) (said : Option Said) : Type 0 where
+pub record Performs (what : What) (before after : Works) (desk desk' : Standing) (said : Option Said) : Type 0 where
   pub steps : List Made
-  pub adds : Adds desk desk' (λ v l. AtRest desk.seat.profile c v) steps
-  pub rest : StaysAtRest desk.seat.profile c c' steps
-  pub few : (v : View) → AtRest desk.seat.profile c v → Agreed desk.seat.profile v steps
-      → length (events_by desk.seat.actor v steps) + length (said_by desk.seat.actor said) + owed_events desk.seat.profile c' (steps ++ v) ≤ cost_of_what what + owed_events desk.seat.profile c v
-  pub answered : (v : View) (l : Whole) → desk.stands v l → AtRest desk.seat.profile c v → (names : List Named) → Tells table names → IsKnown names what
-      → (names' : List Named) × Tells table' names' × IsAnswered desk.seat.profile desk.seat.actor what names v c steps said names' c'
-  pub held : names_held table' ≡ names_held table
+  pub adds : Adds desk desk' (λ v l. AtRest desk.seat.profile before.cache v) steps
+  pub rest : StaysAtRest desk.seat.profile before.cache after.cache steps
+  pub few : (v : View) → AtRest desk.seat.profile before.cache v → Agreed desk.seat.profile v steps
+      → length (events_by desk.seat.actor v steps) + length (said_by desk.seat.actor said) + owed_events desk.seat.profile after.cache (steps ++ v) ≤ cost_of_what what + owed_events desk.seat.profile before.cache v
+  pub answered : (v : View) (l : Whole) → desk.stands v l → AtRest desk.seat.profile before.cache v → (names : List Named) → Tells before.table names → IsKnown names what
+      → (names' : List Named) × Tells after.table names' × IsAnswered desk.seat.profile desk.seat.actor what (having names v before.cache) (answer_of steps said names' after.cache)
+  pub held : names_held after.table ≡ names_held before.table
 
 -- a free by name and turn
 pub record FreesOne (block : Name) (c c' : Cached) (desk desk' : Standing) (said : Option Said) : Type 0 where
@@ -85,9 +93,9 @@ pub record MayAnswer (f : Profile) (c : Cached) (what : What) (spare : ℕ) (out
   pub records : length (records_in out) + (cost_of_what what + owed_events f c v) ≤ room_of out
 
 -- the records of the events of the steps, and then what is said, come to the end
-pub record Answers (what : What) (table table' : Names) (c c' : Cached) (out out' : Records) (desk desk' : Standing) : Type 0 where
+pub record Answers (what : What) (before after : Works) (out out' : Records) (desk desk' : Standing) : Type 0 where
   pub said : Option Said
-  pub performs : Performs what table table' c c' desk desk' said
-  pub pushed : (v : View) (l : Whole) → desk.stands v l → AtRest desk.seat.profile c v
+  pub performs : Performs what before after desk desk' said
+  pub pushed : (v : View) (l : Whole) → desk.stands v l → AtRest desk.seat.profile before.cache v
       → records_in out' ≡ records_in out ++ (records_of (events_by desk.seat.actor v performs.steps) ++ said_by desk.seat.actor said)
   pub room : room_of out' ≡ room_of out

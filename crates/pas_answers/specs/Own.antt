@@ -10,7 +10,7 @@ use Rattle.pas_trace.specs.declared.plan.Op.{Op}
 use Rattle.pas_report.specs.declared.record.Record.{Record}
 use Rattle.pas_report.specs.declared.record.Said.{Said}
 use Rattle.pas_cache.specs.Caches.{Cached}
-use Rattle.pas_answers.specs.Answers.{Named, IsAnswered, records_of, said_by}
+use Rattle.pas_answers.specs.Answers.{Named, Answer, having, IsAnswered, records_of, said_by}
 use Rattle.pas_answers.specs.Fit.{is_asked, asked_after}
 
 -- the operations of actor k among these
@@ -18,14 +18,22 @@ abbrev pub own_of : ℕ → List Op → List What
 own_of k [] = []
 own_of k (op ∷ ops) = if op.actor == k then op.what ∷ own_of k ops else own_of k ops
 
--- The operations of actor k are answered by pieces over its own view, in order. It begins with what the names stand for to it, its view, its cache
--- and its records, and ends with those after.
-abbrev pub FollowsOwn : Profile → ℕ → List What → List Named → View → Cached → List Record → List Named → View → Cached → List Record → Type 0
-FollowsOwn f k [] names v c rs names' v' c' rs' = (names' ≡ names) × (v' ≡ v) × (c' ≡ c) × (rs' ≡ rs)
-FollowsOwn f k (what ∷ whats) names v c rs names' v' c' rs' =
-    (steps : List Made) × (said : Option Said) × (names1 : List Named) × (c1 : Cached)
-    × IsAnswered f k what names v c steps said names1 c1
-    × FollowsOwn f k whats names1 (steps ++ v) c1 (rs ++ (records_of (events_by k v steps) ++ said_by k said)) names' v' c' rs'
+-- how far one actor has come by itself: what the names stand for to it, its view, its cache and its records
+pub record OwnState : Type 0 where
+  pub names : List Named
+  pub view : View
+  pub cache : Cached
+  pub records : List Record
+
+abbrev pub own_state : List Named → View → Cached → List Record → OwnState
+own_state names v c rs = record { names = names; view = v; cache = c; records = rs }
+
+-- The operations of actor k are answered by pieces over its own view, in order, from one state of its own to another.
+abbrev pub FollowsOwn : Profile → ℕ → List What → OwnState → OwnState → Type 0
+FollowsOwn f k [] b e = (e.names ≡ b.names) × (e.view ≡ b.view) × (e.cache ≡ b.cache) × (e.records ≡ b.records)
+FollowsOwn f k (what ∷ whats) b e =
+    (a : Answer) × IsAnswered f k what (having b.names b.view b.cache) a
+    × FollowsOwn f k whats (own_state a.names (a.steps ++ b.view) a.cache (b.records ++ (records_of (events_by k b.view a.steps) ++ said_by k a.said))) e
 
 -- no name is asked for twice
 abbrev pub IsNew : List ℕ → What → Type 0

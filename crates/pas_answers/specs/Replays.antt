@@ -21,7 +21,7 @@ use Rattle.pas_report.specs.declared.record.Record.{Record}
 use Rattle.pas_cache.specs.Caches.{Cached}
 use Rattle.pas_cache.specs.Serves.{IsClassRoute}
 use Rattle.pas_answers.specs.Acts.{acts_of}
-use Rattle.pas_answers.specs.Answers.{Caches, Follows}
+use Rattle.pas_answers.specs.Answers.{Caches, Progress, progress, Follows}
 use Rattle.pas_answers.specs.Ways.{Way, IsOneOrder, arranged}
 
 -- ---- what can be replayed today: no heap is shared, each request is of a class, and the scavenger has no operation
@@ -59,6 +59,10 @@ empty_cache = record { locals = []; log = []; idle_since = 0 }
 abbrev pub empty_caches : Caches
 empty_caches k = empty_cache
 
+-- no name was asked for, no cache was used, and no step was made
+abbrev pub at_start : Progress
+at_start = progress [] empty_caches [] []
+
 -- A REPLAY of a plan, for both ways: a list of steps and the records of it. The acts of the plan are answered by pieces, each by the thread's own
 -- cache, which stand in `told` in the order of the acts with their records in `said`. The list has of each actor the same part as `told`, and the records
 -- are those of the pieces, in the order of this way. The list is legal, and at its end all actors have nothing and owe nothing. Its visible events are a run
@@ -67,7 +71,7 @@ empty_caches k = empty_cache
 pub record IsReplay (way : Way) (plan : Plan) (whole : Whole) (records : List Record) : Type 0 where
   pub told : Whole
   pub said : List Record
-  pub answers : Follows plan.profile (acts_of plan.profile.threads (phases_of plan)) [] empty_caches [] [] told said
+  pub answers : Follows plan.profile (acts_of plan.profile.threads (phases_of plan)) at_start told said
   pub one_order : IsOneOrder way told whole
   pub records_are : records ≡ arranged way plan.profile.threads said
   pub legal : Legal plan.profile whole

@@ -7,7 +7,7 @@ ghost use Rattle.pas_cache.specs.Caches.{cached};
 ghost use Rattle.pas_answers.specs.Answers.{said_of_room};
 ghost use Rattle.pas_answers.specs.Fit.{IsFitWhat};
 ghost use Rattle.pas_answers.specs.Names.{names_held};
-ghost use Rattle.pas_answers.specs.Calls.{HasTurns, MayPerform, Performs, FreesOne, MayAnswer, Answers};
+ghost use Rattle.pas_answers.specs.Calls.{works, HasTurns, MayPerform, Performs, FreesOne, MayAnswer, Answers};
 
 use crate::names::Names;
 use pas_cache::ThreadCache;
@@ -53,7 +53,7 @@ fn allocate<D: Desk>(
     requires fit { (asked : List ℕ) × IsFitWhat (D.standing desk.old).seat.profile (names_held names.old) asked (TheWhat.Alloc name heap size align) }
     requires turns { HasTurns names.old }
     requires can { CanCall (D.standing desk.old) (λ v l. MayPerform (D.standing desk.old).seat.profile (cached cache.old) (TheWhat.Alloc name heap size align) (D.spare_of desk.old) v) }
-    ensures performs { Performs (TheWhat.Alloc name heap size align) names.old names.new (cached cache.old) (cached cache.new) (D.standing desk.old) (D.standing desk.new) result }
+    ensures performs { Performs (TheWhat.Alloc name heap size align) (works names.old (cached cache.old)) (works names.new (cached cache.new)) (D.standing desk.old) (D.standing desk.new) result }
     ensures turns { HasTurns names.new }
     ensures home { D.home desk.new ≡ D.home desk.old }
 {
@@ -94,7 +94,7 @@ fn perform<D: Desk>(
     requires fit { (asked : List ℕ) × IsFitWhat (D.standing desk.old).seat.profile (names_held names.old) asked what }
     requires turns { HasTurns names.old }
     requires can { CanCall (D.standing desk.old) (λ v l. MayPerform (D.standing desk.old).seat.profile (cached cache.old) what (D.spare_of desk.old) v) }
-    ensures performs { Performs what names.old names.new (cached cache.old) (cached cache.new) (D.standing desk.old) (D.standing desk.new) result }
+    ensures performs { Performs what (works names.old (cached cache.old)) (works names.new (cached cache.new)) (D.standing desk.old) (D.standing desk.new) result }
     ensures turns { HasTurns names.new }
     ensures home { D.home desk.new ≡ D.home desk.old }
 {
@@ -134,7 +134,7 @@ pub fn answer<D: Desk>(
     requires fit { (asked : List ℕ) × IsFitWhat (D.standing desk.old).seat.profile (names_held names.old) asked what }
     requires turns { HasTurns names.old }
     requires can { CanCall (D.standing desk.old) (λ v l. MayAnswer (D.standing desk.old).seat.profile (cached cache.old) what (D.spare_of desk.old) out.old v) }
-    ensures answers { Answers what names.old names.new (cached cache.old) (cached cache.new) out.old out.new (D.standing desk.old) (D.standing desk.new) }
+    ensures answers { Answers what (works names.old (cached cache.old)) (works names.new (cached cache.new)) out.old out.new (D.standing desk.old) (D.standing desk.new) }
     ensures turns { HasTurns names.new }
     ensures home { D.home desk.new ≡ D.home desk.old }
 {

@@ -25,7 +25,7 @@ use Rattle.pas_report.specs.declared.record.Said.{Said}
 use Rattle.pas_report.specs.declared.records.Records.{Records}
 use Rattle.pas_cache.specs.Caches.{Cached, cached, AtRest}
 use Rattle.pas_answers.specs.Acts.{Act, Operates, Ends}
-use Rattle.pas_answers.specs.Answers.{Named, Caches, with_cache, standing_for, IsAnswered, records_of, said_by, Follows}
+use Rattle.pas_answers.specs.Answers.{having, answer_of, progress, Named, Caches, with_cache, standing_for, IsAnswered, records_of, said_by, Follows}
 use Rattle.pas_answers.specs.Calls.{Tells, HasTurns, IsKnown, owed_events, MayAnswer, Answers}
 use Rattle.pas_answers.specs.Fit.{is_asked, asked_after, IsFitWhat, AreFit, cost_of_what, costs_of, own_costs_of, ops_in, marks_in}
 use Rattle.pas_answers.specs.Names.{names_held}
@@ -45,9 +45,9 @@ pub record IsActOf (f : Profile) (act : Act) (k : ℕ) (what : What) : Type 0 wh
   pub marks : (more : List Act) → marks_in (act ∷ more) ≡ marks_in more
   pub fit : (more : List Act) (limit : ℕ) (asked : List ℕ) → AreFit f limit asked (ops_in (act ∷ more)) → AreFit f limit (asked_after what asked) (ops_in more)
   pub follows : (more : List Act) (names : List Named) (caches : Caches) (l : Whole) (rs : List Record) (l' : Whole) (rs' : List Record)
-      (steps : List Made) (said : Option Said) (names' : List Named) (c' : Cached) → IsAnswered f k what names (part k l) (caches k) steps said names' c'
-      → Follows f more names' (with_cache caches k c') (triples k steps ++ l) (rs ++ (records_of (events_by k (part k l) steps) ++ said_by k said)) l' rs'
-      → Follows f (act ∷ more) names caches l rs l' rs'
+      (steps : List Made) (said : Option Said) (names' : List Named) (c' : Cached) → IsAnswered f k what (having names (part k l) (caches k)) (answer_of steps said names' c')
+      → Follows f more (progress names' (with_cache caches k c') (triples k steps ++ l) (rs ++ (records_of (events_by k (part k l) steps) ++ said_by k said))) l' rs'
+      → Follows f (act ∷ more) (progress names caches l rs) l' rs'
 
 if_same : (t : Bool) (c n : ℕ) → t ≡ true → (if t then c else 0) + n ≡ c + n
 if_same true c n is = refl
@@ -64,7 +64,7 @@ operation f op = record {
   all = λ more. refl;
   marks = λ more. refl;
   fit = λ more limit asked fit. fit.2;
-  follows = λ more names caches l rs l' rs' steps said names' c' answered after. (steps, said, names', c', answered, after);
+  follows = λ more names caches l rs l' rs' steps said names' c' answered after. (answer_of steps said names' c', answered, after);
 }
 
 -- the close stops each thread
@@ -82,8 +82,8 @@ ending f k = record {
     steps,
     c',
     answered.0,
-    subst (λ (now : List Record). Follows f more names (with_cache caches k c') (triples k steps ++ l) now l' rs') (no_more k rs (records_of (events_by k (part k l) steps)) said answered.1)
-        (subst (λ (ns : List Named). Follows f more ns (with_cache caches k c') (triples k steps ++ l) (rs ++ (records_of (events_by k (part k l) steps) ++ said_by k said)) l' rs') answered.2 after),
+    subst (λ (now : List Record). Follows f more (progress names (with_cache caches k c') (triples k steps ++ l) now) l' rs') (no_more k rs (records_of (events_by k (part k l) steps)) said answered.1)
+        (subst (λ (ns : List Named). Follows f more (progress ns (with_cache caches k c') (triples k steps ++ l) (rs ++ (records_of (events_by k (part k l) steps) ++ said_by k said))) l' rs') answered.2 after),
   );
 }
 
@@ -133,7 +133,7 @@ records_count es = length-map (reverse es) Record.Event ∙ length-reverse es
 pub record IsDone (f : Profile) (k : ℕ) (what : What) (table' : Names) (names : List Named) (v : View) (c c' : Cached) (steps : List Made) (said : Option Said) : Type 0 where
   pub after : List Named
   pub tells : Tells table' after
-  pub answer : IsAnswered f k what names v c steps said after c'
+  pub answer : IsAnswered f k what (having names v c) (answer_of steps said after c')
 
 pub done : {f : Profile} {all more : List Act} {act : Act} {what : What} {region region' : PlainRegion} {threads : List Thread} {table table' : Names} {out out' : Records} (k i : ℕ) (d thread' : Thread)
     → k ≡ 1 + i → i < length threads
@@ -153,8 +153,8 @@ done {f} {all} {more} {act} {what} {region} {region'} {threads} {table} {table'}
     record {
       after = answered.0;
       tells = answered.1;
-      answer = subst (λ (old : Cached). IsAnswered f k what so.names v old did.performs.steps did.said answered.0 c') (sym held)
-          (at_seat s (λ (m : ℕ) (g : Profile). IsAnswered g m what so.names v c did.performs.steps did.said answered.0 c') answered.2);
+      answer = subst (λ (old : Cached). IsAnswered f k what (having so.names v old) (answer_of did.performs.steps did.said answered.0 c')) (sym held)
+          (at_seat s (λ (m : ℕ) (g : Profile). IsAnswered g m what (having so.names v c) (answer_of did.performs.steps did.said answered.0 c')) answered.2);
     }
 
 pub operated : {f : Profile} {all more : List Act} {act : Act} {what : What} {region region' : PlainRegion} {threads : List Thread} {table table' : Names} {out out' : Records} (k i : ℕ) (d thread' : Thread)
@@ -209,7 +209,7 @@ operated {f} {all} {more} {act} {what} {region} {region'} {threads} {table} {tab
       caches_are = set_caches so.caches 1 threads i k thread' at lt so.caches_are;
       spare = omega (arith, grown, both, count, owed, mine, costs, marks, spare, room, few);
       answers = λ l rs follows. so.answers l rs (of.follows more so.names so.caches so.whole (records_in out) l rs steps said was.after c' was.answer
-          (subst (λ (now : List Record). Follows f more was.after (with_cache so.caches k c') after now l rs) pushed follows));
+          (subst (λ (now : List Record). Follows f more (progress was.after (with_cache so.caches k c') after now) l rs) pushed follows));
     }
 
 -- ---- a stop leaves nothing in the cache

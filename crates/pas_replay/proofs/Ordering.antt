@@ -23,11 +23,11 @@ use Rattle.pas_report.specs.declared.records.Records.{Records}
 use Rattle.pas_cache.specs.Caches.{Cached, cached, AtRest}
 use Rattle.pas_cache.specs.Calls.{Begins}
 use Rattle.pas_answers.specs.Acts.{Act, Operates, MarksPhase, Wakes, MarksClose, Ends, is_active, active_from, numbers_from, phase_acts, close_acts, acts_from, acts_of}
-use Rattle.pas_answers.specs.Answers.{with_cache, begun, Follows}
+use Rattle.pas_answers.specs.Answers.{progress, with_cache, begun, Follows}
 use Rattle.pas_answers.specs.Calls.{owed_events}
 use Rattle.pas_answers.specs.Fit.{AreFit, costs_of, own_costs_of, ops_in, marks_in}
 use Rattle.pas_answers.specs.Names.{names_held}
-use Rattle.pas_answers.specs.Replays.{empty_caches}
+use Rattle.pas_answers.specs.Replays.{at_start, empty_caches}
 use Rattle.pas_replay.specs.Sessions.{Turn, MaySit, SoFar, AreCaches, owed_from}
 use Rattle.pas_answers.specs.declared.names.Names.{Names}
 use Rattle.pas_replay.specs.declared.seats.Thread.{Thread}
@@ -39,7 +39,7 @@ use Rattle.pas_replay.proofs.Turning.{sits, desk_for, may_sit, its_pass, rises, 
 marked_so : {f : Profile} {all more : List Act} {act : Act} {region : PlainRegion} {threads : List Thread} {table : Names} {out out' : Records} (mark : Record) → (so : SoFar f all (act ∷ more) region threads table out)
     → ops_in (act ∷ more) ≡ ops_in more
     → length (records_in out') + (owed_from f so.whole 1 threads + (costs_of (ops_in more) + marks_in more)) ≤ room_of out'
-    → ((l : Whole) (rs : List Record) → Follows f more so.names so.caches so.whole (records_in out') l rs → Follows f all [] empty_caches [] [] l rs)
+    → ((l : Whole) (rs : List Record) → Follows f more (progress so.names so.caches so.whole (records_in out')) l rs → Follows f all at_start l rs)
     → SoFar f all more region threads table out'
 marked_so {f} {all} {more} {act} {region} {threads} {table} {out} {out'} mark so same spare answers = record {
   profile_is = so.profile_is;
@@ -65,13 +65,13 @@ pub after_mark : {f : Profile} {all more : List Act} {region : PlainRegion} {thr
     → records_in out' ≡ records_in out ++ Record.Phase n ∷ [] → room_of out' ≡ room_of out → SoFar f all more region threads table out'
 after_mark {f} {all} {more} {region} {threads} {table} {out} {out'} n so pushed room = marked_so (Record.Phase n) so refl
     (let spare = so.spare in let m = ap length pushed ∙ length-append (records_in out) (Record.Phase n ∷ []) in omega (arith, spare, m, room))
-    (λ l rs follows. so.answers l rs (subst (λ (r : List Record). Follows f more so.names so.caches so.whole r l rs) pushed follows))
+    (λ l rs follows. so.answers l rs (subst (λ (r : List Record). Follows f more (progress so.names so.caches so.whole r) l rs) pushed follows))
 
 pub after_close : {f : Profile} {all more : List Act} {region : PlainRegion} {threads : List Thread} {table : Names} {out out' : Records} → SoFar f all (MarksClose ∷ more) region threads table out
     → records_in out' ≡ records_in out ++ Record.Close ∷ [] → room_of out' ≡ room_of out → SoFar f all more region threads table out'
 after_close {f} {all} {more} {region} {threads} {table} {out} {out'} so pushed room = marked_so Record.Close so refl
     (let spare = so.spare in let m = ap length pushed ∙ length-append (records_in out) (Record.Close ∷ []) in omega (arith, spare, m, room))
-    (λ l rs follows. so.answers l rs (subst (λ (r : List Record). Follows f more so.names so.caches so.whole r l rs) pushed follows))
+    (λ l rs follows. so.answers l rs (subst (λ (r : List Record). Follows f more (progress so.names so.caches so.whole r) l rs) pushed follows))
 
 -- there is room for the mark
 pub mark_room : {f : Profile} {all more : List Act} {region : PlainRegion} {threads : List Thread} {table : Names} {out : Records} (n : ℕ) → SoFar f all (MarksPhase n ∷ more) region threads table out → length (records_in out) < room_of out

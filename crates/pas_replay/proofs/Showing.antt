@@ -23,7 +23,7 @@ use Rattle.pas_steps.specs.Unknown.{unknown_below}
 use Rattle.pas_cache.proofs.Keeping.{rests_empty}
 use Rattle.pas_segregated.specs.declared.slots.Slots.{Slots}
 use Rattle.pas_answers.specs.Acts.{Act, acts_of}
-use Rattle.pas_answers.specs.Answers.{Follows}
+use Rattle.pas_answers.specs.Answers.{progress, Follows}
 use Rattle.pas_answers.specs.Calls.{owed_events}
 use Rattle.pas_answers.specs.Fit.{own_costs_of, ops_in}
 use Rattle.pas_replay.specs.Kits.{IsFresh, IsKitOf}
@@ -121,7 +121,7 @@ start {text} {plan} {kit} {out} read built made empty room =
       caches = empty_caches;
       caches_are = caches_start plan 1 threads fresh;
       spare = omega (arith, owed, product, total, marks, none, room);
-      answers = λ l rs follows. subst (λ (r : List Record). Follows plan.profile acts [] empty_caches [] r l rs) empty follows;
+      answers = λ l rs follows. subst (λ (r : List Record). Follows plan.profile acts (progress [] empty_caches [] r) l rs) empty follows;
     }
 
 -- ---- the end

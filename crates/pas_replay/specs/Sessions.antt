@@ -16,11 +16,11 @@ use Rattle.pas_report.specs.declared.record.Record.{Record}
 use Rattle.pas_report.specs.declared.records.Records.{Records}
 use Rattle.pas_cache.specs.Caches.{cached, AtRest}
 use Rattle.pas_answers.specs.Acts.{Act}
-use Rattle.pas_answers.specs.Answers.{Named, Caches, standing_for, Follows}
+use Rattle.pas_answers.specs.Answers.{progress, Named, Caches, standing_for, Follows}
 use Rattle.pas_answers.specs.Calls.{Tells, HasTurns, owed_events}
 use Rattle.pas_answers.specs.Fit.{is_asked, AreFit, costs_of, own_costs_of, ops_in, marks_in}
 use Rattle.pas_answers.specs.Names.{names_held}
-use Rattle.pas_answers.specs.Replays.{empty_caches}
+use Rattle.pas_answers.specs.Replays.{at_start, empty_caches}
 use Rattle.pas_answers.specs.declared.names.Names.{Names}
 use Rattle.pas_replay.specs.declared.seats.Thread.{Thread}
 
@@ -96,4 +96,4 @@ pub record SoFar (f : Profile) (all acts : List Act) (region : PlainRegion) (thr
   pub caches : Caches
   pub caches_are : AreCaches caches 1 threads
   pub spare : length (records_in out) + (owed_from f whole 1 threads + (costs_of (ops_in acts) + marks_in acts)) ≤ room_of out
-  pub answers : (l : Whole) (rs : List Record) → Follows f acts names caches whole (records_in out) l rs → Follows f all [] empty_caches [] [] l rs
+  pub answers : (l : Whole) (rs : List Record) → Follows f acts (progress names caches whole (records_in out)) l rs → Follows f all at_start l rs

@@ -4,7 +4,7 @@ use Rattle.pas_cache.specs.Serves.{class_of}
 use Rattle.pas_profile.specs.Routes.{route_of}
 use Rattle.std.proofs.Common.{Some, ap, sym, subst}
 use Rattle.pas_trace.specs.declared.plan.What.TheVariants as TheWhat
-use Rattle.pas_answers.specs.Calls.{Performs}
+use Rattle.pas_answers.specs.Calls.{works, Performs}
 use Rattle.pas_answers.proofs.answering.allocate.Goals as goal
 
 pub alloc-requires-clause-exclusive : goal.alloc-requires-clause-exclusive
@@ -23,7 +23,7 @@ returns-in-Ok-clause-turns g c = turns_given c.args.names.now c.set.new.self (ca
 
 pub returns-in-Err-clause-performs : goal.returns-in-Err-clause-performs
 returns-in-Err-clause-performs g c =
-    subst (λ said. Performs (TheWhat.Alloc c.args.name c.args.heap c.args.size c.args.align) c.args.names.now c.set-in-Err.new.self (cached c.args.cache.now) (cached c.alloc.new.self) (g.D.Desk.standing c.args.desk.now) (g.D.Desk.standing c.alloc.new.desk) said)
+    subst (λ said. Performs (TheWhat.Alloc c.args.name c.args.heap c.args.size c.args.align) (works c.args.names.now (cached c.args.cache.now)) (works c.set-in-Err.new.self (cached c.alloc.new.self)) (g.D.Desk.standing c.args.desk.now) (g.D.Desk.standing c.alloc.new.desk) said)
     (ap (λ said. Some said) (sym c.refusal.ensures))
     (performs_refused c.args.names.now c.set-in-Err.new.self (cached c.args.cache.now) (cached c.alloc.new.self) c.args.name c.args.heap c.args.size c.args.align c.in-Err.room
     c.requires.fit.1.2 c.alloc.ensures.allocates c.in-Err.is c.set-in-Err.ensures.names c.set-in-Err.ensures.room)
