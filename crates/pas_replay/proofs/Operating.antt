@@ -26,7 +26,7 @@ use Rattle.pas_report.specs.declared.records.Records.{Records}
 use Rattle.pas_cache.specs.Caches.{Cached, cached, AtRest}
 use Rattle.pas_answers.specs.Acts.{Act, Operates, Ends}
 use Rattle.pas_answers.specs.Answers.{having, answer_of, progress, Named, Caches, with_cache, standing_for, IsAnswered, records_of, said_by, Follows}
-use Rattle.pas_answers.specs.Calls.{Tells, HasTurns, IsKnown, owed_events, MayAnswer, Answers}
+use Rattle.pas_answers.specs.Calls.{works, Tells, HasTurns, IsKnown, owed_events, MayAnswer, Answers}
 use Rattle.pas_answers.specs.Fit.{is_asked, asked_after, IsFitWhat, AreFit, cost_of_what, costs_of, own_costs_of, ops_in, marks_in}
 use Rattle.pas_answers.specs.Names.{names_held}
 use Rattle.pas_answers.proofs.KnownNames.{AreKnown, known_after}
@@ -139,7 +139,7 @@ pub done : {f : Profile} {all more : List Act} {act : Act} {what : What} {region
     → k ≡ 1 + i → i < length threads
     → (so : SoFar f all (act ∷ more) region threads table out)
     → IsKnown so.names what
-    → (turn : Turn region region' (get_or threads i d) thread' (Answers what table table' (cached (get_or threads i d).cache) (cached thread'.cache) out out'))
+    → (turn : Turn region region' (get_or threads i d) thread' (Answers what (works table (cached (get_or threads i d).cache)) (works table' (cached thread'.cache)) out out'))
     → IsDone f k what table' so.names (part k so.whole) (so.caches k) (cached thread'.cache) turn.did.performs.steps turn.did.said
 done {f} {all} {more} {act} {what} {region} {region'} {threads} {table} {table'} k i d thread' at lt so known turn =
     let c = cached (get_or threads i d).cache in
@@ -161,7 +161,7 @@ pub operated : {f : Profile} {all more : List Act} {act : Act} {what : What} {re
     → IsActOf f act k what → k ≡ 1 + i → i < length threads
     → (so : SoFar f all (act ∷ more) region threads table out)
     → IsKnown so.names what
-    → Turn region region' (get_or threads i d) thread' (Answers what table table' (cached (get_or threads i d).cache) (cached thread'.cache) out out')
+    → Turn region region' (get_or threads i d) thread' (Answers what (works table (cached (get_or threads i d).cache)) (works table' (cached thread'.cache)) out out')
     → HasTurns table'
     → SoFar f all more region' (set threads i thread') table' out'
 operated {f} {all} {more} {act} {what} {region} {region'} {threads} {table} {table'} {out} {out'} k i d thread' of at lt so known turn turns =
@@ -215,7 +215,7 @@ operated {f} {all} {more} {act} {what} {region} {region'} {threads} {table} {tab
 -- ---- a stop leaves nothing in the cache
 pub emptied : {f : Profile} {all more : List Act} {region region' : PlainRegion} {threads : List Thread} {table table' : Names} {out out' : Records} (k i : ℕ) (d thread' : Thread)
     → k ≡ 1 + i → i < length threads → SoFar f all (Ends k ∷ more) region threads table out
-    → Turn region region' (get_or threads i d) thread' (Answers Stop table table' (cached (get_or threads i d).cache) (cached thread'.cache) out out')
+    → Turn region region' (get_or threads i d) thread' (Answers Stop (works table (cached (get_or threads i d).cache)) (works table' (cached thread'.cache)) out out')
     → (cached thread'.cache).locals ≡ []
 emptied k i d thread' at lt so turn = ap (λ (c : Cached). c.locals) (done k i d thread' at lt so tt turn).answer.0.cache
 
