@@ -1,7 +1,7 @@
 -- A replay keeps the stamps to the epochs of ends: no thread learns an epoch between an end and its stamps, and a page is stamped only where it is
 -- unstamped. So at its end the stamp of each page is the greatest epoch of an end there.
-use Rattle.std.proofs.Common.{true≢false, ◌≡◌, ℕ, zero, suc, ◌+◌, ◌-◌, ◌*◌, ◌/◌, ◌^◌, ◌<◌, ◌≤◌, ◌==◌, nat_le, Bool, true, false, ◌&&◌, if◌then◌else◌, List, [], ◌∷◌, ◌++◌, length, Option, Some, None, inl, inr, refl, ap, sym, ◌∙◌, subst, arith, append_assoc}
-use Rattle.std.proofs.lemmas.Bool.{false≢true, eqb-true, eqb-false, eq-eqb, ne_eqb, cases_eq, false_from_ne_true}
+use Rattle.std.proofs.Common.{◌≡◌, ℕ, zero, suc, ◌+◌, ◌-◌, ◌*◌, ◌/◌, ◌^◌, ◌<◌, ◌≤◌, ◌==◌, nat_le, Bool, true, false, ◌&&◌, if◌then◌else◌, List, [], ◌∷◌, ◌++◌, length, Option, Some, None, inl, inr, refl, ap, sym, ◌∙◌, subst, arith, append_assoc}
+use Rattle.std.proofs.lemmas.Bool.{true≢false, false≢true, eqb-true, eqb-false, eq-eqb, ne_eqb, cases_eq, false_from_ne_true}
 use Rattle.std.proofs.lemmas.Bool.Decides.{nat_tests}
 use Rattle.pas_profile.specs.Lives.{live_word}
 use Rattle.pas_profile.specs.Directories.{directory_read, deed_word_of}
@@ -16,12 +16,11 @@ use Rattle.pas_steps.specs.Events.{events_by}
 use Rattle.pas_steps.specs.Allowed.{IsStepOf}
 use Rattle.pas_steps.specs.Lists.{Whole, part, Legal}
 use Rattle.pas_steps.specs.Desks.{made, triple, triples}
-use Rattle.pas_steps.specs.Frames.{IsReturn, OnlyReturns}
 use Rattle.pas_steps.specs.declared.step.Made.{Made}
 use Rattle.pas_steps.specs.declared.step.Step.{Step}
 use Rattle.pas_steps.specs.declared.step.Step.TheVariants.{Look, End, Stamp, Tick}
 use Rattle.pas_steps.proofs.Parts.{part_of_own, part_of_others}
-use Rattle.pas_core.specs.Stamps.{AllStamped, KeepsToEnds, AllKeepToEnds, Keeps}
+use Rattle.pas_core.specs.Stamps.{AllStamped, KeepsToEnds, AllKeepToEnds}
 use Rattle.pas_core.proofs.StampedEnds.{stamps_are_ends}
 use Rattle.pas_rights.proofs.Orders.{return_returns}
 use Rattle.pas_rights.proofs.Puts.{puts_kinds}
@@ -35,89 +34,86 @@ use Rattle.pas_free_log.proofs.Idle.{not_live}
 use Rattle.pas_segregated.specs.declared.slots.Slots.{Slots}
 use Rattle.pas_cache.specs.Caches.{Cached}
 use Rattle.pas_cache.specs.Changes.{StopsAll, EmptiesLog, EmptiesFull}
-use Rattle.pas_steps.specs.Kinds.{Only, kind_of, is_in, Putting}
+use Rattle.pas_steps.specs.Kinds.{Kinds, Only, kind_of, look_kind, is_in, apart, LookEpoch, Putting, Ending, Stamping, Ticking, looking, returning}
 use Rattle.pas_cache.specs.Kinds.{releasing, allocating}
 use Rattle.pas_cache.proofs.Below.{stop_only}
-use Rattle.pas_steps.proofs.Apart.{only_within, unstamped_same}
+use Rattle.pas_steps.proofs.Apart.{holds_over, only_both, only_within, unstamped_same}
+use Rattle.pas_steps.proofs.Calls.{returns_are}
 use Rattle.pas_trace.specs.declared.plan.What.{What}
 use Rattle.pas_report.specs.declared.record.Record.{Record}
 use Rattle.pas_report.specs.declared.record.Said.{Said}
 use Rattle.pas_answers.specs.Acts.{Act, Operates, MarksPhase, Wakes, MarksClose, Ends}
-use Rattle.pas_answers.specs.Answers.{having, answer_of, progress, Named, Caches, with_cache, begun, records_of, said_by, standing_for, IsFreed, IsFreedBy, IsStopped, IsAnswered, Follows}
+use Rattle.pas_answers.specs.Answers.{Having, Answer, Progress, having, with_records, with_steps, begun, records_of, said_by, standing_for, IsFreed, IsFreedBy, IsStopped, IsAnswered, Follows}
 use Rattle.pas_report.specs.Rests.{AreStamped}
-use Rattle.pas_answers.specs.Replays.{at_start, empty_caches}
+use Rattle.pas_answers.specs.Replays.{at_start}
 use Rattle.pas_answers.specs.Ways.{Way, IsOneOrder}
-use Rattle.pas_answers.proofs.Replayed.{AreOf, PartOf, legal_part, parts_of, same_parts}
+use Rattle.pas_answers.proofs.Replayed.{PartOf, legal_part, later_of, same_parts}
 
--- ---- steps from a view for which nothing is unstamped, to one
-record Done (v : View) (steps : List Made) : Type 0 where
-  keeps : Keeps v steps
-  stamped : AllStamped (steps ++ v)
+-- ---- tidy views: all steps kept to ends, and nothing is unstamped
+abbrev KeptPart : View → Type 0
+KeptPart [] = Unit {0}
+KeptPart (m ∷ v) = KeepsToEnds v m.step × KeptPart v
 
-keeps_append : (ys xs : List Made) (v : View) → Keeps v xs → Keeps (xs ++ v) ys → Keeps v (ys ++ xs)
-keeps_append [] xs v a b = a
-keeps_append (y ∷ ys) xs v a b = (subst (λ u. KeepsToEnds u y.step) (sym (append_assoc ys xs v)) b.0, keeps_append ys xs v a b.1)
+record Tidy (v : View) : Type 0 where
+  kept : KeptPart v
+  stamped : AllStamped v
 
-done_append : (ys xs : List Made) (v : View) → Done v xs → Done (xs ++ v) ys → Done v (ys ++ xs)
-done_append ys xs v a b = record { keeps = keeps_append ys xs v a.keeps b.keeps; stamped = subst AllStamped (sym (append_assoc ys xs v)) b.stamped }
+-- kinds of steps that keep to ends only on a condition
+abbrev bound : Kinds
+bound = LookEpoch ∷ Stamping ∷ Ticking ∷ []
 
-done_none : (v : View) → AllStamped v → Done v []
-done_none v h = record { keeps = tt; stamped = h }
+keeps_free : (s : Step) (v : View) → is_in bound (kind_of s) ≡ false → KeepsToEnds v s
+keeps_free (Look Word.Epoch) v h = absurd (true≢false h)
+keeps_free (Stamp q) v h = absurd (true≢false h)
+keeps_free (Tick up) v h = absurd (true≢false h)
+keeps_free s v h = tt
 
--- ---- requests and what gives back
-allocating_keeps : (v : View) (s : Step) → is_in allocating (kind_of s) ≡ true → AllStamped v → KeepsToEnds v s
-allocating_keeps v (Look Word.Epoch) is h = h
-allocating_keeps v (Stamp q) is h = absurd (true≢false (sym is))
-allocating_keeps v (Tick up) is h = absurd (true≢false (sym is))
-allocating_keeps v s is h = tt
-allocating_keep : (steps : List Made) (v : View) → Only allocating steps → AllStamped v → Keeps v steps
-allocating_keep [] v are h = tt
-allocating_keep (m ∷ more) v are h = (allocating_keeps (more ++ v) m.step are.0 (λ p. unstamped_same allocating refl p more v are.1 ∙ h p), allocating_keep more v are.1 h)
+kept_over : (ks : Kinds) → apart ks bound ≡ true → (steps : List Made) (v : View) → Only ks steps → KeptPart v → KeptPart (steps ++ v)
+kept_over ks w = holds_over KeptPart bound ks (λ m v h kept. (keeps_free m.step v h, kept)) w
 
-allocating_done : (steps : List Made) (v : View) → Only allocating steps → AllStamped v → Done v steps
-allocating_done steps v are h = record { keeps = allocating_keep steps v are h; stamped = λ p. unstamped_same allocating refl p steps v are ∙ h p }
+-- kinds of steps after which a tidy view may not be tidy
+abbrev untidy : Kinds
+untidy = Ending ∷ Stamping ∷ Ticking ∷ []
+
+keeps_tidy : (s : Step) (v : View) → is_in untidy (kind_of s) ≡ false → AllStamped v → KeepsToEnds v s
+keeps_tidy (Look Word.Epoch) v h stamped = stamped
+keeps_tidy (Stamp q) v h stamped = absurd (true≢false h)
+keeps_tidy (Tick up) v h stamped = absurd (true≢false h)
+keeps_tidy s v h stamped = tt
+
+stamped_tidy : (s : Step) (a p : ℕ) (was : Bool) → is_in untidy (kind_of s) ≡ false → unstamped_after s a p was ≡ was
+stamped_tidy (End name guess) a p was h = absurd (true≢false h)
+stamped_tidy (Stamp q) a p was h = absurd (true≢false h)
+stamped_tidy s a p was h = refl
+
+tidy_over : (ks : Kinds) → apart ks untidy ≡ true → (steps : List Made) (v : View) → Only ks steps → Tidy v → Tidy (steps ++ v)
+tidy_over ks w = holds_over Tidy untidy ks
+    (λ m v h tidy. record { kept = (keeps_tidy m.step v h tidy.stamped, tidy.kept); stamped = λ p. stamped_tidy m.step m.answer p (is_unstamped v p) h ∙ tidy.stamped p }) w
+
+look_tidy : (word : Word) (a : ℕ) (v : View) → is_in looking (look_kind word) ≡ true → Tidy v → Tidy (made (Look word) a ∷ v)
+look_tidy word a v is = tidy_over looking refl (made (Look word) a ∷ []) v (is, tt)
+
+tidy_none : (steps : List Made) (v : View) → steps ≡ [] → Tidy v → Tidy (steps ++ v)
+tidy_none steps v none tidy = subst (λ ms. Tidy (ms ++ v)) (sym none) tidy
+
+tidy_both : (steps ys xs : List Made) (v : View) → steps ≡ ys ++ xs → Tidy (ys ++ (xs ++ v)) → Tidy (steps ++ v)
+tidy_both steps ys xs v is tidy = subst (λ ms. Tidy (ms ++ v)) (sym is) (subst Tidy (sym (append_assoc ys xs v)) tidy)
 
 -- ---- the pages of a block
-return_keeps : (p : ℕ) (s : Step) (v : View) → IsReturn p s → KeepsToEnds v s
-return_keeps p s v IsReturn.Hints = tt
-return_keeps p s v step = tt
-
-return_stamps : (p : ℕ) (s : Step) (a q : ℕ) (was : Bool) → IsReturn p s → unstamped_after s a q was ≡ was
-return_stamps p s a q was IsReturn.Hints = refl
-return_stamps p s a q was step = refl
-
-put_keeps : (s : Step) (v : View) → is_in (Putting ∷ []) (kind_of s) ≡ true → KeepsToEnds v s
-put_keeps (Look Word.Epoch) v h = absurd (false≢true h)
-put_keeps (Stamp q) v h = absurd (false≢true h)
-put_keeps (Tick up) v h = absurd (false≢true h)
-put_keeps s v h = tt
-
-returns_keep : (p : ℕ) (steps : List Made) (v : View) → OnlyReturns p steps → Keeps v steps
-returns_keep p [] v h = tt
-returns_keep p (m ∷ more) v h = (return_keeps p m.step (more ++ v) h.0, returns_keep p more v h.1)
-
-returns_stamp : (p q : ℕ) (steps : List Made) (v : View) → OnlyReturns p steps → is_unstamped (steps ++ v) q ≡ is_unstamped v q
-returns_stamp p q [] v h = refl
-returns_stamp p q (m ∷ more) v h = return_stamps p m.step m.answer q (is_unstamped (more ++ v) q) h.0 ∙ returns_stamp p q more v h.1
-
-puts_keep : (steps : List Made) (v : View) → Only (Putting ∷ []) steps → Keeps v steps
-puts_keep [] v h = tt
-puts_keep (m ∷ more) v h = (put_keeps m.step (more ++ v) h.0, puts_keep more v h.1)
-
 -- the steps for a page that is unstamped: afterwards it isn't, and the others are as they were
-record PageDone (p : ℕ) (v : View) (steps : List Made) : Type 0 where
-  keeps : Keeps v steps
-  stamps : (q : ℕ) → is_unstamped (steps ++ v) q ≡ (if p == q then false else is_unstamped v q)
+record PageDone (p : ℕ) (v w : View) : Type 0 where
+  kept : KeptPart w
+  stamps : (q : ℕ) → is_unstamped w q ≡ (if p == q then false else is_unstamped v q)
 
-page_done : (g n : ℕ) (steps : List Made) (v : View) → PageSteps g n steps → is_unstamped v (g / 256) ≡ true → PageDone (g / 256) v steps
-page_done g n steps v h un =
+page_done : (g n : ℕ) (steps : List Made) (v : View) → PageSteps g n steps → KeptPart v → is_unstamped v (g / 256) ≡ true → PageDone (g / 256) v (steps ++ v)
+page_done g n steps v h kept un =
     let first : List Made = made (Stamp (g / 256)) h.stamped ∷ made (Look (Word.Deed (g / 256))) (deed_word_of h.directory) ∷ [] in
-    let after : OnlyReturns (g / 256) h.after = return_returns (g / 256) h.directory h.after h.returns in
-    let puts : Only (Putting ∷ []) h.puts = puts_kinds (g / 256) h.mask 4 h.puts h.order in
-    subst (PageDone (g / 256) v) (sym h.steps_are) record {
-      keeps = keeps_append h.after (h.puts ++ first) v (keeps_append h.puts first v (un, (tt, tt)) (puts_keep h.puts (first ++ v) puts)) (returns_keep (g / 256) h.after ((h.puts ++ first) ++ v) after);
-      stamps = λ q. ap (λ u. is_unstamped u q) (append_assoc h.after (h.puts ++ first) v) ∙ returns_stamp (g / 256) q h.after ((h.puts ++ first) ++ v) after
-          ∙ ap (λ u. is_unstamped u q) (append_assoc h.puts first v) ∙ unstamped_same (Putting ∷ []) refl q h.puts (first ++ v) puts;
+    let more : List Made = h.after ++ h.puts in
+    let only : Only releasing more = only_both releasing h.after h.puts (only_within returning releasing h.after refl (returns_are (g / 256) h.after (return_returns (g / 256) h.directory h.after h.returns)))
+    (only_within (Putting ∷ []) releasing h.puts refl (puts_kinds (g / 256) h.mask 4 h.puts h.order)) in
+    subst (PageDone (g / 256) v) (sym (ap (λ ms. ms ++ v) (h.steps_are ∙ sym (append_assoc h.after h.puts first)) ∙ append_assoc more first v)) record {
+      kept = kept_over releasing refl more (first ++ v) only (un, (tt, kept));
+      stamps = λ q. unstamped_same releasing refl q more (first ++ v) only;
     }
 
 -- of the pages that the run meets just those from the kth on are unstamped
@@ -125,9 +121,9 @@ record IsPending (g n k : ℕ) (v : View) : Type 0 where
   only : (p : ℕ) → is_unstamped v p ≡ true → (meets_page g n p ≡ true) × (g / 256 + k ≤ p)
   rest : (p : ℕ) → meets_page g n p ≡ true → g / 256 + k ≤ p → is_unstamped v p ≡ true
 
-record PagesDone (g n k : ℕ) (v : View) (steps : List Made) : Type 0 where
-  keeps : Keeps v steps
-  pending : IsPending g n k (steps ++ v)
+record PagesDone (g n k : ℕ) (v : View) : Type 0 where
+  kept : KeptPart v
+  pending : IsPending g n k v
 
 meets_at : (g n p : ℕ) → g < 256 * p + 256 → 256 * p < g + n → meets_page g n p ≡ true
 meets_at g n p low high = grind (arith, nat_tests, low, high)
@@ -145,8 +141,8 @@ others_stay false was h = (refl, h)
 other_stays : (x was : Bool) → x ≡ false → was ≡ true → (if x then false else was) ≡ true
 other_stays x was e h = ap (λ t. if t then false else was) e ∙ h
 
-next_pending : (g n k : ℕ) (v : View) (steps : List Made) → IsPending g n k v → PageDone (g / 256 + k) v steps → IsPending g n (suc k) (steps ++ v)
-next_pending g n k v steps was at = record {
+next_pending : (g n k : ℕ) (v w : View) → IsPending g n k v → PageDone (g / 256 + k) v w → IsPending g n (suc k) w
+next_pending g n k v w was at = record {
   only = λ p un.
       let left = others_stay (g / 256 + k == p) (is_unstamped v p) (sym (at.stamps p) ∙ un) in
       let here = was.only p left.1 in
@@ -158,20 +154,15 @@ next_pending g n k v steps was at = record {
       at.stamps p ∙ other_stays (g / 256 + k == p) (is_unstamped v p) (ne_eqb (g / 256 + k) p (λ e. absurd (omega (arith, le, e)))) (was.rest p meets old);
 }
 
-pages_done : (k g n : ℕ) (steps : List Made) (v : View) → 1 ≤ n → g / 256 + k ≤ (g + n - 1) / 256 + 1 → IsPending g n 0 v → PagesSteps k g n steps → PagesDone g n k v steps
-pages_done zero g n steps v some few was h = subst (PagesDone g n 0 v) (sym h) record { keeps = tt; pending = was }
+pages_done : (k g n : ℕ) (steps : List Made) (v : View) → 1 ≤ n → g / 256 + k ≤ (g + n - 1) / 256 + 1 → PagesDone g n 0 v → PagesSteps k g n steps → PagesDone g n k (steps ++ v)
+pages_done zero g n steps v some few was h = subst (λ ms. PagesDone g n 0 (ms ++ v)) (sym h) was
 pages_done (suc k) g n steps v some few was h =
-    let piece = h.0 in
-    let earlier = h.1 in
-    let before : PagesDone g n k v h.1 = pages_done k g n h.1 v some (omega (arith, few)) was h.3 in
+    let before : PagesDone g n k (h.1 ++ v) = pages_done k g n h.1 v some (omega (arith, few)) was h.3 in
     let meets : meets_page g n (g / 256 + k) ≡ true = meets_at g n (g / 256 + k) (omega arith) (omega (arith, few, some)) in
-    let pending : IsPending g n k (h.1 ++ v) = before.pending in
-    let un : is_unstamped (h.1 ++ v) (first_on g (g / 256 + k) / 256) ≡ true = ap (is_unstamped (h.1 ++ v)) (first_page g k) ∙ pending.rest (g / 256 + k) meets (omega arith) in
-    let page : PageDone (g / 256 + k) (h.1 ++ v) h.0 = subst (λ p. PageDone p (h.1 ++ v) h.0) (first_page g k) (page_done (first_on g (g / 256 + k)) (count_on g n (g / 256 + k)) h.0 (h.1 ++ v) h.2 un) in
-    subst (PagesDone g n (suc k) v) (sym h.4) record {
-      keeps = keeps_append h.0 h.1 v before.keeps page.keeps;
-      pending = subst (IsPending g n (suc k)) (sym (append_assoc h.0 h.1 v)) (next_pending g n k (h.1 ++ v) h.0 pending page);
-    }
+    let un : is_unstamped (h.1 ++ v) (first_on g (g / 256 + k) / 256) ≡ true = ap (is_unstamped (h.1 ++ v)) (first_page g k) ∙ before.pending.rest (g / 256 + k) meets (omega arith) in
+    let page : PageDone (g / 256 + k) (h.1 ++ v) (h.0 ++ (h.1 ++ v))
+    = subst (λ p. PageDone p (h.1 ++ v) (h.0 ++ (h.1 ++ v))) (first_page g k) (page_done (first_on g (g / 256 + k)) (count_on g n (g / 256 + k)) h.0 (h.1 ++ v) h.2 before.kept un) in
+    subst (PagesDone g n (suc k)) (sym (ap (λ ms. ms ++ v) h.4 ∙ append_assoc h.0 h.1 v)) record { kept = page.kept; pending = next_pending g n k (h.1 ++ v) (h.0 ++ (h.1 ++ v)) before.pending page }
 
 all_pages : (g n : ℕ) → 1 ≤ n → g / 256 + page_count g n ≡ (g + n - 1) / 256 + 1
 all_pages g n some =
@@ -179,15 +170,14 @@ all_pages g n some =
     let count : page_count g n ≡ (g + n - 1) / 256 - g / 256 + 1 = ap (λ t. if t then 0 else (g + n - 1) / 256 - g / 256 + 1) ne in
     omega (arith, count, some)
 
-run_done : (g n : ℕ) (steps : List Made) (v : View) → 1 ≤ n → IsPending g n 0 v → PagesSteps (page_count g n) g n steps → Done v steps
-run_done g n steps v some was h =
+run_tidy : (g n : ℕ) (steps : List Made) (v : View) → 1 ≤ n → PagesDone g n 0 v → PagesSteps (page_count g n) g n steps → Tidy (steps ++ v)
+run_tidy g n steps v some was h =
     let count : g / 256 + page_count g n ≡ (g + n - 1) / 256 + 1 = all_pages g n some in
-    let at : PagesDone g n (page_count g n) v steps = pages_done (page_count g n) g n steps v some (omega (arith, count)) was h in
-    let pending : IsPending g n (page_count g n) (steps ++ v) = at.pending in
+    let at : PagesDone g n (page_count g n) (steps ++ v) = pages_done (page_count g n) g n steps v some (omega (arith, count)) was h in
     record {
-      keeps = at.keeps;
+      kept = at.kept;
       stamped = λ p. false_from_ne_true (is_unstamped (steps ++ v) p) (λ un.
-          let on = pending.only p un in
+          let on = at.pending.only p un in
           let past = on.1 in
           let within = meets_within g n p on.0 in
           absurd (omega (arith, count, past, within)));
@@ -198,11 +188,11 @@ misses : (z y was : Bool) → z ≡ false → (if z && y then true else was) ≡
 misses true y was h = absurd (false≢true (sym h))
 misses false y was h = refl
 
-tries_done : (name : Name) (first guess : ℕ) (before : List Made) (v : View) → Tries name first guess before → AllStamped v → Done v before
-tries_done name first guess before v (inl h) stamped = subst (Done v) (sym h.1) (done_none v stamped)
-tries_done name first guess before v (inr h) stamped = subst (Done v) (sym h.4) record {
-  keeps = (tt, tt);
-  stamped = λ p. misses (h.0 == live_word name.turn first) (meets_page (grain_of name) first p) (is_unstamped v p) (ne_eqb h.0 (live_word name.turn first) h.1) ∙ stamped p;
+tries_tidy : (name : Name) (first guess : ℕ) (before : List Made) (v : View) → Tries name first guess before → Tidy v → Tidy (before ++ v)
+tries_tidy name first guess before v (inl h) tidy = tidy_none before v h.1 tidy
+tries_tidy name first guess before v (inr h) tidy = subst (λ ms. Tidy (ms ++ v)) (sym h.4) record {
+  kept = (tt, tidy.kept);
+  stamped = λ p. misses (h.0 == live_word name.turn first) (meets_page (grain_of name) first p) (is_unstamped v p) (ne_eqb h.0 (live_word name.turn first) h.1) ∙ tidy.stamped p;
 }
 
 if_met : (y was : Bool) → was ≡ false → (if y then true else was) ≡ y
@@ -219,10 +209,9 @@ not_refused : {x y : ℕ} → Ended x ≡ Refused y → ⊥
 not_refused h = cc
 
 -- the pages of the block that an end with this answer ended
-record IsTried (name : Name) (outcome : Outcome) (v : View) (steps : List Made) : Type 0 where
-  keeps : Keeps v steps
-  ended : (grains : ℕ) → outcome ≡ Ended grains → (1 ≤ grains) × IsPending (grain_of name) grains 0 (steps ++ v)
-  refused : (read : ℕ) → outcome ≡ Refused read → AllStamped (steps ++ v)
+record IsTried (name : Name) (outcome : Outcome) (v : View) : Type 0 where
+  ended : (grains : ℕ) → outcome ≡ Ended grains → (1 ≤ grains) × PagesDone (grain_of name) grains 0 v
+  refused : (read : ℕ) → outcome ≡ Refused read → Tidy v
 
 pending_now : (name : Name) (guess a : ℕ) (u : View) → AllStamped u → a ≡ live_word name.turn guess → IsPending (grain_of name) guess 0 (made (End name guess) a ∷ u)
 pending_now name guess a u stamped hit =
@@ -233,168 +222,127 @@ pending_now name guess a u stamped hit =
       rest = λ p meets le. is p ∙ meets;
     }
 
-end_done : (name : Name) (outcome : Outcome) (guess a : ℕ) (u : View) → AllStamped u → name.turn < 2 ^ 40 - 1 → 1 ≤ guess → IsEndOf name guess a outcome → IsTried name outcome u (made (End name guess) a ∷ [])
-end_done name (Ended grains) guess a u stamped turn some h = record {
-  keeps = (tt, tt);
-  ended = λ n e. subst (λ m. (1 ≤ m) × IsPending (grain_of name) m 0 (made (End name guess) a ∷ u)) (sym h.1 ∙ ended_is e) (some, pending_now name guess a u stamped h.0);
+end_done : (name : Name) (outcome : Outcome) (guess a : ℕ) (u : View) → Tidy u → name.turn < 2 ^ 40 - 1 → 1 ≤ guess → IsEndOf name guess a outcome → IsTried name outcome (made (End name guess) a ∷ u)
+end_done name (Ended grains) guess a u tidy turn some h = record {
+  ended = λ n e. subst (λ m. (1 ≤ m) × PagesDone (grain_of name) m 0 (made (End name guess) a ∷ u)) (sym h.1 ∙ ended_is e) (some, record { kept = (tt, tidy.kept); pending = pending_now name guess a u tidy.stamped h.0 });
   refused = λ read e. absurd (not_refused e);
 }
-end_done name (Refused read) guess a u stamped turn some h = record {
-  keeps = (tt, tt);
+end_done name (Refused read) guess a u tidy turn some h = record {
   ended = λ n e. absurd (not_refused (sym e));
-  refused = λ r e p. misses (a == live_word name.turn guess) (meets_page (grain_of name) guess p) (is_unstamped u p) (ne_eqb a (live_word name.turn guess) (not_live name guess a turn h.0)) ∙ stamped p;
+  refused = λ r e. record {
+    kept = (tt, tidy.kept);
+    stamped = λ p. misses (a == live_word name.turn guess) (meets_page (grain_of name) guess p) (is_unstamped u p) (ne_eqb a (live_word name.turn guess) (not_live name guess a turn h.0)) ∙ tidy.stamped p;
+  };
 }
 
--- ---- lists whose steps are of the region
-of_rest : (f : Profile) (k : ℕ) (xs : List Made) (l : Whole) → AreOf f (triples k xs ++ l) → AreOf f l
-of_rest f k [] l h = h
-of_rest f k (x ∷ xs) l h = of_rest f k xs l h.1
+-- ---- an entry, all entries, and a flush; the steps are of the region
+of_front : (f : Profile) (ys xs : List Made) → PartOf f (ys ++ xs) → PartOf f ys
+of_front f [] xs of = tt
+of_front f (y ∷ ys) xs of = (of.0, of_front f ys xs of.1)
 
-triples_append : (k : ℕ) (ys xs : List Made) (l : Whole) → triples k (ys ++ xs) ++ l ≡ triples k ys ++ (triples k xs ++ l)
-triples_append k [] xs l = refl
-triples_append k (y ∷ ys) xs l = ap (λ r. triple k y ∷ r) (triples_append k ys xs l)
+of_back : (f : Profile) (ys xs : List Made) → PartOf f (ys ++ xs) → PartOf f xs
+of_back f [] xs of = of
+of_back f (y ∷ ys) xs of = of_back f ys xs of.1
 
-of_first : (f : Profile) (k : ℕ) (ys xs : List Made) (l : Whole) → AreOf f (triples k (ys ++ xs) ++ l) → AreOf f (triples k xs ++ l)
-of_first f k ys xs l h = of_rest f k ys (triples k xs ++ l) (subst (AreOf f) (triples_append k ys xs l) h)
+ends_done : (f : Profile) (name : Name) (outcome : Outcome) (steps : List Made) (v : View) → PartOf f steps → EndSteps name outcome steps → Tidy v → IsTried name outcome (steps ++ v)
+ends_done f name outcome steps v of h tidy =
+    let look = made (Look (Word.Deed (address_of name / 4096))) h.deed in
+    let step : IsStepOf f (End name h.guess) = (subst (PartOf f) h.steps_are of).0 in
+    let tried : Tidy ((h.before ++ look ∷ []) ++ v) = tidy_both (h.before ++ look ∷ []) h.before (look ∷ []) v refl
+    (tries_tidy name (guess_by (directory_read h.deed)) h.guess h.before (look ∷ v) h.tries (look_tidy (Word.Deed (address_of name / 4096)) h.deed v refl tidy)) in
+    subst (λ ms. IsTried name outcome (ms ++ v)) (sym h.steps_are) (end_done name outcome h.guess h.answer ((h.before ++ look ∷ []) ++ v) tried step.2 step.3 h.comes_to)
 
--- ---- an entry, all entries, and a flush
-ends_done : (f : Profile) (k : ℕ) (l : Whole) (name : Name) (outcome : Outcome) (steps : List Made) → AllStamped (part k l) → AreOf f (triples k steps ++ l) → EndSteps name outcome steps → IsTried name outcome (part k l) steps
-ends_done f k l name outcome steps stamped of h =
-    let look : List Made = made (Look (Word.Deed (address_of name / 4096))) h.deed ∷ [] in
-    let v = part k l in
-    let here : AreOf f (triples k (made (End name h.guess) h.answer ∷ h.before ++ look) ++ l) = subst (λ s. AreOf f (triples k s ++ l)) h.steps_are of in
-    let of : IsStepOf f (End name h.guess) = here.0 in
-    let seen : Done v look = record { keeps = (tt, tt); stamped = stamped } in
-    let tried : Done v (h.before ++ look) = done_append h.before look v seen (tries_done name (guess_by (directory_read h.deed)) h.guess h.before (look ++ v) h.tries seen.stamped) in
-    let last : IsTried name outcome ((h.before ++ look) ++ v) (made (End name h.guess) h.answer ∷ []) = end_done name outcome h.guess h.answer ((h.before ++ look) ++ v) tried.stamped of.2 of.3 h.comes_to in
-    subst (IsTried name outcome (part k l)) (sym h.steps_are) record { keeps = (last.keeps.0, tried.keeps); ended = last.ended; refused = last.refused }
+after_tidy : (name : Name) (outcome : Outcome) (after : List Made) (v : View) → IsTried name outcome v → AfterEnd name outcome after → Tidy (after ++ v)
+after_tidy name (Ended grains) after v h run = let now = h.ended grains refl in run_tidy (grain_of name) grains after v now.0 now.1 run
+after_tidy name (Refused read) after v h none = tidy_none after v none (h.refused read refl)
 
-after_done : (name : Name) (outcome : Outcome) (v : View) (ends after : List Made) → IsTried name outcome v ends → AfterEnd name outcome after → Done v (after ++ ends)
-after_done name (Ended grains) v ends after h run =
-    let now = h.ended grains refl in
-    let done : Done (ends ++ v) after = run_done (grain_of name) grains after (ends ++ v) now.0 now.1 run in
-    record { keeps = keeps_append after ends v h.keeps done.keeps; stamped = subst AllStamped (sym (append_assoc after ends v)) done.stamped }
-after_done name (Refused read) v ends after h none = subst (λ a. Done v (a ++ ends)) (sym none) record { keeps = h.keeps; stamped = h.refused read refl }
+entry_tidy : (f : Profile) (entry : Settled) (steps : List Made) (v : View) → PartOf f steps → EntrySteps entry steps → Tidy v → Tidy (steps ++ v)
+entry_tidy f entry steps v of h tidy =
+    let ends = of_back f h.after h.ends (subst (PartOf f) h.steps_are of) in
+    tidy_both steps h.after h.ends v h.steps_are (after_tidy entry.name entry.outcome h.after (h.ends ++ v) (ends_done f entry.name entry.outcome h.ends v ends h.order tidy) h.returns)
 
-entry_done : (f : Profile) (k : ℕ) (l : Whole) (entry : Settled) (steps : List Made) → AllStamped (part k l) → AreOf f (triples k steps ++ l) → EntrySteps entry steps → Done (part k l) steps
-entry_done f k l entry steps stamped of h =
-    let here : AreOf f (triples k (h.after ++ h.ends) ++ l) = subst (λ s. AreOf f (triples k s ++ l)) h.steps_are of in
-    subst (Done (part k l)) (sym h.steps_are)
-    (after_done entry.name entry.outcome (part k l) h.ends h.after (ends_done f k l entry.name entry.outcome h.ends stamped (of_first f k h.after h.ends l here) h.order) h.returns)
+entries_tidy : (f : Profile) (settled : List Settled) (steps : List Made) (v : View) → PartOf f steps → EntriesSteps settled steps → Tidy v → Tidy (steps ++ v)
+entries_tidy f [] steps v of h tidy = tidy_none steps v h tidy
+entries_tidy f (entry ∷ earlier) steps v of h tidy =
+    let here : PartOf f (h.0 ++ h.1) = subst (PartOf f) h.4 of in
+    tidy_both steps h.0 h.1 v h.4 (entry_tidy f entry h.0 (h.1 ++ v) (of_front f h.0 h.1 here) h.2 (entries_tidy f earlier h.1 v (of_back f h.0 h.1 here) h.3 tidy))
 
-entries_done : (f : Profile) (k : ℕ) (l : Whole) (settled : List Settled) (steps : List Made) → AllStamped (part k l) → AreOf f (triples k steps ++ l) → EntriesSteps settled steps → Done (part k l) steps
-entries_done f k l [] steps stamped of h = subst (Done (part k l)) (sym h) (done_none (part k l) stamped)
-entries_done f k l (entry ∷ earlier) steps stamped of h =
-    let here : AreOf f (triples k (h.0 ++ h.1) ++ l) = subst (λ s. AreOf f (triples k s ++ l)) h.4 of in
-    let before : Done (part k l) h.1 = entries_done f k l earlier h.1 stamped (of_first f k h.0 h.1 l here) h.3 in
-    let own : part k (triples k h.1 ++ l) ≡ h.1 ++ part k l = part_of_own k h.1 l in
-    let piece : Done (h.1 ++ part k l) h.0 = subst (λ u. Done u h.0) own (entry_done f k (triples k h.1 ++ l) entry h.0 (subst AllStamped (sym own) before.stamped) (subst (AreOf f) (triples_append k h.0 h.1 l) here) h.2) in
-    subst (Done (part k l)) (sym h.4) (done_append h.0 h.1 (part k l) before piece)
+flush_tidy : (f : Profile) (k : ℕ) (names : List Name) (steps : List Made) (v : View) → PartOf f steps → EmptiesLog k names steps → Tidy v → Tidy (steps ++ v)
+flush_tidy f k names steps v of h tidy =
+    let look = made (Look Word.Epoch) h.epoch in
+    tidy_both steps h.entries (look ∷ []) v h.steps_are (entries_tidy f h.settled h.entries (look ∷ v) (of_front f h.entries (look ∷ []) (subst (PartOf f) h.steps_are of)) h.order (look_tidy Word.Epoch h.epoch v refl tidy))
 
-flush_done : (f : Profile) (k : ℕ) (l : Whole) (names : List Name) (steps : List Made) → AllStamped (part k l) → AreOf f (triples k steps ++ l) → EmptiesLog k names steps → Done (part k l) steps
-flush_done f k l names steps stamped of h =
-    let look : List Made = made (Look Word.Epoch) h.epoch ∷ [] in
-    let here : AreOf f (triples k (h.entries ++ look) ++ l) = subst (λ s. AreOf f (triples k s ++ l)) h.steps_are of in
-    let seen : Done (part k l) look = record { keeps = (stamped, tt); stamped = stamped } in
-    let own : part k (triples k look ++ l) ≡ look ++ part k l = part_of_own k look l in
-    let entries : Done (look ++ part k l) h.entries = subst (λ u. Done u h.entries) own (entries_done f k (triples k look ++ l) h.settled h.entries (subst AllStamped (sym own) seen.stamped) (subst (AreOf f) (triples_append k h.entries look l) here) h.order) in
-    subst (Done (part k l)) (sym h.steps_are) (done_append h.entries look (part k l) seen entries)
-
-stops_done : (locals : List Slots) (steps : List Made) (v : View) → StopsAll locals steps → AllStamped v → Done v steps
-stops_done [] steps v h stamped = subst (Done v) (sym h) (done_none v stamped)
-stops_done (slots ∷ rest) steps v h stamped =
-    let before : Done v h.1 = stops_done rest h.1 v h.3 stamped in
-    subst (Done v) (sym h.4) (done_append h.0 h.1 v before (allocating_done h.0 (h.1 ++ v) (only_within releasing allocating h.0 refl (stop_only slots h.0 h.2)) before.stamped))
+stops_tidy : (locals : List Slots) (steps : List Made) (v : View) → StopsAll locals steps → Tidy v → Tidy (steps ++ v)
+stops_tidy [] steps v h tidy = tidy_none steps v h tidy
+stops_tidy (slots ∷ rest) steps v h tidy = tidy_both steps h.0 h.1 v h.4 (tidy_over releasing refl h.0 (h.1 ++ v) (stop_only slots h.0 h.2) (stops_tidy rest h.1 v h.3 tidy))
 
 -- ---- operations
-stop_done : (f : Profile) (k : ℕ) (l : Whole) (c c' : Cached) (steps : List Made) → AllStamped (part k l) → AreOf f (triples k steps ++ l) → IsStopped k c c' steps → Done (part k l) steps
-stop_done f k l c c' steps stamped of h =
-    let here : AreOf f (triples k (h.stopped ++ h.flushed) ++ l) = subst (λ s. AreOf f (triples k s ++ l)) h.steps_are of in
-    let flushed : Done (part k l) h.flushed = flush_done f k l c.log h.flushed stamped (of_first f k h.stopped h.flushed l here) h.empties in
-    subst (Done (part k l)) (sym h.steps_are) (done_append h.stopped h.flushed (part k l) flushed (stops_done c.locals h.stopped (h.flushed ++ part k l) h.stops flushed.stamped))
+stop_tidy : (f : Profile) (k : ℕ) (c c' : Cached) (steps : List Made) (v : View) → PartOf f steps → IsStopped k c c' steps → Tidy v → Tidy (steps ++ v)
+stop_tidy f k c c' steps v of h tidy =
+    let flushed = of_back f h.stopped h.flushed (subst (PartOf f) h.steps_are of) in
+    tidy_both steps h.stopped h.flushed v h.steps_are (stops_tidy c.locals h.stopped (h.flushed ++ v) h.stops (flush_tidy f k c.log h.flushed v flushed h.empties tidy))
 
-full_done : (f : Profile) (k : ℕ) (l : Whole) (full : Bool) (log log' : List Name) (steps : List Made) → AllStamped (part k l) → AreOf f (triples k steps ++ l) → EmptiesFull full k log log' steps → Done (part k l) steps
-full_done f k l true log log' steps stamped of h = flush_done f k l log steps stamped of h.0
-full_done f k l false log log' steps stamped of h = subst (Done (part k l)) (sym h.0) (done_none (part k l) stamped)
+full_tidy : (f : Profile) (k : ℕ) (full : Bool) (log log' : List Name) (steps : List Made) (v : View) → PartOf f steps → EmptiesFull full k log log' steps → Tidy v → Tidy (steps ++ v)
+full_tidy f k true log log' steps v of h tidy = flush_tidy f k log steps v of h.0 tidy
+full_tidy f k false log log' steps v of h tidy = tidy_none steps v h.0 tidy
 
-free_done : (f : Profile) (k : ℕ) (l : Whole) (c c' : Cached) (name : Name) (steps : List Made) (said : Option Said) → AllStamped (part k l) → AreOf f (triples k steps ++ l) → IsFreed f k c c' name steps said → Done (part k l) steps
-free_done f k l c c' name steps said stamped of (inl h) = full_done f k l (nat_le 64 (length c.log)) c.log h.0.logs.kept steps stamped of h.0.logs.emptied
-free_done f k l c c' name steps said stamped of (inr h) = subst (Done (part k l)) (sym h.1.no_steps) (done_none (part k l) stamped)
+free_tidy : (f : Profile) (k : ℕ) (c c' : Cached) (name : Name) (steps : List Made) (said : Option Said) (v : View) → PartOf f steps → IsFreed f k c c' name steps said → Tidy v → Tidy (steps ++ v)
+free_tidy f k c c' name steps said v of (inl h) tidy = full_tidy f k (nat_le 64 (length c.log)) c.log h.0.logs.kept steps v of h.0.logs.emptied tidy
+free_tidy f k c c' name steps said v of (inr h) tidy = tidy_none steps v h.1.no_steps tidy
 
-freed_done : (f : Profile) (k : ℕ) (l : Whole) (c c' : Cached) (name : ℕ) (is : Option (Option Block)) (steps : List Made) (said : Option Said) → AllStamped (part k l) → AreOf f (triples k steps ++ l) → IsFreedBy f k c c' name is steps said → Done (part k l) steps
-freed_done f k l c c' name None steps said stamped of h = absurd h
-freed_done f k l c c' name (Some None) steps said stamped of h = subst (Done (part k l)) (sym h.0) (done_none (part k l) stamped)
-freed_done f k l c c' name (Some (Some block)) steps said stamped of h = free_done f k l c c' block.name steps said stamped of h
+freed_tidy : (f : Profile) (k : ℕ) (c c' : Cached) (name : ℕ) (is : Option (Option Block)) (steps : List Made) (said : Option Said) (v : View) → PartOf f steps → IsFreedBy f k c c' name is steps said → Tidy v → Tidy (steps ++ v)
+freed_tidy f k c c' name None steps said v of h tidy = absurd h
+freed_tidy f k c c' name (Some None) steps said v of h tidy = tidy_none steps v h.0 tidy
+freed_tidy f k c c' name (Some (Some block)) steps said v of h tidy = free_tidy f k c c' block.name steps said v of h tidy
 
-answer_done : (f : Profile) (k : ℕ) (what : What) (names : List Named) (l : Whole) (c : Cached) (steps : List Made) (said : Option Said) (names' : List Named) (c' : Cached) → AllStamped (part k l) → AreOf f (triples k steps ++ l)
-    → IsAnswered f k what (having names (part k l) c) (answer_of steps said names' c') → Done (part k l) steps
-answer_done f k (What.Alloc name heap size align) names l c steps said names' c' stamped of h = allocating_done steps (part k l) h.kinds stamped
-answer_done f k (What.Free name) names l c steps said names' c' stamped of h = freed_done f k l c c' name (standing_for names name) steps said stamped of h.0
-answer_done f k (What.Raw block) names l c steps said names' c' stamped of h = free_done f k l c c' block steps said stamped of h.0
-answer_done f k What.Flush names l c steps said names' c' stamped of h = flush_done f k l c.log steps stamped of h.0.empties
-answer_done f k What.Stop names l c steps said names' c' stamped of h = stop_done f k l c c' steps stamped of h.0
-answer_done f k (What.Tick e) names l c steps said names' c' stamped of h = absurd h
-answer_done f k What.Pass names l c steps said names' c' stamped of h = absurd h
-answer_done f k (What.Idle n) names l c steps said names' c' stamped of h = absurd h
+answer_tidy : (f : Profile) (k : ℕ) (what : What) (b : Having) (a : Answer) → IsAnswered f k what b a → PartOf f a.steps → Tidy b.view → Tidy (a.steps ++ b.view)
+answer_tidy f k (What.Alloc name heap size align) b a h of tidy = tidy_over allocating refl a.steps b.view h.kinds tidy
+answer_tidy f k (What.Free name) b a h of tidy = freed_tidy f k b.cache a.cache name (standing_for b.names name) a.steps a.said b.view of h.0 tidy
+answer_tidy f k (What.Raw block) b a h of tidy = free_tidy f k b.cache a.cache block a.steps a.said b.view of h.0 tidy
+answer_tidy f k What.Flush b a h of tidy = flush_tidy f k b.cache.log a.steps b.view of h.0.empties tidy
+answer_tidy f k What.Stop b a h of tidy = stop_tidy f k b.cache a.cache a.steps b.view of h.0 tidy
+answer_tidy f k (What.Tick e) b a h of tidy = absurd h
+answer_tidy f k What.Pass b a h of tidy = absurd h
+answer_tidy f k (What.Idle n) b a h of tidy = absurd h
 
--- ---- the whole replay
-record AllDone (l : Whole) : Type 0 where
-  keeps : AllKeepToEnds l
-  stamped : (k : ℕ) → AllStamped (part k l)
+-- ---- the whole replay, by the parts of the actors
+abbrev Each : (View → Type 0) → Whole → Type 0
+Each P l = (k : ℕ) → P (part k l)
 
-keeps_whole : (k : ℕ) (steps : List Made) (l : Whole) → AllKeepToEnds l → Keeps (part k l) steps → AllKeepToEnds (triples k steps ++ l)
-keeps_whole k [] l all h = all
-keeps_whole k (m ∷ more) l all h = (subst (λ u. KeepsToEnds u m.step) (sym (part_of_own k more l)) h.0, keeps_whole k more l all h.1)
+-- what a list's steps leave tidy, if they are of the region
+record Leaves (f : Profile) (l l' : Whole) : Type 0 where
+  of : Each (PartOf f) l
+  tidy : Each Tidy l → Each Tidy l'
 
-stamped_part : (j k : ℕ) (steps : List Made) (l : Whole) → AllStamped (part j l) → Done (part k l) steps → AllStamped (part j (triples k steps ++ l))
-stamped_part j k steps l old new = elim (cases_eq k j) [
-  | inl e ↦ subst (λ i. AllStamped (part i (triples k steps ++ l))) e (subst AllStamped (sym (part_of_own k steps l)) new.stamped)
-  | inr ne ↦ subst AllStamped (sym (part_of_others j k steps l ne)) old
+of_rest : (f : Profile) (k : ℕ) (xs : List Made) (l : Whole) → Each (PartOf f) (triples k xs ++ l) → Each (PartOf f) l
+of_rest f k [] l all = all
+of_rest f k (x ∷ xs) l all = of_rest f k xs l (λ j. later_of f (k == j) x (part j (triples k xs ++ l)) (all j))
+
+tidy_piece : (k : ℕ) (steps : List Made) (l : Whole) → Each Tidy l → Tidy (steps ++ part k l) → Each Tidy (triples k steps ++ l)
+tidy_piece k steps l all new j = elim (cases_eq k j) [
+  | inl e ↦ subst (λ i. Tidy (part i (triples k steps ++ l))) e (subst Tidy (sym (part_of_own k steps l)) new)
+  | inr ne ↦ subst Tidy (sym (part_of_others j k steps l ne)) (all j)
 ]
 
-more_done : (k : ℕ) (steps : List Made) (l : Whole) → AllDone l → Done (part k l) steps → AllDone (triples k steps ++ l)
-more_done k steps l all new = record { keeps = keeps_whole k steps l all.keeps new.keeps; stamped = λ j. stamped_part j k steps l (all.stamped j) new }
+leaves_piece : (f : Profile) (k : ℕ) (steps : List Made) (l l' : Whole) → (PartOf f steps → Tidy (part k l) → Tidy (steps ++ part k l)) → Leaves f (triples k steps ++ l) l' → Leaves f l l'
+leaves_piece f k steps l l' piece rest = record {
+  of = of_rest f k steps l rest.of;
+  tidy = λ all. rest.tidy (tidy_piece k steps l all (piece (of_front f steps (part k l) (subst (PartOf f) (part_of_own k steps l) (rest.of k))) (all k)));
+}
 
--- the acts go on from a list of steps of the region
-follows_of : (f : Profile) (acts : List Act) (names : List Named) (caches : Caches) (l l' : Whole) (rs rs' : List Record) → Follows f acts (progress names caches l rs) l' rs' → AreOf f l' → AreOf f l
-follows_of f [] names caches l l' rs rs' is of = subst (AreOf f) is.0 of
-follows_of f (MarksPhase n ∷ acts) names caches l l' rs rs' is of = follows_of f acts names caches l l' (rs ++ Record.Phase n ∷ []) rs' is of
-follows_of f (MarksClose ∷ acts) names caches l l' rs rs' is of = follows_of f acts names caches l l' (rs ++ Record.Close ∷ []) rs' is of
-follows_of f (Wakes k ∷ acts) names caches l l' rs rs' is of =
-    of_rest f k (made (Look Word.Epoch) is.0 ∷ []) l (follows_of f acts names (with_cache caches k (begun (caches k) is.0)) (triples k (made (Look Word.Epoch) is.0 ∷ []) ++ l) l' rs rs' is.1 of)
-follows_of f (Operates op ∷ acts) names caches l l' rs rs' is of =
-    of_rest f op.actor is.0.steps l (follows_of f acts is.0.names (with_cache caches op.actor is.0.cache) (triples op.actor is.0.steps ++ l) l' (rs ++ (records_of (events_by op.actor (part op.actor l) is.0.steps) ++ said_by op.actor is.0.said)) rs' is.2 of)
-follows_of f (Ends k ∷ acts) names caches l l' rs rs' is of =
-    of_rest f k is.0 l (follows_of f acts names (with_cache caches k is.1) (triples k is.0 ++ l) l' (rs ++ records_of (events_by k (part k l) is.0)) rs' is.3 of)
-
-follows_done : (f : Profile) (acts : List Act) (names : List Named) (caches : Caches) (l l' : Whole) (rs rs' : List Record) → Follows f acts (progress names caches l rs) l' rs' → AreOf f l' → AllDone l → AllDone l'
-follows_done f [] names caches l l' rs rs' is of all = subst AllDone (sym is.0) all
-follows_done f (MarksPhase n ∷ acts) names caches l l' rs rs' is of all = follows_done f acts names caches l l' (rs ++ Record.Phase n ∷ []) rs' is of all
-follows_done f (MarksClose ∷ acts) names caches l l' rs rs' is of all = follows_done f acts names caches l l' (rs ++ Record.Close ∷ []) rs' is of all
-follows_done f (Wakes k ∷ acts) names caches l l' rs rs' is of all =
-    follows_done f acts names (with_cache caches k (begun (caches k) is.0)) (triples k (made (Look Word.Epoch) is.0 ∷ []) ++ l) l' rs rs' is.1 of
-    (more_done k (made (Look Word.Epoch) is.0 ∷ []) l all (record { keeps = (all.stamped k, tt); stamped = all.stamped k }))
-follows_done f (Operates op ∷ acts) names caches l l' rs rs' is of all =
-    let here : AreOf f (triples op.actor is.0.steps ++ l) = follows_of f acts is.0.names (with_cache caches op.actor is.0.cache) (triples op.actor is.0.steps ++ l) l' (rs ++ (records_of (events_by op.actor (part op.actor l) is.0.steps) ++ said_by op.actor is.0.said)) rs' is.2 of in
-    follows_done f acts is.0.names (with_cache caches op.actor is.0.cache) (triples op.actor is.0.steps ++ l) l' (rs ++ (records_of (events_by op.actor (part op.actor l) is.0.steps) ++ said_by op.actor is.0.said)) rs' is.2 of
-    (more_done op.actor is.0.steps l all (answer_done f op.actor op.what names l (caches op.actor) is.0.steps is.0.said is.0.names is.0.cache (all.stamped op.actor) here is.1))
-follows_done f (Ends k ∷ acts) names caches l l' rs rs' is of all =
-    let here : AreOf f (triples k is.0 ++ l) = follows_of f acts names (with_cache caches k is.1) (triples k is.0 ++ l) l' (rs ++ records_of (events_by k (part k l) is.0)) rs' is.3 of in
-    follows_done f acts names (with_cache caches k is.1) (triples k is.0 ++ l) l' (rs ++ records_of (events_by k (part k l) is.0)) rs' is.3 of
-    (more_done k is.0 l all (stop_done f k l (caches k) is.1 is.0 (all.stamped k) here is.2))
-
--- ---- what the pieces keep in the order of the acts, the list of the steps as they were made keeps too, since it has the same parts
-abbrev KeptPart : View → Type 0
-KeptPart [] = Unit {0}
-KeptPart (m ∷ v) = KeepsToEnds v m.step × KeptPart v
-
-one_kept : (t : Bool) (m : Made) (v : View) → (t ≡ true → KeepsToEnds v m.step) → KeptPart v → KeptPart (if t then m ∷ v else v)
-one_kept true m v one rest = (one refl, rest)
-one_kept false m v one rest = rest
-
-kept_part : (l : Whole) → AllKeepToEnds l → (k : ℕ) → KeptPart (part k l)
-kept_part [] all k = tt
-kept_part (t ∷ l) all k = one_kept (t.actor == k) t.made (part k l) (λ is. subst (λ i. KeepsToEnds (part i l) t.made.step) (eqb-true t.actor k is) all.0) (kept_part l all.1 k)
+follows_tidy : (f : Profile) (acts : List Act) (p : Progress) (l : Whole) (rs : List Record) → Follows f acts p l rs → Each (PartOf f) l → Leaves f p.list l
+follows_tidy f [] p l rs is of = record { of = subst (Each (PartOf f)) is.0 of; tidy = λ all. subst (Each Tidy) (sym is.0) all }
+follows_tidy f (MarksPhase n ∷ acts) p l rs is of = follows_tidy f acts (with_records p (Record.Phase n ∷ [])) l rs is of
+follows_tidy f (MarksClose ∷ acts) p l rs is of = follows_tidy f acts (with_records p (Record.Close ∷ [])) l rs is of
+follows_tidy f (Wakes k ∷ acts) p l rs is of =
+    let look : List Made = made (Look Word.Epoch) is.0 ∷ [] in
+    leaves_piece f k look p.list l (λ of tidy. look_tidy Word.Epoch is.0 (part k p.list) refl tidy) (follows_tidy f acts (with_steps p k look (begun (p.caches k) is.0)) l rs is.1 of)
+follows_tidy f (Operates op ∷ acts) p l rs is of =
+    let next : Progress = with_records (record (with_steps p op.actor is.0.steps is.0.cache) { names = is.0.names }) (records_of (events_by op.actor (part op.actor p.list) is.0.steps) ++ said_by op.actor is.0.said) in
+    leaves_piece f op.actor is.0.steps p.list l (answer_tidy f op.actor op.what (having p.names (part op.actor p.list) (p.caches op.actor)) is.0 is.1) (follows_tidy f acts next l rs is.2 of)
+follows_tidy f (Ends k ∷ acts) p l rs is of =
+    leaves_piece f k is.0 p.list l (λ of tidy. stop_tidy f k (p.caches k) is.1 is.0 (part k p.list) of is.2 tidy)
+    (follows_tidy f acts (with_records (with_steps p k is.0 is.1) (records_of (events_by k (part k p.list) is.0))) l rs is.3 of)
 
 later_kept : (t : Bool) (m : Made) (v : View) → KeptPart (if t then m ∷ v else v) → KeptPart v
 later_kept true m v all = all.1
@@ -407,11 +355,11 @@ parts_kept (t ∷ l) all = (
   parts_kept l (λ k. later_kept (t.actor == k) t.made (part k l) (all k)),
 )
 
--- THE STAMP of each page is the greatest epoch of an end there
+-- THE STAMP of each page is the greatest epoch of an end there: the list of the steps as they were made has the parts of the list in the order of the acts
 pub stamps_are : (way : Way) (f : Profile) (acts : List Act) (told whole : Whole) (said : List Record) → IsValid f → Follows f acts at_start told said → IsOneOrder way told whole → Legal f whole → AreStamped f whole
 stamps_are way f acts told whole said valid answers one_order legal =
     let same : (k : ℕ) → part k whole ≡ part k told = same_parts way told whole one_order in
-    let of : AreOf f told = parts_of f told (λ k. subst (λ (v : View). PartOf f v) (same k) (legal_part f whole k legal)) in
-    let done : AllDone told = follows_done f acts [] empty_caches [] told [] said answers of (record { keeps = tt; stamped = λ k p. refl }) in
-    let keeps : AllKeepToEnds whole = parts_kept whole (λ k. subst KeptPart (sym (same k)) (kept_part told done.keeps k)) in
-    record { stamp = λ page is. stamps_are_ends f whole valid legal keeps page (λ k. subst AllStamped (sym (same k)) (done.stamped k) page) }
+    let of : Each (PartOf f) told = λ k. subst (PartOf f) (same k) (legal_part f whole k legal) in
+    let tidy : Each Tidy told = (follows_tidy f acts at_start told said answers of).tidy (λ k. record { kept = tt; stamped = λ p. refl }) in
+    let keeps : AllKeepToEnds whole = parts_kept whole (λ k. subst KeptPart (sym (same k)) (tidy k).kept) in
+    record { stamp = λ page is. stamps_are_ends f whole valid legal keeps page (λ k. subst AllStamped (sym (same k)) (tidy k).stamped page) }

@@ -129,7 +129,7 @@ pub legal_part : (f : Profile) (l : Whole) (k : ℕ) → Legal f l → PartOf f 
 legal_part f [] k legal = tt
 legal_part f (t ∷ l) k legal = one_of f (t.actor == k) t.made (part k l) legal.0.of_region (legal_part f l k legal.1)
 
-later_of : (f : Profile) (t : Bool) (m : Made) (v : View) → PartOf f (if t then m ∷ v else v) → PartOf f v
+pub later_of : (f : Profile) (t : Bool) (m : Made) (v : View) → PartOf f (if t then m ∷ v else v) → PartOf f v
 later_of f true m v all = all.1
 later_of f false m v all = all
 
