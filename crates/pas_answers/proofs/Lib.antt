@@ -6,6 +6,7 @@ pub mod Said
 pub mod KnownNames
 pub mod Speaking
 pub mod Weaving
-pub mod Replayed
-pub mod Keeping
+pub mod Parts
+pub mod Shown
+pub mod Tidy
 pub mod Consequences

@@ -6,3 +6,4 @@ pub mod Agreeing
 pub mod Pieces
 pub mod Resting
 pub mod Placing
+pub mod Showable

@@ -17,7 +17,7 @@ use Rattle.pas_report.proofs.Resting.{are_deed_words, nobody_holds, report_agree
 use Rattle.pas_answers.specs.Replays.{IsBuilt, Shows}
 use Rattle.pas_answers.specs.Ways.{Way}
 use Rattle.pas_replay.proofs.PlanHolds.{plan_valid}
-use Rattle.pas_answers.proofs.Replayed.{can_be_shown}
+use Rattle.pas_answers.proofs.Consequences.{can_be_shown}
 use Rattle.pas_top.specs.Outcomes.{IsOutcome, IsShown, IsWritable, outcome_status, outcome_text, shown_text}
 use Rattle.pas_top.specs.Outputs.{most_bytes, ComesTo, IsOrder, IsOutput, IsReplayed}
 use Rattle.pas_top.specs.declared.outcome.Outcome.{Outcome}

@@ -1,5 +1,5 @@
--- A replay keeps the stamps to the epochs of ends: no thread learns an epoch between an end and its stamps, and a page is stamped only where it is
--- unstamped. So at its end the stamp of each page is the greatest epoch of an end there.
+-- What answers an operation leaves its actor's view tidy: no epoch is learned between an end and its stamps, a page is stamped only where it is unstamped,
+-- and at the end none is.
 use Rattle.std.proofs.Common.{◌≡◌, ℕ, zero, suc, ◌+◌, ◌-◌, ◌*◌, ◌/◌, ◌^◌, ◌<◌, ◌≤◌, ◌==◌, nat_le, Bool, true, false, ◌&&◌, if◌then◌else◌, List, [], ◌∷◌, ◌++◌, length, Option, Some, None, inl, inr, refl, ap, sym, ◌∙◌, subst, arith, append_assoc}
 use Rattle.std.proofs.lemmas.Bool.{true≢false, false≢true, eqb-true, eqb-false, eq-eqb, ne_eqb, cases_eq, false_from_ne_true}
 use Rattle.std.proofs.lemmas.Bool.Decides.{nat_tests}
@@ -47,16 +47,17 @@ use Rattle.pas_answers.specs.Answers.{Having, Answer, Progress, having, with_rec
 use Rattle.pas_report.specs.Rests.{AreStamped}
 use Rattle.pas_answers.specs.Replays.{at_start}
 use Rattle.pas_answers.specs.Ways.{Way, IsOneOrder}
-use Rattle.pas_answers.proofs.Replayed.{PartOf, legal_part, later_of, same_parts}
+use Rattle.pas_report.proofs.Showable.{AreOfRegion}
+use Rattle.pas_answers.proofs.Parts.{of_front, of_back}
 
 -- ---- tidy views: all steps kept to ends, and nothing is unstamped
-abbrev KeptPart : View → Type 0
+abbrev pub KeptPart : View → Type 0
 KeptPart [] = Unit {0}
 KeptPart (m ∷ v) = KeepsToEnds v m.step × KeptPart v
 
-record Tidy (v : View) : Type 0 where
-  kept : KeptPart v
-  stamped : AllStamped v
+pub record Tidy (v : View) : Type 0 where
+  pub kept : KeptPart v
+  pub stamped : AllStamped v
 
 -- kinds of steps that keep to ends only on a condition
 abbrev bound : Kinds
@@ -90,7 +91,7 @@ tidy_over : (ks : Kinds) → apart ks untidy ≡ true → (steps : List Made) (v
 tidy_over ks w = holds_over Tidy untidy ks
     (λ m v h tidy. record { kept = (keeps_tidy m.step v h tidy.stamped, tidy.kept); stamped = λ p. stamped_tidy m.step m.answer p (is_unstamped v p) h ∙ tidy.stamped p }) w
 
-look_tidy : (word : Word) (a : ℕ) (v : View) → is_in looking (look_kind word) ≡ true → Tidy v → Tidy (made (Look word) a ∷ v)
+pub look_tidy : (word : Word) (a : ℕ) (v : View) → is_in looking (look_kind word) ≡ true → Tidy v → Tidy (made (Look word) a ∷ v)
 look_tidy word a v is = tidy_over looking refl (made (Look word) a ∷ []) v (is, tt)
 
 tidy_none : (steps : List Made) (v : View) → steps ≡ [] → Tidy v → Tidy (steps ++ v)
@@ -236,18 +237,10 @@ end_done name (Refused read) guess a u tidy turn some h = record {
 }
 
 -- ---- an entry, all entries, and a flush; the steps are of the region
-of_front : (f : Profile) (ys xs : List Made) → PartOf f (ys ++ xs) → PartOf f ys
-of_front f [] xs of = tt
-of_front f (y ∷ ys) xs of = (of.0, of_front f ys xs of.1)
-
-of_back : (f : Profile) (ys xs : List Made) → PartOf f (ys ++ xs) → PartOf f xs
-of_back f [] xs of = of
-of_back f (y ∷ ys) xs of = of_back f ys xs of.1
-
-ends_done : (f : Profile) (name : Name) (outcome : Outcome) (steps : List Made) (v : View) → PartOf f steps → EndSteps name outcome steps → Tidy v → IsTried name outcome (steps ++ v)
+ends_done : (f : Profile) (name : Name) (outcome : Outcome) (steps : List Made) (v : View) → AreOfRegion f steps → EndSteps name outcome steps → Tidy v → IsTried name outcome (steps ++ v)
 ends_done f name outcome steps v of h tidy =
     let look = made (Look (Word.Deed (address_of name / 4096))) h.deed in
-    let step : IsStepOf f (End name h.guess) = (subst (PartOf f) h.steps_are of).0 in
+    let step : IsStepOf f (End name h.guess) = (subst (AreOfRegion f) h.steps_are of).0 in
     let tried : Tidy ((h.before ++ look ∷ []) ++ v) = tidy_both (h.before ++ look ∷ []) h.before (look ∷ []) v refl
     (tries_tidy name (guess_by (directory_read h.deed)) h.guess h.before (look ∷ v) h.tries (look_tidy (Word.Deed (address_of name / 4096)) h.deed v refl tidy)) in
     subst (λ ms. IsTried name outcome (ms ++ v)) (sym h.steps_are) (end_done name outcome h.guess h.answer ((h.before ++ look ∷ []) ++ v) tried step.2 step.3 h.comes_to)
@@ -256,46 +249,46 @@ after_tidy : (name : Name) (outcome : Outcome) (after : List Made) (v : View) �
 after_tidy name (Ended grains) after v h run = let now = h.ended grains refl in run_tidy (grain_of name) grains after v now.0 now.1 run
 after_tidy name (Refused read) after v h none = tidy_none after v none (h.refused read refl)
 
-entry_tidy : (f : Profile) (entry : Settled) (steps : List Made) (v : View) → PartOf f steps → EntrySteps entry steps → Tidy v → Tidy (steps ++ v)
+entry_tidy : (f : Profile) (entry : Settled) (steps : List Made) (v : View) → AreOfRegion f steps → EntrySteps entry steps → Tidy v → Tidy (steps ++ v)
 entry_tidy f entry steps v of h tidy =
-    let ends = of_back f h.after h.ends (subst (PartOf f) h.steps_are of) in
+    let ends = of_back f h.after h.ends (subst (AreOfRegion f) h.steps_are of) in
     tidy_both steps h.after h.ends v h.steps_are (after_tidy entry.name entry.outcome h.after (h.ends ++ v) (ends_done f entry.name entry.outcome h.ends v ends h.order tidy) h.returns)
 
-entries_tidy : (f : Profile) (settled : List Settled) (steps : List Made) (v : View) → PartOf f steps → EntriesSteps settled steps → Tidy v → Tidy (steps ++ v)
+entries_tidy : (f : Profile) (settled : List Settled) (steps : List Made) (v : View) → AreOfRegion f steps → EntriesSteps settled steps → Tidy v → Tidy (steps ++ v)
 entries_tidy f [] steps v of h tidy = tidy_none steps v h tidy
 entries_tidy f (entry ∷ earlier) steps v of h tidy =
-    let here : PartOf f (h.0 ++ h.1) = subst (PartOf f) h.4 of in
+    let here : AreOfRegion f (h.0 ++ h.1) = subst (AreOfRegion f) h.4 of in
     tidy_both steps h.0 h.1 v h.4 (entry_tidy f entry h.0 (h.1 ++ v) (of_front f h.0 h.1 here) h.2 (entries_tidy f earlier h.1 v (of_back f h.0 h.1 here) h.3 tidy))
 
-flush_tidy : (f : Profile) (k : ℕ) (names : List Name) (steps : List Made) (v : View) → PartOf f steps → EmptiesLog k names steps → Tidy v → Tidy (steps ++ v)
+flush_tidy : (f : Profile) (k : ℕ) (names : List Name) (steps : List Made) (v : View) → AreOfRegion f steps → EmptiesLog k names steps → Tidy v → Tidy (steps ++ v)
 flush_tidy f k names steps v of h tidy =
     let look = made (Look Word.Epoch) h.epoch in
-    tidy_both steps h.entries (look ∷ []) v h.steps_are (entries_tidy f h.settled h.entries (look ∷ v) (of_front f h.entries (look ∷ []) (subst (PartOf f) h.steps_are of)) h.order (look_tidy Word.Epoch h.epoch v refl tidy))
+    tidy_both steps h.entries (look ∷ []) v h.steps_are (entries_tidy f h.settled h.entries (look ∷ v) (of_front f h.entries (look ∷ []) (subst (AreOfRegion f) h.steps_are of)) h.order (look_tidy Word.Epoch h.epoch v refl tidy))
 
 stops_tidy : (locals : List Slots) (steps : List Made) (v : View) → StopsAll locals steps → Tidy v → Tidy (steps ++ v)
 stops_tidy [] steps v h tidy = tidy_none steps v h tidy
 stops_tidy (slots ∷ rest) steps v h tidy = tidy_both steps h.0 h.1 v h.4 (tidy_over releasing refl h.0 (h.1 ++ v) (stop_only slots h.0 h.2) (stops_tidy rest h.1 v h.3 tidy))
 
 -- ---- operations
-stop_tidy : (f : Profile) (k : ℕ) (c c' : Cached) (steps : List Made) (v : View) → PartOf f steps → IsStopped k c c' steps → Tidy v → Tidy (steps ++ v)
+pub stop_tidy : (f : Profile) (k : ℕ) (c c' : Cached) (steps : List Made) (v : View) → AreOfRegion f steps → IsStopped k c c' steps → Tidy v → Tidy (steps ++ v)
 stop_tidy f k c c' steps v of h tidy =
-    let flushed = of_back f h.stopped h.flushed (subst (PartOf f) h.steps_are of) in
+    let flushed = of_back f h.stopped h.flushed (subst (AreOfRegion f) h.steps_are of) in
     tidy_both steps h.stopped h.flushed v h.steps_are (stops_tidy c.locals h.stopped (h.flushed ++ v) h.stops (flush_tidy f k c.log h.flushed v flushed h.empties tidy))
 
-full_tidy : (f : Profile) (k : ℕ) (full : Bool) (log log' : List Name) (steps : List Made) (v : View) → PartOf f steps → EmptiesFull full k log log' steps → Tidy v → Tidy (steps ++ v)
+full_tidy : (f : Profile) (k : ℕ) (full : Bool) (log log' : List Name) (steps : List Made) (v : View) → AreOfRegion f steps → EmptiesFull full k log log' steps → Tidy v → Tidy (steps ++ v)
 full_tidy f k true log log' steps v of h tidy = flush_tidy f k log steps v of h.0 tidy
 full_tidy f k false log log' steps v of h tidy = tidy_none steps v h.0 tidy
 
-free_tidy : (f : Profile) (k : ℕ) (c c' : Cached) (name : Name) (steps : List Made) (said : Option Said) (v : View) → PartOf f steps → IsFreed f k c c' name steps said → Tidy v → Tidy (steps ++ v)
+free_tidy : (f : Profile) (k : ℕ) (c c' : Cached) (name : Name) (steps : List Made) (said : Option Said) (v : View) → AreOfRegion f steps → IsFreed f k c c' name steps said → Tidy v → Tidy (steps ++ v)
 free_tidy f k c c' name steps said v of (inl h) tidy = full_tidy f k (nat_le 64 (length c.log)) c.log h.0.logs.kept steps v of h.0.logs.emptied tidy
 free_tidy f k c c' name steps said v of (inr h) tidy = tidy_none steps v h.1.no_steps tidy
 
-freed_tidy : (f : Profile) (k : ℕ) (c c' : Cached) (name : ℕ) (is : Option (Option Block)) (steps : List Made) (said : Option Said) (v : View) → PartOf f steps → IsFreedBy f k c c' name is steps said → Tidy v → Tidy (steps ++ v)
+freed_tidy : (f : Profile) (k : ℕ) (c c' : Cached) (name : ℕ) (is : Option (Option Block)) (steps : List Made) (said : Option Said) (v : View) → AreOfRegion f steps → IsFreedBy f k c c' name is steps said → Tidy v → Tidy (steps ++ v)
 freed_tidy f k c c' name None steps said v of h tidy = absurd h
 freed_tidy f k c c' name (Some None) steps said v of h tidy = tidy_none steps v h.0 tidy
 freed_tidy f k c c' name (Some (Some block)) steps said v of h tidy = free_tidy f k c c' block.name steps said v of h tidy
 
-answer_tidy : (f : Profile) (k : ℕ) (what : What) (b : Having) (a : Answer) → IsAnswered f k what b a → PartOf f a.steps → Tidy b.view → Tidy (a.steps ++ b.view)
+pub answer_tidy : (f : Profile) (k : ℕ) (what : What) (b : Having) (a : Answer) → IsAnswered f k what b a → AreOfRegion f a.steps → Tidy b.view → Tidy (a.steps ++ b.view)
 answer_tidy f k (What.Alloc name heap size align) b a h of tidy = tidy_over allocating refl a.steps b.view h.kinds tidy
 answer_tidy f k (What.Free name) b a h of tidy = freed_tidy f k b.cache a.cache name (standing_for b.names name) a.steps a.said b.view of h.0 tidy
 answer_tidy f k (What.Raw block) b a h of tidy = free_tidy f k b.cache a.cache block a.steps a.said b.view of h.0 tidy
@@ -304,62 +297,3 @@ answer_tidy f k What.Stop b a h of tidy = stop_tidy f k b.cache a.cache a.steps 
 answer_tidy f k (What.Tick e) b a h of tidy = absurd h
 answer_tidy f k What.Pass b a h of tidy = absurd h
 answer_tidy f k (What.Idle n) b a h of tidy = absurd h
-
--- ---- the whole replay, by the parts of the actors
-abbrev Each : (View → Type 0) → Whole → Type 0
-Each P l = (k : ℕ) → P (part k l)
-
--- what a list's steps leave tidy, if they are of the region
-record Leaves (f : Profile) (l l' : Whole) : Type 0 where
-  of : Each (PartOf f) l
-  tidy : Each Tidy l → Each Tidy l'
-
-of_rest : (f : Profile) (k : ℕ) (xs : List Made) (l : Whole) → Each (PartOf f) (triples k xs ++ l) → Each (PartOf f) l
-of_rest f k [] l all = all
-of_rest f k (x ∷ xs) l all = of_rest f k xs l (λ j. later_of f (k == j) x (part j (triples k xs ++ l)) (all j))
-
-tidy_piece : (k : ℕ) (steps : List Made) (l : Whole) → Each Tidy l → Tidy (steps ++ part k l) → Each Tidy (triples k steps ++ l)
-tidy_piece k steps l all new j = elim (cases_eq k j) [
-  | inl e ↦ subst (λ i. Tidy (part i (triples k steps ++ l))) e (subst Tidy (sym (part_of_own k steps l)) new)
-  | inr ne ↦ subst Tidy (sym (part_of_others j k steps l ne)) (all j)
-]
-
-leaves_piece : (f : Profile) (k : ℕ) (steps : List Made) (l l' : Whole) → (PartOf f steps → Tidy (part k l) → Tidy (steps ++ part k l)) → Leaves f (triples k steps ++ l) l' → Leaves f l l'
-leaves_piece f k steps l l' piece rest = record {
-  of = of_rest f k steps l rest.of;
-  tidy = λ all. rest.tidy (tidy_piece k steps l all (piece (of_front f steps (part k l) (subst (PartOf f) (part_of_own k steps l) (rest.of k))) (all k)));
-}
-
-follows_tidy : (f : Profile) (acts : List Act) (p : Progress) (l : Whole) (rs : List Record) → Follows f acts p l rs → Each (PartOf f) l → Leaves f p.list l
-follows_tidy f [] p l rs is of = record { of = subst (Each (PartOf f)) is.0 of; tidy = λ all. subst (Each Tidy) (sym is.0) all }
-follows_tidy f (MarksPhase n ∷ acts) p l rs is of = follows_tidy f acts (with_records p (Record.Phase n ∷ [])) l rs is of
-follows_tidy f (MarksClose ∷ acts) p l rs is of = follows_tidy f acts (with_records p (Record.Close ∷ [])) l rs is of
-follows_tidy f (Wakes k ∷ acts) p l rs is of =
-    let look : List Made = made (Look Word.Epoch) is.0 ∷ [] in
-    leaves_piece f k look p.list l (λ of tidy. look_tidy Word.Epoch is.0 (part k p.list) refl tidy) (follows_tidy f acts (with_steps p k look (begun (p.caches k) is.0)) l rs is.1 of)
-follows_tidy f (Operates op ∷ acts) p l rs is of =
-    let next : Progress = with_records (record (with_steps p op.actor is.0.steps is.0.cache) { names = is.0.names }) (records_of (events_by op.actor (part op.actor p.list) is.0.steps) ++ said_by op.actor is.0.said) in
-    leaves_piece f op.actor is.0.steps p.list l (answer_tidy f op.actor op.what (having p.names (part op.actor p.list) (p.caches op.actor)) is.0 is.1) (follows_tidy f acts next l rs is.2 of)
-follows_tidy f (Ends k ∷ acts) p l rs is of =
-    leaves_piece f k is.0 p.list l (λ of tidy. stop_tidy f k (p.caches k) is.1 is.0 (part k p.list) of is.2 tidy)
-    (follows_tidy f acts (with_records (with_steps p k is.0 is.1) (records_of (events_by k (part k p.list) is.0))) l rs is.3 of)
-
-later_kept : (t : Bool) (m : Made) (v : View) → KeptPart (if t then m ∷ v else v) → KeptPart v
-later_kept true m v all = all.1
-later_kept false m v all = all
-
-parts_kept : (l : Whole) → ((k : ℕ) → KeptPart (part k l)) → AllKeepToEnds l
-parts_kept [] all = tt
-parts_kept (t ∷ l) all = (
-  (subst (λ (b : Bool). KeptPart (if b then t.made ∷ part t.actor l else part t.actor l)) (eq-eqb t.actor t.actor refl) (all t.actor)).0,
-  parts_kept l (λ k. later_kept (t.actor == k) t.made (part k l) (all k)),
-)
-
--- THE STAMP of each page is the greatest epoch of an end there: the list of the steps as they were made has the parts of the list in the order of the acts
-pub stamps_are : (way : Way) (f : Profile) (acts : List Act) (told whole : Whole) (said : List Record) → IsValid f → Follows f acts at_start told said → IsOneOrder way told whole → Legal f whole → AreStamped f whole
-stamps_are way f acts told whole said valid answers one_order legal =
-    let same : (k : ℕ) → part k whole ≡ part k told = same_parts way told whole one_order in
-    let of : Each (PartOf f) told = λ k. subst (PartOf f) (same k) (legal_part f whole k legal) in
-    let tidy : Each Tidy told = (follows_tidy f acts at_start told said answers of).tidy (λ k. record { kept = tt; stamped = λ p. refl }) in
-    let keeps : AllKeepToEnds whole = parts_kept whole (λ k. subst KeptPart (sym (same k)) (tidy k).kept) in
-    record { stamp = λ page is. stamps_are_ends f whole valid legal keeps page (λ k. subst AllStamped (sym (same k)) (tidy k).stamped page) }
