@@ -21,7 +21,7 @@ use Rattle.pas_steps.specs.Lists.{Whole, part, Legal}
 use Rattle.pas_core.proofs.MachineRuns.{runs}
 use Rattle.pas_trace.specs.declared.plan.Plan.{Plan}
 use Rattle.pas_report.specs.declared.record.Record.{Record}
-use Rattle.pas_report.proofs.Placing.{true_marks}
+use Rattle.pas_report.proofs.TrueMarks.{true_marks}
 use Rattle.pas_answers.specs.Acts.{Act, Operates, MarksPhase, Wakes, MarksClose, Ends, acts_of}
 use Rattle.pas_answers.specs.Answers.{Progress, having, with_records, with_steps, begun, records_of, said_by, Follows}
 use Rattle.pas_answers.specs.Replays.{at_start, phases_of, empty_caches, IsReplay}

@@ -22,7 +22,7 @@ use Rattle.pas_answers.specs.Answers.{Named, standing_for, said_of_fault, IsFree
 use Rattle.pas_answers.specs.Names.{block_named}
 use Rattle.pas_answers.specs.Calls.{works, block_behind, Tells, IsKnown, owed_events, Performs, FreesOne}
 use Rattle.pas_answers.specs.declared.names.Names.{Names}
-use Rattle.pas_answers.proofs.Owed.{emptied_events, full_events}
+use Rattle.pas_answers.proofs.OwedEvents.{emptied_events, full_events}
 use Rattle.pas_steps.proofs.Unknown.{unknown_stays}
 
 -- ---- a free

@@ -1,8 +1,8 @@
 pub mod Built
-pub mod Owed
+pub mod OwedEvents
 pub mod Frees
 pub mod Requests
-pub mod Said
+pub mod Records
 pub mod KnownNames
 pub mod Speaking
 pub mod Weaving

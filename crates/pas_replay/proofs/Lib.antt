@@ -1,8 +1,8 @@
 pub mod PlanFacts
 pub mod PlanHolds
 pub mod Threads
-pub mod Turning
-pub mod Operating
-pub mod Ordering
-pub mod Showing
+pub mod Sittings
+pub mod Operations
+pub mod ActsInOrder
+pub mod StartAndEnd
 pub mod Opening

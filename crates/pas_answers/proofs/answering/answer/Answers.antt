@@ -1,6 +1,6 @@
 use Rattle.std.proofs.Common.{◌∙◌, arith, length, drop}
 use Rattle.pas_cache.specs.Caches.{cached}
-use Rattle.pas_answers.proofs.Said.{can_rest, shown_longer, records_fit, said_fits, answers_silent, answers_said}
+use Rattle.pas_answers.proofs.Records.{can_rest, shown_longer, records_fit, said_fits, answers_silent, answers_said}
 use Rattle.pas_answers.proofs.answering.answer.Goals as goal
 
 pub push_events-requires-clause-within : goal.push_events-requires-clause-within

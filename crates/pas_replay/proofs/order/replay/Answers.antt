@@ -4,7 +4,7 @@ use Rattle.pas_trace.specs.Plans.{ops_of}
 use Rattle.pas_plain.specs.Plain.{profile_of}
 use Rattle.pas_answers.specs.Acts.{Operates, phase_acts, acts_of}
 use Rattle.pas_replay.specs.Sessions.{SoFar}
-use Rattle.pas_replay.proofs.Ordering.{acts_left, phase_next, begins_first, marked, wakes_first, same_phase, at_region, of_profile, after_close, ends_here, ends_first}
+use Rattle.pas_replay.proofs.ActsInOrder.{acts_left, phase_next, begins_first, marked, wakes_first, same_phase, at_region, of_profile, after_close, ends_here, ends_first}
 use Rattle.pas_replay.proofs.order.replay.Goals as goal
 use Rattle.pas_replay.proofs.order.replay.Goals.{then-number-gt-UNMARKED, else-number-gt-UNMARKED}
 

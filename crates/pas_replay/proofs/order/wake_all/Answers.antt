@@ -5,7 +5,7 @@ use Rattle.pas_report.specs.declared.records.Records.{Records}
 use Rattle.pas_answers.specs.Acts.{Act, Wakes, is_active, active_from}
 use Rattle.pas_replay.specs.Sessions.{SoFar}
 use Rattle.pas_answers.specs.declared.names.Names.{Names}
-use Rattle.pas_replay.proofs.Ordering.{can_wake, woken, wake_next, wake_not, wake_last}
+use Rattle.pas_replay.proofs.ActsInOrder.{can_wake, woken, wake_next, wake_not, wake_last}
 use Rattle.pas_replay.proofs.order.wake_all.Goals as goal
 use Rattle.pas_replay.proofs.order.wake_all.Goals.{then-get, else-get}
 

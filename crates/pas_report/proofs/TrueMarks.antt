@@ -21,7 +21,7 @@ use Rattle.pas_core.proofs.Rights.{right_in_one_place}
 use Rattle.pas_report.specs.Marks.{offered_after, marks_after}
 use Rattle.pas_report.specs.Reports.{is_covered}
 use Rattle.pas_report.specs.Rests.{AreFreeOrCovered, AreTrueMarks, NobodyHasRights}
-use Rattle.pas_report.proofs.Resting.{backed_after, directory_of, deed_read_after, nobody_holds}
+use Rattle.pas_report.proofs.ReportOfWords.{backed_after, directory_of, deed_read_after, nobody_holds}
 
 -- one of two marks is set where the other isn't
 only_first : (offered parked : Bool) → offered ≡ true → parked ≡ false → parked ≡ not offered

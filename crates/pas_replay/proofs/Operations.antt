@@ -34,7 +34,7 @@ use Rattle.pas_replay.specs.Sessions.{Turn, MaySit, SoFar, spare_at}
 use Rattle.pas_answers.specs.declared.names.Names.{Names}
 use Rattle.pas_replay.specs.declared.seats.Thread.{Thread}
 use Rattle.pas_replay.proofs.Threads.{stands_at, cache_at, set_stands, set_caches, set_owed, owed_at}
-use Rattle.pas_replay.proofs.Turning.{Sits, sits, spare_is, desk_for, may_sit, its_pass, rises, other_stands}
+use Rattle.pas_replay.proofs.Sittings.{Sits, sits, spare_is, desk_for, may_sit, its_pass, rises, other_stands}
 
 -- ---- what an act costs
 -- this act is an operation of thread k

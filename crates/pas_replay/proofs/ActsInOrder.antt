@@ -33,7 +33,7 @@ use Rattle.pas_answers.specs.declared.names.Names.{Names}
 use Rattle.pas_replay.specs.declared.seats.Thread.{Thread}
 use Rattle.pas_steps.proofs.Unknown.{unknown_stays}
 use Rattle.pas_replay.proofs.Threads.{stands_at, cache_at, set_stands, set_caches, set_owed, same_ops}
-use Rattle.pas_replay.proofs.Turning.{sits, desk_for, may_sit, its_pass, rises, other_stands}
+use Rattle.pas_replay.proofs.Sittings.{sits, desk_for, may_sit, its_pass, rises, other_stands}
 
 -- ---- marks
 marked_so : {f : Profile} {all more : List Act} {act : Act} {region : PlainRegion} {threads : List Thread} {table : Names} {out out' : Records} (mark : Record) → (so : SoFar f all (act ∷ more) region threads table out)

@@ -36,7 +36,7 @@ use Rattle.pas_answers.specs.declared.names.Names.{Names}
 use Rattle.pas_replay.specs.declared.seats.Thread.{Thread}
 use Rattle.pas_replay.proofs.PlanHolds.{plan_fit, plan_own, plan_total, plan_marks}
 use Rattle.pas_answers.proofs.Consequences.{replays}
-use Rattle.pas_replay.proofs.Ordering.{at_region, of_profile}
+use Rattle.pas_replay.proofs.ActsInOrder.{at_region, of_profile}
 
 -- ---- the start
 -- the threads from this one on did nothing yet

@@ -13,7 +13,7 @@ use Rattle.pas_report.specs.Marks.{marks_after}
 use Rattle.pas_report.specs.Reports.{report_text}
 use Rattle.pas_report.specs.Rests.{AreStamped, HasWords}
 use Rattle.pas_report.specs.declared.record.Record.{Record}
-use Rattle.pas_report.proofs.Resting.{are_deed_words, nobody_holds, report_agrees}
+use Rattle.pas_report.proofs.ReportOfWords.{are_deed_words, nobody_holds, report_agrees}
 use Rattle.pas_answers.specs.Replays.{IsBuilt, Shows}
 use Rattle.pas_answers.specs.Ways.{Way}
 use Rattle.pas_replay.proofs.PlanHolds.{plan_valid}
