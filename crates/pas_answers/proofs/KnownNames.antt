@@ -9,7 +9,7 @@ use Rattle.pas_trace.specs.declared.plan.What.TheVariants.{Alloc, Free, Raw, Flu
 use Rattle.pas_report.specs.declared.record.Said.{Said}
 use Rattle.pas_cache.specs.Caches.{Cached}
 use Rattle.pas_answers.specs.Answers.{block_of, having, answer_of, Named, standing_for, IsAnswered}
-use Rattle.pas_answers.specs.Fit.{is_asked, asked_after}
+use Rattle.pas_trace.specs.EveryPlan.{is_asked, asked_after}
 
 abbrev pub AreKnown : List ℕ → List Named → Type 0
 AreKnown asked names = (n : ℕ) → is_asked asked n ≡ true → (block : Option Block) × (standing_for names n ≡ Some block)

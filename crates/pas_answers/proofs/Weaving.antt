@@ -19,8 +19,9 @@ use Rattle.pas_report.specs.declared.record.Said.{Said}
 use Rattle.pas_cache.specs.Caches.{Cached}
 use Rattle.pas_answers.specs.Acts.{Act, Operates}
 use Rattle.pas_answers.specs.Answers.{block_of, having, answer_of, progress, Named, named, Caches, with_cache, standing_for, IsFreedBy, IsAnswered, records_of, said_by, Follows}
-use Rattle.pas_answers.specs.Fit.{is_asked, asked_after, IsFitWhat, AreFit}
-use Rattle.pas_answers.specs.Own.{own_state, own_of, FollowsOwn, IsNew, AreNew, asked_by, IsAskFor, AreOther, AsksFor}
+use Rattle.pas_answers.specs.Fit.{IsFitWhat, AreFit}
+use Rattle.pas_trace.specs.EveryPlan.{is_asked, asked_after, asked_by}
+use Rattle.pas_answers.specs.Own.{own_state, own_of, FollowsOwn, IsNew, AreNew, IsAskFor, AreOther, AsksFor}
 use Rattle.pas_answers.specs.Ways.{AreSpoken, records_by}
 use Rattle.pas_answers.proofs.KnownNames.{AreKnown, known_after}
 use Rattle.pas_answers.proofs.Speaking.{spoken_piece, spoken_both, by_piece, piece_of, records_both}

@@ -8,7 +8,7 @@ use Rattle.pas_profile.specs.declared.profile.Profile.{Profile}
 use Rattle.pas_profile.specs.declared.name.Block.{Block}
 use Rattle.pas_profile.specs.declared.word.Word.TheVariants as Word
 use Rattle.pas_bits.specs.Masks.{is_set}
-use Rattle.pas_bits.proofs.Runs.{to_run}
+use Rattle.pas_profile.proofs.Runs.{to_run}
 use Rattle.pas_profile.specs.Runs.{in_run, grain_of, length_of}
 use Rattle.pas_steps.specs.Views.{View, Gives, Stays, held_after, holds, holds_on, known_deed, knows_backed}
 use Rattle.pas_steps.specs.Desks.{made}

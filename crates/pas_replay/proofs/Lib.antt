@@ -1,5 +1,6 @@
-pub mod PlanFacts
-pub mod PlanHolds
+pub mod ActsOfPlan
+pub mod NameLimits
+pub mod BuiltPlans
 pub mod Threads
 pub mod Sittings
 pub mod Operations
