@@ -153,6 +153,7 @@ performs_stop {σ} {σ'} what table c c' is stops = subst (λ w. Performs w (wor
         stopped = stops.stopped;
         empties = stops.empties;
         stops = stops.stops;
+        kinds = stops.kinds;
         silent = λ v. stops.silent σ.seat.actor v;
         cache = stops.cache;
         steps_are = refl;

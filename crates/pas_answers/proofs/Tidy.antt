@@ -30,13 +30,11 @@ use Rattle.pas_free_log.specs.Stamps.{page_count}
 use Rattle.pas_free_log.specs.Flushes.{Settled, AfterEnd, EntrySteps, EntriesSteps}
 use Rattle.pas_free_log.specs.declared.ending.Outcome.{Outcome}
 use Rattle.pas_free_log.specs.declared.ending.Outcome.TheVariants.{Ended, Refused}
-use Rattle.pas_free_log.proofs.Idle.{not_live}
-use Rattle.pas_segregated.specs.declared.slots.Slots.{Slots}
+use Rattle.pas_free_log.proofs.Tries.{not_live}
 use Rattle.pas_cache.specs.Caches.{Cached}
-use Rattle.pas_cache.specs.Changes.{StopsAll, EmptiesLog, EmptiesFull}
+use Rattle.pas_cache.specs.Changes.{EmptiesLog, EmptiesFull}
 use Rattle.pas_steps.specs.Kinds.{Kinds, Only, kind_of, look_kind, is_in, apart, LookEpoch, Putting, Ending, Stamping, Ticking, looking, returning}
 use Rattle.pas_cache.specs.Kinds.{releasing, allocating}
-use Rattle.pas_cache.proofs.Below.{stop_only}
 use Rattle.pas_steps.proofs.Apart.{holds_over, only_both, only_within, unstamped_same}
 use Rattle.pas_steps.proofs.Calls.{returns_are}
 use Rattle.pas_trace.specs.declared.plan.What.{What}
@@ -265,15 +263,11 @@ flush_tidy f k names steps v of h tidy =
     let look = made (Look Word.Epoch) h.epoch in
     tidy_both steps h.entries (look ∷ []) v h.steps_are (entries_tidy f h.settled h.entries (look ∷ v) (of_front f h.entries (look ∷ []) (subst (AreOfRegion f) h.steps_are of)) h.order (look_tidy Word.Epoch h.epoch v refl tidy))
 
-stops_tidy : (locals : List Slots) (steps : List Made) (v : View) → StopsAll locals steps → Tidy v → Tidy (steps ++ v)
-stops_tidy [] steps v h tidy = tidy_none steps v h tidy
-stops_tidy (slots ∷ rest) steps v h tidy = tidy_both steps h.0 h.1 v h.4 (tidy_over releasing refl h.0 (h.1 ++ v) (stop_only slots h.0 h.2) (stops_tidy rest h.1 v h.3 tidy))
-
 -- ---- operations
 pub stop_tidy : (f : Profile) (k : ℕ) (c c' : Cached) (steps : List Made) (v : View) → AreOfRegion f steps → IsStopped k c c' steps → Tidy v → Tidy (steps ++ v)
 stop_tidy f k c c' steps v of h tidy =
     let flushed = of_back f h.stopped h.flushed (subst (AreOfRegion f) h.steps_are of) in
-    tidy_both steps h.stopped h.flushed v h.steps_are (stops_tidy c.locals h.stopped (h.flushed ++ v) h.stops (flush_tidy f k c.log h.flushed v flushed h.empties tidy))
+    tidy_both steps h.stopped h.flushed v h.steps_are (tidy_over releasing refl h.stopped (h.flushed ++ v) h.kinds (flush_tidy f k c.log h.flushed v flushed h.empties tidy))
 
 full_tidy : (f : Profile) (k : ℕ) (full : Bool) (log log' : List Name) (steps : List Made) (v : View) → AreOfRegion f steps → EmptiesFull full k log log' steps → Tidy v → Tidy (steps ++ v)
 full_tidy f k true log log' steps v of h tidy = flush_tidy f k log steps v of h.0 tidy

@@ -26,7 +26,7 @@ use Rattle.pas_segregated.specs.Stops.{class_directory}
 use Rattle.pas_cache.specs.Caches.{Cached}
 use Rattle.pas_cache.specs.Changes.{EmptiesLog, StopsAll}
 use Rattle.pas_steps.specs.Kinds.{Only}
-use Rattle.pas_cache.specs.Kinds.{allocating}
+use Rattle.pas_cache.specs.Kinds.{allocating, releasing}
 use Rattle.pas_cache.specs.Serves.{class_of, ServesRequest, IsPreparing, IsInSlot, IsClassRoute}
 use Rattle.pas_cache.specs.Calls.{TakesName, RefusesName}
 use Rattle.pas_answers.specs.Acts.{Act, Operates, MarksPhase, Wakes, MarksClose, Ends}
@@ -163,6 +163,7 @@ pub record IsStopped (k : ℕ) (c c' : Cached) (steps : List Made) : Type 0 wher
   pub stopped : List Made
   pub empties : EmptiesLog k c.log flushed
   pub stops : StopsAll c.locals stopped
+  pub kinds : Only releasing stopped
   pub silent : (v : View) → events_by k v stopped ≡ []
   pub cache : c' ≡ record { locals = []; log = []; idle_since = c.idle_since }
   pub steps_are : steps ≡ stopped ++ flushed

@@ -28,7 +28,7 @@ use Rattle.pas_steps.specs.declared.step.Made.{Made}
 use Rattle.pas_steps.proofs.Adding.{adds_under, adds_call, can_call, room_left, agreed_first, agreed_later}
 use Rattle.pas_steps.proofs.Frames.{events_append, events_split}
 use Rattle.pas_steps.proofs.Kept.{deed_stays}
-use Rattle.pas_search.proofs.StepKinds.{events_quiet}
+use Rattle.pas_search.proofs.KindsAndEvents.{events_quiet}
 use Rattle.pas_segregated.specs.Stops.{class_directory, directory_of}
 use Rattle.pas_segregated.specs.declared.slots.Slots.{Slots}
 use Rattle.pas_steps.specs.Unknown.{unknown_pages}
@@ -38,8 +38,8 @@ use Rattle.pas_cache.specs.Serves.{IsClassRoute, class_of, ServesLocals, IsPrepa
 use Rattle.pas_cache.specs.Pieces.{MayGiveSlot, GivesLowest, MayObtain, FindsCached, FetchesAnew, Obtains, ServesFrom}
 use Rattle.pas_steps.specs.Kinds.{Only}
 use Rattle.pas_steps.proofs.Apart.{no_events, only_both, only_within}
-use Rattle.pas_cache.specs.Kinds.{releasing, searching, allocating}
-use Rattle.pas_cache.proofs.Below.{search_only}
+use Rattle.pas_search.specs.Kinds.{searching}
+use Rattle.pas_cache.specs.Kinds.{releasing, allocating}
 use Rattle.pas_cache.proofs.Locals.{without_last}
 use Rattle.pas_cache.proofs.Resting.{here, may_give_slot}
 use Rattle.pas_cache.proofs.Granting.{rests_given, given_page, given_deed}
@@ -148,7 +148,7 @@ events_later ys xs kinds k v = events_append k ys xs v ∙ (ap (λ es. events_by
 
 kinds_before : {f : Profile} (heap class : ℕ) (locals fewer : List Slots) (steps : List Made) (answer : Result Slots NoRoom) → FindsCached heap class locals fewer steps answer ⊎ FetchesAnew f heap class locals fewer steps answer → Only allocating steps
 kinds_before heap class locals fewer steps answer (inl h) = subst (Only allocating) (sym h.no_steps) tt
-kinds_before heap class locals fewer steps answer (inr h) = subst (Only allocating) (sym h.steps_are) (only_both allocating h.searched (h.stopped ++ h.spent) (only_within searching allocating h.searched refl (search_only h.searched h.refill.searches)) (only_within releasing allocating (h.stopped ++ h.spent) refl h.kinds))
+kinds_before heap class locals fewer steps answer (inr h) = subst (Only allocating) (sym h.steps_are) (only_both allocating h.searched (h.stopped ++ h.spent) (only_within searching allocating h.searched refl h.refill.searches.kinds) (only_within releasing allocating (h.stopped ++ h.spent) refl h.kinds))
 
 prepared_before : {f : Profile} (heap class : ℕ) (locals fewer : List Slots) (steps : List Made) (slots : Slots) → FindsCached heap class locals fewer steps (Ok slots) ⊎ FetchesAnew f heap class locals fewer steps (Ok slots) → (k : ℕ) (v : View) → AllByRecursion (IsPreparing (class_directory heap class)) (events_by k v steps)
 prepared_before heap class locals fewer steps slots (inl h) k v = subst (λ xs. AllByRecursion (IsPreparing (class_directory heap class)) (events_by k v xs)) (sym h.no_steps) tt

@@ -38,7 +38,7 @@ releases_by {σ} Change locals slots rest w stops change = record {
   steps = stops.steps;
   adds = stop_adds locals slots rest w stops;
   change = change;
-  kinds = stop_only slots stops.steps stops.order;
+  kinds = stop_only stops;
     rest = λ v h agreed. rests_stopped σ.seat.profile locals slots rest w v h stops.steps ((stop_calls stops).leads.from v (may_stop σ.seat.profile locals slots rest w v h) agreed) agreed;
 }
 

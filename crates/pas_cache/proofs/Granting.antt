@@ -7,15 +7,15 @@ use Rattle.pas_profile.specs.Directories.{deed_word_of}
 use Rattle.pas_profile.specs.declared.profile.Profile.{Profile}
 use Rattle.pas_profile.specs.declared.name.Block.{Block}
 use Rattle.pas_profile.specs.declared.word.Word.TheVariants as Word
-use Rattle.pas_bits.specs.Masks.{is_set}
+use Rattle.pas_bits.specs.Masks.{is_set, HasMember}
 use Rattle.pas_profile.proofs.Runs.{to_run}
 use Rattle.pas_profile.specs.Runs.{in_run, grain_of, length_of}
 use Rattle.pas_steps.specs.Views.{View, Gives, Stays, held_after, holds, holds_on, known_deed, knows_backed}
 use Rattle.pas_steps.specs.Desks.{made}
 use Rattle.pas_steps.specs.declared.step.Made.{Made}
 use Rattle.pas_steps.specs.declared.step.Step.TheVariants.{Look, Give}
-use Rattle.pas_search.proofs.Backed.{held_where_backed}
-use Rattle.pas_segregated.specs.Masks.{AreStarts, IsSome, start_of}
+use Rattle.pas_steps.proofs.Backed.{backed_holds}
+use Rattle.pas_segregated.specs.Masks.{AreStarts, start_of}
 use Rattle.pas_segregated.specs.Stops.{class_directory, directory_of}
 use Rattle.pas_segregated.specs.declared.slots.Slots.{Slots}
 use Rattle.pas_segregated.proofs.Starts.{start_at, start_below}
@@ -55,7 +55,7 @@ module _ (f : Profile) (locals : List Slots) (slots rest : Slots) (block : Block
   slot : IsSlotStart slots.class start
   slot = local.starts start gives.lowest.set
 
-  some : IsSome slots.starts
+  some : HasMember slots.starts
   some = (start, gives.lowest.within, gives.lowest.set)
 
   abbrev two : List Made
@@ -96,7 +96,7 @@ module _ (f : Profile) (locals : List Slots) (slots rest : Slots) (block : Block
       (λ outside. h.grains g ∙ (w.grains g ∙ (ap (λ t. t || any_covers locals g) (sym (outside_same g (sym (run_is g) ∙ outside))) ∙ sym (w'.grains g))))
 
   known_page : (p : ℕ) → knows_backed v p ≡ true → holds_on (two ++ v) p ≡ true → knows_backed (two ++ v) p ≡ true
-  known_page p known held = and_from (knows_backed v p && holds_on v p) (holds_on (two ++ v) p) (and_from (knows_backed v p) (holds_on v p) known (held_where_backed v p known)) held
+  known_page p known held = and_from (knows_backed v p && holds_on v p) (holds_on (two ++ v) p) (and_from (knows_backed v p) (holds_on v p) known (backed_holds v p known)) held
 
   rest_starts : AreStarts rest.class rest.starts
   rest_starts g set = subst (λ c. IsSlotStart c g) (sym gives.rest.class) (local.starts g (and_parts (not (g == start)) (is_set slots.starts g) (sym (gives.rest.starts g) ∙ set)).1)

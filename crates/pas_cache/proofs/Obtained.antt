@@ -7,7 +7,7 @@ use Rattle.pas_profile.specs.Profiles.{IsDirectoryOf}
 use Rattle.pas_profile.specs.declared.profile.Profile.{Profile}
 use Rattle.pas_profile.specs.declared.directory.Directory.{Directory}
 use Rattle.pas_profile.specs.declared.event.NoRoom.{NoRoom}
-use Rattle.pas_bits.specs.Masks.{is_set}
+use Rattle.pas_bits.specs.Masks.{is_set, HasMember, IsEmpty}
 use Rattle.pas_steps.specs.Views.{View}
 use Rattle.pas_steps.specs.Agreement.{Agreed}
 use Rattle.pas_steps.specs.Lists.{Whole}
@@ -19,7 +19,7 @@ use Rattle.pas_search.specs.Telling.{HasNoFit}
 use Rattle.pas_steps.specs.Kinds.{Only}
 use Rattle.pas_steps.proofs.Apart.{only_both}
 use Rattle.pas_cache.specs.Kinds.{releasing}
-use Rattle.pas_segregated.specs.Masks.{IsSome, IsEmpty, start_of}
+use Rattle.pas_segregated.specs.Masks.{start_of}
 use Rattle.pas_segregated.specs.Takes.{exclusive, fewer_slots}
 use Rattle.pas_segregated.specs.Returns.{BackSteps}
 use Rattle.pas_segregated.specs.Stops.{class_directory, directory_of, LeavesWhere, StopSteps, Stops}
@@ -72,7 +72,7 @@ found_for heap class (first ∷ rest) slots found = elim (cases_Bool (is_for hea
   | inr another ↦ found_for heap class rest slots (ap (λ t. if t then Some first else local_for heap class rest) (sym another) ∙ found)
 ]
 
-pub obtains_cached : {σ : Standing} (heap class : ℕ) (tells : Bool) (locals locals' : List Slots) (slots : Slots) → Some slots ≡ local_for heap class locals → locals' ≡ others_than heap class locals → length locals ≤ 32 → IsSome slots.starts → Obtains heap class tells locals locals' σ σ (Ok slots)
+pub obtains_cached : {σ : Standing} (heap class : ℕ) (tells : Bool) (locals locals' : List Slots) (slots : Slots) → Some slots ≡ local_for heap class locals → locals' ≡ others_than heap class locals → length locals ≤ 32 → HasMember slots.starts → Obtains heap class tells locals locals' σ σ (Ok slots)
 obtains_cached {σ} heap class tells locals locals' slots found others fits some =
     let f : Profile = σ.seat.profile in
     record {

@@ -14,7 +14,7 @@ use Rattle.pas_steps.specs.Clear.{IsClear}
 use Rattle.pas_cache.specs.Effects.{of_slots}
 use Rattle.pas_steps.proofs.Kept.{deed_stays}
 use Rattle.pas_steps.specs.declared.step.Made.{Made}
-use Rattle.pas_segregated.specs.Masks.{IsSome}
+use Rattle.pas_bits.specs.Masks.{HasMember}
 use Rattle.pas_segregated.specs.Stops.{directory_of, MayStop}
 use Rattle.pas_segregated.specs.declared.slots.Slots.{Slots}
 use Rattle.pas_cache.specs.Locals.{covers, keeps_right, any_covers, any_keeps, is_for, count_for, HasOneEach, IsLocal, IsAway, RestsWith}
@@ -36,7 +36,7 @@ pub held_on : (v : View) (page g : ℕ) → g / 256 ≡ page → holds v g ≡ t
 held_on v page g at h = any_from 256 (λ b. holds v (page * 256 + b)) (g % 256) (omega arith) (ap (holds v) (omega (arith, at)) ∙ h)
 
 -- slots of which one is left cover a grain of their page
-some_grain : (f : Profile) (v : View) (t : Slots) → IsLocal f v t → (some : IsSome t.starts) → covers t (first_grain t some.0) ≡ true
+some_grain : (f : Profile) (v : View) (t : Slots) → IsLocal f v t → (some : HasMember t.starts) → covers t (first_grain t some.0) ≡ true
 some_grain f v t here some =
     let start : ℕ = some.0 in
     let lt : start < 256 = some.1 in
@@ -45,7 +45,7 @@ some_grain f v t here some =
     slot_covers t start (first_grain t start) slot some.2 (record { page = omega (arith, lt); low = omega (arith, lt); high = omega (arith, lt, positive) })
 
 -- where the grains that are covered are held, some grain of its page is held
-pub held_of : (f : Profile) (v w : View) (t : Slots) (locals : List Slots) → IsLocal f v t → IsSome t.starts → ((g : ℕ) → holds w g ≡ any_covers locals g) → ((g : ℕ) → covers t g ≡ true → any_covers locals g ≡ true) → holds_on w t.page ≡ true
+pub held_of : (f : Profile) (v w : View) (t : Slots) (locals : List Slots) → IsLocal f v t → HasMember t.starts → ((g : ℕ) → holds w g ≡ any_covers locals g) → ((g : ℕ) → covers t g ≡ true → any_covers locals g ≡ true) → holds_on w t.page ≡ true
 held_of f v w t locals here some grains within =
     let g : ℕ = first_grain t some.0 in
     let lt : some.0 < 256 = some.1 in

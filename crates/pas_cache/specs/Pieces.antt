@@ -13,7 +13,7 @@ use Rattle.pas_steps.specs.Kinds.{Only}
 use Rattle.pas_cache.specs.Kinds.{releasing, allocating}
 use Rattle.pas_steps.specs.Unknown.{HasRoom}
 use Rattle.pas_search.specs.Telling.{HasNoFit, IsTrueReason}
-use Rattle.pas_segregated.specs.Masks.{IsSome}
+use Rattle.pas_bits.specs.Masks.{HasMember}
 use Rattle.pas_segregated.specs.Stops.{class_directory}
 use Rattle.pas_segregated.specs.Takes.{exclusive}
 use Rattle.pas_segregated.specs.declared.slots.Slots.{Slots}
@@ -78,7 +78,7 @@ pub record FindsCached (heap class : ℕ) (locals locals' : List Slots) (steps :
   pub from : Slots
   pub answer_is : answer ≡ Ok from
   pub cached : local_for heap class locals ≡ Some from
-  pub some : IsSome from.starts
+  pub some : HasMember from.starts
   pub locals_are : locals' ≡ others_than heap class locals
   pub no_steps : steps ≡ []
 
@@ -98,7 +98,7 @@ pub record FetchesAnew (f : Profile) (heap class : ℕ) (locals locals' : List S
 pub record IsFoundFor (heap class : ℕ) (slots : Slots) : Type 0 where
   pub heap_is : slots.heap ≡ heap
   pub class_is : slots.class ≡ class
-  pub some : IsSome slots.starts
+  pub some : HasMember slots.starts
 
 pub record Obtains (heap class : ℕ) (tells : Bool) (locals locals' : List Slots) (desk desk' : Standing) (answer : Result Slots NoRoom) : Type 0 where
   pub steps : List Made

@@ -15,10 +15,10 @@ use Rattle.pas_steps.specs.Events.{events_by}
 use Rattle.pas_steps.specs.Agreement.{Agreed}
 use Rattle.pas_steps.specs.Lists.{Whole}
 use Rattle.pas_steps.specs.declared.step.Made.{Made}
-use Rattle.pas_search.specs.Kinds.{OnlySearches}
+use Rattle.pas_search.specs.Kinds.{AreSearch}
 use Rattle.pas_search.specs.Searches.{IsRefused}
 use Rattle.pas_search.specs.Telling.{HasNoFit, IsTrueReason}
-use Rattle.pas_segregated.specs.Masks.{IsSome}
+use Rattle.pas_bits.specs.Masks.{HasMember}
 use Rattle.pas_segregated.specs.Stops.{class_directory}
 use Rattle.pas_segregated.specs.Takes.{exclusive}
 use Rattle.pas_segregated.specs.Refills.{GivesSlots}
@@ -46,13 +46,13 @@ pub record GivesCached (heap class : ℕ) (locals locals' : List Slots) (steps :
   pub from : Slots
   pub to : Slots
   pub cached : local_for heap class locals ≡ Some from
-  pub some : IsSome from.starts
+  pub some : HasMember from.starts
   pub gives : GivesSlot from to block steps
   pub locals_are : locals' ≡ others_than heap class locals ++ to ∷ []
 
 -- the steps of a refill, and the slots that it got
 pub record IsRefill (heap class : ℕ) (f : Profile) (steps : List Made) (found : Result Slots NoRoom) : Type 0 where
-  pub searches : OnlySearches steps
+  pub searches : AreSearch steps
   pub outcome : MatchResult found (GivesSlots f (class_directory heap class) steps) (IsRefused (exclusive class) f (class_directory heap class) steps)
 
 -- After the refill its lowest slot is given, and the rest is the new local allocator at the end. A refusal is that of the refill.
@@ -123,7 +123,7 @@ IsSilent steps = (k : ℕ) (v : View) → events_by k v steps ≡ []
 -- ---- on a desk that tells the whole state
 -- no slot is cached for the heap and the class
 abbrev pub HasNoneCached : ℕ → ℕ → List Slots → Type 0
-HasNoneCached heap class locals = (slots : Slots) → local_for heap class locals ≡ Some slots → IsSome slots.starts → ⊥
+HasNoneCached heap class locals = (slots : Slots) → local_for heap class locals ≡ Some slots → HasMember slots.starts → ⊥
 
 -- Where the request is refused, no slot was cached and no page could serve at entry, nor can one at exit, and the reason is true at exit. So a
 -- request is served wherever a slot is cached, an offered page fits or a page has no deed.

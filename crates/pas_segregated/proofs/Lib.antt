@@ -1,10 +1,5 @@
-pub mod Bits
 pub mod Starts
-pub mod Puts
-pub mod Backs
-pub mod Stopped
-pub mod Taken
-pub mod Counted
-pub mod Complete
-pub mod Served
-pub mod Refilled
+mod GiveBack
+mod FourTakes
+mod WholeSlots
+mod Serve

@@ -45,7 +45,7 @@ stop-requires-clause-can g c =
     may_call _ _ _ (found_without c.args.heap c.args.class _ _ c.in-Some.slots can.met.one_each (sym c.in-Some.is ∙ c.take_out.ensures.found) c.take_out.ensures.others) can
 
 pub fetch-requires-2-clause-directory : goal.fetch-requires-2-clause-directory
-fetch-requires-2-clause-directory g c = subst (λ (s : Seat). IsDirectoryOf s.profile (class_directory c.args.heap c.args.class)) (sym c.stop.ensures.stops.adds.seat_is) c.requires.directory
+fetch-requires-2-clause-directory g c = subst (λ (s : Seat). IsDirectoryOf s.profile (class_directory c.args.heap c.args.class)) (sym c.stop.ensures.stops.calls.adds.seat_is) c.requires.directory
 
 pub fetch-requires-2-clause-none : goal.fetch-requires-2-clause-none
 fetch-requires-2-clause-none g c = none_of c.args.heap c.args.class _ _ c.take_out.ensures.others
@@ -57,7 +57,7 @@ fetch-requires-2-clause-can g c =
     let w = found_without c.args.heap c.args.class _ _ c.in-Some.slots can.met.one_each found c.take_out.ensures.others in
     let s = c.stop.ensures.stops in
     obtain_after _ _ (spent_releases c.args.heap c.args.class _ _ c.in-Some.slots can.met.one_each found c.take_out.ensures.others (local_of _ _ _ w can).directory.kind c.if-has_slot.ensures s)
-    (spare_kept s.adds (may_call _ _ _ w can) (stop_only _ _ s.order) (λ v l q. g.met.D.Desk.spares c.args.desk.now v l q) (λ v l q. g.met.D.Desk.spares c.stop.new.desk v l q)) c.requires.can
+    (spare_kept s.calls.adds (may_call _ _ _ w can) (stop_only s) (λ v l q. g.met.D.Desk.spares c.args.desk.now v l q) (λ v l q. g.met.D.Desk.spares c.stop.new.desk v l q)) c.requires.can
 
 pub returns-clause-obtains : goal.returns-clause-obtains
 returns-clause-obtains g c =
