@@ -86,7 +86,7 @@ module _ (f : Profile) (heap class : ℕ) (locals : List Slots) (is : IsDirector
       let pair = of_pair slots heap class s.named in
       let w : IsWithout (locals ++ slots ∷ []) slots locals = without_last locals slots in
       let later : AllByRecursion (IsLocal f (steps ++ v)) locals = map_locals (IsLocal f v) (IsLocal f (steps ++ v)) locals (λ t within at. local_after f (of_slots slots Gained) steps v t gains.does agreed (λ g here.
-          let held = h.grains g ∙ within g here in (held, unless_covered (covers slots g) Gained (λ mine. true≢false (sym held ∙ gains.apart g mine)))) at) h.known in
+      let held = h.grains g ∙ within g here in (held, unless_covered (covers slots g) Gained (λ mine. true≢false (sym held ∙ gains.apart g mine)))) at) h.known in
       record {
         grains = λ g. gains.does.held g ∙ (ap (now (if covers slots g then Gained else Kept)) (h.grains g) ∙ gained (covers slots g) (any_covers locals g) ∙ sym (w.grains g));
         rights = λ p. gains.does.right p ∙ (ap (now (if keeps_right slots p then Gained else Kept)) (h.rights p) ∙ gained (keeps_right slots p) (any_keeps locals p) ∙ sym (w.rights p));

@@ -39,7 +39,7 @@ releases_by {σ} Change locals slots rest w stops change = record {
   adds = stop_adds locals slots rest w stops;
   change = change;
   kinds = stop_only stops;
-    rest = λ v h agreed. rests_stopped σ.seat.profile locals slots rest w v h stops.steps ((stop_calls stops).leads.from v (may_stop σ.seat.profile locals slots rest w v h) agreed) agreed;
+  rest = λ v h agreed. rests_stopped σ.seat.profile locals slots rest w v h stops.steps ((stop_calls stops).leads.from v (may_stop σ.seat.profile locals slots rest w v h) agreed) agreed;
 }
 
 abbrev pub releases_none : {σ : Standing} (Change : List Made → Type 0) (locals : List Slots) → Change [] → Releases Change locals locals σ σ
