@@ -1,6 +1,8 @@
 //! The program `pas`: reads standard input, writes standard output, and ends with the status of the call.
 #![tactic(auto)]
 
+ghost use Rattle.std.specs.Prelude.{◌≡◌, IfOk, OnErr};
+
 use pas_io::real::{RealSink, RealSource};
 use pas_top::pas_main;
 use std::alloc::AllocError;
@@ -12,14 +14,16 @@ use std::process::ExitCode;
 const NO_MEMORY: u8 = 5;
 
 fn main(rt: HostRuntime) -> ExitCode {
-    let status = match words(&rt) {
-        Ok(words) => match call(&rt, &words) {
-            Ok(status) => status,
-            Err(_) => NO_MEMORY,
-        },
-        Err(_) => NO_MEMORY,
-    };
-    ExitCode::from(status)
+    let called = words(&rt).and_then(|words| call(&rt, &words));
+    ExitCode::from(status(called))
+}
+
+/// The status of a call, or that of wanting memory where the call couldn't be made.
+fn status(called: Result<u8, AllocError>) -> u8
+    ensures called { IfOk called (λ status. result ≡ status) }
+    ensures memory { OnErr called (result ≡ 5) }
+{
+    called.unwrap_or(NO_MEMORY)
 }
 
 /// The words after the program's name. Where one isn't text there are none, since none of the calls has such a word.

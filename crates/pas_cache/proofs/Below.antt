@@ -124,14 +124,4 @@ search_only steps = always_map (λ m before. IsSearch m.step) (λ m before. is_i
 
 -- ---- a flush
 pub flush_calls : {σ σ' : Standing} {names : List Name} → (flush : Flushes names σ σ') → Calls σ σ' IsClear (Does nothing) flush.steps
-flush_calls flush = record {
-  adds = flush.adds;
-  leads = record {
-    from = λ v clear agreed. record {
-      held = flush.held v agreed;
-      right = flush.right v agreed;
-      clear = λ page is. (flush.clear v agreed clear).on page;
-      backed = λ x kept bears. record { held = flush.held v agreed x ∙ bears.held; backed = flush.backed v agreed (x / 256) bears.backed };
-    };
-  };
-}
+flush_calls flush = flush.calls

@@ -1,84 +1,42 @@
 -- The pages of a block, put back one after the other.
-use Rattle.std.proofs.Common.{◌≡◌, ℕ, suc, ◌+◌, ◌-◌, ◌*◌, ◌/◌, ◌%◌, ◌<◌, ◌≤◌, ◌⊎◌, min, true, false, if◌then◌else◌, List, [], ◌∷◌, ◌++◌, inl, inr, refl, ap, sym, ◌∙◌, subst, arith, append_assoc}
+use Rattle.std.proofs.Common.{◌≡◌, ℕ, suc, ◌+◌, ◌-◌, ◌*◌, ◌/◌, ◌%◌, ◌<◌, ◌≤◌, ◌⊎◌, ◌||◌, min, true, false, if◌then◌else◌, List, [], ◌∷◌, ◌++◌, inl, inr, refl, ap, sym, ◌∙◌, subst, arith}
 use Rattle.std.proofs.lemmas.List.{map-append}
-use Rattle.std.proofs.lemmas.Bool.{false≢true, cases_lt, cases_eq, ne_eqb}
+use Rattle.std.proofs.lemmas.Bool.{cases_lt, cases_eq, ne_eqb}
 use Rattle.std.proofs.lemmas.Bool.Decides.{nat_tests}
 use Rattle.pas_profile.specs.declared.profile.Profile.{Profile}
 use Rattle.pas_profile.specs.Runs.{in_run, meets_page}
-use Rattle.pas_bits.proofs.Runs.{run_of, to_run, run_below, run_above}
+use Rattle.pas_bits.proofs.Runs.{run_of, to_run, run_above}
 use Rattle.pas_steps.specs.declared.step.Made.{Made}
-use Rattle.pas_steps.specs.Views.{View, holds, has_right, known_epoch, epoch_of, or_zero, is_unstamped, ends_on}
+use Rattle.pas_steps.specs.Calls.{Kept, Lost, now, Does}
+use Rattle.pas_steps.specs.Views.{View, holds, epoch_of, or_zero, ends_on}
 use Rattle.pas_steps.specs.Allowed.{IsEpochKnown}
-use Rattle.pas_steps.specs.Events.{events_by}
-use Rattle.pas_steps.proofs.Adding.{agreed_first, agreed_later}
-use Rattle.pas_steps.proofs.Frames.{events_append}
+use Rattle.pas_steps.proofs.Apart.{only_both, epoch_same}
+use Rattle.pas_steps.proofs.Calls.{does_none, unexamined_over}
+use Rattle.pas_steps.proofs.Sets.{freed_both, freed_nothing}
 use Rattle.pas_steps.proofs.Past.{once_later}
-use Rattle.pas_steps.specs.Clear.{OwesNothing}
 use Rattle.pas_free_log.specs.Conditions.{IsRun, IsRunOnPage}
 use Rattle.pas_free_log.specs.Stamps.{stamps_by, page_count, pages_from, pages_met, stamps_with}
-use Rattle.pas_free_log.specs.Frames.{PutsBack}
+use Rattle.pas_free_log.specs.Frames.{putting_back, run_freed, PutsBack}
 use Rattle.pas_free_log.specs.Returns.{MayReturn, PageSteps, PagesSteps, first_on, count_on}
-use Rattle.pas_free_log.proofs.Staying.{stays_append, kinds_append, holds_stays}
-use Rattle.pas_free_log.proofs.Silent.{stamps_append}
-use Rattle.pas_free_log.proofs.Pages.{pages_one}
+use Rattle.pas_free_log.proofs.Stamped.{stamps_append}
+use Rattle.pas_free_log.proofs.Pages.{count_one, pages_one}
 
 -- ---- two runs that follow each other
-not_in : (g n x : ℕ) → (x < g) ⊎ (g + n ≤ x) → in_run g n x ≡ false
-not_in g n x (inl lt) = run_below g n x lt
-not_in g n x (inr ge) = run_above g n x ge
+-- the one run and the next are the whole
+join : (a m b n k x : ℕ) → b ≡ a + m → k ≡ m + n → (in_run a m x || in_run b n x) ≡ in_run a k x
+join a m b n k x at whole = grind (arith, nat_tests, at, whole)
 
--- a grain that is none of the whole run is none of either
-outside : (g n x : ℕ) → in_run g n x ≡ false → (x < g) ⊎ (g + n ≤ x)
-outside g n x out = elim (cases_lt x g) [
-  | inl lt ↦ inl lt
-  | inr ge ↦ elim (cases_lt x (g + n)) [ inl lt ↦ absurd (false≢true (sym out ∙ to_run g n x ge lt)) | inr above ↦ inr above ]
-]
+no_run : (g x : ℕ) → in_run g 0 x ≡ false
+no_run g x = grind (arith, nat_tests)
 
-none_first : (g m n x : ℕ) → in_run g (m + n) x ≡ false → in_run g m x ≡ false
-none_first g m n x out = elim (outside g (m + n) x out) [ inl lt ↦ not_in g m x (inl lt) | inr ge ↦ not_in g m x (inr (omega (arith, ge))) ]
+pub back_none : (g : ℕ) → PutsBack g 0 []
+back_none g = record { kinds = tt; stamps = λ v. refl }
 
-none_then : (g m n x : ℕ) → in_run g (m + n) x ≡ false → in_run (g + m) n x ≡ false
-none_then g m n x out = elim (outside g (m + n) x out) [ inl lt ↦ not_in (g + m) n x (inl (omega (arith, lt))) | inr ge ↦ not_in (g + m) n x (inr (omega (arith, ge))) ]
-
-pub back_none : (f : Profile) (g : ℕ) → PutsBack f g 0 []
-back_none f g = record {
-  kinds = tt;
-  stays = λ x out. tt;
-  away = λ v x inside. let r = run_of g 0 x inside in let a = r.0 in let b = r.1 in absurd (omega (arith, a, b));
-  right = λ v agreed page. refl;
-  owes = λ v agreed page none. none;
-  stamped = λ v page h. h;
-  met = λ v x inside. let r = run_of g 0 x inside in let a = r.0 in let b = r.1 in absurd (omega (arith, a, b));
-  epoch = λ v. refl;
-  events = λ k v. refl;
-  stamps = λ v. refl;
-}
+pub none_freed : (g : ℕ) (v : View) → Does (run_freed g 0) v v
+none_freed g v = freed_nothing (in_run g 0) (in_run (g / 256) 0) (does_none v) (no_run g) (no_run (g / 256))
 
 both_stamps : (e : ℕ) (ys xs : List ℕ) → stamps_with e ys ++ stamps_with e xs ≡ stamps_with e (ys ++ xs)
 both_stamps e ys xs = sym (map-append (λ page. (page, e)) ys xs)
-
-pub back_append : (f : Profile) (g m n : ℕ) (ys xs : List Made) → PutsBack f g m xs → PutsBack f (g + m) n ys → pages_met g (m + n) ≡ pages_met (g + m) n ++ pages_met g m → PutsBack f g (m + n) (ys ++ xs)
-back_append f g m n ys xs a b pages = record {
-  kinds = kinds_append ys xs b.kinds a.kinds;
-  stays = λ x out. stays_append x ys xs (b.stays x (none_then g m n x out)) (a.stays x (none_first g m n x out));
-  away = λ v x inside. ap (λ s. holds s x) (append_assoc ys xs v) ∙ elim (cases_lt x (g + m)) [
-    | inl lt ↦ holds_stays x ys (xs ++ v) (b.stays x (not_in (g + m) n x (inl lt))) ∙ a.away v x (let r = run_of g (m + n) x inside in to_run g m x r.0 lt)
-    | inr ge ↦ b.away (xs ++ v) x (let r = run_of g (m + n) x inside in let lt = r.1 in to_run (g + m) n x ge (omega (arith, lt)))
-  ];
-  right = λ v agreed page. ap (λ s. has_right s page) (append_assoc ys xs v) ∙ b.right (xs ++ v) (agreed_first f v ys xs agreed) page ∙ a.right v (agreed_later f v ys xs agreed) page;
-  owes = λ v agreed page none. subst (OwesNothing page) (sym (append_assoc ys xs v)) (b.owes (xs ++ v) (agreed_first f v ys xs agreed) page (a.owes v (agreed_later f v ys xs agreed) page none));
-  stamped = λ v page h. ap (λ s. is_unstamped s page) (append_assoc ys xs v) ∙ b.stamped (xs ++ v) page (a.stamped v page h);
-  met = λ v x inside. ap (λ s. is_unstamped s (x / 256)) (append_assoc ys xs v) ∙ elim (cases_lt x (g + m)) [
-    | inl lt ↦ b.stamped (xs ++ v) (x / 256) (a.met v x (let r = run_of g (m + n) x inside in to_run g m x r.0 lt))
-    | inr ge ↦ b.met (xs ++ v) x (let r = run_of g (m + n) x inside in let lt = r.1 in to_run (g + m) n x ge (omega (arith, lt)))
-  ];
-  epoch = λ v. ap known_epoch (append_assoc ys xs v) ∙ b.epoch (xs ++ v) ∙ a.epoch v;
-  events = λ k v. events_append k ys xs v ∙ ap (λ e. e ++ events_by k v xs) (b.events k (xs ++ v)) ∙ a.events k v;
-  stamps = λ v.
-      stamps_append v ys xs ∙ ap (λ s. s ++ stamps_by v xs) (b.stamps (xs ++ v)) ∙ ap (λ s. stamps_with (epoch_of (xs ++ v)) (pages_met (g + m) n) ++ s) (a.stamps v)
-      ∙ ap (λ o. stamps_with (or_zero o) (pages_met (g + m) n) ++ stamps_with (epoch_of v) (pages_met g m)) (a.epoch v)
-      ∙ both_stamps (epoch_of v) (pages_met (g + m) n) (pages_met g m) ∙ ap (stamps_with (epoch_of v)) (sym pages);
-}
 
 -- ---- the pages so far
 -- the run begins here, or a page does, or nothing is left
@@ -88,7 +46,7 @@ IsBorder g n from = (from ≡ g) ⊎ ((from % 256 ≡ 0) ⊎ (from ≡ g + n))
 count_none : (g n : ℕ) → n ≡ 0 → page_count g n ≡ 0
 count_none g n z = ap (λ k. page_count g k) z
 
-count_some : (g n : ℕ) → 1 ≤ n → page_count g n ≡ (g + n - 1) / 256 - g / 256 + 1
+pub count_some : (g n : ℕ) → 1 ≤ n → page_count g n ≡ (g + n - 1) / 256 - g / 256 + 1
 count_some g n some = ap (λ t. if t then 0 else (g + n - 1) / 256 - g / 256 + 1) (ne_eqb n 0 (λ z. omega (arith, z, some)))
 
 count_at_page : (g from : ℕ) → g ≤ from → from % 256 ≡ 0 → g / 256 + page_count g (from - g) ≡ from / 256
@@ -134,14 +92,23 @@ pages_more g n from next low high border is =
     ap (λ k. pages_from (g / 256) k) (count_next g n from next low high border is) ∙ ap (λ p. p ∷ pages_met g (from - g)) (count_so_far g n from low high border)
     ∙ sym (ap (λ ps. ps ++ pages_met g (from - g)) (pages_one from (next - from) (omega (arith, a)) is.on_page))
 
-pub back_more : (f : Profile) (g n from next : ℕ) (ys xs : List Made) → g ≤ from → from < g + n → IsBorder g n from → IsNextBorder g n from next → PutsBack f g (from - g) xs → PutsBack f from (next - from) ys → PutsBack f g (next - g) (ys ++ xs)
-back_more f g n from next ys xs low high border is a b =
+pub back_more : (g n from next : ℕ) (ys xs : List Made) → g ≤ from → from < g + n → IsBorder g n from → IsNextBorder g n from next → PutsBack g (from - g) xs → PutsBack from (next - from) ys → PutsBack g (next - g) (ys ++ xs)
+back_more g n from next ys xs low high border is a b = record {
+  kinds = only_both putting_back ys xs b.kinds a.kinds;
+  stamps = λ v.
+      stamps_append v ys xs ∙ ap (λ s. s ++ stamps_by v xs) (b.stamps (xs ++ v)) ∙ ap (λ s. stamps_with (epoch_of (xs ++ v)) (pages_met from (next - from)) ++ s) (a.stamps v)
+      ∙ ap (λ o. stamps_with (or_zero o) (pages_met from (next - from)) ++ stamps_with (epoch_of v) (pages_met g (from - g))) (epoch_same putting_back refl xs v a.kinds)
+      ∙ both_stamps (epoch_of v) (pages_met from (next - from)) (pages_met g (from - g)) ∙ ap (stamps_with (epoch_of v)) (sym (pages_more g n from next low high border is));
+}
+
+pub more_freed : {v w u : View} (g n from next : ℕ) → g ≤ from → from < g + n → IsBorder g n from → IsNextBorder g n from next → Does (run_freed g (from - g)) v w → Does (run_freed from (next - from)) w u → Does (run_freed g (next - g)) v u
+more_freed g n from next low high border is d e =
     let some = is.some in
-    let at : from ≡ g + (from - g) = omega (arith, low) in
-    let whole : next - g ≡ from - g + (next - from) = omega (arith, low, some) in
-    let pages : pages_met g (from - g + (next - from)) ≡ pages_met (g + (from - g)) (next - from) ++ pages_met g (from - g)
-    = ap (λ k. pages_met g k) (sym whole) ∙ pages_more g n from next low high border is ∙ ap (λ s. pages_met s (next - from) ++ pages_met g (from - g)) at in
-    subst (λ k. PutsBack f g k (ys ++ xs)) (sym whole) (back_append f g (from - g) (next - from) ys xs a (subst (λ s. PutsBack f s (next - from) ys) at b) pages)
+    let one = count_one from (next - from) (omega (arith, some)) is.on_page in
+    let more = count_next g n from next low high border is in
+    freed_both (in_run g (from - g)) (in_run (g / 256) (page_count g (from - g))) (in_run from (next - from)) (in_run (from / 256) (page_count from (next - from))) (in_run g (next - g)) (in_run (g / 256) (page_count g (next - g))) d e
+    (λ x. join g (from - g) from (next - from) (next - g) x (omega (arith, low)) (omega (arith, low, some)))
+    (λ q. join (g / 256) (page_count g (from - g)) (from / 256) (page_count from (next - from)) (page_count g (next - g)) q (sym (count_so_far g n from low high border)) (omega (arith, one, more)))
 
 first_is : (g n from : ℕ) → g ≤ from → from < g + n → IsBorder g n from → first_on g (from / 256) ≡ from
 first_is g n from low high (inl start) = omega (arith, start)
@@ -163,8 +130,8 @@ meets_more : (g n from k page : ℕ) → g ≤ from → from + k ≤ g + n → m
 meets_more g n from k page low high meets = grind (arith, nat_tests, low, high, meets)
 
 -- what is left of the run may be put back
-pub may_more : (f : Profile) (g n from next : ℕ) (xs : List Made) (v : View) → g ≤ from → IsNextBorder g n from next → PutsBack f g (from - g) xs → MayReturn g n v → MayReturn from (next - from) (xs ++ v)
-may_more f g n from next xs v low is back met =
+pub may_more : (g n from next : ℕ) (xs : List Made) (v : View) → g ≤ from → IsNextBorder g n from next → PutsBack g (from - g) xs → Does (run_freed g (from - g)) v (xs ++ v) → MayReturn g n v → MayReturn from (next - from) (xs ++ v)
+may_more g n from next xs v low is back does met =
     let some = is.some in
     let within = is.within in
     record {
@@ -172,9 +139,10 @@ may_more f g n from next xs v low is back met =
           let r = run_of from (next - from) x inside in
           let a = r.0 in
           let b = r.1 in
-          holds_stays x xs v (back.stays x (not_in g (from - g) x (inr (omega (arith, a, low))))) ∙ met.held x (to_run g n x (omega (arith, a, low)) (omega (arith, b, some, within)));
+          does.held x ∙ ap (λ t. now (if t then Lost else Kept) (holds v x)) (run_above g (from - g) x (omega (arith, a, low))) ∙ met.held x (to_run g n x (omega (arith, a, low)) (omega (arith, b, some, within)));
       ended = λ page meets. once_later (λ m before. ends_on m.step m.answer page ≡ true) xs v (met.ended page (meets_more g n from (next - from) page low (omega (arith, some, within)) meets));
-      epoch = subst IsEpochKnown (sym (back.epoch v)) met.epoch;
+      examined = λ page meets. unexamined_over putting_back refl page xs v back.kinds (met.examined page (meets_more g n from (next - from) page low (omega (arith, some, within)) meets));
+      epoch = subst IsEpochKnown (sym (epoch_same putting_back refl xs v back.kinds)) met.epoch;
     }
 
 pub on_page : (f : Profile) (g n from next : ℕ) → IsRun f g n → g ≤ from → from < g + n → IsNextBorder g n from next → IsRunOnPage f from (next - from)

@@ -1,7 +1,5 @@
-pub mod Staying
-pub mod Masks
+pub mod Stamped
 pub mod Tries
-pub mod Silent
 pub mod Pages
 pub mod Blocks
 pub mod Idle

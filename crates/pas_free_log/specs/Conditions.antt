@@ -4,7 +4,7 @@ use Rattle.pas_profile.specs.Profiles.{IsPage}
 use Rattle.pas_profile.specs.declared.profile.Profile.{Profile}
 use Rattle.pas_profile.specs.declared.name.Name.{Name}
 use Rattle.pas_profile.specs.Runs.{address_of}
-use Rattle.pas_steps.specs.Views.{View, known_epoch}
+use Rattle.pas_steps.specs.Views.{View, known_epoch, examines}
 use Rattle.pas_steps.specs.Allowed.{IsEpochKnown}
 
 -- The end of this name may be tried: its address is a multiple of 16 on a page of the region, and its turn has a next one.
@@ -16,6 +16,11 @@ pub record IsNameOf (f : Profile) (name : Name) : Type 0 where
 -- the actor read the epoch
 abbrev pub KnowsEpoch : View → Type 0
 KnowsEpoch v = IsEpochKnown (known_epoch v)
+
+-- .. and examines no page
+pub record MayEnd (v : View) : Type 0 where
+  pub epoch : KnowsEpoch v
+  pub examined : (page : ℕ) → examines v page ≡ false
 
 -- a run of some grains of the region
 pub record IsRun (f : Profile) (g n : ℕ) : Type 0 where

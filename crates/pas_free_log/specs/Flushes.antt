@@ -1,20 +1,21 @@
 -- The flush of a log.
-use Rattle.std.specs.Prelude.{ℕ, ◌≡◌, ◌≢◌, true, List, [], ◌∷◌, ◌++◌, map, reverse, Some}
+use Rattle.std.specs.Prelude.{ℕ, ◌≡◌, List, [], ◌∷◌, ◌++◌, map, reverse, Some}
 use Rattle.std.specs.List.{flat_map}
 use Rattle.pas_profile.specs.declared.name.Name.{Name}
 use Rattle.pas_profile.specs.declared.word.Word.TheVariants as Word
 use Rattle.pas_profile.specs.declared.event.Event.{Event}
 use Rattle.pas_profile.specs.Runs.{grain_of}
-use Rattle.pas_steps.specs.Views.{View, holds, has_right, known_deed, knows_backed, known_epoch, epoch_of}
+use Rattle.pas_steps.specs.Views.{View, known_epoch, epoch_of}
 use Rattle.pas_steps.specs.Events.{reason_of, events_by}
-use Rattle.pas_steps.specs.Agreement.{Agreed}
-use Rattle.pas_steps.specs.Desks.{Standing, Adds, made}
+use Rattle.pas_steps.specs.Calls.{nothing, Does, Calls}
+use Rattle.pas_steps.specs.Kinds.{Only}
+use Rattle.pas_steps.specs.Desks.{Standing, made}
 use Rattle.pas_steps.specs.declared.step.Made.{Made}
 use Rattle.pas_steps.specs.declared.step.Step.TheVariants.{Look}
 use Rattle.pas_steps.specs.Clear.{IsClear}
-use Rattle.pas_free_log.specs.Conditions.{KnowsEpoch}
+use Rattle.pas_free_log.specs.Conditions.{MayEnd}
 use Rattle.pas_free_log.specs.Stamps.{stamps_by, pages_met, stamps_with}
-use Rattle.pas_free_log.specs.Frames.{AreFreeing, Restores}
+use Rattle.pas_free_log.specs.Frames.{ending, freeing}
 use Rattle.pas_free_log.specs.Endings.{EndSteps}
 use Rattle.pas_free_log.specs.Returns.{RunSteps}
 use Rattle.pas_free_log.specs.declared.ending.Outcome.{Outcome}
@@ -55,12 +56,13 @@ pub record EntrySteps (entry : Settled) (steps : List Made) : Type 0 where
   pub returns : AfterEnd entry.name entry.outcome after
   pub steps_are : steps ≡ after ++ ends
 
+-- the actor is as it was then
 pub record EndsEntry (name : Name) (desk desk' : Standing) : Type 0 where
   pub outcome : Outcome
   pub steps : List Made
-  pub adds : Adds desk desk' (λ v l. KnowsEpoch v) steps
+  pub calls : Calls desk desk' MayEnd (Does nothing) steps
+  pub kinds : Only ending steps
   pub order : EntrySteps record { name = name; outcome = outcome } steps
-  pub restores : Restores desk.seat.profile steps
   pub event : (v : View) → events_by desk.seat.actor v steps ≡ event_for desk.seat.actor (epoch_of v) name outcome ∷ []
   pub stamps : (v : View) → stamps_by v steps ≡ stamps_by_outcome (epoch_of v) name outcome
 
@@ -72,8 +74,7 @@ EntriesSteps (entry ∷ earlier) steps = (piece : List Made) × (before : List M
 
 -- A flush of these names: a look at the epoch, and then the steps for each name in order. `settled` has what came of each, the newest first.
 -- Each makes one event, with the epoch that was read; each page of each block that ended is stamped once with it, and no other page.
--- The actor holds the grains and has the rights that it had before, and is clear again. It knows the deeds that it knew, and the pages as
--- backed that it knew as backed.
+-- The actor is as it was: it holds the grains and has the rights that it had, is clear where it was, and knows as backed what it knew so.
 pub record Flushes (names : List Name) (desk desk' : Standing) : Type 0 where
   pub epoch : ℕ
   pub settled : List Settled
@@ -82,13 +83,8 @@ pub record Flushes (names : List Name) (desk desk' : Standing) : Type 0 where
   pub entries : List Made
   pub order : EntriesSteps settled entries
   pub steps_are : steps ≡ entries ++ (made (Look Word.Epoch) epoch ∷ [])
-  pub adds : Adds desk desk' (λ v l. IsClear v) steps
-  pub kinds : AreFreeing steps
+  pub calls : Calls desk desk' IsClear (Does nothing) steps
+  pub kinds : Only freeing steps
   pub events : (v : View) → events_by desk.seat.actor v steps ≡ map (shown_for desk.seat.actor epoch) settled
   pub stamps : (v : View) → stamps_by v steps ≡ flat_map (stamps_for epoch) settled
-  pub held : (v : View) → Agreed desk.seat.profile v steps → (x : ℕ) → holds (steps ++ v) x ≡ holds v x
-  pub right : (v : View) → Agreed desk.seat.profile v steps → (page : ℕ) → has_right (steps ++ v) page ≡ has_right v page
-  pub clear : (v : View) → Agreed desk.seat.profile v steps → IsClear v → IsClear (steps ++ v)
-  pub backed : (v : View) → Agreed desk.seat.profile v steps → (page : ℕ) → knows_backed v page ≡ true → knows_backed (steps ++ v) page ≡ true
-  pub deeds : (v : View) → Agreed desk.seat.profile v steps → (page : ℕ) → known_deed v page ≢ 0 → known_deed (steps ++ v) page ≡ known_deed v page
   pub epoch_known : (v : View) → known_epoch (steps ++ v) ≡ Some epoch

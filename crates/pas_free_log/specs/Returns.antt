@@ -4,63 +4,44 @@ use Rattle.pas_profile.specs.Directories.{deed_word_of}
 use Rattle.pas_profile.specs.declared.directory.Directory.{Directory}
 use Rattle.pas_profile.specs.declared.word.Word.TheVariants as Word
 use Rattle.pas_profile.specs.Runs.{in_run, meets_page}
-use Rattle.pas_steps.specs.Views.{View, holds, is_unstamped, EndedOn}
-use Rattle.pas_steps.specs.Desks.{Standing, Adds, made}
-use Rattle.pas_steps.specs.Past.{Always}
+use Rattle.pas_steps.specs.Views.{View, holds, examines, EndedOn}
+use Rattle.pas_steps.specs.Desks.{Standing, made}
+use Rattle.pas_steps.specs.Calls.{Does, Calls}
 use Rattle.pas_steps.specs.declared.step.Made.{Made}
-use Rattle.pas_steps.specs.declared.step.Step.{Step}
-use Rattle.pas_steps.specs.declared.step.Step.TheVariants.{Look, Put, Stamp}
-use Rattle.pas_rights.specs.Rights.{ReturnSteps}
+use Rattle.pas_steps.specs.declared.step.Step.TheVariants.{Look, Stamp}
+use Rattle.pas_rights.specs.Puts.{masked, PutsBelow}
+use Rattle.pas_rights.specs.Returns.{ReturnSteps}
+use Rattle.pas_bits.specs.declared.mask.Mask4.{Mask4}
 use Rattle.pas_free_log.specs.Conditions.{KnowsEpoch}
 use Rattle.pas_free_log.specs.Stamps.{page_count}
-use Rattle.pas_free_log.specs.Frames.{StaysAt, PutsBack}
-
--- ---- grains of one page
-pub record MayPutRun (g n : ℕ) (v : View) : Type 0 where
-  pub held : (x : ℕ) → in_run g n x ≡ true → holds v x ≡ true
-  pub stamped : is_unstamped v (g / 256) ≡ false
-
--- the step puts grains of the page back
-pub data IsPut (page : ℕ) : Step → Type 0 where
-  Puts : (word mask : ℕ) → IsPut page (Put page word mask)
-
-abbrev pub OnlyPuts : ℕ → List Made → Type 0
-OnlyPuts page = Always (λ m before. IsPut page m.step)
-
--- puts on the page of the run, at most one for each of its four free words, which put exactly the grains of the run
-pub record PutSteps (g n : ℕ) (steps : List Made) : Type 0 where
-  pub puts : OnlyPuts (g / 256) steps
-  pub few : length steps ≤ 4
-  pub stays : (x : ℕ) → in_run g n x ≡ false → StaysAt x steps
-  pub away : (v : View) (x : ℕ) → in_run g n x ≡ true → holds (steps ++ v) x ≡ false
-
-pub record PutsRun (g n : ℕ) (desk desk' : Standing) : Type 0 where
-  pub steps : List Made
-  pub adds : Adds desk desk' (λ v l. MayPutRun g n v) steps
-  pub order : PutSteps g n steps
+use Rattle.pas_free_log.specs.Frames.{run_freed, PutsBack}
 
 -- ---- a page of a block that ended
--- the actor holds the grains of the run, ended a block on each of its pages, and read the epoch
+-- the actor holds the grains of the run, ended a block on each of its pages, examines none of them, and read the epoch
 pub record MayReturn (g n : ℕ) (v : View) : Type 0 where
   pub held : (x : ℕ) → in_run g n x ≡ true → holds v x ≡ true
   pub ended : (page : ℕ) → meets_page g n page ≡ true → EndedOn v page
+  pub examined : (page : ℕ) → meets_page g n page ≡ true → examines v page ≡ false
   pub epoch : KnowsEpoch v
 
 -- The steps for a run on one page: a look at its deed word, the stamp, and only then the grains are put back; and then what is owed on the page.
 pub record PageSteps (g n : ℕ) (steps : List Made) : Type 0 where
   pub directory : Directory
   pub stamped : ℕ
+  pub mask : Mask4
+  pub grains : (x : ℕ) → masked (g / 256) mask x ≡ in_run g n x
   pub puts : List Made
-  pub order : PutSteps g n puts
+  pub order : PutsBelow (g / 256) mask 4 puts
   pub after : List Made
   pub returns : ReturnSteps (g / 256) directory after
   pub steps_are : steps ≡ after ++ (puts ++ (made (Stamp (g / 256)) stamped ∷ made (Look (Word.Deed (g / 256))) (deed_word_of directory) ∷ []))
 
 pub record ReturnsPage (g n : ℕ) (desk desk' : Standing) : Type 0 where
   pub steps : List Made
-  pub adds : Adds desk desk' (λ v l. MayReturn g n v) steps
+  pub calls : Calls desk desk' (MayReturn g n) (Does (run_freed g n)) steps
   pub order : PageSteps g n steps
-  pub back : PutsBack desk.seat.profile g n steps
+  pub back : PutsBack g n steps
+  pub few : length steps ≤ 14
 
 -- ---- all pages of the block
 -- the part of the run of n grains from g that lies on a page: its first grain, and how many there are
@@ -80,6 +61,6 @@ RunSteps g n steps = PagesSteps (page_count g n) g n steps
 
 pub record ReturnsRun (g n : ℕ) (desk desk' : Standing) : Type 0 where
   pub steps : List Made
-  pub adds : Adds desk desk' (λ v l. MayReturn g n v) steps
+  pub calls : Calls desk desk' (MayReturn g n) (Does (run_freed g n)) steps
   pub order : RunSteps g n steps
-  pub back : PutsBack desk.seat.profile g n steps
+  pub back : PutsBack g n steps

@@ -3,7 +3,7 @@ ghost use Rattle.std.specs.Prelude.{◌≡◌, ◌≤◌, ◌+◌, [], All, leng
 ghost use Rattle.pas_steps.specs.Desks.{CanCall};
 ghost use Rattle.pas_free_log.specs.Logs.{names_in};
 ghost use Rattle.pas_steps.specs.Clear.{IsClear};
-ghost use Rattle.pas_free_log.specs.Conditions.{IsNameOf, KnowsEpoch};
+ghost use Rattle.pas_free_log.specs.Conditions.{IsNameOf, MayEnd};
 ghost use Rattle.pas_free_log.specs.Flushes.{EndsEntry, Flushes};
 
 use crate::ending::{Outcome, end_named};
@@ -16,7 +16,7 @@ use pas_steps::Desk;
 fn end_entry<D: Desk>(desk: &mut D, name: Name)
     requires name { IsNameOf (D.standing desk.old).seat.profile name }
     requires room { 1 ≤ D.spare_of desk.old }
-    requires can { CanCall (D.standing desk.old) (λ v l. KnowsEpoch v) }
+    requires can { CanCall (D.standing desk.old) (λ v l. MayEnd v) }
     ensures ends { EndsEntry name (D.standing desk.old) (D.standing desk.new) }
     ensures spare { D.spare_of desk.new + 1 ≡ D.spare_of desk.old }
     ensures home { D.home desk.new ≡ D.home desk.old }

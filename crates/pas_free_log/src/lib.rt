@@ -4,7 +4,6 @@
 mod ending;
 mod flushing;
 mod log;
-mod putting;
 mod returning;
 #[cfg(test)]
 mod tests;

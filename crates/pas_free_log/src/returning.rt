@@ -4,9 +4,9 @@ ghost use Rattle.pas_steps.specs.Desks.{CanCall};
 ghost use Rattle.pas_free_log.specs.Conditions.{IsRun, IsRunOnPage};
 ghost use Rattle.pas_free_log.specs.Returns.{MayReturn, ReturnsPage, ReturnsRun};
 
-use crate::putting::put_run;
+use pas_bits::Mask4;
 use pas_profile::{Word, read_deed};
-use pas_rights::returned;
+use pas_rights::{put_mask, returned};
 use pas_steps::Desk;
 
 /// Stamps the page of the run, puts the run's grains back, and ends what is owed on the page. At most fourteen steps.
@@ -23,7 +23,7 @@ fn return_page<D: Desk>(desk: &mut D, grain: u32, grains: u32)
         unreachable!();
     };
     desk.stamp(page);
-    put_run(desk, grain, grains);
+    put_mask(desk, page, &Mask4::run((grain % 256) as u8, grains as u16));
     returned(desk, page, directory);
 }
 

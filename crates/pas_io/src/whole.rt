@@ -1,5 +1,5 @@
 //! Reading and writing whole texts.
-ghost use Rattle.std.specs.Prelude.{◌≡◌, ◌<◌, ◌≤◌, ◌+◌, ◌^◌, ℕ, List, Some, length, IfOk, OnOk, OnErr, IsErrOf};
+ghost use Rattle.std.specs.Prelude.{◌≡◌, ◌<◌, ◌≤◌, ◌+◌, ◌-◌, ◌^◌, ℕ, List, Some, length, IfOk, OnOk, OnErr, IsErrOf};
 ghost use Rattle.pas_io.specs.Told.{Rose, Writes, WritesFront};
 ghost use Rattle.pas_io.specs.Inputs.{HasRead, IsInput, IsShort, Takes};
 
@@ -28,6 +28,7 @@ fn fill<S: Source>(source: &mut S, buffer: &mut [u8], start: usize) -> Result<us
     ensures reads { IfOk result (λ n. (told : List ℕ) → HasRead told (S.rest source.old) buffer.old start → HasRead told (S.rest source.new) buffer.new n) }
     ensures all { IfOk result (λ n. n < length buffer.old → (told : List ℕ) → HasRead told (S.rest source.old) buffer.old start → n ≡ length told) }
     ensures takes { (told : List ℕ) → HasRead told (S.rest source.old) buffer.old start → Takes told (S.rest source.new) (length buffer.old) }
+    ensures stopped { OnErr result ((told : List ℕ) → HasRead told (S.rest source.old) buffer.old start → Takes told (S.rest source.new) (length buffer.old - 1)) }
     ensures failed { OnErr result (Rose (S.faults source.old) (S.faults source.new)) }
     ensures count { S.faults source.old ≤ S.faults source.new }
 {
@@ -85,6 +86,7 @@ pub fn read_all<S: Source>(alloc: Global, source: &mut S, most: usize) -> Result
     ensures input { IfOk result (λ input. (told : List ℕ) → S.rest source.old ≡ Some told → IsInput most told input) }
     ensures short { IfOk result (IsShort most) }
     ensures takes { (told : List ℕ) → S.rest source.old ≡ Some told → Takes told (S.rest source.new) (most + 1) }
+    ensures stopped { IsErrOf result Stop.Fault → (told : List ℕ) → S.rest source.old ≡ Some told → Takes told (S.rest source.new) most }
     ensures fault { IsErrOf result Stop.Fault → Rose (S.faults source.old) (S.faults source.new) }
     ensures count { S.faults source.old ≤ S.faults source.new }
 {

@@ -24,8 +24,9 @@ use Rattle.pas_steps.proofs.Parts.{part_of_own, part_of_others}
 use Rattle.pas_core.specs.Stamps.{AllStamped, KeepsToEnds, AllKeepToEnds, Keeps}
 use Rattle.pas_core.proofs.StampedEnds.{stamps_are_ends}
 use Rattle.pas_rights.proofs.Orders.{return_returns}
+use Rattle.pas_rights.proofs.Puts.{puts_kinds}
 use Rattle.pas_free_log.specs.Endings.{guess_by, Tries, IsEndOf, EndSteps}
-use Rattle.pas_free_log.specs.Returns.{IsPut, OnlyPuts, PageSteps, PagesSteps, first_on, count_on}
+use Rattle.pas_free_log.specs.Returns.{PageSteps, PagesSteps, first_on, count_on}
 use Rattle.pas_free_log.specs.Stamps.{page_count}
 use Rattle.pas_free_log.specs.Flushes.{Settled, AfterEnd, EntrySteps, EntriesSteps}
 use Rattle.pas_free_log.specs.declared.ending.Outcome.{Outcome}
@@ -34,7 +35,7 @@ use Rattle.pas_free_log.proofs.Idle.{not_live}
 use Rattle.pas_segregated.specs.declared.slots.Slots.{Slots}
 use Rattle.pas_cache.specs.Caches.{Cached}
 use Rattle.pas_cache.specs.Changes.{StopsAll, EmptiesLog, EmptiesFull}
-use Rattle.pas_steps.specs.Kinds.{Only, kind_of, is_in}
+use Rattle.pas_steps.specs.Kinds.{Only, kind_of, is_in, Putting}
 use Rattle.pas_cache.specs.Kinds.{releasing, allocating}
 use Rattle.pas_cache.proofs.Below.{stop_only}
 use Rattle.pas_steps.proofs.Apart.{only_within, unstamped_same}
@@ -80,14 +81,16 @@ allocating_done steps v are h = record { keeps = allocating_keep steps v are h; 
 return_keeps : (p : ℕ) (s : Step) (v : View) → IsReturn p s → KeepsToEnds v s
 return_keeps p s v IsReturn.Hints = tt
 return_keeps p s v step = tt
+
 return_stamps : (p : ℕ) (s : Step) (a q : ℕ) (was : Bool) → IsReturn p s → unstamped_after s a q was ≡ was
 return_stamps p s a q was IsReturn.Hints = refl
 return_stamps p s a q was step = refl
-put_keeps : (p : ℕ) (s : Step) (v : View) → IsPut p s → KeepsToEnds v s
-put_keeps p s v (IsPut.Puts w mask) = tt
 
-put_stamps : (p : ℕ) (s : Step) (a q : ℕ) (was : Bool) → IsPut p s → unstamped_after s a q was ≡ was
-put_stamps p s a q was (IsPut.Puts w mask) = refl
+put_keeps : (s : Step) (v : View) → is_in (Putting ∷ []) (kind_of s) ≡ true → KeepsToEnds v s
+put_keeps (Look Word.Epoch) v h = absurd (false≢true h)
+put_keeps (Stamp q) v h = absurd (false≢true h)
+put_keeps (Tick up) v h = absurd (false≢true h)
+put_keeps s v h = tt
 
 returns_keep : (p : ℕ) (steps : List Made) (v : View) → OnlyReturns p steps → Keeps v steps
 returns_keep p [] v h = tt
@@ -97,13 +100,9 @@ returns_stamp : (p q : ℕ) (steps : List Made) (v : View) → OnlyReturns p ste
 returns_stamp p q [] v h = refl
 returns_stamp p q (m ∷ more) v h = return_stamps p m.step m.answer q (is_unstamped (more ++ v) q) h.0 ∙ returns_stamp p q more v h.1
 
-puts_keep : (p : ℕ) (steps : List Made) (v : View) → OnlyPuts p steps → Keeps v steps
-puts_keep p [] v h = tt
-puts_keep p (m ∷ more) v h = (put_keeps p m.step (more ++ v) h.0, puts_keep p more v h.1)
-
-puts_stamp : (p q : ℕ) (steps : List Made) (v : View) → OnlyPuts p steps → is_unstamped (steps ++ v) q ≡ is_unstamped v q
-puts_stamp p q [] v h = refl
-puts_stamp p q (m ∷ more) v h = put_stamps p m.step m.answer q (is_unstamped (more ++ v) q) h.0 ∙ puts_stamp p q more v h.1
+puts_keep : (steps : List Made) (v : View) → Only (Putting ∷ []) steps → Keeps v steps
+puts_keep [] v h = tt
+puts_keep (m ∷ more) v h = (put_keeps m.step (more ++ v) h.0, puts_keep more v h.1)
 
 -- the steps for a page that is unstamped: afterwards it isn't, and the others are as they were
 record PageDone (p : ℕ) (v : View) (steps : List Made) : Type 0 where
@@ -114,10 +113,11 @@ page_done : (g n : ℕ) (steps : List Made) (v : View) → PageSteps g n steps �
 page_done g n steps v h un =
     let first : List Made = made (Stamp (g / 256)) h.stamped ∷ made (Look (Word.Deed (g / 256))) (deed_word_of h.directory) ∷ [] in
     let after : OnlyReturns (g / 256) h.after = return_returns (g / 256) h.directory h.after h.returns in
+    let puts : Only (Putting ∷ []) h.puts = puts_kinds (g / 256) h.mask 4 h.puts h.order in
     subst (PageDone (g / 256) v) (sym h.steps_are) record {
-      keeps = keeps_append h.after (h.puts ++ first) v (keeps_append h.puts first v (un, (tt, tt)) (puts_keep (g / 256) h.puts (first ++ v) h.order.puts)) (returns_keep (g / 256) h.after ((h.puts ++ first) ++ v) after);
+      keeps = keeps_append h.after (h.puts ++ first) v (keeps_append h.puts first v (un, (tt, tt)) (puts_keep h.puts (first ++ v) puts)) (returns_keep (g / 256) h.after ((h.puts ++ first) ++ v) after);
       stamps = λ q. ap (λ u. is_unstamped u q) (append_assoc h.after (h.puts ++ first) v) ∙ returns_stamp (g / 256) q h.after ((h.puts ++ first) ++ v) after
-          ∙ ap (λ u. is_unstamped u q) (append_assoc h.puts first v) ∙ puts_stamp (g / 256) q h.puts (first ++ v) h.order.puts;
+          ∙ ap (λ u. is_unstamped u q) (append_assoc h.puts first v) ∙ unstamped_same (Putting ∷ []) refl q h.puts (first ++ v) puts;
     }
 
 -- of the pages that the run meets just those from the kth on are unstamped

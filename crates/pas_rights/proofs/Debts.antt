@@ -16,7 +16,9 @@ use Rattle.pas_steps.specs.Desks.{made}
 use Rattle.pas_steps.specs.declared.step.Made.{Made}
 use Rattle.pas_steps.specs.declared.step.Step.TheVariants.{Look, Offer, Park, Unpark}
 use Rattle.pas_steps.proofs.Adding.{agreed_first, agreed_later}
-use Rattle.pas_rights.specs.Rights.{looks, any_usable, are_all_ones, LookedUntilUsed, HintSteps, HintsWhere, ReofferSteps, ReoffersWhere, EndsLeave, LeaveSteps, ReturnSteps}
+use Rattle.pas_rights.specs.Leaves.{ReoffersWhere, EndsLeave, LeaveSteps}
+use Rattle.pas_rights.specs.Returns.{ReofferSteps, ReturnSteps}
+use Rattle.pas_rights.specs.Looks.{looks, any_usable, are_all_ones, LookedUntilUsed, HintSteps, HintsWhere}
 use Rattle.pas_steps.specs.Clear.{OwesNothing}
 use Rattle.pas_rights.proofs.Looks.{below_at, full_bit}
 use Rattle.pas_rights.proofs.Orders.{right_looks, deed_looks, same_page, ends, gets_none, offered_on, parked_on, left_on, returned_on}

@@ -1,29 +1,63 @@
 -- The promises of the calls, put together from those of their parts.
-use Rattle.std.proofs.Common.{ℕ, Bool, List, [], ◌∷◌, ◌++◌, refl, ap, ◌∙◌, subst, append_assoc}
+use Rattle.std.proofs.Common.{ℕ, Bool, List, [], ◌∷◌, ◌++◌, refl, ap, ◌∙◌, subst, append_assoc, ◌≡◌, ◌==◌, true, false, if◌then◌else◌, inl}
 use Rattle.pas_profile.specs.Directories.{IsDirectory}
 use Rattle.pas_profile.specs.declared.directory.Directory.{Directory}
-use Rattle.pas_steps.specs.Views.{View, known_deed, KnowsDeed}
+use Rattle.pas_steps.specs.Views.{View, known_deed, KnowsDeed, has_right, is_unstamped, examines}
 use Rattle.pas_steps.specs.Desks.{Anything, Standing, Adds, made}
 use Rattle.pas_steps.specs.declared.step.Made.{Made}
 use Rattle.pas_steps.specs.declared.step.Step.TheVariants.{Park}
 use Rattle.pas_steps.proofs.Adding.{adds_call, adds_under}
-use Rattle.pas_rights.specs.Rights.{MayLeave, looks, any_usable, are_all_ones, Sees, SeesUntilUsed, EndsLeave, LeaveSteps, HintsWhere, ReoffersPage, ReturnSteps, Leaves, Returned}
-use Rattle.pas_rights.proofs.Orders.{right_looks, deed_looks, leave_returns, leave_loses, return_returns}
+use Rattle.pas_rights.specs.Leaves.{MayLeave, EndsLeave, LeaveSteps, Leaves}
+use Rattle.pas_rights.specs.Returns.{ReoffersPage, ReturnSteps, Returned, Settles}
+use Rattle.pas_rights.specs.Looks.{looks, any_usable, are_all_ones, Sees, SeesUntilUsed, HintsWhere}
+use Rattle.pas_rights.proofs.Orders.{right_looks, deed_looks, leave_returns, leave_loses, return_returns, leave_few, return_few}
 use Rattle.pas_rights.proofs.Debts.{leave_owes, leave_lacks, return_owes, return_right}
+use Rattle.std.proofs.lemmas.Bool.{eqb-true}
+use Rattle.pas_profile.specs.declared.profile.Profile.{Profile}
+use Rattle.pas_steps.specs.Agreement.{Agreed}
+use Rattle.pas_steps.specs.Calls.{Fate, Kept, Gained, Lost, now, Does, ClearAfter, on_page}
+use Rattle.pas_steps.specs.Clear.{OwesNothing, IsClearOn}
+use Rattle.pas_steps.specs.Frames.{OnlyReturns}
+use Rattle.pas_steps.specs.Kinds.{returning}
+use Rattle.pas_steps.proofs.Apart.{unstamped_same}
+use Rattle.pas_steps.proofs.Calls.{does_as, does_returns, returns_are}
+use Rattle.pas_steps.proofs.Kept.{examined_on, returns_on}
 
 -- after looks the page may still be left
 pub may_still : (p : ℕ) (d : Directory) (answers : List ℕ) (v : View) → MayLeave p d v → MayLeave p d (looks p answers ++ v)
 may_still p d answers v met = record { right = right_looks p p answers v ∙ met.right; deed = deed_looks p p answers v ∙ met.deed }
 
+-- steps of a return or a leave, with what they come to
+settles : (f : Profile) (p : ℕ) (r : Fate) (steps : List Made) (v : View) → OnlyReturns p steps → Agreed f v steps → has_right (steps ++ v) p ≡ now r (has_right v p) → OwesNothing p (steps ++ v) → Settles p r v (steps ++ v)
+settles f p r steps v only agreed right owes =
+    let clear : is_unstamped v p ≡ false → examines v p ≡ false → IsClearOn p (steps ++ v) = λ stamped examined. record {
+      stamped = unstamped_same returning refl p steps v (returns_are p steps only) ∙ stamped;
+      owes = owes;
+      examined = examined_on p p steps v (returns_on p steps only) examined;
+    } in
+    record { does = does_returns f p r Kept steps v only agreed right (λ is. clear is.stamped is.examined); owes = owes; clear = clear }
+
+clear_at : (p q : ℕ) (t : Bool) (v w : View) → (p == q) ≡ t → IsClearOn p w → ClearAfter (if t then Kept else Kept) q v w → ClearAfter (if t then Gained else Kept) q v w
+clear_at p q true v w e here h = subst (λ x. IsClearOn x w) (eqb-true p q e) here
+clear_at p q false v w e here h = h
+
+-- a page that was neither unstamped nor examined is clear then
+pub settled_clear : {v w : View} (p : ℕ) (r : Fate) → Settles p r v w → is_unstamped v p ≡ false → examines v p ≡ false → Does (on_page p r Gained) v w
+settled_clear {v} {w} p r s stamped examined = does_as (on_page p r Gained) s.does (λ x. inl refl) (λ q. refl) (λ q. clear_at p q (p == q) v w refl (s.clear stamped examined))
+
 leaves : {σ σ' : Standing} (p : ℕ) (d : Directory) (steps : List Made) → IsDirectory d → Adds σ σ' (λ v l. MayLeave p d v) steps → LeaveSteps p d steps → Leaves p d σ σ'
 leaves {σ} {σ'} p d steps is adds order = record {
   steps = steps;
-  adds = adds;
+  calls = record {
+    adds = adds;
+    leads = record {
+      from = λ v met agreed. settles σ.seat.profile p Lost steps v (leave_returns p d steps order) agreed (leave_lacks p d steps v order) (leave_owes σ.seat.profile p d steps v is order agreed met.deed);
+    };
+  };
   order = order;
   returns = leave_returns p d steps order;
   left = leave_loses p d steps order;
-  right = λ v. leave_lacks p d steps v order;
-  owes = λ v agreed met. leave_owes σ.seat.profile p d steps v is order agreed met.deed;
+  few = leave_few p d steps order;
 }
 
 -- the looks, and the end that they call for
@@ -42,12 +76,17 @@ knows_parked p d k later v knows = ap (λ s. known_deed s p) (append_assoc (look
 -- the steps after grains were put back
 pub returned_by : {σ σ1 σ2 σ3 : Standing} {all_free : Bool} (p : ℕ) (d : Directory) → (r : ReoffersPage p d σ σ1) → (s : SeesUntilUsed p σ1 σ2 all_free) → (after : List Made) → Adds σ2 σ3 Anything after → HintsWhere all_free p after → Returned p d σ σ3
 returned_by {σ} {σ1} {σ2} {σ3} {all_free} p d r s after adds hints =
-    let order : ReturnSteps p d (after ++ (looks p s.answers ++ r.steps)) = record { first = r.steps; reoffers = r.order; answers = s.answers; all_free = all_free; looked = s.looked; after = after; hints = hints; steps_are = refl } in
+    let steps = after ++ (looks p s.answers ++ r.steps) in
+    let order : ReturnSteps p d steps = record { first = r.steps; reoffers = r.order; answers = s.answers; all_free = all_free; looked = s.looked; after = after; hints = hints; steps_are = refl } in
     record {
-      steps = after ++ (looks p s.answers ++ r.steps);
-      adds = adds_call (adds_call r.adds s.adds (λ v l stood met. tt)) adds (λ v l stood met. tt);
+      steps = steps;
+      calls = record {
+        adds = adds_call (adds_call r.adds s.adds (λ v l stood met. tt)) adds (λ v l stood met. tt);
+        leads = record {
+          from = λ v met agreed. settles σ.seat.profile p Kept steps v (return_returns p d steps order) agreed (return_right σ.seat.profile p d steps v order agreed) (return_owes σ.seat.profile p d steps v order agreed);
+        };
+      };
       order = order;
-      returns = return_returns p d (after ++ (looks p s.answers ++ r.steps)) order;
-      right = λ v agreed. return_right σ.seat.profile p d (after ++ (looks p s.answers ++ r.steps)) v order agreed;
-      owes = λ v agreed. return_owes σ.seat.profile p d (after ++ (looks p s.answers ++ r.steps)) v order agreed;
+      returns = return_returns p d steps order;
+      few = return_few p d steps order;
     }

@@ -14,7 +14,7 @@ use Rattle.pas_steps.specs.Views.{all_ones, usable_by, usable_by_kind, all_below
 use Rattle.pas_steps.specs.Desks.{Anything, Standing, Makes, Adds}
 use Rattle.pas_steps.specs.declared.step.Step.TheVariants.{Look}
 use Rattle.pas_steps.proofs.Adding.{adds_step}
-use Rattle.pas_rights.specs.Rights.{looks, any_usable, are_all_ones}
+use Rattle.pas_rights.specs.Looks.{looks, any_usable, are_all_ones}
 
 -- one look more
 pub more_looks : {σ σ' σ'' : Standing} (page : ℕ) (answers : List ℕ) (a w : ℕ) → length answers ≡ w

@@ -1,5 +1,5 @@
 -- What each step of these calls asks, and how their steps stand in order.
-use Rattle.std.proofs.Common.{◌≡◌, ◌≢◌, ℕ, ◌%◌, ◌==◌, Bool, true, false, ◌&&◌, if◌then◌else◌, inl, inr, List, [], ◌∷◌, ◌++◌, length, refl, ap, sym, ◌∙◌, subst, append_assoc}
+use Rattle.std.proofs.Common.{◌≡◌, ◌≢◌, ℕ, ◌%◌, ◌==◌, Bool, true, false, ◌&&◌, if◌then◌else◌, inl, inr, List, [], ◌∷◌, ◌++◌, length, refl, ap, sym, ◌∙◌, subst, append_assoc, suc, ◌+◌, ◌≤◌, length-append, arith}
 use Rattle.std.proofs.lemmas.Bool.{eq-eqb}
 use Rattle.pas_profile.specs.Classes.{has_bit}
 use Rattle.pas_profile.specs.declared.directory.Directory.{Directory}
@@ -11,7 +11,9 @@ use Rattle.pas_steps.specs.Desks.{made}
 use Rattle.pas_steps.specs.declared.step.Made.{Made}
 use Rattle.pas_steps.specs.declared.step.Step.TheVariants.{Offer, Park}
 use Rattle.pas_steps.proofs.Past.{once_later, always_both}
-use Rattle.pas_rights.specs.Rights.{looks, any_usable, are_all_ones, HintsWhere, ReofferSteps, ReoffersWhere, OfferSteps, ParkSteps, EndsLeave, LeaveSteps, ReturnSteps, LosesHere}
+use Rattle.pas_rights.specs.Leaves.{ReoffersWhere, OfferSteps, ParkSteps, EndsLeave, LeaveSteps, LosesHere}
+use Rattle.pas_rights.specs.Returns.{ReofferSteps, ReturnSteps}
+use Rattle.pas_rights.specs.Looks.{looks, any_usable, are_all_ones, HintsWhere, LookedUntilUsed}
 
 -- ---- what looks at the free words keep
 pub right_looks : (p q : ℕ) (answers : List ℕ) (v : View) → has_right (looks p answers ++ v) q ≡ has_right v q
@@ -102,3 +104,54 @@ end_loses p d false all_free steps before are h = subst (Once (LosesHere p)) (sy
 -- the right is given up after looks alone
 pub leave_loses : (p : ℕ) (d : Directory) (steps : List Made) → LeaveSteps p d steps → Once (LosesHere p) steps
 leave_loses p d steps h = subst (Once (LosesHere p)) (sym h.steps_are) (end_loses p d (any_usable d h.answers) (are_all_ones h.answers) h.after (looks p h.answers) (looks_are p h.answers) h.ends)
+
+-- ---- how many steps they are
+looks_count : (p : ℕ) (answers : List ℕ) → length (looks p answers) ≡ length answers
+looks_count p [] = refl
+looks_count p (a ∷ more) = ap (λ n. suc n) (looks_count p more)
+
+hints_few : (p : ℕ) (all_free : Bool) (steps : List Made) → HintsWhere all_free p steps → length steps ≤ 2
+hints_few p true steps (inl h) = let n : length steps ≡ 1 = ap length h.2 in omega (arith, n)
+hints_few p true steps (inr h) = let n : length steps ≡ 2 = ap length h.1 in omega (arith, n)
+hints_few p false steps h = let n : length steps ≡ 0 = ap length h in omega (arith, n)
+
+reoffer_few : (p : ℕ) (d : Directory) (steps : List Made) → ReofferSteps p d steps → length steps ≤ 2
+reoffer_few p d steps (inl h) = let n : length steps ≡ 1 = ap length h.2 in omega (arith, n)
+reoffer_few p d steps (inr h) = let n : length steps ≡ 2 = ap length h.3 in omega (arith, n)
+
+reoffers_few : (p : ℕ) (d : Directory) (usable : Bool) (steps : List Made) → ReoffersWhere usable p d steps → length steps ≤ 2
+reoffers_few p d true steps h = reoffer_few p d steps h
+reoffers_few p d false steps h = let n : length steps ≡ 0 = ap length h in omega (arith, n)
+
+end_few : (p : ℕ) (d : Directory) (usable all_free : Bool) (steps : List Made) → EndsLeave usable p d all_free steps → length steps ≤ 7
+end_few p d true all_free steps h =
+    let n : length steps ≡ length h.after + 1 = ap length h.steps_are ∙ length-append h.after (made (Offer p d) h.offered ∷ []) in
+    let few = hints_few p all_free h.after h.hints in
+    omega (arith, n, few)
+end_few p d false all_free steps h =
+    let looked = made (Park p) h.parked ∷ [] in
+    let n : length steps ≡ length h.after + (length (looks p h.later) + 1) = ap length h.steps_are ∙ length-append h.after (looks p h.later ++ looked) ∙ ap (λ k. length h.after + k) (length-append (looks p h.later) looked) in
+    let few = reoffers_few p d (any_usable d h.later) h.after h.reoffers in
+    let four : length (looks p h.later) ≡ 4 = looks_count p h.later ∙ h.four in
+    omega (arith, n, few, four)
+
+pub leave_few : (p : ℕ) (d : Directory) (steps : List Made) → LeaveSteps p d steps → length steps ≤ 11
+leave_few p d steps h =
+    let n : length steps ≡ length h.after + length (looks p h.answers) = ap length h.steps_are ∙ length-append h.after (looks p h.answers) in
+    let few = end_few p d (any_usable d h.answers) (are_all_ones h.answers) h.after h.ends in
+    let four : length (looks p h.answers) ≡ 4 = looks_count p h.answers ∙ h.four in
+    omega (arith, n, few, four)
+
+looked_few : (all_free : Bool) (answers : List ℕ) → LookedUntilUsed answers all_free → length answers ≤ 4
+looked_few true answers h = let four = h.0 in omega (arith, four)
+looked_few false [] h = absurd h
+looked_few false (a ∷ more) h = let lt = h.2 in omega (arith, lt)
+
+pub return_few : (p : ℕ) (d : Directory) (steps : List Made) → ReturnSteps p d steps → length steps ≤ 8
+return_few p d steps h =
+    let n : length steps ≡ length h.after + (length (looks p h.answers) + length h.first)
+    = ap length h.steps_are ∙ length-append h.after (looks p h.answers ++ h.first) ∙ ap (λ k. length h.after + k) (length-append (looks p h.answers) h.first) in
+    let hints = hints_few p h.all_free h.after h.hints in
+    let looked : length (looks p h.answers) ≤ 4 = let e = looks_count p h.answers in let few = looked_few h.all_free h.answers h.looked in omega (arith, e, few) in
+    let first = reoffer_few p d h.first h.reoffers in
+    omega (arith, n, hints, looked, first)

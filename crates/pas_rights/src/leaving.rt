@@ -2,7 +2,7 @@
 ghost use Rattle.std.specs.Prelude.{◌≡◌, Bool};
 ghost use Rattle.pas_profile.specs.Profiles.{IsPage, IsDirectoryOf};
 ghost use Rattle.pas_steps.specs.Desks.{CanCall};
-ghost use Rattle.pas_rights.specs.Rights.{MayLeave, Leaves, OffersPage, ParksPage};
+ghost use Rattle.pas_rights.specs.Leaves.{MayLeave, Leaves, OffersPage, ParksPage};
 
 use crate::looking::{hint_backed, look_free};
 use crate::returning::reoffer;

@@ -5,8 +5,10 @@
 mod claiming;
 mod leaving;
 mod looking;
+mod putting;
 mod returning;
 
 pub use claiming::claim;
 pub use leaving::leave;
+pub use putting::put_mask;
 pub use returning::returned;

@@ -5,7 +5,7 @@ ghost use Rattle.pas_profile.specs.Directories.{IsKind};
 ghost use Rattle.pas_profile.specs.Profiles.{IsPage, IsDirectoryOf};
 ghost use Rattle.pas_steps.specs.Views.{usable_by_kind, all_ones};
 ghost use Rattle.pas_steps.specs.Desks.{Anything, CanCall};
-ghost use Rattle.pas_rights.specs.Rights.{Sees, SeesUntilUsed, Hinted};
+ghost use Rattle.pas_rights.specs.Looks.{Sees, SeesUntilUsed, Hinted};
 
 use pas_profile::{Directory, Kind, Word, slot_mask};
 use pas_steps::Desk;

@@ -2,7 +2,7 @@
 ghost use Rattle.std.specs.Prelude.{◌≡◌};
 ghost use Rattle.pas_profile.specs.Profiles.{IsPage, IsDirectoryOf};
 ghost use Rattle.pas_steps.specs.Desks.{CanCall};
-ghost use Rattle.pas_rights.specs.Rights.{Returned, ReoffersPage};
+ghost use Rattle.pas_rights.specs.Returns.{Returned, ReoffersPage};
 ghost use Rattle.pas_steps.specs.Views.{KnowsDeed};
 
 use crate::looking::{all_free, hint_backed};

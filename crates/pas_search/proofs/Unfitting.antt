@@ -12,12 +12,13 @@ use Rattle.pas_steps.specs.Frames.{AreLooks}
 use Rattle.pas_steps.proofs.Adding.{agreed_first, agreed_later}
 use Rattle.pas_steps.proofs.Past.{once_later}
 use Rattle.pas_steps.proofs.Kept.{looks_read, right_reads, returns_still, holds_still, backed_returns, deed_stays}
-use Rattle.pas_rights.specs.Rights.{MayLeave, LosesHere, Leaves}
+use Rattle.pas_rights.specs.Leaves.{MayLeave, LosesHere, Leaves}
 use Rattle.pas_steps.specs.Clear.{OwesNothing}
 use Rattle.pas_steps.specs.Evidence.{Readings, ShowsHere, KeptHere, GetsHere, UnfitHere}
 use Rattle.pas_search.specs.Kinds.{AreQuiet}
 use Rattle.pas_search.specs.Serving.{Rule, MayServe, FreshAt, GotBefore, LeavesPage}
 use Rattle.pas_search.proofs.StepKinds.{quiet_append, quiet_still}
+use Rattle.pas_rights.proofs.Debts.{leave_lacks}
 
 since_looks : (P : Made → List Made → Type 0) (p : ℕ) (ys xs : List Made) → AreLooks ys → has_right xs p ≡ true → Since P (KeptHere p) xs → Since P (KeptHere p) (ys ++ xs)
 since_looks P p [] xs looks right h = h
@@ -54,10 +55,10 @@ module _ {F : Type 0} (rule : Rule F) (f : Profile) (p : ℕ) (d : Directory) (z
   left_page {σ} {σ'} same left =
       let ls : List Made = left.steps in record {
         quiet = quiet_append ls zs (quiet_still ls (returns_still p ls left.returns)) quiet;
-        right = λ before. ap (λ s. has_right s p) (append_assoc ls zs before) ∙ left.right (zs ++ before);
+        right = λ before. ap (λ s. has_right s p) (append_assoc ls zs before) ∙ leave_lacks p d ls (zs ++ before) left.order;
         grains = λ before fresh g at. ap (λ s. holds s g) (append_assoc ls zs before) ∙ holds_still g ls (zs ++ before) (returns_still p ls left.returns) ∙ grains before (left_fresh ls before fresh) g at;
         owes = λ v met agreed. subst (OwesNothing p) (sym (append_assoc ls zs v))
-            (left.owes (zs ++ v) (subst (λ x. Agreed x (zs ++ v) ls) (sym same) (agreed_first f v ls zs agreed)) (left_may v met (agreed_later f v ls zs agreed)));
+            (left.calls.leads.from (zs ++ v) (left_may v met (agreed_later f v ls zs agreed)) (subst (λ x. Agreed x (zs ++ v) ls) (sym same) (agreed_first f v ls zs agreed))).owes;
         backed = λ v met agreed h. ap (λ s. knows_backed s p) (append_assoc ls zs v) ∙ backed_returns f p p ls (zs ++ v) left.returns (agreed_first f v ls zs agreed) (backed v met (agreed_later f v ls zs agreed) h);
         unfit = λ before got. subst (Once (UnfitHere rule.no_fit p)) (sym (append_assoc ls zs before))
             (unfit_left rule.no_fit p ls (zs ++ before) left.left (right before got.right) (once_later (GetsHere p) zs before got.got) r none (read before got));

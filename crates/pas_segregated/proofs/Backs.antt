@@ -15,13 +15,15 @@ use Rattle.pas_steps.specs.declared.step.Step.TheVariants.{Put, Offer, Unpark}
 use Rattle.pas_steps.proofs.Adding.{adds_none, adds_call, adds_under, agreed_first, agreed_later}
 use Rattle.pas_steps.proofs.Past.{always_both, always_map}
 use Rattle.pas_steps.proofs.Kept.{right_on, grains_on, returns_on, right_grains, returns_still, holds_still, holds_on_still, backed_returns}
-use Rattle.pas_rights.specs.Rights.{looks, HintsWhere, ReofferSteps, ReturnSteps, Returned}
+use Rattle.pas_rights.specs.Returns.{ReofferSteps, ReturnSteps, Returned}
+use Rattle.pas_rights.specs.Looks.{looks, HintsWhere}
 use Rattle.pas_steps.specs.Clear.{OwesNothing}
 use Rattle.pas_search.specs.Kinds.{IsQuiet, AreQuiet}
 use Rattle.pas_search.proofs.StepKinds.{grains_serve, returns_serve, serves_append, quiet_append, quiet_still}
 use Rattle.pas_segregated.specs.Masks.{IsEmpty, IsSome}
 use Rattle.pas_segregated.specs.Returns.{on_page, PutSteps, PutsBelow, PutsMask, MayGiveBack, GivesBack}
 use Rattle.pas_segregated.proofs.Puts.{put_holds, puts_only, all_put, grains_keep}
+use Rattle.pas_rights.proofs.Debts.{return_right, return_owes}
 
 -- ---- with the right, what follows puts doesn't give it up
 pub keeps_append : (page : ℕ) (ys xs : List Made) → KeepsRight page ys → KeepsRight page xs → KeepsRight page (ys ++ xs)
@@ -150,7 +152,7 @@ module _ {σ σ1 σ2 : Standing} (page : ℕ) (d : Directory) (mask : Mask4) (so
   right_same : (v : View) → Agreed profile v both → (q : ℕ) → has_right (both ++ v) q ≡ has_right v q
   right_same v agreed q = elim (cases_eq q page) [
     | inl e ↦
-        ap (has_right (both ++ v)) e ∙ ap (λ s. has_right s page) (on_both v) ∙ ret.right (puts.steps ++ v) (later_agreed v agreed) ∙ right_grains page page puts.steps v only_puts ∙ ap (has_right v) (sym e)
+        ap (has_right (both ++ v)) e ∙ ap (λ s. has_right s page) (on_both v) ∙ return_right σ1.seat.profile page d ret.steps (puts.steps ++ v) ret.order (later_agreed v agreed) ∙ right_grains page page puts.steps v only_puts ∙ ap (has_right v) (sym e)
     | inr ne ↦ right_on page q both v both_on ne
   ]
 
@@ -170,13 +172,13 @@ module _ {σ σ1 σ2 : Standing} (page : ℕ) (d : Directory) (mask : Mask4) (so
   pub gives_some : GivesBack page d mask σ σ2
   gives_some = record {
     steps = both;
-    adds = adds_call (adds_under puts.adds (λ v l stood met. met.puts)) ret.adds (λ v l stood met. knows_later page d mask puts v met);
+    adds = adds_call (adds_under puts.adds (λ v l stood met. met.puts)) ret.calls.adds (λ v l stood met. knows_later page d mask puts v met);
     order = inr (some, puts.steps, ret.steps, puts.order, ret.order, refl);
     only = serves_append page ret.steps puts.steps (returns_serve page ret.steps ret.returns) (grains_serve page puts.steps only_puts);
     quiet = quiet_append ret.steps puts.steps (quiet_still ret.steps (returns_still page ret.steps ret.returns)) (grains_quiet page puts.steps only_puts);
     grains = grains_same;
     rights = right_same;
     keeps = keeps_right;
-    owes = λ v agreed owes. subst (OwesNothing page) (sym (on_both v)) (ret.owes (puts.steps ++ v) (later_agreed v agreed));
+    owes = λ v agreed owes. subst (OwesNothing page) (sym (on_both v)) (return_owes σ1.seat.profile page d ret.steps (puts.steps ++ v) ret.order (later_agreed v agreed));
     backed = stays_backed;
   }

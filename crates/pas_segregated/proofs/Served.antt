@@ -22,7 +22,7 @@ use Rattle.pas_steps.proofs.Adding.{adds_step, adds_call}
 use Rattle.pas_steps.proofs.Frames.{rights_stay}
 use Rattle.pas_steps.proofs.Past.{since_earlier}
 use Rattle.pas_steps.proofs.Kept.{returns_still, deed_stays}
-use Rattle.pas_rights.specs.Rights.{MayLeave, Leaves}
+use Rattle.pas_rights.specs.Leaves.{MayLeave, Leaves}
 use Rattle.pas_steps.specs.Evidence.{ShowsHere, KeptHere}
 use Rattle.pas_search.specs.Kinds.{IsServe, AreQuiet}
 use Rattle.pas_search.specs.Serving.{MayServe, FreshAt, KeepsPage, ServesPage}
@@ -91,7 +91,7 @@ module _ (class page : ℕ) (d : Directory) (is : IsClass class) (starts : Mask4
       pub leaves_page : ServesPage (exclusive class) page d σ σ2 None
       leaves_page = record {
         steps = left.steps ++ taken.steps;
-        adds = adds_call taken.adds left.adds (λ v l stood met. may_leave v met (taken.adds.agreed v l stood met));
+        adds = adds_call taken.adds left.calls.adds (λ v l stood met. may_leave v met (taken.adds.agreed v l stood met));
         only = serves_append page left.steps taken.steps (returns_serve page left.steps left.returns) taken.only;
         few = λ k v. subst (λ es. length es ≤ 1) (sym (events_quiet k v (left.steps ++ taken.steps) all_quiet)) (omega arith);
         outcome = left_page (exclusive class) profile page d taken.steps taken.quiet taken_right as_before (λ v met agreed h. still_backed v agreed h)

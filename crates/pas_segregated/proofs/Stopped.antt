@@ -11,12 +11,13 @@ use Rattle.pas_steps.specs.Desks.{Seat, Standing, Adds}
 use Rattle.pas_steps.specs.declared.step.Made.{Made}
 use Rattle.pas_steps.proofs.Adding.{adds_call, adds_under, agreed_first, agreed_later}
 use Rattle.pas_steps.proofs.Kept.{right_on, check_on, hint_on, unstamped_on, examined_on, returns_on, returns_still, holds_still, holds_on_still, backed_returns, deed_stays}
-use Rattle.pas_rights.specs.Rights.{MayLeave, Leaves}
+use Rattle.pas_rights.specs.Leaves.{MayLeave, Leaves}
 use Rattle.pas_steps.specs.Clear.{IsClear, OwesNothing}
 use Rattle.pas_search.proofs.StepKinds.{serves_on, on_append, quiet_append, quiet_still}
 use Rattle.pas_segregated.specs.Returns.{on_page, MayGiveBack, GivesBack}
 use Rattle.pas_segregated.specs.Stops.{in_slots, AreGrains, MayStopAt, LeavesWhere, StopsAt}
 use Rattle.pas_segregated.specs.declared.slots.Slots.{Slots}
+use Rattle.pas_rights.proofs.Debts.{leave_lacks}
 
 -- an actor that was clear is so again after steps on one page, where it owes nothing
 pub clear_on : (page : ℕ) (steps : List Made) (v : View) → OnlyOn page steps → IsClear v → OwesNothing page (steps ++ v) → IsClear (steps ++ v)
@@ -92,7 +93,7 @@ module _ (d : Directory) (slots : Slots) (mask : Mask4) (are : AreGrains slots m
       rights_then : (v : View) → Agreed σ.seat.profile v all → (q : ℕ) → has_right (all ++ v) q ≡ (not (slots.right && (page == q)) && has_right v q)
       rights_then v agreed q = elim (cases_eq q page) [
         | inl e ↦
-            ap (has_right (all ++ v)) e ∙ ap (λ s. has_right s page) (all_at v) ∙ left.right (back.steps ++ v)
+            ap (has_right (all ++ v)) e ∙ ap (λ s. has_right s page) (all_at v) ∙ leave_lacks page d left.steps (back.steps ++ v) left.order
             ∙ sym (ap (λ t. not (t && (page == q)) && has_right v q) has ∙ ap (λ t. not t && has_right v q) (eq-eqb page q (sym e)))
         | inr ne ↦
             right_on page q all v all_on ne
@@ -107,13 +108,13 @@ module _ (d : Directory) (slots : Slots) (mask : Mask4) (are : AreGrains slots m
       pub stops_with : StopsAt d slots σ σ2
       stops_with = record {
         steps = all;
-        adds = adds_call back_adds left.adds (λ v l stood met. may_leave v met (back_adds.agreed v l stood met) has);
+        adds = adds_call back_adds left.calls.adds (λ v l stood met. may_leave v met (back_adds.agreed v l stood met) has);
         order = record { mask = mask; grains = are; back = back.steps; puts = back.order; left = left.steps; leaves = subst (λ t. LeavesWhere t page d left.steps) (sym has) left.order; steps_are = refl };
         on = all_on;
         quiet = quiet_append left.steps back.steps (quiet_still left.steps (returns_still page left.steps left.returns)) back.quiet;
         grains = λ v g. ap (λ s. holds s g) (all_at v) ∙ holds_still g left.steps (back.steps ++ v) (returns_still page left.steps left.returns) ∙ back_grains v g;
         rights = rights_then;
-        clear = λ v met agreed. clear_on page all v all_on met.clear (subst (OwesNothing page) (sym (all_at v)) (left.owes (back.steps ++ v) (left_agreed v agreed) (may_leave v met (back_agreed v agreed) has)));
+        clear = λ v met agreed. clear_on page all v all_on met.clear (subst (OwesNothing page) (sym (all_at v)) (left.calls.leads.from (back.steps ++ v) (may_leave v met (back_agreed v agreed) has) (left_agreed v agreed)).owes);
         deeds = λ v q agreed ne. deed_stays σ.seat.profile all v q agreed ne;
         backed = backed_then;
       }

@@ -10,7 +10,7 @@ use Rattle.pas_steps.specs.Frames.{KeepsRight}
 use Rattle.pas_steps.specs.Desks.{Standing, Adds, made}
 use Rattle.pas_steps.specs.declared.step.Made.{Made}
 use Rattle.pas_steps.specs.declared.step.Step.TheVariants.{Put}
-use Rattle.pas_rights.specs.Rights.{ReturnSteps}
+use Rattle.pas_rights.specs.Returns.{ReturnSteps}
 use Rattle.pas_steps.specs.Clear.{OwesNothing}
 use Rattle.pas_search.specs.Kinds.{OnlyServes, AreQuiet}
 use Rattle.pas_segregated.specs.Masks.{IsEmpty, IsSome}

@@ -9,7 +9,7 @@ use Rattle.pas_steps.specs.Agreement.{Agreed}
 use Rattle.pas_steps.specs.Frames.{OnlyOn}
 use Rattle.pas_steps.specs.Desks.{Standing, Adds}
 use Rattle.pas_steps.specs.declared.step.Made.{Made}
-use Rattle.pas_rights.specs.Rights.{LeaveSteps}
+use Rattle.pas_rights.specs.Leaves.{LeaveSteps}
 use Rattle.pas_steps.specs.Clear.{IsClear}
 use Rattle.pas_search.specs.Kinds.{AreQuiet}
 use Rattle.pas_segregated.specs.Masks.{start_of}

@@ -17,11 +17,11 @@ use Rattle.pas_steps.specs.declared.step.Made.{Made}
 use Rattle.pas_steps.specs.declared.step.Step.{Step}
 use Rattle.pas_steps.specs.declared.step.Step.TheVariants.{Look, Deed, Take, Put, Give, End, TakeRight, Offer, Park, Unpark, Stamp, Hint, Unback, Unhint}
 use Rattle.pas_steps.proofs.Adding.{agreed_first, agreed_later, can_call}
-use Rattle.pas_steps.proofs.Apart.{in_apart, grain_same, holds_same}
+use Rattle.pas_steps.proofs.Apart.{in_apart, holds_over, grain_same, holds_same}
 use Rattle.pas_steps.proofs.Kept.{right_on, check_on, hint_on, examined_on, unstamped_on, returns_on}
 use Rattle.pas_steps.proofs.Past.{always_map}
 use Rattle.pas_steps.specs.Frames.{IsReturn, OnlyOn, OnlyReturns, unbacks}
-use Rattle.pas_steps.specs.Kinds.{Kinds, kind_of, look_kind, place_of, is_in, apart, Only, moving, unbacking, changing, returning}
+use Rattle.pas_steps.specs.Kinds.{Kinds, kind_of, look_kind, place_of, is_in, apart, Only, Unhinting, moving, unbacking, changing, returning}
 use Rattle.pas_steps.proofs.Backed.{any_one, backed_with, backed_holds}
 
 -- ---- two calls: the one place where their lists are put together
@@ -195,6 +195,17 @@ examined_shut (Take q u m) a p was shut h = hint_shut (Take q u m) a p was shut 
 examined_shut (Hint q) a p was shut h = ends_none (q == p) was h
 examined_shut (Unhint q) a p was shut h = unless ((q == p) && has_bit a (p % 64)) was (and_first (q == p) (has_bit a (p % 64)) shut) h
 examined_shut s a p was shut h = h
+
+-- only an unhint begins to examine a page
+unexamined : (s : Step) (a p : ℕ) (was : Bool) → is_in (Unhinting ∷ []) (kind_of s) ≡ false → was ≡ false → examined_after s a p was ≡ false
+unexamined (Look word) a p was other h = look_hint_shut word a p was h
+unexamined (Take q u m) a p was other h = hint_shut (Take q u m) a p was refl h
+unexamined (Hint q) a p was other h = ends_none (q == p) was h
+unexamined (Unhint q) a p was other h = absurd (true≢false other)
+unexamined s a p was other h = h
+
+pub unexamined_over : (ks : Kinds) → apart ks (Unhinting ∷ []) ≡ true → (p : ℕ) (steps : List Made) (v : View) → Only ks steps → examines v p ≡ false → examines (steps ++ v) p ≡ false
+unexamined_over ks w p = holds_over (λ v. examines v p ≡ false) (Unhinting ∷ []) ks (λ m v other h. unexamined m.step m.answer p (examines v p) other h) w
 
 clear_shut : (s : Step) (a p : ℕ) (v : View) → opens s a p ≡ false → IsClearOn p v → IsClearOn p (made s a ∷ v)
 clear_shut s a p v shut is = record {

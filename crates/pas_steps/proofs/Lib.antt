@@ -2,6 +2,7 @@ pub mod Adding
 pub mod Frames
 pub mod Parts
 pub mod Past
+pub mod InTurn
 pub mod Ranged
 pub mod Targets
 pub mod Written

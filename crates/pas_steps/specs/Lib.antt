@@ -6,6 +6,7 @@ pub mod Lists
 pub mod Agreement
 pub mod Desks
 pub mod Past
+pub mod InTurn
 pub mod Frames
 pub mod Ranges
 pub mod States

@@ -72,8 +72,13 @@ status_not_four (Replayed records state) four = omega (arith, four)
 status_not_four (Faulty fault) four = omega (arith, four)
 status_not_four Unbuilt four = omega (arith, four)
 
+pub status_not_two : (outcome : Outcome) → outcome_status outcome ≡ 2 → ⊥
+status_not_two (Replayed records state) two = omega (arith, two)
+status_not_two (Faulty fault) two = omega (arith, two)
+status_not_two Unbuilt two = omega (arith, two)
+
 -- the output of a call whose input was read whole
 pub outcome_output : (words : List (List ℕ)) (told : Option (List ℕ)) (read : List ℕ) (outcome : Outcome) → IsOrder words
     → ((bytes : List ℕ) → told ≡ Some bytes → (read ≡ bytes) × (length bytes ≤ most_bytes)) → IsOutcome read outcome → IsOutput words told (outcome_status outcome) (outcome_text outcome)
 outcome_output words told read outcome order whole is =
-    inr (order, λ bytes tells. let input = whole bytes tells in comes_to bytes outcome input.1 (subst (λ (t : List ℕ). IsOutcome t outcome) input.0 is))
+    inr (order, status_not_two outcome, λ bytes tells. let input = whole bytes tells in comes_to bytes outcome input.1 (subst (λ (t : List ℕ). IsOutcome t outcome) input.0 is))

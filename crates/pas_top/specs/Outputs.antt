@@ -11,6 +11,7 @@ use Rattle.pas_report.specs.Reports.{report_text}
 use Rattle.pas_report.specs.declared.record.Record.{Record}
 use Rattle.pas_replay.specs.Replays.{IsBuilt, IsReplay}
 use Rattle.pas_replay.specs.Ways.{Way, InOrder}
+use Rattle.pas_io.specs.Inputs.{Takes}
 use Rattle.pas_io.specs.Told.{Rose, Writes, WritesFront}
 use Rattle.pas_top.specs.Faults.{fault_text}
 
@@ -76,10 +77,10 @@ pub record IsTooLong (bytes text : List ℕ) : Type 0 where
 abbrev pub ComesTo : List ℕ → ℕ → List ℕ → Type 0
 ComesTo bytes status text = ((status ≡ 0) × IsTranscript bytes text) ⊎ ((status ≡ 1) × IsFaulty bytes text) ⊎ ((status ≡ 6) × IsTooLong bytes text) ⊎ ((status ≡ 7) × IsNotBuilt bytes text)
 
--- what a call with these words writes in full, with its status: the usage where the words are no accepted list, else what the input comes to,
--- where the source tells it
+-- what a call with these words writes in full, with its status: the usage where the words are no accepted list, else another status and what the input
+-- comes to, where the source tells it
 abbrev pub IsOutput : List (List ℕ) → Option (List ℕ) → ℕ → List ℕ → Type 0
-IsOutput words told status text = ((IsOrder words → ⊥) × (status ≡ 2) × (text ≡ usage_text)) ⊎ (IsOrder words × ((bytes : List ℕ) → told ≡ Some bytes → ComesTo bytes status text))
+IsOutput words told status text = ((IsOrder words → ⊥) × (status ≡ 2) × (text ≡ usage_text)) ⊎ (IsOrder words × (status ≢ 2) × ((bytes : List ℕ) → told ≡ Some bytes → ComesTo bytes status text))
 
 -- ---- what each status says. The sink told `before` and tells `after`
 abbrev pub IsWriting : ℕ → Type 0
@@ -93,6 +94,11 @@ pub record IsWritten (words : List (List ℕ)) (told before after : Option (List
   pub text : List ℕ
   pub output : IsOutput words told status text
   pub written : Writes before after text
+
+-- 3: a read failed. Where the source tells its bytes, no more of them were taken than an input may have
+pub record HasFailed (told told' : Option (List ℕ)) (faults faults' : ℕ) : Type 0 where
+  pub rose : Rose faults faults'
+  pub taken : (bytes : List ℕ) → told ≡ Some bytes → Takes bytes told' most_bytes
 
 -- 4: the sink failed. What was written is a first part of what another status would have written
 pub record IsCutOff (words : List (List ℕ)) (told before after : Option (List ℕ)) (faults faults' : ℕ) : Type 0 where

@@ -1,11 +1,12 @@
 //! The call that the program makes.
-ghost use Rattle.std.specs.Prelude.{◌≡◌, ◌<◌, ◌≤◌, ◌⊎◌, ◌↔◌, ℕ, List, Some, Ok, Err, IsTrue, length};
+ghost use Rattle.std.specs.Prelude.{◌≡◌, ◌+◌, ◌<◌, ◌≤◌, ◌⊎◌, ◌↔◌, ℕ, List, Some, Ok, Err, IsTrue, length};
+ghost use Rattle.pas_io.specs.Inputs.{Takes};
 ghost use Rattle.pas_io.specs.Told.{Rose};
 ghost use Rattle.pas_trace.specs.Plans.{IsPlanOf, parsed};
 ghost use Rattle.pas_trace.specs.declared.plan.Plan.{Plan};
 ghost use Rattle.pas_trace.specs.declared.fault.TraceFault.{TraceFault};
 ghost use Rattle.pas_replay.specs.Replays.{IsBuilt};
-ghost use Rattle.pas_top.specs.Outputs.{most_bytes, texts_of, IsOrder, IsStatus, IsWriting, IsWritten, IsCutOff, IsUnbuilt};
+ghost use Rattle.pas_top.specs.Outputs.{most_bytes, texts_of, IsOrder, IsStatus, IsWriting, IsWritten, HasFailed, IsCutOff, IsUnbuilt};
 
 use crate::outcome::{outcome_of, tell, tell_outcome};
 use crate::{MOST_BYTES, TOO_LONG, USAGE};
@@ -19,13 +20,13 @@ use std::alloc::Global;
 /// - 0: the transcript and the report were written.
 /// - 1: the input is no trace, and its first fault was written.
 /// - 2: the words are others. The usage was written, and nothing was read.
-/// - 3: a read failed. Nothing was written.
+/// - 3: a read failed, before more bytes were taken than an input may have. Nothing was written.
 /// - 4: a write failed. A first part of what status 0, 1, 2, 6 or 7 writes was written.
 /// - 5: memory was wanting. Nothing was written.
 /// - 6: the input is longer than 16,777,216 bytes, and that was written.
 /// - 7: the input is a trace that can't be replayed yet, and that was written.
 ///
-/// Nothing is written before the replay has ended. Linear in the input and in the output.
+/// At most 16,777,217 bytes are taken from the source. Nothing is written before the replay has ended. Linear in the input and in the output.
 pub fn pas_main<S: Source, K: Sink>(
     alloc: Global,
     words: &[&str],
@@ -35,7 +36,8 @@ pub fn pas_main<S: Source, K: Sink>(
     ensures status { IsStatus result }
     ensures written { IsWriting result → IsWritten (texts_of words.now) (S.rest source.old) (K.held sink.old) (K.held sink.new) result }
     ensures usage { (IsOrder (texts_of words.now) → ⊥) → (source.new ≡ source.old) × ((result ≡ 2) ⊎ (result ≡ 4)) }
-    ensures source_failed { result ≡ 3 → Rose (S.faults source.old) (S.faults source.new) × (sink.new ≡ sink.old) }
+    ensures taken { (bytes : List ℕ) → S.rest source.old ≡ Some bytes → Takes bytes (S.rest source.new) (most_bytes + 1) }
+    ensures source_failed { result ≡ 3 → HasFailed (S.rest source.old) (S.rest source.new) (S.faults source.old) (S.faults source.new) × (sink.new ≡ sink.old) }
     ensures sink_failed { result ≡ 4 → IsCutOff (texts_of words.now) (S.rest source.old) (K.held sink.old) (K.held sink.new) (K.faults sink.old) (K.faults sink.new) }
     ensures memory { result ≡ 5 → sink.new ≡ sink.old }
 

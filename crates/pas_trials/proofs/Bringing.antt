@@ -6,7 +6,7 @@ use Rattle.pas_profile.specs.declared.word.Word.TheVariants as Word
 use Rattle.pas_steps.specs.Desks.{made}
 use Rattle.pas_steps.specs.Views.{View, has_right, known_deed, KnowsDeed}
 use Rattle.pas_steps.specs.declared.step.Step.TheVariants.{Look, Deed}
-use Rattle.pas_rights.specs.Rights.{MayLeave}
+use Rattle.pas_rights.specs.Leaves.{MayLeave}
 use Rattle.pas_rights.proofs.Orders.{same_page}
 
 -- a deed that the page hadn't gives the right

@@ -10,7 +10,7 @@ use Rattle.pas_plain.specs.Plain.{profile_of, actor_of, PassStands}
 use Rattle.pas_plain.specs.Seats.{region_of, pass_of, DeskStands}
 use Rattle.pas_plain.specs.declared.desk.PlainDesk.{PlainDesk}
 use Rattle.pas_plain.specs.declared.pass.PlainPass.{PlainPass}
-use Rattle.pas_rights.specs.Rights.{MayLeave}
+use Rattle.pas_rights.specs.Leaves.{MayLeave}
 use Rattle.pas_steps.specs.Evidence.{DeedHere}
 use Rattle.pas_scan.specs.Marks.{is_marked}
 use Rattle.pas_scan.specs.Scan.{NoneOffered, IsFirstOffered, IsFirstBare, IsVerdict}

@@ -2,7 +2,7 @@
 ghost use Rattle.std.specs.Prelude.{◌≡◌, ◌≤◌};
 ghost use Rattle.pas_profile.specs.Profiles.{IsPage, IsDirectoryOf};
 ghost use Rattle.pas_steps.specs.Desks.{Anything, CanCall};
-ghost use Rattle.pas_rights.specs.Rights.{MayLeave};
+ghost use Rattle.pas_rights.specs.Leaves.{MayLeave};
 ghost use Rattle.pas_steps.specs.Calls.{AnyView};
 ghost use Rattle.pas_trials.specs.Trials.{LeftIf, MayLeaveIf, Brings};
 

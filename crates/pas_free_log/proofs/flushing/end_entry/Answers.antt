@@ -1,16 +1,19 @@
 use Rattle.std.proofs.Common.{List, length, ap, sym, subst}
 use Rattle.pas_profile.specs.declared.event.Event.{Event}
 use Rattle.pas_profile.specs.Runs.{grain_of}
-use Rattle.pas_steps.proofs.Adding.{can_call}
-use Rattle.pas_free_log.specs.Conditions.{KnowsEpoch, IsRun}
-use Rattle.pas_free_log.proofs.Entries.{is_ended, may_now, entry_ended, entry_refused}
+use Rattle.pas_steps.proofs.Called.{next_call}
+use Rattle.pas_free_log.specs.Conditions.{KnowsEpoch, MayEnd, IsRun}
+use Rattle.pas_free_log.proofs.Entries.{is_ended, entry_ended, entry_refused}
 use Rattle.pas_free_log.proofs.Spares.{spare_falls}
 use Rattle.pas_free_log.proofs.flushing.end_entry.Goals as goal
+
+pub end_named-requires-clause-can : goal.end_named-requires-clause-can
+end_named-requires-clause-can g c = let can = c.requires.can in record { view = can.view; whole = can.whole; stood = can.stood; met = can.met.epoch }
 
 pub return_run-requires-clause-can : goal.return_run-requires-clause-can
 return_run-requires-clause-can g c =
     let e = is_ended c.args.name c.in-Ended.grains c.in-Ended.ensures.ends in
-    can_call {C = λ v l. KnowsEpoch v} e.adds c.requires.can (λ v l stood met. may_now c.args.name c.in-Ended.grains e v met)
+    next_call e.calls c.requires.can (λ v met q. q.1)
 
 pub return_run-requires-clause-run : goal.return_run-requires-clause-run
 return_run-requires-clause-run g c =
@@ -28,12 +31,12 @@ pub returns-in-Ended-clause-spare : goal.returns-in-Ended-clause-spare
 returns-in-Ended-clause-spare g c =
     let D = g.D.Desk in let can = c.requires.can in
     let s = entry_ended c.args.name c.in-Ended.grains (is_ended c.args.name c.in-Ended.grains c.in-Ended.ensures.ends) c.return_run.ensures.returns in
-    spare_falls {C = λ v l. KnowsEpoch v} (D.spare_of c.args.desk.now) (D.spare_of c.return_run.new.desk) 1 s.adds can (λ v l stood. g.met.D.Desk.spares c.args.desk.now v l stood) (λ v l stood. g.met.D.Desk.spares c.return_run.new.desk v l stood)
+    spare_falls {C = λ v l. MayEnd v} (D.spare_of c.args.desk.now) (D.spare_of c.return_run.new.desk) 1 s.calls.adds can (λ v l stood. g.met.D.Desk.spares c.args.desk.now v l stood) (λ v l stood. g.met.D.Desk.spares c.return_run.new.desk v l stood)
     (ap (λ (es : List Event). length es) (s.event can.view))
 
 pub returns-in-Refused-clause-spare : goal.returns-in-Refused-clause-spare
 returns-in-Refused-clause-spare g c =
     let D = g.D.Desk in let can = c.requires.can in
     let s = entry_refused c.args.name c.in-Refused.read c.requires.name c.in-Refused.ensures.ends in
-    spare_falls {C = λ v l. KnowsEpoch v} (D.spare_of c.args.desk.now) (D.spare_of c.end_named.new.desk) 1 s.adds can (λ v l stood. g.met.D.Desk.spares c.args.desk.now v l stood) (λ v l stood. g.met.D.Desk.spares c.end_named.new.desk v l stood)
+    spare_falls {C = λ v l. MayEnd v} (D.spare_of c.args.desk.now) (D.spare_of c.end_named.new.desk) 1 s.calls.adds can (λ v l stood. g.met.D.Desk.spares c.args.desk.now v l stood) (λ v l stood. g.met.D.Desk.spares c.end_named.new.desk v l stood)
     (ap (λ (es : List Event). length es) (s.event can.view))

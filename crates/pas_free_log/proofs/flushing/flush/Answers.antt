@@ -5,38 +5,43 @@ use Rattle.pas_profile.specs.declared.word.Word.TheVariants as Word
 use Rattle.pas_steps.specs.declared.step.Step.TheVariants.{Look}
 use Rattle.pas_steps.specs.Views.{View, epoch_of}
 use Rattle.pas_steps.specs.Events.{events_by}
-use Rattle.pas_steps.specs.Desks.{Adds, made}
-use Rattle.pas_steps.proofs.Adding.{adds_none, adds_step, adds_call, can_call}
+use Rattle.pas_steps.specs.Allowed.{IsEpochKnown}
+use Rattle.pas_steps.specs.Calls.{nothing, Does, Calls}
+use Rattle.pas_steps.specs.Kinds.{LookEpoch}
+use Rattle.pas_steps.specs.Desks.{made}
+use Rattle.pas_steps.proofs.Apart.{only_both}
+use Rattle.pas_steps.proofs.Called.{call_none, call_idly, call_then, next_call}
+use Rattle.pas_steps.proofs.Calls.{does_none, does_then}
 use Rattle.pas_free_log.specs.Logs.{names_in}
 use Rattle.pas_steps.specs.Clear.{IsClear}
-use Rattle.pas_free_log.specs.Frames.{Restores}
+use Rattle.pas_free_log.specs.Frames.{ending}
 use Rattle.pas_free_log.specs.Flushes.{Settled, event_for}
-use Rattle.pas_free_log.proofs.Flushed.{restores_none, restores_append, events_more, stamps_more, names_more, may_end_entry, flushed}
+use Rattle.pas_free_log.proofs.Flushed.{events_more, stamps_more, names_more, may_end, flushed}
 use Rattle.pas_free_log.proofs.Spares.{spare_falls}
 use Rattle.pas_free_log.proofs.flushing.flush.Goals as goal
 
 pub loop-name-init : goal.loop-name-init
 loop-name-init g c =
     let D = g.D.Desk in
-    let adds : Adds (D.standing c.args.desk.now) (D.standing c.look.new.self) (λ v l. IsClear v) (made (Look Word.Epoch) c.look.result ∷ []) = adds_step adds_none c.look.ensures.makes (λ v l stood met. tt) in
+    let calls : Calls (D.standing c.args.desk.now) (D.standing c.look.new.self) IsClear (Does nothing) (made (Look Word.Epoch) c.look.result ∷ []) = call_idly (LookEpoch ∷ []) refl (call_none (λ v met. does_none v)) c.look.ensures.makes refl (λ v met d. tt) in
     record {
       epoch = c.look.result;
       settled = [];
       names_are = refl;
       entries = [];
       order = refl;
-      adds = adds;
-      restores = restores_none (D.standing c.args.desk.now).seat.profile;
+      calls = calls;
+      kinds = tt;
       events = λ v is. refl;
       stamps = λ v is. refl;
-      spare = spare_falls {C = λ v l. IsClear v} (D.spare_of c.args.desk.now) (D.spare_of c.look.new.self) 0 adds c.requires.can (λ v l stood. g.met.D.Desk.spares c.args.desk.now v l stood) (λ v l stood. g.met.D.Desk.spares c.look.new.self v l stood) refl;
+      spare = spare_falls {C = λ v l. IsClear v} (D.spare_of c.args.desk.now) (D.spare_of c.look.new.self) 0 calls.adds c.requires.can (λ v l stood. g.met.D.Desk.spares c.args.desk.now v l stood) (λ v l stood. g.met.D.Desk.spares c.look.new.self v l stood) refl;
       home = c.look.ensures.home;
     }
 
 pub end_entry-requires-clause-can : goal.end_entry-requires-clause-can
 end_entry-requires-clause-can g c =
     let i = c.loop-name.invariant in
-    can_call {C = λ v l. IsClear v} i.adds c.requires.can (λ v l stood met. may_end_entry (g.D.Desk.standing c.args.desk.now).seat.profile i.epoch i.entries v i.restores)
+    next_call i.calls c.requires.can (λ v met d. may_end i.epoch i.entries v i.kinds d met)
 
 pub loop-name-preserved : goal.loop-name-preserved
 loop-name-preserved g c =
@@ -44,9 +49,8 @@ loop-name-preserved g c =
     let names = c.as_slice-names.result.now in
     let blank : Name = record { address = record { 0 = 0 }; turn = 0 } in
     let entry : Settled = record { name = get_or names index blank; outcome = s.outcome } in
-    let restores : Restores σ.seat.profile s.steps = subst (λ t. Restores t.profile s.steps) i.adds.seat_is s.restores in
     let event : (v : View) → events_by σ.seat.actor v s.steps ≡ event_for σ.seat.actor (epoch_of v) entry.name s.outcome ∷ []
-    = subst (λ t. (v : View) → events_by t.actor v s.steps ≡ event_for t.actor (epoch_of v) entry.name s.outcome ∷ []) i.adds.seat_is s.event in
+    = subst (λ t. (v : View) → events_by t.actor v s.steps ≡ event_for t.actor (epoch_of v) entry.name s.outcome ∷ []) i.calls.adds.seat_is s.event in
     let before = i.spare in let one = c.end_entry.ensures.spare in
     record {
       epoch = i.epoch;
@@ -54,11 +58,11 @@ loop-name-preserved g c =
       names_are = names_more i.settled entry names index blank c.loop-name-test.true refl i.names_are;
       entries = s.steps ++ i.entries;
       order = (s.steps, i.entries, s.order, i.order, refl);
-      adds = subst (λ xs. Adds σ (D.standing c.end_entry.new.desk) (λ v l. IsClear v) xs) (sym (append_assoc s.steps i.entries (made (Look Word.Epoch) i.epoch ∷ [])))
-          (adds_call {C = λ v l. IsClear v} i.adds s.adds (λ v l stood met. may_end_entry σ.seat.profile i.epoch i.entries v i.restores));
-      restores = restores_append σ.seat.profile s.steps i.entries restores i.restores;
-      events = events_more σ.seat.profile σ.seat.actor i.epoch entry i.settled s.steps i.entries i.restores i.events event;
-      stamps = stamps_more σ.seat.profile i.epoch entry i.settled s.steps i.entries i.restores i.stamps s.stamps;
+      calls = subst (λ xs. Calls σ (D.standing c.end_entry.new.desk) IsClear (Does nothing) xs) (sym (append_assoc s.steps i.entries (made (Look Word.Epoch) i.epoch ∷ [])))
+          (call_then (Does nothing) i.calls s.calls (λ v met d. may_end i.epoch i.entries v i.kinds d met) (λ v met d e. does_then d e));
+      kinds = only_both ending s.steps i.entries s.kinds i.kinds;
+      events = events_more σ.seat.actor i.epoch entry i.settled s.steps i.entries i.kinds i.events event;
+      stamps = stamps_more i.epoch entry i.settled s.steps i.entries i.kinds i.stamps s.stamps;
       spare = omega (arith, before, one);
       home = c.end_entry.ensures.home ∙ i.home;
     }
@@ -66,4 +70,4 @@ loop-name-preserved g c =
 pub returns-clause-flushes : goal.returns-clause-flushes
 returns-clause-flushes g c =
     let i = c.loop-name.invariant in
-    flushed i.epoch i.settled (names_in c.args.log.now) i.entries (i.names_are ∙ take_all c.loop-name.name-index c.as_slice-names.result.now c.loop-name-test.false ∙ c.as_slice-names.ensures) i.order i.adds i.restores i.events i.stamps
+    flushed i.epoch i.settled (names_in c.args.log.now) i.entries (i.names_are ∙ take_all c.loop-name.name-index c.as_slice-names.result.now c.loop-name-test.false ∙ c.as_slice-names.ensures) i.order i.calls i.kinds i.events i.stamps

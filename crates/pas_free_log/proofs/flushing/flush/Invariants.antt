@@ -6,10 +6,12 @@ use Rattle.pas_steps.specs.declared.step.Made.{Made}
 use Rattle.pas_steps.specs.declared.step.Step.TheVariants.{Look}
 use Rattle.pas_steps.specs.Views.{View, epoch_of}
 use Rattle.pas_steps.specs.Events.{events_by}
-use Rattle.pas_steps.specs.Desks.{Adds, made}
+use Rattle.pas_steps.specs.Calls.{nothing, Does, Calls}
+use Rattle.pas_steps.specs.Kinds.{Only}
+use Rattle.pas_steps.specs.Desks.{made}
 use Rattle.pas_steps.specs.Clear.{IsClear}
 use Rattle.pas_free_log.specs.Stamps.{stamps_by}
-use Rattle.pas_free_log.specs.Frames.{Restores}
+use Rattle.pas_free_log.specs.Frames.{ending}
 use Rattle.pas_free_log.specs.Flushes.{Settled, shown_for, stamps_for, EntriesSteps}
 use Rattle.pas_free_log.proofs.flushing.flush.Given as goal
 
@@ -21,8 +23,8 @@ invariant-loop-name g l = let D = g.D.Desk in record {
   names_are : reverse (map (λ entry. entry.name) settled) ≡ take l.name-index l.names;
   entries : List Made;
   order : EntriesSteps settled entries;
-  adds : Adds (D.standing l.fn.desk) (D.standing l.desk) (λ v w. IsClear v) (entries ++ made (Look Word.Epoch) epoch ∷ []);
-  restores : Restores (D.standing l.fn.desk).seat.profile entries;
+  calls : Calls (D.standing l.fn.desk) (D.standing l.desk) IsClear (Does nothing) (entries ++ made (Look Word.Epoch) epoch ∷ []);
+  kinds : Only ending entries;
   events : (v : View) → epoch_of v ≡ epoch → events_by (D.standing l.fn.desk).seat.actor v entries ≡ map (shown_for (D.standing l.fn.desk).seat.actor epoch) settled;
   stamps : (v : View) → epoch_of v ≡ epoch → stamps_by v entries ≡ flat_map (stamps_for epoch) settled;
   spare : D.spare_of l.desk + l.name-index ≡ D.spare_of l.fn.desk;

@@ -1,8 +1,7 @@
 use Rattle.std.proofs.Common.{sym, ◌∙◌, subst}
 use Rattle.pas_profile.specs.Profiles.{IsDirectoryOf}
-use Rattle.pas_steps.proofs.Adding.{can_call}
-use Rattle.pas_free_log.specs.Returns.{MayReturn}
-use Rattle.pas_free_log.proofs.Pages.{page_directory, directory_is, put_so, knows_so, page_returned}
+use Rattle.pas_steps.proofs.Called.{next_call}
+use Rattle.pas_free_log.proofs.Pages.{page_directory, directory_is, run_grains, stamped_so, put_so, page_returned}
 use Rattle.pas_free_log.proofs.returning.return_page.Goals as goal
 
 pub unreachable-requires : goal.unreachable-requires
@@ -10,22 +9,27 @@ unreachable-requires g c =
     let told = page_directory c.args.grain c.args.grains c.look.result c.read_deed.result (g.met.D.Desk.valid c.args.desk.now) c.requires.run.some c.requires.can c.look.ensures.makes c.read_deed.ensures in
     c.in_default.not-Some told.0 told.1
 
+pub put_mask-requires-clause-can : goal.put_mask-requires-clause-can
+put_mask-requires-clause-can g c = let grains = run_grains c.args.grain c.args.grains c.run.result c.requires.run.within c.run.ensures in
+    next_call (stamped_so c.args.grain c.args.grains c.look.result c.stamp.result c.run.result c.requires.run.some grains c.look.ensures.makes c.stamp.ensures.makes) c.requires.can (λ v met r. r.1)
+
 pub returned-requires-clause-directory : goal.returned-requires-clause-directory
 returned-requires-clause-directory g c =
     let told = page_directory c.args.grain c.args.grains c.look.result c.read_deed.result (g.met.D.Desk.valid c.args.desk.now) c.requires.run.some c.requires.can c.look.ensures.makes c.read_deed.ensures in
     let is = directory_is (g.D.Desk.standing c.args.desk.now).seat.profile c.look.result c.read_deed.result c.in-Some.directory told c.in-Some.is in
-    subst (λ s. IsDirectoryOf s.profile c.in-Some.directory) (sym (c.put_run.ensures.puts.adds.seat_is ∙ c.stamp.ensures.makes.seat_is ∙ c.look.ensures.makes.seat_is)) is.1
+    subst (λ s. IsDirectoryOf s.profile c.in-Some.directory) (sym (c.put_mask.ensures.puts.calls.adds.seat_is ∙ c.stamp.ensures.makes.seat_is ∙ c.look.ensures.makes.seat_is)) is.1
 
 pub returned-requires-clause-can : goal.returned-requires-clause-can
 returned-requires-clause-can g c =
-    let grain = c.args.grain in let grains = c.args.grains in let p = c.put_run.ensures.puts in
+    let grain = c.args.grain in let grains = c.args.grains in let p = c.put_mask.ensures.puts in
     let told = page_directory grain grains c.look.result c.read_deed.result (g.met.D.Desk.valid c.args.desk.now) c.requires.run.some c.requires.can c.look.ensures.makes c.read_deed.ensures in
     let is = directory_is (g.D.Desk.standing c.args.desk.now).seat.profile c.look.result c.read_deed.result c.in-Some.directory told c.in-Some.is in
-    can_call {C = λ v l. MayReturn grain grains v} (put_so grain grains c.look.result c.stamp.result c.requires.run.some c.look.ensures.makes c.stamp.ensures.makes p) c.requires.can
-    (λ v l stood met. knows_so grain grains c.look.result c.stamp.result c.in-Some.directory p.steps v is.0 p.order)
+    next_call (put_so grain grains c.look.result c.stamp.result c.run.result c.requires.run.some (run_grains grain grains c.run.result c.requires.run.within c.run.ensures) c.look.ensures.makes c.stamp.ensures.makes p) c.requires.can (λ v met r. r.1.deed ∙ is.0)
 
 pub returns-clause-returns : goal.returns-clause-returns
 returns-clause-returns g c =
-    let told = page_directory c.args.grain c.args.grains c.look.result c.read_deed.result (g.met.D.Desk.valid c.args.desk.now) c.requires.run.some c.requires.can c.look.ensures.makes c.read_deed.ensures in
+    let grain = c.args.grain in let grains = c.args.grains in
+    let told = page_directory grain grains c.look.result c.read_deed.result (g.met.D.Desk.valid c.args.desk.now) c.requires.run.some c.requires.can c.look.ensures.makes c.read_deed.ensures in
     let is = directory_is (g.D.Desk.standing c.args.desk.now).seat.profile c.look.result c.read_deed.result c.in-Some.directory told c.in-Some.is in
-    page_returned c.args.grain c.args.grains c.look.result c.stamp.result c.in-Some.directory c.requires.run is.0 c.look.ensures.makes c.stamp.ensures.makes c.put_run.ensures.puts c.returned.ensures.returns
+    page_returned grain grains c.look.result c.stamp.result c.run.result c.requires.run.some (run_grains grain grains c.run.result c.requires.run.within c.run.ensures) c.look.ensures.makes c.stamp.ensures.makes
+    c.in-Some.directory c.requires.run.within is.0 c.put_mask.ensures.puts c.returned.ensures.returns

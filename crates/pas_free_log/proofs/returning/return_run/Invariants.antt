@@ -1,8 +1,8 @@
 use Rattle.std.proofs.Common.{◌≡◌, ◌-◌, ◌+◌, ◌≤◌, List}
 use Rattle.pas_steps.specs.declared.step.Made.{Made}
-use Rattle.pas_steps.specs.Desks.{Adds}
+use Rattle.pas_steps.specs.Calls.{Does, Calls}
 use Rattle.pas_free_log.specs.Stamps.{page_count}
-use Rattle.pas_free_log.specs.Frames.{PutsBack}
+use Rattle.pas_free_log.specs.Frames.{run_freed, PutsBack}
 use Rattle.pas_free_log.specs.Returns.{MayReturn, PagesSteps}
 use Rattle.pas_free_log.proofs.Blocks.{IsBorder}
 use Rattle.pas_free_log.proofs.returning.return_run.Given as goal
@@ -11,9 +11,9 @@ use Rattle.pas_free_log.proofs.returning.return_run.Given as goal
 abbrev pub invariant-loop-from : goal.invariant-loop-from
 invariant-loop-from g l = let D = g.D.Desk in record {
   steps : List Made;
-  adds : Adds (D.standing l.fn.desk) (D.standing l.desk) (λ v w. MayReturn l.grain l.grains v) steps;
+  calls : Calls (D.standing l.fn.desk) (D.standing l.desk) (MayReturn l.grain l.grains) (Does (run_freed l.grain (l.from - l.grain))) steps;
   order : PagesSteps (page_count l.grain (l.from - l.grain)) l.grain l.grains steps;
-  back : PutsBack (D.standing l.fn.desk).seat.profile l.grain (l.from - l.grain) steps;
+  back : PutsBack l.grain (l.from - l.grain) steps;
   low : l.grain ≤ l.from;
   high : l.from ≤ l.grain + l.grains;
   border : IsBorder l.grain l.grains l.from;

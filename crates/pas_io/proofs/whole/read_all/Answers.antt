@@ -26,6 +26,14 @@ returns-in-Err-clause-takes g c = λ told is.
     (c.deref_mut.ensures.value ∙ c.in-Ok.ensures.items) (c.loop-taken.invariant.told told is)) in
     record { number = takes.number; within = (let w = takes.within in search rules); left = takes.left }
 
+pub returns-in-Err-clause-stopped : goal.returns-in-Err-clause-stopped
+returns-in-Err-clause-stopped g c = λ fault told is.
+    let full : c.loop-taken.taken ≡ length c.loop-taken.buffer.items = search rules in
+    let takes = c.in-Err.ensures.stopped told
+    (has_read_grown told (g.S.Source.rest c.loop-taken.source) c.loop-taken.buffer.items c.deref_mut.result.now (replicate (c.next_size.result - c.loop-taken.buffer.len) 0) c.loop-taken.taken c.next_size.result full (omega arith)
+    (c.deref_mut.ensures.value ∙ c.in-Ok.ensures.items) (c.loop-taken.invariant.told told is)) in
+    record { number = takes.number; within = (let w = takes.within in search rules); left = takes.left }
+
 pub returns-clause-input : goal.returns-clause-input
 returns-clause-input g c = λ told is.
     let read = c.loop-taken.invariant.told told is in

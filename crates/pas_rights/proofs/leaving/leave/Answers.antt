@@ -1,7 +1,7 @@
 use Rattle.std.proofs.Common.{sym, subst}
 use Rattle.pas_profile.proofs.Codecs.{directory_from_profile}
 use Rattle.pas_steps.proofs.Adding.{adds_under, can_call}
-use Rattle.pas_rights.specs.Rights.{EndsLeave}
+use Rattle.pas_rights.specs.Leaves.{EndsLeave}
 use Rattle.pas_rights.proofs.Ends.{may_still, leaves_by}
 use Rattle.pas_rights.proofs.leaving.leave.Goals as goal
 

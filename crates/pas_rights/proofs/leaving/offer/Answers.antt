@@ -2,7 +2,7 @@ use Rattle.std.proofs.Common.{[], ◌∷◌, ◌++◌, refl, sym, subst}
 use Rattle.pas_steps.specs.declared.step.Step.TheVariants.{Offer}
 use Rattle.pas_steps.specs.Desks.{made}
 use Rattle.pas_steps.proofs.Adding.{adds_none, adds_step, adds_call}
-use Rattle.pas_rights.specs.Rights.{HintsWhere}
+use Rattle.pas_rights.specs.Looks.{HintsWhere}
 use Rattle.pas_rights.proofs.leaving.offer.Goals as goal
 
 pub returns-then-all_free-clause-offers : goal.returns-then-all_free-clause-offers

@@ -1,7 +1,7 @@
 use Rattle.std.proofs.Common.{◌∷◌, ap, ◌∙◌, arith, ◌&&◌}
 use Rattle.std.proofs.lemmas.Bool.{eq-eqb}
 use Rattle.pas_steps.specs.Views.{all_ones}
-use Rattle.pas_rights.specs.Rights.{are_all_ones}
+use Rattle.pas_rights.specs.Looks.{are_all_ones}
 use Rattle.pas_steps.proofs.Adding.{can_step}
 use Rattle.pas_rights.proofs.Looks.{more_looks}
 use Rattle.pas_rights.proofs.looking.all_free.Goals as goal

@@ -1,6 +1,6 @@
 use Rattle.std.proofs.Common.{◌≡◌, ℕ, List, length, true}
 use Rattle.pas_steps.specs.Desks.{Anything, Adds}
-use Rattle.pas_rights.specs.Rights.{looks, are_all_ones}
+use Rattle.pas_rights.specs.Looks.{looks, are_all_ones}
 use Rattle.pas_rights.proofs.looking.all_free.Given as goal
 
 -- the looks so far showed each grain as free

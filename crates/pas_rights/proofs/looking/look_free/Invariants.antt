@@ -1,6 +1,6 @@
 use Rattle.std.proofs.Common.{◌≡◌, ℕ, List, length}
 use Rattle.pas_steps.specs.Desks.{Anything, Adds}
-use Rattle.pas_rights.specs.Rights.{looks, any_usable, are_all_ones}
+use Rattle.pas_rights.specs.Looks.{looks, any_usable, are_all_ones}
 use Rattle.pas_rights.proofs.looking.look_free.Given as goal
 
 -- the looks so far, and what they showed

@@ -1,6 +1,6 @@
 use Rattle.std.proofs.Common.{[], refl, sym, subst}
 use Rattle.pas_steps.proofs.Adding.{adds_none}
-use Rattle.pas_rights.specs.Rights.{HintsWhere}
+use Rattle.pas_rights.specs.Looks.{HintsWhere}
 use Rattle.pas_rights.proofs.Ends.{returned_by}
 use Rattle.pas_rights.proofs.returning.returned.Goals as goal
 

@@ -15,7 +15,7 @@ pub returns-in-Ok-TooLong-clause-sink_failed : goal.returns-in-Ok-TooLong-clause
 returns-in-Ok-TooLong-clause-sink_failed g c =
     let order : IsOrder (texts_of c.args.words.now) = search rules in
     cut_off _ _ _ _ _ _ too_long_text 6 c.tell-in-Ok-TooLong.result c.tell-in-Ok-TooLong.ensures
-    (inr (order, λ bytes told. inr (inr (inl (refl, record { long = subst (IsInput most_bytes bytes) c.in-Ok-TooLong.field-0-is (c.in-Ok-TooLong.ensures.input bytes told); text_is = refl }))))) (λ e. omega (arith, e))
+    (inr (order, λ two. omega (arith, two), λ bytes told. inr (inr (inl (refl, record { long = subst (IsInput most_bytes bytes) c.in-Ok-TooLong.field-0-is (c.in-Ok-TooLong.ensures.input bytes told); text_is = refl }))))) (λ e. omega (arith, e))
 
 pub tell_outcome-requires : goal.tell_outcome-requires
 tell_outcome-requires g c = can_write c.deref.result.now c.in-Ok.outcome c.in-Ok.ensures

@@ -1,6 +1,6 @@
 use Rattle.std.proofs.Common.{◌≡◌, ℕ, true, ◌∷◌, []}
 use Rattle.pas_profile.specs.declared.directory.Directory.{Directory}
-use Rattle.pas_rights.specs.Rights.{MayLeave}
+use Rattle.pas_rights.specs.Leaves.{MayLeave}
 use Rattle.pas_steps.specs.Calls.{AnyView, Calls}
 use Rattle.pas_steps.specs.Desks.{Standing, made, Makes}
 use Rattle.pas_steps.specs.declared.step.Step.TheVariants.{Deed}

@@ -1,6 +1,6 @@
 use Rattle.std.proofs.Common.{◌∙◌, arith}
 use Rattle.pas_steps.proofs.Called.{call_step, next_step}
-use Rattle.pas_rights.specs.Rights.{MayLeave}
+use Rattle.pas_rights.specs.Leaves.{MayLeave}
 use Rattle.pas_trials.proofs.holding.take_words.Goals as goal
 
 pub take-requires-clause-can : goal.take-requires-clause-can

@@ -1,5 +1,5 @@
 use Rattle.std.proofs.Common.{◌≡◌}
-use Rattle.pas_rights.specs.Rights.{MayLeave}
+use Rattle.pas_rights.specs.Leaves.{MayLeave}
 use Rattle.pas_trials.specs.Trials.{Brings}
 use Rattle.pas_trials.proofs.holding.take_words.Given as goal
 

@@ -1,13 +1,14 @@
 use Rattle.std.proofs.Common.{◌≡◌, ◌++◌, false, subst}
 use Rattle.pas_steps.specs.Views.{has_right}
 use Rattle.pas_steps.proofs.Called.{call_then}
-use Rattle.pas_rights.specs.Rights.{MayLeave}
+use Rattle.pas_rights.specs.Leaves.{MayLeave}
 use Rattle.pas_trials.specs.Trials.{MayLeaveIf}
+use Rattle.pas_rights.proofs.Debts.{leave_lacks}
 use Rattle.pas_trials.proofs.holding.visit.Goals as goal
 
 pub returns-clause-brings : goal.returns-clause-brings
 returns-clause-brings g c = let page = c.args.page in let d = c.args.directory in let leaves = c.leave.ensures.leaves in record {
   steps = _;
   calls = call_then {C = λ v. MayLeave page d v} {S = λ v w. has_right w page ≡ false} _ c.occupy.ensures.brings.calls
-      record { adds = leaves.adds; leads = record { from = λ v m agreed. leaves.right v } } (λ v m b. subst (λ t. MayLeaveIf t page d (c.occupy.ensures.brings.steps ++ v)) c.if-not-occupy.false b) (λ v m b left counted. left);
+      record { adds = leaves.calls.adds; leads = record { from = λ v m agreed. leave_lacks page d leaves.steps v leaves.order } } (λ v m b. subst (λ t. MayLeaveIf t page d (c.occupy.ensures.brings.steps ++ v)) c.if-not-occupy.false b) (λ v m b left counted. left);
 }

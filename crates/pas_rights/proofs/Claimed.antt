@@ -1,0 +1,31 @@
+-- What a claim comes to.
+use Rattle.std.proofs.Common.{◌≡◌, ℕ, ◌%◌, Bool, true, false, if◌then◌else◌, [], ◌∷◌, refl, sym, ◌∙◌}
+use Rattle.pas_profile.specs.Classes.{has_bit}
+use Rattle.pas_profile.specs.declared.directory.Directory.{Directory}
+use Rattle.pas_steps.specs.Calls.{Kept, Gained, now, on_page, Does}
+use Rattle.pas_steps.specs.Desks.{Standing, Makes, made}
+use Rattle.pas_steps.specs.Frames.{IsOnPage}
+use Rattle.pas_steps.specs.Kinds.{Claiming}
+use Rattle.pas_steps.specs.Views.{View, has_right}
+use Rattle.pas_steps.specs.declared.step.Step.TheVariants.{TakeRight}
+use Rattle.pas_steps.proofs.Adding.{adds_none, adds_step}
+use Rattle.pas_steps.proofs.Calls.{does_on_page}
+use Rattle.pas_rights.specs.Claims.{Claims}
+use Rattle.pas_rights.proofs.Orders.{gets, gets_none}
+
+claimed_right : (p : ℕ) (d : Directory) (a : ℕ) (got : Bool) (v : View) → got ≡ has_bit a (p % 64) → has_right (made (TakeRight p d) a ∷ v) p ≡ now (if got then Gained else Kept) (has_right v p)
+claimed_right p d a true v is = gets p a (has_right v p) (sym is)
+claimed_right p d a false v is = gets_none p a (has_right v p) (sym is)
+
+pub claims : {σ σ' : Standing} (p : ℕ) (d : Directory) (a : ℕ) (got : Bool) → got ≡ has_bit a (p % 64) → Makes σ σ' (TakeRight p d) a → Claims p d σ σ' got
+claims {σ} p d a got is makes = record {
+  answer = a;
+  got_is = is;
+  calls = record {
+    adds = adds_step adds_none makes (λ v l stood met. met);
+    leads = record {
+      from = λ v met agreed. does_on_page σ.seat.profile p (if got then Gained else Kept) Kept (Claiming ∷ []) refl refl (made (TakeRight p d) a ∷ []) v (refl, tt) (IsOnPage.Claims d, tt) agreed (claimed_right p d a got v is)
+          (λ is. record { stamped = is.stamped; owes = record { checks = λ w lt. is.owes.checks w lt; hint = is.owes.hint }; examined = is.examined });
+    };
+  };
+}

@@ -1,0 +1,117 @@
+-- The grains of a mask of one page, put back word by word.
+use Rattle.std.proofs.Common.{◌≡◌, ◌≢◌, ℕ, zero, suc, ◌+◌, ◌/◌, ◌%◌, ◌<◌, ◌≤◌, ◌==◌, nat_lt, Bool, true, false, ◌&&◌, ◌||◌, if◌then◌else◌, List, [], ◌∷◌, ◌++◌, length, slice_index, inl, inr, refl, ap, sym, ◌∙◌, subst, arith}
+use Rattle.std.proofs.lemmas.Bool.{eqb-true, eq-eqb, lt-ltb, le-ltb, and_parts}
+use Rattle.std.proofs.lemmas.Bool.Decides.{nat_tests}
+use Rattle.pas_profile.specs.Classes.{has_bit}
+use Rattle.pas_bits.specs.declared.mask.Mask4.{Mask4}
+use Rattle.pas_bits.specs.Masks.{is_set}
+use Rattle.pas_bits.proofs.Words.{none_of_zero}
+use Rattle.pas_steps.specs.Calls.{Calls, Does, Kept, Lost, now, put, nothing}
+use Rattle.pas_steps.specs.Desks.{Standing, made}
+use Rattle.pas_steps.specs.Effects.{in_mask}
+use Rattle.pas_steps.specs.Frames.{IsOnPage, OnlyOn}
+use Rattle.pas_steps.specs.InTurn.{numbers_below}
+use Rattle.pas_steps.specs.Kinds.{Putting, Only, is_in, kind_of}
+use Rattle.pas_steps.specs.Views.{View, holds}
+use Rattle.pas_steps.specs.declared.step.Made.{Made}
+use Rattle.pas_steps.proofs.Apart.{unstamped_same}
+use Rattle.pas_steps.proofs.Called.{call_then, call_as}
+use Rattle.pas_steps.proofs.Calls.{does_none}
+use Rattle.pas_steps.proofs.InTurn.{in_turn_always, in_turn_length}
+use Rattle.pas_steps.proofs.Sets.{put_both, put_as, put_nothing}
+use Rattle.pas_rights.specs.Puts.{masked, MayPut, WordPut, PutsBelow, MayPutWord, PutsWord, PutsMask}
+
+-- ---- one word
+and_last : (s t : Bool) → t ≡ false → (s && t) ≡ false
+and_last true t h = h
+and_last false t h = refl
+
+none_in : (page word mask g : ℕ) → mask ≡ 0 → in_mask page word mask g ≡ false
+none_in page word mask g z = and_last ((word == g / 64 % 4) && (page == g / 256)) (has_bit mask (g % 64)) (ap (λ m. has_bit m (g % 64)) z ∙ none_of_zero (g % 64))
+
+pub word_none : (page word mask : ℕ) (v : View) → mask ≡ 0 → Does (put (in_mask page word mask) page) v v
+word_none page word mask v z = put_nothing (in_mask page word mask) page (does_none v) (λ g. none_in page word mask g z)
+
+word_kind : (page word mask : ℕ) (steps : List Made) → WordPut page word mask steps → Only (Putting ∷ []) steps
+word_kind page word mask steps (inl none) = subst (Only (Putting ∷ [])) (sym none.1) tt
+word_kind page word mask steps (inr some) = subst (Only (Putting ∷ [])) (sym some.2) (refl, tt)
+
+word_on : (page word mask : ℕ) (steps : List Made) → WordPut page word mask steps → OnlyOn page steps
+word_on page word mask steps (inl none) = subst (OnlyOn page) (sym none.1) tt
+word_on page word mask steps (inr some) = subst (OnlyOn page) (sym some.2) (IsOnPage.Puts word mask, tt)
+
+word_few : (page word mask : ℕ) (steps : List Made) → WordPut page word mask steps → length steps ≤ 1
+word_few page word mask steps (inl none) = let n : length steps ≡ 0 = ap length none.1 in omega (arith, n)
+word_few page word mask steps (inr some) = let n : length steps ≡ 1 = ap length some.2 in omega (arith, n)
+
+-- ---- the words below n
+abbrev pub masked_below : ℕ → Mask4 → ℕ → ℕ → Bool
+masked_below page mask n g = nat_lt (g / 64 % 4) n && masked page mask g
+
+-- a grain of word n is in its mask there, and one of another word isn't
+behind : (s t u v : Bool) → (s ≡ true → u ≡ v) → (s && t && u) ≡ (s && (t && v))
+behind true t u v same = ap (λ x. t && x) (same refl)
+behind false t u v same = refl
+
+in_word : (page : ℕ) (mask : Mask4) (n g : ℕ) → in_mask page n (slice_index mask.0 n) g ≡ ((n == g / 64 % 4) && masked page mask g)
+in_word page mask n g = behind (n == g / 64 % 4) (page == g / 256) (has_bit (slice_index mask.0 n) (g % 64)) (is_set mask (g % 256)) (λ e.
+    let at : n ≡ g / 64 % 4 = eqb-true n (g / 64 % 4) e in
+    let word : n ≡ g % 256 / 64 = omega (arith, at) in
+    let bit : g % 64 ≡ g % 256 % 64 = omega arith in
+    ap (λ w. has_bit (slice_index mask.0 w) (g % 64)) word ∙ ap (has_bit (slice_index mask.0 (g % 256 / 64))) bit)
+
+next_word : (w n : ℕ) → nat_lt w (n + 1) ≡ (nat_lt w n || (n == w))
+next_word w n = grind (arith, nat_tests)
+
+or_same : (m t : Bool) → (m || (t && m)) ≡ m
+or_same true t = refl
+or_same false true = refl
+or_same false false = refl
+
+shared : (s t m : Bool) → ((s && m) || (t && m)) ≡ ((s || t) && m)
+shared true t m = or_same m t
+shared false t m = refl
+
+below_more : (page : ℕ) (mask : Mask4) (n g : ℕ) → (masked_below page mask n g || in_mask page n (slice_index mask.0 n) g) ≡ masked_below page mask (n + 1) g
+below_more page mask n g =
+    ap (λ t. masked_below page mask n g || t) (in_word page mask n g) ∙ shared (nat_lt (g / 64 % 4) n) (n == g / 64 % 4) (masked page mask g) ∙ ap (λ t. t && masked page mask g) (sym (next_word (g / 64 % 4) n))
+
+none_below : (page : ℕ) (mask : Mask4) (g : ℕ) → masked_below page mask 0 g ≡ false
+none_below page mask g = ap (λ t. t && masked page mask g) (le-ltb (g / 64 % 4) 0 (omega arith))
+
+all_below : (page : ℕ) (mask : Mask4) (g : ℕ) → masked_below page mask 4 g ≡ masked page mask g
+all_below page mask g = ap (λ t. t && masked page mask g) (lt-ltb (g / 64 % 4) 4 (omega arith))
+
+pub puts_kinds : (page : ℕ) (mask : Mask4) (n : ℕ) (steps : List Made) → PutsBelow page mask n steps → Only (Putting ∷ []) steps
+puts_kinds page mask n = in_turn_always (λ word piece. WordPut page word (slice_index mask.0 word) piece) (λ m. is_in (Putting ∷ []) (kind_of m.step) ≡ true) (λ word. word_kind page word (slice_index mask.0 word)) (numbers_below n)
+
+puts_on : (page : ℕ) (mask : Mask4) (n : ℕ) (steps : List Made) → PutsBelow page mask n steps → OnlyOn page steps
+puts_on page mask n = in_turn_always (λ word piece. WordPut page word (slice_index mask.0 word) piece) (λ m. IsOnPage page m.step) (λ word. word_on page word (slice_index mask.0 word)) (numbers_below n)
+
+-- ---- the calls
+pub may_put_word : (page : ℕ) (mask : Mask4) (n : ℕ) (steps : List Made) (v : View) → PutsBelow page mask n steps → MayPut page mask v → Does (put (masked_below page mask n) page) v (steps ++ v) → MayPutWord page n (slice_index mask.0 n) (steps ++ v)
+may_put_word page mask n steps v order met does = record {
+  held = λ g here.
+      let at = and_parts (n == g / 64 % 4) (masked page mask g) (sym (in_word page mask n g) ∙ here) in
+      let past : masked_below page mask n g ≡ false = let e : n ≡ g / 64 % 4 = eqb-true n (g / 64 % 4) at.0 in ap (λ t. t && masked page mask g) (le-ltb (g / 64 % 4) n (omega (arith, e))) in
+      does.held g ∙ ap (λ t. now (if t then Lost else Kept) (holds v g)) past ∙ met.held g at.1;
+  stamped = unstamped_same (Putting ∷ []) refl page steps v (puts_kinds page mask n steps order) ∙ met.stamped;
+}
+
+pub puts_none : (page : ℕ) (mask : Mask4) (v : View) → Does (put (masked_below page mask 0) page) v v
+puts_none page mask v = put_nothing (masked_below page mask 0) page (does_none v) (none_below page mask)
+
+pub puts_more : {σ σ1 σ2 : Standing} (page : ℕ) (mask : Mask4) (n : ℕ) (steps : List Made) → PutsBelow page mask n steps → Calls σ σ1 (MayPut page mask) (Does (put (masked_below page mask n) page)) steps
+    → (p : PutsWord page n (slice_index mask.0 n) σ1 σ2) → Calls σ σ2 (MayPut page mask) (Does (put (masked_below page mask (n + 1)) page)) (p.steps ++ steps)
+puts_more page mask n steps order calls p = call_then (Does (put (masked_below page mask (n + 1)) page)) calls p.calls (λ v met d. may_put_word page mask n steps v order met d)
+    (λ v met d e. put_both (masked_below page mask n) (in_mask page n (slice_index mask.0 n)) (masked_below page mask (n + 1)) page d e (below_more page mask n))
+
+pub puts_all : {σ σ1 : Standing} (page : ℕ) (mask : Mask4) (steps : List Made) → PutsBelow page mask 4 steps → Calls σ σ1 (MayPut page mask) (Does (put (masked_below page mask 4) page)) steps → PutsMask page mask σ σ1
+puts_all page mask steps order calls = record {
+  steps = steps;
+  calls = call_as (Does (put (masked page mask) page)) calls (λ v met. met) (λ v w met d. put_as (masked_below page mask 4) (masked page mask) page d (all_below page mask));
+  order = order;
+  kinds = puts_kinds page mask 4 steps order;
+  on = puts_on page mask 4 steps order;
+  few = in_turn_length (λ word piece. WordPut page word (slice_index mask.0 word) piece) 1 (λ word. word_few page word (slice_index mask.0 word)) (numbers_below 4) steps order;
+}

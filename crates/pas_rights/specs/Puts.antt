@@ -1,0 +1,49 @@
+-- Grains of one page that are put back.
+use Rattle.std.specs.Prelude.{ℕ, ◌/◌, ◌%◌, ◌≤◌, ◌≡◌, ◌≢◌, ◌==◌, ◌⊎◌, Bool, true, false, ◌&&◌, List, [], ◌∷◌, length, slice_index}
+use Rattle.pas_bits.specs.declared.mask.Mask4.{Mask4}
+use Rattle.pas_bits.specs.Masks.{is_set}
+use Rattle.pas_steps.specs.Calls.{Calls, Does, put}
+use Rattle.pas_steps.specs.Desks.{Standing, made}
+use Rattle.pas_steps.specs.Effects.{in_mask}
+use Rattle.pas_steps.specs.Frames.{OnlyOn}
+use Rattle.pas_steps.specs.InTurn.{InTurn, numbers_below}
+use Rattle.pas_steps.specs.Kinds.{Putting, Only}
+use Rattle.pas_steps.specs.Views.{View, holds, is_unstamped}
+use Rattle.pas_steps.specs.declared.step.Made.{Made}
+use Rattle.pas_steps.specs.declared.step.Step.TheVariants.{Put}
+
+-- the grain, a number of the region, is one of the mask's on the page
+abbrev pub masked : ℕ → Mask4 → ℕ → Bool
+masked page mask g = (page == g / 256) && is_set mask (g % 256)
+
+-- the grains of the mask are held, and the page isn't unstamped
+pub record MayPut (page : ℕ) (mask : Mask4) (v : View) : Type 0 where
+  pub held : (g : ℕ) → masked page mask g ≡ true → holds v g ≡ true
+  pub stamped : is_unstamped v page ≡ false
+
+-- one put of a free word's grains, or none where there are none
+abbrev pub WordPut : ℕ → ℕ → ℕ → List Made → Type 0
+WordPut page word mask steps = ((mask ≡ 0) × (steps ≡ [])) ⊎ ((mask ≢ 0) × (a : ℕ) × (steps ≡ made (Put page word mask) a ∷ []))
+
+-- the puts of the free words below n, the lowest first
+abbrev pub PutsBelow : ℕ → Mask4 → ℕ → List Made → Type 0
+PutsBelow page mask n steps = InTurn (λ word piece. WordPut page word (slice_index mask.0 word) piece) (numbers_below n) steps
+
+-- The grains of the mask were put back, by a put for each free word of the page that has any, and by nothing else.
+pub record PutsMask (page : ℕ) (mask : Mask4) (desk desk' : Standing) : Type 0 where
+  pub steps : List Made
+  pub calls : Calls desk desk' (MayPut page mask) (Does (put (masked page mask) page)) steps
+  pub order : PutsBelow page mask 4 steps
+  pub kinds : Only (Putting ∷ []) steps
+  pub on : OnlyOn page steps
+  pub few : length steps ≤ 4
+
+-- ---- of private functions: the grains of one free word
+pub record MayPutWord (page word mask : ℕ) (v : View) : Type 0 where
+  pub held : (g : ℕ) → in_mask page word mask g ≡ true → holds v g ≡ true
+  pub stamped : is_unstamped v page ≡ false
+
+pub record PutsWord (page word mask : ℕ) (desk desk' : Standing) : Type 0 where
+  pub steps : List Made
+  pub calls : Calls desk desk' (MayPutWord page word mask) (Does (put (in_mask page word mask) page)) steps
+  pub order : WordPut page word mask steps
