@@ -96,7 +96,7 @@ RequestEnds k v heap class align steps answer = MatchResult answer (IsGiven k v 
 pub record IsServed (f : Profile) (k : ℕ) (v : View) (c c' : Cached) (name heap size align : ℕ) (steps : List Made) (said : Option Said) (block : Option Block) : Type 0 where
   pub route : IsClassRoute (route_of size align)
   pub answer : Result Block NoRoom
-  pub serves : ServesRequest f heap (class_of (route_of size align)) c c' steps answer
+  pub serves : ServesRequest f (class_directory heap (class_of (route_of size align))) heap (class_of (route_of size align)) c c' steps answer
   pub kinds : Only allocating steps
   pub ends : RequestEnds k v heap (class_of (route_of size align)) align steps answer
   pub said_is : said ≡ said_of_request name answer
@@ -123,7 +123,7 @@ IsFreedBy f k c c' name (Some (Some block)) steps said = IsFreed f k c c' block.
 -- ---- a flush and a stop
 pub record IsFlushed (k : ℕ) (c c' : Cached) (steps : List Made) : Type 0 where
   pub empties : EmptiesLog k c.log steps
-  pub cache : c' ≡ record { locals = c.locals; log = []; idle_since = c.idle_since }
+  pub cache : c' ≡ record c { log = [] }
 
 -- the log is emptied, then each local allocator is stopped, without an event, and nothing is cached then
 pub record IsStopped (k : ℕ) (c c' : Cached) (steps : List Made) : Type 0 where
@@ -132,7 +132,7 @@ pub record IsStopped (k : ℕ) (c c' : Cached) (steps : List Made) : Type 0 wher
   pub empties : EmptiesLog k c.log flushed
   pub stops : StopsAll c.locals stopped
   pub silent : (v : View) → events_by k v stopped ≡ []
-  pub cache : c' ≡ record { locals = []; log = []; idle_since = c.idle_since }
+  pub cache : c' ≡ record c { locals = []; log = [] }
   pub steps_are : steps ≡ stopped ++ flushed
 
 -- ---- operations and acts
@@ -150,7 +150,7 @@ IsAnswered f k (Idle n) names v c steps said names' c' = ⊥
 
 -- the cache after its thread read this epoch at the start of a phase
 abbrev pub begun : Cached → ℕ → Cached
-begun c epoch = record { locals = c.locals; log = c.log; idle_since = epoch }
+begun c epoch = record c { idle_since = epoch }
 
 -- The acts are answered by pieces, in order: the steps of each go onto the list that those before it left, and its records to the end of the
 -- records: the events of the steps, and what is said. They begin as l and rs, with what the names stand for and what the caches hold, and end as
