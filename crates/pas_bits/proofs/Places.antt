@@ -1,73 +1,47 @@
 -- The lowest bits of a mask, and the lowest places of a run of set bits.
-use Rattle.std.proofs.Common.{◌≡◌, ◌≢◌, ℕ, ◌+◌, ◌-◌, ◌*◌, ◌/◌, ◌%◌, ◌^◌, ◌<◌, ◌≤◌, ◌==◌, not, min, Bool, true, false, refl, slice_index, Option, None, Some, MatchOption, inl, inr, ap, sym, ◌∙◌, arith}
-use Rattle.std.specs.Int.{bit_at, w64, trailing_zeros}
-use Rattle.std.proofs.lemmas.Bool.{cases_lt, cases_order}
-use Rattle.std.proofs.lemmas.Nat.{shr-shr, shr_le, div-add-mod', same_from_place, mod-mul-add}
-use Rattle.std.proofs.lemmas.Nat.Bits.{bit_at-trailing_zeros, bit_at_above}
+use Rattle.std.proofs.Common.{◌≡◌, ◌≢◌, ℕ, ◌+◌, ◌-◌, ◌*◌, ◌/◌, ◌%◌, ◌^◌, ◌<◌, ◌≤◌, not, min, Bool, true, false, refl, slice_index, Option, None, Some, MatchBool, MatchOption, inl, inr, ap, ◌∙◌, arith}
+use Rattle.std.specs.Int.{w64, trailing_zeros}
+use Rattle.std.specs.Option.{is_some}
+use Rattle.std.proofs.lemmas.Bool.{cases_lt}
+use Rattle.std.proofs.lemmas.Nat.{div-add-mod', same_from_place, mod-mul-add}
 use Rattle.std.proofs.lemmas.Grind.{div_ceil_times}
-use Rattle.pas_profile.specs.Classes.{has_bit, class_grains, usable_grains, IsSlotStart}
 use Rattle.pas_bits.specs.declared.mask.Mask4.{Mask4}
-use Rattle.pas_bits.specs.Masks.{is_set, AreSet, AllSetBelow, AreClear, IsLowestSet, IsLowestClear, IsRunEnd, IsPlace, HasNoPlace, IsLowestPlace}
-use Rattle.pas_bits.proofs.Words.{is_one, is_zero, none_of_zero, by_word}
+use Rattle.pas_bits.specs.Masks.{is_set, AllSetBelow, AreClear, IsLowestSet, IsLowestClear, IsEmpty, HasMember, IsRunEnd, IsPlace, HasNoPlace, IsLowestPlace}
+use Rattle.pas_bits.proofs.LowestBits.{none_from, lowest_from}
+use Rattle.pas_bits.proofs.Words.{by_word, at_word}
 use Rattle.pas_bits.proofs.Runs.{from_not}
 
 -- ---- the lowest set bit
--- x is bit `x % 64 - low` of what is left of its word after a shift by `low`
-shifted : (mask : Mask4) (word low x : ℕ) → x / 64 ≡ word → low ≤ x % 64 → is_set mask x ≡ has_bit (slice_index mask.0 word / 2 ^ low) (x % 64 - low)
-shifted mask word low x at h =
-    let whole : x % 64 ≡ low + (x % 64 - low) = omega (arith, h) in
-    by_word mask word x at
-    ∙ ap (λ n. n == 1) (ap (λ i. slice_index mask.0 word / 2 ^ i % 2) whole ∙ ap (λ n. n % 2) (sym (shr-shr (slice_index mask.0 word) low (x % 64 - low))))
-
 -- a word that is left as 0 has no set bit from there on
 pub none_left : (mask : Mask4) (from word low : ℕ) → low ≡ from - 64 * word → slice_index mask.0 word / 2 ^ low ≡ 0 → AreClear mask from (64 * word) → AreClear mask from (64 * (word + 1))
 none_left mask from word low is nothing before x a b = elim (cases_lt x (64 * word)) [
   | inl lt ↦ before x a lt
-  | inr ge ↦ shifted mask word low x (omega (arith, ge, b)) (omega (arith, is, a, ge, b)) ∙ ap (λ n. has_bit n (x % 64 - low)) nothing ∙ none_of_zero (x % 64 - low)
+  | inr ge ↦ by_word mask word x (omega (arith, ge, b)) ∙ none_from (slice_index mask.0 word) low (x % 64) nothing (omega (arith, is, a, ge, b))
 ]
 
--- where a word isn't left as 0, its lowest bit there is within it
-pub lowest_fits : (mask : Mask4) (word low : ℕ) → low < 64 → slice_index mask.0 word < 2 ^ 64 → slice_index mask.0 word / 2 ^ low ≢ 0 → low + trailing_zeros w64 (slice_index mask.0 word / 2 ^ low) < 64
-lowest_fits mask word low within fits some =
-    let n = slice_index mask.0 word in
-    let s = shr_le (slice_index mask.0 word) low in
-    let t = bit_at-trailing_zeros w64 (slice_index mask.0 word / 2 ^ low) (omega (arith, some)) (omega (arith, s, fits)) in
-    let z = trailing_zeros w64 (slice_index mask.0 word / 2 ^ low) in
-    let one : bit_at (slice_index mask.0 word) (low + trailing_zeros w64 (slice_index mask.0 word / 2 ^ low)) ≡ 1
-    = ap (λ n. n % 2) (sym (shr-shr (slice_index mask.0 word) low (trailing_zeros w64 (slice_index mask.0 word / 2 ^ low)))) ∙ t.1 in
-    elim (cases_lt (low + trailing_zeros w64 (slice_index mask.0 word / 2 ^ low)) 64) [
-      | inl lt ↦ lt
-      | inr ge ↦ absurd (let a = bit_at_above (slice_index mask.0 word) 64 (low + trailing_zeros w64 (slice_index mask.0 word / 2 ^ low)) fits ge in omega (arith, a, one))
-    ]
-
--- a bit of the word by its place `b`
-by_place : (mask : Mask4) (word b : ℕ) → b < 64 → (t : Bool) → has_bit (slice_index mask.0 word) b ≡ t → is_set mask (64 * word + b) ≡ t
-by_place mask word b h t is =
-    let at : (64 * word + b) / 64 ≡ word = omega (arith, h) in
-    let bit : (64 * word + b) % 64 ≡ b = omega (arith, h) in
-    by_word mask word (64 * word + b) at ∙ ap (has_bit (slice_index mask.0 word)) bit ∙ is
-
+-- where a word isn't left as 0, its lowest bit there is the mask's
 pub lowest_is : (mask : Mask4) (from word low g : ℕ) → g ≡ 64 * word + low + trailing_zeros w64 (slice_index mask.0 word / 2 ^ low) → low ≡ from - 64 * word → from / 64 ≤ word → word < 4 → slice_index mask.0 word < 2 ^ 64
     → slice_index mask.0 word / 2 ^ low ≢ 0 → AreClear mask from (64 * word) → IsLowestSet mask from g
 lowest_is mask from word low g at is began small fits some before =
-    let s = shr_le (slice_index mask.0 word) low in
-    let t = bit_at-trailing_zeros w64 (slice_index mask.0 word / 2 ^ low) (omega (arith, some)) (omega (arith, s, fits)) in
-    let z = trailing_zeros w64 (slice_index mask.0 word / 2 ^ low) in
-    let inside = lowest_fits mask word low (omega (arith, is, began)) fits some in
-    let one : bit_at (slice_index mask.0 word) (low + trailing_zeros w64 (slice_index mask.0 word / 2 ^ low)) ≡ 1
-    = ap (λ n. n % 2) (sym (shr-shr (slice_index mask.0 word) low (trailing_zeros w64 (slice_index mask.0 word / 2 ^ low)))) ∙ t.1 in
+    let found = lowest_from (slice_index mask.0 word) low fits some in
+    let inside = found.within in
     let g_is : g ≡ 64 * word + (low + trailing_zeros w64 (slice_index mask.0 word / 2 ^ low)) = omega (arith, at) in
     record {
       above = omega (arith, is, at);
       within = omega (arith, inside, small, at);
-      set = ap (is_set mask) g_is
-          ∙ by_place mask word (low + trailing_zeros w64 (slice_index mask.0 word / 2 ^ low)) inside true (is_one (slice_index mask.0 word) (low + trailing_zeros w64 (slice_index mask.0 word / 2 ^ low)) one);
+      set = ap (is_set mask) g_is ∙ at_word mask word (low + trailing_zeros w64 (slice_index mask.0 word / 2 ^ low)) inside ∙ found.set;
       lowest = λ x a b. elim (cases_lt x (64 * word)) [
         | inl lt ↦ before x a lt
-        | inr ge ↦ shifted mask word low x (omega (arith, ge, b, at, inside)) (omega (arith, is, a, ge, b, at, inside))
-            ∙ is_zero (slice_index mask.0 word / 2 ^ low) (x % 64 - low) (t.2 (x % 64 - low) (omega (arith, ge, b, at, inside, is, a)))
+        | inr ge ↦ by_word mask word x (omega (arith, ge, b, at, inside)) ∙ found.lowest (x % 64) (omega (arith, is, a, ge, b, at, inside)) (omega (arith, ge, b, at, inside, is, a))
       ];
     }
+
+-- there is none exactly in an empty mask
+pub is_empty_by : (mask : Mask4) (o : Option ℕ) → MatchOption o (AreClear mask 0 256) (λ g. IsLowestSet mask 0 g) → (t : Bool) → is_some o ≡ not t → MatchBool t (IsEmpty mask) (HasMember mask)
+is_empty_by mask None clear true e = λ g lt. clear g (omega arith) lt
+is_empty_by mask None clear false e = cc
+is_empty_by mask (Some g) low true e = cc
+is_empty_by mask (Some g) low false e = (g, low.within, low.set)
 
 -- ---- the lowest clear bit, by the other bits of the mask
 abbrev pub AreOthers : Mask4 → Mask4 → Type 0
@@ -156,16 +130,4 @@ place_found mask n align end place stop whole within long before run = record {
   lowest = before;
 }
 
--- two lowest places are one
-pub same_lowest : (mask : Mask4) (n align end g h : ℕ) → IsLowestPlace mask n align end g → IsLowestPlace mask n align end h → g ≡ h
-same_lowest mask n align end g h a b = elim (cases_order g h) [
-  | inl same ↦ same
-  | inr other ↦ elim other [ inl lt ↦ absurd (b.lowest g lt a.place) | inr gt ↦ absurd (a.lowest h gt b.place) ]
-]
-
 -- ---- places of slots of a class
-pub slot_start : (mask : Mask4) (class g : ℕ) → IsPlace mask (class_grains class) (class_grains class) (usable_grains class) g → IsSlotStart class g
-slot_start mask class g place = record { aligned = place.aligned; within = place.within }
-
-pub slot_place : (mask : Mask4) (class g : ℕ) → IsSlotStart class g → AreSet mask g (class_grains class) → IsPlace mask (class_grains class) (class_grains class) (usable_grains class) g
-slot_place mask class g start set = record { aligned = start.aligned; within = start.within; set = set }

@@ -7,22 +7,11 @@ use Rattle.std.proofs.lemmas.Bool.Decides.{nat_tests}
 use Rattle.std.proofs.lemmas.Nat.{pow_pos, and_le_l}
 use Rattle.std.proofs.lemmas.Nat.Bits.{bit_at-trailing_zeros, bit_at_mask_inside, bit_at_mask_below, bit_at_mask_above, ones_shr}
 use Rattle.pas_profile.specs.Classes.{has_bit}
+use Rattle.pas_profile.specs.Runs.{in_run}
+use Rattle.pas_profile.proofs.Runs.{run_of, to_run, run_below, run_above}
 use Rattle.pas_bits.specs.declared.mask.Mask4.{Mask4}
-use Rattle.pas_bits.specs.Masks.{is_set, in_run, AreSet, AreApart}
+use Rattle.pas_bits.specs.Masks.{is_set, AreSet, AreApart}
 use Rattle.pas_bits.proofs.Words.{is_one, none_of_zero, bit_of_and, by_word, at_word, set_within}
-
--- ---- membership in a run
-pub run_of : (g n x : ℕ) → in_run g n x ≡ true → (g ≤ x) × (x < g + n)
-run_of g n x h = (grind (arith, nat_tests, h), grind (arith, nat_tests, h))
-
-pub to_run : (g n x : ℕ) → g ≤ x → x < g + n → in_run g n x ≡ true
-to_run g n x a b = grind (arith, nat_tests, a, b)
-
-pub run_below : (g n x : ℕ) → x < g → in_run g n x ≡ false
-run_below g n x a = grind (arith, nat_tests, a)
-
-pub run_above : (g n x : ℕ) → g + n ≤ x → in_run g n x ≡ false
-run_above g n x a = grind (arith, nat_tests, a)
 
 -- ---- a run's bits in one word
 pub ones_are : (bits : ℕ) → bits ≤ 64 → 18446744073709551615 / 2 ^ (64 - bits) ≡ 2 ^ bits - 1

@@ -1,20 +1,15 @@
 -- Bits of words, and the words of a mask.
-use Rattle.std.proofs.Common.{◌≡◌, ◌≢◌, ℕ, ◌+◌, ◌-◌, ◌*◌, ◌/◌, ◌%◌, ◌^◌, ◌<◌, ◌≤◌, ◌==◌, ◌&&◌, ◌||◌, not, min, Bool, true, false, List, [], ◌∷◌, length, slice_index, slice_set, inl, inr, refl, ap, sym, ◌∙◌, arith, bit_and, bit_or, get_or-set_same, get_or-set_other, ext_get_or}
-use Rattle.std.specs.Int.{bit_at, w64}
-use Rattle.std.proofs.lemmas.Bool.{eqb-true, eqb-false, eq-eqb, ne_eqb, cases_lt, cases_eq}
+use Rattle.std.proofs.Common.{◌≡◌, ◌≢◌, ℕ, ◌+◌, ◌-◌, ◌*◌, ◌/◌, ◌%◌, ◌^◌, ◌<◌, ◌≤◌, ◌==◌, ◌&&◌, ◌||◌, not, min, max, Bool, true, false, List, [], ◌∷◌, length, slice_index, slice_set, inl, inr, refl, ap, sym, ◌∙◌, arith, bit_and, bit_or, get_or-set_same, get_or-set_other}
+use Rattle.std.specs.Int.{bit_at, bit_not, w64}
+use Rattle.std.proofs.lemmas.Bool.{eq-eqb, ne_eqb, cases_lt, cases_eq}
 use Rattle.std.proofs.lemmas.Bool.Decides.{nat_tests}
 use Rattle.std.proofs.lemmas.List.{get_or_past}
-use Rattle.std.proofs.lemmas.Nat.Bits.{bit_at-lt, bit_at-zero, bit_at_and, bit_at_not, bit_at_set_same, bit_at_set_other, bit_at_clear_same, bit_at_clear_other, same_from_bits_below}
+use Rattle.std.proofs.lemmas.Nat.Bits.{bit_at-lt, bit_at-zero, bit_at_and, bit_at_or, bit_at_not, bit_at_ones, shr_and_one, bit_at_set_same, bit_at_set_other, bit_at_clear_same, bit_at_clear_other}
 use Rattle.pas_profile.specs.Classes.{has_bit}
 use Rattle.pas_bits.specs.declared.mask.Mask4.{Mask4}
 use Rattle.pas_bits.specs.Masks.{is_set}
 
 -- ---- bits as numbers and as tests
-pub bit_one : (n b : ℕ) → has_bit n b ≡ true → bit_at n b ≡ 1
-bit_one n b h = eqb-true (bit_at n b) 1 h
-
-pub bit_zero : (n b : ℕ) → has_bit n b ≡ false → bit_at n b ≡ 0
-bit_zero n b h = let lt = bit_at-lt n b in let ne = eqb-false (bit_at n b) 1 h in omega (arith, lt, ne)
 
 pub is_one : (n b : ℕ) → bit_at n b ≡ 1 → has_bit n b ≡ true
 is_one n b h = ap (λ x. x == 1) h
@@ -24,13 +19,6 @@ is_zero n b h = ap (λ x. x == 1) h
 
 pub none_of_zero : (b : ℕ) → has_bit 0 b ≡ false
 none_of_zero b = is_zero 0 b (bit_at-zero b)
-
-same_tests : (x y : ℕ) → x < 2 → y < 2 → (x == 1) ≡ (y == 1) → x ≡ y
-same_tests x y hx hy h = grind (arith, nat_tests)
-
--- words with the same bits are the same
-pub same_word : (m n : ℕ) → m < 2 ^ 64 → n < 2 ^ 64 → ((b : ℕ) → b < 64 → has_bit m b ≡ has_bit n b) → m ≡ n
-same_word m n hm hn h = same_from_bits_below 64 m n hm hn (λ b lt. same_tests (bit_at m b) (bit_at n b) (bit_at-lt m b) (bit_at-lt n b) (h b lt))
 
 not_test : (x : ℕ) → x < 2 → (1 - x == 1) ≡ not (x == 1)
 not_test x h = grind (arith, nat_tests)
@@ -45,6 +33,28 @@ min_test x y hx hy = grind (arith, nat_tests)
 -- the bits that two words share
 pub bit_of_and : (m n b : ℕ) → has_bit (bit_and m n) b ≡ (has_bit m b && has_bit n b)
 bit_of_and m n b = ap (λ x. x == 1) (bit_at_and m n b) ∙ min_test (bit_at m b) (bit_at n b) (bit_at-lt m b) (bit_at-lt n b)
+
+max_test : (x y : ℕ) → x < 2 → y < 2 → (max x y == 1) ≡ ((x == 1) || (y == 1))
+max_test x y hx hy = grind (arith, nat_tests)
+
+-- the bits that one of two words has
+pub bit_of_or : (m n b : ℕ) → has_bit (bit_or m n) b ≡ (has_bit m b || has_bit n b)
+bit_of_or m n b = ap (λ x. x == 1) (bit_at_or m n b) ∙ max_test (bit_at m b) (bit_at n b) (bit_at-lt m b) (bit_at-lt n b)
+
+-- a bit after the bits of a mask were cleared
+pub bit_cleared : (n m b : ℕ) → m < 2 ^ 64 → b < 64 → has_bit (bit_and n (bit_not w64 m)) b ≡ (has_bit n b && not (has_bit m b))
+bit_cleared n m b fits h = bit_of_and n (bit_not w64 m) b ∙ ap (λ t. has_bit n b && t) (bit_of_not m b fits h)
+
+-- a bit by the program's test
+pub bit_true : (n i : ℕ) → bit_and (n / 2 ^ i) 1 ≡ 1 → has_bit n i ≡ true
+bit_true n i h = eq-eqb (bit_at n i) 1 (sym (shr_and_one n i) ∙ h)
+
+pub bit_false : (n i : ℕ) → bit_and (n / 2 ^ i) 1 ≢ 1 → has_bit n i ≡ false
+bit_false n i h = ne_eqb (bit_at n i) 1 (λ e. h (shr_and_one n i ∙ e))
+
+-- every bit of the greatest word is set
+pub full_bit : (b : ℕ) → b < 64 → has_bit (2 ^ 64 - 1) b ≡ true
+full_bit b h = eq-eqb (bit_at (2 ^ 64 - 1) b) 1 (bit_at_ones 64 b h)
 
 -- ---- the words of a mask
 pub by_word : (mask : Mask4) (word x : ℕ) → x / 64 ≡ word → is_set mask x ≡ has_bit (slice_index mask.0 word) (x % 64)
@@ -161,11 +171,3 @@ pub after_complement : (mask : Mask4) → WordsFit mask → (g : ℕ) → g < 25
 after_complement mask fits g h =
     four_words (2 ^ 64 - 1 - slice_index mask.0 0) (2 ^ 64 - 1 - slice_index mask.0 1) (2 ^ 64 - 1 - slice_index mask.0 2) (2 ^ 64 - 1 - slice_index mask.0 3) (λ x. not (is_set mask x))
     (λ x lt. other_bits mask 0 x fits lt) (λ x lt. other_bits mask 1 x fits lt) (λ x lt. other_bits mask 2 x fits lt) (λ x lt. other_bits mask 3 x fits lt) g h
-
--- masks with the same bits are the same
-pub same_mask : (a b : Mask4) → length a.0 ≡ 4 → length b.0 ≡ 4 → WordsFit a → WordsFit b → ((g : ℕ) → g < 256 → is_set a g ≡ is_set b g) → a ≡ b
-same_mask a b long_a long_b fits_a fits_b same =
-    let words : a.0 ≡ b.0 = ext_get_or 0 a.0 b.0 (omega (arith, long_a, long_b)) (λ word h.
-    same_word (slice_index a.0 word) (slice_index b.0 word) (fits_a word) (fits_b word)
-    (λ x lt. sym (at_word a word x lt) ∙ same (64 * word + x) (omega (arith, h, lt, long_a)) ∙ at_word b word x lt)) in
-    ap (λ (w : List ℕ). let m : Mask4 = record { 0 = w } in m) words

@@ -1,23 +1,15 @@
--- Masks of 256 bits as sets of numbers. A run of n from g are the numbers from g on and below g + n.
-use Rattle.std.specs.Prelude.{ℕ, zero, suc, ◌+◌, ◌/◌, ◌%◌, ◌<◌, ◌≤◌, ◌≡◌, nat_le, nat_lt, Bool, true, false, ◌&&◌, if◌then◌else◌, slice_index}
+-- Masks of 256 bits as sets of numbers.
+use Rattle.std.specs.Prelude.{ℕ, ◌+◌, ◌-◌, ◌/◌, ◌%◌, ◌<◌, ◌≤◌, ◌≡◌, nat_lt, Bool, true, false, if◌then◌else◌, slice_index}
 use Rattle.pas_profile.specs.Classes.{has_bit}
+use Rattle.pas_profile.specs.Runs.{count_below}
 use Rattle.pas_bits.specs.declared.mask.Mask4.{Mask4}
 
 -- bit g of the mask is set. There are no bits from 256 on
 abbrev pub is_set : Mask4 → ℕ → Bool
 is_set mask g = has_bit (slice_index mask.0 (g / 64)) (g % 64)
 
--- the run of n from g has the number x
-abbrev pub in_run : ℕ → ℕ → ℕ → Bool
-in_run g n x = nat_le g x && nat_lt x (g + n)
-
--- how many numbers below n pass the test
-unfoldable pub count_below : ℕ → (ℕ → Bool) → ℕ
-count_below zero p = 0
-count_below (suc n) p = if p n then suc (count_below n p) else count_below n p
-
 -- how many bits are set
-abbrev pub set_count : Mask4 → ℕ
+unfoldable pub set_count : Mask4 → ℕ
 set_count mask = count_below 256 (is_set mask)
 
 -- all bits of the run of n from g are set
@@ -35,6 +27,22 @@ AreClear mask from end = (x : ℕ) → from ≤ x → x < end → is_set mask x 
 -- no bit is set in both
 abbrev pub AreApart : Mask4 → Mask4 → Type 0
 AreApart a b = (x : ℕ) → is_set b x ≡ true → is_set a x ≡ false
+
+-- no bit is set
+abbrev pub IsEmpty : Mask4 → Type 0
+IsEmpty mask = (g : ℕ) → g < 256 → is_set mask g ≡ false
+
+-- some bit is set
+abbrev pub HasMember : Mask4 → Type 0
+HasMember mask = (g : ℕ) × (g < 256) × (is_set mask g ≡ true)
+
+-- a bit is set at the number, or at one of the n - 1 numbers below it
+abbrev pub IsNear : Mask4 → ℕ → ℕ → Type 0
+IsNear mask x n = (g : ℕ) × (g ≤ x) × (x < g + n) × (is_set mask g ≡ true)
+
+-- bit i of the 128 bits of two words, the lower one first
+abbrev pub bit_of_two : ℕ → ℕ → ℕ → Bool
+bit_of_two low high i = if nat_lt i 64 then has_bit low i else has_bit high (i - 64)
 
 -- the bit is set, and none from the first one on is that is lower
 pub record IsLowestSet (mask : Mask4) (from g : ℕ) : Type 0 where

@@ -2,25 +2,11 @@
 ghost use Rattle.std.specs.Prelude.{◌≡◌, ℕ, ◌<◌, ◌==◌, ◌&&◌, ◌||◌, not};
 ghost use Rattle.pas_bits.specs.Masks.{is_set, set_count};
 
-/// A set of grains of a page, as 256 bits: bit g is bit `g % 64` of word `g / 64`.
+/// A set of grains of a page, as 256 bits: bit g is bit `g % 64` of word `g / 64`. The words, lowest first, are read and given as they are.
 #[derive(Clone, Copy, PartialEq, Eq, Debug)]
 pub struct Mask4(pub [u64; 4]);
 
 impl Mask4 {
-    /// The mask of these words, the lowest first.
-    pub fn of(words: [u64; 4]) -> Mask4
-        ensures { result.0 ≡ words }
-    {
-        Mask4(words)
-    }
-
-    /// The four words, the lowest first.
-    pub fn words(&self) -> [u64; 4]
-        ensures { result ≡ self.now.0 }
-    {
-        self.0
-    }
-
     /// Whether the grain's bit is set.
     pub fn get(&self, grain: u8) -> bool
         ensures { result ≡ is_set self.now grain }

@@ -1,6 +1,6 @@
 //! The lowest bits and the lowest runs of a mask. Each search jumps from set bit to set bit by whole words.
-ghost use Rattle.std.specs.Prelude.{◌≡◌, ℕ, ◌+◌, ◌<◌, ◌≤◌, MatchOption, true};
-ghost use Rattle.pas_bits.specs.Masks.{AllSetBelow, AreClear, IsLowestSet, IsLowestClear, IsRunEnd, IsPlace, IsLowestPlace, HasNoPlace};
+ghost use Rattle.std.specs.Prelude.{◌≡◌, ℕ, ◌+◌, ◌<◌, ◌≤◌, MatchBool, MatchOption, true};
+ghost use Rattle.pas_bits.specs.Masks.{AllSetBelow, AreClear, IsEmpty, HasMember, IsLowestSet, IsLowestClear, IsRunEnd, IsPlace, IsLowestPlace, HasNoPlace};
 
 use crate::mask::Mask4;
 
@@ -18,6 +18,13 @@ impl Mask4 {
             }
         }
         None
+    }
+
+    /// Whether no bit is set. Looks at each word at most once.
+    pub fn is_empty(&self) -> bool
+        ensures { MatchBool result (IsEmpty self.now) (HasMember self.now) }
+    {
+        self.first_set_from(0).is_none()
     }
 
     /// The lowest clear bit. None exactly where all 256 are set. Looks at each word at most once.

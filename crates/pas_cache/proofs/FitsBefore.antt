@@ -6,7 +6,8 @@ use Rattle.pas_profile.specs.Layouts.{same_word}
 use Rattle.pas_profile.specs.declared.profile.Profile.{Profile}
 use Rattle.pas_profile.specs.declared.directory.Directory.{Directory}
 use Rattle.pas_profile.specs.declared.word.Word.{Word}
-use Rattle.pas_steps.specs.Effects.{target, new_value, page_mask}
+use Rattle.pas_steps.specs.Effects.{target, new_value}
+use Rattle.pas_bits.specs.PageVectors.{page_mask}
 use Rattle.pas_steps.specs.Views.{epoch_of}
 use Rattle.pas_steps.specs.Lists.{Whole, part, word_after}
 use Rattle.pas_steps.specs.Desks.{triples}

@@ -11,7 +11,7 @@ use Rattle.pas_profile.specs.declared.name.Block.{Block}
 use Rattle.pas_profile.specs.declared.profile.Profile.{Profile}
 use Rattle.pas_profile.specs.declared.word.Word.TheVariants as Word
 use Rattle.pas_bits.specs.Masks.{is_set}
-use Rattle.pas_bits.proofs.Runs.{to_run}
+use Rattle.pas_profile.proofs.Runs.{to_run}
 use Rattle.pas_steps.specs.Agreement.{Agreed}
 use Rattle.pas_steps.specs.Calls.{Effect, Fate, Kept, Lost, now, later, Does, grain_fate}
 use Rattle.pas_steps.specs.Desks.{made}

@@ -8,7 +8,7 @@ use Rattle.pas_profile.specs.declared.name.Block.{Block}
 use Rattle.pas_profile.specs.declared.word.Word.TheVariants as Word
 use Rattle.pas_profile.proofs.ClassFacts.{class_size-grains, class_size_whole, class_grains_positive, slot_end}
 use Rattle.pas_bits.specs.Masks.{is_set, IsLowestSet}
-use Rattle.pas_bits.proofs.Runs.{run_of, to_run}
+use Rattle.pas_profile.proofs.Runs.{run_of, to_run}
 use Rattle.pas_profile.specs.Runs.{in_run, grain_of, length_of}
 use Rattle.pas_steps.specs.Views.{View, holds, holds_on, knows_backed, known_life, given_count}
 use Rattle.pas_steps.specs.Events.{events_of}

@@ -12,7 +12,8 @@ use Rattle.pas_profile.specs.declared.directory.Kind.{Kind}
 use Rattle.pas_profile.specs.declared.directory.Kind.TheVariants.{Class, Bitfit, Shared, Large}
 use Rattle.pas_profile.specs.declared.word.Word.{Word}
 use Rattle.pas_profile.specs.Runs.{address_of, length_of}
-use Rattle.pas_steps.specs.Effects.{page_mask, target, new_value}
+use Rattle.pas_steps.specs.Effects.{target, new_value}
+use Rattle.pas_bits.specs.PageVectors.{page_mask}
 use Rattle.pas_steps.specs.Views.{View, epoch_after, known_epoch, or_zero, epoch_of}
 use Rattle.pas_steps.specs.Allowed.{IsStepOf}
 use Rattle.pas_steps.specs.Lists.{Triple, Whole, part, word_after, IsNext, Legal}

@@ -5,7 +5,7 @@ use Rattle.std.proofs.lemmas.Bool.{cases_lt, cases_eq, ne_eqb}
 use Rattle.std.proofs.lemmas.Bool.Decides.{nat_tests}
 use Rattle.pas_profile.specs.declared.profile.Profile.{Profile}
 use Rattle.pas_profile.specs.Runs.{in_run, meets_page}
-use Rattle.pas_bits.proofs.Runs.{run_of, to_run, run_above}
+use Rattle.pas_profile.proofs.Runs.{run_of, to_run, run_above}
 use Rattle.pas_steps.specs.declared.step.Made.{Made}
 use Rattle.pas_steps.specs.Calls.{Kept, Lost, now, Does}
 use Rattle.pas_steps.specs.Views.{View, holds, epoch_of, or_zero, ends_on}

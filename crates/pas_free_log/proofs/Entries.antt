@@ -9,7 +9,7 @@ use Rattle.pas_profile.specs.declared.name.Name.{Name}
 use Rattle.pas_profile.specs.declared.profile.Profile.{Profile}
 use Rattle.pas_profile.specs.declared.event.Event.{Event}
 use Rattle.pas_profile.specs.Runs.{in_run, meets_page, grain_of}
-use Rattle.pas_bits.proofs.Runs.{to_run}
+use Rattle.pas_profile.proofs.Runs.{to_run}
 use Rattle.pas_steps.specs.declared.step.Made.{Made}
 use Rattle.pas_steps.specs.declared.step.Step.TheVariants.{End}
 use Rattle.pas_steps.specs.Views.{View, Stays, Ends, held_after, holds, epoch_of, or_zero}

@@ -9,7 +9,7 @@ use Rattle.pas_profile.specs.declared.profile.Profile.{Profile}
 use Rattle.pas_profile.specs.declared.word.Word.TheVariants as Word
 use Rattle.pas_profile.proofs.Codecs.{read-deed_word_of, directory_from_profile}
 use Rattle.pas_profile.specs.Runs.{in_run, meets_page}
-use Rattle.pas_bits.proofs.Runs.{to_run}
+use Rattle.pas_profile.proofs.Runs.{to_run}
 use Rattle.pas_steps.specs.declared.step.Made.{Made}
 use Rattle.pas_steps.specs.declared.step.Step.TheVariants.{Look, Stamp}
 use Rattle.pas_steps.specs.Views.{View, known_deed, known_epoch, epoch_of, is_unstamped, examines}

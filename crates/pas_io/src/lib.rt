@@ -13,7 +13,7 @@ mod tests;
 mod unread;
 pub mod whole;
 
-ghost use Rattle.std.specs.Prelude.{◌≡◌, ◌≢◌, ◌<◌, ◌≤◌, ℕ, List, [], Option, length, take, IfOk, OnErr};
+ghost use Rattle.std.specs.Prelude.{◌≡◌, ◌≢◌, ◌<◌, ◌≤◌, ◌+◌, ℕ, List, [], Option, length, take, IfOk, OnErr};
 ghost use Rattle.pas_io.specs.Told.{Rose, MovesTold, Writes};
 
 /// A read or a write failed.
@@ -29,13 +29,15 @@ pub trait Source {
     ghost faults: { Self → ℕ };
 
     /// Moves the next bytes into the front of the buffer, and answers how many. None is the end, or no place in the buffer.
-    /// A read that fails loses no byte, and is counted.
+    /// A read that fails loses no byte, and is counted as one fault; no other read is counted.
     fn read(&mut self, buffer: &mut [u8]) -> Result<usize, Failed>
         ensures within { IfOk result (λ n. n ≤ length buffer.old) }
         ensures moves { IfOk result (λ n. MovesTold (rest self.old) (rest self.new) buffer.old buffer.new n) }
         ensures keeps { OnErr result (rest self.new ≡ rest self.old) }
+        ensures sound { IfOk result (λ n. faults self.new ≡ faults self.old) }
         ensures failed { OnErr result (Rose (faults self.old) (faults self.new)) }
-        ensures count { faults self.old ≤ faults self.new };
+        ensures count { faults self.old ≤ faults self.new }
+        ensures once { faults self.new ≤ faults self.old + 1 };
 }
 
 /// Where bytes go.
@@ -47,12 +49,14 @@ pub trait Sink {
     ghost faults: { Self → ℕ };
 
     /// Takes bytes from the front of the piece, and answers how many: at least one of a piece that isn't empty.
-    /// A write that fails takes none, and is counted.
+    /// A write that fails takes none, and is counted as one fault; no other write is counted.
     fn write(&mut self, bytes: &[u8]) -> Result<usize, Failed>
         ensures within { IfOk result (λ n. n ≤ length bytes.now) }
         ensures some { IfOk result (λ n. bytes.now ≢ [] → 1 ≤ n) }
         ensures writes { IfOk result (λ n. Writes (held self.old) (held self.new) (take n bytes.now)) }
         ensures keeps { OnErr result (held self.new ≡ held self.old) }
+        ensures sound { IfOk result (λ n. faults self.new ≡ faults self.old) }
         ensures failed { OnErr result (Rose (faults self.old) (faults self.new)) }
-        ensures count { faults self.old ≤ faults self.new };
+        ensures count { faults self.old ≤ faults self.new }
+        ensures once { faults self.new ≤ faults self.old + 1 };
 }

@@ -30,7 +30,7 @@ impl MemorySource {
 }
 
 impl Source for MemorySource {
-    ghost use Rattle.std.specs.Prelude.{◌≡◌, ◌≤◌, Some, length, IfOk, IsErr, OnErr, ◌↔◌};
+    ghost use Rattle.std.specs.Prelude.{◌≡◌, ◌≤◌, ◌+◌, Some, length, IfOk, IsErr, OnErr, ◌↔◌};
     ghost use Rattle.pas_io.specs.Told.{Rose, MovesTold};
     ghost use Rattle.pas_io.specs.Unread.{left};
     ghost use Rattle.pas_io.specs.Schedules.{CallFails, Called};
@@ -45,8 +45,10 @@ impl Source for MemorySource {
         ensures within { IfOk result (λ n. n ≤ length buffer.old) }
         ensures moves { IfOk result (λ n. MovesTold (Some (left self.old.unread)) (Some (left self.new.unread)) buffer.old buffer.new n) }
         ensures keeps { OnErr result (Some (left self.new.unread) ≡ Some (left self.old.unread)) }
+        ensures sound { IfOk result (λ n. self.new.schedule.faults ≡ self.old.schedule.faults) }
         ensures failed { OnErr result (Rose self.old.schedule.faults self.new.schedule.faults) }
         ensures count { self.old.schedule.faults ≤ self.new.schedule.faults }
+        ensures once { self.new.schedule.faults ≤ self.old.schedule.faults + 1 }
     {
         if self.schedule.next_fails() {
             self.schedule.count_fault();
@@ -99,7 +101,7 @@ impl MemorySink {
 }
 
 impl Sink for MemorySink {
-    ghost use Rattle.std.specs.Prelude.{◌≡◌, ◌≢◌, ◌≤◌, ◌<◌, ◌-◌, ◌⊎◌, ◌↔◌, min, Some, [], take, length, vec_len, IfOk, IsErr, OnErr};
+    ghost use Rattle.std.specs.Prelude.{◌≡◌, ◌≢◌, ◌≤◌, ◌<◌, ◌+◌, ◌-◌, ◌⊎◌, ◌↔◌, min, Some, [], take, length, vec_len, IfOk, IsErr, OnErr};
     ghost use Rattle.pas_io.specs.Told.{Rose, Writes};
     ghost use Rattle.pas_io.specs.Taken.{taken, room_of};
     ghost use Rattle.pas_io.specs.Schedules.{CallFails, Called};
@@ -118,8 +120,10 @@ impl Sink for MemorySink {
         ensures some { IfOk result (λ n. bytes.now ≢ [] → 1 ≤ n) }
         ensures writes { IfOk result (λ n. Writes (Some (taken self.old)) (Some (taken self.new)) (take n bytes.now)) }
         ensures keeps { OnErr result (Some (taken self.new) ≡ Some (taken self.old)) }
+        ensures sound { IfOk result (λ n. self.new.schedule.faults ≡ self.old.schedule.faults) }
         ensures failed { OnErr result (Rose self.old.schedule.faults self.new.schedule.faults) }
         ensures count { self.old.schedule.faults ≤ self.new.schedule.faults }
+        ensures once { self.new.schedule.faults ≤ self.old.schedule.faults + 1 }
     {
         let fails = self.schedule.next_fails();
         let room = self.buffer.len() - self.place;

@@ -1,4 +1,7 @@
 //! A source and a sink of the system. They tell nothing, since no contract can say what the system gives or takes.
+//!
+//! Proved: each error of the system is a fault and is counted once, and no other call is; no number is above the length of the buffer or of
+//! the piece. Trusted, and only tested by `tests/pipes_and_files.py`: what is said at the two types.
 ghost use Rattle.std.specs.Prelude.{◌≡◌, ◌≤◌, None};
 ghost use Rattle.pas_io.specs.Told.{Rose};
 
@@ -6,6 +9,9 @@ use crate::{Failed, Sink, Source};
 use std::io::{Read, Write};
 
 /// What a reader gives. Each of its errors is a failure, and is counted.
+///
+/// Trusted: a read answers as the reader's one read does, with its next bytes in the front of the buffer and their number, be it a single
+/// byte; no byte is lost between two reads; 0 for a buffer that isn't empty is the end of the input.
 #[derive(Drop)]
 pub struct RealSource<R> {
     reader: R,
@@ -37,6 +43,9 @@ impl<R: Read> Source for RealSource<R> {
 }
 
 /// Where a writer puts bytes. Each of its errors is a failure, and so is a write that takes no byte of a piece that isn't empty. Each is counted.
+///
+/// Trusted: a write answers as the writer's one write does, with the number of bytes that it took from the front of the piece, and these come
+/// after those of the writes before; the writer holds no byte back that it answered for.
 #[derive(Drop)]
 pub struct RealSink<W> {
     writer: W,

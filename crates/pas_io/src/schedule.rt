@@ -1,5 +1,5 @@
 //! Calls that fail on purpose.
-ghost use Rattle.std.specs.Prelude.{◌≡◌, ◌≤◌, ◌↔◌, IsTrue};
+ghost use Rattle.std.specs.Prelude.{◌≡◌, ◌≤◌, ◌+◌, ◌↔◌, IsTrue};
 ghost use Rattle.pas_io.specs.Told.{Rose};
 ghost use Rattle.pas_io.specs.Schedules.{CallFails, Called};
 
@@ -38,6 +38,7 @@ impl Schedule {
     pub(crate) fn count_fault(&mut self)
         ensures rose { Rose self.old.faults self.new.faults }
         ensures count { self.old.faults ≤ self.new.faults }
+        ensures once { self.new.faults ≤ self.old.faults + 1 }
         ensures fails { self.new.fails ≡ self.old.fails }
         ensures calls { self.new.calls ≡ self.old.calls }
     {

@@ -6,12 +6,14 @@ ghost use Rattle.pas_io.specs.Inputs.{HasRead, IsInput, IsShort, Takes};
 use crate::{Failed, Sink, Source};
 use std::alloc::Global;
 
-/// Writes all the bytes, in as many calls as the sink wants. After a failure some first part of them was written.
+/// Writes all the bytes, in as many calls as the sink wants, up to its first fault. After a failure some first part of them was written.
 pub fn write_all<K: Sink>(sink: &mut K, bytes: &[u8]) -> Result<(), Failed>
     ensures whole { OnOk result (Writes (K.held sink.old) (K.held sink.new) bytes.now) }
     ensures front { OnErr result (WritesFront (K.held sink.old) (K.held sink.new) bytes.now) }
+    ensures sound { OnOk result (K.faults sink.new ≡ K.faults sink.old) }
     ensures failed { OnErr result (Rose (K.faults sink.old) (K.faults sink.new)) }
     ensures count { K.faults sink.old ≤ K.faults sink.new }
+    ensures once { K.faults sink.new ≤ K.faults sink.old + 1 }
 {
     let mut written = 0;
     while written < bytes.len() {
@@ -28,9 +30,11 @@ fn fill<S: Source>(source: &mut S, buffer: &mut [u8], start: usize) -> Result<us
     ensures reads { IfOk result (λ n. (told : List ℕ) → HasRead told (S.rest source.old) buffer.old start → HasRead told (S.rest source.new) buffer.new n) }
     ensures all { IfOk result (λ n. n < length buffer.old → (told : List ℕ) → HasRead told (S.rest source.old) buffer.old start → n ≡ length told) }
     ensures takes { (told : List ℕ) → HasRead told (S.rest source.old) buffer.old start → Takes told (S.rest source.new) (length buffer.old) }
+    ensures sound { IfOk result (λ n. S.faults source.new ≡ S.faults source.old) }
     ensures stopped { OnErr result ((told : List ℕ) → HasRead told (S.rest source.old) buffer.old start → Takes told (S.rest source.new) (length buffer.old - 1)) }
     ensures failed { OnErr result (Rose (S.faults source.old) (S.faults source.new)) }
     ensures count { S.faults source.old ≤ S.faults source.new }
+    ensures once { S.faults source.new ≤ S.faults source.old + 1 }
 {
     let mut taken = start;
     while taken < buffer.len() {
@@ -79,16 +83,19 @@ fn next_size(taken: usize, most: usize) -> usize
     }
 }
 
-/// Reads the source to its end, or up to `most + 1` bytes. The buffer starts with 64 KiB and doubles as bytes come, so that it has at
+/// Reads the source to its end, or up to `most + 1` bytes, or up to its first fault. The buffer starts with 64 KiB and doubles as bytes come, so that it has at
 /// most twice the size of what came. Bytes that came before a fault, or before memory was wanting, are lost.
 pub fn read_all<S: Source>(alloc: Global, source: &mut S, most: usize) -> Result<Input, Stop>
     requires { most < 2 ^ 32 }
     ensures input { IfOk result (λ input. (told : List ℕ) → S.rest source.old ≡ Some told → IsInput most told input) }
     ensures short { IfOk result (IsShort most) }
     ensures takes { (told : List ℕ) → S.rest source.old ≡ Some told → Takes told (S.rest source.new) (most + 1) }
+    ensures sound { IfOk result (λ input. S.faults source.new ≡ S.faults source.old) }
+    ensures memory { IsErrOf result Stop.Memory → S.faults source.new ≡ S.faults source.old }
     ensures stopped { IsErrOf result Stop.Fault → (told : List ℕ) → S.rest source.old ≡ Some told → Takes told (S.rest source.new) most }
     ensures fault { IsErrOf result Stop.Fault → Rose (S.faults source.old) (S.faults source.new) }
     ensures count { S.faults source.old ≤ S.faults source.new }
+    ensures once { S.faults source.new ≤ S.faults source.old + 1 }
 {
     let mut buffer = Vec::new(alloc);
     let mut taken = 0;

@@ -1,31 +1,15 @@
 -- What every run of the machine keeps about its live blocks.
-use Rattle.std.proofs.Common.{◌≡◌, ◌≢◌, ℕ, ◌+◌, ◌*◌, ◌/◌, ◌%◌, ◌<◌, ◌≤◌, ◌==◌, Bool, true, false, if◌then◌else◌, List, [], ◌∷◌, Option, Some, None, refl, ap, sym, ◌∙◌, subst, arith}
+use Rattle.std.proofs.Common.{◌≡◌, ◌≢◌, ℕ, ◌+◌, ◌/◌, ◌%◌, ◌<◌, ◌==◌, Bool, true, false, if◌then◌else◌, List, [], ◌∷◌, Option, Some, None, refl, ap, sym, ◌∙◌, subst, arith}
 use Rattle.std.proofs.lemmas.Bool.{false≢true, eqb-true}
-use Rattle.std.proofs.lemmas.Bool.Decides.{nat_tests}
 use Rattle.pas_profile.specs.declared.profile.Profile.{Profile}
 use Rattle.pas_profile.specs.declared.directory.Directory.{Directory}
 use Rattle.pas_profile.specs.declared.name.Block.{Block}
 use Rattle.pas_profile.specs.declared.event.Event.{Event}
 use Rattle.pas_profile.specs.Runs.{in_run, meets_page, address_of, grain_of, length_of}
+use Rattle.pas_profile.proofs.Runs.{first_of_run, run_meets}
 use Rattle.pas_machine.specs.State.{Live, live_in, gives_in, ends_in, deed_in, backed_in, touches}
 use Rattle.pas_machine.specs.Machine.{Run, MayGive, Bears}
 use Rattle.pas_machine.specs.Laws.{AreApart, IsWhere, IsCounted, AreCounted, AreBorne}
-
--- ---- runs of grains
-pub own_grain : (g n : ℕ) → 0 < n → in_run g n g ≡ true
-own_grain g n h = grind (arith, nat_tests)
-
-pub run_low : (g n x : ℕ) → in_run g n x ≡ true → g ≤ x
-run_low g n x h = grind (arith, nat_tests, h)
-
-pub run_high : (g n x : ℕ) → in_run g n x ≡ true → x < g + n
-run_high g n x h = grind (arith, nat_tests, h)
-
-pub in_it : (g n x : ℕ) → g ≤ x → x < g + n → in_run g n x ≡ true
-in_it g n x low high = grind (arith, nat_tests, low, high)
-
-pub page_met : (g n page : ℕ) → g < 256 * page + 256 → 256 * page < g + n → meets_page g n page ≡ true
-page_met g n page low high = grind (arith, nat_tests, low, high)
 
 none_is : {A : Type 0} {x : A} → None ≡ Some x → ⊥
 none_is h = cc
@@ -114,11 +98,11 @@ no_block : (f : Profile) (es : List Event) (block : Block) (a : ℕ) (o : Option
 no_block f es block a None is may e some = refl
 no_block f es block a (Some b) is may e some =
     let positive : 0 < length_of b.block = some b refl in
-    let own : in_run (a / 16) (length_of b.block) (a / 16) ≡ true = own_grain (a / 16) (length_of b.block) positive in
+    let own : in_run (a / 16) (length_of b.block) (a / 16) ≡ true = first_of_run (a / 16) (length_of b.block) positive in
     let room : 0 < block.room = may.some in
     let whole : block.room % 16 ≡ 0 = may.whole in
     let long : 0 < length_of block = omega (arith, room, whole) in
-    let here : in_run (grain_of block.name) (length_of block) (a / 16) ≡ true = ap (λ n. in_run (n / 16) (length_of block) (a / 16)) e ∙ own_grain (a / 16) (length_of block) long in
+    let here : in_run (grain_of block.name) (length_of block) (a / 16) ≡ true = ap (λ n. in_run (n / 16) (length_of block) (a / 16)) e ∙ first_of_run (a / 16) (length_of block) long in
     absurd (false≢true (sym (may.clear a b is (a / 16) own) ∙ here))
 
 -- each live block has a grain
@@ -165,12 +149,6 @@ not_unbacked : (t old : Bool) → (t ≡ true → ⊥) → old ≡ true → (if 
 not_unbacked true old other h = absurd (other refl)
 not_unbacked false old other h = h
 
-on_page : (g n x : ℕ) → in_run g n x ≡ true → meets_page g n (x / 256) ≡ true
-on_page g n x h =
-    let low : g ≤ x = run_low g n x h in
-    let high : x < g + n = run_high g n x h in
-    page_met g n (x / 256) (omega (arith, low)) (omega (arith, high))
-
 borne_if : (f : Profile) (es es' : List Event) (t : Bool) (a k : ℕ) (block : Block) (old : Option Live) (b : Live) → (address_of block.name == a) ≡ t
     → ((x : ℕ) → in_run (grain_of block.name) (length_of block) x ≡ true → Bears f es' block.heap (x / 256))
     → ((b : Live) → old ≡ Some b → (x : ℕ) → in_run (a / 16) (length_of b.block) x ≡ true → Bears f es' b.block.heap (x / 256))
@@ -191,7 +169,7 @@ all_borne f (Event.Back k p ∷ es) run a b h x r =
     record { exists = old.exists; directory = old.directory; deed = old.deed; of_heap = old.of_heap; backed = stays_backed (p == x / 256) (backed_in es (x / 256)) old.backed }
 all_borne f (Event.Unback k p e ∷ es) run a b h x r =
     let old : Bears f es b.block.heap (x / 256) = all_borne f es run.1 a b h x r in
-    let there : touches (live_in es a) (x / 256) ≡ true = ap (λ o. touches o (x / 256)) h ∙ ap (λ n. meets_page (n / 16) (length_of b.block) (x / 256)) (lives_where f es run.1 a b h) ∙ on_page (a / 16) (length_of b.block) x r in
+    let there : touches (live_in es a) (x / 256) ≡ true = ap (λ o. touches o (x / 256)) h ∙ ap (λ n. meets_page (n / 16) (length_of b.block) (x / 256)) (lives_where f es run.1 a b h) ∙ run_meets (a / 16) (length_of b.block) x r in
     record {
       exists = old.exists;
       directory = old.directory;

@@ -1,14 +1,10 @@
 -- The totals of a state, over the pages 1 to P and the grains of these pages.
-use Rattle.std.specs.Prelude.{ℕ, zero, suc, ◌+◌, ◌*◌, Bool, true, false, if◌then◌else◌, List, Option, None, Some}
+use Rattle.std.specs.Prelude.{ℕ, zero, suc, ◌+◌, ◌*◌, Bool, true, false, List, Option, None, Some}
 use Rattle.pas_profile.specs.declared.profile.Profile.{Profile}
 use Rattle.pas_profile.specs.declared.directory.Directory.{Directory}
 use Rattle.pas_profile.specs.declared.event.Event.{Event}
+use Rattle.pas_profile.specs.Runs.{count_below}
 use Rattle.pas_machine.specs.State.{Live, deed_in, backed_in, live_in, gives_in, ends_in}
-
--- how many numbers below n pass the test
-abbrev pub count_below : ℕ → (ℕ → Bool) → ℕ
-count_below zero p = 0
-count_below (suc n) p = if p n then suc (count_below n p) else count_below n p
 
 -- the sum over the numbers below n
 abbrev pub sum_below : ℕ → (ℕ → ℕ) → ℕ

@@ -1,14 +1,14 @@
 -- Sizes of classes, the slots of their pages, and what a route says.
-use Rattle.std.proofs.Common.{◌≡◌, ℕ, zero, suc, ◌+◌, ◌-◌, ◌*◌, ◌/◌, ◌%◌, ◌<◌, ◌≤◌, max, Bool, true, false, ◌&&◌, leb, ltb, eqb, if◌then◌else◌, List, [], ◌∷◌, length, get_or, Option, None, Some, refl, ap, sym, ◌∙◌, subst, arith, inl, inr}
+use Rattle.std.proofs.Common.{◌≡◌, ℕ, zero, suc, ◌+◌, ◌-◌, ◌*◌, ◌/◌, ◌%◌, ◌<◌, ◌≤◌, max, Bool, true, false, ◌&&◌, leb, eqb, if◌then◌else◌, List, [], ◌∷◌, length, get_or, Option, None, Some, refl, ap, sym, ◌∙◌, subst, arith, inl, inr}
 use Rattle.std.proofs.Math.Nat.{dvd-add, dvd-mul_left_of_dvd}
 use Rattle.std.specs.Int.{◌∣◌}
 use Rattle.std.proofs.lemmas.Nat.{same_from_place, div-add-mod'}
 use Rattle.std.proofs.lemmas.Nat.Gcd.{dvd_of_mod-eq-zero, mod-eq-zero_of_dvd}
-use Rattle.std.proofs.lemmas.Bool.{leb-true, ltb-true, eqb-true, le-leb, eq-eqb, and_parts, and_from, cases_Bool, cases_lt, lt-leb, false≢true}
+use Rattle.std.proofs.lemmas.Bool.{leb-true, eqb-true, le-leb, eq-eqb, and_parts, and_from, cases_Bool, cases_lt, lt-leb, false≢true}
 use Rattle.pas_profile.specs.Classes.{class_sizes, IsClass, class_size, class_grains, usable_grains, IsSlotStart}
 use Rattle.pas_profile.specs.Routes.{first_class, route_of, route_with, route_without_class, Suits, IsSmallest, NoneSuits, IsRouteOf}
 use Rattle.pas_profile.specs.declared.directory.Route.TheVariants.{Class, Bitfit, Large}
-use Rattle.pas_profile.proofs.Tables.{passes_below, passes_at}
+use Rattle.pas_profile.proofs.Tables.{passes_at}
 
 -- Sizes are whole grains, of which a block has 1 to 32, and the slots cover 240 to 256 grains of a page.
 
@@ -24,24 +24,11 @@ class_grains_positive class h = leb-true _ _ (passes_at (λ c. leb 1 (class_grai
 pub class_grains_le : (class : ℕ) → IsClass class → class_grains class ≤ 32
 class_grains_le class h = leb-true _ _ (passes_at (λ c. leb (class_grains c) 32) 16 class refl h)
 
-pub class_size_le : (class : ℕ) → IsClass class → class_size class ≤ 512
-class_size_le class h = leb-true _ _ (passes_at (λ c. leb (class_size c) 512) 16 class refl h)
-
 pub usable_grains_le : (class : ℕ) → IsClass class → usable_grains class ≤ 256
 usable_grains_le class h = leb-true _ _ (passes_at (λ c. leb (usable_grains c) 256) 16 class refl h)
 
 pub usable_grains_ge : (class : ℕ) → IsClass class → 240 ≤ usable_grains class
 usable_grains_ge class h = leb-true _ _ (passes_at (λ c. leb 240 (usable_grains c)) 16 class refl h)
-
--- the slots cover the usable grains exactly
-pub usable_grains_whole : (class : ℕ) → IsClass class → usable_grains class % class_grains class ≡ 0
-usable_grains_whole class h = eqb-true _ _ (passes_at (λ c. eqb (usable_grains c % class_grains c) 0) 16 class refl h)
-
--- greater classes have greater blocks
-pub class_size-lt : (a b : ℕ) → a < b → IsClass b → class_size a < class_size b
-class_size-lt a b lt h =
-    ltb-true _ _ (passes_at (λ a. ltb (class_size a) (class_size b)) b a
-    (passes_at (λ b. passes_below (λ a. ltb (class_size a) (class_size b)) b) 16 b refl h) lt)
 
 -- A slot lies within its page, and the page's first grain begins one.
 

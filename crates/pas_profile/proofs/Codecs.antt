@@ -1,6 +1,6 @@
 -- The words of deeds and of lives say what they were made from, and nothing else.
-use Rattle.std.proofs.Common.{◌≡◌, ◌≢◌, ℕ, ◌-◌, ◌*◌, ◌/◌, ◌%◌, ◌^◌, ◌<◌, ◌≤◌, Bool, true, false, ltb, eqb, if◌then◌else◌, Option, None, Some, refl, ap, sym, ◌∙◌, subst, arith, inl, inr}
-use Rattle.std.proofs.lemmas.Bool.{ltb-true, ltb-false, lt-ltb, le-ltb, eqb-true, le-leb, lt-leb, cases_lt}
+use Rattle.std.proofs.Common.{◌≡◌, ◌≢◌, ℕ, ◌-◌, ◌*◌, ◌/◌, ◌%◌, ◌^◌, ◌<◌, ◌≤◌, Bool, true, false, ltb, eqb, if◌then◌else◌, Option, None, Some, refl, ap, sym, ◌∙◌, subst, arith}
+use Rattle.std.proofs.lemmas.Bool.{ltb-true, ltb-false, lt-ltb, le-ltb, eqb-true, le-leb, lt-leb}
 use Rattle.std.proofs.lemmas.Nat.{mul-add-lt, same_from_place}
 use Rattle.pas_profile.specs.Directories.{IsKind, kind_number, IsDirectory, number_of, deed_word_of, kind_of, with_kind, directory_read}
 use Rattle.pas_profile.specs.Profiles.{IsValid, IsDirectoryOf}
@@ -72,9 +72,6 @@ same_from_number a b ha hb e =
 
 pub deed_word_of-positive : (d : Directory) → deed_word_of d ≢ 0
 deed_word_of-positive d e = omega (arith, e)
-
-pub deed_word_lt : (d : Directory) → IsDirectory d → deed_word_of d < 2 ^ 64
-deed_word_lt d h = let k = kind_number_lt d.kind h.kind in let n = h.heap in omega (arith, k, n)
 
 -- a deed word is read as the directory that it was made from
 abbrev read_by : Bool → Bool → ℕ → ℕ → Option Directory
@@ -156,25 +153,5 @@ grains_of-turn turn h = omega (arith, h)
 pub is_live-turn : (turn : ℕ) → turn < 2 ^ 40 → is_live turn ≡ false
 is_live-turn turn h = lt-leb (2 ^ 63) turn (omega (arith, h))
 
--- the words that the code makes, and their range
-pub life_word_of-live : (turn grains : ℕ) → life_word_of turn grains true ≡ live_word turn grains
-life_word_of-live turn grains = refl
-
 pub life_word_of-ended : (turn : ℕ) → life_word_of turn 0 false ≡ turn
 life_word_of-ended turn = omega arith
-
-pub live_word_lt : (turn grains : ℕ) → turn < 2 ^ 40 → grains < 2 ^ 23 → live_word turn grains < 2 ^ 64
-live_word_lt turn grains h k = omega (arith, h, k)
-
-parts_low : (w : ℕ) → w < 2 ^ 63 → life_word_of (turn_of w) (grains_of w) false ≡ w
-parts_low w h = omega (arith, h)
-
-parts_high : (w : ℕ) → w < 2 ^ 64 → 2 ^ 63 ≤ w → life_word_of (turn_of w) (grains_of w) true ≡ w
-parts_high w h k = omega (arith, h, k)
-
--- a word is the life word of what it is read as
-pub life_word_of-parts : (w : ℕ) → w < 2 ^ 64 → life_word_of (turn_of w) (grains_of w) (is_live w) ≡ w
-life_word_of-parts w h = elim (cases_lt w (2 ^ 63)) [
-  | inl low ↦ ap (λ b. life_word_of (turn_of w) (grains_of w) b) (lt-leb (2 ^ 63) w low) ∙ parts_low w low
-  | inr high ↦ ap (λ b. life_word_of (turn_of w) (grains_of w) b) (le-leb (2 ^ 63) w high) ∙ parts_high w h high
-]

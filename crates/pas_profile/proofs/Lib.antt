@@ -3,3 +3,6 @@ pub mod Searches
 pub mod Places
 pub mod Codecs
 pub mod ClassFacts
+pub mod Requests
+pub mod Runs
+pub mod Counts

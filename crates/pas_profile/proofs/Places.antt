@@ -1,5 +1,5 @@
 -- Distinct words have distinct places, and every place is below the number of words.
-use Rattle.std.proofs.Common.{◌≡◌, ◌≢◌, ℕ, ◌*◌, ◌<◌, ◌==◌, true, false, ◌&&◌, if◌then◌else◌, refl, ap, sym, ◌∙◌, subst, arith}
+use Rattle.std.proofs.Common.{◌≡◌, ◌≢◌, ℕ, ◌*◌, ◌<◌, ◌==◌, true, false, ◌&&◌, if◌then◌else◌, refl, ap, sym, ◌∙◌, arith}
 use Rattle.std.proofs.Math.Nat.{mul_comm}
 use Rattle.std.proofs.lemmas.Nat.{mul-add-lt, same_from_place}
 use Rattle.std.proofs.lemmas.Bool.{eqb-true, eq-eqb, and_parts, and_from, false_from_ne_true}
@@ -35,10 +35,6 @@ same_word-true x y h =
     sym (from_numbers x) ∙ ap (λ k. word_from k (word_minor x) (word_major x)) (eqb-true _ _ inner.0)
     ∙ ap (λ i. word_from (word_kind y) i (word_major x)) (eqb-true _ _ inner.1)
     ∙ ap (λ j. word_from (word_kind y) (word_minor y) j) (eqb-true _ _ outer.1) ∙ from_numbers y
-
--- the order of the two words doesn't matter
-pub same_word_turned : (x y : Word) → same_word x y ≡ true → same_word y x ≡ true
-same_word_turned x y h = let e : y ≡ x = sym (same_word-true x y h) in subst (λ z. same_word y z ≡ true) e (same_word_self y)
 
 pub other_word : (x y : Word) → x ≢ y → same_word x y ≡ false
 other_word x y h = false_from_ne_true (same_word x y) (λ e. h (same_word-true x y e))

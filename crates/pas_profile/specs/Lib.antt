@@ -6,3 +6,5 @@ pub mod Profiles
 pub mod Layouts
 pub mod Rooms
 pub mod Runs
+pub mod Refusals
+pub mod Requests

@@ -1,5 +1,5 @@
 -- The profile's limits, and which requests, pages, directories and words are of a profile.
-use Rattle.std.specs.Prelude.{ℕ, ◌+◌, ◌*◌, ◌/◌, ◌^◌, ◌<◌, ◌≤◌}
+use Rattle.std.specs.Prelude.{ℕ, ◌+◌, ◌*◌, ◌/◌, ◌<◌, ◌≤◌}
 use Rattle.pas_profile.specs.declared.profile.Profile.{Profile}
 use Rattle.pas_profile.specs.declared.directory.Directory.{Directory}
 use Rattle.pas_profile.specs.declared.word.Word.{Word}
@@ -15,7 +15,6 @@ pub record IsValid (f : Profile) : Type 0 where
   pub age : f.age ≤ 1000000
   pub some_heap : 1 ≤ f.heaps
   pub heaps : f.heaps ≤ 32
-  pub shared : f.shared < 2 ^ f.heaps
 
 -- a request that the region may serve
 pub record IsAdmitted (f : Profile) (size align heap : ℕ) : Type 0 where

@@ -1,5 +1,5 @@
 -- How a request is served.
-use Rattle.std.specs.Prelude.{ℕ, ◌+◌, ◌%◌, ◌<◌, ◌≤◌, ◌≡◌, ◌==◌, nat_le, max, ◌&&◌, if◌then◌else◌, List, [], ◌∷◌, Option, None, Some}
+use Rattle.std.specs.Prelude.{ℕ, ◌+◌, ◌-◌, ◌*◌, ◌/◌, ◌%◌, ◌<◌, ◌≤◌, ◌≡◌, ◌==◌, nat_le, max, ◌&&◌, if◌then◌else◌, List, [], ◌∷◌, Option, None, Some}
 use Rattle.pas_profile.specs.Classes.{IsClass, class_size, class_sizes}
 use Rattle.pas_profile.specs.declared.directory.Route.{Route}
 use Rattle.pas_profile.specs.declared.directory.Route.TheVariants.{Class, Bitfit, Large}
@@ -21,6 +21,20 @@ route_with (Some class) size = Class class
 abbrev pub route_of : ℕ → ℕ → Route
 route_of size align = route_with (first_class class_sizes 0 (max size 1) align) (max size 1)
 
+-- the least multiple of the step that is at least the size
+abbrev pub rounded_up : ℕ → ℕ → ℕ
+rounded_up step size = (size + step - 1) / step * step
+
+-- bytes of a block of this route for a size of at least 1: those of the class, whole grains, or whole pages
+abbrev pub room_by : Route → ℕ → ℕ
+room_by (Class class) size = class_size class
+room_by Bitfit size = rounded_up 16 size
+room_by Large size = rounded_up 4096 size
+
+-- the room of the block that a request gets
+abbrev pub room_of : ℕ → ℕ → ℕ
+room_of size align = room_by (route_of size align) (max size 1)
+
 -- blocks of the class are large enough for the request and stand at multiples of the alignment
 pub record Suits (size align class : ℕ) : Type 0 where
   pub room : max size 1 ≤ class_size class
@@ -40,3 +54,8 @@ abbrev pub IsRouteOf : ℕ → ℕ → Route → Type 0
 IsRouteOf size align (Class class) = IsSmallest size align class
 IsRouteOf size align Bitfit = (size ≤ 2048) × NoneSuits size align
 IsRouteOf size align Large = (2048 < size) × NoneSuits size align
+
+-- the room is large enough for the size, and of whole grains
+pub record IsRoomFor (size room : ℕ) : Type 0 where
+  pub enough : max size 1 ≤ room
+  pub whole : room % 16 ≡ 0

@@ -2,6 +2,8 @@
 ghost use Rattle.std.specs.Prelude.{◌≡◌, ◌<◌, ℕ, ◌/◌, ◌%◌, length, slice_index, Bool};
 ghost use Rattle.pas_profile.specs.Classes.{IsClass, class_size as size_of_class, usable_grains, has_bit, is_usable};
 
+use crate::limits::{GRAIN_BYTES, PAGE_BYTES, PAGE_GRAINS};
+
 /// The size of each class, in bytes.
 pub const CLASS_SIZES: [u32; 16] = [
     16, 32, 48, 64, 80, 96, 112, 128, 160, 192, 224, 256, 320, 384, 448, 512,
@@ -21,7 +23,7 @@ pub fn slot_mask(class: u8) -> [u64; 4]
     ensures { (g : ℕ) → g < 256 → has_bit (slice_index result (g / 64)) (g % 64) ≡ is_usable class g }
 {
     let size = class_size(class);
-    let usable = 4096 / size * (size / 16);
-    let last = u64::MAX >> (256 - usable);
+    let usable = PAGE_BYTES / size * (size / GRAIN_BYTES);
+    let last = u64::MAX >> (PAGE_GRAINS - usable);
     [u64::MAX, u64::MAX, u64::MAX, last]
 }

@@ -1,6 +1,6 @@
 //! Directories of pages, and the deed words that record them.
 ghost use Rattle.std.specs.Prelude.{◌≡◌, ◌<◌, ◌^◌};
-ghost use Rattle.pas_profile.specs.Directories.{IsDirectory, number_of, deed_word_of, directory_read};
+ghost use Rattle.pas_profile.specs.Directories.{IsDirectory, deed_word_of, directory_read};
 
 /// What a page serves: blocks of one class, bit-fit blocks of mixed sizes, partial views of several classes, or whole pages.
 #[derive(Clone, Copy, Debug, PartialEq, Eq, Drop)]
@@ -27,15 +27,14 @@ pub struct Directory {
 }
 
 impl Kind {
-    ghost use Rattle.pas_profile.specs.Directories.{IsKind, kind_number};
+    ghost use Rattle.pas_profile.specs.Directories.{kind_number};
 
     /// The number of the kind: that of the class, 20 for bit-fit, 21 for shared, 22 for large.
-    pub fn number(self) -> u8
-        requires { IsKind self }
-        ensures { result ≡ kind_number self }
+    pub fn number(&self) -> u8
+        ensures { result ≡ kind_number self.now }
     {
         match self {
-            Kind::Class(class) => class,
+            Kind::Class(class) => *class,
             Kind::Bitfit => 20,
             Kind::Shared => 21,
             Kind::Large => 22,
@@ -44,12 +43,11 @@ impl Kind {
 }
 
 impl Directory {
-    ghost use Rattle.pas_profile.specs.Directories.{IsDirectory, number_of};
+    ghost use Rattle.pas_profile.specs.Directories.{number_of};
 
     /// The number of the directory among all of the region: `heap * 23` and the number of its kind.
-    pub fn number(self) -> u16
-        requires { IsDirectory self }
-        ensures { result ≡ number_of self }
+    pub fn number(&self) -> u16
+        ensures { result ≡ number_of self.now }
     {
         self.heap as u16 * 23 + self.kind.number() as u16
     }

@@ -1,4 +1,6 @@
 //! What an actor does to the allocator's machine, and what it is refused.
+ghost use Rattle.std.specs.Prelude.{◌≡◌};
+ghost use Rattle.pas_profile.specs.Refusals.{why_number, fault_number, no_room_number};
 
 use crate::directory::Directory;
 use crate::name::{Block, Name};
@@ -78,4 +80,34 @@ pub enum Outcome {
 pub struct Range {
     pub first: u32,
     pub pages: u32,
+}
+
+impl Why {
+    /// The number of the reason: 1 for a block that ended, 2 for none.
+    pub fn number(&self) -> u8
+        ensures { result ≡ why_number self.now }
+    {
+        *self as u8
+    }
+}
+
+impl NoRoom {
+    /// The number of the reason: 1 for no space, 2 for a page in an actor's hands.
+    pub fn number(&self) -> u8
+        ensures { result ≡ no_room_number self.now }
+    {
+        match self {
+            NoRoom::NoSpace => 1,
+            NoRoom::Held(_) => 2,
+        }
+    }
+}
+
+impl FreeFault {
+    /// The number of the reason: 1 for a page outside of the region, 2 for an address that is no multiple of 16.
+    pub fn number(&self) -> u8
+        ensures { result ≡ fault_number self.now }
+    {
+        *self as u8
+    }
 }

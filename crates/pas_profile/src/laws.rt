@@ -5,10 +5,12 @@ ghost use Rattle.pas_profile.specs.Classes.{IsClass, IsAlignment, IsSlotStart, c
 ghost use Rattle.pas_profile.specs.Directories.{IsDirectory, number_of, deed_word_of, directory_read};
 ghost use Rattle.pas_profile.specs.Layouts.{index_of};
 ghost use Rattle.pas_profile.specs.Lives.{life_word_of, turn_of, grains_of, is_live};
-ghost use Rattle.pas_profile.specs.Profiles.{IsWordIn};
-ghost use Rattle.pas_profile.specs.Routes.{Suits, IsRouteOf, route_of};
+ghost use Rattle.pas_profile.specs.Profiles.{IsAdmitted, IsDirectoryOf, IsWordIn};
+ghost use Rattle.pas_profile.specs.Requests.{directory_for};
+ghost use Rattle.pas_profile.specs.Routes.{Suits, IsRouteOf, IsRoomFor, route_of, room_of};
 
 use crate::directory::Directory;
+use crate::profile::Profile;
 use crate::word::{Layout, Word};
 
 /// Distinct words of a region have distinct places.
@@ -62,6 +64,18 @@ pub fn turns_are_read(turn: u64)
 pub fn routes_are_smallest(size: u32, align: u32)
     requires { IsAlignment align }
     ensures { IsRouteOf size align (route_of size align) }
+{}
+
+/// The room of a request is large enough for it, and of whole grains.
+pub fn rooms_are_large_enough(size: u32, align: u32)
+    requires { IsAlignment align }
+    ensures { IsRoomFor size (room_of size align) }
+{}
+
+/// The directory of an admitted request is one of the profile.
+pub fn requests_have_directories(profile: Profile, size: u32, align: u32, heap: u8)
+    requires { IsAdmitted profile size align heap }
+    ensures { IsDirectoryOf profile (directory_for profile heap size align) }
 {}
 
 /// Two slots of a class that share a grain are one, and no slot reaches past the page.

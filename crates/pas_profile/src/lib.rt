@@ -26,5 +26,5 @@ pub use life::{life_word, read_life};
 pub use name::{Address, Block, Name};
 pub use profile::Profile;
 pub use room::{EventRoom, NoMemory};
-pub use routing::route;
+pub use routing::{room_for, route};
 pub use word::{Layout, Word};

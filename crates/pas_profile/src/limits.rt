@@ -6,6 +6,9 @@ pub const PAGE_BYTES: u32 = 4096;
 /// Bytes of a grain.
 pub const GRAIN_BYTES: u32 = 16;
 
+/// Grains of a page.
+pub const PAGE_GRAINS: u32 = 256;
+
 /// The most pages that a region has.
 pub const MOST_PAGES: u32 = 4096;
 
@@ -18,8 +21,14 @@ pub const MOST_HEAPS: u8 = 32;
 /// The greatest age, in epochs, at which a page may be given back.
 pub const MOST_AGE: u64 = 1_000_000;
 
-/// The number of classes.
-pub const CLASSES: u8 = 16;
-
 /// The largest size, in bytes, that a bit-fit page serves.
 pub const MOST_BITFIT: u32 = 2048;
+
+/// The most bytes of an input.
+pub const MOST_BYTES: usize = 16_777_216;
+
+/// The most local allocators of a thread's cache.
+pub const MOST_LOCALS: usize = 32;
+
+/// The most names in a log of frees.
+pub const MOST_LOGGED: usize = 64;

@@ -16,8 +16,7 @@ impl Profile {
     ghost use Rattle.std.specs.Prelude.{◌↔◌, IsTrue};
     ghost use Rattle.pas_profile.specs.Profiles.{IsValid, IsAdmitted};
 
-    /// Whether the numbers are within the limits: 1 to 4,096 pages, 1 to 16 threads, an age from 1 to 1,000,000, 1 to 32 heaps,
-    /// and no mark of a heap that doesn't exist.
+    /// Whether the numbers are within the limits: 1 to 4,096 pages, 1 to 16 threads, an age from 1 to 1,000,000, and 1 to 32 heaps.
     pub fn is_valid(&self) -> bool
         ensures { IsTrue result ↔ IsValid self.now }
     {
@@ -25,7 +24,6 @@ impl Profile {
             && (1..=MOST_THREADS).contains(&self.threads)
             && (1..=MOST_AGE).contains(&self.age)
             && (1..=MOST_HEAPS).contains(&self.heaps)
-            && (self.shared as u64) < 1u64 << self.heaps
     }
 
     /// Whether a request is one that the region may serve: a size of at most all its bytes, an alignment that is a power

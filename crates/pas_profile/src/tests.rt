@@ -58,33 +58,57 @@ fn classes_have_their_sizes_slots_and_usable_grains(rt: HostRuntime) {
 }
 
 #[test]
-fn requests_have_their_routes(rt: HostRuntime) {
-    let table: [(u32, u32, Route); 9] = [
-        (0, 16, Route::Class(0)),
-        (1, 16, Route::Class(0)),
-        (24, 16, Route::Class(1)),
-        (130, 128, Route::Class(11)),
-        (512, 16, Route::Class(15)),
-        (513, 16, Route::Bitfit),
-        (2048, 16, Route::Bitfit),
-        (2049, 16, Route::Large),
-        (16, 4096, Route::Bitfit),
+fn requests_have_their_routes_and_rooms(rt: HostRuntime) {
+    let table: [(u32, u32, Route, u32); 12] = [
+        (0, 16, Route::Class(0), 16),
+        (1, 16, Route::Class(0), 16),
+        (24, 16, Route::Class(1), 32),
+        (130, 128, Route::Class(11), 256),
+        (512, 16, Route::Class(15), 512),
+        (513, 16, Route::Bitfit, 528),
+        (2048, 16, Route::Bitfit, 2048),
+        (2049, 16, Route::Large, 4096),
+        (4097, 16, Route::Large, 8192),
+        (16_777_216, 4096, Route::Large, 16_777_216),
+        (0, 4096, Route::Bitfit, 16),
+        (16, 4096, Route::Bitfit, 16),
     ];
-    for (size, align, want) in table {
+    for (size, align, want, bytes) in table {
         assert!(rt; PROFILE.admits(size, align, 31), "{size} at {align}");
         assert_eq!(rt; route(size, align), want, "{size} at {align}");
+        assert_eq!(rt; room_for(size, align), bytes, "{size} at {align}");
     }
 }
 
 #[test]
 fn profiles_have_limits(rt: HostRuntime) {
     assert!(rt; PROFILE.is_valid());
-    let mut marked = PROFILE;
-    marked.heaps = 3;
-    marked.shared = 7;
-    assert!(rt; marked.is_valid());
-    marked.shared = 8;
-    assert!(rt; !marked.is_valid());
+    let table: [(u32, u8, u64, u8, bool); 10] = [
+        (1, 1, 1, 1, true),
+        (4096, 16, 1_000_000, 32, true),
+        (0, 1, 1, 1, false),
+        (4097, 1, 1, 1, false),
+        (1, 0, 1, 1, false),
+        (1, 17, 1, 1, false),
+        (1, 1, 0, 1, false),
+        (1, 1, 1_000_001, 1, false),
+        (1, 1, 1, 0, false),
+        (1, 1, 1, 33, false),
+    ];
+    for (pages, threads, age, heaps, valid) in table {
+        let profile = Profile {
+            pages,
+            threads,
+            age,
+            heaps,
+            shared: 8,
+        };
+        assert_eq!(rt;
+            profile.is_valid(),
+            valid,
+            "{pages} pages, {threads} threads, age {age}, {heaps} heaps"
+        );
+    }
     for (size, align, heap) in [
         (16777217, 16, 0),
         (16, 8, 0),
@@ -136,4 +160,30 @@ fn rooms_take_their_events(rt: HostRuntime) -> Result<(), Fail> {
     assert_eq!(rt; room.spare(), 0);
     assert_eq!(rt; room.as_slice(), [event, event].as_slice());
     Ok(())
+}
+
+#[test]
+fn addresses_have_pages_and_grains(rt: HostRuntime) {
+    let address = Address(3 * 4096 + 5 * 16);
+    assert_eq!(rt; address.page(), 3);
+    assert_eq!(rt; address.grain(), 773);
+    let block = Block {
+        name: Name { address, turn: 0 },
+        room: 4128,
+        heap: 0,
+    };
+    assert_eq!(rt; block.grains(), 258);
+}
+
+#[test]
+fn refusals_have_numbers(rt: HostRuntime) {
+    assert_eq!(rt; [Why::Ended.number(), Why::NoBlock.number()], [1, 2]);
+    assert_eq!(rt;
+        [FreeFault::Outside.number(), FreeFault::Unaligned.number()],
+        [1, 2]
+    );
+    assert_eq!(rt;
+        [NoRoom::NoSpace.number(), NoRoom::Held(7).number()],
+        [1, 2]
+    );
 }

@@ -70,6 +70,7 @@ allocating_keeps v (Look Word.Epoch) is h = h
 allocating_keeps v (Stamp q) is h = absurd (true≢false (sym is))
 allocating_keeps v (Tick up) is h = absurd (true≢false (sym is))
 allocating_keeps v s is h = tt
+
 allocating_keep : (steps : List Made) (v : View) → Only allocating steps → AllStamped v → Keeps v steps
 allocating_keep [] v are h = tt
 allocating_keep (m ∷ more) v are h = (allocating_keeps (more ++ v) m.step are.0 (λ p. unstamped_same allocating refl p more v are.1 ∙ h p), allocating_keep more v are.1 h)

@@ -1,6 +1,7 @@
 pub mod Built
-pub mod PlanFacts
-pub mod PlanHolds
+pub mod ActsOfPlan
+pub mod NameLimits
+pub mod BuiltPlans
 pub mod Owed
 pub mod Frees
 pub mod Requests

@@ -27,7 +27,8 @@ use Rattle.pas_cache.specs.Caches.{Cached, cached, AtRest}
 use Rattle.pas_replay.specs.Acts.{Act, Operates, Ends}
 use Rattle.pas_replay.specs.Answers.{Named, Caches, with_cache, standing_for, IsAnswered, records_of, said_by, Follows}
 use Rattle.pas_replay.specs.Calls.{Tells, HasTurns, IsKnown, owed_events, MayAnswer, Answers}
-use Rattle.pas_replay.specs.Fit.{is_asked, asked_after, IsFitWhat, AreFit, cost_of_what, costs_of, own_costs_of, ops_in, marks_in}
+use Rattle.pas_replay.specs.Fit.{IsFitWhat, AreFit, cost_of_what, costs_of, own_costs_of, ops_in, marks_in}
+use Rattle.pas_trace.specs.EveryPlan.{is_asked, asked_after}
 use Rattle.pas_replay.specs.Names.{names_held}
 use Rattle.pas_replay.specs.Sessions.{Turn, MaySit, SoFar, spare_at}
 use Rattle.pas_replay.specs.declared.names.Names.{Names}

@@ -34,7 +34,7 @@ use Rattle.pas_replay.specs.Sessions.{ThreadStands, AllStand, AreCaches, AreEmpt
 use Rattle.pas_replay.specs.declared.kit.PlainKit.{PlainKit}
 use Rattle.pas_replay.specs.declared.names.Names.{Names}
 use Rattle.pas_replay.specs.declared.seats.Thread.{Thread}
-use Rattle.pas_replay.proofs.PlanHolds.{plan_fit, plan_own, plan_total, plan_marks}
+use Rattle.pas_replay.proofs.BuiltPlans.{plan_fit, plan_own, plan_total, plan_marks}
 use Rattle.pas_replay.proofs.Consequences.{replays}
 use Rattle.pas_replay.proofs.Ordering.{at_region, of_profile}
 

@@ -45,6 +45,7 @@ event_is_of j epoch (Give block) a = λ k. refl
 event_is_of j epoch (End name guess) a = if_none j (a == live_word name.turn guess) (is_live a && (turn_of a == name.turn)) (Event.End j name epoch) (Event.Reject j name (reason_of name a)) (λ k. refl) (λ k. refl)
 event_is_of j epoch (Unback q) a = λ k. refl
 event_is_of j epoch s a = tt
+
 with_one : (j : ℕ) (o : Option Event) (es : List Event) → MayBeOf j o → EventsOf j es → EventsOf j (with_event o es)
 with_one j None es one rest = rest
 with_one j (Some e) es one rest = (one, rest)

@@ -19,8 +19,9 @@ use Rattle.pas_report.specs.declared.record.Said.{Said}
 use Rattle.pas_cache.specs.Caches.{Cached}
 use Rattle.pas_replay.specs.Acts.{Act, Operates}
 use Rattle.pas_replay.specs.Answers.{Named, named, Caches, with_cache, standing_for, IsFreedBy, IsAnswered, records_of, said_by, Follows}
-use Rattle.pas_replay.specs.Fit.{is_asked, asked_after, IsFitWhat, AreFit}
-use Rattle.pas_replay.specs.Own.{own_of, FollowsOwn, IsNew, AreNew, asked_by, IsAskFor, AreOther, AsksFor}
+use Rattle.pas_replay.specs.Fit.{IsFitWhat, AreFit}
+use Rattle.pas_trace.specs.EveryPlan.{is_asked, asked_after, asked_by}
+use Rattle.pas_replay.specs.Own.{own_of, FollowsOwn, IsNew, AreNew, IsAskFor, AreOther, AsksFor}
 use Rattle.pas_replay.specs.Ways.{AreSpoken, records_by}
 use Rattle.pas_replay.proofs.Operating.{AreKnown, known_after}
 use Rattle.pas_replay.proofs.Speaking.{spoken_piece, spoken_both, by_piece, piece_of, records_both}

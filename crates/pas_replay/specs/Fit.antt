@@ -1,29 +1,14 @@
 -- What the operations of a plan keep, one after the other, and how many events and records they may make.
-use Rattle.std.specs.Prelude.{ℕ, ◌+◌, ◌-◌, ◌^◌, ◌<◌, ◌≤◌, ◌≡◌, ◌==◌, ◌||◌, Bool, true, false, if◌then◌else◌, List, [], ◌∷◌}
+use Rattle.std.specs.Prelude.{ℕ, ◌+◌, ◌-◌, ◌^◌, ◌<◌, ◌≡◌, ◌==◌, true, false, if◌then◌else◌, List, [], ◌∷◌}
 use Rattle.pas_profile.specs.Profiles.{IsAdmitted}
 use Rattle.pas_profile.specs.Routes.{route_of}
 use Rattle.pas_profile.specs.declared.profile.Profile.{Profile}
+use Rattle.pas_trace.specs.EveryPlan.{is_asked, asked_after, IsThread}
 use Rattle.pas_trace.specs.declared.plan.What.{What}
 use Rattle.pas_trace.specs.declared.plan.What.TheVariants.{Alloc, Free, Raw, Flush, Stop, Tick, Pass, Idle}
 use Rattle.pas_trace.specs.declared.plan.Op.{Op}
 use Rattle.pas_replay.specs.Acts.{Act, Operates, Begins, Wakes, Closes, Ends}
 use Rattle.pas_cache.specs.Serves.{IsClassRoute}
-
--- the name is one of these
-abbrev pub is_asked : List ℕ → ℕ → Bool
-is_asked [] name = false
-is_asked (n ∷ ns) name = (n == name) || is_asked ns name
-
--- the names that were asked for, after an operation
-abbrev pub asked_after : What → List ℕ → List ℕ
-asked_after (Alloc name heap size align) asked = name ∷ asked
-asked_after (Free name) asked = asked
-asked_after (Raw block) asked = asked
-asked_after Flush asked = asked
-asked_after Stop asked = asked
-asked_after (Tick epoch) asked = asked
-asked_after Pass asked = asked
-asked_after (Idle n) asked = asked
 
 -- The operation can be replayed after those that asked for these names. A request has a new name below the limit, a free has one of those that were
 -- asked for, and a turn has a next one.
@@ -36,9 +21,6 @@ IsFitWhat f limit asked Stop = Unit {0}
 IsFitWhat f limit asked (Tick epoch) = ⊥
 IsFitWhat f limit asked Pass = ⊥
 IsFitWhat f limit asked (Idle n) = ⊥
-
-abbrev pub IsThread : Profile → ℕ → Type 0
-IsThread f k = (1 ≤ k) × (k ≤ f.threads)
 
 -- the operations are those of threads and can be replayed one after the other
 abbrev pub AreFit : Profile → ℕ → List ℕ → List Op → Type 0

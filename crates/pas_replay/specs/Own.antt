@@ -11,7 +11,7 @@ use Rattle.pas_report.specs.declared.record.Record.{Record}
 use Rattle.pas_report.specs.declared.record.Said.{Said}
 use Rattle.pas_cache.specs.Caches.{Cached}
 use Rattle.pas_replay.specs.Answers.{Named, IsAnswered, records_of, said_by}
-use Rattle.pas_replay.specs.Fit.{is_asked, asked_after}
+use Rattle.pas_trace.specs.EveryPlan.{is_asked, asked_after}
 
 -- the operations of actor k among these
 abbrev pub own_of : ℕ → List Op → List What
@@ -41,11 +41,6 @@ IsNew asked (Idle n) = Unit {0}
 abbrev pub AreNew : List ℕ → List Op → Type 0
 AreNew asked [] = Unit {0}
 AreNew asked (op ∷ ops) = IsNew asked op.what × AreNew (asked_after op.what asked) ops
-
--- the names that were asked for after these operations
-abbrev pub asked_by : List ℕ → List Op → List ℕ
-asked_by asked [] = asked
-asked_by asked (op ∷ ops) = asked_by (asked_after op.what asked) ops
 
 -- ---- who asks for a name
 abbrev pub IsAskFor : What → ℕ → Type 0

@@ -18,7 +18,8 @@ use Rattle.pas_cache.specs.Caches.{cached, AtRest}
 use Rattle.pas_replay.specs.Acts.{Act}
 use Rattle.pas_replay.specs.Answers.{Named, Caches, standing_for, Follows}
 use Rattle.pas_replay.specs.Calls.{Tells, HasTurns, owed_events}
-use Rattle.pas_replay.specs.Fit.{is_asked, AreFit, costs_of, own_costs_of, ops_in, marks_in}
+use Rattle.pas_replay.specs.Fit.{AreFit, costs_of, own_costs_of, ops_in, marks_in}
+use Rattle.pas_trace.specs.EveryPlan.{is_asked}
 use Rattle.pas_replay.specs.Names.{names_held}
 use Rattle.pas_replay.specs.Replays.{empty_caches}
 use Rattle.pas_replay.specs.declared.names.Names.{Names}

@@ -22,7 +22,7 @@ const UNMARKED: u32 = 1;
 fn active(ops: &[Op]) -> Mask4
     ensures { (k : ℕ) → is_set result k ≡ is_active ops.now k }
 {
-    let mut threads = Mask4::of([0; 4]);
+    let mut threads = Mask4([0; 4]);
     for op in ops {
         threads.set(op.actor);
     }

@@ -10,6 +10,22 @@ use Rattle.pas_report.specs.Pieces.{IsPutOut}
 pub flushed : (before now after : Option (List ℕ)) (waiting text : List ℕ) → IsPutOut before now waiting text → Writes now after waiting → Writes before after text
 flushed before now after waiting text out wrote = subst (Writes before after) (sym out.text_is) (writes_more before now after out.written waiting out.writes wrote)
 
+-- all that waited was written
+pub put_all : (before now after : Option (List ℕ)) (waiting waiting' text : List ℕ) → waiting' ≡ [] → IsPutOut before now waiting text → Writes now after waiting → IsPutOut before after waiting' text
+put_all before now after waiting waiting' text none out wrote = record {
+  written = text;
+  text_is = sym (append-nil text) ∙ ap (λ (t : List ℕ). text ++ t) (sym none);
+  writes = flushed before now after waiting text out wrote;
+}
+
+-- a line more waits
+pub put_more : (before now : Option (List ℕ)) (waiting waiting' text line : List ℕ) → waiting' ≡ waiting ++ line → IsPutOut before now waiting text → IsPutOut before now waiting' (text ++ line)
+put_more before now waiting waiting' text line is out = record {
+  written = out.written;
+  text_is = ap (λ (t : List ℕ). t ++ line) out.text_is ∙ append_assoc out.written waiting line ∙ ap (λ (t : List ℕ). out.written ++ t) (sym is);
+  writes = out.writes;
+}
+
 -- a failed write
 pub front_out : (before now after : Option (List ℕ)) (waiting text : List ℕ) → IsPutOut before now waiting text → WritesFront now after waiting → WritesFront before after text
 front_out before now after waiting text out (front, back, is, wrote) =

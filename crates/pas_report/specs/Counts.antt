@@ -7,7 +7,8 @@ use Rattle.pas_profile.specs.Profiles.{IsDirectoryOf, IsPage}
 use Rattle.pas_profile.specs.declared.profile.Profile.{Profile}
 use Rattle.pas_profile.specs.declared.directory.Directory.{Directory}
 use Rattle.pas_profile.specs.declared.word.Word.TheVariants as Word
-use Rattle.pas_machine.specs.Totals.{count_below, sum_below, page_at}
+use Rattle.pas_machine.specs.Totals.{sum_below, page_at}
+use Rattle.pas_profile.specs.Runs.{count_below}
 use Rattle.pas_steps.specs.States.{profile_of, word_in}
 use Rattle.pas_steps.specs.declared.state.State.{State}
 use Rattle.pas_report.specs.Marks.{Marked}

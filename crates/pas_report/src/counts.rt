@@ -8,7 +8,7 @@ use pas_profile::{Word, read_life};
 use pas_steps::State;
 
 /// The blocks that begin on a page, at most 256. It reads each life word of the page once.
-#[tactic(auto, using(crate::proofs::Counting::count_more))]
+#[tactic(auto, using(pas_profile::proofs::Counts::count_more))]
 pub(crate) fn live_on(state: &State, page: u32) -> u16
     requires { IsPage (profile_of state.now) page }
     ensures { result ≡ live_counted_on state.now page }
@@ -34,7 +34,7 @@ pub(crate) fn free_on(state: &State, page: u32) -> u16
 }
 
 /// The number of pages that have a deed.
-#[tactic(auto, using(crate::proofs::Counting::count_more))]
+#[tactic(auto, using(pas_profile::proofs::Counts::count_more))]
 pub(crate) fn count_deeds(state: &State) -> u32
     ensures { result ≡ deeds_counted state.now }
 {
@@ -46,7 +46,7 @@ pub(crate) fn count_deeds(state: &State) -> u32
 }
 
 /// The number of backed pages.
-#[tactic(auto, using(crate::proofs::Counting::count_more))]
+#[tactic(auto, using(pas_profile::proofs::Counts::count_more))]
 pub(crate) fn count_backed(state: &State) -> u32
     ensures { result ≡ backed_counted state.now }
 {
@@ -65,7 +65,7 @@ pub(crate) struct Blocks {
 }
 
 /// The blocks of a region. It reads the life word of each grain once.
-#[tactic(auto, using(crate::proofs::Counting::count_more, crate::proofs::Counting::sum_more))]
+#[tactic(auto, using(pas_profile::proofs::Counts::count_more, crate::proofs::Counting::sum_more))]
 pub(crate) fn count_blocks(state: &State) -> Blocks
     ensures live { result.live ≡ live_counted state.now }
     ensures ended { result.ended ≡ ended_counted state.now }

@@ -1,5 +1,6 @@
 //! The lines of the report.
-ghost use Rattle.std.specs.Prelude.{◌≡◌};
+ghost use Rattle.std.specs.Prelude.{◌≡◌, ◌+◌, ◌≤◌, ◌++◌};
+ghost use Rattle.arrayvec.specs.ArrayString.{array_string_len};
 ghost use Rattle.pas_profile.specs.Directories.{IsKind};
 ghost use Rattle.pas_profile.specs.Profiles.{IsPage};
 ghost use Rattle.pas_profile.specs.declared.word.Word.TheVariants as Word;
@@ -10,6 +11,7 @@ ghost use Rattle.pas_report.specs.Reports.{page_text};
 use crate::counts::{Blocks, count_backed, count_blocks, count_deeds, free_on, live_on};
 use crate::marking::{names_of, page_marks};
 use crate::text::{Line, push_field, push_kind};
+use arrayvec::ArrayString;
 use pas_profile::{Directory, Word, read_deed};
 use pas_steps::State;
 
@@ -20,44 +22,62 @@ pub fn page_line(state: &State, page: u32) -> Line
     requires deed { IsDeedWord (profile_of state.now) (word_in state.now (Word.Deed page)) }
     ensures { result.bytes ≡ page_by_words state.now page }
 {
-    match read_deed(state.word(Word::Deed(page))) {
-        Some(directory) => deed_page_line(state, page, directory),
-        None => Line::new(),
+    let mut line = Line::new();
+    push_page(&mut line, state, page);
+    line
+}
+
+/// Adds the line of such a page, of at most 128 bytes.
+pub(crate) fn push_page<const C: usize>(text: &mut ArrayString<C>, state: &State, page: u32)
+    requires page { IsPage (profile_of state.now) page }
+    requires deed { IsDeedWord (profile_of state.now) (word_in state.now (Word.Deed page)) }
+    requires room { array_string_len text.old + 128 ≤ C }
+    ensures { text.new.bytes ≡ text.old.bytes ++ page_by_words state.now page }
+{
+    if let Some(directory) = read_deed(state.word(Word::Deed(page))) {
+        push_deed_page(text, state, page, directory);
     }
 }
 
-/// The line of a page of this directory.
-fn deed_page_line(state: &State, page: u32, directory: Directory) -> Line
+/// Adds the line of a page of this directory.
+fn push_deed_page<const C: usize>(text: &mut ArrayString<C>, state: &State, page: u32, directory: Directory)
     requires page { IsPage (profile_of state.now) page }
     requires deed { IsDeedWord (profile_of state.now) (word_in state.now (Word.Deed page)) }
     requires kind { IsKind directory.kind }
-    ensures { result.bytes ≡ page_text page directory (live_counted_on state.now page) (free_counted_on state.now page) (word_in state.now (Word.Stamp page)) (marked_in state.now page) }
+    requires room { array_string_len text.old + 128 ≤ C }
+    ensures { text.new.bytes ≡ text.old.bytes ++ page_text page directory (live_counted_on state.now page) (free_counted_on state.now page) (word_in state.now (Word.Stamp page)) (marked_in state.now page) }
 {
-    let mut line = Line::new();
-    push_field(&mut line, "page ", page);
-    push_field(&mut line, " heap ", directory.heap);
-    line.push_str(" ");
-    push_kind(&mut line, directory.kind);
-    push_field(&mut line, " live ", live_on(state, page));
-    push_field(&mut line, " free ", free_on(state, page));
-    push_field(&mut line, " stamp ", state.word(Word::Stamp(page)));
-    line.push_str(" marks ");
-    line.push_str(names_of(page_marks(state, page)));
-    line.push_str("\n");
-    line
+    push_field(text, "page ", page);
+    push_field(text, " heap ", directory.heap);
+    text.push_str(" ");
+    push_kind(text, directory.kind);
+    push_field(text, " live ", live_on(state, page));
+    push_field(text, " free ", free_on(state, page));
+    push_field(text, " stamp ", state.word(Word::Stamp(page)));
+    text.push_str(" marks ");
+    text.push_str(names_of(page_marks(state, page)));
+    text.push_str("\n");
 }
 
 /// The line of the totals of a region. It reads the life word of each grain once, and takes no memory.
 pub fn total_line(state: &State) -> Line
     ensures { result.bytes ≡ totals_by_words state.now }
 {
-    let Blocks { live, ended } = count_blocks(state);
     let mut line = Line::new();
-    push_field(&mut line, "total deeds ", count_deeds(state));
-    push_field(&mut line, " backed ", count_backed(state));
-    push_field(&mut line, " live ", live);
-    push_field(&mut line, " given ", ended + live);
-    push_field(&mut line, " ended ", ended);
-    line.push_str("\n");
+    push_totals(&mut line, state);
     line
+}
+
+/// Adds the line of the totals, of at most 128 bytes.
+pub(crate) fn push_totals<const C: usize>(text: &mut ArrayString<C>, state: &State)
+    requires { array_string_len text.old + 128 ≤ C }
+    ensures { text.new.bytes ≡ text.old.bytes ++ totals_by_words state.now }
+{
+    let Blocks { live, ended } = count_blocks(state);
+    push_field(text, "total deeds ", count_deeds(state));
+    push_field(text, " backed ", count_backed(state));
+    push_field(text, " live ", live);
+    push_field(text, " given ", ended + live);
+    push_field(text, " ended ", ended);
+    text.push_str("\n");
 }

@@ -1,12 +1,13 @@
 //! The report of a state, written to a sink.
-ghost use Rattle.std.specs.Prelude.{◌≡◌, ◌≤◌, ◌++◌, ◌↔◌, ℕ, List, Option, IsTrue, length, OnOk, OnErr};
+ghost use Rattle.std.specs.Prelude.{◌≡◌, ◌≤◌, ◌+◌, ◌↔◌, ℕ, List, Option, IsTrue, OnOk, OnErr};
+ghost use Rattle.arrayvec.specs.ArrayString.{array_string_len};
 ghost use Rattle.pas_profile.specs.Profiles.{IsValid};
 ghost use Rattle.pas_io.specs.Told.{Rose, Writes, WritesFront};
 ghost use Rattle.pas_report.specs.Counts.{AreDeedWords, IsDeedWord, report_by_words};
 ghost use Rattle.pas_report.specs.Pieces.{IsPutOut};
 
-use crate::pages::{page_line, total_line};
-use arrayvec::ArrayString;
+use crate::pages::{push_page, push_totals};
+use crate::text::Lines;
 use pas_io::whole::write_all;
 use pas_io::{Failed, Sink};
 use pas_profile::{Profile, Word, read_deed};
@@ -35,27 +36,23 @@ pub fn has_deed_words(state: &State) -> bool
     true
 }
 
-/// Lines that wait to be written together.
-pub(crate) type Piece = ArrayString<4096>;
-
-/// Adds a line to those that wait, which are written first where there is no room for it.
-pub(crate) fn put_line<K: Sink>(sink: &mut K, piece: &mut Piece, line: &str) -> Result<(), Failed>
-    requires { length line.now ≤ 4096 }
-    ensures adds { OnOk result ((before : Option (List ℕ)) (text : List ℕ) → IsPutOut before (K.held sink.old) piece.old.bytes text → IsPutOut before (K.held sink.new) piece.new.bytes (text ++ line.now)) }
-    ensures front { OnErr result ((before : Option (List ℕ)) (text : List ℕ) → IsPutOut before (K.held sink.old) piece.old.bytes text → WritesFront before (K.held sink.new) text) }
+/// Writes the lines that wait where there is no room for one more.
+pub(crate) fn make_room<K: Sink>(sink: &mut K, lines: &mut Lines) -> Result<(), Failed>
+    ensures keeps { OnOk result ((before : Option (List ℕ)) (text : List ℕ) → IsPutOut before (K.held sink.old) lines.old.bytes text → IsPutOut before (K.held sink.new) lines.new.bytes text) }
+    ensures room { OnOk result (array_string_len lines.new + 128 ≤ 65536) }
+    ensures front { OnErr result ((before : Option (List ℕ)) (text : List ℕ) → IsPutOut before (K.held sink.old) lines.old.bytes text → WritesFront before (K.held sink.new) text) }
     ensures failed { OnErr result (Rose (K.faults sink.old) (K.faults sink.new)) }
     ensures count { K.faults sink.old ≤ K.faults sink.new }
 {
-    if piece.remaining_capacity() < line.len() {
-        write_all(sink, piece.as_str().as_bytes())?;
-        piece.clear();
+    if lines.remaining_capacity() < 128 {
+        write_all(sink, lines.as_str().as_bytes())?;
+        lines.clear();
     }
-    piece.push_str(line);
     Ok(())
 }
 
 /// Writes the report: a line for each page with a deed, in order, and the line of the totals. The deed word of each page must be 0 or a
-/// directory's of the profile. It reads each word of the region at most twice, takes no memory, and writes some 4 KB at a time. After a
+/// directory's of the profile. It reads each word of the region at most twice, takes no memory, and writes some 64 KB at a time. After a
 /// failure some first part of the report was written.
 pub fn report<K: Sink>(state: &State, sink: &mut K) -> Result<(), Failed>
     requires { AreDeedWords state.now }
@@ -64,11 +61,13 @@ pub fn report<K: Sink>(state: &State, sink: &mut K) -> Result<(), Failed>
     ensures failed { OnErr result (Rose (K.faults sink.old) (K.faults sink.new)) }
     ensures count { K.faults sink.old ≤ K.faults sink.new }
 {
-    let mut piece = Piece::new();
-    piece.push_str("report\n");
+    let mut lines = Lines::new();
+    lines.push_str("report\n");
     for page in 1..state.profile().pages + 1 {
-        put_line(sink, &mut piece, page_line(state, page).as_str())?;
+        make_room(sink, &mut lines)?;
+        push_page(&mut lines, state, page);
     }
-    put_line(sink, &mut piece, total_line(state).as_str())?;
-    write_all(sink, piece.as_str().as_bytes())
+    make_room(sink, &mut lines)?;
+    push_totals(&mut lines, state);
+    write_all(sink, lines.as_str().as_bytes())
 }

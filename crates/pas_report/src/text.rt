@@ -1,4 +1,4 @@
-//! Numbers, names and kinds at the end of a line that is being written.
+//! Numbers, names and kinds at the end of a text that is being written, of whatever capacity.
 ghost use Rattle.std.specs.Prelude.{◌≡◌, ◌+◌, ◌≤◌, ◌<◌, ◌∷◌, [], ◌++◌, length};
 ghost use Rattle.arrayvec.specs.ArrayString.{array_string_len};
 ghost use Rattle.pas_profile.specs.Directories.{IsKind};
@@ -11,23 +11,28 @@ use pas_profile::{Kind, Name};
 /// A line, with its newline. The longest, of a report, have at most 121 bytes.
 pub type Line = ArrayString<128>;
 
+/// Lines that wait to be written together.
+pub(crate) type Lines = ArrayString<65536>;
+
 /// Adds a number, in decimal.
-pub(crate) fn push_number<I: Integer>(line: &mut Line, n: I)
-    requires { array_string_len line.old + I.MAX_STR_LEN ≤ 128 }
-    ensures bytes { line.new.bytes ≡ line.old.bytes ++ I.text n }
-    ensures len { array_string_len line.new ≤ array_string_len line.old + I.MAX_STR_LEN }
+#[inline]
+pub(crate) fn push_number<I: Integer, const C: usize>(text: &mut ArrayString<C>, n: I)
+    requires { array_string_len text.old + I.MAX_STR_LEN ≤ C }
+    ensures bytes { text.new.bytes ≡ text.old.bytes ++ I.text n }
+    ensures len { array_string_len text.new ≤ array_string_len text.old + I.MAX_STR_LEN }
 {
-    line.push_str(Buffer::new().format(n));
+    text.push_str(Buffer::new().format(n));
 }
 
 /// Adds these words and a number.
-pub fn push_field<I: Integer>(line: &mut Line, words: &str, n: I)
-    requires { array_string_len line.old + length words.now + I.MAX_STR_LEN ≤ 128 }
-    ensures bytes { line.new.bytes ≡ line.old.bytes ++ (words.now ++ I.text n) }
-    ensures len { array_string_len line.new ≤ array_string_len line.old + length words.now + I.MAX_STR_LEN }
+#[inline]
+pub fn push_field<I: Integer, const C: usize>(text: &mut ArrayString<C>, words: &str, n: I)
+    requires { array_string_len text.old + length words.now + I.MAX_STR_LEN ≤ C }
+    ensures bytes { text.new.bytes ≡ text.old.bytes ++ (words.now ++ I.text n) }
+    ensures len { array_string_len text.new ≤ array_string_len text.old + length words.now + I.MAX_STR_LEN }
 {
-    line.push_str(words);
-    push_number(line, n);
+    text.push_str(words);
+    push_number(text, n);
 }
 
 /// A number below 16 as a digit.
@@ -56,39 +61,42 @@ fn hex_digit(n: u8) -> &'static str
 }
 
 /// Adds the last so many hexadecimal digits of a number, at most 16.
-pub(crate) fn push_hex(line: &mut Line, n: u64, digits: u8)
+#[inline]
+pub(crate) fn push_hex<const C: usize>(text: &mut ArrayString<C>, n: u64, digits: u8)
     requires digits { digits ≤ 16 }
-    requires room { array_string_len line.old + digits ≤ 128 }
-    ensures bytes { line.new.bytes ≡ line.old.bytes ++ hex_digits digits n }
-    ensures len { array_string_len line.new ≡ array_string_len line.old + digits }
+    requires room { array_string_len text.old + digits ≤ C }
+    ensures bytes { text.new.bytes ≡ text.old.bytes ++ hex_digits digits n }
+    ensures len { array_string_len text.new ≡ array_string_len text.old + digits }
 {
     for place in (0..digits).rev() {
-        line.push_str(hex_digit(((n >> (4 * place)) % 16) as u8));
+        text.push_str(hex_digit(((n >> (4 * place)) % 16) as u8));
     }
 }
 
 /// Adds an address and a turn, with a space before them.
-pub(crate) fn push_name(line: &mut Line, name: Name)
-    requires { array_string_len line.old + 37 ≤ 128 }
-    ensures bytes { line.new.bytes ≡ line.old.bytes ++ name_text name }
-    ensures len { array_string_len line.new ≤ array_string_len line.old + 37 }
+#[inline]
+pub(crate) fn push_name<const C: usize>(text: &mut ArrayString<C>, name: Name)
+    requires { array_string_len text.old + 37 ≤ C }
+    ensures bytes { text.new.bytes ≡ text.old.bytes ++ name_text name }
+    ensures len { array_string_len text.new ≤ array_string_len text.old + 37 }
 {
-    line.push_str(" 0x");
-    push_hex(line, name.address.0 as u64, 8);
-    push_field(line, " turn ", name.turn);
+    text.push_str(" 0x");
+    push_hex(text, name.address.0 as u64, 8);
+    push_field(text, " turn ", name.turn);
 }
 
 /// Adds the text of a kind.
-pub(crate) fn push_kind(line: &mut Line, kind: Kind)
+#[inline]
+pub(crate) fn push_kind<const C: usize>(text: &mut ArrayString<C>, kind: Kind)
     requires kind { IsKind kind }
-    requires room { array_string_len line.old + 16 ≤ 128 }
-    ensures bytes { line.new.bytes ≡ line.old.bytes ++ kind_text kind }
-    ensures len { array_string_len line.new ≤ array_string_len line.old + 16 }
+    requires room { array_string_len text.old + 16 ≤ C }
+    ensures bytes { text.new.bytes ≡ text.old.bytes ++ kind_text kind }
+    ensures len { array_string_len text.new ≤ array_string_len text.old + 16 }
 {
     match kind {
-        Kind::Class(class) => push_field(line, "class ", pas_profile::classes::class_size(class)),
-        Kind::Bitfit => line.push_str("bitfit"),
-        Kind::Shared => line.push_str("shared"),
-        Kind::Large => line.push_str("large"),
+        Kind::Class(class) => push_field(text, "class ", pas_profile::classes::class_size(class)),
+        Kind::Bitfit => text.push_str("bitfit"),
+        Kind::Shared => text.push_str("shared"),
+        Kind::Large => text.push_str("large"),
     }
 }

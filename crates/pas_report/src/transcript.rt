@@ -3,13 +3,14 @@ ghost use Rattle.std.specs.Prelude.{◌≤◌, All, OnOk, OnErr};
 ghost use Rattle.pas_io.specs.Told.{Rose, Writes, WritesFront};
 ghost use Rattle.pas_report.specs.Lines.{CanShow, lines_of};
 
-use crate::lines::record_line;
+use crate::lines::push_record;
 use crate::record::Record;
-use crate::reports::{Piece, put_line};
+use crate::reports::make_room;
+use crate::text::Lines;
 use pas_io::whole::write_all;
 use pas_io::{Failed, Sink};
 
-/// Writes the line of each record, in order, some 4 KB at a time. It takes no memory. After a failure some first part of the lines was
+/// Writes the line of each record, in order, some 64 KB at a time. It takes no memory. After a failure some first part of the lines was
 /// written.
 pub fn write_lines<K: Sink>(records: &[Record], sink: &mut K) -> Result<(), Failed>
     requires { All CanShow records.now }
@@ -18,9 +19,10 @@ pub fn write_lines<K: Sink>(records: &[Record], sink: &mut K) -> Result<(), Fail
     ensures failed { OnErr result (Rose (K.faults sink.old) (K.faults sink.new)) }
     ensures count { K.faults sink.old ≤ K.faults sink.new }
 {
-    let mut piece = Piece::new();
+    let mut lines = Lines::new();
     for item in records {
-        put_line(sink, &mut piece, record_line(item).as_str())?;
+        make_room(sink, &mut lines)?;
+        push_record(&mut lines, item);
     }
-    write_all(sink, piece.as_str().as_bytes())
+    write_all(sink, lines.as_str().as_bytes())
 }

@@ -4,7 +4,7 @@ use Rattle.std.proofs.Math.ListN.{set, get_or, replicate}
 use Rattle.std.proofs.lemmas.List.{get_or-set_same, get_or-set_other, get_or-replicate, get_or_past}
 use Rattle.std.proofs.lemmas.Bool.{cases_lt, ne_eqb, eqb-true, eqb-false}
 use Rattle.pas_profile.specs.Classes.{has_bit}
-use Rattle.pas_steps.specs.Effects.{page_mask}
+use Rattle.pas_bits.specs.PageVectors.{page_mask}
 use Rattle.pas_scan.specs.Marks.{is_marked}
 use Rattle.pas_scan.proofs.PageBits.{bit_set, mask_bit, same_bit, swap_or, no_bit}
 

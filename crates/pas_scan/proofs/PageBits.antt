@@ -6,7 +6,7 @@ use Rattle.std.proofs.lemmas.Nat.Bits.{bit_at_and, bit_at_or, bit_at_not, bit_at
 use Rattle.std.proofs.lemmas.Bool.{eq-eqb, ne_eqb, cases_eq}
 use Rattle.std.proofs.lemmas.Bool.Decides.{nat_tests}
 use Rattle.pas_profile.specs.Classes.{has_bit}
-use Rattle.pas_steps.specs.Effects.{page_mask}
+use Rattle.pas_bits.specs.PageVectors.{page_mask}
 
 min_test : (x y : ℕ) → x < 2 → y < 2 → (min x (1 - y) == 1) ≡ ((x == 1) && not (y == 1))
 min_test x y hx hy = grind (arith, nat_tests)

@@ -8,6 +8,7 @@ use Rattle.pas_profile.specs.declared.directory.Directory.{Directory}
 use Rattle.pas_profile.specs.declared.word.Word.{Word}
 use Rattle.pas_profile.specs.declared.word.Word.TheVariants as Word
 use Rattle.pas_profile.specs.Runs.{grain_of, length_of}
+use Rattle.pas_bits.specs.PageVectors.{page_mask}
 use Rattle.pas_steps.specs.declared.step.Step.{Step}
 use Rattle.pas_steps.specs.declared.step.Step.TheVariants.{Look, Deed, Back, Take, Put, Give, End, TakeRight, Offer, Park, Unpark, Stamp, Hint, Tick, Unback, Unhint}
 
@@ -22,10 +23,7 @@ life_word_at g = Word.Life (g / 256) (g % 256)
 abbrev pub in_mask : ℕ → ℕ → ℕ → ℕ → Bool
 in_mask page word mask g = (word == g / 64 % 4) && (page == g / 256) && has_bit mask (g % 64)
 
--- ---- page vectors: page p stands in bit p % 64 of word p / 64
-abbrev pub page_mask : ℕ → ℕ
-page_mask page = 1 * 2 ^ (page % 64) % 2 ^ 64
-
+-- ---- the words of a page in the page vectors
 abbrev pub parked_word_at : ℕ → Word
 parked_word_at page = Word.Parked (page / 64)
 

@@ -1,20 +1,15 @@
 //! What a step does, as programs that a desk calls.
 ghost use Rattle.std.specs.Prelude.{◌≡◌, ◌<◌, ◌-◌, ◌^◌};
-ghost use Rattle.pas_steps.specs.Effects.{target as target_word, new_value as the_value, life_word_at as the_life_word_at, page_mask as the_page_mask};
+ghost use Rattle.pas_steps.specs.Effects.{target as target_word, new_value as the_value, life_word_at as the_life_word_at};
 ghost use Rattle.pas_profile.specs.Runs.{grain_of};
 ghost use Rattle.pas_steps.specs.Views.{epoch_after as the_epoch};
 ghost use Rattle.pas_steps.specs.Events.{event_of as the_event, end_event as the_end_event};
 ghost use Rattle.pas_steps.specs.Ranges.{IsRanged};
 
 use crate::step::Step;
+use pas_bits::page_vector::page_mask;
+use pas_profile::limits::PAGE_GRAINS;
 use pas_profile::{Event, Name, Why, Word, deed_word, life_word, read_life};
-
-/// The page's bit in the word of a page vector.
-pub fn page_mask(page: u32) -> u64
-    ensures { result ≡ the_page_mask page }
-{
-    1 << (page % 64)
-}
 
 /// The one word of a step.
 #[inline(always)]
@@ -55,8 +50,8 @@ pub fn target(step: Step) -> Word
 fn life_word_at(name: Name) -> Word
     ensures { result ≡ the_life_word_at (grain_of name) }
 {
-    let grain = name.address.0 / 16;
-    Word::Life(grain / 256, (grain % 256) as u8)
+    let grain = name.address.grain();
+    Word::Life(grain / PAGE_GRAINS, (grain % PAGE_GRAINS) as u8)
 }
 
 /// The word's new value, from the epoch that the actor knows and the old value.
@@ -79,7 +74,7 @@ pub fn new_value(epoch: u64, step: Step, old: u64) -> u64
             word: _,
             mask,
         } => old | mask,
-        Step::Give { block } => life_word(block.name.turn, block.room / 16, true),
+        Step::Give { block } => life_word(block.name.turn, block.grains(), true),
         Step::End { name, guess } => {
             if old == life_word(name.turn, guess, true) {
                 name.turn + 1

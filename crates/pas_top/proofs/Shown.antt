@@ -16,7 +16,7 @@ use Rattle.pas_report.specs.declared.record.Record.{Record}
 use Rattle.pas_report.proofs.Resting.{are_deed_words, nobody_holds, report_agrees}
 use Rattle.pas_replay.specs.Replays.{IsBuilt, Shows}
 use Rattle.pas_replay.specs.Ways.{Way}
-use Rattle.pas_replay.proofs.PlanHolds.{plan_valid}
+use Rattle.pas_replay.proofs.BuiltPlans.{plan_valid}
 use Rattle.pas_replay.proofs.Replayed.{can_be_shown}
 use Rattle.pas_top.specs.Outcomes.{IsOutcome, IsShown, IsWritable, outcome_status, outcome_text, shown_text}
 use Rattle.pas_top.specs.Outputs.{most_bytes, ComesTo, IsOrder, IsOutput, IsReplayed}

@@ -4,8 +4,9 @@ use Rattle.pas_trace.specs.Reasons.{first_failed, is_thread, is_alignment, cost_
 use Rattle.pas_trace.specs.Items.{item_of_line}
 use Rattle.pas_trace.specs.Told.{owner_in, few_told, thread_told, told_checks, has_owner, has_owner_now, IsChecked, Tells}
 use Rattle.pas_trace.specs.declared.fault.Reason.{Reason}
+use Rattle.pas_trace.specs.declared.item.Request.{Request}
 use Rattle.pas_trace.specs.declared.item.Item.{Item}
-use Rattle.pas_trace.specs.declared.item.Item.TheVariants.{Blank, Shares, NextPhase, Allocates, Frees, FreesRaw, Flushes, Stops, Ticks, Passes, Idles}
+use Rattle.pas_trace.specs.declared.item.Item.TheVariants.{Allocates, Frees, FreesRaw, Flushes, Stops, Ticks, Passes, Idles}
 use Rattle.pas_trace.specs.declared.reader.Reader.{Reader}
 
 -- ---- lists of checks
@@ -13,10 +14,6 @@ pub checked-more : (c : Bool) (r : Reason) (cs : List (Bool × Reason)) (cost : 
 checked-more true r cs cost (Ok c) e h = h
 checked-more true r cs cost (Err s) e h = h
 checked-more false r cs cost result e h = cc
-
-pub first-holds : (c : Bool) (r : Reason) (cs : List (Bool × Reason)) → first_failed ((c, r) ∷ cs) ≡ None → (c ≡ true) × (first_failed cs ≡ None)
-first-holds true r cs e = (refl, e)
-first-holds false r cs e = cc
 
 -- ---- the tables tell what the checks ask
 pub bound-after : (r : Reader) (items : List Item) (i : Item) → Tells r items → r.counts.bound + cost_of r.header i ≡ record_bound r.header (i ∷ items)
@@ -33,13 +30,13 @@ thread-same : (r : Reader) (items : List Item) (t : ℕ) (i : Item) → Tells r 
 thread-same r items t i h = ap (λ cs. (is_thread r.header t, Reason.BadThread) ∷ cs) (few-same r items i h)
 
 pub checks-same : (r : Reader) (items : List Item) (i : Item) → Tells r items → told_checks r i ≡ checks_of r.header items i
-checks-same r items (Allocates t n hp s a) h =
-    let named : is_named items n ≡ has_owner r n = (h.names n).named in
-    let i = Allocates t n hp s a in
-    ap (λ b. (is_thread r.header t, Reason.BadThread) ∷ (nat_lt hp r.header.heaps, Reason.BadHeap) ∷ (nat_le s (4096 * r.header.pages), Reason.BadSize) ∷ (is_alignment a, Reason.BadAlign)
+checks-same r items (Allocates t q) h =
+    let named : is_named items q.name ≡ has_owner r q.name = (h.names q.name).named in
+    let i = Allocates t q in
+    ap (λ b. (is_thread r.header t, Reason.BadThread) ∷ (nat_lt q.heap r.header.heaps, Reason.BadHeap) ∷ (nat_le q.size (4096 * r.header.pages), Reason.BadSize) ∷ (is_alignment q.align, Reason.BadAlign)
     ∷ (not b, Reason.NameTaken) ∷ few_told r (cost_of r.header i)) (sym named)
-    ∙ ap (λ cs. (is_thread r.header t, Reason.BadThread) ∷ (nat_lt hp r.header.heaps, Reason.BadHeap) ∷ (nat_le s (4096 * r.header.pages), Reason.BadSize) ∷ (is_alignment a, Reason.BadAlign)
-    ∷ (not (is_named items n), Reason.NameTaken) ∷ cs) (few-same r items i h)
+    ∙ ap (λ cs. (is_thread r.header t, Reason.BadThread) ∷ (nat_lt q.heap r.header.heaps, Reason.BadHeap) ∷ (nat_le q.size (4096 * r.header.pages), Reason.BadSize) ∷ (is_alignment q.align, Reason.BadAlign)
+    ∷ (not (is_named items q.name), Reason.NameTaken) ∷ cs) (few-same r items i h)
 checks-same r items (Frees t n) h =
     let named : is_named items n ≡ has_owner r n = (h.names n).named in
     let now : is_named_now items n ≡ has_owner_now r n = (h.names n).now in
@@ -72,16 +69,16 @@ says-reason r items line i why h e some =
     ap (λ b. checked r.header items (item_of_line b line)) (sym s) ∙ ap (checked r.header items) (sym e) ∙ ap (kept i) reason
 
 -- ---- an allocation that passes its own checks stands by those of every operation
-pub allocation-checked : (r : Reader) (t n h s a : ℕ) (result : Result ℕ Reason)
-    → is_thread r.header t ≡ true → nat_lt h r.header.heaps ≡ true → nat_le s (4096 * r.header.pages) ≡ true → is_alignment a ≡ true → not (has_owner r n) ≡ true
-    → IsChecked (few_told r (cost_of r.header (Allocates t n h s a))) (cost_of r.header (Allocates t n h s a)) result
-    → IsChecked (told_checks r (Allocates t n h s a)) (cost_of r.header (Allocates t n h s a)) result
-allocation-checked r t n h s a result e1 e2 e3 e4 e5 few =
-    let cost = cost_of r.header (Allocates t n h s a) in
+pub allocation-checked : (r : Reader) (t : ℕ) (q : Request) (result : Result ℕ Reason)
+    → is_thread r.header t ≡ true → nat_lt q.heap r.header.heaps ≡ true → nat_le q.size (4096 * r.header.pages) ≡ true → is_alignment q.align ≡ true → not (has_owner r q.name) ≡ true
+    → IsChecked (few_told r (cost_of r.header (Allocates t q))) (cost_of r.header (Allocates t q)) result
+    → IsChecked (told_checks r (Allocates t q)) (cost_of r.header (Allocates t q)) result
+allocation-checked r t q result e1 e2 e3 e4 e5 few =
+    let cost = cost_of r.header (Allocates t q) in
     let l0 : List (Bool × Reason) = few_told r cost in
-    let l1 : List (Bool × Reason) = (not (has_owner r n), Reason.NameTaken) ∷ l0 in
-    let l2 : List (Bool × Reason) = (is_alignment a, Reason.BadAlign) ∷ l1 in
-    let l3 : List (Bool × Reason) = (nat_le s (4096 * r.header.pages), Reason.BadSize) ∷ l2 in
-    let l4 : List (Bool × Reason) = (nat_lt h r.header.heaps, Reason.BadHeap) ∷ l3 in
+    let l1 : List (Bool × Reason) = (not (has_owner r q.name), Reason.NameTaken) ∷ l0 in
+    let l2 : List (Bool × Reason) = (is_alignment q.align, Reason.BadAlign) ∷ l1 in
+    let l3 : List (Bool × Reason) = (nat_le q.size (4096 * r.header.pages), Reason.BadSize) ∷ l2 in
+    let l4 : List (Bool × Reason) = (nat_lt q.heap r.header.heaps, Reason.BadHeap) ∷ l3 in
     checked-more _ Reason.BadThread l4 cost result e1 (checked-more _ Reason.BadHeap l3 cost result e2 (checked-more _ Reason.BadSize l2 cost result e3
     (checked-more _ Reason.BadAlign l1 cost result e4 (checked-more _ Reason.NameTaken l0 cost result e5 few))))

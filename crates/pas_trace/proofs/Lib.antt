@@ -1,7 +1,13 @@
-pub mod Splits
-pub mod Digits
-pub mod Gathering
-pub mod Checking
-pub mod Headers
-pub mod Telling
-pub mod Reading
+mod Splits
+mod Digits
+mod Gathering
+mod Checking
+mod Headers
+mod PassedChecks
+mod Telling
+mod Reading
+mod LineCounts
+mod ItemRanges
+mod ParsedItems
+mod OperationsOfItems
+pub mod EveryPlan

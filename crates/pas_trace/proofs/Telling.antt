@@ -1,22 +1,24 @@
 -- What the reader keeps after each item.
-use Rattle.std.proofs.Common.{◌≡◌, ◌≢◌, ℕ, ◌+◌, ◌*◌, ◌%◌, ◌<◌, ◌≤◌, ◌==◌, nat_lt, nat_le, Bool, true, false, not, ◌&&◌, ◌||◌, if◌then◌else◌, List, [], ◌∷◌, ◌++◌, length, get_or, set, None, Some, refl, sym, ap, subst, ◌∙◌, arith, inl, inr, add-one}
+use Rattle.std.proofs.Common.{◌≡◌, ◌≢◌, ℕ, ◌+◌, ◌<◌, ◌≤◌, ◌==◌, Bool, true, false, not, ◌&&◌, ◌||◌, if◌then◌else◌, List, [], ◌∷◌, ◌++◌, length, get_or, set, None, Some, refl, sym, ap, subst, ◌∙◌, arith, inl, inr, add-one}
 use Rattle.std.proofs.Math.ListN.{length-set}
-use Rattle.std.proofs.lemmas.Bool.{ltb-true, leb-true, eq-eqb, ne_eqb, cases_eq, and_parts}
+use Rattle.std.proofs.lemmas.Bool.{eq-eqb, ne_eqb, cases_eq}
+use Rattle.pas_profile.specs.Profiles.{IsValid}
 use Rattle.pas_profile.specs.declared.profile.Profile.{Profile}
-use Rattle.pas_trace.specs.Reasons.{first_failed, is_thread, is_alignment, cost_of, costs_of, record_bound, few_enough, thread_first, reason_of, operations_in, is_operation, is_phase, actor_of, allocates, is_named, is_named_now, thread_of, started}
+use Rattle.pas_trace.specs.Reasons.{cost_of, costs_of, record_bound, reason_of, operations_in, is_operation, is_phase, actor_of, allocates, is_named, is_named_now, thread_of, started}
 use Rattle.pas_trace.specs.Plans.{shared_by, shared_in, phases_after, phases_in, line_of_newest, own_costs, bound_of, bounds_upto, operation, add_last}
-use Rattle.pas_trace.specs.Told.{owner_in, IsHeader, Tells, NameTold, IsOperated, IsAdded}
-use Rattle.pas_trace.specs.declared.fault.Reason.TheVariants as Reason
+use Rattle.pas_trace.specs.Told.{owner_in, Tells, NameTold, IsOperated, IsAdded}
+use Rattle.pas_trace.specs.declared.item.Request.{Request}
 use Rattle.pas_trace.specs.declared.item.Item.{Item}
-use Rattle.pas_trace.specs.declared.item.Item.TheVariants.{Blank, Shares, NextPhase, Allocates, Frees, FreesRaw, Flushes, Stops, Ticks, Passes, Idles}
+use Rattle.pas_trace.specs.declared.item.Item.TheVariants.{Allocates}
 use Rattle.pas_trace.specs.declared.names.Owner.{Owner}
 use Rattle.pas_trace.specs.declared.names.Names.{Names}
 use Rattle.pas_trace.specs.declared.plan.Op.{Op}
 use Rattle.pas_trace.specs.declared.plan.What.{What}
 use Rattle.pas_trace.specs.declared.plan.What.TheVariants.{Alloc}
 use Rattle.pas_trace.specs.declared.reader.Reader.{Reader}
-use Rattle.pas_trace.proofs.Checking.{first-holds, bound-after}
+use Rattle.pas_trace.proofs.Checking.{bound-after}
 use Rattle.pas_trace.proofs.Gathering.{get_or-written}
+use Rattle.pas_trace.proofs.PassedChecks.{FineCounts, passes, thread_within, actor_within, counts_within}
 
 -- ---- costs
 if-le : (b : Bool) (x y z : ℕ) → x ≤ z → y ≤ z → (if b then x else y) ≤ z
@@ -35,61 +37,6 @@ cost-within r items k t lt =
     let own : get_or r.counts.costs k 0 ≡ own_costs r.header k items = t.costs k lt in
     let all : r.counts.bound ≡ record_bound r.header items = t.bound in
     omega (arith, own, all, own_costs-le r.header k items)
-
--- ---- what the checks give
-pub record FineCounts (f : Profile) (items : List Item) (i : Item) : Type 0 where
-  pub few : operations_in items < 1000000
-  pub small : record_bound f (i ∷ items) ≤ 2000000
-
-pub fine-counts : (f : Profile) (items : List Item) (i : Item) → first_failed (few_enough f items i) ≡ None → FineCounts f items i
-fine-counts f items i e =
-    let a = first-holds (nat_lt (operations_in items) 1000000) Reason.TooManyOps ((nat_le (record_bound f (i ∷ items)) 2000000, Reason.TraceTooLarge) ∷ []) e in
-    let b = first-holds (nat_le (record_bound f (i ∷ items)) 2000000) Reason.TraceTooLarge [] a.1 in
-    record { few = ltb-true _ _ a.0; small = leb-true _ _ b.0 }
-
-pub record IsThread (f : Profile) (t : ℕ) : Type 0 where
-  pub least : 1 ≤ t
-  pub most : t ≤ f.threads
-
-fine-is_thread : (f : Profile) (t : ℕ) → is_thread f t ≡ true → IsThread f t
-fine-is_thread f t e = let p = and_parts (nat_le 1 t) (nat_le t f.threads) e in record { least = leb-true _ _ p.0; most = leb-true _ _ p.1 }
-
-pub fine-thread : (f : Profile) (items : List Item) (t : ℕ) (i : Item) → first_failed (thread_first f items t i) ≡ None → IsThread f t × FineCounts f items i
-fine-thread f items t i e =
-    let a = first-holds (is_thread f t) Reason.BadThread (few_enough f items i) e in
-    (fine-is_thread f t a.0, fine-counts f items i a.1)
-
-pub fine-free : (f : Profile) (items : List Item) (t n : ℕ) → reason_of f items (Frees t n) ≡ None → IsThread f t × FineCounts f items (Frees t n)
-fine-free f items t n e =
-    let few = few_enough f items (Frees t n) in
-    let early = ((t == thread_of items n) || not (is_named_now items n), Reason.TooEarly) ∷ few in
-    let a = first-holds (is_thread f t) Reason.BadThread ((is_named items n, Reason.NameUnknown) ∷ early) e in
-    let b = first-holds (is_named items n) Reason.NameUnknown early a.1 in
-    let d = first-holds ((t == thread_of items n) || not (is_named_now items n)) Reason.TooEarly few b.1 in
-    (fine-is_thread f t a.0, fine-counts f items (Frees t n) d.1)
-
-pub record FineAllocation (f : Profile) (items : List Item) (t n h s a : ℕ) : Type 0 where
-  pub thread : IsThread f t
-  pub heap : h < f.heaps
-  pub size : s ≤ 4096 * f.pages
-  pub align : a ≤ 4096
-  pub counts : FineCounts f items (Allocates t n h s a)
-
-pub fine-allocation : (f : Profile) (items : List Item) (t n h s a : ℕ) → reason_of f items (Allocates t n h s a) ≡ None → FineAllocation f items t n h s a
-fine-allocation f items t n h s a e =
-    let few = few_enough f items (Allocates t n h s a) in
-    let l1 = (not (is_named items n), Reason.NameTaken) ∷ few in
-    let l2 = (is_alignment a, Reason.BadAlign) ∷ l1 in
-    let l3 = (nat_le s (4096 * f.pages), Reason.BadSize) ∷ l2 in
-    let l4 = (nat_lt h f.heaps, Reason.BadHeap) ∷ l3 in
-    let c5 = first-holds (is_thread f t) Reason.BadThread l4 e in
-    let c4 = first-holds (nat_lt h f.heaps) Reason.BadHeap l3 c5.1 in
-    let c3 = first-holds (nat_le s (4096 * f.pages)) Reason.BadSize l2 c4.1 in
-    let c2 = first-holds (is_alignment a) Reason.BadAlign l1 c3.1 in
-    let c1 = first-holds (not (is_named items n)) Reason.NameTaken few c2.1 in
-    let p = and_parts (nat_le 16 a && nat_le a 4096) (4096 % a == 0) c2.0 in
-    let q = and_parts (nat_le 16 a) (nat_le a 4096) p.0 in
-    record { thread = fine-is_thread f t c5.0; heap = ltb-true _ _ c4.0; size = leb-true _ _ c3.0; align = leb-true _ _ q.1; counts = fine-counts f items (Allocates t n h s a) c1.1 }
 
 -- the reader may count an operation of the actor
 pub record IsReady (r : Reader) (actor cost : ℕ) : Type 0 where
@@ -120,8 +67,8 @@ kept-name i items o p n phase none h = record {
   before = h.before;
 }
 
-taken-here : (t name h s a p : ℕ) (items : List Item) (n : ℕ) → 1 ≤ t → (name == n) ≡ true → NameTold (record { thread = t; phase = p }) p (Allocates t name h s a ∷ items) n
-taken-here t name h s a p items n least e =
+taken-here : (t p : ℕ) (q : Request) (items : List Item) (n : ℕ) → 1 ≤ t → (q.name == n) ≡ true → NameTold (record { thread = t; phase = p }) p (Allocates t q ∷ items) n
+taken-here t p q items n least e =
     let some : (t == 0) ≡ false = ne_eqb t 0 (λ z. absurd (omega (arith, z, least))) in
     let same : (p == p) ≡ true = eq-eqb p p refl in
     record {
@@ -131,16 +78,16 @@ taken-here t name h s a p items n least e =
       before = omega arith;
     }
 
-pub taken-name : (t name h s a p : ℕ) (items : List Item) (o o' : Owner) (n : ℕ) → 1 ≤ t → o' ≡ (if n == name then record { thread = t; phase = p } else o) → NameTold o p items n → NameTold o' p (Allocates t name h s a ∷ items) n
-taken-name t name h s a p items o o' n least e told = elim (cases_eq n name) [
+pub taken-name : (t p : ℕ) (q : Request) (items : List Item) (o o' : Owner) (n : ℕ) → 1 ≤ t → o' ≡ (if n == q.name then record { thread = t; phase = p } else o) → NameTold o p items n → NameTold o' p (Allocates t q ∷ items) n
+taken-name t p q items o o' n least e told = elim (cases_eq n q.name) [
   | inl same ↦
-      let here : (n == name) ≡ true = eq-eqb n name same in
+      let here : (n == q.name) ≡ true = eq-eqb n q.name same in
       let is : o' ≡ record { thread = t; phase = p } = e ∙ ap (λ b. if b then record { thread = t; phase = p } else o) here in
-      subst (λ (x : Owner). NameTold x p (Allocates t name h s a ∷ items) n) (sym is) (taken-here t name h s a p items n least (eq-eqb name n (sym same)))
+      subst (λ (x : Owner). NameTold x p (Allocates t q ∷ items) n) (sym is) (taken-here t p q items n least (eq-eqb q.name n (sym same)))
   | inr other ↦
-      let there : (n == name) ≡ false = ne_eqb n name other in
+      let there : (n == q.name) ≡ false = ne_eqb n q.name other in
       let is : o' ≡ o = e ∙ ap (λ b. if b then record { thread = t; phase = p } else o) there in
-      subst (λ (x : Owner). NameTold x p (Allocates t name h s a ∷ items) n) (sym is) (kept-name (Allocates t name h s a) items o p n refl (ne_eqb name n (λ x. other (sym x))) told)
+      subst (λ (x : Owner). NameTold x p (Allocates t q ∷ items) n) (sym is) (kept-name (Allocates t q) items o p n refl (ne_eqb q.name n (λ x. other (sym x))) told)
 ]
 
 -- ---- an item that is an operation
@@ -180,7 +127,7 @@ operated old new names items i actor what cost t op can told h =
     let line : new.line ≡ old.line + 1 = h.line in
     let le : old.phase ≤ old.line = t.phase in
     record {
-      header = subst (λ (f : Profile). IsHeader f) (sym h.header) t.header;
+      header = subst (λ (f : Profile). IsValid f) (sym h.header) t.header;
       shared = h.shared ∙ t.shared ∙ sym (op.marks (shared_in items));
       started = h.started ∙ sym (ap (λ b. b || is_phase i || started items) op.operates);
       line = line ∙ ap (λ n. n + 1) t.line;
@@ -196,33 +143,9 @@ operated old new names items i actor what cost t op can told h =
     }
 
 -- ---- what any item gives
-pub actor-most : (f : Profile) (items : List Item) (i : Item) → reason_of f items i ≡ None → actor_of i ≤ f.threads
-actor-most f items Blank e = omega arith
-actor-most f items (Shares h) e = omega arith
-actor-most f items NextPhase e = omega arith
-actor-most f items (Allocates t n h s a) e = let p = fine-allocation f items t n h s a e in p.thread.most
-actor-most f items (Frees t n) e = let p = fine-free f items t n e in p.0.most
-actor-most f items (FreesRaw t a n) e = let p = fine-thread f items t (FreesRaw t a n) e in p.0.most
-actor-most f items (Flushes t) e = let p = fine-thread f items t (Flushes t) e in p.0.most
-actor-most f items (Stops t) e = let p = fine-thread f items t (Stops t) e in p.0.most
-actor-most f items (Ticks n) e = omega arith
-actor-most f items Passes e = omega arith
-actor-most f items (Idles n) e = omega arith
-
-counts-fine : (f : Profile) (items : List Item) (i : Item) → is_operation i ≡ true → reason_of f items i ≡ None → FineCounts f items i
-counts-fine f items (Allocates t n h s a) o e = let p = fine-allocation f items t n h s a e in p.counts
-counts-fine f items (Frees t n) o e = let p = fine-free f items t n e in p.1
-counts-fine f items (FreesRaw t a n) o e = let p = fine-thread f items t (FreesRaw t a n) e in p.1
-counts-fine f items (Flushes t) o e = let p = fine-thread f items t (Flushes t) e in p.1
-counts-fine f items (Stops t) o e = let p = fine-thread f items t (Stops t) e in p.1
-counts-fine f items (Ticks n) o e = fine-counts f items (Ticks n) e
-counts-fine f items Passes o e = fine-counts f items Passes e
-counts-fine f items (Idles n) o e = fine-counts f items (Idles n) e
-counts-fine f items s o e = cc
-
 pub within-item : (r : Reader) (items : List Item) (i : Item) (actor : ℕ) → Tells r items → reason_of r.header items i ≡ None → actor_of i ≡ actor → get_or r.counts.costs actor 0 ≤ r.counts.bound
 within-item r items i actor t e is =
-    let most = actor-most r.header items i e in
+    let most = actor_within r.header items i e in
     let header = t.header in
     let threads : r.header.threads ≤ 16 = header.threads in
     cost-within r items actor t (omega (arith, most, threads, is))
@@ -231,10 +154,10 @@ within-item r items i actor t e is =
 abbrev pub NamesAfter : Reader → Names → Item → Type 0
 NamesAfter old names i = (items : List Item) → Tells old items → reason_of old.header items i ≡ None → (n : ℕ) → NameTold (owner_in names n) old.phase (i ∷ items) n
 
-pub names-taken : (old : Reader) (names : Names) (t name h s a : ℕ) → ((n : ℕ) → owner_in names n ≡ (if n == name then record { thread = t; phase = old.phase } else owner_in old.names n)) → NamesAfter old names (Allocates t name h s a)
-names-taken old names t name h s a given items told e n =
-    let fine = fine-allocation old.header items t name h s a e in
-    taken-name t name h s a old.phase items (owner_in old.names n) (owner_in names n) n fine.thread.least (given n) (told.names n)
+pub names-taken : (old : Reader) (names : Names) (t : ℕ) (q : Request) → ((n : ℕ) → owner_in names n ≡ (if n == q.name then record { thread = t; phase = old.phase } else owner_in old.names n)) → NamesAfter old names (Allocates t q)
+names-taken old names t q given items told e n =
+    let thread = thread_within old.header t (passes old.header items (Allocates t q) e).0 in
+    taken-name t old.phase q items (owner_in old.names n) (owner_in names n) n thread.0 (given n) (told.names n)
 
 pub added : (old new : Reader) (names : Names) (i : Item) (actor : ℕ) (what : What) (cost : ℕ) → IsOperation old.header i actor what cost → NamesAfter old names i
     → IsOperated (record old { line = old.line + 1; names = names }) new actor what cost → IsAdded old new i
@@ -242,17 +165,17 @@ added old new names i actor what cost op after h = record {
   header = h.header;
   line = h.line;
   tells = λ items t e.
-      let most = actor-most old.header items i e in
+      let most = actor_within old.header items i e in
       let header = t.header in
       let threads : old.header.threads ≤ 16 = header.threads in
       let is : actor_of i ≡ actor = op.thread in
-      let can = ready old items i actor cost t (counts-fine old.header items i op.operates e) (omega (arith, most, threads, is)) (sym op.costs) in
+      let can = ready old items i actor cost t (counts_within old.header items i op.operates e) (omega (arith, most, threads, is)) (sym op.costs) in
       operated old new names items i actor what cost t op can (after items t e) h;
 }
 
 -- ---- an allocation is one
-pub is-allocates : (f : Profile) (t n h s a cost : ℕ) → cost_of f (Allocates t n h s a) ≡ cost → IsOperation f (Allocates t n h s a) t (Alloc n h s a) cost
-is-allocates f t n h s a cost e = record { operates = refl; same_phase = refl; marks = λ m. refl; thread = refl; costs = e; phases = λ line ps. refl }
+pub is-allocates : (f : Profile) (t : ℕ) (q : Request) (cost : ℕ) → cost_of f (Allocates t q) ≡ cost → IsOperation f (Allocates t q) t (Alloc q.name q.heap q.size q.align) cost
+is-allocates f t q cost e = record { operates = refl; same_phase = refl; marks = λ m. refl; thread = refl; costs = e; phases = λ line ps. refl }
 
 -- ---- bounds
 pub bounds-more : (f : Profile) (items : List Item) (k deeds cost : ℕ) (bounds more : List ℕ) → bounds ≡ bounds_upto f items k → deeds + cost ≡ bound_of f items k → more ≡ bounds ++ (deeds + cost) ∷ []

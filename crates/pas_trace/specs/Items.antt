@@ -75,7 +75,7 @@ abbrev pub item_of_four : List ℕ → List ℕ → List ℕ → List ℕ → Re
 item_of_four w a b c = if same_bytes w (codes "r") then item3 FreesRaw (plain a) (address_of_word b) (turn_word c) else Err Reason.BadWord
 
 abbrev pub item_of_six : List ℕ → List ℕ → List ℕ → List ℕ → List ℕ → List ℕ → Result Item Reason
-item_of_six w a b c d e = if same_bytes w (codes "a") then item5 Allocates (plain a) (trace_name b) (plain c) (plain d) (plain e) else Err Reason.BadWord
+item_of_six w a b c d e = if same_bytes w (codes "a") then item5 (λ t n h s a. Allocates t record { name = n; heap = h; size = s; align = a }) (plain a) (trace_name b) (plain c) (plain d) (plain e) else Err Reason.BadWord
 
 abbrev pub item_of_words : Bool → List (List ℕ) → Result Item Reason
 item_of_words started [] = Ok Blank

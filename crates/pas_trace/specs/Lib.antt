@@ -4,3 +4,4 @@ pub mod Items
 pub mod Reasons
 pub mod Plans
 pub mod Told
+pub mod EveryPlan

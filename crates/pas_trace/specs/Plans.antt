@@ -57,7 +57,7 @@ abbrev pub shared_by : Item → ℕ → ℕ
 shared_by Blank marks = marks
 shared_by (Shares h) marks = bit_or marks (2 ^ h)
 shared_by NextPhase marks = marks
-shared_by (Allocates t n h s a) marks = marks
+shared_by (Allocates t q) marks = marks
 shared_by (Frees t n) marks = marks
 shared_by (FreesRaw t a n) marks = marks
 shared_by (Flushes t) marks = marks
@@ -81,7 +81,7 @@ abbrev pub operation_of : ℕ → Item → Option Op
 operation_of line Blank = None
 operation_of line (Shares h) = None
 operation_of line NextPhase = None
-operation_of line (Allocates t n h s a) = Some (operation line t (Alloc n h s a))
+operation_of line (Allocates t q) = Some (operation line t (Alloc q.name q.heap q.size q.align))
 operation_of line (Frees t n) = Some (operation line t (Free n))
 operation_of line (FreesRaw t a n) = Some (operation line t (Raw (name_at a n)))
 operation_of line (Flushes t) = Some (operation line t Flush)
@@ -107,7 +107,7 @@ abbrev pub phases_after : Item → ℕ → List (List Op) → List (List Op)
 phases_after Blank line phases = phases
 phases_after (Shares h) line phases = phases
 phases_after NextPhase line phases = phases ++ [] ∷ []
-phases_after (Allocates t n h s a) line phases = add_last (operation_of line (Allocates t n h s a)) phases
+phases_after (Allocates t q) line phases = add_last (operation_of line (Allocates t q)) phases
 phases_after (Frees t n) line phases = add_last (operation_of line (Frees t n)) phases
 phases_after (FreesRaw t a n) line phases = add_last (operation_of line (FreesRaw t a n)) phases
 phases_after (Flushes t) line phases = add_last (operation_of line (Flushes t)) phases

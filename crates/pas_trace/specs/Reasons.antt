@@ -37,7 +37,7 @@ abbrev pub is_operation : Item → Bool
 is_operation Blank = false
 is_operation (Shares h) = false
 is_operation NextPhase = false
-is_operation (Allocates t n h s a) = true
+is_operation (Allocates t q) = true
 is_operation (Frees t n) = true
 is_operation (FreesRaw t a n) = true
 is_operation (Flushes t) = true
@@ -50,7 +50,7 @@ abbrev pub is_phase : Item → Bool
 is_phase Blank = false
 is_phase (Shares h) = false
 is_phase NextPhase = true
-is_phase (Allocates t n h s a) = false
+is_phase (Allocates t q) = false
 is_phase (Frees t n) = false
 is_phase (FreesRaw t a n) = false
 is_phase (Flushes t) = false
@@ -73,7 +73,7 @@ abbrev pub allocates : Item → ℕ → Bool
 allocates Blank name = false
 allocates (Shares h) name = false
 allocates NextPhase name = false
-allocates (Allocates t n h s a) name = n == name
+allocates (Allocates t q) name = q.name == name
 allocates (Frees t n) name = false
 allocates (FreesRaw t a n) name = false
 allocates (Flushes t) name = false
@@ -97,7 +97,7 @@ abbrev pub actor_of : Item → ℕ
 actor_of Blank = 0
 actor_of (Shares h) = 0
 actor_of NextPhase = 0
-actor_of (Allocates t n h s a) = t
+actor_of (Allocates t q) = t
 actor_of (Frees t n) = t
 actor_of (FreesRaw t a n) = t
 actor_of (Flushes t) = t
@@ -125,7 +125,7 @@ abbrev pub cost_of : Profile → Item → ℕ
 cost_of f Blank = 0
 cost_of f (Shares h) = 0
 cost_of f NextPhase = 0
-cost_of f (Allocates t n h s a) = cost_of_route (route_of s a) s
+cost_of f (Allocates t q) = cost_of_route (route_of q.size q.align) q.size
 cost_of f (Frees t n) = 1
 cost_of f (FreesRaw t a n) = 1
 cost_of f (Flushes t) = 0
@@ -164,9 +164,9 @@ abbrev pub checks_of : Profile → List Item → Item → List (Bool × Reason)
 checks_of f earlier Blank = []
 checks_of f earlier (Shares h) = (nat_lt h f.heaps, Reason.BadHeap) ∷ []
 checks_of f earlier NextPhase = []
-checks_of f earlier (Allocates t n h s a) =
-    (is_thread f t, Reason.BadThread) ∷ (nat_lt h f.heaps, Reason.BadHeap) ∷ (nat_le s (4096 * f.pages), Reason.BadSize) ∷ (is_alignment a, Reason.BadAlign)
-    ∷ (not (is_named earlier n), Reason.NameTaken) ∷ few_enough f earlier (Allocates t n h s a)
+checks_of f earlier (Allocates t q) =
+    (is_thread f t, Reason.BadThread) ∷ (nat_lt q.heap f.heaps, Reason.BadHeap) ∷ (nat_le q.size (4096 * f.pages), Reason.BadSize) ∷ (is_alignment q.align, Reason.BadAlign)
+    ∷ (not (is_named earlier q.name), Reason.NameTaken) ∷ few_enough f earlier (Allocates t q)
 checks_of f earlier (Frees t n) =
     (is_thread f t, Reason.BadThread) ∷ (is_named earlier n, Reason.NameUnknown) ∷ ((t == thread_of earlier n) || not (is_named_now earlier n), Reason.TooEarly)
     ∷ few_enough f earlier (Frees t n)

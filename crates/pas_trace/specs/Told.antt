@@ -1,5 +1,6 @@
 -- What the reader keeps of the lines that it has read.
 use Rattle.std.specs.Prelude.{if◌then◌else◌, ℕ, ◌+◌, ◌*◌, ◌^◌, ◌==◌, ◌≡◌, ◌≤◌, ◌<◌, nat_lt, nat_le, Bool, true, not, ◌&&◌, ◌||◌, List, [], ◌∷◌, ◌++◌, map, length, None, Some, Result, Ok, Err, slice_index, slice_index_or, slice_set}
+use Rattle.pas_profile.specs.Profiles.{IsValid}
 use Rattle.pas_profile.specs.declared.profile.Profile.{Profile}
 use Rattle.pas_trace.specs.Reasons.{first_failed, is_thread, is_alignment, cost_of, started, operations_in, is_named, is_named_now, thread_of, record_bound, line_says, reason_of}
 use Rattle.pas_trace.specs.declared.fault.Reason.{Reason}
@@ -10,7 +11,6 @@ use Rattle.pas_trace.specs.Texts.{lines_of}
 use Rattle.pas_trace.specs.Plans.{ops_of, phases_of, bounds_of, phases_in, shared_in, line_of_newest, own_costs, bounds_upto, add_last, operation, fault_at, items_from}
 use Rattle.pas_trace.specs.declared.plan.Op.{Op}
 use Rattle.pas_trace.specs.declared.plan.What.{What}
-use Rattle.pas_trace.specs.declared.plan.What.TheVariants.{Alloc}
 use Rattle.pas_trace.specs.declared.plan.Plan.{Plan}
 use Rattle.pas_trace.specs.declared.fault.ReadFault.{ReadFault}
 use Rattle.pas_trace.specs.declared.fault.ReadFault.TheVariants.{Trace, NoMemory}
@@ -25,13 +25,6 @@ owner_in names name = slice_index_or names.owners.items name record { thread = 0
 -- the phases that were gathered, in order
 abbrev pub gathered_phases : Gathered → List (List Op)
 gathered_phases gathered = map ops_of gathered.done.items ++ gathered.present.items ∷ []
-
--- the limits of a header
-pub record IsHeader (f : Profile) : Type 0 where
-  pub one_page : 1 ≤ f.pages
-  pub pages : f.pages ≤ 4096
-  pub threads : f.threads ≤ 16
-  pub heaps : f.heaps ≤ 32
 
 -- ---- the checks, by what the reader keeps
 abbrev pub few_told : Reader → ℕ → List (Bool × Reason)
@@ -50,9 +43,9 @@ abbrev pub told_checks : Reader → Item → List (Bool × Reason)
 told_checks r Blank = []
 told_checks r (Shares h) = (nat_lt h r.header.heaps, Reason.BadHeap) ∷ []
 told_checks r NextPhase = []
-told_checks r (Allocates t n h s a) =
-    (is_thread r.header t, Reason.BadThread) ∷ (nat_lt h r.header.heaps, Reason.BadHeap) ∷ (nat_le s (4096 * r.header.pages), Reason.BadSize) ∷ (is_alignment a, Reason.BadAlign)
-    ∷ (not (has_owner r n), Reason.NameTaken) ∷ few_told r (cost_of r.header (Allocates t n h s a))
+told_checks r (Allocates t q) =
+    (is_thread r.header t, Reason.BadThread) ∷ (nat_lt q.heap r.header.heaps, Reason.BadHeap) ∷ (nat_le q.size (4096 * r.header.pages), Reason.BadSize) ∷ (is_alignment q.align, Reason.BadAlign)
+    ∷ (not (has_owner r q.name), Reason.NameTaken) ∷ few_told r (cost_of r.header (Allocates t q))
 told_checks r (Frees t n) =
     (is_thread r.header t, Reason.BadThread) ∷ (has_owner r n, Reason.NameUnknown) ∷ ((t == (owner_in r.names n).thread) || not (has_owner_now r n), Reason.TooEarly)
     ∷ few_told r 1
@@ -73,7 +66,7 @@ abbrev pub IsRanged : Item → Type 0
 IsRanged Blank = Unit {0}
 IsRanged (Shares h) = Unit {0}
 IsRanged NextPhase = Unit {0}
-IsRanged (Allocates t n h s a) = n ≤ 1000000
+IsRanged (Allocates t q) = q.name ≤ 1000000
 IsRanged (Frees t n) = n ≤ 1000000
 IsRanged (FreesRaw t a n) = a < 2 ^ 32
 IsRanged (Flushes t) = Unit {0}
@@ -92,7 +85,7 @@ pub record NameTold (owner : Owner) (phase : ℕ) (items : List Item) (n : ℕ) 
   pub before : owner.phase ≤ phase
 
 pub record Tells (r : Reader) (items : List Item) : Type 0 where
-  pub header : IsHeader r.header
+  pub header : IsValid r.header
   pub shared : r.shared ≡ shared_in items
   pub started : r.started ≡ started items
   pub line : r.line ≡ line_of_newest items
@@ -118,11 +111,11 @@ pub record IsOperated (old new : Reader) (actor : ℕ) (what : What) (cost : ℕ
   pub costs : new.counts.costs ≡ slice_set old.counts.costs actor (slice_index old.counts.costs actor + cost)
   pub phases : gathered_phases new.gathered ≡ add_last (Some (operation old.line actor what)) (gathered_phases old.gathered)
 
--- an allocation was added, and its name given to the thread
-pub record IsAllocated (old new : Reader) (thread name heap size align cost : ℕ) : Type 0 where
+-- an operation that allocates the name was added, and the name given to the thread
+pub record IsAllocated (old new : Reader) (thread name : ℕ) (what : What) (cost : ℕ) : Type 0 where
   pub names : Names
   pub given : (n : ℕ) → owner_in names n ≡ (if n == name then record { thread = thread; phase = old.phase } else owner_in old.names n)
-  pub operated : IsOperated (record old { names = names }) new thread (Alloc name heap size align) cost
+  pub operated : IsOperated (record old { names = names }) new thread what cost
 
 -- the next phase was begun
 pub record IsNextPhase (old new : Reader) : Type 0 where

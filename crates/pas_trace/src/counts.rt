@@ -1,6 +1,6 @@
 //! How many operations were read, and how many records they may make.
 ghost use Rattle.std.specs.Prelude.{◌≡◌, ◌<◌, ◌≤◌, ◌+◌, ◌*◌, ℕ, length, slice_index, slice_set};
-ghost use Rattle.pas_trace.specs.Told.{IsHeader};
+ghost use Rattle.pas_profile.specs.Profiles.{IsValid};
 
 use pas_profile::Profile;
 
@@ -21,7 +21,7 @@ pub struct Counts {
 impl Counts {
     /// Before the first operation there is a deed for each thread and page.
     pub fn new(header: &Profile) -> Counts
-        requires { IsHeader header.now }
+        requires { IsValid header.now }
         ensures operations { result.operations ≡ 0 }
         ensures bound { result.bound ≡ header.now.threads * header.now.pages }
         ensures width { length result.costs ≡ 17 }

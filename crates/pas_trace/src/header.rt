@@ -3,7 +3,6 @@ ghost use Rattle.std.specs.Prelude.{◌≡◌, ◌<◌, ◌≤◌, ◌∷◌, If
 ghost use Rattle.pas_trace.specs.Texts.{words_of};
 ghost use Rattle.pas_trace.specs.Numbers.{number_of};
 ghost use Rattle.pas_trace.specs.Reasons.{within, profile_with, header_of};
-ghost use Rattle.pas_trace.specs.Told.{IsHeader};
 
 use crate::numbers::number;
 use crate::words::{is_word, next_word};
@@ -34,8 +33,7 @@ fn number_within(least: u64, most: u64, word: &[u8]) -> Option<u64>
 /// The region of the numbers in a header, if each is within its limits: 1 to 4,096 pages, 1 to 16 threads, 1 to 32 heaps, and an
 /// age from 1 to 1,000,000. No heap is shared.
 fn header_with(pages: &[u8], threads: &[u8], heaps: &[u8], age: &[u8]) -> Option<Profile>
-    ensures value { result ≡ profile_with (within 1 4096 (number_of pages.now)) (within 1 16 (number_of threads.now)) (within 1 32 (number_of heaps.now)) (within 1 1000000 (number_of age.now)) }
-    ensures limits { IfSome result IsHeader }
+    ensures { result ≡ profile_with (within 1 4096 (number_of pages.now)) (within 1 16 (number_of threads.now)) (within 1 32 (number_of heaps.now)) (within 1 1000000 (number_of age.now)) }
 {
     let pages = number_within(1, MOST_PAGES as u64, pages)?;
     let threads = number_within(1, MOST_THREADS as u64, threads)?;
@@ -52,8 +50,7 @@ fn header_with(pages: &[u8], threads: &[u8], heaps: &[u8], age: &[u8]) -> Option
 
 /// The region that a header names: `pas 1 pages P threads T heaps H age A`. None for any other line.
 pub fn read_header(line: &[u8]) -> Option<Profile>
-    ensures value { result ≡ header_of line.now }
-    ensures limits { IfSome result IsHeader }
+    ensures { result ≡ header_of line.now }
 {
     let (format, version, rest) = word_pair(line)?;
     let (pages_label, pages, rest) = word_pair(rest)?;

@@ -1,5 +1,14 @@
 //! What the lines of a trace say.
 
+/// A request for so many bytes under the trace name, from the heap, at a multiple of the alignment.
+#[derive(Clone, Copy, Debug, PartialEq, Eq, Drop)]
+pub struct Request {
+    pub name: u64,
+    pub heap: u64,
+    pub size: u64,
+    pub align: u64,
+}
+
 /// What a line from the second on says.
 #[derive(Clone, Copy, Debug, PartialEq, Eq, Drop)]
 pub enum Item {
@@ -9,13 +18,10 @@ pub enum Item {
     Shares(u64),
     /// The next phase begins.
     NextPhase,
-    /// The thread allocates so many bytes under the trace name, from the heap, at a multiple of the alignment.
+    /// The thread asks for a block.
     Allocates {
         thread: u64,
-        name: u64,
-        heap: u64,
-        size: u64,
-        align: u64,
+        request: Request,
     },
     /// The thread frees the block that has the trace name.
     Frees {

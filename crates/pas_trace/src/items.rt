@@ -6,7 +6,7 @@ ghost use Rattle.pas_trace.specs.Numbers.{address_of_word};
 ghost use Rattle.pas_trace.specs.Texts.{words_of};
 
 use crate::fault::Reason;
-use crate::item::Item;
+use crate::item::{Item, Request};
 use crate::numbers::{address, number};
 use crate::words::{is_word, next_word};
 
@@ -156,13 +156,13 @@ fn item_of_six_words(
     let heap = number_at(c)?;
     let size = number_at(d)?;
     let align = number_at(e)?;
-    Ok(Item::Allocates {
-        thread,
+    let request = Request {
         name,
         heap,
         size,
         align,
-    })
+    };
+    Ok(Item::Allocates { thread, request })
 }
 
 /// What the words of a line say: their number and the first of them choose the kind.

@@ -1,7 +1,6 @@
 //! The reader of traces: from the bytes of a text to its plan, or to its first fault.
 #![tactic(auto)]
 
-mod checks;
 mod counts;
 pub mod fault;
 mod gathered;
@@ -14,6 +13,7 @@ mod numbers;
 mod pieces;
 pub mod plan;
 mod reader;
+mod requests;
 #[cfg(test)]
 mod tests;
 mod words;

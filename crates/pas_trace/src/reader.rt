@@ -1,45 +1,48 @@
 //! The reader: what it keeps of the lines before, and how it takes a line.
 ghost use Rattle.std.specs.Prelude.{◌≡◌, ◌<◌, ◌≤◌, ◌+◌, ◌∷◌, ◌^◌, [], ℕ, List, Some, None, Ok, Err, OnOk, IfOk, MatchResult, length, slice_index};
-ghost use Rattle.pas_trace.specs.Reasons.{line_says, reason_of, cost_of, started};
+ghost use Rattle.pas_profile.specs.Profiles.{IsValid};
+ghost use Rattle.pas_trace.specs.Reasons.{line_says, reason_of, cost_of, started, is_thread};
 ghost use Rattle.pas_trace.specs.Items.{item_of_line};
 ghost use Rattle.pas_trace.specs.Plans.{IsReading, bounds_of, bounds_upto, name_at};
-ghost use Rattle.pas_trace.specs.Told.{IsHeader, IsRanged, Tells, IsOperated, IsAllocated, IsNextPhase, IsAdded, IsTaken, IsRead, IsPlanned, told_checks};
+ghost use Rattle.pas_trace.specs.Told.{IsRanged, Tells, IsOperated, IsAllocated, IsNextPhase, IsAdded, IsTaken, IsRead, IsPlanned, IsChecked, few_told, thread_told, told_checks};
 ghost use Rattle.pas_trace.specs.declared.item.Item.{Item};
 
-use crate::counts::Counts;
+use crate::counts::{Counts, MOST_OPERATIONS, MOST_RECORDS};
 use crate::fault::{ReadFault, Reason, TraceFault};
 use crate::gathered::Gathered;
 use crate::header::read_header;
-use crate::item::Item;
+use crate::item::{Item, Request};
 use crate::items::read_item;
 use crate::lines::next_line;
 use crate::names::{Names, Owner};
 use crate::plan::{Bounds, Op, Plan, What};
+use crate::requests::{cost_of_allocation, is_aligning};
+use pas_profile::limits::PAGE_BYTES;
 use pas_profile::{Address, Name, Profile};
 use std::alloc::{AllocError, Global};
 
 /// What the lines so far come to.
 #[derive(Drop)]
 pub struct Reader {
-    pub alloc: Global,
-    pub header: Profile,
+    alloc: Global,
+    header: Profile,
     /// The marks of shared heaps.
-    pub shared: u32,
+    shared: u32,
     /// Whether an operation or a `phase` line was read.
-    pub started: bool,
+    started: bool,
     /// The number of the line that was read last.
-    pub line: u32,
+    line: u32,
     /// The number of `phase` lines.
-    pub phase: u32,
-    pub names: Names,
-    pub counts: Counts,
-    pub gathered: Gathered,
+    phase: u32,
+    names: Names,
+    counts: Counts,
+    gathered: Gathered,
 }
 
 impl Reader {
     /// A reader that has read the header.
     fn new(alloc: Global, header: Profile) -> Reader
-        requires { IsHeader header }
+        requires { IsValid header }
         ensures tells { Tells result [] }
         ensures header { result.header ≡ header }
     {
@@ -53,6 +56,107 @@ impl Reader {
             names: Names::new(alloc),
             counts: Counts::new(&header),
             gathered: Gathered::new(alloc),
+        }
+    }
+
+    /// Whether the thread is one of the region's.
+    #[inline]
+    fn has_thread(&self, thread: u64) -> bool
+        ensures { result ≡ is_thread self.now.header thread }
+    {
+        thread >= 1 && thread <= self.header.threads as u64
+    }
+
+    /// The checks of every operation.
+    #[inline]
+    fn check_counts(&self, cost: u32) -> Result<u32, Reason>
+        ensures { IsChecked (few_told self.now cost) cost result }
+    {
+        if self.counts.operations >= MOST_OPERATIONS {
+            return Err(Reason::TooManyOps);
+        }
+        if self.counts.bound as u64 + cost as u64 > MOST_RECORDS as u64 {
+            return Err(Reason::TraceTooLarge);
+        }
+        Ok(cost)
+    }
+
+    /// The checks of an operation of a thread that has no others.
+    #[inline]
+    fn check_thread(&self, thread: u64, cost: u32) -> Result<u32, Reason>
+        ensures { IsChecked (thread_told self.now thread cost) cost result }
+    {
+        if !self.has_thread(thread) {
+            return Err(Reason::BadThread);
+        }
+        self.check_counts(cost)
+    }
+
+    /// The checks of an allocation.
+    fn check_allocation(&self, thread: u64, request: Request) -> Result<u32, Reason>
+        requires { IsValid self.now.header }
+        ensures { IsChecked (told_checks self.now (Item.Allocates thread request)) (cost_of self.now.header (Item.Allocates thread request)) result }
+    {
+        if !self.has_thread(thread) {
+            return Err(Reason::BadThread);
+        }
+        if request.heap >= self.header.heaps as u64 {
+            return Err(Reason::BadHeap);
+        }
+        if request.size > PAGE_BYTES as u64 * self.header.pages as u64 {
+            return Err(Reason::BadSize);
+        }
+        if !is_aligning(request.align) {
+            return Err(Reason::BadAlign);
+        }
+        if self.names.owner(request.name).thread != 0 {
+            return Err(Reason::NameTaken);
+        }
+        self.check_counts(cost_of_allocation(request.size as u32, request.align as u32))
+    }
+
+    /// The checks of a free by trace name. A free by another thread than the one that allocated waits for a later phase.
+    #[inline]
+    fn check_free(&self, thread: u64, name: u64) -> Result<u32, Reason>
+        ensures { IsChecked (told_checks self.now (Item.Frees thread name)) 1 result }
+    {
+        if !self.has_thread(thread) {
+            return Err(Reason::BadThread);
+        }
+        let owner = self.names.owner(name);
+        if owner.thread == 0 {
+            return Err(Reason::NameUnknown);
+        }
+        if thread != owner.thread as u64 && owner.phase == self.phase {
+            return Err(Reason::TooEarly);
+        }
+        self.check_counts(1)
+    }
+
+    /// The cost of an item that passes its checks, or the first reason that applies.
+    #[inline]
+    fn check(&self, item: Item) -> Result<u32, Reason>
+        requires { IsValid self.now.header }
+        ensures { IsChecked (told_checks self.now item) (cost_of self.now.header item) result }
+    {
+        match item {
+            Item::Blank => Ok(0),
+            Item::NextPhase => Ok(0),
+            Item::Shares(heap) => {
+                if heap < self.header.heaps as u64 {
+                    Ok(0)
+                } else {
+                    Err(Reason::BadHeap)
+                }
+            }
+            Item::Allocates { thread, request } => self.check_allocation(thread, request),
+            Item::Frees { thread, name } => self.check_free(thread, name),
+            Item::FreesRaw { thread, .. } => self.check_thread(thread, 1),
+            Item::Flushes(thread) => self.check_thread(thread, 0),
+            Item::Stops(thread) => self.check_thread(thread, 0),
+            Item::Ticks(_) => self.check_counts(1),
+            Item::Passes => self.check_counts(1 + self.header.pages),
+            Item::Idles(_) => self.check_counts(self.header.threads as u32),
         }
     }
 
@@ -71,33 +175,18 @@ impl Reader {
         self.gathered.add(Op { line, actor, what })
     }
 
-    /// Adds an allocation of the line, and gives its name to the thread.
+    /// Adds an operation of the line that allocates the name, and gives the name to the thread.
     #[inline]
-    fn allocate(
-        &mut self,
-        thread: u8,
-        name: u64,
-        heap: u8,
-        size: u32,
-        align: u32,
-        cost: u32,
-    ) -> Result<(), AllocError>
+    fn allocate(&mut self, thread: u8, name: u64, what: What, cost: u32) -> Result<(), AllocError>
         requires name { name ≤ 1000000 }
         requires actor { thread < 17 }
         requires few { self.old.counts.operations < 1000000 }
         requires small { self.old.counts.bound + cost ≤ 2000000 }
         requires within { slice_index self.old.counts.costs thread ≤ self.old.counts.bound }
-        ensures { OnOk result (IsAllocated self.old self.new thread name heap size align cost) }
+        ensures { OnOk result (IsAllocated self.old self.new thread name what cost) }
     {
         let phase = self.phase;
         self.names.give(name, Owner { thread, phase })?;
-        let name = name as u32;
-        let what = What::Alloc {
-            name,
-            heap,
-            size,
-            align,
-        };
         self.operate(thread, what, cost)
     }
 
@@ -142,20 +231,15 @@ impl Reader {
                 self.shared |= 1u32 << heap;
                 Ok(())
             }
-            Item::Allocates {
-                thread,
-                name,
-                heap,
-                size,
-                align,
-            } => self.allocate(
-                thread as u8,
-                name,
-                heap as u8,
-                size as u32,
-                align as u32,
-                cost,
-            ),
+            Item::Allocates { thread, request } => {
+                let what = What::Alloc {
+                    name: request.name as u32,
+                    heap: request.heap as u8,
+                    size: request.size as u32,
+                    align: request.align as u32,
+                };
+                self.allocate(thread as u8, request.name, what, cost)
+            }
             Item::Frees { thread, name } => {
                 self.operate(thread as u8, What::Free { name: name as u32 }, cost)
             }
@@ -175,7 +259,7 @@ impl Reader {
     /// What a line says after the lines before, with its cost; or the first reason that applies.
     #[inline]
     fn says(&self, line: &[u8]) -> Result<(Item, u32), Reason>
-        requires { IsHeader self.now.header }
+        requires { IsValid self.now.header }
         ensures { (items : List Item) → Tells self.now items → MatchResult result (λ p. (line_says self.now.header items line.now ≡ Ok p.0) × (reason_of self.now.header items p.0 ≡ None) × IsRanged p.0 × (p.1 ≡ cost_of self.now.header p.0)) (λ r. line_says self.now.header items line.now ≡ Err r) }
     {
         let item = read_item(self.started, line)?;

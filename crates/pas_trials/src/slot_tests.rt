@@ -58,7 +58,7 @@ fn slots_of_page(class: u8, starts: [u64; 4]) -> Slots {
         page: 1,
         heap: 0,
         class,
-        starts: Mask4::of(starts),
+        starts: Mask4(starts),
         right: true,
     }
 }

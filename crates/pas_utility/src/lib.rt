@@ -8,5 +8,6 @@ pub mod seat;
 mod tests;
 pub mod utility;
 
+pub use pas_profile::EventRoom;
 pub use seat::CacheSeat;
 pub use utility::Utility;

@@ -35,22 +35,20 @@ fn rooms_for(alloc: Global, bounds: &[u32]) -> Result<Vec<Option<EventRoom>>, No
 
 /// A seat for each of so many threads.
 fn seats_for(alloc: Global, threads: u8) -> Result<Vec<Option<CacheSeat>>, NoMemory>
-    requires { threads ≤ 16 }
     ensures { IfOk result (λ seats. AreSeats threads seats.items) }
 {
     let Ok(mut seats) = Vec::with_capacity(alloc, threads as usize + 1) else {
         return Err(NoMemory);
     };
     seats.push_reserved(None);
-    for thread in 1..threads + 1 {
-        seats.push_reserved(Some(CacheSeat::new(thread)));
+    for below in 0..threads {
+        seats.push_reserved(Some(CacheSeat::new(below + 1)));
     }
     Ok(seats)
 }
 
 impl Utility {
     ghost use Rattle.std.specs.Prelude.{◌≢◌, ◌∷◌, [], MatchOption, Some, None, slice_index, Bool, true, false};
-    ghost use Rattle.pas_profile.specs.Profiles.{IsValid};
     ghost use Rattle.pas_profile.specs.Rooms.{shown, size_of_room};
     ghost use Rattle.pas_utility.specs.Seats.{thread_of};
     ghost use Rattle.pas_utility.specs.Pools.{threads_of, room_of, has_seat};
@@ -59,7 +57,6 @@ impl Utility {
     ///
     /// NoMemory where memory was wanting. Costs one pass over the bounds.
     pub fn try_new(alloc: Global, profile: &Profile, bounds: &[u32]) -> Result<Utility, NoMemory>
-        requires valid { IsValid profile.now }
         requires bounds { length bounds.now ≡ profile.now.threads + 1 }
         ensures threads { IfOk result (λ utility. threads_of utility ≡ profile.now.threads) }
         ensures rooms { IfOk result (λ utility. (k : ℕ) → k ≤ profile.now.threads → room_of utility k ≡ Some (slice_index bounds.now k)) }

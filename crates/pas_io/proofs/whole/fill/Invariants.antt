@@ -1,4 +1,4 @@
-use Rattle.std.proofs.Common.{◌≤◌, ◌-◌, ℕ, List, length}
+use Rattle.std.proofs.Common.{◌≡◌, ◌≤◌, ◌-◌, ℕ, List, length}
 use Rattle.pas_io.specs.Inputs.{HasRead}
 use Rattle.pas_io.proofs.whole.fill.Given as goal
 
@@ -6,7 +6,7 @@ abbrev pub invariant-loop-taken : goal.invariant-loop-taken
 invariant-loop-taken g l = record {
   within : l.taken ≤ length l.buffer;
   told : (told : List ℕ) → HasRead told (g.S.Source.rest l.fn.source) l.fn.buffer l.fn.start → HasRead told (g.S.Source.rest l.source) l.buffer l.taken;
-  count : g.S.Source.faults l.fn.source ≤ g.S.Source.faults l.source;
+  count : g.S.Source.faults l.source ≡ g.S.Source.faults l.fn.source;
 }
 
 abbrev pub decreases-loop-taken : goal.decreases-loop-taken

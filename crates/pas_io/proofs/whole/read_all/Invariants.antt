@@ -9,7 +9,7 @@ invariant-loop-taken g l = record {
   short : length l.buffer.items ≤ l.most + 1;
   told : (told : List ℕ) → g.S.Source.rest l.fn.source ≡ Some told → HasRead told (g.S.Source.rest l.source) l.buffer.items l.taken;
   all : l.taken < length l.buffer.items → (told : List ℕ) → g.S.Source.rest l.fn.source ≡ Some told → l.taken ≡ length told;
-  count : g.S.Source.faults l.fn.source ≤ g.S.Source.faults l.source;
+  count : g.S.Source.faults l.source ≡ g.S.Source.faults l.fn.source;
 }
 
 abbrev pub decreases-loop-taken : goal.decreases-loop-taken

@@ -1,6 +1,6 @@
 use Rattle.std.proofs.Common.{arith}
 use Rattle.pas_trace.specs.declared.plan.What.TheVariants.{Alloc}
-use Rattle.pas_replay.proofs.PlanFacts.{op_limit}
+use Rattle.pas_replay.proofs.NameLimits.{op_limit}
 use Rattle.pas_replay.proofs.limits.limit_of.Goals as goal
 
 pub loop-op-preserved : goal.loop-op-preserved

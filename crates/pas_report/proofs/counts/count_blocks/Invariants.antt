@@ -1,6 +1,7 @@
 use Rattle.std.proofs.Common.{◌≡◌, ◌≤◌, ◌*◌, ◌^◌}
 use Rattle.pas_profile.specs.Lives.{turn_of, is_live}
-use Rattle.pas_machine.specs.Totals.{count_below, sum_below}
+use Rattle.pas_machine.specs.Totals.{sum_below}
+use Rattle.pas_profile.specs.Runs.{count_below}
 use Rattle.pas_report.specs.Counts.{life_of_grain}
 use Rattle.pas_report.proofs.counts.count_blocks.Given as goal
 

@@ -7,7 +7,7 @@ use Rattle.pas_report.proofs.transcript.write_lines.Given as goal
 abbrev pub invariant-loop-item : goal.invariant-loop-item
 invariant-loop-item g l = record {
   text : List ℕ;
-  put_out : IsPutOut (g.K.Sink.held l.fn.sink) (g.K.Sink.held l.sink) l.piece.bytes text;
+  put_out : IsPutOut (g.K.Sink.held l.fn.sink) (g.K.Sink.held l.sink) l.lines.bytes text;
   rest : text ++ lines_of (drop l.item-index l.records) ≡ lines_of l.records;
   count : g.K.Sink.faults l.fn.sink ≤ g.K.Sink.faults l.sink;
 }

@@ -3,7 +3,7 @@ use Rattle.std.proofs.lemmas.Bool.{false≢true}
 use Rattle.std.proofs.lemmas.List.{length-map}
 use Rattle.pas_trace.specs.Plans.{ops_of, phases_of as phases_in_order}
 use Rattle.pas_trace.specs.declared.plan.Phase.{Phase}
-use Rattle.pas_replay.proofs.PlanHolds.{plan_phases}
+use Rattle.pas_replay.proofs.BuiltPlans.{plan_phases}
 use Rattle.pas_top.proofs.outcome.outcome_of.Goals as goal
 
 pub returns-then-not-is_built : goal.returns-then-not-is_built

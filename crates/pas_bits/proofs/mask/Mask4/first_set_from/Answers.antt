@@ -1,12 +1,13 @@
-use Rattle.std.proofs.Common.{◌≡◌, ◌*◌, rules, refl, arith, subst}
+use Rattle.std.proofs.Common.{◌≡◌, ◌*◌, rules, refl, arith, subst, slice_index}
 use Rattle.pas_bits.specs.Masks.{AreClear}
-use Rattle.pas_bits.proofs.Places.{lowest_is, lowest_fits, none_left}
+use Rattle.pas_bits.proofs.LowestBits.{lowest_from}
+use Rattle.pas_bits.proofs.Places.{lowest_is, none_left}
 use Rattle.pas_bits.proofs.mask.Mask4.first_set_from.Goals as goal
 
 pub overflow_cast-result-then-rest-ne0 : goal.overflow_cast-result-then-rest-ne0
 overflow_cast-result-then-rest-ne0 c =
-    let inside = lowest_fits c.args.self.now c.loop-word.word c.saturating_sub-low.result (omega arith) (search rules) c.if-rest-ne0.true in
-    omega (arith, inside)
+    let found = lowest_from (slice_index c.args.self.now.0 c.loop-word.word) c.saturating_sub-low.result (search rules) c.if-rest-ne0.true in
+    omega (arith, found.within)
 
 pub returns-then-rest-ne0 : goal.returns-then-rest-ne0
 returns-then-rest-ne0 c =

@@ -5,14 +5,11 @@ use Rattle.pas_utility.specs.Pools.{room_of}
 use Rattle.pas_replay.specs.Fit.{AllBelow}
 use Rattle.pas_replay.specs.Replays.{phases_of}
 use Rattle.pas_replay.proofs.Opening.{passes_count, fresh_thread}
-use Rattle.pas_replay.proofs.PlanHolds.{plan_valid, plan_bounds}
+use Rattle.pas_replay.proofs.BuiltPlans.{plan_valid, plan_bounds}
 use Rattle.pas_replay.proofs.kit.PlainKit.try_new.Goals as goal
 
-pub try_new-requires-clause-valid : goal.try_new-requires-clause-valid
-try_new-requires-clause-valid c = plan_valid c.requires.1
-
-pub try_new-requires-clause-bounds : goal.try_new-requires-clause-bounds
-try_new-requires-clause-bounds c = ap (λ bs. length bs) c.as_slice.ensures ∙ plan_bounds c.requires.1
+pub try_new-requires : goal.try_new-requires
+try_new-requires c = record { bounds = ap (λ bs. length bs) c.as_slice.ensures ∙ plan_bounds c.requires.1 }
 
 pub rooms_of-requires-clause-few : goal.rooms_of-requires-clause-few
 rooms_of-requires-clause-few c = (plan_valid c.requires.1).threads

@@ -52,5 +52,5 @@ returns-in-Allocates c =
     let a = c.in-Allocates in
     let cost = sym (c.requires.cost ∙ ap (λ (i : Item). cost_of r.header i) a.is) in
     on_ok_weaker c.allocate.result (λ h. subst (λ (i : Item). IsAdded r c.allocate.new.self i) (sym a.is)
-    (added r c.allocate.new.self h.names _ a.thread _ c.args.cost (is-allocates r.header a.thread a.name a.heap a.size a.align c.args.cost cost)
-    (names-taken r h.names a.thread a.name a.heap a.size a.align h.given) h.operated)) c.allocate.ensures
+    (added r c.allocate.new.self h.names _ a.thread _ c.args.cost (is-allocates r.header a.thread a.request c.args.cost cost)
+    (names-taken r h.names a.thread a.request h.given) h.operated)) c.allocate.ensures

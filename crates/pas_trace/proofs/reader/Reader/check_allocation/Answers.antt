@@ -9,10 +9,10 @@ pub returns : goal.returns
 returns c =
     let r = c.args.self.now in
     let thread : is_thread r.header c.args.thread ≡ true = cc in
-    let heap : nat_lt c.args.heap r.header.heaps ≡ true = lt-ltb _ _ (omega arith) in
-    let size : nat_le c.args.size (4096 * r.header.pages) ≡ true = le-leb _ _ (omega arith) in
-    let align : is_alignment c.args.align ≡ true = cc in
-    let free : ((owner_in r.names c.args.name).thread == 0) ≡ true = eq-eqb _ _ (ap (λ o. o.thread) (sym c.owner.ensures) ∙ c.if-owner-ne0.false) in
-    let none : not (has_owner r c.args.name) ≡ true = ap (λ b. not (not b)) free in
+    let heap : nat_lt c.args.request.heap r.header.heaps ≡ true = lt-ltb _ _ (omega arith) in
+    let size : nat_le c.args.request.size (4096 * r.header.pages) ≡ true = le-leb _ _ (omega arith) in
+    let align : is_alignment c.args.request.align ≡ true = cc in
+    let free : ((owner_in r.names c.args.request.name).thread == 0) ≡ true = eq-eqb _ _ (ap (λ o. o.thread) (sym c.owner.ensures) ∙ c.if-owner-ne0.false) in
+    let none : not (has_owner r c.args.request.name) ≡ true = ap (λ b. not (not b)) free in
     let few = subst (λ (n : ℕ). IsChecked (few_told r n) n c.check_counts.result) c.cost_of_allocation.ensures c.check_counts.ensures in
-    allocation-checked r c.args.thread c.args.name c.args.heap c.args.size c.args.align c.check_counts.result thread heap size align none few
+    allocation-checked r c.args.thread c.args.request c.check_counts.result thread heap size align none few

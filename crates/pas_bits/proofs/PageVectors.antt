@@ -1,0 +1,95 @@
+-- Bits of the words of page vectors.
+use Rattle.std.proofs.Common.{◌≡◌, ◌≢◌, ℕ, ◌+◌, ◌-◌, ◌*◌, ◌/◌, ◌%◌, ◌^◌, ◌<◌, ◌==◌, Bool, true, false, not, ◌&&◌, ◌||◌, if◌then◌else◌, refl, ap, sym, ◌∙◌, arith, bit_and, bit_or, inl, inr}
+use Rattle.std.specs.Int.{bit_not, w64, trailing_zeros}
+use Rattle.std.proofs.lemmas.Nat.{pow_below}
+use Rattle.std.proofs.lemmas.Nat.Bits.{bit_at-pow_same, bit_at-pow_other}
+use Rattle.std.proofs.lemmas.Bool.{eqb-true, eqb-false, eq-eqb, ne_eqb, cases_eq}
+use Rattle.pas_profile.specs.Classes.{has_bit}
+use Rattle.pas_bits.specs.PageVectors.{page_mask, is_in_word, HasNoPage, IsLowestPage}
+use Rattle.pas_bits.proofs.LowestBits.{none_from, lowest_from}
+use Rattle.pas_bits.proofs.Words.{bit_of_or, bit_cleared}
+
+-- ---- the bit of a page
+pub page_mask_lt : (q : ℕ) → page_mask q < 2 ^ 64
+page_mask_lt q = let lt : 2 ^ (q % 64) < 2 ^ 64 = pow_below (q % 64) 64 (omega arith) in omega (arith, lt)
+
+pub page_mask_bit : (q b : ℕ) → has_bit (page_mask q) b ≡ (q % 64 == b)
+page_mask_bit q b =
+    let lt : 2 ^ (q % 64) < 2 ^ 64 = pow_below (q % 64) 64 (omega arith) in
+    ap (λ n. has_bit n b) (let is : page_mask q ≡ 2 ^ (q % 64) = omega (arith, lt) in is) ∙ elim (cases_eq (q % 64) b) [
+      | inl e ↦ ap (λ n. has_bit (2 ^ n) b) e ∙ ap (λ x. x == 1) (bit_at-pow_same b) ∙ sym (eq-eqb (q % 64) b e)
+      | inr ne ↦ ap (λ x. x == 1) (bit_at-pow_other (q % 64) b (λ e. ne (sym e))) ∙ sym (ne_eqb (q % 64) b ne)
+    ]
+
+pub same_page : (q p : ℕ) → q / 64 ≡ p / 64 → q % 64 ≡ p % 64 → q ≡ p
+same_page q p d r = omega arith
+
+-- two pages of one word are one exactly where their bits are
+pub same_bit : (q p : ℕ) → q / 64 ≡ p / 64 → (q % 64 == p % 64) ≡ (q == p)
+same_bit q p e = elim (cases_eq (q % 64) (p % 64)) [
+  | inl same ↦ eq-eqb (q % 64) (p % 64) same ∙ sym (eq-eqb q p (same_page q p e same))
+  | inr ne ↦ ne_eqb (q % 64) (p % 64) ne ∙ sym (ne_eqb q p (λ h. ne (ap (λ x. x % 64) h)))
+]
+
+-- the bit of a page of the same word
+pub block_bit : (q p : ℕ) → (q / 64 == p / 64) ≡ true → is_in_word (page_mask q) p ≡ (q == p)
+block_bit q p h = page_mask_bit q (p % 64) ∙ same_bit q p (eqb-true (q / 64) (p / 64) h)
+
+pub page_added : (word page p : ℕ) → p / 64 ≡ page / 64 → is_in_word (bit_or word (page_mask page)) p ≡ ((page == p) || is_in_word word p)
+page_added word page p same = bit_of_or word (page_mask page) (p % 64) ∙ swap_or (has_bit word (p % 64)) (is_in_word (page_mask page) p)
+    ∙ ap (λ t. t || has_bit word (p % 64)) (page_mask_bit page (p % 64) ∙ same_bit page p (sym same))
+  where
+    swap_or : (x y : Bool) → (x || y) ≡ (y || x)
+    swap_or true true = refl
+    swap_or true false = refl
+    swap_or false true = refl
+    swap_or false false = refl
+
+-- ---- after a page's bit was cleared, or set
+clear_cases : (f y : Bool) → (f && not y) ≡ (if y then false else f)
+clear_cases true true = refl
+clear_cases true false = refl
+clear_cases false true = refl
+clear_cases false false = refl
+
+set_cases : (f y : Bool) → (f || y) ≡ (if y then true else f)
+set_cases true true = refl
+set_cases true false = refl
+set_cases false true = refl
+set_cases false false = refl
+
+other_block : (q p : ℕ) → (q / 64 == p / 64) ≡ false → (q == p) ≡ false
+other_block q p h = ne_eqb q p (λ e. eqb-false (q / 64) (p / 64) h (ap (λ x. x / 64) e))
+
+clear_page : (q p old : ℕ) (x t : Bool) → (q / 64 == p / 64) ≡ t → has_bit (if x && t then bit_and old (bit_not w64 (page_mask q)) else old) (p % 64) ≡ (if x && (q == p) then false else has_bit old (p % 64))
+clear_page q p old true true h = bit_cleared old (page_mask q) (p % 64) (page_mask_lt q) (omega arith) ∙ ap (λ y. has_bit old (p % 64) && not y) (block_bit q p h) ∙ clear_cases (has_bit old (p % 64)) (q == p)
+clear_page q p old true false h = ap (λ y. if y then false else has_bit old (p % 64)) (sym (other_block q p h))
+clear_page q p old false t h = refl
+
+set_page : (q p old : ℕ) (x t : Bool) → (q / 64 == p / 64) ≡ t → has_bit (if x && t then bit_or old (page_mask q) else old) (p % 64) ≡ (if x && (q == p) then true else has_bit old (p % 64))
+set_page q p old true true h = bit_of_or old (page_mask q) (p % 64) ∙ ap (λ y. has_bit old (p % 64) || y) (block_bit q p h) ∙ set_cases (has_bit old (p % 64)) (q == p)
+set_page q p old true false h = ap (λ y. if y then true else has_bit old (p % 64)) (sym (other_block q p h))
+set_page q p old false t h = refl
+
+-- the page's bit after the bit of page q was cleared, or set, where x says that the vector is the same
+pub page_bit-clear : (q p old : ℕ) (x : Bool) → has_bit (if x && (q / 64 == p / 64) then bit_and old (bit_not w64 (page_mask q)) else old) (p % 64) ≡ (if x && (q == p) then false else has_bit old (p % 64))
+page_bit-clear q p old x = clear_page q p old x (q / 64 == p / 64) refl
+
+pub page_bit-set : (q p old : ℕ) (x : Bool) → has_bit (if x && (q / 64 == p / 64) then bit_or old (page_mask q) else old) (p % 64) ≡ (if x && (q == p) then true else has_bit old (p % 64))
+page_bit-set q p old x = set_page q p old x (q / 64 == p / 64) refl
+
+-- ---- the lowest page of a word
+pub no_page : (n number next low : ℕ) → low ≡ next - 64 * number → n / 2 ^ low ≡ 0 → HasNoPage n number next
+no_page n number next low is nothing p from at = none_from n low (p % 64) nothing (omega (arith, is, from, at))
+
+pub lowest_found : (n number next low : ℕ) → low ≡ next - 64 * number → low < 64 → n < 2 ^ 64 → n / 2 ^ low ≢ 0 → IsLowestPage n number next (64 * number + low + trailing_zeros w64 (n / 2 ^ low))
+lowest_found n number next low is small fits some =
+    let found = lowest_from n low fits some in
+    let within = found.within in
+    let place : low + trailing_zeros w64 (n / 2 ^ low) ≡ (64 * number + low + trailing_zeros w64 (n / 2 ^ low)) % 64 = omega (arith, within) in
+    record {
+      above = omega (arith, is);
+      here = omega (arith, within);
+      set = ap (λ (b : ℕ). has_bit n b) (sym place) ∙ found.set;
+      lowest = λ p from at lt. found.lowest (p % 64) (omega (arith, is, from, at)) (omega (arith, is, from, at, lt, within));
+    }

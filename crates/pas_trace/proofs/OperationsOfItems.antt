@@ -1,0 +1,145 @@
+-- The operations of items follow one another soundly, and may make as many records as the items.
+use Rattle.std.proofs.Common.{◌≡◌, ℕ, ◌+◌, ◌*◌, ◌≤◌, ◌==◌, ◌||◌, Bool, true, false, if◌then◌else◌, List, [], ◌∷◌, ◌++◌, length, Option, Some, None, refl, ap, sym, ◌∙◌, subst, arith, append_assoc, length-append}
+use Rattle.std.proofs.lemmas.Bool.{leb-true, ltb-true}
+use Rattle.std.proofs.lemmas.List.{append-nil}
+use Rattle.pas_profile.specs.declared.profile.Profile.{Profile}
+use Rattle.pas_trace.specs.Reasons.{is_named, actor_of, cost_of, costs_of, reason_of}
+use Rattle.pas_trace.specs.Plans.{operation_of, add_last, phases_in, phases_after, line_of_newest, own_costs}
+use Rattle.pas_trace.specs.EveryPlan.{all_ops, is_asked, asked_after, asked_by, AreSound, records_of_ops, own_records}
+use Rattle.pas_trace.specs.declared.item.Item.{Item}
+use Rattle.pas_trace.specs.declared.item.Item.TheVariants.{Blank, Shares, NextPhase, Allocates, Frees, FreesRaw, Flushes, Stops, Ticks, Passes, Idles}
+use Rattle.pas_trace.specs.declared.plan.Op.{Op}
+use Rattle.pas_trace.proofs.ItemRanges.{IsInRange}
+use Rattle.pas_trace.proofs.ParsedItems.{AreChecked}
+use Rattle.pas_trace.proofs.PassedChecks.{passes, thread_within, aligns, is_not}
+
+-- ---- the operations of items in one list: those before, and that of the newest item, where it is one
+abbrev pub ops_in : List Item → List Op
+ops_in items = all_ops (phases_in items)
+
+abbrev one : Option Op → List Op
+one None = []
+one (Some op) = op ∷ []
+
+abbrev new_ops : Item → List Item → List Op
+new_ops i earlier = one (operation_of (line_of_newest (i ∷ earlier)) i)
+
+all_more : (phases : List (List Op)) → all_ops (phases ++ [] ∷ []) ≡ all_ops phases
+all_more [] = refl
+all_more (p ∷ ps) = ap (λ ops. p ++ ops) (all_more ps)
+
+all_add : (op : Op) (phases : List (List Op)) → all_ops (add_last (Some op) phases) ≡ all_ops phases ++ op ∷ []
+all_add op [] = refl
+all_add op (p ∷ []) = append-nil (p ++ op ∷ []) ∙ ap (λ ops. ops ++ op ∷ []) (sym (append-nil p))
+all_add op (p ∷ q ∷ phases) = ap (λ ops. p ++ ops) (all_add op (q ∷ phases)) ∙ sym (append_assoc p (all_ops (q ∷ phases)) (op ∷ []))
+
+ops_next : (i : Item) (earlier : List Item) → ops_in (i ∷ earlier) ≡ ops_in earlier ++ new_ops i earlier
+ops_next Blank earlier = sym (append-nil (ops_in earlier))
+ops_next (Shares h) earlier = sym (append-nil (ops_in earlier))
+ops_next NextPhase earlier = all_more (phases_in earlier) ∙ sym (append-nil (ops_in earlier))
+ops_next i earlier = all_add _ (phases_in earlier)
+
+-- ---- they follow one another
+asked_both : (asked : List ℕ) (xs ys : List Op) → asked_by asked (xs ++ ys) ≡ asked_by (asked_by asked xs) ys
+asked_both asked [] ys = refl
+asked_both asked (x ∷ xs) ys = asked_both (asked_after x.what asked) xs ys
+
+sound_both : (f : Profile) (asked : List ℕ) (xs ys : List Op) → AreSound f asked xs → AreSound f (asked_by asked xs) ys → AreSound f asked (xs ++ ys)
+sound_both f asked [] ys a b = b
+sound_both f asked (x ∷ xs) ys a b = (a.0, a.1, sound_both f (asked_after x.what asked) xs ys a.2 b)
+
+-- the names are those that the items allocate
+abbrev AreNames : List ℕ → List Item → Type 0
+AreNames asked items = (n : ℕ) → is_asked asked n ≡ is_named items n
+
+abbrev sharing : Profile → ℕ → Profile
+sharing f shared = record f { shared = shared }
+
+item_sound : (f : Profile) (shared : ℕ) (i : Item) (earlier : List Item) (asked : List ℕ) → reason_of f earlier i ≡ None → IsInRange i → AreNames asked earlier → AreSound (sharing f shared) asked (new_ops i earlier)
+item_sound f shared (Allocates t q) earlier asked passed range names =
+    let held = passes f earlier (Allocates t q) passed in
+    let size = leb-true q.size (4096 * f.pages) held.1.1.0 in
+    (thread_within f t held.0, (record { within = omega (arith, size); aligned = aligns q.align held.1.1.1.0; of_profile = ltb-true q.heap f.heaps held.1.0 }, names q.name ∙ is_not (is_named earlier q.name) held.1.1.1.1.0), tt)
+item_sound f shared (Frees t n) earlier asked passed range names = let held = passes f earlier (Frees t n) passed in (thread_within f t held.0, names n ∙ held.1.0, tt)
+item_sound f shared (FreesRaw t a n) earlier asked passed range names = (thread_within f t (passes f earlier (FreesRaw t a n) passed).0, range, tt)
+item_sound f shared (Flushes t) earlier asked passed range names = (thread_within f t (passes f earlier (Flushes t) passed).0, range, tt)
+item_sound f shared (Stops t) earlier asked passed range names = (thread_within f t (passes f earlier (Stops t) passed).0, range, tt)
+item_sound f shared (Ticks e) earlier asked passed range names = (refl, range, tt)
+item_sound f shared Passes earlier asked passed range names = (refl, range, tt)
+item_sound f shared (Idles n) earlier asked passed range names = (refl, range, tt)
+item_sound f shared i earlier asked passed range names = tt
+
+item_names : (i : Item) (earlier : List Item) (asked : List ℕ) → AreNames asked earlier → AreNames (asked_by asked (new_ops i earlier)) (i ∷ earlier)
+item_names (Allocates t q) earlier asked names m = ap (λ b. (q.name == m) || b) (names m)
+item_names i earlier asked names m = names m
+
+pub record AreFollowing (f : Profile) (shared : ℕ) (items : List Item) : Type 0 where
+  pub sound : AreSound (sharing f shared) [] (ops_in items)
+  pub names : AreNames (asked_by [] (ops_in items)) items
+
+pub following : (f : Profile) (shared : ℕ) (items : List Item) → AreChecked f items → AreFollowing f shared items
+following f shared [] checked = record { sound = tt; names = λ n. refl }
+following f shared (i ∷ earlier) checked =
+    let before = following f shared earlier checked.1 in
+    let asked = asked_by [] (ops_in earlier) in
+    record {
+      sound = subst (AreSound (sharing f shared) []) (sym (ops_next i earlier))
+          (sound_both (sharing f shared) [] (ops_in earlier) (new_ops i earlier) before.sound (item_sound f shared i earlier asked checked.0.passes checked.0.range before.names));
+      names = subst (λ now. AreNames now (i ∷ earlier)) (sym (ap (asked_by []) (ops_next i earlier) ∙ asked_both [] (ops_in earlier) (new_ops i earlier))) (item_names i earlier asked before.names);
+    }
+
+-- ---- how many records
+records_both : (f : Profile) (xs ys : List Op) → records_of_ops f (xs ++ ys) ≡ records_of_ops f xs + records_of_ops f ys
+records_both f [] ys = omega arith
+records_both f (x ∷ xs) ys = omega (arith, records_both f xs ys)
+
+own_both : (f : Profile) (k : ℕ) (xs ys : List Op) → own_records f k (xs ++ ys) ≡ own_records f k xs + own_records f k ys
+own_both f k [] ys = omega arith
+own_both f k (x ∷ xs) ys = omega (arith, own_both f k xs ys)
+
+item_records : (f : Profile) (shared : ℕ) (i : Item) (earlier : List Item) → records_of_ops (sharing f shared) (new_ops i earlier) ≡ cost_of f i
+item_records f shared Blank earlier = refl
+item_records f shared i earlier = omega arith
+
+if_same : (t : Bool) (n : ℕ) → n ≡ (if t then n else n)
+if_same true n = refl
+if_same false n = refl
+
+item_own : (f : Profile) (shared k : ℕ) (i : Item) (earlier : List Item) → own_records (sharing f shared) k (new_ops i earlier) ≡ (if actor_of i == k then cost_of f i else 0)
+item_own f shared k Blank earlier = if_same (0 == k) 0
+item_own f shared k (Shares h) earlier = if_same (0 == k) 0
+item_own f shared k NextPhase earlier = if_same (0 == k) 0
+item_own f shared k i earlier = omega arith
+
+own_more : (t : Bool) (own cost : ℕ) → own + (if t then cost else 0) ≡ (if t then own + cost else own)
+own_more true own cost = refl
+own_more false own cost = omega arith
+
+pub all_records : (f : Profile) (shared : ℕ) (items : List Item) → records_of_ops (sharing f shared) (ops_in items) ≡ costs_of f items
+all_records f shared [] = refl
+all_records f shared (i ∷ earlier) =
+    let g = sharing f shared in
+    ap (records_of_ops g) (ops_next i earlier) ∙ omega (arith, records_both g (ops_in earlier) (new_ops i earlier), item_records f shared i earlier, all_records f shared earlier)
+
+pub all_own : (f : Profile) (shared k : ℕ) (items : List Item) → own_records (sharing f shared) k (ops_in items) ≡ own_costs f k items
+all_own f shared k [] = refl
+all_own f shared k (i ∷ earlier) =
+    let g = sharing f shared in
+    ap (own_records g k) (ops_next i earlier) ∙ own_both g k (ops_in earlier) (new_ops i earlier) ∙ ap (λ n. own_records g k (ops_in earlier) + n) (item_own f shared k i earlier)
+    ∙ ap (λ n. n + (if actor_of i == k then cost_of f i else 0)) (all_own f shared k earlier) ∙ own_more (actor_of i == k) (own_costs f k earlier) (cost_of f i)
+
+-- ---- how many phases: one, and one for each item at most
+add_few : (op : Op) (phases : List (List Op)) → length (add_last (Some op) phases) ≤ length phases + 1
+add_few op [] = omega arith
+add_few op (p ∷ []) = omega arith
+add_few op (p ∷ q ∷ phases) = omega (arith, add_few op (q ∷ phases))
+
+after_few : (i : Item) (line : ℕ) (phases : List (List Op)) → length (phases_after i line phases) ≤ length phases + 1
+after_few Blank line phases = omega arith
+after_few (Shares h) line phases = omega arith
+after_few NextPhase line phases = omega (arith, length-append phases ([] ∷ []))
+after_few i line phases = add_few _ phases
+
+pub phases_within : (items : List Item) → length (phases_in items) ≤ length items + 1
+phases_within [] = omega arith
+phases_within (i ∷ earlier) = omega (arith, after_few i (line_of_newest (i ∷ earlier)) (phases_in earlier), phases_within earlier)
