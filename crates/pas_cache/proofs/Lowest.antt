@@ -18,7 +18,7 @@ use Rattle.pas_steps.specs.Desks.{Standing, made, Makes, CanMake, CanCall, Adds}
 use Rattle.pas_steps.specs.declared.step.Step.TheVariants.{Look, Give}
 use Rattle.pas_steps.proofs.Adding.{adds_none, adds_step, can_step, room_left}
 use Rattle.pas_steps.proofs.Frames.{given_le}
-use Rattle.pas_search.proofs.Backed.{held_where_backed}
+use Rattle.pas_steps.proofs.Backed.{backed_holds}
 use Rattle.pas_segregated.specs.Stops.{directory_of}
 use Rattle.pas_segregated.specs.declared.slots.Slots.{Slots}
 use Rattle.pas_segregated.proofs.Starts.{start_at}
@@ -97,7 +97,7 @@ module _ (f : Profile) (slots : Slots) (start word : ℕ) (lowest : IsLowestSet 
 
   bears : KnowsBearing f looked slots.heap slots.page
   bears = record {
-    backed = and_from (knows_backed v slots.page) (holds_on v slots.page) known (held_where_backed v slots.page known);
+    backed = and_from (knows_backed v slots.page) (holds_on v slots.page) known (backed_holds v slots.page known);
     directory = directory_of slots;
     of_profile = may.local.directory;
     deed = may.local.deed;

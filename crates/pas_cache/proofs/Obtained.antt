@@ -9,7 +9,7 @@ use Rattle.pas_profile.specs.Profiles.{IsDirectoryOf}
 use Rattle.pas_profile.specs.declared.directory.Directory.{Directory}
 use Rattle.pas_profile.specs.declared.event.NoRoom.{NoRoom}
 use Rattle.pas_profile.specs.declared.profile.Profile.{Profile}
-use Rattle.pas_bits.specs.Masks.{is_set}
+use Rattle.pas_bits.specs.Masks.{is_set, IsEmpty, HasMember}
 use Rattle.pas_steps.specs.Agreement.{Agreed}
 use Rattle.pas_steps.specs.Calls.{Calls}
 use Rattle.pas_steps.specs.Desks.{Standing, Seat, CanCall, triples}
@@ -25,7 +25,7 @@ use Rattle.pas_steps.proofs.Unknown.{unknown_stays, room_after}
 use Rattle.pas_search.specs.Telling.{HasNoFit, IsTold}
 use Rattle.pas_search.specs.declared.serving.Served.{Served}
 use Rattle.pas_bits.specs.declared.mask.Mask4.{Mask4}
-use Rattle.pas_segregated.specs.Masks.{IsEmpty, IsSome, start_of}
+use Rattle.pas_segregated.specs.Masks.{start_of}
 use Rattle.pas_segregated.specs.Refills.{answer_of, Refills}
 use Rattle.pas_segregated.specs.Returns.{BackSteps}
 use Rattle.pas_segregated.specs.Stops.{class_directory, directory_of, LeavesWhere, StopSteps, Stops}
@@ -54,7 +54,7 @@ none_taken heap class locals others none is = is ∙ (none_found (is_for heap cl
 none_in : (heap class : ℕ) (locals others : List Slots) → others ≡ others_than heap class locals → local_for heap class others ≡ None
 none_in heap class locals others is = ap (local_for heap class) is ∙ none_left (is_for heap class) locals
 
-pub takes_found : {σ : Standing} (heap class : ℕ) (locals others : List Slots) (slots : Slots) → Some slots ≡ local_for heap class locals → others ≡ others_than heap class locals → length locals ≤ 32 → HasOneEach locals → IsSome slots.starts → TakesCached heap class locals others σ σ (Some slots)
+pub takes_found : {σ : Standing} (heap class : ℕ) (locals others : List Slots) (slots : Slots) → Some slots ≡ local_for heap class locals → others ≡ others_than heap class locals → length locals ≤ 32 → HasOneEach locals → HasMember slots.starts → TakesCached heap class locals others σ σ (Some slots)
 takes_found {σ} heap class locals others slots found is fits one some =
     let moved : IsPermutation locals (slots ∷ others) = taken_moves heap class locals others slots one found is in
     record {

@@ -24,7 +24,7 @@ use Rattle.pas_search.specs.Serving.{Rule}
 use Rattle.pas_search.specs.Searches.{MaySearch, DeedMadeHere, IsRefused}
 use Rattle.pas_segregated.specs.Refills.{GivesSlots}
 use Rattle.pas_segregated.specs.declared.slots.Slots.{Slots}
-use Rattle.pas_search.proofs.StepKinds.{events_quiet}
+use Rattle.pas_search.proofs.KindsAndEvents.{events_quiet}
 use Rattle.pas_segregated.specs.Takes.{exclusive}
 use Rattle.pas_segregated.specs.Stops.{class_directory}
 use Rattle.pas_steps.specs.Unknown.{unknown_pages}
@@ -58,7 +58,7 @@ served_few f heap class steps slots s k v may agreed = elim s.choice [
       let events = (s.few k v agreed).0 in
       let one = deed.one_deed in
       let was : known_deed v slots.page ≡ 0 = zero_from (known_deed v slots.page) (made_unknown (exclusive slots.class) f (class_directory heap class) slots.page steps v agreed deed.made_here) in
-      let fewer = unknown_less f slots.page steps v agreed s.page was (λ z. deed_word_of-positive (class_directory heap class) (sym (s.known v may agreed).1 ∙ z)) in
+      let fewer = unknown_less f slots.page steps v agreed s.page was (λ z. deed_word_of-positive (class_directory heap class) (sym (s.gets.from v may agreed).may_stop.deed ∙ z)) in
       record { paid = omega (arith, events, one, fewer); most = omega (arith, events, one) }
 ]
 

@@ -19,7 +19,7 @@ use Rattle.pas_steps.specs.Clear.{IsClear}
 use Rattle.pas_steps.specs.Views.{View, holds, has_right, known_deed, knows_backed}
 use Rattle.pas_steps.specs.declared.step.Made.{Made}
 use Rattle.pas_steps.proofs.Kept.{deed_stays}
-use Rattle.pas_segregated.specs.Masks.{IsSome}
+use Rattle.pas_bits.specs.Masks.{HasMember}
 use Rattle.pas_segregated.specs.Stops.{directory_of, MayStop}
 use Rattle.pas_segregated.specs.declared.slots.Slots.{Slots}
 use Rattle.pas_cache.specs.Effects.{of_slots, Gains}
@@ -30,7 +30,7 @@ use Rattle.pas_cache.proofs.Lowest.{first_grain, slot_covers}
 
 -- ---- one local allocator after a call
 -- slots of which one is left cover a grain of their page
-some_grain : (f : Profile) (v : View) (t : Slots) → IsLocal f v t → (some : IsSome t.starts) → covers t (first_grain t some.0) ≡ true
+some_grain : (f : Profile) (v : View) (t : Slots) → IsLocal f v t → (some : HasMember t.starts) → covers t (first_grain t some.0) ≡ true
 some_grain f v t here some =
     let start : ℕ = some.0 in
     let lt : start < 256 = some.1 in

@@ -32,7 +32,7 @@ use Rattle.pas_steps.specs.declared.step.Made.{Made}
 use Rattle.pas_steps.proofs.Adding.{adds_under, adds_call, can_call, room_left, agreed_first, agreed_later}
 use Rattle.pas_steps.proofs.Frames.{events_append, events_split}
 use Rattle.pas_steps.proofs.Kept.{deed_stays}
-use Rattle.pas_search.proofs.StepKinds.{events_quiet}
+use Rattle.pas_search.proofs.KindsAndEvents.{events_quiet}
 use Rattle.pas_segregated.specs.Stops.{class_directory, directory_of}
 use Rattle.pas_segregated.specs.declared.slots.Slots.{Slots}
 use Rattle.pas_steps.specs.Unknown.{unknown_pages}
@@ -42,8 +42,8 @@ use Rattle.pas_cache.specs.Serves.{IsClassRoute, class_of, IsObtained, IsPrepari
 use Rattle.pas_cache.specs.Parts.{MayGiveSlot, GivesLowest, MayObtain, Obtains, ServesFrom}
 use Rattle.pas_steps.specs.Kinds.{Only}
 use Rattle.pas_steps.proofs.Apart.{no_events, only_both, only_within}
-use Rattle.pas_cache.specs.Kinds.{releasing, searching, allocating}
-use Rattle.pas_cache.proofs.Below.{search_only}
+use Rattle.pas_search.specs.Kinds.{searching}
+use Rattle.pas_cache.specs.Kinds.{releasing, allocating}
 use Rattle.pas_cache.proofs.Resting.{here, may_give_slot, rests_reordered}
 use Rattle.pas_cache.proofs.GivingSlots.{rests_given, given_page}
 use Rattle.pas_cache.proofs.Obtained.{obtain_rests}
@@ -89,7 +89,7 @@ give_call {σ} {σ1} heap class tells locals fewer slots one can =
 -- ---- kinds and events of what was made before the give
 obtained_kinds : {f : Profile} {d : Directory} {heap class : ℕ} {locals fewer : List Slots} {steps : List Made} {found : Result Slots NoRoom} → IsObtained f d heap class locals fewer steps found → Only allocating steps
 obtained_kinds (inl h) = subst (Only allocating) (sym h.2.no_steps) tt
-obtained_kinds (inr h) = subst (Only allocating) (sym h.steps_are) (only_both allocating h.searched h.before (only_within searching allocating h.searched refl (search_only h.searched h.refill.searches)) (only_within releasing allocating h.before refl h.gives_back))
+obtained_kinds (inr h) = subst (Only allocating) (sym h.steps_are) (only_both allocating h.searched h.before (only_within searching allocating h.searched refl h.refill.searches.kinds) (only_within releasing allocating h.before refl h.gives_back))
 
 events_later : (ys xs : List Made) → Only releasing xs → (k : ℕ) (v : View) → events_by k v (ys ++ xs) ≡ events_by k (xs ++ v) ys
 events_later ys xs kinds k v = events_append k ys xs v ∙ (ap (λ es. events_by k (xs ++ v) ys ++ es) (no_events releasing refl k v xs kinds) ∙ append-nil (events_by k (xs ++ v) ys))

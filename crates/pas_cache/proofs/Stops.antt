@@ -45,7 +45,7 @@ module _ {σ : Standing} (locals : List Slots) (slots : Slots) (rest : List Slot
       leads = record { from = λ v h agreed. rests_stopped σ.seat.profile slots rest v (moved_first σ.seat.profile locals slots rest moved v h) stops.steps ((stop_calls stops).leads.from v (may_stop σ.seat.profile slots rest v (moved_first σ.seat.profile locals slots rest moved v h)) agreed) agreed };
     };
     change = change;
-    kinds = stop_only slots stops.steps stops.order;
+    kinds = stop_only stops;
   }
 
 abbrev pub releases_none : {σ : Standing} (Change : List Made → Type 0) (locals : List Slots) → Change [] → Releases Change locals locals σ σ

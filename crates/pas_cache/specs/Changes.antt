@@ -6,7 +6,7 @@ use Rattle.pas_profile.specs.Lives.{turn_of}
 use Rattle.pas_profile.specs.declared.name.Name.{Name}
 use Rattle.pas_profile.specs.declared.name.Block.{Block}
 use Rattle.pas_profile.specs.declared.word.Word.TheVariants as Word
-use Rattle.pas_bits.specs.Masks.{is_set, IsLowestSet}
+use Rattle.pas_bits.specs.Masks.{is_set, IsLowestSet, IsEmpty}
 use Rattle.pas_profile.specs.Runs.{address_of}
 use Rattle.pas_steps.specs.Views.{View}
 use Rattle.pas_steps.specs.Events.{events_by}
@@ -15,7 +15,6 @@ use Rattle.pas_steps.specs.declared.step.Made.{Made}
 use Rattle.pas_steps.specs.declared.step.Step.TheVariants.{Look, Give}
 use Rattle.pas_free_log.specs.Stamps.{stamps_by}
 use Rattle.pas_free_log.specs.Flushes.{Settled, EntriesSteps, shown_for, stamps_for}
-use Rattle.pas_segregated.specs.Masks.{IsEmpty}
 use Rattle.pas_segregated.specs.Stops.{directory_of, LeavesWhere, StopSteps}
 use Rattle.pas_segregated.specs.declared.slots.Slots.{Slots}
 use Rattle.pas_cache.specs.Locals.{local_for, others_than}

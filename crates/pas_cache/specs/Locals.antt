@@ -7,7 +7,8 @@ use Rattle.pas_profile.specs.Profiles.{IsPage, IsDirectoryOf}
 use Rattle.pas_profile.specs.declared.profile.Profile.{Profile}
 use Rattle.pas_steps.specs.Views.{View, holds, has_right, knows_backed, KnowsDeed}
 use Rattle.pas_steps.specs.Clear.{IsClear}
-use Rattle.pas_segregated.specs.Masks.{AreStarts, IsSome}
+use Rattle.pas_segregated.specs.Masks.{AreStarts}
+use Rattle.pas_bits.specs.Masks.{HasMember}
 use Rattle.pas_segregated.specs.Stops.{directory_of, in_slots}
 use Rattle.pas_segregated.specs.declared.slots.Slots.{Slots}
 
@@ -54,7 +55,7 @@ pub record IsLocal (f : Profile) (v : View) (slots : Slots) : Type 0 where
   pub directory : IsDirectoryOf f (directory_of slots)
   pub starts : AreStarts slots.class slots.starts
   pub deed : KnowsDeed slots.page (directory_of slots) v
-  pub backed : IsSome slots.starts → knows_backed v slots.page ≡ true
+  pub backed : HasMember slots.starts → knows_backed v slots.page ≡ true
 
 -- there is at most one for each heap and class, no grain is of two of them, and no page's right is kept by two
 pub record AreApart (locals : List Slots) : Type 0 where

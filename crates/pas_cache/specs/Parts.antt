@@ -17,7 +17,7 @@ use Rattle.pas_steps.specs.Kinds.{Only}
 use Rattle.pas_cache.specs.Kinds.{releasing, allocating}
 use Rattle.pas_steps.specs.Unknown.{HasRoom}
 use Rattle.pas_search.specs.Telling.{HasNoFit, IsTrueReason}
-use Rattle.pas_segregated.specs.Masks.{IsSome}
+use Rattle.pas_bits.specs.Masks.{HasMember}
 use Rattle.pas_segregated.specs.Stops.{class_directory}
 use Rattle.pas_segregated.specs.Takes.{exclusive}
 use Rattle.pas_segregated.specs.declared.slots.Slots.{Slots}
@@ -67,7 +67,7 @@ pub record MayObtain (f : Profile) (n spare : ℕ) (locals : List Slots) (v : Vi
 pub record IsFoundFor (heap class : ℕ) (slots : Slots) : Type 0 where
   pub heap_is : slots.heap ≡ heap
   pub class_is : slots.class ≡ class
-  pub some : IsSome slots.starts
+  pub some : HasMember slots.starts
 
 -- the actor is at rest with the others, and with the slots that were found
 pub record Obtains (heap class : ℕ) (tells : Bool) (locals fewer : List Slots) (desk desk' : Standing) (found : Result Slots NoRoom) : Type 0 where

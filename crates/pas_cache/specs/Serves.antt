@@ -15,10 +15,10 @@ use Rattle.pas_steps.specs.Events.{events_by}
 use Rattle.pas_steps.specs.Agreement.{Agreed}
 use Rattle.pas_steps.specs.Lists.{Whole}
 use Rattle.pas_steps.specs.declared.step.Made.{Made}
-use Rattle.pas_search.specs.Kinds.{OnlySearches}
+use Rattle.pas_search.specs.Kinds.{AreSearch}
 use Rattle.pas_search.specs.Searches.{IsRefused}
 use Rattle.pas_search.specs.Telling.{HasNoFit, IsTrueReason}
-use Rattle.pas_segregated.specs.Masks.{IsSome}
+use Rattle.pas_bits.specs.Masks.{HasMember}
 use Rattle.pas_steps.specs.Calls.{Leads}
 use Rattle.pas_steps.specs.Kinds.{Only}
 use Rattle.pas_cache.specs.Kinds.{releasing}
@@ -46,7 +46,7 @@ class_of Route.Large = 0
 -- The local allocator of the heap and the class has a slot, and is taken out of the list without a step.
 pub record FindsCached (heap class : ℕ) (locals fewer : List Slots) (slots : Slots) (steps : List Made) : Type 0 where
   pub cached : local_for heap class locals ≡ Some slots
-  pub some : IsSome slots.starts
+  pub some : HasMember slots.starts
   pub fewer_are : fewer ≡ others_than heap class locals
   pub no_steps : steps ≡ []
 
@@ -61,7 +61,7 @@ pub record MakesPlace (heap class : ℕ) (locals fewer : List Slots) (steps : Li
 
 -- the steps of a refill, and the slots that it got
 pub record IsRefill (f : Profile) (d : Directory) (class : ℕ) (steps : List Made) (found : Result Slots NoRoom) : Type 0 where
-  pub searches : OnlySearches steps
+  pub searches : AreSearch steps
   pub outcome : MatchResult found (GivesSlots f d steps) (IsRefused (exclusive class) f d steps)
 
 -- then the refill is made
@@ -143,7 +143,7 @@ IsSilent steps = (k : ℕ) (v : View) → events_by k v steps ≡ []
 -- ---- on a desk that tells the whole state
 -- no slot is cached for the heap and the class
 abbrev pub HasNoneCached : ℕ → ℕ → List Slots → Type 0
-HasNoneCached heap class locals = (slots : Slots) → local_for heap class locals ≡ Some slots → IsSome slots.starts → ⊥
+HasNoneCached heap class locals = (slots : Slots) → local_for heap class locals ≡ Some slots → HasMember slots.starts → ⊥
 
 -- Where the request is refused, no slot was cached and no page could serve at entry, nor can one at exit, and the reason is true at exit. So a
 -- request is served wherever a slot is cached, an offered page fits or a page has no deed.

@@ -1,7 +1,7 @@
 //! A slot is given.
 ghost use Rattle.std.specs.Prelude.{◌≡◌, ◌≤◌};
 ghost use Rattle.pas_steps.specs.Desks.{CanCall};
-ghost use Rattle.pas_segregated.specs.Masks.{IsSome};
+ghost use Rattle.pas_bits.specs.Masks.{HasMember};
 ghost use Rattle.pas_cache.specs.Parts.{MayGiveSlot, GivesLowest};
 
 use pas_profile::classes::class_size;
@@ -11,7 +11,7 @@ use pas_steps::Desk;
 
 /// Gives the lowest of the slots, and answers the others and the block. Two steps and one event.
 pub fn give_lowest<D: Desk>(desk: &mut D, mut slots: Slots) -> (Slots, Block)
-    requires some { IsSome slots.starts }
+    requires some { HasMember slots.starts }
     requires can { CanCall (D.standing desk.old) (λ v l. MayGiveSlot (D.standing desk.old).seat.profile slots v) }
     requires room { 1 ≤ D.spare_of desk.old }
     ensures gives { GivesLowest slots result.0 result.1 (D.standing desk.old) (D.standing desk.new) }

@@ -1,6 +1,6 @@
 //! Local allocators are looked for and taken out of their list.
 ghost use Rattle.std.specs.Prelude.{◌≡◌, ◌≤◌, MatchBool, length};
-ghost use Rattle.pas_segregated.specs.Masks.{IsSome, IsEmpty};
+ghost use Rattle.pas_bits.specs.Masks.{HasMember, IsEmpty};
 ghost use Rattle.pas_cache.specs.Locals.{is_for, local_for, others_than};
 
 use arrayvec::ArrayVec;
@@ -8,7 +8,7 @@ use pas_segregated::Slots;
 
 /// Whether a slot is left.
 pub fn has_slot(slots: &Slots) -> bool
-    ensures { MatchBool result (IsSome slots.now.starts) (IsEmpty slots.now.starts) }
+    ensures { MatchBool result (HasMember slots.now.starts) (IsEmpty slots.now.starts) }
 {
     slots.starts.first_set_from(0).is_some()
 }

@@ -2,7 +2,7 @@ pub mod Stamped
 pub mod Tries
 pub mod Pages
 pub mod Blocks
-pub mod Idle
-pub mod Entries
-pub mod Spares
-pub mod Flushed
+pub mod OneEntry
+pub mod SpareRoom
+pub mod StepCounts
+pub mod AllEntries

@@ -1,5 +1,5 @@
 -- The steps for the grains of one page.
-use Rattle.std.proofs.Common.{◌≡◌, ℕ, ◌+◌, ◌-◌, ◌/◌, ◌%◌, ◌≤◌, ◌==◌, false, if◌then◌else◌, List, [], ◌∷◌, ◌++◌, Option, Some, refl, ap, sym, ◌∙◌, subst, arith, length, length-append, ◌&&◌, true}
+use Rattle.std.proofs.Common.{◌≡◌, ℕ, ◌+◌, ◌-◌, ◌/◌, ◌%◌, ◌≤◌, ◌==◌, false, if◌then◌else◌, List, [], ◌∷◌, ◌++◌, Option, Some, refl, ap, sym, ◌∙◌, subst, arith, ◌&&◌, true}
 use Rattle.std.proofs.lemmas.Bool.{ne_eqb}
 use Rattle.std.proofs.lemmas.Bool.Decides.{nat_tests}
 use Rattle.pas_profile.specs.Directories.{deed_word_of, directory_read}
@@ -22,12 +22,11 @@ use Rattle.pas_steps.specs.Desks.{Standing, made, Makes, CanCall}
 use Rattle.pas_steps.proofs.Adding.{adds_none, adds_step}
 use Rattle.pas_steps.proofs.Apart.{only_within, only_both, deeds_same, unstamped_same, examines_same}
 use Rattle.pas_steps.proofs.Called.{call_then}
-use Rattle.pas_steps.proofs.Calls.{leads_as, does_after_nothing, does_idly, returns_are}
+use Rattle.pas_steps.proofs.Calls.{does_after_nothing, does_idly, returns_are}
 use Rattle.pas_steps.proofs.Sets.{put_freed, put_as}
 use Rattle.pas_rights.specs.Returns.{Returned}
 use Rattle.pas_rights.proofs.Ends.{settled_clear}
 use Rattle.pas_rights.proofs.Orders.{same_page, ends}
-use Rattle.pas_free_log.specs.Conditions.{IsRunOnPage}
 use Rattle.pas_free_log.specs.Stamps.{page_count, pages_from, pages_met, stamps_with}
 use Rattle.pas_free_log.specs.Frames.{putting_back, run_freed, PutsBack}
 use Rattle.pas_free_log.specs.Returns.{MayReturn, ReturnsPage}
@@ -83,12 +82,6 @@ page_back g n deed stamped puts after some within kinds returns =
           (only_both putting_back puts (stamping p deed stamped) (only_within (Putting ∷ []) putting_back puts refl kinds) (refl, (refl, tt)));
       stamps = λ v. stamps_same returning refl v after (puts ++ stamping p deed stamped) are ∙ stamps_same (Putting ∷ []) refl v puts (stamping p deed stamped) kinds ∙ ap (stamps_with (epoch_of v)) (sym (pages_one g n some within));
     }
-
-page_few : (p deed stamped : ℕ) (puts after : List Made) → length puts ≤ 4 → length after ≤ 8 → length (piece p deed stamped puts after) ≤ 14
-page_few p deed stamped puts after few more =
-    let n = length-append after (puts ++ stamping p deed stamped) in
-    let m = length-append puts (stamping p deed stamped) in
-    omega (arith, n, m, few, more)
 
 -- ---- the call
 -- the directory that was read
@@ -147,5 +140,4 @@ module _ {σ σ1 σ2 : Standing} (g n deed stamped : ℕ) (mask : Mask4) (some :
         (λ v met q s. put_freed (in_run g n) (in_run page (page_count g n)) page q.0 (settled_clear page Kept s q.1.stamped q.1.examined) (λ x. its_page g n x (count_one g n some within)));
     order = record { directory = d; stamped = stamped; mask = mask; grains = grains; puts = p.steps; order = p.order; after = r.steps; returns = r.order; steps_are = ap (λ x. piece page x stamped p.steps r.steps) is };
     back = page_back g n deed stamped p.steps r.steps some within p.kinds r.returns;
-    few = page_few page deed stamped p.steps r.steps p.few r.few;
   }

@@ -1,5 +1,5 @@
 -- The flush of a log.
-use Rattle.std.specs.Prelude.{ℕ, ◌≡◌, List, [], ◌∷◌, ◌++◌, map, reverse, Some}
+use Rattle.std.specs.Prelude.{ℕ, ◌+◌, ◌*◌, ◌≤◌, ◌≡◌, List, [], ◌∷◌, ◌++◌, length, map, reverse, Some}
 use Rattle.std.specs.List.{flat_map}
 use Rattle.pas_profile.specs.declared.name.Name.{Name}
 use Rattle.pas_profile.specs.declared.word.Word.TheVariants as Word
@@ -10,6 +10,7 @@ use Rattle.pas_steps.specs.Events.{reason_of, events_by}
 use Rattle.pas_steps.specs.Calls.{nothing, Does, Calls}
 use Rattle.pas_steps.specs.Kinds.{Only}
 use Rattle.pas_steps.specs.Desks.{Standing, made}
+use Rattle.pas_steps.specs.InTurn.{InTurn}
 use Rattle.pas_steps.specs.declared.step.Made.{Made}
 use Rattle.pas_steps.specs.declared.step.Step.TheVariants.{Look}
 use Rattle.pas_steps.specs.Clear.{IsClear}
@@ -69,12 +70,11 @@ pub record EndsEntry (name : Name) (desk desk' : Standing) : Type 0 where
 -- ---- all entries
 -- the steps for the entries, the newest first
 abbrev pub EntriesSteps : List Settled → List Made → Type 0
-EntriesSteps [] steps = steps ≡ []
-EntriesSteps (entry ∷ earlier) steps = (piece : List Made) × (before : List Made) × EntrySteps entry piece × EntriesSteps earlier before × (steps ≡ piece ++ before)
+EntriesSteps settled steps = InTurn EntrySteps settled steps
 
 -- A flush of these names: a look at the epoch, and then the steps for each name in order. `settled` has what came of each, the newest first.
 -- Each makes one event, with the epoch that was read; each page of each block that ended is stamped once with it, and no other page.
--- The actor is as it was: it holds the grains and has the rights that it had, is clear where it was, and knows as backed what it knew so.
+-- There are at most three steps for each name, and fourteen for each page that is stamped. The actor is as it was: it holds the grains and has the rights that it had, is clear where it was, and knows as backed what it knew so.
 pub record Flushes (names : List Name) (desk desk' : Standing) : Type 0 where
   pub epoch : ℕ
   pub settled : List Settled
@@ -87,4 +87,5 @@ pub record Flushes (names : List Name) (desk desk' : Standing) : Type 0 where
   pub kinds : Only freeing steps
   pub events : (v : View) → events_by desk.seat.actor v steps ≡ map (shown_for desk.seat.actor epoch) settled
   pub stamps : (v : View) → stamps_by v steps ≡ flat_map (stamps_for epoch) settled
+  pub few : length steps ≤ 1 + 3 * length names + 14 * length (flat_map (stamps_for epoch) settled)
   pub epoch_known : (v : View) → known_epoch (steps ++ v) ≡ Some epoch

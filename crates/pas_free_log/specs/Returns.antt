@@ -1,5 +1,5 @@
 -- The grains of a block that ended, stamped and put back.
-use Rattle.std.specs.Prelude.{ℕ, zero, suc, ◌+◌, ◌-◌, ◌*◌, ◌/◌, ◌≤◌, ◌≡◌, min, max, true, false, List, [], ◌∷◌, ◌++◌, length}
+use Rattle.std.specs.Prelude.{ℕ, ◌+◌, ◌-◌, ◌*◌, ◌/◌, ◌≡◌, min, max, true, false, List, [], ◌∷◌, ◌++◌}
 use Rattle.pas_profile.specs.Directories.{deed_word_of}
 use Rattle.pas_profile.specs.declared.directory.Directory.{Directory}
 use Rattle.pas_profile.specs.declared.word.Word.TheVariants as Word
@@ -7,13 +7,14 @@ use Rattle.pas_profile.specs.Runs.{in_run, meets_page}
 use Rattle.pas_steps.specs.Views.{View, holds, examines, EndedOn}
 use Rattle.pas_steps.specs.Desks.{Standing, made}
 use Rattle.pas_steps.specs.Calls.{Does, Calls}
+use Rattle.pas_steps.specs.InTurn.{InTurn}
 use Rattle.pas_steps.specs.declared.step.Made.{Made}
 use Rattle.pas_steps.specs.declared.step.Step.TheVariants.{Look, Stamp}
 use Rattle.pas_rights.specs.Puts.{masked, PutsBelow}
 use Rattle.pas_rights.specs.Returns.{ReturnSteps}
 use Rattle.pas_bits.specs.declared.mask.Mask4.{Mask4}
 use Rattle.pas_free_log.specs.Conditions.{KnowsEpoch}
-use Rattle.pas_free_log.specs.Stamps.{page_count}
+use Rattle.pas_free_log.specs.Stamps.{page_count, pages_from}
 use Rattle.pas_free_log.specs.Frames.{run_freed, PutsBack}
 
 -- ---- a page of a block that ended
@@ -41,7 +42,6 @@ pub record ReturnsPage (g n : ℕ) (desk desk' : Standing) : Type 0 where
   pub calls : Calls desk desk' (MayReturn g n) (Does (run_freed g n)) steps
   pub order : PageSteps g n steps
   pub back : PutsBack g n steps
-  pub few : length steps ≤ 14
 
 -- ---- all pages of the block
 -- the part of the run of n grains from g that lies on a page: its first grain, and how many there are
@@ -53,8 +53,7 @@ count_on g n page = min (g + n) (256 * page + 256) - first_on g page
 
 -- the steps for the first so many pages of the run, page by page from the lowest one
 abbrev pub PagesSteps : ℕ → ℕ → ℕ → List Made → Type 0
-PagesSteps zero g n steps = steps ≡ []
-PagesSteps (suc k) g n steps = (piece : List Made) × (before : List Made) × PageSteps (first_on g (g / 256 + k)) (count_on g n (g / 256 + k)) piece × PagesSteps k g n before × (steps ≡ piece ++ before)
+PagesSteps k g n steps = InTurn (λ page piece. PageSteps (first_on g page) (count_on g n page) piece) (pages_from (g / 256) k) steps
 
 abbrev pub RunSteps : ℕ → ℕ → List Made → Type 0
 RunSteps g n steps = PagesSteps (page_count g n) g n steps

@@ -31,7 +31,7 @@ use Rattle.pas_free_log.specs.Stamps.{page_count}
 use Rattle.pas_free_log.specs.Flushes.{Settled, AfterEnd, EntrySteps, EntriesSteps}
 use Rattle.pas_free_log.specs.declared.ending.Outcome.{Outcome}
 use Rattle.pas_free_log.specs.declared.ending.Outcome.TheVariants.{Ended, Refused}
-use Rattle.pas_free_log.proofs.Idle.{not_live}
+use Rattle.pas_free_log.proofs.Tries.{not_live}
 use Rattle.pas_segregated.specs.declared.slots.Slots.{Slots}
 use Rattle.pas_cache.specs.Caches.{Cached}
 use Rattle.pas_cache.specs.Changes.{StopsAll, EmptiesLog, EmptiesFull}

@@ -1,8 +1,8 @@
 -- What a claim comes to.
-use Rattle.std.proofs.Common.{◌≡◌, ℕ, ◌%◌, Bool, true, false, if◌then◌else◌, [], ◌∷◌, refl, sym, ◌∙◌}
+use Rattle.std.proofs.Common.{◌≡◌, ℕ, ◌%◌, Bool, true, false, if◌then◌else◌, [], ◌∷◌, refl, sym}
 use Rattle.pas_profile.specs.Classes.{has_bit}
 use Rattle.pas_profile.specs.declared.directory.Directory.{Directory}
-use Rattle.pas_steps.specs.Calls.{Kept, Gained, now, on_page, Does}
+use Rattle.pas_steps.specs.Calls.{Kept, Gained, now}
 use Rattle.pas_steps.specs.Desks.{Standing, Makes, made}
 use Rattle.pas_steps.specs.Frames.{IsOnPage}
 use Rattle.pas_steps.specs.Kinds.{Claiming}

@@ -1,15 +1,15 @@
 -- Looks at the free words of a page, and the tests of what they show.
-use Rattle.std.proofs.Common.{◌≡◌, ◌≢◌, ℕ, ◌+◌, ◌-◌, ◌*◌, ◌/◌, ◌%◌, ◌^◌, ◌<◌, ◌==◌, zero, suc, min, Bool, true, false, not, ◌||◌, ◌&&◌, List, [], ◌∷◌, length, refl, ap, sym, ◌∙◌, subst, arith, bit_and, inl, inr, ◌⊎◌, true≢false, slice_index}
+use Rattle.std.proofs.Common.{◌≡◌, ◌≢◌, ℕ, ◌+◌, ◌-◌, ◌*◌, ◌/◌, ◌%◌, ◌^◌, ◌<◌, ◌==◌, zero, suc, Bool, true, false, not, ◌||◌, ◌&&◌, List, [], ◌∷◌, length, refl, ap, sym, ◌∙◌, subst, arith, bit_and, inl, inr, ◌⊎◌, true≢false, slice_index}
 use Rattle.std.specs.Int.{bit_at}
-use Rattle.std.proofs.lemmas.Nat.Bits.{bit_at_and, bit_at-lt, bit_at-zero, bit_at_ones, same_from_bits_below, shr_and_one}
+use Rattle.std.proofs.lemmas.Nat.Bits.{bit_at-lt, bit_at-zero, bit_at_ones, same_from_bits_below, shr_and_one}
 use Rattle.std.proofs.lemmas.Bool.{eqb-false, eq-eqb, ne_eqb, cases_eq, cases_Bool, and_parts}
-use Rattle.std.proofs.lemmas.Bool.Decides.{nat_tests}
 use Rattle.pas_profile.specs.Classes.{has_bit}
 use Rattle.pas_profile.specs.Directories.{IsDirectory, deed_word_of}
 use Rattle.pas_profile.specs.declared.directory.Directory.{Directory}
 use Rattle.pas_profile.specs.declared.directory.Kind.{Kind}
 use Rattle.pas_profile.specs.declared.word.Word.TheVariants as Word
 use Rattle.pas_profile.proofs.Codecs.{read-deed_word_of}
+use Rattle.pas_bits.proofs.Words.{none_of_zero, bit_of_and}
 use Rattle.pas_steps.specs.Views.{all_ones, usable_by, usable_by_kind, all_below, no_usable}
 use Rattle.pas_steps.specs.Desks.{Anything, Standing, Makes, Adds}
 use Rattle.pas_steps.specs.declared.step.Step.TheVariants.{Look}
@@ -46,17 +46,8 @@ below_all zero p h = refl
 below_all (suc n) p h = both_true (p n) (all_below n p) (h n (omega arith)) (below_all n p (λ k lt. h k (omega (arith, lt))))
 
 -- ---- the grains of a mask in a word
-both_test : (x y : ℕ) → x < 2 → y < 2 → (min x y == 1) ≡ ((x == 1) && (y == 1))
-both_test x y hx hy = grind (arith, nat_tests)
-
-bit_of_both : (m n b : ℕ) → has_bit (bit_and m n) b ≡ (has_bit m b && has_bit n b)
-bit_of_both m n b = ap (λ x. x == 1) (bit_at_and m n b) ∙ both_test (bit_at m b) (bit_at n b) (bit_at-lt m b) (bit_at-lt n b)
-
 clear_bit : (n b : ℕ) → has_bit n b ≡ false → bit_at n b ≡ 0
 clear_bit n b h = let lt = bit_at-lt n b in let ne = eqb-false (bit_at n b) 1 h in omega (arith, lt, ne)
-
-no_bit : (b : ℕ) → has_bit 0 b ≡ false
-no_bit b = ap (λ x. x == 1) (bit_at-zero b)
 
 is_zero_from : (n : ℕ) → n < 2 ^ 64 → ((b : ℕ) → b < 64 → has_bit n b ≡ false) → n ≡ 0
 is_zero_from n small h = same_from_bits_below 64 n 0 small (omega arith) (λ b lt. clear_bit n b (h b lt) ∙ sym (bit_at-zero b))
@@ -73,10 +64,10 @@ is_not x false e h = refl
 -- the test of a mask whose bits say which grains of the word pass
 mask_test : (a m : ℕ) (u : ℕ → Bool) → bit_and a m < 2 ^ 64 → ((b : ℕ) → b < 64 → has_bit m b ≡ u b) → (bit_and a m == 0) ≡ all_below 64 (λ b. not (has_bit a b && u b))
 mask_test a m u small bits =
-    let both : (b : ℕ) → b < 64 → has_bit (bit_and a m) b ≡ (has_bit a b && u b) = λ b lt. bit_of_both a m b ∙ ap (λ x. has_bit a b && x) (bits b lt) in
+    let both : (b : ℕ) → b < 64 → has_bit (bit_and a m) b ≡ (has_bit a b && u b) = λ b lt. bit_of_and a m b ∙ ap (λ x. has_bit a b && x) (bits b lt) in
     elim (cases_Bool (all_below 64 (λ b. not (has_bit a b && u b)))) [
       | inl all ↦ eq-eqb (bit_and a m) 0 (is_zero_from (bit_and a m) small (λ b lt. not_is (has_bit (bit_and a m) b) (has_bit a b && u b) (both b lt) (below_at 64 b (λ i. not (has_bit a i && u i)) all lt))) ∙ sym all
-      | inr some ↦ ne_eqb (bit_and a m) 0 (λ z. true≢false (sym (below_all 64 (λ b. not (has_bit a b && u b)) (λ b lt. is_not (has_bit (bit_and a m) b) (has_bit a b && u b) (both b lt) (ap (λ n. has_bit n b) z ∙ no_bit b))) ∙ some)) ∙ sym some
+      | inr some ↦ ne_eqb (bit_and a m) 0 (λ z. true≢false (sym (below_all 64 (λ b. not (has_bit a b && u b)) (λ b lt. is_not (has_bit (bit_and a m) b) (has_bit a b && u b) (both b lt) (ap (λ n. has_bit n b) z ∙ none_of_zero b))) ∙ some)) ∙ sym some
     ]
 
 -- the test of the usable grains of a directory's page
@@ -92,6 +83,7 @@ full_bit b h = eq-eqb (bit_at (2 ^ 64 - 1) b) 1 (bit_at_ones 64 b h)
 four_full : (i : ℕ) → i < 4 → slice_index ((2 ^ 64 - 1) ∷ (2 ^ 64 - 1) ∷ (2 ^ 64 - 1) ∷ (2 ^ 64 - 1) ∷ []) i ≡ 2 ^ 64 - 1
 four_full (suc (suc (suc (suc i)))) h = absurd (omega (arith, h))
 four_full s h = refl
+
 any_kind : (k : Kind) (g : ℕ) → (k ≡ Kind.Bitfit) ⊎ ((k ≡ Kind.Shared) ⊎ (k ≡ Kind.Large)) → usable_by_kind k g ≡ true
 any_kind k g (inl e) = ap (λ x. usable_by_kind x g) e
 any_kind k g (inr (inl e)) = ap (λ x. usable_by_kind x g) e

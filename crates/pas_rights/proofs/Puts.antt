@@ -1,13 +1,13 @@
 -- The grains of a mask of one page, put back word by word.
-use Rattle.std.proofs.Common.{◌≡◌, ◌≢◌, ℕ, zero, suc, ◌+◌, ◌/◌, ◌%◌, ◌<◌, ◌≤◌, ◌==◌, nat_lt, Bool, true, false, ◌&&◌, ◌||◌, if◌then◌else◌, List, [], ◌∷◌, ◌++◌, length, slice_index, inl, inr, refl, ap, sym, ◌∙◌, subst, arith}
-use Rattle.std.proofs.lemmas.Bool.{eqb-true, eq-eqb, lt-ltb, le-ltb, and_parts}
+use Rattle.std.proofs.Common.{◌≡◌, ℕ, ◌+◌, ◌/◌, ◌%◌, ◌≤◌, ◌==◌, nat_lt, Bool, true, false, ◌&&◌, ◌||◌, if◌then◌else◌, List, [], ◌∷◌, ◌++◌, length, slice_index, inl, inr, refl, ap, sym, ◌∙◌, subst, arith}
+use Rattle.std.proofs.lemmas.Bool.{eqb-true, lt-ltb, le-ltb, and_parts}
 use Rattle.std.proofs.lemmas.Bool.Decides.{nat_tests}
 use Rattle.pas_profile.specs.Classes.{has_bit}
 use Rattle.pas_bits.specs.declared.mask.Mask4.{Mask4}
 use Rattle.pas_bits.specs.Masks.{is_set}
 use Rattle.pas_bits.proofs.Words.{none_of_zero}
-use Rattle.pas_steps.specs.Calls.{Calls, Does, Kept, Lost, now, put, nothing}
-use Rattle.pas_steps.specs.Desks.{Standing, made}
+use Rattle.pas_steps.specs.Calls.{Calls, Does, Kept, Lost, now, put}
+use Rattle.pas_steps.specs.Desks.{Standing}
 use Rattle.pas_steps.specs.Effects.{in_mask}
 use Rattle.pas_steps.specs.Frames.{IsOnPage, OnlyOn}
 use Rattle.pas_steps.specs.InTurn.{numbers_below}
@@ -88,6 +88,9 @@ puts_kinds page mask n = in_turn_always (λ word piece. WordPut page word (slice
 puts_on : (page : ℕ) (mask : Mask4) (n : ℕ) (steps : List Made) → PutsBelow page mask n steps → OnlyOn page steps
 puts_on page mask n = in_turn_always (λ word piece. WordPut page word (slice_index mask.0 word) piece) (λ m. IsOnPage page m.step) (λ word. word_on page word (slice_index mask.0 word)) (numbers_below n)
 
+pub puts_few : (page : ℕ) (mask : Mask4) (steps : List Made) → PutsBelow page mask 4 steps → length steps ≤ 4
+puts_few page mask = in_turn_length (λ word piece. WordPut page word (slice_index mask.0 word) piece) 1 (λ word. word_few page word (slice_index mask.0 word)) (numbers_below 4)
+
 -- ---- the calls
 pub may_put_word : (page : ℕ) (mask : Mask4) (n : ℕ) (steps : List Made) (v : View) → PutsBelow page mask n steps → MayPut page mask v → Does (put (masked_below page mask n) page) v (steps ++ v) → MayPutWord page n (slice_index mask.0 n) (steps ++ v)
 may_put_word page mask n steps v order met does = record {
@@ -113,5 +116,5 @@ puts_all page mask steps order calls = record {
   order = order;
   kinds = puts_kinds page mask 4 steps order;
   on = puts_on page mask 4 steps order;
-  few = in_turn_length (λ word piece. WordPut page word (slice_index mask.0 word) piece) 1 (λ word. word_few page word (slice_index mask.0 word)) (numbers_below 4) steps order;
+  few = puts_few page mask steps order;
 }

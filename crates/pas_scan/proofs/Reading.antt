@@ -1,5 +1,5 @@
 -- One reading more.
-use Rattle.std.proofs.Common.{◌≡◌, ◌≢◌, ℕ, ◌+◌, ◌*◌, ◌/◌, ◌%◌, ◌<◌, ◌≤◌, Bool, true, false, ◌&&◌, if◌then◌else◌, List, [], ◌∷◌, ◌++◌, refl, ap, sym, ◌∙◌, subst, arith, inl, inr, true≢false}
+use Rattle.std.proofs.Common.{◌≡◌, ◌≢◌, ℕ, suc, length, ◌+◌, ◌*◌, ◌/◌, ◌%◌, ◌<◌, ◌≤◌, Bool, true, false, ◌&&◌, if◌then◌else◌, List, [], ◌∷◌, ◌++◌, refl, ap, sym, ◌∙◌, subst, arith, inl, inr, true≢false}
 use Rattle.std.proofs.lemmas.Bool.{cases_lt, cases_Bool, eq-eqb}
 use Rattle.pas_profile.specs.Classes.{has_bit}
 use Rattle.pas_profile.specs.Directories.{IsKind, kind_number, number_of, deed_word_of, deed_word_numbered}
@@ -17,7 +17,7 @@ use Rattle.pas_steps.specs.declared.step.Step.{Step}
 use Rattle.pas_steps.specs.declared.step.Made.{Made}
 use Rattle.pas_steps.specs.declared.step.Step.TheVariants.{Look}
 use Rattle.pas_steps.specs.Evidence.{ReadsEligible, ReadsDeed, ZeroHere, DeedHere}
-use Rattle.pas_scan.specs.Scan.{IsFirstOffered, IsFirstBare}
+use Rattle.pas_scan.specs.Scan.{eligible_looks, deed_looks, IsFirstOffered, IsFirstBare}
 
 -- ---- these looks give no right
 scan_right : (s : Step) (a p : ℕ) (had : Bool) → IsScan s → right_after s a p had ≡ had
@@ -32,6 +32,27 @@ right_scans (m ∷ more) v p h = scan_right m.step m.answer p (has_right (more +
 pub scans_lack : (steps : List Made) (p : ℕ) → OnlyScans steps → has_right steps p ≡ false
 scans_lack [] p h = refl
 scans_lack (m ∷ more) p h = scan_right m.step m.answer p (has_right more p) h.0 ∙ scans_lack more p h.1
+
+-- ---- one look more, in order
+pub eligible_more : (number from block a : ℕ) (steps : List Made) (answers : List ℕ) → from + length answers ≡ block → steps ≡ eligible_looks number from answers → made (Look (Word.Eligible number block)) a ∷ steps ≡ eligible_looks number from (a ∷ answers)
+eligible_more number from block a steps answers at order = ap (λ j. made (Look (Word.Eligible number j)) a ∷ steps) (sym at) ∙ ap (λ s. made (Look (Word.Eligible number (from + length answers))) a ∷ s) order
+
+eligible_counted : (number from : ℕ) (answers : List ℕ) → length (eligible_looks number from answers) ≡ length answers
+eligible_counted number from [] = refl
+eligible_counted number from (a ∷ more) = ap (λ k. suc k) (eligible_counted number from more)
+
+pub eligible_count : (number from n : ℕ) (steps : List Made) (answers : List ℕ) → steps ≡ eligible_looks number from answers → length answers ≡ n → length steps ≡ n
+eligible_count number from n steps answers order is = ap length order ∙ eligible_counted number from answers ∙ is
+
+pub deeds_more : (from page a : ℕ) (steps : List Made) (answers : List ℕ) → from + length answers ≡ page → steps ≡ deed_looks from answers → made (Look (Word.Deed page)) a ∷ steps ≡ deed_looks from (a ∷ answers)
+deeds_more from page a steps answers at order = ap (λ p. made (Look (Word.Deed p)) a ∷ steps) (sym at) ∙ ap (λ s. made (Look (Word.Deed (from + length answers))) a ∷ s) order
+
+deeds_counted : (from : ℕ) (answers : List ℕ) → length (deed_looks from answers) ≡ length answers
+deeds_counted from [] = refl
+deeds_counted from (a ∷ more) = ap (λ k. suc k) (deeds_counted from more)
+
+pub deeds_count : (from n : ℕ) (steps : List Made) (answers : List ℕ) → steps ≡ deed_looks from answers → length answers ≡ n → length steps ≡ n
+deeds_count from n steps answers order is = ap length order ∙ deeds_counted from answers ∙ is
 
 -- ---- the eligible bits
 -- one word more was read, whose bits below `end` are 0

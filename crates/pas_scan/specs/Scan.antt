@@ -1,6 +1,7 @@
 -- What the searches promise.
-use Rattle.std.specs.Prelude.{ℕ, ◌+◌, ◌/◌, ◌%◌, ◌<◌, ◌≤◌, ◌≡◌, true, false, List, ◌++◌, MatchOption, Option}
+use Rattle.std.specs.Prelude.{ℕ, ◌+◌, ◌-◌, ◌*◌, ◌/◌, ◌%◌, ◌<◌, ◌≤◌, ◌≡◌, true, false, List, [], ◌∷◌, ◌++◌, length, MatchOption, Option}
 use Rattle.pas_profile.specs.Classes.{has_bit}
+use Rattle.pas_profile.specs.Directories.{number_of}
 use Rattle.pas_profile.specs.Profiles.{IsPage}
 use Rattle.pas_profile.specs.declared.directory.Directory.{Directory}
 use Rattle.pas_profile.specs.declared.profile.Profile.{Profile}
@@ -8,7 +9,7 @@ use Rattle.pas_profile.specs.declared.event.NoRoom.{NoRoom}
 use Rattle.pas_profile.specs.declared.event.NoRoom.TheVariants.{NoSpace, Held}
 use Rattle.pas_steps.specs.Views.{View, has_right, KnowsDeed}
 use Rattle.pas_steps.specs.Agreement.{Agreed}
-use Rattle.pas_steps.specs.Desks.{Standing, Anything, Adds}
+use Rattle.pas_steps.specs.Desks.{Standing, Anything, Adds, made}
 use Rattle.pas_steps.specs.Past.{Once, Always}
 use Rattle.pas_steps.specs.Frames.{OnlyScans}
 use Rattle.pas_steps.specs.declared.step.Made.{Made}
@@ -31,12 +32,21 @@ pub record IsFirstOffered (f : Profile) (d : Directory) (next : ℕ) (steps : Li
   pub deed : (v : View) → KnowsDeed page d (steps ++ v)
   pub lacks : (v : View) → Agreed f v steps → has_right v page ≡ false
 
--- `next'` is where the search goes on
+-- looks at the eligible words of the directory of this number from this block on, in order, with these answers, the newest first
+abbrev pub eligible_looks : ℕ → ℕ → List ℕ → List Made
+eligible_looks number block [] = []
+eligible_looks number block (a ∷ more) = made (Look (Word.Eligible number (block + length more))) a ∷ eligible_looks number block more
+
+-- The eligible words from that of `next` on were read, each once and the lowest first, up to the one that shows the page, or all of them; and
+-- nothing else. `next'` is where the search goes on.
 pub record FindsOffered (d : Directory) (next : ℕ) (desk desk' : Standing) (next' : ℕ) (found : Option ℕ) : Type 0 where
   pub steps : List Made
   pub adds : Adds desk desk' Anything steps
   pub scans : OnlyScans steps
   pub single : IsSingle steps
+  pub answers : List ℕ
+  pub order : steps ≡ eligible_looks (number_of d) (next / 64) answers
+  pub count : MatchOption found (length steps ≡ desk.seat.profile.pages / 64 + 1 - next / 64) (λ page. length steps ≡ page / 64 + 1 - next / 64)
   pub outcome : MatchOption found
       ((next' ≡ next) × NoneOffered desk.seat.profile d next steps)
       (λ page. (next' ≡ page + 1) × IsFirstOffered desk.seat.profile d next steps page)
@@ -48,11 +58,21 @@ pub record IsFirstBare (f : Profile) (from : ℕ) (steps : List Made) (page : �
   pub none : Once (NoDeedHere page) steps
   pub lower : (p : ℕ) → from ≤ p → p < page → Once (DeedHere p) steps
 
+-- looks at the deed words of the pages from this one on, in order, with these answers, the newest first
+abbrev pub deed_looks : ℕ → List ℕ → List Made
+deed_looks from [] = []
+deed_looks from (a ∷ more) = made (Look (Word.Deed (from + length more))) a ∷ deed_looks from more
+
+-- The deed words from that of page `from` on were read, each once and the lowest first, up to that of the page that was found, or all of them;
+-- and nothing else.
 pub record FindsBare (from : ℕ) (desk desk' : Standing) (found : Option ℕ) : Type 0 where
   pub steps : List Made
   pub adds : Adds desk desk' Anything steps
   pub scans : OnlyScans steps
   pub single : IsSingle steps
+  pub answers : List ℕ
+  pub order : steps ≡ deed_looks from answers
+  pub count : MatchOption found (length steps ≡ desk.seat.profile.pages + 1 - from) (λ page. length steps ≡ page + 1 - from)
   pub outcome : MatchOption found
       ((p : ℕ) → from ≤ p → p ≤ desk.seat.profile.pages → Once (DeedHere p) steps)
       (IsFirstBare desk.seat.profile from steps)
@@ -73,12 +93,18 @@ abbrev pub IsVerdict : Profile → List ℕ → Directory → List Made → NoRo
 IsVerdict f marks d steps NoSpace = AllParked f marks d (f.pages + 1) steps
 IsVerdict f marks d steps (Held page) = ((v : View) → IsMember f marks d (steps ++ v) page) × Once (ParkedHere false page) steps × AllParked f marks d page steps
 
+-- the last block of which a word is read
+abbrev pub last_block : Profile → NoRoom → ℕ
+last_block f NoSpace = f.pages / 64
+last_block f (Held page) = page / 64
+
 -- no word is read twice, so no parked bit is read both as 1 and as 0
 pub record Judges (marks : List ℕ) (d : Directory) (desk desk' : Standing) (answer : NoRoom) : Type 0 where
   pub steps : List Made
   pub adds : Adds desk desk' Anything steps
   pub scans : OnlyScans steps
   pub single : IsSingle steps
+  pub few : length steps ≤ 65 * (last_block desk.seat.profile answer + 1)
   pub verdict : IsVerdict desk.seat.profile marks d steps answer
 
 -- ---- the members of one word of a page vector
@@ -92,5 +118,6 @@ pub record FindsMembers (marks : List ℕ) (d : Directory) (block : ℕ) (desk d
   pub adds : Adds desk desk' Anything steps
   pub deeds : InBlock block steps
   pub single : IsSingle steps
+  pub few : length steps ≤ 64
   pub members : (v : View) (p : ℕ) → p / 64 ≡ block → IsMember desk.seat.profile marks d (steps ++ v) p → has_bit answer (p % 64) ≡ true
   pub only : (v : View) (p : ℕ) → p / 64 ≡ block → has_bit answer (p % 64) ≡ true → IsMember desk.seat.profile marks d (steps ++ v) p

@@ -20,10 +20,11 @@ use Rattle.pas_core.specs.Good.{Place, Held, is_free, is_held_by, IsPlacedOnce}
 use Rattle.pas_core.proofs.DeedWords.{looked, deed_kept, deed_was_none}
 use Rattle.pas_core.proofs.Grains.{Fits, free_moved, free_step, step_fits, placed_once, is_held_by-true}
 use Rattle.pas_steps.specs.Evidence.{Readings, ReadsFree, ReadsDeed, ShowsHere, KeptHere, UnfitHere, DeedHere}
-use Rattle.pas_search.specs.Kinds.{IsSearch, OnlySearches, IsQuiet, AreQuiet}
+use Rattle.pas_steps.specs.Kinds.{kind_of, is_in, Only}
+use Rattle.pas_search.specs.Kinds.{searching, IsQuiet, AreQuiet}
 use Rattle.pas_search.specs.Serving.{IsAntitone}
 use Rattle.pas_search.specs.Telling.{free_of_page}
-use Rattle.pas_search.proofs.StepKinds.{quiet_deed}
+use Rattle.pas_search.proofs.KindsAndEvents.{quiet_deed}
 
 pub since_once : (P Q : Made → List Made → Type 0) (xs : List Made) → Since P Q xs → Once P xs
 since_once P Q [] h = h
@@ -42,10 +43,12 @@ plain_if : (t : Bool) (m : Move) → IsPlain m → IsPlain (if t then m else Sta
 plain_if true m h = h
 plain_if false m h = tt
 
-search_plain : (s : Step) (a g : ℕ) → IsSearch s → IsPlain (grain_move s a g)
-search_plain s a g (IsSearch.Takes p w mask) = plain_if (in_mask p w mask g && has_bit a (g % 64)) Gets tt
-search_plain s a g (IsSearch.Puts p w mask) = plain_if (in_mask p w mask g) Puts tt
-search_plain s a g step = tt
+search_plain : (s : Step) (a g : ℕ) → is_in searching (kind_of s) ≡ true → IsPlain (grain_move s a g)
+search_plain (Take p w mask) a g h = plain_if (in_mask p w mask g && has_bit a (g % 64)) Gets tt
+search_plain (Put p w mask) a g h = plain_if (in_mask p w mask g) Puts tt
+search_plain (Give b) a g h = absurd (true≢false (sym h))
+search_plain (End n l) a g h = absurd (true≢false (sym h))
+search_plain s a g h = tt
 
 abbrev bit_of : Whole → ℕ → Bool
 bit_of l g = has_bit (word_after l (free_word_at g)) (g % 64)
@@ -69,7 +72,7 @@ or_none_right : (x : Bool) → x ≡ true → (x || false) ≡ true
 or_none_right true h = refl
 or_none_right false h = absurd (false≢true h)
 
-free_or_held : (f : Profile) (k : ℕ) (l : Whole) (g : ℕ) (xs : List Made) → Legal f (triples k xs ++ l) → OnlySearches xs → bit_of l g ≡ true → (bit_of (triples k xs ++ l) g || holds xs g) ≡ true
+free_or_held : (f : Profile) (k : ℕ) (l : Whole) (g : ℕ) (xs : List Made) → Legal f (triples k xs ++ l) → Only searching xs → bit_of l g ≡ true → (bit_of (triples k xs ++ l) g || holds xs g) ≡ true
 free_or_held f k l g [] legal searches free = or_none_right (bit_of l g) free
 free_or_held f k l g (m ∷ xs) legal searches free =
     ap (λ x. x || held_after (grain_move m.step m.answer g) (holds xs g)) (bit_moved f k l g m xs legal)
@@ -89,7 +92,7 @@ used_move k Puts o bit held plain fits not_free not_held b h = absurd (true≢fa
 used_move k (Gives a) o bit held plain fits not_free not_held b h = absurd plain
 used_move k (Ends a) o bit held plain fits not_free not_held b h = absurd plain
 
-used_next : (f : Profile) (k : ℕ) (l : Whole) (g : ℕ) (m : Made) (xs : List Made) → IsValid f → Legal f (triples k (m ∷ xs) ++ l) → IsSearch m.step → Used k l g xs → Used k l g (m ∷ xs)
+used_next : (f : Profile) (k : ℕ) (l : Whole) (g : ℕ) (m : Made) (xs : List Made) → IsValid f → Legal f (triples k (m ∷ xs) ++ l) → is_in searching (kind_of m.step) ≡ true → Used k l g xs → Used k l g (m ∷ xs)
 used_next f k l g m xs valid legal search used =
     let w : Whole = triples k xs ++ l in
     let at : IsPlacedOnce w g = placed_once f w valid legal.1 g in
@@ -98,7 +101,7 @@ used_next f k l g m xs valid legal search used =
     (sym at.free ∙ used.0) (sym (at.held k) ∙ ap (λ v. holds v g) (part_of_own k xs l) ∙ used.1) used.0 used.1 in
     (bit_moved f k l g m xs legal ∙ moved.0, moved.1)
 
-used_all : (f : Profile) (k : ℕ) (l : Whole) (g : ℕ) (xs : List Made) → IsValid f → Legal f (triples k xs ++ l) → OnlySearches xs → Used k l g [] → Used k l g xs
+used_all : (f : Profile) (k : ℕ) (l : Whole) (g : ℕ) (xs : List Made) → IsValid f → Legal f (triples k xs ++ l) → Only searching xs → Used k l g [] → Used k l g xs
 used_all f k l g [] valid legal searches used = used
 used_all f k l g (m ∷ xs) valid legal searches used = used_next f k l g m xs valid legal searches.0 (used_all f k l g xs valid legal.1 searches.1 used)
 
@@ -124,7 +127,7 @@ of_page : (l : Whole) (page b : ℕ) → free_of_page l page b ≡ bit_of l (pag
 of_page l page b = let bit : b % 64 ≡ (page * 256 + b) % 64 = omega arith in ap (λ n. has_bit (word_after l (free_word_at (page * 256 + b))) n) bit
 
 -- a grain that was free at entry is read as free
-free_shown : (f : Profile) (k : ℕ) (l : Whole) (page b : ℕ) (r : Readings) (xs : List Made) → Legal f (triples k xs ++ l) → OnlySearches xs → b < 256 → bit_of l (page * 256 + b) ≡ true → Once (ShowsHere page (b / 64) r) xs → r b ≡ true
+free_shown : (f : Profile) (k : ℕ) (l : Whole) (page b : ℕ) (r : Readings) (xs : List Made) → Legal f (triples k xs ++ l) → Only searching xs → b < 256 → bit_of l (page * 256 + b) ≡ true → Once (ShowsHere page (b / 64) r) xs → r b ≡ true
 free_shown f k l page b r [] legal searches lt free h = absurd h
 free_shown f k l page b r (m ∷ xs) legal searches lt free (inr h) = free_shown f k l page b r xs legal.1 searches.1 lt free h
 free_shown f k l page b r (m ∷ xs) legal searches lt free (inl s) = shown f k l page b r m xs legal lt s ∙ free_or_held f k l (page * 256 + b) xs legal.1 searches.1 free
@@ -137,7 +140,7 @@ both_or : (x y : Bool) → x ≡ false → y ≡ false → (x || y) ≡ false
 both_or x y a b = ap (λ t. t || y) a ∙ b
 
 -- one that was read as not free, and that the actor didn't hold at entry, is used from then on
-shown_used : (f : Profile) (k : ℕ) (l : Whole) (page b : ℕ) (r : Readings) (xs : List Made) → IsValid f → Legal f (triples k xs ++ l) → OnlySearches xs → b < 256 → r b ≡ false → holds (part k l) (page * 256 + b) ≡ false → Once (ShowsHere page (b / 64) r) xs → Used k l (page * 256 + b) xs
+shown_used : (f : Profile) (k : ℕ) (l : Whole) (page b : ℕ) (r : Readings) (xs : List Made) → IsValid f → Legal f (triples k xs ++ l) → Only searching xs → b < 256 → r b ≡ false → holds (part k l) (page * 256 + b) ≡ false → Once (ShowsHere page (b / 64) r) xs → Used k l (page * 256 + b) xs
 shown_used f k l page b r [] valid legal searches lt miss none h = absurd h
 shown_used f k l page b r (m ∷ xs) valid legal searches lt miss none (inr h) = used_next f k l (page * 256 + b) m xs valid legal searches.0 (shown_used f k l page b r xs valid legal.1 searches.1 lt miss none h)
 shown_used f k l page b r (m ∷ xs) valid legal searches lt miss none (inl s) =
@@ -145,7 +148,7 @@ shown_used f k l page b r (m ∷ xs) valid legal searches lt miss none (inl s) =
     used_next f k l (page * 256 + b) m xs valid legal searches.0 (parts.0, holds_own (page * 256 + b) xs (part k l) none ∙ parts.1)
 
 -- one that was used at entry is read as not free
-used_shown : (f : Profile) (k : ℕ) (l : Whole) (page b : ℕ) (r : Readings) (xs : List Made) → IsValid f → Legal f (triples k xs ++ l) → OnlySearches xs → b < 256 → Used k l (page * 256 + b) [] → Once (ShowsHere page (b / 64) r) xs → r b ≡ false
+used_shown : (f : Profile) (k : ℕ) (l : Whole) (page b : ℕ) (r : Readings) (xs : List Made) → IsValid f → Legal f (triples k xs ++ l) → Only searching xs → b < 256 → Used k l (page * 256 + b) [] → Once (ShowsHere page (b / 64) r) xs → r b ≡ false
 used_shown f k l page b r [] valid legal searches lt used h = absurd h
 used_shown f k l page b r (m ∷ xs) valid legal searches lt used (inr h) = used_shown f k l page b r xs valid legal.1 searches.1 lt used h
 used_shown f k l page b r (m ∷ xs) valid legal searches lt used (inl s) =
@@ -154,14 +157,14 @@ used_shown f k l page b r (m ∷ xs) valid legal searches lt used (inl s) =
 
 -- ---- a page that didn't fit
 -- it fitted neither at entry ..
-pub unfit_entry : (no_fit : Readings → Type 0) (f : Profile) (k : ℕ) (l : Whole) (page : ℕ) (xs : List Made) → IsAntitone no_fit → Legal f (triples k xs ++ l) → OnlySearches xs → Once (UnfitHere no_fit page) xs → no_fit (free_of_page l page)
+pub unfit_entry : (no_fit : Readings → Type 0) (f : Profile) (k : ℕ) (l : Whole) (page : ℕ) (xs : List Made) → IsAntitone no_fit → Legal f (triples k xs ++ l) → Only searching xs → Once (UnfitHere no_fit page) xs → no_fit (free_of_page l page)
 unfit_entry no_fit f k l page [] fewer legal searches h = absurd h
 unfit_entry no_fit f k l page (m ∷ xs) fewer legal searches (inr h) = unfit_entry no_fit f k l page xs fewer legal.1 searches.1 h
 unfit_entry no_fit f k l page (m ∷ xs) fewer legal searches (inl u) =
     fewer u.readings (free_of_page l page) (λ b lt free. free_shown f k l page b u.readings xs legal.1 searches.1 lt (sym (of_page l page b) ∙ free)
     (since_once (ShowsHere page (b / 64) u.readings) (KeptHere page) xs (u.read (b / 64) (omega (arith, lt))))) u.none
 
-unfit_used : (no_fit : Readings → Type 0) (f : Profile) (k : ℕ) (l : Whole) (page : ℕ) (xs : List Made) → IsValid f → Legal f (triples k xs ++ l) → OnlySearches xs → Once (UnfitHere no_fit page) xs
+unfit_used : (no_fit : Readings → Type 0) (f : Profile) (k : ℕ) (l : Whole) (page : ℕ) (xs : List Made) → IsValid f → Legal f (triples k xs ++ l) → Only searching xs → Once (UnfitHere no_fit page) xs
     → (r : Readings) × no_fit r × ((b : ℕ) → b < 256 → r b ≡ false → holds (part k l) (page * 256 + b) ≡ false → Used k l (page * 256 + b) xs)
 unfit_used no_fit f k l page [] valid legal searches h = absurd h
 unfit_used no_fit f k l page (m ∷ xs) valid legal searches (inr h) =
@@ -175,7 +178,7 @@ unfit_used no_fit f k l page (m ∷ xs) valid legal searches (inl u) = (
 )
 
 -- .. nor at exit, where the actor holds what it held
-pub unfit_exit : (no_fit : Readings → Type 0) (f : Profile) (k : ℕ) (l : Whole) (page : ℕ) (xs : List Made) → IsAntitone no_fit → IsValid f → Legal f (triples k xs ++ l) → OnlySearches xs → ((g : ℕ) → holds (xs ++ part k l) g ≡ holds (part k l) g) → Once (UnfitHere no_fit page) xs → no_fit (free_of_page (triples k xs ++ l) page)
+pub unfit_exit : (no_fit : Readings → Type 0) (f : Profile) (k : ℕ) (l : Whole) (page : ℕ) (xs : List Made) → IsAntitone no_fit → IsValid f → Legal f (triples k xs ++ l) → Only searching xs → ((g : ℕ) → holds (xs ++ part k l) g ≡ holds (part k l) g) → Once (UnfitHere no_fit page) xs → no_fit (free_of_page (triples k xs ++ l) page)
 unfit_exit no_fit f k l page xs fewer valid legal searches still h =
     let w : Whole = triples k xs ++ l in
     let r = unfit_used no_fit f k l page xs valid legal searches h in
@@ -192,7 +195,7 @@ unfit_exit no_fit f k l page xs fewer valid legal searches still h =
     ]) r.1
 
 -- a page that was read as fitting fitted at entry, where no grain that the actor held was read as free
-pub fit_entry : (no_fit : Readings → Type 0) (f : Profile) (k : ℕ) (l : Whole) (page : ℕ) (r : Readings) (xs : List Made) → IsAntitone no_fit → IsValid f → Legal f (triples k xs ++ l) → OnlySearches xs
+pub fit_entry : (no_fit : Readings → Type 0) (f : Profile) (k : ℕ) (l : Whole) (page : ℕ) (r : Readings) (xs : List Made) → IsAntitone no_fit → IsValid f → Legal f (triples k xs ++ l) → Only searching xs
     → (no_fit r → ⊥) → ((word : ℕ) → word < 4 → Once (ShowsHere page word r) xs) → ((g : ℕ) → g / 256 ≡ page → holds (part k l) g ≡ true → r (g % 256) ≡ false) → no_fit (free_of_page l page) → ⊥
 fit_entry no_fit f k l page r xs fewer valid legal searches fits read held none =
     fits (fewer (free_of_page l page) r (λ b lt hit. let g : ℕ = page * 256 + b in

@@ -28,8 +28,8 @@ use Rattle.pas_core.proofs.Nexts.{agrees_next}
 use Rattle.pas_steps.specs.Evidence.{ReadsEligible, ReadsParked, ZeroHere, ParkedHere, LacksAfter, KeptHere}
 use Rattle.pas_search.specs.Telling.{IsInHands}
 use Rattle.pas_search.specs.Searches.{MaySearch, OfferedHere}
-use Rattle.pas_search.proofs.StepKinds.{right_own}
-use Rattle.pas_search.proofs.Refusing.{lacks_now}
+use Rattle.pas_search.proofs.KindsAndEvents.{right_own}
+use Rattle.pas_search.proofs.Refusals.{lacks_now}
 
 -- ---- what a step does to the right, by its way
 abbrev had_after : Way → Bool → Bool

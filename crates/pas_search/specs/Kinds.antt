@@ -1,43 +1,45 @@
--- Kinds of steps of a search.
+-- Kinds of steps of a search, and which events they make.
 use Rattle.std.specs.Prelude.{◌⊎◌, ℕ, ◌≡◌, ◌==◌, suc, Bool, false, if◌then◌else◌, List, [], ◌∷◌, None}
 use Rattle.pas_profile.specs.declared.directory.Directory.{Directory}
-use Rattle.pas_profile.specs.declared.word.Word.{Word}
-use Rattle.pas_steps.specs.Past.{Always}
+use Rattle.pas_steps.specs.Past.{Once, Always}
 use Rattle.pas_steps.specs.Events.{event_of}
+use Rattle.pas_steps.specs.Evidence.{GetsHere}
+use Rattle.pas_steps.specs.Frames.{OnlyOn}
+use Rattle.pas_steps.specs.Kinds.{Kinds, LookEpoch, LookFree, LookLife, LookDeed, LookBacked, LookStamp, LookParked, LookEmpty, LookEligible, Deeding, Backing, Taking, Putting, Claiming, Offering, Parking, Unparking, Hinting, Only}
 use Rattle.pas_steps.specs.declared.step.Step.{Step}
 use Rattle.pas_steps.specs.declared.step.Made.{Made}
 use Rattle.pas_steps.specs.declared.step.Step.TheVariants.{Look, Deed, Back, Take, Put, Give, End, TakeRight, Offer, Park, Unpark, Stamp, Hint, Tick, Unback, Unhint}
 
+-- ---- kinds
 -- what a back end may do on a page whose right was got: it makes no deed, claims nothing, stamps nothing, gives and ends no block
-pub data IsServe (page : ℕ) : Step → Type 0 where
-  Looks : (word : Word) → IsServe page (Look word)
-  Backs : IsServe page (Back page)
-  Takes : (word mask : ℕ) → IsServe page (Take page word mask)
-  Puts : (word mask : ℕ) → IsServe page (Put page word mask)
-  Offers : (d : Directory) → IsServe page (Offer page d)
-  Parks : IsServe page (Park page)
-  Unparks : IsServe page (Unpark page)
-  Hints : IsServe page (Hint page)
+abbrev pub serving : Kinds
+serving = LookEpoch ∷ LookFree ∷ LookLife ∷ LookDeed ∷ LookBacked ∷ LookStamp ∷ LookParked ∷ LookEmpty ∷ LookEligible ∷ Backing ∷ Taking ∷ Putting ∷ Offering ∷ Parking ∷ Unparking ∷ Hinting ∷ []
 
-abbrev pub OnlyServes : ℕ → List Made → Type 0
-OnlyServes page = Always (λ m before. IsServe page m.step)
+pub record OnlyServes (page : ℕ) (steps : List Made) : Type 0 where
+  pub kinds : Only serving steps
+  pub on : OnlyOn page steps
 
 -- what a search may do: it gives and ends no block, and stamps nothing
-pub data IsSearch : Step → Type 0 where
-  Looks : (word : Word) → IsSearch (Look word)
-  Deeds : (page : ℕ) (d : Directory) → IsSearch (Deed page d)
-  Backs : (page : ℕ) → IsSearch (Back page)
-  Takes : (page word mask : ℕ) → IsSearch (Take page word mask)
-  Puts : (page word mask : ℕ) → IsSearch (Put page word mask)
-  Claims : (page : ℕ) (d : Directory) → IsSearch (TakeRight page d)
-  Offers : (page : ℕ) (d : Directory) → IsSearch (Offer page d)
-  Parks : (page : ℕ) → IsSearch (Park page)
-  Unparks : (page : ℕ) → IsSearch (Unpark page)
-  Hints : (page : ℕ) → IsSearch (Hint page)
+abbrev pub searching : Kinds
+searching = Deeding ∷ Claiming ∷ serving
 
-abbrev pub OnlySearches : List Made → Type 0
-OnlySearches = Always (λ m before. IsSearch m.step)
+-- the step gives up the right of the page, takes it back from the parked pages, or hints the page
+pub data IsReturnOf (page : ℕ) : Step → Type 0 where
+  Offers : (d : Directory) → IsReturnOf page (Offer page d)
+  Parks : IsReturnOf page (Park page)
+  Unparks : IsReturnOf page (Unpark page)
+  Hints : IsReturnOf page (Hint page)
 
+-- the call got the right of the page before
+abbrev pub ReturnsGot : Made → List Made → Type 0
+ReturnsGot m before = (page : ℕ) → IsReturnOf page m.step → Once (GetsHere page) before
+
+-- the steps of a search, which offers, parks, unparks and hints no page but those whose right it got
+pub record AreSearch (steps : List Made) : Type 0 where
+  pub kinds : Only searching steps
+  pub returns : Always ReturnsGot steps
+
+-- ---- events
 -- the steps made no event, whoever made them
 abbrev pub IsQuiet : Made → Type 0
 IsQuiet m = (k epoch : ℕ) → event_of k epoch m.step m.answer ≡ None

@@ -3,10 +3,9 @@
 #![tactic(auto)]
 
 mod bare;
+mod finding;
 mod offered;
-mod rooms;
 mod serving;
-mod trying;
 
-pub use rooms::find_room;
+pub use finding::find_page;
 pub use serving::{Served, Serving};

@@ -14,7 +14,7 @@ pub trait Serving {
     type Found: Copy;
 
     /// What it means: the directories that it serves from, when nothing fits, which grains and whether the right are kept, what its choice
-    /// inside the page is, and how many events it makes at most.
+    /// inside the page is, and how many events and steps it makes at most.
     ghost rule: { Self → Rule Self.Found };
 
     /// Serves a request from the page, whose right the actor just got, if the page's free grains fit.

@@ -1,10 +1,8 @@
-pub mod Bits
 pub mod Starts
-pub mod Puts
-pub mod Backs
-pub mod Stopped
-pub mod Taken
-pub mod Counted
-pub mod Complete
-pub mod Served
-pub mod Refilled
+mod TakesOnce
+mod GiveBack
+mod StopSlots
+mod FourTakes
+mod WholeSlots
+mod Serve
+mod Refilled

@@ -7,9 +7,9 @@ use Rattle.pas_profile.specs.Classes.{has_bit, IsClass, class_grains, usable_gra
 use Rattle.pas_profile.proofs.Tables.{passes_below, passes_at}
 use Rattle.pas_profile.proofs.ClassFacts.{class_grains_positive, usable_grains_le, slot_end}
 use Rattle.pas_bits.specs.declared.mask.Mask4.{Mask4}
-use Rattle.pas_bits.specs.Masks.{is_set, AreSet}
+use Rattle.pas_bits.specs.Masks.{is_set, AreSet, IsNear}
 use Rattle.pas_bits.proofs.Words.{none_past}
-use Rattle.pas_segregated.specs.Masks.{is_start, start_of, AreStarts, IsNear}
+use Rattle.pas_segregated.specs.Masks.{is_start, start_of, AreStarts}
 
 -- ---- the first grains of all slots
 pub start_is : (class g : ℕ) → is_start class g ≡ true → IsSlotStart class g

@@ -4,14 +4,6 @@ use Rattle.pas_profile.specs.Classes.{has_bit, class_grains, usable_grains, IsSl
 use Rattle.pas_bits.specs.declared.mask.Mask4.{Mask4}
 use Rattle.pas_bits.specs.Masks.{is_set}
 
--- bit i of the 128 bits of two words, the lower one first
-abbrev pub bit_of_two : ℕ → ℕ → ℕ → Bool
-bit_of_two low high i = if nat_lt i 64 then has_bit low i else has_bit high (i - 64)
-
--- a bit is set at the number, or at one of the n - 1 numbers below it
-abbrev pub IsNear : Mask4 → ℕ → ℕ → Type 0
-IsNear mask x n = (g : ℕ) × (g ≤ x) × (x < g + n) × (is_set mask g ≡ true)
-
 -- a slot of the class begins at this grain of its page
 abbrev pub is_start : ℕ → ℕ → Bool
 is_start class g = (g % class_grains class == 0) && nat_le (g + class_grains class) (usable_grains class)
@@ -23,11 +15,3 @@ start_of class g = g / class_grains class * class_grains class
 -- each set bit is the first grain of a slot of the class
 abbrev pub AreStarts : ℕ → Mask4 → Type 0
 AreStarts class starts = (g : ℕ) → is_set starts g ≡ true → IsSlotStart class g
-
--- no bit is set
-abbrev pub IsEmpty : Mask4 → Type 0
-IsEmpty mask = (g : ℕ) → g < 256 → is_set mask g ≡ false
-
--- some bit is set
-abbrev pub IsSome : Mask4 → Type 0
-IsSome mask = (g : ℕ) × (g < 256) × (is_set mask g ≡ true)

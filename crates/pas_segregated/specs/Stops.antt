@@ -1,19 +1,19 @@
 -- Slots that an actor holds, and how they are stopped.
-use Rattle.std.specs.Prelude.{ℕ, ◌/◌, ◌%◌, ◌<◌, ◌≡◌, ◌≢◌, ◌==◌, Bool, true, false, not, ◌&&◌, List, [], ◌++◌}
+use Rattle.std.specs.Prelude.{ℕ, ◌/◌, ◌%◌, ◌<◌, ◌≤◌, ◌≡◌, ◌==◌, Bool, true, false, ◌&&◌, if◌then◌else◌, List, [], ◌++◌, length}
 use Rattle.pas_profile.specs.declared.directory.Directory.{Directory}
 use Rattle.pas_profile.specs.declared.directory.Kind.TheVariants as Kind
 use Rattle.pas_bits.specs.declared.mask.Mask4.{Mask4}
 use Rattle.pas_bits.specs.Masks.{is_set}
-use Rattle.pas_steps.specs.Views.{View, holds, holds_on, has_right, known_deed, knows_backed, KnowsDeed}
-use Rattle.pas_steps.specs.Agreement.{Agreed}
+use Rattle.pas_steps.specs.Calls.{Calls, Effect, Kept, Lost, Does}
+use Rattle.pas_steps.specs.Clear.{IsClear}
 use Rattle.pas_steps.specs.Frames.{OnlyOn}
-use Rattle.pas_steps.specs.Desks.{Standing, Adds}
+use Rattle.pas_steps.specs.Kinds.{Only}
+use Rattle.pas_steps.specs.Views.{View, holds, has_right, KnowsDeed}
+use Rattle.pas_steps.specs.Desks.{Standing}
 use Rattle.pas_steps.specs.declared.step.Made.{Made}
 use Rattle.pas_rights.specs.Leaves.{LeaveSteps}
-use Rattle.pas_steps.specs.Clear.{IsClear}
-use Rattle.pas_search.specs.Kinds.{AreQuiet}
 use Rattle.pas_segregated.specs.Masks.{start_of}
-use Rattle.pas_segregated.specs.Returns.{BackSteps}
+use Rattle.pas_segregated.specs.Returns.{BackSteps, giving_back}
 use Rattle.pas_segregated.specs.declared.slots.Slots.{Slots}
 
 -- the pages of one class of a heap
@@ -53,19 +53,22 @@ pub record StopStepsAt (d : Directory) (slots : Slots) (steps : List Made) : Typ
   pub leaves : LeavesWhere slots.right slots.page d left
   pub steps_are : steps ≡ left ++ back
 
--- The grains of the slots and the right that came with them are gone. All else is held and had as before, the actor is clear, what it knew of
--- deeds it still knows, and so it does of backed pages of which it holds a grain. No event was made.
+-- the grains of the slots and the right that came with them are gone, and all else is as it was
+abbrev pub stopped : Slots → Effect
+stopped slots = record {
+  grains = λ g. if in_slots slots g then Lost else Kept;
+  rights = λ page. if slots.right && (slots.page == page) then Lost else Kept;
+  clears = λ page. Kept;
+}
+
+-- The slots are given up, by at most 23 steps on their page, none of which makes an event.
 pub record StopsAt (d : Directory) (slots : Slots) (desk desk' : Standing) : Type 0 where
   pub steps : List Made
-  pub adds : Adds desk desk' (λ v l. MayStopAt d slots v) steps
+  pub calls : Calls desk desk' (MayStopAt d slots) (Does (stopped slots)) steps
   pub order : StopStepsAt d slots steps
+  pub kinds : Only giving_back steps
   pub on : OnlyOn slots.page steps
-  pub quiet : AreQuiet steps
-  pub grains : (v : View) (g : ℕ) → holds (steps ++ v) g ≡ (not (in_slots slots g) && holds v g)
-  pub rights : (v : View) → Agreed desk.seat.profile v steps → (q : ℕ) → has_right (steps ++ v) q ≡ (not (slots.right && (slots.page == q)) && has_right v q)
-  pub clear : (v : View) → MayStopAt d slots v → Agreed desk.seat.profile v steps → IsClear (steps ++ v)
-  pub deeds : (v : View) (q : ℕ) → Agreed desk.seat.profile v steps → known_deed v q ≢ 0 → known_deed (steps ++ v) q ≡ known_deed v q
-  pub backed : (v : View) (q : ℕ) → Agreed desk.seat.profile v steps → knows_backed v q ≡ true → holds_on (steps ++ v) q ≡ true → knows_backed (steps ++ v) q ≡ true
+  pub few : length steps ≤ 23
 
 -- the same of exclusive pages
 abbrev pub MayStop : Slots → View → Type 0

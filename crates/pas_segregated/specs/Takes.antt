@@ -1,51 +1,56 @@
 -- The slots of a page that are taken.
-use Rattle.std.specs.Prelude.{ℕ, suc, ◌+◌, ◌*◌, ◌/◌, ◌%◌, ◌<◌, ◌≤◌, ◌≡◌, ◌==◌, ◌↔◌, IsTrue, Bool, true, false, ◌&&◌, ◌||◌, if◌then◌else◌, List, [], ◌∷◌, ◌++◌, length, slice_index}
+use Rattle.std.specs.Prelude.{ℕ, ◌+◌, ◌*◌, ◌/◌, ◌%◌, ◌<◌, ◌≤◌, ◌≡◌, ◌==◌, ◌↔◌, IsTrue, Bool, true, false, ◌&&◌, if◌then◌else◌, List, [], ◌∷◌, ◌++◌, length, slice_index}
 use Rattle.pas_profile.specs.Classes.{has_bit, is_usable, class_grains, IsSlotStart}
 use Rattle.pas_profile.specs.declared.directory.Directory.{Directory}
 use Rattle.pas_profile.specs.declared.directory.Kind.TheVariants as Kind
+use Rattle.pas_profile.specs.declared.profile.Profile.{Profile}
 use Rattle.pas_bits.specs.declared.mask.Mask4.{Mask4}
-use Rattle.pas_bits.specs.Masks.{is_set}
-use Rattle.pas_steps.specs.Views.{View, holds, holds_on, has_right, known_free, knows_backed}
+use Rattle.pas_bits.specs.Masks.{is_set, IsEmpty, HasMember}
+use Rattle.pas_rights.specs.Puts.{masked}
+use Rattle.pas_steps.specs.Views.{View, holds, has_right, known_free}
 use Rattle.pas_steps.specs.Agreement.{Agreed}
+use Rattle.pas_steps.specs.Calls.{Calls, Leads, Effect, Kept, Gained, Does, AnyView}
 use Rattle.pas_steps.specs.Past.{Since}
-use Rattle.pas_steps.specs.Frames.{KeepsRight}
-use Rattle.pas_steps.specs.Desks.{Standing, Adds, made}
+use Rattle.pas_steps.specs.Frames.{OnlyOn, KeepsRight}
+use Rattle.pas_steps.specs.Kinds.{Kinds, Taking, Only}
+use Rattle.pas_steps.specs.Desks.{Standing, made}
 use Rattle.pas_steps.specs.declared.step.Made.{Made}
 use Rattle.pas_steps.specs.declared.step.Step.{Step}
 use Rattle.pas_steps.specs.declared.step.Step.TheVariants.{Look, Deed, Back, Take, Put, Give, End, TakeRight, Offer, Park, Unpark, Stamp, Hint, Tick, Unback, Unhint}
-use Rattle.pas_steps.specs.Clear.{OwesNothing}
 use Rattle.pas_steps.specs.Evidence.{Readings, ShowsHere, KeptHere}
-use Rattle.pas_search.specs.Kinds.{OnlyServes, AreQuiet}
-use Rattle.pas_search.specs.Serving.{Rule, MayServe, FreshAt, IsJustGot, GotBefore, IsAntitone}
-use Rattle.pas_segregated.specs.Masks.{start_of, IsSome}
+use Rattle.pas_search.specs.Serving.{Rule, MayServe, HoldsNone, IsJustGot, GotBefore, ReadsNoneHeld, IsAntitone}
+use Rattle.pas_segregated.specs.Masks.{start_of}
+use Rattle.pas_segregated.specs.Returns.{giving_back}
 
 -- ---- four takes
--- takes of the free words 0, 1, .. of the page in order, with these masks and these answers, the newest first
-abbrev pub takes : ℕ → List ℕ → List ℕ → List Made
-takes page masks [] = []
-takes page masks (a ∷ more) = made (Take page (length more) (slice_index masks (length more))) a ∷ takes page masks more
+-- the take of a free word of the page, with its mask and its answer
+abbrev pub word_take : ℕ → Mask4 → Mask4 → ℕ → Made
+word_take page masks answers word = made (Take page word (slice_index masks.0 word)) (slice_index answers.0 word)
 
--- the answer for a word, and 0 where there is none
-abbrev pub read_word : List ℕ → ℕ → ℕ
-read_word [] word = 0
-read_word (a ∷ more) word = if length more == word then a else read_word more word
+-- one of each free word
+abbrev pub four_takes : ℕ → Mask4 → Mask4 → List Made
+four_takes page masks answers = word_take page masks answers 3 ∷ word_take page masks answers 2 ∷ word_take page masks answers 1 ∷ word_take page masks answers 0 ∷ []
 
--- the grains that the answers show as free
-abbrev pub read_free : List ℕ → Readings
-read_free answers g = has_bit (read_word answers (g / 64)) (g % 64)
+-- the mask has all usable grains of the class, and no others
+abbrev pub AreUsable : ℕ → Mask4 → Type 0
+AreUsable class usable = (g : ℕ) → g < 256 → is_set usable g ≡ is_usable class g
 
--- the masks have all usable grains of the class, and no others
-abbrev pub AreUsable : ℕ → List ℕ → Type 0
-AreUsable class masks = (g : ℕ) → g < 256 → has_bit (slice_index masks (g / 64)) (g % 64) ≡ is_usable class g
+-- these grains are got
+abbrev pub taken : (ℕ → Bool) → Effect
+taken grains = record { grains = λ g. if grains g then Gained else Kept; rights = λ page. Kept; clears = λ page. Kept }
 
--- four takes with all usable grains, which got those that were free
+-- none of which was held
+pub record GetsGrains (grains : ℕ → Bool) (v w : View) : Type 0 where
+  pub does : Does (taken grains) v w
+  pub apart : (g : ℕ) → grains g ≡ true → holds v g ≡ false
+
+-- Four takes with all usable grains. What they got are those that were read as free; none that was held was.
 pub record TakesUsable (page class : ℕ) (desk desk' : Standing) (got : Mask4) : Type 0 where
-  pub masks : List ℕ
-  pub usable : AreUsable class masks
-  pub answers : List ℕ
-  pub four : length answers ≡ 4
-  pub adds : Adds desk desk' (λ v l. has_right v page ≡ true) (takes page masks answers)
-  pub got_is : (g : ℕ) → g < 256 → is_set got g ≡ (read_free answers g && is_usable class g)
+  pub usable : Mask4
+  pub usable_are : AreUsable class usable
+  pub answers : Mask4
+  pub got_is : (g : ℕ) → is_set got g ≡ (is_set answers g && is_set usable g)
+  pub calls : Calls desk desk' (λ v. has_right v page ≡ true) (GetsGrains (masked page got)) (four_takes page usable answers)
 
 -- ---- slots
 -- each grain of the page, 0 to 255, that is one of the n from s on was read as free
@@ -64,91 +69,65 @@ AreFreeSlots class r starts = (s : ℕ) → IsTrue (is_set starts s) ↔ (IsSlot
 abbrev pub in_starts : ℕ → Mask4 → ℕ → Bool
 in_starts class starts g = is_set starts (start_of class g)
 
--- ---- how often the page was taken from
--- the step, with this answer, got the page's right, by a claim or a deed
-abbrev pub gets_right : ℕ → Step → ℕ → Bool
-gets_right page (Look word) a = false
-gets_right page (Deed p directory) a = (page == p) && (a == 0)
-gets_right page (Back p) a = false
-gets_right page (Take p word mask) a = false
-gets_right page (Put p word mask) a = false
-gets_right page (Give block) a = false
-gets_right page (End name guess) a = false
-gets_right page (TakeRight p directory) a = (page == p) && has_bit a (page % 64)
-gets_right page (Offer p directory) a = false
-gets_right page (Park p) a = false
-gets_right page (Unpark p) a = false
-gets_right page (Stamp p) a = false
-gets_right page (Hint p) a = false
-gets_right page (Tick raised) a = false
-gets_right page (Unback p) a = false
-gets_right page (Unhint p) a = false
+-- the grain, a number of the region, is of one of the slots on the page
+abbrev pub slots_on : ℕ → ℕ → Mask4 → ℕ → Bool
+slots_on page class starts g = (page == g / 256) && in_starts class starts (g % 256)
 
--- this step got none
-abbrev pub GetsNoneHere : ℕ → Made → List Made → Type 0
-GetsNoneHere page m before = gets_right page m.step m.answer ≡ false
+-- ---- the takes of a page since its right was got, by a claim or a deed
+-- those after this step, with this answer
+abbrev pub takes_after : ℕ → Step → ℕ → List Made → List Made
+takes_after page (Look word) a before = before
+takes_after page (Deed q directory) a before = if (page == q) && (a == 0) then [] else before
+takes_after page (Back q) a before = before
+takes_after page (Take q word mask) a before = if page == q then made (Take q word mask) a ∷ before else before
+takes_after page (Put q word mask) a before = before
+takes_after page (Give block) a before = before
+takes_after page (End name guess) a before = before
+takes_after page (TakeRight q directory) a before = if (page == q) && has_bit a (page % 64) then [] else before
+takes_after page (Offer q directory) a before = before
+takes_after page (Park q) a before = before
+takes_after page (Unpark q) a before = before
+takes_after page (Stamp q) a before = before
+takes_after page (Hint q) a before = before
+takes_after page (Tick raised) a before = before
+takes_after page (Unback q) a before = before
+takes_after page (Unhint q) a before = before
 
--- the step takes a free word of the page
-abbrev pub is_take_of : ℕ → Step → Bool
-is_take_of page (Look word) = false
-is_take_of page (Deed p directory) = false
-is_take_of page (Back p) = false
-is_take_of page (Take p word mask) = page == p
-is_take_of page (Put p word mask) = false
-is_take_of page (Give block) = false
-is_take_of page (End name guess) = false
-is_take_of page (TakeRight p directory) = false
-is_take_of page (Offer p directory) = false
-is_take_of page (Park p) = false
-is_take_of page (Unpark p) = false
-is_take_of page (Stamp p) = false
-is_take_of page (Hint p) = false
-is_take_of page (Tick raised) = false
-is_take_of page (Unback p) = false
-is_take_of page (Unhint p) = false
+abbrev pub takes_since : ℕ → List Made → List Made
+takes_since page [] = []
+takes_since page (m ∷ before) = takes_after page m.step m.answer (takes_since page before)
 
--- how many takes of the page were made since its right was got last, or in all where it never was
-abbrev pub takes_since : ℕ → List Made → ℕ
-takes_since page [] = 0
-takes_since page (m ∷ before) = if gets_right page m.step m.answer then 0 else (if is_take_of page m.step then suc (takes_since page before) else takes_since page before)
-
--- the step takes this free word of the page with all its usable grains as the mask, and reads it so
-pub record IsWholeTake (class page word : ℕ) (r : Readings) (m : Made) : Type 0 where
-  pub mask : ℕ
-  pub step_is : m.step ≡ Take page word mask
-  pub usable : (b : ℕ) → b < 64 → has_bit mask b ≡ is_usable class (64 * word + b)
-  pub read : (b : ℕ) → b < 64 → r (64 * word + b) ≡ has_bit m.answer b
-
-abbrev pub TakesHere : ℕ → ℕ → ℕ → Readings → Made → List Made → Type 0
-TakesHere class page word r m before = IsWholeTake class page word r m
-
--- Since the page's right was got, each free word of the page was taken with all its usable grains as the mask, and just once: no more
--- than four takes were made. The slots are those all of whose grains these takes got, and there are some.
+-- The takes of the page since its right was got are those of its four free words, each with all usable grains as its mask. The slots are
+-- those all of whose grains they read as free, and there are some.
 pub record TookSlots (class page : ℕ) (steps : List Made) (starts : Mask4) : Type 0 where
-  pub readings : Readings
-  pub takes_all : (word : ℕ) → word < 4 → Since (TakesHere class page word readings) (GetsNoneHere page) steps
-  pub once : takes_since page steps ≡ 4
-  pub are : AreFreeSlots class readings starts
-  pub some : IsSome starts
+  pub usable : Mask4
+  pub usable_are : AreUsable class usable
+  pub answers : Mask4
+  pub takes : takes_since page steps ≡ four_takes page usable answers
+  pub are : AreFreeSlots class (is_set answers) starts
+  pub some : HasMember starts
 
--- Four takes; the grains of incomplete slots are put back. Whatever stood before, the grains of the slots are held besides, and the right is
--- kept. On a page all of whose grains are known as free there is a slot.
+abbrev pub taking_slots : Kinds
+taking_slots = Taking ∷ giving_back
+
+-- Four takes; the grains of incomplete slots are put back, so those of the slots are got, and the right is kept. On a page all of whose grains
+-- are known as free there is a slot. Whatever stood before, the words were read with the right; where there is no slot nothing is held.
 pub record TakesSlots (class page : ℕ) (d : Directory) (desk desk' : Standing) (starts : Mask4) : Type 0 where
   pub steps : List Made
-  pub adds : Adds desk desk' (λ v l. MayServe page d v) steps
-  pub only : OnlyServes page steps
-  pub quiet : AreQuiet steps
+  pub calls : Calls desk desk' (MayServe page d) (GetsGrains (slots_on page class starts)) steps
+  pub kinds : Only taking_slots steps
+  pub on : OnlyOn page steps
+  pub few : length steps ≤ 16
+  pub usable : Mask4
+  pub usable_are : AreUsable class usable
+  pub answers : Mask4
+  pub are : AreFreeSlots class (is_set answers) starts
+  pub held : Leads desk.seat.profile (MayServe page d) (ReadsNoneHeld page (is_set answers)) steps
+  pub all_free : (v : View) → Agreed desk.seat.profile v steps → ((g : ℕ) → g / 256 ≡ page → known_free v g ≡ true) → HasMember starts
   pub keeps : KeepsRight page steps
-  pub grains : (before : List Made) → FreshAt desk.seat.profile page steps before → (g : ℕ) → g / 256 ≡ page → holds (steps ++ before) g ≡ (in_starts class starts (g % 256) || holds before g)
-  pub owes : (v : View) → MayServe page d v → Agreed desk.seat.profile v steps → OwesNothing page (steps ++ v)
-  pub backed : (v : View) → Agreed desk.seat.profile v steps → knows_backed v page ≡ true → holds_on (steps ++ v) page ≡ true → knows_backed (steps ++ v) page ≡ true
-  pub readings : Readings
-  pub takes_all : (word : ℕ) → word < 4 → Since (TakesHere class page word readings) (GetsNoneHere page) steps
-  pub count : (before : List Made) → IsJustGot page before → takes_since page (steps ++ before) ≡ 4
-  pub read : (before : List Made) → GotBefore page before → (word : ℕ) → word < 4 → Since (ShowsHere page word readings) (KeptHere page) (steps ++ before)
-  pub held : (v : View) → Agreed desk.seat.profile v steps → (g : ℕ) → g / 256 ≡ page → holds v g ≡ true → readings (g % 256) ≡ false
-  pub are : AreFreeSlots class readings starts
-  pub all_free : (v : View) → Agreed desk.seat.profile v steps → ((g : ℕ) → g / 256 ≡ page → known_free v g ≡ true) → IsSome starts
+  pub takes : (before : List Made) → IsJustGot page before → takes_since page (steps ++ before) ≡ four_takes page usable answers
+  pub read : (before : List Made) → GotBefore page before → (word : ℕ) → word < 4 → Since (ShowsHere page word (is_set answers)) (KeptHere page) (steps ++ before)
+  pub none : (before : List Made) → HoldsNone page before → IsEmpty starts → HoldsNone page (steps ++ before)
 
 -- fewer free grains show no slot where more of them show none
 pub fewer_slots : (class : ℕ) → IsAntitone (NoSlot class)
@@ -164,4 +143,5 @@ exclusive class = record {
   keeps_right = λ starts. true;
   serves = TookSlots class;
   events = 1;
+  steps = 27;
 }

@@ -1,7 +1,6 @@
 //! Exclusive pages: pages of one class, of which one actor at a time takes all free slots.
 #![tactic(auto)]
 
-mod masks;
 mod putting;
 mod refilling;
 mod serving;

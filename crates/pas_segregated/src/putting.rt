@@ -1,46 +1,13 @@
 //! Grains of one page are put back.
-ghost use Rattle.std.specs.Prelude.{◌≡◌, ◌<◌, MatchBool};
+ghost use Rattle.std.specs.Prelude.{◌≡◌};
 ghost use Rattle.pas_profile.specs.Profiles.{IsPage, IsDirectoryOf};
 ghost use Rattle.pas_steps.specs.Desks.{CanCall};
-ghost use Rattle.pas_segregated.specs.Masks.{IsEmpty, IsSome};
-ghost use Rattle.pas_segregated.specs.Returns.{MayPutWord, PutsWord, MayPut, PutsMask, MayGiveBack, GivesBack};
+ghost use Rattle.pas_segregated.specs.Returns.{MayGiveBack, GivesBack};
 
 use pas_bits::Mask4;
 use pas_profile::Directory;
-use pas_rights::returned;
+use pas_rights::{put_mask, returned};
 use pas_steps::Desk;
-
-/// Whether no bit of the mask is set.
-pub fn is_empty(mask: &Mask4) -> bool
-    ensures { MatchBool result (IsEmpty mask.now) (IsSome mask.now) }
-{
-    mask.first_set_from(0).is_none()
-}
-
-/// Puts the mask's grains of one free word back, where there are any.
-fn put_word<D: Desk>(desk: &mut D, page: u32, word: u8, mask: u64)
-    requires page { IsPage (D.standing desk.old).seat.profile page }
-    requires word { word < 4 }
-    requires can { CanCall (D.standing desk.old) (λ v l. MayPutWord page word mask v) }
-    ensures puts { PutsWord page word mask (D.standing desk.old) (D.standing desk.new) }
-    ensures home { D.home desk.new ≡ D.home desk.old }
-{
-    if mask != 0 {
-        desk.put(page, word, mask);
-    }
-}
-
-/// Puts the mask's grains back: one put for each free word that has any.
-fn put_mask<D: Desk>(desk: &mut D, page: u32, mask: &Mask4)
-    requires page { IsPage (D.standing desk.old).seat.profile page }
-    requires can { CanCall (D.standing desk.old) (λ v l. MayPut page mask.now v) }
-    ensures puts { PutsMask page mask.now (D.standing desk.old) (D.standing desk.new) }
-    ensures home { D.home desk.new ≡ D.home desk.old }
-{
-    for word in 0..4u8 {
-        put_word(desk, page, word, mask.0[word as usize]);
-    }
-}
 
 /// Puts the mask's grains of a page back, whose deed is known as the directory, and then does what `returned` does.
 ///
@@ -52,7 +19,7 @@ pub fn give_back<D: Desk>(desk: &mut D, page: u32, directory: Directory, mask: &
     ensures gives { GivesBack page directory mask.now (D.standing desk.old) (D.standing desk.new) }
     ensures home { D.home desk.new ≡ D.home desk.old }
 {
-    if is_empty(mask) {
+    if mask.is_empty() {
         return;
     }
     put_mask(desk, page, mask);

@@ -9,7 +9,7 @@ ghost use Rattle.pas_segregated.specs.Refills.{Refills};
 use crate::serving::Exclusive;
 use crate::slots::Slots;
 use pas_profile::{Directory, Kind, NoRoom};
-use pas_search::find_room;
+use pas_search::find_page;
 use pas_steps::Desk;
 
 /// All free slots of the lowest offered page of the class that has any, or of the lowest page without a deed, with the page's right.
@@ -26,7 +26,7 @@ pub fn refill<D: Desk>(desk: &mut D, heap: u8, class: u8) -> Result<Slots, NoRoo
         heap,
         kind: Kind::Class(class),
     };
-    match find_room(&Exclusive { class }, desk, directory) {
+    match find_page(&Exclusive { class }, desk, directory) {
         Ok(served) => Ok(Slots {
             page: served.page,
             heap,

@@ -1,5 +1,4 @@
 //! Exclusive pages serve a search.
-use crate::putting::is_empty;
 use crate::taking::take_slots;
 use pas_bits::Mask4;
 use pas_profile::Directory;
@@ -25,7 +24,7 @@ impl Serving for Exclusive {
     /// None where no slot is free with all its grains. At most 27 steps.
     fn serve<D: Desk>(&self, desk: &mut D, page: u32, directory: Directory) -> Option<Mask4> {
         let starts = take_slots(desk, page, directory, self.class);
-        if is_empty(&starts) {
+        if starts.is_empty() {
             leave(desk, page, directory);
             return None;
         }

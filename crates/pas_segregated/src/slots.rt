@@ -4,7 +4,6 @@ ghost use Rattle.pas_profile.specs.Classes.{IsClass, IsSlotStart, class_grains};
 ghost use Rattle.pas_bits.specs.Masks.{is_set, AreSet};
 ghost use Rattle.pas_segregated.specs.Masks.{is_start, start_of, AreStarts};
 
-use crate::masks::{both, runs, spread};
 use pas_bits::Mask4;
 use pas_profile::classes::class_size;
 use pas_profile::{Directory, Kind};
@@ -164,7 +163,7 @@ pub fn whole_slots(grains: &Mask4, class: u8) -> Mask4
     ensures { (g : ℕ) → IsTrue (is_set result g) ↔ (IsSlotStart class g × AreSet grains.now g (class_grains class)) }
 {
     let length = (class_size(class) / 16) as u8;
-    both(&runs(grains, length), &all_starts(class))
+    grains.runs(length).both(&all_starts(class))
 }
 
 /// All grains of these slots of the class, which are given by their first grains.
@@ -173,5 +172,5 @@ pub fn covered(starts: &Mask4, class: u8) -> Mask4
     requires starts { AreStarts class starts.now }
     ensures { (g : ℕ) → is_set result g ≡ is_set starts.now (start_of class g) }
 {
-    spread(starts, (class_size(class) / 16) as u8)
+    starts.spread((class_size(class) / 16) as u8)
 }

@@ -7,7 +7,6 @@ ghost use Rattle.pas_steps.specs.Views.{has_right};
 ghost use Rattle.pas_search.specs.Serving.{MayServe};
 ghost use Rattle.pas_segregated.specs.Takes.{TakesUsable, TakesSlots};
 
-use crate::masks::both;
 use crate::putting::give_back;
 use crate::slots::{covered, whole_slots};
 use pas_bits::Mask4;
@@ -22,13 +21,14 @@ fn take_usable<D: Desk>(desk: &mut D, page: u32, class: u8) -> Mask4
     ensures takes { TakesUsable page class (D.standing desk.old) (D.standing desk.new) result }
     ensures home { D.home desk.new ≡ D.home desk.old }
 {
-    let [first, second, third, last] = slot_mask(class);
-    Mask4([
-        desk.take(page, 0, first) & first,
-        desk.take(page, 1, second) & second,
-        desk.take(page, 2, third) & third,
-        desk.take(page, 3, last) & last,
-    ])
+    let usable = Mask4(slot_mask(class));
+    let read = Mask4([
+        desk.take(page, 0, usable.0[0]),
+        desk.take(page, 1, usable.0[1]),
+        desk.take(page, 2, usable.0[2]),
+        desk.take(page, 3, usable.0[3]),
+    ]);
+    read.both(&usable)
 }
 
 /// Takes all free slots of the page, and answers their first grains. Grains of incomplete slots are put back.
@@ -42,7 +42,7 @@ pub fn take_slots<D: Desk>(desk: &mut D, page: u32, directory: Directory, class:
 {
     let got = take_usable(desk, page, class);
     let starts = whole_slots(&got, class);
-    let rest = both(&got, &covered(&starts, class).complement());
+    let rest = got.both(&covered(&starts, class).complement());
     give_back(desk, page, directory, &rest);
     starts
 }

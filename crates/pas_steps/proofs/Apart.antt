@@ -46,7 +46,7 @@ pub holds_over : (P : View → Type 0) (ls ks : Kinds) → ((m : Made) (v : View
 holds_over P ls ks step w [] v only h = h
 holds_over P ls ks step w (m ∷ more) v only h = step m (more ++ v) (in_apart ks ls (place_of (kind_of m.step)) w only.0) (holds_over P ls ks step w more v only.1 h)
 
-same_over : {A : Type 0} (T : View → A) (ls ks : Kinds) → ((m : Made) (v : View) → is_in ls (kind_of m.step) ≡ false → T (m ∷ v) ≡ T v) → apart ks ls ≡ true → (steps : List Made) (v : View) → Only ks steps → T (steps ++ v) ≡ T v
+pub same_over : {A : Type 0} (T : View → A) (ls ks : Kinds) → ((m : Made) (v : View) → is_in ls (kind_of m.step) ≡ false → T (m ∷ v) ≡ T v) → apart ks ls ≡ true → (steps : List Made) (v : View) → Only ks steps → T (steps ++ v) ≡ T v
 same_over T ls ks step w steps v only = holds_over (λ u. T u ≡ T v) ls ks (λ m u other h. step m u other ∙ h) w steps v only refl
 
 -- ---- grains
@@ -163,7 +163,7 @@ given_step_same s n h = refl
 pub given_same : (ks : Kinds) → apart ks giving ≡ true → (steps : List Made) (v : View) → Only ks steps → given_count (steps ++ v) ≡ given_count v
 given_same ks w = same_over given_count giving ks (λ m v h. given_step_same m.step (given_count v) h) w
 
-no_event : (k e : ℕ) (s : Step) (a : ℕ) → is_in showing (kind_of s) ≡ false → event_of k e s a ≡ None
+pub no_event : (k e : ℕ) (s : Step) (a : ℕ) → is_in showing (kind_of s) ≡ false → event_of k e s a ≡ None
 no_event k e (Deed p d) a h = absurd (true≢false h)
 no_event k e (Back p) a h = absurd (true≢false h)
 no_event k e (Give b) a h = absurd (true≢false h)

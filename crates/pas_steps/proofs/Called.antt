@@ -1,14 +1,16 @@
 -- Calls put together: no step, one more step, one more call, and what may come next.
 use Rattle.std.proofs.Common.{◌≡◌, ℕ, true, List, [], ◌∷◌, ◌++◌, sym, subst, append_assoc}
+use Rattle.pas_profile.specs.declared.directory.Directory.{Directory}
 use Rattle.pas_steps.specs.Agreement.{Agrees}
 use Rattle.pas_steps.specs.Allowed.{Allowed, IsStepOf}
 use Rattle.pas_steps.specs.Calls.{Effect, Does, Calls}
 use Rattle.pas_steps.specs.Desks.{Standing, made, Makes, CanMake, CanCall}
 use Rattle.pas_steps.specs.Kinds.{Kinds, kind_of, is_in, apart, changing}
-use Rattle.pas_steps.specs.Views.{View}
+use Rattle.pas_steps.specs.Views.{View, KnowsDeed}
 use Rattle.pas_steps.specs.declared.step.Made.{Made}
 use Rattle.pas_steps.specs.declared.step.Step.{Step}
 use Rattle.pas_steps.proofs.Adding.{agreed_first, agreed_later, adds_none, adds_step, adds_call, adds_under, can_step, can_call}
+use Rattle.pas_steps.proofs.Kept.{knows_still}
 use Rattle.pas_steps.proofs.Calls.{leads_none, leads_as, leads_at, does_then, does_idly}
 
 pub call_none : {σ : Standing} {B : View → Type 0} {R : View → View → Type 0} → ((v : View) → B v → R v v) → Calls σ σ B R []
@@ -37,6 +39,10 @@ call_then {σ} {ys = ys} {xs = xs} T c d meets both =
 -- under a condition that says more, with a change that says less
 pub call_as : {σ σ1 : Standing} {B C : View → Type 0} {R : View → View → Type 0} {xs : List Made} (S : View → View → Type 0) → Calls σ σ1 B R xs → ((v : View) → C v → B v) → ((v w : View) → C v → R v w → S v w) → Calls σ σ1 C S xs
 call_as S c under more = record { adds = adds_under c.adds (λ v l stood met. under v met); leads = leads_as c.leads under more }
+
+-- and a deed that was known is known still
+pub call_knows : {σ σ' : Standing} {B : View → Type 0} {R : View → View → Type 0} {xs : List Made} (page : ℕ) (d : Directory) → Calls σ σ' B R xs → ((v : View) → B v → KnowsDeed page d v) → Calls σ σ' B (λ v w. R v w × KnowsDeed page d w) xs
+call_knows {σ} {xs = xs} page d c knows = record { adds = c.adds; leads = record { from = λ v met agreed. (c.leads.from v met agreed, knows_still σ.seat.profile d page xs v agreed (knows v met)) } }
 
 pub next_step : {σ σ1 : Standing} {B : View → Type 0} {R : View → View → Type 0} {xs : List Made} {s : Step} → Calls σ σ1 B R xs → CanCall σ (λ v l. B v) → IsStepOf σ.seat.profile s → ((v : View) → B v → R v (xs ++ v) → Allowed σ.seat.profile (xs ++ v) s) → CanMake σ1 s
 next_step {B = B} {xs = xs} c can of allowed = can_step {C = λ v l. B v} c.adds can of (λ v l stood met. allowed v met (c.leads.from v met (c.adds.agreed v l stood met)))

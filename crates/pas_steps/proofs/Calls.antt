@@ -126,7 +126,7 @@ pub still_backed_all : {v w : View} (page : ℕ) → Does nothing v w → knows_
 still_backed_all {v} {w} page does h = let some = bears_some v page h in subst (λ q. knows_backed w q ≡ true) some.1 (does.backed some.0 refl some.2).backed
 
 -- ---- one step
-fate_is : (m : Move) (had : Bool) → held_after m had ≡ now (grain_fate m) had
+pub fate_is : (m : Move) (had : Bool) → held_after m had ≡ now (grain_fate m) had
 fate_is (Ends b) had = refl
 fate_is s had = refl
 
@@ -138,7 +138,7 @@ loses : (t had : Bool) → (if t then false else had) ≡ now (if t then Lost el
 loses true had = refl
 loses false had = refl
 
-right_is : (s : Step) (a p : ℕ) (had : Bool) → right_after s a p had ≡ now (right_fate s a p) had
+pub right_is : (s : Step) (a p : ℕ) (had : Bool) → right_after s a p had ≡ now (right_fate s a p) had
 right_is (Deed q d) a p had = gains ((q == p) && (a == 0)) had
 right_is (TakeRight q d) a p had = gains ((q == p) && has_bit a (p % 64)) had
 right_is (Offer q d) a p had = loses (q == p) had

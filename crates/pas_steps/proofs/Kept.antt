@@ -54,7 +54,7 @@ right_on p q (m ∷ more) v h ne = on_right p q m.step m.answer (has_right (more
 outside : (w p mask g : ℕ) → (p == g / 256) ≡ false → in_mask p w mask g ≡ false
 outside w p mask g h = ap (λ t. (w == g / 64 % 4) && t && has_bit mask (g % 64)) h ∙ ap (λ t. t && has_bit mask (g % 64)) (and_false (w == g / 64 % 4))
 
-on_grain : (p : ℕ) (s : Step) (a g : ℕ) → IsOnPage p s → g / 256 ≢ p → grain_move s a g ≡ Stays
+pub on_grain : (p : ℕ) (s : Step) (a g : ℕ) → IsOnPage p s → g / 256 ≢ p → grain_move s a g ≡ Stays
 on_grain p s a g (IsOnPage.Takes word mask) ne = unless (in_mask p word mask g) (has_bit a (g % 64)) Gets Stays (outside word p mask g (other p (g / 256) ne))
 on_grain p s a g (IsOnPage.Puts word mask) ne = when_not (in_mask p word mask g) Puts Stays (outside word p mask g (other p (g / 256) ne))
 on_grain p s a g step ne = refl

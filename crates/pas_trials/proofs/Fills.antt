@@ -1,5 +1,5 @@
 -- Two actors that refill after each other.
-use Rattle.std.proofs.Common.{◌≡◌, ◌≢◌, ℕ, ◌-◌, [], ◌++◌, length, reverse, refl, ap, sym, ◌∙◌, subst, arith, inr}
+use Rattle.std.proofs.Common.{◌≡◌, ◌≢◌, ℕ, ◌-◌, List, [], ◌++◌, length, reverse, refl, ap, sym, ◌∙◌, subst, arith, inr}
 use Rattle.pas_profile.specs.declared.directory.Directory.{Directory}
 use Rattle.pas_profile.specs.declared.profile.Profile.{Profile}
 use Rattle.pas_steps.specs.Events.{events_of}
@@ -13,13 +13,22 @@ use Rattle.pas_plain.specs.declared.desk.PlainDesk.{PlainDesk}
 use Rattle.pas_plain.specs.declared.pass.PlainPass.{PlainPass}
 use Rattle.pas_plain.specs.declared.region.PlainRegion.{PlainRegion}
 use Rattle.pas_plain.proofs.Passes.{pass_rests}
+use Rattle.pas_steps.specs.Agreement.{Agreed}
+use Rattle.pas_steps.specs.declared.step.Made.{Made}
 use Rattle.pas_search.specs.Searches.{MaySearch, SearchRoom}
+use Rattle.pas_segregated.specs.Refills.{GivesSlots}
+use Rattle.pas_segregated.specs.Stops.{MayStopAt, MayStop}
+use Rattle.pas_segregated.specs.declared.slots.Slots.{Slots}
 use Rattle.pas_trials.specs.Trials.{Beside}
 use Rattle.pas_trials.specs.Filling.{Steps, Waits, Opens}
 
 -- an actor that made no step may search
 pub may_search : (d : Directory) → MaySearch d []
 may_search d = record { rights = λ p of. refl; clear = record { on = λ p. record { stamped = refl; owes = record { checks = λ w lt. refl; hint = refl }; examined = refl } } }
+
+-- what a refill gave may be stopped
+pub may_stop_then : {f : Profile} {d : Directory} {steps : List Made} {slots : Slots} → GivesSlots f d steps slots → (v : View) → MaySearch d v → Agreed f v steps → MayStop slots (steps ++ v)
+may_stop_then {steps = steps} {slots = slots} gives v may agreed = subst (λ x. MayStopAt x slots (steps ++ v)) (sym gives.named) (gives.gets.from v may agreed).may_stop
 
 -- with room for two events at a desk for which the actor made no step
 pub can_search : (desk : PlainDesk) (d : Directory) (l : Whole) → DeskStands desk [] l → room_of_pass (pass_of desk) ≡ 2

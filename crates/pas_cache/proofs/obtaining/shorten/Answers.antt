@@ -20,7 +20,7 @@ pub returns-then-is_full-clause-spare : goal.returns-then-is_full-clause-spare
 returns-then-is_full-clause-spare g c =
     let is = full_removed c.args.locals.now.items c.remove-oldest.result c.remove-oldest.new.self.items (sym c.is_full.ensures.value ∙ c.if-is_full.true) c.remove-oldest.ensures.value c.remove-oldest.ensures.items in
     let stops = c.stop.ensures.stops in
-    spare_kept stops.adds (may_call _ _ _ (first_removed _ _ _ is) c.requires.can) (stop_only _ _ stops.order) (λ v l s. g.met.D.Desk.spares c.args.desk.now v l s) (λ v l s. g.met.D.Desk.spares c.stop.new.desk v l s)
+    spare_kept stops.calls.adds (may_call _ _ _ (first_removed _ _ _ is) c.requires.can) (stop_only stops) (λ v l s. g.met.D.Desk.spares c.args.desk.now v l s) (λ v l s. g.met.D.Desk.spares c.stop.new.desk v l s)
 
 pub returns-else-is_full-clause-shortens : goal.returns-else-is_full-clause-shortens
 returns-else-is_full-clause-shortens g c =

@@ -42,4 +42,4 @@ pub returns-clause-spare : goal.returns-clause-spare
 returns-clause-spare g c =
     let moved = taken_moves c.args.heap c.args.class _ _ c.in-Some.slots c.requires.can.met.apart.one_each (sym c.in-Some.is ∙ c.take_out.ensures.found) c.take_out.ensures.others in
     let s = c.stop.ensures.stops in
-    c.shorten-2.ensures.spare ∙ spare_kept s.adds (may_call _ _ _ moved c.requires.can) (stop_only _ _ s.order) (λ v l q. g.met.D.Desk.spares c.args.desk.now v l q) (λ v l q. g.met.D.Desk.spares c.stop.new.desk v l q)
+    c.shorten-2.ensures.spare ∙ spare_kept s.calls.adds (may_call _ _ _ moved c.requires.can) (stop_only s) (λ v l q. g.met.D.Desk.spares c.args.desk.now v l q) (λ v l q. g.met.D.Desk.spares c.stop.new.desk v l q)

@@ -20,7 +20,7 @@ loop-slots-preserved g c =
       stopped = x ∷ i.stopped;
       whole = i.whole ∙ (ap (λ xs. xs ++ i.stopped) c.in-Some.ensures.items ∙ append_assoc c.pop.new.self.items (x ∷ []) i.stopped);
       releases = stops_more _ _ _ x i.stopped c.in-Some.ensures.items i.releases s;
-      spare = spare_kept s.adds (may_call _ _ _ (last_popped _ _ _ c.in-Some.ensures.items) (rests_call _ _ i.releases c.requires.can)) (stop_only _ _ s.order)
+      spare = spare_kept s.calls.adds (may_call _ _ _ (last_popped _ _ _ c.in-Some.ensures.items) (rests_call _ _ i.releases c.requires.can)) (stop_only s)
           (λ v l q. g.met.D.Desk.spares c.loop-slots.desk v l q) (λ v l q. g.met.D.Desk.spares c.stop.new.desk v l q) ∙ i.spare;
       home = c.stop.ensures.home ∙ i.home;
     }

@@ -5,7 +5,6 @@ use Rattle.pas_profile.specs.declared.word.Word.TheVariants as Word
 use Rattle.pas_steps.specs.declared.step.Step.TheVariants.{Look}
 use Rattle.pas_steps.specs.Views.{View, epoch_of}
 use Rattle.pas_steps.specs.Events.{events_by}
-use Rattle.pas_steps.specs.Allowed.{IsEpochKnown}
 use Rattle.pas_steps.specs.Calls.{nothing, Does, Calls}
 use Rattle.pas_steps.specs.Kinds.{LookEpoch}
 use Rattle.pas_steps.specs.Desks.{made}
@@ -16,8 +15,8 @@ use Rattle.pas_free_log.specs.Logs.{names_in}
 use Rattle.pas_steps.specs.Clear.{IsClear}
 use Rattle.pas_free_log.specs.Frames.{ending}
 use Rattle.pas_free_log.specs.Flushes.{Settled, event_for}
-use Rattle.pas_free_log.proofs.Flushed.{events_more, stamps_more, names_more, may_end, flushed}
-use Rattle.pas_free_log.proofs.Spares.{spare_falls}
+use Rattle.pas_free_log.proofs.AllEntries.{events_more, stamps_more, names_more, may_end, flushed}
+use Rattle.pas_free_log.proofs.SpareRoom.{spare_falls}
 use Rattle.pas_free_log.proofs.flushing.flush.Goals as goal
 
 pub loop-name-init : goal.loop-name-init

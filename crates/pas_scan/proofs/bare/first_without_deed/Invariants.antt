@@ -1,9 +1,10 @@
-use Rattle.std.proofs.Common.{◌≡◌, ℕ, ◌≤◌, ◌<◌, ◌+◌, ◌/◌, List}
+use Rattle.std.proofs.Common.{◌≡◌, ℕ, ◌-◌, length, ◌≤◌, ◌<◌, ◌+◌, ◌/◌, List}
 use Rattle.pas_steps.specs.declared.step.Made.{Made}
 use Rattle.pas_steps.specs.Desks.{Anything, Adds}
 use Rattle.pas_steps.specs.Past.{Once}
 use Rattle.pas_steps.specs.Frames.{OnlyScans}
 use Rattle.pas_steps.specs.Evidence.{DeedHere, IsSingle}
+use Rattle.pas_scan.specs.Scan.{deed_looks}
 use Rattle.pas_scan.proofs.Singles.{Below}
 use Rattle.pas_scan.proofs.bare.first_without_deed.Given as goal
 
@@ -16,5 +17,9 @@ invariant-loop-page g l = let D = g.D.Desk in record {
   single : IsSingle steps;
   below : Below (l.page + l.page / 64) steps;
   deeds : (p : ℕ) → l.from ≤ p → p < l.page → Once (DeedHere p) steps;
+  answers : List ℕ;
+  order : steps ≡ deed_looks l.from answers;
+  at : l.from + length answers ≡ l.page;
+  few : length answers ≤ (D.standing l.fn.desk).seat.profile.pages + 1 - l.from;
   home : D.home l.desk ≡ D.home l.fn.desk;
 }

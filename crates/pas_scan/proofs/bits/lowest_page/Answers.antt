@@ -1,4 +1,4 @@
-use Rattle.std.proofs.Common.{◌≡◌, arith}
+use Rattle.std.proofs.Common.{arith}
 use Rattle.pas_scan.proofs.LowestBits.{no_page, lowest_found}
 use Rattle.pas_scan.proofs.bits.lowest_page.Goals as goal
 

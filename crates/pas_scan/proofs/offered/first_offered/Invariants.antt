@@ -1,9 +1,11 @@
-use Rattle.std.proofs.Common.{◌≡◌, ℕ, ◌≤◌, ◌<◌, ◌*◌, List}
+use Rattle.std.proofs.Common.{◌≡◌, ℕ, ◌+◌, ◌-◌, ◌/◌, length, ◌≤◌, ◌<◌, ◌*◌, List}
 use Rattle.pas_steps.specs.declared.step.Made.{Made}
 use Rattle.pas_steps.specs.Desks.{Anything, Adds}
 use Rattle.pas_steps.specs.Past.{Once}
 use Rattle.pas_steps.specs.Frames.{OnlyScans}
 use Rattle.pas_steps.specs.Evidence.{ZeroHere, IsSingle}
+use Rattle.pas_profile.specs.Directories.{number_of}
+use Rattle.pas_scan.specs.Scan.{eligible_looks}
 use Rattle.pas_scan.proofs.Singles.{Below}
 use Rattle.pas_scan.proofs.offered.first_offered.Given as goal
 
@@ -17,5 +19,9 @@ invariant-loop-block g l = let D = g.D.Desk in record {
   below : Below l.block steps;
   zeros : (p : ℕ) → l.next ≤ p → p < 64 * l.block → Once (ZeroHere l.fn.looked.directory p) steps;
   looked : l.looked ≡ l.fn.looked;
+  answers : List ℕ;
+  order : steps ≡ eligible_looks (number_of l.fn.looked.directory) (l.next / 64) answers;
+  at : l.next / 64 + length answers ≡ l.block;
+  few : length answers ≤ (D.standing l.fn.desk).seat.profile.pages / 64 + 1 - l.next / 64;
   home : D.home l.desk ≡ D.home l.fn.desk;
 }

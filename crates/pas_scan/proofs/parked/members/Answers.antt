@@ -22,6 +22,7 @@ loop-page-preserved g c =
       below = (omega arith, below_more (page + page / 64) (page + 1 + (page + 1) / 64) i.steps (omega arith) i.below);
       members = members_more (g.D.Desk.standing c.args.desk.now).seat.profile looked.unfit looked.directory c.args.block c.max-first.result page c.loop-page.members c.with_page-members.result a i.steps i.members at c.loop-page.auto.page
           (λ b lt. c.with_page-members.ensures b lt ∙ ap (λ t. ((page % 64 == b) && t) || has_bit c.loop-page.members b) c.is_open.ensures);
+      count = omega (arith, i.count);
       home = c.look-deed.ensures.home ∙ i.home;
     }
 
@@ -37,6 +38,7 @@ returns-clause-members g c =
       adds = i.adds;
       deeds = i.deeds;
       single = i.single;
+      few = (let count = i.count in let low = c.max-first.ensures in let high = span.end_is in omega (arith, count, exact, low, high));
       members = λ v p at is. i.members.all v p at (span_first c.args.block f.pages first end p span at is.of_region.0) (let lt = span_end c.args.block f.pages first end p span at is.of_region.1 in omega (arith, lt, past)) is.of_directory is.unmarked;
       only = λ v p at bit. let old = i.members.only v p at bit in let lt = old.1 in record { of_region = span_page f c.args.block first end p span old.0 (omega (arith, lt, exact)); of_directory = old.2; unmarked = old.3 };
     }

@@ -1,4 +1,4 @@
-use Rattle.std.proofs.Common.{◌≡◌, ◌+◌, ◌/◌, List}
+use Rattle.std.proofs.Common.{◌≡◌, ◌+◌, ◌/◌, List, length}
 use Rattle.pas_steps.specs.declared.step.Made.{Made}
 use Rattle.pas_steps.specs.Desks.{Anything, Adds}
 use Rattle.pas_steps.specs.Evidence.{IsSingle}
@@ -16,5 +16,6 @@ invariant-loop-page g l = let D = g.D.Desk in record {
   single : IsSingle steps;
   below : Below (l.page + l.page / 64) steps;
   members : Members (D.standing l.fn.desk).seat.profile l.looked.unfit l.looked.directory l.block l.first l.page l.members steps;
+  count : l.first + length steps ≡ l.page;
   home : D.home l.desk ≡ D.home l.fn.desk;
 }

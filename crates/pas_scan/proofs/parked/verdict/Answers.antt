@@ -1,4 +1,4 @@
-use Rattle.std.proofs.Common.{◌+◌, ◌*◌, ◌∷◌, ◌++◌, sym, ◌∙◌, subst, arith}
+use Rattle.std.proofs.Common.{◌+◌, ◌*◌, ◌∷◌, ◌++◌, sym, ◌∙◌, subst, arith, length-append}
 use Rattle.pas_profile.specs.declared.word.Word.TheVariants as Word
 use Rattle.pas_profile.specs.declared.profile.Profile.{Profile}
 use Rattle.pas_steps.specs.declared.step.Step.TheVariants.{Look}
@@ -22,6 +22,7 @@ loop-block-preserved g c =
           (scans_append m.steps i.steps (block_scans block m.steps m.deeds) i.scans) m.deeds i.parked
           (λ v p at is. m.members v p at (subst (λ s. IsMember s.profile looked.unfit looked.directory (m.steps ++ v) p) (sym i.adds.seat_is) is))
           (λ p some at lt. c.in_default.ensures p some at) (omega arith);
+      few = (let n = length-append m.steps i.steps in let here = m.few in let before = i.few in omega (arith, n, here, before));
       home = c.look-parked.ensures.home ∙ c.members-members.ensures.home ∙ i.home;
     }
 
@@ -36,6 +37,7 @@ returns-in-Some-clause-judges g c =
       adds = adds_step (adds_call i.adds m.adds (λ v l stood met. tt)) c.look-parked.ensures.makes (λ v l stood met. tt);
       scans = turn_scans block a m.steps i.steps m.deeds i.scans;
       single = turn_single block a m.steps i.steps m.deeds i.below m.single i.single;
+      few = (let n = length-append m.steps i.steps in let here = m.few in let before = i.few in omega (arith, n, here, before, at));
       verdict = (
         λ v. member_joined f looked.unfit looked.directory block a page m.steps i.steps v
             (subst (λ s. IsMember s.profile looked.unfit looked.directory (m.steps ++ (i.steps ++ v)) page) i.adds.seat_is (m.only (i.steps ++ v) page e.1 bits.0)),

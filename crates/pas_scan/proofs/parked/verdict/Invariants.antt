@@ -1,4 +1,4 @@
-use Rattle.std.proofs.Common.{◌≡◌, ◌*◌, List}
+use Rattle.std.proofs.Common.{◌≡◌, ◌≤◌, ◌*◌, List, length}
 use Rattle.pas_steps.specs.declared.step.Made.{Made}
 use Rattle.pas_steps.specs.Desks.{Anything, Adds}
 use Rattle.pas_steps.specs.Frames.{OnlyScans}
@@ -16,5 +16,6 @@ invariant-loop-block g l = let D = g.D.Desk in record {
   single : IsSingle steps;
   below : Below (65 * l.block) steps;
   parked : AllParked (D.standing l.fn.desk).seat.profile l.looked.unfit l.looked.directory (64 * l.block) steps;
+  few : length steps ≤ 65 * l.block;
   home : D.home l.desk ≡ D.home l.fn.desk;
 }

@@ -1,6 +1,6 @@
 use Rattle.std.proofs.Common.{◌/◌, arith, subst}
 use Rattle.pas_segregated.proofs.Starts.{covered_is}
-use Rattle.pas_segregated.proofs.Bits.{AreNear}
+use Rattle.pas_bits.proofs.MovedMasks.{AreNear}
 use Rattle.pas_segregated.proofs.slots.covered.Goals as goal
 
 pub returns : goal.returns

@@ -1,6 +1,6 @@
 use Rattle.std.proofs.Common.{◌/◌, subst}
 use Rattle.pas_segregated.proofs.Starts.{whole_is}
-use Rattle.pas_segregated.proofs.Bits.{BeginRuns}
+use Rattle.pas_bits.proofs.MovedMasks.{BeginRuns}
 use Rattle.pas_segregated.proofs.slots.whole_slots.Goals as goal
 
 pub returns : goal.returns

@@ -1,0 +1,154 @@
+-- One entry of a log.
+use Rattle.std.proofs.Common.{◌≡◌, ◌≢◌, ℕ, ◌+◌, ◌*◌, ◌/◌, ◌<◌, ◌≤◌, ◌==◌, ◌&&◌, Bool, true, false, if◌then◌else◌, List, [], ◌∷◌, ◌++◌, inl, refl, ap, sym, ◌∙◌, subst, arith}
+use Rattle.std.proofs.lemmas.List.{append-nil}
+use Rattle.std.proofs.lemmas.Bool.{eq-eqb, and_from}
+use Rattle.std.proofs.lemmas.Bool.Decides.{nat_tests}
+use Rattle.pas_profile.specs.Directories.{directory_read}
+use Rattle.pas_profile.specs.Lives.{live_word}
+use Rattle.pas_profile.specs.declared.name.Name.{Name}
+use Rattle.pas_profile.specs.declared.profile.Profile.{Profile}
+use Rattle.pas_profile.specs.declared.event.Event.{Event}
+use Rattle.pas_profile.specs.Runs.{in_run, meets_page, grain_of}
+use Rattle.pas_profile.proofs.Runs.{to_run}
+use Rattle.pas_steps.specs.declared.step.Made.{Made}
+use Rattle.pas_steps.specs.declared.step.Step.TheVariants.{End}
+use Rattle.pas_steps.specs.Views.{View, Stays, Ends, held_after, holds, epoch_of, or_zero}
+use Rattle.pas_steps.specs.Allowed.{IsEpochKnown}
+use Rattle.pas_steps.specs.Calls.{Leads, AnyView, nothing, Does, Calls}
+use Rattle.pas_steps.specs.Kinds.{Only}
+use Rattle.pas_steps.specs.Events.{events_by, with_event, reason_of}
+use Rattle.pas_steps.specs.Desks.{Standing, made, Adds}
+use Rattle.pas_steps.proofs.Apart.{only_within, only_both, epoch_same, events_same}
+use Rattle.pas_steps.proofs.Adding.{adds_under}
+use Rattle.pas_steps.proofs.Called.{call_then}
+use Rattle.pas_steps.proofs.Calls.{leads_as, leads_then, nothing_then, end_fails, end_succeeds, end_later, ends_back, EndsBlock, unexamined_over}
+use Rattle.pas_free_log.specs.Conditions.{IsNameOf, KnowsEpoch, MayEnd}
+use Rattle.pas_free_log.specs.Stamps.{stamps_by, page_count, pages_met, stamps_with}
+use Rattle.pas_free_log.specs.Frames.{putting_back, ending, PutsBack}
+use Rattle.pas_free_log.specs.Endings.{guess_by, is_of, EndSteps, EndsName}
+use Rattle.pas_free_log.specs.Returns.{MayReturn, ReturnsRun}
+use Rattle.pas_free_log.specs.Flushes.{event_for, EndsEntry}
+use Rattle.pas_free_log.specs.declared.ending.Outcome.TheVariants.{Ended, Refused}
+use Rattle.pas_free_log.proofs.Blocks.{count_some}
+use Rattle.pas_free_log.proofs.Stamped.{stamps_append, no_stamps}
+use Rattle.pas_free_log.proofs.Tries.{first_look, AreIdle, trying, refusal, success, not_live, tries_idle}
+
+-- the steps of an end: idle ones, and the last try
+abbrev pub ending_steps : Name → ℕ → ℕ → List Made → List Made
+ending_steps name guess a pre = made (End name guess) a ∷ pre
+
+-- ---- a name that was refused
+refused_event : (k : ℕ) (name : Name) (guess a read : ℕ) (pre : List Made) (v : View) → AreIdle pre → a ≢ live_word name.turn guess → is_of name a ≡ false → read ≡ a → events_by k v (ending_steps name guess a pre) ≡ event_for k (epoch_of v) name (Refused read) ∷ []
+refused_event k name guess a read pre v idle ne is same =
+    ap (λ o. with_event o (events_by k v pre)) (refusal k (epoch_of (pre ++ v)) name guess a ne is)
+    ∙ ap (λ es. Event.Reject k name (reason_of name a) ∷ es) (idle.events k v) ∙ ap (λ n. Event.Reject k name (reason_of name n) ∷ []) (sym same)
+
+pub entry_refused : {σ σ1 : Standing} (name : Name) (read : ℕ) → IsNameOf σ.seat.profile name → EndsName name σ σ1 (Refused read) → EndsEntry name σ σ1
+entry_refused {σ} {σ1} name read named e =
+    let o = e.order in
+    let pre = o.before ++ first_look name o.deed in
+    let steps : List Made = ending_steps name o.guess o.answer pre in
+    let idle : AreIdle pre = tries_idle name o.deed (guess_by (directory_read o.deed)) o.guess o.before o.tries in
+    let ne = not_live name o.guess o.answer named.turn o.comes_to.0 in
+    record {
+      outcome = Refused read;
+      steps = steps;
+      calls = record { adds = adds_under (subst (λ s. Adds σ σ1 (λ v l. KnowsEpoch v) s) o.steps_are e.adds) (λ v l stood met. met.epoch); leads = leads_as (nothing_then (idle.does σ.seat.profile) (end_fails σ.seat.profile name o.guess o.answer ne)) (λ v met. tt) (λ v w met d. d) };
+      kinds = (refl, only_within trying ending pre refl idle.kinds);
+      order = record { ends = steps; order = subst (λ s. EndSteps name (Refused read) s) o.steps_are e.order; after = []; returns = refl; steps_are = refl };
+      event = λ v. refused_event σ.seat.actor name o.guess o.answer read pre v idle ne o.comes_to.0 o.comes_to.1;
+      stamps = λ v. no_stamps trying refl v pre idle.kinds;
+    }
+
+-- ---- a block that ended
+ended_held : (t inside : Bool) (held : Bool) (g : ℕ) → t ≡ true → inside ≡ true → held_after (if t && inside then Ends g else Stays) held ≡ true
+ended_held t inside held g a b = ap (λ x. held_after (if x && inside then Ends g else Stays) held) a ∙ ap (λ x. held_after (if x then Ends g else Stays) held) b
+
+pub may_return : (name : Name) (guess a : ℕ) (pre : List Made) (v : View) → AreIdle pre → a ≡ live_word name.turn guess → MayEnd v → MayReturn (grain_of name) guess (ending_steps name guess a pre ++ v)
+may_return name guess a pre v idle live met = record {
+  held = λ x inside. ended_held (a == live_word name.turn guess) (in_run (grain_of name) guess x) (holds (pre ++ v) x) (grain_of name) (eq-eqb a (live_word name.turn guess) live) inside;
+  ended = λ page meets. inl (and_from (a == live_word name.turn guess) (meets_page (grain_of name) guess page) (eq-eqb a (live_word name.turn guess) live) meets);
+  examined = λ page meets. unexamined_over trying refl page pre v idle.kinds (met.examined page);
+  epoch = subst IsEpochKnown (sym (epoch_same trying refl pre v idle.kinds)) met.epoch;
+}
+
+-- ---- what it does
+-- the tries and the end
+ends_block : (f : Profile) (name : Name) (guess a : ℕ) (pre : List Made) → AreIdle pre → a ≡ live_word name.turn guess → Leads f AnyView (EndsBlock (grain_of name) guess) (ending_steps name guess a pre)
+ends_block f name guess a pre idle live = leads_then (EndsBlock (grain_of name) guess) (idle.does f) (end_succeeds f name guess a live) (λ v w met d. tt)
+    (λ v w u d e. end_later (grain_of name) guess d e)
+
+-- each page that the run meets is one of its pages
+page_of_run : (g n page : ℕ) → 1 ≤ n → meets_page g n page ≡ true → in_run (g / 256) (page_count g n) page ≡ true
+page_of_run g n page some meets =
+    let low : g < 256 * page + 256 = grind (arith, nat_tests, meets) in
+    let high : 256 * page < g + n = grind (arith, nat_tests, meets) in
+    let c = count_some g n some in
+    to_run (g / 256) (page_count g n) page (omega (arith, low)) (omega (arith, c, low, high))
+
+ended_event : (k : ℕ) (name : Name) (guess a : ℕ) (pre after : List Made) (v : View) → AreIdle pre → a ≡ live_word name.turn guess → Only putting_back after → events_by k v (after ++ ending_steps name guess a pre) ≡ Event.End k name (epoch_of v) ∷ []
+ended_event k name guess a pre after v idle live kinds =
+    events_same putting_back refl k v after (ending_steps name guess a pre) kinds
+    ∙ ap (λ o. with_event o (events_by k v pre)) (success k (epoch_of (pre ++ v)) name guess a live)
+    ∙ ap (λ es. Event.End k name (epoch_of (pre ++ v)) ∷ es) (idle.events k v)
+    ∙ ap (λ o. Event.End k name (or_zero o) ∷ []) (epoch_same trying refl pre v idle.kinds)
+
+ended_stamps : (name : Name) (guess a : ℕ) (pre after : List Made) (v : View) → AreIdle pre → PutsBack (grain_of name) guess after → stamps_by v (after ++ ending_steps name guess a pre) ≡ stamps_with (epoch_of v) (pages_met (grain_of name) guess)
+ended_stamps name guess a pre after v idle back =
+    stamps_append v after (ending_steps name guess a pre)
+    ∙ ap (λ s. s ++ stamps_by v pre) (back.stamps (ending_steps name guess a pre ++ v))
+    ∙ ap (λ s. stamps_with (epoch_of (pre ++ v)) (pages_met (grain_of name) guess) ++ s) (no_stamps trying refl v pre idle.kinds)
+    ∙ append-nil (stamps_with (epoch_of (pre ++ v)) (pages_met (grain_of name) guess))
+    ∙ ap (λ o. stamps_with (or_zero o) (pages_met (grain_of name) guess)) (epoch_same trying refl pre v idle.kinds)
+
+-- the end, with its parts
+pub record IsEnded (name : Name) (grains : ℕ) (σ σ1 : Standing) : Type 0 where
+  pub guess : ℕ
+  pub answer : ℕ
+  pub pre : List Made
+  pub idle : AreIdle pre
+  pub live : answer ≡ live_word name.turn guess
+  pub length_is : grains ≡ guess
+  pub some : 1 ≤ guess
+  pub calls : Calls σ σ1 MayEnd (λ v w. EndsBlock (grain_of name) grains v w × MayReturn (grain_of name) grains w) (ending_steps name guess answer pre)
+  pub order : EndSteps name (Ended grains) (ending_steps name guess answer pre)
+
+pub is_ended : {σ σ1 : Standing} (name : Name) (grains : ℕ) → EndsName name σ σ1 (Ended grains) → IsEnded name grains σ σ1
+is_ended {σ} {σ1} name grains e =
+    let o = e.order in
+    let pre = o.before ++ first_look name o.deed in
+    let idle : AreIdle pre = tries_idle name o.deed (guess_by (directory_read o.deed)) o.guess o.before o.tries in
+    record {
+      guess = o.guess;
+      answer = o.answer;
+      pre = pre;
+      idle = idle;
+      live = o.comes_to.0;
+      length_is = o.comes_to.1;
+      some = subst (λ n. 1 ≤ n) o.comes_to.1 e.of_region.some;
+      calls = record {
+        adds = adds_under (subst (λ s. Adds σ σ1 (λ v l. KnowsEpoch v) s) o.steps_are e.adds) (λ v l stood met. met.epoch);
+        leads = record {
+          from = λ v met agreed. subst (λ n. EndsBlock (grain_of name) n v (ending_steps name o.guess o.answer pre ++ v) × MayReturn (grain_of name) n (ending_steps name o.guess o.answer pre ++ v)) (sym o.comes_to.1)
+              ((ends_block σ.seat.profile name o.guess o.answer pre idle o.comes_to.0).from v tt agreed, may_return name o.guess o.answer pre v idle o.comes_to.0 met);
+        };
+      };
+      order = subst (λ s. EndSteps name (Ended grains) s) o.steps_are e.order;
+    }
+
+-- whoever ended a block and put its grains back is as before
+pub entry_ended : {σ σ1 σ2 : Standing} (name : Name) (grains : ℕ) → IsEnded name grains σ σ1 → ReturnsRun (grain_of name) grains σ1 σ2 → EndsEntry name σ σ2
+entry_ended {σ} {σ1} {σ2} name grains e r =
+    let g = grain_of name in
+    let ends : List Made = ending_steps name e.guess e.answer e.pre in
+    let some : 1 ≤ grains = subst (λ n. 1 ≤ n) (sym e.length_is) e.some in
+    let back : PutsBack g e.guess r.steps = subst (λ n. PutsBack g n r.steps) e.length_is r.back in
+    record {
+      outcome = Ended grains;
+      steps = r.steps ++ ends;
+      calls = call_then (Does nothing) e.calls r.calls (λ v met q. q.1) (λ v met q b. ends_back g grains (in_run (g / 256) (page_count g grains)) q.0 b (λ page. page_of_run g grains page some));
+      kinds = only_both ending r.steps ends (only_within putting_back ending r.steps refl r.back.kinds) (refl, only_within trying ending e.pre refl e.idle.kinds);
+      order = record { ends = ends; order = e.order; after = r.steps; returns = r.order; steps_are = refl };
+      event = λ v. ended_event σ.seat.actor name e.guess e.answer e.pre r.steps v e.idle e.live r.back.kinds;
+      stamps = λ v. ended_stamps name e.guess e.answer e.pre r.steps v e.idle back ∙ ap (λ n. stamps_with (epoch_of v) (pages_met (grain_of name) n)) (sym e.length_is);
+    }

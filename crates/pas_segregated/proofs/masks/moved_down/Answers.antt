@@ -1,7 +1,0 @@
-use Rattle.std.proofs.Common.{arith}
-use Rattle.pas_segregated.proofs.Bits.{moved_down_is}
-use Rattle.pas_segregated.proofs.masks.moved_down.Goals as goal
-
-pub returns : goal.returns
-returns c = moved_down_is c.args.mask.now c.window.result c.window-2.result c.window-3.result c.window-4.result c.args.by (omega arith) c.requires.by.1
-    c.window.ensures c.window-2.ensures c.window-3.ensures c.window-4.ensures
