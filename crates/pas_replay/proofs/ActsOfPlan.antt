@@ -3,8 +3,8 @@ use Rattle.std.proofs.Common.{◌≡◌, ℕ, ◌+◌, ◌≤◌, List, [], ◌�
 use Rattle.std.specs.Prelude.{map}
 use Rattle.pas_trace.specs.EveryPlan.{all_ops}
 use Rattle.pas_trace.specs.declared.plan.Op.{Op}
-use Rattle.pas_replay.specs.Acts.{Act, Operates, Wakes, Ends, active_from, numbers_from, phase_acts, close_acts, acts_from, acts_of}
-use Rattle.pas_replay.specs.Fit.{ops_in, marks_in}
+use Rattle.pas_answers.specs.Acts.{Act, Operates, Wakes, Ends, active_from, numbers_from, phase_acts, close_acts, acts_from, acts_of}
+use Rattle.pas_answers.specs.Fit.{ops_in, marks_in}
 
 -- the acts have these operations, and so many marks
 pub record Have (acts : List Act) (ops : List Op) (marks : ℕ) : Type 0 where

@@ -15,9 +15,9 @@ use Rattle.pas_trace.specs.declared.plan.Op.{Op}
 use Rattle.pas_trace.specs.declared.plan.Plan.{Plan}
 use Rattle.pas_trace.proofs.EveryPlan.{every_plan}
 use Rattle.pas_cache.specs.Serves.{IsClassRoute}
-use Rattle.pas_replay.specs.Acts.{acts_of}
-use Rattle.pas_replay.specs.Fit.{IsFitWhat, AreFit, cost_of_what, costs_of, own_costs_of, ops_in, marks_in, IsBelow, AreBelow, AllBelow}
-use Rattle.pas_replay.specs.Replays.{IsBuiltWhat, AreBuilt, AllBuilt, phases_of, IsBuilt}
+use Rattle.pas_answers.specs.Acts.{acts_of}
+use Rattle.pas_answers.specs.Fit.{IsFitWhat, AreFit, cost_of_what, costs_of, own_costs_of, ops_in, marks_in, IsBelow, AreBelow, AllBelow}
+use Rattle.pas_answers.specs.Replays.{IsBuiltWhat, AreBuilt, AllBuilt, phases_of, IsBuilt}
 use Rattle.pas_replay.proofs.ActsOfPlan.{acts_ops, acts_marks}
 use Rattle.pas_replay.proofs.NameLimits.{below_all}
 

@@ -8,7 +8,7 @@ use Rattle.pas_trace.specs.declared.plan.What.{What}
 use Rattle.pas_trace.specs.declared.plan.What.TheVariants.{Alloc}
 use Rattle.pas_trace.specs.declared.plan.Op.{Op}
 use Rattle.pas_trace.specs.declared.plan.Phase.{Phase}
-use Rattle.pas_replay.specs.Fit.{IsBelow, AreBelow, AllBelow}
+use Rattle.pas_answers.specs.Fit.{IsBelow, AreBelow, AllBelow}
 
 below_both : (limit : ℕ) (xs ys : List Op) → AreBelow limit xs → AreBelow limit ys → AreBelow limit (xs ++ ys)
 below_both limit [] ys a b = b

@@ -12,7 +12,7 @@ use Rattle.pas_plain.specs.Plain.{PassStands, pass_for, passes_from}
 use Rattle.pas_plain.specs.declared.pass.PlainPass.{PlainPass}
 use Rattle.pas_cache.specs.Caches.{Cached, cached}
 use Rattle.pas_replay.specs.Kits.{AreRooms, AreThreads, IsFresh}
-use Rattle.pas_replay.specs.Replays.{empty_cache}
+use Rattle.pas_answers.specs.Replays.{empty_cache}
 use Rattle.pas_replay.specs.declared.seats.Thread.{Thread}
 
 -- the element that was put at the end

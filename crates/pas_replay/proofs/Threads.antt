@@ -5,10 +5,10 @@ use Rattle.pas_profile.specs.declared.profile.Profile.{Profile}
 use Rattle.pas_steps.specs.Lists.{Whole, part}
 use Rattle.pas_cache.specs.Caches.{Cached, cached}
 use Rattle.pas_trace.specs.declared.plan.Op.{Op}
-use Rattle.pas_replay.specs.Acts.{Act}
-use Rattle.pas_replay.specs.Answers.{Caches, with_cache}
-use Rattle.pas_replay.specs.Calls.{owed_events}
-use Rattle.pas_replay.specs.Fit.{own_costs_of, ops_in}
+use Rattle.pas_answers.specs.Acts.{Act}
+use Rattle.pas_answers.specs.Answers.{Caches, with_cache}
+use Rattle.pas_answers.specs.Calls.{owed_events}
+use Rattle.pas_answers.specs.Fit.{own_costs_of, ops_in}
 use Rattle.pas_replay.specs.Sessions.{ThreadStands, AllStand, AreCaches, owed_from}
 use Rattle.pas_replay.specs.declared.seats.Thread.{Thread}
 

@@ -7,9 +7,9 @@ use Rattle.pas_trace.specs.declared.plan.Plan.{Plan}
 use Rattle.pas_plain.specs.Plain.{profile_of, actor_of, room_of_pass, RegionStands, PassStands}
 use Rattle.pas_plain.specs.declared.pass.PlainPass.{PlainPass}
 use Rattle.pas_cache.specs.Caches.{cached}
-use Rattle.pas_replay.specs.Fit.{AllBelow}
-use Rattle.pas_replay.specs.Names.{block_named, names_held}
-use Rattle.pas_replay.specs.Replays.{phases_of, empty_cache}
+use Rattle.pas_answers.specs.Fit.{AllBelow}
+use Rattle.pas_answers.specs.Names.{block_named, names_held}
+use Rattle.pas_answers.specs.Replays.{phases_of, empty_cache}
 use Rattle.pas_replay.specs.declared.kit.PlainKit.{PlainKit}
 use Rattle.pas_replay.specs.declared.seats.Thread.{Thread}
 

@@ -1,6 +1,6 @@
 -- What stands between two acts of a replay: one legal list, for which the region and the pass of each thread stand, and at whose end each thread
 -- is at rest with its cache.
-use Rattle.std.specs.Prelude.{ℕ, ◌+◌, ◌-◌, ◌<◌, ◌≤◌, ◌≡◌, ◌⊎◌, true, List, [], ◌∷◌, length, Option, Some, slice_index_or}
+use Rattle.std.specs.Prelude.{ℕ, ◌+◌, ◌-◌, ◌<◌, ◌≤◌, ◌≡◌, ◌⊎◌, true, List, [], ◌∷◌, ◌++◌, length, Option, Some, slice_index_or}
 use Rattle.pas_profile.specs.declared.profile.Profile.{Profile}
 use Rattle.pas_profile.specs.declared.name.Block.{Block}
 use Rattle.pas_steps.specs.Events.{events_of}
@@ -15,14 +15,14 @@ use Rattle.pas_report.specs.Rooms.{records_in, room_of}
 use Rattle.pas_report.specs.declared.record.Record.{Record}
 use Rattle.pas_report.specs.declared.records.Records.{Records}
 use Rattle.pas_cache.specs.Caches.{cached, AtRest}
-use Rattle.pas_replay.specs.Acts.{Act}
-use Rattle.pas_replay.specs.Answers.{Named, Caches, standing_for, Follows}
-use Rattle.pas_replay.specs.Calls.{Tells, HasTurns, owed_events}
-use Rattle.pas_replay.specs.Fit.{AreFit, costs_of, own_costs_of, ops_in, marks_in}
+use Rattle.pas_answers.specs.Acts.{Act}
+use Rattle.pas_answers.specs.Answers.{progress, Named, Caches, standing_for, Follows}
+use Rattle.pas_answers.specs.Calls.{Tells, HasTurns, owed_events}
+use Rattle.pas_answers.specs.Fit.{AreFit, costs_of, own_costs_of, ops_in, marks_in}
 use Rattle.pas_trace.specs.EveryPlan.{is_asked}
-use Rattle.pas_replay.specs.Names.{names_held}
-use Rattle.pas_replay.specs.Replays.{empty_caches}
-use Rattle.pas_replay.specs.declared.names.Names.{Names}
+use Rattle.pas_answers.specs.Names.{names_held}
+use Rattle.pas_answers.specs.Replays.{at_start, empty_caches}
+use Rattle.pas_answers.specs.declared.names.Names.{Names}
 use Rattle.pas_replay.specs.declared.seats.Thread.{Thread}
 
 -- ---- a thread at its desk
@@ -97,4 +97,24 @@ pub record SoFar (f : Profile) (all acts : List Act) (region : PlainRegion) (thr
   pub caches : Caches
   pub caches_are : AreCaches caches 1 threads
   pub spare : length (records_in out) + (owed_from f whole 1 threads + (costs_of (ops_in acts) + marks_in acts)) ≤ room_of out
-  pub answers : (l : Whole) (rs : List Record) → Follows f acts names caches whole (records_in out) l rs → Follows f all [] empty_caches [] [] l rs
+  pub answers : (l : Whole) (rs : List Record) → Follows f acts (progress names caches whole (records_in out)) l rs → Follows f all at_start l rs
+
+-- ---- the replay goes on
+-- what a replay has in hand between two acts
+pub record Hand : Type 0 where
+  pub region : PlainRegion
+  pub threads : List Thread
+  pub table : Names
+  pub out : Records
+
+abbrev pub hand : PlainRegion → List Thread → Names → Records → Hand
+hand region threads table out = record { region = region; threads = threads; table = table; out = out }
+
+-- in some replay these acts come next
+abbrev pub MayGoOn : List Act → Hand → Type 0
+MayGoOn acts h = (all : List Act) × (more : List Act) × SoFar (profile_of h.region) all (acts ++ more) h.region h.threads h.table h.out
+
+-- in each replay in which these acts come next, those after them are left afterwards
+abbrev pub GoesOn : List Act → Hand → Hand → Type 0
+GoesOn acts before after = (all more : List Act) → SoFar (profile_of before.region) all (acts ++ more) before.region before.threads before.table before.out
+    → SoFar (profile_of before.region) all more after.region after.threads after.table after.out

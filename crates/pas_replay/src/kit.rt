@@ -7,12 +7,12 @@ ghost use Rattle.pas_trace.specs.Plans.{IsPlanOf};
 ghost use Rattle.pas_utility.specs.Pools.{threads_of, room_of as room_for, has_seat};
 ghost use Rattle.pas_plain.specs.Plain.{passes_from};
 ghost use Rattle.pas_report.specs.Rooms.{records_in, room_of};
-ghost use Rattle.pas_replay.specs.Replays.{phases_of, IsBuilt, Shows};
-ghost use Rattle.pas_replay.specs.Ways.{InOrder};
+ghost use Rattle.pas_answers.specs.Replays.{phases_of, IsBuilt, Shows};
+ghost use Rattle.pas_answers.specs.Ways.{InOrder};
 ghost use Rattle.pas_replay.specs.Kits.{AreRooms, AreThreads, IsKitOf};
 
 use crate::limits::names_limit;
-use crate::names::Names;
+use pas_answers::names::Names;
 use crate::order::replay;
 use crate::seats::Thread;
 use pas_cache::ThreadCache;

@@ -1,14 +1,9 @@
-//! The replay of a plan in the order of the text.
+//! The replay of a plan in the order of the text, over a plain region.
 #![tactic(auto)]
 
-mod answering;
-mod buildable;
 mod kit;
 mod limits;
-pub mod names;
 mod order;
 mod seats;
 
-pub use answering::answer;
-pub use buildable::is_built;
 pub use kit::{PlainKit, in_order};

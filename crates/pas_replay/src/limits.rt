@@ -1,7 +1,7 @@
 //! How long the table of names has to be.
 ghost use Rattle.std.specs.Prelude.{◌≤◌, map};
 ghost use Rattle.pas_trace.specs.Plans.{ops_of};
-ghost use Rattle.pas_replay.specs.Fit.{IsBelow, AreBelow, AllBelow};
+ghost use Rattle.pas_answers.specs.Fit.{IsBelow, AreBelow, AllBelow};
 
 use pas_trace::{Op, Phase, What};
 

@@ -3,12 +3,12 @@ ghost use Rattle.std.specs.Prelude.{◌≡◌, ◌+◌, ◌<◌, ◌++◌, ◌^�
 ghost use Rattle.pas_bits.specs.Masks.{is_set};
 ghost use Rattle.pas_trace.specs.Plans.{ops_of};
 ghost use Rattle.pas_plain.specs.Plain.{profile_of};
-ghost use Rattle.pas_replay.specs.Acts.{Act, Wakes, Operates, Ends, is_active, active_from, numbers_from, acts_of};
-ghost use Rattle.pas_replay.specs.Sessions.{SoFar, AreEmpty};
+ghost use Rattle.pas_answers.specs.Acts.{Act, Wakes, Operates, Ends, is_active, active_from, numbers_from, acts_of};
+ghost use Rattle.pas_replay.specs.Sessions.{SoFar, AreEmpty, MayGoOn, GoesOn, hand};
 ghost use Rattle.pas_report.specs.declared.records.Records.{Records as TheRecords};
-ghost use Rattle.pas_replay.specs.declared.names.Names.{Names as TheNames};
+ghost use Rattle.pas_answers.specs.declared.names.Names.{Names as TheNames};
 
-use crate::names::Names;
+use pas_answers::names::Names;
 use crate::seats::{Thread, operate, wake};
 use pas_bits::Mask4;
 use pas_plain::PlainRegion;
@@ -32,10 +32,9 @@ fn active(ops: &[Op]) -> Mask4
 /// Each thread that has an operation in the phase reads the epoch.
 fn wake_all(region: PlainRegion, threads: &mut [Thread], ops: &[Op]) -> PlainRegion
     requires few { length threads.old < 32 }
-    requires so_far { (all : List Act) × (more : List Act) × (table : TheNames) × (out : TheRecords)
-        × SoFar (profile_of region) all (map Wakes (active_from 1 (length threads.old) ops.now) ++ more) region threads.old table out }
-    ensures so_far { (all more : List Act) (table : TheNames) (out : TheRecords) → SoFar (profile_of region) all (map Wakes (active_from 1 (length threads.old) ops.now) ++ more) region threads.old table out
-        → SoFar (profile_of region) all more result threads.new table out }
+    requires so_far { (table : TheNames) × (out : TheRecords) × MayGoOn (map Wakes (active_from 1 (length threads.old) ops.now)) (hand region threads.old table out) }
+    ensures so_far { (table : TheNames) (out : TheRecords)
+        → GoesOn (map Wakes (active_from 1 (length threads.old) ops.now)) (hand region threads.old table out) (hand result threads.new table out) }
 {
     let mut region = region;
     let awake = active(ops);
@@ -55,9 +54,8 @@ fn perform(
     ops: &[Op],
     out: &mut Records,
 ) -> PlainRegion
-    requires so_far { (all : List Act) × (more : List Act) × SoFar (profile_of region) all (map Operates ops.now ++ more) region threads.old names.old out.old }
-    ensures so_far { (all more : List Act) → SoFar (profile_of region) all (map Operates ops.now ++ more) region threads.old names.old out.old
-        → SoFar (profile_of region) all more result threads.new names.new out.new }
+    requires so_far { MayGoOn (map Operates ops.now) (hand region threads.old names.old out.old) }
+    ensures so_far { GoesOn (map Operates ops.now) (hand region threads.old names.old out.old) (hand result threads.new names.new out.new) }
 {
     let mut region = region;
     for op in ops {
@@ -79,9 +77,8 @@ fn stop_all(
     names: &mut Names,
     out: &mut Records,
 ) -> PlainRegion
-    requires so_far { (all : List Act) × (more : List Act) × SoFar (profile_of region) all (map Ends (numbers_from 1 (length threads.old)) ++ more) region threads.old names.old out.old }
-    ensures so_far { (all more : List Act) → SoFar (profile_of region) all (map Ends (numbers_from 1 (length threads.old)) ++ more) region threads.old names.old out.old
-        → SoFar (profile_of region) all more result threads.new names.new out.new }
+    requires so_far { MayGoOn (map Ends (numbers_from 1 (length threads.old))) (hand region threads.old names.old out.old) }
+    ensures so_far { GoesOn (map Ends (numbers_from 1 (length threads.old))) (hand region threads.old names.old out.old) (hand result threads.new names.new out.new) }
     ensures empty { AreEmpty threads.new }
 {
     let mut region = region;

@@ -5,13 +5,13 @@ ghost use Rattle.pas_plain.specs.Plain.{profile_of};
 ghost use Rattle.pas_plain.specs.Seats.{standing_of};
 ghost use Rattle.pas_cache.specs.Caches.{cached, AtRest};
 ghost use Rattle.pas_cache.specs.Calls.{Begins};
-ghost use Rattle.pas_replay.specs.Calls.{HasTurns, MayAnswer, Answers};
-ghost use Rattle.pas_replay.specs.Fit.{IsFitWhat};
-ghost use Rattle.pas_replay.specs.Names.{names_held};
+ghost use Rattle.pas_answers.specs.Calls.{works, HasTurns, MayAnswer, Answers};
+ghost use Rattle.pas_answers.specs.Fit.{IsFitWhat};
+ghost use Rattle.pas_answers.specs.Names.{names_held};
 ghost use Rattle.pas_replay.specs.Sessions.{IsSeated, MaySit, Turn, spare_at};
 
-use crate::answering::answer;
-use crate::names::Names;
+use pas_answers::answer;
+use pas_answers::names::Names;
 use pas_cache::ThreadCache;
 use pas_plain::{PlainDesk, PlainPass, PlainRegion};
 use pas_report::Records;
@@ -68,7 +68,7 @@ pub(crate) fn operate(
     requires fit { (asked : List ℕ) × IsFitWhat (profile_of region) (names_held names.old) asked what }
     requires turns { HasTurns names.old }
     requires can { MaySit region thread.old (λ desk. CanCall (standing_of desk) (λ v l. MayAnswer (profile_of region) (cached thread.old.cache) what (spare_at desk) out.old v)) }
-    ensures turn { Turn region result thread.old thread.new (Answers what names.old names.new (cached thread.old.cache) (cached thread.new.cache) out.old out.new) }
+    ensures turn { Turn region result thread.old thread.new (Answers what (works names.old (cached thread.old.cache)) (works names.new (cached thread.new.cache)) out.old out.new) }
     ensures turns { HasTurns names.new }
 {
     let mut desk = sit(region, thread);

@@ -14,7 +14,7 @@ use Rattle.pas_core.specs.Good.{word_of_deed, word_of_backed, IsLifeOf, AgreesWi
 use Rattle.pas_report.specs.Reports.{total_line}
 use Rattle.pas_report.specs.Rests.{HasWords}
 use Rattle.pas_report.specs.Counts.{grains_in, life_of_grain, totals_by_words}
-use Rattle.pas_report.proofs.Totalled.{IsLifeWord, AreTotalled, bare_life, live_life, line_totalled}
+use Rattle.pas_report.proofs.Totals.{IsLifeWord, AreTotalled, bare_life, live_life, line_totalled}
 
 -- ---- one word
 deed_agrees : (d : Option Directory) (word : ℕ) → word ≡ word_of_deed d → not (word == 0) ≡ has_deed d

@@ -1,8 +1,9 @@
 pub mod Texts
 pub mod Counting
 pub mod MarkBits
-pub mod Totalled
+pub mod Totals
 pub mod Agreeing
 pub mod Pieces
-pub mod Resting
-pub mod Placing
+pub mod ReportOfWords
+pub mod TrueMarks
+pub mod Showable

@@ -14,7 +14,6 @@ use Rattle.pas_steps.specs.Views.{View, Gets, Stays, held_after, holds, has_righ
 use Rattle.pas_steps.specs.Agreement.{Agrees, Agreed}
 use Rattle.pas_steps.specs.Calls.{Kept, Gained, later, now, Does, grain_fate}
 use Rattle.pas_steps.specs.Past.{Since}
-use Rattle.pas_steps.specs.Desks.{made}
 use Rattle.pas_steps.specs.declared.step.Made.{Made}
 use Rattle.pas_steps.specs.declared.step.Step.TheVariants.{Take}
 use Rattle.pas_steps.specs.Evidence.{ReadsFree, ShowsHere, KeptHere}
@@ -75,7 +74,7 @@ module _ (page : ℕ) (usable answers got : Mask4) (got_is : (g : ℕ) → is_se
 
   got_more : (n g : ℕ) → (got_below n g || got_here n g) ≡ got_below (n + 1) g
   got_more n g = ap (λ t. got_below n g || t) (one_test (n == g / 64 % 4) (page == g / 256) (has_bit (slice_index usable.0 n) (g % 64)) (has_bit (slice_index answers.0 n) (g % 64)) (is_set got (g % 256)) (λ e.
-          let at : n ≡ g / 64 % 4 = eqb-true n (g / 64 % 4) e in got_is (g % 256) ∙ sym (ap (λ a. a && is_set usable (g % 256)) (bit_of answers n g at)) ∙ ap (λ u. has_bit (slice_index answers.0 n) (g % 64) && u) (sym (bit_of usable n g at))))
+      let at : n ≡ g / 64 % 4 = eqb-true n (g / 64 % 4) e in got_is (g % 256) ∙ sym (ap (λ a. a && is_set usable (g % 256)) (bit_of answers n g at)) ∙ ap (λ u. has_bit (slice_index answers.0 n) (g % 64) && u) (sym (bit_of usable n g at))))
       ∙ shared (nat_lt (g / 64 % 4) n) (n == g / 64 % 4) (masked page got g) ∙ ap (λ t. t && masked page got g) (sym (next_word (g / 64 % 4) n))
 
   -- a grain that wasn't got is held as before
@@ -142,8 +141,12 @@ module _ (page : ℕ) (usable answers : Mask4) where
       ∙ none g at (omega (arith, ge))
 
   shows : (n : ℕ) (before : List Made) → n < 4 → has_right before page ≡ true → NoneFrom n before → ShowsHere page n (is_set answers) (word_take page usable answers n) before
-  shows n before lt right none = (ReadsFree.Takes (slice_index usable.0 n), right, λ b hb.
-      at_word answers n b hb ∙ or_none (has_bit (slice_index answers.0 n) b) (holds before (page * 256 + (64 * n + b))) (none (page * 256 + (64 * n + b)) (omega (arith, lt, hb)) (omega (arith, lt, hb))))
+  shows n before lt right none = (
+    ReadsFree.Takes (slice_index usable.0 n),
+    right,
+    λ b hb.
+        at_word answers n b hb ∙ or_none (has_bit (slice_index answers.0 n) b) (holds before (page * 256 + (64 * n + b))) (none (page * 256 + (64 * n + b)) (omega (arith, lt, hb)) (omega (arith, lt, hb))),
+  )
 
   pub takes_read : (before : List Made) → has_right before page ≡ true → HoldsNone page before → (word : ℕ) → word < 4 → Since (ShowsHere page word (is_set answers)) (KeptHere page) (four_takes page usable answers ++ before)
   takes_read before right none =

@@ -1,8 +1,5 @@
 pub mod Starts
-mod TakesOnce
 mod GiveBack
-mod StopSlots
 mod FourTakes
 mod WholeSlots
 mod Serve
-mod Refilled

@@ -1,6 +1,6 @@
--- The two ends of a page that was to serve: its slots are kept, or it was left.
-use Rattle.std.proofs.Common.{◌≡◌, ◌≢◌, ℕ, ◌+◌, ◌*◌, ◌/◌, ◌%◌, ◌<◌, ◌≤◌, ◌==◌, Bool, true, false, ◌&&◌, if◌then◌else◌, List, [], ◌∷◌, ◌++◌, length, None, Some, refl, ap, sym, ◌∙◌, subst, arith, inl, inr, append_assoc, length-append, true≢false}
-use Rattle.std.proofs.lemmas.Bool.{eq-eqb, eqb-true, and_from, and_right}
+-- The two ends of a page that was to serve: its slots are kept, or it was left. And what a search found, as slots.
+use Rattle.std.proofs.Common.{◌≡◌, ℕ, ◌+◌, ◌*◌, ◌/◌, ◌%◌, ◌≤◌, ◌==◌, Bool, true, false, if◌then◌else◌, List, [], ◌∷◌, ◌++◌, length, None, Some, refl, ap, sym, ◌∙◌, subst, arith, inl, inr, append_assoc, length-append, true≢false, Ok, Err}
+use Rattle.std.proofs.lemmas.Bool.{eq-eqb, eqb-true, and_from, and_right, and_parts, false_from_ne_true}
 use Rattle.pas_profile.specs.Classes.{IsClass, IsSlotStart}
 use Rattle.pas_profile.specs.Directories.{IsKind}
 use Rattle.pas_profile.specs.declared.directory.Directory.{Directory}
@@ -11,16 +11,15 @@ use Rattle.pas_profile.proofs.Codecs.{deed_word_of-positive}
 use Rattle.pas_profile.proofs.ClassFacts.{class_grains_positive, slot_lt}
 use Rattle.pas_bits.specs.declared.mask.Mask4.{Mask4}
 use Rattle.pas_bits.specs.Masks.{is_set, IsEmpty, HasMember}
-use Rattle.pas_rights.specs.Leaves.{MayLeave, LosesHere, Leaves}
+use Rattle.pas_rights.specs.Leaves.{MayLeave, Leaves}
 use Rattle.pas_rights.proofs.Debts.{leave_lacks}
-use Rattle.pas_steps.specs.Views.{View, holds, holds_on, has_right, known_deed, knows_backed, KnowsDeed}
+use Rattle.pas_steps.specs.Views.{View, holds, holds_on, has_right, knows_backed, KnowsDeed}
 use Rattle.pas_steps.specs.Events.{with_event, events_by}
-use Rattle.pas_steps.specs.Allowed.{Allowed, HoldsOn}
-use Rattle.pas_steps.specs.Agreement.{Agreed}
-use Rattle.pas_steps.specs.Calls.{Calls, Kept, Gained, Lost, later, now, ClearAfter, Does}
+use Rattle.pas_steps.specs.Allowed.{Allowed}
+use Rattle.pas_steps.specs.Calls.{Calls, Kept, Gained, Lost, now, ClearAfter, Does, Leads}
 use Rattle.pas_steps.specs.Desks.{Standing, CanCall, made, Makes, CanMake}
-use Rattle.pas_steps.specs.Evidence.{Readings, ShowsHere, KeptHere, GetsHere, UnfitHere}
-use Rattle.pas_steps.specs.Frames.{AreLooks, IsOnPage}
+use Rattle.pas_steps.specs.Evidence.{ShowsHere, KeptHere, GetsHere, UnfitHere}
+use Rattle.pas_steps.specs.Frames.{IsOnPage}
 use Rattle.pas_steps.specs.Kinds.{Backing, Only, kind_of, place_of, is_in, showing, returning}
 use Rattle.pas_steps.specs.Past.{Once, Since}
 use Rattle.pas_steps.specs.declared.step.Made.{Made}
@@ -31,15 +30,20 @@ use Rattle.pas_steps.proofs.Backed.{any_from}
 use Rattle.pas_steps.proofs.Called.{call_then, call_knows, call_step, next_call, next_step}
 use Rattle.pas_steps.proofs.Calls.{does_then, does_as, does_idly, returns_are, kept_first}
 use Rattle.pas_steps.proofs.Frames.{rights_stay}
-use Rattle.pas_steps.proofs.Kept.{looks_read, right_reads, returns_on}
+use Rattle.pas_steps.proofs.Kept.{returns_on}
 use Rattle.pas_steps.proofs.Past.{once_later, always_both, always_map}
 use Rattle.pas_search.specs.Kinds.{serving, IsQuiet, AreQuiet}
-use Rattle.pas_search.specs.Serving.{MayServe, HoldsNone, IsUntouched, GotBefore, right_of, served, Keeps, LeavesPage, KeepsPage, ServeSteps, ServesPage}
+use Rattle.pas_search.specs.Serving.{MayServe, right_of, Keeps, KeepsPage, ServesPage}
 use Rattle.pas_search.proofs.ForBackEnds.{unfit_left}
-use Rattle.pas_segregated.specs.Masks.{start_of}
+use Rattle.pas_segregated.specs.Masks.{start_of, AreStarts}
 use Rattle.pas_segregated.specs.Takes.{in_starts, slots_on, GetsGrains, NoSlot, taking_slots, TakesSlots, exclusive}
 use Rattle.pas_segregated.proofs.Starts.{start_at, start_below}
 use Rattle.pas_segregated.proofs.GiveBack.{kept_kept}
+use Rattle.pas_profile.specs.declared.event.NoRoom.{NoRoom}
+use Rattle.pas_search.specs.Searches.{MaySearch, Searches}
+use Rattle.pas_search.specs.declared.serving.Served.{Served}
+use Rattle.pas_segregated.specs.Stops.{class_directory}
+use Rattle.pas_segregated.specs.Refills.{slots_found, GetsSlots, Refills}
 
 since_once : (P Q : Made → List Made → Type 0) (xs : List Made) → Since P Q xs → Once P xs
 since_once P Q [] h = h
@@ -176,3 +180,48 @@ module _ (class page : ℕ) (d : Directory) (is : IsClass class) (starts : Mask4
           outcome = keeps;
         };
       }
+
+-- ---- what a search found
+module _ (heap class : ℕ) {tells : Bool} {σ σ' : Standing} (served : Served Mask4) (searches : Searches (exclusive class) tells (class_directory heap class) σ σ' (Ok served)) where
+  found_starts : AreStarts class served.found
+  found_starts s h = ((searches.outcome.serves.are s).0 h).0
+
+  gets_slots : Leads σ.seat.profile (MaySearch (class_directory heap class)) (GetsSlots (class_directory heap class) (slots_found heap class served)) searches.steps
+  gets_slots = record {
+    from = λ v met agreed.
+        let keeps = searches.outcome.keeps.from v met agreed in let does = keeps.keeps.does in let shows = searches.outcome.shows in record {
+          does = record { held = does.held; right = does.right; clear = does.clear; backed = does.backed };
+          apart = λ g here.
+              let parts = and_parts (served.page == g / 256) (is_set served.found (start_of class (g % 256))) here in
+              false_from_ne_true (holds v g) (λ held. true≢false (sym (shows.took (g % 256) (omega arith) parts.1) ∙ shows.held.from v met agreed g (sym (eqb-true served.page (g / 256) parts.0)) held));
+          backed = keeps.keeps.backed;
+          may_stop = record {
+            clear = record { on = λ page. does.clear page (met.clear.on page) };
+            held = λ g here. does.held g ∙ ap (λ t. now (if t then Gained else Kept) (holds v g)) here;
+            deed = keeps.deed;
+            right = λ has. does.right served.page ∙ ap (λ t. now (if t then Gained else Kept) (has_right v served.page)) (eq-eqb served.page served.page refl);
+          };
+        };
+  }
+
+  pub refills_ok : Refills heap class tells σ σ' (Ok (slots_found heap class served))
+  refills_ok = record {
+    found = Ok served;
+    answer_is = refl;
+    searches = searches;
+    gives = record {
+      page = searches.outcome.page;
+      named = refl;
+      with_right = refl;
+      starts = found_starts;
+      some = searches.outcome.serves.some;
+      took = searches.outcome.serves;
+      gets = gets_slots;
+      choice = searches.outcome.choice;
+      few = searches.outcome.few;
+      events = searches.outcome.events;
+    };
+  }
+
+pub refills_err : (heap class : ℕ) {tells : Bool} {σ σ' : Standing} (room : NoRoom) → Searches (exclusive class) tells (class_directory heap class) σ σ' (Err room) → Refills heap class tells σ σ' (Err room)
+refills_err heap class room searches = record { found = Err room; answer_is = refl; searches = searches; gives = tt }

@@ -9,6 +9,7 @@ use Rattle.pas_profile.proofs.ClassFacts.{class_grains_positive, usable_grains_l
 use Rattle.pas_bits.specs.declared.mask.Mask4.{Mask4}
 use Rattle.pas_bits.specs.Masks.{is_set, AreSet, IsNear}
 use Rattle.pas_bits.proofs.Words.{none_past}
+use Rattle.pas_steps.proofs.Sets.{same_truth}
 use Rattle.pas_segregated.specs.Masks.{is_start, start_of, AreStarts}
 
 -- ---- the first grains of all slots
@@ -63,15 +64,9 @@ start_below class g is =
     let inside : g % class_grains class < class_grains class = mod-lt g (omega (arith, some)) in
     (omega (arith, whole), omega (arith, whole, inside))
 
--- two answers, each of which brings the other
-pub alike : (x y : Bool) → (x ≡ true → y ≡ true) → (y ≡ true → x ≡ true) → x ≡ y
-alike true y f h = sym (f refl)
-alike false true f h = h refl
-alike false false f h = refl
-
 pub covered_is : (class : ℕ) (starts near : Mask4) → IsClass class → length near.0 ≡ 4 → AreStarts class starts → ((g : ℕ) → g < 256 → IsTrue (is_set near g) ↔ IsNear starts g (class_grains class)) → (g : ℕ) → is_set near g ≡ is_set starts (start_of class g)
 covered_is class starts near is long all spread g = elim (cases_lt g 256) [
-  | inl lt ↦ alike (is_set near g) (is_set starts (start_of class g))
+  | inl lt ↦ same_truth (is_set near g) (is_set starts (start_of class g))
       (λ h. let found = (spread g lt).0 h in ap (is_set starts) (start_at class found.0 g (all found.0 found.3) found.1 found.2) ∙ found.3)
       (λ h. let at = start_below class g is in (spread g lt).1 (start_of class g, at.0, at.1, h))
   | inr ge ↦ none_past near g long ge ∙ sym (false_from_ne_true (is_set starts (start_of class g)) (λ h.

@@ -1,15 +1,15 @@
 -- The slots that the takes of a page got whole, and the grains that are put back.
-use Rattle.std.proofs.Common.{◌≡◌, ℕ, ◌+◌, ◌*◌, ◌/◌, ◌%◌, ◌<◌, ◌≤◌, ◌==◌, ◌↔◌, IsTrue, Bool, true, false, not, ◌&&◌, ◌⊎◌, if◌then◌else◌, List, [], ◌∷◌, ◌++◌, length, refl, ap, sym, ◌∙◌, subst, arith, inl, inr, append_assoc, length-append, true≢false}
-use Rattle.std.proofs.lemmas.Bool.{cases_Bool, eq-eqb, and_parts, and_from, and_right, lt-ltb}
+use Rattle.std.proofs.Common.{◌≡◌, ℕ, ◌+◌, ◌/◌, ◌%◌, ◌<◌, ◌==◌, ◌↔◌, IsTrue, Bool, true, false, not, ◌&&◌, if◌then◌else◌, List, [], ◌∷◌, ◌++◌, refl, ap, sym, ◌∙◌, subst, arith, inl, inr, append_assoc, length-append}
+use Rattle.std.proofs.lemmas.Bool.{cases_Bool, and_parts, and_from, and_right, lt-ltb}
 use Rattle.pas_profile.specs.Classes.{IsClass, class_grains, usable_grains, is_usable, IsSlotStart}
 use Rattle.pas_profile.specs.declared.directory.Directory.{Directory}
 use Rattle.pas_profile.proofs.ClassFacts.{class_grains_le, usable_grains_le, first_slot}
 use Rattle.pas_bits.specs.declared.mask.Mask4.{Mask4}
-use Rattle.pas_bits.specs.Masks.{is_set, AreSet, IsEmpty, HasMember}
+use Rattle.pas_bits.specs.Masks.{is_set, AreSet, IsEmpty}
 use Rattle.pas_rights.specs.Puts.{masked}
-use Rattle.pas_steps.specs.Views.{View, holds, has_right, known_free, KnowsDeed}
+use Rattle.pas_steps.specs.Views.{View, holds, has_right}
 use Rattle.pas_steps.specs.Agreement.{Agreed}
-use Rattle.pas_steps.specs.Calls.{Calls, Kept, Gained, Lost, later, now, Does}
+use Rattle.pas_steps.specs.Calls.{Calls, Kept, Gained, Lost, later, now}
 use Rattle.pas_steps.specs.Past.{Since}
 use Rattle.pas_steps.specs.Frames.{IsOnPage, GivesUp, OnlyOn, KeepsRight}
 use Rattle.pas_steps.specs.Kinds.{Taking, Only}
@@ -22,13 +22,13 @@ use Rattle.pas_steps.proofs.Calls.{SameGrain, does_then, does_as}
 use Rattle.pas_steps.proofs.Called.{call_as, call_then, next_call}
 use Rattle.pas_steps.proofs.Frames.{rights_stay}
 use Rattle.pas_steps.proofs.Past.{always_both}
-use Rattle.pas_search.specs.Serving.{MayServe, HoldsNone, IsJustGot, GotBefore, ReadsNoneHeld}
+use Rattle.pas_search.specs.Serving.{MayServe, HoldsNone}
 use Rattle.pas_segregated.specs.Masks.{start_of}
-use Rattle.pas_segregated.specs.Returns.{MayGiveBack, giving_back, given_back, GivesBack}
+use Rattle.pas_segregated.specs.Returns.{MayGiveBack, giving_back, GivesBack}
 use Rattle.pas_segregated.specs.Takes.{four_takes, GetsGrains, taken, TakesUsable, AreFreeSlots, in_starts, slots_on, takes_since, taking_slots, TakesSlots}
 use Rattle.pas_segregated.proofs.Starts.{start_below}
 use Rattle.pas_segregated.proofs.FourTakes.{takes_leave, held_unread, first_free, takes_read, takes_count}
-use Rattle.pas_segregated.proofs.TakesOnce.{back_count, none_yet, back_holds, same_after, keeps_by}
+use Rattle.pas_segregated.proofs.GiveBack.{back_count, none_yet, back_holds, same_after, keeps_by}
 
 -- the starts are those of the slots all of whose grains are in the mask
 abbrev pub AreWhole : ℕ → Mask4 → Mask4 → Type 0
@@ -156,8 +156,15 @@ module _ (class page : ℕ) (d : Directory) (is : IsClass class) {σ σ1 : Stand
       answers = took.answers;
       are = free_slots;
       held = record { from = λ v met agreed. held_unread page took.usable took.answers got took.got_is σ.seat.profile v (agreed_later σ.seat.profile v back.steps first agreed) };
-      all_free = λ v agreed free. (0, omega arith, (free_slots 0).1 (first_slot class is, λ g lt low high.
-          first_free σ.seat.profile page took.usable took.answers v (agreed_later σ.seat.profile v back.steps first agreed) free g (let few = class_grains_le class is in omega (arith, high, few))));
+      all_free = λ v agreed free. (
+        0,
+        omega arith,
+        (free_slots 0).1 (
+          first_slot class is,
+          λ g lt low high.
+              first_free σ.seat.profile page took.usable took.answers v (agreed_later σ.seat.profile v back.steps first agreed) free g (let few = class_grains_le class is in omega (arith, high, few)),
+        ),
+      );
       keeps = always_both (λ m before. GivesUp page m.step → ⊥) (λ m before. GivesUp page m.step → ⊥) back.steps first (λ m before h. h) back_keeps (keeps_by page (Taking ∷ []) first refl first_kinds);
       takes = λ before newest. ap (takes_since page) (append_assoc back.steps first before) ∙ back_count page back.steps (first ++ before) back.kinds ∙ takes_count page took.usable took.answers before (none_yet page before newest);
       read = λ before met w lt. subst (Since (ShowsHere page w (is_set took.answers)) (KeptHere page)) (sym (append_assoc back.steps first before))

@@ -1,6 +1,6 @@
 -- Masks as sets of grains of a page, and the slots of a class in them.
-use Rattle.std.specs.Prelude.{ℕ, ◌+◌, ◌-◌, ◌*◌, ◌/◌, ◌%◌, ◌<◌, ◌≤◌, ◌≡◌, ◌==◌, nat_le, nat_lt, Bool, true, false, ◌&&◌, if◌then◌else◌}
-use Rattle.pas_profile.specs.Classes.{has_bit, class_grains, usable_grains, IsSlotStart}
+use Rattle.std.specs.Prelude.{ℕ, ◌+◌, ◌*◌, ◌/◌, ◌%◌, ◌≡◌, ◌==◌, nat_le, Bool, true, ◌&&◌}
+use Rattle.pas_profile.specs.Classes.{class_grains, usable_grains, IsSlotStart}
 use Rattle.pas_bits.specs.declared.mask.Mask4.{Mask4}
 use Rattle.pas_bits.specs.Masks.{is_set}
 

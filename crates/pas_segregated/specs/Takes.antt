@@ -1,15 +1,14 @@
 -- The slots of a page that are taken.
-use Rattle.std.specs.Prelude.{ℕ, ◌+◌, ◌*◌, ◌/◌, ◌%◌, ◌<◌, ◌≤◌, ◌≡◌, ◌==◌, ◌↔◌, IsTrue, Bool, true, false, ◌&&◌, if◌then◌else◌, List, [], ◌∷◌, ◌++◌, length, slice_index}
+use Rattle.std.specs.Prelude.{ℕ, ◌+◌, ◌/◌, ◌%◌, ◌<◌, ◌≤◌, ◌≡◌, ◌==◌, ◌↔◌, IsTrue, Bool, true, false, ◌&&◌, if◌then◌else◌, List, [], ◌∷◌, ◌++◌, length, slice_index}
 use Rattle.pas_profile.specs.Classes.{has_bit, is_usable, class_grains, IsSlotStart}
 use Rattle.pas_profile.specs.declared.directory.Directory.{Directory}
 use Rattle.pas_profile.specs.declared.directory.Kind.TheVariants as Kind
-use Rattle.pas_profile.specs.declared.profile.Profile.{Profile}
 use Rattle.pas_bits.specs.declared.mask.Mask4.{Mask4}
 use Rattle.pas_bits.specs.Masks.{is_set, IsEmpty, HasMember}
 use Rattle.pas_rights.specs.Puts.{masked}
 use Rattle.pas_steps.specs.Views.{View, holds, has_right, known_free}
 use Rattle.pas_steps.specs.Agreement.{Agreed}
-use Rattle.pas_steps.specs.Calls.{Calls, Leads, Effect, Kept, Gained, Does, AnyView}
+use Rattle.pas_steps.specs.Calls.{Calls, Leads, Effect, Kept, Gained, Does}
 use Rattle.pas_steps.specs.Past.{Since}
 use Rattle.pas_steps.specs.Frames.{OnlyOn, KeepsRight}
 use Rattle.pas_steps.specs.Kinds.{Kinds, Taking, Only}

@@ -6,7 +6,6 @@ ghost use Rattle.pas_segregated.specs.Masks.{is_start, start_of, AreStarts};
 
 use pas_bits::Mask4;
 use pas_profile::classes::class_size;
-use pas_profile::{Directory, Kind};
 
 /// Slots of one page that an actor holds and that no block covers yet.
 #[derive(Clone, Copy, Debug, PartialEq, Eq, Drop)]
@@ -30,21 +29,6 @@ impl Default for Slots {
             class: 0,
             starts: Mask4([0; 4]),
             right: false,
-        }
-    }
-}
-
-impl Slots {
-    ghost use Rattle.std.specs.Prelude.{◌≡◌};
-    ghost use Rattle.pas_segregated.specs.Stops.{directory_of};
-
-    /// The directory of the page.
-    pub fn directory(&self) -> Directory
-        ensures { result ≡ directory_of self.now }
-    {
-        Directory {
-            heap: self.heap,
-            kind: Kind::Class(self.class),
         }
     }
 }

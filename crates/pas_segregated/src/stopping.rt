@@ -8,7 +8,7 @@ ghost use Rattle.pas_segregated.specs.Stops.{directory_of, MayStop, MayStopAt, S
 
 use crate::putting::give_back;
 use crate::slots::{Slots, covered};
-use pas_profile::Directory;
+use pas_profile::{Directory, Kind};
 use pas_rights::leave;
 use pas_steps::Desk;
 
@@ -23,7 +23,10 @@ pub fn stop<D: Desk>(desk: &mut D, slots: Slots)
     ensures stops { Stops slots (D.standing desk.old) (D.standing desk.new) }
     ensures home { D.home desk.new ≡ D.home desk.old }
 {
-    let directory = slots.directory();
+    let directory = Directory {
+        heap: slots.heap,
+        kind: Kind::Class(slots.class),
+    };
     stop_on(desk, slots, directory);
 }
 

@@ -1,2 +1,2 @@
-pub mod Ending
-pub mod Shown
+pub mod Statuses
+pub mod Headline

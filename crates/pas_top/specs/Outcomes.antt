@@ -7,8 +7,8 @@ use Rattle.pas_report.specs.Rooms.{records_in}
 use Rattle.pas_report.specs.Lines.{lines_of, CanShow}
 use Rattle.pas_report.specs.Counts.{AreDeedWords, report_by_words}
 use Rattle.pas_report.specs.declared.record.Record.{Record}
-use Rattle.pas_replay.specs.Replays.{IsBuilt, Shows}
-use Rattle.pas_replay.specs.Ways.{InOrder}
+use Rattle.pas_answers.specs.Replays.{IsBuilt, Shows}
+use Rattle.pas_answers.specs.Ways.{InOrder}
 use Rattle.pas_top.specs.Outputs.{IsUnbuilt, not_built_text}
 use Rattle.pas_top.specs.Faults.{fault_text}
 use Rattle.pas_top.specs.declared.outcome.Outcome.{Outcome}

@@ -9,8 +9,8 @@ use Rattle.pas_report.specs.Lines.{lines_of}
 use Rattle.pas_report.specs.Marks.{marks_after}
 use Rattle.pas_report.specs.Reports.{report_text}
 use Rattle.pas_report.specs.declared.record.Record.{Record}
-use Rattle.pas_replay.specs.Replays.{IsBuilt, IsReplay}
-use Rattle.pas_replay.specs.Ways.{Way, InOrder}
+use Rattle.pas_answers.specs.Replays.{IsBuilt, IsReplay}
+use Rattle.pas_answers.specs.Ways.{Way, InOrder}
 use Rattle.pas_io.specs.Inputs.{Takes}
 use Rattle.pas_io.specs.Told.{Rose, Writes, WritesFront}
 use Rattle.pas_top.specs.Faults.{fault_text}

@@ -5,7 +5,7 @@ ghost use Rattle.pas_io.specs.Told.{Rose};
 ghost use Rattle.pas_trace.specs.Plans.{IsPlanOf, parsed};
 ghost use Rattle.pas_trace.specs.declared.plan.Plan.{Plan};
 ghost use Rattle.pas_trace.specs.declared.fault.TraceFault.{TraceFault};
-ghost use Rattle.pas_replay.specs.Replays.{IsBuilt};
+ghost use Rattle.pas_answers.specs.Replays.{IsBuilt};
 ghost use Rattle.pas_top.specs.Outputs.{most_bytes, texts_of, IsOrder, IsStatus, IsWriting, IsWritten, HasFailed, IsCutOff, IsUnbuilt};
 
 use crate::outcome::{outcome_of, tell, tell_outcome};

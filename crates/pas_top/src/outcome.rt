@@ -6,10 +6,11 @@ ghost use Rattle.pas_top.specs.Faults.{fault_text, reason_text};
 ghost use Rattle.pas_top.specs.Outcomes.{IsOutcome, IsShown, IsWritable, outcome_status, outcome_text, shown_text};
 
 use crate::NOT_BUILT;
+use pas_answers::is_built;
 use pas_io::whole::write_all;
 use pas_io::{Failed, Sink};
 use pas_profile::NoMemory;
-use pas_replay::{PlainKit, in_order, is_built};
+use pas_replay::{PlainKit, in_order};
 use pas_report::text::push_field;
 use pas_report::{Line, Records, report, write_lines};
 use pas_steps::State;

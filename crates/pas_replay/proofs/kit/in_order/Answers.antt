@@ -4,7 +4,7 @@ use Rattle.std.proofs.lemmas.List.{length-map}
 use Rattle.pas_trace.specs.Plans.{ops_of}
 use Rattle.pas_trace.specs.declared.plan.Phase.{Phase}
 use Rattle.pas_replay.proofs.BuiltPlans.{plan_phases, plan_valid}
-use Rattle.pas_replay.proofs.Showing.{start, shows, handed, handed_back}
+use Rattle.pas_replay.proofs.StartAndEnd.{start, shows, handed, handed_back}
 use Rattle.pas_replay.specs.declared.seats.Thread.{Thread}
 use Rattle.pas_replay.proofs.kit.in_order.Goals as goal
 

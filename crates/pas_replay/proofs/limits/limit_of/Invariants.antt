@@ -1,6 +1,6 @@
 -- the names so far are below the limit
 use Rattle.std.proofs.Common.{◌≤◌, take}
-use Rattle.pas_replay.specs.Fit.{AreBelow}
+use Rattle.pas_answers.specs.Fit.{AreBelow}
 use Rattle.pas_replay.proofs.limits.limit_of.Given as goal
 
 abbrev pub invariant-loop-op : goal.invariant-loop-op

@@ -1,6 +1,6 @@
 use Rattle.std.proofs.Common.{◌∙◌, ap, subst}
 use Rattle.pas_trace.specs.Plans.{ops_of}
-use Rattle.pas_replay.specs.Fit.{AreBelow}
+use Rattle.pas_answers.specs.Fit.{AreBelow}
 use Rattle.pas_replay.proofs.NameLimits.{phase_limit}
 use Rattle.pas_replay.proofs.limits.names_limit.Goals as goal
 

@@ -2,8 +2,8 @@ use Rattle.std.proofs.Common.{◌∙◌, ◌-◌, slice_index_or, ap, arith}
 use Rattle.pas_trace.specs.declared.plan.Op.{Op}
 use Rattle.pas_trace.specs.declared.plan.What.TheVariants.{Alloc}
 use Rattle.pas_plain.specs.Plain.{profile_of}
-use Rattle.pas_replay.proofs.Operating.{operation, fit_now, known_now, can_operate, operated}
-use Rattle.pas_replay.proofs.Ordering.{op_next, op_last, place_of}
+use Rattle.pas_replay.proofs.Operations.{operation, fit_now, known_now, can_operate, operated}
+use Rattle.pas_replay.proofs.ActsInOrder.{op_next, op_last, place_of}
 use Rattle.pas_replay.proofs.order.perform.Goals as goal
 
 abbrev first : Op

@@ -2,7 +2,7 @@
 use Rattle.std.proofs.Common.{◌++◌, List, drop}
 use Rattle.std.specs.Prelude.{map}
 use Rattle.pas_plain.specs.Plain.{profile_of}
-use Rattle.pas_replay.specs.Acts.{Act, Operates}
+use Rattle.pas_answers.specs.Acts.{Act, Operates}
 use Rattle.pas_replay.specs.Sessions.{SoFar}
 use Rattle.pas_replay.proofs.order.perform.Given as goal
 

@@ -2,9 +2,9 @@ use Rattle.std.proofs.Common.{◌≡◌, ◌+◌, ◌++◌, ◌∙◌, [], lengt
 use Rattle.std.specs.Prelude.{map}
 use Rattle.pas_trace.specs.Plans.{ops_of}
 use Rattle.pas_plain.specs.Plain.{profile_of}
-use Rattle.pas_replay.specs.Acts.{Operates, phase_acts, acts_of}
+use Rattle.pas_answers.specs.Acts.{Operates, phase_acts, acts_of}
 use Rattle.pas_replay.specs.Sessions.{SoFar}
-use Rattle.pas_replay.proofs.Ordering.{acts_left, phase_next, begins_first, marked, wakes_first, same_phase, at_region, of_profile, after_close, ends_here, ends_first}
+use Rattle.pas_replay.proofs.ActsInOrder.{acts_left, phase_next, begins_first, marked, wakes_first, same_phase, at_region, of_profile, after_close, ends_here, ends_first}
 use Rattle.pas_replay.proofs.order.replay.Goals as goal
 use Rattle.pas_replay.proofs.order.replay.Goals.{then-number-gt-UNMARKED, else-number-gt-UNMARKED}
 
@@ -32,7 +32,7 @@ wake_all-region-requires-clause-so_far c =
           rw (w.out-is) is
     ] in
     let wakes = wakes_first threads ops left c.loop-phase.auto.threads here in
-    (all, map Operates ops ++ left, c.loop-phase.names, c.if-number-gt-UNMARKED.out, wakes)
+    (c.loop-phase.names, c.if-number-gt-UNMARKED.out, (all, map Operates ops ++ left, wakes))
 
 pub perform-region-requires : goal.perform-region-requires
 perform-region-requires c =
@@ -55,7 +55,7 @@ perform-region-requires c =
           rw (w.out-is) is
     ] in
     let wakes = wakes_first threads ops left c.loop-phase.auto.threads here in
-    let woke = of_profile here.profile_is (c.wake_all-region.ensures.so_far all (map Operates ops ++ left) c.loop-phase.names c.if-number-gt-UNMARKED.out wakes) in
+    let woke = of_profile here.profile_is (c.wake_all-region.ensures.so_far c.loop-phase.names c.if-number-gt-UNMARKED.out all (map Operates ops ++ left) wakes) in
     let again : c.as_slice.result.now ≡ c.as_slice-in-loop-phase.result.now = c.as_slice.ensures ∙ sym c.as_slice-in-loop-phase.ensures in
     let ready = at_region (same_phase c.as_slice.result.now c.as_slice-in-loop-phase.result.now left again woke) in
     record { so_far = (all, left, ready) }
@@ -81,7 +81,7 @@ loop-phase-preserved c =
           rw (w.out-is) is
     ] in
     let wakes = wakes_first threads ops left c.loop-phase.auto.threads here in
-    let woke = of_profile here.profile_is (c.wake_all-region.ensures.so_far all (map Operates ops ++ left) c.loop-phase.names c.if-number-gt-UNMARKED.out wakes) in
+    let woke = of_profile here.profile_is (c.wake_all-region.ensures.so_far c.loop-phase.names c.if-number-gt-UNMARKED.out all (map Operates ops ++ left) wakes) in
     let again : c.as_slice.result.now ≡ c.as_slice-in-loop-phase.result.now = c.as_slice.ensures ∙ sym c.as_slice-in-loop-phase.ensures in
     let ready = at_region (same_phase c.as_slice.result.now c.as_slice-in-loop-phase.result.now left again woke) in
     record {

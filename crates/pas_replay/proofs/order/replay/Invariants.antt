@@ -3,9 +3,9 @@ use Rattle.std.proofs.Common.{◌≡◌, drop, length}
 use Rattle.std.specs.Prelude.{map}
 use Rattle.pas_trace.specs.Plans.{ops_of}
 use Rattle.pas_plain.specs.Plain.{profile_of}
-use Rattle.pas_replay.specs.Acts.{acts_of}
+use Rattle.pas_answers.specs.Acts.{acts_of}
 use Rattle.pas_replay.specs.Sessions.{SoFar}
-use Rattle.pas_replay.proofs.Ordering.{acts_left}
+use Rattle.pas_replay.proofs.ActsInOrder.{acts_left}
 use Rattle.pas_replay.proofs.order.replay.Given as goal
 
 abbrev pub invariant-loop-phase : goal.invariant-loop-phase

@@ -1,10 +1,10 @@
 use Rattle.std.proofs.Common.{◌∙◌, ◌+◌, ◌-◌, ◌++◌, ℕ, List, length, ap, subst, arith}
 use Rattle.std.specs.Prelude.{map}
 use Rattle.pas_plain.specs.Plain.{profile_of}
-use Rattle.pas_replay.specs.Acts.{Act, Ends, numbers_from}
+use Rattle.pas_answers.specs.Acts.{Act, Ends, numbers_from}
 use Rattle.pas_replay.specs.Sessions.{SoFar}
-use Rattle.pas_replay.proofs.Operating.{ending, can_operate, operated, emptied, empty_next}
-use Rattle.pas_replay.proofs.Ordering.{end_next, end_last}
+use Rattle.pas_replay.proofs.Operations.{ending, can_operate, operated, emptied, empty_next}
+use Rattle.pas_replay.proofs.ActsInOrder.{end_next, end_last}
 use Rattle.pas_replay.proofs.order.stop_all.Goals as goal
 
 pub loop-index-init : goal.loop-index-init

@@ -3,7 +3,7 @@ use Rattle.std.proofs.Common.{◌≡◌, ◌+◌, ◌-◌, ◌<◌, ◌++◌, �
 use Rattle.std.specs.Prelude.{map}
 use Rattle.pas_plain.specs.Plain.{profile_of}
 use Rattle.pas_cache.specs.Caches.{cached}
-use Rattle.pas_replay.specs.Acts.{Act, Ends, numbers_from}
+use Rattle.pas_answers.specs.Acts.{Act, Ends, numbers_from}
 use Rattle.pas_replay.specs.Sessions.{SoFar}
 use Rattle.pas_replay.specs.declared.seats.Thread.{Thread}
 use Rattle.pas_replay.proofs.order.stop_all.Given as goal

@@ -2,10 +2,10 @@ use Rattle.std.proofs.Common.{◌≡◌, ◌∙◌, ◌+◌, ◌-◌, ◌++◌, 
 use Rattle.std.specs.Prelude.{map}
 use Rattle.pas_plain.specs.Plain.{profile_of}
 use Rattle.pas_report.specs.declared.records.Records.{Records}
-use Rattle.pas_replay.specs.Acts.{Act, Wakes, is_active, active_from}
+use Rattle.pas_answers.specs.Acts.{Act, Wakes, is_active, active_from}
 use Rattle.pas_replay.specs.Sessions.{SoFar}
-use Rattle.pas_replay.specs.declared.names.Names.{Names}
-use Rattle.pas_replay.proofs.Ordering.{can_wake, woken, wake_next, wake_not, wake_last}
+use Rattle.pas_answers.specs.declared.names.Names.{Names}
+use Rattle.pas_replay.proofs.ActsInOrder.{can_wake, woken, wake_next, wake_not, wake_last}
 use Rattle.pas_replay.proofs.order.wake_all.Goals as goal
 use Rattle.pas_replay.proofs.order.wake_all.Goals.{then-get, else-get}
 
@@ -18,8 +18,8 @@ wake-region-requires c =
     let count = c.loop-index.auto.threads in
     let on : is_active c.args.ops.now (c.loop-index.index + 1) ≡ true = sym (c.active-awake.ensures (c.loop-index.index + 1)) ∙ sym c.get.ensures ∙ c.if-get.true in
     can_wake (c.loop-index.index + 1) c.loop-index.index c.index-threads-index.result (omega arith) (omega (arith, test, count))
-    (wake_next c.requires.so_far.1 (c.loop-index.index + 1) (length c.args.threads.now - c.loop-index.index) (length c.args.threads.now - (c.loop-index.index + 1)) c.args.ops.now (omega (arith, test)) on
-    (c.loop-index.invariant.far c.requires.so_far.0 c.requires.so_far.1 c.requires.so_far.2 c.requires.so_far.3 c.requires.so_far.4))
+    (wake_next c.requires.so_far.2.1 (c.loop-index.index + 1) (length c.args.threads.now - c.loop-index.index) (length c.args.threads.now - (c.loop-index.index + 1)) c.args.ops.now (omega (arith, test)) on
+    (c.loop-index.invariant.far c.requires.so_far.2.0 c.requires.so_far.2.1 c.requires.so_far.0 c.requires.so_far.1 c.requires.so_far.2.2))
 
 pub loop-index-preserved : goal.loop-index-preserved
 loop-index-preserved c = elim c.if-get.branch [
@@ -42,7 +42,7 @@ loop-index-preserved c = elim c.if-get.branch [
 
 pub returns : goal.returns
 returns c = record {
-  so_far = λ all more table out so.
+  so_far = λ table out all more so.
       let test = c.loop-index-test.false in
       wake_last more (c.loop-index.index + 1) (length c.args.threads.now - c.loop-index.index) c.args.ops.now (omega (arith, test)) (c.loop-index.invariant.far all more table out so);
 }

@@ -3,9 +3,9 @@ use Rattle.std.proofs.Common.{◌+◌, ◌-◌, ◌++◌, List, length}
 use Rattle.std.specs.Prelude.{map}
 use Rattle.pas_plain.specs.Plain.{profile_of}
 use Rattle.pas_report.specs.declared.records.Records.{Records}
-use Rattle.pas_replay.specs.Acts.{Act, Wakes, active_from}
+use Rattle.pas_answers.specs.Acts.{Act, Wakes, active_from}
 use Rattle.pas_replay.specs.Sessions.{SoFar}
-use Rattle.pas_replay.specs.declared.names.Names.{Names}
+use Rattle.pas_answers.specs.declared.names.Names.{Names}
 use Rattle.pas_replay.proofs.order.wake_all.Given as goal
 
 abbrev pub invariant-loop-index : goal.invariant-loop-index

@@ -1,4 +1,4 @@
-use Rattle.pas_report.proofs.Resting.{are_deed_words, marks_are, nobody_holds, report_agrees}
+use Rattle.pas_report.proofs.ReportOfWords.{are_deed_words, marks_are, nobody_holds, report_agrees}
 use Rattle.pas_report.proofs.laws.reports_agree.Goals as goal
 
 pub returns-clause-deeds : goal.returns-clause-deeds

@@ -1,5 +1,4 @@
-use Rattle.pas_segregated.specs.Stops.{AreGrains}
-use Rattle.pas_segregated.proofs.StopSlots.{can_give_back, can_leave, stops_without, stops_with}
+use Rattle.pas_segregated.proofs.GiveBack.{can_give_back, can_leave, stops_without, stops_with}
 use Rattle.pas_segregated.proofs.stopping.stop_on.Goals as goal
 
 pub give_back-requires-clause-can : goal.give_back-requires-clause-can

@@ -1,4 +1,4 @@
-use Rattle.pas_top.proofs.Ending.{only_word}
+use Rattle.pas_top.proofs.Statuses.{only_word}
 use Rattle.pas_top.proofs.main_call.is_order.Goals as goal
 
 pub returns-in-len1 : goal.returns-in-len1

@@ -2,8 +2,8 @@ use Rattle.std.proofs.Common.{rules, refl, ◌∙◌, subst, inl, inr, arith}
 use Rattle.pas_io.specs.Inputs.{IsInput}
 use Rattle.pas_top.specs.Outcomes.{outcome_status, outcome_text}
 use Rattle.pas_top.specs.Outputs.{IsOrder, most_bytes, texts_of, usage_text, too_long_text}
-use Rattle.pas_top.proofs.Ending.{cut_off, not_four, written}
-use Rattle.pas_top.proofs.Shown.{can_write, outcome_output, status_not_four}
+use Rattle.pas_top.proofs.Statuses.{cut_off, not_four, written}
+use Rattle.pas_top.proofs.Headline.{can_write, outcome_output, status_not_four}
 use Rattle.pas_top.proofs.main_call.pas_main.Goals as goal
 
 pub returns-then-not-is_order-clause-sink_failed : goal.returns-then-not-is_order-clause-sink_failed

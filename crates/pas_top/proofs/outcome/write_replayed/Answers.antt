@@ -6,7 +6,7 @@ use Rattle.pas_report.specs.Lines.{lines_of}
 use Rattle.pas_report.specs.Rooms.{records_in}
 use Rattle.pas_report.proofs.Pieces.{front_longer}
 use Rattle.pas_top.specs.Outcomes.{shown_text}
-use Rattle.pas_top.proofs.Ending.{front_after}
+use Rattle.pas_top.proofs.Statuses.{front_after}
 use Rattle.pas_top.proofs.outcome.write_replayed.Goals as goal
 
 pub returns-in_err-write_lines-clause-front : goal.returns-in_err-write_lines-clause-front

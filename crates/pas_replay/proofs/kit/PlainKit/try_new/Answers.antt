@@ -2,8 +2,8 @@ use Rattle.std.proofs.Common.{◌+◌, length, slice_index, Some, ap, sym, ◌�
 use Rattle.std.specs.Prelude.{map}
 use Rattle.pas_trace.specs.Plans.{ops_of}
 use Rattle.pas_utility.specs.Pools.{room_of}
-use Rattle.pas_replay.specs.Fit.{AllBelow}
-use Rattle.pas_replay.specs.Replays.{phases_of}
+use Rattle.pas_answers.specs.Fit.{AllBelow}
+use Rattle.pas_answers.specs.Replays.{phases_of}
 use Rattle.pas_replay.proofs.Opening.{passes_count, fresh_thread}
 use Rattle.pas_replay.proofs.BuiltPlans.{plan_valid, plan_bounds}
 use Rattle.pas_replay.proofs.kit.PlainKit.try_new.Goals as goal

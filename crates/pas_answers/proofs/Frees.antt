@@ -1,0 +1,166 @@
+-- What frees, flushes and stops promise.
+use Rattle.std.proofs.Common.{◌≡◌, ℕ, ◌+◌, ◌≤◌, ◌++◌, List, [], ◌∷◌, length, Option, Some, None, Result, Ok, Err, inl, inr, refl, ap, sym, ◌∙◌, subst, arith, length-append, nat_le}
+use Rattle.std.specs.Prelude.{MatchResult}
+use Rattle.pas_profile.specs.declared.name.Name.{Name}
+use Rattle.pas_profile.specs.declared.name.Block.{Block}
+use Rattle.pas_profile.specs.declared.profile.Profile.{Profile}
+use Rattle.pas_profile.specs.declared.event.Event.{Event}
+use Rattle.pas_profile.specs.declared.event.FreeFault.{FreeFault}
+use Rattle.pas_steps.specs.declared.step.Made.{Made}
+use Rattle.pas_steps.specs.Views.{View}
+use Rattle.pas_steps.specs.Events.{events_by}
+use Rattle.pas_steps.specs.Agreement.{Agreed}
+use Rattle.pas_steps.specs.Desks.{Standing}
+use Rattle.pas_steps.proofs.Adding.{adds_none}
+use Rattle.pas_steps.proofs.Frames.{events_append}
+use Rattle.pas_trace.specs.declared.plan.What.{What}
+use Rattle.pas_trace.specs.declared.plan.What.TheVariants.{Free, Raw, Flush, Stop}
+use Rattle.pas_report.specs.declared.record.Said.{Said}
+use Rattle.pas_cache.specs.Caches.{Cached}
+use Rattle.pas_cache.specs.Calls.{TakesName, RefusesName, Frees, FlushesLog, StopsCache}
+use Rattle.pas_answers.specs.Answers.{Named, standing_for, said_of_fault, IsFreedBy}
+use Rattle.pas_answers.specs.Names.{block_named}
+use Rattle.pas_answers.specs.Calls.{works, block_behind, Tells, IsKnown, owed_events, Performs, FreesOne}
+use Rattle.pas_answers.specs.declared.names.Names.{Names}
+use Rattle.pas_answers.proofs.OwedEvents.{emptied_events, full_events}
+use Rattle.pas_steps.proofs.Unknown.{unknown_stays}
+
+-- ---- a free
+-- the events of the flush of a full log, and what is owed with the name in the log
+taken_few : (f : Profile) (k : ℕ) (c c' : Cached) (name : Name) (steps : List Made) (v : View) → TakesName f k c c' name steps → Agreed f v steps
+    → length (events_by k v steps) + 0 + owed_events f c' (steps ++ v) ≤ 1 + owed_events f c v
+taken_few f k c c' name steps v takes agreed =
+    let events = full_events (nat_le 64 (length c.log)) k c.log takes.logs.kept steps v takes.logs.emptied in
+    let log = ap (λ (ns : List Name). length ns) takes.logs.log_is ∙ length-append takes.logs.kept (name ∷ []) in
+    let unknown = unknown_stays f steps v agreed in
+    omega (arith, events, log, unknown)
+
+refused_few : (f : Profile) (k : ℕ) (c c' : Cached) (name : Name) (steps : List Made) (fault : FreeFault) (v : View) → RefusesName f c c' name steps fault
+    → length (events_by k v steps) + 1 + owed_events f c' (steps ++ v) ≤ 1 + owed_events f c v
+refused_few f k c c' name steps fault v refuses =
+    let none = ap (λ (ms : List Made). length (events_by k v ms)) refuses.no_steps in
+    let owed : owed_events f c' (steps ++ v) ≡ owed_events f c v = ap (λ (d : Cached). owed_events f d (steps ++ v)) refuses.cache ∙ ap (λ (ms : List Made). owed_events f c (ms ++ v)) refuses.no_steps in
+    omega (arith, none, owed)
+
+pub frees_taken : {σ σ' : Standing} {answer : Result (Unit {0}) FreeFault} (name : Name) (c c' : Cached) (done : Unit {0}) → Frees name c c' σ σ' answer → answer ≡ Ok done → FreesOne name c c' σ σ' None
+frees_taken {σ} {σ'} {answer} name c c' done frees is =
+    let takes : TakesName σ.seat.profile σ.seat.actor c c' name frees.steps
+    = subst (λ a. MatchResult a (λ done. TakesName σ.seat.profile σ.seat.actor c c' name frees.steps) (RefusesName σ.seat.profile c c' name frees.steps)) is frees.outcome in
+    record {
+      steps = frees.steps;
+      adds = frees.calls.adds;
+      rest = frees.calls.leads.from;
+      few = λ v rest agreed. taken_few σ.seat.profile σ.seat.actor c c' name frees.steps v takes agreed;
+      freed = inl (takes, refl);
+    }
+
+pub frees_refused : {σ σ' : Standing} {answer : Result (Unit {0}) FreeFault} (name : Name) (c c' : Cached) (fault : FreeFault) → Frees name c c' σ σ' answer → answer ≡ Err fault → FreesOne name c c' σ σ' (Some (said_of_fault name fault))
+frees_refused {σ} {σ'} {answer} name c c' fault frees is =
+    let refuses : RefusesName σ.seat.profile c c' name frees.steps fault
+    = subst (λ a. MatchResult a (λ done. TakesName σ.seat.profile σ.seat.actor c c' name frees.steps) (RefusesName σ.seat.profile c c' name frees.steps)) is frees.outcome in
+    record {
+      steps = frees.steps;
+      adds = frees.calls.adds;
+      rest = frees.calls.leads.from;
+      few = λ v rest agreed. refused_few σ.seat.profile σ.seat.actor c c' name frees.steps fault v refuses;
+      freed = inr (fault, refuses, refl);
+    }
+
+-- ---- a free by a name of the trace
+-- a name that was asked for stands for what the table says
+behind : (o : Option (Option Block)) (b : Option Block) → o ≡ Some b → block_behind o ≡ b
+behind o b is = ap block_behind is
+
+stands_for : (table : Names) (names : List Named) (name : ℕ) (block : Option Block) → block_named table name ≡ block → Tells table names → IsKnown names (Free name) → standing_for names name ≡ Some block
+stands_for table names name block named tells known =
+    known.1 ∙ ap (λ b. Some b) (sym (behind (standing_for names name) known.0 known.1) ∙ sym (tells name) ∙ named)
+
+pub performs_free : {σ σ' : Standing} {said : Option Said} (what : What) (table : Names) (c c' : Cached) (name : ℕ) (block : Block) → what ≡ Free name → block_named table name ≡ Some block → FreesOne block.name c c' σ σ' said → Performs what (works table c) (works table c') σ σ' said
+performs_free {σ} {σ'} {said} what table c c' name block is named frees = subst (λ w. Performs w (works table c) (works table c') σ σ' said) (sym is) record {
+  steps = frees.steps;
+  adds = frees.adds;
+  rest = frees.rest;
+  few = frees.few;
+  answered = λ v l stood rest names tells known. (
+    names,
+    tells,
+    (subst (λ o. IsFreedBy σ.seat.profile σ.seat.actor c c' name o frees.steps said) (sym (stands_for table names name (Some block) named tells known)) frees.freed, refl),
+  );
+  held = refl;
+}
+
+-- its request was refused
+pub performs_skip : {σ : Standing} (what : What) (table : Names) (c : Cached) (name : ℕ) → what ≡ Free name → block_named table name ≡ None → Performs what (works table c) (works table c) σ σ (Some (Said.Skipped name))
+performs_skip {σ} what table c name is named = subst (λ w. Performs w (works table c) (works table c) σ σ (Some (Said.Skipped name))) (sym is) record {
+  steps = [];
+  adds = adds_none;
+  rest = λ v rest agreed. rest;
+  few = λ v rest agreed. omega arith;
+  answered = λ v l stood rest names tells known. (
+    names,
+    tells,
+    (subst (λ o. IsFreedBy σ.seat.profile σ.seat.actor c c name o [] (Some (Said.Skipped name))) (sym (stands_for table names name None named tells known)) (refl, refl, refl), refl),
+  );
+  held = refl;
+}
+
+-- a free by address and turn
+pub performs_raw : {σ σ' : Standing} {said : Option Said} (what : What) (table : Names) (c c' : Cached) (block : Name) → what ≡ Raw block → FreesOne block c c' σ σ' said → Performs what (works table c) (works table c') σ σ' said
+performs_raw {σ} {σ'} {said} what table c c' block is frees = subst (λ w. Performs w (works table c) (works table c') σ σ' said) (sym is) record {
+  steps = frees.steps;
+  adds = frees.adds;
+  rest = frees.rest;
+  few = frees.few;
+  answered = λ v l stood rest names tells known. (names, tells, (frees.freed, refl));
+  held = refl;
+}
+
+-- ---- a flush and a stop
+pub performs_flush : {σ σ' : Standing} (what : What) (table : Names) (c c' : Cached) → what ≡ Flush → FlushesLog c c' σ σ' → Performs what (works table c) (works table c') σ σ' None
+performs_flush {σ} {σ'} what table c c' is flushes = subst (λ w. Performs w (works table c) (works table c') σ σ' None) (sym is) record {
+  steps = flushes.steps;
+  adds = flushes.calls.adds;
+  rest = flushes.calls.leads.from;
+  few = λ v rest agreed.
+      let events = emptied_events σ.seat.actor c.log flushes.steps v flushes.empties in
+      let none = ap (λ (d : Cached). length d.log) flushes.cache in
+      let unknown = unknown_stays σ.seat.profile flushes.steps v agreed in
+      omega (arith, events, none, unknown);
+  answered = λ v l stood rest names tells known. (names, tells, (record { empties = flushes.empties; cache = flushes.cache }, refl, refl));
+  held = refl;
+}
+
+stopped_events : (k : ℕ) (names : List Name) (v : View) (stopped flushed : List Made) → length (events_by k v flushed) ≡ length names → events_by k (flushed ++ v) stopped ≡ [] → length (events_by k v (stopped ++ flushed)) ≡ length names
+stopped_events k names v stopped flushed events silent =
+    ap (λ (es : List Event). length es) (events_append k stopped flushed v ∙ ap (λ (es : List Event). es ++ events_by k v flushed) silent) ∙ events
+
+pub performs_stop : {σ σ' : Standing} (what : What) (table : Names) (c c' : Cached) → what ≡ Stop → StopsCache c c' σ σ' → Performs what (works table c) (works table c') σ σ' None
+performs_stop {σ} {σ'} what table c c' is stops = subst (λ w. Performs w (works table c) (works table c') σ σ' None) (sym is) record {
+  steps = stops.stopped ++ stops.flushed;
+  adds = stops.calls.adds;
+  rest = λ v rest agreed. (stops.calls.leads.from v rest agreed).0;
+  few = λ v rest agreed.
+      let events = stopped_events σ.seat.actor c.log v stops.stopped stops.flushed (emptied_events σ.seat.actor c.log stops.flushed v stops.empties) (stops.silent σ.seat.actor (stops.flushed ++ v)) in
+      let none = ap (λ (d : Cached). length d.log) stops.cache in
+      let unknown = unknown_stays σ.seat.profile (stops.stopped ++ stops.flushed) v agreed in
+      omega (arith, events, none, unknown);
+  answered = λ v l stood rest names tells known. (
+    names,
+    tells,
+    (
+      record {
+        flushed = stops.flushed;
+        stopped = stops.stopped;
+        empties = stops.empties;
+        stops = stops.stops;
+        kinds = stops.kinds;
+        silent = λ v. stops.silent σ.seat.actor v;
+        cache = stops.cache;
+        steps_are = refl;
+      },
+      refl,
+      refl,
+    ),
+  );
+  held = refl;
+}

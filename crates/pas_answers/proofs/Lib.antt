@@ -1,0 +1,12 @@
+pub mod Built
+pub mod OwedEvents
+pub mod Frees
+pub mod Requests
+pub mod Records
+pub mod KnownNames
+pub mod Speaking
+pub mod Weaving
+pub mod Parts
+pub mod Shown
+pub mod Tidy
+pub mod Consequences

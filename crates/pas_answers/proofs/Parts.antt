@@ -1,0 +1,43 @@
+-- Each actor's part of a list: its steps are of the region, and it is that of the pieces in the order of the acts.
+use Rattle.std.proofs.Common.{◌≡◌, ℕ, ◌==◌, Bool, true, false, if◌then◌else◌, List, [], ◌∷◌, ◌++◌, ap}
+use Rattle.pas_profile.specs.declared.profile.Profile.{Profile}
+use Rattle.pas_steps.specs.Views.{View}
+use Rattle.pas_steps.specs.Allowed.{IsStepOf}
+use Rattle.pas_steps.specs.Lists.{Whole, part, Legal}
+use Rattle.pas_steps.specs.Desks.{triples}
+use Rattle.pas_steps.specs.declared.step.Made.{Made}
+use Rattle.pas_report.proofs.Showable.{AreOfRegion}
+use Rattle.pas_answers.specs.Ways.{Way, InOrder, OnThreads, IsOneOrder}
+
+pub same_parts : (way : Way) (told whole : Whole) → IsOneOrder way told whole → (k : ℕ) → part k whole ≡ part k told
+same_parts InOrder told whole same k = ap (λ (l : Whole). part k l) same
+same_parts OnThreads told whole same k = same k
+
+-- it is so of each part
+abbrev pub Each : (View → Type 0) → Whole → Type 0
+Each P l = (k : ℕ) → P (part k l)
+
+-- ---- steps of the region
+one_of : (f : Profile) (t : Bool) (m : Made) (v : View) → IsStepOf f m.step → AreOfRegion f v → AreOfRegion f (if t then m ∷ v else v)
+one_of f true m v one rest = (one, rest)
+one_of f false m v one rest = rest
+
+pub legal_part : (f : Profile) (l : Whole) (k : ℕ) → Legal f l → AreOfRegion f (part k l)
+legal_part f [] k legal = tt
+legal_part f (t ∷ l) k legal = one_of f (t.actor == k) t.made (part k l) legal.0.of_region (legal_part f l k legal.1)
+
+later_of : (f : Profile) (t : Bool) (m : Made) (v : View) → AreOfRegion f (if t then m ∷ v else v) → AreOfRegion f v
+later_of f true m v all = all.1
+later_of f false m v all = all
+
+pub of_front : (f : Profile) (ys xs : List Made) → AreOfRegion f (ys ++ xs) → AreOfRegion f ys
+of_front f [] xs of = tt
+of_front f (y ∷ ys) xs of = (of.0, of_front f ys xs of.1)
+
+pub of_back : (f : Profile) (ys xs : List Made) → AreOfRegion f (ys ++ xs) → AreOfRegion f xs
+of_back f [] xs of = of
+of_back f (y ∷ ys) xs of = of_back f ys xs of.1
+
+pub of_rest : (f : Profile) (k : ℕ) (xs : List Made) (l : Whole) → Each (AreOfRegion f) (triples k xs ++ l) → Each (AreOfRegion f) l
+of_rest f k [] l all = all
+of_rest f k (x ∷ xs) l all = of_rest f k xs l (λ j. later_of f (k == j) x (part j (triples k xs ++ l)) (all j))

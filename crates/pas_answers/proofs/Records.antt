@@ -1,0 +1,102 @@
+-- What an operation adds to the records.
+use Rattle.std.proofs.Common.{◌≡◌, ℕ, ◌+◌, ◌<◌, ◌≤◌, ◌++◌, List, [], ◌∷◌, length, drop, Option, Some, None, ap, sym, ◌∙◌, subst, arith, length-append, append_assoc, append-nil}
+use Rattle.std.specs.Prelude.{map, reverse}
+use Rattle.std.proofs.lemmas.List.{reverse-append, length-reverse, length-map}
+use Rattle.std.proofs.Math.Seq.{drop-append_seam}
+use Rattle.pas_profile.specs.declared.event.Event.{Event}
+use Rattle.pas_steps.specs.declared.step.Made.{Made}
+use Rattle.pas_steps.specs.Views.{View}
+use Rattle.pas_steps.specs.Events.{events_of, events_by}
+use Rattle.pas_steps.specs.Lists.{Whole}
+use Rattle.pas_steps.specs.Desks.{Standing, triples, CanCall, Adds}
+use Rattle.pas_steps.proofs.Frames.{events_split}
+use Rattle.pas_trace.specs.declared.plan.What.{What}
+use Rattle.pas_report.specs.Rooms.{records_in, room_of}
+use Rattle.pas_report.specs.declared.record.Record.{Record}
+use Rattle.pas_report.specs.declared.record.Said.{Said}
+use Rattle.pas_report.specs.declared.records.Records.{Records}
+use Rattle.pas_cache.specs.Caches.{Cached, AtRest}
+use Rattle.pas_answers.specs.Answers.{records_of, said_by}
+use Rattle.pas_answers.specs.Calls.{works, Performs, MayAnswer, Answers}
+use Rattle.pas_answers.specs.declared.names.Names.{Names}
+
+-- ---- what the desk shows
+-- the events shown are those of each view
+abbrev pub IsShown : Standing → List Event → Type 0
+IsShown σ shown = (v : View) (l : Whole) → σ.stands v l → shown ≡ reverse (events_of σ.seat.actor v)
+
+shown_parts : (k : ℕ) (steps : List Made) (v : View) (old new : List Event) → old ≡ reverse (events_of k v) → new ≡ reverse (events_of k (steps ++ v)) → new ≡ old ++ reverse (events_by k v steps)
+shown_parts k steps v old new before after = after ∙ ap reverse (events_split k steps v) ∙ reverse-append (events_by k v steps) (events_of k v) ∙ ap (λ es. es ++ reverse (events_by k v steps)) (sym before)
+
+shown_more : {σ σ' : Standing} {C : View → Whole → Type 0} {steps : List Made} → Adds σ σ' C steps → (old new : List Event) → IsShown σ old → IsShown σ' new → (v : View) (l : Whole) → σ.stands v l → C v l → new ≡ old ++ reverse (events_by σ.seat.actor v steps)
+shown_more {σ} {σ'} {C} {steps} adds old new before after v l stood met =
+    shown_parts σ.seat.actor steps v old new (before v l stood) (subst (λ s. new ≡ reverse (events_of s.actor (steps ++ v))) adds.seat_is (after (steps ++ v) (triples σ.seat.actor steps ++ l) (adds.added v l stood met)))
+
+-- the events of a call are those from the place on where the earlier ones ended
+pub shown_new : {σ σ' : Standing} {C : View → Whole → Type 0} {steps : List Made} → Adds σ σ' C steps → (old new : List Event) → IsShown σ old → IsShown σ' new → (v : View) (l : Whole) → σ.stands v l → C v l → drop (length old) new ≡ reverse (events_by σ.seat.actor v steps)
+shown_new {σ} {σ'} {C} {steps} adds old new before after v l stood met = ap (drop (length old)) (shown_more adds old new before after v l stood met) ∙ drop-append_seam old (reverse (events_by σ.seat.actor v steps))
+
+pub shown_longer : {σ σ' : Standing} {C : View → Whole → Type 0} {steps : List Made} → Adds σ σ' C steps → (old new : List Event) → IsShown σ old → IsShown σ' new → CanCall σ C → length old ≤ length new
+shown_longer {σ} {σ'} {C} {steps} adds old new before after can =
+    let n = ap (λ (es : List Event). length es) (shown_more adds old new before after can.view can.whole can.stood can.met) ∙ length-append old (reverse (events_by σ.seat.actor can.view steps)) in
+    omega (arith, n)
+
+pub new_few : {σ σ' : Standing} {C : View → Whole → Type 0} {steps : List Made} → Adds σ σ' C steps → (old new : List Event) → IsShown σ old → IsShown σ' new → (can : CanCall σ C) → length (drop (length old) new) ≡ length (events_by σ.seat.actor can.view steps)
+new_few {σ} {σ'} {C} {steps} adds old new before after can = ap (λ (es : List Event). length es) (shown_new adds old new before after can.view can.whole can.stood can.met) ∙ length-reverse (events_by σ.seat.actor can.view steps)
+
+-- ---- what an operation asks
+pub can_rest : {σ : Standing} (c : Cached) (what : What) (spare : ℕ) (out : Records) → CanCall σ (λ v l. MayAnswer σ.seat.profile c what spare out v) → CanCall σ (λ v l. AtRest σ.seat.profile c v)
+can_rest {σ} c what spare out can = record { view = can.view; whole = can.whole; stood = can.stood; met = can.met.may.rest }
+
+-- ---- the records
+-- there is room for the events, and for what is said besides
+pub records_fit : {σ σ' : Standing} {said : Option Said} {c' : Cached} (what : What) (table table' : Names) (c : Cached) (spare : ℕ) (out : Records) (old new : List Event) → (can : CanCall σ (λ v l. MayAnswer σ.seat.profile c what spare out v))
+    → Performs what (works table c) (works table' c') σ σ' said → IsShown σ old → IsShown σ' new → length (records_in out) + length (drop (length old) new) + length (said_by σ.seat.actor said) ≤ room_of out
+unfolding can_rest
+records_fit {σ} {σ'} {said} {c'} what table table' c spare out old new can performs before after =
+    let rest = can_rest c what spare out can in
+    let events : length (drop (length old) new) ≡ length (events_by σ.seat.actor can.view performs.steps) = new_few performs.adds old new before after rest in
+    let few = performs.few can.view can.met.may.rest (performs.adds.agreed can.view can.whole can.stood can.met.may.rest) in
+    let room = can.met.records in
+    omega (arith, events, few, room)
+
+-- the length of the records once the events are pushed
+pub pushed_length : (out pushed : Records) (events : List Event) → records_in pushed ≡ records_in out ++ map Record.Event events → length (records_in pushed) ≡ length (records_in out) + length events
+pushed_length out pushed events added =
+    ap (λ (rs : List Record). length rs) added ∙ length-append (records_in out) (map Record.Event events) ∙ ap (λ n. length (records_in out) + n) (length-map events Record.Event)
+
+-- .. and room for what is said then
+pub said_fits : {said : Option Said} (k : ℕ) (out pushed : Records) (events : List Event) (message : Said) → said ≡ Some message → length (records_in out) + length events + length (said_by k said) ≤ room_of out
+    → records_in pushed ≡ records_in out ++ map Record.Event events → room_of pushed ≡ room_of out → length (records_in pushed) < room_of pushed
+said_fits {said} k out pushed events message is fits added same =
+    let size = pushed_length out pushed events added in
+    let one : length (said_by k said) ≡ 1 = ap (λ o. length (said_by k o)) is in
+    omega (arith, size, one, fits, same)
+
+-- nothing is said besides
+pub answers_silent : {σ σ' : Standing} {said : Option Said} (what : What) (table table' : Names) (c c' : Cached) (out out' : Records) (old new : List Event) → said ≡ None
+    → Performs what (works table c) (works table' c') σ σ' said → IsShown σ old → IsShown σ' new → records_in out' ≡ records_in out ++ map Record.Event (drop (length old) new) → room_of out' ≡ room_of out → Answers what (works table c) (works table' c') out out' σ σ'
+answers_silent {σ} {σ'} {said} what table table' c c' out out' old new is performs before after added room = record {
+  said = said;
+  performs = performs;
+  pushed = λ v l stood rest. added ∙ ap (λ es. records_in out ++ map Record.Event es) (shown_new performs.adds old new before after v l stood rest)
+      ∙ ap (λ rs. records_in out ++ rs) (sym (append-nil (records_of (events_by σ.seat.actor v performs.steps))) ∙ ap (λ o. records_of (events_by σ.seat.actor v performs.steps) ++ said_by σ.seat.actor o) (sym is));
+  room = room;
+}
+
+-- this is said besides
+pub answers_said : {σ σ' : Standing} {said : Option Said} (what : What) (table table' : Names) (c c' : Cached) (out pushed out' : Records) (old new : List Event) (message : Said) (actor : ℕ) → said ≡ Some message → actor ≡ σ'.seat.actor
+    → Performs what (works table c) (works table' c') σ σ' said → IsShown σ old → IsShown σ' new → records_in pushed ≡ records_in out ++ map Record.Event (drop (length old) new) → room_of pushed ≡ room_of out
+    → records_in out' ≡ records_in pushed ++ Record.Said actor message ∷ [] → room_of out' ≡ room_of pushed → Answers what (works table c) (works table' c') out out' σ σ'
+answers_said {σ} {σ'} {said} what table table' c c' out pushed out' old new message actor is actor_is performs before after added same last room =
+    let own : actor ≡ σ.seat.actor = actor_is ∙ ap (λ s. s.actor) performs.adds.seat_is in
+    record {
+      said = said;
+      performs = performs;
+      pushed = λ v l stood rest.
+          let records = records_of (events_by σ.seat.actor v performs.steps) in
+          let first : records_in pushed ≡ records_in out ++ records = added ∙ ap (λ es. records_in out ++ map Record.Event es) (shown_new performs.adds old new before after v l stood rest) in
+          last ∙ ap (λ k. records_in pushed ++ Record.Said k message ∷ []) own ∙ ap (λ rs. rs ++ said_by σ.seat.actor (Some message)) first
+          ∙ append_assoc (records_in out) records (said_by σ.seat.actor (Some message)) ∙ ap (λ o. records_in out ++ (records ++ said_by σ.seat.actor o)) (sym is);
+      room = room ∙ same;
+    }

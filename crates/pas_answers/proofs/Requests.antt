@@ -1,0 +1,192 @@
+-- What a request promises.
+use Rattle.std.proofs.Common.{◌≡◌, ◌≢◌, ℕ, ◌+◌, ◌-◌, ◌%◌, ◌^◌, ◌<◌, ◌≤◌, ◌==◌, ◌++◌, Bool, true, false, if◌then◌else◌, List, [], ◌∷◌, length, Option, Some, None, Result, Ok, Err, refl, ap, sym, ◌∙◌, subst, arith}
+use Rattle.std.specs.Prelude.{MatchResult}
+use Rattle.pas_profile.specs.Classes.{has_bit, IsClass}
+use Rattle.pas_profile.specs.Directories.{IsDirectory, deed_word_of}
+use Rattle.pas_profile.specs.Profiles.{IsValid, IsDirectoryOf}
+use Rattle.pas_profile.specs.Routes.{route_of}
+use Rattle.pas_profile.specs.declared.profile.Profile.{Profile}
+use Rattle.pas_profile.specs.declared.directory.Directory.{Directory}
+use Rattle.pas_profile.specs.declared.directory.Route.{Route}
+use Rattle.pas_profile.specs.declared.event.Event.{Event}
+use Rattle.pas_profile.specs.declared.event.NoRoom.{NoRoom}
+use Rattle.pas_profile.specs.declared.name.Block.{Block}
+use Rattle.pas_profile.specs.declared.word.Word.TheVariants as Word
+use Rattle.pas_profile.proofs.ClassFacts.{class_suits}
+use Rattle.pas_profile.proofs.Codecs.{same_from_deed_word}
+use Rattle.pas_profile.specs.Runs.{address_of}
+use Rattle.pas_machine.specs.State.{deed_in}
+use Rattle.pas_core.specs.Good.{word_of_deed}
+use Rattle.pas_core.proofs.Bits.{no_bit}
+use Rattle.pas_core.proofs.DeedWords.{known_is, deed_word_ne}
+use Rattle.pas_core.proofs.Deeds.{deed_of, directory_is_of}
+use Rattle.pas_core.proofs.Knowledge.{deeds_known}
+use Rattle.pas_steps.specs.declared.step.Made.{Made}
+use Rattle.pas_steps.specs.Views.{View, known_deed, KnowsDeed}
+use Rattle.pas_steps.specs.Events.{events_by}
+use Rattle.pas_steps.specs.Agreement.{Agreed}
+use Rattle.pas_steps.specs.Lists.{Whole, part, word_after, visible, Legal}
+use Rattle.pas_steps.specs.Desks.{Standing, CanCall}
+use Rattle.pas_trace.specs.declared.plan.What.TheVariants.{Alloc}
+use Rattle.pas_segregated.specs.Stops.{class_directory}
+use Rattle.pas_cache.specs.Caches.{Cached, AtRest}
+use Rattle.pas_cache.specs.Calls.{MayAllocate, Allocates}
+use Rattle.pas_cache.specs.Serves.{IsClassRoute, class_of, ServesRequest, IsBlockFor, IsSilent}
+use Rattle.pas_steps.specs.Unknown.{unknown_pages}
+use Rattle.pas_answers.specs.Answers.{Named, named, standing_for, said_of_room}
+use Rattle.pas_answers.specs.Names.{block_named, names_held}
+use Rattle.pas_answers.specs.Calls.{works, block_behind, Tells, HasTurns, owed_events, MayPerform, Performs}
+use Rattle.pas_answers.specs.declared.names.Names.{Names}
+use Rattle.pas_steps.proofs.Unknown.{unknown_stays, has_room}
+
+-- ---- what a request asks
+-- where no heap is shared this one isn't
+pub is_exclusive : (shared heap : ℕ) → shared ≡ 0 → has_bit shared heap ≡ false
+is_exclusive shared heap none = ap (λ n. has_bit n heap) none ∙ no_bit heap
+
+may_allocate : (f : Profile) (c : Cached) (name heap size align spare : ℕ) (v : View) → MayPerform f c (Alloc name heap size align) spare v → MayAllocate f c spare v
+may_allocate f c name heap size align spare v may = let fits = may.room in record { rest = may.rest; room = has_room f 2 spare v (omega (arith, fits)) }
+
+pub can_allocate : {σ : Standing} (c : Cached) (name heap size align spare : ℕ) → CanCall σ (λ v l. MayPerform σ.seat.profile c (Alloc name heap size align) spare v) → CanCall σ (λ v l. MayAllocate σ.seat.profile c spare v)
+can_allocate {σ} c name heap size align spare can = record { view = can.view; whole = can.whole; stood = can.stood; met = may_allocate σ.seat.profile c name heap size align spare can.view can.met }
+
+-- ---- the directory
+routed : (r : Route) → IsClassRoute r → r ≡ Route.Class (class_of r)
+routed (Route.Class class) is = refl
+routed Route.Bitfit is = absurd is
+routed Route.Large is = absurd is
+
+-- a class that serves a request exists
+pub class_exists : (size align : ℕ) → IsClassRoute (route_of size align) → IsClass (class_of (route_of size align))
+class_exists size align is = (class_suits size align (class_of (route_of size align)) (routed (route_of size align) is)).known
+
+-- a deed word of a directory is of that one
+directory_is : (o : Option Directory) (d : Directory) → IsDirectory d → ((x : Directory) → o ≡ Some x → IsDirectory x) → word_of_deed o ≡ deed_word_of d → o ≡ Some d
+directory_is None d is all word = absurd (omega (arith, word))
+directory_is (Some x) d is all word = ap (λ y. Some y) (same_from_deed_word x d (all x refl) is word)
+
+of_limits : (f : Profile) (d : Directory) → IsValid f → IsDirectoryOf f d → IsDirectory d
+of_limits f d valid of = let heap = of.heap in let few = valid.heaps in record { heap = omega (arith, heap, few); kind = of.kind }
+
+-- a deed that an actor knows is the page's deed
+pub known_directory : (f : Profile) (l : Whole) (k page : ℕ) (d : Directory) → IsValid f → Legal f l → IsDirectoryOf f d → KnowsDeed page d (part k l) → deed_in (visible l) page ≡ Some d
+known_directory f l k page d valid legal of knows =
+    let some : known_deed (part k l) page ≢ 0 = λ none. deed_word_ne d (sym knows ∙ none) in
+    directory_is (deed_in (visible l) page) d (of_limits f d valid of) (λ x found. of_limits f x valid (directory_is_of f l legal page x found))
+    (sym (deed_of f l legal page) ∙ sym (known_is (known_deed (part k l) page) (word_after l (Word.Deed page)) (deeds_known f l legal k page) some) ∙ knows)
+
+-- ---- what is owed
+given_few : (f : Profile) (k : ℕ) (c c' : Cached) (steps : List Made) (v : View) → c'.log ≡ c.log → length (events_by k v steps) + unknown_pages f (steps ++ v) ≤ 2 + unknown_pages f v
+    → length (events_by k v steps) + 0 + owed_events f c' (steps ++ v) ≤ 2 + owed_events f c v
+given_few f k c c' steps v same few = let log = ap (λ names. length names) same in omega (arith, log, few)
+
+refused_few : (f : Profile) (k : ℕ) (c c' : Cached) (steps : List Made) (v : View) → c'.log ≡ c.log → events_by k v steps ≡ [] → Agreed f v steps
+    → length (events_by k v steps) + 1 + owed_events f c' (steps ++ v) ≤ 2 + owed_events f c v
+refused_few f k c c' steps v same silent agreed =
+    let log = ap (λ names. length names) same in
+    let none = ap (λ (es : List Event). length es) silent in
+    let unknown = unknown_stays f steps v agreed in
+    omega (arith, log, none, unknown)
+
+-- ---- the names
+-- after the request the table has this at its name
+abbrev pub SetsName : Names → Names → ℕ → Option Block → Type 0
+SetsName table table' name block = (n : ℕ) → block_named table' n ≡ (if name == n then block else block_named table n)
+
+tells_one : (t : Bool) (block was : Option Block) (old : Option (Option Block)) → was ≡ block_behind old → (if t then block else was) ≡ block_behind (if t then Some block else old)
+tells_one true block was old tells = refl
+tells_one false block was old tells = tells
+
+tells_more : (table table' : Names) (names : List Named) (name : ℕ) (block : Option Block) → Tells table names → SetsName table table' name block → Tells table' (named name block ∷ names)
+tells_more table table' names name block tells sets n = sets n ∙ tells_one (name == n) block (block_named table n) (standing_for names n) (tells n)
+
+turn_of_one : (t : Bool) (block was : Option Block) (b : Block) → ((b : Block) → block ≡ Some b → b.name.turn < 2 ^ 40 - 1) → (was ≡ Some b → b.name.turn < 2 ^ 40 - 1) → (if t then block else was) ≡ Some b → b.name.turn < 2 ^ 40 - 1
+turn_of_one true block was b new old is = new b is
+turn_of_one false block was b new old is = old is
+
+turns_with : (table table' : Names) (name : ℕ) (block : Option Block) → HasTurns table → SetsName table table' name block → ((b : Block) → block ≡ Some b → b.name.turn < 2 ^ 40 - 1) → HasTurns table'
+turns_with table table' name block turns sets new n b is = turn_of_one (name == n) block (block_named table n) b new (turns n b) (sym (sets n) ∙ is)
+
+some_block : {b d : Block} → Some b ≡ Some d → b ≡ d
+some_block h = cc
+
+-- the turn of a block that was given is far below the last one
+pub turns_given : {σ σ' : Standing} {answer : Result Block NoRoom} {tells : Bool} (table table' : Names) (c c' : Cached) (name heap size align class spare : ℕ) (block : Block) → HasTurns table → SetsName table table' name (Some block)
+    → CanCall σ (λ v l. MayPerform σ.seat.profile c (Alloc name heap size align) spare v) → Allocates (class_directory heap class) heap class align tells c c' σ σ' answer → answer ≡ Ok block → HasTurns table'
+turns_given {σ} {σ'} {answer} {tells} table table' c c' name heap size align class spare block turns sets can call is =
+    let of : IsBlockFor σ.seat.profile (class_directory heap class) (AtRest σ.seat.profile c) heap class align call.steps block
+    = subst (λ a. MatchResult a (IsBlockFor σ.seat.profile (class_directory heap class) (AtRest σ.seat.profile c) heap class align call.steps) (λ room. IsSilent call.steps)) is call.outcome in
+    let small = of.turn.from can.view can.met.rest (call.calls.adds.agreed can.view can.whole can.stood can.met.rest) in
+    turns_with table table' name (Some block) turns sets (λ b same. subst (λ d. d.name.turn < 2 ^ 40 - 1) (some_block same) (omega (arith, small)))
+
+none_block : {b : Block} → None ≡ Some b → ⊥
+none_block h = cc
+
+pub turns_refused : (table table' : Names) (name : ℕ) → HasTurns table → SetsName table table' name None → HasTurns table'
+turns_refused table table' name turns sets = turns_with table table' name None turns sets (λ b same. absurd (none_block same))
+
+-- ---- a request
+pub performs_given : {σ σ' : Standing} {answer : Result Block NoRoom} {tells : Bool} (table table' : Names) (c c' : Cached) (name heap size align : ℕ) (block : Block)
+    → IsClassRoute (route_of size align)
+    → Allocates (class_directory heap (class_of (route_of size align))) heap (class_of (route_of size align)) align tells c c' σ σ' answer → answer ≡ Ok block → SetsName table table' name (Some block) → names_held table' ≡ names_held table
+    → Performs (Alloc name heap size align) (works table c) (works table' c') σ σ' None
+performs_given {σ} {σ'} {answer} {tells} table table' c c' name heap size align block route call is sets held =
+    let class = class_of (route_of size align) in
+    let of : IsBlockFor σ.seat.profile (class_directory heap class) (AtRest σ.seat.profile c) heap class align call.steps block
+    = subst (λ a. MatchResult a (IsBlockFor σ.seat.profile (class_directory heap class) (AtRest σ.seat.profile c) heap class align call.steps) (λ room. IsSilent call.steps)) is call.outcome in
+    record {
+      steps = call.steps;
+      adds = call.calls.adds;
+      rest = call.calls.leads.from;
+      few = λ v rest agreed. given_few σ.seat.profile σ.seat.actor c c' call.steps v (ap (λ x. x.log) call.change.cache) (call.few σ.seat.actor v rest agreed).paid;
+      answered = λ v l stood rest names tells known. (
+        named name (Some block) ∷ names,
+        tells_more table table' names name (Some block) tells sets,
+        record {
+          route = route;
+          answer = Ok block;
+          serves = subst (λ a. ServesRequest σ.seat.profile (class_directory heap class) heap class c c' call.steps a) is call.change;
+          kinds = call.kinds;
+          ends = record {
+            of_heap = of.of_heap;
+            slot = of.slot;
+            aligned = of.aligned;
+            of_directory = λ g inside. of.deeds.from v rest (call.calls.adds.agreed v l stood rest) g inside;
+            before = (of.events σ.seat.actor v).0;
+            events = (of.events σ.seat.actor v).1;
+            prepared = (of.events σ.seat.actor v).2;
+          };
+          said_is = refl;
+          names_are = refl;
+        },
+      );
+      held = held;
+    }
+
+pub performs_refused : {σ σ' : Standing} {answer : Result Block NoRoom} {tells : Bool} (table table' : Names) (c c' : Cached) (name heap size align : ℕ) (room : NoRoom)
+    → IsClassRoute (route_of size align) → Allocates (class_directory heap (class_of (route_of size align))) heap (class_of (route_of size align)) align tells c c' σ σ' answer → answer ≡ Err room → SetsName table table' name None → names_held table' ≡ names_held table
+    → Performs (Alloc name heap size align) (works table c) (works table' c') σ σ' (Some (said_of_room name room))
+performs_refused {σ} {σ'} {answer} {tells} table table' c c' name heap size align room route call is sets held =
+    let class = class_of (route_of size align) in
+    let silent : IsSilent call.steps
+    = subst (λ a. MatchResult a (IsBlockFor σ.seat.profile (class_directory heap class) (AtRest σ.seat.profile c) heap class align call.steps) (λ room. IsSilent call.steps)) is call.outcome in
+    record {
+      steps = call.steps;
+      adds = call.calls.adds;
+      rest = call.calls.leads.from;
+      few = λ v rest agreed. refused_few σ.seat.profile σ.seat.actor c c' call.steps v (ap (λ x. x.log) call.change.cache) (silent σ.seat.actor v) agreed;
+      answered = λ v l stood rest names tells known. (
+        named name None ∷ names,
+        tells_more table table' names name None tells sets,
+        record {
+          route = route;
+          answer = Err room;
+          serves = subst (λ a. ServesRequest σ.seat.profile (class_directory heap class) heap class c c' call.steps a) is call.change;
+          kinds = call.kinds;
+          ends = silent σ.seat.actor v;
+          said_is = refl;
+          names_are = refl;
+        },
+      );
+      held = held;
+    }

@@ -1,0 +1,73 @@
+-- Each record of a piece can be shown, and so each record that is written, in whatever order.
+use Rattle.std.proofs.Common.{ℕ, zero, suc, ◌+◌, Bool, true, false, if◌then◌else◌, List, [], ◌∷◌, ◌++◌, reverse, Option, Some, None}
+use Rattle.std.specs.Prelude.{All, map}
+use Rattle.std.proofs.lemmas.List.Elements.{All-nil, All-push, All-append}
+use Rattle.pas_profile.specs.declared.profile.Profile.{Profile}
+use Rattle.pas_profile.specs.declared.event.Event.{Event}
+use Rattle.pas_steps.specs.Events.{events_by}
+use Rattle.pas_steps.specs.Views.{View}
+use Rattle.pas_steps.specs.declared.step.Made.{Made}
+use Rattle.pas_report.specs.Lines.{CanShow}
+use Rattle.pas_report.specs.declared.record.Record.{Record}
+use Rattle.pas_report.specs.declared.record.Said.{Said}
+use Rattle.pas_report.proofs.Showable.{AreOfRegion, AreShowable, steps_showable, showable_reverse}
+use Rattle.pas_answers.specs.Answers.{records_of, said_by}
+use Rattle.pas_answers.specs.Ways.{Way, InOrder, OnThreads, is_of, records_by, by_actors, by_phases, arranged}
+
+abbrev pub EachShown : List Record → Type 0
+EachShown [] = Unit {0}
+EachShown (r ∷ rs) = CanShow r × EachShown rs
+
+pub each_both : (xs ys : List Record) → EachShown xs → EachShown ys → EachShown (xs ++ ys)
+each_both [] ys a b = b
+each_both (x ∷ xs) ys a b = (a.0, each_both xs ys a.1 b)
+
+one_by : (t : Bool) (r : Record) (rs : List Record) → CanShow r → EachShown rs → EachShown (if t then r ∷ rs else rs)
+one_by true r rs one rest = (one, rest)
+one_by false r rs one rest = rest
+
+-- .. and so it is where they stand actor by actor
+each_by : (k : ℕ) (rs : List Record) → EachShown rs → EachShown (records_by k rs)
+each_by k [] all = tt
+each_by k (r ∷ rs) all = one_by (is_of k r) r (records_by k rs) all.0 (each_by k rs all.1)
+
+each_actors : (k n : ℕ) (rs : List Record) → EachShown rs → EachShown (by_actors k n rs)
+each_actors k zero rs all = tt
+each_actors k (suc n) rs all = each_both (records_by k rs) (by_actors (k + 1) n rs) (each_by k rs all) (each_actors (k + 1) n rs all)
+
+each_phases : (threads : ℕ) (since rs : List Record) → EachShown since → EachShown rs → EachShown (by_phases threads since rs)
+each_phases threads since [] a b = each_actors 0 (threads + 1) since a
+each_phases threads since (Record.Phase n ∷ rs) a b = each_both (by_actors 0 (threads + 1) since) (Record.Phase n ∷ by_phases threads [] rs) (each_actors 0 (threads + 1) since a) (tt, each_phases threads [] rs tt b.1)
+each_phases threads since (Record.Close ∷ rs) a b = each_both (by_actors 0 (threads + 1) since) (Record.Close ∷ by_phases threads [] rs) (each_actors 0 (threads + 1) since a) (tt, each_phases threads [] rs tt b.1)
+each_phases threads since (Record.Event e ∷ rs) a b = each_phases threads (since ++ Record.Event e ∷ []) rs (each_both since (Record.Event e ∷ []) a (b.0, tt)) b.1
+each_phases threads since (Record.Said k said ∷ rs) a b = each_phases threads (since ++ Record.Said k said ∷ []) rs (each_both since (Record.Said k said ∷ []) a (b.0, tt)) b.1
+
+pub each_arranged : (way : Way) (threads : ℕ) (rs : List Record) → EachShown rs → EachShown (arranged way threads rs)
+each_arranged InOrder threads rs all = all
+each_arranged OnThreads threads rs all = each_phases threads [] rs tt all
+
+-- ---- the records of a piece
+events_shown : (es : List Event) → AreShowable es → EachShown (map Record.Event es)
+events_shown [] all = tt
+events_shown (e ∷ es) all = (all.0, events_shown es all.1)
+
+pub records_shown : (f : Profile) (k : ℕ) (steps : List Made) (v : View) → AreOfRegion f steps → EachShown (records_of (events_by k v steps))
+records_shown f k steps v of = events_shown (reverse (events_by k v steps)) (showable_reverse (events_by k v steps) (steps_showable f k steps v of))
+
+said_shown : (k : ℕ) (said : Option Said) → EachShown (said_by k said)
+said_shown k None = tt
+said_shown k (Some said) = (tt, tt)
+
+pub piece_shown : (f : Profile) (k : ℕ) (steps : List Made) (said : Option Said) (v : View) → AreOfRegion f steps → EachShown (records_of (events_by k v steps) ++ said_by k said)
+piece_shown f k steps said v of = each_both (records_of (events_by k v steps)) (said_by k said) (records_shown f k steps v of) (said_shown k said)
+
+-- ---- all records
+only_one : (r : Record) → CanShow r → All CanShow (r ∷ [])
+only_one r one = All-push CanShow [] r (All-nil CanShow) one
+
+first_shown : (r : Record) (rs : List Record) → CanShow r → All CanShow rs → All CanShow (r ∷ rs)
+first_shown r rs one all = All-append CanShow (r ∷ []) rs (only_one r one) all
+
+pub all_shown : (rs : List Record) → EachShown rs → All CanShow rs
+all_shown [] all = All-nil CanShow
+all_shown (r ∷ rs) all = first_shown r rs all.0 (all_shown rs all.1)

@@ -1,0 +1,293 @@
+-- What answers an operation leaves its actor's view tidy: no epoch is learned between an end and its stamps, a page is stamped only where it is unstamped,
+-- and at the end none is.
+use Rattle.std.proofs.Common.{◌≡◌, ℕ, zero, suc, ◌+◌, ◌-◌, ◌*◌, ◌/◌, ◌^◌, ◌<◌, ◌≤◌, ◌==◌, nat_le, Bool, true, false, ◌&&◌, if◌then◌else◌, List, [], ◌∷◌, ◌++◌, length, Option, Some, None, inl, inr, refl, ap, sym, ◌∙◌, subst, arith, append_assoc}
+use Rattle.std.proofs.lemmas.Bool.{true≢false, false≢true, eqb-true, eqb-false, eq-eqb, ne_eqb, cases_eq, false_from_ne_true}
+use Rattle.std.proofs.lemmas.Bool.Decides.{nat_tests}
+use Rattle.pas_profile.specs.Lives.{live_word}
+use Rattle.pas_profile.specs.Directories.{directory_read, deed_word_of}
+use Rattle.pas_profile.specs.Profiles.{IsValid}
+use Rattle.pas_profile.specs.declared.profile.Profile.{Profile}
+use Rattle.pas_profile.specs.declared.name.Name.{Name}
+use Rattle.pas_profile.specs.declared.name.Block.{Block}
+use Rattle.pas_profile.specs.declared.word.Word.{Word}
+use Rattle.pas_profile.specs.Runs.{meets_page, address_of, grain_of}
+use Rattle.pas_steps.specs.Views.{View, unstamped_after, is_unstamped}
+use Rattle.pas_steps.specs.Events.{events_by}
+use Rattle.pas_steps.specs.Allowed.{IsStepOf}
+use Rattle.pas_steps.specs.Lists.{Whole, part, Legal}
+use Rattle.pas_steps.specs.Desks.{made, triple, triples}
+use Rattle.pas_steps.specs.declared.step.Made.{Made}
+use Rattle.pas_steps.specs.declared.step.Step.{Step}
+use Rattle.pas_steps.specs.declared.step.Step.TheVariants.{Look, End, Stamp, Tick}
+use Rattle.pas_steps.proofs.Parts.{part_of_own, part_of_others}
+use Rattle.pas_core.specs.Stamps.{AllStamped, KeepsToEnds, AllKeepToEnds}
+use Rattle.pas_core.proofs.StampedEnds.{stamps_are_ends}
+use Rattle.pas_rights.proofs.Orders.{return_returns}
+use Rattle.pas_rights.proofs.Puts.{puts_kinds}
+use Rattle.pas_free_log.specs.Endings.{guess_by, Tries, IsEndOf, EndSteps}
+use Rattle.pas_free_log.specs.Returns.{PageSteps, PagesSteps, first_on, count_on}
+use Rattle.pas_free_log.specs.Stamps.{page_count}
+use Rattle.pas_free_log.specs.Flushes.{Settled, AfterEnd, EntrySteps, EntriesSteps}
+use Rattle.pas_free_log.specs.declared.ending.Outcome.{Outcome}
+use Rattle.pas_free_log.specs.declared.ending.Outcome.TheVariants.{Ended, Refused}
+use Rattle.pas_free_log.proofs.Tries.{not_live}
+use Rattle.pas_cache.specs.Caches.{Cached}
+use Rattle.pas_cache.specs.Changes.{EmptiesLog, EmptiesFull}
+use Rattle.pas_steps.specs.Kinds.{Kinds, Only, kind_of, look_kind, is_in, apart, LookEpoch, Putting, Ending, Stamping, Ticking, looking, returning}
+use Rattle.pas_cache.specs.Kinds.{releasing, allocating}
+use Rattle.pas_steps.proofs.Apart.{holds_over, only_both, only_within, unstamped_same}
+use Rattle.pas_steps.proofs.Calls.{returns_are}
+use Rattle.pas_trace.specs.declared.plan.What.{What}
+use Rattle.pas_report.specs.declared.record.Record.{Record}
+use Rattle.pas_report.specs.declared.record.Said.{Said}
+use Rattle.pas_answers.specs.Acts.{Act, Operates, MarksPhase, Wakes, MarksClose, Ends}
+use Rattle.pas_answers.specs.Answers.{Having, Answer, Progress, having, with_records, with_steps, begun, records_of, said_by, standing_for, IsFreed, IsFreedBy, IsStopped, IsAnswered, Follows}
+use Rattle.pas_report.specs.Rests.{AreStamped}
+use Rattle.pas_answers.specs.Replays.{at_start}
+use Rattle.pas_answers.specs.Ways.{Way, IsOneOrder}
+use Rattle.pas_report.proofs.Showable.{AreOfRegion}
+use Rattle.pas_answers.proofs.Parts.{of_front, of_back}
+
+-- ---- tidy views: all steps kept to ends, and nothing is unstamped
+abbrev pub KeptPart : View → Type 0
+KeptPart [] = Unit {0}
+KeptPart (m ∷ v) = KeepsToEnds v m.step × KeptPart v
+
+pub record Tidy (v : View) : Type 0 where
+  pub kept : KeptPart v
+  pub stamped : AllStamped v
+
+-- kinds of steps that keep to ends only on a condition
+abbrev bound : Kinds
+bound = LookEpoch ∷ Stamping ∷ Ticking ∷ []
+
+keeps_free : (s : Step) (v : View) → is_in bound (kind_of s) ≡ false → KeepsToEnds v s
+keeps_free (Look Word.Epoch) v h = absurd (true≢false h)
+keeps_free (Stamp q) v h = absurd (true≢false h)
+keeps_free (Tick up) v h = absurd (true≢false h)
+keeps_free s v h = tt
+
+kept_over : (ks : Kinds) → apart ks bound ≡ true → (steps : List Made) (v : View) → Only ks steps → KeptPart v → KeptPart (steps ++ v)
+kept_over ks w = holds_over KeptPart bound ks (λ m v h kept. (keeps_free m.step v h, kept)) w
+
+-- kinds of steps after which a tidy view may not be tidy
+abbrev untidy : Kinds
+untidy = Ending ∷ Stamping ∷ Ticking ∷ []
+
+keeps_tidy : (s : Step) (v : View) → is_in untidy (kind_of s) ≡ false → AllStamped v → KeepsToEnds v s
+keeps_tidy (Look Word.Epoch) v h stamped = stamped
+keeps_tidy (Stamp q) v h stamped = absurd (true≢false h)
+keeps_tidy (Tick up) v h stamped = absurd (true≢false h)
+keeps_tidy s v h stamped = tt
+
+stamped_tidy : (s : Step) (a p : ℕ) (was : Bool) → is_in untidy (kind_of s) ≡ false → unstamped_after s a p was ≡ was
+stamped_tidy (End name guess) a p was h = absurd (true≢false h)
+stamped_tidy (Stamp q) a p was h = absurd (true≢false h)
+stamped_tidy s a p was h = refl
+
+tidy_over : (ks : Kinds) → apart ks untidy ≡ true → (steps : List Made) (v : View) → Only ks steps → Tidy v → Tidy (steps ++ v)
+tidy_over ks w = holds_over Tidy untidy ks
+    (λ m v h tidy. record { kept = (keeps_tidy m.step v h tidy.stamped, tidy.kept); stamped = λ p. stamped_tidy m.step m.answer p (is_unstamped v p) h ∙ tidy.stamped p }) w
+
+pub look_tidy : (word : Word) (a : ℕ) (v : View) → is_in looking (look_kind word) ≡ true → Tidy v → Tidy (made (Look word) a ∷ v)
+look_tidy word a v is = tidy_over looking refl (made (Look word) a ∷ []) v (is, tt)
+
+tidy_none : (steps : List Made) (v : View) → steps ≡ [] → Tidy v → Tidy (steps ++ v)
+tidy_none steps v none tidy = subst (λ ms. Tidy (ms ++ v)) (sym none) tidy
+
+tidy_both : (steps ys xs : List Made) (v : View) → steps ≡ ys ++ xs → Tidy (ys ++ (xs ++ v)) → Tidy (steps ++ v)
+tidy_both steps ys xs v is tidy = subst (λ ms. Tidy (ms ++ v)) (sym is) (subst Tidy (sym (append_assoc ys xs v)) tidy)
+
+-- ---- the pages of a block
+-- the steps for a page that is unstamped: afterwards it isn't, and the others are as they were
+record PageDone (p : ℕ) (v w : View) : Type 0 where
+  kept : KeptPart w
+  stamps : (q : ℕ) → is_unstamped w q ≡ (if p == q then false else is_unstamped v q)
+
+page_done : (g n : ℕ) (steps : List Made) (v : View) → PageSteps g n steps → KeptPart v → is_unstamped v (g / 256) ≡ true → PageDone (g / 256) v (steps ++ v)
+page_done g n steps v h kept un =
+    let first : List Made = made (Stamp (g / 256)) h.stamped ∷ made (Look (Word.Deed (g / 256))) (deed_word_of h.directory) ∷ [] in
+    let more : List Made = h.after ++ h.puts in
+    let only : Only releasing more = only_both releasing h.after h.puts (only_within returning releasing h.after refl (returns_are (g / 256) h.after (return_returns (g / 256) h.directory h.after h.returns)))
+    (only_within (Putting ∷ []) releasing h.puts refl (puts_kinds (g / 256) h.mask 4 h.puts h.order)) in
+    subst (PageDone (g / 256) v) (sym (ap (λ ms. ms ++ v) (h.steps_are ∙ sym (append_assoc h.after h.puts first)) ∙ append_assoc more first v)) record {
+      kept = kept_over releasing refl more (first ++ v) only (un, (tt, kept));
+      stamps = λ q. unstamped_same releasing refl q more (first ++ v) only;
+    }
+
+-- of the pages that the run meets just those from the kth on are unstamped
+record IsPending (g n k : ℕ) (v : View) : Type 0 where
+  only : (p : ℕ) → is_unstamped v p ≡ true → (meets_page g n p ≡ true) × (g / 256 + k ≤ p)
+  rest : (p : ℕ) → meets_page g n p ≡ true → g / 256 + k ≤ p → is_unstamped v p ≡ true
+
+record PagesDone (g n k : ℕ) (v : View) : Type 0 where
+  kept : KeptPart v
+  pending : IsPending g n k v
+
+meets_at : (g n p : ℕ) → g < 256 * p + 256 → 256 * p < g + n → meets_page g n p ≡ true
+meets_at g n p low high = grind (arith, nat_tests, low, high)
+
+meets_within : (g n p : ℕ) → meets_page g n p ≡ true → 256 * p < g + n
+meets_within g n p h = grind (arith, nat_tests, h)
+
+first_page : (g k : ℕ) → first_on g (g / 256 + k) / 256 ≡ g / 256 + k
+first_page g k = omega arith
+
+others_stay : (x was : Bool) → (if x then false else was) ≡ true → (x ≡ false) × (was ≡ true)
+others_stay true was h = absurd (false≢true h)
+others_stay false was h = (refl, h)
+
+other_stays : (x was : Bool) → x ≡ false → was ≡ true → (if x then false else was) ≡ true
+other_stays x was e h = ap (λ t. if t then false else was) e ∙ h
+
+next_pending : (g n k : ℕ) (v w : View) → IsPending g n k v → PageDone (g / 256 + k) v w → IsPending g n (suc k) w
+next_pending g n k v w was at = record {
+  only = λ p un.
+      let left = others_stay (g / 256 + k == p) (is_unstamped v p) (sym (at.stamps p) ∙ un) in
+      let here = was.only p left.1 in
+      let ne = eqb-false (g / 256 + k) p left.0 in
+      let le = here.1 in
+      (here.0, omega (arith, le, ne));
+  rest = λ p meets le.
+      let old : g / 256 + k ≤ p = omega (arith, le) in
+      at.stamps p ∙ other_stays (g / 256 + k == p) (is_unstamped v p) (ne_eqb (g / 256 + k) p (λ e. absurd (omega (arith, le, e)))) (was.rest p meets old);
+}
+
+pages_done : (k g n : ℕ) (steps : List Made) (v : View) → 1 ≤ n → g / 256 + k ≤ (g + n - 1) / 256 + 1 → PagesDone g n 0 v → PagesSteps k g n steps → PagesDone g n k (steps ++ v)
+pages_done zero g n steps v some few was h = subst (λ ms. PagesDone g n 0 (ms ++ v)) (sym h) was
+pages_done (suc k) g n steps v some few was h =
+    let before : PagesDone g n k (h.1 ++ v) = pages_done k g n h.1 v some (omega (arith, few)) was h.3 in
+    let meets : meets_page g n (g / 256 + k) ≡ true = meets_at g n (g / 256 + k) (omega arith) (omega (arith, few, some)) in
+    let un : is_unstamped (h.1 ++ v) (first_on g (g / 256 + k) / 256) ≡ true = ap (is_unstamped (h.1 ++ v)) (first_page g k) ∙ before.pending.rest (g / 256 + k) meets (omega arith) in
+    let page : PageDone (g / 256 + k) (h.1 ++ v) (h.0 ++ (h.1 ++ v))
+    = subst (λ p. PageDone p (h.1 ++ v) (h.0 ++ (h.1 ++ v))) (first_page g k) (page_done (first_on g (g / 256 + k)) (count_on g n (g / 256 + k)) h.0 (h.1 ++ v) h.2 before.kept un) in
+    subst (PagesDone g n (suc k)) (sym (ap (λ ms. ms ++ v) h.4 ∙ append_assoc h.0 h.1 v)) record { kept = page.kept; pending = next_pending g n k (h.1 ++ v) (h.0 ++ (h.1 ++ v)) before.pending page }
+
+all_pages : (g n : ℕ) → 1 ≤ n → g / 256 + page_count g n ≡ (g + n - 1) / 256 + 1
+all_pages g n some =
+    let ne : (n == 0) ≡ false = ne_eqb n 0 (λ e. absurd (omega (arith, some, e))) in
+    let count : page_count g n ≡ (g + n - 1) / 256 - g / 256 + 1 = ap (λ t. if t then 0 else (g + n - 1) / 256 - g / 256 + 1) ne in
+    omega (arith, count, some)
+
+run_tidy : (g n : ℕ) (steps : List Made) (v : View) → 1 ≤ n → PagesDone g n 0 v → PagesSteps (page_count g n) g n steps → Tidy (steps ++ v)
+run_tidy g n steps v some was h =
+    let count : g / 256 + page_count g n ≡ (g + n - 1) / 256 + 1 = all_pages g n some in
+    let at : PagesDone g n (page_count g n) (steps ++ v) = pages_done (page_count g n) g n steps v some (omega (arith, count)) was h in
+    record {
+      kept = at.kept;
+      stamped = λ p. false_from_ne_true (is_unstamped (steps ++ v) p) (λ un.
+          let on = at.pending.only p un in
+          let past = on.1 in
+          let within = meets_within g n p on.0 in
+          absurd (omega (arith, count, past, within)));
+    }
+
+-- ---- an entry of the log
+misses : (z y was : Bool) → z ≡ false → (if z && y then true else was) ≡ was
+misses true y was h = absurd (false≢true (sym h))
+misses false y was h = refl
+
+tries_tidy : (name : Name) (first guess : ℕ) (before : List Made) (v : View) → Tries name first guess before → Tidy v → Tidy (before ++ v)
+tries_tidy name first guess before v (inl h) tidy = tidy_none before v h.1 tidy
+tries_tidy name first guess before v (inr h) tidy = subst (λ ms. Tidy (ms ++ v)) (sym h.4) record {
+  kept = (tt, tidy.kept);
+  stamped = λ p. misses (h.0 == live_word name.turn first) (meets_page (grain_of name) first p) (is_unstamped v p) (ne_eqb h.0 (live_word name.turn first) h.1) ∙ tidy.stamped p;
+}
+
+if_met : (y was : Bool) → was ≡ false → (if y then true else was) ≡ y
+if_met true was h = refl
+if_met false was h = h
+
+met_from : (g n p : ℕ) → meets_page g n p ≡ true → g / 256 + 0 ≤ p
+met_from g n p h = let low : g < 256 * p + 256 = grind (arith, nat_tests, h) in omega (arith, low)
+
+ended_is : {x y : ℕ} → Ended x ≡ Ended y → x ≡ y
+ended_is h = cc
+
+not_refused : {x y : ℕ} → Ended x ≡ Refused y → ⊥
+not_refused h = cc
+
+-- the pages of the block that an end with this answer ended
+record IsTried (name : Name) (outcome : Outcome) (v : View) : Type 0 where
+  ended : (grains : ℕ) → outcome ≡ Ended grains → (1 ≤ grains) × PagesDone (grain_of name) grains 0 v
+  refused : (read : ℕ) → outcome ≡ Refused read → Tidy v
+
+pending_now : (name : Name) (guess a : ℕ) (u : View) → AllStamped u → a ≡ live_word name.turn guess → IsPending (grain_of name) guess 0 (made (End name guess) a ∷ u)
+pending_now name guess a u stamped hit =
+    let z : (a == live_word name.turn guess) ≡ true = eq-eqb a (live_word name.turn guess) hit in
+    let is : (p : ℕ) → is_unstamped (made (End name guess) a ∷ u) p ≡ meets_page (grain_of name) guess p = λ p. ap (λ t. if t && meets_page (grain_of name) guess p then true else is_unstamped u p) z ∙ if_met (meets_page (grain_of name) guess p) (is_unstamped u p) (stamped p) in
+    record {
+      only = λ p un. let meets : meets_page (grain_of name) guess p ≡ true = sym (is p) ∙ un in (meets, met_from (grain_of name) guess p meets);
+      rest = λ p meets le. is p ∙ meets;
+    }
+
+end_done : (name : Name) (outcome : Outcome) (guess a : ℕ) (u : View) → Tidy u → name.turn < 2 ^ 40 - 1 → 1 ≤ guess → IsEndOf name guess a outcome → IsTried name outcome (made (End name guess) a ∷ u)
+end_done name (Ended grains) guess a u tidy turn some h = record {
+  ended = λ n e. subst (λ m. (1 ≤ m) × PagesDone (grain_of name) m 0 (made (End name guess) a ∷ u)) (sym h.1 ∙ ended_is e) (some, record { kept = (tt, tidy.kept); pending = pending_now name guess a u tidy.stamped h.0 });
+  refused = λ read e. absurd (not_refused e);
+}
+end_done name (Refused read) guess a u tidy turn some h = record {
+  ended = λ n e. absurd (not_refused (sym e));
+  refused = λ r e. record {
+    kept = (tt, tidy.kept);
+    stamped = λ p. misses (a == live_word name.turn guess) (meets_page (grain_of name) guess p) (is_unstamped u p) (ne_eqb a (live_word name.turn guess) (not_live name guess a turn h.0)) ∙ tidy.stamped p;
+  };
+}
+
+-- ---- an entry, all entries, and a flush; the steps are of the region
+ends_done : (f : Profile) (name : Name) (outcome : Outcome) (steps : List Made) (v : View) → AreOfRegion f steps → EndSteps name outcome steps → Tidy v → IsTried name outcome (steps ++ v)
+ends_done f name outcome steps v of h tidy =
+    let look = made (Look (Word.Deed (address_of name / 4096))) h.deed in
+    let step : IsStepOf f (End name h.guess) = (subst (AreOfRegion f) h.steps_are of).0 in
+    let tried : Tidy ((h.before ++ look ∷ []) ++ v) = tidy_both (h.before ++ look ∷ []) h.before (look ∷ []) v refl
+    (tries_tidy name (guess_by (directory_read h.deed)) h.guess h.before (look ∷ v) h.tries (look_tidy (Word.Deed (address_of name / 4096)) h.deed v refl tidy)) in
+    subst (λ ms. IsTried name outcome (ms ++ v)) (sym h.steps_are) (end_done name outcome h.guess h.answer ((h.before ++ look ∷ []) ++ v) tried step.2 step.3 h.comes_to)
+
+after_tidy : (name : Name) (outcome : Outcome) (after : List Made) (v : View) → IsTried name outcome v → AfterEnd name outcome after → Tidy (after ++ v)
+after_tidy name (Ended grains) after v h run = let now = h.ended grains refl in run_tidy (grain_of name) grains after v now.0 now.1 run
+after_tidy name (Refused read) after v h none = tidy_none after v none (h.refused read refl)
+
+entry_tidy : (f : Profile) (entry : Settled) (steps : List Made) (v : View) → AreOfRegion f steps → EntrySteps entry steps → Tidy v → Tidy (steps ++ v)
+entry_tidy f entry steps v of h tidy =
+    let ends = of_back f h.after h.ends (subst (AreOfRegion f) h.steps_are of) in
+    tidy_both steps h.after h.ends v h.steps_are (after_tidy entry.name entry.outcome h.after (h.ends ++ v) (ends_done f entry.name entry.outcome h.ends v ends h.order tidy) h.returns)
+
+entries_tidy : (f : Profile) (settled : List Settled) (steps : List Made) (v : View) → AreOfRegion f steps → EntriesSteps settled steps → Tidy v → Tidy (steps ++ v)
+entries_tidy f [] steps v of h tidy = tidy_none steps v h tidy
+entries_tidy f (entry ∷ earlier) steps v of h tidy =
+    let here : AreOfRegion f (h.0 ++ h.1) = subst (AreOfRegion f) h.4 of in
+    tidy_both steps h.0 h.1 v h.4 (entry_tidy f entry h.0 (h.1 ++ v) (of_front f h.0 h.1 here) h.2 (entries_tidy f earlier h.1 v (of_back f h.0 h.1 here) h.3 tidy))
+
+flush_tidy : (f : Profile) (k : ℕ) (names : List Name) (steps : List Made) (v : View) → AreOfRegion f steps → EmptiesLog k names steps → Tidy v → Tidy (steps ++ v)
+flush_tidy f k names steps v of h tidy =
+    let look = made (Look Word.Epoch) h.epoch in
+    tidy_both steps h.entries (look ∷ []) v h.steps_are (entries_tidy f h.settled h.entries (look ∷ v) (of_front f h.entries (look ∷ []) (subst (AreOfRegion f) h.steps_are of)) h.order (look_tidy Word.Epoch h.epoch v refl tidy))
+
+-- ---- operations
+pub stop_tidy : (f : Profile) (k : ℕ) (c c' : Cached) (steps : List Made) (v : View) → AreOfRegion f steps → IsStopped k c c' steps → Tidy v → Tidy (steps ++ v)
+stop_tidy f k c c' steps v of h tidy =
+    let flushed = of_back f h.stopped h.flushed (subst (AreOfRegion f) h.steps_are of) in
+    tidy_both steps h.stopped h.flushed v h.steps_are (tidy_over releasing refl h.stopped (h.flushed ++ v) h.kinds (flush_tidy f k c.log h.flushed v flushed h.empties tidy))
+
+full_tidy : (f : Profile) (k : ℕ) (full : Bool) (log log' : List Name) (steps : List Made) (v : View) → AreOfRegion f steps → EmptiesFull full k log log' steps → Tidy v → Tidy (steps ++ v)
+full_tidy f k true log log' steps v of h tidy = flush_tidy f k log steps v of h.0 tidy
+full_tidy f k false log log' steps v of h tidy = tidy_none steps v h.0 tidy
+
+free_tidy : (f : Profile) (k : ℕ) (c c' : Cached) (name : Name) (steps : List Made) (said : Option Said) (v : View) → AreOfRegion f steps → IsFreed f k c c' name steps said → Tidy v → Tidy (steps ++ v)
+free_tidy f k c c' name steps said v of (inl h) tidy = full_tidy f k (nat_le 64 (length c.log)) c.log h.0.logs.kept steps v of h.0.logs.emptied tidy
+free_tidy f k c c' name steps said v of (inr h) tidy = tidy_none steps v h.1.no_steps tidy
+
+freed_tidy : (f : Profile) (k : ℕ) (c c' : Cached) (name : ℕ) (is : Option (Option Block)) (steps : List Made) (said : Option Said) (v : View) → AreOfRegion f steps → IsFreedBy f k c c' name is steps said → Tidy v → Tidy (steps ++ v)
+freed_tidy f k c c' name None steps said v of h tidy = absurd h
+freed_tidy f k c c' name (Some None) steps said v of h tidy = tidy_none steps v h.0 tidy
+freed_tidy f k c c' name (Some (Some block)) steps said v of h tidy = free_tidy f k c c' block.name steps said v of h tidy
+
+pub answer_tidy : (f : Profile) (k : ℕ) (what : What) (b : Having) (a : Answer) → IsAnswered f k what b a → AreOfRegion f a.steps → Tidy b.view → Tidy (a.steps ++ b.view)
+answer_tidy f k (What.Alloc name heap size align) b a h of tidy = tidy_over allocating refl a.steps b.view h.kinds tidy
+answer_tidy f k (What.Free name) b a h of tidy = freed_tidy f k b.cache a.cache name (standing_for b.names name) a.steps a.said b.view of h.0 tidy
+answer_tidy f k (What.Raw block) b a h of tidy = free_tidy f k b.cache a.cache block a.steps a.said b.view of h.0 tidy
+answer_tidy f k What.Flush b a h of tidy = flush_tidy f k b.cache.log a.steps b.view of h.0.empties tidy
+answer_tidy f k What.Stop b a h of tidy = stop_tidy f k b.cache a.cache a.steps b.view of h.0 tidy
+answer_tidy f k (What.Tick e) b a h of tidy = absurd h
+answer_tidy f k What.Pass b a h of tidy = absurd h
+answer_tidy f k (What.Idle n) b a h of tidy = absurd h

@@ -1,0 +1,219 @@
+-- Which steps and records answer the acts of a replay.
+use Rattle.std.specs.Prelude.{ℕ, ◌/◌, ◌%◌, ◌≡◌, ◌==◌, ◌⊎◌, true, if◌then◌else◌, List, [], ◌∷◌, ◌++◌, map, reverse, Option, None, Some, Result, Ok, Err, MatchResult}
+use Rattle.std.specs.List.{AllByRecursion}
+use Rattle.pas_profile.specs.Routes.{route_of}
+use Rattle.pas_profile.specs.declared.profile.Profile.{Profile}
+use Rattle.pas_profile.specs.declared.name.Name.{Name}
+use Rattle.pas_profile.specs.declared.name.Block.{Block}
+use Rattle.pas_profile.specs.declared.word.Word.TheVariants as Word
+use Rattle.pas_profile.specs.declared.event.Event.{Event}
+use Rattle.pas_profile.specs.declared.event.FreeFault.{FreeFault}
+use Rattle.pas_profile.specs.declared.event.FreeFault.TheVariants.{Outside, Unaligned}
+use Rattle.pas_profile.specs.declared.event.NoRoom.{NoRoom}
+use Rattle.pas_profile.specs.declared.event.NoRoom.TheVariants.{NoSpace, Held}
+use Rattle.pas_profile.specs.Runs.{in_run, address_of, grain_of, length_of}
+use Rattle.pas_steps.specs.Views.{View, KnowsDeed}
+use Rattle.pas_steps.specs.Events.{events_by}
+use Rattle.pas_steps.specs.Lists.{Whole, part}
+use Rattle.pas_steps.specs.Desks.{made, triples}
+use Rattle.pas_steps.specs.declared.step.Made.{Made}
+use Rattle.pas_steps.specs.declared.step.Step.TheVariants.{Look}
+use Rattle.pas_trace.specs.declared.plan.What.{What}
+use Rattle.pas_trace.specs.declared.plan.What.TheVariants.{Alloc, Free, Raw, Flush, Stop, Tick, Pass, Idle}
+use Rattle.pas_report.specs.declared.record.Record.{Record}
+use Rattle.pas_report.specs.declared.record.Said.{Said}
+use Rattle.pas_segregated.specs.Stops.{class_directory}
+use Rattle.pas_cache.specs.Caches.{Cached}
+use Rattle.pas_cache.specs.Changes.{EmptiesLog, StopsAll}
+use Rattle.pas_steps.specs.Kinds.{Only}
+use Rattle.pas_cache.specs.Kinds.{allocating, releasing}
+use Rattle.pas_cache.specs.Serves.{class_of, ServesRequest, IsPreparing, IsInSlot, IsClassRoute}
+use Rattle.pas_cache.specs.Calls.{TakesName, RefusesName}
+use Rattle.pas_answers.specs.Acts.{Act, Operates, MarksPhase, Wakes, MarksClose, Ends}
+
+-- ---- what the names of a trace stand for, the newest first: a block, or nothing where the request was refused
+pub record Named : Type 0 where
+  pub name : ℕ
+  pub block : Option Block
+
+abbrev pub named : ℕ → Option Block → Named
+named name block = record { name = name; block = block }
+
+-- what the name stands for; None where no request had it
+abbrev pub standing_for : List Named → ℕ → Option (Option Block)
+standing_for [] name = None
+standing_for (n ∷ names) name = if n.name == name then Some n.block else standing_for names name
+
+-- ---- what the caches hold, by thread
+abbrev pub Caches : Type 0
+Caches = ℕ → Cached
+
+-- that of thread k has become c
+abbrev pub with_cache : Caches → ℕ → Cached → Caches
+with_cache caches k c j = if j == k then c else caches j
+
+-- ---- one operation
+-- what an actor has before it: what the names stand for, the actor's view, and what its cache holds
+pub record Having : Type 0 where
+  pub names : List Named
+  pub view : View
+  pub cache : Cached
+
+abbrev pub having : List Named → View → Cached → Having
+having names v c = record { names = names; view = v; cache = c }
+
+-- an answer: its steps, what is said besides, and then what the names stand for and what the cache holds
+pub record Answer : Type 0 where
+  pub steps : List Made
+  pub said : Option Said
+  pub names : List Named
+  pub cache : Cached
+
+abbrev pub answer_of : List Made → Option Said → List Named → Cached → Answer
+answer_of steps said names c = record { steps = steps; said = said; names = names; cache = c }
+
+-- ---- records
+-- those of steps: their events in the order in which they were made
+abbrev pub records_of : List Event → List Record
+records_of es = map Record.Event (reverse es)
+
+-- .. and what is said besides
+abbrev pub said_by : ℕ → Option Said → List Record
+said_by k None = []
+said_by k (Some said) = Record.Said k said ∷ []
+
+-- ---- a request
+-- what is said where it was refused
+abbrev pub said_of_room : ℕ → NoRoom → Said
+said_of_room name NoSpace = Said.NoSpace name
+said_of_room name (Held page) = Said.Held page name
+
+abbrev pub said_of_request : ℕ → Result Block NoRoom → Option Said
+said_of_request name (Ok block) = None
+said_of_request name (Err room) = Some (said_of_room name room)
+
+-- the block that its name stands for from then on
+abbrev pub block_of : Result Block NoRoom → Option Block
+block_of (Ok block) = Some block
+block_of (Err room) = None
+
+-- what is asked for: under which name, of which heap, how many bytes, and at a multiple of what
+pub record Request : Type 0 where
+  pub name : ℕ
+  pub heap : ℕ
+  pub size : ℕ
+  pub align : ℕ
+
+-- the class that serves it
+abbrev pub class_for : Request → ℕ
+class_for r = class_of (route_of r.size r.align)
+
+-- The block that actor k gave with these steps after the view is of the heap, in a slot of the class, and at a multiple of the alignment. Each page of its run is known to have
+-- the request's directory as its deed then. It was given last, after deeds of this directory and backs.
+pub record IsGiven (k : ℕ) (r : Request) (v : View) (steps : List Made) (block : Block) : Type 0 where
+  pub of_heap : block.heap ≡ r.heap
+  pub slot : IsInSlot (class_for r) block
+  pub aligned : address_of block.name % r.align ≡ 0
+  pub of_directory : (g : ℕ) → in_run (grain_of block.name) (length_of block) g ≡ true → KnowsDeed (g / 256) (class_directory r.heap (class_for r)) (steps ++ v)
+  pub before : List Event
+  pub events : events_by k v steps ≡ Event.Give k block ∷ before
+  pub prepared : AllByRecursion (IsPreparing (class_directory r.heap (class_for r))) before
+
+-- a refused request makes no event
+abbrev pub RequestEnds : ℕ → Request → View → List Made → Result Block NoRoom → Type 0
+RequestEnds k r v steps served = MatchResult served (IsGiven k r v steps) (λ room. events_by k v steps ≡ [])
+
+-- Actor k's cache serves the request, or refuses it with the evidence of its search. Only a flush stamps pages, and none is made. From then on the name
+-- stands for the block, or for nothing.
+pub record IsServed (f : Profile) (k : ℕ) (r : Request) (before : Having) (after : Answer) : Type 0 where
+  pub route : IsClassRoute (route_of r.size r.align)
+  pub answer : Result Block NoRoom
+  pub serves : ServesRequest f (class_directory r.heap (class_for r)) r.heap (class_for r) before.cache after.cache after.steps answer
+  pub kinds : Only allocating after.steps
+  pub ends : RequestEnds k r before.view after.steps answer
+  pub said_is : after.said ≡ said_of_request r.name answer
+  pub names_are : after.names ≡ named r.name (block_of answer) ∷ before.names
+
+-- ---- a free
+abbrev pub said_of_fault : Name → FreeFault → Said
+said_of_fault name Outside = Said.Outside name
+said_of_fault name Unaligned = Said.Unaligned name
+
+-- the name is logged, after a full log was emptied; or it can't be any block's, which is said
+abbrev pub IsFreed : Profile → ℕ → Cached → Cached → Name → List Made → Option Said → Type 0
+IsFreed f k c c' name steps said =
+    (TakesName f k c c' name steps × (said ≡ None))
+    ⊎ ((fault : FreeFault) × RefusesName f c c' name steps fault × (said ≡ Some (said_of_fault name fault)))
+
+-- what a free by a name of the trace comes to: the name was never asked for (which no trace has), its request was refused, or it stands for a
+-- block
+abbrev pub IsFreedBy : Profile → ℕ → Cached → Cached → ℕ → Option (Option Block) → List Made → Option Said → Type 0
+IsFreedBy f k c c' name None steps said = ⊥
+IsFreedBy f k c c' name (Some None) steps said = (steps ≡ []) × (c' ≡ c) × (said ≡ Some (Said.Skipped name))
+IsFreedBy f k c c' name (Some (Some block)) steps said = IsFreed f k c c' block.name steps said
+
+-- ---- a flush and a stop
+pub record IsFlushed (k : ℕ) (c c' : Cached) (steps : List Made) : Type 0 where
+  pub empties : EmptiesLog k c.log steps
+  pub cache : c' ≡ record c { log = [] }
+
+-- the log is emptied, then each local allocator is stopped, without an event, and nothing is cached then
+pub record IsStopped (k : ℕ) (c c' : Cached) (steps : List Made) : Type 0 where
+  pub flushed : List Made
+  pub stopped : List Made
+  pub empties : EmptiesLog k c.log flushed
+  pub stops : StopsAll c.locals stopped
+  pub kinds : Only releasing stopped
+  pub silent : (v : View) → events_by k v stopped ≡ []
+  pub cache : c' ≡ record c { locals = []; log = [] }
+  pub steps_are : steps ≡ stopped ++ flushed
+
+-- ---- operations and acts
+-- An operation of actor k is answered so. Those that aren't built are never replayed.
+abbrev pub IsAnswered : Profile → ℕ → What → Having → Answer → Type 0
+IsAnswered f k (Alloc name heap size align) b a = IsServed f k (record { name = name; heap = heap; size = size; align = align }) b a
+IsAnswered f k (Free name) b a = IsFreedBy f k b.cache a.cache name (standing_for b.names name) a.steps a.said × (a.names ≡ b.names)
+IsAnswered f k (Raw block) b a = IsFreed f k b.cache a.cache block a.steps a.said × (a.names ≡ b.names)
+IsAnswered f k Flush b a = IsFlushed k b.cache a.cache a.steps × (a.said ≡ None) × (a.names ≡ b.names)
+IsAnswered f k Stop b a = IsStopped k b.cache a.cache a.steps × (a.said ≡ None) × (a.names ≡ b.names)
+IsAnswered f k (Tick e) b a = ⊥
+IsAnswered f k Pass b a = ⊥
+IsAnswered f k (Idle n) b a = ⊥
+
+-- the cache after its thread read this epoch at the start of a phase
+abbrev pub begun : Cached → ℕ → Cached
+begun c epoch = record { locals = c.locals; log = c.log; idle_since = epoch }
+
+-- how far a replay has come: what the names stand for, what the caches hold, the list of the steps, and the records
+pub record Progress : Type 0 where
+  pub names : List Named
+  pub caches : Caches
+  pub list : Whole
+  pub records : List Record
+
+abbrev pub progress : List Named → Caches → Whole → List Record → Progress
+progress names caches l rs = record { names = names; caches = caches; list = l; records = rs }
+
+-- .. with records more at the end
+abbrev pub with_records : Progress → List Record → Progress
+with_records p rs = record p { records = p.records ++ rs }
+
+-- .. after actor k's steps, whose cache holds c then
+abbrev pub with_steps : Progress → ℕ → List Made → Cached → Progress
+with_steps p k steps c = record p { caches = with_cache p.caches k c; list = triples k steps ++ p.list }
+
+-- The acts are answered by pieces, in order: the steps of each go onto the list that those before it left, and its records to the end of the
+-- records: the events of the steps, and what is said. They begin as far as p, and end with the list l and the records rs. A piece is about the part of its
+-- own actor in the list and about its cache, and about nothing else: so the list says of each actor which pieces its part is made of, in the order of its
+-- acts, and puts the pieces of different actors in the order of the acts.
+abbrev pub Follows : Profile → List Act → Progress → Whole → List Record → Type 0
+Follows f [] p l rs = (l ≡ p.list) × (rs ≡ p.records)
+Follows f (MarksPhase n ∷ acts) p l rs = Follows f acts (with_records p (Record.Phase n ∷ [])) l rs
+Follows f (MarksClose ∷ acts) p l rs = Follows f acts (with_records p (Record.Close ∷ [])) l rs
+Follows f (Wakes k ∷ acts) p l rs = (epoch : ℕ) × Follows f acts (with_steps p k (made (Look Word.Epoch) epoch ∷ []) (begun (p.caches k) epoch)) l rs
+Follows f (Operates op ∷ acts) p l rs =
+    (a : Answer) × IsAnswered f op.actor op.what (having p.names (part op.actor p.list) (p.caches op.actor)) a
+    × Follows f acts (with_records (record (with_steps p op.actor a.steps a.cache) { names = a.names }) (records_of (events_by op.actor (part op.actor p.list) a.steps) ++ said_by op.actor a.said)) l rs
+Follows f (Ends k ∷ acts) p l rs =
+    (steps : List Made) × (c : Cached) × IsStopped k (p.caches k) c steps
+    × Follows f acts (with_records (with_steps p k steps c) (records_of (events_by k (part k p.list) steps))) l rs

@@ -1,0 +1,104 @@
+-- What one operation asks and promises.
+use Rattle.std.specs.Prelude.{ℕ, ◌+◌, ◌-◌, ◌^◌, ◌<◌, ◌≤◌, ◌≡◌, List, ◌++◌, length, Option, None, Some}
+use Rattle.pas_profile.specs.declared.profile.Profile.{Profile}
+use Rattle.pas_profile.specs.declared.name.Name.{Name}
+use Rattle.pas_profile.specs.declared.name.Block.{Block}
+use Rattle.pas_steps.specs.Views.{View}
+use Rattle.pas_steps.specs.Agreement.{Agreed}
+use Rattle.pas_steps.specs.Events.{events_by}
+use Rattle.pas_steps.specs.Lists.{Whole}
+use Rattle.pas_steps.specs.Desks.{Standing, Adds}
+use Rattle.pas_steps.specs.declared.step.Made.{Made}
+use Rattle.pas_trace.specs.declared.plan.What.{What}
+use Rattle.pas_trace.specs.declared.plan.What.TheVariants.{Alloc, Free, Raw, Flush, Stop, Tick, Pass, Idle}
+use Rattle.pas_report.specs.Rooms.{records_in, room_of}
+use Rattle.pas_report.specs.declared.record.Said.{Said}
+use Rattle.pas_report.specs.declared.records.Records.{Records}
+use Rattle.pas_cache.specs.Caches.{Cached, AtRest}
+use Rattle.pas_steps.specs.Unknown.{unknown_pages}
+use Rattle.pas_answers.specs.Answers.{having, answer_of, Named, standing_for, IsFreed, IsAnswered, records_of, said_by}
+use Rattle.pas_answers.specs.Fit.{cost_of_what}
+use Rattle.pas_answers.specs.Names.{block_named, names_held}
+use Rattle.pas_answers.specs.declared.names.Names.{Names}
+
+-- ---- the table of names
+-- the block that a name stands for, where it stands for one
+abbrev pub block_behind : Option (Option Block) → Option Block
+block_behind None = None
+block_behind (Some block) = block
+
+-- the table says of each name what it stands for
+abbrev pub Tells : Names → List Named → Type 0
+Tells table names = (n : ℕ) → block_named table n ≡ block_behind (standing_for names n)
+
+-- the turn of each block in it has a next one
+abbrev pub HasTurns : Names → Type 0
+HasTurns table = (n : ℕ) (block : Block) → block_named table n ≡ Some block → block.name.turn < 2 ^ 40 - 1
+
+-- a name that is freed was asked for
+abbrev pub IsKnown : List Named → What → Type 0
+IsKnown names (Alloc name heap size align) = Unit {0}
+IsKnown names (Free name) = (block : Option Block) × (standing_for names name ≡ Some block)
+IsKnown names (Raw block) = Unit {0}
+IsKnown names Flush = Unit {0}
+IsKnown names Stop = Unit {0}
+IsKnown names (Tick epoch) = Unit {0}
+IsKnown names Pass = Unit {0}
+IsKnown names (Idle n) = Unit {0}
+
+-- ---- what is owed in the end
+-- The events that an actor may still make without another request: one for the deed of each page that it doesn't know, and one for each logged
+-- name. An operation makes at most its cost more.
+abbrev pub owed_events : Profile → Cached → View → ℕ
+owed_events f c v = unknown_pages f v + length c.log
+
+-- ---- an operation
+-- an actor at rest with the one cache is at rest with the other after these steps
+abbrev pub StaysAtRest : Profile → Cached → Cached → List Made → Type 0
+StaysAtRest f c c' steps = (v : View) → AtRest f c v → Agreed f v steps → AtRest f c' (steps ++ v)
+
+-- the actor is at rest with its cache, and there is room for so many events
+pub record MayPerform (f : Profile) (c : Cached) (what : What) (spare : ℕ) (v : View) : Type 0 where
+  pub rest : AtRest f c v
+  pub room : cost_of_what what + owed_events f c v ≤ spare
+
+-- what an operation works on beside its desk: the table of names, and what the cache holds
+pub record Works : Type 0 where
+  pub table : Names
+  pub cache : Cached
+
+abbrev pub works : Names → Cached → Works
+works table c = record { table = table; cache = c }
+
+-- The steps and what is said answer the operation, and the actor is at rest again. The events and what is said are paid for.
+pub record Performs (what : What) (before after : Works) (desk desk' : Standing) (said : Option Said) : Type 0 where
+  pub steps : List Made
+  pub adds : Adds desk desk' (λ v l. AtRest desk.seat.profile before.cache v) steps
+  pub rest : StaysAtRest desk.seat.profile before.cache after.cache steps
+  pub few : (v : View) → AtRest desk.seat.profile before.cache v → Agreed desk.seat.profile v steps
+      → length (events_by desk.seat.actor v steps) + length (said_by desk.seat.actor said) + owed_events desk.seat.profile after.cache (steps ++ v) ≤ cost_of_what what + owed_events desk.seat.profile before.cache v
+  pub answered : (v : View) (l : Whole) → desk.stands v l → AtRest desk.seat.profile before.cache v → (names : List Named) → Tells before.table names → IsKnown names what
+      → (names' : List Named) × Tells after.table names' × IsAnswered desk.seat.profile desk.seat.actor what (having names v before.cache) (answer_of steps said names' after.cache)
+  pub held : names_held after.table ≡ names_held before.table
+
+-- a free by name and turn
+pub record FreesOne (block : Name) (c c' : Cached) (desk desk' : Standing) (said : Option Said) : Type 0 where
+  pub steps : List Made
+  pub adds : Adds desk desk' (λ v l. AtRest desk.seat.profile c v) steps
+  pub rest : StaysAtRest desk.seat.profile c c' steps
+  pub few : (v : View) → AtRest desk.seat.profile c v → Agreed desk.seat.profile v steps
+      → length (events_by desk.seat.actor v steps) + length (said_by desk.seat.actor said) + owed_events desk.seat.profile c' (steps ++ v) ≤ 1 + owed_events desk.seat.profile c v
+  pub freed : IsFreed desk.seat.profile desk.seat.actor c c' block steps said
+
+-- .. and there is room for its records
+pub record MayAnswer (f : Profile) (c : Cached) (what : What) (spare : ℕ) (out : Records) (v : View) : Type 0 where
+  pub may : MayPerform f c what spare v
+  pub records : length (records_in out) + (cost_of_what what + owed_events f c v) ≤ room_of out
+
+-- the records of the events of the steps, and then what is said, come to the end
+pub record Answers (what : What) (before after : Works) (out out' : Records) (desk desk' : Standing) : Type 0 where
+  pub said : Option Said
+  pub performs : Performs what before after desk desk' said
+  pub pushed : (v : View) (l : Whole) → desk.stands v l → AtRest desk.seat.profile before.cache v
+      → records_in out' ≡ records_in out ++ (records_of (events_by desk.seat.actor v performs.steps) ++ said_by desk.seat.actor said)
+  pub room : room_of out' ≡ room_of out

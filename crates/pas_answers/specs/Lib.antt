@@ -1,0 +1,8 @@
+pub mod Acts
+pub mod Answers
+pub mod Own
+pub mod Ways
+pub mod Replays
+pub mod Fit
+pub mod Names
+pub mod Calls

@@ -1,0 +1,89 @@
+-- Which plans can be replayed, and what a replay shows.
+use Rattle.std.specs.Prelude.{ℕ, ◌≡◌, List, [], ◌∷◌, Some, map}
+use Rattle.pas_profile.specs.Profiles.{IsDirectoryOf, IsWordOf}
+use Rattle.pas_profile.specs.Routes.{route_of}
+use Rattle.pas_profile.specs.declared.word.Word.{Word}
+use Rattle.pas_profile.specs.declared.directory.Directory.{Directory}
+use Rattle.pas_machine.specs.Machine.{Run}
+use Rattle.pas_machine.specs.State.{deed_in}
+use Rattle.pas_steps.specs.Views.{KnowsDeed}
+use Rattle.pas_steps.specs.Lists.{Whole, part, word_after, visible, Legal}
+use Rattle.pas_steps.specs.Clear.{HasNothing}
+use Rattle.pas_steps.specs.States.{profile_of, word_in}
+use Rattle.pas_steps.specs.declared.state.State.{State}
+use Rattle.pas_trace.specs.Plans.{ops_of}
+use Rattle.pas_trace.specs.declared.plan.What.{What}
+use Rattle.pas_trace.specs.declared.plan.What.TheVariants.{Alloc, Free, Raw, Flush, Stop, Tick, Pass, Idle}
+use Rattle.pas_trace.specs.declared.plan.Op.{Op}
+use Rattle.pas_trace.specs.declared.plan.Plan.{Plan}
+use Rattle.pas_report.specs.Rests.{AreStamped, AreTrueMarks}
+use Rattle.pas_report.specs.declared.record.Record.{Record}
+use Rattle.pas_cache.specs.Caches.{Cached}
+use Rattle.pas_cache.specs.Serves.{IsClassRoute}
+use Rattle.pas_answers.specs.Acts.{acts_of}
+use Rattle.pas_answers.specs.Answers.{Caches, Progress, progress, Follows}
+use Rattle.pas_answers.specs.Ways.{Way, IsOneOrder, arranged}
+
+-- ---- what can be replayed today: no heap is shared, each request is of a class, and the scavenger has no operation
+abbrev pub IsBuiltWhat : What → Type 0
+IsBuiltWhat (Alloc name heap size align) = IsClassRoute (route_of size align)
+IsBuiltWhat (Free name) = Unit {0}
+IsBuiltWhat (Raw block) = Unit {0}
+IsBuiltWhat Flush = Unit {0}
+IsBuiltWhat Stop = Unit {0}
+IsBuiltWhat (Tick epoch) = ⊥
+IsBuiltWhat Pass = ⊥
+IsBuiltWhat (Idle n) = ⊥
+
+abbrev pub AreBuilt : List Op → Type 0
+AreBuilt [] = Unit {0}
+AreBuilt (op ∷ ops) = IsBuiltWhat op.what × AreBuilt ops
+
+abbrev pub AllBuilt : List (List Op) → Type 0
+AllBuilt [] = Unit {0}
+AllBuilt (phase ∷ phases) = AreBuilt phase × AllBuilt phases
+
+-- the phases of a plan, as lists of operations
+abbrev pub phases_of : Plan → List (List Op)
+phases_of plan = map ops_of plan.phases.phases.items
+
+pub record IsBuilt (plan : Plan) : Type 0 where
+  pub unshared : plan.profile.shared ≡ 0
+  pub built : AllBuilt (phases_of plan)
+
+-- ---- what a replay shows
+-- a cache that nobody used
+abbrev pub empty_cache : Cached
+empty_cache = record { locals = []; log = []; idle_since = 0 }
+
+abbrev pub empty_caches : Caches
+empty_caches k = empty_cache
+
+-- no name was asked for, no cache was used, and no step was made
+abbrev pub at_start : Progress
+at_start = progress [] empty_caches [] []
+
+-- A REPLAY of a plan, for both ways: a list of steps and the records of it. The acts of the plan are answered by pieces, each by the thread's own
+-- cache, which stand in `told` in the order of the acts with their records in `said`. The list has of each actor the same part as `told`, and the records
+-- are those of the pieces, in the order of this way. The list is legal, and at its end all actors have nothing and owe nothing. Its visible events are a run
+-- of the allocator's machine, whose pages have the deeds that the threads know. The stamp of each page is the greatest epoch of an end there, and the
+-- marks of the pages are true.
+pub record IsReplay (way : Way) (plan : Plan) (whole : Whole) (records : List Record) : Type 0 where
+  pub told : Whole
+  pub said : List Record
+  pub answers : Follows plan.profile (acts_of plan.profile.threads (phases_of plan)) at_start told said
+  pub one_order : IsOneOrder way told whole
+  pub records_are : records ≡ arranged way plan.profile.threads said
+  pub legal : Legal plan.profile whole
+  pub nothing : (k : ℕ) → HasNothing (part k whole)
+  pub run : Run plan.profile (visible whole)
+  pub deeds : (k page : ℕ) (d : Directory) → IsDirectoryOf plan.profile d → KnowsDeed page d (part k whole) → deed_in (visible whole) page ≡ Some d
+  pub stamps : AreStamped plan.profile whole
+  pub marks : AreTrueMarks plan.profile whole
+
+-- the plan was replayed with these records, and the state has the words after its list
+pub record Shows (way : Way) (plan : Plan) (records : List Record) (state : State) : Type 0 where
+  pub whole : Whole
+  pub replay : IsReplay way plan whole records
+  pub profile : profile_of state ≡ plan.profile
+  pub words : (word : Word) → IsWordOf plan.profile word → word_in state word ≡ word_after whole word

@@ -1,0 +1,147 @@
+//! One operation of a thread.
+ghost use Rattle.std.specs.Prelude.{◌≡◌, ◌+◌, ◌-◌, ◌^◌, ◌≤◌, ◌<◌, ◌++◌, true, false, ℕ, List, length, map, drop};
+ghost use Rattle.pas_trace.specs.declared.plan.What.TheVariants as TheWhat;
+ghost use Rattle.pas_report.specs.Rooms.{records_in, room_of};
+ghost use Rattle.pas_steps.specs.Desks.{CanCall};
+ghost use Rattle.pas_cache.specs.Caches.{cached};
+ghost use Rattle.pas_answers.specs.Answers.{said_of_room};
+ghost use Rattle.pas_answers.specs.Fit.{IsFitWhat};
+ghost use Rattle.pas_answers.specs.Names.{names_held};
+ghost use Rattle.pas_answers.specs.Calls.{works, HasTurns, MayPerform, Performs, FreesOne, MayAnswer, Answers};
+
+use crate::names::Names;
+use pas_cache::ThreadCache;
+use pas_profile::{Event, FreeFault, Name, NoRoom};
+use pas_report::{Record, Records, Said};
+use pas_steps::Desk;
+use pas_trace::What;
+
+/// Adds the events from this place on to the records, in their order.
+pub(crate) fn push_events(shown: &[Event], before: usize, out: &mut Records)
+    requires within { before ≤ length shown.now }
+    requires room { length (records_in out.old) + length (drop before shown.now) ≤ room_of out.old }
+    ensures added { records_in out.new ≡ records_in out.old ++ map Record.Event (drop before shown.now) }
+    ensures room { room_of out.new ≡ room_of out.old }
+{
+    let events = &shown[before..];
+    for event in events {
+        out.push(Record::Event(*event));
+    }
+}
+
+/// What is said of a request that was refused.
+fn refusal(name: u32, room: NoRoom) -> Said
+    ensures { result ≡ said_of_room name room }
+{
+    match room {
+        NoRoom::NoSpace => Said::NoSpace { name },
+        NoRoom::Held(page) => Said::Held { page, name },
+    }
+}
+
+/// Serves a request, and names the block. What is said where it was refused.
+fn allocate<D: Desk>(
+    desk: &mut D,
+    cache: &mut ThreadCache,
+    names: &mut Names,
+    name: u32,
+    heap: u8,
+    size: u32,
+    align: u32,
+) -> Option<Said>
+    requires unshared { (D.standing desk.old).seat.profile.shared ≡ 0 }
+    requires fit { (asked : List ℕ) × IsFitWhat (D.standing desk.old).seat.profile (names_held names.old) asked (TheWhat.Alloc name heap size align) }
+    requires turns { HasTurns names.old }
+    requires can { CanCall (D.standing desk.old) (λ v l. MayPerform (D.standing desk.old).seat.profile (cached cache.old) (TheWhat.Alloc name heap size align) (D.spare_of desk.old) v) }
+    ensures performs { Performs (TheWhat.Alloc name heap size align) (works names.old (cached cache.old)) (works names.new (cached cache.new)) (D.standing desk.old) (D.standing desk.new) result }
+    ensures turns { HasTurns names.new }
+    ensures home { D.home desk.new ≡ D.home desk.old }
+{
+    match cache.alloc(desk, heap, size, align) {
+        Ok(block) => {
+            names.set(name, Some(block));
+            None
+        }
+        Err(room) => {
+            names.set(name, None);
+            Some(refusal(name, room))
+        }
+    }
+}
+
+/// Frees the block of this name. What is said where no block can have the name.
+fn free<D: Desk>(desk: &mut D, cache: &mut ThreadCache, block: Name) -> Option<Said>
+    requires turn { block.turn < 2 ^ 40 - 1 }
+    requires can { CanCall (D.standing desk.old) (λ v l. MayPerform (D.standing desk.old).seat.profile (cached cache.old) (TheWhat.Raw block) (D.spare_of desk.old) v) }
+    ensures frees { FreesOne block (cached cache.old) (cached cache.new) (D.standing desk.old) (D.standing desk.new) result }
+    ensures home { D.home desk.new ≡ D.home desk.old }
+{
+    match cache.free(desk, block) {
+        Ok(()) => None,
+        Err(FreeFault::Outside) => Some(Said::Outside { block }),
+        Err(FreeFault::Unaligned) => Some(Said::Unaligned { block }),
+    }
+}
+
+/// Performs the operation. What is said besides its events.
+fn perform<D: Desk>(
+    desk: &mut D,
+    cache: &mut ThreadCache,
+    names: &mut Names,
+    what: What,
+) -> Option<Said>
+    requires unshared { (D.standing desk.old).seat.profile.shared ≡ 0 }
+    requires fit { (asked : List ℕ) × IsFitWhat (D.standing desk.old).seat.profile (names_held names.old) asked what }
+    requires turns { HasTurns names.old }
+    requires can { CanCall (D.standing desk.old) (λ v l. MayPerform (D.standing desk.old).seat.profile (cached cache.old) what (D.spare_of desk.old) v) }
+    ensures performs { Performs what (works names.old (cached cache.old)) (works names.new (cached cache.new)) (D.standing desk.old) (D.standing desk.new) result }
+    ensures turns { HasTurns names.new }
+    ensures home { D.home desk.new ≡ D.home desk.old }
+{
+    match what {
+        What::Alloc {
+            name,
+            heap,
+            size,
+            align,
+        } => allocate(desk, cache, names, name, heap, size, align),
+        What::Free { name } => match names.get(name) {
+            Some(block) => free(desk, cache, block.name),
+            None => Some(Said::Skipped { name }),
+        },
+        What::Raw { block } => free(desk, cache, block),
+        What::Flush => {
+            cache.flush(desk);
+            None
+        }
+        What::Stop => {
+            cache.stop(desk);
+            None
+        }
+        What::Tick(_) | What::Pass | What::Idle(_) => unreachable!(),
+    }
+}
+
+/// Performs the operation, and adds its events and what is said to the records.
+pub fn answer<D: Desk>(
+    desk: &mut D,
+    cache: &mut ThreadCache,
+    names: &mut Names,
+    what: What,
+    out: &mut Records,
+)
+    requires unshared { (D.standing desk.old).seat.profile.shared ≡ 0 }
+    requires fit { (asked : List ℕ) × IsFitWhat (D.standing desk.old).seat.profile (names_held names.old) asked what }
+    requires turns { HasTurns names.old }
+    requires can { CanCall (D.standing desk.old) (λ v l. MayAnswer (D.standing desk.old).seat.profile (cached cache.old) what (D.spare_of desk.old) out.old v) }
+    ensures answers { Answers what (works names.old (cached cache.old)) (works names.new (cached cache.new)) out.old out.new (D.standing desk.old) (D.standing desk.new) }
+    ensures turns { HasTurns names.new }
+    ensures home { D.home desk.new ≡ D.home desk.old }
+{
+    let before = desk.shown().len();
+    let said = perform(desk, cache, names, what);
+    push_events(desk.shown(), before, out);
+    if let Some(said) = said {
+        out.push(Record::Said(desk.actor(), said));
+    }
+}

@@ -1,0 +1,9 @@
+//! What answers the operations and acts of a plan, over any desk: the steps and records of one operation, and what a replay of all of them is.
+#![tactic(auto)]
+
+mod answering;
+mod buildable;
+pub mod names;
+
+pub use answering::answer;
+pub use buildable::is_built;

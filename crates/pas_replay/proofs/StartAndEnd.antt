@@ -1,0 +1,183 @@
+-- How a replay starts, and what it shows at its end.
+use Rattle.std.proofs.Common.{◌≡◌, ℕ, zero, suc, ◌+◌, ◌*◌, ◌<◌, ◌≤◌, true, false, inl, inr, List, [], ◌∷◌, length, get_or, Some, None, refl, ap, sym, ◌∙◌, subst, arith, slice_index}
+use Rattle.std.proofs.lemmas.Bool.{cases_eq, cases_lt}
+use Rattle.std.proofs.Math.Nat.{suc-mul}
+use Rattle.pas_profile.specs.Profiles.{IsValid, IsWordOf}
+use Rattle.pas_profile.specs.declared.profile.Profile.{Profile}
+use Rattle.pas_profile.specs.declared.word.Word.{Word}
+use Rattle.pas_steps.specs.Lists.{Whole, part, word_after, Legal}
+use Rattle.pas_steps.specs.States.{profile_of as the_profile_of, word_in}
+use Rattle.pas_steps.specs.declared.state.State.{State}
+use Rattle.pas_trace.specs.Plans.{IsPlanOf, bounds_of}
+use Rattle.pas_trace.specs.declared.plan.Op.{Op}
+use Rattle.pas_trace.specs.declared.plan.Plan.{Plan}
+use Rattle.pas_plain.specs.Plain.{profile_of, RegionStands}
+use Rattle.pas_plain.specs.declared.region.PlainRegion.{PlainRegion}
+use Rattle.pas_report.specs.Rooms.{records_in, room_of}
+use Rattle.pas_report.specs.declared.record.Record.{Record}
+use Rattle.pas_report.specs.declared.records.Records.{Records}
+use Rattle.pas_cache.specs.Locals.{any_covers, any_keeps}
+use Rattle.pas_cache.specs.Caches.{Cached, cached, AtRest}
+use Rattle.pas_steps.specs.Clear.{HasNothing}
+use Rattle.pas_steps.specs.Unknown.{unknown_below}
+use Rattle.pas_cache.proofs.FlushesAndFrees.{rests_empty}
+use Rattle.pas_segregated.specs.declared.slots.Slots.{Slots}
+use Rattle.pas_answers.specs.Acts.{Act, acts_of}
+use Rattle.pas_answers.specs.Answers.{progress, Follows}
+use Rattle.pas_answers.specs.Calls.{owed_events}
+use Rattle.pas_answers.specs.Fit.{own_costs_of, ops_in}
+use Rattle.pas_replay.specs.Kits.{IsFresh, IsKitOf}
+use Rattle.pas_answers.specs.Names.{names_held}
+use Rattle.pas_answers.specs.Replays.{phases_of, IsBuilt, empty_cache, empty_caches, Shows}
+use Rattle.pas_answers.specs.Ways.{InOrder}
+use Rattle.pas_replay.specs.Sessions.{ThreadStands, AllStand, AreCaches, AreEmpty, SoFar, owed_from}
+use Rattle.pas_replay.specs.declared.kit.PlainKit.{PlainKit}
+use Rattle.pas_answers.specs.declared.names.Names.{Names}
+use Rattle.pas_replay.specs.declared.seats.Thread.{Thread}
+use Rattle.pas_replay.proofs.BuiltPlans.{plan_fit, plan_own, plan_total, plan_marks}
+use Rattle.pas_answers.proofs.Consequences.{replays}
+use Rattle.pas_replay.proofs.ActsInOrder.{at_region, of_profile}
+
+-- ---- the start
+-- the threads from this one on did nothing yet
+abbrev AllFresh : Plan → ℕ → List Thread → Type 0
+AllFresh plan k threads = (i : ℕ) (d : Thread) → i < length threads → IsFresh plan (k + i) (get_or threads i d)
+
+first_fresh : (plan : Plan) (k : ℕ) (t : Thread) (ts : List Thread) → AllFresh plan k (t ∷ ts) → IsFresh plan k t
+first_fresh plan k t ts fresh = let is : k + 0 ≡ k = omega arith in subst (λ (n : ℕ). IsFresh plan n t) is (fresh 0 t (omega arith))
+
+later_fresh : (plan : Plan) (k : ℕ) (t : Thread) (ts : List Thread) → AllFresh plan k (t ∷ ts) → AllFresh plan (k + 1) ts
+later_fresh plan k t ts fresh i d lt = let is : k + suc i ≡ k + 1 + i = omega arith in subst (λ (n : ℕ). IsFresh plan n (get_or ts i d)) is (fresh (suc i) d (omega (arith, lt)))
+
+unknown_all : (n : ℕ) → unknown_below n [] ≡ n
+unknown_all zero = refl
+unknown_all (suc n) = let rest = unknown_all n in omega (arith, rest)
+
+nothing_owed : (f : Profile) (c : Cached) → c ≡ empty_cache → owed_events f c [] ≡ f.pages
+nothing_owed f c is = ap (λ (x : Cached). owed_events f x []) is ∙ (let all = unknown_all f.pages in omega (arith, all))
+
+nothing : HasNothing []
+nothing = record { grains = λ g. refl; rights = λ page. refl; clear = record { on = λ page. record { stamped = refl; owes = record { checks = λ word lt. refl; hint = refl }; examined = refl } } }
+
+starts_at : (plan : Plan) (acts : List Act) (k : ℕ) (t : Thread) → (plan.profile.pages + own_costs_of k (ops_in acts) ≤ slice_index (bounds_of plan.bounds) k) → IsFresh plan k t → ThreadStands plan.profile k t [] (own_costs_of k (ops_in acts))
+starts_at plan acts k t within fresh =
+    let owed = nothing_owed plan.profile (cached t.cache) fresh.cache in
+    let room = fresh.room in
+    record {
+      pass = fresh.pass;
+      present = fresh.present;
+      actor = fresh.actor;
+      stands = fresh.stands;
+      rest = rests_empty plan.profile (cached t.cache) [] (ap (λ (c : Cached). c.locals) fresh.cache) (ap (λ (c : Cached). c.log) fresh.cache) nothing;
+      room = omega (arith, owed, room, within);
+    }
+
+starts : (plan : Plan) (acts : List Act) (k : ℕ) (threads : List Thread) → ((j : ℕ) → k ≤ j → j < k + length threads → plan.profile.pages + own_costs_of j (ops_in acts) ≤ slice_index (bounds_of plan.bounds) j)
+    → AllFresh plan k threads → AllStand plan.profile [] acts k threads
+starts plan acts k [] within fresh = tt
+starts plan acts k (t ∷ ts) within fresh = (
+  starts_at plan acts k t (within k (omega arith) (omega arith)) (first_fresh plan k t ts fresh),
+  starts plan acts (k + 1) ts (λ j low high. within j (omega (arith, low)) (omega (arith, high))) (later_fresh plan k t ts fresh),
+)
+
+caches_start : (plan : Plan) (k : ℕ) (threads : List Thread) → AllFresh plan k threads → AreCaches empty_caches k threads
+caches_start plan k [] fresh = tt
+caches_start plan k (t ∷ ts) fresh = (sym (first_fresh plan k t ts fresh).cache, caches_start plan (k + 1) ts (later_fresh plan k t ts fresh))
+
+owed_start : (plan : Plan) (k : ℕ) (threads : List Thread) → AllFresh plan k threads → owed_from plan.profile [] k threads ≡ length threads * plan.profile.pages
+owed_start plan k [] fresh = omega arith
+owed_start plan k (t ∷ ts) fresh =
+    let this = nothing_owed plan.profile (cached t.cache) (first_fresh plan k t ts fresh).cache in
+    let rest = owed_start plan (k + 1) ts (later_fresh plan k t ts fresh) in
+    let more = suc-mul (length ts) plan.profile.pages in
+    omega (arith, this, rest, more)
+
+pub start : {text : List ℕ} {plan : Plan} {kit : PlainKit} {out : Records} → IsPlanOf text plan → IsBuilt plan → IsKitOf plan kit → records_in out ≡ [] → plan.total + length (phases_of plan) + 1 ≤ room_of out
+    → SoFar plan.profile (acts_of plan.profile.threads (phases_of plan)) (acts_of plan.profile.threads (phases_of plan)) kit.region kit.threads.items kit.names out
+start {text} {plan} {kit} {out} read built made empty room =
+    let acts = acts_of plan.profile.threads (phases_of plan) in
+    let threads = kit.threads.items in
+    let fresh : AllFresh plan 1 threads = made.fresh in
+    let owed = owed_start plan 1 threads fresh in
+    let many = made.count in
+    let product = ap (λ (n : ℕ). n * plan.profile.pages) many in
+    let total = plan_total read built in
+    let marks = plan_marks plan in
+    let none = ap length empty in
+    record {
+      profile_is = made.profile;
+      unshared = built.unshared;
+      count = made.count;
+      whole = [];
+      stands = made.opening;
+      each = starts plan acts 1 threads (λ j low high. plan_own read built j low (omega (arith, high, many))) fresh;
+      nobody = λ j h. refl;
+      asked = [];
+      fit = plan_fit read built (names_held kit.names) made.names;
+      names = [];
+      tells = made.no_name;
+      turns = λ n block is. absurd (let bad : None ≡ Some block = sym (made.no_name n) ∙ is in cc);
+      known = λ n is. absurd (let bad : false ≡ true = is in cc);
+      caches = empty_caches;
+      caches_are = caches_start plan 1 threads fresh;
+      spare = omega (arith, owed, product, total, marks, none, room);
+      answers = λ l rs follows. subst (λ (r : List Record). Follows plan.profile acts (progress [] empty_caches [] r) l rs) empty follows;
+    }
+
+-- ---- the end
+no_slots : (locals : List Slots) → locals ≡ [] → (g : ℕ) → (any_covers locals g ≡ false) × (any_keeps locals g ≡ false)
+no_slots locals is g = (ap (λ (xs : List Slots). any_covers xs g) is, ap (λ (xs : List Slots). any_keeps xs g) is)
+
+-- the threads from this one on hold, have and owe nothing
+ends_bare : (f : Profile) (l : Whole) (acts : List Act) (k : ℕ) (threads : List Thread) → AllStand f l acts k threads → AreEmpty threads → (j : ℕ) → k ≤ j → j < k + length threads
+    → HasNothing (part j l)
+ends_bare f l acts k [] all empty j low high = absurd (omega (arith, low, high))
+ends_bare f l acts k (t ∷ ts) all empty j low high = elim (cases_eq k j) [
+  | inl same ↦
+      let rest : AtRest f (cached t.cache) (part j l) = subst (λ (n : ℕ). AtRest f (cached t.cache) (part n l)) same all.0.rest in
+      let none = no_slots (cached t.cache).locals (empty 0 t (omega arith)) in
+      record { grains = λ g. rest.locals.grains g ∙ (none g).0; rights = λ page. rest.locals.rights page ∙ (none page).1; clear = rest.locals.clear }
+  | inr other ↦ ends_bare f l acts (k + 1) ts all.1 (λ i d lt. empty (suc i) d (omega (arith, lt))) j (omega (arith, low, other)) (omega (arith, high))
+]
+
+did_nothing : (l : Whole) (k : ℕ) → part k l ≡ [] → HasNothing (part k l)
+did_nothing l k none = subst HasNothing (sym none) nothing
+
+bare_at : {f : Profile} {all : List Act} {region : PlainRegion} {threads : List Thread} {table : Names} {out : Records} → (so : SoFar f all [] region threads table out) → AreEmpty threads → (k : ℕ)
+    → HasNothing (part k so.whole)
+bare_at {f} {all} {region} {threads} so empty k =
+    let count = so.count in
+    elim (cases_eq k 0) [
+      | inl none ↦ did_nothing so.whole k (so.nobody k (inl none))
+      | inr some ↦ elim (cases_lt f.threads k) [
+        | inl past ↦ did_nothing so.whole k (so.nobody k (inr past))
+        | inr within ↦ ends_bare f so.whole [] 1 threads so.each empty k (omega (arith, some)) (omega (arith, within, count))
+      ]
+    ]
+
+pub shows : {plan : Plan} {region : PlainRegion} {threads : List Thread} {table : Names} {out : Records} {state : State} → IsValid plan.profile
+    → SoFar plan.profile (acts_of plan.profile.threads (phases_of plan)) [] region threads table out → AreEmpty threads
+    → the_profile_of state ≡ profile_of region
+    → ((l : Whole) → RegionStands region l → (w : Word) → IsWordOf (profile_of region) w → word_in state w ≡ word_after l w)
+    → Shows InOrder plan (records_in out) state
+shows {plan} {region} {threads} {table} {out} {state} valid so empty profile words = record {
+  whole = so.whole;
+  replay = replays InOrder plan so.whole so.whole (records_in out) (records_in out) valid (so.answers so.whole (records_in out) (refl, refl)) refl refl
+      (subst (λ (f : Profile). Legal f so.whole) so.profile_is so.stands.legal) (bare_at so empty);
+  profile = profile ∙ so.profile_is;
+  words = λ w of. words so.whole so.stands w (subst (λ (f : Profile). IsWordOf f w) (sym so.profile_is) of);
+}
+
+-- ---- the lists that the replay is handed
+pub handed : (plan : Plan) {region : PlainRegion} {table : Names} {out : Records} (threads list : List Thread) (phases : List (List Op)) → list ≡ threads → length threads ≡ plan.profile.threads → phases ≡ phases_of plan
+    → SoFar plan.profile (acts_of plan.profile.threads (phases_of plan)) (acts_of plan.profile.threads (phases_of plan)) region threads table out
+    → SoFar (profile_of region) (acts_of (length list) phases) (acts_of (length list) phases) region list table out
+handed plan {region} {table} {out} threads list phases same count is so =
+    at_region (subst (λ (ts : List Thread). SoFar plan.profile (acts_of (length ts) phases) (acts_of (length ts) phases) region ts table out) (sym same)
+    (subst (λ (n : ℕ). SoFar plan.profile (acts_of n phases) (acts_of n phases) region threads table out) (sym count)
+    (subst (λ (ps : List (List Op)). SoFar plan.profile (acts_of plan.profile.threads ps) (acts_of plan.profile.threads ps) region threads table out) (sym is) so)))
+
+pub handed_back : (plan : Plan) {f : Profile} {region : PlainRegion} {table : Names} {out : Records} {list : List Thread} (n : ℕ) (phases : List (List Op)) → f ≡ plan.profile → n ≡ plan.profile.threads → phases ≡ phases_of plan
+    → SoFar f (acts_of n phases) [] region list table out → SoFar plan.profile (acts_of plan.profile.threads (phases_of plan)) [] region list table out
+handed_back plan {f} {region} {table} {out} {list} n phases same count is so =
+    of_profile same (subst (λ (m : ℕ). SoFar f (acts_of m (phases_of plan)) [] region list table out) count (subst (λ (ps : List (List Op)). SoFar f (acts_of n ps) [] region list table out) is so))

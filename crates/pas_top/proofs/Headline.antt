@@ -1,0 +1,84 @@
+-- From what a replay shows to what is written of it.
+use Rattle.std.proofs.Common.{◌≡◌, ℕ, ◌≤◌, List, ◌++◌, Option, Some, refl, ap, sym, ◌∙◌, subst, inl, inr, length, arith}
+use Rattle.pas_profile.specs.Profiles.{IsValid, IsWordOf}
+use Rattle.pas_profile.specs.declared.profile.Profile.{Profile}
+use Rattle.pas_steps.specs.Lists.{Legal, visible}
+use Rattle.pas_steps.specs.States.{profile_of}
+use Rattle.pas_steps.specs.declared.state.State.{State}
+use Rattle.pas_trace.specs.Plans.{IsPlanOf}
+use Rattle.pas_trace.specs.declared.plan.Plan.{Plan}
+use Rattle.pas_report.specs.Counts.{report_by_words}
+use Rattle.pas_report.specs.Lines.{lines_of}
+use Rattle.pas_report.specs.Marks.{marks_after}
+use Rattle.pas_report.specs.Reports.{report_text}
+use Rattle.pas_report.specs.Rests.{AreStamped, HasWords}
+use Rattle.pas_report.specs.declared.record.Record.{Record}
+use Rattle.pas_report.proofs.ReportOfWords.{are_deed_words, nobody_holds, report_agrees}
+use Rattle.pas_answers.specs.Replays.{IsBuilt, Shows}
+use Rattle.pas_answers.specs.Ways.{Way}
+use Rattle.pas_replay.proofs.BuiltPlans.{plan_valid}
+use Rattle.pas_answers.proofs.Consequences.{can_be_shown}
+use Rattle.pas_top.specs.Outcomes.{IsOutcome, IsShown, IsWritable, outcome_status, outcome_text, shown_text}
+use Rattle.pas_top.specs.Outputs.{most_bytes, ComesTo, IsOrder, IsOutput, IsReplayed}
+use Rattle.pas_top.specs.declared.outcome.Outcome.{Outcome}
+use Rattle.pas_top.specs.declared.outcome.Outcome.TheVariants.{Replayed, Faulty, Unbuilt}
+
+-- ---- the state after a replay is a region at rest
+module _ {bytes : List ℕ} {way : Way} {plan : Plan} {records : List Record} {state : State} (read : IsPlanOf bytes plan) (shows : Shows way plan records state) where
+  has_words : HasWords state shows.whole
+  has_words = record { words = λ w of. shows.words w (subst (λ (f : Profile). IsWordOf f w) shows.profile of) }
+
+  valid_state : IsValid (profile_of state)
+  valid_state = subst IsValid (sym shows.profile) (plan_valid read)
+
+  legal_state : Legal (profile_of state) shows.whole
+  legal_state = subst (λ (f : Profile). Legal f shows.whole) (sym shows.profile) shows.replay.legal
+
+  can_show : IsShown records state
+  can_show = record { lines = can_be_shown shows.replay; deeds = are_deed_words state shows.whole has_words valid_state legal_state }
+
+  report_is : report_by_words state ≡ report_text plan.profile (visible shows.whole) (marks_after shows.whole)
+  report_is =
+      report_agrees state shows.whole has_words valid_state legal_state
+      (nobody_holds (profile_of state) shows.whole valid_state legal_state (record { nobody = λ k g. (shows.replay.nothing k).grains g }))
+      (subst (λ (f : Profile). AreStamped f shows.whole) (sym shows.profile) shows.replay.stamps)
+      ∙ ap (λ (f : Profile). report_text f (visible shows.whole) (marks_after shows.whole)) shows.profile
+
+  -- WHAT EITHER WAY SHOWS is what is written
+  pub shown_replayed : IsBuilt plan → IsReplayed way bytes (shown_text records state)
+  shown_replayed built = record {
+    plan = plan;
+    read = read;
+    built = built;
+    whole = shows.whole;
+    records = records;
+    replay = shows.replay;
+    text_is = ap (λ (t : List ℕ). lines_of records ++ t) report_is;
+  }
+
+-- ---- what an input comes to
+pub can_write : (bytes : List ℕ) (outcome : Outcome) → IsOutcome bytes outcome → IsWritable outcome
+can_write bytes (Replayed records state) replay = can_show replay.read replay.shows
+can_write bytes (Faulty fault) first = tt
+can_write bytes Unbuilt unbuilt = tt
+
+pub comes_to : (bytes : List ℕ) (outcome : Outcome) → length bytes ≤ most_bytes → IsOutcome bytes outcome → ComesTo bytes (outcome_status outcome) (outcome_text outcome)
+comes_to bytes (Replayed records state) short replay = inl (refl, record { short = short; replayed = shown_replayed replay.read replay.shows replay.built })
+comes_to bytes (Faulty fault) short first = inr (inl (refl, record { short = short; fault = fault; first = first; text_is = refl }))
+comes_to bytes Unbuilt short unbuilt = inr (inr (inr (refl, record { short = short; unbuilt = unbuilt; text_is = refl })))
+
+pub status_not_four : (outcome : Outcome) → outcome_status outcome ≡ 4 → ⊥
+status_not_four (Replayed records state) four = omega (arith, four)
+status_not_four (Faulty fault) four = omega (arith, four)
+status_not_four Unbuilt four = omega (arith, four)
+
+pub status_not_two : (outcome : Outcome) → outcome_status outcome ≡ 2 → ⊥
+status_not_two (Replayed records state) two = omega (arith, two)
+status_not_two (Faulty fault) two = omega (arith, two)
+status_not_two Unbuilt two = omega (arith, two)
+
+-- the output of a call whose input was read whole
+pub outcome_output : (words : List (List ℕ)) (told : Option (List ℕ)) (read : List ℕ) (outcome : Outcome) → IsOrder words
+    → ((bytes : List ℕ) → told ≡ Some bytes → (read ≡ bytes) × (length bytes ≤ most_bytes)) → IsOutcome read outcome → IsOutput words told (outcome_status outcome) (outcome_text outcome)
+outcome_output words told read outcome order whole is =
+    inr (order, status_not_two outcome, λ bytes tells. let input = whole bytes tells in comes_to bytes outcome input.1 (subst (λ (t : List ℕ). IsOutcome t outcome) input.0 is))
