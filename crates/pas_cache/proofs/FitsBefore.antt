@@ -34,6 +34,7 @@ free_step e (Look x) p w old b is h = ap (λ n. has_bit n b) (same (same_word x 
 free_step e (Put q j m) p w old b is h = or_keeps (same_word (Word.Free q j) (Word.Free p w)) old m b h
 free_step e (Take q j m) p w old b is h = absurd (true≢false (sym is))
 free_step e s p w old b is h = h
+
 free_stays : (k : ℕ) (xs : List Made) (l : Whole) (p w b : ℕ) → Only releasing xs → has_bit (word_after l (Word.Free p w)) b ≡ true → has_bit (word_after (triples k xs ++ l) (Word.Free p w)) b ≡ true
 free_stays k [] l p w b are h = h
 free_stays k (m ∷ xs) l p w b are h = free_step (epoch_of (part k (triples k xs ++ l))) m.step p w (word_after (triples k xs ++ l) (Word.Free p w)) b are.0 (free_stays k xs l p w b are.1 h)
@@ -44,6 +45,7 @@ offered_step e (Look x) n j old b is h = ap (λ a. has_bit a b) (same (same_word
 offered_step e (Offer q d) n j old b is h = or_keeps (same_word (Word.Eligible (number_of d) (q / 64)) (Word.Eligible n j)) old (page_mask q) b h
 offered_step e (TakeRight q d) n j old b is h = absurd (true≢false (sym is))
 offered_step e s n j old b is h = h
+
 offered_stays : (k : ℕ) (xs : List Made) (l : Whole) (n j b : ℕ) → Only releasing xs → has_bit (word_after l (Word.Eligible n j)) b ≡ true → has_bit (word_after (triples k xs ++ l) (Word.Eligible n j)) b ≡ true
 offered_stays k [] l n j b are h = h
 offered_stays k (m ∷ xs) l n j b are h = offered_step (epoch_of (part k (triples k xs ++ l))) m.step n j (word_after (triples k xs ++ l) (Word.Eligible n j)) b are.0 (offered_stays k xs l n j b are.1 h)
@@ -53,6 +55,7 @@ deed_step : (e : ℕ) (s : Step) (p old : ℕ) → is_in releasing (kind_of s) �
 deed_step e (Look x) p old is = same (same_word x (Word.Deed p)) old
 deed_step e (Deed q d) p old is = absurd (true≢false (sym is))
 deed_step e s p old is = refl
+
 deed_same : (k : ℕ) (xs : List Made) (l : Whole) (p : ℕ) → Only releasing xs → word_after (triples k xs ++ l) (Word.Deed p) ≡ word_after l (Word.Deed p)
 deed_same k [] l p are = refl
 deed_same k (m ∷ xs) l p are = deed_step (epoch_of (part k (triples k xs ++ l))) m.step p (word_after (triples k xs ++ l) (Word.Deed p)) are.0 ∙ deed_same k xs l p are.1

@@ -12,9 +12,9 @@ ghost use Rattle.pas_answers.specs.Ways.{InOrder};
 ghost use Rattle.pas_replay.specs.Kits.{AreRooms, AreThreads, IsKitOf};
 
 use crate::limits::names_limit;
-use pas_answers::names::Names;
 use crate::order::replay;
 use crate::seats::Thread;
+use pas_answers::names::Names;
 use pas_cache::ThreadCache;
 use pas_plain::{PlainPass, PlainRegion, close};
 use pas_profile::{EventRoom, NoMemory};

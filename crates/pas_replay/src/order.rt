@@ -8,8 +8,8 @@ ghost use Rattle.pas_replay.specs.Sessions.{SoFar, AreEmpty, MayGoOn, GoesOn, ha
 ghost use Rattle.pas_report.specs.declared.records.Records.{Records as TheRecords};
 ghost use Rattle.pas_answers.specs.declared.names.Names.{Names as TheNames};
 
-use pas_answers::names::Names;
 use crate::seats::{Thread, operate, wake};
+use pas_answers::names::Names;
 use pas_bits::Mask4;
 use pas_plain::PlainRegion;
 use pas_report::{Record, Records};

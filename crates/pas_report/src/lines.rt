@@ -21,9 +21,9 @@ ghost use Rattle.pas_report.specs.Lines.{
   young_line as young_text,
 };
 
-use arrayvec::ArrayString;
 use crate::record::{Record, Said};
 use crate::text::{Line, push_field, push_hex, push_kind, push_name, push_number};
+use arrayvec::ArrayString;
 use pas_profile::{Block, Directory, Event, Name, Why};
 
 /// The line of a record. Takes no memory, and time in the length of the line.
@@ -236,7 +236,13 @@ fn push_young<const C: usize>(text: &mut ArrayString<C>, actor: u8, page: u32, s
 }
 
 /// Adds the line of a page with grains that aren't free.
-fn push_in_use<const C: usize>(text: &mut ArrayString<C>, actor: u8, page: u32, word: u8, value: u64)
+fn push_in_use<const C: usize>(
+    text: &mut ArrayString<C>,
+    actor: u8,
+    page: u32,
+    word: u8,
+    value: u64,
+)
     requires { array_string_len text.old + 128 ≤ C }
     ensures { text.new.bytes ≡ text.old.bytes ++ in_use_text actor page word value }
 {

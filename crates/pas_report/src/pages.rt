@@ -40,7 +40,12 @@ pub(crate) fn push_page<const C: usize>(text: &mut ArrayString<C>, state: &State
 }
 
 /// Adds the line of a page of this directory.
-fn push_deed_page<const C: usize>(text: &mut ArrayString<C>, state: &State, page: u32, directory: Directory)
+fn push_deed_page<const C: usize>(
+    text: &mut ArrayString<C>,
+    state: &State,
+    page: u32,
+    directory: Directory,
+)
     requires page { IsPage (profile_of state.now) page }
     requires deed { IsDeedWord (profile_of state.now) (word_in state.now (Word.Deed page)) }
     requires kind { IsKind directory.kind }

@@ -26,7 +26,7 @@ use Rattle.pas_steps.proofs.Kept.{deed_stays, scans_look, looks_read}
 use Rattle.pas_steps.proofs.Past.{always_both, once_later, once_earlier}
 use Rattle.pas_scan.specs.Scan.{FindsBare}
 use Rattle.pas_search.specs.Serving.{Rule, MayServe, ServeSteps, ServesPage}
-use Rattle.pas_search.specs.Searches.{BareRoom, ServesBare, SearchesBare}
+use Rattle.pas_search.specs.Searches.{BareRoom, SearchesBare}
 use Rattle.pas_search.proofs.KindsAndEvents.{events_quiet, room_kept}
 use Rattle.pas_search.proofs.OneStep.{reads_vain, vain_leads, vain_quiet}
 use Rattle.pas_search.proofs.GotPage.{IsReady, ready}

@@ -1,17 +1,15 @@
 -- The ends of a search: an offered page serves, a page does whose deed was made, or the request is refused.
-use Rattle.std.proofs.Common.{◌≡◌, ℕ, ◌+◌, ◌≤◌, Bool, true, List, [], ◌∷◌, ◌++◌, length, length-append, refl, ap, sym, ◌∙◌, subst, arith, ◌⊎◌, inl, inr, append_assoc, suc, Some, None, Result, Ok, Err, MatchResult}
-use Rattle.pas_profile.specs.Profiles.{IsValid, IsPage, IsDirectoryOf}
+use Rattle.std.proofs.Common.{◌≡◌, ℕ, ◌+◌, ◌≤◌, Bool, true, List, ◌∷◌, ◌++◌, length, length-append, refl, ap, sym, ◌∙◌, subst, arith, ◌⊎◌, inl, inr, append_assoc, suc, Some, None, Result, Ok, Err, MatchResult}
+use Rattle.pas_profile.specs.Profiles.{IsValid, IsDirectoryOf}
 use Rattle.pas_profile.specs.declared.directory.Directory.{Directory}
 use Rattle.pas_profile.specs.declared.event.NoRoom.{NoRoom}
 use Rattle.pas_profile.specs.declared.profile.Profile.{Profile}
 use Rattle.pas_steps.specs.Agreement.{Agreed}
-use Rattle.pas_steps.specs.Calls.{Leads}
 use Rattle.pas_steps.specs.Clear.{IsClear}
 use Rattle.pas_steps.specs.Desks.{Seat, Standing, Anything, made, Adds, CanCall}
 use Rattle.pas_steps.specs.Events.{events_of, events_by}
-use Rattle.pas_steps.specs.Evidence.{ReadsDeed, DeedHere, NoDeedHere, GetsRight, AllDeeds}
+use Rattle.pas_steps.specs.Evidence.{ReadsDeed, NoDeedHere, GetsRight, AllDeeds}
 use Rattle.pas_steps.specs.Lists.{Whole, part, Legal}
-use Rattle.pas_steps.specs.Past.{Once}
 use Rattle.pas_steps.specs.Unknown.{HasRoom}
 use Rattle.pas_steps.specs.Views.{View}
 use Rattle.pas_steps.specs.declared.step.Made.{Made}
@@ -23,7 +21,7 @@ use Rattle.pas_steps.proofs.Kept.{deed_stays, scans_look, looks_read}
 use Rattle.pas_steps.proofs.Past.{once_later}
 use Rattle.pas_scan.specs.Scan.{Judges, IsVerdict}
 use Rattle.pas_search.specs.Kinds.{AreSearch, IsDeedOrBack, deeds_made}
-use Rattle.pas_search.specs.Serving.{Rule, IsAntitone, ServeSteps}
+use Rattle.pas_search.specs.Serving.{Rule, IsAntitone}
 use Rattle.pas_search.specs.Searches.{MaySearch, SearchRoom, BareRoom, FromOffered, DeedMadeHere, ByDeed, Finds, IsServed, IsRefused, Searching, SearchesOffered, ServesBare, SearchesBare, Searches}
 use Rattle.pas_search.specs.declared.serving.Served.{Served}
 use Rattle.pas_search.proofs.KindsAndEvents.{served_search, events_quiet, room_kept, deeds_serves, no_deeds}
@@ -90,11 +88,11 @@ module _ {F : Type 0} (rule : Rule F) (f : Profile) (d : Directory) (marks : Lis
       (finds f d p m ws (GetsRight.Deeds d 0 refl) rule zs (ready f d p m ws (GetsRight.Deeds d 0 refl) (λ v met. met.clear) now.still (λ v agreed. deed_known p d 0 (ws ++ v) refl)) (now.untouched p)
       served.found (λ call. FromOffered rule d p call ⊎ ByDeed rule f d p call) bare.serves bare.page (inr deed_made)
       (λ k v agreed.
-          let one : length (events_by k v (m ∷ ws)) ≡ 1 = ap (λ es. suc (length es)) (events_quiet k v ws now.quiet) in
-          let some : length (events_by k ((m ∷ ws) ++ v) zs) ≤ rule.events = bare.serves.few k ((m ∷ ws) ++ v) in
-          let counts : length (events_by k v (zs ++ (m ∷ ws))) ≡ length (events_by k ((m ∷ ws) ++ v) zs) + length (events_by k v (m ∷ ws)) = ap length (events_append k zs (m ∷ ws) v) ∙ length-append (events_by k ((m ∷ ws) ++ v) zs) (events_by k v (m ∷ ws)) in
-          let deed = one_deed in
-          (omega (arith, one, some, counts, deed), λ known. absurd (unknown f v p (zs ++ (m ∷ ws)) agreed (once_later (NoDeedHere p) zs (m ∷ ws) (inl (ReadsDeed.Deeds d, refl))) (known p bare.page))))
+      let one : length (events_by k v (m ∷ ws)) ≡ 1 = ap (λ es. suc (length es)) (events_quiet k v ws now.quiet) in
+      let some : length (events_by k ((m ∷ ws) ++ v) zs) ≤ rule.events = bare.serves.few k ((m ∷ ws) ++ v) in
+      let counts : length (events_by k v (zs ++ (m ∷ ws))) ≡ length (events_by k ((m ∷ ws) ++ v) zs) + length (events_by k v (m ∷ ws)) = ap length (events_append k zs (m ∷ ws) v) ∙ length-append (events_by k ((m ∷ ws) ++ v) zs) (events_by k v (m ∷ ws)) in
+      let deed = one_deed in
+      (omega (arith, one, some, counts, deed), λ known. absurd (unknown f v p (zs ++ (m ∷ ws)) agreed (once_later (NoDeedHere p) zs (m ∷ ws) (inl (ReadsDeed.Deeds d, refl))) (known p bare.page))))
       (inr IsDeedOrBack.Deeds) now.quiet)
 
 -- what the search of offered pages asks

@@ -1,14 +1,14 @@
 -- A page whose right the call got by its newest step: the back end leaves it, or keeps what its answer says.
-use Rattle.std.proofs.Common.{◌≡◌, ◌≢◌, ℕ, ◌+◌, ◌/◌, ◌<◌, ◌≤◌, ◌==◌, Bool, true, false, ◌||◌, if◌then◌else◌, List, [], ◌∷◌, ◌++◌, None, Some, length, refl, ap, sym, ◌∙◌, subst, arith, ◌⊎◌, inl, inr, true≢false}
-use Rattle.std.proofs.lemmas.Bool.{cases_Bool, cases_lt, cases_eq, eq-eqb, eqb-true, ne_eqb}
+use Rattle.std.proofs.Common.{◌≡◌, ◌≢◌, ℕ, ◌+◌, ◌/◌, ◌≤◌, ◌==◌, Bool, true, false, ◌||◌, if◌then◌else◌, List, [], ◌∷◌, ◌++◌, None, Some, length, refl, ap, sym, ◌∙◌, subst, arith, ◌⊎◌, inl, inr, true≢false}
+use Rattle.std.proofs.lemmas.Bool.{cases_Bool, cases_eq, eq-eqb, eqb-true, ne_eqb}
 use Rattle.pas_profile.specs.Profiles.{IsPage}
 use Rattle.pas_profile.specs.declared.directory.Directory.{Directory}
 use Rattle.pas_profile.specs.declared.profile.Profile.{Profile}
 use Rattle.pas_steps.specs.Agreement.{Agreed}
-use Rattle.pas_steps.specs.Calls.{Leads, Fate, Kept, Gained, Lost, now, later, nothing, Does}
+use Rattle.pas_steps.specs.Calls.{Leads, Kept, Gained, Lost, now, later, nothing, Does}
 use Rattle.pas_steps.specs.Clear.{IsClear}
 use Rattle.pas_steps.specs.Events.{events_by}
-use Rattle.pas_steps.specs.Evidence.{GetsRight, GetsHere, ZeroHere, UnfitHere, LacksAfter, Searched}
+use Rattle.pas_steps.specs.Evidence.{GetsRight, ZeroHere, UnfitHere, LacksAfter}
 use Rattle.pas_steps.specs.Frames.{IsOnPage, OnlyOn}
 use Rattle.pas_steps.specs.Past.{Once, Always}
 use Rattle.pas_steps.specs.Views.{View, has_right, KnowsDeed}
@@ -19,9 +19,8 @@ use Rattle.pas_steps.proofs.Kept.{right_on, holds_on_page, knows_still}
 use Rattle.pas_steps.proofs.Past.{once_later}
 use Rattle.pas_scan.specs.Marks.{is_marked}
 use Rattle.pas_search.specs.Kinds.{AreSearch, IsQuiet, AreQuiet, IsDeedOrBack}
-use Rattle.pas_search.specs.Serving.{Rule, MayServe, IsUntouched, GotBefore, right_of, served, Keeps, ReadsNoneHeld, ShowsFit, ServeSteps}
+use Rattle.pas_search.specs.Serving.{Rule, MayServe, IsUntouched, GotBefore, right_of, served, Keeps, ReadsNoneHeld, ServeSteps}
 use Rattle.pas_search.specs.Searches.{MaySearch, OfferedHere, FromOffered, KeepsFound, FewEvents, Finds, Searching, GoesOn}
-use Rattle.pas_search.specs.declared.serving.Served.{Served}
 use Rattle.pas_search.proofs.KindsAndEvents.{served_search, quiet_append, events_after_quiet, serves_events, quiet_events, events_at_append, deeds_serves, no_deeds}
 use Rattle.pas_search.proofs.OneStep.{Rights, right_then, holds_then, does_rights, gets_rights}
 

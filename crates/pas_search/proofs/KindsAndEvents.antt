@@ -2,20 +2,19 @@
 use Rattle.std.proofs.Common.{◌≡◌, ◌≢◌, ℕ, suc, ◌+◌, ◌≤◌, ◌==◌, length, arith, Bool, true, false, if◌then◌else◌, List, [], ◌∷◌, ◌++◌, ◌⊎◌, inl, inr, None, Some, refl, ap, ◌∙◌, sym, append-nil, true≢false, subst}
 use Rattle.pas_profile.specs.declared.directory.Directory.{Directory}
 use Rattle.pas_profile.specs.declared.event.Event.{Event}
-use Rattle.pas_profile.specs.declared.word.Word.{Word}
 use Rattle.pas_steps.specs.declared.step.Made.{Made}
 use Rattle.pas_steps.specs.declared.step.Step.{Step}
-use Rattle.pas_steps.specs.declared.step.Step.TheVariants.{Look, Deed, Back, Take, Put, Give, End, TakeRight, Offer, Park, Unpark, Stamp, Hint, Tick, Unback, Unhint}
+use Rattle.pas_steps.specs.declared.step.Step.TheVariants.{Deed}
 use Rattle.pas_steps.specs.Views.{View, right_after, has_right, epoch_of}
 use Rattle.pas_steps.specs.Events.{with_event, events_of, events_by}
 use Rattle.pas_steps.specs.Evidence.{GetsHere}
 use Rattle.pas_steps.specs.Past.{Once, Always}
 use Rattle.pas_steps.specs.Frames.{IsOnPage, IsGrains, OnlyOn, OnlyReturns, OnlyGrains}
-use Rattle.pas_steps.specs.Kinds.{Kinds, StepKind, Deeding, Backing, kind_of, place_of, is_in, apart, Only, returning}
+use Rattle.pas_steps.specs.Kinds.{kind_of, is_in, Only, returning}
 use Rattle.pas_steps.specs.Desks.{Standing, made, Adds, CanCall}
 use Rattle.pas_steps.specs.Lists.{Whole}
 use Rattle.pas_steps.proofs.Adding.{room_left}
-use Rattle.pas_steps.proofs.Apart.{in_apart, only_within, only_both}
+use Rattle.pas_steps.proofs.Apart.{only_within, only_both}
 use Rattle.pas_steps.proofs.Calls.{returns_are}
 use Rattle.pas_steps.proofs.Frames.{events_append, events_split}
 use Rattle.pas_steps.proofs.Kept.{IsStill, AreStill, returns_on, grains_on}

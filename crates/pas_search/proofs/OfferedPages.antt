@@ -1,5 +1,5 @@
 -- The search of offered pages: one page after another.
-use Rattle.std.proofs.Common.{◌≡◌, ℕ, ◌+◌, ◌%◌, ◌<◌, ◌≤◌, ◌==◌, true, false, ◌||◌, List, [], ◌∷◌, ◌++◌, Option, None, Some, length, refl, ap, sym, ◌∙◌, subst, arith, inl, append_assoc}
+use Rattle.std.proofs.Common.{◌≡◌, ℕ, ◌+◌, ◌%◌, ◌≤◌, ◌==◌, true, false, ◌||◌, List, [], ◌∷◌, ◌++◌, Option, None, Some, refl, ap, sym, ◌∙◌, subst, arith, inl, append_assoc}
 use Rattle.pas_profile.specs.Classes.{has_bit}
 use Rattle.pas_profile.specs.declared.directory.Directory.{Directory}
 use Rattle.pas_profile.specs.declared.profile.Profile.{Profile}
@@ -17,7 +17,6 @@ use Rattle.pas_scan.specs.Scan.{IsFirstOffered, FindsOffered}
 use Rattle.pas_search.specs.Kinds.{AreQuiet}
 use Rattle.pas_search.specs.Serving.{Rule, MayServe, ServeSteps, ServesPage}
 use Rattle.pas_search.specs.Searches.{MaySearch, Searching, GoesOn, SearchesOffered}
-use Rattle.pas_search.specs.declared.serving.Served.{Served}
 use Rattle.pas_search.proofs.KindsAndEvents.{served_search}
 use Rattle.pas_search.proofs.OneStep.{AreVain, reads_vain, claim_vain}
 use Rattle.pas_search.proofs.SoFar.{zero_before, offered_before, zeros_searching}

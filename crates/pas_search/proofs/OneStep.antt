@@ -1,19 +1,19 @@
 -- Steps of a search that change nothing but whose rights are: looks, deeds, and claims.
-use Rattle.std.proofs.Common.{◌≡◌, ◌≢◌, ℕ, ◌==◌, ◌%◌, Bool, true, false, ◌&&◌, if◌then◌else◌, List, [], ◌∷◌, ◌++◌, None, Some, inl, refl, ap, sym, ◌∙◌, subst}
+use Rattle.std.proofs.Common.{◌≡◌, ℕ, ◌==◌, ◌%◌, Bool, true, false, ◌&&◌, if◌then◌else◌, List, [], ◌∷◌, ◌++◌, None, Some, inl, refl, ap, sym, ◌∙◌, subst}
 use Rattle.std.proofs.lemmas.Bool.{eq-eqb, eqb-true, ne_eqb}
 use Rattle.pas_profile.specs.Classes.{has_bit}
 use Rattle.pas_profile.specs.declared.directory.Directory.{Directory}
 use Rattle.pas_profile.specs.declared.event.Event.{Event}
 use Rattle.pas_profile.specs.declared.profile.Profile.{Profile}
 use Rattle.pas_profile.specs.declared.word.Word.{Word}
-use Rattle.pas_steps.specs.Agreement.{Agrees, Agreed}
+use Rattle.pas_steps.specs.Agreement.{Agrees}
 use Rattle.pas_steps.specs.Calls.{Leads, AnyView, Fate, Kept, Gained, Lost, now, nothing, ClearAfter, Does, grain_fate, right_fate, opens}
 use Rattle.pas_steps.specs.Desks.{made}
 use Rattle.pas_steps.specs.Evidence.{GetsRight, LacksAfter}
-use Rattle.pas_steps.specs.Frames.{IsRead, IsScan, OnlyReads, OnlyScans}
+use Rattle.pas_steps.specs.Frames.{IsRead, OnlyReads}
 use Rattle.pas_steps.specs.Kinds.{kind_of, look_kind, place_of, is_in, unbacking, Only}
 use Rattle.pas_steps.specs.Past.{Always}
-use Rattle.pas_steps.specs.Views.{View, Stays, grain_move, held_after, holds, right_after, has_right}
+use Rattle.pas_steps.specs.Views.{View, Stays, grain_move, held_after, holds, has_right}
 use Rattle.pas_steps.specs.declared.step.Made.{Made}
 use Rattle.pas_steps.specs.declared.step.Step.{Step}
 use Rattle.pas_steps.specs.declared.step.Step.TheVariants.{Look, Deed, TakeRight}

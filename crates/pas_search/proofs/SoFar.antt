@@ -1,9 +1,9 @@
 -- A search of offered pages that goes on: past pages that were read as not offered, and past one that was left.
-use Rattle.std.proofs.Common.{◌≡◌, ◌≢◌, ℕ, ◌+◌, ◌<◌, ◌≤◌, ◌==◌, true, false, ◌||◌, List, [], ◌∷◌, ◌++◌, refl, ap, sym, ◌∙◌, subst, arith, ◌⊎◌, inl, inr, true≢false}
-use Rattle.std.proofs.lemmas.Bool.{cases_Bool, cases_lt, cases_eq, eq-eqb, ne_eqb}
+use Rattle.std.proofs.Common.{◌≡◌, ℕ, ◌<◌, ◌≤◌, false, List, [], ◌∷◌, ◌++◌, ◌∙◌, inl, inr}
+use Rattle.std.proofs.lemmas.Bool.{cases_Bool, cases_lt}
 use Rattle.pas_profile.specs.declared.directory.Directory.{Directory}
 use Rattle.pas_profile.specs.declared.profile.Profile.{Profile}
-use Rattle.pas_steps.specs.Calls.{Leads, nothing, Does}
+use Rattle.pas_steps.specs.Calls.{nothing, Does}
 use Rattle.pas_steps.specs.Evidence.{ZeroHere, OneHere, UnfitHere, LacksAfter, Searched}
 use Rattle.pas_steps.specs.Past.{Once, Always}
 use Rattle.pas_steps.specs.Views.{has_right}
@@ -11,9 +11,8 @@ use Rattle.pas_steps.specs.declared.step.Made.{Made}
 use Rattle.pas_steps.proofs.Calls.{leads_then, does_then}
 use Rattle.pas_steps.proofs.Past.{once_later, once_earlier}
 use Rattle.pas_scan.specs.Marks.{is_marked}
-use Rattle.pas_search.specs.Kinds.{deeds_made}
 use Rattle.pas_search.specs.Serving.{Rule}
-use Rattle.pas_search.specs.Searches.{MaySearch, OfferedHere, Searching, GoesOn}
+use Rattle.pas_search.specs.Searches.{OfferedHere, Searching}
 use Rattle.pas_search.proofs.KindsAndEvents.{quiet_append, right_own}
 use Rattle.pas_search.proofs.OneStep.{AreVain, vain_leads, vain_untouched, vain_lacks, vain_quiet, vain_search}
 

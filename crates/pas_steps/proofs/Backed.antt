@@ -51,6 +51,7 @@ or_true false known h = h
 look_backed : (f : Profile) (v : View) (w : Word) (a q : ℕ) → Agrees f v (Look w) a → knows_backed v q ≡ true → backed_after_look w a q (knows_backed v q) ≡ true
 look_backed f v (Word.Backed p) a q agrees h = one_read a (p == q) (knows_backed v q) (λ e. agrees.known (subst (λ x. knows_backed v x ≡ true) (sym (eqb-true p q e)) h)) h
 look_backed f v s a q agrees h = h
+
 still_backed : (f : Profile) (v : View) (s : Step) (a q : ℕ) → Agrees f v s a → unbacks s q ≡ false → knows_backed v q ≡ true → backed_after s a q (knows_backed v q) ≡ true
 still_backed f v (Look w) a q agrees keep h = look_backed f v w a q agrees h
 still_backed f v (Back p) a q agrees keep h = or_true (p == q) (knows_backed v q) h

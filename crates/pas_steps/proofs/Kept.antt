@@ -67,10 +67,12 @@ holds_on_page p g (m ∷ more) v h ne = ap (λ x. held_after x (holds (more ++ v
 look_check : (word : Word) (a q w deed : ℕ) (right owed : Bool) → owed ≡ false → check_after (Look word) a q w right deed owed ≡ false
 look_check (Word.Free x u) a q w deed right owed h = ends_none ((u == w) && (x == q) && not (deed == 0) && no_usable deed w a) owed h
 look_check s a q w deed right owed h = h
+
 pub look_hint : (word : Word) (a q : ℕ) (owed : Bool) → owed ≡ false → hint_after (Look word) a q owed ≡ false
 look_hint (Word.Free x u) a q owed h = ends_none ((x == q) && not (a == all_ones)) owed h
 look_hint (Word.Backed x) a q owed h = ends_none ((x == q) && (a == 0)) owed h
 look_hint s a q owed h = h
+
 on_check : (p q : ℕ) (s : Step) (a w deed : ℕ) (right owed : Bool) → IsOnPage p s → q ≢ p → owed ≡ false → check_after s a q w right deed owed ≡ false
 on_check p q s a w deed right owed (IsOnPage.Looks word) ne h = look_check word a q w deed right owed h
 on_check p q s a w deed right owed (IsOnPage.Puts word mask) ne h = ap (λ t. if (word == w) && t && not right then true else owed) (other p q ne) ∙ ap (λ t. if t && not right then true else owed) (and_false (word == w)) ∙ h
@@ -141,6 +143,7 @@ look_deed f v (Word.Eligible d j) a p agrees ne = told_bit (known_deed v p) (dee
     let whole : 64 * j + p % 64 ≡ p = omega (arith, at) in
     sym (subst (λ x. known_deed v x ≢ 0 → known_deed v x ≡ deed_word_numbered d) whole (agrees.known (p % 64) (omega arith) parts.1) ne))
 look_deed f v s a p agrees ne = refl
+
 deed_same : (f : Profile) (v : View) (s : Step) (a p : ℕ) → Agrees f v s a → known_deed v p ≢ 0 → deed_after s a p (known_deed v p) ≡ known_deed v p
 deed_same f v (Look word) a p agrees ne = look_deed f v word a p agrees ne
 deed_same f v (TakeRight q d) a p agrees ne = look_deed f v (Word.Eligible (number_of d) (q / 64)) a p agrees ne
@@ -276,6 +279,7 @@ one_read a q p known false e one h = h
 return_backed : (f : Profile) (p q : ℕ) (v : View) (s : Step) (a : ℕ) → IsReturn p s → Agrees f v s a → knows_backed v q ≡ true → backed_after s a q (knows_backed v q) ≡ true
 return_backed f p q v s a IsReturn.LooksBacked agrees h = one_read a q p (knows_backed v q) (p == q) refl (λ e. agrees.known (subst (λ x. knows_backed v x ≡ true) (sym (eqb-true p q e)) h)) h
 return_backed f p q v s a step agrees h = h
+
 scan_backed : (q : ℕ) (s : Step) (a : ℕ) (known : Bool) → IsScan s → backed_after s a q known ≡ known
 scan_backed q s a known (IsScan.LooksEligible d j) = refl
 scan_backed q s a known (IsScan.LooksDeed p) = refl

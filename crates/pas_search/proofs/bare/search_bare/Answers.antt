@@ -1,7 +1,5 @@
-use Rattle.std.proofs.Common.{◌≡◌, ◌∷◌, ◌++◌, ◌∙◌, ap, arith}
+use Rattle.std.proofs.Common.{◌≡◌, ◌∙◌, ap, arith}
 use Rattle.pas_profile.specs.declared.profile.Profile.{Profile}
-use Rattle.pas_steps.specs.Clear.{IsClear}
-use Rattle.pas_steps.specs.Desks.{CanCall}
 use Rattle.pas_search.proofs.BarePages.{none_bare, deed_room, serve_room, deed_adds, lost_reads, lost_deeds, clear_can, serve_can, not_left, served_bare}
 use Rattle.pas_search.proofs.bare.search_bare.Goals as goal
 
