@@ -8,7 +8,7 @@ use Rattle.pas_profile.specs.Layouts.{same_word}
 use Rattle.pas_profile.specs.declared.profile.Profile.{Profile}
 use Rattle.pas_profile.specs.declared.word.Word.{Word}
 use Rattle.pas_steps.specs.Effects.{target}
-use Rattle.pas_steps.specs.Views.{View, has_right, known_deed, usable_by, all_below, no_usable, check_after, owes_check, epoch_of}
+use Rattle.pas_steps.specs.Views.{way, ToParked, ToOffer, FromParked, FromOffer, ByDeed, Rests, Way, View, has_right, known_deed, usable_by, all_below, no_usable, check_after, owes_check, epoch_of}
 use Rattle.pas_steps.specs.Allowed.{IsStepOf}
 use Rattle.pas_steps.specs.Lists.{Whole, part, word_after, IsNext, Legal}
 use Rattle.pas_steps.specs.Desks.{made, triple}
@@ -18,7 +18,7 @@ use Rattle.pas_steps.specs.declared.step.Step.TheVariants.{Look, Deed, Back, Tak
 use Rattle.pas_core.specs.Rights.{parked_bit, IsUsableFree, IsOwed}
 use Rattle.pas_core.proofs.Bits.{has_bit-clear, all_below-at}
 use Rattle.pas_core.proofs.DeedWords.{next_value, looked, known_is, word_stays}
-use Rattle.pas_core.proofs.Spots.{Spot, InParked, is_with, is_parked, Way, Rests, ByDeed, FromOffer, FromParked, ToOffer, ToParked, way, spot_after, spot_of, DeedFits, IsSpotted, spotted}
+use Rattle.pas_core.proofs.Spots.{Spot, InParked, is_with, is_parked, spot_after, spot_of, DeedFits, IsSpotted, spotted}
 use Rattle.pas_core.proofs.Rights.{parked_spot}
 
 -- ---- debts

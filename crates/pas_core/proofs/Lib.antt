@@ -24,3 +24,6 @@ pub mod Nexts
 pub mod Running
 pub mod Checks
 pub mod Offers
+pub mod OneActorRights
+pub mod OneActorGrains
+pub mod OneActorWords

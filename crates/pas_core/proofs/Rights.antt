@@ -11,7 +11,7 @@ use Rattle.pas_profile.specs.declared.profile.Profile.{Profile}
 use Rattle.pas_profile.specs.declared.directory.Directory.{Directory}
 use Rattle.pas_profile.specs.declared.word.Word.{Word}
 use Rattle.pas_steps.specs.Effects.{free_word_at, in_mask, target}
-use Rattle.pas_steps.specs.Views.{View, has_right, known_deed, free_after, known_free, epoch_of}
+use Rattle.pas_steps.specs.Views.{way, ToParked, ToOffer, FromParked, FromOffer, ByDeed, Rests, Way, View, has_right, known_deed, free_after, known_free, epoch_of}
 use Rattle.pas_steps.specs.Allowed.{Allowed, IsStepOf}
 use Rattle.pas_steps.specs.Lists.{Whole, part, word_after, IsNext, Legal}
 use Rattle.pas_steps.specs.Agreement.{IsDeedWord}
@@ -21,7 +21,7 @@ use Rattle.pas_steps.specs.declared.step.Step.TheVariants.{Look, Deed, Back, Tak
 use Rattle.pas_core.specs.Rights.{parked_bit, empty_bit, eligible_bit, IsRightInOnePlace}
 use Rattle.pas_core.proofs.Bits.{has_bit-clear, has_bit-or, no_bit, page_bit-clear, page_bit-set}
 use Rattle.pas_core.proofs.DeedWords.{next_value, looked, known_is, deed_words, deed_has_page, number_told, numbered_ne}
-use Rattle.pas_core.proofs.Spots.{Spot, Nowhere, With, Offered, InParked, is_with, is_offered, is_parked, is_with-true, is_offered-true, is_parked-true, no_deed, Way, Rests, ByDeed, FromOffer, FromParked, ToOffer, ToParked, way, spot_after, spot_of, Suits, DeedFits, IsSpotted, step_suits, spotted}
+use Rattle.pas_core.proofs.Spots.{Spot, Nowhere, With, Offered, InParked, is_with, is_offered, is_parked, is_with-true, is_offered-true, is_parked-true, no_deed, spot_after, spot_of, Suits, DeedFits, IsSpotted, step_suits, spotted}
 
 -- ---- where the right of a page is
 -- at most one actor has the right of a page

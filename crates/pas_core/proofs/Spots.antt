@@ -9,7 +9,7 @@ use Rattle.pas_profile.specs.declared.profile.Profile.{Profile}
 use Rattle.pas_profile.specs.declared.directory.Directory.{Directory}
 use Rattle.pas_profile.specs.declared.word.Word.{Word}
 use Rattle.pas_steps.specs.Effects.{target}
-use Rattle.pas_steps.specs.Views.{View, right_after, has_right, deed_after, known_deed, epoch_of}
+use Rattle.pas_steps.specs.Views.{View, Way, Rests, ByDeed, FromOffer, FromParked, ToOffer, ToParked, way, had_after, right_after, has_right, deed_after, known_deed, epoch_of}
 use Rattle.pas_steps.specs.Allowed.{Allowed, IsStepOf}
 use Rattle.pas_steps.specs.Lists.{Whole, part, word_after, IsNext, Legal}
 use Rattle.pas_steps.specs.declared.step.Step.{Step}
@@ -49,23 +49,6 @@ is_parked Nowhere = false
 is_parked (With j) = false
 is_parked (Offered n) = false
 is_parked InParked = true
-
--- how a step moves it
-pub data Way : Type 0 where
-  Rests : Way
-  ByDeed : Way
-  FromOffer : ℕ → Way
-  FromParked : Way
-  ToOffer : ℕ → Way
-  ToParked : Way
-
-abbrev pub way : Step → ℕ → ℕ → Way
-way (Deed q d) a p = if (q == p) && (a == 0) then ByDeed else Rests
-way (TakeRight q d) a p = if (q == p) && has_bit a (p % 64) then FromOffer (number_of d) else Rests
-way (Offer q d) a p = if q == p then ToOffer (number_of d) else Rests
-way (Park q) a p = if q == p then ToParked else Rests
-way (Unpark q) a p = if (q == p) && has_bit a (p % 64) then FromParked else Rests
-way s a p = Rests
 
 abbrev pub spot_after : ℕ → Way → Spot → Spot
 spot_after j Rests o = o
@@ -132,14 +115,6 @@ somewhere (Offered n) word h e = λ z. numbered_ne n (sym h ∙ z)
 somewhere InParked word h e = h
 
 -- ---- the ways, whatever the step
-abbrev had_after : Way → Bool → Bool
-had_after Rests had = had
-had_after ByDeed had = true
-had_after (FromOffer n) had = true
-had_after FromParked had = true
-had_after (ToOffer n) had = false
-had_after ToParked had = false
-
 has_after : (m : Way) (o : Spot) (j k : ℕ) (had : Bool) → had ≡ is_with k o → Suits j m o → (same : Bool) → (j == k) ≡ same
     → (if same then had_after m had else had) ≡ is_with k (spot_after j m o)
 has_after Rests o j k had is fits true e = is
@@ -192,23 +167,6 @@ offered_next j (FromOffer m) n o h = ap (λ o. if m == n then false else is_offe
 offered_next j FromParked n o h = ap (is_offered n) h
 offered_next j (ToOffer m) n o h = ap (λ o. if m == n then true else is_offered n o) h ∙ if_true (m == n)
 offered_next j ToParked n o h = ap (is_offered n) h
-
--- ---- the right of a view moves as its way says
-gets_right : (x had : Bool) (m : Way) → had_after m had ≡ true → (if x then true else had) ≡ had_after (if x then m else Rests) had
-gets_right true had m h = sym h
-gets_right false had m h = refl
-
-loses_right : (x had : Bool) (m : Way) → had_after m had ≡ false → (if x then false else had) ≡ had_after (if x then m else Rests) had
-loses_right true had m h = sym h
-loses_right false had m h = refl
-
-right_way : (s : Step) (a p : ℕ) (had : Bool) → right_after s a p had ≡ had_after (way s a p) had
-right_way (Deed q d) a p had = gets_right ((q == p) && (a == 0)) had ByDeed refl
-right_way (TakeRight q d) a p had = gets_right ((q == p) && has_bit a (p % 64)) had (FromOffer (number_of d)) refl
-right_way (Offer q d) a p had = loses_right (q == p) had (ToOffer (number_of d)) refl
-right_way (Park q) a p had = loses_right (q == p) had ToParked refl
-right_way (Unpark q) a p had = gets_right ((q == p) && has_bit a (p % 64)) had FromParked refl
-right_way s a p had = refl
 
 -- ---- the parked words
 unpark_cases : (y g was : Bool) → (y ≡ true → g ≡ was) → (if y then false else was) ≡ parked_moved (if y && g then FromParked else Rests) was
@@ -377,7 +335,7 @@ spotted f (t ∷ l) legal p =
     let next : IsNext f l t = legal.0 in
     let suits : Suits j (way s a p) (spot_of l p) = step_suits f l j s a p at next.allowed next.answer_is in
     record {
-      has = λ k. has_part (j == k) t.made (part k l) p ∙ ap (λ b. if j == k then b else has_right (part k l) p) (right_way s a p (has_right (part k l) p)) ∙ has_after (way s a p) (spot_of l p) j k (has_right (part k l) p) (at.has k) suits (j == k) refl;
+      has = λ k. has_part (j == k) t.made (part k l) p ∙ has_after (way s a p) (spot_of l p) j k (has_right (part k l) p) (at.has k) suits (j == k) refl;
       eligible = λ n. eligible_step l e s a p n next.answer_is ∙ ap (offered_moved (way s a p) n) (at.eligible n) ∙ offered_next j (way s a p) n (spot_of l p) suits;
       parked = parked_step l e s a p next.answer_is ∙ ap (parked_moved (way s a p)) at.parked ∙ parked_next j (way s a p) (spot_of l p) suits;
       deed = fits_step f l j e s a p at next.of_region next.allowed next.answer_is suits;

@@ -9,6 +9,8 @@ use Rattle.pas_profile.specs.declared.word.Word.TheVariants as Word
 use Rattle.pas_steps.specs.Views.{has_right, usable_by, owes_check}
 use Rattle.pas_steps.specs.Lists.{Whole, part, word_after}
 use Rattle.pas_steps.specs.Clear.{IsClear}
+use Rattle.pas_steps.specs.Effects.{free_word_at}
+use Rattle.pas_steps.specs.Evidence.{Readings}
 
 -- the bit of the page in the parked vector, in the empty vector, and in the eligible vector of the directory of this number
 abbrev pub parked_bit : Whole → ℕ → Bool
@@ -19,6 +21,10 @@ empty_bit l page = has_bit (word_after l (Word.Empty (page / 64))) (page % 64)
 
 abbrev pub eligible_bit : Whole → ℕ → ℕ → Bool
 eligible_bit l number page = has_bit (word_after l (Word.Eligible number (page / 64))) (page % 64)
+
+-- which grains of the page are free
+abbrev pub free_of_page : Whole → ℕ → Readings
+free_of_page l page b = has_bit (word_after l (free_word_at (page * 256 + b))) (b % 64)
 
 -- a page without a deed has no right: nobody has it, and none of its bits is set
 pub record HasNoRight (l : Whole) (page : ℕ) : Type 0 where

@@ -21,6 +21,8 @@ ghost use Rattle.pas_core.specs.Rights.{parked_bit, empty_bit, eligible_bit, IsR
 ghost use Rattle.pas_steps.specs.Desks.{triples};
 ghost use Rattle.pas_steps.specs.declared.step.Made.{Made};
 
+pub use crate::knowledge_laws::{answers_agree, known_is_true, one_right, untouched};
+
 /// However the steps of the actors fall between each other, what they did is a run of the machine: each block was given where no
 /// other lived, on backed pages of its heap and under a name of its own, each end ended the very block of its name, and each
 /// refusal had its true reason.

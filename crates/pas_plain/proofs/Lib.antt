@@ -1,3 +1,4 @@
 pub mod FreeWords
 pub mod Passes
 pub mod Stepping
+pub mod Walk

@@ -9,9 +9,9 @@ use pas_steps::{Desk, Step};
 /// A desk that stands for the views of the desk in it, but beside any list of the steps of all actors: it says nothing of what the
 /// others did.
 ///
-/// So it is what the desk of a shared region is to its actor, whose view is all that it can vouch for. That it is a `Desk` with
-/// every law shows that the trait asks nothing which only a region with one actor at a time could keep, and what is written for
-/// any desk runs at it unchanged.
+/// So it is what the desk of a shared region is to its actor, whose view is all that it can vouch for: what is written for any desk
+/// runs at it unchanged, and cannot lean on the whole state. That others act between two steps of the actor it doesn't show, since
+/// under it nobody does.
 #[derive(Drop)]
 pub struct Closed<D> {
     desk: D,

@@ -17,4 +17,4 @@ pub use closed::Closed;
 pub use desk::PlainDesk;
 pub use pass::PlainPass;
 pub use region::PlainRegion;
-pub use session::{close, try_new};
+pub use session::close;

@@ -40,7 +40,7 @@ impl PlainRegion {
     ghost use Rattle.pas_plain.specs.Plain.{profile_of, word_at, RegionStands, IsExchanged};
 
     /// A region that nobody used yet.
-    pub(crate) fn try_new(alloc: Global, profile: Profile) -> Result<PlainRegion, NoMemory>
+    pub(crate) fn opened(alloc: Global, profile: Profile) -> Result<PlainRegion, NoMemory>
         requires { IsValid profile }
         ensures profile { IfOk result (λ region. profile_of region ≡ profile) }
         ensures opening { IfOk result (λ region. RegionStands region []) }

@@ -13,24 +13,26 @@ use pas_profile::{EventRoom, NoMemory, Profile, Word};
 use pas_steps::State;
 use std::alloc::Global;
 
-/// A region that nobody used yet, and the passes of its actors: that of the scavenger, which is actor 0, and those of the
-/// threads, each with the room at its number. It costs one pass over the words.
-pub fn try_new(
-    alloc: Global,
-    profile: Profile,
-    rooms: Vec<EventRoom>,
-) -> Result<(PlainRegion, Vec<PlainPass>), NoMemory>
-    requires valid { IsValid profile }
-    requires actors { vec_len rooms ≡ profile.threads + 1 }
-    requires empty { All (λ room. shown room ≡ []) rooms.items }
-    ensures profile { IfOk result (λ opened. profile_of opened.0 ≡ profile) }
-    ensures opening { IfOk result (λ opened. RegionStands opened.0 []) }
-    ensures passes { IfOk result (λ opened. opened.1.items ≡ passes_from 0 rooms.items) }
-    ensures stand { IfOk result (λ opened. All (λ pass. PassStands profile pass []) opened.1.items) }
-{
-    let region = PlainRegion::try_new(alloc, profile)?;
-    let passes = passes_for(alloc, rooms)?;
-    Ok((region, passes))
+impl PlainRegion {
+    /// A region that nobody used yet, and the passes of its actors: that of the scavenger, which is actor 0, and those of the
+    /// threads, each with the room at its number. It costs one pass over the words.
+    pub fn try_new(
+        alloc: Global,
+        profile: Profile,
+        rooms: Vec<EventRoom>,
+    ) -> Result<(PlainRegion, Vec<PlainPass>), NoMemory>
+        requires valid { IsValid profile }
+        requires actors { vec_len rooms ≡ profile.threads + 1 }
+        requires empty { All (λ room. shown room ≡ []) rooms.items }
+        ensures profile { IfOk result (λ opened. profile_of opened.0 ≡ profile) }
+        ensures opening { IfOk result (λ opened. RegionStands opened.0 []) }
+        ensures passes { IfOk result (λ opened. opened.1.items ≡ passes_from 0 rooms.items) }
+        ensures stand { IfOk result (λ opened. All (λ pass. PassStands profile pass []) opened.1.items) }
+    {
+        let region = PlainRegion::opened(alloc, profile)?;
+        let passes = passes_for(alloc, rooms)?;
+        Ok((region, passes))
+    }
 }
 
 /// Ends the work at a region, with all passes that are left. The state keeps the region's own vector.

@@ -45,7 +45,7 @@ fn seated(alloc: Global) -> Result<PlainDesk, Fail>
     let mut rooms = Vec::new(alloc);
     rooms.push(EventRoom::try_new(alloc, 0)?)?;
     rooms.push(EventRoom::try_new(alloc, 16)?)?;
-    let (region, mut passes) = try_new(alloc, PROFILE, rooms)?;
+    let (region, mut passes) = PlainRegion::try_new(alloc, PROFILE, rooms)?;
     let Some(pass) = passes.pop() else {
         return Err(NoMemory.into());
     };

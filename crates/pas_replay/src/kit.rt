@@ -95,7 +95,7 @@ impl PlainKit {
     {
         let mut utility = Utility::try_new(alloc, &plan.profile, plan.bounds.as_slice())?;
         let rooms = rooms_of(alloc, &mut utility, plan.profile.threads)?;
-        let (region, mut passes) = pas_plain::try_new(alloc, plan.profile, rooms)?;
+        let (region, mut passes) = PlainRegion::try_new(alloc, plan.profile, rooms)?;
         let threads = threads_with(alloc, &mut utility, &mut passes)?;
         let names = Names::try_new(alloc, names_limit(plan.phases.as_slice()))?;
         Ok(PlainKit {

@@ -2,7 +2,7 @@
 use Rattle.std.proofs.Common.{◌≡◌, ◌≢◌, ℕ, ◌+◌, ◌*◌, ◌/◌, ◌%◌, ◌<◌, ◌≤◌, ◌==◌, Bool, true, false, not, ◌&&◌, ◌||◌, if◌then◌else◌, inl, inr, List, [], ◌∷◌, ◌++◌, length, refl, ap, sym, ◌∙◌, subst, arith, append_assoc, true≢false}
 use Rattle.std.proofs.lemmas.Bool.{eq-eqb, ne_eqb, cases_Bool, cases_lt, lt-ltb}
 use Rattle.pas_profile.specs.Classes.{has_bit, usable_grains}
-use Rattle.pas_profile.specs.Directories.{IsDirectory, deed_word_of, directory_read}
+use Rattle.pas_profile.specs.Directories.{IsDirectory, deed_word_of, directory_read, number_of}
 use Rattle.pas_profile.specs.declared.directory.Directory.{Directory}
 use Rattle.pas_profile.specs.declared.directory.Kind.{Kind}
 use Rattle.pas_profile.specs.declared.profile.Profile.{Profile}
@@ -10,7 +10,7 @@ use Rattle.pas_profile.specs.declared.word.Word.TheVariants as Word
 use Rattle.pas_profile.specs.Directories.{IsKind}
 use Rattle.pas_profile.proofs.Codecs.{deed_word_of-positive, read-deed_word_of}
 use Rattle.pas_profile.proofs.ClassFacts.{usable_grains_ge}
-use Rattle.pas_steps.specs.Views.{View, has_right, known_deed, usable_by, usable_by_kind, no_usable, all_ones, owes_check, owes_hint}
+use Rattle.pas_steps.specs.Views.{View, ToOffer, FromParked, ToParked, has_right, known_deed, usable_by, usable_by_kind, no_usable, all_ones, owes_check, owes_hint}
 use Rattle.pas_steps.specs.Agreement.{Agreed}
 use Rattle.pas_steps.specs.Desks.{made}
 use Rattle.pas_steps.specs.declared.step.Made.{Made}
@@ -21,7 +21,7 @@ use Rattle.pas_rights.specs.Returns.{ReofferSteps, ReturnSteps}
 use Rattle.pas_rights.specs.Looks.{looks, any_usable, are_all_ones, LookedUntilUsed, HintSteps, HintsWhere}
 use Rattle.pas_steps.specs.Clear.{OwesNothing}
 use Rattle.pas_rights.proofs.Looks.{below_at, full_bit}
-use Rattle.pas_rights.proofs.Orders.{right_looks, deed_looks, same_page, ends, gets_none, offered_on, parked_on, left_on, returned_on}
+use Rattle.pas_rights.proofs.Orders.{right_looks, deed_looks, same_page, ends, gives, gets_none, offered_on, parked_on, left_on, returned_on}
 
 -- ---- what an ending keeps
 kept_none : (t owed : Bool) → owed ≡ false → (if t then false else owed) ≡ false
@@ -125,16 +125,16 @@ reoffer_hint p d steps v (inl h) = ap (λ s. owes_hint (s ++ v) p) h.2
 reoffer_hint p d steps v (inr h) = ap (λ s. owes_hint (s ++ v) p) h.3
 
 reoffer_lacks : (p : ℕ) (d : Directory) (steps : List Made) (v : View) → ReofferSteps p d steps → has_right v p ≡ false → has_right (steps ++ v) p ≡ false
-reoffer_lacks p d steps v (inl h) lacks = ap (λ s. has_right (s ++ v) p) h.2 ∙ gets_none p h.0 (has_right v p) h.1 ∙ lacks
-reoffer_lacks p d steps v (inr h) lacks = ap (λ s. has_right (s ++ v) p) h.3 ∙ ends p (has_right (made (Unpark p) h.0 ∷ v) p)
+reoffer_lacks p d steps v (inl h) lacks = ap (λ s. has_right (s ++ v) p) h.2 ∙ gets_none p FromParked h.0 (has_right v p) h.1 ∙ lacks
+reoffer_lacks p d steps v (inr h) lacks = ap (λ s. has_right (s ++ v) p) h.3 ∙ gives p (ToOffer (number_of d)) (has_right (made (Unpark p) h.0 ∷ v) p) refl
 
 -- with the right the parked bit is read as 0
 reoffer_right : (f : Profile) (p : ℕ) (d : Directory) (steps : List Made) (v : View) → ReofferSteps p d steps → Agreed f v steps → has_right (steps ++ v) p ≡ has_right v p
-reoffer_right f p d steps v (inl h) agreed = ap (λ s. has_right (s ++ v) p) h.2 ∙ gets_none p h.0 (has_right v p) h.1
+reoffer_right f p d steps v (inl h) agreed = ap (λ s. has_right (s ++ v) p) h.2 ∙ gets_none p FromParked h.0 (has_right v p) h.1
 reoffer_right f p d steps v (inr h) agreed =
     let here : Agreed f v (made (Offer p d) h.1 ∷ made (Unpark p) h.0 ∷ []) = subst (Agreed f v) h.3 agreed in
     let whole : 64 * (p / 64) + p % 64 ≡ p = omega arith in
-    ap (λ s. has_right (s ++ v) p) h.3 ∙ ends p (has_right (made (Unpark p) h.0 ∷ v) p) ∙ sym (elim (cases_Bool (has_right v p)) [
+    ap (λ s. has_right (s ++ v) p) h.3 ∙ gives p (ToOffer (number_of d)) (has_right (made (Unpark p) h.0 ∷ v) p) refl ∙ sym (elim (cases_Bool (has_right v p)) [
       | inl has ↦ absurd (true≢false (sym h.2 ∙ here.1.0.right (p % 64) (omega arith) (ap (has_right v) whole ∙ has)))
       | inr none ↦ none
     ])
@@ -171,10 +171,10 @@ leave_owes f p d steps v is h agreed knows = subst (OwesNothing p) (sym (left_on
     (hint_looks p h.answers v))
 
 end_lacks : (p : ℕ) (d : Directory) (usable all_free : Bool) (steps : List Made) (v : View) → EndsLeave usable p d all_free steps → has_right (steps ++ v) p ≡ false
-end_lacks p d true all_free steps v h = ap (λ s. has_right s p) (offered_on p d all_free steps v h) ∙ hints_right p all_free h.after (made (Offer p d) h.offered ∷ v) h.hints ∙ ends p (has_right v p)
+end_lacks p d true all_free steps v h = ap (λ s. has_right s p) (offered_on p d all_free steps v h) ∙ hints_right p all_free h.after (made (Offer p d) h.offered ∷ v) h.hints ∙ gives p (ToOffer (number_of d)) (has_right v p) refl
 end_lacks p d false all_free steps v h =
     let parked : View = made (Park p) h.parked ∷ v in
-    ap (λ s. has_right s p) (parked_on p d steps v h) ∙ lacks_after p d (any_usable d h.later) h.after (looks p h.later ++ parked) h.reoffers (right_looks p p h.later parked ∙ ends p (has_right v p))
+    ap (λ s. has_right s p) (parked_on p d steps v h) ∙ lacks_after p d (any_usable d h.later) h.after (looks p h.later ++ parked) h.reoffers (right_looks p p h.later parked ∙ gives p ToParked (has_right v p) refl)
 
 pub leave_lacks : (p : ℕ) (d : Directory) (steps : List Made) (v : View) → LeaveSteps p d steps → has_right (steps ++ v) p ≡ false
 leave_lacks p d steps v h = ap (λ s. has_right s p) (left_on p d steps v h) ∙ end_lacks p d (any_usable d h.answers) (are_all_ones h.answers) h.after (looks p h.answers ++ v) h.ends

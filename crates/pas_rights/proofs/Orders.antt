@@ -4,7 +4,7 @@ use Rattle.std.proofs.lemmas.Bool.{eq-eqb}
 use Rattle.pas_profile.specs.Classes.{has_bit}
 use Rattle.pas_profile.specs.declared.directory.Directory.{Directory}
 use Rattle.pas_profile.proofs.Codecs.{deed_word_of-positive}
-use Rattle.pas_steps.specs.Views.{View, has_right, known_deed, KnowsDeed}
+use Rattle.pas_steps.specs.Views.{Way, Rests, had_after, View, has_right, known_deed, KnowsDeed}
 use Rattle.pas_steps.specs.Past.{Once}
 use Rattle.pas_steps.specs.Frames.{IsReturn, GivesUp, AreLooks, OnlyReturns}
 use Rattle.pas_steps.specs.Desks.{made}
@@ -31,11 +31,14 @@ same_page p = eq-eqb p p refl
 pub ends : (p : ℕ) (before : Bool) → (if p == p then false else before) ≡ false
 ends p before = ap (λ t. if t then false else before) (same_page p)
 
-pub gets : (p a : ℕ) (before : Bool) → has_bit a (p % 64) ≡ true → (if (p == p) && has_bit a (p % 64) then true else before) ≡ true
-gets p a before h = ap (λ t. if t && has_bit a (p % 64) then true else before) (same_page p) ∙ ap (λ t. if t then true else before) h
+pub gets : (p : ℕ) (w : Way) (a : ℕ) (before : Bool) → had_after w before ≡ true → has_bit a (p % 64) ≡ true → had_after (if (p == p) && has_bit a (p % 64) then w else Rests) before ≡ true
+gets p w a before got h = ap (λ t. had_after (if t && has_bit a (p % 64) then w else Rests) before) (same_page p) ∙ ap (λ t. had_after (if t then w else Rests) before) h ∙ got
 
-pub gets_none : (p a : ℕ) (before : Bool) → has_bit a (p % 64) ≡ false → (if (p == p) && has_bit a (p % 64) then true else before) ≡ before
-gets_none p a before h = ap (λ t. if t && has_bit a (p % 64) then true else before) (same_page p) ∙ ap (λ t. if t then true else before) h
+pub gets_none : (p : ℕ) (w : Way) (a : ℕ) (before : Bool) → has_bit a (p % 64) ≡ false → had_after (if (p == p) && has_bit a (p % 64) then w else Rests) before ≡ before
+gets_none p w a before h = ap (λ t. had_after (if t && has_bit a (p % 64) then w else Rests) before) (same_page p) ∙ ap (λ t. had_after (if t then w else Rests) before) h
+
+pub gives : (p : ℕ) (w : Way) (before : Bool) → had_after w before ≡ false → had_after (if p == p then w else Rests) before ≡ false
+gives p w before h = ap (λ t. had_after (if t then w else Rests) before) (same_page p) ∙ h
 
 -- ---- what may be done
 pub knows_some : (p : ℕ) (d : Directory) (v : View) → KnowsDeed p d v → known_deed v p ≢ 0

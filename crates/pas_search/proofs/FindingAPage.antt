@@ -20,7 +20,7 @@ use Rattle.pas_steps.proofs.Frames.{events_append}
 use Rattle.pas_steps.proofs.Kept.{deed_stays, scans_look, looks_read}
 use Rattle.pas_steps.proofs.Past.{once_later}
 use Rattle.pas_scan.specs.Scan.{Judges, IsVerdict}
-use Rattle.pas_search.specs.Kinds.{AreSearch, IsDeedOrBack, deeds_made}
+use Rattle.pas_search.specs.Kinds.{searching, AreSearch, IsDeedOrBack, deeds_made}
 use Rattle.pas_search.specs.Serving.{Rule, IsAntitone}
 use Rattle.pas_search.specs.Searches.{MaySearch, SearchRoom, BareRoom, FromOffered, DeedMadeHere, ByDeed, Finds, IsServed, IsRefused, Searching, SearchesOffered, ServesBare, SearchesBare, Searches}
 use Rattle.pas_search.specs.declared.serving.Served.{Served}
@@ -30,6 +30,7 @@ use Rattle.pas_search.proofs.SoFar.{searched, vain_searching}
 use Rattle.pas_search.proofs.GotPage.{ready, got_search, finds}
 use Rattle.pas_search.proofs.BarePages.{deed_before, unknown, deed_known}
 use Rattle.pas_search.proofs.Refusals.{refused}
+use Rattle.pas_core.proofs.OneActorGrains.{lends_none}
 use Rattle.pas_search.proofs.WholeState.{all_told}
 
 -- what a search promises of its steps
@@ -175,6 +176,6 @@ searches_by {F} {rule} {σ} {σ'} {answer} tells d valid of fewer told parts end
       let same : part σ.seat.actor l ≡ v = parts v l yes_tells stood in
       all_told rule f σ.seat.actor l d ends.steps valid of fewer
       (legal_after ends.adds (λ x y s. told x y yes_tells s) v l stood met)
-      ends.searches.kinds (subst (MaySearch d) (sym same) met) (subst (λ x. Agreed f x ends.steps) (sym same) (ends.adds.agreed v l stood met))
+      (lends_none searching refl ends.steps ends.searches.kinds) (subst (MaySearch d) (sym same) met) (subst (λ x. Agreed f x ends.steps) (sym same) (ends.adds.agreed v l stood met))
       answer ends.outcome;
 }

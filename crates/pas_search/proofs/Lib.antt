@@ -5,8 +5,6 @@ pub mod GotPage
 pub mod OfferedPages
 pub mod BarePages
 pub mod Refusals
-pub mod Spotting
-pub mod Grained
 pub mod WholeState
 pub mod FindingAPage
 pub mod ForBackEnds

@@ -6,14 +6,15 @@ use Rattle.pas_profile.specs.declared.directory.Directory.{Directory}
 use Rattle.pas_profile.specs.declared.event.Event.{Event}
 use Rattle.pas_profile.specs.declared.profile.Profile.{Profile}
 use Rattle.pas_profile.specs.declared.word.Word.{Word}
-use Rattle.pas_steps.specs.Agreement.{Agrees}
-use Rattle.pas_steps.specs.Calls.{Leads, AnyView, Fate, Kept, Gained, Lost, now, nothing, ClearAfter, Does, grain_fate, right_fate, opens}
+use Rattle.pas_steps.specs.Agreement.{Agrees, Agreed}
+use Rattle.pas_profile.specs.Directories.{number_of}
+use Rattle.pas_steps.specs.Calls.{Leads, AnyView, Fate, Kept, Gained, Lost, now, nothing, ClearAfter, Does, grain_fate, way_fate, right_fate, opens}
 use Rattle.pas_steps.specs.Desks.{made}
 use Rattle.pas_steps.specs.Evidence.{GetsRight, LacksAfter}
 use Rattle.pas_steps.specs.Frames.{IsRead, OnlyReads}
 use Rattle.pas_steps.specs.Kinds.{kind_of, look_kind, place_of, is_in, unbacking, Only}
 use Rattle.pas_steps.specs.Past.{Always}
-use Rattle.pas_steps.specs.Views.{View, Stays, grain_move, held_after, holds, has_right}
+use Rattle.pas_steps.specs.Views.{View, Way, Stays, grain_move, held_after, holds, right_after, has_right}
 use Rattle.pas_steps.specs.declared.step.Made.{Made}
 use Rattle.pas_steps.specs.declared.step.Step.{Step}
 use Rattle.pas_steps.specs.declared.step.Step.TheVariants.{Look, Deed, TakeRight}
@@ -53,15 +54,19 @@ look_rights word a = record { grains = λ x. refl; rights = λ q. refl; opens = 
 abbrev pub gained : ℕ → Bool → ℕ → Fate
 gained p got q = if (p == q) && got then Gained else Kept
 
+gets_way : (t : Bool) (w : Way) → way_fate w ≡ Gained → way_fate (if t then w else Way.Rests) ≡ (if t then Gained else Kept)
+gets_way true w h = h
+gets_way false w h = refl
+
 deed_rights : (p : ℕ) (d : Directory) (a : ℕ) (got : Bool) → (a == 0) ≡ got → Rights (gained p got) (made (Deed p d) a)
-deed_rights p d a got e = record { grains = λ x. refl; rights = λ q. ap (λ z. if (p == q) && z then Gained else Kept) e; opens = λ q. refl; kind = refl; returns = λ q h. elim h [ ] }
+deed_rights p d a got e = record { grains = λ x. refl; rights = λ q. gets_way ((p == q) && (a == 0)) Way.ByDeed refl ∙ ap (λ z. if (p == q) && z then Gained else Kept) e; opens = λ q. refl; kind = refl; returns = λ q h. elim h [ ] }
 
 bit_there : (p q a : ℕ) (t got : Bool) → (p == q) ≡ t → has_bit a (p % 64) ≡ got → (t && has_bit a (q % 64)) ≡ (t && got)
 bit_there p q a true got e bit = ap (λ x. has_bit a (x % 64)) (sym (eqb-true p q e)) ∙ bit
 bit_there p q a false got e bit = refl
 
 claim_rights : (p : ℕ) (d : Directory) (a : ℕ) (got : Bool) → has_bit a (p % 64) ≡ got → Rights (gained p got) (made (TakeRight p d) a)
-claim_rights p d a got e = record { grains = λ x. refl; rights = λ q. ap (λ z. if z then Gained else Kept) (bit_there p q a (p == q) got refl e); opens = λ q. refl; kind = refl; returns = λ q h. elim h [ ] }
+claim_rights p d a got e = record { grains = λ x. refl; rights = λ q. gets_way ((p == q) && has_bit a (q % 64)) (Way.FromOffer (number_of d)) refl ∙ ap (λ z. if z then Gained else Kept) (bit_there p q a (p == q) got refl e); opens = λ q. refl; kind = refl; returns = λ q h. elim h [ ] }
 
 rights_as : {fates : ℕ → Fate} {m : Made} (others : ℕ → Fate) → ((q : ℕ) → fates q ≡ others q) → Rights fates m → Rights others m
 rights_as others same h = record { grains = h.grains; rights = λ q. h.rights q ∙ same q; opens = h.opens; kind = h.kind; returns = h.returns }

@@ -30,8 +30,8 @@ use Rattle.pas_search.specs.Searches.{MaySearch, DeedMadeHere, IsHeld, IsServed,
 use Rattle.pas_search.specs.Telling.{IsOfferedFit, HasNoFit, IsLowestOffered, IsLowestBare, IsInHands, IsTrueReason, IsTold}
 use Rattle.pas_search.specs.declared.serving.Served.{Served}
 use Rattle.pas_search.proofs.Refusals.{unfit_lacks}
-use Rattle.pas_search.proofs.Spotting.{spot_same, zero_told, one_told, parked_told, entry_lacks, legal_before, offered_deed, offered_lacks, not_in_hands}
-use Rattle.pas_search.proofs.Grained.{unfit_entry, unfit_exit, fit_entry, deed_quiet, deed_exit, deed_none}
+use Rattle.pas_core.proofs.OneActorRights.{spot_same, zero_told, one_told, parked_told, entry_lacks, legal_before, offered_deed, offered_lacks, not_in_hands}
+use Rattle.pas_core.proofs.OneActorGrains.{LendsNone, unfit_entry, unfit_exit, fit_entry, deed_quiet, deed_exit, deed_none}
 
 not_below : (n m : ℕ) → (m < n → ⊥) → n ≤ m
 not_below n m h = elim (cases_lt m n) [ inl lt ↦ absurd (h lt) | inr ge ↦ ge ]
@@ -48,7 +48,7 @@ deed_known f v p (m ∷ xs) agreed (inr h) =
     let some = deed_known f v p xs agreed.1 h in λ e. some (sym (deed_stays f (m ∷ []) (xs ++ v) p (agreed.0, tt) some) ∙ e)
 
 -- ---- a page that was searched in vain was no fit at entry
-vain : {F : Type 0} (rule : Rule F) (f : Profile) (k : ℕ) (l : Whole) (d : Directory) (end : ℕ) (xs : List Made) → IsAntitone rule.no_fit → Legal f (triples k xs ++ l) → Only searching xs → Searched rule.no_fit d end xs → (page : ℕ) → page < end → IsOfferedFit rule f d l page → ⊥
+vain : {F : Type 0} (rule : Rule F) (f : Profile) (k : ℕ) (l : Whole) (d : Directory) (end : ℕ) (xs : List Made) → IsAntitone rule.no_fit → Legal f (triples k xs ++ l) → LendsNone xs → Searched rule.no_fit d end xs → (page : ℕ) → page < end → IsOfferedFit rule f d l page → ⊥
 vain rule f k l d end xs fewer legal searches searched page high fit =
     let n : ℕ = number_of d in
     let first : Legal f l = legal_before f k xs l legal in
@@ -59,7 +59,7 @@ vain rule f k l d end xs fewer legal searches searched page high fit =
     ]
 
 -- ---- by a deed
-by_deed : {F : Type 0} (rule : Rule F) (f : Profile) (k : ℕ) (l : Whole) (d : Directory) (page : ℕ) (xs : List Made) → IsAntitone rule.no_fit → IsPage f page → Legal f (triples k xs ++ l) → Only searching xs → Once (DeedMadeHere rule f d page) xs → IsLowestBare rule f d l page
+by_deed : {F : Type 0} (rule : Rule F) (f : Profile) (k : ℕ) (l : Whole) (d : Directory) (page : ℕ) (xs : List Made) → IsAntitone rule.no_fit → IsPage f page → Legal f (triples k xs ++ l) → LendsNone xs → Once (DeedMadeHere rule f d page) xs → IsLowestBare rule f d l page
 by_deed rule f k l d page [] fewer is legal searches h = absurd h
 by_deed rule f k l d page (m ∷ xs) fewer is legal searches (inr h) = by_deed rule f k l d page xs fewer is legal.1 searches.1 h
 by_deed rule f k l d page (m ∷ xs) fewer is legal searches (inl h) = record {
@@ -69,7 +69,7 @@ by_deed rule f k l d page (m ∷ xs) fewer is legal searches (inl h) = record {
 }
 
 module _ {F : Type 0} (rule : Rule F) (f : Profile) (k : ℕ) (l : Whole) (d : Directory) (xs : List Made) (valid : IsValid f) (of : IsDirectoryOf f d) (fewer : IsAntitone rule.no_fit)
-    (legal : Legal f (triples k xs ++ l)) (searches : Only searching xs) (may : MaySearch d (part k l)) (agreed : Agreed f (part k l) xs) where
+    (legal : Legal f (triples k xs ++ l)) (searches : LendsNone xs) (may : MaySearch d (part k l)) (agreed : Agreed f (part k l) xs) where
   abbrev w : Whole
   w = triples k xs ++ l
 
@@ -84,7 +84,7 @@ module _ {F : Type 0} (rule : Rule F) (f : Profile) (k : ℕ) (l : Whole) (d : D
     | inl from ↦
         let read = one_told f k l d p xs legal from.offered in
         let deed : word_after (triples k read.0 ++ l) (Word.Deed p) ≡ deed_word_of d = offered_deed f (triples k read.0 ++ l) d p of read.1 read.3 in
-        let lacks : has_right (part k l) p ≡ false = entry_lacks f k l d p read.0 valid first may deed in
+        let lacks : has_right (part k l) p ≡ false = entry_lacks f k l d p read.0 valid first (may.rights p) deed in
         let at : IsSpotted l p = spotted f l first p in
         let now : IsSpotted (triples k read.0 ++ l) p = spotted f (triples k read.0 ++ l) read.1 p in
         inl (record {
@@ -131,13 +131,13 @@ module _ {F : Type 0} (rule : Rule F) (f : Profile) (k : ℕ) (l : Whole) (d : D
   accounted_out : (room : NoRoom) → IsRefused rule f d xs room → (p : ℕ) → (KnowsDeed p d (xs ++ part k l) → Accounted d p xs) → IsInHands f d w p → ⊥
   accounted_out room is p account hands =
       let low = hands.of_region.0 in let high = hands.of_region.1 in
-      let none : has_right (part k l) p ≡ false = entry_lacks f k l d p xs valid first may hands.of_directory in
+      let none : has_right (part k l) p ≡ false = entry_lacks f k l d p xs valid first (may.rights p) hands.of_directory in
       let lacks : has_right (xs ++ part k l) p ≡ false = (is.still.from (part k l) may agreed).right p ∙ none in
       let some : known_deed (xs ++ part k l) p ≢ 0 = deed_known f (part k l) p xs agreed (is.deeds p low (omega (arith, high))) in
       elim (account (known_exit p some ∙ hands.of_directory)) [
-        | inl left ↦ not_in_hands f k l d p xs of legal lacks (once_map (LeftHere p) (KeptHere p) xs (λ m before h. h.1) left) hands
+        | inl left ↦ not_in_hands f k l d p xs of legal lacks (once_map (LeftHere p) (KeptHere p) xs (λ m before h. h.1) left) hands.of_directory hands.not_offered hands.not_parked
         | inr parked ↦ elim (is.searched p low (omega (arith, high))) [
-          | inl u ↦ not_in_hands f k l d p xs of legal lacks (once_map (UnfitHere rule.no_fit p) (KeptHere p) xs (λ m before h. h.kept) u) hands
+          | inl u ↦ not_in_hands f k l d p xs of legal lacks (once_map (UnfitHere rule.no_fit p) (KeptHere p) xs (λ m before h. h.kept) u) hands.of_directory hands.not_offered hands.not_parked
           | inr z ↦
               let at : IsSpotted w p = spotted f w legal p in
               true≢false (sym (at.parked ∙ ap is_parked (spot_same f k l p xs legal none z.0)
@@ -149,7 +149,7 @@ module _ {F : Type 0} (rule : Rule F) (f : Profile) (k : ℕ) (l : Whole) (d : D
   held_in_hands room is p held =
       let known : known_deed (xs ++ part k l) p ≡ deed_word_of d = held.of_directory (part k l) agreed in
       let deed : word_after w (Word.Deed p) ≡ deed_word_of d = sym (known_exit p (λ z. deed_word_of-positive d (sym known ∙ z))) ∙ known in
-      let none : has_right (part k l) p ≡ false = entry_lacks f k l d p xs valid first may deed in
+      let none : has_right (part k l) p ≡ false = entry_lacks f k l d p xs valid first (may.rights p) deed in
       let at : IsSpotted w p = spotted f w legal p in
       let same = spot_same f k l p xs legal none held.lacked in
       let high = held.page_of.1 in

@@ -8,11 +8,11 @@ use Rattle.pas_profile.specs.declared.profile.Profile.{Profile}
 use Rattle.pas_profile.specs.declared.word.Word.{Word}
 use Rattle.pas_profile.specs.Runs.{in_run, meets_page, grain_of}
 use Rattle.pas_steps.specs.Agreement.{Agrees, Agreed}
-use Rattle.pas_steps.specs.Calls.{Leads, AnyView, Fate, Kept, Gained, Lost, now, later, Effect, nothing, put, freed, on_page, and_then, ClearAfter, Bears, Does, grain_fate, right_fate, opens, step_effect}
+use Rattle.pas_steps.specs.Calls.{Leads, AnyView, Fate, Kept, Gained, Lost, now, later, Effect, nothing, put, freed, on_page, and_then, ClearAfter, Bears, Does, grain_fate, way_fate, right_fate, opens, step_effect}
 use Rattle.pas_steps.specs.Clear.{IsClearOn, IsClear}
 use Rattle.pas_steps.specs.Desks.{Seat, Standing, made, CanCall, Adds}
 use Rattle.pas_steps.specs.Effects.{in_mask}
-use Rattle.pas_steps.specs.Views.{View, Move, Stays, Puts, Ends, grain_move, held_after, holds, right_after, has_right, known_deed, unstamped_after, is_unstamped, no_usable, check_after, owes_check, all_ones, hint_after, owes_hint, examined_after, examines, knows_backed}
+use Rattle.pas_steps.specs.Views.{View, Move, Stays, Puts, Ends, grain_move, held_after, holds, Way, ByDeed, way, had_after, right_after, has_right, known_deed, unstamped_after, is_unstamped, no_usable, check_after, owes_check, all_ones, hint_after, owes_hint, examined_after, examines, knows_backed}
 use Rattle.pas_steps.specs.declared.step.Made.{Made}
 use Rattle.pas_steps.specs.declared.step.Step.{Step}
 use Rattle.pas_steps.specs.declared.step.Step.TheVariants.{Look, Deed, Take, Put, Give, End, TakeRight, Offer, Park, Unpark, Stamp, Hint, Unback, Unhint}
@@ -130,21 +130,12 @@ pub fate_is : (m : Move) (had : Bool) → held_after m had ≡ now (grain_fate m
 fate_is (Ends b) had = refl
 fate_is s had = refl
 
-gains : (t had : Bool) → (if t then true else had) ≡ now (if t then Gained else Kept) had
-gains true had = refl
-gains false had = refl
-
-loses : (t had : Bool) → (if t then false else had) ≡ now (if t then Lost else Kept) had
-loses true had = refl
-loses false had = refl
+had_is : (w : Way) (had : Bool) → had_after w had ≡ now (way_fate w) had
+had_is ByDeed had = refl
+had_is w had = refl
 
 pub right_is : (s : Step) (a p : ℕ) (had : Bool) → right_after s a p had ≡ now (right_fate s a p) had
-right_is (Deed q d) a p had = gains ((q == p) && (a == 0)) had
-right_is (TakeRight q d) a p had = gains ((q == p) && has_bit a (p % 64)) had
-right_is (Offer q d) a p had = loses (q == p) had
-right_is (Park q) a p had = loses (q == p) had
-right_is (Unpark q) a p had = gains ((q == p) && has_bit a (p % 64)) had
-right_is s a p had = refl
+right_is s a p had = had_is (way s a p) had
 
 ends_none : (t owed : Bool) → owed ≡ false → (if t then false else owed) ≡ false
 ends_none true owed h = refl
@@ -242,7 +233,7 @@ bears_step f s a x v agrees keeps stays bears =
 pub does_step : (f : Profile) (s : Step) (a : ℕ) (v : View) → is_in unbacking (kind_of s) ≡ false → Agrees f v s a → Does (step_effect s a) v (made s a ∷ v)
 does_step f s a v keeps agrees = record {
   held = λ x. fate_is (grain_move s a x) (holds v x);
-  right = λ page. right_is s a page (has_right v page);
+  right = λ page. had_is (way s a page) (has_right v page);
   clear = λ page. clear_step (opens s a page) page v (made s a ∷ v) (λ shut. clear_shut s a page v shut);
   backed = λ x kept bears. bears_step f s a x v agrees keeps (stays_by (grain_move s a x) kept) bears;
 }

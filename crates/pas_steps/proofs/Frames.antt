@@ -1,5 +1,5 @@
 -- What steps leave as it was.
-use Rattle.std.proofs.Common.{◌≡◌, ℕ, ◌≤◌, Bool, true, false, ◌&&◌, List, [], ◌∷◌, ◌++◌, length, Option, Some, None, refl, ap, sym, ◌∙◌, subst, arith, append_assoc, ◌%◌, if◌then◌else◌, ◌==◌}
+use Rattle.std.proofs.Common.{◌≡◌, ℕ, ◌≤◌, Bool, true, false, ◌&&◌, List, [], ◌∷◌, ◌++◌, length, Option, Some, None, refl, ap, sym, ◌∙◌, subst, arith, append_assoc, ◌%◌, if◌then◌else◌, ◌==◌, true≢false}
 use Rattle.std.proofs.lemmas.Bool.{eqb-true}
 use Rattle.pas_profile.specs.Classes.{has_bit}
 use Rattle.pas_profile.specs.declared.event.Event.{Event}
@@ -9,10 +9,12 @@ use Rattle.pas_steps.specs.declared.step.Made.{Made}
 use Rattle.pas_steps.specs.declared.step.Step.{Step}
 use Rattle.pas_steps.specs.declared.step.Step.TheVariants.{Look, Deed, Back, Take, Put, Give, End, TakeRight, Offer, Park, Unpark, Stamp, Hint, Tick, Unback, Unhint}
 use Rattle.pas_steps.specs.Effects.{target, new_value}
-use Rattle.pas_steps.specs.Views.{View, right_after, has_right, epoch_of, given_after, given_count}
+use Rattle.pas_profile.specs.Directories.{number_of}
+use Rattle.pas_steps.specs.Views.{View, Way, way, Rests, ByDeed, FromOffer, FromParked, ToOffer, ToParked, had_after, right_after, has_right, epoch_of, given_after, given_count}
 use Rattle.pas_steps.specs.Events.{event_of, with_event, events_of, events_by}
 use Rattle.pas_steps.specs.Lists.{Whole, part, word_after, visible}
 use Rattle.pas_steps.specs.Desks.{triples}
+use Rattle.pas_steps.specs.Past.{Always}
 use Rattle.pas_steps.specs.Frames.{IsLook, AreLooks, GivesUp, KeepsRight}
 use Rattle.pas_steps.proofs.Adding.{part_append}
 
@@ -76,22 +78,42 @@ given_le k [] = omega arith
 given_le k (m ∷ v) = given_step k (epoch_of v) m.step m.answer (given_count v) (events_of k v) (given_le k v)
 
 -- ---- a right stays until it is given up
-or_stays : (x had : Bool) → had ≡ true → (if x then true else had) ≡ true
-or_stays true had h = refl
-or_stays false had h = h
+moves_to : (x had : Bool) (w : Way) → had_after w had ≡ true → had ≡ true → had_after (if x then w else Rests) had ≡ true
+moves_to true had w now h = now
+moves_to false had w now h = h
 
-gone : (q p : ℕ) (t had : Bool) → (q == p) ≡ t → (q ≡ p → ⊥) → had ≡ true → (if t then false else had) ≡ true
-gone q p true had e ne h = absurd (ne (eqb-true q p e))
-gone q p false had e ne h = h
+gone : (q p : ℕ) (t had : Bool) (w : Way) → (q == p) ≡ t → (q ≡ p → ⊥) → had ≡ true → had_after (if t then w else Rests) had ≡ true
+gone q p true had w e ne h = absurd (ne (eqb-true q p e))
+gone q p false had w e ne h = h
 
 pub right_stays : (s : Step) (a p : ℕ) (had : Bool) → (GivesUp p s → ⊥) → had ≡ true → right_after s a p had ≡ true
-right_stays (Deed q d) a p had keeps h = or_stays ((q == p) && (a == 0)) had h
-right_stays (TakeRight q d) a p had keeps h = or_stays ((q == p) && has_bit a (p % 64)) had h
-right_stays (Offer q d) a p had keeps h = gone q p (q == p) had refl (λ e. keeps (subst (λ x. GivesUp p (Offer x d)) (sym e) (GivesUp.Offers d))) h
-right_stays (Park q) a p had keeps h = gone q p (q == p) had refl (λ e. keeps (subst (λ x. GivesUp p (Park x)) (sym e) GivesUp.Parks)) h
-right_stays (Unpark q) a p had keeps h = or_stays ((q == p) && has_bit a (p % 64)) had h
+right_stays (Deed q d) a p had keeps h = moves_to ((q == p) && (a == 0)) had ByDeed refl h
+right_stays (TakeRight q d) a p had keeps h = moves_to ((q == p) && has_bit a (p % 64)) had (FromOffer (number_of d)) refl h
+right_stays (Offer q d) a p had keeps h = gone q p (q == p) had (ToOffer (number_of d)) refl (λ e. keeps (subst (λ x. GivesUp p (Offer x d)) (sym e) (GivesUp.Offers d))) h
+right_stays (Park q) a p had keeps h = gone q p (q == p) had ToParked refl (λ e. keeps (subst (λ x. GivesUp p (Park x)) (sym e) GivesUp.Parks)) h
+right_stays (Unpark q) a p had keeps h = moves_to ((q == p) && has_bit a (p % 64)) had FromParked refl h
 right_stays s a p had keeps h = h
 
 pub rights_stay : (xs : List Made) (v : View) (p : ℕ) → KeepsRight p xs → has_right v p ≡ true → has_right (xs ++ v) p ≡ true
 rights_stay [] v p keeps h = h
 rights_stay (m ∷ xs) v p keeps h = right_stays m.step m.answer p (has_right (xs ++ v) p) keeps.0 (rights_stay xs v p keeps.1 h)
+
+-- ---- the right by a call's own steps
+pub right_own : (p : ℕ) (ys xs : List Made) → has_right xs p ≡ false → has_right (ys ++ xs) p ≡ has_right ys p
+right_own p [] xs h = h
+right_own p (y ∷ ys) xs h = ap (had_after (way y.step y.answer p)) (right_own p ys xs h)
+
+-- one that they tell is one of the view
+more_right : (w : Way) (own had : Bool) → (own ≡ true → had ≡ true) → had_after w own ≡ true → had_after w had ≡ true
+more_right Rests own had more h = more h
+more_right (ToOffer n) own had more h = h
+more_right ToParked own had more h = h
+more_right s own had more h = refl
+
+pub right_of_own : (p : ℕ) (xs : List Made) (v : View) → has_right xs p ≡ true → has_right (xs ++ v) p ≡ true
+right_of_own p [] v h = absurd (true≢false (sym h))
+right_of_own p (m ∷ xs) v h = more_right (way m.step m.answer p) (has_right xs p) (has_right (xs ++ v) p) (right_of_own p xs v) h
+
+pub lacks_now : (p : ℕ) (xs : List Made) → Always (λ m before. has_right (m ∷ before) p ≡ false) xs → has_right xs p ≡ false
+lacks_now p [] h = refl
+lacks_now p (m ∷ more) h = h.0

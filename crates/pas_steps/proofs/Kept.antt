@@ -11,7 +11,7 @@ use Rattle.pas_steps.specs.declared.step.Made.{Made}
 use Rattle.pas_steps.specs.declared.step.Step.{Step}
 use Rattle.pas_steps.specs.declared.step.Step.TheVariants.{Look, Deed, Back, Take, Put, Give, End, TakeRight, Offer, Park, Unpark, Stamp, Hint, Tick, Unback, Unhint}
 use Rattle.pas_steps.specs.Effects.{in_mask}
-use Rattle.pas_steps.specs.Views.{View, Move, Stays, Gets, Puts, grain_move, held_after, holds, any_below, holds_on, right_after, has_right, deed_after, deed_after_look, known_deed, KnowsDeed, life_after, looks_at_life, known_life, epoch_after, known_epoch, epoch_of, unstamped_after, is_unstamped, given_after, given_count, no_usable, check_after, owes_check, all_ones, hint_after, owes_hint, examined_after, examines, backed_after, knows_backed}
+use Rattle.pas_steps.specs.Views.{View, Move, Stays, Gets, Puts, grain_move, held_after, holds, any_below, holds_on, Way, Rests, ByDeed, FromOffer, FromParked, ToOffer, ToParked, way, had_after, right_after, has_right, deed_after, deed_after_look, known_deed, KnowsDeed, life_after, looks_at_life, known_life, epoch_after, known_epoch, epoch_of, unstamped_after, is_unstamped, given_after, given_count, no_usable, check_after, owes_check, all_ones, hint_after, owes_hint, examined_after, examines, backed_after, knows_backed}
 use Rattle.pas_steps.specs.Events.{event_of, with_event, events_of}
 use Rattle.pas_steps.specs.Agreement.{Agrees, Agreed}
 use Rattle.pas_steps.specs.Past.{Always}
@@ -39,17 +39,17 @@ both : (x y : Bool) → x ≡ true → y ≡ true → (x && y) ≡ true
 both x y h e = ap (λ t. t && y) h ∙ e
 
 -- ---- steps on one page alone: nothing of another page changes, but for what is known of it
-on_right : (p q : ℕ) (s : Step) (a : ℕ) (had : Bool) → IsOnPage p s → q ≢ p → right_after s a q had ≡ had
-on_right p q s a had (IsOnPage.Deeds d) ne = unless (p == q) (a == 0) true had (other p q ne)
-on_right p q s a had (IsOnPage.Claims d) ne = unless (p == q) (has_bit a (q % 64)) true had (other p q ne)
-on_right p q s a had (IsOnPage.Offers d) ne = when_not (p == q) false had (other p q ne)
-on_right p q s a had IsOnPage.Parks ne = when_not (p == q) false had (other p q ne)
-on_right p q s a had IsOnPage.Unparks ne = unless (p == q) (has_bit a (q % 64)) true had (other p q ne)
-on_right p q s a had step ne = refl
+on_way : (p q : ℕ) (s : Step) (a : ℕ) → IsOnPage p s → q ≢ p → way s a q ≡ Rests
+on_way p q s a (IsOnPage.Deeds d) ne = unless (p == q) (a == 0) ByDeed Rests (other p q ne)
+on_way p q s a (IsOnPage.Claims d) ne = unless (p == q) (has_bit a (q % 64)) (FromOffer (number_of d)) Rests (other p q ne)
+on_way p q s a (IsOnPage.Offers d) ne = when_not (p == q) (ToOffer (number_of d)) Rests (other p q ne)
+on_way p q s a IsOnPage.Parks ne = when_not (p == q) ToParked Rests (other p q ne)
+on_way p q s a IsOnPage.Unparks ne = unless (p == q) (has_bit a (q % 64)) FromParked Rests (other p q ne)
+on_way p q s a step ne = refl
 
 pub right_on : (p q : ℕ) (steps : List Made) (v : View) → OnlyOn p steps → q ≢ p → has_right (steps ++ v) q ≡ has_right v q
 right_on p q [] v h ne = refl
-right_on p q (m ∷ more) v h ne = on_right p q m.step m.answer (has_right (more ++ v) q) h.0 ne ∙ right_on p q more v h.1 ne
+right_on p q (m ∷ more) v h ne = ap (λ w. had_after w (has_right (more ++ v) q)) (on_way p q m.step m.answer h.0 ne) ∙ right_on p q more v h.1 ne
 
 outside : (w p mask g : ℕ) → (p == g / 256) ≡ false → in_mask p w mask g ≡ false
 outside w p mask g h = ap (λ t. (w == g / 64 % 4) && t && has_bit mask (g % 64)) h ∙ ap (λ t. t && has_bit mask (g % 64)) (and_false (w == g / 64 % 4))
@@ -331,13 +331,13 @@ pub looks_read : (steps : List Made) → AreLooks steps → OnlyReads steps
 looks_read [] h = tt
 looks_read (m ∷ more) h = (look_read m.step m.answer h.0, looks_read more h.1)
 
-read_right : (s : Step) (a q : ℕ) (had : Bool) → IsRead s a → right_after s a q had ≡ had
-read_right s a q had (IsRead.Looks word b) = refl
-read_right s a q had (IsRead.Reads p d b ne) = ap (λ t. if (p == q) && t then true else had) (ne_eqb a 0 ne) ∙ ap (λ t. if t then true else had) (and_false (p == q))
+read_way : (s : Step) (a q : ℕ) → IsRead s a → way s a q ≡ Rests
+read_way s a q (IsRead.Looks word b) = refl
+read_way s a q (IsRead.Reads p d b ne) = ap (λ t. if (p == q) && t then ByDeed else Rests) (ne_eqb a 0 ne) ∙ ap (λ t. if t then ByDeed else Rests) (and_false (p == q))
 
 pub right_reads : (q : ℕ) (steps : List Made) (v : View) → OnlyReads steps → has_right (steps ++ v) q ≡ has_right v q
 right_reads q [] v h = refl
-right_reads q (m ∷ more) v h = read_right m.step m.answer q (has_right (more ++ v) q) h.0 ∙ right_reads q more v h.1
+right_reads q (m ∷ more) v h = ap (λ w. had_after w (has_right (more ++ v) q)) (read_way m.step m.answer q h.0) ∙ right_reads q more v h.1
 
 read_grain : (s : Step) (a g : ℕ) → IsRead s a → grain_move s a g ≡ Stays
 read_grain s a g (IsRead.Looks word b) = refl

@@ -35,3 +35,8 @@ since_earlier P Q P' Q' (y ∷ ys) xs f g (inr h) = inr (g y ys h.0, since_earli
 pub since_later : (P Q R : Made → List Made → Type 0) (ys xs : List Made) → ((m : Made) (before : List Made) → R m before → Q m (before ++ xs)) → Always R ys → Since P Q xs → Since P Q (ys ++ xs)
 since_later P Q R [] xs f a h = h
 since_later P Q R (y ∷ ys) xs f a h = inr (f y ys a.0, since_later P Q R ys xs f a.1 h)
+
+pub since_once : (P Q : Made → List Made → Type 0) (xs : List Made) → Since P Q xs → Once P xs
+since_once P Q [] h = h
+since_once P Q (m ∷ xs) (inl h) = inl h
+since_once P Q (m ∷ xs) (inr h) = inr (since_once P Q xs h.1)

@@ -7,7 +7,7 @@ use Rattle.pas_profile.specs.Runs.{meets_page, grain_of}
 use Rattle.pas_steps.specs.Agreement.{Agreed}
 use Rattle.pas_steps.specs.Clear.{IsClearOn}
 use Rattle.pas_steps.specs.Desks.{Standing, Adds}
-use Rattle.pas_steps.specs.Views.{View, Move, Stays, Gets, Puts, Gives, Ends, grain_move, holds, has_right, knows_backed}
+use Rattle.pas_steps.specs.Views.{View, Move, Stays, Gets, Puts, Gives, Ends, grain_move, holds, Way, Rests, ByDeed, FromOffer, FromParked, ToOffer, ToParked, way, has_right, knows_backed}
 use Rattle.pas_steps.specs.declared.step.Step.{Step}
 use Rattle.pas_steps.specs.declared.step.Made.{Made}
 use Rattle.pas_steps.specs.declared.step.Step.TheVariants.{Look, Deed, Back, Take, Put, Give, End, TakeRight, Offer, Park, Unpark, Stamp, Hint, Tick, Unback, Unhint}
@@ -93,23 +93,16 @@ grain_fate Puts = Lost
 grain_fate (Gives b) = Lost
 grain_fate (Ends b) = Gained
 
+abbrev pub way_fate : Way → Fate
+way_fate Rests = Kept
+way_fate ByDeed = Gained
+way_fate (FromOffer number) = Gained
+way_fate FromParked = Gained
+way_fate (ToOffer number) = Lost
+way_fate ToParked = Lost
+
 abbrev pub right_fate : Step → ℕ → ℕ → Fate
-right_fate (Look word) a page = Kept
-right_fate (Deed q directory) a page = if (q == page) && (a == 0) then Gained else Kept
-right_fate (Back q) a page = Kept
-right_fate (Take q word mask) a page = Kept
-right_fate (Put q word mask) a page = Kept
-right_fate (Give block) a page = Kept
-right_fate (End name guess) a page = Kept
-right_fate (TakeRight q directory) a page = if (q == page) && has_bit a (page % 64) then Gained else Kept
-right_fate (Offer q directory) a page = if q == page then Lost else Kept
-right_fate (Park q) a page = if q == page then Lost else Kept
-right_fate (Unpark q) a page = if (q == page) && has_bit a (page % 64) then Gained else Kept
-right_fate (Stamp q) a page = Kept
-right_fate (Hint q) a page = Kept
-right_fate (Tick raised) a page = Kept
-right_fate (Unback q) a page = Kept
-right_fate (Unhint q) a page = Kept
+right_fate step a page = way_fate (way step a page)
 
 -- the page may be clear no longer
 abbrev pub opens : Step → ℕ → ℕ → Bool

@@ -74,6 +74,10 @@ KeptHere page m before = has_right before page ≡ true
 abbrev pub Readings : Type 0
 Readings = ℕ → Bool
 
+-- where some readings show no fit, neither do readings of fewer free grains
+abbrev pub IsAntitone : (Readings → Type 0) → Type 0
+IsAntitone no_fit = (r fewer : Readings) → ((b : ℕ) → b < 256 → fewer b ≡ true → r b ≡ true) → no_fit r → no_fit fewer
+
 -- this step reads the free word so, with the right. What the call took and hasn't put back counts as free
 abbrev pub ShowsHere : ℕ → ℕ → Readings → Made → List Made → Type 0
 ShowsHere page word r m before =

@@ -140,6 +140,9 @@ examining = LookFree ∷ LookBacked ∷ Taking ∷ Hinting ∷ Unhinting ∷ []
 abbrev pub unbacking : Kinds  -- which pages are backed no longer
 unbacking = Unbacking ∷ []
 
+abbrev pub lending : Kinds  -- which grains live blocks have
+lending = Giving ∷ Ending ∷ []
+
 abbrev pub giving : Kinds  -- how many blocks were given
 giving = Giving ∷ []
 

@@ -76,23 +76,43 @@ abbrev pub holds_all : View → ℕ → Bool
 holds_all v page = all_below 256 (λ b. holds v (page * 256 + b))
 
 -- ---- rights: the actor alone may take grains from the page's free words
+pub data Way : Type 0 where
+  Rests : Way
+  ByDeed : Way  -- to the actor, which made the page's deed
+  FromOffer : ℕ → Way  -- from the eligible vector of the directory of this number to the actor
+  FromParked : Way  -- from the parked vector to the actor
+  ToOffer : ℕ → Way  -- from the actor to that vector
+  ToParked : Way
+
+-- how a step with this answer moves the right of a page
+abbrev pub way : Step → ℕ → ℕ → Way
+way (Look word) a page = Rests
+way (Deed q directory) a page = if (q == page) && (a == 0) then ByDeed else Rests
+way (Back q) a page = Rests
+way (Take q word mask) a page = Rests
+way (Put q word mask) a page = Rests
+way (Give block) a page = Rests
+way (End name guess) a page = Rests
+way (TakeRight q directory) a page = if (q == page) && has_bit a (page % 64) then FromOffer (number_of directory) else Rests
+way (Offer q directory) a page = if q == page then ToOffer (number_of directory) else Rests
+way (Park q) a page = if q == page then ToParked else Rests
+way (Unpark q) a page = if (q == page) && has_bit a (page % 64) then FromParked else Rests
+way (Stamp q) a page = Rests
+way (Hint q) a page = Rests
+way (Tick raised) a page = Rests
+way (Unback q) a page = Rests
+way (Unhint q) a page = Rests
+
+abbrev pub had_after : Way → Bool → Bool
+had_after Rests had = had
+had_after ByDeed had = true
+had_after (FromOffer number) had = true
+had_after FromParked had = true
+had_after (ToOffer number) had = false
+had_after ToParked had = false
+
 abbrev pub right_after : Step → ℕ → ℕ → Bool → Bool
-right_after (Look word) a page had = had
-right_after (Deed q directory) a page had = if (q == page) && (a == 0) then true else had
-right_after (Back q) a page had = had
-right_after (Take q word mask) a page had = had
-right_after (Put q word mask) a page had = had
-right_after (Give block) a page had = had
-right_after (End name guess) a page had = had
-right_after (TakeRight q directory) a page had = if (q == page) && has_bit a (page % 64) then true else had
-right_after (Offer q directory) a page had = if q == page then false else had
-right_after (Park q) a page had = if q == page then false else had
-right_after (Unpark q) a page had = if (q == page) && has_bit a (page % 64) then true else had
-right_after (Stamp q) a page had = had
-right_after (Hint q) a page had = had
-right_after (Tick raised) a page had = had
-right_after (Unback q) a page had = had
-right_after (Unhint q) a page had = had
+right_after step a page had = had_after (way step a page) had
 
 abbrev pub has_right : View → ℕ → Bool
 has_right [] page = false

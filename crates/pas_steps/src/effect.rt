@@ -102,7 +102,10 @@ pub fn epoch_after(step: Step, answer: u64, known: Option<u64>) -> Option<u64>
     match step {
         Step::Look { word: Word::Epoch } => Some(answer),
         Step::Tick { epoch } => Some(answer.max(epoch)),
-        _ => known,
+        Step::Look { .. } | Step::Deed { .. } | Step::Back { .. } | Step::Take { .. } => known,
+        Step::Put { .. } | Step::Give { .. } | Step::End { .. } | Step::TakeRight { .. } => known,
+        Step::Offer { .. } | Step::Park { .. } | Step::Unpark { .. } | Step::Stamp { .. } => known,
+        Step::Hint { .. } | Step::Unback { .. } | Step::Unhint { .. } => known,
     }
 }
 
@@ -149,6 +152,9 @@ pub fn event_of(actor: u8, epoch: u64, step: Step, answer: u64) -> Option<Event>
         Step::Give { block } => Some(Event::Give { actor, block }),
         Step::End { name, guess } => end_event(actor, epoch, name, guess, answer),
         Step::Unback { page } => Some(Event::Unback { actor, page, epoch }),
-        _ => None,
+        Step::Deed { .. } | Step::Back { .. } | Step::Look { .. } | Step::Take { .. } => None,
+        Step::Put { .. } | Step::TakeRight { .. } | Step::Offer { .. } | Step::Park { .. } => None,
+        Step::Unpark { .. } | Step::Stamp { .. } | Step::Hint { .. } | Step::Tick { .. } => None,
+        Step::Unhint { .. } => None,
     }
 }

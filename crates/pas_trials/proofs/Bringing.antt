@@ -4,7 +4,7 @@ use Rattle.pas_profile.specs.Directories.{deed_word_of}
 use Rattle.pas_profile.specs.declared.directory.Directory.{Directory}
 use Rattle.pas_profile.specs.declared.word.Word.TheVariants as Word
 use Rattle.pas_steps.specs.Desks.{made}
-use Rattle.pas_steps.specs.Views.{View, has_right, known_deed, KnowsDeed}
+use Rattle.pas_steps.specs.Views.{View, Rests, ByDeed, had_after, has_right, known_deed, KnowsDeed}
 use Rattle.pas_steps.specs.declared.step.Step.TheVariants.{Look, Deed}
 use Rattle.pas_rights.specs.Leaves.{MayLeave}
 use Rattle.pas_rights.proofs.Orders.{same_page}
@@ -12,7 +12,7 @@ use Rattle.pas_rights.proofs.Orders.{same_page}
 -- a deed that the page hadn't gives the right
 pub deed_gives : (p : ℕ) (d : Directory) (a : ℕ) (v : View) → a ≡ 0 → MayLeave p d (made (Deed p d) a ∷ v)
 deed_gives p d a v e = subst (λ x. MayLeave p d (made (Deed p d) x ∷ v)) (sym e) (record {
-  right = ap (λ t. if t && (0 == 0) then true else has_right v p) (same_page p);
+  right = ap (λ t. had_after (if t && (0 == 0) then ByDeed else Rests) (has_right v p)) (same_page p);
   deed = ap (λ t. if t then deed_word_of d else known_deed v p) (same_page p);
 })
 

@@ -9,7 +9,7 @@ ghost use Rattle.pas_steps.specs.Clear.{IsClear};
 ghost use Rattle.pas_free_log.specs.Logs.{names_in};
 
 use pas_free_log::{FreeLog, flush};
-use pas_plain::{PlainDesk, close, try_new};
+use pas_plain::{PlainDesk, PlainRegion, close};
 use pas_profile::*;
 use pas_steps::{Desk, State};
 use std::alloc::{AllocError, Global};
@@ -55,7 +55,7 @@ fn seated(alloc: Global) -> Result<PlainDesk, Fail>
     let mut rooms = Vec::new(alloc);
     rooms.push(EventRoom::try_new(alloc, 0)?)?;
     rooms.push(EventRoom::try_new(alloc, 16)?)?;
-    let (region, mut passes) = try_new(alloc, PROFILE, rooms)?;
+    let (region, mut passes) = PlainRegion::try_new(alloc, PROFILE, rooms)?;
     let Some(pass) = passes.pop() else {
         return Err(NoMemory.into());
     };

@@ -4,7 +4,7 @@ ghost use Rattle.pas_plain.specs.Plain.{profile_of, events_shown, room_of_pass};
 ghost use Rattle.pas_plain.specs.Seats.{region_of, pass_of};
 ghost use Rattle.pas_trials.specs.Filling.{Opens, two_threads};
 
-use pas_plain::{PlainDesk, PlainPass, try_new};
+use pas_plain::{PlainDesk, PlainPass, PlainRegion};
 use pas_profile::{EventRoom, NoMemory, Profile};
 use std::alloc::Global;
 use std::test::Fail;
@@ -27,7 +27,7 @@ pub fn seated(alloc: Global, pages: u32, events: u32) -> Result<(PlainDesk, Plai
         heaps: 1,
         shared: 0,
     };
-    let (region, mut passes) = try_new(alloc, profile, rooms)?;
+    let (region, mut passes) = PlainRegion::try_new(alloc, profile, rooms)?;
     let Some(second) = passes.pop() else {
         return Err(NoMemory.into());
     };

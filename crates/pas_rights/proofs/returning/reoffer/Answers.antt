@@ -1,5 +1,5 @@
 use Rattle.std.proofs.Common.{◌%◌, [], ◌∷◌, refl, inl, inr}
-use Rattle.pas_steps.specs.Views.{has_right}
+use Rattle.pas_steps.specs.Views.{FromParked, has_right}
 use Rattle.pas_steps.specs.declared.step.Step.TheVariants.{Offer, Unpark}
 use Rattle.pas_steps.specs.Desks.{made}
 use Rattle.pas_steps.proofs.Adding.{adds_none, adds_step, can_step}
@@ -11,7 +11,7 @@ pub offer-requires-clause-can : goal.offer-requires-clause-can
 offer-requires-clause-can g c =
     let p = c.args.page in let d = c.args.directory in let u = c.unpark-old.result in
     can_step (adds_step adds_none c.unpark-old.ensures.makes (λ v l stood met. knows_some p d v met)) c.requires.can (c.requires.page, c.requires.directory)
-    (λ v l stood met. (gets p u (has_right v p) (bit_true u (p % 64) c.if-old-page-eq1.true), met))
+    (λ v l stood met. (gets p FromParked u (has_right v p) refl (bit_true u (p % 64) c.if-old-page-eq1.true), met))
 
 pub returns-then-old-page-eq1-clause-reoffers : goal.returns-then-old-page-eq1-clause-reoffers
 returns-then-old-page-eq1-clause-reoffers g c =
@@ -19,7 +19,7 @@ returns-then-old-page-eq1-clause-reoffers g c =
     record {
       steps = made (Offer p d) c.offer.result ∷ made (Unpark p) u ∷ [];
       order = inr (u, c.offer.result, bit, refl);
-      adds = adds_step (adds_step adds_none c.unpark-old.ensures.makes (λ v l stood met. knows_some p d v met)) c.offer.ensures.makes (λ v l stood met. (gets p u (has_right v p) bit, met));
+      adds = adds_step (adds_step adds_none c.unpark-old.ensures.makes (λ v l stood met. knows_some p d v met)) c.offer.ensures.makes (λ v l stood met. (gets p FromParked u (has_right v p) refl bit, met));
     }
 
 pub returns-else-old-page-eq1-clause-reoffers : goal.returns-else-old-page-eq1-clause-reoffers

@@ -1,4 +1,4 @@
--- Where the right of a page is before and after the steps of one actor, where the whole list is legal.
+-- Laws of one actor alone: where the right of a page is before and after the steps of one actor, where the whole list is legal.
 use Rattle.std.proofs.Common.{◌≡◌, ◌≢◌, ℕ, ◌/◌, ◌%◌, ◌==◌, Bool, true, false, ◌&&◌, if◌then◌else◌, List, [], ◌∷◌, ◌++◌, refl, ap, sym, ◌∙◌, subst, inl, inr, true≢false}
 use Rattle.std.proofs.lemmas.Bool.{cases_Bool, cases_eq, eq-eqb, eqb-true, false≢true, and_parts}
 use Rattle.pas_profile.specs.Classes.{has_bit}
@@ -9,7 +9,7 @@ use Rattle.pas_profile.specs.declared.profile.Profile.{Profile}
 use Rattle.pas_profile.specs.declared.word.Word.TheVariants as Word
 use Rattle.pas_profile.proofs.Codecs.{deed_word_of-positive}
 use Rattle.pas_steps.specs.Effects.{target}
-use Rattle.pas_steps.specs.Views.{View, right_after, has_right, deed_after, known_deed}
+use Rattle.pas_steps.specs.Views.{View, Way, Rests, ByDeed, FromOffer, FromParked, ToOffer, ToParked, way, had_after, has_right, deed_after, known_deed, KnowsDeed}
 use Rattle.pas_steps.specs.Allowed.{Allowed}
 use Rattle.pas_steps.specs.Agreement.{Agrees}
 use Rattle.pas_steps.specs.Lists.{Whole, part, word_after, Legal}
@@ -18,51 +18,15 @@ use Rattle.pas_steps.specs.Past.{Once, Always}
 use Rattle.pas_steps.specs.declared.step.Step.{Step}
 use Rattle.pas_steps.specs.declared.step.Made.{Made}
 use Rattle.pas_steps.specs.declared.step.Step.TheVariants.{Deed, TakeRight, Offer, Park, Unpark}
+use Rattle.pas_steps.proofs.Frames.{right_own, right_of_own, lacks_now}
 use Rattle.pas_steps.proofs.Kept.{deed_stays}
 use Rattle.pas_steps.proofs.Parts.{part_of_own, part_of_others}
-use Rattle.pas_core.specs.Rights.{eligible_bit}
+use Rattle.pas_core.specs.Rights.{eligible_bit, parked_bit}
 use Rattle.pas_core.proofs.DeedWords.{known_is, deed_kept, numbered, numbered_ne}
-use Rattle.pas_core.proofs.Spots.{Spot, Nowhere, With, Offered, InParked, is_with, is_offered, is_parked, Way, Rests, ByDeed, FromOffer, FromParked, ToOffer, ToParked, way, spot_after, spot_of, Suits, DeedFits, IsSpotted, step_suits, spotted}
+use Rattle.pas_core.proofs.Spots.{Spot, Nowhere, With, Offered, InParked, is_with, is_offered, is_parked, spot_after, spot_of, Suits, DeedFits, IsSpotted, step_suits, spotted}
 use Rattle.pas_core.proofs.Rights.{one_has_right, offered_has_deed, offered_spot, own_eligible, is_on_offer}
 use Rattle.pas_core.proofs.Nexts.{agrees_next}
-use Rattle.pas_steps.specs.Evidence.{ReadsEligible, ReadsParked, ZeroHere, ParkedHere, LacksAfter, KeptHere}
-use Rattle.pas_search.specs.Telling.{IsInHands}
-use Rattle.pas_search.specs.Searches.{MaySearch, OfferedHere}
-use Rattle.pas_search.proofs.KindsAndEvents.{right_own}
-use Rattle.pas_search.proofs.Refusals.{lacks_now}
-
--- ---- what a step does to the right, by its way
-abbrev had_after : Way → Bool → Bool
-had_after Rests had = had
-had_after ByDeed had = true
-had_after (FromOffer n) had = true
-had_after FromParked had = true
-had_after (ToOffer n) had = false
-had_after ToParked had = false
-
-moved_if : (t had : Bool) (w : Way) → (if t then had_after w had else had) ≡ had_after (if t then w else Rests) had
-moved_if true had w = refl
-moved_if false had w = refl
-
-right_way : (s : Step) (a p : ℕ) (had : Bool) → right_after s a p had ≡ had_after (way s a p) had
-right_way (Deed q d) a p had = moved_if ((q == p) && (a == 0)) had ByDeed
-right_way (TakeRight q d) a p had = moved_if ((q == p) && has_bit a (p % 64)) had (FromOffer (number_of d))
-right_way (Offer q d) a p had = moved_if (q == p) had (ToOffer (number_of d))
-right_way (Park q) a p had = moved_if (q == p) had ToParked
-right_way (Unpark q) a p had = moved_if ((q == p) && has_bit a (p % 64)) had FromParked
-right_way s a p had = refl
-
--- a right that the call's own steps tell is one of the view
-more_right : (w : Way) (own had : Bool) → (own ≡ true → had ≡ true) → had_after w own ≡ true → had_after w had ≡ true
-more_right Rests own had more h = more h
-more_right (ToOffer n) own had more h = h
-more_right ToParked own had more h = h
-more_right s own had more h = refl
-
-pub right_of_own : (p : ℕ) (xs : List Made) (v : View) → has_right xs p ≡ true → has_right (xs ++ v) p ≡ true
-right_of_own p [] v h = absurd (false≢true h)
-right_of_own p (m ∷ xs) v h = right_way m.step m.answer p (has_right (xs ++ v) p)
-    ∙ more_right (way m.step m.answer p) (has_right xs p) (has_right (xs ++ v) p) (right_of_own p xs v) (sym (right_way m.step m.answer p (has_right xs p)) ∙ h)
+use Rattle.pas_steps.specs.Evidence.{ReadsEligible, ReadsParked, ZeroHere, OneHere, ParkedHere, LacksAfter, KeptHere}
 
 -- ---- a page whose right the call never had stays where it was
 stays_put : (k : ℕ) (w : Way) (o : Spot) → had_after w false ≡ false → Suits k w o → (o ≡ With k → ⊥) → spot_after k w o ≡ o
@@ -84,7 +48,7 @@ spot_same f k l p (m ∷ xs) legal none lacks =
     let at : IsSpotted w p = spotted f w legal.1 p in
     let own : has_right xs p ≡ false = lacks_now p xs lacks.1 in
     let view : has_right (part k w) p ≡ false = ap (λ v. has_right v p) (part_of_own k xs l) ∙ right_own p xs (part k l) none ∙ own in
-    let moved : had_after (way m.step m.answer p) false ≡ false = ap (had_after (way m.step m.answer p)) (sym own) ∙ sym (right_way m.step m.answer p (has_right xs p)) ∙ lacks.0 in
+    let moved : had_after (way m.step m.answer p) false ≡ false = ap (had_after (way m.step m.answer p)) (sym own) ∙ lacks.0 in
     stays_put k (way m.step m.answer p) (spot_of w p) moved (step_suits f w k m.step m.answer p at legal.0.allowed legal.0.answer_is) (not_with w k p at view)
     ∙ spot_same f k l p xs legal.1 none lacks.1
 
@@ -103,7 +67,7 @@ zero_told f k l d p (m ∷ xs) legal none lacks (inl z) =
     ∙ ap (λ n. has_bit n (p % 64)) (sym (eligible_read d p m.step w z.0) ∙ sym legal.0.answer_is) ∙ z.1
 
 -- the page was offered when the call read its bit as 1
-pub one_told : (f : Profile) (k : ℕ) (l : Whole) (d : Directory) (p : ℕ) (xs : List Made) → Legal f (triples k xs ++ l) → Once (OfferedHere d p) xs → (ys : List Made) × Legal f (triples k ys ++ l) × Always (LacksAfter p) ys × (eligible_bit (triples k ys ++ l) (number_of d) p ≡ true)
+pub one_told : (f : Profile) (k : ℕ) (l : Whole) (d : Directory) (p : ℕ) (xs : List Made) → Legal f (triples k xs ++ l) → Once (λ m before. OneHere d p m before × Always (LacksAfter p) before) xs → (ys : List Made) × Legal f (triples k ys ++ l) × Always (LacksAfter p) ys × (eligible_bit (triples k ys ++ l) (number_of d) p ≡ true)
 one_told f k l d p [] legal h = absurd h
 one_told f k l d p (m ∷ xs) legal (inr h) = one_told f k l d p xs legal.1 h
 one_told f k l d p (m ∷ xs) legal (inl z) = (xs, legal.1, z.1, ap (λ n. has_bit n (p % 64)) (sym (eligible_read d p m.step (triples k xs ++ l) z.0.0) ∙ sym legal.0.answer_is) ∙ z.0.1)
@@ -126,34 +90,34 @@ deed_later k l p [] some = refl
 deed_later k l p (m ∷ xs) some = let e = deed_later k l p xs some in deed_kept (triples k xs ++ l) (triple k m) p (λ z. some (sym e ∙ z)) ∙ e
 
 -- ---- an actor that has a right knows the page's deed
-got_if : (t : Bool) → (if t then true else false) ≡ true → t ≡ true
-got_if true h = refl
-got_if false h = absurd (false≢true h)
+got_if : (t : Bool) (w : Way) → had_after (if t then w else Rests) false ≡ true → t ≡ true
+got_if true w h = refl
+got_if false w h = absurd (false≢true h)
 
 deed_here : (t z : Bool) (d : Directory) (a known : ℕ) → t ≡ true → z ≡ true → (if t then (if z then deed_word_of d else a) else known) ≢ 0
 deed_here t z d a known ht hz e = deed_word_of-positive d (sym (ap (λ x. if x then (if z then deed_word_of d else a) else known) ht ∙ ap (λ x. if x then deed_word_of d else a) hz) ∙ e)
 
-never : (t : Bool) → (if t then false else false) ≡ true → ⊥
-never true h = false≢true h
-never false h = false≢true h
+never : (t : Bool) (w : Way) → had_after w false ≡ false → had_after (if t then w else Rests) false ≡ true → ⊥
+never true w lacks h = true≢false (sym h ∙ lacks)
+never false w lacks h = false≢true h
 
 either_ne : (t : Bool) (n m : ℕ) → n ≢ 0 → m ≢ 0 → (if t then n else m) ≢ 0
 either_ne true n m h k = h
 either_ne false n m h k = k
 
-gains_known : (f : Profile) (v : View) (s : Step) (a p : ℕ) → Allowed f v s → right_after s a p false ≡ true → deed_after s a p (known_deed v p) ≢ 0
-gains_known f v (Deed q d) a p allowed h = let parts = and_parts (q == p) (a == 0) (got_if ((q == p) && (a == 0)) h) in deed_here (q == p) (a == 0) d a (known_deed v p) parts.0 parts.1
+gains_known : (f : Profile) (v : View) (s : Step) (a p : ℕ) → Allowed f v s → had_after (way s a p) false ≡ true → deed_after s a p (known_deed v p) ≢ 0
+gains_known f v (Deed q d) a p allowed h = let parts = and_parts (q == p) (a == 0) (got_if ((q == p) && (a == 0)) ByDeed h) in deed_here (q == p) (a == 0) d a (known_deed v p) parts.0 parts.1
 gains_known f v (TakeRight q d) a p allowed h =
-    let parts = and_parts (q == p) (has_bit a (p % 64)) (got_if ((q == p) && has_bit a (p % 64)) h) in
+    let parts = and_parts (q == p) (has_bit a (p % 64)) (got_if ((q == p) && has_bit a (p % 64)) (FromOffer (number_of d)) h) in
     either_ne ((q / 64 == p / 64) && has_bit a (p % 64)) (deed_word_numbered (number_of d)) (known_deed v p) (numbered_ne (number_of d)) (λ z. deed_word_of-positive d (sym allowed ∙ ap (known_deed v) (eqb-true q p parts.0) ∙ z))
-gains_known f v (Offer q d) a p allowed h = absurd (never (q == p) h)
-gains_known f v (Park q) a p allowed h = absurd (never (q == p) h)
+gains_known f v (Offer q d) a p allowed h = absurd (never (q == p) (ToOffer (number_of d)) refl h)
+gains_known f v (Park q) a p allowed h = absurd (never (q == p) ToParked refl h)
 gains_known f v (Unpark q) a p allowed h =
-    let parts = and_parts (q == p) (has_bit a (p % 64)) (got_if ((q == p) && has_bit a (p % 64)) h) in
+    let parts = and_parts (q == p) (has_bit a (p % 64)) (got_if ((q == p) && has_bit a (p % 64)) FromParked h) in
     λ z. allowed (ap (known_deed v) (eqb-true q p parts.0) ∙ z)
 gains_known f v s a p allowed h = absurd (false≢true h)
 
-own_known : (f : Profile) (v : View) (m : Made) (p : ℕ) → Allowed f v m.step → Agrees f v m.step m.answer → (has_right v p ≡ true → known_deed v p ≢ 0) → (had : Bool) → has_right v p ≡ had → right_after m.step m.answer p had ≡ true → known_deed (m ∷ v) p ≢ 0
+own_known : (f : Profile) (v : View) (m : Made) (p : ℕ) → Allowed f v m.step → Agrees f v m.step m.answer → (has_right v p ≡ true → known_deed v p ≢ 0) → (had : Bool) → has_right v p ≡ had → had_after (way m.step m.answer p) had ≡ true → known_deed (m ∷ v) p ≢ 0
 own_known f v m p allowed agrees known true e h = λ z. known e (sym (deed_stays f (m ∷ []) v p (agrees, tt) (known e)) ∙ z)
 own_known f v m p allowed agrees known false e h = gains_known f v m.step m.answer p allowed h
 
@@ -170,14 +134,14 @@ right_known f (t ∷ l) valid legal k p h =
     let agrees : Agrees f (part k l) t.made.step t.made.answer = agrees_next f l k (part k l) t.made.step t.made.answer valid legal.1 refl legal.0.of_region legal.0.answer_is in
     own_known f (part k l) t.made p allowed agrees (right_known f l valid legal.1 k p) (has_right (part k l) p) refl has) h
 
--- An actor that may search had no right at entry of a page that turns out to be of the directory.
-pub entry_lacks : (f : Profile) (k : ℕ) (l : Whole) (d : Directory) (p : ℕ) (xs : List Made) → IsValid f → Legal f l → MaySearch d (part k l) → word_after (triples k xs ++ l) (Word.Deed p) ≡ deed_word_of d → has_right (part k l) p ≡ false
+-- An actor that has no right of a page that it knows to be of the directory had none at entry of a page that turns out to be so.
+pub entry_lacks : (f : Profile) (k : ℕ) (l : Whole) (d : Directory) (p : ℕ) (xs : List Made) → IsValid f → Legal f l → (KnowsDeed p d (part k l) → has_right (part k l) p ≡ false) → word_after (triples k xs ++ l) (Word.Deed p) ≡ deed_word_of d → has_right (part k l) p ≡ false
 entry_lacks f k l d p xs valid legal may deed = elim (cases_Bool (has_right (part k l) p)) [
   | inl has ↦
       let known : known_deed (part k l) p ≢ 0 = right_known f l valid legal k p has in
       let is : known_deed (part k l) p ≡ word_after l (Word.Deed p) = known_is (known_deed (part k l) p) (word_after l (Word.Deed p)) ((spotted f l legal p).known k) known in
       let there : word_after (triples k xs ++ l) (Word.Deed p) ≡ word_after l (Word.Deed p) = deed_later k l p xs (λ z. known (is ∙ z)) in
-      absurd (true≢false (sym has ∙ may.rights p (is ∙ sym there ∙ deed)))
+      absurd (true≢false (sym has ∙ may (is ∙ sym there ∙ deed)))
   | inr none ↦ none
 ]
 
@@ -209,13 +173,14 @@ in_hands (With j) word fits some offer parked = (j, refl)
 in_hands (Offered n) word fits some offer parked = absurd (true≢false offer)
 in_hands InParked word fits some offer parked = absurd (true≢false parked)
 
-pub not_in_hands : (f : Profile) (k : ℕ) (l : Whole) (d : Directory) (p : ℕ) (xs : List Made) → IsDirectoryOf f d → Legal f (triples k xs ++ l) → has_right (xs ++ part k l) p ≡ false → Once (KeptHere p) xs → IsInHands f d (triples k xs ++ l) p → ⊥
-not_in_hands f k l d p xs of legal lacks once hands =
+pub not_in_hands : (f : Profile) (k : ℕ) (l : Whole) (d : Directory) (p : ℕ) (xs : List Made) → IsDirectoryOf f d → Legal f (triples k xs ++ l) → has_right (xs ++ part k l) p ≡ false → Once (KeptHere p) xs
+    → word_after (triples k xs ++ l) (Word.Deed p) ≡ deed_word_of d → eligible_bit (triples k xs ++ l) (number_of d) p ≡ false → parked_bit (triples k xs ++ l) p ≡ false → ⊥
+not_in_hands f k l d p xs of legal lacks once deed not_offered not_parked =
     let w : Whole = triples k xs ++ l in
     let at : IsSpotted w p = spotted f w legal p in
-    let some : word_after w (Word.Deed p) ≢ 0 = λ z. deed_word_of-positive d (sym hands.of_directory ∙ z) in
+    let some : word_after w (Word.Deed p) ≢ 0 = λ z. deed_word_of-positive d (sym deed ∙ z) in
     let with : (j : ℕ) × (spot_of w p ≡ With j) = in_hands (spot_of w p) (word_after w (Word.Deed p)) at.deed some
-    (sym (own_eligible f w legal p d of hands.of_directory) ∙ hands.not_offered) (sym at.parked ∙ hands.not_parked) in
+    (sym (own_eligible f w legal p d of deed) ∙ not_offered) (sym at.parked ∙ not_parked) in
     let j : ℕ = with.0 in
     let has : has_right (part j w) p ≡ true = at.has j ∙ ap (is_with j) with.1 ∙ is_with_own j in
     elim (cases_eq k j) [
