@@ -52,6 +52,7 @@ epoch_learns : (l : Whole) (e : ℕ) (s : Step) (a : ℕ) (known : Option ℕ) �
 epoch_learns l e (Look Word.Epoch) a known is h = omega (arith, is)
 epoch_learns l e (Tick raised) a known is h = omega (arith, is, h)
 epoch_learns l e s a known is h = h
+
 epoch_of_part : (t : Bool) (m : Made) (v : View) (n : ℕ) → epoch_of v ≤ n → or_zero (epoch_after m.step m.answer (known_epoch v)) ≤ n → epoch_of (if t then m ∷ v else v) ≤ n
 epoch_of_part true m v n old new = new
 epoch_of_part false m v n old new = old

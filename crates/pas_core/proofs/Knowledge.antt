@@ -55,6 +55,7 @@ backed_stays e (Look w) p old keep h = looked (same_word w (Word.Backed p)) old 
 backed_stays e (Back q) p old keep h = back_rests (q == p) old h
 backed_stays e (Unback q) p old keep h = ap (λ t. if t then 0 else old) keep ∙ h
 backed_stays e s p old keep h = h
+
 back_tells : (x known : Bool) (old : ℕ) → old ≤ 1 → (known ≡ true → old ≡ 1) → (if x then true else known) ≡ true → (if x then bit_or old 1 else old) ≡ 1
 back_tells true known old small was told = or_one old small
 back_tells false known old small was told = was told
@@ -74,6 +75,7 @@ backed_learns l e (Look (Word.Backed q)) a p known is small was told = look_back
 backed_learns l e (Back q) a p known is small was told = back_tells (q == p) known (word_after l (Word.Backed p)) small was told
 backed_learns l e (Unback q) a p known is small was told = unback_tells (q == p) known (word_after l (Word.Backed p)) was told
 backed_learns l e s a p known is small was told = was told
+
 backed_of_part : (t : Bool) (m : Made) (v : View) (p : ℕ) (P : Type 0) → (t ≡ false → knows_backed v p ≡ true → P) → (backed_after m.step m.answer p (knows_backed v p) ≡ true → P) → knows_backed (if t then m ∷ v else v) p ≡ true → P
 backed_of_part true m v p P old new told = new (and_parts (backed_after m.step m.answer p (knows_backed v p)) (holds_on (m ∷ v) p) told).0
 backed_of_part false m v p P old new told = old refl told

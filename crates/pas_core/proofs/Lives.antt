@@ -68,6 +68,7 @@ pub look_is : (l : Whole) (s : Step) (a g : ℕ) → a ≡ word_after l (target 
 look_is l (Look (Word.Life q b)) a g is h = let parts = and_parts (b == g % 256) (q == g / 256) h in
     is ∙ ap (λ x. word_after l (Word.Life q x)) (eqb-true b (g % 256) parts.0) ∙ ap (λ x. word_after l (Word.Life x (g % 256))) (eqb-true q (g / 256) parts.1)
 look_is l s a g is h = absurd (false≢true h)
+
 none_told : {A : Type 0} {w : A} → None ≡ Some w → ⊥
 none_told h = cc
 

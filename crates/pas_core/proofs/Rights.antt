@@ -200,6 +200,7 @@ free_stays f e (Look word) g old of misses h = look_keeps (same_word word (free_
 free_stays f e (Take q w mask) g old of misses h = take_keeps (w == g / 64 % 4) (q == g / 256) old mask (g % 64) of.2 (omega arith) misses h
 free_stays f e (Put q w mask) g old of misses h = put_keeps ((w == g / 64 % 4) && (q == g / 256)) old mask (g % 64) h
 free_stays f e s g old of misses h = h
+
 takes_page : (q w mask g : ℕ) → in_mask q w mask g ≡ true → q ≡ g / 256
 takes_page q w mask g h =
     let parts = and_parts ((w == g / 64 % 4) && (q == g / 256)) (has_bit mask (g % 64)) h in
@@ -209,12 +210,14 @@ takes_page q w mask g h =
 takes_with : (f : Profile) (l : Whole) (j : ℕ) (s : Step) (g : ℕ) → IsSpotted l (g / 256) → Allowed f (part j l) s → takes s g ≡ true → spot_of l (g / 256) ≡ With j
 takes_with f l j (Take q w mask) g at allowed h = is_with-true j (spot_of l (g / 256)) (sym (at.has j) ∙ ap (has_right (part j l)) (sym (takes_page q w mask g h)) ∙ allowed)
 takes_with f l j s g at allowed h = absurd (false≢true h)
+
 takes_not : (f : Profile) (l : Whole) (j : ℕ) (s : Step) (g : ℕ) → IsSpotted l (g / 256) → Allowed f (part j l) s → (spot_of l (g / 256) ≡ With j → ⊥) → takes s g ≡ false
 takes_not f l j s g at allowed never = false_from_ne_true (takes s g) (λ h. never (takes_with f l j s g at allowed h))
 
 was_nowhere : (j : ℕ) (m : Way) (o : Spot) → spot_after j m o ≡ Nowhere → o ≡ Nowhere
 was_nowhere j Rests o h = h
 was_nowhere j s o h = absurd cc
+
 with_differs : (j k : ℕ) (o : Spot) → o ≡ With k → (j == k) ≡ false → o ≡ With j → ⊥
 with_differs j k o h ne g = let e : With j ≡ With k = sym g ∙ h in let same : j ≡ k = cc in eqb-false j k ne same
 
@@ -282,6 +285,7 @@ free_after-is (Take q w mask) a g right known = takes_or (in_mask q w mask g) kn
 free_after-is (Offer q d) a g right known = leaves_or (q == g / 256) known
 free_after-is (Park q) a g right known = leaves_or (q == g / 256) known
 free_after-is s a g right known = refl
+
 not_from : (x z y : Bool) → (not x && not z && y) ≡ true → (x ≡ false) × (z ≡ false) × (y ≡ true)
 not_from true z y h = absurd (false≢true h)
 not_from false true y h = absurd (false≢true h)
@@ -318,6 +322,7 @@ own_spot j (Offer q d) a p o stays h = not_moved j (ToOffer (number_of d)) o (q 
 own_spot j (Park q) a p o stays h = not_moved j ToParked o (q == p) stays h
 own_spot j (Unpark q) a p o stays h = moves_to j FromParked o ((q == p) && has_bit a (p % 64)) refl h
 own_spot j s a p o stays h = h
+
 free_of_part : (t : Bool) (m : Made) (v : View) (g : ℕ) (P : Type 0) → (t ≡ false → known_free v g ≡ true → P) → (t ≡ true → free_after m.step m.answer g (has_right v (g / 256)) (known_free v g) ≡ true → P) → known_free (if t then m ∷ v else v) g ≡ true → P
 free_of_part true m v g P old new told = new refl told
 free_of_part false m v g P old new told = old refl told

@@ -255,6 +255,7 @@ step_suits f l j (Unpark q) a p at allowed is = suits_if j FromParked (spot_of l
     let parts = and_parts (q == p) (has_bit a (p % 64)) h in
     is_parked-true (spot_of l p) (sym at.parked ∙ ap (λ x. has_bit (word_after l (Word.Parked (x / 64))) (p % 64)) (sym (eqb-true q p parts.0)) ∙ ap (λ n. has_bit n (p % 64)) (sym is) ∙ parts.1))
 step_suits f l j s a p at allowed is = tt
+
 suits_then : (j : ℕ) (m : Way) (o : Spot) (t : Bool) → t ≡ true → Suits j (if t then m else Rests) o → Suits j m o
 suits_then j m o t e h = subst (λ b. Suits j (if b then m else Rests) o) e h
 

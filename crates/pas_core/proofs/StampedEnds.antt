@@ -70,6 +70,7 @@ end_reaches f l valid legal k e s a p of is h = absurd (false≢true h)
 keeps_unstamped : (v : View) (s : Step) (p : ℕ) → KeepsToEnds v s → stamps s p ≡ true → is_unstamped v p ≡ true
 keeps_unstamped v (Stamp q) p keeps h = ap (is_unstamped v) (sym (eqb-true q p h)) ∙ keeps
 keeps_unstamped v s p keeps h = absurd (false≢true h)
+
 stamp_most : (x : Bool) (e old : ℕ) → (if x then max old e else old) ≤ max old e
 stamp_most true e old = omega arith
 stamp_most false e old = omega arith
@@ -97,6 +98,7 @@ same_epoch : (v : View) (s : Step) (a p : ℕ) → KeepsToEnds v s → unstamped
 same_epoch v (Look Word.Epoch) a p keeps h = absurd (false≢true (sym (keeps p) ∙ h))
 same_epoch v (Tick raised) a p keeps h = absurd (false≢true (sym (keeps p) ∙ h))
 same_epoch v s a p keeps h = refl
+
 left : (x was : Bool) → (if x then false else was) ≡ true → was ≡ true
 left true was h = absurd (false≢true h)
 left false was h = h

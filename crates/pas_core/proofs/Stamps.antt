@@ -59,6 +59,7 @@ stamp_rests e s p old other = refl
 stamps_held : (f : Profile) (v : View) (s : Step) (p : ℕ) → Allowed f v s → stamps s p ≡ true → HoldsOn v p
 stamps_held f v (Stamp q) p allowed h = subst (HoldsOn v) (eqb-true q p h) allowed.0
 stamps_held f v s p allowed h = absurd (false≢true h)
+
 none_told : {A : Type 0} {w : A} → None ≡ Some w → ⊥
 none_told h = cc
 
@@ -93,6 +94,7 @@ stamp_learns : (l : Whole) (e : ℕ) (t : Step) (a p : ℕ) (known : Option ℕ)
 stamp_learns l e (Look (Word.Stamp q)) a p known s is old h = looked (q == p) (word_after l (Word.Stamp p)) ∙ look_stamp (q == p) a (word_after l (Word.Stamp p)) known s (λ x. is ∙ ap (λ n. word_after l (Word.Stamp n)) (eqb-true q p x)) old h
 stamp_learns l e (Stamp q) a p known s is old h = own_stamp (q == p) e (word_after l (Word.Stamp p)) known s old h
 stamp_learns l e step a p known s is old h = old s h
+
 stamp_of_part : (t : Bool) (m : Made) (v : View) (p s : ℕ) (P : Type 0) → (t ≡ false → known_stamp v p ≡ Some s → P) → (known_stamp (m ∷ v) p ≡ Some s → P) → known_stamp (if t then m ∷ v else v) p ≡ Some s → P
 stamp_of_part true m v p s P old new told = new told
 stamp_of_part false m v p s P old new told = old refl told
@@ -157,6 +159,7 @@ keeps_held f v (Give block) a p of allowed before h = let was = before h in (was
 keeps_held f v (End name guess) a p of allowed before h = end_keeps v name guess a p of.3 before (a == live_word name.turn guess) refl (meets_page (grain_of name) guess p) refl h
 keeps_held f v (Stamp q) a p of allowed before h = let was = before (stamp_leaves (q == p) (is_unstamped v p) h) in (was.0, was.1, was.2)
 keeps_held f v s a p of allowed before h = let was = before h in (was.0, was.1, was.2)
+
 held_of_part : (t : Bool) (m : Made) (v : View) (p : ℕ) → (is_unstamped v p ≡ true → HoldsOn v p) → (t ≡ true → is_unstamped (m ∷ v) p ≡ true → HoldsOn (m ∷ v) p) → is_unstamped (if t then m ∷ v else v) p ≡ true → HoldsOn (if t then m ∷ v else v) p
 held_of_part true m v p old new = new refl
 held_of_part false m v p old new = old
@@ -287,6 +290,7 @@ own_late : (e : ℕ) (s : Step) (a p : ℕ) (was : Bool) (n old : ℕ) → was �
 own_late e (End name guess) a p was n old h le = inl (unstamped_end ((a == live_word name.turn guess) && meets_page (grain_of name) guess p) was h)
 own_late e (Stamp q) a p was n old h le = stamped_now (q == p) was e n old h le
 own_late e s a p was n old h le = inl h
+
 late_of_part : (t : Bool) (m : Made) (v : View) (p n stamp : ℕ) → (t ≡ false → (is_unstamped v p ≡ true) × (n ≤ epoch_of v)) → (t ≡ true → ((is_unstamped (m ∷ v) p ≡ true) ⊎ (n ≤ stamp)) × (n ≤ epoch_of (m ∷ v)))
     → (n ≤ stamp) ⊎ ((is_unstamped (if t then m ∷ v else v) p ≡ true) × (n ≤ epoch_of (if t then m ∷ v else v)))
 late_of_part true m v p n stamp old new = let now = new refl in elim now.0 [ inl h ↦ inr (h, now.1) | inr h ↦ inl h ]
@@ -308,9 +312,11 @@ late_next f t l legal p k n (inr late) =
 new_unstamped : (s : Step) (a p : ℕ) (was : Bool) → ends_on s a p ≡ true → unstamped_after s a p was ≡ true
 new_unstamped (End name guess) a p was h = ap (λ t. if t then true else was) h
 new_unstamped s a p was h = absurd (false≢true h)
+
 new_epoch : (s : Step) (a p : ℕ) (known : Option ℕ) → ends_on s a p ≡ true → or_zero known ≤ or_zero (epoch_after s a known)
 new_epoch (End name guess) a p known h = omega arith
 new_epoch s a p known h = absurd (false≢true h)
+
 unstamped_part : (t : Bool) (m : Made) (v : View) (p : ℕ) → t ≡ true → is_unstamped (m ∷ v) p ≡ true → is_unstamped (if t then m ∷ v else v) p ≡ true
 unstamped_part t m v p e h = ap (λ b. is_unstamped (if b then m ∷ v else v) p) e ∙ h
 

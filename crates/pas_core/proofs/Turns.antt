@@ -21,6 +21,7 @@ use Rattle.pas_core.proofs.Given.{count_gives, gives_few, count_step}
 few_next : (f : Profile) (v : View) (s : Step) → Allowed f v s → given_count v ≤ 2 ^ 32 → given_after s (given_count v) ≤ 2 ^ 32
 few_next f v (Give block) allowed h = let few = allowed.few in omega (arith, few)
 few_next f v s allowed h = h
+
 few_part : (k j : ℕ) (t : Bool) (m : Made) (v : View) → (j == k) ≡ t → given_count v ≤ 2 ^ 32 → ((j ≡ k) → given_after m.step (given_count v) ≤ 2 ^ 32) → given_count (if t then m ∷ v else v) ≤ 2 ^ 32
 few_part k j true m v e old new = new (eqb-true j k e)
 few_part k j false m v e old new = old

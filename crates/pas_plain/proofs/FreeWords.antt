@@ -46,6 +46,7 @@ test_same n page word some few e = elim (cases_lt (4 * (page - 1) + word) n) [
 filled_same : (pages heaps n : ℕ) (w : Word) → IsWordIn pages heaps w → same_word (free_word_of n) w ≡ false → filled n w ≡ filled (n + 1) w
 filled_same pages heaps n (Word.Free page word) h e = ap (λ (b : Bool). if b then 2 ^ 64 - 1 else 0) (sym (test_same n page word h.0 h.2 e))
 filled_same pages heaps n s h e = refl
+
 filled_next : (pages heaps n : ℕ) (w : Word) (v : ℕ) → IsWordIn pages heaps w → v ≡ filled n w → (same : Bool) → same_word (free_word_of n) w ≡ same → (if same then 2 ^ 64 - 1 else v) ≡ filled (n + 1) w
 filled_next pages heaps n w v h is true e = sym (filled_here n) ∙ ap (filled (n + 1)) (same_word-true (free_word_of n) w e)
 filled_next pages heaps n w v h is false e = is ∙ filled_same pages heaps n w h e
