@@ -48,8 +48,8 @@ frees_taken {σ} {σ'} {answer} name c c' done frees is =
     = subst (λ a. MatchResult a (λ done. TakesName σ.seat.profile σ.seat.actor c c' name frees.steps) (RefusesName σ.seat.profile c c' name frees.steps)) is frees.outcome in
     record {
       steps = frees.steps;
-      adds = frees.adds;
-      rest = frees.rest;
+      adds = frees.calls.adds;
+      rest = frees.calls.leads.from;
       few = λ v rest agreed. taken_few σ.seat.profile σ.seat.actor c c' name frees.steps v takes agreed;
       freed = inl (takes, refl);
     }
@@ -60,8 +60,8 @@ frees_refused {σ} {σ'} {answer} name c c' fault frees is =
     = subst (λ a. MatchResult a (λ done. TakesName σ.seat.profile σ.seat.actor c c' name frees.steps) (RefusesName σ.seat.profile c c' name frees.steps)) is frees.outcome in
     record {
       steps = frees.steps;
-      adds = frees.adds;
-      rest = frees.rest;
+      adds = frees.calls.adds;
+      rest = frees.calls.leads.from;
       few = λ v rest agreed. refused_few σ.seat.profile σ.seat.actor c c' name frees.steps fault v refuses;
       freed = inr (fault, refuses, refl);
     }
@@ -119,8 +119,8 @@ performs_raw {σ} {σ'} {said} what table c c' block is frees = subst (λ w. Per
 pub performs_flush : {σ σ' : Standing} (what : What) (table : Names) (c c' : Cached) → what ≡ Flush → FlushesLog c c' σ σ' → Performs what (works table c) (works table c') σ σ' None
 performs_flush {σ} {σ'} what table c c' is flushes = subst (λ w. Performs w (works table c) (works table c') σ σ' None) (sym is) record {
   steps = flushes.steps;
-  adds = flushes.adds;
-  rest = flushes.rest;
+  adds = flushes.calls.adds;
+  rest = flushes.calls.leads.from;
   few = λ v rest agreed.
       let events = emptied_events σ.seat.actor c.log flushes.steps v flushes.empties in
       let none = ap (λ (d : Cached). length d.log) flushes.cache in
@@ -137,8 +137,8 @@ stopped_events k names v stopped flushed events silent =
 pub performs_stop : {σ σ' : Standing} (what : What) (table : Names) (c c' : Cached) → what ≡ Stop → StopsCache c c' σ σ' → Performs what (works table c) (works table c') σ σ' None
 performs_stop {σ} {σ'} what table c c' is stops = subst (λ w. Performs w (works table c) (works table c') σ σ' None) (sym is) record {
   steps = stops.stopped ++ stops.flushed;
-  adds = stops.adds;
-  rest = stops.rest;
+  adds = stops.calls.adds;
+  rest = λ v rest agreed. (stops.calls.leads.from v rest agreed).0;
   few = λ v rest agreed.
       let events = stopped_events σ.seat.actor c.log v stops.stopped stops.flushed (emptied_events σ.seat.actor c.log stops.flushed v stops.empties) (stops.silent σ.seat.actor (stops.flushed ++ v)) in
       let none = ap (λ (d : Cached). length d.log) stops.cache in

@@ -128,7 +128,7 @@ RequestEnds k r v steps served = MatchResult served (IsGiven k r v steps) (λ ro
 pub record IsServed (f : Profile) (k : ℕ) (r : Request) (before : Having) (after : Answer) : Type 0 where
   pub route : IsClassRoute (route_of r.size r.align)
   pub answer : Result Block NoRoom
-  pub serves : ServesRequest f r.heap (class_for r) before.cache after.cache after.steps answer
+  pub serves : ServesRequest f (class_directory r.heap (class_for r)) r.heap (class_for r) before.cache after.cache after.steps answer
   pub kinds : Only allocating after.steps
   pub ends : RequestEnds k r before.view after.steps answer
   pub said_is : after.said ≡ said_of_request r.name answer
@@ -155,7 +155,7 @@ IsFreedBy f k c c' name (Some (Some block)) steps said = IsFreed f k c c' block.
 -- ---- a flush and a stop
 pub record IsFlushed (k : ℕ) (c c' : Cached) (steps : List Made) : Type 0 where
   pub empties : EmptiesLog k c.log steps
-  pub cache : c' ≡ record { locals = c.locals; log = []; idle_since = c.idle_since }
+  pub cache : c' ≡ record c { log = [] }
 
 -- the log is emptied, then each local allocator is stopped, without an event, and nothing is cached then
 pub record IsStopped (k : ℕ) (c c' : Cached) (steps : List Made) : Type 0 where
@@ -165,7 +165,7 @@ pub record IsStopped (k : ℕ) (c c' : Cached) (steps : List Made) : Type 0 wher
   pub stops : StopsAll c.locals stopped
   pub kinds : Only releasing stopped
   pub silent : (v : View) → events_by k v stopped ≡ []
-  pub cache : c' ≡ record { locals = []; log = []; idle_since = c.idle_since }
+  pub cache : c' ≡ record c { locals = []; log = [] }
   pub steps_are : steps ≡ stopped ++ flushed
 
 -- ---- operations and acts

@@ -15,7 +15,6 @@ use Rattle.pas_report.specs.Rooms.{records_in, room_of}
 use Rattle.pas_report.specs.declared.record.Said.{Said}
 use Rattle.pas_report.specs.declared.records.Records.{Records}
 use Rattle.pas_cache.specs.Caches.{Cached, AtRest}
-use Rattle.pas_cache.specs.Calls.{StaysAtRest}
 use Rattle.pas_steps.specs.Unknown.{unknown_pages}
 use Rattle.pas_answers.specs.Answers.{having, answer_of, Named, standing_for, IsFreed, IsAnswered, records_of, said_by}
 use Rattle.pas_answers.specs.Fit.{cost_of_what}
@@ -54,6 +53,10 @@ abbrev pub owed_events : Profile → Cached → View → ℕ
 owed_events f c v = unknown_pages f v + length c.log
 
 -- ---- an operation
+-- an actor at rest with the one cache is at rest with the other after these steps
+abbrev pub StaysAtRest : Profile → Cached → Cached → List Made → Type 0
+StaysAtRest f c c' steps = (v : View) → AtRest f c v → Agreed f v steps → AtRest f c' (steps ++ v)
+
 -- the actor is at rest with its cache, and there is room for so many events
 pub record MayPerform (f : Profile) (c : Cached) (what : What) (spare : ℕ) (v : View) : Type 0 where
   pub rest : AtRest f c v

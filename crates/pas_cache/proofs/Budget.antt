@@ -1,6 +1,7 @@
 -- For callers: the room of one request after another.
 use Rattle.std.proofs.Common.{◌≡◌, ℕ, ◌+◌, ◌≤◌, ◌++◌, length, ap, sym, ◌∙◌, subst, arith, length-append, Result, Bool}
 use Rattle.pas_profile.specs.declared.profile.Profile.{Profile}
+use Rattle.pas_profile.specs.declared.directory.Directory.{Directory}
 use Rattle.pas_profile.specs.declared.event.NoRoom.{NoRoom}
 use Rattle.pas_profile.specs.declared.name.Block.{Block}
 use Rattle.pas_steps.specs.Views.{View}
@@ -28,23 +29,23 @@ may_allocate {σ} {c} {spare} n two can = record {
 }
 
 -- and the others are left after it
-pub budget_left : {σ σ' : Standing} {c c' : Cached} {answer : Result Block NoRoom} {heap class align spare spare' : ℕ} {tells : Bool} (n : ℕ) → (h : Allocates heap class align tells c c' σ σ' answer) → CanCall σ (λ v l. HasBudget σ.seat.profile c (n + 2) spare v)
+pub budget_left : {σ σ' : Standing} {c c' : Cached} {answer : Result Block NoRoom} {d : Directory} {heap class align spare spare' : ℕ} {tells : Bool} (n : ℕ) → (h : Allocates d heap class align tells c c' σ σ' answer) → CanCall σ (λ v l. HasBudget σ.seat.profile c (n + 2) spare v)
     → ((v : View) (l : Whole) → σ.stands v l → spare + length (events_of σ.seat.actor v) ≡ σ.seat.room) → ((v : View) (l : Whole) → σ'.stands v l → spare' + length (events_of σ'.seat.actor v) ≡ σ'.seat.room)
     → CanCall σ' (λ v l. HasBudget σ'.seat.profile c' n spare' v)
 budget_left {σ} {σ'} {c} {c'} {spare = spare} {spare' = spare'} n h can law law' =
     let f : Profile = σ.seat.profile in
     let k : ℕ = σ.seat.actor in
     let v : View = can.view in
-    let ok = h.adds.agreed v can.whole can.stood can.met.rest in
+    let ok = h.calls.adds.agreed v can.whole can.stood can.met.rest in
     let before : spare + length (events_of k v) ≡ σ.seat.room = law v can.whole can.stood in
     let after : spare' + length (events_of k (h.steps ++ v)) ≡ σ.seat.room
-    = subst (λ (s : Seat). spare' + length (events_of s.actor (h.steps ++ v)) ≡ s.room) h.adds.seat_is (law' (h.steps ++ v) (triples k h.steps ++ can.whole) (h.adds.added v can.whole can.stood can.met.rest)) in
+    = subst (λ (s : Seat). spare' + length (events_of s.actor (h.steps ++ v)) ≡ s.room) h.calls.adds.seat_is (law' (h.steps ++ v) (triples k h.steps ++ can.whole) (h.calls.adds.added v can.whole can.stood can.met.rest)) in
     let split : length (events_of k (h.steps ++ v)) ≡ length (events_by k v h.steps) + length (events_of k v) = ap length (events_split k h.steps v) ∙ length-append (events_by k v h.steps) (events_of k v) in
-    let few = h.few k v can.met.rest ok in
+    let few = (h.few k v can.met.rest ok).paid in
     let room = can.met.room in
     record {
       view = h.steps ++ v;
       whole = triples k h.steps ++ can.whole;
-      stood = h.adds.added v can.whole can.stood can.met.rest;
-      met = subst (λ (s : Seat). HasBudget s.profile c' n spare' (h.steps ++ v)) (sym h.adds.seat_is) (record { rest = h.rest v can.met.rest ok; room = omega (arith, before, after, split, few, room) });
+      stood = h.calls.adds.added v can.whole can.stood can.met.rest;
+      met = subst (λ (s : Seat). HasBudget s.profile c' n spare' (h.steps ++ v)) (sym h.calls.adds.seat_is) (record { rest = h.calls.leads.from v can.met.rest ok; room = omega (arith, before, after, split, few, room) });
     }

@@ -24,7 +24,7 @@ use Rattle.pas_segregated.specs.declared.slots.Slots.{Slots}
 use Rattle.pas_segregated.proofs.Starts.{start_at}
 use Rattle.pas_cache.specs.Locals.{covers}
 use Rattle.pas_cache.specs.Changes.{IsWithoutSlot}
-use Rattle.pas_cache.specs.Pieces.{MayGiveSlot, GivesLowest}
+use Rattle.pas_cache.specs.Parts.{MayGiveSlot, GivesLowest}
 
 -- the block in the slot that begins at this grain of the page, with the turn that a life word shows
 abbrev pub block_of : Slots → ℕ → ℕ → Block
@@ -160,8 +160,11 @@ pub gives_lowest : {σ σ1 σ2 : Standing} (spare : ℕ) (slots slots' : Slots) 
     → Makes σ σ1 (Look (Word.Life slots.page start)) word → Makes σ1 σ2 (Give block) answer → GivesLowest slots slots' block σ σ2
 gives_lowest {σ} {σ1} {σ2} spare slots slots' start word answer block is lowest rest spares limit look give = record {
   steps = made (Give block) answer ∷ made (Look (Word.Life slots.page start)) word ∷ [];
-  adds = adds_step {step = Give block} (look_steps slots start word look) give (λ v l stood met.
-      subst (MayGiveNow σ.seat.profile (made (Look (Word.Life slots.page start)) word ∷ v)) (sym is) (may_give σ.seat.profile slots start word lowest v met (few_given σ spare v l stood spares limit)));
+  calls = record {
+    adds = adds_step {step = Give block} (look_steps slots start word look) give (λ v l stood met.
+        subst (MayGiveNow σ.seat.profile (made (Look (Word.Life slots.page start)) word ∷ v)) (sym is) (may_give σ.seat.profile slots start word lowest v met (few_given σ spare v l stood spares limit)));
+    leads = record { from = λ v met agreed. subst (λ (b : Block). b.name.turn < 2 ^ 37) (sym is) agreed.1.0.turn };
+  };
   gives = record {
     start = start;
     lowest = lowest;
@@ -174,5 +177,4 @@ gives_lowest {σ} {σ1} {σ2} spare slots slots' start word answer block is lowe
     heap = ap (λ b. b.heap) is;
     steps_are = refl;
   };
-  turn = λ v met agreed. subst (λ (b : Block). b.name.turn < 2 ^ 37) (sym is) agreed.1.0.turn;
 }

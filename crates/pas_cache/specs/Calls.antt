@@ -11,7 +11,9 @@ use Rattle.pas_steps.specs.Views.{View}
 use Rattle.pas_steps.specs.Events.{events_by}
 use Rattle.pas_steps.specs.Agreement.{Agreed}
 use Rattle.pas_steps.specs.Lists.{Whole}
-use Rattle.pas_steps.specs.Desks.{Standing, Adds, triples, made}
+use Rattle.pas_profile.specs.declared.directory.Directory.{Directory}
+use Rattle.pas_steps.specs.Calls.{Calls}
+use Rattle.pas_steps.specs.Desks.{Standing, triples, made}
 use Rattle.pas_steps.specs.declared.step.Made.{Made}
 use Rattle.pas_steps.specs.declared.step.Step.TheVariants.{Look}
 use Rattle.pas_steps.specs.Unknown.{HasRoom}
@@ -23,17 +25,16 @@ use Rattle.pas_steps.specs.Kinds.{Only}
 use Rattle.pas_cache.specs.Kinds.{releasing, allocating}
 use Rattle.pas_cache.specs.Serves.{ServesRequest, IsBlockFor, MakesFew, IsSilent, IsToldBy}
 
--- an actor that is at rest with a cache is at rest with the other after these steps
-abbrev pub StaysAtRest : Profile → Cached → Cached → List Made → Type 0
-StaysAtRest f c c' steps = (v : View) → AtRest f c v → Agreed f v steps → AtRest f c' (steps ++ v)
+-- an actor at rest with the one cache is at rest with the other after these steps
+abbrev pub Rests : Cached → Cached → Standing → Standing → List Made → Type 0
+Rests c c' desk desk' steps = Calls desk desk' (AtRest desk.seat.profile c) (λ v w. AtRest desk.seat.profile c' w) steps
 
 -- ---- begin
 -- one look at the epoch, which is remembered; nothing else changes
 pub record Begins (c c' : Cached) (desk desk' : Standing) : Type 0 where
   pub epoch : ℕ
-  pub cache : c' ≡ record { locals = c.locals; log = c.log; idle_since = epoch }
-  pub adds : Adds desk desk' (λ v l. AtRest desk.seat.profile c v) (made (Look Word.Epoch) epoch ∷ [])
-  pub rest : StaysAtRest desk.seat.profile c c' (made (Look Word.Epoch) epoch ∷ [])
+  pub cache : c' ≡ record c { idle_since = epoch }
+  pub calls : Rests c c' desk desk' (made (Look Word.Epoch) epoch ∷ [])
 
 -- ---- alloc
 -- the actor is at rest, and there is room for two events, and for one more where the deed of some page isn't known
@@ -42,16 +43,14 @@ pub record MayAllocate (f : Profile) (c : Cached) (spare : ℕ) (v : View) : Typ
   pub room : HasRoom f 2 spare v
 
 -- The cache serves the request, and its actor is at rest again. A refused request made no event, so no block changed.
-pub record Allocates (heap class align : ℕ) (tells : Bool) (c c' : Cached) (desk desk' : Standing) (answer : Result Block NoRoom) : Type 0 where
+pub record Allocates (d : Directory) (heap class align : ℕ) (tells : Bool) (c c' : Cached) (desk desk' : Standing) (answer : Result Block NoRoom) : Type 0 where
   pub steps : List Made
-  pub adds : Adds desk desk' (λ v l. AtRest desk.seat.profile c v) steps
-  pub change : ServesRequest desk.seat.profile heap class c c' steps answer
+  pub calls : Rests c c' desk desk' steps
+  pub change : ServesRequest desk.seat.profile d heap class c c' steps answer
   pub kinds : Only allocating steps
   pub few : MakesFew desk.seat.profile (AtRest desk.seat.profile c) 2 steps
-  pub outcome : MatchResult answer (IsBlockFor desk.seat.profile (AtRest desk.seat.profile c) heap class steps) (λ room. IsSilent steps)
-  pub aligned : MatchResult answer (λ block. address_of block.name % align ≡ 0) (λ room. Unit {0})
-  pub rest : StaysAtRest desk.seat.profile c c' steps
-  pub told : tells ≡ true → (v : View) (l : Whole) → desk.stands v l → AtRest desk.seat.profile c v → IsToldBy desk.seat.profile heap class c.locals l (triples desk.seat.actor steps ++ l) answer
+  pub outcome : MatchResult answer (IsBlockFor desk.seat.profile d (AtRest desk.seat.profile c) heap class align steps) (λ room. IsSilent steps)
+  pub told : tells ≡ true → (v : View) (l : Whole) → desk.stands v l → AtRest desk.seat.profile c v → IsToldBy desk.seat.profile d heap class c.locals l (triples desk.seat.actor steps ++ l) answer
 
 -- ---- free
 -- a fault changes nothing
@@ -64,33 +63,28 @@ pub record RefusesName (f : Profile) (c c' : Cached) (name : Name) (steps : List
 pub record TakesName (f : Profile) (actor : ℕ) (c c' : Cached) (name : Name) (steps : List Made) : Type 0 where
   pub region : IsInRegion f name
   pub logs : LogsName actor c.log c'.log name steps
-  pub locals : c'.locals ≡ c.locals
-  pub idle_since : c'.idle_since ≡ c.idle_since
+  pub cache : c' ≡ record c { log = c'.log }
 
 pub record Frees (name : Name) (c c' : Cached) (desk desk' : Standing) (answer : Result (Unit {0}) FreeFault) : Type 0 where
   pub steps : List Made
-  pub adds : Adds desk desk' (λ v l. AtRest desk.seat.profile c v) steps
+  pub calls : Rests c c' desk desk' steps
   pub outcome : MatchResult answer (λ done. TakesName desk.seat.profile desk.seat.actor c c' name steps) (RefusesName desk.seat.profile c c' name steps)
-  pub rest : StaysAtRest desk.seat.profile c c' steps
 
 -- ---- flush and stop
 pub record FlushesLog (c c' : Cached) (desk desk' : Standing) : Type 0 where
   pub steps : List Made
-  pub adds : Adds desk desk' (λ v l. AtRest desk.seat.profile c v) steps
+  pub calls : Rests c c' desk desk' steps
   pub empties : EmptiesLog desk.seat.actor c.log steps
-  pub cache : c' ≡ record { locals = c.locals; log = []; idle_since = c.idle_since }
-  pub rest : StaysAtRest desk.seat.profile c c' steps
+  pub cache : c' ≡ record c { log = [] }
 
 -- The log is emptied, and then each local allocator is stopped. The cache is empty then, so the actor holds and has nothing. The stops make no
 -- event and stamp no page.
 pub record StopsCache (c c' : Cached) (desk desk' : Standing) : Type 0 where
   pub flushed : List Made
   pub stopped : List Made
-  pub adds : Adds desk desk' (λ v l. AtRest desk.seat.profile c v) (stopped ++ flushed)
+  pub calls : Calls desk desk' (AtRest desk.seat.profile c) (λ v w. AtRest desk.seat.profile c' w × HasNothing w) (stopped ++ flushed)
   pub empties : EmptiesLog desk.seat.actor c.log flushed
   pub stops : StopsAll c.locals stopped
   pub kinds : Only releasing stopped
   pub silent : (k : ℕ) (v : View) → events_by k v stopped ≡ []
-  pub cache : c' ≡ record { locals = []; log = []; idle_since = c.idle_since }
-  pub rest : StaysAtRest desk.seat.profile c c' (stopped ++ flushed)
-  pub nothing : (v : View) → AtRest desk.seat.profile c v → Agreed desk.seat.profile v (stopped ++ flushed) → HasNothing ((stopped ++ flushed) ++ v)
+  pub cache : c' ≡ record c { locals = []; log = [] }

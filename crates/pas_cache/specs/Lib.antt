@@ -1,10 +1,9 @@
 pub mod Kinds
 pub mod Effects
 pub mod Locals
-pub mod Places
 pub mod Caches
 pub mod Changes
 pub mod Names
 pub mod Serves
-pub mod Pieces
+pub mod Parts
 pub mod Calls

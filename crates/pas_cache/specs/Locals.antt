@@ -1,7 +1,7 @@
 -- Local allocators: each is the unused slots of one page that a thread got for a heap and a class. A list of them is in order of last use, the
 -- last used at the end.
-use Rattle.std.specs.Prelude.{ℕ, suc, ◌≤◌, ◌≡◌, ◌==◌, Bool, true, false, ◌&&◌, ◌||◌, if◌then◌else◌, List, [], ◌∷◌, Option, None, Some}
-use Rattle.std.specs.List.{AllByRecursion}
+use Rattle.std.specs.Prelude.{ℕ, ◌≤◌, ◌≡◌, ◌==◌, Bool, true, false, ◌&&◌, not, List, Option, All}
+use Rattle.std.specs.List.{list_any, find, filter, count_by}
 use Rattle.pas_profile.specs.Classes.{IsClass}
 use Rattle.pas_profile.specs.Profiles.{IsPage, IsDirectoryOf}
 use Rattle.pas_profile.specs.declared.profile.Profile.{Profile}
@@ -22,12 +22,10 @@ abbrev pub keeps_right : Slots → ℕ → Bool
 keeps_right slots page = slots.right && (slots.page == page)
 
 abbrev pub any_covers : List Slots → ℕ → Bool
-any_covers [] g = false
-any_covers (slots ∷ rest) g = covers slots g || any_covers rest g
+any_covers locals g = list_any (λ slots. covers slots g) locals
 
 abbrev pub any_keeps : List Slots → ℕ → Bool
-any_keeps [] page = false
-any_keeps (slots ∷ rest) page = keeps_right slots page || any_keeps rest page
+any_keeps locals page = list_any (λ slots. keeps_right slots page) locals
 
 -- ---- whom it serves
 abbrev pub is_for : ℕ → ℕ → Slots → Bool
@@ -35,22 +33,15 @@ is_for heap class slots = (slots.heap == heap) && (slots.class == class)
 
 -- the local allocator of the heap and the class
 abbrev pub local_for : ℕ → ℕ → List Slots → Option Slots
-local_for heap class [] = None
-local_for heap class (slots ∷ rest) = if is_for heap class slots then Some slots else local_for heap class rest
+local_for heap class locals = find (is_for heap class) locals
 
 -- those of other heaps or classes
 abbrev pub others_than : ℕ → ℕ → List Slots → List Slots
-others_than heap class [] = []
-others_than heap class (slots ∷ rest) = if is_for heap class slots then others_than heap class rest else slots ∷ others_than heap class rest
-
--- how many there are for the heap and the class
-abbrev pub count_for : ℕ → ℕ → List Slots → ℕ
-count_for heap class [] = 0
-count_for heap class (slots ∷ rest) = if is_for heap class slots then suc (count_for heap class rest) else count_for heap class rest
+others_than heap class locals = filter (λ slots. not (is_for heap class slots)) locals
 
 -- at most one for each pair of a heap and a class
 abbrev pub HasOneEach : List Slots → Type 0
-HasOneEach locals = (heap class : ℕ) → count_for heap class locals ≤ 1
+HasOneEach locals = (heap class : ℕ) → count_by (is_for heap class) locals ≤ 1
 
 -- its class exists, and each of its starts is that of a slot of the class
 pub record IsFormed (slots : Slots) : Type 0 where
@@ -66,15 +57,11 @@ pub record IsLocal (f : Profile) (v : View) (slots : Slots) : Type 0 where
   pub deed : KnowsDeed slots.page (directory_of slots) v
   pub backed : HasMember slots.starts → knows_backed v slots.page ≡ true
 
--- no grain of the slots is of another's, and no right that they keep
-pub record IsAway (slots : Slots) (rest : List Slots) : Type 0 where
-  pub grains : (g : ℕ) → covers slots g ≡ true → any_covers rest g ≡ false
-  pub rights : (p : ℕ) → keeps_right slots p ≡ true → any_keeps rest p ≡ false
-
--- no grain is of two of them, and no page's right is kept by two
-abbrev pub AreApart : List Slots → Type 0
-AreApart [] = Unit {0}
-AreApart (slots ∷ rest) = IsAway slots rest × AreApart rest
+-- there is at most one for each heap and class, no grain is of two of them, and no page's right is kept by two
+pub record AreApart (locals : List Slots) : Type 0 where
+  pub one_each : HasOneEach locals
+  pub grains : (g : ℕ) → count_by (λ slots. covers slots g) locals ≤ 1
+  pub rights : (page : ℕ) → count_by (λ slots. keeps_right slots page) locals ≤ 1
 
 -- The actor holds exactly the grains of the unused slots, has exactly the rights that the local allocators keep, is clear, and knows what they
 -- say of their pages. Two of them may be of one page, and then have different slots of it.
@@ -82,6 +69,5 @@ pub record RestsWith (f : Profile) (locals : List Slots) (v : View) : Type 0 whe
   pub grains : (g : ℕ) → holds v g ≡ any_covers locals g
   pub rights : (page : ℕ) → has_right v page ≡ any_keeps locals page
   pub clear : IsClear v
-  pub known : AllByRecursion (IsLocal f v) locals
-  pub one_each : HasOneEach locals
+  pub known : All (IsLocal f v) locals
   pub apart : AreApart locals

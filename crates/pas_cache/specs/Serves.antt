@@ -1,5 +1,5 @@
 -- How a request of a class changes a cache, and what its block is.
-use Rattle.std.specs.Prelude.{ℕ, ◌+◌, ◌*◌, ◌/◌, ◌^◌, ◌<◌, ◌≤◌, ◌≡◌, true, ◌⊎◌, List, [], ◌∷◌, ◌++◌, length, Some, Result, Ok, Err, MatchResult}
+use Rattle.std.specs.Prelude.{ℕ, ◌+◌, ◌*◌, ◌/◌, ◌^◌, ◌<◌, ◌≤◌, ◌%◌, ◌≡◌, true, ◌⊎◌, List, [], ◌∷◌, ◌++◌, length, Some, Result, Ok, Err, MatchResult}
 use Rattle.std.specs.List.{AllByRecursion}
 use Rattle.pas_profile.specs.Profiles.{IsPage}
 use Rattle.pas_profile.specs.Classes.{IsSlotStart, class_size}
@@ -19,7 +19,9 @@ use Rattle.pas_search.specs.Kinds.{AreSearch}
 use Rattle.pas_search.specs.Searches.{IsRefused}
 use Rattle.pas_search.specs.Telling.{HasNoFit, IsTrueReason}
 use Rattle.pas_bits.specs.Masks.{HasMember}
-use Rattle.pas_segregated.specs.Stops.{class_directory}
+use Rattle.pas_steps.specs.Calls.{Leads}
+use Rattle.pas_steps.specs.Kinds.{Only}
+use Rattle.pas_cache.specs.Kinds.{releasing}
 use Rattle.pas_segregated.specs.Takes.{exclusive}
 use Rattle.pas_segregated.specs.Refills.{GivesSlots}
 use Rattle.pas_segregated.specs.declared.slots.Slots.{Slots}
@@ -40,54 +42,67 @@ class_of (Route.Class class) = class
 class_of Route.Bitfit = 0
 class_of Route.Large = 0
 
--- ---- the content
--- The local allocator of the heap and the class has a slot, gives its lowest one, and is the last used then.
-pub record GivesCached (heap class : ℕ) (locals locals' : List Slots) (steps : List Made) (block : Block) : Type 0 where
-  pub from : Slots
-  pub to : Slots
-  pub cached : local_for heap class locals ≡ Some from
-  pub some : HasMember from.starts
-  pub gives : GivesSlot from to block steps
-  pub locals_are : locals' ≡ others_than heap class locals ++ to ∷ []
+-- ---- slots are obtained
+-- The local allocator of the heap and the class has a slot, and is taken out of the list without a step.
+pub record FindsCached (heap class : ℕ) (locals fewer : List Slots) (slots : Slots) (steps : List Made) : Type 0 where
+  pub cached : local_for heap class locals ≡ Some slots
+  pub some : HasMember slots.starts
+  pub fewer_are : fewer ≡ others_than heap class locals
+  pub no_steps : steps ≡ []
+
+-- No slot is cached: the local allocator of the heap and the class is taken out, and the list is shortened where it is full.
+pub record MakesPlace (heap class : ℕ) (locals fewer : List Slots) (steps : List Made) : Type 0 where
+  pub spent : List Made
+  pub kept : List Slots
+  pub taken : IsTakenOut heap class locals kept spent
+  pub stopped : List Made
+  pub shortened : IsShortened kept fewer stopped
+  pub steps_are : steps ≡ stopped ++ spent
 
 -- the steps of a refill, and the slots that it got
-pub record IsRefill (heap class : ℕ) (f : Profile) (steps : List Made) (found : Result Slots NoRoom) : Type 0 where
+pub record IsRefill (f : Profile) (d : Directory) (class : ℕ) (steps : List Made) (found : Result Slots NoRoom) : Type 0 where
   pub searches : AreSearch steps
-  pub outcome : MatchResult found (GivesSlots f (class_directory heap class) steps) (IsRefused (exclusive class) f (class_directory heap class) steps)
+  pub outcome : MatchResult found (GivesSlots f d steps) (IsRefused (exclusive class) f d steps)
 
--- After the refill its lowest slot is given, and the rest is the new local allocator at the end. A refusal is that of the refill.
+-- then the refill is made
+pub record Fetches (f : Profile) (d : Directory) (heap class : ℕ) (locals fewer : List Slots) (steps : List Made) (found : Result Slots NoRoom) : Type 0 where
+  pub before : List Made
+  pub place : MakesPlace heap class locals fewer before
+  pub gives_back : Only releasing before
+  pub searched : List Made
+  pub refill : IsRefill f d class searched found
+  pub steps_are : steps ≡ searched ++ before
+
+-- the slots of which one is given: cached ones, or those of a refill
+abbrev pub IsObtained : Profile → Directory → ℕ → ℕ → List Slots → List Slots → List Made → Result Slots NoRoom → Type 0
+IsObtained f d heap class locals fewer steps found =
+    ((slots : Slots) × (found ≡ Ok slots) × FindsCached heap class locals fewer slots steps)
+    ⊎ Fetches f d heap class locals fewer steps found
+
+-- ---- the content
+-- The lowest of the slots is given, and the rest is the new local allocator at the end. A refusal is that of the refill.
 abbrev pub IsAnswered : List Slots → List Slots → List Made → Result Slots NoRoom → Result Block NoRoom → Type 0
 IsAnswered fewer locals' steps (Ok slots) (Ok block) = (rest : Slots) × GivesSlot slots rest block steps × (locals' ≡ fewer ++ rest ∷ [])
 IsAnswered fewer locals' steps (Ok slots) (Err room) = ⊥
 IsAnswered fewer locals' steps (Err why) (Ok block) = ⊥
 IsAnswered fewer locals' steps (Err why) (Err room) = (room ≡ why) × (locals' ≡ fewer) × (steps ≡ [])
 
--- No slot is cached: the local allocator of the heap and the class is taken out, the list is shortened where it is full, and the refill is made.
-pub record Fetches (f : Profile) (heap class : ℕ) (locals locals' : List Slots) (steps : List Made) (answer : Result Block NoRoom) : Type 0 where
-  pub spent : List Made
-  pub kept : List Slots
-  pub taken : IsTakenOut heap class locals kept spent
-  pub stopped : List Made
-  pub fewer : List Slots
-  pub shortened : IsShortened kept fewer stopped
-  pub searched : List Made
+-- Slots are obtained, and one of them is given. So a request for which a slot is cached takes just the two steps of the give.
+pub record ServesLocals (f : Profile) (d : Directory) (heap class : ℕ) (locals locals' : List Slots) (steps : List Made) (answer : Result Block NoRoom) : Type 0 where
   pub found : Result Slots NoRoom
-  pub refill : IsRefill heap class f searched found
+  pub fewer : List Slots
+  pub before : List Made
+  pub obtained : IsObtained f d heap class locals fewer before found
   pub given : List Made
   pub ends : IsAnswered fewer locals' given found answer
-  pub steps_are : steps ≡ given ++ (searched ++ (stopped ++ spent))
+  pub steps_are : steps ≡ given ++ before
 
-abbrev pub ServesLocals : Profile → ℕ → ℕ → List Slots → List Slots → List Made → Result Block NoRoom → Type 0
-ServesLocals f heap class locals locals' steps answer =
-    ((block : Block) × (answer ≡ Ok block) × GivesCached heap class locals locals' steps block)
-    ⊎ Fetches f heap class locals locals' steps answer
+-- the local allocators serve the request, and the rest of the cache is as it was
+pub record ServesRequest (f : Profile) (d : Directory) (heap class : ℕ) (c c' : Cached) (steps : List Made) (answer : Result Block NoRoom) : Type 0 where
+  pub locals : ServesLocals f d heap class c.locals c'.locals steps answer
+  pub cache : c' ≡ record c { locals = c'.locals }
 
-pub record ServesRequest (f : Profile) (heap class : ℕ) (c c' : Cached) (steps : List Made) (answer : Result Block NoRoom) : Type 0 where
-  pub locals : ServesLocals f heap class c.locals c'.locals steps answer
-  pub log : c'.log ≡ c.log
-  pub idle_since : c'.idle_since ≡ c.idle_since
-
--- ---- kinds of steps and events
+-- ---- the block
 -- what may be shown before a give: deeds of the request's directory, and backs
 pub data IsPreparing (d : Directory) : Event → Type 0 where
   Deeds : (k page : ℕ) → IsPreparing d (Event.Deed k page d)
@@ -101,20 +116,25 @@ pub record IsInSlot (class : ℕ) (block : Block) : Type 0 where
   pub address : address_of block.name ≡ page * 4096 + start * 16
   pub room : block.room ≡ class_size class
 
--- The block is of the heap, and in a slot of the class on a page of the region. Each page of its run is known to have the request's directory as its deed. It is given
--- last, after deeds of this directory and backs.
-pub record IsBlockFor (f : Profile) (Meets : View → Type 0) (heap class : ℕ) (steps : List Made) (block : Block) : Type 0 where
+-- The block is of the heap, in a slot of the class on a page of the region, and at a multiple of the alignment. Each page of its run is known to
+-- have the request's directory as its deed. It is given last, after deeds of this directory and backs.
+pub record IsBlockFor (f : Profile) (d : Directory) (Meets : View → Type 0) (heap class align : ℕ) (steps : List Made) (block : Block) : Type 0 where
   pub of_heap : block.heap ≡ heap
   pub slot : IsInSlot class block
+  pub aligned : address_of block.name % align ≡ 0
   pub of_region : IsPage f slot.page
-  pub turn : (v : View) → Meets v → Agreed f v steps → block.name.turn < 2 ^ 37
-  pub deeds : (v : View) → Meets v → Agreed f v steps → (g : ℕ) → in_run (grain_of block.name) (length_of block) g ≡ true → KnowsDeed (g / 256) (class_directory heap class) (steps ++ v)
-  pub events : (k : ℕ) (v : View) → (before : List Event) × (events_by k v steps ≡ Event.Give k block ∷ before) × AllByRecursion (IsPreparing (class_directory heap class)) before
+  pub turn : Leads f Meets (λ v w. block.name.turn < 2 ^ 37) steps
+  pub deeds : Leads f Meets (λ v w. (g : ℕ) → in_run (grain_of block.name) (length_of block) g ≡ true → KnowsDeed (g / 256) d w) steps
+  pub events : (k : ℕ) (v : View) → (before : List Event) × (events_by k v steps ≡ Event.Give k block ∷ before) × AllByRecursion (IsPreparing d) before
 
 -- Each deed that was made is one that the actor didn't know before. So the events, and the pages whose deed isn't known then, are at most n more
--- than the pages whose deed wasn't known before.
+-- than the pages whose deed wasn't known before. At most one deed is made.
+pub record IsFew (f : Profile) (n k : ℕ) (steps : List Made) (v : View) : Type 0 where
+  pub paid : length (events_by k v steps) + unknown_pages f (steps ++ v) ≤ n + unknown_pages f v
+  pub most : length (events_by k v steps) ≤ n + 1
+
 abbrev pub MakesFew : Profile → (View → Type 0) → ℕ → List Made → Type 0
-MakesFew f Meets n steps = (k : ℕ) (v : View) → Meets v → Agreed f v steps → length (events_by k v steps) + unknown_pages f (steps ++ v) ≤ n + unknown_pages f v
+MakesFew f Meets n steps = (k : ℕ) (v : View) → Meets v → Agreed f v steps → IsFew f n k steps v
 
 -- no event was made
 abbrev pub IsSilent : List Made → Type 0
@@ -127,11 +147,11 @@ HasNoneCached heap class locals = (slots : Slots) → local_for heap class local
 
 -- Where the request is refused, no slot was cached and no page could serve at entry, nor can one at exit, and the reason is true at exit. So a
 -- request is served wherever a slot is cached, an offered page fits or a page has no deed.
-pub record IsTrueRefusal (f : Profile) (heap class : ℕ) (locals : List Slots) (entry exit : Whole) (room : NoRoom) : Type 0 where
+pub record IsTrueRefusal (f : Profile) (d : Directory) (heap class : ℕ) (locals : List Slots) (entry exit : Whole) (room : NoRoom) : Type 0 where
   pub cached : HasNoneCached heap class locals
-  pub entry_fit : HasNoFit (exclusive class) f (class_directory heap class) entry
-  pub exit_fit : HasNoFit (exclusive class) f (class_directory heap class) exit
-  pub reason : IsTrueReason f (class_directory heap class) exit room
+  pub entry_fit : HasNoFit (exclusive class) f d entry
+  pub exit_fit : HasNoFit (exclusive class) f d exit
+  pub reason : IsTrueReason f d exit room
 
-abbrev pub IsToldBy : {A : Type 0} → Profile → ℕ → ℕ → List Slots → Whole → Whole → Result A NoRoom → Type 0
-IsToldBy f heap class locals entry exit answer = MatchResult answer (λ found. Unit {0}) (IsTrueRefusal f heap class locals entry exit)
+abbrev pub IsToldBy : {A : Type 0} → Profile → Directory → ℕ → ℕ → List Slots → Whole → Whole → Result A NoRoom → Type 0
+IsToldBy f d heap class locals entry exit answer = MatchResult answer (λ found. Unit {0}) (IsTrueRefusal f d heap class locals entry exit)

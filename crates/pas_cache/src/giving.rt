@@ -2,7 +2,7 @@
 ghost use Rattle.std.specs.Prelude.{◌≡◌, ◌≤◌};
 ghost use Rattle.pas_steps.specs.Desks.{CanCall};
 ghost use Rattle.pas_bits.specs.Masks.{HasMember};
-ghost use Rattle.pas_cache.specs.Pieces.{MayGiveSlot, GivesLowest};
+ghost use Rattle.pas_cache.specs.Parts.{MayGiveSlot, GivesLowest};
 
 use pas_profile::classes::class_size;
 use pas_profile::{Address, Block, Name, Word, read_life};

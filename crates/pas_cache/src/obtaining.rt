@@ -1,11 +1,11 @@
 //! Slots are obtained for a request.
-ghost use Rattle.std.specs.Prelude.{◌≡◌, ◌<◌, None, length};
+ghost use Rattle.std.specs.Prelude.{◌≡◌, ◌<◌, length};
 ghost use Rattle.pas_profile.specs.Profiles.{IsDirectoryOf};
 ghost use Rattle.pas_steps.specs.Desks.{CanCall};
-ghost use Rattle.pas_cache.specs.Locals.{local_for, RestsWith};
+ghost use Rattle.pas_cache.specs.Locals.{RestsWith};
 ghost use Rattle.pas_cache.specs.Changes.{IsShortened};
 ghost use Rattle.pas_segregated.specs.Stops.{class_directory};
-ghost use Rattle.pas_cache.specs.Pieces.{MayObtain, Releases, FetchesSlots, Obtains};
+ghost use Rattle.pas_cache.specs.Parts.{Releases, TakesCached, MayObtain, Obtains};
 
 use crate::taking::{has_slot, take_out};
 use arrayvec::ArrayVec;
@@ -27,21 +27,29 @@ fn shorten<D: Desk>(desk: &mut D, locals: &mut ArrayVec<Slots, 32>)
     }
 }
 
-/// Gets slots of a class for which there is no local allocator.
-fn fetch<D: Desk>(
+/// Takes the local allocator of the heap and the class out of the list where it has a slot. Otherwise one without a slot is left, and the one used
+/// longest ago is stopped where 32 are there. At most 46 steps, and no event.
+fn take_cached<D: Desk>(
     desk: &mut D,
     locals: &mut ArrayVec<Slots, 32>,
     heap: u8,
     class: u8,
-) -> Result<Slots, NoRoom>
-    requires directory { IsDirectoryOf (D.standing desk.old).seat.profile (class_directory heap class) }
-    requires none { local_for heap class locals.old.items ≡ None }
-    requires can { CanCall (D.standing desk.old) (λ v l. MayObtain (D.standing desk.old).seat.profile 1 (D.spare_of desk.old) locals.old.items v) }
-    ensures fetches { FetchesSlots heap class D.tells locals.old.items locals.new.items (D.standing desk.old) (D.standing desk.new) result }
+) -> Option<Slots>
+    requires can { CanCall (D.standing desk.old) (λ v l. RestsWith (D.standing desk.old).seat.profile locals.old.items v) }
+    ensures takes { TakesCached heap class locals.old.items locals.new.items (D.standing desk.old) (D.standing desk.new) result }
+    ensures spare { D.spare_of desk.new ≡ D.spare_of desk.old }
     ensures home { D.home desk.new ≡ D.home desk.old }
 {
+    let Some(slots) = take_out(locals, heap, class) else {
+        shorten(desk, locals);
+        return None;
+    };
+    if has_slot(&slots) {
+        return Some(slots);
+    }
+    stop(desk, slots);
     shorten(desk, locals);
-    refill(desk, heap, class)
+    None
 }
 
 /// Takes the local allocator of the heap and the class out of the list where it has a slot, and gets new slots otherwise.
@@ -56,12 +64,8 @@ pub fn obtain<D: Desk>(
     ensures obtains { Obtains heap class D.tells locals.old.items locals.new.items (D.standing desk.old) (D.standing desk.new) result }
     ensures home { D.home desk.new ≡ D.home desk.old }
 {
-    let Some(slots) = take_out(locals, heap, class) else {
-        return fetch(desk, locals, heap, class);
-    };
-    if has_slot(&slots) {
-        return Ok(slots);
+    match take_cached(desk, locals, heap, class) {
+        Some(slots) => Ok(slots),
+        None => refill(desk, heap, class),
     }
-    stop(desk, slots);
-    fetch(desk, locals, heap, class)
 }

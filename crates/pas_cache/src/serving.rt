@@ -3,7 +3,7 @@ ghost use Rattle.std.specs.Prelude.{◌≡◌};
 ghost use Rattle.pas_profile.specs.Profiles.{IsDirectoryOf};
 ghost use Rattle.pas_steps.specs.Desks.{CanCall};
 ghost use Rattle.pas_segregated.specs.Stops.{class_directory};
-ghost use Rattle.pas_cache.specs.Pieces.{MayObtain, ServesFrom};
+ghost use Rattle.pas_cache.specs.Parts.{MayObtain, ServesFrom};
 
 use crate::cache::ThreadCache;
 use crate::giving::give_lowest;
@@ -22,7 +22,7 @@ fn serve<D: Desk>(
 ) -> Result<Block, NoRoom>
     requires directory { IsDirectoryOf (D.standing desk.old).seat.profile (class_directory heap class) }
     requires can { CanCall (D.standing desk.old) (λ v l. MayObtain (D.standing desk.old).seat.profile 2 (D.spare_of desk.old) locals.old.items v) }
-    ensures serves { ServesFrom heap class D.tells locals.old.items locals.new.items (D.standing desk.old) (D.standing desk.new) result }
+    ensures serves { ServesFrom (class_directory heap class) heap class D.tells locals.old.items locals.new.items (D.standing desk.old) (D.standing desk.new) result }
     ensures home { D.home desk.new ≡ D.home desk.old }
 {
     match obtain(desk, locals, heap, class) {
@@ -40,6 +40,7 @@ impl ThreadCache {
     ghost use Rattle.pas_profile.specs.Classes.{has_bit};
     ghost use Rattle.pas_profile.specs.Profiles.{IsAdmitted};
     ghost use Rattle.pas_profile.specs.Routes.{route_of};
+    ghost use Rattle.pas_segregated.specs.Stops.{class_directory};
     ghost use Rattle.pas_cache.specs.Serves.{IsClassRoute, class_of};
     ghost use Rattle.pas_cache.specs.Caches.{cached, seat_of};
     ghost use Rattle.pas_cache.specs.Calls.{MayAllocate, Allocates};
@@ -62,7 +63,7 @@ impl ThreadCache {
         requires route { IsClassRoute (route_of size align) }
         requires exclusive { has_bit (D.standing desk.old).seat.profile.shared heap ≡ false }
         requires can { CanCall (D.standing desk.old) (λ v l. MayAllocate (D.standing desk.old).seat.profile (cached self.old) (D.spare_of desk.old) v) }
-        ensures allocates { Allocates heap (class_of (route_of size align)) align D.tells (cached self.old) (cached self.new) (D.standing desk.old) (D.standing desk.new) result }
+        ensures allocates { Allocates (class_directory heap (class_of (route_of size align))) heap (class_of (route_of size align)) align D.tells (cached self.old) (cached self.new) (D.standing desk.old) (D.standing desk.new) result }
         ensures actor { seat_of self.new ≡ seat_of self.old }
         ensures home { D.home desk.new ≡ D.home desk.old }
     {

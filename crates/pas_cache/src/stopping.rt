@@ -3,7 +3,7 @@ ghost use Rattle.std.specs.Prelude.{◌≡◌, []};
 ghost use Rattle.pas_steps.specs.Desks.{CanCall};
 ghost use Rattle.pas_cache.specs.Locals.{RestsWith};
 ghost use Rattle.pas_cache.specs.Changes.{StopsAll};
-ghost use Rattle.pas_cache.specs.Pieces.{Releases};
+ghost use Rattle.pas_cache.specs.Parts.{Releases};
 
 use crate::cache::ThreadCache;
 use arrayvec::ArrayVec;

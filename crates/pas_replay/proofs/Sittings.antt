@@ -17,7 +17,7 @@ use Rattle.pas_plain.specs.declared.region.PlainRegion.{PlainRegion}
 use Rattle.pas_plain.specs.declared.pass.PlainPass.{PlainPass}
 use Rattle.pas_plain.specs.declared.desk.PlainDesk.{PlainDesk}
 use Rattle.pas_cache.specs.Caches.{Cached, cached, AtRest}
-use Rattle.pas_cache.specs.Calls.{StaysAtRest}
+use Rattle.pas_answers.specs.Calls.{StaysAtRest}
 use Rattle.pas_answers.specs.Calls.{owed_events}
 use Rattle.pas_replay.specs.Sessions.{IsSeated, ThreadStands, spare_at}
 use Rattle.pas_replay.specs.declared.seats.Thread.{Thread}

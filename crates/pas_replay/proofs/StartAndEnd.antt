@@ -20,7 +20,7 @@ use Rattle.pas_cache.specs.Locals.{any_covers, any_keeps}
 use Rattle.pas_cache.specs.Caches.{Cached, cached, AtRest}
 use Rattle.pas_steps.specs.Clear.{HasNothing}
 use Rattle.pas_steps.specs.Unknown.{unknown_below}
-use Rattle.pas_cache.proofs.Keeping.{rests_empty}
+use Rattle.pas_cache.proofs.FlushesAndFrees.{rests_empty}
 use Rattle.pas_segregated.specs.declared.slots.Slots.{Slots}
 use Rattle.pas_answers.specs.Acts.{Act, acts_of}
 use Rattle.pas_answers.specs.Answers.{progress, Follows}

@@ -5,6 +5,7 @@ use Rattle.pas_profile.specs.Profiles.{IsValid, IsAdmitted}
 use Rattle.pas_profile.specs.declared.profile.Profile.{Profile}
 use Rattle.pas_profile.specs.declared.event.NoRoom.{NoRoom}
 use Rattle.pas_profile.specs.declared.event.FreeFault.{FreeFault}
+use Rattle.pas_profile.specs.declared.directory.Directory.{Directory}
 use Rattle.pas_profile.specs.declared.name.Name.{Name}
 use Rattle.pas_profile.specs.declared.name.Block.{Block}
 use Rattle.pas_steps.specs.Views.{View}
@@ -20,7 +21,7 @@ use Rattle.pas_cache.specs.Calls.{Allocates, TakesName, RefusesName, Frees, Stop
 use Rattle.pas_cache.proofs.Budget.{HasBudget}
 use Rattle.pas_steps.specs.Kinds.{Only}
 use Rattle.pas_cache.specs.Kinds.{releasing}
-use Rattle.pas_cache.proofs.Going.{spare_kept}
+use Rattle.pas_cache.proofs.Stops.{spare_kept}
 
 -- the request is one that every profile admits
 pub admitted : (f : Profile) → IsValid f → IsAdmitted f 24 16 0
@@ -35,11 +36,11 @@ budget_call can = record { view = can.view; whole = can.whole; stood = can.stood
 pub rest_call : {σ : Standing} {c : Cached} {n spare : ℕ} → CanCall σ (λ v l. HasBudget σ.seat.profile c n spare v) → CanCall σ (λ v l. AtRest σ.seat.profile c v)
 rest_call can = record { view = can.view; whole = can.whole; stood = can.stood; met = can.met.rest }
 
-small_answer : {σ σ' : Standing} {c c' : Cached} {heap class align : ℕ} {tells : Bool} (answer : Result Block NoRoom) → Allocates heap class align tells c c' σ σ' answer → CanCall σ (λ v l. AtRest σ.seat.profile c v) → MatchResult answer (λ block. block.name.turn < 2 ^ 37) (λ room. Unit {0})
-small_answer (Ok block) h can = h.outcome.turn can.view can.met (h.adds.agreed can.view can.whole can.stood can.met)
+small_answer : {σ σ' : Standing} {c c' : Cached} {d : Directory} {heap class align : ℕ} {tells : Bool} (answer : Result Block NoRoom) → Allocates d heap class align tells c c' σ σ' answer → CanCall σ (λ v l. AtRest σ.seat.profile c v) → MatchResult answer (λ block. block.name.turn < 2 ^ 37) (λ room. Unit {0})
+small_answer (Ok block) h can = h.outcome.turn.from can.view can.met (h.calls.adds.agreed can.view can.whole can.stood can.met)
 small_answer (Err room) h can = tt
 
-pub small_turn : {σ σ' : Standing} {c c' : Cached} {heap class align : ℕ} {tells : Bool} {answer : Result Block NoRoom} → Allocates heap class align tells c c' σ σ' answer → CanCall σ (λ v l. AtRest σ.seat.profile c v) → MatchResult answer (λ block. block.name.turn < 2 ^ 37) (λ room. Unit {0})
+pub small_turn : {σ σ' : Standing} {c c' : Cached} {d : Directory} {heap class align : ℕ} {tells : Bool} {answer : Result Block NoRoom} → Allocates d heap class align tells c c' σ σ' answer → CanCall σ (λ v l. AtRest σ.seat.profile c v) → MatchResult answer (λ block. block.name.turn < 2 ^ 37) (λ room. Unit {0})
 small_turn {answer = answer} h can = small_answer answer h can
 
 -- ---- the free of a name into an empty log
@@ -68,8 +69,8 @@ pub freed_one : {σ σ' : Standing} {c c' : Cached} {name : Name} {answer : Resu
 freed_one {σ} {σ'} {c} {c'} {name} {answer} none h = logs_one σ.seat.profile σ.seat.actor c c' name h.steps answer none h.outcome
 
 pub freed_call : {σ σ' : Standing} {c c' : Cached} {name : Name} {answer : Result (Unit {0}) FreeFault} → Frees name c c' σ σ' answer → CanCall σ (λ v l. AtRest σ.seat.profile c v) → CanCall σ' (λ v l. AtRest σ'.seat.profile c' v)
-freed_call {σ} {σ'} {c} {c'} h can = can_call {C = λ v l. AtRest σ.seat.profile c v} {D = λ v l. AtRest σ'.seat.profile c' v} h.adds can
-    (λ v l stood met. subst (λ (s : Seat). AtRest s.profile c' (h.steps ++ v)) (sym h.adds.seat_is) (h.rest v met (h.adds.agreed v l stood met)))
+freed_call {σ} {σ'} {c} {c'} h can = can_call {C = λ v l. AtRest σ.seat.profile c v} {D = λ v l. AtRest σ'.seat.profile c' v} h.calls.adds can
+    (λ v l stood met. subst (λ (s : Seat). AtRest s.profile c' (h.steps ++ v)) (sym h.calls.adds.seat_is) (h.calls.leads.from v met (h.calls.adds.agreed v l stood met)))
 
 -- so there is room for its event
 pub stop_room : {σ σ' : Standing} {c c' : Cached} {name : Name} {answer : Result (Unit {0}) FreeFault} {spare spare' : ℕ} → c.log ≡ [] → (h : Frees name c c' σ σ' answer) → CanCall σ (λ v l. HasBudget σ.seat.profile c 1 spare v)
@@ -77,14 +78,14 @@ pub stop_room : {σ σ' : Standing} {c c' : Cached} {name : Name} {answer : Resu
     → length c'.log ≤ spare'
 stop_room {spare = spare} {spare' = spare'} none h can law law' =
     let one = freed_one none h in
-    let same : spare' ≡ spare = spare_kept h.adds (rest_call can) (subst (Only releasing) (sym one.no_steps) tt) law law' in
+    let same : spare' ≡ spare = spare_kept h.calls.adds (rest_call can) (subst (Only releasing) (sym one.no_steps) tt) law law' in
     let few = one.log in
     let room = can.met.room in
     omega (arith, same, few, room)
 
 pub stopped_call : {σ σ' : Standing} {c c' : Cached} → StopsCache c c' σ σ' → CanCall σ (λ v l. AtRest σ.seat.profile c v) → CanCall σ' (λ v l. AtRest σ'.seat.profile c' v)
-stopped_call {σ} {σ'} {c} {c'} h can = can_call {C = λ v l. AtRest σ.seat.profile c v} {D = λ v l. AtRest σ'.seat.profile c' v} h.adds can
-    (λ v l stood met. subst (λ (s : Seat). AtRest s.profile c' ((h.stopped ++ h.flushed) ++ v)) (sym h.adds.seat_is) (h.rest v met (h.adds.agreed v l stood met)))
+stopped_call {σ} {σ'} {c} {c'} h can = can_call {C = λ v l. AtRest σ.seat.profile c v} {D = λ v l. AtRest σ'.seat.profile c' v} h.calls.adds can
+    (λ v l stood met. subst (λ (s : Seat). AtRest s.profile c' ((h.stopped ++ h.flushed) ++ v)) (sym h.calls.adds.seat_is) (h.calls.leads.from v met (h.calls.adds.agreed v l stood met)).0)
 
 pub not_full : (c : Cached) (P : Type 0) → c.log ≡ [] → length c.log ≡ 64 → P
 not_full c P none full = let n : length c.log ≡ 0 = ap length none in absurd (omega (arith, n, full))

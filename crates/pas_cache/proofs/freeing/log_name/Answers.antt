@@ -1,4 +1,4 @@
-use Rattle.pas_cache.proofs.Keeping.{logs_into}
+use Rattle.pas_cache.proofs.FlushesAndFrees.{logs_into}
 use Rattle.pas_cache.proofs.freeing.log_name.Goals as goal
 
 pub returns-clause-logs : goal.returns-clause-logs

@@ -1,5 +1,5 @@
 use Rattle.std.proofs.Common.{arith}
-use Rattle.pas_cache.proofs.Keeping.{empties_where, empties_nothing}
+use Rattle.pas_cache.proofs.FlushesAndFrees.{empties_where, empties_nothing}
 use Rattle.pas_cache.proofs.freeing.make_room.Goals as goal
 
 pub returns-then-len-ge64-clause-empties : goal.returns-then-len-ge64-clause-empties

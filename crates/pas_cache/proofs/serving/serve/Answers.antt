@@ -1,5 +1,5 @@
-use Rattle.pas_cache.proofs.Coming.{obtain_rests}
-use Rattle.pas_cache.proofs.Answered.{fewer_room, room_to_give, give_call, serves_given, serves_none}
+use Rattle.pas_cache.proofs.Obtained.{obtain_rests}
+use Rattle.pas_cache.proofs.Served.{fewer_room, room_to_give, give_call, serves_given, serves_none}
 use Rattle.pas_cache.proofs.serving.serve.Goals as goal
 
 pub obtain-requires-clause-can : goal.obtain-requires-clause-can

@@ -1,26 +1,17 @@
 use Rattle.std.proofs.Common.{◌∷◌, ◌∙◌, ap, true≢false, append_assoc, append-nil, refl, [], ◌++◌, sym}
 use Rattle.pas_cache.proofs.Below.{stop_only}
-use Rattle.pas_cache.proofs.Going.{rests_call, local_of, may_call, spare_kept, last_popped, stops_more, stops_none, all_stopped, popped_none}
+use Rattle.pas_cache.proofs.Stops.{rests_call, local_of, may_call, releases_none, spare_kept, last_popped, stops_more, nil_from, all_stopped}
 use Rattle.pas_cache.proofs.stopping.stop_all.Goals as goal
 
 pub loop-slots-init : goal.loop-slots-init
-loop-slots-init g c = record { stopped = []; whole = sym (append-nil c.args.locals.now.items); releases = stops_none c.args.locals.now.items; spare = refl; home = refl }
+loop-slots-init g c = record { stopped = []; whole = sym (append-nil c.args.locals.now.items); releases = releases_none _ c.args.locals.now.items refl; spare = refl; home = refl }
 
-pub stop-requires-clause-page : goal.stop-requires-clause-page
-stop-requires-clause-page g c = let i = c.loop-slots.invariant in
-    (local_of _ _ _ (last_popped _ _ _ c.in-Some.ensures.items) (rests_call _ _ i.releases c.requires.can)).page
-
-pub stop-requires-clause-directory : goal.stop-requires-clause-directory
-stop-requires-clause-directory g c = let i = c.loop-slots.invariant in
-    (local_of _ _ _ (last_popped _ _ _ c.in-Some.ensures.items) (rests_call _ _ i.releases c.requires.can)).directory
-
-pub stop-requires-clause-starts : goal.stop-requires-clause-starts
-stop-requires-clause-starts g c = let i = c.loop-slots.invariant in
-    (local_of _ _ _ (last_popped _ _ _ c.in-Some.ensures.items) (rests_call _ _ i.releases c.requires.can)).starts
-
-pub stop-requires-clause-can : goal.stop-requires-clause-can
-stop-requires-clause-can g c = let i = c.loop-slots.invariant in
-    may_call _ _ _ (last_popped _ _ _ c.in-Some.ensures.items) (rests_call _ _ i.releases c.requires.can)
+pub stop-requires : goal.stop-requires
+stop-requires g c =
+    let can = rests_call _ _ c.loop-slots.invariant.releases c.requires.can in
+    let moved = last_popped _ _ _ c.in-Some.ensures.items in
+    let here = local_of _ _ _ moved can in
+    record { page = here.page; directory = here.directory; starts = here.starts; can = may_call _ _ _ moved can }
 
 pub loop-slots-preserved : goal.loop-slots-preserved
 loop-slots-preserved g c =
@@ -37,9 +28,5 @@ loop-slots-preserved g c =
 pub returns : goal.returns
 returns g c =
     let i = c.loop-slots.invariant in
-    record {
-      stops = all_stopped _ _ i.stopped (λ some. true≢false (sym (c.in_default.ensures.variant.1 some))) i.whole i.releases;
-      empty = popped_none c.loop-slots.locals.items _ (λ some. true≢false (sym (c.in_default.ensures.variant.1 some))) c.in_default.ensures.items;
-      spare = i.spare;
-      home = i.home;
-    }
+    let empty = nil_from _ _ (λ some. true≢false (sym (c.in_default.ensures.variant.1 some))) refl in
+    record { stops = all_stopped _ _ i.stopped empty i.whole i.releases; empty = nil_from c.loop-slots.locals.items _ (λ some. true≢false (sym (c.in_default.ensures.variant.1 some))) (c.in_default.ensures.items ∙ append-nil c.pop.new.self.items); spare = i.spare; home = i.home }

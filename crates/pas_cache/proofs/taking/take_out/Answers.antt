@@ -1,19 +1,13 @@
-use Rattle.std.proofs.Common.{◌≡◌, ◌≤◌, length, None, subst}
-use Rattle.pas_cache.specs.Locals.{local_for}
-use Rattle.pas_cache.specs.Places.{IsPlaceOf}
-use Rattle.pas_cache.proofs.Finding.{taken_there, left_there, none_there}
+use Rattle.std.proofs.Common.{rules, tests, not, ◌∙◌}
+use Rattle.std.proofs.lemmas.Iterator.{YieldsList-from_slice}
+use Rattle.std.proofs.lemmas.Iterator.Search.{find_from_yields_List}
+use Rattle.arrayvec.proofs.ArrayVecLemmas.{filter-from_retain}
+use Rattle.pas_cache.specs.Locals.{is_for}
 use Rattle.pas_cache.proofs.taking.take_out.Goals as goal
 
-pub returns-in-Some : goal.returns-in-Some
-returns-in-Some c =
-    let heap = c.args.heap in let class = c.args.class in let xs = c.args.locals.now.items in
-    let place = subst (λ ys. IsPlaceOf heap class ys c.in-Some.place) c.as_slice.ensures.value c.in-Some.ensures in
-    record {
-      found = taken_there heap class xs c.in-Some.place c.remove.result place c.remove.ensures.value;
-      others = left_there heap class xs c.remove.new.self.items c.in-Some.place c.remove.result (c.requires.one_each heap class) place c.remove.ensures.items;
-      fits = subst (λ ys. length ys ≤ 32) c.as_slice.ensures.value c.as_slice.ensures.fits;
-    }
+pub returns-clause-found : goal.returns-clause-found
+returns-clause-found c =
+    c.copied-found.ensures ∙ find_from_yields_List (is_for c.args.heap c.args.class) _ _ c.find.result c.find.ensures.ran (YieldsList-from_slice c.args.locals.now.items (cc)) (λ x b q k. search (rules, tests))
 
-pub returns-in-None-clause-others : goal.returns-in-None-clause-others
-returns-in-None-clause-others c =
-    none_there c.args.heap c.args.class c.args.locals.now.items (subst (λ ys. local_for c.args.heap c.args.class ys ≡ None) c.as_slice.ensures.value c.in-None.ensures)
+pub returns-clause-others : goal.returns-clause-others
+returns-clause-others c = filter-from_retain _ (λ slots. not (is_for c.args.heap c.args.class slots)) _ (λ x b q y k. search (rules, tests)) c.args.locals.now.items _ c.retain.ensures.filtered

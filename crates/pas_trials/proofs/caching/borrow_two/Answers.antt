@@ -1,4 +1,5 @@
-use Rattle.std.proofs.Common.{◌∙◌, arith}
+use Rattle.std.proofs.Common.{◌∙◌, ap, arith}
+use Rattle.pas_cache.specs.Caches.{Cached}
 use Rattle.pas_trials.proofs.Borrowed.{admitted, budget_call, rest_call, small_turn, freed_call, stop_room, stopped_call}
 use Rattle.pas_cache.proofs.Budget.{may_allocate, budget_left}
 use Rattle.pas_trials.proofs.caching.borrow_two.Goals as goal
@@ -27,7 +28,7 @@ free-requires-clause-can g c =
 
 pub stop-requires-clause-room : goal.stop-requires-clause-room
 stop-requires-clause-room g c =
-    stop_room (c.alloc-second.ensures.allocates.change.log ∙ (c.alloc-first.ensures.allocates.change.log ∙ c.requires.none_logged)) c.free.ensures.frees
+    stop_room (ap (λ (x : Cached). x.log) c.alloc-second.ensures.allocates.change.cache ∙ (ap (λ (x : Cached). x.log) c.alloc-first.ensures.allocates.change.cache ∙ c.requires.none_logged)) c.free.ensures.frees
     (budget_left 1 c.alloc-second.ensures.allocates
     (budget_left 3 c.alloc-first.ensures.allocates (budget_call c.requires.can) (λ v l s. g.met.D.Desk.spares c.args.desk.now v l s) (λ v l s. g.met.D.Desk.spares c.alloc-first.new.desk v l s))
     (λ v l s. g.met.D.Desk.spares c.alloc-first.new.desk v l s) (λ v l s. g.met.D.Desk.spares c.alloc-second.new.desk v l s))

@@ -1,5 +1,6 @@
-use Rattle.std.proofs.Common.{refl}
-use Rattle.pas_cache.proofs.Keeping.{clear_call, flushes_log}
+use Rattle.std.proofs.Common.{ap}
+use Rattle.pas_cache.specs.Caches.{cached}
+use Rattle.pas_cache.proofs.FlushesAndFrees.{clear_call, flushes_log}
 use Rattle.pas_cache.proofs.cache.ThreadCache.flush.Goals as goal
 
 pub flush-requires-clause-names : goal.flush-requires-clause-names
@@ -9,4 +10,4 @@ pub flush-requires-clause-can : goal.flush-requires-clause-can
 flush-requires-clause-can g c = clear_call c.requires.can
 
 pub returns-clause-flushes : goal.returns-clause-flushes
-returns-clause-flushes g c = flushes_log _ _ refl c.flush.ensures.empty refl c.flush.ensures.flushes
+returns-clause-flushes g c = flushes_log (cached c.args.self.now) _ (ap (λ x. record (cached c.args.self.now) { log = x }) c.flush.ensures.empty) c.flush.ensures.flushes

@@ -1,4 +1,4 @@
-use Rattle.pas_cache.proofs.Keeping.{rests_empty}
+use Rattle.pas_cache.proofs.FlushesAndFrees.{rests_empty}
 use Rattle.pas_cache.proofs.cache.ThreadCache.new.Goals as goal
 
 pub returns-clause-rest : goal.returns-clause-rest

@@ -1,5 +1,5 @@
 -- What steps that give back do to words: free grains, offered pages and deeds stay.
-use Rattle.std.proofs.Common.{◌≡◌, ℕ, ◌+◌, ◌*◌, ◌/◌, ◌%◌, Bool, true, false, if◌then◌else◌, List, [], ◌∷◌, ◌++◌, refl, ap, ◌∙◌, bit_or, sym, true≢false}
+use Rattle.std.proofs.Common.{◌≡◌, ℕ, ◌+◌, ◌*◌, ◌/◌, ◌%◌, Bool, true, false, if◌then◌else◌, ◌||◌, List, [], ◌∷◌, ◌++◌, refl, ap, ◌∙◌, bit_or, sym, true≢false}
 use Rattle.pas_profile.specs.Classes.{has_bit}
 use Rattle.pas_profile.specs.Directories.{number_of}
 use Rattle.pas_profile.specs.Layouts.{same_word}
@@ -19,14 +19,13 @@ use Rattle.pas_search.specs.Serving.{Rule, IsAntitone}
 use Rattle.pas_search.specs.Telling.{free_of_page, HasNoFit}
 use Rattle.pas_steps.specs.Kinds.{Only, is_in, kind_of}
 use Rattle.pas_cache.specs.Kinds.{releasing}
-use Rattle.pas_cache.proofs.Tests.{or_first}
 
 same : {A : Type 0} (t : Bool) (x : A) → (if t then x else x) ≡ x
 same true x = refl
 same false x = refl
 
 or_keeps : (t : Bool) (n m b : ℕ) → has_bit n b ≡ true → has_bit (if t then bit_or n m else n) b ≡ true
-or_keeps true n m b h = has_bit-or n m b ∙ or_first (has_bit n b) (has_bit m b) h
+or_keeps true n m b h = has_bit-or n m b ∙ ap (λ t. t || has_bit m b) h
 or_keeps false n m b h = h
 
 -- ---- free words

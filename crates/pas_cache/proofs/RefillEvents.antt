@@ -1,4 +1,4 @@
--- How many pages have a deed that isn't known, and how many events a refill makes.
+-- Which events a refill makes, and how many.
 use Rattle.pas_steps.proofs.Unknown.{unknown_stays, unknown_less}
 use Rattle.std.proofs.Common.{◌≡◌, ◌≢◌, ℕ, ◌+◌, ◌≤◌, ◌==◌, Bool, true, false, if◌then◌else◌, List, [], ◌∷◌, ◌++◌, length, Some, None, Ok, Err, Result, inl, inr, refl, ap, sym, ◌∙◌, subst, arith, append_assoc, length-append}
 use Rattle.std.specs.Prelude.{MatchResult}
@@ -28,7 +28,7 @@ use Rattle.pas_search.proofs.KindsAndEvents.{events_quiet}
 use Rattle.pas_segregated.specs.Takes.{exclusive}
 use Rattle.pas_segregated.specs.Stops.{class_directory}
 use Rattle.pas_steps.specs.Unknown.{unknown_pages}
-use Rattle.pas_cache.specs.Serves.{IsRefill, IsPreparing}
+use Rattle.pas_cache.specs.Serves.{IsRefill, IsFew, IsPreparing}
 use Rattle.pas_steps.specs.Kinds.{Only}
 use Rattle.pas_steps.proofs.Apart.{no_events}
 use Rattle.pas_cache.specs.Kinds.{releasing}
@@ -47,47 +47,43 @@ zero_from : (n : ℕ) → (n ≢ 0 → ⊥) → n ≡ 0
 zero_from n h = elim (cases_eq n 0) [ inl e ↦ e | inr ne ↦ absurd (h ne) ]
 
 -- ---- the events of a refill
-pub record FewAt (f : Profile) (k : ℕ) (steps : List Made) (v : View) : Type 0 where
-  pub makes : length (events_by k v steps) + unknown_pages f (steps ++ v) ≤ 1 + unknown_pages f v
-  pub most : length (events_by k v steps) ≤ 2
-
-served_few : (f : Profile) (heap class : ℕ) (steps : List Made) (slots : Slots) → GivesSlots f (class_directory heap class) steps slots → (k : ℕ) (v : View) → MaySearch (class_directory heap class) v → Agreed f v steps → FewAt f k steps v
+served_few : (f : Profile) (heap class : ℕ) (steps : List Made) (slots : Slots) → GivesSlots f (class_directory heap class) steps slots → (k : ℕ) (v : View) → MaySearch (class_directory heap class) v → Agreed f v steps → IsFew f 1 k steps v
 served_few f heap class steps slots s k v may agreed = elim s.choice [
   | inl offered ↦
       let events = (s.few k v agreed).0 in
       let none = offered.no_deed in
       let fewer = unknown_stays f steps v agreed in
-      record { makes = omega (arith, events, none, fewer); most = omega (arith, events, none) }
+      record { paid = omega (arith, events, none, fewer); most = omega (arith, events, none) }
   | inr deed ↦
       let events = (s.few k v agreed).0 in
       let one = deed.one_deed in
       let was : known_deed v slots.page ≡ 0 = zero_from (known_deed v slots.page) (made_unknown (exclusive slots.class) f (class_directory heap class) slots.page steps v agreed deed.made_here) in
       let fewer = unknown_less f slots.page steps v agreed s.page was (λ z. deed_word_of-positive (class_directory heap class) (sym (s.gets.from v may agreed).may_stop.deed ∙ z)) in
-      record { makes = omega (arith, events, one, fewer); most = omega (arith, events, one) }
+      record { paid = omega (arith, events, one, fewer); most = omega (arith, events, one) }
 ]
 
-silent_few : (f : Profile) (k : ℕ) (steps : List Made) (v : View) → AreQuiet steps → Agreed f v steps → FewAt f k steps v
+silent_few : (f : Profile) (k : ℕ) (steps : List Made) (v : View) → AreQuiet steps → Agreed f v steps → IsFew f 1 k steps v
 silent_few f k steps v quiet agreed =
     let none : length (events_by k v steps) ≡ 0 = ap length (events_quiet k v steps quiet) in
     let fewer = unknown_stays f steps v agreed in
-    record { makes = omega (arith, none, fewer); most = omega (arith, none) }
+    record { paid = omega (arith, none, fewer); most = omega (arith, none) }
 
 found_few : (f : Profile) (heap class : ℕ) (steps : List Made) (found : Result Slots NoRoom) → MatchResult found (GivesSlots f (class_directory heap class) steps) (IsRefused (exclusive class) f (class_directory heap class) steps)
-    → (k : ℕ) (v : View) → MaySearch (class_directory heap class) v → Agreed f v steps → FewAt f k steps v
+    → (k : ℕ) (v : View) → MaySearch (class_directory heap class) v → Agreed f v steps → IsFew f 1 k steps v
 found_few f heap class steps (Ok slots) h k v may agreed = served_few f heap class steps slots h k v may agreed
 found_few f heap class steps (Err room) h k v may agreed = silent_few f k steps v h.quiet agreed
 
 -- after steps without events
-pub refill_few : (f : Profile) (heap class : ℕ) (ys xs : List Made) (found : Result Slots NoRoom) → IsRefill heap class f ys found → Only releasing xs → (k : ℕ) (v : View) → MaySearch (class_directory heap class) (xs ++ v) → Agreed f v (ys ++ xs) → FewAt f k (ys ++ xs) v
+pub refill_few : (f : Profile) (heap class : ℕ) (ys xs : List Made) (found : Result Slots NoRoom) → IsRefill f (class_directory heap class) class ys found → Only releasing xs → (k : ℕ) (v : View) → MaySearch (class_directory heap class) (xs ++ v) → Agreed f v (ys ++ xs) → IsFew f 1 k (ys ++ xs) v
 refill_few f heap class ys xs found refill kinds k v may agreed =
     let here = found_few f heap class ys found refill.outcome k (xs ++ v) may (agreed_first f v ys xs agreed) in
-    let a = here.makes in
+    let a = here.paid in
     let b = here.most in
     let before = unknown_stays f xs v (agreed_later f v ys xs agreed) in
     let split : length (events_by k v (ys ++ xs)) ≡ length (events_by k (xs ++ v) ys) + length (events_by k v xs) = ap length (events_append k ys xs v) ∙ length-append (events_by k (xs ++ v) ys) (events_by k v xs) in
     let none : length (events_by k v xs) ≡ 0 = ap length (no_events releasing refl k v xs kinds) in
     let same : unknown_pages f ((ys ++ xs) ++ v) ≡ unknown_pages f (ys ++ (xs ++ v)) = ap (unknown_pages f) (append_assoc ys xs v) in
-    record { makes = omega (arith, a, before, split, none, same); most = omega (arith, b, split, none) }
+    record { paid = omega (arith, a, before, split, none, same); most = omega (arith, b, split, none) }
 
 -- ---- which events
 with_some : (d : Directory) (t : Bool) (e : Event) (es : List Event) → IsPreparing d e → AllByRecursion (IsPreparing d) es → AllByRecursion (IsPreparing d) (with_event (if t then Some e else None) es)

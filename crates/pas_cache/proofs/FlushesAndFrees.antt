@@ -1,0 +1,177 @@
+-- An epoch is read, a log is flushed, names are logged, and a cache is stopped.
+use Rattle.std.proofs.Common.{◌≡◌, ℕ, ◌+◌, ◌-◌, ◌^◌, ◌<◌, ◌≤◌, nat_le, Bool, true, false, List, [], ◌∷◌, ◌++◌, length, inl, inr, true≢false, refl, ap, sym, ◌∙◌, subst, arith, append_assoc, length-append}
+use Rattle.std.specs.Prelude.{All, Ok, Err}
+use Rattle.std.proofs.lemmas.Bool.{le-leb, lt-leb, cases_lt}
+use Rattle.std.proofs.lemmas.List.Elements.{All-nil, All-push, All-same}
+use Rattle.pas_profile.specs.declared.profile.Profile.{Profile}
+use Rattle.pas_profile.specs.declared.name.Name.{Name}
+use Rattle.pas_profile.specs.declared.word.Word.TheVariants as Word
+use Rattle.pas_profile.specs.declared.event.FreeFault.{FreeFault}
+use Rattle.pas_steps.specs.Views.{View}
+use Rattle.pas_steps.specs.Agreement.{Agreed}
+use Rattle.pas_steps.specs.Desks.{Standing, Seat, CanCall, Makes, made}
+use Rattle.pas_steps.specs.declared.step.Made.{Made}
+use Rattle.pas_steps.specs.declared.step.Step.TheVariants.{Look}
+use Rattle.pas_steps.proofs.Adding.{adds_none, adds_step, adds_under, adds_call, can_call, agreed_first, agreed_later}
+use Rattle.pas_steps.specs.Clear.{IsClear, HasNothing}
+use Rattle.pas_free_log.specs.Conditions.{IsNameOf}
+use Rattle.pas_free_log.specs.Flushes.{Flushes}
+use Rattle.pas_cache.specs.Locals.{IsLocal, RestsWith}
+use Rattle.pas_cache.specs.Caches.{Cached, AtRest}
+use Rattle.pas_cache.specs.Changes.{EmptiesLog, EmptiesFull, LogsName, StopsAll}
+use Rattle.pas_cache.specs.Names.{IsInRegion, IsFaultOf, MayFlush, EmptiesWhere, LogsInto}
+use Rattle.pas_cache.specs.Parts.{Releases}
+use Rattle.pas_cache.specs.Calls.{Begins, Frees, FlushesLog, StopsCache}
+use Rattle.pas_steps.specs.Calls.{Leads, Calls, Does, nothing}
+use Rattle.pas_steps.specs.Kinds.{looking}
+use Rattle.pas_steps.proofs.Apart.{no_events}
+use Rattle.pas_steps.proofs.Called.{call_none, call_then, next_call}
+use Rattle.pas_steps.proofs.Calls.{does_none, does_idly}
+use Rattle.pas_cache.specs.Kinds.{releasing}
+use Rattle.pas_cache.proofs.Below.{flush_calls}
+use Rattle.pas_cache.proofs.Resting.{rests_kept}
+
+-- ---- an empty cache
+no_locals : (f : Profile) (v : View) → HasNothing v → RestsWith f [] v
+no_locals f v none = record {
+  grains = none.grains;
+  rights = none.rights;
+  clear = none.clear;
+  known = All-nil (IsLocal f v);
+  apart = record { one_each = λ heap class. omega arith; grains = λ g. omega arith; rights = λ page. omega arith };
+}
+
+pub rests_empty : (f : Profile) (c : Cached) (v : View) → c.locals ≡ [] → c.log ≡ [] → HasNothing v → AtRest f c v
+rests_empty f c v locals log none = record {
+  locals = subst (λ xs. RestsWith f xs v) (sym locals) (no_locals f v none);
+  few = subst (λ xs. length xs ≤ 32) (sym locals) (omega arith);
+  names = All-same (IsNameOf f) c.log [] log (All-nil (IsNameOf f));
+  few_names = subst (λ xs. length xs ≤ 64) (sym log) (omega arith);
+}
+
+-- ---- at rest after steps that did nothing, with the same local allocators
+rests_idle : (f : Profile) (c c' : Cached) (steps : List Made) → c'.locals ≡ c.locals → Leads f IsClear (Does nothing) steps → ((v : View) → AtRest f c v → All (IsNameOf f) c'.log × (length c'.log ≤ 64)) → Leads f (AtRest f c) (λ v w. AtRest f c' w) steps
+rests_idle f c c' steps same does names = record {
+  from = λ v h agreed.
+      let log = names v h in
+      record {
+        locals = subst (λ xs. RestsWith f xs (steps ++ v)) (sym same) (rests_kept f c.locals steps v (does.from v h.locals.clear agreed) agreed h.locals);
+        few = subst (λ xs. length xs ≤ 32) (sym same) h.few;
+        names = log.0;
+        few_names = log.1;
+      };
+}
+
+-- ---- begin
+pub begins : {σ σ' : Standing} (c : Cached) (epoch : ℕ) → Makes σ σ' (Look Word.Epoch) epoch → Begins c (record c { idle_since = epoch }) σ σ'
+begins {σ} c epoch look = record {
+  epoch = epoch;
+  cache = refl;
+  calls = record {
+    adds = adds_step {step = Look Word.Epoch} adds_none look (λ v l stood met. tt);
+    leads = rests_idle σ.seat.profile c (record c { idle_since = epoch }) (made (Look Word.Epoch) epoch ∷ []) refl
+        (record { from = λ v clear agreed. does_idly σ.seat.profile looking refl (made (Look Word.Epoch) epoch ∷ []) v (refl, tt) agreed }) (λ v h. (h.names, h.few_names));
+  };
+}
+
+-- ---- flush
+pub empties : {σ σ' : Standing} (names : List Name) (flush : Flushes names σ σ') → EmptiesLog σ.seat.actor names flush.steps
+empties names flush = record { epoch = flush.epoch; settled = flush.settled; names_are = flush.names_are; entries = flush.entries; order = flush.order; steps_are = flush.steps_are; events = flush.events; stamps = flush.stamps }
+
+pub flushes_log : {σ σ' : Standing} (c c' : Cached) → c' ≡ record c { log = [] } → Flushes c.log σ σ' → FlushesLog c c' σ σ'
+flushes_log {σ} {σ'} c c' is flush =
+    subst (λ x. FlushesLog c x σ σ') (sym is) (record {
+      steps = flush.steps;
+      calls = record {
+        adds = adds_under (flush_calls flush).adds (λ v l stood met. met.locals.clear);
+        leads = rests_idle σ.seat.profile c (record c { log = [] }) flush.steps refl (flush_calls flush).leads (λ v h. (All-nil (IsNameOf σ.seat.profile), omega arith));
+      };
+      empties = empties c.log flush;
+      cache = refl;
+    })
+
+-- ---- stop
+-- the conditions of the parts
+pub clear_call : {σ : Standing} {c : Cached} → CanCall σ (λ v l. AtRest σ.seat.profile c v) → CanCall σ (λ v l. IsClear v)
+clear_call can = record { view = can.view; whole = can.whole; stood = can.stood; met = can.met.locals.clear }
+
+pub flushed_call : {σ σ1 : Standing} (c c' : Cached) → FlushesLog c c' σ σ1 → CanCall σ (λ v l. AtRest σ.seat.profile c v) → CanCall σ1 (λ v l. RestsWith σ1.seat.profile c'.locals v)
+flushed_call {σ} {σ1} c c' flush can = next_call flush.calls can (λ v h here. subst (λ (s : Seat). RestsWith s.profile c'.locals (flush.steps ++ v)) (sym flush.calls.adds.seat_is) here.locals)
+
+pub stops_cache : {σ σ1 σ2 : Standing} (c c1 c' : Cached) → (flush : FlushesLog c c1 σ σ1) → (stops : Releases (StopsAll c1.locals) c1.locals [] σ1 σ2) → c1 ≡ record c { log = [] } → c' ≡ record c { locals = []; log = [] } → StopsCache c c' σ σ2
+stops_cache {σ} {σ1} {σ2} c c1 c' flush stops mid is =
+    let f : Profile = σ.seat.profile in
+    let stop : Calls σ1 σ2 (RestsWith f c1.locals) (λ v w. RestsWith f [] w) stops.steps = subst (λ (s : Seat). Calls σ1 σ2 (RestsWith s.profile c1.locals) (λ v w. RestsWith s.profile [] w) stops.steps) flush.calls.adds.seat_is stops.calls in
+    record {
+      flushed = flush.steps;
+      stopped = stops.steps;
+      calls = call_then (λ v w. AtRest f c' w × HasNothing w) flush.calls stop (λ v h here. here.locals)
+          (λ v h here there.
+          let nothing_left : HasNothing (stops.steps ++ (flush.steps ++ v)) = record { grains = there.grains; rights = there.rights; clear = there.clear } in
+          (rests_empty f c' (stops.steps ++ (flush.steps ++ v)) (ap (λ x. x.locals) is) (ap (λ x. x.log) is) nothing_left, nothing_left));
+      empties = flush.empties;
+      stops = subst (λ xs. StopsAll xs stops.steps) (ap (λ x. x.locals) mid) stops.change;
+      kinds = stops.kinds;
+      silent = λ k v. no_events releasing refl k v stops.steps stops.kinds;
+      cache = is;
+    }
+
+-- ---- names
+pub empties_where : {σ σ' : Standing} (log log' : List Name) → 64 ≤ length log → log' ≡ [] → Flushes log σ σ' → EmptiesWhere (nat_le 64 (length log)) log log' σ σ'
+empties_where {σ} {σ'} log log' full none flush = record {
+  steps = flush.steps;
+  calls = flush_calls flush;
+  empties = subst (λ t. EmptiesFull t σ.seat.actor log log' flush.steps) (sym (le-leb 64 (length log) full)) (empties log flush, none);
+}
+
+pub empties_nothing : {σ : Standing} (log : List Name) → length log < 64 → EmptiesWhere (nat_le 64 (length log)) log log σ σ
+empties_nothing {σ} log few = record { steps = []; calls = call_none (λ v clear. does_none v); empties = subst (λ t. EmptiesFull t σ.seat.actor log log []) (sym (lt-leb 64 (length log) few)) (refl, refl) }
+
+pub logs_into : {σ σ' : Standing} (log kept log' : List Name) (name : Name) → EmptiesWhere (nat_le 64 (length log)) log kept σ σ' → log' ≡ kept ++ name ∷ [] → LogsInto log log' name σ σ'
+logs_into log kept log' name emptied is = record { steps = emptied.steps; calls = emptied.calls; logs = record { kept = kept; emptied = emptied.empties; log_is = is } }
+
+-- the names of a log after one more
+not_full : (n : ℕ) → false ≡ nat_le 64 n → n < 64
+not_full n h = elim (cases_lt n 64) [
+  | inl lt ↦ lt
+  | inr ge ↦ absurd (true≢false (sym (le-leb 64 n ge) ∙ sym h))
+]
+
+kept_names : (f : Profile) (full : Bool) (k : ℕ) (log kept : List Name) (steps : List Made) → full ≡ nat_le 64 (length log) → EmptiesFull full k log kept steps → All (IsNameOf f) log → All (IsNameOf f) kept × (length kept < 64)
+kept_names f true k log kept steps full h names = (All-same (IsNameOf f) kept [] h.1 (All-nil (IsNameOf f)), subst (λ xs. length xs < 64) (sym h.1) (omega arith))
+kept_names f false k log kept steps full h names = (All-same (IsNameOf f) kept log h.1 names, subst (λ xs. length xs < 64) (sym h.1) (not_full (length log) full))
+
+logged_names : (f : Profile) (k : ℕ) (log log' : List Name) (name : Name) (steps : List Made) → LogsName k log log' name steps → IsNameOf f name → All (IsNameOf f) log → All (IsNameOf f) log' × (length log' ≤ 64)
+logged_names f k log log' name steps logs is names =
+    let kept = kept_names f (nat_le 64 (length log)) k log logs.kept steps refl logs.emptied names in
+    let n : length log' ≡ length logs.kept + 1 = ap length logs.log_is ∙ length-append logs.kept (name ∷ []) in
+    let few = kept.1 in
+    (All-same (IsNameOf f) log' (logs.kept ++ name ∷ []) logs.log_is (All-push (IsNameOf f) logs.kept name kept.0 is), omega (arith, n, few))
+
+pub frees : {σ σ' : Standing} (c c' : Cached) (name : Name) → name.turn < 2 ^ 40 - 1 → IsInRegion σ.seat.profile name → LogsInto c.log c'.log name σ σ' → c' ≡ record c { log = c'.log } → Frees name c c' σ σ' (Ok tt)
+frees {σ} c c' name turn region logs is = record {
+  steps = logs.steps;
+  calls = record {
+    adds = adds_under logs.calls.adds (λ v l stood met. met.locals.clear);
+    leads = rests_idle σ.seat.profile c c' logs.steps (ap (λ x. x.locals) is) logs.calls.leads
+        (λ v h. logged_names σ.seat.profile σ.seat.actor c.log c'.log name logs.steps logs.logs (record { page = region.page; aligned = region.aligned; turn = turn }) h.names);
+  };
+  outcome = record { region = region; logs = logs.logs; cache = is };
+}
+
+pub refuses : {σ : Standing} (c c' : Cached) (name : Name) (fault : FreeFault) → IsFaultOf σ.seat.profile name fault → c' ≡ c → Frees name c c' σ σ (Err fault)
+refuses {σ} c c' name fault is same = record {
+  steps = [];
+  calls = call_none (λ v h. subst (λ x. AtRest σ.seat.profile x v) (sym same) h);
+  outcome = record { fault_is = is; cache = same; no_steps = refl };
+}
+
+-- room for the events of a full log
+pub full_room : (n spare : ℕ) → n ≤ 64 → (n ≡ 64 → 64 ≤ spare) → 64 ≤ n → n ≤ spare
+full_room n spare most room full =
+    let n64 : n ≡ 64 = omega (arith, most, full) in
+    let some : 64 ≤ spare = room n64 in
+    omega (arith, n64, some)
+
+pub flush_call : {σ : Standing} {c : Cached} → CanCall σ (λ v l. AtRest σ.seat.profile c v) → CanCall σ (λ v l. MayFlush σ.seat.profile c.log v)
+flush_call can = record { view = can.view; whole = can.whole; stood = can.stood; met = record { clear = can.met.locals.clear; each = can.met.names } }

@@ -1,0 +1,229 @@
+-- A request is answered from the local allocators.
+use Rattle.std.proofs.Common.{◌≡◌, ℕ, ◌+◌, ◌/◌, ◌^◌, ◌<◌, ◌≤◌, Bool, List, [], ◌∷◌, ◌++◌, length, Ok, Err, Result, inl, inr, ◌⊎◌, refl, ap, sym, ◌∙◌, subst, arith, append_assoc, append-nil, length-append}
+use Rattle.std.specs.Prelude.{MatchResult, All, ◌%◌}
+use Rattle.std.proofs.lemmas.List.Elements.{All-weaker}
+use Rattle.std.proofs.lemmas.List.Sorted.{IsPermutation-sym, IsPermutation-to_front}
+use Rattle.pas_steps.specs.Calls.{Calls}
+use Rattle.pas_steps.proofs.Called.{call_as, next_call}
+use Rattle.pas_steps.proofs.Calls.{leads_as, leads_at}
+use Rattle.pas_profile.specs.Profiles.{IsAdmitted, IsDirectoryOf}
+use Rattle.pas_profile.specs.Routes.{route_of}
+use Rattle.pas_profile.specs.declared.directory.Route.{Route}
+use Rattle.pas_profile.proofs.ClassFacts.{class_suits, routed_slot_aligned}
+use Rattle.pas_free_log.specs.Conditions.{IsNameOf}
+use Rattle.pas_cache.specs.Caches.{Cached, AtRest}
+use Rattle.pas_cache.specs.Calls.{MayAllocate, Allocates}
+use Rattle.std.specs.List.{AllByRecursion}
+use Rattle.pas_profile.specs.Classes.{class_size, IsSlotStart}
+use Rattle.pas_profile.specs.Directories.{deed_word_of}
+use Rattle.pas_profile.specs.declared.profile.Profile.{Profile}
+use Rattle.pas_profile.specs.declared.directory.Directory.{Directory}
+use Rattle.pas_profile.specs.declared.event.Event.{Event}
+use Rattle.pas_profile.specs.declared.event.NoRoom.{NoRoom}
+use Rattle.pas_profile.specs.declared.name.Block.{Block}
+use Rattle.pas_profile.proofs.Codecs.{deed_word_of-positive}
+use Rattle.pas_profile.specs.Runs.{address_of}
+use Rattle.pas_steps.specs.Views.{View, known_deed}
+use Rattle.pas_steps.specs.Events.{events_of, events_by}
+use Rattle.pas_steps.specs.Agreement.{Agreed}
+use Rattle.pas_steps.specs.Lists.{Whole}
+use Rattle.pas_steps.specs.Desks.{Standing, Seat, CanCall}
+use Rattle.pas_steps.specs.declared.step.Made.{Made}
+use Rattle.pas_steps.proofs.Adding.{adds_under, adds_call, can_call, room_left, agreed_first, agreed_later}
+use Rattle.pas_steps.proofs.Frames.{events_append, events_split}
+use Rattle.pas_steps.proofs.Kept.{deed_stays}
+use Rattle.pas_search.proofs.KindsAndEvents.{events_quiet}
+use Rattle.pas_segregated.specs.Stops.{class_directory, directory_of}
+use Rattle.pas_segregated.specs.declared.slots.Slots.{Slots}
+use Rattle.pas_steps.specs.Unknown.{unknown_pages}
+use Rattle.pas_cache.specs.Locals.{IsFormed, IsLocal, RestsWith}
+use Rattle.pas_cache.specs.Changes.{GivesSlot}
+use Rattle.pas_cache.specs.Serves.{IsClassRoute, class_of, IsObtained, IsPreparing, IsBlockFor, IsSilent}
+use Rattle.pas_cache.specs.Parts.{MayGiveSlot, GivesLowest, MayObtain, Obtains, ServesFrom}
+use Rattle.pas_steps.specs.Kinds.{Only}
+use Rattle.pas_steps.proofs.Apart.{no_events, only_both, only_within}
+use Rattle.pas_search.specs.Kinds.{searching}
+use Rattle.pas_cache.specs.Kinds.{releasing, allocating}
+use Rattle.pas_cache.proofs.Resting.{here, may_give_slot, rests_reordered}
+use Rattle.pas_cache.proofs.GivingSlots.{rests_given, given_page}
+use Rattle.pas_cache.proofs.Obtained.{obtain_rests}
+use Rattle.pas_cache.proofs.RefillEvents.{prepared}
+use Rattle.pas_steps.proofs.Unknown.{unknown_stays, none_unknown}
+
+-- ---- room
+pub fewer_room : {σ : Standing} {spare : ℕ} {locals : List Slots} → CanCall σ (λ v l. MayObtain σ.seat.profile 2 spare locals v) → CanCall σ (λ v l. MayObtain σ.seat.profile 1 spare locals v)
+fewer_room {σ} {spare} can =
+    let two : 2 ≤ spare = can.met.room.0 in
+    record {
+      view = can.view;
+      whole = can.whole;
+      stood = can.stood;
+      met = record { rest = can.met.rest; room = (omega (arith, two), inr (omega (arith, two))) };
+    }
+
+pub room_to_give : {σ σ1 : Standing} {spare spare1 : ℕ} {locals fewer : List Slots} {answer : Result Slots NoRoom} (heap class : ℕ) (tells : Bool) → Obtains heap class tells locals fewer σ σ1 answer → CanCall σ (λ v l. MayObtain σ.seat.profile 2 spare locals v)
+    → ((v : View) (l : Whole) → σ.stands v l → spare + length (events_of σ.seat.actor v) ≡ σ.seat.room) → ((v : View) (l : Whole) → σ1.stands v l → spare1 + length (events_of σ1.seat.actor v) ≡ σ1.seat.room) → 1 ≤ spare1
+room_to_give {σ} {σ1} {spare} {spare1} {locals} heap class tells one can law law' =
+    let f : Profile = σ.seat.profile in
+    let k : ℕ = σ.seat.actor in
+    let ok : Agreed f can.view one.steps = one.calls.adds.agreed can.view can.whole can.stood can.met.rest in
+    let now : spare + length (events_of k can.view) ≡ σ.seat.room = law can.view can.whole can.stood in
+    let split : length (events_of k (one.steps ++ can.view)) ≡ length (events_by k can.view one.steps) + length (events_of k can.view)
+    = ap length (events_split k one.steps can.view) ∙ length-append (events_by k can.view one.steps) (events_of k can.view) in
+    let two : 2 ≤ spare = can.met.room.0 in
+    let few = one.few k can.view can.met.rest ok in
+    let paid = few.paid in
+    let most = few.most in
+    let made : length (events_by k can.view one.steps) + 1 ≤ spare = elim can.met.room.1 [
+      | inl all ↦ let none = none_unknown f can.view all in omega (arith, paid, none, two)
+      | inr three ↦ omega (arith, most, three)
+    ] in
+    room_left {spare = spare1} 1 one.calls.adds (obtain_rests can) law' (omega (arith, now, split, made))
+
+-- ---- the slots that were obtained may give
+pub give_call : {σ σ1 : Standing} {spare : ℕ} (heap class : ℕ) (tells : Bool) (locals fewer : List Slots) (slots : Slots) → Obtains heap class tells locals fewer σ σ1 (Ok slots) → CanCall σ (λ v l. MayObtain σ.seat.profile 2 spare locals v)
+    → CanCall σ1 (λ v l. MayGiveSlot σ1.seat.profile slots v)
+give_call {σ} {σ1} heap class tells locals fewer slots one can =
+    next_call one.calls (obtain_rests can) (λ v met here. subst (λ (s : Seat). MayGiveSlot s.profile slots (one.steps ++ v)) (sym one.calls.adds.seat_is) (may_give_slot σ.seat.profile slots fewer (one.steps ++ v) here))
+
+-- ---- kinds and events of what was made before the give
+obtained_kinds : {f : Profile} {d : Directory} {heap class : ℕ} {locals fewer : List Slots} {steps : List Made} {found : Result Slots NoRoom} → IsObtained f d heap class locals fewer steps found → Only allocating steps
+obtained_kinds (inl h) = subst (Only allocating) (sym h.2.no_steps) tt
+obtained_kinds (inr h) = subst (Only allocating) (sym h.steps_are) (only_both allocating h.searched h.before (only_within searching allocating h.searched refl h.refill.searches.kinds) (only_within releasing allocating h.before refl h.gives_back))
+
+events_later : (ys xs : List Made) → Only releasing xs → (k : ℕ) (v : View) → events_by k v (ys ++ xs) ≡ events_by k (xs ++ v) ys
+events_later ys xs kinds k v = events_append k ys xs v ∙ (ap (λ es. events_by k (xs ++ v) ys ++ es) (no_events releasing refl k v xs kinds) ∙ append-nil (events_by k (xs ++ v) ys))
+
+prepared_before : {f : Profile} (d : Directory) {heap class : ℕ} {locals fewer : List Slots} (steps : List Made) (slots : Slots) → IsObtained f d heap class locals fewer steps (Ok slots) → (k : ℕ) (v : View) → AllByRecursion (IsPreparing d) (events_by k v steps)
+prepared_before d steps slots (inl h) k v = subst (λ xs. AllByRecursion (IsPreparing d) (events_by k v xs)) (sym h.2.no_steps) tt
+prepared_before d steps slots (inr h) k v =
+    subst (λ xs. AllByRecursion (IsPreparing d) (events_by k v xs)) (sym h.steps_are)
+    (subst (AllByRecursion (IsPreparing d)) (sym (events_later h.searched h.before h.gives_back k v)) (prepared d slots.page h.searched h.refill.outcome.events k (h.before ++ v)))
+
+silent_before : {f : Profile} {d : Directory} {heap class : ℕ} {locals fewer : List Slots} (steps : List Made) (room : NoRoom) → IsObtained f d heap class locals fewer steps (Err room) → IsSilent steps
+silent_before steps room (inl h) = let both = h.1 in cc
+silent_before steps room (inr h) = subst IsSilent (sym h.steps_are) (λ k v. events_later h.searched h.before h.gives_back k v ∙ events_quiet k (h.before ++ v) h.searched h.refill.outcome.quiet)
+
+-- ---- the give
+give_event : (slots rest : Slots) (block : Block) (steps : List Made) → GivesSlot slots rest block steps → (k : ℕ) (v : View) → events_by k v steps ≡ Event.Give k block ∷ []
+give_event slots rest block steps gives k v = ap (events_by k v) gives.steps_are
+
+same_directory : (heap class : ℕ) (slots : Slots) → slots.heap ≡ heap → slots.class ≡ class → directory_of slots ≡ class_directory heap class
+same_directory heap class slots a b = ap (λ x. class_directory x slots.class) a ∙ ap (λ x. class_directory heap x) b
+
+pub serves_given : {σ σ1 σ2 : Standing} (heap class : ℕ) (tells : Bool) (locals fewer after : List Slots) (slots rest : Slots) (block : Block) → CanCall σ (λ v l. RestsWith σ.seat.profile locals v) → (one : Obtains heap class tells locals fewer σ σ1 (Ok slots))
+    → GivesLowest slots rest block σ1 σ2 → after ≡ fewer ++ rest ∷ [] → ServesFrom (class_directory heap class) heap class tells locals after σ σ2 (Ok block)
+serves_given {σ} {σ1} {σ2} heap class tells locals fewer after slots rest block can one two list =
+    let f : Profile = σ.seat.profile in
+    let d : Directory = class_directory heap class in
+    let xs : List Made = one.steps in
+    let ys : List Made = two.steps in
+    let for = one.found_for in
+    let give : Calls σ1 σ2 (MayGiveSlot f slots) (λ v w. block.name.turn < 2 ^ 37) ys = subst (λ (s : Seat). Calls σ1 σ2 (MayGiveSlot s.profile slots) (λ v w. block.name.turn < 2 ^ 37) ys) one.calls.adds.seat_is two.calls in
+    let before : (v : View) → RestsWith f locals v → Agreed f v (ys ++ xs) → RestsWith f (slots ∷ fewer) (xs ++ v) = λ v h agreed. one.calls.leads.from v h (agreed_later f v ys xs agreed) in
+    let may : (v : View) → RestsWith f (slots ∷ fewer) v → MayGiveSlot f slots v = may_give_slot f slots fewer in
+    let local : IsLocal f (xs ++ can.view) slots = here f slots fewer (xs ++ can.view) (one.calls.leads.from can.view can.met (one.calls.adds.agreed can.view can.whole can.stood can.met)) in
+    record {
+      steps = ys ++ xs;
+      calls = record {
+        adds = adds_call {C = λ v l. RestsWith f locals v} {D = λ v l. MayGiveSlot f slots v} one.calls.adds give.adds (λ v l stood met. may (xs ++ v) (one.calls.leads.from v met (one.calls.adds.agreed v l stood met)));
+        leads = record {
+          from = λ v h agreed. subst (λ zs. RestsWith f zs ((ys ++ xs) ++ v)) (sym list)
+              (rests_reordered f (rest ∷ fewer) (fewer ++ rest ∷ []) (IsPermutation-sym (fewer ++ rest ∷ []) (rest ∷ fewer) (IsPermutation-to_front fewer rest)) ((ys ++ xs) ++ v)
+              (subst (RestsWith f (rest ∷ fewer)) (sym (append_assoc ys xs v)) (rests_given f fewer slots rest block ys two.gives (xs ++ v) (before v h agreed) (agreed_first f v ys xs agreed))));
+        };
+      };
+      change = record { found = Ok slots; fewer = fewer; before = xs; obtained = one.how; given = ys; ends = (rest, two.gives, list); steps_are = refl };
+      kinds = only_both allocating ys xs (subst (Only allocating) (sym two.gives.steps_are) (refl, (refl, tt))) (obtained_kinds one.how);
+      few = λ k v h agreed.
+          let few = one.few k v h (agreed_later f v ys xs agreed) in
+          let paid = few.paid in
+          let most = few.most in
+          let fewer_left = unknown_stays f ys (xs ++ v) (agreed_first f v ys xs agreed) in
+          let split : length (events_by k v (ys ++ xs)) ≡ length (events_by k (xs ++ v) ys) + length (events_by k v xs) = ap length (events_append k ys xs v) ∙ length-append (events_by k (xs ++ v) ys) (events_by k v xs) in
+          let last : length (events_by k (xs ++ v) ys) ≡ 1 = ap length (give_event slots rest block ys two.gives k (xs ++ v)) in
+          let left : unknown_pages f ((ys ++ xs) ++ v) ≡ unknown_pages f (ys ++ (xs ++ v)) = ap (unknown_pages f) (append_assoc ys xs v) in
+          record { paid = omega (arith, paid, fewer_left, split, last, left); most = omega (arith, most, split, last) };
+      outcome = record {
+        of_heap = two.gives.heap ∙ for.heap_is;
+        slot = record {
+          page = slots.page;
+          start = two.gives.start;
+          is_start = subst (λ c. IsSlotStart c two.gives.start) for.class_is (local.starts two.gives.start two.gives.lowest.set);
+          address = two.gives.address;
+          room = two.gives.room ∙ ap class_size for.class_is;
+        };
+        aligned = omega arith;
+        of_region = local.page;
+        turn = record { from = λ v h agreed. (leads_at one.calls.adds.seat_is give.leads).from (xs ++ v) (may (xs ++ v) (before v h agreed)) (agreed_first f v ys xs agreed) };
+        deeds = record {
+          from = λ v h agreed g inside.
+              let page : g / 256 ≡ slots.page = given_page f fewer slots rest block ys two.gives (xs ++ v) (before v h agreed) g inside in
+              let known : known_deed (xs ++ v) slots.page ≡ deed_word_of d = (here f slots fewer (xs ++ v) (before v h agreed)).deed ∙ ap deed_word_of (same_directory heap class slots for.heap_is for.class_is) in
+              ap (λ w. known_deed w (g / 256)) (append_assoc ys xs v) ∙ (ap (known_deed (ys ++ (xs ++ v))) page
+              ∙ (deed_stays f ys (xs ++ v) slots.page (agreed_first f v ys xs agreed) (λ z. deed_word_of-positive d (sym known ∙ z)) ∙ known));
+        };
+        events = λ k v. (events_by k v xs, events_append k ys xs v ∙ ap (λ es. es ++ events_by k v xs) (give_event slots rest block ys two.gives k (xs ++ v)), prepared_before d xs slots one.how k v);
+      };
+      place = let n : length after ≡ length fewer + 1 = ap length list ∙ length-append fewer (rest ∷ []) in let few = one.place in omega (arith, n, few);
+      told = λ t v l stood h. tt;
+    }
+
+-- ---- a refusal
+pub serves_none : {σ σ1 : Standing} (heap class : ℕ) (tells : Bool) (locals fewer : List Slots) (room : NoRoom) → Obtains heap class tells locals fewer σ σ1 (Err room) → ServesFrom (class_directory heap class) heap class tells locals fewer σ σ1 (Err room)
+serves_none {σ} heap class tells locals fewer room one = record {
+  steps = one.steps;
+  calls = one.calls;
+  change = record { found = Err room; fewer = fewer; before = one.steps; obtained = one.how; given = []; ends = (refl, refl, refl); steps_are = refl };
+  kinds = obtained_kinds one.how;
+  few = λ k v h agreed. let few = one.few k v h agreed in let paid = few.paid in let most = few.most in record { paid = omega (arith, paid); most = omega (arith, most) };
+  outcome = silent_before one.steps room one.how;
+  place = let few = one.place in omega (arith, few);
+  told = one.told;
+}
+
+-- ---- of a cache
+for_cache : (f : Profile) (c : Cached) (d : Directory) (heap class size align : ℕ) (steps : List Made) (answer : Result Block NoRoom) → 4096 % align ≡ 0 → route_of size align ≡ Route.Class class → MatchResult answer (IsBlockFor f d (RestsWith f c.locals) heap class 1 steps) (λ room. IsSilent steps)
+    → MatchResult answer (IsBlockFor f d (AtRest f c) heap class align steps) (λ room. IsSilent steps)
+for_cache f c d heap class size align steps (Ok block) whole route h = record {
+  of_heap = h.of_heap;
+  slot = h.slot;
+  aligned = ap (λ a. a % align) h.slot.address ∙ routed_slot_aligned size align class h.slot.start h.slot.page whole route h.slot.is_start;
+  of_region = h.of_region;
+  turn = leads_as h.turn (λ v rest. rest.locals) (λ v w rest is. is);
+  deeds = leads_as h.deeds (λ v rest. rest.locals) (λ v w rest is. is);
+  events = h.events;
+}
+for_cache f c d heap class size align steps (Err room) whole route h = h
+
+pub directory_for : (f : Profile) (size align heap class : ℕ) → IsAdmitted f size align heap → route_of size align ≡ Route.Class class → IsDirectoryOf f (class_directory heap class)
+directory_for f size align heap class admitted route = record { heap = admitted.of_profile; kind = (class_suits size align class route).known }
+
+pub allocates : {σ σ' : Standing} (size align heap class : ℕ) (tells : Bool) (c c' : Cached) (answer : Result Block NoRoom) → IsAdmitted σ.seat.profile size align heap → route_of size align ≡ Route.Class class → c' ≡ record c { locals = c'.locals }
+    → ServesFrom (class_directory heap class) heap class tells c.locals c'.locals σ σ' answer → Allocates (class_directory heap (class_of (route_of size align))) heap (class_of (route_of size align)) align tells c c' σ σ' answer
+allocates {σ} {σ'} size align heap class tells c c' answer admitted route is h =
+    let f : Profile = σ.seat.profile in
+    subst (λ r. Allocates (class_directory heap (class_of r)) heap (class_of r) align tells c c' σ σ' answer) (sym route) (record {
+      steps = h.steps;
+      calls = call_as (λ v w. AtRest f c' w) h.calls (λ v rest. rest.locals) (λ v w rest locals. subst (λ x. AtRest f x w) (sym is) (record { locals = locals; few = h.place; names = rest.names; few_names = rest.few_names }));
+      change = record { locals = h.change; cache = is };
+      kinds = h.kinds;
+      few = λ k v rest agreed. h.few k v rest.locals agreed;
+      outcome = for_cache f c (class_directory heap class) heap class size align h.steps answer admitted.aligned.2 route h.outcome;
+      told = λ t v l stood rest. h.told t v l stood rest.locals;
+    })
+
+pub serve_call : {σ : Standing} {c : Cached} {spare : ℕ} → CanCall σ (λ v l. MayAllocate σ.seat.profile c spare v) → CanCall σ (λ v l. MayObtain σ.seat.profile 2 spare c.locals v)
+serve_call can = record { view = can.view; whole = can.whole; stood = can.stood; met = record { rest = can.met.rest.locals; room = can.met.room } }
+
+-- the local allocators of an actor at rest are well formed
+pub formed : (f : Profile) (v : View) (locals : List Slots) → RestsWith f locals v → All IsFormed locals
+formed f v locals h = All-weaker (IsLocal f v) IsFormed (λ t at. record { class = at.directory.kind; starts = at.starts }) locals h.known
+
+pub rests_after : {σ σ' : Standing} (d : Directory) (heap class : ℕ) (tells : Bool) (locals locals' : List Slots) (answer : Result Block NoRoom) → (h : ServesFrom d heap class tells locals locals' σ σ' answer) → (can : CanCall σ (λ v l. RestsWith σ.seat.profile locals v)) → RestsWith σ.seat.profile locals' (h.steps ++ can.view)
+rests_after d heap class tells locals locals' answer h can = h.calls.leads.from can.view can.met (h.calls.adds.agreed can.view can.whole can.stood can.met)
+
+pub some_class : (route expected : Route) → route ≡ expected → IsClassRoute expected → ((class : ℕ) → route ≡ Route.Class class → ⊥) → ⊥
+some_class route (Route.Class class) same is none = none class same
+some_class route Route.Bitfit same is none = is
+some_class route Route.Large same is none = is

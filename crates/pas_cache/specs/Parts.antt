@@ -1,0 +1,92 @@
+-- What the parts of the calls ask and promise.
+use Rattle.std.specs.Prelude.{ℕ, ◌^◌, ◌<◌, ◌≤◌, ◌≡◌, Bool, true, false, ◌⊎◌, List, [], ◌∷◌, ◌++◌, length, None, Some, Option, Result, MatchResult, MatchOption}
+use Rattle.pas_profile.specs.declared.event.NoRoom.{NoRoom}
+use Rattle.pas_profile.specs.declared.name.Block.{Block}
+use Rattle.pas_profile.specs.declared.profile.Profile.{Profile}
+use Rattle.pas_steps.specs.Views.{View, holds, is_unstamped}
+use Rattle.pas_steps.specs.Events.{events_by}
+use Rattle.pas_steps.specs.Agreement.{Agreed}
+use Rattle.pas_steps.specs.Lists.{Whole}
+use Rattle.pas_profile.specs.declared.directory.Directory.{Directory}
+use Rattle.std.specs.List.{cons_option}
+use Rattle.std.specs.Result.{result_ok}
+use Rattle.pas_steps.specs.Calls.{Calls}
+use Rattle.pas_steps.specs.Desks.{Standing, triples}
+use Rattle.pas_steps.specs.declared.step.Made.{Made}
+use Rattle.pas_steps.specs.Kinds.{Only}
+use Rattle.pas_cache.specs.Kinds.{releasing, allocating}
+use Rattle.pas_steps.specs.Unknown.{HasRoom}
+use Rattle.pas_search.specs.Telling.{HasNoFit, IsTrueReason}
+use Rattle.pas_bits.specs.Masks.{HasMember}
+use Rattle.pas_segregated.specs.Stops.{class_directory}
+use Rattle.pas_segregated.specs.Takes.{exclusive}
+use Rattle.pas_segregated.specs.declared.slots.Slots.{Slots}
+use Rattle.pas_cache.specs.Locals.{covers, local_for, others_than, IsLocal, RestsWith}
+use Rattle.pas_cache.specs.Changes.{GivesSlot}
+use Rattle.pas_cache.specs.Serves.{FindsCached, MakesPlace, IsObtained, ServesLocals, IsBlockFor, MakesFew, IsSilent, HasNoneCached, IsToldBy}
+
+-- an actor at rest with the one list is at rest with the other after these steps
+abbrev pub Rests : List Slots → List Slots → Standing → Standing → List Made → Type 0
+Rests locals locals' desk desk' steps = Calls desk desk' (RestsWith desk.seat.profile locals) (λ v w. RestsWith desk.seat.profile locals' w) steps
+
+-- ---- a slot is given
+-- the grains of the slots are held, what they say of their page is known, and it isn't unstamped
+pub record MayGiveSlot (f : Profile) (slots : Slots) (v : View) : Type 0 where
+  pub held : (g : ℕ) → covers slots g ≡ true → holds v g ≡ true
+  pub local : IsLocal f v slots
+  pub stamped : is_unstamped v slots.page ≡ false
+
+pub record GivesLowest (slots slots' : Slots) (block : Block) (desk desk' : Standing) : Type 0 where
+  pub steps : List Made
+  pub calls : Calls desk desk' (MayGiveSlot desk.seat.profile slots) (λ v w. block.name.turn < 2 ^ 37) steps
+  pub gives : GivesSlot slots slots' block steps
+
+-- ---- local allocators go
+-- some go by these steps, and the actor is at rest with those that are left
+pub record Releases (Change : List Made → Type 0) (locals locals' : List Slots) (desk desk' : Standing) : Type 0 where
+  pub steps : List Made
+  pub calls : Rests locals locals' desk desk' steps
+  pub change : Change steps
+  pub kinds : Only releasing steps
+
+-- ---- slots are obtained
+-- a cached slot is found, or place is made for others
+pub record TakesCached (heap class : ℕ) (locals fewer : List Slots) (desk desk' : Standing) (taken : Option Slots) : Type 0 where
+  pub steps : List Made
+  pub calls : Rests locals (cons_option taken fewer) desk desk' steps
+  pub how : MatchOption taken (MakesPlace heap class locals fewer steps × HasNoneCached heap class locals × (local_for heap class fewer ≡ None)) (λ slots. FindsCached heap class locals fewer slots steps)
+  pub kinds : Only releasing steps
+  pub place : length fewer < 32
+
+-- the actor is at rest with the local allocators, and there is room for n events, and for a deed besides where that may be needed
+pub record MayObtain (f : Profile) (n spare : ℕ) (locals : List Slots) (v : View) : Type 0 where
+  pub rest : RestsWith f locals v
+  pub room : HasRoom f n spare v
+
+-- the slots are of the heap and the class, and there are some
+pub record IsFoundFor (heap class : ℕ) (slots : Slots) : Type 0 where
+  pub heap_is : slots.heap ≡ heap
+  pub class_is : slots.class ≡ class
+  pub some : HasMember slots.starts
+
+-- the actor is at rest with the others, and with the slots that were found
+pub record Obtains (heap class : ℕ) (tells : Bool) (locals fewer : List Slots) (desk desk' : Standing) (found : Result Slots NoRoom) : Type 0 where
+  pub steps : List Made
+  pub calls : Rests locals (cons_option (result_ok found) fewer) desk desk' steps
+  pub how : IsObtained desk.seat.profile (class_directory heap class) heap class locals fewer steps found
+  pub found_for : MatchResult found (IsFoundFor heap class) (λ room. Unit {0})
+  pub place : length fewer < 32
+  pub few : MakesFew desk.seat.profile (RestsWith desk.seat.profile locals) 1 steps
+  pub told : tells ≡ true → (v : View) (l : Whole) → desk.stands v l → RestsWith desk.seat.profile locals v
+      → IsToldBy desk.seat.profile (class_directory heap class) heap class locals l (triples desk.seat.actor steps ++ l) found
+
+-- ---- a request is served from the local allocators
+pub record ServesFrom (d : Directory) (heap class : ℕ) (tells : Bool) (locals locals' : List Slots) (desk desk' : Standing) (answer : Result Block NoRoom) : Type 0 where
+  pub steps : List Made
+  pub calls : Rests locals locals' desk desk' steps
+  pub change : ServesLocals desk.seat.profile d heap class locals locals' steps answer
+  pub kinds : Only allocating steps
+  pub few : MakesFew desk.seat.profile (RestsWith desk.seat.profile locals) 2 steps
+  pub outcome : MatchResult answer (IsBlockFor desk.seat.profile d (RestsWith desk.seat.profile locals) heap class 1 steps) (λ room. IsSilent steps)
+  pub place : length locals' ≤ 32
+  pub told : tells ≡ true → (v : View) (l : Whole) → desk.stands v l → RestsWith desk.seat.profile locals v → IsToldBy desk.seat.profile d heap class locals l (triples desk.seat.actor steps ++ l) answer
