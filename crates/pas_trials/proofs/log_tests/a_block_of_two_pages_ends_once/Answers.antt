@@ -2,4 +2,4 @@ use Rattle.pas_trials.proofs.log_tests.a_block_of_two_pages_ends_once.Goals as g
 
 -- the desk stands for its view with the steps of the flush added
 pub closed-requires-clause-stands : goal.closed-requires-clause-stands
-closed-requires-clause-stands g c = let can = c.give.ensures.clear in (_, _, c.flush.ensures.flushes.adds.added can.view can.whole can.stood can.met)
+closed-requires-clause-stands g c = let can = c.give.ensures.clear in (_, _, c.flush.ensures.flushes.calls.adds.added can.view can.whole can.stood can.met)
