@@ -31,7 +31,6 @@ use Rattle.pas_steps.specs.declared.step.Step.{Step}
 use Rattle.pas_steps.proofs.Parts.{part_of_own}
 use Rattle.pas_core.proofs.DeedWords.{known_is}
 use Rattle.pas_core.proofs.Spots.{is_offered, is_parked, IsSpotted, spotted}
-use Rattle.pas_steps.specs.Kinds.{Only}
 use Rattle.pas_search.specs.Kinds.{searching, AreSearch, IsDeedOrBack, deeds_made}
 use Rattle.pas_search.specs.Telling.{IsOfferedFit, HasNoFit, IsLowestOffered, IsLowestBare, IsInHands, IsTrueReason, IsTold}
 use Rattle.pas_search.specs.declared.serving.Served.{Served}

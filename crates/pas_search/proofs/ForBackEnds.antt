@@ -11,7 +11,7 @@ use Rattle.pas_steps.proofs.Past.{once_later}
 use Rattle.pas_steps.proofs.Adding.{room_left}
 use Rattle.pas_steps.proofs.Frames.{events_split}
 use Rattle.pas_steps.specs.Desks.{Standing, Adds, CanCall}
-use Rattle.pas_steps.specs.Events.{event_of, with_event, events_of, events_by}
+use Rattle.pas_steps.specs.Events.{with_event, events_of, events_by}
 use Rattle.pas_steps.specs.Lists.{Whole}
 use Rattle.pas_search.specs.Kinds.{AreQuiet}
 

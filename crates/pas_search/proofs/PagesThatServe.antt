@@ -26,12 +26,11 @@ use Rattle.pas_search.proofs.ForBackEnds.{events_quiet, room_after, room_kept}
 use Rattle.pas_profile.specs.Classes.{has_bit}
 use Rattle.pas_steps.specs.Desks.{Seat, Standing, Anything, made, Adds, CanCall, Makes}
 use Rattle.pas_steps.specs.declared.step.Step.TheVariants.{TakeRight, Deed}
-use Rattle.pas_steps.proofs.Adding.{adds_call, can_call, agreed_first, agreed_later, adds_step, room_left}
+use Rattle.pas_steps.proofs.Adding.{adds_call, can_call, agreed_first, agreed_later, adds_step}
 use Rattle.pas_scan.specs.Scan.{IsFirstOffered, FindsOffered, FindsBare}
 use Rattle.pas_profile.specs.Directories.{deed_word_of}
 use Rattle.pas_profile.specs.declared.event.Event.{Event}
 use Rattle.pas_steps.specs.Lists.{Whole}
-use Rattle.pas_steps.proofs.Frames.{events_split}
 
 -- ---- effects, one after the other
 got_first : (t keeps : Bool) → later (if t then Gained else Kept) (if t then (if keeps then Gained else Lost) else Kept) ≡ (if t then (if keeps then Gained else Lost) else Kept)

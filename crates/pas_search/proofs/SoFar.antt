@@ -1,30 +1,27 @@
 -- The steps of a search so far: their kinds, their events, the deeds, and steps that change nothing but whose rights are.
-use Rattle.std.proofs.Common.{◌≡◌, ◌≢◌, ℕ, suc, ◌+◌, ◌≤◌, ◌==◌, length, arith, Bool, true, false, if◌then◌else◌, List, [], ◌∷◌, ◌++◌, ◌⊎◌, inl, inr, None, Some, refl, ap, ◌∙◌, sym, append-nil, true≢false, subst, ◌%◌, ◌&&◌, ◌<◌}
+use Rattle.std.proofs.Common.{◌≡◌, ℕ, suc, ◌≤◌, ◌==◌, arith, Bool, true, false, if◌then◌else◌, List, [], ◌∷◌, ◌++◌, ◌⊎◌, inl, inr, None, Some, refl, ap, ◌∙◌, sym, append-nil, true≢false, subst, ◌%◌, ◌&&◌, ◌<◌}
 use Rattle.pas_profile.specs.declared.directory.Directory.{Directory}
 use Rattle.pas_profile.specs.declared.event.Event.{Event}
 use Rattle.pas_steps.specs.declared.step.Made.{Made}
 use Rattle.pas_steps.specs.declared.step.Step.{Step}
 use Rattle.pas_steps.specs.declared.step.Step.TheVariants.{Deed, Look, TakeRight}
-use Rattle.pas_steps.specs.Views.{View, right_after, has_right, epoch_of, Way, Stays, grain_move, held_after, holds}
-use Rattle.pas_steps.specs.Events.{with_event, events_of, events_by}
+use Rattle.pas_steps.specs.Views.{View, has_right, Way, Stays, grain_move, held_after, holds}
+use Rattle.pas_steps.specs.Events.{events_by}
 use Rattle.pas_steps.specs.Evidence.{GetsHere, GetsRight, LacksAfter, ZeroHere, OneHere, UnfitHere, Searched}
 use Rattle.pas_steps.specs.Past.{Once, Always}
-use Rattle.pas_steps.specs.Frames.{IsOnPage, IsGrains, OnlyOn, OnlyReturns, OnlyGrains, IsRead, OnlyReads}
-use Rattle.pas_steps.specs.Kinds.{kind_of, is_in, Only, returning, look_kind, place_of, unbacking}
-use Rattle.pas_steps.specs.Desks.{Standing, made, Adds, CanCall}
-use Rattle.pas_steps.specs.Lists.{Whole}
-use Rattle.pas_steps.proofs.Adding.{room_left}
+use Rattle.pas_steps.specs.Frames.{IsOnPage, OnlyOn, IsRead, OnlyReads}
+use Rattle.pas_steps.specs.Kinds.{kind_of, is_in, Only, look_kind, place_of, unbacking}
+use Rattle.pas_steps.specs.Desks.{made}
 use Rattle.pas_steps.proofs.Apart.{only_within, only_both, in_apart}
-use Rattle.pas_steps.proofs.Calls.{returns_are, does_none, does_then, does_as, does_step, right_is, leads_then}
+use Rattle.pas_steps.proofs.Calls.{does_none, does_then, does_as, does_step, right_is, leads_then}
 use Rattle.pas_steps.proofs.Frames.{events_append, right_own}
-use Rattle.pas_steps.proofs.Kept.{IsStill, AreStill, returns_on, grains_on}
 use Rattle.pas_steps.proofs.Past.{always_both, always_map, once_later, once_earlier}
 use Rattle.pas_search.specs.Kinds.{serving, searching, OnlyServes, IsReturnOf, ReturnsGot, AreSearch, IsQuiet, AreQuiet, IsDeedOrBack, EventsAt, makes_deed, deeds_made}
 use Rattle.std.proofs.lemmas.Bool.{eq-eqb, eqb-true, ne_eqb, cases_Bool, cases_lt}
 use Rattle.pas_profile.specs.Classes.{has_bit}
 use Rattle.pas_profile.specs.declared.profile.Profile.{Profile}
 use Rattle.pas_profile.specs.declared.word.Word.{Word}
-use Rattle.pas_steps.specs.Agreement.{Agrees, Agreed}
+use Rattle.pas_steps.specs.Agreement.{Agrees}
 use Rattle.pas_profile.specs.Directories.{number_of}
 use Rattle.pas_steps.specs.Calls.{Leads, AnyView, Fate, Kept, Gained, Lost, now, nothing, ClearAfter, Does, grain_fate, way_fate, right_fate, opens}
 use Rattle.pas_search.specs.Serving.{righted, IsUntouched, Rule}
