@@ -252,6 +252,10 @@ module _ {F : Type 0} (rule : Rule F) (f : Profile) (k : ℕ) (l : Whole) (d : D
   all_told (Ok served) h = served_told served h
   all_told (Err room) h = (entry_none room h, exit_none room h, reason room h)
 
+-- ---- an offered page serves
+offered_serves : {F : Type 0} {rule : Rule F} {f : Profile} {d : Directory} {steps : List Made} (served : Served F) → Finds rule f d (FromOffered rule d served.page) steps served → IsServed rule f d steps served
+offered_serves {rule = rule} {f = f} {d = d} served found = record { page = found.page; keeps = found.keeps; choice = inl found.choice; shows = found.shows; serves = found.serves; few = found.few; events = found.events }
+
 -- what a search promises of its steps
 pub record Ends {F : Type 0} (rule : Rule F) (d : Directory) (desk desk' : Standing) (answer : Result (Served F) NoRoom) : Type 0 where
   pub steps : List Made
@@ -259,17 +263,8 @@ pub record Ends {F : Type 0} (rule : Rule F) (d : Directory) (desk desk' : Stand
   pub searches : AreSearch steps
   pub outcome : MatchResult answer (IsServed rule desk.seat.profile d steps) (IsRefused rule desk.seat.profile d steps)
 
-finds_as : {F : Type 0} {rule : Rule F} {f : Profile} {d : Directory} {C : List Made → Type 0} {steps : List Made} {served : Served F} (D : List Made → Type 0) → (C steps → D steps) → Finds rule f d C steps served → Finds rule f d D steps served
-finds_as D more found = record { page = found.page; keeps = found.keeps; choice = more found.choice; shows = found.shows; serves = found.serves; few = found.few; events = found.events }
-
--- ---- an offered page serves
 pub ends_offered : {F : Type 0} {rule : Rule F} {σ σ1 : Standing} (d : Directory) (marks : List ℕ) (served : Served F) → SearchesOffered rule d σ σ1 marks (Some served) → Ends rule d σ σ1 (Ok served)
-ends_offered {rule = rule} {σ = σ} d marks served offered = record {
-  steps = offered.steps;
-  adds = offered.adds;
-  searches = offered.searches;
-  outcome = finds_as (λ call. FromOffered rule d served.page call ⊎ ByDeed rule σ.seat.profile d served.page call) (λ c. inl c) offered.outcome;
-}
+ends_offered d marks served offered = record { steps = offered.steps; adds = offered.adds; searches = offered.searches; outcome = offered_serves served offered.outcome }
 
 -- ---- by a deed
 module _ {F : Type 0} (rule : Rule F) (f : Profile) (d : Directory) (marks : List ℕ) (os steps : List Made) (s : Searching rule f d (f.pages + 1) marks os) (served : Served F) (bare : ServesBare rule f d steps served) where

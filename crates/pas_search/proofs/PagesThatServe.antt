@@ -1,5 +1,5 @@
 -- A page whose right the call got by its newest step: the back end leaves it, or keeps what its answer says. The search of offered pages, and of those without a deed.
-use Rattle.std.proofs.Common.{◌≡◌, ◌≢◌, ℕ, ◌+◌, ◌/◌, ◌≤◌, ◌==◌, Bool, true, false, ◌||◌, if◌then◌else◌, List, [], ◌∷◌, ◌++◌, None, Some, length, refl, ap, sym, ◌∙◌, subst, arith, ◌⊎◌, inl, inr, true≢false, ◌%◌, Option, append_assoc, ◌&&◌}
+use Rattle.std.proofs.Common.{◌≡◌, ◌≢◌, ℕ, ◌+◌, ◌/◌, ◌<◌, ◌≤◌, ◌==◌, Bool, true, false, ◌||◌, if◌then◌else◌, List, [], ◌∷◌, ◌++◌, None, Some, length, refl, ap, sym, ◌∙◌, subst, arith, ◌⊎◌, inl, inr, true≢false, ◌%◌, Option, append_assoc, ◌&&◌}
 use Rattle.std.proofs.lemmas.Bool.{cases_Bool, cases_eq, eq-eqb, eqb-true, ne_eqb, cases_lt}
 use Rattle.pas_profile.specs.Profiles.{IsPage}
 use Rattle.pas_profile.specs.declared.directory.Directory.{Directory}
@@ -21,7 +21,7 @@ use Rattle.pas_scan.specs.Marks.{is_marked}
 use Rattle.pas_search.specs.Kinds.{AreSearch, IsQuiet, AreQuiet, IsDeedOrBack}
 use Rattle.pas_search.specs.Serving.{Rule, MayServe, IsUntouched, GotBefore, right_of, served, Keeps, ReadsNoneHeld, ServeSteps, ServesPage}
 use Rattle.pas_search.specs.Searches.{MaySearch, OfferedHere, FromOffered, KeepsFound, FewEvents, Finds, Searching, GoesOn, SearchesOffered, BareRoom, SearchesBare}
-use Rattle.pas_search.proofs.SoFar.{served_search, quiet_append, events_after_quiet, serves_events, quiet_events, events_at_append, deeds_serves, no_deeds, Rights, right_then, holds_then, does_rights, gets_rights, AreVain, reads_vain, claim_vain, vain_leads, vain_quiet, zero_before, offered_before, zeros_searching}
+use Rattle.pas_search.proofs.SoFar.{served_search, quiet_append, events_after_quiet, serves_events, quiet_events, deeds_serves, no_deeds, Rights, right_then, holds_then, does_rights, gets_rights, AreVain, reads_vain, claim_vain, vain_leads, vain_quiet, zero_before, offered_before, zeros_searching}
 use Rattle.pas_search.proofs.ForBackEnds.{events_quiet, room_after, room_kept}
 use Rattle.pas_profile.specs.Classes.{has_bit}
 use Rattle.pas_steps.specs.Desks.{Seat, Standing, Anything, made, Adds, CanCall, Makes}
@@ -106,7 +106,7 @@ module _ (f : Profile) (d : Directory) (page : ℕ) (m : Made) (ws : List Made) 
           };
           serves = serve.outcome.serves (m ∷ ws) (got_before untouched);
           few = few;
-          events = events_at_append d page zs (m ∷ ws) (serves_events d page zs serve.only) (event, quiet_events d page ws quiet);
+          events = serves_events d page zs (m ∷ ws) serve.only (event, quiet_events d page ws quiet);
         }
 
 -- ---- an offered page
@@ -292,18 +292,15 @@ module _ {σ0 σ : Standing} (d : Directory) (from : ℕ) (xs : List Made) (adds
   more_reads : (ys : List Made) → OnlyReads ys → OnlyReads (ys ++ xs)
   more_reads ys h = always_both (λ m before. IsRead m.step m.answer) (λ m before. IsRead m.step m.answer) ys xs (λ m before is. is) h reads
 
+  more_deeds : (end : ℕ) (ys : List Made) → ((p : ℕ) → from ≤ p → p < end → Once (DeedHere p) ys) → AllDeeds end (ys ++ xs)
+  more_deeds end ys more p low high = elim (cases_lt p from) [ inl lt ↦ once_later (DeedHere p) ys xs (all p low lt) | inr ge ↦ deed_before p ys xs (more p ge high) ]
+
   -- each page has a deed
   pub none_bare : {F : Type 0} {rule : Rule F} {σ1 : Standing} → FindsBare from σ σ1 None → SearchesBare rule d σ0 σ1 None
   none_bare find = let pages : σ.seat.profile.pages ≡ σ0.seat.profile.pages = ap (λ (s : Seat). s.profile.pages) adds.seat_is in record {
     steps = find.steps ++ xs;
     adds = adds_call {D = Anything} adds find.adds (λ v l stood met. tt);
-    outcome = (
-      more_reads find.steps (looks_read find.steps (scans_look find.steps find.scans)),
-      λ p low high. elim (cases_lt p from) [
-        | inl lt ↦ once_later (DeedHere p) find.steps xs (all p low lt)
-        | inr ge ↦ deed_before p find.steps xs (find.outcome p ge (omega (arith, high, pages)))
-      ],
-    );
+    outcome = (more_reads find.steps (looks_read find.steps (scans_look find.steps find.scans)), more_deeds (σ0.seat.profile.pages + 1) find.steps (λ p low high. find.outcome p low (omega (arith, high, pages))));
   }
 
   module _ {σ1 : Standing} (page : ℕ) (find : FindsBare from σ σ1 (Some page)) where
@@ -314,10 +311,7 @@ module _ {σ0 σ : Standing} (d : Directory) (from : ℕ) (xs : List Made) (adds
     found_reads = more_reads find.steps (looks_read find.steps (scans_look find.steps find.scans))
 
     found_deeds : AllDeeds page (find.steps ++ xs)
-    found_deeds p low high = elim (cases_lt p from) [
-      | inl lt ↦ once_later (DeedHere p) find.steps xs (all p low lt)
-      | inr ge ↦ deed_before p find.steps xs (find.outcome.lower p ge high)
-    ]
+    found_deeds = more_deeds page find.steps find.outcome.lower
 
     reads_adds : Adds σ0 σ1 (λ v l. IsClear v) (find.steps ++ xs)
     reads_adds = adds_call {D = Anything} adds find.adds (λ v l stood met. tt)

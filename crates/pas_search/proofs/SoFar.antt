@@ -61,15 +61,13 @@ serve_event d p s a kind (IsOnPage.Deeds e) = absurd (true≢false (sym kind))
 serve_event d p s a kind IsOnPage.Backs = inr IsDeedOrBack.Backs
 serve_event d p s a kind on = inl (λ k e. refl)
 
-pub serves_events : (d : Directory) (p : ℕ) (steps : List Made) → OnlyServes p steps → EventsAt d p steps
-serves_events d p [] only = tt
-serves_events d p (m ∷ more) only = (serve_event d p m.step m.answer only.kinds.0 only.on.0, serves_events d p more (record { kinds = only.kinds.1; on = only.on.1 }))
+-- the events of a back end's steps, and of those before
+pub serves_events : (d : Directory) (p : ℕ) (ys xs : List Made) → OnlyServes p ys → EventsAt d p xs → EventsAt d p (ys ++ xs)
+serves_events d p [] xs only rest = rest
+serves_events d p (m ∷ ys) xs only rest = (serve_event d p m.step m.answer only.kinds.0 only.on.0, serves_events d p ys xs (record { kinds = only.kinds.1; on = only.on.1 }) rest)
 
 pub quiet_events : (d : Directory) (p : ℕ) (steps : List Made) → AreQuiet steps → EventsAt d p steps
 quiet_events d p steps h = always_map (λ m before. IsQuiet m) (λ m before. IsQuiet m ⊎ IsDeedOrBack d p m.step) steps (λ m before q. inl q) h
-
-pub events_at_append : (d : Directory) (p : ℕ) (ys xs : List Made) → EventsAt d p ys → EventsAt d p xs → EventsAt d p (ys ++ xs)
-events_at_append d p ys xs a b = always_both (λ m before. IsQuiet m ⊎ IsDeedOrBack d p m.step) (λ m before. IsQuiet m ⊎ IsDeedOrBack d p m.step) ys xs (λ m before h. h) a b
 
 -- ---- deeds
 no_deed_event : (t : Bool) (e : Event) → (if t then Some e else None) ≡ None → t ≡ false
@@ -188,12 +186,9 @@ vain_lacks p (m ∷ more) xs vain none all = (vain_right p (m ∷ more) xs vain 
 pub vain_quiet : (steps : List Made) → AreVain steps → AreQuiet steps
 vain_quiet steps = always_map (λ m before. IsVain m) (λ m before. IsQuiet m) steps (λ m before h. h.quiet)
 
-vain_searches : (steps : List Made) → AreVain steps → Only searching steps
-vain_searches steps = always_map (λ m before. IsVain m) (λ m before. is_in searching (kind_of m.step) ≡ true) steps (λ m before h. h.rights.kind)
-
 pub vain_search : (ys xs : List Made) → AreVain ys → AreSearch xs → AreSearch (ys ++ xs)
 vain_search ys xs vain are = record {
-  kinds = only_both searching ys xs (vain_searches ys vain) are.kinds;
+  kinds = always_both (λ m before. IsVain m) (λ m before. is_in searching (kind_of m.step) ≡ true) ys xs (λ m before h. h.rights.kind) vain are.kinds;
   returns = always_both (λ m before. IsVain m) ReturnsGot ys xs (λ m before h q is. absurd (h.rights.returns q is)) vain are.returns;
 }
 
