@@ -30,7 +30,7 @@ use Rattle.pas_steps.specs.Desks.{triples, Seat, Standing, Anything, made, Adds,
 use Rattle.pas_steps.specs.declared.step.Step.{Step}
 use Rattle.pas_steps.proofs.Parts.{part_of_own}
 use Rattle.pas_core.proofs.DeedWords.{known_is}
-use Rattle.pas_core.proofs.Spots.{is_offered, is_parked, IsSpotted, spotted}
+use Rattle.pas_core.proofs.Spots.{is_offered, is_parked, spotted}
 use Rattle.pas_search.specs.Kinds.{searching, AreSearch, IsDeedOrBack, deeds_made}
 use Rattle.pas_search.specs.Telling.{IsOfferedFit, HasNoFit, IsLowestOffered, IsLowestBare, IsInHands, IsTrueReason, IsTold}
 use Rattle.pas_search.specs.declared.serving.Served.{Served}
@@ -39,6 +39,7 @@ use Rattle.pas_core.proofs.OneActorGrains.{LendsNone, unfit_entry, unfit_exit, f
 use Rattle.pas_steps.specs.Clear.{IsClear}
 use Rattle.pas_steps.specs.Events.{events_of, events_by}
 use Rattle.pas_steps.specs.Unknown.{HasRoom}
+use Rattle.pas_steps.proofs.Unknown.{all_known}
 use Rattle.pas_steps.specs.declared.step.Step.TheVariants.{Deed}
 use Rattle.pas_steps.proofs.Adding.{adds_call, can_call, legal_after}
 use Rattle.pas_steps.proofs.Calls.{still_clear}
@@ -128,12 +129,10 @@ deed_read f v p (m ∷ xs) agreed (inr h) =
 -- ---- a page that was searched in no_fit_there was no fit at entry
 no_fit_there : {F : Type 0} (rule : Rule F) (f : Profile) (k : ℕ) (l : Whole) (d : Directory) (end : ℕ) (xs : List Made) → IsAntitone rule.no_fit → Legal f (triples k xs ++ l) → LendsNone xs → Searched rule.no_fit d end xs → (page : ℕ) → page < end → IsOfferedFit rule f d l page → ⊥
 no_fit_there rule f k l d end xs fewer legal searches searched page high fit =
-    let n : ℕ = number_of d in
     let first : Legal f l = legal_before f k xs l legal in
-    let at : IsSpotted l page = spotted f l first page in
     elim (searched page fit.of_region.0 high) [
       | inl u ↦ fit.fits (unfit_entry rule.no_fit f k l page xs fewer legal searches u)
-      | inr z ↦ true≢false (sym fit.offered ∙ at.eligible n ∙ zero_told f k l d page xs legal (offered_lacks f k l n page first fit.offered) z.0 z.1)
+      | inr z ↦ true≢false (sym fit.offered ∙ (spotted f l first page).eligible (number_of d) ∙ zero_told f k l d page xs legal (offered_lacks f k l (number_of d) page first fit.offered) z.0 z.1)
     ]
 
 -- ---- by a deed
@@ -151,9 +150,6 @@ module _ {F : Type 0} (rule : Rule F) (f : Profile) (k : ℕ) (l : Whole) (d : D
   abbrev w : Whole
   w = triples k xs ++ l
 
-  abbrev n : ℕ
-  n = number_of d
-
   first : Legal f l
   first = legal_before f k xs l legal
 
@@ -163,12 +159,10 @@ module _ {F : Type 0} (rule : Rule F) (f : Profile) (k : ℕ) (l : Whole) (d : D
         let read = one_told f k l d p xs legal from.offered in
         let deed : word_after (triples k read.0 ++ l) (Word.Deed p) ≡ deed_word_of d = offered_deed f (triples k read.0 ++ l) d p of read.1 read.3 in
         let lacks : has_right (part k l) p ≡ false = entry_lacks f k l d p read.0 valid first (may.rights p) deed in
-        let at : IsSpotted l p = spotted f l first p in
-        let now : IsSpotted (triples k read.0 ++ l) p = spotted f (triples k read.0 ++ l) read.1 p in
         inl (record {
           this = record {
             of_region = is.page;
-            offered = at.eligible n ∙ ap (is_offered n) (sym (spot_same f k l p read.0 read.1 lacks read.2)) ∙ sym (now.eligible n) ∙ read.3;
+            offered = (spotted f l first p).eligible (number_of d) ∙ ap (is_offered (number_of d)) (sym (spot_same f k l p read.0 read.1 lacks read.2)) ∙ sym ((spotted f (triples k read.0 ++ l) read.1 p).eligible (number_of d)) ∙ read.3;
             fits = fit_entry rule.no_fit f k l p is.shows.readings xs fewer valid legal searches is.shows.fits is.shows.read (is.shows.held.from (part k l) may agreed);
           };
           lowest = λ other fit. not_below p other (λ lt. no_fit_there rule f k l d p xs fewer legal searches from.searched other lt fit);
@@ -192,9 +186,8 @@ module _ {F : Type 0} (rule : Rule F) (f : Profile) (k : ℕ) (l : Whole) (d : D
     offered = λ page fit. let high = fit.of_region.1 in elim (is.searched page fit.of_region.0 (omega (arith, high))) [
       | inl u ↦ fit.fits (unfit_exit rule.no_fit f k l page xs fewer valid legal searches (λ g. (is.still.from (part k l) may agreed).held g) u)
       | inr z ↦
-          let lacks : has_right (part k l) page ≡ false = lacks_back room is page (offered_lacks f k w n page legal fit.offered) in
-          let at : IsSpotted w page = spotted f w legal page in
-          true≢false (sym fit.offered ∙ at.eligible n ∙ ap (is_offered n) (spot_same f k l page xs legal lacks z.0) ∙ zero_told f k l d page xs legal lacks z.0 z.1)
+          let lacks : has_right (part k l) page ≡ false = lacks_back room is page (offered_lacks f k w (number_of d) page legal fit.offered) in
+          true≢false (sym fit.offered ∙ (spotted f w legal page).eligible (number_of d) ∙ ap (is_offered (number_of d)) (spot_same f k l page xs legal lacks z.0) ∙ zero_told f k l d page xs legal lacks z.0 z.1)
     ];
     bare = λ page bare. deed_exit f k l page xs legal (is.deeds page bare.of_region.0 (let high = bare.of_region.1 in omega (arith, high))) bare.no_deed;
   }
@@ -202,9 +195,8 @@ module _ {F : Type 0} (rule : Rule F) (f : Profile) (k : ℕ) (l : Whole) (d : D
   -- what the actor knows of the deed is the word at exit
   known_exit : (p : ℕ) → known_deed (xs ++ part k l) p ≢ 0 → known_deed (xs ++ part k l) p ≡ word_after w (Word.Deed p)
   known_exit p some =
-      let at : IsSpotted w p = spotted f w legal p in
       let same : known_deed (part k w) p ≡ known_deed (xs ++ part k l) p = ap (λ v. known_deed v p) (part_of_own k xs l) in
-      sym same ∙ known_is (known_deed (part k w) p) (word_after w (Word.Deed p)) (at.known k) (λ z. some (sym same ∙ z))
+      sym same ∙ known_is (known_deed (part k w) p) (word_after w (Word.Deed p)) ((spotted f w legal p).known k) (λ z. some (sym same ∙ z))
 
   accounted_out : (room : NoRoom) → IsRefused rule f d xs room → (p : ℕ) → (KnowsDeed p d (xs ++ part k l) → Accounted d p xs) → IsInHands f d w p → ⊥
   accounted_out room is p account hands =
@@ -216,9 +208,7 @@ module _ {F : Type 0} (rule : Rule F) (f : Profile) (k : ℕ) (l : Whole) (d : D
         | inl left ↦ not_in_hands f k l d p xs of legal lacks (once_map (LeftHere p) (KeptHere p) xs (λ m before h. h.1) left) hands.of_directory hands.not_offered hands.not_parked
         | inr parked ↦ elim (is.searched p low (omega (arith, high))) [
           | inl u ↦ not_in_hands f k l d p xs of legal lacks (once_map (UnfitHere rule.no_fit p) (KeptHere p) xs (λ m before h. h.kept) u) hands.of_directory hands.not_offered hands.not_parked
-          | inr z ↦
-              let at : IsSpotted w p = spotted f w legal p in
-              true≢false (sym (at.parked ∙ ap is_parked (spot_same f k l p xs legal none z.0)
+          | inr z ↦ true≢false (sym ((spotted f w legal p).parked ∙ ap is_parked (spot_same f k l p xs legal none z.0)
               ∙ parked_told f k l p true xs legal none z.0 (once_map (ParkedLater d p) (ParkedHere true p) xs (λ m before h. h.0) parked)) ∙ hands.not_parked)
         ]
       ]
@@ -228,17 +218,16 @@ module _ {F : Type 0} (rule : Rule F) (f : Profile) (k : ℕ) (l : Whole) (d : D
       let known : known_deed (xs ++ part k l) p ≡ deed_word_of d = held.of_directory (part k l) agreed in
       let deed : word_after w (Word.Deed p) ≡ deed_word_of d = sym (known_exit p (λ z. deed_word_of-positive d (sym known ∙ z))) ∙ known in
       let none : has_right (part k l) p ≡ false = entry_lacks f k l d p xs valid first (may.rights p) deed in
-      let at : IsSpotted w p = spotted f w legal p in
       let same = spot_same f k l p xs legal none held.lacked in
       let high = held.page_of.1 in
       record {
         of_region = held.page_of;
         of_directory = deed;
-        not_offered = at.eligible n ∙ ap (is_offered n) same ∙ elim (is.searched p held.page_of.0 (omega (arith, high))) [
+        not_offered = (spotted f w legal p).eligible (number_of d) ∙ ap (is_offered (number_of d)) same ∙ elim (is.searched p held.page_of.0 (omega (arith, high))) [
           | inl u ↦ absurd (unfit_lacks rule p xs u held.lacked)
           | inr z ↦ zero_told f k l d p xs legal none held.lacked z.1
         ];
-        not_parked = at.parked ∙ ap is_parked same ∙ parked_told f k l p false xs legal none held.lacked (once_map (HeldHere d p) (ParkedHere false p) xs (λ m before h. h.0) held.held);
+        not_parked = (spotted f w legal p).parked ∙ ap is_parked same ∙ parked_told f k l p false xs legal none held.lacked (once_map (HeldHere d p) (ParkedHere false p) xs (λ m before h. h.0) held.held);
       }
 
   reason : (room : NoRoom) → IsRefused rule f d xs room → IsTrueReason f d w room
@@ -268,46 +257,40 @@ ends_offered d marks served offered = record { steps = offered.steps; adds = off
 
 -- ---- by a deed
 module _ {F : Type 0} (rule : Rule F) (f : Profile) (d : Directory) (marks : List ℕ) (os steps : List Made) (s : Searching rule f d (f.pages + 1) marks os) (served : Served F) (bare : ServesBare rule f d steps served) where
-  abbrev p : ℕ
-  p = served.page
-
   abbrev m : Made
-  m = made (Deed p d) 0
+  m = made (Deed served.page d) 0
 
   abbrev ws : List Made
   ws = bare.before ++ os
-
-  abbrev zs : List Made
-  zs = bare.serve
 
   now : Searching rule f d (f.pages + 1) marks (bare.before ++ os)
   now = vain_searching rule f d (f.pages + 1) marks bare.before os (reads_vain bare.before bare.reads) s
 
   all_steps : steps ++ os ≡ bare.serve ++ (made (Deed served.page d) 0 ∷ (bare.before ++ os))
-  all_steps = ap (λ ys. ys ++ os) bare.steps_are ∙ append_assoc zs (m ∷ bare.before) os
+  all_steps = ap (λ ys. ys ++ os) bare.steps_are ∙ append_assoc bare.serve (m ∷ bare.before) os
 
   one_deed : deeds_made (bare.serve ++ (made (Deed served.page d) 0 ∷ (bare.before ++ os))) ≡ 1
-  one_deed = deeds_serves zs (m ∷ ws) bare.serves.only.kinds ∙ ap suc (no_deeds ws now.quiet)
+  one_deed = deeds_serves bare.serve (m ∷ ws) bare.serves.only.kinds ∙ ap suc (no_deeds ws now.quiet)
 
   deed_made : ByDeed rule f d served.page (bare.serve ++ (made (Deed served.page d) 0 ∷ (bare.before ++ os)))
   deed_made = record {
-    made_here = once_later (DeedMadeHere rule f d p) zs (m ∷ ws) (inl (record { deed = refl; made = refl; searched = searched rule f d (f.pages + 1) marks ws now; lower = λ q low high. deed_before q bare.before os (bare.lower q low high); quiet = now.quiet }));
+    made_here = once_later (DeedMadeHere rule f d served.page) bare.serve (m ∷ ws) (inl (record { deed = refl; made = refl; searched = searched rule f d (f.pages + 1) marks ws now; lower = λ q low high. deed_before q bare.before os (bare.lower q low high); quiet = now.quiet }));
     one_deed = one_deed;
   }
 
   pub deed_search : AreSearch (steps ++ os)
-  deed_search = subst AreSearch (sym all_steps) (served_search p zs (m ∷ ws) bare.serves.only (inl (GetsRight.Deeds d 0 refl)) (got_search f d p m ws (GetsRight.Deeds d 0 refl) now.searches))
+  deed_search = subst AreSearch (sym all_steps) (served_search served.page bare.serve (m ∷ ws) bare.serves.only (inl (GetsRight.Deeds d 0 refl)) (got_search f d served.page m ws (GetsRight.Deeds d 0 refl) now.searches))
 
   pub deed_serves : IsServed rule f d (steps ++ os) served
   deed_serves = subst (λ call. IsServed rule f d call served) (sym all_steps)
-      (finds f d p m ws (GetsRight.Deeds d 0 refl) rule zs (ready f d p m ws (GetsRight.Deeds d 0 refl) (λ v met. met.clear) now.still (λ v agreed. deed_known p d 0 (ws ++ v) refl)) (now.untouched p)
-      served.found (λ call. FromOffered rule d p call ⊎ ByDeed rule f d p call) bare.serves bare.page (inr deed_made)
+      (finds f d served.page m ws (GetsRight.Deeds d 0 refl) rule bare.serve (ready f d served.page m ws (GetsRight.Deeds d 0 refl) (λ v met. met.clear) now.still (λ v agreed. deed_known served.page d 0 (ws ++ v) refl)) (now.untouched served.page)
+      served.found (λ call. FromOffered rule d served.page call ⊎ ByDeed rule f d served.page call) bare.serves bare.page (inr deed_made)
       (λ k v agreed.
       let one : length (events_by k v (m ∷ ws)) ≡ 1 = ap (λ es. suc (length es)) (events_quiet k v ws now.quiet) in
-      let some : length (events_by k ((m ∷ ws) ++ v) zs) ≤ rule.events = bare.serves.few k ((m ∷ ws) ++ v) in
-      let counts : length (events_by k v (zs ++ (m ∷ ws))) ≡ length (events_by k ((m ∷ ws) ++ v) zs) + length (events_by k v (m ∷ ws)) = ap length (events_append k zs (m ∷ ws) v) ∙ length-append (events_by k ((m ∷ ws) ++ v) zs) (events_by k v (m ∷ ws)) in
+      let some : length (events_by k ((m ∷ ws) ++ v) bare.serve) ≤ rule.events = bare.serves.few k ((m ∷ ws) ++ v) in
+      let counts : length (events_by k v (bare.serve ++ (m ∷ ws))) ≡ length (events_by k ((m ∷ ws) ++ v) bare.serve) + length (events_by k v (m ∷ ws)) = ap length (events_append k bare.serve (m ∷ ws) v) ∙ length-append (events_by k ((m ∷ ws) ++ v) bare.serve) (events_by k v (m ∷ ws)) in
       let deed = one_deed in
-      (omega (arith, one, some, counts, deed), λ known. absurd (unknown f v p (zs ++ (m ∷ ws)) agreed (once_later (NoDeedHere p) zs (m ∷ ws) (inl (ReadsDeed.Deeds d, refl))) (known p bare.page))))
+      (omega (arith, one, some, counts, deed), λ known. absurd (unknown f v served.page (bare.serve ++ (m ∷ ws)) agreed (once_later (NoDeedHere served.page) bare.serve (m ∷ ws) (inl (ReadsDeed.Deeds d, refl))) (known served.page bare.page))))
       (inr IsDeedOrBack.Deeds) now.quiet)
 
 -- what the search of offered pages asks
@@ -359,22 +342,13 @@ module _ {F : Type 0} {rule : Rule F} {σ σ1 : Standing} (d : Directory) (marks
       → CanCall σ1 (λ v l. BareRoom σ1.seat.profile rule.events spare' v)
   bare_can {spare} {spare'} can law law' =
       let agreed : Agreed f can.view offered.steps = offered.adds.agreed can.view can.whole can.stood can.met.may in
-      let may : CanCall σ (λ v l. MaySearch d v) = record { view = can.view; whole = can.whole; stood = can.stood; met = can.met.may } in
-      let keep = λ (n : ℕ) (fits : n ≤ spare). room_kept {C = λ v l. MaySearch d v} n offered.adds may offered.outcome.quiet law law' fits in
+      let keep = λ (n : ℕ) (fits : n ≤ spare). room_kept {C = λ v l. MaySearch d v} n offered.adds (may_can can) offered.outcome.quiet law law' fits in
+      let room : HasRoom f rule.events spare' (offered.steps ++ can.view) = (keep rule.events can.met.room.0, elim can.met.room.1 [ inl all ↦ inl (all_known f offered.steps can.view agreed all) | inr wide ↦ inr (keep (rule.events + 1) wide) ]) in
       record {
         view = offered.steps ++ can.view;
         whole = _;
         stood = offered.adds.added can.view can.whole can.stood can.met.may;
-        met = record {
-          clear = clear_then can.view can.met.may agreed;
-          room = subst (λ x. HasRoom x rule.events spare' (offered.steps ++ can.view)) (sym (profile_kept offered.adds)) (
-            keep rule.events can.met.room.0,
-            elim can.met.room.1 [
-              | inl known ↦ inl (λ p is z. known p is (sym (deed_stays f offered.steps can.view p agreed (known p is)) ∙ z))
-              | inr wide ↦ inr (keep (rule.events + 1) wide)
-            ],
-          );
-        };
+        met = record { clear = clear_then can.view can.met.may agreed; room = subst (λ x. HasRoom x rule.events spare' (offered.steps ++ can.view)) (sym (profile_kept offered.adds)) room };
       }
 
 -- ---- with what it says on a desk that tells the whole state

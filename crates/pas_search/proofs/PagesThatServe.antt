@@ -112,9 +112,6 @@ module _ (f : Profile) (d : Directory) (page : ℕ) (m : Made) (ws : List Made) 
 -- ---- an offered page
 module _ {F : Type 0} (rule : Rule F) (f : Profile) (d : Directory) (page : ℕ) (marks : List ℕ) (m : Made) (ws zs : List Made) (gets : GetsRight page m.step m.answer) (quiet : IsQuiet m) (on : OnlyOn page zs)
     (ready : Leads f (MaySearch d) (IsReady page d) (m ∷ ws)) (s : Searching rule f d page marks ws) where
-  abbrev call : List Made
-  call = zs ++ (m ∷ ws)
-
   others_lack : (p : ℕ) → p ≢ page → is_marked marks p ≡ false → Always (LacksAfter p) (zs ++ (m ∷ ws))
   others_lack p ne mark =
       let on_m : OnlyOn page (m ∷ []) = (gets_on page m.step m.answer gets, tt) in let none = (s.untouched p).right in
@@ -175,14 +172,11 @@ module _ {F : Type 0} (rule : Rule F) (f : Profile) (d : Directory) (page : ℕ)
       }
 
 module _ {F : Type 0} {rule : Rule F} {σ0 σ : Standing} (d : Directory) (next : ℕ) (marks : List ℕ) (xs : List Made) (adds : Adds σ0 σ (λ v l. MaySearch d v) xs) (goes : GoesOn rule σ0.seat.profile d next marks xs) where
-  abbrev f : Profile
-  f = σ0.seat.profile
-
   -- no page is offered any more
   pub none_offered : {σ1 : Standing} (next' : ℕ) → FindsOffered d next σ σ1 next' None → SearchesOffered rule d σ0 σ1 marks None
   none_offered next' find =
-      let pages : σ.seat.profile.pages ≡ f.pages = ap (λ (s : Seat). s.profile.pages) adds.seat_is in
-      let s : Searching rule f d (f.pages + 1) marks (find.steps ++ xs) = zeros_searching rule f d next marks (f.pages + 1) find.steps xs (reads_vain find.steps (looks_read find.steps (scans_look find.steps find.scans))) goes.searching
+      let pages : σ.seat.profile.pages ≡ σ0.seat.profile.pages = ap (λ (s : Seat). s.profile.pages) adds.seat_is in
+      let s : Searching rule σ0.seat.profile d (σ0.seat.profile.pages + 1) marks (find.steps ++ xs) = zeros_searching rule σ0.seat.profile d next marks (σ0.seat.profile.pages + 1) find.steps xs (reads_vain find.steps (looks_read find.steps (scans_look find.steps find.scans))) goes.searching
       (λ p low high. zero_before d p find.steps xs (goes.searching.untouched p).right (find.outcome.1 p low (omega (arith, high, pages)))) in
       record { steps = find.steps ++ xs; adds = adds_call {D = Anything} adds find.adds (λ v l stood met. tt); searches = s.searches; outcome = s }
 
@@ -197,7 +191,7 @@ module _ {F : Type 0} {rule : Rule F} {σ0 σ : Standing} (d : Directory) (next 
     first = subst (λ (s : Seat). IsFirstOffered s.profile d next find.steps page) adds.seat_is find.outcome.1
 
     at_page : Searching rule σ0.seat.profile d page marks (find.steps ++ xs)
-    at_page = zeros_searching rule f d next marks page find.steps xs vain goes.searching (λ p low high. zero_before d p find.steps xs (goes.searching.untouched p).right (first.lower p low high))
+    at_page = zeros_searching rule σ0.seat.profile d next marks page find.steps xs vain goes.searching (λ p low high. zero_before d p find.steps xs (goes.searching.untouched p).right (first.lower p low high))
 
     rest_at : (p : ℕ) → page ≤ p → is_marked marks p ≡ false
     rest_at p low = let from = first.from_next in goes.rest p (omega (arith, from, low))
@@ -209,7 +203,7 @@ module _ {F : Type 0} {rule : Rule F} {σ0 σ : Standing} (d : Directory) (next 
     deed_at v = subst (KnowsDeed page d) (sym (append_assoc find.steps xs v)) (first.deed (xs ++ v))
 
     lacked : (v : View) → MaySearch d v → Agreed σ0.seat.profile v (find.steps ++ xs) → has_right v page ≡ false
-    lacked v met agreed = sym ((goes.searching.still.from v met (agreed_later f v find.steps xs agreed)).right page) ∙ first.lacks (xs ++ v) (agreed_first f v find.steps xs agreed)
+    lacked v met agreed = sym ((goes.searching.still.from v met (agreed_later σ0.seat.profile v find.steps xs agreed)).right page) ∙ first.lacks (xs ++ v) (agreed_first σ0.seat.profile v find.steps xs agreed)
 
     found_adds : Adds σ0 σ1 (λ v l. MaySearch d v) (find.steps ++ xs)
     found_adds = adds_call {D = Anything} adds find.adds (λ v l stood met. tt)
@@ -227,7 +221,7 @@ module _ {F : Type 0} {rule : Rule F} {σ0 σ : Standing} (d : Directory) (next 
       -- another actor was first
       pub lost_goes : has_bit a (page % 64) ≡ false → GoesOn rule σ0.seat.profile d (page + 1) marks (made (TakeRight page d) a ∷ (find.steps ++ xs))
       lost_goes bit = record {
-        searching = zeros_searching rule f d page marks (page + 1) (m ∷ []) ws (claim_vain page d a bit, tt) at_page
+        searching = zeros_searching rule σ0.seat.profile d page marks (page + 1) (m ∷ []) ws (claim_vain page d a bit, tt) at_page
             (λ p low high. let same : page ≡ p = omega (arith, low, high) in inl (subst (λ q. ReadsEligible d q (TakeRight page d) × (has_bit a (q % 64) ≡ false) × (has_right (find.steps ++ xs) q ≡ false)) same (ReadsEligible.Claims, bit, (at_page.untouched page).right)));
         rest = λ p low. rest_at p (omega (arith, low));
       }
@@ -237,7 +231,7 @@ module _ {F : Type 0} {rule : Rule F} {σ0 σ : Standing} (d : Directory) (next 
         gets = GetsRight.Claims d a bit
 
         got : Leads σ0.seat.profile (MaySearch d) (IsReady page d) (made (TakeRight page d) a ∷ (find.steps ++ xs))
-        got = ready f d page m ws gets (λ v met. met.clear) at_page.still (λ v agreed. knows_still f d page (m ∷ []) (ws ++ v) (agreed.0, tt) (deed_at v))
+        got = ready σ0.seat.profile d page m ws gets (λ v met. met.clear) at_page.still (λ v agreed. knows_still σ0.seat.profile d page (m ∷ []) (ws ++ v) (agreed.0, tt) (deed_at v))
 
         pub serve_can : CanCall σ0 (λ v l. MaySearch d v) → CanCall σ2 (λ v l. MayServe page d v)
         serve_can can = can_call {C = λ v l. MaySearch d v} claim_adds can (λ v l stood met. (got.from v met (claim_adds.agreed v l stood met)).may)
@@ -253,13 +247,13 @@ module _ {F : Type 0} {rule : Rule F} {σ0 σ : Standing} (d : Directory) (next 
           found_there marks' found serve = let s = at_page in record {
             steps = serve.steps ++ (m ∷ ws);
             adds = serve_adds (Some found) serve;
-            searches = served_search page serve.steps (m ∷ ws) serve.serves.only (inl gets) (got_search f d page m ws gets s.searches);
-            outcome = from_offered rule f d page marks m ws serve.steps gets (λ k e. refl) serve.serves.only.on got s found (serve_at (Some found) serve) first.of_region
+            searches = served_search page serve.steps (m ∷ ws) serve.serves.only (inl gets) (got_search σ0.seat.profile d page m ws gets s.searches);
+            outcome = from_offered rule σ0.seat.profile d page marks m ws serve.steps gets (λ k e. refl) serve.serves.only.on got s found (serve_at (Some found) serve) first.of_region
                 (offered_before d page find.steps xs vain (goes.searching.untouched page).right (goes.searching.lacked page (rest_at page (omega arith))) first.one);
           }
 
           pub left_goes : (marks' : List ℕ) → ((p : ℕ) → is_marked marks' p ≡ ((page == p) || is_marked marks p)) → (serve : ServesPage rule page d σ2 σ3 None) → GoesOn rule σ0.seat.profile d (page + 1) marks' (serve.steps ++ (made (TakeRight page d) a ∷ (find.steps ++ xs)))
-          left_goes marks' more serve = goes_on rule f d page marks m ws serve.steps gets (λ k e. refl) serve.serves.only.on got at_page marks' more (serve_at None serve) lacked rest_at
+          left_goes marks' more serve = goes_on rule σ0.seat.profile d page marks m ws serve.steps gets (λ k e. refl) serve.serves.only.on got at_page marks' more (serve_at None serve) lacked rest_at
 
 pub deed_before : (p : ℕ) (ys xs : List Made) → Once (DeedHere p) ys → Once (DeedHere p) (ys ++ xs)
 deed_before p ys xs h = once_earlier (DeedHere p) (DeedHere p) ys xs (λ m before z. z) h
