@@ -1,5 +1,5 @@
 -- The answer of a search: an offered page serves, a page does whose deed was made, or the request is refused; and what it says of the states at entry and exit.
-use Rattle.std.proofs.Common.{◌≡◌, ℕ, ◌+◌, ◌<◌, ◌≤◌, true, false, List, [], ◌∷◌, ◌++◌, refl, sym, ◌∙◌, subst, arith, ◌⊎◌, inl, inr, append_assoc, true≢false, ◌≢◌, ◌==◌, if◌then◌else◌, ap, Result, Ok, Err, MatchResult, Bool, length, length-append, suc, Some, None}
+use Rattle.std.proofs.Common.{◌≡◌, ℕ, ◌+◌, ◌<◌, ◌≤◌, true, false, List, [], ◌∷◌, ◌++◌, refl, sym, ◌∙◌, subst, arith, ◌⊎◌, inl, inr, append_assoc, true≢false, ◌≢◌, ◌==◌, if◌then◌else◌, ap, Result, Ok, Err, MatchResult, Bool, length, length-append, suc, Some, None, Option}
 use Rattle.std.proofs.lemmas.Bool.{cases_Bool, cases_lt, eq-eqb, ne_eqb}
 use Rattle.pas_profile.specs.declared.directory.Directory.{Directory}
 use Rattle.pas_profile.specs.declared.profile.Profile.{Profile}
@@ -252,8 +252,12 @@ pub record Ends {F : Type 0} (rule : Rule F) (d : Directory) (desk desk' : Stand
   pub searches : AreSearch steps
   pub outcome : MatchResult answer (IsServed rule desk.seat.profile d steps) (IsRefused rule desk.seat.profile d steps)
 
-pub ends_offered : {F : Type 0} {rule : Rule F} {σ σ1 : Standing} (d : Directory) (marks : List ℕ) (served : Served F) → SearchesOffered rule d σ σ1 marks (Some served) → Ends rule d σ σ1 (Ok served)
-ends_offered d marks served offered = record { steps = offered.steps; adds = offered.adds; searches = offered.searches; outcome = offered_serves served offered.outcome }
+at_directory : {F : Type 0} {rule : Rule F} {σ σ1 : Standing} {d' : Directory} (d : Directory) → d' ≡ d → (marks : List ℕ) (found : Option (Served F)) → SearchesOffered rule d' σ σ1 marks found → SearchesOffered rule d σ σ1 marks found
+at_directory {rule = rule} {σ = σ} {σ1 = σ1} d same marks found = subst (λ x. SearchesOffered rule x σ σ1 marks found) same
+
+pub ends_offered : {F : Type 0} {rule : Rule F} {σ σ1 : Standing} {d' : Directory} (d : Directory) → d' ≡ d → (marks : List ℕ) (served : Served F) → SearchesOffered rule d' σ σ1 marks (Some served) → Ends rule d σ σ1 (Ok served)
+ends_offered {F} {rule} {σ} {σ1} d same marks served found = let offered : SearchesOffered rule d σ σ1 marks (Some served) = at_directory d same marks (Some served) found in
+    record { steps = offered.steps; adds = offered.adds; searches = offered.searches; outcome = offered_serves served offered.outcome }
 
 -- ---- by a deed
 module _ {F : Type 0} (rule : Rule F) (f : Profile) (d : Directory) (marks : List ℕ) (os steps : List Made) (s : Searching rule f d (f.pages + 1) marks os) (served : Served F) (bare : ServesBare rule f d steps served) where
@@ -300,7 +304,10 @@ may_can can = record { view = can.view; whole = can.whole; stood = can.stood; me
 profile_kept : {σ σ' : Standing} {C : View → Whole → Type 0} {xs : List Made} → Adds σ σ' C xs → σ'.seat.profile ≡ σ.seat.profile
 profile_kept adds = ap (λ (s : Seat). s.profile) adds.seat_is
 
-module _ {F : Type 0} {rule : Rule F} {σ σ1 : Standing} (d : Directory) (marks : List ℕ) (offered : SearchesOffered rule d σ σ1 marks None) where
+module _ {F : Type 0} {rule : Rule F} {σ σ1 : Standing} {d' : Directory} (d : Directory) (same : d' ≡ d) (marks : List ℕ) (found : SearchesOffered rule d' σ σ1 marks None) where
+  offered : SearchesOffered rule d σ σ1 marks None
+  offered = at_directory d same marks None found
+
   abbrev f : Profile
   f = σ.seat.profile
 
