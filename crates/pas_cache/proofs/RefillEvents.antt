@@ -24,7 +24,7 @@ use Rattle.pas_search.specs.Serving.{Rule}
 use Rattle.pas_search.specs.Searches.{MaySearch, DeedMadeHere, IsRefused}
 use Rattle.pas_segregated.specs.Refills.{GivesSlots}
 use Rattle.pas_segregated.specs.declared.slots.Slots.{Slots}
-use Rattle.pas_search.proofs.KindsAndEvents.{events_quiet}
+use Rattle.pas_search.proofs.ForBackEnds.{events_quiet}
 use Rattle.pas_segregated.specs.Takes.{exclusive}
 use Rattle.pas_segregated.specs.Stops.{class_directory}
 use Rattle.pas_steps.specs.Unknown.{unknown_pages}

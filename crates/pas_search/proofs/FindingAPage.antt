@@ -1,37 +1,249 @@
--- The ends of a search: an offered page serves, a page does whose deed was made, or the request is refused.
-use Rattle.std.proofs.Common.{◌≡◌, ℕ, ◌+◌, ◌≤◌, Bool, true, List, ◌∷◌, ◌++◌, length, length-append, refl, ap, sym, ◌∙◌, subst, arith, ◌⊎◌, inl, inr, append_assoc, suc, Some, None, Result, Ok, Err, MatchResult}
-use Rattle.pas_profile.specs.Profiles.{IsValid, IsDirectoryOf}
+-- The answer of a search: an offered page serves, a page does whose deed was made, or the request is refused; and what it says of the states at entry and exit.
+use Rattle.std.proofs.Common.{◌≡◌, ℕ, ◌+◌, ◌<◌, ◌≤◌, true, false, List, [], ◌∷◌, ◌++◌, refl, sym, ◌∙◌, subst, arith, ◌⊎◌, inl, inr, append_assoc, true≢false, ◌≢◌, ◌==◌, if◌then◌else◌, ap, Result, Ok, Err, MatchResult, Bool, length, length-append, suc, Some, None, Option}
+use Rattle.std.proofs.lemmas.Bool.{cases_Bool, cases_lt, eq-eqb, ne_eqb}
 use Rattle.pas_profile.specs.declared.directory.Directory.{Directory}
-use Rattle.pas_profile.specs.declared.event.NoRoom.{NoRoom}
 use Rattle.pas_profile.specs.declared.profile.Profile.{Profile}
-use Rattle.pas_steps.specs.Agreement.{Agreed}
-use Rattle.pas_steps.specs.Clear.{IsClear}
-use Rattle.pas_steps.specs.Desks.{Seat, Standing, Anything, made, Adds, CanCall}
-use Rattle.pas_steps.specs.Events.{events_of, events_by}
-use Rattle.pas_steps.specs.Evidence.{ReadsDeed, NoDeedHere, GetsRight, AllDeeds}
-use Rattle.pas_steps.specs.Lists.{Whole, part, Legal}
-use Rattle.pas_steps.specs.Unknown.{HasRoom}
-use Rattle.pas_steps.specs.Views.{View}
+use Rattle.pas_profile.specs.declared.event.NoRoom.{NoRoom}
+use Rattle.pas_profile.specs.declared.event.NoRoom.TheVariants.{NoSpace, Held}
 use Rattle.pas_steps.specs.declared.step.Made.{Made}
+use Rattle.pas_steps.specs.Views.{has_right, KnowsDeed, View, deed_after, known_deed}
+use Rattle.pas_steps.specs.Past.{Once, Always, Since}
+use Rattle.pas_steps.specs.Frames.{OnlyScans}
+use Rattle.pas_steps.proofs.Kept.{scans_look, looks_read, deed_stays}
+use Rattle.pas_steps.proofs.Past.{once_later, once_earlier, once_map}
+use Rattle.pas_steps.specs.Evidence.{UnfitHere, ZeroHere, DeedHere, ParkedHere, ParkedLater, LeftHere, LacksAfter, MissingHere, HeldHere, Accounted, AllDeeds, ReadsDeed, KeptHere, Searched, NoDeedHere, GetsRight}
+use Rattle.pas_scan.specs.Marks.{is_marked}
+use Rattle.pas_scan.specs.Scan.{IsMember, AllParked, IsVerdict, Judges}
+use Rattle.pas_search.specs.Serving.{Rule, IsAntitone}
+use Rattle.pas_search.specs.Searches.{Searching, AllAccounted, IsRefusal, IsRefused, MaySearch, DeedMadeHere, IsHeld, IsServed, SearchRoom, BareRoom, FromOffered, ByDeed, Finds, SearchesOffered, ServesBare, SearchesBare, Searches}
+use Rattle.pas_search.proofs.SoFar.{no_deeds, served_search, deeds_serves, AreVain, reads_vain, vain_lacks, vain_search, searched, vain_searching}
+use Rattle.pas_search.proofs.ForBackEnds.{events_quiet, room_kept}
+use Rattle.pas_steps.proofs.Frames.{right_own, events_append}
+use Rattle.pas_profile.specs.Directories.{deed_word_of, number_of}
+use Rattle.pas_profile.specs.Profiles.{IsValid, IsPage, IsDirectoryOf}
+use Rattle.pas_profile.specs.declared.word.Word.TheVariants as Word
+use Rattle.pas_profile.proofs.Codecs.{deed_word_of-positive}
+use Rattle.pas_steps.specs.Effects.{target}
+use Rattle.pas_steps.specs.Agreement.{Agreed}
+use Rattle.pas_steps.specs.Lists.{Whole, part, word_after, Legal}
+use Rattle.pas_steps.specs.Desks.{triples, Seat, Standing, Anything, made, Adds, CanCall}
+use Rattle.pas_steps.specs.declared.step.Step.{Step}
+use Rattle.pas_steps.proofs.Parts.{part_of_own}
+use Rattle.pas_core.proofs.DeedWords.{known_is}
+use Rattle.pas_core.proofs.Spots.{is_offered, is_parked, spotted}
+use Rattle.pas_search.specs.Kinds.{searching, AreSearch, IsDeedOrBack, deeds_made}
+use Rattle.pas_search.specs.Telling.{IsOfferedFit, HasNoFit, IsLowestOffered, IsLowestBare, IsInHands, IsTrueReason, IsTold}
+use Rattle.pas_search.specs.declared.serving.Served.{Served}
+use Rattle.pas_core.proofs.OneActorRights.{spot_same, zero_told, one_told, parked_told, entry_lacks, legal_before, offered_deed, offered_lacks, not_in_hands}
+use Rattle.pas_core.proofs.OneActorGrains.{LendsNone, unfit_entry, unfit_exit, fit_entry, deed_quiet, deed_exit, deed_none, lends_none}
+use Rattle.pas_steps.specs.Clear.{IsClear}
+use Rattle.pas_steps.specs.Events.{events_of, events_by}
+use Rattle.pas_steps.specs.Unknown.{HasRoom}
+use Rattle.pas_steps.proofs.Unknown.{all_known}
 use Rattle.pas_steps.specs.declared.step.Step.TheVariants.{Deed}
 use Rattle.pas_steps.proofs.Adding.{adds_call, can_call, legal_after}
 use Rattle.pas_steps.proofs.Calls.{still_clear}
-use Rattle.pas_steps.proofs.Frames.{events_append}
-use Rattle.pas_steps.proofs.Kept.{deed_stays, scans_look, looks_read}
-use Rattle.pas_steps.proofs.Past.{once_later}
-use Rattle.pas_scan.specs.Scan.{Judges, IsVerdict}
-use Rattle.pas_search.specs.Kinds.{searching, AreSearch, IsDeedOrBack, deeds_made}
-use Rattle.pas_search.specs.Serving.{Rule, IsAntitone}
-use Rattle.pas_search.specs.Searches.{MaySearch, SearchRoom, BareRoom, FromOffered, DeedMadeHere, ByDeed, Finds, IsServed, IsRefused, Searching, SearchesOffered, ServesBare, SearchesBare, Searches}
-use Rattle.pas_search.specs.declared.serving.Served.{Served}
-use Rattle.pas_search.proofs.KindsAndEvents.{served_search, events_quiet, room_kept, deeds_serves, no_deeds}
-use Rattle.pas_search.proofs.OneStep.{reads_vain, vain_search}
-use Rattle.pas_search.proofs.SoFar.{searched, vain_searching}
-use Rattle.pas_search.proofs.GotPage.{ready, got_search, finds}
-use Rattle.pas_search.proofs.BarePages.{deed_before, unknown, deed_known}
-use Rattle.pas_search.proofs.Refusals.{refused}
-use Rattle.pas_core.proofs.OneActorGrains.{lends_none}
-use Rattle.pas_search.proofs.WholeState.{all_told}
+use Rattle.pas_search.proofs.PagesThatServe.{ready, got_search, finds, deed_before, unknown, deed_known}
+
+-- a page that didn't fit was got, and left
+pub unfit_left : {F : Type 0} (rule : Rule F) (p : ℕ) (xs : List Made) → Once (UnfitHere rule.no_fit p) xs → Once (LeftHere p) xs
+unfit_left rule p xs h = once_map (UnfitHere rule.no_fit p) (LeftHere p) xs (λ m before u. (u.left, u.kept, u.got)) h
+
+pub lacks_now : (p : ℕ) (xs : List Made) → Always (LacksAfter p) xs → has_right xs p ≡ false
+lacks_now p [] h = refl
+lacks_now p (m ∷ more) h = h.0
+
+-- so the call had its right
+pub unfit_lacks : {F : Type 0} (rule : Rule F) (p : ℕ) (xs : List Made) → Once (UnfitHere rule.no_fit p) xs → Always (LacksAfter p) xs → ⊥
+unfit_lacks rule p [] h lacks = h
+unfit_lacks rule p (m ∷ more) (inl u) lacks = true≢false (sym u.kept ∙ lacks_now p more lacks.1)
+unfit_lacks rule p (m ∷ more) (inr h) lacks = unfit_lacks rule p more h lacks.1
+
+-- a page that was read as 0 and whose right the call never had
+missing : (d : Directory) (p : ℕ) (xs : List Made) → Once (ZeroHere d p) xs → Always (LacksAfter p) xs → Since (MissingHere d p) (LacksAfter p) xs
+missing d p [] h lacks = absurd h
+missing d p (m ∷ more) (inl z) lacks = inl (inl z, lacks.0)
+missing d p (m ∷ more) (inr h) lacks = inr (lacks.0, missing d p more h lacks.1)
+
+held_here : (d : Directory) (p : ℕ) (ys xs : List Made) → AreVain ys → has_right xs p ≡ false → Once (ZeroHere d p) xs → Always (LacksAfter p) xs → Once (ParkedHere false p) ys → Once (HeldHere d p) (ys ++ xs)
+held_here d p [] xs vain none zero_read lacks h = absurd h
+held_here d p (m ∷ more) xs vain none zero_read lacks (inl k) =
+    inl ((k.0, k.1, right_own p more xs none ∙ k.2), missing d p (more ++ xs) (once_later (ZeroHere d p) more xs zero_read) (vain_lacks p more xs vain.1 none lacks))
+held_here d p (m ∷ more) xs vain none zero_read lacks (inr h) = inr (held_here d p more xs vain.1 none zero_read lacks h)
+
+parked_later : (d : Directory) (p : ℕ) (ys xs : List Made) → has_right xs p ≡ false → Once (ZeroHere d p) xs → Once (ParkedHere true p) ys → Once (ParkedLater d p) (ys ++ xs)
+parked_later d p ys xs none zero_read = once_earlier (ParkedHere true p) (ParkedLater d p) ys xs (λ m before k. ((k.0, k.1, right_own p before xs none ∙ k.2), inl (once_later (ZeroHere d p) before xs zero_read)))
+
+module _ {F : Type 0} (rule : Rule F) (f : Profile) (d : Directory) (marks : List ℕ) (ys xs : List Made) (scans : OnlyScans ys) (s : Searching rule f d (f.pages + 1) marks xs) where
+  vain : AreVain ys
+  vain = reads_vain ys (looks_read ys (scans_look ys scans))
+
+  account : (p : ℕ) → 1 ≤ p → p < f.pages + 1 → (is_marked marks p ≡ true) ⊎ Once (ParkedHere true p) ys → Accounted d p (ys ++ xs)
+  account p low high (inl m) = inl (once_later (LeftHere p) ys xs (unfit_left rule p xs (s.marked p m)))
+  account p low high (inr k) = elim (searched rule f d (f.pages + 1) marks xs s p low high) [
+    | inl u ↦ inl (once_later (LeftHere p) ys xs (unfit_left rule p xs u))
+    | inr z ↦ inr (parked_later d p ys xs (s.untouched p).right z.1 k)
+  ]
+
+  all_accounted : (end : ℕ) → end ≤ f.pages + 1 → AllParked f marks d end ys → AllAccounted f d end (ys ++ xs)
+  all_accounted end limit all v agreed p low high is = account p low (omega (arith, limit, high)) (elim (cases_Bool (is_marked marks p)) [
+    | inl m ↦ inl m
+    | inr m ↦ inr (all (xs ++ v) p high (record { of_region = (low, omega (arith, limit, high)); of_directory = subst (KnowsDeed p d) (append_assoc ys xs v) is; unmarked = m }))
+  ])
+
+  refusal : (answer : NoRoom) → IsVerdict f marks d ys answer → IsRefusal f d (ys ++ xs) answer
+  refusal NoSpace all = all_accounted (f.pages + 1) (omega arith) all
+  refusal (Held page) h =
+      let m : IsMember f marks d (ys ++ []) page = h.0 [] in let is = m.of_region in record {
+        page_of = is;
+        of_directory = λ v agreed. subst (KnowsDeed page d) (sym (append_assoc ys xs v)) (h.0 (xs ++ v)).of_directory;
+        held = held_here d page ys xs vain (s.untouched page).right (s.zeros page is.0 (omega (arith, is.1)) m.unmarked) (s.lacked page m.unmarked) h.1;
+        lacked = vain_lacks page ys xs vain (s.untouched page).right (s.lacked page m.unmarked);
+        lower = all_accounted page (omega (arith, is.1)) h.2;
+      }
+
+  pub refused : (answer : NoRoom) → IsVerdict f marks d ys answer → AllDeeds (f.pages + 1) xs → IsRefused rule f d (ys ++ xs) answer
+  refused answer verdict all = let now : Searching rule f d (f.pages + 1) marks (ys ++ xs) = vain_searching rule f d (f.pages + 1) marks ys xs vain s in record {
+    still = now.still;
+    quiet = now.quiet;
+    no_deed = no_deeds (ys ++ xs) now.quiet;
+    searched = searched rule f d (f.pages + 1) marks (ys ++ xs) now;
+    deeds = λ p low high. once_later (DeedHere p) ys xs (all p low high);
+    answer = refusal answer verdict;
+  }
+
+not_below : (n m : ℕ) → (m < n → ⊥) → n ≤ m
+not_below n m h = elim (cases_lt m n) [ inl lt ↦ absurd (h lt) | inr ge ↦ ge ]
+
+-- ---- a deed word that was read as not 0 is known
+read_known : (p : ℕ) (s : Step) (a : ℕ) (known : ℕ) → ReadsDeed p s → a ≢ 0 → deed_after s a p known ≢ 0
+read_known p s a known ReadsDeed.Looks some = λ z. some (sym (ap (λ t. if t then a else known) (eq-eqb p p refl)) ∙ z)
+read_known p s a known (ReadsDeed.Deeds d) some = λ z. some (sym (ap (λ t. if t then (if a == 0 then deed_word_of d else a) else known) (eq-eqb p p refl) ∙ ap (λ t. if t then deed_word_of d else a) (ne_eqb a 0 some)) ∙ z)
+
+deed_read : (f : Profile) (v : View) (p : ℕ) (xs : List Made) → Agreed f v xs → Once (DeedHere p) xs → known_deed (xs ++ v) p ≢ 0
+deed_read f v p [] agreed h = absurd h
+deed_read f v p (m ∷ xs) agreed (inl z) = read_known p m.step m.answer (known_deed (xs ++ v) p) z.0 z.1
+deed_read f v p (m ∷ xs) agreed (inr h) =
+    let some = deed_read f v p xs agreed.1 h in λ e. some (sym (deed_stays f (m ∷ []) (xs ++ v) p (agreed.0, tt) some) ∙ e)
+
+-- ---- a page that was searched in no_fit_there was no fit at entry
+no_fit_there : {F : Type 0} (rule : Rule F) (f : Profile) (k : ℕ) (l : Whole) (d : Directory) (end : ℕ) (xs : List Made) → IsAntitone rule.no_fit → Legal f (triples k xs ++ l) → LendsNone xs → Searched rule.no_fit d end xs → (page : ℕ) → page < end → IsOfferedFit rule f d l page → ⊥
+no_fit_there rule f k l d end xs fewer legal searches searched page high fit =
+    let first : Legal f l = legal_before f k xs l legal in
+    elim (searched page fit.of_region.0 high) [
+      | inl u ↦ fit.fits (unfit_entry rule.no_fit f k l page xs fewer legal searches u)
+      | inr z ↦ true≢false (sym fit.offered ∙ (spotted f l first page).eligible (number_of d) ∙ zero_told f k l d page xs legal (offered_lacks f k l (number_of d) page first fit.offered) z.0 z.1)
+    ]
+
+-- ---- by a deed
+by_deed : {F : Type 0} (rule : Rule F) (f : Profile) (k : ℕ) (l : Whole) (d : Directory) (page : ℕ) (xs : List Made) → IsAntitone rule.no_fit → IsPage f page → Legal f (triples k xs ++ l) → LendsNone xs → Once (DeedMadeHere rule f d page) xs → IsLowestBare rule f d l page
+by_deed rule f k l d page [] fewer is legal searches h = absurd h
+by_deed rule f k l d page (m ∷ xs) fewer is legal searches (inr h) = by_deed rule f k l d page xs fewer is legal.1 searches.1 h
+by_deed rule f k l d page (m ∷ xs) fewer is legal searches (inl h) = record {
+  this = record { of_region = is; no_deed = deed_none k l page xs (sym (legal.0.answer_is ∙ ap (λ s. word_after (triples k xs ++ l) (target s)) h.deed) ∙ h.made) };
+  none_offered = λ other fit. no_fit_there rule f k l d (f.pages + 1) xs fewer legal.1 searches.1 h.searched other (let high = fit.of_region.1 in omega (arith, high)) fit;
+  lowest = λ other bare. not_below page other (λ lt. deed_exit f k l other xs legal.1 (h.lower other bare.of_region.0 lt) (deed_quiet f k l other xs legal.1 h.quiet ∙ bare.no_deed));
+}
+
+module _ {F : Type 0} (rule : Rule F) (f : Profile) (k : ℕ) (l : Whole) (d : Directory) (xs : List Made) (valid : IsValid f) (of : IsDirectoryOf f d) (fewer : IsAntitone rule.no_fit)
+    (legal : Legal f (triples k xs ++ l)) (searches : LendsNone xs) (may : MaySearch d (part k l)) (agreed : Agreed f (part k l) xs) where
+  abbrev w : Whole
+  w = triples k xs ++ l
+
+  first : Legal f l
+  first = legal_before f k xs l legal
+
+  served_told : (served : Served F) → IsServed rule f d xs served → IsLowestOffered rule f d l served.page ⊎ IsLowestBare rule f d l served.page
+  served_told served is = let p : ℕ = served.page in elim is.choice [
+    | inl from ↦
+        let read = one_told f k l d p xs legal from.offered in
+        let deed : word_after (triples k read.0 ++ l) (Word.Deed p) ≡ deed_word_of d = offered_deed f (triples k read.0 ++ l) d p of read.1 read.3 in
+        let lacks : has_right (part k l) p ≡ false = entry_lacks f k l d p read.0 valid first (may.rights p) deed in
+        inl (record {
+          this = record {
+            of_region = is.page;
+            offered = (spotted f l first p).eligible (number_of d) ∙ ap (is_offered (number_of d)) (sym (spot_same f k l p read.0 read.1 lacks read.2)) ∙ sym ((spotted f (triples k read.0 ++ l) read.1 p).eligible (number_of d)) ∙ read.3;
+            fits = fit_entry rule.no_fit f k l p is.shows.readings xs fewer valid legal searches is.shows.fits is.shows.read (is.shows.held.from (part k l) may agreed);
+          };
+          lowest = λ other fit. not_below p other (λ lt. no_fit_there rule f k l d p xs fewer legal searches from.searched other lt fit);
+        })
+    | inr deed ↦ inr (by_deed rule f k l d p xs fewer is.page legal searches deed.made_here)
+  ]
+
+  -- ---- a refusal
+  entry_none : (room : NoRoom) → IsRefused rule f d xs room → HasNoFit rule f d l
+  entry_none room is = record {
+    offered = λ page fit. no_fit_there rule f k l d (f.pages + 1) xs fewer legal searches is.searched page (let high = fit.of_region.1 in omega (arith, high)) fit;
+    bare = λ page bare. deed_exit f k l page xs legal (is.deeds page bare.of_region.0 (let high = bare.of_region.1 in omega (arith, high))) (deed_quiet f k l page xs legal is.quiet ∙ bare.no_deed);
+  }
+
+  -- the right of a page that the actor hasn't at exit it hadn't at entry
+  lacks_back : (room : NoRoom) → IsRefused rule f d xs room → (p : ℕ) → has_right (part k w) p ≡ false → has_right (part k l) p ≡ false
+  lacks_back room is p lacks = sym ((is.still.from (part k l) may agreed).right p) ∙ ap (λ v. has_right v p) (sym (part_of_own k xs l)) ∙ lacks
+
+  exit_none : (room : NoRoom) → IsRefused rule f d xs room → HasNoFit rule f d w
+  exit_none room is = record {
+    offered = λ page fit. let high = fit.of_region.1 in elim (is.searched page fit.of_region.0 (omega (arith, high))) [
+      | inl u ↦ fit.fits (unfit_exit rule.no_fit f k l page xs fewer valid legal searches (λ g. (is.still.from (part k l) may agreed).held g) u)
+      | inr z ↦
+          let lacks : has_right (part k l) page ≡ false = lacks_back room is page (offered_lacks f k w (number_of d) page legal fit.offered) in
+          true≢false (sym fit.offered ∙ (spotted f w legal page).eligible (number_of d) ∙ ap (is_offered (number_of d)) (spot_same f k l page xs legal lacks z.0) ∙ zero_told f k l d page xs legal lacks z.0 z.1)
+    ];
+    bare = λ page bare. deed_exit f k l page xs legal (is.deeds page bare.of_region.0 (let high = bare.of_region.1 in omega (arith, high))) bare.no_deed;
+  }
+
+  -- what the actor knows of the deed is the word at exit
+  known_exit : (p : ℕ) → known_deed (xs ++ part k l) p ≢ 0 → known_deed (xs ++ part k l) p ≡ word_after w (Word.Deed p)
+  known_exit p some =
+      let same : known_deed (part k w) p ≡ known_deed (xs ++ part k l) p = ap (λ v. known_deed v p) (part_of_own k xs l) in
+      sym same ∙ known_is (known_deed (part k w) p) (word_after w (Word.Deed p)) ((spotted f w legal p).known k) (λ z. some (sym same ∙ z))
+
+  accounted_out : (room : NoRoom) → IsRefused rule f d xs room → (p : ℕ) → (KnowsDeed p d (xs ++ part k l) → Accounted d p xs) → IsInHands f d w p → ⊥
+  accounted_out room is p account hands =
+      let low = hands.of_region.0 in let high = hands.of_region.1 in
+      let none : has_right (part k l) p ≡ false = entry_lacks f k l d p xs valid first (may.rights p) hands.of_directory in
+      let lacks : has_right (xs ++ part k l) p ≡ false = (is.still.from (part k l) may agreed).right p ∙ none in
+      let some : known_deed (xs ++ part k l) p ≢ 0 = deed_read f (part k l) p xs agreed (is.deeds p low (omega (arith, high))) in
+      elim (account (known_exit p some ∙ hands.of_directory)) [
+        | inl left ↦ not_in_hands f k l d p xs of legal lacks (once_map (LeftHere p) (KeptHere p) xs (λ m before h. h.1) left) hands.of_directory hands.not_offered hands.not_parked
+        | inr parked ↦ elim (is.searched p low (omega (arith, high))) [
+          | inl u ↦ not_in_hands f k l d p xs of legal lacks (once_map (UnfitHere rule.no_fit p) (KeptHere p) xs (λ m before h. h.kept) u) hands.of_directory hands.not_offered hands.not_parked
+          | inr z ↦ true≢false (sym ((spotted f w legal p).parked ∙ ap is_parked (spot_same f k l p xs legal none z.0)
+              ∙ parked_told f k l p true xs legal none z.0 (once_map (ParkedLater d p) (ParkedHere true p) xs (λ m before h. h.0) parked)) ∙ hands.not_parked)
+        ]
+      ]
+
+  held_in_hands : (room : NoRoom) → IsRefused rule f d xs room → (p : ℕ) → IsHeld f d xs p → IsInHands f d w p
+  held_in_hands room is p held =
+      let known : known_deed (xs ++ part k l) p ≡ deed_word_of d = held.of_directory (part k l) agreed in
+      let deed : word_after w (Word.Deed p) ≡ deed_word_of d = sym (known_exit p (λ z. deed_word_of-positive d (sym known ∙ z))) ∙ known in
+      let none : has_right (part k l) p ≡ false = entry_lacks f k l d p xs valid first (may.rights p) deed in
+      let same = spot_same f k l p xs legal none held.lacked in
+      let high = held.page_of.1 in
+      record {
+        of_region = held.page_of;
+        of_directory = deed;
+        not_offered = (spotted f w legal p).eligible (number_of d) ∙ ap (is_offered (number_of d)) same ∙ elim (is.searched p held.page_of.0 (omega (arith, high))) [
+          | inl u ↦ absurd (unfit_lacks rule p xs u held.lacked)
+          | inr z ↦ zero_told f k l d p xs legal none held.lacked z.1
+        ];
+        not_parked = (spotted f w legal p).parked ∙ ap is_parked same ∙ parked_told f k l p false xs legal none held.lacked (once_map (HeldHere d p) (ParkedHere false p) xs (λ m before h. h.0) held.held);
+      }
+
+  reason : (room : NoRoom) → IsRefused rule f d xs room → IsTrueReason f d w room
+  reason NoSpace is = λ page hands. accounted_out NoSpace is page (is.answer (part k l) agreed page hands.of_region.0 (let high = hands.of_region.1 in omega (arith, high))) hands
+  reason (Held p) is = (
+    held_in_hands (Held p) is p is.answer,
+    λ other lt hands. accounted_out (Held p) is other (is.answer.lower (part k l) agreed other hands.of_region.0 lt) hands,
+  )
+
+  pub all_told : (answer : Result (Served F) NoRoom) → MatchResult answer (IsServed rule f d xs) (IsRefused rule f d xs) → IsTold rule f d l w answer
+  all_told (Ok served) h = served_told served h
+  all_told (Err room) h = (entry_none room h, exit_none room h, reason room h)
+
+-- ---- an offered page serves
+offered_serves : {F : Type 0} {rule : Rule F} {f : Profile} {d : Directory} {steps : List Made} (served : Served F) → Finds rule f d (FromOffered rule d served.page) steps served → IsServed rule f d steps served
+offered_serves {rule = rule} {f = f} {d = d} served found = record { page = found.page; keeps = found.keeps; choice = inl found.choice; shows = found.shows; serves = found.serves; few = found.few; events = found.events }
 
 -- what a search promises of its steps
 pub record Ends {F : Type 0} (rule : Rule F) (d : Directory) (desk desk' : Standing) (answer : Result (Served F) NoRoom) : Type 0 where
@@ -40,60 +252,49 @@ pub record Ends {F : Type 0} (rule : Rule F) (d : Directory) (desk desk' : Stand
   pub searches : AreSearch steps
   pub outcome : MatchResult answer (IsServed rule desk.seat.profile d steps) (IsRefused rule desk.seat.profile d steps)
 
-finds_as : {F : Type 0} {rule : Rule F} {f : Profile} {d : Directory} {C : List Made → Type 0} {steps : List Made} {served : Served F} (D : List Made → Type 0) → (C steps → D steps) → Finds rule f d C steps served → Finds rule f d D steps served
-finds_as D more found = record { page = found.page; keeps = found.keeps; choice = more found.choice; shows = found.shows; serves = found.serves; few = found.few; events = found.events }
+at_directory : {F : Type 0} {rule : Rule F} {σ σ1 : Standing} {d' : Directory} (d : Directory) → d' ≡ d → (marks : List ℕ) (found : Option (Served F)) → SearchesOffered rule d' σ σ1 marks found → SearchesOffered rule d σ σ1 marks found
+at_directory {rule = rule} {σ = σ} {σ1 = σ1} d same marks found = subst (λ x. SearchesOffered rule x σ σ1 marks found) same
 
--- ---- an offered page serves
-pub ends_offered : {F : Type 0} {rule : Rule F} {σ σ1 : Standing} (d : Directory) (marks : List ℕ) (served : Served F) → SearchesOffered rule d σ σ1 marks (Some served) → Ends rule d σ σ1 (Ok served)
-ends_offered {rule = rule} {σ = σ} d marks served offered = record {
-  steps = offered.steps;
-  adds = offered.adds;
-  searches = offered.searches;
-  outcome = finds_as (λ call. FromOffered rule d served.page call ⊎ ByDeed rule σ.seat.profile d served.page call) (λ c. inl c) offered.outcome;
-}
+pub ends_offered : {F : Type 0} {rule : Rule F} {σ σ1 : Standing} {d' : Directory} (d : Directory) → d' ≡ d → (marks : List ℕ) (served : Served F) → SearchesOffered rule d' σ σ1 marks (Some served) → Ends rule d σ σ1 (Ok served)
+ends_offered {F} {rule} {σ} {σ1} d same marks served found = let offered : SearchesOffered rule d σ σ1 marks (Some served) = at_directory d same marks (Some served) found in
+    record { steps = offered.steps; adds = offered.adds; searches = offered.searches; outcome = offered_serves served offered.outcome }
 
 -- ---- by a deed
 module _ {F : Type 0} (rule : Rule F) (f : Profile) (d : Directory) (marks : List ℕ) (os steps : List Made) (s : Searching rule f d (f.pages + 1) marks os) (served : Served F) (bare : ServesBare rule f d steps served) where
-  abbrev p : ℕ
-  p = served.page
-
   abbrev m : Made
-  m = made (Deed p d) 0
+  m = made (Deed served.page d) 0
 
   abbrev ws : List Made
   ws = bare.before ++ os
-
-  abbrev zs : List Made
-  zs = bare.serve
 
   now : Searching rule f d (f.pages + 1) marks (bare.before ++ os)
   now = vain_searching rule f d (f.pages + 1) marks bare.before os (reads_vain bare.before bare.reads) s
 
   all_steps : steps ++ os ≡ bare.serve ++ (made (Deed served.page d) 0 ∷ (bare.before ++ os))
-  all_steps = ap (λ ys. ys ++ os) bare.steps_are ∙ append_assoc zs (m ∷ bare.before) os
+  all_steps = ap (λ ys. ys ++ os) bare.steps_are ∙ append_assoc bare.serve (m ∷ bare.before) os
 
   one_deed : deeds_made (bare.serve ++ (made (Deed served.page d) 0 ∷ (bare.before ++ os))) ≡ 1
-  one_deed = deeds_serves zs (m ∷ ws) bare.serves.only.kinds ∙ ap suc (no_deeds ws now.quiet)
+  one_deed = deeds_serves bare.serve (m ∷ ws) bare.serves.only.kinds ∙ ap suc (no_deeds ws now.quiet)
 
   deed_made : ByDeed rule f d served.page (bare.serve ++ (made (Deed served.page d) 0 ∷ (bare.before ++ os)))
   deed_made = record {
-    made_here = once_later (DeedMadeHere rule f d p) zs (m ∷ ws) (inl (record { deed = refl; made = refl; searched = searched rule f d (f.pages + 1) marks ws now; lower = λ q low high. deed_before q bare.before os (bare.lower q low high); quiet = now.quiet }));
+    made_here = once_later (DeedMadeHere rule f d served.page) bare.serve (m ∷ ws) (inl (record { deed = refl; made = refl; searched = searched rule f d (f.pages + 1) marks ws now; lower = λ q low high. deed_before q bare.before os (bare.lower q low high); quiet = now.quiet }));
     one_deed = one_deed;
   }
 
   pub deed_search : AreSearch (steps ++ os)
-  deed_search = subst AreSearch (sym all_steps) (served_search p zs (m ∷ ws) bare.serves.only (inl (GetsRight.Deeds d 0 refl)) (got_search f d p m ws (GetsRight.Deeds d 0 refl) now.searches))
+  deed_search = subst AreSearch (sym all_steps) (served_search served.page bare.serve (m ∷ ws) bare.serves.only (inl (GetsRight.Deeds d 0 refl)) (got_search f d served.page m ws (GetsRight.Deeds d 0 refl) now.searches))
 
   pub deed_serves : IsServed rule f d (steps ++ os) served
   deed_serves = subst (λ call. IsServed rule f d call served) (sym all_steps)
-      (finds f d p m ws (GetsRight.Deeds d 0 refl) rule zs (ready f d p m ws (GetsRight.Deeds d 0 refl) (λ v met. met.clear) now.still (λ v agreed. deed_known p d 0 (ws ++ v) refl)) (now.untouched p)
-      served.found (λ call. FromOffered rule d p call ⊎ ByDeed rule f d p call) bare.serves bare.page (inr deed_made)
+      (finds f d served.page m ws (GetsRight.Deeds d 0 refl) rule bare.serve (ready f d served.page m ws (GetsRight.Deeds d 0 refl) (λ v met. met.clear) now.still (λ v agreed. deed_known served.page d 0 (ws ++ v) refl)) (now.untouched served.page)
+      served.found (λ call. FromOffered rule d served.page call ⊎ ByDeed rule f d served.page call) bare.serves bare.page (inr deed_made)
       (λ k v agreed.
       let one : length (events_by k v (m ∷ ws)) ≡ 1 = ap (λ es. suc (length es)) (events_quiet k v ws now.quiet) in
-      let some : length (events_by k ((m ∷ ws) ++ v) zs) ≤ rule.events = bare.serves.few k ((m ∷ ws) ++ v) in
-      let counts : length (events_by k v (zs ++ (m ∷ ws))) ≡ length (events_by k ((m ∷ ws) ++ v) zs) + length (events_by k v (m ∷ ws)) = ap length (events_append k zs (m ∷ ws) v) ∙ length-append (events_by k ((m ∷ ws) ++ v) zs) (events_by k v (m ∷ ws)) in
+      let some : length (events_by k ((m ∷ ws) ++ v) bare.serve) ≤ rule.events = bare.serves.few k ((m ∷ ws) ++ v) in
+      let counts : length (events_by k v (bare.serve ++ (m ∷ ws))) ≡ length (events_by k ((m ∷ ws) ++ v) bare.serve) + length (events_by k v (m ∷ ws)) = ap length (events_append k bare.serve (m ∷ ws) v) ∙ length-append (events_by k ((m ∷ ws) ++ v) bare.serve) (events_by k v (m ∷ ws)) in
       let deed = one_deed in
-      (omega (arith, one, some, counts, deed), λ known. absurd (unknown f v p (zs ++ (m ∷ ws)) agreed (once_later (NoDeedHere p) zs (m ∷ ws) (inl (ReadsDeed.Deeds d, refl))) (known p bare.page))))
+      (omega (arith, one, some, counts, deed), λ known. absurd (unknown f v served.page (bare.serve ++ (m ∷ ws)) agreed (once_later (NoDeedHere served.page) bare.serve (m ∷ ws) (inl (ReadsDeed.Deeds d, refl))) (known served.page bare.page))))
       (inr IsDeedOrBack.Deeds) now.quiet)
 
 -- what the search of offered pages asks
@@ -103,7 +304,10 @@ may_can can = record { view = can.view; whole = can.whole; stood = can.stood; me
 profile_kept : {σ σ' : Standing} {C : View → Whole → Type 0} {xs : List Made} → Adds σ σ' C xs → σ'.seat.profile ≡ σ.seat.profile
 profile_kept adds = ap (λ (s : Seat). s.profile) adds.seat_is
 
-module _ {F : Type 0} {rule : Rule F} {σ σ1 : Standing} (d : Directory) (marks : List ℕ) (offered : SearchesOffered rule d σ σ1 marks None) where
+module _ {F : Type 0} {rule : Rule F} {σ σ1 : Standing} {d' : Directory} (d : Directory) (same : d' ≡ d) (marks : List ℕ) (found : SearchesOffered rule d' σ σ1 marks None) where
+  offered : SearchesOffered rule d σ σ1 marks None
+  offered = at_directory d same marks None found
+
   abbrev f : Profile
   f = σ.seat.profile
 
@@ -145,22 +349,13 @@ module _ {F : Type 0} {rule : Rule F} {σ σ1 : Standing} (d : Directory) (marks
       → CanCall σ1 (λ v l. BareRoom σ1.seat.profile rule.events spare' v)
   bare_can {spare} {spare'} can law law' =
       let agreed : Agreed f can.view offered.steps = offered.adds.agreed can.view can.whole can.stood can.met.may in
-      let may : CanCall σ (λ v l. MaySearch d v) = record { view = can.view; whole = can.whole; stood = can.stood; met = can.met.may } in
-      let keep = λ (n : ℕ) (fits : n ≤ spare). room_kept {C = λ v l. MaySearch d v} n offered.adds may offered.outcome.quiet law law' fits in
+      let keep = λ (n : ℕ) (fits : n ≤ spare). room_kept {C = λ v l. MaySearch d v} n offered.adds (may_can can) offered.outcome.quiet law law' fits in
+      let room : HasRoom f rule.events spare' (offered.steps ++ can.view) = (keep rule.events can.met.room.0, elim can.met.room.1 [ inl all ↦ inl (all_known f offered.steps can.view agreed all) | inr wide ↦ inr (keep (rule.events + 1) wide) ]) in
       record {
         view = offered.steps ++ can.view;
         whole = _;
         stood = offered.adds.added can.view can.whole can.stood can.met.may;
-        met = record {
-          clear = clear_then can.view can.met.may agreed;
-          room = subst (λ x. HasRoom x rule.events spare' (offered.steps ++ can.view)) (sym (profile_kept offered.adds)) (
-            keep rule.events can.met.room.0,
-            elim can.met.room.1 [
-              | inl known ↦ inl (λ p is z. known p is (sym (deed_stays f offered.steps can.view p agreed (known p is)) ∙ z))
-              | inr wide ↦ inr (keep (rule.events + 1) wide)
-            ],
-          );
-        };
+        met = record { clear = clear_then can.view can.met.may agreed; room = subst (λ x. HasRoom x rule.events spare' (offered.steps ++ can.view)) (sym (profile_kept offered.adds)) room };
       }
 
 -- ---- with what it says on a desk that tells the whole state

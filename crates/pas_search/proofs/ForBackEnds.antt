@@ -1,13 +1,19 @@
--- For back ends: a page on which nothing fits is left, after one reading of its free words.
-use Rattle.std.proofs.Common.{◌≡◌, ℕ, ◌<◌, true, List, [], ◌∷◌, ◌++◌, ◌∙◌, inl, inr}
+-- For crates above: a page on which nothing fits is left, after one reading of its free words; steps that make no event.
+use Rattle.std.proofs.Common.{◌≡◌, ℕ, ◌+◌, ◌<◌, ◌≤◌, true, List, [], ◌∷◌, ◌++◌, length, length-append, refl, ap, ◌∙◌, arith, inl, inr}
 use Rattle.pas_rights.specs.Leaves.{LosesHere}
 use Rattle.pas_steps.specs.Evidence.{Readings, ShowsHere, KeptHere, GetsHere, UnfitHere}
 use Rattle.pas_steps.specs.Frames.{AreLooks}
 use Rattle.pas_steps.specs.Past.{Once, Since}
-use Rattle.pas_steps.specs.Views.{has_right}
+use Rattle.pas_steps.specs.Views.{View, has_right, epoch_of}
 use Rattle.pas_steps.specs.declared.step.Made.{Made}
 use Rattle.pas_steps.proofs.Kept.{looks_read, right_reads}
 use Rattle.pas_steps.proofs.Past.{once_later}
+use Rattle.pas_steps.proofs.Adding.{room_left}
+use Rattle.pas_steps.proofs.Frames.{events_split}
+use Rattle.pas_steps.specs.Desks.{Standing, Adds, CanCall}
+use Rattle.pas_steps.specs.Events.{with_event, events_of, events_by}
+use Rattle.pas_steps.specs.Lists.{Whole}
+use Rattle.pas_search.specs.Kinds.{AreQuiet}
 
 since_looks : (P : Made → List Made → Type 0) (p : ℕ) (ys xs : List Made) → AreLooks ys → has_right xs p ≡ true → Since P (KeptHere p) xs → Since P (KeptHere p) (ys ++ xs)
 since_looks P p [] xs looks right h = h
@@ -25,3 +31,23 @@ unfit_left no_fit p (y ∷ ys) xs (inl h) right got r none read = inl (record {
   read = λ word lt. since_looks (ShowsHere p word r) p ys xs h.1 right (read word lt);
 })
 unfit_left no_fit p (y ∷ ys) xs (inr h) right got r none read = inr (unfit_left no_fit p ys xs h right got r none read)
+
+-- ---- events
+pub events_quiet : (k : ℕ) (v : View) (steps : List Made) → AreQuiet steps → events_by k v steps ≡ []
+events_quiet k v [] h = refl
+events_quiet k v (m ∷ more) h = ap (λ o. with_event o (events_by k v more)) (h.0 k (epoch_of (more ++ v))) ∙ events_quiet k v more h.1
+
+-- a desk that has room for these steps' events and n more keeps it for those n
+pub room_after : {σ σ' : Standing} {C : View → Whole → Type 0} {xs : List Made} {spare spare' : ℕ} (n some : ℕ) → Adds σ σ' C xs → CanCall σ C → ((k : ℕ) (v : View) → length (events_by k v xs) ≤ some)
+    → ((v : View) (l : Whole) → σ.stands v l → spare + length (events_of σ.seat.actor v) ≡ σ.seat.room) → ((v : View) (l : Whole) → σ'.stands v l → spare' + length (events_of σ'.seat.actor v) ≡ σ'.seat.room)
+    → n + some ≤ spare → n ≤ spare'
+room_after {σ} {xs = xs} {spare = spare} n some adds can few law law' fits =
+    let k : ℕ = σ.seat.actor in
+    let now : spare + length (events_of k can.view) ≡ σ.seat.room = law can.view can.whole can.stood in
+    let count : length (events_of k (xs ++ can.view)) ≡ length (events_by k can.view xs) + length (events_of k can.view) = ap length (events_split k xs can.view) ∙ length-append (events_by k can.view xs) (events_of k can.view) in
+    room_left n adds can law' (omega (arith, now, count, few k can.view, fits))
+
+pub room_kept : {σ σ' : Standing} {C : View → Whole → Type 0} {xs : List Made} {spare spare' : ℕ} (n : ℕ) → Adds σ σ' C xs → CanCall σ C → AreQuiet xs
+    → ((v : View) (l : Whole) → σ.stands v l → spare + length (events_of σ.seat.actor v) ≡ σ.seat.room) → ((v : View) (l : Whole) → σ'.stands v l → spare' + length (events_of σ'.seat.actor v) ≡ σ'.seat.room)
+    → n ≤ spare → n ≤ spare'
+room_kept {xs = xs} n adds can quiet law law' fits = room_after n 0 adds can (λ k v. let none = ap length (events_quiet k v xs quiet) in omega (arith, none)) law law' (omega (arith, fits))

@@ -1,10 +1,4 @@
-pub mod KindsAndEvents
-pub mod OneStep
-pub mod SoFar
-pub mod GotPage
-pub mod OfferedPages
-pub mod BarePages
-pub mod Refusals
-pub mod WholeState
-pub mod FindingAPage
 pub mod ForBackEnds
+mod SoFar
+mod PagesThatServe
+mod FindingAPage

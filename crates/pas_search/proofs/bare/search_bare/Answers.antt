@@ -1,6 +1,6 @@
 use Rattle.std.proofs.Common.{◌≡◌, ◌∙◌, ap, arith}
 use Rattle.pas_profile.specs.declared.profile.Profile.{Profile}
-use Rattle.pas_search.proofs.BarePages.{none_bare, deed_room, serve_room, deed_adds, lost_reads, lost_deeds, clear_can, serve_can, not_left, served_bare}
+use Rattle.pas_search.proofs.PagesThatServe.{none_bare, deed_room, serve_room, deed_adds, lost_reads, lost_deeds, clear_can, deed_can, not_left, served_bare}
 use Rattle.pas_search.proofs.bare.search_bare.Goals as goal
 
 pub returns-in_default-clause-found : goal.returns-in_default-clause-found
@@ -12,7 +12,7 @@ deed-requires-clause-room g c = let i = c.loop-from.invariant in
 
 pub serve-requires-clause-can : goal.serve-requires-clause-can
 serve-requires-clause-can g c = let i = c.loop-from.invariant in
-    serve_can c.args.directory c.loop-from.from i.steps i.adds i.reads i.deeds c.in-Some.page c.in-Some.ensures.found c.deed.result c.deed.ensures.makes c.if-deed-eq0.true (clear_can c.requires.can)
+    deed_can c.args.directory c.loop-from.from i.steps i.adds i.reads i.deeds c.in-Some.page c.in-Some.ensures.found c.deed.result c.deed.ensures.makes c.if-deed-eq0.true (clear_can c.requires.can)
 
 pub serve-requires-clause-room : goal.serve-requires-clause-room
 serve-requires-clause-room g c = let i = c.loop-from.invariant in let d = c.args.directory in let from = c.loop-from.from in let find = c.in-Some.ensures.found in let p = c.in-Some.page in let a = c.deed.result in

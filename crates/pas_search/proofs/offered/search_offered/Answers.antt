@@ -4,8 +4,8 @@ use Rattle.pas_steps.specs.declared.step.Step.TheVariants.{TakeRight}
 use Rattle.pas_scan.specs.Marks.{is_marked}
 use Rattle.pas_scan.specs.Scan.{FindsOffered}
 use Rattle.pas_search.specs.Searches.{MaySearch, GoesOn, SearchesOffered}
-use Rattle.pas_search.proofs.KindsAndEvents.{room_kept}
-use Rattle.pas_search.proofs.OfferedPages.{none_offered, further, claim_adds, claim_quiet, lost_goes, serve_can, serve_adds, found_there, left_goes}
+use Rattle.pas_search.proofs.ForBackEnds.{room_kept}
+use Rattle.pas_search.proofs.PagesThatServe.{none_offered, further, claim_adds, claim_quiet, lost_goes, serve_can, serve_adds, found_there, left_goes}
 use Rattle.pas_search.proofs.offered.search_offered.Goals as goal
 
 pub returns-in_default-clause-found : goal.returns-in_default-clause-found

@@ -1,7 +1,7 @@
 use Rattle.std.proofs.lemmas.Bool.{MatchBool-at_true, MatchBool-at_false}
 use Rattle.pas_bits.specs.Masks.{IsEmpty, HasMember}
 use Rattle.pas_segregated.proofs.Serve.{class_of, quiet_by, can_leave, leaves_page, can_back, keeps_page}
-use Rattle.pas_search.proofs.KindsAndEvents.{room_kept}
+use Rattle.pas_search.proofs.ForBackEnds.{room_kept}
 use Rattle.pas_segregated.proofs.serving.ExclusiveServing.serve.Goals as goal
 
 pub leave-requires-clause-can : goal.leave-requires-clause-can

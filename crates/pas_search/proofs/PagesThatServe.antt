@@ -1,0 +1,378 @@
+-- A page whose right the call got by its newest step: the back end leaves it, or keeps what its answer says. The search of offered pages, and of those without a deed.
+use Rattle.std.proofs.Common.{◌≡◌, ◌≢◌, ℕ, ◌+◌, ◌/◌, ◌<◌, ◌≤◌, ◌==◌, Bool, true, false, ◌||◌, if◌then◌else◌, List, [], ◌∷◌, ◌++◌, None, Some, length, refl, ap, sym, ◌∙◌, subst, arith, ◌⊎◌, inl, inr, true≢false, ◌%◌, Option, append_assoc, ◌&&◌}
+use Rattle.std.proofs.lemmas.Bool.{cases_Bool, cases_eq, eq-eqb, eqb-true, ne_eqb, cases_lt}
+use Rattle.pas_profile.specs.Profiles.{IsPage}
+use Rattle.pas_profile.specs.declared.directory.Directory.{Directory}
+use Rattle.pas_profile.specs.declared.profile.Profile.{Profile}
+use Rattle.pas_steps.specs.Agreement.{Agreed, Agrees}
+use Rattle.pas_steps.specs.Calls.{Leads, Kept, Gained, Lost, now, later, nothing, Does}
+use Rattle.pas_steps.specs.Clear.{IsClear}
+use Rattle.pas_steps.specs.Events.{events_by, event_of, with_event, events_of}
+use Rattle.pas_steps.specs.Evidence.{GetsRight, ZeroHere, UnfitHere, LacksAfter, ReadsEligible, ReadsDeed, DeedHere, NoDeedHere, AllDeeds}
+use Rattle.pas_steps.specs.Frames.{IsOnPage, OnlyOn, IsRead, OnlyReads}
+use Rattle.pas_steps.specs.Past.{Once, Always}
+use Rattle.pas_steps.specs.Views.{View, has_right, KnowsDeed, known_deed, known_free, epoch_of}
+use Rattle.pas_steps.specs.declared.step.Made.{Made}
+use Rattle.pas_steps.specs.declared.step.Step.{Step}
+use Rattle.pas_steps.proofs.Calls.{leads_then, does_then, does_as, does_after_nothing, kept_first, leads_as}
+use Rattle.pas_steps.proofs.Kept.{right_on, holds_on_page, knows_still, scans_look, looks_read, deed_stays}
+use Rattle.pas_steps.proofs.Past.{once_later, always_both, once_earlier}
+use Rattle.pas_scan.specs.Marks.{is_marked}
+use Rattle.pas_search.specs.Kinds.{AreSearch, IsQuiet, AreQuiet, IsDeedOrBack}
+use Rattle.pas_search.specs.Serving.{Rule, MayServe, IsUntouched, GotBefore, right_of, served, Keeps, ReadsNoneHeld, ServeSteps, ServesPage}
+use Rattle.pas_search.specs.Searches.{MaySearch, OfferedHere, FromOffered, KeepsFound, FewEvents, Finds, Searching, GoesOn, SearchesOffered, BareRoom, SearchesBare}
+use Rattle.pas_search.proofs.SoFar.{served_search, quiet_append, events_after_quiet, serves_events, quiet_events, deeds_serves, no_deeds, Rights, right_then, holds_then, does_rights, gets_rights, AreVain, reads_vain, claim_vain, vain_leads, vain_quiet, zero_before, offered_before, zeros_searching}
+use Rattle.pas_search.proofs.ForBackEnds.{events_quiet, room_after, room_kept}
+use Rattle.pas_profile.specs.Classes.{has_bit}
+use Rattle.pas_steps.specs.Desks.{Seat, Standing, Anything, made, Adds, CanCall, Makes}
+use Rattle.pas_steps.specs.declared.step.Step.TheVariants.{TakeRight, Deed}
+use Rattle.pas_steps.proofs.Adding.{adds_call, can_call, agreed_first, agreed_later, adds_step}
+use Rattle.pas_scan.specs.Scan.{IsFirstOffered, FindsOffered, FindsBare}
+use Rattle.pas_profile.specs.Directories.{deed_word_of}
+use Rattle.pas_profile.specs.declared.event.Event.{Event}
+use Rattle.pas_steps.specs.Lists.{Whole}
+
+-- ---- effects, one after the other
+got_first : (t keeps : Bool) → later (if t then Gained else Kept) (if t then (if keeps then Gained else Lost) else Kept) ≡ (if t then (if keeps then Gained else Lost) else Kept)
+got_first true true = refl
+got_first true false = refl
+got_first false keeps = refl
+
+got_served : {F : Type 0} (rule : Rule F) (page : ℕ) (found : F) {v w u : View} → Does (right_of page Gained) v w → Does (served rule page found) w u → Does (served rule page found) v u
+got_served rule page found a b = does_as (served rule page found) (does_then a b) (λ x. inl (kept_first ((served rule page found).grains x))) (λ q. got_first (page == q) (rule.keeps_right found)) (λ q h. h)
+
+got_lost : (t had : Bool) → (t ≡ true → had ≡ false) → now (if t then Lost else Kept) (now (if t then Gained else Kept) had) ≡ had
+got_lost true had lacked = sym (lacked refl)
+got_lost false had lacked = refl
+
+got_left : (page : ℕ) {v w u : View} → has_right v page ≡ false → Does (right_of page Gained) v w → Does (right_of page Lost) w u → Does nothing v u
+got_left page {v} lacked a b = record {
+  held = λ x. b.held x ∙ a.held x;
+  right = λ q. b.right q ∙ ap (now (if page == q then Lost else Kept)) (a.right q) ∙ got_lost (page == q) (has_right v q) (λ e. subst (λ r. has_right v r ≡ false) (eqb-true page q e) lacked);
+  clear = λ q is. b.clear q (a.clear q is);
+  backed = λ x kept bears. b.backed x refl (a.backed x refl bears);
+}
+
+gets_on : (p : ℕ) (s : Step) (a : ℕ) → GetsRight p s a → IsOnPage p s
+gets_on p s a (GetsRight.Claims d b bit) = IsOnPage.Claims d
+gets_on p s a (GetsRight.Deeds d b made_it) = IsOnPage.Deeds d
+
+lacks_on : (page p : ℕ) (ys xs : List Made) → OnlyOn page ys → p ≢ page → has_right xs p ≡ false → Always (LacksAfter p) xs → Always (LacksAfter p) (ys ++ xs)
+lacks_on page p [] xs h ne none all = all
+lacks_on page p (m ∷ more) xs h ne none all = (right_on page p (m ∷ more) xs h ne ∙ none, lacks_on page p more xs h.1 ne none all)
+
+-- the page may be served from
+pub record IsReady (page : ℕ) (d : Directory) (v w : View) : Type 0 where
+  pub got : Does (right_of page Gained) v w
+  pub may : MayServe page d w
+
+module _ (f : Profile) (d : Directory) (page : ℕ) (m : Made) (ws : List Made) (gets : GetsRight page m.step m.answer) where
+  turns : Rights (λ q. if page == q then Gained else Kept) m
+  turns = gets_rights page m.step m.answer gets
+
+  pub got_right : (v : View) → has_right (m ∷ v) page ≡ true
+  got_right v = right_then (λ q. if page == q then Gained else Kept) m v page turns ∙ ap (λ t. now (if t then Gained else Kept) (has_right v page)) (eq-eqb page page refl)
+
+  pub got_before : IsUntouched page ws → GotBefore page (m ∷ ws)
+  got_before h = record { right = got_right ws; got = inl gets; none = λ g at. holds_then (λ q. if page == q then Gained else Kept) m ws g turns ∙ h.none g at; newest = gets }
+
+  pub got_search : AreSearch ws → AreSearch (m ∷ ws)
+  got_search are = record { kinds = (turns.kind, are.kinds); returns = (λ q is. absurd (turns.returns q is), are.returns) }
+
+  pub ready : {B : View → Type 0} → ((v : View) → B v → IsClear v) → Leads f B (Does nothing) ws → ((v : View) → Agreed f v (m ∷ ws) → KnowsDeed page d (m ∷ (ws ++ v))) → Leads f B (IsReady page d) (m ∷ ws)
+  ready clear still deed = record {
+    from = λ v met agreed.
+        let got : Does (right_of page Gained) v (m ∷ (ws ++ v)) = does_after_nothing (right_of page Gained) (still.from v met agreed.1) (does_rights f (λ q. if page == q then Gained else Kept) m (ws ++ v) turns agreed.0) in
+        record { got = got; may = record { right = got_right (ws ++ v); deed = deed v agreed; clear = got.clear page ((clear v met).on page) } };
+  }
+
+  -- ---- the back end's steps
+  module _ {F : Type 0} (rule : Rule F) (zs : List Made) (ready : Leads f (MaySearch d) (IsReady page d) (m ∷ ws)) (untouched : IsUntouched page ws) where
+    pub finds : (found : F) (Choice : List Made → Type 0) → ServeSteps rule f page d zs (Some found) → IsPage f page → Choice (zs ++ (m ∷ ws)) → FewEvents f d rule.events (zs ++ (m ∷ ws)) → IsQuiet m ⊎ IsDeedOrBack d page m.step → AreQuiet ws
+        → Finds rule f d Choice (zs ++ (m ∷ ws)) (record { page = page; found = found })
+    finds found Choice serve is choice few event quiet =
+        let shows = serve.outcome.shows (m ∷ ws) (got_before untouched) in
+        let kept : Leads f (MayServe page d) (λ w u. Keeps rule page found w u × KnowsDeed page d u) zs = record { from = λ w may agreed. (serve.outcome.keeps.from w may agreed, knows_still f d page zs w agreed may.deed) } in
+        record {
+          page = is;
+          keeps = leads_then (KeepsFound rule d (record { page = page; found = found })) ready kept (λ v w met r. r.may) (λ v w u r k. record { keeps = record { does = got_served rule page found r.got k.0.does; backed = k.0.backed }; deed = k.1 });
+          choice = choice;
+          shows = record {
+            readings = shows.readings;
+            fits = shows.fits;
+            took = shows.took;
+            read = shows.read;
+            held = leads_then (ReadsNoneHeld page shows.readings) ready shows.held (λ v w met r. r.may) (λ v w u r h g at has. h g at (r.got.held g ∙ has));
+          };
+          serves = serve.outcome.serves (m ∷ ws) (got_before untouched);
+          few = few;
+          events = serves_events d page zs (m ∷ ws) serve.only (event, quiet_events d page ws quiet);
+        }
+
+-- ---- an offered page
+module _ {F : Type 0} (rule : Rule F) (f : Profile) (d : Directory) (page : ℕ) (marks : List ℕ) (m : Made) (ws zs : List Made) (gets : GetsRight page m.step m.answer) (quiet : IsQuiet m) (on : OnlyOn page zs)
+    (ready : Leads f (MaySearch d) (IsReady page d) (m ∷ ws)) (s : Searching rule f d page marks ws) where
+  others_lack : (p : ℕ) → p ≢ page → is_marked marks p ≡ false → Always (LacksAfter p) (zs ++ (m ∷ ws))
+  others_lack p ne mark =
+      let on_m : OnlyOn page (m ∷ []) = (gets_on page m.step m.answer gets, tt) in let none = (s.untouched p).right in
+      lacks_on page p zs (m ∷ ws) on ne (right_on page p (m ∷ []) ws on_m ne ∙ none) (lacks_on page p (m ∷ []) ws on_m ne none (s.lacked p mark))
+
+  others_untouched : (p : ℕ) → p ≢ page → IsUntouched p (zs ++ (m ∷ ws))
+  others_untouched p ne = let on_m : OnlyOn page (m ∷ []) = (gets_on page m.step m.answer gets, tt) in record {
+    right = right_on page p zs (m ∷ ws) on ne ∙ right_on page p (m ∷ []) ws on_m ne ∙ (s.untouched p).right;
+    none = λ g at. let away = λ (e : g / 256 ≡ page). ne (sym at ∙ e) in holds_on_page page g zs (m ∷ ws) on away ∙ holds_on_page page g (m ∷ []) ws on_m away ∙ (s.untouched p).none g at;
+  }
+
+  zero_later : (p : ℕ) → Once (ZeroHere d p) ws → Once (ZeroHere d p) (zs ++ (m ∷ ws))
+  zero_later p h = once_later (ZeroHere d p) zs (m ∷ ws) (inr h)
+
+  unfit_later : (p : ℕ) → Once (UnfitHere rule.no_fit p) ws → Once (UnfitHere rule.no_fit p) (zs ++ (m ∷ ws))
+  unfit_later p h = once_later (UnfitHere rule.no_fit p) zs (m ∷ ws) (inr h)
+
+  -- it serves
+  pub from_offered : (found : F) → ServeSteps rule f page d zs (Some found) → IsPage f page → Once (OfferedHere d page) ws → Finds rule f d (FromOffered rule d page) (zs ++ (m ∷ ws)) (record { page = page; found = found })
+  from_offered found serve is offered = finds f d page m ws gets rule zs ready (s.untouched page) found (FromOffered rule d page) serve is
+      (record {
+        offered = once_later (OfferedHere d page) zs (m ∷ ws) (inr offered);
+        searched = λ p low high. elim (cases_Bool (is_marked marks p)) [
+          | inl mark ↦ inl (unfit_later p (s.marked p mark))
+          | inr mark ↦ inr (others_lack p (λ e. absurd (omega (arith, e, high))) mark, zero_later p (s.zeros p low high mark))
+        ];
+        no_deed = deeds_serves zs (m ∷ ws) serve.only.kinds ∙ no_deeds (m ∷ ws) (quiet, s.quiet);
+      })
+      (λ k v agreed. let few : length (events_by k v (zs ++ (m ∷ ws))) ≤ rule.events = subst (λ es. length es ≤ rule.events) (sym (events_after_quiet k v zs (m ∷ ws) (quiet, s.quiet))) (serve.few k ((m ∷ ws) ++ v)) in (omega (arith, few), λ known. few))
+      (inl quiet) s.quiet
+
+  -- it was left
+  pub goes_on : (marks' : List ℕ) → ((p : ℕ) → is_marked marks' p ≡ ((page == p) || is_marked marks p)) → ServeSteps rule f page d zs None → ((v : View) → MaySearch d v → Agreed f v ws → has_right v page ≡ false) → ((p : ℕ) → page ≤ p → is_marked marks p ≡ false)
+      → GoesOn rule f d (page + 1) marks' (zs ++ (m ∷ ws))
+  goes_on marks' more serve lacked rest =
+      let left = serve.outcome in let got = got_before f d page m ws gets (s.untouched page) in
+      let lacking : Leads f (MaySearch d) (λ v w. IsReady page d v w × (has_right v page ≡ false)) (m ∷ ws) = record { from = λ v met agreed. (ready.from v met agreed, lacked v met agreed.1) } in
+      let here : is_marked marks' page ≡ true = more page ∙ ap (λ x. x || is_marked marks page) (eq-eqb page page refl) in
+      let others : (p : ℕ) → p ≢ page → is_marked marks' p ≡ is_marked marks p = λ p ne. more p ∙ ap (λ x. x || is_marked marks p) (ne_eqb page p (λ e. ne (sym e))) in
+      let unmarked : (p : ℕ) → is_marked marks' p ≡ false → p ≢ page = λ p mark e. true≢false (sym here ∙ ap (is_marked marks') (sym e) ∙ mark) in
+      record {
+        searching = record {
+          still = leads_then (Does nothing) lacking left.leaves (λ v w met r. r.0.may) (λ v w u r b. got_left page r.1 r.0.got b);
+          searches = served_search page zs (m ∷ ws) serve.only (inl gets) (got_search f d page m ws gets s.searches);
+          quiet = quiet_append zs (m ∷ ws) left.quiet (quiet, s.quiet);
+          untouched = λ p. elim (cases_eq p page) [
+            | inl e ↦ subst (λ q. IsUntouched q (zs ++ (m ∷ ws))) (sym e) (left.untouched (m ∷ ws) got)
+            | inr ne ↦ others_untouched p ne
+          ];
+          marked = λ p mark. elim (cases_eq p page) [
+            | inl e ↦ subst (λ q. Once (UnfitHere rule.no_fit q) (zs ++ (m ∷ ws))) (sym e) (left.unfit (m ∷ ws) got)
+            | inr ne ↦ unfit_later p (s.marked p (sym (others p ne) ∙ mark))
+          ];
+          zeros = λ p low high mark. let ne = unmarked p mark in zero_later p (s.zeros p low (omega (arith, high, ne)) (sym (others p ne) ∙ mark));
+          lacked = λ p mark. let ne = unmarked p mark in others_lack p ne (sym (others p ne) ∙ mark);
+        };
+        rest = λ p low. others p (λ e. absurd (omega (arith, e, low))) ∙ rest p (omega (arith, low));
+      }
+
+module _ {F : Type 0} {rule : Rule F} {σ0 σ : Standing} (d : Directory) (next : ℕ) (marks : List ℕ) (xs : List Made) (adds : Adds σ0 σ (λ v l. MaySearch d v) xs) (goes : GoesOn rule σ0.seat.profile d next marks xs) where
+  -- no page is offered any more
+  pub none_offered : {σ1 : Standing} (next' : ℕ) → FindsOffered d next σ σ1 next' None → SearchesOffered rule d σ0 σ1 marks None
+  none_offered next' find =
+      let pages : σ.seat.profile.pages ≡ σ0.seat.profile.pages = ap (λ (s : Seat). s.profile.pages) adds.seat_is in
+      let s : Searching rule σ0.seat.profile d (σ0.seat.profile.pages + 1) marks (find.steps ++ xs) = zeros_searching rule σ0.seat.profile d next marks (σ0.seat.profile.pages + 1) find.steps xs (reads_vain find.steps (looks_read find.steps (scans_look find.steps find.scans))) goes.searching
+      (λ p low high. zero_before d p find.steps xs (goes.searching.untouched p).right (find.outcome.1 p low (omega (arith, high, pages)))) in
+      record { steps = find.steps ++ xs; adds = adds_call {D = Anything} adds find.adds (λ v l stood met. tt); searches = s.searches; outcome = s }
+
+  module _ {σ1 : Standing} (next' page : ℕ) (find : FindsOffered d next σ σ1 next' (Some page)) where
+    abbrev ws : List Made
+    ws = find.steps ++ xs
+
+    vain : AreVain find.steps
+    vain = reads_vain find.steps (looks_read find.steps (scans_look find.steps find.scans))
+
+    first : IsFirstOffered σ0.seat.profile d next find.steps page
+    first = subst (λ (s : Seat). IsFirstOffered s.profile d next find.steps page) adds.seat_is find.outcome.1
+
+    at_page : Searching rule σ0.seat.profile d page marks (find.steps ++ xs)
+    at_page = zeros_searching rule σ0.seat.profile d next marks page find.steps xs vain goes.searching (λ p low high. zero_before d p find.steps xs (goes.searching.untouched p).right (first.lower p low high))
+
+    rest_at : (p : ℕ) → page ≤ p → is_marked marks p ≡ false
+    rest_at p low = let from = first.from_next in goes.rest p (omega (arith, from, low))
+
+    pub further : next' ≡ page + 1
+    further = find.outcome.0
+
+    deed_at : (v : View) → KnowsDeed page d ((find.steps ++ xs) ++ v)
+    deed_at v = subst (KnowsDeed page d) (sym (append_assoc find.steps xs v)) (first.deed (xs ++ v))
+
+    lacked : (v : View) → MaySearch d v → Agreed σ0.seat.profile v (find.steps ++ xs) → has_right v page ≡ false
+    lacked v met agreed = sym ((goes.searching.still.from v met (agreed_later σ0.seat.profile v find.steps xs agreed)).right page) ∙ first.lacks (xs ++ v) (agreed_first σ0.seat.profile v find.steps xs agreed)
+
+    found_adds : Adds σ0 σ1 (λ v l. MaySearch d v) (find.steps ++ xs)
+    found_adds = adds_call {D = Anything} adds find.adds (λ v l stood met. tt)
+
+    module _ {σ2 : Standing} (a : ℕ) (claim : Adds σ1 σ2 (λ v l. KnowsDeed page d v) (made (TakeRight page d) a ∷ [])) where
+      abbrev m : Made
+      m = made (TakeRight page d) a
+
+      pub claim_adds : Adds σ0 σ2 (λ v l. MaySearch d v) (made (TakeRight page d) a ∷ (find.steps ++ xs))
+      claim_adds = adds_call {D = λ v l. KnowsDeed page d v} found_adds claim (λ v l stood met. deed_at v)
+
+      pub claim_quiet : AreQuiet (made (TakeRight page d) a ∷ (find.steps ++ xs))
+      claim_quiet = (λ k e. refl, at_page.quiet)
+
+      -- another actor was first
+      pub lost_goes : has_bit a (page % 64) ≡ false → GoesOn rule σ0.seat.profile d (page + 1) marks (made (TakeRight page d) a ∷ (find.steps ++ xs))
+      lost_goes bit = record {
+        searching = zeros_searching rule σ0.seat.profile d page marks (page + 1) (m ∷ []) ws (claim_vain page d a bit, tt) at_page
+            (λ p low high. let same : page ≡ p = omega (arith, low, high) in inl (subst (λ q. ReadsEligible d q (TakeRight page d) × (has_bit a (q % 64) ≡ false) × (has_right (find.steps ++ xs) q ≡ false)) same (ReadsEligible.Claims, bit, (at_page.untouched page).right)));
+        rest = λ p low. rest_at p (omega (arith, low));
+      }
+
+      module _ (bit : has_bit a (page % 64) ≡ true) where
+        abbrev gets : GetsRight page (TakeRight page d) a
+        gets = GetsRight.Claims d a bit
+
+        got : Leads σ0.seat.profile (MaySearch d) (IsReady page d) (made (TakeRight page d) a ∷ (find.steps ++ xs))
+        got = ready σ0.seat.profile d page m ws gets (λ v met. met.clear) at_page.still (λ v agreed. knows_still σ0.seat.profile d page (m ∷ []) (ws ++ v) (agreed.0, tt) (deed_at v))
+
+        pub serve_can : CanCall σ0 (λ v l. MaySearch d v) → CanCall σ2 (λ v l. MayServe page d v)
+        serve_can can = can_call {C = λ v l. MaySearch d v} claim_adds can (λ v l stood met. (got.from v met (claim_adds.agreed v l stood met)).may)
+
+        module _ {σ3 : Standing} where
+          serve_at : (answer : Option F) (serve : ServesPage rule page d σ2 σ3 answer) → ServeSteps rule σ0.seat.profile page d serve.steps answer
+          serve_at answer serve = subst (λ (s : Seat). ServeSteps rule s.profile page d serve.steps answer) claim_adds.seat_is serve.serves
+
+          pub serve_adds : (answer : Option F) (serve : ServesPage rule page d σ2 σ3 answer) → Adds σ0 σ3 (λ v l. MaySearch d v) (serve.steps ++ (made (TakeRight page d) a ∷ (find.steps ++ xs)))
+          serve_adds answer serve = adds_call {D = λ v l. MayServe page d v} claim_adds serve.adds (λ v l stood met. (got.from v met (claim_adds.agreed v l stood met)).may)
+
+          pub found_there : (marks' : List ℕ) (found : F) → ServesPage rule page d σ2 σ3 (Some found) → SearchesOffered rule d σ0 σ3 marks' (Some (record { page = page; found = found }))
+          found_there marks' found serve = let s = at_page in record {
+            steps = serve.steps ++ (m ∷ ws);
+            adds = serve_adds (Some found) serve;
+            searches = served_search page serve.steps (m ∷ ws) serve.serves.only (inl gets) (got_search σ0.seat.profile d page m ws gets s.searches);
+            outcome = from_offered rule σ0.seat.profile d page marks m ws serve.steps gets (λ k e. refl) serve.serves.only.on got s found (serve_at (Some found) serve) first.of_region
+                (offered_before d page find.steps xs vain (goes.searching.untouched page).right (goes.searching.lacked page (rest_at page (omega arith))) first.one);
+          }
+
+          pub left_goes : (marks' : List ℕ) → ((p : ℕ) → is_marked marks' p ≡ ((page == p) || is_marked marks p)) → (serve : ServesPage rule page d σ2 σ3 None) → GoesOn rule σ0.seat.profile d (page + 1) marks' (serve.steps ++ (made (TakeRight page d) a ∷ (find.steps ++ xs)))
+          left_goes marks' more serve = goes_on rule σ0.seat.profile d page marks m ws serve.steps gets (λ k e. refl) serve.serves.only.on got at_page marks' more (serve_at None serve) lacked rest_at
+
+pub deed_before : (p : ℕ) (ys xs : List Made) → Once (DeedHere p) ys → Once (DeedHere p) (ys ++ xs)
+deed_before p ys xs h = once_earlier (DeedHere p) (DeedHere p) ys xs (λ m before z. z) h
+
+-- ---- a page that was read as having no deed isn't known to have one
+read_unknown : (f : Profile) (v : View) (p : ℕ) (s : Step) (a : ℕ) → ReadsDeed p s → Agrees f v s a → a ≡ 0 → known_deed v p ≢ 0 → ⊥
+read_unknown f v p s a ReadsDeed.Looks agrees z known = known (sym (agrees.known known) ∙ z)
+read_unknown f v p s a (ReadsDeed.Deeds d) agrees z known = known (sym (agrees.known known) ∙ z)
+
+pub unknown : (f : Profile) (v : View) (p : ℕ) (xs : List Made) → Agreed f v xs → Once (NoDeedHere p) xs → known_deed v p ≢ 0 → ⊥
+unknown f v p [] agreed h known = h
+unknown f v p (m ∷ more) agreed (inr h) known = unknown f v p more agreed.1 h known
+unknown f v p (m ∷ more) agreed (inl h) known = read_unknown f (more ++ v) p m.step m.answer h.0 agreed.0 h.1 (λ z. known (sym (deed_stays f more v p agreed.1 known) ∙ z))
+
+-- ---- a deed that was made
+pub deed_known : (p : ℕ) (d : Directory) (a : ℕ) (v : View) → a ≡ 0 → KnowsDeed p d (made (Deed p d) a ∷ v)
+deed_known p d a v e = ap (λ t. if t then (if a == 0 then deed_word_of d else a) else known_deed v p) (eq-eqb p p refl) ∙ ap (λ t. if t then deed_word_of d else a) (eq-eqb a 0 e)
+
+deed_frees : (p : ℕ) (d : Directory) (a : ℕ) (v : View) (g : ℕ) → a ≡ 0 → g / 256 ≡ p → known_free (made (Deed p d) a ∷ v) g ≡ true
+deed_frees p d a v g e at = ap (λ t. if t && (a == 0) then true else known_free v g) (eq-eqb p (g / 256) (sym at)) ∙ ap (λ t. if t then true else known_free v g) (eq-eqb a 0 e)
+
+few_more : (o : Option Event) (es : List Event) → length (with_event o es) ≤ length es + 1
+few_more None es = omega arith
+few_more (Some e) es = omega arith
+
+pub clear_can : {σ : Standing} {f : Profile} {n spare : ℕ} → CanCall σ (λ v l. BareRoom f n spare v) → CanCall σ (λ v l. IsClear v)
+clear_can can = record { view = can.view; whole = can.whole; stood = can.stood; met = can.met.clear }
+
+module _ {σ0 σ : Standing} (d : Directory) (from : ℕ) (xs : List Made) (adds : Adds σ0 σ (λ v l. IsClear v) xs) (reads : OnlyReads xs) (all : AllDeeds from xs) where
+  more_reads : (ys : List Made) → OnlyReads ys → OnlyReads (ys ++ xs)
+  more_reads ys h = always_both (λ m before. IsRead m.step m.answer) (λ m before. IsRead m.step m.answer) ys xs (λ m before is. is) h reads
+
+  more_deeds : (end : ℕ) (ys : List Made) → ((p : ℕ) → from ≤ p → p < end → Once (DeedHere p) ys) → AllDeeds end (ys ++ xs)
+  more_deeds end ys more p low high = elim (cases_lt p from) [ inl lt ↦ once_later (DeedHere p) ys xs (all p low lt) | inr ge ↦ deed_before p ys xs (more p ge high) ]
+
+  -- each page has a deed
+  pub none_bare : {F : Type 0} {rule : Rule F} {σ1 : Standing} → FindsBare from σ σ1 None → SearchesBare rule d σ0 σ1 None
+  none_bare find = let pages : σ.seat.profile.pages ≡ σ0.seat.profile.pages = ap (λ (s : Seat). s.profile.pages) adds.seat_is in record {
+    steps = find.steps ++ xs;
+    adds = adds_call {D = Anything} adds find.adds (λ v l stood met. tt);
+    outcome = (more_reads find.steps (looks_read find.steps (scans_look find.steps find.scans)), more_deeds (σ0.seat.profile.pages + 1) find.steps (λ p low high. find.outcome p low (omega (arith, high, pages))));
+  }
+
+  module _ {σ1 : Standing} (page : ℕ) (find : FindsBare from σ σ1 (Some page)) where
+    abbrev rs : List Made
+    rs = find.steps ++ xs
+
+    found_reads : OnlyReads (find.steps ++ xs)
+    found_reads = more_reads find.steps (looks_read find.steps (scans_look find.steps find.scans))
+
+    found_deeds : AllDeeds page (find.steps ++ xs)
+    found_deeds = more_deeds page find.steps find.outcome.lower
+
+    reads_adds : Adds σ0 σ1 (λ v l. IsClear v) (find.steps ++ xs)
+    reads_adds = adds_call {D = Anything} adds find.adds (λ v l stood met. tt)
+
+    of_region : IsPage σ0.seat.profile page
+    of_region = subst (λ (s : Seat). IsPage s.profile page) adds.seat_is find.outcome.of_region
+
+    -- there is room for the event of its deed
+    module _ {n spare : ℕ} (can : CanCall σ0 (λ v l. BareRoom σ0.seat.profile n spare v)) (law : (v : View) (l : Whole) → σ0.stands v l → spare + length (events_of σ0.seat.actor v) ≡ σ0.seat.room) where
+      wide : n + 1 ≤ spare
+      wide = elim can.met.room.1 [
+        | inl known ↦ absurd (unknown σ0.seat.profile can.view page rs (reads_adds.agreed can.view can.whole can.stood can.met.clear) (once_earlier (NoDeedHere page) (NoDeedHere page) find.steps xs (λ m before z. z) find.outcome.none) (known page of_region))
+        | inr more ↦ more
+      ]
+
+      pub deed_room : {spare' : ℕ} → ((v : View) (l : Whole) → σ1.stands v l → spare' + length (events_of σ1.seat.actor v) ≡ σ1.seat.room) → 1 ≤ spare'
+      deed_room law' = let most = wide in room_kept {C = λ v l. IsClear v} 1 reads_adds (clear_can can) (vain_quiet rs (reads_vain rs found_reads)) law law' (omega (arith, most))
+
+      -- and for those of the back end
+      pub serve_room : {σ2 : Standing} {spare' : ℕ} (a : ℕ) → Adds σ0 σ2 (λ v l. IsClear v) (made (Deed page d) a ∷ (find.steps ++ xs)) → ((v : View) (l : Whole) → σ2.stands v l → spare' + length (events_of σ2.seat.actor v) ≡ σ2.seat.room) → n ≤ spare'
+      serve_room a deed_adds law' = room_after {C = λ v l. IsClear v} n 1 deed_adds (clear_can can) (λ k v.
+          let none = ap length (events_quiet k v rs (vain_quiet rs (reads_vain rs found_reads))) in let more = few_more (event_of k (epoch_of (rs ++ v)) (Deed page d) a) (events_by k v rs) in omega (arith, none, more)) law law' wide
+
+    module _ {σ2 : Standing} (a : ℕ) (makes : Makes σ1 σ2 (Deed page d) a) where
+      abbrev md : Made
+      md = made (Deed page d) a
+
+      pub deed_adds : Adds σ0 σ2 (λ v l. IsClear v) (made (Deed page d) a ∷ (find.steps ++ xs))
+      deed_adds = adds_step {C = λ v l. IsClear v} {step = Deed page d} reads_adds makes (λ v l stood met. tt)
+
+      -- another actor was first
+      pub lost_reads : a ≢ 0 → OnlyReads (made (Deed page d) a ∷ (find.steps ++ xs))
+      lost_reads ne = (IsRead.Reads page d a ne, found_reads)
+
+      pub lost_deeds : a ≢ 0 → AllDeeds (page + 1) (made (Deed page d) a ∷ (find.steps ++ xs))
+      lost_deeds ne p low high = elim (cases_lt p page) [
+        | inl lt ↦ inr (found_deeds p low lt)
+        | inr ge ↦ let same : page ≡ p = omega (arith, high, ge) in inl (subst (λ q. ReadsDeed q (Deed page d)) same (ReadsDeed.Deeds d), ne)
+      ]
+
+      -- the deed was made
+      module _ (made_it : a ≡ 0) where
+        deed_got : Leads σ0.seat.profile IsClear (IsReady page d) (made (Deed page d) a ∷ (find.steps ++ xs))
+        deed_got = ready σ0.seat.profile d page md rs (GetsRight.Deeds d a made_it) (λ v clear. clear) (leads_as (vain_leads σ0.seat.profile rs (reads_vain rs found_reads)) (λ v clear. tt) (λ v w clear does. does)) (λ v agreed. deed_known page d a (rs ++ v) made_it)
+
+        pub deed_can : CanCall σ0 (λ v l. IsClear v) → CanCall σ2 (λ v l. MayServe page d v)
+        deed_can can = can_call {C = λ v l. IsClear v} deed_adds can (λ v l stood met. (deed_got.from v met (deed_adds.agreed v l stood met)).may)
+
+        module _ {F : Type 0} {rule : Rule F} {σ3 : Standing} where
+          -- all grains of the page are known as free, so it isn't left
+          pub not_left : CanCall σ0 (λ v l. IsClear v) → ServesPage rule page d σ2 σ3 None → ⊥
+          not_left can serve =
+              let v : View = made (Deed page d) a ∷ (rs ++ can.view) in
+              let may : MayServe page d v = (deed_got.from can.view can.met (deed_adds.agreed can.view can.whole can.stood can.met)).may in
+              serve.serves.outcome.not_free v may (serve.adds.agreed v _ (deed_adds.added can.view can.whole can.stood can.met) may) (λ g at. deed_frees page d a (rs ++ can.view) g made_it at)
+
+          pub served_bare : (found : F) → ServesPage rule page d σ2 σ3 (Some found) → SearchesBare rule d σ0 σ3 (Some (record { page = page; found = found }))
+          served_bare found serve = record {
+            steps = serve.steps ++ (md ∷ rs);
+            adds = adds_call {D = λ v l. MayServe page d v} deed_adds serve.adds (λ v l stood met. (deed_got.from v met (deed_adds.agreed v l stood met)).may);
+            outcome = record {
+              page = of_region;
+              before = rs;
+              reads = found_reads;
+              lower = found_deeds;
+              serve = serve.steps;
+              serves = subst (λ (s : Seat). ServeSteps rule s.profile page d serve.steps (Some found)) deed_adds.seat_is serve.serves;
+              steps_are = ap (λ n. serve.steps ++ (made (Deed page d) n ∷ rs)) made_it;
+            };
+          }
