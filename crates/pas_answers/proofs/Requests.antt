@@ -56,10 +56,6 @@ routed (Route.Class class) is = refl
 routed Route.Bitfit is = absurd is
 routed Route.Large is = absurd is
 
--- a class that serves a request exists
-pub class_exists : (size align : ℕ) → IsClassRoute (route_of size align) → IsClass (class_of (route_of size align))
-class_exists size align is = (class_suits size align (class_of (route_of size align)) (routed (route_of size align) is)).known
-
 -- a deed word of a directory is of that one
 directory_is : (o : Option Directory) (d : Directory) → IsDirectory d → ((x : Directory) → o ≡ Some x → IsDirectory x) → word_of_deed o ≡ deed_word_of d → o ≡ Some d
 directory_is None d is all word = absurd (omega (arith, word))

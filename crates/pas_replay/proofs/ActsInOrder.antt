@@ -77,9 +77,6 @@ after_close {f} {all} {more} {region} {threads} {table} {out} {out'} so pushed r
 pub mark_room : {f : Profile} {all more : List Act} {region : PlainRegion} {threads : List Thread} {table : Names} {out : Records} (n : ℕ) → SoFar f all (MarksPhase n ∷ more) region threads table out → length (records_in out) < room_of out
 mark_room n so = let spare = so.spare in omega (arith, spare)
 
-pub close_room : {f : Profile} {all more : List Act} {region : PlainRegion} {threads : List Thread} {table : Names} {out : Records} → SoFar f all (MarksClose ∷ more) region threads table out → length (records_in out) < room_of out
-close_room so = let spare = so.spare in omega (arith, spare)
-
 -- ---- a thread reads the epoch
 pub can_wake : {f : Profile} {all more : List Act} {region : PlainRegion} {threads : List Thread} {table : Names} {out : Records} (k i : ℕ) (d : Thread) → k ≡ 1 + i → i < length threads
     → SoFar f all (Wakes k ∷ more) region threads table out
@@ -253,17 +250,6 @@ same_either a b = elim (cases_eq a b) [
 or_moved : (k actor : ℕ) (was later : Bool) → (((k == actor) || was) || later) ≡ (was || ((actor == k) || later))
 or_moved k actor true later = ap (λ (x : Bool). x || later) (or-true (k == actor))
 or_moved k actor false later = ap (λ (x : Bool). x || later) (or-false (k == actor) ∙ same_either k actor)
-
-pub active_more : (ops : List Op) (i : ℕ) (d : Op) (was now : ℕ → Bool) → i < length ops → ((k : ℕ) → now k ≡ ((k == (slice_index_or ops i d).actor) || was k)) → ((k : ℕ) → (was k || is_active (drop i ops) k) ≡ is_active ops k)
-    → (k : ℕ) → (now k || is_active (drop (i + 1) ops) k) ≡ is_active ops k
-active_more ops i d was now lt is before k =
-    ap (λ (x : Bool). x || is_active (drop (i + 1) ops) k) (is k)
-    ∙ or_moved k (slice_index_or ops i d).actor (was k) (is_active (drop (i + 1) ops) k)
-    ∙ ap (λ (os : List Op). was k || is_active os k) (sym (drop_more ops i d lt))
-    ∙ before k
-
-pub active_end : (ops : List Op) (i : ℕ) (set : ℕ → Bool) → length ops ≤ i → ((k : ℕ) → (set k || is_active (drop i ops) k) ≡ is_active ops k) → (k : ℕ) → set k ≡ is_active ops k
-active_end ops i set le before k = sym (or-false (set k)) ∙ ap (λ (os : List Op). set k || is_active os k) (sym (drop_of_length-le ops le)) ∙ before k
 
 -- ---- the profile is the region's
 pub at_region : {f : Profile} {all acts : List Act} {region : PlainRegion} {threads : List Thread} {table : Names} {out : Records} → SoFar f all acts region threads table out → SoFar (profile_of region) all acts region threads table out

@@ -82,12 +82,6 @@ pub record Rises (f : Profile) (k : ℕ) (region : PlainRegion) (thread : Thread
   pub stands : RegionStands region l
   pub this : ThreadStands f k thread l own
 
--- each answer agreed with the thread's part
-pub agreed_at : {f : Profile} {k : ℕ} {c : Cached} {desk desk' : PlainDesk} {l : Whole} {own : ℕ} {steps : List Made} → Sits f k c desk l own
-    → Adds (standing_of desk) (standing_of desk') (λ v l. AtRest (profile_of (region_of desk)) c v) steps → Agreed f (part k l) steps
-agreed_at {f} {k} {c} {desk} {desk'} {l} {own} {steps} s adds =
-    subst (λ (g : Profile). Agreed g (part k l) steps) s.profile (adds.agreed (part k l) l s.stood (subst (λ (g : Profile). AtRest g c (part k l)) (sym s.profile) s.rest))
-
 pub rises : {f : Profile} {k : ℕ} {c : Cached} {desk desk' : PlainDesk} {region' : PlainRegion} {thread' : Thread} {l : Whole} {own own' : ℕ} {steps : List Made}
     → Sits f k c desk l own → IsSeated region' thread' desk'
     → Adds (standing_of desk) (standing_of desk') (λ v l. AtRest (profile_of (region_of desk)) c v) steps

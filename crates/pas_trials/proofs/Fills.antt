@@ -30,15 +30,6 @@ may_search d = record { rights = λ p of. refl; clear = record { on = λ p. reco
 pub may_stop_then : {f : Profile} {d : Directory} {steps : List Made} {slots : Slots} → GivesSlots f d steps slots → (v : View) → MaySearch d v → Agreed f v steps → MayStop slots (steps ++ v)
 may_stop_then {steps = steps} {slots = slots} gives v may agreed = subst (λ x. MayStopAt x slots (steps ++ v)) (sym gives.named) (gives.gets.from v may agreed).may_stop
 
--- with room for two events at a desk for which the actor made no step
-pub can_search : (desk : PlainDesk) (d : Directory) (l : Whole) → DeskStands desk [] l → room_of_pass (pass_of desk) ≡ 2
-    → CanCall (standing_of desk) (λ v l. SearchRoom (profile_of (region_of desk)) d 1 (room_of_pass (pass_of desk) - length (events_shown (pass_of desk))) v)
-can_search desk d l stood room =
-    let k = actor_of (pass_of desk) in
-    let none : events_shown (pass_of desk) ≡ reverse (events_of k []) = stood.pass.shown ∙ ap (λ v. reverse (events_of k v)) stood.part_is in
-    let empty : length (events_shown (pass_of desk)) ≡ 0 = ap length none in
-    record { view = []; whole = l; stood = stood; met = record { may = may_search d; room = (omega (arith, room, empty), inr (omega (arith, room, empty))) } }
-
 pub opens_beside : {desk : PlainDesk} {pass : PlainPass} {room : ℕ} → Opens desk pass room → Beside desk pass
 opens_beside o = record { view = []; whole = []; stood = o.stood; rests = o.rests; other = o.other }
 
