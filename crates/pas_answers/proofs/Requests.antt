@@ -1,20 +1,17 @@
 -- What a request promises.
-use Rattle.std.proofs.Common.{◌≡◌, ◌≢◌, ℕ, ◌+◌, ◌-◌, ◌%◌, ◌^◌, ◌<◌, ◌≤◌, ◌==◌, ◌++◌, Bool, true, false, if◌then◌else◌, List, [], ◌∷◌, length, Option, Some, None, Result, Ok, Err, refl, ap, sym, ◌∙◌, subst, arith}
+use Rattle.std.proofs.Common.{◌≡◌, ◌≢◌, ℕ, ◌+◌, ◌-◌, ◌^◌, ◌<◌, ◌≤◌, ◌==◌, ◌++◌, Bool, true, false, if◌then◌else◌, List, [], ◌∷◌, length, Option, Some, None, Result, Ok, Err, refl, ap, sym, ◌∙◌, subst, arith}
 use Rattle.std.specs.Prelude.{MatchResult}
-use Rattle.pas_profile.specs.Classes.{has_bit, IsClass}
+use Rattle.pas_profile.specs.Classes.{has_bit}
 use Rattle.pas_profile.specs.Directories.{IsDirectory, deed_word_of}
 use Rattle.pas_profile.specs.Profiles.{IsValid, IsDirectoryOf}
 use Rattle.pas_profile.specs.Routes.{route_of}
 use Rattle.pas_profile.specs.declared.profile.Profile.{Profile}
 use Rattle.pas_profile.specs.declared.directory.Directory.{Directory}
-use Rattle.pas_profile.specs.declared.directory.Route.{Route}
 use Rattle.pas_profile.specs.declared.event.Event.{Event}
 use Rattle.pas_profile.specs.declared.event.NoRoom.{NoRoom}
 use Rattle.pas_profile.specs.declared.name.Block.{Block}
 use Rattle.pas_profile.specs.declared.word.Word.TheVariants as Word
-use Rattle.pas_profile.proofs.ClassFacts.{class_suits}
 use Rattle.pas_profile.proofs.Codecs.{same_from_deed_word}
-use Rattle.pas_profile.specs.Runs.{address_of}
 use Rattle.pas_machine.specs.State.{deed_in}
 use Rattle.pas_core.specs.Good.{word_of_deed}
 use Rattle.pas_core.proofs.Bits.{no_bit}
@@ -51,11 +48,6 @@ pub can_allocate : {σ : Standing} (c : Cached) (name heap size align spare : �
 can_allocate {σ} c name heap size align spare can = record { view = can.view; whole = can.whole; stood = can.stood; met = may_allocate σ.seat.profile c name heap size align spare can.view can.met }
 
 -- ---- the directory
-routed : (r : Route) → IsClassRoute r → r ≡ Route.Class (class_of r)
-routed (Route.Class class) is = refl
-routed Route.Bitfit is = absurd is
-routed Route.Large is = absurd is
-
 -- a deed word of a directory is of that one
 directory_is : (o : Option Directory) (d : Directory) → IsDirectory d → ((x : Directory) → o ≡ Some x → IsDirectory x) → word_of_deed o ≡ deed_word_of d → o ≡ Some d
 directory_is None d is all word = absurd (omega (arith, word))
