@@ -1,13 +1,12 @@
 -- Two actors that refill after each other.
-use Rattle.std.proofs.Common.{◌≡◌, ◌≢◌, ℕ, ◌-◌, List, [], ◌++◌, length, reverse, refl, ap, sym, ◌∙◌, subst, arith, inr}
+use Rattle.std.proofs.Common.{◌≡◌, ◌≢◌, ℕ, List, [], ◌++◌, refl, ap, sym, ◌∙◌, subst}
 use Rattle.pas_profile.specs.declared.directory.Directory.{Directory}
 use Rattle.pas_profile.specs.declared.profile.Profile.{Profile}
-use Rattle.pas_steps.specs.Events.{events_of}
 use Rattle.pas_steps.specs.Views.{View}
 use Rattle.pas_steps.specs.Lists.{Whole, part}
-use Rattle.pas_steps.specs.Desks.{Seat, triples, CanCall}
+use Rattle.pas_steps.specs.Desks.{Seat, triples}
 use Rattle.pas_steps.proofs.Parts.{part_of_others}
-use Rattle.pas_plain.specs.Plain.{profile_of, actor_of, events_shown, room_of_pass, RegionStands, PassStands}
+use Rattle.pas_plain.specs.Plain.{profile_of, actor_of, room_of_pass, RegionStands, PassStands}
 use Rattle.pas_plain.specs.Seats.{region_of, pass_of, standing_of, DeskStands}
 use Rattle.pas_plain.specs.declared.desk.PlainDesk.{PlainDesk}
 use Rattle.pas_plain.specs.declared.pass.PlainPass.{PlainPass}
@@ -15,7 +14,7 @@ use Rattle.pas_plain.specs.declared.region.PlainRegion.{PlainRegion}
 use Rattle.pas_plain.proofs.Passes.{pass_rests}
 use Rattle.pas_steps.specs.Agreement.{Agreed}
 use Rattle.pas_steps.specs.declared.step.Made.{Made}
-use Rattle.pas_search.specs.Searches.{MaySearch, SearchRoom}
+use Rattle.pas_search.specs.Searches.{MaySearch}
 use Rattle.pas_segregated.specs.Refills.{GivesSlots}
 use Rattle.pas_segregated.specs.Stops.{MayStopAt, MayStop}
 use Rattle.pas_segregated.specs.declared.slots.Slots.{Slots}
