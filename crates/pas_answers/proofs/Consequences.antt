@@ -10,7 +10,7 @@ use Rattle.pas_steps.specs.Desks.{made, triples}
 use Rattle.pas_steps.specs.declared.step.Made.{Made}
 use Rattle.pas_steps.specs.declared.step.Step.TheVariants.{Look}
 use Rattle.pas_steps.proofs.Parts.{part_of_own, part_of_others}
-use Rattle.pas_core.specs.Stamps.{AllStamped, KeepsToEnds, AllKeepToEnds}
+use Rattle.pas_core.specs.Stamps.{AllStamped, AllKeepToEnds}
 use Rattle.pas_core.proofs.StampedEnds.{stamps_are_ends}
 use Rattle.pas_report.specs.Lines.{CanShow}
 use Rattle.pas_report.specs.Rests.{AreStamped}
@@ -24,7 +24,7 @@ use Rattle.pas_report.specs.declared.record.Record.{Record}
 use Rattle.pas_report.proofs.TrueMarks.{true_marks}
 use Rattle.pas_answers.specs.Acts.{Act, Operates, MarksPhase, Wakes, MarksClose, Ends, acts_of}
 use Rattle.pas_answers.specs.Answers.{Progress, having, with_records, with_steps, begun, records_of, said_by, Follows}
-use Rattle.pas_answers.specs.Replays.{at_start, phases_of, empty_caches, IsReplay}
+use Rattle.pas_answers.specs.Replays.{at_start, phases_of, IsReplay}
 use Rattle.pas_answers.specs.Ways.{Way, IsOneOrder, arranged}
 use Rattle.pas_answers.proofs.Parts.{Each, same_parts, legal_part, of_front, of_rest}
 use Rattle.pas_answers.proofs.Shown.{EachShown, each_both, each_arranged, piece_shown, records_shown, all_shown}

@@ -5,7 +5,7 @@ use Rattle.pas_profile.specs.declared.name.Block.{Block}
 use Rattle.pas_steps.specs.Views.{View}
 use Rattle.pas_steps.specs.declared.step.Made.{Made}
 use Rattle.pas_trace.specs.declared.plan.What.{What}
-use Rattle.pas_trace.specs.declared.plan.What.TheVariants.{Alloc, Free, Raw, Flush, Stop, Tick, Pass, Idle}
+use Rattle.pas_trace.specs.declared.plan.What.TheVariants.{Alloc, Free, Raw, Flush, Stop}
 use Rattle.pas_report.specs.declared.record.Said.{Said}
 use Rattle.pas_cache.specs.Caches.{Cached}
 use Rattle.pas_answers.specs.Answers.{block_of, having, answer_of, Named, standing_for, IsAnswered}
@@ -30,6 +30,4 @@ known_after f k (Free name) asked names names' l c c' steps said answered known 
 known_after f k (Raw block) asked names names' l c c' steps said answered known = same_names asked answered.1 known
 known_after f k Flush asked names names' l c c' steps said answered known = same_names asked answered.2 known
 known_after f k Stop asked names names' l c c' steps said answered known = same_names asked answered.2 known
-known_after f k (Tick e) asked names names' l c c' steps said answered known = absurd answered
-known_after f k Pass asked names names' l c c' steps said answered known = absurd answered
-known_after f k (Idle n) asked names names' l c c' steps said answered known = absurd answered
+known_after f k what asked names names' l c c' steps said answered known = absurd answered

@@ -4,8 +4,6 @@ pub mod Frees
 pub mod Requests
 pub mod Records
 pub mod KnownNames
-pub mod Speaking
-pub mod Weaving
 pub mod Parts
 pub mod Shown
 pub mod Tidy

@@ -1,20 +1,18 @@
 -- What a request promises.
-use Rattle.std.proofs.Common.{◌≡◌, ◌≢◌, ℕ, ◌+◌, ◌-◌, ◌%◌, ◌^◌, ◌<◌, ◌≤◌, ◌==◌, ◌++◌, Bool, true, false, if◌then◌else◌, List, [], ◌∷◌, length, Option, Some, None, Result, Ok, Err, refl, ap, sym, ◌∙◌, subst, arith}
+use Rattle.std.proofs.Common.{◌≡◌, ◌≢◌, ℕ, ◌+◌, ◌-◌, ◌^◌, ◌<◌, ◌≤◌, ◌==◌, ◌++◌, Bool, true, false, if◌then◌else◌, List, [], ◌∷◌, length, Option, Some, None, Result, Ok, Err, refl, ap, sym, ◌∙◌, subst, arith}
 use Rattle.std.specs.Prelude.{MatchResult}
-use Rattle.pas_profile.specs.Classes.{has_bit, IsClass}
+use Rattle.std.proofs.lemmas.Option.{same_Some, none-some}
+use Rattle.pas_profile.specs.Classes.{has_bit}
 use Rattle.pas_profile.specs.Directories.{IsDirectory, deed_word_of}
 use Rattle.pas_profile.specs.Profiles.{IsValid, IsDirectoryOf}
 use Rattle.pas_profile.specs.Routes.{route_of}
 use Rattle.pas_profile.specs.declared.profile.Profile.{Profile}
 use Rattle.pas_profile.specs.declared.directory.Directory.{Directory}
-use Rattle.pas_profile.specs.declared.directory.Route.{Route}
 use Rattle.pas_profile.specs.declared.event.Event.{Event}
 use Rattle.pas_profile.specs.declared.event.NoRoom.{NoRoom}
 use Rattle.pas_profile.specs.declared.name.Block.{Block}
 use Rattle.pas_profile.specs.declared.word.Word.TheVariants as Word
-use Rattle.pas_profile.proofs.ClassFacts.{class_suits}
-use Rattle.pas_profile.proofs.Codecs.{same_from_deed_word}
-use Rattle.pas_profile.specs.Runs.{address_of}
+use Rattle.pas_profile.proofs.Codecs.{same_from_deed_word, directory_from_profile}
 use Rattle.pas_machine.specs.State.{deed_in}
 use Rattle.pas_core.specs.Good.{word_of_deed}
 use Rattle.pas_core.proofs.Bits.{no_bit}
@@ -51,28 +49,16 @@ pub can_allocate : {σ : Standing} (c : Cached) (name heap size align spare : �
 can_allocate {σ} c name heap size align spare can = record { view = can.view; whole = can.whole; stood = can.stood; met = may_allocate σ.seat.profile c name heap size align spare can.view can.met }
 
 -- ---- the directory
-routed : (r : Route) → IsClassRoute r → r ≡ Route.Class (class_of r)
-routed (Route.Class class) is = refl
-routed Route.Bitfit is = absurd is
-routed Route.Large is = absurd is
-
--- a class that serves a request exists
-pub class_exists : (size align : ℕ) → IsClassRoute (route_of size align) → IsClass (class_of (route_of size align))
-class_exists size align is = (class_suits size align (class_of (route_of size align)) (routed (route_of size align) is)).known
-
 -- a deed word of a directory is of that one
 directory_is : (o : Option Directory) (d : Directory) → IsDirectory d → ((x : Directory) → o ≡ Some x → IsDirectory x) → word_of_deed o ≡ deed_word_of d → o ≡ Some d
 directory_is None d is all word = absurd (omega (arith, word))
 directory_is (Some x) d is all word = ap (λ y. Some y) (same_from_deed_word x d (all x refl) is word)
 
-of_limits : (f : Profile) (d : Directory) → IsValid f → IsDirectoryOf f d → IsDirectory d
-of_limits f d valid of = let heap = of.heap in let few = valid.heaps in record { heap = omega (arith, heap, few); kind = of.kind }
-
 -- a deed that an actor knows is the page's deed
 pub known_directory : (f : Profile) (l : Whole) (k page : ℕ) (d : Directory) → IsValid f → Legal f l → IsDirectoryOf f d → KnowsDeed page d (part k l) → deed_in (visible l) page ≡ Some d
 known_directory f l k page d valid legal of knows =
     let some : known_deed (part k l) page ≢ 0 = λ none. deed_word_ne d (sym knows ∙ none) in
-    directory_is (deed_in (visible l) page) d (of_limits f d valid of) (λ x found. of_limits f x valid (directory_is_of f l legal page x found))
+    directory_is (deed_in (visible l) page) d (directory_from_profile f d valid of) (λ x found. directory_from_profile f x valid (directory_is_of f l legal page x found))
     (sym (deed_of f l legal page) ∙ sym (known_is (known_deed (part k l) page) (word_after l (Word.Deed page)) (deeds_known f l legal k page) some) ∙ knows)
 
 -- ---- what is owed
@@ -107,9 +93,6 @@ turn_of_one false block was b new old is = old is
 turns_with : (table table' : Names) (name : ℕ) (block : Option Block) → HasTurns table → SetsName table table' name block → ((b : Block) → block ≡ Some b → b.name.turn < 2 ^ 40 - 1) → HasTurns table'
 turns_with table table' name block turns sets new n b is = turn_of_one (name == n) block (block_named table n) b new (turns n b) (sym (sets n) ∙ is)
 
-some_block : {b d : Block} → Some b ≡ Some d → b ≡ d
-some_block h = cc
-
 -- the turn of a block that was given is far below the last one
 pub turns_given : {σ σ' : Standing} {answer : Result Block NoRoom} {tells : Bool} (table table' : Names) (c c' : Cached) (name heap size align class spare : ℕ) (block : Block) → HasTurns table → SetsName table table' name (Some block)
     → CanCall σ (λ v l. MayPerform σ.seat.profile c (Alloc name heap size align) spare v) → Allocates (class_directory heap class) heap class align tells c c' σ σ' answer → answer ≡ Ok block → HasTurns table'
@@ -117,13 +100,10 @@ turns_given {σ} {σ'} {answer} {tells} table table' c c' name heap size align c
     let of : IsBlockFor σ.seat.profile (class_directory heap class) (AtRest σ.seat.profile c) heap class align call.steps block
     = subst (λ a. MatchResult a (IsBlockFor σ.seat.profile (class_directory heap class) (AtRest σ.seat.profile c) heap class align call.steps) (λ room. IsSilent call.steps)) is call.outcome in
     let small = of.turn.from can.view can.met.rest (call.calls.adds.agreed can.view can.whole can.stood can.met.rest) in
-    turns_with table table' name (Some block) turns sets (λ b same. subst (λ d. d.name.turn < 2 ^ 40 - 1) (some_block same) (omega (arith, small)))
-
-none_block : {b : Block} → None ≡ Some b → ⊥
-none_block h = cc
+    turns_with table table' name (Some block) turns sets (λ b same. subst (λ d. d.name.turn < 2 ^ 40 - 1) (same_Some _ _ same) (omega (arith, small)))
 
 pub turns_refused : (table table' : Names) (name : ℕ) → HasTurns table → SetsName table table' name None → HasTurns table'
-turns_refused table table' name turns sets = turns_with table table' name None turns sets (λ b same. absurd (none_block same))
+turns_refused table table' name turns sets = turns_with table table' name None turns sets (λ b same. absurd (none-some _ same))
 
 -- ---- a request
 pub performs_given : {σ σ' : Standing} {answer : Result Block NoRoom} {tells : Bool} (table table' : Names) (c c' : Cached) (name heap size align : ℕ) (block : Block)

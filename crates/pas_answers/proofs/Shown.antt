@@ -62,12 +62,6 @@ pub piece_shown : (f : Profile) (k : ℕ) (steps : List Made) (said : Option Sai
 piece_shown f k steps said v of = each_both (records_of (events_by k v steps)) (said_by k said) (records_shown f k steps v of) (said_shown k said)
 
 -- ---- all records
-only_one : (r : Record) → CanShow r → All CanShow (r ∷ [])
-only_one r one = All-push CanShow [] r (All-nil CanShow) one
-
-first_shown : (r : Record) (rs : List Record) → CanShow r → All CanShow rs → All CanShow (r ∷ rs)
-first_shown r rs one all = All-append CanShow (r ∷ []) rs (only_one r one) all
-
 pub all_shown : (rs : List Record) → EachShown rs → All CanShow rs
 all_shown [] all = All-nil CanShow
-all_shown (r ∷ rs) all = first_shown r rs all.0 (all_shown rs all.1)
+all_shown (r ∷ rs) all = All-append CanShow (r ∷ []) rs (All-push CanShow [] r (All-nil CanShow) all.0) (all_shown rs all.1)

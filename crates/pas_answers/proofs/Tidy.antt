@@ -1,27 +1,22 @@
 -- What answers an operation leaves its actor's view tidy: no epoch is learned between an end and its stamps, a page is stamped only where it is unstamped,
 -- and at the end none is.
 use Rattle.std.proofs.Common.{◌≡◌, ℕ, zero, suc, ◌+◌, ◌-◌, ◌*◌, ◌/◌, ◌^◌, ◌<◌, ◌≤◌, ◌==◌, nat_le, Bool, true, false, ◌&&◌, if◌then◌else◌, List, [], ◌∷◌, ◌++◌, length, Option, Some, None, inl, inr, refl, ap, sym, ◌∙◌, subst, arith, append_assoc}
-use Rattle.std.proofs.lemmas.Bool.{true≢false, false≢true, eqb-true, eqb-false, eq-eqb, ne_eqb, cases_eq, false_from_ne_true}
+use Rattle.std.proofs.lemmas.Bool.{true≢false, false≢true, eqb-false, eq-eqb, ne_eqb, false_from_ne_true}
 use Rattle.std.proofs.lemmas.Bool.Decides.{nat_tests}
 use Rattle.pas_profile.specs.Lives.{live_word}
 use Rattle.pas_profile.specs.Directories.{directory_read, deed_word_of}
-use Rattle.pas_profile.specs.Profiles.{IsValid}
 use Rattle.pas_profile.specs.declared.profile.Profile.{Profile}
 use Rattle.pas_profile.specs.declared.name.Name.{Name}
 use Rattle.pas_profile.specs.declared.name.Block.{Block}
 use Rattle.pas_profile.specs.declared.word.Word.{Word}
 use Rattle.pas_profile.specs.Runs.{meets_page, address_of, grain_of}
 use Rattle.pas_steps.specs.Views.{View, unstamped_after, is_unstamped}
-use Rattle.pas_steps.specs.Events.{events_by}
 use Rattle.pas_steps.specs.Allowed.{IsStepOf}
-use Rattle.pas_steps.specs.Lists.{Whole, part, Legal}
-use Rattle.pas_steps.specs.Desks.{made, triple, triples}
+use Rattle.pas_steps.specs.Desks.{made}
 use Rattle.pas_steps.specs.declared.step.Made.{Made}
 use Rattle.pas_steps.specs.declared.step.Step.{Step}
 use Rattle.pas_steps.specs.declared.step.Step.TheVariants.{Look, End, Stamp, Tick}
-use Rattle.pas_steps.proofs.Parts.{part_of_own, part_of_others}
-use Rattle.pas_core.specs.Stamps.{AllStamped, KeepsToEnds, AllKeepToEnds}
-use Rattle.pas_core.proofs.StampedEnds.{stamps_are_ends}
+use Rattle.pas_core.specs.Stamps.{AllStamped, KeepsToEnds}
 use Rattle.pas_rights.proofs.Orders.{return_returns}
 use Rattle.pas_rights.proofs.Puts.{puts_kinds}
 use Rattle.pas_free_log.specs.Endings.{guess_by, Tries, IsEndOf, EndSteps}
@@ -38,13 +33,8 @@ use Rattle.pas_cache.specs.Kinds.{releasing, allocating}
 use Rattle.pas_steps.proofs.Apart.{holds_over, only_both, only_within, unstamped_same}
 use Rattle.pas_steps.proofs.Calls.{returns_are}
 use Rattle.pas_trace.specs.declared.plan.What.{What}
-use Rattle.pas_report.specs.declared.record.Record.{Record}
 use Rattle.pas_report.specs.declared.record.Said.{Said}
-use Rattle.pas_answers.specs.Acts.{Act, Operates, MarksPhase, Wakes, MarksClose, Ends}
-use Rattle.pas_answers.specs.Answers.{Having, Answer, Progress, having, with_records, with_steps, begun, records_of, said_by, standing_for, IsFreed, IsFreedBy, IsStopped, IsAnswered, Follows}
-use Rattle.pas_report.specs.Rests.{AreStamped}
-use Rattle.pas_answers.specs.Replays.{at_start}
-use Rattle.pas_answers.specs.Ways.{Way, IsOneOrder}
+use Rattle.pas_answers.specs.Answers.{Having, Answer, standing_for, IsFreed, IsFreedBy, IsStopped, IsAnswered}
 use Rattle.pas_report.proofs.Showable.{AreOfRegion}
 use Rattle.pas_answers.proofs.Parts.{of_front, of_back}
 
@@ -288,6 +278,4 @@ answer_tidy f k (What.Free name) b a h of tidy = freed_tidy f k b.cache a.cache 
 answer_tidy f k (What.Raw block) b a h of tidy = free_tidy f k b.cache a.cache block a.steps a.said b.view of h.0 tidy
 answer_tidy f k What.Flush b a h of tidy = flush_tidy f k b.cache.log a.steps b.view of h.0.empties tidy
 answer_tidy f k What.Stop b a h of tidy = stop_tidy f k b.cache a.cache a.steps b.view of h.0 tidy
-answer_tidy f k (What.Tick e) b a h of tidy = absurd h
-answer_tidy f k What.Pass b a h of tidy = absurd h
-answer_tidy f k (What.Idle n) b a h of tidy = absurd h
+answer_tidy f k what b a h of tidy = absurd h

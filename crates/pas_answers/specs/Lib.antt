@@ -1,6 +1,5 @@
 pub mod Acts
 pub mod Answers
-pub mod Own
 pub mod Ways
 pub mod Replays
 pub mod Fit

@@ -1,15 +1,10 @@
 -- What several reads or writes in a row do to the bytes that are told.
-use Rattle.std.proofs.Common.{◌≡◌, ℕ, ◌+◌, ◌≤◌, List, [], ◌++◌, Option, None, Some, take, drop, length, refl, ap, sym, ◌∙◌, subst, append_assoc, append-nil, arith, length-take}
+use Rattle.std.proofs.Common.{◌≡◌, ℕ, ◌+◌, ◌≤◌, List, ◌++◌, Option, None, Some, take, drop, length, ap, sym, ◌∙◌, subst, append_assoc, arith, length-take}
 use Rattle.std.proofs.lemmas.List.{take-append-le, take-append-drop, take_all}
 use Rattle.std.proofs.Math.Seq.{take-add, take-append-add}
 use borrow.Rule.Slice.PartMut.{put_mid, post_of}
 use Rattle.pas_io.specs.Inputs.{HasRead}
 use Rattle.pas_io.specs.Told.{Moves, MovesTold, Writes, WritesFront}
-
--- writes: none, one after another, and a first part
-pub writes_none : (held : Option (List ℕ)) → Writes held held []
-writes_none None = refl
-writes_none (Some held) = ap Some (sym (append-nil held))
 
 pub writes_more : (before middle after : Option (List ℕ)) (xs ys : List ℕ) → Writes before middle xs → Writes middle after ys → Writes before after (xs ++ ys)
 writes_more None middle after xs ys first next = let Next : Option (List ℕ) → Type 0 = λ m. Writes m after ys in subst Next first next

@@ -1,4 +1,3 @@
-pub mod FreeWords
 pub mod Passes
 pub mod Stepping
 pub mod Walk

@@ -25,7 +25,7 @@ use Rattle.pas_plain.specs.Seats.{DeskStands, standing_of, IsChanged}
 use Rattle.pas_plain.specs.declared.region.PlainRegion.{PlainRegion}
 use Rattle.pas_plain.specs.declared.pass.PlainPass.{PlainPass}
 use Rattle.pas_plain.specs.declared.desk.PlainDesk.{PlainDesk}
-use Rattle.pas_plain.proofs.FreeWords.{place_written}
+use Rattle.pas_steps.proofs.Written.{place_written}
 
 -- the actor's part has the step
 own_part : (k : ℕ) (m : Made) (l : Whole) → part k (triple k m ∷ l) ≡ m ∷ part k l

@@ -36,49 +36,33 @@ use Rattle.pas_replay.proofs.Threads.{stands_at, cache_at, set_stands, set_cache
 use Rattle.pas_replay.proofs.Sittings.{sits, desk_for, may_sit, its_pass, rises, other_stands}
 
 -- ---- marks
-marked_so : {f : Profile} {all more : List Act} {act : Act} {region : PlainRegion} {threads : List Thread} {table : Names} {out out' : Records} (mark : Record) → (so : SoFar f all (act ∷ more) region threads table out)
-    → ops_in (act ∷ more) ≡ ops_in more
-    → length (records_in out') + (owed_from f so.whole 1 threads + (costs_of (ops_in more) + marks_in more)) ≤ room_of out'
-    → ((l : Whole) (rs : List Record) → Follows f more (progress so.names so.caches so.whole (records_in out')) l rs → Follows f all at_start l rs)
-    → SoFar f all more region threads table out'
-marked_so {f} {all} {more} {act} {region} {threads} {table} {out} {out'} mark so same spare answers = record {
-  profile_is = so.profile_is;
-  unshared = so.unshared;
-  count = so.count;
-  whole = so.whole;
-  stands = so.stands;
-  each = same_ops f so.whole (act ∷ more) more 1 threads same so.each;
-  nobody = so.nobody;
-  asked = so.asked;
-  fit = subst (λ (ops : List Op). AreFit f (names_held table) so.asked ops) same so.fit;
-  names = so.names;
-  tells = so.tells;
-  turns = so.turns;
-  known = so.known;
-  caches = so.caches;
-  caches_are = so.caches_are;
-  spare = spare;
-  answers = answers;
-}
-
-pub after_mark : {f : Profile} {all more : List Act} {region : PlainRegion} {threads : List Thread} {table : Names} {out out' : Records} (n : ℕ) → SoFar f all (MarksPhase n ∷ more) region threads table out
-    → records_in out' ≡ records_in out ++ Record.Phase n ∷ [] → room_of out' ≡ room_of out → SoFar f all more region threads table out'
-after_mark {f} {all} {more} {region} {threads} {table} {out} {out'} n so pushed room = marked_so (Record.Phase n) so refl
-    (let spare = so.spare in let m = ap length pushed ∙ length-append (records_in out) (Record.Phase n ∷ []) in omega (arith, spare, m, room))
-    (λ l rs follows. so.answers l rs (subst (λ (r : List Record). Follows f more (progress so.names so.caches so.whole r) l rs) pushed follows))
-
-pub after_close : {f : Profile} {all more : List Act} {region : PlainRegion} {threads : List Thread} {table : Names} {out out' : Records} → SoFar f all (MarksClose ∷ more) region threads table out
-    → records_in out' ≡ records_in out ++ Record.Close ∷ [] → room_of out' ≡ room_of out → SoFar f all more region threads table out'
-after_close {f} {all} {more} {region} {threads} {table} {out} {out'} so pushed room = marked_so Record.Close so refl
-    (let spare = so.spare in let m = ap length pushed ∙ length-append (records_in out) (Record.Close ∷ []) in omega (arith, spare, m, room))
-    (λ l rs follows. so.answers l rs (subst (λ (r : List Record). Follows f more (progress so.names so.caches so.whole r) l rs) pushed follows))
-
--- there is room for the mark
-pub mark_room : {f : Profile} {all more : List Act} {region : PlainRegion} {threads : List Thread} {table : Names} {out : Records} (n : ℕ) → SoFar f all (MarksPhase n ∷ more) region threads table out → length (records_in out) < room_of out
-mark_room n so = let spare = so.spare in omega (arith, spare)
-
-pub close_room : {f : Profile} {all more : List Act} {region : PlainRegion} {threads : List Thread} {table : Names} {out : Records} → SoFar f all (MarksClose ∷ more) region threads table out → length (records_in out) < room_of out
-close_room so = let spare = so.spare in omega (arith, spare)
+pub after_mark : {f : Profile} {all more : List Act} {act : Act} {region : PlainRegion} {threads : List Thread} {table : Names} {out out' : Records} (mark : Record) → (so : SoFar f all (act ∷ more) region threads table out)
+    → ops_in (act ∷ more) ≡ ops_in more → marks_in (act ∷ more) ≡ marks_in more + 1
+    → ((l : Whole) (rs : List Record) → Follows f more (progress so.names so.caches so.whole (records_in out ++ mark ∷ [])) l rs → Follows f (act ∷ more) (progress so.names so.caches so.whole (records_in out)) l rs)
+    → records_in out' ≡ records_in out ++ mark ∷ [] → room_of out' ≡ room_of out → SoFar f all more region threads table out'
+after_mark {f} {all} {more} {act} {region} {threads} {table} {out} {out'} mark so same one goes_on pushed room =
+    let spare = so.spare in
+    let costs = ap costs_of same in
+    let long = ap length pushed ∙ length-append (records_in out) (mark ∷ []) in
+    record {
+      profile_is = so.profile_is;
+      unshared = so.unshared;
+      count = so.count;
+      whole = so.whole;
+      stands = so.stands;
+      each = same_ops f so.whole (act ∷ more) more 1 threads same so.each;
+      nobody = so.nobody;
+      asked = so.asked;
+      fit = subst (λ (ops : List Op). AreFit f (names_held table) so.asked ops) same so.fit;
+      names = so.names;
+      tells = so.tells;
+      turns = so.turns;
+      known = so.known;
+      caches = so.caches;
+      caches_are = so.caches_are;
+      spare = omega (arith, spare, costs, long, one, room);
+      answers = λ l rs follows. so.answers l rs (goes_on l rs (subst (λ (r : List Record). Follows f more (progress so.names so.caches so.whole r) l rs) pushed follows));
+    }
 
 -- ---- a thread reads the epoch
 pub can_wake : {f : Profile} {all more : List Act} {region : PlainRegion} {threads : List Thread} {table : Names} {out : Records} (k i : ℕ) (d : Thread) → k ≡ 1 + i → i < length threads
@@ -137,12 +121,13 @@ woken {f} {all} {more} {region} {region'} {threads} {table} {out} k i d thread' 
     }
 
 -- ---- the acts that are left
-pub op_next : {f : Profile} {all : List Act} {region : PlainRegion} {threads : List Thread} {table : Names} {out : Records} (more : List Act) (ops : List Op) (i : ℕ) (d : Op) → i < length ops → SoFar f all (map Operates (drop i ops) ++ more) region threads table out
-    → SoFar f all (Operates (slice_index_or ops i d) ∷ (map Operates (drop (i + 1) ops) ++ more)) region threads table out
-op_next {f} {all} {region} {threads} {table} {out} more ops i d lt so = subst (λ (rest : List Op). SoFar f all (map Operates rest ++ more) region threads table out) (drop_more ops i d lt) so
+pub as_acts : {f : Profile} {all acts acts' : List Act} {region : PlainRegion} {threads : List Thread} {table : Names} {out : Records} → acts ≡ acts' → SoFar f all acts region threads table out → SoFar f all acts' region threads table out
+as_acts {f} {all} {region = region} {threads = threads} {table = table} {out = out} same so = subst (λ (acts : List Act). SoFar f all acts region threads table out) same so
 
-pub op_last : {f : Profile} {all : List Act} {region : PlainRegion} {threads : List Thread} {table : Names} {out : Records} (more : List Act) (ops : List Op) (i : ℕ) → length ops ≤ i → SoFar f all (map Operates (drop i ops) ++ more) region threads table out → SoFar f all more region threads table out
-op_last {f} {all} {region} {threads} {table} {out} more ops i le so = subst (λ (rest : List Op). SoFar f all (map Operates rest ++ more) region threads table out) (drop_of_length-le ops le) so
+-- .. where the first ones are alike
+pub as_list : {f : Profile} {all : List Act} {region : PlainRegion} {threads : List Thread} {table : Names} {out : Records} {A : Type 0} (to : A → Act) (more : List Act) {xs ys : List A} → xs ≡ ys
+    → SoFar f all (map to xs ++ more) region threads table out → SoFar f all (map to ys ++ more) region threads table out
+as_list {A = A} to more same so = as_acts (ap (λ (xs : List A). map to xs ++ more) same) so
 
 -- the threads that are left
 pub number_next : (k n m : ℕ) → n ≡ m + 1 → numbers_from k n ≡ k ∷ numbers_from (k + 1) m
@@ -153,13 +138,10 @@ pub number_last : (k n : ℕ) → n ≡ 0 → numbers_from k n ≡ []
 number_last k zero is = refl
 number_last k (suc n) is = absurd (omega (arith, is))
 
-pub active_next : (k n m : ℕ) (ops : List Op) → n ≡ m + 1 → is_active ops k ≡ true → active_from k n ops ≡ k ∷ active_from (k + 1) m ops
-active_next k zero m ops is on = absurd (omega (arith, is))
-active_next k (suc n) m ops is on = ap (λ (t : Bool). if t then k ∷ active_from (k + 1) n ops else active_from (k + 1) n ops) on ∙ ap (λ (x : ℕ). k ∷ active_from (k + 1) x ops) (omega (arith, is))
-
-pub active_not : (k n m : ℕ) (ops : List Op) → n ≡ m + 1 → is_active ops k ≡ false → active_from k n ops ≡ active_from (k + 1) m ops
-active_not k zero m ops is off = absurd (omega (arith, is))
-active_not k (suc n) m ops is off = ap (λ (t : Bool). if t then k ∷ active_from (k + 1) n ops else active_from (k + 1) n ops) off ∙ ap (λ (x : ℕ). active_from (k + 1) x ops) (omega (arith, is))
+pub active_next : {on : Bool} (k n m : ℕ) (ops : List Op) → n ≡ m + 1 → is_active ops k ≡ on → active_from k n ops ≡ (if on then k ∷ active_from (k + 1) m ops else active_from (k + 1) m ops)
+active_next k zero m ops is same = absurd (omega (arith, is))
+active_next {on} k (suc n) m ops is same =
+    ap (λ (b : Bool). if b then k ∷ active_from (k + 1) n ops else active_from (k + 1) n ops) same ∙ ap (λ (x : ℕ). if on then k ∷ active_from (k + 1) x ops else active_from (k + 1) x ops) (omega (arith, is))
 
 pub active_last : (k n : ℕ) (ops : List Op) → n ≡ 0 → active_from k n ops ≡ []
 active_last k zero ops is = refl
@@ -170,7 +152,7 @@ abbrev pub acts_left : ℕ → ℕ → List (List Op) → List Act
 acts_left threads zero phases = acts_of threads phases
 acts_left threads (suc n) phases = acts_from threads (suc n + 1) phases
 
-pub close_left : (threads n : ℕ) → acts_left threads n [] ≡ close_acts threads
+close_left : (threads n : ℕ) → acts_left threads n [] ≡ close_acts threads
 close_left threads zero = refl
 close_left threads (suc n) = refl
 
@@ -178,42 +160,19 @@ left_is : (threads n : ℕ) (phases : List (List Op)) → 1 ≤ n → acts_left 
 left_is threads zero phases some = absurd (omega (arith, some))
 left_is threads (suc n) phases some = refl
 
-pub other_phase : (threads n : ℕ) (phase : List Op) (phases : List (List Op)) → 1 ≤ n → acts_left threads n (phase ∷ phases) ≡ MarksPhase (n + 1) ∷ (phase_acts threads phase ++ acts_left threads (n + 1) phases)
-other_phase threads n phase phases some = left_is threads n (phase ∷ phases) some ∙ ap (λ (acts : List Act). MarksPhase (n + 1) ∷ (phase_acts threads phase ++ acts)) (sym (left_is threads (n + 1) phases (omega arith)))
-
-first_phase : (threads n : ℕ) (phase : List Op) (phases : List (List Op)) → n ≡ 0 → acts_left threads n (phase ∷ phases) ≡ phase_acts threads phase ++ acts_left threads (n + 1) phases
+-- the first phase, which has no mark, and another one
+pub first_phase : (threads n : ℕ) (phase : List Op) (phases : List (List Op)) → n ≡ 0 → acts_left threads n (phase ∷ phases) ≡ phase_acts threads phase ++ acts_left threads (n + 1) phases
 first_phase threads zero phase phases is = refl
 first_phase threads (suc n) phase phases is = absurd (omega (arith, is))
 
-pub phase_next : {f : Profile} {all : List Act} {region : PlainRegion} {list : List Thread} {table : Names} {out : Records} (threads : ℕ) (phases : List Phase) (i : ℕ) (d : Phase) (ops : List Op) → i < length phases → ops_of (slice_index_or phases i d) ≡ ops
-    → SoFar f all (acts_left threads i (map ops_of (drop i phases))) region list table out → SoFar f all (acts_left threads i (ops ∷ map ops_of (drop (i + 1) phases))) region list table out
-phase_next {f} {all} {region} {list} {table} {out} threads phases i d ops lt is so =
-    subst (λ (o : List Op). SoFar f all (acts_left threads i (o ∷ map ops_of (drop (i + 1) phases))) region list table out) is
-    (subst (λ (ps : List Phase). SoFar f all (acts_left threads i (map ops_of ps)) region list table out) (drop_more phases i d lt) so)
+pub other_phase : (threads n : ℕ) (phase : List Op) (phases : List (List Op)) → 1 ≤ n → acts_left threads n (phase ∷ phases) ≡ MarksPhase (n + 1) ∷ (phase_acts threads phase ++ acts_left threads (n + 1) phases)
+other_phase threads n phase phases some = left_is threads n (phase ∷ phases) some ∙ ap (λ (acts : List Act). MarksPhase (n + 1) ∷ (phase_acts threads phase ++ acts)) (sym (left_is threads (n + 1) phases (omega arith)))
 
--- the first phase, which has no mark
-pub begins_first : {f : Profile} {all : List Act} {region : PlainRegion} {list : List Thread} {table : Names} {out : Records} (threads i : ℕ) (ops : List Op) (rest : List (List Op)) → i ≡ 0 → SoFar f all (acts_left threads i (ops ∷ rest)) region list table out
-    → SoFar f all (phase_acts threads ops ++ acts_left threads (i + 1) rest) region list table out
-begins_first {f} {all} {region} {list} {table} {out} threads i ops rest is so = subst (λ (acts : List Act). SoFar f all acts region list table out) (first_phase threads i ops rest is) so
+pub next_phase : (threads : ℕ) (phases : List Phase) (i : ℕ) (d : Phase) (ops : List Op) → i < length phases → ops_of (slice_index_or phases i d) ≡ ops → acts_left threads i (map ops_of (drop i phases)) ≡ acts_left threads i (ops ∷ map ops_of (drop (i + 1) phases))
+next_phase threads phases i d ops lt is = ap (λ (ps : List Phase). acts_left threads i (map ops_of ps)) (drop_more phases i d lt) ∙ ap (λ (os : List Op). acts_left threads i (os ∷ map ops_of (drop (i + 1) phases))) is
 
--- another one
-begins_other : {f : Profile} {all : List Act} {region : PlainRegion} {list : List Thread} {table : Names} {out : Records} (threads i : ℕ) (ops : List Op) (rest : List (List Op)) → 1 ≤ i → SoFar f all (acts_left threads i (ops ∷ rest)) region list table out
-    → SoFar f all (MarksPhase (i + 1) ∷ (phase_acts threads ops ++ acts_left threads (i + 1) rest)) region list table out
-begins_other {f} {all} {region} {list} {table} {out} threads i ops rest some so = subst (λ (acts : List Act). SoFar f all acts region list table out) (other_phase threads i ops rest some) so
-
-pub marked : {f : Profile} {all : List Act} {region : PlainRegion} {list : List Thread} {table : Names} {out out' : Records} (threads i n : ℕ) (ops : List Op) (rest : List (List Op)) → 1 ≤ i → n ≡ i + 1 → SoFar f all (acts_left threads i (ops ∷ rest)) region list table out
-    → records_in out' ≡ records_in out ++ Record.Phase n ∷ [] → room_of out' ≡ room_of out → SoFar f all (phase_acts threads ops ++ acts_left threads (i + 1) rest) region list table out'
-marked {f} {all} {region} {list} {table} {out} {out'} threads i n ops rest some is so pushed room =
-    after_mark (i + 1) (begins_other threads i ops rest some so) (pushed ∙ ap (λ (k : ℕ). records_in out ++ Record.Phase k ∷ []) is) room
-
-pub marking : {f : Profile} {all : List Act} {region : PlainRegion} {list : List Thread} {table : Names} {out : Records} (threads i : ℕ) (ops : List Op) (rest : List (List Op)) → 1 ≤ i → SoFar f all (acts_left threads i (ops ∷ rest)) region list table out → length (records_in out) < room_of out
-marking threads i ops rest some so = mark_room (i + 1) (begins_other threads i ops rest some so)
-
-pub ends_here : {f : Profile} {all : List Act} {region : PlainRegion} {list : List Thread} {table : Names} {out : Records} (threads : ℕ) (phases : List Phase) (i : ℕ) → length phases ≤ i → SoFar f all (acts_left threads i (map ops_of (drop i phases))) region list table out
-    → SoFar f all (close_acts threads) region list table out
-ends_here {f} {all} {region} {list} {table} {out} threads phases i le so =
-    subst (λ (acts : List Act). SoFar f all acts region list table out) (close_left threads i)
-    (subst (λ (ps : List Phase). SoFar f all (acts_left threads i (map ops_of ps)) region list table out) (drop_of_length-le phases le) so)
+pub last_phase : (threads : ℕ) (phases : List Phase) (i : ℕ) → length phases ≤ i → acts_left threads i (map ops_of (drop i phases)) ≡ close_acts threads
+last_phase threads phases i le = ap (λ (ps : List Phase). acts_left threads i (map ops_of ps)) (drop_of_length-le phases le) ∙ close_left threads i
 
 -- ---- the thread of the next operation
 -- its place in the list
@@ -221,70 +180,20 @@ pub place_of : {f : Profile} {all more : List Act} {op : Op} {region : PlainRegi
     → (op.actor ≡ 1 + (op.actor - 1)) × (op.actor - 1 < length threads)
 place_of so = let low = so.fit.0.0 in let high = so.fit.0.1 in let count = so.count in (omega (arith, low), omega (arith, low, high, count))
 
--- ---- the end of the next thread
-pub end_next : {f : Profile} {all : List Act} {region : PlainRegion} {threads : List Thread} {table : Names} {out : Records} (more : List Act) (k n m : ℕ) → n ≡ m + 1
-    → SoFar f all (map Ends (numbers_from k n) ++ more) region threads table out → SoFar f all (Ends k ∷ (map Ends (numbers_from (k + 1) m) ++ more)) region threads table out
-end_next {f} {all} {region} {threads} {table} {out} more k n m is so = subst (λ (ks : List ℕ). SoFar f all (map Ends ks ++ more) region threads table out) (number_next k n m is) so
-
-pub end_last : {f : Profile} {all : List Act} {region : PlainRegion} {threads : List Thread} {table : Names} {out : Records} (more : List Act) (k n : ℕ) → n ≡ 0
-    → SoFar f all (map Ends (numbers_from k n) ++ more) region threads table out → SoFar f all more region threads table out
-end_last {f} {all} {region} {threads} {table} {out} more k n is so = subst (λ (ks : List ℕ). SoFar f all (map Ends ks ++ more) region threads table out) (number_last k n is) so
-
--- ---- the awakening of the next thread, if it is active
-pub wake_next : {f : Profile} {all : List Act} {region : PlainRegion} {threads : List Thread} {table : Names} {out : Records} (more : List Act) (k n m : ℕ) (ops : List Op) → n ≡ m + 1 → is_active ops k ≡ true
-    → SoFar f all (map Wakes (active_from k n ops) ++ more) region threads table out → SoFar f all (Wakes k ∷ (map Wakes (active_from (k + 1) m ops) ++ more)) region threads table out
-wake_next {f} {all} {region} {threads} {table} {out} more k n m ops is on so = subst (λ (ks : List ℕ). SoFar f all (map Wakes ks ++ more) region threads table out) (active_next k n m ops is on) so
-
-pub wake_not : {f : Profile} {all : List Act} {region : PlainRegion} {threads : List Thread} {table : Names} {out : Records} (more : List Act) (k n m : ℕ) (ops : List Op) → n ≡ m + 1 → is_active ops k ≡ false
-    → SoFar f all (map Wakes (active_from k n ops) ++ more) region threads table out → SoFar f all (map Wakes (active_from (k + 1) m ops) ++ more) region threads table out
-wake_not {f} {all} {region} {threads} {table} {out} more k n m ops is off so = subst (λ (ks : List ℕ). SoFar f all (map Wakes ks ++ more) region threads table out) (active_not k n m ops is off) so
-
-pub wake_last : {f : Profile} {all : List Act} {region : PlainRegion} {threads : List Thread} {table : Names} {out : Records} (more : List Act) (k n : ℕ) (ops : List Op) → n ≡ 0
-    → SoFar f all (map Wakes (active_from k n ops) ++ more) region threads table out → SoFar f all more region threads table out
-wake_last {f} {all} {region} {threads} {table} {out} more k n ops is so = subst (λ (ks : List ℕ). SoFar f all (map Wakes ks ++ more) region threads table out) (active_last k n ops is) so
-
--- ---- which threads are active, so far
-same_either : (a b : ℕ) → (a == b) ≡ (b == a)
-same_either a b = elim (cases_eq a b) [
-  | inl same ↦ eq-eqb a b same ∙ sym (eq-eqb b a (sym same))
-  | inr other ↦ ne_eqb a b other ∙ sym (ne_eqb b a (λ e. other (sym e)))
-]
-
-or_moved : (k actor : ℕ) (was later : Bool) → (((k == actor) || was) || later) ≡ (was || ((actor == k) || later))
-or_moved k actor true later = ap (λ (x : Bool). x || later) (or-true (k == actor))
-or_moved k actor false later = ap (λ (x : Bool). x || later) (or-false (k == actor) ∙ same_either k actor)
-
-pub active_more : (ops : List Op) (i : ℕ) (d : Op) (was now : ℕ → Bool) → i < length ops → ((k : ℕ) → now k ≡ ((k == (slice_index_or ops i d).actor) || was k)) → ((k : ℕ) → (was k || is_active (drop i ops) k) ≡ is_active ops k)
-    → (k : ℕ) → (now k || is_active (drop (i + 1) ops) k) ≡ is_active ops k
-active_more ops i d was now lt is before k =
-    ap (λ (x : Bool). x || is_active (drop (i + 1) ops) k) (is k)
-    ∙ or_moved k (slice_index_or ops i d).actor (was k) (is_active (drop (i + 1) ops) k)
-    ∙ ap (λ (os : List Op). was k || is_active os k) (sym (drop_more ops i d lt))
-    ∙ before k
-
-pub active_end : (ops : List Op) (i : ℕ) (set : ℕ → Bool) → length ops ≤ i → ((k : ℕ) → (set k || is_active (drop i ops) k) ≡ is_active ops k) → (k : ℕ) → set k ≡ is_active ops k
-active_end ops i set le before k = sym (or-false (set k)) ∙ ap (λ (os : List Op). set k || is_active os k) (sym (drop_of_length-le ops le)) ∙ before k
-
 -- ---- the profile is the region's
-pub at_region : {f : Profile} {all acts : List Act} {region : PlainRegion} {threads : List Thread} {table : Names} {out : Records} → SoFar f all acts region threads table out → SoFar (profile_of region) all acts region threads table out
-at_region {f} {all} {acts} {region} {threads} {table} {out} so = subst (λ (g : Profile). SoFar g all acts region threads table out) (sym so.profile_is) so
-
 pub of_profile : {f g : Profile} {all acts : List Act} {region : PlainRegion} {threads : List Thread} {table : Names} {out : Records} → g ≡ f → SoFar g all acts region threads table out → SoFar f all acts region threads table out
-of_profile {f} {g} {all} {acts} {region} {threads} {table} {out} same so = subst (λ (h : Profile). SoFar h all acts region threads table out) same so
+of_profile {all = all} {acts = acts} {region = region} {threads = threads} {table = table} {out = out} same so = subst (λ (h : Profile). SoFar h all acts region threads table out) same so
+
+pub at_region : {f : Profile} {all acts : List Act} {region : PlainRegion} {threads : List Thread} {table : Names} {out : Records} → SoFar f all acts region threads table out → SoFar (profile_of region) all acts region threads table out
+at_region so = of_profile (sym so.profile_is) so
 
 -- the phase begins: first its threads wake
 pub wakes_first : {f : Profile} {all : List Act} {region : PlainRegion} {list : List Thread} {table : Names} {out : Records} (threads : ℕ) (ops : List Op) (more : List Act) → length list ≡ threads
     → SoFar f all (phase_acts threads ops ++ more) region list table out → SoFar (profile_of region) all (map Wakes (active_from 1 (length list) ops) ++ (map Operates ops ++ more)) region list table out
-wakes_first {f} {all} {region} {list} {table} {out} threads ops more same so =
-    at_region (subst (λ (n : ℕ). SoFar f all (map Wakes (active_from 1 n ops) ++ (map Operates ops ++ more)) region list table out) (sym same)
-    (subst (λ (acts : List Act). SoFar f all acts region list table out) (append_assoc (map Wakes (active_from 1 threads ops)) (map Operates ops) more) so))
-
-pub same_phase : {f : Profile} {all : List Act} {region : PlainRegion} {list : List Thread} {table : Names} {out : Records} (ops ops' : List Op) (more : List Act) → ops ≡ ops' → SoFar f all (map Operates ops ++ more) region list table out → SoFar f all (map Operates ops' ++ more) region list table out
-same_phase {f} {all} {region} {list} {table} {out} ops ops' more same so = subst (λ (os : List Op). SoFar f all (map Operates os ++ more) region list table out) same so
+wakes_first threads ops more same so =
+    at_region (as_acts (append_assoc (map Wakes (active_from 1 threads ops)) (map Operates ops) more ∙ ap (λ (n : ℕ). map Wakes (active_from 1 n ops) ++ (map Operates ops ++ more)) (sym same)) so)
 
 -- the close: the mark, and then the ends of the threads
 pub ends_first : {f : Profile} {all : List Act} {region : PlainRegion} {list : List Thread} {table : Names} {out : Records} (threads : ℕ) → length list ≡ threads
     → SoFar f all (map Ends (numbers_from 1 threads)) region list table out → SoFar (profile_of region) all (map Ends (numbers_from 1 (length list)) ++ []) region list table out
-ends_first {f} {all} {region} {list} {table} {out} threads same so =
-    at_region (subst (λ (n : ℕ). SoFar f all (map Ends (numbers_from 1 n) ++ []) region list table out) (sym same)
-    (subst (λ (acts : List Act). SoFar f all acts region list table out) (sym (append-nil (map Ends (numbers_from 1 threads)))) so))
+ends_first threads same so = at_region (as_acts (ap (λ (n : ℕ). map Ends (numbers_from 1 n)) (sym same) ∙ sym (append-nil _)) so)

@@ -4,6 +4,7 @@ use Rattle.std.proofs.lemmas.Bool.{cases_lt}
 use Rattle.std.proofs.lemmas.List.{length-reverse, length-take-le, get_or_append_left, get_or-reverse, get_or-take}
 use Rattle.std.proofs.lemmas.List.Elements.{All-nil, All-push}
 use Rattle.std.proofs.Math.Seq.{get_or-append_seam}
+use Rattle.std.proofs.lemmas.Option.{same_Some}
 use Rattle.pas_profile.specs.Rooms.{shown, size_of_room}
 use Rattle.pas_profile.specs.declared.room.EventRoom.{EventRoom}
 use Rattle.pas_trace.specs.Plans.{bounds_of}
@@ -133,9 +134,6 @@ first_room : (rooms : List EventRoom) → 1 ≤ length rooms → EventRoom
 first_room [] bad = absurd (omega (arith, bad))
 first_room (room ∷ rooms) some = room
 
-some_is : {A : Type 0} {x y : A} → Some x ≡ Some y → x ≡ y
-some_is h = cc
-
 -- threads with the passes of the rooms did nothing yet
 pub fresh_thread : (plan : Plan) (sizes : ℕ → Option ℕ) (count : ℕ) (rooms : List EventRoom) (passes : List PlainPass) (threads : List Thread) → AreRooms sizes count rooms → ((k : ℕ) → k < count → sizes k ≡ Some (slice_index (bounds_of plan.bounds) k))
     → passes ≡ passes_from 0 rooms → All (λ pass. PassStands plan.profile pass []) passes → AreThreads passes threads → (i : ℕ) (d : Thread) → i < length threads → IsFresh plan (1 + i) (slice_index_or threads i d)
@@ -154,6 +152,6 @@ fresh_thread plan sizes count rooms passes threads are bounds is stand made i d 
       present = one.0 ∙ ap (λ p. Some p) at;
       actor = refl;
       stands = subst (λ p. PassStands plan.profile p []) at (stand (1 + i) pass (omega (arith, lt, many)));
-      room = some_is (sym (are.each (1 + i) r (omega (arith, lt, many, same, long, all))) ∙ bounds (1 + i) (omega (arith, lt, many, same, long, all)));
+      room = same_Some _ _ (sym (are.each (1 + i) r (omega (arith, lt, many, same, long, all))) ∙ bounds (1 + i) (omega (arith, lt, many, same, long, all)));
       cache = one.1;
     }

@@ -1,6 +1,7 @@
 -- A thread sits down at the region, does something, and rises.
 use Rattle.std.proofs.Common.{◌≡◌, ◌≢◌, ℕ, ◌+◌, ◌≤◌, List, ◌++◌, length, Some, refl, ap, sym, ◌∙◌, subst, arith, length-append}
 use Rattle.std.proofs.lemmas.List.{length-reverse}
+use Rattle.std.proofs.lemmas.Option.{same_Some}
 use Rattle.pas_profile.specs.declared.profile.Profile.{Profile}
 use Rattle.pas_steps.specs.Agreement.{Agreed}
 use Rattle.pas_steps.specs.Events.{events_of, events_by}
@@ -22,9 +23,6 @@ use Rattle.pas_answers.specs.Calls.{owed_events}
 use Rattle.pas_replay.specs.Sessions.{IsSeated, ThreadStands, spare_at}
 use Rattle.pas_replay.specs.declared.seats.Thread.{Thread}
 
-some_is : {A : Type 0} {x y : A} → Some x ≡ Some y → x ≡ y
-some_is h = cc
-
 -- ---- at the desk
 -- thread k sits at this desk, with room for the events that it owes and `own` more
 pub record Sits (f : Profile) (k : ℕ) (c : Cached) (desk : PlainDesk) (l : Whole) (own : ℕ) : Type 0 where
@@ -37,7 +35,7 @@ pub record Sits (f : Profile) (k : ℕ) (c : Cached) (desk : PlainDesk) (l : Who
 pub sits : {f : Profile} {k : ℕ} {region : PlainRegion} {thread : Thread} {desk : PlainDesk} {l : Whole} {own : ℕ}
     → IsSeated region thread desk → profile_of region ≡ f → RegionStands region l → ThreadStands f k thread l own → Sits f k (cached thread.cache) desk l own
 sits {f} {k} {region} {thread} {desk} {l} {own} seated of stands st =
-    let pass : st.pass ≡ pass_of desk = some_is (sym st.present ∙ seated.pass_is) in
+    let pass : st.pass ≡ pass_of desk = same_Some _ _ (sym st.present ∙ seated.pass_is) in
     let here : profile_of (region_of desk) ≡ f = ap profile_of seated.region_is ∙ of in
     let actor : actor_of (pass_of desk) ≡ k = ap actor_of (sym pass) ∙ st.actor in
     record {
@@ -81,12 +79,6 @@ pub record Rises (f : Profile) (k : ℕ) (region : PlainRegion) (thread : Thread
   pub profile : profile_of region ≡ f
   pub stands : RegionStands region l
   pub this : ThreadStands f k thread l own
-
--- each answer agreed with the thread's part
-pub agreed_at : {f : Profile} {k : ℕ} {c : Cached} {desk desk' : PlainDesk} {l : Whole} {own : ℕ} {steps : List Made} → Sits f k c desk l own
-    → Adds (standing_of desk) (standing_of desk') (λ v l. AtRest (profile_of (region_of desk)) c v) steps → Agreed f (part k l) steps
-agreed_at {f} {k} {c} {desk} {desk'} {l} {own} {steps} s adds =
-    subst (λ (g : Profile). Agreed g (part k l) steps) s.profile (adds.agreed (part k l) l s.stood (subst (λ (g : Profile). AtRest g c (part k l)) (sym s.profile) s.rest))
 
 pub rises : {f : Profile} {k : ℕ} {c : Cached} {desk desk' : PlainDesk} {region' : PlainRegion} {thread' : Thread} {l : Whole} {own own' : ℕ} {steps : List Made}
     → Sits f k c desk l own → IsSeated region' thread' desk'

@@ -1,5 +1,5 @@
 -- Counts and sums below a number: one more, and how great they may be.
-use Rattle.std.proofs.Common.{◌≡◌, ℕ, zero, suc, ◌+◌, ◌*◌, ◌/◌, ◌%◌, ◌^◌, ◌<◌, ◌==◌, Bool, true, false, if◌then◌else◌, refl, ap, sym, ◌∙◌, arith, add-one, add-zero, add-suc}
+use Rattle.std.proofs.Common.{◌≡◌, ℕ, zero, suc, ◌+◌, ◌*◌, ◌/◌, ◌%◌, ◌^◌, ◌<◌, Bool, if◌then◌else◌, refl, ap, sym, ◌∙◌, arith, add-one}
 use Rattle.pas_report.specs.Reports.{grains_that}
 use Rattle.std.specs.Int.RustNames.{count_ones}
 use Rattle.pas_profile.specs.Classes.{has_bit}

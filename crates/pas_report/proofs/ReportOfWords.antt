@@ -8,7 +8,7 @@ use Rattle.pas_profile.specs.Profiles.{IsValid, IsPage, IsDirectoryOf}
 use Rattle.pas_profile.specs.declared.directory.Directory.{Directory}
 use Rattle.pas_profile.specs.declared.profile.Profile.{Profile}
 use Rattle.pas_profile.specs.declared.word.Word.TheVariants as Word
-use Rattle.pas_profile.proofs.Codecs.{number_lt, read-deed_word_of}
+use Rattle.pas_profile.proofs.Codecs.{number_lt, read-deed_word_of, directory_from_profile}
 use Rattle.pas_profile.specs.Runs.{in_run, length_of}
 use Rattle.pas_machine.specs.State.{Live, deed_in, backed_in, live_in, gives_in, ends_in, epoch_in}
 use Rattle.pas_machine.specs.Totals.{has_block}
@@ -72,15 +72,12 @@ deed_is_word : (f : Profile) (o : Option Directory) (word : ℕ) → word ≡ wo
 deed_is_word f None word is of = inl is
 deed_is_word f (Some d) word is of = inr (d, of d refl, is)
 
-pub directory_of : (f : Profile) (d : Directory) → IsValid f → IsDirectoryOf f d → IsDirectory d
-directory_of f d valid of = let few = valid.heaps in let heap = of.heap in record { heap = omega arith; kind = of.kind }
-
 deed_is_read : (o : Option Directory) (word : ℕ) → word ≡ word_of_deed o → ((d : Directory) → o ≡ Some d → IsDirectory d) → directory_read word ≡ o
 deed_is_read None word is of = ap directory_read is
 deed_is_read (Some d) word is of = ap directory_read is ∙ read-deed_word_of d (of d refl)
 
 pub deed_read_after : (f : Profile) (l : Whole) → IsValid f → Legal f l → (page : ℕ) → directory_read (word_after l (Word.Deed page)) ≡ deed_in (visible l) page
-deed_read_after f l valid legal page = deed_is_read (deed_in (visible l) page) (word_after l (Word.Deed page)) (deed_of f l legal page) (λ d is. directory_of f d valid (directory_is_of f l legal page d is))
+deed_read_after f l valid legal page = deed_is_read (deed_in (visible l) page) (word_after l (Word.Deed page)) (deed_of f l legal page) (λ d is. directory_from_profile f d valid (directory_is_of f l legal page d is))
 
 -- a page is backed where the machine's is
 pub backed_after : (f : Profile) (l : Whole) → Legal f l → (page : ℕ) → (marks_after l page).backed ≡ backed_in (visible l) page

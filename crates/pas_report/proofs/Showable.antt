@@ -9,7 +9,7 @@ use Rattle.pas_steps.specs.Events.{event_of, events_by, with_event, reason_of}
 use Rattle.pas_steps.specs.Views.{View, epoch_of}
 use Rattle.pas_steps.specs.declared.step.Made.{Made}
 use Rattle.pas_steps.specs.declared.step.Step.{Step}
-use Rattle.pas_steps.specs.declared.step.Step.TheVariants.{Deed, Back, Give, End, Unback}
+use Rattle.pas_steps.specs.declared.step.Step.TheVariants.{Deed, Back, End}
 use Rattle.pas_report.specs.Lines.{IsShowable}
 
 -- the steps are of the region

@@ -26,6 +26,3 @@ then_piece old now new x y first next = next ∙ ap (λ (t : List ℕ). t ++ y) 
 
 pub then_field : (old now new words number y : List ℕ) → now ≡ old ++ (words ++ number) → new ≡ now ++ y → new ≡ old ++ (words ++ (number ++ y))
 then_field old now new words number y first next = then_piece old now new (words ++ number) y first next ∙ ap (λ (t : List ℕ). old ++ t) (append_assoc words number y)
-
-pub whole_line : (old new text : List ℕ) → old ≡ [] → new ≡ old ++ text → new ≡ text
-whole_line old new text none is = is ∙ ap (λ (t : List ℕ). t ++ text) none

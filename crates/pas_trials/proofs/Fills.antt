@@ -1,13 +1,12 @@
 -- Two actors that refill after each other.
-use Rattle.std.proofs.Common.{◌≡◌, ◌≢◌, ℕ, ◌-◌, List, [], ◌++◌, length, reverse, refl, ap, sym, ◌∙◌, subst, arith, inr}
+use Rattle.std.proofs.Common.{◌≡◌, ◌≢◌, ℕ, List, [], ◌++◌, refl, ap, sym, ◌∙◌, subst}
 use Rattle.pas_profile.specs.declared.directory.Directory.{Directory}
 use Rattle.pas_profile.specs.declared.profile.Profile.{Profile}
-use Rattle.pas_steps.specs.Events.{events_of}
 use Rattle.pas_steps.specs.Views.{View}
 use Rattle.pas_steps.specs.Lists.{Whole, part}
-use Rattle.pas_steps.specs.Desks.{Seat, triples, CanCall}
+use Rattle.pas_steps.specs.Desks.{Seat, triples}
 use Rattle.pas_steps.proofs.Parts.{part_of_others}
-use Rattle.pas_plain.specs.Plain.{profile_of, actor_of, events_shown, room_of_pass, RegionStands, PassStands}
+use Rattle.pas_plain.specs.Plain.{profile_of, actor_of, room_of_pass, RegionStands, PassStands}
 use Rattle.pas_plain.specs.Seats.{region_of, pass_of, standing_of, DeskStands}
 use Rattle.pas_plain.specs.declared.desk.PlainDesk.{PlainDesk}
 use Rattle.pas_plain.specs.declared.pass.PlainPass.{PlainPass}
@@ -15,7 +14,7 @@ use Rattle.pas_plain.specs.declared.region.PlainRegion.{PlainRegion}
 use Rattle.pas_plain.proofs.Passes.{pass_rests}
 use Rattle.pas_steps.specs.Agreement.{Agreed}
 use Rattle.pas_steps.specs.declared.step.Made.{Made}
-use Rattle.pas_search.specs.Searches.{MaySearch, SearchRoom}
+use Rattle.pas_search.specs.Searches.{MaySearch}
 use Rattle.pas_segregated.specs.Refills.{GivesSlots}
 use Rattle.pas_segregated.specs.Stops.{MayStopAt, MayStop}
 use Rattle.pas_segregated.specs.declared.slots.Slots.{Slots}
@@ -29,15 +28,6 @@ may_search d = record { rights = λ p of. refl; clear = record { on = λ p. reco
 -- what a refill gave may be stopped
 pub may_stop_then : {f : Profile} {d : Directory} {steps : List Made} {slots : Slots} → GivesSlots f d steps slots → (v : View) → MaySearch d v → Agreed f v steps → MayStop slots (steps ++ v)
 may_stop_then {steps = steps} {slots = slots} gives v may agreed = subst (λ x. MayStopAt x slots (steps ++ v)) (sym gives.named) (gives.gets.from v may agreed).may_stop
-
--- with room for two events at a desk for which the actor made no step
-pub can_search : (desk : PlainDesk) (d : Directory) (l : Whole) → DeskStands desk [] l → room_of_pass (pass_of desk) ≡ 2
-    → CanCall (standing_of desk) (λ v l. SearchRoom (profile_of (region_of desk)) d 1 (room_of_pass (pass_of desk) - length (events_shown (pass_of desk))) v)
-can_search desk d l stood room =
-    let k = actor_of (pass_of desk) in
-    let none : events_shown (pass_of desk) ≡ reverse (events_of k []) = stood.pass.shown ∙ ap (λ v. reverse (events_of k v)) stood.part_is in
-    let empty : length (events_shown (pass_of desk)) ≡ 0 = ap length none in
-    record { view = []; whole = l; stood = stood; met = record { may = may_search d; room = (omega (arith, room, empty), inr (omega (arith, room, empty))) } }
 
 pub opens_beside : {desk : PlainDesk} {pass : PlainPass} {room : ℕ} → Opens desk pass room → Beside desk pass
 opens_beside o = record { view = []; whole = []; stood = o.stood; rests = o.rests; other = o.other }

@@ -4,7 +4,7 @@ use Rattle.pas_plain.specs.Plain.{profile_of}
 use Rattle.pas_answers.specs.Acts.{Act, Ends, numbers_from}
 use Rattle.pas_replay.specs.Sessions.{SoFar}
 use Rattle.pas_replay.proofs.Operations.{ending, can_operate, operated, emptied, empty_next}
-use Rattle.pas_replay.proofs.ActsInOrder.{end_next, end_last}
+use Rattle.pas_replay.proofs.ActsInOrder.{as_list, number_next, number_last}
 use Rattle.pas_replay.proofs.order.stop_all.Goals as goal
 
 pub loop-index-init : goal.loop-index-init
@@ -25,7 +25,8 @@ pub operate-region-requires-clause-can : goal.operate-region-requires-clause-can
 operate-region-requires-clause-can c =
     let test = c.loop-index-test.true in
     let count = c.loop-index.auto.threads in
-    let so = end_next c.requires.so_far.1 (c.loop-index.index + 1) (length c.args.threads.now - c.loop-index.index) (length c.args.threads.now - (c.loop-index.index + 1)) (omega (arith, test)) (c.loop-index.invariant.far c.requires.so_far.0 c.requires.so_far.1 c.requires.so_far.2) in
+    let next = number_next (c.loop-index.index + 1) (length c.args.threads.now - c.loop-index.index) (length c.args.threads.now - (c.loop-index.index + 1)) (omega (arith, test)) in
+    let so = as_list Ends c.requires.so_far.1 next (c.loop-index.invariant.far c.requires.so_far.0 c.requires.so_far.1 c.requires.so_far.2) in
     can_operate (c.loop-index.index + 1) c.loop-index.index c.index-threads-index.result (ending (profile_of c.args.region) (c.loop-index.index + 1)) (omega arith) (omega (arith, test, count)) so
 
 pub loop-index-preserved : goal.loop-index-preserved
@@ -33,7 +34,7 @@ loop-index-preserved c =
     let test = c.loop-index-test.true in
     let count = c.loop-index.auto.threads in
     let next = λ (all more : List Act) (so0 : SoFar (profile_of c.args.region) all (map Ends (numbers_from 1 (length c.args.threads.now)) ++ more) c.args.region c.args.threads.now c.args.names.now c.args.out.now).
-    end_next more (c.loop-index.index + 1) (length c.args.threads.now - c.loop-index.index) (length c.args.threads.now - (c.loop-index.index + 1)) (omega (arith, test)) (c.loop-index.invariant.far all more so0) in
+    as_list Ends more (number_next (c.loop-index.index + 1) (length c.args.threads.now - c.loop-index.index) (length c.args.threads.now - (c.loop-index.index + 1)) (omega (arith, test))) (c.loop-index.invariant.far all more so0) in
     record {
       far = λ all more so0. operated (c.loop-index.index + 1) c.loop-index.index c.index-threads-index.result c.operate-region.new.thread (ending (profile_of c.args.region) (c.loop-index.index + 1)) (omega arith) (omega (arith, test, count))
           (next all more so0) tt c.operate-region.ensures.turn c.operate-region.ensures.turns;
@@ -44,7 +45,7 @@ loop-index-preserved c =
 pub returns-clause-so_far : goal.returns-clause-so_far
 returns-clause-so_far c all more so =
     let test = c.loop-index-test.false in
-    end_last more (c.loop-index.index + 1) (length c.args.threads.now - c.loop-index.index) (omega (arith, test)) (c.loop-index.invariant.far all more so)
+    as_list Ends more (number_last (c.loop-index.index + 1) (length c.args.threads.now - c.loop-index.index) (omega (arith, test))) (c.loop-index.invariant.far all more so)
 
 pub returns-clause-empty : goal.returns-clause-empty
 returns-clause-empty c i d less =

@@ -5,7 +5,7 @@ use Rattle.pas_report.specs.declared.records.Records.{Records}
 use Rattle.pas_answers.specs.Acts.{Act, Wakes, is_active, active_from}
 use Rattle.pas_replay.specs.Sessions.{SoFar}
 use Rattle.pas_answers.specs.declared.names.Names.{Names}
-use Rattle.pas_replay.proofs.ActsInOrder.{can_wake, woken, wake_next, wake_not, wake_last}
+use Rattle.pas_replay.proofs.ActsInOrder.{can_wake, woken, as_list, active_next, active_last}
 use Rattle.pas_replay.proofs.order.wake_all.Goals as goal
 use Rattle.pas_replay.proofs.order.wake_all.Goals.{then-get, else-get}
 
@@ -18,7 +18,7 @@ wake-region-requires c =
     let count = c.loop-index.auto.threads in
     let on : is_active c.args.ops.now (c.loop-index.index + 1) ≡ true = sym (c.active-awake.ensures (c.loop-index.index + 1)) ∙ sym c.get.ensures ∙ c.if-get.true in
     can_wake (c.loop-index.index + 1) c.loop-index.index c.index-threads-index.result (omega arith) (omega (arith, test, count))
-    (wake_next c.requires.so_far.2.1 (c.loop-index.index + 1) (length c.args.threads.now - c.loop-index.index) (length c.args.threads.now - (c.loop-index.index + 1)) c.args.ops.now (omega (arith, test)) on
+    (as_list Wakes c.requires.so_far.2.1 (active_next (c.loop-index.index + 1) (length c.args.threads.now - c.loop-index.index) (length c.args.threads.now - (c.loop-index.index + 1)) c.args.ops.now (omega (arith, test)) on)
     (c.loop-index.invariant.far c.requires.so_far.2.0 c.requires.so_far.2.1 c.requires.so_far.0 c.requires.so_far.1 c.requires.so_far.2.2))
 
 pub loop-index-preserved : goal.loop-index-preserved
@@ -29,14 +29,14 @@ loop-index-preserved c = elim c.if-get.branch [
       let on : is_active c.args.ops.now (c.loop-index.index + 1) ≡ true = sym (c.active-awake.ensures (c.loop-index.index + 1)) ∙ sym c.get.ensures ∙ w.if-get.true in
       let far = λ (all more : List Act) (table : Names) (out : Records) (so : SoFar (profile_of c.args.region) all (map Wakes (active_from 1 (length c.args.threads.now) c.args.ops.now) ++ more) c.args.region c.args.threads.now table out).
       woken (c.loop-index.index + 1) c.loop-index.index w.index-threads-index.result w.wake-region.new.thread (omega arith) (omega (arith, test, count))
-      (wake_next more (c.loop-index.index + 1) (length c.args.threads.now - c.loop-index.index) (length c.args.threads.now - (c.loop-index.index + 1)) c.args.ops.now (omega (arith, test)) on (c.loop-index.invariant.far all more table out so))
+      (as_list Wakes more (active_next (c.loop-index.index + 1) (length c.args.threads.now - c.loop-index.index) (length c.args.threads.now - (c.loop-index.index + 1)) c.args.ops.now (omega (arith, test)) on) (c.loop-index.invariant.far all more table out so))
       w.wake-region.ensures in
       rw (w.region-is, w.threads-is) (record { far = far })
   | else-get w ↦
       let test = c.loop-index-test.true in
       let off : is_active c.args.ops.now (c.loop-index.index + 1) ≡ false = sym (c.active-awake.ensures (c.loop-index.index + 1)) ∙ sym c.get.ensures ∙ w.if-get.false in
       let far = λ (all more : List Act) (table : Names) (out : Records) (so : SoFar (profile_of c.args.region) all (map Wakes (active_from 1 (length c.args.threads.now) c.args.ops.now) ++ more) c.args.region c.args.threads.now table out).
-      wake_not more (c.loop-index.index + 1) (length c.args.threads.now - c.loop-index.index) (length c.args.threads.now - (c.loop-index.index + 1)) c.args.ops.now (omega (arith, test)) off (c.loop-index.invariant.far all more table out so) in
+      as_list Wakes more (active_next (c.loop-index.index + 1) (length c.args.threads.now - c.loop-index.index) (length c.args.threads.now - (c.loop-index.index + 1)) c.args.ops.now (omega (arith, test)) off) (c.loop-index.invariant.far all more table out so) in
       rw (w.region-is, w.threads-is) (record { far = far })
 ]
 
@@ -44,5 +44,5 @@ pub returns : goal.returns
 returns c = record {
   so_far = λ table out all more so.
       let test = c.loop-index-test.false in
-      wake_last more (c.loop-index.index + 1) (length c.args.threads.now - c.loop-index.index) c.args.ops.now (omega (arith, test)) (c.loop-index.invariant.far all more table out so);
+      as_list Wakes more (active_last (c.loop-index.index + 1) (length c.args.threads.now - c.loop-index.index) c.args.ops.now (omega (arith, test))) (c.loop-index.invariant.far all more table out so);
 }

@@ -1,6 +1,5 @@
-use Rattle.std.proofs.Common.{◌≡◌, ℕ, ◌+◌, List, ◌++◌, codes, ap, ◌∙◌}
+use Rattle.std.proofs.Common.{◌≡◌, ℕ, ◌+◌, ◌++◌, codes, ◌∙◌}
 use Rattle.std.specs.Fmt.{decimal}
-use Rattle.pas_report.specs.Counts.{live_counted, ended_counted, given_counted}
 use Rattle.pas_report.specs.Reports.{totals_text}
 use Rattle.pas_report.proofs.Texts.{then_field}
 use Rattle.pas_report.proofs.pages.push_totals.Goals as goal
