@@ -1,6 +1,5 @@
 //! The marks of a page.
-ghost use Rattle.std.specs.Prelude.{⊤, ◌≡◌, ◌%◌, [], ◌∷◌, codes};
-ghost use Rattle.pas_profile.specs.Classes.{has_bit};
+ghost use Rattle.std.specs.Prelude.{⊤, ◌≡◌, [], ◌∷◌, codes};
 ghost use Rattle.pas_profile.specs.Profiles.{IsPage};
 ghost use Rattle.pas_profile.specs.declared.word.Word.TheVariants as Word;
 ghost use Rattle.pas_steps.specs.States.{profile_of, word_in};
@@ -8,6 +7,7 @@ ghost use Rattle.pas_report.specs.Counts.{IsDeedWord, marked_in};
 ghost use Rattle.pas_report.specs.Marks.{bits_of, marks_of, marks_text};
 
 use bitflags::{Flag, Flags, bitflag_items};
+use pas_bits::page_vector::has_page;
 use pas_profile::{Word, read_deed};
 use pas_steps::State;
 
@@ -45,13 +45,6 @@ impl Flags for Marks {
     fn from_bits_retain(bits: u8) -> Marks {
         Marks(bits)
     }
-}
-
-/// Whether the bit of a page is set in its word of a page vector.
-fn has_page(word: u64, page: u32) -> bool
-    ensures { result ≡ has_bit word (page % 64) }
-{
-    (word >> (page % 64)) % 2 == 1
 }
 
 /// Whether any actor may take the right of a page.

@@ -20,7 +20,8 @@ use Rattle.pas_rights.specs.Leaves.{ReoffersWhere, EndsLeave, LeaveSteps}
 use Rattle.pas_rights.specs.Returns.{ReofferSteps, ReturnSteps}
 use Rattle.pas_rights.specs.Looks.{looks, any_usable, are_all_ones, LookedUntilUsed, HintSteps, HintsWhere}
 use Rattle.pas_steps.specs.Clear.{OwesNothing}
-use Rattle.pas_rights.proofs.Looks.{below_at, full_bit}
+use Rattle.pas_bits.proofs.Words.{full_bit}
+use Rattle.pas_rights.proofs.Looks.{below_at}
 use Rattle.pas_rights.proofs.Orders.{right_looks, deed_looks, same_page, ends, gives, gets_none, offered_on, parked_on, left_on, returned_on}
 
 -- ---- what an ending keeps

@@ -1,7 +1,7 @@
 -- Looks at the free words of a page, and the tests of what they show.
 use Rattle.std.proofs.Common.{◌≡◌, ◌≢◌, ℕ, ◌+◌, ◌-◌, ◌*◌, ◌/◌, ◌%◌, ◌^◌, ◌<◌, ◌==◌, zero, suc, Bool, true, false, not, ◌||◌, ◌&&◌, List, [], ◌∷◌, length, refl, ap, sym, ◌∙◌, subst, arith, bit_and, inl, inr, ◌⊎◌, true≢false, slice_index}
 use Rattle.std.specs.Int.{bit_at}
-use Rattle.std.proofs.lemmas.Nat.Bits.{bit_at-lt, bit_at-zero, bit_at_ones, same_from_bits_below, shr_and_one}
+use Rattle.std.proofs.lemmas.Nat.Bits.{bit_at-lt, bit_at-zero, same_from_bits_below}
 use Rattle.std.proofs.lemmas.Bool.{eqb-false, eq-eqb, ne_eqb, cases_eq, cases_Bool, and_parts}
 use Rattle.pas_profile.specs.Classes.{has_bit}
 use Rattle.pas_profile.specs.Directories.{IsDirectory, deed_word_of}
@@ -9,7 +9,7 @@ use Rattle.pas_profile.specs.declared.directory.Directory.{Directory}
 use Rattle.pas_profile.specs.declared.directory.Kind.{Kind}
 use Rattle.pas_profile.specs.declared.word.Word.TheVariants as Word
 use Rattle.pas_profile.proofs.Codecs.{read-deed_word_of}
-use Rattle.pas_bits.proofs.Words.{none_of_zero, bit_of_and}
+use Rattle.pas_bits.proofs.Words.{none_of_zero, bit_of_and, full_bit}
 use Rattle.pas_steps.specs.Views.{all_ones, usable_by, usable_by_kind, all_below, no_usable}
 use Rattle.pas_steps.specs.Desks.{Anything, Standing, Makes, Adds}
 use Rattle.pas_steps.specs.declared.step.Step.TheVariants.{Look}
@@ -21,13 +21,6 @@ pub more_looks : {σ σ' σ'' : Standing} (page : ℕ) (answers : List ℕ) (a w
     → Adds σ σ' Anything (looks page answers) → Makes σ' σ'' (Look (Word.Free page w)) a → Adds σ σ'' Anything (looks page (a ∷ answers))
 more_looks {σ} {σ'} {σ''} page answers a w e before makes =
     adds_step before (subst (λ n. Makes σ' σ'' (Look (Word.Free page n)) a) (sym e) makes) (λ v l stood met. tt)
-
--- ---- a bit by the program's test
-pub bit_true : (n i : ℕ) → bit_and (n / 2 ^ i) 1 ≡ 1 → has_bit n i ≡ true
-bit_true n i h = eq-eqb (bit_at n i) 1 (sym (shr_and_one n i) ∙ h)
-
-pub bit_false : (n i : ℕ) → bit_and (n / 2 ^ i) 1 ≢ 1 → has_bit n i ≡ false
-bit_false n i h = ne_eqb (bit_at n i) 1 (λ e. h (shr_and_one n i ∙ e))
 
 -- ---- a test of every number below n
 pub below_at : (n k : ℕ) (p : ℕ → Bool) → all_below n p ≡ true → k < n → p k ≡ true
@@ -75,10 +68,6 @@ pub usable_test : (d : Directory) (a m w : ℕ) → IsDirectory d → bit_and a 
 usable_test d a m w is small bits =
     mask_test a m (λ b. usable_by_kind d.kind (64 * w + b)) small bits
     ∙ ap (λ o. all_below 64 (λ b. not (has_bit a b && usable_by o (64 * w + b)))) (sym (read-deed_word_of d is))
-
--- every bit of the greatest word is set
-pub full_bit : (b : ℕ) → b < 64 → has_bit (2 ^ 64 - 1) b ≡ true
-full_bit b h = eq-eqb (bit_at (2 ^ 64 - 1) b) 1 (bit_at_ones 64 b h)
 
 four_full : (i : ℕ) → i < 4 → slice_index ((2 ^ 64 - 1) ∷ (2 ^ 64 - 1) ∷ (2 ^ 64 - 1) ∷ (2 ^ 64 - 1) ∷ []) i ≡ 2 ^ 64 - 1
 four_full (suc (suc (suc (suc i)))) h = absurd (omega (arith, h))

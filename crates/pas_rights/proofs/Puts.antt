@@ -60,7 +60,7 @@ in_word page mask n g = behind (n == g / 64 % 4) (page == g / 256) (has_bit (sli
     let bit : g % 64 ≡ g % 256 % 64 = omega arith in
     ap (λ w. has_bit (slice_index mask.0 w) (g % 64)) word ∙ ap (has_bit (slice_index mask.0 (g % 256 / 64))) bit)
 
-next_word : (w n : ℕ) → nat_lt w (n + 1) ≡ (nat_lt w n || (n == w))
+pub next_word : (w n : ℕ) → nat_lt w (n + 1) ≡ (nat_lt w n || (n == w))
 next_word w n = grind (arith, nat_tests)
 
 or_same : (m t : Bool) → (m || (t && m)) ≡ m
@@ -68,7 +68,7 @@ or_same true t = refl
 or_same false true = refl
 or_same false false = refl
 
-shared : (s t m : Bool) → ((s && m) || (t && m)) ≡ ((s || t) && m)
+pub shared : (s t m : Bool) → ((s && m) || (t && m)) ≡ ((s || t) && m)
 shared true t m = or_same m t
 shared false t m = refl
 

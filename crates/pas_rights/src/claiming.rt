@@ -5,6 +5,7 @@ ghost use Rattle.pas_rights.specs.Claims.{Claims};
 ghost use Rattle.pas_steps.specs.Views.{KnowsDeed};
 ghost use Rattle.std.specs.Prelude.{◌≡◌};
 
+use pas_bits::page_vector::has_page;
 use pas_profile::Directory;
 use pas_steps::Desk;
 
@@ -19,5 +20,5 @@ pub fn claim<D: Desk>(desk: &mut D, page: u32, directory: Directory) -> bool
     ensures home { D.home desk.new ≡ D.home desk.old }
 {
     let old = desk.take_right(page, directory);
-    old >> (page % 64) & 1 == 1
+    has_page(old, page)
 }

@@ -6,6 +6,7 @@ ghost use Rattle.pas_rights.specs.Returns.{Returned, ReoffersPage};
 ghost use Rattle.pas_steps.specs.Views.{KnowsDeed};
 
 use crate::looking::{all_free, hint_backed};
+use pas_bits::page_vector::has_page;
 use pas_profile::Directory;
 use pas_steps::Desk;
 
@@ -18,7 +19,7 @@ pub fn reoffer<D: Desk>(desk: &mut D, page: u32, directory: Directory)
     ensures home { D.home desk.new ≡ D.home desk.old }
 {
     let old = desk.unpark(page);
-    if old >> (page % 64) & 1 == 1 {
+    if has_page(old, page) {
         desk.offer(page, directory);
     }
 }

@@ -15,10 +15,11 @@ use Rattle.pas_steps.specs.Desks.{made}
 use Rattle.pas_steps.specs.declared.step.Made.{Made}
 use Rattle.pas_steps.specs.declared.step.Step.TheVariants.{Look}
 use Rattle.pas_steps.proofs.Past.{once_later, always_both}
+use Rattle.pas_bits.specs.PageVectors.{is_in_word}
 use Rattle.pas_scan.specs.Marks.{is_marked}
 use Rattle.pas_steps.specs.Evidence.{ReadsParked, ParkedHere, IsSingle}
 use Rattle.pas_scan.specs.Scan.{IsMember, AllParked, InBlock}
-use Rattle.pas_scan.proofs.PageBits.{bit_cleared, same_number}
+use Rattle.pas_bits.proofs.Words.{bit_cleared}
 use Rattle.pas_scan.proofs.Singles.{Below, From, below_more, below_append, single_append, single_more, place_of}
 use Rattle.pas_scan.proofs.Reading.{scans_lack}
 
@@ -70,26 +71,26 @@ not_true false h = refl
 
 -- one deed word more
 pub members_more : (f : Profile) (marks : List ℕ) (d : Directory) (block first page members more a : ℕ) (steps : List Made) → Members f marks d block first page members steps → page / 64 ≡ block → first ≤ page
-    → ((b : ℕ) → b < 64 → has_bit more b ≡ (((page % 64 == b) && ((a == deed_word_of d) && not (is_marked marks page))) || has_bit members b))
+    → ((p : ℕ) → p / 64 ≡ block → is_in_word more p ≡ ((((a == deed_word_of d) && not (is_marked marks page)) && (page == p)) || is_in_word members p))
     → Members f marks d block first (page + 1) more (made (Look (Word.Deed page)) a ∷ steps)
 members_more f marks d block first page members more a steps before at low bits =
     let open_here : Bool = (a == deed_word_of d) && not (is_marked marks page) in
     record {
-      all = λ v p e ge lt is unmarked. bits (p % 64) (omega arith) ∙ elim (cases_eq page p) [
+      all = λ v p e ge lt is unmarked. bits p e ∙ elim (cases_eq page p) [
         | inl same ↦
             let known : a ≡ deed_word_of d = sym (read_here page a (known_deed (steps ++ v) page)) ∙ subst (λ q. known_deed (made (Look (Word.Deed page)) a ∷ steps ++ v) q ≡ deed_word_of d) (sym same) is in
             let unmarked' : is_marked marks page ≡ false = ap (is_marked marks) same ∙ unmarked in
-            ap (λ t. (t && open_here) || has_bit members (p % 64)) (eq-eqb (page % 64) (p % 64) (ap (λ x. x % 64) same))
-            ∙ ap (λ t. (t && not (is_marked marks page)) || has_bit members (p % 64)) (eq-eqb a (deed_word_of d) known)
-            ∙ ap (λ t. not t || has_bit members (p % 64)) unmarked'
+            ap (λ t. ((t && not (is_marked marks page)) && (page == p)) || has_bit members (p % 64)) (eq-eqb a (deed_word_of d) known)
+            ∙ ap (λ t. (not t && (page == p)) || has_bit members (p % 64)) unmarked'
+            ∙ ap (λ t. t || has_bit members (p % 64)) (eq-eqb page p same)
         | inr ne ↦
             let known : KnowsDeed p d (steps ++ v) = sym (ap (λ t. if t then a else known_deed (steps ++ v) p) (ne_eqb page p ne)) ∙ is in
-            or_true ((page % 64 == p % 64) && open_here) (has_bit members (p % 64)) (before.all v p e ge (omega (arith, lt, ne)) known unmarked)
+            or_true (open_here && (page == p)) (has_bit members (p % 64)) (before.all v p e ge (omega (arith, lt, ne)) known unmarked)
       ];
-      only = λ v p e bit. elim (or_cases (page % 64 == p % 64) open_here (has_bit members (p % 64)) (sym (bits (p % 64) (omega arith)) ∙ bit)) [
+      only = λ v p e bit. elim (or_cases open_here (page == p) (has_bit members (p % 64)) (sym (bits p e) ∙ bit)) [
         | inl here ↦
-            let same : page ≡ p = same_number page p (at ∙ sym e) (eqb-true (page % 64) (p % 64) here.0) in
-            let parts = and_parts (a == deed_word_of d) (not (is_marked marks page)) here.1 in
+            let same : page ≡ p = eqb-true page p here.1 in
+            let parts = and_parts (a == deed_word_of d) (not (is_marked marks page)) here.0 in
             (omega (arith, low, same), omega (arith, same), subst (λ q. known_deed (made (Look (Word.Deed page)) a ∷ steps ++ v) q ≡ deed_word_of d) same (read_here page a (known_deed (steps ++ v) page) ∙ eqb-true a (deed_word_of d) parts.0), ap (is_marked marks) (sym same) ∙ not_true (is_marked marks page) parts.1)
         | inr there ↦
             let old = before.only v p e there in let lt = old.1 in

@@ -1,5 +1,3 @@
-pub mod PageBits
-pub mod LowestBits
 pub mod Marking
 pub mod Singles
 pub mod Reading

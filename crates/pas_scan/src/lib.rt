@@ -3,7 +3,6 @@
 #![tactic(auto)]
 
 mod bare;
-mod bits;
 mod looked;
 mod offered;
 mod parked;

@@ -1,4 +1,5 @@
 //! A search of a directory.
+use pas_bits::page_vector::{has_page, with_page};
 use pas_profile::{Directory, deed_word};
 
 /// A search of a directory: the next page to try, and the set of pages that didn't fit, as a page vector.
@@ -35,7 +36,7 @@ impl Looked {
         ensures unfit { (p : ℕ) → is_marked self.new.unfit p ≡ ((page == p) || is_marked self.old.unfit p) }
     {
         let block = (page / 64) as usize;
-        self.unfit[block] |= 1 << (page % 64);
+        self.unfit[block] = with_page(self.unfit[block], page);
     }
 
     /// Whether a page with this deed word is of the directory and isn't unfit.
@@ -52,6 +53,6 @@ impl Looked {
         requires { page < 16448 }
         ensures { result ≡ is_marked self.now.unfit page }
     {
-        self.unfit[(page / 64) as usize] >> (page % 64) & 1 == 1
+        has_page(self.unfit[(page / 64) as usize], page)
     }
 }

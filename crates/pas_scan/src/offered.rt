@@ -4,8 +4,8 @@ ghost use Rattle.pas_profile.specs.Profiles.{IsDirectoryOf};
 ghost use Rattle.pas_steps.specs.Desks.{Anything, CanCall};
 ghost use Rattle.pas_scan.specs.Scan.{FindsOffered};
 
-use crate::bits::lowest_page;
 use crate::looked::Looked;
+use pas_bits::page_vector::lowest_page;
 use pas_profile::Word;
 use pas_steps::Desk;
 

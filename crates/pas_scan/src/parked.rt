@@ -4,8 +4,8 @@ ghost use Rattle.pas_profile.specs.Profiles.{IsDirectoryOf};
 ghost use Rattle.pas_steps.specs.Desks.{Anything, CanCall};
 ghost use Rattle.pas_scan.specs.Scan.{FindsMembers, Judges};
 
-use crate::bits::{lowest_page, with_page};
 use crate::looked::Looked;
+use pas_bits::page_vector::{lowest_page, with_page};
 use pas_profile::{NoRoom, Word};
 use pas_steps::Desk;
 
@@ -23,7 +23,9 @@ fn members<D: Desk>(desk: &mut D, looked: &Looked, block: u32) -> u64
     let mut members = 0;
     for page in first..end {
         let deed = desk.look(Word::Deed(page));
-        members = with_page(members, page, looked.is_open(page, deed));
+        if looked.is_open(page, deed) {
+            members = with_page(members, page);
+        }
     }
     members
 }

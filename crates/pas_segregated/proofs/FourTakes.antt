@@ -2,13 +2,13 @@
 use Rattle.std.proofs.Common.{◌≡◌, ℕ, zero, suc, ◌+◌, ◌*◌, ◌/◌, ◌%◌, ◌<◌, ◌≤◌, ◌==◌, nat_lt, Bool, true, false, ◌&&◌, ◌||◌, if◌then◌else◌, List, [], ◌∷◌, ◌++◌, slice_index, refl, ap, sym, ◌∙◌, arith, inl, inr, true≢false}
 use Rattle.std.proofs.Math.Bool.{and_comm}
 use Rattle.std.proofs.lemmas.Bool.{cases_eq, eq-eqb, ne_eqb, eqb-true, lt-ltb, le-ltb, and_parts, and_right, or_parts, false_from_ne_true}
-use Rattle.std.proofs.lemmas.Bool.Decides.{nat_tests}
 use Rattle.pas_profile.specs.Classes.{has_bit}
 use Rattle.pas_profile.specs.declared.profile.Profile.{Profile}
 use Rattle.pas_bits.specs.declared.mask.Mask4.{Mask4}
 use Rattle.pas_bits.specs.Masks.{is_set}
 use Rattle.pas_bits.proofs.Words.{at_word}
 use Rattle.pas_rights.specs.Puts.{masked}
+use Rattle.pas_rights.proofs.Puts.{next_word, shared}
 use Rattle.pas_steps.specs.Effects.{in_mask}
 use Rattle.pas_steps.specs.Views.{View, Gets, Stays, held_after, holds, has_right, known_free}
 use Rattle.pas_steps.specs.Agreement.{Agrees, Agreed}
@@ -40,16 +40,6 @@ one_test : (s p u a t : Bool) → (s ≡ true → t ≡ (a && u)) → (((s && p)
 one_test true true u a t f = and_comm u a ∙ sym (f refl)
 one_test true false u a t f = refl
 one_test false p u a t f = refl
-
-shared : (s t m : Bool) → ((s && m) || (t && m)) ≡ ((s || t) && m)
-shared true true true = refl
-shared true true false = refl
-shared true false true = refl
-shared true false false = refl
-shared false t m = refl
-
-next_word : (w n : ℕ) → nat_lt w (n + 1) ≡ (nat_lt w n || (n == w))
-next_word w n = grind (arith, nat_tests)
 
 -- ---- one take
 get_fate : (t : Bool) → grain_fate (if t then Gets else Stays) ≡ (if t then Gained else Kept)

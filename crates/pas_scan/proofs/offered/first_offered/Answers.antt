@@ -44,10 +44,10 @@ returns-in-Some-clause-found g c =
       answers = a ∷ i.answers;
       order = eligible_more (number_of d) (c.args.looked.now.next / 64) block a i.steps i.answers i.at i.order;
       count = eligible_count (number_of d) (c.args.looked.now.next / 64) (c.in-Some.page / 64 + 1 - c.args.looked.now.next / 64) (step ∷ i.steps) (a ∷ i.answers)
-          (eligible_more (number_of d) (c.args.looked.now.next / 64) block a i.steps i.answers i.at i.order) (let page = e.1 in omega (arith, i.at, page));
+          (eligible_more (number_of d) (c.args.looked.now.next / 64) block a i.steps i.answers i.at i.order) (let page = e.here in omega (arith, i.at, page));
       outcome = (
         refl,
-        first_one (D.standing c.args.desk.now).seat.profile d c.args.looked.now.next block c.in-Some.page a i.steps can.view c.requires.directory.kind i.scans i.zeros e.0 e.1 e.2 e.3
+        first_one (D.standing c.args.desk.now).seat.profile d c.args.looked.now.next block c.in-Some.page a i.steps can.view c.requires.directory.kind i.scans i.zeros e.above e.here e.set e.lowest
             (adds.agreed can.view can.whole can.stood tt),
       );
     }

@@ -1,5 +1,5 @@
-use Rattle.std.proofs.Common.{◌≡◌, ◌+◌, ◌*◌, ◌/◌, ◌≤◌, ◌==◌, ◌&&◌, ◌||◌, ◌%◌, min, ◌∷◌, refl, ap, ◌∙◌, arith}
-use Rattle.pas_profile.specs.Classes.{has_bit}
+use Rattle.std.proofs.Common.{◌≡◌, ◌+◌, ◌*◌, ◌/◌, ◌≤◌, ◌==◌, ◌&&◌, ◌||◌, min, ◌∷◌, refl, ap, sym, ◌∙◌, arith}
+use Rattle.pas_bits.specs.PageVectors.{is_in_word}
 use Rattle.pas_profile.specs.declared.word.Word.TheVariants as Word
 use Rattle.pas_steps.specs.declared.step.Made.{Made}
 use Rattle.pas_steps.specs.declared.step.Step.TheVariants.{Look}
@@ -7,6 +7,7 @@ use Rattle.pas_steps.specs.Desks.{made}
 use Rattle.pas_steps.proofs.Adding.{adds_step}
 use Rattle.pas_scan.proofs.Singles.{single_more, below_more}
 use Rattle.pas_scan.proofs.Judging.{members_more, IsSpan, span_block, span_first, span_some, span_end, span_page}
+use Rattle.pas_scan.proofs.parked.members.Goals.{then-is_open, else-is_open}
 use Rattle.pas_scan.proofs.parked.members.Goals as goal
 
 pub loop-page-preserved : goal.loop-page-preserved
@@ -20,8 +21,11 @@ loop-page-preserved g c =
       deeds = ((page, refl, at), i.deeds);
       single = single_more (page + page / 64) step i.steps i.below (omega arith) i.single;
       below = (omega arith, below_more (page + page / 64) (page + 1 + (page + 1) / 64) i.steps (omega arith) i.below);
-      members = members_more (g.D.Desk.standing c.args.desk.now).seat.profile looked.unfit looked.directory c.args.block c.max-first.result page c.loop-page.members c.with_page-members.result a i.steps i.members at c.loop-page.auto.page
-          (λ b lt. c.with_page-members.ensures b lt ∙ ap (λ t. ((page % 64 == b) && t) || has_bit c.loop-page.members b) c.is_open.ensures);
+      members = members_more (g.D.Desk.standing c.args.desk.now).seat.profile looked.unfit looked.directory c.args.block c.max-first.result page c.loop-page.members _ a i.steps i.members at c.loop-page.auto.page
+          (λ p e. elim c.if-is_open.branch [
+            | then-is_open w ↦ ap (λ m. is_in_word m p) w.members-is ∙ w.with_page-members.ensures p (e ∙ sym at) ∙ ap (λ o. (o && (page == p)) || is_in_word c.loop-page.members p) (sym w.if-is_open.true ∙ c.is_open.ensures)
+            | else-is_open w ↦ ap (λ m. is_in_word m p) w.members-is ∙ ap (λ o. (o && (page == p)) || is_in_word c.loop-page.members p) (sym w.if-is_open.false ∙ c.is_open.ensures)
+          ]);
       count = omega (arith, i.count);
       home = c.look-deed.ensures.home ∙ i.home;
     }

@@ -30,8 +30,8 @@ pub returns-in-Some-clause-judges : goal.returns-in-Some-clause-judges
 returns-in-Some-clause-judges g c =
     let i = c.loop-block.invariant in let block = c.loop-block.block in let a = c.look-parked.result in let looked = c.args.looked.now in let m = c.members-members.ensures.members in
     let f : Profile = (g.D.Desk.standing c.args.desk.now).seat.profile in let page = c.in-Some.page in let e = c.in-Some.ensures in
-    let bits = held_bits c.members-members.result a page c.look-parked.type_inv e.2 in
-    let at = e.1 in
+    let bits = held_bits c.members-members.result a page c.look-parked.type_inv e.set in
+    let at = e.here in
     record {
       steps = made (Look (Word.Parked block)) a ∷ (m.steps ++ i.steps);
       adds = adds_step (adds_call i.adds m.adds (λ v l stood met. tt)) c.look-parked.ensures.makes (λ v l stood met. tt);
@@ -40,11 +40,11 @@ returns-in-Some-clause-judges g c =
       few = (let n = length-append m.steps i.steps in let here = m.few in let before = i.few in omega (arith, n, here, before, at));
       verdict = (
         λ v. member_joined f looked.unfit looked.directory block a page m.steps i.steps v
-            (subst (λ s. IsMember s.profile looked.unfit looked.directory (m.steps ++ (i.steps ++ v)) page) i.adds.seat_is (m.only (i.steps ++ v) page e.1 bits.0)),
-        held_here page block a (m.steps ++ i.steps) (scans_append m.steps i.steps (block_scans block m.steps m.deeds) i.scans) e.1 bits.1,
+            (subst (λ s. IsMember s.profile looked.unfit looked.directory (m.steps ++ (i.steps ++ v)) page) i.adds.seat_is (m.only (i.steps ++ v) page e.here bits.0)),
+        held_here page block a (m.steps ++ i.steps) (scans_append m.steps i.steps (block_scans block m.steps m.deeds) i.scans) e.here bits.1,
         parked_more f looked.unfit looked.directory block page c.members-members.result a m.steps i.steps c.look-parked.type_inv
             (scans_append m.steps i.steps (block_scans block m.steps m.deeds) i.scans) m.deeds i.parked
             (λ v p inside is. m.members v p inside (subst (λ s. IsMember s.profile looked.unfit looked.directory (m.steps ++ v) p) (sym i.adds.seat_is) is))
-            e.3 (omega (arith, at)),
+            e.lowest (omega (arith, at)),
       );
     }
