@@ -16,6 +16,8 @@ use Rattle.pas_steps.proofs.Frames.{events_append}
 use Rattle.pas_trace.specs.declared.plan.What.{What}
 use Rattle.pas_trace.specs.declared.plan.What.TheVariants.{Free, Raw, Flush, Stop}
 use Rattle.pas_report.specs.declared.record.Said.{Said}
+use Rattle.pas_free_log.specs.declared.log.Entry.{Entry}
+use Rattle.pas_free_log.specs.Logs.{entry_of}
 use Rattle.pas_cache.specs.Caches.{Cached}
 use Rattle.pas_cache.specs.Calls.{TakesName, RefusesName, Frees, FlushesLog, StopsCache}
 use Rattle.pas_answers.specs.Answers.{Named, standing_for, said_of_fault, IsFreedBy}
@@ -31,7 +33,7 @@ taken_few : (f : Profile) (k : ℕ) (c c' : Cached) (name : Name) (steps : List 
     → length (events_by k v steps) + 0 + owed_events f c' (steps ++ v) ≤ 1 + owed_events f c v
 taken_few f k c c' name steps v takes agreed =
     let events = full_events (nat_le 64 (length c.log)) k c.log takes.logs.kept steps v takes.logs.emptied in
-    let log = ap (λ (ns : List Name). length ns) takes.logs.log_is ∙ length-append takes.logs.kept (name ∷ []) in
+    let log = ap (λ (es : List Entry). length es) takes.logs.log_is ∙ length-append takes.logs.kept (entry_of name ∷ []) in
     let unknown = unknown_stays f steps v agreed in
     omega (arith, events, log, unknown)
 
@@ -130,8 +132,8 @@ performs_flush {σ} {σ'} what table c c' is flushes = subst (λ w. Performs w (
   held = refl;
 }
 
-stopped_events : (k : ℕ) (names : List Name) (v : View) (stopped flushed : List Made) → length (events_by k v flushed) ≡ length names → events_by k (flushed ++ v) stopped ≡ [] → length (events_by k v (stopped ++ flushed)) ≡ length names
-stopped_events k names v stopped flushed events silent =
+stopped_events : (k : ℕ) (logged : List Entry) (v : View) (stopped flushed : List Made) → length (events_by k v flushed) ≡ length logged → events_by k (flushed ++ v) stopped ≡ [] → length (events_by k v (stopped ++ flushed)) ≡ length logged
+stopped_events k logged v stopped flushed events silent =
     ap (λ (es : List Event). length es) (events_append k stopped flushed v ∙ ap (λ (es : List Event). es ++ events_by k v flushed) silent) ∙ events
 
 pub performs_stop : {σ σ' : Standing} (what : What) (table : Names) (c c' : Cached) → what ≡ Stop → StopsCache c c' σ σ' → Performs what (works table c) (works table c') σ σ' None

@@ -22,6 +22,7 @@ use Rattle.pas_rights.proofs.Puts.{puts_kinds}
 use Rattle.pas_free_log.specs.Endings.{guess_by, Tries, IsEndOf, EndSteps}
 use Rattle.pas_free_log.specs.Returns.{PageSteps, PagesSteps, first_on, count_on}
 use Rattle.pas_free_log.specs.Stamps.{page_count}
+use Rattle.pas_free_log.specs.declared.log.Entry.{Entry}
 use Rattle.pas_free_log.specs.Flushes.{Settled, AfterEnd, EntrySteps, EntriesSteps}
 use Rattle.pas_free_log.specs.declared.ending.Outcome.{Outcome}
 use Rattle.pas_free_log.specs.declared.ending.Outcome.TheVariants.{Ended, Refused}
@@ -240,7 +241,7 @@ after_tidy name (Refused read) after v h none = tidy_none after v none (h.refuse
 entry_tidy : (f : Profile) (entry : Settled) (steps : List Made) (v : View) → AreOfRegion f steps → EntrySteps entry steps → Tidy v → Tidy (steps ++ v)
 entry_tidy f entry steps v of h tidy =
     let ends = of_back f h.after h.ends (subst (AreOfRegion f) h.steps_are of) in
-    tidy_both steps h.after h.ends v h.steps_are (after_tidy entry.name entry.outcome h.after (h.ends ++ v) (ends_done f entry.name entry.outcome h.ends v ends h.order tidy) h.returns)
+    tidy_both steps h.after h.ends v h.steps_are (after_tidy entry.entry.name entry.outcome h.after (h.ends ++ v) (ends_done f entry.entry.name entry.outcome h.ends v ends h.order tidy) h.returns)
 
 entries_tidy : (f : Profile) (settled : List Settled) (steps : List Made) (v : View) → AreOfRegion f steps → EntriesSteps settled steps → Tidy v → Tidy (steps ++ v)
 entries_tidy f [] steps v of h tidy = tidy_none steps v h tidy
@@ -248,8 +249,8 @@ entries_tidy f (entry ∷ earlier) steps v of h tidy =
     let here : AreOfRegion f (h.0 ++ h.1) = subst (AreOfRegion f) h.4 of in
     tidy_both steps h.0 h.1 v h.4 (entry_tidy f entry h.0 (h.1 ++ v) (of_front f h.0 h.1 here) h.2 (entries_tidy f earlier h.1 v (of_back f h.0 h.1 here) h.3 tidy))
 
-flush_tidy : (f : Profile) (k : ℕ) (names : List Name) (steps : List Made) (v : View) → AreOfRegion f steps → EmptiesLog k names steps → Tidy v → Tidy (steps ++ v)
-flush_tidy f k names steps v of h tidy =
+flush_tidy : (f : Profile) (k : ℕ) (logged : List Entry) (steps : List Made) (v : View) → AreOfRegion f steps → EmptiesLog k logged steps → Tidy v → Tidy (steps ++ v)
+flush_tidy f k logged steps v of h tidy =
     let look = made (Look Word.Epoch) h.epoch in
     tidy_both steps h.entries (look ∷ []) v h.steps_are (entries_tidy f h.settled h.entries (look ∷ v) (of_front f h.entries (look ∷ []) (subst (AreOfRegion f) h.steps_are of)) h.order (look_tidy Word.Epoch h.epoch v refl tidy))
 
@@ -259,7 +260,7 @@ stop_tidy f k c c' steps v of h tidy =
     let flushed = of_back f h.stopped h.flushed (subst (AreOfRegion f) h.steps_are of) in
     tidy_both steps h.stopped h.flushed v h.steps_are (tidy_over releasing refl h.stopped (h.flushed ++ v) h.kinds (flush_tidy f k c.log h.flushed v flushed h.empties tidy))
 
-full_tidy : (f : Profile) (k : ℕ) (full : Bool) (log log' : List Name) (steps : List Made) (v : View) → AreOfRegion f steps → EmptiesFull full k log log' steps → Tidy v → Tidy (steps ++ v)
+full_tidy : (f : Profile) (k : ℕ) (full : Bool) (log log' : List Entry) (steps : List Made) (v : View) → AreOfRegion f steps → EmptiesFull full k log log' steps → Tidy v → Tidy (steps ++ v)
 full_tidy f k true log log' steps v of h tidy = flush_tidy f k log steps v of h.0 tidy
 full_tidy f k false log log' steps v of h tidy = tidy_none steps v h.0 tidy
 

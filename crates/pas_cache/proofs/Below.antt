@@ -2,7 +2,7 @@
 use Rattle.std.proofs.Common.{◌≡◌, ℕ, zero, suc, ◌+◌, ◌*◌, ◌/◌, ◌%◌, ◌==◌, arith, Bool, true, false, not, ◌&&◌, ◌||◌, if◌then◌else◌, List, ◌++◌, inl, inr, refl, ap, sym, ◌∙◌, subst}
 use Rattle.pas_profile.specs.declared.directory.Directory.{Directory}
 use Rattle.pas_profile.specs.declared.event.NoRoom.{NoRoom}
-use Rattle.pas_profile.specs.declared.name.Name.{Name}
+use Rattle.pas_free_log.specs.declared.log.Entry.{Entry}
 use Rattle.pas_profile.specs.declared.profile.Profile.{Profile}
 use Rattle.pas_profile.specs.declared.word.Word.{Word}
 use Rattle.pas_bits.specs.declared.mask.Mask4.{Mask4}
@@ -52,5 +52,5 @@ pub refusal_leads : {F : Type 0} {rule : Rule F} {f : Profile} {d : Directory} {
 refusal_leads s = s.still
 
 -- ---- a flush
-pub flush_calls : {σ σ' : Standing} {names : List Name} → (flush : Flushes names σ σ') → Calls σ σ' IsClear (Does nothing) flush.steps
+pub flush_calls : {σ σ' : Standing} {logged : List Entry} → (flush : Flushes logged σ σ') → Calls σ σ' IsClear (Does nothing) flush.steps
 flush_calls flush = flush.calls

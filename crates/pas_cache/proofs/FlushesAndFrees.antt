@@ -14,7 +14,9 @@ use Rattle.pas_steps.specs.declared.step.Made.{Made}
 use Rattle.pas_steps.specs.declared.step.Step.TheVariants.{Look}
 use Rattle.pas_steps.proofs.Adding.{adds_none, adds_step, adds_under, adds_call, can_call, agreed_first, agreed_later}
 use Rattle.pas_steps.specs.Clear.{IsClear, HasNothing}
-use Rattle.pas_free_log.specs.Conditions.{IsNameOf}
+use Rattle.pas_free_log.specs.Conditions.{IsNameOf, IsEntryOf}
+use Rattle.pas_free_log.specs.declared.log.Entry.{Entry}
+use Rattle.pas_free_log.specs.Logs.{entry_of}
 use Rattle.pas_free_log.specs.Flushes.{Flushes}
 use Rattle.pas_cache.specs.Locals.{IsLocal, RestsWith}
 use Rattle.pas_cache.specs.Caches.{Cached, AtRest}
@@ -45,20 +47,20 @@ pub rests_empty : (f : Profile) (c : Cached) (v : View) → c.locals ≡ [] → 
 rests_empty f c v locals log none = record {
   locals = subst (λ xs. RestsWith f xs v) (sym locals) (no_locals f v none);
   few = subst (λ xs. length xs ≤ 32) (sym locals) (omega arith);
-  names = All-same (IsNameOf f) c.log [] log (All-nil (IsNameOf f));
-  few_names = subst (λ xs. length xs ≤ 64) (sym log) (omega arith);
+  entries = All-same (IsEntryOf f) c.log [] log (All-nil (IsEntryOf f));
+  few_entries = subst (λ xs. length xs ≤ 64) (sym log) (omega arith);
 }
 
 -- ---- at rest after steps that did nothing, with the same local allocators
-rests_idle : (f : Profile) (c c' : Cached) (steps : List Made) → c'.locals ≡ c.locals → Leads f IsClear (Does nothing) steps → ((v : View) → AtRest f c v → All (IsNameOf f) c'.log × (length c'.log ≤ 64)) → Leads f (AtRest f c) (λ v w. AtRest f c' w) steps
+rests_idle : (f : Profile) (c c' : Cached) (steps : List Made) → c'.locals ≡ c.locals → Leads f IsClear (Does nothing) steps → ((v : View) → AtRest f c v → All (IsEntryOf f) c'.log × (length c'.log ≤ 64)) → Leads f (AtRest f c) (λ v w. AtRest f c' w) steps
 rests_idle f c c' steps same does names = record {
   from = λ v h agreed.
       let log = names v h in
       record {
         locals = subst (λ xs. RestsWith f xs (steps ++ v)) (sym same) (rests_kept f c.locals steps v (does.from v h.locals.clear agreed) agreed h.locals);
         few = subst (λ xs. length xs ≤ 32) (sym same) h.few;
-        names = log.0;
-        few_names = log.1;
+        entries = log.0;
+        few_entries = log.1;
       };
 }
 
@@ -70,13 +72,13 @@ begins {σ} c epoch look = record {
   calls = record {
     adds = adds_step {step = Look Word.Epoch} adds_none look (λ v l stood met. tt);
     leads = rests_idle σ.seat.profile c (record c { idle_since = epoch }) (made (Look Word.Epoch) epoch ∷ []) refl
-        (record { from = λ v clear agreed. does_idly σ.seat.profile looking refl (made (Look Word.Epoch) epoch ∷ []) v (refl, tt) agreed }) (λ v h. (h.names, h.few_names));
+        (record { from = λ v clear agreed. does_idly σ.seat.profile looking refl (made (Look Word.Epoch) epoch ∷ []) v (refl, tt) agreed }) (λ v h. (h.entries, h.few_entries));
   };
 }
 
 -- ---- flush
-pub empties : {σ σ' : Standing} (names : List Name) (flush : Flushes names σ σ') → EmptiesLog σ.seat.actor names flush.steps
-empties names flush = record { epoch = flush.epoch; settled = flush.settled; names_are = flush.names_are; entries = flush.entries; order = flush.order; steps_are = flush.steps_are; events = flush.events; stamps = flush.stamps }
+pub empties : {σ σ' : Standing} (logged : List Entry) (flush : Flushes logged σ σ') → EmptiesLog σ.seat.actor logged flush.steps
+empties logged flush = record { epoch = flush.epoch; settled = flush.settled; entries_are = flush.entries_are; entries = flush.entries; order = flush.order; steps_are = flush.steps_are; events = flush.events; stamps = flush.stamps }
 
 pub flushes_log : {σ σ' : Standing} (c c' : Cached) → c' ≡ record c { log = [] } → Flushes c.log σ σ' → FlushesLog c c' σ σ'
 flushes_log {σ} {σ'} c c' is flush =
@@ -84,7 +86,7 @@ flushes_log {σ} {σ'} c c' is flush =
       steps = flush.steps;
       calls = record {
         adds = adds_under (flush_calls flush).adds (λ v l stood met. met.locals.clear);
-        leads = rests_idle σ.seat.profile c (record c { log = [] }) flush.steps refl (flush_calls flush).leads (λ v h. (All-nil (IsNameOf σ.seat.profile), omega arith));
+        leads = rests_idle σ.seat.profile c (record c { log = [] }) flush.steps refl (flush_calls flush).leads (λ v h. (All-nil (IsEntryOf σ.seat.profile), omega arith));
       };
       empties = empties c.log flush;
       cache = refl;
@@ -117,17 +119,17 @@ stops_cache {σ} {σ1} {σ2} c c1 c' flush stops mid is =
     }
 
 -- ---- names
-pub empties_where : {σ σ' : Standing} (log log' : List Name) → 64 ≤ length log → log' ≡ [] → Flushes log σ σ' → EmptiesWhere (nat_le 64 (length log)) log log' σ σ'
+pub empties_where : {σ σ' : Standing} (log log' : List Entry) → 64 ≤ length log → log' ≡ [] → Flushes log σ σ' → EmptiesWhere (nat_le 64 (length log)) log log' σ σ'
 empties_where {σ} {σ'} log log' full none flush = record {
   steps = flush.steps;
   calls = flush_calls flush;
   empties = subst (λ t. EmptiesFull t σ.seat.actor log log' flush.steps) (sym (le-leb 64 (length log) full)) (empties log flush, none);
 }
 
-pub empties_nothing : {σ : Standing} (log : List Name) → length log < 64 → EmptiesWhere (nat_le 64 (length log)) log log σ σ
+pub empties_nothing : {σ : Standing} (log : List Entry) → length log < 64 → EmptiesWhere (nat_le 64 (length log)) log log σ σ
 empties_nothing {σ} log few = record { steps = []; calls = call_none (λ v clear. does_none v); empties = subst (λ t. EmptiesFull t σ.seat.actor log log []) (sym (lt-leb 64 (length log) few)) (refl, refl) }
 
-pub logs_into : {σ σ' : Standing} (log kept log' : List Name) (name : Name) → EmptiesWhere (nat_le 64 (length log)) log kept σ σ' → log' ≡ kept ++ name ∷ [] → LogsInto log log' name σ σ'
+pub logs_into : {σ σ' : Standing} (log kept log' : List Entry) (name : Name) → EmptiesWhere (nat_le 64 (length log)) log kept σ σ' → log' ≡ kept ++ entry_of name ∷ [] → LogsInto log log' name σ σ'
 logs_into log kept log' name emptied is = record { steps = emptied.steps; calls = emptied.calls; logs = record { kept = kept; emptied = emptied.empties; log_is = is } }
 
 -- the names of a log after one more
@@ -137,16 +139,16 @@ not_full n h = elim (cases_lt n 64) [
   | inr ge ↦ absurd (true≢false (sym (le-leb 64 n ge) ∙ sym h))
 ]
 
-kept_names : (f : Profile) (full : Bool) (k : ℕ) (log kept : List Name) (steps : List Made) → full ≡ nat_le 64 (length log) → EmptiesFull full k log kept steps → All (IsNameOf f) log → All (IsNameOf f) kept × (length kept < 64)
-kept_names f true k log kept steps full h names = (All-same (IsNameOf f) kept [] h.1 (All-nil (IsNameOf f)), subst (λ xs. length xs < 64) (sym h.1) (omega arith))
-kept_names f false k log kept steps full h names = (All-same (IsNameOf f) kept log h.1 names, subst (λ xs. length xs < 64) (sym h.1) (not_full (length log) full))
+kept_names : (f : Profile) (full : Bool) (k : ℕ) (log kept : List Entry) (steps : List Made) → full ≡ nat_le 64 (length log) → EmptiesFull full k log kept steps → All (IsEntryOf f) log → All (IsEntryOf f) kept × (length kept < 64)
+kept_names f true k log kept steps full h names = (All-same (IsEntryOf f) kept [] h.1 (All-nil (IsEntryOf f)), subst (λ xs. length xs < 64) (sym h.1) (omega arith))
+kept_names f false k log kept steps full h names = (All-same (IsEntryOf f) kept log h.1 names, subst (λ xs. length xs < 64) (sym h.1) (not_full (length log) full))
 
-logged_names : (f : Profile) (k : ℕ) (log log' : List Name) (name : Name) (steps : List Made) → LogsName k log log' name steps → IsNameOf f name → All (IsNameOf f) log → All (IsNameOf f) log' × (length log' ≤ 64)
+logged_names : (f : Profile) (k : ℕ) (log log' : List Entry) (name : Name) (steps : List Made) → LogsName k log log' name steps → IsEntryOf f (entry_of name) → All (IsEntryOf f) log → All (IsEntryOf f) log' × (length log' ≤ 64)
 logged_names f k log log' name steps logs is names =
     let kept = kept_names f (nat_le 64 (length log)) k log logs.kept steps refl logs.emptied names in
-    let n : length log' ≡ length logs.kept + 1 = ap length logs.log_is ∙ length-append logs.kept (name ∷ []) in
+    let n : length log' ≡ length logs.kept + 1 = ap length logs.log_is ∙ length-append logs.kept (entry_of name ∷ []) in
     let few = kept.1 in
-    (All-same (IsNameOf f) log' (logs.kept ++ name ∷ []) logs.log_is (All-push (IsNameOf f) logs.kept name kept.0 is), omega (arith, n, few))
+    (All-same (IsEntryOf f) log' (logs.kept ++ entry_of name ∷ []) logs.log_is (All-push (IsEntryOf f) logs.kept (entry_of name) kept.0 is), omega (arith, n, few))
 
 pub frees : {σ σ' : Standing} (c c' : Cached) (name : Name) → name.turn < 2 ^ 40 - 1 → IsInRegion σ.seat.profile name → LogsInto c.log c'.log name σ σ' → c' ≡ record c { log = c'.log } → Frees name c c' σ σ' (Ok tt)
 frees {σ} c c' name turn region logs is = record {
@@ -154,7 +156,7 @@ frees {σ} c c' name turn region logs is = record {
   calls = record {
     adds = adds_under logs.calls.adds (λ v l stood met. met.locals.clear);
     leads = rests_idle σ.seat.profile c c' logs.steps (ap (λ x. x.locals) is) logs.calls.leads
-        (λ v h. logged_names σ.seat.profile σ.seat.actor c.log c'.log name logs.steps logs.logs (record { page = region.page; aligned = region.aligned; turn = turn }) h.names);
+        (λ v h. logged_names σ.seat.profile σ.seat.actor c.log c'.log name logs.steps logs.logs (record { name = record { page = region.page; aligned = region.aligned; turn = turn } }) h.entries);
   };
   outcome = record { region = region; logs = logs.logs; cache = is };
 }
@@ -174,4 +176,4 @@ full_room n spare most room full =
     omega (arith, n64, some)
 
 pub flush_call : {σ : Standing} {c : Cached} → CanCall σ (λ v l. AtRest σ.seat.profile c v) → CanCall σ (λ v l. MayFlush σ.seat.profile c.log v)
-flush_call can = record { view = can.view; whole = can.whole; stood = can.stood; met = record { clear = can.met.locals.clear; each = can.met.names } }
+flush_call can = record { view = can.view; whole = can.whole; stood = can.stood; met = record { clear = can.met.locals.clear; each = can.met.entries } }

@@ -10,7 +10,6 @@ use Rattle.pas_profile.specs.Profiles.{IsAdmitted, IsDirectoryOf}
 use Rattle.pas_profile.specs.Routes.{route_of}
 use Rattle.pas_profile.specs.declared.directory.Route.{Route}
 use Rattle.pas_profile.proofs.ClassFacts.{class_suits, routed_slot_aligned}
-use Rattle.pas_free_log.specs.Conditions.{IsNameOf}
 use Rattle.pas_cache.specs.Caches.{Cached, AtRest}
 use Rattle.pas_cache.specs.Calls.{MayAllocate, Allocates}
 use Rattle.std.specs.List.{AllByRecursion}
@@ -205,7 +204,7 @@ allocates {σ} {σ'} size align heap class tells c c' answer admitted route is h
     let f : Profile = σ.seat.profile in
     subst (λ r. Allocates (class_directory heap (class_of r)) heap (class_of r) align tells c c' σ σ' answer) (sym route) (record {
       steps = h.steps;
-      calls = call_as (λ v w. AtRest f c' w) h.calls (λ v rest. rest.locals) (λ v w rest locals. subst (λ x. AtRest f x w) (sym is) (record { locals = locals; few = h.place; names = rest.names; few_names = rest.few_names }));
+      calls = call_as (λ v w. AtRest f c' w) h.calls (λ v rest. rest.locals) (λ v w rest locals. subst (λ x. AtRest f x w) (sym is) (record { locals = locals; few = h.place; entries = rest.entries; few_entries = rest.few_entries }));
       change = record { locals = h.change; cache = is };
       kinds = h.kinds;
       few = λ k v rest agreed. h.few k v rest.locals agreed;

@@ -13,6 +13,8 @@ use Rattle.pas_steps.specs.Events.{events_by}
 use Rattle.pas_steps.specs.Desks.{made}
 use Rattle.pas_steps.specs.declared.step.Made.{Made}
 use Rattle.pas_steps.specs.declared.step.Step.TheVariants.{Look, Give}
+use Rattle.pas_free_log.specs.declared.log.Entry.{Entry}
+use Rattle.pas_free_log.specs.Logs.{entry_of}
 use Rattle.pas_free_log.specs.Stamps.{stamps_by}
 use Rattle.pas_free_log.specs.Flushes.{Settled, EntriesSteps, shown_for, stamps_for}
 use Rattle.pas_segregated.specs.Stops.{directory_of, LeavesWhere, StopSteps}
@@ -68,12 +70,12 @@ StopsAll [] steps = steps ≡ []
 StopsAll (slots ∷ rest) steps = (piece : List Made) × (before : List Made) × StopSteps slots piece × StopsAll rest before × (steps ≡ piece ++ before)
 
 -- ---- the log is emptied
--- A look at the epoch, and then the steps for each of these names in order. Each makes one event, with exactly that name and the epoch that was
+-- A look at the epoch, and then the steps for each of these entries in order. Each makes one event, with exactly its name and the epoch that was
 -- read; each page of each block that ended is stamped once with it, and no other page. `settled` has what came of each, the newest first.
-pub record EmptiesLog (actor : ℕ) (names : List Name) (steps : List Made) : Type 0 where
+pub record EmptiesLog (actor : ℕ) (logged : List Entry) (steps : List Made) : Type 0 where
   pub epoch : ℕ
   pub settled : List Settled
-  pub names_are : reverse (map (λ entry. entry.name) settled) ≡ names
+  pub entries_are : reverse (map (λ s. s.entry) settled) ≡ logged
   pub entries : List Made
   pub order : EntriesSteps settled entries
   pub steps_are : steps ≡ entries ++ (made (Look Word.Epoch) epoch ∷ [])
@@ -81,12 +83,12 @@ pub record EmptiesLog (actor : ℕ) (names : List Name) (steps : List Made) : Ty
   pub stamps : (v : View) → stamps_by v steps ≡ flat_map (stamps_for epoch) settled
 
 -- before a name is added: a full log is emptied, and another isn't touched
-abbrev pub EmptiesFull : Bool → ℕ → List Name → List Name → List Made → Type 0
+abbrev pub EmptiesFull : Bool → ℕ → List Entry → List Entry → List Made → Type 0
 EmptiesFull true actor log log' steps = EmptiesLog actor log steps × (log' ≡ [])
 EmptiesFull false actor log log' steps = (steps ≡ []) × (log' ≡ log)
 
--- the name is logged at the end, after a full log was emptied
-pub record LogsName (actor : ℕ) (log log' : List Name) (name : Name) (steps : List Made) : Type 0 where
-  pub kept : List Name
+-- an entry of the name is logged at the end, after a full log was emptied
+pub record LogsName (actor : ℕ) (log log' : List Entry) (name : Name) (steps : List Made) : Type 0 where
+  pub kept : List Entry
   pub emptied : EmptiesFull (nat_le 64 (length log)) actor log kept steps
-  pub log_is : log' ≡ kept ++ name ∷ []
+  pub log_is : log' ≡ kept ++ entry_of name ∷ []

@@ -11,7 +11,8 @@ use Rattle.pas_steps.specs.Calls.{Calls, Does, nothing}
 use Rattle.pas_steps.specs.Desks.{Standing}
 use Rattle.pas_steps.specs.declared.step.Made.{Made}
 use Rattle.pas_steps.specs.Clear.{IsClear}
-use Rattle.pas_free_log.specs.Conditions.{IsNameOf}
+use Rattle.pas_free_log.specs.declared.log.Entry.{Entry}
+use Rattle.pas_free_log.specs.Conditions.{IsEntryOf}
 use Rattle.pas_cache.specs.Changes.{EmptiesFull, LogsName}
 
 -- the address is a multiple of 16 on a page of the region
@@ -24,18 +25,18 @@ abbrev pub IsFaultOf : Profile → Name → FreeFault → Type 0
 IsFaultOf f name Outside = IsPage f (address_of name / 4096) → ⊥
 IsFaultOf f name Unaligned = IsPage f (address_of name / 4096) × (address_of name % 16 ≢ 0)
 
--- the actor is clear, and each of the names may be ended
-pub record MayFlush (f : Profile) (names : List Name) (v : View) : Type 0 where
+-- the actor is clear, and each of the entries may be ended
+pub record MayFlush (f : Profile) (logged : List Entry) (v : View) : Type 0 where
   pub clear : IsClear v
-  pub each : All (IsNameOf f) names
+  pub each : All (IsEntryOf f) logged
 
 -- the log is emptied where it is full
-pub record EmptiesWhere (full : Bool) (log log' : List Name) (desk desk' : Standing) : Type 0 where
+pub record EmptiesWhere (full : Bool) (log log' : List Entry) (desk desk' : Standing) : Type 0 where
   pub steps : List Made
   pub calls : Calls desk desk' IsClear (Does nothing) steps
   pub empties : EmptiesFull full desk.seat.actor log log' steps
 
-pub record LogsInto (log log' : List Name) (name : Name) (desk desk' : Standing) : Type 0 where
+pub record LogsInto (log log' : List Entry) (name : Name) (desk desk' : Standing) : Type 0 where
   pub steps : List Made
   pub calls : Calls desk desk' IsClear (Does nothing) steps
   pub logs : LogsName desk.seat.actor log log' name steps

@@ -2,7 +2,7 @@
 ghost use Rattle.std.specs.Prelude.{◌≡◌, ◌<◌, ◌≤◌, MatchResult, length, nat_le};
 ghost use Rattle.pas_steps.specs.Desks.{CanCall};
 ghost use Rattle.pas_steps.specs.Clear.{IsClear};
-ghost use Rattle.pas_free_log.specs.Logs.{names_in};
+ghost use Rattle.pas_free_log.specs.Logs.{entries_in};
 ghost use Rattle.pas_cache.specs.Names.{IsInRegion, IsFaultOf, MayFlush, EmptiesWhere, LogsInto};
 
 use crate::cache::ThreadCache;
@@ -26,10 +26,10 @@ fn check(profile: &Profile, name: Name) -> Result<(), FreeFault>
 
 /// Flushes the log where it is full.
 fn make_room<D: Desk>(desk: &mut D, log: &mut FreeLog)
-    requires room { 64 ≤ length (names_in log.old) → length (names_in log.old) ≤ D.spare_of desk.old }
-    requires can { CanCall (D.standing desk.old) (λ v l. MayFlush (D.standing desk.old).seat.profile (names_in log.old) v) }
-    ensures empties { EmptiesWhere (nat_le 64 (length (names_in log.old))) (names_in log.old) (names_in log.new) (D.standing desk.old) (D.standing desk.new) }
-    ensures left { length (names_in log.new) < 64 }
+    requires room { 64 ≤ length (entries_in log.old) → length (entries_in log.old) ≤ D.spare_of desk.old }
+    requires can { CanCall (D.standing desk.old) (λ v l. MayFlush (D.standing desk.old).seat.profile (entries_in log.old) v) }
+    ensures empties { EmptiesWhere (nat_le 64 (length (entries_in log.old))) (entries_in log.old) (entries_in log.new) (D.standing desk.old) (D.standing desk.new) }
+    ensures left { length (entries_in log.new) < 64 }
     ensures home { D.home desk.new ≡ D.home desk.old }
 {
     if log.len() >= 64 {
@@ -39,9 +39,9 @@ fn make_room<D: Desk>(desk: &mut D, log: &mut FreeLog)
 
 /// Adds the name at the end of the log, and flushes a full one before.
 fn log_name<D: Desk>(desk: &mut D, log: &mut FreeLog, name: Name)
-    requires room { 64 ≤ length (names_in log.old) → length (names_in log.old) ≤ D.spare_of desk.old }
-    requires can { CanCall (D.standing desk.old) (λ v l. MayFlush (D.standing desk.old).seat.profile (names_in log.old) v) }
-    ensures logs { LogsInto (names_in log.old) (names_in log.new) name (D.standing desk.old) (D.standing desk.new) }
+    requires room { 64 ≤ length (entries_in log.old) → length (entries_in log.old) ≤ D.spare_of desk.old }
+    requires can { CanCall (D.standing desk.old) (λ v l. MayFlush (D.standing desk.old).seat.profile (entries_in log.old) v) }
+    ensures logs { LogsInto (entries_in log.old) (entries_in log.new) name (D.standing desk.old) (D.standing desk.new) }
     ensures home { D.home desk.new ≡ D.home desk.old }
 {
     make_room(desk, log);

@@ -22,7 +22,8 @@ use Rattle.pas_steps.proofs.Apart.{only_within, only_both, epoch_same, events_sa
 use Rattle.pas_steps.proofs.Adding.{adds_under}
 use Rattle.pas_steps.proofs.Called.{call_then}
 use Rattle.pas_steps.proofs.Calls.{leads_as, leads_then, nothing_then, end_fails, end_succeeds, end_later, ends_back, EndsBlock, unexamined_over}
-use Rattle.pas_free_log.specs.Conditions.{IsNameOf, KnowsEpoch, MayEnd}
+use Rattle.pas_free_log.specs.declared.log.Entry.{Entry}
+use Rattle.pas_free_log.specs.Conditions.{IsEntryOf, KnowsEpoch, MayEnd}
 use Rattle.pas_free_log.specs.Stamps.{stamps_by, page_count, pages_met, stamps_with}
 use Rattle.pas_free_log.specs.Frames.{putting_back, ending, PutsBack}
 use Rattle.pas_free_log.specs.Endings.{guess_by, is_of, EndSteps, EndsName}
@@ -43,13 +44,14 @@ refused_event k name guess a read pre v idle ne is same =
     ap (λ o. with_event o (events_by k v pre)) (refusal k (epoch_of (pre ++ v)) name guess a ne is)
     ∙ ap (λ es. Event.Reject k name (reason_of name a) ∷ es) (idle.events k v) ∙ ap (λ n. Event.Reject k name (reason_of name n) ∷ []) (sym same)
 
-pub entry_refused : {σ σ1 : Standing} (name : Name) (read : ℕ) → IsNameOf σ.seat.profile name → EndsName name σ σ1 (Refused read) → EndsEntry name σ σ1
-entry_refused {σ} {σ1} name read named e =
+pub entry_refused : {σ σ1 : Standing} (entry : Entry) (read : ℕ) → IsEntryOf σ.seat.profile entry → EndsName entry.name σ σ1 (Refused read) → EndsEntry entry σ σ1
+entry_refused {σ} {σ1} entry read named e =
+    let name = entry.name in
     let o = e.order in
     let pre = o.before ++ first_look name o.deed in
     let steps : List Made = ending_steps name o.guess o.answer pre in
     let idle : AreIdle pre = tries_idle name o.deed (guess_by (directory_read o.deed)) o.guess o.before o.tries in
-    let ne = not_live name o.guess o.answer named.turn o.comes_to.0 in
+    let ne = not_live name o.guess o.answer named.name.turn o.comes_to.0 in
     record {
       outcome = Refused read;
       steps = steps;
@@ -137,8 +139,9 @@ is_ended {σ} {σ1} name grains e =
     }
 
 -- whoever ended a block and put its grains back is as before
-pub entry_ended : {σ σ1 σ2 : Standing} (name : Name) (grains : ℕ) → IsEnded name grains σ σ1 → ReturnsRun (grain_of name) grains σ1 σ2 → EndsEntry name σ σ2
-entry_ended {σ} {σ1} {σ2} name grains e r =
+pub entry_ended : {σ σ1 σ2 : Standing} (entry : Entry) (grains : ℕ) → IsEnded entry.name grains σ σ1 → ReturnsRun (grain_of entry.name) grains σ1 σ2 → EndsEntry entry σ σ2
+entry_ended {σ} {σ1} {σ2} entry grains e r =
+    let name = entry.name in
     let g = grain_of name in
     let ends : List Made = ending_steps name e.guess e.answer e.pre in
     let some : 1 ≤ grains = subst (λ n. 1 ≤ n) (sym e.length_is) e.some in

@@ -16,6 +16,7 @@ use Rattle.pas_rights.proofs.Puts.{puts_few}
 use Rattle.pas_free_log.specs.Stamps.{pages_met, stamps_with}
 use Rattle.pas_free_log.specs.Endings.{guess_by, Tries, EndSteps}
 use Rattle.pas_free_log.specs.Returns.{PageSteps, first_on, count_on}
+use Rattle.pas_free_log.specs.declared.log.Entry.{Entry}
 use Rattle.pas_free_log.specs.Flushes.{Settled, stamps_by_outcome, stamps_for, AfterEnd, EntriesSteps}
 use Rattle.pas_free_log.specs.declared.ending.Outcome.{Outcome}
 use Rattle.pas_free_log.specs.declared.ending.Outcome.TheVariants.{Ended, Refused}
@@ -50,12 +51,12 @@ entries_few epoch (entry ∷ earlier) steps h =
     let e = h.2 in
     let all = ap length h.4 ∙ length-append h.0 h.1 in
     let here = ap length e.steps_are ∙ length-append e.after e.ends in
-    let ends = end_few entry.name entry.outcome e.ends e.order in
-    let after = after_few epoch entry.name entry.outcome e.after e.returns in
+    let ends = end_few entry.entry.name entry.outcome e.ends e.order in
+    let after = after_few epoch entry.entry.name entry.outcome e.after e.returns in
     let before = entries_few epoch earlier h.1 h.3 in
     let stamps : length (flat_map (stamps_for epoch) (entry ∷ earlier)) ≡ length (stamps_for epoch entry) + length (flat_map (stamps_for epoch) earlier) = length-append (stamps_for epoch entry) (flat_map (stamps_for epoch) earlier) in
     omega (arith, all, here, ends, after, before, stamps)
 
--- what came of each name
-pub settled_count : (settled : List Settled) (names : List Name) → reverse (map (λ entry. entry.name) settled) ≡ names → length settled ≡ length names
-settled_count settled names are = sym (length-map settled (λ entry. entry.name)) ∙ sym (length-reverse (map (λ entry. entry.name) settled)) ∙ ap length are
+-- what came of each entry
+pub settled_count : (settled : List Settled) (logged : List Entry) → reverse (map (λ s. s.entry) settled) ≡ logged → length settled ≡ length logged
+settled_count settled logged are = sym (length-map settled (λ s. s.entry)) ∙ sym (length-reverse (map (λ s. s.entry) settled)) ∙ ap length are

@@ -6,12 +6,17 @@ use Rattle.pas_profile.specs.declared.name.Name.{Name}
 use Rattle.pas_profile.specs.Runs.{address_of}
 use Rattle.pas_steps.specs.Views.{View, known_epoch, examines}
 use Rattle.pas_steps.specs.Allowed.{IsEpochKnown}
+use Rattle.pas_free_log.specs.declared.log.Entry.{Entry}
 
 -- The end of this name may be tried: its address is a multiple of 16 on a page of the region, and its turn has a next one.
 pub record IsNameOf (f : Profile) (name : Name) : Type 0 where
   pub page : IsPage f (address_of name / 4096)
   pub aligned : address_of name % 16 ≡ 0
   pub turn : name.turn < 2 ^ 40 - 1
+
+-- .. and so may that of an entry
+pub record IsEntryOf (f : Profile) (entry : Entry) : Type 0 where
+  pub name : IsNameOf f entry.name
 
 -- the actor read the epoch
 abbrev pub KnowsEpoch : View → Type 0

@@ -1,28 +1,28 @@
 //! The flush of a log.
 ghost use Rattle.std.specs.Prelude.{◌≡◌, ◌≤◌, ◌+◌, [], All, length};
 ghost use Rattle.pas_steps.specs.Desks.{CanCall};
-ghost use Rattle.pas_free_log.specs.Logs.{names_in};
+ghost use Rattle.pas_free_log.specs.Logs.{entries_in};
 ghost use Rattle.pas_steps.specs.Clear.{IsClear};
-ghost use Rattle.pas_free_log.specs.Conditions.{IsNameOf, MayEnd};
+ghost use Rattle.pas_free_log.specs.Conditions.{IsEntryOf, MayEnd};
 ghost use Rattle.pas_free_log.specs.Flushes.{EndsEntry, Flushes};
 
 use crate::ending::{Outcome, end_named};
-use crate::log::FreeLog;
+use crate::log::{Entry, FreeLog};
 use crate::returning::return_run;
-use pas_profile::{Name, Word};
+use pas_profile::Word;
 use pas_steps::Desk;
 
-/// Ends the block of this name, and stamps its pages and puts its grains back where it ended. One event.
-fn end_entry<D: Desk>(desk: &mut D, name: Name)
-    requires name { IsNameOf (D.standing desk.old).seat.profile name }
+/// Ends the block of the entry's name, and stamps its pages and puts its grains back where it ended. One event.
+fn end_entry<D: Desk>(desk: &mut D, entry: Entry)
+    requires entry { IsEntryOf (D.standing desk.old).seat.profile entry }
     requires room { 1 ≤ D.spare_of desk.old }
     requires can { CanCall (D.standing desk.old) (λ v l. MayEnd v) }
-    ensures ends { EndsEntry name (D.standing desk.old) (D.standing desk.new) }
+    ensures ends { EndsEntry entry (D.standing desk.old) (D.standing desk.new) }
     ensures spare { D.spare_of desk.new + 1 ≡ D.spare_of desk.old }
     ensures home { D.home desk.new ≡ D.home desk.old }
 {
-    match end_named(desk, name) {
-        Outcome::Ended { grains } => return_run(desk, name.address.0 / 16, grains),
+    match end_named(desk, entry.name) {
+        Outcome::Ended { grains } => return_run(desk, entry.name.address.0 / 16, grains),
         Outcome::Refused { read: _ } => {}
     }
 }
@@ -33,18 +33,18 @@ fn end_entry<D: Desk>(desk: &mut D, name: Name)
 /// ended are stamped, its grains are free again, and nothing is owed on its pages. The actor holds the grains and has the rights that it
 /// had before. One step, and for each name at most three, and fourteen for each page of its block.
 pub fn flush<D: Desk>(desk: &mut D, log: &mut FreeLog)
-    requires names { All (IsNameOf (D.standing desk.old).seat.profile) (names_in log.old) }
-    requires room { length (names_in log.old) ≤ D.spare_of desk.old }
+    requires entries { All (IsEntryOf (D.standing desk.old).seat.profile) (entries_in log.old) }
+    requires room { length (entries_in log.old) ≤ D.spare_of desk.old }
     requires can { CanCall (D.standing desk.old) (λ v l. IsClear v) }
-    ensures flushes { Flushes (names_in log.old) (D.standing desk.old) (D.standing desk.new) }
-    ensures empty { names_in log.new ≡ [] }
-    ensures spare { D.spare_of desk.new + length (names_in log.old) ≡ D.spare_of desk.old }
+    ensures flushes { Flushes (entries_in log.old) (D.standing desk.old) (D.standing desk.new) }
+    ensures empty { entries_in log.new ≡ [] }
+    ensures spare { D.spare_of desk.new + length (entries_in log.old) ≡ D.spare_of desk.old }
     ensures home { D.home desk.new ≡ D.home desk.old }
 {
     desk.look(Word::Epoch);
-    let names = log.as_slice();
-    for name in names {
-        end_entry(desk, *name);
+    let entries = log.as_slice();
+    for entry in entries {
+        end_entry(desk, *entry);
     }
     log.clear();
 }

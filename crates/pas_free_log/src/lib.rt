@@ -9,4 +9,4 @@ mod returning;
 mod tests;
 
 pub use flushing::flush;
-pub use log::FreeLog;
+pub use log::{Entry, FreeLog};

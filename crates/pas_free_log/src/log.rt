@@ -1,57 +1,63 @@
 //! The log.
 ghost use Rattle.std.specs.Prelude.{◌≡◌, ◌++◌, ◌∷◌, ◌<◌, ◌↔◌, [], IsTrue, true, false, length};
-ghost use Rattle.pas_free_log.specs.Logs.{names_in};
+ghost use Rattle.pas_free_log.specs.Logs.{entries_in, entry_of};
 
 use arrayvec::ArrayVec;
 use pas_profile::Name;
 
-/// At most 64 names of blocks that were freed, in the order in which they came. It takes no memory.
+/// What a log holds of a free: the name of the block.
+#[derive(Clone, Copy, Debug, Default, PartialEq, Eq, Drop)]
+pub struct Entry {
+    pub name: Name,
+}
+
+/// At most 64 entries of blocks that were freed, in the order in which they came. It takes no memory.
 #[derive(Drop)]
 pub struct FreeLog {
-    names: ArrayVec<Name, 64>,
+    entries: ArrayVec<Entry, 64>,
 }
 
 impl FreeLog {
     /// An empty log.
     pub fn new() -> FreeLog
-        ensures { names_in result ≡ [] }
+        ensures { entries_in result ≡ [] }
     {
         FreeLog {
-            names: ArrayVec::new(),
+            entries: ArrayVec::new(),
         }
     }
 
-    /// The number of names, at most 64.
+    /// The number of entries, at most 64.
     pub fn len(&self) -> u8
-        ensures { result ≡ length (names_in self.now) }
+        ensures { result ≡ length (entries_in self.now) }
     {
-        self.names.len() as u8
+        self.entries.len() as u8
     }
 
-    /// Adds the name at the end. False exactly where 64 names are there, and the log is unchanged then.
+    /// Adds an entry of the name at the end. False exactly where 64 are there, and the log is unchanged then.
     pub fn add(&mut self, name: Name) -> bool
-        ensures room { IsTrue result ↔ (length (names_in self.old) < 64) }
-        ensures added { result ≡ true → names_in self.new ≡ names_in self.old ++ name ∷ [] }
-        ensures full { result ≡ false → names_in self.new ≡ names_in self.old }
+        ensures room { IsTrue result ↔ (length (entries_in self.old) < 64) }
+        ensures added { result ≡ true → entries_in self.new ≡ entries_in self.old ++ entry_of name ∷ [] }
+        ensures full { result ≡ false → entries_in self.new ≡ entries_in self.old }
     {
-        if self.names.is_full() {
+        if self.entries.is_full() {
             return false;
         }
-        self.names.push(name);
+        self.entries.push(Entry { name });
         true
     }
 
-    /// The names in order.
-    pub(crate) fn as_slice(&self) -> &[Name]
-        ensures { result.now ≡ names_in self.now }
+    /// The entries in order.
+    pub(crate) fn as_slice(&self) -> &[Entry]
+        ensures { result.now ≡ entries_in self.now }
     {
-        self.names.as_slice()
+        self.entries.as_slice()
     }
 
-    /// Drops all names.
+    /// Drops all entries.
     pub(crate) fn clear(&mut self)
-        ensures { names_in self.new ≡ [] }
+        ensures { entries_in self.new ≡ [] }
     {
-        self.names.clear();
+        self.entries.clear();
     }
 }

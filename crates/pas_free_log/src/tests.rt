@@ -11,7 +11,7 @@ fn name(grain: u8) -> Name {
 }
 
 #[test]
-fn a_log_has_64_names(rt: HostRuntime) -> Result<(), Fail> {
+fn a_log_has_64_entries(rt: HostRuntime) -> Result<(), Fail> {
     let mut log = FreeLog::new();
     assert_eq!(rt; log.len(), 0);
     for grain in 0..64u8 {
@@ -20,8 +20,8 @@ fn a_log_has_64_names(rt: HostRuntime) -> Result<(), Fail> {
     assert_eq!(rt; log.len(), 64);
     assert!(rt; !log.add(name(64)));
     assert_eq!(rt; log.len(), 64);
-    let names = log.as_slice();
-    assert!(rt; names.first() == Some(&name(0)));
-    assert!(rt; names.last() == Some(&name(63)));
+    let entries = log.as_slice();
+    assert!(rt; entries.first() == Some(&Entry { name: name(0) }));
+    assert!(rt; entries.last() == Some(&Entry { name: name(63) }));
     Ok(())
 }

@@ -3,7 +3,7 @@ use Rattle.std.specs.Prelude.{ℕ, ◌/◌, ◌%◌, ◌<◌, ◌≤◌, ◌≡�
 use Rattle.pas_profile.specs.declared.directory.Directory.{Directory}
 use Rattle.pas_profile.specs.declared.directory.Kind.TheVariants as Kind
 use Rattle.pas_bits.specs.declared.mask.Mask4.{Mask4}
-use Rattle.pas_bits.specs.Masks.{is_set}
+use Rattle.pas_bits.specs.Masks.{is_set, IsEmpty}
 use Rattle.pas_steps.specs.Calls.{Calls, Effect, Kept, Lost, Does}
 use Rattle.pas_steps.specs.Clear.{IsClear}
 use Rattle.pas_steps.specs.Frames.{OnlyOn}
@@ -26,6 +26,12 @@ directory_of slots = class_directory slots.heap slots.class
 -- the grain, a number of the region, is one of these slots'
 abbrev pub in_slots : Slots → ℕ → Bool
 in_slots slots g = (slots.page == g / 256) && is_set slots.starts (start_of slots.class (g % 256))
+
+-- no slot, of no page of any region, and without a right
+pub record AreNone (slots : Slots) : Type 0 where
+  pub page : slots.page ≡ 0
+  pub starts : IsEmpty slots.starts
+  pub right : slots.right ≡ false
 
 -- the mask has the grains of these slots, and no others
 abbrev pub AreGrains : Slots → Mask4 → Type 0

@@ -21,7 +21,11 @@ pub struct Slots {
 }
 
 impl Default for Slots {
-    /// No slots, of no page.
+    ghost use Rattle.pas_segregated.specs.Stops.{AreNone};
+
+    ghost is_default = { λ s. AreNone s };
+
+    /// No slots, of no page, without a right. It stands for nothing that an actor has: lists with places for slots ask for it.
     fn default() -> Slots {
         Slots {
             page: 0,

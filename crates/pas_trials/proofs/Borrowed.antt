@@ -16,6 +16,8 @@ use Rattle.pas_steps.specs.declared.step.Made.{Made}
 use Rattle.pas_steps.proofs.Adding.{can_call}
 use Rattle.pas_steps.specs.Unknown.{unknown_pages}
 use Rattle.pas_cache.specs.Caches.{Cached, AtRest}
+use Rattle.pas_free_log.specs.declared.log.Entry.{Entry}
+use Rattle.pas_free_log.specs.Logs.{entry_of}
 use Rattle.pas_cache.specs.Changes.{EmptiesFull}
 use Rattle.pas_cache.specs.Calls.{Allocates, TakesName, RefusesName, Frees, StopsCache}
 use Rattle.pas_cache.proofs.Budget.{HasBudget}
@@ -47,7 +49,7 @@ small_turn {answer = answer} h can = small_answer answer h can
 impossible : true ≡ nat_le 64 (length {A = Name} []) → ⊥
 impossible h = true≢false h
 
-empties_none : (full : Bool) (actor : ℕ) (log kept : List Name) (steps : List Made) → full ≡ nat_le 64 (length log) → log ≡ [] → EmptiesFull full actor log kept steps → (kept ≡ []) × (steps ≡ [])
+empties_none : (full : Bool) (actor : ℕ) (log kept : List Entry) (steps : List Made) → full ≡ nat_le 64 (length log) → log ≡ [] → EmptiesFull full actor log kept steps → (kept ≡ []) × (steps ≡ [])
 empties_none true actor log kept steps full none h = absurd (impossible (full ∙ ap (λ xs. nat_le 64 (length xs)) none))
 empties_none false actor log kept steps full none h = (h.1 ∙ none, h.0)
 
@@ -58,7 +60,7 @@ pub record LogsOne (c c' : Cached) (steps : List Made) : Type 0 where
 logs_one : (f : Profile) (actor : ℕ) (c c' : Cached) (name : Name) (steps : List Made) (answer : Result (Unit {0}) FreeFault) → c.log ≡ [] → MatchResult answer (λ done. TakesName f actor c c' name steps) (RefusesName f c c' name steps) → LogsOne c c' steps
 logs_one f actor c c' name steps (Ok done) none h =
     let kept = empties_none (nat_le 64 (length c.log)) actor c.log h.logs.kept steps refl none h.logs.emptied in
-    let n : length c'.log ≡ length h.logs.kept + 1 = ap length h.logs.log_is ∙ length-append h.logs.kept (name ∷ []) in
+    let n : length c'.log ≡ length h.logs.kept + 1 = ap length h.logs.log_is ∙ length-append h.logs.kept (entry_of name ∷ []) in
     let m : length h.logs.kept ≡ 0 = ap length kept.0 in
     record { log = omega (arith, n, m); no_steps = kept.1 }
 logs_one f actor c c' name steps (Err fault) none h =

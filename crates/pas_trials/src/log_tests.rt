@@ -6,7 +6,7 @@ ghost use Rattle.pas_steps.specs.Views.{View};
 ghost use Rattle.pas_plain.specs.Plain.{profile_of, events_shown, room_of_pass};
 ghost use Rattle.pas_plain.specs.Seats.{DeskStands, region_of, pass_of, standing_of};
 ghost use Rattle.pas_steps.specs.Clear.{IsClear};
-ghost use Rattle.pas_free_log.specs.Logs.{names_in};
+ghost use Rattle.pas_free_log.specs.Logs.{entries_in, entry_of};
 
 use pas_free_log::{FreeLog, flush};
 use pas_plain::{PlainDesk, PlainRegion, close};
@@ -83,7 +83,7 @@ fn give(desk: &mut PlainDesk)
 
 /// A log with the block's name, a name of no block, and the block's name once more.
 fn logged() -> FreeLog
-    ensures { names_in result ≡ NAME ∷ UNKNOWN ∷ NAME ∷ [] }
+    ensures { entries_in result ≡ entry_of NAME ∷ entry_of UNKNOWN ∷ entry_of NAME ∷ [] }
 {
     let mut log = FreeLog::new();
     log.add(NAME);

@@ -1,6 +1,6 @@
 use Rattle.std.proofs.Common.{◌≡◌, [], ◌∷◌, ◌++◌, get_or, refl, sym, ◌∙◌, subst, arith, append_assoc}
 use Rattle.std.proofs.lemmas.List.{take_all}
-use Rattle.pas_profile.specs.declared.name.Name.{Name}
+use Rattle.pas_free_log.specs.declared.log.Entry.{Entry}
 use Rattle.pas_profile.specs.declared.word.Word.TheVariants as Word
 use Rattle.pas_steps.specs.declared.step.Step.TheVariants.{Look}
 use Rattle.pas_steps.specs.Views.{View, epoch_of}
@@ -11,22 +11,22 @@ use Rattle.pas_steps.specs.Desks.{made}
 use Rattle.pas_steps.proofs.Apart.{only_both}
 use Rattle.pas_steps.proofs.Called.{call_none, call_idly, call_then, next_call}
 use Rattle.pas_steps.proofs.Calls.{does_none, does_then}
-use Rattle.pas_free_log.specs.Logs.{names_in}
+use Rattle.pas_free_log.specs.Logs.{entries_in, entry_of}
 use Rattle.pas_steps.specs.Clear.{IsClear}
 use Rattle.pas_free_log.specs.Frames.{ending}
 use Rattle.pas_free_log.specs.Flushes.{Settled, event_for}
-use Rattle.pas_free_log.proofs.AllEntries.{events_more, stamps_more, names_more, may_end, flushed}
+use Rattle.pas_free_log.proofs.AllEntries.{events_more, stamps_more, entries_more, may_end, flushed}
 use Rattle.pas_free_log.proofs.SpareRoom.{spare_falls}
 use Rattle.pas_free_log.proofs.flushing.flush.Goals as goal
 
-pub loop-name-init : goal.loop-name-init
-loop-name-init g c =
+pub loop-entry-init : goal.loop-entry-init
+loop-entry-init g c =
     let D = g.D.Desk in
     let calls : Calls (D.standing c.args.desk.now) (D.standing c.look.new.self) IsClear (Does nothing) (made (Look Word.Epoch) c.look.result ∷ []) = call_idly (LookEpoch ∷ []) refl (call_none (λ v met. does_none v)) c.look.ensures.makes refl (λ v met d. tt) in
     record {
       epoch = c.look.result;
       settled = [];
-      names_are = refl;
+      entries_are = refl;
       entries = [];
       order = refl;
       calls = calls;
@@ -39,22 +39,22 @@ loop-name-init g c =
 
 pub end_entry-requires-clause-can : goal.end_entry-requires-clause-can
 end_entry-requires-clause-can g c =
-    let i = c.loop-name.invariant in
+    let i = c.loop-entry.invariant in
     next_call i.calls c.requires.can (λ v met d. may_end i.epoch i.entries v i.kinds d met)
 
-pub loop-name-preserved : goal.loop-name-preserved
-loop-name-preserved g c =
-    let D = g.D.Desk in let i = c.loop-name.invariant in let s = c.end_entry.ensures.ends in let σ = D.standing c.args.desk.now in let index = c.loop-name.name-index in
-    let names = c.as_slice-names.result.now in
-    let blank : Name = record { address = record { 0 = 0 }; turn = 0 } in
-    let entry : Settled = record { name = get_or names index blank; outcome = s.outcome } in
-    let event : (v : View) → events_by σ.seat.actor v s.steps ≡ event_for σ.seat.actor (epoch_of v) entry.name s.outcome ∷ []
-    = subst (λ t. (v : View) → events_by t.actor v s.steps ≡ event_for t.actor (epoch_of v) entry.name s.outcome ∷ []) i.calls.adds.seat_is s.event in
+pub loop-entry-preserved : goal.loop-entry-preserved
+loop-entry-preserved g c =
+    let D = g.D.Desk in let i = c.loop-entry.invariant in let s = c.end_entry.ensures.ends in let σ = D.standing c.args.desk.now in let index = c.loop-entry.entry-index in
+    let logged = c.as_slice-entries.result.now in
+    let blank : Entry = entry_of (record { address = record { 0 = 0 }; turn = 0 }) in
+    let entry : Settled = record { entry = get_or logged index blank; outcome = s.outcome } in
+    let event : (v : View) → events_by σ.seat.actor v s.steps ≡ event_for σ.seat.actor (epoch_of v) entry.entry.name s.outcome ∷ []
+    = subst (λ t. (v : View) → events_by t.actor v s.steps ≡ event_for t.actor (epoch_of v) entry.entry.name s.outcome ∷ []) i.calls.adds.seat_is s.event in
     let before = i.spare in let one = c.end_entry.ensures.spare in
     record {
       epoch = i.epoch;
       settled = entry ∷ i.settled;
-      names_are = names_more i.settled entry names index blank c.loop-name-test.true refl i.names_are;
+      entries_are = entries_more i.settled entry logged index blank c.loop-entry-test.true refl i.entries_are;
       entries = s.steps ++ i.entries;
       order = (s.steps, i.entries, s.order, i.order, refl);
       calls = subst (λ xs. Calls σ (D.standing c.end_entry.new.desk) IsClear (Does nothing) xs) (sym (append_assoc s.steps i.entries (made (Look Word.Epoch) i.epoch ∷ [])))
@@ -68,5 +68,5 @@ loop-name-preserved g c =
 
 pub returns-clause-flushes : goal.returns-clause-flushes
 returns-clause-flushes g c =
-    let i = c.loop-name.invariant in
-    flushed i.epoch i.settled (names_in c.args.log.now) i.entries (i.names_are ∙ take_all c.loop-name.name-index c.as_slice-names.result.now c.loop-name-test.false ∙ c.as_slice-names.ensures) i.order i.calls i.kinds i.events i.stamps
+    let i = c.loop-entry.invariant in
+    flushed i.epoch i.settled (entries_in c.args.log.now) i.entries (i.entries_are ∙ take_all c.loop-entry.entry-index c.as_slice-entries.result.now c.loop-entry-test.false ∙ c.as_slice-entries.ensures) i.order i.calls i.kinds i.events i.stamps

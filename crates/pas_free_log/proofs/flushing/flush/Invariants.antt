@@ -15,18 +15,18 @@ use Rattle.pas_free_log.specs.Frames.{ending}
 use Rattle.pas_free_log.specs.Flushes.{Settled, shown_for, stamps_for, EntriesSteps}
 use Rattle.pas_free_log.proofs.flushing.flush.Given as goal
 
--- the names so far were settled
-abbrev pub invariant-loop-name : goal.invariant-loop-name
-invariant-loop-name g l = let D = g.D.Desk in record {
+-- the entries so far were settled
+abbrev pub invariant-loop-entry : goal.invariant-loop-entry
+invariant-loop-entry g l = let D = g.D.Desk in record {
   epoch : ℕ;
   settled : List Settled;
-  names_are : reverse (map (λ entry. entry.name) settled) ≡ take l.name-index l.names;
+  entries_are : reverse (map (λ s. s.entry) settled) ≡ take l.entry-index l.entries;
   entries : List Made;
   order : EntriesSteps settled entries;
   calls : Calls (D.standing l.fn.desk) (D.standing l.desk) IsClear (Does nothing) (entries ++ made (Look Word.Epoch) epoch ∷ []);
   kinds : Only ending entries;
   events : (v : View) → epoch_of v ≡ epoch → events_by (D.standing l.fn.desk).seat.actor v entries ≡ map (shown_for (D.standing l.fn.desk).seat.actor epoch) settled;
   stamps : (v : View) → epoch_of v ≡ epoch → stamps_by v entries ≡ flat_map (stamps_for epoch) settled;
-  spare : D.spare_of l.desk + l.name-index ≡ D.spare_of l.fn.desk;
+  spare : D.spare_of l.desk + l.entry-index ≡ D.spare_of l.fn.desk;
   home : D.home l.desk ≡ D.home l.fn.desk;
 }

@@ -3,8 +3,8 @@ use Rattle.pas_cache.specs.Caches.{cached}
 use Rattle.pas_cache.proofs.FlushesAndFrees.{clear_call, flushes_log}
 use Rattle.pas_cache.proofs.cache.ThreadCache.flush.Goals as goal
 
-pub flush-requires-clause-names : goal.flush-requires-clause-names
-flush-requires-clause-names g c = c.requires.can.met.names
+pub flush-requires-clause-entries : goal.flush-requires-clause-entries
+flush-requires-clause-entries g c = c.requires.can.met.entries
 
 pub flush-requires-clause-can : goal.flush-requires-clause-can
 flush-requires-clause-can g c = clear_call c.requires.can

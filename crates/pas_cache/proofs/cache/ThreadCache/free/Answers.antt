@@ -5,7 +5,7 @@ use Rattle.pas_cache.proofs.FlushesAndFrees.{full_room, flush_call, frees, refus
 use Rattle.pas_cache.proofs.cache.ThreadCache.free.Goals as goal
 
 pub log_name-requires-clause-room : goal.log_name-requires-clause-room
-log_name-requires-clause-room g c = full_room _ _ c.requires.can.met.few_names c.requires.room
+log_name-requires-clause-room g c = full_room _ _ c.requires.can.met.few_entries c.requires.room
 
 pub log_name-requires-clause-can : goal.log_name-requires-clause-can
 log_name-requires-clause-can g c = flush_call c.requires.can

@@ -1,11 +1,11 @@
 use Rattle.std.proofs.Common.{[], refl, ap, ◌∙◌}
-use Rattle.pas_free_log.specs.Logs.{names_in}
+use Rattle.pas_free_log.specs.Logs.{entries_in}
 use Rattle.pas_cache.specs.Caches.{cached}
 use Rattle.pas_cache.proofs.FlushesAndFrees.{clear_call, flushes_log, flushed_call, stops_cache}
 use Rattle.pas_cache.proofs.cache.ThreadCache.stop.Goals as goal
 
-pub flush-requires-clause-names : goal.flush-requires-clause-names
-flush-requires-clause-names g c = c.requires.can.met.names
+pub flush-requires-clause-entries : goal.flush-requires-clause-entries
+flush-requires-clause-entries g c = c.requires.can.met.entries
 
 pub flush-requires-clause-can : goal.flush-requires-clause-can
 flush-requires-clause-can g c = clear_call c.requires.can
@@ -17,4 +17,4 @@ pub returns-clause-stops : goal.returns-clause-stops
 returns-clause-stops g c =
     let old = cached c.args.self.now in
     stops_cache old (record old { log = [] }) _ (flushes_log old (record old { log = [] }) refl c.flush.ensures.flushes) c.stop_all.ensures.stops refl
-    (ap (λ x. record (cached c.args.self.now) { locals = x; log = names_in c.flush.new.log }) c.stop_all.ensures.empty ∙ ap (λ x. record (cached c.args.self.now) { locals = []; log = x }) c.flush.ensures.empty)
+    (ap (λ x. record (cached c.args.self.now) { locals = x; log = entries_in c.flush.new.log }) c.stop_all.ensures.empty ∙ ap (λ x. record (cached c.args.self.now) { locals = []; log = x }) c.flush.ensures.empty)
