@@ -173,14 +173,18 @@ module _ {F : Type 0} (rule : Rule F) (f : Profile) (d : Directory) (page : ℕ)
 
 module _ {F : Type 0} {rule : Rule F} {σ0 σ : Standing} (d : Directory) (next : ℕ) (marks : List ℕ) (xs : List Made) (adds : Adds σ0 σ (λ v l. MaySearch d v) xs) (goes : GoesOn rule σ0.seat.profile d next marks xs) where
   -- no page is offered any more
-  pub none_offered : {σ1 : Standing} (next' : ℕ) → FindsOffered d next σ σ1 next' None → SearchesOffered rule d σ0 σ1 marks None
-  none_offered next' find =
+  pub none_offered : {σ1 : Standing} {d' : Directory} → d' ≡ d → (next' : ℕ) → FindsOffered d' next σ σ1 next' None → SearchesOffered rule d σ0 σ1 marks None
+  none_offered {σ1} same next' found =
+      let find : FindsOffered d next σ σ1 next' None = subst (λ x. FindsOffered x next σ σ1 next' None) same found in
       let pages : σ.seat.profile.pages ≡ σ0.seat.profile.pages = ap (λ (s : Seat). s.profile.pages) adds.seat_is in
       let s : Searching rule σ0.seat.profile d (σ0.seat.profile.pages + 1) marks (find.steps ++ xs) = zeros_searching rule σ0.seat.profile d next marks (σ0.seat.profile.pages + 1) find.steps xs (reads_vain find.steps (looks_read find.steps (scans_look find.steps find.scans))) goes.searching
       (λ p low high. zero_before d p find.steps xs (goes.searching.untouched p).right (find.outcome.1 p low (omega (arith, high, pages)))) in
       record { steps = find.steps ++ xs; adds = adds_call {D = Anything} adds find.adds (λ v l stood met. tt); searches = s.searches; outcome = s }
 
-  module _ {σ1 : Standing} (next' page : ℕ) (find : FindsOffered d next σ σ1 next' (Some page)) where
+  module _ {σ1 : Standing} {d' : Directory} (same : d' ≡ d) (next' page : ℕ) (found : FindsOffered d' next σ σ1 next' (Some page)) where
+    pub find : FindsOffered d next σ σ1 next' (Some page)
+    find = subst (λ x. FindsOffered x next σ σ1 next' (Some page)) same found
+
     abbrev ws : List Made
     ws = find.steps ++ xs
 
@@ -219,12 +223,12 @@ module _ {F : Type 0} {rule : Rule F} {σ0 σ : Standing} (d : Directory) (next 
       claim_quiet = (λ k e. refl, at_page.quiet)
 
       -- another actor was first
-      pub lost_goes : has_bit a (page % 64) ≡ false → GoesOn rule σ0.seat.profile d (page + 1) marks (made (TakeRight page d) a ∷ (find.steps ++ xs))
-      lost_goes bit = record {
+      pub lost_goes : (marks' : List ℕ) → marks' ≡ marks → has_bit a (page % 64) ≡ false → GoesOn rule σ0.seat.profile d next' marks' (made (TakeRight page d) a ∷ (find.steps ++ xs))
+      lost_goes marks' unmarked bit = subst (λ k. GoesOn rule σ0.seat.profile d k marks' (m ∷ ws)) (sym further) (subst (λ x. GoesOn rule σ0.seat.profile d (page + 1) x (m ∷ ws)) (sym unmarked) (record {
         searching = zeros_searching rule σ0.seat.profile d page marks (page + 1) (m ∷ []) ws (claim_vain page d a bit, tt) at_page
             (λ p low high. let same : page ≡ p = omega (arith, low, high) in inl (subst (λ q. ReadsEligible d q (TakeRight page d) × (has_bit a (q % 64) ≡ false) × (has_right (find.steps ++ xs) q ≡ false)) same (ReadsEligible.Claims, bit, (at_page.untouched page).right)));
         rest = λ p low. rest_at p (omega (arith, low));
-      }
+      }))
 
       module _ (bit : has_bit a (page % 64) ≡ true) where
         abbrev gets : GetsRight page (TakeRight page d) a
@@ -252,8 +256,8 @@ module _ {F : Type 0} {rule : Rule F} {σ0 σ : Standing} (d : Directory) (next 
                 (offered_before d page find.steps xs vain (goes.searching.untouched page).right (goes.searching.lacked page (rest_at page (omega arith))) first.one);
           }
 
-          pub left_goes : (marks' : List ℕ) → ((p : ℕ) → is_marked marks' p ≡ ((page == p) || is_marked marks p)) → (serve : ServesPage rule page d σ2 σ3 None) → GoesOn rule σ0.seat.profile d (page + 1) marks' (serve.steps ++ (made (TakeRight page d) a ∷ (find.steps ++ xs)))
-          left_goes marks' more serve = goes_on rule σ0.seat.profile d page marks m ws serve.steps gets (λ k e. refl) serve.serves.only.on got at_page marks' more (serve_at None serve) lacked rest_at
+          pub left_goes : (k : ℕ) → k ≡ page + 1 → (marks' : List ℕ) → ((p : ℕ) → is_marked marks' p ≡ ((page == p) || is_marked marks p)) → (serve : ServesPage rule page d σ2 σ3 None) → GoesOn rule σ0.seat.profile d k marks' (serve.steps ++ (made (TakeRight page d) a ∷ (find.steps ++ xs)))
+          left_goes k is marks' more serve = subst (λ j. GoesOn rule σ0.seat.profile d j marks' (serve.steps ++ (m ∷ ws))) (sym is) (goes_on rule σ0.seat.profile d page marks m ws serve.steps gets (λ k e. refl) serve.serves.only.on got at_page marks' more (serve_at None serve) lacked rest_at)
 
 pub deed_before : (p : ℕ) (ys xs : List Made) → Once (DeedHere p) ys → Once (DeedHere p) (ys ++ xs)
 deed_before p ys xs h = once_earlier (DeedHere p) (DeedHere p) ys xs (λ m before z. z) h
