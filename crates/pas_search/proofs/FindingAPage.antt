@@ -16,7 +16,7 @@ use Rattle.pas_scan.specs.Marks.{is_marked}
 use Rattle.pas_scan.specs.Scan.{IsMember, AllParked, IsVerdict, Judges}
 use Rattle.pas_search.specs.Serving.{Rule, IsAntitone}
 use Rattle.pas_search.specs.Searches.{Searching, AllAccounted, IsRefusal, IsRefused, MaySearch, DeedMadeHere, IsHeld, IsServed, SearchRoom, BareRoom, FromOffered, ByDeed, Finds, SearchesOffered, ServesBare, SearchesBare, Searches}
-use Rattle.pas_search.proofs.SoFar.{no_deeds, served_search, deeds_serves, AreVain, reads_vain, vain_lacks, vain_search, searched, vain_searching}
+use Rattle.pas_search.proofs.PagesThatServe.{no_deeds, served_search, deeds_serves, AreVain, reads_vain, vain_lacks, vain_search, searched, vain_searching, ready, got_search, finds, deed_before, unknown, deed_known}
 use Rattle.pas_search.proofs.ForBackEnds.{events_quiet, room_kept}
 use Rattle.pas_steps.proofs.Frames.{right_own, events_append}
 use Rattle.pas_profile.specs.Directories.{deed_word_of, number_of}
@@ -43,7 +43,6 @@ use Rattle.pas_steps.proofs.Unknown.{all_known}
 use Rattle.pas_steps.specs.declared.step.Step.TheVariants.{Deed}
 use Rattle.pas_steps.proofs.Adding.{adds_call, can_call, legal_after}
 use Rattle.pas_steps.proofs.Calls.{still_clear}
-use Rattle.pas_search.proofs.PagesThatServe.{ready, got_search, finds, deed_before, unknown, deed_known}
 
 -- a page that didn't fit was got, and left
 pub unfit_left : {F : Type 0} (rule : Rule F) (p : ℕ) (xs : List Made) → Once (UnfitHere rule.no_fit p) xs → Once (LeftHere p) xs

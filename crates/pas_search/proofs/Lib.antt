@@ -1,4 +1,3 @@
 pub mod ForBackEnds
-mod SoFar
 mod PagesThatServe
 mod FindingAPage

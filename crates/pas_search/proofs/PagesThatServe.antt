@@ -1,36 +1,233 @@
--- A page whose right the call got by its newest step: the back end leaves it, or keeps what its answer says. The search of offered pages, and of those without a deed.
-use Rattle.std.proofs.Common.{◌≡◌, ◌≢◌, ℕ, ◌+◌, ◌/◌, ◌<◌, ◌≤◌, ◌==◌, Bool, true, false, ◌||◌, if◌then◌else◌, List, [], ◌∷◌, ◌++◌, None, Some, length, refl, ap, sym, ◌∙◌, subst, arith, ◌⊎◌, inl, inr, true≢false, ◌%◌, Option, append_assoc, ◌&&◌}
-use Rattle.std.proofs.lemmas.Bool.{cases_Bool, cases_eq, eq-eqb, eqb-true, ne_eqb, cases_lt}
-use Rattle.pas_profile.specs.Profiles.{IsPage}
+-- The steps of a search so far, and a page whose right the call got by its newest step: the back end leaves it, or keeps what its answer says.
+use Rattle.std.proofs.Common.{◌≡◌, ℕ, suc, ◌≤◌, ◌==◌, arith, Bool, true, false, if◌then◌else◌, List, [], ◌∷◌, ◌++◌, ◌⊎◌, inl, inr, None, Some, refl, ap, ◌∙◌, sym, append-nil, true≢false, subst, ◌%◌, ◌&&◌, ◌<◌, ◌≢◌, ◌+◌, ◌/◌, ◌||◌, length, Option, append_assoc}
 use Rattle.pas_profile.specs.declared.directory.Directory.{Directory}
-use Rattle.pas_profile.specs.declared.profile.Profile.{Profile}
-use Rattle.pas_steps.specs.Agreement.{Agreed, Agrees}
-use Rattle.pas_steps.specs.Calls.{Leads, Kept, Gained, Lost, now, later, nothing, Does}
-use Rattle.pas_steps.specs.Clear.{IsClear}
-use Rattle.pas_steps.specs.Events.{events_by, event_of, with_event, events_of}
-use Rattle.pas_steps.specs.Evidence.{GetsRight, ZeroHere, UnfitHere, LacksAfter, ReadsEligible, ReadsDeed, DeedHere, NoDeedHere, AllDeeds}
-use Rattle.pas_steps.specs.Frames.{IsOnPage, OnlyOn, IsRead, OnlyReads}
-use Rattle.pas_steps.specs.Past.{Once, Always}
-use Rattle.pas_steps.specs.Views.{View, has_right, KnowsDeed, known_deed, known_free, epoch_of}
+use Rattle.pas_profile.specs.declared.event.Event.{Event}
 use Rattle.pas_steps.specs.declared.step.Made.{Made}
 use Rattle.pas_steps.specs.declared.step.Step.{Step}
-use Rattle.pas_steps.proofs.Calls.{leads_then, does_then, does_as, does_after_nothing, kept_first, leads_as}
-use Rattle.pas_steps.proofs.Kept.{right_on, holds_on_page, knows_still, scans_look, looks_read, deed_stays}
-use Rattle.pas_steps.proofs.Past.{once_later, always_both, once_earlier}
-use Rattle.pas_scan.specs.Marks.{is_marked}
-use Rattle.pas_search.specs.Kinds.{AreSearch, IsQuiet, AreQuiet, IsDeedOrBack}
-use Rattle.pas_search.specs.Serving.{Rule, MayServe, IsUntouched, GotBefore, right_of, served, Keeps, ReadsNoneHeld, ServeSteps, ServesPage}
-use Rattle.pas_search.specs.Searches.{MaySearch, OfferedHere, FromOffered, KeepsFound, FewEvents, Finds, Searching, GoesOn, SearchesOffered, BareRoom, SearchesBare}
-use Rattle.pas_search.proofs.SoFar.{served_search, quiet_append, events_after_quiet, serves_events, quiet_events, deeds_serves, no_deeds, Rights, right_then, holds_then, does_rights, gets_rights, AreVain, reads_vain, claim_vain, vain_leads, vain_quiet, zero_before, offered_before, zeros_searching}
-use Rattle.pas_search.proofs.ForBackEnds.{events_quiet, room_after, room_kept}
+use Rattle.pas_steps.specs.declared.step.Step.TheVariants.{Deed, Look, TakeRight}
+use Rattle.pas_steps.specs.Views.{View, has_right, Way, Stays, grain_move, held_after, holds, KnowsDeed, known_deed, known_free, epoch_of}
+use Rattle.pas_steps.specs.Events.{events_by, event_of, with_event, events_of}
+use Rattle.pas_steps.specs.Evidence.{GetsHere, GetsRight, LacksAfter, ZeroHere, OneHere, UnfitHere, Searched, ReadsEligible, ReadsDeed, DeedHere, NoDeedHere, AllDeeds}
+use Rattle.pas_steps.specs.Past.{Once, Always}
+use Rattle.pas_steps.specs.Frames.{IsOnPage, OnlyOn, IsRead, OnlyReads}
+use Rattle.pas_steps.specs.Kinds.{kind_of, is_in, Only, look_kind, place_of, unbacking}
+use Rattle.pas_steps.specs.Desks.{made, Seat, Standing, Anything, Adds, CanCall, Makes}
+use Rattle.pas_steps.proofs.Apart.{only_within, only_both, in_apart}
+use Rattle.pas_steps.proofs.Calls.{does_none, does_then, does_as, does_step, right_is, leads_then, does_after_nothing, kept_first, leads_as}
+use Rattle.pas_steps.proofs.Frames.{events_append, right_own}
+use Rattle.pas_steps.proofs.Past.{always_both, always_map, once_later, once_earlier}
+use Rattle.pas_search.specs.Kinds.{serving, searching, OnlyServes, IsReturnOf, ReturnsGot, AreSearch, IsQuiet, AreQuiet, IsDeedOrBack, EventsAt, makes_deed, deeds_made}
+use Rattle.std.proofs.lemmas.Bool.{eq-eqb, eqb-true, ne_eqb, cases_Bool, cases_lt, cases_eq}
 use Rattle.pas_profile.specs.Classes.{has_bit}
-use Rattle.pas_steps.specs.Desks.{Seat, Standing, Anything, made, Adds, CanCall, Makes}
-use Rattle.pas_steps.specs.declared.step.Step.TheVariants.{TakeRight, Deed}
+use Rattle.pas_profile.specs.declared.profile.Profile.{Profile}
+use Rattle.pas_profile.specs.declared.word.Word.{Word}
+use Rattle.pas_steps.specs.Agreement.{Agrees, Agreed}
+use Rattle.pas_profile.specs.Directories.{number_of, deed_word_of}
+use Rattle.pas_steps.specs.Calls.{Leads, AnyView, Fate, Kept, Gained, Lost, now, nothing, ClearAfter, Does, grain_fate, way_fate, right_fate, opens, later}
+use Rattle.pas_search.specs.Serving.{righted, IsUntouched, Rule, MayServe, GotBefore, right_of, served, Keeps, ReadsNoneHeld, ServeSteps, ServesPage}
+use Rattle.pas_scan.specs.Marks.{is_marked}
+use Rattle.pas_search.specs.Searches.{OfferedHere, Searching, MaySearch, FromOffered, KeepsFound, FewEvents, Finds, GoesOn, SearchesOffered, BareRoom, SearchesBare}
+use Rattle.pas_search.proofs.ForBackEnds.{events_quiet, room_after, room_kept}
+use Rattle.pas_profile.specs.Profiles.{IsPage}
+use Rattle.pas_steps.specs.Clear.{IsClear}
+use Rattle.pas_steps.proofs.Kept.{right_on, holds_on_page, knows_still, scans_look, looks_read, deed_stays}
 use Rattle.pas_steps.proofs.Adding.{adds_call, can_call, agreed_first, agreed_later, adds_step}
 use Rattle.pas_scan.specs.Scan.{IsFirstOffered, FindsOffered, FindsBare}
-use Rattle.pas_profile.specs.Directories.{deed_word_of}
-use Rattle.pas_profile.specs.declared.event.Event.{Event}
 use Rattle.pas_steps.specs.Lists.{Whole}
+
+-- ---- kinds
+-- a back end returns its own page alone
+return_page : (p q : ℕ) (s : Step) → IsReturnOf q s → IsOnPage p s → q ≡ p
+return_page p q s (IsReturnOf.Offers e) (IsOnPage.Offers d) = refl
+return_page p q s IsReturnOf.Parks IsOnPage.Parks = refl
+return_page p q s IsReturnOf.Unparks IsOnPage.Unparks = refl
+return_page p q s IsReturnOf.Hints IsOnPage.Hints = refl
+
+serves_return : (p : ℕ) (ys xs : List Made) → OnlyOn p ys → Once (GetsHere p) xs → Always ReturnsGot xs → Always ReturnsGot (ys ++ xs)
+serves_return p [] xs on got all = all
+serves_return p (y ∷ ys) xs on got all = (λ q is. subst (λ r. Once (GetsHere r) (ys ++ xs)) (sym (return_page p q y.step is on.0)) (once_later (GetsHere p) ys xs got), serves_return p ys xs on.1 got all)
+
+-- a search goes on with a page whose right it got
+pub served_search : (p : ℕ) (ys xs : List Made) → OnlyServes p ys → Once (GetsHere p) xs → AreSearch xs → AreSearch (ys ++ xs)
+served_search p ys xs only got are = record {
+  kinds = only_both searching ys xs (only_within serving searching ys refl only.kinds) are.kinds;
+  returns = serves_return p ys xs only.on got are.returns;
+}
+
+-- ---- events
+pub quiet_append : (ys xs : List Made) → AreQuiet ys → AreQuiet xs → AreQuiet (ys ++ xs)
+quiet_append ys xs a b = always_both (λ m before. IsQuiet m) (λ m before. IsQuiet m) ys xs (λ m before h. h) a b
+
+-- the events of steps, where those before made none
+pub events_after_quiet : (k : ℕ) (v : View) (ys xs : List Made) → AreQuiet xs → events_by k v (ys ++ xs) ≡ events_by k (xs ++ v) ys
+events_after_quiet k v ys xs quiet = events_append k ys xs v ∙ ap (λ es. events_by k (xs ++ v) ys ++ es) (events_quiet k v xs quiet) ∙ append-nil (events_by k (xs ++ v) ys)
+
+serve_event : (d : Directory) (p : ℕ) (s : Step) (a : ℕ) → is_in serving (kind_of s) ≡ true → IsOnPage p s → IsQuiet (made s a) ⊎ IsDeedOrBack d p s
+serve_event d p s a kind (IsOnPage.Deeds e) = absurd (true≢false (sym kind))
+serve_event d p s a kind IsOnPage.Backs = inr IsDeedOrBack.Backs
+serve_event d p s a kind on = inl (λ k e. refl)
+
+-- the events of a back end's steps, and of those before
+pub serves_events : (d : Directory) (p : ℕ) (ys xs : List Made) → OnlyServes p ys → EventsAt d p xs → EventsAt d p (ys ++ xs)
+serves_events d p [] xs only rest = rest
+serves_events d p (m ∷ ys) xs only rest = (serve_event d p m.step m.answer only.kinds.0 only.on.0, serves_events d p ys xs (record { kinds = only.kinds.1; on = only.on.1 }) rest)
+
+pub quiet_events : (d : Directory) (p : ℕ) (steps : List Made) → AreQuiet steps → EventsAt d p steps
+quiet_events d p steps h = always_map (λ m before. IsQuiet m) (λ m before. IsQuiet m ⊎ IsDeedOrBack d p m.step) steps (λ m before q. inl q) h
+
+-- ---- deeds
+no_deed_event : (t : Bool) (e : Event) → (if t then Some e else None) ≡ None → t ≡ false
+no_deed_event true e h = cc
+no_deed_event false e h = refl
+
+pub quiet_deed : (s : Step) (a : ℕ) → IsQuiet (made s a) → makes_deed s a ≡ false
+quiet_deed (Deed q d) a h = no_deed_event (a == 0) (Event.Deed 0 q d) (h 0 0)
+quiet_deed s a h = refl
+
+serve_deed : (s : Step) (a : ℕ) → is_in serving (kind_of s) ≡ true → makes_deed s a ≡ false
+serve_deed (Deed q d) a h = absurd (true≢false (sym h))
+serve_deed s a h = refl
+
+pub deeds_serves : (ys xs : List Made) → Only serving ys → deeds_made (ys ++ xs) ≡ deeds_made xs
+deeds_serves [] xs h = refl
+deeds_serves (m ∷ more) xs h = ap (λ t. if t then suc (deeds_made (more ++ xs)) else deeds_made (more ++ xs)) (serve_deed m.step m.answer h.0) ∙ deeds_serves more xs h.1
+
+pub no_deeds : (ys : List Made) → AreQuiet ys → deeds_made ys ≡ 0
+no_deeds [] h = refl
+no_deeds (m ∷ more) h = ap (λ t. if t then suc (deeds_made more) else deeds_made more) (quiet_deed m.step m.answer h.0) ∙ no_deeds more h.1
+
+-- ---- one step
+-- of each page this becomes of its right, and nothing else changes
+pub record Rights (fates : ℕ → Fate) (m : Made) : Type 0 where
+  pub grains : (x : ℕ) → grain_move m.step m.answer x ≡ Stays
+  pub rights : (q : ℕ) → right_fate m.step m.answer q ≡ fates q
+  pub opens : (q : ℕ) → opens m.step m.answer q ≡ false
+  pub kind : is_in searching (kind_of m.step) ≡ true
+  pub returns : (q : ℕ) → IsReturnOf q m.step → ⊥
+
+pub right_then : (fates : ℕ → Fate) (m : Made) (v : View) (q : ℕ) → Rights fates m → has_right (m ∷ v) q ≡ now (fates q) (has_right v q)
+right_then fates m v q h = right_is m.step m.answer q (has_right v q) ∙ ap (λ t. now t (has_right v q)) (h.rights q)
+
+pub holds_then : (fates : ℕ → Fate) (m : Made) (v : View) (x : ℕ) → Rights fates m → holds (m ∷ v) x ≡ holds v x
+holds_then fates m v x h = ap (λ t. held_after t (holds v x)) (h.grains x)
+
+pub does_rights : (f : Profile) (fates : ℕ → Fate) (m : Made) (v : View) → Rights fates m → Agrees f v m.step m.answer → Does (righted fates) v (m ∷ v)
+does_rights f fates m v h agrees = does_as (righted fates) (does_step f m.step m.answer v (in_apart searching unbacking (place_of (kind_of m.step)) refl h.kind) agrees)
+    (λ x. inl (ap grain_fate (h.grains x))) h.rights (λ q c. subst (λ t. ClearAfter (if t then Lost else Kept) q v (m ∷ v)) (h.opens q) c)
+
+look_searches : (word : Word) → is_in searching (look_kind word) ≡ true
+look_searches Word.Epoch = refl
+look_searches word = refl
+
+look_rights : (word : Word) (a : ℕ) → Rights (λ q. Kept) (made (Look word) a)
+look_rights word a = record { grains = λ x. refl; rights = λ q. refl; opens = λ q. refl; kind = look_searches word; returns = λ q h. elim h [ ] }
+
+-- a deed or a claim gets the right where this test says so
+abbrev pub gained : Bool → ℕ → ℕ → Fate
+gained got p q = if got && (p == q) then Gained else Kept
+
+gets_way : (here bit got : Bool) (w : Way) → way_fate w ≡ Gained → (here ≡ true → bit ≡ got) → way_fate (if here && bit then w else Way.Rests) ≡ (if got && here then Gained else Kept)
+gets_way true true got w h same = h ∙ ap (λ z. if z && true then Gained else Kept) (same refl)
+gets_way true false got w h same = ap (λ z. if z && true then Gained else Kept) (same refl)
+gets_way false bit true w h same = refl
+gets_way false bit false w h same = refl
+
+deed_rights : (p : ℕ) (d : Directory) (a : ℕ) (got : Bool) → (a == 0) ≡ got → Rights (gained got p) (made (Deed p d) a)
+deed_rights p d a got e = record { grains = λ x. refl; rights = λ q. gets_way (p == q) (a == 0) got Way.ByDeed refl (λ is. e); opens = λ q. refl; kind = refl; returns = λ q h. elim h [ ] }
+
+claim_rights : (p : ℕ) (d : Directory) (a : ℕ) (got : Bool) → has_bit a (p % 64) ≡ got → Rights (gained got p) (made (TakeRight p d) a)
+claim_rights p d a got e = record {
+  grains = λ x. refl;
+  rights = λ q. gets_way (p == q) (has_bit a (q % 64)) got (Way.FromOffer (number_of d)) refl (λ is. ap (λ x. has_bit a (x % 64)) (sym (eqb-true p q is)) ∙ e);
+  opens = λ q. refl;
+  kind = refl;
+  returns = λ q h. elim h [ ];
+}
+
+-- the right was got
+pub gets_rights : (p : ℕ) (s : Step) (a : ℕ) → GetsRight p s a → Rights (gained true p) (made s a)
+gets_rights p s a (GetsRight.Claims d b bit) = claim_rights p d a true bit
+gets_rights p s a (GetsRight.Deeds d b made_it) = deed_rights p d a true (eq-eqb a 0 made_it)
+
+-- ---- steps that changed nothing
+pub record IsVain (m : Made) : Type 0 where
+  pub rights : Rights (λ q. Kept) m
+  pub quiet : IsQuiet m
+
+abbrev pub AreVain : List Made → Type 0
+AreVain = Always (λ m before. IsVain m)
+
+pub claim_vain : (p : ℕ) (d : Directory) (a : ℕ) → has_bit a (p % 64) ≡ false → IsVain (made (TakeRight p d) a)
+claim_vain p d a bit = record { rights = claim_rights p d a false bit; quiet = λ k e. refl }
+
+read_vain : (s : Step) (a : ℕ) → IsRead s a → IsVain (made s a)
+read_vain s a (IsRead.Looks word b) = record { rights = look_rights word a; quiet = λ k e. refl }
+read_vain s a (IsRead.Reads p d b ne) = record {
+  rights = deed_rights p d a false (ne_eqb a 0 ne);
+  quiet = λ k e. ap (λ t. if t then Some (Event.Deed k p d) else None) (ne_eqb a 0 ne);
+}
+
+pub reads_vain : (steps : List Made) → OnlyReads steps → AreVain steps
+reads_vain steps = always_map (λ m before. IsRead m.step m.answer) (λ m before. IsVain m) steps (λ m before is. read_vain m.step m.answer is)
+
+pub vain_leads : (f : Profile) (steps : List Made) → AreVain steps → Leads f AnyView (Does nothing) steps
+vain_leads f [] vain = record { from = λ v met agreed. does_none v }
+vain_leads f (m ∷ more) vain = record { from = λ v met agreed. does_then ((vain_leads f more vain.1).from v tt agreed.1) (does_rights f (λ q. Kept) m (more ++ v) vain.0.rights agreed.0) }
+
+pub vain_right : (q : ℕ) (steps : List Made) (v : View) → AreVain steps → has_right (steps ++ v) q ≡ has_right v q
+vain_right q [] v vain = refl
+vain_right q (m ∷ more) v vain = right_then (λ q. Kept) m (more ++ v) q vain.0.rights ∙ vain_right q more v vain.1
+
+vain_holds : (x : ℕ) (steps : List Made) (v : View) → AreVain steps → holds (steps ++ v) x ≡ holds v x
+vain_holds x [] v vain = refl
+vain_holds x (m ∷ more) v vain = holds_then (λ q. Kept) m (more ++ v) x vain.0.rights ∙ vain_holds x more v vain.1
+
+pub vain_untouched : (p : ℕ) (ys xs : List Made) → AreVain ys → IsUntouched p xs → IsUntouched p (ys ++ xs)
+vain_untouched p ys xs vain h = record { right = vain_right p ys xs vain ∙ h.right; none = λ g at. vain_holds g ys xs vain ∙ h.none g at }
+
+pub vain_lacks : (p : ℕ) (ys xs : List Made) → AreVain ys → has_right xs p ≡ false → Always (LacksAfter p) xs → Always (LacksAfter p) (ys ++ xs)
+vain_lacks p [] xs vain none all = all
+vain_lacks p (m ∷ more) xs vain none all = (vain_right p (m ∷ more) xs vain ∙ none, vain_lacks p more xs vain.1 none all)
+
+pub vain_quiet : (steps : List Made) → AreVain steps → AreQuiet steps
+vain_quiet steps = always_map (λ m before. IsVain m) (λ m before. IsQuiet m) steps (λ m before h. h.quiet)
+
+pub vain_search : (ys xs : List Made) → AreVain ys → AreSearch xs → AreSearch (ys ++ xs)
+vain_search ys xs vain are = record {
+  kinds = always_both (λ m before. IsVain m) (λ m before. is_in searching (kind_of m.step) ≡ true) ys xs (λ m before h. h.rights.kind) vain are.kinds;
+  returns = always_both (λ m before. IsVain m) ReturnsGot ys xs (λ m before h q is. absurd (h.rights.returns q is)) vain are.returns;
+}
+
+-- readings without the right, with what stood before
+pub zero_before : (d : Directory) (p : ℕ) (ys xs : List Made) → has_right xs p ≡ false → Once (ZeroHere d p) ys → Once (ZeroHere d p) (ys ++ xs)
+zero_before d p ys xs h = once_earlier (ZeroHere d p) (ZeroHere d p) ys xs (λ m before z. (z.0, z.1, right_own p before xs h ∙ z.2))
+
+pub offered_before : (d : Directory) (p : ℕ) (ys xs : List Made) → AreVain ys → has_right xs p ≡ false → Always (LacksAfter p) xs → Once (OneHere d p) ys → Once (OfferedHere d p) (ys ++ xs)
+offered_before d p [] xs vain none lacks h = absurd h
+offered_before d p (m ∷ more) xs vain none lacks (inl z) = inl ((z.0, z.1, right_own p more xs none ∙ z.2), vain_lacks p more xs vain.1 none lacks)
+offered_before d p (m ∷ more) xs vain none lacks (inr h) = inr (offered_before d p more xs vain.1 none lacks h)
+
+module _ {F : Type 0} (rule : Rule F) (f : Profile) (d : Directory) (next : ℕ) (marks : List ℕ) where
+  pub searched : (steps : List Made) → Searching rule f d next marks steps → Searched rule.no_fit d next steps
+  searched steps s p low high = elim (cases_Bool (is_marked marks p)) [
+    | inl m ↦ inl (s.marked p m)
+    | inr m ↦ inr (s.lacked p m, s.zeros p low high m)
+  ]
+
+  -- steps that changed nothing, where the pages from `next` to below `end` were read as 0
+  pub zeros_searching : (end : ℕ) (ys xs : List Made) → AreVain ys → Searching rule f d next marks xs → ((p : ℕ) → next ≤ p → p < end → Once (ZeroHere d p) (ys ++ xs)) → Searching rule f d end marks (ys ++ xs)
+  zeros_searching end ys xs vain s zeros = record {
+    still = leads_then (Does nothing) s.still (vain_leads f ys vain) (λ v w met a. tt) (λ v w u a b. does_then a b);
+    searches = vain_search ys xs vain s.searches;
+    quiet = quiet_append ys xs (vain_quiet ys vain) s.quiet;
+    untouched = λ p. vain_untouched p ys xs vain (s.untouched p);
+    marked = λ p m. once_later (UnfitHere rule.no_fit p) ys xs (s.marked p m);
+    zeros = λ p low high m. elim (cases_lt p next) [ inl lt ↦ once_later (ZeroHere d p) ys xs (s.zeros p low lt m) | inr ge ↦ zeros p ge high ];
+    lacked = λ p m. vain_lacks p ys xs vain (s.untouched p).right (s.lacked p m);
+  }
+
+  pub vain_searching : (ys xs : List Made) → AreVain ys → Searching rule f d next marks xs → Searching rule f d next marks (ys ++ xs)
+  vain_searching ys xs vain s = zeros_searching next ys xs vain s (λ p low high. absurd (omega (arith, low, high)))
 
 -- ---- effects, one after the other
 got_first : (t keeps : Bool) → later (if t then Gained else Kept) (if t then (if keeps then Gained else Lost) else Kept) ≡ (if t then (if keeps then Gained else Lost) else Kept)
@@ -173,14 +370,18 @@ module _ {F : Type 0} (rule : Rule F) (f : Profile) (d : Directory) (page : ℕ)
 
 module _ {F : Type 0} {rule : Rule F} {σ0 σ : Standing} (d : Directory) (next : ℕ) (marks : List ℕ) (xs : List Made) (adds : Adds σ0 σ (λ v l. MaySearch d v) xs) (goes : GoesOn rule σ0.seat.profile d next marks xs) where
   -- no page is offered any more
-  pub none_offered : {σ1 : Standing} (next' : ℕ) → FindsOffered d next σ σ1 next' None → SearchesOffered rule d σ0 σ1 marks None
-  none_offered next' find =
+  pub none_offered : {σ1 : Standing} {d' : Directory} → d' ≡ d → (next' : ℕ) → FindsOffered d' next σ σ1 next' None → SearchesOffered rule d σ0 σ1 marks None
+  none_offered {σ1} same next' found =
+      let find : FindsOffered d next σ σ1 next' None = subst (λ x. FindsOffered x next σ σ1 next' None) same found in
       let pages : σ.seat.profile.pages ≡ σ0.seat.profile.pages = ap (λ (s : Seat). s.profile.pages) adds.seat_is in
       let s : Searching rule σ0.seat.profile d (σ0.seat.profile.pages + 1) marks (find.steps ++ xs) = zeros_searching rule σ0.seat.profile d next marks (σ0.seat.profile.pages + 1) find.steps xs (reads_vain find.steps (looks_read find.steps (scans_look find.steps find.scans))) goes.searching
       (λ p low high. zero_before d p find.steps xs (goes.searching.untouched p).right (find.outcome.1 p low (omega (arith, high, pages)))) in
       record { steps = find.steps ++ xs; adds = adds_call {D = Anything} adds find.adds (λ v l stood met. tt); searches = s.searches; outcome = s }
 
-  module _ {σ1 : Standing} (next' page : ℕ) (find : FindsOffered d next σ σ1 next' (Some page)) where
+  module _ {σ1 : Standing} {d' : Directory} (same : d' ≡ d) (next' page : ℕ) (found : FindsOffered d' next σ σ1 next' (Some page)) where
+    pub find : FindsOffered d next σ σ1 next' (Some page)
+    find = subst (λ x. FindsOffered x next σ σ1 next' (Some page)) same found
+
     abbrev ws : List Made
     ws = find.steps ++ xs
 
@@ -219,12 +420,12 @@ module _ {F : Type 0} {rule : Rule F} {σ0 σ : Standing} (d : Directory) (next 
       claim_quiet = (λ k e. refl, at_page.quiet)
 
       -- another actor was first
-      pub lost_goes : has_bit a (page % 64) ≡ false → GoesOn rule σ0.seat.profile d (page + 1) marks (made (TakeRight page d) a ∷ (find.steps ++ xs))
-      lost_goes bit = record {
+      pub lost_goes : (marks' : List ℕ) → marks' ≡ marks → has_bit a (page % 64) ≡ false → GoesOn rule σ0.seat.profile d next' marks' (made (TakeRight page d) a ∷ (find.steps ++ xs))
+      lost_goes marks' unmarked bit = subst (λ k. GoesOn rule σ0.seat.profile d k marks' (m ∷ ws)) (sym further) (subst (λ x. GoesOn rule σ0.seat.profile d (page + 1) x (m ∷ ws)) (sym unmarked) (record {
         searching = zeros_searching rule σ0.seat.profile d page marks (page + 1) (m ∷ []) ws (claim_vain page d a bit, tt) at_page
             (λ p low high. let same : page ≡ p = omega (arith, low, high) in inl (subst (λ q. ReadsEligible d q (TakeRight page d) × (has_bit a (q % 64) ≡ false) × (has_right (find.steps ++ xs) q ≡ false)) same (ReadsEligible.Claims, bit, (at_page.untouched page).right)));
         rest = λ p low. rest_at p (omega (arith, low));
-      }
+      }))
 
       module _ (bit : has_bit a (page % 64) ≡ true) where
         abbrev gets : GetsRight page (TakeRight page d) a
@@ -252,8 +453,8 @@ module _ {F : Type 0} {rule : Rule F} {σ0 σ : Standing} (d : Directory) (next 
                 (offered_before d page find.steps xs vain (goes.searching.untouched page).right (goes.searching.lacked page (rest_at page (omega arith))) first.one);
           }
 
-          pub left_goes : (marks' : List ℕ) → ((p : ℕ) → is_marked marks' p ≡ ((page == p) || is_marked marks p)) → (serve : ServesPage rule page d σ2 σ3 None) → GoesOn rule σ0.seat.profile d (page + 1) marks' (serve.steps ++ (made (TakeRight page d) a ∷ (find.steps ++ xs)))
-          left_goes marks' more serve = goes_on rule σ0.seat.profile d page marks m ws serve.steps gets (λ k e. refl) serve.serves.only.on got at_page marks' more (serve_at None serve) lacked rest_at
+          pub left_goes : (k : ℕ) → k ≡ page + 1 → (marks' : List ℕ) → ((p : ℕ) → is_marked marks' p ≡ ((page == p) || is_marked marks p)) → (serve : ServesPage rule page d σ2 σ3 None) → GoesOn rule σ0.seat.profile d k marks' (serve.steps ++ (made (TakeRight page d) a ∷ (find.steps ++ xs)))
+          left_goes k is marks' more serve = subst (λ j. GoesOn rule σ0.seat.profile d j marks' (serve.steps ++ (m ∷ ws))) (sym is) (goes_on rule σ0.seat.profile d page marks m ws serve.steps gets (λ k e. refl) serve.serves.only.on got at_page marks' more (serve_at None serve) lacked rest_at)
 
 pub deed_before : (p : ℕ) (ys xs : List Made) → Once (DeedHere p) ys → Once (DeedHere p) (ys ++ xs)
 deed_before p ys xs h = once_earlier (DeedHere p) (DeedHere p) ys xs (λ m before z. z) h

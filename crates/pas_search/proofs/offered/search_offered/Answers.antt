@@ -1,9 +1,6 @@
-use Rattle.std.proofs.Common.{◌≡◌, ◌∙◌, ◌==◌, ◌||◌, ◌+◌, ◌∷◌, ◌++◌, ap, sym, subst, arith, Some, None}
-use Rattle.pas_steps.specs.Desks.{made}
-use Rattle.pas_steps.specs.declared.step.Step.TheVariants.{TakeRight}
+use Rattle.std.proofs.Common.{◌≡◌, ◌∙◌, ◌==◌, ◌||◌, ◌+◌, ap, sym, subst, arith, None}
 use Rattle.pas_scan.specs.Marks.{is_marked}
-use Rattle.pas_scan.specs.Scan.{FindsOffered}
-use Rattle.pas_search.specs.Searches.{MaySearch, GoesOn, SearchesOffered}
+use Rattle.pas_search.specs.Searches.{MaySearch, SearchesOffered}
 use Rattle.pas_search.proofs.ForBackEnds.{room_kept}
 use Rattle.pas_search.proofs.PagesThatServe.{none_offered, further, claim_adds, claim_quiet, lost_goes, serve_can, serve_adds, found_there, left_goes}
 use Rattle.pas_search.proofs.offered.search_offered.Goals as goal
@@ -11,55 +8,46 @@ use Rattle.pas_search.proofs.offered.search_offered.Goals as goal
 pub returns-in_default-clause-found : goal.returns-in_default-clause-found
 returns-in_default-clause-found g c =
     let i = c.loop-looked.invariant in let l = c.loop-looked.looked in let D = g.D.Desk in let d = c.args.looked.now.directory in let n = c.first_offered.new.looked in
-    let find = subst (λ x. FindsOffered x l.next (D.standing c.loop-looked.desk) (D.standing c.first_offered.new.desk) n.next None) i.directory c.in_default.ensures.found in
     subst (λ m. SearchesOffered (g.S.Serving.rule c.args.serving.now) d (D.standing c.args.desk.now) (D.standing c.first_offered.new.desk) m None) (sym c.first_offered.ensures.unfit)
-    (none_offered d l.next l.unfit i.steps i.adds i.goes n.next find)
+    (none_offered d l.next l.unfit i.steps i.adds i.goes i.directory n.next c.in_default.ensures.found)
 
 pub serve-requires-clause-can : goal.serve-requires-clause-can
 serve-requires-clause-can g c =
     let i = c.loop-looked.invariant in let l = c.loop-looked.looked in let D = g.D.Desk in let d = c.args.looked.now.directory in let n = c.first_offered.new.looked in let p = c.in-Some.page in let h = c.claim.ensures.claims in
-    let find = subst (λ x. FindsOffered x l.next (D.standing c.loop-looked.desk) (D.standing c.first_offered.new.desk) n.next (Some p)) i.directory c.in-Some.ensures.found in
-    serve_can d l.next l.unfit i.steps i.adds i.goes n.next p find h.answer h.calls.adds (sym h.got_is ∙ c.if-claim.true) c.requires.can
+    serve_can d l.next l.unfit i.steps i.adds i.goes i.directory n.next p c.in-Some.ensures.found h.answer h.calls.adds (sym h.got_is ∙ c.if-claim.true) c.requires.can
 
 pub serve-requires-clause-room : goal.serve-requires-clause-room
 serve-requires-clause-room g c =
     let i = c.loop-looked.invariant in let l = c.loop-looked.looked in let D = g.D.Desk in let d = c.args.looked.now.directory in let n = c.first_offered.new.looked in let p = c.in-Some.page in let h = c.claim.ensures.claims in
-    let find = subst (λ x. FindsOffered x l.next (D.standing c.loop-looked.desk) (D.standing c.first_offered.new.desk) n.next (Some p)) i.directory c.in-Some.ensures.found in
-    room_kept {C = λ v l. MaySearch d v} (g.S.Serving.rule c.args.serving.now).events (claim_adds d l.next l.unfit i.steps i.adds i.goes n.next p find h.answer h.calls.adds) c.requires.can
-    (claim_quiet d l.next l.unfit i.steps i.adds i.goes n.next p find h.answer h.calls.adds) (g.met.D.Desk.spares c.args.desk.now) (g.met.D.Desk.spares c.claim.new.desk) c.requires.room
+    room_kept {C = λ v l. MaySearch d v} (g.S.Serving.rule c.args.serving.now).events (claim_adds d l.next l.unfit i.steps i.adds i.goes i.directory n.next p c.in-Some.ensures.found h.answer h.calls.adds) c.requires.can
+    (claim_quiet d l.next l.unfit i.steps i.adds i.goes i.directory n.next p c.in-Some.ensures.found h.answer h.calls.adds) (g.met.D.Desk.spares c.args.desk.now) (g.met.D.Desk.spares c.claim.new.desk) c.requires.room
 
 pub returns-in-Some-serve-clause-found : goal.returns-in-Some-serve-clause-found
 returns-in-Some-serve-clause-found g c =
     let i = c.loop-looked.invariant in let l = c.loop-looked.looked in let D = g.D.Desk in let d = c.args.looked.now.directory in let n = c.first_offered.new.looked in let p = c.in-Some.page in let h = c.claim.ensures.claims in
-    let find = subst (λ x. FindsOffered x l.next (D.standing c.loop-looked.desk) (D.standing c.first_offered.new.desk) n.next (Some p)) i.directory c.in-Some.ensures.found in
-    found_there d l.next l.unfit i.steps i.adds i.goes n.next p find h.answer h.calls.adds (sym h.got_is ∙ c.if-claim.true) n.unfit c.in-Some-serve.found c.in-Some-serve.ensures.serves
+    found_there d l.next l.unfit i.steps i.adds i.goes i.directory n.next p c.in-Some.ensures.found h.answer h.calls.adds (sym h.got_is ∙ c.if-claim.true) n.unfit c.in-Some-serve.found c.in-Some-serve.ensures.serves
 
 pub loop-looked-preserved-then-claim : goal.loop-looked-preserved-then-claim
 loop-looked-preserved-then-claim g c =
     let i = c.loop-looked.invariant in let l = c.loop-looked.looked in let D = g.D.Desk in let d = c.args.looked.now.directory in let n = c.first_offered.new.looked in let p = c.in-Some.page in let h = c.claim.ensures.claims in
-    let find = subst (λ x. FindsOffered x l.next (D.standing c.loop-looked.desk) (D.standing c.first_offered.new.desk) n.next (Some p)) i.directory c.in-Some.ensures.found in
     let bit = sym h.got_is ∙ c.if-claim.true in let serves = c.in_default-serve.ensures.serves in let marked = c.mark_unfit.new.self in
-    let next : marked.next ≡ p + 1 = c.mark_unfit.ensures.next ∙ further d l.next l.unfit i.steps i.adds i.goes n.next p find in record {
+    let next : marked.next ≡ p + 1 = c.mark_unfit.ensures.next ∙ further d l.next l.unfit i.steps i.adds i.goes i.directory n.next p c.in-Some.ensures.found in record {
       low = omega (arith, next);
       directory = c.mark_unfit.ensures.directory ∙ c.first_offered.ensures.directory ∙ i.directory;
-      steps = serves.steps ++ (made (TakeRight p d) h.answer ∷ (find.steps ++ i.steps));
-      adds = serve_adds d l.next l.unfit i.steps i.adds i.goes n.next p find h.answer h.calls.adds bit None serves;
-      goes = subst (λ k. GoesOn (g.S.Serving.rule c.args.serving.now) (D.standing c.args.desk.now).seat.profile d k marked.unfit (serves.steps ++ (made (TakeRight p d) h.answer ∷ (find.steps ++ i.steps)))) (sym next)
-          (left_goes d l.next l.unfit i.steps i.adds i.goes n.next p find h.answer h.calls.adds bit marked.unfit (λ q. c.mark_unfit.ensures.unfit q ∙ ap (λ m. (p == q) || is_marked m q) c.first_offered.ensures.unfit) serves);
+      steps = _;
+      adds = serve_adds d l.next l.unfit i.steps i.adds i.goes i.directory n.next p c.in-Some.ensures.found h.answer h.calls.adds bit None serves;
+      goes = left_goes d l.next l.unfit i.steps i.adds i.goes i.directory n.next p c.in-Some.ensures.found h.answer h.calls.adds bit marked.next next marked.unfit (λ q. c.mark_unfit.ensures.unfit q ∙ ap (λ m. (p == q) || is_marked m q) c.first_offered.ensures.unfit) serves;
       home = c.serve.ensures.home ∙ c.claim.ensures.home ∙ c.first_offered.ensures.home ∙ i.home;
     }
 
 pub loop-looked-preserved : goal.loop-looked-preserved
 loop-looked-preserved g c =
     let i = c.loop-looked.invariant in let l = c.loop-looked.looked in let D = g.D.Desk in let d = c.args.looked.now.directory in let n = c.first_offered.new.looked in let p = c.in-Some.page in let h = c.claim.ensures.claims in
-    let find = subst (λ x. FindsOffered x l.next (D.standing c.loop-looked.desk) (D.standing c.first_offered.new.desk) n.next (Some p)) i.directory c.in-Some.ensures.found in
-    let next = further d l.next l.unfit i.steps i.adds i.goes n.next p find in record {
+    let next = further d l.next l.unfit i.steps i.adds i.goes i.directory n.next p c.in-Some.ensures.found in record {
       low = omega (arith, next);
       directory = c.first_offered.ensures.directory ∙ i.directory;
-      steps = made (TakeRight p d) h.answer ∷ (find.steps ++ i.steps);
-      adds = claim_adds d l.next l.unfit i.steps i.adds i.goes n.next p find h.answer h.calls.adds;
-      goes = subst (λ m. GoesOn (g.S.Serving.rule c.args.serving.now) (D.standing c.args.desk.now).seat.profile d n.next m (made (TakeRight p d) h.answer ∷ (find.steps ++ i.steps))) (sym c.first_offered.ensures.unfit)
-          (subst (λ k. GoesOn (g.S.Serving.rule c.args.serving.now) (D.standing c.args.desk.now).seat.profile d k l.unfit (made (TakeRight p d) h.answer ∷ (find.steps ++ i.steps))) (sym next)
-          (lost_goes d l.next l.unfit i.steps i.adds i.goes n.next p find h.answer h.calls.adds (sym h.got_is ∙ c.if-claim.false)));
+      steps = _;
+      adds = claim_adds d l.next l.unfit i.steps i.adds i.goes i.directory n.next p c.in-Some.ensures.found h.answer h.calls.adds;
+      goes = lost_goes d l.next l.unfit i.steps i.adds i.goes i.directory n.next p c.in-Some.ensures.found h.answer h.calls.adds n.unfit c.first_offered.ensures.unfit (sym h.got_is ∙ c.if-claim.false);
       home = c.claim.ensures.home ∙ c.first_offered.ensures.home ∙ i.home;
     }
