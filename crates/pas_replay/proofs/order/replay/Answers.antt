@@ -1,11 +1,10 @@
 use Rattle.std.proofs.Common.{◌≡◌, ◌+◌, ◌++◌, ◌∙◌, ℕ, List, [], ◌∷◌, length, refl, sym, ap, arith, drop}
 use Rattle.std.specs.Prelude.{map}
 use Rattle.pas_trace.specs.Plans.{ops_of}
-use Rattle.pas_trace.specs.declared.plan.Op.{Op}
 use Rattle.pas_plain.specs.Plain.{profile_of}
 use Rattle.pas_report.specs.Rooms.{records_in}
 use Rattle.pas_report.specs.declared.record.Record.{Record}
-use Rattle.pas_answers.specs.Acts.{Act, Wakes, Operates, Ends, phase_acts, acts_of, active_from, numbers_from}
+use Rattle.pas_answers.specs.Acts.{Act, Wakes, Operates, Ends, acts_of, active_from, numbers_from}
 use Rattle.pas_replay.specs.Sessions.{SoFar}
 use Rattle.pas_replay.proofs.ActsInOrder.{acts_left, as_acts, as_list, after_mark, next_phase, first_phase, other_phase, last_phase, wakes_first, ends_first, at_region, of_profile}
 use Rattle.pas_replay.proofs.order.replay.Goals as goal
