@@ -20,7 +20,7 @@ later c = acts_left (length c.args.threads.now) (c.loop-phase.phase-index + 1) (
 -- the phase begins: its mark is pushed from the second one on, and its threads wake
 begins : (c : After-as_slice)
     → SoFar (profile_of c.loop-phase.region) (acts_of (length c.args.threads.now) (map ops_of c.args.phases.now)) (map Wakes (active_from 1 (length c.loop-phase.threads) c.as_slice.result.now) ++ (map Operates c.as_slice.result.now ++ later c))
-        c.loop-phase.region c.loop-phase.threads c.loop-phase.names c.if-number-gt-UNMARKED.out
+    c.loop-phase.region c.loop-phase.threads c.loop-phase.names c.if-number-gt-UNMARKED.out
 begins c =
     let ops = c.as_slice.result.now in
     let threads = length c.args.threads.now in
