@@ -10,9 +10,6 @@ use Rattle.pas_replay.proofs.ActsInOrder.{acts_left, as_acts, as_list, after_mar
 use Rattle.pas_replay.proofs.order.replay.Goals as goal
 use Rattle.pas_replay.proofs.order.replay.Goals.{then-number-gt-UNMARKED, else-number-gt-UNMARKED, After-as_slice, After-push-2}
 
-pub loop-phase-init : goal.loop-phase-init
-loop-phase-init c = record { far = c.requires.so_far; count = refl }
-
 -- the acts of the phases after this one
 abbrev later : After-as_slice → List Act
 later c = acts_left (length c.args.threads.now) (c.loop-phase.phase-index + 1) (map ops_of (drop (c.loop-phase.phase-index + 1) c.args.phases.now))
