@@ -1,8 +1,6 @@
 -- The acts of a replay, one after the other.
-use Rattle.std.proofs.Common.{◌≡◌, ℕ, zero, suc, ◌+◌, ◌-◌, ◌<◌, ◌≤◌, ◌==◌, ◌||◌, Bool, true, false, if◌then◌else◌, inl, inr, List, [], ◌∷◌, ◌++◌, map, length, drop, get_or, set, slice_index_or, refl, ap, sym, ◌∙◌, subst, arith, length-append, append_assoc, drop_of_length-le}
+use Rattle.std.proofs.Common.{◌≡◌, ℕ, zero, suc, ◌+◌, ◌-◌, ◌<◌, ◌≤◌, Bool, if◌then◌else◌, inl, inr, List, [], ◌∷◌, ◌++◌, map, length, drop, get_or, set, slice_index_or, refl, ap, sym, ◌∙◌, subst, arith, length-append, append_assoc, drop_of_length-le}
 use Rattle.std.proofs.lemmas.List.{length-set, drop_more, append-nil}
-use Rattle.std.proofs.lemmas.Bool.{eq-eqb, ne_eqb, cases_eq}
-use Rattle.std.proofs.Math.Bool.{or-true, or-false}
 use Rattle.pas_profile.specs.declared.profile.Profile.{Profile}
 use Rattle.pas_profile.specs.declared.word.Word.TheVariants as Word
 use Rattle.pas_steps.specs.Agreement.{Agreed}
@@ -22,13 +20,12 @@ use Rattle.pas_report.specs.declared.record.Record.{Record}
 use Rattle.pas_report.specs.declared.records.Records.{Records}
 use Rattle.pas_cache.specs.Caches.{Cached, cached, AtRest}
 use Rattle.pas_cache.specs.Calls.{Begins}
-use Rattle.pas_answers.specs.Acts.{Act, Operates, MarksPhase, Wakes, MarksClose, Ends, is_active, active_from, numbers_from, phase_acts, close_acts, acts_from, acts_of}
+use Rattle.pas_answers.specs.Acts.{Act, Operates, MarksPhase, Wakes, Ends, is_active, active_from, numbers_from, phase_acts, close_acts, acts_from, acts_of}
 use Rattle.pas_answers.specs.Answers.{progress, with_cache, begun, Follows}
 use Rattle.pas_answers.specs.Calls.{owed_events}
 use Rattle.pas_answers.specs.Fit.{AreFit, costs_of, own_costs_of, ops_in, marks_in}
 use Rattle.pas_answers.specs.Names.{names_held}
-use Rattle.pas_answers.specs.Replays.{at_start, empty_caches}
-use Rattle.pas_replay.specs.Sessions.{Turn, MaySit, SoFar, AreCaches, owed_from}
+use Rattle.pas_replay.specs.Sessions.{Turn, MaySit, SoFar, AreCaches}
 use Rattle.pas_answers.specs.declared.names.Names.{Names}
 use Rattle.pas_replay.specs.declared.seats.Thread.{Thread}
 use Rattle.pas_steps.proofs.Unknown.{unknown_stays}

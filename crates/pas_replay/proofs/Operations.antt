@@ -1,10 +1,9 @@
 -- A session after an operation of one of its threads.
-use Rattle.std.proofs.Common.{◌≡◌, ◌≢◌, ℕ, ◌+◌, ◌<◌, ◌≤◌, ◌==◌, ◌||◌, Bool, true, false, if◌then◌else◌, inl, inr, List, [], ◌∷◌, ◌++◌, length, reverse, get_or, set, Option, Some, None, refl, ap, sym, ◌∙◌, subst, arith, length-append}
+use Rattle.std.proofs.Common.{◌≡◌, ◌≢◌, ℕ, ◌+◌, ◌<◌, ◌≤◌, ◌==◌, Bool, true, false, if◌then◌else◌, inl, inr, List, [], ◌∷◌, ◌++◌, length, reverse, get_or, set, Option, None, refl, ap, sym, ◌∙◌, subst, arith, length-append}
 use Rattle.std.proofs.lemmas.List.{length-reverse, length-map, length-set, append-nil, get_or-set_other}
 use Rattle.std.proofs.lemmas.Grind.{get_or-set_at}
 use Rattle.std.proofs.lemmas.Bool.{eq-eqb, ne_eqb, cases_eq}
 use Rattle.pas_profile.specs.declared.profile.Profile.{Profile}
-use Rattle.pas_profile.specs.declared.name.Block.{Block}
 use Rattle.pas_profile.specs.declared.event.Event.{Event}
 use Rattle.pas_steps.specs.Events.{events_by}
 use Rattle.pas_steps.specs.Views.{View}
@@ -14,7 +13,7 @@ use Rattle.pas_steps.specs.declared.step.Made.{Made}
 use Rattle.pas_steps.proofs.Parts.{part_of_own, part_of_others}
 use Rattle.pas_trace.specs.declared.plan.Op.{Op}
 use Rattle.pas_trace.specs.declared.plan.What.{What}
-use Rattle.pas_trace.specs.declared.plan.What.TheVariants.{Alloc, Free, Raw, Flush, Stop, Tick, Pass, Idle}
+use Rattle.pas_trace.specs.declared.plan.What.TheVariants.{Free, Stop}
 use Rattle.pas_plain.specs.Plain.{profile_of, actor_of}
 use Rattle.pas_plain.specs.Seats.{region_of, pass_of, standing_of}
 use Rattle.pas_plain.specs.declared.region.PlainRegion.{PlainRegion}
@@ -25,10 +24,10 @@ use Rattle.pas_report.specs.declared.record.Said.{Said}
 use Rattle.pas_report.specs.declared.records.Records.{Records}
 use Rattle.pas_cache.specs.Caches.{Cached, cached, AtRest}
 use Rattle.pas_answers.specs.Acts.{Act, Operates, Ends}
-use Rattle.pas_answers.specs.Answers.{having, answer_of, progress, Named, Caches, with_cache, standing_for, IsAnswered, records_of, said_by, Follows}
+use Rattle.pas_answers.specs.Answers.{having, answer_of, progress, Named, Caches, with_cache, IsAnswered, records_of, said_by, Follows}
 use Rattle.pas_answers.specs.Calls.{works, Tells, HasTurns, IsKnown, owed_events, MayAnswer, Answers}
 use Rattle.pas_answers.specs.Fit.{IsFitWhat, AreFit, cost_of_what, costs_of, own_costs_of, ops_in, marks_in}
-use Rattle.pas_trace.specs.EveryPlan.{is_asked, asked_after}
+use Rattle.pas_trace.specs.EveryPlan.{asked_after}
 use Rattle.pas_answers.specs.Names.{names_held}
 use Rattle.pas_answers.proofs.KnownNames.{AreKnown, known_after}
 use Rattle.pas_replay.specs.Sessions.{Turn, MaySit, SoFar, spare_at}

@@ -1,22 +1,17 @@
 -- The items of a text have passed their checks, and there are no more of them than lines after the first.
-use Rattle.std.proofs.Common.{◌≡◌, ℕ, ◌+◌, ◌<◌, ◌≤◌, List, [], ◌∷◌, length, Option, Some, None, Result, Ok, Err, refl, ap, sym, ◌∙◌, subst, arith}
-use Rattle.std.specs.Prelude.{◌^◌, IfOk}
-use Rattle.std.proofs.Math.Pow.{pow-lt}
-use Rattle.std.proofs.lemmas.Nat.{or_lt, pow_pos}
-use Rattle.std.proofs.lemmas.Bool.{ltb-true}
+use Rattle.std.proofs.Common.{◌≡◌, ℕ, ◌+◌, ◌≤◌, List, [], ◌∷◌, length, Option, Some, None, Result, Ok, Err, refl, ap, sym, ◌∙◌, subst, arith}
+use Rattle.std.specs.Prelude.{IfOk}
 use Rattle.pas_profile.specs.Profiles.{IsValid}
 use Rattle.pas_profile.specs.declared.profile.Profile.{Profile}
 use Rattle.pas_trace.specs.Texts.{lines_of}
 use Rattle.pas_trace.specs.Items.{item_of_line}
 use Rattle.pas_trace.specs.Reasons.{started, reason_of, kept, checked, line_says, header_of}
-use Rattle.pas_trace.specs.Plans.{after_item, items_from, Parsed, with_items, with_header, parsed, parsed_lines, shared_in}
+use Rattle.pas_trace.specs.Plans.{after_item, items_from, Parsed, with_items, with_header, parsed, parsed_lines}
 use Rattle.pas_trace.specs.declared.fault.Reason.{Reason}
 use Rattle.pas_trace.specs.declared.fault.TraceFault.{TraceFault}
 use Rattle.pas_trace.specs.declared.item.Item.{Item}
-use Rattle.pas_trace.specs.declared.item.Item.TheVariants.{Shares}
 use Rattle.pas_trace.proofs.Headers.{header_valid}
 use Rattle.pas_trace.proofs.ItemRanges.{IsInRange, line_range}
-use Rattle.pas_trace.proofs.PassedChecks.{passes}
 
 pub record IsPassed (f : Profile) (earlier : List Item) (i : Item) : Type 0 where
   pub passes : reason_of f earlier i ≡ None

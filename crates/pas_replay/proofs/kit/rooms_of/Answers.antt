@@ -13,26 +13,11 @@ loop-actor-init c = record {
   reserved = c.in-Ok.ensures.capacity;
 }
 
-pub event_room-requires : goal.event_room-requires
-event_room-requires c =
-    let few = c.requires.threads in
-    let same = c.loop-actor.invariant.threads in
-    let lt = c.loop-actor-test.true in
-    omega (arith, few, same, lt)
-
 pub unreachable-requires : goal.unreachable-requires
 unreachable-requires c =
     let lt = c.loop-actor-test.true in
     let left = c.requires.left c.loop-actor.actor (omega (arith, lt)) in
     left_room (room_of c.args.utility.now c.loop-actor.actor) left.0 (sym (c.loop-actor.invariant.left c.loop-actor.actor (omega arith)) ∙ c.in_default-event_room.ensures.room) left.1
-
-pub push_reserved-requires : goal.push_reserved-requires
-push_reserved-requires c =
-    let lt = c.loop-actor-test.true in
-    let many = c.loop-actor.invariant.made.many in
-    let reserved = c.loop-actor.invariant.reserved in
-    let ok = c.loop-actor.rooms.ok.0 in
-    omega (arith, lt, many, reserved, ok)
 
 pub loop-actor-preserved : goal.loop-actor-preserved
 loop-actor-preserved c =
@@ -52,9 +37,3 @@ returns-clause-rooms c =
     let past = c.loop-actor-test.false in
     let end = c.loop-actor.auto.actor-end in
     subst (λ n. AreRooms (room_of c.args.utility.now) n c.loop-actor.rooms.items) (omega (arith, past, end)) c.loop-actor.invariant.made
-
-pub returns-clause-seats : goal.returns-clause-seats
-returns-clause-seats c = c.loop-actor.invariant.seats
-
-pub returns-clause-threads : goal.returns-clause-threads
-returns-clause-threads c = c.loop-actor.invariant.threads

@@ -19,15 +19,6 @@ loop-actor-init c =
       reserved = c.in-Ok.ensures.capacity;
     }
 
-pub cache_seat-requires-clause-exists : goal.cache_seat-requires-clause-exists
-cache_seat-requires-clause-exists c =
-    let lt = c.loop-actor-test.true in
-    let count = c.len.ensures in
-    let threads = c.requires.threads in
-    let same = c.loop-actor.invariant.threads in
-    let some = c.requires.some in
-    omega (arith, lt, count, threads, same, some)
-
 pub unreachable-requires : goal.unreachable-requires
 unreachable-requires c =
     let lt = c.loop-actor-test.true in
@@ -37,15 +28,6 @@ unreachable-requires c =
     let low = c.loop-actor.invariant.some in
     let left = c.loop-actor.invariant.seats c.loop-actor.actor (omega arith) ∙ c.requires.left c.loop-actor.actor low (omega (arith, lt, count, threads, some)) in
     false≢true (sym c.in_default-cache_seat.ensures.seat ∙ left)
-
-pub push_reserved-requires : goal.push_reserved-requires
-push_reserved-requires c =
-    let lt = c.loop-actor-test.true in
-    let many = c.loop-actor.invariant.made.many in
-    let reserved = c.loop-actor.invariant.reserved in
-    let low = c.loop-actor.invariant.some in
-    let ok = c.loop-actor.list.ok.0 in
-    omega (arith, lt, many, reserved, low, ok)
 
 pub loop-actor-preserved : goal.loop-actor-preserved
 loop-actor-preserved c =

@@ -11,9 +11,6 @@ use Rattle.pas_replay.proofs.order.perform.Goals as goal
 abbrev first : Op
 first = record { line = 0; actor = 0; what = Alloc 0 0 0 0 }
 
-pub loop-op-init : goal.loop-op-init
-loop-op-init c = record { far = λ all more far. far }
-
 pub overflow_sub-op : goal.overflow_sub-op
 overflow_sub-op c = let low = (as_list Operates c.requires.so_far.1 (drop_more c.args.ops.now c.loop-op.op-index first c.loop-op-test.true) (c.loop-op.invariant.far c.requires.so_far.0 c.requires.so_far.1 c.requires.so_far.2)).fit.0.0 in omega (arith, low)
 

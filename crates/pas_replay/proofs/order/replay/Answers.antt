@@ -1,18 +1,14 @@
 use Rattle.std.proofs.Common.{◌≡◌, ◌+◌, ◌++◌, ◌∙◌, ℕ, List, [], ◌∷◌, length, refl, sym, ap, arith, drop}
 use Rattle.std.specs.Prelude.{map}
 use Rattle.pas_trace.specs.Plans.{ops_of}
-use Rattle.pas_trace.specs.declared.plan.Op.{Op}
 use Rattle.pas_plain.specs.Plain.{profile_of}
 use Rattle.pas_report.specs.Rooms.{records_in}
 use Rattle.pas_report.specs.declared.record.Record.{Record}
-use Rattle.pas_answers.specs.Acts.{Act, Wakes, Operates, Ends, phase_acts, acts_of, active_from, numbers_from}
+use Rattle.pas_answers.specs.Acts.{Act, Wakes, Operates, Ends, acts_of, active_from, numbers_from}
 use Rattle.pas_replay.specs.Sessions.{SoFar}
 use Rattle.pas_replay.proofs.ActsInOrder.{acts_left, as_acts, as_list, after_mark, next_phase, first_phase, other_phase, last_phase, wakes_first, ends_first, at_region, of_profile}
 use Rattle.pas_replay.proofs.order.replay.Goals as goal
 use Rattle.pas_replay.proofs.order.replay.Goals.{then-number-gt-UNMARKED, else-number-gt-UNMARKED, After-as_slice, After-push-2}
-
-pub loop-phase-init : goal.loop-phase-init
-loop-phase-init c = record { far = c.requires.so_far; count = refl }
 
 -- the acts of the phases after this one
 abbrev later : After-as_slice → List Act
@@ -21,7 +17,7 @@ later c = acts_left (length c.args.threads.now) (c.loop-phase.phase-index + 1) (
 -- the phase begins: its mark is pushed from the second one on, and its threads wake
 begins : (c : After-as_slice)
     → SoFar (profile_of c.loop-phase.region) (acts_of (length c.args.threads.now) (map ops_of c.args.phases.now)) (map Wakes (active_from 1 (length c.loop-phase.threads) c.as_slice.result.now) ++ (map Operates c.as_slice.result.now ++ later c))
-        c.loop-phase.region c.loop-phase.threads c.loop-phase.names c.if-number-gt-UNMARKED.out
+    c.loop-phase.region c.loop-phase.threads c.loop-phase.names c.if-number-gt-UNMARKED.out
 begins c =
     let ops = c.as_slice.result.now in
     let threads = length c.args.threads.now in

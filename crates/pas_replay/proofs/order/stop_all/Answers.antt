@@ -46,9 +46,3 @@ pub returns-clause-so_far : goal.returns-clause-so_far
 returns-clause-so_far c all more so =
     let test = c.loop-index-test.false in
     as_list Ends more (number_last (c.loop-index.index + 1) (length c.args.threads.now - c.loop-index.index) (omega (arith, test))) (c.loop-index.invariant.far all more so)
-
-pub returns-clause-empty : goal.returns-clause-empty
-returns-clause-empty c i d less =
-    let test = c.loop-index-test.false in
-    let count = c.loop-index.auto.threads in
-    c.loop-index.invariant.empty i d (omega (arith, less, test, count))
