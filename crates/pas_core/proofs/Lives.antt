@@ -129,10 +129,6 @@ pub turn_is : (f : Profile) (g word : ℕ) (live : Option Live) (gives ends : �
 turn_is f g word None gives ends h = let few = h.few in ap turn_of h.word_is ∙ omega (arith, few)
 turn_is f g word (Some b) gives ends h = let few = h.few in ap turn_of h.word_is ∙ omega (arith, few)
 
-pub few_ends : (f : Profile) (g word : ℕ) (live : Option Live) (gives ends : ℕ) → IsLifeOf f g word live gives ends → ends < 2 ^ 40
-few_ends f g word None gives ends h = h.few
-few_ends f g word (Some b) gives ends h = h.few
-
 pub live_is_live : (f : Profile) (g word : ℕ) (b : Live) (gives ends : ℕ) → IsLifeOfLive f g word b gives ends → is_live word ≡ true
 live_is_live f g word b gives ends h = let w = h.word_is in let big : 2 ^ 63 ≤ word = omega (arith, w) in le-leb (2 ^ 63) word big
 

@@ -36,10 +36,6 @@ no_other_actor f (t ∷ l) legal k past =
     let within = legal.0.actor in
     ap (λ x. if x then t.made ∷ part k l else part k l) (ne_eqb t.actor k (λ e. omega (arith, e, within, past))) ∙ no_other_actor f l legal.1 k past
 
--- who owes a check is an actor of the profile
-pub debtor : (f : Profile) (l : Whole) → Legal f l → (k p w : ℕ) → owes_check (part k l) p w ≡ true → f.threads < k → ⊥
-debtor f l legal k p w owes past = false≢true (ap (λ v. owes_check v p w) (sym (no_other_actor f l legal k past)) ∙ owes)
-
 -- ---- all at rest
 clear_owes : (f : Profile) (l : Whole) → Legal f l → AllClear f l → (p w : ℕ) → w < 4 → NobodyOwes l p w
 clear_owes f l legal clear p w small = λ k. elim (cases_lt f.threads k) [

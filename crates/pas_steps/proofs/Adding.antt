@@ -16,10 +16,6 @@ pub triples_append : (k : ℕ) (ys xs : List Made) (l : Whole) → triples k ys 
 triples_append k [] xs l = refl
 triples_append k (y ∷ ys) xs l = ap (λ w. triple k y ∷ w) (triples_append k ys xs l)
 
-pub part_append : (k : ℕ) (xs : List Made) (l : Whole) → part k (triples k xs ++ l) ≡ xs ++ part k l
-part_append k [] l = refl
-part_append k (m ∷ xs) l = ap (λ t. if t then m ∷ part k (triples k xs ++ l) else part k (triples k xs ++ l)) (eq-eqb k k refl) ∙ ap (λ w. m ∷ w) (part_append k xs l)
-
 -- ---- answers that agree, of two calls
 pub agreed_append : (f : Profile) (v : View) (ys xs : List Made) → Agreed f (xs ++ v) ys → Agreed f v xs → Agreed f v (ys ++ xs)
 agreed_append f v [] xs more before = before

@@ -77,14 +77,6 @@ has_room f n spare v fits = (
   ],
 )
 
-fresh_below : (n : ℕ) → unknown_below n [] ≡ n
-fresh_below zero = refl
-fresh_below (suc n) = let below = fresh_below n in omega (arith, below)
-
--- who made no step knows no deed
-pub unknown_fresh : (f : Profile) → unknown_pages f [] ≡ f.pages
-unknown_fresh f = fresh_below f.pages
-
 -- what was known of deeds is known
 pub all_known : (f : Profile) (steps : List Made) (v : View) → Agreed f v steps → KnowsAllDeeds f v → KnowsAllDeeds f (steps ++ v)
 all_known f steps v agreed all p is z = all p is (sym (deed_stays f steps v p agreed (all p is)) ∙ z)
