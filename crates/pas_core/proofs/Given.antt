@@ -1,23 +1,18 @@
 -- What callers need of the blocks that were given: names keep their blocks, and there are no more gives than events.
-use Rattle.std.proofs.Common.{◌≡◌, ℕ, ◌+◌, ◌%◌, ◌^◌, ◌≤◌, ◌==◌, Bool, true, false, ◌&&◌, if◌then◌else◌, List, [], ◌∷◌, ◌++◌, length, Option, Some, None, refl, ap, sym, ◌∙◌, arith}
-use Rattle.std.proofs.lemmas.Bool.{eqb-true, eq-eqb, leb-true}
+use Rattle.std.proofs.Common.{◌≡◌, ℕ, ◌+◌, ◌≤◌, ◌==◌, Bool, true, false, ◌&&◌, if◌then◌else◌, List, [], ◌∷◌, ◌++◌, length, Option, Some, None, refl, ap, sym, ◌∙◌, arith}
+use Rattle.std.proofs.lemmas.Bool.{eqb-true, eq-eqb}
 use Rattle.pas_profile.specs.Lives.{live_word, is_live, turn_of}
-use Rattle.pas_profile.specs.Profiles.{IsValid}
 use Rattle.pas_profile.specs.declared.profile.Profile.{Profile}
 use Rattle.pas_profile.specs.declared.name.Block.{Block}
 use Rattle.pas_profile.specs.declared.event.Event.{Event}
-use Rattle.pas_profile.specs.Runs.{address_of, grain_of, length_of}
-use Rattle.pas_machine.specs.State.{Live, live_in, gives_in, ends_in}
+use Rattle.pas_profile.specs.Runs.{address_of}
+use Rattle.pas_machine.specs.State.{Live, live_in, gives_in}
 use Rattle.pas_machine.specs.Machine.{Admits, Run}
-use Rattle.pas_steps.specs.Effects.{life_word_at}
 use Rattle.pas_steps.specs.Views.{View, epoch_of, given_count, given_after}
 use Rattle.pas_steps.specs.Events.{event_of, events_of, with_event, reason_of}
-use Rattle.pas_steps.specs.Lists.{Whole, word_after, visible, Legal}
 use Rattle.pas_steps.specs.declared.step.Step.{Step}
-use Rattle.pas_steps.specs.declared.step.Step.TheVariants.{Look, Deed, Back, Take, Put, Give, End, TakeRight, Offer, Park, Unpark, Stamp, Hint, Tick, Unback, Unhint}
-use Rattle.pas_core.specs.Good.{IsLifeOf}
+use Rattle.pas_steps.specs.declared.step.Step.TheVariants.{Deed, Back, End}
 use Rattle.pas_core.specs.Given.{WasGiven}
-use Rattle.pas_core.proofs.Lives.{life_at}
 
 some_is : {A : Type 0} {x y : A} → Some x ≡ Some y → x ≡ y
 some_is h = cc

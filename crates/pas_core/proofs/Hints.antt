@@ -1,5 +1,5 @@
 -- A backed page whose grains are all free isn't forgotten: its empty bit is set, or some actor owes its hint, or some actor examines it.
-use Rattle.std.proofs.Common.{◌≡◌, ℕ, ◌+◌, ◌-◌, ◌*◌, ◌/◌, ◌%◌, ◌^◌, ◌<◌, ◌==◌, Bool, true, false, not, ◌&&◌, ◌||◌, if◌then◌else◌, List, [], ◌∷◌, ◌++◌, refl, ap, sym, ◌∙◌, subst, arith, bit_and, bit_or, inl, inr}
+use Rattle.std.proofs.Common.{◌≡◌, ℕ, ◌+◌, ◌-◌, ◌*◌, ◌/◌, ◌%◌, ◌^◌, ◌<◌, ◌==◌, Bool, true, false, not, ◌&&◌, ◌||◌, if◌then◌else◌, List, [], ◌∷◌, ◌++◌, refl, ap, sym, ◌∙◌, arith, bit_and, bit_or, inl, inr}
 use Rattle.std.specs.Int.{bit_at, bit_not, w64}
 use Rattle.std.proofs.lemmas.Bool.{false≢true, eqb-true, eqb-false, eq-eqb, and_parts, cases_Bool, false_from_ne_true}
 use Rattle.std.proofs.lemmas.Nat.{and_le_r}
@@ -9,11 +9,10 @@ use Rattle.pas_profile.specs.Layouts.{same_word}
 use Rattle.pas_profile.specs.Profiles.{IsValid}
 use Rattle.pas_profile.specs.declared.profile.Profile.{Profile}
 use Rattle.pas_profile.specs.declared.word.Word.{Word}
-use Rattle.pas_profile.specs.declared.word.Word.TheVariants as Word
 use Rattle.pas_steps.specs.Effects.{free_word_at, target}
-use Rattle.pas_steps.specs.Views.{View, holds, all_ones, hint_after, owes_hint, examined_after, examines, epoch_of}
+use Rattle.pas_steps.specs.Views.{View, all_ones, hint_after, owes_hint, examined_after, examines, epoch_of}
 use Rattle.pas_steps.specs.Allowed.{Allowed, IsStepOf, HoldsOn}
-use Rattle.pas_steps.specs.Lists.{Triple, Whole, part, word_after, IsNext, Legal}
+use Rattle.pas_steps.specs.Lists.{Whole, part, word_after, IsNext, Legal}
 use Rattle.pas_steps.specs.Past.{Always}
 use Rattle.pas_steps.specs.Desks.{made, triple}
 use Rattle.pas_steps.specs.declared.step.Made.{Made}
@@ -21,7 +20,7 @@ use Rattle.pas_steps.specs.declared.step.Step.{Step}
 use Rattle.pas_steps.specs.declared.step.Step.TheVariants.{Look, Deed, Back, Take, Put, Give, End, TakeRight, Offer, Park, Unpark, Stamp, Hint, Tick, Unback, Unhint}
 use Rattle.pas_core.specs.Good.{Held, is_free, IsPlacedOnce}
 use Rattle.pas_core.specs.Rights.{empty_bit}
-use Rattle.pas_core.specs.Hints.{IsEmptyBacked, IsHintOwed, IsExamined, IsMinded}
+use Rattle.pas_core.specs.Hints.{IsEmptyBacked, IsMinded}
 use Rattle.pas_bits.proofs.Words.{bit_cleared}
 use Rattle.pas_bits.proofs.PageVectors.{page_bit-clear, page_bit-set}
 use Rattle.pas_core.proofs.DeedWords.{next_value, looked}

@@ -1,10 +1,10 @@
 -- Nothing is lost: a page with a free usable grain, whose right no actor has and whose check no actor owes, is offered, and once all actors are clear
 -- an empty page that is backed is hinted. And actors are those of the profile.
-use Rattle.std.proofs.Common.{◌≡◌, ◌≢◌, ◌⊎◌, ℕ, ◌≤◌, ◌<◌, ◌==◌, Bool, true, false, if◌then◌else◌, List, [], ◌∷◌, ◌++◌, refl, ap, sym, ◌∙◌, subst, arith, inl, inr}
+use Rattle.std.proofs.Common.{◌≡◌, ◌≢◌, ◌⊎◌, ℕ, ◌<◌, true, false, if◌then◌else◌, List, [], ◌∷◌, ◌++◌, refl, ap, sym, ◌∙◌, subst, arith, inl, inr}
 use Rattle.std.proofs.lemmas.Bool.{false≢true, eq-eqb, ne_eqb, cases_lt, cases_eq}
 use Rattle.pas_profile.specs.declared.profile.Profile.{Profile}
 use Rattle.pas_profile.specs.declared.word.Word.TheVariants as Word
-use Rattle.pas_steps.specs.Views.{View, has_right, owes_check}
+use Rattle.pas_steps.specs.Views.{has_right, owes_check}
 use Rattle.pas_steps.specs.Clear.{IsClear}
 use Rattle.pas_steps.specs.Lists.{Whole, part, word_after, Legal}
 use Rattle.pas_steps.specs.Desks.{triples}

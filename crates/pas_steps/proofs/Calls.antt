@@ -12,7 +12,7 @@ use Rattle.pas_steps.specs.Calls.{Leads, AnyView, Fate, Kept, Gained, Lost, now,
 use Rattle.pas_steps.specs.Clear.{IsClearOn, IsClear}
 use Rattle.pas_steps.specs.Desks.{Seat, Standing, made, CanCall, Adds}
 use Rattle.pas_steps.specs.Effects.{in_mask}
-use Rattle.pas_steps.specs.Views.{View, Move, Stays, Puts, Ends, grain_move, held_after, holds, Way, ByDeed, way, had_after, right_after, has_right, known_deed, unstamped_after, is_unstamped, no_usable, check_after, owes_check, all_ones, hint_after, owes_hint, examined_after, examines, knows_backed}
+use Rattle.pas_steps.specs.Views.{View, Move, Stays, Puts, Ends, grain_move, held_after, holds, Way, ByDeed, way, had_after, right_after, has_right, known_deed, unstamped_after, is_unstamped, no_usable, check_after, owes_check, all_ones, hint_after, owes_hint, examined_after, examines}
 use Rattle.pas_steps.specs.declared.step.Made.{Made}
 use Rattle.pas_steps.specs.declared.step.Step.{Step}
 use Rattle.pas_steps.specs.declared.step.Step.TheVariants.{Look, Deed, Take, Put, Give, End, TakeRight, Offer, Park, Unpark, Stamp, Hint, Unback, Unhint}
@@ -22,7 +22,7 @@ use Rattle.pas_steps.proofs.Kept.{right_on, check_on, hint_on, examined_on, unst
 use Rattle.pas_steps.proofs.Past.{always_map}
 use Rattle.pas_steps.specs.Frames.{IsReturn, OnlyOn, OnlyReturns, unbacks}
 use Rattle.pas_steps.specs.Kinds.{Kinds, kind_of, look_kind, place_of, is_in, apart, Only, Unhinting, moving, unbacking, changing, returning}
-use Rattle.pas_steps.proofs.Backed.{any_one, backed_with, backed_holds}
+use Rattle.pas_steps.proofs.Backed.{backed_with}
 
 -- ---- two calls: the one place where their lists are put together
 pub leads_none : {f : Profile} {B : View → Type 0} {R : View → View → Type 0} → ((v : View) → B v → R v v) → Leads f B R []

@@ -3,19 +3,14 @@ use Rattle.std.proofs.Common.{◌≡◌, ℕ, ◌≤◌, Bool, true, false, ◌&
 use Rattle.std.proofs.lemmas.Bool.{eqb-true}
 use Rattle.pas_profile.specs.Classes.{has_bit}
 use Rattle.pas_profile.specs.declared.event.Event.{Event}
-use Rattle.pas_profile.specs.declared.word.Word.{Word}
-use Rattle.pas_profile.specs.Layouts.{same_word}
 use Rattle.pas_steps.specs.declared.step.Made.{Made}
 use Rattle.pas_steps.specs.declared.step.Step.{Step}
-use Rattle.pas_steps.specs.declared.step.Step.TheVariants.{Look, Deed, Back, Take, Put, Give, End, TakeRight, Offer, Park, Unpark, Stamp, Hint, Tick, Unback, Unhint}
-use Rattle.pas_steps.specs.Effects.{target, new_value}
+use Rattle.pas_steps.specs.declared.step.Step.TheVariants.{Deed, Back, Give, End, TakeRight, Offer, Park, Unpark, Unback}
 use Rattle.pas_profile.specs.Directories.{number_of}
 use Rattle.pas_steps.specs.Views.{View, Way, way, Rests, ByDeed, FromOffer, FromParked, ToOffer, ToParked, had_after, right_after, has_right, epoch_of, given_after, given_count}
 use Rattle.pas_steps.specs.Events.{event_of, with_event, events_of, events_by}
-use Rattle.pas_steps.specs.Lists.{Whole, part, word_after, visible}
-use Rattle.pas_steps.specs.Desks.{triples}
 use Rattle.pas_steps.specs.Past.{Always}
-use Rattle.pas_steps.specs.Frames.{IsLook, AreLooks, GivesUp, KeepsRight}
+use Rattle.pas_steps.specs.Frames.{GivesUp, KeepsRight}
 
 -- ---- events
 pub with_append : (o : Option Event) (xs ys : List Event) → with_event o (xs ++ ys) ≡ with_event o xs ++ ys

@@ -1,5 +1,5 @@
 -- What the framed steps leave as it was: rights, grains, knowledge, debts and events.
-use Rattle.std.proofs.Common.{◌≡◌, ◌≢◌, ℕ, ◌+◌, ◌*◌, ◌/◌, ◌%◌, ◌==◌, zero, suc, Bool, true, false, not, ◌&&◌, ◌||◌, if◌then◌else◌, List, [], ◌∷◌, ◌++◌, Option, None, Some, refl, ap, sym, ◌∙◌, subst, arith, bit_and, true≢false}
+use Rattle.std.proofs.Common.{◌≡◌, ◌≢◌, ℕ, ◌+◌, ◌*◌, ◌/◌, ◌%◌, ◌==◌, Bool, true, false, not, ◌&&◌, ◌||◌, if◌then◌else◌, List, [], ◌∷◌, ◌++◌, Option, None, refl, ap, sym, ◌∙◌, subst, arith, bit_and}
 use Rattle.std.proofs.lemmas.Bool.{ne_eqb, eqb-true, and_parts}
 use Rattle.pas_profile.specs.Classes.{has_bit}
 use Rattle.pas_profile.specs.Directories.{deed_word_of, deed_word_numbered, number_of}
@@ -9,10 +9,10 @@ use Rattle.pas_profile.proofs.Codecs.{deed_word_of-positive}
 use Rattle.pas_profile.specs.declared.word.Word.{Word}
 use Rattle.pas_steps.specs.declared.step.Made.{Made}
 use Rattle.pas_steps.specs.declared.step.Step.{Step}
-use Rattle.pas_steps.specs.declared.step.Step.TheVariants.{Look, Deed, Back, Take, Put, Give, End, TakeRight, Offer, Park, Unpark, Stamp, Hint, Tick, Unback, Unhint}
+use Rattle.pas_steps.specs.declared.step.Step.TheVariants.{Look, Deed, TakeRight, Offer}
 use Rattle.pas_steps.specs.Effects.{in_mask}
-use Rattle.pas_steps.specs.Views.{View, Move, Stays, Gets, Puts, grain_move, held_after, holds, any_below, holds_on, Way, Rests, ByDeed, FromOffer, FromParked, ToOffer, ToParked, way, had_after, right_after, has_right, deed_after, deed_after_look, known_deed, KnowsDeed, life_after, looks_at_life, known_life, epoch_after, known_epoch, epoch_of, unstamped_after, is_unstamped, given_after, given_count, no_usable, check_after, owes_check, all_ones, hint_after, owes_hint, examined_after, examines, backed_after, knows_backed}
-use Rattle.pas_steps.specs.Events.{event_of, with_event, events_of}
+use Rattle.pas_steps.specs.Views.{View, Stays, Gets, Puts, grain_move, held_after, holds, Rests, ByDeed, FromOffer, FromParked, ToOffer, ToParked, way, had_after, has_right, deed_after, deed_after_look, known_deed, KnowsDeed, looks_at_life, epoch_after, unstamped_after, is_unstamped, given_after, no_usable, check_after, owes_check, all_ones, hint_after, owes_hint, examined_after, examines}
+use Rattle.pas_steps.specs.Events.{event_of}
 use Rattle.pas_steps.specs.Agreement.{Agrees, Agreed}
 use Rattle.pas_steps.specs.Past.{Always}
 use Rattle.pas_steps.specs.Frames.{IsOnPage, IsReturn, IsGrains, IsRead, IsScan, OnlyOn, OnlyReturns, OnlyGrains, OnlyReads, OnlyScans, IsLook, AreLooks}
