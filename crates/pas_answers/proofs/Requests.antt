@@ -15,7 +15,7 @@ use Rattle.pas_profile.specs.declared.word.Word.TheVariants as Word
 use Rattle.pas_profile.proofs.Codecs.{same_from_deed_word, directory_from_profile}
 use Rattle.pas_machine.specs.State.{deed_in}
 use Rattle.pas_core.specs.Good.{word_of_deed}
-use Rattle.pas_core.proofs.Bits.{no_bit}
+use Rattle.pas_bits.proofs.Words.{none_of_zero}
 use Rattle.pas_core.proofs.DeedWords.{known_is, deed_word_ne}
 use Rattle.pas_core.proofs.Deeds.{deed_of, directory_is_of}
 use Rattle.pas_core.proofs.Knowledge.{deeds_known}
@@ -40,7 +40,7 @@ use Rattle.pas_steps.proofs.Unknown.{unknown_stays, has_room}
 -- ---- what a request asks
 -- where no heap is shared this one isn't
 pub is_exclusive : (shared heap : ℕ) → shared ≡ 0 → has_bit shared heap ≡ false
-is_exclusive shared heap none = ap (λ n. has_bit n heap) none ∙ no_bit heap
+is_exclusive shared heap none = ap (λ n. has_bit n heap) none ∙ none_of_zero heap
 
 may_allocate : (f : Profile) (c : Cached) (name heap size align spare : ℕ) (v : View) → MayPerform f c (Alloc name heap size align) spare v → MayAllocate f c spare v
 may_allocate f c name heap size align spare v may = let fits = may.room in record { rest = may.rest; room = has_room f 2 spare v (omega (arith, fits)) }

@@ -14,7 +14,7 @@ use Rattle.pas_steps.specs.Desks.{triples}
 use Rattle.pas_steps.specs.declared.step.Made.{Made}
 use Rattle.pas_steps.specs.declared.step.Step.{Step}
 use Rattle.pas_steps.specs.declared.step.Step.TheVariants.{Look, Deed, Take, Put, TakeRight, Offer}
-use Rattle.pas_core.proofs.Bits.{has_bit-or}
+use Rattle.pas_bits.proofs.Words.{bit_of_or}
 use Rattle.pas_search.specs.Serving.{Rule, IsAntitone}
 use Rattle.pas_search.specs.Telling.{free_of_page, HasNoFit}
 use Rattle.pas_steps.specs.Kinds.{Only, is_in, kind_of}
@@ -25,7 +25,7 @@ same true x = refl
 same false x = refl
 
 or_keeps : (t : Bool) (n m b : ℕ) → has_bit n b ≡ true → has_bit (if t then bit_or n m else n) b ≡ true
-or_keeps true n m b h = has_bit-or n m b ∙ ap (λ t. t || has_bit m b) h
+or_keeps true n m b h = bit_of_or n m b ∙ ap (λ t. t || has_bit m b) h
 or_keeps false n m b h = h
 
 -- ---- free words

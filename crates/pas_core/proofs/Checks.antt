@@ -1,14 +1,14 @@
 -- Where a parked page has a free usable grain, some actor owes the check of its word.
-use Rattle.std.proofs.Common.{◌≡◌, ◌≢◌, ℕ, zero, suc, ◌+◌, ◌*◌, ◌/◌, ◌%◌, ◌^◌, ◌<◌, ◌==◌, Bool, true, false, not, ◌&&◌, if◌then◌else◌, [], ◌∷◌, refl, ap, sym, ◌∙◌, subst, arith, bit_and, bit_or, inl, inr}
+use Rattle.std.proofs.Common.{◌≡◌, ◌≢◌, ℕ, ◌+◌, ◌*◌, ◌/◌, ◌%◌, ◌^◌, ◌<◌, ◌==◌, Bool, true, false, not, ◌&&◌, if◌then◌else◌, [], ◌∷◌, refl, ap, sym, ◌∙◌, subst, bit_and, bit_or, inr}
 use Rattle.std.specs.Int.{bit_not, w64}
-use Rattle.std.proofs.lemmas.Bool.{false≢true, eqb-true, eq-eqb, and_parts, and_from, cases_eq, false_from_ne_true}
+use Rattle.std.proofs.lemmas.Bool.{false≢true, eqb-true, eq-eqb, and_parts, and_from, false_from_ne_true}
 use Rattle.pas_profile.specs.Classes.{has_bit}
 use Rattle.pas_profile.specs.Directories.{number_of, directory_read}
 use Rattle.pas_profile.specs.Layouts.{same_word}
 use Rattle.pas_profile.specs.declared.profile.Profile.{Profile}
 use Rattle.pas_profile.specs.declared.word.Word.{Word}
 use Rattle.pas_steps.specs.Effects.{target}
-use Rattle.pas_steps.specs.Views.{way, ToParked, ToOffer, FromParked, FromOffer, ByDeed, Rests, Way, View, has_right, known_deed, usable_by, all_below, no_usable, check_after, owes_check, epoch_of}
+use Rattle.pas_steps.specs.Views.{way, ToParked, ToOffer, FromParked, FromOffer, ByDeed, Rests, Way, View, has_right, known_deed, usable_by, no_usable, check_after, owes_check, epoch_of}
 use Rattle.pas_steps.specs.Allowed.{IsStepOf}
 use Rattle.pas_steps.specs.Lists.{Whole, part, word_after, IsNext, Legal}
 use Rattle.pas_steps.specs.Desks.{made, triple}
@@ -16,7 +16,8 @@ use Rattle.pas_steps.specs.declared.step.Step.{Step}
 use Rattle.pas_steps.specs.declared.step.Made.{Made}
 use Rattle.pas_steps.specs.declared.step.Step.TheVariants.{Look, Deed, Back, Take, Put, Give, End, TakeRight, Offer, Park, Unpark, Stamp, Hint, Tick, Unback, Unhint}
 use Rattle.pas_core.specs.Rights.{parked_bit, IsUsableFree, IsOwed}
-use Rattle.pas_core.proofs.Bits.{has_bit-clear, all_below-at}
+use Rattle.pas_core.proofs.Bits.{all_below-at}
+use Rattle.pas_bits.proofs.Words.{bit_cleared}
 use Rattle.pas_core.proofs.DeedWords.{next_value, looked, known_is, word_stays}
 use Rattle.pas_core.proofs.Spots.{Spot, InParked, is_with, is_parked, spot_after, spot_of, DeedFits, IsSpotted, spotted}
 use Rattle.pas_core.proofs.Rights.{parked_spot}
@@ -82,7 +83,7 @@ was_parked j true m o never h = absurd (never h)
 was_parked j false m o never h = (refl, h)
 
 clear_was : (t : Bool) (old mask b : ℕ) → mask < 2 ^ 64 → b < 64 → has_bit (if t then bit_and old (bit_not w64 mask) else old) b ≡ true → has_bit old b ≡ true
-clear_was true old mask b hm hb h = (and_parts (has_bit old b) (not (has_bit mask b)) (sym (has_bit-clear old mask b hm hb) ∙ h)).0
+clear_was true old mask b hm hb h = (and_parts (has_bit old b) (not (has_bit mask b)) (sym (bit_cleared old mask b hm hb) ∙ h)).0
 clear_was false old mask b hm hb h = h
 
 -- a deed that there is stays

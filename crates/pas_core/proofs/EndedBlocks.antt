@@ -1,7 +1,6 @@
 -- The pages of a block that an actor ended: they have deeds, all of one heap, and lie in the region.
-use Rattle.std.proofs.Common.{◌≡◌, ◌≢◌, ℕ, ◌+◌, ◌*◌, ◌/◌, ◌^◌, ◌<◌, ◌≤◌, ◌==◌, Bool, true, false, ◌&&◌, ◌∷◌, Option, Some, None, refl, ap, sym, ◌∙◌, subst, arith, inl, inr}
-use Rattle.std.proofs.lemmas.Bool.{false≢true, eqb-true, and_parts, cases_lt}
-use Rattle.std.proofs.lemmas.Bool.Decides.{nat_tests}
+use Rattle.std.proofs.Common.{◌≡◌, ◌≢◌, ℕ, ◌+◌, ◌*◌, ◌/◌, ◌<◌, ◌≤◌, ◌==◌, Bool, true, false, ◌&&◌, ◌∷◌, Some, refl, ap, sym, ◌∙◌, subst, arith}
+use Rattle.std.proofs.lemmas.Bool.{false≢true, eqb-true, and_parts}
 use Rattle.pas_profile.specs.Directories.{deed_word_of, kind_number}
 use Rattle.pas_profile.specs.Lives.{live_word}
 use Rattle.pas_profile.specs.Profiles.{IsValid, IsDirectoryOf}
@@ -11,7 +10,7 @@ use Rattle.pas_profile.specs.declared.name.Name.{Name}
 use Rattle.pas_profile.specs.declared.word.Word.{Word}
 use Rattle.pas_profile.proofs.Codecs.{kind_number_lt}
 use Rattle.pas_profile.specs.Runs.{in_run, meets_page, address_of, grain_of, length_of}
-use Rattle.pas_machine.specs.State.{Live, live_in, gives_in, ends_in}
+use Rattle.pas_machine.specs.State.{Live, live_in}
 use Rattle.pas_machine.specs.Machine.{Bears}
 use Rattle.pas_steps.specs.Effects.{life_word_at, target}
 use Rattle.pas_steps.specs.Views.{ends_on, EndedOn, EndedOnBoth}
@@ -20,7 +19,7 @@ use Rattle.pas_steps.specs.Agreement.{heap_recorded}
 use Rattle.pas_steps.specs.Lists.{Triple, Whole, part, word_after, visible, IsNext, Legal}
 use Rattle.pas_steps.specs.declared.step.Step.{Step}
 use Rattle.pas_steps.specs.declared.step.Step.TheVariants.{Look, Deed, Back, Take, Put, Give, End, TakeRight, Offer, Park, Unpark, Stamp, Hint, Tick, Unback, Unhint}
-use Rattle.pas_core.specs.Good.{word_of_deed, IsLifeOf}
+use Rattle.pas_core.specs.Good.{word_of_deed}
 use Rattle.pas_core.proofs.DeedWords.{deed_word_ne, deed_kept}
 use Rattle.pas_core.proofs.Deeds.{deed_of, directory_is_of}
 use Rattle.pas_core.proofs.Ends.{IsMet, met, IsFound, end_finds}

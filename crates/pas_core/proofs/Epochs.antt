@@ -21,7 +21,7 @@ use Rattle.pas_steps.specs.declared.step.Step.{Step}
 use Rattle.pas_steps.specs.declared.step.Made.{Made}
 use Rattle.pas_steps.specs.declared.step.Step.TheVariants.{Look, Deed, Back, Take, Put, Give, End, TakeRight, Offer, Park, Unpark, Stamp, Hint, Tick, Unback, Unhint}
 use Rattle.pas_core.proofs.Grains.{give_short}
-use Rattle.pas_core.proofs.Bits.{page_mask_lt}
+use Rattle.pas_bits.proofs.PageVectors.{page_mask_lt}
 use Rattle.pas_core.proofs.DeedWords.{next_value, looked}
 
 -- ---- the epoch
@@ -123,13 +123,6 @@ words_fit f (t ∷ l) valid legal word =
     let old : word_after l word < 2 ^ 64 = words_fit f l valid legal.1 word in
     if_small (same_word (target t.made.step) word) (new_value (epoch_of (part t.actor l)) t.made.step (word_after l word)) (word_after l word) (2 ^ 64)
     (value_small f (epoch_of (part t.actor l)) t.made.step (word_after l word) valid next.of_region (omega (arith, known, epoch)) old) old
-
--- the epoch that a view knows fits 64 bits
-pub epoch_fits : (f : Profile) (l : Whole) → IsValid f → Legal f l → (k : ℕ) → epoch_of (part k l) < 2 ^ 64
-epoch_fits f l valid legal k =
-    let known : epoch_of (part k l) ≤ word_after l Word.Epoch = epoch_known f l legal k in
-    let fits : word_after l Word.Epoch < 2 ^ 64 = words_fit f l valid legal Word.Epoch in
-    omega (arith, known, fits)
 
 -- ---- the epoch and the stamps are below 2 ^ 40
 epoch_below : (f : Profile) (e : ℕ) (s : Step) (old : ℕ) → IsStepOf f s → old < 2 ^ 40 → next_value e s Word.Epoch old < 2 ^ 40

@@ -1,23 +1,18 @@
 -- What callers need of the blocks that were given: names keep their blocks, and there are no more gives than events.
-use Rattle.std.proofs.Common.{◌≡◌, ℕ, ◌+◌, ◌%◌, ◌^◌, ◌≤◌, ◌==◌, Bool, true, false, ◌&&◌, if◌then◌else◌, List, [], ◌∷◌, ◌++◌, length, Option, Some, None, refl, ap, sym, ◌∙◌, arith}
-use Rattle.std.proofs.lemmas.Bool.{eqb-true, eq-eqb, leb-true}
+use Rattle.std.proofs.Common.{◌≡◌, ℕ, ◌+◌, ◌≤◌, ◌==◌, Bool, true, false, ◌&&◌, if◌then◌else◌, List, [], ◌∷◌, ◌++◌, length, Option, Some, None, refl, ap, sym, ◌∙◌, arith}
+use Rattle.std.proofs.lemmas.Bool.{eqb-true, eq-eqb}
 use Rattle.pas_profile.specs.Lives.{live_word, is_live, turn_of}
-use Rattle.pas_profile.specs.Profiles.{IsValid}
 use Rattle.pas_profile.specs.declared.profile.Profile.{Profile}
 use Rattle.pas_profile.specs.declared.name.Block.{Block}
 use Rattle.pas_profile.specs.declared.event.Event.{Event}
-use Rattle.pas_profile.specs.Runs.{address_of, grain_of, length_of}
-use Rattle.pas_machine.specs.State.{Live, live_in, gives_in, ends_in}
+use Rattle.pas_profile.specs.Runs.{address_of}
+use Rattle.pas_machine.specs.State.{Live, live_in, gives_in}
 use Rattle.pas_machine.specs.Machine.{Admits, Run}
-use Rattle.pas_steps.specs.Effects.{life_word_at}
 use Rattle.pas_steps.specs.Views.{View, epoch_of, given_count, given_after}
 use Rattle.pas_steps.specs.Events.{event_of, events_of, with_event, reason_of}
-use Rattle.pas_steps.specs.Lists.{Whole, word_after, visible, Legal}
 use Rattle.pas_steps.specs.declared.step.Step.{Step}
-use Rattle.pas_steps.specs.declared.step.Step.TheVariants.{Look, Deed, Back, Take, Put, Give, End, TakeRight, Offer, Park, Unpark, Stamp, Hint, Tick, Unback, Unhint}
-use Rattle.pas_core.specs.Good.{IsLifeOf}
+use Rattle.pas_steps.specs.declared.step.Step.TheVariants.{Deed, Back, End}
 use Rattle.pas_core.specs.Given.{WasGiven}
-use Rattle.pas_core.proofs.Lives.{life_at}
 
 some_is : {A : Type 0} {x y : A} → Some x ≡ Some y → x ≡ y
 some_is h = cc
@@ -64,22 +59,6 @@ new_block f k block es admits =
           let one : Some (record { actor = k; block = block }) ≡ Some b = sym (ap (λ x. if x then Some (record { actor = k; block = block }) else live_in es (address_of block.name)) here) ∙ is in
           ap (λ y. y.block) (sym (some_is one));
     }
-
--- where a block that was given still lives, its life word has its grains
-true_word : (f : Profile) (g word : ℕ) (live : Option Live) (gives ends : ℕ) (block : Block) → IsLifeOf f g word live gives ends → ((b : Live) → live ≡ Some b → b.block.name.turn ≡ block.name.turn → b.block ≡ block)
-    → is_live word ≡ true → turn_of word ≡ block.name.turn → word ≡ live_word block.name.turn (length_of block)
-true_word f g word None gives ends block life same live turn = let w = life.word_is in let few = life.few in let big : 2 ^ 63 ≤ word = leb-true (2 ^ 63) word live in absurd (omega (arith, w, few, big))
-true_word f g word (Some b) gives ends block life same live turn =
-    let w = life.word_is in let few = life.few in let short = life.short in
-    let ends_are : turn_of word ≡ ends = omega (arith, w, few) in
-    let e : ends ≡ block.name.turn = sym ends_are ∙ turn in
-    life.word_is ∙ ap (λ n. live_word n (length_of b.block)) e ∙ ap (λ x. live_word block.name.turn (length_of x)) (same b refl (life.turn ∙ e))
-
-pub true_length : (f : Profile) (l : Whole) → IsValid f → Legal f l → (block : Block) → address_of block.name % 16 ≡ 0 → WasGiven (visible l) block → is_live (word_after l (life_word_at (grain_of block.name))) ≡ true
-    → turn_of (word_after l (life_word_at (grain_of block.name))) ≡ block.name.turn → word_after l (life_word_at (grain_of block.name)) ≡ live_word block.name.turn (length_of block)
-true_length f l valid legal block aligned given live turn =
-    true_word f (grain_of block.name) (word_after l (life_word_at (grain_of block.name))) (live_in (visible l) (address_of block.name)) (gives_in (visible l) (address_of block.name)) (ends_in (visible l) (address_of block.name)) block
-    (life_at f l valid legal (address_of block.name) aligned) given.same live turn
 
 -- ---- no more gives than events
 one_of_gives : (x : Bool) (n m : ℕ) → n ≤ m → (if x then n + 1 else n) ≤ m + 1

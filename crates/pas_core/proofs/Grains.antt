@@ -18,9 +18,9 @@ use Rattle.pas_steps.specs.Allowed.{Allowed, IsStepOf}
 use Rattle.pas_steps.specs.Lists.{Whole, word_after, part, IsNext, Legal}
 use Rattle.pas_steps.specs.declared.step.Made.{Made}
 use Rattle.pas_steps.specs.declared.step.Step.{Step}
-use Rattle.pas_steps.specs.declared.step.Step.TheVariants.{Look, Deed, Back, Take, Put, Give, End, TakeRight, Offer, Park, Unpark, Stamp, Hint, Tick, Unback, Unhint}
+use Rattle.pas_steps.specs.declared.step.Step.TheVariants.{Look, Take, Put, Give, End}
 use Rattle.pas_core.specs.Good.{Place, IsFree, Held, Covered, is_free, is_held_by, is_covered_by, covers, IsPlacedOnce}
-use Rattle.pas_core.proofs.Bits.{has_bit-clear, has_bit-or}
+use Rattle.pas_bits.proofs.Words.{bit_cleared, bit_of_or}
 
 -- ---- words of grains: one for each grain
 split_same : (c b : ℕ) (x y z : Bool) → (c % 256 == b % 256) ≡ x → (c / 256 == b / 256) ≡ y → (c == b) ≡ z → (x && y) ≡ z
@@ -140,12 +140,12 @@ put_cases false false = refl
 
 take_free : (t : Bool) (old a mask b : ℕ) → (t ≡ true → a ≡ old) → mask < 2 ^ 64 → b < 64
     → has_bit (if t then bit_and old (bit_not w64 mask) else old) b ≡ free_moved (if (t && has_bit mask b) && has_bit a b then Gets else Stays) (has_bit old b)
-take_free true old a mask b same hm hb = has_bit-clear old mask b hm hb ∙ take_cases (has_bit old b) (has_bit mask b)
+take_free true old a mask b same hm hb = bit_cleared old mask b hm hb ∙ take_cases (has_bit old b) (has_bit mask b)
     ∙ ap (λ n. free_moved (if has_bit mask b && has_bit n b then Gets else Stays) (has_bit old b)) (sym (same refl))
 take_free false old a mask b same hm hb = refl
 
 put_free : (t : Bool) (old mask b : ℕ) → has_bit (if t then bit_or old mask else old) b ≡ free_moved (if t && has_bit mask b then Puts else Stays) (has_bit old b)
-put_free true old mask b = has_bit-or old mask b ∙ put_cases (has_bit old b) (has_bit mask b)
+put_free true old mask b = bit_of_or old mask b ∙ put_cases (has_bit old b) (has_bit mask b)
 put_free false old mask b = refl
 
 rests_free : (t was : Bool) (m : Move) → free_moved m was ≡ was → was ≡ free_moved (if t then m else Stays) was

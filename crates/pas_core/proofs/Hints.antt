@@ -1,5 +1,5 @@
 -- A backed page whose grains are all free isn't forgotten: its empty bit is set, or some actor owes its hint, or some actor examines it.
-use Rattle.std.proofs.Common.{◌≡◌, ℕ, ◌+◌, ◌-◌, ◌*◌, ◌/◌, ◌%◌, ◌^◌, ◌<◌, ◌==◌, Bool, true, false, not, ◌&&◌, ◌||◌, if◌then◌else◌, List, [], ◌∷◌, ◌++◌, refl, ap, sym, ◌∙◌, subst, arith, bit_and, bit_or, inl, inr}
+use Rattle.std.proofs.Common.{◌≡◌, ℕ, ◌+◌, ◌-◌, ◌*◌, ◌/◌, ◌%◌, ◌^◌, ◌<◌, ◌==◌, Bool, true, false, not, ◌&&◌, ◌||◌, if◌then◌else◌, List, [], ◌∷◌, ◌++◌, refl, ap, sym, ◌∙◌, arith, bit_and, bit_or, inl, inr}
 use Rattle.std.specs.Int.{bit_at, bit_not, w64}
 use Rattle.std.proofs.lemmas.Bool.{false≢true, eqb-true, eqb-false, eq-eqb, and_parts, cases_Bool, false_from_ne_true}
 use Rattle.std.proofs.lemmas.Nat.{and_le_r}
@@ -9,11 +9,10 @@ use Rattle.pas_profile.specs.Layouts.{same_word}
 use Rattle.pas_profile.specs.Profiles.{IsValid}
 use Rattle.pas_profile.specs.declared.profile.Profile.{Profile}
 use Rattle.pas_profile.specs.declared.word.Word.{Word}
-use Rattle.pas_profile.specs.declared.word.Word.TheVariants as Word
 use Rattle.pas_steps.specs.Effects.{free_word_at, target}
-use Rattle.pas_steps.specs.Views.{View, holds, all_ones, hint_after, owes_hint, examined_after, examines, epoch_of}
+use Rattle.pas_steps.specs.Views.{View, all_ones, hint_after, owes_hint, examined_after, examines, epoch_of}
 use Rattle.pas_steps.specs.Allowed.{Allowed, IsStepOf, HoldsOn}
-use Rattle.pas_steps.specs.Lists.{Triple, Whole, part, word_after, IsNext, Legal}
+use Rattle.pas_steps.specs.Lists.{Whole, part, word_after, IsNext, Legal}
 use Rattle.pas_steps.specs.Past.{Always}
 use Rattle.pas_steps.specs.Desks.{made, triple}
 use Rattle.pas_steps.specs.declared.step.Made.{Made}
@@ -21,8 +20,9 @@ use Rattle.pas_steps.specs.declared.step.Step.{Step}
 use Rattle.pas_steps.specs.declared.step.Step.TheVariants.{Look, Deed, Back, Take, Put, Give, End, TakeRight, Offer, Park, Unpark, Stamp, Hint, Tick, Unback, Unhint}
 use Rattle.pas_core.specs.Good.{Held, is_free, IsPlacedOnce}
 use Rattle.pas_core.specs.Rights.{empty_bit}
-use Rattle.pas_core.specs.Hints.{IsEmptyBacked, IsHintOwed, IsExamined, IsMinded}
-use Rattle.pas_core.proofs.Bits.{has_bit-clear, page_bit-clear, page_bit-set}
+use Rattle.pas_core.specs.Hints.{IsEmptyBacked, IsMinded}
+use Rattle.pas_bits.proofs.Words.{bit_cleared}
+use Rattle.pas_bits.proofs.PageVectors.{page_bit-clear, page_bit-set}
 use Rattle.pas_core.proofs.DeedWords.{next_value, looked}
 use Rattle.pas_core.proofs.Grains.{is_held_by-true, placed_once}
 use Rattle.pas_core.proofs.Epochs.{words_fit}
@@ -73,7 +73,7 @@ puts (Unback q) p = false
 puts (Unhint q) p = false
 
 clear_was : (t : Bool) (old mask b : ℕ) → mask < 2 ^ 64 → b < 64 → has_bit (if t then bit_and old (bit_not w64 mask) else old) b ≡ true → has_bit old b ≡ true
-clear_was true old mask b hm hb h = (and_parts (has_bit old b) (not (has_bit mask b)) (sym (has_bit-clear old mask b hm hb) ∙ h)).0
+clear_was true old mask b hm hb h = (and_parts (has_bit old b) (not (has_bit mask b)) (sym (bit_cleared old mask b hm hb) ∙ h)).0
 clear_was false old mask b hm hb h = h
 
 back_was : (x : Bool) (old : ℕ) → (x ≡ true → ⊥) → (if x then bit_or old 1 else old) ≡ 1 → old ≡ 1
@@ -163,7 +163,7 @@ take_mask_none : (l : Whole) (j e q w mask a p : ℕ) → w < 4 → mask < 2 ^ 6
 take_mask_none l j e q w mask a p hw hm here free = none_set mask hm (λ b hb.
     let both : ((w == w) && (q == p)) ≡ true = ap (λ t. t && (q == p)) (eq-eqb w w refl) ∙ here in
     let cleared : (has_bit (word_after l (Word.Free p w)) b && not (has_bit mask b)) ≡ true
-    = sym (has_bit-clear (word_after l (Word.Free p w)) mask b hm hb) ∙ ap (λ t. has_bit (if t then bit_and (word_after l (Word.Free p w)) (bit_not w64 mask) else word_after l (Word.Free p w)) b) (sym both) ∙ free b hb in
+    = sym (bit_cleared (word_after l (Word.Free p w)) mask b hm hb) ∙ ap (λ t. has_bit (if t then bit_and (word_after l (Word.Free p w)) (bit_not w64 mask) else word_after l (Word.Free p w)) b) (sym both) ∙ free b hb in
     not_false (has_bit mask b) (and_parts (has_bit (word_after l (Word.Free p w)) b) (not (has_bit mask b)) cleared).1)
 
 and_zero : (a : ℕ) → bit_and a 0 ≡ 0

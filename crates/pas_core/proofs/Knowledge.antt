@@ -1,5 +1,5 @@
 -- What views know of deeds and of backed pages is true.
-use Rattle.std.proofs.Common.{◌≡◌, ℕ, ◌+◌, ◌*◌, ◌/◌, ◌<◌, ◌≤◌, ◌==◌, Bool, true, false, if◌then◌else◌, [], ◌∷◌, refl, ap, sym, ◌∙◌, arith, bit_or, inl, inr}
+use Rattle.std.proofs.Common.{◌≡◌, ℕ, ◌+◌, ◌*◌, ◌/◌, ◌≤◌, ◌==◌, Bool, true, false, if◌then◌else◌, [], ◌∷◌, refl, ap, sym, ◌∙◌, arith, bit_or, inl, inr}
 use Rattle.std.proofs.lemmas.Bool.{false≢true, eqb-true, and_parts, cases_eq, false_from_ne_true}
 use Rattle.pas_profile.specs.Layouts.{same_word}
 use Rattle.pas_profile.specs.Profiles.{IsValid}
@@ -13,7 +13,7 @@ use Rattle.pas_steps.specs.Views.{View, holds, holds_on, known_deed, backed_afte
 use Rattle.pas_steps.specs.Lists.{Triple, Whole, part, word_after, IsNext, Legal}
 use Rattle.pas_steps.specs.declared.step.Step.{Step}
 use Rattle.pas_steps.specs.declared.step.Made.{Made}
-use Rattle.pas_steps.specs.declared.step.Step.TheVariants.{Look, Deed, Back, Take, Put, Give, End, TakeRight, Offer, Park, Unpark, Stamp, Hint, Tick, Unback, Unhint}
+use Rattle.pas_steps.specs.declared.step.Step.TheVariants.{Look, Back, Unback}
 use Rattle.pas_core.proofs.Grains.{one_holder}
 use Rattle.pas_core.proofs.DeedWords.{next_value, looked, IsKnown}
 use Rattle.pas_core.proofs.Spots.{IsSpotted, spotted}

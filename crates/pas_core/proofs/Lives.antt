@@ -19,7 +19,7 @@ use Rattle.pas_steps.specs.Allowed.{Allowed, IsStepOf, IsBlockOf}
 use Rattle.pas_steps.specs.Lists.{Whole, word_after, part, visible, IsNext, Legal}
 use Rattle.pas_steps.specs.declared.step.Made.{Made}
 use Rattle.pas_steps.specs.declared.step.Step.{Step}
-use Rattle.pas_steps.specs.declared.step.Step.TheVariants.{Look, Deed, Back, Take, Put, Give, End, TakeRight, Offer, Park, Unpark, Stamp, Hint, Tick, Unback, Unhint}
+use Rattle.pas_steps.specs.declared.step.Step.TheVariants.{Look, Deed, Back, Give, End}
 use Rattle.pas_core.specs.Good.{Place, IsFree, Held, Covered, is_held_by, is_covered_by, covers, IsPlacedOnce, IsLifeOf, IsLifeOfNone, IsLifeOfLive, IsBare}
 use Rattle.pas_core.proofs.Grains.{life_same, give_short, Fits, is_held_by-true, covers_live, own_grain, some_grain, step_fits, placed_once}
 use Rattle.pas_core.proofs.Deeds.{same}
@@ -128,10 +128,6 @@ block_of_word f g word (Some b) gives ends t n h small is = let w = h.word_is in
 pub turn_is : (f : Profile) (g word : ℕ) (live : Option Live) (gives ends : ℕ) → IsLifeOf f g word live gives ends → turn_of word ≡ ends
 turn_is f g word None gives ends h = let few = h.few in ap turn_of h.word_is ∙ omega (arith, few)
 turn_is f g word (Some b) gives ends h = let few = h.few in ap turn_of h.word_is ∙ omega (arith, few)
-
-pub few_ends : (f : Profile) (g word : ℕ) (live : Option Live) (gives ends : ℕ) → IsLifeOf f g word live gives ends → ends < 2 ^ 40
-few_ends f g word None gives ends h = h.few
-few_ends f g word (Some b) gives ends h = h.few
 
 pub live_is_live : (f : Profile) (g word : ℕ) (b : Live) (gives ends : ℕ) → IsLifeOfLive f g word b gives ends → is_live word ≡ true
 live_is_live f g word b gives ends h = let w = h.word_is in let big : 2 ^ 63 ≤ word = omega (arith, w) in le-leb (2 ^ 63) word big

@@ -1,10 +1,10 @@
 -- Nothing is lost: a page with a free usable grain, whose right no actor has and whose check no actor owes, is offered, and once all actors are clear
 -- an empty page that is backed is hinted. And actors are those of the profile.
-use Rattle.std.proofs.Common.{◌≡◌, ◌≢◌, ◌⊎◌, ℕ, ◌≤◌, ◌<◌, ◌==◌, Bool, true, false, if◌then◌else◌, List, [], ◌∷◌, ◌++◌, refl, ap, sym, ◌∙◌, subst, arith, inl, inr}
+use Rattle.std.proofs.Common.{◌≡◌, ◌≢◌, ◌⊎◌, ℕ, ◌<◌, true, false, if◌then◌else◌, List, [], ◌∷◌, ◌++◌, refl, ap, sym, ◌∙◌, subst, arith, inl, inr}
 use Rattle.std.proofs.lemmas.Bool.{false≢true, eq-eqb, ne_eqb, cases_lt, cases_eq}
 use Rattle.pas_profile.specs.declared.profile.Profile.{Profile}
 use Rattle.pas_profile.specs.declared.word.Word.TheVariants as Word
-use Rattle.pas_steps.specs.Views.{View, has_right, owes_check}
+use Rattle.pas_steps.specs.Views.{has_right, owes_check}
 use Rattle.pas_steps.specs.Clear.{IsClear}
 use Rattle.pas_steps.specs.Lists.{Whole, part, word_after, Legal}
 use Rattle.pas_steps.specs.Desks.{triples}
@@ -35,10 +35,6 @@ no_other_actor f [] legal k past = refl
 no_other_actor f (t ∷ l) legal k past =
     let within = legal.0.actor in
     ap (λ x. if x then t.made ∷ part k l else part k l) (ne_eqb t.actor k (λ e. omega (arith, e, within, past))) ∙ no_other_actor f l legal.1 k past
-
--- who owes a check is an actor of the profile
-pub debtor : (f : Profile) (l : Whole) → Legal f l → (k p w : ℕ) → owes_check (part k l) p w ≡ true → f.threads < k → ⊥
-debtor f l legal k p w owes past = false≢true (ap (λ v. owes_check v p w) (sym (no_other_actor f l legal k past)) ∙ owes)
 
 -- ---- all at rest
 clear_owes : (f : Profile) (l : Whole) → Legal f l → AllClear f l → (p w : ℕ) → w < 4 → NobodyOwes l p w

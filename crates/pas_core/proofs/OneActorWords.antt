@@ -14,7 +14,7 @@ use Rattle.pas_steps.specs.declared.step.Made.{Made}
 use Rattle.pas_steps.specs.declared.step.Step.{Step}
 use Rattle.pas_steps.specs.declared.step.Step.TheVariants.{Look, Deed, Take, Put, TakeRight, Offer}
 use Rattle.pas_steps.proofs.Apart.{in_apart}
-use Rattle.pas_core.proofs.Bits.{has_bit-or}
+use Rattle.pas_bits.proofs.Words.{bit_of_or}
 use Rattle.pas_core.proofs.DeedWords.{looked}
 
 -- what no step of these kinds ends holds of a word after them
@@ -28,7 +28,7 @@ first_or : (x y : Bool) → x ≡ true → (x || y) ≡ true
 first_or x y h = ap (λ t. t || y) h
 
 or_keeps : (t : Bool) (n m b : ℕ) → has_bit n b ≡ true → has_bit (if t then bit_or n m else n) b ≡ true
-or_keeps true n m b h = has_bit-or n m b ∙ first_or (has_bit n b) (has_bit m b) h
+or_keeps true n m b h = bit_of_or n m b ∙ first_or (has_bit n b) (has_bit m b) h
 or_keeps false n m b h = h
 
 free_step : (e : ℕ) (s : Step) (p w old b : ℕ) → is_in (Taking ∷ []) (kind_of s) ≡ false → has_bit old b ≡ true → has_bit (if same_word (target s) (Word.Free p w) then new_value e s old else old) b ≡ true

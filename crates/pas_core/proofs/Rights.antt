@@ -19,7 +19,8 @@ use Rattle.pas_steps.specs.declared.step.Step.{Step}
 use Rattle.pas_steps.specs.declared.step.Made.{Made}
 use Rattle.pas_steps.specs.declared.step.Step.TheVariants.{Look, Deed, Back, Take, Put, Give, End, TakeRight, Offer, Park, Unpark, Stamp, Hint, Tick, Unback, Unhint}
 use Rattle.pas_core.specs.Rights.{parked_bit, empty_bit, eligible_bit, IsRightInOnePlace}
-use Rattle.pas_core.proofs.Bits.{has_bit-clear, has_bit-or, no_bit, page_bit-clear, page_bit-set}
+use Rattle.pas_bits.proofs.Words.{bit_cleared, bit_of_or, none_of_zero}
+use Rattle.pas_bits.proofs.PageVectors.{page_bit-clear, page_bit-set}
 use Rattle.pas_core.proofs.DeedWords.{next_value, looked, known_is, deed_words, deed_has_page, number_told, numbered_ne}
 use Rattle.pas_core.proofs.Spots.{Spot, Nowhere, With, Offered, InParked, is_with, is_offered, is_parked, is_with-true, is_offered-true, is_parked-true, no_deed, spot_after, spot_of, Suits, DeedFits, IsSpotted, step_suits, spotted}
 
@@ -101,10 +102,6 @@ own_eligible f l legal p d of deed =
     let at : IsSpotted l p = spotted f l legal p in
     at.eligible (number_of d) ∙ own_offer (spot_of l p) d of.kind (subst (DeedFits (spot_of l p)) deed at.deed)
 
--- in the vector of another number it is clear
-pub other_eligible : (f : Profile) (l : Whole) → Legal f l → (p n : ℕ) → word_after l (Word.Deed p) ≢ deed_word_numbered n → eligible_bit l n p ≡ false
-other_eligible f l legal p n other = false_from_ne_true (eligible_bit l n p) (λ h. other (offered_has_deed f l legal n p h))
-
 -- a set bit of an eligible word tells the deed that an actor knows, if it knows one
 pub offered_is_known : (f : Profile) (l : Whole) → Legal f l → (k n p : ℕ) → eligible_bit l n p ≡ true → known_deed (part k l) p ≢ 0 → known_deed (part k l) p ≡ deed_word_numbered n
 offered_is_known f l legal k n p h ne =
@@ -133,7 +130,7 @@ hint_next f e (Unhint q) p old of h set = h (unhint_was (q == p) (has_bit old (p
 hint_next f e s p old of h set = h set
 
 pub hinted_page : (f : Profile) (l : Whole) → Legal f l → (p : ℕ) → empty_bit l p ≡ true → IsPage f p
-hinted_page f [] legal p h = absurd (false≢true (sym (no_bit (p % 64)) ∙ h))
+hinted_page f [] legal p h = absurd (false≢true (sym (none_of_zero (p % 64)) ∙ h))
 hinted_page f (t ∷ l) legal p h =
     let next : IsNext f l t = legal.0 in
     hint_next f (epoch_of (part t.actor l)) t.made.step p (word_after l (Word.Empty (p / 64))) next.of_region (hinted_page f l legal.1 p) h
@@ -182,12 +179,12 @@ leaves (Unback q) p = false
 leaves (Unhint q) p = false
 
 take_keeps : (x y : Bool) (old mask b : ℕ) → mask < 2 ^ 64 → b < 64 → (x && y && has_bit mask b) ≡ false → has_bit old b ≡ true → has_bit (if x && y then bit_and old (bit_not w64 mask) else old) b ≡ true
-take_keeps true true old mask b hm hb misses h = has_bit-clear old mask b hm hb ∙ ap (λ t. has_bit old b && not t) misses ∙ ap (λ t. t && true) h
+take_keeps true true old mask b hm hb misses h = bit_cleared old mask b hm hb ∙ ap (λ t. has_bit old b && not t) misses ∙ ap (λ t. t && true) h
 take_keeps true false old mask b hm hb misses h = h
 take_keeps false y old mask b hm hb misses h = h
 
 put_keeps : (x : Bool) (old mask b : ℕ) → has_bit old b ≡ true → has_bit (if x then bit_or old mask else old) b ≡ true
-put_keeps true old mask b h = has_bit-or old mask b ∙ or_left (has_bit old b) (has_bit mask b) h
+put_keeps true old mask b h = bit_of_or old mask b ∙ or_left (has_bit old b) (has_bit mask b) h
 put_keeps false old mask b h = h
 
 look_keeps : (x : Bool) (old b : ℕ) → has_bit old b ≡ true → has_bit (if x then old else old) b ≡ true

@@ -14,9 +14,10 @@ use Rattle.pas_steps.specs.Allowed.{Allowed, IsStepOf}
 use Rattle.pas_steps.specs.Lists.{Whole, part, word_after, IsNext, Legal}
 use Rattle.pas_steps.specs.declared.step.Step.{Step}
 use Rattle.pas_steps.specs.declared.step.Made.{Made}
-use Rattle.pas_steps.specs.declared.step.Step.TheVariants.{Look, Deed, Back, Take, Put, Give, End, TakeRight, Offer, Park, Unpark, Stamp, Hint, Tick, Unback, Unhint}
+use Rattle.pas_steps.specs.declared.step.Step.TheVariants.{Look, Deed, TakeRight, Offer, Park, Unpark}
 use Rattle.pas_core.specs.Rights.{parked_bit, eligible_bit}
-use Rattle.pas_core.proofs.Bits.{no_bit, page_bit-clear, page_bit-set}
+use Rattle.pas_bits.proofs.Words.{none_of_zero}
+use Rattle.pas_bits.proofs.PageVectors.{page_bit-clear, page_bit-set}
 use Rattle.pas_core.proofs.DeedWords.{next_value, looked, IsKnown, known_is, word_stays, deed_tells, look_tells, deed_at, deed_word_ne, numbered, numbered_ne}
 
 -- ---- where the right of a page is
@@ -326,7 +327,7 @@ has_part false m v p = refl
 
 -- the right of each page is at one spot
 pub spotted : (f : Profile) (l : Whole) → Legal f l → (p : ℕ) → IsSpotted l p
-spotted f [] legal p = record { has = λ k. refl; eligible = λ n. no_bit (p % 64); parked = no_bit (p % 64); deed = refl; known = λ k. inl refl }
+spotted f [] legal p = record { has = λ k. refl; eligible = λ n. none_of_zero (p % 64); parked = none_of_zero (p % 64); deed = refl; known = λ k. inl refl }
 spotted f (t ∷ l) legal p =
     let at : IsSpotted l p = spotted f l legal.1 p in
     let s = t.made.step in

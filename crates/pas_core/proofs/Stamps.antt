@@ -1,6 +1,6 @@
 -- The stamps: what is known of them is true, and the epoch of each end on a page is at most the page's stamp, or the page is unstamped for the
 -- actor that made the end.
-use Rattle.std.proofs.Common.{◌≡◌, ℕ, ◌+◌, ◌*◌, ◌/◌, ◌%◌, ◌<◌, ◌≤◌, ◌==◌, ◌⊎◌, Bool, true, false, ◌&&◌, if◌then◌else◌, max, List, [], ◌∷◌, Option, Some, None, refl, ap, sym, ◌∙◌, subst, arith, inl, inr}
+use Rattle.std.proofs.Common.{◌≡◌, ℕ, ◌+◌, ◌*◌, ◌/◌, ◌%◌, ◌≤◌, ◌==◌, ◌⊎◌, Bool, true, false, ◌&&◌, if◌then◌else◌, max, List, [], ◌∷◌, Option, Some, None, refl, ap, sym, ◌∙◌, subst, arith, inl, inr}
 use Rattle.std.proofs.lemmas.Bool.{false≢true, eqb-true, eq-eqb, and_parts, and_from, false_from_ne_true}
 use Rattle.pas_profile.specs.Classes.{has_bit}
 use Rattle.pas_profile.specs.Layouts.{same_word}
@@ -10,13 +10,11 @@ use Rattle.pas_profile.specs.declared.profile.Profile.{Profile}
 use Rattle.pas_profile.specs.declared.name.Name.{Name}
 use Rattle.pas_profile.specs.declared.name.Block.{Block}
 use Rattle.pas_profile.specs.declared.event.Event.{Event}
-use Rattle.pas_profile.specs.declared.event.Event.TheVariants as Event
 use Rattle.pas_profile.specs.declared.word.Word.{Word}
-use Rattle.pas_profile.specs.declared.word.Word.TheVariants as Word
 use Rattle.pas_profile.specs.Runs.{in_run, meets_page, address_of, grain_of, length_of}
-use Rattle.pas_machine.specs.State.{Live, live_in, touches, epoch_in}
+use Rattle.pas_machine.specs.State.{live_in, touches, epoch_in}
 use Rattle.pas_steps.specs.Effects.{in_mask, life_word_at, target}
-use Rattle.pas_steps.specs.Views.{View, Move, Stays, Gets, Puts, Gives, Ends, grain_move, held_after, holds, all_below, holds_all, or_zero, known_epoch, epoch_after, epoch_of, stamp_after, known_stamp, unstamped_after, is_unstamped, ends_on}
+use Rattle.pas_steps.specs.Views.{View, Move, Stays, Gets, Puts, Gives, Ends, held_after, holds, holds_all, or_zero, known_epoch, epoch_after, epoch_of, stamp_after, known_stamp, unstamped_after, is_unstamped, ends_on}
 use Rattle.pas_steps.specs.Events.{event_of, with_event, reason_of}
 use Rattle.pas_steps.specs.Allowed.{Allowed, IsStepOf, HoldsOn, MayPutNow, MayGiveNow}
 use Rattle.pas_steps.specs.Lists.{Triple, Whole, part, word_after, visible, IsNext, Legal}

@@ -16,7 +16,7 @@ use Rattle.pas_steps.specs.Views.{epoch_of, reads_life, IsLiveRead, ReadLive, re
 use Rattle.pas_steps.specs.Events.{event_of, with_event}
 use Rattle.pas_steps.specs.Lists.{Whole, part, word_after, visible, IsNext, Legal}
 use Rattle.pas_steps.specs.declared.step.Step.{Step}
-use Rattle.pas_steps.specs.declared.step.Step.TheVariants.{Look, Deed, Back, Take, Put, Give, End, TakeRight, Offer, Park, Unpark, Stamp, Hint, Tick, Unback, Unhint}
+use Rattle.pas_steps.specs.declared.step.Step.TheVariants.{Look, Back, Give, End, Unback}
 use Rattle.pas_core.specs.Good.{word_of_deed, word_of_backed, IsLifeOf}
 use Rattle.pas_core.specs.Given.{WasGiven}
 use Rattle.pas_core.proofs.DeedWords.{deed_word_ne, deed_kept}

@@ -1,8 +1,6 @@
 -- The ends of blocks on a page, and its stamp.
 use Rattle.std.specs.Prelude.{ℕ, ◌≤◌, ◌≡◌, ◌⊎◌, true, false, List, [], ◌∷◌, ◌++◌}
 use Rattle.pas_profile.specs.declared.event.Event.{Event}
-use Rattle.pas_profile.specs.declared.event.Event.TheVariants as Event
-use Rattle.pas_profile.specs.declared.word.Word.TheVariants as Word
 use Rattle.pas_profile.specs.Runs.{address_of}
 use Rattle.pas_machine.specs.State.{live_in, touches}
 use Rattle.pas_profile.specs.declared.word.Word.{Word}

@@ -1,6 +1,5 @@
 -- How the steps of a call are put together.
-use Rattle.std.proofs.Common.{◌≡◌, ℕ, ◌+◌, ◌≤◌, List, [], ◌∷◌, ◌++◌, length, refl, ap, sym, ◌∙◌, subst, arith, append_assoc, if◌then◌else◌}
-use Rattle.std.proofs.lemmas.Bool.{eq-eqb}
+use Rattle.std.proofs.Common.{◌≡◌, ℕ, ◌+◌, ◌≤◌, List, [], ◌∷◌, ◌++◌, length, refl, ap, sym, ◌∙◌, subst, arith, append_assoc}
 use Rattle.pas_profile.specs.declared.profile.Profile.{Profile}
 use Rattle.pas_steps.specs.declared.step.Made.{Made}
 use Rattle.pas_steps.specs.declared.step.Step.{Step}
@@ -8,17 +7,13 @@ use Rattle.pas_steps.specs.Views.{View}
 use Rattle.pas_steps.specs.Events.{events_of}
 use Rattle.pas_steps.specs.Allowed.{Allowed, IsStepOf}
 use Rattle.pas_steps.specs.Agreement.{Agrees, Agreed}
-use Rattle.pas_steps.specs.Lists.{Whole, part, Legal}
+use Rattle.pas_steps.specs.Lists.{Whole, Legal}
 use Rattle.pas_steps.specs.Desks.{Standing, made, triple, triples, CanMake, Makes, CanCall, Adds}
 
 -- ---- steps of one actor, put onto a whole list
 pub triples_append : (k : ℕ) (ys xs : List Made) (l : Whole) → triples k ys ++ (triples k xs ++ l) ≡ triples k (ys ++ xs) ++ l
 triples_append k [] xs l = refl
 triples_append k (y ∷ ys) xs l = ap (λ w. triple k y ∷ w) (triples_append k ys xs l)
-
-pub part_append : (k : ℕ) (xs : List Made) (l : Whole) → part k (triples k xs ++ l) ≡ xs ++ part k l
-part_append k [] l = refl
-part_append k (m ∷ xs) l = ap (λ t. if t then m ∷ part k (triples k xs ++ l) else part k (triples k xs ++ l)) (eq-eqb k k refl) ∙ ap (λ w. m ∷ w) (part_append k xs l)
 
 -- ---- answers that agree, of two calls
 pub agreed_append : (f : Profile) (v : View) (ys xs : List Made) → Agreed f (xs ++ v) ys → Agreed f v xs → Agreed f v (ys ++ xs)

@@ -12,7 +12,7 @@ use Rattle.pas_steps.specs.Calls.{Leads, AnyView, Fate, Kept, Gained, Lost, now,
 use Rattle.pas_steps.specs.Clear.{IsClearOn, IsClear}
 use Rattle.pas_steps.specs.Desks.{Seat, Standing, made, CanCall, Adds}
 use Rattle.pas_steps.specs.Effects.{in_mask}
-use Rattle.pas_steps.specs.Views.{View, Move, Stays, Puts, Ends, grain_move, held_after, holds, Way, ByDeed, way, had_after, right_after, has_right, known_deed, unstamped_after, is_unstamped, no_usable, check_after, owes_check, all_ones, hint_after, owes_hint, examined_after, examines, knows_backed}
+use Rattle.pas_steps.specs.Views.{View, Move, Stays, Puts, Ends, grain_move, held_after, holds, Way, ByDeed, way, had_after, right_after, has_right, known_deed, unstamped_after, is_unstamped, no_usable, check_after, owes_check, all_ones, hint_after, owes_hint, examined_after, examines}
 use Rattle.pas_steps.specs.declared.step.Made.{Made}
 use Rattle.pas_steps.specs.declared.step.Step.{Step}
 use Rattle.pas_steps.specs.declared.step.Step.TheVariants.{Look, Deed, Take, Put, Give, End, TakeRight, Offer, Park, Unpark, Stamp, Hint, Unback, Unhint}
@@ -22,7 +22,7 @@ use Rattle.pas_steps.proofs.Kept.{right_on, check_on, hint_on, examined_on, unst
 use Rattle.pas_steps.proofs.Past.{always_map}
 use Rattle.pas_steps.specs.Frames.{IsReturn, OnlyOn, OnlyReturns, unbacks}
 use Rattle.pas_steps.specs.Kinds.{Kinds, kind_of, look_kind, place_of, is_in, apart, Only, Unhinting, moving, unbacking, changing, returning}
-use Rattle.pas_steps.proofs.Backed.{any_one, backed_with, backed_holds}
+use Rattle.pas_steps.proofs.Backed.{backed_with}
 
 -- ---- two calls: the one place where their lists are put together
 pub leads_none : {f : Profile} {B : View → Type 0} {R : View → View → Type 0} → ((v : View) → B v → R v v) → Leads f B R []
@@ -113,17 +113,6 @@ does_after_nothing {v} {w} {u} e a b = does_as e (does_then a b) (λ x. inl (kep
 -- ---- what follows where nothing is lost
 pub still_clear : {v w : View} → Does nothing v w → IsClear v → IsClear w
 still_clear does clear = record { on = λ page. does.clear page (clear.on page) }
-
--- a page that is known as backed is so for a grain that is held there
-pub bears_some : (v : View) (page : ℕ) → knows_backed v page ≡ true → (x : ℕ) × (x / 256 ≡ page) × Bears v x
-bears_some v page h =
-    let one = any_one 256 (λ b. holds v (page * 256 + b)) (backed_holds v page h) in
-    let lt = one.1 in
-    let at : (page * 256 + one.0) / 256 ≡ page = omega (arith, lt) in
-    (page * 256 + one.0, at, record { held = one.2; backed = subst (λ q. knows_backed v q ≡ true) (sym at) h })
-
-pub still_backed_all : {v w : View} (page : ℕ) → Does nothing v w → knows_backed v page ≡ true → knows_backed w page ≡ true
-still_backed_all {v} {w} page does h = let some = bears_some v page h in subst (λ q. knows_backed w q ≡ true) some.1 (does.backed some.0 refl some.2).backed
 
 -- ---- one step
 pub fate_is : (m : Move) (had : Bool) → held_after m had ≡ now (grain_fate m) had
@@ -329,9 +318,6 @@ end_succeeds f name guess a live = record { from = λ v met agreed. record { doe
 -- ---- two calls that leave all as it was
 pub nothing_then : {f : Profile} {ys xs : List Made} → Leads f AnyView (Does nothing) xs → Leads f AnyView (Does nothing) ys → Leads f AnyView (Does nothing) (ys ++ xs)
 nothing_then a b = leads_then (Does nothing) a b (λ v w met d. tt) (λ v w u d e. does_then d e)
-
-pub nothing_none : {f : Profile} → Leads f AnyView (Does nothing) []
-nothing_none = leads_none (λ v met. does_none v)
 
 -- ---- a put
 put_fate : (t : Bool) → grain_fate (if t then Puts else Stays) ≡ (if t then Lost else Kept)

@@ -3,38 +3,14 @@ use Rattle.std.proofs.Common.{◌≡◌, ℕ, ◌≤◌, Bool, true, false, ◌&
 use Rattle.std.proofs.lemmas.Bool.{eqb-true}
 use Rattle.pas_profile.specs.Classes.{has_bit}
 use Rattle.pas_profile.specs.declared.event.Event.{Event}
-use Rattle.pas_profile.specs.declared.word.Word.{Word}
-use Rattle.pas_profile.specs.Layouts.{same_word}
 use Rattle.pas_steps.specs.declared.step.Made.{Made}
 use Rattle.pas_steps.specs.declared.step.Step.{Step}
-use Rattle.pas_steps.specs.declared.step.Step.TheVariants.{Look, Deed, Back, Take, Put, Give, End, TakeRight, Offer, Park, Unpark, Stamp, Hint, Tick, Unback, Unhint}
-use Rattle.pas_steps.specs.Effects.{target, new_value}
+use Rattle.pas_steps.specs.declared.step.Step.TheVariants.{Deed, Back, Give, End, TakeRight, Offer, Park, Unpark, Unback}
 use Rattle.pas_profile.specs.Directories.{number_of}
 use Rattle.pas_steps.specs.Views.{View, Way, way, Rests, ByDeed, FromOffer, FromParked, ToOffer, ToParked, had_after, right_after, has_right, epoch_of, given_after, given_count}
 use Rattle.pas_steps.specs.Events.{event_of, with_event, events_of, events_by}
-use Rattle.pas_steps.specs.Lists.{Whole, part, word_after, visible}
-use Rattle.pas_steps.specs.Desks.{triples}
 use Rattle.pas_steps.specs.Past.{Always}
-use Rattle.pas_steps.specs.Frames.{IsLook, AreLooks, GivesUp, KeepsRight}
-use Rattle.pas_steps.proofs.Adding.{part_append}
-
--- ---- looks
-pub looks_append : (ys xs : List Made) → AreLooks ys → AreLooks xs → AreLooks (ys ++ xs)
-looks_append [] xs a b = b
-looks_append (y ∷ ys) xs a b = (a.0, looks_append ys xs a.1 b)
-
-same : {A : Type 0} (t : Bool) (x : A) → (if t then x else x) ≡ x
-same true x = refl
-same false x = refl
-
-look_word : (e : ℕ) (s : Step) (w : Word) (old : ℕ) → IsLook s → (if same_word (target s) w then new_value e s old else old) ≡ old
-look_word e (Look x) w old is = same (same_word x w) old
-look_word e s w old is = absurd is
-
--- looks leave every word
-pub looks_words : (k : ℕ) (xs : List Made) (l : Whole) (w : Word) → AreLooks xs → word_after (triples k xs ++ l) w ≡ word_after l w
-looks_words k [] l w are = refl
-looks_words k (m ∷ xs) l w are = look_word (epoch_of (part k (triples k xs ++ l))) m.step w (word_after (triples k xs ++ l) w) are.0 ∙ looks_words k xs l w are.1
+use Rattle.pas_steps.specs.Frames.{GivesUp, KeepsRight}
 
 -- ---- events
 pub with_append : (o : Option Event) (xs ys : List Event) → with_event o (xs ++ ys) ≡ with_event o xs ++ ys
@@ -52,13 +28,6 @@ events_append k (y ∷ ys) xs v =
 pub events_split : (k : ℕ) (xs : List Made) (v : View) → events_of k (xs ++ v) ≡ events_by k v xs ++ events_of k v
 events_split k [] v = refl
 events_split k (m ∷ xs) v = ap (with_event (event_of k (epoch_of (xs ++ v)) m.step m.answer)) (events_split k xs v) ∙ with_append (event_of k (epoch_of (xs ++ v)) m.step m.answer) (events_by k v xs) (events_of k v)
-
-pub visible_split : (k : ℕ) (xs : List Made) (l : Whole) → visible (triples k xs ++ l) ≡ events_by k (part k l) xs ++ visible l
-visible_split k [] l = refl
-visible_split k (m ∷ xs) l =
-    ap (λ v. with_event (event_of k (epoch_of v) m.step m.answer) (visible (triples k xs ++ l))) (part_append k xs l)
-    ∙ ap (with_event (event_of k (epoch_of (xs ++ part k l)) m.step m.answer)) (visible_split k xs l)
-    ∙ with_append (event_of k (epoch_of (xs ++ part k l)) m.step m.answer) (events_by k (part k l) xs) (visible l)
 
 with_le : (o : Option Event) (es : List Event) (n : ℕ) → n ≤ length es → n ≤ length (with_event o es)
 with_le None es n h = h

@@ -1,5 +1,5 @@
 -- What the framed steps leave as it was: rights, grains, knowledge, debts and events.
-use Rattle.std.proofs.Common.{◌≡◌, ◌≢◌, ℕ, ◌+◌, ◌*◌, ◌/◌, ◌%◌, ◌==◌, zero, suc, Bool, true, false, not, ◌&&◌, ◌||◌, if◌then◌else◌, List, [], ◌∷◌, ◌++◌, Option, None, Some, refl, ap, sym, ◌∙◌, subst, arith, bit_and, true≢false}
+use Rattle.std.proofs.Common.{◌≡◌, ◌≢◌, ℕ, ◌+◌, ◌*◌, ◌/◌, ◌%◌, ◌==◌, Bool, true, false, not, ◌&&◌, ◌||◌, if◌then◌else◌, List, [], ◌∷◌, ◌++◌, Option, None, refl, ap, sym, ◌∙◌, subst, arith, bit_and}
 use Rattle.std.proofs.lemmas.Bool.{ne_eqb, eqb-true, and_parts}
 use Rattle.pas_profile.specs.Classes.{has_bit}
 use Rattle.pas_profile.specs.Directories.{deed_word_of, deed_word_numbered, number_of}
@@ -9,10 +9,10 @@ use Rattle.pas_profile.proofs.Codecs.{deed_word_of-positive}
 use Rattle.pas_profile.specs.declared.word.Word.{Word}
 use Rattle.pas_steps.specs.declared.step.Made.{Made}
 use Rattle.pas_steps.specs.declared.step.Step.{Step}
-use Rattle.pas_steps.specs.declared.step.Step.TheVariants.{Look, Deed, Back, Take, Put, Give, End, TakeRight, Offer, Park, Unpark, Stamp, Hint, Tick, Unback, Unhint}
+use Rattle.pas_steps.specs.declared.step.Step.TheVariants.{Look, Deed, TakeRight, Offer}
 use Rattle.pas_steps.specs.Effects.{in_mask}
-use Rattle.pas_steps.specs.Views.{View, Move, Stays, Gets, Puts, grain_move, held_after, holds, any_below, holds_on, Way, Rests, ByDeed, FromOffer, FromParked, ToOffer, ToParked, way, had_after, right_after, has_right, deed_after, deed_after_look, known_deed, KnowsDeed, life_after, looks_at_life, known_life, epoch_after, known_epoch, epoch_of, unstamped_after, is_unstamped, given_after, given_count, no_usable, check_after, owes_check, all_ones, hint_after, owes_hint, examined_after, examines, backed_after, knows_backed}
-use Rattle.pas_steps.specs.Events.{event_of, with_event, events_of}
+use Rattle.pas_steps.specs.Views.{View, Stays, Gets, Puts, grain_move, held_after, holds, Rests, ByDeed, FromOffer, FromParked, ToOffer, ToParked, way, had_after, has_right, deed_after, deed_after_look, known_deed, KnowsDeed, looks_at_life, epoch_after, unstamped_after, is_unstamped, given_after, no_usable, check_after, owes_check, all_ones, hint_after, owes_hint, examined_after, examines}
+use Rattle.pas_steps.specs.Events.{event_of}
 use Rattle.pas_steps.specs.Agreement.{Agrees, Agreed}
 use Rattle.pas_steps.specs.Past.{Always}
 use Rattle.pas_steps.specs.Frames.{IsOnPage, IsReturn, IsGrains, IsRead, IsScan, OnlyOn, OnlyReturns, OnlyGrains, OnlyReads, OnlyScans, IsLook, AreLooks}
@@ -34,9 +34,6 @@ ends_none false owed h = h
 and_false : (t : Bool) → (t && false) ≡ false
 and_false true = refl
 and_false false = refl
-
-both : (x y : Bool) → x ≡ true → y ≡ true → (x && y) ≡ true
-both x y h e = ap (λ t. t && y) h ∙ e
 
 -- ---- steps on one page alone: nothing of another page changes, but for what is known of it
 on_way : (p q : ℕ) (s : Step) (a : ℕ) → IsOnPage p s → q ≢ p → way s a q ≡ Rests
@@ -117,14 +114,6 @@ pub unstamped_on : (p q : ℕ) (steps : List Made) (v : View) → OnlyOn p steps
 unstamped_on p q [] v h e = e
 unstamped_on p q (m ∷ more) v h e = on_unstamped p m.step m.answer q (is_unstamped (more ++ v) q) h.0 (unstamped_on p q more v h.1 e)
 
-on_given : (p : ℕ) (s : Step) (n : ℕ) → IsOnPage p s → given_after s n ≡ n
-on_given p s n IsOnPage.Hints = refl
-on_given p s n step = refl
-
-pub given_on : (p : ℕ) (steps : List Made) (v : View) → OnlyOn p steps → given_count (steps ++ v) ≡ given_count v
-given_on p [] v h = refl
-given_on p (m ∷ more) v h = on_given p m.step (given_count (more ++ v)) h.0 ∙ given_on p more v h.1
-
 -- ---- a deed stays known, whatever the steps
 told_here : (known a word : ℕ) (t z : Bool) → (a == 0) ≡ z → (t ≡ true → a ≡ known) → known ≢ 0 → (if t then (if z then word else a) else known) ≡ known
 told_here known a word true true e same ne = absurd (ne (sym (same refl) ∙ eqb-true a 0 e))
@@ -162,14 +151,6 @@ pub knows_still : (f : Profile) (d : Directory) (page : ℕ) (steps : List Made)
 knows_still f d page steps v agreed known = deed_stays f steps v page agreed (λ z. deed_word_of-positive d (sym known ∙ z)) ∙ known
 
 -- ---- what is on a page
-pub look_on : (p : ℕ) (s : Step) → IsLook s → IsOnPage p s
-look_on p (Look word) h = IsOnPage.Looks word
-look_on p s h = absurd h
-
-pub looks_on : (p : ℕ) (steps : List Made) → AreLooks steps → OnlyOn p steps
-looks_on p [] h = tt
-looks_on p (m ∷ more) h = (look_on p m.step h.0, looks_on p more h.1)
-
 return_on : (p : ℕ) (s : Step) → IsReturn p s → IsOnPage p s
 return_on p s (IsReturn.LooksFree w) = IsOnPage.Looks (Word.Free p w)
 return_on p s IsReturn.LooksBacked = IsOnPage.Looks (Word.Backed p)
@@ -208,119 +189,8 @@ pub record IsStill (m : Made) : Type 0 where
   pub given : (n : ℕ) → given_after m.step n ≡ n
   pub event : (k e : ℕ) → event_of k e m.step m.answer ≡ None
 
-return_still : (p : ℕ) (s : Step) (a : ℕ) → IsReturn p s → IsStill record { step = s; answer = a }
-return_still p s a (IsReturn.LooksFree w) = record { grain = λ g. refl; life = λ g. refl; epoch = λ k. refl; unstamped = λ q was. refl; given = λ n. refl; event = λ k e. refl }
-return_still p s a IsReturn.LooksBacked = record { grain = λ g. refl; life = λ g. refl; epoch = λ k. refl; unstamped = λ q was. refl; given = λ n. refl; event = λ k e. refl }
-return_still p s a (IsReturn.Offers d) = record { grain = λ g. refl; life = λ g. refl; epoch = λ k. refl; unstamped = λ q was. refl; given = λ n. refl; event = λ k e. refl }
-return_still p s a IsReturn.Parks = record { grain = λ g. refl; life = λ g. refl; epoch = λ k. refl; unstamped = λ q was. refl; given = λ n. refl; event = λ k e. refl }
-return_still p s a IsReturn.Unparks = record { grain = λ g. refl; life = λ g. refl; epoch = λ k. refl; unstamped = λ q was. refl; given = λ n. refl; event = λ k e. refl }
-return_still p s a IsReturn.Hints = record { grain = λ g. refl; life = λ g. refl; epoch = λ k. refl; unstamped = λ q was. refl; given = λ n. refl; event = λ k e. refl }
-
-scan_still : (s : Step) (a : ℕ) → IsScan s → IsStill record { step = s; answer = a }
-scan_still s a (IsScan.LooksEligible d j) = record { grain = λ g. refl; life = λ g. refl; epoch = λ k. refl; unstamped = λ q was. refl; given = λ n. refl; event = λ k e. refl }
-scan_still s a (IsScan.LooksDeed p) = record { grain = λ g. refl; life = λ g. refl; epoch = λ k. refl; unstamped = λ q was. refl; given = λ n. refl; event = λ k e. refl }
-scan_still s a (IsScan.LooksParked j) = record { grain = λ g. refl; life = λ g. refl; epoch = λ k. refl; unstamped = λ q was. refl; given = λ n. refl; event = λ k e. refl }
-
 abbrev pub AreStill : List Made → Type 0
 AreStill = Always (λ m before. IsStill m)
-
-pub returns_still : (p : ℕ) (steps : List Made) → OnlyReturns p steps → AreStill steps
-returns_still p [] h = tt
-returns_still p (m ∷ more) h = (return_still p m.step m.answer h.0, returns_still p more h.1)
-
-pub scans_still : (steps : List Made) → OnlyScans steps → AreStill steps
-scans_still [] h = tt
-scans_still (m ∷ more) h = (scan_still m.step m.answer h.0, scans_still more h.1)
-
-pub holds_still : (g : ℕ) (steps : List Made) (v : View) → AreStill steps → holds (steps ++ v) g ≡ holds v g
-holds_still g [] v h = refl
-holds_still g (m ∷ more) v h = ap (λ x. held_after x (holds (more ++ v) g)) (h.0.grain g) ∙ holds_still g more v h.1
-
-any_same : (n : ℕ) (p q : ℕ → Bool) → ((k : ℕ) → p k ≡ q k) → any_below n p ≡ any_below n q
-unfolding any_below
-any_same zero p q h = refl
-any_same (suc n) p q h = ap (λ x. x || any_below n p) (h n) ∙ ap (λ x. q n || x) (any_same n p q h)
-
-pub holds_on_still : (p : ℕ) (steps : List Made) (v : View) → AreStill steps → holds_on (steps ++ v) p ≡ holds_on v p
-holds_on_still p steps v h = any_same 256 (λ b. holds (steps ++ v) (p * 256 + b)) (λ b. holds v (p * 256 + b)) (λ b. holds_still (p * 256 + b) steps v h)
-
-life_same : (move : Move) (looks held : Bool) (a : ℕ) (known : Option ℕ) → move ≡ Stays → looks ≡ false → life_after move looks held a known ≡ known
-life_same move looks held a known e n = ap (λ x. life_after x looks held a known) e ∙ ap (λ t. if t && held then Some a else known) n
-
-pub life_still : (g : ℕ) (steps : List Made) (v : View) → AreStill steps → known_life (steps ++ v) g ≡ known_life v g
-life_still g [] v h = refl
-life_still g (m ∷ more) v h = life_same (grain_move m.step m.answer g) (looks_at_life m.step g) (holds (more ++ v) g) m.answer (known_life (more ++ v) g) (h.0.grain g) (h.0.life g) ∙ life_still g more v h.1
-
-pub epoch_still : (steps : List Made) (v : View) → AreStill steps → known_epoch (steps ++ v) ≡ known_epoch v
-epoch_still [] v h = refl
-epoch_still (m ∷ more) v h = h.0.epoch (known_epoch (more ++ v)) ∙ epoch_still more v h.1
-
-pub unstamped_still : (p : ℕ) (steps : List Made) (v : View) → AreStill steps → is_unstamped (steps ++ v) p ≡ is_unstamped v p
-unstamped_still p [] v h = refl
-unstamped_still p (m ∷ more) v h = h.0.unstamped p (is_unstamped (more ++ v) p) ∙ unstamped_still p more v h.1
-
-pub given_still : (steps : List Made) (v : View) → AreStill steps → given_count (steps ++ v) ≡ given_count v
-given_still [] v h = refl
-given_still (m ∷ more) v h = h.0.given (given_count (more ++ v)) ∙ given_still more v h.1
-
-pub events_still : (k : ℕ) (steps : List Made) (v : View) → AreStill steps → events_of k (steps ++ v) ≡ events_of k v
-events_still k [] v h = refl
-events_still k (m ∷ more) v h = ap (λ o. with_event o (events_of k (more ++ v))) (h.0.event k (epoch_of (more ++ v))) ∙ events_still k more v h.1
-
--- ---- a page that is known as backed stays so, over returns and over scans
-backed_held : (v : View) (q : ℕ) → knows_backed v q ≡ true → holds_on v q ≡ true
-backed_held [] q h = absurd (true≢false (sym h))
-backed_held (m ∷ v) q h = (and_parts (backed_after m.step m.answer q (knows_backed v q)) (holds_on (m ∷ v) q) h).1
-
-one_read : (a q p : ℕ) (known t : Bool) → (p == q) ≡ t → (t ≡ true → a ≡ 1) → known ≡ true → (if t then a == 1 else known) ≡ true
-one_read a q p known true e one h = ap (λ x. x == 1) (one refl)
-one_read a q p known false e one h = h
-
-return_backed : (f : Profile) (p q : ℕ) (v : View) (s : Step) (a : ℕ) → IsReturn p s → Agrees f v s a → knows_backed v q ≡ true → backed_after s a q (knows_backed v q) ≡ true
-return_backed f p q v s a IsReturn.LooksBacked agrees h = one_read a q p (knows_backed v q) (p == q) refl (λ e. agrees.known (subst (λ x. knows_backed v x ≡ true) (sym (eqb-true p q e)) h)) h
-return_backed f p q v s a step agrees h = h
-
-scan_backed : (q : ℕ) (s : Step) (a : ℕ) (known : Bool) → IsScan s → backed_after s a q known ≡ known
-scan_backed q s a known (IsScan.LooksEligible d j) = refl
-scan_backed q s a known (IsScan.LooksDeed p) = refl
-scan_backed q s a known (IsScan.LooksParked j) = refl
-
-pub backed_returns : (f : Profile) (p q : ℕ) (steps : List Made) (v : View) → OnlyReturns p steps → Agreed f v steps → knows_backed v q ≡ true → knows_backed (steps ++ v) q ≡ true
-backed_returns f p q [] v h agreed e = e
-backed_returns f p q (m ∷ more) v h agreed e =
-    let before : knows_backed (more ++ v) q ≡ true = backed_returns f p q more v h.1 agreed.1 e in
-    both (backed_after m.step m.answer q (knows_backed (more ++ v) q)) (holds_on (m ∷ more ++ v) q) (return_backed f p q (more ++ v) m.step m.answer h.0 agreed.0 before)
-    (holds_on_still q (m ∷ []) (more ++ v) (return_still p m.step m.answer h.0, tt) ∙ backed_held (more ++ v) q before)
-
-pub backed_scans : (q : ℕ) (steps : List Made) (v : View) → OnlyScans steps → knows_backed v q ≡ true → knows_backed (steps ++ v) q ≡ true
-backed_scans q [] v h e = e
-backed_scans q (m ∷ more) v h e =
-    let before : knows_backed (more ++ v) q ≡ true = backed_scans q more v h.1 e in
-    both (backed_after m.step m.answer q (knows_backed (more ++ v) q)) (holds_on (m ∷ more ++ v) q) (scan_backed q m.step m.answer (knows_backed (more ++ v) q) h.0 ∙ before)
-    (holds_on_still q (m ∷ []) (more ++ v) (scan_still m.step m.answer h.0, tt) ∙ backed_held (more ++ v) q before)
-
--- ---- grains of a page that are taken and put
-grain_right : (p : ℕ) (s : Step) (a q : ℕ) (had : Bool) → IsGrains p s → right_after s a q had ≡ had
-grain_right p s a q had (IsGrains.Takes w mask) = refl
-grain_right p s a q had (IsGrains.Puts w mask) = refl
-
-pub right_grains : (p q : ℕ) (steps : List Made) (v : View) → OnlyGrains p steps → has_right (steps ++ v) q ≡ has_right v q
-right_grains p q [] v h = refl
-right_grains p q (m ∷ more) v h = grain_right p m.step m.answer q (has_right (more ++ v) q) h.0 ∙ right_grains p q more v h.1
-
-with_right : (t u right owed : Bool) → right ≡ true → owed ≡ false → (if t && u && not right then true else owed) ≡ false
-with_right true true right owed r h = ap (λ x. if not x then true else owed) r ∙ h
-with_right true false right owed r h = h
-with_right false u right owed r h = h
-
-grain_check : (p : ℕ) (s : Step) (a w deed : ℕ) (right owed : Bool) → IsGrains p s → right ≡ true → owed ≡ false → check_after s a p w right deed owed ≡ false
-grain_check p s a w deed right owed (IsGrains.Takes u mask) r h = h
-grain_check p s a w deed right owed (IsGrains.Puts u mask) r h = with_right (u == w) (p == p) right owed r h
-
--- with the right no check is owed for what is put
-pub check_grains : (p w : ℕ) (steps : List Made) (v : View) → OnlyGrains p steps → has_right v p ≡ true → owes_check v p w ≡ false → owes_check (steps ++ v) p w ≡ false
-check_grains p w [] v h r e = e
-check_grains p w (m ∷ more) v h r e = grain_check p m.step m.answer w (known_deed (more ++ v) p) (has_right (more ++ v) p) (owes_check (more ++ v) p w) h.0 (right_grains p p more v h.1 ∙ r) (check_grains p w more v h.1 r e)
 
 -- ---- steps that changed nothing
 pub look_read : (s : Step) (a : ℕ) → IsLook s → IsRead s a
@@ -338,35 +208,3 @@ read_way s a q (IsRead.Reads p d b ne) = ap (λ t. if (p == q) && t then ByDeed 
 pub right_reads : (q : ℕ) (steps : List Made) (v : View) → OnlyReads steps → has_right (steps ++ v) q ≡ has_right v q
 right_reads q [] v h = refl
 right_reads q (m ∷ more) v h = ap (λ w. had_after w (has_right (more ++ v) q)) (read_way m.step m.answer q h.0) ∙ right_reads q more v h.1
-
-read_grain : (s : Step) (a g : ℕ) → IsRead s a → grain_move s a g ≡ Stays
-read_grain s a g (IsRead.Looks word b) = refl
-read_grain s a g (IsRead.Reads p d b ne) = refl
-
-pub holds_reads : (g : ℕ) (steps : List Made) (v : View) → OnlyReads steps → holds (steps ++ v) g ≡ holds v g
-holds_reads g [] v h = refl
-holds_reads g (m ∷ more) v h = ap (λ x. held_after x (holds (more ++ v) g)) (read_grain m.step m.answer g h.0) ∙ holds_reads g more v h.1
-
-read_check : (s : Step) (a q w deed : ℕ) (right owed : Bool) → IsRead s a → owed ≡ false → check_after s a q w right deed owed ≡ false
-read_check s a q w deed right owed (IsRead.Looks word b) h = look_check word a q w deed right owed h
-read_check s a q w deed right owed (IsRead.Reads p d b ne) h = h
-
-pub check_reads : (q w : ℕ) (steps : List Made) (v : View) → OnlyReads steps → owes_check v q w ≡ false → owes_check (steps ++ v) q w ≡ false
-check_reads q w [] v h e = e
-check_reads q w (m ∷ more) v h e = read_check m.step m.answer q w (known_deed (more ++ v) q) (has_right (more ++ v) q) (owes_check (more ++ v) q w) h.0 (check_reads q w more v h.1 e)
-
-read_hint : (s : Step) (a q : ℕ) (owed : Bool) → IsRead s a → owed ≡ false → hint_after s a q owed ≡ false
-read_hint s a q owed (IsRead.Looks word b) h = look_hint word a q owed h
-read_hint s a q owed (IsRead.Reads p d b ne) h = h
-
-pub hint_reads : (q : ℕ) (steps : List Made) (v : View) → OnlyReads steps → owes_hint v q ≡ false → owes_hint (steps ++ v) q ≡ false
-hint_reads q [] v h e = e
-hint_reads q (m ∷ more) v h e = read_hint m.step m.answer q (owes_hint (more ++ v) q) h.0 (hint_reads q more v h.1 e)
-
-read_examined : (s : Step) (a q : ℕ) (was : Bool) → IsRead s a → was ≡ false → examined_after s a q was ≡ false
-read_examined s a q was (IsRead.Looks word b) h = look_hint word a q was h
-read_examined s a q was (IsRead.Reads p d b ne) h = h
-
-pub examined_reads : (q : ℕ) (steps : List Made) (v : View) → OnlyReads steps → examines v q ≡ false → examines (steps ++ v) q ≡ false
-examined_reads q [] v h e = e
-examined_reads q (m ∷ more) v h e = read_examined m.step m.answer q (examines (more ++ v) q) h.0 (examined_reads q more v h.1 e)

@@ -27,15 +27,6 @@ pub always_both : (P Q : Made → List Made → Type 0) (ys xs : List Made) → 
 always_both P Q [] xs f a b = b
 always_both P Q (y ∷ ys) xs f a b = (f y ys a.0, always_both P Q ys xs f a.1 b)
 
-pub since_earlier : (P Q P' Q' : Made → List Made → Type 0) (ys xs : List Made) → ((m : Made) (before : List Made) → P m before → P' m (before ++ xs)) → ((m : Made) (before : List Made) → Q m before → Q' m (before ++ xs)) → Since P Q ys → Since P' Q' (ys ++ xs)
-since_earlier P Q P' Q' [] xs f g h = absurd h
-since_earlier P Q P' Q' (y ∷ ys) xs f g (inl h) = inl (f y ys h)
-since_earlier P Q P' Q' (y ∷ ys) xs f g (inr h) = inr (g y ys h.0, since_earlier P Q P' Q' ys xs f g h.1)
-
-pub since_later : (P Q R : Made → List Made → Type 0) (ys xs : List Made) → ((m : Made) (before : List Made) → R m before → Q m (before ++ xs)) → Always R ys → Since P Q xs → Since P Q (ys ++ xs)
-since_later P Q R [] xs f a h = h
-since_later P Q R (y ∷ ys) xs f a h = inr (f y ys a.0, since_later P Q R ys xs f a.1 h)
-
 pub since_once : (P Q : Made → List Made → Type 0) (xs : List Made) → Since P Q xs → Once P xs
 since_once P Q [] h = h
 since_once P Q (m ∷ xs) (inl h) = inl h

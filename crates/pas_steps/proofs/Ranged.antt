@@ -6,7 +6,7 @@ use Rattle.pas_profile.specs.Runs.{address_of}
 use Rattle.pas_steps.specs.Allowed.{IsStepOf}
 use Rattle.pas_steps.specs.Ranges.{IsRanged}
 use Rattle.pas_steps.specs.declared.step.Step.{Step}
-use Rattle.pas_steps.specs.declared.step.Step.TheVariants.{Look, Deed, Back, Take, Put, Give, End, TakeRight, Offer, Park, Unpark, Stamp, Hint, Tick, Unback, Unhint}
+use Rattle.pas_steps.specs.declared.step.Step.TheVariants.{Deed, Give, End, TakeRight, Offer}
 
 grains_fit : (first room pages : ℕ) → pages ≤ 4096 → 4096 ≤ first → first + room ≤ 4096 * (pages + 1) → room / 16 < 2 ^ 23
 grains_fit first room pages few low high = omega arith

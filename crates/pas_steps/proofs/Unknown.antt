@@ -1,5 +1,5 @@
 -- Pages whose deeds aren't known grow fewer, and the room that is left for their deeds.
-use Rattle.std.proofs.Common.{◌≡◌, ◌≢◌, ℕ, zero, suc, ◌+◌, ◌≤◌, ◌==◌, Bool, true, false, if◌then◌else◌, List, [], ◌++◌, inl, inr, refl, ap, sym, ◌∙◌, arith}
+use Rattle.std.proofs.Common.{◌≡◌, ◌≢◌, ℕ, zero, suc, ◌+◌, ◌≤◌, ◌==◌, Bool, true, false, if◌then◌else◌, List, ◌++◌, inl, inr, refl, ap, sym, ◌∙◌, arith}
 use Rattle.std.proofs.lemmas.Bool.{eqb-true, eqb-false, ne_eqb, cases_eq}
 use Rattle.pas_profile.specs.Profiles.{IsPage}
 use Rattle.pas_profile.specs.declared.profile.Profile.{Profile}
@@ -76,14 +76,6 @@ has_room f n spare v fits = (
     | inr some ↦ inr (omega (arith, fits, some))
   ],
 )
-
-fresh_below : (n : ℕ) → unknown_below n [] ≡ n
-fresh_below zero = refl
-fresh_below (suc n) = let below = fresh_below n in omega (arith, below)
-
--- who made no step knows no deed
-pub unknown_fresh : (f : Profile) → unknown_pages f [] ≡ f.pages
-unknown_fresh f = fresh_below f.pages
 
 -- what was known of deeds is known
 pub all_known : (f : Profile) (steps : List Made) (v : View) → Agreed f v steps → KnowsAllDeeds f v → KnowsAllDeeds f (steps ++ v)

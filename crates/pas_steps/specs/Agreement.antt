@@ -1,7 +1,7 @@
 -- What the answer of a step promises to its actor beside being the word's old value: it agrees with what the view holds, has and knows, and
 -- with what its actor read and ended before.
 -- One definition by cases, kind by kind and word by word.
-use Rattle.std.specs.Prelude.{ℕ, ◌+◌, ◌*◌, ◌/◌, ◌%◌, ◌^◌, ◌<◌, ◌≤◌, ◌≡◌, ◌≢◌, Bool, true, false, List, [], ◌∷◌, ◌++◌, Option, None, Some}
+use Rattle.std.specs.Prelude.{ℕ, ◌+◌, ◌*◌, ◌/◌, ◌%◌, ◌^◌, ◌<◌, ◌≤◌, ◌≡◌, ◌≢◌, true, false, List, [], ◌∷◌, ◌++◌, Some}
 use Rattle.pas_profile.specs.Classes.{has_bit}
 use Rattle.pas_profile.specs.Directories.{deed_word_of, deed_word_numbered, number_of}
 use Rattle.pas_profile.specs.Lives.{live_word, is_live, turn_of, grains_of}
@@ -10,9 +10,7 @@ use Rattle.pas_profile.specs.declared.profile.Profile.{Profile}
 use Rattle.pas_profile.specs.declared.directory.Directory.{Directory}
 use Rattle.pas_profile.specs.declared.name.Name.{Name}
 use Rattle.pas_profile.specs.declared.word.Word.{Word}
-use Rattle.pas_profile.specs.declared.word.Word.TheVariants as Word
 use Rattle.pas_profile.specs.Runs.{in_run, grain_of}
-use Rattle.pas_steps.specs.Effects.{in_mask, life_word_at}
 use Rattle.pas_steps.specs.Views.{View, holds, has_right, known_deed, known_free, knows_backed, known_life, epoch_of, known_stamp, ReadLive, ReadBacked, EndedOn, EndedOnBoth}
 use Rattle.pas_steps.specs.declared.step.Step.{Step}
 use Rattle.pas_steps.specs.declared.step.Made.{Made}

@@ -1,6 +1,5 @@
 -- What a call does to what its actor holds, has and owes. That it still knows each deed that it knew is a law of all steps, and no matter of calls.
-use Rattle.std.specs.Prelude.{ℕ, ◌/◌, ◌%◌, ◌≡◌, ◌==◌, Bool, true, false, ◌&&◌, if◌then◌else◌, List, ◌++◌}
-use Rattle.pas_profile.specs.Classes.{has_bit}
+use Rattle.std.specs.Prelude.{ℕ, ◌/◌, ◌≡◌, ◌==◌, Bool, true, false, ◌&&◌, if◌then◌else◌, List, ◌++◌}
 use Rattle.pas_profile.specs.Lives.{live_word}
 use Rattle.pas_profile.specs.declared.profile.Profile.{Profile}
 use Rattle.pas_profile.specs.Runs.{meets_page, grain_of}

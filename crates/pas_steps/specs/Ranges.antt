@@ -1,5 +1,5 @@
 -- The numbers in a step fit the words that they go into.
-use Rattle.std.specs.Prelude.{ℕ, ◌-◌, ◌^◌, ◌<◌}
+use Rattle.std.specs.Prelude.{◌-◌, ◌^◌, ◌<◌}
 use Rattle.pas_profile.specs.Directories.{IsDirectory}
 use Rattle.pas_profile.specs.Runs.{length_of}
 use Rattle.pas_steps.specs.declared.step.Step.{Step}
