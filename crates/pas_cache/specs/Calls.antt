@@ -11,7 +11,6 @@ use Rattle.pas_steps.specs.Views.{View}
 use Rattle.pas_steps.specs.Events.{events_by}
 use Rattle.pas_steps.specs.Agreement.{Agreed}
 use Rattle.pas_steps.specs.Lists.{Whole}
-use Rattle.pas_profile.specs.declared.directory.Directory.{Directory}
 use Rattle.pas_steps.specs.Calls.{Calls}
 use Rattle.pas_steps.specs.Desks.{Standing, triples, made}
 use Rattle.pas_steps.specs.declared.step.Made.{Made}
@@ -23,7 +22,7 @@ use Rattle.pas_cache.specs.Names.{IsInRegion, IsFaultOf}
 use Rattle.pas_cache.specs.Changes.{EmptiesLog, LogsName, StopsAll}
 use Rattle.pas_steps.specs.Kinds.{Only}
 use Rattle.pas_cache.specs.Kinds.{releasing, allocating}
-use Rattle.pas_cache.specs.Serves.{ServesRequest, IsBlockFor, MakesFew, IsSilent, IsToldBy}
+use Rattle.pas_cache.specs.Serves.{Wanted, class_of, ServesRequest, IsBlockFor, MakesFew, IsSilent, IsToldBy}
 
 -- an actor at rest with the one cache is at rest with the other after these steps
 abbrev pub Rests : Cached → Cached → Standing → Standing → List Made → Type 0
@@ -43,14 +42,14 @@ pub record MayAllocate (f : Profile) (c : Cached) (spare : ℕ) (v : View) : Typ
   pub room : HasRoom f 2 spare v
 
 -- The cache serves the request, and its actor is at rest again. A refused request made no event, so no block changed.
-pub record Allocates (d : Directory) (heap class align : ℕ) (tells : Bool) (c c' : Cached) (desk desk' : Standing) (answer : Result Block NoRoom) : Type 0 where
+pub record Allocates (wanted : Wanted) (tells : Bool) (c c' : Cached) (desk desk' : Standing) (answer : Result Block NoRoom) : Type 0 where
   pub steps : List Made
   pub calls : Rests c c' desk desk' steps
-  pub change : ServesRequest desk.seat.profile d heap class c c' steps answer
+  pub change : ServesRequest desk.seat.profile wanted.directory wanted.directory.heap (class_of wanted.route) c c' steps answer
   pub kinds : Only allocating steps
   pub few : MakesFew desk.seat.profile (AtRest desk.seat.profile c) 2 steps
-  pub outcome : MatchResult answer (IsBlockFor desk.seat.profile d (AtRest desk.seat.profile c) heap class align steps) (λ room. IsSilent steps)
-  pub told : tells ≡ true → (v : View) (l : Whole) → desk.stands v l → AtRest desk.seat.profile c v → IsToldBy desk.seat.profile d heap class c.locals l (triples desk.seat.actor steps ++ l) answer
+  pub outcome : MatchResult answer (IsBlockFor desk.seat.profile wanted (AtRest desk.seat.profile c) steps) (λ room. IsSilent steps)
+  pub told : tells ≡ true → (v : View) (l : Whole) → desk.stands v l → AtRest desk.seat.profile c v → IsToldBy desk.seat.profile wanted.directory wanted.directory.heap (class_of wanted.route) c.locals l (triples desk.seat.actor steps ++ l) answer
 
 -- ---- free
 -- a fault changes nothing
