@@ -23,7 +23,7 @@ use Rattle.pas_trace.specs.declared.plan.What.TheVariants.{Alloc, Free, Raw, Flu
 use Rattle.pas_report.specs.declared.record.Record.{Record}
 use Rattle.pas_report.specs.declared.record.Said.{Said}
 use Rattle.pas_cache.specs.Caches.{Cached}
-use Rattle.pas_cache.specs.Changes.{EmptiesLog, StopsAll}
+use Rattle.pas_cache.specs.Changes.{EmptiesLog, StopsEach}
 use Rattle.pas_steps.specs.Kinds.{Only}
 use Rattle.pas_cache.specs.Kinds.{allocating, releasing}
 use Rattle.pas_cache.specs.Serves.{Wanted, wanted_for, class_of, ServesRequest, IsPreparing, IsPlaced, IsClassRoute}
@@ -162,7 +162,7 @@ pub record IsStopped (k : ℕ) (c c' : Cached) (steps : List Made) : Type 0 wher
   pub flushed : List Made
   pub stopped : List Made
   pub empties : EmptiesLog k c.log flushed
-  pub stops : StopsAll c.locals stopped
+  pub stops : StopsEach c.locals stopped
   pub kinds : Only releasing stopped
   pub silent : (v : View) → events_by k v stopped ≡ []
   pub cache : c' ≡ record c { locals = []; log = [] }

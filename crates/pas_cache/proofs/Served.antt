@@ -1,5 +1,5 @@
 -- A request is answered from the local allocators.
-use Rattle.std.proofs.Common.{◌≡◌, ℕ, ◌+◌, ◌/◌, ◌^◌, ◌<◌, ◌≤◌, Bool, false, List, [], ◌∷◌, ◌++◌, length, Ok, Err, Result, inl, inr, ◌⊎◌, refl, ap, sym, ◌∙◌, subst, arith, append_assoc, append-nil, length-append}
+use Rattle.std.proofs.Common.{◌≡◌, ℕ, ◌+◌, ◌/◌, ◌^◌, ◌<◌, ◌≤◌, Bool, false, List, [], ◌∷◌, ◌++◌, length, Ok, Err, Result, inl, inr, ◌⊎◌, Option, Some, true≢false, refl, ap, sym, ◌∙◌, subst, arith, append_assoc, append-nil, length-append}
 use Rattle.std.specs.Prelude.{MatchResult, All, ◌%◌, max}
 use Rattle.std.proofs.lemmas.List.Elements.{All-weaker}
 use Rattle.std.proofs.lemmas.List.Sorted.{IsPermutation-sym, IsPermutation-to_front}
@@ -36,9 +36,10 @@ use Rattle.pas_search.proofs.KindsAndEvents.{events_quiet}
 use Rattle.pas_segregated.specs.Stops.{class_directory, directory_of}
 use Rattle.pas_segregated.specs.declared.slots.Slots.{Slots}
 use Rattle.pas_steps.specs.Unknown.{unknown_pages}
-use Rattle.pas_cache.specs.Locals.{IsFormed, IsLocal, RestsWith}
-use Rattle.pas_cache.specs.Changes.{GivesSlot}
-use Rattle.pas_cache.specs.Serves.{Wanted, wanted_for, class_wanted, IsClassRoute, IsObtained, IsPreparing, IsBlockFor, IsSilent}
+use Rattle.pas_cache.specs.Locals.{local_for, IsFormed, IsLocal, RestsWith}
+use Rattle.pas_bits.specs.Masks.{HasMember}
+use Rattle.pas_cache.specs.Changes.{GivesSlot, LeavesSpent}
+use Rattle.pas_cache.specs.Serves.{Wanted, wanted_for, class_wanted, IsClassRoute, IsObtained, IsAnswered, ServesLocals, IsPreparing, IsBlockFor, IsSilent}
 use Rattle.pas_cache.specs.Parts.{MayGiveSlot, GivesLowest, MayObtain, Obtains, ServesFrom}
 use Rattle.pas_steps.specs.Kinds.{Only}
 use Rattle.pas_steps.proofs.Apart.{no_events, only_both, only_within}
@@ -183,6 +184,26 @@ serves_none {σ} heap class tells locals fewer room one = record {
   told = one.told;
 }
 
+-- ---- a cached slot is given in two steps
+given_two : (fewer locals' : List Slots) (given : List Made) (found : Result Slots NoRoom) (answer : Result Block NoRoom) (slots : Slots) → found ≡ Ok slots → IsAnswered fewer locals' given found answer → length given ≡ 2
+given_two fewer locals' given (Ok got) (Ok block) slots is h = ap length h.1.steps_are
+given_two fewer locals' given (Ok got) (Err room) slots is h = absurd h
+given_two fewer locals' given (Err why) answer slots is h = cc
+
+spent_empty : (spent : List Made) (local : Option Slots) (slots : Slots) → local ≡ Some slots → LeavesSpent local spent → HasMember slots.starts → ⊥
+spent_empty spent local slots is leaves some = true≢false (sym some.2 ∙ (subst (λ l. LeavesSpent l spent) is leaves).0 some.0 some.1)
+
+cached_two : {f : Profile} {d : Directory} {heap class : ℕ} {locals locals' : List Slots} {steps : List Made} {answer : Result Block NoRoom} → (h : ServesLocals f d heap class locals locals' steps answer) → (slots : Slots) → local_for heap class locals ≡ Some slots → HasMember slots.starts
+    → length steps ≡ 2
+cached_two {heap = heap} {class = class} {locals = locals} {locals' = locals'} {answer = answer} h slots is some = elim h.obtained [
+  | inl cached ↦
+      let two = given_two h.fewer locals' h.given h.found answer cached.0 cached.1 h.ends in
+      let none = ap length cached.2.no_steps in
+      let all = ap length h.steps_are ∙ length-append h.given h.before in
+      omega (arith, two, none, all)
+  | inr fetch ↦ absurd (spent_empty fetch.place.spent (local_for heap class locals) slots is fetch.place.taken.0 some)
+]
+
 -- ---- of a cache
 for_cache : (f : Profile) (c : Cached) (heap class size align : ℕ) (steps : List Made) (answer : Result Block NoRoom) → 4096 % align ≡ 0 → route_of size align ≡ Route.Class class → MatchResult answer (IsBlockFor f (class_wanted heap class 1) (RestsWith f c.locals) steps) (λ room. IsSilent steps)
     → MatchResult answer (IsBlockFor f (class_wanted heap class align) (AtRest f c) steps) (λ room. IsSilent steps)
@@ -216,6 +237,7 @@ allocates {σ} {σ'} size align heap class tells c c' answer admitted exclusive 
       calls = call_as (λ v w. AtRest f c' w) h.calls (λ v rest. rest.locals) (λ v w rest locals. subst (λ x. AtRest f x w) (sym is) (record { locals = locals; few = h.place; entries = rest.entries; few_entries = rest.few_entries }));
       change = record { locals = h.change; cache = is };
       kinds = h.kinds;
+      two = cached_two h.change;
       few = λ k v rest agreed. h.few k v rest.locals agreed;
       outcome = for_cache f c heap class size align h.steps answer admitted.aligned.2 route h.outcome;
       told = λ t v l stood rest. h.told t v l stood rest.locals;

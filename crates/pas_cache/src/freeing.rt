@@ -76,7 +76,8 @@ impl ThreadCache {
 
     /// Reads the epoch, and ends the blocks of the logged names in order. The log is empty afterwards.
     ///
-    /// Each name makes one event, and there is room for them: `End` with the epoch that was read, or `Reject` where no block of this name lives.
+    /// Each name makes one event, and there is room for them: `End` with the epoch that was read, or `Reject` where no block of this name lives. One
+    /// step, and at most three for each name and fourteen for each page of its block.
     pub fn flush<D: Desk>(&mut self, desk: &mut D)
         requires room { length (cached self.old).log ≤ D.spare_of desk.old }
         requires can { CanCall (D.standing desk.old) (λ v l. AtRest (D.standing desk.old).seat.profile (cached self.old) v) }
