@@ -9,6 +9,7 @@ use crate::cache::ThreadCache;
 use crate::giving::give_lowest;
 use crate::obtaining::obtain;
 use arrayvec::ArrayVec;
+use pas_profile::limits::MOST_LOCALS;
 use pas_profile::{Block, NoRoom, Route, route};
 use pas_segregated::Slots;
 use pas_steps::Desk;
@@ -16,7 +17,7 @@ use pas_steps::Desk;
 /// Serves a request of the class from the local allocators.
 fn serve<D: Desk>(
     desk: &mut D,
-    locals: &mut ArrayVec<Slots, 32>,
+    locals: &mut ArrayVec<Slots, MOST_LOCALS>,
     heap: u8,
     class: u8,
 ) -> Result<Block, NoRoom>

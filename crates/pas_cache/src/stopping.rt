@@ -8,11 +8,12 @@ ghost use Rattle.pas_cache.specs.Parts.{Releases};
 use crate::cache::ThreadCache;
 use arrayvec::ArrayVec;
 use pas_free_log::flush;
+use pas_profile::limits::MOST_LOCALS;
 use pas_segregated::{Slots, stop};
 use pas_steps::Desk;
 
 /// Stops all local allocators, from the last used one on. At most 23 steps for each, and no event.
-fn stop_all<D: Desk>(desk: &mut D, locals: &mut ArrayVec<Slots, 32>)
+fn stop_all<D: Desk>(desk: &mut D, locals: &mut ArrayVec<Slots, MOST_LOCALS>)
     requires can { CanCall (D.standing desk.old) (λ v l. RestsWith (D.standing desk.old).seat.profile locals.old.items v) }
     ensures stops { Releases (StopsEach locals.old.items) locals.old.items [] (D.standing desk.old) (D.standing desk.new) }
     ensures empty { locals.new.items ≡ [] }
