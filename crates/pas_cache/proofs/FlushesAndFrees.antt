@@ -1,5 +1,5 @@
 -- An epoch is read, a log is flushed, names are logged, and a cache is stopped.
-use Rattle.std.proofs.Common.{◌≡◌, ℕ, ◌+◌, ◌-◌, ◌^◌, ◌<◌, ◌≤◌, nat_le, Bool, true, false, List, [], ◌∷◌, ◌++◌, length, inl, inr, true≢false, refl, ap, sym, ◌∙◌, subst, arith, append_assoc, length-append}
+use Rattle.std.proofs.Common.{◌≡◌, ℕ, ◌+◌, ◌-◌, ◌^◌, ◌<◌, ◌≤◌, nat_le, Bool, true, false, List, [], ◌∷◌, ◌++◌, length, inl, inr, true≢false, refl, ap, sym, ◌∙◌, subst, arith, length-append}
 use Rattle.std.specs.Prelude.{All, Ok, Err}
 use Rattle.std.proofs.lemmas.Bool.{le-leb, lt-leb, cases_lt}
 use Rattle.std.proofs.lemmas.List.Elements.{All-nil, All-push, All-same}
@@ -8,13 +8,12 @@ use Rattle.pas_profile.specs.declared.name.Name.{Name}
 use Rattle.pas_profile.specs.declared.word.Word.TheVariants as Word
 use Rattle.pas_profile.specs.declared.event.FreeFault.{FreeFault}
 use Rattle.pas_steps.specs.Views.{View}
-use Rattle.pas_steps.specs.Agreement.{Agreed}
 use Rattle.pas_steps.specs.Desks.{Standing, Seat, CanCall, Makes, made}
 use Rattle.pas_steps.specs.declared.step.Made.{Made}
 use Rattle.pas_steps.specs.declared.step.Step.TheVariants.{Look}
-use Rattle.pas_steps.proofs.Adding.{adds_none, adds_step, adds_under, adds_call, can_call, agreed_first, agreed_later}
+use Rattle.pas_steps.proofs.Adding.{adds_none, adds_step, adds_under}
 use Rattle.pas_steps.specs.Clear.{IsClear, HasNothing}
-use Rattle.pas_free_log.specs.Conditions.{IsNameOf, IsEntryOf}
+use Rattle.pas_free_log.specs.Conditions.{IsEntryOf}
 use Rattle.pas_free_log.specs.declared.log.Entry.{Entry}
 use Rattle.pas_free_log.specs.Logs.{entry_of}
 use Rattle.pas_free_log.specs.Flushes.{Flushes}

@@ -1,11 +1,9 @@
 -- What the parts of the calls ask and promise.
-use Rattle.std.specs.Prelude.{ℕ, ◌^◌, ◌<◌, ◌≤◌, ◌≡◌, Bool, true, false, ◌⊎◌, List, [], ◌∷◌, ◌++◌, length, None, Some, Option, Result, MatchResult, MatchOption}
+use Rattle.std.specs.Prelude.{ℕ, ◌^◌, ◌<◌, ◌≤◌, ◌≡◌, Bool, true, false, List, ◌++◌, length, None, Option, Result, MatchResult, MatchOption}
 use Rattle.pas_profile.specs.declared.event.NoRoom.{NoRoom}
 use Rattle.pas_profile.specs.declared.name.Block.{Block}
 use Rattle.pas_profile.specs.declared.profile.Profile.{Profile}
 use Rattle.pas_steps.specs.Views.{View, holds, is_unstamped}
-use Rattle.pas_steps.specs.Events.{events_by}
-use Rattle.pas_steps.specs.Agreement.{Agreed}
 use Rattle.pas_steps.specs.Lists.{Whole}
 use Rattle.pas_profile.specs.declared.directory.Directory.{Directory}
 use Rattle.std.specs.List.{cons_option}
@@ -16,12 +14,10 @@ use Rattle.pas_steps.specs.declared.step.Made.{Made}
 use Rattle.pas_steps.specs.Kinds.{Only}
 use Rattle.pas_cache.specs.Kinds.{releasing, allocating}
 use Rattle.pas_steps.specs.Unknown.{HasRoom}
-use Rattle.pas_search.specs.Telling.{HasNoFit, IsTrueReason}
 use Rattle.pas_bits.specs.Masks.{HasMember}
 use Rattle.pas_segregated.specs.Stops.{class_directory}
-use Rattle.pas_segregated.specs.Takes.{exclusive}
 use Rattle.pas_segregated.specs.declared.slots.Slots.{Slots}
-use Rattle.pas_cache.specs.Locals.{covers, local_for, others_than, IsLocal, RestsWith}
+use Rattle.pas_cache.specs.Locals.{covers, local_for, IsLocal, RestsWith}
 use Rattle.pas_cache.specs.Changes.{GivesSlot}
 use Rattle.pas_cache.specs.Serves.{FindsCached, MakesPlace, IsObtained, ServesLocals, class_wanted, IsBlockFor, MakesFew, IsSilent, HasNoneCached, IsToldBy}
 

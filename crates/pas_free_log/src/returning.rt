@@ -24,7 +24,8 @@ fn return_page<D: Desk>(desk: &mut D, grain: u32, grains: u32)
         unreachable!();
     };
     desk.stamp(page);
-    put_mask(desk, page, &Mask4::run((grain % PAGE_GRAINS) as u8, grains as u16));
+    let first = (grain % PAGE_GRAINS) as u8;
+    put_mask(desk, page, &Mask4::run(first, grains as u16));
     returned(desk, page, directory);
 }
 
