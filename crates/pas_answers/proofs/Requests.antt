@@ -26,10 +26,10 @@ use Rattle.pas_steps.specs.Agreement.{Agreed}
 use Rattle.pas_steps.specs.Lists.{Whole, part, word_after, visible, Legal}
 use Rattle.pas_steps.specs.Desks.{Standing, CanCall}
 use Rattle.pas_trace.specs.declared.plan.What.TheVariants.{Alloc}
-use Rattle.pas_segregated.specs.Stops.{class_directory}
+use Rattle.pas_profile.specs.Requests.{directory_for}
 use Rattle.pas_cache.specs.Caches.{Cached, AtRest}
 use Rattle.pas_cache.specs.Calls.{MayAllocate, Allocates}
-use Rattle.pas_cache.specs.Serves.{IsClassRoute, class_of, ServesRequest, IsBlockFor, IsSilent}
+use Rattle.pas_cache.specs.Serves.{wanted_for, IsClassRoute, class_of, ServesRequest, IsBlockFor, IsSilent}
 use Rattle.pas_steps.specs.Unknown.{unknown_pages}
 use Rattle.pas_answers.specs.Answers.{Named, named, standing_for, said_of_room}
 use Rattle.pas_answers.specs.Names.{block_named, names_held}
@@ -94,11 +94,11 @@ turns_with : (table table' : Names) (name : ℕ) (block : Option Block) → HasT
 turns_with table table' name block turns sets new n b is = turn_of_one (name == n) block (block_named table n) b new (turns n b) (sym (sets n) ∙ is)
 
 -- the turn of a block that was given is far below the last one
-pub turns_given : {σ σ' : Standing} {answer : Result Block NoRoom} {tells : Bool} (table table' : Names) (c c' : Cached) (name heap size align class spare : ℕ) (block : Block) → HasTurns table → SetsName table table' name (Some block)
-    → CanCall σ (λ v l. MayPerform σ.seat.profile c (Alloc name heap size align) spare v) → Allocates (class_directory heap class) heap class align tells c c' σ σ' answer → answer ≡ Ok block → HasTurns table'
-turns_given {σ} {σ'} {answer} {tells} table table' c c' name heap size align class spare block turns sets can call is =
-    let of : IsBlockFor σ.seat.profile (class_directory heap class) (AtRest σ.seat.profile c) heap class align call.steps block
-    = subst (λ a. MatchResult a (IsBlockFor σ.seat.profile (class_directory heap class) (AtRest σ.seat.profile c) heap class align call.steps) (λ room. IsSilent call.steps)) is call.outcome in
+pub turns_given : {σ σ' : Standing} {answer : Result Block NoRoom} {tells : Bool} (table table' : Names) (c c' : Cached) (name heap size align spare : ℕ) (block : Block) → HasTurns table → SetsName table table' name (Some block)
+    → CanCall σ (λ v l. MayPerform σ.seat.profile c (Alloc name heap size align) spare v) → Allocates (wanted_for σ.seat.profile heap size align) tells c c' σ σ' answer → answer ≡ Ok block → HasTurns table'
+turns_given {σ} {σ'} {answer} {tells} table table' c c' name heap size align spare block turns sets can call is =
+    let of : IsBlockFor σ.seat.profile (wanted_for σ.seat.profile heap size align) (AtRest σ.seat.profile c) call.steps block
+    = subst (λ a. MatchResult a (IsBlockFor σ.seat.profile (wanted_for σ.seat.profile heap size align) (AtRest σ.seat.profile c) call.steps) (λ room. IsSilent call.steps)) is call.outcome in
     let small = of.turn.from can.view can.met.rest (call.calls.adds.agreed can.view can.whole can.stood can.met.rest) in
     turns_with table table' name (Some block) turns sets (λ b same. subst (λ d. d.name.turn < 2 ^ 40 - 1) (same_Some _ _ same) (omega (arith, small)))
 
@@ -108,12 +108,11 @@ turns_refused table table' name turns sets = turns_with table table' name None t
 -- ---- a request
 pub performs_given : {σ σ' : Standing} {answer : Result Block NoRoom} {tells : Bool} (table table' : Names) (c c' : Cached) (name heap size align : ℕ) (block : Block)
     → IsClassRoute (route_of size align)
-    → Allocates (class_directory heap (class_of (route_of size align))) heap (class_of (route_of size align)) align tells c c' σ σ' answer → answer ≡ Ok block → SetsName table table' name (Some block) → names_held table' ≡ names_held table
+    → Allocates (wanted_for σ.seat.profile heap size align) tells c c' σ σ' answer → answer ≡ Ok block → SetsName table table' name (Some block) → names_held table' ≡ names_held table
     → Performs (Alloc name heap size align) (works table c) (works table' c') σ σ' None
 performs_given {σ} {σ'} {answer} {tells} table table' c c' name heap size align block route call is sets held =
-    let class = class_of (route_of size align) in
-    let of : IsBlockFor σ.seat.profile (class_directory heap class) (AtRest σ.seat.profile c) heap class align call.steps block
-    = subst (λ a. MatchResult a (IsBlockFor σ.seat.profile (class_directory heap class) (AtRest σ.seat.profile c) heap class align call.steps) (λ room. IsSilent call.steps)) is call.outcome in
+    let of : IsBlockFor σ.seat.profile (wanted_for σ.seat.profile heap size align) (AtRest σ.seat.profile c) call.steps block
+    = subst (λ a. MatchResult a (IsBlockFor σ.seat.profile (wanted_for σ.seat.profile heap size align) (AtRest σ.seat.profile c) call.steps) (λ room. IsSilent call.steps)) is call.outcome in
     record {
       steps = call.steps;
       adds = call.calls.adds;
@@ -125,11 +124,12 @@ performs_given {σ} {σ'} {answer} {tells} table table' c c' name heap size alig
         record {
           route = route;
           answer = Ok block;
-          serves = subst (λ a. ServesRequest σ.seat.profile (class_directory heap class) heap class c c' call.steps a) is call.change;
+          serves = subst (λ a. ServesRequest σ.seat.profile (directory_for σ.seat.profile heap size align) heap (class_of (route_of size align)) c c' call.steps a) is call.change;
           kinds = call.kinds;
           ends = record {
             of_heap = of.of_heap;
-            slot = of.slot;
+            room = of.room;
+            placed = of.placed;
             aligned = of.aligned;
             of_directory = λ g inside. of.deeds.from v rest (call.calls.adds.agreed v l stood rest) g inside;
             before = (of.events σ.seat.actor v).0;
@@ -144,12 +144,11 @@ performs_given {σ} {σ'} {answer} {tells} table table' c c' name heap size alig
     }
 
 pub performs_refused : {σ σ' : Standing} {answer : Result Block NoRoom} {tells : Bool} (table table' : Names) (c c' : Cached) (name heap size align : ℕ) (room : NoRoom)
-    → IsClassRoute (route_of size align) → Allocates (class_directory heap (class_of (route_of size align))) heap (class_of (route_of size align)) align tells c c' σ σ' answer → answer ≡ Err room → SetsName table table' name None → names_held table' ≡ names_held table
+    → IsClassRoute (route_of size align) → Allocates (wanted_for σ.seat.profile heap size align) tells c c' σ σ' answer → answer ≡ Err room → SetsName table table' name None → names_held table' ≡ names_held table
     → Performs (Alloc name heap size align) (works table c) (works table' c') σ σ' (Some (said_of_room name room))
 performs_refused {σ} {σ'} {answer} {tells} table table' c c' name heap size align room route call is sets held =
-    let class = class_of (route_of size align) in
     let silent : IsSilent call.steps
-    = subst (λ a. MatchResult a (IsBlockFor σ.seat.profile (class_directory heap class) (AtRest σ.seat.profile c) heap class align call.steps) (λ room. IsSilent call.steps)) is call.outcome in
+    = subst (λ a. MatchResult a (IsBlockFor σ.seat.profile (wanted_for σ.seat.profile heap size align) (AtRest σ.seat.profile c) call.steps) (λ room. IsSilent call.steps)) is call.outcome in
     record {
       steps = call.steps;
       adds = call.calls.adds;
@@ -161,7 +160,7 @@ performs_refused {σ} {σ'} {answer} {tells} table table' c c' name heap size al
         record {
           route = route;
           answer = Err room;
-          serves = subst (λ a. ServesRequest σ.seat.profile (class_directory heap class) heap class c c' call.steps a) is call.change;
+          serves = subst (λ a. ServesRequest σ.seat.profile (directory_for σ.seat.profile heap size align) heap (class_of (route_of size align)) c c' call.steps a) is call.change;
           kinds = call.kinds;
           ends = silent σ.seat.actor v;
           said_is = refl;

@@ -22,12 +22,11 @@ use Rattle.pas_trace.specs.declared.plan.What.{What}
 use Rattle.pas_trace.specs.declared.plan.What.TheVariants.{Alloc, Free, Raw, Flush, Stop, Tick, Pass, Idle}
 use Rattle.pas_report.specs.declared.record.Record.{Record}
 use Rattle.pas_report.specs.declared.record.Said.{Said}
-use Rattle.pas_segregated.specs.Stops.{class_directory}
 use Rattle.pas_cache.specs.Caches.{Cached}
-use Rattle.pas_cache.specs.Changes.{EmptiesLog, StopsAll}
+use Rattle.pas_cache.specs.Changes.{EmptiesLog, StopsEach}
 use Rattle.pas_steps.specs.Kinds.{Only}
 use Rattle.pas_cache.specs.Kinds.{allocating, releasing}
-use Rattle.pas_cache.specs.Serves.{class_of, ServesRequest, IsPreparing, IsInSlot, IsClassRoute}
+use Rattle.pas_cache.specs.Serves.{Wanted, wanted_for, class_of, ServesRequest, IsPreparing, IsPlaced, IsClassRoute}
 use Rattle.pas_cache.specs.Calls.{TakesName, RefusesName}
 use Rattle.pas_answers.specs.Acts.{Act, Operates, MarksPhase, Wakes, MarksClose, Ends}
 
@@ -104,33 +103,34 @@ pub record Request : Type 0 where
   pub size : ℕ
   pub align : ℕ
 
--- the class that serves it
-abbrev pub class_for : Request → ℕ
-class_for r = class_of (route_of r.size r.align)
+-- what it comes to
+abbrev pub wanted_by : Profile → Request → Wanted
+wanted_by f r = wanted_for f r.heap r.size r.align
 
--- The block that actor k gave with these steps after the view is of the heap, in a slot of the class, and at a multiple of the alignment. Each page of its run is known to have
--- the request's directory as its deed then. It was given last, after deeds of this directory and backs.
-pub record IsGiven (k : ℕ) (r : Request) (v : View) (steps : List Made) (block : Block) : Type 0 where
-  pub of_heap : block.heap ≡ r.heap
-  pub slot : IsInSlot (class_for r) block
-  pub aligned : address_of block.name % r.align ≡ 0
-  pub of_directory : (g : ℕ) → in_run (grain_of block.name) (length_of block) g ≡ true → KnowsDeed (g / 256) (class_directory r.heap (class_for r)) (steps ++ v)
+-- The block that actor k gave with these steps after the view is of the heap, has the room that the request gets, stands where its route puts it, and at a multiple of the
+-- alignment. Each page of its run is known to have the request's directory as its deed then. It was given last, after deeds of this directory and backs.
+pub record IsGiven (k : ℕ) (wanted : Wanted) (v : View) (steps : List Made) (block : Block) : Type 0 where
+  pub of_heap : block.heap ≡ wanted.directory.heap
+  pub room : block.room ≡ wanted.room
+  pub placed : IsPlaced wanted.route block
+  pub aligned : address_of block.name % wanted.align ≡ 0
+  pub of_directory : (g : ℕ) → in_run (grain_of block.name) (length_of block) g ≡ true → KnowsDeed (g / 256) wanted.directory (steps ++ v)
   pub before : List Event
   pub events : events_by k v steps ≡ Event.Give k block ∷ before
-  pub prepared : AllByRecursion (IsPreparing (class_directory r.heap (class_for r))) before
+  pub prepared : AllByRecursion (IsPreparing wanted.directory) before
 
 -- a refused request makes no event
-abbrev pub RequestEnds : ℕ → Request → View → List Made → Result Block NoRoom → Type 0
-RequestEnds k r v steps served = MatchResult served (IsGiven k r v steps) (λ room. events_by k v steps ≡ [])
+abbrev pub RequestEnds : ℕ → Wanted → View → List Made → Result Block NoRoom → Type 0
+RequestEnds k wanted v steps served = MatchResult served (IsGiven k wanted v steps) (λ room. events_by k v steps ≡ [])
 
 -- Actor k's cache serves the request, or refuses it with the evidence of its search. Only a flush stamps pages, and none is made. From then on the name
 -- stands for the block, or for nothing.
 pub record IsServed (f : Profile) (k : ℕ) (r : Request) (before : Having) (after : Answer) : Type 0 where
   pub route : IsClassRoute (route_of r.size r.align)
   pub answer : Result Block NoRoom
-  pub serves : ServesRequest f (class_directory r.heap (class_for r)) r.heap (class_for r) before.cache after.cache after.steps answer
+  pub serves : ServesRequest f (wanted_by f r).directory r.heap (class_of (route_of r.size r.align)) before.cache after.cache after.steps answer
   pub kinds : Only allocating after.steps
-  pub ends : RequestEnds k r before.view after.steps answer
+  pub ends : RequestEnds k (wanted_by f r) before.view after.steps answer
   pub said_is : after.said ≡ said_of_request r.name answer
   pub names_are : after.names ≡ named r.name (block_of answer) ∷ before.names
 
@@ -162,7 +162,7 @@ pub record IsStopped (k : ℕ) (c c' : Cached) (steps : List Made) : Type 0 wher
   pub flushed : List Made
   pub stopped : List Made
   pub empties : EmptiesLog k c.log flushed
-  pub stops : StopsAll c.locals stopped
+  pub stops : StopsEach c.locals stopped
   pub kinds : Only releasing stopped
   pub silent : (v : View) → events_by k v stopped ≡ []
   pub cache : c' ≡ record c { locals = []; log = [] }

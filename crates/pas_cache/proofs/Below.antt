@@ -1,28 +1,22 @@
 -- The calls of the crates below, by what they do to what the actor holds, has and knows. What else these crates promise is cited where it is used.
-use Rattle.std.proofs.Common.{◌≡◌, ℕ, zero, suc, ◌+◌, ◌*◌, ◌/◌, ◌%◌, ◌==◌, arith, Bool, true, false, not, ◌&&◌, ◌||◌, if◌then◌else◌, List, ◌++◌, inl, inr, refl, ap, sym, ◌∙◌, subst}
+use Rattle.std.proofs.Common.{◌≡◌, ◌==◌, Bool, true, ◌&&◌, if◌then◌else◌, List, inl, refl, ap, sym}
 use Rattle.pas_profile.specs.declared.directory.Directory.{Directory}
 use Rattle.pas_profile.specs.declared.event.NoRoom.{NoRoom}
 use Rattle.pas_free_log.specs.declared.log.Entry.{Entry}
 use Rattle.pas_profile.specs.declared.profile.Profile.{Profile}
-use Rattle.pas_profile.specs.declared.word.Word.{Word}
-use Rattle.pas_bits.specs.declared.mask.Mask4.{Mask4}
-use Rattle.pas_steps.specs.Calls.{Leads, Calls, Kept, Gained, Lost, now, nothing, Does}
+use Rattle.pas_steps.specs.Calls.{Leads, Calls, Kept, Gained, Lost, nothing, Does}
 use Rattle.pas_steps.specs.Clear.{IsClear}
 use Rattle.pas_steps.specs.Desks.{Standing}
-use Rattle.pas_steps.specs.Kinds.{Only, kind_of, look_kind, is_in, returning}
-use Rattle.pas_steps.specs.Views.{View, holds, holds_on}
+use Rattle.pas_steps.specs.Kinds.{Only}
 use Rattle.pas_steps.specs.declared.step.Made.{Made}
-use Rattle.pas_steps.specs.declared.step.Step.{Step}
-use Rattle.pas_steps.proofs.Apart.{only_within, only_both}
-use Rattle.pas_steps.proofs.Backed.{any_from}
+use Rattle.pas_steps.proofs.Apart.{only_within}
 use Rattle.pas_steps.proofs.Calls.{does_as}
-use Rattle.pas_steps.proofs.Past.{always_map}
 use Rattle.pas_free_log.specs.Flushes.{Flushes}
 use Rattle.pas_search.specs.Searches.{MaySearch, IsRefused}
 use Rattle.pas_search.specs.Serving.{Rule}
 use Rattle.pas_segregated.specs.Refills.{GivesSlots}
 use Rattle.pas_segregated.specs.Returns.{giving_back}
-use Rattle.pas_segregated.specs.Stops.{directory_of, in_slots, LeavesWhere, StopSteps, MayStop, Stops}
+use Rattle.pas_segregated.specs.Stops.{MayStop, Stops}
 use Rattle.pas_segregated.specs.declared.slots.Slots.{Slots}
 use Rattle.pas_cache.specs.Effects.{of_slots, Gains}
 use Rattle.pas_cache.specs.Kinds.{releasing}

@@ -1,7 +1,7 @@
 -- For callers: the room of one request after another.
 use Rattle.std.proofs.Common.{◌≡◌, ℕ, ◌+◌, ◌≤◌, ◌++◌, length, ap, sym, ◌∙◌, subst, arith, length-append, Result, Bool}
 use Rattle.pas_profile.specs.declared.profile.Profile.{Profile}
-use Rattle.pas_profile.specs.declared.directory.Directory.{Directory}
+use Rattle.pas_cache.specs.Serves.{Wanted}
 use Rattle.pas_profile.specs.declared.event.NoRoom.{NoRoom}
 use Rattle.pas_profile.specs.declared.name.Block.{Block}
 use Rattle.pas_steps.specs.Views.{View}
@@ -29,7 +29,7 @@ may_allocate {σ} {c} {spare} n two can = record {
 }
 
 -- and the others are left after it
-pub budget_left : {σ σ' : Standing} {c c' : Cached} {answer : Result Block NoRoom} {d : Directory} {heap class align spare spare' : ℕ} {tells : Bool} (n : ℕ) → (h : Allocates d heap class align tells c c' σ σ' answer) → CanCall σ (λ v l. HasBudget σ.seat.profile c (n + 2) spare v)
+pub budget_left : {σ σ' : Standing} {c c' : Cached} {answer : Result Block NoRoom} {wanted : Wanted} {spare spare' : ℕ} {tells : Bool} (n : ℕ) → (h : Allocates wanted tells c c' σ σ' answer) → CanCall σ (λ v l. HasBudget σ.seat.profile c (n + 2) spare v)
     → ((v : View) (l : Whole) → σ.stands v l → spare + length (events_of σ.seat.actor v) ≡ σ.seat.room) → ((v : View) (l : Whole) → σ'.stands v l → spare' + length (events_of σ'.seat.actor v) ≡ σ'.seat.room)
     → CanCall σ' (λ v l. HasBudget σ'.seat.profile c' n spare' v)
 budget_left {σ} {σ'} {c} {c'} {spare = spare} {spare' = spare'} n h can law law' =

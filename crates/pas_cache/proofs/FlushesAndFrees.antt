@@ -1,5 +1,5 @@
 -- An epoch is read, a log is flushed, names are logged, and a cache is stopped.
-use Rattle.std.proofs.Common.{◌≡◌, ℕ, ◌+◌, ◌-◌, ◌^◌, ◌<◌, ◌≤◌, nat_le, Bool, true, false, List, [], ◌∷◌, ◌++◌, length, inl, inr, true≢false, refl, ap, sym, ◌∙◌, subst, arith, append_assoc, length-append}
+use Rattle.std.proofs.Common.{◌≡◌, ℕ, ◌+◌, ◌-◌, ◌^◌, ◌<◌, ◌≤◌, nat_le, Bool, true, false, List, [], ◌∷◌, ◌++◌, length, inl, inr, true≢false, refl, ap, sym, ◌∙◌, subst, arith, length-append}
 use Rattle.std.specs.Prelude.{All, Ok, Err}
 use Rattle.std.proofs.lemmas.Bool.{le-leb, lt-leb, cases_lt}
 use Rattle.std.proofs.lemmas.List.Elements.{All-nil, All-push, All-same}
@@ -8,19 +8,18 @@ use Rattle.pas_profile.specs.declared.name.Name.{Name}
 use Rattle.pas_profile.specs.declared.word.Word.TheVariants as Word
 use Rattle.pas_profile.specs.declared.event.FreeFault.{FreeFault}
 use Rattle.pas_steps.specs.Views.{View}
-use Rattle.pas_steps.specs.Agreement.{Agreed}
 use Rattle.pas_steps.specs.Desks.{Standing, Seat, CanCall, Makes, made}
 use Rattle.pas_steps.specs.declared.step.Made.{Made}
 use Rattle.pas_steps.specs.declared.step.Step.TheVariants.{Look}
-use Rattle.pas_steps.proofs.Adding.{adds_none, adds_step, adds_under, adds_call, can_call, agreed_first, agreed_later}
+use Rattle.pas_steps.proofs.Adding.{adds_none, adds_step, adds_under}
 use Rattle.pas_steps.specs.Clear.{IsClear, HasNothing}
-use Rattle.pas_free_log.specs.Conditions.{IsNameOf, IsEntryOf}
+use Rattle.pas_free_log.specs.Conditions.{IsEntryOf}
 use Rattle.pas_free_log.specs.declared.log.Entry.{Entry}
 use Rattle.pas_free_log.specs.Logs.{entry_of}
 use Rattle.pas_free_log.specs.Flushes.{Flushes}
 use Rattle.pas_cache.specs.Locals.{IsLocal, RestsWith}
 use Rattle.pas_cache.specs.Caches.{Cached, AtRest}
-use Rattle.pas_cache.specs.Changes.{EmptiesLog, EmptiesFull, LogsName, StopsAll}
+use Rattle.pas_cache.specs.Changes.{EmptiesLog, EmptiesFull, LogsName, StopsEach}
 use Rattle.pas_cache.specs.Names.{IsInRegion, IsFaultOf, MayFlush, EmptiesWhere, LogsInto}
 use Rattle.pas_cache.specs.Parts.{Releases}
 use Rattle.pas_cache.specs.Calls.{Begins, Frees, FlushesLog, StopsCache}
@@ -78,7 +77,7 @@ begins {σ} c epoch look = record {
 
 -- ---- flush
 pub empties : {σ σ' : Standing} (logged : List Entry) (flush : Flushes logged σ σ') → EmptiesLog σ.seat.actor logged flush.steps
-empties logged flush = record { epoch = flush.epoch; settled = flush.settled; entries_are = flush.entries_are; entries = flush.entries; order = flush.order; steps_are = flush.steps_are; events = flush.events; stamps = flush.stamps }
+empties logged flush = record { epoch = flush.epoch; settled = flush.settled; entries_are = flush.entries_are; entries = flush.entries; order = flush.order; steps_are = flush.steps_are; events = flush.events; stamps = flush.stamps; few = flush.few }
 
 pub flushes_log : {σ σ' : Standing} (c c' : Cached) → c' ≡ record c { log = [] } → Flushes c.log σ σ' → FlushesLog c c' σ σ'
 flushes_log {σ} {σ'} c c' is flush =
@@ -100,7 +99,7 @@ clear_call can = record { view = can.view; whole = can.whole; stood = can.stood;
 pub flushed_call : {σ σ1 : Standing} (c c' : Cached) → FlushesLog c c' σ σ1 → CanCall σ (λ v l. AtRest σ.seat.profile c v) → CanCall σ1 (λ v l. RestsWith σ1.seat.profile c'.locals v)
 flushed_call {σ} {σ1} c c' flush can = next_call flush.calls can (λ v h here. subst (λ (s : Seat). RestsWith s.profile c'.locals (flush.steps ++ v)) (sym flush.calls.adds.seat_is) here.locals)
 
-pub stops_cache : {σ σ1 σ2 : Standing} (c c1 c' : Cached) → (flush : FlushesLog c c1 σ σ1) → (stops : Releases (StopsAll c1.locals) c1.locals [] σ1 σ2) → c1 ≡ record c { log = [] } → c' ≡ record c { locals = []; log = [] } → StopsCache c c' σ σ2
+pub stops_cache : {σ σ1 σ2 : Standing} (c c1 c' : Cached) → (flush : FlushesLog c c1 σ σ1) → (stops : Releases (StopsEach c1.locals) c1.locals [] σ1 σ2) → c1 ≡ record c { log = [] } → c' ≡ record c { locals = []; log = [] } → StopsCache c c' σ σ2
 stops_cache {σ} {σ1} {σ2} c c1 c' flush stops mid is =
     let f : Profile = σ.seat.profile in
     let stop : Calls σ1 σ2 (RestsWith f c1.locals) (λ v w. RestsWith f [] w) stops.steps = subst (λ (s : Seat). Calls σ1 σ2 (RestsWith s.profile c1.locals) (λ v w. RestsWith s.profile [] w) stops.steps) flush.calls.adds.seat_is stops.calls in
@@ -112,7 +111,7 @@ stops_cache {σ} {σ1} {σ2} c c1 c' flush stops mid is =
           let nothing_left : HasNothing (stops.steps ++ (flush.steps ++ v)) = record { grains = there.grains; rights = there.rights; clear = there.clear } in
           (rests_empty f c' (stops.steps ++ (flush.steps ++ v)) (ap (λ x. x.locals) is) (ap (λ x. x.log) is) nothing_left, nothing_left));
       empties = flush.empties;
-      stops = subst (λ xs. StopsAll xs stops.steps) (ap (λ x. x.locals) mid) stops.change;
+      stops = subst (λ xs. StopsEach xs stops.steps) (ap (λ x. x.locals) mid) stops.change;
       kinds = stops.kinds;
       silent = λ k v. no_events releasing refl k v stops.steps stops.kinds;
       cache = is;

@@ -1,6 +1,5 @@
 -- An actor at rest with local allocators, when one of them gives a slot.
-use Rattle.std.proofs.Common.{◌≡◌, ℕ, ◌+◌, ◌/◌, ◌%◌, ◌==◌, Bool, true, false, not, ◌&&◌, ◌||◌, if◌then◌else◌, List, [], ◌∷◌, ◌++◌, inl, refl, ap, sym, ◌∙◌, subst, arith, true≢false}
-use Rattle.std.specs.List.{count_by}
+use Rattle.std.proofs.Common.{◌≡◌, ℕ, ◌/◌, ◌%◌, ◌==◌, Bool, true, false, not, ◌&&◌, ◌||◌, if◌then◌else◌, List, [], ◌∷◌, ◌++◌, inl, refl, ap, sym, ◌∙◌, subst, arith, true≢false}
 use Rattle.std.proofs.lemmas.Bool.{eq-eqb, eqb-true, and_parts, and_from}
 use Rattle.std.proofs.lemmas.List.Elements.{All-cons}
 use Rattle.pas_profile.specs.Classes.{class_grains, IsSlotStart}
@@ -13,13 +12,13 @@ use Rattle.pas_profile.specs.declared.word.Word.TheVariants as Word
 use Rattle.pas_bits.specs.Masks.{is_set}
 use Rattle.pas_profile.proofs.Runs.{to_run}
 use Rattle.pas_steps.specs.Agreement.{Agreed}
-use Rattle.pas_steps.specs.Calls.{Effect, Fate, Kept, Lost, now, later, Does, grain_fate}
+use Rattle.pas_steps.specs.Calls.{Effect, Kept, Lost, now, later, Does, grain_fate}
 use Rattle.pas_steps.specs.Desks.{made}
 use Rattle.pas_steps.specs.Views.{View, Gives, Stays, known_deed, knows_backed}
 use Rattle.pas_steps.specs.declared.step.Made.{Made}
 use Rattle.pas_steps.specs.declared.step.Step.TheVariants.{Look, Give}
-use Rattle.pas_steps.proofs.Calls.{does_then, does_as, does_step, kept_first}
-use Rattle.pas_segregated.specs.Masks.{start_of, AreStarts}
+use Rattle.pas_steps.proofs.Calls.{does_then, does_as, does_step}
+use Rattle.pas_segregated.specs.Masks.{start_of}
 use Rattle.pas_segregated.specs.Stops.{class_directory, directory_of}
 use Rattle.pas_segregated.specs.declared.slots.Slots.{Slots}
 use Rattle.pas_segregated.proofs.Starts.{start_at, start_below}

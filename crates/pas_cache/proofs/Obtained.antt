@@ -1,5 +1,5 @@
 -- Slots are obtained: cached ones, or those of a refill.
-use Rattle.std.proofs.Common.{◌≡◌, ℕ, ◌+◌, ◌<◌, ◌≤◌, ◌==◌, Bool, true, false, cond, Option, List, [], ◌∷◌, ◌++◌, length, Some, None, Ok, Err, Result, inl, inr, refl, ap, sym, ◌∙◌, subst, arith, true≢false, append-nil}
+use Rattle.std.proofs.Common.{◌≡◌, ℕ, ◌<◌, ◌≤◌, ◌==◌, Bool, true, false, cond, Option, List, [], ◌∷◌, ◌++◌, length, Some, None, Ok, Err, Result, inl, inr, refl, ap, sym, ◌∙◌, subst, arith, true≢false, append-nil}
 use Rattle.std.specs.List.{cons_option}
 use Rattle.std.specs.List.Sorted.{IsPermutation}
 use Rattle.std.specs.Result.{result_ok}
@@ -11,12 +11,9 @@ use Rattle.pas_profile.specs.declared.event.NoRoom.{NoRoom}
 use Rattle.pas_profile.specs.declared.profile.Profile.{Profile}
 use Rattle.pas_bits.specs.Masks.{is_set, IsEmpty, HasMember}
 use Rattle.pas_steps.specs.Agreement.{Agreed}
-use Rattle.pas_steps.specs.Calls.{Calls}
 use Rattle.pas_steps.specs.Desks.{Standing, Seat, CanCall, triples}
-use Rattle.pas_steps.specs.Kinds.{Only}
 use Rattle.pas_steps.specs.Lists.{Whole}
 use Rattle.pas_steps.specs.Unknown.{HasRoom}
-use Rattle.pas_steps.specs.Views.{View}
 use Rattle.pas_steps.specs.declared.step.Made.{Made}
 use Rattle.pas_steps.proofs.Adding.{adds_under, triples_append, agreed_later}
 use Rattle.pas_steps.proofs.Apart.{no_events}
@@ -35,10 +32,10 @@ use Rattle.pas_segregated.proofs.Starts.{start_below}
 use Rattle.pas_cache.specs.Changes.{LeavesSpent, StopsFirst, IsTakenOut, IsShortened}
 use Rattle.pas_cache.specs.Kinds.{releasing}
 use Rattle.pas_cache.specs.Locals.{is_for, local_for, others_than, HasOneEach, RestsWith}
-use Rattle.pas_cache.specs.Parts.{Rests, Releases, TakesCached, MayObtain, IsFoundFor, Obtains}
-use Rattle.pas_cache.specs.Serves.{MakesPlace, FindsCached, IsRefill, IsFew, HasNoneCached, IsToldBy}
+use Rattle.pas_cache.specs.Parts.{Releases, TakesCached, MayObtain, Obtains}
+use Rattle.pas_cache.specs.Serves.{MakesPlace, IsRefill, HasNoneCached, IsToldBy}
 use Rattle.pas_cache.proofs.FitsBefore.{no_fit_before}
-use Rattle.pas_cache.proofs.Locals.{NonePasses, none_found, found_passes, none_left}
+use Rattle.pas_cache.proofs.Locals.{none_found, found_passes, none_left}
 use Rattle.pas_cache.proofs.RefillEvents.{refill_few}
 use Rattle.pas_cache.proofs.Refills.{may_search, refill_of, found_by, rests_refilled}
 use Rattle.pas_cache.proofs.Resting.{rests_reordered}

@@ -1,5 +1,5 @@
 -- Slots come by a refill.
-use Rattle.std.proofs.Common.{◌≡◌, Bool, ℕ, ◌+◌, ◌*◌, ◌<◌, ◌≤◌, ◌==◌, true, false, ◌&&◌, ◌||◌, List, [], ◌∷◌, ◌++◌, length, Ok, Err, Result, None, inl, inr, refl, ap, sym, ◌∙◌, subst, arith, true≢false}
+use Rattle.std.proofs.Common.{◌≡◌, Bool, ℕ, ◌+◌, ◌*◌, ◌<◌, ◌==◌, true, false, ◌||◌, List, [], ◌∷◌, ◌++◌, Ok, Err, Result, None, refl, ap, sym, ◌∙◌, subst, arith, true≢false}
 use Rattle.std.specs.Prelude.{All, MatchResult, IfOk}
 use Rattle.std.specs.List.{cons_option, list_any}
 use Rattle.std.specs.Result.{result_ok}
@@ -19,7 +19,7 @@ use Rattle.pas_steps.specs.declared.step.Made.{Made}
 use Rattle.pas_search.specs.Searches.{MaySearch, SearchRoom, IsServed, IsRefused}
 use Rattle.pas_search.specs.declared.serving.Served.{Served}
 use Rattle.pas_segregated.specs.Refills.{answer_of, GivesSlots, Refills}
-use Rattle.pas_segregated.specs.Stops.{class_directory, directory_of}
+use Rattle.pas_segregated.specs.Stops.{class_directory}
 use Rattle.pas_segregated.specs.Takes.{exclusive}
 use Rattle.pas_segregated.specs.declared.slots.Slots.{Slots}
 use Rattle.pas_cache.specs.Effects.{Gains}
@@ -27,7 +27,7 @@ use Rattle.pas_cache.specs.Locals.{keeps_right, any_keeps, is_for, local_for, Is
 use Rattle.pas_cache.specs.Parts.{MayObtain, IsFoundFor}
 use Rattle.pas_cache.specs.Serves.{IsRefill}
 use Rattle.pas_cache.proofs.Below.{refill_leads, refusal_leads}
-use Rattle.pas_cache.proofs.Locals.{NonePasses, none_found}
+use Rattle.pas_cache.proofs.Locals.{none_found}
 use Rattle.pas_cache.proofs.Resting.{rests_gained, rests_kept}
 
 -- ---- an actor without a local allocator of a heap and a class has no right of a page of theirs

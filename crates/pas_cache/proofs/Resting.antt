@@ -1,5 +1,5 @@
 -- An actor that is at rest with local allocators: what it has of each, and that it is at rest again after a call.
-use Rattle.std.proofs.Common.{◌≡◌, ◌≢◌, ℕ, ◌+◌, ◌*◌, ◌/◌, ◌%◌, ◌<◌, ◌≤◌, ◌==◌, Bool, true, false, ◌&&◌, ◌||◌, if◌then◌else◌, List, [], ◌∷◌, ◌++◌, length, get_or, Some, None, refl, ap, sym, ◌∙◌, subst, arith, true≢false}
+use Rattle.std.proofs.Common.{◌≡◌, ℕ, ◌/◌, ◌<◌, ◌≤◌, ◌==◌, Bool, true, false, ◌||◌, if◌then◌else◌, List, ◌∷◌, ◌++◌, get_or, None, refl, ap, sym, ◌∙◌, subst, arith, true≢false}
 use Rattle.std.specs.Prelude.{All}
 use Rattle.std.specs.List.{list_any, count_by}
 use Rattle.std.specs.List.Sorted.{IsPermutation}
@@ -8,15 +8,13 @@ use Rattle.std.proofs.lemmas.List.Elements.{All-head, All-tail, All-cons}
 use Rattle.std.proofs.lemmas.List.Recursion.{or_at}
 use Rattle.std.proofs.lemmas.List.Sorted.{All-permutation, sum_by-IsPermutation, list_any-IsPermutation}
 use Rattle.pas_profile.specs.Classes.{class_grains, IsSlotStart}
-use Rattle.pas_profile.specs.Directories.{deed_word_of}
 use Rattle.pas_profile.specs.declared.directory.Directory.{Directory}
 use Rattle.pas_profile.specs.declared.profile.Profile.{Profile}
 use Rattle.pas_profile.proofs.ClassFacts.{class_grains_positive}
 use Rattle.pas_profile.proofs.Codecs.{deed_word_of-positive}
 use Rattle.pas_steps.specs.Agreement.{Agreed}
 use Rattle.pas_steps.specs.Calls.{Effect, Fate, Kept, Gained, Lost, now, nothing, ClearAfter, Does}
-use Rattle.pas_steps.specs.Clear.{IsClear}
-use Rattle.pas_steps.specs.Views.{View, holds, has_right, known_deed, knows_backed}
+use Rattle.pas_steps.specs.Views.{View, holds, knows_backed}
 use Rattle.pas_steps.specs.declared.step.Made.{Made}
 use Rattle.pas_steps.proofs.Kept.{deed_stays}
 use Rattle.pas_bits.specs.Masks.{HasMember}

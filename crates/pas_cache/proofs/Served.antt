@@ -1,13 +1,14 @@
 -- A request is answered from the local allocators.
-use Rattle.std.proofs.Common.{◌≡◌, ℕ, ◌+◌, ◌/◌, ◌^◌, ◌<◌, ◌≤◌, Bool, List, [], ◌∷◌, ◌++◌, length, Ok, Err, Result, inl, inr, ◌⊎◌, refl, ap, sym, ◌∙◌, subst, arith, append_assoc, append-nil, length-append}
-use Rattle.std.specs.Prelude.{MatchResult, All, ◌%◌}
+use Rattle.std.proofs.Common.{◌≡◌, ℕ, ◌+◌, ◌/◌, ◌^◌, ◌<◌, ◌≤◌, Bool, false, List, [], ◌∷◌, ◌++◌, length, Ok, Err, Result, inl, inr, Option, Some, true≢false, refl, ap, sym, ◌∙◌, subst, arith, append_assoc, append-nil, length-append}
+use Rattle.std.specs.Prelude.{MatchResult, All, ◌%◌, max}
 use Rattle.std.proofs.lemmas.List.Elements.{All-weaker}
 use Rattle.std.proofs.lemmas.List.Sorted.{IsPermutation-sym, IsPermutation-to_front}
 use Rattle.pas_steps.specs.Calls.{Calls}
 use Rattle.pas_steps.proofs.Called.{call_as, next_call}
 use Rattle.pas_steps.proofs.Calls.{leads_as, leads_at}
-use Rattle.pas_profile.specs.Profiles.{IsAdmitted, IsDirectoryOf}
-use Rattle.pas_profile.specs.Routes.{route_of}
+use Rattle.pas_profile.specs.Profiles.{IsAdmitted, IsDirectoryOf, IsPage}
+use Rattle.pas_profile.specs.Routes.{route_of, room_by}
+use Rattle.pas_profile.specs.Requests.{is_shared, kind_of_route}
 use Rattle.pas_profile.specs.declared.directory.Route.{Route}
 use Rattle.pas_profile.proofs.ClassFacts.{class_suits, routed_slot_aligned}
 use Rattle.pas_cache.specs.Caches.{Cached, AtRest}
@@ -21,23 +22,23 @@ use Rattle.pas_profile.specs.declared.event.Event.{Event}
 use Rattle.pas_profile.specs.declared.event.NoRoom.{NoRoom}
 use Rattle.pas_profile.specs.declared.name.Block.{Block}
 use Rattle.pas_profile.proofs.Codecs.{deed_word_of-positive}
-use Rattle.pas_profile.specs.Runs.{address_of}
 use Rattle.pas_steps.specs.Views.{View, known_deed}
 use Rattle.pas_steps.specs.Events.{events_of, events_by}
 use Rattle.pas_steps.specs.Agreement.{Agreed}
 use Rattle.pas_steps.specs.Lists.{Whole}
 use Rattle.pas_steps.specs.Desks.{Standing, Seat, CanCall}
 use Rattle.pas_steps.specs.declared.step.Made.{Made}
-use Rattle.pas_steps.proofs.Adding.{adds_under, adds_call, can_call, room_left, agreed_first, agreed_later}
+use Rattle.pas_steps.proofs.Adding.{adds_call, room_left, agreed_first, agreed_later}
 use Rattle.pas_steps.proofs.Frames.{events_append, events_split}
 use Rattle.pas_steps.proofs.Kept.{deed_stays}
 use Rattle.pas_search.proofs.ForBackEnds.{events_quiet}
 use Rattle.pas_segregated.specs.Stops.{class_directory, directory_of}
 use Rattle.pas_segregated.specs.declared.slots.Slots.{Slots}
 use Rattle.pas_steps.specs.Unknown.{unknown_pages}
-use Rattle.pas_cache.specs.Locals.{IsFormed, IsLocal, RestsWith}
-use Rattle.pas_cache.specs.Changes.{GivesSlot}
-use Rattle.pas_cache.specs.Serves.{IsClassRoute, class_of, IsObtained, IsPreparing, IsBlockFor, IsSilent}
+use Rattle.pas_cache.specs.Locals.{local_for, IsFormed, IsLocal, RestsWith}
+use Rattle.pas_bits.specs.Masks.{HasMember}
+use Rattle.pas_cache.specs.Changes.{GivesSlot, LeavesSpent}
+use Rattle.pas_cache.specs.Serves.{Wanted, wanted_for, class_wanted, IsClassRoute, IsObtained, IsAnswered, ServesLocals, IsPreparing, IsBlockFor, IsSilent}
 use Rattle.pas_cache.specs.Parts.{MayGiveSlot, GivesLowest, MayObtain, Obtains, ServesFrom}
 use Rattle.pas_steps.specs.Kinds.{Only}
 use Rattle.pas_steps.proofs.Apart.{no_events, only_both, only_within}
@@ -121,7 +122,8 @@ serves_given {σ} {σ1} {σ2} heap class tells locals fewer after slots rest blo
     let give : Calls σ1 σ2 (MayGiveSlot f slots) (λ v w. block.name.turn < 2 ^ 37) ys = subst (λ (s : Seat). Calls σ1 σ2 (MayGiveSlot s.profile slots) (λ v w. block.name.turn < 2 ^ 37) ys) one.calls.adds.seat_is two.calls in
     let before : (v : View) → RestsWith f locals v → Agreed f v (ys ++ xs) → RestsWith f (slots ∷ fewer) (xs ++ v) = λ v h agreed. one.calls.leads.from v h (agreed_later f v ys xs agreed) in
     let may : (v : View) → RestsWith f (slots ∷ fewer) v → MayGiveSlot f slots v = may_give_slot f slots fewer in
-    let local : IsLocal f (xs ++ can.view) slots = here f slots fewer (xs ++ can.view) (one.calls.leads.from can.view can.met (one.calls.adds.agreed can.view can.whole can.stood can.met)) in
+    let obtained : RestsWith f (slots ∷ fewer) (xs ++ can.view) = one.calls.leads.from can.view can.met (one.calls.adds.agreed can.view can.whole can.stood can.met) in
+    let local : IsLocal f (xs ++ can.view) slots = here f slots fewer (xs ++ can.view) obtained in
     record {
       steps = ys ++ xs;
       calls = record {
@@ -145,15 +147,15 @@ serves_given {σ} {σ1} {σ2} heap class tells locals fewer after slots rest blo
           record { paid = omega (arith, paid, fewer_left, split, last, left); most = omega (arith, most, split, last) };
       outcome = record {
         of_heap = two.gives.heap ∙ for.heap_is;
-        slot = record {
+        room = two.gives.room ∙ ap class_size for.class_is;
+        placed = record {
           page = slots.page;
           start = two.gives.start;
           is_start = subst (λ c. IsSlotStart c two.gives.start) for.class_is (local.starts two.gives.start two.gives.lowest.set);
           address = two.gives.address;
-          room = two.gives.room ∙ ap class_size for.class_is;
         };
         aligned = omega arith;
-        of_region = local.page;
+        of_region = λ g inside. subst (IsPage f) (sym (given_page f fewer slots rest block ys two.gives (xs ++ can.view) obtained g inside)) local.page;
         turn = record { from = λ v h agreed. (leads_at one.calls.adds.seat_is give.leads).from (xs ++ v) (may (xs ++ v) (before v h agreed)) (agreed_first f v ys xs agreed) };
         deeds = record {
           from = λ v h agreed g inside.
@@ -181,34 +183,62 @@ serves_none {σ} heap class tells locals fewer room one = record {
   told = one.told;
 }
 
+-- ---- a cached slot is given in two steps
+given_two : (fewer locals' : List Slots) (given : List Made) (found : Result Slots NoRoom) (answer : Result Block NoRoom) (slots : Slots) → found ≡ Ok slots → IsAnswered fewer locals' given found answer → length given ≡ 2
+given_two fewer locals' given (Ok got) (Ok block) slots is h = ap length h.1.steps_are
+given_two fewer locals' given (Ok got) (Err room) slots is h = absurd h
+given_two fewer locals' given (Err why) answer slots is h = cc
+
+spent_empty : (spent : List Made) (local : Option Slots) (slots : Slots) → local ≡ Some slots → LeavesSpent local spent → HasMember slots.starts → ⊥
+spent_empty spent local slots is leaves some = true≢false (sym some.2 ∙ (subst (λ l. LeavesSpent l spent) is leaves).0 some.0 some.1)
+
+cached_two : {f : Profile} {d : Directory} {heap class : ℕ} {locals locals' : List Slots} {steps : List Made} {answer : Result Block NoRoom} → (h : ServesLocals f d heap class locals locals' steps answer) → (slots : Slots) → local_for heap class locals ≡ Some slots → HasMember slots.starts
+    → length steps ≡ 2
+cached_two {heap = heap} {class = class} {locals = locals} {locals' = locals'} {answer = answer} h slots is some = elim h.obtained [
+  | inl cached ↦
+      let two = given_two h.fewer locals' h.given h.found answer cached.0 cached.1 h.ends in
+      let none = ap length cached.2.no_steps in
+      let all = ap length h.steps_are ∙ length-append h.given h.before in
+      omega (arith, two, none, all)
+  | inr fetch ↦ absurd (spent_empty fetch.place.spent (local_for heap class locals) slots is fetch.place.taken.0 some)
+]
+
 -- ---- of a cache
-for_cache : (f : Profile) (c : Cached) (d : Directory) (heap class size align : ℕ) (steps : List Made) (answer : Result Block NoRoom) → 4096 % align ≡ 0 → route_of size align ≡ Route.Class class → MatchResult answer (IsBlockFor f d (RestsWith f c.locals) heap class 1 steps) (λ room. IsSilent steps)
-    → MatchResult answer (IsBlockFor f d (AtRest f c) heap class align steps) (λ room. IsSilent steps)
-for_cache f c d heap class size align steps (Ok block) whole route h = record {
+for_cache : (f : Profile) (c : Cached) (heap class size align : ℕ) (steps : List Made) (answer : Result Block NoRoom) → 4096 % align ≡ 0 → route_of size align ≡ Route.Class class → MatchResult answer (IsBlockFor f (class_wanted heap class 1) (RestsWith f c.locals) steps) (λ room. IsSilent steps)
+    → MatchResult answer (IsBlockFor f (class_wanted heap class align) (AtRest f c) steps) (λ room. IsSilent steps)
+for_cache f c heap class size align steps (Ok block) whole route h = record {
   of_heap = h.of_heap;
-  slot = h.slot;
-  aligned = ap (λ a. a % align) h.slot.address ∙ routed_slot_aligned size align class h.slot.start h.slot.page whole route h.slot.is_start;
+  room = h.room;
+  placed = h.placed;
+  aligned = ap (λ a. a % align) h.placed.address ∙ routed_slot_aligned size align class h.placed.start h.placed.page whole route h.placed.is_start;
   of_region = h.of_region;
   turn = leads_as h.turn (λ v rest. rest.locals) (λ v w rest is. is);
   deeds = leads_as h.deeds (λ v rest. rest.locals) (λ v w rest is. is);
   events = h.events;
 }
-for_cache f c d heap class size align steps (Err room) whole route h = h
+for_cache f c heap class size align steps (Err room) whole route h = h
 
-pub directory_for : (f : Profile) (size align heap class : ℕ) → IsAdmitted f size align heap → route_of size align ≡ Route.Class class → IsDirectoryOf f (class_directory heap class)
-directory_for f size align heap class admitted route = record { heap = admitted.of_profile; kind = (class_suits size align class route).known }
+pub served_directory : (f : Profile) (size align heap class : ℕ) → IsAdmitted f size align heap → route_of size align ≡ Route.Class class → IsDirectoryOf f (class_directory heap class)
+served_directory f size align heap class admitted route = record { heap = admitted.of_profile; kind = (class_suits size align class route).known }
 
-pub allocates : {σ σ' : Standing} (size align heap class : ℕ) (tells : Bool) (c c' : Cached) (answer : Result Block NoRoom) → IsAdmitted σ.seat.profile size align heap → route_of size align ≡ Route.Class class → c' ≡ record c { locals = c'.locals }
-    → ServesFrom (class_directory heap class) heap class tells c.locals c'.locals σ σ' answer → Allocates (class_directory heap (class_of (route_of size align))) heap (class_of (route_of size align)) align tells c c' σ σ' answer
-allocates {σ} {σ'} size align heap class tells c c' answer admitted route is h =
+-- a request of a class in a heap that isn't shared wants exclusive pages of the class
+wanted_is : (f : Profile) (heap class size align : ℕ) → is_shared f heap ≡ false → route_of size align ≡ Route.Class class → class_wanted heap class align ≡ wanted_for f heap size align
+wanted_is f heap class size align exclusive route =
+    let by : Bool → Route → Wanted = λ b r. record { directory = record { heap = heap; kind = kind_of_route b r }; route = r; room = room_by r (max size 1); align = align } in
+    ap (λ (b : Bool). by b (Route.Class class)) (sym exclusive) ∙ ap (λ (r : Route). by (is_shared f heap) r) (sym route)
+
+pub allocates : {σ σ' : Standing} (size align heap class : ℕ) (tells : Bool) (c c' : Cached) (answer : Result Block NoRoom) → IsAdmitted σ.seat.profile size align heap → is_shared σ.seat.profile heap ≡ false → route_of size align ≡ Route.Class class → c' ≡ record c { locals = c'.locals }
+    → ServesFrom (class_directory heap class) heap class tells c.locals c'.locals σ σ' answer → Allocates (wanted_for σ.seat.profile heap size align) tells c c' σ σ' answer
+allocates {σ} {σ'} size align heap class tells c c' answer admitted exclusive route is h =
     let f : Profile = σ.seat.profile in
-    subst (λ r. Allocates (class_directory heap (class_of r)) heap (class_of r) align tells c c' σ σ' answer) (sym route) (record {
+    subst (λ (w : Wanted). Allocates w tells c c' σ σ' answer) (wanted_is f heap class size align exclusive route) (record {
       steps = h.steps;
       calls = call_as (λ v w. AtRest f c' w) h.calls (λ v rest. rest.locals) (λ v w rest locals. subst (λ x. AtRest f x w) (sym is) (record { locals = locals; few = h.place; entries = rest.entries; few_entries = rest.few_entries }));
       change = record { locals = h.change; cache = is };
       kinds = h.kinds;
+      two = cached_two h.change;
       few = λ k v rest agreed. h.few k v rest.locals agreed;
-      outcome = for_cache f c (class_directory heap class) heap class size align h.steps answer admitted.aligned.2 route h.outcome;
+      outcome = for_cache f c heap class size align h.steps answer admitted.aligned.2 route h.outcome;
       told = λ t v l stood rest. h.told t v l stood rest.locals;
     })
 

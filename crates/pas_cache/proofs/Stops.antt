@@ -1,5 +1,5 @@
 -- Local allocators are stopped.
-use Rattle.std.proofs.Common.{◌≡◌, ℕ, ◌+◌, ◌<◌, ◌≤◌, ◌==◌, nat_le, true, false, List, [], ◌∷◌, ◌++◌, length, refl, ap, sym, ◌∙◌, subst, arith}
+use Rattle.std.proofs.Common.{length-append, ◌≡◌, ℕ, ◌+◌, ◌<◌, ◌≤◌, ◌==◌, true, false, List, [], ◌∷◌, ◌++◌, length, refl, ap, sym, ◌∙◌, subst, arith}
 use Rattle.std.specs.Prelude.{slice_index_or, remove}
 use Rattle.std.specs.List.Sorted.{IsPermutation}
 use Rattle.std.proofs.lemmas.Bool.{le-leb, lt-leb, eqb-true, eqb-false}
@@ -18,7 +18,7 @@ use Rattle.pas_steps.proofs.Called.{call_none, call_then, next_call}
 use Rattle.pas_steps.proofs.Frames.{events_split}
 use Rattle.pas_segregated.specs.Stops.{StopSteps, MayStop, Stops}
 use Rattle.pas_segregated.specs.declared.slots.Slots.{Slots}
-use Rattle.pas_cache.specs.Changes.{StopsFirst, StopsAll, IsShortened}
+use Rattle.pas_cache.specs.Changes.{StopsFirst, StopsEach, IsShortened}
 use Rattle.pas_cache.specs.Kinds.{releasing}
 use Rattle.pas_cache.specs.Locals.{IsLocal, RestsWith}
 use Rattle.pas_cache.specs.Parts.{Rests, Releases}
@@ -99,15 +99,18 @@ module _ {σ σ1 : Standing} {First : List Made → Type 0} (locals kept : List 
 pub last_popped : (xs : List Slots) (x : Slots) (ys : List Slots) → xs ≡ ys ++ x ∷ [] → IsPermutation xs (x ∷ ys)
 last_popped xs x ys is = subst (λ zs. IsPermutation zs (x ∷ ys)) (sym is) (IsPermutation-to_front ys x)
 
-pub stops_more : {σ σ1 σ2 : Standing} (locals kept rest : List Slots) (x : Slots) (stopped : List Slots) → kept ≡ rest ++ x ∷ [] → (one : Releases (StopsAll stopped) locals kept σ σ1) → Stops x σ1 σ2 → Releases (StopsAll (x ∷ stopped)) locals rest σ σ2
+pub stops_more : {σ σ1 σ2 : Standing} (locals kept rest : List Slots) (x : Slots) (stopped : List Slots) → kept ≡ rest ++ x ∷ [] → (one : Releases (StopsEach stopped) locals kept σ σ1) → Stops x σ1 σ2 → Releases (StopsEach (x ∷ stopped)) locals rest σ σ2
 stops_more locals kept rest x stopped is one stops =
-    releases_then locals kept one (StopsAll (x ∷ stopped)) rest (releases_by kept x rest (last_popped kept x rest is) (StopSteps x) stops stops.order) (stops.steps, one.steps, stops.order, one.change, refl)
+    let n = length-append stops.steps one.steps in
+    let here = stops.few in
+    let before = one.change.few in
+    releases_then locals kept one (StopsEach (x ∷ stopped)) rest (releases_by kept x rest (last_popped kept x rest is) (StopSteps x) stops stops.order) (record { order = (stops.steps, one.steps, stops.order, one.change.order, refl); few = omega (arith, n, here, before) })
 
 pub nil_from : (xs ys : List Slots) → (0 < length xs → ⊥) → xs ≡ ys → ys ≡ []
 nil_from [] ys none is = sym is
 nil_from (x ∷ xs) ys none is = absurd (none (omega arith))
 
-pub all_stopped : {σ σ1 : Standing} (locals kept stopped : List Slots) → kept ≡ [] → locals ≡ kept ++ stopped → Releases (StopsAll stopped) locals kept σ σ1 → Releases (StopsAll locals) locals [] σ σ1
+pub all_stopped : {σ σ1 : Standing} (locals kept stopped : List Slots) → kept ≡ [] → locals ≡ kept ++ stopped → Releases (StopsEach stopped) locals kept σ σ1 → Releases (StopsEach locals) locals [] σ σ1
 all_stopped {σ} {σ1} locals kept stopped empty whole releases =
     let same : stopped ≡ locals = sym (whole ∙ ap (λ xs. xs ++ stopped) empty) in
-    subst (λ xs. Releases (StopsAll xs) locals [] σ σ1) same (subst (λ xs. Releases (StopsAll stopped) locals xs σ σ1) empty releases)
+    subst (λ xs. Releases (StopsEach xs) locals [] σ σ1) same (subst (λ xs. Releases (StopsEach stopped) locals xs σ σ1) empty releases)

@@ -1,29 +1,29 @@
 -- What the calls of a cache promise.
-use Rattle.std.specs.Prelude.{ℕ, ◌%◌, ◌≡◌, Bool, true, List, [], ◌∷◌, ◌++◌, Result, MatchResult}
+use Rattle.std.specs.Prelude.{ℕ, ◌≡◌, Bool, true, List, [], ◌∷◌, ◌++◌, length, Some, Result, MatchResult}
 use Rattle.pas_profile.specs.declared.event.FreeFault.{FreeFault}
 use Rattle.pas_profile.specs.declared.event.NoRoom.{NoRoom}
 use Rattle.pas_profile.specs.declared.name.Name.{Name}
 use Rattle.pas_profile.specs.declared.name.Block.{Block}
 use Rattle.pas_profile.specs.declared.profile.Profile.{Profile}
 use Rattle.pas_profile.specs.declared.word.Word.TheVariants as Word
-use Rattle.pas_profile.specs.Runs.{address_of}
 use Rattle.pas_steps.specs.Views.{View}
 use Rattle.pas_steps.specs.Events.{events_by}
-use Rattle.pas_steps.specs.Agreement.{Agreed}
 use Rattle.pas_steps.specs.Lists.{Whole}
-use Rattle.pas_profile.specs.declared.directory.Directory.{Directory}
 use Rattle.pas_steps.specs.Calls.{Calls}
 use Rattle.pas_steps.specs.Desks.{Standing, triples, made}
 use Rattle.pas_steps.specs.declared.step.Made.{Made}
 use Rattle.pas_steps.specs.declared.step.Step.TheVariants.{Look}
 use Rattle.pas_steps.specs.Unknown.{HasRoom}
+use Rattle.pas_bits.specs.Masks.{HasMember}
+use Rattle.pas_segregated.specs.declared.slots.Slots.{Slots}
+use Rattle.pas_cache.specs.Locals.{local_for}
 use Rattle.pas_cache.specs.Caches.{Cached, AtRest}
 use Rattle.pas_steps.specs.Clear.{HasNothing}
 use Rattle.pas_cache.specs.Names.{IsInRegion, IsFaultOf}
-use Rattle.pas_cache.specs.Changes.{EmptiesLog, LogsName, StopsAll}
+use Rattle.pas_cache.specs.Changes.{EmptiesLog, LogsName, StopsEach}
 use Rattle.pas_steps.specs.Kinds.{Only}
 use Rattle.pas_cache.specs.Kinds.{releasing, allocating}
-use Rattle.pas_cache.specs.Serves.{ServesRequest, IsBlockFor, MakesFew, IsSilent, IsToldBy}
+use Rattle.pas_cache.specs.Serves.{Wanted, class_of, ServesRequest, IsBlockFor, MakesFew, IsSilent, IsToldBy}
 
 -- an actor at rest with the one cache is at rest with the other after these steps
 abbrev pub Rests : Cached → Cached → Standing → Standing → List Made → Type 0
@@ -42,15 +42,17 @@ pub record MayAllocate (f : Profile) (c : Cached) (spare : ℕ) (v : View) : Typ
   pub rest : AtRest f c v
   pub room : HasRoom f 2 spare v
 
--- The cache serves the request, and its actor is at rest again. A refused request made no event, so no block changed.
-pub record Allocates (d : Directory) (heap class align : ℕ) (tells : Bool) (c c' : Cached) (desk desk' : Standing) (answer : Result Block NoRoom) : Type 0 where
+-- The cache serves the request, and its actor is at rest again. Where a slot is cached there are two steps. A refused request made no event, so no
+-- block changed.
+pub record Allocates (wanted : Wanted) (tells : Bool) (c c' : Cached) (desk desk' : Standing) (answer : Result Block NoRoom) : Type 0 where
   pub steps : List Made
   pub calls : Rests c c' desk desk' steps
-  pub change : ServesRequest desk.seat.profile d heap class c c' steps answer
+  pub change : ServesRequest desk.seat.profile wanted.directory wanted.directory.heap (class_of wanted.route) c c' steps answer
   pub kinds : Only allocating steps
+  pub two : (slots : Slots) → local_for wanted.directory.heap (class_of wanted.route) c.locals ≡ Some slots → HasMember slots.starts → length steps ≡ 2
   pub few : MakesFew desk.seat.profile (AtRest desk.seat.profile c) 2 steps
-  pub outcome : MatchResult answer (IsBlockFor desk.seat.profile d (AtRest desk.seat.profile c) heap class align steps) (λ room. IsSilent steps)
-  pub told : tells ≡ true → (v : View) (l : Whole) → desk.stands v l → AtRest desk.seat.profile c v → IsToldBy desk.seat.profile d heap class c.locals l (triples desk.seat.actor steps ++ l) answer
+  pub outcome : MatchResult answer (IsBlockFor desk.seat.profile wanted (AtRest desk.seat.profile c) steps) (λ room. IsSilent steps)
+  pub told : tells ≡ true → (v : View) (l : Whole) → desk.stands v l → AtRest desk.seat.profile c v → IsToldBy desk.seat.profile wanted.directory wanted.directory.heap (class_of wanted.route) c.locals l (triples desk.seat.actor steps ++ l) answer
 
 -- ---- free
 -- a fault changes nothing
@@ -84,7 +86,7 @@ pub record StopsCache (c c' : Cached) (desk desk' : Standing) : Type 0 where
   pub stopped : List Made
   pub calls : Calls desk desk' (AtRest desk.seat.profile c) (λ v w. AtRest desk.seat.profile c' w × HasNothing w) (stopped ++ flushed)
   pub empties : EmptiesLog desk.seat.actor c.log flushed
-  pub stops : StopsAll c.locals stopped
+  pub stops : StopsEach c.locals stopped
   pub kinds : Only releasing stopped
   pub silent : (k : ℕ) (v : View) → events_by k v stopped ≡ []
   pub cache : c' ≡ record c { locals = []; log = [] }

@@ -1,5 +1,5 @@
 -- How the content of a cache changes, over the steps of a call, the newest first.
-use Rattle.std.specs.Prelude.{ℕ, ◌+◌, ◌*◌, ◌≡◌, ◌==◌, nat_le, Bool, true, false, not, ◌&&◌, List, [], ◌∷◌, ◌++◌, length, map, reverse, Option, None, Some}
+use Rattle.std.specs.Prelude.{ℕ, ◌+◌, ◌*◌, ◌≤◌, ◌≡◌, ◌==◌, nat_le, Bool, true, false, not, ◌&&◌, List, [], ◌∷◌, ◌++◌, length, map, reverse, Option, None, Some}
 use Rattle.std.specs.List.{flat_map}
 use Rattle.pas_profile.specs.Classes.{class_size}
 use Rattle.pas_profile.specs.Lives.{turn_of}
@@ -69,9 +69,15 @@ abbrev pub StopsAll : List Slots → List Made → Type 0
 StopsAll [] steps = steps ≡ []
 StopsAll (slots ∷ rest) steps = (piece : List Made) × (before : List Made) × StopSteps slots piece × StopsAll rest before × (steps ≡ piece ++ before)
 
+-- .. by at most 23 steps each
+pub record StopsEach (locals : List Slots) (steps : List Made) : Type 0 where
+  pub order : StopsAll locals steps
+  pub few : length steps ≤ 23 * length locals
+
 -- ---- the log is emptied
 -- A look at the epoch, and then the steps for each of these entries in order. Each makes one event, with exactly its name and the epoch that was
 -- read; each page of each block that ended is stamped once with it, and no other page. `settled` has what came of each, the newest first.
+-- There are at most three steps for each entry, and fourteen for each page that is stamped.
 pub record EmptiesLog (actor : ℕ) (logged : List Entry) (steps : List Made) : Type 0 where
   pub epoch : ℕ
   pub settled : List Settled
@@ -81,6 +87,7 @@ pub record EmptiesLog (actor : ℕ) (logged : List Entry) (steps : List Made) : 
   pub steps_are : steps ≡ entries ++ (made (Look Word.Epoch) epoch ∷ [])
   pub events : (v : View) → events_by actor v steps ≡ map (shown_for actor epoch) settled
   pub stamps : (v : View) → stamps_by v steps ≡ flat_map (stamps_for epoch) settled
+  pub few : length steps ≤ 1 + 3 * length logged + 14 * length (flat_map (stamps_for epoch) settled)
 
 -- before a name is added: a full log is emptied, and another isn't touched
 abbrev pub EmptiesFull : Bool → ℕ → List Entry → List Entry → List Made → Type 0

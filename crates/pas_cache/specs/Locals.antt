@@ -1,6 +1,6 @@
 -- Local allocators: each is the unused slots of one page that a thread got for a heap and a class. A list of them is in order of last use, the
 -- last used at the end.
-use Rattle.std.specs.Prelude.{ℕ, ◌≤◌, ◌≡◌, ◌==◌, Bool, true, false, ◌&&◌, not, List, Option, All}
+use Rattle.std.specs.Prelude.{ℕ, ◌≤◌, ◌≡◌, ◌==◌, Bool, true, ◌&&◌, not, List, Option, All}
 use Rattle.std.specs.List.{list_any, find, filter, count_by}
 use Rattle.pas_profile.specs.Classes.{IsClass}
 use Rattle.pas_profile.specs.Profiles.{IsPage, IsDirectoryOf}

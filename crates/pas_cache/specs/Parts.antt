@@ -1,11 +1,9 @@
 -- What the parts of the calls ask and promise.
-use Rattle.std.specs.Prelude.{ℕ, ◌^◌, ◌<◌, ◌≤◌, ◌≡◌, Bool, true, false, ◌⊎◌, List, [], ◌∷◌, ◌++◌, length, None, Some, Option, Result, MatchResult, MatchOption}
+use Rattle.std.specs.Prelude.{ℕ, ◌^◌, ◌<◌, ◌≤◌, ◌≡◌, Bool, true, false, List, ◌++◌, length, None, Option, Result, MatchResult, MatchOption}
 use Rattle.pas_profile.specs.declared.event.NoRoom.{NoRoom}
 use Rattle.pas_profile.specs.declared.name.Block.{Block}
 use Rattle.pas_profile.specs.declared.profile.Profile.{Profile}
 use Rattle.pas_steps.specs.Views.{View, holds, is_unstamped}
-use Rattle.pas_steps.specs.Events.{events_by}
-use Rattle.pas_steps.specs.Agreement.{Agreed}
 use Rattle.pas_steps.specs.Lists.{Whole}
 use Rattle.pas_profile.specs.declared.directory.Directory.{Directory}
 use Rattle.std.specs.List.{cons_option}
@@ -16,14 +14,12 @@ use Rattle.pas_steps.specs.declared.step.Made.{Made}
 use Rattle.pas_steps.specs.Kinds.{Only}
 use Rattle.pas_cache.specs.Kinds.{releasing, allocating}
 use Rattle.pas_steps.specs.Unknown.{HasRoom}
-use Rattle.pas_search.specs.Telling.{HasNoFit, IsTrueReason}
 use Rattle.pas_bits.specs.Masks.{HasMember}
 use Rattle.pas_segregated.specs.Stops.{class_directory}
-use Rattle.pas_segregated.specs.Takes.{exclusive}
 use Rattle.pas_segregated.specs.declared.slots.Slots.{Slots}
-use Rattle.pas_cache.specs.Locals.{covers, local_for, others_than, IsLocal, RestsWith}
+use Rattle.pas_cache.specs.Locals.{covers, local_for, IsLocal, RestsWith}
 use Rattle.pas_cache.specs.Changes.{GivesSlot}
-use Rattle.pas_cache.specs.Serves.{FindsCached, MakesPlace, IsObtained, ServesLocals, IsBlockFor, MakesFew, IsSilent, HasNoneCached, IsToldBy}
+use Rattle.pas_cache.specs.Serves.{FindsCached, MakesPlace, IsObtained, ServesLocals, class_wanted, IsBlockFor, MakesFew, IsSilent, HasNoneCached, IsToldBy}
 
 -- an actor at rest with the one list is at rest with the other after these steps
 abbrev pub Rests : List Slots → List Slots → Standing → Standing → List Made → Type 0
@@ -87,6 +83,6 @@ pub record ServesFrom (d : Directory) (heap class : ℕ) (tells : Bool) (locals 
   pub change : ServesLocals desk.seat.profile d heap class locals locals' steps answer
   pub kinds : Only allocating steps
   pub few : MakesFew desk.seat.profile (RestsWith desk.seat.profile locals) 2 steps
-  pub outcome : MatchResult answer (IsBlockFor desk.seat.profile d (RestsWith desk.seat.profile locals) heap class 1 steps) (λ room. IsSilent steps)
+  pub outcome : MatchResult answer (IsBlockFor desk.seat.profile (class_wanted heap class 1) (RestsWith desk.seat.profile locals) steps) (λ room. IsSilent steps)
   pub place : length locals' ≤ 32
   pub told : tells ≡ true → (v : View) (l : Whole) → desk.stands v l → RestsWith desk.seat.profile locals v → IsToldBy desk.seat.profile d heap class locals l (triples desk.seat.actor steps ++ l) answer

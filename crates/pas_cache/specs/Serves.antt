@@ -2,6 +2,8 @@
 use Rattle.std.specs.Prelude.{ℕ, ◌+◌, ◌*◌, ◌/◌, ◌^◌, ◌<◌, ◌≤◌, ◌%◌, ◌≡◌, true, ◌⊎◌, List, [], ◌∷◌, ◌++◌, length, Some, Result, Ok, Err, MatchResult}
 use Rattle.std.specs.List.{AllByRecursion}
 use Rattle.pas_profile.specs.Profiles.{IsPage}
+use Rattle.pas_profile.specs.Requests.{directory_for}
+use Rattle.pas_profile.specs.Routes.{route_of, room_of}
 use Rattle.pas_profile.specs.Classes.{IsSlotStart, class_size}
 use Rattle.pas_profile.specs.declared.directory.Directory.{Directory}
 use Rattle.pas_profile.specs.declared.directory.Route.{Route}
@@ -23,6 +25,7 @@ use Rattle.pas_steps.specs.Calls.{Leads}
 use Rattle.pas_steps.specs.Kinds.{Only}
 use Rattle.pas_cache.specs.Kinds.{releasing}
 use Rattle.pas_segregated.specs.Takes.{exclusive}
+use Rattle.pas_segregated.specs.Stops.{class_directory}
 use Rattle.pas_segregated.specs.Refills.{GivesSlots}
 use Rattle.pas_segregated.specs.declared.slots.Slots.{Slots}
 use Rattle.pas_cache.specs.Locals.{local_for, others_than}
@@ -108,24 +111,45 @@ pub data IsPreparing (d : Directory) : Event → Type 0 where
   Deeds : (k page : ℕ) → IsPreparing d (Event.Deed k page d)
   Backs : (k page : ℕ) → IsPreparing d (Event.Back k page)
 
--- the block is in a slot of the class
+-- what a request comes to: the directory of its pages, its route, the room of its block, and at a multiple of what the block is
+pub record Wanted : Type 0 where
+  pub directory : Directory
+  pub route : Route
+  pub room : ℕ
+  pub align : ℕ
+
+abbrev pub wanted_for : Profile → ℕ → ℕ → ℕ → Wanted
+wanted_for f heap size align = record { directory = directory_for f heap size align; route = route_of size align; room = room_of size align; align = align }
+
+-- that of exclusive pages of a class
+abbrev pub class_wanted : ℕ → ℕ → ℕ → Wanted
+class_wanted heap class align = record { directory = class_directory heap class; route = Route.Class class; room = class_size class; align = align }
+
+-- the block begins where a slot of the class does
 pub record IsInSlot (class : ℕ) (block : Block) : Type 0 where
   pub page : ℕ
   pub start : ℕ
   pub is_start : IsSlotStart class start
   pub address : address_of block.name ≡ page * 4096 + start * 16
-  pub room : block.room ≡ class_size class
 
--- The block is of the heap, in a slot of the class on a page of the region, and at a multiple of the alignment. Each page of its run is known to
--- have the request's directory as its deed. It is given last, after deeds of this directory and backs.
-pub record IsBlockFor (f : Profile) (d : Directory) (Meets : View → Type 0) (heap class align : ℕ) (steps : List Made) (block : Block) : Type 0 where
-  pub of_heap : block.heap ≡ heap
-  pub slot : IsInSlot class block
-  pub aligned : address_of block.name % align ≡ 0
-  pub of_region : IsPage f slot.page
+-- where the block stands, by its route: in a slot of the class, on one page, or from the first grain of a page on
+abbrev pub IsPlaced : Route → Block → Type 0
+IsPlaced (Route.Class class) block = IsInSlot class block
+IsPlaced Route.Bitfit block = address_of block.name % 4096 + block.room ≤ 4096
+IsPlaced Route.Large block = address_of block.name % 4096 ≡ 0
+
+-- The block is of the heap and has the room that the request gets. It stands where its route puts it, on pages of the region, and at a multiple of
+-- the alignment. Each page of its run is known to have the request's directory as its deed. It is given last, after deeds of this directory and
+-- backs.
+pub record IsBlockFor (f : Profile) (wanted : Wanted) (Meets : View → Type 0) (steps : List Made) (block : Block) : Type 0 where
+  pub of_heap : block.heap ≡ wanted.directory.heap
+  pub room : block.room ≡ wanted.room
+  pub placed : IsPlaced wanted.route block
+  pub aligned : address_of block.name % wanted.align ≡ 0
+  pub of_region : (g : ℕ) → in_run (grain_of block.name) (length_of block) g ≡ true → IsPage f (g / 256)
   pub turn : Leads f Meets (λ v w. block.name.turn < 2 ^ 37) steps
-  pub deeds : Leads f Meets (λ v w. (g : ℕ) → in_run (grain_of block.name) (length_of block) g ≡ true → KnowsDeed (g / 256) d w) steps
-  pub events : (k : ℕ) (v : View) → (before : List Event) × (events_by k v steps ≡ Event.Give k block ∷ before) × AllByRecursion (IsPreparing d) before
+  pub deeds : Leads f Meets (λ v w. (g : ℕ) → in_run (grain_of block.name) (length_of block) g ≡ true → KnowsDeed (g / 256) wanted.directory w) steps
+  pub events : (k : ℕ) (v : View) → (before : List Event) × (events_by k v steps ≡ Event.Give k block ∷ before) × AllByRecursion (IsPreparing wanted.directory) before
 
 -- Each deed that was made is one that the actor didn't know before. So the events, and the pages whose deed isn't known then, are at most n more
 -- than the pages whose deed wasn't known before. At most one deed is made.

@@ -5,6 +5,7 @@ ghost use Rattle.pas_cache.specs.Locals.{HasOneEach, IsFormed};
 use arrayvec::ArrayVec;
 use pas_free_log::FreeLog;
 use pas_profile::Word;
+use pas_profile::limits::MOST_LOCALS;
 use pas_segregated::Slots;
 use pas_steps::Desk;
 use pas_utility::CacheSeat;
@@ -17,7 +18,7 @@ use pas_utility::CacheSeat;
 pub struct ThreadCache {
     pub(crate) seat: CacheSeat,
     /// In order of last use, the last used at the end.
-    pub(crate) locals: ArrayVec<Slots, 32>,
+    pub(crate) locals: ArrayVec<Slots, MOST_LOCALS>,
     pub(crate) log: FreeLog,
     pub(crate) idle_since: u64,
     ghost one_each: { HasOneEach locals.items },

@@ -7,6 +7,7 @@ ghost use Rattle.pas_cache.specs.Names.{IsInRegion, IsFaultOf, MayFlush, Empties
 
 use crate::cache::ThreadCache;
 use pas_free_log::{FreeLog, flush};
+use pas_profile::limits::{GRAIN_BYTES, MOST_LOGGED, PAGE_BYTES};
 use pas_profile::{FreeFault, Name, Profile};
 use pas_steps::Desk;
 
@@ -14,11 +15,11 @@ use pas_steps::Desk;
 fn check(profile: &Profile, name: Name) -> Result<(), FreeFault>
     ensures { MatchResult result (λ done. IsInRegion profile.now name) (IsFaultOf profile.now name) }
 {
-    let page = name.address.0 / 4096;
+    let page = name.address.0 / PAGE_BYTES;
     if page < 1 || page > profile.pages {
         return Err(FreeFault::Outside);
     }
-    if name.address.0 % 16 != 0 {
+    if name.address.0 % GRAIN_BYTES != 0 {
         return Err(FreeFault::Unaligned);
     }
     Ok(())
@@ -32,7 +33,7 @@ fn make_room<D: Desk>(desk: &mut D, log: &mut FreeLog)
     ensures left { length (entries_in log.new) < 64 }
     ensures home { D.home desk.new ≡ D.home desk.old }
 {
-    if log.len() >= 64 {
+    if log.len() as usize >= MOST_LOGGED {
         flush(desk, log);
     }
 }
@@ -76,7 +77,8 @@ impl ThreadCache {
 
     /// Reads the epoch, and ends the blocks of the logged names in order. The log is empty afterwards.
     ///
-    /// Each name makes one event, and there is room for them: `End` with the epoch that was read, or `Reject` where no block of this name lives.
+    /// Each name makes one event, and there is room for them: `End` with the epoch that was read, or `Reject` where no block of this name lives. One
+    /// step, and at most three for each name and fourteen for each page of its block.
     pub fn flush<D: Desk>(&mut self, desk: &mut D)
         requires room { length (cached self.old).log ≤ D.spare_of desk.old }
         requires can { CanCall (D.standing desk.old) (λ v l. AtRest (D.standing desk.old).seat.profile (cached self.old) v) }

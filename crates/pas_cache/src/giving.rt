@@ -5,6 +5,7 @@ ghost use Rattle.pas_bits.specs.Masks.{HasMember};
 ghost use Rattle.pas_cache.specs.Parts.{MayGiveSlot, GivesLowest};
 
 use pas_profile::classes::class_size;
+use pas_profile::limits::{GRAIN_BYTES, PAGE_BYTES};
 use pas_profile::{Address, Block, Name, Word, read_life};
 use pas_segregated::Slots;
 use pas_steps::Desk;
@@ -23,7 +24,7 @@ pub fn give_lowest<D: Desk>(desk: &mut D, mut slots: Slots) -> (Slots, Block)
     let (turn, _, _) = read_life(desk.look(Word::Life(slots.page, start)));
     let block = Block {
         name: Name {
-            address: Address(slots.page * 4096 + start as u32 * 16),
+            address: Address(slots.page * PAGE_BYTES + start as u32 * GRAIN_BYTES),
             turn,
         },
         room: class_size(slots.class),

@@ -10,11 +10,12 @@ ghost use Rattle.pas_cache.specs.Parts.{Releases, TakesCached, MayObtain, Obtain
 use crate::taking::{has_slot, take_out};
 use arrayvec::ArrayVec;
 use pas_profile::NoRoom;
+use pas_profile::limits::MOST_LOCALS;
 use pas_segregated::{Slots, refill, stop};
 use pas_steps::Desk;
 
 /// Stops the local allocator that was used longest ago where 32 are there. At most 23 steps, and no event.
-fn shorten<D: Desk>(desk: &mut D, locals: &mut ArrayVec<Slots, 32>)
+fn shorten<D: Desk>(desk: &mut D, locals: &mut ArrayVec<Slots, MOST_LOCALS>)
     requires can { CanCall (D.standing desk.old) (λ v l. RestsWith (D.standing desk.old).seat.profile locals.old.items v) }
     ensures shortens { Releases (IsShortened locals.old.items locals.new.items) locals.old.items locals.new.items (D.standing desk.old) (D.standing desk.new) }
     ensures few { length locals.new.items < 32 }
@@ -31,7 +32,7 @@ fn shorten<D: Desk>(desk: &mut D, locals: &mut ArrayVec<Slots, 32>)
 /// longest ago is stopped where 32 are there. At most 46 steps, and no event.
 fn take_cached<D: Desk>(
     desk: &mut D,
-    locals: &mut ArrayVec<Slots, 32>,
+    locals: &mut ArrayVec<Slots, MOST_LOCALS>,
     heap: u8,
     class: u8,
 ) -> Option<Slots>
@@ -55,7 +56,7 @@ fn take_cached<D: Desk>(
 /// Takes the local allocator of the heap and the class out of the list where it has a slot, and gets new slots otherwise.
 pub fn obtain<D: Desk>(
     desk: &mut D,
-    locals: &mut ArrayVec<Slots, 32>,
+    locals: &mut ArrayVec<Slots, MOST_LOCALS>,
     heap: u8,
     class: u8,
 ) -> Result<Slots, NoRoom>

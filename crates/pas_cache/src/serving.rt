@@ -9,6 +9,7 @@ use crate::cache::ThreadCache;
 use crate::giving::give_lowest;
 use crate::obtaining::obtain;
 use arrayvec::ArrayVec;
+use pas_profile::limits::MOST_LOCALS;
 use pas_profile::{Block, NoRoom, Route, route};
 use pas_segregated::Slots;
 use pas_steps::Desk;
@@ -16,7 +17,7 @@ use pas_steps::Desk;
 /// Serves a request of the class from the local allocators.
 fn serve<D: Desk>(
     desk: &mut D,
-    locals: &mut ArrayVec<Slots, 32>,
+    locals: &mut ArrayVec<Slots, MOST_LOCALS>,
     heap: u8,
     class: u8,
 ) -> Result<Block, NoRoom>
@@ -40,8 +41,7 @@ impl ThreadCache {
     ghost use Rattle.pas_profile.specs.Classes.{has_bit};
     ghost use Rattle.pas_profile.specs.Profiles.{IsAdmitted};
     ghost use Rattle.pas_profile.specs.Routes.{route_of};
-    ghost use Rattle.pas_segregated.specs.Stops.{class_directory};
-    ghost use Rattle.pas_cache.specs.Serves.{IsClassRoute, class_of};
+    ghost use Rattle.pas_cache.specs.Serves.{IsClassRoute, wanted_for};
     ghost use Rattle.pas_cache.specs.Caches.{cached, seat_of};
     ghost use Rattle.pas_cache.specs.Calls.{MayAllocate, Allocates};
 
@@ -63,7 +63,7 @@ impl ThreadCache {
         requires route { IsClassRoute (route_of size align) }
         requires exclusive { has_bit (D.standing desk.old).seat.profile.shared heap ≡ false }
         requires can { CanCall (D.standing desk.old) (λ v l. MayAllocate (D.standing desk.old).seat.profile (cached self.old) (D.spare_of desk.old) v) }
-        ensures allocates { Allocates (class_directory heap (class_of (route_of size align))) heap (class_of (route_of size align)) align D.tells (cached self.old) (cached self.new) (D.standing desk.old) (D.standing desk.new) result }
+        ensures allocates { Allocates (wanted_for (D.standing desk.old).seat.profile heap size align) D.tells (cached self.old) (cached self.new) (D.standing desk.old) (D.standing desk.new) result }
         ensures actor { seat_of self.new ≡ seat_of self.old }
         ensures home { D.home desk.new ≡ D.home desk.old }
     {

@@ -2,19 +2,20 @@
 ghost use Rattle.std.specs.Prelude.{◌≡◌, []};
 ghost use Rattle.pas_steps.specs.Desks.{CanCall};
 ghost use Rattle.pas_cache.specs.Locals.{RestsWith};
-ghost use Rattle.pas_cache.specs.Changes.{StopsAll};
+ghost use Rattle.pas_cache.specs.Changes.{StopsEach};
 ghost use Rattle.pas_cache.specs.Parts.{Releases};
 
 use crate::cache::ThreadCache;
 use arrayvec::ArrayVec;
 use pas_free_log::flush;
+use pas_profile::limits::MOST_LOCALS;
 use pas_segregated::{Slots, stop};
 use pas_steps::Desk;
 
 /// Stops all local allocators, from the last used one on. At most 23 steps for each, and no event.
-fn stop_all<D: Desk>(desk: &mut D, locals: &mut ArrayVec<Slots, 32>)
+fn stop_all<D: Desk>(desk: &mut D, locals: &mut ArrayVec<Slots, MOST_LOCALS>)
     requires can { CanCall (D.standing desk.old) (λ v l. RestsWith (D.standing desk.old).seat.profile locals.old.items v) }
-    ensures stops { Releases (StopsAll locals.old.items) locals.old.items [] (D.standing desk.old) (D.standing desk.new) }
+    ensures stops { Releases (StopsEach locals.old.items) locals.old.items [] (D.standing desk.old) (D.standing desk.new) }
     ensures empty { locals.new.items ≡ [] }
     ensures spare { D.spare_of desk.new ≡ D.spare_of desk.old }
     ensures home { D.home desk.new ≡ D.home desk.old }
@@ -31,7 +32,7 @@ impl ThreadCache {
     ghost use Rattle.pas_cache.specs.Calls.{StopsCache};
 
     /// Flushes the log, and stops each local allocator: the grains of its unused slots are put back, and the right of its page is left. The cache
-    /// is empty afterwards, so its actor holds and has nothing. There is room for an event for each logged name.
+    /// is empty afterwards, so its actor holds and has nothing. At most 23 steps for each local allocator beside those of the flush. There is room for an event for each logged name.
     pub fn stop<D: Desk>(&mut self, desk: &mut D)
         requires room { length (cached self.old).log ≤ D.spare_of desk.old }
         requires can { CanCall (D.standing desk.old) (λ v l. AtRest (D.standing desk.old).seat.profile (cached self.old) v) }

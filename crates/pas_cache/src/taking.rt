@@ -4,6 +4,7 @@ ghost use Rattle.pas_bits.specs.Masks.{HasMember, IsEmpty};
 ghost use Rattle.pas_cache.specs.Locals.{is_for, local_for, others_than};
 
 use arrayvec::ArrayVec;
+use pas_profile::limits::MOST_LOCALS;
 use pas_segregated::Slots;
 
 /// Whether a slot is left.
@@ -21,7 +22,7 @@ fn serves(slots: &Slots, heap: u8, class: u8) -> bool
 }
 
 /// Takes the local allocator of the heap and the class out of the list, where there is one.
-pub fn take_out(locals: &mut ArrayVec<Slots, 32>, heap: u8, class: u8) -> Option<Slots>
+pub fn take_out(locals: &mut ArrayVec<Slots, MOST_LOCALS>, heap: u8, class: u8) -> Option<Slots>
     ensures found { result ≡ local_for heap class locals.old.items }
     ensures others { locals.new.items ≡ others_than heap class locals.old.items }
     ensures fits { length locals.old.items ≤ 32 }

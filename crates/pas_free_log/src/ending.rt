@@ -7,6 +7,7 @@ ghost use Rattle.pas_free_log.specs.Conditions.{IsNameOf, KnowsEpoch};
 ghost use Rattle.pas_free_log.specs.Endings.{guess_by, is_of, EndsName};
 
 use pas_profile::classes::class_size;
+use pas_profile::limits::{GRAIN_BYTES, PAGE_BYTES};
 use pas_profile::{Directory, Kind, Name, Word, life_word, read_deed, read_life};
 use pas_steps::Desk;
 
@@ -29,7 +30,7 @@ fn guess(deed: u64) -> u32
                 heap: _,
                 kind: Kind::Class(class),
             },
-        ) => class_size(class) / 16,
+        ) => class_size(class) / GRAIN_BYTES,
         _ => 1,
     }
 }
@@ -57,7 +58,7 @@ pub fn end_named<D: Desk>(desk: &mut D, name: Name) -> Outcome
     ensures ends { EndsName name (D.standing desk.old) (D.standing desk.new) result }
     ensures home { D.home desk.new ≡ D.home desk.old }
 {
-    let deed = desk.look(Word::Deed(name.address.0 / 4096));
+    let deed = desk.look(Word::Deed(name.address.0 / PAGE_BYTES));
     let first = guess(deed);
     let read = desk.end(name, first);
     if read == life_word(name.turn, first, true) {

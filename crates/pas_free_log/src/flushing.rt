@@ -10,6 +10,7 @@ use crate::ending::{Outcome, end_named};
 use crate::log::{Entry, FreeLog};
 use crate::returning::return_run;
 use pas_profile::Word;
+use pas_profile::limits::GRAIN_BYTES;
 use pas_steps::Desk;
 
 /// Ends the block of the entry's name, and stamps its pages and puts its grains back where it ended. One event.
@@ -22,7 +23,7 @@ fn end_entry<D: Desk>(desk: &mut D, entry: Entry)
     ensures home { D.home desk.new ≡ D.home desk.old }
 {
     match end_named(desk, entry.name) {
-        Outcome::Ended { grains } => return_run(desk, entry.name.address.0 / 16, grains),
+        Outcome::Ended { grains } => return_run(desk, entry.name.address.0 / GRAIN_BYTES, grains),
         Outcome::Refused { read: _ } => {}
     }
 }

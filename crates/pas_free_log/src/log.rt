@@ -4,6 +4,7 @@ ghost use Rattle.pas_free_log.specs.Logs.{entries_in, entry_of};
 
 use arrayvec::ArrayVec;
 use pas_profile::Name;
+use pas_profile::limits::MOST_LOGGED;
 
 /// What a log holds of a free: the name of the block.
 #[derive(Clone, Copy, Debug, Default, PartialEq, Eq, Drop)]
@@ -14,7 +15,7 @@ pub struct Entry {
 /// At most 64 entries of blocks that were freed, in the order in which they came. It takes no memory.
 #[derive(Drop)]
 pub struct FreeLog {
-    entries: ArrayVec<Entry, 64>,
+    entries: ArrayVec<Entry, MOST_LOGGED>,
 }
 
 impl FreeLog {

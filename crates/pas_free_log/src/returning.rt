@@ -5,6 +5,7 @@ ghost use Rattle.pas_free_log.specs.Conditions.{IsRun, IsRunOnPage};
 ghost use Rattle.pas_free_log.specs.Returns.{MayReturn, ReturnsPage, ReturnsRun};
 
 use pas_bits::Mask4;
+use pas_profile::limits::PAGE_GRAINS;
 use pas_profile::{Word, read_deed};
 use pas_rights::{put_mask, returned};
 use pas_steps::Desk;
@@ -18,12 +19,13 @@ fn return_page<D: Desk>(desk: &mut D, grain: u32, grains: u32)
     ensures returns { ReturnsPage grain grains (D.standing desk.old) (D.standing desk.new) }
     ensures home { D.home desk.new ≡ D.home desk.old }
 {
-    let page = grain / 256;
+    let page = grain / PAGE_GRAINS;
     let Some(directory) = read_deed(desk.look(Word::Deed(page))) else {
         unreachable!();
     };
     desk.stamp(page);
-    put_mask(desk, page, &Mask4::run((grain % 256) as u8, grains as u16));
+    let first = (grain % PAGE_GRAINS) as u8;
+    put_mask(desk, page, &Mask4::run(first, grains as u16));
     returned(desk, page, directory);
 }
 
@@ -37,7 +39,7 @@ pub fn return_run<D: Desk>(desk: &mut D, grain: u32, grains: u32)
     let end = grain + grains;
     let mut from = grain;
     while from < end {
-        let next = end.min((from / 256 + 1) * 256);
+        let next = end.min((from / PAGE_GRAINS + 1) * PAGE_GRAINS);
         return_page(desk, from, next - from);
         from = next;
     }

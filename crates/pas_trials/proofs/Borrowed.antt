@@ -5,7 +5,7 @@ use Rattle.pas_profile.specs.Profiles.{IsValid, IsAdmitted}
 use Rattle.pas_profile.specs.declared.profile.Profile.{Profile}
 use Rattle.pas_profile.specs.declared.event.NoRoom.{NoRoom}
 use Rattle.pas_profile.specs.declared.event.FreeFault.{FreeFault}
-use Rattle.pas_profile.specs.declared.directory.Directory.{Directory}
+use Rattle.pas_cache.specs.Serves.{Wanted}
 use Rattle.pas_profile.specs.declared.name.Name.{Name}
 use Rattle.pas_profile.specs.declared.name.Block.{Block}
 use Rattle.pas_steps.specs.Views.{View}
@@ -38,11 +38,11 @@ budget_call can = record { view = can.view; whole = can.whole; stood = can.stood
 pub rest_call : {σ : Standing} {c : Cached} {n spare : ℕ} → CanCall σ (λ v l. HasBudget σ.seat.profile c n spare v) → CanCall σ (λ v l. AtRest σ.seat.profile c v)
 rest_call can = record { view = can.view; whole = can.whole; stood = can.stood; met = can.met.rest }
 
-small_answer : {σ σ' : Standing} {c c' : Cached} {d : Directory} {heap class align : ℕ} {tells : Bool} (answer : Result Block NoRoom) → Allocates d heap class align tells c c' σ σ' answer → CanCall σ (λ v l. AtRest σ.seat.profile c v) → MatchResult answer (λ block. block.name.turn < 2 ^ 37) (λ room. Unit {0})
+small_answer : {σ σ' : Standing} {c c' : Cached} {wanted : Wanted} {tells : Bool} (answer : Result Block NoRoom) → Allocates wanted tells c c' σ σ' answer → CanCall σ (λ v l. AtRest σ.seat.profile c v) → MatchResult answer (λ block. block.name.turn < 2 ^ 37) (λ room. Unit {0})
 small_answer (Ok block) h can = h.outcome.turn.from can.view can.met (h.calls.adds.agreed can.view can.whole can.stood can.met)
 small_answer (Err room) h can = tt
 
-pub small_turn : {σ σ' : Standing} {c c' : Cached} {d : Directory} {heap class align : ℕ} {tells : Bool} {answer : Result Block NoRoom} → Allocates d heap class align tells c c' σ σ' answer → CanCall σ (λ v l. AtRest σ.seat.profile c v) → MatchResult answer (λ block. block.name.turn < 2 ^ 37) (λ room. Unit {0})
+pub small_turn : {σ σ' : Standing} {c c' : Cached} {wanted : Wanted} {tells : Bool} {answer : Result Block NoRoom} → Allocates wanted tells c c' σ σ' answer → CanCall σ (λ v l. AtRest σ.seat.profile c v) → MatchResult answer (λ block. block.name.turn < 2 ^ 37) (λ room. Unit {0})
 small_turn {answer = answer} h can = small_answer answer h can
 
 -- ---- the free of a name into an empty log

@@ -1,7 +1,5 @@
 use Rattle.pas_answers.proofs.Requests.{is_exclusive, can_allocate, performs_given, performs_refused, turns_given, turns_refused}
 use Rattle.pas_cache.specs.Caches.{cached}
-use Rattle.pas_cache.specs.Serves.{class_of}
-use Rattle.pas_profile.specs.Routes.{route_of}
 use Rattle.std.proofs.Common.{Some, ap, sym, subst}
 use Rattle.pas_trace.specs.declared.plan.What.TheVariants as TheWhat
 use Rattle.pas_answers.specs.Calls.{works, Performs}
@@ -18,7 +16,7 @@ returns-in-Ok-clause-performs g c = performs_given c.args.names.now c.set.new.se
     c.requires.fit.1.2 c.alloc.ensures.allocates c.in-Ok.is c.set.ensures.names c.set.ensures.room
 
 pub returns-in-Ok-clause-turns : goal.returns-in-Ok-clause-turns
-returns-in-Ok-clause-turns g c = turns_given c.args.names.now c.set.new.self (cached c.args.cache.now) (cached c.alloc.new.self) c.args.name c.args.heap c.args.size c.args.align (class_of (route_of c.args.size c.args.align)) (g.D.Desk.spare_of c.args.desk.now) c.in-Ok.block
+returns-in-Ok-clause-turns g c = turns_given c.args.names.now c.set.new.self (cached c.args.cache.now) (cached c.alloc.new.self) c.args.name c.args.heap c.args.size c.args.align (g.D.Desk.spare_of c.args.desk.now) c.in-Ok.block
     c.requires.turns c.set.ensures.names c.requires.can c.alloc.ensures.allocates c.in-Ok.is
 
 pub returns-in-Err-clause-performs : goal.returns-in-Err-clause-performs

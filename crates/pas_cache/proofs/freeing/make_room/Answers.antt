@@ -2,8 +2,8 @@ use Rattle.std.proofs.Common.{arith}
 use Rattle.pas_cache.proofs.FlushesAndFrees.{empties_where, empties_nothing}
 use Rattle.pas_cache.proofs.freeing.make_room.Goals as goal
 
-pub returns-then-len-ge64-clause-empties : goal.returns-then-len-ge64-clause-empties
-returns-then-len-ge64-clause-empties g c = empties_where _ _ (let n = c.len.ensures in let full = c.if-len-ge64.true in omega (arith, n, full)) c.flush.ensures.empty c.flush.ensures.flushes
+pub returns-then-len-ge-MOST_LOGGED-clause-empties : goal.returns-then-len-ge-MOST_LOGGED-clause-empties
+returns-then-len-ge-MOST_LOGGED-clause-empties g c = empties_where _ _ (let n = c.len.ensures in let full = c.if-len-ge-MOST_LOGGED.true in omega (arith, n, full)) c.flush.ensures.empty c.flush.ensures.flushes
 
-pub returns-else-len-ge64-clause-empties : goal.returns-else-len-ge64-clause-empties
-returns-else-len-ge64-clause-empties g c = empties_nothing _ (let n = c.len.ensures in let few = c.if-len-ge64.false in omega (arith, n, few))
+pub returns-else-len-ge-MOST_LOGGED-clause-empties : goal.returns-else-len-ge-MOST_LOGGED-clause-empties
+returns-else-len-ge-MOST_LOGGED-clause-empties g c = empties_nothing _ (let n = c.len.ensures in let few = c.if-len-ge-MOST_LOGGED.false in omega (arith, n, few))

@@ -1,10 +1,10 @@
-use Rattle.std.proofs.Common.{◌∷◌, ◌∙◌, ap, true≢false, append_assoc, append-nil, refl, [], ◌++◌, sym}
+use Rattle.std.proofs.Common.{◌∷◌, ◌∙◌, ap, true≢false, append_assoc, append-nil, arith, refl, [], ◌++◌, sym}
 use Rattle.pas_cache.proofs.Below.{stop_only}
 use Rattle.pas_cache.proofs.Stops.{rests_call, local_of, may_call, releases_none, spare_kept, last_popped, stops_more, nil_from, all_stopped}
 use Rattle.pas_cache.proofs.stopping.stop_all.Goals as goal
 
 pub loop-slots-init : goal.loop-slots-init
-loop-slots-init g c = record { stopped = []; whole = sym (append-nil c.args.locals.now.items); releases = releases_none _ c.args.locals.now.items refl; spare = refl; home = refl }
+loop-slots-init g c = record { stopped = []; whole = sym (append-nil c.args.locals.now.items); releases = releases_none _ c.args.locals.now.items (record { order = refl; few = omega arith }); spare = refl; home = refl }
 
 pub stop-requires : goal.stop-requires
 stop-requires g c =

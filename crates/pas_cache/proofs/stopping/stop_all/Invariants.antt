@@ -1,6 +1,6 @@
 use Rattle.std.proofs.Common.{◌≡◌, ◌++◌, List, length}
 use Rattle.pas_segregated.specs.declared.slots.Slots.{Slots}
-use Rattle.pas_cache.specs.Changes.{StopsAll}
+use Rattle.pas_cache.specs.Changes.{StopsEach}
 use Rattle.pas_cache.specs.Parts.{Releases}
 use Rattle.pas_cache.proofs.stopping.stop_all.Given as goal
 
@@ -9,7 +9,7 @@ abbrev pub invariant-loop-slots : goal.invariant-loop-slots
 invariant-loop-slots g l = let D = g.D.Desk in record {
   stopped : List Slots;
   whole : l.fn.locals.items ≡ l.locals.items ++ stopped;
-  releases : Releases (StopsAll stopped) l.fn.locals.items l.locals.items (D.standing l.fn.desk) (D.standing l.desk);
+  releases : Releases (StopsEach stopped) l.fn.locals.items l.locals.items (D.standing l.fn.desk) (D.standing l.desk);
   spare : D.spare_of l.desk ≡ D.spare_of l.fn.desk;
   home : D.home l.desk ≡ D.home l.fn.desk;
 }
