@@ -62,7 +62,7 @@ pub fn pas_main<S: Source, K: Sink>(
         Err(Stop::Fault) => return 3,
         Err(Stop::Memory) => return 5,
     };
-    match outcome_of(alloc, &bytes) {
+    match outcome_of(alloc, bytes) {
         Ok(outcome) => tell_outcome(sink, &outcome),
         Err(_) => 5,
     }

@@ -28,16 +28,17 @@ pub(crate) enum Outcome {
     Unbuilt,
 }
 
-/// Reads the bytes, and replays the trace that they are. After the kit is made nothing takes memory.
-pub(crate) fn outcome_of(alloc: Global, bytes: &[u8]) -> Result<Outcome, NoMemory>
-    requires { length bytes.now ≤ 16777216 }
-    ensures { IfOk result (IsOutcome bytes.now) }
+/// Reads the bytes, lets them go, and replays the trace that they are. After the kit is made nothing takes memory.
+pub(crate) fn outcome_of(alloc: Global, bytes: Vec<u8>) -> Result<Outcome, NoMemory>
+    requires { length bytes.items ≤ 16777216 }
+    ensures { IfOk result (IsOutcome bytes.items) }
 {
-    let plan = match read_trace(alloc, bytes) {
+    let plan = match read_trace(alloc, &bytes) {
         Ok(plan) => plan,
         Err(ReadFault::Trace(fault)) => return Ok(Outcome::Faulty(fault)),
         Err(ReadFault::NoMemory) => return Err(NoMemory),
     };
+    drop(bytes);
     if !is_built(&plan) {
         return Ok(Outcome::Unbuilt);
     }

@@ -18,14 +18,14 @@ returns-in-Ok-TooLong-clause-sink_failed g c =
     (inr (order, λ two. omega (arith, two), λ bytes told. inr (inr (inl (refl, record { long = subst (IsInput most_bytes bytes) c.in-Ok-TooLong.field-0-is (c.in-Ok-TooLong.ensures.input bytes told); text_is = refl }))))) (λ e. omega (arith, e))
 
 pub tell_outcome-requires : goal.tell_outcome-requires
-tell_outcome-requires g c = can_write c.deref.result.now c.in-Ok.outcome c.in-Ok.ensures
+tell_outcome-requires g c = can_write c.in-Ok-Whole.bytes.items c.in-Ok.outcome c.in-Ok.ensures
 
 pub returns-in-Ok-clause-written : goal.returns-in-Ok-clause-written
 returns-in-Ok-clause-written g c = λ writing.
     let order : IsOrder (texts_of c.args.words.now) = search rules in
     written _ _ _ _ _ _ (outcome_text c.in-Ok.outcome) (outcome_status c.in-Ok.outcome) c.tell_outcome.result c.tell_outcome.ensures
-    (outcome_output (texts_of c.args.words.now) (g.S.Source.rest c.args.source.now) c.deref.result.now c.in-Ok.outcome order
-    (λ bytes told. let input = subst (IsInput most_bytes bytes) c.in-Ok-Whole.field-0-is (c.in-Ok-Whole.ensures.input bytes told) in (c.deref.ensures.value ∙ input.0, input.1))
+    (outcome_output (texts_of c.args.words.now) (g.S.Source.rest c.args.source.now) c.in-Ok-Whole.bytes.items c.in-Ok.outcome order
+    (λ bytes told. let input = subst (IsInput most_bytes bytes) c.in-Ok-Whole.field-0-is (c.in-Ok-Whole.ensures.input bytes told) in input)
     c.in-Ok.ensures)
     (not_four c.tell_outcome.result writing)
 
@@ -33,7 +33,7 @@ pub returns-in-Ok-clause-sink_failed : goal.returns-in-Ok-clause-sink_failed
 returns-in-Ok-clause-sink_failed g c =
     let order : IsOrder (texts_of c.args.words.now) = search rules in
     cut_off _ _ _ _ _ _ (outcome_text c.in-Ok.outcome) (outcome_status c.in-Ok.outcome) c.tell_outcome.result c.tell_outcome.ensures
-    (outcome_output (texts_of c.args.words.now) (g.S.Source.rest c.args.source.now) c.deref.result.now c.in-Ok.outcome order
-    (λ bytes told. let input = subst (IsInput most_bytes bytes) c.in-Ok-Whole.field-0-is (c.in-Ok-Whole.ensures.input bytes told) in (c.deref.ensures.value ∙ input.0, input.1))
+    (outcome_output (texts_of c.args.words.now) (g.S.Source.rest c.args.source.now) c.in-Ok-Whole.bytes.items c.in-Ok.outcome order
+    (λ bytes told. let input = subst (IsInput most_bytes bytes) c.in-Ok-Whole.field-0-is (c.in-Ok-Whole.ensures.input bytes told) in input)
     c.in-Ok.ensures)
     (status_not_four c.in-Ok.outcome)
