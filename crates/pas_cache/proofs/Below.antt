@@ -13,13 +13,13 @@ use Rattle.pas_steps.proofs.Apart.{only_within}
 use Rattle.pas_steps.proofs.Calls.{does_as}
 use Rattle.pas_free_log.specs.Flushes.{Flushes}
 use Rattle.pas_search.specs.Searches.{MaySearch, IsRefused}
-use Rattle.pas_search.specs.Serving.{Rule}
 use Rattle.pas_segregated.specs.Refills.{GivesSlots}
 use Rattle.pas_segregated.specs.Returns.{giving_back}
 use Rattle.pas_segregated.specs.Stops.{MayStop, Stops}
 use Rattle.pas_segregated.specs.declared.slots.Slots.{Slots}
 use Rattle.pas_cache.specs.Effects.{of_slots, Gains}
 use Rattle.pas_cache.specs.Kinds.{releasing}
+use Rattle.pas_steps.specs.Evidence.{Readings}
 
 -- ---- a stop
 pub stop_calls : {σ σ' : Standing} {slots : Slots} → (s : Stops slots σ σ') → Calls σ σ' (MayStop slots) (Does (of_slots slots Lost)) s.steps
@@ -42,7 +42,7 @@ refill_leads {slots = slots} s = record {
   };
 }
 
-pub refusal_leads : {F : Type 0} {rule : Rule F} {f : Profile} {d : Directory} {steps : List Made} {room : NoRoom} → IsRefused rule f d steps room → Leads f (MaySearch d) (Does nothing) steps
+pub refusal_leads : {no_fit : Readings → Type 0} {f : Profile} {d : Directory} {steps : List Made} {room : NoRoom} → IsRefused no_fit f d steps room → Leads f (MaySearch d) (Does nothing) steps
 refusal_leads s = s.still
 
 -- ---- a flush

@@ -61,7 +61,7 @@ deed_same k [] l p are = refl
 deed_same k (m ∷ xs) l p are = deed_step (epoch_of (part k (triples k xs ++ l))) m.step p (word_after (triples k xs ++ l) (Word.Deed p)) are.0 ∙ deed_same k xs l p are.1
 
 -- ---- where no page can serve afterwards, none could before
-pub no_fit_before : {F : Type 0} (rule : Rule F) (f : Profile) (d : Directory) (k : ℕ) (xs : List Made) (l : Whole) → IsAntitone rule.no_fit → Only releasing xs → HasNoFit rule f d (triples k xs ++ l) → HasNoFit rule f d l
+pub no_fit_before : {F : Type 0} (rule : Rule F) (f : Profile) (d : Directory) (k : ℕ) (xs : List Made) (l : Whole) → IsAntitone rule.no_fit → Only releasing xs → HasNoFit rule.no_fit f d (triples k xs ++ l) → HasNoFit rule.no_fit f d l
 no_fit_before rule f d k xs l fewer are none = record {
   offered = λ page o. none.offered page (record {
     of_region = o.of_region;

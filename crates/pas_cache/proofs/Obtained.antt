@@ -26,7 +26,7 @@ use Rattle.pas_segregated.specs.Masks.{start_of}
 use Rattle.pas_segregated.specs.Refills.{answer_of, Refills}
 use Rattle.pas_segregated.specs.Returns.{BackSteps}
 use Rattle.pas_segregated.specs.Stops.{class_directory, directory_of, LeavesWhere, StopSteps, Stops}
-use Rattle.pas_segregated.specs.Takes.{exclusive, fewer_slots}
+use Rattle.pas_segregated.specs.Takes.{exclusive, fewer_slots, NoSlot}
 use Rattle.pas_segregated.specs.declared.slots.Slots.{Slots}
 use Rattle.pas_segregated.proofs.Starts.{start_below}
 use Rattle.pas_cache.specs.Changes.{LeavesSpent, StopsFirst, IsTakenOut, IsShortened}
@@ -158,8 +158,8 @@ obtains_cached {σ} heap class tells locals fewer slots one =
     }
 
 refill_told : (f : Profile) (heap class : ℕ) (locals : List Slots) (entry middle exit : Whole) (found : Result (Served Mask4) NoRoom) → HasNoneCached heap class locals
-    → (HasNoFit (exclusive class) f (class_directory heap class) middle → HasNoFit (exclusive class) f (class_directory heap class) entry)
-    → IsTold (exclusive class) f (class_directory heap class) middle exit found → IsToldBy f (class_directory heap class) heap class locals entry exit (answer_of heap class found)
+    → (HasNoFit (NoSlot class) f (class_directory heap class) middle → HasNoFit (NoSlot class) f (class_directory heap class) entry)
+    → IsTold (NoSlot class) f (class_directory heap class) middle exit found → IsToldBy f (class_directory heap class) heap class locals entry exit (answer_of heap class found)
 refill_told f heap class locals entry middle exit (Ok served) none back told = tt
 refill_told f heap class locals entry middle exit (Err room) none back told = record { cached = none; entry_fit = back told.0; exit_fit = told.1; reason = told.2 }
 
@@ -188,7 +188,7 @@ obtains_refilled {σ} {σ1} {σ2} heap class tells locals fewer answer is one tw
       told = λ t v l stood h.
           let middle : Whole = triples k xs ++ l in
           let may = may_search f (xs ++ v) heap class fewer is.kind none (one.calls.leads.from v h (one.calls.adds.agreed v l stood h)) in
-          let told = subst (λ (s : Seat). IsTold (exclusive class) s.profile d middle (triples s.actor ys ++ middle) two.found) e (two.searches.told t (xs ++ v) middle (one.calls.adds.added v l stood h) may) in
+          let told = subst (λ (s : Seat). IsTold (NoSlot class) s.profile d middle (triples s.actor ys ++ middle) two.found) e (two.searches.told t (xs ++ v) middle (one.calls.adds.added v l stood h) may) in
           subst (IsToldBy f d heap class locals l (triples k (ys ++ xs) ++ l)) (sym two.answer_is)
           (subst (λ exit. IsToldBy f d heap class locals l exit (answer_of heap class two.found)) (triples_append k ys xs l)
           (refill_told f heap class locals l middle (triples k ys ++ middle) two.found one.how.1 (no_fit_before (exclusive class) f d k xs l (fewer_slots class) one.kinds) told));

@@ -25,7 +25,7 @@ use Rattle.pas_search.specs.Searches.{MaySearch, DeedMadeHere, IsRefused}
 use Rattle.pas_segregated.specs.Refills.{GivesSlots}
 use Rattle.pas_segregated.specs.declared.slots.Slots.{Slots}
 use Rattle.pas_search.proofs.ForBackEnds.{events_quiet}
-use Rattle.pas_segregated.specs.Takes.{exclusive}
+use Rattle.pas_segregated.specs.Takes.{exclusive, NoSlot}
 use Rattle.pas_segregated.specs.Stops.{class_directory}
 use Rattle.pas_steps.specs.Unknown.{unknown_pages}
 use Rattle.pas_cache.specs.Serves.{IsRefill, IsFew, IsPreparing}
@@ -34,7 +34,7 @@ use Rattle.pas_steps.proofs.Apart.{no_events}
 use Rattle.pas_cache.specs.Kinds.{releasing}
 
 -- ---- a deed that was made wasn't known before
-made_unknown : {F : Type 0} (rule : Rule F) (f : Profile) (d : Directory) (page : ℕ) (steps : List Made) (v : View) → Agreed f v steps → Once (DeedMadeHere rule f d page) steps → known_deed v page ≢ 0 → ⊥
+made_unknown : {F : Type 0} (rule : Rule F) (f : Profile) (d : Directory) (page : ℕ) (steps : List Made) (v : View) → Agreed f v steps → Once (DeedMadeHere rule.no_fit f d page) steps → known_deed v page ≢ 0 → ⊥
 made_unknown rule f d page [] v agreed h some = h
 made_unknown rule f d page (m ∷ more) v agreed (inl h) some =
     let still : known_deed (more ++ v) page ≡ known_deed v page = deed_stays f more v page agreed.1 some in
@@ -68,7 +68,7 @@ silent_few f k steps v quiet agreed =
     let fewer = unknown_stays f steps v agreed in
     record { paid = omega (arith, none, fewer); most = omega (arith, none) }
 
-found_few : (f : Profile) (heap class : ℕ) (steps : List Made) (found : Result Slots NoRoom) → MatchResult found (GivesSlots f (class_directory heap class) steps) (IsRefused (exclusive class) f (class_directory heap class) steps)
+found_few : (f : Profile) (heap class : ℕ) (steps : List Made) (found : Result Slots NoRoom) → MatchResult found (GivesSlots f (class_directory heap class) steps) (IsRefused (NoSlot class) f (class_directory heap class) steps)
     → (k : ℕ) (v : View) → MaySearch (class_directory heap class) v → Agreed f v steps → IsFew f 1 k steps v
 found_few f heap class steps (Ok slots) h k v may agreed = served_few f heap class steps slots h k v may agreed
 found_few f heap class steps (Err room) h k v may agreed = silent_few f k steps v h.quiet agreed

@@ -20,7 +20,7 @@ use Rattle.pas_search.specs.Searches.{MaySearch, SearchRoom, IsServed, IsRefused
 use Rattle.pas_search.specs.declared.serving.Served.{Served}
 use Rattle.pas_segregated.specs.Refills.{answer_of, GivesSlots, Refills}
 use Rattle.pas_segregated.specs.Stops.{class_directory}
-use Rattle.pas_segregated.specs.Takes.{exclusive}
+use Rattle.pas_segregated.specs.Takes.{exclusive, NoSlot}
 use Rattle.pas_segregated.specs.declared.slots.Slots.{Slots}
 use Rattle.pas_cache.specs.Effects.{Gains}
 use Rattle.pas_cache.specs.Locals.{keeps_right, any_keeps, is_for, local_for, IsLocal, RestsWith}
@@ -67,9 +67,9 @@ search_call {σ} heap class locals is none can = record {
 
 -- ---- what a refill says, by its answer
 abbrev IsObtainedBy : Profile → Directory → ℕ → List Made → Result Slots NoRoom → Type 0
-IsObtainedBy f d class steps answer = MatchResult answer (GivesSlots f d steps) (IsRefused (exclusive class) f d steps)
+IsObtainedBy f d class steps answer = MatchResult answer (GivesSlots f d steps) (IsRefused (NoSlot class) f d steps)
 
-by_answer : (f : Profile) (d : Directory) (heap class : ℕ) (steps : List Made) (found : Result (Served Mask4) NoRoom) → MatchResult found (IsServed (exclusive class) f d steps) (IsRefused (exclusive class) f d steps) → IfOk (answer_of heap class found) (GivesSlots f d steps)
+by_answer : (f : Profile) (d : Directory) (heap class : ℕ) (steps : List Made) (found : Result (Served Mask4) NoRoom) → MatchResult found (IsServed (exclusive class) f d steps) (IsRefused (NoSlot class) f d steps) → IfOk (answer_of heap class found) (GivesSlots f d steps)
     → IsObtainedBy f d class steps (answer_of heap class found)
 by_answer f d heap class steps (Ok served) h gives = gives
 by_answer f d heap class steps (Err room) h gives = h

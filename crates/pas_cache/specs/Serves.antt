@@ -24,7 +24,7 @@ use Rattle.pas_bits.specs.Masks.{HasMember}
 use Rattle.pas_steps.specs.Calls.{Leads}
 use Rattle.pas_steps.specs.Kinds.{Only}
 use Rattle.pas_cache.specs.Kinds.{releasing}
-use Rattle.pas_segregated.specs.Takes.{exclusive}
+use Rattle.pas_segregated.specs.Takes.{NoSlot}
 use Rattle.pas_segregated.specs.Stops.{class_directory}
 use Rattle.pas_segregated.specs.Refills.{GivesSlots}
 use Rattle.pas_segregated.specs.declared.slots.Slots.{Slots}
@@ -65,7 +65,7 @@ pub record MakesPlace (heap class : ℕ) (locals fewer : List Slots) (steps : Li
 -- the steps of a refill, and the slots that it got
 pub record IsRefill (f : Profile) (d : Directory) (class : ℕ) (steps : List Made) (found : Result Slots NoRoom) : Type 0 where
   pub searches : AreSearch steps
-  pub outcome : MatchResult found (GivesSlots f d steps) (IsRefused (exclusive class) f d steps)
+  pub outcome : MatchResult found (GivesSlots f d steps) (IsRefused (NoSlot class) f d steps)
 
 -- then the refill is made
 pub record Fetches (f : Profile) (d : Directory) (heap class : ℕ) (locals fewer : List Slots) (steps : List Made) (found : Result Slots NoRoom) : Type 0 where
@@ -173,8 +173,8 @@ HasNoneCached heap class locals = (slots : Slots) → local_for heap class local
 -- request is served wherever a slot is cached, an offered page fits or a page has no deed.
 pub record IsTrueRefusal (f : Profile) (d : Directory) (heap class : ℕ) (locals : List Slots) (entry exit : Whole) (room : NoRoom) : Type 0 where
   pub cached : HasNoneCached heap class locals
-  pub entry_fit : HasNoFit (exclusive class) f d entry
-  pub exit_fit : HasNoFit (exclusive class) f d exit
+  pub entry_fit : HasNoFit (NoSlot class) f d entry
+  pub exit_fit : HasNoFit (NoSlot class) f d exit
   pub reason : IsTrueReason f d exit room
 
 abbrev pub IsToldBy : {A : Type 0} → Profile → Directory → ℕ → ℕ → List Slots → Whole → Whole → Result A NoRoom → Type 0

@@ -14,7 +14,7 @@ use Rattle.pas_search.specs.Searches.{MaySearch, FromOffered, ByDeed, FewEvents,
 use Rattle.pas_search.specs.declared.serving.Served.{Served}
 use Rattle.pas_segregated.specs.Masks.{AreStarts}
 use Rattle.pas_bits.specs.Masks.{HasMember}
-use Rattle.pas_segregated.specs.Takes.{TookSlots, exclusive}
+use Rattle.pas_segregated.specs.Takes.{TookSlots, NoSlot, exclusive}
 use Rattle.pas_segregated.specs.Stops.{class_directory, directory_of, in_slots, MayStopAt}
 use Rattle.pas_segregated.specs.declared.slots.Slots.{Slots}
 
@@ -51,7 +51,7 @@ pub record GivesSlots (f : Profile) (d : Directory) (steps : List Made) (slots :
   pub some : HasMember slots.starts
   pub took : TookSlots slots.class slots.page steps slots.starts
   pub gets : Leads f (MaySearch d) (GetsSlots d slots) steps
-  pub choice : FromOffered (exclusive slots.class) d slots.page steps ⊎ ByDeed (exclusive slots.class) f d slots.page steps
+  pub choice : FromOffered (NoSlot slots.class) d slots.page steps ⊎ ByDeed (NoSlot slots.class) f d slots.page steps
   pub few : FewEvents f d 1 steps
   pub events : EventsAt d slots.page steps
 
