@@ -124,7 +124,7 @@ performs_given {σ} {σ'} {answer} {tells} table table' c c' name heap size alig
         record {
           route = route;
           answer = Ok block;
-          serves = subst (λ a. ServesRequest σ.seat.profile (directory_for σ.seat.profile heap size align) heap (class_of (route_of size align)) c c' call.steps a) is call.change;
+          serves = subst (λ a. ServesRequest σ.seat.profile (wanted_for σ.seat.profile heap size align) c c' call.steps a) is call.change;
           kinds = call.kinds;
           ends = record {
             of_heap = of.of_heap;
@@ -160,7 +160,7 @@ performs_refused {σ} {σ'} {answer} {tells} table table' c c' name heap size al
         record {
           route = route;
           answer = Err room;
-          serves = subst (λ a. ServesRequest σ.seat.profile (directory_for σ.seat.profile heap size align) heap (class_of (route_of size align)) c c' call.steps a) is call.change;
+          serves = subst (λ a. ServesRequest σ.seat.profile (wanted_for σ.seat.profile heap size align) c c' call.steps a) is call.change;
           kinds = call.kinds;
           ends = silent σ.seat.actor v;
           said_is = refl;

@@ -128,7 +128,7 @@ RequestEnds k wanted v steps served = MatchResult served (IsGiven k wanted v ste
 pub record IsServed (f : Profile) (k : ℕ) (r : Request) (before : Having) (after : Answer) : Type 0 where
   pub route : IsClassRoute (route_of r.size r.align)
   pub answer : Result Block NoRoom
-  pub serves : ServesRequest f (wanted_by f r).directory r.heap (class_of (route_of r.size r.align)) before.cache after.cache after.steps answer
+  pub serves : ServesRequest f (wanted_by f r) before.cache after.cache after.steps answer
   pub kinds : Only allocating after.steps
   pub ends : RequestEnds k (wanted_by f r) before.view after.steps answer
   pub said_is : after.said ≡ said_of_request r.name answer

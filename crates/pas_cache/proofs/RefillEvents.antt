@@ -20,13 +20,11 @@ use Rattle.pas_steps.proofs.Adding.{agreed_first, agreed_later}
 use Rattle.pas_steps.proofs.Frames.{events_append}
 use Rattle.pas_steps.proofs.Kept.{deed_stays}
 use Rattle.pas_search.specs.Kinds.{AreQuiet, IsDeedOrBack, EventsAt}
-use Rattle.pas_search.specs.Serving.{Rule}
+use Rattle.pas_steps.specs.Evidence.{Readings}
 use Rattle.pas_search.specs.Searches.{MaySearch, DeedMadeHere, IsRefused}
-use Rattle.pas_segregated.specs.Refills.{GivesSlots}
+use Rattle.pas_segregated.specs.Refills.{Filling, GivesSlots}
 use Rattle.pas_segregated.specs.declared.slots.Slots.{Slots}
 use Rattle.pas_search.proofs.ForBackEnds.{events_quiet}
-use Rattle.pas_segregated.specs.Takes.{exclusive, NoSlot}
-use Rattle.pas_segregated.specs.Stops.{class_directory}
 use Rattle.pas_steps.specs.Unknown.{unknown_pages}
 use Rattle.pas_cache.specs.Serves.{IsRefill, IsFew, IsPreparing}
 use Rattle.pas_steps.specs.Kinds.{Only}
@@ -34,21 +32,21 @@ use Rattle.pas_steps.proofs.Apart.{no_events}
 use Rattle.pas_cache.specs.Kinds.{releasing}
 
 -- ---- a deed that was made wasn't known before
-made_unknown : {F : Type 0} (rule : Rule F) (f : Profile) (d : Directory) (page : ℕ) (steps : List Made) (v : View) → Agreed f v steps → Once (DeedMadeHere rule.no_fit f d page) steps → known_deed v page ≢ 0 → ⊥
-made_unknown rule f d page [] v agreed h some = h
-made_unknown rule f d page (m ∷ more) v agreed (inl h) some =
+made_unknown : (no_fit : Readings → Type 0) (f : Profile) (d : Directory) (page : ℕ) (steps : List Made) (v : View) → Agreed f v steps → Once (DeedMadeHere no_fit f d page) steps → known_deed v page ≢ 0 → ⊥
+made_unknown no_fit f d page [] v agreed h some = h
+made_unknown no_fit f d page (m ∷ more) v agreed (inl h) some =
     let still : known_deed (more ++ v) page ≡ known_deed v page = deed_stays f more v page agreed.1 some in
     let agrees : Agrees f (more ++ v) (Deed page d) m.answer = subst (λ s. Agrees f (more ++ v) s m.answer) h.deed agreed.0 in
     let same : m.answer ≡ known_deed (more ++ v) page = agrees.known (λ z. some (sym still ∙ z)) in
     some (sym still ∙ (sym same ∙ h.made))
-made_unknown rule f d page (m ∷ more) v agreed (inr h) some = made_unknown rule f d page more v agreed.1 h some
+made_unknown no_fit f d page (m ∷ more) v agreed (inr h) some = made_unknown no_fit f d page more v agreed.1 h some
 
 zero_from : (n : ℕ) → (n ≢ 0 → ⊥) → n ≡ 0
 zero_from n h = elim (cases_eq n 0) [ inl e ↦ e | inr ne ↦ absurd (h ne) ]
 
 -- ---- the events of a refill
-served_few : (f : Profile) (heap class : ℕ) (steps : List Made) (slots : Slots) → GivesSlots f (class_directory heap class) steps slots → (k : ℕ) (v : View) → MaySearch (class_directory heap class) v → Agreed f v steps → IsFew f 1 k steps v
-served_few f heap class steps slots s k v may agreed = elim s.choice [
+served_few : (fill : Filling) (f : Profile) (steps : List Made) (slots : Slots) → GivesSlots fill f steps slots → (k : ℕ) (v : View) → MaySearch fill.directory v → Agreed f v steps → IsFew f 1 k steps v
+served_few fill f steps slots s k v may agreed = elim s.choice [
   | inl offered ↦
       let events = (s.few k v agreed).0 in
       let none = offered.no_deed in
@@ -57,8 +55,8 @@ served_few f heap class steps slots s k v may agreed = elim s.choice [
   | inr deed ↦
       let events = (s.few k v agreed).0 in
       let one = deed.one_deed in
-      let was : known_deed v slots.page ≡ 0 = zero_from (known_deed v slots.page) (made_unknown (exclusive slots.class) f (class_directory heap class) slots.page steps v agreed deed.made_here) in
-      let fewer = unknown_less f slots.page steps v agreed s.page was (λ z. deed_word_of-positive (class_directory heap class) (sym (s.gets.from v may agreed).may_stop.deed ∙ z)) in
+      let was : known_deed v slots.page ≡ 0 = zero_from (known_deed v slots.page) (made_unknown fill.no_fit f fill.directory slots.page steps v agreed deed.made_here) in
+      let fewer = unknown_less f slots.page steps v agreed s.page was (λ z. deed_word_of-positive fill.directory (sym (s.gets.from v may agreed).may_stop.deed ∙ z)) in
       record { paid = omega (arith, events, one, fewer); most = omega (arith, events, one) }
 ]
 
@@ -68,15 +66,15 @@ silent_few f k steps v quiet agreed =
     let fewer = unknown_stays f steps v agreed in
     record { paid = omega (arith, none, fewer); most = omega (arith, none) }
 
-found_few : (f : Profile) (heap class : ℕ) (steps : List Made) (found : Result Slots NoRoom) → MatchResult found (GivesSlots f (class_directory heap class) steps) (IsRefused (NoSlot class) f (class_directory heap class) steps)
-    → (k : ℕ) (v : View) → MaySearch (class_directory heap class) v → Agreed f v steps → IsFew f 1 k steps v
-found_few f heap class steps (Ok slots) h k v may agreed = served_few f heap class steps slots h k v may agreed
-found_few f heap class steps (Err room) h k v may agreed = silent_few f k steps v h.quiet agreed
+found_few : (fill : Filling) (f : Profile) (steps : List Made) (found : Result Slots NoRoom) → MatchResult found (GivesSlots fill f steps) (IsRefused fill.no_fit f fill.directory steps)
+    → (k : ℕ) (v : View) → MaySearch fill.directory v → Agreed f v steps → IsFew f 1 k steps v
+found_few fill f steps (Ok slots) h k v may agreed = served_few fill f steps slots h k v may agreed
+found_few fill f steps (Err room) h k v may agreed = silent_few f k steps v h.quiet agreed
 
 -- after steps without events
-pub refill_few : (f : Profile) (heap class : ℕ) (ys xs : List Made) (found : Result Slots NoRoom) → IsRefill f (class_directory heap class) class ys found → Only releasing xs → (k : ℕ) (v : View) → MaySearch (class_directory heap class) (xs ++ v) → Agreed f v (ys ++ xs) → IsFew f 1 k (ys ++ xs) v
-refill_few f heap class ys xs found refill kinds k v may agreed =
-    let here = found_few f heap class ys found refill.outcome k (xs ++ v) may (agreed_first f v ys xs agreed) in
+pub refill_few : (fill : Filling) (f : Profile) (ys xs : List Made) (found : Result Slots NoRoom) → IsRefill fill f ys found → Only releasing xs → (k : ℕ) (v : View) → MaySearch fill.directory (xs ++ v) → Agreed f v (ys ++ xs) → IsFew f 1 k (ys ++ xs) v
+refill_few fill f ys xs found refill kinds k v may agreed =
+    let here = found_few fill f ys found refill.outcome k (xs ++ v) may (agreed_first f v ys xs agreed) in
     let a = here.paid in
     let b = here.most in
     let before = unknown_stays f xs v (agreed_later f v ys xs agreed) in

@@ -121,7 +121,7 @@ pub record Searches {F : Type 0} (rule : Rule F) (tells : Bool) (d : Directory) 
   pub adds : Adds desk desk' (λ v l. MaySearch d v) steps
   pub searches : AreSearch steps
   pub outcome : MatchResult answer (IsServed rule desk.seat.profile d steps) (IsRefused rule.no_fit desk.seat.profile d steps)
-  pub told : tells ≡ true → (v : View) (l : Whole) → desk.stands v l → MaySearch d v → IsTold rule.no_fit desk.seat.profile d l (triples desk.seat.actor steps ++ l) answer
+  pub told : tells ≡ true → (v : View) (l : Whole) → desk.stands v l → MaySearch d v → IsTold (λ (s : Served F). s.page) rule.no_fit desk.seat.profile d l (triples desk.seat.actor steps ++ l) answer
 
 -- ---- the search of offered pages
 -- So far: of the pages below `next` those that are marked didn't fit, and each other's bit was read as 0. The call has no right of them,

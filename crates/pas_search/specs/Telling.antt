@@ -12,7 +12,6 @@ use Rattle.pas_steps.specs.Effects.{free_word_at}
 use Rattle.pas_steps.specs.Lists.{Whole, word_after}
 use Rattle.pas_core.specs.Rights.{eligible_bit, parked_bit}
 use Rattle.pas_steps.specs.Evidence.{Readings}
-use Rattle.pas_search.specs.declared.serving.Served.{Served}
 
 -- which grains of the page are free
 abbrev pub free_of_page : Whole → ℕ → Readings
@@ -57,9 +56,9 @@ abbrev pub IsTrueReason : Profile → Directory → Whole → NoRoom → Type 0
 IsTrueReason f d l NoSpace = (page : ℕ) → IsInHands f d l page → ⊥
 IsTrueReason f d l (Held page) = IsInHands f d l page × ((other : ℕ) → other < page → IsInHands f d l other → ⊥)
 
--- The page that serves is the lowest that was offered at entry and fits, or, where there was none, the lowest without a deed. Where the
+-- The page of what was found is the lowest that was offered at entry and fits, or, where there was none, the lowest without a deed. Where the
 -- request is refused, no page could serve at entry, nor can one at exit, and the reason is true at exit.
-abbrev pub IsTold : {F : Type 0} → (Readings → Type 0) → Profile → Directory → Whole → Whole → Result (Served F) NoRoom → Type 0
-IsTold no_fit f d entry exit answer = MatchResult answer
-    (λ served. IsLowestOffered no_fit f d entry served.page ⊎ IsLowestBare no_fit f d entry served.page)
+abbrev pub IsTold : {A : Type 0} → (A → ℕ) → (Readings → Type 0) → Profile → Directory → Whole → Whole → Result A NoRoom → Type 0
+IsTold page_of no_fit f d entry exit answer = MatchResult answer
+    (λ found. IsLowestOffered no_fit f d entry (page_of found) ⊎ IsLowestBare no_fit f d entry (page_of found))
     (λ room. HasNoFit no_fit f d entry × HasNoFit no_fit f d exit × IsTrueReason f d exit room)

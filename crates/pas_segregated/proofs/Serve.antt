@@ -43,7 +43,7 @@ use Rattle.pas_profile.specs.declared.event.NoRoom.{NoRoom}
 use Rattle.pas_search.specs.Searches.{MaySearch, Searches}
 use Rattle.pas_search.specs.declared.serving.Served.{Served}
 use Rattle.pas_segregated.specs.Stops.{class_directory}
-use Rattle.pas_segregated.specs.Refills.{slots_found, GetsSlots, Refills}
+use Rattle.pas_segregated.specs.Refills.{exclusive_slots, GetsSlots, Refills}
 
 since_once : (P Q : Made → List Made → Type 0) (xs : List Made) → Since P Q xs → Once P xs
 since_once P Q [] h = h
@@ -183,10 +183,7 @@ module _ (class page : ℕ) (d : Directory) (is : IsClass class) (starts : Mask4
 
 -- ---- what a search found
 module _ (heap class : ℕ) {tells : Bool} {σ σ' : Standing} (served : Served Mask4) (searches : Searches (exclusive class) tells (class_directory heap class) σ σ' (Ok served)) where
-  found_starts : AreStarts class served.found
-  found_starts s h = ((searches.outcome.serves.are s).0 h).0
-
-  gets_slots : Leads σ.seat.profile (MaySearch (class_directory heap class)) (GetsSlots (class_directory heap class) (slots_found heap class served)) searches.steps
+  gets_slots : Leads σ.seat.profile (MaySearch (class_directory heap class)) (GetsSlots (class_directory heap class) (record { page = served.page; heap = heap; class = class; starts = served.found; right = true })) searches.steps
   gets_slots = record {
     from = λ v met agreed.
         let keeps = searches.outcome.keeps.from v met agreed in let does = keeps.keeps.does in let shows = searches.outcome.shows in record {
@@ -204,16 +201,16 @@ module _ (heap class : ℕ) {tells : Bool} {σ σ' : Standing} (served : Served 
         };
   }
 
-  pub refills_ok : Refills heap class tells σ σ' (Ok (slots_found heap class served))
+  pub refills_ok : Refills (exclusive_slots heap class) tells σ σ' (Ok (record { page = served.page; heap = heap; class = class; starts = served.found; right = true }))
   refills_ok = record {
-    found = Ok served;
-    answer_is = refl;
-    searches = searches;
-    gives = record {
+    steps = searches.steps;
+    adds = searches.adds;
+    searches = searches.searches;
+    outcome = record {
       page = searches.outcome.page;
-      named = refl;
-      with_right = refl;
-      starts = found_starts;
+      class_is = refl;
+      home = refl;
+      starts = λ s h. ((searches.outcome.serves.are s).0 h).0;
       some = searches.outcome.serves.some;
       took = searches.outcome.serves;
       gets = gets_slots;
@@ -221,7 +218,8 @@ module _ (heap class : ℕ) {tells : Bool} {σ σ' : Standing} (served : Served 
       few = searches.outcome.few;
       events = searches.outcome.events;
     };
+    told = searches.told;
   }
 
-pub refills_err : (heap class : ℕ) {tells : Bool} {σ σ' : Standing} (room : NoRoom) → Searches (exclusive class) tells (class_directory heap class) σ σ' (Err room) → Refills heap class tells σ σ' (Err room)
-refills_err heap class room searches = record { found = Err room; answer_is = refl; searches = searches; gives = tt }
+pub refills_err : (heap class : ℕ) {tells : Bool} {σ σ' : Standing} (room : NoRoom) → Searches (exclusive class) tells (class_directory heap class) σ σ' (Err room) → Refills (exclusive_slots heap class) tells σ σ' (Err room)
+refills_err heap class room searches = record { steps = searches.steps; adds = searches.adds; searches = searches.searches; outcome = searches.outcome; told = searches.told }
