@@ -12,11 +12,11 @@ use Rattle.pas_profile.specs.declared.event.Event.{Event}
 use Rattle.pas_profile.specs.declared.event.NoRoom.{NoRoom}
 use Rattle.pas_profile.specs.declared.name.Block.{Block}
 use Rattle.pas_profile.specs.declared.word.Word.TheVariants as Word
-use Rattle.pas_profile.proofs.Codecs.{same_from_deed_word, directory_from_profile}
+use Rattle.pas_profile.proofs.Codecs.{same_from_deed_word, directory_from_profile, deed_word_of-positive}
 use Rattle.pas_machine.specs.State.{deed_in}
 use Rattle.pas_core.specs.Good.{word_of_deed}
 use Rattle.pas_bits.proofs.Words.{none_of_zero}
-use Rattle.pas_core.proofs.DeedWords.{known_is, deed_word_ne}
+use Rattle.pas_core.proofs.DeedWords.{known_is}
 use Rattle.pas_core.proofs.Deeds.{deed_of, directory_is_of}
 use Rattle.pas_core.proofs.Knowledge.{deeds_known}
 use Rattle.pas_steps.specs.declared.step.Made.{Made}
@@ -57,7 +57,7 @@ directory_is (Some x) d is all word = ap (λ y. Some y) (same_from_deed_word x d
 -- a deed that an actor knows is the page's deed
 pub known_directory : (f : Profile) (l : Whole) (k page : ℕ) (d : Directory) → IsValid f → Legal f l → IsDirectoryOf f d → KnowsDeed page d (part k l) → deed_in (visible l) page ≡ Some d
 known_directory f l k page d valid legal of knows =
-    let some : known_deed (part k l) page ≢ 0 = λ none. deed_word_ne d (sym knows ∙ none) in
+    let some : known_deed (part k l) page ≢ 0 = λ none. deed_word_of-positive d (sym knows ∙ none) in
     directory_is (deed_in (visible l) page) d (directory_from_profile f d valid of) (λ x found. directory_from_profile f x valid (directory_is_of f l legal page x found))
     (sym (deed_of f l legal page) ∙ sym (known_is (known_deed (part k l) page) (word_after l (Word.Deed page)) (deeds_known f l legal k page) some) ∙ knows)
 

@@ -1,6 +1,6 @@
 -- The grains of a mask of one page, put back word by word.
 use Rattle.std.proofs.Common.{◌≡◌, ℕ, ◌+◌, ◌/◌, ◌%◌, ◌≤◌, ◌==◌, nat_lt, Bool, true, false, ◌&&◌, ◌||◌, if◌then◌else◌, List, [], ◌∷◌, ◌++◌, length, slice_index, inl, inr, refl, ap, sym, ◌∙◌, subst, arith}
-use Rattle.std.proofs.lemmas.Bool.{eqb-true, lt-ltb, le-ltb, and_parts}
+use Rattle.std.proofs.lemmas.Bool.{eqb-true, lt-ltb, le-ltb, and_parts, and_right}
 use Rattle.std.proofs.lemmas.Bool.Decides.{nat_tests}
 use Rattle.pas_profile.specs.Classes.{has_bit}
 use Rattle.pas_bits.specs.declared.mask.Mask4.{Mask4}
@@ -22,12 +22,8 @@ use Rattle.pas_steps.proofs.Sets.{put_both, put_as, put_nothing}
 use Rattle.pas_rights.specs.Puts.{masked, MayPut, WordPut, PutsBelow, MayPutWord, PutsWord, PutsMask}
 
 -- ---- one word
-and_last : (s t : Bool) → t ≡ false → (s && t) ≡ false
-and_last true t h = h
-and_last false t h = refl
-
 none_in : (page word mask g : ℕ) → mask ≡ 0 → in_mask page word mask g ≡ false
-none_in page word mask g z = and_last ((word == g / 64 % 4) && (page == g / 256)) (has_bit mask (g % 64)) (ap (λ m. has_bit m (g % 64)) z ∙ none_of_zero (g % 64))
+none_in page word mask g z = and_right ((word == g / 64 % 4) && (page == g / 256)) (has_bit mask (g % 64)) (ap (λ m. has_bit m (g % 64)) z ∙ none_of_zero (g % 64))
 
 pub word_none : (page word mask : ℕ) (v : View) → mask ≡ 0 → Does (put (in_mask page word mask) page) v v
 word_none page word mask v z = put_nothing (in_mask page word mask) page (does_none v) (λ g. none_in page word mask g z)

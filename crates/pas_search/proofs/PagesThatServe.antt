@@ -34,6 +34,7 @@ use Rattle.pas_steps.proofs.Kept.{right_on, holds_on_page, knows_still, scans_lo
 use Rattle.pas_steps.proofs.Adding.{adds_call, can_call, agreed_first, agreed_later, adds_step}
 use Rattle.pas_scan.specs.Scan.{IsFirstOffered, FindsOffered, FindsBare}
 use Rattle.pas_steps.specs.Lists.{Whole}
+use Rattle.pas_core.proofs.OneActorGrains.{no_deed_event}
 
 -- ---- kinds
 -- a back end returns its own page alone
@@ -76,10 +77,6 @@ pub quiet_events : (d : Directory) (p : ℕ) (steps : List Made) → AreQuiet st
 quiet_events d p steps h = always_map (λ m before. IsQuiet m) (λ m before. IsQuiet m ⊎ IsDeedOrBack d p m.step) steps (λ m before q. inl q) h
 
 -- ---- deeds
-no_deed_event : (t : Bool) (e : Event) → (if t then Some e else None) ≡ None → t ≡ false
-no_deed_event true e h = cc
-no_deed_event false e h = refl
-
 pub quiet_deed : (s : Step) (a : ℕ) → IsQuiet (made s a) → makes_deed s a ≡ false
 quiet_deed (Deed q d) a h = no_deed_event (a == 0) (Event.Deed 0 q d) (h 0 0)
 quiet_deed s a h = refl
