@@ -1,4 +1,5 @@
 mod Splits
+mod FrontLines
 mod Digits
 mod Gathering
 mod Checking
