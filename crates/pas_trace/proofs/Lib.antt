@@ -2,6 +2,7 @@ mod Splits
 mod FrontLines
 mod Digits
 mod Gathering
+mod Costs
 mod Checking
 mod Headers
 mod PassedChecks

@@ -62,7 +62,7 @@ impl Reader {
     }
 
     /// Whether the thread is one of the region's.
-    #[inline]
+    #[inline(always)]
     fn has_thread(&self, thread: u64) -> bool
         ensures { result ≡ is_thread self.now.header thread }
     {
@@ -70,7 +70,7 @@ impl Reader {
     }
 
     /// The checks of every operation.
-    #[inline]
+    #[inline(always)]
     fn check_counts(&self, cost: u32) -> Result<u32, Reason>
         ensures { IsChecked (few_told self.now cost) cost result }
     {
@@ -84,7 +84,7 @@ impl Reader {
     }
 
     /// The checks of an operation of a thread that has no others.
-    #[inline]
+    #[inline(always)]
     fn check_thread(&self, thread: u64, cost: u32) -> Result<u32, Reason>
         ensures { IsChecked (thread_told self.now thread cost) cost result }
     {
@@ -95,6 +95,7 @@ impl Reader {
     }
 
     /// The checks of an allocation.
+    #[inline(always)]
     fn check_allocation(&self, thread: u64, request: Request) -> Result<u32, Reason>
         requires { IsValid self.now.header }
         ensures { IsChecked (told_checks self.now (Item.Allocates thread request)) (cost_of self.now.header (Item.Allocates thread request)) result }
@@ -118,7 +119,7 @@ impl Reader {
     }
 
     /// The checks of a free by trace name. A free by another thread than the one that allocated waits for a later phase.
-    #[inline]
+    #[inline(always)]
     fn check_free(&self, thread: u64, name: u64) -> Result<u32, Reason>
         ensures { IsChecked (told_checks self.now (Item.Frees thread name)) 1 result }
     {
@@ -136,7 +137,7 @@ impl Reader {
     }
 
     /// The cost of an item that passes its checks, or the first reason that applies.
-    #[inline]
+    #[inline(always)]
     fn check(&self, item: Item) -> Result<u32, Reason>
         requires { IsValid self.now.header }
         ensures { IsChecked (told_checks self.now item) (cost_of self.now.header item) result }
@@ -163,7 +164,7 @@ impl Reader {
     }
 
     /// Adds an operation of the line.
-    #[inline]
+    #[inline(always)]
     fn operate(&mut self, actor: u8, what: What, cost: u32) -> Result<(), AllocError>
         requires actor { actor < 17 }
         requires few { self.old.counts.operations < 1000000 }
@@ -178,7 +179,7 @@ impl Reader {
     }
 
     /// Adds an operation of the line that allocates the name, and gives the name to the thread.
-    #[inline]
+    #[inline(always)]
     fn allocate(&mut self, thread: u8, name: u64, what: What, cost: u32) -> Result<(), AllocError>
         requires name { name ≤ 1000000 }
         requires actor { thread < 17 }
@@ -217,7 +218,7 @@ impl Reader {
     }
 
     /// Adds an item that passed its checks.
-    #[inline]
+    #[inline(always)]
     fn add(&mut self, item: Item, cost: u32) -> Result<(), AllocError>
         requires tells { (items : List Item) × Tells self.old items × (reason_of self.old.header items item ≡ None) }
         requires ranged { IsRanged item }
