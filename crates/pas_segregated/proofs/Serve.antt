@@ -57,7 +57,7 @@ class_of class d known same = subst IsKind same known
 not_empty : (starts : Mask4) → IsEmpty starts → HasMember starts → ⊥
 not_empty starts empty some = true≢false (sym some.2 ∙ empty some.0 some.1)
 
-at_most_one : (t : Bool) (e : Event) (es : List Event) → es ≡ [] → length (with_event (if t then Some e else None) es) ≤ 1
+pub at_most_one : (t : Bool) (e : Event) (es : List Event) → es ≡ [] → length (with_event (if t then Some e else None) es) ≤ 1
 at_most_one true e es h = let none : length es ≡ 0 = ap length h in omega (arith, none)
 at_most_one false e es h = let none : length es ≡ 0 = ap length h in omega (arith, none)
 
@@ -65,7 +65,7 @@ pub quiet_by : (steps : List Made) → Only taking_slots steps → AreQuiet step
 quiet_by steps = always_map (λ m before. is_in taking_slots (kind_of m.step) ≡ true) (λ m before. IsQuiet m) steps (λ m before is k e. no_event k e m.step m.answer (in_apart taking_slots showing (place_of (kind_of m.step)) refl is))
 
 -- the right of a page that the actor has is kept
-right_kept : (page q : ℕ) (t : Bool) (v w : View) → (page == q) ≡ t → has_right v page ≡ true → has_right w q ≡ has_right v q → has_right w q ≡ now (if t then Gained else Kept) (has_right v q)
+pub right_kept : (page q : ℕ) (t : Bool) (v w : View) → (page == q) ≡ t → has_right v page ≡ true → has_right w q ≡ has_right v q → has_right w q ≡ now (if t then Gained else Kept) (has_right v q)
 right_kept page q true v w e right same = same ∙ ap (has_right v) (sym (eqb-true page q e)) ∙ right
 right_kept page q false v w e right same = same
 

@@ -1,0 +1,3 @@
+pub mod FourLooks
+pub mod WordTakes
+pub mod Parts
