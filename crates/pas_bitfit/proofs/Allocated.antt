@@ -1,6 +1,6 @@
 -- A block is given from the run that a search found, and then the page is left.
 use Rattle.std.proofs.Common.{◌≡◌, ℕ, ◌+◌, ◌*◌, ◌/◌, ◌%◌, ◌^◌, ◌<◌, ◌≤◌, ◌==◌, Bool, true, false, ◌&&◌, if◌then◌else◌, List, [], ◌++◌, length, Ok, Err, refl, ap, sym, ◌∙◌, subst, arith, inl, inr, ◌⊎◌, append_assoc, length-append, true≢false}
-use Rattle.std.proofs.lemmas.Bool.{eq-eqb, eqb-true, and_parts, and_from, false_from_ne_true}
+use Rattle.std.proofs.lemmas.Bool.{eq-eqb, eqb-true, and_parts, and_from}
 use Rattle.pas_profile.specs.Classes.{IsAlignment}
 use Rattle.pas_profile.specs.Profiles.{IsDirectoryOf}
 use Rattle.pas_profile.specs.Runs.{in_run, address_of, grain_of, length_of}
@@ -10,8 +10,7 @@ use Rattle.pas_profile.specs.declared.name.Block.{Block}
 use Rattle.pas_profile.specs.declared.profile.Profile.{Profile}
 use Rattle.pas_profile.proofs.Runs.{run_of, to_run}
 use Rattle.pas_rights.specs.Leaves.{MayLeave, Leaves}
-use Rattle.pas_steps.specs.Agreement.{Agreed}
-use Rattle.pas_steps.specs.Calls.{Calls, Kept, Gained, Lost, now, later, ClearAfter, Does}
+use Rattle.pas_steps.specs.Calls.{Calls, Kept, Gained, Lost, now, later, Does}
 use Rattle.pas_steps.specs.Desks.{Standing, CanCall}
 use Rattle.pas_steps.specs.Events.{events_of, events_by}
 use Rattle.pas_steps.specs.Kinds.{returning}
@@ -24,11 +23,11 @@ use Rattle.pas_steps.proofs.Calls.{does_as, does_then, returns_are}
 use Rattle.pas_steps.proofs.Frames.{events_split}
 use Rattle.pas_steps.proofs.Sets.{same_truth}
 use Rattle.pas_search.specs.Kinds.{deeds_made}
-use Rattle.pas_search.specs.Searches.{MaySearch, SearchRoom, KeepsFound, FromOffered, ByDeed, Searches, IsServed}
+use Rattle.pas_search.specs.Searches.{MaySearch, SearchRoom, FromOffered, ByDeed, Searches, IsServed}
 use Rattle.pas_search.specs.Serving.{right_of}
 use Rattle.pas_search.specs.Telling.{IsLowestOffered, IsLowestBare}
 use Rattle.pas_search.specs.declared.serving.Served.{Served}
-use Rattle.pas_segregated.proofs.GiveBack.{kept_kept}
+use Rattle.pas_choice.proofs.Found.{KeepsNew, found_call, left_after}
 use Rattle.pas_bitfit.specs.Allocates.{bitfit_directory, bitfit, GaveBlock, IsAllocated, Allocates}
 use Rattle.pas_bitfit.specs.Gives.{MayGiveRun, give_steps, GivesRun}
 use Rattle.pas_bitfit.specs.Runs.{IsWanted, IsLowestFit}
@@ -44,10 +43,6 @@ room_to_search can = record { view = can.view; whole = can.whole; stood = can.st
 few_deeds : (m : ℕ) {A B : Type 0} → (A → m ≡ 0) → (B → m ≡ 1) → A ⊎ B → m ≤ 1
 few_deeds m f g (inl a) = let z = f a in omega (arith, z)
 few_deeds m f g (inr b) = let z = g b in omega (arith, z)
-
-lost_later : (t : Bool) → later (if t then Gained else Kept) (if t then Lost else Kept) ≡ (if t then Lost else Kept)
-lost_later true = refl
-lost_later false = refl
 
 -- a grain that was taken and given is as it was, since it wasn't held
 taken_given : (t u held : Bool) → t ≡ u → (t ≡ true → held ≡ false) → (later (if t then Gained else Kept) (if u then Lost else Kept) ≡ Kept) ⊎ ((held ≡ false) × (now (later (if t then Gained else Kept) (if u then Lost else Kept)) false ≡ false))
@@ -97,22 +92,25 @@ module _ (heap room align : ℕ) (sized : (16 ≤ room) × (room ≤ 2048) × (r
       and_from (page == g / 256) (in_run first (room / 16) (g % 256)) (eq-eqb page (g / 256) (omega (arith, low, high, w)))
       (to_run first (room / 16) (g % 256) (omega (arith, low, high, w)) (omega (arith, low, high, w))))
 
-  search_call : Calls σ σ1 (MaySearch d) (KeepsFound (bitfit room align) d served) xs
-  search_call = record { adds = searches.adds; leads = is_served.keeps }
+  abbrev Found : View → View → Type 0
+  Found v w = KeepsNew (bitfit room align) d served v w
 
-  may_give : (v : View) → MaySearch d v → KeepsFound (bitfit room align) d served v (xs ++ v) → MayGiveRun page d first (room / 16) (xs ++ v)
+  new_call : Calls σ σ1 (MaySearch d) Found xs
+  new_call = found_call (bitfit room align) d served searches
+
+  may_give : (v : View) → MaySearch d v → Found v (xs ++ v) → MayGiveRun page d first (room / 16) (xs ++ v)
   may_give v met kept = record {
-    held = λ g inside. kept.keeps.does.held g ∙ ap (λ t. now (if t then Gained else Kept) (holds v g)) (in_region g ∙ inside);
-    deed = kept.deed;
-    backed = kept.keeps.backed;
-    stamped = let clear = kept.keeps.does.clear page (met.clear.on page) in clear.stamped;
+    held = λ g inside. kept.found.keeps.does.held g ∙ ap (λ t. now (if t then Gained else Kept) (holds v g)) (in_region g ∙ inside);
+    deed = kept.found.deed;
+    backed = kept.found.keeps.backed;
+    stamped = let clear = kept.found.keeps.does.clear page (met.clear.on page) in clear.stamped;
   }
 
   may_search : {spare : ℕ} → CanCall σ (λ v l. SearchRoom σ.seat.profile (bitfit_directory heap) 2 spare v) → CanCall σ (λ v l. MaySearch (bitfit_directory heap) v)
   may_search can = record { view = can.view; whole = can.whole; stood = can.stood; met = can.met.may }
 
   pub can_give : {spare : ℕ} → CanCall σ (λ v l. SearchRoom σ.seat.profile (bitfit_directory heap) 2 spare v) → CanCall σ1 (λ v l. MayGiveRun served.page (bitfit_directory heap) served.found (room / 16) v)
-  can_give can = next_call search_call (may_search can) may_give
+  can_give can = next_call new_call (may_search can) may_give
 
   few_made : deeds_made xs ≤ 1
   few_made = few_deeds (deeds_made xs) (λ (c : FromOffered (bitfit room align) d page xs). c.no_deed) (λ (c : ByDeed (bitfit room align) f d page xs). c.one_deed) is_served.choice
@@ -132,15 +130,6 @@ module _ (heap room align : ℕ) (sized : (16 ≤ room) × (room ≤ 2048) × (r
       ] in
       room_left {spare = spare1} 1 searches.adds sought law' (omega (arith, now, split, fits))
 
-  -- none of the run's grains was held
-  unheld : (v : View) → MaySearch d v → Agreed f v xs → (g : ℕ) → in_run (page * 256 + first) (room / 16) g ≡ true → holds v g ≡ false
-  unheld v met agreed g inside =
-      let parts = and_parts (page == g / 256) (in_run first (room / 16) (g % 256)) (in_region g ∙ inside) in
-      false_from_ne_true (holds v g) (λ held. true≢false (sym (is_served.shows.took (g % 256) (omega arith) parts.1) ∙ is_served.shows.held.from v met agreed g (sym (eqb-true page (g / 256) parts.0)) held))
-
-  found_call : Calls σ σ1 (MaySearch d) (λ v w. KeepsFound (bitfit room align) d served v w × ((g : ℕ) → in_run (page * 256 + first) (room / 16) g ≡ true → holds v g ≡ false)) xs
-  found_call = record { adds = searches.adds; leads = record { from = λ v met agreed. (is_served.keeps.from v met agreed, unheld v met agreed) } }
-
   module _ {σ2 : Standing} (block : Block) (gives : GivesRun served.page (bitfit_directory heap) served.found (room / 16) block σ1 σ2) where
     abbrev given : List Made
     given = give_steps page first block gives.word gives.answer
@@ -156,10 +145,10 @@ module _ (heap room align : ℕ) (sized : (16 ≤ room) × (room ≤ 2048) × (r
       deed : KnowsDeed page d w
 
     gave_call : Calls σ σ2 (MaySearch d) Gave (given ++ xs)
-    gave_call = call_then Gave found_call (call_knows page d gives.calls (λ v may. may.deed)) (λ v met kept. may_give v met kept.0) (λ v met kept gave. record {
-      does = does_as (right_of page Gained) (does_then kept.0.keeps.does gave.0.does)
-          (λ g. taken_given ((page == g / 256) && in_run first (room / 16) (g % 256)) (in_run (page * 256 + first) (room / 16) g) (holds v g) (in_region g) (λ h. kept.1 g (sym (in_region g) ∙ h))) (λ q. refl) (λ q h. h);
-      apart = λ g inside. kept.1 g (sym (covers g) ∙ inside);
+    gave_call = call_then Gave new_call (call_knows page d gives.calls (λ v may. may.deed)) may_give (λ v met kept gave. record {
+      does = does_as (right_of page Gained) (does_then kept.found.keeps.does gave.0.does)
+          (λ g. taken_given ((page == g / 256) && in_run first (room / 16) (g % 256)) (in_run (page * 256 + first) (room / 16) g) (holds v g) (in_region g) (kept.apart g)) (λ q. refl) (λ q h. h);
+      apart = λ g inside. kept.apart g (in_region g ∙ sym (covers g) ∙ inside);
       turn = gave.0.turn;
       deed = gave.1;
     })
@@ -176,7 +165,7 @@ module _ (heap room align : ℕ) (sized : (16 ≤ room) × (room ≤ 2048) × (r
 
       all_call : Calls σ σ3 (MaySearch d) (GaveBlock page d block) (left.steps ++ (given ++ xs))
       all_call = call_then (GaveBlock page d block) gave_call (call_knows page d left.calls (λ v may. may.deed)) may_leave (λ v met gave b. record {
-        does = does_as (right_of page Lost) (does_then gave.does b.0.does) (λ g. inl refl) (λ q. lost_later (page == q)) (λ q h. subst (λ t. ClearAfter t q v (left.steps ++ ((given ++ xs) ++ v))) (kept_kept (page == q)) h);
+        does = left_after (λ g. Kept) page gave.does b.0.does;
         apart = gave.apart;
         deed = b.1;
         turn = gave.turn;

@@ -1,6 +1,6 @@
 //! The lowest run of free grains that fits.
 use pas_bits::Mask4;
-use pas_choice::{Chosen, Choosing, serve_chosen};
+use pas_choice::{Choosing, Chosen, serve_chosen};
 use pas_profile::Directory;
 use pas_search::Serving;
 use pas_steps::Desk;

@@ -34,12 +34,16 @@ refilled slots = record {
   clears = λ page. Kept;
 }
 
--- So it is. None of the grains was held; the page is known as backed; and the slots may be stopped from then on, for which its deed is known.
-pub record GetsSlots (d : Directory) (slots : Slots) (v w : View) : Type 0 where
-  pub does : Does (refilled slots) v w
+-- This became of what the actor holds and has. None of the grains of the slots was held; the page is known as backed; and the slots may be
+-- stopped from then on, for which its deed is known.
+pub record GetsSlotsBy (effect : Effect) (d : Directory) (slots : Slots) (v w : View) : Type 0 where
+  pub does : Does effect v w
   pub apart : (g : ℕ) → in_slots slots g ≡ true → holds v g ≡ false
   pub backed : knows_backed w slots.page ≡ true
   pub may_stop : MayStopAt d slots w
+
+abbrev pub GetsSlots : Directory → Slots → View → View → Type 0
+GetsSlots d slots v w = GetsSlotsBy (refilled slots) d slots v w
 
 -- The slots are of a page of the directory, and are those that the takes of this page got whole. The page is the lowest offered one that has a
 -- free slot, or the lowest without a deed; one event backs it, and one more makes its deed.
