@@ -92,8 +92,8 @@ search_call {σ} fill locals is none can = record {
 }
 
 -- ---- what a refill says, by its answer
-pub refill_of : {σ σ' : Standing} (fill : Filling) (tells : Bool) (answer : Result Slots NoRoom) → (h : Refills fill tells σ σ' answer) → IsRefill fill σ.seat.profile h.steps answer
-refill_of fill tells answer h = record { searches = h.searches; outcome = h.outcome }
+pub refill_of : {σ σ' : Standing} (fill : Filling) (tells : Bool) (answer : Result Slots NoRoom) → (h : Refills fill tells σ σ' answer) → IsRefill fill σ.seat.profile (h.after ++ h.searched) answer
+refill_of fill tells answer h = record { searched = h.searched; searches = h.searches; after = h.after; outcome = h.outcome; steps_are = refl }
 
 pub found_by : (fill : Filling) (f : Profile) (steps : List Made) (answer : Result Slots NoRoom) → IsRefill fill f steps answer → MatchResult answer (IsFoundFor fill) (λ room. Unit {0})
 found_by fill f steps (Ok slots) refill = record { home = refill.outcome.home; class_is = refill.outcome.class_is; some = refill.outcome.some }
@@ -119,7 +119,7 @@ rests_refilled f fill locals is none steps v h agreed (Ok slots) refill =
     let d : Directory = fill.directory in
     let s = refill.outcome in
     let heap : slots.heap ≡ d.heap = ap (λ x. x.heap) s.home in
-    let gains : GetsSlots d slots v (steps ++ v) = (refill_leads s).from v (may_search f v fill locals is none h) agreed in
+    let gains : GetsSlots d slots v (steps ++ v) = (refill_leads refill).from v (may_search f v fill locals is none h) agreed in
     rests_gained f d slots locals steps v h gains agreed
     (record {
       page = s.page;
@@ -131,6 +131,6 @@ rests_refilled f fill locals is none steps v h agreed (Ok slots) refill =
       backed = λ some. gains.backed;
     })
     (ap (λ n. local_for n slots.class locals) heap ∙ (ap (λ n. local_for d.heap n locals) s.class_is ∙ none))
-    (λ later page keeps. no_right_in f (steps ++ v) d (is_for d.heap fill.class) is.directory.kind (is_one f fill is) locals later (none_found (is_for d.heap fill.class) locals none).any page
-    (subst (λ p. KnowsDeed p d (steps ++ v)) (eqb-true slots.page page (and_parts slots.right (slots.page == page) keeps).1) gains.may_stop.deed))
-rests_refilled f fill locals is none steps v h agreed (Err room) refill = rests_kept f locals steps v ((refusal_leads refill.outcome).from v (may_search f v fill locals is none h) agreed) agreed h
+    (λ later page at. no_right_in f (steps ++ v) d (is_for d.heap fill.class) is.directory.kind (is_one f fill is) locals later (none_found (is_for d.heap fill.class) locals none).any page
+    (subst (λ p. KnowsDeed p d (steps ++ v)) (eqb-true slots.page page at) gains.may_stop.deed))
+rests_refilled f fill locals is none steps v h agreed (Err room) refill = rests_kept f locals steps v ((refusal_leads refill).from v (may_search f v fill locals is none h) agreed) agreed h

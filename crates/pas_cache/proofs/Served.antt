@@ -40,16 +40,17 @@ use Rattle.pas_steps.specs.Unknown.{unknown_pages}
 use Rattle.pas_cache.specs.Locals.{local_for, IsFormed, IsLocal, RestsWith}
 use Rattle.pas_bits.specs.Masks.{HasMember}
 use Rattle.pas_cache.specs.Changes.{GivesSlot, LeavesSpent}
-use Rattle.pas_cache.specs.Serves.{Wanted, wanted_for, class_wanted, IsFilling, IsClassRoute, IsObtained, IsAnswered, ServesLocals, IsPreparing, IsBlockFor, IsSilent}
+use Rattle.pas_cache.specs.Serves.{Wanted, wanted_for, class_wanted, IsFilling, IsRefill, IsClassRoute, IsObtained, IsAnswered, ServesLocals, IsPreparing, IsBlockFor, IsSilent}
 use Rattle.pas_cache.specs.Parts.{MayGiveSlot, GivesLowest, MayObtain, Obtains, ServesFrom}
-use Rattle.pas_steps.specs.Kinds.{Only}
+use Rattle.pas_steps.specs.Kinds.{returning, Only}
 use Rattle.pas_steps.proofs.Apart.{no_events, only_both, only_within}
 use Rattle.pas_search.specs.Kinds.{searching}
 use Rattle.pas_cache.specs.Kinds.{releasing, allocating}
 use Rattle.pas_cache.proofs.Resting.{here, may_give_slot, rests_reordered}
 use Rattle.pas_cache.proofs.GivingSlots.{rests_given, given_page}
 use Rattle.pas_cache.proofs.Obtained.{obtain_rests}
-use Rattle.pas_cache.proofs.RefillEvents.{prepared}
+use Rattle.pas_cache.proofs.RefillEvents.{refill_events, prepared}
+use Rattle.pas_cache.proofs.Below.{refused_steps, refusal}
 use Rattle.pas_steps.proofs.Unknown.{unknown_stays, none_unknown}
 
 -- ---- room
@@ -89,9 +90,14 @@ give_call {σ} {σ1} fill tells locals fewer slots one can =
     next_call one.calls (obtain_rests can) (λ v met here. subst (λ (s : Seat). MayGiveSlot s.profile slots (one.steps ++ v)) (sym one.calls.adds.seat_is) (may_give_slot σ.seat.profile slots fewer (one.steps ++ v) here))
 
 -- ---- kinds and events of what was made before the give
+refill_kinds : {fill : Filling} {f : Profile} {steps : List Made} {found : Result Slots NoRoom} → IsRefill fill f steps found → Only allocating steps
+refill_kinds {found = Ok slots} h = subst (Only allocating) (sym h.steps_are)
+    (only_both allocating h.after h.searched (only_within returning allocating h.after refl h.outcome.after_kinds) (only_within searching allocating h.searched refl h.searches.kinds))
+refill_kinds {found = Err room} h = subst (Only allocating) (refused_steps h) (only_within searching allocating h.searched refl h.searches.kinds)
+
 obtained_kinds : {fill : Filling} {f : Profile} {locals fewer : List Slots} {steps : List Made} {found : Result Slots NoRoom} → IsObtained fill f locals fewer steps found → Only allocating steps
 obtained_kinds (inl h) = subst (Only allocating) (sym h.2.no_steps) tt
-obtained_kinds (inr h) = subst (Only allocating) (sym h.steps_are) (only_both allocating h.searched h.before (only_within searching allocating h.searched refl h.refill.searches.kinds) (only_within releasing allocating h.before refl h.gives_back))
+obtained_kinds (inr h) = subst (Only allocating) (sym h.steps_are) (only_both allocating h.searched h.before (refill_kinds h.refill) (only_within releasing allocating h.before refl h.gives_back))
 
 events_later : (ys xs : List Made) → Only releasing xs → (k : ℕ) (v : View) → events_by k v (ys ++ xs) ≡ events_by k (xs ++ v) ys
 events_later ys xs kinds k v = events_append k ys xs v ∙ (ap (λ es. events_by k (xs ++ v) ys ++ es) (no_events releasing refl k v xs kinds) ∙ append-nil (events_by k (xs ++ v) ys))
@@ -100,11 +106,11 @@ prepared_before : {f : Profile} (fill : Filling) {locals fewer : List Slots} (st
 prepared_before fill steps slots (inl h) k v = subst (λ xs. AllByRecursion (IsPreparing fill.directory) (events_by k v xs)) (sym h.2.no_steps) tt
 prepared_before fill steps slots (inr h) k v =
     subst (λ xs. AllByRecursion (IsPreparing fill.directory) (events_by k v xs)) (sym h.steps_are)
-    (subst (AllByRecursion (IsPreparing fill.directory)) (sym (events_later h.searched h.before h.gives_back k v)) (prepared fill.directory slots.page h.searched h.refill.outcome.events k (h.before ++ v)))
+    (subst (AllByRecursion (IsPreparing fill.directory)) (sym (events_later h.searched h.before h.gives_back k v)) (subst (AllByRecursion (IsPreparing fill.directory)) (sym (refill_events h.refill k (h.before ++ v))) (prepared fill.directory slots.page h.refill.searched h.refill.outcome.events k (h.before ++ v))))
 
 silent_before : {fill : Filling} {f : Profile} {locals fewer : List Slots} (steps : List Made) (room : NoRoom) → IsObtained fill f locals fewer steps (Err room) → IsSilent steps
 silent_before steps room (inl h) = let both = h.1 in cc
-silent_before steps room (inr h) = subst IsSilent (sym h.steps_are) (λ k v. events_later h.searched h.before h.gives_back k v ∙ events_quiet k (h.before ++ v) h.searched h.refill.outcome.quiet)
+silent_before steps room (inr h) = subst IsSilent (sym h.steps_are) (λ k v. events_later h.searched h.before h.gives_back k v ∙ events_quiet k (h.before ++ v) h.searched (refusal h.refill).quiet)
 
 -- ---- the give
 give_event : (slots rest : Slots) (block : Block) (steps : List Made) → GivesSlot slots rest block steps → (k : ℕ) (v : View) → events_by k v steps ≡ Event.Give k block ∷ []

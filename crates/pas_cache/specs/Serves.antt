@@ -88,10 +88,13 @@ pub record IsFilling (f : Profile) (fill : Filling) : Type 0 where
   pub home : fill.directory.kind ≡ kind_of_class (is_shared f fill.directory.heap) fill.class
   pub fewer : IsAntitone fill.no_fit
 
--- the steps of a refill, and the slots that it got
+-- the steps of a refill, and the slots that it got: a search, and where it found slots of a shared page, the leave of that page
 pub record IsRefill (fill : Filling) (f : Profile) (steps : List Made) (found : Result Slots NoRoom) : Type 0 where
-  pub searches : AreSearch steps
-  pub outcome : MatchResult found (GivesSlots fill f steps) (IsRefused fill.no_fit f fill.directory steps)
+  pub searched : List Made
+  pub searches : AreSearch searched
+  pub after : List Made
+  pub outcome : MatchResult found (GivesSlots fill f searched after) (λ room. IsRefused fill.no_fit f fill.directory searched room × (after ≡ []))
+  pub steps_are : steps ≡ after ++ searched
 
 -- then the refill is made
 pub record Fetches (fill : Filling) (f : Profile) (locals fewer : List Slots) (steps : List Made) (found : Result Slots NoRoom) : Type 0 where

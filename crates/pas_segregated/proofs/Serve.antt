@@ -57,7 +57,7 @@ class_of class d known same = subst IsKind same known
 not_empty : (starts : Mask4) → IsEmpty starts → HasMember starts → ⊥
 not_empty starts empty some = true≢false (sym some.2 ∙ empty some.0 some.1)
 
-at_most_one : (t : Bool) (e : Event) (es : List Event) → es ≡ [] → length (with_event (if t then Some e else None) es) ≤ 1
+pub at_most_one : (t : Bool) (e : Event) (es : List Event) → es ≡ [] → length (with_event (if t then Some e else None) es) ≤ 1
 at_most_one true e es h = let none : length es ≡ 0 = ap length h in omega (arith, none)
 at_most_one false e es h = let none : length es ≡ 0 = ap length h in omega (arith, none)
 
@@ -65,7 +65,7 @@ pub quiet_by : (steps : List Made) → Only taking_slots steps → AreQuiet step
 quiet_by steps = always_map (λ m before. is_in taking_slots (kind_of m.step) ≡ true) (λ m before. IsQuiet m) steps (λ m before is k e. no_event k e m.step m.answer (in_apart taking_slots showing (place_of (kind_of m.step)) refl is))
 
 -- the right of a page that the actor has is kept
-right_kept : (page q : ℕ) (t : Bool) (v w : View) → (page == q) ≡ t → has_right v page ≡ true → has_right w q ≡ has_right v q → has_right w q ≡ now (if t then Gained else Kept) (has_right v q)
+pub right_kept : (page q : ℕ) (t : Bool) (v w : View) → (page == q) ≡ t → has_right v page ≡ true → has_right w q ≡ has_right v q → has_right w q ≡ now (if t then Gained else Kept) (has_right v q)
 right_kept page q true v w e right same = same ∙ ap (has_right v) (sym (eqb-true page q e)) ∙ right
 right_kept page q false v w e right same = same
 
@@ -203,9 +203,10 @@ module _ (heap class : ℕ) {tells : Bool} {σ σ' : Standing} (served : Served 
 
   pub refills_ok : Refills (exclusive_slots heap class) tells σ σ' (Ok (record { page = served.page; heap = heap; class = class; starts = served.found; right = true }))
   refills_ok = record {
-    steps = searches.steps;
-    adds = searches.adds;
+    searched = searches.steps;
     searches = searches.searches;
+    after = [];
+    adds = searches.adds;
     outcome = record {
       page = searches.outcome.page;
       class_is = refl;
@@ -213,13 +214,16 @@ module _ (heap class : ℕ) {tells : Bool} {σ σ' : Standing} (served : Served 
       starts = λ s h. ((searches.outcome.serves.are s).0 h).0;
       some = searches.outcome.serves.some;
       took = searches.outcome.serves;
-      gets = gets_slots;
       choice = searches.outcome.choice;
       few = searches.outcome.few;
       events = searches.outcome.events;
+      leaves = refl;
+      after_few = omega arith;
+      after_kinds = tt;
+      gets = gets_slots;
     };
     told = searches.told;
   }
 
 pub refills_err : (heap class : ℕ) {tells : Bool} {σ σ' : Standing} (room : NoRoom) → Searches (exclusive class) tells (class_directory heap class) σ σ' (Err room) → Refills (exclusive_slots heap class) tells σ σ' (Err room)
-refills_err heap class room searches = record { steps = searches.steps; adds = searches.adds; searches = searches.searches; outcome = searches.outcome; told = searches.told }
+refills_err heap class room searches = record { searched = searches.steps; searches = searches.searches; after = []; adds = searches.adds; outcome = (searches.outcome, refl); told = searches.told }

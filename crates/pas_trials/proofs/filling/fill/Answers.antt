@@ -19,7 +19,7 @@ stop_where-requires-clause-can g c = let r = c.in-Ok.ensures.refills in let can 
 pub returns : goal.returns
 returns g c = let r = c.in-Ok.ensures.refills in let s = c.stop_where.ensures.steps in record {
   steps = record {
-    steps = s.steps ++ r.steps;
+    steps = s.steps ++ (r.after ++ r.searched);
     adds = adds_call r.adds s.adds (λ v l stood met. may_stop_then r.outcome v met (r.adds.agreed v l stood met));
   };
 }
