@@ -190,6 +190,7 @@ module _ (heap room align : ℕ) (sized : (16 ≤ room) × (room ≤ 2048) × (r
         left = left.steps;
         after_is = refl;
         leaves = left.order;
+        left_kinds = returns_are page left.steps left.returns;
         few = let sum = length-append left.steps given in let n = left.few in omega (arith, sum, n);
         block_is = gives.block_is;
         room_is = ap (λ (b : Block). b.room) gives.block_is ∙ (let whole = sized.2 in omega (arith, whole));

@@ -11,6 +11,7 @@ use Rattle.pas_rights.specs.Leaves.{LeaveSteps}
 use Rattle.pas_steps.specs.Calls.{Leads, Lost, Does}
 use Rattle.pas_steps.specs.Desks.{Standing, Adds, triples}
 use Rattle.pas_steps.specs.Events.{events_by}
+use Rattle.pas_steps.specs.Kinds.{returning, Only}
 use Rattle.pas_steps.specs.Lists.{Whole}
 use Rattle.pas_steps.specs.Views.{View, holds, KnowsDeed}
 use Rattle.pas_steps.specs.declared.step.Made.{Made}
@@ -57,6 +58,7 @@ pub record IsAllocated (f : Profile) (d : Directory) (room align : ℕ) (searche
   pub left : List Made
   pub after_is : after ≡ left ++ give_steps page first block word answer
   pub leaves : LeaveSteps page d left
+  pub left_kinds : Only returning left
   pub few : length after ≤ 13
   pub block_is : block ≡ block_of page d first (room / 16) word
   pub room_is : block.room ≡ room

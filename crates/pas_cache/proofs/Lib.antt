@@ -11,3 +11,4 @@ pub mod Obtained
 pub mod GivingSlots
 pub mod Served
 pub mod Budget
+pub mod BitfitRoute

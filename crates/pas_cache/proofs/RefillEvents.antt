@@ -69,7 +69,7 @@ chosen_few no_fit f d page searched steps is choice few k v agreed all deed n mo
       record { paid = omega (arith, events, one, fewer, more); most = omega (arith, events, one, more) }
 ]
 
-silent_few : (f : Profile) (k : ℕ) (steps : List Made) (v : View) → AreQuiet steps → Agreed f v steps → IsFew f 1 k steps v
+pub silent_few : (f : Profile) (k : ℕ) (steps : List Made) (v : View) → AreQuiet steps → Agreed f v steps → IsFew f 1 k steps v
 silent_few f k steps v quiet agreed =
     let none : length (events_by k v steps) ≡ 0 = ap length (events_quiet k v steps quiet) in
     let fewer = unknown_stays f steps v agreed in

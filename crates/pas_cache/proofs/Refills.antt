@@ -65,7 +65,7 @@ either_not : (a b : Bool) → (a ≡ true → ⊥) → b ≡ false → (a || b) 
 either_not true b isnt h = absurd (isnt refl)
 either_not false b isnt h = h
 
-no_right_in : (f : Profile) (v : View) (d : Directory) (test : Slots → Bool) → IsKind d.kind → ((slots : Slots) → slots.right ≡ true → home_of slots ≡ d → test slots ≡ true) → (locals : List Slots) → All (IsLocal f v) locals → list_any test locals ≡ false
+pub no_right_in : (f : Profile) (v : View) (d : Directory) (test : Slots → Bool) → IsKind d.kind → ((slots : Slots) → slots.right ≡ true → home_of slots ≡ d → test slots ≡ true) → (locals : List Slots) → All (IsLocal f v) locals → list_any test locals ≡ false
     → (p : ℕ) → KnowsDeed p d v → any_keeps locals p ≡ false
 no_right_in f v d test is all_there [] all none p of = refl
 no_right_in f v d test is all_there (first ∷ rest) all none p of =

@@ -27,6 +27,8 @@ use Rattle.pas_steps.specs.Kinds.{Only}
 use Rattle.pas_cache.specs.Kinds.{releasing}
 use Rattle.pas_segregated.specs.Takes.{NoSlot, TookSlots}
 use Rattle.pas_segregated.specs.Refills.{Filling, GivesSlots}
+use Rattle.pas_bitfit.specs.Allocates.{run_for, IsAllocated}
+use Rattle.pas_bitfit.specs.Runs.{NoneFits}
 use Rattle.pas_segregated.specs.declared.slots.Slots.{Slots}
 use Rattle.pas_cache.specs.Locals.{local_for, others_than}
 use Rattle.pas_steps.specs.Unknown.{unknown_pages}
@@ -59,6 +61,16 @@ wanted_for f heap size align = record { directory = directory_for f heap size al
 -- that of a class, in pages of this directory
 abbrev pub class_wanted : Directory → ℕ → ℕ → Wanted
 class_wanted d class align = record { directory = d; route = Route.Class class; room = class_size class; align = align }
+
+-- ---- a bit-fit request
+-- The pages of the directory were searched, and the block was given and its page left, or the search was refused. Nothing of the cache is changed.
+pub record ServesBitfit (f : Profile) (wanted : Wanted) (c c' : Cached) (steps : List Made) (answer : Result Block NoRoom) : Type 0 where
+  pub cache : c' ≡ c
+  pub searched : List Made
+  pub searches : AreSearch searched
+  pub after : List Made
+  pub outcome : MatchResult answer (IsAllocated f wanted.directory wanted.room wanted.align searched after) (λ room. IsRefused (NoneFits (run_for wanted.room wanted.align)) f wanted.directory searched room × (after ≡ []))
+  pub steps_are : steps ≡ after ++ searched
 
 -- ---- slots are obtained
 -- The local allocator of the heap and the class has a slot, and is taken out of the list without a step.

@@ -1,0 +1,143 @@
+-- A bit-fit request: the actor is at rest with the cache as it was.
+use Rattle.std.proofs.Common.{◌≡◌, ℕ, ◌+◌, ◌*◌, ◌/◌, ◌%◌, ◌<◌, ◌≤◌, ◌==◌, Bool, true, false, ◌||◌, if◌then◌else◌, List, [], ◌∷◌, ◌++◌, length, Ok, Err, Result, refl, ap, sym, ◌∙◌, subst, arith, append_assoc}
+use Rattle.std.specs.Prelude.{All, MatchResult, not}
+use Rattle.std.specs.List.{list_any, AllByRecursion}
+use Rattle.std.proofs.lemmas.Bool.{eqb-true}
+use Rattle.pas_profile.specs.Profiles.{IsPage, IsDirectoryOf}
+use Rattle.pas_profile.specs.Requests.{kind_of_class}
+use Rattle.pas_profile.specs.Runs.{in_run, address_of, grain_of, length_of}
+use Rattle.pas_profile.specs.declared.directory.Directory.{Directory}
+use Rattle.pas_profile.specs.declared.directory.Kind.TheVariants as Kind
+use Rattle.pas_profile.specs.declared.directory.Route.{Route}
+use Rattle.pas_profile.specs.declared.event.Event.{Event}
+use Rattle.pas_profile.specs.declared.event.NoRoom.{NoRoom}
+use Rattle.pas_profile.specs.declared.name.Block.{Block}
+use Rattle.pas_profile.specs.declared.profile.Profile.{Profile}
+use Rattle.pas_profile.proofs.Runs.{run_of}
+use Rattle.pas_steps.specs.Agreement.{Agreed}
+use Rattle.pas_steps.specs.Calls.{Calls, Kept, Lost, now, Does}
+use Rattle.pas_steps.specs.Desks.{Standing, CanCall}
+use Rattle.pas_steps.specs.Events.{events_by}
+use Rattle.pas_steps.specs.Kinds.{returning, Only}
+use Rattle.pas_steps.specs.Unknown.{HasRoom}
+use Rattle.pas_steps.specs.Views.{View, holds, KnowsDeed}
+use Rattle.pas_steps.specs.declared.step.Made.{Made}
+use Rattle.pas_steps.proofs.Adding.{adds_under, agreed_later}
+use Rattle.pas_steps.proofs.Apart.{only_both, only_within}
+use Rattle.pas_search.proofs.ForBackEnds.{events_quiet}
+use Rattle.pas_search.specs.Kinds.{searching}
+use Rattle.pas_search.specs.Searches.{MaySearch, SearchRoom, IsRefused}
+use Rattle.pas_search.specs.Serving.{right_of}
+use Rattle.pas_segregated.specs.Stops.{home_of}
+use Rattle.pas_segregated.specs.declared.slots.Slots.{Slots}
+use Rattle.pas_bitfit.specs.Allocates.{bitfit_directory, run_for, GaveBlock, IsAllocated}
+use Rattle.pas_bitfit.specs.Gives.{give_steps}
+use Rattle.pas_bitfit.proofs.GivenRun.{run_is}
+use Rattle.pas_bitfit.specs.Runs.{NoneFits}
+use Rattle.pas_cache.specs.Kinds.{allocating}
+use Rattle.pas_cache.specs.Locals.{any_keeps, IsLocal, RestsWith}
+use Rattle.pas_cache.specs.Serves.{Wanted, IsPlaced, IsPreparing, IsBlockFor, IsFew, IsSilent, MakesFew}
+use Rattle.pas_cache.proofs.RefillEvents.{chosen_few, silent_few, prepared}
+use Rattle.pas_cache.proofs.Refills.{may_search_in, no_right_in}
+use Rattle.pas_cache.proofs.Resting.{locals_after, rests_by, rests_kept}
+
+-- ---- no local allocator has a right of a bit-fit page
+none_of : (locals : List Slots) → list_any (λ (s : Slots). false) locals ≡ false
+none_of [] = refl
+none_of (s ∷ rest) = none_of rest
+
+not_bitfit : (shared : Bool) (class : ℕ) → kind_of_class shared class ≡ Kind.Bitfit → ⊥
+not_bitfit true class same = cc
+not_bitfit false class same = cc
+
+never : (heap : ℕ) (slots : Slots) → slots.right ≡ true → home_of slots ≡ bitfit_directory heap → false ≡ true
+never heap slots right home = absurd (not_bitfit (not slots.right) slots.class (ap (λ (d : Directory). d.kind) home))
+
+pub may_search_bitfit : (f : Profile) (v : View) (heap : ℕ) (locals : List Slots) → RestsWith f locals v → MaySearch (bitfit_directory heap) v
+may_search_bitfit f v heap locals rest = may_search_in f v (bitfit_directory heap) (λ s. false) tt (never heap) locals (none_of locals) rest
+
+lost_none : (t kept : Bool) → (t ≡ true → kept ≡ false) → now (if t then Lost else Kept) kept ≡ kept
+lost_none true kept none = sym (none refl)
+lost_none false kept none = refl
+
+-- ---- a block is given
+module _ (f : Profile) (heap room align : ℕ) (searched after : List Made) (block : Block) (is : IsAllocated f (bitfit_directory heap) room align searched after block) where
+  abbrev d : Directory
+  d = bitfit_directory heap
+
+  abbrev steps : List Made
+  steps = after ++ searched
+
+  gave : (locals : List Slots) (v : View) → RestsWith f locals v → Agreed f v steps → GaveBlock is.page d block v (steps ++ v)
+  gave locals v h agreed = is.gave.from v (may_search_bitfit f v heap locals h) agreed
+
+  pub rests_given : (locals : List Slots) (v : View) → RestsWith f locals v → Agreed f v (after ++ searched) → RestsWith f locals ((after ++ searched) ++ v)
+  rests_given locals v h agreed =
+      let g = gave locals v h agreed in
+      let known : All (IsLocal f (steps ++ v)) locals = locals_after f (right_of is.page Lost) steps v locals g.does agreed (λ x here. (h.grains x ∙ here, refl)) h.known in
+      rests_by f (right_of is.page Lost) steps v locals locals g.does (λ x. refl)
+      (λ q. lost_none (is.page == q) (any_keeps locals q) (λ at. no_right_in f (steps ++ v) d (λ s. false) tt (never heap) locals known (none_of locals) q (subst (λ p. KnowsDeed p d (steps ++ v)) (eqb-true is.page q at) g.deed)))
+      (λ q. refl) h known h.apart
+
+  run_within : is.first + room / 16 ≤ 256
+  run_within = is.served.serves.chosen.this.within
+
+  on_page : (g : ℕ) → in_run (grain_of block.name) (length_of block) g ≡ true → g / 256 ≡ is.page
+  on_page g inside =
+      let at = run_of (is.page * 256 + is.first) (room / 16) g (sym (ap (λ (b : Block). in_run (grain_of b.name) (length_of b) g) is.block_is ∙ run_is is.page d is.first (room / 16) is.word g) ∙ inside) in
+      let low = at.0 in let high = at.1 in let within = run_within in omega (arith, low, high, within)
+
+  pub block_for : {Meets : View → Type 0} (locals : List Slots) → ((v : View) → Meets v → RestsWith f locals v) → IsBlockFor f (record { directory = bitfit_directory heap; route = Route.Bitfit; room = room; align = align }) Meets (after ++ searched) block
+  block_for locals rests = record {
+    of_heap = ap (λ (b : Block). b.heap) is.block_is;
+    room = is.room_is;
+    placed = let within = run_within in let whole = ap (λ (b : Block). b.room) is.block_is in let room_is = is.room_is in
+        subst (λ n. n % 4096 + block.room ≤ 4096) (sym (ap (λ (b : Block). address_of b.name) is.block_is)) (omega (arith, within, whole, room_is));
+    aligned = is.aligned;
+    of_region = λ g inside. subst (IsPage f) (sym (on_page g inside)) is.served.page;
+    turn = record { from = λ v met agreed. (gave locals v (rests v met) agreed).turn };
+    deeds = record { from = λ v met agreed g inside. subst (λ p. KnowsDeed p d (steps ++ v)) (sym (on_page g inside)) (gave locals v (rests v met) agreed).deed };
+    events = λ k v. (events_by k v searched, is.events k v, prepared d is.page searched is.served.events k v);
+  }
+
+  pub given_few : (locals : List Slots) (k : ℕ) (v : View) → RestsWith f locals v → Agreed f v (after ++ searched) → IsFew f 2 k (after ++ searched) v
+  given_few locals k v h agreed =
+      let more = ap length (is.events k v) in
+      chosen_few (NoneFits (run_for room align)) f d is.page searched steps is.served.page is.served.choice is.served.few k v (agreed_later f v after searched agreed) agreed (gave locals v h agreed).deed 1 (omega (arith, more))
+
+  pub given_kinds : Only searching searched → Only allocating (after ++ searched)
+  given_kinds kinds = only_both allocating after searched
+      (subst (Only allocating) (sym is.after_is) (only_both allocating is.left (give_steps is.page is.first block is.word is.answer) (only_within returning allocating is.left refl is.left_kinds) (refl, (refl, tt))))
+      (only_within searching allocating searched refl kinds)
+
+-- ---- a request is refused
+refused_few : (f : Profile) (k : ℕ) (steps : List Made) (v : View) → IsFew f 1 k steps v → IsFew f 2 k steps v
+refused_few f k steps v few = let paid = few.paid in let most = few.most in record { paid = omega (arith, paid); most = omega (arith, most) }
+
+-- ---- the call
+abbrev pub Ends : Profile → ℕ → ℕ → ℕ → List Made → List Made → Result Block NoRoom → Type 0
+Ends f heap room align searched after answer = MatchResult answer (IsAllocated f (bitfit_directory heap) room align searched after) (λ why. IsRefused (NoneFits (run_for room align)) f (bitfit_directory heap) searched why × (after ≡ []))
+
+module _ (f : Profile) (heap room align : ℕ) (locals : List Slots) where
+  refused : (searched after : List Made) → after ≡ [] → searched ≡ after ++ searched
+  refused searched after none = ap (λ xs. xs ++ searched) (sym none)
+
+  pub rests : (searched after : List Made) (answer : Result Block NoRoom) → Ends f heap room align searched after answer → (v : View) → RestsWith f locals v → Agreed f v (after ++ searched) → RestsWith f locals ((after ++ searched) ++ v)
+  rests searched after (Ok block) h v rest agreed = rests_given f heap room align searched after block h locals v rest agreed
+  rests searched after (Err why) h v rest agreed =
+      subst (λ xs. Agreed f v xs → RestsWith f locals (xs ++ v)) (refused searched after h.1)
+      (λ ok. rests_kept f locals searched v (h.0.still.from v (may_search_bitfit f v heap locals rest) ok) ok rest) agreed
+
+  pub few : (searched after : List Made) (answer : Result Block NoRoom) → Ends f heap room align searched after answer → (k : ℕ) (v : View) → RestsWith f locals v → Agreed f v (after ++ searched) → IsFew f 2 k (after ++ searched) v
+  few searched after (Ok block) h k v rest agreed = given_few f heap room align searched after block h locals k v rest agreed
+  few searched after (Err why) h k v rest agreed =
+      subst (λ xs. Agreed f v xs → IsFew f 2 k xs v) (refused searched after h.1) (λ ok. refused_few f k searched v (silent_few f k searched v h.0.quiet ok)) agreed
+
+  pub kinds : (searched after : List Made) (answer : Result Block NoRoom) → Ends f heap room align searched after answer → Only searching searched → Only allocating (after ++ searched)
+  kinds searched after (Ok block) h only = given_kinds f heap room align searched after block h only
+  kinds searched after (Err why) h only = subst (Only allocating) (refused searched after h.1) (only_within searching allocating searched refl only)
+
+  pub ends : (searched after : List Made) (answer : Result Block NoRoom) → Ends f heap room align searched after answer
+      → MatchResult answer (IsBlockFor f (record { directory = bitfit_directory heap; route = Route.Bitfit; room = room; align = align }) (RestsWith f locals) (after ++ searched)) (λ why. IsSilent (after ++ searched))
+  ends searched after (Ok block) h = block_for f heap room align searched after block h {Meets = RestsWith f locals} locals (λ v met. met)
+  ends searched after (Err why) h = subst IsSilent (refused searched after h.1) (λ k v. events_quiet k v searched h.0.quiet)
