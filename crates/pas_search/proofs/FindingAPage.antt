@@ -1,5 +1,5 @@
 -- The answer of a search: an offered page serves, a page does whose deed was made, or the request is refused; and what it says of the states at entry and exit.
-use Rattle.std.proofs.Common.{◌≡◌, ℕ, ◌+◌, ◌<◌, ◌≤◌, true, false, List, [], ◌∷◌, ◌++◌, refl, sym, ◌∙◌, subst, arith, ◌⊎◌, inl, inr, append_assoc, true≢false, ◌≢◌, ◌==◌, if◌then◌else◌, ap, Result, Ok, Err, MatchResult, Bool, length, length-append, suc, Some, None, Option}
+use Rattle.std.proofs.Common.{◌≡◌, ℕ, ◌+◌, ◌<◌, ◌≤◌, true, false, List, [], ◌∷◌, ◌++◌, refl, sym, ◌∙◌, subst, arith, ◌⊎◌, inl, inr, append_assoc, true≢false, ◌≢◌, ◌==◌, if◌then◌else◌, ap, Result, Ok, Err, MatchResult, Bool, length, length-append, suc, Some, None}
 use Rattle.std.proofs.lemmas.Bool.{cases_Bool, cases_lt, eq-eqb, ne_eqb}
 use Rattle.pas_profile.specs.declared.directory.Directory.{Directory}
 use Rattle.pas_profile.specs.declared.profile.Profile.{Profile}
@@ -11,14 +11,14 @@ use Rattle.pas_steps.specs.Past.{Once, Always, Since}
 use Rattle.pas_steps.specs.Frames.{OnlyScans}
 use Rattle.pas_steps.proofs.Kept.{scans_look, looks_read, deed_stays}
 use Rattle.pas_steps.proofs.Past.{once_later, once_earlier, once_map}
-use Rattle.pas_steps.specs.Evidence.{UnfitHere, ZeroHere, DeedHere, ParkedHere, ParkedLater, LeftHere, LacksAfter, MissingHere, HeldHere, Accounted, AllDeeds, ReadsDeed, KeptHere, Searched, NoDeedHere, GetsRight}
+use Rattle.pas_steps.specs.Evidence.{UnfitHere, ZeroHere, DeedHere, ParkedHere, ParkedLater, LeftHere, LacksAfter, MissingHere, HeldHere, Accounted, AllDeeds, ReadsDeed, KeptHere, Searched, NoDeedHere, GetsRight, IsAntitone}
 use Rattle.pas_scan.specs.Marks.{is_marked}
 use Rattle.pas_scan.specs.Scan.{IsMember, AllParked, IsVerdict, Judges}
-use Rattle.pas_search.specs.Serving.{Rule, IsAntitone}
-use Rattle.pas_search.specs.Searches.{Searching, AllAccounted, IsRefusal, IsRefused, MaySearch, DeedMadeHere, IsHeld, IsServed, SearchRoom, BareRoom, FromOffered, ByDeed, Finds, SearchesOffered, ServesBare, SearchesBare, Searches}
+use Rattle.pas_search.specs.Serving.{Rule}
+use Rattle.pas_search.specs.Searches.{Searching, AllAccounted, IsRefusal, IsRefused, MaySearch, DeedMadeHere, IsHeld, IsServed, SearchRoom, BareRoom, FromOffered, ByDeed, SearchesOffered, ServesBare, SearchesBare, Searches}
 use Rattle.pas_search.proofs.PagesThatServe.{no_deeds, served_search, deeds_serves, AreVain, reads_vain, vain_lacks, vain_search, searched, vain_searching, ready, got_search, finds, deed_before, unknown, deed_known}
 use Rattle.pas_search.proofs.ForBackEnds.{events_quiet, room_kept}
-use Rattle.pas_steps.proofs.Frames.{right_own, events_append}
+use Rattle.pas_steps.proofs.Frames.{right_own, events_append, lacks_now}
 use Rattle.pas_profile.specs.Directories.{deed_word_of, number_of}
 use Rattle.pas_profile.specs.Profiles.{IsValid, IsPage, IsDirectoryOf}
 use Rattle.pas_profile.specs.declared.word.Word.TheVariants as Word
@@ -31,7 +31,7 @@ use Rattle.pas_steps.specs.declared.step.Step.{Step}
 use Rattle.pas_steps.proofs.Parts.{part_of_own}
 use Rattle.pas_core.proofs.DeedWords.{known_is}
 use Rattle.pas_core.proofs.Spots.{is_offered, is_parked, spotted}
-use Rattle.pas_search.specs.Kinds.{searching, AreSearch, IsDeedOrBack, deeds_made}
+use Rattle.pas_search.specs.Kinds.{searching, AreSearch, IsDeedOrBack}
 use Rattle.pas_search.specs.Telling.{IsOfferedFit, HasNoFit, IsLowestOffered, IsLowestBare, IsInHands, IsTrueReason, IsTold}
 use Rattle.pas_search.specs.declared.serving.Served.{Served}
 use Rattle.pas_core.proofs.OneActorRights.{spot_same, zero_told, one_told, parked_told, entry_lacks, legal_before, offered_deed, offered_lacks, not_in_hands}
@@ -41,18 +41,10 @@ use Rattle.pas_steps.specs.Events.{events_of, events_by}
 use Rattle.pas_steps.specs.Unknown.{HasRoom}
 use Rattle.pas_steps.proofs.Unknown.{all_known}
 use Rattle.pas_steps.specs.declared.step.Step.TheVariants.{Deed}
-use Rattle.pas_steps.proofs.Adding.{adds_call, can_call, legal_after}
+use Rattle.pas_steps.proofs.Adding.{adds_call, can_call, legal_after, adds_under}
 use Rattle.pas_steps.proofs.Calls.{still_clear}
 
--- a page that didn't fit was got, and left
-pub unfit_left : {F : Type 0} (rule : Rule F) (p : ℕ) (xs : List Made) → Once (UnfitHere rule.no_fit p) xs → Once (LeftHere p) xs
-unfit_left rule p xs h = once_map (UnfitHere rule.no_fit p) (LeftHere p) xs (λ m before u. (u.left, u.kept, u.got)) h
-
-pub lacks_now : (p : ℕ) (xs : List Made) → Always (LacksAfter p) xs → has_right xs p ≡ false
-lacks_now p [] h = refl
-lacks_now p (m ∷ more) h = h.0
-
--- so the call had its right
+-- the call had the right of a page that didn't fit
 pub unfit_lacks : {F : Type 0} (rule : Rule F) (p : ℕ) (xs : List Made) → Once (UnfitHere rule.no_fit p) xs → Always (LacksAfter p) xs → ⊥
 unfit_lacks rule p [] h lacks = h
 unfit_lacks rule p (m ∷ more) (inl u) lacks = true≢false (sym u.kept ∙ lacks_now p more lacks.1)
@@ -77,18 +69,12 @@ module _ {F : Type 0} (rule : Rule F) (f : Profile) (d : Directory) (marks : Lis
   vain : AreVain ys
   vain = reads_vain ys (looks_read ys (scans_look ys scans))
 
-  account : (p : ℕ) → 1 ≤ p → p < f.pages + 1 → (is_marked marks p ≡ true) ⊎ Once (ParkedHere true p) ys → Accounted d p (ys ++ xs)
-  account p low high (inl m) = inl (once_later (LeftHere p) ys xs (unfit_left rule p xs (s.marked p m)))
-  account p low high (inr k) = elim (searched rule f d (f.pages + 1) marks xs s p low high) [
-    | inl u ↦ inl (once_later (LeftHere p) ys xs (unfit_left rule p xs u))
-    | inr z ↦ inr (parked_later d p ys xs (s.untouched p).right z.1 k)
-  ]
-
   all_accounted : (end : ℕ) → end ≤ f.pages + 1 → AllParked f marks d end ys → AllAccounted f d end (ys ++ xs)
-  all_accounted end limit all v agreed p low high is = account p low (omega (arith, limit, high)) (elim (cases_Bool (is_marked marks p)) [
-    | inl m ↦ inl m
-    | inr m ↦ inr (all (xs ++ v) p high (record { of_region = (low, omega (arith, limit, high)); of_directory = subst (KnowsDeed p d) (append_assoc ys xs v) is; unmarked = m }))
-  ])
+  all_accounted end limit all v agreed p low high is = elim (cases_Bool (is_marked marks p)) [
+    | inl m ↦ inl (once_later (LeftHere p) ys xs (once_map (UnfitHere rule.no_fit p) (LeftHere p) xs (λ m before u. (u.left, u.kept, u.got)) (s.marked p m)))
+    | inr m ↦ inr (parked_later d p ys xs (s.untouched p).right (s.zeros p low (omega (arith, limit, high)) m)
+        (all (xs ++ v) p high (record { of_region = (low, omega (arith, limit, high)); of_directory = subst (KnowsDeed p d) (append_assoc ys xs v) is; unmarked = m })))
+  ]
 
   refusal : (answer : NoRoom) → IsVerdict f marks d ys answer → IsRefusal f d (ys ++ xs) answer
   refusal NoSpace all = all_accounted (f.pages + 1) (omega arith) all
@@ -176,16 +162,13 @@ module _ {F : Type 0} (rule : Rule F) (f : Profile) (k : ℕ) (l : Whole) (d : D
     bare = λ page bare. deed_exit f k l page xs legal (is.deeds page bare.of_region.0 (let high = bare.of_region.1 in omega (arith, high))) (deed_quiet f k l page xs legal is.quiet ∙ bare.no_deed);
   }
 
-  -- the right of a page that the actor hasn't at exit it hadn't at entry
-  lacks_back : (room : NoRoom) → IsRefused rule f d xs room → (p : ℕ) → has_right (part k w) p ≡ false → has_right (part k l) p ≡ false
-  lacks_back room is p lacks = sym ((is.still.from (part k l) may agreed).right p) ∙ ap (λ v. has_right v p) (sym (part_of_own k xs l)) ∙ lacks
-
   exit_none : (room : NoRoom) → IsRefused rule f d xs room → HasNoFit rule f d w
   exit_none room is = record {
     offered = λ page fit. let high = fit.of_region.1 in elim (is.searched page fit.of_region.0 (omega (arith, high))) [
       | inl u ↦ fit.fits (unfit_exit rule.no_fit f k l page xs fewer valid legal searches (λ g. (is.still.from (part k l) may agreed).held g) u)
       | inr z ↦
-          let lacks : has_right (part k l) page ≡ false = lacks_back room is page (offered_lacks f k w (number_of d) page legal fit.offered) in
+          let lacks : has_right (part k l) page ≡ false =
+          sym ((is.still.from (part k l) may agreed).right page) ∙ ap (λ v. has_right v page) (sym (part_of_own k xs l)) ∙ offered_lacks f k w (number_of d) page legal fit.offered in
           true≢false (sym fit.offered ∙ (spotted f w legal page).eligible (number_of d) ∙ ap (is_offered (number_of d)) (spot_same f k l page xs legal lacks z.0) ∙ zero_told f k l d page xs legal lacks z.0 z.1)
     ];
     bare = λ page bare. deed_exit f k l page xs legal (is.deeds page bare.of_region.0 (let high = bare.of_region.1 in omega (arith, high))) bare.no_deed;
@@ -231,19 +214,13 @@ module _ {F : Type 0} (rule : Rule F) (f : Profile) (k : ℕ) (l : Whole) (d : D
 
   reason : (room : NoRoom) → IsRefused rule f d xs room → IsTrueReason f d w room
   reason NoSpace is = λ page hands. accounted_out NoSpace is page (is.answer (part k l) agreed page hands.of_region.0 (let high = hands.of_region.1 in omega (arith, high))) hands
-  reason (Held p) is = (
-    held_in_hands (Held p) is p is.answer,
-    λ other lt hands. accounted_out (Held p) is other (is.answer.lower (part k l) agreed other hands.of_region.0 lt) hands,
-  )
+  reason (Held p) is = (held_in_hands (Held p) is p is.answer, λ other lt hands. accounted_out (Held p) is other (is.answer.lower (part k l) agreed other hands.of_region.0 lt) hands)
 
   pub all_told : (answer : Result (Served F) NoRoom) → MatchResult answer (IsServed rule f d xs) (IsRefused rule f d xs) → IsTold rule f d l w answer
   all_told (Ok served) h = served_told served h
   all_told (Err room) h = (entry_none room h, exit_none room h, reason room h)
 
 -- ---- an offered page serves
-offered_serves : {F : Type 0} {rule : Rule F} {f : Profile} {d : Directory} {steps : List Made} (served : Served F) → Finds rule f d (FromOffered rule d served.page) steps served → IsServed rule f d steps served
-offered_serves {rule = rule} {f = f} {d = d} served found = record { page = found.page; keeps = found.keeps; choice = inl found.choice; shows = found.shows; serves = found.serves; few = found.few; events = found.events }
-
 -- what a search promises of its steps
 pub record Ends {F : Type 0} (rule : Rule F) (d : Directory) (desk desk' : Standing) (answer : Result (Served F) NoRoom) : Type 0 where
   pub steps : List Made
@@ -251,49 +228,38 @@ pub record Ends {F : Type 0} (rule : Rule F) (d : Directory) (desk desk' : Stand
   pub searches : AreSearch steps
   pub outcome : MatchResult answer (IsServed rule desk.seat.profile d steps) (IsRefused rule desk.seat.profile d steps)
 
-at_directory : {F : Type 0} {rule : Rule F} {σ σ1 : Standing} {d' : Directory} (d : Directory) → d' ≡ d → (marks : List ℕ) (found : Option (Served F)) → SearchesOffered rule d' σ σ1 marks found → SearchesOffered rule d σ σ1 marks found
-at_directory {rule = rule} {σ = σ} {σ1 = σ1} d same marks found = subst (λ x. SearchesOffered rule x σ σ1 marks found) same
-
 pub ends_offered : {F : Type 0} {rule : Rule F} {σ σ1 : Standing} {d' : Directory} (d : Directory) → d' ≡ d → (marks : List ℕ) (served : Served F) → SearchesOffered rule d' σ σ1 marks (Some served) → Ends rule d σ σ1 (Ok served)
-ends_offered {F} {rule} {σ} {σ1} d same marks served found = let offered : SearchesOffered rule d σ σ1 marks (Some served) = at_directory d same marks (Some served) found in
-    record { steps = offered.steps; adds = offered.adds; searches = offered.searches; outcome = offered_serves served offered.outcome }
+ends_offered {F} {rule} {σ} {σ1} d same marks served found = let offered : SearchesOffered rule d σ σ1 marks (Some served) = subst (λ x. SearchesOffered rule x σ σ1 marks (Some served)) same found in
+    let o = offered.outcome in
+    record { steps = offered.steps; adds = offered.adds; searches = offered.searches; outcome = record { page = o.page; keeps = o.keeps; choice = inl o.choice; shows = o.shows; serves = o.serves; few = o.few; events = o.events } }
 
 -- ---- by a deed
 module _ {F : Type 0} (rule : Rule F) (f : Profile) (d : Directory) (marks : List ℕ) (os steps : List Made) (s : Searching rule f d (f.pages + 1) marks os) (served : Served F) (bare : ServesBare rule f d steps served) where
-  abbrev m : Made
-  m = made (Deed served.page d) 0
-
-  abbrev ws : List Made
-  ws = bare.before ++ os
-
   now : Searching rule f d (f.pages + 1) marks (bare.before ++ os)
   now = vain_searching rule f d (f.pages + 1) marks bare.before os (reads_vain bare.before bare.reads) s
 
   all_steps : steps ++ os ≡ bare.serve ++ (made (Deed served.page d) 0 ∷ (bare.before ++ os))
-  all_steps = ap (λ ys. ys ++ os) bare.steps_are ∙ append_assoc bare.serve (m ∷ bare.before) os
-
-  one_deed : deeds_made (bare.serve ++ (made (Deed served.page d) 0 ∷ (bare.before ++ os))) ≡ 1
-  one_deed = deeds_serves bare.serve (m ∷ ws) bare.serves.only.kinds ∙ ap suc (no_deeds ws now.quiet)
+  all_steps = ap (λ ys. ys ++ os) bare.steps_are ∙ append_assoc bare.serve (made (Deed served.page d) 0 ∷ bare.before) os
 
   deed_made : ByDeed rule f d served.page (bare.serve ++ (made (Deed served.page d) 0 ∷ (bare.before ++ os)))
   deed_made = record {
-    made_here = once_later (DeedMadeHere rule f d served.page) bare.serve (m ∷ ws) (inl (record { deed = refl; made = refl; searched = searched rule f d (f.pages + 1) marks ws now; lower = λ q low high. deed_before q bare.before os (bare.lower q low high); quiet = now.quiet }));
-    one_deed = one_deed;
+    made_here = once_later (DeedMadeHere rule f d served.page) bare.serve (made (Deed served.page d) 0 ∷ (bare.before ++ os)) (inl (record { deed = refl; made = refl; searched = searched rule f d (f.pages + 1) marks (bare.before ++ os) now; lower = λ q low high. deed_before q bare.before os (bare.lower q low high); quiet = now.quiet }));
+    one_deed = deeds_serves bare.serve (made (Deed served.page d) 0 ∷ (bare.before ++ os)) bare.serves.only.kinds ∙ ap suc (no_deeds (bare.before ++ os) now.quiet);
   }
 
   pub deed_search : AreSearch (steps ++ os)
-  deed_search = subst AreSearch (sym all_steps) (served_search served.page bare.serve (m ∷ ws) bare.serves.only (inl (GetsRight.Deeds d 0 refl)) (got_search f d served.page m ws (GetsRight.Deeds d 0 refl) now.searches))
+  deed_search = subst AreSearch (sym all_steps) (served_search served.page bare.serve (made (Deed served.page d) 0 ∷ (bare.before ++ os)) bare.serves.only (inl (GetsRight.Deeds d 0 refl)) (got_search f d served.page (made (Deed served.page d) 0) (bare.before ++ os) (GetsRight.Deeds d 0 refl) now.searches))
 
   pub deed_serves : IsServed rule f d (steps ++ os) served
   deed_serves = subst (λ call. IsServed rule f d call served) (sym all_steps)
-      (finds f d served.page m ws (GetsRight.Deeds d 0 refl) rule bare.serve (ready f d served.page m ws (GetsRight.Deeds d 0 refl) (λ v met. met.clear) now.still (λ v agreed. deed_known served.page d 0 (ws ++ v) refl)) (now.untouched served.page)
+      (finds f d served.page (made (Deed served.page d) 0) (bare.before ++ os) (GetsRight.Deeds d 0 refl) rule bare.serve (ready f d served.page (made (Deed served.page d) 0) (bare.before ++ os) (GetsRight.Deeds d 0 refl) (λ v met. met.clear) now.still (λ v agreed. deed_known served.page d 0 ((bare.before ++ os) ++ v) refl)) (now.untouched served.page)
       served.found (λ call. FromOffered rule d served.page call ⊎ ByDeed rule f d served.page call) bare.serves bare.page (inr deed_made)
       (λ k v agreed.
-      let one : length (events_by k v (m ∷ ws)) ≡ 1 = ap (λ es. suc (length es)) (events_quiet k v ws now.quiet) in
-      let some : length (events_by k ((m ∷ ws) ++ v) bare.serve) ≤ rule.events = bare.serves.few k ((m ∷ ws) ++ v) in
-      let counts : length (events_by k v (bare.serve ++ (m ∷ ws))) ≡ length (events_by k ((m ∷ ws) ++ v) bare.serve) + length (events_by k v (m ∷ ws)) = ap length (events_append k bare.serve (m ∷ ws) v) ∙ length-append (events_by k ((m ∷ ws) ++ v) bare.serve) (events_by k v (m ∷ ws)) in
-      let deed = one_deed in
-      (omega (arith, one, some, counts, deed), λ known. absurd (unknown f v served.page (bare.serve ++ (m ∷ ws)) agreed (once_later (NoDeedHere served.page) bare.serve (m ∷ ws) (inl (ReadsDeed.Deeds d, refl))) (known served.page bare.page))))
+      let one : length (events_by k v (made (Deed served.page d) 0 ∷ (bare.before ++ os))) ≡ 1 = ap (λ es. suc (length es)) (events_quiet k v (bare.before ++ os) now.quiet) in
+      let some : length (events_by k ((made (Deed served.page d) 0 ∷ (bare.before ++ os)) ++ v) bare.serve) ≤ rule.events = bare.serves.few k ((made (Deed served.page d) 0 ∷ (bare.before ++ os)) ++ v) in
+      let counts : length (events_by k v (bare.serve ++ (made (Deed served.page d) 0 ∷ (bare.before ++ os)))) ≡ length (events_by k ((made (Deed served.page d) 0 ∷ (bare.before ++ os)) ++ v) bare.serve) + length (events_by k v (made (Deed served.page d) 0 ∷ (bare.before ++ os))) = ap length (events_append k bare.serve (made (Deed served.page d) 0 ∷ (bare.before ++ os)) v) ∙ length-append (events_by k ((made (Deed served.page d) 0 ∷ (bare.before ++ os)) ++ v) bare.serve) (events_by k v (made (Deed served.page d) 0 ∷ (bare.before ++ os))) in
+      let deed = deed_made.one_deed in
+      (omega (arith, one, some, counts, deed), λ known. absurd (unknown f v served.page (bare.serve ++ (made (Deed served.page d) 0 ∷ (bare.before ++ os))) agreed (once_later (NoDeedHere served.page) bare.serve (made (Deed served.page d) 0 ∷ (bare.before ++ os)) (inl (ReadsDeed.Deeds d, refl))) (known served.page bare.page))))
       (inr IsDeedOrBack.Deeds) now.quiet)
 
 -- what the search of offered pages asks
@@ -305,7 +271,7 @@ profile_kept adds = ap (λ (s : Seat). s.profile) adds.seat_is
 
 module _ {F : Type 0} {rule : Rule F} {σ σ1 : Standing} {d' : Directory} (d : Directory) (same : d' ≡ d) (marks : List ℕ) (found : SearchesOffered rule d' σ σ1 marks None) where
   offered : SearchesOffered rule d σ σ1 marks None
-  offered = at_directory d same marks None found
+  offered = subst (λ x. SearchesOffered rule x σ σ1 marks None) same found
 
   abbrev f : Profile
   f = σ.seat.profile
@@ -347,15 +313,11 @@ module _ {F : Type 0} {rule : Rule F} {σ σ1 : Standing} {d' : Directory} (d : 
       → ((v : View) (l : Whole) → σ.stands v l → spare + length (events_of σ.seat.actor v) ≡ σ.seat.room) → ((v : View) (l : Whole) → σ1.stands v l → spare' + length (events_of σ1.seat.actor v) ≡ σ1.seat.room)
       → CanCall σ1 (λ v l. BareRoom σ1.seat.profile rule.events spare' v)
   bare_can {spare} {spare'} can law law' =
-      let agreed : Agreed f can.view offered.steps = offered.adds.agreed can.view can.whole can.stood can.met.may in
       let keep = λ (n : ℕ) (fits : n ≤ spare). room_kept {C = λ v l. MaySearch d v} n offered.adds (may_can can) offered.outcome.quiet law law' fits in
-      let room : HasRoom f rule.events spare' (offered.steps ++ can.view) = (keep rule.events can.met.room.0, elim can.met.room.1 [ inl all ↦ inl (all_known f offered.steps can.view agreed all) | inr wide ↦ inr (keep (rule.events + 1) wide) ]) in
-      record {
-        view = offered.steps ++ can.view;
-        whole = _;
-        stood = offered.adds.added can.view can.whole can.stood can.met.may;
-        met = record { clear = clear_then can.view can.met.may agreed; room = subst (λ x. HasRoom x rule.events spare' (offered.steps ++ can.view)) (sym (profile_kept offered.adds)) room };
-      }
+      can_call {C = λ v l. SearchRoom f d rule.events spare v} (adds_under offered.adds (λ v l stood met. met.may)) can (λ v l stood met. let agreed = offered.adds.agreed v l stood met.may in record {
+        clear = clear_then v met.may agreed;
+        room = subst (λ x. HasRoom x rule.events spare' (offered.steps ++ v)) (sym (profile_kept offered.adds)) (keep rule.events met.room.0, elim met.room.1 [ inl all ↦ inl (all_known f offered.steps v agreed all) | inr wide ↦ inr (keep (rule.events + 1) wide) ]);
+      })
 
 -- ---- with what it says on a desk that tells the whole state
 pub searches_by : {F : Type 0} {rule : Rule F} {σ σ' : Standing} {answer : Result (Served F) NoRoom} (tells : Bool) (d : Directory) → IsValid σ.seat.profile → IsDirectoryOf σ.seat.profile d → IsAntitone rule.no_fit
