@@ -3,7 +3,7 @@ use Rattle.std.specs.Prelude.{ℕ, ◌+◌, ◌%◌, ◌<◌, ◌≤◌, ◌≡�
 use Rattle.pas_profile.specs.Runs.{in_run}
 use Rattle.pas_profile.specs.declared.directory.Kind.TheVariants as Kind
 use Rattle.pas_steps.specs.Evidence.{Readings}
-use Rattle.pas_search.specs.Serving.{IsAntitone}
+use Rattle.pas_steps.specs.Evidence.{IsAntitone}
 use Rattle.pas_segregated.specs.Takes.{AllFree}
 use Rattle.pas_choice.specs.Choices.{Choice}
 use Rattle.pas_bitfit.specs.declared.wanted.Wanted.{Wanted}

@@ -15,11 +15,11 @@ use Rattle.pas_steps.specs.declared.step.Made.{Made}
 use Rattle.pas_steps.specs.declared.step.Step.{Step}
 use Rattle.pas_steps.specs.declared.step.Step.TheVariants.{Look, Deed, Take, Put, TakeRight, Offer}
 use Rattle.pas_bits.proofs.Words.{bit_of_or}
-use Rattle.pas_search.specs.Serving.{IsAntitone}
-use Rattle.pas_search.specs.Telling.{free_of_page, HasNoFit}
-use Rattle.pas_steps.specs.Evidence.{Readings}
+use Rattle.pas_search.specs.Telling.{HasNoFit}
 use Rattle.pas_steps.specs.Kinds.{Only, is_in, kind_of}
 use Rattle.pas_cache.specs.Kinds.{releasing}
+use Rattle.pas_steps.specs.Evidence.{Readings, IsAntitone}
+use Rattle.pas_core.specs.Rights.{free_of_page}
 
 same : {A : Type 0} (t : Bool) (x : A) → (if t then x else x) ≡ x
 same true x = refl

@@ -18,7 +18,7 @@ use Rattle.pas_steps.specs.Agreement.{Agreed}
 use Rattle.pas_steps.specs.Lists.{Whole}
 use Rattle.pas_steps.specs.declared.step.Made.{Made}
 use Rattle.pas_search.specs.Kinds.{AreSearch}
-use Rattle.pas_search.specs.Serving.{IsAntitone}
+use Rattle.pas_steps.specs.Evidence.{IsAntitone}
 use Rattle.pas_search.specs.Searches.{IsRefused}
 use Rattle.pas_search.specs.Telling.{HasNoFit, IsTrueReason}
 use Rattle.pas_bits.specs.Masks.{HasMember}

@@ -9,7 +9,7 @@ use Rattle.pas_steps.proofs.Calls.{does_as, does_then}
 use Rattle.pas_search.specs.Searches.{MaySearch, KeepsFound, Searches}
 use Rattle.pas_search.specs.Serving.{Rule}
 use Rattle.pas_search.specs.declared.serving.Served.{Served}
-use Rattle.pas_segregated.proofs.GiveBack.{kept_kept}
+use Rattle.pas_steps.proofs.Sets.{kept_kept}
 
 -- ---- what was found
 -- it is kept, and none of its grains was held

@@ -1,6 +1,6 @@
 -- A page of which a part is taken, or that is left since nothing fits.
 use Rattle.std.proofs.Common.{◌≡◌, ℕ, ◌+◌, ◌*◌, ◌/◌, ◌%◌, ◌<◌, ◌≤◌, ◌==◌, Bool, true, ◌&&◌, if◌then◌else◌, List, [], ◌∷◌, ◌++◌, length, None, Some, refl, ap, sym, ◌∙◌, subst, arith, inl, inr, append_assoc, length-append}
-use Rattle.std.proofs.lemmas.Bool.{eq-eqb, and_from, and_parts}
+use Rattle.std.proofs.lemmas.Bool.{eq-eqb, and_from, and_parts, cond_both}
 use Rattle.pas_profile.specs.Profiles.{IsPage}
 use Rattle.pas_profile.specs.declared.directory.Directory.{Directory}
 use Rattle.pas_profile.specs.declared.event.Event.{Event}
@@ -13,7 +13,7 @@ use Rattle.pas_rights.proofs.Debts.{leave_lacks}
 use Rattle.pas_steps.specs.Allowed.{Allowed}
 use Rattle.pas_steps.specs.Calls.{Calls, Kept, Gained, Lost, now, ClearAfter, Does}
 use Rattle.pas_steps.specs.Desks.{Standing, CanCall, made, Makes, CanMake}
-use Rattle.pas_steps.specs.Events.{events_by}
+use Rattle.pas_steps.specs.Events.{with_event, events_by}
 use Rattle.pas_steps.specs.Evidence.{ShowsHere, KeptHere, GetsHere, UnfitHere}
 use Rattle.pas_steps.specs.Frames.{IsOnPage, OnlyOn}
 use Rattle.pas_steps.specs.Kinds.{Backing, Taking, Only, returning}
@@ -32,8 +32,8 @@ use Rattle.pas_search.specs.Kinds.{serving, AreQuiet}
 use Rattle.pas_search.specs.Serving.{MayServe, GotBefore, right_of, Keeps, KeepsPage, ServesPage}
 use Rattle.pas_search.proofs.ForBackEnds.{unfit_left}
 use Rattle.pas_segregated.specs.Takes.{taken, taking_slots}
-use Rattle.pas_segregated.proofs.GiveBack.{kept_kept}
-use Rattle.pas_segregated.proofs.Serve.{quiet_by, at_most_one, right_kept}
+use Rattle.pas_steps.proofs.Sets.{kept_kept}
+use Rattle.pas_segregated.proofs.Serve.{quiet_by, right_kept}
 use Rattle.pas_choice.specs.Choices.{Choice, IsUnfit, IsChosen, choosing}
 use Rattle.pas_choice.specs.Reads.{four_looks, SeesFree, ReadsPage}
 use Rattle.pas_choice.specs.Takes.{MayTake, TakesMask}
@@ -174,7 +174,7 @@ module _ {Found : Type 0} (choice : Choice Found) (page : ℕ) (d : Directory) {
               kinds = (refl, only_within taking_slots serving both refl both_kinds);
               on = (IsOnPage.Backs, always_both (λ m before. IsOnPage page m.step) (λ m before. IsOnPage page m.step) takes.steps looks (λ m before h. h) takes.on looks_on);
             };
-            few = λ k v. at_most_one (a == 0) (Event.Back k page) (events_by k v both) (no_events taking_slots refl k v both both_kinds);
+            few = λ k v. let none : length (events_by k v both) ≡ 0 = ap length (no_events taking_slots refl k v both both_kinds) in cond_both (a == 0) (Some (Event.Back k page)) None (λ o. length (with_event o (events_by k v both)) ≤ 1) (λ made. omega (arith, none)) (λ silent. omega (arith, none));
             short = let sum = length-append takes.steps looks in let b = takes.few in omega (arith, sum, b);
             outcome = keeps;
           };

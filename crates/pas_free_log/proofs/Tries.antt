@@ -1,5 +1,5 @@
 -- The end of one name: the tries, and what the last one came to.
-use Rattle.std.proofs.Common.{◌≡◌, ◌≢◌, ℕ, ◌*◌, ◌/◌, ◌^◌, ◌<◌, ◌≤◌, ◌==◌, ◌&&◌, Bool, true, false, List, [], ◌∷◌, ◌++◌, Option, Some, None, inl, inr, refl, ap, sym, ◌∙◌, subst, arith, ◌-◌, if◌then◌else◌}
+use Rattle.std.proofs.Common.{◌≡◌, ◌≢◌, ℕ, ◌/◌, ◌^◌, ◌<◌, ◌≤◌, ◌==◌, true, false, List, [], ◌∷◌, ◌++◌, Option, Some, None, inl, inr, refl, ap, sym, ◌∙◌, subst, arith, ◌-◌, if◌then◌else◌}
 use Rattle.std.proofs.lemmas.Bool.{cases_Bool, eqb-true, eq-eqb, ne_eqb, and_parts, and_from, false≢true}
 use Rattle.pas_profile.specs.Directories.{IsKind, directory_read}
 use Rattle.pas_profile.specs.Lives.{live_word, is_live, turn_of, grains_of}
@@ -14,10 +14,10 @@ use Rattle.pas_profile.specs.Runs.{address_of, grain_of}
 use Rattle.pas_steps.specs.declared.step.Made.{Made}
 use Rattle.pas_steps.specs.declared.step.Step.TheVariants.{Look, End}
 use Rattle.pas_steps.specs.Views.{View, known_epoch, or_zero}
-use Rattle.pas_steps.specs.Allowed.{IsStepOf, IsEpochKnown}
+use Rattle.pas_steps.specs.Allowed.{IsEpochKnown}
 use Rattle.pas_steps.specs.Agreement.{AgreesLife, AgreesEnd}
-use Rattle.pas_steps.specs.Desks.{Standing, made, Makes, CanMake, CanCall, Adds}
-use Rattle.pas_steps.proofs.Adding.{adds_none, adds_step, can_step}
+use Rattle.pas_steps.specs.Desks.{Standing, made, Makes, CanCall, Adds}
+use Rattle.pas_steps.proofs.Adding.{adds_none, adds_step}
 use Rattle.pas_free_log.specs.Conditions.{IsNameOf, KnowsEpoch, IsRun}
 use Rattle.pas_free_log.specs.Endings.{guess_by, guess_by_kind, is_of, Tries, IsEndOf, IsOfRegion, EndsName}
 use Rattle.pas_free_log.specs.declared.ending.Outcome.{Outcome}
@@ -61,14 +61,6 @@ pub tried : {σ σ1 σ2 : Standing} (name : Name) (deed first guess a : ℕ) (be
     → Adds σ σ2 (λ v l. KnowsEpoch v) (made (End name guess) a ∷ before ++ first_look name deed)
 tried name deed first guess a before tries adds makes = adds_step adds makes (λ v l stood met. may_end name deed first guess before v tries met)
 
--- a try of the name with a length that some block may have
-pub end_of_region : (f : Profile) (name : Name) (guess : ℕ) → IsNameOf f name → 1 ≤ guess → guess ≤ 256 * f.pages → IsStepOf f (End name guess)
-end_of_region f name guess is some few = (is.page, is.aligned, is.turn, some, few)
-
-pub can_try : {σ σ1 : Standing} (name : Name) (deed first guess : ℕ) (before : List Made) → Tries name first guess before → Adds σ σ1 (λ v l. KnowsEpoch v) (before ++ first_look name deed) → CanCall σ (λ v l. KnowsEpoch v)
-    → IsStepOf σ.seat.profile (End name guess) → CanMake σ1 (End name guess)
-can_try {σ} name deed first guess before tries adds can of = can_step {C = λ v l. KnowsEpoch v} adds can of (λ v l stood met. may_end name deed first guess before v tries met)
-
 -- what the last try came to, by what its answer agrees with
 pub ends_by : {σ σ1 σ2 : Standing} (name : Name) (outcome : Outcome) (deed guess a : ℕ) (before : List Made) → Tries name (guess_by (directory_read deed)) guess before → Adds σ σ1 (λ v l. KnowsEpoch v) (before ++ first_look name deed) → Makes σ1 σ2 (End name guess) a
     → CanCall σ (λ v l. KnowsEpoch v) → ((v : View) → AgreesEnd σ.seat.profile (before ++ first_look name deed ++ v) name guess a → IsEndOf name guess a outcome × IsOfRegion σ.seat.profile name outcome) → EndsName name σ σ2 outcome
@@ -85,16 +77,6 @@ ends_by {σ} {σ1} {σ2} name outcome deed guess a before tries adds makes can t
 -- ---- what a try tells
 pub ended_run : (f : Profile) (v : View) (name : Name) (guess a : ℕ) → 1 ≤ guess → a ≡ live_word name.turn guess → AgreesEnd f v name guess a → IsRun f (grain_of name) guess
 ended_run f v name guess a some live agrees = let w = agrees.within live in record { some = some; first = w.0; last = w.1 }
-
-pub dead_is_none : (name : Name) (a : ℕ) → is_live a ≡ false → is_of name a ≡ false
-dead_is_none name a h = ap (λ t. t && (turn_of a == name.turn)) h
-
-and_no : (t : Bool) → (t && false) ≡ false
-and_no true = refl
-and_no false = refl
-
-pub other_is_none : (name : Name) (a : ℕ) → turn_of a ≢ name.turn → is_of name a ≡ false
-other_is_none name a ne = ap (λ t. is_live a && t) (ne_eqb (turn_of a) name.turn ne) ∙ and_no (is_live a)
 
 pub is_of_name : (name : Name) (a : ℕ) → is_live a ≡ true → turn_of a ≡ name.turn → is_of name a ≡ true
 is_of_name name a live turn = and_from (is_live a) (turn_of a == name.turn) live (eq-eqb (turn_of a) name.turn turn)

@@ -1,5 +1,5 @@
 -- The answer of a search: an offered page serves, a page does whose deed was made, or the request is refused; and what it says of the states at entry and exit.
-use Rattle.std.proofs.Common.{◌≡◌, ℕ, ◌+◌, ◌<◌, ◌≤◌, true, false, List, [], ◌∷◌, ◌++◌, refl, sym, ◌∙◌, subst, arith, ◌⊎◌, inl, inr, append_assoc, true≢false, ◌≢◌, ◌==◌, if◌then◌else◌, ap, Result, Ok, Err, MatchResult, Bool, length, length-append, suc, Some, None, Option}
+use Rattle.std.proofs.Common.{◌≡◌, ℕ, ◌+◌, ◌<◌, ◌≤◌, true, false, List, [], ◌∷◌, ◌++◌, refl, sym, ◌∙◌, subst, arith, ◌⊎◌, inl, inr, append_assoc, true≢false, ◌≢◌, ◌==◌, if◌then◌else◌, ap, Result, Ok, Err, MatchResult, Bool, length, length-append, suc, Some, None}
 use Rattle.std.proofs.lemmas.Bool.{cases_Bool, cases_lt, eq-eqb, ne_eqb}
 use Rattle.pas_profile.specs.declared.directory.Directory.{Directory}
 use Rattle.pas_profile.specs.declared.profile.Profile.{Profile}
@@ -11,14 +11,14 @@ use Rattle.pas_steps.specs.Past.{Once, Always, Since}
 use Rattle.pas_steps.specs.Frames.{OnlyScans}
 use Rattle.pas_steps.proofs.Kept.{scans_look, looks_read, deed_stays}
 use Rattle.pas_steps.proofs.Past.{once_later, once_earlier, once_map}
-use Rattle.pas_steps.specs.Evidence.{UnfitHere, ZeroHere, DeedHere, ParkedHere, ParkedLater, LeftHere, LacksAfter, MissingHere, HeldHere, Accounted, AllDeeds, ReadsDeed, KeptHere, Searched, NoDeedHere, GetsRight}
+use Rattle.pas_steps.specs.Evidence.{UnfitHere, ZeroHere, DeedHere, ParkedHere, ParkedLater, LeftHere, LacksAfter, MissingHere, HeldHere, Accounted, AllDeeds, ReadsDeed, KeptHere, Searched, NoDeedHere, GetsRight, IsAntitone}
 use Rattle.pas_scan.specs.Marks.{is_marked}
 use Rattle.pas_scan.specs.Scan.{IsMember, AllParked, IsVerdict, Judges}
-use Rattle.pas_search.specs.Serving.{Rule, IsAntitone}
-use Rattle.pas_search.specs.Searches.{Searching, AllAccounted, IsRefusal, IsRefused, MaySearch, DeedMadeHere, IsHeld, IsServed, SearchRoom, BareRoom, FromOffered, ByDeed, Finds, SearchesOffered, ServesBare, SearchesBare, Searches}
+use Rattle.pas_search.specs.Serving.{Rule}
+use Rattle.pas_search.specs.Searches.{Searching, AllAccounted, IsRefusal, IsRefused, MaySearch, DeedMadeHere, IsHeld, IsServed, SearchRoom, BareRoom, FromOffered, ByDeed, SearchesOffered, ServesBare, SearchesBare, Searches}
 use Rattle.pas_search.proofs.PagesThatServe.{no_deeds, served_search, deeds_serves, AreVain, reads_vain, vain_lacks, vain_search, searched, vain_searching, ready, got_search, finds, deed_before, unknown, deed_known}
 use Rattle.pas_search.proofs.ForBackEnds.{events_quiet, room_kept}
-use Rattle.pas_steps.proofs.Frames.{right_own, events_append}
+use Rattle.pas_steps.proofs.Frames.{right_own, events_append, lacks_now}
 use Rattle.pas_profile.specs.Directories.{deed_word_of, number_of}
 use Rattle.pas_profile.specs.Profiles.{IsValid, IsPage, IsDirectoryOf}
 use Rattle.pas_profile.specs.declared.word.Word.TheVariants as Word
@@ -41,18 +41,10 @@ use Rattle.pas_steps.specs.Events.{events_of, events_by}
 use Rattle.pas_steps.specs.Unknown.{HasRoom}
 use Rattle.pas_steps.proofs.Unknown.{all_known}
 use Rattle.pas_steps.specs.declared.step.Step.TheVariants.{Deed}
-use Rattle.pas_steps.proofs.Adding.{adds_call, can_call, legal_after}
+use Rattle.pas_steps.proofs.Adding.{adds_call, can_call, legal_after, adds_under}
 use Rattle.pas_steps.proofs.Calls.{still_clear}
 
--- a page that didn't fit was got, and left
-pub unfit_left : {F : Type 0} (rule : Rule F) (p : ℕ) (xs : List Made) → Once (UnfitHere rule.no_fit p) xs → Once (LeftHere p) xs
-unfit_left rule p xs h = once_map (UnfitHere rule.no_fit p) (LeftHere p) xs (λ m before u. (u.left, u.kept, u.got)) h
-
-pub lacks_now : (p : ℕ) (xs : List Made) → Always (LacksAfter p) xs → has_right xs p ≡ false
-lacks_now p [] h = refl
-lacks_now p (m ∷ more) h = h.0
-
--- so the call had its right
+-- the call had the right of a page that didn't fit
 pub unfit_lacks : {F : Type 0} (rule : Rule F) (p : ℕ) (xs : List Made) → Once (UnfitHere rule.no_fit p) xs → Always (LacksAfter p) xs → ⊥
 unfit_lacks rule p [] h lacks = h
 unfit_lacks rule p (m ∷ more) (inl u) lacks = true≢false (sym u.kept ∙ lacks_now p more lacks.1)
@@ -77,18 +69,12 @@ module _ {F : Type 0} (rule : Rule F) (f : Profile) (d : Directory) (marks : Lis
   vain : AreVain ys
   vain = reads_vain ys (looks_read ys (scans_look ys scans))
 
-  account : (p : ℕ) → 1 ≤ p → p < f.pages + 1 → (is_marked marks p ≡ true) ⊎ Once (ParkedHere true p) ys → Accounted d p (ys ++ xs)
-  account p low high (inl m) = inl (once_later (LeftHere p) ys xs (unfit_left rule p xs (s.marked p m)))
-  account p low high (inr k) = elim (searched rule f d (f.pages + 1) marks xs s p low high) [
-    | inl u ↦ inl (once_later (LeftHere p) ys xs (unfit_left rule p xs u))
-    | inr z ↦ inr (parked_later d p ys xs (s.untouched p).right z.1 k)
-  ]
-
   all_accounted : (end : ℕ) → end ≤ f.pages + 1 → AllParked f marks d end ys → AllAccounted f d end (ys ++ xs)
-  all_accounted end limit all v agreed p low high is = account p low (omega (arith, limit, high)) (elim (cases_Bool (is_marked marks p)) [
-    | inl m ↦ inl m
-    | inr m ↦ inr (all (xs ++ v) p high (record { of_region = (low, omega (arith, limit, high)); of_directory = subst (KnowsDeed p d) (append_assoc ys xs v) is; unmarked = m }))
-  ])
+  all_accounted end limit all v agreed p low high is = elim (cases_Bool (is_marked marks p)) [
+    | inl m ↦ inl (once_later (LeftHere p) ys xs (once_map (UnfitHere rule.no_fit p) (LeftHere p) xs (λ m before u. (u.left, u.kept, u.got)) (s.marked p m)))
+    | inr m ↦ inr (parked_later d p ys xs (s.untouched p).right (s.zeros p low (omega (arith, limit, high)) m)
+        (all (xs ++ v) p high (record { of_region = (low, omega (arith, limit, high)); of_directory = subst (KnowsDeed p d) (append_assoc ys xs v) is; unmarked = m })))
+  ]
 
   refusal : (answer : NoRoom) → IsVerdict f marks d ys answer → IsRefusal f d (ys ++ xs) answer
   refusal NoSpace all = all_accounted (f.pages + 1) (omega arith) all
@@ -176,16 +162,13 @@ module _ {F : Type 0} (rule : Rule F) (f : Profile) (k : ℕ) (l : Whole) (d : D
     bare = λ page bare. deed_exit f k l page xs legal (is.deeds page bare.of_region.0 (let high = bare.of_region.1 in omega (arith, high))) (deed_quiet f k l page xs legal is.quiet ∙ bare.no_deed);
   }
 
-  -- the right of a page that the actor hasn't at exit it hadn't at entry
-  lacks_back : (room : NoRoom) → IsRefused rule.no_fit f d xs room → (p : ℕ) → has_right (part k w) p ≡ false → has_right (part k l) p ≡ false
-  lacks_back room is p lacks = sym ((is.still.from (part k l) may agreed).right p) ∙ ap (λ v. has_right v p) (sym (part_of_own k xs l)) ∙ lacks
-
   exit_none : (room : NoRoom) → IsRefused rule.no_fit f d xs room → HasNoFit rule.no_fit f d w
   exit_none room is = record {
     offered = λ page fit. let high = fit.of_region.1 in elim (is.searched page fit.of_region.0 (omega (arith, high))) [
       | inl u ↦ fit.fits (unfit_exit rule.no_fit f k l page xs fewer valid legal searches (λ g. (is.still.from (part k l) may agreed).held g) u)
       | inr z ↦
-          let lacks : has_right (part k l) page ≡ false = lacks_back room is page (offered_lacks f k w (number_of d) page legal fit.offered) in
+          let lacks : has_right (part k l) page ≡ false =
+          sym ((is.still.from (part k l) may agreed).right page) ∙ ap (λ v. has_right v page) (sym (part_of_own k xs l)) ∙ offered_lacks f k w (number_of d) page legal fit.offered in
           true≢false (sym fit.offered ∙ (spotted f w legal page).eligible (number_of d) ∙ ap (is_offered (number_of d)) (spot_same f k l page xs legal lacks z.0) ∙ zero_told f k l d page xs legal lacks z.0 z.1)
     ];
     bare = λ page bare. deed_exit f k l page xs legal (is.deeds page bare.of_region.0 (let high = bare.of_region.1 in omega (arith, high))) bare.no_deed;
@@ -231,19 +214,13 @@ module _ {F : Type 0} (rule : Rule F) (f : Profile) (k : ℕ) (l : Whole) (d : D
 
   reason : (room : NoRoom) → IsRefused rule.no_fit f d xs room → IsTrueReason f d w room
   reason NoSpace is = λ page hands. accounted_out NoSpace is page (is.answer (part k l) agreed page hands.of_region.0 (let high = hands.of_region.1 in omega (arith, high))) hands
-  reason (Held p) is = (
-    held_in_hands (Held p) is p is.answer,
-    λ other lt hands. accounted_out (Held p) is other (is.answer.lower (part k l) agreed other hands.of_region.0 lt) hands,
-  )
+  reason (Held p) is = (held_in_hands (Held p) is p is.answer, λ other lt hands. accounted_out (Held p) is other (is.answer.lower (part k l) agreed other hands.of_region.0 lt) hands)
 
   pub all_told : (answer : Result (Served F) NoRoom) → MatchResult answer (IsServed rule f d xs) (IsRefused rule.no_fit f d xs) → IsTold (λ (s : Served F). s.page) rule.no_fit f d l w answer
   all_told (Ok served) h = served_told served h
   all_told (Err room) h = (entry_none room h, exit_none room h, reason room h)
 
 -- ---- an offered page serves
-offered_serves : {F : Type 0} {rule : Rule F} {f : Profile} {d : Directory} {steps : List Made} (served : Served F) → Finds rule f d (FromOffered rule.no_fit d served.page) steps served → IsServed rule f d steps served
-offered_serves {rule = rule} {f = f} {d = d} served found = record { page = found.page; keeps = found.keeps; choice = inl found.choice; shows = found.shows; serves = found.serves; few = found.few; events = found.events }
-
 -- what a search promises of its steps
 pub record Ends {F : Type 0} (rule : Rule F) (d : Directory) (desk desk' : Standing) (answer : Result (Served F) NoRoom) : Type 0 where
   pub steps : List Made
@@ -251,12 +228,10 @@ pub record Ends {F : Type 0} (rule : Rule F) (d : Directory) (desk desk' : Stand
   pub searches : AreSearch steps
   pub outcome : MatchResult answer (IsServed rule desk.seat.profile d steps) (IsRefused rule.no_fit desk.seat.profile d steps)
 
-at_directory : {F : Type 0} {rule : Rule F} {σ σ1 : Standing} {d' : Directory} (d : Directory) → d' ≡ d → (marks : List ℕ) (found : Option (Served F)) → SearchesOffered rule d' σ σ1 marks found → SearchesOffered rule d σ σ1 marks found
-at_directory {rule = rule} {σ = σ} {σ1 = σ1} d same marks found = subst (λ x. SearchesOffered rule x σ σ1 marks found) same
-
 pub ends_offered : {F : Type 0} {rule : Rule F} {σ σ1 : Standing} {d' : Directory} (d : Directory) → d' ≡ d → (marks : List ℕ) (served : Served F) → SearchesOffered rule d' σ σ1 marks (Some served) → Ends rule d σ σ1 (Ok served)
-ends_offered {F} {rule} {σ} {σ1} d same marks served found = let offered : SearchesOffered rule d σ σ1 marks (Some served) = at_directory d same marks (Some served) found in
-    record { steps = offered.steps; adds = offered.adds; searches = offered.searches; outcome = offered_serves served offered.outcome }
+ends_offered {F} {rule} {σ} {σ1} d same marks served found = let offered : SearchesOffered rule d σ σ1 marks (Some served) = subst (λ x. SearchesOffered rule x σ σ1 marks (Some served)) same found in
+    let o = offered.outcome in
+    record { steps = offered.steps; adds = offered.adds; searches = offered.searches; outcome = record { page = o.page; keeps = o.keeps; choice = inl o.choice; shows = o.shows; serves = o.serves; few = o.few; events = o.events } }
 
 -- ---- by a deed
 module _ {F : Type 0} (rule : Rule F) (f : Profile) (d : Directory) (marks : List ℕ) (os steps : List Made) (s : Searching rule.no_fit f d (f.pages + 1) marks os) (served : Served F) (bare : ServesBare rule f d steps served) where
@@ -305,7 +280,7 @@ profile_kept adds = ap (λ (s : Seat). s.profile) adds.seat_is
 
 module _ {F : Type 0} {rule : Rule F} {σ σ1 : Standing} {d' : Directory} (d : Directory) (same : d' ≡ d) (marks : List ℕ) (found : SearchesOffered rule d' σ σ1 marks None) where
   offered : SearchesOffered rule d σ σ1 marks None
-  offered = at_directory d same marks None found
+  offered = subst (λ x. SearchesOffered rule x σ σ1 marks None) same found
 
   abbrev f : Profile
   f = σ.seat.profile
@@ -347,15 +322,11 @@ module _ {F : Type 0} {rule : Rule F} {σ σ1 : Standing} {d' : Directory} (d : 
       → ((v : View) (l : Whole) → σ.stands v l → spare + length (events_of σ.seat.actor v) ≡ σ.seat.room) → ((v : View) (l : Whole) → σ1.stands v l → spare' + length (events_of σ1.seat.actor v) ≡ σ1.seat.room)
       → CanCall σ1 (λ v l. BareRoom σ1.seat.profile rule.events spare' v)
   bare_can {spare} {spare'} can law law' =
-      let agreed : Agreed f can.view offered.steps = offered.adds.agreed can.view can.whole can.stood can.met.may in
       let keep = λ (n : ℕ) (fits : n ≤ spare). room_kept {C = λ v l. MaySearch d v} n offered.adds (may_can can) offered.outcome.quiet law law' fits in
-      let room : HasRoom f rule.events spare' (offered.steps ++ can.view) = (keep rule.events can.met.room.0, elim can.met.room.1 [ inl all ↦ inl (all_known f offered.steps can.view agreed all) | inr wide ↦ inr (keep (rule.events + 1) wide) ]) in
-      record {
-        view = offered.steps ++ can.view;
-        whole = _;
-        stood = offered.adds.added can.view can.whole can.stood can.met.may;
-        met = record { clear = clear_then can.view can.met.may agreed; room = subst (λ x. HasRoom x rule.events spare' (offered.steps ++ can.view)) (sym (profile_kept offered.adds)) room };
-      }
+      can_call {C = λ v l. SearchRoom f d rule.events spare v} (adds_under offered.adds (λ v l stood met. met.may)) can (λ v l stood met. let agreed = offered.adds.agreed v l stood met.may in record {
+        clear = clear_then v met.may agreed;
+        room = subst (λ x. HasRoom x rule.events spare' (offered.steps ++ v)) (sym (profile_kept offered.adds)) (keep rule.events met.room.0, elim met.room.1 [ inl all ↦ inl (all_known f offered.steps v agreed all) | inr wide ↦ inr (keep (rule.events + 1) wide) ]);
+      })
 
 -- ---- with what it says on a desk that tells the whole state
 pub searches_by : {F : Type 0} {rule : Rule F} {σ σ' : Standing} {answer : Result (Served F) NoRoom} (tells : Bool) (d : Directory) → IsValid σ.seat.profile → IsDirectoryOf σ.seat.profile d → IsAntitone rule.no_fit

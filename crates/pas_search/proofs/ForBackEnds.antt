@@ -22,14 +22,9 @@ since_looks P p (y ∷ ys) xs looks right h = inr (right_reads p ys xs (looks_re
 -- the right was kept from one reading of the free words on, which shows no fit, and then the page was left
 pub unfit_left : (no_fit : Readings → Type 0) (p : ℕ) (ys xs : List Made) → Once (LosesHere p) ys → has_right xs p ≡ true → Once (GetsHere p) xs → (r : Readings) → no_fit r → ((word : ℕ) → word < 4 → Since (ShowsHere p word r) (KeptHere p) xs) → Once (UnfitHere no_fit p) (ys ++ xs)
 unfit_left no_fit p [] xs left right got r none read = absurd left
-unfit_left no_fit p (y ∷ ys) xs (inl h) right got r none read = inl (record {
-  left = h.0;
-  kept = right_reads p ys xs (looks_read ys h.1) ∙ right;
-  got = once_later (GetsHere p) ys xs got;
-  readings = r;
-  none = none;
-  read = λ word lt. since_looks (ShowsHere p word r) p ys xs h.1 right (read word lt);
-})
+unfit_left no_fit p (y ∷ ys) xs (inl h) right got r none read =
+    let here = λ (word : ℕ) (lt : word < 4). since_looks (ShowsHere p word r) p ys xs h.1 right (read word lt) in
+    inl (record { left = h.0; kept = right_reads p ys xs (looks_read ys h.1) ∙ right; got = once_later (GetsHere p) ys xs got; readings = r; none = none; read = here })
 unfit_left no_fit p (y ∷ ys) xs (inr h) right got r none read = inr (unfit_left no_fit p ys xs h right got r none read)
 
 -- ---- events

@@ -6,15 +6,15 @@ use Rattle.pas_steps.specs.declared.step.Made.{Made}
 use Rattle.pas_steps.specs.declared.step.Step.{Step}
 use Rattle.pas_steps.specs.declared.step.Step.TheVariants.{Deed, Look, TakeRight}
 use Rattle.pas_steps.specs.Views.{View, has_right, Way, Stays, grain_move, held_after, holds, KnowsDeed, known_deed, known_free, epoch_of}
-use Rattle.pas_steps.specs.Events.{events_by, event_of, with_event, events_of}
+use Rattle.pas_steps.specs.Events.{events_by, event_of, events_of}
 use Rattle.pas_steps.specs.Evidence.{GetsHere, GetsRight, LacksAfter, ZeroHere, OneHere, UnfitHere, Searched, ReadsEligible, ReadsDeed, DeedHere, NoDeedHere, AllDeeds}
 use Rattle.pas_steps.specs.Past.{Once, Always}
 use Rattle.pas_steps.specs.Frames.{IsOnPage, OnlyOn, IsRead, OnlyReads}
-use Rattle.pas_steps.specs.Kinds.{kind_of, is_in, Only, look_kind, place_of, unbacking}
+use Rattle.pas_steps.specs.Kinds.{kind_of, is_in, Only, look_kind, place_of, unbacking, Deeding}
 use Rattle.pas_steps.specs.Desks.{made, Seat, Standing, Anything, Adds, CanCall, Makes}
-use Rattle.pas_steps.proofs.Apart.{only_within, only_both, in_apart}
+use Rattle.pas_steps.proofs.Apart.{only_within, only_both, in_apart, same_over}
 use Rattle.pas_steps.proofs.Calls.{does_none, does_then, does_as, does_step, right_is, leads_then, does_after_nothing, kept_first, leads_as}
-use Rattle.pas_steps.proofs.Frames.{events_append, right_own}
+use Rattle.pas_steps.proofs.Frames.{events_append, right_own, with_few}
 use Rattle.pas_steps.proofs.Past.{always_both, always_map, once_later, once_earlier}
 use Rattle.pas_search.specs.Kinds.{serving, searching, OnlyServes, IsReturnOf, ReturnsGot, AreSearch, IsQuiet, AreQuiet, IsDeedOrBack, EventsAt, makes_deed, deeds_made}
 use Rattle.std.proofs.lemmas.Bool.{eq-eqb, eqb-true, ne_eqb, cases_Bool, cases_lt, cases_eq}
@@ -50,15 +50,9 @@ serves_return p (y ∷ ys) xs on got all = (λ q is. subst (λ r. Once (GetsHere
 
 -- a search goes on with a page whose right it got
 pub served_search : (p : ℕ) (ys xs : List Made) → OnlyServes p ys → Once (GetsHere p) xs → AreSearch xs → AreSearch (ys ++ xs)
-served_search p ys xs only got are = record {
-  kinds = only_both searching ys xs (only_within serving searching ys refl only.kinds) are.kinds;
-  returns = serves_return p ys xs only.on got are.returns;
-}
+served_search p ys xs only got are = record { kinds = only_both searching ys xs (only_within serving searching ys refl only.kinds) are.kinds; returns = serves_return p ys xs only.on got are.returns }
 
 -- ---- events
-pub quiet_append : (ys xs : List Made) → AreQuiet ys → AreQuiet xs → AreQuiet (ys ++ xs)
-quiet_append ys xs a b = always_both (λ m before. IsQuiet m) (λ m before. IsQuiet m) ys xs (λ m before h. h) a b
-
 -- the events of steps, where those before made none
 pub events_after_quiet : (k : ℕ) (v : View) (ys xs : List Made) → AreQuiet xs → events_by k v (ys ++ xs) ≡ events_by k (xs ++ v) ys
 events_after_quiet k v ys xs quiet = events_append k ys xs v ∙ ap (λ es. events_by k (xs ++ v) ys ++ es) (events_quiet k v xs quiet) ∙ append-nil (events_by k (xs ++ v) ys)
@@ -73,21 +67,17 @@ pub serves_events : (d : Directory) (p : ℕ) (ys xs : List Made) → OnlyServes
 serves_events d p [] xs only rest = rest
 serves_events d p (m ∷ ys) xs only rest = (serve_event d p m.step m.answer only.kinds.0 only.on.0, serves_events d p ys xs (record { kinds = only.kinds.1; on = only.on.1 }) rest)
 
-pub quiet_events : (d : Directory) (p : ℕ) (steps : List Made) → AreQuiet steps → EventsAt d p steps
-quiet_events d p steps h = always_map (λ m before. IsQuiet m) (λ m before. IsQuiet m ⊎ IsDeedOrBack d p m.step) steps (λ m before q. inl q) h
-
 -- ---- deeds
 pub quiet_deed : (s : Step) (a : ℕ) → IsQuiet (made s a) → makes_deed s a ≡ false
 quiet_deed (Deed q d) a h = no_deed_event (a == 0) (Event.Deed 0 q d) (h 0 0)
 quiet_deed s a h = refl
 
-serve_deed : (s : Step) (a : ℕ) → is_in serving (kind_of s) ≡ true → makes_deed s a ≡ false
-serve_deed (Deed q d) a h = absurd (true≢false (sym h))
-serve_deed s a h = refl
+no_deed : (s : Step) (a : ℕ) → is_in (Deeding ∷ []) (kind_of s) ≡ false → makes_deed s a ≡ false
+no_deed (Deed q d) a h = absurd (true≢false h)
+no_deed s a h = refl
 
 pub deeds_serves : (ys xs : List Made) → Only serving ys → deeds_made (ys ++ xs) ≡ deeds_made xs
-deeds_serves [] xs h = refl
-deeds_serves (m ∷ more) xs h = ap (λ t. if t then suc (deeds_made (more ++ xs)) else deeds_made (more ++ xs)) (serve_deed m.step m.answer h.0) ∙ deeds_serves more xs h.1
+deeds_serves = same_over deeds_made (Deeding ∷ []) serving (λ m before h. ap (λ t. if t then suc (deeds_made before) else deeds_made before) (no_deed m.step m.answer h)) refl
 
 pub no_deeds : (ys : List Made) → AreQuiet ys → deeds_made ys ≡ 0
 no_deeds [] h = refl
@@ -133,13 +123,7 @@ deed_rights : (p : ℕ) (d : Directory) (a : ℕ) (got : Bool) → (a == 0) ≡ 
 deed_rights p d a got e = record { grains = λ x. refl; rights = λ q. gets_way (p == q) (a == 0) got Way.ByDeed refl (λ is. e); opens = λ q. refl; kind = refl; returns = λ q h. elim h [ ] }
 
 claim_rights : (p : ℕ) (d : Directory) (a : ℕ) (got : Bool) → has_bit a (p % 64) ≡ got → Rights (gained got p) (made (TakeRight p d) a)
-claim_rights p d a got e = record {
-  grains = λ x. refl;
-  rights = λ q. gets_way (p == q) (has_bit a (q % 64)) got (Way.FromOffer (number_of d)) refl (λ is. ap (λ x. has_bit a (x % 64)) (sym (eqb-true p q is)) ∙ e);
-  opens = λ q. refl;
-  kind = refl;
-  returns = λ q h. elim h [ ];
-}
+claim_rights p d a got e = record { grains = λ x. refl; rights = λ q. gets_way (p == q) (has_bit a (q % 64)) got (Way.FromOffer (number_of d)) refl (λ is. ap (λ x. has_bit a (x % 64)) (sym (eqb-true p q is)) ∙ e); opens = λ q. refl; kind = refl; returns = λ q h. elim h [ ] }
 
 -- the right was got
 pub gets_rights : (p : ℕ) (s : Step) (a : ℕ) → GetsRight p s a → Rights (gained true p) (made s a)
@@ -154,15 +138,9 @@ pub record IsVain (m : Made) : Type 0 where
 abbrev pub AreVain : List Made → Type 0
 AreVain = Always (λ m before. IsVain m)
 
-pub claim_vain : (p : ℕ) (d : Directory) (a : ℕ) → has_bit a (p % 64) ≡ false → IsVain (made (TakeRight p d) a)
-claim_vain p d a bit = record { rights = claim_rights p d a false bit; quiet = λ k e. refl }
-
 read_vain : (s : Step) (a : ℕ) → IsRead s a → IsVain (made s a)
 read_vain s a (IsRead.Looks word b) = record { rights = look_rights word a; quiet = λ k e. refl }
-read_vain s a (IsRead.Reads p d b ne) = record {
-  rights = deed_rights p d a false (ne_eqb a 0 ne);
-  quiet = λ k e. ap (λ t. if t then Some (Event.Deed k p d) else None) (ne_eqb a 0 ne);
-}
+read_vain s a (IsRead.Reads p d b ne) = record { rights = deed_rights p d a false (ne_eqb a 0 ne); quiet = λ k e. ap (λ t. if t then Some (Event.Deed k p d) else None) (ne_eqb a 0 ne) }
 
 pub reads_vain : (steps : List Made) → OnlyReads steps → AreVain steps
 reads_vain steps = always_map (λ m before. IsRead m.step m.answer) (λ m before. IsVain m) steps (λ m before is. read_vain m.step m.answer is)
@@ -216,7 +194,7 @@ module _ {F : Type 0} (rule : Rule F) (f : Profile) (d : Directory) (next : ℕ)
   zeros_searching end ys xs vain s zeros = record {
     still = leads_then (Does nothing) s.still (vain_leads f ys vain) (λ v w met a. tt) (λ v w u a b. does_then a b);
     searches = vain_search ys xs vain s.searches;
-    quiet = quiet_append ys xs (vain_quiet ys vain) s.quiet;
+    quiet = always_both (λ m before. IsQuiet m) (λ m before. IsQuiet m) ys xs (λ m before h. h) (vain_quiet ys vain) s.quiet;
     untouched = λ p. vain_untouched p ys xs vain (s.untouched p);
     marked = λ p m. once_later (UnfitHere rule.no_fit p) ys xs (s.marked p m);
     zeros = λ p low high m. elim (cases_lt p next) [ inl lt ↦ once_later (ZeroHere d p) ys xs (s.zeros p low lt m) | inr ge ↦ zeros p ge high ];
@@ -229,8 +207,7 @@ module _ {F : Type 0} (rule : Rule F) (f : Profile) (d : Directory) (next : ℕ)
 -- ---- effects, one after the other
 got_first : (t keeps : Bool) → later (if t then Gained else Kept) (if t then (if keeps then Gained else Lost) else Kept) ≡ (if t then (if keeps then Gained else Lost) else Kept)
 got_first true true = refl
-got_first true false = refl
-got_first false keeps = refl
+got_first t keeps = refl
 
 got_served : {F : Type 0} (rule : Rule F) (page : ℕ) (found : F) {v w u : View} → Does (right_of page Gained) v w → Does (served rule page found) w u → Does (served rule page found) v u
 got_served rule page found a b = does_as (served rule page found) (does_then a b) (λ x. inl (kept_first ((served rule page found).grains x))) (λ q. got_first (page == q) (rule.keeps_right found)) (λ q h. h)
@@ -246,10 +223,6 @@ got_left page {v} lacked a b = record {
   clear = λ q is. b.clear q (a.clear q is);
   backed = λ x kept bears. b.backed x refl (a.backed x refl bears);
 }
-
-gets_on : (p : ℕ) (s : Step) (a : ℕ) → GetsRight p s a → IsOnPage p s
-gets_on p s a (GetsRight.Claims d b bit) = IsOnPage.Claims d
-gets_on p s a (GetsRight.Deeds d b made_it) = IsOnPage.Deeds d
 
 lacks_on : (page p : ℕ) (ys xs : List Made) → OnlyOn page ys → p ≢ page → has_right xs p ≡ false → Always (LacksAfter p) xs → Always (LacksAfter p) (ys ++ xs)
 lacks_on page p [] xs h ne none all = all
@@ -300,28 +273,22 @@ module _ (f : Profile) (d : Directory) (page : ℕ) (m : Made) (ws : List Made) 
           };
           serves = serve.outcome.serves (m ∷ ws) (got_before untouched);
           few = few;
-          events = serves_events d page zs (m ∷ ws) serve.only (event, quiet_events d page ws quiet);
+          events = serves_events d page zs (m ∷ ws) serve.only (event, always_map (λ m before. IsQuiet m) (λ m before. IsQuiet m ⊎ IsDeedOrBack d page m.step) ws (λ m before q. inl q) quiet);
         }
 
 -- ---- an offered page
-module _ {F : Type 0} (rule : Rule F) (f : Profile) (d : Directory) (page : ℕ) (marks : List ℕ) (m : Made) (ws zs : List Made) (gets : GetsRight page m.step m.answer) (quiet : IsQuiet m) (on : OnlyOn page zs)
+module _ {F : Type 0} (rule : Rule F) (f : Profile) (d : Directory) (page : ℕ) (marks : List ℕ) (m : Made) (ws zs : List Made) (gets : GetsRight page m.step m.answer) (quiet : IsQuiet m) (on_m : OnlyOn page (m ∷ [])) (on : OnlyOn page zs)
     (ready : Leads f (MaySearch d) (IsReady page d) (m ∷ ws)) (s : Searching rule.no_fit f d page marks ws) where
   others_lack : (p : ℕ) → p ≢ page → is_marked marks p ≡ false → Always (LacksAfter p) (zs ++ (m ∷ ws))
   others_lack p ne mark =
-      let on_m : OnlyOn page (m ∷ []) = (gets_on page m.step m.answer gets, tt) in let none = (s.untouched p).right in
+      let none = (s.untouched p).right in
       lacks_on page p zs (m ∷ ws) on ne (right_on page p (m ∷ []) ws on_m ne ∙ none) (lacks_on page p (m ∷ []) ws on_m ne none (s.lacked p mark))
 
   others_untouched : (p : ℕ) → p ≢ page → IsUntouched p (zs ++ (m ∷ ws))
-  others_untouched p ne = let on_m : OnlyOn page (m ∷ []) = (gets_on page m.step m.answer gets, tt) in record {
+  others_untouched p ne = record {
     right = right_on page p zs (m ∷ ws) on ne ∙ right_on page p (m ∷ []) ws on_m ne ∙ (s.untouched p).right;
     none = λ g at. let away = λ (e : g / 256 ≡ page). ne (sym at ∙ e) in holds_on_page page g zs (m ∷ ws) on away ∙ holds_on_page page g (m ∷ []) ws on_m away ∙ (s.untouched p).none g at;
   }
-
-  zero_later : (p : ℕ) → Once (ZeroHere d p) ws → Once (ZeroHere d p) (zs ++ (m ∷ ws))
-  zero_later p h = once_later (ZeroHere d p) zs (m ∷ ws) (inr h)
-
-  unfit_later : (p : ℕ) → Once (UnfitHere rule.no_fit p) ws → Once (UnfitHere rule.no_fit p) (zs ++ (m ∷ ws))
-  unfit_later p h = once_later (UnfitHere rule.no_fit p) zs (m ∷ ws) (inr h)
 
   -- it serves
   pub from_offered : (found : F) → ServeSteps rule f page d zs (Some found) → IsPage f page → Once (OfferedHere d page) ws → Finds rule f d (FromOffered rule.no_fit d page) (zs ++ (m ∷ ws)) (record { page = page; found = found })
@@ -329,8 +296,8 @@ module _ {F : Type 0} (rule : Rule F) (f : Profile) (d : Directory) (page : ℕ)
       (record {
         offered = once_later (OfferedHere d page) zs (m ∷ ws) (inr offered);
         searched = λ p low high. elim (cases_Bool (is_marked marks p)) [
-          | inl mark ↦ inl (unfit_later p (s.marked p mark))
-          | inr mark ↦ inr (others_lack p (λ e. absurd (omega (arith, e, high))) mark, zero_later p (s.zeros p low high mark))
+          | inl mark ↦ inl (once_later (UnfitHere rule.no_fit p) zs (m ∷ ws) (inr (s.marked p mark)))
+          | inr mark ↦ inr (others_lack p (λ e. absurd (omega (arith, e, high))) mark, once_later (ZeroHere d p) zs (m ∷ ws) (inr (s.zeros p low high mark)))
         ];
         no_deed = deeds_serves zs (m ∷ ws) serve.only.kinds ∙ no_deeds (m ∷ ws) (quiet, s.quiet);
       })
@@ -350,16 +317,16 @@ module _ {F : Type 0} (rule : Rule F) (f : Profile) (d : Directory) (page : ℕ)
         searching = record {
           still = leads_then (Does nothing) lacking left.leaves (λ v w met r. r.0.may) (λ v w u r b. got_left page r.1 r.0.got b);
           searches = served_search page zs (m ∷ ws) serve.only (inl gets) (got_search f d page m ws gets s.searches);
-          quiet = quiet_append zs (m ∷ ws) left.quiet (quiet, s.quiet);
+          quiet = always_both (λ m before. IsQuiet m) (λ m before. IsQuiet m) zs (m ∷ ws) (λ m before h. h) left.quiet (quiet, s.quiet);
           untouched = λ p. elim (cases_eq p page) [
             | inl e ↦ subst (λ q. IsUntouched q (zs ++ (m ∷ ws))) (sym e) (left.untouched (m ∷ ws) got)
             | inr ne ↦ others_untouched p ne
           ];
           marked = λ p mark. elim (cases_eq p page) [
             | inl e ↦ subst (λ q. Once (UnfitHere rule.no_fit q) (zs ++ (m ∷ ws))) (sym e) (left.unfit (m ∷ ws) got)
-            | inr ne ↦ unfit_later p (s.marked p (sym (others p ne) ∙ mark))
+            | inr ne ↦ once_later (UnfitHere rule.no_fit p) zs (m ∷ ws) (inr (s.marked p (sym (others p ne) ∙ mark)))
           ];
-          zeros = λ p low high mark. let ne = unmarked p mark in zero_later p (s.zeros p low (omega (arith, high, ne)) (sym (others p ne) ∙ mark));
+          zeros = λ p low high mark. let ne = unmarked p mark in once_later (ZeroHere d p) zs (m ∷ ws) (inr (s.zeros p low (omega (arith, high, ne)) (sym (others p ne) ∙ mark)));
           lacked = λ p mark. let ne = unmarked p mark in others_lack p ne (sym (others p ne) ∙ mark);
         };
         rest = λ p low. others p (λ e. absurd (omega (arith, e, low))) ∙ rest p (omega (arith, low));
@@ -378,9 +345,6 @@ module _ {F : Type 0} {rule : Rule F} {σ0 σ : Standing} (d : Directory) (next 
   module _ {σ1 : Standing} {d' : Directory} (same : d' ≡ d) (next' page : ℕ) (found : FindsOffered d' next σ σ1 next' (Some page)) where
     pub find : FindsOffered d next σ σ1 next' (Some page)
     find = subst (λ x. FindsOffered x next σ σ1 next' (Some page)) same found
-
-    abbrev ws : List Made
-    ws = find.steps ++ xs
 
     vain : AreVain find.steps
     vain = reads_vain find.steps (looks_read find.steps (scans_look find.steps find.scans))
@@ -403,33 +367,24 @@ module _ {F : Type 0} {rule : Rule F} {σ0 σ : Standing} (d : Directory) (next 
     lacked : (v : View) → MaySearch d v → Agreed σ0.seat.profile v (find.steps ++ xs) → has_right v page ≡ false
     lacked v met agreed = sym ((goes.searching.still.from v met (agreed_later σ0.seat.profile v find.steps xs agreed)).right page) ∙ first.lacks (xs ++ v) (agreed_first σ0.seat.profile v find.steps xs agreed)
 
-    found_adds : Adds σ0 σ1 (λ v l. MaySearch d v) (find.steps ++ xs)
-    found_adds = adds_call {D = Anything} adds find.adds (λ v l stood met. tt)
-
     module _ {σ2 : Standing} (a : ℕ) (claim : Adds σ1 σ2 (λ v l. KnowsDeed page d v) (made (TakeRight page d) a ∷ [])) where
-      abbrev m : Made
-      m = made (TakeRight page d) a
-
       pub claim_adds : Adds σ0 σ2 (λ v l. MaySearch d v) (made (TakeRight page d) a ∷ (find.steps ++ xs))
-      claim_adds = adds_call {D = λ v l. KnowsDeed page d v} found_adds claim (λ v l stood met. deed_at v)
+      claim_adds = adds_call {D = λ v l. KnowsDeed page d v} (adds_call {D = Anything} adds find.adds (λ v l stood met. tt)) claim (λ v l stood met. deed_at v)
 
       pub claim_quiet : AreQuiet (made (TakeRight page d) a ∷ (find.steps ++ xs))
       claim_quiet = (λ k e. refl, at_page.quiet)
 
       -- another actor was first
       pub lost_goes : (marks' : List ℕ) → marks' ≡ marks → has_bit a (page % 64) ≡ false → GoesOn rule σ0.seat.profile d next' marks' (made (TakeRight page d) a ∷ (find.steps ++ xs))
-      lost_goes marks' unmarked bit = subst (λ k. GoesOn rule σ0.seat.profile d k marks' (m ∷ ws)) (sym further) (subst (λ x. GoesOn rule σ0.seat.profile d (page + 1) x (m ∷ ws)) (sym unmarked) (record {
-        searching = zeros_searching rule σ0.seat.profile d page marks (page + 1) (m ∷ []) ws (claim_vain page d a bit, tt) at_page
+      lost_goes marks' unmarked bit = subst (λ k. GoesOn rule σ0.seat.profile d k marks' (made (TakeRight page d) a ∷ (find.steps ++ xs))) (sym further) (subst (λ x. GoesOn rule σ0.seat.profile d (page + 1) x (made (TakeRight page d) a ∷ (find.steps ++ xs))) (sym unmarked) (record {
+        searching = zeros_searching rule σ0.seat.profile d page marks (page + 1) (made (TakeRight page d) a ∷ []) (find.steps ++ xs) (record { rights = claim_rights page d a false bit; quiet = λ k e. refl }, tt) at_page
             (λ p low high. let same : page ≡ p = omega (arith, low, high) in inl (subst (λ q. ReadsEligible d q (TakeRight page d) × (has_bit a (q % 64) ≡ false) × (has_right (find.steps ++ xs) q ≡ false)) same (ReadsEligible.Claims, bit, (at_page.untouched page).right)));
         rest = λ p low. rest_at p (omega (arith, low));
       }))
 
       module _ (bit : has_bit a (page % 64) ≡ true) where
-        abbrev gets : GetsRight page (TakeRight page d) a
-        gets = GetsRight.Claims d a bit
-
         got : Leads σ0.seat.profile (MaySearch d) (IsReady page d) (made (TakeRight page d) a ∷ (find.steps ++ xs))
-        got = ready σ0.seat.profile d page m ws gets (λ v met. met.clear) at_page.still (λ v agreed. knows_still σ0.seat.profile d page (m ∷ []) (ws ++ v) (agreed.0, tt) (deed_at v))
+        got = ready σ0.seat.profile d page (made (TakeRight page d) a) (find.steps ++ xs) (GetsRight.Claims d a bit) (λ v met. met.clear) at_page.still (λ v agreed. knows_still σ0.seat.profile d page (made (TakeRight page d) a ∷ []) ((find.steps ++ xs) ++ v) (agreed.0, tt) (deed_at v))
 
         pub serve_can : CanCall σ0 (λ v l. MaySearch d v) → CanCall σ2 (λ v l. MayServe page d v)
         serve_can can = can_call {C = λ v l. MaySearch d v} claim_adds can (λ v l stood met. (got.from v met (claim_adds.agreed v l stood met)).may)
@@ -443,15 +398,15 @@ module _ {F : Type 0} {rule : Rule F} {σ0 σ : Standing} (d : Directory) (next 
 
           pub found_there : (marks' : List ℕ) (found : F) → ServesPage rule page d σ2 σ3 (Some found) → SearchesOffered rule d σ0 σ3 marks' (Some (record { page = page; found = found }))
           found_there marks' found serve = let s = at_page in record {
-            steps = serve.steps ++ (m ∷ ws);
+            steps = serve.steps ++ (made (TakeRight page d) a ∷ (find.steps ++ xs));
             adds = serve_adds (Some found) serve;
-            searches = served_search page serve.steps (m ∷ ws) serve.serves.only (inl gets) (got_search σ0.seat.profile d page m ws gets s.searches);
-            outcome = from_offered rule σ0.seat.profile d page marks m ws serve.steps gets (λ k e. refl) serve.serves.only.on got s found (serve_at (Some found) serve) first.of_region
+            searches = served_search page serve.steps (made (TakeRight page d) a ∷ (find.steps ++ xs)) serve.serves.only (inl (GetsRight.Claims d a bit)) (got_search σ0.seat.profile d page (made (TakeRight page d) a) (find.steps ++ xs) (GetsRight.Claims d a bit) s.searches);
+            outcome = from_offered rule σ0.seat.profile d page marks (made (TakeRight page d) a) (find.steps ++ xs) serve.steps (GetsRight.Claims d a bit) (λ k e. refl) (IsOnPage.Claims d, tt) serve.serves.only.on got s found (serve_at (Some found) serve) first.of_region
                 (offered_before d page find.steps xs vain (goes.searching.untouched page).right (goes.searching.lacked page (rest_at page (omega arith))) first.one);
           }
 
           pub left_goes : (k : ℕ) → k ≡ page + 1 → (marks' : List ℕ) → ((p : ℕ) → is_marked marks' p ≡ ((page == p) || is_marked marks p)) → (serve : ServesPage rule page d σ2 σ3 None) → GoesOn rule σ0.seat.profile d k marks' (serve.steps ++ (made (TakeRight page d) a ∷ (find.steps ++ xs)))
-          left_goes k is marks' more serve = subst (λ j. GoesOn rule σ0.seat.profile d j marks' (serve.steps ++ (m ∷ ws))) (sym is) (goes_on rule σ0.seat.profile d page marks m ws serve.steps gets (λ k e. refl) serve.serves.only.on got at_page marks' more (serve_at None serve) lacked rest_at)
+          left_goes k is marks' more serve = subst (λ j. GoesOn rule σ0.seat.profile d j marks' (serve.steps ++ (made (TakeRight page d) a ∷ (find.steps ++ xs)))) (sym is) (goes_on rule σ0.seat.profile d page marks (made (TakeRight page d) a) (find.steps ++ xs) serve.steps (GetsRight.Claims d a bit) (λ k e. refl) (IsOnPage.Claims d, tt) serve.serves.only.on got at_page marks' more (serve_at None serve) lacked rest_at)
 
 pub deed_before : (p : ℕ) (ys xs : List Made) → Once (DeedHere p) ys → Once (DeedHere p) (ys ++ xs)
 deed_before p ys xs h = once_earlier (DeedHere p) (DeedHere p) ys xs (λ m before z. z) h
@@ -473,10 +428,6 @@ deed_known p d a v e = ap (λ t. if t then (if a == 0 then deed_word_of d else a
 deed_frees : (p : ℕ) (d : Directory) (a : ℕ) (v : View) (g : ℕ) → a ≡ 0 → g / 256 ≡ p → known_free (made (Deed p d) a ∷ v) g ≡ true
 deed_frees p d a v g e at = ap (λ t. if t && (a == 0) then true else known_free v g) (eq-eqb p (g / 256) (sym at)) ∙ ap (λ t. if t then true else known_free v g) (eq-eqb a 0 e)
 
-few_more : (o : Option Event) (es : List Event) → length (with_event o es) ≤ length es + 1
-few_more None es = omega arith
-few_more (Some e) es = omega arith
-
 pub clear_can : {σ : Standing} {f : Profile} {n spare : ℕ} → CanCall σ (λ v l. BareRoom f n spare v) → CanCall σ (λ v l. IsClear v)
 clear_can can = record { view = can.view; whole = can.whole; stood = can.stood; met = can.met.clear }
 
@@ -489,16 +440,11 @@ module _ {σ0 σ : Standing} (d : Directory) (from : ℕ) (xs : List Made) (adds
 
   -- each page has a deed
   pub none_bare : {F : Type 0} {rule : Rule F} {σ1 : Standing} → FindsBare from σ σ1 None → SearchesBare rule d σ0 σ1 None
-  none_bare find = let pages : σ.seat.profile.pages ≡ σ0.seat.profile.pages = ap (λ (s : Seat). s.profile.pages) adds.seat_is in record {
-    steps = find.steps ++ xs;
-    adds = adds_call {D = Anything} adds find.adds (λ v l stood met. tt);
-    outcome = (more_reads find.steps (looks_read find.steps (scans_look find.steps find.scans)), more_deeds (σ0.seat.profile.pages + 1) find.steps (λ p low high. find.outcome p low (omega (arith, high, pages))));
-  }
+  none_bare find =
+      let pages : σ.seat.profile.pages ≡ σ0.seat.profile.pages = ap (λ (s : Seat). s.profile.pages) adds.seat_is in let deeds = more_deeds (σ0.seat.profile.pages + 1) find.steps (λ p low high. find.outcome p low (omega (arith, high, pages))) in
+      record { steps = find.steps ++ xs; adds = adds_call {D = Anything} adds find.adds (λ v l stood met. tt); outcome = (more_reads find.steps (looks_read find.steps (scans_look find.steps find.scans)), deeds) }
 
   module _ {σ1 : Standing} (page : ℕ) (find : FindsBare from σ σ1 (Some page)) where
-    abbrev rs : List Made
-    rs = find.steps ++ xs
-
     found_reads : OnlyReads (find.steps ++ xs)
     found_reads = more_reads find.steps (looks_read find.steps (scans_look find.steps find.scans))
 
@@ -515,22 +461,19 @@ module _ {σ0 σ : Standing} (d : Directory) (from : ℕ) (xs : List Made) (adds
     module _ {n spare : ℕ} (can : CanCall σ0 (λ v l. BareRoom σ0.seat.profile n spare v)) (law : (v : View) (l : Whole) → σ0.stands v l → spare + length (events_of σ0.seat.actor v) ≡ σ0.seat.room) where
       wide : n + 1 ≤ spare
       wide = elim can.met.room.1 [
-        | inl known ↦ absurd (unknown σ0.seat.profile can.view page rs (reads_adds.agreed can.view can.whole can.stood can.met.clear) (once_earlier (NoDeedHere page) (NoDeedHere page) find.steps xs (λ m before z. z) find.outcome.none) (known page of_region))
+        | inl known ↦ absurd (unknown σ0.seat.profile can.view page (find.steps ++ xs) (reads_adds.agreed can.view can.whole can.stood can.met.clear) (once_earlier (NoDeedHere page) (NoDeedHere page) find.steps xs (λ m before z. z) find.outcome.none) (known page of_region))
         | inr more ↦ more
       ]
 
       pub deed_room : {spare' : ℕ} → ((v : View) (l : Whole) → σ1.stands v l → spare' + length (events_of σ1.seat.actor v) ≡ σ1.seat.room) → 1 ≤ spare'
-      deed_room law' = let most = wide in room_kept {C = λ v l. IsClear v} 1 reads_adds (clear_can can) (vain_quiet rs (reads_vain rs found_reads)) law law' (omega (arith, most))
+      deed_room law' = let most = wide in room_kept {C = λ v l. IsClear v} 1 reads_adds (clear_can can) (vain_quiet (find.steps ++ xs) (reads_vain (find.steps ++ xs) found_reads)) law law' (omega (arith, most))
 
       -- and for those of the back end
       pub serve_room : {σ2 : Standing} {spare' : ℕ} (a : ℕ) → Adds σ0 σ2 (λ v l. IsClear v) (made (Deed page d) a ∷ (find.steps ++ xs)) → ((v : View) (l : Whole) → σ2.stands v l → spare' + length (events_of σ2.seat.actor v) ≡ σ2.seat.room) → n ≤ spare'
       serve_room a deed_adds law' = room_after {C = λ v l. IsClear v} n 1 deed_adds (clear_can can) (λ k v.
-          let none = ap length (events_quiet k v rs (vain_quiet rs (reads_vain rs found_reads))) in let more = few_more (event_of k (epoch_of (rs ++ v)) (Deed page d) a) (events_by k v rs) in omega (arith, none, more)) law law' wide
+          let none = ap length (events_quiet k v (find.steps ++ xs) (vain_quiet (find.steps ++ xs) (reads_vain (find.steps ++ xs) found_reads))) in let more = with_few (event_of k (epoch_of ((find.steps ++ xs) ++ v)) (Deed page d) a) (events_by k v (find.steps ++ xs)) in omega (arith, none, more)) law law' wide
 
     module _ {σ2 : Standing} (a : ℕ) (makes : Makes σ1 σ2 (Deed page d) a) where
-      abbrev md : Made
-      md = made (Deed page d) a
-
       pub deed_adds : Adds σ0 σ2 (λ v l. IsClear v) (made (Deed page d) a ∷ (find.steps ++ xs))
       deed_adds = adds_step {C = λ v l. IsClear v} {step = Deed page d} reads_adds makes (λ v l stood met. tt)
 
@@ -547,7 +490,7 @@ module _ {σ0 σ : Standing} (d : Directory) (from : ℕ) (xs : List Made) (adds
       -- the deed was made
       module _ (made_it : a ≡ 0) where
         deed_got : Leads σ0.seat.profile IsClear (IsReady page d) (made (Deed page d) a ∷ (find.steps ++ xs))
-        deed_got = ready σ0.seat.profile d page md rs (GetsRight.Deeds d a made_it) (λ v clear. clear) (leads_as (vain_leads σ0.seat.profile rs (reads_vain rs found_reads)) (λ v clear. tt) (λ v w clear does. does)) (λ v agreed. deed_known page d a (rs ++ v) made_it)
+        deed_got = ready σ0.seat.profile d page (made (Deed page d) a) (find.steps ++ xs) (GetsRight.Deeds d a made_it) (λ v clear. clear) (leads_as (vain_leads σ0.seat.profile (find.steps ++ xs) (reads_vain (find.steps ++ xs) found_reads)) (λ v clear. tt) (λ v w clear does. does)) (λ v agreed. deed_known page d a ((find.steps ++ xs) ++ v) made_it)
 
         pub deed_can : CanCall σ0 (λ v l. IsClear v) → CanCall σ2 (λ v l. MayServe page d v)
         deed_can can = can_call {C = λ v l. IsClear v} deed_adds can (λ v l stood met. (deed_got.from v met (deed_adds.agreed v l stood met)).may)
@@ -556,21 +499,21 @@ module _ {σ0 σ : Standing} (d : Directory) (from : ℕ) (xs : List Made) (adds
           -- all grains of the page are known as free, so it isn't left
           pub not_left : CanCall σ0 (λ v l. IsClear v) → ServesPage rule page d σ2 σ3 None → ⊥
           not_left can serve =
-              let v : View = made (Deed page d) a ∷ (rs ++ can.view) in
+              let v : View = made (Deed page d) a ∷ ((find.steps ++ xs) ++ can.view) in
               let may : MayServe page d v = (deed_got.from can.view can.met (deed_adds.agreed can.view can.whole can.stood can.met)).may in
-              serve.serves.outcome.not_free v may (serve.adds.agreed v _ (deed_adds.added can.view can.whole can.stood can.met) may) (λ g at. deed_frees page d a (rs ++ can.view) g made_it at)
+              serve.serves.outcome.not_free v may (serve.adds.agreed v _ (deed_adds.added can.view can.whole can.stood can.met) may) (λ g at. deed_frees page d a ((find.steps ++ xs) ++ can.view) g made_it at)
 
           pub served_bare : (found : F) → ServesPage rule page d σ2 σ3 (Some found) → SearchesBare rule d σ0 σ3 (Some (record { page = page; found = found }))
           served_bare found serve = record {
-            steps = serve.steps ++ (md ∷ rs);
+            steps = serve.steps ++ (made (Deed page d) a ∷ (find.steps ++ xs));
             adds = adds_call {D = λ v l. MayServe page d v} deed_adds serve.adds (λ v l stood met. (deed_got.from v met (deed_adds.agreed v l stood met)).may);
             outcome = record {
               page = of_region;
-              before = rs;
+              before = (find.steps ++ xs);
               reads = found_reads;
               lower = found_deeds;
               serve = serve.steps;
               serves = subst (λ (s : Seat). ServeSteps rule s.profile page d serve.steps (Some found)) deed_adds.seat_is serve.serves;
-              steps_are = ap (λ n. serve.steps ++ (made (Deed page d) n ∷ rs)) made_it;
+              steps_are = ap (λ n. serve.steps ++ (made (Deed page d) n ∷ (find.steps ++ xs))) made_it;
             };
           }

@@ -23,10 +23,6 @@ pub record Rule (Found : Type 0) : Type 1 where
   pub events : ℕ  -- how many events it makes at most
   pub steps : ℕ  -- and how many steps
 
--- where some readings show no fit, neither do readings of fewer free grains
-abbrev pub IsAntitone : (Readings → Type 0) → Type 0
-IsAntitone no_fit = (r fewer : Readings) → ((b : ℕ) → b < 256 → fewer b ≡ true → r b ≡ true) → no_fit r → no_fit fewer
-
 -- ---- what it asks
 -- the right of the page is the actor's, its deed is known, and the page is clear
 pub record MayServe (page : ℕ) (d : Directory) (v : View) : Type 0 where

@@ -1,6 +1,5 @@
 -- What a search says of the states at its entry and its exit, on a desk that tells the whole state.
-use Rattle.std.specs.Prelude.{ℕ, ◌+◌, ◌*◌, ◌%◌, ◌<◌, ◌≤◌, ◌≡◌, ◌⊎◌, true, false, Result, MatchResult}
-use Rattle.pas_profile.specs.Classes.{has_bit}
+use Rattle.std.specs.Prelude.{ℕ, ◌<◌, ◌≤◌, ◌≡◌, ◌⊎◌, true, false, Result, MatchResult}
 use Rattle.pas_profile.specs.Profiles.{IsPage}
 use Rattle.pas_profile.specs.Directories.{deed_word_of, number_of}
 use Rattle.pas_profile.specs.declared.directory.Directory.{Directory}
@@ -8,14 +7,9 @@ use Rattle.pas_profile.specs.declared.profile.Profile.{Profile}
 use Rattle.pas_profile.specs.declared.event.NoRoom.{NoRoom}
 use Rattle.pas_profile.specs.declared.event.NoRoom.TheVariants.{NoSpace, Held}
 use Rattle.pas_profile.specs.declared.word.Word.TheVariants as Word
-use Rattle.pas_steps.specs.Effects.{free_word_at}
 use Rattle.pas_steps.specs.Lists.{Whole, word_after}
-use Rattle.pas_core.specs.Rights.{eligible_bit, parked_bit}
+use Rattle.pas_core.specs.Rights.{eligible_bit, parked_bit, free_of_page}
 use Rattle.pas_steps.specs.Evidence.{Readings}
-
--- which grains of the page are free
-abbrev pub free_of_page : Whole → ℕ → Readings
-free_of_page l page b = has_bit (word_after l (free_word_at (page * 256 + b))) (b % 64)
 
 -- the page is offered to the directory, and fits
 pub record IsOfferedFit (no_fit : Readings → Type 0) (f : Profile) (d : Directory) (l : Whole) (page : ℕ) : Type 0 where

@@ -7,8 +7,8 @@ pub trait Serving {
     ghost use Rattle.std.specs.Prelude.{ℕ, ◌≡◌, ◌≤◌, ◌<◌, true, None, Some, MatchOption, Bool};
     ghost use Rattle.pas_profile.specs.Profiles.{IsPage, IsDirectoryOf};
     ghost use Rattle.pas_steps.specs.Desks.{CanCall};
-    ghost use Rattle.pas_steps.specs.Evidence.{Readings};
-    ghost use Rattle.pas_search.specs.Serving.{Rule, MayServe, ServesPage, IsAntitone};
+    ghost use Rattle.pas_steps.specs.Evidence.{Readings, IsAntitone};
+    ghost use Rattle.pas_search.specs.Serving.{Rule, MayServe, ServesPage};
 
     /// What it takes of a page.
     type Found: Copy;

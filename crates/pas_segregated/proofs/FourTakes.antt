@@ -1,7 +1,7 @@
 -- The four takes of a page.
 use Rattle.std.proofs.Common.{◌≡◌, ℕ, zero, suc, ◌+◌, ◌*◌, ◌/◌, ◌%◌, ◌<◌, ◌≤◌, ◌==◌, nat_lt, Bool, true, false, ◌&&◌, ◌||◌, if◌then◌else◌, List, [], ◌∷◌, ◌++◌, slice_index, refl, ap, sym, ◌∙◌, arith, inl, inr, true≢false}
 use Rattle.std.proofs.Math.Bool.{and_comm}
-use Rattle.std.proofs.lemmas.Bool.{cases_eq, eq-eqb, ne_eqb, eqb-true, lt-ltb, le-ltb, and_parts, and_right, or_parts, false_from_ne_true}
+use Rattle.std.proofs.lemmas.Bool.{cases_eq, eq-eqb, ne_eqb, eqb-true, lt-ltb, le-ltb, and_parts, and_right, or_parts, false_from_ne_true, cond_both}
 use Rattle.pas_profile.specs.Classes.{has_bit}
 use Rattle.pas_profile.specs.declared.profile.Profile.{Profile}
 use Rattle.pas_bits.specs.declared.mask.Mask4.{Mask4}
@@ -21,6 +21,7 @@ use Rattle.pas_steps.proofs.Calls.{does_none, does_then, does_as, does_step}
 use Rattle.pas_steps.proofs.Sets.{both_fates}
 use Rattle.pas_search.specs.Serving.{HoldsNone}
 use Rattle.pas_segregated.specs.Takes.{word_take, four_takes, taken, GetsGrains, takes_after, takes_since}
+use Rattle.pas_steps.proofs.Flags.{ap_if}
 
 pub four_words : (P : ℕ → Type 0) → P 0 → P 1 → P 2 → P 3 → (w : ℕ) → w < 4 → P w
 four_words P a b c d zero lt = a
@@ -42,17 +43,9 @@ one_test true false u a t f = refl
 one_test false p u a t f = refl
 
 -- ---- one take
-get_fate : (t : Bool) → grain_fate (if t then Gets else Stays) ≡ (if t then Gained else Kept)
-get_fate true = refl
-get_fate false = refl
-
 pub or_none : (x y : Bool) → y ≡ false → x ≡ (x || y)
 or_none true y e = refl
 or_none false y e = sym e
-
-still_held : (t had : Bool) → had ≡ true → now (if t then Gained else Kept) had ≡ true
-still_held true had h = refl
-still_held false had h = h
 
 -- all takes of a page, with these masks and these answers, which got these grains
 module _ (page : ℕ) (usable answers got : Mask4) (got_is : (g : ℕ) → is_set got g ≡ (is_set answers g && is_set usable g)) where
@@ -90,9 +83,9 @@ module _ (page : ℕ) (usable answers got : Mask4) (got_is : (g : ℕ) → is_se
   taken_more : (f : Profile) (n : ℕ) (v w : View) → Taken n v w → Agrees f w (Take page n (slice_index usable.0 n)) (slice_index answers.0 n) → Taken (n + 1) v (word_take page usable answers n ∷ w)
   taken_more f n v w so_far agrees = record {
     does = does_as (taken (got_below (n + 1))) (does_then so_far.does (does_step f (Take page n (slice_index usable.0 n)) (slice_index answers.0 n) w refl agrees))
-        (λ g. inl (ap (later (if got_below n g then Gained else Kept)) (get_fate (got_here n g)) ∙ both_fates Gained (got_below n g) (got_here n g) (got_below (n + 1) g) refl (got_more n g))) (λ q. refl) (λ q h. h);
+        (λ g. inl (ap (later (if got_below n g then Gained else Kept)) (ap_if grain_fate (got_here n g) Gets Stays) ∙ both_fates Gained (got_below n g) (got_here n g) (got_below (n + 1) g) refl (got_more n g))) (λ q. refl) (λ q h. h);
     unread = λ g at lt held. elim (cases_eq n (g / 64 % 4)) [
-      | inl e ↦ sym (bit_of answers n g e) ∙ agrees.held g at (sym e) (so_far.does.held g ∙ still_held (got_below n g) (holds v g) held)
+      | inl e ↦ sym (bit_of answers n g e) ∙ agrees.held g at (sym e) (so_far.does.held g ∙ cond_both (got_below n g) Gained Kept (λ fate. now fate (holds v g) ≡ true) (λ here. refl) (λ other. held))
       | inr ne ↦ so_far.unread g at (omega (arith, lt, ne)) held
     ];
   }

@@ -1,6 +1,6 @@
 -- Grains of a page are put back, and slots are given up. What that leaves: the takes of the page, its right, and grains that aren't held.
 use Rattle.std.proofs.Common.{◌≡◌, ℕ, ◌+◌, ◌*◌, ◌/◌, ◌%◌, ◌==◌, Bool, true, false, if◌then◌else◌, List, [], ◌∷◌, ◌++◌, refl, ap, sym, ◌∙◌, subst, arith, inl, inr, true≢false, length-append, ◌&&◌}
-use Rattle.std.proofs.lemmas.Bool.{eq-eqb, and_from, and_right, eqb-true}
+use Rattle.std.proofs.lemmas.Bool.{eq-eqb, and_from, and_right, eqb-true, cond_both}
 use Rattle.pas_profile.specs.Classes.{has_bit}
 use Rattle.pas_profile.specs.declared.directory.Directory.{Directory}
 use Rattle.pas_profile.specs.declared.profile.Profile.{Profile}
@@ -13,7 +13,7 @@ use Rattle.pas_steps.specs.Kinds.{Kinds, LookFree, LookBacked, Deeding, Taking, 
 use Rattle.pas_steps.specs.Views.{View, Puts, Stays, grain_move, held_after, holds, has_right, KnowsDeed}
 use Rattle.pas_steps.specs.declared.step.Made.{Made}
 use Rattle.pas_steps.specs.declared.step.Step.{Step}
-use Rattle.pas_steps.specs.declared.step.Step.TheVariants.{Deed, Take, Put, Give, End, TakeRight, Offer, Unpark}
+use Rattle.pas_steps.specs.declared.step.Step.TheVariants.{Put, Offer, Unpark, Look}
 use Rattle.pas_steps.proofs.Adding.{agreed_later, agreed_first}
 use Rattle.pas_steps.proofs.Apart.{in_apart, only_both, same_over, holds_over, only_within, rights_same, deeds_same, unstamped_same, examines_same}
 use Rattle.pas_steps.proofs.Past.{always_map, always_both}
@@ -26,23 +26,22 @@ use Rattle.pas_bits.specs.declared.mask.Mask4.{Mask4}
 use Rattle.pas_bits.specs.Masks.{is_set, IsEmpty, HasMember}
 use Rattle.pas_steps.specs.Calls.{Calls, Kept, Lost, later, put, ClearAfter, Does}
 use Rattle.pas_steps.specs.Clear.{IsClearOn}
-use Rattle.pas_steps.proofs.Calls.{does_none, does_then, does_as, returns_are}
+use Rattle.pas_steps.proofs.Calls.{does_none, does_then, does_as, returns_are, kept_first}
 use Rattle.pas_steps.proofs.Called.{call_none, call_as, call_then, next_call, call_knows}
 use Rattle.pas_steps.proofs.Kept.{returns_on}
 use Rattle.pas_rights.specs.Puts.{masked, PutsMask}
 use Rattle.pas_rights.specs.Leaves.{MayLeave, Leaves}
 use Rattle.pas_segregated.specs.Stops.{in_slots, AreGrains, MayStopAt, LeavesWhere, of_slots, StopsAt}
 use Rattle.pas_segregated.specs.declared.slots.Slots.{Slots}
+use Rattle.pas_steps.proofs.Sets.{kept_kept}
 
 -- ---- the takes
 abbrev counted : Kinds
 counted = Deeding ∷ Taking ∷ Claiming ∷ []
 
 not_counted : (page : ℕ) (s : Step) (a : ℕ) (before : List Made) → is_in counted (kind_of s) ≡ false → takes_after page s a before ≡ before
-not_counted page (Deed q d) a before h = absurd (true≢false h)
-not_counted page (Take q w m) a before h = absurd (true≢false h)
-not_counted page (TakeRight q d) a before h = absurd (true≢false h)
-not_counted page s a before h = refl
+not_counted page (Look word) a before h = refl
+not_counted page s a before h = cc
 
 pub back_count : (page : ℕ) (steps before : List Made) → Only giving_back steps → takes_since page (steps ++ before) ≡ takes_since page before
 back_count page = same_over (takes_since page) counted giving_back (λ m before h. not_counted page m.step m.answer (takes_since page before) h) refl
@@ -60,16 +59,9 @@ none_yet page (m ∷ more) newest = got_none page m.step m.answer (takes_since p
 abbrev getting : Kinds
 getting = Taking ∷ Giving ∷ Ending ∷ []
 
-put_none : (t had : Bool) → had ≡ false → held_after (if t then Puts else Stays) had ≡ false
-put_none true had none = refl
-put_none false had none = none
-
 not_got : (s : Step) (a g : ℕ) (had : Bool) → is_in getting (kind_of s) ≡ false → had ≡ false → held_after (grain_move s a g) had ≡ false
-not_got (Take q w m) a g had h none = absurd (true≢false h)
-not_got (Give b) a g had h none = absurd (true≢false h)
-not_got (End n b) a g had h none = absurd (true≢false h)
-not_got (Put q w m) a g had h none = put_none (in_mask q w m g) had none
-not_got s a g had h none = none
+not_got (Put q w m) a g had h none = cond_both (in_mask q w m g) Puts Stays (λ m. held_after m had ≡ false) (λ put. refl) (λ other. none)
+not_got s a g had h none = cc
 
 pub back_holds : (g : ℕ) (steps : List Made) (v : View) → Only giving_back steps → holds v g ≡ false → holds (steps ++ v) g ≡ false
 back_holds g = holds_over (λ v. holds v g ≡ false) getting giving_back (λ m v h none. not_got m.step m.answer g (holds v g) h none) refl
@@ -128,10 +120,6 @@ clear_again : (t : Bool) (page : ℕ) (v w : View) → (t ≡ true → IsClearOn
 clear_again true page v w again h = again refl
 clear_again false page v w again h = h
 
-pub kept_kept : (t : Bool) → later Kept (if t then Kept else Kept) ≡ Kept
-kept_kept true = refl
-kept_kept false = refl
-
 module _ {σ : Standing} (page : ℕ) (d : Directory) (mask : Mask4) where
   pub gives_nothing : IsEmpty mask → GivesBack page d mask σ σ
   gives_nothing empty = record {
@@ -180,9 +168,7 @@ module _ {σ : Standing} (page : ℕ) (d : Directory) (mask : Mask4) where
 -- ---- slots
 -- a right that is given up, where it is
 left_right : (r t : Bool) → r ≡ true → later Kept (if t then Lost else Kept) ≡ (if r && t then Lost else Kept)
-left_right true true h = refl
-left_right true false h = refl
-left_right false t h = cc
+left_right r t has = kept_first (if t then Lost else Kept) ∙ ap (λ x. if x && t then Lost else Kept) (sym has)
 
 module _ (d : Directory) (slots : Slots) (mask : Mask4) (are : AreGrains slots mask) where
   same_grains : (g : ℕ) → masked slots.page mask g ≡ in_slots slots g

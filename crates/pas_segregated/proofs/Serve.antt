@@ -1,6 +1,6 @@
 -- The two ends of a page that was to serve: its slots are kept, or it was left. And what a search found, as slots.
 use Rattle.std.proofs.Common.{◌≡◌, ℕ, ◌+◌, ◌*◌, ◌/◌, ◌%◌, ◌≤◌, ◌==◌, Bool, true, false, if◌then◌else◌, List, [], ◌∷◌, ◌++◌, length, None, Some, refl, ap, sym, ◌∙◌, subst, arith, inl, inr, append_assoc, length-append, true≢false, Ok, Err}
-use Rattle.std.proofs.lemmas.Bool.{eq-eqb, eqb-true, and_from, and_right, and_parts, false_from_ne_true}
+use Rattle.std.proofs.lemmas.Bool.{eq-eqb, eqb-true, and_from, and_right, and_parts, false_from_ne_true, cond_both}
 use Rattle.pas_profile.specs.Classes.{IsClass, IsSlotStart}
 use Rattle.pas_profile.specs.Directories.{IsKind}
 use Rattle.pas_profile.specs.declared.directory.Directory.{Directory}
@@ -21,7 +21,7 @@ use Rattle.pas_steps.specs.Desks.{Standing, CanCall, made, Makes, CanMake}
 use Rattle.pas_steps.specs.Evidence.{ShowsHere, KeptHere, GetsHere, UnfitHere}
 use Rattle.pas_steps.specs.Frames.{IsOnPage}
 use Rattle.pas_steps.specs.Kinds.{Backing, Only, kind_of, place_of, is_in, showing, returning}
-use Rattle.pas_steps.specs.Past.{Once, Since}
+use Rattle.pas_steps.specs.Past.{Once}
 use Rattle.pas_steps.specs.declared.step.Made.{Made}
 use Rattle.pas_steps.specs.declared.step.Step.TheVariants.{Back}
 use Rattle.pas_steps.proofs.Adding.{agreed_later}
@@ -31,24 +31,19 @@ use Rattle.pas_steps.proofs.Called.{call_then, call_knows, call_step, next_call,
 use Rattle.pas_steps.proofs.Calls.{does_then, does_as, does_idly, returns_are, kept_first}
 use Rattle.pas_steps.proofs.Frames.{rights_stay}
 use Rattle.pas_steps.proofs.Kept.{returns_on}
-use Rattle.pas_steps.proofs.Past.{once_later, always_both, always_map}
+use Rattle.pas_steps.proofs.Past.{once_later, always_both, always_map, since_once}
 use Rattle.pas_search.specs.Kinds.{serving, IsQuiet, AreQuiet}
 use Rattle.pas_search.specs.Serving.{MayServe, right_of, Keeps, KeepsPage, ServesPage}
 use Rattle.pas_search.proofs.ForBackEnds.{unfit_left}
 use Rattle.pas_segregated.specs.Masks.{start_of, AreStarts}
 use Rattle.pas_segregated.specs.Takes.{in_starts, slots_on, GetsGrains, NoSlot, taking_slots, TakesSlots, exclusive}
 use Rattle.pas_segregated.proofs.Starts.{start_at, start_below}
-use Rattle.pas_segregated.proofs.GiveBack.{kept_kept}
 use Rattle.pas_profile.specs.declared.event.NoRoom.{NoRoom}
 use Rattle.pas_search.specs.Searches.{MaySearch, Searches}
 use Rattle.pas_search.specs.declared.serving.Served.{Served}
 use Rattle.pas_segregated.specs.Stops.{class_directory}
 use Rattle.pas_segregated.specs.Refills.{exclusive_slots, GetsSlots, Refills}
-
-since_once : (P Q : Made → List Made → Type 0) (xs : List Made) → Since P Q xs → Once P xs
-since_once P Q [] h = h
-since_once P Q (x ∷ xs) (inl h) = inl h
-since_once P Q (x ∷ xs) (inr h) = inr (since_once P Q xs h.1)
+use Rattle.pas_steps.proofs.Sets.{kept_kept}
 
 -- ---- the slots
 pub class_of : (class : ℕ) (d : Directory) → IsKind d.kind → d.kind ≡ Kind.Class class → IsClass class
@@ -56,10 +51,6 @@ class_of class d known same = subst IsKind same known
 
 not_empty : (starts : Mask4) → IsEmpty starts → HasMember starts → ⊥
 not_empty starts empty some = true≢false (sym some.2 ∙ empty some.0 some.1)
-
-pub at_most_one : (t : Bool) (e : Event) (es : List Event) → es ≡ [] → length (with_event (if t then Some e else None) es) ≤ 1
-at_most_one true e es h = let none : length es ≡ 0 = ap length h in omega (arith, none)
-at_most_one false e es h = let none : length es ≡ 0 = ap length h in omega (arith, none)
 
 pub quiet_by : (steps : List Made) → Only taking_slots steps → AreQuiet steps
 quiet_by steps = always_map (λ m before. is_in taking_slots (kind_of m.step) ≡ true) (λ m before. IsQuiet m) steps (λ m before is k e. no_event k e m.step m.answer (in_apart taking_slots showing (place_of (kind_of m.step)) refl is))
@@ -175,7 +166,7 @@ module _ (class page : ℕ) (d : Directory) (is : IsClass class) (starts : Mask4
         adds = back_call.adds;
         serves = record {
           only = record { kinds = (refl, only_within taking_slots serving took.steps refl took.kinds); on = (IsOnPage.Backs, took.on) };
-          few = λ k v. at_most_one (a == 0) (Event.Back k page) (events_by k v took.steps) (no_events taking_slots refl k v took.steps took.kinds);
+          few = λ k v. let none : length (events_by k v took.steps) ≡ 0 = ap length (no_events taking_slots refl k v took.steps took.kinds) in cond_both (a == 0) (Some (Event.Back k page)) None (λ o. length (with_event o (events_by k v took.steps)) ≤ 1) (λ made. omega (arith, none)) (λ silent. omega (arith, none));
           short = let b = took.few in omega (arith, b);
           outcome = keeps;
         };

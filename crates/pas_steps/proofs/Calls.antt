@@ -18,7 +18,7 @@ use Rattle.pas_steps.specs.declared.step.Step.{Step}
 use Rattle.pas_steps.specs.declared.step.Step.TheVariants.{Look, Back, Take, Put, End, Offer, Park, Unpark, Stamp, Hint, Tick, Unback, Unhint}
 use Rattle.pas_steps.proofs.Adding.{agreed_first, agreed_later}
 use Rattle.pas_steps.proofs.Apart.{in_apart, holds_over, grain_same, holds_same}
-use Rattle.pas_steps.proofs.Flags.{ends_none}
+use Rattle.pas_steps.proofs.Flags.{ends_none, ap_if}
 use Rattle.pas_steps.proofs.Kept.{look_check, look_hint, right_on, check_on, hint_on, examined_on, unstamped_on, returns_on}
 use Rattle.pas_steps.proofs.Past.{always_map}
 use Rattle.pas_steps.specs.Frames.{IsReturn, OnlyOn, OnlyReturns, unbacks}
@@ -281,12 +281,8 @@ pub nothing_then : {f : Profile} {ys xs : List Made} → Leads f AnyView (Does n
 nothing_then a b = leads_then (Does nothing) a b (λ v w met d. tt) (λ v w u d e. does_then d e)
 
 -- ---- a put
-put_fate : (t : Bool) → grain_fate (if t then Puts else Stays) ≡ (if t then Lost else Kept)
-put_fate true = refl
-put_fate false = refl
-
 pub leads_put : (f : Profile) (page word mask a : ℕ) → Leads f AnyView (Does (put (in_mask page word mask) page)) (made (Put page word mask) a ∷ [])
-leads_put f page word mask a = record { from = λ v met agreed. does_as (put (in_mask page word mask) page) (does_step f (Put page word mask) a v refl agreed.0) (λ x. inl (put_fate (in_mask page word mask x))) (λ q. refl) (λ q h. h) }
+leads_put f page word mask a = record { from = λ v met agreed. does_as (put (in_mask page word mask) page) (does_step f (Put page word mask) a v refl agreed.0) (λ x. inl (ap_if grain_fate (in_mask page word mask x) Puts Stays)) (λ q. refl) (λ q h. h) }
 
 -- ---- an end whose grains were put back leaves all as it was, since none of them was held
 back_grain : (t held : Bool) (g : ℕ) → (t ≡ true → held ≡ false) → SameGrain (later (grain_fate (if t then Ends g else Stays)) (if t then Lost else Kept)) Kept held

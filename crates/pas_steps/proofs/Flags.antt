@@ -1,4 +1,4 @@
--- A flag after a step that sets it, or ends it, where a test says so.
+-- A value that a test chooses, and a flag after a step that sets it, or ends it, where a test says so.
 use Rattle.std.proofs.Common.{◌≡◌, Bool, true, false, if◌then◌else◌, refl, sym}
 use Rattle.std.proofs.lemmas.Bool.{true≢false}
 
@@ -13,3 +13,7 @@ stays_set false was h = h
 pub was_set : (t was : Bool) → (if t then false else was) ≡ true → was ≡ true
 was_set true was h = absurd (true≢false (sym h))
 was_set false was h = h
+
+pub ap_if : {A B : Type 0} (f : A → B) (t : Bool) (x y : A) → f (if t then x else y) ≡ (if t then f x else f y)
+ap_if f true x y = refl
+ap_if f false x y = refl

@@ -1,5 +1,5 @@
 -- What steps leave as it was.
-use Rattle.std.proofs.Common.{◌≡◌, ℕ, ◌≤◌, Bool, true, false, ◌&&◌, List, [], ◌∷◌, ◌++◌, length, Option, Some, None, refl, ap, sym, ◌∙◌, subst, arith, append_assoc, ◌%◌, if◌then◌else◌, ◌==◌, true≢false}
+use Rattle.std.proofs.Common.{◌≡◌, ℕ, ◌≤◌, Bool, true, false, ◌&&◌, List, [], ◌∷◌, ◌++◌, length, Option, Some, None, refl, ap, sym, ◌∙◌, subst, arith, append_assoc, ◌%◌, if◌then◌else◌, ◌==◌, true≢false, ◌+◌}
 use Rattle.std.proofs.lemmas.Bool.{eqb-true}
 use Rattle.pas_profile.specs.Classes.{has_bit}
 use Rattle.pas_profile.specs.declared.event.Event.{Event}
@@ -32,6 +32,10 @@ events_split k (m ∷ xs) v = ap (with_event (event_of k (epoch_of (xs ++ v)) m.
 with_le : (o : Option Event) (es : List Event) (n : ℕ) → n ≤ length es → n ≤ length (with_event o es)
 with_le None es n h = h
 with_le (Some e) es n h = omega (arith, h)
+
+pub with_few : (o : Option Event) (es : List Event) → length (with_event o es) ≤ length es + 1
+with_few None es = omega arith
+with_few (Some e) es = omega arith
 
 given_step : (k e : ℕ) (s : Step) (a n : ℕ) (es : List Event) → n ≤ length es → given_after s n ≤ length (with_event (event_of k e s a) es)
 given_step k e (Deed p d) a n es h = with_le (event_of k e (Deed p d) a) es n h

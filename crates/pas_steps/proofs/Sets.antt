@@ -26,7 +26,7 @@ open_first : (t u : Bool) → t ≡ u → later (if t then Lost else Kept) (if t
 open_first true u e = ap (λ x. if x then Gained else Kept) e
 open_first false u e = ap (λ x. if x then Gained else Kept) e
 
-kept_kept : (t : Bool) → later Kept (if t then Kept else Kept) ≡ Kept
+pub kept_kept : (t : Bool) → later Kept (if t then Kept else Kept) ≡ Kept
 kept_kept true = refl
 kept_kept false = refl
 

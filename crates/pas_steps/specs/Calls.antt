@@ -1,6 +1,5 @@
 -- What a call does to what its actor holds, has and owes. That it still knows each deed that it knew is a law of all steps, and no matter of calls.
 use Rattle.std.specs.Prelude.{ℕ, ◌/◌, ◌≡◌, ◌==◌, Bool, true, false, ◌&&◌, if◌then◌else◌, List, ◌++◌}
-use Rattle.pas_profile.specs.Lives.{live_word}
 use Rattle.pas_profile.specs.declared.profile.Profile.{Profile}
 use Rattle.pas_profile.specs.Runs.{meets_page, grain_of}
 use Rattle.pas_steps.specs.Agreement.{Agreed}
@@ -10,6 +9,7 @@ use Rattle.pas_steps.specs.Views.{View, Move, Stays, Gets, Puts, Gives, Ends, gr
 use Rattle.pas_steps.specs.declared.step.Step.{Step}
 use Rattle.pas_steps.specs.declared.step.Made.{Made}
 use Rattle.pas_steps.specs.declared.step.Step.TheVariants.{Look, Deed, Back, Take, Put, Give, End, TakeRight, Offer, Park, Unpark, Stamp, Hint, Tick, Unback, Unhint}
+use Rattle.pas_steps.specs.Effects.{succeeds}
 
 -- ---- calls
 -- from each view that meets Before, these steps lead to one to which it stands in the relation Change
@@ -111,7 +111,7 @@ opens (Back q) a page = false
 opens (Take q word mask) a page = false
 opens (Put q word mask) a page = q == page
 opens (Give block) a page = false
-opens (End name guess) a page = (a == live_word name.turn guess) && meets_page (grain_of name) guess page
+opens (End name guess) a page = succeeds name guess a && meets_page (grain_of name) guess page
 opens (TakeRight q directory) a page = false
 opens (Offer q directory) a page = false
 opens (Park q) a page = q == page

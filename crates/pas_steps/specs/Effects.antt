@@ -10,6 +10,7 @@ use Rattle.pas_profile.specs.Runs.{grain_of, length_of}
 use Rattle.pas_bits.specs.PageVectors.{page_mask}
 use Rattle.pas_steps.specs.declared.step.Step.{Step}
 use Rattle.pas_steps.specs.declared.step.Step.TheVariants.{Look, Deed, Back, Take, Put, Give, End, TakeRight, Offer, Park, Unpark, Stamp, Hint, Tick, Unback, Unhint}
+use Rattle.pas_profile.specs.declared.name.Name.{Name}
 
 -- ---- the words of a grain, which is a number of the region: `page * 256 + grain`
 abbrev pub free_word_at : ℕ → Word
@@ -21,6 +22,10 @@ life_word_at g = Word.Life (g / 256) (g % 256)
 -- the grain is one of the mask's in this free word of the page
 abbrev pub in_mask : ℕ → ℕ → ℕ → ℕ → Bool
 in_mask page word mask g = (word == g / 64 % 4) && (page == g / 256) && has_bit mask (g % 64)
+
+-- the end of the name with this guess succeeds, where this is the life word that it reads
+abbrev pub succeeds : Name → ℕ → ℕ → Bool
+succeeds name guess a = a == live_word name.turn guess
 
 -- ---- the words of a page in the page vectors
 abbrev pub parked_word_at : ℕ → Word
@@ -59,7 +64,7 @@ new_value epoch (Back page) old = bit_or old 1
 new_value epoch (Take page word mask) old = bit_and old (bit_not w64 mask)
 new_value epoch (Put page word mask) old = bit_or old mask
 new_value epoch (Give block) old = live_word block.name.turn (length_of block)
-new_value epoch (End name guess) old = if old == live_word name.turn guess then name.turn + 1 else old
+new_value epoch (End name guess) old = if succeeds name guess old then name.turn + 1 else old
 new_value epoch (TakeRight page directory) old = bit_and old (bit_not w64 (page_mask page))
 new_value epoch (Offer page directory) old = bit_or old (page_mask page)
 new_value epoch (Park page) old = bit_or old (page_mask page)

@@ -1,6 +1,6 @@
 -- The event of a step, and the events of a view.
 use Rattle.std.specs.Prelude.{ℕ, ◌==◌, nat_lt, ◌&&◌, if◌then◌else◌, List, [], ◌∷◌, ◌++◌, Option, None, Some}
-use Rattle.pas_profile.specs.Lives.{live_word, is_live, turn_of}
+use Rattle.pas_profile.specs.Lives.{is_live, turn_of}
 use Rattle.pas_profile.specs.declared.name.Name.{Name}
 use Rattle.pas_profile.specs.declared.event.Event.{Event}
 use Rattle.pas_profile.specs.declared.event.Why.{Why}
@@ -8,6 +8,7 @@ use Rattle.pas_steps.specs.Views.{View, epoch_of}
 use Rattle.pas_steps.specs.declared.step.Step.{Step}
 use Rattle.pas_steps.specs.declared.step.Made.{Made}
 use Rattle.pas_steps.specs.declared.step.Step.TheVariants.{Look, Deed, Back, Take, Put, Give, End, TakeRight, Offer, Park, Unpark, Stamp, Hint, Tick, Unback, Unhint}
+use Rattle.pas_steps.specs.Effects.{succeeds}
 
 -- why the end of a name is refused, from the life word that was read
 abbrev pub reason_of : Name → ℕ → Why
@@ -16,7 +17,7 @@ reason_of name a = if nat_lt name.turn (turn_of a) then Why.Ended else Why.NoBlo
 -- An end that succeeds is an `End`. One that read no live block with the name's turn is refused. One that read such a block of another
 -- length makes no event.
 abbrev pub end_event : ℕ → ℕ → Name → ℕ → ℕ → Option Event
-end_event k epoch name guess a = if a == live_word name.turn guess then Some (Event.End k name epoch) else
+end_event k epoch name guess a = if succeeds name guess a then Some (Event.End k name epoch) else
     (if is_live a && (turn_of a == name.turn) then None else Some (Event.Reject k name (reason_of name a)))
 
 -- the event of a step of actor k that knows this epoch, with this answer

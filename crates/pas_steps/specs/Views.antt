@@ -5,10 +5,10 @@ use Rattle.pas_profile.specs.Classes.{has_bit, is_usable}
 use Rattle.pas_profile.specs.declared.directory.Directory.{Directory}
 use Rattle.pas_profile.specs.declared.directory.Kind.{Kind}
 use Rattle.pas_profile.specs.Directories.{deed_word_of, deed_word_numbered, directory_read, number_of}
-use Rattle.pas_profile.specs.Lives.{live_word, is_live, turn_of, grains_of}
+use Rattle.pas_profile.specs.Lives.{is_live, turn_of, grains_of}
 use Rattle.pas_profile.specs.declared.word.Word.{Word}
 use Rattle.pas_profile.specs.Runs.{in_run, meets_page, grain_of, length_of}
-use Rattle.pas_steps.specs.Effects.{in_mask}
+use Rattle.pas_steps.specs.Effects.{in_mask, succeeds}
 use Rattle.pas_steps.specs.Past.{Once}
 use Rattle.pas_steps.specs.declared.step.Step.{Step}
 use Rattle.pas_steps.specs.declared.step.Made.{Made}
@@ -33,7 +33,7 @@ grain_move (Back page) a g = Stays
 grain_move (Take page word mask) a g = if in_mask page word mask g && has_bit a (g % 64) then Gets else Stays
 grain_move (Put page word mask) a g = if in_mask page word mask g then Puts else Stays
 grain_move (Give block) a g = if in_run (grain_of block.name) (length_of block) g then Gives (grain_of block.name) else Stays
-grain_move (End name guess) a g = if (a == live_word name.turn guess) && in_run (grain_of name) guess g then Ends (grain_of name) else Stays
+grain_move (End name guess) a g = if succeeds name guess a && in_run (grain_of name) guess g then Ends (grain_of name) else Stays
 grain_move (TakeRight page directory) a g = Stays
 grain_move (Offer page directory) a g = Stays
 grain_move (Park page) a g = Stays
@@ -347,7 +347,7 @@ unstamped_after (Back q) a page was = was
 unstamped_after (Take q word mask) a page was = was
 unstamped_after (Put q word mask) a page was = was
 unstamped_after (Give block) a page was = was
-unstamped_after (End name guess) a page was = if (a == live_word name.turn guess) && meets_page (grain_of name) guess page then true else was
+unstamped_after (End name guess) a page was = if succeeds name guess a && meets_page (grain_of name) guess page then true else was
 unstamped_after (TakeRight q directory) a page was = was
 unstamped_after (Offer q directory) a page was = was
 unstamped_after (Park q) a page was = was
@@ -437,7 +437,7 @@ ends_on (Back q) a page = false
 ends_on (Take q word mask) a page = false
 ends_on (Put q word mask) a page = false
 ends_on (Give block) a page = false
-ends_on (End name guess) a page = (a == live_word name.turn guess) && meets_page (grain_of name) guess page
+ends_on (End name guess) a page = succeeds name guess a && meets_page (grain_of name) guess page
 ends_on (TakeRight q directory) a page = false
 ends_on (Offer q directory) a page = false
 ends_on (Park q) a page = false
