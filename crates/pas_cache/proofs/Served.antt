@@ -200,7 +200,7 @@ cached_two {heap = heap} {class = class} {locals = locals} {locals' = locals'} {
       let none = ap length cached.2.no_steps in
       let all = ap length h.steps_are ∙ length-append h.given h.before in
       omega (arith, two, none, all)
-  | inr fetch ↦ absurd (spent_empty fetch.place.spent (local_for heap class locals) slots is fetch.place.taken.0 some)
+  | inr fetch ↦ absurd (spent_empty fetch.place.spent (local_for heap class locals) slots is fetch.place.taken.left some)
 ]
 
 -- ---- of a cache

@@ -71,17 +71,17 @@ full_removed (a ∷ others) x ys full is rest = cc
 pub first_removed : (xs : List Slots) (x : Slots) (ys : List Slots) → xs ≡ x ∷ ys → IsPermutation xs (x ∷ ys)
 first_removed xs x ys is = subst (IsPermutation xs) is (IsPermutation-refl xs)
 
-pub shortens_full : (locals : List Slots) (oldest : Slots) (rest : List Slots) (steps : List Made) → locals ≡ oldest ∷ rest → (length locals == 32) ≡ true → StopSteps oldest steps → IsShortened locals rest steps
-shortens_full locals oldest rest steps is all stops =
+pub shortens_full : (locals : List Slots) (oldest : Slots) (rest : List Slots) (steps : List Made) → locals ≡ oldest ∷ rest → (length locals == 32) ≡ true → StopSteps oldest steps → length steps ≤ 23 → IsShortened locals rest steps
+shortens_full locals oldest rest steps is all stops few =
     let n : length locals ≡ 32 = eqb-true (length locals) 32 all in
     let long : length (oldest ∷ rest) ≡ 32 = ap length (sym is) ∙ n in
-    subst (λ xs. IsShortened xs rest steps) (sym is) (subst (λ t. StopsFirst t (oldest ∷ rest) rest steps) (sym (le-leb 32 (length (oldest ∷ rest)) (omega (arith, long)))) (refl, stops))
+    subst (λ xs. IsShortened xs rest steps) (sym is) (record { first = subst (λ t. StopsFirst t (oldest ∷ rest) rest steps) (sym (le-leb 32 (length (oldest ∷ rest)) (omega (arith, long)))) (refl, stops); few = few })
 
 pub shortens_none : (locals : List Slots) → (length locals == 32) ≡ false → length locals ≤ 32 → IsShortened locals locals []
-shortens_none [] other le = (refl, refl)
+shortens_none [] other le = record { first = (refl, refl); few = omega arith }
 shortens_none (first ∷ rest) other le =
     let ne = eqb-false (length (first ∷ rest)) 32 other in
-    subst (λ t. StopsFirst t (first ∷ rest) (first ∷ rest) []) (sym (lt-leb 32 (length (first ∷ rest)) (omega (arith, ne, le)))) (refl, refl)
+    record { first = subst (λ t. StopsFirst t (first ∷ rest) (first ∷ rest) []) (sym (lt-leb 32 (length (first ∷ rest)) (omega (arith, ne, le)))) (refl, refl); few = omega arith }
 
 -- ---- one call after another
 module _ {σ σ1 : Standing} {First : List Made → Type 0} (locals kept : List Slots) (one : Releases First locals kept σ σ1) where

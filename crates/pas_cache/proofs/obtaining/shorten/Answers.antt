@@ -14,7 +14,7 @@ returns-then-is_full-clause-shortens g c =
     let full = sym c.is_full.ensures.value ∙ c.if-is_full.true in
     let is = full_removed c.args.locals.now.items c.remove-oldest.result c.remove-oldest.new.self.items full c.remove-oldest.ensures.value c.remove-oldest.ensures.items in
     let stops = c.stop.ensures.stops in
-    releases_by _ _ _ (first_removed _ _ _ is) _ stops (shortens_full _ _ _ stops.steps is full stops.order)
+    releases_by _ _ _ (first_removed _ _ _ is) _ stops (shortens_full _ _ _ stops.steps is full stops.order stops.few)
 
 pub returns-then-is_full-clause-spare : goal.returns-then-is_full-clause-spare
 returns-then-is_full-clause-spare g c =
