@@ -1,6 +1,6 @@
 -- Slots are obtained: cached ones, or those of a refill.
 use Rattle.std.proofs.Common.{◌≡◌, ℕ, ◌<◌, ◌≤◌, ◌==◌, Bool, true, false, cond, Option, List, [], ◌∷◌, ◌++◌, length, get_or, Some, None, Ok, Err, Result, inl, inr, refl, ap, sym, ◌∙◌, subst, arith, true≢false, append-nil, length-append}
-use Rattle.std.specs.List.{cons_option, remove}
+use Rattle.std.specs.List.{cons_option, list_any, remove}
 use Rattle.std.specs.List.Sorted.{IsPermutation}
 use Rattle.std.specs.Result.{result_ok}
 use Rattle.std.proofs.lemmas.Bool.{and_parts, cases_Bool, eqb-true}
@@ -24,28 +24,22 @@ use Rattle.pas_bits.specs.declared.mask.Mask4.{Mask4}
 use Rattle.pas_segregated.specs.Masks.{start_of}
 use Rattle.pas_segregated.specs.Refills.{answer_of, Refills}
 use Rattle.pas_segregated.specs.Returns.{BackSteps}
-use Rattle.pas_segregated.specs.Stops.{class_directory, directory_of, LeavesWhere, StopSteps, Stops}
+use Rattle.pas_segregated.specs.Stops.{class_directory, directory_of, LeavesWhere, StopSteps}
 use Rattle.pas_segregated.specs.Takes.{exclusive, fewer_slots}
 use Rattle.pas_segregated.specs.declared.slots.Slots.{Slots}
 use Rattle.pas_segregated.proofs.Starts.{start_below}
 use Rattle.pas_cache.specs.Changes.{LeavesSpent, StopsFirst, IsTakenOut, IsShortened}
 use Rattle.pas_cache.specs.Locals.{is_for, local_for, others_than, HasOneEach, IsPlaceOf, RestsWith}
-use Rattle.pas_cache.specs.Parts.{Releases, BringsCached, MayObtain, Obtains, StandsLast}
+use Rattle.pas_cache.specs.Parts.{Releases, StopsPlace, BringsCached, MayObtain, Obtains, StandsLast}
 use Rattle.pas_cache.specs.Serves.{MakesPlace, IsRefill, HasNoneCached, IsToldBy}
 use Rattle.pas_cache.proofs.FitsBefore.{no_fit_before}
-use Rattle.pas_cache.proofs.Locals.{none_found, found_passes, at_place, none_left}
+use Rattle.pas_cache.proofs.Locals.{none_any, found_passes, at_place, none_left}
 use Rattle.pas_cache.proofs.RefillEvents.{refill_few}
 use Rattle.pas_cache.proofs.Refills.{may_search, refill_of, found_by, rests_refilled}
 use Rattle.pas_cache.proofs.Resting.{rests_reordered}
-use Rattle.pas_cache.proofs.Stops.{releases_by, releases_none, releases_then, rests_then}
+use Rattle.pas_cache.proofs.Stops.{releases_as, releases_none, releases_then, rests_then}
 
 -- ---- what is taken out
-pub taken_moves : (heap class : ℕ) (locals others : List Slots) (slots : Slots) → HasOneEach locals → Some slots ≡ local_for heap class locals → others ≡ others_than heap class locals → IsPermutation locals (slots ∷ others)
-taken_moves heap class locals others slots one found is = subst (λ xs. IsPermutation locals (slots ∷ xs)) (sym is) ((found_passes (is_for heap class) locals slots (sym found)).without (one heap class))
-
-pub none_taken : (heap class : ℕ) (locals others : List Slots) → None ≡ local_for heap class locals → others ≡ others_than heap class locals → others ≡ locals
-none_taken heap class locals others none is = is ∙ (none_found (is_for heap class) locals (sym none)).others
-
 none_in : (heap class : ℕ) (locals others : List Slots) → others ≡ others_than heap class locals → local_for heap class others ≡ None
 none_in heap class locals others is = ap (local_for heap class) is ∙ none_left (is_for heap class) locals
 
@@ -80,17 +74,20 @@ spent_leaves slots steps is empty h =
     let left : steps ≡ h.left = h.steps_are ∙ (ap (λ xs. h.left ++ xs) none ∙ append-nil h.left) in
     subst (LeavesWhere slots.right slots.page (directory_of slots)) (sym left) h.leaves
 
-pub spent_releases : {σ σ1 : Standing} (heap class : ℕ) (locals others : List Slots) (slots : Slots) → HasOneEach locals → Some slots ≡ local_for heap class locals → others ≡ others_than heap class locals → slots.class < 16 → HasNoneCached heap class locals → Stops slots σ σ1
+pub leaves_spent : {σ σ1 : Standing} (heap class : ℕ) {locals others : List Slots} {place : ℕ} → IsPlaceOf heap class locals place → HasNoneCached heap class locals → CanCall σ (λ v l. RestsWith σ.seat.profile locals v) → StopsPlace place locals others σ σ1
     → Releases (IsTakenOut heap class locals others) locals others σ σ1
-spent_releases heap class locals others slots one found is small none stops =
-    let empty : IsEmpty slots.starts = none_empty slots (none slots (sym found)) in
-    releases_by locals slots others (taken_moves heap class locals others slots one found is) (IsTakenOut heap class locals others) stops
-    (record { left = subst (λ o. LeavesSpent o stops.steps) found (empty, spent_leaves slots stops.steps small empty stops.order); others = is; few = stops.few })
+leaves_spent heap class {locals} {others} {place} at none can h =
+    let slots : Slots = h.slots in
+    let p = placed slots can.met.apart.one_each at in
+    let found : local_for heap class locals ≡ Some slots = p.0 ∙ ap (λ s. Some s) (sym h.at) in
+    let small : slots.class < 16 = subst (λ (s : Slots). s.class < 16) (sym h.at) (can.met.known place slots at.within).directory.kind in
+    let empty : IsEmpty slots.starts = none_empty slots (none slots found) in
+    releases_as h.stops (λ steps one. record { left = subst (λ o. LeavesSpent o steps) (sym found) (empty, spent_leaves slots steps small empty one.order); others = h.fewer ∙ sym p.1; few = one.few })
 
-pub none_releases : {σ : Standing} (heap class : ℕ) (locals others : List Slots) → None ≡ local_for heap class locals → others ≡ others_than heap class locals → Releases (IsTakenOut heap class locals others) locals others σ σ
-none_releases {σ} heap class locals others none is =
-    subst (λ xs. Releases (IsTakenOut heap class locals others) locals xs σ σ) (sym (none_taken heap class locals others none is))
-    (releases_none (IsTakenOut heap class locals others) locals (record { left = subst (λ o. LeavesSpent o []) none refl; others = is; few = omega arith }))
+pub leaves_none : {σ : Standing} (heap class : ℕ) {locals : List Slots} → list_any (is_for heap class) locals ≡ false → Releases (IsTakenOut heap class locals locals) locals locals σ σ
+leaves_none heap class {locals} none =
+    let n = none_any (is_for heap class) locals none in
+    releases_none (IsTakenOut heap class locals locals) locals (record { left = subst (λ o. LeavesSpent o []) (sym n.found) refl; others = sym n.others; few = omega arith })
 
 pub none_at_all : (heap class : ℕ) (locals : List Slots) → None ≡ local_for heap class locals → HasNoneCached heap class locals
 none_at_all heap class locals none other at some = cc
@@ -140,9 +137,10 @@ pub obtains_cached : {σ : Standing} (heap class : ℕ) (tells : Bool) (locals l
 obtains_cached {σ} heap class tells locals locals' one fits cached =
     let slots : Slots = cached.slots in
     let others : List Slots = others_than heap class locals in
-    let moved : IsPermutation locals (slots ∷ others) = taken_moves heap class locals others slots one (sym cached.cached) refl in
+    let passes = found_passes (is_for heap class) locals slots cached.cached in
+    let moved : IsPermutation locals (slots ∷ others) = passes.without (one heap class) in
     let n = length_permutation locals (slots ∷ others) moved in
-    let pair = and_parts (slots.heap == heap) (slots.class == class) (found_passes (is_for heap class) locals slots cached.cached).passes in
+    let pair = and_parts (slots.heap == heap) (slots.class == class) passes.passes in
     record {
       fewer = others;
       slots = slots;

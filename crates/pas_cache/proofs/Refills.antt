@@ -1,5 +1,5 @@
 -- Slots come by a refill.
-use Rattle.std.proofs.Common.{◌≡◌, Bool, ℕ, ◌+◌, ◌*◌, ◌<◌, ◌==◌, true, false, ◌||◌, List, [], ◌∷◌, ◌++◌, Ok, Err, Result, None, refl, ap, sym, ◌∙◌, subst, arith, true≢false}
+use Rattle.std.proofs.Common.{◌≡◌, Bool, ◌&&◌, if◌then◌else◌, inl, ℕ, ◌+◌, ◌*◌, ◌<◌, ◌==◌, true, false, ◌||◌, List, [], ◌∷◌, ◌++◌, Ok, Err, Result, None, refl, ap, sym, ◌∙◌, subst, arith, true≢false}
 use Rattle.std.specs.Prelude.{All, MatchResult, IfOk}
 use Rattle.std.specs.List.{cons_option, list_any}
 use Rattle.std.specs.Result.{result_ok}
@@ -13,6 +13,8 @@ use Rattle.pas_profile.specs.declared.event.NoRoom.{NoRoom}
 use Rattle.pas_profile.specs.declared.profile.Profile.{Profile}
 use Rattle.pas_bits.specs.declared.mask.Mask4.{Mask4}
 use Rattle.pas_steps.specs.Agreement.{Agreed}
+use Rattle.pas_steps.specs.Calls.{Leads, Kept, Gained}
+use Rattle.pas_steps.proofs.Calls.{does_as}
 use Rattle.pas_steps.specs.Desks.{Standing, CanCall}
 use Rattle.pas_steps.specs.Views.{View, known_deed, KnowsDeed}
 use Rattle.pas_steps.specs.declared.step.Made.{Made}
@@ -22,11 +24,10 @@ use Rattle.pas_segregated.specs.Refills.{answer_of, GivesSlots, Refills}
 use Rattle.pas_segregated.specs.Stops.{class_directory}
 use Rattle.pas_segregated.specs.Takes.{exclusive}
 use Rattle.pas_segregated.specs.declared.slots.Slots.{Slots}
-use Rattle.pas_cache.specs.Effects.{Gains}
+use Rattle.pas_cache.specs.Effects.{of_slots, Gains}
 use Rattle.pas_cache.specs.Locals.{keeps_right, any_keeps, is_for, local_for, IsLocal, RestsWith}
 use Rattle.pas_cache.specs.Parts.{MayObtain, IsFoundFor}
 use Rattle.pas_cache.specs.Serves.{IsRefill}
-use Rattle.pas_cache.proofs.Below.{refill_leads, refusal_leads}
 use Rattle.pas_cache.proofs.Locals.{none_found}
 use Rattle.pas_cache.proofs.Resting.{rests_gained, rests_kept}
 
@@ -94,6 +95,19 @@ found_by f heap class steps (Ok slots) refill = record {
 found_by f heap class steps (Err room) refill = tt
 
 -- ---- the actor is at rest with the slots that were found besides
+with_right : (right t : Bool) → right ≡ true → (if t then Gained else Kept) ≡ (if right && t then Gained else Kept)
+with_right right t is = ap (λ r. if r && t then Gained else Kept) (sym is)
+
+refill_leads : {f : Profile} {d : Directory} {steps : List Made} {slots : Slots} → GivesSlots f d steps slots → Leads f (MaySearch d) (Gains slots d) steps
+refill_leads {slots = slots} s = record {
+  from = λ v may agreed. let gets = s.gets.from v may agreed in record {
+    does = does_as (of_slots slots Gained) gets.does (λ x. inl refl) (λ page. with_right slots.right (slots.page == page) s.with_right) (λ page is. is);
+    apart = gets.apart;
+    backed = gets.backed;
+    deed = gets.may_stop.deed;
+  };
+}
+
 pub rests_refilled : (f : Profile) (heap class : ℕ) (locals : List Slots) → IsDirectoryOf f (class_directory heap class) → local_for heap class locals ≡ None → (steps : List Made) (v : View) → RestsWith f locals v → Agreed f v steps
     → (answer : Result Slots NoRoom) → IsRefill f (class_directory heap class) class steps answer → RestsWith f (cons_option (result_ok answer) locals) (steps ++ v)
 rests_refilled f heap class locals is none steps v h agreed (Ok slots) refill =
@@ -106,4 +120,4 @@ rests_refilled f heap class locals is none steps v h agreed (Ok slots) refill =
     (ap (λ n. local_for n slots.class locals) pair.heap_is ∙ (ap (λ n. local_for heap n locals) pair.class_is ∙ none))
     (λ later page keeps. no_right_in f (steps ++ v) heap class locals is.kind later (none_found (is_for heap class) locals none).any page
     (subst (λ p. KnowsDeed p d (steps ++ v)) (eqb-true slots.page page (and_parts slots.right (slots.page == page) keeps).1) gains.deed))
-rests_refilled f heap class locals is none steps v h agreed (Err room) refill = rests_kept f locals steps v ((refusal_leads refill.outcome).from v (may_search f v heap class locals is.kind none h) agreed) agreed h
+rests_refilled f heap class locals is none steps v h agreed (Err room) refill = rests_kept f locals steps v (refill.outcome.still.from v (may_search f v heap class locals is.kind none h) agreed) agreed h

@@ -50,6 +50,11 @@ abbrev pub LeavesSpent : Option Slots → List Made → Type 0
 LeavesSpent None steps = steps ≡ []
 LeavesSpent (Some slots) steps = IsEmpty slots.starts × LeavesWhere slots.right slots.page (directory_of slots) steps
 
+-- it is stopped, by at most 23 steps
+pub record StopsOne (slots : Slots) (steps : List Made) : Type 0 where
+  pub order : StopSteps slots steps
+  pub few : length steps ≤ 23
+
 -- the local allocator of the heap and the class, which has no slot, is taken out, where there is one
 pub record IsTakenOut (heap class : ℕ) (locals locals' : List Slots) (steps : List Made) : Type 0 where
   pub left : LeavesSpent (local_for heap class locals) steps

@@ -1,5 +1,5 @@
 -- What the parts of the calls ask and promise.
-use Rattle.std.specs.Prelude.{ℕ, ◌^◌, ◌<◌, ◌≤◌, ◌≡◌, Bool, true, false, List, [], ◌∷◌, ◌++◌, length, Some, Result, Ok, MatchResult}
+use Rattle.std.specs.Prelude.{ℕ, ◌^◌, ◌<◌, ◌≤◌, ◌≡◌, Bool, true, false, List, [], ◌∷◌, ◌++◌, length, remove, slice_index_or, Some, Result, Ok, MatchResult}
 use Rattle.pas_profile.specs.declared.event.NoRoom.{NoRoom}
 use Rattle.pas_profile.specs.declared.name.Block.{Block}
 use Rattle.pas_profile.specs.declared.profile.Profile.{Profile}
@@ -18,7 +18,7 @@ use Rattle.pas_bits.specs.Masks.{HasMember}
 use Rattle.pas_segregated.specs.Stops.{class_directory}
 use Rattle.pas_segregated.specs.declared.slots.Slots.{Slots}
 use Rattle.pas_cache.specs.Locals.{covers, local_for, others_than, IsLocal, RestsWith}
-use Rattle.pas_cache.specs.Changes.{GivesSlot}
+use Rattle.pas_cache.specs.Changes.{GivesSlot, StopsOne}
 use Rattle.pas_cache.specs.Serves.{IsObtained, ServesLocals, class_wanted, IsBlockFor, MakesFew, IsSilent, IsToldBy}
 
 -- an actor at rest with the one list is at rest with the other after these steps
@@ -44,6 +44,13 @@ pub record Releases (Change : List Made → Type 0) (locals locals' : List Slots
   pub calls : Rests locals locals' desk desk' steps
   pub change : Change steps
   pub kinds : Only releasing steps
+
+-- the one at this place goes, and is stopped
+pub record StopsPlace (place : ℕ) (locals locals' : List Slots) (desk desk' : Standing) : Type 0 where
+  pub slots : Slots
+  pub at : slots ≡ slice_index_or locals place slots
+  pub fewer : locals' ≡ remove locals place
+  pub stops : Releases (StopsOne slots) locals locals' desk desk'
 
 -- ---- slots are obtained
 -- the local allocator of the heap and the class has a slot, and stands at the end

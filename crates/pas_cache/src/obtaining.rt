@@ -8,11 +8,12 @@ ghost use Rattle.pas_cache.specs.Parts.{Releases, MayObtain, Obtains, StandsLast
 ghost use Rattle.pas_cache.specs.Changes.{IsTakenOut, IsShortened};
 ghost use Rattle.pas_cache.specs.Serves.{MakesPlace, HasNoneCached};
 
-use crate::taking::{bring_cached, take_out};
+use crate::stopping::stop_at;
+use crate::taking::{bring_cached, place_of};
 use arrayvec::ArrayVec;
 use pas_profile::NoRoom;
 use pas_profile::limits::MOST_LOCALS;
-use pas_segregated::{Slots, refill, stop};
+use pas_segregated::{Slots, refill};
 use pas_steps::Desk;
 
 /// Stops the local allocator that was used longest ago where 32 are there. At most 23 steps, and no event.
@@ -24,8 +25,7 @@ fn shorten<D: Desk>(desk: &mut D, locals: &mut ArrayVec<Slots, MOST_LOCALS>)
     ensures home { D.home desk.new ≡ D.home desk.old }
 {
     if locals.is_full() {
-        let oldest = locals.remove(0);
-        stop(desk, oldest);
+        stop_at(desk, locals, 0);
     }
 }
 
@@ -42,8 +42,8 @@ fn leave_spent<D: Desk>(
     ensures spare { D.spare_of desk.new ≡ D.spare_of desk.old }
     ensures home { D.home desk.new ≡ D.home desk.old }
 {
-    if let Some(spent) = take_out(locals, heap, class) {
-        stop(desk, spent);
+    if let Some(place) = place_of(locals, heap, class) {
+        stop_at(desk, locals, place);
     }
 }
 

@@ -1,14 +1,12 @@
 //! Local allocators are looked for in their list.
-ghost use Rattle.std.specs.Prelude.{◌≡◌, ◌<◌, ◌≤◌, ◌++◌, ◌∷◌, [], false, MatchBool, MatchOption, length, remove, slice_index_or};
+ghost use Rattle.std.specs.Prelude.{◌≡◌, ◌<◌, ◌++◌, ◌∷◌, [], false, MatchBool, MatchOption, length, remove, slice_index_or};
 ghost use Rattle.std.specs.List.{list_any};
 ghost use Rattle.pas_bits.specs.Masks.{HasMember, IsEmpty};
 ghost use Rattle.pas_segregated.specs.declared.slots.Slots.{Slots as Local};
-ghost use Rattle.pas_cache.specs.Locals.{is_for, local_for, others_than, HasOneEach, IsPlaceOf};
+ghost use Rattle.pas_cache.specs.Locals.{is_for, HasOneEach, IsPlaceOf};
 ghost use Rattle.pas_cache.specs.Parts.{BringsCached};
 ghost use Rattle.pas_cache.specs.Serves.{HasNoneCached};
 
-use arrayvec::ArrayVec;
-use pas_profile::limits::MOST_LOCALS;
 use pas_segregated::Slots;
 
 /// Whether a slot is left.
@@ -29,7 +27,7 @@ fn serves(slots: &Slots, heap: u8, class: u8) -> bool
 
 /// The place of the local allocator of the heap and the class, looked for from the last used one on.
 #[inline(always)]
-fn place_of(locals: &[Slots], heap: u8, class: u8) -> Option<usize>
+pub fn place_of(locals: &[Slots], heap: u8, class: u8) -> Option<usize>
     ensures { MatchOption result (list_any (is_for heap class) locals.now ≡ false) (IsPlaceOf heap class locals.now) }
 {
     let mut place = locals.len();
@@ -66,17 +64,4 @@ pub fn bring_cached(locals: &mut [Slots], heap: u8, class: u8) -> bool
         move_to_end(locals, place);
     }
     true
-}
-
-/// Takes the local allocator of the heap and the class out of the list, where there is one.
-pub fn take_out(locals: &mut ArrayVec<Slots, MOST_LOCALS>, heap: u8, class: u8) -> Option<Slots>
-    requires { HasOneEach locals.old.items }
-    ensures found { result ≡ local_for heap class locals.old.items }
-    ensures others { locals.new.items ≡ others_than heap class locals.old.items }
-    ensures fits { length locals.old.items ≤ 32 }
-{
-    let Some(place) = place_of(locals, heap, class) else {
-        return None;
-    };
-    Some(locals.remove(place))
 }

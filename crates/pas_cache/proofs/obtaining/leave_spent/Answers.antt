@@ -1,27 +1,15 @@
-use Rattle.std.proofs.Common.{sym, ◌∙◌}
-use Rattle.pas_cache.proofs.Below.{stop_only}
-use Rattle.pas_cache.proofs.Stops.{local_of, may_call, spare_kept}
-use Rattle.pas_cache.proofs.Obtained.{taken_moves, none_releases, spent_releases}
+use Rattle.std.proofs.Common.{◌<◌, ◌≡◌, false, length, subst}
+use Rattle.std.specs.List.{list_any}
+use Rattle.pas_cache.specs.Locals.{is_for, IsPlaceOf}
+use Rattle.pas_cache.proofs.Obtained.{leaves_none, leaves_spent}
 use Rattle.pas_cache.proofs.obtaining.leave_spent.Goals as goal
 
-pub stop-requires : goal.stop-requires
-stop-requires g c =
-    let moved = taken_moves c.args.heap c.args.class _ _ c.in-Some.spent c.requires.can.met.apart.one_each (sym c.in-Some.is ∙ c.take_out.ensures.found) c.take_out.ensures.others in
-    let here = local_of _ _ _ moved c.requires.can in
-    record { page = here.page; directory = here.directory; starts = here.starts; can = may_call _ _ _ moved c.requires.can }
+pub stop_at-requires-clause-place : goal.stop_at-requires-clause-place
+stop_at-requires-clause-place g c = subst (λ xs. c.in-Some.place < length xs) c.deref.ensures.0 c.in-Some.ensures.within
 
 pub returns-in-Some-clause-leaves : goal.returns-in-Some-clause-leaves
 returns-in-Some-clause-leaves g c =
-    let found = sym c.in-Some.is ∙ c.take_out.ensures.found in
-    let one = c.requires.can.met.apart.one_each in
-    let moved = taken_moves c.args.heap c.args.class _ _ c.in-Some.spent one found c.take_out.ensures.others in
-    spent_releases c.args.heap c.args.class _ _ c.in-Some.spent one found c.take_out.ensures.others (local_of _ _ _ moved c.requires.can).directory.kind c.requires.none c.stop.ensures.stops
-
-pub returns-in-Some-clause-spare : goal.returns-in-Some-clause-spare
-returns-in-Some-clause-spare g c =
-    let moved = taken_moves c.args.heap c.args.class _ _ c.in-Some.spent c.requires.can.met.apart.one_each (sym c.in-Some.is ∙ c.take_out.ensures.found) c.take_out.ensures.others in
-    let s = c.stop.ensures.stops in
-    spare_kept s.calls.adds (may_call _ _ _ moved c.requires.can) (stop_only s) (λ v l q. g.met.D.Desk.spares c.args.desk.now v l q) (λ v l q. g.met.D.Desk.spares c.stop.new.desk v l q)
+    leaves_spent c.args.heap c.args.class (subst (λ xs. IsPlaceOf c.args.heap c.args.class xs c.in-Some.place) c.deref.ensures.0 c.in-Some.ensures) c.requires.none c.requires.can c.stop_at.ensures.stops
 
 pub returns-in_default-clause-leaves : goal.returns-in_default-clause-leaves
-returns-in_default-clause-leaves g c = none_releases c.args.heap c.args.class _ _ (sym c.in_default.is ∙ c.take_out.ensures.found) c.take_out.ensures.others
+returns-in_default-clause-leaves g c = leaves_none c.args.heap c.args.class (subst (λ xs. list_any (is_for c.args.heap c.args.class) xs ≡ false) c.deref.ensures.0 c.in_default.ensures)
