@@ -7,6 +7,7 @@ ghost use Rattle.pas_profile.specs.Runs.{in_run};
 use crate::mask::Mask4;
 
 /// The number whose lowest so many bits are set, at most 64.
+#[inline(always)]
 fn ones(bits: u16) -> u64
     requires { bits ≤ 64 }
     ensures { result ≡ 2 ^ bits - 1 }
@@ -18,13 +19,17 @@ fn ones(bits: u16) -> u64
     }
 }
 
-/// The bits of a word (0 to 3) whose grains are of the run of so many grains from the first on.
+/// The bits of a word (0 to 3) whose grains are of the run of so many grains from the first on. 0 at once where it has none.
+#[inline(always)]
 fn run_word(word: u8, first: u8, grains: u16) -> u64
     requires word { word < 4 }
     requires within { first + grains ≤ 256 }
     ensures { (b : ℕ) → b < 64 → has_bit result b ≡ in_run first grains (64 * word + b) }
 {
     let base = 64 * word as u16;
+    if first as u16 + grains <= base || base + 64 <= first as u16 {
+        return 0;
+    }
     let low = (first as u16).saturating_sub(base).min(64);
     let high = (first as u16 + grains).saturating_sub(base).min(64);
     ones(high) - ones(low)
@@ -32,6 +37,7 @@ fn run_word(word: u8, first: u8, grains: u16) -> u64
 
 impl Mask4 {
     /// The mask of exactly the run of so many grains from the first on. The run ends within the page: `first + grains` is at most 256.
+    #[inline(always)]
     pub fn run(first: u8, grains: u16) -> Mask4
         requires { first + grains ≤ 256 }
         ensures { (g : ℕ) → is_set result g ≡ in_run first grains g }

@@ -1,32 +1,29 @@
 -- A bit-fit request: the actor is at rest with the cache as it was.
-use Rattle.std.proofs.Common.{◌≡◌, ℕ, ◌+◌, ◌*◌, ◌/◌, ◌%◌, ◌<◌, ◌≤◌, ◌==◌, Bool, true, false, ◌||◌, if◌then◌else◌, List, [], ◌∷◌, ◌++◌, length, Ok, Err, Result, refl, ap, sym, ◌∙◌, subst, arith, append_assoc}
+use Rattle.std.proofs.Common.{◌≡◌, ℕ, ◌+◌, ◌*◌, ◌/◌, ◌%◌, ◌≤◌, ◌==◌, Bool, true, false, if◌then◌else◌, List, [], ◌∷◌, ◌++◌, length, Ok, Err, Result, refl, ap, sym, ◌∙◌, subst, arith}
 use Rattle.std.specs.Prelude.{All, MatchResult, not}
-use Rattle.std.specs.List.{list_any, AllByRecursion}
+use Rattle.std.specs.List.{list_any}
 use Rattle.std.proofs.lemmas.Bool.{eqb-true}
-use Rattle.pas_profile.specs.Profiles.{IsPage, IsDirectoryOf}
+use Rattle.pas_profile.specs.Profiles.{IsPage}
 use Rattle.pas_profile.specs.Requests.{kind_of_class}
 use Rattle.pas_profile.specs.Runs.{in_run, address_of, grain_of, length_of}
 use Rattle.pas_profile.specs.declared.directory.Directory.{Directory}
 use Rattle.pas_profile.specs.declared.directory.Kind.TheVariants as Kind
 use Rattle.pas_profile.specs.declared.directory.Route.{Route}
-use Rattle.pas_profile.specs.declared.event.Event.{Event}
 use Rattle.pas_profile.specs.declared.event.NoRoom.{NoRoom}
 use Rattle.pas_profile.specs.declared.name.Block.{Block}
 use Rattle.pas_profile.specs.declared.profile.Profile.{Profile}
 use Rattle.pas_profile.proofs.Runs.{run_of}
 use Rattle.pas_steps.specs.Agreement.{Agreed}
-use Rattle.pas_steps.specs.Calls.{Calls, Kept, Lost, now, Does}
-use Rattle.pas_steps.specs.Desks.{Standing, CanCall}
+use Rattle.pas_steps.specs.Calls.{Kept, Lost, now}
 use Rattle.pas_steps.specs.Events.{events_by}
 use Rattle.pas_steps.specs.Kinds.{returning, Only}
-use Rattle.pas_steps.specs.Unknown.{HasRoom}
-use Rattle.pas_steps.specs.Views.{View, holds, KnowsDeed}
+use Rattle.pas_steps.specs.Views.{View, KnowsDeed}
 use Rattle.pas_steps.specs.declared.step.Made.{Made}
-use Rattle.pas_steps.proofs.Adding.{adds_under, agreed_later}
+use Rattle.pas_steps.proofs.Adding.{agreed_later}
 use Rattle.pas_steps.proofs.Apart.{only_both, only_within}
 use Rattle.pas_search.proofs.ForBackEnds.{events_quiet}
 use Rattle.pas_search.specs.Kinds.{searching}
-use Rattle.pas_search.specs.Searches.{MaySearch, SearchRoom, IsRefused}
+use Rattle.pas_search.specs.Searches.{MaySearch, IsRefused}
 use Rattle.pas_search.specs.Serving.{right_of}
 use Rattle.pas_segregated.specs.Stops.{home_of}
 use Rattle.pas_segregated.specs.declared.slots.Slots.{Slots}
@@ -36,7 +33,7 @@ use Rattle.pas_bitfit.proofs.GivenRun.{run_is}
 use Rattle.pas_bitfit.specs.Runs.{NoneFits}
 use Rattle.pas_cache.specs.Kinds.{allocating}
 use Rattle.pas_cache.specs.Locals.{any_keeps, IsLocal, RestsWith}
-use Rattle.pas_cache.specs.Serves.{Wanted, IsPlaced, IsPreparing, IsBlockFor, IsFew, IsSilent, MakesFew}
+use Rattle.pas_cache.specs.Serves.{IsBlockFor, IsFew, IsSilent}
 use Rattle.pas_cache.proofs.RefillEvents.{chosen_few, silent_few, prepared}
 use Rattle.pas_cache.proofs.Refills.{may_search_in, no_right_in}
 use Rattle.pas_cache.proofs.Resting.{locals_after, rests_by, rests_kept}

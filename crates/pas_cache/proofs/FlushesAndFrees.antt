@@ -29,7 +29,6 @@ use Rattle.pas_steps.proofs.Apart.{no_events}
 use Rattle.pas_steps.proofs.Called.{call_none, call_then, next_call}
 use Rattle.pas_steps.proofs.Calls.{does_none, does_idly}
 use Rattle.pas_cache.specs.Kinds.{releasing}
-use Rattle.pas_cache.proofs.Below.{flush_calls}
 use Rattle.pas_cache.proofs.Resting.{rests_kept}
 
 -- ---- an empty cache
@@ -84,8 +83,8 @@ flushes_log {σ} {σ'} c c' is flush =
     subst (λ x. FlushesLog c x σ σ') (sym is) (record {
       steps = flush.steps;
       calls = record {
-        adds = adds_under (flush_calls flush).adds (λ v l stood met. met.locals.clear);
-        leads = rests_idle σ.seat.profile c (record c { log = [] }) flush.steps refl (flush_calls flush).leads (λ v h. (All-nil (IsEntryOf σ.seat.profile), omega arith));
+        adds = adds_under flush.calls.adds (λ v l stood met. met.locals.clear);
+        leads = rests_idle σ.seat.profile c (record c { log = [] }) flush.steps refl flush.calls.leads (λ v h. (All-nil (IsEntryOf σ.seat.profile), omega arith));
       };
       empties = empties c.log flush;
       cache = refl;
@@ -121,7 +120,7 @@ stops_cache {σ} {σ1} {σ2} c c1 c' flush stops mid is =
 pub empties_where : {σ σ' : Standing} (log log' : List Entry) → 64 ≤ length log → log' ≡ [] → Flushes log σ σ' → EmptiesWhere (nat_le 64 (length log)) log log' σ σ'
 empties_where {σ} {σ'} log log' full none flush = record {
   steps = flush.steps;
-  calls = flush_calls flush;
+  calls = flush.calls;
   empties = subst (λ t. EmptiesFull t σ.seat.actor log log' flush.steps) (sym (le-leb 64 (length log) full)) (empties log flush, none);
 }
 

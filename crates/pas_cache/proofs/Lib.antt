@@ -1,4 +1,3 @@
-pub mod Below
 pub mod Lowest
 pub mod Locals
 pub mod Resting

@@ -1,6 +1,8 @@
 -- What a test finds in a list of local allocators, and lists with one more or in another order.
-use Rattle.std.proofs.Common.{◌≡◌, ℕ, ◌+◌, ◌≤◌, Bool, true, false, not, ◌||◌, cond, List, [], ◌∷◌, ◌⊎◌, Some, None, inl, inr, refl, ap, sym, ◌∙◌, subst, arith, true≢false}
-use Rattle.std.specs.List.{list_any, find, filter, count_by}
+use Rattle.std.proofs.Common.{◌≡◌, ℕ, zero, suc, ◌+◌, ◌-◌, ◌<◌, ◌≤◌, Bool, true, false, not, ◌||◌, cond, List, [], ◌∷◌, ◌++◌, length, get_or, set, length-set, length-append, ◌⊎◌, Some, None, inl, inr, refl, ap, sym, ◌∙◌, subst, arith, true≢false}
+use Rattle.std.specs.List.{list_any, find, filter, count_by, remove, refill}
+use Rattle.std.proofs.lemmas.List.{get_or-append_right, set-append_right}
+use Rattle.arrayvec.proofs.ArrayVecLemmas.{items-with_items}
 use Rattle.std.specs.List.Sorted.{IsPermutation}
 use Rattle.std.proofs.lemmas.Bool.{cases_Bool}
 use Rattle.std.proofs.lemmas.List.Sums.{sum_by-cons}
@@ -104,6 +106,19 @@ module _ {X : Type 0} (test : X → Bool) where
   pub one_fewer : (x : X) (xs : List X) → count_by test (x ∷ xs) ≤ 1 → count_by test xs ≤ 1
   one_fewer x xs one = let n = counted x xs in omega (arith, n, one)
 
+  -- the one at a place
+  pub at_place : (xs : List X) (place : ℕ) (d : X) → place < length xs → test (get_or xs place d) ≡ true → count_by test xs ≤ 1 → (find test xs ≡ Some (get_or xs place d)) × (filter (λ y. not (test y)) xs ≡ remove xs place)
+  at_place [] place d lt is one = absurd (omega arith)
+  at_place (x ∷ xs) zero d lt is one =
+      let n = counted_is x xs is in
+      (ap (λ t. cond t (Some x) (find test xs)) is, ap (λ t. cond (not t) (x ∷ filter (λ y. not (test y)) xs) (filter (λ y. not (test y)) xs)) is ∙ (none_count xs (omega (arith, n, one))).others)
+  at_place (x ∷ xs) (suc place) d lt is one =
+      let later = at_place xs place d (omega (arith, lt)) is (one_fewer x xs one) in
+      elim (cases_Bool (test x)) [
+        | inl passes ↦ let n = counted_is x xs passes in let none = none_count xs (omega (arith, n, one)) in let found = none.found in let other = later.0 in absurd (cc)
+        | inr fails ↦ (ap (λ t. cond t (Some x) (find test xs)) fails ∙ later.0, ap (λ t. cond (not t) (x ∷ filter (λ y. not (test y)) xs) (filter (λ y. not (test y)) xs)) fails ∙ ap (λ ys. x ∷ ys) later.1)
+      ]
+
   -- those that don't pass
   pub none_left : (xs : List X) → find test (filter (λ x. not (test x)) xs) ≡ None
   none_left [] = refl
@@ -112,3 +127,28 @@ module _ {X : Type 0} (test : X → Bool) where
     | inr isnt ↦ ap (λ t. find test (cond (not t) (x ∷ filter (λ y. not (test y)) xs) (filter (λ y. not (test y)) xs))) isnt
         ∙ ap (λ t. cond t (Some x) (find test (filter (λ y. not (test y)) xs))) isnt ∙ none_left xs
   ]
+
+-- ---- the last one
+module _ {X : Type 0} where
+  pub at_end : (xs : List X) (place : ℕ) (d : X) → place + 1 ≡ length xs → xs ≡ remove xs place ++ get_or xs place d ∷ []
+  at_end [] place d is = absurd (omega arith)
+  at_end (x ∷ []) zero d is = refl
+  at_end (x ∷ y ∷ xs) zero d is = absurd (omega arith)
+  at_end (x ∷ xs) (suc place) d is = ap (λ ys. x ∷ ys) (at_end xs place d (omega (arith, is)))
+
+  -- a write through the slice keeps the length
+  pub refill_same : (xs ys : List X) → length ys ≡ length xs → refill (length xs) xs ys ≡ ys
+  refill_same xs ys same = items-with_items (record { items = xs }) ys same
+
+  pub last_is : {xs ys : List X} {n : ℕ} (fewer : List X) (x d : X) → ys ≡ xs → xs ≡ fewer ++ x ∷ [] → n ≡ length xs → get_or ys (n - 1) d ≡ x
+  last_is {xs} {ys} {n} fewer x d same last long =
+      let m = ap length last ∙ length-append fewer (x ∷ []) in
+      let first : n - 1 - length fewer ≡ 0 = omega (arith, m, long) in
+      ap (λ zs. get_or zs (n - 1) d) (same ∙ last) ∙ (get_or-append_right fewer (x ∷ []) (length fewer) (n - 1) d refl (omega (arith, m, long)) ∙ ap (λ k. get_or (x ∷ []) k d) first)
+
+  pub last_set : {xs ys : List X} {n : ℕ} (fewer : List X) (x y : X) → ys ≡ xs → xs ≡ fewer ++ x ∷ [] → n ≡ length xs → refill (length xs) xs (set ys (n - 1) y) ≡ fewer ++ y ∷ []
+  last_set {xs} {ys} {n} fewer x y same last long =
+      let m = ap length last ∙ length-append fewer (x ∷ []) in
+      let first : n - 1 - length fewer ≡ 0 = omega (arith, m, long) in
+      refill_same xs (set ys (n - 1) y) (length-set ys (n - 1) y ∙ ap length same)
+      ∙ (ap (λ zs. set zs (n - 1) y) (same ∙ last) ∙ (set-append_right fewer (x ∷ []) (length fewer) (n - 1) y refl (omega (arith, m, long)) ∙ ap (λ k. fewer ++ set (x ∷ []) k y) first))

@@ -31,7 +31,7 @@ use Rattle.pas_steps.specs.Kinds.{Only}
 use Rattle.pas_steps.proofs.Apart.{no_events, events_same}
 use Rattle.pas_steps.specs.Kinds.{returning}
 use Rattle.pas_profile.specs.Profiles.{IsPage}
-use Rattle.pas_cache.proofs.Below.{refill_leads, refusal}
+use Rattle.pas_cache.proofs.Refills.{refill_leads, refusal}
 use Rattle.pas_cache.specs.Kinds.{releasing}
 
 -- ---- a deed that was made wasn't known before

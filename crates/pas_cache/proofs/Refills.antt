@@ -16,17 +16,17 @@ use Rattle.pas_profile.proofs.Codecs.{kind_number_lt, same_kind}
 use Rattle.pas_profile.specs.declared.event.NoRoom.{NoRoom}
 use Rattle.pas_profile.specs.declared.profile.Profile.{Profile}
 use Rattle.pas_steps.specs.Agreement.{Agreed}
+use Rattle.pas_steps.specs.Calls.{Leads}
 use Rattle.pas_steps.specs.Desks.{Standing, CanCall}
 use Rattle.pas_steps.specs.Views.{View, known_deed, KnowsDeed}
 use Rattle.pas_steps.specs.declared.step.Made.{Made}
-use Rattle.pas_search.specs.Searches.{MaySearch, SearchRoom}
+use Rattle.pas_search.specs.Searches.{MaySearch, SearchRoom, IsRefused}
 use Rattle.pas_segregated.specs.Refills.{Filling, GetsSlots, Refills}
 use Rattle.pas_segregated.specs.Stops.{home_of}
 use Rattle.pas_segregated.specs.declared.slots.Slots.{Slots}
 use Rattle.pas_cache.specs.Locals.{keeps_right, any_keeps, is_for, local_for, IsLocal, RestsWith}
 use Rattle.pas_cache.specs.Parts.{MayObtain, IsFoundFor}
 use Rattle.pas_cache.specs.Serves.{IsFilling, IsRefill}
-use Rattle.pas_cache.proofs.Below.{refill_leads, refusal_leads}
 use Rattle.pas_cache.proofs.Locals.{none_found}
 use Rattle.pas_cache.proofs.Resting.{rests_gained, rests_kept}
 
@@ -112,6 +112,17 @@ cached_home f v fill is slots at for =
     ∙ (ap (λ h. kind_of_class (is_shared f h) slots.class) heap ∙ (ap (kind_of_class (is_shared f fill.directory.heap)) (eqb-true slots.class fill.class pair.1) ∙ sym is.home))) in
     ap (λ (h : ℕ). record { heap = h; kind = kind_of_class (not slots.right) slots.class }) heap ∙ ap (λ (k : TheKind). record { heap = fill.directory.heap; kind = k }) kind
 
+-- ---- what it does to what the actor holds and has
+pub refill_leads : {fill : Filling} {f : Profile} {steps : List Made} {slots : Slots} → IsRefill fill f steps (Ok slots) → Leads f (MaySearch fill.directory) (GetsSlots fill.directory slots) steps
+refill_leads {fill} {f} {slots = slots} h = subst (Leads f (MaySearch fill.directory) (GetsSlots fill.directory slots)) (sym h.steps_are) h.outcome.gets
+
+-- the steps of a refusal are those of the search alone
+pub refused_steps : {fill : Filling} {f : Profile} {steps : List Made} {room : NoRoom} → (h : IsRefill fill f steps (Err room)) → h.searched ≡ steps
+refused_steps h = sym (h.steps_are ∙ ap (λ xs. xs ++ h.searched) h.outcome.1)
+
+pub refusal : {fill : Filling} {f : Profile} {steps : List Made} {room : NoRoom} → IsRefill fill f steps (Err room) → IsRefused fill.no_fit f fill.directory steps room
+refusal {fill} {f} {room = room} h = subst (λ xs. IsRefused fill.no_fit f fill.directory xs room) (refused_steps h) h.outcome.0
+
 -- ---- the actor is at rest with the slots that were found besides
 pub rests_refilled : (f : Profile) (fill : Filling) (locals : List Slots) → IsFilling f fill → local_for fill.directory.heap fill.class locals ≡ None → (steps : List Made) (v : View) → RestsWith f locals v → Agreed f v steps
     → (answer : Result Slots NoRoom) → IsRefill fill f steps answer → RestsWith f (cons_option (result_ok answer) locals) (steps ++ v)
@@ -133,4 +144,4 @@ rests_refilled f fill locals is none steps v h agreed (Ok slots) refill =
     (ap (λ n. local_for n slots.class locals) heap ∙ (ap (λ n. local_for d.heap n locals) s.class_is ∙ none))
     (λ later page at. no_right_in f (steps ++ v) d (is_for d.heap fill.class) is.directory.kind (is_one f fill is) locals later (none_found (is_for d.heap fill.class) locals none).any page
     (subst (λ p. KnowsDeed p d (steps ++ v)) (eqb-true slots.page page at) gains.may_stop.deed))
-rests_refilled f fill locals is none steps v h agreed (Err room) refill = rests_kept f locals steps v ((refusal_leads refill).from v (may_search f v fill locals is none h) agreed) agreed h
+rests_refilled f fill locals is none steps v h agreed (Err room) refill = rests_kept f locals steps v ((refusal refill).still.from v (may_search f v fill locals is none h) agreed) agreed h

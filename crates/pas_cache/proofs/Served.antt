@@ -50,7 +50,7 @@ use Rattle.pas_cache.proofs.Resting.{here, may_give_slot, rests_reordered}
 use Rattle.pas_cache.proofs.GivingSlots.{rests_given, given_page}
 use Rattle.pas_cache.proofs.Obtained.{obtain_rests}
 use Rattle.pas_cache.proofs.RefillEvents.{refill_events, prepared}
-use Rattle.pas_cache.proofs.Below.{refused_steps, refusal}
+use Rattle.pas_cache.proofs.Refills.{refused_steps, refusal}
 use Rattle.pas_steps.proofs.Unknown.{unknown_stays, none_unknown}
 
 -- ---- room
@@ -205,7 +205,7 @@ cached_two {fill = fill} {locals = locals} {locals' = locals'} {answer = answer}
       let none = ap length cached.2.no_steps in
       let all = ap length h.steps_are ∙ length-append h.given h.before in
       omega (arith, two, none, all)
-  | inr fetch ↦ absurd (spent_empty fetch.place.spent (local_for fill.directory.heap fill.class locals) slots is fetch.place.taken.0 some)
+  | inr fetch ↦ absurd (spent_empty fetch.place.spent (local_for fill.directory.heap fill.class locals) slots is fetch.place.taken.left some)
 ]
 
 -- ---- of a cache

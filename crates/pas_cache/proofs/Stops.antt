@@ -1,10 +1,9 @@
 -- Local allocators are stopped.
-use Rattle.std.proofs.Common.{length-append, ◌≡◌, ℕ, ◌+◌, ◌<◌, ◌≤◌, ◌==◌, true, false, List, [], ◌∷◌, ◌++◌, length, refl, ap, sym, ◌∙◌, subst, arith}
-use Rattle.std.specs.Prelude.{slice_index_or, remove}
+use Rattle.std.proofs.Common.{length-append, ◌≡◌, ℕ, ◌+◌, ◌<◌, ◌≤◌, ◌==◌, true, false, List, [], ◌∷◌, ◌++◌, length, refl, ap, sym, ◌∙◌, subst, arith, true≢false}
+use Rattle.std.specs.Prelude.{slice_index_or, remove, nat_le}
 use Rattle.std.specs.List.Sorted.{IsPermutation}
 use Rattle.std.proofs.lemmas.Bool.{le-leb, lt-leb, eqb-true, eqb-false}
-use Rattle.std.proofs.lemmas.List.Sorted.{IsPermutation-refl, IsPermutation-to_front}
-use Rattle.pas_profile.specs.declared.profile.Profile.{Profile}
+use Rattle.std.proofs.lemmas.List.Sorted.{IsPermutation-remove}
 use Rattle.pas_steps.specs.Views.{View}
 use Rattle.pas_steps.specs.Events.{events_of}
 use Rattle.pas_steps.specs.Lists.{Whole}
@@ -13,40 +12,51 @@ use Rattle.pas_steps.specs.Calls.{Calls}
 use Rattle.pas_steps.specs.Kinds.{Only}
 use Rattle.pas_steps.specs.declared.step.Made.{Made}
 use Rattle.pas_steps.proofs.Adding.{adds_under}
-use Rattle.pas_steps.proofs.Apart.{only_both, no_events}
+use Rattle.pas_steps.proofs.Apart.{only_both, only_within, no_events}
 use Rattle.pas_steps.proofs.Called.{call_none, call_then, next_call}
 use Rattle.pas_steps.proofs.Frames.{events_split}
+use Rattle.pas_segregated.specs.Returns.{giving_back}
 use Rattle.pas_segregated.specs.Stops.{home_of, StopStepsAt, MayStopAt, StopsAt}
 use Rattle.pas_segregated.specs.declared.slots.Slots.{Slots}
 use Rattle.pas_cache.specs.Changes.{StopsFirst, StopsEach, IsShortened}
 use Rattle.pas_cache.specs.Kinds.{releasing}
 use Rattle.pas_cache.specs.Locals.{IsLocal, RestsWith}
-use Rattle.pas_cache.specs.Parts.{Rests, Releases}
-use Rattle.pas_cache.proofs.Below.{stop_calls, stop_only}
+use Rattle.pas_cache.specs.Parts.{Rests, Releases, StopsPlace}
+use Rattle.pas_cache.proofs.Locals.{at_end}
 use Rattle.pas_cache.proofs.Resting.{here, may_stop, rests_stopped, rests_reordered}
 
--- ---- one of them is stopped
-pub moved_first : (f : Profile) (locals : List Slots) (slots : Slots) (rest : List Slots) → IsPermutation locals (slots ∷ rest) → (v : View) → RestsWith f locals v → RestsWith f (slots ∷ rest) v
-moved_first f locals slots rest moved = rests_reordered f locals (slots ∷ rest) moved
+-- ---- the one at a place is stopped
+module _ {σ : Standing} {locals : List Slots} {place : ℕ} {slots : Slots} {rest : List Slots} (lt : place < length locals) (at : slots ≡ slice_index_or locals place slots) (is : rest ≡ remove locals place) (can : CanCall σ (λ v l. RestsWith σ.seat.profile locals v)) where
+  first : (v : View) → RestsWith σ.seat.profile locals v → RestsWith σ.seat.profile (slots ∷ rest) v
+  first v = rests_reordered σ.seat.profile locals (slots ∷ rest) (subst (λ ys. IsPermutation locals (slots ∷ ys)) (sym is) (IsPermutation-remove locals place slots lt at)) v
 
-module _ {σ : Standing} (locals : List Slots) (slots : Slots) (rest : List Slots) (moved : IsPermutation locals (slots ∷ rest)) where
-  -- what may be stopped
-  pub local_of : (can : CanCall σ (λ v l. RestsWith σ.seat.profile locals v)) → IsLocal σ.seat.profile can.view slots
-  local_of can = here σ.seat.profile slots rest can.view (moved_first σ.seat.profile locals slots rest moved can.view can.met)
+  pub local_of : IsLocal σ.seat.profile can.view slots
+  local_of = here σ.seat.profile slots rest can.view (first can.view can.met)
 
-  pub may_call : CanCall σ (λ v l. RestsWith σ.seat.profile locals v) → CanCall σ (λ v l. MayStopAt (home_of slots) slots v)
-  may_call can = record { view = can.view; whole = can.whole; stood = can.stood; met = may_stop σ.seat.profile slots rest can.view (moved_first σ.seat.profile locals slots rest moved can.view can.met) }
+  may : (v : View) → RestsWith σ.seat.profile locals v → MayStopAt (home_of slots) slots v
+  may v h = may_stop σ.seat.profile slots rest v (first v h)
 
-  abbrev pub releases_by : {σ' : Standing} (Change : List Made → Type 0) (stops : StopsAt (home_of slots) slots σ σ') → Change stops.steps → Releases Change locals rest σ σ'
-  releases_by Change stops change = record {
-    steps = stops.steps;
-    calls = record {
-      adds = adds_under (stop_calls stops).adds (λ v l stood met. may_stop σ.seat.profile slots rest v (moved_first σ.seat.profile locals slots rest moved v met));
-      leads = record { from = λ v h agreed. rests_stopped σ.seat.profile slots rest v (moved_first σ.seat.profile locals slots rest moved v h) stops.steps ((stop_calls stops).leads.from v (may_stop σ.seat.profile slots rest v (moved_first σ.seat.profile locals slots rest moved v h)) agreed) agreed };
+  pub may_call : CanCall σ (λ v l. MayStopAt (home_of slots) slots v)
+  may_call = record { view = can.view; whole = can.whole; stood = can.stood; met = may can.view can.met }
+
+  pub stops_place : {σ' : Standing} → StopsAt (home_of slots) slots σ σ' → StopsPlace place locals rest σ σ'
+  stops_place stops = record {
+    slots = slots;
+    at = at;
+    fewer = is;
+    stops = record {
+      steps = stops.steps;
+      calls = record {
+        adds = adds_under stops.calls.adds (λ v l stood met. may v met);
+        leads = record { from = λ v h agreed. rests_stopped σ.seat.profile slots rest v (first v h) stops.steps (stops.calls.leads.from v (may v h) agreed) agreed };
+      };
+      change = record { order = stops.order; few = stops.few };
+      kinds = only_within giving_back releasing stops.steps refl stops.kinds;
     };
-    change = change;
-    kinds = stop_only stops;
   }
+
+pub releases_as : {σ σ' : Standing} {C D : List Made → Type 0} {locals locals' : List Slots} → Releases C locals locals' σ σ' → ((steps : List Made) → C steps → D steps) → Releases D locals locals' σ σ'
+releases_as r by = record { steps = r.steps; calls = r.calls; change = by r.steps r.change; kinds = r.kinds }
 
 abbrev pub releases_none : {σ : Standing} (Change : List Made → Type 0) (locals : List Slots) → Change [] → Releases Change locals locals σ σ
 releases_none Change locals change = record { steps = []; calls = call_none (λ v h. h); change = change; kinds = tt }
@@ -64,24 +74,20 @@ spare_kept {σ} {σ'} {C} {xs} {spare} {spare'} adds can kinds law law' =
     omega (arith, before, after, count)
 
 -- ---- the first one of a full list
-pub full_removed : (xs : List Slots) (x : Slots) (ys : List Slots) → (length xs == 32) ≡ true → x ≡ slice_index_or xs 0 x → ys ≡ remove xs 0 → xs ≡ x ∷ ys
-full_removed [] x ys full is rest = cc
-full_removed (a ∷ others) x ys full is rest = cc
+first_stopped : (locals kept : List Slots) (oldest : Slots) (steps : List Made) → (length locals == 32) ≡ true → oldest ≡ slice_index_or locals 0 oldest → kept ≡ remove locals 0 → StopStepsAt (home_of oldest) oldest steps → StopsFirst (nat_le 32 (length locals)) locals kept steps
+first_stopped [] kept oldest steps full at is stops = absurd (true≢false (sym full))
+first_stopped (first ∷ rest) kept oldest steps full at is stops =
+    let n = eqb-true (length (first ∷ rest)) 32 full in
+    subst (λ t. StopsFirst t (first ∷ rest) kept steps) (sym (le-leb 32 (length (first ∷ rest)) (omega (arith, n)))) (is, subst (λ s. StopStepsAt (home_of s) s steps) at stops)
 
-pub first_removed : (xs : List Slots) (x : Slots) (ys : List Slots) → xs ≡ x ∷ ys → IsPermutation xs (x ∷ ys)
-first_removed xs x ys is = subst (IsPermutation xs) is (IsPermutation-refl xs)
-
-pub shortens_full : (locals : List Slots) (oldest : Slots) (rest : List Slots) (steps : List Made) → locals ≡ oldest ∷ rest → (length locals == 32) ≡ true → StopStepsAt (home_of oldest) oldest steps → IsShortened locals rest steps
-shortens_full locals oldest rest steps is all stops =
-    let n : length locals ≡ 32 = eqb-true (length locals) 32 all in
-    let long : length (oldest ∷ rest) ≡ 32 = ap length (sym is) ∙ n in
-    subst (λ xs. IsShortened xs rest steps) (sym is) (subst (λ t. StopsFirst t (oldest ∷ rest) rest steps) (sym (le-leb 32 (length (oldest ∷ rest)) (omega (arith, long)))) (refl, stops))
+pub shortens_full : {σ σ' : Standing} {locals kept : List Slots} → (length locals == 32) ≡ true → StopsPlace 0 locals kept σ σ' → Releases (IsShortened locals kept) locals kept σ σ'
+shortens_full {locals = locals} {kept = kept} full h = releases_as h.stops (λ steps one. record { first = first_stopped locals kept h.slots steps full h.at h.fewer one.order; few = one.few })
 
 pub shortens_none : (locals : List Slots) → (length locals == 32) ≡ false → length locals ≤ 32 → IsShortened locals locals []
-shortens_none [] other le = (refl, refl)
+shortens_none [] other le = record { first = (refl, refl); few = omega arith }
 shortens_none (first ∷ rest) other le =
     let ne = eqb-false (length (first ∷ rest)) 32 other in
-    subst (λ t. StopsFirst t (first ∷ rest) (first ∷ rest) []) (sym (lt-leb 32 (length (first ∷ rest)) (omega (arith, ne, le)))) (refl, refl)
+    record { first = subst (λ t. StopsFirst t (first ∷ rest) (first ∷ rest) []) (sym (lt-leb 32 (length (first ∷ rest)) (omega (arith, ne, le)))) (refl, refl); few = omega arith }
 
 -- ---- one call after another
 module _ {σ σ1 : Standing} {First : List Made → Type 0} (locals kept : List Slots) (one : Releases First locals kept σ σ1) where
@@ -96,19 +102,16 @@ module _ {σ σ1 : Standing} {First : List Made → Type 0} (locals kept : List 
   releases_then Change rest two change = record { steps = two.steps ++ one.steps; calls = rests_then rest two.steps two.calls; change = change; kinds = only_both releasing two.steps one.steps two.kinds one.kinds }
 
 -- ---- all are stopped, the last one first
-pub last_popped : (xs : List Slots) (x : Slots) (ys : List Slots) → xs ≡ ys ++ x ∷ [] → IsPermutation xs (x ∷ ys)
-last_popped xs x ys is = subst (λ zs. IsPermutation zs (x ∷ ys)) (sym is) (IsPermutation-to_front ys x)
+pub popped : {σ σ' : Standing} {locals rest : List Slots} {place : ℕ} → place + 1 ≡ length locals → (h : StopsPlace place locals rest σ σ') → locals ≡ rest ++ h.slots ∷ []
+popped {locals = locals} {rest = rest} {place = place} last h = at_end locals place h.slots last ∙ (ap (λ xs. xs ++ slice_index_or locals place h.slots ∷ []) (sym h.fewer) ∙ ap (λ s. rest ++ s ∷ []) (sym h.at))
 
-pub stops_more : {σ σ1 σ2 : Standing} (locals kept rest : List Slots) (x : Slots) (stopped : List Slots) → kept ≡ rest ++ x ∷ [] → (one : Releases (StopsEach stopped) locals kept σ σ1) → StopsAt (home_of x) x σ1 σ2 → Releases (StopsEach (x ∷ stopped)) locals rest σ σ2
-stops_more locals kept rest x stopped is one stops =
-    let n = length-append stops.steps one.steps in
-    let here = stops.few in
+pub stops_more : {σ σ1 σ2 : Standing} {place : ℕ} (locals kept rest stopped : List Slots) → (one : Releases (StopsEach stopped) locals kept σ σ1) → (h : StopsPlace place kept rest σ1 σ2) → Releases (StopsEach (h.slots ∷ stopped)) locals rest σ σ2
+stops_more locals kept rest stopped one h =
+    let two = h.stops in
+    let n = length-append two.steps one.steps in
+    let here = two.change.few in
     let before = one.change.few in
-    releases_then locals kept one (StopsEach (x ∷ stopped)) rest (releases_by kept x rest (last_popped kept x rest is) (StopStepsAt (home_of x) x) stops stops.order) (record { order = (stops.steps, one.steps, stops.order, one.change.order, refl); few = omega (arith, n, here, before) })
-
-pub nil_from : (xs ys : List Slots) → (0 < length xs → ⊥) → xs ≡ ys → ys ≡ []
-nil_from [] ys none is = sym is
-nil_from (x ∷ xs) ys none is = absurd (none (omega arith))
+    releases_then locals kept one (StopsEach (h.slots ∷ stopped)) rest two (record { order = (two.steps, one.steps, two.change.order, one.change.order, refl); few = omega (arith, n, here, before) })
 
 pub all_stopped : {σ σ1 : Standing} (locals kept stopped : List Slots) → kept ≡ [] → locals ≡ kept ++ stopped → Releases (StopsEach stopped) locals kept σ σ1 → Releases (StopsEach locals) locals [] σ σ1
 all_stopped {σ} {σ1} locals kept stopped empty whole releases =

@@ -50,9 +50,16 @@ abbrev pub LeavesSpent : Option Slots → List Made → Type 0
 LeavesSpent None steps = steps ≡ []
 LeavesSpent (Some slots) steps = IsEmpty slots.starts × LeavesWhere slots.right slots.page (home_of slots) steps
 
+-- it is stopped, by at most 23 steps
+pub record StopsOne (slots : Slots) (steps : List Made) : Type 0 where
+  pub order : StopStepsAt (home_of slots) slots steps
+  pub few : length steps ≤ 23
+
 -- the local allocator of the heap and the class, which has no slot, is taken out, where there is one
-abbrev pub IsTakenOut : ℕ → ℕ → List Slots → List Slots → List Made → Type 0
-IsTakenOut heap class locals locals' steps = LeavesSpent (local_for heap class locals) steps × (locals' ≡ others_than heap class locals)
+pub record IsTakenOut (heap class : ℕ) (locals locals' : List Slots) (steps : List Made) : Type 0 where
+  pub left : LeavesSpent (local_for heap class locals) steps
+  pub others : locals' ≡ others_than heap class locals
+  pub few : length steps ≤ 23
 
 -- the first is stopped where the list is full
 abbrev pub StopsFirst : Bool → List Slots → List Slots → List Made → Type 0
@@ -61,8 +68,9 @@ StopsFirst true (oldest ∷ rest) locals' steps = (locals' ≡ rest) × StopStep
 StopsFirst false (oldest ∷ rest) locals' steps = (locals' ≡ oldest ∷ rest) × (steps ≡ [])
 
 -- where 32 are there, the one used longest ago is stopped
-abbrev pub IsShortened : List Slots → List Slots → List Made → Type 0
-IsShortened locals locals' steps = StopsFirst (nat_le 32 (length locals)) locals locals' steps
+pub record IsShortened (locals locals' : List Slots) (steps : List Made) : Type 0 where
+  pub first : StopsFirst (nat_le 32 (length locals)) locals locals' steps
+  pub few : length steps ≤ 23
 
 -- all are stopped, the last one first
 abbrev pub StopsAll : List Slots → List Made → Type 0

@@ -1,6 +1,6 @@
 -- Local allocators: each is the unused slots of one page that a thread got for a heap and a class. A list of them is in order of last use, the
 -- last used at the end.
-use Rattle.std.specs.Prelude.{ℕ, ◌≤◌, ◌≡◌, ◌==◌, Bool, true, ◌&&◌, not, List, Option, All}
+use Rattle.std.specs.Prelude.{ℕ, ◌<◌, ◌≤◌, ◌≡◌, ◌==◌, Bool, true, ◌&&◌, not, List, length, Option, All, slice_index_or}
 use Rattle.std.specs.List.{list_any, find, filter, count_by}
 use Rattle.pas_profile.specs.Classes.{IsClass}
 use Rattle.pas_profile.specs.Profiles.{IsPage, IsDirectoryOf}
@@ -35,6 +35,11 @@ is_for heap class slots = (slots.heap == heap) && (slots.class == class)
 -- the local allocator of the heap and the class
 abbrev pub local_for : ℕ → ℕ → List Slots → Option Slots
 local_for heap class locals = find (is_for heap class) locals
+
+-- the one at this place is that
+pub record IsPlaceOf (heap class : ℕ) (locals : List Slots) (place : ℕ) : Type 0 where
+  pub within : place < length locals
+  pub serves : (d : Slots) → is_for heap class (slice_index_or locals place d) ≡ true
 
 -- those of other heaps or classes
 abbrev pub others_than : ℕ → ℕ → List Slots → List Slots

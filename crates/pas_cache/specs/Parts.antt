@@ -1,5 +1,5 @@
 -- What the parts of the calls ask and promise.
-use Rattle.std.specs.Prelude.{ℕ, ◌^◌, ◌<◌, ◌≤◌, ◌≡◌, Bool, true, false, List, ◌++◌, length, None, Option, Result, MatchResult, MatchOption}
+use Rattle.std.specs.Prelude.{ℕ, ◌^◌, ◌<◌, ◌≤◌, ◌≡◌, Bool, true, false, List, [], ◌∷◌, ◌++◌, length, remove, slice_index_or, Some, Result, Ok, MatchResult}
 use Rattle.pas_profile.specs.declared.event.NoRoom.{NoRoom}
 use Rattle.pas_profile.specs.declared.name.Block.{Block}
 use Rattle.pas_profile.specs.declared.profile.Profile.{Profile}
@@ -17,9 +17,9 @@ use Rattle.pas_bits.specs.Masks.{HasMember}
 use Rattle.pas_segregated.specs.Stops.{home_of}
 use Rattle.pas_segregated.specs.Refills.{Filling}
 use Rattle.pas_segregated.specs.declared.slots.Slots.{Slots}
-use Rattle.pas_cache.specs.Locals.{covers, local_for, IsLocal, RestsWith}
-use Rattle.pas_cache.specs.Changes.{GivesSlot}
-use Rattle.pas_cache.specs.Serves.{FindsCached, MakesPlace, IsObtained, ServesLocals, class_wanted, IsBlockFor, MakesFew, IsSilent, HasNoneCached, IsToldBy}
+use Rattle.pas_cache.specs.Locals.{covers, local_for, others_than, IsLocal, RestsWith}
+use Rattle.pas_cache.specs.Changes.{GivesSlot, StopsOne}
+use Rattle.pas_cache.specs.Serves.{IsObtained, ServesLocals, class_wanted, IsBlockFor, MakesFew, IsSilent, IsToldBy}
 
 -- an actor at rest with the one list is at rest with the other after these steps
 abbrev pub Rests : List Slots → List Slots → Standing → Standing → List Made → Type 0
@@ -45,14 +45,20 @@ pub record Releases (Change : List Made → Type 0) (locals locals' : List Slots
   pub change : Change steps
   pub kinds : Only releasing steps
 
+-- the one at this place goes, and is stopped
+pub record StopsPlace (place : ℕ) (locals locals' : List Slots) (desk desk' : Standing) : Type 0 where
+  pub slots : Slots
+  pub at : slots ≡ slice_index_or locals place slots
+  pub fewer : locals' ≡ remove locals place
+  pub stops : Releases (StopsOne slots) locals locals' desk desk'
+
 -- ---- slots are obtained
--- a cached slot is found, or place is made for others
-pub record TakesCached (heap class : ℕ) (locals fewer : List Slots) (desk desk' : Standing) (taken : Option Slots) : Type 0 where
-  pub steps : List Made
-  pub calls : Rests locals (cons_option taken fewer) desk desk' steps
-  pub how : MatchOption taken (MakesPlace heap class locals fewer steps × HasNoneCached heap class locals × (local_for heap class fewer ≡ None)) (λ slots. FindsCached heap class locals fewer slots steps)
-  pub kinds : Only releasing steps
-  pub place : length fewer < 32
+-- the local allocator of the heap and the class has a slot, and stands at the end
+pub record BringsCached (heap class : ℕ) (locals locals' : List Slots) : Type 0 where
+  pub slots : Slots
+  pub cached : local_for heap class locals ≡ Some slots
+  pub some : HasMember slots.starts
+  pub last : locals' ≡ others_than heap class locals ++ slots ∷ []
 
 -- the actor is at rest with the local allocators, and there is room for n events, and for a deed besides where that may be needed
 pub record MayObtain (f : Profile) (n spare : ℕ) (locals : List Slots) (v : View) : Type 0 where
@@ -75,6 +81,13 @@ pub record Obtains (fill : Filling) (tells : Bool) (locals fewer : List Slots) (
   pub few : MakesFew desk.seat.profile (RestsWith desk.seat.profile locals) 1 steps
   pub told : tells ≡ true → (v : View) (l : Whole) → desk.stands v l → RestsWith desk.seat.profile locals v
       → IsToldBy fill desk.seat.profile locals l (triples desk.seat.actor steps ++ l) found
+
+-- the slots that were found stand at the end of the list, behind the others
+pub record StandsLast (fill : Filling) (tells : Bool) (locals locals' : List Slots) (desk desk' : Standing) : Type 0 where
+  pub fewer : List Slots
+  pub slots : Slots
+  pub obtains : Obtains fill tells locals fewer desk desk' (Ok slots)
+  pub last : locals' ≡ fewer ++ slots ∷ []
 
 -- ---- a request is served from the local allocators
 pub record ServesFrom (fill : Filling) (tells : Bool) (locals locals' : List Slots) (desk desk' : Standing) (answer : Result Block NoRoom) : Type 0 where

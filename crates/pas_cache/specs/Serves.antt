@@ -80,7 +80,7 @@ pub record FindsCached (heap class : ℕ) (locals fewer : List Slots) (slots : S
   pub fewer_are : fewer ≡ others_than heap class locals
   pub no_steps : steps ≡ []
 
--- No slot is cached: the local allocator of the heap and the class is taken out, and the list is shortened where it is full.
+-- No slot is cached: the local allocator of the heap and the class is taken out, and the list is shortened where it is full. At most 46 steps.
 pub record MakesPlace (heap class : ℕ) (locals fewer : List Slots) (steps : List Made) : Type 0 where
   pub spent : List Made
   pub kept : List Slots
@@ -88,6 +88,7 @@ pub record MakesPlace (heap class : ℕ) (locals fewer : List Slots) (steps : Li
   pub stopped : List Made
   pub shortened : IsShortened kept fewer stopped
   pub steps_are : steps ≡ stopped ++ spent
+  pub few : length steps ≤ 46
 
 -- what a refill for the class is of, in pages of this directory
 abbrev pub filling_in : Directory → ℕ → Filling

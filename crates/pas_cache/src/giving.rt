@@ -10,12 +10,13 @@ use pas_profile::{Address, Block, Name, Word, read_life};
 use pas_segregated::Slots;
 use pas_steps::Desk;
 
-/// Gives the lowest of the slots, and answers the others and the block. Two steps and one event.
-pub fn give_lowest<D: Desk>(desk: &mut D, mut slots: Slots) -> (Slots, Block)
-    requires some { HasMember slots.starts }
-    requires can { CanCall (D.standing desk.old) (λ v l. MayGiveSlot (D.standing desk.old).seat.profile slots v) }
+/// Gives the lowest of the slots, of which the others are left. Two steps and one event.
+#[inline(always)]
+pub fn give_lowest<D: Desk>(desk: &mut D, slots: &mut Slots) -> Block
+    requires some { HasMember slots.old.starts }
+    requires can { CanCall (D.standing desk.old) (λ v l. MayGiveSlot (D.standing desk.old).seat.profile slots.old v) }
     requires room { 1 ≤ D.spare_of desk.old }
-    ensures gives { GivesLowest slots result.0 result.1 (D.standing desk.old) (D.standing desk.new) }
+    ensures gives { GivesLowest slots.old slots.new result (D.standing desk.old) (D.standing desk.new) }
     ensures home { D.home desk.new ≡ D.home desk.old }
 {
     let Some(start) = slots.starts.first_set_from(0) else {
@@ -32,5 +33,5 @@ pub fn give_lowest<D: Desk>(desk: &mut D, mut slots: Slots) -> (Slots, Block)
     };
     desk.give(block);
     slots.starts.clear(start);
-    (slots, block)
+    block
 }

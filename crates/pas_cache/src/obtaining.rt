@@ -1,14 +1,14 @@
 //! Slots are obtained for a request.
-ghost use Rattle.std.specs.Prelude.{◌≡◌, ◌<◌, length};
+ghost use Rattle.std.specs.Prelude.{◌≡◌, ◌<◌, None, Err, MatchResult, length};
 ghost use Rattle.pas_steps.specs.Desks.{CanCall};
-ghost use Rattle.pas_cache.specs.Locals.{RestsWith};
-ghost use Rattle.pas_cache.specs.Changes.{IsShortened};
+ghost use Rattle.pas_cache.specs.Locals.{local_for, RestsWith};
 ghost use Rattle.pas_segregated.specs.Refills.{exclusive_slots};
-ghost use Rattle.pas_cache.specs.Serves.{IsFilling};
-ghost use Rattle.pas_cache.specs.Parts.{Releases, TakesCached, MayObtain, Obtains};
+ghost use Rattle.pas_cache.specs.Parts.{Releases, MayObtain, Obtains, StandsLast};
+ghost use Rattle.pas_cache.specs.Changes.{IsTakenOut, IsShortened};
+ghost use Rattle.pas_cache.specs.Serves.{IsFilling, MakesPlace, HasNoneCached};
 
-use crate::giving_up::give_up;
-use crate::taking::{has_slot, take_out};
+use crate::stopping::stop_at;
+use crate::taking::{bring_cached, place_of};
 use arrayvec::ArrayVec;
 use pas_profile::NoRoom;
 use pas_profile::limits::MOST_LOCALS;
@@ -24,50 +24,86 @@ fn shorten<D: Desk>(desk: &mut D, locals: &mut ArrayVec<Slots, MOST_LOCALS>)
     ensures home { D.home desk.new ≡ D.home desk.old }
 {
     if locals.is_full() {
-        let oldest = locals.remove(0);
-        give_up(desk, oldest);
+        stop_at(desk, locals, 0);
     }
 }
 
-/// Takes the local allocator of the heap and the class out of the list where it has a slot. Otherwise one without a slot is left, and the one used
-/// longest ago is stopped where 32 are there. At most 46 steps, and no event.
-fn take_cached<D: Desk>(
+/// Takes the local allocator of the heap and the class, which has no slot, out of the list, and leaves its page. At most 23 steps, and no event.
+fn leave_spent<D: Desk>(
     desk: &mut D,
     locals: &mut ArrayVec<Slots, MOST_LOCALS>,
     heap: u8,
     class: u8,
-) -> Option<Slots>
+)
+    requires none { HasNoneCached heap class locals.old.items }
     requires can { CanCall (D.standing desk.old) (λ v l. RestsWith (D.standing desk.old).seat.profile locals.old.items v) }
-    ensures takes { TakesCached heap class locals.old.items locals.new.items (D.standing desk.old) (D.standing desk.new) result }
+    ensures leaves { Releases (IsTakenOut heap class locals.old.items locals.new.items) locals.old.items locals.new.items (D.standing desk.old) (D.standing desk.new) }
     ensures spare { D.spare_of desk.new ≡ D.spare_of desk.old }
     ensures home { D.home desk.new ≡ D.home desk.old }
 {
-    let Some(slots) = take_out(locals, heap, class) else {
-        shorten(desk, locals);
-        return None;
-    };
-    if has_slot(&slots) {
-        return Some(slots);
+    if let Some(place) = place_of(locals, heap, class) {
+        stop_at(desk, locals, place);
     }
-    give_up(desk, slots);
-    shorten(desk, locals);
-    None
 }
 
-/// Takes the local allocator of the heap and the class out of the list where it has a slot, and gets new slots otherwise.
+/// Makes place for a local allocator of the heap and the class, of which none has a slot: one without a slot is left, and the one used longest
+/// ago is stopped where 32 are there. At most 46 steps, and no event.
+fn make_place<D: Desk>(desk: &mut D, locals: &mut ArrayVec<Slots, MOST_LOCALS>, heap: u8, class: u8)
+    requires none { HasNoneCached heap class locals.old.items }
+    requires can { CanCall (D.standing desk.old) (λ v l. RestsWith (D.standing desk.old).seat.profile locals.old.items v) }
+    ensures makes { Releases (MakesPlace heap class locals.old.items locals.new.items) locals.old.items locals.new.items (D.standing desk.old) (D.standing desk.new) }
+    ensures none { local_for heap class locals.new.items ≡ None }
+    ensures few { length locals.new.items < 32 }
+    ensures spare { D.spare_of desk.new ≡ D.spare_of desk.old }
+    ensures home { D.home desk.new ≡ D.home desk.old }
+{
+    leave_spent(desk, locals, heap, class);
+    shorten(desk, locals);
+}
+
+/// Gets new slots for the heap and the class, of which none is cached. They come to the end of the list.
+#[inline(never)]
+fn fetch<D: Desk>(
+    desk: &mut D,
+    locals: &mut ArrayVec<Slots, MOST_LOCALS>,
+    heap: u8,
+    class: u8,
+) -> Result<(), NoRoom>
+    requires filling { IsFilling (D.standing desk.old).seat.profile (exclusive_slots heap class) }
+    requires none { HasNoneCached heap class locals.old.items }
+    requires can { CanCall (D.standing desk.old) (λ v l. MayObtain (D.standing desk.old).seat.profile 1 (D.spare_of desk.old) locals.old.items v) }
+    ensures obtains { MatchResult result
+        (λ done. StandsLast (exclusive_slots heap class) D.tells locals.old.items locals.new.items (D.standing desk.old) (D.standing desk.new))
+        (λ room. Obtains (exclusive_slots heap class) D.tells locals.old.items locals.new.items (D.standing desk.old) (D.standing desk.new) (Err room)) }
+    ensures home { D.home desk.new ≡ D.home desk.old }
+{
+    make_place(desk, locals, heap, class);
+    match refill(desk, heap, class) {
+        Ok(slots) => {
+            locals.push(slots);
+            Ok(())
+        }
+        Err(room) => Err(room),
+    }
+}
+
+/// Brings the local allocator of the heap and the class to the end of the list where it has a slot, and gets new slots otherwise.
+#[inline(always)]
 pub fn obtain<D: Desk>(
     desk: &mut D,
     locals: &mut ArrayVec<Slots, MOST_LOCALS>,
     heap: u8,
     class: u8,
-) -> Result<Slots, NoRoom>
+) -> Result<(), NoRoom>
     requires filling { IsFilling (D.standing desk.old).seat.profile (exclusive_slots heap class) }
     requires can { CanCall (D.standing desk.old) (λ v l. MayObtain (D.standing desk.old).seat.profile 1 (D.spare_of desk.old) locals.old.items v) }
-    ensures obtains { Obtains (exclusive_slots heap class) D.tells locals.old.items locals.new.items (D.standing desk.old) (D.standing desk.new) result }
+    ensures obtains { MatchResult result
+        (λ done. StandsLast (exclusive_slots heap class) D.tells locals.old.items locals.new.items (D.standing desk.old) (D.standing desk.new))
+        (λ room. Obtains (exclusive_slots heap class) D.tells locals.old.items locals.new.items (D.standing desk.old) (D.standing desk.new) (Err room)) }
     ensures home { D.home desk.new ≡ D.home desk.old }
 {
-    match take_cached(desk, locals, heap, class) {
-        Some(slots) => Ok(slots),
-        None => refill(desk, heap, class),
+    if bring_cached(locals, heap, class) {
+        return Ok(());
     }
+    fetch(desk, locals, heap, class)
 }

@@ -15,6 +15,7 @@ use pas_segregated::Slots;
 use pas_steps::Desk;
 
 /// Serves a request of the class from the local allocators.
+#[inline(always)]
 fn serve<D: Desk>(
     desk: &mut D,
     locals: &mut ArrayVec<Slots, MOST_LOCALS>,
@@ -28,10 +29,9 @@ fn serve<D: Desk>(
 {
     match obtain(desk, locals, heap, class) {
         Err(room) => Err(room),
-        Ok(slots) => {
-            let (rest, block) = give_lowest(desk, slots);
-            locals.push(rest);
-            Ok(block)
+        Ok(()) => {
+            let last = locals.len() - 1;
+            Ok(give_lowest(desk, &mut locals[last]))
         }
     }
 }
@@ -52,6 +52,7 @@ impl ThreadCache {
     /// left, the one used longest ago is stopped where 32 are there, and new slots are searched for: in the offered pages from the lowest up,
     /// then in the lowest page without a deed. `NoSpace` and `Held` come where there is neither: `Held` with the lowest page of the directory
     /// that was in some actor's hands. There is room for two events, and for a third one where the deed of some page isn't known.
+    #[inline(always)]
     pub fn alloc<D: Desk>(
         &mut self,
         desk: &mut D,

@@ -1,9 +1,9 @@
 //! A cache is stopped.
-ghost use Rattle.std.specs.Prelude.{◌≡◌, []};
+ghost use Rattle.std.specs.Prelude.{◌≡◌, ◌<◌, ◌+◌, [], length};
 ghost use Rattle.pas_steps.specs.Desks.{CanCall};
 ghost use Rattle.pas_cache.specs.Locals.{RestsWith};
 ghost use Rattle.pas_cache.specs.Changes.{StopsEach};
-ghost use Rattle.pas_cache.specs.Parts.{Releases};
+ghost use Rattle.pas_cache.specs.Parts.{Releases, StopsPlace};
 
 use crate::cache::ThreadCache;
 use crate::giving_up::give_up;
@@ -13,6 +13,19 @@ use pas_profile::limits::MOST_LOCALS;
 use pas_segregated::Slots;
 use pas_steps::Desk;
 
+/// Takes the local allocator at this place out of the list and stops it. At most 23 steps, and no event.
+pub fn stop_at<D: Desk>(desk: &mut D, locals: &mut ArrayVec<Slots, MOST_LOCALS>, place: usize)
+    requires place { place < length locals.old.items }
+    requires can { CanCall (D.standing desk.old) (λ v l. RestsWith (D.standing desk.old).seat.profile locals.old.items v) }
+    ensures stops { StopsPlace place locals.old.items locals.new.items (D.standing desk.old) (D.standing desk.new) }
+    ensures fewer { length locals.new.items + 1 ≡ length locals.old.items }
+    ensures spare { D.spare_of desk.new ≡ D.spare_of desk.old }
+    ensures home { D.home desk.new ≡ D.home desk.old }
+{
+    let slots = locals.remove(place);
+    give_up(desk, slots);
+}
+
 /// Stops all local allocators, from the last used one on. At most 23 steps for each, and no event.
 fn stop_all<D: Desk>(desk: &mut D, locals: &mut ArrayVec<Slots, MOST_LOCALS>)
     requires can { CanCall (D.standing desk.old) (λ v l. RestsWith (D.standing desk.old).seat.profile locals.old.items v) }
@@ -21,8 +34,8 @@ fn stop_all<D: Desk>(desk: &mut D, locals: &mut ArrayVec<Slots, MOST_LOCALS>)
     ensures spare { D.spare_of desk.new ≡ D.spare_of desk.old }
     ensures home { D.home desk.new ≡ D.home desk.old }
 {
-    while let Some(slots) = locals.pop() {
-        give_up(desk, slots);
+    while let Some(last) = locals.len().checked_sub(1) {
+        stop_at(desk, locals, last);
     }
 }
 

@@ -1,36 +1,67 @@
-//! Local allocators are looked for and taken out of their list.
-ghost use Rattle.std.specs.Prelude.{◌≡◌, ◌≤◌, MatchBool, length};
+//! Local allocators are looked for in their list.
+ghost use Rattle.std.specs.Prelude.{◌≡◌, ◌<◌, ◌++◌, ◌∷◌, [], false, MatchBool, MatchOption, length, remove, slice_index_or};
+ghost use Rattle.std.specs.List.{list_any};
 ghost use Rattle.pas_bits.specs.Masks.{HasMember, IsEmpty};
-ghost use Rattle.pas_cache.specs.Locals.{is_for, local_for, others_than};
+ghost use Rattle.pas_segregated.specs.declared.slots.Slots.{Slots as Local};
+ghost use Rattle.pas_cache.specs.Locals.{is_for, HasOneEach, IsPlaceOf};
+ghost use Rattle.pas_cache.specs.Parts.{BringsCached};
+ghost use Rattle.pas_cache.specs.Serves.{HasNoneCached};
 
-use arrayvec::ArrayVec;
-use pas_profile::limits::MOST_LOCALS;
 use pas_segregated::Slots;
 
 /// Whether a slot is left.
-pub fn has_slot(slots: &Slots) -> bool
+#[inline(always)]
+fn has_slot(slots: &Slots) -> bool
     ensures { MatchBool result (HasMember slots.now.starts) (IsEmpty slots.now.starts) }
 {
     slots.starts.first_set_from(0).is_some()
 }
 
 /// Whether it serves this heap and class.
+#[inline(always)]
 fn serves(slots: &Slots, heap: u8, class: u8) -> bool
     ensures { result ≡ is_for heap class slots.now }
 {
     slots.heap == heap && slots.class == class
 }
 
-/// Takes the local allocator of the heap and the class out of the list, where there is one.
-pub fn take_out(locals: &mut ArrayVec<Slots, MOST_LOCALS>, heap: u8, class: u8) -> Option<Slots>
-    ensures found { result ≡ local_for heap class locals.old.items }
-    ensures others { locals.new.items ≡ others_than heap class locals.old.items }
-    ensures fits { length locals.old.items ≤ 32 }
+/// The place of the local allocator of the heap and the class, looked for from the last used one on.
+#[inline(always)]
+pub fn place_of(locals: &[Slots], heap: u8, class: u8) -> Option<usize>
+    ensures { MatchOption result (list_any (is_for heap class) locals.now ≡ false) (IsPlaceOf heap class locals.now) }
 {
-    let found = locals
-        .iter()
-        .find(|slots| serves(slots, heap, class))
-        .copied();
-    locals.retain(|slots| !serves(slots, heap, class));
-    found
+    let mut place = locals.len();
+    while place > 0 {
+        place -= 1;
+        if serves(&locals[place], heap, class) {
+            return Some(place);
+        }
+    }
+    None
+}
+
+/// Moves the one at this place to the end.
+fn move_to_end(locals: &mut [Slots], place: usize)
+    requires { place < length locals.old }
+    ensures { (d : Local) → locals.new ≡ remove locals.old place ++ slice_index_or locals.old place d ∷ [] }
+{
+    locals[place..].rotate_left(1);
+}
+
+/// Brings the local allocator of the heap and the class to the end of the list, where it has a slot. False where none has.
+#[inline(always)]
+pub fn bring_cached(locals: &mut [Slots], heap: u8, class: u8) -> bool
+    requires { HasOneEach locals.old }
+    ensures { MatchBool result (BringsCached heap class locals.old locals.new) (HasNoneCached heap class locals.old × (locals.new ≡ locals.old)) }
+{
+    let Some(place) = place_of(locals, heap, class) else {
+        return false;
+    };
+    if !has_slot(&locals[place]) {
+        return false;
+    }
+    if place + 1 < locals.len() {
+        move_to_end(locals, place);
+    }
+    true
 }

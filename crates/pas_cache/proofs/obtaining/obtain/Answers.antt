@@ -1,25 +1,19 @@
-use Rattle.std.proofs.Common.{sym, subst}
-use Rattle.pas_steps.specs.Desks.{Seat}
+use Rattle.std.proofs.Common.{◌≤◌, ap, length, sym, subst, ◌∙◌}
 use Rattle.pas_segregated.specs.Refills.{exclusive_slots}
-use Rattle.pas_cache.specs.Serves.{IsFilling}
-use Rattle.pas_cache.proofs.Obtained.{obtain_rests, obtain_after, obtains_cached, obtains_refilled}
-use Rattle.pas_cache.proofs.Refills.{search_call}
+use Rattle.pas_cache.proofs.Locals.{refill_same}
+use Rattle.pas_cache.specs.Locals.{HasOneEach}
+use Rattle.pas_cache.specs.Parts.{BringsCached, StandsLast}
+use Rattle.pas_cache.proofs.Obtained.{obtain_rests, obtains_cached}
 use Rattle.pas_cache.proofs.obtaining.obtain.Goals as goal
 
-pub take_cached-requires : goal.take_cached-requires
-take_cached-requires g c = record { can = obtain_rests c.requires.can }
+pub bring_cached-requires : goal.bring_cached-requires
+bring_cached-requires g c = subst HasOneEach (sym c.deref_mut.ensures.value) c.requires.can.met.rest.apart.one_each
 
-pub returns-in-Some-clause-obtains : goal.returns-in-Some-clause-obtains
-returns-in-Some-clause-obtains g c = obtains_cached (exclusive_slots c.args.heap c.args.class) g.D.Desk.tells _ _ c.in-Some.slots c.requires.filling (obtain_rests c.requires.can) c.in-Some.ensures.takes
-
-pub refill-requires : goal.refill-requires
-refill-requires g c =
-    let place = c.in-None.ensures.takes in
-    let here = subst (λ (s : Seat). IsFilling s.profile (exclusive_slots c.args.heap c.args.class)) (sym place.calls.adds.seat_is) c.requires.filling in
-    record {
-      directory = here.directory;
-      can = search_call (exclusive_slots c.args.heap c.args.class) c.take_cached.new.locals.items here place.how.2 (obtain_after _ _ place c.in-None.ensures.spare c.requires.can);
-    }
-
-pub returns-in-None-clause-obtains : goal.returns-in-None-clause-obtains
-returns-in-None-clause-obtains g c = obtains_refilled (exclusive_slots c.args.heap c.args.class) g.D.Desk.tells _ _ c.refill.result c.requires.filling c.in-None.ensures.takes c.refill.ensures.refills
+pub returns-then-bring_cached-clause-obtains : goal.returns-then-bring_cached-clause-obtains
+returns-then-bring_cached-clause-obtains g c =
+    let value = c.deref_mut.ensures.value in
+    let now = c.bring_cached.new.locals in
+    let n = ap length value in
+    let fits = c.deref_mut.ensures.fits in
+    subst (λ xs. StandsLast (exclusive_slots c.args.heap c.args.class) g.D.Desk.tells c.args.locals.now.items xs (g.D.Desk.standing c.args.desk.now) (g.D.Desk.standing c.args.desk.now)) (sym (refill_same c.args.locals.now.items now (c.bring_cached.auto.locals ∙ n)))
+    (obtains_cached (exclusive_slots c.args.heap c.args.class) g.D.Desk.tells c.args.locals.now.items now c.requires.filling (obtain_rests c.requires.can) (subst (λ k. k ≤ 32) n fits) (subst (λ xs. BringsCached c.args.heap c.args.class xs now) value c.if-bring_cached.ensures))

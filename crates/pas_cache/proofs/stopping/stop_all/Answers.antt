@@ -1,32 +1,29 @@
-use Rattle.std.proofs.Common.{◌∷◌, ◌∙◌, ap, true≢false, append_assoc, append-nil, arith, refl, [], ◌++◌, sym}
-use Rattle.pas_cache.proofs.Below.{stop_only}
-use Rattle.pas_cache.proofs.Stops.{rests_call, local_of, may_call, releases_none, spare_kept, last_popped, stops_more, nil_from, all_stopped}
+use Rattle.std.proofs.Common.{◌≤◌, ◌∷◌, ◌∙◌, ap, append_assoc, append-nil, arith, refl, [], ◌++◌, sym}
+use Rattle.std.proofs.lemmas.List.{nil_from_length}
+use Rattle.pas_cache.proofs.Stops.{rests_call, releases_none, popped, stops_more, all_stopped}
 use Rattle.pas_cache.proofs.stopping.stop_all.Goals as goal
 
-pub loop-slots-init : goal.loop-slots-init
-loop-slots-init g c = record { stopped = []; whole = sym (append-nil c.args.locals.now.items); releases = releases_none _ c.args.locals.now.items (record { order = refl; few = omega arith }); spare = refl; home = refl }
+pub loop-last-init : goal.loop-last-init
+loop-last-init g c = record { stopped = []; whole = sym (append-nil c.args.locals.now.items); releases = releases_none _ c.args.locals.now.items (record { order = refl; few = omega arith }); spare = refl; home = refl }
 
-pub give_up-requires : goal.give_up-requires
-give_up-requires g c =
-    let can = rests_call _ _ c.loop-slots.invariant.releases c.requires.can in
-    let moved = last_popped _ _ _ c.in-Some.ensures.items in
-    let here = local_of _ _ _ moved can in
-    record { page = here.page; directory = here.directory; class = here.class; starts = here.starts; can = may_call _ _ _ moved can }
+pub stop_at-requires-clause-can : goal.stop_at-requires-clause-can
+stop_at-requires-clause-can g c = rests_call _ _ c.loop-last.invariant.releases c.requires.can
 
-pub loop-slots-preserved : goal.loop-slots-preserved
-loop-slots-preserved g c =
-    let i = c.loop-slots.invariant in let s = c.give_up.ensures.stops in let x = c.in-Some.slots in
+pub loop-last-preserved : goal.loop-last-preserved
+loop-last-preserved g c =
+    let i = c.loop-last.invariant in let h = c.stop_at.ensures.stops in
     record {
-      stopped = x ∷ i.stopped;
-      whole = i.whole ∙ (ap (λ xs. xs ++ i.stopped) c.in-Some.ensures.items ∙ append_assoc c.pop.new.self.items (x ∷ []) i.stopped);
-      releases = stops_more _ _ _ x i.stopped c.in-Some.ensures.items i.releases s;
-      spare = spare_kept s.calls.adds (may_call _ _ _ (last_popped _ _ _ c.in-Some.ensures.items) (rests_call _ _ i.releases c.requires.can)) (stop_only s)
-          (λ v l q. g.met.D.Desk.spares c.loop-slots.desk v l q) (λ v l q. g.met.D.Desk.spares c.give_up.new.desk v l q) ∙ i.spare;
-      home = c.give_up.ensures.home ∙ i.home;
+      stopped = h.slots ∷ i.stopped;
+      whole = i.whole ∙ (ap (λ xs. xs ++ i.stopped) (popped (let n = c.len.ensures.value in let some = c.in-Some.ensures.0 in let last = c.in-Some.ensures.1 in omega (arith, n, some, last)) h) ∙ append_assoc c.stop_at.new.locals.items (h.slots ∷ []) i.stopped);
+      releases = stops_more _ _ _ i.stopped i.releases h;
+      spare = c.stop_at.ensures.spare ∙ i.spare;
+      home = c.stop_at.ensures.home ∙ i.home;
     }
 
 pub returns : goal.returns
 returns g c =
-    let i = c.loop-slots.invariant in
-    let empty = nil_from _ _ (λ some. true≢false (sym (c.in_default.ensures.variant.1 some))) refl in
-    record { stops = all_stopped _ _ i.stopped empty i.whole i.releases; empty = nil_from c.loop-slots.locals.items _ (λ some. true≢false (sym (c.in_default.ensures.variant.1 some))) (c.in_default.ensures.items ∙ append-nil c.pop.new.self.items); spare = i.spare; home = i.home }
+    let i = c.loop-last.invariant in
+    let n = c.len.ensures.value in
+    let none : 1 ≤ c.len.result → ⊥ = c.in_default.ensures in
+    let empty = nil_from_length c.loop-last.locals.items (omega (arith, n, none)) in
+    record { stops = all_stopped _ _ i.stopped empty i.whole i.releases; empty = empty; spare = i.spare; home = i.home }

@@ -5,8 +5,8 @@ use Rattle.pas_cache.specs.Parts.{Releases}
 use Rattle.pas_cache.proofs.stopping.stop_all.Given as goal
 
 -- those from the last one on are stopped
-abbrev pub invariant-loop-slots : goal.invariant-loop-slots
-invariant-loop-slots g l = let D = g.D.Desk in record {
+abbrev pub invariant-loop-last : goal.invariant-loop-last
+invariant-loop-last g l = let D = g.D.Desk in record {
   stopped : List Slots;
   whole : l.fn.locals.items ≡ l.locals.items ++ stopped;
   releases : Releases (StopsEach stopped) l.fn.locals.items l.locals.items (D.standing l.fn.desk) (D.standing l.desk);
@@ -14,5 +14,5 @@ invariant-loop-slots g l = let D = g.D.Desk in record {
   home : D.home l.desk ≡ D.home l.fn.desk;
 }
 
-abbrev pub decreases-loop-slots : goal.decreases-loop-slots
-decreases-loop-slots g l = length l.locals.items
+abbrev pub decreases-loop-last : goal.decreases-loop-last
+decreases-loop-last g l = length l.locals.items
