@@ -8,8 +8,8 @@ use Rattle.pas_profile.specs.declared.event.Event.{Event}
 use Rattle.pas_profile.specs.Runs.{address_of}
 use Rattle.pas_machine.specs.State.{Live, live_in, gives_in}
 use Rattle.pas_machine.specs.Machine.{Admits, Run}
-use Rattle.pas_steps.specs.Views.{View, epoch_of, given_count, given_after}
-use Rattle.pas_steps.specs.Events.{event_of, events_of, with_event, reason_of}
+use Rattle.pas_steps.specs.Views.{given_after}
+use Rattle.pas_steps.specs.Events.{event_of, with_event, reason_of}
 use Rattle.pas_steps.specs.declared.step.Step.{Step}
 use Rattle.pas_steps.specs.declared.step.Step.TheVariants.{Deed, Back, End}
 use Rattle.pas_core.specs.Given.{WasGiven}
@@ -81,20 +81,12 @@ pub counts_few : (es : List Event) → count_gives es ≤ length es
 counts_few [] = omega arith
 counts_few (e ∷ es) = let rest = counted_few e (count_gives es) (length es) (counts_few es) in omega (arith, rest)
 
--- the gives of an actor are those of its events
+-- a step adds as many gives as its event is
 pub count_step : (k e : ℕ) (s : Step) (a : ℕ) (es : List Event) → count_gives (with_event (event_of k e s a) es) ≡ given_after s (count_gives es)
 count_step k e (Deed page directory) a es = event_if (λ x. count_gives x ≡ count_gives es) (a == 0) (Event.Deed k page directory) es refl refl
 count_step k e (Back page) a es = event_if (λ x. count_gives x ≡ count_gives es) (a == 0) (Event.Back k page) es refl refl
 count_step k e (End name guess) a es = end_if (λ x. count_gives x ≡ count_gives es) (a == live_word name.turn guess) (is_live a && (turn_of a == name.turn)) (Event.End k name e) (Event.Reject k name (reason_of name a)) es (λ hit. refl) refl refl
 count_step k e s a es = refl
-
-pub own_gives : (k : ℕ) (v : View) → count_gives (events_of k v) ≡ given_count v
-own_gives k [] = refl
-own_gives k (m ∷ v) = count_step k (epoch_of v) m.step m.answer (events_of k v) ∙ ap (given_after m.step) (own_gives k v)
-
--- an actor gave no more blocks than it has events
-pub given_few : (k : ℕ) (v : View) → given_count v ≤ length (events_of k v)
-given_few k v = let is = own_gives k v in let few = counts_few (events_of k v) in omega (arith, is, few)
 
 -- no address was given more often than there are events
 pub turns_few : (es : List Event) (address : ℕ) → gives_in es address ≤ length es

@@ -1,5 +1,5 @@
 -- Laws of one actor alone: bits of free and eligible words, and deed words, that steps of some kinds leave as they were.
-use Rattle.std.proofs.Common.{◌≡◌, ℕ, ◌/◌, Bool, true, false, if◌then◌else◌, List, [], ◌∷◌, ◌++◌, refl, ap, ◌∙◌, bit_or, true≢false}
+use Rattle.std.proofs.Common.{◌≡◌, ℕ, ◌/◌, true, false, if◌then◌else◌, List, [], ◌∷◌, ◌++◌, refl, ap, ◌∙◌, true≢false}
 use Rattle.pas_profile.specs.Classes.{has_bit}
 use Rattle.pas_profile.specs.Directories.{number_of}
 use Rattle.pas_profile.specs.Layouts.{same_word}
@@ -14,9 +14,8 @@ use Rattle.pas_steps.specs.declared.step.Made.{Made}
 use Rattle.pas_steps.specs.declared.step.Step.{Step}
 use Rattle.pas_steps.specs.declared.step.Step.TheVariants.{Look, Deed, Take, Put, TakeRight, Offer}
 use Rattle.pas_steps.proofs.Apart.{in_apart}
-use Rattle.pas_bits.proofs.Words.{bit_of_or}
 use Rattle.pas_core.proofs.DeedWords.{looked}
-use Rattle.std.proofs.lemmas.Bool.{or_left}
+use Rattle.pas_core.proofs.Rights.{put_keeps}
 
 -- what no step of these kinds ends holds of a word after them
 over : (Q : ℕ → Type 0) (x : Word) (ks ls : Kinds) → ((e : ℕ) (s : Step) (old : ℕ) → is_in ls (kind_of s) ≡ false → Q old → Q (if same_word (target s) x then new_value e s old else old)) → apart ks ls ≡ true
@@ -25,13 +24,9 @@ over Q x ks ls step w k [] l only h = h
 over Q x ks ls step w k (m ∷ xs) l only h =
     step (epoch_of (part k (triples k xs ++ l))) m.step (word_after (triples k xs ++ l) x) (in_apart ks ls (place_of (kind_of m.step)) w only.0) (over Q x ks ls step w k xs l only.1 h)
 
-or_keeps : (t : Bool) (n m b : ℕ) → has_bit n b ≡ true → has_bit (if t then bit_or n m else n) b ≡ true
-or_keeps true n m b h = bit_of_or n m b ∙ or_left (has_bit n b) (has_bit m b) h
-or_keeps false n m b h = h
-
 free_step : (e : ℕ) (s : Step) (p w old b : ℕ) → is_in (Taking ∷ []) (kind_of s) ≡ false → has_bit old b ≡ true → has_bit (if same_word (target s) (Word.Free p w) then new_value e s old else old) b ≡ true
 free_step e (Look x) p w old b is h = ap (λ n. has_bit n b) (looked (same_word x (Word.Free p w)) old) ∙ h
-free_step e (Put q j m) p w old b is h = or_keeps (same_word (Word.Free q j) (Word.Free p w)) old m b h
+free_step e (Put q j m) p w old b is h = put_keeps (same_word (Word.Free q j) (Word.Free p w)) old m b h
 free_step e (Take q j m) p w old b is h = absurd (true≢false is)
 free_step e s p w old b is h = h
 
@@ -41,7 +36,7 @@ free_stays ks apart k xs l p w b = over (λ n. has_bit n b ≡ true) (Word.Free 
 
 offered_step : (e : ℕ) (s : Step) (n j old b : ℕ) → is_in (Claiming ∷ []) (kind_of s) ≡ false → has_bit old b ≡ true → has_bit (if same_word (target s) (Word.Eligible n j) then new_value e s old else old) b ≡ true
 offered_step e (Look x) n j old b is h = ap (λ a. has_bit a b) (looked (same_word x (Word.Eligible n j)) old) ∙ h
-offered_step e (Offer q d) n j old b is h = or_keeps (same_word (Word.Eligible (number_of d) (q / 64)) (Word.Eligible n j)) old (page_mask q) b h
+offered_step e (Offer q d) n j old b is h = put_keeps (same_word (Word.Eligible (number_of d) (q / 64)) (Word.Eligible n j)) old (page_mask q) b h
 offered_step e (TakeRight q d) n j old b is h = absurd (true≢false is)
 offered_step e s n j old b is h = h
 

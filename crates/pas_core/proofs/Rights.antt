@@ -148,7 +148,7 @@ take_keeps true true old mask b hm hb misses h = bit_cleared old mask b hm hb �
 take_keeps true false old mask b hm hb misses h = h
 take_keeps false y old mask b hm hb misses h = h
 
-put_keeps : (x : Bool) (old mask b : ℕ) → has_bit old b ≡ true → has_bit (if x then bit_or old mask else old) b ≡ true
+pub put_keeps : (x : Bool) (old mask b : ℕ) → has_bit old b ≡ true → has_bit (if x then bit_or old mask else old) b ≡ true
 put_keeps true old mask b h = bit_of_or old mask b ∙ or_left (has_bit old b) (has_bit mask b) h
 put_keeps false old mask b h = h
 
