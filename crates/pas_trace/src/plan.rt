@@ -34,6 +34,7 @@ pub struct Op {
 }
 
 const _: () = prove!(size_of::<What>() == 24);
+
 const _: () = prove!(size_of::<Op>() == 32);
 
 /// The operations of one phase, in the order of the text.
