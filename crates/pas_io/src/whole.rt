@@ -68,23 +68,19 @@ pub enum Stop {
 /// The size of the first buffer, unless the limit is less.
 const FIRST_SIZE: usize = 65_536;
 
-/// The size of the buffer after one that came full with so many bytes: twice as many, or a byte more than the limit where that isn't
-/// less than the limit.
+/// The size of the buffer after one that came full with so many bytes: a quarter and 64 KiB more, or a byte more than the limit where
+/// that isn't less than the limit.
 fn next_size(taken: usize, most: usize) -> usize
     requires within { taken ≤ most }
     requires most { most < 2 ^ 32 }
     ensures grows { taken < result }
     ensures within { result ≤ most + 1 }
 {
-    if taken < most / 2 {
-        (2 * taken).max(FIRST_SIZE).min(most + 1)
-    } else {
-        most + 1
-    }
+    (taken + taken / 4 + FIRST_SIZE).min(most + 1)
 }
 
-/// Reads the source to its end, or up to `most + 1` bytes, or up to its first fault. The buffer starts with 64 KiB and doubles as bytes come, so that it has at
-/// most twice the size of what came. Bytes that came before a fault, or before memory was wanting, are lost.
+/// Reads the source to its end, or up to `most + 1` bytes, or up to its first fault. The buffer starts with 64 KiB and grows by a quarter
+/// and as much again as bytes come. Bytes that came before a fault, or before memory was wanting, are lost.
 pub fn read_all<S: Source>(alloc: Global, source: &mut S, most: usize) -> Result<Input, Stop>
     requires { most < 2 ^ 32 }
     ensures input { IfOk result (λ input. (told : List ℕ) → S.rest source.old ≡ Some told → IsInput most told input) }

@@ -1,4 +1,5 @@
 pub mod Texts
+pub mod Decimals
 pub mod Counting
 pub mod MarkBits
 pub mod Totals

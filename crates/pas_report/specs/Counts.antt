@@ -1,5 +1,5 @@
 -- The report from the words of a region at rest: counts over its pages and grains, and the marks of a page.
-use Rattle.std.specs.Prelude.{ℕ, zero, suc, ◌+◌, ◌*◌, ◌/◌, ◌%◌, ◌≡◌, ◌==◌, ◌⊎◌, Bool, false, not, List, [], ◌++◌, Option, None, Some, codes}
+use Rattle.std.specs.Prelude.{ℕ, zero, suc, ◌+◌, ◌*◌, ◌/◌, ◌%◌, ◌^◌, ◌≤◌, ◌≡◌, ◌==◌, ◌⊎◌, Bool, false, not, List, [], ◌++◌, Option, None, Some, codes}
 use Rattle.pas_profile.specs.Classes.{has_bit}
 use Rattle.pas_profile.specs.Directories.{deed_word_of, number_of, directory_read}
 use Rattle.pas_profile.specs.Lives.{turn_of, is_live}
@@ -83,6 +83,13 @@ live_counted state = count_below (grains_in state) (λ i. is_live (life_of_grain
 -- the blocks that ended: the turn of a grain is the number of those that ended there
 abbrev pub ended_counted : State → ℕ
 ended_counted state = sum_below (grains_in state) (λ i. turn_of (life_of_grain state i))
+
+-- so many blocks live at the first n grains, and so many ended there; each grain has one live block at most, and a turn below 2^40
+pub record AreCounted (state : State) (n live ended : ℕ) : Type 0 where
+  pub live_is : live ≡ count_below n (λ i. is_live (life_of_grain state i))
+  pub ended_is : ended ≡ sum_below n (λ i. turn_of (life_of_grain state i))
+  pub few : live ≤ n
+  pub small : ended ≤ n * 2 ^ 40
 
 -- each block that was given ended or lives
 abbrev pub given_counted : State → ℕ

@@ -1,8 +1,8 @@
 //! What the words of a region at rest count to, on a page and on all.
-ghost use Rattle.std.specs.Prelude.{◌≡◌, ◌<◌, ◌≤◌, ◌+◌, ◌^◌};
+ghost use Rattle.std.specs.Prelude.{◌≡◌, ◌<◌, ◌≤◌, ◌+◌, ◌*◌, ◌^◌};
 ghost use Rattle.pas_profile.specs.Profiles.{IsPage};
 ghost use Rattle.pas_steps.specs.States.{profile_of};
-ghost use Rattle.pas_report.specs.Counts.{backed_counted, deeds_counted, ended_counted, free_counted_on, live_counted, live_counted_on};
+ghost use Rattle.pas_report.specs.Counts.{AreCounted, backed_counted, deeds_counted, ended_counted, free_counted_on, live_counted, live_counted_on};
 
 use pas_profile::{Word, read_life};
 use pas_steps::State;
@@ -64,19 +64,35 @@ pub(crate) struct Blocks {
     pub(crate) ended: u64,
 }
 
-/// The blocks of a region. It reads the life word of each grain once.
+/// The blocks of the first pages and those of one page more, where these are the blocks of the first.
 #[tactic(auto, using(pas_profile::proofs::Counts::count_more, crate::proofs::Counting::sum_more))]
+#[inline(always)]
+fn with_page(state: &State, before: u32, blocks: Blocks) -> Blocks
+    requires page { before < (profile_of state.now).pages }
+    requires counted { AreCounted state.now (256 * before) blocks.live blocks.ended }
+    ensures { AreCounted state.now (256 * (before + 1)) result.live result.ended }
+{
+    let Blocks {
+        mut live,
+        mut ended,
+    } = blocks;
+    for grain in 0..256u16 {
+        let (turn, _, lives) = read_life(state.word(Word::Life(before + 1, grain as u8)));
+        ended += turn;
+        live += lives as u64;
+    }
+    Blocks { live, ended }
+}
+
+/// The blocks of a region. It reads the life word of each grain once.
 pub(crate) fn count_blocks(state: &State) -> Blocks
     ensures live { result.live ≡ live_counted state.now }
     ensures ended { result.ended ≡ ended_counted state.now }
     ensures fit { result.ended + result.live < 2 ^ 61 }
 {
-    let mut live = 0;
-    let mut ended = 0;
-    for i in 0..256 * state.profile().pages {
-        let (turn, _, lives) = read_life(state.word(Word::Life(i / 256 + 1, (i % 256) as u8)));
-        ended += turn;
-        live += lives as u64;
+    let mut blocks = Blocks { live: 0, ended: 0 };
+    for before in 0..state.profile().pages {
+        blocks = with_page(state, before, blocks);
     }
-    Blocks { live, ended }
+    blocks
 }

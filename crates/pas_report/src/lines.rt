@@ -56,7 +56,7 @@ pub fn said_line(actor: u8, said: &Said) -> Line
 }
 
 /// Adds the line of a record, of at most 128 bytes.
-#[inline]
+#[inline(always)]
 pub(crate) fn push_record<const C: usize>(text: &mut ArrayString<C>, item: &Record)
     requires shown { CanShow item.now }
     requires room { array_string_len text.old + 128 ≤ C }
@@ -71,7 +71,7 @@ pub(crate) fn push_record<const C: usize>(text: &mut ArrayString<C>, item: &Reco
 }
 
 /// Adds the line of an event.
-#[inline]
+#[inline(always)]
 fn push_event<const C: usize>(text: &mut ArrayString<C>, event: &Event)
     requires shown { IsShowable event.now }
     requires room { array_string_len text.old + 128 ≤ C }

@@ -12,6 +12,7 @@ use pas_io::{Failed, Sink};
 
 /// Writes the line of each record, in order, some 64 KB at a time. It takes no memory. After a failure some first part of the lines was
 /// written.
+#[inline(never)]
 pub fn write_lines<K: Sink>(records: &[Record], sink: &mut K) -> Result<(), Failed>
     requires { All CanShow records.now }
     ensures whole { OnOk result (Writes (K.held sink.old) (K.held sink.new) (lines_of records.now)) }

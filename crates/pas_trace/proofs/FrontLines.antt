@@ -75,6 +75,14 @@ number-found text count value end digits is small some within ended head =
           ∙ (λ t. w ++ ended t ∷ sym (take_rest text (count + 1)) t);
     }
 
+-- .. of one digit
+pub one-found : (text : List ℕ) (end : ℕ) → 2 ≤ length text → get_or text 1 0 ≡ end → 48 ≤ get_or text 0 0 → get_or text 0 0 ≤ 57 → BeginsWith text (get_or text 0 0 - 48) end (take (length text - 2) (drop 2 text))
+one-found [] end two ended lo hi = absurd (omega arith)
+one-found (x ∷ []) end two ended lo hi = absurd (omega arith)
+one-found (x ∷ y ∷ rest) end two ended lo hi =
+    let value : x - 48 ≡ 10 * 0 + (x - 48) = omega arith in
+    number-found (x ∷ y ∷ rest) 1 (x - 48) end (and_from (is_digit x) true (digit-is x lo hi) refl) value (omega arith) (omega arith) (omega arith) ended (λ many. absurd (omega arith))
+
 -- ---- words and the end of the line
 -- no byte is the separator
 abbrev Lacks : ℕ → List ℕ → Type 0

@@ -12,7 +12,7 @@ const MOST_DIGITS: usize = 18;
 
 /// The value of the decimal digits at the front of a text, up to 18 of them, and how many they are.
 #[inline(always)]
-fn front_digits(text: &[u8]) -> (u64, usize)
+fn value_of_front(text: &[u8]) -> (u64, usize)
     ensures within { result.1 ≤ length text.now }
     ensures digits { all_digits (take result.1 text.now) ≡ true }
     ensures value { result.0 ≡ value_from 0 (take result.1 text.now) }
@@ -28,13 +28,13 @@ fn front_digits(text: &[u8]) -> (u64, usize)
     (value, count)
 }
 
-/// The number at the front of a text, of up to 18 digits, and the text after the byte that ends it. None where no such number stands
-/// there, or another byte follows.
+/// The digits of a number at the front of a text, up to 18 of them, and the text after the byte that ends it. None where no such number
+/// stands there, or another byte follows.
 #[inline(always)]
-fn front_number(text: &[u8], end: u8) -> Option<(u64, &[u8])>
+fn front_digits(text: &[u8], end: u8) -> Option<(u64, &[u8])>
     ensures { IfSome result (λ p. BeginsWith text.now p.0 end p.1.now) }
 {
-    let (value, count) = front_digits(text);
+    let (value, count) = value_of_front(text);
     if count == text.len() || text[count] != end {
         return None;
     }
@@ -42,6 +42,17 @@ fn front_number(text: &[u8], end: u8) -> Option<(u64, &[u8])>
         return None;
     }
     Some((value, &text[count + 1..]))
+}
+
+/// The number at the front of a text and the text after the byte that ends it, as in `front_digits`. Many numbers have one digit.
+#[inline(always)]
+fn front_number(text: &[u8], end: u8) -> Option<(u64, &[u8])>
+    ensures { IfSome result (λ p. BeginsWith text.now p.0 end p.1.now) }
+{
+    if text.len() >= 2 && text[1] == end && text[0] >= b'0' && text[0] <= b'9' {
+        return Some(((text[0] - b'0') as u64, &text[2..]));
+    }
+    front_digits(text, end)
 }
 
 /// What a line `a T NAME H SIZE ALIGN` says, and the text after it, where this text follows its first two bytes.

@@ -1,8 +1,9 @@
 //! The plan of a trace.
 
 use pas_profile::{Name, Profile};
+use std::mem::size_of;
 
-/// What an operation asks for. Names of allocations are the trace's own numbers, from 1 to 1,000,000; sizes and alignments are in bytes.
+/// What an operation asks for, in 24 bytes. Names of allocations are the trace's own numbers, from 1 to 1,000,000; sizes and alignments are in bytes.
 #[derive(Clone, Copy, Debug, PartialEq, Eq, Drop)]
 pub enum What {
     Alloc {
@@ -24,13 +25,17 @@ pub enum What {
     Idle(u64),
 }
 
-/// An operation: its line, from 1, its actor (0 for ticks, passes and idle operations), and what it asks for.
+/// An operation, in 32 bytes: its line, from 1, its actor (0 for ticks, passes and idle operations), and what it asks for.
 #[derive(Clone, Copy, Debug, PartialEq, Eq, Drop)]
 pub struct Op {
     pub line: u32,
     pub actor: u8,
     pub what: What,
 }
+
+const _: () = prove!(size_of::<What>() == 24);
+
+const _: () = prove!(size_of::<Op>() == 32);
 
 /// The operations of one phase, in the order of the text.
 #[derive(Drop)]

@@ -1,7 +1,7 @@
 //! The reader: what it keeps of the lines before, and how it takes a line.
 ghost use Rattle.std.specs.Prelude.{◌≡◌, ◌<◌, ◌≤◌, ◌+◌, ◌∷◌, ◌^◌, [], ℕ, List, Some, None, Ok, Err, OnOk, IfOk, MatchOption, MatchResult, length, slice_index};
 ghost use Rattle.pas_profile.specs.Profiles.{IsValid};
-ghost use Rattle.pas_trace.specs.Reasons.{line_says, reason_of, cost_of, started, is_thread};
+ghost use Rattle.pas_trace.specs.Reasons.{reason_of, cost_of, started, is_thread};
 ghost use Rattle.pas_trace.specs.Items.{item_of_line};
 ghost use Rattle.pas_trace.specs.Plans.{IsReading, bounds_of, bounds_upto, fault_at, name_at};
 ghost use Rattle.pas_trace.specs.Texts.{lines_of};

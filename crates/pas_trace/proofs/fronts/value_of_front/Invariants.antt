@@ -1,6 +1,6 @@
 use Rattle.std.proofs.Common.{◌-◌, ◌≤◌}
 use Rattle.pas_trace.proofs.FrontLines.{AreDigits}
-use Rattle.pas_trace.proofs.fronts.front_digits.Given as goal
+use Rattle.pas_trace.proofs.fronts.value_of_front.Given as goal
 
 abbrev pub invariant-loop-count : goal.invariant-loop-count
 invariant-loop-count l = record { digits : AreDigits l.text l.count l.value; few : l.count ≤ l.most }

@@ -1,6 +1,6 @@
 use Rattle.std.proofs.Common.{◌≤◌, get_or, arith}
 use Rattle.pas_trace.proofs.FrontLines.{digits-more, digits-room, digits-small}
-use Rattle.pas_trace.proofs.fronts.front_digits.Goals as goal
+use Rattle.pas_trace.proofs.fronts.value_of_front.Goals as goal
 
 pub overflow_mul-value : goal.overflow_mul-value
 overflow_mul-value c = let room = digits-room c.loop-count.count c.loop-count.value c.loop-count.invariant.digits.small (omega arith) in omega (arith, room)
