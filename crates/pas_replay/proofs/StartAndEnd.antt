@@ -36,7 +36,8 @@ use Rattle.pas_answers.specs.declared.names.Names.{Names}
 use Rattle.pas_replay.specs.declared.seats.Thread.{Thread}
 use Rattle.pas_replay.proofs.BuiltPlans.{plan_fit, plan_own, plan_total, plan_marks}
 use Rattle.pas_answers.proofs.Consequences.{replays}
-use Rattle.pas_replay.proofs.ActsInOrder.{at_region, of_profile}
+use Rattle.pas_replay.proofs.Sittings.{same_session}
+use Rattle.pas_replay.proofs.ActsInOrder.{at_region}
 
 -- ---- the start
 -- the threads from this one on did nothing yet
@@ -172,12 +173,10 @@ shows {plan} {region} {threads} {table} {out} {state} valid so empty profile wor
 pub handed : (plan : Plan) {region : PlainRegion} {table : Names} {out : Records} (threads list : List Thread) (phases : List (List Op)) → list ≡ threads → length threads ≡ plan.profile.threads → phases ≡ phases_of plan
     → SoFar plan.profile (acts_of plan.profile.threads (phases_of plan)) (acts_of plan.profile.threads (phases_of plan)) region threads table out
     → SoFar (profile_of region) (acts_of (length list) phases) (acts_of (length list) phases) region list table out
-handed plan {region} {table} {out} threads list phases same count is so =
-    at_region (subst (λ (ts : List Thread). SoFar plan.profile (acts_of (length ts) phases) (acts_of (length ts) phases) region ts table out) (sym same)
-    (subst (λ (n : ℕ). SoFar plan.profile (acts_of n phases) (acts_of n phases) region threads table out) (sym count)
-    (subst (λ (ps : List (List Op)). SoFar plan.profile (acts_of plan.profile.threads ps) (acts_of plan.profile.threads ps) region threads table out) (sym is) so)))
+handed plan threads list phases same count is so =
+    let plans = ap (λ (n : ℕ). acts_of n (phases_of plan)) (sym count ∙ ap (λ (ts : List Thread). length ts) (sym same)) ∙ ap (λ (ps : List (List Op)). acts_of (length list) ps) (sym is) in
+    at_region (same_session refl plans plans refl (sym same) so)
 
 pub handed_back : (plan : Plan) {f : Profile} {region : PlainRegion} {table : Names} {out : Records} {list : List Thread} (n : ℕ) (phases : List (List Op)) → f ≡ plan.profile → n ≡ plan.profile.threads → phases ≡ phases_of plan
     → SoFar f (acts_of n phases) [] region list table out → SoFar plan.profile (acts_of plan.profile.threads (phases_of plan)) [] region list table out
-handed_back plan {f} {region} {table} {out} {list} n phases same count is so =
-    of_profile same (subst (λ (m : ℕ). SoFar f (acts_of m (phases_of plan)) [] region list table out) count (subst (λ (ps : List (List Op)). SoFar f (acts_of n ps) [] region list table out) is so))
+handed_back plan n phases same count is so = same_session same (ap (λ (m : ℕ). acts_of m phases) count ∙ ap (λ (ps : List (List Op)). acts_of plan.profile.threads ps) is) refl refl refl so
