@@ -27,12 +27,12 @@ use Rattle.pas_answers.specs.Answers.{progress, with_cache, begun, Follows}
 use Rattle.pas_answers.specs.Calls.{owed_events}
 use Rattle.pas_answers.specs.Fit.{AreFit, costs_of, own_costs_of, ops_in, marks_in}
 use Rattle.pas_answers.specs.Names.{names_held}
-use Rattle.pas_replay.specs.Sessions.{Turn, risen, IsThreadOf, IsTaken, MayTakeTurn, TakesTurn, SoFar, AreCaches}
+use Rattle.pas_replay.specs.Sessions.{Turn, risen, IsThreadOf, IsTaken, MayTakeTurn, TakesTurn, ThreadStands, SoFar, AreCaches}
 use Rattle.pas_replay.proofs.Turns.{with_pass_length}
 use Rattle.pas_answers.specs.declared.names.Names.{Names}
 use Rattle.pas_replay.specs.declared.seats.Thread.{Thread}
 use Rattle.pas_steps.proofs.Unknown.{unknown_stays}
-use Rattle.pas_replay.proofs.Threads.{stands_at, cache_at, set_stands, set_caches, set_owed, same_ops}
+use Rattle.pas_replay.proofs.Threads.{stands_at, set_stands, set_caches, set_owed}
 use Rattle.pas_replay.proofs.Sittings.{same_session, sits, place_in, may_take_seat, rises, other_stands}
 
 -- ---- marks
@@ -50,7 +50,7 @@ after_mark {f} {all} {more} {act} {region} {threads} {table} {out} {out'} mark s
       count = so.count;
       whole = so.whole;
       stands = so.stands;
-      each = same_ops f so.whole (act ∷ more) more 1 threads same so.each;
+      each = λ i d lt. subst (λ (ops : List Op). ThreadStands f (1 + i) (get_or threads i d) so.whole (own_costs_of (1 + i) ops)) same (so.each i d lt);
       nobody = so.nobody;
       asked = so.asked;
       fit = subst (λ (ops : List Op). AreFit f (names_held table) so.asked ops) same so.fit;
@@ -72,7 +72,7 @@ may_wake {f} {all} {more} desk threads k taken of so =
     record {
       seat = may_take_seat desk threads k taken of so;
       may = λ d own seated.
-          let s = sits seated so.profile_is so.stands (stands_at (Wakes k ∷ more) 1 (risen desk threads) (k - 1) k d place.0 place.1 so.each) in
+          let s = sits seated so.profile_is so.stands (stands_at (Wakes k ∷ more) (risen desk threads) (k - 1) k d place.0 place.1 so.each) in
           record {
             view = part k so.whole;
             whole = so.whole;
@@ -88,7 +88,7 @@ pub woken : {f : Profile} {all more : List Act} {region region' : PlainRegion} {
 woken {f} {all} {more} {region} {region'} {threads} {table} {out} k i d thread' at lt so turn =
     let c = cached (get_or threads i d).cache in
     let c' = cached thread'.cache in
-    let s = sits turn.seated so.profile_is so.stands (stands_at (Wakes k ∷ more) 1 threads i k d at lt so.each) in
+    let s = sits turn.seated so.profile_is so.stands (stands_at (Wakes k ∷ more) threads i k d at lt so.each) in
     let did = turn.did in
     let steps = made (Look Word.Epoch) did.epoch ∷ [] in
     let v = part k so.whole in
@@ -102,7 +102,7 @@ woken {f} {all} {more} {region} {region'} {threads} {table} {out} k i d thread' 
     let mine = ap (λ (w : View). owed_events f c' w) (part_of_own k steps so.whole) in
     let spare = so.spare in
     let threads_count = so.count in
-    let held = cache_at so.caches 1 threads i k d at lt so.caches_are in
+    let held = ap so.caches at ∙ so.caches_are i d lt in
     let now : c' ≡ begun (so.caches k) did.epoch = did.cache ∙ ap (λ (x : Cached). begun x did.epoch) (sym held) in
     record {
       profile_is = r.profile;
@@ -110,7 +110,7 @@ woken {f} {all} {more} {region} {region'} {threads} {table} {out} k i d thread' 
       count = length-set threads i thread' ∙ so.count;
       whole = after;
       stands = r.stands;
-      each = set_stands (Wakes k ∷ more) more 1 threads i k thread' at lt (λ j t ne st. other_stands steps (λ e. ne (sym e)) refl st) r.this so.each;
+      each = set_stands (Wakes k ∷ more) more threads i k thread' at lt (λ j t ne st. other_stands steps (λ e. ne (sym e)) refl st) r.this so.each;
       nobody = λ j h. part_of_others j k steps so.whole (λ e. elim h [ inl low ↦ omega (arith, low, e, at) | inr high ↦ omega (arith, high, e, at, lt, threads_count) ]) ∙ so.nobody j h;
       asked = so.asked;
       fit = so.fit;
@@ -119,7 +119,7 @@ woken {f} {all} {more} {region} {region'} {threads} {table} {out} k i d thread' 
       turns = so.turns;
       known = so.known;
       caches = with_cache so.caches k (begun (so.caches k) did.epoch);
-      caches_are = subst (λ (x : Cached). AreCaches (with_cache so.caches k x) 1 (set threads i thread')) now (set_caches so.caches 1 threads i k thread' at lt so.caches_are);
+      caches_are = subst (λ (x : Cached). AreCaches (with_cache so.caches k x) (set threads i thread')) now (set_caches so.caches threads i k thread' at lt so.caches_are);
       spare = omega (arith, owed, mine, spare, unknown, log);
       answers = λ l rs follows. so.answers l rs (did.epoch, follows);
     }

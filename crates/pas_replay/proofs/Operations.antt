@@ -33,7 +33,7 @@ use Rattle.pas_answers.proofs.KnownNames.{AreKnown, known_after}
 use Rattle.pas_replay.specs.Sessions.{IsSeated, Turn, risen, IsThreadOf, IsTaken, MayTakeTurn, TakesTurn, SoFar, spare_at}
 use Rattle.pas_answers.specs.declared.names.Names.{Names}
 use Rattle.pas_replay.specs.declared.seats.Thread.{Thread}
-use Rattle.pas_replay.proofs.Threads.{stands_at, cache_at, set_stands, set_caches, set_owed, owed_at}
+use Rattle.pas_replay.proofs.Threads.{stands_at, set_stands, set_caches, set_owed, owed_at}
 use Rattle.pas_replay.proofs.Sittings.{same_session, Sits, sits, spare_is, place_in, may_take_seat, rises, other_stands}
 
 -- ---- what an act costs
@@ -104,7 +104,7 @@ can_operate : {f : Profile} {all more : List Act} {act : Act} {what : What} {reg
     → IsActOf f act k what → k ≡ 1 + i → i < length threads → SoFar f all (act ∷ more) region threads table out → IsSeated region (get_or threads i d) own
     → CanCall (standing_of own) (λ v l. MayAnswer (profile_of region) (cached (get_or threads i d).cache) what (spare_at own) out v)
 can_operate {f} {all} {more} {act} {what} {region} {threads} {table} {out} {own} k i d of at lt so seated =
-    let s = sits seated so.profile_is so.stands (stands_at (act ∷ more) 1 threads i k d at lt so.each) in
+    let s = sits seated so.profile_is so.stands (stands_at (act ∷ more) threads i k d at lt so.each) in
     let cost = of.own more in
     let costs = of.all more in
     let spare = so.spare in
@@ -150,12 +150,12 @@ pub done : {f : Profile} {all more : List Act} {act : Act} {what : What} {region
 done {f} {all} {more} {act} {what} {region} {region'} {threads} {table} {table'} k i d thread' at lt so known turn =
     let c = cached (get_or threads i d).cache in
     let c' = cached thread'.cache in
-    let s = sits turn.seated so.profile_is so.stands (stands_at (act ∷ more) 1 threads i k d at lt so.each) in
+    let s = sits turn.seated so.profile_is so.stands (stands_at (act ∷ more) threads i k d at lt so.each) in
     let did = turn.did in
     let v = part k so.whole in
     let rest = subst (λ (g : Profile). AtRest g c v) (sym s.profile) s.rest in
     let answered = did.performs.answered v so.whole s.stood rest so.names so.tells known in
-    let held = cache_at so.caches 1 threads i k d at lt so.caches_are in
+    let held = ap so.caches at ∙ so.caches_are i d lt in
     record {
       after = answered.0;
       tells = answered.1;
@@ -174,7 +174,7 @@ operated {f} {all} {more} {act} {what} {region} {region'} {threads} {table} {tab
     let thread = get_or threads i d in
     let c = cached thread.cache in
     let c' = cached thread'.cache in
-    let s = sits turn.seated so.profile_is so.stands (stands_at (act ∷ more) 1 threads i k d at lt so.each) in
+    let s = sits turn.seated so.profile_is so.stands (stands_at (act ∷ more) threads i k d at lt so.each) in
     let did = turn.did in
     let said = did.said in
     let steps = did.performs.steps in
@@ -203,7 +203,7 @@ operated {f} {all} {more} {act} {what} {region} {region'} {threads} {table} {tab
       count = length-set threads i thread' ∙ so.count;
       whole = after;
       stands = r.stands;
-      each = set_stands (act ∷ more) more 1 threads i k thread' at lt (λ j t ne st. other_stands steps (λ e. ne (sym e)) (of.others more j ne) st) r.this so.each;
+      each = set_stands (act ∷ more) more threads i k thread' at lt (λ j t ne st. other_stands steps (λ e. ne (sym e)) (of.others more j ne) st) r.this so.each;
       nobody = λ j h. part_of_others j k steps so.whole (λ e. elim h [ inl low ↦ omega (arith, low, e, at) | inr high ↦ omega (arith, high, e, at, lt, threads_count) ]) ∙ so.nobody j h;
       asked = asked_after what so.asked;
       fit = subst (λ (limit : ℕ). AreFit f limit (asked_after what so.asked) (ops_in more)) (sym did.performs.held) (of.fit more (names_held table) so.asked so.fit);
@@ -212,7 +212,7 @@ operated {f} {all} {more} {act} {what} {region} {region'} {threads} {table} {tab
       turns = turns;
       known = known_after f k what so.asked so.names was.after v (so.caches k) c' steps said was.answer so.known;
       caches = with_cache so.caches k c';
-      caches_are = set_caches so.caches 1 threads i k thread' at lt so.caches_are;
+      caches_are = set_caches so.caches threads i k thread' at lt so.caches_are;
       spare = omega (arith, grown, both, count, owed, mine, costs, marks, spare, room, few);
       answers = λ l rs follows. so.answers l rs (of.follows more so.names so.caches so.whole (records_in out) l rs steps said was.after c' was.answer
           (subst (λ (now : List Record). Follows f more (progress was.after (with_cache so.caches k c') after now) l rs) pushed follows));

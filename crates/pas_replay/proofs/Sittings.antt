@@ -74,7 +74,7 @@ spare_is {f} {k} {c} {desk} {l} {own} s =
 pub own_pass : {f : Profile} {all acts : List Act} {region : PlainRegion} {threads : List Thread} {table : Names} {out : Records} (k i : ℕ) (d : Thread) → k ≡ 1 + i → i < length threads → SoFar f all acts region threads table out
     → MaySit region (get_or threads i d) k
 own_pass {acts = acts} {region = region} {threads = threads} k i d at lt so =
-    let st = stands_at acts 1 threads i k d at lt so.each in
+    let st = stands_at acts threads i k d at lt so.each in
     record {
       desk = record { region = region; pass = st.pass };
       seated = record { region_is = refl; pass_is = st.present };

@@ -106,15 +106,13 @@ abbrev pub owed_from : Profile → Whole → ℕ → List Thread → ℕ
 owed_from f l k [] = 0
 owed_from f l k (thread ∷ threads) = owed_events f (cached thread.cache) (part k l) + owed_from f l (k + 1) threads
 
--- each of the threads from thread k on stands
-abbrev pub AllStand : Profile → Whole → List Act → ℕ → List Thread → Type 0
-AllStand f l acts k [] = Unit {0}
-AllStand f l acts k (thread ∷ threads) = ThreadStands f k thread l (own_costs_of k (ops_in acts)) × AllStand f l acts (k + 1) threads
+-- each of the threads stands, the first of which is thread 1
+abbrev pub AllStand : Profile → Whole → List Act → List Thread → Type 0
+AllStand f l acts threads = (i : ℕ) (d : Thread) → i < length threads → ThreadStands f (1 + i) (slice_index_or threads i d) l (own_costs_of (1 + i) (ops_in acts))
 
 -- what the caches hold
-abbrev pub AreCaches : Caches → ℕ → List Thread → Type 0
-AreCaches caches k [] = Unit {0}
-AreCaches caches k (thread ∷ threads) = (caches k ≡ cached thread.cache) × AreCaches caches (k + 1) threads
+abbrev pub AreCaches : Caches → List Thread → Type 0
+AreCaches caches threads = (i : ℕ) (d : Thread) → i < length threads → caches (1 + i) ≡ cached (slice_index_or threads i d).cache
 
 -- no cache has a local allocator
 abbrev pub AreEmpty : List Thread → Type 0
@@ -127,7 +125,7 @@ pub record SoFar (f : Profile) (all acts : List Act) (region : PlainRegion) (thr
   pub count : length threads ≡ f.threads
   pub whole : Whole
   pub stands : RegionStands region whole
-  pub each : AllStand f whole acts 1 threads
+  pub each : AllStand f whole acts threads
   pub nobody : (k : ℕ) → (k ≡ 0) ⊎ (f.threads < k) → part k whole ≡ []
   pub asked : List ℕ
   pub fit : AreFit f (names_held table) asked (ops_in acts)
@@ -136,7 +134,7 @@ pub record SoFar (f : Profile) (all acts : List Act) (region : PlainRegion) (thr
   pub turns : HasTurns table
   pub known : (n : ℕ) → is_asked asked n ≡ true → (block : Option Name) × (standing_for names n ≡ Some block)
   pub caches : Caches
-  pub caches_are : AreCaches caches 1 threads
+  pub caches_are : AreCaches caches threads
   pub spare : length (records_in out) + (owed_from f whole 1 threads + (costs_of (ops_in acts) + marks_in acts)) ≤ room_of out
   pub answers : (l : Whole) (rs : List Record) → Follows f acts (progress names caches whole (records_in out)) l rs → Follows f all at_start l rs
 
