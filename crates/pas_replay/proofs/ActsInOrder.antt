@@ -12,8 +12,10 @@ use Rattle.pas_steps.proofs.Parts.{part_of_own, part_of_others}
 use Rattle.pas_trace.specs.Plans.{ops_of}
 use Rattle.pas_trace.specs.declared.plan.Op.{Op}
 use Rattle.pas_trace.specs.declared.plan.Phase.{Phase}
-use Rattle.pas_plain.specs.Plain.{profile_of}
-use Rattle.pas_plain.specs.Seats.{standing_of}
+use Rattle.pas_trace.specs.declared.plan.What.TheVariants.{Alloc}
+use Rattle.pas_plain.specs.Plain.{profile_of, actor_of}
+use Rattle.pas_plain.specs.Seats.{region_of, pass_of, standing_of}
+use Rattle.pas_plain.specs.declared.desk.PlainDesk.{PlainDesk}
 use Rattle.pas_plain.specs.declared.region.PlainRegion.{PlainRegion}
 use Rattle.pas_report.specs.Rooms.{records_in, room_of}
 use Rattle.pas_report.specs.declared.record.Record.{Record}
@@ -25,12 +27,13 @@ use Rattle.pas_answers.specs.Answers.{progress, with_cache, begun, Follows}
 use Rattle.pas_answers.specs.Calls.{owed_events}
 use Rattle.pas_answers.specs.Fit.{AreFit, costs_of, own_costs_of, ops_in, marks_in}
 use Rattle.pas_answers.specs.Names.{names_held}
-use Rattle.pas_replay.specs.Sessions.{Turn, MaySit, SoFar, AreCaches}
+use Rattle.pas_replay.specs.Sessions.{Turn, risen, IsThreadOf, IsTaken, MayTakeTurn, TakesTurn, ThreadStands, SoFar, AreCaches}
+use Rattle.pas_replay.proofs.Turns.{with_pass_length}
 use Rattle.pas_answers.specs.declared.names.Names.{Names}
 use Rattle.pas_replay.specs.declared.seats.Thread.{Thread}
 use Rattle.pas_steps.proofs.Unknown.{unknown_stays}
-use Rattle.pas_replay.proofs.Threads.{stands_at, cache_at, set_stands, set_caches, set_owed, same_ops}
-use Rattle.pas_replay.proofs.Sittings.{sits, desk_for, may_sit, its_pass, rises, other_stands}
+use Rattle.pas_replay.proofs.Threads.{stands_at, set_stands, set_caches, set_owed}
+use Rattle.pas_replay.proofs.Sittings.{same_session, sits, place_in, may_take_seat, rises, other_stands}
 
 -- ---- marks
 pub after_mark : {f : Profile} {all more : List Act} {act : Act} {region : PlainRegion} {threads : List Thread} {table : Names} {out out' : Records} (mark : Record) → (so : SoFar f all (act ∷ more) region threads table out)
@@ -47,7 +50,7 @@ after_mark {f} {all} {more} {act} {region} {threads} {table} {out} {out'} mark s
       count = so.count;
       whole = so.whole;
       stands = so.stands;
-      each = same_ops f so.whole (act ∷ more) more 1 threads same so.each;
+      each = λ i d lt. subst (λ (ops : List Op). ThreadStands f (1 + i) (get_or threads i d) so.whole (own_costs_of (1 + i) ops)) same (so.each i d lt);
       nobody = so.nobody;
       asked = so.asked;
       fit = subst (λ (ops : List Op). AreFit f (names_held table) so.asked ops) same so.fit;
@@ -62,16 +65,20 @@ after_mark {f} {all} {more} {act} {region} {threads} {table} {out} {out'} mark s
     }
 
 -- ---- a thread reads the epoch
-pub can_wake : {f : Profile} {all more : List Act} {region : PlainRegion} {threads : List Thread} {table : Names} {out : Records} (k i : ℕ) (d : Thread) → k ≡ 1 + i → i < length threads
-    → SoFar f all (Wakes k ∷ more) region threads table out
-    → MaySit region (get_or threads i d) (λ desk. CanCall (standing_of desk) (λ v l. AtRest (profile_of region) (cached (get_or threads i d).cache) v))
-can_wake {f} {all} {more} {region} {threads} k i d at lt so =
-    let st = stands_at (Wakes k ∷ more) 1 threads i k d at lt so.each in
+pub may_wake : {f : Profile} {all more : List Act} {table : Names} {out : Records} (desk : PlainDesk) (threads : List Thread) (k : ℕ) → IsTaken desk threads → IsThreadOf threads k
+    → SoFar f all (Wakes k ∷ more) (region_of desk) (risen desk threads) table out → MayTakeTurn desk threads k (λ own c. CanCall (standing_of own) (λ v l. AtRest (profile_of (region_of desk)) c v))
+may_wake {f} {all} {more} desk threads k taken of so =
+    let place = place_in desk threads k of in
     record {
-      desk = desk_for region st.pass;
-      seated = record { region_is = refl; pass_is = st.present };
-      of_region = its_pass so.profile_is so.stands st;
-      may = may_sit so.profile_is so.stands st (λ s. subst (λ (g : Profile). AtRest g (cached (get_or threads i d).cache) (part k so.whole)) (sym so.profile_is) st.rest);
+      seat = may_take_seat desk threads k taken of so;
+      may = λ d own seated.
+          let s = sits seated so.profile_is so.stands (stands_at (Wakes k ∷ more) (risen desk threads) (k - 1) k d place.0 place.1 so.each) in
+          record {
+            view = part k so.whole;
+            whole = so.whole;
+            stood = s.stood;
+            met = subst (λ (g : Profile). AtRest g (cached (get_or (risen desk threads) (k - 1) d).cache) (part k so.whole)) (sym so.profile_is) s.rest;
+          };
     }
 
 pub woken : {f : Profile} {all more : List Act} {region region' : PlainRegion} {threads : List Thread} {table : Names} {out : Records} (k i : ℕ) (d thread' : Thread) → k ≡ 1 + i → i < length threads
@@ -81,7 +88,7 @@ pub woken : {f : Profile} {all more : List Act} {region region' : PlainRegion} {
 woken {f} {all} {more} {region} {region'} {threads} {table} {out} k i d thread' at lt so turn =
     let c = cached (get_or threads i d).cache in
     let c' = cached thread'.cache in
-    let s = sits turn.seated so.profile_is so.stands (stands_at (Wakes k ∷ more) 1 threads i k d at lt so.each) in
+    let s = sits turn.seated so.profile_is so.stands (stands_at (Wakes k ∷ more) threads i k d at lt so.each) in
     let did = turn.did in
     let steps = made (Look Word.Epoch) did.epoch ∷ [] in
     let v = part k so.whole in
@@ -95,7 +102,7 @@ woken {f} {all} {more} {region} {region'} {threads} {table} {out} k i d thread' 
     let mine = ap (λ (w : View). owed_events f c' w) (part_of_own k steps so.whole) in
     let spare = so.spare in
     let threads_count = so.count in
-    let held = cache_at so.caches 1 threads i k d at lt so.caches_are in
+    let held = ap so.caches at ∙ so.caches_are i d lt in
     let now : c' ≡ begun (so.caches k) did.epoch = did.cache ∙ ap (λ (x : Cached). begun x did.epoch) (sym held) in
     record {
       profile_is = r.profile;
@@ -103,7 +110,7 @@ woken {f} {all} {more} {region} {region'} {threads} {table} {out} k i d thread' 
       count = length-set threads i thread' ∙ so.count;
       whole = after;
       stands = r.stands;
-      each = set_stands (Wakes k ∷ more) more 1 threads i k thread' at lt (λ j t ne st. other_stands steps (λ e. ne (sym e)) refl st) r.this so.each;
+      each = set_stands (Wakes k ∷ more) more threads i k thread' at lt (λ j t ne st. other_stands steps (λ e. ne (sym e)) refl st) r.this so.each;
       nobody = λ j h. part_of_others j k steps so.whole (λ e. elim h [ inl low ↦ omega (arith, low, e, at) | inr high ↦ omega (arith, high, e, at, lt, threads_count) ]) ∙ so.nobody j h;
       asked = so.asked;
       fit = so.fit;
@@ -112,14 +119,20 @@ woken {f} {all} {more} {region} {region'} {threads} {table} {out} k i d thread' 
       turns = so.turns;
       known = so.known;
       caches = with_cache so.caches k (begun (so.caches k) did.epoch);
-      caches_are = subst (λ (x : Cached). AreCaches (with_cache so.caches k x) 1 (set threads i thread')) now (set_caches so.caches 1 threads i k thread' at lt so.caches_are);
+      caches_are = subst (λ (x : Cached). AreCaches (with_cache so.caches k x) (set threads i thread')) now (set_caches so.caches threads i k thread' at lt so.caches_are);
       spare = omega (arith, owed, mine, spare, unknown, log);
       answers = λ l rs follows. so.answers l rs (did.epoch, follows);
     }
 
+pub has_woken : {f : Profile} {all more : List Act} {table : Names} {out : Records} (desk desk' : PlainDesk) (threads threads' : List Thread) (k : ℕ) → IsThreadOf threads k
+    → SoFar f all (Wakes k ∷ more) (region_of desk) (risen desk threads) table out → TakesTurn desk desk' threads threads' k Begins → SoFar f all more (region_of desk') (risen desk' threads') table out
+has_woken desk desk' threads threads' k of so turn =
+    let place = place_in desk threads k of in
+    same_session refl refl refl refl turn.threads_are (woken k (k - 1) turn.thread turn.thread place.0 place.1 so (turn.turn turn.thread))
+
 -- ---- the acts that are left
 pub as_acts : {f : Profile} {all acts acts' : List Act} {region : PlainRegion} {threads : List Thread} {table : Names} {out : Records} → acts ≡ acts' → SoFar f all acts region threads table out → SoFar f all acts' region threads table out
-as_acts {f} {all} {region = region} {threads = threads} {table = table} {out = out} same so = subst (λ (acts : List Act). SoFar f all acts region threads table out) same so
+as_acts same so = same_session refl refl same refl refl so
 
 -- .. where the first ones are alike
 pub as_list : {f : Profile} {all : List Act} {region : PlainRegion} {threads : List Thread} {table : Names} {out : Records} {A : Type 0} (to : A → Act) (more : List Act) {xs ys : List A} → xs ≡ ys
@@ -171,26 +184,37 @@ next_phase threads phases i d ops lt is = ap (λ (ps : List Phase). acts_left th
 pub last_phase : (threads : ℕ) (phases : List Phase) (i : ℕ) → length phases ≤ i → acts_left threads i (map ops_of (drop i phases)) ≡ close_acts threads
 last_phase threads phases i le = ap (λ (ps : List Phase). acts_left threads i (map ops_of ps)) (drop_of_length-le phases le) ∙ close_left threads i
 
--- ---- the thread of the next operation
--- its place in the list
-pub place_of : {f : Profile} {all more : List Act} {op : Op} {region : PlainRegion} {threads : List Thread} {table : Names} {out : Records} → SoFar f all (Operates op ∷ more) region threads table out
-    → (op.actor ≡ 1 + (op.actor - 1)) × (op.actor - 1 < length threads)
-place_of so = let low = so.fit.0.0 in let high = so.fit.0.1 in let count = so.count in (omega (arith, low), omega (arith, low, high, count))
+-- ---- the next operation
+-- (any, past the last one)
+abbrev pub past : Op
+past = record { line = 0; actor = 0; what = Alloc 0 0 0 0 }
+
+pub at_next : {f : Profile} {all : List Act} {region : PlainRegion} {threads : List Thread} {table : Names} {out : Records} (more : List Act) (ops : List Op) (i : ℕ) → i < length ops → SoFar f all (map Operates (drop i ops) ++ more) region threads table out
+    → SoFar f all (Operates (get_or ops i past) ∷ (map Operates (drop (i + 1) ops) ++ more)) region threads table out
+at_next more ops i lt so = as_list Operates more (drop_more ops i past lt) so
+
+-- its thread is one of these
+pub thread_there : {f : Profile} {all more : List Act} {op : Op} {table : Names} {out : Records} (desk : PlainDesk) (threads : List Thread) → SoFar f all (Operates op ∷ more) (region_of desk) (risen desk threads) table out → IsThreadOf threads op.actor
+thread_there desk threads so =
+    let high = so.fit.0.1 in
+    let count = so.count in
+    let sized = with_pass_length (pass_of desk) (actor_of (pass_of desk) - 1) threads in
+    (so.fit.0.0, omega (arith, high, count, sized))
 
 -- ---- the profile is the region's
 pub of_profile : {f g : Profile} {all acts : List Act} {region : PlainRegion} {threads : List Thread} {table : Names} {out : Records} → g ≡ f → SoFar g all acts region threads table out → SoFar f all acts region threads table out
-of_profile {all = all} {acts = acts} {region = region} {threads = threads} {table = table} {out = out} same so = subst (λ (h : Profile). SoFar h all acts region threads table out) same so
+of_profile same so = same_session same refl refl refl refl so
 
 pub at_region : {f : Profile} {all acts : List Act} {region : PlainRegion} {threads : List Thread} {table : Names} {out : Records} → SoFar f all acts region threads table out → SoFar (profile_of region) all acts region threads table out
 at_region so = of_profile (sym so.profile_is) so
 
 -- the phase begins: first its threads wake
-pub wakes_first : {f : Profile} {all : List Act} {region : PlainRegion} {list : List Thread} {table : Names} {out : Records} (threads : ℕ) (ops : List Op) (more : List Act) → length list ≡ threads
-    → SoFar f all (phase_acts threads ops ++ more) region list table out → SoFar (profile_of region) all (map Wakes (active_from 1 (length list) ops) ++ (map Operates ops ++ more)) region list table out
-wakes_first threads ops more same so =
-    at_region (as_acts (append_assoc (map Wakes (active_from 1 threads ops)) (map Operates ops) more ∙ ap (λ (n : ℕ). map Wakes (active_from 1 n ops) ++ (map Operates ops ++ more)) (sym same)) so)
+pub wakes_first : {f : Profile} {all : List Act} {region : PlainRegion} {list : List Thread} {table : Names} {out : Records} (threads n : ℕ) (ops : List Op) (more : List Act) → n ≡ threads
+    → SoFar f all (phase_acts threads ops ++ more) region list table out → SoFar (profile_of region) all (map Wakes (active_from 1 n ops) ++ (map Operates ops ++ more)) region list table out
+wakes_first threads n ops more same so =
+    at_region (as_acts (append_assoc (map Wakes (active_from 1 threads ops)) (map Operates ops) more ∙ ap (λ (m : ℕ). map Wakes (active_from 1 m ops) ++ (map Operates ops ++ more)) (sym same)) so)
 
 -- the close: the mark, and then the ends of the threads
-pub ends_first : {f : Profile} {all : List Act} {region : PlainRegion} {list : List Thread} {table : Names} {out : Records} (threads : ℕ) → length list ≡ threads
-    → SoFar f all (map Ends (numbers_from 1 threads)) region list table out → SoFar (profile_of region) all (map Ends (numbers_from 1 (length list)) ++ []) region list table out
-ends_first threads same so = at_region (as_acts (ap (λ (n : ℕ). map Ends (numbers_from 1 n)) (sym same) ∙ sym (append-nil _)) so)
+pub ends_first : {f : Profile} {all : List Act} {region : PlainRegion} {list : List Thread} {table : Names} {out : Records} (threads n : ℕ) → n ≡ threads
+    → SoFar f all (map Ends (numbers_from 1 threads)) region list table out → SoFar (profile_of region) all (map Ends (numbers_from 1 n) ++ []) region list table out
+ends_first threads n same so = at_region (as_acts (ap (λ (m : ℕ). map Ends (numbers_from 1 m)) (sym same) ∙ sym (append-nil _)) so)

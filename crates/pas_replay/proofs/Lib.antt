@@ -6,6 +6,5 @@ pub mod Turns
 pub mod Sittings
 pub mod Operations
 pub mod ActsInOrder
-pub mod Phases
 pub mod StartAndEnd
 pub mod Opening

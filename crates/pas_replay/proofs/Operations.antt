@@ -1,5 +1,5 @@
 -- A session after an operation of one of its threads.
-use Rattle.std.proofs.Common.{◌≡◌, ◌≢◌, ℕ, ◌+◌, ◌<◌, ◌≤◌, ◌==◌, Bool, true, false, if◌then◌else◌, inl, inr, List, [], ◌∷◌, ◌++◌, length, reverse, get_or, set, Option, None, refl, ap, sym, ◌∙◌, subst, arith, length-append}
+use Rattle.std.proofs.Common.{◌≡◌, ◌≢◌, ℕ, ◌+◌, ◌-◌, ◌<◌, ◌≤◌, ◌==◌, Bool, true, false, if◌then◌else◌, inl, inr, List, [], ◌∷◌, ◌++◌, length, reverse, get_or, set, Option, None, refl, ap, sym, ◌∙◌, subst, arith, length-append}
 use Rattle.std.proofs.lemmas.List.{length-reverse, length-map, length-set, append-nil, get_or-set_other}
 use Rattle.std.proofs.lemmas.Grind.{get_or-set_at}
 use Rattle.std.proofs.lemmas.Bool.{eq-eqb, ne_eqb, cases_eq}
@@ -30,11 +30,11 @@ use Rattle.pas_answers.specs.Fit.{IsFitWhat, AreFit, cost_of_what, costs_of, own
 use Rattle.pas_trace.specs.EveryPlan.{asked_after}
 use Rattle.pas_answers.specs.Names.{names_held}
 use Rattle.pas_answers.proofs.KnownNames.{AreKnown, known_after}
-use Rattle.pas_replay.specs.Sessions.{Turn, MaySit, SoFar, spare_at}
+use Rattle.pas_replay.specs.Sessions.{IsSeated, Turn, risen, IsThreadOf, IsTaken, MayTakeTurn, TakesTurn, SoFar, spare_at}
 use Rattle.pas_answers.specs.declared.names.Names.{Names}
 use Rattle.pas_replay.specs.declared.seats.Thread.{Thread}
-use Rattle.pas_replay.proofs.Threads.{stands_at, cache_at, set_stands, set_caches, set_owed, owed_at}
-use Rattle.pas_replay.proofs.Sittings.{Sits, sits, spare_is, desk_for, may_sit, its_pass, rises, other_stands}
+use Rattle.pas_replay.proofs.Threads.{stands_at, set_stands, set_caches, set_owed, owed_at}
+use Rattle.pas_replay.proofs.Sittings.{same_session, Sits, sits, spare_is, place_in, may_take_seat, rises, other_stands}
 
 -- ---- what an act costs
 -- this act is an operation of thread k
@@ -100,26 +100,32 @@ known_if f limit asked names s fit known = tt
 pub known_now : {f : Profile} {all more : List Act} {op : Op} {region : PlainRegion} {threads : List Thread} {table : Names} {out : Records} → (so : SoFar f all (Operates op ∷ more) region threads table out) → IsKnown so.names op.what
 known_now {f} {all} {more} {op} {region} {threads} {table} so = known_if f (names_held table) so.asked so.names op.what so.fit.1 so.known
 
-pub can_operate : {f : Profile} {all more : List Act} {act : Act} {what : What} {region : PlainRegion} {threads : List Thread} {table : Names} {out : Records} (k i : ℕ) (d : Thread)
-    → IsActOf f act k what → k ≡ 1 + i → i < length threads → SoFar f all (act ∷ more) region threads table out
-    → MaySit region (get_or threads i d) (λ desk. CanCall (standing_of desk) (λ v l. MayAnswer (profile_of region) (cached (get_or threads i d).cache) what (spare_at desk) out v))
-can_operate {f} {all} {more} {act} {what} {region} {threads} {table} {out} k i d of at lt so =
-    let st = stands_at (act ∷ more) 1 threads i k d at lt so.each in
-    let c = cached (get_or threads i d).cache in
-    let v = part k so.whole in
-    let own = of.own more in
+can_operate : {f : Profile} {all more : List Act} {act : Act} {what : What} {region : PlainRegion} {threads : List Thread} {table : Names} {out : Records} {own : PlainDesk} (k i : ℕ) (d : Thread)
+    → IsActOf f act k what → k ≡ 1 + i → i < length threads → SoFar f all (act ∷ more) region threads table out → IsSeated region (get_or threads i d) own
+    → CanCall (standing_of own) (λ v l. MayAnswer (profile_of region) (cached (get_or threads i d).cache) what (spare_at own) out v)
+can_operate {f} {all} {more} {act} {what} {region} {threads} {table} {out} {own} k i d of at lt so seated =
+    let s = sits seated so.profile_is so.stands (stands_at (act ∷ more) threads i k d at lt so.each) in
+    let cost = of.own more in
     let costs = of.all more in
     let spare = so.spare in
     let mine = owed_at f so.whole 1 threads i k d at lt in
+    let room = spare_is s in
     record {
-      desk = desk_for region st.pass;
-      seated = record { region_is = refl; pass_is = st.present };
-      of_region = its_pass so.profile_is so.stands st;
-      may = may_sit so.profile_is so.stands st (λ s. subst (λ (g : Profile). MayAnswer g c what (spare_at (desk_for region st.pass)) out v) (sym so.profile_is) record {
-        may = record { rest = st.rest; room = let room = spare_is s in omega (arith, room, own) };
+      view = part k so.whole;
+      whole = so.whole;
+      stood = s.stood;
+      met = subst (λ (g : Profile). MayAnswer g (cached (get_or threads i d).cache) what (spare_at own) out (part k so.whole)) (sym so.profile_is) record {
+        may = record { rest = s.rest; room = omega (arith, room, cost) };
         records = omega (arith, costs, spare, mine);
-      });
+      };
     }
+
+pub may_operate : {f : Profile} {all more : List Act} {act : Act} {what : What} {table : Names} {out : Records} (desk : PlainDesk) (threads : List Thread) (k : ℕ)
+    → IsActOf f act k what → IsTaken desk threads → IsThreadOf threads k → SoFar f all (act ∷ more) (region_of desk) (risen desk threads) table out
+    → MayTakeTurn desk threads k (λ own c. CanCall (standing_of own) (λ v l. MayAnswer (profile_of (region_of desk)) c what (spare_at own) out v))
+may_operate desk threads k act_of taken of so =
+    let place = place_in desk threads k of in
+    record { seat = may_take_seat desk threads k taken of so; may = λ d own seated. can_operate k (k - 1) d act_of place.0 place.1 so seated }
 
 -- ---- after the operation
 -- the seat of a thread's desk
@@ -144,12 +150,12 @@ pub done : {f : Profile} {all more : List Act} {act : Act} {what : What} {region
 done {f} {all} {more} {act} {what} {region} {region'} {threads} {table} {table'} k i d thread' at lt so known turn =
     let c = cached (get_or threads i d).cache in
     let c' = cached thread'.cache in
-    let s = sits turn.seated so.profile_is so.stands (stands_at (act ∷ more) 1 threads i k d at lt so.each) in
+    let s = sits turn.seated so.profile_is so.stands (stands_at (act ∷ more) threads i k d at lt so.each) in
     let did = turn.did in
     let v = part k so.whole in
     let rest = subst (λ (g : Profile). AtRest g c v) (sym s.profile) s.rest in
     let answered = did.performs.answered v so.whole s.stood rest so.names so.tells known in
-    let held = cache_at so.caches 1 threads i k d at lt so.caches_are in
+    let held = ap so.caches at ∙ so.caches_are i d lt in
     record {
       after = answered.0;
       tells = answered.1;
@@ -168,7 +174,7 @@ operated {f} {all} {more} {act} {what} {region} {region'} {threads} {table} {tab
     let thread = get_or threads i d in
     let c = cached thread.cache in
     let c' = cached thread'.cache in
-    let s = sits turn.seated so.profile_is so.stands (stands_at (act ∷ more) 1 threads i k d at lt so.each) in
+    let s = sits turn.seated so.profile_is so.stands (stands_at (act ∷ more) threads i k d at lt so.each) in
     let did = turn.did in
     let said = did.said in
     let steps = did.performs.steps in
@@ -197,7 +203,7 @@ operated {f} {all} {more} {act} {what} {region} {region'} {threads} {table} {tab
       count = length-set threads i thread' ∙ so.count;
       whole = after;
       stands = r.stands;
-      each = set_stands (act ∷ more) more 1 threads i k thread' at lt (λ j t ne st. other_stands steps (λ e. ne (sym e)) (of.others more j ne) st) r.this so.each;
+      each = set_stands (act ∷ more) more threads i k thread' at lt (λ j t ne st. other_stands steps (λ e. ne (sym e)) (of.others more j ne) st) r.this so.each;
       nobody = λ j h. part_of_others j k steps so.whole (λ e. elim h [ inl low ↦ omega (arith, low, e, at) | inr high ↦ omega (arith, high, e, at, lt, threads_count) ]) ∙ so.nobody j h;
       asked = asked_after what so.asked;
       fit = subst (λ (limit : ℕ). AreFit f limit (asked_after what so.asked) (ops_in more)) (sym did.performs.held) (of.fit more (names_held table) so.asked so.fit);
@@ -206,11 +212,18 @@ operated {f} {all} {more} {act} {what} {region} {region'} {threads} {table} {tab
       turns = turns;
       known = known_after f k what so.asked so.names was.after v (so.caches k) c' steps said was.answer so.known;
       caches = with_cache so.caches k c';
-      caches_are = set_caches so.caches 1 threads i k thread' at lt so.caches_are;
+      caches_are = set_caches so.caches threads i k thread' at lt so.caches_are;
       spare = omega (arith, grown, both, count, owed, mine, costs, marks, spare, room, few);
       answers = λ l rs follows. so.answers l rs (of.follows more so.names so.caches so.whole (records_in out) l rs steps said was.after c' was.answer
           (subst (λ (now : List Record). Follows f more (progress was.after (with_cache so.caches k c') after now) l rs) pushed follows));
     }
+
+pub has_operated : {f : Profile} {all more : List Act} {act : Act} {what : What} {table table' : Names} {out out' : Records} (desk desk' : PlainDesk) (threads threads' : List Thread) (k : ℕ)
+    → IsActOf f act k what → IsThreadOf threads k → (so : SoFar f all (act ∷ more) (region_of desk) (risen desk threads) table out) → IsKnown so.names what
+    → TakesTurn desk desk' threads threads' k (λ c c'. Answers what (works table c) (works table' c') out out') → HasTurns table' → SoFar f all more (region_of desk') (risen desk' threads') table' out'
+has_operated desk desk' threads threads' k act_of of so known turn turns =
+    let place = place_in desk threads k of in
+    same_session refl refl refl refl turn.threads_are (operated k (k - 1) turn.thread turn.thread act_of place.0 place.1 so known (turn.turn turn.thread) turns)
 
 -- ---- a stop leaves nothing in the cache
 pub emptied : {f : Profile} {all more : List Act} {region region' : PlainRegion} {threads : List Thread} {table table' : Names} {out out' : Records} (k i : ℕ) (d thread' : Thread)

@@ -1,26 +1,39 @@
 -- A thread sits down at the region, does something, and rises.
-use Rattle.std.proofs.Common.{◌≡◌, ◌≢◌, ℕ, ◌+◌, ◌≤◌, List, ◌++◌, length, refl, ap, sym, ◌∙◌, subst, arith, length-append}
+use Rattle.std.proofs.Common.{◌≡◌, ◌≢◌, ℕ, ◌+◌, ◌-◌, ◌<◌, ◌≤◌, List, ◌++◌, length, get_or, refl, ap, sym, ◌∙◌, subst, arith, length-append}
 use Rattle.std.proofs.lemmas.List.{length-reverse}
 use Rattle.std.proofs.lemmas.Option.{same_Some}
 use Rattle.pas_profile.specs.declared.profile.Profile.{Profile}
 use Rattle.pas_steps.specs.Events.{events_of, events_by}
 use Rattle.pas_steps.specs.Views.{View}
 use Rattle.pas_steps.specs.Lists.{Whole, part}
-use Rattle.pas_steps.specs.Desks.{Seat, CanCall, triples}
+use Rattle.pas_steps.specs.Desks.{Seat, triples}
 use Rattle.pas_steps.specs.declared.step.Made.{Made}
 use Rattle.pas_steps.proofs.Parts.{part_of_own, part_of_others}
 use Rattle.pas_steps.proofs.Frames.{events_split}
 use Rattle.pas_plain.specs.Plain.{profile_of, actor_of, room_of_pass, RegionStands, PassStands}
-use Rattle.pas_plain.specs.Seats.{region_of, pass_of, standing_of, DeskStands, IsPassOf}
+use Rattle.pas_plain.specs.Seats.{region_of, pass_of, standing_of, DeskStands}
 use Rattle.pas_plain.proofs.Passes.{pass_rests}
 use Rattle.pas_plain.specs.declared.region.PlainRegion.{PlainRegion}
 use Rattle.pas_plain.specs.declared.pass.PlainPass.{PlainPass}
 use Rattle.pas_plain.specs.declared.desk.PlainDesk.{PlainDesk}
 use Rattle.pas_cache.specs.Caches.{Cached, cached, AtRest}
 use Rattle.pas_cache.specs.Calls.{Rests}
+use Rattle.pas_report.specs.declared.records.Records.{Records}
+use Rattle.pas_answers.specs.Acts.{Act}
 use Rattle.pas_answers.specs.Calls.{owed_events}
-use Rattle.pas_replay.specs.Sessions.{IsSeated, ThreadStands, spare_at}
+use Rattle.pas_answers.specs.declared.names.Names.{Names}
+use Rattle.pas_replay.specs.Sessions.{IsSeated, MaySit, risen, IsThreadOf, IsTaken, MayTakeSeat, ThreadStands, spare_at, SoFar}
+use Rattle.pas_replay.proofs.Threads.{stands_at}
+use Rattle.pas_replay.proofs.Turns.{with_pass_length}
 use Rattle.pas_replay.specs.declared.seats.Thread.{Thread}
+
+-- ---- the same session, written otherwise
+pub same_session : {f f' : Profile} {all all' acts acts' : List Act} {region region' : PlainRegion} {threads threads' : List Thread} {table : Names} {out : Records}
+    → f ≡ f' → all ≡ all' → acts ≡ acts' → region ≡ region' → threads ≡ threads' → SoFar f all acts region threads table out → SoFar f' all' acts' region' threads' table out
+same_session {f} {f'} {all} {all'} {acts} {acts'} {region} {region'} {threads} {threads'} {table} {out} profile whole left place list so =
+    subst (λ (ts : List Thread). SoFar f' all' acts' region' ts table out) list (subst (λ (r : PlainRegion). SoFar f' all' acts' r threads table out) place
+    (subst (λ (xs : List Act). SoFar f' all' xs region threads table out) left (subst (λ (xs : List Act). SoFar f' xs acts region threads table out) whole
+    (subst (λ (g : Profile). SoFar g all acts region threads table out) profile so))))
 
 -- ---- at the desk
 -- thread k sits at this desk, with room for the events that it owes and `own` more
@@ -57,21 +70,28 @@ spare_is {f} {k} {c} {desk} {l} {own} s =
     let room = s.room in
     omega (arith, shown, same, room)
 
--- the desk at which a thread may sit
-abbrev pub desk_for : PlainRegion → PlainPass → PlainDesk
-desk_for region pass = record { region = region; pass = pass }
+-- ---- sitting down
+pub own_pass : {f : Profile} {all acts : List Act} {region : PlainRegion} {threads : List Thread} {table : Names} {out : Records} (k i : ℕ) (d : Thread) → k ≡ 1 + i → i < length threads → SoFar f all acts region threads table out
+    → MaySit region (get_or threads i d) k
+own_pass {acts = acts} {region = region} {threads = threads} k i d at lt so =
+    let st = stands_at acts threads i k d at lt so.each in
+    record {
+      desk = record { region = region; pass = st.pass };
+      seated = record { region_is = refl; pass_is = st.present };
+      of_region = record { whole = so.whole; stands = so.stands; its_part = subst (λ (g : Profile). PassStands g st.pass so.whole) (sym so.profile_is) st.stands };
+      actor_is = st.actor;
+    }
 
-pub may_sit : {f : Profile} {k : ℕ} {region : PlainRegion} {thread : Thread} {l : Whole} {own : ℕ} {May : View → Whole → Type 0}
-    → profile_of region ≡ f → RegionStands region l → (st : ThreadStands f k thread l own)
-    → (Sits f k (cached thread.cache) (desk_for region st.pass) l own → May (part k l) l)
-    → CanCall (standing_of (desk_for region st.pass)) May
-may_sit {f} {k} {region} {thread} {l} of stands st may =
-    let s = sits (record { region_is = refl; pass_is = st.present }) of stands st in
-    record { view = part k l; whole = l; stood = s.stood; met = may s }
+pub place_in : (desk : PlainDesk) (threads : List Thread) (k : ℕ) → IsThreadOf threads k → (k ≡ 1 + (k - 1)) × (k - 1 < length (risen desk threads))
+place_in desk threads k of =
+    let low = of.0 in
+    let high = of.1 in
+    let sized = with_pass_length (pass_of desk) (actor_of (pass_of desk) - 1) threads in
+    (omega (arith, low), omega (arith, low, high, sized))
 
-pub its_pass : {f : Profile} {k : ℕ} {region : PlainRegion} {thread : Thread} {l : Whole} {own : ℕ}
-    → profile_of region ≡ f → RegionStands region l → (st : ThreadStands f k thread l own) → IsPassOf region st.pass
-its_pass {f} {k} {region} {thread} {l} of stands st = record { whole = l; stands = stands; its_part = subst (λ (g : Profile). PassStands g st.pass l) (sym of) st.stands }
+pub may_take_seat : {f : Profile} {all acts : List Act} {table : Names} {out : Records} (desk : PlainDesk) (threads : List Thread) (k : ℕ) → IsTaken desk threads → IsThreadOf threads k → SoFar f all acts (region_of desk) (risen desk threads) table out
+    → MayTakeSeat desk threads k
+may_take_seat desk threads k taken of so = let place = place_in desk threads k of in record { taken = taken; place = of; own = λ d. own_pass k (k - 1) d place.0 place.1 so }
 
 -- ---- after its steps
 pub record Rises (f : Profile) (k : ℕ) (region : PlainRegion) (thread : Thread) (l : Whole) (own : ℕ) : Type 0 where

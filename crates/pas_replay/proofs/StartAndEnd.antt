@@ -1,5 +1,5 @@
 -- How a replay starts, and what it shows at its end.
-use Rattle.std.proofs.Common.{◌≡◌, ℕ, zero, suc, ◌+◌, ◌*◌, ◌<◌, ◌≤◌, true, false, inl, inr, List, [], ◌∷◌, length, get_or, Some, None, refl, ap, sym, ◌∙◌, subst, arith, slice_index}
+use Rattle.std.proofs.Common.{◌≡◌, ℕ, zero, suc, ◌+◌, ◌-◌, ◌*◌, ◌<◌, ◌≤◌, true, false, inl, inr, List, [], ◌∷◌, length, get_or, Some, None, refl, ap, sym, ◌∙◌, subst, arith, slice_index}
 use Rattle.std.proofs.lemmas.Bool.{cases_eq, cases_lt}
 use Rattle.std.proofs.Math.Nat.{suc-mul}
 use Rattle.pas_profile.specs.Profiles.{IsValid, IsWordOf}
@@ -17,7 +17,7 @@ use Rattle.pas_report.specs.Rooms.{records_in, room_of}
 use Rattle.pas_report.specs.declared.record.Record.{Record}
 use Rattle.pas_report.specs.declared.records.Records.{Records}
 use Rattle.pas_cache.specs.Locals.{any_covers, any_keeps}
-use Rattle.pas_cache.specs.Caches.{Cached, cached, AtRest}
+use Rattle.pas_cache.specs.Caches.{Cached, cached}
 use Rattle.pas_steps.specs.Clear.{HasNothing}
 use Rattle.pas_steps.specs.Unknown.{unknown_below}
 use Rattle.pas_cache.proofs.FlushesAndFrees.{rests_empty}
@@ -30,13 +30,15 @@ use Rattle.pas_replay.specs.Kits.{IsFresh, IsKitOf}
 use Rattle.pas_answers.specs.Names.{names_held}
 use Rattle.pas_answers.specs.Replays.{phases_of, IsBuilt, empty_cache, empty_caches, Shows}
 use Rattle.pas_answers.specs.Ways.{InOrder}
-use Rattle.pas_replay.specs.Sessions.{ThreadStands, AllStand, AreCaches, AreEmpty, SoFar, owed_from}
+use Rattle.pas_replay.specs.Sessions.{ThreadStands, AllStand, AreEmpty, SoFar, owed_from}
 use Rattle.pas_replay.specs.declared.kit.PlainKit.{PlainKit}
 use Rattle.pas_answers.specs.declared.names.Names.{Names}
 use Rattle.pas_replay.specs.declared.seats.Thread.{Thread}
 use Rattle.pas_replay.proofs.BuiltPlans.{plan_fit, plan_own, plan_total, plan_marks}
 use Rattle.pas_answers.proofs.Consequences.{replays}
-use Rattle.pas_replay.proofs.ActsInOrder.{at_region, of_profile}
+use Rattle.pas_replay.proofs.Threads.{stands_at}
+use Rattle.pas_replay.proofs.Sittings.{same_session}
+use Rattle.pas_replay.proofs.ActsInOrder.{at_region}
 
 -- ---- the start
 -- the threads from this one on did nothing yet
@@ -72,18 +74,6 @@ starts_at plan acts k t within fresh =
       room = omega (arith, owed, room, within);
     }
 
-starts : (plan : Plan) (acts : List Act) (k : ℕ) (threads : List Thread) → ((j : ℕ) → k ≤ j → j < k + length threads → plan.profile.pages + own_costs_of j (ops_in acts) ≤ slice_index (bounds_of plan.bounds) j)
-    → AllFresh plan k threads → AllStand plan.profile [] acts k threads
-starts plan acts k [] within fresh = tt
-starts plan acts k (t ∷ ts) within fresh = (
-  starts_at plan acts k t (within k (omega arith) (omega arith)) (first_fresh plan k t ts fresh),
-  starts plan acts (k + 1) ts (λ j low high. within j (omega (arith, low)) (omega (arith, high))) (later_fresh plan k t ts fresh),
-)
-
-caches_start : (plan : Plan) (k : ℕ) (threads : List Thread) → AllFresh plan k threads → AreCaches empty_caches k threads
-caches_start plan k [] fresh = tt
-caches_start plan k (t ∷ ts) fresh = (sym (first_fresh plan k t ts fresh).cache, caches_start plan (k + 1) ts (later_fresh plan k t ts fresh))
-
 owed_start : (plan : Plan) (k : ℕ) (threads : List Thread) → AllFresh plan k threads → owed_from plan.profile [] k threads ≡ length threads * plan.profile.pages
 owed_start plan k [] fresh = omega arith
 owed_start plan k (t ∷ ts) fresh =
@@ -110,7 +100,7 @@ start {text} {plan} {kit} {out} read built made empty room =
       count = made.count;
       whole = [];
       stands = made.opening;
-      each = starts plan acts 1 threads (λ j low high. plan_own read built j low (omega (arith, high, many))) fresh;
+      each = λ i d lt. starts_at plan acts (1 + i) (get_or threads i d) (plan_own read built (1 + i) (omega arith) (omega (arith, lt, many))) (made.fresh i d lt);
       nobody = λ j h. refl;
       asked = [];
       fit = plan_fit read built (names_held kit.names) made.names;
@@ -119,7 +109,7 @@ start {text} {plan} {kit} {out} read built made empty room =
       turns = λ n block is. absurd (let bad : None ≡ Some block = sym (made.no_name n) ∙ is in cc);
       known = λ n is. absurd (let bad : false ≡ true = is in cc);
       caches = empty_caches;
-      caches_are = caches_start plan 1 threads fresh;
+      caches_are = λ i d lt. sym (made.fresh i d lt).cache;
       spare = omega (arith, owed, product, total, marks, none, room);
       answers = λ l rs follows. subst (λ (r : List Record). Follows plan.profile acts (progress [] empty_caches [] r) l rs) empty follows;
     }
@@ -128,17 +118,15 @@ start {text} {plan} {kit} {out} read built made empty room =
 no_slots : (locals : List Slots) → locals ≡ [] → (g : ℕ) → (any_covers locals g ≡ false) × (any_keeps locals g ≡ false)
 no_slots locals is g = (ap (λ (xs : List Slots). any_covers xs g) is, ap (λ (xs : List Slots). any_keeps xs g) is)
 
--- the threads from this one on hold, have and owe nothing
-ends_bare : (f : Profile) (l : Whole) (acts : List Act) (k : ℕ) (threads : List Thread) → AllStand f l acts k threads → AreEmpty threads → (j : ℕ) → k ≤ j → j < k + length threads
-    → HasNothing (part j l)
-ends_bare f l acts k [] all empty j low high = absurd (omega (arith, low, high))
-ends_bare f l acts k (t ∷ ts) all empty j low high = elim (cases_eq k j) [
-  | inl same ↦
-      let rest : AtRest f (cached t.cache) (part j l) = subst (λ (n : ℕ). AtRest f (cached t.cache) (part n l)) same all.0.rest in
-      let none = no_slots (cached t.cache).locals (empty 0 t (omega arith)) in
-      record { grains = λ g. rest.locals.grains g ∙ (none g).0; rights = λ page. rest.locals.rights page ∙ (none page).1; clear = rest.locals.clear }
-  | inr other ↦ ends_bare f l acts (k + 1) ts all.1 (λ i d lt. empty (suc i) d (omega (arith, lt))) j (omega (arith, low, other)) (omega (arith, high))
-]
+-- a thread holds, has and owes nothing
+ends_bare : (f : Profile) (l : Whole) (acts : List Act) (threads : List Thread) → AllStand f l acts threads → AreEmpty threads → (k : ℕ) → 1 ≤ k → k ≤ length threads → HasNothing (part k l)
+ends_bare f l acts [] all empty k low high = absurd (omega (arith, low, high))
+ends_bare f l acts (t ∷ ts) all empty k low high =
+    let at : k ≡ 1 + (k - 1) = omega (arith, low) in
+    let lt : k - 1 < length (t ∷ ts) = omega (arith, low, high) in
+    let rest = (stands_at acts (t ∷ ts) (k - 1) k t at lt all).rest in
+    let none = no_slots (cached (get_or (t ∷ ts) (k - 1) t).cache).locals (empty (k - 1) t lt) in
+    record { grains = λ g. rest.locals.grains g ∙ (none g).0; rights = λ page. rest.locals.rights page ∙ (none page).1; clear = rest.locals.clear }
 
 did_nothing : (l : Whole) (k : ℕ) → part k l ≡ [] → HasNothing (part k l)
 did_nothing l k none = subst HasNothing (sym none) nothing
@@ -151,7 +139,7 @@ bare_at {f} {all} {region} {threads} so empty k =
       | inl none ↦ did_nothing so.whole k (so.nobody k (inl none))
       | inr some ↦ elim (cases_lt f.threads k) [
         | inl past ↦ did_nothing so.whole k (so.nobody k (inr past))
-        | inr within ↦ ends_bare f so.whole [] 1 threads so.each empty k (omega (arith, some)) (omega (arith, within, count))
+        | inr within ↦ ends_bare f so.whole [] threads so.each empty k (omega (arith, some)) (omega (arith, within, count))
       ]
     ]
 
@@ -172,12 +160,10 @@ shows {plan} {region} {threads} {table} {out} {state} valid so empty profile wor
 pub handed : (plan : Plan) {region : PlainRegion} {table : Names} {out : Records} (threads list : List Thread) (phases : List (List Op)) → list ≡ threads → length threads ≡ plan.profile.threads → phases ≡ phases_of plan
     → SoFar plan.profile (acts_of plan.profile.threads (phases_of plan)) (acts_of plan.profile.threads (phases_of plan)) region threads table out
     → SoFar (profile_of region) (acts_of (length list) phases) (acts_of (length list) phases) region list table out
-handed plan {region} {table} {out} threads list phases same count is so =
-    at_region (subst (λ (ts : List Thread). SoFar plan.profile (acts_of (length ts) phases) (acts_of (length ts) phases) region ts table out) (sym same)
-    (subst (λ (n : ℕ). SoFar plan.profile (acts_of n phases) (acts_of n phases) region threads table out) (sym count)
-    (subst (λ (ps : List (List Op)). SoFar plan.profile (acts_of plan.profile.threads ps) (acts_of plan.profile.threads ps) region threads table out) (sym is) so)))
+handed plan threads list phases same count is so =
+    let plans = ap (λ (n : ℕ). acts_of n (phases_of plan)) (sym count ∙ ap (λ (ts : List Thread). length ts) (sym same)) ∙ ap (λ (ps : List (List Op)). acts_of (length list) ps) (sym is) in
+    at_region (same_session refl plans plans refl (sym same) so)
 
 pub handed_back : (plan : Plan) {f : Profile} {region : PlainRegion} {table : Names} {out : Records} {list : List Thread} (n : ℕ) (phases : List (List Op)) → f ≡ plan.profile → n ≡ plan.profile.threads → phases ≡ phases_of plan
     → SoFar f (acts_of n phases) [] region list table out → SoFar plan.profile (acts_of plan.profile.threads (phases_of plan)) [] region list table out
-handed_back plan {f} {region} {table} {out} {list} n phases same count is so =
-    of_profile same (subst (λ (m : ℕ). SoFar f (acts_of m (phases_of plan)) [] region list table out) count (subst (λ (ps : List (List Op)). SoFar f (acts_of n ps) [] region list table out) is so))
+handed_back plan n phases same count is so = same_session same (ap (λ (m : ℕ). acts_of m phases) count ∙ ap (λ (ps : List (List Op)). acts_of plan.profile.threads ps) is) refl refl refl so

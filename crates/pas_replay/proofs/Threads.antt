@@ -1,10 +1,11 @@
 -- The threads of a session, when one of them did something.
-use Rattle.std.proofs.Common.{◌≡◌, ◌≢◌, ℕ, zero, suc, ◌+◌, ◌<◌, ◌≤◌, Bool, if◌then◌else◌, List, [], ◌∷◌, length, get_or, set, refl, ap, ◌∙◌, subst, arith}
-use Rattle.std.proofs.lemmas.Bool.{eq-eqb, ne_eqb}
+use Rattle.std.proofs.Common.{◌≡◌, ◌≢◌, ℕ, zero, suc, ◌+◌, ◌<◌, ◌≤◌, Bool, if◌then◌else◌, inl, inr, List, [], ◌∷◌, length, get_or, set, refl, ap, sym, ◌∙◌, subst, arith}
+use Rattle.std.proofs.lemmas.Bool.{eq-eqb, ne_eqb, cases_eq}
+use Rattle.std.proofs.lemmas.List.{length-set, get_or-set_other}
+use Rattle.std.proofs.lemmas.Grind.{get_or-set_at}
 use Rattle.pas_profile.specs.declared.profile.Profile.{Profile}
 use Rattle.pas_steps.specs.Lists.{Whole, part}
-use Rattle.pas_cache.specs.Caches.{Cached, cached}
-use Rattle.pas_trace.specs.declared.plan.Op.{Op}
+use Rattle.pas_cache.specs.Caches.{cached}
 use Rattle.pas_answers.specs.Acts.{Act}
 use Rattle.pas_answers.specs.Answers.{Caches, with_cache}
 use Rattle.pas_answers.specs.Calls.{owed_events}
@@ -12,55 +13,35 @@ use Rattle.pas_answers.specs.Fit.{own_costs_of, ops_in}
 use Rattle.pas_replay.specs.Sessions.{ThreadStands, AllStand, AreCaches, owed_from}
 use Rattle.pas_replay.specs.declared.seats.Thread.{Thread}
 
--- ---- the thread of number n, at place i of a list that begins with thread k
-pub stands_at : {f : Profile} {l : Whole} (acts : List Act) (k : ℕ) (threads : List Thread) (i n : ℕ) (d : Thread) → n ≡ k + i → i < length threads
-    → AllStand f l acts k threads → ThreadStands f n (get_or threads i d) l (own_costs_of n (ops_in acts))
-stands_at acts k [] i n d at lt all = absurd (omega (arith, lt))
-stands_at {f} {l} acts k (t ∷ ts) zero n d at lt all = subst (λ (m : ℕ). ThreadStands f m t l (own_costs_of m (ops_in acts))) (omega (arith, at)) all.0
-stands_at acts k (t ∷ ts) (suc i) n d at lt all = stands_at acts (k + 1) ts i n d (omega (arith, at)) (omega (arith, lt)) all.1
+-- ---- the thread of number n, at place i
+pub stands_at : {f : Profile} {l : Whole} (acts : List Act) (threads : List Thread) (i n : ℕ) (d : Thread) → n ≡ 1 + i → i < length threads → AllStand f l acts threads → ThreadStands f n (get_or threads i d) l (own_costs_of n (ops_in acts))
+stands_at {f} {l} acts threads i n d at lt all = subst (λ (m : ℕ). ThreadStands f m (get_or threads i d) l (own_costs_of m (ops_in acts))) (sym at) (all i d lt)
 
-pub cache_at : (caches : Caches) (k : ℕ) (threads : List Thread) (i n : ℕ) (d : Thread) → n ≡ k + i → i < length threads
-    → AreCaches caches k threads → caches n ≡ cached (get_or threads i d).cache
-cache_at caches k [] i n d at lt all = absurd (omega (arith, lt))
-cache_at caches k (t ∷ ts) zero n d at lt all = subst (λ (m : ℕ). caches m ≡ cached t.cache) (omega (arith, at)) all.0
-cache_at caches k (t ∷ ts) (suc i) n d at lt all = cache_at caches (k + 1) ts i n d (omega (arith, at)) (omega (arith, lt)) all.1
+-- what holds of a new one at its place, and of the others
+set_each : (P : ℕ → Thread → Type 0) (threads : List Thread) (i : ℕ) (t' : Thread) → i < length threads → P i t' → ((j : ℕ) (d : Thread) → j ≢ i → j < length threads → P j (get_or threads j d))
+    → (j : ℕ) (d : Thread) → j < length (set threads i t') → P j (get_or (set threads i t') j d)
+set_each P threads i t' lt this others j d less = elim (cases_eq i j) [
+  | inl same ↦ subst (λ (t : Thread). P j t) (sym (get_or-set_at threads i j t' d (sym same) lt)) (subst (λ (m : ℕ). P m t') same this)
+  | inr other ↦
+      let ne : j ≢ i = λ (e : j ≡ i). other (sym e) in
+      let sized = length-set threads i t' in
+      subst (λ (t : Thread). P j t) (sym (get_or-set_other threads i j t' d ne)) (others j d ne (omega (arith, less, sized)))
+]
 
 -- ---- all threads but one stand as before
 abbrev pub OthersStand : Profile → Whole → Whole → List Act → List Act → ℕ → Type 0
 OthersStand f l l' acts acts' n = (j : ℕ) (t : Thread) → j ≢ n → ThreadStands f j t l (own_costs_of j (ops_in acts)) → ThreadStands f j t l' (own_costs_of j (ops_in acts'))
 
-pub rest_stand : {f : Profile} {l l' : Whole} (acts acts' : List Act) (k n : ℕ) (threads : List Thread) → n < k → OthersStand f l l' acts acts' n → AllStand f l acts k threads → AllStand f l' acts' k threads
-rest_stand acts acts' k n [] past others all = tt
-rest_stand acts acts' k n (t ∷ ts) past others all = (others k t (λ e. omega (arith, past, e)) all.0, rest_stand acts acts' (k + 1) n ts (omega (arith, past)) others all.1)
+pub set_stands : {f : Profile} {l l' : Whole} (acts acts' : List Act) (threads : List Thread) (i n : ℕ) (t' : Thread) → n ≡ 1 + i → i < length threads
+    → OthersStand f l l' acts acts' n → ThreadStands f n t' l' (own_costs_of n (ops_in acts')) → AllStand f l acts threads → AllStand f l' acts' (set threads i t')
+set_stands {f} {l} {l'} acts acts' threads i n t' at lt others this all = set_each (λ (j : ℕ) (t : Thread). ThreadStands f (1 + j) t l' (own_costs_of (1 + j) (ops_in acts'))) threads i t' lt
+    (subst (λ (m : ℕ). ThreadStands f m t' l' (own_costs_of m (ops_in acts'))) at this) (λ j d ne less. others (1 + j) (get_or threads j d) (λ e. ne (omega (arith, at, e))) (all j d less))
 
-pub set_stands : {f : Profile} {l l' : Whole} (acts acts' : List Act) (k : ℕ) (threads : List Thread) (i n : ℕ) (t' : Thread) → n ≡ k + i → i < length threads
-    → OthersStand f l l' acts acts' n → ThreadStands f n t' l' (own_costs_of n (ops_in acts')) → AllStand f l acts k threads → AllStand f l' acts' k (set threads i t')
-set_stands acts acts' k [] i n t' at lt others this all = absurd (omega (arith, lt))
-set_stands {f} {l} {l'} acts acts' k (t ∷ ts) zero n t' at lt others this all =
-    (subst (λ (m : ℕ). ThreadStands f m t' l' (own_costs_of m (ops_in acts'))) (omega (arith, at)) this, rest_stand acts acts' (k + 1) n ts (omega (arith, at)) others all.1)
-set_stands acts acts' k (t ∷ ts) (suc i) n t' at lt others this all =
-    (others k t (λ e. omega (arith, at, e)) all.0, set_stands acts acts' (k + 1) ts i n t' (omega (arith, at)) (omega (arith, lt)) others this all.1)
-
--- an act that is no operation changes nothing
-pub same_ops : (f : Profile) (l : Whole) (acts acts' : List Act) (k : ℕ) (threads : List Thread) → ops_in acts ≡ ops_in acts' → AllStand f l acts k threads → AllStand f l acts' k threads
-same_ops f l acts acts' k [] same all = tt
-same_ops f l acts acts' k (t ∷ ts) same all = (subst (λ (ops : List Op). ThreadStands f k t l (own_costs_of k ops)) same all.0, same_ops f l acts acts' (k + 1) ts same all.1)
-
--- ---- the caches
-with_other : (caches : Caches) (n : ℕ) (c : Cached) (k : ℕ) (t : Thread) → k ≢ n → caches k ≡ cached t.cache → with_cache caches n c k ≡ cached t.cache
-with_other caches n c k t ne same = ap (λ (b : Bool). if b then c else caches k) (ne_eqb k n ne) ∙ same
-
-rest_caches : (caches : Caches) (k n : ℕ) (c : Cached) (threads : List Thread) → n < k → AreCaches caches k threads → AreCaches (with_cache caches n c) k threads
-rest_caches caches k n c [] past all = tt
-rest_caches caches k n c (t ∷ ts) past all = (with_other caches n c k t (λ e. omega (arith, past, e)) all.0, rest_caches caches (k + 1) n c ts (omega (arith, past)) all.1)
-
-pub set_caches : (caches : Caches) (k : ℕ) (threads : List Thread) (i n : ℕ) (t' : Thread) → n ≡ k + i → i < length threads → AreCaches caches k threads
-    → AreCaches (with_cache caches n (cached t'.cache)) k (set threads i t')
-set_caches caches k [] i n t' at lt all = absurd (omega (arith, lt))
-set_caches caches k (t ∷ ts) zero n t' at lt all =
-    (ap (λ (b : Bool). if b then cached t'.cache else caches k) (eq-eqb k n (omega (arith, at))), rest_caches caches (k + 1) n (cached t'.cache) ts (omega (arith, at)) all.1)
-set_caches caches k (t ∷ ts) (suc i) n t' at lt all =
-    (with_other caches n (cached t'.cache) k t (λ e. omega (arith, at, e)) all.0, set_caches caches (k + 1) ts i n t' (omega (arith, at)) (omega (arith, lt)) all.1)
+pub set_caches : (caches : Caches) (threads : List Thread) (i n : ℕ) (t' : Thread) → n ≡ 1 + i → i < length threads → AreCaches caches threads → AreCaches (with_cache caches n (cached t'.cache)) (set threads i t')
+set_caches caches threads i n t' at lt all =
+    let c = cached t'.cache in
+    set_each (λ (j : ℕ) (t : Thread). with_cache caches n c (1 + j) ≡ cached t.cache) threads i t' lt (ap (λ (b : Bool). if b then c else caches (1 + i)) (eq-eqb (1 + i) n (sym at)))
+    (λ j d ne less. ap (λ (b : Bool). if b then c else caches (1 + j)) (ne_eqb (1 + j) n (λ e. ne (omega (arith, at, e)))) ∙ all j d less)
 
 -- ---- what they owe
 abbrev pub OthersKept : Whole → Whole → ℕ → Type 0

@@ -1,14 +1,14 @@
-//! The threads' places at the region. One sits at a desk at a time.
+//! The threads' places at the region. One sits at the desk at a time.
 ghost use Rattle.std.specs.Prelude.{◌≡◌, ◌≢◌, ℕ, List};
 ghost use Rattle.pas_steps.specs.Desks.{CanCall};
 ghost use Rattle.pas_plain.specs.Plain.{profile_of, actor_of};
-ghost use Rattle.pas_plain.specs.Seats.{standing_of, pass_of};
-ghost use Rattle.pas_cache.specs.Caches.{cached, AtRest};
+ghost use Rattle.pas_plain.specs.Seats.{region_of, pass_of, standing_of};
+ghost use Rattle.pas_cache.specs.Caches.{AtRest};
 ghost use Rattle.pas_cache.specs.Calls.{Begins};
 ghost use Rattle.pas_answers.specs.Calls.{works, HasTurns, MayAnswer, Answers};
 ghost use Rattle.pas_answers.specs.Fit.{IsFitWhat};
 ghost use Rattle.pas_answers.specs.Names.{names_held};
-ghost use Rattle.pas_replay.specs.Sessions.{IsSeated, MaySit, Turn, MayTakeTurn, TakesTurn, spare_at};
+ghost use Rattle.pas_replay.specs.Sessions.{IsSeated, MaySit, MayTakeSeat, TakesSeat, MayTakeTurn, TakesTurn, spare_at};
 
 use pas_answers::answer;
 use pas_answers::names::Names;
@@ -27,7 +27,7 @@ pub(crate) struct Thread {
 
 /// The thread takes its seat at the region.
 pub(crate) fn sit(region: PlainRegion, thread: &mut Thread) -> PlainDesk
-    requires { MaySit region thread.old (λ desk. Unit {0}) }
+    requires { (k : ℕ) × MaySit region thread.old k }
     ensures seated { IsSeated region thread.old result }
     ensures cache { thread.new.cache ≡ thread.old.cache }
 {
@@ -47,21 +47,11 @@ pub(crate) fn rise(desk: PlainDesk, thread: &mut Thread) -> PlainRegion
     region
 }
 
-/// The thread reads the epoch, as a phase begins in which it has an operation.
-pub(crate) fn wake(region: PlainRegion, thread: &mut Thread) -> PlainRegion
-    requires { MaySit region thread.old (λ desk. CanCall (standing_of desk) (λ v l. AtRest (profile_of region) (cached thread.old.cache) v)) }
-    ensures { Turn region result thread.old thread.new (Begins (cached thread.old.cache) (cached thread.new.cache)) }
-{
-    let mut desk = sit(region, thread);
-    thread.cache.begin(&mut desk);
-    rise(desk, thread)
-}
-
 /// The thread of this number sits down at the desk, where it doesn't sit there. The one that sits there rises then.
 #[inline(always)]
-pub(crate) fn take_turn(desk: &mut PlainDesk, threads: &mut [Thread], actor: u8)
-    requires { MayTakeTurn desk.old threads.old actor }
-    ensures { TakesTurn desk.old desk.new threads.old threads.new actor }
+fn take_seat(desk: &mut PlainDesk, threads: &mut [Thread], actor: u8)
+    requires { MayTakeSeat desk.old threads.old actor }
+    ensures { TakesSeat desk.old desk.new threads.old threads.new actor }
 {
     if desk.actor() != actor {
         change_seats(desk, threads, actor);
@@ -72,8 +62,8 @@ pub(crate) fn take_turn(desk: &mut PlainDesk, threads: &mut [Thread], actor: u8)
 #[inline(never)]
 fn change_seats(desk: &mut PlainDesk, threads: &mut [Thread], actor: u8)
     requires other { actor_of (pass_of desk.old) ≢ actor }
-    requires may { MayTakeTurn desk.old threads.old actor }
-    ensures { TakesTurn desk.old desk.new threads.old threads.new actor }
+    requires may { MayTakeSeat desk.old threads.old actor }
+    ensures { TakesSeat desk.old desk.new threads.old threads.new actor }
 {
     let Some(pass) = threads[actor as usize - 1].pass.take() else {
         unreachable!();
@@ -83,22 +73,34 @@ fn change_seats(desk: &mut PlainDesk, threads: &mut [Thread], actor: u8)
     threads[place].pass = Some(risen);
 }
 
-/// The thread performs the operation, and its events and what is said come to the records.
+/// The thread of this number reads the epoch, as a phase begins in which it has an operation.
+pub(crate) fn wake(desk: &mut PlainDesk, threads: &mut [Thread], actor: u8)
+    requires { MayTakeTurn desk.old threads.old actor (λ own c. CanCall (standing_of own) (λ v l. AtRest (profile_of (region_of desk.old)) c v)) }
+    ensures { TakesTurn desk.old desk.new threads.old threads.new actor Begins }
+{
+    take_seat(desk, threads, actor);
+    let thread = &mut threads[actor as usize - 1];
+    thread.cache.begin(desk);
+}
+
+/// The thread of this number performs the operation, and its events and what is said come to the records.
+#[inline(always)]
 pub(crate) fn operate(
-    region: PlainRegion,
-    thread: &mut Thread,
+    desk: &mut PlainDesk,
+    threads: &mut [Thread],
     names: &mut Names,
+    actor: u8,
     what: What,
     out: &mut Records,
-) -> PlainRegion
-    requires unshared { (profile_of region).shared ≡ 0 }
-    requires fit { (asked : List ℕ) × IsFitWhat (profile_of region) (names_held names.old) asked what }
+)
+    requires unshared { (profile_of (region_of desk.old)).shared ≡ 0 }
+    requires fit { (asked : List ℕ) × IsFitWhat (profile_of (region_of desk.old)) (names_held names.old) asked what }
     requires turns { HasTurns names.old }
-    requires can { MaySit region thread.old (λ desk. CanCall (standing_of desk) (λ v l. MayAnswer (profile_of region) (cached thread.old.cache) what (spare_at desk) out.old v)) }
-    ensures turn { Turn region result thread.old thread.new (Answers what (works names.old (cached thread.old.cache)) (works names.new (cached thread.new.cache)) out.old out.new) }
+    requires can { MayTakeTurn desk.old threads.old actor (λ own c. CanCall (standing_of own) (λ v l. MayAnswer (profile_of (region_of desk.old)) c what (spare_at own) out.old v)) }
+    ensures turn { TakesTurn desk.old desk.new threads.old threads.new actor (λ c c'. Answers what (works names.old c) (works names.new c') out.old out.new) }
     ensures turns { HasTurns names.new }
 {
-    let mut desk = sit(region, thread);
-    answer(&mut desk, &mut thread.cache, names, what, out);
-    rise(desk, thread)
+    take_seat(desk, threads, actor);
+    let thread = &mut threads[actor as usize - 1];
+    answer(desk, &mut thread.cache, names, what, out);
 }

@@ -16,6 +16,12 @@ replay-region-requires-clause-phases c =
     let few = plan_phases c.requires.plan.2 c.requires.plan.1 in
     omega (arith, m, k, few)
 
+pub replay-region-requires-clause-some : goal.replay-region-requires-clause-some
+replay-region-requires-clause-some c =
+    let count = ap (λ (ts : List Thread). length ts) c.deref_mut.ensures.value ∙ c.requires.kit.count in
+    let some = (plan_valid c.requires.plan.2).some_thread in
+    omega (arith, count, some)
+
 pub replay-region-requires-clause-so_far : goal.replay-region-requires-clause-so_far
 replay-region-requires-clause-so_far c =
     handed c.args.plan.now c.args.kit.threads.items c.deref_mut.result.now (map ops_of c.as_slice.result.now) c.deref_mut.ensures.value c.requires.kit.count (ap (λ (ps : List Phase). map ops_of ps) c.as_slice.ensures)
