@@ -28,7 +28,8 @@ fn note_end(ends: &mut Mask4, grain: u8, word: u64)
     ensures { (x : ℕ) → x < 256 → is_set ends.new x ≡ (ends_with word grain x || is_set ends.old x) }
 {
     let (_, grains, live) = read_life(word);
-    if live && grains >= 1 && grain as u32 + grains <= 256 {
-        ends.set((grain as u32 + grains - 1) as u8);
+    let end = grain as u32 + grains;
+    if live && grains >= 1 && end <= 256 {
+        ends.set((end - 1) as u8);
     }
 }

@@ -1,9 +1,8 @@
-//! Each call once.
 use crate::HeapTable;
 use pas_profile::{Kind, Profile};
 
 #[test]
-fn a_shared_heap_and_another() {
+fn a_shared_heap_and_another(rt: HostRuntime) {
     let table = HeapTable::new(&Profile {
         pages: 4,
         threads: 1,
@@ -11,7 +10,11 @@ fn a_shared_heap_and_another() {
         heaps: 3,
         shared: 2,
     });
-    assert!(table.kind_for(0, 5) == Kind::Class(5));
-    assert!(table.kind_for(1, 5) == Kind::Shared);
-    assert!(table.directory(2, Kind::Bitfit) == 2 * 23 + 20);
+    assert_eq!(rt; table.kind_for(0, 5), Kind::Class(5), "heap 0");
+    assert_eq!(rt; table.kind_for(1, 5), Kind::Shared, "heap 1");
+    assert_eq!(rt;
+        table.directory(2, Kind::Bitfit),
+        66,
+        "bit-fit pages of heap 2"
+    );
 }

@@ -11,6 +11,9 @@ mod log_tests;
 #[cfg(test)]
 mod seating;
 pub mod seats;
+pub mod sharing;
+#[cfg(test)]
+mod sharing_tests;
 #[cfg(test)]
 mod slot_tests;
 #[cfg(test)]
@@ -21,4 +24,5 @@ pub use caching::{borrow_two, words_of_first};
 pub use filling::{Filled, fill};
 pub use holding::{occupy, visit};
 pub use seats::{change, close_both};
+pub use sharing::{Allocated, allocate, fill_shared};
 pub use wanting::{Findings, ask, want};

@@ -1,0 +1,5 @@
+use Rattle.std.proofs.Common.{◌++◌}
+use Rattle.pas_trials.proofs.sharing.allocate.Goals as goal
+
+pub returns : goal.returns
+returns g c = let r = c.alloc-block.ensures.allocates in record { steps = record { steps = r.after ++ r.searched; adds = r.adds } }
