@@ -1,15 +1,33 @@
 //! What the names of a trace stand for.
 ghost use Rattle.std.specs.Prelude.{◌≡◌, ◌<◌, ◌==◌, ℕ, None, if◌then◌else◌, length, IfOk};
-ghost use Rattle.pas_answers.specs.Names.{block_named, names_held};
+ghost use Rattle.pas_answers.specs.Names.{name_in, block_named, names_held};
 
-use pas_profile::{Name, NoMemory};
+use pas_profile::{Address, Name, NoMemory};
 use std::alloc::Global;
 
-/// A block, by its address and turn, for each name of the trace, at the place of the name; None where no request had it, or
-/// the request was refused. 24 bytes a name.
+/// What one name of a trace stands for: a block, by its address and turn. It has 16 bytes, where an `Option<Name>` has 24.
+#[derive(Clone, Copy, Drop)]
+pub enum Meaning {
+    /// No request had the name, or the request was refused.
+    Nothing,
+    Block { address: Address, turn: u64 },
+}
+
+/// What each name of a trace stands for, at the place of the name. 16 bytes a name.
 #[derive(Drop)]
 pub struct Names {
-    blocks: Vec<Option<Name>>,
+    meanings: Vec<Meaning>,
+}
+
+/// A name stands for this.
+#[inline]
+fn meaning_of(block: Option<Name>) -> Meaning
+    ensures { name_in result ≡ block }
+{
+    match block {
+        Some(Name { address, turn }) => Meaning::Block { address, turn },
+        None => Meaning::Nothing,
+    }
 }
 
 impl Names {
@@ -18,28 +36,33 @@ impl Names {
         ensures empty { IfOk result (λ names. (name : ℕ) → block_named names name ≡ None) }
         ensures room { IfOk result (λ names. names_held names ≡ limit) }
     {
-        match vec![in alloc; None; limit] {
-            Ok(blocks) => Ok(Names { blocks }),
+        match vec![in alloc; Meaning::Nothing; limit] {
+            Ok(meanings) => Ok(Names { meanings }),
             Err(_) => Err(NoMemory),
         }
     }
 
     /// From now on the name stands for this.
+    #[inline]
     pub fn set(&mut self, name: u32, block: Option<Name>)
         requires { name < names_held self.old }
         ensures names { (n : ℕ) → block_named self.new n ≡ (if name == n then block else block_named self.old n) }
         ensures room { names_held self.new ≡ names_held self.old }
     {
-        self.blocks[name as usize] = block;
+        self.meanings[name as usize] = meaning_of(block);
     }
 
     /// What the name stands for.
+    #[inline]
     pub fn get(&self, name: u32) -> Option<Name>
         ensures { result ≡ block_named self.now name }
     {
-        match self.blocks.get(name as usize) {
-            Some(block) => *block,
-            None => None,
+        match self.meanings.get(name as usize) {
+            Some(Meaning::Block { address, turn }) => Some(Name {
+                address: *address,
+                turn: *turn,
+            }),
+            Some(Meaning::Nothing) | None => None,
         }
     }
 }
