@@ -33,7 +33,7 @@ below_at (suc n) k p h lt =
 both_true : (x y : Bool) → x ≡ true → y ≡ true → (x && y) ≡ true
 both_true x y hx hy = ap (λ t. t && y) hx ∙ hy
 
-below_all : (n : ℕ) (p : ℕ → Bool) → ((k : ℕ) → k < n → p k ≡ true) → all_below n p ≡ true
+pub below_all : (n : ℕ) (p : ℕ → Bool) → ((k : ℕ) → k < n → p k ≡ true) → all_below n p ≡ true
 unfolding all_below
 below_all zero p h = refl
 below_all (suc n) p h = both_true (p n) (all_below n p) (h n (omega arith)) (below_all n p (λ k lt. h k (omega (arith, lt))))

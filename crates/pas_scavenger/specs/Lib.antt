@@ -1,0 +1,5 @@
+pub mod Readings
+pub mod Judgements
+pub mod Puttings
+pub mod Pages
+pub mod Passes

@@ -1,0 +1,12 @@
+//! The scavenger: pages that were empty for long enough go back to the system.
+#![tactic(auto)]
+
+mod examining;
+mod judging;
+mod passing;
+mod putting;
+mod reading;
+mod taking;
+
+pub use pas_profile::Outcome;
+pub use passing::pass;
