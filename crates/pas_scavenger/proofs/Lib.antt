@@ -8,3 +8,4 @@ pub mod Examinations
 pub mod Rooms
 pub mod Trying
 pub mod WholePasses
+pub mod Showing

@@ -20,7 +20,7 @@ use Rattle.pas_steps.proofs.Calls.{returns_are}
 use Rattle.pas_scavenger.specs.Readings.{ReadUntilUsed, takes}
 use Rattle.pas_scavenger.specs.Judgements.{used_at, Judged}
 use Rattle.pas_scavenger.specs.Puttings.{BackSteps}
-use Rattle.pas_scavenger.specs.Pages.{first_looks, AsksSteps, TakesSteps, EndsWithout, ExamineSteps, unback_of, quiet, examining}
+use Rattle.pas_scavenger.specs.Pages.{first_looks, AsksSteps, TakesSteps, EndsWithout, EndsWith, ExamineSteps, unback_of, quiet, examining}
 use Rattle.pas_scavenger.specs.declared.reading.Used.{Used}
 use Rattle.pas_scavenger.proofs.Judgings.{two_looks}
 use Rattle.pas_scavenger.proofs.States.{idle}
@@ -133,11 +133,16 @@ without_none k epoch page (Young s) steps h = absurd h
 without_none k epoch page (InUse w v) steps h = refl
 without_none k epoch page NotOffered steps h = refl
 
+-- the steps of an examination with the right, in order
+pub taken_on : (age epoch page : ℕ) (outcome : Outcome) (steps : List Made) (h : EndsWith age epoch page outcome steps) → steps ≡ h.takes.back ++ (h.takes.after ++ (takes page h.takes.answers ++ h.asked))
+taken_on age epoch page outcome steps h = let t = h.takes in
+    h.steps_are ∙ ap (λ s. s ++ h.asked) t.steps_are ∙ append_assoc t.back (t.after ++ takes page t.answers) h.asked ∙ ap (λ s. t.back ++ s) (append_assoc t.after (takes page t.answers) h.asked)
+
 pub examine_event : (k age epoch page : ℕ) (outcome : Outcome) (steps : List Made) (v : View) → ExamineSteps age epoch page outcome steps → known_epoch v ≡ Some epoch → events_by k v steps ≡ unback_of k epoch page outcome
 examine_event k age epoch page outcome steps v (inl h) known = no_events quiet refl k v steps (without_quiet page outcome steps h) ∙ sym (without_none k epoch page outcome steps h)
 examine_event k age epoch page outcome steps v (inr h) known =
     let t = h.takes in let rest = takes page t.answers ++ h.asked in
     let quiet_rest : Only quiet rest = only_both quiet (takes page t.answers) h.asked (takes_quiet page t.answers) (asks_quiet page h.directory _ h.asked h.asks) in
-    ap (events_by k v) (h.steps_are ∙ ap (λ s. s ++ h.asked) t.steps_are ∙ append_assoc t.back (t.after ++ takes page t.answers) h.asked ∙ ap (λ s. t.back ++ s) (append_assoc t.after (takes page t.answers) h.asked))
+    ap (events_by k v) (taken_on age epoch page outcome steps h)
     ∙ events_same quiet refl k v t.back (t.after ++ rest) (back_quiet page h.directory t.grains t.back t.puts)
     ∙ judged_event k age epoch page t.used outcome t.after rest v t.judged quiet_rest known

@@ -42,7 +42,7 @@ free_below (a ∷ more) g free lt =
       | inr ne ↦ or_second ((length more == g / 64) && has_bit a (g % 64)) (was_free more g) (free_below more g parts.1 (omega (arith, lt, ne)))
     ]
 
-all_free : (answers : List ℕ) (g : ℕ) → AreFree answers → g < 256 → was_free answers g ≡ true
+pub all_free : (answers : List ℕ) (g : ℕ) → AreFree answers → g < 256 → was_free answers g ≡ true
 all_free answers g are lt = let four = are.four in free_below answers g are.free (omega (arith, four, lt))
 
 -- ---- the calls

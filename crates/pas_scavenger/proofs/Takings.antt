@@ -14,7 +14,7 @@ use Rattle.pas_scavenger.specs.Readings.{ReadUntilUsed, was_free, takes}
 
 -- ---- what was got
 -- no grain of a word that wasn't read
-fresh : (answers : List ℕ) (g : ℕ) → length answers ≤ g / 64 → was_free answers g ≡ false
+pub fresh : (answers : List ℕ) (g : ℕ) → length answers ≤ g / 64 → was_free answers g ≡ false
 fresh [] g h = refl
 fresh (a ∷ more) g h = ap (λ t. (t && has_bit a (g % 64)) || was_free more g) (ne_eqb (length more) (g / 64) (omega (arith, h))) ∙ fresh more g (omega (arith, h))
 
@@ -63,7 +63,7 @@ more_takes {σ' = σ'} {σ'' = σ''} page answers a w e before makes =
     adds_step before (subst (λ n. Makes σ' σ'' (Take page n all_ones) a) (sym e) makes) (λ v l stood right. may_take page answers v right)
 
 -- ---- what is held then
-and_none : (t : Bool) → (t && false) ≡ false
+pub and_none : (t : Bool) → (t && false) ≡ false
 and_none true = refl
 and_none false = refl
 

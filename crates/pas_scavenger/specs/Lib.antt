@@ -3,3 +3,4 @@ pub mod Judgements
 pub mod Puttings
 pub mod Pages
 pub mod Passes
+pub mod Evidence

@@ -3,6 +3,7 @@
 
 mod examining;
 mod judging;
+pub mod laws;
 mod passing;
 mod putting;
 mod reading;
