@@ -2,7 +2,6 @@
 use Rattle.std.proofs.Common.{◌≡◌, ℕ, ◌+◌, ◌≤◌, ◌++◌, List, [], ◌∷◌, length, Option, Some, None, Result, Ok, Err, inl, inr, refl, ap, sym, ◌∙◌, subst, arith, length-append, nat_le}
 use Rattle.std.specs.Prelude.{MatchResult}
 use Rattle.pas_profile.specs.declared.name.Name.{Name}
-use Rattle.pas_profile.specs.declared.name.Block.{Block}
 use Rattle.pas_profile.specs.declared.profile.Profile.{Profile}
 use Rattle.pas_profile.specs.declared.event.Event.{Event}
 use Rattle.pas_profile.specs.declared.event.FreeFault.{FreeFault}
@@ -11,14 +10,14 @@ use Rattle.pas_steps.specs.Views.{View}
 use Rattle.pas_steps.specs.Events.{events_by}
 use Rattle.pas_steps.specs.Agreement.{Agreed}
 use Rattle.pas_steps.specs.Desks.{Standing}
-use Rattle.pas_steps.proofs.Adding.{adds_none}
+use Rattle.pas_steps.proofs.Called.{call_none, call_as}
 use Rattle.pas_steps.proofs.Frames.{events_append}
 use Rattle.pas_trace.specs.declared.plan.What.{What}
 use Rattle.pas_trace.specs.declared.plan.What.TheVariants.{Free, Raw, Flush, Stop}
 use Rattle.pas_report.specs.declared.record.Said.{Said}
 use Rattle.pas_free_log.specs.declared.log.Entry.{Entry}
 use Rattle.pas_free_log.specs.Logs.{entry_of}
-use Rattle.pas_cache.specs.Caches.{Cached}
+use Rattle.pas_cache.specs.Caches.{Cached, AtRest}
 use Rattle.pas_cache.specs.Calls.{TakesName, RefusesName, Frees, FlushesLog, StopsCache}
 use Rattle.pas_answers.specs.Answers.{Named, standing_for, said_of_fault, IsFreedBy}
 use Rattle.pas_answers.specs.Names.{block_named}
@@ -50,8 +49,7 @@ frees_taken {σ} {σ'} {answer} name c c' done frees is =
     = subst (λ a. MatchResult a (λ done. TakesName σ.seat.profile σ.seat.actor c c' name frees.steps) (RefusesName σ.seat.profile c c' name frees.steps)) is frees.outcome in
     record {
       steps = frees.steps;
-      adds = frees.calls.adds;
-      rest = frees.calls.leads.from;
+      calls = frees.calls;
       few = λ v rest agreed. taken_few σ.seat.profile σ.seat.actor c c' name frees.steps v takes agreed;
       freed = inl (takes, refl);
     }
@@ -62,26 +60,24 @@ frees_refused {σ} {σ'} {answer} name c c' fault frees is =
     = subst (λ a. MatchResult a (λ done. TakesName σ.seat.profile σ.seat.actor c c' name frees.steps) (RefusesName σ.seat.profile c c' name frees.steps)) is frees.outcome in
     record {
       steps = frees.steps;
-      adds = frees.calls.adds;
-      rest = frees.calls.leads.from;
+      calls = frees.calls;
       few = λ v rest agreed. refused_few σ.seat.profile σ.seat.actor c c' name frees.steps fault v refuses;
       freed = inr (fault, refuses, refl);
     }
 
 -- ---- a free by a name of the trace
 -- a name that was asked for stands for what the table says
-behind : (o : Option (Option Block)) (b : Option Block) → o ≡ Some b → block_behind o ≡ b
+behind : (o : Option (Option Name)) (b : Option Name) → o ≡ Some b → block_behind o ≡ b
 behind o b is = ap block_behind is
 
-stands_for : (table : Names) (names : List Named) (name : ℕ) (block : Option Block) → block_named table name ≡ block → Tells table names → IsKnown names (Free name) → standing_for names name ≡ Some block
+stands_for : (table : Names) (names : List Named) (name : ℕ) (block : Option Name) → block_named table name ≡ block → Tells table names → IsKnown names (Free name) → standing_for names name ≡ Some block
 stands_for table names name block named tells known =
     known.1 ∙ ap (λ b. Some b) (sym (behind (standing_for names name) known.0 known.1) ∙ sym (tells name) ∙ named)
 
-pub performs_free : {σ σ' : Standing} {said : Option Said} (what : What) (table : Names) (c c' : Cached) (name : ℕ) (block : Block) → what ≡ Free name → block_named table name ≡ Some block → FreesOne block.name c c' σ σ' said → Performs what (works table c) (works table c') σ σ' said
+pub performs_free : {σ σ' : Standing} {said : Option Said} (what : What) (table : Names) (c c' : Cached) (name : ℕ) (block : Name) → what ≡ Free name → block_named table name ≡ Some block → FreesOne block c c' σ σ' said → Performs what (works table c) (works table c') σ σ' said
 performs_free {σ} {σ'} {said} what table c c' name block is named frees = subst (λ w. Performs w (works table c) (works table c') σ σ' said) (sym is) record {
   steps = frees.steps;
-  adds = frees.adds;
-  rest = frees.rest;
+  calls = frees.calls;
   few = frees.few;
   answered = λ v l stood rest names tells known. (
     names,
@@ -95,8 +91,7 @@ performs_free {σ} {σ'} {said} what table c c' name block is named frees = subs
 pub performs_skip : {σ : Standing} (what : What) (table : Names) (c : Cached) (name : ℕ) → what ≡ Free name → block_named table name ≡ None → Performs what (works table c) (works table c) σ σ (Some (Said.Skipped name))
 performs_skip {σ} what table c name is named = subst (λ w. Performs w (works table c) (works table c) σ σ (Some (Said.Skipped name))) (sym is) record {
   steps = [];
-  adds = adds_none;
-  rest = λ v rest agreed. rest;
+  calls = call_none (λ v rest. rest);
   few = λ v rest agreed. omega arith;
   answered = λ v l stood rest names tells known. (
     names,
@@ -110,8 +105,7 @@ performs_skip {σ} what table c name is named = subst (λ w. Performs w (works t
 pub performs_raw : {σ σ' : Standing} {said : Option Said} (what : What) (table : Names) (c c' : Cached) (block : Name) → what ≡ Raw block → FreesOne block c c' σ σ' said → Performs what (works table c) (works table c') σ σ' said
 performs_raw {σ} {σ'} {said} what table c c' block is frees = subst (λ w. Performs w (works table c) (works table c') σ σ' said) (sym is) record {
   steps = frees.steps;
-  adds = frees.adds;
-  rest = frees.rest;
+  calls = frees.calls;
   few = frees.few;
   answered = λ v l stood rest names tells known. (names, tells, (frees.freed, refl));
   held = refl;
@@ -121,8 +115,7 @@ performs_raw {σ} {σ'} {said} what table c c' block is frees = subst (λ w. Per
 pub performs_flush : {σ σ' : Standing} (what : What) (table : Names) (c c' : Cached) → what ≡ Flush → FlushesLog c c' σ σ' → Performs what (works table c) (works table c') σ σ' None
 performs_flush {σ} {σ'} what table c c' is flushes = subst (λ w. Performs w (works table c) (works table c') σ σ' None) (sym is) record {
   steps = flushes.steps;
-  adds = flushes.calls.adds;
-  rest = flushes.calls.leads.from;
+  calls = flushes.calls;
   few = λ v rest agreed.
       let events = emptied_events σ.seat.actor c.log flushes.steps v flushes.empties in
       let none = ap (λ (d : Cached). length d.log) flushes.cache in
@@ -139,8 +132,7 @@ stopped_events k logged v stopped flushed events silent =
 pub performs_stop : {σ σ' : Standing} (what : What) (table : Names) (c c' : Cached) → what ≡ Stop → StopsCache c c' σ σ' → Performs what (works table c) (works table c') σ σ' None
 performs_stop {σ} {σ'} what table c c' is stops = subst (λ w. Performs w (works table c) (works table c') σ σ' None) (sym is) record {
   steps = stops.stopped ++ stops.flushed;
-  adds = stops.calls.adds;
-  rest = λ v rest agreed. (stops.calls.leads.from v rest agreed).0;
+  calls = call_as (λ v w. AtRest σ.seat.profile c' w) stops.calls (λ v rest. rest) (λ v w rest stopped. stopped.0);
   few = λ v rest agreed.
       let events = stopped_events σ.seat.actor c.log v stops.stopped stops.flushed (emptied_events σ.seat.actor c.log stops.flushed v stops.empties) (stops.silent σ.seat.actor (stops.flushed ++ v)) in
       let none = ap (λ (d : Cached). length d.log) stops.cache in

@@ -55,8 +55,8 @@ pub records_fit : {σ σ' : Standing} {said : Option Said} {c' : Cached} (what :
 unfolding can_rest
 records_fit {σ} {σ'} {said} {c'} what table table' c spare out old new can performs before after =
     let rest = can_rest c what spare out can in
-    let events : length (drop (length old) new) ≡ length (events_by σ.seat.actor can.view performs.steps) = new_few performs.adds old new before after rest in
-    let few = performs.few can.view can.met.may.rest (performs.adds.agreed can.view can.whole can.stood can.met.may.rest) in
+    let events : length (drop (length old) new) ≡ length (events_by σ.seat.actor can.view performs.steps) = new_few performs.calls.adds old new before after rest in
+    let few = performs.few can.view can.met.may.rest (performs.calls.adds.agreed can.view can.whole can.stood can.met.may.rest) in
     let room = can.met.records in
     omega (arith, events, few, room)
 
@@ -79,7 +79,7 @@ pub answers_silent : {σ σ' : Standing} {said : Option Said} (what : What) (tab
 answers_silent {σ} {σ'} {said} what table table' c c' out out' old new is performs before after added room = record {
   said = said;
   performs = performs;
-  pushed = λ v l stood rest. added ∙ ap (λ es. records_in out ++ map Record.Event es) (shown_new performs.adds old new before after v l stood rest)
+  pushed = λ v l stood rest. added ∙ ap (λ es. records_in out ++ map Record.Event es) (shown_new performs.calls.adds old new before after v l stood rest)
       ∙ ap (λ rs. records_in out ++ rs) (sym (append-nil (records_of (events_by σ.seat.actor v performs.steps))) ∙ ap (λ o. records_of (events_by σ.seat.actor v performs.steps) ++ said_by σ.seat.actor o) (sym is));
   room = room;
 }
@@ -89,13 +89,13 @@ pub answers_said : {σ σ' : Standing} {said : Option Said} (what : What) (table
     → Performs what (works table c) (works table' c') σ σ' said → IsShown σ old → IsShown σ' new → records_in pushed ≡ records_in out ++ map Record.Event (drop (length old) new) → room_of pushed ≡ room_of out
     → records_in out' ≡ records_in pushed ++ Record.Said actor message ∷ [] → room_of out' ≡ room_of pushed → Answers what (works table c) (works table' c') out out' σ σ'
 answers_said {σ} {σ'} {said} what table table' c c' out pushed out' old new message actor is actor_is performs before after added same last room =
-    let own : actor ≡ σ.seat.actor = actor_is ∙ ap (λ s. s.actor) performs.adds.seat_is in
+    let own : actor ≡ σ.seat.actor = actor_is ∙ ap (λ s. s.actor) performs.calls.adds.seat_is in
     record {
       said = said;
       performs = performs;
       pushed = λ v l stood rest.
           let records = records_of (events_by σ.seat.actor v performs.steps) in
-          let first : records_in pushed ≡ records_in out ++ records = added ∙ ap (λ es. records_in out ++ map Record.Event es) (shown_new performs.adds old new before after v l stood rest) in
+          let first : records_in pushed ≡ records_in out ++ records = added ∙ ap (λ es. records_in out ++ map Record.Event es) (shown_new performs.calls.adds old new before after v l stood rest) in
           last ∙ ap (λ k. records_in pushed ++ Record.Said k message ∷ []) own ∙ ap (λ rs. rs ++ said_by σ.seat.actor (Some message)) first
           ∙ append_assoc (records_in out) records (said_by σ.seat.actor (Some message)) ∙ ap (λ o. records_in out ++ (records ++ said_by σ.seat.actor o)) (sym is);
       room = room ∙ same;

@@ -11,12 +11,13 @@ use Rattle.pas_profile.specs.declared.directory.Directory.{Directory}
 use Rattle.pas_profile.specs.declared.event.Event.{Event}
 use Rattle.pas_profile.specs.declared.event.NoRoom.{NoRoom}
 use Rattle.pas_profile.specs.declared.name.Block.{Block}
+use Rattle.pas_profile.specs.declared.name.Name.{Name}
 use Rattle.pas_profile.specs.declared.word.Word.TheVariants as Word
-use Rattle.pas_profile.proofs.Codecs.{same_from_deed_word, directory_from_profile}
+use Rattle.pas_profile.proofs.Codecs.{same_from_deed_word, directory_from_profile, deed_word_of-positive}
 use Rattle.pas_machine.specs.State.{deed_in}
 use Rattle.pas_core.specs.Good.{word_of_deed}
 use Rattle.pas_bits.proofs.Words.{none_of_zero}
-use Rattle.pas_core.proofs.DeedWords.{known_is, deed_word_ne}
+use Rattle.pas_core.proofs.DeedWords.{known_is}
 use Rattle.pas_core.proofs.Deeds.{deed_of, directory_is_of}
 use Rattle.pas_core.proofs.Knowledge.{deeds_known}
 use Rattle.pas_steps.specs.declared.step.Made.{Made}
@@ -57,7 +58,7 @@ directory_is (Some x) d is all word = ap (λ y. Some y) (same_from_deed_word x d
 -- a deed that an actor knows is the page's deed
 pub known_directory : (f : Profile) (l : Whole) (k page : ℕ) (d : Directory) → IsValid f → Legal f l → IsDirectoryOf f d → KnowsDeed page d (part k l) → deed_in (visible l) page ≡ Some d
 known_directory f l k page d valid legal of knows =
-    let some : known_deed (part k l) page ≢ 0 = λ none. deed_word_ne d (sym knows ∙ none) in
+    let some : known_deed (part k l) page ≢ 0 = λ none. deed_word_of-positive d (sym knows ∙ none) in
     directory_is (deed_in (visible l) page) d (directory_from_profile f d valid of) (λ x found. directory_from_profile f x valid (directory_is_of f l legal page x found))
     (sym (deed_of f l legal page) ∙ sym (known_is (known_deed (part k l) page) (word_after l (Word.Deed page)) (deeds_known f l legal k page) some) ∙ knows)
 
@@ -76,31 +77,31 @@ refused_few f k c c' steps v same silent agreed =
 
 -- ---- the names
 -- after the request the table has this at its name
-abbrev pub SetsName : Names → Names → ℕ → Option Block → Type 0
+abbrev pub SetsName : Names → Names → ℕ → Option Name → Type 0
 SetsName table table' name block = (n : ℕ) → block_named table' n ≡ (if name == n then block else block_named table n)
 
-tells_one : (t : Bool) (block was : Option Block) (old : Option (Option Block)) → was ≡ block_behind old → (if t then block else was) ≡ block_behind (if t then Some block else old)
+tells_one : (t : Bool) (block was : Option Name) (old : Option (Option Name)) → was ≡ block_behind old → (if t then block else was) ≡ block_behind (if t then Some block else old)
 tells_one true block was old tells = refl
 tells_one false block was old tells = tells
 
-tells_more : (table table' : Names) (names : List Named) (name : ℕ) (block : Option Block) → Tells table names → SetsName table table' name block → Tells table' (named name block ∷ names)
+tells_more : (table table' : Names) (names : List Named) (name : ℕ) (block : Option Name) → Tells table names → SetsName table table' name block → Tells table' (named name block ∷ names)
 tells_more table table' names name block tells sets n = sets n ∙ tells_one (name == n) block (block_named table n) (standing_for names n) (tells n)
 
-turn_of_one : (t : Bool) (block was : Option Block) (b : Block) → ((b : Block) → block ≡ Some b → b.name.turn < 2 ^ 40 - 1) → (was ≡ Some b → b.name.turn < 2 ^ 40 - 1) → (if t then block else was) ≡ Some b → b.name.turn < 2 ^ 40 - 1
+turn_of_one : (t : Bool) (block was : Option Name) (b : Name) → ((b : Name) → block ≡ Some b → b.turn < 2 ^ 40 - 1) → (was ≡ Some b → b.turn < 2 ^ 40 - 1) → (if t then block else was) ≡ Some b → b.turn < 2 ^ 40 - 1
 turn_of_one true block was b new old is = new b is
 turn_of_one false block was b new old is = old is
 
-turns_with : (table table' : Names) (name : ℕ) (block : Option Block) → HasTurns table → SetsName table table' name block → ((b : Block) → block ≡ Some b → b.name.turn < 2 ^ 40 - 1) → HasTurns table'
+turns_with : (table table' : Names) (name : ℕ) (block : Option Name) → HasTurns table → SetsName table table' name block → ((b : Name) → block ≡ Some b → b.turn < 2 ^ 40 - 1) → HasTurns table'
 turns_with table table' name block turns sets new n b is = turn_of_one (name == n) block (block_named table n) b new (turns n b) (sym (sets n) ∙ is)
 
 -- the turn of a block that was given is far below the last one
-pub turns_given : {σ σ' : Standing} {answer : Result Block NoRoom} {tells : Bool} (table table' : Names) (c c' : Cached) (name heap size align spare : ℕ) (block : Block) → HasTurns table → SetsName table table' name (Some block)
+pub turns_given : {σ σ' : Standing} {answer : Result Block NoRoom} {tells : Bool} (table table' : Names) (c c' : Cached) (name heap size align spare : ℕ) (block : Block) → HasTurns table → SetsName table table' name (Some block.name)
     → CanCall σ (λ v l. MayPerform σ.seat.profile c (Alloc name heap size align) spare v) → Allocates (wanted_for σ.seat.profile heap size align) tells c c' σ σ' answer → answer ≡ Ok block → HasTurns table'
 turns_given {σ} {σ'} {answer} {tells} table table' c c' name heap size align spare block turns sets can call is =
     let of : IsBlockFor σ.seat.profile (wanted_for σ.seat.profile heap size align) (AtRest σ.seat.profile c) call.steps block
     = subst (λ a. MatchResult a (IsBlockFor σ.seat.profile (wanted_for σ.seat.profile heap size align) (AtRest σ.seat.profile c) call.steps) (λ room. IsSilent call.steps)) is call.outcome in
     let small = of.turn.from can.view can.met.rest (call.calls.adds.agreed can.view can.whole can.stood can.met.rest) in
-    turns_with table table' name (Some block) turns sets (λ b same. subst (λ d. d.name.turn < 2 ^ 40 - 1) (same_Some _ _ same) (omega (arith, small)))
+    turns_with table table' name (Some block.name) turns sets (λ b same. subst (λ d. d.turn < 2 ^ 40 - 1) (same_Some _ _ same) (omega (arith, small)))
 
 pub turns_refused : (table table' : Names) (name : ℕ) → HasTurns table → SetsName table table' name None → HasTurns table'
 turns_refused table table' name turns sets = turns_with table table' name None turns sets (λ b same. absurd (none-some _ same))
@@ -108,23 +109,22 @@ turns_refused table table' name turns sets = turns_with table table' name None t
 -- ---- a request
 pub performs_given : {σ σ' : Standing} {answer : Result Block NoRoom} {tells : Bool} (table table' : Names) (c c' : Cached) (name heap size align : ℕ) (block : Block)
     → IsClassRoute (route_of size align)
-    → Allocates (wanted_for σ.seat.profile heap size align) tells c c' σ σ' answer → answer ≡ Ok block → SetsName table table' name (Some block) → names_held table' ≡ names_held table
+    → Allocates (wanted_for σ.seat.profile heap size align) tells c c' σ σ' answer → answer ≡ Ok block → SetsName table table' name (Some block.name) → names_held table' ≡ names_held table
     → Performs (Alloc name heap size align) (works table c) (works table' c') σ σ' None
 performs_given {σ} {σ'} {answer} {tells} table table' c c' name heap size align block route call is sets held =
     let of : IsBlockFor σ.seat.profile (wanted_for σ.seat.profile heap size align) (AtRest σ.seat.profile c) call.steps block
     = subst (λ a. MatchResult a (IsBlockFor σ.seat.profile (wanted_for σ.seat.profile heap size align) (AtRest σ.seat.profile c) call.steps) (λ room. IsSilent call.steps)) is call.outcome in
     record {
       steps = call.steps;
-      adds = call.calls.adds;
-      rest = call.calls.leads.from;
+      calls = call.calls;
       few = λ v rest agreed. given_few σ.seat.profile σ.seat.actor c c' call.steps v (ap (λ x. x.log) call.change.cache) (call.few σ.seat.actor v rest agreed).paid;
       answered = λ v l stood rest names tells known. (
-        named name (Some block) ∷ names,
-        tells_more table table' names name (Some block) tells sets,
+        named name (Some block.name) ∷ names,
+        tells_more table table' names name (Some block.name) tells sets,
         record {
           route = route;
           answer = Ok block;
-          serves = subst (λ a. ServesRequest σ.seat.profile (directory_for σ.seat.profile heap size align) heap (class_of (route_of size align)) c c' call.steps a) is call.change;
+          serves = subst (λ a. ServesRequest σ.seat.profile (wanted_for σ.seat.profile heap size align) c c' call.steps a) is call.change;
           kinds = call.kinds;
           ends = record {
             of_heap = of.of_heap;
@@ -151,8 +151,7 @@ performs_refused {σ} {σ'} {answer} {tells} table table' c c' name heap size al
     = subst (λ a. MatchResult a (IsBlockFor σ.seat.profile (wanted_for σ.seat.profile heap size align) (AtRest σ.seat.profile c) call.steps) (λ room. IsSilent call.steps)) is call.outcome in
     record {
       steps = call.steps;
-      adds = call.calls.adds;
-      rest = call.calls.leads.from;
+      calls = call.calls;
       few = λ v rest agreed. refused_few σ.seat.profile σ.seat.actor c c' call.steps v (ap (λ x. x.log) call.change.cache) (silent σ.seat.actor v) agreed;
       answered = λ v l stood rest names tells known. (
         named name None ∷ names,
@@ -160,7 +159,7 @@ performs_refused {σ} {σ'} {answer} {tells} table table' c c' name heap size al
         record {
           route = route;
           answer = Err room;
-          serves = subst (λ a. ServesRequest σ.seat.profile (directory_for σ.seat.profile heap size align) heap (class_of (route_of size align)) c c' call.steps a) is call.change;
+          serves = subst (λ a. ServesRequest σ.seat.profile (wanted_for σ.seat.profile heap size align) c c' call.steps a) is call.change;
           kinds = call.kinds;
           ends = silent σ.seat.actor v;
           said_is = refl;

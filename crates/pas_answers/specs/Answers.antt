@@ -30,16 +30,16 @@ use Rattle.pas_cache.specs.Serves.{Wanted, wanted_for, class_of, ServesRequest, 
 use Rattle.pas_cache.specs.Calls.{TakesName, RefusesName}
 use Rattle.pas_answers.specs.Acts.{Act, Operates, MarksPhase, Wakes, MarksClose, Ends}
 
--- ---- what the names of a trace stand for, the newest first: a block, or nothing where the request was refused
+-- ---- what the names of a trace stand for, the newest first: a block, by its address and turn, or nothing where the request was refused
 pub record Named : Type 0 where
   pub name : ℕ
-  pub block : Option Block
+  pub block : Option Name
 
-abbrev pub named : ℕ → Option Block → Named
+abbrev pub named : ℕ → Option Name → Named
 named name block = record { name = name; block = block }
 
 -- what the name stands for; None where no request had it
-abbrev pub standing_for : List Named → ℕ → Option (Option Block)
+abbrev pub standing_for : List Named → ℕ → Option (Option Name)
 standing_for [] name = None
 standing_for (n ∷ names) name = if n.name == name then Some n.block else standing_for names name
 
@@ -92,9 +92,9 @@ said_of_request name (Ok block) = None
 said_of_request name (Err room) = Some (said_of_room name room)
 
 -- the block that its name stands for from then on
-abbrev pub block_of : Result Block NoRoom → Option Block
-block_of (Ok block) = Some block
-block_of (Err room) = None
+abbrev pub name_of : Result Block NoRoom → Option Name
+name_of (Ok block) = Some block.name
+name_of (Err room) = None
 
 -- what is asked for: under which name, of which heap, how many bytes, and at a multiple of what
 pub record Request : Type 0 where
@@ -128,11 +128,11 @@ RequestEnds k wanted v steps served = MatchResult served (IsGiven k wanted v ste
 pub record IsServed (f : Profile) (k : ℕ) (r : Request) (before : Having) (after : Answer) : Type 0 where
   pub route : IsClassRoute (route_of r.size r.align)
   pub answer : Result Block NoRoom
-  pub serves : ServesRequest f (wanted_by f r).directory r.heap (class_of (route_of r.size r.align)) before.cache after.cache after.steps answer
+  pub serves : ServesRequest f (wanted_by f r) before.cache after.cache after.steps answer
   pub kinds : Only allocating after.steps
   pub ends : RequestEnds k (wanted_by f r) before.view after.steps answer
   pub said_is : after.said ≡ said_of_request r.name answer
-  pub names_are : after.names ≡ named r.name (block_of answer) ∷ before.names
+  pub names_are : after.names ≡ named r.name (name_of answer) ∷ before.names
 
 -- ---- a free
 abbrev pub said_of_fault : Name → FreeFault → Said
@@ -147,10 +147,10 @@ IsFreed f k c c' name steps said =
 
 -- what a free by a name of the trace comes to: the name was never asked for (which no trace has), its request was refused, or it stands for a
 -- block
-abbrev pub IsFreedBy : Profile → ℕ → Cached → Cached → ℕ → Option (Option Block) → List Made → Option Said → Type 0
+abbrev pub IsFreedBy : Profile → ℕ → Cached → Cached → ℕ → Option (Option Name) → List Made → Option Said → Type 0
 IsFreedBy f k c c' name None steps said = ⊥
 IsFreedBy f k c c' name (Some None) steps said = (steps ≡ []) × (c' ≡ c) × (said ≡ Some (Said.Skipped name))
-IsFreedBy f k c c' name (Some (Some block)) steps said = IsFreed f k c c' block.name steps said
+IsFreedBy f k c c' name (Some (Some block)) steps said = IsFreed f k c c' block steps said
 
 -- ---- a flush and a stop
 pub record IsFlushed (k : ℕ) (c c' : Cached) (steps : List Made) : Type 0 where

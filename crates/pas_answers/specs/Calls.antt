@@ -2,12 +2,11 @@
 use Rattle.std.specs.Prelude.{ℕ, ◌+◌, ◌-◌, ◌^◌, ◌<◌, ◌≤◌, ◌≡◌, List, ◌++◌, length, Option, None, Some}
 use Rattle.pas_profile.specs.declared.profile.Profile.{Profile}
 use Rattle.pas_profile.specs.declared.name.Name.{Name}
-use Rattle.pas_profile.specs.declared.name.Block.{Block}
 use Rattle.pas_steps.specs.Views.{View}
 use Rattle.pas_steps.specs.Agreement.{Agreed}
 use Rattle.pas_steps.specs.Events.{events_by}
 use Rattle.pas_steps.specs.Lists.{Whole}
-use Rattle.pas_steps.specs.Desks.{Standing, Adds}
+use Rattle.pas_steps.specs.Desks.{Standing}
 use Rattle.pas_steps.specs.declared.step.Made.{Made}
 use Rattle.pas_trace.specs.declared.plan.What.{What}
 use Rattle.pas_trace.specs.declared.plan.What.TheVariants.{Alloc, Free, Raw, Flush, Stop, Tick, Pass, Idle}
@@ -15,6 +14,7 @@ use Rattle.pas_report.specs.Rooms.{records_in, room_of}
 use Rattle.pas_report.specs.declared.record.Said.{Said}
 use Rattle.pas_report.specs.declared.records.Records.{Records}
 use Rattle.pas_cache.specs.Caches.{Cached, AtRest}
+use Rattle.pas_cache.specs.Calls.{Rests}
 use Rattle.pas_steps.specs.Unknown.{unknown_pages}
 use Rattle.pas_answers.specs.Answers.{having, answer_of, Named, standing_for, IsFreed, IsAnswered, records_of, said_by}
 use Rattle.pas_answers.specs.Fit.{cost_of_what}
@@ -23,7 +23,7 @@ use Rattle.pas_answers.specs.declared.names.Names.{Names}
 
 -- ---- the table of names
 -- the block that a name stands for, where it stands for one
-abbrev pub block_behind : Option (Option Block) → Option Block
+abbrev pub block_behind : Option (Option Name) → Option Name
 block_behind None = None
 block_behind (Some block) = block
 
@@ -33,12 +33,12 @@ Tells table names = (n : ℕ) → block_named table n ≡ block_behind (standing
 
 -- the turn of each block in it has a next one
 abbrev pub HasTurns : Names → Type 0
-HasTurns table = (n : ℕ) (block : Block) → block_named table n ≡ Some block → block.name.turn < 2 ^ 40 - 1
+HasTurns table = (n : ℕ) (block : Name) → block_named table n ≡ Some block → block.turn < 2 ^ 40 - 1
 
 -- a name that is freed was asked for
 abbrev pub IsKnown : List Named → What → Type 0
 IsKnown names (Alloc name heap size align) = Unit {0}
-IsKnown names (Free name) = (block : Option Block) × (standing_for names name ≡ Some block)
+IsKnown names (Free name) = (block : Option Name) × (standing_for names name ≡ Some block)
 IsKnown names (Raw block) = Unit {0}
 IsKnown names Flush = Unit {0}
 IsKnown names Stop = Unit {0}
@@ -53,10 +53,6 @@ abbrev pub owed_events : Profile → Cached → View → ℕ
 owed_events f c v = unknown_pages f v + length c.log
 
 -- ---- an operation
--- an actor at rest with the one cache is at rest with the other after these steps
-abbrev pub StaysAtRest : Profile → Cached → Cached → List Made → Type 0
-StaysAtRest f c c' steps = (v : View) → AtRest f c v → Agreed f v steps → AtRest f c' (steps ++ v)
-
 -- the actor is at rest with its cache, and there is room for so many events
 pub record MayPerform (f : Profile) (c : Cached) (what : What) (spare : ℕ) (v : View) : Type 0 where
   pub rest : AtRest f c v
@@ -73,8 +69,7 @@ works table c = record { table = table; cache = c }
 -- The steps and what is said answer the operation, and the actor is at rest again. The events and what is said are paid for.
 pub record Performs (what : What) (before after : Works) (desk desk' : Standing) (said : Option Said) : Type 0 where
   pub steps : List Made
-  pub adds : Adds desk desk' (λ v l. AtRest desk.seat.profile before.cache v) steps
-  pub rest : StaysAtRest desk.seat.profile before.cache after.cache steps
+  pub calls : Rests before.cache after.cache desk desk' steps
   pub few : (v : View) → AtRest desk.seat.profile before.cache v → Agreed desk.seat.profile v steps
       → length (events_by desk.seat.actor v steps) + length (said_by desk.seat.actor said) + owed_events desk.seat.profile after.cache (steps ++ v) ≤ cost_of_what what + owed_events desk.seat.profile before.cache v
   pub answered : (v : View) (l : Whole) → desk.stands v l → AtRest desk.seat.profile before.cache v → (names : List Named) → Tells before.table names → IsKnown names what
@@ -84,8 +79,7 @@ pub record Performs (what : What) (before after : Works) (desk desk' : Standing)
 -- a free by name and turn
 pub record FreesOne (block : Name) (c c' : Cached) (desk desk' : Standing) (said : Option Said) : Type 0 where
   pub steps : List Made
-  pub adds : Adds desk desk' (λ v l. AtRest desk.seat.profile c v) steps
-  pub rest : StaysAtRest desk.seat.profile c c' steps
+  pub calls : Rests c c' desk desk' steps
   pub few : (v : View) → AtRest desk.seat.profile c v → Agreed desk.seat.profile v steps
       → length (events_by desk.seat.actor v steps) + length (said_by desk.seat.actor said) + owed_events desk.seat.profile c' (steps ++ v) ≤ 1 + owed_events desk.seat.profile c v
   pub freed : IsFreed desk.seat.profile desk.seat.actor c c' block steps said

@@ -59,7 +59,7 @@ fn allocate<D: Desk>(
 {
     match cache.alloc(desk, heap, size, align) {
         Ok(block) => {
-            names.set(name, Some(block));
+            names.set(name, Some(block.name));
             None
         }
         Err(room) => {
@@ -106,7 +106,7 @@ fn perform<D: Desk>(
             align,
         } => allocate(desk, cache, names, name, heap, size, align),
         What::Free { name } => match names.get(name) {
-            Some(block) => free(desk, cache, block.name),
+            Some(block) => free(desk, cache, block),
             None => Some(Said::Skipped { name }),
         },
         What::Raw { block } => free(desk, cache, block),

@@ -2,13 +2,14 @@
 ghost use Rattle.std.specs.Prelude.{◌≡◌, ◌<◌, ◌==◌, ℕ, None, if◌then◌else◌, length, IfOk};
 ghost use Rattle.pas_answers.specs.Names.{block_named, names_held};
 
-use pas_profile::{Block, NoMemory};
+use pas_profile::{Name, NoMemory};
 use std::alloc::Global;
 
-/// A block by each name, at the place of the name; None where no request had it, or the request was refused.
+/// A block, by its address and turn, for each name of the trace, at the place of the name; None where no request had it, or
+/// the request was refused. 24 bytes a name.
 #[derive(Drop)]
 pub struct Names {
-    blocks: Vec<Option<Block>>,
+    blocks: Vec<Option<Name>>,
 }
 
 impl Names {
@@ -24,7 +25,7 @@ impl Names {
     }
 
     /// From now on the name stands for this.
-    pub fn set(&mut self, name: u32, block: Option<Block>)
+    pub fn set(&mut self, name: u32, block: Option<Name>)
         requires { name < names_held self.old }
         ensures names { (n : ℕ) → block_named self.new n ≡ (if name == n then block else block_named self.old n) }
         ensures room { names_held self.new ≡ names_held self.old }
@@ -33,7 +34,7 @@ impl Names {
     }
 
     /// What the name stands for.
-    pub fn get(&self, name: u32) -> Option<Block>
+    pub fn get(&self, name: u32) -> Option<Name>
         ensures { result ≡ block_named self.now name }
     {
         match self.blocks.get(name as usize) {

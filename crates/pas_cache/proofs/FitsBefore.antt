@@ -15,8 +15,9 @@ use Rattle.pas_steps.specs.declared.step.Made.{Made}
 use Rattle.pas_steps.specs.declared.step.Step.{Step}
 use Rattle.pas_steps.specs.declared.step.Step.TheVariants.{Look, Deed, Take, Put, TakeRight, Offer}
 use Rattle.pas_bits.proofs.Words.{bit_of_or}
-use Rattle.pas_search.specs.Serving.{Rule, IsAntitone}
+use Rattle.pas_search.specs.Serving.{IsAntitone}
 use Rattle.pas_search.specs.Telling.{free_of_page, HasNoFit}
+use Rattle.pas_steps.specs.Evidence.{Readings}
 use Rattle.pas_steps.specs.Kinds.{Only, is_in, kind_of}
 use Rattle.pas_cache.specs.Kinds.{releasing}
 
@@ -61,8 +62,8 @@ deed_same k [] l p are = refl
 deed_same k (m ∷ xs) l p are = deed_step (epoch_of (part k (triples k xs ++ l))) m.step p (word_after (triples k xs ++ l) (Word.Deed p)) are.0 ∙ deed_same k xs l p are.1
 
 -- ---- where no page can serve afterwards, none could before
-pub no_fit_before : {F : Type 0} (rule : Rule F) (f : Profile) (d : Directory) (k : ℕ) (xs : List Made) (l : Whole) → IsAntitone rule.no_fit → Only releasing xs → HasNoFit rule f d (triples k xs ++ l) → HasNoFit rule f d l
-no_fit_before rule f d k xs l fewer are none = record {
+pub no_fit_before : (no_fit : Readings → Type 0) (f : Profile) (d : Directory) (k : ℕ) (xs : List Made) (l : Whole) → IsAntitone no_fit → Only releasing xs → HasNoFit no_fit f d (triples k xs ++ l) → HasNoFit no_fit f d l
+no_fit_before no_fit f d k xs l fewer are none = record {
   offered = λ page o. none.offered page (record {
     of_region = o.of_region;
     offered = offered_stays k xs l (number_of d) (page / 64) (page % 64) are o.offered;

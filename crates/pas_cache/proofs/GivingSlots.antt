@@ -2,9 +2,10 @@
 use Rattle.std.proofs.Common.{◌≡◌, ℕ, ◌/◌, ◌%◌, ◌==◌, Bool, true, false, not, ◌&&◌, ◌||◌, if◌then◌else◌, List, [], ◌∷◌, ◌++◌, inl, refl, ap, sym, ◌∙◌, subst, arith, true≢false}
 use Rattle.std.proofs.lemmas.Bool.{eq-eqb, eqb-true, and_parts, and_from}
 use Rattle.std.proofs.lemmas.List.Elements.{All-cons}
-use Rattle.pas_profile.specs.Classes.{class_grains, IsSlotStart}
+use Rattle.pas_profile.specs.Classes.{IsClass, class_grains, IsSlotStart}
 use Rattle.pas_profile.specs.Directories.{deed_word_of}
 use Rattle.pas_profile.specs.Profiles.{IsPage, IsDirectoryOf}
+use Rattle.pas_profile.specs.Requests.{is_shared}
 use Rattle.pas_profile.specs.Runs.{in_run, grain_of, length_of}
 use Rattle.pas_profile.specs.declared.name.Block.{Block}
 use Rattle.pas_profile.specs.declared.profile.Profile.{Profile}
@@ -19,7 +20,7 @@ use Rattle.pas_steps.specs.declared.step.Made.{Made}
 use Rattle.pas_steps.specs.declared.step.Step.TheVariants.{Look, Give}
 use Rattle.pas_steps.proofs.Calls.{does_then, does_as, does_step}
 use Rattle.pas_segregated.specs.Masks.{start_of}
-use Rattle.pas_segregated.specs.Stops.{class_directory, directory_of}
+use Rattle.pas_segregated.specs.Stops.{home_by, home_of}
 use Rattle.pas_segregated.specs.declared.slots.Slots.{Slots}
 use Rattle.pas_segregated.proofs.Starts.{start_at, start_below}
 use Rattle.pas_cache.specs.Changes.{GivesSlot}
@@ -97,18 +98,18 @@ module _ (f : Profile) (locals : List Slots) (slots rest : Slots) (block : Block
   same_pair heap class = ap (λ x. (x == heap) && (rest.class == class)) gives.rest.heap ∙ ap (λ x. (slots.heap == heap) && (x == class)) gives.rest.class
 
   inside_covered : (g : ℕ) → in_run (grain_of block.name) (length_of block) g ≡ true → covers slots g ≡ true
-  inside_covered g inside = slot_covers slots start g slot gives.lowest.set (in_slot slots start g local.directory.kind slot (sym (run_is g) ∙ inside))
+  inside_covered g inside = slot_covers slots start g slot gives.lowest.set (in_slot slots start g local.class slot (sym (run_is g) ∙ inside))
 
   inside_gone : (g : ℕ) → in_run (grain_of block.name) (length_of block) g ≡ true → (covers rest g || any_covers locals g) ≡ false
   inside_gone g inside =
-      let at : InSlot slots start g = in_slot slots start g local.directory.kind slot (sym (run_is g) ∙ inside) in
+      let at : InSlot slots start g = in_slot slots start g local.class slot (sym (run_is g) ∙ inside) in
       let same : (start_here g == start) ≡ true = eq-eqb (start_here g) start (start_at slots.class start (g % 256) slot at.low at.high) in
       let gone : covers rest g ≡ false = covers_rest g ∙ (ap (λ t. (slots.page == g / 256) && (not t && is_set slots.starts (start_here g))) same ∙ and_no (slots.page == g / 256)) in
       ap (λ t. t || any_covers locals g) gone ∙ no_other_grain f slots locals v h g (inside_covered g inside)
 
   outside_same : (g : ℕ) → in_run (grain_of block.name) (length_of block) g ≡ false → covers rest g ≡ covers slots g
   outside_same g outside = covers_rest g ∙ unless_start (slots.page == g / 256) (start_here g == start) (is_set slots.starts (start_here g)) (λ page at.
-      let below = start_below slots.class (g % 256) local.directory.kind in
+      let below = start_below slots.class (g % 256) local.class in
       let low = below.0 in
       let high = below.1 in
       let p : slots.page ≡ g / 256 = eqb-true slots.page (g / 256) page in
@@ -121,15 +122,17 @@ module _ (f : Profile) (locals : List Slots) (slots rest : Slots) (block : Block
   rest_kept : (g : ℕ) → covers rest g ≡ true → (if in_run (grain_of block.name) (length_of block) g then Lost else Kept) ≡ Kept
   rest_kept g of_rest = kept_unless (in_run (grain_of block.name) (length_of block) g) (λ inside. true≢false (sym (ap (λ t. t || any_covers locals g) of_rest) ∙ inside_gone g inside))
 
-  same_directory : directory_of rest ≡ directory_of slots
-  same_directory = ap (λ x. class_directory x rest.class) gives.rest.heap ∙ ap (λ x. class_directory slots.heap x) gives.rest.class
+  same_home : home_of rest ≡ home_of slots
+  same_home = ap (λ h. home_by h rest.class rest.right) gives.rest.heap ∙ (ap (λ c. home_by slots.heap c rest.right) gives.rest.class ∙ ap (home_by slots.heap slots.class) gives.rest.right)
 
   rest_before : IsLocal f v rest
   rest_before = record {
     page = subst (IsPage f) (sym gives.rest.page) local.page;
-    directory = subst (IsDirectoryOf f) (sym same_directory) local.directory;
+    class = subst IsClass (sym gives.rest.class) local.class;
+    directory = subst (IsDirectoryOf f) (sym same_home) local.directory;
+    kept = gives.rest.right ∙ (local.kept ∙ ap (λ h. not (is_shared f h)) (sym gives.rest.heap));
     starts = λ g set. subst (λ c. IsSlotStart c g) (sym gives.rest.class) (local.starts g (and_parts (not (g == start)) (is_set slots.starts g) (sym (gives.rest.starts g) ∙ set)).1);
-    deed = ap (known_deed v) gives.rest.page ∙ (local.deed ∙ ap deed_word_of (sym same_directory));
+    deed = ap (known_deed v) gives.rest.page ∙ (local.deed ∙ ap deed_word_of (sym same_home));
     backed = λ left. ap (knows_backed v) gives.rest.page ∙ local.backed (start, gives.lowest.within, gives.lowest.set);
   }
 
@@ -151,4 +154,4 @@ module _ (f : Profile) (locals : List Slots) (slots rest : Slots) (block : Block
 
   -- the block's pages
   pub given_page : (g : ℕ) → in_run (grain_of block.name) (length_of block) g ≡ true → g / 256 ≡ slots.page
-  given_page g inside = (in_slot slots start g local.directory.kind slot (sym (run_is g) ∙ inside)).page
+  given_page g inside = (in_slot slots start g local.class slot (sym (run_is g) ∙ inside)).page

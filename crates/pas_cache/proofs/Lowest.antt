@@ -19,7 +19,7 @@ use Rattle.pas_steps.specs.declared.step.Step.TheVariants.{Look, Give}
 use Rattle.pas_steps.proofs.Adding.{adds_none, adds_step, can_step, room_left}
 use Rattle.pas_steps.proofs.Frames.{given_le}
 use Rattle.pas_steps.proofs.Backed.{backed_holds}
-use Rattle.pas_segregated.specs.Stops.{directory_of}
+use Rattle.pas_segregated.specs.Stops.{home_of}
 use Rattle.pas_segregated.specs.declared.slots.Slots.{Slots}
 use Rattle.pas_segregated.proofs.Starts.{start_at}
 use Rattle.pas_cache.specs.Locals.{covers}
@@ -78,7 +78,7 @@ module _ (f : Profile) (slots : Slots) (start word : ℕ) (lowest : IsLowestSet 
   slot = may.local.starts start lowest.set
 
   abbrev class : IsClass slots.class
-  class = may.local.directory.kind
+  class = may.local.class
 
   abbrev looked : View
   looked = made (Look (Word.Life slots.page start)) word ∷ v
@@ -98,7 +98,7 @@ module _ (f : Profile) (slots : Slots) (start word : ℕ) (lowest : IsLowestSet 
   bears : KnowsBearing f looked slots.heap slots.page
   bears = record {
     backed = and_from (knows_backed v slots.page) (holds_on v slots.page) known (backed_holds v slots.page known);
-    directory = directory_of slots;
+    directory = home_of slots;
     of_profile = may.local.directory;
     deed = may.local.deed;
     of_heap = refl;

@@ -5,8 +5,6 @@ use Rattle.std.specs.List.Sorted.{IsPermutation}
 use Rattle.std.specs.Result.{result_ok}
 use Rattle.std.proofs.lemmas.Bool.{and_parts, eqb-true}
 use Rattle.std.proofs.lemmas.List.Sorted.{length_permutation}
-use Rattle.pas_profile.specs.Profiles.{IsDirectoryOf}
-use Rattle.pas_profile.specs.declared.directory.Directory.{Directory}
 use Rattle.pas_profile.specs.declared.event.NoRoom.{NoRoom}
 use Rattle.pas_profile.specs.declared.profile.Profile.{Profile}
 use Rattle.pas_bits.specs.Masks.{is_set, IsEmpty, HasMember}
@@ -20,26 +18,23 @@ use Rattle.pas_steps.proofs.Apart.{no_events}
 use Rattle.pas_steps.proofs.Called.{call_none}
 use Rattle.pas_steps.proofs.Unknown.{unknown_stays, room_after}
 use Rattle.pas_search.specs.Telling.{HasNoFit, IsTold}
-use Rattle.pas_search.specs.declared.serving.Served.{Served}
-use Rattle.pas_bits.specs.declared.mask.Mask4.{Mask4}
 use Rattle.pas_segregated.specs.Masks.{start_of}
-use Rattle.pas_segregated.specs.Refills.{answer_of, Refills}
+use Rattle.pas_segregated.specs.Refills.{Filling, Refills}
 use Rattle.pas_segregated.specs.Returns.{BackSteps}
-use Rattle.pas_segregated.specs.Stops.{class_directory, directory_of, LeavesWhere, StopSteps, Stops}
-use Rattle.pas_segregated.specs.Takes.{exclusive, fewer_slots}
+use Rattle.pas_segregated.specs.Stops.{home_of, LeavesWhere, StopStepsAt, StopsAt}
 use Rattle.pas_segregated.specs.declared.slots.Slots.{Slots}
 use Rattle.pas_segregated.proofs.Starts.{start_below}
 use Rattle.pas_cache.specs.Changes.{LeavesSpent, StopsFirst, IsTakenOut, IsShortened}
 use Rattle.pas_cache.specs.Kinds.{releasing}
 use Rattle.pas_cache.specs.Locals.{is_for, local_for, others_than, HasOneEach, RestsWith}
 use Rattle.pas_cache.specs.Parts.{Releases, TakesCached, MayObtain, Obtains}
-use Rattle.pas_cache.specs.Serves.{MakesPlace, IsRefill, HasNoneCached, IsToldBy}
+use Rattle.pas_cache.specs.Serves.{MakesPlace, IsFilling, IsRefill, HasNoneCached, IsToldBy}
 use Rattle.pas_cache.proofs.FitsBefore.{no_fit_before}
 use Rattle.pas_cache.proofs.Locals.{none_found, found_passes, none_left}
 use Rattle.pas_cache.proofs.RefillEvents.{refill_few}
-use Rattle.pas_cache.proofs.Refills.{may_search, refill_of, found_by, rests_refilled}
+use Rattle.pas_cache.proofs.Refills.{may_search, refill_of, found_by, cached_home, rests_refilled}
 use Rattle.pas_cache.proofs.Resting.{rests_reordered}
-use Rattle.pas_cache.proofs.Stops.{releases_by, releases_none, releases_then, rests_then}
+use Rattle.pas_cache.proofs.Stops.{local_of, releases_by, releases_none, releases_then, rests_then}
 
 -- ---- what is taken out
 pub taken_moves : (heap class : ℕ) (locals others : List Slots) (slots : Slots) → HasOneEach locals → Some slots ≡ local_for heap class locals → others ≡ others_than heap class locals → IsPermutation locals (slots ∷ others)
@@ -68,17 +63,17 @@ no_set slots g is empty lt set =
     let below = (start_below slots.class g is).0 in
     true≢false (sym set ∙ empty (start_of slots.class g) (omega (arith, below, lt)))
 
-nothing_back : (slots : Slots) (steps : List Made) → slots.class < 16 → IsEmpty slots.starts → (h : StopSteps slots steps) → BackSteps slots.page (directory_of slots) h.mask h.back → h.back ≡ []
+nothing_back : (slots : Slots) (steps : List Made) → slots.class < 16 → IsEmpty slots.starts → (h : StopStepsAt (home_of slots) slots steps) → BackSteps slots.page (home_of slots) h.mask h.back → h.back ≡ []
 nothing_back slots steps is empty h (inl none) = none.1
 nothing_back slots steps is empty h (inr some) = absurd (no_set slots some.0.0 is empty some.0.1 (sym (h.grains some.0.0 some.0.1) ∙ some.0.2))
 
-spent_leaves : (slots : Slots) (steps : List Made) → slots.class < 16 → IsEmpty slots.starts → StopSteps slots steps → LeavesWhere slots.right slots.page (directory_of slots) steps
+spent_leaves : (slots : Slots) (steps : List Made) → slots.class < 16 → IsEmpty slots.starts → StopStepsAt (home_of slots) slots steps → LeavesWhere slots.right slots.page (home_of slots) steps
 spent_leaves slots steps is empty h =
     let none : h.back ≡ [] = nothing_back slots steps is empty h h.puts in
     let left : steps ≡ h.left = h.steps_are ∙ (ap (λ xs. h.left ++ xs) none ∙ append-nil h.left) in
-    subst (LeavesWhere slots.right slots.page (directory_of slots)) (sym left) h.leaves
+    subst (LeavesWhere slots.right slots.page (home_of slots)) (sym left) h.leaves
 
-pub spent_releases : {σ σ1 : Standing} (heap class : ℕ) (locals others : List Slots) (slots : Slots) → HasOneEach locals → Some slots ≡ local_for heap class locals → others ≡ others_than heap class locals → slots.class < 16 → IsEmpty slots.starts → Stops slots σ σ1
+pub spent_releases : {σ σ1 : Standing} (heap class : ℕ) (locals others : List Slots) (slots : Slots) → HasOneEach locals → Some slots ≡ local_for heap class locals → others ≡ others_than heap class locals → slots.class < 16 → IsEmpty slots.starts → StopsAt (home_of slots) slots σ σ1
     → Releases (IsTakenOut heap class locals others) locals others σ σ1
 spent_releases heap class locals others slots one found is small empty stops =
     releases_by locals slots others (taken_moves heap class locals others slots one found is) (IsTakenOut heap class locals others) stops
@@ -141,14 +136,20 @@ obtain_after {σ} {σ1} {n} {spare} {spare1} locals fewer one same can =
           (record { rest = one.calls.leads.from can.view can.met.rest ok; room = subst (λ m. HasRoom f n m (one.steps ++ can.view)) (sym same) (room_after f n spare one.steps can.view ok can.met.room) });
     }
 
-pub obtains_cached : {σ σ1 : Standing} (heap class : ℕ) (tells : Bool) (locals fewer : List Slots) (slots : Slots) → TakesCached heap class locals fewer σ σ1 (Some slots) → Obtains heap class tells locals fewer σ σ1 (Ok slots)
-obtains_cached {σ} heap class tells locals fewer slots one =
-    let pair = and_parts (slots.heap == heap) (slots.class == class) (found_passes (is_for heap class) locals slots one.how.cached).passes in
+pub obtains_cached : {σ σ1 : Standing} (fill : Filling) (tells : Bool) (locals fewer : List Slots) (slots : Slots) → IsFilling σ.seat.profile fill → CanCall σ (λ v l. RestsWith σ.seat.profile locals v) → TakesCached fill.directory.heap fill.class locals fewer σ σ1 (Some slots)
+    → Obtains fill tells locals fewer σ σ1 (Ok slots)
+obtains_cached {σ} fill tells locals fewer slots is can one =
+    let for = found_passes (is_for fill.directory.heap fill.class) locals slots one.how.cached in
+    let moved = for.without (can.met.apart.one_each fill.directory.heap fill.class) in
     record {
       steps = one.steps;
       calls = one.calls;
       how = inl (slots, refl, one.how);
-      found_for = record { heap_is = eqb-true slots.heap heap pair.0; class_is = eqb-true slots.class class pair.1; some = one.how.some };
+      found_for = record {
+        home = cached_home σ.seat.profile can.view fill is slots (local_of locals slots (others_than fill.directory.heap fill.class locals) moved can) for.passes;
+        class_is = eqb-true slots.class fill.class (and_parts (slots.heap == fill.directory.heap) (slots.class == fill.class) for.passes).1;
+        some = one.how.some;
+      };
       place = one.place;
       few = λ k v h agreed.
           let none = ap length (no_events releasing refl k v one.steps one.kinds) in
@@ -157,39 +158,37 @@ obtains_cached {σ} heap class tells locals fewer slots one =
       told = λ t v l stood h. tt;
     }
 
-refill_told : (f : Profile) (heap class : ℕ) (locals : List Slots) (entry middle exit : Whole) (found : Result (Served Mask4) NoRoom) → HasNoneCached heap class locals
-    → (HasNoFit (exclusive class) f (class_directory heap class) middle → HasNoFit (exclusive class) f (class_directory heap class) entry)
-    → IsTold (exclusive class) f (class_directory heap class) middle exit found → IsToldBy f (class_directory heap class) heap class locals entry exit (answer_of heap class found)
-refill_told f heap class locals entry middle exit (Ok served) none back told = tt
-refill_told f heap class locals entry middle exit (Err room) none back told = record { cached = none; entry_fit = back told.0; exit_fit = told.1; reason = told.2 }
+refill_told : (fill : Filling) (f : Profile) (locals : List Slots) (entry middle exit : Whole) (answer : Result Slots NoRoom) → HasNoneCached fill.directory.heap fill.class locals
+    → (HasNoFit fill.no_fit f fill.directory middle → HasNoFit fill.no_fit f fill.directory entry)
+    → IsTold (λ (s : Slots). s.page) fill.no_fit f fill.directory middle exit answer → IsToldBy fill f locals entry exit answer
+refill_told fill f locals entry middle exit (Ok slots) none back told = tt
+refill_told fill f locals entry middle exit (Err room) none back told = record { cached = none; entry_fit = back told.0; exit_fit = told.1; reason = told.2 }
 
-pub obtains_refilled : {σ σ1 σ2 : Standing} (heap class : ℕ) (tells : Bool) (locals fewer : List Slots) (answer : Result Slots NoRoom) → IsDirectoryOf σ.seat.profile (class_directory heap class) → TakesCached heap class locals fewer σ σ1 None → Refills heap class tells σ1 σ2 answer
-    → Obtains heap class tells locals fewer σ σ2 answer
-obtains_refilled {σ} {σ1} {σ2} heap class tells locals fewer answer is one two =
+pub obtains_refilled : {σ σ1 σ2 : Standing} (fill : Filling) (tells : Bool) (locals fewer : List Slots) (answer : Result Slots NoRoom) → IsFilling σ.seat.profile fill → TakesCached fill.directory.heap fill.class locals fewer σ σ1 None → Refills fill tells σ1 σ2 answer
+    → Obtains fill tells locals fewer σ σ2 answer
+obtains_refilled {σ} {σ1} {σ2} fill tells locals fewer answer is one two =
     let f : Profile = σ.seat.profile in
-    let d : Directory = class_directory heap class in
     let k : ℕ = σ.seat.actor in
     let xs : List Made = one.steps in
-    let ys : List Made = two.searches.steps in
+    let ys : List Made = two.after ++ two.searched in
     let e : σ1.seat ≡ σ.seat = one.calls.adds.seat_is in
     let none = one.how.2 in
-    let here : IsDirectoryOf σ1.seat.profile d = subst (λ (s : Seat). IsDirectoryOf s.profile d) (sym e) is in
-    let refill : IsRefill f d class ys answer = subst (λ (s : Seat). IsRefill s.profile d class ys answer) e (refill_of heap class tells answer two) in
+    let here : IsFilling σ1.seat.profile fill = subst (λ (s : Seat). IsFilling s.profile fill) (sym e) is in
+    let refill : IsRefill fill f ys answer = subst (λ (s : Seat). IsRefill fill s.profile ys answer) e (refill_of fill tells answer two) in
     record {
       steps = ys ++ xs;
-      calls = rests_then {First = MakesPlace heap class locals fewer} locals fewer (record { steps = xs; calls = one.calls; change = one.how.0; kinds = one.kinds }) (cons_option (result_ok answer) fewer) ys (record {
-        adds = adds_under two.searches.adds (λ v l stood met. may_search σ1.seat.profile v heap class fewer is.kind none met);
-        leads = record { from = λ v met agreed. rests_refilled σ1.seat.profile heap class fewer here none ys v met agreed answer (refill_of heap class tells answer two) };
+      calls = rests_then {First = MakesPlace fill.directory.heap fill.class locals fewer} locals fewer (record { steps = xs; calls = one.calls; change = one.how.0; kinds = one.kinds }) (cons_option (result_ok answer) fewer) ys (record {
+        adds = adds_under two.adds (λ v l stood met. may_search σ1.seat.profile v fill fewer here none met);
+        leads = record { from = λ v met agreed. rests_refilled σ1.seat.profile fill fewer here none ys v met agreed answer (refill_of fill tells answer two) };
       });
       how = inr (record { before = xs; place = one.how.0; gives_back = one.kinds; searched = ys; refill = refill; steps_are = refl });
-      found_for = found_by f heap class ys answer refill;
+      found_for = found_by fill f ys answer refill;
       place = one.place;
-      few = λ n v h agreed. refill_few f heap class ys xs answer refill one.kinds n v (may_search f (xs ++ v) heap class fewer is.kind none (one.calls.leads.from v h (agreed_later f v ys xs agreed))) agreed;
+      few = λ n v h agreed. refill_few fill f ys xs answer refill one.kinds n v (may_search f (xs ++ v) fill fewer is none (one.calls.leads.from v h (agreed_later f v ys xs agreed))) agreed;
       told = λ t v l stood h.
           let middle : Whole = triples k xs ++ l in
-          let may = may_search f (xs ++ v) heap class fewer is.kind none (one.calls.leads.from v h (one.calls.adds.agreed v l stood h)) in
-          let told = subst (λ (s : Seat). IsTold (exclusive class) s.profile d middle (triples s.actor ys ++ middle) two.found) e (two.searches.told t (xs ++ v) middle (one.calls.adds.added v l stood h) may) in
-          subst (IsToldBy f d heap class locals l (triples k (ys ++ xs) ++ l)) (sym two.answer_is)
-          (subst (λ exit. IsToldBy f d heap class locals l exit (answer_of heap class two.found)) (triples_append k ys xs l)
-          (refill_told f heap class locals l middle (triples k ys ++ middle) two.found one.how.1 (no_fit_before (exclusive class) f d k xs l (fewer_slots class) one.kinds) told));
+          let may = may_search f (xs ++ v) fill fewer is none (one.calls.leads.from v h (one.calls.adds.agreed v l stood h)) in
+          let told = subst (λ (s : Seat). IsTold (λ (x : Slots). x.page) fill.no_fit s.profile fill.directory middle (triples s.actor ys ++ middle) answer) e (two.told t (xs ++ v) middle (one.calls.adds.added v l stood h) may) in
+          subst (λ x. IsToldBy fill f locals l x answer) (triples_append k ys xs l)
+          (refill_told fill f locals l middle (triples k ys ++ middle) answer one.how.1 (no_fit_before fill.no_fit f fill.directory k xs l is.fewer one.kinds) told);
     }

@@ -1,7 +1,7 @@
 -- Which events a refill makes, and how many.
 use Rattle.pas_steps.proofs.Unknown.{unknown_stays, unknown_less}
 use Rattle.std.proofs.Common.{◌≡◌, ◌≢◌, ℕ, ◌+◌, ◌==◌, Bool, true, false, if◌then◌else◌, List, [], ◌∷◌, ◌++◌, length, Some, None, Ok, Err, Result, inl, inr, refl, ap, sym, ◌∙◌, subst, arith, append_assoc, length-append}
-use Rattle.std.specs.Prelude.{MatchResult}
+use Rattle.std.specs.Prelude.{◌≤◌, ◌⊎◌}
 use Rattle.std.specs.List.{AllByRecursion}
 use Rattle.std.proofs.lemmas.Bool.{cases_eq}
 use Rattle.pas_profile.specs.declared.profile.Profile.{Profile}
@@ -9,7 +9,7 @@ use Rattle.pas_profile.specs.declared.directory.Directory.{Directory}
 use Rattle.pas_profile.specs.declared.event.Event.{Event}
 use Rattle.pas_profile.specs.declared.event.NoRoom.{NoRoom}
 use Rattle.pas_profile.proofs.Codecs.{deed_word_of-positive}
-use Rattle.pas_steps.specs.Views.{View, known_deed, epoch_of}
+use Rattle.pas_steps.specs.Views.{View, known_deed, KnowsDeed, epoch_of}
 use Rattle.pas_steps.specs.Events.{event_of, with_event, events_by}
 use Rattle.pas_steps.specs.Agreement.{Agrees, Agreed}
 use Rattle.pas_steps.specs.Past.{Once}
@@ -20,46 +20,53 @@ use Rattle.pas_steps.proofs.Adding.{agreed_first, agreed_later}
 use Rattle.pas_steps.proofs.Frames.{events_append}
 use Rattle.pas_steps.proofs.Kept.{deed_stays}
 use Rattle.pas_search.specs.Kinds.{AreQuiet, IsDeedOrBack, EventsAt}
-use Rattle.pas_search.specs.Serving.{Rule}
-use Rattle.pas_search.specs.Searches.{MaySearch, DeedMadeHere, IsRefused}
-use Rattle.pas_segregated.specs.Refills.{GivesSlots}
+use Rattle.pas_steps.specs.Evidence.{Readings}
+use Rattle.pas_search.specs.Searches.{MaySearch, DeedMadeHere, FromOffered, ByDeed, FewEvents}
+use Rattle.pas_segregated.specs.Refills.{Filling}
 use Rattle.pas_segregated.specs.declared.slots.Slots.{Slots}
 use Rattle.pas_search.proofs.ForBackEnds.{events_quiet}
-use Rattle.pas_segregated.specs.Takes.{exclusive}
-use Rattle.pas_segregated.specs.Stops.{class_directory}
 use Rattle.pas_steps.specs.Unknown.{unknown_pages}
 use Rattle.pas_cache.specs.Serves.{IsRefill, IsFew, IsPreparing}
 use Rattle.pas_steps.specs.Kinds.{Only}
-use Rattle.pas_steps.proofs.Apart.{no_events}
+use Rattle.pas_steps.proofs.Apart.{no_events, events_same}
+use Rattle.pas_steps.specs.Kinds.{returning}
+use Rattle.pas_profile.specs.Profiles.{IsPage}
+use Rattle.pas_cache.proofs.Below.{refill_leads, refusal}
 use Rattle.pas_cache.specs.Kinds.{releasing}
 
 -- ---- a deed that was made wasn't known before
-made_unknown : {F : Type 0} (rule : Rule F) (f : Profile) (d : Directory) (page : ℕ) (steps : List Made) (v : View) → Agreed f v steps → Once (DeedMadeHere rule f d page) steps → known_deed v page ≢ 0 → ⊥
-made_unknown rule f d page [] v agreed h some = h
-made_unknown rule f d page (m ∷ more) v agreed (inl h) some =
+made_unknown : (no_fit : Readings → Type 0) (f : Profile) (d : Directory) (page : ℕ) (steps : List Made) (v : View) → Agreed f v steps → Once (DeedMadeHere no_fit f d page) steps → known_deed v page ≢ 0 → ⊥
+made_unknown no_fit f d page [] v agreed h some = h
+made_unknown no_fit f d page (m ∷ more) v agreed (inl h) some =
     let still : known_deed (more ++ v) page ≡ known_deed v page = deed_stays f more v page agreed.1 some in
     let agrees : Agrees f (more ++ v) (Deed page d) m.answer = subst (λ s. Agrees f (more ++ v) s m.answer) h.deed agreed.0 in
     let same : m.answer ≡ known_deed (more ++ v) page = agrees.known (λ z. some (sym still ∙ z)) in
     some (sym still ∙ (sym same ∙ h.made))
-made_unknown rule f d page (m ∷ more) v agreed (inr h) some = made_unknown rule f d page more v agreed.1 h some
+made_unknown no_fit f d page (m ∷ more) v agreed (inr h) some = made_unknown no_fit f d page more v agreed.1 h some
 
 zero_from : (n : ℕ) → (n ≢ 0 → ⊥) → n ≡ 0
 zero_from n h = elim (cases_eq n 0) [ inl e ↦ e | inr ne ↦ absurd (h ne) ]
 
 -- ---- the events of a refill
-served_few : (f : Profile) (heap class : ℕ) (steps : List Made) (slots : Slots) → GivesSlots f (class_directory heap class) steps slots → (k : ℕ) (v : View) → MaySearch (class_directory heap class) v → Agreed f v steps → IsFew f 1 k steps v
-served_few f heap class steps slots s k v may agreed = elim s.choice [
+-- the leave makes none
+pub refill_events : {fill : Filling} {f : Profile} {steps : List Made} {slots : Slots} → (h : IsRefill fill f steps (Ok slots)) → (k : ℕ) (v : View) → events_by k v steps ≡ events_by k v h.searched
+refill_events h k v = ap (events_by k v) h.steps_are ∙ events_same returning refl k v h.after h.searched h.outcome.after_kinds
+
+-- where a page was chosen so, and its deed is known in the end
+pub chosen_few : (no_fit : Readings → Type 0) (f : Profile) (d : Directory) (page : ℕ) (searched steps : List Made) → IsPage f page → FromOffered no_fit d page searched ⊎ ByDeed no_fit f d page searched → FewEvents f d 1 searched → (k : ℕ) (v : View) → Agreed f v searched → Agreed f v steps
+    → KnowsDeed page d (steps ++ v) → (n : ℕ) → length (events_by k v steps) ≤ length (events_by k v searched) + n → IsFew f (1 + n) k steps v
+chosen_few no_fit f d page searched steps is choice few k v agreed all deed n more = elim choice [
   | inl offered ↦
-      let events = (s.few k v agreed).0 in
+      let events = (few k v agreed).0 in
       let none = offered.no_deed in
-      let fewer = unknown_stays f steps v agreed in
-      record { paid = omega (arith, events, none, fewer); most = omega (arith, events, none) }
-  | inr deed ↦
-      let events = (s.few k v agreed).0 in
-      let one = deed.one_deed in
-      let was : known_deed v slots.page ≡ 0 = zero_from (known_deed v slots.page) (made_unknown (exclusive slots.class) f (class_directory heap class) slots.page steps v agreed deed.made_here) in
-      let fewer = unknown_less f slots.page steps v agreed s.page was (λ z. deed_word_of-positive (class_directory heap class) (sym (s.gets.from v may agreed).may_stop.deed ∙ z)) in
-      record { paid = omega (arith, events, one, fewer); most = omega (arith, events, one) }
+      let fewer = unknown_stays f steps v all in
+      record { paid = omega (arith, events, none, fewer, more); most = omega (arith, events, none, more) }
+  | inr made ↦
+      let events = (few k v agreed).0 in
+      let one = made.one_deed in
+      let was : known_deed v page ≡ 0 = zero_from (known_deed v page) (made_unknown no_fit f d page searched v agreed made.made_here) in
+      let fewer = unknown_less f page steps v all is was (λ z. deed_word_of-positive d (sym deed ∙ z)) in
+      record { paid = omega (arith, events, one, fewer, more); most = omega (arith, events, one, more) }
 ]
 
 silent_few : (f : Profile) (k : ℕ) (steps : List Made) (v : View) → AreQuiet steps → Agreed f v steps → IsFew f 1 k steps v
@@ -68,15 +75,17 @@ silent_few f k steps v quiet agreed =
     let fewer = unknown_stays f steps v agreed in
     record { paid = omega (arith, none, fewer); most = omega (arith, none) }
 
-found_few : (f : Profile) (heap class : ℕ) (steps : List Made) (found : Result Slots NoRoom) → MatchResult found (GivesSlots f (class_directory heap class) steps) (IsRefused (exclusive class) f (class_directory heap class) steps)
-    → (k : ℕ) (v : View) → MaySearch (class_directory heap class) v → Agreed f v steps → IsFew f 1 k steps v
-found_few f heap class steps (Ok slots) h k v may agreed = served_few f heap class steps slots h k v may agreed
-found_few f heap class steps (Err room) h k v may agreed = silent_few f k steps v h.quiet agreed
+found_few : (fill : Filling) (f : Profile) (steps : List Made) (found : Result Slots NoRoom) → IsRefill fill f steps found → (k : ℕ) (v : View) → MaySearch fill.directory v → Agreed f v steps → IsFew f 1 k steps v
+found_few fill f steps (Ok slots) h k v may agreed =
+    let s = h.outcome in
+    let same = ap length (refill_events h k v) in
+    chosen_few fill.no_fit f fill.directory slots.page h.searched steps s.page s.choice s.few k v (agreed_later f v h.after h.searched (subst (Agreed f v) h.steps_are agreed)) agreed ((refill_leads h).from v may agreed).may_stop.deed 0 (omega (arith, same))
+found_few fill f steps (Err room) h k v may agreed = silent_few f k steps v (refusal h).quiet agreed
 
 -- after steps without events
-pub refill_few : (f : Profile) (heap class : ℕ) (ys xs : List Made) (found : Result Slots NoRoom) → IsRefill f (class_directory heap class) class ys found → Only releasing xs → (k : ℕ) (v : View) → MaySearch (class_directory heap class) (xs ++ v) → Agreed f v (ys ++ xs) → IsFew f 1 k (ys ++ xs) v
-refill_few f heap class ys xs found refill kinds k v may agreed =
-    let here = found_few f heap class ys found refill.outcome k (xs ++ v) may (agreed_first f v ys xs agreed) in
+pub refill_few : (fill : Filling) (f : Profile) (ys xs : List Made) (found : Result Slots NoRoom) → IsRefill fill f ys found → Only releasing xs → (k : ℕ) (v : View) → MaySearch fill.directory (xs ++ v) → Agreed f v (ys ++ xs) → IsFew f 1 k (ys ++ xs) v
+refill_few fill f ys xs found refill kinds k v may agreed =
+    let here = found_few fill f ys found refill k (xs ++ v) may (agreed_first f v ys xs agreed) in
     let a = here.paid in
     let b = here.most in
     let before = unknown_stays f xs v (agreed_later f v ys xs agreed) in

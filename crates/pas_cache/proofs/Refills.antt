@@ -1,39 +1,62 @@
 -- Slots come by a refill.
 use Rattle.std.proofs.Common.{◌≡◌, Bool, ℕ, ◌+◌, ◌*◌, ◌<◌, ◌==◌, true, false, ◌||◌, List, [], ◌∷◌, ◌++◌, Ok, Err, Result, None, refl, ap, sym, ◌∙◌, subst, arith, true≢false}
-use Rattle.std.specs.Prelude.{All, MatchResult, IfOk}
+use Rattle.std.specs.Prelude.{All, MatchResult, not}
 use Rattle.std.specs.List.{cons_option, list_any}
 use Rattle.std.specs.Result.{result_ok}
 use Rattle.std.proofs.lemmas.Bool.{eq-eqb, eqb-true, and_parts, and_from}
 use Rattle.std.proofs.lemmas.List.Elements.{All-head, All-tail}
-use Rattle.pas_profile.specs.Directories.{deed_word_of}
+use Rattle.pas_profile.specs.Classes.{IsClass}
+use Rattle.pas_profile.specs.Directories.{IsKind, kind_number, deed_word_of}
+use Rattle.pas_profile.specs.Requests.{is_shared, kind_of_class}
 use Rattle.pas_profile.specs.Profiles.{IsDirectoryOf}
 use Rattle.pas_profile.specs.declared.directory.Directory.{Directory}
+use Rattle.pas_profile.specs.declared.directory.Kind.{Kind as TheKind}
 use Rattle.pas_profile.specs.declared.directory.Kind.TheVariants as Kind
+use Rattle.pas_profile.proofs.Codecs.{kind_number_lt, same_kind}
 use Rattle.pas_profile.specs.declared.event.NoRoom.{NoRoom}
 use Rattle.pas_profile.specs.declared.profile.Profile.{Profile}
-use Rattle.pas_bits.specs.declared.mask.Mask4.{Mask4}
 use Rattle.pas_steps.specs.Agreement.{Agreed}
 use Rattle.pas_steps.specs.Desks.{Standing, CanCall}
 use Rattle.pas_steps.specs.Views.{View, known_deed, KnowsDeed}
 use Rattle.pas_steps.specs.declared.step.Made.{Made}
-use Rattle.pas_search.specs.Searches.{MaySearch, SearchRoom, IsServed, IsRefused}
-use Rattle.pas_search.specs.declared.serving.Served.{Served}
-use Rattle.pas_segregated.specs.Refills.{answer_of, GivesSlots, Refills}
-use Rattle.pas_segregated.specs.Stops.{class_directory}
-use Rattle.pas_segregated.specs.Takes.{exclusive}
+use Rattle.pas_search.specs.Searches.{MaySearch, SearchRoom}
+use Rattle.pas_segregated.specs.Refills.{Filling, GetsSlots, Refills}
+use Rattle.pas_segregated.specs.Stops.{home_of}
 use Rattle.pas_segregated.specs.declared.slots.Slots.{Slots}
-use Rattle.pas_cache.specs.Effects.{Gains}
 use Rattle.pas_cache.specs.Locals.{keeps_right, any_keeps, is_for, local_for, IsLocal, RestsWith}
 use Rattle.pas_cache.specs.Parts.{MayObtain, IsFoundFor}
-use Rattle.pas_cache.specs.Serves.{IsRefill}
+use Rattle.pas_cache.specs.Serves.{IsFilling, IsRefill}
 use Rattle.pas_cache.proofs.Below.{refill_leads, refusal_leads}
 use Rattle.pas_cache.proofs.Locals.{none_found}
 use Rattle.pas_cache.proofs.Resting.{rests_gained, rests_kept}
 
--- ---- an actor without a local allocator of a heap and a class has no right of a page of theirs
-same_words : (h c h' c' : ℕ) → c < 16 → c' < 16 → 65536 + h * 256 + c ≡ 65536 + h' * 256 + c' → (h ≡ h') × (c ≡ c')
+-- ---- homes
+unshared : (shared : Bool) (a b : ℕ) → Kind.Class a ≡ kind_of_class shared b → a ≡ b
+unshared false a b h = cc
+unshared true a b h = absurd (let none = h in cc)
+
+kept_by : (right shared : Bool) (a b : ℕ) → kind_of_class (not right) a ≡ kind_of_class shared b → right ≡ not shared
+kept_by true false a b h = refl
+kept_by false true a b h = refl
+kept_by true true a b h = absurd (let none = h in cc)
+kept_by false false a b h = absurd (let none = h in cc)
+
+same_words : (h c h' c' : ℕ) → c < 23 → c' < 23 → 65536 + h * 256 + c ≡ 65536 + h' * 256 + c' → (h ≡ h') × (c ≡ c')
 same_words h c h' c' a b same = (omega arith, omega arith)
 
+same_deed : (a b : Directory) → IsKind a.kind → IsKind b.kind → deed_word_of a ≡ deed_word_of b → a ≡ b
+same_deed a b is is' same =
+    let both = same_words a.heap (kind_number a.kind) b.heap (kind_number b.kind) (kind_number_lt a.kind is) (kind_number_lt b.kind is') same in
+    let kinds = same_kind a.kind b.kind is is' both.1 in
+    ap (λ (h : ℕ). record { heap = h; kind = a.kind }) both.0 ∙ ap (λ (k : TheKind). record { heap = b.heap; kind = k }) kinds
+
+-- slots that keep their page's right and are at home in the directory are those for its heap and the class
+is_one : (f : Profile) (fill : Filling) → IsFilling f fill → (slots : Slots) → slots.right ≡ true → home_of slots ≡ fill.directory → is_for fill.directory.heap fill.class slots ≡ true
+is_one f fill is slots right home =
+    and_from (slots.heap == fill.directory.heap) (slots.class == fill.class) (eq-eqb slots.heap fill.directory.heap (ap (λ d. d.heap) home))
+    (eq-eqb slots.class fill.class (unshared (is_shared f fill.directory.heap) slots.class fill.class (ap (λ t. kind_of_class (not t) slots.class) (sym right) ∙ (ap (λ d. d.kind) home ∙ is.home))))
+
+-- ---- an actor whose local allocators are all of other directories has no right of a page of this one
 none_of_two : (a b : Bool) → (a || b) ≡ false → (a ≡ false) × (b ≡ false)
 none_of_two false b h = (refl, h)
 none_of_two true b h = absurd (true≢false h)
@@ -42,68 +65,72 @@ either_not : (a b : Bool) → (a ≡ true → ⊥) → b ≡ false → (a || b) 
 either_not true b isnt h = absurd (isnt refl)
 either_not false b isnt h = h
 
-no_right_in : (f : Profile) (v : View) (heap class : ℕ) (locals : List Slots) → class < 16 → All (IsLocal f v) locals → list_any (is_for heap class) locals ≡ false → (p : ℕ) → KnowsDeed p (class_directory heap class) v → any_keeps locals p ≡ false
-no_right_in f v heap class [] is all none p of = refl
-no_right_in f v heap class (first ∷ rest) is all none p of =
-    let others = none_of_two (is_for heap class first) (list_any (is_for heap class) rest) none in
+no_right_in : (f : Profile) (v : View) (d : Directory) (test : Slots → Bool) → IsKind d.kind → ((slots : Slots) → slots.right ≡ true → home_of slots ≡ d → test slots ≡ true) → (locals : List Slots) → All (IsLocal f v) locals → list_any test locals ≡ false
+    → (p : ℕ) → KnowsDeed p d v → any_keeps locals p ≡ false
+no_right_in f v d test is all_there [] all none p of = refl
+no_right_in f v d test is all_there (first ∷ rest) all none p of =
+    let others = none_of_two (test first) (list_any test rest) none in
     let at : IsLocal f v first = All-head (IsLocal f v) first rest all in
     either_not (keeps_right first p) (any_keeps rest p)
     (λ keeps.
-    let page : first.page ≡ p = eqb-true first.page p (and_parts first.right (first.page == p) keeps).1 in
-    let pair = same_words first.heap first.class heap class at.directory.kind is (sym at.deed ∙ (ap (known_deed v) page ∙ of)) in
-    true≢false (sym (and_from (first.heap == heap) (first.class == class) (eq-eqb first.heap heap pair.0) (eq-eqb first.class class pair.1)) ∙ others.0))
-    (no_right_in f v heap class rest is (All-tail (IsLocal f v) first rest all) others.1 p of)
+    let both = and_parts first.right (first.page == p) keeps in
+    true≢false (sym (all_there first both.0 (same_deed (home_of first) d at.directory.kind is (sym at.deed ∙ (ap (known_deed v) (eqb-true first.page p both.1) ∙ of)))) ∙ others.0))
+    (no_right_in f v d test is all_there rest (All-tail (IsLocal f v) first rest all) others.1 p of)
 
-pub may_search : (f : Profile) (v : View) (heap class : ℕ) (locals : List Slots) → class < 16 → local_for heap class locals ≡ None → RestsWith f locals v → MaySearch (class_directory heap class) v
-may_search f v heap class locals is none h = record { rights = λ p of. h.rights p ∙ no_right_in f v heap class locals is h.known (none_found (is_for heap class) locals none).any p of; clear = h.clear }
+pub may_search_in : (f : Profile) (v : View) (d : Directory) (test : Slots → Bool) → IsKind d.kind → ((slots : Slots) → slots.right ≡ true → home_of slots ≡ d → test slots ≡ true) → (locals : List Slots) → list_any test locals ≡ false → RestsWith f locals v → MaySearch d v
+may_search_in f v d test is all_there locals none h = record { rights = λ p of. h.rights p ∙ no_right_in f v d test is all_there locals h.known none p of; clear = h.clear }
 
-pub search_call : {σ : Standing} {n spare : ℕ} (heap class : ℕ) (locals : List Slots) → class < 16 → local_for heap class locals ≡ None → CanCall σ (λ v l. MayObtain σ.seat.profile n spare locals v) → CanCall σ (λ v l. SearchRoom σ.seat.profile (class_directory heap class) n spare v)
-search_call {σ} heap class locals is none can = record {
+pub may_search : (f : Profile) (v : View) (fill : Filling) (locals : List Slots) → IsFilling f fill → local_for fill.directory.heap fill.class locals ≡ None → RestsWith f locals v → MaySearch fill.directory v
+may_search f v fill locals is none = may_search_in f v fill.directory (is_for fill.directory.heap fill.class) is.directory.kind (is_one f fill is) locals (none_found (is_for fill.directory.heap fill.class) locals none).any
+
+pub search_call : {σ : Standing} {n spare : ℕ} (fill : Filling) (locals : List Slots) → IsFilling σ.seat.profile fill → local_for fill.directory.heap fill.class locals ≡ None → CanCall σ (λ v l. MayObtain σ.seat.profile n spare locals v) → CanCall σ (λ v l. SearchRoom σ.seat.profile fill.directory n spare v)
+search_call {σ} fill locals is none can = record {
   view = can.view;
   whole = can.whole;
   stood = can.stood;
-  met = record { may = may_search σ.seat.profile can.view heap class locals is none can.met.rest; room = can.met.room };
+  met = record { may = may_search σ.seat.profile can.view fill locals is none can.met.rest; room = can.met.room };
 }
 
 -- ---- what a refill says, by its answer
-abbrev IsObtainedBy : Profile → Directory → ℕ → List Made → Result Slots NoRoom → Type 0
-IsObtainedBy f d class steps answer = MatchResult answer (GivesSlots f d steps) (IsRefused (exclusive class) f d steps)
+pub refill_of : {σ σ' : Standing} (fill : Filling) (tells : Bool) (answer : Result Slots NoRoom) → (h : Refills fill tells σ σ' answer) → IsRefill fill σ.seat.profile (h.after ++ h.searched) answer
+refill_of fill tells answer h = record { searched = h.searched; searches = h.searches; after = h.after; outcome = h.outcome; steps_are = refl }
 
-by_answer : (f : Profile) (d : Directory) (heap class : ℕ) (steps : List Made) (found : Result (Served Mask4) NoRoom) → MatchResult found (IsServed (exclusive class) f d steps) (IsRefused (exclusive class) f d steps) → IfOk (answer_of heap class found) (GivesSlots f d steps)
-    → IsObtainedBy f d class steps (answer_of heap class found)
-by_answer f d heap class steps (Ok served) h gives = gives
-by_answer f d heap class steps (Err room) h gives = h
+pub found_by : (fill : Filling) (f : Profile) (steps : List Made) (answer : Result Slots NoRoom) → IsRefill fill f steps answer → MatchResult answer (IsFoundFor fill) (λ room. Unit {0})
+found_by fill f steps (Ok slots) refill = record { home = refill.outcome.home; class_is = refill.outcome.class_is; some = refill.outcome.some }
+found_by fill f steps (Err room) refill = tt
 
-pub refill_of : {σ σ' : Standing} (heap class : ℕ) (tells : Bool) (answer : Result Slots NoRoom) → (h : Refills heap class tells σ σ' answer) → IsRefill σ.seat.profile (class_directory heap class) class h.searches.steps answer
-refill_of {σ} heap class tells answer h = record {
-  searches = h.searches.searches;
-  outcome = subst (λ r. IsObtainedBy σ.seat.profile (class_directory heap class) class h.searches.steps r) (sym h.answer_is)
-      (by_answer σ.seat.profile (class_directory heap class) heap class h.searches.steps h.found h.searches.outcome (subst (λ r. IfOk r (GivesSlots σ.seat.profile (class_directory heap class) h.searches.steps)) h.answer_is h.gives));
-}
+-- the one that is cached for the heap and the class is at home in its directory
+not_not : (t : Bool) → not (not t) ≡ t
+not_not true = refl
+not_not false = refl
 
--- the slots are of the directory
-same_class : (a b : ℕ) → Kind.Class a ≡ Kind.Class b → a ≡ b
-same_class a b h = cc
-
-pub found_by : (f : Profile) (heap class : ℕ) (steps : List Made) (answer : Result Slots NoRoom) → IsRefill f (class_directory heap class) class steps answer → MatchResult answer (IsFoundFor heap class) (λ room. Unit {0})
-found_by f heap class steps (Ok slots) refill = record {
-  heap_is = ap (λ d. d.heap) refill.outcome.named;
-  class_is = same_class slots.class class (ap (λ d. d.kind) refill.outcome.named);
-  some = refill.outcome.some;
-}
-found_by f heap class steps (Err room) refill = tt
+pub cached_home : (f : Profile) (v : View) (fill : Filling) → IsFilling f fill → (slots : Slots) → IsLocal f v slots → is_for fill.directory.heap fill.class slots ≡ true → home_of slots ≡ fill.directory
+cached_home f v fill is slots at for =
+    let pair = and_parts (slots.heap == fill.directory.heap) (slots.class == fill.class) for in
+    let heap : slots.heap ≡ fill.directory.heap = eqb-true slots.heap fill.directory.heap pair.0 in
+    let kind : kind_of_class (not slots.right) slots.class ≡ fill.directory.kind = ap (λ t. kind_of_class (not t) slots.class) at.kept ∙ (ap (λ t. kind_of_class t slots.class) (not_not (is_shared f slots.heap))
+    ∙ (ap (λ h. kind_of_class (is_shared f h) slots.class) heap ∙ (ap (kind_of_class (is_shared f fill.directory.heap)) (eqb-true slots.class fill.class pair.1) ∙ sym is.home))) in
+    ap (λ (h : ℕ). record { heap = h; kind = kind_of_class (not slots.right) slots.class }) heap ∙ ap (λ (k : TheKind). record { heap = fill.directory.heap; kind = k }) kind
 
 -- ---- the actor is at rest with the slots that were found besides
-pub rests_refilled : (f : Profile) (heap class : ℕ) (locals : List Slots) → IsDirectoryOf f (class_directory heap class) → local_for heap class locals ≡ None → (steps : List Made) (v : View) → RestsWith f locals v → Agreed f v steps
-    → (answer : Result Slots NoRoom) → IsRefill f (class_directory heap class) class steps answer → RestsWith f (cons_option (result_ok answer) locals) (steps ++ v)
-rests_refilled f heap class locals is none steps v h agreed (Ok slots) refill =
-    let d : Directory = class_directory heap class in
+pub rests_refilled : (f : Profile) (fill : Filling) (locals : List Slots) → IsFilling f fill → local_for fill.directory.heap fill.class locals ≡ None → (steps : List Made) (v : View) → RestsWith f locals v → Agreed f v steps
+    → (answer : Result Slots NoRoom) → IsRefill fill f steps answer → RestsWith f (cons_option (result_ok answer) locals) (steps ++ v)
+rests_refilled f fill locals is none steps v h agreed (Ok slots) refill =
+    let d : Directory = fill.directory in
     let s = refill.outcome in
-    let pair = found_by f heap class steps (Ok slots) refill in
-    let gains : Gains slots d v (steps ++ v) = (refill_leads s).from v (may_search f v heap class locals is.kind none h) agreed in
+    let heap : slots.heap ≡ d.heap = ap (λ x. x.heap) s.home in
+    let gains : GetsSlots d slots v (steps ++ v) = (refill_leads refill).from v (may_search f v fill locals is none h) agreed in
     rests_gained f d slots locals steps v h gains agreed
-    (record { page = s.page; directory = subst (IsDirectoryOf f) (sym s.named) is; starts = s.starts; deed = gains.deed ∙ ap deed_word_of (sym s.named); backed = λ some. gains.backed })
-    (ap (λ n. local_for n slots.class locals) pair.heap_is ∙ (ap (λ n. local_for heap n locals) pair.class_is ∙ none))
-    (λ later page keeps. no_right_in f (steps ++ v) heap class locals is.kind later (none_found (is_for heap class) locals none).any page
-    (subst (λ p. KnowsDeed p d (steps ++ v)) (eqb-true slots.page page (and_parts slots.right (slots.page == page) keeps).1) gains.deed))
-rests_refilled f heap class locals is none steps v h agreed (Err room) refill = rests_kept f locals steps v ((refusal_leads refill.outcome).from v (may_search f v heap class locals is.kind none h) agreed) agreed h
+    (record {
+      page = s.page;
+      class = subst IsClass (sym s.class_is) is.class;
+      directory = subst (IsDirectoryOf f) (sym s.home) is.directory;
+      kept = kept_by slots.right (is_shared f slots.heap) slots.class fill.class (ap (λ x. x.kind) s.home ∙ (is.home ∙ ap (λ n. kind_of_class (is_shared f n) fill.class) (sym heap)));
+      starts = s.starts;
+      deed = gains.may_stop.deed ∙ ap deed_word_of (sym s.home);
+      backed = λ some. gains.backed;
+    })
+    (ap (λ n. local_for n slots.class locals) heap ∙ (ap (λ n. local_for d.heap n locals) s.class_is ∙ none))
+    (λ later page at. no_right_in f (steps ++ v) d (is_for d.heap fill.class) is.directory.kind (is_one f fill is) locals later (none_found (is_for d.heap fill.class) locals none).any page
+    (subst (λ p. KnowsDeed p d (steps ++ v)) (eqb-true slots.page page at) gains.may_stop.deed))
+rests_refilled f fill locals is none steps v h agreed (Err room) refill = rests_kept f locals steps v ((refusal_leads refill).from v (may_search f v fill locals is none h) agreed) agreed h

@@ -1,5 +1,5 @@
 -- An actor that is at rest with local allocators: what it has of each, and that it is at rest again after a call.
-use Rattle.std.proofs.Common.{◌≡◌, ℕ, ◌/◌, ◌<◌, ◌≤◌, ◌==◌, Bool, true, false, ◌||◌, if◌then◌else◌, List, ◌∷◌, ◌++◌, get_or, None, refl, ap, sym, ◌∙◌, subst, arith, true≢false}
+use Rattle.std.proofs.Common.{◌≡◌, ℕ, ◌/◌, ◌<◌, ◌≤◌, ◌==◌, Bool, true, false, ◌||◌, if◌then◌else◌, List, ◌∷◌, ◌++◌, get_or, None, refl, ap, sym, ◌∙◌, subst, arith, true≢false, ◌&&◌}
 use Rattle.std.specs.Prelude.{All}
 use Rattle.std.specs.List.{list_any, count_by}
 use Rattle.std.specs.List.Sorted.{IsPermutation}
@@ -18,9 +18,9 @@ use Rattle.pas_steps.specs.Views.{View, holds, knows_backed}
 use Rattle.pas_steps.specs.declared.step.Made.{Made}
 use Rattle.pas_steps.proofs.Kept.{deed_stays}
 use Rattle.pas_bits.specs.Masks.{HasMember}
-use Rattle.pas_segregated.specs.Stops.{directory_of, MayStop}
+use Rattle.pas_segregated.specs.Stops.{home_of, of_slots, MayStopAt}
 use Rattle.pas_segregated.specs.declared.slots.Slots.{Slots}
-use Rattle.pas_cache.specs.Effects.{of_slots, Gains}
+use Rattle.pas_segregated.specs.Refills.{got, GetsSlots}
 use Rattle.pas_cache.specs.Locals.{covers, keeps_right, any_covers, any_keeps, is_for, local_for, IsLocal, AreApart, RestsWith}
 use Rattle.pas_cache.specs.Parts.{MayGiveSlot}
 use Rattle.pas_cache.proofs.Locals.{none_found, no_other, one_more, one_fewer}
@@ -33,16 +33,18 @@ some_grain f v t here some =
     let start : ℕ = some.0 in
     let lt : start < 256 = some.1 in
     let slot : IsSlotStart t.class start = here.starts start some.2 in
-    let positive : 1 ≤ class_grains t.class = class_grains_positive t.class here.directory.kind in
+    let positive : 1 ≤ class_grains t.class = class_grains_positive t.class here.class in
     slot_covers t start (first_grain t start) slot some.2 (record { page = omega (arith, lt); low = omega (arith, lt); high = omega (arith, lt, positive) })
 
 -- one whose grains were all kept is as it was
 pub local_after : (f : Profile) (e : Effect) (steps : List Made) (v : View) (t : Slots) → Does e v (steps ++ v) → Agreed f v steps → ((g : ℕ) → covers t g ≡ true → (holds v g ≡ true) × (e.grains g ≡ Kept)) → IsLocal f v t → IsLocal f (steps ++ v) t
 local_after f e steps v t does agreed stays at = record {
   page = at.page;
+  class = at.class;
   directory = at.directory;
+  kept = at.kept;
   starts = at.starts;
-  deed = deed_stays f steps v t.page agreed (λ none. deed_word_of-positive (directory_of t) (sym at.deed ∙ none)) ∙ at.deed;
+  deed = deed_stays f steps v t.page agreed (λ none. deed_word_of-positive (home_of t) (sym at.deed ∙ none)) ∙ at.deed;
   backed = λ some.
       let g : ℕ = first_grain t some.0 in
       let lt : some.0 < 256 = some.1 in
@@ -120,7 +122,7 @@ module _ (f : Profile) (slots : Slots) (rest : List Slots) (v : View) (h : Rests
   held_here : (g : ℕ) → covers slots g ≡ true → holds v g ≡ true
   held_here g covered = h.grains g ∙ ap (λ t. t || any_covers rest g) covered
 
-  pub may_stop : MayStop slots v
+  pub may_stop : MayStopAt (home_of slots) slots v
   may_stop = record {
     clear = h.clear;
     held = held_here;
@@ -149,15 +151,22 @@ module _ (f : Profile) (slots : Slots) (rest : List Slots) (v : View) (h : Rests
       (others_after (of_slots slots Lost) steps does agreed (λ g outside. ap (λ t. if t then Lost else Kept) outside)) fewer_apart
 
 -- one comes
-pub rests_gained : (f : Profile) (d : Directory) (slots : Slots) (rest : List Slots) (steps : List Made) (v : View) → RestsWith f rest v → Gains slots d v (steps ++ v) → Agreed f v steps → IsLocal f (steps ++ v) slots
-    → local_for slots.heap slots.class rest ≡ None → (All (IsLocal f (steps ++ v)) rest → (page : ℕ) → keeps_right slots page ≡ true → any_keeps rest page ≡ false) → RestsWith f (slots ∷ rest) (steps ++ v)
+by_page : (t right kept : Bool) → (t ≡ true → kept ≡ false) → now (if t then (if right then Gained else Lost) else Kept) kept ≡ ((right && t) || kept)
+by_page true true kept none = refl
+by_page true false kept none = sym (none refl)
+by_page false true kept none = refl
+by_page false false kept none = refl
+
+pub rests_gained : (f : Profile) (d : Directory) (slots : Slots) (rest : List Slots) (steps : List Made) (v : View) → RestsWith f rest v → GetsSlots d slots v (steps ++ v) → Agreed f v steps → IsLocal f (steps ++ v) slots
+    → local_for slots.heap slots.class rest ≡ None → (All (IsLocal f (steps ++ v)) rest → (page : ℕ) → (slots.page == page) ≡ true → any_keeps rest page ≡ false) → RestsWith f (slots ∷ rest) (steps ++ v)
 rests_gained f d slots rest steps v h gains agreed here none no_right =
-    let e : Effect = of_slots slots Gained in
+    let e : Effect = got slots in
     let later : All (IsLocal f (steps ++ v)) rest = locals_after f e steps v rest gains.does agreed (λ g there. (h.grains g ∙ there, unless_covered (covers slots g) Gained (λ mine. true≢false (sym (h.grains g ∙ there) ∙ gains.apart g mine)))) h.known in
-    rests_by f e steps v rest (slots ∷ rest) gains.does (λ g. more (covers slots g) (any_covers rest g)) (λ page. more (keeps_right slots page) (any_keeps rest page)) (λ page. refl) h (All-cons (IsLocal f (steps ++ v)) slots rest here later)
+    rests_by f e steps v rest (slots ∷ rest) gains.does (λ g. more (covers slots g) (any_covers rest g)) (λ page. by_page (slots.page == page) slots.right (any_keeps rest page) (no_right later page)) (λ page. refl) h
+    (All-cons (IsLocal f (steps ++ v)) slots rest here later)
     (record {
       one_each = λ heap class. one_more (is_for heap class) slots rest (λ is. let pair = and_parts (slots.heap == heap) (slots.class == class) is in
           (none_found (is_for heap class) rest (ap (λ n. local_for n class rest) (sym (eqb-true slots.heap heap pair.0)) ∙ (ap (λ n. local_for slots.heap n rest) (sym (eqb-true slots.class class pair.1)) ∙ none))).any) (h.apart.one_each heap class);
       grains = λ g. one_more (λ t. covers t g) slots rest (λ mine. sym (h.grains g) ∙ gains.apart g mine) (h.apart.grains g);
-      rights = λ page. one_more (λ t. keeps_right t page) slots rest (no_right later page) (h.apart.rights page);
+      rights = λ page. one_more (λ t. keeps_right t page) slots rest (λ keeps. no_right later page (and_parts slots.right (slots.page == page) keeps).1) (h.apart.rights page);
     })

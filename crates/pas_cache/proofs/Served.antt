@@ -6,15 +6,15 @@ use Rattle.std.proofs.lemmas.List.Sorted.{IsPermutation-sym, IsPermutation-to_fr
 use Rattle.pas_steps.specs.Calls.{Calls}
 use Rattle.pas_steps.proofs.Called.{call_as, next_call}
 use Rattle.pas_steps.proofs.Calls.{leads_as, leads_at}
-use Rattle.pas_profile.specs.Profiles.{IsAdmitted, IsDirectoryOf, IsPage}
+use Rattle.pas_profile.specs.Profiles.{IsAdmitted, IsPage}
 use Rattle.pas_profile.specs.Routes.{route_of, room_by}
-use Rattle.pas_profile.specs.Requests.{is_shared, kind_of_route}
+use Rattle.pas_profile.specs.Requests.{is_shared, kind_of_class, kind_of_route}
 use Rattle.pas_profile.specs.declared.directory.Route.{Route}
 use Rattle.pas_profile.proofs.ClassFacts.{class_suits, routed_slot_aligned}
 use Rattle.pas_cache.specs.Caches.{Cached, AtRest}
 use Rattle.pas_cache.specs.Calls.{MayAllocate, Allocates}
 use Rattle.std.specs.List.{AllByRecursion}
-use Rattle.pas_profile.specs.Classes.{class_size, IsSlotStart}
+use Rattle.pas_profile.specs.Classes.{IsClass, class_size, IsSlotStart}
 use Rattle.pas_profile.specs.Directories.{deed_word_of}
 use Rattle.pas_profile.specs.declared.profile.Profile.{Profile}
 use Rattle.pas_profile.specs.declared.directory.Directory.{Directory}
@@ -32,22 +32,25 @@ use Rattle.pas_steps.proofs.Adding.{adds_call, room_left, agreed_first, agreed_l
 use Rattle.pas_steps.proofs.Frames.{events_append, events_split}
 use Rattle.pas_steps.proofs.Kept.{deed_stays}
 use Rattle.pas_search.proofs.ForBackEnds.{events_quiet}
-use Rattle.pas_segregated.specs.Stops.{class_directory, directory_of}
+use Rattle.pas_segregated.specs.Stops.{class_directory}
+use Rattle.pas_segregated.specs.Refills.{Filling, exclusive_slots}
+use Rattle.pas_segregated.specs.Takes.{fewer_slots}
 use Rattle.pas_segregated.specs.declared.slots.Slots.{Slots}
 use Rattle.pas_steps.specs.Unknown.{unknown_pages}
 use Rattle.pas_cache.specs.Locals.{local_for, IsFormed, IsLocal, RestsWith}
 use Rattle.pas_bits.specs.Masks.{HasMember}
 use Rattle.pas_cache.specs.Changes.{GivesSlot, LeavesSpent}
-use Rattle.pas_cache.specs.Serves.{Wanted, wanted_for, class_wanted, IsClassRoute, IsObtained, IsAnswered, ServesLocals, IsPreparing, IsBlockFor, IsSilent}
+use Rattle.pas_cache.specs.Serves.{Wanted, wanted_for, class_wanted, IsFilling, IsRefill, IsClassRoute, IsObtained, IsAnswered, ServesLocals, IsPreparing, IsBlockFor, IsSilent}
 use Rattle.pas_cache.specs.Parts.{MayGiveSlot, GivesLowest, MayObtain, Obtains, ServesFrom}
-use Rattle.pas_steps.specs.Kinds.{Only}
+use Rattle.pas_steps.specs.Kinds.{returning, Only}
 use Rattle.pas_steps.proofs.Apart.{no_events, only_both, only_within}
 use Rattle.pas_search.specs.Kinds.{searching}
 use Rattle.pas_cache.specs.Kinds.{releasing, allocating}
 use Rattle.pas_cache.proofs.Resting.{here, may_give_slot, rests_reordered}
 use Rattle.pas_cache.proofs.GivingSlots.{rests_given, given_page}
 use Rattle.pas_cache.proofs.Obtained.{obtain_rests}
-use Rattle.pas_cache.proofs.RefillEvents.{prepared}
+use Rattle.pas_cache.proofs.RefillEvents.{refill_events, prepared}
+use Rattle.pas_cache.proofs.Below.{refused_steps, refusal}
 use Rattle.pas_steps.proofs.Unknown.{unknown_stays, none_unknown}
 
 -- ---- room
@@ -61,9 +64,9 @@ fewer_room {σ} {spare} can =
       met = record { rest = can.met.rest; room = (omega (arith, two), inr (omega (arith, two))) };
     }
 
-pub room_to_give : {σ σ1 : Standing} {spare spare1 : ℕ} {locals fewer : List Slots} {answer : Result Slots NoRoom} (heap class : ℕ) (tells : Bool) → Obtains heap class tells locals fewer σ σ1 answer → CanCall σ (λ v l. MayObtain σ.seat.profile 2 spare locals v)
+pub room_to_give : {σ σ1 : Standing} {spare spare1 : ℕ} {locals fewer : List Slots} {answer : Result Slots NoRoom} (fill : Filling) (tells : Bool) → Obtains fill tells locals fewer σ σ1 answer → CanCall σ (λ v l. MayObtain σ.seat.profile 2 spare locals v)
     → ((v : View) (l : Whole) → σ.stands v l → spare + length (events_of σ.seat.actor v) ≡ σ.seat.room) → ((v : View) (l : Whole) → σ1.stands v l → spare1 + length (events_of σ1.seat.actor v) ≡ σ1.seat.room) → 1 ≤ spare1
-room_to_give {σ} {σ1} {spare} {spare1} {locals} heap class tells one can law law' =
+room_to_give {σ} {σ1} {spare} {spare1} {locals} fill tells one can law law' =
     let f : Profile = σ.seat.profile in
     let k : ℕ = σ.seat.actor in
     let ok : Agreed f can.view one.steps = one.calls.adds.agreed can.view can.whole can.stood can.met.rest in
@@ -81,41 +84,43 @@ room_to_give {σ} {σ1} {spare} {spare1} {locals} heap class tells one can law l
     room_left {spare = spare1} 1 one.calls.adds (obtain_rests can) law' (omega (arith, now, split, made))
 
 -- ---- the slots that were obtained may give
-pub give_call : {σ σ1 : Standing} {spare : ℕ} (heap class : ℕ) (tells : Bool) (locals fewer : List Slots) (slots : Slots) → Obtains heap class tells locals fewer σ σ1 (Ok slots) → CanCall σ (λ v l. MayObtain σ.seat.profile 2 spare locals v)
+pub give_call : {σ σ1 : Standing} {spare : ℕ} (fill : Filling) (tells : Bool) (locals fewer : List Slots) (slots : Slots) → Obtains fill tells locals fewer σ σ1 (Ok slots) → CanCall σ (λ v l. MayObtain σ.seat.profile 2 spare locals v)
     → CanCall σ1 (λ v l. MayGiveSlot σ1.seat.profile slots v)
-give_call {σ} {σ1} heap class tells locals fewer slots one can =
+give_call {σ} {σ1} fill tells locals fewer slots one can =
     next_call one.calls (obtain_rests can) (λ v met here. subst (λ (s : Seat). MayGiveSlot s.profile slots (one.steps ++ v)) (sym one.calls.adds.seat_is) (may_give_slot σ.seat.profile slots fewer (one.steps ++ v) here))
 
 -- ---- kinds and events of what was made before the give
-obtained_kinds : {f : Profile} {d : Directory} {heap class : ℕ} {locals fewer : List Slots} {steps : List Made} {found : Result Slots NoRoom} → IsObtained f d heap class locals fewer steps found → Only allocating steps
+refill_kinds : {fill : Filling} {f : Profile} {steps : List Made} {found : Result Slots NoRoom} → IsRefill fill f steps found → Only allocating steps
+refill_kinds {found = Ok slots} h = subst (Only allocating) (sym h.steps_are)
+    (only_both allocating h.after h.searched (only_within returning allocating h.after refl h.outcome.after_kinds) (only_within searching allocating h.searched refl h.searches.kinds))
+refill_kinds {found = Err room} h = subst (Only allocating) (refused_steps h) (only_within searching allocating h.searched refl h.searches.kinds)
+
+obtained_kinds : {fill : Filling} {f : Profile} {locals fewer : List Slots} {steps : List Made} {found : Result Slots NoRoom} → IsObtained fill f locals fewer steps found → Only allocating steps
 obtained_kinds (inl h) = subst (Only allocating) (sym h.2.no_steps) tt
-obtained_kinds (inr h) = subst (Only allocating) (sym h.steps_are) (only_both allocating h.searched h.before (only_within searching allocating h.searched refl h.refill.searches.kinds) (only_within releasing allocating h.before refl h.gives_back))
+obtained_kinds (inr h) = subst (Only allocating) (sym h.steps_are) (only_both allocating h.searched h.before (refill_kinds h.refill) (only_within releasing allocating h.before refl h.gives_back))
 
 events_later : (ys xs : List Made) → Only releasing xs → (k : ℕ) (v : View) → events_by k v (ys ++ xs) ≡ events_by k (xs ++ v) ys
 events_later ys xs kinds k v = events_append k ys xs v ∙ (ap (λ es. events_by k (xs ++ v) ys ++ es) (no_events releasing refl k v xs kinds) ∙ append-nil (events_by k (xs ++ v) ys))
 
-prepared_before : {f : Profile} (d : Directory) {heap class : ℕ} {locals fewer : List Slots} (steps : List Made) (slots : Slots) → IsObtained f d heap class locals fewer steps (Ok slots) → (k : ℕ) (v : View) → AllByRecursion (IsPreparing d) (events_by k v steps)
-prepared_before d steps slots (inl h) k v = subst (λ xs. AllByRecursion (IsPreparing d) (events_by k v xs)) (sym h.2.no_steps) tt
-prepared_before d steps slots (inr h) k v =
-    subst (λ xs. AllByRecursion (IsPreparing d) (events_by k v xs)) (sym h.steps_are)
-    (subst (AllByRecursion (IsPreparing d)) (sym (events_later h.searched h.before h.gives_back k v)) (prepared d slots.page h.searched h.refill.outcome.events k (h.before ++ v)))
+prepared_before : {f : Profile} (fill : Filling) {locals fewer : List Slots} (steps : List Made) (slots : Slots) → IsObtained fill f locals fewer steps (Ok slots) → (k : ℕ) (v : View) → AllByRecursion (IsPreparing fill.directory) (events_by k v steps)
+prepared_before fill steps slots (inl h) k v = subst (λ xs. AllByRecursion (IsPreparing fill.directory) (events_by k v xs)) (sym h.2.no_steps) tt
+prepared_before fill steps slots (inr h) k v =
+    subst (λ xs. AllByRecursion (IsPreparing fill.directory) (events_by k v xs)) (sym h.steps_are)
+    (subst (AllByRecursion (IsPreparing fill.directory)) (sym (events_later h.searched h.before h.gives_back k v)) (subst (AllByRecursion (IsPreparing fill.directory)) (sym (refill_events h.refill k (h.before ++ v))) (prepared fill.directory slots.page h.refill.searched h.refill.outcome.events k (h.before ++ v))))
 
-silent_before : {f : Profile} {d : Directory} {heap class : ℕ} {locals fewer : List Slots} (steps : List Made) (room : NoRoom) → IsObtained f d heap class locals fewer steps (Err room) → IsSilent steps
+silent_before : {fill : Filling} {f : Profile} {locals fewer : List Slots} (steps : List Made) (room : NoRoom) → IsObtained fill f locals fewer steps (Err room) → IsSilent steps
 silent_before steps room (inl h) = let both = h.1 in cc
-silent_before steps room (inr h) = subst IsSilent (sym h.steps_are) (λ k v. events_later h.searched h.before h.gives_back k v ∙ events_quiet k (h.before ++ v) h.searched h.refill.outcome.quiet)
+silent_before steps room (inr h) = subst IsSilent (sym h.steps_are) (λ k v. events_later h.searched h.before h.gives_back k v ∙ events_quiet k (h.before ++ v) h.searched (refusal h.refill).quiet)
 
 -- ---- the give
 give_event : (slots rest : Slots) (block : Block) (steps : List Made) → GivesSlot slots rest block steps → (k : ℕ) (v : View) → events_by k v steps ≡ Event.Give k block ∷ []
 give_event slots rest block steps gives k v = ap (events_by k v) gives.steps_are
 
-same_directory : (heap class : ℕ) (slots : Slots) → slots.heap ≡ heap → slots.class ≡ class → directory_of slots ≡ class_directory heap class
-same_directory heap class slots a b = ap (λ x. class_directory x slots.class) a ∙ ap (λ x. class_directory heap x) b
-
-pub serves_given : {σ σ1 σ2 : Standing} (heap class : ℕ) (tells : Bool) (locals fewer after : List Slots) (slots rest : Slots) (block : Block) → CanCall σ (λ v l. RestsWith σ.seat.profile locals v) → (one : Obtains heap class tells locals fewer σ σ1 (Ok slots))
-    → GivesLowest slots rest block σ1 σ2 → after ≡ fewer ++ rest ∷ [] → ServesFrom (class_directory heap class) heap class tells locals after σ σ2 (Ok block)
-serves_given {σ} {σ1} {σ2} heap class tells locals fewer after slots rest block can one two list =
+pub serves_given : {σ σ1 σ2 : Standing} (fill : Filling) (tells : Bool) (locals fewer after : List Slots) (slots rest : Slots) (block : Block) → CanCall σ (λ v l. RestsWith σ.seat.profile locals v) → (one : Obtains fill tells locals fewer σ σ1 (Ok slots))
+    → GivesLowest slots rest block σ1 σ2 → after ≡ fewer ++ rest ∷ [] → ServesFrom fill tells locals after σ σ2 (Ok block)
+serves_given {σ} {σ1} {σ2} fill tells locals fewer after slots rest block can one two list =
     let f : Profile = σ.seat.profile in
-    let d : Directory = class_directory heap class in
+    let d : Directory = fill.directory in
     let xs : List Made = one.steps in
     let ys : List Made = two.steps in
     let for = one.found_for in
@@ -146,7 +151,7 @@ serves_given {σ} {σ1} {σ2} heap class tells locals fewer after slots rest blo
           let left : unknown_pages f ((ys ++ xs) ++ v) ≡ unknown_pages f (ys ++ (xs ++ v)) = ap (unknown_pages f) (append_assoc ys xs v) in
           record { paid = omega (arith, paid, fewer_left, split, last, left); most = omega (arith, most, split, last) };
       outcome = record {
-        of_heap = two.gives.heap ∙ for.heap_is;
+        of_heap = two.gives.heap ∙ ap (λ x. x.heap) for.home;
         room = two.gives.room ∙ ap class_size for.class_is;
         placed = record {
           page = slots.page;
@@ -160,19 +165,19 @@ serves_given {σ} {σ1} {σ2} heap class tells locals fewer after slots rest blo
         deeds = record {
           from = λ v h agreed g inside.
               let page : g / 256 ≡ slots.page = given_page f fewer slots rest block ys two.gives (xs ++ v) (before v h agreed) g inside in
-              let known : known_deed (xs ++ v) slots.page ≡ deed_word_of d = (here f slots fewer (xs ++ v) (before v h agreed)).deed ∙ ap deed_word_of (same_directory heap class slots for.heap_is for.class_is) in
+              let known : known_deed (xs ++ v) slots.page ≡ deed_word_of d = (here f slots fewer (xs ++ v) (before v h agreed)).deed ∙ ap deed_word_of for.home in
               ap (λ w. known_deed w (g / 256)) (append_assoc ys xs v) ∙ (ap (known_deed (ys ++ (xs ++ v))) page
               ∙ (deed_stays f ys (xs ++ v) slots.page (agreed_first f v ys xs agreed) (λ z. deed_word_of-positive d (sym known ∙ z)) ∙ known));
         };
-        events = λ k v. (events_by k v xs, events_append k ys xs v ∙ ap (λ es. es ++ events_by k v xs) (give_event slots rest block ys two.gives k (xs ++ v)), prepared_before d xs slots one.how k v);
+        events = λ k v. (events_by k v xs, events_append k ys xs v ∙ ap (λ es. es ++ events_by k v xs) (give_event slots rest block ys two.gives k (xs ++ v)), prepared_before fill xs slots one.how k v);
       };
       place = let n : length after ≡ length fewer + 1 = ap length list ∙ length-append fewer (rest ∷ []) in let few = one.place in omega (arith, n, few);
       told = λ t v l stood h. tt;
     }
 
 -- ---- a refusal
-pub serves_none : {σ σ1 : Standing} (heap class : ℕ) (tells : Bool) (locals fewer : List Slots) (room : NoRoom) → Obtains heap class tells locals fewer σ σ1 (Err room) → ServesFrom (class_directory heap class) heap class tells locals fewer σ σ1 (Err room)
-serves_none {σ} heap class tells locals fewer room one = record {
+pub serves_none : {σ σ1 : Standing} (fill : Filling) (tells : Bool) (locals fewer : List Slots) (room : NoRoom) → Obtains fill tells locals fewer σ σ1 (Err room) → ServesFrom fill tells locals fewer σ σ1 (Err room)
+serves_none {σ} fill tells locals fewer room one = record {
   steps = one.steps;
   calls = one.calls;
   change = record { found = Err room; fewer = fewer; before = one.steps; obtained = one.how; given = []; ends = (refl, refl, refl); steps_are = refl };
@@ -192,21 +197,21 @@ given_two fewer locals' given (Err why) answer slots is h = cc
 spent_empty : (spent : List Made) (local : Option Slots) (slots : Slots) → local ≡ Some slots → LeavesSpent local spent → HasMember slots.starts → ⊥
 spent_empty spent local slots is leaves some = true≢false (sym some.2 ∙ (subst (λ l. LeavesSpent l spent) is leaves).0 some.0 some.1)
 
-cached_two : {f : Profile} {d : Directory} {heap class : ℕ} {locals locals' : List Slots} {steps : List Made} {answer : Result Block NoRoom} → (h : ServesLocals f d heap class locals locals' steps answer) → (slots : Slots) → local_for heap class locals ≡ Some slots → HasMember slots.starts
+cached_two : {fill : Filling} {f : Profile} {locals locals' : List Slots} {steps : List Made} {answer : Result Block NoRoom} → (h : ServesLocals fill f locals locals' steps answer) → (slots : Slots) → local_for fill.directory.heap fill.class locals ≡ Some slots → HasMember slots.starts
     → length steps ≡ 2
-cached_two {heap = heap} {class = class} {locals = locals} {locals' = locals'} {answer = answer} h slots is some = elim h.obtained [
+cached_two {fill = fill} {locals = locals} {locals' = locals'} {answer = answer} h slots is some = elim h.obtained [
   | inl cached ↦
       let two = given_two h.fewer locals' h.given h.found answer cached.0 cached.1 h.ends in
       let none = ap length cached.2.no_steps in
       let all = ap length h.steps_are ∙ length-append h.given h.before in
       omega (arith, two, none, all)
-  | inr fetch ↦ absurd (spent_empty fetch.place.spent (local_for heap class locals) slots is fetch.place.taken.0 some)
+  | inr fetch ↦ absurd (spent_empty fetch.place.spent (local_for fill.directory.heap fill.class locals) slots is fetch.place.taken.0 some)
 ]
 
 -- ---- of a cache
-for_cache : (f : Profile) (c : Cached) (heap class size align : ℕ) (steps : List Made) (answer : Result Block NoRoom) → 4096 % align ≡ 0 → route_of size align ≡ Route.Class class → MatchResult answer (IsBlockFor f (class_wanted heap class 1) (RestsWith f c.locals) steps) (λ room. IsSilent steps)
-    → MatchResult answer (IsBlockFor f (class_wanted heap class align) (AtRest f c) steps) (λ room. IsSilent steps)
-for_cache f c heap class size align steps (Ok block) whole route h = record {
+for_cache : (f : Profile) (c : Cached) (d : Directory) (class size align : ℕ) (steps : List Made) (answer : Result Block NoRoom) → 4096 % align ≡ 0 → route_of size align ≡ Route.Class class → MatchResult answer (IsBlockFor f (class_wanted d class 1) (RestsWith f c.locals) steps) (λ room. IsSilent steps)
+    → MatchResult answer (IsBlockFor f (class_wanted d class align) (AtRest f c) steps) (λ room. IsSilent steps)
+for_cache f c d class size align steps (Ok block) whole route h = record {
   of_heap = h.of_heap;
   room = h.room;
   placed = h.placed;
@@ -216,19 +221,21 @@ for_cache f c heap class size align steps (Ok block) whole route h = record {
   deeds = leads_as h.deeds (λ v rest. rest.locals) (λ v w rest is. is);
   events = h.events;
 }
-for_cache f c heap class size align steps (Err room) whole route h = h
+for_cache f c d class size align steps (Err room) whole route h = h
 
-pub served_directory : (f : Profile) (size align heap class : ℕ) → IsAdmitted f size align heap → route_of size align ≡ Route.Class class → IsDirectoryOf f (class_directory heap class)
-served_directory f size align heap class admitted route = record { heap = admitted.of_profile; kind = (class_suits size align class route).known }
+pub filling_for : (f : Profile) (size align heap class : ℕ) → IsAdmitted f size align heap → is_shared f heap ≡ false → route_of size align ≡ Route.Class class → IsFilling f (exclusive_slots heap class)
+filling_for f size align heap class admitted exclusive route =
+    let known : IsClass class = (class_suits size align class route).known in
+    record { directory = record { heap = admitted.of_profile; kind = known }; class = known; home = ap (λ t. kind_of_class t class) (sym exclusive); fewer = fewer_slots class }
 
 -- a request of a class in a heap that isn't shared wants exclusive pages of the class
-wanted_is : (f : Profile) (heap class size align : ℕ) → is_shared f heap ≡ false → route_of size align ≡ Route.Class class → class_wanted heap class align ≡ wanted_for f heap size align
+wanted_is : (f : Profile) (heap class size align : ℕ) → is_shared f heap ≡ false → route_of size align ≡ Route.Class class → class_wanted (class_directory heap class) class align ≡ wanted_for f heap size align
 wanted_is f heap class size align exclusive route =
     let by : Bool → Route → Wanted = λ b r. record { directory = record { heap = heap; kind = kind_of_route b r }; route = r; room = room_by r (max size 1); align = align } in
     ap (λ (b : Bool). by b (Route.Class class)) (sym exclusive) ∙ ap (λ (r : Route). by (is_shared f heap) r) (sym route)
 
 pub allocates : {σ σ' : Standing} (size align heap class : ℕ) (tells : Bool) (c c' : Cached) (answer : Result Block NoRoom) → IsAdmitted σ.seat.profile size align heap → is_shared σ.seat.profile heap ≡ false → route_of size align ≡ Route.Class class → c' ≡ record c { locals = c'.locals }
-    → ServesFrom (class_directory heap class) heap class tells c.locals c'.locals σ σ' answer → Allocates (wanted_for σ.seat.profile heap size align) tells c c' σ σ' answer
+    → ServesFrom (exclusive_slots heap class) tells c.locals c'.locals σ σ' answer → Allocates (wanted_for σ.seat.profile heap size align) tells c c' σ σ' answer
 allocates {σ} {σ'} size align heap class tells c c' answer admitted exclusive route is h =
     let f : Profile = σ.seat.profile in
     subst (λ (w : Wanted). Allocates w tells c c' σ σ' answer) (wanted_is f heap class size align exclusive route) (record {
@@ -238,7 +245,7 @@ allocates {σ} {σ'} size align heap class tells c c' answer admitted exclusive 
       kinds = h.kinds;
       two = cached_two h.change;
       few = λ k v rest agreed. h.few k v rest.locals agreed;
-      outcome = for_cache f c heap class size align h.steps answer admitted.aligned.2 route h.outcome;
+      outcome = for_cache f c (class_directory heap class) class size align h.steps answer admitted.aligned.2 route h.outcome;
       told = λ t v l stood rest. h.told t v l stood rest.locals;
     })
 
@@ -247,10 +254,10 @@ serve_call can = record { view = can.view; whole = can.whole; stood = can.stood;
 
 -- the local allocators of an actor at rest are well formed
 pub formed : (f : Profile) (v : View) (locals : List Slots) → RestsWith f locals v → All IsFormed locals
-formed f v locals h = All-weaker (IsLocal f v) IsFormed (λ t at. record { class = at.directory.kind; starts = at.starts }) locals h.known
+formed f v locals h = All-weaker (IsLocal f v) IsFormed (λ t at. record { class = at.class; starts = at.starts }) locals h.known
 
-pub rests_after : {σ σ' : Standing} (d : Directory) (heap class : ℕ) (tells : Bool) (locals locals' : List Slots) (answer : Result Block NoRoom) → (h : ServesFrom d heap class tells locals locals' σ σ' answer) → (can : CanCall σ (λ v l. RestsWith σ.seat.profile locals v)) → RestsWith σ.seat.profile locals' (h.steps ++ can.view)
-rests_after d heap class tells locals locals' answer h can = h.calls.leads.from can.view can.met (h.calls.adds.agreed can.view can.whole can.stood can.met)
+pub rests_after : {σ σ' : Standing} (fill : Filling) (tells : Bool) (locals locals' : List Slots) (answer : Result Block NoRoom) → (h : ServesFrom fill tells locals locals' σ σ' answer) → (can : CanCall σ (λ v l. RestsWith σ.seat.profile locals v)) → RestsWith σ.seat.profile locals' (h.steps ++ can.view)
+rests_after fill tells locals locals' answer h can = h.calls.leads.from can.view can.met (h.calls.adds.agreed can.view can.whole can.stood can.met)
 
 pub some_class : (route expected : Route) → route ≡ expected → IsClassRoute expected → ((class : ℕ) → route ≡ Route.Class class → ⊥) → ⊥
 some_class route (Route.Class class) same is none = none class same

@@ -16,7 +16,7 @@ use Rattle.pas_steps.proofs.Adding.{adds_under}
 use Rattle.pas_steps.proofs.Apart.{only_both, no_events}
 use Rattle.pas_steps.proofs.Called.{call_none, call_then, next_call}
 use Rattle.pas_steps.proofs.Frames.{events_split}
-use Rattle.pas_segregated.specs.Stops.{StopSteps, MayStop, Stops}
+use Rattle.pas_segregated.specs.Stops.{home_of, StopStepsAt, MayStopAt, StopsAt}
 use Rattle.pas_segregated.specs.declared.slots.Slots.{Slots}
 use Rattle.pas_cache.specs.Changes.{StopsFirst, StopsEach, IsShortened}
 use Rattle.pas_cache.specs.Kinds.{releasing}
@@ -34,10 +34,10 @@ module _ {σ : Standing} (locals : List Slots) (slots : Slots) (rest : List Slot
   pub local_of : (can : CanCall σ (λ v l. RestsWith σ.seat.profile locals v)) → IsLocal σ.seat.profile can.view slots
   local_of can = here σ.seat.profile slots rest can.view (moved_first σ.seat.profile locals slots rest moved can.view can.met)
 
-  pub may_call : CanCall σ (λ v l. RestsWith σ.seat.profile locals v) → CanCall σ (λ v l. MayStop slots v)
+  pub may_call : CanCall σ (λ v l. RestsWith σ.seat.profile locals v) → CanCall σ (λ v l. MayStopAt (home_of slots) slots v)
   may_call can = record { view = can.view; whole = can.whole; stood = can.stood; met = may_stop σ.seat.profile slots rest can.view (moved_first σ.seat.profile locals slots rest moved can.view can.met) }
 
-  abbrev pub releases_by : {σ' : Standing} (Change : List Made → Type 0) (stops : Stops slots σ σ') → Change stops.steps → Releases Change locals rest σ σ'
+  abbrev pub releases_by : {σ' : Standing} (Change : List Made → Type 0) (stops : StopsAt (home_of slots) slots σ σ') → Change stops.steps → Releases Change locals rest σ σ'
   releases_by Change stops change = record {
     steps = stops.steps;
     calls = record {
@@ -71,7 +71,7 @@ full_removed (a ∷ others) x ys full is rest = cc
 pub first_removed : (xs : List Slots) (x : Slots) (ys : List Slots) → xs ≡ x ∷ ys → IsPermutation xs (x ∷ ys)
 first_removed xs x ys is = subst (IsPermutation xs) is (IsPermutation-refl xs)
 
-pub shortens_full : (locals : List Slots) (oldest : Slots) (rest : List Slots) (steps : List Made) → locals ≡ oldest ∷ rest → (length locals == 32) ≡ true → StopSteps oldest steps → IsShortened locals rest steps
+pub shortens_full : (locals : List Slots) (oldest : Slots) (rest : List Slots) (steps : List Made) → locals ≡ oldest ∷ rest → (length locals == 32) ≡ true → StopStepsAt (home_of oldest) oldest steps → IsShortened locals rest steps
 shortens_full locals oldest rest steps is all stops =
     let n : length locals ≡ 32 = eqb-true (length locals) 32 all in
     let long : length (oldest ∷ rest) ≡ 32 = ap length (sym is) ∙ n in
@@ -99,12 +99,12 @@ module _ {σ σ1 : Standing} {First : List Made → Type 0} (locals kept : List 
 pub last_popped : (xs : List Slots) (x : Slots) (ys : List Slots) → xs ≡ ys ++ x ∷ [] → IsPermutation xs (x ∷ ys)
 last_popped xs x ys is = subst (λ zs. IsPermutation zs (x ∷ ys)) (sym is) (IsPermutation-to_front ys x)
 
-pub stops_more : {σ σ1 σ2 : Standing} (locals kept rest : List Slots) (x : Slots) (stopped : List Slots) → kept ≡ rest ++ x ∷ [] → (one : Releases (StopsEach stopped) locals kept σ σ1) → Stops x σ1 σ2 → Releases (StopsEach (x ∷ stopped)) locals rest σ σ2
+pub stops_more : {σ σ1 σ2 : Standing} (locals kept rest : List Slots) (x : Slots) (stopped : List Slots) → kept ≡ rest ++ x ∷ [] → (one : Releases (StopsEach stopped) locals kept σ σ1) → StopsAt (home_of x) x σ1 σ2 → Releases (StopsEach (x ∷ stopped)) locals rest σ σ2
 stops_more locals kept rest x stopped is one stops =
     let n = length-append stops.steps one.steps in
     let here = stops.few in
     let before = one.change.few in
-    releases_then locals kept one (StopsEach (x ∷ stopped)) rest (releases_by kept x rest (last_popped kept x rest is) (StopSteps x) stops stops.order) (record { order = (stops.steps, one.steps, stops.order, one.change.order, refl); few = omega (arith, n, here, before) })
+    releases_then locals kept one (StopsEach (x ∷ stopped)) rest (releases_by kept x rest (last_popped kept x rest is) (StopStepsAt (home_of x) x) stops stops.order) (record { order = (stops.steps, one.steps, stops.order, one.change.order, refl); few = omega (arith, n, here, before) })
 
 pub nil_from : (xs ys : List Slots) → (0 < length xs → ⊥) → xs ≡ ys → ys ≡ []
 nil_from [] ys none is = sym is

@@ -23,7 +23,7 @@ use Rattle.pas_cache.specs.Names.{IsInRegion, IsFaultOf}
 use Rattle.pas_cache.specs.Changes.{EmptiesLog, LogsName, StopsEach}
 use Rattle.pas_steps.specs.Kinds.{Only}
 use Rattle.pas_cache.specs.Kinds.{releasing, allocating}
-use Rattle.pas_cache.specs.Serves.{Wanted, class_of, ServesRequest, IsBlockFor, MakesFew, IsSilent, IsToldBy}
+use Rattle.pas_cache.specs.Serves.{Wanted, class_of, filling_in, ServesRequest, IsBlockFor, MakesFew, IsSilent, IsToldBy}
 
 -- an actor at rest with the one cache is at rest with the other after these steps
 abbrev pub Rests : Cached → Cached → Standing → Standing → List Made → Type 0
@@ -47,12 +47,12 @@ pub record MayAllocate (f : Profile) (c : Cached) (spare : ℕ) (v : View) : Typ
 pub record Allocates (wanted : Wanted) (tells : Bool) (c c' : Cached) (desk desk' : Standing) (answer : Result Block NoRoom) : Type 0 where
   pub steps : List Made
   pub calls : Rests c c' desk desk' steps
-  pub change : ServesRequest desk.seat.profile wanted.directory wanted.directory.heap (class_of wanted.route) c c' steps answer
+  pub change : ServesRequest desk.seat.profile wanted c c' steps answer
   pub kinds : Only allocating steps
   pub two : (slots : Slots) → local_for wanted.directory.heap (class_of wanted.route) c.locals ≡ Some slots → HasMember slots.starts → length steps ≡ 2
   pub few : MakesFew desk.seat.profile (AtRest desk.seat.profile c) 2 steps
   pub outcome : MatchResult answer (IsBlockFor desk.seat.profile wanted (AtRest desk.seat.profile c) steps) (λ room. IsSilent steps)
-  pub told : tells ≡ true → (v : View) (l : Whole) → desk.stands v l → AtRest desk.seat.profile c v → IsToldBy desk.seat.profile wanted.directory wanted.directory.heap (class_of wanted.route) c.locals l (triples desk.seat.actor steps ++ l) answer
+  pub told : tells ≡ true → (v : View) (l : Whole) → desk.stands v l → AtRest desk.seat.profile c v → IsToldBy (filling_in wanted.directory (class_of wanted.route)) desk.seat.profile c.locals l (triples desk.seat.actor steps ++ l) answer
 
 -- ---- free
 -- a fault changes nothing

@@ -17,7 +17,7 @@ use Rattle.pas_free_log.specs.declared.log.Entry.{Entry}
 use Rattle.pas_free_log.specs.Logs.{entry_of}
 use Rattle.pas_free_log.specs.Stamps.{stamps_by}
 use Rattle.pas_free_log.specs.Flushes.{Settled, EntriesSteps, shown_for, stamps_for}
-use Rattle.pas_segregated.specs.Stops.{directory_of, LeavesWhere, StopSteps}
+use Rattle.pas_segregated.specs.Stops.{home_of, LeavesWhere, StopStepsAt}
 use Rattle.pas_segregated.specs.declared.slots.Slots.{Slots}
 use Rattle.pas_cache.specs.Locals.{local_for, others_than}
 
@@ -48,7 +48,7 @@ pub record GivesSlot (slots slots' : Slots) (block : Block) (steps : List Made) 
 -- one without a slot is left, where it keeps the right of its page
 abbrev pub LeavesSpent : Option Slots → List Made → Type 0
 LeavesSpent None steps = steps ≡ []
-LeavesSpent (Some slots) steps = IsEmpty slots.starts × LeavesWhere slots.right slots.page (directory_of slots) steps
+LeavesSpent (Some slots) steps = IsEmpty slots.starts × LeavesWhere slots.right slots.page (home_of slots) steps
 
 -- the local allocator of the heap and the class, which has no slot, is taken out, where there is one
 abbrev pub IsTakenOut : ℕ → ℕ → List Slots → List Slots → List Made → Type 0
@@ -57,7 +57,7 @@ IsTakenOut heap class locals locals' steps = LeavesSpent (local_for heap class l
 -- the first is stopped where the list is full
 abbrev pub StopsFirst : Bool → List Slots → List Slots → List Made → Type 0
 StopsFirst full [] locals' steps = (locals' ≡ []) × (steps ≡ [])
-StopsFirst true (oldest ∷ rest) locals' steps = (locals' ≡ rest) × StopSteps oldest steps
+StopsFirst true (oldest ∷ rest) locals' steps = (locals' ≡ rest) × StopStepsAt (home_of oldest) oldest steps
 StopsFirst false (oldest ∷ rest) locals' steps = (locals' ≡ oldest ∷ rest) × (steps ≡ [])
 
 -- where 32 are there, the one used longest ago is stopped
@@ -67,7 +67,7 @@ IsShortened locals locals' steps = StopsFirst (nat_le 32 (length locals)) locals
 -- all are stopped, the last one first
 abbrev pub StopsAll : List Slots → List Made → Type 0
 StopsAll [] steps = steps ≡ []
-StopsAll (slots ∷ rest) steps = (piece : List Made) × (before : List Made) × StopSteps slots piece × StopsAll rest before × (steps ≡ piece ++ before)
+StopsAll (slots ∷ rest) steps = (piece : List Made) × (before : List Made) × StopStepsAt (home_of slots) slots piece × StopsAll rest before × (steps ≡ piece ++ before)
 
 -- .. by at most 23 steps each
 pub record StopsEach (locals : List Slots) (steps : List Made) : Type 0 where

@@ -1,5 +1,4 @@
 pub mod Kinds
-pub mod Effects
 pub mod Locals
 pub mod Caches
 pub mod Changes

@@ -4,12 +4,13 @@ use Rattle.std.specs.Prelude.{ℕ, ◌≤◌, ◌≡◌, ◌==◌, Bool, true, �
 use Rattle.std.specs.List.{list_any, find, filter, count_by}
 use Rattle.pas_profile.specs.Classes.{IsClass}
 use Rattle.pas_profile.specs.Profiles.{IsPage, IsDirectoryOf}
+use Rattle.pas_profile.specs.Requests.{is_shared}
 use Rattle.pas_profile.specs.declared.profile.Profile.{Profile}
 use Rattle.pas_steps.specs.Views.{View, holds, has_right, knows_backed, KnowsDeed}
 use Rattle.pas_steps.specs.Clear.{IsClear}
 use Rattle.pas_segregated.specs.Masks.{AreStarts}
 use Rattle.pas_bits.specs.Masks.{HasMember}
-use Rattle.pas_segregated.specs.Stops.{directory_of, in_slots}
+use Rattle.pas_segregated.specs.Stops.{home_of, in_slots}
 use Rattle.pas_segregated.specs.declared.slots.Slots.{Slots}
 
 -- ---- what it has
@@ -49,12 +50,15 @@ pub record IsFormed (slots : Slots) : Type 0 where
   pub starts : AreStarts slots.class slots.starts
 
 -- ---- what its actor knows
--- Its page is one of the region and known to be of its directory, and where a slot is left it is known as backed.
+-- Its page is one of the region and known to be of its home, and where a slot is left it is known as backed. It keeps the right of its page just
+-- where the heap isn't shared.
 pub record IsLocal (f : Profile) (v : View) (slots : Slots) : Type 0 where
   pub page : IsPage f slots.page
-  pub directory : IsDirectoryOf f (directory_of slots)
+  pub class : IsClass slots.class
+  pub directory : IsDirectoryOf f (home_of slots)
+  pub kept : slots.right ≡ not (is_shared f slots.heap)
   pub starts : AreStarts slots.class slots.starts
-  pub deed : KnowsDeed slots.page (directory_of slots) v
+  pub deed : KnowsDeed slots.page (home_of slots) v
   pub backed : HasMember slots.starts → knows_backed v slots.page ≡ true
 
 -- there is at most one for each heap and class, no grain is of two of them, and no page's right is kept by two

@@ -5,7 +5,6 @@ use Rattle.pas_profile.specs.declared.name.Block.{Block}
 use Rattle.pas_profile.specs.declared.profile.Profile.{Profile}
 use Rattle.pas_steps.specs.Views.{View, holds, is_unstamped}
 use Rattle.pas_steps.specs.Lists.{Whole}
-use Rattle.pas_profile.specs.declared.directory.Directory.{Directory}
 use Rattle.std.specs.List.{cons_option}
 use Rattle.std.specs.Result.{result_ok}
 use Rattle.pas_steps.specs.Calls.{Calls}
@@ -15,7 +14,8 @@ use Rattle.pas_steps.specs.Kinds.{Only}
 use Rattle.pas_cache.specs.Kinds.{releasing, allocating}
 use Rattle.pas_steps.specs.Unknown.{HasRoom}
 use Rattle.pas_bits.specs.Masks.{HasMember}
-use Rattle.pas_segregated.specs.Stops.{class_directory}
+use Rattle.pas_segregated.specs.Stops.{home_of}
+use Rattle.pas_segregated.specs.Refills.{Filling}
 use Rattle.pas_segregated.specs.declared.slots.Slots.{Slots}
 use Rattle.pas_cache.specs.Locals.{covers, local_for, IsLocal, RestsWith}
 use Rattle.pas_cache.specs.Changes.{GivesSlot}
@@ -59,30 +59,30 @@ pub record MayObtain (f : Profile) (n spare : ℕ) (locals : List Slots) (v : Vi
   pub rest : RestsWith f locals v
   pub room : HasRoom f n spare v
 
--- the slots are of the heap and the class, and there are some
-pub record IsFoundFor (heap class : ℕ) (slots : Slots) : Type 0 where
-  pub heap_is : slots.heap ≡ heap
-  pub class_is : slots.class ≡ class
+-- the slots are of the class and at home in the directory, and there are some
+pub record IsFoundFor (fill : Filling) (slots : Slots) : Type 0 where
+  pub home : home_of slots ≡ fill.directory
+  pub class_is : slots.class ≡ fill.class
   pub some : HasMember slots.starts
 
 -- the actor is at rest with the others, and with the slots that were found
-pub record Obtains (heap class : ℕ) (tells : Bool) (locals fewer : List Slots) (desk desk' : Standing) (found : Result Slots NoRoom) : Type 0 where
+pub record Obtains (fill : Filling) (tells : Bool) (locals fewer : List Slots) (desk desk' : Standing) (found : Result Slots NoRoom) : Type 0 where
   pub steps : List Made
   pub calls : Rests locals (cons_option (result_ok found) fewer) desk desk' steps
-  pub how : IsObtained desk.seat.profile (class_directory heap class) heap class locals fewer steps found
-  pub found_for : MatchResult found (IsFoundFor heap class) (λ room. Unit {0})
+  pub how : IsObtained fill desk.seat.profile locals fewer steps found
+  pub found_for : MatchResult found (IsFoundFor fill) (λ room. Unit {0})
   pub place : length fewer < 32
   pub few : MakesFew desk.seat.profile (RestsWith desk.seat.profile locals) 1 steps
   pub told : tells ≡ true → (v : View) (l : Whole) → desk.stands v l → RestsWith desk.seat.profile locals v
-      → IsToldBy desk.seat.profile (class_directory heap class) heap class locals l (triples desk.seat.actor steps ++ l) found
+      → IsToldBy fill desk.seat.profile locals l (triples desk.seat.actor steps ++ l) found
 
 -- ---- a request is served from the local allocators
-pub record ServesFrom (d : Directory) (heap class : ℕ) (tells : Bool) (locals locals' : List Slots) (desk desk' : Standing) (answer : Result Block NoRoom) : Type 0 where
+pub record ServesFrom (fill : Filling) (tells : Bool) (locals locals' : List Slots) (desk desk' : Standing) (answer : Result Block NoRoom) : Type 0 where
   pub steps : List Made
   pub calls : Rests locals locals' desk desk' steps
-  pub change : ServesLocals desk.seat.profile d heap class locals locals' steps answer
+  pub change : ServesLocals fill desk.seat.profile locals locals' steps answer
   pub kinds : Only allocating steps
   pub few : MakesFew desk.seat.profile (RestsWith desk.seat.profile locals) 2 steps
-  pub outcome : MatchResult answer (IsBlockFor desk.seat.profile (class_wanted heap class 1) (RestsWith desk.seat.profile locals) steps) (λ room. IsSilent steps)
+  pub outcome : MatchResult answer (IsBlockFor desk.seat.profile (class_wanted fill.directory fill.class 1) (RestsWith desk.seat.profile locals) steps) (λ room. IsSilent steps)
   pub place : length locals' ≤ 32
-  pub told : tells ≡ true → (v : View) (l : Whole) → desk.stands v l → RestsWith desk.seat.profile locals v → IsToldBy desk.seat.profile d heap class locals l (triples desk.seat.actor steps ++ l) answer
+  pub told : tells ≡ true → (v : View) (l : Whole) → desk.stands v l → RestsWith desk.seat.profile locals v → IsToldBy fill desk.seat.profile locals l (triples desk.seat.actor steps ++ l) answer

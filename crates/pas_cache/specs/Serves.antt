@@ -1,10 +1,10 @@
 -- How a request of a class changes a cache, and what its block is.
 use Rattle.std.specs.Prelude.{ℕ, ◌+◌, ◌*◌, ◌/◌, ◌^◌, ◌<◌, ◌≤◌, ◌%◌, ◌≡◌, true, ◌⊎◌, List, [], ◌∷◌, ◌++◌, length, Some, Result, Ok, Err, MatchResult}
 use Rattle.std.specs.List.{AllByRecursion}
-use Rattle.pas_profile.specs.Profiles.{IsPage}
-use Rattle.pas_profile.specs.Requests.{directory_for}
+use Rattle.pas_profile.specs.Profiles.{IsPage, IsDirectoryOf}
+use Rattle.pas_profile.specs.Requests.{directory_for, is_shared, kind_of_class}
 use Rattle.pas_profile.specs.Routes.{route_of, room_of}
-use Rattle.pas_profile.specs.Classes.{IsSlotStart, class_size}
+use Rattle.pas_profile.specs.Classes.{IsClass, IsSlotStart, class_size}
 use Rattle.pas_profile.specs.declared.directory.Directory.{Directory}
 use Rattle.pas_profile.specs.declared.directory.Route.{Route}
 use Rattle.pas_profile.specs.declared.event.Event.{Event}
@@ -18,15 +18,15 @@ use Rattle.pas_steps.specs.Agreement.{Agreed}
 use Rattle.pas_steps.specs.Lists.{Whole}
 use Rattle.pas_steps.specs.declared.step.Made.{Made}
 use Rattle.pas_search.specs.Kinds.{AreSearch}
+use Rattle.pas_search.specs.Serving.{IsAntitone}
 use Rattle.pas_search.specs.Searches.{IsRefused}
 use Rattle.pas_search.specs.Telling.{HasNoFit, IsTrueReason}
 use Rattle.pas_bits.specs.Masks.{HasMember}
 use Rattle.pas_steps.specs.Calls.{Leads}
 use Rattle.pas_steps.specs.Kinds.{Only}
 use Rattle.pas_cache.specs.Kinds.{releasing}
-use Rattle.pas_segregated.specs.Takes.{exclusive}
-use Rattle.pas_segregated.specs.Stops.{class_directory}
-use Rattle.pas_segregated.specs.Refills.{GivesSlots}
+use Rattle.pas_segregated.specs.Takes.{NoSlot, TookSlots}
+use Rattle.pas_segregated.specs.Refills.{Filling, GivesSlots}
 use Rattle.pas_segregated.specs.declared.slots.Slots.{Slots}
 use Rattle.pas_cache.specs.Locals.{local_for, others_than}
 use Rattle.pas_steps.specs.Unknown.{unknown_pages}
@@ -45,6 +45,21 @@ class_of (Route.Class class) = class
 class_of Route.Bitfit = 0
 class_of Route.Large = 0
 
+-- ---- the request
+-- what a request comes to: the directory of its pages, its route, the room of its block, and at a multiple of what the block is
+pub record Wanted : Type 0 where
+  pub directory : Directory
+  pub route : Route
+  pub room : ℕ
+  pub align : ℕ
+
+abbrev pub wanted_for : Profile → ℕ → ℕ → ℕ → Wanted
+wanted_for f heap size align = record { directory = directory_for f heap size align; route = route_of size align; room = room_of size align; align = align }
+
+-- that of a class, in pages of this directory
+abbrev pub class_wanted : Directory → ℕ → ℕ → Wanted
+class_wanted d class align = record { directory = d; route = Route.Class class; room = class_size class; align = align }
+
 -- ---- slots are obtained
 -- The local allocator of the heap and the class has a slot, and is taken out of the list without a step.
 pub record FindsCached (heap class : ℕ) (locals fewer : List Slots) (slots : Slots) (steps : List Made) : Type 0 where
@@ -62,25 +77,39 @@ pub record MakesPlace (heap class : ℕ) (locals fewer : List Slots) (steps : Li
   pub shortened : IsShortened kept fewer stopped
   pub steps_are : steps ≡ stopped ++ spent
 
--- the steps of a refill, and the slots that it got
-pub record IsRefill (f : Profile) (d : Directory) (class : ℕ) (steps : List Made) (found : Result Slots NoRoom) : Type 0 where
-  pub searches : AreSearch steps
-  pub outcome : MatchResult found (GivesSlots f d steps) (IsRefused (exclusive class) f d steps)
+-- what a refill for the class is of, in pages of this directory
+abbrev pub filling_in : Directory → ℕ → Filling
+filling_in d class = record { directory = d; class = class; no_fit = NoSlot class; took = TookSlots class }
+
+-- The directory is that of the class in its heap. Where nothing fits, nothing fits among fewer free grains.
+pub record IsFilling (f : Profile) (fill : Filling) : Type 0 where
+  pub directory : IsDirectoryOf f fill.directory
+  pub class : IsClass fill.class
+  pub home : fill.directory.kind ≡ kind_of_class (is_shared f fill.directory.heap) fill.class
+  pub fewer : IsAntitone fill.no_fit
+
+-- the steps of a refill, and the slots that it got: a search, and where it found slots of a shared page, the leave of that page
+pub record IsRefill (fill : Filling) (f : Profile) (steps : List Made) (found : Result Slots NoRoom) : Type 0 where
+  pub searched : List Made
+  pub searches : AreSearch searched
+  pub after : List Made
+  pub outcome : MatchResult found (GivesSlots fill f searched after) (λ room. IsRefused fill.no_fit f fill.directory searched room × (after ≡ []))
+  pub steps_are : steps ≡ after ++ searched
 
 -- then the refill is made
-pub record Fetches (f : Profile) (d : Directory) (heap class : ℕ) (locals fewer : List Slots) (steps : List Made) (found : Result Slots NoRoom) : Type 0 where
+pub record Fetches (fill : Filling) (f : Profile) (locals fewer : List Slots) (steps : List Made) (found : Result Slots NoRoom) : Type 0 where
   pub before : List Made
-  pub place : MakesPlace heap class locals fewer before
+  pub place : MakesPlace fill.directory.heap fill.class locals fewer before
   pub gives_back : Only releasing before
   pub searched : List Made
-  pub refill : IsRefill f d class searched found
+  pub refill : IsRefill fill f searched found
   pub steps_are : steps ≡ searched ++ before
 
 -- the slots of which one is given: cached ones, or those of a refill
-abbrev pub IsObtained : Profile → Directory → ℕ → ℕ → List Slots → List Slots → List Made → Result Slots NoRoom → Type 0
-IsObtained f d heap class locals fewer steps found =
-    ((slots : Slots) × (found ≡ Ok slots) × FindsCached heap class locals fewer slots steps)
-    ⊎ Fetches f d heap class locals fewer steps found
+abbrev pub IsObtained : Filling → Profile → List Slots → List Slots → List Made → Result Slots NoRoom → Type 0
+IsObtained fill f locals fewer steps found =
+    ((slots : Slots) × (found ≡ Ok slots) × FindsCached fill.directory.heap fill.class locals fewer slots steps)
+    ⊎ Fetches fill f locals fewer steps found
 
 -- ---- the content
 -- The lowest of the slots is given, and the rest is the new local allocator at the end. A refusal is that of the refill.
@@ -91,18 +120,18 @@ IsAnswered fewer locals' steps (Err why) (Ok block) = ⊥
 IsAnswered fewer locals' steps (Err why) (Err room) = (room ≡ why) × (locals' ≡ fewer) × (steps ≡ [])
 
 -- Slots are obtained, and one of them is given. So a request for which a slot is cached takes just the two steps of the give.
-pub record ServesLocals (f : Profile) (d : Directory) (heap class : ℕ) (locals locals' : List Slots) (steps : List Made) (answer : Result Block NoRoom) : Type 0 where
+pub record ServesLocals (fill : Filling) (f : Profile) (locals locals' : List Slots) (steps : List Made) (answer : Result Block NoRoom) : Type 0 where
   pub found : Result Slots NoRoom
   pub fewer : List Slots
   pub before : List Made
-  pub obtained : IsObtained f d heap class locals fewer before found
+  pub obtained : IsObtained fill f locals fewer before found
   pub given : List Made
   pub ends : IsAnswered fewer locals' given found answer
   pub steps_are : steps ≡ given ++ before
 
 -- the local allocators serve the request, and the rest of the cache is as it was
-pub record ServesRequest (f : Profile) (d : Directory) (heap class : ℕ) (c c' : Cached) (steps : List Made) (answer : Result Block NoRoom) : Type 0 where
-  pub locals : ServesLocals f d heap class c.locals c'.locals steps answer
+pub record ServesRequest (f : Profile) (wanted : Wanted) (c c' : Cached) (steps : List Made) (answer : Result Block NoRoom) : Type 0 where
+  pub locals : ServesLocals (filling_in wanted.directory (class_of wanted.route)) f c.locals c'.locals steps answer
   pub cache : c' ≡ record c { locals = c'.locals }
 
 -- ---- the block
@@ -110,20 +139,6 @@ pub record ServesRequest (f : Profile) (d : Directory) (heap class : ℕ) (c c' 
 pub data IsPreparing (d : Directory) : Event → Type 0 where
   Deeds : (k page : ℕ) → IsPreparing d (Event.Deed k page d)
   Backs : (k page : ℕ) → IsPreparing d (Event.Back k page)
-
--- what a request comes to: the directory of its pages, its route, the room of its block, and at a multiple of what the block is
-pub record Wanted : Type 0 where
-  pub directory : Directory
-  pub route : Route
-  pub room : ℕ
-  pub align : ℕ
-
-abbrev pub wanted_for : Profile → ℕ → ℕ → ℕ → Wanted
-wanted_for f heap size align = record { directory = directory_for f heap size align; route = route_of size align; room = room_of size align; align = align }
-
--- that of exclusive pages of a class
-abbrev pub class_wanted : ℕ → ℕ → ℕ → Wanted
-class_wanted heap class align = record { directory = class_directory heap class; route = Route.Class class; room = class_size class; align = align }
 
 -- the block begins where a slot of the class does
 pub record IsInSlot (class : ℕ) (block : Block) : Type 0 where
@@ -171,11 +186,11 @@ HasNoneCached heap class locals = (slots : Slots) → local_for heap class local
 
 -- Where the request is refused, no slot was cached and no page could serve at entry, nor can one at exit, and the reason is true at exit. So a
 -- request is served wherever a slot is cached, an offered page fits or a page has no deed.
-pub record IsTrueRefusal (f : Profile) (d : Directory) (heap class : ℕ) (locals : List Slots) (entry exit : Whole) (room : NoRoom) : Type 0 where
-  pub cached : HasNoneCached heap class locals
-  pub entry_fit : HasNoFit (exclusive class) f d entry
-  pub exit_fit : HasNoFit (exclusive class) f d exit
-  pub reason : IsTrueReason f d exit room
+pub record IsTrueRefusal (fill : Filling) (f : Profile) (locals : List Slots) (entry exit : Whole) (room : NoRoom) : Type 0 where
+  pub cached : HasNoneCached fill.directory.heap fill.class locals
+  pub entry_fit : HasNoFit fill.no_fit f fill.directory entry
+  pub exit_fit : HasNoFit fill.no_fit f fill.directory exit
+  pub reason : IsTrueReason f fill.directory exit room
 
-abbrev pub IsToldBy : {A : Type 0} → Profile → Directory → ℕ → ℕ → List Slots → Whole → Whole → Result A NoRoom → Type 0
-IsToldBy f d heap class locals entry exit answer = MatchResult answer (λ found. Unit {0}) (IsTrueRefusal f d heap class locals entry exit)
+abbrev pub IsToldBy : {A : Type 0} → Filling → Profile → List Slots → Whole → Whole → Result A NoRoom → Type 0
+IsToldBy fill f locals entry exit answer = MatchResult answer (λ found. Unit {0}) (IsTrueRefusal fill f locals entry exit)

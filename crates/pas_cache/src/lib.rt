@@ -4,6 +4,7 @@
 mod cache;
 mod freeing;
 mod giving;
+mod giving_up;
 mod obtaining;
 mod serving;
 mod stopping;

@@ -1,17 +1,18 @@
 //! Slots are obtained for a request.
 ghost use Rattle.std.specs.Prelude.{◌≡◌, ◌<◌, length};
-ghost use Rattle.pas_profile.specs.Profiles.{IsDirectoryOf};
 ghost use Rattle.pas_steps.specs.Desks.{CanCall};
 ghost use Rattle.pas_cache.specs.Locals.{RestsWith};
 ghost use Rattle.pas_cache.specs.Changes.{IsShortened};
-ghost use Rattle.pas_segregated.specs.Stops.{class_directory};
+ghost use Rattle.pas_segregated.specs.Refills.{exclusive_slots};
+ghost use Rattle.pas_cache.specs.Serves.{IsFilling};
 ghost use Rattle.pas_cache.specs.Parts.{Releases, TakesCached, MayObtain, Obtains};
 
+use crate::giving_up::give_up;
 use crate::taking::{has_slot, take_out};
 use arrayvec::ArrayVec;
 use pas_profile::NoRoom;
 use pas_profile::limits::MOST_LOCALS;
-use pas_segregated::{Slots, refill, stop};
+use pas_segregated::{Slots, refill};
 use pas_steps::Desk;
 
 /// Stops the local allocator that was used longest ago where 32 are there. At most 23 steps, and no event.
@@ -24,7 +25,7 @@ fn shorten<D: Desk>(desk: &mut D, locals: &mut ArrayVec<Slots, MOST_LOCALS>)
 {
     if locals.is_full() {
         let oldest = locals.remove(0);
-        stop(desk, oldest);
+        give_up(desk, oldest);
     }
 }
 
@@ -48,7 +49,7 @@ fn take_cached<D: Desk>(
     if has_slot(&slots) {
         return Some(slots);
     }
-    stop(desk, slots);
+    give_up(desk, slots);
     shorten(desk, locals);
     None
 }
@@ -60,9 +61,9 @@ pub fn obtain<D: Desk>(
     heap: u8,
     class: u8,
 ) -> Result<Slots, NoRoom>
-    requires directory { IsDirectoryOf (D.standing desk.old).seat.profile (class_directory heap class) }
+    requires filling { IsFilling (D.standing desk.old).seat.profile (exclusive_slots heap class) }
     requires can { CanCall (D.standing desk.old) (λ v l. MayObtain (D.standing desk.old).seat.profile 1 (D.spare_of desk.old) locals.old.items v) }
-    ensures obtains { Obtains heap class D.tells locals.old.items locals.new.items (D.standing desk.old) (D.standing desk.new) result }
+    ensures obtains { Obtains (exclusive_slots heap class) D.tells locals.old.items locals.new.items (D.standing desk.old) (D.standing desk.new) result }
     ensures home { D.home desk.new ≡ D.home desk.old }
 {
     match take_cached(desk, locals, heap, class) {

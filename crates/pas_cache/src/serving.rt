@@ -1,8 +1,8 @@
 //! A request is served.
 ghost use Rattle.std.specs.Prelude.{◌≡◌};
-ghost use Rattle.pas_profile.specs.Profiles.{IsDirectoryOf};
 ghost use Rattle.pas_steps.specs.Desks.{CanCall};
-ghost use Rattle.pas_segregated.specs.Stops.{class_directory};
+ghost use Rattle.pas_segregated.specs.Refills.{exclusive_slots};
+ghost use Rattle.pas_cache.specs.Serves.{IsFilling};
 ghost use Rattle.pas_cache.specs.Parts.{MayObtain, ServesFrom};
 
 use crate::cache::ThreadCache;
@@ -21,9 +21,9 @@ fn serve<D: Desk>(
     heap: u8,
     class: u8,
 ) -> Result<Block, NoRoom>
-    requires directory { IsDirectoryOf (D.standing desk.old).seat.profile (class_directory heap class) }
+    requires filling { IsFilling (D.standing desk.old).seat.profile (exclusive_slots heap class) }
     requires can { CanCall (D.standing desk.old) (λ v l. MayObtain (D.standing desk.old).seat.profile 2 (D.spare_of desk.old) locals.old.items v) }
-    ensures serves { ServesFrom (class_directory heap class) heap class D.tells locals.old.items locals.new.items (D.standing desk.old) (D.standing desk.new) result }
+    ensures serves { ServesFrom (exclusive_slots heap class) D.tells locals.old.items locals.new.items (D.standing desk.old) (D.standing desk.new) result }
     ensures home { D.home desk.new ≡ D.home desk.old }
 {
     match obtain(desk, locals, heap, class) {

@@ -6,10 +6,11 @@ ghost use Rattle.pas_cache.specs.Changes.{StopsEach};
 ghost use Rattle.pas_cache.specs.Parts.{Releases};
 
 use crate::cache::ThreadCache;
+use crate::giving_up::give_up;
 use arrayvec::ArrayVec;
 use pas_free_log::flush;
 use pas_profile::limits::MOST_LOCALS;
-use pas_segregated::{Slots, stop};
+use pas_segregated::Slots;
 use pas_steps::Desk;
 
 /// Stops all local allocators, from the last used one on. At most 23 steps for each, and no event.
@@ -21,7 +22,7 @@ fn stop_all<D: Desk>(desk: &mut D, locals: &mut ArrayVec<Slots, MOST_LOCALS>)
     ensures home { D.home desk.new ≡ D.home desk.old }
 {
     while let Some(slots) = locals.pop() {
-        stop(desk, slots);
+        give_up(desk, slots);
     }
 }
 

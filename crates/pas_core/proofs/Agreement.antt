@@ -17,9 +17,9 @@ use Rattle.pas_steps.specs.Allowed.{IsStepOf}
 use Rattle.pas_steps.specs.Lists.{Triple, Whole, part, visible, word_after, IsNext, Legal}
 use Rattle.pas_steps.specs.Agreement.{IsDeedWord, heap_recorded, AgreesDeed, AgreesFree, AgreesLife, AgreesEnd, AgreesBacked, AgreesParked, AgreesEmpty, AgreesEligible, AgreesEpoch, AgreesStamp, Agrees}
 use Rattle.pas_steps.specs.declared.step.Step.{Step}
-use Rattle.pas_steps.specs.declared.step.Step.TheVariants.{Look, Deed, Back, Take, Put, Give, End, TakeRight, Offer, Park, Unpark, Stamp, Hint, Tick, Unback, Unhint}
+use Rattle.pas_steps.specs.declared.step.Step.TheVariants.{Look, Deed, Back, Take, Put, Give, End, TakeRight, Offer, Park, Unpark, Stamp, Hint, Unback, Unhint}
 use Rattle.pas_core.specs.Good.{Held, is_free, is_covered_by, covers, IsPlacedOnce, IsLifeOf}
-use Rattle.pas_core.proofs.Grains.{is_held_by-true, own_grain, placed_once}
+use Rattle.pas_core.proofs.Grains.{is_held_by-true, placed_once}
 use Rattle.pas_core.proofs.Lives.{life_is_known, live_is_live, life_of}
 use Rattle.pas_core.specs.Rights.{parked_bit, empty_bit, eligible_bit}
 use Rattle.pas_core.proofs.DeedWords.{known_is, deed_words}
@@ -30,6 +30,8 @@ use Rattle.pas_core.proofs.Stamps.{stamp_known}
 use Rattle.pas_core.proofs.Turns.{turn_small}
 use Rattle.pas_core.proofs.WasRead.{read_backed, read_again}
 use Rattle.pas_core.proofs.EndedBlocks.{end_within, ended_has_deed, ended_has_heap}
+use Rattle.pas_profile.proofs.Runs.{first_of_run}
+use Rattle.pas_steps.proofs.Ranged.{guess_fits}
 
 -- ---- where a grain is that is held
 held_place : (l : Whole) (k g : ℕ) (at : IsPlacedOnce l g) → holds (part k l) g ≡ true → at.place ≡ Held k
@@ -84,7 +86,7 @@ covered_is_free f l valid legal k g x live inside = false_from_ne_true (holds (p
 -- no block lives at a grain that is held
 held_is_dead : (f : Profile) (l : Whole) → IsValid f → Legal f l → (k g : ℕ) → holds (part k l) g ≡ true → is_live (word_after l (life_word_at g)) ≡ false
 held_is_dead f l valid legal k g h = false_from_ne_true (is_live (word_after l (life_word_at g))) (λ live.
-    let own : in_run g (grains_of (word_after l (life_word_at g))) g ≡ true = own_grain g (grains_of (word_after l (life_word_at g))) (word_length f l valid legal g live).0 in
+    let own : in_run g (grains_of (word_after l (life_word_at g))) g ≡ true = first_of_run g (grains_of (word_after l (life_word_at g))) (word_length f l valid legal g live).0 in
     false≢true (sym (covered_is_free f l valid legal k g g live own) ∙ h))
 
 -- a life word is that of a live block, or the turn alone
@@ -108,16 +110,13 @@ life_agrees f l valid legal k g a is = subst (AgreesLife f (part k l) g) (sym is
 }
 
 -- ---- the life word of an end
-guess_small : (guess pages : ℕ) → pages ≤ 4096 → guess ≤ 256 * pages → guess < 2 ^ 23
-guess_small guess pages few low = omega arith
-
 -- no grain of the block that ends is held
 end_apart : (f : Profile) (l : Whole) → IsValid f → Legal f l → (k : ℕ) (name : Name) (guess a : ℕ) → IsStepOf f (End name guess) → a ≡ word_after l (life_word_at (grain_of name)) → a ≡ live_word name.turn guess → (x : ℕ) → in_run (grain_of name) guess x ≡ true
     → holds (part k l) x ≡ false
 end_apart f l valid legal k name guess a of is live x inside =
     let turn : name.turn < 2 ^ 40 = let t = of.2 in omega (arith, t) in
     let word : live_word name.turn guess ≡ word_after l (life_word_at (grain_of name)) = sym live ∙ is in
-    let n : guess ≡ grains_of (word_after l (life_word_at (grain_of name))) = sym (grains_of-live_word name.turn guess turn (guess_small guess f.pages valid.pages of.4)) ∙ ap grains_of word in
+    let n : guess ≡ grains_of (word_after l (life_word_at (grain_of name))) = sym (grains_of-live_word name.turn guess turn (guess_fits guess f.pages valid.pages of.4)) ∙ ap grains_of word in
     covered_is_free f l valid legal k (grain_of name) x (ap is_live (sym word) ∙ is_live-live_word name.turn guess) (ap (λ m. in_run (grain_of name) m x) (sym n) ∙ inside)
 
 end_agrees : (f : Profile) (l : Whole) → IsValid f → Legal f l → (k : ℕ) (name : Name) (guess a : ℕ) → IsStepOf f (End name guess) → a ≡ word_after l (life_word_at (grain_of name)) → AgreesEnd f (part k l) name guess a
@@ -175,7 +174,6 @@ stamp_agrees f l valid legal k page a is = record { small = omega (arith, is, st
 
 -- what an actor reads at a word of the profile agrees with its view
 pub answer_agrees_at : (f : Profile) (l : Whole) → IsValid f → Legal f l → (k : ℕ) (s : Step) (a : ℕ) → IsStepOf f s → a ≡ word_after l (target s) → Agrees f (part k l) s a
-answer_agrees_at f l valid legal k (Look Word.Epoch) a of is = epoch_agrees f l legal k a is
 answer_agrees_at f l valid legal k (Look (Word.Free q w)) a of is = free_agrees f l valid legal k q w a is
 answer_agrees_at f l valid legal k (Look (Word.Life q g)) a of is = life_agrees f l valid legal k (q * 256 + g) a (is ∙ life_at l q g of.2)
 answer_agrees_at f l valid legal k (Look (Word.Deed q)) a of is = deed_agrees f l valid legal k q a is
@@ -196,9 +194,9 @@ answer_agrees_at f l valid legal k (Park q) a of is = parked_agrees f l legal k 
 answer_agrees_at f l valid legal k (Unpark q) a of is = parked_agrees f l legal k (q / 64) a is
 answer_agrees_at f l valid legal k (Stamp q) a of is = stamp_agrees f l valid legal k q a is
 answer_agrees_at f l valid legal k (Hint q) a of is = empty_agrees f l legal (q / 64) a is
-answer_agrees_at f l valid legal k (Tick raised) a of is = epoch_agrees f l legal k a is
 answer_agrees_at f l valid legal k (Unback q) a of is = backed_agrees f l valid legal k q a is
 answer_agrees_at f l valid legal k (Unhint q) a of is = empty_agrees f l legal (q / 64) a is
+answer_agrees_at f l valid legal k s a of is = epoch_agrees f l legal k a is
 
 -- the answer of the next legal step agrees with its actor's view
 pub answer_agrees : (f : Profile) (l : Whole) → IsValid f → Legal f l → (t : Triple) → IsNext f l t → Agrees f (part t.actor l) t.made.step t.made.answer

@@ -1,5 +1,5 @@
 -- A page can be unbacked: some legal list of every valid profile has an unback.
-use Rattle.std.proofs.Common.{◌≡◌, ℕ, zero, suc, ◌+◌, ◌*◌, ◌/◌, ◌%◌, ◌<◌, ◌==◌, Bool, true, false, ◌&&◌, if◌then◌else◌, max, List, [], ◌∷◌, Some, None, refl, ap, sym, ◌∙◌, arith, inl, inr}
+use Rattle.std.proofs.Common.{◌≡◌, ℕ, ◌+◌, ◌*◌, ◌/◌, ◌%◌, ◌==◌, Bool, true, false, ◌&&◌, if◌then◌else◌, max, List, [], ◌∷◌, Some, None, refl, ap, sym, ◌∙◌, arith, inl, inr}
 use Rattle.std.proofs.lemmas.Bool.{eq-eqb, and_from, cases_eq}
 use Rattle.std.proofs.lemmas.Nat.Bits.{bit_at_ones}
 use Rattle.pas_profile.specs.Classes.{has_bit}
@@ -10,18 +10,15 @@ use Rattle.pas_profile.specs.declared.directory.Kind.TheVariants.{Large}
 use Rattle.pas_profile.specs.declared.event.Event.{Event}
 use Rattle.pas_profile.specs.declared.word.Word.TheVariants as Word
 use Rattle.pas_steps.specs.Effects.{in_mask}
-use Rattle.pas_steps.specs.Views.{View, Gets, Stays, held_after, holds, holds_on, all_below, holds_all, knows_backed, known_stamp, all_ones}
+use Rattle.pas_steps.specs.Views.{View, Gets, Stays, held_after, holds, holds_on, holds_all, knows_backed, known_stamp, all_ones}
 use Rattle.pas_steps.specs.Allowed.{MayUnback}
 use Rattle.pas_steps.specs.Lists.{Whole, visible, IsNext, Legal}
 use Rattle.pas_steps.specs.Desks.{made, triple, triples}
 use Rattle.pas_steps.specs.declared.step.Made.{Made}
 use Rattle.pas_steps.specs.declared.step.Step.TheVariants.{Look, Deed, Back, Take, Tick, Unback}
 use Rattle.pas_steps.proofs.Backed.{any_from}
-
-all_from : (n : ℕ) (p : ℕ → Bool) → ((i : ℕ) → i < n → p i ≡ true) → all_below n p ≡ true
-unfolding all_below
-all_from zero p h = refl
-all_from (suc n) p h = and_from (p n) (all_below n p) (h n (omega arith)) (all_from n p (λ i lt. h i (omega (arith, lt))))
+use Rattle.pas_steps.proofs.Bits.{all_below-from}
+use Rattle.pas_core.proofs.Stamps.{moved_held}
 
 -- ---- the actor makes the deed of page 1, takes all its grains, backs it, reads its stamp, and raises the epoch
 abbrev large : Directory
@@ -40,13 +37,6 @@ abbrev ticked : ℕ → List Made
 ticked age = made (Tick age) 0 ∷ looked
 
 -- ---- it holds all grains then
-more : (t held : Bool) → held ≡ true → held_after (if t then Gets else Stays) held ≡ true
-more true held h = refl
-more false held h = h
-
-now : (t held : Bool) → t ≡ true → held_after (if t then Gets else Stays) held ≡ true
-now t held h = ap (λ x. held_after (if x then Gets else Stays) held) h
-
 in_ones : (w g : ℕ) → g / 256 ≡ 1 → g / 64 % 4 ≡ w → (in_mask 1 w all_ones g && has_bit all_ones (g % 64)) ≡ true
 in_ones w g page word =
     let bit : has_bit all_ones (g % 64) ≡ true = ap (λ x. x == 1) (bit_at_ones 64 (g % 64) (omega arith)) in
@@ -61,12 +51,12 @@ held_to w g held = held_after (if gets w g then Gets else Stays) held
 
 all_taken : (g : ℕ) → g / 256 ≡ 1 → held_to 3 g (held_to 2 g (held_to 1 g (held_to 0 g false))) ≡ true
 all_taken g page = elim (cases_eq (g / 64 % 4) 0) [
-  | inl e ↦ more (gets 3 g) (held_to 2 g (held_to 1 g (held_to 0 g false))) (more (gets 2 g) (held_to 1 g (held_to 0 g false)) (more (gets 1 g) (held_to 0 g false) (now (gets 0 g) false (in_ones 0 g page e))))
+  | inl e ↦ moved_held (gets 3 g) (held_to 2 g (held_to 1 g (held_to 0 g false))) Gets (λ here. refl) (moved_held (gets 2 g) (held_to 1 g (held_to 0 g false)) Gets (λ here. refl) (moved_held (gets 1 g) (held_to 0 g false) Gets (λ here. refl) (ap (λ x. held_after (if x then Gets else Stays) false) (in_ones 0 g page e))))
   | inr n0 ↦ elim (cases_eq (g / 64 % 4) 1) [
-    | inl e ↦ more (gets 3 g) (held_to 2 g (held_to 1 g (held_to 0 g false))) (more (gets 2 g) (held_to 1 g (held_to 0 g false)) (now (gets 1 g) (held_to 0 g false) (in_ones 1 g page e)))
+    | inl e ↦ moved_held (gets 3 g) (held_to 2 g (held_to 1 g (held_to 0 g false))) Gets (λ here. refl) (moved_held (gets 2 g) (held_to 1 g (held_to 0 g false)) Gets (λ here. refl) (ap (λ x. held_after (if x then Gets else Stays) (held_to 0 g false)) (in_ones 1 g page e)))
     | inr n1 ↦ elim (cases_eq (g / 64 % 4) 2) [
-      | inl e ↦ more (gets 3 g) (held_to 2 g (held_to 1 g (held_to 0 g false))) (now (gets 2 g) (held_to 1 g (held_to 0 g false)) (in_ones 2 g page e))
-      | inr n2 ↦ now (gets 3 g) (held_to 2 g (held_to 1 g (held_to 0 g false))) (in_ones 3 g page (omega (arith, n0, n1, n2)))
+      | inl e ↦ moved_held (gets 3 g) (held_to 2 g (held_to 1 g (held_to 0 g false))) Gets (λ here. refl) (ap (λ x. held_after (if x then Gets else Stays) (held_to 1 g (held_to 0 g false))) (in_ones 2 g page e))
+      | inr n2 ↦ ap (λ x. held_after (if x then Gets else Stays) (held_to 2 g (held_to 1 g (held_to 0 g false)))) (in_ones 3 g page (omega (arith, n0, n1, n2)))
     ]
   ]
 ]
@@ -75,7 +65,7 @@ holds_one : (v : View) → ((g : ℕ) → g / 256 ≡ 1 → holds v g ≡ true) 
 holds_one v h = any_from 256 (λ b. holds v (1 * 256 + b)) 0 (omega arith) (h 256 refl)
 
 holds_each : (v : View) → ((g : ℕ) → g / 256 ≡ 1 → holds v g ≡ true) → holds_all v 1 ≡ true
-holds_each v h = all_from 256 (λ b. holds v (1 * 256 + b)) (λ i lt. h (1 * 256 + i) (omega (arith, lt)))
+holds_each v h = all_below-from 256 (λ b. holds v (1 * 256 + b)) (λ i lt. h (1 * 256 + i) (omega (arith, lt)))
 
 backed_is_known : (age : ℕ) → knows_backed (ticked age) 1 ≡ true
 backed_is_known age =

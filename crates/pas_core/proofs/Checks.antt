@@ -1,70 +1,44 @@
 -- Where a parked page has a free usable grain, some actor owes the check of its word.
-use Rattle.std.proofs.Common.{◌≡◌, ◌≢◌, ℕ, ◌+◌, ◌*◌, ◌/◌, ◌%◌, ◌^◌, ◌<◌, ◌==◌, Bool, true, false, not, ◌&&◌, if◌then◌else◌, [], ◌∷◌, refl, ap, sym, ◌∙◌, subst, bit_and, bit_or, inr}
-use Rattle.std.specs.Int.{bit_not, w64}
-use Rattle.std.proofs.lemmas.Bool.{false≢true, eqb-true, eq-eqb, and_parts, and_from, false_from_ne_true}
+use Rattle.std.proofs.Common.{◌≡◌, ◌≢◌, ℕ, ◌+◌, ◌*◌, ◌/◌, ◌%◌, ◌<◌, ◌==◌, Bool, true, false, not, ◌&&◌, if◌then◌else◌, [], ◌∷◌, refl, ap, sym, ◌∙◌, subst, bit_or, inr}
+use Rattle.std.proofs.lemmas.Bool.{false≢true, eqb-true, eq-eqb, and_parts, and_from, false_from_ne_true, cond_both, cond-false}
 use Rattle.pas_profile.specs.Classes.{has_bit}
 use Rattle.pas_profile.specs.Directories.{number_of, directory_read}
 use Rattle.pas_profile.specs.Layouts.{same_word}
 use Rattle.pas_profile.specs.declared.profile.Profile.{Profile}
 use Rattle.pas_profile.specs.declared.word.Word.{Word}
 use Rattle.pas_steps.specs.Effects.{target}
-use Rattle.pas_steps.specs.Views.{way, ToParked, ToOffer, FromParked, FromOffer, ByDeed, Rests, Way, View, has_right, known_deed, usable_by, no_usable, check_after, owes_check, epoch_of}
+use Rattle.pas_steps.specs.Views.{way, ToParked, ToOffer, FromParked, FromOffer, ByDeed, Rests, Way, has_right, known_deed, usable_by, no_usable, check_after, owes_check, epoch_of}
 use Rattle.pas_steps.specs.Allowed.{IsStepOf}
 use Rattle.pas_steps.specs.Lists.{Whole, part, word_after, IsNext, Legal}
 use Rattle.pas_steps.specs.Desks.{made, triple}
 use Rattle.pas_steps.specs.declared.step.Step.{Step}
-use Rattle.pas_steps.specs.declared.step.Made.{Made}
-use Rattle.pas_steps.specs.declared.step.Step.TheVariants.{Look, Deed, Back, Take, Put, Give, End, TakeRight, Offer, Park, Unpark, Stamp, Hint, Tick, Unback, Unhint}
+use Rattle.pas_steps.specs.declared.step.Step.TheVariants.{Look, Deed, Take, Put, TakeRight, Offer, Park, Unpark}
 use Rattle.pas_core.specs.Rights.{parked_bit, IsUsableFree, IsOwed}
-use Rattle.pas_core.proofs.Bits.{all_below-at}
-use Rattle.pas_bits.proofs.Words.{bit_cleared}
+use Rattle.pas_steps.proofs.Bits.{all_below-at}
 use Rattle.pas_core.proofs.DeedWords.{next_value, looked, known_is, word_stays}
 use Rattle.pas_core.proofs.Spots.{Spot, InParked, is_with, is_parked, spot_after, spot_of, DeedFits, IsSpotted, spotted}
 use Rattle.pas_core.proofs.Rights.{parked_spot}
+use Rattle.pas_steps.proofs.Flags.{stays_set}
+use Rattle.pas_core.proofs.Hints.{clear_was}
 
 -- ---- debts
-owes_part : (t : Bool) (m : Made) (v : View) (p w : ℕ) → owes_check (if t then m ∷ v else v) p w ≡ (if t then check_after m.step m.answer p w (has_right v p) (known_deed v p) (owes_check v p w) else owes_check v p w)
-owes_part true m v p w = refl
-owes_part false m v p w = refl
-
-still : (t next : Bool) → next ≡ true → (if t then next else true) ≡ true
-still true next h = h
-still false next h = refl
-
 -- the debt after a step, of an actor that owed it
 abbrev stays_owed : Whole → Step → ℕ → ℕ → ℕ → ℕ → Bool
 stays_owed l s a p w k = check_after s a p w (has_right (part k l) p) (known_deed (part k l) p) true
 
 -- a debt stays where its own actor's step leaves it
 keeps_owed : (l : Whole) (j : ℕ) (s : Step) (a p w : ℕ) → ((k : ℕ) → stays_owed l s a p w k ≡ true) → IsOwed l p w → IsOwed (triple j (made s a) ∷ l) p w
-keeps_owed l j s a p w keep owed =
-    let k : ℕ = owed.actor in
-    record {
-      actor = owed.actor;
-      owes = owes_part (j == owed.actor) (made s a) (part owed.actor l) p w
-          ∙ ap (λ b. if j == owed.actor then check_after s a p w (has_right (part owed.actor l) p) (known_deed (part owed.actor l) p) b else b) owed.owes
-          ∙ still (j == owed.actor) (stays_owed l s a p w owed.actor) (keep owed.actor);
-    }
+keeps_owed l j s a p w keep owed = record {
+  actor = owed.actor;
+  owes = cond_both (j == owed.actor) (made s a ∷ part owed.actor l) (part owed.actor l) (λ v. owes_check v p w ≡ true)
+      (λ own. ap (check_after s a p w (has_right (part owed.actor l) p) (known_deed (part owed.actor l) p)) owed.owes ∙ keep owed.actor) (λ other. owed.owes);
+}
 
 -- the actor of the step owes it now
 owes_now : (l : Whole) (j : ℕ) (s : Step) (a p w : ℕ) → check_after s a p w (has_right (part j l) p) (known_deed (part j l) p) (owes_check (part j l) p w) ≡ true → IsOwed (triple j (made s a) ∷ l) p w
-owes_now l j s a p w h = record {
-  actor = j;
-  owes = owes_part (j == j) (made s a) (part j l) p w
-      ∙ ap (λ t. if t then check_after s a p w (has_right (part j l) p) (known_deed (part j l) p) (owes_check (part j l) p w) else owes_check (part j l) p w) (eq-eqb j j refl) ∙ h;
-}
-
-kept_if : (t : Bool) → t ≡ false → (if t then false else true) ≡ true
-kept_if t h = ap (λ x. if x then false else true) h
-
-gets_if : (t : Bool) → (if t then true else true) ≡ true
-gets_if true = refl
-gets_if false = refl
+owes_now l j s a p w h = record { actor = j; owes = ap (λ t. owes_check (if t then made s a ∷ part j l else part j l) p w) (eq-eqb j j refl) ∙ h }
 
 -- ---- a look that finds no usable bit
-not_both : (x y : Bool) → x ≡ true → y ≡ true → not (x && y) ≡ true → ⊥
-not_both x y hx hy h = false≢true (sym (ap not (and_from x y hx hy)) ∙ h)
-
 -- the word of a look has a usable bit, so the look ends no debt
 look_keeps : (l : Whole) (q u a p w b k : ℕ) → IsSpotted l p → IsUsableFree l p w b → a ≡ word_after l (Word.Free q u) → ((u == w) && (q == p) && not (known_deed (part k l) p == 0) && no_usable (known_deed (part k l) p) w a) ≡ false
 look_keeps l q u a p w b k at is_free is = false_from_ne_true ((u == w) && (q == p) && not (known_deed (part k l) p == 0) && no_usable (known_deed (part k l) p) w a) (λ h.
@@ -74,17 +48,13 @@ look_keeps l q u a p w b k at is_free is = false_from_ne_true ((u == w) && (q ==
     let word : a ≡ word_after l (Word.Free p w) = is ∙ ap (λ x. word_after l (Word.Free q x)) (eqb-true u w here.0) ∙ ap (λ x. word_after l (Word.Free x w)) (eqb-true q p here.1) in
     let some : known_deed (part k l) p ≢ 0 = λ z. false≢true (ap not (sym (eq-eqb (known_deed (part k l) p) 0 z)) ∙ knows.1) in
     let deed : known_deed (part k l) p ≡ word_after l (Word.Deed p) = known_is (known_deed (part k l) p) (word_after l (Word.Deed p)) (at.known k) some in
-    not_both (has_bit a b) (usable_by (directory_read (known_deed (part k l) p)) (64 * w + b)) (ap (λ n. has_bit n b) word ∙ is_free.free) (ap (λ n. usable_by (directory_read n) (64 * w + b)) deed ∙ is_free.usable)
-    (all_below-at 64 b (λ i. not (has_bit a i && usable_by (directory_read (known_deed (part k l) p)) (64 * w + i))) none.1 is_free.small))
+    false≢true (sym (ap not (and_from (has_bit a b) (usable_by (directory_read (known_deed (part k l) p)) (64 * w + b)) (ap (λ n. has_bit n b) word ∙ is_free.free) (ap (λ n. usable_by (directory_read n) (64 * w + b)) deed ∙ is_free.usable)))
+    ∙ all_below-at 64 b (λ i. not (has_bit a i && usable_by (directory_read (known_deed (part k l) p)) (64 * w + i))) none.1 is_free.small))
 
 -- ---- what was so before a step
 was_parked : (j : ℕ) (t : Bool) (m : Way) (o : Spot) → (spot_after j m o ≡ InParked → ⊥) → spot_after j (if t then m else Rests) o ≡ InParked → (t ≡ false) × (o ≡ InParked)
 was_parked j true m o never h = absurd (never h)
 was_parked j false m o never h = (refl, h)
-
-clear_was : (t : Bool) (old mask b : ℕ) → mask < 2 ^ 64 → b < 64 → has_bit (if t then bit_and old (bit_not w64 mask) else old) b ≡ true → has_bit old b ≡ true
-clear_was true old mask b hm hb h = (and_parts (has_bit old b) (not (has_bit mask b)) (sym (bit_cleared old mask b hm hb) ∙ h)).0
-clear_was false old mask b hm hb h = h
 
 -- a deed that there is stays
 same_deed : (l : Whole) (e : ℕ) (s : Step) (p : ℕ) → IsSpotted l p → spot_of l p ≡ InParked → next_value e s (Word.Deed p) (word_after l (Word.Deed p)) ≡ word_after l (Word.Deed p)
@@ -98,11 +68,11 @@ put_owed : (l : Whole) (j q u mask a p w b : ℕ) → IsSpotted l p → spot_of 
     → has_bit (if t then bit_or (word_after l (Word.Free p w)) mask else word_after l (Word.Free p w)) b ≡ true → IsOwed (triple j (made (Put q u mask) a) ∷ l) p w
 put_owed l j q u mask a p w b at parked before true e free = owes_now l j (Put q u mask) a p w
     (ap (λ t. if t && not (has_right (part j l) p) then true else owes_check (part j l) p w) e ∙ ap (λ t. if not t then true else owes_check (part j l) p w) (at.has j ∙ ap (is_with j) parked))
-put_owed l j q u mask a p w b at parked before false e free = keeps_owed l j (Put q u mask) a p w (λ k. gets_if ((u == w) && (q == p) && not (has_right (part k l) p))) (before free)
+put_owed l j q u mask a p w b at parked before false e free = keeps_owed l j (Put q u mask) a p w (λ k. stays_set ((u == w) && (q == p) && not (has_right (part k l) p)) true refl) (before free)
 
 park_owed : (l : Whole) (j q a p w : ℕ) (t : Bool) → (q == p) ≡ t → spot_after j (if t then ToParked else Rests) (spot_of l p) ≡ InParked → (spot_of l p ≡ InParked → IsOwed l p w) → IsOwed (triple j (made (Park q) a) ∷ l) p w
 park_owed l j q a p w true e parked before = owes_now l j (Park q) a p w (ap (λ t. if t then true else owes_check (part j l) p w) e)
-park_owed l j q a p w false e parked before = keeps_owed l j (Park q) a p w (λ k. gets_if (q == p)) (before parked)
+park_owed l j q a p w false e parked before = keeps_owed l j (Park q) a p w (λ k. stays_set (q == p) true refl) (before parked)
 
 -- a page stays parked only where its parked bit isn't cleared
 unpark_other : (l : Whole) (q a p : ℕ) → IsSpotted l p → a ≡ word_after l (Word.Parked (q / 64)) → spot_of l p ≡ InParked → ((q == p) && has_bit a (p % 64)) ≡ false → (q == p) ≡ false
@@ -117,39 +87,24 @@ owed_step : (f : Profile) (l : Whole) (j e : ℕ) (s : Step) (a p w b : ℕ) →
 owed_step f l j e (Look (Word.Free q u)) a p w b small at of is before usable o free =
     let was : has_bit (word_after l (Word.Free p w)) b ≡ true = ap (λ n. has_bit n b) (sym (looked (same_word (Word.Free q u) (Word.Free p w)) (word_after l (Word.Free p w)))) ∙ free in
     keeps_owed l j (Look (Word.Free q u)) a p w
-    (λ k. kept_if ((u == w) && (q == p) && not (known_deed (part k l) p == 0) && no_usable (known_deed (part k l) p) w a) (look_keeps l q u a p w b k at (usable o was) is)) (before o was)
-owed_step f l j e (Look Word.Epoch) a p w b small at of is before usable o free = keeps_owed l j (Look Word.Epoch) a p w (λ k. refl) (before o free)
-owed_step f l j e (Look (Word.Life q g)) a p w b small at of is before usable o free = keeps_owed l j (Look (Word.Life q g)) a p w (λ k. refl) (before o free)
-owed_step f l j e (Look (Word.Deed q)) a p w b small at of is before usable o free = keeps_owed l j (Look (Word.Deed q)) a p w (λ k. refl) (before o free)
-owed_step f l j e (Look (Word.Backed q)) a p w b small at of is before usable o free = keeps_owed l j (Look (Word.Backed q)) a p w (λ k. refl) (before o free)
-owed_step f l j e (Look (Word.Stamp q)) a p w b small at of is before usable o free = keeps_owed l j (Look (Word.Stamp q)) a p w (λ k. refl) (before o free)
-owed_step f l j e (Look (Word.Parked i)) a p w b small at of is before usable o free = keeps_owed l j (Look (Word.Parked i)) a p w (λ k. refl) (before o free)
-owed_step f l j e (Look (Word.Empty i)) a p w b small at of is before usable o free = keeps_owed l j (Look (Word.Empty i)) a p w (λ k. refl) (before o free)
-owed_step f l j e (Look (Word.Eligible n i)) a p w b small at of is before usable o free = keeps_owed l j (Look (Word.Eligible n i)) a p w (λ k. refl) (before o free)
+    (λ k. cond-false ((u == w) && (q == p) && not (known_deed (part k l) p == 0) && no_usable (known_deed (part k l) p) w a) false true (look_keeps l q u a p w b k at (usable o was) is)) (before o was)
 owed_step f l j e (Deed q d) a p w b small at of is before usable o free =
     let was = was_parked j ((q == p) && (a == 0)) ByDeed (spot_of l p) (λ h. absurd cc) o in
     keeps_owed l j (Deed q d) a p w (λ k. refl) (before was.1 free)
-owed_step f l j e (Back q) a p w b small at of is before usable o free = keeps_owed l j (Back q) a p w (λ k. refl) (before o free)
 owed_step f l j e (Take q u mask) a p w b small at of is before usable o free =
     keeps_owed l j (Take q u mask) a p w (λ k. refl) (before o (clear_was ((u == w) && (q == p)) (word_after l (Word.Free p w)) mask b of.2 small free))
 owed_step f l j e (Put q u mask) a p w b small at of is before usable o free = put_owed l j q u mask a p w b at o (before o) ((u == w) && (q == p)) refl free
-owed_step f l j e (Give block) a p w b small at of is before usable o free = keeps_owed l j (Give block) a p w (λ k. refl) (before o free)
-owed_step f l j e (End name guess) a p w b small at of is before usable o free = keeps_owed l j (End name guess) a p w (λ k. refl) (before o free)
 owed_step f l j e (TakeRight q d) a p w b small at of is before usable o free =
     let was = was_parked j ((q == p) && has_bit a (p % 64)) (FromOffer (number_of d)) (spot_of l p) (λ h. absurd cc) o in
     keeps_owed l j (TakeRight q d) a p w (λ k. refl) (before was.1 free)
 owed_step f l j e (Offer q d) a p w b small at of is before usable o free =
     let was = was_parked j (q == p) (ToOffer (number_of d)) (spot_of l p) (λ h. absurd cc) o in
-    keeps_owed l j (Offer q d) a p w (λ k. kept_if (q == p) was.0) (before was.1 free)
+    keeps_owed l j (Offer q d) a p w (λ k. cond-false (q == p) false true was.0) (before was.1 free)
 owed_step f l j e (Park q) a p w b small at of is before usable o free = park_owed l j q a p w (q == p) refl o (λ parked. before parked free)
 owed_step f l j e (Unpark q) a p w b small at of is before usable o free =
     let was = was_parked j ((q == p) && has_bit a (p % 64)) FromParked (spot_of l p) (λ h. absurd cc) o in
-    keeps_owed l j (Unpark q) a p w (λ k. kept_if (q == p) (unpark_other l q a p at is was.1 was.0)) (before was.1 free)
-owed_step f l j e (Stamp q) a p w b small at of is before usable o free = keeps_owed l j (Stamp q) a p w (λ k. refl) (before o free)
-owed_step f l j e (Hint q) a p w b small at of is before usable o free = keeps_owed l j (Hint q) a p w (λ k. refl) (before o free)
-owed_step f l j e (Tick raised) a p w b small at of is before usable o free = keeps_owed l j (Tick raised) a p w (λ k. refl) (before o free)
-owed_step f l j e (Unback q) a p w b small at of is before usable o free = keeps_owed l j (Unback q) a p w (λ k. refl) (before o free)
-owed_step f l j e (Unhint q) a p w b small at of is before usable o free = keeps_owed l j (Unhint q) a p w (λ k. refl) (before o free)
+    keeps_owed l j (Unpark q) a p w (λ k. cond-false (q == p) false true (unpark_other l q a p at is was.1 was.0)) (before was.1 free)
+owed_step f l j e s a p w b small at of is before usable o free = keeps_owed l j s a p w (λ k. refl) (before o free)
 
 -- the induction
 owed_at : (f : Profile) (l : Whole) → Legal f l → (p w b : ℕ) → spot_of l p ≡ InParked → IsUsableFree l p w b → IsOwed l p w

@@ -100,9 +100,6 @@ deed_has_page f (t ∷ l) legal p ne =
     deed_page_next f (epoch_of (part t.actor l)) t.made.step p (word_after l (Word.Deed p)) next.of_region (deed_has_page f l legal.1 p) ne
 
 -- ---- the numbers of directories
-pub deed_word_ne : (d : Directory) → deed_word_of d ≢ 0
-deed_word_ne d z = absurd (omega (arith, z))
-
 pub numbered_ne : (n : ℕ) → deed_word_numbered n ≢ 0
 numbered_ne n z = absurd (omega (arith, z))
 

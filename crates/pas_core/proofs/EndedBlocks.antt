@@ -8,7 +8,7 @@ use Rattle.pas_profile.specs.declared.profile.Profile.{Profile}
 use Rattle.pas_profile.specs.declared.directory.Directory.{Directory}
 use Rattle.pas_profile.specs.declared.name.Name.{Name}
 use Rattle.pas_profile.specs.declared.word.Word.{Word}
-use Rattle.pas_profile.proofs.Codecs.{kind_number_lt}
+use Rattle.pas_profile.proofs.Codecs.{kind_number_lt, deed_word_of-positive}
 use Rattle.pas_profile.specs.Runs.{in_run, meets_page, address_of, grain_of, length_of}
 use Rattle.pas_machine.specs.State.{Live, live_in}
 use Rattle.pas_machine.specs.Machine.{Bears}
@@ -18,9 +18,9 @@ use Rattle.pas_steps.specs.Allowed.{IsStepOf}
 use Rattle.pas_steps.specs.Agreement.{heap_recorded}
 use Rattle.pas_steps.specs.Lists.{Triple, Whole, part, word_after, visible, IsNext, Legal}
 use Rattle.pas_steps.specs.declared.step.Step.{Step}
-use Rattle.pas_steps.specs.declared.step.Step.TheVariants.{Look, Deed, Back, Take, Put, Give, End, TakeRight, Offer, Park, Unpark, Stamp, Hint, Tick, Unback, Unhint}
+use Rattle.pas_steps.specs.declared.step.Step.TheVariants.{Deed, End}
 use Rattle.pas_core.specs.Good.{word_of_deed}
-use Rattle.pas_core.proofs.DeedWords.{deed_word_ne, deed_kept}
+use Rattle.pas_core.proofs.DeedWords.{deed_kept}
 use Rattle.pas_core.proofs.Deeds.{deed_of, directory_is_of}
 use Rattle.pas_core.proofs.Ends.{IsMet, met, IsFound, end_finds}
 use Rattle.pas_core.proofs.Placed.{lists_borne}
@@ -47,7 +47,7 @@ borne_heap : (f : Profile) (l : Whole) → IsValid f → Legal f l → (heap pag
 borne_heap f l valid legal heap page bears =
     let word : word_after l (Word.Deed page) ≡ deed_word_of bears.directory = deed_of f l legal page ∙ ap word_of_deed bears.deed in
     record {
-      a_deed = λ z. deed_word_ne bears.directory (sym word ∙ z);
+      a_deed = λ z. deed_word_of-positive bears.directory (sym word ∙ z);
       heap_is = ap heap_recorded word ∙ recorded f bears.directory valid (directory_is_of f l legal page bears.directory bears.deed) ∙ bears.of_heap;
     }
 
@@ -78,22 +78,8 @@ end_pages f l valid legal name guess a of is false e =
     no_end l (End name guess) a (λ page. ap (λ b. b && meets_page (grain_of name) guess page) e)
 
 has_ended : (f : Profile) (l : Whole) → IsValid f → Legal f l → (s : Step) (a : ℕ) → IsStepOf f s → a ≡ word_after l (target s) → HasEnded l s a
-has_ended f l valid legal (Look word) a of is = no_end l (Look word) a (λ page. refl)
-has_ended f l valid legal (Deed q d) a of is = no_end l (Deed q d) a (λ page. refl)
-has_ended f l valid legal (Back q) a of is = no_end l (Back q) a (λ page. refl)
-has_ended f l valid legal (Take q w mask) a of is = no_end l (Take q w mask) a (λ page. refl)
-has_ended f l valid legal (Put q w mask) a of is = no_end l (Put q w mask) a (λ page. refl)
-has_ended f l valid legal (Give block) a of is = no_end l (Give block) a (λ page. refl)
 has_ended f l valid legal (End name guess) a of is = end_pages f l valid legal name guess a of is (a == live_word name.turn guess) refl
-has_ended f l valid legal (TakeRight q d) a of is = no_end l (TakeRight q d) a (λ page. refl)
-has_ended f l valid legal (Offer q d) a of is = no_end l (Offer q d) a (λ page. refl)
-has_ended f l valid legal (Park q) a of is = no_end l (Park q) a (λ page. refl)
-has_ended f l valid legal (Unpark q) a of is = no_end l (Unpark q) a (λ page. refl)
-has_ended f l valid legal (Stamp q) a of is = no_end l (Stamp q) a (λ page. refl)
-has_ended f l valid legal (Hint q) a of is = no_end l (Hint q) a (λ page. refl)
-has_ended f l valid legal (Tick raised) a of is = no_end l (Tick raised) a (λ page. refl)
-has_ended f l valid legal (Unback q) a of is = no_end l (Unback q) a (λ page. refl)
-has_ended f l valid legal (Unhint q) a of is = no_end l (Unhint q) a (λ page. refl)
+has_ended f l valid legal s a of is = no_end l s a (λ page. refl)
 
 -- a page of a block that an actor once ended has a deed
 pub ended_has_deed : (f : Profile) (l : Whole) → IsValid f → Legal f l → (k page : ℕ) → EndedOn (part k l) page → word_after l (Word.Deed page) ≢ 0

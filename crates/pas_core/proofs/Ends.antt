@@ -14,6 +14,7 @@ use Rattle.pas_steps.specs.Lists.{Whole, word_after, visible, Legal}
 use Rattle.pas_steps.specs.declared.step.Step.TheVariants.{End}
 use Rattle.pas_core.specs.Good.{IsLifeOf}
 use Rattle.pas_core.proofs.Lives.{life_at}
+use Rattle.pas_steps.proofs.Ranged.{guess_fits}
 
 -- ---- pages and runs
 -- a grain that the run has on the page that it meets
@@ -52,11 +53,8 @@ found f l name word guess gives ends (Some b) is life turn short h =
     let n : length_of b.block ≡ guess = omega (arith, w, few, small, turn, short, h) in
     record { block = b; address_is = life.address; lives = is; grains_are = n; first = first; last = omega (arith, n, last) }
 
-guess_short : (f : Profile) (guess : ℕ) → IsValid f → guess ≤ 256 * f.pages → guess < 2 ^ 23
-guess_short f guess valid low = let pages = valid.pages in omega (arith, pages, low)
-
 pub end_finds : (f : Profile) (l : Whole) → IsValid f → Legal f l → (name : Name) (guess a : ℕ) → IsStepOf f (End name guess) → a ≡ word_after l (life_word_at (grain_of name)) → a ≡ live_word name.turn guess → IsFound f l name guess
 end_finds f l valid legal name guess a of is hit =
     let turn = of.2 in
     found f l name (word_after l (life_word_at (grain_of name))) guess (gives_in (visible l) (address_of name)) (ends_in (visible l) (address_of name)) (live_in (visible l) (address_of name)) refl (life_at f l valid legal (address_of name) of.1)
-    (omega (arith, turn)) (guess_short f guess valid of.4) (sym is ∙ hit)
+    (omega (arith, turn)) (guess_fits guess f.pages valid.pages of.4) (sym is ∙ hit)

@@ -1,6 +1,6 @@
 -- What callers need of the blocks that were given: names keep their blocks, and there are no more gives than events.
 use Rattle.std.proofs.Common.{◌≡◌, ℕ, ◌+◌, ◌≤◌, ◌==◌, Bool, true, false, ◌&&◌, if◌then◌else◌, List, [], ◌∷◌, ◌++◌, length, Option, Some, None, refl, ap, sym, ◌∙◌, arith}
-use Rattle.std.proofs.lemmas.Bool.{eqb-true, eq-eqb}
+use Rattle.std.proofs.lemmas.Bool.{eqb-true, eq-eqb, cond_both}
 use Rattle.pas_profile.specs.Lives.{live_word, is_live, turn_of}
 use Rattle.pas_profile.specs.declared.profile.Profile.{Profile}
 use Rattle.pas_profile.specs.declared.name.Block.{Block}
@@ -13,30 +13,22 @@ use Rattle.pas_steps.specs.Events.{event_of, events_of, with_event, reason_of}
 use Rattle.pas_steps.specs.declared.step.Step.{Step}
 use Rattle.pas_steps.specs.declared.step.Step.TheVariants.{Deed, Back, End}
 use Rattle.pas_core.specs.Given.{WasGiven}
-
-some_is : {A : Type 0} {x y : A} → Some x ≡ Some y → x ≡ y
-some_is h = cc
-
-none_told : {A : Type 0} {w : A} → None ≡ Some w → ⊥
-none_told h = cc
+use Rattle.std.proofs.lemmas.Option.{same_Some}
+use Rattle.pas_core.proofs.Deeds.{event_if, end_if}
 
 -- ---- a block that was given stays so
-more_gives : (x : Bool) (n : ℕ) → n ≤ (if x then n + 1 else n)
-more_gives true n = omega arith
-more_gives false n = omega arith
-
 given_live : (x : Bool) (live : Option Live) (new : Live) (block : Block) → (x ≡ true → new.block.name.turn ≡ block.name.turn → ⊥) → ((b : Live) → live ≡ Some b → b.block.name.turn ≡ block.name.turn → b.block ≡ block)
     → (b : Live) → (if x then Some new else live) ≡ Some b → b.block.name.turn ≡ block.name.turn → b.block ≡ block
-given_live true live new block other old b is turn = absurd (other refl (ap (λ y. y.block.name.turn) (some_is is) ∙ turn))
+given_live true live new block other old b is turn = absurd (other refl (ap (λ y. y.block.name.turn) (same_Some new b is) ∙ turn))
 given_live false live new block other old b is turn = old b is turn
 
 ended_live : (x : Bool) (live : Option Live) (block : Block) → ((b : Live) → live ≡ Some b → b.block.name.turn ≡ block.name.turn → b.block ≡ block) → (b : Live) → (if x then None else live) ≡ Some b → b.block.name.turn ≡ block.name.turn → b.block ≡ block
-ended_live true live block old b is turn = absurd (none_told is)
+ended_live true live block old b is turn = cc
 ended_live false live block old b is turn = old b is turn
 
 pub one_more : (f : Profile) (e : Event) (es : List Event) (block : Block) → Admits f es e → WasGiven es block → WasGiven (e ∷ es) block
 one_more f (Event.Give k new) es block admits given = record {
-  earlier = let more = more_gives (address_of new.name == address_of block.name) (gives_in es (address_of block.name)) in let old = given.earlier in omega (arith, more, old);
+  earlier = let more = cond_both (address_of new.name == address_of block.name) (gives_in es (address_of block.name) + 1) (gives_in es (address_of block.name)) (λ n. (gives_in es (address_of block.name)) ≤ n) (λ here. omega arith) (λ other. omega arith) in let old = given.earlier in omega (arith, more, old);
   same = given_live (address_of new.name == address_of block.name) (live_in es (address_of block.name)) (record { actor = k; block = new }) block
       (λ x turn. let next : new.name.turn ≡ gives_in es (address_of block.name) = admits.turn ∙ ap (gives_in es) (eqb-true (address_of new.name) (address_of block.name) x) in let old = given.earlier in absurd (omega (arith, next, turn, old))) given.same;
 }
@@ -57,22 +49,14 @@ new_block f k block es admits =
           let turn = admits.turn in omega (arith, one, turn);
       same = λ b is turn.
           let one : Some (record { actor = k; block = block }) ≡ Some b = sym (ap (λ x. if x then Some (record { actor = k; block = block }) else live_in es (address_of block.name)) here) ∙ is in
-          ap (λ y. y.block) (sym (some_is one));
+          ap (λ y. y.block) (sym (same_Some (record { actor = k; block = block }) b one));
     }
 
 -- ---- no more gives than events
-one_of_gives : (x : Bool) (n m : ℕ) → n ≤ m → (if x then n + 1 else n) ≤ m + 1
-one_of_gives true n m h = omega (arith, h)
-one_of_gives false n m h = omega (arith, h)
-
 -- how many blocks these events gave, at whatever address
 abbrev pub gives_counted : Event → ℕ → ℕ
-gives_counted (Event.Deed k p d) n = n
-gives_counted (Event.Back k p) n = n
-gives_counted (Event.Unback k p e) n = n
 gives_counted (Event.Give k block) n = n + 1
-gives_counted (Event.End k name e) n = n
-gives_counted (Event.Reject k name why) n = n
+gives_counted s n = n
 
 abbrev pub count_gives : List Event → ℕ
 count_gives [] = 0
@@ -84,37 +68,24 @@ gives_few [] address = omega arith
 gives_few (Event.Deed k p d ∷ es) address = gives_few es address
 gives_few (Event.Back k p ∷ es) address = gives_few es address
 gives_few (Event.Unback k p e ∷ es) address = gives_few es address
-gives_few (Event.Give k block ∷ es) address = one_of_gives (address_of block.name == address) (gives_in es address) (count_gives es) (gives_few es address)
+gives_few (Event.Give k block ∷ es) address = cond_both (address_of block.name == address) (gives_in es address + 1) (gives_in es address) (λ n. n ≤ (count_gives es) + 1) (λ here. omega (arith, gives_few es address)) (λ other. omega (arith, gives_few es address))
 gives_few (Event.End k name e ∷ es) address = gives_few es address
 gives_few (Event.Reject k name why ∷ es) address = gives_few es address
 
 -- each give is an event
 counted_few : (e : Event) (n m : ℕ) → n ≤ m → gives_counted e n ≤ m + 1
 counted_few (Event.Deed k p d) n m h = omega (arith, h)
-counted_few (Event.Back k p) n m h = omega (arith, h)
-counted_few (Event.Unback k p e) n m h = omega (arith, h)
-counted_few (Event.Give k block) n m h = omega (arith, h)
-counted_few (Event.End k name e) n m h = omega (arith, h)
-counted_few (Event.Reject k name why) n m h = omega (arith, h)
+counted_few s n m h = omega (arith, h)
 
 pub counts_few : (es : List Event) → count_gives es ≤ length es
 counts_few [] = omega arith
 counts_few (e ∷ es) = let rest = counted_few e (count_gives es) (length es) (counts_few es) in omega (arith, rest)
 
 -- the gives of an actor are those of its events
-count_if : (z : Bool) (e : Event) (es : List Event) → gives_counted e (count_gives es) ≡ count_gives es → count_gives (with_event (if z then Some e else None) es) ≡ count_gives es
-count_if true e es h = h
-count_if false e es h = refl
-
-count_end : (z y : Bool) (end reject : Event) (es : List Event) → gives_counted end (count_gives es) ≡ count_gives es → gives_counted reject (count_gives es) ≡ count_gives es → count_gives (with_event (if z then Some end else (if y then None else Some reject)) es) ≡ count_gives es
-count_end true y end reject es ended rejected = ended
-count_end false true end reject es ended rejected = refl
-count_end false false end reject es ended rejected = rejected
-
 pub count_step : (k e : ℕ) (s : Step) (a : ℕ) (es : List Event) → count_gives (with_event (event_of k e s a) es) ≡ given_after s (count_gives es)
-count_step k e (Deed page directory) a es = count_if (a == 0) (Event.Deed k page directory) es refl
-count_step k e (Back page) a es = count_if (a == 0) (Event.Back k page) es refl
-count_step k e (End name guess) a es = count_end (a == live_word name.turn guess) (is_live a && (turn_of a == name.turn)) (Event.End k name e) (Event.Reject k name (reason_of name a)) es refl refl
+count_step k e (Deed page directory) a es = event_if (λ x. count_gives x ≡ count_gives es) (a == 0) (Event.Deed k page directory) es refl refl
+count_step k e (Back page) a es = event_if (λ x. count_gives x ≡ count_gives es) (a == 0) (Event.Back k page) es refl refl
+count_step k e (End name guess) a es = end_if (λ x. count_gives x ≡ count_gives es) (a == live_word name.turn guess) (is_live a && (turn_of a == name.turn)) (Event.End k name e) (Event.Reject k name (reason_of name a)) es (λ hit. refl) refl refl
 count_step k e s a es = refl
 
 pub own_gives : (k : ℕ) (v : View) → count_gives (events_of k v) ≡ given_count v

@@ -2,7 +2,7 @@
 use Rattle.std.proofs.Common.{◌≡◌, ℕ, ◌+◌, ◌-◌, ◌*◌, ◌/◌, ◌%◌, ◌^◌, ◌<◌, ◌≤◌, ◌==◌, nat_lt, nat_le, Bool, true, false, not, ◌&&◌, ◌||◌, if◌then◌else◌, [], ◌∷◌, refl, ap, sym, ◌∙◌, arith, bit_and, bit_or}
 use Rattle.std.specs.Int.{bit_not, w64}
 use Rattle.std.proofs.lemmas.Nat.Bits.{bit_at_ones}
-use Rattle.std.proofs.lemmas.Bool.{eqb-true, eqb-false, and_parts, le-leb, lt-leb}
+use Rattle.std.proofs.lemmas.Bool.{eqb-true, eqb-false, and_parts, le-leb, lt-leb, cond_both}
 use Rattle.std.proofs.lemmas.Bool.Decides.{nat_tests}
 use Rattle.pas_profile.specs.Classes.{has_bit}
 use Rattle.pas_profile.specs.Layouts.{same_word}
@@ -13,14 +13,16 @@ use Rattle.pas_profile.specs.declared.name.Block.{Block}
 use Rattle.pas_profile.specs.declared.word.Word.{Word}
 use Rattle.pas_profile.specs.Runs.{in_run, address_of, grain_of, length_of}
 use Rattle.pas_steps.specs.Effects.{free_word_at, life_word_at, in_mask, target, new_value}
-use Rattle.pas_steps.specs.Views.{View, Move, Stays, Gets, Puts, Gives, Ends, grain_move, held_after, holds, epoch_of}
+use Rattle.pas_steps.specs.Views.{Move, Stays, Gets, Puts, Gives, Ends, grain_move, held_after, holds, epoch_of}
 use Rattle.pas_steps.specs.Allowed.{Allowed, IsStepOf}
 use Rattle.pas_steps.specs.Lists.{Whole, word_after, part, IsNext, Legal}
-use Rattle.pas_steps.specs.declared.step.Made.{Made}
 use Rattle.pas_steps.specs.declared.step.Step.{Step}
 use Rattle.pas_steps.specs.declared.step.Step.TheVariants.{Look, Take, Put, Give, End}
 use Rattle.pas_core.specs.Good.{Place, IsFree, Held, Covered, is_free, is_held_by, is_covered_by, covers, IsPlacedOnce}
 use Rattle.pas_bits.proofs.Words.{bit_cleared, bit_of_or}
+use Rattle.pas_profile.proofs.Runs.{first_of_run}
+use Rattle.pas_core.proofs.DeedWords.{looked}
+use Rattle.pas_steps.proofs.Ranged.{guess_fits}
 
 -- ---- words of grains: one for each grain
 split_same : (c b : ℕ) (x y z : Bool) → (c % 256 == b % 256) ≡ x → (c / 256 == b / 256) ≡ y → (c == b) ≡ z → (x && y) ≡ z
@@ -42,19 +44,15 @@ free_same l page word g h =
     ap (λ w. word_after l (Word.Free page w)) (eqb-true word (g / 64 % 4) parts.0) ∙ ap (λ p. word_after l (Word.Free p (g / 64 % 4))) (eqb-true page (g / 256) parts.1)
 
 -- ---- the numbers of a step of a valid profile fit
-end_short : (f : Profile) (guess : ℕ) → IsValid f → guess ≤ 256 * f.pages → guess < 2 ^ 23
-end_short f guess valid h = let p = valid.pages in omega (arith, p, h)
-
 pub give_short : (f : Profile) (address room : ℕ) → IsValid f → address + room ≤ 4096 * (f.pages + 1) → room / 16 < 2 ^ 23
 give_short f address room valid h = let p = valid.pages in omega (arith, p, h)
 
 -- ---- places and moves, whatever the step
 abbrev place_after : ℕ → Move → Place → Place
 place_after j Stays o = o
-place_after j Gets o = Held j
 place_after j Puts o = IsFree
 place_after j (Gives a) o = Covered a
-place_after j (Ends a) o = Held j
+place_after j s o = Held j
 
 -- the grain is where the move of actor j takes it from
 abbrev pub Fits : ℕ → Move → Place → Type 0
@@ -66,37 +64,32 @@ Fits j (Ends a) o = o ≡ Covered a
 
 is_free-true : (o : Place) → is_free o ≡ true → o ≡ IsFree
 is_free-true IsFree h = refl
-is_free-true (Held k) h = cc
-is_free-true (Covered a) h = cc
+is_free-true s h = cc
 
 pub is_held_by-true : (k : ℕ) (o : Place) → is_held_by k o ≡ true → o ≡ Held k
-is_held_by-true k IsFree h = cc
 is_held_by-true k (Held j) h = ap Held (eqb-true j k h)
-is_held_by-true k (Covered a) h = cc
+is_held_by-true k s h = cc
 
 is_covered_by-true : (b : ℕ) (o : Place) → is_covered_by b o ≡ true → o ≡ Covered b
-is_covered_by-true b IsFree h = cc
-is_covered_by-true b (Held j) h = cc
 is_covered_by-true b (Covered a) h = ap Covered (eqb-true a b h)
+is_covered_by-true b s h = cc
 
-held_next : (m : Move) (o : Place) (j k : ℕ) (had : Bool) → had ≡ is_held_by k o → Fits j m o → (same : Bool) → (j == k) ≡ same → (if same then held_after m had else had) ≡ is_held_by k (place_after j m o)
-held_next Stays o j k had is fits true e = is
-held_next Stays o j k had is fits false e = is
-held_next Gets o j k had is fits true e = sym e
-held_next Gets o j k had is fits false e = is ∙ ap (is_held_by k) fits ∙ sym e
-held_next Puts o j k had is fits true e = refl
-held_next Puts o j k had is fits false e = is ∙ ap (is_held_by k) fits ∙ e
-held_next (Gives a) o j k had is fits true e = refl
-held_next (Gives a) o j k had is fits false e = is ∙ ap (is_held_by k) fits ∙ e
-held_next (Ends a) o j k had is fits true e = sym e
-held_next (Ends a) o j k had is fits false e = is ∙ ap (is_held_by k) fits ∙ sym e
+own_next : (m : Move) (o : Place) (j k : ℕ) (had : Bool) → had ≡ is_held_by k o → (j == k) ≡ true → held_after m had ≡ is_held_by k (place_after j m o)
+own_next Stays o j k had is e = is
+own_next Puts o j k had is e = refl
+own_next (Gives a) o j k had is e = refl
+own_next s o j k had is e = sym e
+
+other_next : (m : Move) (o : Place) (j k : ℕ) (had : Bool) → had ≡ is_held_by k o → Fits j m o → (j == k) ≡ false → had ≡ is_held_by k (place_after j m o)
+other_next Stays o j k had is fits e = is
+other_next Puts o j k had is fits e = is ∙ ap (is_held_by k) fits ∙ e
+other_next (Gives a) o j k had is fits e = is ∙ ap (is_held_by k) fits ∙ e
+other_next s o j k had is fits e = is ∙ ap (is_held_by k) fits ∙ sym e
 
 abbrev pub free_moved : Move → Bool → Bool
-free_moved Stays was = was
 free_moved Gets was = false
 free_moved Puts was = true
-free_moved (Gives a) was = was
-free_moved (Ends a) was = was
+free_moved s was = was
 
 free_next : (j : ℕ) (m : Move) (o : Place) → Fits j m o → free_moved m (is_free o) ≡ is_free (place_after j m o)
 free_next j (Gives a) o h = ap is_free h
@@ -104,26 +97,23 @@ free_next j (Ends a) o h = ap is_free h
 free_next j s o h = refl
 
 abbrev covered_moved : Move → ℕ → Bool → Bool
-covered_moved Stays b was = was
-covered_moved Gets b was = was
-covered_moved Puts b was = was
 covered_moved (Gives a) b was = if a == b then true else was
 covered_moved (Ends a) b was = if a == b then false else was
+covered_moved s b was = was
 
-if_true : (t : Bool) → (if t then true else false) ≡ t
+pub if_true : (t : Bool) → (if t then true else false) ≡ t
 if_true true = refl
 if_true false = refl
 
-if_false : (t : Bool) → (if t then false else t) ≡ false
+pub if_false : (t : Bool) → (if t then false else t) ≡ false
 if_false true = refl
 if_false false = refl
 
 covered_next : (j : ℕ) (m : Move) (b : ℕ) (o : Place) → Fits j m o → covered_moved m b (is_covered_by b o) ≡ is_covered_by b (place_after j m o)
 covered_next j Stays b o h = refl
-covered_next j Gets b o h = ap (is_covered_by b) h
-covered_next j Puts b o h = ap (is_covered_by b) h
 covered_next j (Gives a) b o h = ap (λ x. if a == b then true else is_covered_by b x) h ∙ if_true (a == b)
 covered_next j (Ends a) b o h = ap (λ x. if a == b then false else is_covered_by b x) h ∙ if_false (a == b)
+covered_next j s b o h = ap (is_covered_by b) h
 
 -- ---- the free words
 take_cases : (x y : Bool) → (x && not y) ≡ free_moved (if y && x then Gets else Stays) x
@@ -149,17 +139,12 @@ put_free true old mask b = bit_of_or old mask b ∙ put_cases (has_bit old b) (h
 put_free false old mask b = refl
 
 rests_free : (t was : Bool) (m : Move) → free_moved m was ≡ was → was ≡ free_moved (if t then m else Stays) was
-rests_free true was m h = sym h
-rests_free false was m h = refl
-
-look_free : (t : Bool) (old b : ℕ) → has_bit (if t then old else old) b ≡ has_bit old b
-look_free true old b = refl
-look_free false old b = refl
+rests_free t was m h = cond_both t m Stays (λ x. was ≡ free_moved x was) (λ here. sym h) (λ other. refl)
 
 -- what a step does to the bit of a grain
 pub free_step : (f : Profile) (l : Whole) (e : ℕ) (s : Step) (a g : ℕ) → IsStepOf f s → a ≡ word_after l (target s)
     → has_bit (if same_word (target s) (free_word_at g) then new_value e s (word_after l (free_word_at g)) else word_after l (free_word_at g)) (g % 64) ≡ free_moved (grain_move s a g) (has_bit (word_after l (free_word_at g)) (g % 64))
-free_step f l e (Look word) a g of is = look_free (same_word word (free_word_at g)) (word_after l (free_word_at g)) (g % 64)
+free_step f l e (Look word) a g of is = ap (λ n. has_bit n (g % 64)) (looked (same_word word (free_word_at g)) (word_after l (free_word_at g)))
 free_step f l e (Take page word mask) a g of is = take_free ((word == g / 64 % 4) && (page == g / 256)) (word_after l (free_word_at g)) a mask (g % 64) (λ h. is ∙ free_same l page word g h) of.2 (omega arith)
 free_step f l e (Put page word mask) a g of is = put_free ((word == g / 64 % 4) && (page == g / 256)) (word_after l (free_word_at g)) mask (g % 64)
 free_step f l e (Give block) a g of is = rests_free (in_run (grain_of block.name) (length_of block) g) (has_bit (word_after l (free_word_at g)) (g % 64)) (Gives (grain_of block.name)) refl
@@ -180,9 +165,6 @@ covers_ended turn b g ht = ap (λ t. t && (nat_le b g && nat_lt g (b + turn / 2 
 none_covers : (t : Bool) (c g n : ℕ) → (t && (nat_le c c && nat_lt c (c + n))) ≡ false → (t && (nat_le c g && nat_lt g (c + n))) ≡ false
 none_covers t c g n h = grind (arith, nat_tests)
 
-pub own_grain : (c n : ℕ) → 0 < n → in_run c n c ≡ true
-own_grain c n h = grind (arith, nat_tests)
-
 -- a block of some whole grains has one
 pub some_grain : (room : ℕ) → room % 16 ≡ 0 → 0 < room → 0 < room / 16
 some_grain room whole some = omega arith
@@ -190,12 +172,11 @@ some_grain room whole some = omega arith
 not_covering : (f : Profile) (l : Whole) (k : ℕ) (block : Block) (g : ℕ) → IsPlacedOnce l (grain_of block.name) → Allowed f (part k l) (Give block) → covers (word_after l (life_word_at (grain_of block.name))) (grain_of block.name) g ≡ false
 not_covering f l k block g at allowed =
     let c : ℕ = grain_of block.name in
-    let here : at.place ≡ Held k = is_held_by-true k at.place (sym (at.held k) ∙ allowed.held (grain_of block.name) (own_grain (grain_of block.name) (length_of block) (some_grain block.room allowed.whole allowed.some))) in
+    let here : at.place ≡ Held k = is_held_by-true k at.place (sym (at.held k) ∙ allowed.held (grain_of block.name) (first_of_run (grain_of block.name) (length_of block) (some_grain block.room allowed.whole allowed.some))) in
     none_covers (is_live (word_after l (life_word_at (grain_of block.name)))) (grain_of block.name) g (grains_of (word_after l (life_word_at (grain_of block.name)))) (at.covered (grain_of block.name) ∙ ap (is_covered_by (grain_of block.name)) here)
 
 rests_covered : (t was : Bool) (m : Move) (b : ℕ) → covered_moved m b was ≡ was → was ≡ covered_moved (if t then m else Stays) b was
-rests_covered true was m b h = sym h
-rests_covered false was m b h = refl
+rests_covered t was m b h = cond_both t m Stays (λ x. was ≡ covered_moved x b was) (λ here. sym h) (λ other. refl)
 
 give_covers : (x y : Bool) (c b g turn n old : ℕ) → y ≡ (c == b) → (c == b) ≡ x → turn < 2 ^ 40 → n < 2 ^ 23 → (x ≡ true → covers old b g ≡ false) → (r : Bool) → in_run c n g ≡ r
     → covers (if y then live_word turn n else old) b g ≡ covered_moved (if r then Gives c else Stays) b (covers old b g)
@@ -216,17 +197,9 @@ end_covers false c b g turn n old a e ht hn same true is true run = ap (λ t. if
 end_covers false c b g turn n old a e ht hn same true is false run = refl
 end_covers false c b g turn n old a e ht hn same false is r run = refl
 
-look_covers : (t : Bool) (old b g : ℕ) → covers (if t then old else old) b g ≡ covers old b g
-look_covers true old b g = refl
-look_covers false old b g = refl
-
--- another writing of the test whether two grains are the same
-retold : (y x : Bool) (new old b g : ℕ) (answer : Bool) → y ≡ x → covers (if x then new else old) b g ≡ answer → covers (if y then new else old) b g ≡ answer
-retold y x new old b g answer e h = ap (λ t. covers (if t then new else old) b g) e ∙ h
-
 covered_step : (f : Profile) (l : Whole) (k e : ℕ) (s : Step) (a g b : ℕ) → IsValid f → ((g : ℕ) → IsPlacedOnce l g) → IsStepOf f s → Allowed f (part k l) s → a ≡ word_after l (target s)
     → covers (if same_word (target s) (life_word_at b) then new_value e s (word_after l (life_word_at b)) else word_after l (life_word_at b)) b g ≡ covered_moved (grain_move s a g) b (covers (word_after l (life_word_at b)) b g)
-covered_step f l k e (Look word) a g b valid placed of allowed is = look_covers (same_word word (life_word_at b)) (word_after l (life_word_at b)) b g
+covered_step f l k e (Look word) a g b valid placed of allowed is = ap (λ n. covers n b g) (looked (same_word word (life_word_at b)) (word_after l (life_word_at b)))
 covered_step f l k e (Take page word mask) a g b valid placed of allowed is = rests_covered (in_mask page word mask g && has_bit a (g % 64)) (covers (word_after l (life_word_at b)) b g) Gets b refl
 covered_step f l k e (Put page word mask) a g b valid placed of allowed is = rests_covered (in_mask page word mask g) (covers (word_after l (life_word_at b)) b g) Puts b refl
 covered_step f l k e (Give block) a g b valid placed of allowed is =
@@ -234,16 +207,14 @@ covered_step f l k e (Give block) a g b valid placed of allowed is =
     of.turn (give_short f (address_of block.name) block.room valid of.last)
     (λ e. ap (λ x. covers (word_after l (life_word_at x)) x g) (sym (eqb-true (grain_of block.name) b e)) ∙ not_covering f l k block g (placed (grain_of block.name)) allowed) (in_run (grain_of block.name) (length_of block) g) refl
 covered_step f l k e (End name guess) a g b valid placed of allowed is =
-    retold (same_word (life_word_at (grain_of name)) (life_word_at b)) (grain_of name == b) (if word_after l (life_word_at b) == live_word name.turn guess then name.turn + 1 else word_after l (life_word_at b)) (word_after l (life_word_at b)) b g
-    (covered_moved (grain_move (End name guess) a g) b (covers (word_after l (life_word_at b)) b g)) (life_same (grain_of name) b)
-    (end_covers (grain_of name == b) (grain_of name) b g name.turn guess (word_after l (life_word_at b)) a refl of.2 (end_short f guess valid of.4)
-    (λ e. is ∙ ap (λ x. word_after l (life_word_at x)) (eqb-true (grain_of name) b e)) (a == live_word name.turn guess) refl (in_run (grain_of name) guess g) refl)
+    ap (λ t. covers (if t then (if word_after l (life_word_at b) == live_word name.turn guess then name.turn + 1 else word_after l (life_word_at b)) else word_after l (life_word_at b)) b g) (life_same (grain_of name) b)
+    ∙ end_covers (grain_of name == b) (grain_of name) b g name.turn guess (word_after l (life_word_at b)) a refl of.2 (guess_fits guess f.pages valid.pages of.4)
+    (λ e. is ∙ ap (λ x. word_after l (life_word_at x)) (eqb-true (grain_of name) b e)) (a == live_word name.turn guess) refl (in_run (grain_of name) guess g) refl
 covered_step f l k e s a g b valid placed of allowed is = refl
 
 -- ---- a legal step's move fits
 fits_if : (j : ℕ) (m : Move) (o : Place) (t : Bool) → (t ≡ true → Fits j m o) → Fits j (if t then m else Stays) o
-fits_if j m o true h = h refl
-fits_if j m o false h = tt
+fits_if j m o t h = cond_both t m Stays (λ x. Fits j x o) h (λ other. tt)
 
 pub step_fits : (f : Profile) (l : Whole) (k : ℕ) (s : Step) (a g : ℕ) (at : IsPlacedOnce l g) → IsValid f → IsStepOf f s → Allowed f (part k l) s → a ≡ word_after l (target s) → Fits k (grain_move s a g) at.place
 step_fits f l k (Take page word mask) a g at valid of allowed is = fits_if k Gets at.place (in_mask page word mask g && has_bit a (g % 64)) (λ h.
@@ -255,14 +226,10 @@ step_fits f l k (Give block) a g at valid of allowed is = fits_if k (Gives (grai
 step_fits f l k (End name guess) a g at valid of allowed is = fits_if k (Ends (grain_of name)) at.place ((a == live_word name.turn guess) && in_run (grain_of name) guess g) (λ h.
     let parts = and_parts (a == live_word name.turn guess) (in_run (grain_of name) guess g) h in
     is_covered_by-true (grain_of name) at.place (sym (at.covered (grain_of name)) ∙ ap (λ w. covers w (grain_of name) g) (sym is ∙ eqb-true a (live_word name.turn guess) parts.0)
-    ∙ covers_live name.turn guess (grain_of name) g (let t = of.2 in omega (arith, t)) (end_short f guess valid of.4) ∙ parts.1))
+    ∙ covers_live name.turn guess (grain_of name) g (let t = of.2 in omega (arith, t)) (guess_fits guess f.pages valid.pages of.4) ∙ parts.1))
 step_fits f l k s a g at valid of allowed is = tt
 
 -- ---- the induction
-holds_part : (t : Bool) (m : Made) (v : View) (g : ℕ) → holds (if t then m ∷ v else v) g ≡ (if t then held_after (grain_move m.step m.answer g) (holds v g) else holds v g)
-holds_part true m v g = refl
-holds_part false m v g = refl
-
 -- after every legal list each grain is in exactly one place
 pub placed_once : (f : Profile) (l : Whole) → IsValid f → Legal f l → (g : ℕ) → IsPlacedOnce l g
 placed_once f [] valid legal g = record { place = IsFree; free = ap (λ x. x == 1) (bit_at_ones 64 (g % 64) (omega arith)); held = λ k. refl; covered = λ a. refl }
@@ -275,7 +242,7 @@ placed_once f (t ∷ l) valid legal g =
     record {
       place = place_after t.actor m at.place;
       free = free_step f l e t.made.step t.made.answer g next.of_region next.answer_is ∙ ap (free_moved m) at.free ∙ free_next t.actor m at.place fits;
-      held = λ k. holds_part (t.actor == k) t.made (part k l) g ∙ held_next m at.place t.actor k (holds (part k l) g) (at.held k) fits (t.actor == k) refl;
+      held = λ k. cond_both (t.actor == k) (t.made ∷ part k l) (part k l) (λ v. holds v g ≡ is_held_by k (place_after t.actor m at.place)) (own_next m at.place t.actor k (holds (part k l) g) (at.held k)) (other_next m at.place t.actor k (holds (part k l) g) (at.held k) fits);
       covered = λ b. covered_step f l t.actor e t.made.step t.made.answer g b valid (placed_once f l valid legal.1) next.of_region next.allowed next.answer_is ∙ ap (covered_moved m b) (at.covered b) ∙ covered_next t.actor m b at.place fits;
     }
 

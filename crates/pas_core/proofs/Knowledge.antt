@@ -1,6 +1,6 @@
 -- What views know of deeds and of backed pages is true.
 use Rattle.std.proofs.Common.{◌≡◌, ℕ, ◌+◌, ◌*◌, ◌/◌, ◌≤◌, ◌==◌, Bool, true, false, if◌then◌else◌, [], ◌∷◌, refl, ap, sym, ◌∙◌, arith, bit_or, inl, inr}
-use Rattle.std.proofs.lemmas.Bool.{false≢true, eqb-true, and_parts, cases_eq, false_from_ne_true}
+use Rattle.std.proofs.lemmas.Bool.{false≢true, eqb-true, and_parts, cases_eq, false_from_ne_true, cond_both}
 use Rattle.pas_profile.specs.Layouts.{same_word}
 use Rattle.pas_profile.specs.Profiles.{IsValid}
 use Rattle.pas_profile.specs.declared.profile.Profile.{Profile}
@@ -12,7 +12,6 @@ use Rattle.pas_steps.proofs.Backed.{any_one, backed_holds}
 use Rattle.pas_steps.specs.Views.{View, holds, holds_on, known_deed, backed_after, knows_backed, epoch_of}
 use Rattle.pas_steps.specs.Lists.{Triple, Whole, part, word_after, IsNext, Legal}
 use Rattle.pas_steps.specs.declared.step.Step.{Step}
-use Rattle.pas_steps.specs.declared.step.Made.{Made}
 use Rattle.pas_steps.specs.declared.step.Step.TheVariants.{Look, Back, Unback}
 use Rattle.pas_core.proofs.Grains.{one_holder}
 use Rattle.pas_core.proofs.DeedWords.{next_value, looked, IsKnown}
@@ -26,18 +25,10 @@ deeds_known f l legal k p = let at : IsSpotted l p = spotted f l legal p in at.k
 or_one : (old : ℕ) → old ≤ 1 → bit_or old 1 ≡ 1
 or_one old h = elim (cases_eq old 0) [ inl e ↦ ap (λ n. bit_or n 1) e | inr ne ↦ let one : old ≡ 1 = omega arith in ap (λ n. bit_or n 1) one ]
 
-backs : (x : Bool) (old : ℕ) → old ≤ 1 → (if x then bit_or old 1 else old) ≤ 1
-backs true old h = omega (arith, or_one old h)
-backs false old h = h
-
-unbacks_small : (x : Bool) (old : ℕ) → old ≤ 1 → (if x then 0 else old) ≤ 1
-unbacks_small true old h = omega arith
-unbacks_small false old h = h
-
 backed_next : (e : ℕ) (s : Step) (p old : ℕ) → old ≤ 1 → next_value e s (Word.Backed p) old ≤ 1
 backed_next e (Look w) p old h = omega (arith, looked (same_word w (Word.Backed p)) old)
-backed_next e (Back q) p old h = backs (q == p) old h
-backed_next e (Unback q) p old h = unbacks_small (q == p) old h
+backed_next e (Back q) p old h = cond_both (q == p) (bit_or old 1) old (λ n. n ≤ 1) (λ here. omega (arith, or_one old h)) (λ other. h)
+backed_next e (Unback q) p old h = cond_both (q == p) 0 old (λ n. n ≤ 1) (λ here. omega arith) (λ other. h)
 backed_next e s p old h = h
 
 -- a backed word is 0 or 1
@@ -45,14 +36,10 @@ pub backed_small : (f : Profile) (l : Whole) → Legal f l → (p : ℕ) → wor
 backed_small f [] legal p = omega arith
 backed_small f (t ∷ l) legal p = backed_next (epoch_of (part t.actor l)) t.made.step p (word_after l (Word.Backed p)) (backed_small f l legal.1 p)
 
-back_rests : (x : Bool) (old : ℕ) → old ≡ 1 → (if x then bit_or old 1 else old) ≡ 1
-back_rests true old h = ap (λ n. bit_or n 1) h
-back_rests false old h = h
-
 -- a page that is backed stays so, but where the step ends its backing
 backed_stays : (e : ℕ) (s : Step) (p old : ℕ) → unbacks s p ≡ false → old ≡ 1 → next_value e s (Word.Backed p) old ≡ 1
 backed_stays e (Look w) p old keep h = looked (same_word w (Word.Backed p)) old ∙ h
-backed_stays e (Back q) p old keep h = back_rests (q == p) old h
+backed_stays e (Back q) p old keep h = cond_both (q == p) (bit_or old 1) old (λ n. n ≡ 1) (λ here. ap (λ n. bit_or n 1) h) (λ other. h)
 backed_stays e (Unback q) p old keep h = ap (λ t. if t then 0 else old) keep ∙ h
 backed_stays e s p old keep h = h
 
@@ -75,10 +62,6 @@ backed_learns l e (Look (Word.Backed q)) a p known is small was told = look_back
 backed_learns l e (Back q) a p known is small was told = back_tells (q == p) known (word_after l (Word.Backed p)) small was told
 backed_learns l e (Unback q) a p known is small was told = unback_tells (q == p) known (word_after l (Word.Backed p)) was told
 backed_learns l e s a p known is small was told = was told
-
-backed_of_part : (t : Bool) (m : Made) (v : View) (p : ℕ) (P : Type 0) → (t ≡ false → knows_backed v p ≡ true → P) → (backed_after m.step m.answer p (knows_backed v p) ≡ true → P) → knows_backed (if t then m ∷ v else v) p ≡ true → P
-backed_of_part true m v p P old new told = new (and_parts (backed_after m.step m.answer p (knows_backed v p)) (holds_on (m ∷ v) p) told).0
-backed_of_part false m v p P old new told = old refl told
 
 -- only an actor that holds each grain of a page ends its backing
 allowed_at : (f : Profile) (v : View) (q p : ℕ) → MayUnback f v q → q ≡ p → (g : ℕ) → g / 256 ≡ p → holds v g ≡ true
@@ -103,6 +86,6 @@ backed_known f (t ∷ l) valid legal k p told =
     let e : ℕ = epoch_of (part t.actor l) in
     let next : IsNext f l t = legal.0 in
     let before : knows_backed (part k l) p ≡ true → word_after l (Word.Backed p) ≡ 1 = backed_known f l valid legal.1 k p in
-    backed_of_part (t.actor == k) t.made (part k l) p (word_after (t ∷ l) (Word.Backed p) ≡ 1)
-    (λ other h. backed_stays e t.made.step p (word_after l (Word.Backed p)) (other_unbacks f l valid legal.1 t k p next other (backed_holds (part k l) p h)) (before h))
-    (backed_learns l e t.made.step t.made.answer p (knows_backed (part k l) p) next.answer_is (backed_small f l legal.1 p) before) told
+    cond_both (t.actor == k) (t.made ∷ part k l) (part k l) (λ v. knows_backed v p ≡ true → word_after (t ∷ l) (Word.Backed p) ≡ 1)
+    (λ own h. backed_learns l e t.made.step t.made.answer p (knows_backed (part k l) p) next.answer_is (backed_small f l legal.1 p) before (and_parts (backed_after t.made.step t.made.answer p (knows_backed (part k l) p)) (holds_on (t.made ∷ part k l) p) h).0)
+    (λ other h. backed_stays e t.made.step p (word_after l (Word.Backed p)) (other_unbacks f l valid legal.1 t k p next other (backed_holds (part k l) p h)) (before h)) told

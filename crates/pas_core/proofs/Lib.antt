@@ -1,4 +1,3 @@
-pub mod Bits
 pub mod Grains
 pub mod Deeds
 pub mod Lives

@@ -1,6 +1,6 @@
 -- The life words are those of the machine, and what actors know of them is true.
 use Rattle.std.proofs.Common.{◌≡◌, ◌≢◌, ℕ, ◌+◌, ◌-◌, ◌*◌, ◌/◌, ◌%◌, ◌^◌, ◌<◌, ◌≤◌, ◌==◌, Bool, true, false, ◌&&◌, if◌then◌else◌, List, [], ◌∷◌, Option, Some, None, refl, ap, sym, ◌∙◌, subst, arith, inl, inr}
-use Rattle.std.proofs.lemmas.Bool.{false≢true, eqb-true, eqb-false, eq-eqb, cases_eq, and_parts, le-leb}
+use Rattle.std.proofs.lemmas.Bool.{false≢true, eqb-true, eqb-false, eq-eqb, cases_eq, and_parts, le-leb, cond_both}
 use Rattle.pas_profile.specs.Layouts.{same_word}
 use Rattle.pas_profile.specs.Lives.{live_word, is_live, turn_of}
 use Rattle.pas_profile.specs.Profiles.{IsValid}
@@ -13,16 +13,18 @@ use Rattle.pas_profile.specs.declared.event.Why.{Why}
 use Rattle.pas_profile.specs.Runs.{in_run, address_of, grain_of, length_of}
 use Rattle.pas_machine.specs.State.{Live, live_in, gives_in, ends_in}
 use Rattle.pas_steps.specs.Effects.{life_word_at, target, new_value}
-use Rattle.pas_steps.specs.Views.{View, Move, Stays, Gets, Puts, Gives, Ends, grain_move, held_after, holds, epoch_of, looks_at_life, life_after, known_life}
+use Rattle.pas_steps.specs.Views.{View, Move, Stays, Gets, Gives, Ends, grain_move, held_after, holds, epoch_of, looks_at_life, life_after, known_life}
 use Rattle.pas_steps.specs.Events.{event_of, end_event, with_event, reason_of}
 use Rattle.pas_steps.specs.Allowed.{Allowed, IsStepOf, IsBlockOf}
 use Rattle.pas_steps.specs.Lists.{Whole, word_after, part, visible, IsNext, Legal}
-use Rattle.pas_steps.specs.declared.step.Made.{Made}
 use Rattle.pas_steps.specs.declared.step.Step.{Step}
 use Rattle.pas_steps.specs.declared.step.Step.TheVariants.{Look, Deed, Back, Give, End}
 use Rattle.pas_core.specs.Good.{Place, IsFree, Held, Covered, is_held_by, is_covered_by, covers, IsPlacedOnce, IsLifeOf, IsLifeOfNone, IsLifeOfLive, IsBare}
-use Rattle.pas_core.proofs.Grains.{life_same, give_short, Fits, is_held_by-true, covers_live, own_grain, some_grain, step_fits, placed_once}
-use Rattle.pas_core.proofs.Deeds.{same}
+use Rattle.pas_core.proofs.Grains.{life_same, give_short, Fits, is_held_by-true, covers_live, some_grain, step_fits, placed_once}
+use Rattle.std.proofs.lemmas.Option.{same_Some, none-some}
+use Rattle.pas_core.proofs.Deeds.{event_if, end_if}
+use Rattle.pas_core.proofs.DeedWords.{looked}
+use Rattle.pas_profile.proofs.Runs.{first_of_run}
 
 -- a test told in another way
 as_test : {A : Type 0} (y x : Bool) (P : A → Type 0) (new old : A) → y ≡ x → P (if x then new else old) → P (if y then new else old)
@@ -31,21 +33,18 @@ as_test y x P new old e h = subst (λ t. P (if t then new else old)) (sym e) h
 -- ---- a grain that stays where it is keeps its life word
 abbrev pub is_still : Move → Bool
 is_still Stays = true
-is_still Gets = false
-is_still Puts = false
-is_still (Gives a) = false
-is_still (Ends a) = false
+is_still s = false
 
 give_rests : (x r : Bool) (c g n old new : ℕ) → (c == g) ≡ x → 0 < n → in_run c n g ≡ r → is_still (if r then Gives c else Stays) ≡ true → (if x then new else old) ≡ old
 give_rests false r c g n old new xe some re still = refl
 give_rests true true c g n old new xe some re still = absurd (false≢true still)
-give_rests true false c g n old new xe some re still = absurd (false≢true (sym re ∙ ap (in_run c n) (sym (eqb-true c g xe)) ∙ own_grain c n some))
+give_rests true false c g n old new xe some re still = absurd (false≢true (sym re ∙ ap (in_run c n) (sym (eqb-true c g xe)) ∙ first_of_run c n some))
 
 end_rests : (x z r : Bool) (c g n old t a : ℕ) → (c == g) ≡ x → (x ≡ true → a ≡ old) → 0 < n → (a == live_word t n) ≡ z → in_run c n g ≡ r → is_still (if z && r then Ends c else Stays) ≡ true
     → (if x then (if old == live_word t n then t + 1 else old) else old) ≡ old
 end_rests false z r c g n old t a xe is some ze re still = refl
 end_rests true true true c g n old t a xe is some ze re still = absurd (false≢true still)
-end_rests true true false c g n old t a xe is some ze re still = absurd (false≢true (sym re ∙ ap (in_run c n) (sym (eqb-true c g xe)) ∙ own_grain c n some))
+end_rests true true false c g n old t a xe is some ze re still = absurd (false≢true (sym re ∙ ap (in_run c n) (sym (eqb-true c g xe)) ∙ first_of_run c n some))
 end_rests true false r c g n old t a xe is some ze re still = ap (λ b. if b then t + 1 else old) (ap (λ m. m == live_word t n) (sym (is refl)) ∙ ze)
 
 -- the word of a step on the grain's life word
@@ -54,7 +53,7 @@ word_is l a c g is x = is ∙ ap (λ b. word_after l (life_word_at b)) (eqb-true
 
 life_rests : (f : Profile) (l : Whole) (k e : ℕ) (s : Step) (a g : ℕ) → IsStepOf f s → Allowed f (part k l) s → a ≡ word_after l (target s) → is_still (grain_move s a g) ≡ true
     → (if same_word (target s) (life_word_at g) then new_value e s (word_after l (life_word_at g)) else word_after l (life_word_at g)) ≡ word_after l (life_word_at g)
-life_rests f l k e (Look word) a g of allowed is still = same (same_word word (life_word_at g)) (word_after l (life_word_at g))
+life_rests f l k e (Look word) a g of allowed is still = looked (same_word word (life_word_at g)) (word_after l (life_word_at g))
 life_rests f l k e (Give block) a g of allowed is still =
     as_test (same_word (life_word_at (grain_of block.name)) (life_word_at g)) (grain_of block.name == g) (λ w. w ≡ word_after l (life_word_at g)) (live_word block.name.turn (length_of block)) (word_after l (life_word_at g)) (life_same (grain_of block.name) g)
     (give_rests (grain_of block.name == g) (in_run (grain_of block.name) (length_of block) g) (grain_of block.name) g (length_of block) (word_after l (life_word_at g)) (live_word block.name.turn (length_of block)) refl (some_grain block.room allowed.whole allowed.some) refl still)
@@ -69,22 +68,13 @@ look_is l (Look (Word.Life q b)) a g is h = let parts = and_parts (b == g % 256)
     is ∙ ap (λ x. word_after l (Word.Life q x)) (eqb-true b (g % 256) parts.0) ∙ ap (λ x. word_after l (Word.Life x (g % 256))) (eqb-true q (g / 256) parts.1)
 look_is l s a g is h = absurd (false≢true h)
 
-none_told : {A : Type 0} {w : A} → None ≡ Some w → ⊥
-none_told h = cc
-
-some_is : {A : Type 0} {x y : A} → Some x ≡ Some y → x ≡ y
-some_is h = cc
-
 -- of an own step
 own_life : (m : Move) (looks held : Bool) (a word word' : ℕ) (known : Option ℕ) (w : ℕ) → (is_still m ≡ true → word' ≡ word) → (looks ≡ true → a ≡ word) → ((w : ℕ) → known ≡ Some w → (held ≡ true) × (w ≡ word))
     → life_after m looks held a known ≡ Some w → (held_after m held ≡ true) × (w ≡ word')
-own_life Stays true true a word word' known w rests is old h = (refl, sym (some_is h) ∙ is refl ∙ sym (rests refl))
+own_life Stays true true a word word' known w rests is old h = (refl, sym (same_Some a w h) ∙ is refl ∙ sym (rests refl))
 own_life Stays true false a word word' known w rests is old h = let o = old w h in (o.0, o.1 ∙ sym (rests refl))
 own_life Stays false held a word word' known w rests is old h = let o = old w h in (o.0, o.1 ∙ sym (rests refl))
-own_life Gets looks held a word word' known w rests is old h = absurd (none_told h)
-own_life Puts looks held a word word' known w rests is old h = absurd (none_told h)
-own_life (Gives b) looks held a word word' known w rests is old h = absurd (none_told h)
-own_life (Ends b) looks held a word word' known w rests is old h = absurd (none_told h)
+own_life s looks held a word word' known w rests is old h = cc
 
 -- of another's step: it moves no grain that this actor holds
 same_holder : (j k : ℕ) (o : Place) → o ≡ Held j → o ≡ Held k → (j == k) ≡ true
@@ -93,20 +83,15 @@ same_holder j k o f h = ap (is_held_by k) (sym f) ∙ ap (is_held_by k) h ∙ eq
 pub no_move : (j k : ℕ) (m : Move) (o : Place) → Fits j m o → o ≡ Held k → (j == k) ≡ false → is_still m ≡ true
 no_move j k Stays o fits h ne = refl
 no_move j k Gets o fits h ne = let e : IsFree ≡ Held k = sym fits ∙ h in absurd cc
-no_move j k Puts o fits h ne = absurd (false≢true (sym ne ∙ same_holder j k o fits h))
-no_move j k (Gives b) o fits h ne = absurd (false≢true (sym ne ∙ same_holder j k o fits h))
 no_move j k (Ends b) o fits h ne = let e : Covered b ≡ Held k = sym fits ∙ h in absurd cc
+no_move j k s o fits h ne = absurd (false≢true (sym ne ∙ same_holder j k o fits h))
 
 -- what a view knows of a life word is the word, and the grain is held
 abbrev pub TellsLife : View → ℕ → ℕ → Type 0
 TellsLife v g word = (w : ℕ) → known_life v g ≡ Some w → (holds v g ≡ true) × (w ≡ word)
 
-life_of_part : (t : Bool) (m : Made) (v : View) (g word word' : ℕ) → TellsLife v g word → (t ≡ false → holds v g ≡ true → word' ≡ word) → (t ≡ true → TellsLife (m ∷ v) g word') → TellsLife (if t then m ∷ v else v) g word'
-life_of_part true m v g word word' old rests new = new refl
-life_of_part false m v g word word' old rests new = λ w h. let o = old w h in (o.0, o.1 ∙ sym (rests refl o.0))
-
 pub life_is_known : (f : Profile) (l : Whole) → IsValid f → Legal f l → (k g : ℕ) → TellsLife (part k l) g (word_after l (life_word_at g))
-life_is_known f [] valid legal k g = λ w h. absurd (none_told h)
+life_is_known f [] valid legal k g = λ w h. cc
 life_is_known f (t ∷ l) valid legal k g =
     let before : TellsLife (part k l) g (word_after l (life_word_at g)) = life_is_known f l valid legal.1 k g in
     let next : IsNext f l t = legal.0 in
@@ -114,9 +99,9 @@ life_is_known f (t ∷ l) valid legal k g =
     let at : IsPlacedOnce l g = placed_once f l valid legal.1 g in
     let fits : Fits t.actor (grain_move t.made.step t.made.answer g) at.place = step_fits f l t.actor t.made.step t.made.answer g at valid next.of_region next.allowed next.answer_is in
     let rests : is_still (grain_move t.made.step t.made.answer g) ≡ true → word_after (t ∷ l) (life_word_at g) ≡ word_after l (life_word_at g) = life_rests f l t.actor e t.made.step t.made.answer g next.of_region next.allowed next.answer_is in
-    life_of_part (t.actor == k) t.made (part k l) g (word_after l (life_word_at g)) (word_after (t ∷ l) (life_word_at g)) before
-    (λ other held. rests (no_move t.actor k (grain_move t.made.step t.made.answer g) at.place fits (is_held_by-true k at.place (sym (at.held k) ∙ held)) other))
+    cond_both (t.actor == k) (t.made ∷ part k l) (part k l) (λ v. TellsLife v g (word_after (t ∷ l) (life_word_at g)))
     (λ own w. own_life (grain_move t.made.step t.made.answer g) (looks_at_life t.made.step g) (holds (part k l) g) t.made.answer (word_after l (life_word_at g)) (word_after (t ∷ l) (life_word_at g)) (known_life (part k l) g) w rests (look_is l t.made.step t.made.answer g next.answer_is) before)
+    (λ other w h. let o = before w h in (o.0, o.1 ∙ sym (rests (no_move t.actor k (grain_move t.made.step t.made.answer g) at.place fits (is_held_by-true k at.place (sym (at.held k) ∙ o.0)) other))))
 
 -- ---- life words of the machine
 -- the block that a live word tells of
@@ -184,10 +169,6 @@ ended f g word (Some b) gives ends t n h small is =
 abbrev LifeIn : Profile → ℕ → ℕ → List Event → ℕ → Type 0
 LifeIn f g word es address = IsLifeOf f g word (live_in es address) (gives_in es address) (ends_in es address)
 
-missed : (f : Profile) (g : ℕ) (y : Bool) (reject : Event) (es : List Event) (address word : ℕ) → LifeIn f g word (reject ∷ es) address → LifeIn f g word es address → LifeIn f g word (with_event (if y then None else Some reject) es) address
-missed f g true reject es address word rejected h = h
-missed f g false reject es address word rejected h = rejected
-
 end_life : (x z y : Bool) (f : Profile) (g k ep a word guess : ℕ) (name : Name) (w : Why) (es : List Event) (address : ℕ) → (address_of name == address) ≡ x → (x ≡ true → a ≡ word) → (a == live_word name.turn guess) ≡ z → name.turn < 2 ^ 40 - 1
     → LifeIn f g word es address
     → LifeIn f g (if x then (if word == live_word name.turn guess then name.turn + 1 else word) else word) (with_event (if z then Some (Event.End k name ep) else (if y then None else Some (Event.Reject k name w))) es) address
@@ -199,14 +180,10 @@ end_life true true y f g k ep a word guess name w es address xe is ze small h =
 end_life true false y f g k ep a word guess name w es address xe is ze small h =
     let other : (word == live_word name.turn guess) ≡ false = ap (λ m. m == live_word name.turn guess) (sym (is refl)) ∙ ze in
     let one : LifeIn f g (if word == live_word name.turn guess then name.turn + 1 else word) es address = subst (λ b. LifeIn f g (if b then name.turn + 1 else word) es address) (sym other) h in
-    missed f g y (Event.Reject k name w) es address (if word == live_word name.turn guess then name.turn + 1 else word) one one
+    cond_both y None (Some (Event.Reject k name w)) (λ o. LifeIn f g (if word == live_word name.turn guess then name.turn + 1 else word) (with_event o es) address) (λ silent. one) (λ told. one)
 end_life false true y f g k ep a word guess name w es address xe is ze small h =
     subst (λ b. IsLifeOf f g word (if b then None else live_in es address) (gives_in es address) (if b then ends_in es address + 1 else ends_in es address)) (sym xe) h
-end_life false false y f g k ep a word guess name w es address xe is ze small h = missed f g y (Event.Reject k name w) es address word h h
-
-life_if : (f : Profile) (g : ℕ) (z : Bool) (e : Event) (es : List Event) (address word : ℕ) → LifeIn f g word (e ∷ es) address → LifeIn f g word es address → LifeIn f g word (with_event (if z then Some e else None) es) address
-life_if f g true e es address word new h = new
-life_if f g false e es address word new h = h
+end_life false false y f g k ep a word guess name w es address xe is ze small h = cond_both y None (Some (Event.Reject k name w)) (λ o. LifeIn f g word (with_event o es) address) (λ silent. h) (λ told. h)
 
 -- a block that may be given at the grain, from its step's conditions
 new_at : (f : Profile) (l : Whole) (k : ℕ) (block : Block) (g ends : ℕ) → IsValid f → IsBlockOf f block → Allowed f (part k l) (Give block) → block.name.turn ≡ ends → (grain_of block.name == g) ≡ true → IsNewAt f g block ends
@@ -228,12 +205,12 @@ life_step : (f : Profile) (l : Whole) (k e : ℕ) (s : Step) (a g : ℕ) → IsV
     → (holds (part k l) g ≡ true → live_in (visible l) (16 * g) ≡ None) → TellsLife (part k l) g (word_after l (life_word_at g))
     → LifeIn f g (word_after l (life_word_at g)) (visible l) (16 * g)
     → LifeIn f g (if same_word (target s) (life_word_at g) then new_value e s (word_after l (life_word_at g)) else word_after l (life_word_at g)) (with_event (event_of k e s a) (visible l)) (16 * g)
-life_step f l k e (Look word) a g valid of allowed is dead tells h = subst (λ x. LifeIn f g x (visible l) (16 * g)) (sym (same (same_word word (life_word_at g)) (word_after l (life_word_at g)))) h
-life_step f l k e (Deed page directory) a g valid of allowed is dead tells h = life_if f g (a == 0) (Event.Deed k page directory) (visible l) (16 * g) (word_after l (life_word_at g)) h h
-life_step f l k e (Back page) a g valid of allowed is dead tells h = life_if f g (a == 0) (Event.Back k page) (visible l) (16 * g) (word_after l (life_word_at g)) h h
+life_step f l k e (Look word) a g valid of allowed is dead tells h = subst (λ x. LifeIn f g x (visible l) (16 * g)) (sym (looked (same_word word (life_word_at g)) (word_after l (life_word_at g)))) h
+life_step f l k e (Deed page directory) a g valid of allowed is dead tells h = event_if (λ x. LifeIn f g (word_after l (life_word_at g)) x (16 * g)) (a == 0) (Event.Deed k page directory) (visible l) h h
+life_step f l k e (Back page) a g valid of allowed is dead tells h = event_if (λ x. LifeIn f g (word_after l (life_word_at g)) x (16 * g)) (a == 0) (Event.Back k page) (visible l) h h
 life_step f l k e (Give block) a g valid of allowed is dead tells h =
     let here : (address_of block.name == 16 * g) ≡ true → (grain_of block.name == g) ≡ true = λ x. sym (address_same (address_of block.name) g allowed.aligned) ∙ x in
-    let held : (grain_of block.name == g) ≡ true → holds (part k l) g ≡ true = λ x. ap (holds (part k l)) (sym (eqb-true (grain_of block.name) g x)) ∙ allowed.held (grain_of block.name) (own_grain (grain_of block.name) (length_of block) (some_grain block.room allowed.whole allowed.some)) in
+    let held : (grain_of block.name == g) ≡ true → holds (part k l) g ≡ true = λ x. ap (holds (part k l)) (sym (eqb-true (grain_of block.name) g x)) ∙ allowed.held (grain_of block.name) (first_of_run (grain_of block.name) (length_of block) (some_grain block.room allowed.whole allowed.some)) in
     let turn : (grain_of block.name == g) ≡ true → block.name.turn ≡ ends_in (visible l) (16 * g) = λ x.
     allowed.turn_is ∙ ap turn_of (tells allowed.word (ap (known_life (part k l)) (sym (eqb-true (grain_of block.name) g x)) ∙ allowed.known)).1 ∙ turn_is f g (word_after l (life_word_at g)) (live_in (visible l) (16 * g)) (gives_in (visible l) (16 * g)) (ends_in (visible l) (16 * g)) h in
     as_test (same_word (life_word_at (grain_of block.name)) (life_word_at g)) (address_of block.name == 16 * g) (λ w. LifeIn f g w (Event.Give k block ∷ visible l) (16 * g)) (live_word block.name.turn (length_of block)) (word_after l (life_word_at g))
@@ -259,7 +236,7 @@ no_block f l k a x b gives ends at holds life run =
 
 pub dead_while_held : (f : Profile) (l : Whole) (k g : ℕ) (live : Option Live) (gives ends : ℕ) → IsPlacedOnce l g → holds (part k l) g ≡ true → IsLifeOf f g (word_after l (life_word_at g)) live gives ends → live ≡ None
 dead_while_held f l k g None gives ends at holds life = refl
-dead_while_held f l k g (Some b) gives ends at holds life = absurd (no_block f l k g g b gives ends at holds life (own_grain g (length_of b.block) life.some))
+dead_while_held f l k g (Some b) gives ends at holds life = absurd (no_block f l k g g b gives ends at holds life (first_of_run g (length_of b.block) life.some))
 
 -- after every legal list each life word tells of the block that the machine has at its grain
 pub life_of : (f : Profile) (l : Whole) → IsValid f → Legal f l → (g : ℕ) → IsLifeOf f g (word_after l (life_word_at g)) (live_in (visible l) (16 * g)) (gives_in (visible l) (16 * g)) (ends_in (visible l) (16 * g))
@@ -275,15 +252,6 @@ life_of f (t ∷ l) valid legal g =
 abbrev BareIn : List Event → ℕ → Type 0
 BareIn es address = IsBare address (live_in es address) (gives_in es address) (ends_in es address)
 
-bare_if : (z : Bool) (e : Event) (es : List Event) (address : ℕ) → BareIn (e ∷ es) address → BareIn es address → BareIn (with_event (if z then Some e else None) es) address
-bare_if true e es address new h = new
-bare_if false e es address new h = h
-
-bare_end : (z y : Bool) (end reject : Event) (es : List Event) (address : ℕ) → BareIn (end ∷ es) address → BareIn (reject ∷ es) address → BareIn es address → BareIn (with_event (if z then Some end else (if y then None else Some reject)) es) address
-bare_end true y end reject es address ended rejected h = ended
-bare_end false true end reject es address ended rejected h = h
-bare_end false false end reject es address ended rejected h = rejected
-
 other_address : (b address : ℕ) → b % 16 ≡ 0 → address % 16 ≢ 0 → (x : Bool) → (b == address) ≡ x → x ≡ false
 other_address b address aligned un true e = absurd (un (ap (λ n. n % 16) (sym (eqb-true b address e)) ∙ aligned))
 other_address b address aligned un false e = refl
@@ -297,13 +265,13 @@ bare_ended true address live gives ends e h = absurd (false≢true (sym e))
 bare_ended false address live gives ends e h = h
 
 bare_step : (f : Profile) (v : View) (k e : ℕ) (s : Step) (a : ℕ) (es : List Event) (address : ℕ) → IsStepOf f s → Allowed f v s → address % 16 ≢ 0 → BareIn es address → BareIn (with_event (event_of k e s a) es) address
-bare_step f v k e (Deed page directory) a es address of allowed un h = bare_if (a == 0) (Event.Deed k page directory) es address h h
-bare_step f v k e (Back page) a es address of allowed un h = bare_if (a == 0) (Event.Back k page) es address h h
+bare_step f v k e (Deed page directory) a es address of allowed un h = event_if (λ x. BareIn x address) (a == 0) (Event.Deed k page directory) es h h
+bare_step f v k e (Back page) a es address of allowed un h = event_if (λ x. BareIn x address) (a == 0) (Event.Back k page) es h h
 bare_step f v k e (Give block) a es address of allowed un h =
     bare_give (address_of block.name == address) k block address (live_in es address) (gives_in es address) (ends_in es address) (other_address (address_of block.name) address allowed.aligned un (address_of block.name == address) refl) h
 bare_step f v k e (End name guess) a es address of allowed un h =
-    bare_end (a == live_word name.turn guess) (is_live a && (turn_of a == name.turn)) (Event.End k name e) (Event.Reject k name (reason_of name a)) es address
-    (bare_ended (address_of name == address) address (live_in es address) (gives_in es address) (ends_in es address) (other_address (address_of name) address of.1 un (address_of name == address) refl) h) h h
+    end_if (λ x. BareIn x address) (a == live_word name.turn guess) (is_live a && (turn_of a == name.turn)) (Event.End k name e) (Event.Reject k name (reason_of name a)) es
+    (λ hit. bare_ended (address_of name == address) address (live_in es address) (gives_in es address) (ends_in es address) (other_address (address_of name) address of.1 un (address_of name == address) refl) h) h h
 bare_step f v k e s a es address of allowed un h = h
 
 pub bare_of : (f : Profile) (l : Whole) → Legal f l → (address : ℕ) → address % 16 ≢ 0 → IsBare address (live_in (visible l) address) (gives_in (visible l) address) (ends_in (visible l) address)
@@ -312,7 +280,7 @@ bare_of f (t ∷ l) legal address un = bare_step f (part t.actor l) t.actor (epo
 
 -- no block lives at an address that is no multiple of 16
 pub live_is_aligned : (f : Profile) (l : Whole) → Legal f l → (address : ℕ) (b : Live) → live_in (visible l) address ≡ Some b → address % 16 ≡ 0
-live_is_aligned f l legal address b is = elim (cases_eq (address % 16) 0) [ inl e ↦ e | inr ne ↦ absurd (none_told (sym (bare_of f l legal address ne).no_block ∙ is)) ]
+live_is_aligned f l legal address b is = elim (cases_eq (address % 16) 0) [ inl e ↦ e | inr ne ↦ absurd (none-some b (sym (bare_of f l legal address ne).no_block ∙ is)) ]
 
 -- a live block has its own address, which is that of a grain
 pub live_of : (f : Profile) (l : Whole) → IsValid f → Legal f l → (address : ℕ) (b : Live) → live_in (visible l) address ≡ Some b

@@ -1,14 +1,12 @@
 -- The visible events of every legal list are a run of the machine.
 use Rattle.std.proofs.Common.{◌≡◌, ◌≢◌, ℕ, ◌+◌, ◌-◌, ◌*◌, ◌/◌, ◌%◌, ◌^◌, ◌<◌, ◌≤◌, ◌==◌, nat_lt, Bool, true, false, ◌&&◌, if◌then◌else◌, List, [], ◌∷◌, Option, Some, None, refl, ap, sym, ◌∙◌, subst, arith}
-use Rattle.std.proofs.lemmas.Bool.{false≢true, eqb-true, eq-eqb, and_from}
+use Rattle.std.proofs.lemmas.Bool.{false≢true, eqb-true, eq-eqb, and_from, cond_both, false_from_ne_true}
 use Rattle.std.proofs.lemmas.Bool.Decides.{nat_tests}
-use Rattle.pas_profile.specs.Directories.{IsKind, kind_number, deed_word_of}
+use Rattle.pas_profile.specs.Directories.{kind_number, deed_word_of}
 use Rattle.pas_profile.specs.Lives.{live_word, is_live, turn_of}
 use Rattle.pas_profile.specs.Profiles.{IsValid, IsPage, IsDirectoryOf}
 use Rattle.pas_profile.specs.declared.profile.Profile.{Profile}
 use Rattle.pas_profile.specs.declared.directory.Directory.{Directory}
-use Rattle.pas_profile.specs.declared.directory.Kind.{Kind}
-use Rattle.pas_profile.specs.declared.directory.Kind.TheVariants.{Class, Bitfit, Shared, Large}
 use Rattle.pas_profile.specs.declared.name.Block.{Block}
 use Rattle.pas_profile.specs.declared.name.Name.{Name}
 use Rattle.pas_profile.specs.declared.word.Word.{Word}
@@ -25,41 +23,30 @@ use Rattle.pas_steps.specs.Lists.{Whole, word_after, part, visible, Legal}
 use Rattle.pas_steps.specs.declared.step.Step.{Step}
 use Rattle.pas_steps.specs.declared.step.Step.TheVariants.{Deed, Back, Give, End, Unback}
 use Rattle.pas_core.specs.Good.{word_of_deed, word_of_backed, IsLifeOf, IsLifeOfNone, IsLifeOfLive, AgreesWithWords}
-use Rattle.pas_core.proofs.Grains.{own_grain, some_grain, placed_once}
+use Rattle.pas_core.proofs.Grains.{some_grain, placed_once}
 use Rattle.pas_core.proofs.DeedWords.{known_is}
 use Rattle.pas_core.proofs.Knowledge.{deeds_known, backed_known}
 use Rattle.pas_core.proofs.Deeds.{deed_of, backed_of, directory_is_of, is_backed}
 use Rattle.pas_core.proofs.Lives.{life_is_known, block_of_word, turn_is, live_is_live, no_block, dead_while_held, life_of, life_at, bare_of, live_of}
 use Rattle.pas_core.proofs.Ends.{IsMet, met}
 use Rattle.pas_core.proofs.Stamps.{stamp_known, ends_before}
+use Rattle.pas_profile.proofs.Codecs.{kind_number_lt}
+use Rattle.pas_profile.proofs.Runs.{run_of, first_of_run}
 
 -- the machine that the visible events reach agrees with the words
 pub agrees : (f : Profile) (l : Whole) → IsValid f → Legal f l → AgreesWithWords f l
 agrees f l valid legal = record { deed = deed_of f l legal; backed = backed_of f l legal; life = life_of f l valid legal; bare = bare_of f l legal }
 
 -- ---- grains of a run
-pub in_run-true : (g n x : ℕ) → in_run g n x ≡ true → (g ≤ x) × (x < g + n)
-in_run-true g n x h = (grind (arith, nat_tests, h), grind (arith, nat_tests, h))
-
-not_true : (t : Bool) → (t ≡ true → ⊥) → t ≡ false
-not_true true h = absurd (h refl)
-not_true false h = refl
-
 page_of_run : (f : Profile) (address room x : ℕ) → 4096 ≤ address → address + room ≤ 4096 * (f.pages + 1) → address % 16 ≡ 0 → in_run (address / 16) (room / 16) x ≡ true → IsPage f (x / 256)
 page_of_run f address room x low high aligned run =
-    let both : (address / 16 ≤ x) × (x < address / 16 + room / 16) = in_run-true (address / 16) (room / 16) x run in
+    let both : (address / 16 ≤ x) × (x < address / 16 + room / 16) = run_of (address / 16) (room / 16) x run in
     (omega (arith, both.0, low), omega (arith, both.1, high, aligned))
 
 -- ---- deeds and backed pages that are known are the machine's
-one_backed : (b : Bool) → 1 ≡ word_of_backed b → b ≡ true
+pub one_backed : (b : Bool) → 1 ≡ word_of_backed b → b ≡ true
 one_backed true h = refl
 one_backed false h = absurd (omega (arith, h))
-
-kind_small : (kind : Kind) → IsKind kind → kind_number kind < 23
-kind_small (Class class) h = omega (arith, h)
-kind_small Bitfit h = omega arith
-kind_small Shared h = omega arith
-kind_small Large h = omega arith
 
 no_deed : (o : Option Directory) → 0 ≡ word_of_deed o → o ≡ None
 no_deed None h = refl
@@ -77,8 +64,8 @@ record HasDeed (f : Profile) (o : Option Directory) (heap : ℕ) : Type 0 where
 deed_from : (f : Profile) (o : Option Directory) (d : Directory) → ((d' : Directory) → o ≡ Some d' → IsDirectoryOf f d') → IsDirectoryOf f d → deed_word_of d ≡ word_of_deed o → HasDeed f o d.heap
 deed_from f None d of is_of h = absurd (omega (arith, h))
 deed_from f (Some d') d of is_of h =
-    let one : kind_number d'.kind < 23 = kind_small d'.kind (of d' refl).kind in
-    let two : kind_number d.kind < 23 = kind_small d.kind is_of.kind in
+    let one : kind_number d'.kind < 23 = kind_number_lt d'.kind (of d' refl).kind in
+    let two : kind_number d.kind < 23 = kind_number_lt d.kind is_of.kind in
     record { directory = d'; deed = refl; of_heap = omega (arith, h, one, two) }
 
 bearing : (f : Profile) (l : Whole) → IsValid f → Legal f l → (k heap p : ℕ) → IsPage f p → KnowsBearing f (part k l) heap p → Bears f (visible l) heap p
@@ -96,7 +83,7 @@ bearing f l valid legal k heap p page knows =
 
 -- no block lives where an actor holds the grains
 clear : (f : Profile) (l : Whole) → IsValid f → Legal f l → (k g n : ℕ) → ((x : ℕ) → in_run g n x ≡ true → holds (part k l) x ≡ true) → IsClear (visible l) g n
-clear f l valid legal k g n held address b live x run = not_true (in_run g n x) (λ here.
+clear f l valid legal k g n held address b live x run = false_from_ne_true (in_run g n x) (λ here.
     no_block f l k (address / 16) x b (gives_in (visible l) address) (ends_in (visible l) address) (placed_once f l valid legal x) (held x here) (live_of f l valid legal address b live) run)
 
 give_turn : (f : Profile) (g word : ℕ) (live : Option Live) (gives ends : ℕ) → IsLifeOf f g word live gives ends → live ≡ None → turn_of word ≡ gives
@@ -105,10 +92,6 @@ give_turn f g word live gives ends h none =
     turn_is f g word live gives ends h ∙ sym dead.gives_are
 
 -- ---- events of steps
-one_if : (z : Bool) (f : Profile) (e : Event) (es : List Event) → Run f es → (z ≡ true → Admits f es e) → Run f (with_event (if z then Some e else None) es)
-one_if true f e es run admits = (admits refl, run)
-one_if false f e es run admits = run
-
 reason : (x : Bool) (es : List Event) (name : Name) (turn : ℕ) → turn ≡ ends_in es (address_of name) → nat_lt name.turn turn ≡ x → (IsLive es name → ⊥) → IsReason es name (if x then Why.Ended else Why.NoBlock)
 reason true es name turn is e dead = let lt : name.turn < turn = grind (arith, nat_tests, e) in omega (arith, lt, is)
 reason false es name turn is e dead = let ge : turn ≤ name.turn = grind (arith, nat_tests, e) in (omega (arith, ge, is), dead)
@@ -148,13 +131,13 @@ give_admits f l valid legal k block of allowed =
       turn = allowed.turn_is ∙ ap turn_of (life_is_known f l valid legal k (grain_of block.name) allowed.word allowed.known).1
           ∙ give_turn f (grain_of block.name) (word_after l (life_word_at (grain_of block.name))) (live_in (visible l) (address_of block.name)) (gives_in (visible l) (address_of block.name)) (ends_in (visible l) (address_of block.name)) life
           (dead_while_held f l k (grain_of block.name) (live_in (visible l) (address_of block.name)) (gives_in (visible l) (address_of block.name)) (ends_in (visible l) (address_of block.name)) (placed_once f l valid legal (grain_of block.name))
-          (allowed.held (grain_of block.name) (own_grain (grain_of block.name) (length_of block) (some_grain block.room allowed.whole allowed.some))) life);
+          (allowed.held (grain_of block.name) (first_of_run (grain_of block.name) (length_of block) (some_grain block.room allowed.whole allowed.some))) life);
     }
 
 -- no live block touches a page each of whose grains an actor holds
 untouched_if : (f : Profile) (l : Whole) → IsValid f → Legal f l → (k page address : ℕ) → ((g : ℕ) → g / 256 ≡ page → holds (part k l) g ≡ true) → (live : Option Live) → live_in (visible l) address ≡ live → touches live page ≡ false
 untouched_if f l valid legal k page address held None is = refl
-untouched_if f l valid legal k page address held (Some b) is = not_true (touches (Some b) page) (λ h.
+untouched_if f l valid legal k page address held (Some b) is = false_from_ne_true (touches (Some b) page) (λ h.
     let life : IsLifeOfLive f (address / 16) (word_after l (life_word_at (address / 16))) b (gives_in (visible l) address) (ends_in (visible l) address) = live_of f l valid legal address b is in
     let first : address_of b.block.name / 16 ≡ address / 16 = let e = life.address in omega (arith, e) in
     let at : IsMet (address / 16) (length_of b.block) page = met (address / 16) (length_of b.block) page life.some (ap (λ g. meets_page g (length_of b.block) page) (sym first) ∙ h) in
@@ -173,12 +156,15 @@ unback_admits f l valid legal k page of may =
     )
 
 admits : (f : Profile) (l : Whole) → IsValid f → Legal f l → (k : ℕ) (s : Step) (a : ℕ) → IsStepOf f s → Allowed f (part k l) s → a ≡ word_after l (target s) → Run f (visible l) → Run f (with_event (event_of k (epoch_of (part k l)) s a) (visible l))
-admits f l valid legal k (Deed q d) a of allowed is run = one_if (a == 0) f (Event.Deed k q d) (visible l) run (λ z. (of.0, of.1.heap, no_deed (deed_in (visible l) q) (sym (eqb-true a 0 z) ∙ is ∙ deed_of f l legal q)))
-admits f l valid legal k (Back q) a of allowed is run = one_if (a == 0) f (Event.Back k q) (visible l) run (λ z. (
-  of,
-  some_deed (deed_in (visible l) q) (λ none. allowed.1 (known_is (known_deed (part k l) q) (word_after l (Word.Deed q)) (deeds_known f l legal k q) allowed.1 ∙ deed_of f l legal q ∙ none)),
-  is_backed true (backed_in (visible l) q) a (is ∙ backed_of f l legal q) z,
-))
+admits f l valid legal k (Deed q d) a of allowed is run = cond_both (a == 0) (Some (Event.Deed k q d)) None (λ o. Run f (with_event o (visible l))) (λ z. ((of.0, of.1.heap, no_deed (deed_in (visible l) q) (sym (eqb-true a 0 z) ∙ is ∙ deed_of f l legal q)), run)) (λ none. run)
+admits f l valid legal k (Back q) a of allowed is run = cond_both (a == 0) (Some (Event.Back k q)) None (λ o. Run f (with_event o (visible l))) (λ z. (
+  (
+    of,
+    some_deed (deed_in (visible l) q) (λ none. allowed.1 (known_is (known_deed (part k l) q) (word_after l (Word.Deed q)) (deeds_known f l legal k q) allowed.1 ∙ deed_of f l legal q ∙ none)),
+    is_backed true (backed_in (visible l) q) a (is ∙ backed_of f l legal q) z,
+  ),
+  run,
+)) (λ none. run)
 admits f l valid legal k (Give block) a of allowed is run = (give_admits f l valid legal k block of allowed, run)
 admits f l valid legal k (End name guess) a of allowed is run =
     end_admits f (a == live_word name.turn guess) (is_live a && (turn_of a == name.turn)) k (epoch_of (part k l)) (grain_of name) a (word_after l (life_word_at (grain_of name))) guess name (visible l) run (of.0, of.1) is of.2 (life_at f l valid legal (address_of name) of.1) refl refl

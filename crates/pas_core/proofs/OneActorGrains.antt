@@ -1,7 +1,7 @@
 -- Laws of one actor alone: which grains are free, and which deed words there are, before and after the steps of one actor that gives and ends no
 -- block, where the whole list is legal.
 use Rattle.std.proofs.Common.{◌≡◌, ◌≢◌, ℕ, ◌+◌, ◌*◌, ◌/◌, ◌%◌, ◌<◌, ◌==◌, Bool, true, false, ◌&&◌, ◌||◌, if◌then◌else◌, List, [], ◌∷◌, ◌++◌, refl, ap, sym, ◌∙◌, arith, inl, inr, true≢false, None, Some}
-use Rattle.std.proofs.lemmas.Bool.{cases_Bool, eq-eqb, eqb-true, false≢true}
+use Rattle.std.proofs.lemmas.Bool.{cases_Bool, eq-eqb, eqb-true, cond_both, or_left, or_parts, or_from}
 use Rattle.pas_profile.specs.Classes.{has_bit}
 use Rattle.pas_profile.specs.Directories.{deed_word_of}
 use Rattle.pas_profile.specs.Layouts.{same_word}
@@ -36,13 +36,9 @@ IsPlain Puts = Unit {0}
 IsPlain (Gives a) = ⊥
 IsPlain (Ends a) = ⊥
 
-plain_if : (t : Bool) (m : Move) → IsPlain m → IsPlain (if t then m else Stays)
-plain_if true m h = h
-plain_if false m h = tt
-
 plain_move : (s : Step) (a g : ℕ) → is_in lending (kind_of s) ≡ false → IsPlain (grain_move s a g)
-plain_move (Take p w mask) a g h = plain_if (in_mask p w mask g && has_bit a (g % 64)) Gets tt
-plain_move (Put p w mask) a g h = plain_if (in_mask p w mask g) Puts tt
+plain_move (Take p w mask) a g h = cond_both (in_mask p w mask g && has_bit a (g % 64)) Gets Stays IsPlain (λ here. tt) (λ other. tt)
+plain_move (Put p w mask) a g h = cond_both (in_mask p w mask g) Puts Stays IsPlain (λ here. tt) (λ other. tt)
 plain_move (Give b) a g h = absurd (true≢false h)
 plain_move (End n b) a g h = absurd (true≢false h)
 plain_move s a g h = tt
@@ -67,17 +63,12 @@ bit_moved f k l g m xs legal = free_step f (triples k xs ++ l) (epoch_of (part k
 -- ---- a grain that was free at entry is free, or the call holds it
 free_move : (m : Move) (bit held : Bool) → IsPlain m → (bit || held) ≡ true → (free_moved m bit || held_after m held) ≡ true
 free_move Stays bit held plain h = h
-free_move Gets bit held plain h = refl
-free_move Puts bit held plain h = refl
 free_move (Gives a) bit held plain h = absurd plain
 free_move (Ends a) bit held plain h = absurd plain
-
-or_none_right : (x : Bool) → x ≡ true → (x || false) ≡ true
-or_none_right true h = refl
-or_none_right false h = absurd (false≢true h)
+free_move s bit held plain h = refl
 
 free_or_held : (f : Profile) (k : ℕ) (l : Whole) (g : ℕ) (xs : List Made) → Legal f (triples k xs ++ l) → LendsNone xs → bit_of l g ≡ true → (bit_of (triples k xs ++ l) g || holds xs g) ≡ true
-free_or_held f k l g [] legal lends free = or_none_right (bit_of l g) free
+free_or_held f k l g [] legal lends free = or_left (bit_of l g) false free
 free_or_held f k l g (m ∷ xs) legal lends free =
     ap (λ x. x || held_after (grain_move m.step m.answer g) (holds xs g)) (bit_moved f k l g m xs legal)
     ∙ free_move (grain_move m.step m.answer g) (bit_of (triples k xs ++ l) g) (holds xs g) (plain_move m.step m.answer g lends.0) (free_or_held f k l g xs legal.1 lends.1 free)
@@ -93,8 +84,7 @@ used_move : (k : ℕ) (m : Move) (o : Place) (bit held : Bool) → IsPlain m →
 used_move k Stays o bit held plain fits not_free not_held b h = (b, h)
 used_move k Gets o bit held plain fits not_free not_held b h = absurd (true≢false (sym (ap is_free fits) ∙ not_free))
 used_move k Puts o bit held plain fits not_free not_held b h = absurd (true≢false (sym (ap (is_held_by k) fits ∙ held_own k) ∙ not_held))
-used_move k (Gives a) o bit held plain fits not_free not_held b h = absurd plain
-used_move k (Ends a) o bit held plain fits not_free not_held b h = absurd plain
+used_move k s o bit held plain fits not_free not_held b h = absurd plain
 
 used_next : (f : Profile) (k : ℕ) (l : Whole) (g : ℕ) (m : Made) (xs : List Made) → IsValid f → Legal f (triples k (m ∷ xs) ++ l) → is_in lending (kind_of m.step) ≡ false → Used k l g xs → Used k l g (m ∷ xs)
 used_next f k l g m xs valid legal search used =
@@ -136,19 +126,12 @@ free_shown f k l page b r [] legal lends lt free h = absurd h
 free_shown f k l page b r (m ∷ xs) legal lends lt free (inr h) = free_shown f k l page b r xs legal.1 lends.1 lt free h
 free_shown f k l page b r (m ∷ xs) legal lends lt free (inl s) = shown f k l page b r m xs legal lt s ∙ free_or_held f k l (page * 256 + b) xs legal.1 lends.1 free
 
-or_both : (x y : Bool) → (x || y) ≡ false → (x ≡ false) × (y ≡ false)
-or_both true y h = absurd (true≢false h)
-or_both false y h = (refl, h)
-
-both_or : (x y : Bool) → x ≡ false → y ≡ false → (x || y) ≡ false
-both_or x y a b = ap (λ t. t || y) a ∙ b
-
 -- one that was read as not free, and that the actor didn't hold at entry, is used from then on
 shown_used : (f : Profile) (k : ℕ) (l : Whole) (page b : ℕ) (r : Readings) (xs : List Made) → IsValid f → Legal f (triples k xs ++ l) → LendsNone xs → b < 256 → r b ≡ false → holds (part k l) (page * 256 + b) ≡ false → Once (ShowsHere page (b / 64) r) xs → Used k l (page * 256 + b) xs
 shown_used f k l page b r [] valid legal lends lt miss none h = absurd h
 shown_used f k l page b r (m ∷ xs) valid legal lends lt miss none (inr h) = used_next f k l (page * 256 + b) m xs valid legal lends.0 (shown_used f k l page b r xs valid legal.1 lends.1 lt miss none h)
 shown_used f k l page b r (m ∷ xs) valid legal lends lt miss none (inl s) =
-    let parts = or_both (bit_of (triples k xs ++ l) (page * 256 + b)) (holds xs (page * 256 + b)) (sym (shown f k l page b r m xs legal lt s) ∙ miss) in
+    let parts = or_parts (bit_of (triples k xs ++ l) (page * 256 + b)) (holds xs (page * 256 + b)) (sym (shown f k l page b r m xs legal lt s) ∙ miss) in
     used_next f k l (page * 256 + b) m xs valid legal lends.0 (parts.0, holds_own (page * 256 + b) xs (part k l) none ∙ parts.1)
 
 -- one that was used at entry is read as not free
@@ -157,7 +140,7 @@ used_shown f k l page b r [] valid legal lends lt used h = absurd h
 used_shown f k l page b r (m ∷ xs) valid legal lends lt used (inr h) = used_shown f k l page b r xs valid legal.1 lends.1 lt used h
 used_shown f k l page b r (m ∷ xs) valid legal lends lt used (inl s) =
     let now : Used k l (page * 256 + b) xs = used_all f k l (page * 256 + b) xs valid legal.1 lends.1 used in
-    shown f k l page b r m xs legal lt s ∙ both_or (bit_of (triples k xs ++ l) (page * 256 + b)) (holds xs (page * 256 + b)) now.0 (sym (holds_own (page * 256 + b) xs (part k l) used.1) ∙ now.1)
+    shown f k l page b r m xs legal lt s ∙ or_from (bit_of (triples k xs ++ l) (page * 256 + b)) (holds xs (page * 256 + b)) now.0 (sym (holds_own (page * 256 + b) xs (part k l) used.1) ∙ now.1)
 
 -- ---- a page that didn't fit
 -- it fitted neither at entry ..
@@ -216,7 +199,7 @@ fit_entry no_fit f k l page r xs fewer valid legal lends fits read held none =
 abbrev pub MakesNoEvent : List Made → Type 0
 MakesNoEvent = Always (λ m before. (k epoch : ℕ) → event_of k epoch m.step m.answer ≡ None)
 
-no_deed_event : (t : Bool) (e : Event) → (if t then Some e else None) ≡ None → t ≡ false
+pub no_deed_event : (t : Bool) (e : Event) → (if t then Some e else None) ≡ None → t ≡ false
 no_deed_event true e h = cc
 no_deed_event false e h = refl
 

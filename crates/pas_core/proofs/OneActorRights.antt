@@ -1,6 +1,6 @@
 -- Laws of one actor alone: where the right of a page is before and after the steps of one actor, where the whole list is legal.
 use Rattle.std.proofs.Common.{◌≡◌, ◌≢◌, ℕ, ◌/◌, ◌%◌, ◌==◌, Bool, true, false, ◌&&◌, if◌then◌else◌, List, [], ◌∷◌, ◌++◌, refl, ap, sym, ◌∙◌, subst, inl, inr, true≢false}
-use Rattle.std.proofs.lemmas.Bool.{cases_Bool, cases_eq, eq-eqb, eqb-true, false≢true, and_parts}
+use Rattle.std.proofs.lemmas.Bool.{cases_Bool, cases_eq, eq-eqb, eqb-true, false≢true, and_parts, cond_both}
 use Rattle.pas_profile.specs.Classes.{has_bit}
 use Rattle.pas_profile.specs.Directories.{deed_word_of, deed_word_numbered, number_of}
 use Rattle.pas_profile.specs.Profiles.{IsValid, IsDirectoryOf}
@@ -28,7 +28,7 @@ use Rattle.pas_core.proofs.Rights.{one_has_right, offered_has_deed, offered_spot
 use Rattle.pas_core.proofs.Nexts.{agrees_next}
 use Rattle.pas_steps.specs.Evidence.{ReadsEligible, ReadsParked, ZeroHere, OneHere, ParkedHere, LacksAfter, KeptHere}
 
--- ---- a page whose right the call never had stays where it was
+-- ---- a page whose right the call false≢true (got_if had stays it).1 was
 stays_put : (k : ℕ) (w : Way) (o : Spot) → had_after w false ≡ false → Suits k w o → (o ≡ With k → ⊥) → spot_after k w o ≡ o
 stays_put k Rests o lacks suits not_with = refl
 stays_put k (ToOffer n) o lacks suits not_with = absurd (not_with suits)
@@ -90,30 +90,22 @@ deed_later k l p [] some = refl
 deed_later k l p (m ∷ xs) some = let e = deed_later k l p xs some in deed_kept (triples k xs ++ l) (triple k m) p (λ z. some (sym e ∙ z)) ∙ e
 
 -- ---- an actor that has a right knows the page's deed
-got_if : (t : Bool) (w : Way) → had_after (if t then w else Rests) false ≡ true → t ≡ true
-got_if true w h = refl
+got_if : (t : Bool) (w : Way) → had_after (if t then w else Rests) false ≡ true → (t ≡ true) × (had_after w false ≡ true)
+got_if true w h = (refl, h)
 got_if false w h = absurd (false≢true h)
 
 deed_here : (t z : Bool) (d : Directory) (a known : ℕ) → t ≡ true → z ≡ true → (if t then (if z then deed_word_of d else a) else known) ≢ 0
 deed_here t z d a known ht hz e = deed_word_of-positive d (sym (ap (λ x. if x then (if z then deed_word_of d else a) else known) ht ∙ ap (λ x. if x then deed_word_of d else a) hz) ∙ e)
 
-never : (t : Bool) (w : Way) → had_after w false ≡ false → had_after (if t then w else Rests) false ≡ true → ⊥
-never true w lacks h = true≢false (sym h ∙ lacks)
-never false w lacks h = false≢true h
-
-either_ne : (t : Bool) (n m : ℕ) → n ≢ 0 → m ≢ 0 → (if t then n else m) ≢ 0
-either_ne true n m h k = h
-either_ne false n m h k = k
-
 gains_known : (f : Profile) (v : View) (s : Step) (a p : ℕ) → Allowed f v s → had_after (way s a p) false ≡ true → deed_after s a p (known_deed v p) ≢ 0
-gains_known f v (Deed q d) a p allowed h = let parts = and_parts (q == p) (a == 0) (got_if ((q == p) && (a == 0)) ByDeed h) in deed_here (q == p) (a == 0) d a (known_deed v p) parts.0 parts.1
+gains_known f v (Deed q d) a p allowed h = let parts = and_parts (q == p) (a == 0) (got_if ((q == p) && (a == 0)) ByDeed h).0 in deed_here (q == p) (a == 0) d a (known_deed v p) parts.0 parts.1
 gains_known f v (TakeRight q d) a p allowed h =
-    let parts = and_parts (q == p) (has_bit a (p % 64)) (got_if ((q == p) && has_bit a (p % 64)) (FromOffer (number_of d)) h) in
-    either_ne ((q / 64 == p / 64) && has_bit a (p % 64)) (deed_word_numbered (number_of d)) (known_deed v p) (numbered_ne (number_of d)) (λ z. deed_word_of-positive d (sym allowed ∙ ap (known_deed v) (eqb-true q p parts.0) ∙ z))
-gains_known f v (Offer q d) a p allowed h = absurd (never (q == p) (ToOffer (number_of d)) refl h)
-gains_known f v (Park q) a p allowed h = absurd (never (q == p) ToParked refl h)
+    let parts = and_parts (q == p) (has_bit a (p % 64)) (got_if ((q == p) && has_bit a (p % 64)) (FromOffer (number_of d)) h).0 in
+    cond_both ((q / 64 == p / 64) && has_bit a (p % 64)) (deed_word_numbered (number_of d)) (known_deed v p) (λ x. x ≢ 0) (λ here. (numbered_ne (number_of d))) (λ other. (λ z. deed_word_of-positive d (sym allowed ∙ ap (known_deed v) (eqb-true q p parts.0) ∙ z)))
+gains_known f v (Offer q d) a p allowed h = absurd (false≢true (got_if (q == p) (ToOffer (number_of d)) h).1)
+gains_known f v (Park q) a p allowed h = absurd (false≢true (got_if (q == p) ToParked h).1)
 gains_known f v (Unpark q) a p allowed h =
-    let parts = and_parts (q == p) (has_bit a (p % 64)) (got_if ((q == p) && has_bit a (p % 64)) FromParked h) in
+    let parts = and_parts (q == p) (has_bit a (p % 64)) (got_if ((q == p) && has_bit a (p % 64)) FromParked h).0 in
     λ z. allowed (ap (known_deed v) (eqb-true q p parts.0) ∙ z)
 gains_known f v s a p allowed h = absurd (false≢true h)
 
@@ -121,18 +113,14 @@ own_known : (f : Profile) (v : View) (m : Made) (p : ℕ) → Allowed f v m.step
 own_known f v m p allowed agrees known true e h = λ z. known e (sym (deed_stays f (m ∷ []) v p (agrees, tt) (known e)) ∙ z)
 own_known f v m p allowed agrees known false e h = gains_known f v m.step m.answer p allowed h
 
-part_known : (t : Bool) (m : Made) (v : View) (p : ℕ) → (has_right v p ≡ true → known_deed v p ≢ 0) → (t ≡ true → has_right (m ∷ v) p ≡ true → known_deed (m ∷ v) p ≢ 0) → has_right (if t then m ∷ v else v) p ≡ true → known_deed (if t then m ∷ v else v) p ≢ 0
-part_known true m v p old new h = new refl h
-part_known false m v p old new h = old h
-
 pub right_known : (f : Profile) (l : Whole) → IsValid f → Legal f l → (k p : ℕ) → has_right (part k l) p ≡ true → known_deed (part k l) p ≢ 0
 right_known f [] valid legal k p h = absurd (false≢true h)
 right_known f (t ∷ l) valid legal k p h =
-    part_known (t.actor == k) t.made (part k l) p (right_known f l valid legal.1 k p) (λ mine has.
+    cond_both (t.actor == k) (t.made ∷ part k l) (part k l) (λ v. has_right v p ≡ true → known_deed v p ≢ 0) (λ mine has.
     let same : t.actor ≡ k = eqb-true t.actor k mine in
     let allowed : Allowed f (part k l) t.made.step = subst (λ j. Allowed f (part j l) t.made.step) same legal.0.allowed in
     let agrees : Agrees f (part k l) t.made.step t.made.answer = agrees_next f l k (part k l) t.made.step t.made.answer valid legal.1 refl legal.0.of_region legal.0.answer_is in
-    own_known f (part k l) t.made p allowed agrees (right_known f l valid legal.1 k p) (has_right (part k l) p) refl has) h
+    own_known f (part k l) t.made p allowed agrees (right_known f l valid legal.1 k p) (has_right (part k l) p) refl has) (λ other. right_known f l valid legal.1 k p) h
 
 -- An actor that has no right of a page that it knows to be of the directory had none at entry of a page that turns out to be so.
 pub entry_lacks : (f : Profile) (k : ℕ) (l : Whole) (d : Directory) (p : ℕ) (xs : List Made) → IsValid f → Legal f l → (KnowsDeed p d (part k l) → has_right (part k l) p ≡ false) → word_after (triples k xs ++ l) (Word.Deed p) ≡ deed_word_of d → has_right (part k l) p ≡ false

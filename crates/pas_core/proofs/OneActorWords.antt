@@ -1,5 +1,5 @@
 -- Laws of one actor alone: bits of free and eligible words, and deed words, that steps of some kinds leave as they were.
-use Rattle.std.proofs.Common.{◌≡◌, ℕ, ◌/◌, ◌||◌, Bool, true, false, if◌then◌else◌, List, [], ◌∷◌, ◌++◌, refl, ap, ◌∙◌, bit_or, true≢false}
+use Rattle.std.proofs.Common.{◌≡◌, ℕ, ◌/◌, Bool, true, false, if◌then◌else◌, List, [], ◌∷◌, ◌++◌, refl, ap, ◌∙◌, bit_or, true≢false}
 use Rattle.pas_profile.specs.Classes.{has_bit}
 use Rattle.pas_profile.specs.Directories.{number_of}
 use Rattle.pas_profile.specs.Layouts.{same_word}
@@ -16,6 +16,7 @@ use Rattle.pas_steps.specs.declared.step.Step.TheVariants.{Look, Deed, Take, Put
 use Rattle.pas_steps.proofs.Apart.{in_apart}
 use Rattle.pas_bits.proofs.Words.{bit_of_or}
 use Rattle.pas_core.proofs.DeedWords.{looked}
+use Rattle.std.proofs.lemmas.Bool.{or_left}
 
 -- what no step of these kinds ends holds of a word after them
 over : (Q : ℕ → Type 0) (x : Word) (ks ls : Kinds) → ((e : ℕ) (s : Step) (old : ℕ) → is_in ls (kind_of s) ≡ false → Q old → Q (if same_word (target s) x then new_value e s old else old)) → apart ks ls ≡ true
@@ -24,11 +25,8 @@ over Q x ks ls step w k [] l only h = h
 over Q x ks ls step w k (m ∷ xs) l only h =
     step (epoch_of (part k (triples k xs ++ l))) m.step (word_after (triples k xs ++ l) x) (in_apart ks ls (place_of (kind_of m.step)) w only.0) (over Q x ks ls step w k xs l only.1 h)
 
-first_or : (x y : Bool) → x ≡ true → (x || y) ≡ true
-first_or x y h = ap (λ t. t || y) h
-
 or_keeps : (t : Bool) (n m b : ℕ) → has_bit n b ≡ true → has_bit (if t then bit_or n m else n) b ≡ true
-or_keeps true n m b h = bit_of_or n m b ∙ first_or (has_bit n b) (has_bit m b) h
+or_keeps true n m b h = bit_of_or n m b ∙ or_left (has_bit n b) (has_bit m b) h
 or_keeps false n m b h = h
 
 free_step : (e : ℕ) (s : Step) (p w old b : ℕ) → is_in (Taking ∷ []) (kind_of s) ≡ false → has_bit old b ≡ true → has_bit (if same_word (target s) (Word.Free p w) then new_value e s old else old) b ≡ true

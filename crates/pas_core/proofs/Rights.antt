@@ -1,7 +1,7 @@
 -- Where the right of each page is, the bits of page vectors that are set, and that what views know as free is free.
 use Rattle.std.proofs.Common.{◌≡◌, ◌≢◌, ℕ, ◌/◌, ◌%◌, ◌^◌, ◌<◌, ◌==◌, Bool, true, false, not, ◌&&◌, ◌||◌, if◌then◌else◌, [], ◌∷◌, refl, ap, sym, ◌∙◌, subst, arith, bit_and, bit_or, inl, inr}
 use Rattle.std.specs.Int.{bit_not, w64}
-use Rattle.std.proofs.lemmas.Bool.{false≢true, eqb-true, eqb-false, eq-eqb, and_parts, or_left, or_cases, false_from_ne_true}
+use Rattle.std.proofs.lemmas.Bool.{false≢true, eqb-true, eqb-false, eq-eqb, and_parts, or_left, or_cases, false_from_ne_true, cond_both}
 use Rattle.std.proofs.lemmas.Nat.Bits.{bit_at_ones}
 use Rattle.pas_profile.specs.Classes.{has_bit}
 use Rattle.pas_profile.specs.Directories.{IsKind, number_of, deed_word_of, deed_word_numbered}
@@ -11,18 +11,18 @@ use Rattle.pas_profile.specs.declared.profile.Profile.{Profile}
 use Rattle.pas_profile.specs.declared.directory.Directory.{Directory}
 use Rattle.pas_profile.specs.declared.word.Word.{Word}
 use Rattle.pas_steps.specs.Effects.{free_word_at, in_mask, target}
-use Rattle.pas_steps.specs.Views.{way, ToParked, ToOffer, FromParked, FromOffer, ByDeed, Rests, Way, View, has_right, known_deed, free_after, known_free, epoch_of}
+use Rattle.pas_steps.specs.Views.{way, ToParked, ToOffer, FromParked, FromOffer, ByDeed, Rests, Way, has_right, known_deed, free_after, known_free, epoch_of}
 use Rattle.pas_steps.specs.Allowed.{Allowed, IsStepOf}
 use Rattle.pas_steps.specs.Lists.{Whole, part, word_after, IsNext, Legal}
 use Rattle.pas_steps.specs.Agreement.{IsDeedWord}
 use Rattle.pas_steps.specs.declared.step.Step.{Step}
-use Rattle.pas_steps.specs.declared.step.Made.{Made}
-use Rattle.pas_steps.specs.declared.step.Step.TheVariants.{Look, Deed, Back, Take, Put, Give, End, TakeRight, Offer, Park, Unpark, Stamp, Hint, Tick, Unback, Unhint}
+use Rattle.pas_steps.specs.declared.step.Step.TheVariants.{Look, Deed, Take, Put, TakeRight, Offer, Park, Unpark, Hint, Unhint}
 use Rattle.pas_core.specs.Rights.{parked_bit, empty_bit, eligible_bit, IsRightInOnePlace}
 use Rattle.pas_bits.proofs.Words.{bit_cleared, bit_of_or, none_of_zero}
 use Rattle.pas_bits.proofs.PageVectors.{page_bit-clear, page_bit-set}
 use Rattle.pas_core.proofs.DeedWords.{next_value, looked, known_is, deed_words, deed_has_page, number_told, numbered_ne}
 use Rattle.pas_core.proofs.Spots.{Spot, Nowhere, With, Offered, InParked, is_with, is_offered, is_parked, is_with-true, is_offered-true, is_parked-true, no_deed, spot_after, spot_of, Suits, DeedFits, IsSpotted, step_suits, spotted}
+use Rattle.pas_steps.proofs.Flags.{was_set}
 
 -- ---- where the right of a page is
 -- at most one actor has the right of a page
@@ -86,16 +86,12 @@ right_in_one_place f l legal p = let at : IsSpotted l p = spotted f l legal p in
 
 -- the bit in the vector of the page's own directory says whether the right is offered
 abbrev pub is_on_offer : Spot → Bool
-is_on_offer Nowhere = false
-is_on_offer (With k) = false
 is_on_offer (Offered n) = true
-is_on_offer InParked = false
+is_on_offer s = false
 
 own_offer : (o : Spot) (d : Directory) → IsKind d.kind → DeedFits o (deed_word_of d) → is_offered (number_of d) o ≡ is_on_offer o
-own_offer Nowhere d kind fits = refl
-own_offer (With k) d kind fits = refl
 own_offer (Offered n) d kind fits = eq-eqb n (number_of d) (sym (number_told d n kind fits))
-own_offer InParked d kind fits = refl
+own_offer s d kind fits = refl
 
 pub own_eligible : (f : Profile) (l : Whole) → Legal f l → (p : ℕ) (d : Directory) → IsDirectoryOf f d → word_after l (Word.Deed p) ≡ deed_word_of d → eligible_bit l (number_of d) p ≡ is_on_offer (spot_of l p)
 own_eligible f l legal p d of deed =
@@ -119,14 +115,10 @@ hint_if : (f : Profile) (x was : Bool) (q p : ℕ) → (q == p) ≡ x → IsPage
 hint_if f true was q p e of h set = subst (IsPage f) (eqb-true q p e) of
 hint_if f false was q p e of h set = h set
 
-unhint_was : (x was : Bool) → (if x then false else was) ≡ true → was ≡ true
-unhint_was true was h = absurd (false≢true h)
-unhint_was false was h = h
-
 hint_next : (f : Profile) (e : ℕ) (s : Step) (p old : ℕ) → IsStepOf f s → (has_bit old (p % 64) ≡ true → IsPage f p) → has_bit (next_value e s (Word.Empty (p / 64)) old) (p % 64) ≡ true → IsPage f p
 hint_next f e (Look word) p old of h set = h (ap (λ n. has_bit n (p % 64)) (sym (looked (same_word word (Word.Empty (p / 64))) old)) ∙ set)
 hint_next f e (Hint q) p old of h set = hint_if f (q == p) (has_bit old (p % 64)) q p refl of h (sym (page_bit-set q p old true) ∙ set)
-hint_next f e (Unhint q) p old of h set = h (unhint_was (q == p) (has_bit old (p % 64)) (sym (page_bit-clear q p old true) ∙ set))
+hint_next f e (Unhint q) p old of h set = h (was_set (q == p) (has_bit old (p % 64)) (sym (page_bit-clear q p old true) ∙ set))
 hint_next f e s p old of h set = h set
 
 pub hinted_page : (f : Profile) (l : Whole) → Legal f l → (p : ℕ) → empty_bit l p ≡ true → IsPage f p
@@ -142,41 +134,14 @@ free_bit l g = has_bit (word_after l (free_word_at g)) (g % 64)
 
 -- the step clears the grain's bit
 abbrev takes : Step → ℕ → Bool
-takes (Look word) g = false
-takes (Deed q d) g = false
-takes (Back q) g = false
 takes (Take q w mask) g = in_mask q w mask g
-takes (Put q w mask) g = false
-takes (Give block) g = false
-takes (End name guess) g = false
-takes (TakeRight q d) g = false
-takes (Offer q d) g = false
-takes (Park q) g = false
-takes (Unpark q) g = false
-takes (Stamp q) g = false
-takes (Hint q) g = false
-takes (Tick raised) g = false
-takes (Unback q) g = false
-takes (Unhint q) g = false
+takes s g = false
 
 -- the step's actor gives the page's right away
 abbrev leaves : Step → ℕ → Bool
-leaves (Look word) p = false
-leaves (Deed q d) p = false
-leaves (Back q) p = false
-leaves (Take q w mask) p = false
-leaves (Put q w mask) p = false
-leaves (Give block) p = false
-leaves (End name guess) p = false
-leaves (TakeRight q d) p = false
 leaves (Offer q d) p = q == p
 leaves (Park q) p = q == p
-leaves (Unpark q) p = false
-leaves (Stamp q) p = false
-leaves (Hint q) p = false
-leaves (Tick raised) p = false
-leaves (Unback q) p = false
-leaves (Unhint q) p = false
+leaves s p = false
 
 take_keeps : (x y : Bool) (old mask b : ℕ) → mask < 2 ^ 64 → b < 64 → (x && y && has_bit mask b) ≡ false → has_bit old b ≡ true → has_bit (if x && y then bit_and old (bit_not w64 mask) else old) b ≡ true
 take_keeps true true old mask b hm hb misses h = bit_cleared old mask b hm hb ∙ ap (λ t. has_bit old b && not t) misses ∙ ap (λ t. t && true) h
@@ -187,13 +152,9 @@ put_keeps : (x : Bool) (old mask b : ℕ) → has_bit old b ≡ true → has_bit
 put_keeps true old mask b h = bit_of_or old mask b ∙ or_left (has_bit old b) (has_bit mask b) h
 put_keeps false old mask b h = h
 
-look_keeps : (x : Bool) (old b : ℕ) → has_bit old b ≡ true → has_bit (if x then old else old) b ≡ true
-look_keeps true old b h = h
-look_keeps false old b h = h
-
 -- a step that doesn't take a free grain leaves it free
 free_stays : (f : Profile) (e : ℕ) (s : Step) (g old : ℕ) → IsStepOf f s → takes s g ≡ false → has_bit old (g % 64) ≡ true → has_bit (next_value e s (free_word_at g) old) (g % 64) ≡ true
-free_stays f e (Look word) g old of misses h = look_keeps (same_word word (free_word_at g)) old (g % 64) h
+free_stays f e (Look word) g old of misses h = ap (λ n. has_bit n (g % 64)) (looked (same_word word (free_word_at g)) old) ∙ h
 free_stays f e (Take q w mask) g old of misses h = take_keeps (w == g / 64 % 4) (q == g / 256) old mask (g % 64) of.2 (omega arith) misses h
 free_stays f e (Put q w mask) g old of misses h = put_keeps ((w == g / 64 % 4) && (q == g / 256)) old mask (g % 64) h
 free_stays f e s g old of misses h = h
@@ -224,8 +185,7 @@ other_spot j k Rests o suits ne h = h
 other_spot j k ByDeed o suits ne h = let e : Nowhere ≡ With k = sym suits ∙ h in absurd cc
 other_spot j k (FromOffer n) o suits ne h = let e : Offered n ≡ With k = sym suits ∙ h in absurd cc
 other_spot j k FromParked o suits ne h = let e : InParked ≡ With k = sym suits ∙ h in absurd cc
-other_spot j k (ToOffer n) o suits ne h = absurd (with_differs j k o h ne suits)
-other_spot j k ToParked o suits ne h = absurd (with_differs j k o h ne suits)
+other_spot j k s o suits ne h = absurd (with_differs j k o h ne suits)
 
 -- the free bits that follow from the spot of the page's right
 pub record IsClear (l : Whole) (g : ℕ) : Type 0 where
@@ -237,30 +197,9 @@ Known j o bit = (o ≡ With j) × (bit ≡ true)
 
 -- the step tells its actor that the grain is free
 abbrev tells_free : Step → ℕ → ℕ → Bool → Bool
-tells_free (Look Word.Epoch) a g right = false
 tells_free (Look (Word.Free q w)) a g right = (w == g / 64 % 4) && (q == g / 256) && right && has_bit a (g % 64)
-tells_free (Look (Word.Life q h)) a g right = false
-tells_free (Look (Word.Deed q)) a g right = false
-tells_free (Look (Word.Backed q)) a g right = false
-tells_free (Look (Word.Stamp q)) a g right = false
-tells_free (Look (Word.Parked i)) a g right = false
-tells_free (Look (Word.Empty i)) a g right = false
-tells_free (Look (Word.Eligible d i)) a g right = false
 tells_free (Deed q d) a g right = (q == g / 256) && (a == 0)
-tells_free (Back q) a g right = false
-tells_free (Take q w mask) a g right = false
-tells_free (Put q w mask) a g right = false
-tells_free (Give block) a g right = false
-tells_free (End name guess) a g right = false
-tells_free (TakeRight q d) a g right = false
-tells_free (Offer q d) a g right = false
-tells_free (Park q) a g right = false
-tells_free (Unpark q) a g right = false
-tells_free (Stamp q) a g right = false
-tells_free (Hint q) a g right = false
-tells_free (Tick raised) a g right = false
-tells_free (Unback q) a g right = false
-tells_free (Unhint q) a g right = false
+tells_free s a g right = false
 
 tells_or : (x known : Bool) → (if x then true else known) ≡ (x || (not false && not false && known))
 tells_or true known = refl
@@ -296,7 +235,7 @@ told_free f l j e (Look (Word.Free q w)) a g at clear allowed is h =
     let rest = and_parts ((w == g / 64 % 4) && (q == g / 256)) (has_right (part j l) (g / 256)) parts.0 in
     let here = and_parts (w == g / 64 % 4) (q == g / 256) rest.0 in
     let same : a ≡ word_after l (free_word_at g) = is ∙ ap (λ x. word_after l (Word.Free q x)) (eqb-true w (g / 64 % 4) here.0) ∙ ap (λ x. word_after l (Word.Free x (g / 64 % 4))) (eqb-true q (g / 256) here.1) in
-    (is_with-true j (spot_of l (g / 256)) (sym (at.has j) ∙ rest.1), look_keeps ((w == g / 64 % 4) && (q == g / 256)) (word_after l (free_word_at g)) (g % 64) (ap (λ n. has_bit n (g % 64)) (sym same) ∙ parts.1))
+    (is_with-true j (spot_of l (g / 256)) (sym (at.has j) ∙ rest.1), ap (λ n. has_bit n (g % 64)) (looked ((w == g / 64 % 4) && (q == g / 256)) (word_after l (free_word_at g))) ∙ (ap (λ n. has_bit n (g % 64)) (sym same) ∙ parts.1))
 told_free f l j e (Deed q d) a g at clear allowed is h =
     let suits : Suits j (way (Deed q d) a (g / 256)) (spot_of l (g / 256)) = step_suits f l j (Deed q d) a (g / 256) at allowed is in
     (ap (λ t. spot_after j (if t then ByDeed else Rests) (spot_of l (g / 256))) h, clear.bare (subst (λ t. Suits j (if t then ByDeed else Rests) (spot_of l (g / 256))) h suits))
@@ -304,25 +243,16 @@ told_free f l j e (Unhint q) a g at clear allowed is h = absurd (false≢true h)
 told_free f l j e s a g at clear allowed is h = absurd (false≢true h)
 
 -- an actor's own step leaves it a right that it has and doesn't give away
-moves_to : (j : ℕ) (m : Way) (o : Spot) (x : Bool) → spot_after j m o ≡ With j → o ≡ With j → spot_after j (if x then m else Rests) o ≡ With j
-moves_to j m o true new old = new
-moves_to j m o false new old = old
-
-not_moved : (j : ℕ) (m : Way) (o : Spot) (x : Bool) → x ≡ false → o ≡ With j → spot_after j (if x then m else Rests) o ≡ With j
-not_moved j m o true e h = absurd (false≢true (sym e))
-not_moved j m o false e h = h
+moved_spot : (j : ℕ) (m : Way) (o : Spot) (x : Bool) → (x ≡ true → spot_after j m o ≡ With j) → o ≡ With j → spot_after j (if x then m else Rests) o ≡ With j
+moved_spot j m o x new old = cond_both x m Rests (λ w. spot_after j w o ≡ With j) new (λ other. old)
 
 own_spot : (j : ℕ) (s : Step) (a p : ℕ) (o : Spot) → leaves s p ≡ false → o ≡ With j → spot_after j (way s a p) o ≡ With j
-own_spot j (Deed q d) a p o stays h = moves_to j ByDeed o ((q == p) && (a == 0)) refl h
-own_spot j (TakeRight q d) a p o stays h = moves_to j (FromOffer (number_of d)) o ((q == p) && has_bit a (p % 64)) refl h
-own_spot j (Offer q d) a p o stays h = not_moved j (ToOffer (number_of d)) o (q == p) stays h
-own_spot j (Park q) a p o stays h = not_moved j ToParked o (q == p) stays h
-own_spot j (Unpark q) a p o stays h = moves_to j FromParked o ((q == p) && has_bit a (p % 64)) refl h
+own_spot j (Deed q d) a p o stays h = moved_spot j ByDeed o ((q == p) && (a == 0)) (λ here. refl) h
+own_spot j (TakeRight q d) a p o stays h = moved_spot j (FromOffer (number_of d)) o ((q == p) && has_bit a (p % 64)) (λ here. refl) h
+own_spot j (Offer q d) a p o stays h = moved_spot j (ToOffer (number_of d)) o (q == p) (λ here. absurd (false≢true (sym stays ∙ here))) h
+own_spot j (Park q) a p o stays h = moved_spot j ToParked o (q == p) (λ here. absurd (false≢true (sym stays ∙ here))) h
+own_spot j (Unpark q) a p o stays h = moved_spot j FromParked o ((q == p) && has_bit a (p % 64)) (λ here. refl) h
 own_spot j s a p o stays h = h
-
-free_of_part : (t : Bool) (m : Made) (v : View) (g : ℕ) (P : Type 0) → (t ≡ false → known_free v g ≡ true → P) → (t ≡ true → free_after m.step m.answer g (has_right v (g / 256)) (known_free v g) ≡ true → P) → known_free (if t then m ∷ v else v) g ≡ true → P
-free_of_part true m v g P old new told = new refl told
-free_of_part false m v g P old new told = old refl told
 
 -- what follows for the actor that made the step
 own_free : (f : Profile) (l : Whole) (j e : ℕ) (s : Step) (a g : ℕ) → IsSpotted l (g / 256) → IsClear l g → IsStepOf f s → Allowed f (part j l) s → a ≡ word_after l (target s)
@@ -364,10 +294,10 @@ cleared f (t ∷ l) legal g =
       bare = λ h.
           let was : spot_of l (g / 256) ≡ Nowhere = was_nowhere j (way s a (g / 256)) (spot_of l (g / 256)) h in
           free_stays f e s g (word_after l (free_word_at g)) next.of_region (takes_not f l j s g at next.allowed (nowhere_not_with j (spot_of l (g / 256)) was)) (clear.bare was);
-      free = λ k. free_of_part (j == k) t.made (part k l) g (Known k (spot_of (t ∷ l) (g / 256)) (free_bit (t ∷ l) g))
-          (λ ne h. other_free f l j k e s a g at clear next.of_region next.allowed next.answer_is ne h)
+      free = λ k. cond_both (j == k) (t.made ∷ part k l) (part k l) (λ v. known_free v g ≡ true → Known k (spot_of (t ∷ l) (g / 256)) (free_bit (t ∷ l) g))
           (λ same h. let e' : j ≡ k = eqb-true j k same in
-          subst (λ i. Known i (spot_of (t ∷ l) (g / 256)) (free_bit (t ∷ l) g)) e' (own_free f l j e s a g at clear next.of_region next.allowed next.answer_is (ap (λ i. free_after s a g (has_right (part i l) (g / 256)) (known_free (part i l) g)) e' ∙ h)));
+          subst (λ i. Known i (spot_of (t ∷ l) (g / 256)) (free_bit (t ∷ l) g)) e' (own_free f l j e s a g at clear next.of_region next.allowed next.answer_is (ap (λ i. free_after s a g (has_right (part i l) (g / 256)) (known_free (part i l) g)) e' ∙ h)))
+          (λ ne h. other_free f l j k e s a g at clear next.of_region next.allowed next.answer_is ne h);
     }
 
 -- a grain that a view knows as free is free

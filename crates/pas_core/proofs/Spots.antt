@@ -1,7 +1,7 @@
 -- The right of each page is at one spot after a legal list, and what views know of deeds is true. Each needs the other, so one induction
 -- proves both: an offer goes into the vector of the directory that its actor knows, and a set bit of that vector tells the directory.
 use Rattle.std.proofs.Common.{◌≡◌, ◌≢◌, ℕ, ◌/◌, ◌%◌, ◌==◌, Bool, true, false, ◌&&◌, if◌then◌else◌, [], ◌∷◌, refl, ap, sym, ◌∙◌, subst, inl, inr}
-use Rattle.std.proofs.lemmas.Bool.{false≢true, eqb-true, eqb-false, and_parts}
+use Rattle.std.proofs.lemmas.Bool.{false≢true, eqb-true, eqb-false, and_parts, cond_both}
 use Rattle.pas_profile.specs.Classes.{has_bit}
 use Rattle.pas_profile.specs.Directories.{number_of, deed_word_of, deed_word_numbered}
 use Rattle.pas_profile.specs.Layouts.{same_word}
@@ -9,16 +9,17 @@ use Rattle.pas_profile.specs.declared.profile.Profile.{Profile}
 use Rattle.pas_profile.specs.declared.directory.Directory.{Directory}
 use Rattle.pas_profile.specs.declared.word.Word.{Word}
 use Rattle.pas_steps.specs.Effects.{target}
-use Rattle.pas_steps.specs.Views.{View, Way, Rests, ByDeed, FromOffer, FromParked, ToOffer, ToParked, way, had_after, right_after, has_right, deed_after, known_deed, epoch_of}
+use Rattle.pas_steps.specs.Views.{Way, Rests, ByDeed, FromOffer, FromParked, ToOffer, ToParked, way, had_after, has_right, deed_after, known_deed, epoch_of}
 use Rattle.pas_steps.specs.Allowed.{Allowed, IsStepOf}
 use Rattle.pas_steps.specs.Lists.{Whole, part, word_after, IsNext, Legal}
 use Rattle.pas_steps.specs.declared.step.Step.{Step}
-use Rattle.pas_steps.specs.declared.step.Made.{Made}
 use Rattle.pas_steps.specs.declared.step.Step.TheVariants.{Look, Deed, TakeRight, Offer, Park, Unpark}
 use Rattle.pas_core.specs.Rights.{parked_bit, eligible_bit}
 use Rattle.pas_bits.proofs.Words.{none_of_zero}
 use Rattle.pas_bits.proofs.PageVectors.{page_bit-clear, page_bit-set}
-use Rattle.pas_core.proofs.DeedWords.{next_value, looked, IsKnown, known_is, word_stays, deed_tells, look_tells, deed_at, deed_word_ne, numbered, numbered_ne}
+use Rattle.pas_core.proofs.DeedWords.{next_value, looked, IsKnown, known_is, word_stays, deed_tells, look_tells, deed_at, numbered, numbered_ne}
+use Rattle.pas_core.proofs.Grains.{if_true, if_false}
+use Rattle.pas_profile.proofs.Codecs.{deed_word_of-positive}
 
 -- ---- where the right of a page is
 pub data Spot : Type 0 where
@@ -29,27 +30,19 @@ pub data Spot : Type 0 where
 
 abbrev pub is_nowhere : Spot → Bool
 is_nowhere Nowhere = true
-is_nowhere (With j) = false
-is_nowhere (Offered n) = false
-is_nowhere InParked = false
+is_nowhere s = false
 
 abbrev pub is_with : ℕ → Spot → Bool
-is_with k Nowhere = false
 is_with k (With j) = j == k
-is_with k (Offered n) = false
-is_with k InParked = false
+is_with k s = false
 
 abbrev pub is_offered : ℕ → Spot → Bool
-is_offered n Nowhere = false
-is_offered n (With j) = false
 is_offered n (Offered m) = m == n
-is_offered n InParked = false
+is_offered n s = false
 
 abbrev pub is_parked : Spot → Bool
-is_parked Nowhere = false
-is_parked (With j) = false
-is_parked (Offered n) = false
 is_parked InParked = true
+is_parked s = false
 
 abbrev pub spot_after : ℕ → Way → Spot → Spot
 spot_after j Rests o = o
@@ -87,16 +80,12 @@ pub record IsSpotted (l : Whole) (p : ℕ) : Type 0 where
 
 -- ---- the spots, from their tests
 pub is_with-true : (k : ℕ) (o : Spot) → is_with k o ≡ true → o ≡ With k
-is_with-true k Nowhere h = absurd (false≢true h)
 is_with-true k (With j) h = ap With (eqb-true j k h)
-is_with-true k (Offered n) h = absurd (false≢true h)
-is_with-true k InParked h = absurd (false≢true h)
+is_with-true k s h = absurd (false≢true h)
 
 pub is_offered-true : (n : ℕ) (o : Spot) → is_offered n o ≡ true → o ≡ Offered n
-is_offered-true n Nowhere h = absurd (false≢true h)
-is_offered-true n (With j) h = absurd (false≢true h)
 is_offered-true n (Offered m) h = ap Offered (eqb-true m n h)
-is_offered-true n InParked h = absurd (false≢true h)
+is_offered-true n s h = absurd (false≢true h)
 
 pub is_parked-true : (o : Spot) → is_parked o ≡ true → o ≡ InParked
 is_parked-true InParked h = refl
@@ -104,40 +93,32 @@ is_parked-true s h = absurd (false≢true h)
 
 pub no_deed : (o : Spot) → DeedFits o 0 → o ≡ Nowhere
 no_deed Nowhere h = refl
-no_deed (With k) h = absurd (h refl)
 no_deed (Offered n) h = absurd (numbered_ne n (sym h))
-no_deed InParked h = absurd (h refl)
+no_deed s h = absurd (h refl)
 
 -- where there is a right there is a deed
 pub somewhere : (o : Spot) (word : ℕ) → DeedFits o word → is_nowhere o ≡ false → word ≢ 0
 somewhere Nowhere word h e = absurd (false≢true (sym e))
-somewhere (With k) word h e = h
 somewhere (Offered n) word h e = λ z. numbered_ne n (sym h ∙ z)
-somewhere InParked word h e = h
+somewhere s word h e = h
 
 -- ---- the ways, whatever the step
-has_after : (m : Way) (o : Spot) (j k : ℕ) (had : Bool) → had ≡ is_with k o → Suits j m o → (same : Bool) → (j == k) ≡ same
-    → (if same then had_after m had else had) ≡ is_with k (spot_after j m o)
-has_after Rests o j k had is fits true e = is
-has_after Rests o j k had is fits false e = is
-has_after ByDeed o j k had is fits true e = sym e
-has_after ByDeed o j k had is fits false e = is ∙ ap (is_with k) fits ∙ sym e
-has_after (FromOffer n) o j k had is fits true e = sym e
-has_after (FromOffer n) o j k had is fits false e = is ∙ ap (is_with k) fits ∙ sym e
-has_after FromParked o j k had is fits true e = sym e
-has_after FromParked o j k had is fits false e = is ∙ ap (is_with k) fits ∙ sym e
-has_after (ToOffer n) o j k had is fits true e = refl
-has_after (ToOffer n) o j k had is fits false e = is ∙ ap (is_with k) fits ∙ e
-has_after ToParked o j k had is fits true e = refl
-has_after ToParked o j k had is fits false e = is ∙ ap (is_with k) fits ∙ e
+own_after : (m : Way) (o : Spot) (j k : ℕ) (had : Bool) → had ≡ is_with k o → (j == k) ≡ true → had_after m had ≡ is_with k (spot_after j m o)
+own_after Rests o j k had is e = is
+own_after (ToOffer n) o j k had is e = refl
+own_after ToParked o j k had is e = refl
+own_after s o j k had is e = sym e
+
+other_after : (m : Way) (o : Spot) (j k : ℕ) (had : Bool) → had ≡ is_with k o → Suits j m o → (j == k) ≡ false → had ≡ is_with k (spot_after j m o)
+other_after Rests o j k had is fits e = is
+other_after (ToOffer n) o j k had is fits e = is ∙ ap (is_with k) fits ∙ e
+other_after ToParked o j k had is fits e = is ∙ ap (is_with k) fits ∙ e
+other_after s o j k had is fits e = is ∙ ap (is_with k) fits ∙ sym e
 
 abbrev parked_moved : Way → Bool → Bool
-parked_moved Rests was = was
-parked_moved ByDeed was = was
-parked_moved (FromOffer n) was = was
 parked_moved FromParked was = false
-parked_moved (ToOffer n) was = was
 parked_moved ToParked was = true
+parked_moved s was = was
 
 parked_next : (j : ℕ) (m : Way) (o : Spot) → Suits j m o → parked_moved m (is_parked o) ≡ is_parked (spot_after j m o)
 parked_next j Rests o h = refl
@@ -146,28 +127,15 @@ parked_next j ToParked o h = refl
 parked_next j s o h = ap is_parked h
 
 abbrev offered_moved : Way → ℕ → Bool → Bool
-offered_moved Rests n was = was
-offered_moved ByDeed n was = was
 offered_moved (FromOffer m) n was = if m == n then false else was
-offered_moved FromParked n was = was
 offered_moved (ToOffer m) n was = if m == n then true else was
-offered_moved ToParked n was = was
-
-if_false : (t : Bool) → (if t then false else t) ≡ false
-if_false true = refl
-if_false false = refl
-
-if_true : (t : Bool) → (if t then true else false) ≡ t
-if_true true = refl
-if_true false = refl
+offered_moved s n was = was
 
 offered_next : (j : ℕ) (m : Way) (n : ℕ) (o : Spot) → Suits j m o → offered_moved m n (is_offered n o) ≡ is_offered n (spot_after j m o)
 offered_next j Rests n o h = refl
-offered_next j ByDeed n o h = ap (is_offered n) h
 offered_next j (FromOffer m) n o h = ap (λ o. if m == n then false else is_offered n o) h ∙ if_false (m == n)
-offered_next j FromParked n o h = ap (is_offered n) h
 offered_next j (ToOffer m) n o h = ap (λ o. if m == n then true else is_offered n o) h ∙ if_true (m == n)
-offered_next j ToParked n o h = ap (is_offered n) h
+offered_next j s n o h = ap (is_offered n) h
 
 -- ---- the parked words
 unpark_cases : (y g was : Bool) → (y ≡ true → g ≡ was) → (if y then false else was) ≡ parked_moved (if y && g then FromParked else Rests) was
@@ -180,16 +148,11 @@ park_cases true was = refl
 park_cases false was = refl
 
 parked_rests : (y was : Bool) (m : Way) → ((b : Bool) → parked_moved m b ≡ b) → was ≡ parked_moved (if y then m else Rests) was
-parked_rests true was m h = sym (h was)
-parked_rests false was m h = refl
-
-same_bit : (t : Bool) (old b : ℕ) → has_bit (if t then old else old) b ≡ has_bit old b
-same_bit true old b = refl
-same_bit false old b = refl
+parked_rests y was m h = cond_both y m Rests (λ x. was ≡ parked_moved x was) (λ here. sym (h was)) (λ other. refl)
 
 parked_step : (l : Whole) (e : ℕ) (s : Step) (a p : ℕ) → a ≡ word_after l (target s)
     → has_bit (next_value e s (Word.Parked (p / 64)) (word_after l (Word.Parked (p / 64)))) (p % 64) ≡ parked_moved (way s a p) (parked_bit l p)
-parked_step l e (Look word) a p is = same_bit (same_word word (Word.Parked (p / 64))) (word_after l (Word.Parked (p / 64))) (p % 64)
+parked_step l e (Look word) a p is = ap (λ n. has_bit n (p % 64)) (looked (same_word word (Word.Parked (p / 64))) (word_after l (Word.Parked (p / 64))))
 parked_step l e (Deed q d) a p is = parked_rests ((q == p) && (a == 0)) (parked_bit l p) ByDeed (λ b. refl)
 parked_step l e (TakeRight q d) a p is = parked_rests ((q == p) && has_bit a (p % 64)) (parked_bit l p) (FromOffer (number_of d)) (λ b. refl)
 parked_step l e (Offer q d) a p is = parked_rests (q == p) (parked_bit l p) (ToOffer (number_of d)) (λ b. refl)
@@ -214,15 +177,14 @@ offer_cases true false was m n e = refl
 offer_cases false false was m n e = refl
 
 offered_rests : (y was : Bool) (n : ℕ) (m : Way) → ((b : Bool) → offered_moved m n b ≡ b) → was ≡ offered_moved (if y then m else Rests) n was
-offered_rests true was n m h = sym (h was)
-offered_rests false was n m h = refl
+offered_rests y was n m h = cond_both y m Rests (λ x. was ≡ offered_moved x n was) (λ here. sym (h was)) (λ other. refl)
 
 eligible_at : (l : Whole) (a m n q p : ℕ) → a ≡ word_after l (Word.Eligible m (q / 64)) → (m == n) ≡ true → (q == p) ≡ true → has_bit a (p % 64) ≡ eligible_bit l n p
 eligible_at l a m n q p is x y = ap (λ b. has_bit b (p % 64)) (is ∙ ap (λ i. word_after l (Word.Eligible i (q / 64))) (eqb-true m n x) ∙ ap (λ i. word_after l (Word.Eligible n (i / 64))) (eqb-true q p y))
 
 eligible_step : (l : Whole) (e : ℕ) (s : Step) (a p n : ℕ) → a ≡ word_after l (target s)
     → has_bit (next_value e s (Word.Eligible n (p / 64)) (word_after l (Word.Eligible n (p / 64)))) (p % 64) ≡ offered_moved (way s a p) n (eligible_bit l n p)
-eligible_step l e (Look word) a p n is = same_bit (same_word word (Word.Eligible n (p / 64))) (word_after l (Word.Eligible n (p / 64))) (p % 64)
+eligible_step l e (Look word) a p n is = ap (λ n. has_bit n (p % 64)) (looked (same_word word (Word.Eligible n (p / 64))) (word_after l (Word.Eligible n (p / 64))))
 eligible_step l e (Deed q d) a p n is = offered_rests ((q == p) && (a == 0)) (eligible_bit l n p) n ByDeed (λ b. refl)
 eligible_step l e (TakeRight q d) a p n is = page_bit-clear q p (word_after l (Word.Eligible n (p / 64))) (number_of d == n)
     ∙ take_right_cases (number_of d == n) (q == p) (has_bit a (p % 64)) (eligible_bit l n p) (number_of d) n refl (λ x y. eligible_at l a (number_of d) n q p is x y)
@@ -233,8 +195,7 @@ eligible_step l e s a p n is = refl
 
 -- ---- a legal step's way suits
 suits_if : (j : ℕ) (m : Way) (o : Spot) (t : Bool) → (t ≡ true → Suits j m o) → Suits j (if t then m else Rests) o
-suits_if j m o true h = h refl
-suits_if j m o false h = tt
+suits_if j m o t h = cond_both t m Rests (λ x. Suits j x o) h (λ other. tt)
 
 offered_here : (l : Whole) (a n j p : ℕ) → IsSpotted l p → a ≡ word_after l (Word.Eligible n j) → j ≡ p / 64 → has_bit a (p % 64) ≡ true → spot_of l p ≡ Offered n
 offered_here l a n j p at is here set = is_offered-true n (spot_of l p) (sym (at.eligible n) ∙ ap (λ b. has_bit b (p % 64)) (ap (λ i. word_after l (Word.Eligible n i)) (sym here) ∙ sym is) ∙ set)
@@ -267,19 +228,18 @@ deed_ne n m ne false h = eqb-false n 0 h
 
 deed_fits : (y z : Bool) (d : Directory) (n j : ℕ) (o : Spot) → (y ≡ true → (n == 0) ≡ z) → DeedFits o n
     → DeedFits (spot_after j (if y && z then ByDeed else Rests) o) (if y then (if n == 0 then deed_word_of d else n) else n)
-deed_fits true true d n j o h fits = deed_ne n (deed_word_of d) (deed_word_ne d) (n == 0) refl
+deed_fits true true d n j o h fits = deed_ne n (deed_word_of d) (deed_word_of-positive d) (n == 0) refl
 deed_fits true false d n j o h fits = subst (λ t. DeedFits o (if t then deed_word_of d else n)) (sym (h refl)) fits
 deed_fits false z d n j o h fits = fits
 
 moved_fits : (y : Bool) (m : Way) (n j : ℕ) (o : Spot) → (y ≡ true → DeedFits (spot_after j m o) n) → DeedFits o n → DeedFits (spot_after j (if y then m else Rests) o) n
-moved_fits true m n j o go fits = go refl
-moved_fits false m n j o go fits = fits
+moved_fits y m n j o go fits = cond_both y m Rests (λ x. DeedFits (spot_after j x o) n) go (λ other. fits)
 
 -- the deed that an actor knows is that of the page
 known_here : (l : Whole) (j q p : ℕ) (d : Directory) → IsSpotted l p → known_deed (part j l) q ≡ deed_word_of d → (q == p) ≡ true → word_after l (Word.Deed p) ≡ deed_word_of d
 known_here l j q p d at knows h =
     let known : known_deed (part j l) p ≡ deed_word_of d = ap (known_deed (part j l)) (sym (eqb-true q p h)) ∙ knows in
-    sym (known_is (known_deed (part j l) p) (word_after l (Word.Deed p)) (at.known j) (λ z. deed_word_ne d (sym known ∙ z))) ∙ known
+    sym (known_is (known_deed (part j l) p) (word_after l (Word.Deed p)) (at.known j) (λ z. deed_word_of-positive d (sym known ∙ z))) ∙ known
 
 fits_step : (f : Profile) (l : Whole) (j e : ℕ) (s : Step) (a p : ℕ) → IsSpotted l p → IsStepOf f s → Allowed f (part j l) s → a ≡ word_after l (target s) → Suits j (way s a p) (spot_of l p)
     → DeedFits (spot_after j (way s a p) (spot_of l p)) (next_value e s (Word.Deed p) (word_after l (Word.Deed p)))
@@ -316,15 +276,7 @@ deed_learns l e (Offer q d) a p known at is h = eligible_tells ((q / 64 == p / 6
 deed_learns l e (Deed q d) a p known at is h = deed_tells (q == p) d (word_after l (Word.Deed p)) a known (deed_at l a q p is) h
 deed_learns l e s a p known at is h = h
 
-deed_of_part : (t : Bool) (m : Made) (v : View) (p word : ℕ) → IsKnown (known_deed v p) word → IsKnown (deed_after m.step m.answer p (known_deed v p)) word → IsKnown (known_deed (if t then m ∷ v else v) p) word
-deed_of_part true m v p word old new = new
-deed_of_part false m v p word old new = old
-
 -- ---- the induction
-has_part : (t : Bool) (m : Made) (v : View) (p : ℕ) → has_right (if t then m ∷ v else v) p ≡ (if t then right_after m.step m.answer p (has_right v p) else has_right v p)
-has_part true m v p = refl
-has_part false m v p = refl
-
 -- the right of each page is at one spot
 pub spotted : (f : Profile) (l : Whole) → Legal f l → (p : ℕ) → IsSpotted l p
 spotted f [] legal p = record { has = λ k. refl; eligible = λ n. none_of_zero (p % 64); parked = none_of_zero (p % 64); deed = refl; known = λ k. inl refl }
@@ -337,10 +289,10 @@ spotted f (t ∷ l) legal p =
     let next : IsNext f l t = legal.0 in
     let suits : Suits j (way s a p) (spot_of l p) = step_suits f l j s a p at next.allowed next.answer_is in
     record {
-      has = λ k. has_part (j == k) t.made (part k l) p ∙ has_after (way s a p) (spot_of l p) j k (has_right (part k l) p) (at.has k) suits (j == k) refl;
+      has = λ k. cond_both (j == k) (t.made ∷ part k l) (part k l) (λ v. has_right v p ≡ is_with k (spot_of (t ∷ l) p)) (own_after (way s a p) (spot_of l p) j k (has_right (part k l) p) (at.has k)) (other_after (way s a p) (spot_of l p) j k (has_right (part k l) p) (at.has k) suits);
       eligible = λ n. eligible_step l e s a p n next.answer_is ∙ ap (offered_moved (way s a p) n) (at.eligible n) ∙ offered_next j (way s a p) n (spot_of l p) suits;
       parked = parked_step l e s a p next.answer_is ∙ ap (parked_moved (way s a p)) at.parked ∙ parked_next j (way s a p) (spot_of l p) suits;
       deed = fits_step f l j e s a p at next.of_region next.allowed next.answer_is suits;
-      known = λ k. deed_of_part (j == k) t.made (part k l) p (word_after (t ∷ l) (Word.Deed p)) (word_stays e s p (word_after l (Word.Deed p)) (known_deed (part k l) p) (at.known k))
-          (deed_learns l e s a p (known_deed (part k l) p) at next.answer_is (at.known k));
+      known = λ k. cond_both (j == k) (t.made ∷ part k l) (part k l) (λ v. IsKnown (known_deed v p) (word_after (t ∷ l) (Word.Deed p)))
+          (λ own. deed_learns l e s a p (known_deed (part k l) p) at next.answer_is (at.known k)) (λ other. word_stays e s p (word_after l (Word.Deed p)) (known_deed (part k l) p) (at.known k));
     }

@@ -1,7 +1,7 @@
 -- Where actors learn no epoch between an end and its stamps, and stamp only what they ended on, the stamp of a page is the greatest epoch of an end
 -- on it, once no page is unstamped.
 use Rattle.std.proofs.Common.{◌≡◌, ℕ, ◌/◌, ◌≤◌, ◌==◌, ◌⊎◌, Bool, true, false, ◌&&◌, if◌then◌else◌, max, List, [], ◌∷◌, Option, Some, None, refl, ap, sym, ◌∙◌, subst, arith, inl, inr}
-use Rattle.std.proofs.lemmas.Bool.{false≢true, eqb-true, and_parts, cases_Bool}
+use Rattle.std.proofs.lemmas.Bool.{false≢true, eqb-true, and_parts, cases_Bool, cond_both}
 use Rattle.pas_profile.specs.Layouts.{same_word}
 use Rattle.pas_profile.specs.Lives.{live_word, is_live, turn_of}
 use Rattle.pas_profile.specs.Profiles.{IsValid}
@@ -17,26 +17,18 @@ use Rattle.pas_steps.specs.Events.{event_of, with_event, reason_of}
 use Rattle.pas_steps.specs.Allowed.{IsStepOf}
 use Rattle.pas_steps.specs.Lists.{Whole, part, word_after, visible, IsNext, Legal}
 use Rattle.pas_steps.specs.Desks.{made}
-use Rattle.pas_steps.specs.declared.step.Made.{Made}
 use Rattle.pas_steps.specs.declared.step.Step.{Step}
-use Rattle.pas_steps.specs.declared.step.Step.TheVariants.{Look, Deed, Back, Take, Put, Give, End, TakeRight, Offer, Park, Unpark, Stamp, Hint, Tick, Unback, Unhint}
+use Rattle.pas_steps.specs.declared.step.Step.TheVariants.{Look, End, Stamp, Tick}
 use Rattle.pas_core.specs.Stamps.{IsStampedOr, KeepsToEnds, AllKeepToEnds}
 use Rattle.pas_core.proofs.DeedWords.{next_value, looked}
 use Rattle.pas_core.proofs.Ends.{IsFound, end_finds}
 use Rattle.pas_core.proofs.Stamps.{stamps, stamp_rests, ends_map, ends_bound, ends_stamped}
+use Rattle.pas_steps.proofs.Flags.{was_set}
 
 -- ---- the machine's epoch of a page only grows
-raised : (x : Bool) (old e : ℕ) → old ≤ (if x then max old e else old)
-raised true old e = omega arith
-raised false old e = omega arith
-
 more_epoch : (e : Event) (es : List Event) (p : ℕ) → epoch_in es p ≤ epoch_in (e ∷ es) p
-more_epoch (Event.Deed k q d) es p = omega arith
-more_epoch (Event.Back k q) es p = omega arith
-more_epoch (Event.Unback k q e) es p = omega arith
-more_epoch (Event.Give k block) es p = omega arith
-more_epoch (Event.End k name e) es p = raised (touches (live_in es (address_of name)) p) (epoch_in es p) e
-more_epoch (Event.Reject k name why) es p = omega arith
+more_epoch (Event.End k name e) es p = cond_both (touches (live_in es (address_of name)) p) (max (epoch_in es p) e) (epoch_in es p) (λ n. (epoch_in es p) ≤ n) (λ on. omega arith) (λ off. omega arith)
+more_epoch s es p = omega arith
 
 with_more : (o : Option Event) (es : List Event) (p : ℕ) → epoch_in es p ≤ epoch_in (with_event o es) p
 with_more None es p = omega arith
@@ -51,12 +43,8 @@ touched_by_end f l valid legal name guess a p of is hit meets =
     let first : address_of at.block.block.name / 16 ≡ grain_of name = omega (arith, e) in
     ap (λ o. touches o p) at.lives ∙ ap (λ n. meets_page (address_of at.block.block.name / 16) n p) at.grains_are ∙ ap (λ g. meets_page g guess p) first ∙ meets
 
-reached : (t : Bool) (old e : ℕ) → t ≡ true → e ≤ (if t then max old e else old)
-reached true old e h = omega arith
-reached false old e h = absurd (false≢true h)
-
 end_reached : (z y : Bool) (k e : ℕ) (name : Name) (reject : Event) (es : List Event) (p : ℕ) → z ≡ true → touches (live_in es (address_of name)) p ≡ true → e ≤ epoch_in (with_event (if z then Some (Event.End k name e) else (if y then None else Some reject)) es) p
-end_reached true y k e name reject es p h on = reached (touches (live_in es (address_of name)) p) (epoch_in es p) e on
+end_reached true y k e name reject es p h on = cond_both (touches (live_in es (address_of name)) p) (max (epoch_in es p) e) (epoch_in es p) (λ n. e ≤ n) (λ here. omega arith) (λ other. absurd (false≢true (sym other ∙ on)))
 end_reached false y k e name reject es p h on = absurd (false≢true h)
 
 end_reaches : (f : Profile) (l : Whole) → IsValid f → Legal f l → (k e : ℕ) (s : Step) (a p : ℕ) → IsStepOf f s → a ≡ word_after l (target s) → ends_on s a p ≡ true → e ≤ epoch_in (with_event (event_of k e s a) (visible l)) p
@@ -69,27 +57,10 @@ keeps_unstamped : (v : View) (s : Step) (p : ℕ) → KeepsToEnds v s → stamps
 keeps_unstamped v (Stamp q) p keeps h = ap (is_unstamped v) (sym (eqb-true q p h)) ∙ keeps
 keeps_unstamped v s p keeps h = absurd (false≢true h)
 
-stamp_most : (x : Bool) (e old : ℕ) → (if x then max old e else old) ≤ max old e
-stamp_most true e old = omega arith
-stamp_most false e old = omega arith
-
 stamp_value : (e : ℕ) (s : Step) (p old : ℕ) → next_value e s (Word.Stamp p) old ≤ max old e
 stamp_value e (Look word) p old = omega (arith, looked (same_word word (Word.Stamp p)) old)
-stamp_value e (Deed q d) p old = omega arith
-stamp_value e (Back q) p old = omega arith
-stamp_value e (Take q w mask) p old = omega arith
-stamp_value e (Put q w mask) p old = omega arith
-stamp_value e (Give block) p old = omega arith
-stamp_value e (End name guess) p old = omega arith
-stamp_value e (TakeRight q d) p old = omega arith
-stamp_value e (Offer q d) p old = omega arith
-stamp_value e (Park q) p old = omega arith
-stamp_value e (Unpark q) p old = omega arith
-stamp_value e (Stamp q) p old = stamp_most (q == p) e old
-stamp_value e (Hint q) p old = omega arith
-stamp_value e (Tick raised) p old = omega arith
-stamp_value e (Unback q) p old = omega arith
-stamp_value e (Unhint q) p old = omega arith
+stamp_value e (Stamp q) p old = cond_both (q == p) (max old e) old (λ n. n ≤ max old e) (λ here. omega arith) (λ other. omega arith)
+stamp_value e s p old = omega arith
 
 -- while a page is unstamped no epoch is learned
 same_epoch : (v : View) (s : Step) (a p : ℕ) → KeepsToEnds v s → unstamped_after s a p (is_unstamped v p) ≡ true → epoch_of (made s a ∷ v) ≡ epoch_of v
@@ -97,17 +68,13 @@ same_epoch v (Look Word.Epoch) a p keeps h = absurd (false≢true (sym (keeps p)
 same_epoch v (Tick raised) a p keeps h = absurd (false≢true (sym (keeps p) ∙ h))
 same_epoch v s a p keeps h = refl
 
-left : (x was : Bool) → (if x then false else was) ≡ true → was ≡ true
-left true was h = absurd (false≢true h)
-left false was h = h
-
 ended_or : (x was : Bool) → (if x then true else was) ≡ true → (was ≡ true) ⊎ (x ≡ true)
 ended_or true was h = inr refl
 ended_or false was h = inl h
 
 was_or_ends : (s : Step) (a p : ℕ) (was : Bool) → unstamped_after s a p was ≡ true → (was ≡ true) ⊎ (ends_on s a p ≡ true)
 was_or_ends (End name guess) a p was h = ended_or ((a == live_word name.turn guess) && meets_page (grain_of name) guess p) was h
-was_or_ends (Stamp q) a p was h = inl (left (q == p) was h)
+was_or_ends (Stamp q) a p was h = inl (was_set (q == p) was h)
 was_or_ends s a p was h = inl h
 
 -- ---- the induction
@@ -115,10 +82,6 @@ was_or_ends s a p was h = inl h
 record IsExact (l : Whole) (p : ℕ) : Type 0 where
   stamp : word_after l (Word.Stamp p) ≤ epoch_in (visible l) p
   late : (k : ℕ) → is_unstamped (part k l) p ≡ true → epoch_of (part k l) ≤ epoch_in (visible l) p
-
-late_part : (t : Bool) (m : Made) (v : View) (p n : ℕ) → (is_unstamped v p ≡ true → epoch_of v ≤ n) → (t ≡ true → is_unstamped (m ∷ v) p ≡ true → epoch_of (m ∷ v) ≤ n) → is_unstamped (if t then m ∷ v else v) p ≡ true → epoch_of (if t then m ∷ v else v) ≤ n
-late_part true m v p n old new = new refl
-late_part false m v p n old new = old
 
 exact : (f : Profile) (l : Whole) → IsValid f → Legal f l → AllKeepToEnds l → (p : ℕ) → IsExact l p
 exact f [] valid legal keeps p = record { stamp = omega arith; late = λ k h. absurd (false≢true h) }
@@ -144,8 +107,8 @@ exact f (t ∷ l) valid legal keeps p =
             omega (arith, old, more, le, value)
         | inr h ↦ let same = stamp_rests (epoch_of (part t.actor l)) t.made.step p (word_after l (Word.Stamp p)) h in omega (arith, old, more, same)
       ];
-      late = λ k. late_part (t.actor == k) t.made (part k l) p (epoch_in (visible (t ∷ l)) p) (λ h. let le = before.late k h in omega (arith, le, more))
-          (λ here. subst (λ j. is_unstamped (t.made ∷ part j l) p ≡ true → epoch_of (t.made ∷ part j l) ≤ epoch_in (visible (t ∷ l)) p) (eqb-true t.actor k here) own);
+      late = λ k. cond_both (t.actor == k) (t.made ∷ part k l) (part k l) (λ v. is_unstamped v p ≡ true → epoch_of v ≤ epoch_in (visible (t ∷ l)) p)
+          (λ here. subst (λ j. is_unstamped (t.made ∷ part j l) p ≡ true → epoch_of (t.made ∷ part j l) ≤ epoch_in (visible (t ∷ l)) p) (eqb-true t.actor k here) own) (λ other h. let le = before.late k h in omega (arith, le, more));
     }
 
 -- the stamp of a page is the greatest epoch of an end on it, once the page is unstamped for nobody

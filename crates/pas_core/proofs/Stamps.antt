@@ -1,7 +1,7 @@
 -- The stamps: what is known of them is true, and the epoch of each end on a page is at most the page's stamp, or the page is unstamped for the
 -- actor that made the end.
 use Rattle.std.proofs.Common.{◌≡◌, ℕ, ◌+◌, ◌*◌, ◌/◌, ◌%◌, ◌≤◌, ◌==◌, ◌⊎◌, Bool, true, false, ◌&&◌, if◌then◌else◌, max, List, [], ◌∷◌, Option, Some, None, refl, ap, sym, ◌∙◌, subst, arith, inl, inr}
-use Rattle.std.proofs.lemmas.Bool.{false≢true, eqb-true, eq-eqb, and_parts, and_from, false_from_ne_true}
+use Rattle.std.proofs.lemmas.Bool.{false≢true, eqb-true, eq-eqb, and_parts, and_from, false_from_ne_true, cond_both}
 use Rattle.pas_profile.specs.Classes.{has_bit}
 use Rattle.pas_profile.specs.Layouts.{same_word}
 use Rattle.pas_profile.specs.Lives.{live_word, is_live, turn_of}
@@ -19,34 +19,22 @@ use Rattle.pas_steps.specs.Events.{event_of, with_event, reason_of}
 use Rattle.pas_steps.specs.Allowed.{Allowed, IsStepOf, HoldsOn, MayPutNow, MayGiveNow}
 use Rattle.pas_steps.specs.Lists.{Triple, Whole, part, word_after, visible, IsNext, Legal}
 use Rattle.pas_steps.specs.Desks.{made}
-use Rattle.pas_steps.specs.declared.step.Made.{Made}
 use Rattle.pas_steps.specs.declared.step.Step.{Step}
 use Rattle.pas_steps.specs.declared.step.Step.TheVariants.{Look, Deed, Back, Take, Put, Give, End, TakeRight, Offer, Park, Unpark, Stamp, Hint, Tick, Unback, Unhint}
 use Rattle.pas_core.specs.Stamps.{IsSoAtEnd, EachEnd, IsStampedOr}
-use Rattle.pas_core.proofs.Bits.{all_below-at}
+use Rattle.pas_steps.proofs.Bits.{all_below-at}
 use Rattle.pas_core.proofs.DeedWords.{next_value, looked}
 use Rattle.pas_core.proofs.Grains.{one_holder}
 use Rattle.pas_core.proofs.Ends.{IsMet, met, IsFound, end_finds}
 use Rattle.pas_core.proofs.Epochs.{epoch_known}
+use Rattle.pas_steps.proofs.Flags.{stays_set, was_set}
+use Rattle.std.proofs.lemmas.Option.{same_Some}
+use Rattle.pas_core.proofs.Deeds.{event_if, end_if}
 
 -- ---- stamps that are known
 abbrev pub stamps : Step → ℕ → Bool
-stamps (Look word) p = false
-stamps (Deed q d) p = false
-stamps (Back q) p = false
-stamps (Take q w mask) p = false
-stamps (Put q w mask) p = false
-stamps (Give block) p = false
-stamps (End name guess) p = false
-stamps (TakeRight q d) p = false
-stamps (Offer q d) p = false
-stamps (Park q) p = false
-stamps (Unpark q) p = false
 stamps (Stamp q) p = q == p
-stamps (Hint q) p = false
-stamps (Tick raised) p = false
-stamps (Unback q) p = false
-stamps (Unhint q) p = false
+stamps s p = false
 
 pub stamp_rests : (e : ℕ) (s : Step) (p old : ℕ) → stamps s p ≡ false → next_value e s (Word.Stamp p) old ≡ old
 stamp_rests e (Look word) p old other = looked (same_word word (Word.Stamp p)) old
@@ -58,19 +46,13 @@ stamps_held : (f : Profile) (v : View) (s : Step) (p : ℕ) → Allowed f v s �
 stamps_held f v (Stamp q) p allowed h = subst (HoldsOn v) (eqb-true q p h) allowed.0
 stamps_held f v s p allowed h = absurd (false≢true h)
 
-none_told : {A : Type 0} {w : A} → None ≡ Some w → ⊥
-none_told h = cc
-
-some_is : {A : Type 0} {x y : A} → Some x ≡ Some y → x ≡ y
-some_is h = cc
-
 all_if : (t : Bool) (o : Option ℕ) (s : ℕ) → (if t then o else None) ≡ Some s → (t ≡ true) × (o ≡ Some s)
 all_if true o s h = (refl, h)
-all_if false o s h = absurd (none_told h)
+all_if false o s h = cc
 
 -- while a stamp is known each grain of the page is held
 known_all : (v : View) (p s : ℕ) → known_stamp v p ≡ Some s → holds_all v p ≡ true
-known_all [] p s h = absurd (none_told h)
+known_all [] p s h = cc
 known_all (m ∷ v) p s h = (all_if (holds_all (m ∷ v) p) (stamp_after m.step m.answer p (known_stamp v p)) s h).0
 
 all_held : (v : View) (p g : ℕ) → holds_all v p ≡ true → g / 256 ≡ p → holds v g ≡ true
@@ -79,11 +61,11 @@ all_held v p g all e =
     subst (λ x. holds v x ≡ true) is (all_below-at 256 (g % 256) (λ b. holds v (p * 256 + b)) all (omega arith))
 
 look_stamp : (x : Bool) (a word : ℕ) (known : Option ℕ) (s : ℕ) → (x ≡ true → a ≡ word) → ((s : ℕ) → known ≡ Some s → word ≡ s) → (if x then Some a else known) ≡ Some s → word ≡ s
-look_stamp true a word known s is old h = sym (is refl) ∙ some_is h
+look_stamp true a word known s is old h = sym (is refl) ∙ same_Some a s h
 look_stamp false a word known s is old h = old s h
 
 own_stamp : (x : Bool) (e word : ℕ) (known : Option ℕ) (s : ℕ) → ((s : ℕ) → known ≡ Some s → word ≡ s) → (if x then None else known) ≡ Some s → (if x then max word e else word) ≡ s
-own_stamp true e word known s old h = absurd (none_told h)
+own_stamp true e word known s old h = cc
 own_stamp false e word known s old h = old s h
 
 -- an actor's own step tells it the stamp
@@ -93,10 +75,6 @@ stamp_learns l e (Look (Word.Stamp q)) a p known s is old h = looked (q == p) (w
 stamp_learns l e (Stamp q) a p known s is old h = own_stamp (q == p) e (word_after l (Word.Stamp p)) known s old h
 stamp_learns l e step a p known s is old h = old s h
 
-stamp_of_part : (t : Bool) (m : Made) (v : View) (p s : ℕ) (P : Type 0) → (t ≡ false → known_stamp v p ≡ Some s → P) → (known_stamp (m ∷ v) p ≡ Some s → P) → known_stamp (if t then m ∷ v else v) p ≡ Some s → P
-stamp_of_part true m v p s P old new told = new told
-stamp_of_part false m v p s P old new told = old refl told
-
 -- nobody else stamps a page each of whose grains this actor holds
 other_stamps : (f : Profile) (l : Whole) → IsValid f → Legal f l → (t : Triple) (k p : ℕ) → IsNext f l t → (t.actor == k) ≡ false → holds_all (part k l) p ≡ true → stamps t.made.step p ≡ false
 other_stamps f l valid legal t k p next other all = false_from_ne_true (stamps t.made.step p) (λ h.
@@ -105,27 +83,18 @@ other_stamps f l valid legal t k p next other all = false_from_ne_true (stamps t
 
 -- a stamp that a view knows is the page's
 pub stamp_known : (f : Profile) (l : Whole) → IsValid f → Legal f l → (k p s : ℕ) → known_stamp (part k l) p ≡ Some s → word_after l (Word.Stamp p) ≡ s
-stamp_known f [] valid legal k p s told = absurd (none_told told)
+stamp_known f [] valid legal k p s told = cc
 stamp_known f (t ∷ l) valid legal k p s told =
     let e : ℕ = epoch_of (part t.actor l) in
     let next : IsNext f l t = legal.0 in
     let before : (s : ℕ) → known_stamp (part k l) p ≡ Some s → word_after l (Word.Stamp p) ≡ s = stamp_known f l valid legal.1 k p in
-    stamp_of_part (t.actor == k) t.made (part k l) p s (word_after (t ∷ l) (Word.Stamp p) ≡ s)
-    (λ other h. stamp_rests e t.made.step p (word_after l (Word.Stamp p)) (other_stamps f l valid legal.1 t k p next other (known_all (part k l) p s h)) ∙ before s h)
-    (λ h. stamp_learns l e t.made.step t.made.answer p (known_stamp (part k l) p) s next.answer_is before (all_if (holds_all (t.made ∷ part k l) p) (stamp_after t.made.step t.made.answer p (known_stamp (part k l) p)) s h).1) told
+    cond_both (t.actor == k) (t.made ∷ part k l) (part k l) (λ v. known_stamp v p ≡ Some s → word_after (t ∷ l) (Word.Stamp p) ≡ s)
+    (λ own h. stamp_learns l e t.made.step t.made.answer p (known_stamp (part k l) p) s next.answer_is before (all_if (holds_all (t.made ∷ part k l) p) (stamp_after t.made.step t.made.answer p (known_stamp (part k l) p)) s h).1)
+    (λ other h. stamp_rests e t.made.step p (word_after l (Word.Stamp p)) (other_stamps f l valid legal.1 t k p next other (known_all (part k l) p s h)) ∙ before s h) told
 
 -- ---- an actor holds a grain of each page that is unstamped for it
-takes_held : (t held : Bool) → held ≡ true → held_after (if t then Gets else Stays) held ≡ true
-takes_held true held h = refl
-takes_held false held h = h
-
-ends_held : (t held : Bool) (c : ℕ) → held ≡ true → held_after (if t then Ends c else Stays) held ≡ true
-ends_held true held c h = refl
-ends_held false held c h = h
-
-moves_held : (t held : Bool) (m : Move) → t ≡ false → held ≡ true → held_after (if t then m else Stays) held ≡ true
-moves_held true held m e h = absurd (false≢true (sym e))
-moves_held false held m e h = h
+pub moved_held : (t held : Bool) (m : Move) → (t ≡ true → held_after m held ≡ true) → held ≡ true → held_after (if t then m else Stays) held ≡ true
+moved_held t held m new h = cond_both t m Stays (λ x. held_after x held ≡ true) new (λ other. h)
 
 put_misses : (v : View) (q w mask p g : ℕ) → MayPutNow v q w mask → is_unstamped v p ≡ true → g / 256 ≡ p → in_mask q w mask g ≡ false
 put_misses v q w mask p g may unstamped e = false_from_ne_true (in_mask q w mask g) (λ h.
@@ -143,24 +112,16 @@ end_keeps : (v : View) (name : Name) (guess a p : ℕ) → 1 ≤ guess → (is_u
 end_keeps v name guess a p some before true ze true ye h =
     let at : IsMet (grain_of name) guess p = met (grain_of name) guess p some ye in
     (at.grain, at.of_page, ap (λ t. held_after (if t then Ends (grain_of name) else Stays) (holds v at.grain)) (and_from (a == live_word name.turn guess) (in_run (grain_of name) guess at.grain) ze at.of_run))
-end_keeps v name guess a p some before true ze false ye h = let was = before h in (was.0, was.1, ends_held ((a == live_word name.turn guess) && in_run (grain_of name) guess was.0) (holds v was.0) (grain_of name) was.2)
-end_keeps v name guess a p some before false ze y ye h = let was = before h in (was.0, was.1, ends_held ((a == live_word name.turn guess) && in_run (grain_of name) guess was.0) (holds v was.0) (grain_of name) was.2)
-
-stamp_leaves : (x was : Bool) → (if x then false else was) ≡ true → was ≡ true
-stamp_leaves true was h = absurd (false≢true h)
-stamp_leaves false was h = h
+end_keeps v name guess a p some before true ze false ye h = let was = before h in (was.0, was.1, moved_held ((a == live_word name.turn guess) && in_run (grain_of name) guess was.0) (holds v was.0) (Ends (grain_of name)) (λ here. refl) was.2)
+end_keeps v name guess a p some before false ze y ye h = let was = before h in (was.0, was.1, moved_held ((a == live_word name.turn guess) && in_run (grain_of name) guess was.0) (holds v was.0) (Ends (grain_of name)) (λ here. refl) was.2)
 
 keeps_held : (f : Profile) (v : View) (s : Step) (a p : ℕ) → IsStepOf f s → Allowed f v s → (is_unstamped v p ≡ true → HoldsOn v p) → unstamped_after s a p (is_unstamped v p) ≡ true → HoldsOn (made s a ∷ v) p
-keeps_held f v (Take q w mask) a p of allowed before h = let was = before h in (was.0, was.1, takes_held (in_mask q w mask was.0 && has_bit a (was.0 % 64)) (holds v was.0) was.2)
-keeps_held f v (Put q w mask) a p of allowed before h = let was = before h in (was.0, was.1, moves_held (in_mask q w mask was.0) (holds v was.0) Puts (put_misses v q w mask p was.0 allowed h was.1) was.2)
-keeps_held f v (Give block) a p of allowed before h = let was = before h in (was.0, was.1, moves_held (in_run (grain_of block.name) (length_of block) was.0) (holds v was.0) (Gives (grain_of block.name)) (give_misses f v block p was.0 allowed h was.1) was.2)
+keeps_held f v (Take q w mask) a p of allowed before h = let was = before h in (was.0, was.1, moved_held (in_mask q w mask was.0 && has_bit a (was.0 % 64)) (holds v was.0) Gets (λ here. refl) was.2)
+keeps_held f v (Put q w mask) a p of allowed before h = let was = before h in (was.0, was.1, moved_held (in_mask q w mask was.0) (holds v was.0) Puts (λ here. absurd (false≢true (sym (put_misses v q w mask p was.0 allowed h was.1) ∙ here))) was.2)
+keeps_held f v (Give block) a p of allowed before h = let was = before h in (was.0, was.1, moved_held (in_run (grain_of block.name) (length_of block) was.0) (holds v was.0) (Gives (grain_of block.name)) (λ here. absurd (false≢true (sym (give_misses f v block p was.0 allowed h was.1) ∙ here))) was.2)
 keeps_held f v (End name guess) a p of allowed before h = end_keeps v name guess a p of.3 before (a == live_word name.turn guess) refl (meets_page (grain_of name) guess p) refl h
-keeps_held f v (Stamp q) a p of allowed before h = let was = before (stamp_leaves (q == p) (is_unstamped v p) h) in (was.0, was.1, was.2)
+keeps_held f v (Stamp q) a p of allowed before h = let was = before (was_set (q == p) (is_unstamped v p) h) in (was.0, was.1, was.2)
 keeps_held f v s a p of allowed before h = let was = before h in (was.0, was.1, was.2)
-
-held_of_part : (t : Bool) (m : Made) (v : View) (p : ℕ) → (is_unstamped v p ≡ true → HoldsOn v p) → (t ≡ true → is_unstamped (m ∷ v) p ≡ true → HoldsOn (m ∷ v) p) → is_unstamped (if t then m ∷ v else v) p ≡ true → HoldsOn (if t then m ∷ v else v) p
-held_of_part true m v p old new = new refl
-held_of_part false m v p old new = old
 
 -- an actor holds a grain of each page that is unstamped for it
 pub unstamped_is_held : (f : Profile) (l : Whole) → Legal f l → (k p : ℕ) → is_unstamped (part k l) p ≡ true → HoldsOn (part k l) p
@@ -168,8 +129,8 @@ unstamped_is_held f [] legal k p h = absurd (false≢true h)
 unstamped_is_held f (t ∷ l) legal k p h =
     let next : IsNext f l t = legal.0 in
     let own : is_unstamped (t.made ∷ part t.actor l) p ≡ true → HoldsOn (t.made ∷ part t.actor l) p = keeps_held f (part t.actor l) t.made.step t.made.answer p next.of_region next.allowed (unstamped_is_held f l legal.1 t.actor p) in
-    held_of_part (t.actor == k) t.made (part k l) p (unstamped_is_held f l legal.1 k p)
-    (λ e. subst (λ j. is_unstamped (t.made ∷ part j l) p ≡ true → HoldsOn (t.made ∷ part j l) p) (eqb-true t.actor k e) own) h
+    cond_both (t.actor == k) (t.made ∷ part k l) (part k l) (λ v. is_unstamped v p ≡ true → HoldsOn v p)
+    (λ e. subst (λ j. is_unstamped (t.made ∷ part j l) p ≡ true → HoldsOn (t.made ∷ part j l) p) (eqb-true t.actor k e) own) (λ other. unstamped_is_held f l legal.1 k p) h
 
 -- ---- the epoch of each end on a page
 so_map : (P Q : ℕ → ℕ → Type 0) (e : Event) (es : List Event) (p : ℕ) → ((k e : ℕ) → P k e → Q k e) → IsSoAtEnd P e es p → IsSoAtEnd Q e es p
@@ -183,16 +144,6 @@ so_map P Q (Event.Reject k name why) es p f h = tt
 pub ends_map : (P Q : ℕ → ℕ → Type 0) (es : List Event) (p : ℕ) → ((k e : ℕ) → P k e → Q k e) → EachEnd P es p → EachEnd Q es p
 ends_map P Q [] p f h = tt
 ends_map P Q (e ∷ es) p f h = (so_map P Q e es p f h.0, ends_map P Q es p f h.1)
-
-if_event : (P : ℕ → ℕ → Type 0) (z : Bool) (e : Event) (es : List Event) (p : ℕ) → IsSoAtEnd P e es p → EachEnd P es p → EachEnd P (with_event (if z then Some e else None) es) p
-if_event P true e es p new h = (new, h)
-if_event P false e es p new h = h
-
-end_event_so : (P : ℕ → ℕ → Type 0) (z y : Bool) (end reject : Event) (es : List Event) (p : ℕ) → (z ≡ true → IsSoAtEnd P end es p) → IsSoAtEnd P reject es p → EachEnd P es p
-    → EachEnd P (with_event (if z then Some end else (if y then None else Some reject)) es) p
-end_event_so P true y end reject es p new rejected h = (new refl, h)
-end_event_so P false true end reject es p new rejected h = h
-end_event_so P false false end reject es p new rejected h = (rejected, h)
 
 -- a block that ends touches a page just where its run meets it
 end_touches : (f : Profile) (l : Whole) → IsValid f → Legal f l → (name : Name) (guess a p : ℕ) → IsStepOf f (End name guess) → a ≡ word_after l (life_word_at (grain_of name)) → (a == live_word name.turn guess) ≡ true
@@ -208,13 +159,13 @@ end_touches f l valid legal name guess a p of is hit on =
 ends_step : (f : Profile) (l : Whole) → IsValid f → Legal f l → (P : ℕ → ℕ → Type 0) (k e : ℕ) (s : Step) (a p : ℕ) → IsStepOf f s → a ≡ word_after l (target s) → (ends_on s a p ≡ true → P k e) → EachEnd P (visible l) p
     → EachEnd P (with_event (event_of k e s a) (visible l)) p
 ends_step f l valid legal P k e (Look word) a p of is new h = h
-ends_step f l valid legal P k e (Deed q d) a p of is new h = if_event P (a == 0) (Event.Deed k q d) (visible l) p tt h
-ends_step f l valid legal P k e (Back q) a p of is new h = if_event P (a == 0) (Event.Back k q) (visible l) p tt h
+ends_step f l valid legal P k e (Deed q d) a p of is new h = event_if (λ x. EachEnd P x p) (a == 0) (Event.Deed k q d) (visible l) (tt, h) h
+ends_step f l valid legal P k e (Back q) a p of is new h = event_if (λ x. EachEnd P x p) (a == 0) (Event.Back k q) (visible l) (tt, h) h
 ends_step f l valid legal P k e (Take q w mask) a p of is new h = h
 ends_step f l valid legal P k e (Put q w mask) a p of is new h = h
 ends_step f l valid legal P k e (Give block) a p of is new h = (tt, h)
-ends_step f l valid legal P k e (End name guess) a p of is new h = end_event_so P (a == live_word name.turn guess) (is_live a && (turn_of a == name.turn)) (Event.End k name e) (Event.Reject k name (reason_of name a)) (visible l) p
-    (λ hit on. new (end_touches f l valid legal name guess a p of is hit on)) tt h
+ends_step f l valid legal P k e (End name guess) a p of is new h = end_if (λ x. EachEnd P x p) (a == live_word name.turn guess) (is_live a && (turn_of a == name.turn)) (Event.End k name e) (Event.Reject k name (reason_of name a)) (visible l)
+    (λ hit. (λ on. new (end_touches f l valid legal name guess a p of is hit on), h)) (tt, h) h
 ends_step f l valid legal P k e (TakeRight q d) a p of is new h = h
 ends_step f l valid legal P k e (Offer q d) a p of is new h = h
 ends_step f l valid legal P k e (Park q) a p of is new h = h
@@ -226,73 +177,26 @@ ends_step f l valid legal P k e (Unback q) a p of is new h = (tt, h)
 ends_step f l valid legal P k e (Unhint q) a p of is new h = h
 
 -- no step lowers a stamp
-stamps_grow : (x : Bool) (e old : ℕ) → old ≤ (if x then max old e else old)
-stamps_grow true e old = omega arith
-stamps_grow false e old = omega arith
-
 stamp_next : (e : ℕ) (s : Step) (p old : ℕ) → old ≤ next_value e s (Word.Stamp p) old
 stamp_next e (Look word) p old = omega (arith, looked (same_word word (Word.Stamp p)) old)
-stamp_next e (Deed q d) p old = omega arith
-stamp_next e (Back q) p old = omega arith
-stamp_next e (Take q w mask) p old = omega arith
-stamp_next e (Put q w mask) p old = omega arith
-stamp_next e (Give block) p old = omega arith
-stamp_next e (End name guess) p old = omega arith
-stamp_next e (TakeRight q d) p old = omega arith
-stamp_next e (Offer q d) p old = omega arith
-stamp_next e (Park q) p old = omega arith
-stamp_next e (Unpark q) p old = omega arith
-stamp_next e (Stamp q) p old = stamps_grow (q == p) e old
-stamp_next e (Hint q) p old = omega arith
-stamp_next e (Tick raised) p old = omega arith
-stamp_next e (Unback q) p old = omega arith
-stamp_next e (Unhint q) p old = omega arith
+stamp_next e (Stamp q) p old = cond_both (q == p) (max old e) old (λ n. old ≤ n) (λ here. omega arith) (λ other. omega arith)
+stamp_next e s p old = omega arith
 
 -- an actor forgets no epoch
 epoch_rises : (l : Whole) (s : Step) (a : ℕ) (known : Option ℕ) → a ≡ word_after l (target s) → or_zero known ≤ word_after l Word.Epoch → or_zero known ≤ or_zero (epoch_after s a known)
 epoch_rises l (Look Word.Epoch) a known is h = omega (arith, is, h)
-epoch_rises l (Look (Word.Free q w)) a known is h = omega arith
-epoch_rises l (Look (Word.Life q g)) a known is h = omega arith
-epoch_rises l (Look (Word.Deed q)) a known is h = omega arith
-epoch_rises l (Look (Word.Backed q)) a known is h = omega arith
-epoch_rises l (Look (Word.Stamp q)) a known is h = omega arith
-epoch_rises l (Look (Word.Parked i)) a known is h = omega arith
-epoch_rises l (Look (Word.Empty i)) a known is h = omega arith
-epoch_rises l (Look (Word.Eligible n i)) a known is h = omega arith
-epoch_rises l (Deed q d) a known is h = omega arith
-epoch_rises l (Back q) a known is h = omega arith
-epoch_rises l (Take q w mask) a known is h = omega arith
-epoch_rises l (Put q w mask) a known is h = omega arith
-epoch_rises l (Give block) a known is h = omega arith
-epoch_rises l (End name guess) a known is h = omega arith
-epoch_rises l (TakeRight q d) a known is h = omega arith
-epoch_rises l (Offer q d) a known is h = omega arith
-epoch_rises l (Park q) a known is h = omega arith
-epoch_rises l (Unpark q) a known is h = omega arith
-epoch_rises l (Stamp q) a known is h = omega arith
-epoch_rises l (Hint q) a known is h = omega arith
 epoch_rises l (Tick raised) a known is h = omega (arith, is, h)
-epoch_rises l (Unback q) a known is h = omega arith
-epoch_rises l (Unhint q) a known is h = omega arith
+epoch_rises l s a known is h = omega arith
 
 -- what an own step leaves: the page is unstamped still, or is stamped now
 stamped_now : (x was : Bool) (e n old : ℕ) → was ≡ true → n ≤ e → ((if x then false else was) ≡ true) ⊎ (n ≤ (if x then max old e else old))
 stamped_now true was e n old h le = inr (omega (arith, le))
 stamped_now false was e n old h le = inl h
 
-unstamped_end : (t was : Bool) → was ≡ true → (if t then true else was) ≡ true
-unstamped_end true was h = refl
-unstamped_end false was h = h
-
 own_late : (e : ℕ) (s : Step) (a p : ℕ) (was : Bool) (n old : ℕ) → was ≡ true → n ≤ e → (unstamped_after s a p was ≡ true) ⊎ (n ≤ next_value e s (Word.Stamp p) old)
-own_late e (End name guess) a p was n old h le = inl (unstamped_end ((a == live_word name.turn guess) && meets_page (grain_of name) guess p) was h)
+own_late e (End name guess) a p was n old h le = inl (stays_set ((a == live_word name.turn guess) && meets_page (grain_of name) guess p) was h)
 own_late e (Stamp q) a p was n old h le = stamped_now (q == p) was e n old h le
 own_late e s a p was n old h le = inl h
-
-late_of_part : (t : Bool) (m : Made) (v : View) (p n stamp : ℕ) → (t ≡ false → (is_unstamped v p ≡ true) × (n ≤ epoch_of v)) → (t ≡ true → ((is_unstamped (m ∷ v) p ≡ true) ⊎ (n ≤ stamp)) × (n ≤ epoch_of (m ∷ v)))
-    → (n ≤ stamp) ⊎ ((is_unstamped (if t then m ∷ v else v) p ≡ true) × (n ≤ epoch_of (if t then m ∷ v else v)))
-late_of_part true m v p n stamp old new = let now = new refl in elim now.0 [ inl h ↦ inr (h, now.1) | inr h ↦ inl h ]
-late_of_part false m v p n stamp old new = inr (old refl)
 
 late_next : (f : Profile) (t : Triple) (l : Whole) → Legal f (t ∷ l) → (p k n : ℕ) → IsStampedOr l p k n → IsStampedOr (t ∷ l) p k n
 late_next f t l legal p k n (inl le) = let grows = stamp_next (epoch_of (part t.actor l)) t.made.step p (word_after l (Word.Stamp p)) in inl (omega (arith, le, grows))
@@ -300,11 +204,12 @@ late_next f t l legal p k n (inr late) =
     let next : IsNext f l t = legal.0 in
     let known = epoch_known f l legal.1 k in
     let le = late.1 in
-    late_of_part (t.actor == k) t.made (part k l) p n (word_after (t ∷ l) (Word.Stamp p)) (λ other. late)
+    cond_both (t.actor == k) (t.made ∷ part k l) (part k l) (λ v. (n ≤ word_after (t ∷ l) (Word.Stamp p)) ⊎ ((is_unstamped v p ≡ true) × (n ≤ epoch_of v)))
     (λ own.
     let rises = epoch_rises l t.made.step t.made.answer (known_epoch (part k l)) next.answer_is known in
     let epoch : n ≤ epoch_of (part t.actor l) = subst (λ j. n ≤ epoch_of (part j l)) (sym (eqb-true t.actor k own)) le in
-    (own_late (epoch_of (part t.actor l)) t.made.step t.made.answer p (is_unstamped (part k l) p) n (word_after l (Word.Stamp p)) late.0 epoch, omega (arith, le, rises)))
+    elim (own_late (epoch_of (part t.actor l)) t.made.step t.made.answer p (is_unstamped (part k l) p) n (word_after l (Word.Stamp p)) late.0 epoch) [ inl h ↦ inr (h, omega (arith, le, rises)) | inr h ↦ inl h ])
+    (λ other. inr late)
 
 -- an end that is made now
 new_unstamped : (s : Step) (a p : ℕ) (was : Bool) → ends_on s a p ≡ true → unstamped_after s a p was ≡ true
@@ -315,20 +220,9 @@ new_epoch : (s : Step) (a p : ℕ) (known : Option ℕ) → ends_on s a p ≡ tr
 new_epoch (End name guess) a p known h = omega arith
 new_epoch s a p known h = absurd (false≢true h)
 
-unstamped_part : (t : Bool) (m : Made) (v : View) (p : ℕ) → t ≡ true → is_unstamped (m ∷ v) p ≡ true → is_unstamped (if t then m ∷ v else v) p ≡ true
-unstamped_part t m v p e h = ap (λ b. is_unstamped (if b then m ∷ v else v) p) e ∙ h
-
-epoch_part : (t : Bool) (m : Made) (v : View) (n : ℕ) → t ≡ true → n ≤ epoch_of (m ∷ v) → n ≤ epoch_of (if t then m ∷ v else v)
-epoch_part true m v n e h = h
-epoch_part false m v n e h = absurd (false≢true e)
-
 now_late : (t : Triple) (l : Whole) (p : ℕ) → ends_on t.made.step t.made.answer p ≡ true → IsStampedOr (t ∷ l) p t.actor (epoch_of (part t.actor l))
-now_late t l p h =
-    let own : (t.actor == t.actor) ≡ true = eq-eqb t.actor t.actor refl in
-    inr (
-      unstamped_part (t.actor == t.actor) t.made (part t.actor l) p own (new_unstamped t.made.step t.made.answer p (is_unstamped (part t.actor l) p) h),
-      epoch_part (t.actor == t.actor) t.made (part t.actor l) (epoch_of (part t.actor l)) own (new_epoch t.made.step t.made.answer p (known_epoch (part t.actor l)) h),
-    )
+now_late t l p h = inr (subst (λ b. let v = if b then t.made ∷ part t.actor l else part t.actor l in (is_unstamped v p ≡ true) × (epoch_of (part t.actor l) ≤ epoch_of v)) (sym (eq-eqb t.actor t.actor refl))
+    (new_unstamped t.made.step t.made.answer p (is_unstamped (part t.actor l) p) h, new_epoch t.made.step t.made.answer p (known_epoch (part t.actor l)) h))
 
 -- the epoch of each end on a page is at most the page's stamp, or the page is unstamped for its actor, which knows an epoch as great
 pub ends_stamped : (f : Profile) (l : Whole) → IsValid f → Legal f l → (p : ℕ) → EachEnd (IsStampedOr l p) (visible l) p
@@ -339,17 +233,13 @@ ends_stamped f (t ∷ l) valid legal p =
     (ends_map (IsStampedOr l p) (IsStampedOr (t ∷ l) p) (visible l) p (λ k n. late_next f t l legal p k n) (ends_stamped f l valid legal.1 p))
 
 -- ---- the machine's epoch of a page
-end_bound : (x : Bool) (old e n : ℕ) → (x ≡ true → e ≤ n) → old ≤ n → (if x then max old e else old) ≤ n
-end_bound true old e n new h = let le = new refl in omega (arith, le, h)
-end_bound false old e n new h = h
-
 pub ends_bound : (es : List Event) (p n : ℕ) → EachEnd (λ k e. e ≤ n) es p → epoch_in es p ≤ n
 ends_bound [] p n h = omega arith
 ends_bound (Event.Deed k q d ∷ es) p n h = ends_bound es p n h.1
 ends_bound (Event.Back k q ∷ es) p n h = ends_bound es p n h.1
 ends_bound (Event.Unback k q e ∷ es) p n h = ends_bound es p n h.1
 ends_bound (Event.Give k block ∷ es) p n h = ends_bound es p n h.1
-ends_bound (Event.End k name e ∷ es) p n h = end_bound (touches (live_in es (address_of name)) p) (epoch_in es p) e n h.0 (ends_bound es p n h.1)
+ends_bound (Event.End k name e ∷ es) p n h = cond_both (touches (live_in es (address_of name)) p) (max (epoch_in es p) e) (epoch_in es p) (λ m. m ≤ n) (λ on. omega (arith, h.0 on, ends_bound es p n h.1)) (λ off. ends_bound es p n h.1)
 ends_bound (Event.Reject k name why ∷ es) p n h = ends_bound es p n h.1
 
 -- where an actor holds each grain of a page that isn't unstamped for it, the stamp is at least the epoch of each end on the page

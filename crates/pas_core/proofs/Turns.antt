@@ -1,6 +1,6 @@
 -- Turns are small: each actor gives at most 2 ^ 32 blocks.
-use Rattle.std.proofs.Common.{◌≡◌, ℕ, zero, suc, ◌+◌, ◌*◌, ◌^◌, ◌<◌, ◌≤◌, ◌==◌, Bool, true, false, if◌then◌else◌, [], ◌∷◌, Option, Some, None, refl, subst, arith}
-use Rattle.std.proofs.lemmas.Bool.{false≢true, eqb-true, eqb-false, eq-eqb}
+use Rattle.std.proofs.Common.{◌≡◌, ℕ, zero, suc, ◌+◌, ◌*◌, ◌^◌, ◌<◌, ◌≤◌, ◌==◌, Bool, true, false, if◌then◌else◌, [], ◌∷◌, Option, Some, None, refl, subst, arith, sym}
+use Rattle.std.proofs.lemmas.Bool.{eqb-true, eqb-false, eq-eqb, cond_both}
 use Rattle.pas_profile.specs.Lives.{turn_of}
 use Rattle.pas_profile.specs.Profiles.{IsValid}
 use Rattle.pas_profile.specs.declared.profile.Profile.{Profile}
@@ -10,9 +10,8 @@ use Rattle.pas_steps.specs.Effects.{life_word_at}
 use Rattle.pas_steps.specs.Views.{View, epoch_of, given_after, given_count}
 use Rattle.pas_steps.specs.Allowed.{Allowed}
 use Rattle.pas_steps.specs.Lists.{Whole, part, word_after, visible, IsNext, Legal}
-use Rattle.pas_steps.specs.declared.step.Made.{Made}
 use Rattle.pas_steps.specs.declared.step.Step.{Step}
-use Rattle.pas_steps.specs.declared.step.Step.TheVariants.{Look, Deed, Back, Take, Put, Give, End, TakeRight, Offer, Park, Unpark, Stamp, Hint, Tick, Unback, Unhint}
+use Rattle.pas_steps.specs.declared.step.Step.TheVariants.{Look, Give}
 use Rattle.pas_core.specs.Good.{IsLifeOf}
 use Rattle.pas_core.proofs.Lives.{life_of, turn_is}
 use Rattle.pas_core.proofs.Given.{count_gives, gives_few, count_step}
@@ -22,36 +21,19 @@ few_next : (f : Profile) (v : View) (s : Step) → Allowed f v s → given_count
 few_next f v (Give block) allowed h = let few = allowed.few in omega (arith, few)
 few_next f v s allowed h = h
 
-few_part : (k j : ℕ) (t : Bool) (m : Made) (v : View) → (j == k) ≡ t → given_count v ≤ 2 ^ 32 → ((j ≡ k) → given_after m.step (given_count v) ≤ 2 ^ 32) → given_count (if t then m ∷ v else v) ≤ 2 ^ 32
-few_part k j true m v e old new = new (eqb-true j k e)
-few_part k j false m v e old new = old
-
 pub given_small : (f : Profile) (l : Whole) → Legal f l → (k : ℕ) → given_count (part k l) ≤ 2 ^ 32
 given_small f [] legal k = omega arith
 given_small f (t ∷ l) legal k =
     let next : IsNext f l t = legal.0 in
     let before : (j : ℕ) → given_count (part j l) ≤ 2 ^ 32 = given_small f l legal.1 in
-    few_part k t.actor (t.actor == k) t.made (part k l) refl (before k) (λ e. subst (λ j. given_after t.made.step (given_count (part j l)) ≤ 2 ^ 32) e (few_next f (part t.actor l) t.made.step next.allowed (before t.actor)))
+    cond_both (t.actor == k) (t.made ∷ part k l) (part k l) (λ v. given_count v ≤ 2 ^ 32)
+    (λ own. subst (λ j. given_after t.made.step (given_count (part j l)) ≤ 2 ^ 32) (eqb-true t.actor k own) (few_next f (part t.actor l) t.made.step next.allowed (before t.actor))) (λ other. before k)
 
 -- ---- all gives are the sum of those of the actors
 -- a step adds this many gives
 more_given : (s : Step) (n : ℕ) → given_after s n ≡ n + given_after s 0
 more_given (Look word) n = omega arith
-more_given (Deed q d) n = omega arith
-more_given (Back q) n = omega arith
-more_given (Take q w mask) n = omega arith
-more_given (Put q w mask) n = omega arith
-more_given (Give block) n = omega arith
-more_given (End name guess) n = omega arith
-more_given (TakeRight q d) n = omega arith
-more_given (Offer q d) n = omega arith
-more_given (Park q) n = omega arith
-more_given (Unpark q) n = omega arith
-more_given (Stamp q) n = omega arith
-more_given (Hint q) n = omega arith
-more_given (Tick raised) n = omega arith
-more_given (Unback q) n = omega arith
-more_given (Unhint q) n = omega arith
+more_given s n = omega arith
 
 sum_grows : (n : ℕ) (v w : ℕ → ℕ) → ((k : ℕ) → v k ≤ w k) → sum_below n v ≤ sum_below n w
 sum_grows zero v w h = omega arith
@@ -72,14 +54,6 @@ sum_small : (n : ℕ) (v : ℕ → ℕ) → ((k : ℕ) → v k ≤ 2 ^ 32) → s
 sum_small zero v h = omega arith
 sum_small (suc n) v h = omega (arith, sum_small n v h, h n)
 
-part_grows : (t : Bool) (m : Made) (v : View) → given_count v ≤ given_count (if t then m ∷ v else v)
-part_grows true m v = omega (arith, more_given m.step (given_count v))
-part_grows false m v = omega arith
-
-part_rises : (t : Bool) (m : Made) (v : View) → t ≡ true → given_count v + given_after m.step 0 ≤ given_count (if t then m ∷ v else v)
-part_rises true m v e = omega (arith, more_given m.step (given_count v))
-part_rises false m v e = absurd (false≢true e)
-
 -- the visible gives are at most those of all actors
 pub all_gives : (f : Profile) (l : Whole) → Legal f l → count_gives (visible l) ≤ sum_below (f.threads + 1) (λ k. given_count (part k l))
 all_gives f [] legal = omega arith
@@ -89,7 +63,8 @@ all_gives f (t ∷ l) legal =
     let is : count_gives (visible (t ∷ l)) ≡ given_after t.made.step (count_gives (visible l)) = count_step t.actor (epoch_of (part t.actor l)) t.made.step t.made.answer (visible l) in
     let more : given_after t.made.step (count_gives (visible l)) ≡ count_gives (visible l) + given_after t.made.step 0 = more_given t.made.step (count_gives (visible l)) in
     let rises : sum_below (f.threads + 1) (λ k. given_count (part k l)) + given_after t.made.step 0 ≤ sum_below (f.threads + 1) (λ k. given_count (part k (t ∷ l)))
-    = sum_rises (f.threads + 1) t.actor (given_after t.made.step 0) (λ k. given_count (part k l)) (λ k. given_count (part k (t ∷ l))) (λ k. part_grows (t.actor == k) t.made (part k l)) (part_rises (t.actor == t.actor) t.made (part t.actor l) (eq-eqb t.actor t.actor refl)) actor in
+    = sum_rises (f.threads + 1) t.actor (given_after t.made.step 0) (λ k. given_count (part k l)) (λ k. given_count (part k (t ∷ l))) (λ k. cond_both (t.actor == k) (t.made ∷ part k l) (part k l) (λ v. given_count (part k l) ≤ given_count v) (λ own. omega (arith, more_given t.made.step (given_count (part k l)))) (λ other. omega arith))
+    (subst (λ b. given_count (part t.actor l) + given_after t.made.step 0 ≤ given_count (if b then t.made ∷ part t.actor l else part t.actor l)) (sym (eq-eqb t.actor t.actor refl)) (omega (arith, more_given t.made.step (given_count (part t.actor l))))) actor in
     omega (arith, all_gives f l legal.1, is, more, rises)
 
 -- ---- turns

@@ -17,14 +17,17 @@ use Rattle.pas_steps.specs.Events.{event_of, with_event}
 use Rattle.pas_steps.specs.Lists.{Whole, part, word_after, visible, IsNext, Legal}
 use Rattle.pas_steps.specs.declared.step.Step.{Step}
 use Rattle.pas_steps.specs.declared.step.Step.TheVariants.{Look, Back, Give, End, Unback}
-use Rattle.pas_core.specs.Good.{word_of_deed, word_of_backed, IsLifeOf}
+use Rattle.pas_core.specs.Good.{word_of_deed, IsLifeOf}
 use Rattle.pas_core.specs.Given.{WasGiven}
-use Rattle.pas_core.proofs.DeedWords.{deed_word_ne, deed_kept}
+use Rattle.pas_core.proofs.DeedWords.{deed_kept}
 use Rattle.pas_core.proofs.Deeds.{deed_of, backed_of}
 use Rattle.pas_core.proofs.Lives.{look_is, word_is, life_of}
-use Rattle.pas_core.proofs.MachineRuns.{runs}
+use Rattle.pas_core.proofs.MachineRuns.{runs, one_backed}
 use Rattle.pas_core.proofs.Given.{one_more}
 use Rattle.pas_core.proofs.Onces.{since_once}
+use Rattle.std.proofs.lemmas.Option.{same_Some}
+use Rattle.pas_steps.proofs.Flags.{was_set}
+use Rattle.pas_profile.proofs.Codecs.{deed_word_of-positive}
 
 -- ---- a backed page has a deed
 deed_more : (x : Bool) (d : Directory) (old : Option Directory) → old ≢ None → (if x then Some d else old) ≢ None
@@ -35,31 +38,23 @@ back_has : (x : Bool) (q p : ℕ) (es : List Event) (old : Bool) → (q == p) �
 back_has true q p es old e here before h = subst (λ n. deed_in es n ≢ None) (eqb-true q p e) here
 back_has false q p es old e here before h = before h
 
-was_backed : (x old : Bool) → (if x then false else old) ≡ true → old ≡ true
-was_backed true old h = absurd (false≢true h)
-was_backed false old h = h
-
 backed_deed : (f : Profile) (es : List Event) → Run f es → (p : ℕ) → backed_in es p ≡ true → deed_in es p ≢ None
 backed_deed f [] run p h = absurd (false≢true h)
 backed_deed f (Event.Deed k q d ∷ es) run p h = deed_more (q == p) d (deed_in es p) (backed_deed f es run.1 p h)
 backed_deed f (Event.Back k q ∷ es) run p h = back_has (q == p) q p es (backed_in es p) refl run.0.1 (backed_deed f es run.1 p) h
-backed_deed f (Event.Unback k q e ∷ es) run p h = backed_deed f es run.1 p (was_backed (q == p) (backed_in es p) h)
+backed_deed f (Event.Unback k q e ∷ es) run p h = backed_deed f es run.1 p (was_set (q == p) (backed_in es p) h)
 backed_deed f (Event.Give k block ∷ es) run p h = backed_deed f es run.1 p h
 backed_deed f (Event.End k name e ∷ es) run p h = backed_deed f es run.1 p h
 backed_deed f (Event.Reject k name why ∷ es) run p h = backed_deed f es run.1 p h
 
-one_backed : (b : Bool) → word_of_backed b ≡ 1 → b ≡ true
-one_backed true h = refl
-one_backed false h = absurd (omega (arith, h))
-
 pub some_deed : (o : Option Directory) → o ≢ None → word_of_deed o ≢ 0
 some_deed None h = absurd (h refl)
-some_deed (Some d) h = deed_word_ne d
+some_deed (Some d) h = deed_word_of-positive d
 
 -- the deed word of a page whose backed word is 1
 pub backed_has_deed : (f : Profile) (l : Whole) → IsValid f → Legal f l → (p : ℕ) → word_after l (Word.Backed p) ≡ 1 → word_after l (Word.Deed p) ≢ 0
 backed_has_deed f l valid legal p h =
-    let some : word_of_deed (deed_in (visible l) p) ≢ 0 = some_deed (deed_in (visible l) p) (backed_deed f (visible l) (runs f l valid legal) p (one_backed (backed_in (visible l) p) (sym (backed_of f l legal p) ∙ h))) in
+    let some : word_of_deed (deed_in (visible l) p) ≢ 0 = some_deed (deed_in (visible l) p) (backed_deed f (visible l) (runs f l valid legal) p (one_backed (backed_in (visible l) p) (sym h ∙ backed_of f l legal p))) in
     λ z. some (sym (deed_of f l legal p) ∙ z)
 
 -- ---- a page that was read as backed
@@ -94,9 +89,6 @@ record WasThere (l : Whole) (g turn grains : ℕ) : Type 0 where
   grains_are : length_of block ≡ grains
   given : WasGiven (visible l) block
 
-some_is : {A : Type 0} {x y : A} → Some x ≡ Some y → x ≡ y
-some_is h = cc
-
 there : (f : Profile) (l : Whole) (g word turn grains gives ends : ℕ) (live : Option Live) → live_in (visible l) (16 * g) ≡ live → gives_in (visible l) (16 * g) ≡ gives → IsLifeOf f g word live gives ends
     → is_live word ≡ true → turn_of word ≡ turn → grains_of word ≡ grains → WasThere l g turn grains
 there f l g word turn grains gives ends None is gave life alive t n = let w = life.word_is in let few = life.few in let big : 2 ^ 63 ≤ word = leb-true (2 ^ 63) word alive in absurd (omega (arith, w, few, big))
@@ -110,7 +102,7 @@ there f l g word turn grains gives ends (Some b) is gave life alive t n =
       grains_are = omega (arith, w, few, short, n);
       given = record {
         earlier = subst (λ x. b.block.name.turn < gives_in (visible l) x) (sym at) (omega (arith, own, one, gave));
-        same = λ b' live turn. let e : Some b ≡ Some b' = sym is ∙ ap (live_in (visible l)) (sym at) ∙ live in ap (λ (x : Live). x.block) (sym (some_is e));
+        same = λ b' live turn. let e : Some b ≡ Some b' = sym is ∙ ap (live_in (visible l)) (sym at) ∙ live in ap (λ (x : Live). x.block) (sym (same_Some b b' e));
       };
     }
 

@@ -33,9 +33,7 @@ IsLength n = (1 ≤ n) × (n ≤ 256)
 
 kind_length : (k : Kind) → IsKind k → IsLength (guess_by_kind k)
 kind_length (Kind.Class class) is = let some = class_grains_positive class is in let few = class_grains_le class is in (omega (arith, some), omega (arith, few))
-kind_length Kind.Bitfit is = (omega arith, omega arith)
-kind_length Kind.Shared is = (omega arith, omega arith)
-kind_length Kind.Large is = (omega arith, omega arith)
+kind_length s is = (omega arith, omega arith)
 
 by_length : (o : Option Directory) → ((d : Directory) → o ≡ Some d → IsKind d.kind) → IsLength (guess_by o)
 by_length None is = (omega arith, omega arith)

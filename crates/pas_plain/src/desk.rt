@@ -9,6 +9,7 @@ use crate::pass::PlainPass;
 use crate::region::PlainRegion;
 use pas_profile::{Event, Profile};
 use pas_steps::{Desk, Step};
+use std::mem::replace;
 
 /// The place of one actor at a region at which no other actor works.
 #[derive(Drop)]
@@ -48,6 +49,18 @@ impl PlainDesk {
         ensures pass_stands { (v : View) (l : Whole) → DeskStands self v l → PassStands (profile_of result.0) result.1 l }
     {
         (self.region, self.pass)
+    }
+
+    /// Lets the actor of this pass, which is one of the region, sit down in the place of the one that sits here. The pass of the
+    /// one that rises. The region doesn't move.
+    #[inline(always)]
+    pub fn replace(&mut self, pass: PlainPass) -> PlainPass
+        requires { IsPassOf (region_of self.old) pass }
+        ensures region { region_of self.new ≡ region_of self.old }
+        ensures pass { pass_of self.new ≡ pass }
+        ensures risen { result ≡ pass_of self.old }
+    {
+        replace(&mut self.pass, pass)
     }
 
     #[inline(always)]

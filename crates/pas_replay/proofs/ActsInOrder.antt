@@ -90,7 +90,7 @@ woken {f} {all} {more} {region} {region'} {threads} {table} {out} k i d thread' 
     let agreed = subst (λ (g : Profile). Agreed g v steps) s.profile (did.calls.adds.agreed v so.whole s.stood rest) in
     let unknown = unknown_stays f steps v agreed in
     let log = ap (λ (x : Cached). length x.log) did.cache in
-    let r = rises {own' = own_costs_of k (ops_in more)} s turn.risen did.calls.adds did.calls.leads.from (omega (arith, unknown, log)) in
+    let r = rises {own' = own_costs_of k (ops_in more)} s turn.risen did.calls (omega (arith, unknown, log)) in
     let owed = set_owed f so.whole after 1 threads i k d thread' at lt (λ j ne. part_of_others j k steps so.whole (λ e. ne (sym e))) in
     let mine = ap (λ (w : View). owed_events f c' w) (part_of_own k steps so.whole) in
     let spare = so.spare in

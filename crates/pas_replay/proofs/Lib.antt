@@ -2,8 +2,10 @@ pub mod ActsOfPlan
 pub mod NameLimits
 pub mod BuiltPlans
 pub mod Threads
+pub mod Turns
 pub mod Sittings
 pub mod Operations
 pub mod ActsInOrder
+pub mod Phases
 pub mod StartAndEnd
 pub mod Opening

@@ -175,10 +175,10 @@ operated {f} {all} {more} {act} {what} {region} {region'} {threads} {table} {tab
     let v = part k so.whole in
     let after = triples k steps ++ so.whole in
     let rest = subst (λ (g : Profile). AtRest g c v) (sym s.profile) s.rest in
-    let agreed = did.performs.adds.agreed v so.whole s.stood rest in
+    let agreed = did.performs.calls.adds.agreed v so.whole s.stood rest in
     let few = at_seat s (λ (m : ℕ) (g : Profile). length (events_by m v steps) + length (said_by m said) + owed_events g c' (steps ++ v) ≤ cost_of_what what + owed_events g c v) (did.performs.few v rest agreed) in
     let own = of.own more in
-    let r = rises {own' = own_costs_of k (ops_in more)} s turn.risen did.performs.adds did.performs.rest (omega (arith, few, own)) in
+    let r = rises {own' = own_costs_of k (ops_in more)} s turn.risen did.performs.calls (omega (arith, few, own)) in
     let was = done k i d thread' at lt so known turn in
     let pushed = at_seat s (λ (m : ℕ) (g : Profile). records_in out' ≡ records_in out ++ (records_of (events_by m v steps) ++ said_by m said)) (did.pushed v so.whole s.stood rest) in
     let grown = ap length pushed ∙ length-append (records_in out) (records_of (events_by k v steps) ++ said_by k said) in

@@ -6,7 +6,7 @@ use Rattle.pas_profile.specs.declared.profile.Profile.{Profile}
 use Rattle.pas_steps.specs.Events.{events_of, events_by}
 use Rattle.pas_steps.specs.Views.{View}
 use Rattle.pas_steps.specs.Lists.{Whole, part}
-use Rattle.pas_steps.specs.Desks.{Seat, Adds, CanCall, triples}
+use Rattle.pas_steps.specs.Desks.{Seat, CanCall, triples}
 use Rattle.pas_steps.specs.declared.step.Made.{Made}
 use Rattle.pas_steps.proofs.Parts.{part_of_own, part_of_others}
 use Rattle.pas_steps.proofs.Frames.{events_split}
@@ -17,7 +17,7 @@ use Rattle.pas_plain.specs.declared.region.PlainRegion.{PlainRegion}
 use Rattle.pas_plain.specs.declared.pass.PlainPass.{PlainPass}
 use Rattle.pas_plain.specs.declared.desk.PlainDesk.{PlainDesk}
 use Rattle.pas_cache.specs.Caches.{Cached, cached, AtRest}
-use Rattle.pas_answers.specs.Calls.{StaysAtRest}
+use Rattle.pas_cache.specs.Calls.{Rests}
 use Rattle.pas_answers.specs.Calls.{owed_events}
 use Rattle.pas_replay.specs.Sessions.{IsSeated, ThreadStands, spare_at}
 use Rattle.pas_replay.specs.declared.seats.Thread.{Thread}
@@ -81,17 +81,16 @@ pub record Rises (f : Profile) (k : ℕ) (region : PlainRegion) (thread : Thread
 
 pub rises : {f : Profile} {k : ℕ} {c : Cached} {desk desk' : PlainDesk} {region' : PlainRegion} {thread' : Thread} {l : Whole} {own own' : ℕ} {steps : List Made}
     → Sits f k c desk l own → IsSeated region' thread' desk'
-    → Adds (standing_of desk) (standing_of desk') (λ v l. AtRest (profile_of (region_of desk)) c v) steps
-    → StaysAtRest (profile_of (region_of desk)) c (cached thread'.cache) steps
+    → Rests c (cached thread'.cache) (standing_of desk) (standing_of desk') steps
     → length (events_by k (part k l) steps) + (owed_events f (cached thread'.cache) (steps ++ part k l) + own') ≤ owed_events f c (part k l) + own
     → Rises f k region' thread' (triples k steps ++ l) own'
-rises {f} {k} {c} {desk} {desk'} {region'} {thread'} {l} {own} {own'} {steps} s risen adds stays few =
+rises {f} {k} {c} {desk} {desk'} {region'} {thread'} {l} {own} {own'} {steps} s risen calls few =
     let rest = subst (λ (g : Profile). AtRest g c (part k l)) (sym s.profile) s.rest in
     let whole : triples (actor_of (pass_of desk)) steps ++ l ≡ triples k steps ++ l = ap (λ (m : ℕ). triples m steps ++ l) s.actor in
-    let stood : DeskStands desk' (steps ++ part k l) (triples k steps ++ l) = subst (λ (w : Whole). DeskStands desk' (steps ++ part k l) w) whole (adds.added (part k l) l s.stood rest) in
-    let same : profile_of (region_of desk') ≡ f = ap (λ (t : Seat). t.profile) adds.seat_is ∙ s.profile in
+    let stood : DeskStands desk' (steps ++ part k l) (triples k steps ++ l) = subst (λ (w : Whole). DeskStands desk' (steps ++ part k l) w) whole (calls.adds.added (part k l) l s.stood rest) in
+    let same : profile_of (region_of desk') ≡ f = ap (λ (t : Seat). t.profile) calls.adds.seat_is ∙ s.profile in
     let own_part = part_of_own k steps l in
-    let room : room_of_pass (pass_of desk') ≡ room_of_pass (pass_of desk) = ap (λ (t : Seat). t.room) adds.seat_is in
+    let room : room_of_pass (pass_of desk') ≡ room_of_pass (pass_of desk) = ap (λ (t : Seat). t.room) calls.adds.seat_is in
     let old = s.room in
     let grown = ap length (ap (λ (v : View). events_of k v) own_part ∙ events_split k steps (part k l)) ∙ length-append (events_by k (part k l) steps) (events_of k (part k l)) in
     let owed = ap (λ (v : View). owed_events f (cached thread'.cache) v) own_part in
@@ -101,10 +100,10 @@ rises {f} {k} {c} {desk} {desk'} {region'} {thread'} {l} {own} {own'} {steps} s 
       this = record {
         pass = pass_of desk';
         present = risen.pass_is;
-        actor = ap (λ (t : Seat). t.actor) adds.seat_is ∙ s.actor;
+        actor = ap (λ (t : Seat). t.actor) calls.adds.seat_is ∙ s.actor;
         stands = subst (λ (g : Profile). PassStands g (pass_of desk') (triples k steps ++ l)) same stood.pass;
         rest = subst (λ (v : View). AtRest f (cached thread'.cache) v) (sym own_part)
-            (subst (λ (g : Profile). AtRest g (cached thread'.cache) (steps ++ part k l)) s.profile (stays (part k l) rest (adds.agreed (part k l) l s.stood rest)));
+            (subst (λ (g : Profile). AtRest g (cached thread'.cache) (steps ++ part k l)) s.profile (calls.leads.from (part k l) rest (calls.adds.agreed (part k l) l s.stood rest)));
         room = omega (arith, room, old, grown, owed, few);
       };
     }

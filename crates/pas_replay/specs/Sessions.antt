@@ -1,8 +1,8 @@
 -- What stands between two acts of a replay: one legal list, for which the region and the pass of each thread stand, and at whose end each thread
 -- is at rest with its cache.
-use Rattle.std.specs.Prelude.{ℕ, ◌+◌, ◌-◌, ◌<◌, ◌≤◌, ◌≡◌, ◌⊎◌, true, List, [], ◌∷◌, ◌++◌, length, Option, Some, slice_index_or}
+use Rattle.std.specs.Prelude.{ℕ, zero, suc, ◌+◌, ◌-◌, ◌<◌, ◌≤◌, ◌≡◌, ◌⊎◌, true, List, [], ◌∷◌, ◌++◌, length, Option, Some, slice_index_or}
 use Rattle.pas_profile.specs.declared.profile.Profile.{Profile}
-use Rattle.pas_profile.specs.declared.name.Block.{Block}
+use Rattle.pas_profile.specs.declared.name.Name.{Name}
 use Rattle.pas_steps.specs.Events.{events_of}
 use Rattle.pas_steps.specs.Lists.{Whole, part}
 use Rattle.pas_steps.specs.Desks.{Standing}
@@ -44,6 +44,33 @@ pub record Turn (region region' : PlainRegion) (thread thread' : Thread) (Did : 
   pub seated : IsSeated region thread desk
   pub risen : IsSeated region' thread' desk'
   pub did : Did (standing_of desk) (standing_of desk')
+
+-- ---- the desk of a phase, at which the threads take turns
+-- the threads, of which the one at place i has this pass
+abbrev pub with_pass : PlainPass → ℕ → List Thread → List Thread
+with_pass pass i [] = []
+with_pass pass zero (thread ∷ threads) = record { pass = Some pass; cache = thread.cache } ∷ threads
+with_pass pass (suc i) (thread ∷ threads) = thread ∷ with_pass pass i threads
+
+-- the threads, once the one at the desk has risen
+abbrev pub risen : PlainDesk → List Thread → List Thread
+risen desk threads = with_pass (pass_of desk) (actor_of (pass_of desk) - 1) threads
+
+-- the number of a thread
+abbrev pub IsThreadOf : List Thread → ℕ → Type 0
+IsThreadOf threads k = (1 ≤ k) × (k ≤ length threads)
+
+-- thread k may sit down in the place of the one at the desk
+pub record MayTakeTurn (desk : PlainDesk) (threads : List Thread) (k : ℕ) : Type 0 where
+  pub seated : IsThreadOf threads (actor_of (pass_of desk))
+  pub place : IsThreadOf threads k
+  pub own : (d : Thread) → MaySit (region_of desk) (slice_index_or (risen desk threads) (k - 1) d) (λ own. actor_of (pass_of own) ≡ k)
+
+-- it sat down there: nothing else changed
+pub record TakesTurn (desk desk' : PlainDesk) (threads threads' : List Thread) (k : ℕ) : Type 0 where
+  pub region_is : region_of desk' ≡ region_of desk
+  pub actor_is : actor_of (pass_of desk') ≡ k
+  pub threads_are : risen desk' threads' ≡ risen desk threads
 
 -- for how many more events there is room
 abbrev pub spare_at : PlainDesk → ℕ
@@ -93,7 +120,7 @@ pub record SoFar (f : Profile) (all acts : List Act) (region : PlainRegion) (thr
   pub names : List Named
   pub tells : Tells table names
   pub turns : HasTurns table
-  pub known : (n : ℕ) → is_asked asked n ≡ true → (block : Option Block) × (standing_for names n ≡ Some block)
+  pub known : (n : ℕ) → is_asked asked n ≡ true → (block : Option Name) × (standing_for names n ≡ Some block)
   pub caches : Caches
   pub caches_are : AreCaches caches 1 threads
   pub spare : length (records_in out) + (owed_from f whole 1 threads + (costs_of (ops_in acts) + marks_in acts)) ≤ room_of out

@@ -8,11 +8,13 @@ ghost use Rattle.pas_replay.specs.Sessions.{SoFar, AreEmpty, MayGoOn, GoesOn, ha
 ghost use Rattle.pas_report.specs.declared.records.Records.{Records as TheRecords};
 ghost use Rattle.pas_answers.specs.declared.names.Names.{Names as TheNames};
 
-use crate::seats::{Thread, operate, wake};
+use crate::seats::{Thread, operate, rise, sit, take_turn, wake};
+use pas_answers::answer;
 use pas_answers::names::Names;
 use pas_bits::Mask4;
 use pas_plain::PlainRegion;
 use pas_report::{Record, Records};
+use pas_steps::Desk;
 use pas_trace::{Op, Phase, What};
 
 /// The number of the phase that begins without a mark.
@@ -46,7 +48,7 @@ fn wake_all(region: PlainRegion, threads: &mut [Thread], ops: &[Op]) -> PlainReg
     region
 }
 
-/// Performs the operations of a phase in order.
+/// Performs the operations of a phase in order. The region stays at one desk, at which the threads take turns.
 fn perform(
     region: PlainRegion,
     threads: &mut [Thread],
@@ -57,17 +59,17 @@ fn perform(
     requires so_far { MayGoOn (map Operates ops.now) (hand region threads.old names.old out.old) }
     ensures so_far { GoesOn (map Operates ops.now) (hand region threads.old names.old out.old) (hand result threads.new names.new out.new) }
 {
-    let mut region = region;
+    let Some(first) = ops.first() else {
+        return region;
+    };
+    let mut desk = sit(region, &mut threads[first.actor as usize - 1]);
     for op in ops {
-        region = operate(
-            region,
-            &mut threads[op.actor as usize - 1],
-            names,
-            op.what,
-            out,
-        );
+        take_turn(&mut desk, threads, op.actor);
+        let thread = &mut threads[op.actor as usize - 1];
+        answer(&mut desk, &mut thread.cache, names, op.what, out);
     }
-    region
+    let last = desk.actor() as usize - 1;
+    rise(desk, &mut threads[last])
 }
 
 /// Stops each thread, in order.

@@ -1,20 +1,21 @@
 //! The threads' places at the region. One sits at a desk at a time.
-ghost use Rattle.std.specs.Prelude.{◌≡◌, ℕ, List};
+ghost use Rattle.std.specs.Prelude.{◌≡◌, ◌≢◌, ℕ, List};
 ghost use Rattle.pas_steps.specs.Desks.{CanCall};
-ghost use Rattle.pas_plain.specs.Plain.{profile_of};
-ghost use Rattle.pas_plain.specs.Seats.{standing_of};
+ghost use Rattle.pas_plain.specs.Plain.{profile_of, actor_of};
+ghost use Rattle.pas_plain.specs.Seats.{standing_of, pass_of};
 ghost use Rattle.pas_cache.specs.Caches.{cached, AtRest};
 ghost use Rattle.pas_cache.specs.Calls.{Begins};
 ghost use Rattle.pas_answers.specs.Calls.{works, HasTurns, MayAnswer, Answers};
 ghost use Rattle.pas_answers.specs.Fit.{IsFitWhat};
 ghost use Rattle.pas_answers.specs.Names.{names_held};
-ghost use Rattle.pas_replay.specs.Sessions.{IsSeated, MaySit, Turn, spare_at};
+ghost use Rattle.pas_replay.specs.Sessions.{IsSeated, MaySit, Turn, MayTakeTurn, TakesTurn, spare_at};
 
 use pas_answers::answer;
 use pas_answers::names::Names;
 use pas_cache::ThreadCache;
 use pas_plain::{PlainDesk, PlainPass, PlainRegion};
 use pas_report::Records;
+use pas_steps::Desk;
 use pas_trace::What;
 
 /// A thread: its pass, while it isn't at the desk, and its cache.
@@ -25,7 +26,7 @@ pub(crate) struct Thread {
 }
 
 /// The thread takes its seat at the region.
-fn sit(region: PlainRegion, thread: &mut Thread) -> PlainDesk
+pub(crate) fn sit(region: PlainRegion, thread: &mut Thread) -> PlainDesk
     requires { MaySit region thread.old (λ desk. Unit {0}) }
     ensures seated { IsSeated region thread.old result }
     ensures cache { thread.new.cache ≡ thread.old.cache }
@@ -37,7 +38,7 @@ fn sit(region: PlainRegion, thread: &mut Thread) -> PlainDesk
 }
 
 /// The thread rises.
-fn rise(desk: PlainDesk, thread: &mut Thread) -> PlainRegion
+pub(crate) fn rise(desk: PlainDesk, thread: &mut Thread) -> PlainRegion
     ensures risen { IsSeated result thread.new desk }
     ensures cache { thread.new.cache ≡ thread.old.cache }
 {
@@ -54,6 +55,32 @@ pub(crate) fn wake(region: PlainRegion, thread: &mut Thread) -> PlainRegion
     let mut desk = sit(region, thread);
     thread.cache.begin(&mut desk);
     rise(desk, thread)
+}
+
+/// The thread of this number sits down at the desk, where it doesn't sit there. The one that sits there rises then.
+#[inline(always)]
+pub(crate) fn take_turn(desk: &mut PlainDesk, threads: &mut [Thread], actor: u8)
+    requires { MayTakeTurn desk.old threads.old actor }
+    ensures { TakesTurn desk.old desk.new threads.old threads.new actor }
+{
+    if desk.actor() != actor {
+        change_seats(desk, threads, actor);
+    }
+}
+
+/// The thread of this number sits down at the desk in the place of the one that sits there.
+#[inline(never)]
+fn change_seats(desk: &mut PlainDesk, threads: &mut [Thread], actor: u8)
+    requires other { actor_of (pass_of desk.old) ≢ actor }
+    requires may { MayTakeTurn desk.old threads.old actor }
+    ensures { TakesTurn desk.old desk.new threads.old threads.new actor }
+{
+    let Some(pass) = threads[actor as usize - 1].pass.take() else {
+        unreachable!();
+    };
+    let place = desk.actor() as usize - 1;
+    let risen = desk.replace(pass);
+    threads[place].pass = Some(risen);
 }
 
 /// The thread performs the operation, and its events and what is said come to the records.

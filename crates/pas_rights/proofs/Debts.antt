@@ -1,6 +1,6 @@
 -- What is owed on a page after the steps of these calls, and whether the right is the actor's.
-use Rattle.std.proofs.Common.{◌≡◌, ◌≢◌, ℕ, ◌+◌, ◌*◌, ◌/◌, ◌%◌, ◌<◌, ◌≤◌, ◌==◌, Bool, true, false, not, ◌&&◌, ◌||◌, if◌then◌else◌, inl, inr, List, [], ◌∷◌, ◌++◌, length, refl, ap, sym, ◌∙◌, subst, arith, append_assoc, true≢false}
-use Rattle.std.proofs.lemmas.Bool.{eq-eqb, ne_eqb, cases_Bool, cases_lt, lt-ltb}
+use Rattle.std.proofs.Common.{◌≡◌, ◌≢◌, ℕ, ◌+◌, ◌*◌, ◌/◌, ◌%◌, ◌<◌, ◌≤◌, ◌==◌, Bool, true, false, not, ◌&&◌, if◌then◌else◌, inl, inr, List, [], ◌∷◌, ◌++◌, length, refl, ap, sym, ◌∙◌, subst, arith, append_assoc, true≢false}
+use Rattle.std.proofs.lemmas.Bool.{eq-eqb, ne_eqb, cases_Bool, cases_lt, lt-ltb, or_parts, not-false}
 use Rattle.pas_profile.specs.Classes.{has_bit, usable_grains}
 use Rattle.pas_profile.specs.Directories.{IsDirectory, deed_word_of, directory_read, number_of}
 use Rattle.pas_profile.specs.declared.directory.Directory.{Directory}
@@ -21,28 +21,21 @@ use Rattle.pas_rights.specs.Returns.{ReofferSteps, ReturnSteps}
 use Rattle.pas_rights.specs.Looks.{looks, any_usable, are_all_ones, LookedUntilUsed, HintSteps, HintsWhere}
 use Rattle.pas_steps.specs.Clear.{OwesNothing}
 use Rattle.pas_bits.proofs.Words.{full_bit}
-use Rattle.pas_rights.proofs.Looks.{below_at}
 use Rattle.pas_rights.proofs.Orders.{right_looks, deed_looks, same_page, ends, gives, gets_none, offered_on, parked_on, left_on, returned_on}
+use Rattle.pas_steps.proofs.Bits.{all_below-at}
+use Rattle.pas_steps.proofs.Flags.{ends_none}
 
 -- ---- what an ending keeps
-kept_none : (t owed : Bool) → owed ≡ false → (if t then false else owed) ≡ false
-kept_none true owed h = refl
-kept_none false owed h = h
-
 check_kept : (p w : ℕ) (answers : List ℕ) (v : View) → owes_check v p w ≡ false → owes_check (looks p answers ++ v) p w ≡ false
 check_kept p w [] v h = h
 check_kept p w (a ∷ more) v h =
-    kept_none ((length more == w) && (p == p) && not (known_deed (looks p more ++ v) p == 0) && no_usable (known_deed (looks p more ++ v) p) w a) (owes_check (looks p more ++ v) p w) (check_kept p w more v h)
+    ends_none ((length more == w) && (p == p) && not (known_deed (looks p more ++ v) p == 0) && no_usable (known_deed (looks p more ++ v) p) w a) (owes_check (looks p more ++ v) p w) (check_kept p w more v h)
 
 hint_kept : (p : ℕ) (answers : List ℕ) (v : View) → owes_hint v p ≡ false → owes_hint (looks p answers ++ v) p ≡ false
 hint_kept p [] v h = h
-hint_kept p (a ∷ more) v h = kept_none ((p == p) && not (a == all_ones)) (owes_hint (looks p more ++ v) p) (hint_kept p more v h)
+hint_kept p (a ∷ more) v h = ends_none ((p == p) && not (a == all_ones)) (owes_hint (looks p more ++ v) p) (hint_kept p more v h)
 
 -- ---- looks that show no usable grain end the checks
-none_here : (x y : Bool) → (not x || y) ≡ false → (x ≡ true) × (y ≡ false)
-none_here true y h = (refl, h)
-none_here false y h = cc
-
 ended : (n w p deed : ℕ) (none owed : Bool) → n ≡ w → deed ≢ 0 → none ≡ true → (if (n == w) && (p == p) && not (deed == 0) && none then false else owed) ≡ false
 ended n w p deed none owed same some h =
     ap (λ t. if t && (p == p) && not (deed == 0) && none then false else owed) (eq-eqb n w same)
@@ -53,44 +46,42 @@ ended n w p deed none owed same some h =
 check_looks : (p w : ℕ) (d : Directory) (answers : List ℕ) (v : View) → known_deed v p ≡ deed_word_of d → any_usable d answers ≡ false → w < length answers → owes_check (looks p answers ++ v) p w ≡ false
 check_looks p w d [] v knows none lt = absurd (omega (arith, lt))
 check_looks p w d (a ∷ more) v knows none lt =
-    let parts = none_here (no_usable (deed_word_of d) (length more) a) (any_usable d more) none in
+    let parts = or_parts (not (no_usable (deed_word_of d) (length more) a)) (any_usable d more) none in
     let deed : known_deed (looks p more ++ v) p ≡ deed_word_of d = deed_looks p p more v ∙ knows in
     let owed : Bool = owes_check (looks p more ++ v) p w in
     elim (cases_lt w (length more)) [
-      | inl below ↦ kept_none ((length more == w) && (p == p) && not (known_deed (looks p more ++ v) p == 0) && no_usable (known_deed (looks p more ++ v) p) w a) owed (check_looks p w d more v knows parts.1 below)
+      | inl below ↦ ends_none ((length more == w) && (p == p) && not (known_deed (looks p more ++ v) p == 0) && no_usable (known_deed (looks p more ++ v) p) w a) owed (check_looks p w d more v knows parts.1 below)
       | inr above ↦ let same : length more ≡ w = omega (arith, lt, above) in
           ended (length more) w p (known_deed (looks p more ++ v) p) (no_usable (known_deed (looks p more ++ v) p) w a) owed same
           (λ z. deed_word_of-positive d (sym deed ∙ z))
-          (ap (λ x. no_usable x w a) deed ∙ ap (λ x. no_usable (deed_word_of d) x a) (sym same) ∙ parts.0)
+          (ap (λ x. no_usable x w a) deed ∙ ap (λ x. no_usable (deed_word_of d) x a) (sym same) ∙ not-false (no_usable (deed_word_of d) (length more) a) parts.0)
     ]
 
 -- ---- looks that show a used grain end the hint
 hint_looks : (p : ℕ) (answers : List ℕ) (v : View) → are_all_ones answers ≡ false → owes_hint (looks p answers ++ v) p ≡ false
 hint_looks p [] v used = absurd (true≢false used)
 hint_looks p (a ∷ more) v used = elim (cases_Bool (a == all_ones)) [
-  | inl full ↦ kept_none ((p == p) && not (a == all_ones)) (owes_hint (looks p more ++ v) p) (hint_looks p more v (sym (ap (λ t. t && are_all_ones more) full) ∙ used))
+  | inl full ↦ ends_none ((p == p) && not (a == all_ones)) (owes_hint (looks p more ++ v) p) (hint_looks p more v (sym (ap (λ t. t && are_all_ones more) full) ∙ used))
   | inr not_full ↦ ap (λ t. if t && not (a == all_ones) then false else owes_hint (looks p more ++ v) p) (same_page p) ∙ ap (λ t. if not t then false else owes_hint (looks p more ++ v) p) not_full
 ]
 
 -- the first grain of each free word is usable
 first_usable : (k : Kind) (w : ℕ) → IsKind k → w < 4 → usable_by_kind k (64 * w + 0) ≡ true
 first_usable (Kind.Class class) w is lt = let most : 240 ≤ usable_grains class = usable_grains_ge class is in lt-ltb (64 * w + 0) (usable_grains class) (omega (arith, most, lt))
-first_usable Kind.Bitfit w is lt = refl
-first_usable Kind.Shared w is lt = refl
-first_usable Kind.Large w is lt = refl
+first_usable s w is lt = refl
 
 used_word : (d : Directory) (w a : ℕ) → IsDirectory d → w < 4 → no_usable (deed_word_of d) w a ≡ true → (a == all_ones) ≡ false
 used_word d w a is lt none = ne_eqb a all_ones (λ e.
     let full : has_bit a 0 ≡ true = ap (λ n. has_bit n 0) e ∙ full_bit 0 (omega arith) in
     let usable : usable_by (directory_read (deed_word_of d)) (64 * w + 0) ≡ true = ap (λ o. usable_by o (64 * w + 0)) (read-deed_word_of d is) ∙ first_usable d.kind w is.kind lt in
-    let here : not (has_bit a 0 && usable_by (directory_read (deed_word_of d)) (64 * w + 0)) ≡ true = below_at 64 0 (λ b. not (has_bit a b && usable_by (directory_read (deed_word_of d)) (64 * w + b))) none (omega arith) in
+    let here : not (has_bit a 0 && usable_by (directory_read (deed_word_of d)) (64 * w + 0)) ≡ true = all_below-at 64 0 (λ b. not (has_bit a b && usable_by (directory_read (deed_word_of d)) (64 * w + b))) none (omega arith) in
     true≢false (sym here ∙ ap (λ t. not (t && usable_by (directory_read (deed_word_of d)) (64 * w + 0))) full ∙ ap not usable))
 
 pub used_looks : (d : Directory) (answers : List ℕ) → IsDirectory d → length answers ≡ 4 → any_usable d answers ≡ false → are_all_ones answers ≡ false
 used_looks d [] is four none = absurd (omega (arith, four))
 used_looks d (a ∷ more) is four none =
-    let parts = none_here (no_usable (deed_word_of d) (length more) a) (any_usable d more) none in
-    ap (λ t. t && are_all_ones more) (used_word d (length more) a is (omega (arith, four)) parts.0)
+    let parts = or_parts (not (no_usable (deed_word_of d) (length more) a)) (any_usable d more) none in
+    ap (λ t. t && are_all_ones more) (used_word d (length more) a is (omega (arith, four)) (not-false (no_usable (deed_word_of d) (length more) a) parts.0))
 
 -- ---- hints
 hint_ends : (f : Profile) (p : ℕ) (steps : List Made) (v : View) → HintSteps p steps → Agreed f v steps → owes_hint (steps ++ v) p ≡ false

@@ -1,8 +1,6 @@
 -- Looks at the free words of a page, and the tests of what they show.
-use Rattle.std.proofs.Common.{◌≡◌, ℕ, ◌+◌, ◌-◌, ◌*◌, ◌/◌, ◌%◌, ◌^◌, ◌<◌, ◌==◌, zero, suc, Bool, true, false, not, ◌||◌, ◌&&◌, List, [], ◌∷◌, length, refl, ap, sym, ◌∙◌, subst, arith, bit_and, inl, inr, ◌⊎◌, true≢false, slice_index}
-use Rattle.std.specs.Int.{bit_at}
-use Rattle.std.proofs.lemmas.Nat.Bits.{bit_at-lt, bit_at-zero, same_from_bits_below}
-use Rattle.std.proofs.lemmas.Bool.{eqb-false, eq-eqb, ne_eqb, cases_eq, cases_Bool, and_parts}
+use Rattle.std.proofs.Common.{◌≡◌, ℕ, ◌+◌, ◌-◌, ◌*◌, ◌/◌, ◌%◌, ◌^◌, ◌<◌, ◌==◌, suc, Bool, true, false, not, ◌||◌, ◌&&◌, List, [], ◌∷◌, length, refl, ap, sym, ◌∙◌, subst, arith, bit_and, inl, inr, ◌⊎◌, true≢false, slice_index}
+use Rattle.std.proofs.lemmas.Bool.{eq-eqb, ne_eqb, cases_Bool, not-true, not_from_false}
 use Rattle.pas_profile.specs.Classes.{has_bit}
 use Rattle.pas_profile.specs.Directories.{IsDirectory, deed_word_of}
 use Rattle.pas_profile.specs.declared.directory.Directory.{Directory}
@@ -15,6 +13,8 @@ use Rattle.pas_steps.specs.Desks.{Anything, Standing, Makes, Adds}
 use Rattle.pas_steps.specs.declared.step.Step.TheVariants.{Look}
 use Rattle.pas_steps.proofs.Adding.{adds_step}
 use Rattle.pas_rights.specs.Looks.{looks, any_usable, are_all_ones}
+use Rattle.pas_steps.proofs.Bits.{all_below-at, all_below-from, none_set}
+use Rattle.std.proofs.Math.Bool.{or_comm, and_comm}
 
 -- one look more
 pub more_looks : {σ σ' σ'' : Standing} (page : ℕ) (answers : List ℕ) (a w : ℕ) → length answers ≡ w
@@ -22,45 +22,14 @@ pub more_looks : {σ σ' σ'' : Standing} (page : ℕ) (answers : List ℕ) (a w
 more_looks {σ} {σ'} {σ''} page answers a w e before makes =
     adds_step before (subst (λ n. Makes σ' σ'' (Look (Word.Free page n)) a) (sym e) makes) (λ v l stood met. tt)
 
--- ---- a test of every number below n
-pub below_at : (n k : ℕ) (p : ℕ → Bool) → all_below n p ≡ true → k < n → p k ≡ true
-unfolding all_below
-below_at zero k p h lt = absurd (omega (arith, lt))
-below_at (suc n) k p h lt =
-    let parts = and_parts (p n) (all_below n p) h in
-    elim (cases_eq k n) [ inl e ↦ ap p e ∙ parts.0 | inr ne ↦ below_at n k p parts.1 (omega (arith, lt, ne)) ]
-
-both_true : (x y : Bool) → x ≡ true → y ≡ true → (x && y) ≡ true
-both_true x y hx hy = ap (λ t. t && y) hx ∙ hy
-
-pub below_all : (n : ℕ) (p : ℕ → Bool) → ((k : ℕ) → k < n → p k ≡ true) → all_below n p ≡ true
-unfolding all_below
-below_all zero p h = refl
-below_all (suc n) p h = both_true (p n) (all_below n p) (h n (omega arith)) (below_all n p (λ k lt. h k (omega (arith, lt))))
-
 -- ---- the grains of a mask in a word
-clear_bit : (n b : ℕ) → has_bit n b ≡ false → bit_at n b ≡ 0
-clear_bit n b h = let lt = bit_at-lt n b in let ne = eqb-false (bit_at n b) 1 h in omega (arith, lt, ne)
-
-is_zero_from : (n : ℕ) → n < 2 ^ 64 → ((b : ℕ) → b < 64 → has_bit n b ≡ false) → n ≡ 0
-is_zero_from n small h = same_from_bits_below 64 n 0 small (omega arith) (λ b lt. clear_bit n b (h b lt) ∙ sym (bit_at-zero b))
-
-not_is : (x y : Bool) → x ≡ y → not y ≡ true → x ≡ false
-not_is true true e h = cc
-not_is true false e h = cc
-not_is false y e h = refl
-
-is_not : (x y : Bool) → x ≡ y → x ≡ false → not y ≡ true
-is_not x true e h = cc
-is_not x false e h = refl
-
 -- the test of a mask whose bits say which grains of the word pass
 mask_test : (a m : ℕ) (u : ℕ → Bool) → bit_and a m < 2 ^ 64 → ((b : ℕ) → b < 64 → has_bit m b ≡ u b) → (bit_and a m == 0) ≡ all_below 64 (λ b. not (has_bit a b && u b))
 mask_test a m u small bits =
     let both : (b : ℕ) → b < 64 → has_bit (bit_and a m) b ≡ (has_bit a b && u b) = λ b lt. bit_of_and a m b ∙ ap (λ x. has_bit a b && x) (bits b lt) in
     elim (cases_Bool (all_below 64 (λ b. not (has_bit a b && u b)))) [
-      | inl all ↦ eq-eqb (bit_and a m) 0 (is_zero_from (bit_and a m) small (λ b lt. not_is (has_bit (bit_and a m) b) (has_bit a b && u b) (both b lt) (below_at 64 b (λ i. not (has_bit a i && u i)) all lt))) ∙ sym all
-      | inr some ↦ ne_eqb (bit_and a m) 0 (λ z. true≢false (sym (below_all 64 (λ b. not (has_bit a b && u b)) (λ b lt. is_not (has_bit (bit_and a m) b) (has_bit a b && u b) (both b lt) (ap (λ n. has_bit n b) z ∙ none_of_zero b))) ∙ some)) ∙ sym some
+      | inl all ↦ eq-eqb (bit_and a m) 0 (none_set (bit_and a m) small (λ b lt. both b lt ∙ not-true (has_bit a b && u b) (all_below-at 64 b (λ i. not (has_bit a i && u i)) all lt))) ∙ sym all
+      | inr some ↦ ne_eqb (bit_and a m) 0 (λ z. true≢false (sym (all_below-from 64 (λ b. not (has_bit a b && u b)) (λ b lt. not_from_false (has_bit a b && u b) (sym (both b lt) ∙ ap (λ n. has_bit n b) z ∙ none_of_zero b))) ∙ some)) ∙ sym some
     ]
 
 -- the test of the usable grains of a directory's page
@@ -83,23 +52,11 @@ pub full_mask : (k : Kind) (g : ℕ) → g < 256 → (k ≡ Kind.Bitfit) ⊎ ((k
 full_mask k g h is = ap (λ n. has_bit n (g % 64)) (four_full (g / 64) (omega arith)) ∙ full_bit (g % 64) (omega arith) ∙ sym (any_kind k g is)
 
 -- ---- what one look more shows
-swapped : (x y : Bool) → (x || y) ≡ (y || x)
-swapped true true = refl
-swapped true false = refl
-swapped false true = refl
-swapped false false = refl
-
-swapped_and : (x y : Bool) → (x && y) ≡ (y && x)
-swapped_and true true = refl
-swapped_and true false = refl
-swapped_and false true = refl
-swapped_and false false = refl
-
 pub usable_more : (d : Directory) (usable : Bool) (a m : ℕ) (answers : List ℕ) → (bit_and a m == 0) ≡ no_usable (deed_word_of d) (length answers) a → usable ≡ any_usable d answers → (usable || not (bit_and a m == 0)) ≡ any_usable d (a ∷ answers)
-usable_more d usable a m answers e h = ap (λ x. usable || not x) e ∙ ap (λ x. x || not (no_usable (deed_word_of d) (length answers) a)) h ∙ swapped (any_usable d answers) (not (no_usable (deed_word_of d) (length answers) a))
+usable_more d usable a m answers e h = ap (λ x. usable || not x) e ∙ ap (λ x. x || not (no_usable (deed_word_of d) (length answers) a)) h ∙ or_comm (any_usable d answers) (not (no_usable (deed_word_of d) (length answers) a))
 
 pub free_more : (all_free : Bool) (a : ℕ) (answers : List ℕ) → all_free ≡ are_all_ones answers → (all_free && (a == all_ones)) ≡ are_all_ones (a ∷ answers)
-free_more all_free a answers h = ap (λ x. x && (a == all_ones)) h ∙ swapped_and (are_all_ones answers) (a == all_ones)
+free_more all_free a answers h = ap (λ x. x && (a == all_ones)) h ∙ and_comm (are_all_ones answers) (a == all_ones)
 
 -- the bits of one word of the mask of usable grains
 pub word_bits : (d : Directory) (mask : List ℕ) (word n : ℕ) → n ≡ word → word < 4 → ((g : ℕ) → g < 256 → has_bit (slice_index mask (g / 64)) (g % 64) ≡ usable_by_kind d.kind g) → (b : ℕ) → b < 64 → has_bit (slice_index mask word) b ≡ usable_by_kind d.kind (64 * n + b)

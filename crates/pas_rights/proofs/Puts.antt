@@ -1,6 +1,6 @@
 -- The grains of a mask of one page, put back word by word.
 use Rattle.std.proofs.Common.{◌≡◌, ℕ, ◌+◌, ◌/◌, ◌%◌, ◌≤◌, ◌==◌, nat_lt, Bool, true, false, ◌&&◌, ◌||◌, if◌then◌else◌, List, [], ◌∷◌, ◌++◌, length, slice_index, inl, inr, refl, ap, sym, ◌∙◌, subst, arith}
-use Rattle.std.proofs.lemmas.Bool.{eqb-true, lt-ltb, le-ltb, and_parts}
+use Rattle.std.proofs.lemmas.Bool.{eqb-true, lt-ltb, le-ltb, and_parts, and_right}
 use Rattle.std.proofs.lemmas.Bool.Decides.{nat_tests}
 use Rattle.pas_profile.specs.Classes.{has_bit}
 use Rattle.pas_bits.specs.declared.mask.Mask4.{Mask4}
@@ -22,12 +22,8 @@ use Rattle.pas_steps.proofs.Sets.{put_both, put_as, put_nothing}
 use Rattle.pas_rights.specs.Puts.{masked, MayPut, WordPut, PutsBelow, MayPutWord, PutsWord, PutsMask}
 
 -- ---- one word
-and_last : (s t : Bool) → t ≡ false → (s && t) ≡ false
-and_last true t h = h
-and_last false t h = refl
-
-none_in : (page word mask g : ℕ) → mask ≡ 0 → in_mask page word mask g ≡ false
-none_in page word mask g z = and_last ((word == g / 64 % 4) && (page == g / 256)) (has_bit mask (g % 64)) (ap (λ m. has_bit m (g % 64)) z ∙ none_of_zero (g % 64))
+pub none_in : (page word mask g : ℕ) → mask ≡ 0 → in_mask page word mask g ≡ false
+none_in page word mask g z = and_right ((word == g / 64 % 4) && (page == g / 256)) (has_bit mask (g % 64)) (ap (λ m. has_bit m (g % 64)) z ∙ none_of_zero (g % 64))
 
 pub word_none : (page word mask : ℕ) (v : View) → mask ≡ 0 → Does (put (in_mask page word mask) page) v v
 word_none page word mask v z = put_nothing (in_mask page word mask) page (does_none v) (λ g. none_in page word mask g z)
@@ -53,7 +49,7 @@ behind : (s t u v : Bool) → (s ≡ true → u ≡ v) → (s && t && u) ≡ (s 
 behind true t u v same = ap (λ x. t && x) (same refl)
 behind false t u v same = refl
 
-in_word : (page : ℕ) (mask : Mask4) (n g : ℕ) → in_mask page n (slice_index mask.0 n) g ≡ ((n == g / 64 % 4) && masked page mask g)
+pub in_word : (page : ℕ) (mask : Mask4) (n g : ℕ) → in_mask page n (slice_index mask.0 n) g ≡ ((n == g / 64 % 4) && masked page mask g)
 in_word page mask n g = behind (n == g / 64 % 4) (page == g / 256) (has_bit (slice_index mask.0 n) (g % 64)) (is_set mask (g % 256)) (λ e.
     let at : n ≡ g / 64 % 4 = eqb-true n (g / 64 % 4) e in
     let word : n ≡ g % 256 / 64 = omega (arith, at) in
@@ -72,14 +68,14 @@ pub shared : (s t m : Bool) → ((s && m) || (t && m)) ≡ ((s || t) && m)
 shared true t m = or_same m t
 shared false t m = refl
 
-below_more : (page : ℕ) (mask : Mask4) (n g : ℕ) → (masked_below page mask n g || in_mask page n (slice_index mask.0 n) g) ≡ masked_below page mask (n + 1) g
+pub below_more : (page : ℕ) (mask : Mask4) (n g : ℕ) → (masked_below page mask n g || in_mask page n (slice_index mask.0 n) g) ≡ masked_below page mask (n + 1) g
 below_more page mask n g =
     ap (λ t. masked_below page mask n g || t) (in_word page mask n g) ∙ shared (nat_lt (g / 64 % 4) n) (n == g / 64 % 4) (masked page mask g) ∙ ap (λ t. t && masked page mask g) (sym (next_word (g / 64 % 4) n))
 
-none_below : (page : ℕ) (mask : Mask4) (g : ℕ) → masked_below page mask 0 g ≡ false
+pub none_below : (page : ℕ) (mask : Mask4) (g : ℕ) → masked_below page mask 0 g ≡ false
 none_below page mask g = ap (λ t. t && masked page mask g) (le-ltb (g / 64 % 4) 0 (omega arith))
 
-all_below : (page : ℕ) (mask : Mask4) (g : ℕ) → masked_below page mask 4 g ≡ masked page mask g
+pub all_below : (page : ℕ) (mask : Mask4) (g : ℕ) → masked_below page mask 4 g ≡ masked page mask g
 all_below page mask g = ap (λ t. t && masked page mask g) (lt-ltb (g / 64 % 4) 4 (omega arith))
 
 pub puts_kinds : (page : ℕ) (mask : Mask4) (n : ℕ) (steps : List Made) → PutsBelow page mask n steps → Only (Putting ∷ []) steps

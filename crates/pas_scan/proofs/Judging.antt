@@ -1,7 +1,7 @@
 -- The members of a block of pages, and their parked bits.
-use Rattle.std.proofs.Common.{◌≡◌, ◌≢◌, ℕ, ◌+◌, ◌*◌, ◌/◌, ◌%◌, ◌^◌, ◌<◌, ◌≤◌, ◌==◌, Bool, true, false, not, ◌&&◌, ◌||◌, if◌then◌else◌, List, [], ◌∷◌, ◌++◌, refl, ap, sym, ◌∙◌, subst, arith, append_assoc, max, min, ◌⊎◌, inl, inr, bit_and}
+use Rattle.std.proofs.Common.{◌≡◌, ◌≢◌, ℕ, ◌+◌, ◌*◌, ◌/◌, ◌%◌, ◌^◌, ◌<◌, ◌≤◌, ◌==◌, Bool, true, false, not, ◌&&◌, ◌||◌, if◌then◌else◌, List, [], ◌∷◌, ◌++◌, refl, ap, sym, ◌∙◌, subst, arith, append_assoc, max, min, inl, inr, bit_and}
 use Rattle.std.specs.Int.{bit_not, w64}
-use Rattle.std.proofs.lemmas.Bool.{cases_lt, cases_eq, eq-eqb, ne_eqb, eqb-true, and_parts}
+use Rattle.std.proofs.lemmas.Bool.{cases_lt, cases_eq, eq-eqb, ne_eqb, eqb-true, and_parts, or_right, or_cases, not-true, not-false}
 use Rattle.pas_profile.specs.Classes.{has_bit}
 use Rattle.pas_profile.specs.Directories.{deed_word_of}
 use Rattle.pas_profile.specs.Profiles.{IsPage}
@@ -14,7 +14,7 @@ use Rattle.pas_steps.specs.Frames.{IsScan, OnlyScans}
 use Rattle.pas_steps.specs.Desks.{made}
 use Rattle.pas_steps.specs.declared.step.Made.{Made}
 use Rattle.pas_steps.specs.declared.step.Step.TheVariants.{Look}
-use Rattle.pas_steps.proofs.Past.{once_later, always_both}
+use Rattle.pas_steps.proofs.Past.{once_later, always_both, always_map}
 use Rattle.pas_bits.specs.PageVectors.{is_in_word}
 use Rattle.pas_scan.specs.Marks.{is_marked}
 use Rattle.pas_steps.specs.Evidence.{ReadsParked, ParkedHere, IsSingle}
@@ -24,20 +24,14 @@ use Rattle.pas_scan.proofs.Singles.{Below, From, below_more, below_append, singl
 use Rattle.pas_scan.proofs.Reading.{scans_lack}
 
 -- ---- looks at the deed words of a block
-block_scan : (block : ℕ) (m : Made) → (page : ℕ) × (m.step ≡ Look (Word.Deed page)) × (page / 64 ≡ block) → IsScan m.step
-block_scan block m h = subst IsScan (sym h.1) (IsScan.LooksDeed h.0)
-
 pub block_scans : (block : ℕ) (steps : List Made) → InBlock block steps → OnlyScans steps
-block_scans block [] h = tt
-block_scans block (m ∷ more) h = (block_scan block m h.0, block_scans block more h.1)
+block_scans block steps = always_map (λ m before. (page : ℕ) × (m.step ≡ Look (Word.Deed page)) × (page / 64 ≡ block)) (λ m before. IsScan m.step) steps (λ m before h. subst IsScan (sym h.1) (IsScan.LooksDeed h.0))
 
 pub block_from : (block : ℕ) (steps : List Made) → InBlock block steps → From (65 * block) steps
-block_from block [] h = tt
-block_from block (m ∷ more) h = let e : place_of m.step ≡ h.0.0 + h.0.0 / 64 = ap place_of h.0.1 in let at = h.0.2 in (omega (arith, e, at), block_from block more h.1)
+block_from block steps = always_map (λ m before. (page : ℕ) × (m.step ≡ Look (Word.Deed page)) × (page / 64 ≡ block)) (λ m before. 65 * block ≤ place_of m.step) steps (λ m before h. let e = ap place_of h.1 in let at = h.2 in omega (arith, e, at))
 
 pub block_below : (block : ℕ) (steps : List Made) → InBlock block steps → Below (65 * block + 64) steps
-block_below block [] h = tt
-block_below block (m ∷ more) h = let e : place_of m.step ≡ h.0.0 + h.0.0 / 64 = ap place_of h.0.1 in let at = h.0.2 in (omega (arith, e, at), block_below block more h.1)
+block_below block steps = always_map (λ m before. (page : ℕ) × (m.step ≡ Look (Word.Deed page)) × (page / 64 ≡ block)) (λ m before. place_of m.step < 65 * block + 64) steps (λ m before h. let e = ap place_of h.1 in let at = h.2 in omega (arith, e, at))
 
 other_page : (q p block a known : ℕ) → q / 64 ≡ block → p / 64 ≢ block → (if q == p then a else known) ≡ known
 other_page q p block a known at ne = ap (λ t. if t then a else known) (ne_eqb q p (λ e. ne (ap (λ x. x / 64) (sym e) ∙ at)))
@@ -53,21 +47,8 @@ pub record Members (f : Profile) (marks : List ℕ) (d : Directory) (block first
   pub all : (v : View) (p : ℕ) → p / 64 ≡ block → first ≤ p → p < end → KnowsDeed p d (steps ++ v) → is_marked marks p ≡ false → has_bit members (p % 64) ≡ true
   pub only : (v : View) (p : ℕ) → p / 64 ≡ block → has_bit members (p % 64) ≡ true → (first ≤ p) × (p < end) × KnowsDeed p d (steps ++ v) × (is_marked marks p ≡ false)
 
-or_cases : (x y z : Bool) → ((x && y) || z) ≡ true → ((x ≡ true) × (y ≡ true)) ⊎ (z ≡ true)
-or_cases true true z h = inl (refl, refl)
-or_cases true false z h = inr h
-or_cases false y z h = inr h
-
-or_true : (x y : Bool) → y ≡ true → (x || y) ≡ true
-or_true true y h = refl
-or_true false y h = h
-
 read_here : (page a known : ℕ) → (if page == page then a else known) ≡ a
 read_here page a known = ap (λ t. if t then a else known) (eq-eqb page page refl)
-
-not_true : (x : Bool) → not x ≡ true → x ≡ false
-not_true true h = cc
-not_true false h = refl
 
 -- one deed word more
 pub members_more : (f : Profile) (marks : List ℕ) (d : Directory) (block first page members more a : ℕ) (steps : List Made) → Members f marks d block first page members steps → page / 64 ≡ block → first ≤ page
@@ -85,13 +66,14 @@ members_more f marks d block first page members more a steps before at low bits 
             ∙ ap (λ t. t || has_bit members (p % 64)) (eq-eqb page p same)
         | inr ne ↦
             let known : KnowsDeed p d (steps ++ v) = sym (ap (λ t. if t then a else known_deed (steps ++ v) p) (ne_eqb page p ne)) ∙ is in
-            or_true (open_here && (page == p)) (has_bit members (p % 64)) (before.all v p e ge (omega (arith, lt, ne)) known unmarked)
+            or_right (open_here && (page == p)) (has_bit members (p % 64)) (before.all v p e ge (omega (arith, lt, ne)) known unmarked)
       ];
-      only = λ v p e bit. elim (or_cases open_here (page == p) (has_bit members (p % 64)) (sym (bits p e) ∙ bit)) [
-        | inl here ↦
+      only = λ v p e bit. elim (or_cases (open_here && (page == p)) (has_bit members (p % 64)) (sym (bits p e) ∙ bit)) [
+        | inl both ↦
+            let here = and_parts open_here (page == p) both in
             let same : page ≡ p = eqb-true page p here.1 in
             let parts = and_parts (a == deed_word_of d) (not (is_marked marks page)) here.0 in
-            (omega (arith, low, same), omega (arith, same), subst (λ q. known_deed (made (Look (Word.Deed page)) a ∷ steps ++ v) q ≡ deed_word_of d) same (read_here page a (known_deed (steps ++ v) page) ∙ eqb-true a (deed_word_of d) parts.0), ap (is_marked marks) (sym same) ∙ not_true (is_marked marks page) parts.1)
+            (omega (arith, low, same), omega (arith, same), subst (λ q. known_deed (made (Look (Word.Deed page)) a ∷ steps ++ v) q ≡ deed_word_of d) same (read_here page a (known_deed (steps ++ v) page) ∙ eqb-true a (deed_word_of d) parts.0), ap (is_marked marks) (sym same) ∙ not-true (is_marked marks page) parts.1)
         | inr there ↦
             let old = before.only v p e there in let lt = old.1 in
             (old.0, omega (arith, lt), ap (λ t. if t then a else known_deed (steps ++ v) p) (ne_eqb page p (λ h. absurd (omega (arith, h, lt)))) ∙ old.2, old.3)
@@ -104,12 +86,6 @@ member_cut f marks d j a p ms steps v is = record { of_region = is.of_region; of
 
 pub member_joined : (f : Profile) (marks : List ℕ) (d : Directory) (j a p : ℕ) (ms steps : List Made) (v : View) → IsMember f marks d (ms ++ (steps ++ v)) p → IsMember f marks d (made (Look (Word.Parked j)) a ∷ (ms ++ steps) ++ v) p
 member_joined f marks d j a p ms steps v is = record { of_region = is.of_region; of_directory = ap (λ s. known_deed s p) (append_assoc ms steps v) ∙ is.of_directory; unmarked = is.unmarked }
-
--- of a member that isn't read as parked and not a member
-both_tests : (m a : Bool) → m ≡ true → (m && not a) ≡ false → a ≡ true
-both_tests true true e h = refl
-both_tests true false e h = cc
-both_tests false a e h = cc
 
 pub parked_more : (f : Profile) (marks : List ℕ) (d : Directory) (block end members a : ℕ) (ms steps : List Made) → a < 2 ^ 64 → OnlyScans (ms ++ steps) → InBlock block ms → AllParked f marks d (64 * block) steps
     → ((v : View) (p : ℕ) → p / 64 ≡ block → IsMember f marks d (ms ++ v) p → has_bit members (p % 64) ≡ true)
@@ -125,17 +101,12 @@ parked_more f marks d block end members a ms steps small scans deeds before all 
       let cut = member_cut f marks d block a p ms steps v is in
       let bit = all (steps ++ v) p at cut in
       let some = is.of_region.0 in
-      inl (ReadsParked.Looks block (sym at), both_tests (has_bit members (p % 64)) (has_bit a (p % 64)) bit (sym (bit_cleared members a (p % 64) small (omega arith)) ∙ none p some at lt), scans_lack (ms ++ steps) p scans)
+      inl (ReadsParked.Looks block (sym at), not-false (has_bit a (p % 64)) (sym (ap (λ t. t && not (has_bit a (p % 64))) bit) ∙ sym (bit_cleared members a (p % 64) small (omega arith)) ∙ none p some at lt), scans_lack (ms ++ steps) p scans)
 ]
 
 -- a member whose parked bit was read as 0
-both_parts : (m a : Bool) → (m && not a) ≡ true → (m ≡ true) × (a ≡ false)
-both_parts true true h = cc
-both_parts true false h = (refl, refl)
-both_parts false a h = cc
-
 pub held_bits : (members a page : ℕ) → a < 2 ^ 64 → has_bit (bit_and members (bit_not w64 a)) (page % 64) ≡ true → (has_bit members (page % 64) ≡ true) × (has_bit a (page % 64) ≡ false)
-held_bits members a page small h = both_parts (has_bit members (page % 64)) (has_bit a (page % 64)) (sym (bit_cleared members a (page % 64) small (omega arith)) ∙ h)
+held_bits members a page small h = let parts = and_parts (has_bit members (page % 64)) (not (has_bit a (page % 64))) (sym (bit_cleared members a (page % 64) small (omega arith)) ∙ h) in (parts.0, not-true (has_bit a (page % 64)) parts.1)
 
 pub held_here : (page block a : ℕ) (steps : List Made) → OnlyScans steps → page / 64 ≡ block → has_bit a (page % 64) ≡ false → Once (ParkedHere false page) (made (Look (Word.Parked block)) a ∷ steps)
 held_here page block a steps scans at bit = inl (ReadsParked.Looks block (sym at), bit, scans_lack steps page scans)

@@ -2,7 +2,7 @@
 use Rattle.std.proofs.Common.{◌≡◌, ◌≢◌, ℕ, suc, length, ◌+◌, ◌*◌, ◌/◌, ◌%◌, ◌<◌, ◌≤◌, Bool, true, false, ◌&&◌, if◌then◌else◌, List, [], ◌∷◌, ◌++◌, refl, ap, sym, ◌∙◌, subst, arith, inl, inr, true≢false}
 use Rattle.std.proofs.lemmas.Bool.{cases_lt, cases_Bool, eq-eqb}
 use Rattle.pas_profile.specs.Classes.{has_bit}
-use Rattle.pas_profile.specs.Directories.{IsKind, kind_number, number_of, deed_word_of, deed_word_numbered}
+use Rattle.pas_profile.specs.Directories.{IsKind, number_of, deed_word_of, deed_word_numbered}
 use Rattle.pas_profile.specs.Profiles.{IsPage}
 use Rattle.pas_profile.specs.declared.directory.Directory.{Directory}
 use Rattle.pas_profile.specs.declared.profile.Profile.{Profile}
@@ -22,8 +22,7 @@ use Rattle.pas_scan.specs.Scan.{eligible_looks, deed_looks, IsFirstOffered, IsFi
 -- ---- these looks give no right
 scan_right : (s : Step) (a p : ℕ) (had : Bool) → IsScan s → right_after s a p had ≡ had
 scan_right s a p had (IsScan.LooksEligible d j) = refl
-scan_right s a p had (IsScan.LooksDeed q) = refl
-scan_right s a p had (IsScan.LooksParked j) = refl
+scan_right s a p had step = refl
 
 pub right_scans : (steps : List Made) (v : View) (p : ℕ) → OnlyScans steps → has_right (steps ++ v) p ≡ has_right v p
 right_scans [] v p h = refl
@@ -64,11 +63,8 @@ zero_more d next block end a steps scans before bits limit p low high = elim (ca
   | inr ge ↦ let e : p / 64 ≡ block = omega (arith, ge, high, limit) in inl (ReadsEligible.Looks (number_of d) block refl (sym e), bits p low e high, scans_lack steps p scans)
 ]
 
-numbered : (heap kind : ℕ) → kind < 23 → (heap * 23 + kind) / 23 * 256 + (heap * 23 + kind) % 23 ≡ heap * 256 + kind
-numbered heap kind lt = let a : (heap * 23 + kind) / 23 ≡ heap = omega (arith, lt) in let b : (heap * 23 + kind) % 23 ≡ kind = omega (arith, lt) in omega (arith, a, b)
-
 deed_from_number : (d : Directory) → IsKind d.kind → deed_word_numbered (number_of d) ≡ deed_word_of d
-deed_from_number d is = let e : number_of d / 23 * 256 + number_of d % 23 ≡ d.heap * 256 + kind_number d.kind = numbered d.heap (kind_number d.kind) (kind_number_lt d.kind is) in omega (arith, e)
+deed_from_number d is = omega (arith, kind_number_lt d.kind is)
 
 -- the first page whose bit was read as 1
 pub first_one : (f : Profile) (d : Directory) (next block page a : ℕ) (steps : List Made) (v : View) → IsKind d.kind → OnlyScans steps → ((p : ℕ) → next ≤ p → p < 64 * block → Once (ZeroHere d p) steps)

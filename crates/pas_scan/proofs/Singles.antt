@@ -6,6 +6,7 @@ use Rattle.pas_steps.specs.declared.step.Step.{Step}
 use Rattle.pas_steps.specs.declared.step.Made.{Made}
 use Rattle.pas_steps.specs.declared.step.Step.TheVariants.{Look}
 use Rattle.pas_steps.specs.Evidence.{IsSingle}
+use Rattle.pas_steps.proofs.Past.{always_map, always_both}
 
 -- the deed words of a block of pages stand before its parked word, and behind all words of lower blocks
 abbrev pub place_of : Step → ℕ
@@ -21,12 +22,10 @@ abbrev pub From : ℕ → List Made → Type 0
 From n = Always (λ m before. n ≤ place_of m.step)
 
 pub below_more : (n k : ℕ) (steps : List Made) → n ≤ k → Below n steps → Below k steps
-below_more n k [] le h = tt
-below_more n k (m ∷ steps) le h = let lt = h.0 in (omega (arith, lt, le), below_more n k steps le h.1)
+below_more n k steps le = always_map (λ m before. place_of m.step < n) (λ m before. place_of m.step < k) steps (λ m before lt. omega (arith, lt, le))
 
 pub below_append : (n : ℕ) (ys xs : List Made) → Below n ys → Below n xs → Below n (ys ++ xs)
-below_append n [] xs a b = b
-below_append n (y ∷ ys) xs a b = (a.0, below_append n ys xs a.1 b)
+below_append n ys xs = always_both (λ m before. place_of m.step < n) (λ m before. place_of m.step < n) ys xs (λ m before lt. lt)
 
 not_below : (n : ℕ) (s : Step) (steps : List Made) → Below n steps → n ≤ place_of s → Once (λ m before. m.step ≡ s) steps → ⊥
 not_below n s [] below le once = once

@@ -24,7 +24,7 @@ use Rattle.pas_scavenger.specs.Readings.{IsFirstUsed, LooksUntilUsed}
 use Rattle.pas_scavenger.specs.Puttings.{none, IsAt}
 use Rattle.pas_scavenger.specs.Pages.{first_looks, AsksSteps, TakesSteps, ExamineSteps, MayExamine, MayTake, ReadsDirectory, TakesPage, ExaminesPage}
 use Rattle.pas_scavenger.specs.declared.reading.Used.{Used}
-use Rattle.pas_scavenger.proofs.Shapes.{examine_kinds, examine_few, examine_event}
+use Rattle.pas_scavenger.proofs.Shapes.{examine_sized, examine_event}
 use Rattle.pas_scavenger.proofs.States.{idle, at_idle, at_claim, rests}
 use Rattle.pas_scavenger.proofs.Takings.{looks_are}
 
@@ -33,8 +33,8 @@ examined {σ} page epoch outcome steps calls order = let age = σ.seat.profile.a
   steps = steps;
   calls = calls;
   order = order;
-  kinds = examine_kinds age epoch page outcome steps order;
-  few = examine_few age epoch page outcome steps order;
+  kinds = (examine_sized age epoch page outcome steps order).only;
+  few = (examine_sized age epoch page outcome steps order).few;
   event = λ v known. examine_event σ.seat.actor age epoch page outcome steps v order known;
 }
 

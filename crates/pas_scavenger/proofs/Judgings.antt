@@ -11,7 +11,7 @@ use Rattle.pas_steps.specs.declared.step.Made.{Made}
 use Rattle.pas_steps.specs.declared.step.Step.TheVariants.{Look}
 use Rattle.pas_steps.proofs.Adding.{adds_none, adds_step}
 use Rattle.pas_steps.proofs.Backed.{any_from}
-use Rattle.pas_rights.proofs.Looks.{below_all}
+use Rattle.pas_steps.proofs.Bits.{all_below-from}
 use Rattle.pas_rights.proofs.Orders.{same_page}
 use Rattle.pas_scavenger.specs.Judgements.{MayJudge}
 use Rattle.pas_scavenger.specs.declared.reading.Used.{Used}
@@ -25,7 +25,7 @@ may_unback f page epoch b stamp used v whole some old met agreed =
     let small = agreed.1.0.small in
     let one : (b == 1) ≡ true = eq-eqb b 1 (omega (arith, small, some)) in
     let on : holds_on v page ≡ true = any_from 256 (λ i. holds v (page * 256 + i)) 0 (omega arith) (held (page * 256 + 0) (omega arith)) in
-    let all : holds_all v page ≡ true = below_all 256 (λ i. holds v (page * 256 + i)) (λ k lt. held (page * 256 + k) (omega (arith, lt))) in
+    let all : holds_all v page ≡ true = all_below-from 256 (λ i. holds v (page * 256 + i)) (λ k lt. held (page * 256 + k) (omega (arith, lt))) in
     let read : knows_backed (made (Look (Word.Backed page)) b ∷ v) page ≡ true
     = and_from (if page == page then b == 1 else knows_backed v page) (holds_on v page) (ap (λ t. if t then b == 1 else knows_backed v page) (same_page page) ∙ one) on in
     record {

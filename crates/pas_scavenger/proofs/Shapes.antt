@@ -1,17 +1,16 @@
 -- The steps for one page: their kinds, their number and their event.
-use Rattle.std.proofs.Common.{◌≡◌, ℕ, suc, ◌≤◌, Bool, List, [], ◌∷◌, ◌++◌, Option, None, Some, length, refl, ap, sym, ◌∙◌, subst, arith, inl, inr, append_assoc, length-append}
+use Rattle.std.proofs.Common.{◌≡◌, ℕ, ◌+◌, true, false, suc, ◌≤◌, Bool, List, [], ◌∷◌, ◌++◌, Option, None, Some, length, refl, ap, sym, ◌∙◌, subst, arith, inl, inr, append_assoc, length-append}
 use Rattle.pas_bits.specs.declared.mask.Mask4.{Mask4}
 use Rattle.pas_profile.specs.declared.directory.Directory.{Directory}
 use Rattle.pas_profile.specs.declared.event.Event.{Event}
 use Rattle.pas_profile.specs.declared.event.Outcome.{Outcome}
 use Rattle.pas_profile.specs.declared.event.Outcome.TheVariants.{Unbacked, Bare, Young, InUse, NotOffered}
 use Rattle.pas_profile.specs.declared.word.Word.TheVariants as Word
-use Rattle.pas_rights.specs.Looks.{looks}
 use Rattle.pas_rights.proofs.Orders.{looks_count, leave_few, return_few, leave_returns, return_returns}
 use Rattle.pas_rights.proofs.Puts.{puts_kinds, puts_few}
 use Rattle.pas_steps.specs.Desks.{made}
 use Rattle.pas_steps.specs.Events.{events_by}
-use Rattle.pas_steps.specs.Kinds.{LookFree, Taking, Putting, Only, returning}
+use Rattle.pas_steps.specs.Kinds.{Kinds, within, LookFree, Taking, Putting, Only, returning}
 use Rattle.pas_steps.specs.Views.{View, known_epoch, or_zero}
 use Rattle.pas_steps.specs.declared.step.Made.{Made}
 use Rattle.pas_steps.specs.declared.step.Step.TheVariants.{Look}
@@ -20,100 +19,76 @@ use Rattle.pas_steps.proofs.Calls.{returns_are}
 use Rattle.pas_scavenger.specs.Readings.{ReadUntilUsed, takes}
 use Rattle.pas_scavenger.specs.Judgements.{used_at, Judged}
 use Rattle.pas_scavenger.specs.Puttings.{BackSteps}
-use Rattle.pas_scavenger.specs.Pages.{first_looks, AsksSteps, TakesSteps, EndsWithout, EndsWith, ExamineSteps, unback_of, quiet, examining}
+use Rattle.pas_scavenger.specs.Pages.{first_looks, AsksSteps, EndsWithout, EndsWith, ExamineSteps, unback_of, quiet, examining}
 use Rattle.pas_scavenger.specs.declared.reading.Used.{Used}
 use Rattle.pas_scavenger.proofs.Judgings.{two_looks}
 use Rattle.pas_scavenger.proofs.States.{idle}
 use Rattle.pas_scavenger.proofs.Takings.{looks_are, takes_are}
 
--- ---- kinds
-first_quiet : (page b : ℕ) (answers : List ℕ) → Only quiet (first_looks page b answers)
-first_quiet page b answers = only_both quiet (looks page answers) (made (Look (Word.Backed page)) b ∷ []) (only_within (LookFree ∷ []) quiet (looks page answers) refl (looks_are page answers)) (refl, tt)
+-- ---- kinds, and how many they are
+-- steps of these kinds, at most so many
+pub record Sized (ks : Kinds) (n : ℕ) (steps : List Made) : Type 0 where
+  pub only : Only ks steps
+  pub few : length steps ≤ n
 
-pub asks_quiet : (page : ℕ) (d : Directory) (got : Bool) (steps : List Made) → AsksSteps page d got steps → Only quiet steps
-asks_quiet page d got steps h = subst (Only quiet) (sym h.steps_are) (refl, (refl, first_quiet page h.backed h.answers))
+sized : (ks : Kinds) (n : ℕ) {steps : List Made} → Only ks steps → length steps ≤ n → Sized ks n steps
+sized ks n only few = record { only = only; few = few }
 
-without_quiet : (page : ℕ) (outcome : Outcome) (steps : List Made) → EndsWithout page outcome steps → Only quiet steps
-without_quiet page Bare steps h = subst (Only quiet) (sym h) (refl, tt)
-without_quiet page (InUse w v) steps h = subst (Only quiet) (sym h.4) (first_quiet page h.0 h.1)
-without_quiet page NotOffered steps h = subst (Only quiet) (sym h.4) (refl, asks_quiet page h.0 _ h.2 h.3)
-without_quiet page (Young s) steps h = absurd h
-without_quiet page Unbacked steps h = absurd h
+sized_both : {ks : Kinds} {m n : ℕ} {ys xs : List Made} → Sized ks m ys → Sized ks n xs → Sized ks (m + n) (ys ++ xs)
+sized_both {ks} {ys = ys} {xs = xs} a b = let all = length-append ys xs in let few = a.few in let more = b.few in record { only = only_both ks ys xs a.only b.only; few = omega (arith, all, few, more) }
 
-back_quiet : (page : ℕ) (d : Directory) (grains : Mask4) (steps : List Made) → BackSteps page d grains steps → Only quiet steps
-back_quiet page d grains steps h = subst (Only quiet) (sym h.steps_are)
-    (only_both quiet h.left (h.after ++ h.puts) (only_within returning quiet h.left refl (returns_are page h.left (leave_returns page d h.left h.leaves)))
-    (only_both quiet h.after h.puts (only_within returning quiet h.after refl (returns_are page h.after (return_returns page d h.after h.returns)))
-    (only_within (Putting ∷ []) quiet h.puts refl (puts_kinds page grains 4 h.puts h.order))))
+sized_as : {ks : Kinds} {m : ℕ} {steps : List Made} (ls : Kinds) → within ks ls ≡ true → Sized ks m steps → Sized ls m steps
+sized_as {ks} {steps = steps} ls w a = record { only = only_within ks ls steps w a.only; few = a.few }
 
-takes_quiet : (page : ℕ) (answers : List ℕ) → Only quiet (takes page answers)
-takes_quiet page answers = only_within (Taking ∷ []) quiet (takes page answers) refl (takes_are page answers)
+sized_at : {ks : Kinds} {n : ℕ} {xs steps : List Made} → steps ≡ xs → Sized ks n xs → Sized ks n steps
+sized_at {ks} {n} e a = subst (Sized ks n) (sym e) a
 
-pub judged_idle : (age epoch page : ℕ) (used : Option Used) (outcome : Outcome) (steps : List Made) → Judged age epoch page used outcome steps → Only idle steps
-judged_idle age epoch page used (InUse w v) steps h = subst (Only idle) (sym h.1) tt
-judged_idle age epoch page used Bare steps h = subst (Only idle) (sym h.1) (refl, tt)
-judged_idle age epoch page used (Young s) steps h = subst (Only idle) (sym h.4) (refl, (refl, tt))
-judged_idle age epoch page used Unbacked steps h = subst (Only idle) (sym h.6) (refl, (refl, (refl, tt)))
-judged_idle age epoch page used NotOffered steps h = absurd h
-
-took_kinds : (age epoch page : ℕ) (d : Directory) (outcome : Outcome) (steps : List Made) → TakesSteps age epoch page d outcome steps → Only examining steps
-took_kinds age epoch page d outcome steps h = subst (Only examining) (sym h.steps_are)
-    (only_both examining h.back (h.after ++ takes page h.answers) (only_within quiet examining h.back refl (back_quiet page d h.grains h.back h.puts))
-    (only_both examining h.after (takes page h.answers) (only_within idle examining h.after refl (judged_idle age epoch page h.used outcome h.after h.judged))
-    (only_within quiet examining (takes page h.answers) refl (takes_quiet page h.answers))))
-
-pub examine_kinds : (age epoch page : ℕ) (outcome : Outcome) (steps : List Made) → ExamineSteps age epoch page outcome steps → Only examining steps
-examine_kinds age epoch page outcome steps (inl h) = only_within quiet examining steps refl (without_quiet page outcome steps h)
-examine_kinds age epoch page outcome steps (inr h) = subst (Only examining) (sym h.steps_are)
-    (only_both examining h.after h.asked (took_kinds age epoch page h.directory outcome h.after h.takes) (only_within quiet examining h.asked refl (asks_quiet page h.directory _ h.asked h.asks)))
-
--- ---- how many they are
 read_few : (answers : List ℕ) (used : Option Used) → ReadUntilUsed answers used → length answers ≤ 4
 read_few answers None read = let four = read.four in omega (arith, four)
 read_few answers (Some used) read = let n = ap (λ (xs : List ℕ). length xs) read.answers_are in let word = read.word_is in let lt = read.within in omega (arith, n, word, lt)
 
-first_few : (page b : ℕ) (answers : List ℕ) → length answers ≤ 4 → length (first_looks page b answers) ≤ 5
-first_few page b answers few =
-    let all = length-append (looks page answers) (made (Look (Word.Backed page)) b ∷ []) in let n = looks_count page answers in omega (arith, all, n, few)
+first_sized : (page b : ℕ) (answers : List ℕ) (used : Option Used) → ReadUntilUsed answers used → Sized quiet 5 (first_looks page b answers)
+first_sized page b answers used read =
+    let n = looks_count page answers in let few = read_few answers used read in
+    sized_both {m = 4} {n = 1} (sized_as quiet refl (sized (LookFree ∷ []) 4 (looks_are page answers) (omega (arith, n, few)))) (sized quiet 1 (refl, tt) (omega arith))
 
-asks_few : (page : ℕ) (d : Directory) (got : Bool) (steps : List Made) → AsksSteps page d got steps → length steps ≤ 7
-asks_few page d got steps h = let n = ap (λ (xs : List Made). length xs) h.steps_are in let first = first_few page h.backed h.answers (read_few h.answers None h.free) in omega (arith, n, first)
+pub asks_sized : (page : ℕ) (d : Directory) (got : Bool) (steps : List Made) → AsksSteps page d got steps → Sized quiet 7 steps
+asks_sized page d got steps h = let first = first_sized page h.backed h.answers None h.free in let few = first.few in sized_at h.steps_are (sized quiet 7 (refl, (refl, first.only)) (omega (arith, few)))
 
-without_few : (page : ℕ) (outcome : Outcome) (steps : List Made) → EndsWithout page outcome steps → length steps ≤ 8
-without_few page Bare steps h = let n = ap (λ (xs : List Made). length xs) h in omega (arith, n)
-without_few page (InUse w v) steps h = let n = ap (λ (xs : List Made). length xs) h.4 in let first = first_few page h.0 h.1 (read_few h.1 (Some (used_at w v)) h.3) in omega (arith, n, first)
-without_few page NotOffered steps h = let n = ap (λ (xs : List Made). length xs) h.4 in let asked = asks_few page h.0 _ h.2 h.3 in omega (arith, n, asked)
-without_few page (Young s) steps h = absurd h
-without_few page Unbacked steps h = absurd h
+without_sized : (page : ℕ) (outcome : Outcome) (steps : List Made) → EndsWithout page outcome steps → Sized quiet 8 steps
+without_sized page Bare steps h = sized_at h (sized quiet 8 (refl, tt) (omega arith))
+without_sized page (InUse w v) steps h = let first = first_sized page h.0 h.1 (Some (used_at w v)) h.3 in let few = first.few in sized_at h.4 (sized quiet 8 first.only (omega (arith, few)))
+without_sized page NotOffered steps h = let asked = asks_sized page h.0 false h.2 h.3 in let few = asked.few in sized_at h.4 (sized quiet 8 (refl, asked.only) (omega (arith, few)))
+without_sized page (Young s) steps h = absurd h
+without_sized page Unbacked steps h = absurd h
 
-judged_few : (age epoch page : ℕ) (used : Option Used) (outcome : Outcome) (steps : List Made) → Judged age epoch page used outcome steps → length steps ≤ 3
-judged_few age epoch page used (InUse w v) steps h = let n = ap (λ (xs : List Made). length xs) h.1 in omega (arith, n)
-judged_few age epoch page used Bare steps h = let n = ap (λ (xs : List Made). length xs) h.1 in omega (arith, n)
-judged_few age epoch page used (Young s) steps h = let n = ap (λ (xs : List Made). length xs) h.4 in omega (arith, n)
-judged_few age epoch page used Unbacked steps h = let n = ap (λ (xs : List Made). length xs) h.6 in omega (arith, n)
-judged_few age epoch page used NotOffered steps h = absurd h
+back_sized : (page : ℕ) (d : Directory) (grains : Mask4) (steps : List Made) → BackSteps page d grains steps → Sized quiet 23 steps
+back_sized page d grains steps h = sized_at h.steps_are
+    (sized_both {m = 11} {n = 12} (sized_as quiet refl (sized returning 11 (returns_are page h.left (leave_returns page d h.left h.leaves)) (leave_few page d h.left h.leaves)))
+    (sized_both {m = 8} {n = 4} (sized_as quiet refl (sized returning 8 (returns_are page h.after (return_returns page d h.after h.returns)) (return_few page d h.after h.returns)))
+    (sized_as quiet refl (sized (Putting ∷ []) 4 (puts_kinds page grains 4 h.puts h.order) (puts_few page grains h.puts h.order)))))
 
 takes_count : (page : ℕ) (answers : List ℕ) → length (takes page answers) ≡ length answers
 takes_count page [] = refl
 takes_count page (a ∷ more) = ap (λ n. suc n) (takes_count page more)
 
-took_few : (age epoch page : ℕ) (d : Directory) (outcome : Outcome) (steps : List Made) → TakesSteps age epoch page d outcome steps → length steps ≤ 30
-took_few age epoch page d outcome steps h =
-    let b = h.puts in
-    let all = ap (λ (xs : List Made). length xs) h.steps_are ∙ length-append h.back (h.after ++ takes page h.answers) in
-    let rest = length-append h.after (takes page h.answers) in
-    let takes_n = takes_count page h.answers in let four = read_few h.answers h.used h.read in
-    let judged = judged_few age epoch page h.used outcome h.after h.judged in
-    let back = ap (λ (xs : List Made). length xs) b.steps_are ∙ length-append b.left (b.after ++ b.puts) in let more = length-append b.after b.puts in
-    let puts = puts_few page h.grains b.puts b.order in let after = return_few page d b.after b.returns in let left = leave_few page d b.left b.leaves in
-    omega (arith, all, rest, takes_n, four, judged, back, more, puts, after, left)
+takes_sized : (page : ℕ) (answers : List ℕ) (used : Option Used) → ReadUntilUsed answers used → Sized quiet 4 (takes page answers)
+takes_sized page answers used read = let n = takes_count page answers in let few = read_few answers used read in sized_as quiet refl (sized (Taking ∷ []) 4 (takes_are page answers) (omega (arith, n, few)))
 
-pub examine_few : (age epoch page : ℕ) (outcome : Outcome) (steps : List Made) → ExamineSteps age epoch page outcome steps → length steps ≤ 37
-examine_few age epoch page outcome steps (inl h) = let few = without_few page outcome steps h in omega (arith, few)
-examine_few age epoch page outcome steps (inr h) =
-    let all = ap (λ (xs : List Made). length xs) h.steps_are ∙ length-append h.after h.asked in
-    let asked = asks_few page h.directory _ h.asked h.asks in let after = took_few age epoch page h.directory outcome h.after h.takes in
-    omega (arith, all, asked, after)
+pub judged_sized : (age epoch page : ℕ) (used : Option Used) (outcome : Outcome) (steps : List Made) → Judged age epoch page used outcome steps → Sized idle 3 steps
+judged_sized age epoch page used (InUse w v) steps h = sized_at h.1 (sized idle 3 tt (omega arith))
+judged_sized age epoch page used Bare steps h = sized_at h.1 (sized idle 3 (refl, tt) (omega arith))
+judged_sized age epoch page used (Young s) steps h = sized_at h.4 (sized idle 3 (refl, (refl, tt)) (omega arith))
+judged_sized age epoch page used Unbacked steps h = sized_at h.6 (sized idle 3 (refl, (refl, (refl, tt))) (omega arith))
+judged_sized age epoch page used NotOffered steps h = absurd h
+
+pub examine_sized : (age epoch page : ℕ) (outcome : Outcome) (steps : List Made) → ExamineSteps age epoch page outcome steps → Sized examining 37 steps
+examine_sized age epoch page outcome steps (inl h) = let w = without_sized page outcome steps h in let few = w.few in sized_as examining refl (sized quiet 37 w.only (omega (arith, few)))
+examine_sized age epoch page outcome steps (inr h) = let t = h.takes in
+    sized_at (h.steps_are ∙ ap (λ s. s ++ h.asked) t.steps_are)
+    (sized_both {m = 30} {n = 7} (sized_both {m = 23} {n = 7} (sized_as examining refl (back_sized page h.directory t.grains t.back t.puts))
+    (sized_both {m = 3} {n = 4} (sized_as examining refl (judged_sized age epoch page t.used outcome t.after t.judged)) (sized_as examining refl (takes_sized page t.answers t.used t.read))))
+    (sized_as examining refl (asks_sized page h.directory true h.asked h.asks)))
 
 -- ---- the event
 judged_event : (k age epoch page : ℕ) (used : Option Used) (outcome : Outcome) (steps rest : List Made) (v : View) → Judged age epoch page used outcome steps → Only quiet rest → known_epoch v ≡ Some epoch → events_by k v (steps ++ rest) ≡ unback_of k epoch page outcome
@@ -139,10 +114,10 @@ taken_on age epoch page outcome steps h = let t = h.takes in
     h.steps_are ∙ ap (λ s. s ++ h.asked) t.steps_are ∙ append_assoc t.back (t.after ++ takes page t.answers) h.asked ∙ ap (λ s. t.back ++ s) (append_assoc t.after (takes page t.answers) h.asked)
 
 pub examine_event : (k age epoch page : ℕ) (outcome : Outcome) (steps : List Made) (v : View) → ExamineSteps age epoch page outcome steps → known_epoch v ≡ Some epoch → events_by k v steps ≡ unback_of k epoch page outcome
-examine_event k age epoch page outcome steps v (inl h) known = no_events quiet refl k v steps (without_quiet page outcome steps h) ∙ sym (without_none k epoch page outcome steps h)
+examine_event k age epoch page outcome steps v (inl h) known = no_events quiet refl k v steps (without_sized page outcome steps h).only ∙ sym (without_none k epoch page outcome steps h)
 examine_event k age epoch page outcome steps v (inr h) known =
     let t = h.takes in let rest = takes page t.answers ++ h.asked in
-    let quiet_rest : Only quiet rest = only_both quiet (takes page t.answers) h.asked (takes_quiet page t.answers) (asks_quiet page h.directory _ h.asked h.asks) in
+    let quiet_rest : Only quiet rest = only_both quiet (takes page t.answers) h.asked (takes_sized page t.answers t.used t.read).only (asks_sized page h.directory true h.asked h.asks).only in
     ap (events_by k v) (taken_on age epoch page outcome steps h)
-    ∙ events_same quiet refl k v t.back (t.after ++ rest) (back_quiet page h.directory t.grains t.back t.puts)
+    ∙ events_same quiet refl k v t.back (t.after ++ rest) (back_sized page h.directory t.grains t.back t.puts).only
     ∙ judged_event k age epoch page t.used outcome t.after rest v t.judged quiet_rest known

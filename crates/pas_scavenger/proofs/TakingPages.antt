@@ -24,7 +24,7 @@ use Rattle.pas_scavenger.specs.Judgements.{Judged, MayJudge, JudgesPage}
 use Rattle.pas_scavenger.specs.Puttings.{IsAt, MayPutBack, PutsBack}
 use Rattle.pas_scavenger.specs.Pages.{MayTake, TakesPage}
 use Rattle.pas_scavenger.specs.declared.taking.Taken.{Taken}
-use Rattle.pas_scavenger.proofs.Shapes.{judged_idle}
+use Rattle.pas_scavenger.proofs.Shapes.{judged_sized}
 use Rattle.pas_scavenger.proofs.States.{idle, at_idle, at_takes, at_as}
 use Rattle.pas_scavenger.proofs.Takings.{takes_are, takes_examined}
 
@@ -76,7 +76,7 @@ module _ {σ σ1 : Standing} (page : ℕ) (d : Directory) (epoch : ℕ) (taken :
 
   module _ {σ2 : Standing} {outcome : Outcome} (j : JudgesPage page epoch taken.used σ1 σ2 outcome) where
     only_idle : Only idle j.steps
-    only_idle = judged_idle σ1.seat.profile.age epoch page taken.used outcome j.steps j.judged
+    only_idle = (judged_sized σ1.seat.profile.age epoch page taken.used outcome j.steps j.judged).only
 
     judged_call : Calls σ σ2 (MayTake page d epoch) (λ v w. MayPutBack page d taken.grains w) (j.steps ++ takes page t.answers)
     judged_call =

@@ -73,7 +73,7 @@ held_here d p (m ∷ more) xs vain none zero_read lacks (inr h) = inr (held_here
 parked_later : (d : Directory) (p : ℕ) (ys xs : List Made) → has_right xs p ≡ false → Once (ZeroHere d p) xs → Once (ParkedHere true p) ys → Once (ParkedLater d p) (ys ++ xs)
 parked_later d p ys xs none zero_read = once_earlier (ParkedHere true p) (ParkedLater d p) ys xs (λ m before k. ((k.0, k.1, right_own p before xs none ∙ k.2), inl (once_later (ZeroHere d p) before xs zero_read)))
 
-module _ {F : Type 0} (rule : Rule F) (f : Profile) (d : Directory) (marks : List ℕ) (ys xs : List Made) (scans : OnlyScans ys) (s : Searching rule f d (f.pages + 1) marks xs) where
+module _ {F : Type 0} (rule : Rule F) (f : Profile) (d : Directory) (marks : List ℕ) (ys xs : List Made) (scans : OnlyScans ys) (s : Searching rule.no_fit f d (f.pages + 1) marks xs) where
   vain : AreVain ys
   vain = reads_vain ys (looks_read ys (scans_look ys scans))
 
@@ -101,8 +101,8 @@ module _ {F : Type 0} (rule : Rule F) (f : Profile) (d : Directory) (marks : Lis
         lower = all_accounted page (omega (arith, is.1)) h.2;
       }
 
-  pub refused : (answer : NoRoom) → IsVerdict f marks d ys answer → AllDeeds (f.pages + 1) xs → IsRefused rule f d (ys ++ xs) answer
-  refused answer verdict all = let now : Searching rule f d (f.pages + 1) marks (ys ++ xs) = vain_searching rule f d (f.pages + 1) marks ys xs vain s in record {
+  pub refused : (answer : NoRoom) → IsVerdict f marks d ys answer → AllDeeds (f.pages + 1) xs → IsRefused rule.no_fit f d (ys ++ xs) answer
+  refused answer verdict all = let now : Searching rule.no_fit f d (f.pages + 1) marks (ys ++ xs) = vain_searching rule f d (f.pages + 1) marks ys xs vain s in record {
     still = now.still;
     quiet = now.quiet;
     no_deed = no_deeds (ys ++ xs) now.quiet;
@@ -126,7 +126,7 @@ deed_read f v p (m ∷ xs) agreed (inr h) =
     let some = deed_read f v p xs agreed.1 h in λ e. some (sym (deed_stays f (m ∷ []) (xs ++ v) p (agreed.0, tt) some) ∙ e)
 
 -- ---- a page that was searched in no_fit_there was no fit at entry
-no_fit_there : {F : Type 0} (rule : Rule F) (f : Profile) (k : ℕ) (l : Whole) (d : Directory) (end : ℕ) (xs : List Made) → IsAntitone rule.no_fit → Legal f (triples k xs ++ l) → LendsNone xs → Searched rule.no_fit d end xs → (page : ℕ) → page < end → IsOfferedFit rule f d l page → ⊥
+no_fit_there : {F : Type 0} (rule : Rule F) (f : Profile) (k : ℕ) (l : Whole) (d : Directory) (end : ℕ) (xs : List Made) → IsAntitone rule.no_fit → Legal f (triples k xs ++ l) → LendsNone xs → Searched rule.no_fit d end xs → (page : ℕ) → page < end → IsOfferedFit rule.no_fit f d l page → ⊥
 no_fit_there rule f k l d end xs fewer legal searches searched page high fit =
     let first : Legal f l = legal_before f k xs l legal in
     elim (searched page fit.of_region.0 high) [
@@ -135,7 +135,7 @@ no_fit_there rule f k l d end xs fewer legal searches searched page high fit =
     ]
 
 -- ---- by a deed
-by_deed : {F : Type 0} (rule : Rule F) (f : Profile) (k : ℕ) (l : Whole) (d : Directory) (page : ℕ) (xs : List Made) → IsAntitone rule.no_fit → IsPage f page → Legal f (triples k xs ++ l) → LendsNone xs → Once (DeedMadeHere rule f d page) xs → IsLowestBare rule f d l page
+by_deed : {F : Type 0} (rule : Rule F) (f : Profile) (k : ℕ) (l : Whole) (d : Directory) (page : ℕ) (xs : List Made) → IsAntitone rule.no_fit → IsPage f page → Legal f (triples k xs ++ l) → LendsNone xs → Once (DeedMadeHere rule.no_fit f d page) xs → IsLowestBare rule.no_fit f d l page
 by_deed rule f k l d page [] fewer is legal searches h = absurd h
 by_deed rule f k l d page (m ∷ xs) fewer is legal searches (inr h) = by_deed rule f k l d page xs fewer is legal.1 searches.1 h
 by_deed rule f k l d page (m ∷ xs) fewer is legal searches (inl h) = record {
@@ -152,7 +152,7 @@ module _ {F : Type 0} (rule : Rule F) (f : Profile) (k : ℕ) (l : Whole) (d : D
   first : Legal f l
   first = legal_before f k xs l legal
 
-  served_told : (served : Served F) → IsServed rule f d xs served → IsLowestOffered rule f d l served.page ⊎ IsLowestBare rule f d l served.page
+  served_told : (served : Served F) → IsServed rule f d xs served → IsLowestOffered rule.no_fit f d l served.page ⊎ IsLowestBare rule.no_fit f d l served.page
   served_told served is = let p : ℕ = served.page in elim is.choice [
     | inl from ↦
         let read = one_told f k l d p xs legal from.offered in
@@ -170,17 +170,17 @@ module _ {F : Type 0} (rule : Rule F) (f : Profile) (k : ℕ) (l : Whole) (d : D
   ]
 
   -- ---- a refusal
-  entry_none : (room : NoRoom) → IsRefused rule f d xs room → HasNoFit rule f d l
+  entry_none : (room : NoRoom) → IsRefused rule.no_fit f d xs room → HasNoFit rule.no_fit f d l
   entry_none room is = record {
     offered = λ page fit. no_fit_there rule f k l d (f.pages + 1) xs fewer legal searches is.searched page (let high = fit.of_region.1 in omega (arith, high)) fit;
     bare = λ page bare. deed_exit f k l page xs legal (is.deeds page bare.of_region.0 (let high = bare.of_region.1 in omega (arith, high))) (deed_quiet f k l page xs legal is.quiet ∙ bare.no_deed);
   }
 
   -- the right of a page that the actor hasn't at exit it hadn't at entry
-  lacks_back : (room : NoRoom) → IsRefused rule f d xs room → (p : ℕ) → has_right (part k w) p ≡ false → has_right (part k l) p ≡ false
+  lacks_back : (room : NoRoom) → IsRefused rule.no_fit f d xs room → (p : ℕ) → has_right (part k w) p ≡ false → has_right (part k l) p ≡ false
   lacks_back room is p lacks = sym ((is.still.from (part k l) may agreed).right p) ∙ ap (λ v. has_right v p) (sym (part_of_own k xs l)) ∙ lacks
 
-  exit_none : (room : NoRoom) → IsRefused rule f d xs room → HasNoFit rule f d w
+  exit_none : (room : NoRoom) → IsRefused rule.no_fit f d xs room → HasNoFit rule.no_fit f d w
   exit_none room is = record {
     offered = λ page fit. let high = fit.of_region.1 in elim (is.searched page fit.of_region.0 (omega (arith, high))) [
       | inl u ↦ fit.fits (unfit_exit rule.no_fit f k l page xs fewer valid legal searches (λ g. (is.still.from (part k l) may agreed).held g) u)
@@ -197,7 +197,7 @@ module _ {F : Type 0} (rule : Rule F) (f : Profile) (k : ℕ) (l : Whole) (d : D
       let same : known_deed (part k w) p ≡ known_deed (xs ++ part k l) p = ap (λ v. known_deed v p) (part_of_own k xs l) in
       sym same ∙ known_is (known_deed (part k w) p) (word_after w (Word.Deed p)) ((spotted f w legal p).known k) (λ z. some (sym same ∙ z))
 
-  accounted_out : (room : NoRoom) → IsRefused rule f d xs room → (p : ℕ) → (KnowsDeed p d (xs ++ part k l) → Accounted d p xs) → IsInHands f d w p → ⊥
+  accounted_out : (room : NoRoom) → IsRefused rule.no_fit f d xs room → (p : ℕ) → (KnowsDeed p d (xs ++ part k l) → Accounted d p xs) → IsInHands f d w p → ⊥
   accounted_out room is p account hands =
       let low = hands.of_region.0 in let high = hands.of_region.1 in
       let none : has_right (part k l) p ≡ false = entry_lacks f k l d p xs valid first (may.rights p) hands.of_directory in
@@ -212,7 +212,7 @@ module _ {F : Type 0} (rule : Rule F) (f : Profile) (k : ℕ) (l : Whole) (d : D
         ]
       ]
 
-  held_in_hands : (room : NoRoom) → IsRefused rule f d xs room → (p : ℕ) → IsHeld f d xs p → IsInHands f d w p
+  held_in_hands : (room : NoRoom) → IsRefused rule.no_fit f d xs room → (p : ℕ) → IsHeld f d xs p → IsInHands f d w p
   held_in_hands room is p held =
       let known : known_deed (xs ++ part k l) p ≡ deed_word_of d = held.of_directory (part k l) agreed in
       let deed : word_after w (Word.Deed p) ≡ deed_word_of d = sym (known_exit p (λ z. deed_word_of-positive d (sym known ∙ z))) ∙ known in
@@ -229,19 +229,19 @@ module _ {F : Type 0} (rule : Rule F) (f : Profile) (k : ℕ) (l : Whole) (d : D
         not_parked = (spotted f w legal p).parked ∙ ap is_parked same ∙ parked_told f k l p false xs legal none held.lacked (once_map (HeldHere d p) (ParkedHere false p) xs (λ m before h. h.0) held.held);
       }
 
-  reason : (room : NoRoom) → IsRefused rule f d xs room → IsTrueReason f d w room
+  reason : (room : NoRoom) → IsRefused rule.no_fit f d xs room → IsTrueReason f d w room
   reason NoSpace is = λ page hands. accounted_out NoSpace is page (is.answer (part k l) agreed page hands.of_region.0 (let high = hands.of_region.1 in omega (arith, high))) hands
   reason (Held p) is = (
     held_in_hands (Held p) is p is.answer,
     λ other lt hands. accounted_out (Held p) is other (is.answer.lower (part k l) agreed other hands.of_region.0 lt) hands,
   )
 
-  pub all_told : (answer : Result (Served F) NoRoom) → MatchResult answer (IsServed rule f d xs) (IsRefused rule f d xs) → IsTold rule f d l w answer
+  pub all_told : (answer : Result (Served F) NoRoom) → MatchResult answer (IsServed rule f d xs) (IsRefused rule.no_fit f d xs) → IsTold (λ (s : Served F). s.page) rule.no_fit f d l w answer
   all_told (Ok served) h = served_told served h
   all_told (Err room) h = (entry_none room h, exit_none room h, reason room h)
 
 -- ---- an offered page serves
-offered_serves : {F : Type 0} {rule : Rule F} {f : Profile} {d : Directory} {steps : List Made} (served : Served F) → Finds rule f d (FromOffered rule d served.page) steps served → IsServed rule f d steps served
+offered_serves : {F : Type 0} {rule : Rule F} {f : Profile} {d : Directory} {steps : List Made} (served : Served F) → Finds rule f d (FromOffered rule.no_fit d served.page) steps served → IsServed rule f d steps served
 offered_serves {rule = rule} {f = f} {d = d} served found = record { page = found.page; keeps = found.keeps; choice = inl found.choice; shows = found.shows; serves = found.serves; few = found.few; events = found.events }
 
 -- what a search promises of its steps
@@ -249,7 +249,7 @@ pub record Ends {F : Type 0} (rule : Rule F) (d : Directory) (desk desk' : Stand
   pub steps : List Made
   pub adds : Adds desk desk' (λ v l. MaySearch d v) steps
   pub searches : AreSearch steps
-  pub outcome : MatchResult answer (IsServed rule desk.seat.profile d steps) (IsRefused rule desk.seat.profile d steps)
+  pub outcome : MatchResult answer (IsServed rule desk.seat.profile d steps) (IsRefused rule.no_fit desk.seat.profile d steps)
 
 at_directory : {F : Type 0} {rule : Rule F} {σ σ1 : Standing} {d' : Directory} (d : Directory) → d' ≡ d → (marks : List ℕ) (found : Option (Served F)) → SearchesOffered rule d' σ σ1 marks found → SearchesOffered rule d σ σ1 marks found
 at_directory {rule = rule} {σ = σ} {σ1 = σ1} d same marks found = subst (λ x. SearchesOffered rule x σ σ1 marks found) same
@@ -259,14 +259,14 @@ ends_offered {F} {rule} {σ} {σ1} d same marks served found = let offered : Sea
     record { steps = offered.steps; adds = offered.adds; searches = offered.searches; outcome = offered_serves served offered.outcome }
 
 -- ---- by a deed
-module _ {F : Type 0} (rule : Rule F) (f : Profile) (d : Directory) (marks : List ℕ) (os steps : List Made) (s : Searching rule f d (f.pages + 1) marks os) (served : Served F) (bare : ServesBare rule f d steps served) where
+module _ {F : Type 0} (rule : Rule F) (f : Profile) (d : Directory) (marks : List ℕ) (os steps : List Made) (s : Searching rule.no_fit f d (f.pages + 1) marks os) (served : Served F) (bare : ServesBare rule f d steps served) where
   abbrev m : Made
   m = made (Deed served.page d) 0
 
   abbrev ws : List Made
   ws = bare.before ++ os
 
-  now : Searching rule f d (f.pages + 1) marks (bare.before ++ os)
+  now : Searching rule.no_fit f d (f.pages + 1) marks (bare.before ++ os)
   now = vain_searching rule f d (f.pages + 1) marks bare.before os (reads_vain bare.before bare.reads) s
 
   all_steps : steps ++ os ≡ bare.serve ++ (made (Deed served.page d) 0 ∷ (bare.before ++ os))
@@ -275,9 +275,9 @@ module _ {F : Type 0} (rule : Rule F) (f : Profile) (d : Directory) (marks : Lis
   one_deed : deeds_made (bare.serve ++ (made (Deed served.page d) 0 ∷ (bare.before ++ os))) ≡ 1
   one_deed = deeds_serves bare.serve (m ∷ ws) bare.serves.only.kinds ∙ ap suc (no_deeds ws now.quiet)
 
-  deed_made : ByDeed rule f d served.page (bare.serve ++ (made (Deed served.page d) 0 ∷ (bare.before ++ os)))
+  deed_made : ByDeed rule.no_fit f d served.page (bare.serve ++ (made (Deed served.page d) 0 ∷ (bare.before ++ os)))
   deed_made = record {
-    made_here = once_later (DeedMadeHere rule f d served.page) bare.serve (m ∷ ws) (inl (record { deed = refl; made = refl; searched = searched rule f d (f.pages + 1) marks ws now; lower = λ q low high. deed_before q bare.before os (bare.lower q low high); quiet = now.quiet }));
+    made_here = once_later (DeedMadeHere rule.no_fit f d served.page) bare.serve (m ∷ ws) (inl (record { deed = refl; made = refl; searched = searched rule f d (f.pages + 1) marks ws now; lower = λ q low high. deed_before q bare.before os (bare.lower q low high); quiet = now.quiet }));
     one_deed = one_deed;
   }
 
@@ -287,7 +287,7 @@ module _ {F : Type 0} (rule : Rule F) (f : Profile) (d : Directory) (marks : Lis
   pub deed_serves : IsServed rule f d (steps ++ os) served
   deed_serves = subst (λ call. IsServed rule f d call served) (sym all_steps)
       (finds f d served.page m ws (GetsRight.Deeds d 0 refl) rule bare.serve (ready f d served.page m ws (GetsRight.Deeds d 0 refl) (λ v met. met.clear) now.still (λ v agreed. deed_known served.page d 0 (ws ++ v) refl)) (now.untouched served.page)
-      served.found (λ call. FromOffered rule d served.page call ⊎ ByDeed rule f d served.page call) bare.serves bare.page (inr deed_made)
+      served.found (λ call. FromOffered rule.no_fit d served.page call ⊎ ByDeed rule.no_fit f d served.page call) bare.serves bare.page (inr deed_made)
       (λ k v agreed.
       let one : length (events_by k v (m ∷ ws)) ≡ 1 = ap (λ es. suc (length es)) (events_quiet k v ws now.quiet) in
       let some : length (events_by k ((m ∷ ws) ++ v) bare.serve) ≤ rule.events = bare.serves.few k ((m ∷ ws) ++ v) in
@@ -330,7 +330,7 @@ module _ {F : Type 0} {rule : Rule F} {σ σ1 : Standing} {d' : Directory} (d : 
       let at1 : σ1.seat.profile ≡ f = profile_kept offered.adds in
       let pages : σ1.seat.profile.pages ≡ f.pages = ap (λ (x : Profile). x.pages) at1 in
       let xs : List Made = bare.steps ++ offered.steps in
-      let s : Searching rule f d (f.pages + 1) marks xs = vain_searching rule f d (f.pages + 1) marks bare.steps offered.steps (reads_vain bare.steps bare.outcome.0) offered.outcome in
+      let s : Searching rule.no_fit f d (f.pages + 1) marks xs = vain_searching rule f d (f.pages + 1) marks bare.steps offered.steps (reads_vain bare.steps bare.outcome.0) offered.outcome in
       let deeds : AllDeeds (f.pages + 1) xs = λ p low high. deed_before p bare.steps offered.steps (bare.outcome.1 p low (omega (arith, high, pages))) in
       record {
         steps = judged.steps ++ xs;

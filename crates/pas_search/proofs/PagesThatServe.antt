@@ -34,6 +34,7 @@ use Rattle.pas_steps.proofs.Kept.{right_on, holds_on_page, knows_still, scans_lo
 use Rattle.pas_steps.proofs.Adding.{adds_call, can_call, agreed_first, agreed_later, adds_step}
 use Rattle.pas_scan.specs.Scan.{IsFirstOffered, FindsOffered, FindsBare}
 use Rattle.pas_steps.specs.Lists.{Whole}
+use Rattle.pas_core.proofs.OneActorGrains.{no_deed_event}
 
 -- ---- kinds
 -- a back end returns its own page alone
@@ -76,10 +77,6 @@ pub quiet_events : (d : Directory) (p : ℕ) (steps : List Made) → AreQuiet st
 quiet_events d p steps h = always_map (λ m before. IsQuiet m) (λ m before. IsQuiet m ⊎ IsDeedOrBack d p m.step) steps (λ m before q. inl q) h
 
 -- ---- deeds
-no_deed_event : (t : Bool) (e : Event) → (if t then Some e else None) ≡ None → t ≡ false
-no_deed_event true e h = cc
-no_deed_event false e h = refl
-
 pub quiet_deed : (s : Step) (a : ℕ) → IsQuiet (made s a) → makes_deed s a ≡ false
 quiet_deed (Deed q d) a h = no_deed_event (a == 0) (Event.Deed 0 q d) (h 0 0)
 quiet_deed s a h = refl
@@ -208,14 +205,14 @@ offered_before d p (m ∷ more) xs vain none lacks (inl z) = inl ((z.0, z.1, rig
 offered_before d p (m ∷ more) xs vain none lacks (inr h) = inr (offered_before d p more xs vain.1 none lacks h)
 
 module _ {F : Type 0} (rule : Rule F) (f : Profile) (d : Directory) (next : ℕ) (marks : List ℕ) where
-  pub searched : (steps : List Made) → Searching rule f d next marks steps → Searched rule.no_fit d next steps
+  pub searched : (steps : List Made) → Searching rule.no_fit f d next marks steps → Searched rule.no_fit d next steps
   searched steps s p low high = elim (cases_Bool (is_marked marks p)) [
     | inl m ↦ inl (s.marked p m)
     | inr m ↦ inr (s.lacked p m, s.zeros p low high m)
   ]
 
   -- steps that changed nothing, where the pages from `next` to below `end` were read as 0
-  pub zeros_searching : (end : ℕ) (ys xs : List Made) → AreVain ys → Searching rule f d next marks xs → ((p : ℕ) → next ≤ p → p < end → Once (ZeroHere d p) (ys ++ xs)) → Searching rule f d end marks (ys ++ xs)
+  pub zeros_searching : (end : ℕ) (ys xs : List Made) → AreVain ys → Searching rule.no_fit f d next marks xs → ((p : ℕ) → next ≤ p → p < end → Once (ZeroHere d p) (ys ++ xs)) → Searching rule.no_fit f d end marks (ys ++ xs)
   zeros_searching end ys xs vain s zeros = record {
     still = leads_then (Does nothing) s.still (vain_leads f ys vain) (λ v w met a. tt) (λ v w u a b. does_then a b);
     searches = vain_search ys xs vain s.searches;
@@ -226,7 +223,7 @@ module _ {F : Type 0} (rule : Rule F) (f : Profile) (d : Directory) (next : ℕ)
     lacked = λ p m. vain_lacks p ys xs vain (s.untouched p).right (s.lacked p m);
   }
 
-  pub vain_searching : (ys xs : List Made) → AreVain ys → Searching rule f d next marks xs → Searching rule f d next marks (ys ++ xs)
+  pub vain_searching : (ys xs : List Made) → AreVain ys → Searching rule.no_fit f d next marks xs → Searching rule.no_fit f d next marks (ys ++ xs)
   vain_searching ys xs vain s = zeros_searching next ys xs vain s (λ p low high. absurd (omega (arith, low, high)))
 
 -- ---- effects, one after the other
@@ -308,7 +305,7 @@ module _ (f : Profile) (d : Directory) (page : ℕ) (m : Made) (ws : List Made) 
 
 -- ---- an offered page
 module _ {F : Type 0} (rule : Rule F) (f : Profile) (d : Directory) (page : ℕ) (marks : List ℕ) (m : Made) (ws zs : List Made) (gets : GetsRight page m.step m.answer) (quiet : IsQuiet m) (on : OnlyOn page zs)
-    (ready : Leads f (MaySearch d) (IsReady page d) (m ∷ ws)) (s : Searching rule f d page marks ws) where
+    (ready : Leads f (MaySearch d) (IsReady page d) (m ∷ ws)) (s : Searching rule.no_fit f d page marks ws) where
   others_lack : (p : ℕ) → p ≢ page → is_marked marks p ≡ false → Always (LacksAfter p) (zs ++ (m ∷ ws))
   others_lack p ne mark =
       let on_m : OnlyOn page (m ∷ []) = (gets_on page m.step m.answer gets, tt) in let none = (s.untouched p).right in
@@ -327,8 +324,8 @@ module _ {F : Type 0} (rule : Rule F) (f : Profile) (d : Directory) (page : ℕ)
   unfit_later p h = once_later (UnfitHere rule.no_fit p) zs (m ∷ ws) (inr h)
 
   -- it serves
-  pub from_offered : (found : F) → ServeSteps rule f page d zs (Some found) → IsPage f page → Once (OfferedHere d page) ws → Finds rule f d (FromOffered rule d page) (zs ++ (m ∷ ws)) (record { page = page; found = found })
-  from_offered found serve is offered = finds f d page m ws gets rule zs ready (s.untouched page) found (FromOffered rule d page) serve is
+  pub from_offered : (found : F) → ServeSteps rule f page d zs (Some found) → IsPage f page → Once (OfferedHere d page) ws → Finds rule f d (FromOffered rule.no_fit d page) (zs ++ (m ∷ ws)) (record { page = page; found = found })
+  from_offered found serve is offered = finds f d page m ws gets rule zs ready (s.untouched page) found (FromOffered rule.no_fit d page) serve is
       (record {
         offered = once_later (OfferedHere d page) zs (m ∷ ws) (inr offered);
         searched = λ p low high. elim (cases_Bool (is_marked marks p)) [
@@ -374,7 +371,7 @@ module _ {F : Type 0} {rule : Rule F} {σ0 σ : Standing} (d : Directory) (next 
   none_offered {σ1} same next' found =
       let find : FindsOffered d next σ σ1 next' None = subst (λ x. FindsOffered x next σ σ1 next' None) same found in
       let pages : σ.seat.profile.pages ≡ σ0.seat.profile.pages = ap (λ (s : Seat). s.profile.pages) adds.seat_is in
-      let s : Searching rule σ0.seat.profile d (σ0.seat.profile.pages + 1) marks (find.steps ++ xs) = zeros_searching rule σ0.seat.profile d next marks (σ0.seat.profile.pages + 1) find.steps xs (reads_vain find.steps (looks_read find.steps (scans_look find.steps find.scans))) goes.searching
+      let s : Searching rule.no_fit σ0.seat.profile d (σ0.seat.profile.pages + 1) marks (find.steps ++ xs) = zeros_searching rule σ0.seat.profile d next marks (σ0.seat.profile.pages + 1) find.steps xs (reads_vain find.steps (looks_read find.steps (scans_look find.steps find.scans))) goes.searching
       (λ p low high. zero_before d p find.steps xs (goes.searching.untouched p).right (find.outcome.1 p low (omega (arith, high, pages)))) in
       record { steps = find.steps ++ xs; adds = adds_call {D = Anything} adds find.adds (λ v l stood met. tt); searches = s.searches; outcome = s }
 
@@ -391,7 +388,7 @@ module _ {F : Type 0} {rule : Rule F} {σ0 σ : Standing} (d : Directory) (next 
     first : IsFirstOffered σ0.seat.profile d next find.steps page
     first = subst (λ (s : Seat). IsFirstOffered s.profile d next find.steps page) adds.seat_is find.outcome.1
 
-    at_page : Searching rule σ0.seat.profile d page marks (find.steps ++ xs)
+    at_page : Searching rule.no_fit σ0.seat.profile d page marks (find.steps ++ xs)
     at_page = zeros_searching rule σ0.seat.profile d next marks page find.steps xs vain goes.searching (λ p low high. zero_before d p find.steps xs (goes.searching.untouched p).right (first.lower p low high))
 
     rest_at : (p : ℕ) → page ≤ p → is_marked marks p ≡ false

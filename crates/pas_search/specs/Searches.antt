@@ -12,7 +12,7 @@ use Rattle.pas_steps.specs.Agreement.{Agreed}
 use Rattle.pas_steps.specs.Calls.{Leads, nothing, Does}
 use Rattle.pas_steps.specs.Clear.{IsClear}
 use Rattle.pas_steps.specs.Desks.{Standing, Adds, triples, made}
-use Rattle.pas_steps.specs.Evidence.{ZeroHere, OneHere, UnfitHere, Searched, AllDeeds, Accounted, HeldHere, LacksAfter}
+use Rattle.pas_steps.specs.Evidence.{Readings, ZeroHere, OneHere, UnfitHere, Searched, AllDeeds, Accounted, HeldHere, LacksAfter}
 use Rattle.pas_steps.specs.Frames.{OnlyReads}
 use Rattle.pas_steps.specs.Past.{Once, Always}
 use Rattle.pas_steps.specs.Unknown.{KnowsAllDeeds, HasRoom}
@@ -46,22 +46,22 @@ abbrev pub OfferedHere : Directory → ℕ → Made → List Made → Type 0
 OfferedHere d page m before = OneHere d page m before × Always (LacksAfter page) before
 
 -- a page was offered and fits: each lower page was got and didn't fit, or its bit was read as 0. No deed was made
-pub record FromOffered {F : Type 0} (rule : Rule F) (d : Directory) (page : ℕ) (steps : List Made) : Type 0 where
+pub record FromOffered (no_fit : Readings → Type 0) (d : Directory) (page : ℕ) (steps : List Made) : Type 0 where
   pub offered : Once (OfferedHere d page) steps
-  pub searched : Searched rule.no_fit d page steps
+  pub searched : Searched no_fit d page steps
   pub no_deed : deeds_made steps ≡ 0
 
 -- This step makes the deed, after the search of all offered pages, on a page all of whose lower pages' deed words were read as not 0. No event
 -- was made before.
-pub record DeedMadeHere {F : Type 0} (rule : Rule F) (f : Profile) (d : Directory) (page : ℕ) (m : Made) (before : List Made) : Type 0 where
+pub record DeedMadeHere (no_fit : Readings → Type 0) (f : Profile) (d : Directory) (page : ℕ) (m : Made) (before : List Made) : Type 0 where
   pub deed : m.step ≡ Deed page d
   pub made : m.answer ≡ 0
-  pub searched : Searched rule.no_fit d (f.pages + 1) before
+  pub searched : Searched no_fit d (f.pages + 1) before
   pub lower : AllDeeds page before
   pub quiet : AreQuiet before
 
-pub record ByDeed {F : Type 0} (rule : Rule F) (f : Profile) (d : Directory) (page : ℕ) (steps : List Made) : Type 0 where
-  pub made_here : Once (DeedMadeHere rule f d page) steps
+pub record ByDeed (no_fit : Readings → Type 0) (f : Profile) (d : Directory) (page : ℕ) (steps : List Made) : Type 0 where
+  pub made_here : Once (DeedMadeHere no_fit f d page) steps
   pub one_deed : deeds_made steps ≡ 1
 
 -- ---- what is found
@@ -85,7 +85,7 @@ pub record Finds {F : Type 0} (rule : Rule F) (f : Profile) (d : Directory) (Cho
   pub events : EventsAt d served.page steps
 
 abbrev pub IsServed : {F : Type 0} → Rule F → Profile → Directory → List Made → Served F → Type 0
-IsServed rule f d steps served = Finds rule f d (λ call. FromOffered rule d served.page call ⊎ ByDeed rule f d served.page call) steps served
+IsServed rule f d steps served = Finds rule f d (λ call. FromOffered rule.no_fit d served.page call ⊎ ByDeed rule.no_fit f d served.page call) steps served
 
 -- ---- refusals
 -- each page of the directory from 1 to below this one is accounted for
@@ -106,11 +106,11 @@ IsRefusal f d steps (Held page) = IsHeld f d steps page
 
 -- No offered page fits, no page is without a deed, and the answer says whether a page of the directory was in some actor's hands. No event was
 -- made, and all is as it was.
-pub record IsRefused {F : Type 0} (rule : Rule F) (f : Profile) (d : Directory) (steps : List Made) (room : NoRoom) : Type 0 where
+pub record IsRefused (no_fit : Readings → Type 0) (f : Profile) (d : Directory) (steps : List Made) (room : NoRoom) : Type 0 where
   pub still : Leads f (MaySearch d) (Does nothing) steps
   pub quiet : AreQuiet steps
   pub no_deed : deeds_made steps ≡ 0
-  pub searched : Searched rule.no_fit d (f.pages + 1) steps
+  pub searched : Searched no_fit d (f.pages + 1) steps
   pub deeds : AllDeeds (f.pages + 1) steps
   pub answer : IsRefusal f d steps room
 
@@ -120,24 +120,24 @@ pub record Searches {F : Type 0} (rule : Rule F) (tells : Bool) (d : Directory) 
   pub steps : List Made
   pub adds : Adds desk desk' (λ v l. MaySearch d v) steps
   pub searches : AreSearch steps
-  pub outcome : MatchResult answer (IsServed rule desk.seat.profile d steps) (IsRefused rule desk.seat.profile d steps)
-  pub told : tells ≡ true → (v : View) (l : Whole) → desk.stands v l → MaySearch d v → IsTold rule desk.seat.profile d l (triples desk.seat.actor steps ++ l) answer
+  pub outcome : MatchResult answer (IsServed rule desk.seat.profile d steps) (IsRefused rule.no_fit desk.seat.profile d steps)
+  pub told : tells ≡ true → (v : View) (l : Whole) → desk.stands v l → MaySearch d v → IsTold (λ (s : Served F). s.page) rule.no_fit desk.seat.profile d l (triples desk.seat.actor steps ++ l) answer
 
 -- ---- the search of offered pages
 -- So far: of the pages below `next` those that are marked didn't fit, and each other's bit was read as 0. The call has no right of them,
 -- and never had that of one that isn't marked. All is as it was.
-pub record Searching {F : Type 0} (rule : Rule F) (f : Profile) (d : Directory) (next : ℕ) (marks : List ℕ) (steps : List Made) : Type 0 where
+pub record Searching (no_fit : Readings → Type 0) (f : Profile) (d : Directory) (next : ℕ) (marks : List ℕ) (steps : List Made) : Type 0 where
   pub still : Leads f (MaySearch d) (Does nothing) steps
   pub searches : AreSearch steps
   pub quiet : AreQuiet steps
   pub untouched : (p : ℕ) → IsUntouched p steps
-  pub marked : (p : ℕ) → is_marked marks p ≡ true → Once (UnfitHere rule.no_fit p) steps
+  pub marked : (p : ℕ) → is_marked marks p ≡ true → Once (UnfitHere no_fit p) steps
   pub zeros : (p : ℕ) → 1 ≤ p → p < next → is_marked marks p ≡ false → Once (ZeroHere d p) steps
   pub lacked : (p : ℕ) → is_marked marks p ≡ false → Always (LacksAfter p) steps
 
 -- and no page from `next` on is marked
 pub record GoesOn {F : Type 0} (rule : Rule F) (f : Profile) (d : Directory) (next : ℕ) (marks : List ℕ) (steps : List Made) : Type 0 where
-  pub searching : Searching rule f d next marks steps
+  pub searching : Searching rule.no_fit f d next marks steps
   pub rest : (p : ℕ) → next ≤ p → is_marked marks p ≡ false
 
 pub record SearchesOffered {F : Type 0} (rule : Rule F) (d : Directory) (desk desk' : Standing) (marks : List ℕ) (found : Option (Served F)) : Type 0 where
@@ -145,8 +145,8 @@ pub record SearchesOffered {F : Type 0} (rule : Rule F) (d : Directory) (desk de
   pub adds : Adds desk desk' (λ v l. MaySearch d v) steps
   pub searches : AreSearch steps
   pub outcome : MatchOption found
-      (Searching rule desk.seat.profile d (desk.seat.profile.pages + 1) marks steps)
-      (λ served. Finds rule desk.seat.profile d (FromOffered rule d served.page) steps served)
+      (Searching rule.no_fit desk.seat.profile d (desk.seat.profile.pages + 1) marks steps)
+      (λ served. Finds rule desk.seat.profile d (FromOffered rule.no_fit d served.page) steps served)
 
 -- ---- the search of pages without a deed
 -- the deed was made on a page all of whose lower pages have one, and the back end served from there

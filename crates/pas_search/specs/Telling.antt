@@ -12,18 +12,16 @@ use Rattle.pas_steps.specs.Effects.{free_word_at}
 use Rattle.pas_steps.specs.Lists.{Whole, word_after}
 use Rattle.pas_core.specs.Rights.{eligible_bit, parked_bit}
 use Rattle.pas_steps.specs.Evidence.{Readings}
-use Rattle.pas_search.specs.Serving.{Rule}
-use Rattle.pas_search.specs.declared.serving.Served.{Served}
 
 -- which grains of the page are free
 abbrev pub free_of_page : Whole → ℕ → Readings
 free_of_page l page b = has_bit (word_after l (free_word_at (page * 256 + b))) (b % 64)
 
 -- the page is offered to the directory, and fits
-pub record IsOfferedFit {F : Type 0} (rule : Rule F) (f : Profile) (d : Directory) (l : Whole) (page : ℕ) : Type 0 where
+pub record IsOfferedFit (no_fit : Readings → Type 0) (f : Profile) (d : Directory) (l : Whole) (page : ℕ) : Type 0 where
   pub of_region : IsPage f page
   pub offered : eligible_bit l (number_of d) page ≡ true
-  pub fits : rule.no_fit (free_of_page l page) → ⊥
+  pub fits : no_fit (free_of_page l page) → ⊥
 
 -- the page has no deed
 pub record IsBarePage (f : Profile) (l : Whole) (page : ℕ) : Type 0 where
@@ -31,19 +29,19 @@ pub record IsBarePage (f : Profile) (l : Whole) (page : ℕ) : Type 0 where
   pub no_deed : word_after l (Word.Deed page) ≡ 0
 
 -- no page can serve
-pub record HasNoFit {F : Type 0} (rule : Rule F) (f : Profile) (d : Directory) (l : Whole) : Type 0 where
-  pub offered : (page : ℕ) → IsOfferedFit rule f d l page → ⊥
+pub record HasNoFit (no_fit : Readings → Type 0) (f : Profile) (d : Directory) (l : Whole) : Type 0 where
+  pub offered : (page : ℕ) → IsOfferedFit no_fit f d l page → ⊥
   pub bare : (page : ℕ) → IsBarePage f l page → ⊥
 
 -- the lowest page that is offered and fits
-pub record IsLowestOffered {F : Type 0} (rule : Rule F) (f : Profile) (d : Directory) (l : Whole) (page : ℕ) : Type 0 where
-  pub this : IsOfferedFit rule f d l page
-  pub lowest : (other : ℕ) → IsOfferedFit rule f d l other → page ≤ other
+pub record IsLowestOffered (no_fit : Readings → Type 0) (f : Profile) (d : Directory) (l : Whole) (page : ℕ) : Type 0 where
+  pub this : IsOfferedFit no_fit f d l page
+  pub lowest : (other : ℕ) → IsOfferedFit no_fit f d l other → page ≤ other
 
 -- the lowest page without a deed, where no offered page fits
-pub record IsLowestBare {F : Type 0} (rule : Rule F) (f : Profile) (d : Directory) (l : Whole) (page : ℕ) : Type 0 where
+pub record IsLowestBare (no_fit : Readings → Type 0) (f : Profile) (d : Directory) (l : Whole) (page : ℕ) : Type 0 where
   pub this : IsBarePage f l page
-  pub none_offered : (other : ℕ) → IsOfferedFit rule f d l other → ⊥
+  pub none_offered : (other : ℕ) → IsOfferedFit no_fit f d l other → ⊥
   pub lowest : (other : ℕ) → IsBarePage f l other → page ≤ other
 
 -- the page is of the directory, and is neither offered nor parked
@@ -58,9 +56,9 @@ abbrev pub IsTrueReason : Profile → Directory → Whole → NoRoom → Type 0
 IsTrueReason f d l NoSpace = (page : ℕ) → IsInHands f d l page → ⊥
 IsTrueReason f d l (Held page) = IsInHands f d l page × ((other : ℕ) → other < page → IsInHands f d l other → ⊥)
 
--- The page that serves is the lowest that was offered at entry and fits, or, where there was none, the lowest without a deed. Where the
+-- The page of what was found is the lowest that was offered at entry and fits, or, where there was none, the lowest without a deed. Where the
 -- request is refused, no page could serve at entry, nor can one at exit, and the reason is true at exit.
-abbrev pub IsTold : {F : Type 0} → Rule F → Profile → Directory → Whole → Whole → Result (Served F) NoRoom → Type 0
-IsTold rule f d entry exit answer = MatchResult answer
-    (λ served. IsLowestOffered rule f d entry served.page ⊎ IsLowestBare rule f d entry served.page)
-    (λ room. HasNoFit rule f d entry × HasNoFit rule f d exit × IsTrueReason f d exit room)
+abbrev pub IsTold : {A : Type 0} → (A → ℕ) → (Readings → Type 0) → Profile → Directory → Whole → Whole → Result A NoRoom → Type 0
+IsTold page_of no_fit f d entry exit answer = MatchResult answer
+    (λ found. IsLowestOffered no_fit f d entry (page_of found) ⊎ IsLowestBare no_fit f d entry (page_of found))
+    (λ room. HasNoFit no_fit f d entry × HasNoFit no_fit f d exit × IsTrueReason f d exit room)

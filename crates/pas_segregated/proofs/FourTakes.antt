@@ -30,7 +30,7 @@ four_words P a b c d (suc (suc (suc zero))) lt = d
 four_words P a b c d (suc (suc (suc (suc n)))) lt = absurd (omega (arith, lt))
 
 -- ---- bits of a word and of a mask
-bit_of : (m : Mask4) (n g : ℕ) → n ≡ g / 64 % 4 → has_bit (slice_index m.0 n) (g % 64) ≡ is_set m (g % 256)
+pub bit_of : (m : Mask4) (n g : ℕ) → n ≡ g / 64 % 4 → has_bit (slice_index m.0 n) (g % 64) ≡ is_set m (g % 256)
 bit_of m n g at =
     let word : n ≡ g % 256 / 64 = omega (arith, at) in
     let bit : g % 64 ≡ g % 256 % 64 = omega arith in
@@ -46,7 +46,7 @@ get_fate : (t : Bool) → grain_fate (if t then Gets else Stays) ≡ (if t then 
 get_fate true = refl
 get_fate false = refl
 
-or_none : (x y : Bool) → y ≡ false → x ≡ (x || y)
+pub or_none : (x y : Bool) → y ≡ false → x ≡ (x || y)
 or_none true y e = refl
 or_none false y e = sym e
 

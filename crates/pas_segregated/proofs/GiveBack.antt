@@ -31,7 +31,7 @@ use Rattle.pas_steps.proofs.Called.{call_none, call_as, call_then, next_call, ca
 use Rattle.pas_steps.proofs.Kept.{returns_on}
 use Rattle.pas_rights.specs.Puts.{masked, PutsMask}
 use Rattle.pas_rights.specs.Leaves.{MayLeave, Leaves}
-use Rattle.pas_segregated.specs.Stops.{in_slots, AreGrains, MayStopAt, LeavesWhere, stopped, StopsAt}
+use Rattle.pas_segregated.specs.Stops.{in_slots, AreGrains, MayStopAt, LeavesWhere, of_slots, StopsAt}
 use Rattle.pas_segregated.specs.declared.slots.Slots.{Slots}
 
 -- ---- the takes
@@ -203,8 +203,8 @@ module _ (d : Directory) (slots : Slots) (mask : Mask4) (are : AreGrains slots m
     pub stops_without : slots.right ≡ false → StopsAt d slots σ σ1
     stops_without none = record {
       steps = back.steps;
-      calls = call_as (Does (stopped slots)) back_call (λ v met. met)
-          (λ v w met after. does_as (stopped slots) after.0 (λ g. inl refl) (λ q. ap (λ t. if t && (slots.page == q) then Lost else Kept) (sym none)) (λ q h. h));
+      calls = call_as (Does (of_slots slots Lost)) back_call (λ v met. met)
+          (λ v w met after. does_as (of_slots slots Lost) after.0 (λ g. inl refl) (λ q. ap (λ t. if t && (slots.page == q) then Lost else Kept) (sym none)) (λ q h. h));
       order = record { mask = mask; grains = are; back = back.steps; puts = back.order; left = []; leaves = subst (λ t. LeavesWhere t slots.page d []) (sym none) refl; steps_are = refl };
       kinds = back.kinds;
       on = back.on;
@@ -221,8 +221,8 @@ module _ (d : Directory) (slots : Slots) (mask : Mask4) (are : AreGrains slots m
     pub stops_with : {σ2 : Standing} → slots.right ≡ true → Leaves slots.page d σ1 σ2 → StopsAt d slots σ σ2
     stops_with has left = record {
       steps = left.steps ++ back.steps;
-      calls = call_then (Does (stopped slots)) back_call left.calls (λ v met after. may_leave has v (back.steps ++ v) met after)
-          (λ v met a b. does_as (stopped slots) (does_then a.0 b.does) (λ g. inl refl) (λ q. left_right slots.right (slots.page == q) has)
+      calls = call_then (Does (of_slots slots Lost)) back_call left.calls (λ v met after. may_leave has v (back.steps ++ v) met after)
+          (λ v met a b. does_as (of_slots slots Lost) (does_then a.0 b.does) (λ g. inl refl) (λ q. left_right slots.right (slots.page == q) has)
           (λ q h. subst (λ t. ClearAfter t q v (left.steps ++ (back.steps ++ v))) (kept_kept (slots.page == q)) h));
       order = record { mask = mask; grains = are; back = back.steps; puts = back.order; left = left.steps; leaves = subst (λ t. LeavesWhere t slots.page d left.steps) (sym has) left.order; steps_are = refl };
       kinds = only_both giving_back left.steps back.steps (only_within returning giving_back left.steps refl (returns_are slots.page left.steps left.returns)) back.kinds;

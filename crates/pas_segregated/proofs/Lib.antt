@@ -1,5 +1,5 @@
 pub mod Starts
-mod GiveBack
-mod FourTakes
+pub mod GiveBack
+pub mod FourTakes
 mod WholeSlots
-mod Serve
+pub mod Serve

@@ -43,7 +43,7 @@ use Rattle.pas_profile.specs.declared.event.NoRoom.{NoRoom}
 use Rattle.pas_search.specs.Searches.{MaySearch, Searches}
 use Rattle.pas_search.specs.declared.serving.Served.{Served}
 use Rattle.pas_segregated.specs.Stops.{class_directory}
-use Rattle.pas_segregated.specs.Refills.{slots_found, GetsSlots, Refills}
+use Rattle.pas_segregated.specs.Refills.{exclusive_slots, GetsSlots, Refills}
 
 since_once : (P Q : Made → List Made → Type 0) (xs : List Made) → Since P Q xs → Once P xs
 since_once P Q [] h = h
@@ -57,7 +57,7 @@ class_of class d known same = subst IsKind same known
 not_empty : (starts : Mask4) → IsEmpty starts → HasMember starts → ⊥
 not_empty starts empty some = true≢false (sym some.2 ∙ empty some.0 some.1)
 
-at_most_one : (t : Bool) (e : Event) (es : List Event) → es ≡ [] → length (with_event (if t then Some e else None) es) ≤ 1
+pub at_most_one : (t : Bool) (e : Event) (es : List Event) → es ≡ [] → length (with_event (if t then Some e else None) es) ≤ 1
 at_most_one true e es h = let none : length es ≡ 0 = ap length h in omega (arith, none)
 at_most_one false e es h = let none : length es ≡ 0 = ap length h in omega (arith, none)
 
@@ -65,7 +65,7 @@ pub quiet_by : (steps : List Made) → Only taking_slots steps → AreQuiet step
 quiet_by steps = always_map (λ m before. is_in taking_slots (kind_of m.step) ≡ true) (λ m before. IsQuiet m) steps (λ m before is k e. no_event k e m.step m.answer (in_apart taking_slots showing (place_of (kind_of m.step)) refl is))
 
 -- the right of a page that the actor has is kept
-right_kept : (page q : ℕ) (t : Bool) (v w : View) → (page == q) ≡ t → has_right v page ≡ true → has_right w q ≡ has_right v q → has_right w q ≡ now (if t then Gained else Kept) (has_right v q)
+pub right_kept : (page q : ℕ) (t : Bool) (v w : View) → (page == q) ≡ t → has_right v page ≡ true → has_right w q ≡ has_right v q → has_right w q ≡ now (if t then Gained else Kept) (has_right v q)
 right_kept page q true v w e right same = same ∙ ap (has_right v) (sym (eqb-true page q e)) ∙ right
 right_kept page q false v w e right same = same
 
@@ -183,10 +183,7 @@ module _ (class page : ℕ) (d : Directory) (is : IsClass class) (starts : Mask4
 
 -- ---- what a search found
 module _ (heap class : ℕ) {tells : Bool} {σ σ' : Standing} (served : Served Mask4) (searches : Searches (exclusive class) tells (class_directory heap class) σ σ' (Ok served)) where
-  found_starts : AreStarts class served.found
-  found_starts s h = ((searches.outcome.serves.are s).0 h).0
-
-  gets_slots : Leads σ.seat.profile (MaySearch (class_directory heap class)) (GetsSlots (class_directory heap class) (slots_found heap class served)) searches.steps
+  gets_slots : Leads σ.seat.profile (MaySearch (class_directory heap class)) (GetsSlots (class_directory heap class) (record { page = served.page; heap = heap; class = class; starts = served.found; right = true })) searches.steps
   gets_slots = record {
     from = λ v met agreed.
         let keeps = searches.outcome.keeps.from v met agreed in let does = keeps.keeps.does in let shows = searches.outcome.shows in record {
@@ -204,24 +201,29 @@ module _ (heap class : ℕ) {tells : Bool} {σ σ' : Standing} (served : Served 
         };
   }
 
-  pub refills_ok : Refills heap class tells σ σ' (Ok (slots_found heap class served))
+  pub refills_ok : Refills (exclusive_slots heap class) tells σ σ' (Ok (record { page = served.page; heap = heap; class = class; starts = served.found; right = true }))
   refills_ok = record {
-    found = Ok served;
-    answer_is = refl;
-    searches = searches;
-    gives = record {
+    searched = searches.steps;
+    searches = searches.searches;
+    after = [];
+    adds = searches.adds;
+    outcome = record {
       page = searches.outcome.page;
-      named = refl;
-      with_right = refl;
-      starts = found_starts;
+      class_is = refl;
+      home = refl;
+      starts = λ s h. ((searches.outcome.serves.are s).0 h).0;
       some = searches.outcome.serves.some;
       took = searches.outcome.serves;
-      gets = gets_slots;
       choice = searches.outcome.choice;
       few = searches.outcome.few;
       events = searches.outcome.events;
+      leaves = refl;
+      after_few = omega arith;
+      after_kinds = tt;
+      gets = gets_slots;
     };
+    told = searches.told;
   }
 
-pub refills_err : (heap class : ℕ) {tells : Bool} {σ σ' : Standing} (room : NoRoom) → Searches (exclusive class) tells (class_directory heap class) σ σ' (Err room) → Refills heap class tells σ σ' (Err room)
-refills_err heap class room searches = record { found = Err room; answer_is = refl; searches = searches; gives = tt }
+pub refills_err : (heap class : ℕ) {tells : Bool} {σ σ' : Standing} (room : NoRoom) → Searches (exclusive class) tells (class_directory heap class) σ σ' (Err room) → Refills (exclusive_slots heap class) tells σ σ' (Err room)
+refills_err heap class room searches = record { searched = searches.steps; searches = searches.searches; after = []; adds = searches.adds; outcome = (searches.outcome, refl); told = searches.told }

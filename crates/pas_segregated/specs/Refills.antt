@@ -1,63 +1,79 @@
 -- A refill.
-use Rattle.std.specs.Prelude.{ℕ, ◌≡◌, ◌==◌, Bool, true, false, ◌⊎◌, if◌then◌else◌, List, Result, Ok, Err, IfOk}
+use Rattle.std.specs.Prelude.{ℕ, ◌≡◌, ◌==◌, Bool, true, false, not, ◌≤◌, ◌⊎◌, if◌then◌else◌, List, [], ◌++◌, length, Result, MatchResult}
 use Rattle.pas_profile.specs.Profiles.{IsPage}
 use Rattle.pas_profile.specs.declared.directory.Directory.{Directory}
 use Rattle.pas_profile.specs.declared.profile.Profile.{Profile}
 use Rattle.pas_profile.specs.declared.event.NoRoom.{NoRoom}
 use Rattle.pas_bits.specs.declared.mask.Mask4.{Mask4}
-use Rattle.pas_steps.specs.Calls.{Leads, Effect, Kept, Gained, Does}
+use Rattle.pas_steps.specs.Calls.{Leads, Effect, Kept, Gained, Lost, Does}
 use Rattle.pas_steps.specs.Views.{View, holds, knows_backed}
-use Rattle.pas_steps.specs.Desks.{Standing}
+use Rattle.pas_steps.specs.Lists.{Whole}
+use Rattle.pas_steps.specs.Desks.{Standing, Adds, triples}
+use Rattle.pas_steps.specs.Evidence.{Readings}
+use Rattle.pas_steps.specs.Kinds.{returning, Only}
 use Rattle.pas_steps.specs.declared.step.Made.{Made}
-use Rattle.pas_search.specs.Kinds.{EventsAt}
-use Rattle.pas_search.specs.Searches.{MaySearch, FromOffered, ByDeed, FewEvents, Searches}
-use Rattle.pas_search.specs.declared.serving.Served.{Served}
+use Rattle.pas_search.specs.Kinds.{AreSearch, EventsAt}
+use Rattle.pas_search.specs.Searches.{MaySearch, FromOffered, ByDeed, FewEvents, IsRefused}
+use Rattle.pas_search.specs.Telling.{IsTold}
 use Rattle.pas_segregated.specs.Masks.{AreStarts}
 use Rattle.pas_bits.specs.Masks.{HasMember}
-use Rattle.pas_segregated.specs.Takes.{TookSlots, exclusive}
-use Rattle.pas_segregated.specs.Stops.{class_directory, directory_of, in_slots, MayStopAt}
+use Rattle.pas_segregated.specs.Takes.{TookSlots, NoSlot}
+use Rattle.pas_segregated.specs.Stops.{class_directory, home_of, in_slots, LeavesWhere, MayStopAt}
 use Rattle.pas_segregated.specs.declared.slots.Slots.{Slots}
 
--- the slots of the page that a search found, with its right
-abbrev pub slots_found : ℕ → ℕ → Served Mask4 → Slots
-slots_found heap class served = record { page = served.page; heap = heap; class = class; starts = served.found; right = true }
+-- ---- what a refill is of
+pub record Filling : Type 1 where
+  pub directory : Directory  -- the pages that are searched
+  pub class : ℕ  -- the class of the slots
+  pub no_fit : Readings → Type 0  -- no slot fits of a page whose grains were read so
+  pub took : ℕ → List Made → Mask4 → Type 0  -- the steps of the call took these slots of the page
 
-abbrev pub answer_of : ℕ → ℕ → Result (Served Mask4) NoRoom → Result Slots NoRoom
-answer_of heap class (Ok served) = Ok (slots_found heap class served)
-answer_of heap class (Err room) = Err room
+-- of an exclusive page: all slots that are free with all their grains
+abbrev pub exclusive_slots : ℕ → ℕ → Filling
+exclusive_slots heap class = record { directory = class_directory heap class; class = class; no_fit = NoSlot class; took = TookSlots class }
 
--- the grains of the slots and their page's right are the actor's, and all else is as it was
-abbrev pub refilled : Slots → Effect
-refilled slots = record {
+-- ---- what it gives
+-- the grains of the slots are the actor's, and their page's right is just where it comes with them; all else is as it was
+abbrev pub got : Slots → Effect
+got slots = record {
   grains = λ g. if in_slots slots g then Gained else Kept;
-  rights = λ page. if slots.page == page then Gained else Kept;
+  rights = λ page. if slots.page == page then (if slots.right then Gained else Lost) else Kept;
   clears = λ page. Kept;
 }
 
 -- So it is. None of the grains was held; the page is known as backed; and the slots may be stopped from then on, for which its deed is known.
 pub record GetsSlots (d : Directory) (slots : Slots) (v w : View) : Type 0 where
-  pub does : Does (refilled slots) v w
+  pub does : Does (got slots) v w
   pub apart : (g : ℕ) → in_slots slots g ≡ true → holds v g ≡ false
   pub backed : knows_backed w slots.page ≡ true
   pub may_stop : MayStopAt d slots w
 
--- The slots are of a page of the directory, and are those that the takes of this page got whole. The page is the lowest offered one that has a
--- free slot, or the lowest without a deed; one event backs it, and one more makes its deed.
-pub record GivesSlots (f : Profile) (d : Directory) (steps : List Made) (slots : Slots) : Type 0 where
+-- The slots are of the class and of a page of the directory, with its right where that is an exclusive one. The search took them; its page is the
+-- lowest offered one that has a free slot, or the lowest without a deed; one event backs it, and one more makes its deed. A shared page is left then, by
+-- at most eleven steps and without an event.
+pub record GivesSlots (fill : Filling) (f : Profile) (searched after : List Made) (slots : Slots) : Type 0 where
   pub page : IsPage f slots.page
-  pub named : directory_of slots ≡ d
-  pub with_right : slots.right ≡ true
+  pub class_is : slots.class ≡ fill.class
+  pub home : home_of slots ≡ fill.directory
   pub starts : AreStarts slots.class slots.starts
   pub some : HasMember slots.starts
-  pub took : TookSlots slots.class slots.page steps slots.starts
-  pub gets : Leads f (MaySearch d) (GetsSlots d slots) steps
-  pub choice : FromOffered (exclusive slots.class) d slots.page steps ⊎ ByDeed (exclusive slots.class) f d slots.page steps
-  pub few : FewEvents f d 1 steps
-  pub events : EventsAt d slots.page steps
+  pub took : fill.took slots.page searched slots.starts
+  pub choice : FromOffered fill.no_fit fill.directory slots.page searched ⊎ ByDeed fill.no_fit f fill.directory slots.page searched
+  pub few : FewEvents f fill.directory 1 searched
+  pub events : EventsAt fill.directory slots.page searched
+  pub leaves : LeavesWhere (not slots.right) slots.page fill.directory after
+  pub after_few : length after ≤ 11
+  pub after_kinds : Only returning after
+  pub gets : Leads f (MaySearch fill.directory) (GetsSlots fill.directory slots) (after ++ searched)
 
--- the pages of the class were searched, and this is the answer
-pub record Refills (heap class : ℕ) (tells : Bool) (desk desk' : Standing) (answer : Result Slots NoRoom) : Type 0 where
-  pub found : Result (Served Mask4) NoRoom
-  pub answer_is : answer ≡ answer_of heap class found
-  pub searches : Searches (exclusive class) tells (class_directory heap class) desk desk' found
-  pub gives : IfOk answer (λ slots. GivesSlots desk.seat.profile (class_directory heap class) searches.steps slots)
+-- ---- a refill
+-- The pages of the directory were searched, and the page that was found was left where it is a shared one. The answer has its reasons in the steps of
+-- the search, and is true of the states at entry and at exit where the desk tells them. After a refusal no step followed.
+pub record Refills (fill : Filling) (tells : Bool) (desk desk' : Standing) (answer : Result Slots NoRoom) : Type 0 where
+  pub searched : List Made
+  pub searches : AreSearch searched
+  pub after : List Made
+  pub adds : Adds desk desk' (λ v l. MaySearch fill.directory v) (after ++ searched)
+  pub outcome : MatchResult answer (GivesSlots fill desk.seat.profile searched after) (λ room. IsRefused fill.no_fit desk.seat.profile fill.directory searched room × (after ≡ []))
+  pub told : tells ≡ true → (v : View) (l : Whole) → desk.stands v l → MaySearch fill.directory v
+      → IsTold (λ (s : Slots). s.page) fill.no_fit desk.seat.profile fill.directory l (triples desk.seat.actor (after ++ searched) ++ l) answer

@@ -1,10 +1,11 @@
 -- Slots that an actor holds, and how they are stopped.
-use Rattle.std.specs.Prelude.{ℕ, ◌/◌, ◌%◌, ◌<◌, ◌≤◌, ◌≡◌, ◌==◌, Bool, true, false, ◌&&◌, if◌then◌else◌, List, [], ◌++◌, length}
+use Rattle.std.specs.Prelude.{ℕ, ◌/◌, ◌%◌, ◌<◌, ◌≤◌, ◌≡◌, ◌==◌, Bool, true, false, ◌&&◌, not, if◌then◌else◌, List, [], ◌++◌, length}
 use Rattle.pas_profile.specs.declared.directory.Directory.{Directory}
 use Rattle.pas_profile.specs.declared.directory.Kind.TheVariants as Kind
+use Rattle.pas_profile.specs.Requests.{kind_of_class}
 use Rattle.pas_bits.specs.declared.mask.Mask4.{Mask4}
 use Rattle.pas_bits.specs.Masks.{is_set, IsEmpty}
-use Rattle.pas_steps.specs.Calls.{Calls, Effect, Kept, Lost, Does}
+use Rattle.pas_steps.specs.Calls.{Calls, Effect, Fate, Kept, Lost, Does}
 use Rattle.pas_steps.specs.Clear.{IsClear}
 use Rattle.pas_steps.specs.Frames.{OnlyOn}
 use Rattle.pas_steps.specs.Kinds.{Only}
@@ -22,6 +23,14 @@ class_directory heap class = record { heap = heap; kind = Kind.Class class }
 
 abbrev pub directory_of : Slots → Directory
 directory_of slots = class_directory slots.heap slots.class
+
+-- THE HOME of slots. Those that came with the right of their page are of an exclusive page of their class, and others of a shared page of their
+-- heap.
+abbrev pub home_by : ℕ → ℕ → Bool → Directory
+home_by heap class right = record { heap = heap; kind = kind_of_class (not right) class }
+
+abbrev pub home_of : Slots → Directory
+home_of slots = home_by slots.heap slots.class slots.right
 
 -- the grain, a number of the region, is one of these slots'
 abbrev pub in_slots : Slots → ℕ → Bool
@@ -59,18 +68,18 @@ pub record StopStepsAt (d : Directory) (slots : Slots) (steps : List Made) : Typ
   pub leaves : LeavesWhere slots.right slots.page d left
   pub steps_are : steps ≡ left ++ back
 
--- the grains of the slots and the right that came with them are gone, and all else is as it was
-abbrev pub stopped : Slots → Effect
-stopped slots = record {
-  grains = λ g. if in_slots slots g then Lost else Kept;
-  rights = λ page. if slots.right && (slots.page == page) then Lost else Kept;
+-- the grains of the slots, and the right that came with them, have this fate, and all else is as it was
+abbrev pub of_slots : Slots → Fate → Effect
+of_slots slots fate = record {
+  grains = λ g. if in_slots slots g then fate else Kept;
+  rights = λ page. if slots.right && (slots.page == page) then fate else Kept;
   clears = λ page. Kept;
 }
 
 -- The slots are given up, by at most 23 steps on their page, none of which makes an event.
 pub record StopsAt (d : Directory) (slots : Slots) (desk desk' : Standing) : Type 0 where
   pub steps : List Made
-  pub calls : Calls desk desk' (MayStopAt d slots) (Does (stopped slots)) steps
+  pub calls : Calls desk desk' (MayStopAt d slots) (Does (of_slots slots Lost)) steps
   pub order : StopStepsAt d slots steps
   pub kinds : Only giving_back steps
   pub on : OnlyOn slots.page steps

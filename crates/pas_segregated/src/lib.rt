@@ -9,5 +9,5 @@ mod stopping;
 mod taking;
 
 pub use refilling::refill;
-pub use slots::{Slots, whole_slots};
+pub use slots::{Slots, covered, whole_slots};
 pub use stopping::{stop, stop_on};

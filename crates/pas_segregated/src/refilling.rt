@@ -4,7 +4,7 @@ ghost use Rattle.pas_profile.specs.Profiles.{IsDirectoryOf};
 ghost use Rattle.pas_steps.specs.Desks.{CanCall};
 ghost use Rattle.pas_search.specs.Searches.{SearchRoom};
 ghost use Rattle.pas_segregated.specs.Stops.{class_directory};
-ghost use Rattle.pas_segregated.specs.Refills.{Refills};
+ghost use Rattle.pas_segregated.specs.Refills.{exclusive_slots, Refills};
 
 use crate::serving::Exclusive;
 use crate::slots::Slots;
@@ -19,7 +19,7 @@ use pas_steps::Desk;
 pub fn refill<D: Desk>(desk: &mut D, heap: u8, class: u8) -> Result<Slots, NoRoom>
     requires directory { IsDirectoryOf (D.standing desk.old).seat.profile (class_directory heap class) }
     requires can { CanCall (D.standing desk.old) (λ v l. SearchRoom (D.standing desk.old).seat.profile (class_directory heap class) 1 (D.spare_of desk.old) v) }
-    ensures refills { Refills heap class D.tells (D.standing desk.old) (D.standing desk.new) result }
+    ensures refills { Refills (exclusive_slots heap class) D.tells (D.standing desk.old) (D.standing desk.new) result }
     ensures home { D.home desk.new ≡ D.home desk.old }
 {
     let directory = Directory {

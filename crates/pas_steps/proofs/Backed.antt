@@ -1,6 +1,6 @@
 -- A page that is known as backed stays so while a grain of it that is held isn't moved, whatever the steps.
-use Rattle.std.proofs.Common.{◌≡◌, ℕ, suc, zero, ◌+◌, ◌*◌, ◌<◌, ◌==◌, Bool, true, false, ◌||◌, if◌then◌else◌, List, [], ◌∷◌, ◌++◌, refl, ap, sym, ◌∙◌, subst, arith, inl, inr, true≢false}
-use Rattle.std.proofs.lemmas.Bool.{cases_Bool, cases_eq, eqb-true, and_parts, and_from}
+use Rattle.std.proofs.Common.{◌≡◌, ℕ, suc, zero, ◌+◌, ◌*◌, ◌<◌, ◌==◌, Bool, true, false, if◌then◌else◌, List, [], ◌∷◌, ◌++◌, refl, ap, sym, ◌∙◌, subst, arith, inl, inr, true≢false}
+use Rattle.std.proofs.lemmas.Bool.{cases_eq, eqb-true, and_parts, and_from, or_cases, or_left, or_right}
 use Rattle.pas_profile.specs.declared.profile.Profile.{Profile}
 use Rattle.pas_profile.specs.declared.word.Word.{Word}
 use Rattle.pas_steps.specs.declared.step.Made.{Made}
@@ -10,33 +10,23 @@ use Rattle.pas_steps.specs.Views.{View, Stays, grain_move, held_after, holds, an
 use Rattle.pas_steps.specs.Agreement.{Agrees, Agreed}
 use Rattle.pas_steps.specs.Past.{Always}
 use Rattle.pas_steps.specs.Frames.{unbacks}
+use Rattle.pas_steps.proofs.Flags.{stays_set}
 
 -- ---- some number below a bound
-or_cases : (x y : Bool) → (x || y) ≡ true → x ≡ false → y ≡ true
-or_cases true y h e = absurd (true≢false e)
-or_cases false y h e = h
-
 pub any_one : (n : ℕ) (p : ℕ → Bool) → any_below n p ≡ true → (i : ℕ) × (i < n) × (p i ≡ true)
 unfolding any_below
 any_one zero p h = absurd (true≢false (sym h))
-any_one (suc n) p h = elim (cases_Bool (p n)) [
+any_one (suc n) p h = elim (or_cases (p n) (any_below n p) h) [
   | inl here ↦ (n, omega arith, here)
-  | inr not_here ↦ let some = any_one n p (or_cases (p n) (any_below n p) h not_here) in let lt = some.1 in (some.0, omega (arith, lt), some.2)
+  | inr below ↦ let some = any_one n p below in let lt = some.1 in (some.0, omega (arith, lt), some.2)
 ]
-
-or_first : (x y : Bool) → x ≡ true → (x || y) ≡ true
-or_first x y h = ap (λ t. t || y) h
-
-or_second : (x y : Bool) → y ≡ true → (x || y) ≡ true
-or_second true y h = refl
-or_second false y h = h
 
 pub any_from : (n : ℕ) (p : ℕ → Bool) (i : ℕ) → i < n → p i ≡ true → any_below n p ≡ true
 unfolding any_below
 any_from zero p i lt h = absurd (omega (arith, lt))
 any_from (suc n) p i lt h = elim (cases_eq i n) [
-  | inl e ↦ or_first (p n) (any_below n p) (subst (λ j. p j ≡ true) e h)
-  | inr ne ↦ or_second (p n) (any_below n p) (any_from n p i (omega (arith, lt, ne)) h)
+  | inl e ↦ or_left (p n) (any_below n p) (subst (λ j. p j ≡ true) e h)
+  | inr ne ↦ or_right (p n) (any_below n p) (any_from n p i (omega (arith, lt, ne)) h)
 ]
 
 -- ---- one step
@@ -44,17 +34,13 @@ one_read : (a : ℕ) (t known : Bool) → (t ≡ true → a ≡ 1) → known ≡
 one_read a true known one h = ap (λ x. x == 1) (one refl)
 one_read a false known one h = h
 
-or_true : (t known : Bool) → known ≡ true → (if t then true else known) ≡ true
-or_true true known h = refl
-or_true false known h = h
-
 look_backed : (f : Profile) (v : View) (w : Word) (a q : ℕ) → Agrees f v (Look w) a → knows_backed v q ≡ true → backed_after_look w a q (knows_backed v q) ≡ true
 look_backed f v (Word.Backed p) a q agrees h = one_read a (p == q) (knows_backed v q) (λ e. agrees.known (subst (λ x. knows_backed v x ≡ true) (sym (eqb-true p q e)) h)) h
 look_backed f v s a q agrees h = h
 
 still_backed : (f : Profile) (v : View) (s : Step) (a q : ℕ) → Agrees f v s a → unbacks s q ≡ false → knows_backed v q ≡ true → backed_after s a q (knows_backed v q) ≡ true
 still_backed f v (Look w) a q agrees keep h = look_backed f v w a q agrees h
-still_backed f v (Back p) a q agrees keep h = or_true (p == q) (knows_backed v q) h
+still_backed f v (Back p) a q agrees keep h = stays_set (p == q) (knows_backed v q) h
 still_backed f v (Unback p) a q agrees other h = ap (λ t. if t then false else knows_backed v q) other ∙ h
 still_backed f v s a q agrees keep h = h
 

@@ -1,6 +1,6 @@
 -- What a call does, of no step, of one, and of two calls; and of steps by their kinds and their page.
 use Rattle.std.proofs.Common.{◌≡◌, ◌≢◌, ℕ, ◌+◌, ◌*◌, ◌/◌, ◌%◌, ◌==◌, Bool, true, false, not, ◌&&◌, ◌||◌, ◌⊎◌, if◌then◌else◌, List, [], ◌∷◌, ◌++◌, inl, inr, refl, ap, sym, ◌∙◌, subst, arith, append_assoc, true≢false, bit_and}
-use Rattle.std.proofs.lemmas.Bool.{eq-eqb, eqb-true, ne_eqb}
+use Rattle.std.proofs.lemmas.Bool.{eq-eqb, eqb-true, ne_eqb, and_left, and_right, cond-false}
 use Rattle.pas_profile.specs.Classes.{has_bit}
 use Rattle.pas_profile.specs.Lives.{live_word}
 use Rattle.pas_profile.specs.declared.name.Name.{Name}
@@ -10,18 +10,19 @@ use Rattle.pas_profile.specs.Runs.{in_run, meets_page, grain_of}
 use Rattle.pas_steps.specs.Agreement.{Agrees, Agreed}
 use Rattle.pas_steps.specs.Calls.{Leads, AnyView, Fate, Kept, Gained, Lost, now, later, Effect, nothing, put, freed, on_page, and_then, ClearAfter, Bears, Does, grain_fate, way_fate, right_fate, opens, step_effect}
 use Rattle.pas_steps.specs.Clear.{OwesNothing, IsClearOn, IsClear}
-use Rattle.pas_steps.specs.Desks.{Seat, Standing, made, CanCall, Adds}
+use Rattle.pas_steps.specs.Desks.{Seat, made}
 use Rattle.pas_steps.specs.Effects.{in_mask}
-use Rattle.pas_steps.specs.Views.{View, Move, Stays, Puts, Ends, grain_move, held_after, holds, Way, ByDeed, way, had_after, right_after, has_right, known_deed, unstamped_after, is_unstamped, no_usable, check_after, owes_check, all_ones, hint_after, owes_hint, examined_after, examines}
+use Rattle.pas_steps.specs.Views.{View, Move, Stays, Puts, Ends, grain_move, held_after, holds, Way, ByDeed, way, had_after, right_after, has_right, known_deed, unstamped_after, is_unstamped, check_after, owes_check, all_ones, hint_after, owes_hint, examined_after, examines}
 use Rattle.pas_steps.specs.declared.step.Made.{Made}
 use Rattle.pas_steps.specs.declared.step.Step.{Step}
-use Rattle.pas_steps.specs.declared.step.Step.TheVariants.{Look, Deed, Take, Put, Give, End, TakeRight, Offer, Park, Unpark, Stamp, Hint, Unback, Unhint}
-use Rattle.pas_steps.proofs.Adding.{agreed_first, agreed_later, can_call}
+use Rattle.pas_steps.specs.declared.step.Step.TheVariants.{Look, Back, Take, Put, End, Offer, Park, Unpark, Stamp, Hint, Tick, Unback, Unhint}
+use Rattle.pas_steps.proofs.Adding.{agreed_first, agreed_later}
 use Rattle.pas_steps.proofs.Apart.{in_apart, holds_over, grain_same, holds_same}
-use Rattle.pas_steps.proofs.Kept.{right_on, check_on, hint_on, examined_on, unstamped_on, returns_on}
+use Rattle.pas_steps.proofs.Flags.{ends_none}
+use Rattle.pas_steps.proofs.Kept.{look_check, look_hint, right_on, check_on, hint_on, examined_on, unstamped_on, returns_on}
 use Rattle.pas_steps.proofs.Past.{always_map}
 use Rattle.pas_steps.specs.Frames.{IsReturn, OnlyOn, OnlyReturns, unbacks}
-use Rattle.pas_steps.specs.Kinds.{Kinds, kind_of, look_kind, place_of, is_in, apart, Only, Putting, Ending, Parking, Unhinting, moving, unbacking, changing, returning}
+use Rattle.pas_steps.specs.Kinds.{Kinds, kind_of, look_kind, place_of, is_in, apart, Only, Unhinting, moving, unbacking, changing, returning, Putting, Ending, Parking}
 use Rattle.pas_steps.proofs.Backed.{backed_with}
 
 -- ---- two calls: the one place where their lists are put together
@@ -44,22 +45,17 @@ pub leads_at : {s s' : Seat} {B : View → Type 0} {R : View → View → Type 0
 leads_at {B = B} {R = R} {xs = xs} same leads = subst (λ t. Leads t.profile B R xs) same leads
 
 -- what may come next
-pub can_after : {σ σ' : Standing} {B C : View → Type 0} {R : View → View → Type 0} {xs : List Made} → Adds σ σ' (λ v l. B v) xs → CanCall σ (λ v l. B v) → Leads σ.seat.profile B R xs → ((v w : View) → B v → R v w → C w) → CanCall σ' (λ v l. C v)
-can_after {xs = xs} adds can leads meets = can_call adds can (λ v l stood met. meets v (xs ++ v) met (leads.from v met (adds.agreed v l stood met)))
-
 -- ---- effects of two calls
 pub does_none : (v : View) → Does nothing v v
 does_none v = record { held = λ x. refl; right = λ page. refl; clear = λ page is. is; backed = λ x kept bears. bears }
 
 now_later : (a b : Fate) (had : Bool) → now (later a b) had ≡ now b (now a had)
 now_later a Kept had = refl
-now_later a Gained had = refl
-now_later a Lost had = refl
+now_later a s had = refl
 
 kept_both : (a b : Fate) → later a b ≡ Kept → (a ≡ Kept) × (b ≡ Kept)
 kept_both a Kept h = (h, refl)
-kept_both a Gained h = cc
-kept_both a Lost h = cc
+kept_both a s h = cc
 
 clear_kept : (a : Fate) (page : ℕ) (v w u : View) → ClearAfter a page v w → (IsClearOn page w → IsClearOn page u) → ClearAfter a page v u
 clear_kept Kept page v w u first next = λ is. next (first is)
@@ -103,8 +99,7 @@ does_as {d} {v} {w} e does grains rights clears = record {
 
 pub kept_first : (b : Fate) → later Kept b ≡ b
 kept_first Kept = refl
-kept_first Gained = refl
-kept_first Lost = refl
+kept_first s = refl
 
 -- after a call that did nothing. That a call does nothing afterwards needs no lemma, since `and_then e nothing` computes to e
 pub does_after_nothing : {v w u : View} (e : Effect) → Does nothing v w → Does e w u → Does e v u
@@ -126,59 +121,36 @@ had_is w had = refl
 pub right_is : (s : Step) (a p : ℕ) (had : Bool) → right_after s a p had ≡ now (right_fate s a p) had
 right_is s a p had = had_is (way s a p) had
 
-ends_none : (t owed : Bool) → owed ≡ false → (if t then false else owed) ≡ false
-ends_none true owed h = refl
-ends_none false owed h = h
-
-unless : (t was : Bool) → t ≡ false → was ≡ false → (if t then true else was) ≡ false
-unless t was shut h = ap (λ x. if x then true else was) shut ∙ h
-
-and_false : (t u : Bool) → u ≡ false → (t && u) ≡ false
-and_false true u h = h
-and_false false u h = refl
-
 unstamped_shut : (s : Step) (a p : ℕ) (was : Bool) → opens s a p ≡ false → was ≡ false → unstamped_after s a p was ≡ false
-unstamped_shut (End n g) a p was shut h = unless ((a == live_word n.turn g) && meets_page (grain_of n) g p) was shut h
+unstamped_shut (End n g) a p was shut h = cond-false ((a == live_word n.turn g) && meets_page (grain_of n) g p) true was shut ∙ h
 unstamped_shut (Stamp q) a p was shut h = ends_none (q == p) was h
 unstamped_shut s a p was shut h = h
 
-look_shut : (word : Word) (a p w deed : ℕ) (right owed : Bool) → owed ≡ false → check_after (Look word) a p w right deed owed ≡ false
-look_shut (Word.Free q u) a p w deed right owed h = ends_none ((u == w) && (q == p) && not (deed == 0) && no_usable deed w a) owed h
-look_shut word a p w deed right owed h = h
-
 check_shut : (s : Step) (a p w deed : ℕ) (right owed : Bool) → opens s a p ≡ false → owed ≡ false → check_after s a p w right deed owed ≡ false
-check_shut (Look word) a p w deed right owed shut h = look_shut word a p w deed right owed h
-check_shut (Put q u m) a p w deed right owed shut h = unless ((u == w) && (q == p) && not right) owed (ap (λ t. t && not right) (and_false (u == w) (q == p) shut)) h
+check_shut (Look word) a p w deed right owed shut h = look_check word a p w deed right owed h
+check_shut (Put q u m) a p w deed right owed shut h = cond-false ((u == w) && (q == p) && not right) true owed (ap (λ t. t && not right) (and_right (u == w) (q == p) shut)) ∙ h
 check_shut (Offer q d) a p w deed right owed shut h = ends_none (q == p) owed h
-check_shut (Park q) a p w deed right owed shut h = unless (q == p) owed shut h
+check_shut (Park q) a p w deed right owed shut h = cond-false (q == p) true owed shut ∙ h
 check_shut (Unpark q) a p w deed right owed shut h = ends_none (q == p) owed h
 check_shut s a p w deed right owed shut h = h
 
-look_hint_shut : (word : Word) (a p : ℕ) (owed : Bool) → owed ≡ false → hint_after (Look word) a p owed ≡ false
-look_hint_shut (Word.Free q u) a p owed h = ends_none ((q == p) && not (a == all_ones)) owed h
-look_hint_shut (Word.Backed q) a p owed h = ends_none ((q == p) && (a == 0)) owed h
-look_hint_shut word a p owed h = h
-
 hint_shut : (s : Step) (a p : ℕ) (owed : Bool) → opens s a p ≡ false → owed ≡ false → hint_after s a p owed ≡ false
-hint_shut (Look word) a p owed shut h = look_hint_shut word a p owed h
+hint_shut (Look word) a p owed shut h = look_hint word a p owed h
 hint_shut (Take q u m) a p owed shut h = ends_none ((q == p) && (not (a == all_ones) || not (bit_and a m == 0))) owed h
-hint_shut (Put q u m) a p owed shut h = unless (q == p) owed shut h
+hint_shut (Put q u m) a p owed shut h = cond-false (q == p) true owed shut ∙ h
 hint_shut (Hint q) a p owed shut h = ends_none (q == p) owed h
 hint_shut s a p owed shut h = h
 
-and_first : (t u : Bool) → t ≡ false → (t && u) ≡ false
-and_first t u h = ap (λ x. x && u) h
-
 examined_shut : (s : Step) (a p : ℕ) (was : Bool) → opens s a p ≡ false → was ≡ false → examined_after s a p was ≡ false
-examined_shut (Look word) a p was shut h = look_hint_shut word a p was h
+examined_shut (Look word) a p was shut h = look_hint word a p was h
 examined_shut (Take q u m) a p was shut h = hint_shut (Take q u m) a p was shut h
 examined_shut (Hint q) a p was shut h = ends_none (q == p) was h
-examined_shut (Unhint q) a p was shut h = unless ((q == p) && has_bit a (p % 64)) was (and_first (q == p) (has_bit a (p % 64)) shut) h
+examined_shut (Unhint q) a p was shut h = cond-false ((q == p) && has_bit a (p % 64)) true was (and_left (q == p) (has_bit a (p % 64)) shut) ∙ h
 examined_shut s a p was shut h = h
 
 -- only an unhint begins to examine a page
 unexamined : (s : Step) (a p : ℕ) (was : Bool) → is_in (Unhinting ∷ []) (kind_of s) ≡ false → was ≡ false → examined_after s a p was ≡ false
-unexamined (Look word) a p was other h = look_hint_shut word a p was h
+unexamined (Look word) a p was other h = look_hint word a p was h
 unexamined (Take q u m) a p was other h = hint_shut (Take q u m) a p was refl h
 unexamined (Hint q) a p was other h = ends_none (q == p) was h
 unexamined (Unhint q) a p was other h = absurd (true≢false other)
@@ -221,7 +193,6 @@ clear_step false p v w shut = shut refl
 
 stays_by : (m : Move) → grain_fate m ≡ Kept → m ≡ Stays
 stays_by Stays h = refl
-stays_by (Ends b) h = cc
 stays_by s h = cc
 
 no_unback : (s : Step) (page : ℕ) → is_in unbacking (kind_of s) ≡ false → unbacks s page ≡ false
@@ -245,9 +216,6 @@ does_step f s a v keeps agrees = record {
   backed = λ x kept bears. bears_step f s a x v agrees keeps (stays_by (grain_move s a x) kept) bears;
 }
 
-pub leads_step : (f : Profile) (s : Step) (a : ℕ) → is_in unbacking (kind_of s) ≡ false → Leads f AnyView (Does (step_effect s a)) (made s a ∷ [])
-leads_step f s a keeps = record { from = λ v met agreed. does_step f s a v keeps agreed.0 }
-
 -- ---- steps of kinds that change nothing
 look_keeps : (word : Word) → is_in unbacking (look_kind word) ≡ false
 look_keeps Word.Epoch = refl
@@ -255,18 +223,11 @@ look_keeps word = refl
 
 does_idle : (f : Profile) (s : Step) (a : ℕ) (v : View) → is_in changing (kind_of s) ≡ false → Agrees f v s a → Does nothing v (made s a ∷ v)
 does_idle f (Look word) a v h agrees = does_step f (Look word) a v (look_keeps word) agrees
-does_idle f (Take p w m) a v h agrees = absurd (true≢false h)
-does_idle f (Put p w m) a v h agrees = absurd (true≢false h)
-does_idle f (Give b) a v h agrees = absurd (true≢false h)
-does_idle f (End n g) a v h agrees = absurd (true≢false h)
-does_idle f (Deed p d) a v h agrees = absurd (true≢false h)
-does_idle f (TakeRight p d) a v h agrees = absurd (true≢false h)
-does_idle f (Offer p d) a v h agrees = absurd (true≢false h)
-does_idle f (Park p) a v h agrees = absurd (true≢false h)
-does_idle f (Unpark p) a v h agrees = absurd (true≢false h)
-does_idle f (Unback p) a v h agrees = absurd (true≢false h)
-does_idle f (Unhint p) a v h agrees = absurd (true≢false h)
-does_idle f s a v h agrees = does_step f s a v refl agrees
+does_idle f (Back p) a v h agrees = does_step f (Back p) a v refl agrees
+does_idle f (Stamp p) a v h agrees = does_step f (Stamp p) a v refl agrees
+does_idle f (Hint p) a v h agrees = does_step f (Hint p) a v refl agrees
+does_idle f (Tick raised) a v h agrees = does_step f (Tick raised) a v refl agrees
+does_idle f s a v h agrees = absurd (true≢false h)
 
 pub does_idly : (f : Profile) (ks : Kinds) → apart ks changing ≡ true → (steps : List Made) (v : View) → Only ks steps → Agreed f v steps → Does nothing v (steps ++ v)
 does_idly f ks w [] v only agreed = does_none v

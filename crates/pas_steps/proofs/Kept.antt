@@ -1,6 +1,6 @@
 -- What the framed steps leave as it was: rights, grains, knowledge, debts and events.
-use Rattle.std.proofs.Common.{◌≡◌, ◌≢◌, ℕ, ◌+◌, ◌*◌, ◌/◌, ◌%◌, ◌==◌, Bool, true, false, not, ◌&&◌, ◌||◌, if◌then◌else◌, List, [], ◌∷◌, ◌++◌, Option, None, refl, ap, sym, ◌∙◌, subst, arith, bit_and}
-use Rattle.std.proofs.lemmas.Bool.{ne_eqb, eqb-true, and_parts}
+use Rattle.std.proofs.Common.{◌≡◌, ◌≢◌, ℕ, ◌+◌, ◌*◌, ◌/◌, ◌%◌, ◌==◌, Bool, true, false, not, ◌&&◌, ◌||◌, if◌then◌else◌, List, [], ◌∷◌, ◌++◌, refl, ap, sym, ◌∙◌, subst, arith, bit_and}
+use Rattle.std.proofs.lemmas.Bool.{ne_eqb, eqb-true, and_parts, and_right, cond-false}
 use Rattle.pas_profile.specs.Classes.{has_bit}
 use Rattle.pas_profile.specs.Directories.{deed_word_of, deed_word_numbered, number_of}
 use Rattle.pas_profile.specs.declared.directory.Directory.{Directory}
@@ -8,14 +8,13 @@ use Rattle.pas_profile.specs.declared.profile.Profile.{Profile}
 use Rattle.pas_profile.proofs.Codecs.{deed_word_of-positive}
 use Rattle.pas_profile.specs.declared.word.Word.{Word}
 use Rattle.pas_steps.specs.declared.step.Made.{Made}
+use Rattle.pas_steps.proofs.Flags.{ends_none}
 use Rattle.pas_steps.specs.declared.step.Step.{Step}
 use Rattle.pas_steps.specs.declared.step.Step.TheVariants.{Look, Deed, TakeRight, Offer}
 use Rattle.pas_steps.specs.Effects.{in_mask}
-use Rattle.pas_steps.specs.Views.{View, Stays, Gets, Puts, grain_move, held_after, holds, Rests, ByDeed, FromOffer, FromParked, ToOffer, ToParked, way, had_after, has_right, deed_after, deed_after_look, known_deed, KnowsDeed, looks_at_life, epoch_after, unstamped_after, is_unstamped, given_after, no_usable, check_after, owes_check, all_ones, hint_after, owes_hint, examined_after, examines}
-use Rattle.pas_steps.specs.Events.{event_of}
+use Rattle.pas_steps.specs.Views.{View, Stays, Gets, Puts, grain_move, held_after, holds, Rests, ByDeed, FromOffer, FromParked, ToOffer, ToParked, way, had_after, has_right, deed_after, deed_after_look, known_deed, KnowsDeed, unstamped_after, is_unstamped, no_usable, check_after, owes_check, all_ones, hint_after, owes_hint, examined_after, examines}
 use Rattle.pas_steps.specs.Agreement.{Agrees, Agreed}
-use Rattle.pas_steps.specs.Past.{Always}
-use Rattle.pas_steps.specs.Frames.{IsOnPage, IsReturn, IsGrains, IsRead, IsScan, OnlyOn, OnlyReturns, OnlyGrains, OnlyReads, OnlyScans, IsLook, AreLooks}
+use Rattle.pas_steps.specs.Frames.{IsOnPage, IsReturn, IsRead, IsScan, OnlyOn, OnlyReturns, OnlyReads, OnlyScans, IsLook, AreLooks}
 
 -- ---- tests of another page
 other : (p q : ℕ) → q ≢ p → (p == q) ≡ false
@@ -24,23 +23,12 @@ other p q ne = ne_eqb p q (λ e. ne (sym e))
 unless : {A : Type 0} (t u : Bool) (x y : A) → t ≡ false → (if t && u then x else y) ≡ y
 unless t u x y h = ap (λ s. if s && u then x else y) h
 
-when_not : {A : Type 0} (t : Bool) (x y : A) → t ≡ false → (if t then x else y) ≡ y
-when_not t x y h = ap (λ s. if s then x else y) h
-
-pub ends_none : (t owed : Bool) → owed ≡ false → (if t then false else owed) ≡ false
-ends_none true owed h = refl
-ends_none false owed h = h
-
-and_false : (t : Bool) → (t && false) ≡ false
-and_false true = refl
-and_false false = refl
-
 -- ---- steps on one page alone: nothing of another page changes, but for what is known of it
 on_way : (p q : ℕ) (s : Step) (a : ℕ) → IsOnPage p s → q ≢ p → way s a q ≡ Rests
 on_way p q s a (IsOnPage.Deeds d) ne = unless (p == q) (a == 0) ByDeed Rests (other p q ne)
 on_way p q s a (IsOnPage.Claims d) ne = unless (p == q) (has_bit a (q % 64)) (FromOffer (number_of d)) Rests (other p q ne)
-on_way p q s a (IsOnPage.Offers d) ne = when_not (p == q) (ToOffer (number_of d)) Rests (other p q ne)
-on_way p q s a IsOnPage.Parks ne = when_not (p == q) ToParked Rests (other p q ne)
+on_way p q s a (IsOnPage.Offers d) ne = cond-false (p == q) (ToOffer (number_of d)) Rests (other p q ne)
+on_way p q s a IsOnPage.Parks ne = cond-false (p == q) ToParked Rests (other p q ne)
 on_way p q s a IsOnPage.Unparks ne = unless (p == q) (has_bit a (q % 64)) FromParked Rests (other p q ne)
 on_way p q s a step ne = refl
 
@@ -49,11 +37,11 @@ right_on p q [] v h ne = refl
 right_on p q (m ∷ more) v h ne = ap (λ w. had_after w (has_right (more ++ v) q)) (on_way p q m.step m.answer h.0 ne) ∙ right_on p q more v h.1 ne
 
 outside : (w p mask g : ℕ) → (p == g / 256) ≡ false → in_mask p w mask g ≡ false
-outside w p mask g h = ap (λ t. (w == g / 64 % 4) && t && has_bit mask (g % 64)) h ∙ ap (λ t. t && has_bit mask (g % 64)) (and_false (w == g / 64 % 4))
+outside w p mask g h = ap (λ t. (w == g / 64 % 4) && t && has_bit mask (g % 64)) h ∙ ap (λ t. t && has_bit mask (g % 64)) (and_right (w == g / 64 % 4) false refl)
 
 pub on_grain : (p : ℕ) (s : Step) (a g : ℕ) → IsOnPage p s → g / 256 ≢ p → grain_move s a g ≡ Stays
 on_grain p s a g (IsOnPage.Takes word mask) ne = unless (in_mask p word mask g) (has_bit a (g % 64)) Gets Stays (outside word p mask g (other p (g / 256) ne))
-on_grain p s a g (IsOnPage.Puts word mask) ne = when_not (in_mask p word mask g) Puts Stays (outside word p mask g (other p (g / 256) ne))
+on_grain p s a g (IsOnPage.Puts word mask) ne = cond-false (in_mask p word mask g) Puts Stays (outside word p mask g (other p (g / 256) ne))
 on_grain p s a g step ne = refl
 
 pub holds_on_page : (p g : ℕ) (steps : List Made) (v : View) → OnlyOn p steps → g / 256 ≢ p → holds (steps ++ v) g ≡ holds v g
@@ -61,7 +49,7 @@ holds_on_page p g [] v h ne = refl
 holds_on_page p g (m ∷ more) v h ne = ap (λ x. held_after x (holds (more ++ v) g)) (on_grain p m.step m.answer g h.0 ne) ∙ holds_on_page p g more v h.1 ne
 
 -- looks end checks and hints, and add none
-look_check : (word : Word) (a q w deed : ℕ) (right owed : Bool) → owed ≡ false → check_after (Look word) a q w right deed owed ≡ false
+pub look_check : (word : Word) (a q w deed : ℕ) (right owed : Bool) → owed ≡ false → check_after (Look word) a q w right deed owed ≡ false
 look_check (Word.Free x u) a q w deed right owed h = ends_none ((u == w) && (x == q) && not (deed == 0) && no_usable deed w a) owed h
 look_check s a q w deed right owed h = h
 
@@ -72,9 +60,9 @@ look_hint s a q owed h = h
 
 on_check : (p q : ℕ) (s : Step) (a w deed : ℕ) (right owed : Bool) → IsOnPage p s → q ≢ p → owed ≡ false → check_after s a q w right deed owed ≡ false
 on_check p q s a w deed right owed (IsOnPage.Looks word) ne h = look_check word a q w deed right owed h
-on_check p q s a w deed right owed (IsOnPage.Puts word mask) ne h = ap (λ t. if (word == w) && t && not right then true else owed) (other p q ne) ∙ ap (λ t. if t && not right then true else owed) (and_false (word == w)) ∙ h
+on_check p q s a w deed right owed (IsOnPage.Puts word mask) ne h = ap (λ t. if (word == w) && t && not right then true else owed) (other p q ne) ∙ ap (λ t. if t && not right then true else owed) (and_right (word == w) false refl) ∙ h
 on_check p q s a w deed right owed (IsOnPage.Offers d) ne h = ends_none (p == q) owed h
-on_check p q s a w deed right owed IsOnPage.Parks ne h = when_not (p == q) true owed (other p q ne) ∙ h
+on_check p q s a w deed right owed IsOnPage.Parks ne h = cond-false (p == q) true owed (other p q ne) ∙ h
 on_check p q s a w deed right owed IsOnPage.Unparks ne h = ends_none (p == q) owed h
 on_check p q s a w deed right owed step ne h = h
 
@@ -86,7 +74,7 @@ check_on p q w (m ∷ more) v h ne e = on_check p q m.step m.answer w (known_dee
 on_hint : (p q : ℕ) (s : Step) (a : ℕ) (owed : Bool) → IsOnPage p s → q ≢ p → owed ≡ false → hint_after s a q owed ≡ false
 on_hint p q s a owed (IsOnPage.Looks word) ne h = look_hint word a q owed h
 on_hint p q s a owed (IsOnPage.Takes word mask) ne h = ends_none ((p == q) && (not (a == all_ones) || not (bit_and a mask == 0))) owed h
-on_hint p q s a owed (IsOnPage.Puts word mask) ne h = when_not (p == q) true owed (other p q ne) ∙ h
+on_hint p q s a owed (IsOnPage.Puts word mask) ne h = cond-false (p == q) true owed (other p q ne) ∙ h
 on_hint p q s a owed IsOnPage.Hints ne h = ends_none (p == q) owed h
 on_hint p q s a owed step ne h = h
 
@@ -163,34 +151,13 @@ pub returns_on : (p : ℕ) (steps : List Made) → OnlyReturns p steps → OnlyO
 returns_on p [] h = tt
 returns_on p (m ∷ more) h = (return_on p m.step h.0, returns_on p more h.1)
 
-grains_step_on : (p : ℕ) (s : Step) → IsGrains p s → IsOnPage p s
-grains_step_on p s (IsGrains.Takes w mask) = IsOnPage.Takes w mask
-grains_step_on p s (IsGrains.Puts w mask) = IsOnPage.Puts w mask
-
-pub grains_on : (p : ℕ) (steps : List Made) → OnlyGrains p steps → OnlyOn p steps
-grains_on p [] h = tt
-grains_on p (m ∷ more) h = (grains_step_on p m.step h.0, grains_on p more h.1)
-
 scan_look : (s : Step) → IsScan s → IsLook s
 scan_look s (IsScan.LooksEligible d j) = tt
-scan_look s (IsScan.LooksDeed p) = tt
-scan_look s (IsScan.LooksParked j) = tt
+scan_look s is = tt
 
 pub scans_look : (steps : List Made) → OnlyScans steps → AreLooks steps
 scans_look [] h = tt
 scans_look (m ∷ more) h = (scan_look m.step h.0, scans_look more h.1)
-
--- ---- returns of a right move no grain, and change nothing that is known but the free grains of the page and whether it is backed
-pub record IsStill (m : Made) : Type 0 where
-  pub grain : (g : ℕ) → grain_move m.step m.answer g ≡ Stays
-  pub life : (g : ℕ) → looks_at_life m.step g ≡ false
-  pub epoch : (known : Option ℕ) → epoch_after m.step m.answer known ≡ known
-  pub unstamped : (p : ℕ) (was : Bool) → unstamped_after m.step m.answer p was ≡ was
-  pub given : (n : ℕ) → given_after m.step n ≡ n
-  pub event : (k e : ℕ) → event_of k e m.step m.answer ≡ None
-
-abbrev pub AreStill : List Made → Type 0
-AreStill = Always (λ m before. IsStill m)
 
 -- ---- steps that changed nothing
 pub look_read : (s : Step) (a : ℕ) → IsLook s → IsRead s a
@@ -203,7 +170,7 @@ looks_read (m ∷ more) h = (look_read m.step m.answer h.0, looks_read more h.1)
 
 read_way : (s : Step) (a q : ℕ) → IsRead s a → way s a q ≡ Rests
 read_way s a q (IsRead.Looks word b) = refl
-read_way s a q (IsRead.Reads p d b ne) = ap (λ t. if (p == q) && t then ByDeed else Rests) (ne_eqb a 0 ne) ∙ ap (λ t. if t then ByDeed else Rests) (and_false (p == q))
+read_way s a q (IsRead.Reads p d b ne) = ap (λ t. if (p == q) && t then ByDeed else Rests) (ne_eqb a 0 ne) ∙ ap (λ t. if t then ByDeed else Rests) (and_right (p == q) false refl)
 
 pub right_reads : (q : ℕ) (steps : List Made) (v : View) → OnlyReads steps → has_right (steps ++ v) q ≡ has_right v q
 right_reads q [] v h = refl

@@ -1,4 +1,5 @@
 pub mod Adding
+pub mod Flags
 pub mod Frames
 pub mod Parts
 pub mod Past
@@ -8,6 +9,7 @@ pub mod Targets
 pub mod Written
 pub mod Kept
 pub mod Backed
+pub mod Bits
 pub mod Apart
 pub mod Calls
 pub mod Called

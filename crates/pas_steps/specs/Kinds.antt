@@ -128,12 +128,6 @@ epoch_telling = LookEpoch ∷ Ticking ∷ []
 abbrev pub unstamping : Kinds  -- which pages are unstamped
 unstamping = Ending ∷ Stamping ∷ []
 
-abbrev pub checking : Kinds  -- which checks are owed
-checking = LookFree ∷ Putting ∷ Offering ∷ Parking ∷ Unparking ∷ []
-
-abbrev pub hint_owing : Kinds  -- which hints are owed
-hint_owing = LookFree ∷ LookBacked ∷ Taking ∷ Putting ∷ Hinting ∷ []
-
 abbrev pub examining : Kinds  -- which pages are examined
 examining = LookFree ∷ LookBacked ∷ Taking ∷ Hinting ∷ Unhinting ∷ []
 
@@ -142,9 +136,6 @@ unbacking = Unbacking ∷ []
 
 abbrev pub lending : Kinds  -- which grains live blocks have
 lending = Giving ∷ Ending ∷ []
-
-abbrev pub giving : Kinds  -- how many blocks were given
-giving = Giving ∷ []
 
 abbrev pub showing : Kinds  -- which events there are
 showing = Deeding ∷ Backing ∷ Giving ∷ Ending ∷ Unbacking ∷ []

@@ -1,6 +1,8 @@
 mod Splits
+mod FrontLines
 mod Digits
 mod Gathering
+mod Costs
 mod Checking
 mod Headers
 mod PassedChecks

@@ -4,8 +4,7 @@ use Rattle.pas_profile.specs.declared.profile.Profile.{Profile}
 use Rattle.pas_trace.specs.Texts.{lines_of}
 use Rattle.pas_trace.specs.Reasons.{line_says, header_of}
 use Rattle.pas_trace.specs.Plans.{parsed, parsed_lines, with_header, with_items, items_from, after_item, IsPlanOf, IsReading}
-use Rattle.pas_trace.specs.Told.{Tells, IsTaken, IsRead, IsPlanned}
-use Rattle.pas_trace.specs.declared.fault.TraceFault.{TraceFault}
+use Rattle.pas_trace.specs.Told.{Tells, IsFirstTaken, IsRead, IsPlanned}
 use Rattle.pas_trace.specs.declared.fault.ReadFault.{ReadFault}
 use Rattle.pas_trace.specs.declared.fault.ReadFault.TheVariants.{Trace, NoMemory}
 use Rattle.pas_trace.specs.declared.item.Item.{Item}
@@ -22,34 +21,28 @@ pub record SoFar (old : Reader) (start : List Item) (text : List ℕ) (now : Rea
 pub at-first : (r : Reader) (start : List Item) (text : List ℕ) → Tells r start → SoFar r start text r text
 at-first r start text t = record { items = start; tells = t; header = refl; same = refl }
 
-pub after-line : (old now new : Reader) (start : List Item) (text rest line after : List ℕ) (far : SoFar old start text now rest) → lines_of rest ≡ line ∷ lines_of after
-    → ((items : List Item) → Tells now items → IsTaken now items line new (Ok tt)) → SoFar old start text new after
-after-line old now new start text rest line after far cut taken =
-    let t = taken far.items far.tells in
+pub after-line : (old now new : Reader) (start : List Item) (text rest after : List ℕ) (far : SoFar old start text now rest) → IsFirstTaken now far.items rest after new (Ok tt) → SoFar old start text new after
+after-line old now new start text rest after far first =
+    let t = first.taken in
     let i = t.0 in
-    let says : line_says old.header far.items line ≡ Ok i = ap (λ (f : Profile). line_says f far.items line) (sym far.header) ∙ t.1 in
+    let says : line_says old.header far.items first.line ≡ Ok i = ap (λ (f : Profile). line_says f far.items first.line) (sym far.header) ∙ t.1 in
     record {
       items = i ∷ far.items;
       tells = t.2;
       header = t.3 ∙ far.header;
-      same = far.same ∙ ap (items_from old.header (now.line + 1) far.items) cut
+      same = far.same ∙ ap (items_from old.header (now.line + 1) far.items) first.cut
           ∙ ap (λ says. after_item (now.line + 1) says (λ i. items_from old.header (now.line + 1 + 1) (i ∷ far.items) (lines_of after))) says
           ∙ ap (λ n. items_from old.header (n + 1) (i ∷ far.items) (lines_of after)) (sym t.4);
     }
 
-pub at-fault : (old now new : Reader) (start : List Item) (text rest line after : List ℕ) (fault : TraceFault) → SoFar old start text now rest → lines_of rest ≡ line ∷ lines_of after
-    → ((items : List Item) → Tells now items → IsTaken now items line new (Err (Trace fault))) → items_from old.header (old.line + 1) start (lines_of text) ≡ Err fault
-at-fault old now new start text rest line after fault far cut taken =
-    let t = taken far.items far.tells in
-    let says : line_says old.header far.items line ≡ Err t.0 = ap (λ (f : Profile). line_says f far.items line) (sym far.header) ∙ t.1 in
-    far.same ∙ ap (items_from old.header (now.line + 1) far.items) cut
+pub read-fault : (old now new : Reader) (start : List Item) (text rest after : List ℕ) (fault : ReadFault) (far : SoFar old start text now rest) → IsFirstTaken now far.items rest after new (Err fault) → IsRead old start text new (Err fault)
+read-fault old now new start text rest after (Trace fault) far first =
+    let t = first.taken in
+    let says : line_says old.header far.items first.line ≡ Err t.0 = ap (λ (f : Profile). line_says f far.items first.line) (sym far.header) ∙ t.1 in
+    far.same ∙ ap (items_from old.header (now.line + 1) far.items) first.cut
     ∙ ap (λ says. after_item (now.line + 1) says (λ i. items_from old.header (now.line + 1 + 1) (i ∷ far.items) (lines_of after))) says
     ∙ ap Err (sym t.2)
-
-pub read-fault : (old now new : Reader) (start : List Item) (text rest line after : List ℕ) (fault : ReadFault) → SoFar old start text now rest → lines_of rest ≡ line ∷ lines_of after
-    → ((items : List Item) → Tells now items → IsTaken now items line new (Err fault)) → IsRead old start text new (Err fault)
-read-fault old now new start text rest line after (Trace fault) far cut taken = at-fault old now new start text rest line after fault far cut taken
-read-fault old now new start text rest line after NoMemory far cut taken = tt
+read-fault old now new start text rest after NoMemory far first = tt
 
 pub at-end : (old now : Reader) (start : List Item) (text rest : List ℕ) → SoFar old start text now rest → lines_of rest ≡ [] → IsRead old start text now (Ok tt)
 at-end old now start text rest far none = (far.items, far.same ∙ ap (items_from old.header (now.line + 1) far.items) none, far.tells, far.header)

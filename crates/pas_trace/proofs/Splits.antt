@@ -9,10 +9,10 @@ use Rattle.pas_trace.specs.Texts.{put_first, pieces, without_empty_end, lines_of
 abbrev pub NoneBefore : ℕ → List ℕ → ℕ → Type 0
 NoneBefore s bytes n = (k : ℕ) → k < n → get_or bytes k 0 ≢ s
 
-pieces-at : (s b : ℕ) (bs : List ℕ) → b ≡ s → pieces s (b ∷ bs) ≡ [] ∷ pieces s bs
+pub pieces-at : (s b : ℕ) (bs : List ℕ) → b ≡ s → pieces s (b ∷ bs) ≡ [] ∷ pieces s bs
 pieces-at s b bs e = let t : (b == s) ≡ true = eq-eqb b s e in rw t refl
 
-pieces-off : (s b : ℕ) (bs : List ℕ) → b ≢ s → pieces s (b ∷ bs) ≡ put_first b (pieces s bs)
+pub pieces-off : (s b : ℕ) (bs : List ℕ) → b ≢ s → pieces s (b ∷ bs) ≡ put_first b (pieces s bs)
 pieces-off s b bs e = let t : (b == s) ≡ false = ne_eqb b s e in rw t refl
 
 -- the first piece ends at the first separator
@@ -49,7 +49,7 @@ end-cons : (p q : List ℕ) (qs : List (List ℕ)) → without_empty_end (p ∷ 
 end-cons [] q qs = refl
 end-cons (b ∷ bs) q qs = refl
 
-end-after : (p : List ℕ) (s : ℕ) (bs : List ℕ) → without_empty_end (p ∷ pieces s bs) ≡ p ∷ without_empty_end (pieces s bs)
+pub end-after : (p : List ℕ) (s : ℕ) (bs : List ℕ) → without_empty_end (p ∷ pieces s bs) ≡ p ∷ without_empty_end (pieces s bs)
 end-after p s bs =
     let some = pieces-some s bs in
     ap (λ ps. without_empty_end (p ∷ ps)) some.2 ∙ end-cons p some.0 some.1 ∙ sym (ap (λ ps. p ∷ without_empty_end ps) some.2)
@@ -91,7 +91,7 @@ words-skip (b ∷ bs) (suc n) spaces le =
     ap without_empty (pieces-at 32 b bs (spaces zero (omega arith)))
     ∙ words-skip bs n (λ k h. spaces (suc k) (omega (arith, h))) (omega (arith, le))
 
-keeps : (bs : List ℕ) (ps : List (List ℕ)) → 0 < length bs → without_empty (bs ∷ ps) ≡ bs ∷ without_empty ps
+pub keeps : (bs : List ℕ) (ps : List (List ℕ)) → 0 < length bs → without_empty (bs ∷ ps) ≡ bs ∷ without_empty ps
 keeps [] ps some = absurd (omega arith)
 keeps (b ∷ bs) ps some = refl
 

@@ -140,6 +140,13 @@ IsTaken old items line new (Ok done) = (i : Item) × (line_says old.header items
 IsTaken old items line new (Err (Trace fault)) = (r : Reason) × (line_says old.header items line ≡ Err r) × (fault ≡ fault_at (old.line + 1) r)
 IsTaken old items line new (Err NoMemory) = Unit {0}
 
+-- the first line of a text was taken after these items, and this text is left
+pub record IsFirstTaken (old : Reader) (items : List Item) (text rest : List ℕ) (new : Reader) (result : Result (Unit {0}) ReadFault) : Type 0 where
+  pub line : List ℕ
+  pub cut : lines_of text ≡ line ∷ lines_of rest
+  pub shorter : length rest < length text
+  pub taken : IsTaken old items line new result
+
 -- the lines of a text were taken after these items, or have this fault
 abbrev pub IsRead : Reader → List Item → List ℕ → Reader → Result (Unit {0}) ReadFault → Type 0
 IsRead old items text new (Ok done) = (all : List Item) × (items_from old.header (old.line + 1) items (lines_of text) ≡ Ok all) × Tells new all × (new.header ≡ old.header)

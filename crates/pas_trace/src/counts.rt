@@ -35,7 +35,7 @@ impl Counts {
     }
 
     /// Counts an operation of the actor.
-    #[inline]
+    #[inline(always)]
     pub fn add(&mut self, actor: u8, cost: u32)
         requires actor { actor < 17 }
         requires few { self.old.operations < 1000000 }

@@ -26,7 +26,7 @@ impl Gathered {
     }
 
     /// Adds an operation to the present phase.
-    #[inline]
+    #[inline(always)]
     pub fn add(&mut self, op: Op) -> Result<(), AllocError>
         ensures { OnOk result (gathered_phases self.new ≡ add_last (Some op) (gathered_phases self.old)) }
     {

@@ -3,6 +3,7 @@
 
 mod counts;
 pub mod fault;
+mod fronts;
 mod gathered;
 mod header;
 mod item;

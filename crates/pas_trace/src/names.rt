@@ -34,7 +34,7 @@ impl Names {
     }
 
     /// The owner of the name.
-    #[inline]
+    #[inline(always)]
     pub fn owner(&self, name: u64) -> Owner
         ensures { result ≡ owner_in self.now name }
     {
@@ -56,7 +56,7 @@ impl Names {
     }
 
     /// Gives the name to the owner. Amortized constant time over growing names.
-    #[inline]
+    #[inline(always)]
     pub fn give(&mut self, name: u64, owner: Owner) -> Result<(), AllocError>
         ensures { OnOk result ((n : ℕ) → owner_in self.new n ≡ (if n == name then owner else owner_in self.old n)) }
     {

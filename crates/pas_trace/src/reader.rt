@@ -1,14 +1,16 @@
 //! The reader: what it keeps of the lines before, and how it takes a line.
-ghost use Rattle.std.specs.Prelude.{◌≡◌, ◌<◌, ◌≤◌, ◌+◌, ◌∷◌, ◌^◌, [], ℕ, List, Some, None, Ok, Err, OnOk, IfOk, MatchResult, length, slice_index};
+ghost use Rattle.std.specs.Prelude.{◌≡◌, ◌<◌, ◌≤◌, ◌+◌, ◌∷◌, ◌^◌, [], ℕ, List, Some, None, Ok, Err, OnOk, IfOk, MatchOption, MatchResult, length, slice_index};
 ghost use Rattle.pas_profile.specs.Profiles.{IsValid};
 ghost use Rattle.pas_trace.specs.Reasons.{line_says, reason_of, cost_of, started, is_thread};
 ghost use Rattle.pas_trace.specs.Items.{item_of_line};
-ghost use Rattle.pas_trace.specs.Plans.{IsReading, bounds_of, bounds_upto, name_at};
-ghost use Rattle.pas_trace.specs.Told.{IsRanged, Tells, IsOperated, IsAllocated, IsNextPhase, IsAdded, IsTaken, IsRead, IsPlanned, IsChecked, few_told, thread_told, told_checks};
+ghost use Rattle.pas_trace.specs.Plans.{IsReading, bounds_of, bounds_upto, fault_at, name_at};
+ghost use Rattle.pas_trace.specs.Texts.{lines_of};
+ghost use Rattle.pas_trace.specs.Told.{IsRanged, Tells, IsOperated, IsAllocated, IsNextPhase, IsAdded, IsTaken, IsFirstTaken, IsRead, IsPlanned, IsChecked, few_told, thread_told, told_checks};
 ghost use Rattle.pas_trace.specs.declared.item.Item.{Item};
 
 use crate::counts::{Counts, MOST_OPERATIONS, MOST_RECORDS};
 use crate::fault::{ReadFault, Reason, TraceFault};
+use crate::fronts::front_item;
 use crate::gathered::Gathered;
 use crate::header::read_header;
 use crate::item::{Item, Request};
@@ -60,7 +62,7 @@ impl Reader {
     }
 
     /// Whether the thread is one of the region's.
-    #[inline]
+    #[inline(always)]
     fn has_thread(&self, thread: u64) -> bool
         ensures { result ≡ is_thread self.now.header thread }
     {
@@ -68,7 +70,7 @@ impl Reader {
     }
 
     /// The checks of every operation.
-    #[inline]
+    #[inline(always)]
     fn check_counts(&self, cost: u32) -> Result<u32, Reason>
         ensures { IsChecked (few_told self.now cost) cost result }
     {
@@ -82,7 +84,7 @@ impl Reader {
     }
 
     /// The checks of an operation of a thread that has no others.
-    #[inline]
+    #[inline(always)]
     fn check_thread(&self, thread: u64, cost: u32) -> Result<u32, Reason>
         ensures { IsChecked (thread_told self.now thread cost) cost result }
     {
@@ -93,6 +95,7 @@ impl Reader {
     }
 
     /// The checks of an allocation.
+    #[inline(always)]
     fn check_allocation(&self, thread: u64, request: Request) -> Result<u32, Reason>
         requires { IsValid self.now.header }
         ensures { IsChecked (told_checks self.now (Item.Allocates thread request)) (cost_of self.now.header (Item.Allocates thread request)) result }
@@ -116,7 +119,7 @@ impl Reader {
     }
 
     /// The checks of a free by trace name. A free by another thread than the one that allocated waits for a later phase.
-    #[inline]
+    #[inline(always)]
     fn check_free(&self, thread: u64, name: u64) -> Result<u32, Reason>
         ensures { IsChecked (told_checks self.now (Item.Frees thread name)) 1 result }
     {
@@ -134,7 +137,7 @@ impl Reader {
     }
 
     /// The cost of an item that passes its checks, or the first reason that applies.
-    #[inline]
+    #[inline(always)]
     fn check(&self, item: Item) -> Result<u32, Reason>
         requires { IsValid self.now.header }
         ensures { IsChecked (told_checks self.now item) (cost_of self.now.header item) result }
@@ -161,7 +164,7 @@ impl Reader {
     }
 
     /// Adds an operation of the line.
-    #[inline]
+    #[inline(always)]
     fn operate(&mut self, actor: u8, what: What, cost: u32) -> Result<(), AllocError>
         requires actor { actor < 17 }
         requires few { self.old.counts.operations < 1000000 }
@@ -176,7 +179,7 @@ impl Reader {
     }
 
     /// Adds an operation of the line that allocates the name, and gives the name to the thread.
-    #[inline]
+    #[inline(always)]
     fn allocate(&mut self, thread: u8, name: u64, what: What, cost: u32) -> Result<(), AllocError>
         requires name { name ≤ 1000000 }
         requires actor { thread < 17 }
@@ -215,7 +218,7 @@ impl Reader {
     }
 
     /// Adds an item that passed its checks.
-    #[inline]
+    #[inline(always)]
     fn add(&mut self, item: Item, cost: u32) -> Result<(), AllocError>
         requires tells { (items : List Item) × Tells self.old items × (reason_of self.old.header items item ≡ None) }
         requires ranged { IsRanged item }
@@ -256,47 +259,76 @@ impl Reader {
         }
     }
 
-    /// What a line says after the lines before, with its cost; or the first reason that applies.
-    #[inline]
-    fn says(&self, line: &[u8]) -> Result<(Item, u32), Reason>
-        requires { IsValid self.now.header }
-        ensures { (items : List Item) → Tells self.now items → MatchResult result (λ p. (line_says self.now.header items line.now ≡ Ok p.0) × (reason_of self.now.header items p.0 ≡ None) × IsRanged p.0 × (p.1 ≡ cost_of self.now.header p.0)) (λ r. line_says self.now.header items line.now ≡ Err r) }
+    /// The fault of the next line.
+    #[cold]
+    fn fault(&self, reason: Reason) -> ReadFault
+        requires { self.now.line < 2 ^ 25 }
+        ensures { result ≡ ReadFault.Trace (fault_at (self.now.line + 1) reason) }
     {
-        let item = read_item(self.started, line)?;
+        ReadFault::Trace(TraceFault {
+            line: self.line + 1,
+            reason,
+        })
+    }
+
+    /// Takes what a line says.
+    #[inline(always)]
+    fn take_item(&mut self, item: Item) -> Result<(), ReadFault>
+        requires tells { (items : List Item) × Tells self.old items }
+        requires ranged { IsRanged item }
+        requires line { self.old.line < 2 ^ 25 }
+        ensures { (items : List Item) (line : List ℕ) → Tells self.old items → item_of_line self.old.started line ≡ Ok item → IsTaken self.old items line self.new result }
+    {
         match self.check(item) {
-            Ok(cost) => Ok((item, cost)),
-            Err(reason) => Err(reason),
+            Ok(cost) => match self.add(item, cost) {
+                Ok(()) => Ok(()),
+                Err(AllocError) => Err(ReadFault::NoMemory),
+            },
+            Err(reason) => Err(self.fault(reason)),
         }
     }
 
-    /// Reads a line.
-    #[inline]
+    /// Reads a line of whatever kind.
+    #[inline(never)]
     fn take(&mut self, line: &[u8]) -> Result<(), ReadFault>
         requires tells { (items : List Item) × Tells self.old items }
         requires line { self.old.line < 2 ^ 25 }
         ensures { (items : List Item) → Tells self.old items → IsTaken self.old items line.now self.new result }
     {
-        match self.says(line) {
-            Ok((item, cost)) => match self.add(item, cost) {
-                Ok(()) => Ok(()),
-                Err(AllocError) => Err(ReadFault::NoMemory),
-            },
-            Err(reason) => Err(ReadFault::Trace(TraceFault {
-                line: self.line + 1,
-                reason,
-            })),
+        match read_item(self.started, line) {
+            Ok(item) => self.take_item(item),
+            Err(reason) => Err(self.fault(reason)),
         }
     }
 
+    /// Reads the first line of a text, and answers the text after it, or None where the text has no line. Lines of the commonest kinds
+    /// are read in one pass over their bytes.
+    #[inline(always)]
+    fn read_line<'a>(&mut self, text: &'a [u8]) -> Result<Option<&'a [u8]>, ReadFault>
+        requires tells { (items : List Item) × Tells self.old items }
+        requires line { self.old.line < 2 ^ 25 }
+        ensures { (items : List Item) → Tells self.old items → MatchResult result (λ o. MatchOption o ((lines_of text.now ≡ []) × (self.new ≡ self.old)) (λ rest. IsFirstTaken self.old items text.now rest.now self.new (Ok tt))) (λ fault. (rest : List ℕ) × IsFirstTaken self.old items text.now rest self.new (Err fault)) }
+    {
+        if let Some((item, rest)) = front_item(text) {
+            self.take_item(item)?;
+            return Ok(Some(rest));
+        }
+        let Some((line, rest)) = next_line(text) else {
+            return Ok(None);
+        };
+        self.take(line)?;
+        Ok(Some(rest))
+    }
+
     /// Reads the lines of a text.
+    #[inline(never)]
     fn read_lines(&mut self, text: &[u8]) -> Result<(), ReadFault>
         requires tells { (items : List Item) × Tells self.old items }
         requires size { self.old.line + length text.now ≤ 2 ^ 24 + 1 }
         ensures { (items : List Item) → Tells self.old items → IsRead self.old items text.now self.new result }
     {
         let mut rest = text;
-        while let Some((line, after)) = next_line(rest) {
-            self.take(line)?;
+        while let Some(after) = self.read_line(rest)? {
             rest = after;
         }
         Ok(())

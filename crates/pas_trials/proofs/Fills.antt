@@ -15,8 +15,8 @@ use Rattle.pas_plain.proofs.Passes.{pass_rests}
 use Rattle.pas_steps.specs.Agreement.{Agreed}
 use Rattle.pas_steps.specs.declared.step.Made.{Made}
 use Rattle.pas_search.specs.Searches.{MaySearch}
-use Rattle.pas_segregated.specs.Refills.{GivesSlots}
-use Rattle.pas_segregated.specs.Stops.{MayStopAt, MayStop}
+use Rattle.pas_segregated.specs.Refills.{exclusive_slots, GivesSlots}
+use Rattle.pas_segregated.specs.Stops.{class_directory, directory_of, MayStopAt, MayStop}
 use Rattle.pas_segregated.specs.declared.slots.Slots.{Slots}
 use Rattle.pas_trials.specs.Trials.{Beside}
 use Rattle.pas_trials.specs.Filling.{Steps, Waits, Opens}
@@ -26,8 +26,11 @@ pub may_search : (d : Directory) → MaySearch d []
 may_search d = record { rights = λ p of. refl; clear = record { on = λ p. record { stamped = refl; owes = record { checks = λ w lt. refl; hint = refl }; examined = refl } } }
 
 -- what a refill gave may be stopped
-pub may_stop_then : {f : Profile} {d : Directory} {steps : List Made} {slots : Slots} → GivesSlots f d steps slots → (v : View) → MaySearch d v → Agreed f v steps → MayStop slots (steps ++ v)
-may_stop_then {steps = steps} {slots = slots} gives v may agreed = subst (λ x. MayStopAt x slots (steps ++ v)) (sym gives.named) (gives.gets.from v may agreed).may_stop
+pub given_directory : {f : Profile} {heap class : ℕ} {searched after : List Made} {slots : Slots} → GivesSlots (exclusive_slots heap class) f searched after slots → directory_of slots ≡ class_directory heap class
+given_directory {heap = heap} {slots = slots} gives = ap (λ h. class_directory h slots.class) (ap (λ d. d.heap) gives.home) ∙ ap (class_directory heap) gives.class_is
+
+pub may_stop_then : {f : Profile} {heap class : ℕ} {searched after : List Made} {slots : Slots} → GivesSlots (exclusive_slots heap class) f searched after slots → (v : View) → MaySearch (class_directory heap class) v → Agreed f v (after ++ searched) → MayStop slots ((after ++ searched) ++ v)
+may_stop_then {searched = searched} {after = after} {slots = slots} gives v may agreed = subst (λ x. MayStopAt x slots ((after ++ searched) ++ v)) (sym (given_directory gives)) (gives.gets.from v may agreed).may_stop
 
 pub opens_beside : {desk : PlainDesk} {pass : PlainPass} {room : ℕ} → Opens desk pass room → Beside desk pass
 opens_beside o = record { view = []; whole = []; stood = o.stood; rests = o.rests; other = o.other }

@@ -4,7 +4,7 @@ use Rattle.pas_answers.proofs.Records.{can_rest, shown_longer, records_fit, said
 use Rattle.pas_answers.proofs.answering.answer.Goals as goal
 
 pub push_events-requires-clause-within : goal.push_events-requires-clause-within
-push_events-requires-clause-within g c = shown_longer c.perform-said.ensures.performs.adds c.shown-before.result.now c.shown.result.now
+push_events-requires-clause-within g c = shown_longer c.perform-said.ensures.performs.calls.adds c.shown-before.result.now c.shown.result.now
     (λ v l stood. c.shown-before.ensures ∙ g.met.D.Desk.shows c.args.desk.now v l stood) (λ v l stood. c.shown.ensures ∙ g.met.D.Desk.shows c.perform-said.new.desk v l stood)
     (can_rest (cached c.args.cache.now) c.args.what (g.D.Desk.spare_of c.args.desk.now) c.args.out.now c.requires.can)
 

@@ -4,8 +4,8 @@ use Rattle.pas_trace.specs.declared.item.Item.{Item}
 use Rattle.pas_trace.proofs.Reading.{SoFar}
 use Rattle.pas_trace.proofs.reader.Reader.read_lines.Given as goal
 
-abbrev pub invariant-loop-line : goal.invariant-loop-line
-invariant-loop-line l = ((start : List Item) → Tells l.fn.self start → SoFar l.fn.self start l.fn.text l.self l.rest) × (l.self.line + length l.rest ≤ 16777217)
+abbrev pub invariant-loop-after : goal.invariant-loop-after
+invariant-loop-after l = ((start : List Item) → Tells l.fn.self start → SoFar l.fn.self start l.fn.text l.self l.rest) × (l.self.line + length l.rest ≤ 16777217)
 
-abbrev pub decreases-loop-line : goal.decreases-loop-line
-decreases-loop-line l = length l.rest
+abbrev pub decreases-loop-after : goal.decreases-loop-after
+decreases-loop-after l = length l.rest

@@ -1,0 +1,5 @@
+pub mod Aligned
+pub mod EndBits
+pub mod Lowest
+pub mod GivenRun
+pub mod Allocated

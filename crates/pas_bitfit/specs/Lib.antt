@@ -1,0 +1,4 @@
+pub mod Runs
+pub mod Gives
+pub mod Allocates
+pub mod Ends

@@ -1,0 +1,46 @@
+//! A bit-fit block is allocated.
+ghost use Rattle.std.specs.Prelude.{◌≡◌, ◌≤◌, ◌%◌};
+ghost use Rattle.pas_profile.specs.Classes.{IsAlignment};
+ghost use Rattle.pas_profile.specs.Profiles.{IsDirectoryOf};
+ghost use Rattle.pas_steps.specs.Desks.{CanCall};
+ghost use Rattle.pas_search.specs.Searches.{SearchRoom};
+ghost use Rattle.pas_bitfit.specs.Allocates.{bitfit_directory, Allocates};
+
+use crate::giving::give_run;
+use crate::wanted::Wanted;
+use pas_profile::limits::GRAIN_BYTES;
+use pas_profile::{Block, Directory, Kind, NoRoom};
+use pas_rights::leave;
+use pas_search::find_page;
+use pas_steps::Desk;
+
+/// A block of so many bytes at a multiple of the alignment: at the lowest place of the lowest offered bit-fit page of the heap where it fits,
+/// or of the lowest page without a deed. Just its grains are taken, the block is given, and then the page is left. Nothing is kept.
+///
+/// The room is a multiple of 16, from 16 to 2,048. `NoSpace` and `Held` come as the search of the heap's bit-fit pages gives them. At most two
+/// events where the deed of each page is known, and three otherwise. A page's turn takes at most 15 steps, the block and the leave 13 more.
+pub fn alloc<D: Desk>(desk: &mut D, heap: u8, room: u32, align: u32) -> Result<Block, NoRoom>
+    requires directory { IsDirectoryOf (D.standing desk.old).seat.profile (bitfit_directory heap) }
+    requires room { (16 ≤ room) × (room ≤ 2048) × (room % 16 ≡ 0) }
+    requires align { IsAlignment align }
+    requires can { CanCall (D.standing desk.old) (λ v l. SearchRoom (D.standing desk.old).seat.profile (bitfit_directory heap) 2 (D.spare_of desk.old) v) }
+    ensures allocates { Allocates heap room align D.tells (D.standing desk.old) (D.standing desk.new) result }
+    ensures home { D.home desk.new ≡ D.home desk.old }
+{
+    let directory = Directory {
+        heap,
+        kind: Kind::Bitfit,
+    };
+    let wanted = Wanted {
+        grains: (room / GRAIN_BYTES) as u16,
+        align: (align / GRAIN_BYTES) as u16,
+    };
+    match find_page(&wanted, desk, directory) {
+        Ok(served) => {
+            let block = give_run(desk, served.page, directory, served.found, wanted.grains);
+            leave(desk, served.page, directory);
+            Ok(block)
+        }
+        Err(room) => Err(room),
+    }
+}

@@ -1,0 +1,4 @@
+pub mod FourLooks
+pub mod WordTakes
+pub mod Parts
+pub mod Found

@@ -1,0 +1,8 @@
+//! Heaps: of what kind the pages are that serve a request of a heap.
+#![tactic(auto)]
+
+mod table;
+#[cfg(test)]
+mod tests;
+
+pub use table::HeapTable;

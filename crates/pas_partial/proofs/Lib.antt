@@ -1,0 +1,3 @@
+pub mod InRows
+pub mod LowestRow
+pub mod Refilled

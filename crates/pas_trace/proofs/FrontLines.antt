@@ -1,0 +1,175 @@
+-- Lines at the front of a text: their digits, their words, and where they end.
+use Rattle.std.proofs.Common.{◌≡◌, ◌≢◌, ℕ, ◌+◌, ◌-◌, ◌*◌, ◌^◌, ◌<◌, ◌≤◌, ◌==◌, nat_lt, nat_le, Bool, true, false, if◌then◌else◌, List, [], ◌∷◌, ◌++◌, take, drop, length, get_or, None, Some, Ok, refl, sym, ap, ◌∙◌, arith, append_assoc, length-append}
+use Rattle.std.proofs.Math.Nat.{pow-le-pow_right}
+use Rattle.std.proofs.lemmas.Grind.{pow_more}
+use Rattle.std.proofs.lemmas.List.{take_rest, take_more, drop_more, take-append-drop, length-take-le, get_or-take}
+use Rattle.std.proofs.lemmas.Bool.{le-leb, lt-ltb, leb-true, and_from, and_parts, ne_eqb}
+use Rattle.pas_trace.specs.Texts.{put_first, pieces, without_empty_end, without_empty, lines_of, words_of}
+use Rattle.pas_trace.specs.Numbers.{is_digit, all_digits, value_from, is_decimal, number_of}
+use Rattle.pas_trace.specs.Items.{below, from_one, trace_name, item2, item5, item_of_words}
+use Rattle.pas_trace.specs.FirstLines.{BeginsWith, FirstSays}
+use Rattle.pas_trace.specs.declared.item.Item.{Item}
+use Rattle.pas_trace.specs.declared.item.Item.TheVariants.{Allocates, Frees}
+use Rattle.pas_trace.proofs.Digits.{digit-is}
+use Rattle.pas_trace.proofs.Splits.{pieces-at, pieces-off, end-after, keeps}
+
+-- ---- digits, one by one
+digits-add : (ds : List ℕ) (d : ℕ) → all_digits ds ≡ true → is_digit d ≡ true → all_digits (ds ++ d ∷ []) ≡ true
+digits-add [] d e digit = and_from (is_digit d) true digit refl
+digits-add (b ∷ ds) d e digit = let p = and_parts (is_digit b) (all_digits ds) e in and_from (is_digit b) (all_digits (ds ++ d ∷ [])) p.0 (digits-add ds d p.1 digit)
+
+value-add : (n : ℕ) (ds : List ℕ) (d : ℕ) → value_from n (ds ++ d ∷ []) ≡ 10 * value_from n ds + (d - 48)
+value-add n [] d = refl
+value-add n (b ∷ ds) d = value-add (10 * n + (b - 48)) ds d
+
+-- the first so many bytes are digits of this value
+pub record AreDigits (text : List ℕ) (count value : ℕ) : Type 0 where
+  pub digits : all_digits (take count text) ≡ true
+  pub value_is : value ≡ value_from 0 (take count text)
+  pub small : value < 10 ^ count
+
+pub digits-more : (text : List ℕ) (count value : ℕ) → AreDigits text count value → count < length text → 48 ≤ get_or text count 0 → get_or text count 0 ≤ 57
+    → AreDigits text (count + 1) (10 * value + (get_or text count 0 - 48))
+digits-more text count value so_far within lo hi =
+    let d = get_or text count 0 in
+    let more = take_more text count 0 within in
+    let value_is : value ≡ value_from 0 (take count text) = so_far.value_is in
+    let small : value < 10 ^ count = so_far.small in
+    record {
+      digits = ap all_digits more ∙ digits-add (take count text) d so_far.digits (digit-is d lo hi);
+      value_is = ap (λ v. 10 * v + (d - 48)) value_is ∙ sym (ap (value_from 0) more ∙ value-add 0 (take count text) d);
+      small = omega (arith, pow_more 10 count, small, hi);
+    }
+
+pub digits-room : (count value : ℕ) → value < 10 ^ count → count ≤ 17 → value < 100000000000000000
+digits-room count value small few =
+    let most : 10 ^ count ≤ 10 ^ 17 = pow-le-pow_right (omega arith) few in omega (arith, small, most)
+
+pub digits-small : (count value : ℕ) → value < 10 ^ count → count ≤ 18 → value < 1000000000000000000
+digits-small count value small few =
+    let most : 10 ^ count ≤ 10 ^ 18 = pow-le-pow_right (omega arith) few in omega (arith, small, most)
+
+-- ---- a number and the byte after it
+decimal-from : (w : List ℕ) → all_digits w ≡ true → 0 < length w → (1 < length w → get_or w 0 0 ≢ 48) → is_decimal w ≡ true
+decimal-from [] digits some head = absurd (omega arith)
+decimal-from (b ∷ []) digits some head = (and_parts (is_digit b) true digits).0
+decimal-from (b ∷ c ∷ bs) digits some head =
+    let first = and_parts (nat_le 48 b) (nat_le b 57) (and_parts (is_digit b) (all_digits (c ∷ bs)) digits).0 in
+    let lo : 48 ≤ b = leb-true 48 b first.0 in
+    let other : b ≢ 48 = head (omega arith) in
+    and_from (nat_le 49 b) (all_digits (b ∷ c ∷ bs)) (le-leb 49 b (omega (arith, lo, other))) digits
+
+pub number-found : (text : List ℕ) (count value end : ℕ) → all_digits (take count text) ≡ true → value ≡ value_from 0 (take count text) → value < 1000000000000000000
+    → 0 < count → count < length text → get_or text count 0 ≡ end → (1 < count → get_or text 0 0 ≢ 48) → BeginsWith text value end (take (length text - (count + 1)) (drop (count + 1) text))
+number-found text count value end digits is small some within ended head =
+    let w = take count text in
+    let long : length w ≡ count = length-take-le count text (omega arith) in
+    let decimal : is_decimal w ≡ true = decimal-from w digits (omega arith) (λ more e. head (omega (arith, more, long)) (sym (get_or-take count text 0 0 some) ∙ e)) in
+    let fits : nat_lt (value_from 0 w) (2 ^ 64) ≡ true = lt-ltb (value_from 0 w) (2 ^ 64) (omega (arith, is, small)) in
+    let tested = and_from (is_decimal w) (nat_lt (value_from 0 w) (2 ^ 64)) decimal fits in
+    record {
+      word = w;
+      digits = digits;
+      number = ap (λ (t : Bool). if t then Some (value_from 0 w) else None) tested ∙ ap Some (sym is);
+      text_is = sym (take-append-drop count text) ∙ ap (λ (t : List ℕ). w ++ t) (drop_more text count 0 within)
+          ∙ (λ t. w ++ ended t ∷ sym (take_rest text (count + 1)) t);
+    }
+
+-- ---- words and the end of the line
+-- no byte is the separator
+abbrev Lacks : ℕ → List ℕ → Type 0
+Lacks s [] = Unit {0}
+Lacks s (b ∷ bs) = (b ≢ s) × Lacks s bs
+
+lacks-both : (s : ℕ) (xs ys : List ℕ) → Lacks s xs → Lacks s ys → Lacks s (xs ++ ys)
+lacks-both s [] ys a b = b
+lacks-both s (x ∷ xs) ys a b = (a.0, lacks-both s xs ys a.1 b)
+
+digits-lack : (s : ℕ) (w : List ℕ) → s < 48 → all_digits w ≡ true → Lacks s w
+digits-lack s [] small e = tt
+digits-lack s (b ∷ bs) small e =
+    let p = and_parts (is_digit b) (all_digits bs) e in
+    let lo : 48 ≤ b = leb-true 48 b (and_parts (nat_le 48 b) (nat_le b 57) p.0).0 in
+    (λ same. omega (arith, same, lo), digits-lack s bs small p.1)
+
+pieces-until : (s : ℕ) (xs ys : List ℕ) → Lacks s xs → pieces s (xs ++ s ∷ ys) ≡ xs ∷ pieces s ys
+pieces-until s [] ys h = pieces-at s s ys refl
+pieces-until s (x ∷ xs) ys h = pieces-off s x (xs ++ s ∷ ys) h.0 ∙ ap (put_first x) (pieces-until s xs ys h.1)
+
+pieces-only : (s : ℕ) (xs : List ℕ) → Lacks s xs → pieces s xs ≡ xs ∷ []
+pieces-only s [] h = refl
+pieces-only s (x ∷ xs) h = pieces-off s x xs h.0 ∙ ap (put_first x) (pieces-only s xs h.1)
+
+number-some : (w : List ℕ) (n : ℕ) → number_of w ≡ Some n → 0 < length w
+number-some [] n e = absurd (cc)
+number-some (b ∷ bs) n e = omega arith
+
+-- the text is a line of these words, the end of the line, and the rest
+record IsLine (text : List ℕ) (words : List (List ℕ)) (rest : List ℕ) : Type 0 where
+  line : List ℕ
+  text_is : text ≡ line ++ 10 ∷ rest
+  whole : Lacks 10 line
+  words_are : words_of line ≡ words
+
+line-end : (text : List ℕ) (n : ℕ) (rest : List ℕ) (b : BeginsWith text n 10 rest) → IsLine text (b.word ∷ []) rest
+line-end text n rest b = record {
+  line = b.word;
+  text_is = b.text_is;
+  whole = digits-lack 10 b.word (omega arith) b.digits;
+  words_are = ap without_empty (pieces-only 32 b.word (digits-lack 32 b.word (omega arith) b.digits)) ∙ keeps b.word [] (number-some b.word n b.number);
+}
+
+word-more : (text w after : List ℕ) (words : List (List ℕ)) (rest : List ℕ) → text ≡ w ++ 32 ∷ after → Lacks 10 w → Lacks 32 w → 0 < length w → IsLine after words rest → IsLine text (w ∷ words) rest
+word-more text w after words rest is whole one some l = record {
+  line = w ++ 32 ∷ l.line;
+  text_is = is ∙ ap (λ (t : List ℕ). w ++ 32 ∷ t) l.text_is ∙ sym (append_assoc w (32 ∷ l.line) (10 ∷ rest));
+  whole = lacks-both 10 w (32 ∷ l.line) whole (λ e. omega (arith, e), l.whole);
+  words_are = ap without_empty (pieces-until 32 w l.line one) ∙ keeps w (pieces 32 l.line) some ∙ ap (λ ws. w ∷ ws) l.words_are;
+}
+
+line-more : (text : List ℕ) (n : ℕ) (after : List ℕ) (words : List (List ℕ)) (rest : List ℕ) (b : BeginsWith text n 32 after) → IsLine after words rest → IsLine text (b.word ∷ words) rest
+line-more text n after words rest b l =
+    word-more text b.word after words rest b.text_is (digits-lack 10 b.word (omega arith) b.digits) (digits-lack 32 b.word (omega arith) b.digits) (number-some b.word n b.number) l
+
+-- ---- the first line
+lines-until : (line rest : List ℕ) → Lacks 10 line → lines_of (line ++ 10 ∷ rest) ≡ line ∷ lines_of rest
+lines-until line rest whole = ap without_empty_end (pieces-until 10 line rest whole) ∙ end-after line 10 rest
+
+line-says : (b : ℕ) (text : List ℕ) (words : List (List ℕ)) (rest : List ℕ) (item : Item) → 35 < b → IsLine text words rest
+    → ((started : Bool) → item_of_words started ((b ∷ []) ∷ words) ≡ Ok item) → FirstSays (b ∷ 32 ∷ text) item rest
+unfolding word-more
+line-says b text words rest item big l says =
+    let whole = word-more (b ∷ 32 ∷ text) (b ∷ []) text words rest refl (λ e. omega (arith, e, big), tt) (λ e. omega (arith, e, big), tt) (omega arith) l in
+    let line : List ℕ = b ∷ 32 ∷ l.line in
+    let other : (b == 35) ≡ false = ne_eqb b 35 (λ e. omega (arith, e, big)) in
+    record {
+      line = line;
+      cut = ap lines_of whole.text_is ∙ lines-until line rest whole.whole;
+      shorter = let long : length (b ∷ 32 ∷ text) ≡ length (line ++ 10 ∷ rest) = ap length whole.text_is in omega (arith, long, length-append line (10 ∷ rest));
+      says = λ started. rw other (ap (item_of_words started) whole.words_are ∙ says started);
+    }
+
+name-fits : (w : List ℕ) (n : ℕ) → number_of w ≡ Some n → 1 ≤ n → n ≤ 1000000 → trace_name w ≡ Some n
+name-fits w n e lo hi =
+    let most : nat_lt n 1000001 ≡ true = lt-ltb n 1000001 (omega arith) in
+    let least : nat_le 1 n ≡ true = le-leb 1 n lo in
+    ap (λ o. from_one (below 1000001 o)) e ∙ ap (λ (t : Bool). from_one (if t then Some n else None)) most ∙ ap (λ (t : Bool). if t then Some n else None) least
+
+pub allocation-first : (text t1 t2 t3 t4 rest : List ℕ) (t n h s a : ℕ) → BeginsWith text t 32 t1 → BeginsWith t1 n 32 t2 → BeginsWith t2 h 32 t3 → BeginsWith t3 s 32 t4 → BeginsWith t4 a 10 rest → 1 ≤ n → n ≤ 1000000
+    → FirstSays (97 ∷ 32 ∷ text) (Allocates t record { name = n; heap = h; size = s; align = a }) rest
+allocation-first text t1 t2 t3 t4 rest t n h s a b1 b2 b3 b4 b5 lo hi =
+    let named = name-fits b2.word n b2.number lo hi in
+    line-says 97 text (b1.word ∷ b2.word ∷ b3.word ∷ b4.word ∷ b5.word ∷ []) rest _ (omega arith)
+    (line-more text t t1 _ rest b1 (line-more t1 n t2 _ rest b2 (line-more t2 h t3 _ rest b3 (line-more t3 s t4 _ rest b4 (line-end t4 a rest b5)))))
+    (λ started i. item5 (λ t n h s a. Allocates t record { name = n; heap = h; size = s; align = a }) (b1.number i) (named i) (b3.number i) (b4.number i) (b5.number i))
+
+pub free-first : (text t1 rest : List ℕ) (t n : ℕ) → BeginsWith text t 32 t1 → BeginsWith t1 n 10 rest → 1 ≤ n → n ≤ 1000000 → FirstSays (102 ∷ 32 ∷ text) (Frees t n) rest
+free-first text t1 rest t n b1 b2 lo hi =
+    let named = name-fits b2.word n b2.number lo hi in
+    line-says 102 text (b1.word ∷ b2.word ∷ []) rest _ (omega arith) (line-more text t t1 _ rest b1 (line-end t1 n rest b2)) (λ started i. item2 Frees (b1.number i) (named i))
+
+-- ---- the first two bytes
+pub two-first : (text : List ℕ) (a b : ℕ) → 2 ≤ length text → get_or text 0 0 ≡ a → get_or text 1 0 ≡ b → a ∷ b ∷ take (length text - 2) (drop 2 text) ≡ text
+two-first [] a b two ha hb = absurd (omega arith)
+two-first (x ∷ []) a b two ha hb = absurd (omega arith)
+two-first (x ∷ y ∷ rest) a b two ha hb = λ i. sym ha i ∷ sym hb i ∷ take_rest (x ∷ y ∷ rest) 2 i

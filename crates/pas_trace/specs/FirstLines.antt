@@ -1,0 +1,20 @@
+-- What stands at the front of a text.
+use Rattle.std.specs.Prelude.{ℕ, ◌<◌, ◌≡◌, Bool, true, List, ◌∷◌, ◌++◌, length, Some, Ok}
+use Rattle.pas_trace.specs.Texts.{lines_of}
+use Rattle.pas_trace.specs.Numbers.{all_digits, number_of}
+use Rattle.pas_trace.specs.Items.{item_of_line}
+use Rattle.pas_trace.specs.declared.item.Item.{Item}
+
+-- the text begins with a word that is this number, and with this byte after it
+pub record BeginsWith (text : List ℕ) (n end : ℕ) (rest : List ℕ) : Type 0 where
+  pub word : List ℕ
+  pub digits : all_digits word ≡ true
+  pub number : number_of word ≡ Some n
+  pub text_is : text ≡ word ++ end ∷ rest
+
+-- the first line of the text says this item, whatever stands before it
+pub record FirstSays (text : List ℕ) (item : Item) (rest : List ℕ) : Type 0 where
+  pub line : List ℕ
+  pub cut : lines_of text ≡ line ∷ lines_of rest
+  pub shorter : length rest < length text
+  pub says : (started : Bool) → item_of_line started line ≡ Ok item
