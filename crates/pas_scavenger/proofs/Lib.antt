@@ -1,11 +1,6 @@
 pub mod States
-pub mod Takings
 pub mod Judgings
 pub mod PuttingBack
 pub mod Shapes
-pub mod TakingPages
 pub mod Examinations
-pub mod Rooms
 pub mod Trying
-pub mod WholePasses
-pub mod Showing

@@ -22,8 +22,7 @@ use Rattle.pas_scavenger.specs.Puttings.{BackSteps}
 use Rattle.pas_scavenger.specs.Pages.{first_looks, AsksSteps, EndsWithout, EndsWith, ExamineSteps, unback_of, quiet, examining}
 use Rattle.pas_scavenger.specs.declared.reading.Used.{Used}
 use Rattle.pas_scavenger.proofs.Judgings.{two_looks}
-use Rattle.pas_scavenger.proofs.States.{idle}
-use Rattle.pas_scavenger.proofs.Takings.{looks_are, takes_are}
+use Rattle.pas_scavenger.proofs.States.{idle, looks_are, takes_are}
 
 -- ---- kinds, and how many they are
 -- steps of these kinds, at most so many

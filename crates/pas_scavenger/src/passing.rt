@@ -20,7 +20,6 @@ fn try_page<D: Desk>(desk: &mut D, page: u32, epoch: u64, out: &mut Outcomes)
     requires room { 1 ≤ D.spare_of desk.old }
     requires place { length (pairs_in out.old) < places_of out.old }
     ensures tries { TriesPage page epoch (D.standing desk.old) (D.standing desk.new) (pairs_in out.old) (pairs_in out.new) }
-    ensures spare { D.spare_of desk.old ≤ D.spare_of desk.new + 1 }
     ensures places { places_of out.new ≡ places_of out.old }
     ensures home { D.home desk.new ≡ D.home desk.old }
 {

@@ -10,7 +10,11 @@ use std::test::Fail;
 
 /// Actor 1 refills a class from page 1, and stops the slots where that is asked. Then actor 2 hints the page, raises the epoch and makes a
 /// pass. The one outcome of the pass, and the page's backed word after it.
-fn refill_and_pass(alloc: Global, stops: bool, epoch: u64) -> Result<(Option<(u32, Outcome)>, u64), Fail>
+fn refill_and_pass(
+    alloc: Global,
+    stops: bool,
+    epoch: u64,
+) -> Result<(Option<(u32, Outcome)>, u64), Fail>
     requires { epoch < 2 ^ 40 }
 {
     let (mut desk, pass) = seated(alloc, 1, 2)?;

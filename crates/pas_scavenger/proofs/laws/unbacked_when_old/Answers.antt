@@ -1,4 +1,4 @@
-use Rattle.pas_scavenger.proofs.Showing.{unbacked_when_old}
+use Rattle.pas_scavenger.proofs.Examinations.{unbacked_when_old}
 use Rattle.pas_scavenger.proofs.laws.unbacked_when_old.Goals as goal
 
 pub returns : goal.returns

@@ -4,8 +4,7 @@ use Rattle.pas_steps.specs.InTurn.{numbers_below}
 use Rattle.pas_steps.proofs.Called.{next_call}
 use Rattle.pas_utility.specs.Outcomes.{pairs_in}
 use Rattle.pas_scavenger.specs.Passes.{WordRead, WordSteps, all_tried}
-use Rattle.pas_scavenger.proofs.Trying.{tries_then}
-use Rattle.pas_scavenger.proofs.WholePasses.{tries_nothing, is_ready, first_room, passed, spare_pass}
+use Rattle.pas_scavenger.proofs.Trying.{tries_then, tries_nothing, is_ready, first_room, passed, spare_pass}
 use Rattle.pas_scavenger.proofs.passing.pass.Goals as goal
 
 pub loop-block-init : goal.loop-block-init

@@ -6,7 +6,7 @@ use Rattle.pas_steps.specs.declared.step.Step.TheVariants.{Look}
 use Rattle.pas_steps.proofs.Called.{next_call}
 use Rattle.pas_utility.specs.Outcomes.{pairs_in}
 use Rattle.pas_scavenger.specs.Passes.{Tried, TrySteps, pages_set, Tries}
-use Rattle.pas_scavenger.proofs.Trying.{looked_first, tries_then, spare_by, one_pair, hinted_page, next_page, last_page}
+use Rattle.pas_scavenger.proofs.Trying.{looked_first, tries_then, spare_by, spare_page, one_pair, hinted_page, next_page, last_page}
 use Rattle.pas_scavenger.proofs.passing.read_word.Goals as goal
 
 pub pages-init : goal.pages-init
@@ -66,7 +66,9 @@ pages-preserved g c =
       few = let n = length-append t.steps i.steps in let one = t.few in let few = i.few in omega (arith, n, one, few);
       from = omega (arith, here);
       to = omega (arith, here);
-      room = let room = i.room in let spare = c.try_page.ensures.spare in omega (arith, room, spare, low, above);
+      room =
+          let spare = spare_page (D.spare_of c.pages.desk) (D.spare_of c.try_page.new.desk) t (next_call i.tries.calls c.requires.can (λ v met is. is)) (λ v l stood. g.met.D.Desk.spares c.pages.desk v l stood) (λ v l stood. g.met.D.Desk.spares c.try_page.new.desk v l stood) in
+          let room = i.room in omega (arith, room, spare, low, above);
       left = let left = i.left in let more = one_pair page t.outcome (pairs_in c.pages.out) (pairs_in c.try_page.new.out) t.tries.pairs in omega (arith, left, more, low, above);
       places = c.try_page.ensures.places ∙ i.places;
       home = c.try_page.ensures.home ∙ i.home;

@@ -4,7 +4,7 @@ use Rattle.std.proofs.lemmas.Bool.{eq-eqb}
 use Rattle.pas_steps.specs.Views.{all_ones}
 use Rattle.pas_rights.specs.Looks.{are_all_ones}
 use Rattle.pas_steps.proofs.Adding.{adds_none, can_step}
-use Rattle.pas_scavenger.proofs.Takings.{may_take, more_takes, got_none, got_more}
+use Rattle.pas_scavenger.proofs.States.{may_take, more_takes, got_none, got_more}
 use Rattle.pas_scavenger.proofs.taking.take_grains.Goals as goal
 
 pub loop-word-init : goal.loop-word-init
