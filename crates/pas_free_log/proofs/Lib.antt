@@ -3,6 +3,5 @@ pub mod Tries
 pub mod Pages
 pub mod Blocks
 pub mod OneEntry
-pub mod SpareRoom
 pub mod StepCounts
 pub mod AllEntries

@@ -1,5 +1,5 @@
 -- The steps for the grains of one page.
-use Rattle.std.proofs.Common.{◌≡◌, ℕ, ◌+◌, ◌-◌, ◌/◌, ◌%◌, ◌≤◌, ◌==◌, false, if◌then◌else◌, List, [], ◌∷◌, ◌++◌, Option, Some, refl, ap, sym, ◌∙◌, subst, arith, ◌&&◌, true}
+use Rattle.std.proofs.Common.{◌≡◌, ℕ, ◌+◌, ◌-◌, ◌/◌, ◌%◌, ◌≤◌, ◌==◌, false, if◌then◌else◌, List, [], ◌∷◌, ◌++◌, Option, Some, refl, ap, sym, ◌∙◌, arith, ◌&&◌, true}
 use Rattle.std.proofs.lemmas.Bool.{ne_eqb}
 use Rattle.std.proofs.lemmas.Bool.Decides.{nat_tests}
 use Rattle.pas_profile.specs.Directories.{deed_word_of, directory_read}
@@ -7,7 +7,6 @@ use Rattle.pas_profile.specs.Profiles.{IsValid, IsDirectoryOf}
 use Rattle.pas_profile.specs.declared.directory.Directory.{Directory}
 use Rattle.pas_profile.specs.declared.profile.Profile.{Profile}
 use Rattle.pas_profile.specs.declared.word.Word.TheVariants as Word
-use Rattle.pas_profile.proofs.Codecs.{read-deed_word_of, directory_from_profile}
 use Rattle.pas_profile.specs.Runs.{in_run, meets_page}
 use Rattle.pas_profile.proofs.Runs.{to_run}
 use Rattle.pas_steps.specs.declared.step.Made.{Made}
@@ -23,6 +22,7 @@ use Rattle.pas_steps.proofs.Adding.{adds_none, adds_step}
 use Rattle.pas_steps.proofs.Apart.{only_within, only_both, deeds_same, unstamped_same, examines_same}
 use Rattle.pas_steps.proofs.Called.{call_then}
 use Rattle.pas_steps.proofs.Calls.{does_after_nothing, does_idly, returns_are}
+use Rattle.pas_steps.proofs.ReadDeeds.{directory_told}
 use Rattle.pas_steps.proofs.Sets.{put_freed, put_as}
 use Rattle.pas_rights.specs.Returns.{Returned}
 use Rattle.pas_rights.proofs.Ends.{settled_clear}
@@ -84,16 +84,6 @@ page_back g n deed stamped puts after some within kinds returns =
     }
 
 -- ---- the call
--- the directory that was read
-pub directory_told : (f : Profile) (deed : ℕ) (r : Option Directory) → IsValid f → r ≡ directory_read deed → ((d : Directory) × (deed ≡ deed_word_of d) × IsDirectoryOf f d) → (d : Directory) × (r ≡ Some d) × (deed ≡ deed_word_of d) × IsDirectoryOf f d
-directory_told f deed r valid read told = (told.0, read ∙ ap directory_read told.1 ∙ read-deed_word_of told.0 (directory_from_profile f told.0 valid told.2), told.1, told.2)
-
-some_is : (a b : Directory) → Some a ≡ Some b → a ≡ b
-some_is a b e = cc
-
-pub directory_is : (f : Profile) (deed : ℕ) (r : Option Directory) (d : Directory) → ((d : Directory) × (r ≡ Some d) × (deed ≡ deed_word_of d) × IsDirectoryOf f d) → r ≡ Some d → (deed ≡ deed_word_of d) × IsDirectoryOf f d
-directory_is f deed r d told is = let same : told.0 ≡ d = some_is told.0 d (sym told.1 ∙ is) in (told.2 ∙ ap deed_word_of same, subst (IsDirectoryOf f) same told.3)
-
 -- the directory of a page on which the actor ended a block
 pub page_directory : {σ σ1 : Standing} (g n deed : ℕ) (r : Option Directory) → IsValid σ.seat.profile → 1 ≤ n → CanCall σ (λ v l. MayReturn g n v) → Makes σ σ1 (Look (Word.Deed (g / 256))) deed → r ≡ directory_read deed
     → (d : Directory) × (r ≡ Some d) × (deed ≡ deed_word_of d) × IsDirectoryOf σ.seat.profile d

@@ -109,7 +109,7 @@ pub leave_loses : (p : ℕ) (d : Directory) (steps : List Made) → LeaveSteps p
 leave_loses p d steps h = subst (Once (LosesHere p)) (sym h.steps_are) (end_loses p d (any_usable d h.answers) (are_all_ones h.answers) h.after (looks p h.answers) (looks_are p h.answers) h.ends)
 
 -- ---- how many steps they are
-looks_count : (p : ℕ) (answers : List ℕ) → length (looks p answers) ≡ length answers
+pub looks_count : (p : ℕ) (answers : List ℕ) → length (looks p answers) ≡ length answers
 looks_count p [] = refl
 looks_count p (a ∷ more) = ap (λ n. suc n) (looks_count p more)
 

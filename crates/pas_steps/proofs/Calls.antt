@@ -9,7 +9,7 @@ use Rattle.pas_profile.specs.declared.word.Word.{Word}
 use Rattle.pas_profile.specs.Runs.{in_run, meets_page, grain_of}
 use Rattle.pas_steps.specs.Agreement.{Agrees, Agreed}
 use Rattle.pas_steps.specs.Calls.{Leads, AnyView, Fate, Kept, Gained, Lost, now, later, Effect, nothing, put, freed, on_page, and_then, ClearAfter, Bears, Does, grain_fate, way_fate, right_fate, opens, step_effect}
-use Rattle.pas_steps.specs.Clear.{IsClearOn, IsClear}
+use Rattle.pas_steps.specs.Clear.{OwesNothing, IsClearOn, IsClear}
 use Rattle.pas_steps.specs.Desks.{Seat, made}
 use Rattle.pas_steps.specs.Effects.{in_mask}
 use Rattle.pas_steps.specs.Views.{View, Move, Stays, Puts, Ends, grain_move, held_after, holds, Way, ByDeed, way, had_after, right_after, has_right, known_deed, unstamped_after, is_unstamped, check_after, owes_check, all_ones, hint_after, owes_hint, examined_after, examines}
@@ -22,7 +22,7 @@ use Rattle.pas_steps.proofs.Flags.{ends_none, ap_if}
 use Rattle.pas_steps.proofs.Kept.{look_check, look_hint, right_on, check_on, hint_on, examined_on, unstamped_on, returns_on}
 use Rattle.pas_steps.proofs.Past.{always_map}
 use Rattle.pas_steps.specs.Frames.{IsReturn, OnlyOn, OnlyReturns, unbacks}
-use Rattle.pas_steps.specs.Kinds.{Kinds, kind_of, look_kind, place_of, is_in, apart, Only, Unhinting, moving, unbacking, changing, returning}
+use Rattle.pas_steps.specs.Kinds.{Kinds, kind_of, look_kind, place_of, is_in, apart, Only, Unhinting, moving, unbacking, changing, returning, Putting, Ending, Parking}
 use Rattle.pas_steps.proofs.Backed.{backed_with}
 
 -- ---- two calls: the one place where their lists are put together
@@ -168,6 +168,24 @@ clear_shut s a p v shut is = record {
   };
   examined = examined_shut s a p (examines v p) shut is.examined;
 }
+
+-- ---- steps that open no page
+abbrev pub opening : Kinds
+opening = Putting ∷ Ending ∷ Parking ∷ Unhinting ∷ []
+
+opens_none : (s : Step) (a p : ℕ) → is_in opening (kind_of s) ≡ false → opens s a p ≡ false
+opens_none (Put q u m) a p other = absurd (true≢false other)
+opens_none (End n g) a p other = absurd (true≢false other)
+opens_none (Park q) a p other = absurd (true≢false other)
+opens_none (Unhint q) a p other = absurd (true≢false other)
+opens_none s a p other = refl
+
+-- nothing becomes owed on a page
+pub owes_over : (ks : Kinds) → apart ks opening ≡ true → (p : ℕ) (steps : List Made) (v : View) → Only ks steps → OwesNothing p v → OwesNothing p (steps ++ v)
+owes_over ks w p = holds_over (OwesNothing p) opening ks (λ m v other owes. record {
+  checks = λ u lt. check_shut m.step m.answer p u (known_deed v p) (has_right v p) (owes_check v p u) (opens_none m.step m.answer p other) (owes.checks u lt);
+  hint = hint_shut m.step m.answer p (owes_hint v p) (opens_none m.step m.answer p other) owes.hint;
+}) w
 
 clear_step : (t : Bool) (p : ℕ) (v w : View) → (t ≡ false → IsClearOn p v → IsClearOn p w) → ClearAfter (if t then Lost else Kept) p v w
 clear_step true p v w shut = tt

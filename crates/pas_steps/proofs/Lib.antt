@@ -15,3 +15,5 @@ pub mod Calls
 pub mod Called
 pub mod Sets
 pub mod Unknown
+pub mod SpareRoom
+pub mod ReadDeeds

@@ -3,3 +3,4 @@ pub mod Besides
 pub mod Found
 pub mod Fills
 pub mod Borrowed
+pub mod Ageing

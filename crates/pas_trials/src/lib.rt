@@ -9,6 +9,9 @@ pub mod holding;
 #[cfg(test)]
 mod log_tests;
 #[cfg(test)]
+mod pass_tests;
+pub mod passing;
+#[cfg(test)]
 mod seating;
 pub mod seats;
 pub mod sharing;
@@ -23,6 +26,7 @@ pub mod wanting;
 pub use caching::{borrow_two, words_of_first};
 pub use filling::{Filled, fill};
 pub use holding::{occupy, visit};
+pub use passing::age_and_pass;
 pub use seats::{change, close_both};
 pub use sharing::{Allocated, allocate, fill_shared};
 pub use wanting::{Findings, ask, want};

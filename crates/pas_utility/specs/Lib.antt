@@ -1,3 +1,4 @@
 pub mod Seats
+pub mod Outcomes
 pub mod Parts
 pub mod Pools

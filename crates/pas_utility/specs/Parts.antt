@@ -3,6 +3,8 @@ use Rattle.std.specs.Prelude.{ℕ, ◌+◌, ◌≤◌, ◌<◌, ◌≡◌, Bool,
 use Rattle.pas_profile.specs.Rooms.{shown, size_of_room}
 use Rattle.pas_profile.specs.declared.room.EventRoom.{EventRoom}
 use Rattle.pas_utility.specs.declared.seat.CacheSeat.{CacheSeat}
+use Rattle.pas_utility.specs.declared.outcomes.Outcomes.{Outcomes}
+use Rattle.pas_utility.specs.Outcomes.{pairs_in, places_of}
 use Rattle.pas_utility.specs.Seats.{thread_of}
 
 -- the size of an event room that is left
@@ -23,6 +25,16 @@ events_left (Some room) = length (shown room)
 abbrev pub number_left : ℕ → Option CacheSeat → ℕ
 number_left thread None = thread
 number_left thread (Some seat) = thread_of seat
+
+-- for how many pairs a list of outcomes that is left was made
+abbrev pub places_left : Option Outcomes → Option ℕ
+places_left None = None
+places_left (Some outcomes) = Some (places_of outcomes)
+
+-- how many pairs are in a list of outcomes that is left
+abbrev pub pairs_left : Option Outcomes → ℕ
+pairs_left None = 0
+pairs_left (Some outcomes) = length (pairs_in outcomes)
 
 -- ---- what holds of the parts that are left
 -- each room that is left has no event

@@ -1,5 +1,5 @@
 use crate::*;
-use pas_profile::Profile;
+use pas_profile::{NoMemory, Outcome, Profile};
 use std::test::Fail;
 
 const PROFILE: Profile = Profile {
@@ -29,5 +29,13 @@ fn each_part_is_handed_out_once(rt: HostRuntime) -> Result<(), Fail> {
         utility.cache_seat(1).map(|seat| seat.actor()),
     ];
     assert_eq!(rt; threads, [Some(2), Some(1), None, None]);
+    let Some(mut outcomes) = utility.outcomes() else {
+        return Err(NoMemory.into());
+    };
+    outcomes.push(1, Outcome::Young(5));
+    assert_eq!(rt; outcomes.as_slice(), [(1, Outcome::Young(5))].as_slice());
+    outcomes.clear();
+    assert_eq!(rt; outcomes.as_slice().len(), 0);
+    assert!(rt; utility.outcomes().is_none());
     Ok(())
 }

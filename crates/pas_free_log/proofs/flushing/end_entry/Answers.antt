@@ -4,7 +4,7 @@ use Rattle.pas_profile.specs.Runs.{grain_of}
 use Rattle.pas_steps.proofs.Called.{next_call}
 use Rattle.pas_free_log.specs.Conditions.{MayEnd, IsRun}
 use Rattle.pas_free_log.proofs.OneEntry.{is_ended, entry_ended, entry_refused}
-use Rattle.pas_free_log.proofs.SpareRoom.{spare_falls}
+use Rattle.pas_steps.proofs.SpareRoom.{spare_falls}
 use Rattle.pas_free_log.proofs.flushing.end_entry.Goals as goal
 
 pub end_named-requires-clause-can : goal.end_named-requires-clause-can

@@ -16,7 +16,7 @@ use Rattle.pas_steps.specs.Clear.{IsClear}
 use Rattle.pas_free_log.specs.Frames.{ending}
 use Rattle.pas_free_log.specs.Flushes.{Settled, event_for}
 use Rattle.pas_free_log.proofs.AllEntries.{events_more, stamps_more, entries_more, may_end, flushed}
-use Rattle.pas_free_log.proofs.SpareRoom.{spare_falls}
+use Rattle.pas_steps.proofs.SpareRoom.{spare_falls}
 use Rattle.pas_free_log.proofs.flushing.flush.Goals as goal
 
 pub loop-entry-init : goal.loop-entry-init

@@ -1,0 +1,6 @@
+pub mod States
+pub mod Judgings
+pub mod PuttingBack
+pub mod Shapes
+pub mod Examinations
+pub mod Trying

@@ -1,0 +1,6 @@
+pub mod Readings
+pub mod Judgements
+pub mod Puttings
+pub mod Pages
+pub mod Passes
+pub mod Evidence

@@ -1,0 +1,30 @@
+-- A hint and a tick, and what may come after them.
+use Rattle.std.proofs.Common.{[], ◌∷◌, List, refl}
+use Rattle.pas_scavenger.proofs.Trying.{nothing_still}
+use Rattle.pas_steps.specs.Calls.{Calls}
+use Rattle.pas_steps.specs.Clear.{HasNothing}
+use Rattle.pas_steps.specs.Desks.{Standing, Makes, CanCall, made}
+use Rattle.pas_steps.specs.Kinds.{Hinting, Ticking}
+use Rattle.pas_steps.specs.declared.step.Made.{Made}
+use Rattle.pas_steps.specs.declared.step.Step.TheVariants.{Hint, Tick}
+use Rattle.pas_steps.proofs.Adding.{adds_none, adds_step}
+use Rattle.pas_steps.proofs.Called.{next_call}
+use Rattle.pas_steps.proofs.Calls.{does_idly}
+use Rattle.std.specs.Prelude.{ℕ}
+
+-- an actor that made no step has nothing
+pub has_nothing : HasNothing []
+has_nothing = record { grains = λ g. refl; rights = λ q. refl; clear = record { on = λ q. record { stamped = refl; owes = record { checks = λ w lt. refl; hint = refl }; examined = refl } } }
+
+module _ {σ σ1 σ2 : Standing} (page h epoch t : ℕ) (hint : Makes σ σ1 (Hint page) h) (tick : Makes σ1 σ2 (Tick epoch) t) where
+  abbrev pub hint_and_tick : List Made
+  hint_and_tick = made (Tick epoch) t ∷ made (Hint page) h ∷ []
+
+  pub aged : Calls σ σ2 HasNothing (λ v w. HasNothing w) hint_and_tick
+  aged = record {
+    adds = adds_step (adds_step adds_none hint (λ v l stood met. tt)) tick (λ v l stood met. tt);
+    leads = record { from = λ v met agreed. nothing_still (does_idly σ.seat.profile (Hinting ∷ Ticking ∷ []) refl hint_and_tick v (refl, (refl, tt)) agreed) met };
+  }
+
+  pub may_pass : CanCall σ (λ v l. HasNothing v) → CanCall σ2 (λ v l. HasNothing v)
+  may_pass can = next_call aged can (λ v met rests. rests)

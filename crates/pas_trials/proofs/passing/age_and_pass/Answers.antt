@@ -1,0 +1,29 @@
+use Rattle.std.proofs.Common.{[], ◌∷◌, ◌++◌, refl, ap, sym, ◌∙◌, arith}
+use Rattle.pas_scavenger.proofs.Trying.{same_room}
+use Rattle.pas_steps.specs.Kinds.{Hinting, Ticking}
+use Rattle.pas_steps.proofs.Adding.{adds_call}
+use Rattle.pas_trials.proofs.Ageing.{hint_and_tick, aged, may_pass}
+use Rattle.pas_trials.proofs.passing.age_and_pass.Goals as goal
+
+pub pass-requires-clause-can : goal.pass-requires-clause-can
+pass-requires-clause-can g c = may_pass c.args.page c.hint.result c.args.epoch c.tick.result c.hint.ensures.makes c.tick.ensures.makes c.requires.can
+
+pub pass-requires-clause-room : goal.pass-requires-clause-room
+pass-requires-clause-room g c =
+    let D = g.D.Desk in let a = aged c.args.page c.hint.result c.args.epoch c.tick.result c.hint.ensures.makes c.tick.ensures.makes in
+    let same = same_room (Hinting ∷ Ticking ∷ []) refl (D.spare_of c.args.desk.now) (D.spare_of c.tick.new.self) a c.requires.can (refl, (refl, tt))
+    (λ v l stood. g.met.D.Desk.spares c.args.desk.now v l stood) (λ v l stood. g.met.D.Desk.spares c.tick.new.self v l stood) in
+    let pages = ap (λ s. s.profile.pages) a.adds.seat_is in let room = c.requires.room in omega (arith, same, pages, room)
+
+pub pass-requires-clause-places : goal.pass-requires-clause-places
+pass-requires-clause-places g c = let a = aged c.args.page c.hint.result c.args.epoch c.tick.result c.hint.ensures.makes c.tick.ensures.makes in c.requires.places ∙ sym (ap (λ s. s.profile.pages) a.adds.seat_is)
+
+pub returns : goal.returns
+returns g c =
+    let a = aged c.args.page c.hint.result c.args.epoch c.tick.result c.hint.ensures.makes c.tick.ensures.makes in let p = c.pass.ensures.passes in
+    record {
+      steps = record {
+        steps = p.steps ++ hint_and_tick c.args.page c.hint.result c.args.epoch c.tick.result c.hint.ensures.makes c.tick.ensures.makes;
+        adds = adds_call a.adds p.calls.adds (λ v l stood met. a.leads.from v met (a.adds.agreed v l stood met));
+      };
+    }

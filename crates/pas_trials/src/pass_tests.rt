@@ -1,0 +1,52 @@
+ghost use Rattle.std.specs.Prelude.{◌^◌, ◌<◌};
+
+use crate::seating::seated;
+use crate::*;
+use pas_profile::*;
+use pas_steps::Desk;
+use pas_utility::Utility;
+use std::alloc::Global;
+use std::test::Fail;
+
+/// Actor 1 refills a class from page 1, and stops the slots where that is asked. Then actor 2 hints the page, raises the epoch and makes a
+/// pass. The one outcome of the pass, and the page's backed word after it.
+fn refill_and_pass(
+    alloc: Global,
+    stops: bool,
+    epoch: u64,
+) -> Result<(Option<(u32, Outcome)>, u64), Fail>
+    requires { epoch < 2 ^ 40 }
+{
+    let (mut desk, pass) = seated(alloc, 1, 2)?;
+    let _ = fill(&mut desk, 0, 0, stops);
+    let (mut desk, pass) = change(desk, pass);
+    let mut utility = Utility::try_new(alloc, desk.profile(), &[0, 0, 0])?;
+    let Some(mut outcomes) = utility.outcomes() else {
+        return Err(NoMemory.into());
+    };
+    age_and_pass(&mut desk, 1, epoch, &mut outcomes);
+    let state = close_both(alloc, desk, pass)?;
+    let first = outcomes.as_slice().first().copied();
+    Ok((first, state.word(Word::Backed(1))))
+}
+
+#[test]
+fn an_old_empty_page_is_unbacked(rt: HostRuntime) -> Result<(), Fail> {
+    let expected = (Some((1, Outcome::Unbacked)), 0);
+    assert_eq!(rt; refill_and_pass(rt.alloc(), true, 2)?, expected);
+    Ok(())
+}
+
+#[test]
+fn a_young_page_stays_backed(rt: HostRuntime) -> Result<(), Fail> {
+    let expected = (Some((1, Outcome::Young(0))), 1);
+    assert_eq!(rt; refill_and_pass(rt.alloc(), true, 1)?, expected);
+    Ok(())
+}
+
+#[test]
+fn a_page_in_use_stays_backed(rt: HostRuntime) -> Result<(), Fail> {
+    let expected = (Some((1, Outcome::InUse(0, 0))), 1);
+    assert_eq!(rt; refill_and_pass(rt.alloc(), false, 2)?, expected);
+    Ok(())
+}
