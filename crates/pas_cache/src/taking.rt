@@ -48,7 +48,8 @@ fn move_to_end(locals: &mut [Slots], place: usize)
     locals[place..].rotate_left(1);
 }
 
-/// Brings the local allocator of the heap and the class to the end of the list, where it has a slot. False where none has.
+/// Brings the local allocator of the heap and the class to the end of the list, where it has a slot. False where none has, and the list is unchanged
+/// then.
 #[inline(always)]
 pub fn bring_cached(locals: &mut [Slots], heap: u8, class: u8) -> bool
     requires { HasOneEach locals.old }
