@@ -1,10 +1,12 @@
 -- A bit-fit request: the actor is at rest with the cache as it was.
-use Rattle.std.proofs.Common.{◌≡◌, ℕ, ◌+◌, ◌*◌, ◌/◌, ◌%◌, ◌≤◌, ◌==◌, Bool, true, false, if◌then◌else◌, List, [], ◌∷◌, ◌++◌, length, Ok, Err, Result, refl, ap, sym, ◌∙◌, subst, arith}
-use Rattle.std.specs.Prelude.{All, MatchResult, not}
+use Rattle.std.proofs.Common.{◌≡◌, ℕ, ◌+◌, ◌-◌, Option, None, Some, ◌*◌, ◌/◌, ◌%◌, ◌≤◌, ◌==◌, Bool, true, false, if◌then◌else◌, List, [], ◌∷◌, ◌++◌, length, Ok, Err, Result, refl, ap, sym, ◌∙◌, subst, arith}
+use Rattle.std.specs.Prelude.{All, MatchResult, max, nat_le, not}
 use Rattle.std.specs.List.{list_any}
-use Rattle.std.proofs.lemmas.Bool.{eqb-true}
+use Rattle.std.proofs.lemmas.Bool.{eqb-true, leb-true}
 use Rattle.pas_profile.specs.Profiles.{IsPage}
-use Rattle.pas_profile.specs.Requests.{kind_of_class}
+use Rattle.pas_profile.specs.Requests.{is_shared, kind_of_class, kind_of_route}
+use Rattle.pas_profile.specs.Classes.{class_sizes}
+use Rattle.pas_profile.specs.Routes.{first_class, route_with, route_of, room_by, room_of}
 use Rattle.pas_profile.specs.Runs.{in_run, address_of, grain_of, length_of}
 use Rattle.pas_profile.specs.declared.directory.Directory.{Directory}
 use Rattle.pas_profile.specs.declared.directory.Kind.TheVariants as Kind
@@ -19,24 +21,30 @@ use Rattle.pas_steps.specs.Events.{events_by}
 use Rattle.pas_steps.specs.Kinds.{returning, Only}
 use Rattle.pas_steps.specs.Views.{View, KnowsDeed}
 use Rattle.pas_steps.specs.declared.step.Made.{Made}
-use Rattle.pas_steps.proofs.Adding.{agreed_later}
+use Rattle.pas_steps.proofs.Adding.{agreed_later, adds_under}
 use Rattle.pas_steps.proofs.Apart.{only_both, only_within}
 use Rattle.pas_search.proofs.ForBackEnds.{events_quiet}
 use Rattle.pas_search.specs.Kinds.{searching}
-use Rattle.pas_search.specs.Searches.{MaySearch, IsRefused}
+use Rattle.pas_search.specs.Searches.{MaySearch, IsRefused, SearchRoom}
 use Rattle.pas_search.specs.Serving.{right_of}
+use Rattle.pas_search.specs.Telling.{IsTold}
+use Rattle.pas_steps.specs.Lists.{Whole}
 use Rattle.pas_segregated.specs.Stops.{home_of}
 use Rattle.pas_segregated.specs.declared.slots.Slots.{Slots}
-use Rattle.pas_bitfit.specs.Allocates.{bitfit_directory, run_for, GaveBlock, IsAllocated}
+use Rattle.pas_bitfit.specs.Allocates.{bitfit_directory, run_for, GaveBlock, IsAllocated, Allocates}
 use Rattle.pas_bitfit.specs.Gives.{give_steps}
 use Rattle.pas_bitfit.proofs.GivenRun.{run_is}
 use Rattle.pas_bitfit.specs.Runs.{NoneFits}
+use Rattle.pas_cache.specs.Caches.{Cached, AtRest}
+use Rattle.pas_cache.specs.Calls.{MayAllocate, Allocates as Serves}
 use Rattle.pas_cache.specs.Kinds.{allocating}
 use Rattle.pas_cache.specs.Locals.{any_keeps, IsLocal, RestsWith}
-use Rattle.pas_cache.specs.Serves.{IsBlockFor, IsFew, IsSilent}
+use Rattle.pas_cache.specs.Serves.{Wanted, wanted_for, IsBlockFor, IsFew, IsSilent, IsToldBy}
 use Rattle.pas_cache.proofs.RefillEvents.{chosen_few, silent_few, prepared}
 use Rattle.pas_cache.proofs.Refills.{may_search_in, no_right_in}
 use Rattle.pas_cache.proofs.Resting.{locals_after, rests_by, rests_kept}
+use Rattle.pas_steps.specs.Desks.{Standing, CanCall}
+use Rattle.std.proofs.Math.Nat.{le-max_right}
 
 -- ---- no local allocator has a right of a bit-fit page
 none_of : (locals : List Slots) → list_any (λ (s : Slots). false) locals ≡ false
@@ -134,7 +142,55 @@ module _ (f : Profile) (heap room align : ℕ) (locals : List Slots) where
   kinds searched after (Ok block) h only = given_kinds f heap room align searched after block h only
   kinds searched after (Err why) h only = subst (Only allocating) (refused searched after h.1) (only_within searching allocating searched refl only)
 
-  pub ends : (searched after : List Made) (answer : Result Block NoRoom) → Ends f heap room align searched after answer
-      → MatchResult answer (IsBlockFor f (record { directory = bitfit_directory heap; route = Route.Bitfit; room = room; align = align }) (RestsWith f locals) (after ++ searched)) (λ why. IsSilent (after ++ searched))
-  ends searched after (Ok block) h = block_for f heap room align searched after block h {Meets = RestsWith f locals} locals (λ v met. met)
-  ends searched after (Err why) h = subst IsSilent (refused searched after h.1) (λ k v. events_quiet k v searched h.0.quiet)
+  pub ends : {Meets : View → Type 0} → ((v : View) → Meets v → RestsWith f locals v) → (searched after : List Made) (answer : Result Block NoRoom) → Ends f heap room align searched after answer
+      → MatchResult answer (IsBlockFor f (record { directory = bitfit_directory heap; route = Route.Bitfit; room = room; align = align }) Meets (after ++ searched)) (λ why. IsSilent (after ++ searched))
+  ends {Meets} met searched after (Ok block) h = block_for f heap room align searched after block h {Meets = Meets} locals met
+  ends met searched after (Err why) h = subst IsSilent (refused searched after h.1) (λ k v. events_quiet k v searched h.0.quiet)
+
+-- ---- what it says of the whole state
+bitfit_told : (f : Profile) (heap room align : ℕ) (locals : List Slots) (entry exit : Whole) (answer : Result Block NoRoom) → IsTold (λ (b : Block). address_of b.name / 4096) (NoneFits (run_for room align)) f (bitfit_directory heap) entry exit answer
+    → IsToldBy f (record { directory = bitfit_directory heap; route = Route.Bitfit; room = room; align = align }) locals entry exit answer
+bitfit_told f heap room align locals entry exit (Ok block) told = tt
+bitfit_told f heap room align locals entry exit (Err why) told = record { cached = λ none. none; entry_fit = told.0; exit_fit = told.1; reason = told.2 }
+
+-- ---- of a cache
+pub bitfit_call : {σ : Standing} {c : Cached} {spare : ℕ} (heap : ℕ) → CanCall σ (λ v l. MayAllocate σ.seat.profile c spare v) → CanCall σ (λ v l. SearchRoom σ.seat.profile (bitfit_directory heap) 2 spare v)
+bitfit_call {σ} {c} heap can = record { view = can.view; whole = can.whole; stood = can.stood; met = record { may = may_search_bitfit σ.seat.profile can.view heap c.locals can.met.rest.locals; room = can.met.room } }
+
+bitfit_wanted : (f : Profile) (heap size align : ℕ) → route_of size align ≡ Route.Bitfit → record { directory = bitfit_directory heap; route = Route.Bitfit; room = room_of size align; align = align } ≡ wanted_for f heap size align
+bitfit_wanted f heap size align route = ap (λ (r : Route). record { directory = record { heap = heap; kind = kind_of_route (is_shared f heap) r }; route = r; room = room_of size align; align = align }) (sym route)
+
+pub bitfit_allocates : {σ σ' : Standing} (size align heap : ℕ) (tells : Bool) (c : Cached) (answer : Result Block NoRoom) → route_of size align ≡ Route.Bitfit → Allocates heap (room_of size align) align tells σ σ' answer → Serves (wanted_for σ.seat.profile heap size align) tells c c σ σ' answer
+bitfit_allocates {σ} {σ'} size align heap tells c answer route a =
+    let f : Profile = σ.seat.profile in
+    let room : ℕ = room_of size align in
+    subst (λ (w : Wanted). Serves w tells c c σ σ' answer) (bitfit_wanted f heap size align route) (record {
+      steps = a.after ++ a.searched;
+      calls = record {
+        adds = adds_under a.adds (λ v l stood met. may_search_bitfit f v heap c.locals met.locals);
+        leads = record { from = λ v met agreed. record { locals = rests f heap room align c.locals a.searched a.after answer a.outcome v met.locals agreed; few = met.few; entries = met.entries; few_entries = met.few_entries } };
+      };
+      change = record { cache = refl; searched = a.searched; searches = a.searches; after = a.after; outcome = a.outcome; steps_are = refl };
+      kinds = kinds f heap room align c.locals a.searched a.after answer a.outcome a.searches.kinds;
+      two = λ none. absurd none;
+      few = λ k v met agreed. few f heap room align c.locals a.searched a.after answer a.outcome k v met.locals agreed;
+      outcome = ends f heap room align c.locals {Meets = AtRest f c} (λ v met. met.locals) a.searched a.after answer a.outcome;
+      told = λ t v l stood met. bitfit_told f heap room align c.locals l _ answer (a.told t v l stood (may_search_bitfit f v heap c.locals met.locals));
+    })
+
+-- ---- its room
+small : (t : Bool) (n : ℕ) → (if t then Route.Bitfit else Route.Large) ≡ Route.Bitfit → nat_le n 2048 ≡ t → n ≤ 2048
+small true n route is = leb-true n 2048 is
+small false n route is = cc
+
+bitfit_size : (o : Option ℕ) (n : ℕ) → route_with o n ≡ Route.Bitfit → n ≤ 2048
+bitfit_size None n route = small (nat_le n 2048) n route refl
+bitfit_size (Some class) n route = cc
+
+pub bitfit_room : (size align : ℕ) → route_of size align ≡ Route.Bitfit → (16 ≤ room_of size align) × (room_of size align ≤ 2048) × (room_of size align % 16 ≡ 0)
+bitfit_room size align route =
+    let n : ℕ = max size 1 in
+    let some : 1 ≤ n = le-max_right size 1 in
+    let small = bitfit_size (first_class class_sizes 0 n align) n route in
+    let is : room_of size align ≡ (n + 16 - 1) / 16 * 16 = ap (λ (r : Route). room_by r n) route in
+    (omega (arith, is, some), omega (arith, is, small), omega (arith, is))

@@ -25,8 +25,8 @@ use Rattle.pas_segregated.specs.declared.slots.Slots.{Slots}
 use Rattle.pas_segregated.proofs.Starts.{start_below}
 use Rattle.pas_cache.specs.Changes.{LeavesSpent, StopsFirst, IsTakenOut, IsShortened}
 use Rattle.pas_cache.specs.Locals.{is_for, local_for, others_than, HasOneEach, IsPlaceOf, RestsWith}
-use Rattle.pas_cache.specs.Parts.{Releases, StopsPlace, BringsCached, MayObtain, Obtains, StandsLast}
-use Rattle.pas_cache.specs.Serves.{MakesPlace, IsFilling, IsRefill, HasNoneCached, IsToldBy}
+use Rattle.pas_cache.specs.Parts.{Releases, StopsPlace, BringsCached, MayObtain, Obtains, StandsLast, IsToldOf}
+use Rattle.pas_cache.specs.Serves.{MakesPlace, IsFilling, IsRefill, HasNoneCached}
 use Rattle.pas_cache.proofs.FitsBefore.{no_fit_before}
 use Rattle.pas_cache.proofs.Locals.{none_any, found_passes, at_place, none_left}
 use Rattle.pas_cache.proofs.RefillEvents.{refill_few}
@@ -163,7 +163,7 @@ obtains_cached {σ} fill tells locals locals' is can fits cached =
 
 refill_told : (fill : Filling) (f : Profile) (locals : List Slots) (entry middle exit : Whole) (answer : Result Slots NoRoom) → HasNoneCached fill.directory.heap fill.class locals
     → (HasNoFit fill.no_fit f fill.directory middle → HasNoFit fill.no_fit f fill.directory entry)
-    → IsTold (λ (s : Slots). s.page) fill.no_fit f fill.directory middle exit answer → IsToldBy fill f locals entry exit answer
+    → IsTold (λ (s : Slots). s.page) fill.no_fit f fill.directory middle exit answer → IsToldOf fill f locals entry exit answer
 refill_told fill f locals entry middle exit (Ok slots) none back told = tt
 refill_told fill f locals entry middle exit (Err room) none back told = record { cached = none; entry_fit = back told.0; exit_fit = told.1; reason = told.2 }
 
@@ -191,6 +191,6 @@ obtains_refilled {σ} {σ1} {σ2} fill tells locals fewer answer is cached one n
           let middle : Whole = triples k xs ++ l in
           let may = may_search f (xs ++ v) fill fewer is none (one.calls.leads.from v h (one.calls.adds.agreed v l stood h)) in
           let told = subst (λ (s : Seat). IsTold (λ (x : Slots). x.page) fill.no_fit s.profile fill.directory middle (triples s.actor ys ++ middle) answer) e (two.told t (xs ++ v) middle (one.calls.adds.added v l stood h) may) in
-          subst (λ x. IsToldBy fill f locals l x answer) (triples_append k ys xs l)
+          subst (λ x. IsToldOf fill f locals l x answer) (triples_append k ys xs l)
           (refill_told fill f locals l middle (triples k ys ++ middle) answer cached (no_fit_before fill.no_fit f fill.directory k xs l is.fewer one.kinds) told);
     }

@@ -1,5 +1,5 @@
 -- A request is answered from the local allocators.
-use Rattle.std.proofs.Common.{◌≡◌, ℕ, ◌+◌, ◌/◌, ◌^◌, ◌<◌, ◌≤◌, Bool, false, List, [], ◌∷◌, ◌++◌, length, Ok, Err, Result, inl, inr, Option, Some, true≢false, refl, ap, sym, ◌∙◌, subst, arith, append_assoc, append-nil, length-append}
+use Rattle.std.proofs.Common.{◌≡◌, ℕ, ◌+◌, ◌/◌, ◌^◌, ◌<◌, ◌≤◌, Bool, false, List, [], ◌∷◌, ◌++◌, length, Ok, Err, Result, inl, inr, Option, Some, true≢false, refl, ap, sym, ◌∙◌, subst, arith, append_assoc, append-nil, length-append, true}
 use Rattle.std.specs.Prelude.{MatchResult, All, ◌%◌, max}
 use Rattle.std.proofs.lemmas.List.Elements.{All-weaker}
 use Rattle.std.proofs.lemmas.List.Sorted.{IsPermutation-sym, IsPermutation-to_front}
@@ -8,14 +8,17 @@ use Rattle.pas_steps.proofs.Called.{call_as, next_call}
 use Rattle.pas_steps.proofs.Calls.{leads_as, leads_at}
 use Rattle.pas_profile.specs.Profiles.{IsAdmitted, IsPage}
 use Rattle.pas_profile.specs.Routes.{route_of, room_by}
-use Rattle.pas_profile.specs.Requests.{is_shared, kind_of_class, kind_of_route}
+use Rattle.pas_profile.specs.Requests.{is_shared, kind_of_class, kind_of_route, class_home}
+use Rattle.pas_profile.specs.declared.directory.Kind.{Kind as TheKind}
+use Rattle.pas_heap.specs.Heaps.{marks_of, is_marked}
+use Rattle.pas_heap.specs.declared.table.HeapTable.{HeapTable}
 use Rattle.pas_profile.specs.declared.directory.Route.{Route}
 use Rattle.pas_profile.proofs.ClassFacts.{class_suits, routed_slot_aligned}
 use Rattle.pas_cache.specs.Caches.{Cached, AtRest}
 use Rattle.pas_cache.specs.Calls.{MayAllocate, Allocates}
 use Rattle.std.specs.List.{AllByRecursion}
-use Rattle.pas_profile.specs.Classes.{IsClass, class_size, IsSlotStart}
-use Rattle.pas_profile.specs.Directories.{deed_word_of}
+use Rattle.pas_profile.specs.Classes.{IsClass, class_size, IsSlotStart, has_bit}
+use Rattle.pas_profile.specs.Directories.{IsKind, deed_word_of}
 use Rattle.pas_profile.specs.declared.profile.Profile.{Profile}
 use Rattle.pas_profile.specs.declared.directory.Directory.{Directory}
 use Rattle.pas_profile.specs.declared.event.Event.{Event}
@@ -32,16 +35,15 @@ use Rattle.pas_steps.proofs.Adding.{adds_call, room_left, agreed_first, agreed_l
 use Rattle.pas_steps.proofs.Frames.{events_append, events_split}
 use Rattle.pas_steps.proofs.Kept.{deed_stays}
 use Rattle.pas_search.proofs.ForBackEnds.{events_quiet}
-use Rattle.pas_segregated.specs.Stops.{class_directory}
-use Rattle.pas_segregated.specs.Refills.{Filling, exclusive_slots}
+use Rattle.pas_segregated.specs.Refills.{Filling}
 use Rattle.pas_segregated.specs.Takes.{fewer_slots}
 use Rattle.pas_segregated.specs.declared.slots.Slots.{Slots}
 use Rattle.pas_steps.specs.Unknown.{unknown_pages}
 use Rattle.pas_cache.specs.Locals.{local_for, IsFormed, IsLocal, RestsWith}
 use Rattle.pas_bits.specs.Masks.{HasMember}
 use Rattle.pas_cache.specs.Changes.{GivesSlot, LeavesSpent}
-use Rattle.pas_cache.specs.Serves.{Wanted, wanted_for, class_wanted, IsFilling, IsRefill, IsClassRoute, IsObtained, IsAnswered, ServesLocals, IsPreparing, IsBlockFor, IsSilent}
-use Rattle.pas_cache.specs.Parts.{MayGiveSlot, GivesLowest, MayObtain, Obtains, ServesFrom}
+use Rattle.pas_cache.specs.Serves.{Wanted, wanted_for, class_wanted, IsFilling, IsRefill, IsObtained, IsAnswered, ServesLocals, IsPreparing, IsBlockFor, IsSilent, filling_in, IsToldBy}
+use Rattle.pas_cache.specs.Parts.{MayGiveSlot, GivesLowest, MayObtain, Obtains, ServesFrom, IsToldOf}
 use Rattle.pas_steps.specs.Kinds.{returning, Only}
 use Rattle.pas_steps.proofs.Apart.{no_events, only_both, only_within}
 use Rattle.pas_search.specs.Kinds.{searching}
@@ -223,30 +225,41 @@ for_cache f c d class size align steps (Ok block) whole route h = record {
 }
 for_cache f c d class size align steps (Err room) whole route h = h
 
-pub filling_for : (f : Profile) (size align heap class : ℕ) → IsAdmitted f size align heap → is_shared f heap ≡ false → route_of size align ≡ Route.Class class → IsFilling f (exclusive_slots heap class)
-filling_for f size align heap class admitted exclusive route =
+kind_known : (shared : Bool) (class : ℕ) → IsClass class → IsKind (kind_of_class shared class)
+kind_known true class is = tt
+kind_known false class is = is
+
+-- the class of a request has its home in the heap
+pub filling_for : (f : Profile) (size align heap class : ℕ) → IsAdmitted f size align heap → route_of size align ≡ Route.Class class → IsFilling f (filling_in (class_home f heap class) class)
+filling_for f size align heap class admitted route =
     let known : IsClass class = (class_suits size align class route).known in
-    record { directory = record { heap = admitted.of_profile; kind = known }; class = known; home = ap (λ t. kind_of_class t class) (sym exclusive); fewer = fewer_slots class }
+    record { directory = record { heap = admitted.of_profile; kind = kind_known (is_shared f heap) class known }; class = known; home = refl; fewer = fewer_slots class }
 
--- a request of a class in a heap that isn't shared wants exclusive pages of the class
-wanted_is : (f : Profile) (heap class size align : ℕ) → is_shared f heap ≡ false → route_of size align ≡ Route.Class class → class_wanted (class_directory heap class) class align ≡ wanted_for f heap size align
-wanted_is f heap class size align exclusive route =
-    let by : Bool → Route → Wanted = λ b r. record { directory = record { heap = heap; kind = kind_of_route b r }; route = r; room = room_by r (max size 1); align = align } in
-    ap (λ (b : Bool). by b (Route.Class class)) (sym exclusive) ∙ ap (λ (r : Route). by (is_shared f heap) r) (sym route)
+-- a request of a class wants pages of the class's home
+wanted_is : (f : Profile) (heap class size align : ℕ) → route_of size align ≡ Route.Class class → class_wanted (class_home f heap class) class align ≡ wanted_for f heap size align
+wanted_is f heap class size align route = ap (λ (r : Route). record { directory = record { heap = heap; kind = kind_of_route (is_shared f heap) r }; route = r; room = room_by r (max size 1); align = align }) (sym route)
 
-pub allocates : {σ σ' : Standing} (size align heap class : ℕ) (tells : Bool) (c c' : Cached) (answer : Result Block NoRoom) → IsAdmitted σ.seat.profile size align heap → is_shared σ.seat.profile heap ≡ false → route_of size align ≡ Route.Class class → c' ≡ record c { locals = c'.locals }
-    → ServesFrom (exclusive_slots heap class) tells c.locals c'.locals σ σ' answer → Allocates (wanted_for σ.seat.profile heap size align) tells c c' σ σ' answer
-allocates {σ} {σ'} size align heap class tells c c' answer admitted exclusive route is h =
+-- the directory that the table of heaps tells is that home
+pub home_is : (f : Profile) (table : HeapTable) (heap class : ℕ) (kind : TheKind) → kind ≡ kind_of_class (is_marked table heap) class → marks_of table ≡ f.shared → record { heap = heap; kind = kind } ≡ class_home f heap class
+home_is f table heap class kind is marks = ap (λ (k : TheKind). record { heap = heap; kind = k }) (is ∙ ap (λ n. kind_of_class (has_bit n heap) class) marks)
+
+true_refusal : (f : Profile) (d : Directory) (class align : ℕ) (locals : List Slots) (entry exit : Whole) (answer : Result Block NoRoom) → IsToldOf (filling_in d class) f locals entry exit answer → IsToldBy f (class_wanted d class align) locals entry exit answer
+true_refusal f d class align locals entry exit (Ok block) told = tt
+true_refusal f d class align locals entry exit (Err room) told = record { cached = λ h. told.cached h.0 h.1 h.2; entry_fit = told.entry_fit; exit_fit = told.exit_fit; reason = told.reason }
+
+pub allocates : {σ σ' : Standing} (size align heap class : ℕ) (tells : Bool) (c c' : Cached) (answer : Result Block NoRoom) → IsAdmitted σ.seat.profile size align heap → route_of size align ≡ Route.Class class → c' ≡ record c { locals = c'.locals }
+    → ServesFrom (filling_in (class_home σ.seat.profile heap class) class) tells c.locals c'.locals σ σ' answer → Allocates (wanted_for σ.seat.profile heap size align) tells c c' σ σ' answer
+allocates {σ} {σ'} size align heap class tells c c' answer admitted route is h =
     let f : Profile = σ.seat.profile in
-    subst (λ (w : Wanted). Allocates w tells c c' σ σ' answer) (wanted_is f heap class size align exclusive route) (record {
+    subst (λ (w : Wanted). Allocates w tells c c' σ σ' answer) (wanted_is f heap class size align route) (record {
       steps = h.steps;
       calls = call_as (λ v w. AtRest f c' w) h.calls (λ v rest. rest.locals) (λ v w rest locals. subst (λ x. AtRest f x w) (sym is) (record { locals = locals; few = h.place; entries = rest.entries; few_entries = rest.few_entries }));
       change = record { locals = h.change; cache = is };
       kinds = h.kinds;
-      two = cached_two h.change;
+      two = λ some. cached_two h.change some.0 some.1 some.2;
       few = λ k v rest agreed. h.few k v rest.locals agreed;
-      outcome = for_cache f c (class_directory heap class) class size align h.steps answer admitted.aligned.2 route h.outcome;
-      told = λ t v l stood rest. h.told t v l stood rest.locals;
+      outcome = for_cache f c (class_home f heap class) class size align h.steps answer admitted.aligned.2 route h.outcome;
+      told = λ t v l stood rest. true_refusal f (class_home f heap class) class align c.locals l _ answer (h.told t v l stood rest.locals);
     })
 
 pub serve_call : {σ : Standing} {c : Cached} {spare : ℕ} → CanCall σ (λ v l. MayAllocate σ.seat.profile c spare v) → CanCall σ (λ v l. MayObtain σ.seat.profile 2 spare c.locals v)
@@ -258,8 +271,3 @@ formed f v locals h = All-weaker (IsLocal f v) IsFormed (λ t at. record { class
 
 pub rests_after : {σ σ' : Standing} (fill : Filling) (tells : Bool) (locals locals' : List Slots) (answer : Result Block NoRoom) → (h : ServesFrom fill tells locals locals' σ σ' answer) → (can : CanCall σ (λ v l. RestsWith σ.seat.profile locals v)) → RestsWith σ.seat.profile locals' (h.steps ++ can.view)
 rests_after fill tells locals locals' answer h can = h.calls.leads.from can.view can.met (h.calls.adds.agreed can.view can.whole can.stood can.met)
-
-pub some_class : (route expected : Route) → route ≡ expected → IsClassRoute expected → ((class : ℕ) → route ≡ Route.Class class → ⊥) → ⊥
-some_class route (Route.Class class) same is none = none class same
-some_class route Route.Bitfit same is none = is
-some_class route Route.Large same is none = is

@@ -1,5 +1,5 @@
 -- What the calls of a cache promise.
-use Rattle.std.specs.Prelude.{ℕ, ◌≡◌, Bool, true, List, [], ◌∷◌, ◌++◌, length, Some, Result, MatchResult}
+use Rattle.std.specs.Prelude.{ℕ, ◌≡◌, Bool, true, List, [], ◌∷◌, ◌++◌, length, Result, MatchResult}
 use Rattle.pas_profile.specs.declared.event.FreeFault.{FreeFault}
 use Rattle.pas_profile.specs.declared.event.NoRoom.{NoRoom}
 use Rattle.pas_profile.specs.declared.name.Name.{Name}
@@ -14,16 +14,13 @@ use Rattle.pas_steps.specs.Desks.{Standing, triples, made}
 use Rattle.pas_steps.specs.declared.step.Made.{Made}
 use Rattle.pas_steps.specs.declared.step.Step.TheVariants.{Look}
 use Rattle.pas_steps.specs.Unknown.{HasRoom}
-use Rattle.pas_bits.specs.Masks.{HasMember}
-use Rattle.pas_segregated.specs.declared.slots.Slots.{Slots}
-use Rattle.pas_cache.specs.Locals.{local_for}
 use Rattle.pas_cache.specs.Caches.{Cached, AtRest}
 use Rattle.pas_steps.specs.Clear.{HasNothing}
 use Rattle.pas_cache.specs.Names.{IsInRegion, IsFaultOf}
 use Rattle.pas_cache.specs.Changes.{EmptiesLog, LogsName, StopsEach}
 use Rattle.pas_steps.specs.Kinds.{Only}
 use Rattle.pas_cache.specs.Kinds.{releasing, allocating}
-use Rattle.pas_cache.specs.Serves.{Wanted, class_of, filling_in, ServesRequest, IsBlockFor, MakesFew, IsSilent, IsToldBy}
+use Rattle.pas_cache.specs.Serves.{Wanted, HasCached, ServesRequest, IsBlockFor, MakesFew, IsSilent, IsToldBy}
 
 -- an actor at rest with the one cache is at rest with the other after these steps
 abbrev pub Rests : Cached → Cached → Standing → Standing → List Made → Type 0
@@ -49,10 +46,10 @@ pub record Allocates (wanted : Wanted) (tells : Bool) (c c' : Cached) (desk desk
   pub calls : Rests c c' desk desk' steps
   pub change : ServesRequest desk.seat.profile wanted c c' steps answer
   pub kinds : Only allocating steps
-  pub two : (slots : Slots) → local_for wanted.directory.heap (class_of wanted.route) c.locals ≡ Some slots → HasMember slots.starts → length steps ≡ 2
+  pub two : HasCached wanted.route wanted.directory.heap c.locals → length steps ≡ 2
   pub few : MakesFew desk.seat.profile (AtRest desk.seat.profile c) 2 steps
   pub outcome : MatchResult answer (IsBlockFor desk.seat.profile wanted (AtRest desk.seat.profile c) steps) (λ room. IsSilent steps)
-  pub told : tells ≡ true → (v : View) (l : Whole) → desk.stands v l → AtRest desk.seat.profile c v → IsToldBy (filling_in wanted.directory (class_of wanted.route)) desk.seat.profile c.locals l (triples desk.seat.actor steps ++ l) answer
+  pub told : tells ≡ true → (v : View) (l : Whole) → desk.stands v l → AtRest desk.seat.profile c v → IsToldBy desk.seat.profile wanted c.locals l (triples desk.seat.actor steps ++ l) answer
 
 -- ---- free
 -- a fault changes nothing

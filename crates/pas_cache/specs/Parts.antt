@@ -15,11 +15,12 @@ use Rattle.pas_cache.specs.Kinds.{releasing, allocating}
 use Rattle.pas_steps.specs.Unknown.{HasRoom}
 use Rattle.pas_bits.specs.Masks.{HasMember}
 use Rattle.pas_segregated.specs.Stops.{home_of}
+use Rattle.pas_search.specs.Telling.{HasNoFit, IsTrueReason}
 use Rattle.pas_segregated.specs.Refills.{Filling}
 use Rattle.pas_segregated.specs.declared.slots.Slots.{Slots}
 use Rattle.pas_cache.specs.Locals.{covers, local_for, others_than, IsLocal, RestsWith}
 use Rattle.pas_cache.specs.Changes.{GivesSlot, StopsOne}
-use Rattle.pas_cache.specs.Serves.{IsObtained, ServesLocals, class_wanted, IsBlockFor, MakesFew, IsSilent, IsToldBy}
+use Rattle.pas_cache.specs.Serves.{IsObtained, ServesLocals, class_wanted, IsBlockFor, MakesFew, IsSilent, HasNoneCached}
 
 -- an actor at rest with the one list is at rest with the other after these steps
 abbrev pub Rests : List Slots → List Slots → Standing → Standing → List Made → Type 0
@@ -65,6 +66,16 @@ pub record MayObtain (f : Profile) (n spare : ℕ) (locals : List Slots) (v : Vi
   pub rest : RestsWith f locals v
   pub room : HasRoom f n spare v
 
+-- Where the refill is refused, no slot was cached and no page could serve at entry, nor can one at exit, and the reason is true at exit.
+pub record IsTrueOf (fill : Filling) (f : Profile) (locals : List Slots) (entry exit : Whole) (room : NoRoom) : Type 0 where
+  pub cached : HasNoneCached fill.directory.heap fill.class locals
+  pub entry_fit : HasNoFit fill.no_fit f fill.directory entry
+  pub exit_fit : HasNoFit fill.no_fit f fill.directory exit
+  pub reason : IsTrueReason f fill.directory exit room
+
+abbrev pub IsToldOf : {A : Type 0} → Filling → Profile → List Slots → Whole → Whole → Result A NoRoom → Type 0
+IsToldOf fill f locals entry exit answer = MatchResult answer (λ found. Unit {0}) (IsTrueOf fill f locals entry exit)
+
 -- the slots are of the class and at home in the directory, and there are some
 pub record IsFoundFor (fill : Filling) (slots : Slots) : Type 0 where
   pub home : home_of slots ≡ fill.directory
@@ -80,7 +91,7 @@ pub record Obtains (fill : Filling) (tells : Bool) (locals fewer : List Slots) (
   pub place : length fewer < 32
   pub few : MakesFew desk.seat.profile (RestsWith desk.seat.profile locals) 1 steps
   pub told : tells ≡ true → (v : View) (l : Whole) → desk.stands v l → RestsWith desk.seat.profile locals v
-      → IsToldBy fill desk.seat.profile locals l (triples desk.seat.actor steps ++ l) found
+      → IsToldOf fill desk.seat.profile locals l (triples desk.seat.actor steps ++ l) found
 
 -- the slots that were found stand at the end of the list, behind the others
 pub record StandsLast (fill : Filling) (tells : Bool) (locals locals' : List Slots) (desk desk' : Standing) : Type 0 where
@@ -98,4 +109,4 @@ pub record ServesFrom (fill : Filling) (tells : Bool) (locals locals' : List Slo
   pub few : MakesFew desk.seat.profile (RestsWith desk.seat.profile locals) 2 steps
   pub outcome : MatchResult answer (IsBlockFor desk.seat.profile (class_wanted fill.directory fill.class 1) (RestsWith desk.seat.profile locals) steps) (λ room. IsSilent steps)
   pub place : length locals' ≤ 32
-  pub told : tells ≡ true → (v : View) (l : Whole) → desk.stands v l → RestsWith desk.seat.profile locals v → IsToldBy fill desk.seat.profile locals l (triples desk.seat.actor steps ++ l) answer
+  pub told : tells ≡ true → (v : View) (l : Whole) → desk.stands v l → RestsWith desk.seat.profile locals v → IsToldOf fill desk.seat.profile locals l (triples desk.seat.actor steps ++ l) answer

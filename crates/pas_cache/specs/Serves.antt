@@ -6,6 +6,8 @@ use Rattle.pas_profile.specs.Requests.{directory_for, is_shared, kind_of_class}
 use Rattle.pas_profile.specs.Routes.{route_of, room_of}
 use Rattle.pas_profile.specs.Classes.{IsClass, IsSlotStart, class_size}
 use Rattle.pas_profile.specs.declared.directory.Directory.{Directory}
+use Rattle.pas_profile.specs.declared.directory.Kind.{Kind as TheKind}
+use Rattle.pas_profile.specs.declared.directory.Kind.TheVariants as Kind
 use Rattle.pas_profile.specs.declared.directory.Route.{Route}
 use Rattle.pas_profile.specs.declared.event.Event.{Event}
 use Rattle.pas_profile.specs.declared.event.NoRoom.{NoRoom}
@@ -18,7 +20,7 @@ use Rattle.pas_steps.specs.Agreement.{Agreed}
 use Rattle.pas_steps.specs.Lists.{Whole}
 use Rattle.pas_steps.specs.declared.step.Made.{Made}
 use Rattle.pas_search.specs.Kinds.{AreSearch}
-use Rattle.pas_steps.specs.Evidence.{IsAntitone}
+use Rattle.pas_steps.specs.Evidence.{Readings, IsAntitone}
 use Rattle.pas_search.specs.Searches.{IsRefused}
 use Rattle.pas_search.specs.Telling.{HasNoFit, IsTrueReason}
 use Rattle.pas_bits.specs.Masks.{HasMember}
@@ -26,9 +28,12 @@ use Rattle.pas_steps.specs.Calls.{Leads}
 use Rattle.pas_steps.specs.Kinds.{Only}
 use Rattle.pas_cache.specs.Kinds.{releasing}
 use Rattle.pas_segregated.specs.Takes.{NoSlot, TookSlots}
+use Rattle.pas_choice.specs.Choices.{TookChosen}
+use Rattle.pas_partial.specs.Rows.{rows}
 use Rattle.pas_segregated.specs.Refills.{Filling, GivesSlots}
 use Rattle.pas_bitfit.specs.Allocates.{run_for, IsAllocated}
 use Rattle.pas_bitfit.specs.Runs.{NoneFits}
+use Rattle.pas_bits.specs.declared.mask.Mask4.{Mask4}
 use Rattle.pas_segregated.specs.declared.slots.Slots.{Slots}
 use Rattle.pas_cache.specs.Locals.{local_for, others_than}
 use Rattle.pas_steps.specs.Unknown.{unknown_pages}
@@ -36,16 +41,11 @@ use Rattle.pas_cache.specs.Caches.{Cached}
 use Rattle.pas_cache.specs.Changes.{GivesSlot, IsTakenOut, IsShortened}
 
 -- ---- the route
--- a request is served by a class, and by which
-abbrev pub IsClassRoute : Route → Type 0
-IsClassRoute (Route.Class class) = Unit {0}
-IsClassRoute Route.Bitfit = ⊥
-IsClassRoute Route.Large = ⊥
-
-abbrev pub class_of : Route → ℕ
-class_of (Route.Class class) = class
-class_of Route.Bitfit = 0
-class_of Route.Large = 0
+-- a request is small: its route is a class or bit-fit pages
+abbrev pub IsSmallRoute : Route → Type 0
+IsSmallRoute (Route.Class class) = Unit {0}
+IsSmallRoute Route.Bitfit = Unit {0}
+IsSmallRoute Route.Large = ⊥
 
 -- ---- the request
 -- what a request comes to: the directory of its pages, its route, the room of its block, and at a multiple of what the block is
@@ -80,6 +80,10 @@ pub record FindsCached (heap class : ℕ) (locals fewer : List Slots) (slots : S
   pub fewer_are : fewer ≡ others_than heap class locals
   pub no_steps : steps ≡ []
 
+-- no slot is cached for the heap and the class
+abbrev pub HasNoneCached : ℕ → ℕ → List Slots → Type 0
+HasNoneCached heap class locals = (slots : Slots) → local_for heap class locals ≡ Some slots → HasMember slots.starts → ⊥
+
 -- No slot is cached: the local allocator of the heap and the class is taken out, and the list is shortened where it is full. At most 46 steps.
 pub record MakesPlace (heap class : ℕ) (locals fewer : List Slots) (steps : List Made) : Type 0 where
   pub spent : List Made
@@ -90,9 +94,16 @@ pub record MakesPlace (heap class : ℕ) (locals fewer : List Slots) (steps : Li
   pub steps_are : steps ≡ stopped ++ spent
   pub few : length steps ≤ 46
 
+-- which slots a refill takes of a page: all that are free of an exclusive one, and of a shared one the lowest and up to three after it
+abbrev pub took_in : TheKind → ℕ → ℕ → List Made → Mask4 → Type 0
+took_in (Kind.Class of) class = TookSlots class
+took_in Kind.Shared class = TookChosen (rows class)
+took_in Kind.Bitfit class = λ page steps starts. ⊥
+took_in Kind.Large class = λ page steps starts. ⊥
+
 -- what a refill for the class is of, in pages of this directory
 abbrev pub filling_in : Directory → ℕ → Filling
-filling_in d class = record { directory = d; class = class; no_fit = NoSlot class; took = TookSlots class }
+filling_in d class = record { directory = d; class = class; no_fit = NoSlot class; took = took_in d.kind class }
 
 -- The directory is that of the class in its heap. Where nothing fits, nothing fits among fewer free grains.
 pub record IsFilling (f : Profile) (fill : Filling) : Type 0 where
@@ -143,9 +154,18 @@ pub record ServesLocals (fill : Filling) (f : Profile) (locals locals' : List Sl
   pub steps_are : steps ≡ given ++ before
 
 -- the local allocators serve the request, and the rest of the cache is as it was
-pub record ServesRequest (f : Profile) (wanted : Wanted) (c c' : Cached) (steps : List Made) (answer : Result Block NoRoom) : Type 0 where
-  pub locals : ServesLocals (filling_in wanted.directory (class_of wanted.route)) f c.locals c'.locals steps answer
+pub record ServesClass (fill : Filling) (f : Profile) (c c' : Cached) (steps : List Made) (answer : Result Block NoRoom) : Type 0 where
+  pub locals : ServesLocals fill f c.locals c'.locals steps answer
   pub cache : c' ≡ record c { locals = c'.locals }
+
+abbrev pub ServesBy : Route → Profile → Wanted → Cached → Cached → List Made → Result Block NoRoom → Type 0
+ServesBy (Route.Class class) f wanted c c' steps answer = ServesClass (filling_in wanted.directory class) f c c' steps answer
+ServesBy Route.Bitfit f wanted c c' steps answer = ServesBitfit f wanted c c' steps answer
+ServesBy Route.Large f wanted c c' steps answer = ⊥
+
+-- HOW A REQUEST IS SERVED, by its route
+abbrev pub ServesRequest : Profile → Wanted → Cached → Cached → List Made → Result Block NoRoom → Type 0
+ServesRequest f wanted c c' steps answer = ServesBy wanted.route f wanted c c' steps answer
 
 -- ---- the block
 -- what may be shown before a give: deeds of the request's directory, and backs
@@ -193,17 +213,28 @@ abbrev pub IsSilent : List Made → Type 0
 IsSilent steps = (k : ℕ) (v : View) → events_by k v steps ≡ []
 
 -- ---- on a desk that tells the whole state
--- no slot is cached for the heap and the class
-abbrev pub HasNoneCached : ℕ → ℕ → List Slots → Type 0
-HasNoneCached heap class locals = (slots : Slots) → local_for heap class locals ≡ Some slots → HasMember slots.starts → ⊥
+-- a slot is cached for the request
+abbrev pub HasCached : Route → ℕ → List Slots → Type 0
+HasCached (Route.Class class) heap locals = (slots : Slots) × (local_for heap class locals ≡ Some slots) × HasMember slots.starts
+HasCached Route.Bitfit heap locals = ⊥
+HasCached Route.Large heap locals = ⊥
+
+-- nothing fits the request of a page whose grains were read so
+abbrev pub no_fit_by : Route → ℕ → ℕ → Readings → Type 0
+no_fit_by (Route.Class class) room align = NoSlot class
+no_fit_by Route.Bitfit room align = NoneFits (run_for room align)
+no_fit_by Route.Large room align = λ readings. ⊥
+
+abbrev pub no_fit_for : Wanted → Readings → Type 0
+no_fit_for wanted = no_fit_by wanted.route wanted.room wanted.align
 
 -- Where the request is refused, no slot was cached and no page could serve at entry, nor can one at exit, and the reason is true at exit. So a
 -- request is served wherever a slot is cached, an offered page fits or a page has no deed.
-pub record IsTrueRefusal (fill : Filling) (f : Profile) (locals : List Slots) (entry exit : Whole) (room : NoRoom) : Type 0 where
-  pub cached : HasNoneCached fill.directory.heap fill.class locals
-  pub entry_fit : HasNoFit fill.no_fit f fill.directory entry
-  pub exit_fit : HasNoFit fill.no_fit f fill.directory exit
-  pub reason : IsTrueReason f fill.directory exit room
+pub record IsTrueRefusal (f : Profile) (wanted : Wanted) (locals : List Slots) (entry exit : Whole) (room : NoRoom) : Type 0 where
+  pub cached : HasCached wanted.route wanted.directory.heap locals → ⊥
+  pub entry_fit : HasNoFit (no_fit_for wanted) f wanted.directory entry
+  pub exit_fit : HasNoFit (no_fit_for wanted) f wanted.directory exit
+  pub reason : IsTrueReason f wanted.directory exit room
 
-abbrev pub IsToldBy : {A : Type 0} → Filling → Profile → List Slots → Whole → Whole → Result A NoRoom → Type 0
-IsToldBy fill f locals entry exit answer = MatchResult answer (λ found. Unit {0}) (IsTrueRefusal fill f locals entry exit)
+abbrev pub IsToldBy : {A : Type 0} → Profile → Wanted → List Slots → Whole → Whole → Result A NoRoom → Type 0
+IsToldBy f wanted locals entry exit answer = MatchResult answer (λ found. Unit {0}) (IsTrueRefusal f wanted locals entry exit)

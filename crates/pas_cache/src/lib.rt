@@ -6,6 +6,7 @@ mod freeing;
 mod giving;
 mod giving_up;
 mod obtaining;
+mod refilling;
 mod serving;
 mod stopping;
 mod taking;

@@ -2,17 +2,17 @@
 ghost use Rattle.std.specs.Prelude.{◌≡◌, ◌<◌, None, Err, MatchResult, length};
 ghost use Rattle.pas_steps.specs.Desks.{CanCall};
 ghost use Rattle.pas_cache.specs.Locals.{local_for, RestsWith};
-ghost use Rattle.pas_segregated.specs.Refills.{exclusive_slots};
 ghost use Rattle.pas_cache.specs.Parts.{Releases, MayObtain, Obtains, StandsLast};
 ghost use Rattle.pas_cache.specs.Changes.{IsTakenOut, IsShortened};
-ghost use Rattle.pas_cache.specs.Serves.{IsFilling, MakesPlace, HasNoneCached};
+ghost use Rattle.pas_cache.specs.Serves.{IsFilling, filling_in, MakesPlace, HasNoneCached};
 
+use crate::refilling::refill;
 use crate::stopping::stop_at;
 use crate::taking::{bring_cached, place_of};
 use arrayvec::ArrayVec;
-use pas_profile::NoRoom;
 use pas_profile::limits::MOST_LOCALS;
-use pas_segregated::{Slots, refill};
+use pas_profile::{Directory, NoRoom};
+use pas_segregated::Slots;
 use pas_steps::Desk;
 
 /// Stops the local allocator that was used longest ago where 32 are there. At most 23 steps, and no event.
@@ -61,24 +61,24 @@ fn make_place<D: Desk>(desk: &mut D, locals: &mut ArrayVec<Slots, MOST_LOCALS>, 
     shorten(desk, locals);
 }
 
-/// Gets new slots for the heap and the class, of which none is cached. They come to the end of the list.
+/// Gets new slots for the class from the pages of its home, of which none is cached. They come to the end of the list.
 #[inline(never)]
 fn fetch<D: Desk>(
     desk: &mut D,
     locals: &mut ArrayVec<Slots, MOST_LOCALS>,
-    heap: u8,
+    home: Directory,
     class: u8,
 ) -> Result<(), NoRoom>
-    requires filling { IsFilling (D.standing desk.old).seat.profile (exclusive_slots heap class) }
-    requires none { HasNoneCached heap class locals.old.items }
+    requires filling { IsFilling (D.standing desk.old).seat.profile (filling_in home class) }
+    requires none { HasNoneCached home.heap class locals.old.items }
     requires can { CanCall (D.standing desk.old) (λ v l. MayObtain (D.standing desk.old).seat.profile 1 (D.spare_of desk.old) locals.old.items v) }
     ensures obtains { MatchResult result
-        (λ done. StandsLast (exclusive_slots heap class) D.tells locals.old.items locals.new.items (D.standing desk.old) (D.standing desk.new))
-        (λ room. Obtains (exclusive_slots heap class) D.tells locals.old.items locals.new.items (D.standing desk.old) (D.standing desk.new) (Err room)) }
+        (λ done. StandsLast (filling_in home class) D.tells locals.old.items locals.new.items (D.standing desk.old) (D.standing desk.new))
+        (λ room. Obtains (filling_in home class) D.tells locals.old.items locals.new.items (D.standing desk.old) (D.standing desk.new) (Err room)) }
     ensures home { D.home desk.new ≡ D.home desk.old }
 {
-    make_place(desk, locals, heap, class);
-    match refill(desk, heap, class) {
+    make_place(desk, locals, home.heap, class);
+    match refill(desk, home, class) {
         Ok(slots) => {
             locals.push(slots);
             Ok(())
@@ -92,18 +92,18 @@ fn fetch<D: Desk>(
 pub fn obtain<D: Desk>(
     desk: &mut D,
     locals: &mut ArrayVec<Slots, MOST_LOCALS>,
-    heap: u8,
+    home: Directory,
     class: u8,
 ) -> Result<(), NoRoom>
-    requires filling { IsFilling (D.standing desk.old).seat.profile (exclusive_slots heap class) }
+    requires filling { IsFilling (D.standing desk.old).seat.profile (filling_in home class) }
     requires can { CanCall (D.standing desk.old) (λ v l. MayObtain (D.standing desk.old).seat.profile 1 (D.spare_of desk.old) locals.old.items v) }
     ensures obtains { MatchResult result
-        (λ done. StandsLast (exclusive_slots heap class) D.tells locals.old.items locals.new.items (D.standing desk.old) (D.standing desk.new))
-        (λ room. Obtains (exclusive_slots heap class) D.tells locals.old.items locals.new.items (D.standing desk.old) (D.standing desk.new) (Err room)) }
+        (λ done. StandsLast (filling_in home class) D.tells locals.old.items locals.new.items (D.standing desk.old) (D.standing desk.new))
+        (λ room. Obtains (filling_in home class) D.tells locals.old.items locals.new.items (D.standing desk.old) (D.standing desk.new) (Err room)) }
     ensures home { D.home desk.new ≡ D.home desk.old }
 {
-    if bring_cached(locals, heap, class) {
+    if bring_cached(locals, home.heap, class) {
         return Ok(());
     }
-    fetch(desk, locals, heap, class)
+    fetch(desk, locals, home, class)
 }

@@ -1,5 +1,5 @@
 use Rattle.std.proofs.Common.{◌≤◌, ap, length, sym, subst, ◌∙◌}
-use Rattle.pas_segregated.specs.Refills.{exclusive_slots}
+use Rattle.pas_cache.specs.Serves.{filling_in}
 use Rattle.pas_cache.proofs.Locals.{refill_same}
 use Rattle.pas_cache.specs.Locals.{HasOneEach}
 use Rattle.pas_cache.specs.Parts.{BringsCached, StandsLast}
@@ -15,5 +15,5 @@ returns-then-bring_cached-clause-obtains g c =
     let now = c.bring_cached.new.locals in
     let n = ap length value in
     let fits = c.deref_mut.ensures.fits in
-    subst (λ xs. StandsLast (exclusive_slots c.args.heap c.args.class) g.D.Desk.tells c.args.locals.now.items xs (g.D.Desk.standing c.args.desk.now) (g.D.Desk.standing c.args.desk.now)) (sym (refill_same c.args.locals.now.items now (c.bring_cached.auto.locals ∙ n)))
-    (obtains_cached (exclusive_slots c.args.heap c.args.class) g.D.Desk.tells c.args.locals.now.items now c.requires.filling (obtain_rests c.requires.can) (subst (λ k. k ≤ 32) n fits) (subst (λ xs. BringsCached c.args.heap c.args.class xs now) value c.if-bring_cached.ensures))
+    subst (λ xs. StandsLast (filling_in c.args.home c.args.class) g.D.Desk.tells c.args.locals.now.items xs (g.D.Desk.standing c.args.desk.now) (g.D.Desk.standing c.args.desk.now)) (sym (refill_same c.args.locals.now.items now (c.bring_cached.auto.locals ∙ n)))
+    (obtains_cached (filling_in c.args.home c.args.class) g.D.Desk.tells c.args.locals.now.items now c.requires.filling (obtain_rests c.requires.can) (subst (λ k. k ≤ 32) n fits) (subst (λ xs. BringsCached c.args.home.heap c.args.class xs now) value c.if-bring_cached.ensures))

@@ -4,7 +4,7 @@ use Rattle.pas_steps.specs.Desks.{CanCall}
 use Rattle.pas_segregated.specs.declared.slots.Slots.{Slots}
 use Rattle.pas_cache.specs.Parts.{MayGiveSlot, GivesLowest}
 use Rattle.pas_cache.proofs.Locals.{last_is, last_set}
-use Rattle.pas_segregated.specs.Refills.{exclusive_slots}
+use Rattle.pas_cache.specs.Serves.{filling_in}
 use Rattle.pas_cache.proofs.Obtained.{obtain_rests}
 use Rattle.pas_cache.proofs.Served.{fewer_room, room_to_give, give_call, serves_given, serves_none}
 use Rattle.pas_cache.proofs.serving.serve.Goals as goal
@@ -21,20 +21,20 @@ pub give_lowest-requires-clause-can : goal.give_lowest-requires-clause-can
 give_lowest-requires-clause-can g c =
     let o = c.in-Ok.ensures.obtains in
     let σ = g.D.Desk.standing c.obtain.new.desk in
-    subst (λ (s : Slots). CanCall σ (λ v l. MayGiveSlot σ.seat.profile s v)) (sym (last_is o.fewer o.slots _ c.deref_mut.ensures.value o.last c.len-last.ensures.value)) (give_call (exclusive_slots c.args.heap c.args.class) g.D.Desk.tells _ _ o.slots o.obtains c.requires.can)
+    subst (λ (s : Slots). CanCall σ (λ v l. MayGiveSlot σ.seat.profile s v)) (sym (last_is o.fewer o.slots _ c.deref_mut.ensures.value o.last c.len-last.ensures.value)) (give_call (filling_in c.args.home c.args.class) g.D.Desk.tells _ _ o.slots o.obtains c.requires.can)
 
 pub give_lowest-requires-clause-room : goal.give_lowest-requires-clause-room
 give_lowest-requires-clause-room g c =
-    room_to_give (exclusive_slots c.args.heap c.args.class) g.D.Desk.tells c.in-Ok.ensures.obtains.obtains c.requires.can (λ v l q. g.met.D.Desk.spares c.args.desk.now v l q) (λ v l q. g.met.D.Desk.spares c.obtain.new.desk v l q)
+    room_to_give (filling_in c.args.home c.args.class) g.D.Desk.tells c.in-Ok.ensures.obtains.obtains c.requires.can (λ v l q. g.met.D.Desk.spares c.args.desk.now v l q) (λ v l q. g.met.D.Desk.spares c.obtain.new.desk v l q)
 
 pub returns-in-Err-clause-serves : goal.returns-in-Err-clause-serves
-returns-in-Err-clause-serves g c = serves_none (exclusive_slots c.args.heap c.args.class) g.D.Desk.tells _ _ c.in-Err.room c.in-Err.ensures.obtains
+returns-in-Err-clause-serves g c = serves_none (filling_in c.args.home c.args.class) g.D.Desk.tells _ _ c.in-Err.room c.in-Err.ensures.obtains
 
 pub returns-in-Ok-clause-serves : goal.returns-in-Ok-clause-serves
 returns-in-Ok-clause-serves g c =
     let o = c.in-Ok.ensures.obtains in
     let value = c.deref_mut.ensures.value in
     let long = c.len-last.ensures.value in
-    serves_given (exclusive_slots c.args.heap c.args.class) g.D.Desk.tells _ _ _ o.slots c.give_lowest.new.slots c.give_lowest.result (obtain_rests c.requires.can) o.obtains
+    serves_given (filling_in c.args.home c.args.class) g.D.Desk.tells _ _ _ o.slots c.give_lowest.new.slots c.give_lowest.result (obtain_rests c.requires.can) o.obtains
     (subst (λ (s : Slots). GivesLowest s c.give_lowest.new.slots c.give_lowest.result (g.D.Desk.standing c.obtain.new.desk) (g.D.Desk.standing c.give_lowest.new.desk)) (last_is o.fewer o.slots _ value o.last long) c.give_lowest.ensures.gives)
     (last_set o.fewer o.slots _ value o.last long)

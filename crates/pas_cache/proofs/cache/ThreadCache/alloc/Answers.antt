@@ -1,23 +1,42 @@
-use Rattle.std.proofs.Common.{refl, sym, ◌∙◌}
-use Rattle.pas_segregated.specs.Refills.{exclusive_slots}
+use Rattle.std.proofs.Common.{◌∙◌, refl, sym, subst, ◌≡◌, ◌≤◌, ◌%◌, ap}
+use Rattle.pas_profile.specs.declared.directory.Directory.{Directory}
+use Rattle.pas_cache.specs.Parts.{ServesFrom}
+use Rattle.pas_cache.specs.Serves.{IsFilling, filling_in}
+use Rattle.pas_cache.proofs.BitfitRoute.{bitfit_call, bitfit_room, bitfit_allocates}
 use Rattle.pas_cache.proofs.Obtained.{obtain_rests}
-use Rattle.pas_cache.proofs.Served.{filling_for, allocates, serve_call, formed, rests_after, some_class}
+use Rattle.pas_cache.proofs.Served.{filling_for, home_is, allocates, serve_call, formed, rests_after}
 use Rattle.pas_cache.proofs.cache.ThreadCache.alloc.Goals as goal
-
-pub unreachable-requires : goal.unreachable-requires
-unreachable-requires g c = some_class c.route.result _ c.route.ensures c.requires.route c.in_default.not-Class
+use Rattle.pas_profile.specs.declared.profile.Profile.{Profile}
+use Rattle.pas_bitfit.specs.Allocates.{Allocates}
 
 pub serve-requires-clause-filling : goal.serve-requires-clause-filling
-serve-requires-clause-filling g c = filling_for _ c.args.size c.args.align c.args.heap c.in-Class.class c.requires.admitted c.requires.exclusive (sym c.route.ensures ∙ c.in-Class.is)
-
-pub serve-requires-clause-can : goal.serve-requires-clause-can
-serve-requires-clause-can g c = serve_call c.requires.can
+serve-requires-clause-filling g c =
+    let f = (g.D.Desk.standing c.args.desk.now).seat.profile in
+    let class = c.in-Class.class in
+    subst (λ (d : Directory). IsFilling f (filling_in d class)) (sym (home_is f c.new.result c.args.heap class c.kind_for-kind.result c.kind_for-kind.ensures (c.new.ensures ∙ ap (λ (x : Profile). x.shared) c.profile.ensures)))
+    (filling_for f c.args.size c.args.align c.args.heap class c.requires.admitted (sym c.route.ensures ∙ c.in-Class.is))
 
 pub invariant_of-self : goal.invariant_of-self
 invariant_of-self g c =
-    let rests = rests_after (exclusive_slots c.args.heap c.in-Class.class) g.D.Desk.tells _ _ c.serve.result c.serve.ensures.serves (obtain_rests (serve_call c.requires.can)) in
+    let rests = rests_after (filling_in (record { heap = c.args.heap; kind = c.kind_for-kind.result }) c.in-Class.class) g.D.Desk.tells _ _ c.serve.result c.serve.ensures.serves (obtain_rests (serve_call c.requires.can)) in
     record { one_each = rests.apart.one_each; formed = formed _ _ _ rests }
 
-pub returns-clause-allocates : goal.returns-clause-allocates
-returns-clause-allocates g c =
-    allocates c.args.size c.args.align c.args.heap c.in-Class.class g.D.Desk.tells _ _ c.serve.result c.requires.admitted c.requires.exclusive (sym c.route.ensures ∙ c.in-Class.is) refl c.serve.ensures.serves
+pub alloc-requires-clause-room : goal.alloc-requires-clause-room
+alloc-requires-clause-room g c =
+    subst (λ n. (16 ≤ n) × (n ≤ 2048) × (n % 16 ≡ 0)) (sym c.room_for.ensures) (bitfit_room c.args.size c.args.align (sym c.route.ensures ∙ c.in-Bitfit.is))
+
+pub alloc-requires-clause-can : goal.alloc-requires-clause-can
+alloc-requires-clause-can g c = bitfit_call c.args.heap c.requires.can
+
+pub returns-in-Class-clause-allocates : goal.returns-in-Class-clause-allocates
+returns-in-Class-clause-allocates g c =
+    let f = (g.D.Desk.standing c.args.desk.now).seat.profile in
+    let class = c.in-Class.class in
+    let home = home_is f c.new.result c.args.heap class c.kind_for-kind.result c.kind_for-kind.ensures (c.new.ensures ∙ ap (λ (x : Profile). x.shared) c.profile.ensures) in
+    allocates c.args.size c.args.align c.args.heap class g.D.Desk.tells _ _ c.serve.result c.requires.admitted (sym c.route.ensures ∙ c.in-Class.is) refl
+    (subst (λ (d : Directory). ServesFrom (filling_in d class) g.D.Desk.tells c.args.self.now.locals.items c.serve.new.locals.items (g.D.Desk.standing c.args.desk.now) (g.D.Desk.standing c.serve.new.desk) c.serve.result) home c.serve.ensures.serves)
+
+pub returns-in-Bitfit-clause-allocates : goal.returns-in-Bitfit-clause-allocates
+returns-in-Bitfit-clause-allocates g c =
+    bitfit_allocates c.args.size c.args.align c.args.heap g.D.Desk.tells _ c.alloc.result (sym c.route.ensures ∙ c.in-Bitfit.is)
+    (subst (λ n. Allocates c.args.heap n c.args.align g.D.Desk.tells (g.D.Desk.standing c.args.desk.now) (g.D.Desk.standing c.alloc.new.desk) c.alloc.result) c.room_for.ensures c.alloc.ensures.allocates)
