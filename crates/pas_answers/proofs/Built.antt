@@ -1,10 +1,9 @@
--- Which requests a class serves.
-use Rattle.std.proofs.Common.{◌≡◌, ℕ, zero, suc, ◌+◌, ◌%◌, ◌<◌, ◌≤◌, ◌==◌, ◌&&◌, Bool, true, false, if◌then◌else◌, List, [], ◌∷◌, length, slice_index, slice_index_or, drop, Option, Some, inl, inr, refl, ap, sym, ◌∙◌, subst, arith, max}
+-- Which operations are built.
+use Rattle.std.proofs.Common.{◌≡◌, ℕ, ◌+◌, ◌<◌, ◌≤◌, Bool, true, false, if◌then◌else◌, List, length, slice_index_or, drop, Option, None, Some, get_or, refl, ap, sym, subst, arith, max}
 use Rattle.std.specs.Prelude.{nat_le}
-use Rattle.std.proofs.Math.Nat.{mod-zero}
-use Rattle.std.proofs.lemmas.Bool.{eq-eqb, eqb-true, and_from, and_parts, le-leb, leb-true, cases_lt}
+use Rattle.std.proofs.lemmas.Bool.{le-leb, leb-true}
 use Rattle.pas_profile.specs.Classes.{IsClass, class_sizes, class_size}
-use Rattle.pas_profile.proofs.ClassFacts.{class_size-grains, class_grains_positive}
+use Rattle.pas_profile.proofs.ClassFacts.{class_suits}
 use Rattle.pas_profile.specs.Routes.{first_class, route_with, route_of}
 use Rattle.pas_profile.specs.declared.directory.Route.TheVariants as Route
 use Rattle.std.specs.Prelude.{map}
@@ -13,57 +12,34 @@ use Rattle.std.proofs.Math.ListN.{drop_of_length-le}
 use Rattle.pas_trace.specs.Plans.{ops_of}
 use Rattle.pas_trace.specs.declared.plan.Op.{Op}
 use Rattle.pas_trace.specs.declared.plan.Phase.{Phase}
-use Rattle.pas_cache.specs.Serves.{IsClassRoute}
+use Rattle.pas_cache.specs.Serves.{IsSmallRoute}
 use Rattle.pas_answers.specs.Replays.{IsBuiltWhat, AreBuilt, AllBuilt}
+use Rattle.pas_profile.proofs.Tables.{passes_at}
 
-either : (t : Bool) (n : ℕ) (o : Option ℕ) (size : ℕ) → IsClassRoute (route_with o size) → IsClassRoute (route_with (if t then Some n else o) size)
-either true n o size is = tt
-either false n o size is = is
+-- a request is small just where it wants at most 2,048 bytes
+without_class : (t : Bool) (n : ℕ) → nat_le n 2048 ≡ t → IsSmallRoute (if t then Route.Bitfit else Route.Large) → n ≤ 2048
+without_class true n is small = leb-true n 2048 is
+without_class false n is small = absurd small
 
-neither : (t : Bool) (n : ℕ) (o : Option ℕ) (size : ℕ) → (t ≡ true → ⊥) → IsClassRoute (route_with (if t then Some n else o) size) → IsClassRoute (route_with o size)
-neither true n o size bad is = absurd (bad refl)
-neither false n o size bad is = is
+small_with : (o : Option ℕ) (n : ℕ) → n ≤ 2048 → IsSmallRoute (route_with o n)
+small_with None n le = subst (λ t. IsSmallRoute (if t then Route.Bitfit else Route.Large)) (sym (le-leb n 2048 le)) tt
+small_with (Some class) n le = tt
 
-no_route : (t : Bool) → IsClassRoute (if t then Route.Bitfit else Route.Large) → ⊥
-no_route true is = is
-no_route false is = is
+size_with : (o : Option ℕ) (n : ℕ) → ((class : ℕ) → o ≡ Some class → n ≤ 2048) → IsSmallRoute (route_with o n) → n ≤ 2048
+size_with None n of_class small = without_class (nat_le n 2048) n refl small
+size_with (Some class) n of_class small = of_class class refl
 
--- one of these sizes is large enough and a multiple of the alignment
-some_class : (cs : List ℕ) (n i size align : ℕ) → i < length cs → size ≤ slice_index cs i → slice_index cs i % align ≡ 0 → IsClassRoute (route_with (first_class cs n size align) size)
-some_class [] n i size align lt fits whole = absurd (omega (arith, lt))
-some_class (c ∷ cs) n zero size align lt fits whole =
-    subst (λ t. IsClassRoute (route_with (if t then Some n else first_class cs (n + 1) size align) size)) (sym (and_from (nat_le size c) (c % align == 0) (le-leb size c fits) (eq-eqb (c % align) 0 whole))) tt
-some_class (c ∷ cs) n (suc i) size align lt fits whole = either (nat_le size c && (c % align == 0)) n (first_class cs (n + 1) size align) size (some_class cs (n + 1) i size align (omega (arith, lt)) fits whole)
+most_class : (class : ℕ) → IsClass class → class_size class ≤ 2048
+most_class class is = leb-true _ _ (passes_at (λ k. nat_le (get_or class_sizes k 0) 2048) 16 class refl is)
 
--- .. or none is
-no_class : (cs : List ℕ) (n size align : ℕ) → ((i : ℕ) → i < length cs → size ≤ slice_index cs i → slice_index cs i % align ≡ 0 → ⊥) → IsClassRoute (route_with (first_class cs n size align) size) → ⊥
-no_class [] n size align none is = no_route (nat_le size 2048) is
-no_class (c ∷ cs) n size align none is = no_class cs (n + 1) size align (λ i lt fits whole. none (suc i) (omega (arith, lt)) fits whole)
-    (neither (nat_le size c && (c % align == 0)) n (first_class cs (n + 1) size align) size
-    (λ both. let t = and_parts (nat_le size c) (c % align == 0) both in none 0 (omega arith) (leb-true size c t.0) (eqb-true (c % align) 0 t.1)) is)
+pub is_small : (size align : ℕ) → size ≤ 2048 → IsSmallRoute (route_of size align)
+is_small size align le = small_with (first_class class_sizes 0 (max size 1) align) (max size 1) (omega (arith, le))
 
-some_size : (class : ℕ) → IsClass class → 1 ≤ class_size class
-some_size class is = let sized = class_size-grains class is in let some = class_grains_positive class is in omega (arith, sized, some)
-
--- no class below this one serves the request
-abbrev pub NoneServes : ℕ → ℕ → ℕ → Type 0
-NoneServes size align to = (i : ℕ) → i < to → size ≤ class_size i → class_size i % align ≡ 0 → ⊥
-
-pub serves : (size align class : ℕ) → IsClass class → size ≤ class_size class → class_size class % align ≡ 0 → IsClassRoute (route_of size align)
-serves size align class is fits whole = let some = some_size class is in some_class class_sizes 0 class (max size 1) align is (omega (arith, fits, some)) whole
-
-pub serves_not : (size align : ℕ) → NoneServes size align 16 → IsClassRoute (route_of size align) → ⊥
-serves_not size align none = no_class class_sizes 0 (max size 1) align (λ i lt fits whole. none i lt (omega (arith, fits)) whole)
-
--- no size is a multiple of 0
-pub never : (size : ℕ) → IsClassRoute (route_of size 0) → ⊥
-never size = serves_not size 0 (λ i lt fits whole. let some = some_size i lt in let m = mod-zero (class_size i) in omega (arith, some, m, whole))
-
-pub none_more : (size align class room : ℕ) → room ≡ class_size class → (size ≤ room → room % align ≡ 0 → ⊥) → NoneServes size align class → NoneServes size align (class + 1)
-none_more size align class room is here before i lt fits whole = elim (cases_lt i class) [
-  | inl below ↦ before i below fits whole
-  | inr ge ↦ let e : class_size i ≡ room = ap class_size (omega (arith, lt, ge)) ∙ sym is in here (omega (arith, fits, e)) (ap (λ n. n % align) (sym e) ∙ whole)
-]
+pub small_size : (size align : ℕ) → IsSmallRoute (route_of size align) → size ≤ 2048
+small_size size align small =
+    let n = size_with (first_class class_sizes 0 (max size 1) align) (max size 1)
+    (λ class found. let s = class_suits size align class (ap (λ o. route_with o (max size 1)) found) in let most = most_class class s.known in let room = s.suits.room in omega (arith, most, room)) small in
+    omega (arith, n)
 
 -- ---- operations and phases in order
 pub op_next : (ops : List Op) (i : ℕ) (d : Op) → i < length ops → AreBuilt (drop i ops) → IsBuiltWhat (slice_index_or ops i d).what × AreBuilt (drop (i + 1) ops)

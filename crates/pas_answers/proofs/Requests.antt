@@ -2,7 +2,6 @@
 use Rattle.std.proofs.Common.{◌≡◌, ◌≢◌, ℕ, ◌+◌, ◌-◌, ◌^◌, ◌<◌, ◌≤◌, ◌==◌, ◌++◌, Bool, true, false, if◌then◌else◌, List, [], ◌∷◌, length, Option, Some, None, Result, Ok, Err, refl, ap, sym, ◌∙◌, subst, arith}
 use Rattle.std.specs.Prelude.{MatchResult}
 use Rattle.std.proofs.lemmas.Option.{same_Some, none-some}
-use Rattle.pas_profile.specs.Classes.{has_bit}
 use Rattle.pas_profile.specs.Directories.{IsDirectory, deed_word_of}
 use Rattle.pas_profile.specs.Profiles.{IsValid, IsDirectoryOf}
 use Rattle.pas_profile.specs.Routes.{route_of}
@@ -16,7 +15,6 @@ use Rattle.pas_profile.specs.declared.word.Word.TheVariants as Word
 use Rattle.pas_profile.proofs.Codecs.{same_from_deed_word, directory_from_profile, deed_word_of-positive}
 use Rattle.pas_machine.specs.State.{deed_in}
 use Rattle.pas_core.specs.Good.{word_of_deed}
-use Rattle.pas_bits.proofs.Words.{none_of_zero}
 use Rattle.pas_core.proofs.DeedWords.{known_is}
 use Rattle.pas_core.proofs.Deeds.{deed_of, directory_is_of}
 use Rattle.pas_core.proofs.Knowledge.{deeds_known}
@@ -27,10 +25,10 @@ use Rattle.pas_steps.specs.Agreement.{Agreed}
 use Rattle.pas_steps.specs.Lists.{Whole, part, word_after, visible, Legal}
 use Rattle.pas_steps.specs.Desks.{Standing, CanCall}
 use Rattle.pas_trace.specs.declared.plan.What.TheVariants.{Alloc}
-use Rattle.pas_profile.specs.Requests.{directory_for}
 use Rattle.pas_cache.specs.Caches.{Cached, AtRest}
 use Rattle.pas_cache.specs.Calls.{MayAllocate, Allocates}
-use Rattle.pas_cache.specs.Serves.{wanted_for, IsClassRoute, class_of, ServesRequest, IsBlockFor, IsSilent}
+use Rattle.pas_cache.proofs.Budget.{log_kept}
+use Rattle.pas_cache.specs.Serves.{wanted_for, IsSmallRoute, ServesRequest, IsBlockFor, IsSilent}
 use Rattle.pas_steps.specs.Unknown.{unknown_pages}
 use Rattle.pas_answers.specs.Answers.{Named, named, standing_for, said_of_room}
 use Rattle.pas_answers.specs.Names.{block_named, names_held}
@@ -39,10 +37,6 @@ use Rattle.pas_answers.specs.declared.names.Names.{Names}
 use Rattle.pas_steps.proofs.Unknown.{unknown_stays, has_room}
 
 -- ---- what a request asks
--- where no heap is shared this one isn't
-pub is_exclusive : (shared heap : ℕ) → shared ≡ 0 → has_bit shared heap ≡ false
-is_exclusive shared heap none = ap (λ n. has_bit n heap) none ∙ none_of_zero heap
-
 may_allocate : (f : Profile) (c : Cached) (name heap size align spare : ℕ) (v : View) → MayPerform f c (Alloc name heap size align) spare v → MayAllocate f c spare v
 may_allocate f c name heap size align spare v may = let fits = may.room in record { rest = may.rest; room = has_room f 2 spare v (omega (arith, fits)) }
 
@@ -108,7 +102,7 @@ turns_refused table table' name turns sets = turns_with table table' name None t
 
 -- ---- a request
 pub performs_given : {σ σ' : Standing} {answer : Result Block NoRoom} {tells : Bool} (table table' : Names) (c c' : Cached) (name heap size align : ℕ) (block : Block)
-    → IsClassRoute (route_of size align)
+    → IsSmallRoute (route_of size align)
     → Allocates (wanted_for σ.seat.profile heap size align) tells c c' σ σ' answer → answer ≡ Ok block → SetsName table table' name (Some block.name) → names_held table' ≡ names_held table
     → Performs (Alloc name heap size align) (works table c) (works table' c') σ σ' None
 performs_given {σ} {σ'} {answer} {tells} table table' c c' name heap size align block route call is sets held =
@@ -117,7 +111,7 @@ performs_given {σ} {σ'} {answer} {tells} table table' c c' name heap size alig
     record {
       steps = call.steps;
       calls = call.calls;
-      few = λ v rest agreed. given_few σ.seat.profile σ.seat.actor c c' call.steps v (ap (λ x. x.log) call.change.cache) (call.few σ.seat.actor v rest agreed).paid;
+      few = λ v rest agreed. given_few σ.seat.profile σ.seat.actor c c' call.steps v (log_kept σ.seat.profile (wanted_for σ.seat.profile heap size align) c c' call.steps answer (route_of size align) call.change) (call.few σ.seat.actor v rest agreed).paid;
       answered = λ v l stood rest names tells known. (
         named name (Some block.name) ∷ names,
         tells_more table table' names name (Some block.name) tells sets,
@@ -144,7 +138,7 @@ performs_given {σ} {σ'} {answer} {tells} table table' c c' name heap size alig
     }
 
 pub performs_refused : {σ σ' : Standing} {answer : Result Block NoRoom} {tells : Bool} (table table' : Names) (c c' : Cached) (name heap size align : ℕ) (room : NoRoom)
-    → IsClassRoute (route_of size align) → Allocates (wanted_for σ.seat.profile heap size align) tells c c' σ σ' answer → answer ≡ Err room → SetsName table table' name None → names_held table' ≡ names_held table
+    → IsSmallRoute (route_of size align) → Allocates (wanted_for σ.seat.profile heap size align) tells c c' σ σ' answer → answer ≡ Err room → SetsName table table' name None → names_held table' ≡ names_held table
     → Performs (Alloc name heap size align) (works table c) (works table' c') σ σ' (Some (said_of_room name room))
 performs_refused {σ} {σ'} {answer} {tells} table table' c c' name heap size align room route call is sets held =
     let silent : IsSilent call.steps
@@ -152,7 +146,7 @@ performs_refused {σ} {σ'} {answer} {tells} table table' c c' name heap size al
     record {
       steps = call.steps;
       calls = call.calls;
-      few = λ v rest agreed. refused_few σ.seat.profile σ.seat.actor c c' call.steps v (ap (λ x. x.log) call.change.cache) (silent σ.seat.actor v) agreed;
+      few = λ v rest agreed. refused_few σ.seat.profile σ.seat.actor c c' call.steps v (log_kept σ.seat.profile (wanted_for σ.seat.profile heap size align) c c' call.steps answer (route_of size align) call.change) (silent σ.seat.actor v) agreed;
       answered = λ v l stood rest names tells known. (
         named name None ∷ names,
         tells_more table table' names name None tells sets,

@@ -26,7 +26,7 @@ use Rattle.pas_cache.specs.Caches.{Cached}
 use Rattle.pas_cache.specs.Changes.{EmptiesLog, StopsEach}
 use Rattle.pas_steps.specs.Kinds.{Only}
 use Rattle.pas_cache.specs.Kinds.{allocating, releasing}
-use Rattle.pas_cache.specs.Serves.{Wanted, wanted_for, class_of, ServesRequest, IsPreparing, IsPlaced, IsClassRoute}
+use Rattle.pas_cache.specs.Serves.{Wanted, wanted_for, ServesRequest, IsPreparing, IsPlaced, IsSmallRoute}
 use Rattle.pas_cache.specs.Calls.{TakesName, RefusesName}
 use Rattle.pas_answers.specs.Acts.{Act, Operates, MarksPhase, Wakes, MarksClose, Ends}
 
@@ -126,7 +126,7 @@ RequestEnds k wanted v steps served = MatchResult served (IsGiven k wanted v ste
 -- Actor k's cache serves the request, or refuses it with the evidence of its search. Only a flush stamps pages, and none is made. From then on the name
 -- stands for the block, or for nothing.
 pub record IsServed (f : Profile) (k : ℕ) (r : Request) (before : Having) (after : Answer) : Type 0 where
-  pub route : IsClassRoute (route_of r.size r.align)
+  pub route : IsSmallRoute (route_of r.size r.align)
   pub answer : Result Block NoRoom
   pub serves : ServesRequest f (wanted_by f r) before.cache after.cache after.steps answer
   pub kinds : Only allocating after.steps

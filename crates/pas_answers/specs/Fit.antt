@@ -8,12 +8,12 @@ use Rattle.pas_trace.specs.declared.plan.What.{What}
 use Rattle.pas_trace.specs.declared.plan.What.TheVariants.{Alloc, Free, Raw, Flush, Stop, Tick, Pass, Idle}
 use Rattle.pas_trace.specs.declared.plan.Op.{Op}
 use Rattle.pas_answers.specs.Acts.{Act, Operates, MarksPhase, Wakes, MarksClose, Ends}
-use Rattle.pas_cache.specs.Serves.{IsClassRoute}
+use Rattle.pas_cache.specs.Serves.{IsSmallRoute}
 
 -- The operation can be replayed after those that asked for these names. A request has a new name below the limit, a free has one of those that were
 -- asked for, and a turn has a next one.
 abbrev pub IsFitWhat : Profile → ℕ → List ℕ → What → Type 0
-IsFitWhat f limit asked (Alloc name heap size align) = (name < limit) × IsAdmitted f size align heap × IsClassRoute (route_of size align) × (is_asked asked name ≡ false)
+IsFitWhat f limit asked (Alloc name heap size align) = (name < limit) × IsAdmitted f size align heap × IsSmallRoute (route_of size align) × (is_asked asked name ≡ false)
 IsFitWhat f limit asked (Free name) = is_asked asked name ≡ true
 IsFitWhat f limit asked (Raw block) = block.turn < 2 ^ 40 - 1
 IsFitWhat f limit asked Flush = Unit {0}

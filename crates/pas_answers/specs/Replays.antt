@@ -19,14 +19,14 @@ use Rattle.pas_trace.specs.declared.plan.Plan.{Plan}
 use Rattle.pas_report.specs.Rests.{AreStamped, AreTrueMarks}
 use Rattle.pas_report.specs.declared.record.Record.{Record}
 use Rattle.pas_cache.specs.Caches.{Cached}
-use Rattle.pas_cache.specs.Serves.{IsClassRoute}
+use Rattle.pas_cache.specs.Serves.{IsSmallRoute}
 use Rattle.pas_answers.specs.Acts.{acts_of}
 use Rattle.pas_answers.specs.Answers.{Caches, Progress, progress, Follows}
 use Rattle.pas_answers.specs.Ways.{Way, IsOneOrder, arranged}
 
--- ---- what can be replayed today: no heap is shared, each request is of a class, and the scavenger has no operation
+-- ---- what can be replayed today: no request is of whole pages, and the scavenger has no operation
 abbrev pub IsBuiltWhat : What → Type 0
-IsBuiltWhat (Alloc name heap size align) = IsClassRoute (route_of size align)
+IsBuiltWhat (Alloc name heap size align) = IsSmallRoute (route_of size align)
 IsBuiltWhat (Free name) = Unit {0}
 IsBuiltWhat (Raw block) = Unit {0}
 IsBuiltWhat Flush = Unit {0}
@@ -47,9 +47,8 @@ AllBuilt (phase ∷ phases) = AreBuilt phase × AllBuilt phases
 abbrev pub phases_of : Plan → List (List Op)
 phases_of plan = map ops_of plan.phases.phases.items
 
-pub record IsBuilt (plan : Plan) : Type 0 where
-  pub unshared : plan.profile.shared ≡ 0
-  pub built : AllBuilt (phases_of plan)
+abbrev pub IsBuilt : Plan → Type 0
+IsBuilt plan = AllBuilt (phases_of plan)
 
 -- ---- what a replay shows
 -- a cache that nobody used

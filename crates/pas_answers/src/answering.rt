@@ -49,7 +49,6 @@ fn allocate<D: Desk>(
     size: u32,
     align: u32,
 ) -> Option<Said>
-    requires unshared { (D.standing desk.old).seat.profile.shared ≡ 0 }
     requires fit { (asked : List ℕ) × IsFitWhat (D.standing desk.old).seat.profile (names_held names.old) asked (TheWhat.Alloc name heap size align) }
     requires turns { HasTurns names.old }
     requires can { CanCall (D.standing desk.old) (λ v l. MayPerform (D.standing desk.old).seat.profile (cached cache.old) (TheWhat.Alloc name heap size align) (D.spare_of desk.old) v) }
@@ -90,7 +89,6 @@ fn perform<D: Desk>(
     names: &mut Names,
     what: What,
 ) -> Option<Said>
-    requires unshared { (D.standing desk.old).seat.profile.shared ≡ 0 }
     requires fit { (asked : List ℕ) × IsFitWhat (D.standing desk.old).seat.profile (names_held names.old) asked what }
     requires turns { HasTurns names.old }
     requires can { CanCall (D.standing desk.old) (λ v l. MayPerform (D.standing desk.old).seat.profile (cached cache.old) what (D.spare_of desk.old) v) }
@@ -130,7 +128,6 @@ pub fn answer<D: Desk>(
     what: What,
     out: &mut Records,
 )
-    requires unshared { (D.standing desk.old).seat.profile.shared ≡ 0 }
     requires fit { (asked : List ℕ) × IsFitWhat (D.standing desk.old).seat.profile (names_held names.old) asked what }
     requires turns { HasTurns names.old }
     requires can { CanCall (D.standing desk.old) (λ v l. MayAnswer (D.standing desk.old).seat.profile (cached cache.old) what (D.spare_of desk.old) out.old v) }

@@ -1,35 +1,17 @@
 //! Which plans can be replayed.
 ghost use Rattle.std.specs.Prelude.{◌↔◌, IsTrue, map};
-ghost use Rattle.pas_profile.specs.Routes.{route_of};
 ghost use Rattle.pas_trace.specs.Plans.{ops_of};
-ghost use Rattle.pas_cache.specs.Serves.{IsClassRoute};
 ghost use Rattle.pas_answers.specs.Replays.{IsBuiltWhat, AreBuilt, AllBuilt, IsBuilt};
 
-use pas_profile::classes::class_size;
+use pas_profile::limits::MOST_BITFIT;
 use pas_trace::{Op, Phase, Plan, What};
-
-/// Whether a class serves so many bytes at a multiple of the alignment: 16 tests.
-fn has_class(size: u32, align: u32) -> bool
-    ensures { IsTrue result ↔ IsClassRoute (route_of size align) }
-{
-    if align == 0 {
-        return false;
-    }
-    for class in 0..16 {
-        let room = class_size(class);
-        if size <= room && room % align == 0 {
-            return true;
-        }
-    }
-    false
-}
 
 /// Whether the operation can be replayed.
 fn is_built_what(what: What) -> bool
     ensures { IsTrue result ↔ IsBuiltWhat what }
 {
     match what {
-        What::Alloc { size, align, .. } => has_class(size, align),
+        What::Alloc { size, .. } => size <= MOST_BITFIT,
         What::Free { .. } | What::Raw { .. } | What::Flush | What::Stop => true,
         What::Tick(_) | What::Pass | What::Idle(_) => false,
     }
@@ -59,9 +41,9 @@ fn all_built(phases: &[Phase]) -> bool
     true
 }
 
-/// Whether the plan can be replayed: it has no shared heap, asks for blocks of classes alone, and has no operation of the scavenger.
+/// Whether the plan can be replayed: it asks for no whole pages, and has no operation of the scavenger.
 pub fn is_built(plan: &Plan) -> bool
     ensures { IsTrue result ↔ IsBuilt plan.now }
 {
-    plan.profile.shared == 0 && all_built(plan.phases.as_slice())
+    all_built(plan.phases.as_slice())
 }

@@ -1,7 +1,8 @@
 -- For callers: the room of one request after another.
-use Rattle.std.proofs.Common.{◌≡◌, ℕ, ◌+◌, ◌≤◌, ◌++◌, length, ap, sym, ◌∙◌, subst, arith, length-append, Result, Bool}
+use Rattle.std.proofs.Common.{◌≡◌, ℕ, ◌+◌, ◌≤◌, ◌++◌, length, ap, sym, ◌∙◌, subst, arith, length-append, Result, Bool, List}
 use Rattle.pas_profile.specs.declared.profile.Profile.{Profile}
-use Rattle.pas_cache.specs.Serves.{Wanted}
+use Rattle.pas_cache.specs.Serves.{Wanted, ServesBy}
+use Rattle.pas_profile.specs.declared.directory.Route.{Route}
 use Rattle.pas_profile.specs.declared.event.NoRoom.{NoRoom}
 use Rattle.pas_profile.specs.declared.name.Block.{Block}
 use Rattle.pas_steps.specs.Views.{View}
@@ -13,6 +14,7 @@ use Rattle.pas_steps.specs.Unknown.{unknown_pages}
 use Rattle.pas_cache.specs.Caches.{Cached, AtRest}
 use Rattle.pas_cache.specs.Calls.{MayAllocate, Allocates}
 use Rattle.pas_steps.proofs.Unknown.{has_room}
+use Rattle.pas_steps.specs.declared.step.Made.{Made}
 
 -- The actor is at rest, and there is room for n events and for a deed of each page whose deed isn't known.
 pub record HasBudget (f : Profile) (c : Cached) (n spare : ℕ) (v : View) : Type 0 where
@@ -49,3 +51,9 @@ budget_left {σ} {σ'} {c} {c'} {spare = spare} {spare' = spare'} n h can law la
       stood = h.calls.adds.added v can.whole can.stood can.met.rest;
       met = subst (λ (s : Seat). HasBudget s.profile c' n spare' (h.steps ++ v)) (sym h.calls.adds.seat_is) (record { rest = h.calls.leads.from v can.met.rest ok; room = omega (arith, before, after, split, few, room) });
     }
+
+-- no request changes the log
+pub log_kept : (f : Profile) (wanted : Wanted) (c c' : Cached) (steps : List Made) (answer : Result Block NoRoom) (route : Route) → ServesBy route f wanted c c' steps answer → c'.log ≡ c.log
+log_kept f wanted c c' steps answer (Route.Class class) h = ap (λ x. x.log) h.cache
+log_kept f wanted c c' steps answer Route.Bitfit h = ap (λ x. x.log) h.cache
+log_kept f wanted c c' steps answer Route.Large h = absurd h

@@ -46,7 +46,6 @@ after_mark {f} {all} {more} {act} {region} {threads} {table} {out} {out'} mark s
     let long = ap length pushed ∙ length-append (records_in out) (mark ∷ []) in
     record {
       profile_is = so.profile_is;
-      unshared = so.unshared;
       count = so.count;
       whole = so.whole;
       stands = so.stands;
@@ -106,7 +105,6 @@ woken {f} {all} {more} {region} {region'} {threads} {table} {out} k i d thread' 
     let now : c' ≡ begun (so.caches k) did.epoch = did.cache ∙ ap (λ (x : Cached). begun x did.epoch) (sym held) in
     record {
       profile_is = r.profile;
-      unshared = so.unshared;
       count = length-set threads i thread' ∙ so.count;
       whole = after;
       stands = r.stands;

@@ -14,7 +14,7 @@ use Rattle.pas_trace.specs.declared.plan.What.TheVariants.{Alloc, Tick, Pass, Id
 use Rattle.pas_trace.specs.declared.plan.Op.{Op}
 use Rattle.pas_trace.specs.declared.plan.Plan.{Plan}
 use Rattle.pas_trace.proofs.EveryPlan.{every_plan}
-use Rattle.pas_cache.specs.Serves.{IsClassRoute}
+use Rattle.pas_cache.specs.Serves.{IsSmallRoute}
 use Rattle.pas_answers.specs.Acts.{acts_of}
 use Rattle.pas_answers.specs.Fit.{IsFitWhat, AreFit, cost_of_what, costs_of, own_costs_of, ops_in, marks_in, IsBelow, AreBelow, AllBelow}
 use Rattle.pas_answers.specs.Replays.{IsBuiltWhat, AreBuilt, AllBuilt, phases_of, IsBuilt}
@@ -35,12 +35,13 @@ fits f limit asked Pass built below sound = built
 fits f limit asked (Idle n) built below sound = built
 fits f limit asked what built below sound = sound
 
-class_cost : (r : Route) (size : ℕ) → IsClassRoute r → cost_of_route r size ≡ 2
-class_cost (Route.Class c) size is = refl
-class_cost r size is = absurd is
+small_cost : (r : Route) (size : ℕ) → IsSmallRoute r → cost_of_route r size ≡ 2
+small_cost (Route.Class c) size is = refl
+small_cost Route.Bitfit size is = refl
+small_cost Route.Large size is = absurd is
 
 costs : (f : Profile) (what : What) → IsBuiltWhat what → records_of_what f what ≡ cost_of_what what
-costs f (Alloc n h s a) built = class_cost (route_of s a) s built
+costs f (Alloc n h s a) built = small_cost (route_of s a) s built
 costs f (Tick e) built = absurd built
 costs f Pass built = absurd built
 costs f (Idle n) built = absurd built
@@ -88,14 +89,14 @@ plan_marks plan = acts_marks plan.profile.threads (phases_of plan)
 pub plan_fit : {text : List ℕ} {plan : Plan} → IsPlanOf text plan → IsBuilt plan → (limit : ℕ) → AllBelow limit (phases_of plan) → AreFit plan.profile limit [] (ops_in (acts_of plan.profile.threads (phases_of plan)))
 plan_fit {text} {plan} is built limit below =
     subst (AreFit plan.profile limit []) (sym (acts_ops plan.profile.threads (phases_of plan)))
-    (fit_all plan.profile limit [] (all_ops (phases_of plan)) (built_all (phases_of plan) built.built) (below_all limit (phases_of plan) below) (every_plan is).operations)
+    (fit_all plan.profile limit [] (all_ops (phases_of plan)) (built_all (phases_of plan) built) (below_all limit (phases_of plan) below) (every_plan is).operations)
 
 -- the bound of a thread suffices for its operations, and for a deed of each page
 pub plan_own : {text : List ℕ} {plan : Plan} → IsPlanOf text plan → IsBuilt plan → (k : ℕ) → 1 ≤ k → k ≤ plan.profile.threads
     → plan.profile.pages + own_costs_of k (ops_in (acts_of plan.profile.threads (phases_of plan))) ≤ slice_index (bounds_of plan.bounds) k
 plan_own {text} {plan} is built k some le =
     let same = ap (own_costs_of k) (acts_ops plan.profile.threads (phases_of plan)) in
-    let own = own_all plan.profile k (all_ops (phases_of plan)) (built_all (phases_of plan) built.built) in
+    let own = own_all plan.profile k (all_ops (phases_of plan)) (built_all (phases_of plan) built) in
     let bound = (every_plan is).own k some le in
     omega (arith, same, own, bound)
 
@@ -103,6 +104,6 @@ plan_own {text} {plan} is built k some le =
 pub plan_total : {text : List ℕ} {plan : Plan} → IsPlanOf text plan → IsBuilt plan → plan.profile.threads * plan.profile.pages + costs_of (ops_in (acts_of plan.profile.threads (phases_of plan))) ≤ plan.total
 plan_total {text} {plan} is built =
     let same = ap costs_of (acts_ops plan.profile.threads (phases_of plan)) in
-    let all = costs_all plan.profile (all_ops (phases_of plan)) (built_all (phases_of plan) built.built) in
+    let all = costs_all plan.profile (all_ops (phases_of plan)) (built_all (phases_of plan) built) in
     let total = (every_plan is).total in
     omega (arith, same, all, total)

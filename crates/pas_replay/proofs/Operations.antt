@@ -199,7 +199,6 @@ operated {f} {all} {more} {act} {what} {region} {region'} {threads} {table} {tab
     let threads_count = so.count in
     record {
       profile_is = r.profile;
-      unshared = so.unshared;
       count = length-set threads i thread' ∙ so.count;
       whole = after;
       stands = r.stands;

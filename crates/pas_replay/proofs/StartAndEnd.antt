@@ -96,7 +96,6 @@ start {text} {plan} {kit} {out} read built made empty room =
     let none = ap length empty in
     record {
       profile_is = made.profile;
-      unshared = built.unshared;
       count = made.count;
       whole = [];
       stands = made.opening;

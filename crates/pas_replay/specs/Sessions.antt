@@ -121,7 +121,6 @@ AreEmpty threads = (i : ℕ) (d : Thread) → i < length threads → (cached (sl
 -- The acts are left of `all`: however they are answered from here on, the whole is answered so. There is room for what they may make.
 pub record SoFar (f : Profile) (all acts : List Act) (region : PlainRegion) (threads : List Thread) (table : Names) (out : Records) : Type 0 where
   pub profile_is : profile_of region ≡ f
-  pub unshared : f.shared ≡ 0
   pub count : length threads ≡ f.threads
   pub whole : Whole
   pub stands : RegionStands region whole

@@ -93,7 +93,6 @@ pub(crate) fn operate(
     what: What,
     out: &mut Records,
 )
-    requires unshared { (profile_of (region_of desk.old)).shared ≡ 0 }
     requires fit { (asked : List ℕ) × IsFitWhat (profile_of (region_of desk.old)) (names_held names.old) asked what }
     requires turns { HasTurns names.old }
     requires can { MayTakeTurn desk.old threads.old actor (λ own c. CanCall (standing_of own) (λ v l. MayAnswer (profile_of (region_of desk.old)) c what (spare_at own) out.old v)) }

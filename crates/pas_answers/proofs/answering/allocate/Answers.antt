@@ -1,12 +1,9 @@
-use Rattle.pas_answers.proofs.Requests.{is_exclusive, can_allocate, performs_given, performs_refused, turns_given, turns_refused}
+use Rattle.pas_answers.proofs.Requests.{can_allocate, performs_given, performs_refused, turns_given, turns_refused}
 use Rattle.pas_cache.specs.Caches.{cached}
 use Rattle.std.proofs.Common.{Some, ap, sym, subst}
 use Rattle.pas_trace.specs.declared.plan.What.TheVariants as TheWhat
 use Rattle.pas_answers.specs.Calls.{works, Performs}
 use Rattle.pas_answers.proofs.answering.allocate.Goals as goal
-
-pub alloc-requires-clause-exclusive : goal.alloc-requires-clause-exclusive
-alloc-requires-clause-exclusive g c = is_exclusive (g.D.Desk.standing c.args.desk.now).seat.profile.shared c.args.heap c.requires.unshared
 
 pub alloc-requires-clause-can : goal.alloc-requires-clause-can
 alloc-requires-clause-can g c = can_allocate (cached c.args.cache.now) c.args.name c.args.heap c.args.size c.args.align (g.D.Desk.spare_of c.args.desk.now) c.requires.can

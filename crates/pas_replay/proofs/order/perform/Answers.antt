@@ -1,15 +1,10 @@
-use Rattle.std.proofs.Common.{◌∙◌, slice_index_or, drop_of_length-le, ap}
+use Rattle.std.proofs.Common.{slice_index_or, drop_of_length-le}
 use Rattle.pas_answers.specs.Acts.{Operates}
 use Rattle.pas_plain.specs.Plain.{profile_of}
 use Rattle.pas_plain.specs.Seats.{region_of}
 use Rattle.pas_replay.proofs.Operations.{operation, fit_now, known_now, may_operate, has_operated}
 use Rattle.pas_replay.proofs.ActsInOrder.{as_list, past, at_next, thread_there}
 use Rattle.pas_replay.proofs.order.perform.Goals as goal
-
-pub operate-requires-clause-unshared : goal.operate-requires-clause-unshared
-operate-requires-clause-unshared c =
-    let so = c.loop-op.invariant.far c.requires.so_far.0 c.requires.so_far.1 c.requires.so_far.2 in
-    ap (λ f. f.shared) so.profile_is ∙ so.unshared
 
 pub operate-requires-clause-fit : goal.operate-requires-clause-fit
 operate-requires-clause-fit c = fit_now (at_next c.requires.so_far.1 c.args.ops.now c.loop-op.op-index c.loop-op-test.true (c.loop-op.invariant.far c.requires.so_far.0 c.requires.so_far.1 c.requires.so_far.2))

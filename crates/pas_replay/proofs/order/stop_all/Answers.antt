@@ -19,11 +19,6 @@ loop-index-init c = record {
   taken = c.requires.taken;
 }
 
-pub operate-requires-clause-unshared : goal.operate-requires-clause-unshared
-operate-requires-clause-unshared c =
-    let so = c.loop-index.invariant.far c.requires.so_far.0 c.requires.so_far.1 c.requires.so_far.2 in
-    ap (λ f. f.shared) so.profile_is ∙ so.unshared
-
 pub operate-requires-clause-turns : goal.operate-requires-clause-turns
 operate-requires-clause-turns c = (c.loop-index.invariant.far c.requires.so_far.0 c.requires.so_far.1 c.requires.so_far.2).turns
 

@@ -1,4 +1,4 @@
-use Rattle.std.proofs.Common.{◌∙◌, ◌-◌, slice_index_or, sym, ap, subst}
+use Rattle.std.proofs.Common.{◌-◌, slice_index_or, sym, ap, subst}
 use Rattle.pas_steps.specs.Desks.{CanCall}
 use Rattle.pas_plain.specs.Plain.{profile_of}
 use Rattle.pas_plain.specs.Seats.{standing_of}
@@ -10,9 +10,6 @@ use Rattle.pas_answers.specs.Names.{names_held}
 use Rattle.pas_replay.specs.Sessions.{spare_at}
 use Rattle.pas_replay.proofs.Turns.{thread_of, may_there, turn_taken}
 use Rattle.pas_replay.proofs.seats.operate.Goals as goal
-
-pub answer-requires-clause-unshared : goal.answer-requires-clause-unshared
-answer-requires-clause-unshared c = ap (λ r. (profile_of r).shared) c.take_seat.ensures.region_is ∙ c.requires.unshared
 
 pub answer-requires-clause-fit : goal.answer-requires-clause-fit
 answer-requires-clause-fit c = (c.requires.fit.0, subst (λ (r : PlainRegion). IsFitWhat (profile_of r) (names_held c.args.names.now) c.requires.fit.0 c.args.what) (sym c.take_seat.ensures.region_is) c.requires.fit.1)
