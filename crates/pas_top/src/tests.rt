@@ -1,6 +1,9 @@
 ghost use Rattle.std.specs.Prelude.{◌≡◌, ◌⊎◌};
 
+use crate::outcome::{Outcome as Replay, outcome_of as replay_of};
 use crate::pas_main;
+use pas_bitfit::end_bits;
+use pas_bits::Mask4;
 use pas_io::memory::{MemorySink, MemorySource};
 use pas_io::sure::{SureSink, SureSource};
 use std::alloc::{AllocError, Global};
@@ -199,7 +202,7 @@ const OUTCOMES: [(&str, u8, &str); 18] = [
         "line 3: NameUnknown\n",
     ),
     (
-        "pas 1 pages 4 threads 1 heaps 1 age 2\na 1 1 0 513 16\n",
+        "pas 1 pages 4 threads 1 heaps 1 age 2\na 1 1 0 2049 16\n",
         7,
         NOT_BUILT,
     ),
@@ -236,7 +239,7 @@ fn inputs_have_outcomes(rt: HostRuntime) -> Result<(), Fail> {
     check_cut_off(
         &rt,
         &["order"],
-        b"pas 1 pages 1 threads 1 heaps 2 age 2\nshared 1",
+        b"pas 1 pages 1 threads 1 heaps 2 age 2\npass",
         NOT_BUILT.as_bytes(),
         7,
     )
@@ -275,5 +278,34 @@ fn operations_have_a_limit(rt: HostRuntime) -> Result<(), Fail> {
         outcome.taken.as_slice(),
         b"line 1000002: TooManyOps\n".as_slice()
     );
+    Ok(())
+}
+
+/// Bit-fit blocks of 33 and 34 grains: the second was freed and its place used anew, and freed again.
+const BITFIT_TRACE: &str =
+    "pas 1 pages 1 threads 1 heaps 1 age 2\na 1 1 0 528 16\na 1 2 0 528 16\na 1 3 0 528 16\nf 1 2\nflush 1\na 1 4 0 528 16\nf 1 4\nflush 1\na 1 5 0 529 16\n";
+
+/// Where the live blocks of page 1 end after the trace; None where it can't be replayed.
+fn ends_after(alloc: Global, trace: &str) -> Result<Option<Mask4>, AllocError> {
+    let bytes = Vec::from_slice(alloc, trace.as_bytes())?;
+    if bytes.len() > ROOM {
+        return Ok(None);
+    }
+    let Ok(Replay::Replayed(_, state)) = replay_of(alloc, bytes) else {
+        return Ok(None);
+    };
+    if state.profile().pages < 1 {
+        return Ok(None);
+    }
+    Ok(Some(end_bits(&state, 1)))
+}
+
+#[test]
+fn bitfit_blocks_have_ends(rt: HostRuntime) -> Result<(), Fail> {
+    let mut ends = Mask4([0; 4]);
+    for grain in [32, 98, 132] {
+        ends.set(grain);
+    }
+    assert_eq!(rt; ends_after(rt.alloc(), BITFIT_TRACE)?, Some(ends));
     Ok(())
 }
