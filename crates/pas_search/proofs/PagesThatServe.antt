@@ -287,12 +287,7 @@ offered_further : (each : ℕ) {next page : ℕ} → next ≤ page → offered_s
 unfolding offered_steps
 offered_further each {next} {page} le = let more : suc next * (each + 2) ≤ (page + 1) * (each + 2) = mul-le-mul_right (each + 2) (omega (arith, le)) in omega (arith, le, more, suc-mul next (each + 2))
 
--- where none is found
-offered_rest : (each pages : ℕ) {next : ℕ} → next ≤ pages + 1 → offered_steps each next + (pages / 64 + 1 - next / 64) ≤ offered_steps each (pages + 1) + (each + 2)
-unfolding offered_steps
-offered_rest each pages le = let more = mul-le-mul_right (each + 2) le in omega (arith, le, more)
-
-offered_first : (each : ℕ) {next : ℕ} → next ≡ 1 → each + 2 ≤ offered_steps each next
+pub offered_first : (each : ℕ) {next : ℕ} → next ≡ 1 → each + 2 ≤ offered_steps each next
 unfolding offered_steps
 offered_first each first = subst (λ n. each + 2 ≤ n / 64 + n * (each + 2)) (sym first) (omega arith)
 
@@ -354,22 +349,6 @@ module _ {F : Type 0} (rule : Rule F) (f : Profile) (d : Directory) (page : ℕ)
         few = few;
       }
 
-pub begins : {F : Type 0} (rule : Rule F) (f : Profile) (d : Directory) {next : ℕ} (marks : List ℕ) → next ≡ 1 → ((p : ℕ) → is_marked marks p ≡ false) → GoesOn rule f d next marks []
-begins rule f d marks first unmarked = record {
-  searching = record {
-    still = record { from = λ v met agreed. does_none v };
-    searches = record { kinds = tt; returns = tt };
-    quiet = tt;
-    untouched = λ p. record { right = refl; none = λ g at. refl };
-    marked = λ p m. absurd (true≢false (sym m ∙ unmarked p));
-    zeros = λ p low lt m. absurd (omega (arith, first, low, lt));
-    lacked = λ p m. tt;
-  };
-  rest = λ p low. unmarked p;
-  within = omega (arith, first);
-  few = let few = offered_first rule.steps first in omega (arith, few);
-}
-
 module _ {F : Type 0} {rule : Rule F} {σ0 σ : Standing} (d : Directory) (next : ℕ) (marks : List ℕ) (xs : List Made) (adds : Adds σ0 σ (λ v l. MaySearch d v) xs) (goes : GoesOn rule σ0.seat.profile d next marks xs) where
   abbrev pub f : Profile
   f = σ0.seat.profile
@@ -380,13 +359,13 @@ module _ {F : Type 0} {rule : Rule F} {σ0 σ : Standing} (d : Directory) (next 
       record { steps = xs; adds = adds; searches = goes.searching.searches; few = subst (λ n. length xs ≤ offered_steps rule.steps n) end (let few = goes.few in omega (arith, few)); outcome = subst (λ n. Searching rule.no_fit f d n marks xs) end goes.searching }
 
   -- no page is offered any more
-  pub none_offered : {σ1 : Standing} {d' : Directory} → d' ≡ d → (next' : ℕ) → FindsOffered d' next σ σ1 next' None → SearchesOffered rule d σ0 σ1 marks None
-  none_offered {σ1} same next' found =
+  pub none_offered : {σ1 : Standing} {d' : Directory} → d' ≡ d → (next' : ℕ) → next ≤ f.pages → FindsOffered d' next σ σ1 next' None → SearchesOffered rule d σ0 σ1 marks None
+  none_offered {σ1} same next' low found =
       let find : FindsOffered d next σ σ1 next' None = subst (λ x. FindsOffered x next σ σ1 next' None) same found in
       let pages : σ.seat.profile.pages ≡ f.pages = ap (λ (s : Seat). s.profile.pages) adds.seat_is in
       let s : Searching rule.no_fit f d (f.pages + 1) marks (find.steps ++ xs) = zeros_searching rule f d next marks (f.pages + 1) find.steps xs (reads_vain find.steps (looks_read find.steps (scans_look find.steps find.scans))) goes.searching
       (λ p low high. zero_before d p find.steps xs (goes.searching.untouched p).right (find.outcome.1 p low (omega (arith, high, pages)))) in
-      record { steps = find.steps ++ xs; adds = adds_call {D = Anything} adds find.adds (λ v l stood met. tt); searches = s.searches; few = omega (arith, goes.few, find.count, pages, offered_rest rule.steps f.pages goes.within, length-append find.steps xs); outcome = s }
+      record { steps = find.steps ++ xs; adds = adds_call {D = Anything} adds find.adds (λ v l stood met. tt); searches = s.searches; few = omega (arith, goes.few, find.count, pages, offered_further rule.steps low, length-append find.steps xs); outcome = s }
 
   module _ {σ1 : Standing} {d' : Directory} (same : d' ≡ d) (next' page : ℕ) (found : FindsOffered d' next σ σ1 next' (Some page)) where
     pub find : FindsOffered d next σ σ1 next' (Some page)
