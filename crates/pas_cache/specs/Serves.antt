@@ -92,7 +92,7 @@ pub record MakesPlace (heap class : ℕ) (locals fewer : List Slots) (steps : Li
 
 -- what a refill for the class is of, in pages of this directory
 abbrev pub filling_in : Directory → ℕ → Filling
-filling_in d class = record { directory = d; class = class; no_fit = NoSlot class; took = TookSlots class }
+filling_in d class = record { directory = d; class = class; no_fit = NoSlot class; took = TookSlots class; steps = 27 }
 
 -- The directory is that of the class in its heap. Where nothing fits, nothing fits among fewer free grains.
 pub record IsFilling (f : Profile) (fill : Filling) : Type 0 where
