@@ -203,6 +203,7 @@ module _ (heap room align : ℕ) (sized : (16 ≤ room) × (room ≤ 2048) × (r
       allocates = record {
         searched = xs;
         searches = searches.searches;
+        few = searches.few;
         after = after;
         adds = whole_call.adds;
         outcome = allocated;
@@ -210,4 +211,4 @@ module _ (heap room align : ℕ) (sized : (16 ≤ room) × (room ≤ 2048) × (r
       }
 
 pub refuses : (heap room align : ℕ) {tells : Bool} {σ σ1 : Standing} (why : NoRoom) → Searches (bitfit room align) tells (bitfit_directory heap) σ σ1 (Err why) → Allocates heap room align tells σ σ1 (Err why)
-refuses heap room align why searches = record { searched = searches.steps; searches = searches.searches; after = []; adds = searches.adds; outcome = (searches.outcome, refl); told = searches.told }
+refuses heap room align why searches = record { searched = searches.steps; searches = searches.searches; few = searches.few; after = []; adds = searches.adds; outcome = (searches.outcome, refl); told = searches.told }

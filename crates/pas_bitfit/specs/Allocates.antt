@@ -16,7 +16,7 @@ use Rattle.pas_steps.specs.Lists.{Whole}
 use Rattle.pas_steps.specs.Views.{View, holds, KnowsDeed}
 use Rattle.pas_steps.specs.declared.step.Made.{Made}
 use Rattle.pas_search.specs.Kinds.{AreSearch}
-use Rattle.pas_search.specs.Searches.{MaySearch, IsServed, IsRefused}
+use Rattle.pas_search.specs.Searches.{search_steps, MaySearch, IsServed, IsRefused}
 use Rattle.pas_search.specs.Serving.{Rule, right_of}
 use Rattle.pas_search.specs.Telling.{IsTold}
 use Rattle.pas_search.specs.declared.serving.Served.{Served}
@@ -67,10 +67,11 @@ pub record IsAllocated (f : Profile) (d : Directory) (room align : ℕ) (searche
   pub events : (k : ℕ) (v : View) → events_by k v (after ++ searched) ≡ Event.Give k block ∷ events_by k v searched
 
 -- The bit-fit pages of the heap were searched. A block was given, or the search was refused and no step followed. The answer is true of the states at
--- entry and at exit where the desk tells them.
+-- entry and at exit where the desk tells them. The steps of the search are at most those of one whose turn of a page takes 15.
 pub record Allocates (heap room align : ℕ) (tells : Bool) (desk desk' : Standing) (answer : Result Block NoRoom) : Type 0 where
   pub searched : List Made
   pub searches : AreSearch searched
+  pub few : length searched ≤ search_steps 15 desk.seat.profile.pages
   pub after : List Made
   pub adds : Adds desk desk' (λ v l. MaySearch (bitfit_directory heap) v) (after ++ searched)
   pub outcome : MatchResult answer

@@ -1,5 +1,5 @@
 -- A bit-fit request: the actor is at rest with the cache as it was.
-use Rattle.std.proofs.Common.{◌≡◌, ℕ, ◌+◌, ◌-◌, Option, None, Some, ◌*◌, ◌/◌, ◌%◌, ◌≤◌, ◌==◌, Bool, true, false, if◌then◌else◌, List, [], ◌∷◌, ◌++◌, length, Ok, Err, Result, refl, ap, sym, ◌∙◌, subst, arith}
+use Rattle.std.proofs.Common.{◌≡◌, ℕ, ◌+◌, ◌-◌, Option, None, Some, ◌*◌, ◌/◌, ◌%◌, ◌≤◌, ◌==◌, Bool, true, false, if◌then◌else◌, List, [], ◌∷◌, ◌++◌, length, Ok, Err, Result, refl, ap, sym, ◌∙◌, subst, arith, length-append}
 use Rattle.std.specs.Prelude.{All, MatchResult, max, nat_le, not}
 use Rattle.std.specs.List.{list_any}
 use Rattle.std.proofs.lemmas.Bool.{eqb-true, leb-true}
@@ -25,7 +25,7 @@ use Rattle.pas_steps.proofs.Adding.{agreed_later, adds_under}
 use Rattle.pas_steps.proofs.Apart.{only_both, only_within}
 use Rattle.pas_search.proofs.ForBackEnds.{events_quiet}
 use Rattle.pas_search.specs.Kinds.{searching}
-use Rattle.pas_search.specs.Searches.{MaySearch, IsRefused, SearchRoom}
+use Rattle.pas_search.specs.Searches.{MaySearch, IsRefused, SearchRoom, search_steps}
 use Rattle.pas_search.specs.Serving.{right_of}
 use Rattle.pas_search.specs.Telling.{IsTold}
 use Rattle.pas_steps.specs.Lists.{Whole}
@@ -147,6 +147,11 @@ module _ (f : Profile) (heap room align : ℕ) (locals : List Slots) where
   ends {Meets} met searched after (Ok block) h = block_for f heap room align searched after block h {Meets = Meets} locals met
   ends met searched after (Err why) h = subst IsSilent (refused searched after h.1) (λ k v. events_quiet k v searched h.0.quiet)
 
+-- ---- how many steps there are at most
+bitfit_short : (f : Profile) (heap room align : ℕ) (searched after : List Made) (answer : Result Block NoRoom) → length searched ≤ search_steps 15 f.pages → Ends f heap room align searched after answer → length (after ++ searched) ≤ 59 + search_steps 15 f.pages
+bitfit_short f heap room align searched after (Ok block) few h = let n = length-append after searched in let short = h.few in omega (arith, n, few, short)
+bitfit_short f heap room align searched after (Err why) few h = let n = length-append after searched in let none = ap length h.1 in omega (arith, n, few, none)
+
 -- ---- what it says of the whole state
 bitfit_told : (f : Profile) (heap room align : ℕ) (locals : List Slots) (entry exit : Whole) (answer : Result Block NoRoom) → IsTold (λ (b : Block). address_of b.name / 4096) (NoneFits (run_for room align)) f (bitfit_directory heap) entry exit answer
     → IsToldBy f (record { directory = bitfit_directory heap; route = Route.Bitfit; room = room; align = align }) locals entry exit answer
@@ -172,6 +177,7 @@ bitfit_allocates {σ} {σ'} size align heap tells c answer route a =
       };
       change = record { cache = refl; searched = a.searched; searches = a.searches; after = a.after; outcome = a.outcome; steps_are = refl };
       kinds = kinds f heap room align c.locals a.searched a.after answer a.outcome a.searches.kinds;
+      short = bitfit_short f heap room align a.searched a.after answer a.few a.outcome;
       two = λ none. absurd none;
       few = λ k v met agreed. few f heap room align c.locals a.searched a.after answer a.outcome k v met.locals agreed;
       outcome = ends f heap room align c.locals {Meets = AtRest f c} (λ v met. met.locals) a.searched a.after answer a.outcome;

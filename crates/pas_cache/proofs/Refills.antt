@@ -93,7 +93,7 @@ search_call {σ} fill locals is none can = record {
 
 -- ---- what a refill says, by its answer
 pub refill_of : {σ σ' : Standing} (fill : Filling) (tells : Bool) (answer : Result Slots NoRoom) → (h : Refills fill tells σ σ' answer) → IsRefill fill σ.seat.profile (h.after ++ h.searched) answer
-refill_of fill tells answer h = record { searched = h.searched; searches = h.searches; after = h.after; outcome = h.outcome; steps_are = refl }
+refill_of fill tells answer h = record { searched = h.searched; searches = h.searches; few = h.few; after = h.after; outcome = h.outcome; steps_are = refl }
 
 pub found_by : (fill : Filling) (f : Profile) (steps : List Made) (answer : Result Slots NoRoom) → IsRefill fill f steps answer → MatchResult answer (IsFoundFor fill) (λ room. Unit {0})
 found_by fill f steps (Ok slots) refill = record { home = refill.outcome.home; class_is = refill.outcome.class_is; some = refill.outcome.some }

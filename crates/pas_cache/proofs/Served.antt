@@ -35,6 +35,7 @@ use Rattle.pas_steps.proofs.Adding.{adds_call, room_left, agreed_first, agreed_l
 use Rattle.pas_steps.proofs.Frames.{events_append, events_split}
 use Rattle.pas_steps.proofs.Kept.{deed_stays}
 use Rattle.pas_search.proofs.ForBackEnds.{events_quiet}
+use Rattle.pas_search.specs.Searches.{search_steps}
 use Rattle.pas_segregated.specs.Refills.{Filling}
 use Rattle.pas_segregated.specs.Takes.{fewer_slots}
 use Rattle.pas_segregated.specs.declared.slots.Slots.{Slots}
@@ -210,6 +211,30 @@ cached_two {fill = fill} {locals = locals} {locals' = locals'} {answer = answer}
   | inr fetch ↦ absurd (spent_empty fetch.place.spent (local_for fill.directory.heap fill.class locals) slots is fetch.place.taken.left some)
 ]
 
+-- ---- how many steps there are at most
+refill_short : {fill : Filling} {f : Profile} {steps : List Made} {found : Result Slots NoRoom} → IsRefill fill f steps found → length steps ≤ 11 + search_steps fill.steps f.pages
+refill_short {found = Ok slots} h = let n = ap length h.steps_are ∙ length-append h.after h.searched in let few = h.few in let after = h.outcome.after_few in omega (arith, n, few, after)
+refill_short {found = Err room} h = let n = ap length (refused_steps h) in let few = h.few in omega (arith, n, few)
+
+given_few : (fewer locals' : List Slots) (given : List Made) (found : Result Slots NoRoom) (answer : Result Block NoRoom) → IsAnswered fewer locals' given found answer → length given ≤ 2
+given_few fewer locals' given (Ok got) (Ok block) h = let n = ap length h.1.steps_are in omega (arith, n)
+given_few fewer locals' given (Ok got) (Err room) h = absurd h
+given_few fewer locals' given (Err why) (Ok block) h = absurd h
+given_few fewer locals' given (Err why) (Err room) h = let n = ap length h.2 in omega (arith, n)
+
+serves_short : {fill : Filling} {f : Profile} {locals locals' : List Slots} {steps : List Made} {answer : Result Block NoRoom} → ServesLocals fill f locals locals' steps answer → length steps ≤ 59 + search_steps fill.steps f.pages
+serves_short {locals' = locals'} {answer = answer} h =
+    let all = ap length h.steps_are ∙ length-append h.given h.before in
+    let two = given_few h.fewer locals' h.given h.found answer h.ends in
+    elim h.obtained [
+      | inl cached ↦ let none = ap length cached.2.no_steps in omega (arith, all, two, none)
+      | inr fetch ↦
+          let n = ap length fetch.steps_are ∙ length-append fetch.searched fetch.before in
+          let place = fetch.place.few in
+          let short = refill_short fetch.refill in
+          omega (arith, all, two, n, place, short)
+    ]
+
 -- ---- of a cache
 for_cache : (f : Profile) (c : Cached) (d : Directory) (class size align : ℕ) (steps : List Made) (answer : Result Block NoRoom) → 4096 % align ≡ 0 → route_of size align ≡ Route.Class class → MatchResult answer (IsBlockFor f (class_wanted d class 1) (RestsWith f c.locals) steps) (λ room. IsSilent steps)
     → MatchResult answer (IsBlockFor f (class_wanted d class align) (AtRest f c) steps) (λ room. IsSilent steps)
@@ -256,6 +281,7 @@ allocates {σ} {σ'} size align heap class tells c c' answer admitted route is h
       calls = call_as (λ v w. AtRest f c' w) h.calls (λ v rest. rest.locals) (λ v w rest locals. subst (λ x. AtRest f x w) (sym is) (record { locals = locals; few = h.place; entries = rest.entries; few_entries = rest.few_entries }));
       change = record { locals = h.change; cache = is };
       kinds = h.kinds;
+      short = serves_short h.change;
       two = λ some. cached_two h.change some.0 some.1 some.2;
       few = λ k v rest agreed. h.few k v rest.locals agreed;
       outcome = for_cache f c (class_home f heap class) class size align h.steps answer admitted.aligned.2 route h.outcome;

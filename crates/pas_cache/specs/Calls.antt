@@ -1,5 +1,5 @@
 -- What the calls of a cache promise.
-use Rattle.std.specs.Prelude.{ℕ, ◌≡◌, Bool, true, List, [], ◌∷◌, ◌++◌, length, Result, MatchResult}
+use Rattle.std.specs.Prelude.{ℕ, ◌+◌, ◌≤◌, ◌≡◌, Bool, true, List, [], ◌∷◌, ◌++◌, length, Result, MatchResult}
 use Rattle.pas_profile.specs.declared.event.FreeFault.{FreeFault}
 use Rattle.pas_profile.specs.declared.event.NoRoom.{NoRoom}
 use Rattle.pas_profile.specs.declared.name.Name.{Name}
@@ -13,6 +13,7 @@ use Rattle.pas_steps.specs.Calls.{Calls}
 use Rattle.pas_steps.specs.Desks.{Standing, triples, made}
 use Rattle.pas_steps.specs.declared.step.Made.{Made}
 use Rattle.pas_steps.specs.declared.step.Step.TheVariants.{Look}
+use Rattle.pas_search.specs.Searches.{search_steps}
 use Rattle.pas_steps.specs.Unknown.{HasRoom}
 use Rattle.pas_cache.specs.Caches.{Cached, AtRest}
 use Rattle.pas_steps.specs.Clear.{HasNothing}
@@ -20,7 +21,7 @@ use Rattle.pas_cache.specs.Names.{IsInRegion, IsFaultOf}
 use Rattle.pas_cache.specs.Changes.{EmptiesLog, LogsName, StopsEach}
 use Rattle.pas_steps.specs.Kinds.{Only}
 use Rattle.pas_cache.specs.Kinds.{releasing, allocating}
-use Rattle.pas_cache.specs.Serves.{Wanted, HasCached, ServesRequest, IsBlockFor, MakesFew, IsSilent, IsToldBy}
+use Rattle.pas_cache.specs.Serves.{Wanted, turn_of, HasCached, ServesRequest, IsBlockFor, MakesFew, IsSilent, IsToldBy}
 
 -- an actor at rest with the one cache is at rest with the other after these steps
 abbrev pub Rests : Cached → Cached → Standing → Standing → List Made → Type 0
@@ -39,13 +40,15 @@ pub record MayAllocate (f : Profile) (c : Cached) (spare : ℕ) (v : View) : Typ
   pub rest : AtRest f c v
   pub room : HasRoom f 2 spare v
 
--- The cache serves the request, and its actor is at rest again. Where a slot is cached there are two steps. A refused request made no event, so no
+-- The cache serves the request, and its actor is at rest again. At most 46 steps make place, those of a search follow, and at most 13 leave a page and
+-- give the block. Where a slot is cached there are two steps. A refused request made no event, so no
 -- block changed.
 pub record Allocates (wanted : Wanted) (tells : Bool) (c c' : Cached) (desk desk' : Standing) (answer : Result Block NoRoom) : Type 0 where
   pub steps : List Made
   pub calls : Rests c c' desk desk' steps
   pub change : ServesRequest desk.seat.profile wanted c c' steps answer
   pub kinds : Only allocating steps
+  pub short : length steps ≤ 59 + search_steps (turn_of wanted.directory.kind) desk.seat.profile.pages
   pub two : HasCached wanted.route wanted.directory.heap c.locals → length steps ≡ 2
   pub few : MakesFew desk.seat.profile (AtRest desk.seat.profile c) 2 steps
   pub outcome : MatchResult answer (IsBlockFor desk.seat.profile wanted (AtRest desk.seat.profile c) steps) (λ room. IsSilent steps)

@@ -21,7 +21,7 @@ use Rattle.pas_steps.specs.Lists.{Whole}
 use Rattle.pas_steps.specs.declared.step.Made.{Made}
 use Rattle.pas_search.specs.Kinds.{AreSearch}
 use Rattle.pas_steps.specs.Evidence.{Readings, IsAntitone}
-use Rattle.pas_search.specs.Searches.{IsRefused}
+use Rattle.pas_search.specs.Searches.{search_steps, IsRefused}
 use Rattle.pas_search.specs.Telling.{HasNoFit, IsTrueReason}
 use Rattle.pas_bits.specs.Masks.{HasMember}
 use Rattle.pas_steps.specs.Calls.{Leads}
@@ -94,6 +94,13 @@ pub record MakesPlace (heap class : ℕ) (locals fewer : List Slots) (steps : Li
   pub steps_are : steps ≡ stopped ++ spent
   pub few : length steps ≤ 46
 
+-- how many steps a turn of a page of this kind takes at most
+abbrev pub turn_of : TheKind → ℕ
+turn_of (Kind.Class of) = 27
+turn_of Kind.Shared = 15
+turn_of Kind.Bitfit = 15
+turn_of Kind.Large = 0
+
 -- which slots a refill takes of a page: all that are free of an exclusive one, and of a shared one the lowest and up to three after it
 abbrev pub took_in : TheKind → ℕ → ℕ → List Made → Mask4 → Type 0
 took_in (Kind.Class of) class = TookSlots class
@@ -103,7 +110,7 @@ took_in Kind.Large class = λ page steps starts. ⊥
 
 -- what a refill for the class is of, in pages of this directory
 abbrev pub filling_in : Directory → ℕ → Filling
-filling_in d class = record { directory = d; class = class; no_fit = NoSlot class; took = took_in d.kind class }
+filling_in d class = record { directory = d; class = class; no_fit = NoSlot class; took = took_in d.kind class; steps = turn_of d.kind }
 
 -- The directory is that of the class in its heap. Where nothing fits, nothing fits among fewer free grains.
 pub record IsFilling (f : Profile) (fill : Filling) : Type 0 where
@@ -116,6 +123,7 @@ pub record IsFilling (f : Profile) (fill : Filling) : Type 0 where
 pub record IsRefill (fill : Filling) (f : Profile) (steps : List Made) (found : Result Slots NoRoom) : Type 0 where
   pub searched : List Made
   pub searches : AreSearch searched
+  pub few : length searched ≤ search_steps fill.steps f.pages
   pub after : List Made
   pub outcome : MatchResult found (GivesSlots fill f searched after) (λ room. IsRefused fill.no_fit f fill.directory searched room × (after ≡ []))
   pub steps_are : steps ≡ after ++ searched

@@ -90,6 +90,7 @@ module _ (heap class : ℕ) (is : IsClass class) {tells : Bool} {σ σ1 : Standi
     refills_ok = record {
       searched = xs;
       searches = searches.searches;
+      few = searches.few;
       after = left.steps;
       adds = all_call.adds;
       outcome = record {
@@ -111,4 +112,4 @@ module _ (heap class : ℕ) (is : IsClass class) {tells : Bool} {σ σ1 : Standi
     }
 
 pub refills_err : (heap class : ℕ) {tells : Bool} {σ σ' : Standing} (why : NoRoom) → Searches (partial class) tells (shared_directory heap) σ σ' (Err why) → Refills (shared_slots heap class) tells σ σ' (Err why)
-refills_err heap class why searches = record { searched = searches.steps; searches = searches.searches; after = []; adds = searches.adds; outcome = (searches.outcome, refl); told = searches.told }
+refills_err heap class why searches = record { searched = searches.steps; searches = searches.searches; few = searches.few; after = []; adds = searches.adds; outcome = (searches.outcome, refl); told = searches.told }

@@ -13,4 +13,4 @@ shared_directory heap = record { heap = heap; kind = Kind.Shared }
 
 -- what a refill from them is of: the lowest free slot of the class, and up to three after it
 abbrev pub shared_slots : ℕ → ℕ → Filling
-shared_slots heap class = record { directory = shared_directory heap; class = class; no_fit = NoSlot class; took = TookChosen (rows class) }
+shared_slots heap class = record { directory = shared_directory heap; class = class; no_fit = NoSlot class; took = TookChosen (rows class); steps = 15 }

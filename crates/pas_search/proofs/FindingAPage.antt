@@ -1,5 +1,5 @@
 -- The answer of a search: an offered page serves, a page does whose deed was made, or the request is refused; and what it says of the states at entry and exit.
-use Rattle.std.proofs.Common.{◌≡◌, ℕ, ◌+◌, ◌<◌, ◌≤◌, true, false, List, [], ◌∷◌, ◌++◌, refl, sym, ◌∙◌, subst, arith, ◌⊎◌, inl, inr, append_assoc, true≢false, ◌≢◌, ◌==◌, if◌then◌else◌, ap, Result, Ok, Err, MatchResult, Bool, length, length-append, suc, Some, None}
+use Rattle.std.proofs.Common.{◌≡◌, ℕ, ◌+◌, ◌*◌, ◌/◌, ◌<◌, ◌≤◌, true, false, List, [], ◌∷◌, ◌++◌, refl, sym, ◌∙◌, subst, arith, ◌⊎◌, inl, inr, append_assoc, true≢false, ◌≢◌, ◌==◌, if◌then◌else◌, ap, Result, Ok, Err, MatchResult, Bool, length, length-append, suc, Some, None}
 use Rattle.std.proofs.lemmas.Bool.{cases_Bool, cases_lt, eq-eqb, ne_eqb}
 use Rattle.pas_profile.specs.declared.directory.Directory.{Directory}
 use Rattle.pas_profile.specs.declared.profile.Profile.{Profile}
@@ -13,9 +13,9 @@ use Rattle.pas_steps.proofs.Kept.{scans_look, looks_read, deed_stays}
 use Rattle.pas_steps.proofs.Past.{once_later, once_earlier, once_map}
 use Rattle.pas_steps.specs.Evidence.{UnfitHere, ZeroHere, DeedHere, ParkedHere, ParkedLater, LeftHere, LacksAfter, MissingHere, HeldHere, Accounted, AllDeeds, ReadsDeed, KeptHere, Searched, NoDeedHere, GetsRight, IsAntitone}
 use Rattle.pas_scan.specs.Marks.{is_marked}
-use Rattle.pas_scan.specs.Scan.{IsMember, AllParked, IsVerdict, Judges}
+use Rattle.pas_scan.specs.Scan.{IsMember, AllParked, IsVerdict, last_block, Judges}
 use Rattle.pas_search.specs.Serving.{Rule}
-use Rattle.pas_search.specs.Searches.{Searching, AllAccounted, IsRefusal, IsRefused, MaySearch, DeedMadeHere, IsHeld, IsServed, SearchRoom, BareRoom, FromOffered, ByDeed, SearchesOffered, ServesBare, SearchesBare, Searches}
+use Rattle.pas_search.specs.Searches.{search_steps, Searching, AllAccounted, IsRefusal, IsRefused, MaySearch, DeedMadeHere, IsHeld, IsServed, SearchRoom, BareRoom, FromOffered, ByDeed, SearchesOffered, ServesBare, SearchesBare, Searches}
 use Rattle.pas_search.proofs.PagesThatServe.{no_deeds, served_search, deeds_serves, AreVain, reads_vain, vain_lacks, vain_search, searched, vain_searching, ready, got_search, finds, deed_before, unknown, deed_known}
 use Rattle.pas_search.proofs.ForBackEnds.{events_quiet, room_kept}
 use Rattle.pas_steps.proofs.Frames.{right_own, events_append, lacks_now}
@@ -226,12 +226,13 @@ pub record Ends {F : Type 0} (rule : Rule F) (d : Directory) (desk desk' : Stand
   pub steps : List Made
   pub adds : Adds desk desk' (λ v l. MaySearch d v) steps
   pub searches : AreSearch steps
+  pub few : length steps ≤ search_steps rule.steps desk.seat.profile.pages
   pub outcome : MatchResult answer (IsServed rule desk.seat.profile d steps) (IsRefused rule.no_fit desk.seat.profile d steps)
 
 pub ends_offered : {F : Type 0} {rule : Rule F} {σ σ1 : Standing} {d' : Directory} (d : Directory) → d' ≡ d → (marks : List ℕ) (served : Served F) → SearchesOffered rule d' σ σ1 marks (Some served) → Ends rule d σ σ1 (Ok served)
 ends_offered {F} {rule} {σ} {σ1} d same marks served found = let offered : SearchesOffered rule d σ σ1 marks (Some served) = subst (λ x. SearchesOffered rule x σ σ1 marks (Some served)) same found in
     let o = offered.outcome in
-    record { steps = offered.steps; adds = offered.adds; searches = offered.searches; outcome = record { page = o.page; keeps = o.keeps; choice = inl o.choice; shows = o.shows; serves = o.serves; few = o.few; events = o.events } }
+    record { steps = offered.steps; adds = offered.adds; searches = offered.searches; few = omega (arith, offered.few); outcome = record { page = o.page; keeps = o.keeps; choice = inl o.choice; shows = o.shows; serves = o.serves; few = o.few; events = o.events } }
 
 -- ---- by a deed
 module _ {F : Type 0} (rule : Rule F) (f : Profile) (d : Directory) (marks : List ℕ) (os steps : List Made) (s : Searching rule.no_fit f d (f.pages + 1) marks os) (served : Served F) (bare : ServesBare rule f d steps served) where
@@ -241,16 +242,19 @@ module _ {F : Type 0} (rule : Rule F) (f : Profile) (d : Directory) (marks : Lis
   abbrev ws : List Made
   ws = bare.before ++ os
 
-  now : Searching rule.no_fit f d (f.pages + 1) marks (bare.before ++ os)
+  abbrev call : List Made
+  call = bare.serve ++ (m ∷ ws)
+
+  now : Searching rule.no_fit f d (f.pages + 1) marks ws
   now = vain_searching rule f d (f.pages + 1) marks bare.before os (reads_vain bare.before bare.reads) s
 
-  all_steps : steps ++ os ≡ bare.serve ++ (made (Deed served.page d) 0 ∷ (bare.before ++ os))
+  all_steps : steps ++ os ≡ call
   all_steps = ap (λ ys. ys ++ os) bare.steps_are ∙ append_assoc bare.serve (m ∷ bare.before) os
 
-  one_deed : deeds_made (bare.serve ++ (made (Deed served.page d) 0 ∷ (bare.before ++ os))) ≡ 1
+  one_deed : deeds_made call ≡ 1
   one_deed = deeds_serves bare.serve (m ∷ ws) bare.serves.only.kinds ∙ ap suc (no_deeds ws now.quiet)
 
-  deed_made : ByDeed rule.no_fit f d served.page (bare.serve ++ (made (Deed served.page d) 0 ∷ (bare.before ++ os)))
+  deed_made : ByDeed rule.no_fit f d served.page call
   deed_made = record {
     made_here = once_later (DeedMadeHere rule.no_fit f d served.page) bare.serve (m ∷ ws) (inl (record { deed = refl; made = refl; searched = searched rule f d (f.pages + 1) marks ws now; lower = λ q low high. deed_before q bare.before os (bare.lower q low high); quiet = now.quiet }));
     one_deed = one_deed;
@@ -266,9 +270,9 @@ module _ {F : Type 0} (rule : Rule F) (f : Profile) (d : Directory) (marks : Lis
       (λ k v agreed.
       let one : length (events_by k v (m ∷ ws)) ≡ 1 = ap (λ es. suc (length es)) (events_quiet k v ws now.quiet) in
       let some : length (events_by k ((m ∷ ws) ++ v) bare.serve) ≤ rule.events = bare.serves.few k ((m ∷ ws) ++ v) in
-      let counts : length (events_by k v (bare.serve ++ (m ∷ ws))) ≡ length (events_by k ((m ∷ ws) ++ v) bare.serve) + length (events_by k v (m ∷ ws)) = ap length (events_append k bare.serve (m ∷ ws) v) ∙ length-append (events_by k ((m ∷ ws) ++ v) bare.serve) (events_by k v (m ∷ ws)) in
+      let counts : length (events_by k v call) ≡ length (events_by k ((m ∷ ws) ++ v) bare.serve) + length (events_by k v (m ∷ ws)) = ap length (events_append k bare.serve (m ∷ ws) v) ∙ length-append (events_by k ((m ∷ ws) ++ v) bare.serve) (events_by k v (m ∷ ws)) in
       let deed = one_deed in
-      (omega (arith, one, some, counts, deed), λ known. absurd (unknown f v served.page (bare.serve ++ (m ∷ ws)) agreed (once_later (NoDeedHere served.page) bare.serve (m ∷ ws) (inl (ReadsDeed.Deeds d, refl))) (known served.page bare.page))))
+      (omega (arith, one, some, counts, deed), λ known. absurd (unknown f v served.page call agreed (once_later (NoDeedHere served.page) bare.serve (m ∷ ws) (inl (ReadsDeed.Deeds d, refl))) (known served.page bare.page))))
       (inr IsDeedOrBack.Deeds) now.quiet)
 
 -- what the search of offered pages asks
@@ -291,27 +295,39 @@ module _ {F : Type 0} {rule : Rule F} {σ σ1 : Standing} {d' : Directory} (d : 
   bare_adds : {σ2 : Standing} {ys : List Made} → Adds σ1 σ2 (λ v l. IsClear v) ys → Adds σ σ2 (λ v l. MaySearch d v) (ys ++ offered.steps)
   bare_adds adds = adds_call {D = λ v l. IsClear v} offered.adds adds (λ v l stood met. clear_then v met (offered.adds.agreed v l stood met))
 
+  pages_kept : σ1.seat.profile.pages ≡ f.pages
+  pages_kept = ap (λ (x : Profile). x.pages) (profile_kept offered.adds)
+
   pub ends_bare : {σ2 : Standing} (served : Served F) → SearchesBare rule d σ1 σ2 (Some served) → Ends rule d σ σ2 (Ok served)
   ends_bare served bare = let found : ServesBare rule f d bare.steps served = subst (λ x. ServesBare rule x d bare.steps served) (profile_kept offered.adds) bare.outcome in record {
     steps = bare.steps ++ offered.steps;
     adds = bare_adds bare.adds;
+    few = omega (arith, offered.few, bare.few, pages_kept, length-append bare.steps offered.steps);
     searches = deed_search rule f d marks offered.steps bare.steps offered.outcome served found;
     outcome = deed_serves rule f d marks offered.steps bare.steps offered.outcome served found;
   }
 
   -- ---- a refusal
+  last_within : (h : Profile) (ys : List Made) (room : NoRoom) → IsVerdict h marks d ys room → last_block h room ≤ h.pages / 64
+  last_within h ys NoSpace all = omega arith
+  last_within h ys (Held page) verdict = let high = (verdict.0 []).of_region.1 in omega (arith, high)
+
   pub ends_refused : {σ2 σ3 : Standing} (room : NoRoom) → SearchesBare rule d σ1 σ2 None → Judges marks d σ2 σ3 room → Ends rule d σ σ3 (Err room)
   ends_refused room bare judged =
-      let at1 : σ1.seat.profile ≡ f = profile_kept offered.adds in
-      let pages : σ1.seat.profile.pages ≡ f.pages = ap (λ (x : Profile). x.pages) at1 in
+      let pages = pages_kept in
+      let verdict : IsVerdict f marks d judged.steps room = subst (λ x. IsVerdict x marks d judged.steps room) (profile_kept (bare_adds bare.adds)) judged.verdict in
       let xs : List Made = bare.steps ++ offered.steps in
       let s : Searching rule.no_fit f d (f.pages + 1) marks xs = vain_searching rule f d (f.pages + 1) marks bare.steps offered.steps (reads_vain bare.steps bare.outcome.0) offered.outcome in
       let deeds : AllDeeds (f.pages + 1) xs = λ p low high. deed_before p bare.steps offered.steps (bare.outcome.1 p low (omega (arith, high, pages))) in
       record {
         steps = judged.steps ++ xs;
         adds = adds_call {D = Anything} (bare_adds bare.adds) judged.adds (λ v l stood met. tt);
+        few =
+            let last : last_block f room ≤ f.pages / 64 = last_within f judged.steps room verdict in
+            let short : length judged.steps ≤ 65 * (last_block f room + 1) = subst (λ x. length judged.steps ≤ 65 * (last_block x room + 1)) (profile_kept (bare_adds bare.adds)) judged.few in
+            omega (arith, last, short, offered.few, bare.few, pages, length-append judged.steps xs, length-append bare.steps offered.steps);
         searches = vain_search judged.steps xs (reads_vain judged.steps (looks_read judged.steps (scans_look judged.steps judged.scans))) s.searches;
-        outcome = refused rule f d marks judged.steps xs judged.scans s room (subst (λ x. IsVerdict x marks d judged.steps room) (profile_kept bare.adds ∙ at1) judged.verdict) deeds;
+        outcome = refused rule f d marks judged.steps xs judged.scans s room verdict deeds;
       }
 
   pub verdict_can : {σ2 : Standing} → SearchesBare rule d σ1 σ2 None → CanCall σ (λ v l. MaySearch d v) → CanCall σ2 Anything
@@ -335,6 +351,7 @@ searches_by {F} {rule} {σ} {σ'} {answer} tells d valid of fewer told parts end
   steps = ends.steps;
   adds = ends.adds;
   searches = ends.searches;
+  few = ends.few;
   outcome = ends.outcome;
   told = λ yes_tells v l stood met.
       let f : Profile = σ.seat.profile in

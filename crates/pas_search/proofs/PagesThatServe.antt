@@ -1,5 +1,5 @@
 -- The steps of a search so far, and a page whose right the call got by its newest step: the back end leaves it, or keeps what its answer says.
-use Rattle.std.proofs.Common.{◌≡◌, ℕ, suc, ◌≤◌, ◌==◌, arith, Bool, true, false, if◌then◌else◌, List, [], ◌∷◌, ◌++◌, ◌⊎◌, inl, inr, None, Some, refl, ap, ◌∙◌, sym, append-nil, true≢false, subst, ◌%◌, ◌&&◌, ◌<◌, ◌≢◌, ◌+◌, ◌/◌, ◌||◌, length, Option, append_assoc}
+use Rattle.std.proofs.Common.{◌≡◌, ℕ, suc, ◌≤◌, ◌==◌, arith, Bool, true, false, if◌then◌else◌, List, [], ◌∷◌, ◌++◌, ◌⊎◌, inl, inr, None, Some, refl, ap, ◌∙◌, sym, append-nil, true≢false, subst, ◌%◌, ◌&&◌, ◌<◌, ◌≢◌, ◌+◌, ◌/◌, ◌||◌, ◌*◌, ◌-◌, length, length-append, Option, append_assoc}
 use Rattle.pas_profile.specs.declared.directory.Directory.{Directory}
 use Rattle.pas_profile.specs.declared.event.Event.{Event}
 use Rattle.pas_steps.specs.declared.step.Made.{Made}
@@ -17,6 +17,7 @@ use Rattle.pas_steps.proofs.Calls.{does_none, does_then, does_as, does_step, rig
 use Rattle.pas_steps.proofs.Frames.{events_append, right_own, with_few}
 use Rattle.pas_steps.proofs.Past.{always_both, always_map, once_later, once_earlier}
 use Rattle.pas_search.specs.Kinds.{serving, searching, OnlyServes, IsReturnOf, ReturnsGot, AreSearch, IsQuiet, AreQuiet, IsDeedOrBack, EventsAt, makes_deed, deeds_made}
+use Rattle.std.proofs.Math.Nat.{mul-le-mul_right, suc-mul}
 use Rattle.std.proofs.lemmas.Bool.{eq-eqb, eqb-true, ne_eqb, cases_Bool, cases_lt, cases_eq}
 use Rattle.pas_profile.specs.Classes.{has_bit}
 use Rattle.pas_profile.specs.declared.profile.Profile.{Profile}
@@ -26,7 +27,7 @@ use Rattle.pas_profile.specs.Directories.{number_of, deed_word_of}
 use Rattle.pas_steps.specs.Calls.{Leads, AnyView, Fate, Kept, Gained, Lost, now, nothing, ClearAfter, Does, grain_fate, way_fate, right_fate, opens, later}
 use Rattle.pas_search.specs.Serving.{righted, IsUntouched, Rule, MayServe, GotBefore, right_of, served, Keeps, ReadsNoneHeld, ServeSteps, ServesPage}
 use Rattle.pas_scan.specs.Marks.{is_marked}
-use Rattle.pas_search.specs.Searches.{OfferedHere, Searching, MaySearch, FromOffered, KeepsFound, FewEvents, Finds, GoesOn, SearchesOffered, BareRoom, SearchesBare}
+use Rattle.pas_search.specs.Searches.{offered_steps, OfferedHere, Searching, MaySearch, FromOffered, KeepsFound, FewEvents, Finds, GoesOn, SearchesOffered, BareRoom, SearchesBare}
 use Rattle.pas_search.proofs.ForBackEnds.{events_quiet, room_after, room_kept}
 use Rattle.pas_profile.specs.Profiles.{IsPage}
 use Rattle.pas_steps.specs.Clear.{IsClear}
@@ -276,6 +277,20 @@ module _ (f : Profile) (d : Directory) (page : ℕ) (m : Made) (ws : List Made) 
           events = serves_events d page zs (m ∷ ws) serve.only (event, always_map (λ m before. IsQuiet m) (λ m before. IsQuiet m ⊎ IsDeedOrBack d page m.step) ws (λ m before q. inl q) quiet);
         }
 
+-- ---- how many steps are made
+offered_grows : (each : ℕ) {a b : ℕ} → a ≤ b → offered_steps each a ≤ offered_steps each b
+unfolding offered_steps
+offered_grows each le = let more = mul-le-mul_right (each + 2) le in omega (arith, le, more)
+
+-- from the search from `next` on, which finds the page, to that from the page after it
+offered_further : (each : ℕ) {next page : ℕ} → next ≤ page → offered_steps each next + (page / 64 + 1 - next / 64) + (each + 1) ≤ offered_steps each (page + 1)
+unfolding offered_steps
+offered_further each {next} {page} le = let more : suc next * (each + 2) ≤ (page + 1) * (each + 2) = mul-le-mul_right (each + 2) (omega (arith, le)) in omega (arith, le, more, suc-mul next (each + 2))
+
+pub offered_first : (each : ℕ) {next : ℕ} → next ≡ 1 → each + 2 ≤ offered_steps each next
+unfolding offered_steps
+offered_first each first = subst (λ n. each + 2 ≤ n / 64 + n * (each + 2)) (sym first) (omega arith)
+
 -- ---- an offered page
 module _ {F : Type 0} (rule : Rule F) (f : Profile) (d : Directory) (page : ℕ) (marks : List ℕ) (m : Made) (ws zs : List Made) (gets : GetsRight page m.step m.answer) (quiet : IsQuiet m) (on_m : OnlyOn page (m ∷ [])) (on : OnlyOn page zs)
     (ready : Leads f (MaySearch d) (IsReady page d) (m ∷ ws)) (s : Searching rule.no_fit f d page marks ws) where
@@ -306,8 +321,8 @@ module _ {F : Type 0} (rule : Rule F) (f : Profile) (d : Directory) (page : ℕ)
 
   -- it was left
   pub goes_on : (marks' : List ℕ) → ((p : ℕ) → is_marked marks' p ≡ ((page == p) || is_marked marks p)) → ServeSteps rule f page d zs None → ((v : View) → MaySearch d v → Agreed f v ws → has_right v page ≡ false) → ((p : ℕ) → page ≤ p → is_marked marks p ≡ false)
-      → GoesOn rule f d (page + 1) marks' (zs ++ (m ∷ ws))
-  goes_on marks' more serve lacked rest =
+      → page ≤ f.pages → length (zs ++ (m ∷ ws)) + (rule.steps + 2) ≤ offered_steps rule.steps (page + 1) → GoesOn rule f d (page + 1) marks' (zs ++ (m ∷ ws))
+  goes_on marks' more serve lacked rest within few =
       let left = serve.outcome in let got = got_before f d page m ws gets (s.untouched page) in
       let lacking : Leads f (MaySearch d) (λ v w. IsReady page d v w × (has_right v page ≡ false)) (m ∷ ws) = record { from = λ v met agreed. (ready.from v met agreed, lacked v met agreed.1) } in
       let here : is_marked marks' page ≡ true = more page ∙ ap (λ x. x || is_marked marks page) (eq-eqb page page refl) in
@@ -330,30 +345,43 @@ module _ {F : Type 0} (rule : Rule F) (f : Profile) (d : Directory) (page : ℕ)
           lacked = λ p mark. let ne = unmarked p mark in others_lack p ne (sym (others p ne) ∙ mark);
         };
         rest = λ p low. others p (λ e. absurd (omega (arith, e, low))) ∙ rest p (omega (arith, low));
+        within = omega (arith, within);
+        few = few;
       }
 
 module _ {F : Type 0} {rule : Rule F} {σ0 σ : Standing} (d : Directory) (next : ℕ) (marks : List ℕ) (xs : List Made) (adds : Adds σ0 σ (λ v l. MaySearch d v) xs) (goes : GoesOn rule σ0.seat.profile d next marks xs) where
+  abbrev pub f : Profile
+  f = σ0.seat.profile
+
+  -- all pages were searched
+  pub all_offered : f.pages < next → SearchesOffered rule d σ0 σ marks None
+  all_offered past = let end : next ≡ f.pages + 1 = omega (arith, past, goes.within) in
+      record { steps = xs; adds = adds; searches = goes.searching.searches; few = subst (λ n. length xs ≤ offered_steps rule.steps n) end (let few = goes.few in omega (arith, few)); outcome = subst (λ n. Searching rule.no_fit f d n marks xs) end goes.searching }
+
   -- no page is offered any more
-  pub none_offered : {σ1 : Standing} {d' : Directory} → d' ≡ d → (next' : ℕ) → FindsOffered d' next σ σ1 next' None → SearchesOffered rule d σ0 σ1 marks None
-  none_offered {σ1} same next' found =
+  pub none_offered : {σ1 : Standing} {d' : Directory} → d' ≡ d → (next' : ℕ) → next ≤ f.pages → FindsOffered d' next σ σ1 next' None → SearchesOffered rule d σ0 σ1 marks None
+  none_offered {σ1} same next' low found =
       let find : FindsOffered d next σ σ1 next' None = subst (λ x. FindsOffered x next σ σ1 next' None) same found in
-      let pages : σ.seat.profile.pages ≡ σ0.seat.profile.pages = ap (λ (s : Seat). s.profile.pages) adds.seat_is in
-      let s : Searching rule.no_fit σ0.seat.profile d (σ0.seat.profile.pages + 1) marks (find.steps ++ xs) = zeros_searching rule σ0.seat.profile d next marks (σ0.seat.profile.pages + 1) find.steps xs (reads_vain find.steps (looks_read find.steps (scans_look find.steps find.scans))) goes.searching
+      let pages : σ.seat.profile.pages ≡ f.pages = ap (λ (s : Seat). s.profile.pages) adds.seat_is in
+      let s : Searching rule.no_fit f d (f.pages + 1) marks (find.steps ++ xs) = zeros_searching rule f d next marks (f.pages + 1) find.steps xs (reads_vain find.steps (looks_read find.steps (scans_look find.steps find.scans))) goes.searching
       (λ p low high. zero_before d p find.steps xs (goes.searching.untouched p).right (find.outcome.1 p low (omega (arith, high, pages)))) in
-      record { steps = find.steps ++ xs; adds = adds_call {D = Anything} adds find.adds (λ v l stood met. tt); searches = s.searches; outcome = s }
+      record { steps = find.steps ++ xs; adds = adds_call {D = Anything} adds find.adds (λ v l stood met. tt); searches = s.searches; few = omega (arith, goes.few, find.count, pages, offered_further rule.steps low, length-append find.steps xs); outcome = s }
 
   module _ {σ1 : Standing} {d' : Directory} (same : d' ≡ d) (next' page : ℕ) (found : FindsOffered d' next σ σ1 next' (Some page)) where
     pub find : FindsOffered d next σ σ1 next' (Some page)
     find = subst (λ x. FindsOffered x next σ σ1 next' (Some page)) same found
 
+    abbrev pub looked : List Made
+    looked = find.steps ++ xs
+
     vain : AreVain find.steps
     vain = reads_vain find.steps (looks_read find.steps (scans_look find.steps find.scans))
 
-    first : IsFirstOffered σ0.seat.profile d next find.steps page
+    first : IsFirstOffered f d next find.steps page
     first = subst (λ (s : Seat). IsFirstOffered s.profile d next find.steps page) adds.seat_is find.outcome.1
 
-    at_page : Searching rule.no_fit σ0.seat.profile d page marks (find.steps ++ xs)
-    at_page = zeros_searching rule σ0.seat.profile d next marks page find.steps xs vain goes.searching (λ p low high. zero_before d p find.steps xs (goes.searching.untouched p).right (first.lower p low high))
+    at_page : Searching rule.no_fit f d page marks looked
+    at_page = zeros_searching rule f d next marks page find.steps xs vain goes.searching (λ p low high. zero_before d p find.steps xs (goes.searching.untouched p).right (first.lower p low high))
 
     rest_at : (p : ℕ) → page ≤ p → is_marked marks p ≡ false
     rest_at p low = let from = first.from_next in goes.rest p (omega (arith, from, low))
@@ -361,52 +389,65 @@ module _ {F : Type 0} {rule : Rule F} {σ0 σ : Standing} (d : Directory) (next 
     pub further : next' ≡ page + 1
     further = find.outcome.0
 
-    deed_at : (v : View) → KnowsDeed page d ((find.steps ++ xs) ++ v)
+    deed_at : (v : View) → KnowsDeed page d (looked ++ v)
     deed_at v = subst (KnowsDeed page d) (sym (append_assoc find.steps xs v)) (first.deed (xs ++ v))
 
-    lacked : (v : View) → MaySearch d v → Agreed σ0.seat.profile v (find.steps ++ xs) → has_right v page ≡ false
-    lacked v met agreed = sym ((goes.searching.still.from v met (agreed_later σ0.seat.profile v find.steps xs agreed)).right page) ∙ first.lacks (xs ++ v) (agreed_first σ0.seat.profile v find.steps xs agreed)
+    lacked : (v : View) → MaySearch d v → Agreed f v looked → has_right v page ≡ false
+    lacked v met agreed = sym ((goes.searching.still.from v met (agreed_later f v find.steps xs agreed)).right page) ∙ first.lacks (xs ++ v) (agreed_first f v find.steps xs agreed)
+
+    pub claim_can : CanCall σ0 (λ v l. MaySearch d v) → CanCall σ1 (λ v l. KnowsDeed page d v)
+    claim_can can = can_call {C = λ v l. MaySearch d v} (adds_call {D = Anything} adds find.adds (λ v l stood met. tt)) can (λ v l stood met. deed_at v)
 
     module _ {σ2 : Standing} (a : ℕ) (claim : Adds σ1 σ2 (λ v l. KnowsDeed page d v) (made (TakeRight page d) a ∷ [])) where
-      pub claim_adds : Adds σ0 σ2 (λ v l. MaySearch d v) (made (TakeRight page d) a ∷ (find.steps ++ xs))
+      abbrev pub claimed : List Made
+      claimed = made (TakeRight page d) a ∷ looked
+
+      -- with the steps of the back end
+      few_after : (ys : List Made) → length ys ≤ rule.steps → length (ys ++ claimed) + (rule.steps + 2) ≤ offered_steps rule.steps (page + 1)
+      few_after ys short = let further = offered_further rule.steps first.from_next in omega (arith, goes.few, find.count, further, short, length-append ys claimed, length-append find.steps xs)
+
+      pub claim_adds : Adds σ0 σ2 (λ v l. MaySearch d v) claimed
       claim_adds = adds_call {D = λ v l. KnowsDeed page d v} (adds_call {D = Anything} adds find.adds (λ v l stood met. tt)) claim (λ v l stood met. deed_at v)
 
-      pub claim_quiet : AreQuiet (made (TakeRight page d) a ∷ (find.steps ++ xs))
+      pub claim_quiet : AreQuiet claimed
       claim_quiet = (λ k e. refl, at_page.quiet)
 
       -- another actor was first
-      pub lost_goes : (marks' : List ℕ) → marks' ≡ marks → has_bit a (page % 64) ≡ false → GoesOn rule σ0.seat.profile d next' marks' (made (TakeRight page d) a ∷ (find.steps ++ xs))
-      lost_goes marks' unmarked bit = subst (λ k. GoesOn rule σ0.seat.profile d k marks' (made (TakeRight page d) a ∷ (find.steps ++ xs))) (sym further) (subst (λ x. GoesOn rule σ0.seat.profile d (page + 1) x (made (TakeRight page d) a ∷ (find.steps ++ xs))) (sym unmarked) (record {
-        searching = zeros_searching rule σ0.seat.profile d page marks (page + 1) (made (TakeRight page d) a ∷ []) (find.steps ++ xs) (record { rights = claim_rights page d a false bit; quiet = λ k e. refl }, tt) at_page
-            (λ p low high. let same : page ≡ p = omega (arith, low, high) in inl (subst (λ q. ReadsEligible d q (TakeRight page d) × (has_bit a (q % 64) ≡ false) × (has_right (find.steps ++ xs) q ≡ false)) same (ReadsEligible.Claims, bit, (at_page.untouched page).right)));
+      pub lost_goes : (marks' : List ℕ) → marks' ≡ marks → has_bit a (page % 64) ≡ false → GoesOn rule f d next' marks' claimed
+      lost_goes marks' unmarked bit = subst (λ k. GoesOn rule f d k marks' claimed) (sym further) (subst (λ x. GoesOn rule f d (page + 1) x claimed) (sym unmarked) (record {
+        searching = zeros_searching rule f d page marks (page + 1) (made (TakeRight page d) a ∷ []) looked (record { rights = claim_rights page d a false bit; quiet = λ k e. refl }, tt) at_page
+            (λ p low high. let same : page ≡ p = omega (arith, low, high) in inl (subst (λ q. ReadsEligible d q (TakeRight page d) × (has_bit a (q % 64) ≡ false) × (has_right looked q ≡ false)) same (ReadsEligible.Claims, bit, (at_page.untouched page).right)));
         rest = λ p low. rest_at p (omega (arith, low));
+        within = let high = first.of_region.1 in omega (arith, high);
+        few = few_after [] (omega arith);
       }))
 
       module _ (bit : has_bit a (page % 64) ≡ true) where
-        got : Leads σ0.seat.profile (MaySearch d) (IsReady page d) (made (TakeRight page d) a ∷ (find.steps ++ xs))
-        got = ready σ0.seat.profile d page (made (TakeRight page d) a) (find.steps ++ xs) (GetsRight.Claims d a bit) (λ v met. met.clear) at_page.still (λ v agreed. knows_still σ0.seat.profile d page (made (TakeRight page d) a ∷ []) ((find.steps ++ xs) ++ v) (agreed.0, tt) (deed_at v))
+        got : Leads f (MaySearch d) (IsReady page d) claimed
+        got = ready f d page (made (TakeRight page d) a) looked (GetsRight.Claims d a bit) (λ v met. met.clear) at_page.still (λ v agreed. knows_still f d page (made (TakeRight page d) a ∷ []) (looked ++ v) (agreed.0, tt) (deed_at v))
 
         pub serve_can : CanCall σ0 (λ v l. MaySearch d v) → CanCall σ2 (λ v l. MayServe page d v)
         serve_can can = can_call {C = λ v l. MaySearch d v} claim_adds can (λ v l stood met. (got.from v met (claim_adds.agreed v l stood met)).may)
 
         module _ {σ3 : Standing} where
-          serve_at : (answer : Option F) (serve : ServesPage rule page d σ2 σ3 answer) → ServeSteps rule σ0.seat.profile page d serve.steps answer
+          serve_at : (answer : Option F) (serve : ServesPage rule page d σ2 σ3 answer) → ServeSteps rule f page d serve.steps answer
           serve_at answer serve = subst (λ (s : Seat). ServeSteps rule s.profile page d serve.steps answer) claim_adds.seat_is serve.serves
 
-          pub serve_adds : (answer : Option F) (serve : ServesPage rule page d σ2 σ3 answer) → Adds σ0 σ3 (λ v l. MaySearch d v) (serve.steps ++ (made (TakeRight page d) a ∷ (find.steps ++ xs)))
+          pub serve_adds : (answer : Option F) (serve : ServesPage rule page d σ2 σ3 answer) → Adds σ0 σ3 (λ v l. MaySearch d v) (serve.steps ++ claimed)
           serve_adds answer serve = adds_call {D = λ v l. MayServe page d v} claim_adds serve.adds (λ v l stood met. (got.from v met (claim_adds.agreed v l stood met)).may)
 
           pub found_there : (marks' : List ℕ) (found : F) → ServesPage rule page d σ2 σ3 (Some found) → SearchesOffered rule d σ0 σ3 marks' (Some (record { page = page; found = found }))
           found_there marks' found serve = let s = at_page in record {
-            steps = serve.steps ++ (made (TakeRight page d) a ∷ (find.steps ++ xs));
+            steps = serve.steps ++ claimed;
             adds = serve_adds (Some found) serve;
-            searches = served_search page serve.steps (made (TakeRight page d) a ∷ (find.steps ++ xs)) serve.serves.only (inl (GetsRight.Claims d a bit)) (got_search σ0.seat.profile d page (made (TakeRight page d) a) (find.steps ++ xs) (GetsRight.Claims d a bit) s.searches);
-            outcome = from_offered rule σ0.seat.profile d page marks (made (TakeRight page d) a) (find.steps ++ xs) serve.steps (GetsRight.Claims d a bit) (λ k e. refl) (IsOnPage.Claims d, tt) serve.serves.only.on got s found (serve_at (Some found) serve) first.of_region
+            few = let most = few_after serve.steps serve.serves.short in let high : page + 1 ≤ f.pages + 1 = (let h = first.of_region.1 in omega (arith, h)) in let all = offered_grows rule.steps high in omega (arith, most, all);
+            searches = served_search page serve.steps claimed serve.serves.only (inl (GetsRight.Claims d a bit)) (got_search f d page (made (TakeRight page d) a) looked (GetsRight.Claims d a bit) s.searches);
+            outcome = from_offered rule f d page marks (made (TakeRight page d) a) looked serve.steps (GetsRight.Claims d a bit) (λ k e. refl) (IsOnPage.Claims d, tt) serve.serves.only.on got s found (serve_at (Some found) serve) first.of_region
                 (offered_before d page find.steps xs vain (goes.searching.untouched page).right (goes.searching.lacked page (rest_at page (omega arith))) first.one);
           }
 
-          pub left_goes : (k : ℕ) → k ≡ page + 1 → (marks' : List ℕ) → ((p : ℕ) → is_marked marks' p ≡ ((page == p) || is_marked marks p)) → (serve : ServesPage rule page d σ2 σ3 None) → GoesOn rule σ0.seat.profile d k marks' (serve.steps ++ (made (TakeRight page d) a ∷ (find.steps ++ xs)))
-          left_goes k is marks' more serve = subst (λ j. GoesOn rule σ0.seat.profile d j marks' (serve.steps ++ (made (TakeRight page d) a ∷ (find.steps ++ xs)))) (sym is) (goes_on rule σ0.seat.profile d page marks (made (TakeRight page d) a) (find.steps ++ xs) serve.steps (GetsRight.Claims d a bit) (λ k e. refl) (IsOnPage.Claims d, tt) serve.serves.only.on got at_page marks' more (serve_at None serve) lacked rest_at)
+          pub left_goes : (k : ℕ) → k ≡ page + 1 → (marks' : List ℕ) → ((p : ℕ) → is_marked marks' p ≡ ((page == p) || is_marked marks p)) → (serve : ServesPage rule page d σ2 σ3 None) → GoesOn rule f d k marks' (serve.steps ++ claimed)
+          left_goes k is marks' more serve = subst (λ j. GoesOn rule f d j marks' (serve.steps ++ claimed)) (sym is) (goes_on rule f d page marks (made (TakeRight page d) a) looked serve.steps (GetsRight.Claims d a bit) (λ k e. refl) (IsOnPage.Claims d, tt) serve.serves.only.on got at_page marks' more (serve_at None serve) lacked rest_at first.of_region.1 (few_after serve.steps serve.serves.short))
 
 pub deed_before : (p : ℕ) (ys xs : List Made) → Once (DeedHere p) ys → Once (DeedHere p) (ys ++ xs)
 deed_before p ys xs h = once_earlier (DeedHere p) (DeedHere p) ys xs (λ m before z. z) h
@@ -431,66 +472,96 @@ deed_frees p d a v g e at = ap (λ t. if t && (a == 0) then true else known_free
 pub clear_can : {σ : Standing} {f : Profile} {n spare : ℕ} → CanCall σ (λ v l. BareRoom f n spare v) → CanCall σ (λ v l. IsClear v)
 clear_can can = record { view = can.view; whole = can.whole; stood = can.stood; met = can.met.clear }
 
-module _ {σ0 σ : Standing} (d : Directory) (from : ℕ) (xs : List Made) (adds : Adds σ0 σ (λ v l. IsClear v) xs) (reads : OnlyReads xs) (all : AllDeeds from xs) where
+-- the search of pages without a deed, so far: each deed word below that of page `from` was read as not 0
+pub record PassesDeeds (from : ℕ) (desk desk' : Standing) : Type 0 where
+  pub steps : List Made
+  pub adds : Adds desk desk' (λ v l. IsClear v) steps
+  pub reads : OnlyReads steps
+  pub deeds : AllDeeds from steps
+  pub within : from ≤ desk.seat.profile.pages + 1
+  pub few : length steps + 2 ≤ 2 * from
+
+module _ {σ0 σ : Standing} (d : Directory) (from : ℕ) (passes : PassesDeeds from σ0 σ) where
+  abbrev pub region : Profile
+  region = σ0.seat.profile
+
+  abbrev pub xs : List Made
+  xs = passes.steps
+
   more_reads : (ys : List Made) → OnlyReads ys → OnlyReads (ys ++ xs)
-  more_reads ys h = always_both (λ m before. IsRead m.step m.answer) (λ m before. IsRead m.step m.answer) ys xs (λ m before is. is) h reads
+  more_reads ys h = always_both (λ m before. IsRead m.step m.answer) (λ m before. IsRead m.step m.answer) ys xs (λ m before is. is) h passes.reads
 
   more_deeds : (end : ℕ) (ys : List Made) → ((p : ℕ) → from ≤ p → p < end → Once (DeedHere p) ys) → AllDeeds end (ys ++ xs)
-  more_deeds end ys more p low high = elim (cases_lt p from) [ inl lt ↦ once_later (DeedHere p) ys xs (all p low lt) | inr ge ↦ deed_before p ys xs (more p ge high) ]
+  more_deeds end ys more p low high = elim (cases_lt p from) [ inl lt ↦ once_later (DeedHere p) ys xs (passes.deeds p low lt) | inr ge ↦ deed_before p ys xs (more p ge high) ]
 
   -- each page has a deed
+  pub all_bare : {F : Type 0} {rule : Rule F} → region.pages < from → SearchesBare rule d σ0 σ None
+  all_bare past = record { steps = xs; adds = passes.adds; few = omega (arith, passes.few, passes.within); outcome = (passes.reads, λ p low high. passes.deeds p low (omega (arith, past, high))) }
+
   pub none_bare : {F : Type 0} {rule : Rule F} {σ1 : Standing} → FindsBare from σ σ1 None → SearchesBare rule d σ0 σ1 None
   none_bare find =
-      let pages : σ.seat.profile.pages ≡ σ0.seat.profile.pages = ap (λ (s : Seat). s.profile.pages) adds.seat_is in let deeds = more_deeds (σ0.seat.profile.pages + 1) find.steps (λ p low high. find.outcome p low (omega (arith, high, pages))) in
-      record { steps = find.steps ++ xs; adds = adds_call {D = Anything} adds find.adds (λ v l stood met. tt); outcome = (more_reads find.steps (looks_read find.steps (scans_look find.steps find.scans)), deeds) }
+      let pages : σ.seat.profile.pages ≡ region.pages = ap (λ (s : Seat). s.profile.pages) passes.adds.seat_is in let deeds = more_deeds (region.pages + 1) find.steps (λ p low high. find.outcome p low (omega (arith, high, pages))) in
+      record { steps = find.steps ++ xs; adds = adds_call {D = Anything} passes.adds find.adds (λ v l stood met. tt); few = omega (arith, passes.few, passes.within, find.count, pages, length-append find.steps xs); outcome = (more_reads find.steps (looks_read find.steps (scans_look find.steps find.scans)), deeds) }
 
   module _ {σ1 : Standing} (page : ℕ) (find : FindsBare from σ σ1 (Some page)) where
-    found_reads : OnlyReads (find.steps ++ xs)
+    abbrev pub read : List Made
+    read = find.steps ++ xs
+
+    abbrev pub tried : ℕ → List Made
+    tried a = made (Deed page d) a ∷ read
+
+    found_reads : OnlyReads read
     found_reads = more_reads find.steps (looks_read find.steps (scans_look find.steps find.scans))
 
-    found_deeds : AllDeeds page (find.steps ++ xs)
+    found_deeds : AllDeeds page read
     found_deeds = more_deeds page find.steps find.outcome.lower
 
-    reads_adds : Adds σ0 σ1 (λ v l. IsClear v) (find.steps ++ xs)
-    reads_adds = adds_call {D = Anything} adds find.adds (λ v l stood met. tt)
+    reads_adds : Adds σ0 σ1 (λ v l. IsClear v) read
+    reads_adds = adds_call {D = Anything} passes.adds find.adds (λ v l stood met. tt)
 
-    of_region : IsPage σ0.seat.profile page
-    of_region = subst (λ (s : Seat). IsPage s.profile page) adds.seat_is find.outcome.of_region
+    of_region : IsPage region page
+    of_region = subst (λ (s : Seat). IsPage s.profile page) passes.adds.seat_is find.outcome.of_region
 
     -- there is room for the event of its deed
-    module _ {n spare : ℕ} (can : CanCall σ0 (λ v l. BareRoom σ0.seat.profile n spare v)) (law : (v : View) (l : Whole) → σ0.stands v l → spare + length (events_of σ0.seat.actor v) ≡ σ0.seat.room) where
+    module _ {n spare : ℕ} (can : CanCall σ0 (λ v l. BareRoom region n spare v)) (law : (v : View) (l : Whole) → σ0.stands v l → spare + length (events_of σ0.seat.actor v) ≡ σ0.seat.room) where
       wide : n + 1 ≤ spare
       wide = elim can.met.room.1 [
-        | inl known ↦ absurd (unknown σ0.seat.profile can.view page (find.steps ++ xs) (reads_adds.agreed can.view can.whole can.stood can.met.clear) (once_earlier (NoDeedHere page) (NoDeedHere page) find.steps xs (λ m before z. z) find.outcome.none) (known page of_region))
+        | inl known ↦ absurd (unknown region can.view page read (reads_adds.agreed can.view can.whole can.stood can.met.clear) (once_earlier (NoDeedHere page) (NoDeedHere page) find.steps xs (λ m before z. z) find.outcome.none) (known page of_region))
         | inr more ↦ more
       ]
 
       pub deed_room : {spare' : ℕ} → ((v : View) (l : Whole) → σ1.stands v l → spare' + length (events_of σ1.seat.actor v) ≡ σ1.seat.room) → 1 ≤ spare'
-      deed_room law' = let most = wide in room_kept {C = λ v l. IsClear v} 1 reads_adds (clear_can can) (vain_quiet (find.steps ++ xs) (reads_vain (find.steps ++ xs) found_reads)) law law' (omega (arith, most))
+      deed_room law' = let most = wide in room_kept {C = λ v l. IsClear v} 1 reads_adds (clear_can can) (vain_quiet read (reads_vain read found_reads)) law law' (omega (arith, most))
 
       -- and for those of the back end
-      pub serve_room : {σ2 : Standing} {spare' : ℕ} (a : ℕ) → Adds σ0 σ2 (λ v l. IsClear v) (made (Deed page d) a ∷ (find.steps ++ xs)) → ((v : View) (l : Whole) → σ2.stands v l → spare' + length (events_of σ2.seat.actor v) ≡ σ2.seat.room) → n ≤ spare'
+      pub serve_room : {σ2 : Standing} {spare' : ℕ} (a : ℕ) → Adds σ0 σ2 (λ v l. IsClear v) (tried a) → ((v : View) (l : Whole) → σ2.stands v l → spare' + length (events_of σ2.seat.actor v) ≡ σ2.seat.room) → n ≤ spare'
       serve_room a deed_adds law' = room_after {C = λ v l. IsClear v} n 1 deed_adds (clear_can can) (λ k v.
-          let none = ap length (events_quiet k v (find.steps ++ xs) (vain_quiet (find.steps ++ xs) (reads_vain (find.steps ++ xs) found_reads))) in let more = with_few (event_of k (epoch_of ((find.steps ++ xs) ++ v)) (Deed page d) a) (events_by k v (find.steps ++ xs)) in omega (arith, none, more)) law law' wide
+          let none = ap length (events_quiet k v read (vain_quiet read (reads_vain read found_reads))) in let more = with_few (event_of k (epoch_of (read ++ v)) (Deed page d) a) (events_by k v read) in omega (arith, none, more)) law law' wide
 
     module _ {σ2 : Standing} (a : ℕ) (makes : Makes σ1 σ2 (Deed page d) a) where
-      pub deed_adds : Adds σ0 σ2 (λ v l. IsClear v) (made (Deed page d) a ∷ (find.steps ++ xs))
+      pub deed_adds : Adds σ0 σ2 (λ v l. IsClear v) (tried a)
       deed_adds = adds_step {C = λ v l. IsClear v} {step = Deed page d} reads_adds makes (λ v l stood met. tt)
 
       -- another actor was first
-      pub lost_reads : a ≢ 0 → OnlyReads (made (Deed page d) a ∷ (find.steps ++ xs))
+      lost_reads : a ≢ 0 → OnlyReads (tried a)
       lost_reads ne = (IsRead.Reads page d a ne, found_reads)
 
-      pub lost_deeds : a ≢ 0 → AllDeeds (page + 1) (made (Deed page d) a ∷ (find.steps ++ xs))
+      few_tried : (ys : List Made) → length (ys ++ tried a) + 2 ≤ length ys + 2 * (page + 1)
+      few_tried ys = let from_there = find.outcome.from_there in omega (arith, passes.few, find.count, from_there, length-append ys (tried a), length-append find.steps xs)
+
+      lost_deeds : a ≢ 0 → AllDeeds (page + 1) (tried a)
       lost_deeds ne p low high = elim (cases_lt p page) [
         | inl lt ↦ inr (found_deeds p low lt)
         | inr ge ↦ let same : page ≡ p = omega (arith, high, ge) in inl (subst (λ q. ReadsDeed q (Deed page d)) same (ReadsDeed.Deeds d), ne)
       ]
 
+      pub lost_passes : a ≢ 0 → PassesDeeds (page + 1) σ0 σ2
+      lost_passes ne = record { steps = tried a; adds = deed_adds; reads = lost_reads ne; deeds = lost_deeds ne; within = let high = of_region.1 in omega (arith, high); few = let most = few_tried [] in omega (arith, most) }
+
       -- the deed was made
       module _ (made_it : a ≡ 0) where
-        deed_got : Leads σ0.seat.profile IsClear (IsReady page d) (made (Deed page d) a ∷ (find.steps ++ xs))
-        deed_got = ready σ0.seat.profile d page (made (Deed page d) a) (find.steps ++ xs) (GetsRight.Deeds d a made_it) (λ v clear. clear) (leads_as (vain_leads σ0.seat.profile (find.steps ++ xs) (reads_vain (find.steps ++ xs) found_reads)) (λ v clear. tt) (λ v w clear does. does)) (λ v agreed. deed_known page d a ((find.steps ++ xs) ++ v) made_it)
+        deed_got : Leads region IsClear (IsReady page d) (tried a)
+        deed_got = ready region d page (made (Deed page d) a) read (GetsRight.Deeds d a made_it) (λ v clear. clear) (leads_as (vain_leads region read (reads_vain read found_reads)) (λ v clear. tt) (λ v w clear does. does)) (λ v agreed. deed_known page d a (read ++ v) made_it)
 
         pub deed_can : CanCall σ0 (λ v l. IsClear v) → CanCall σ2 (λ v l. MayServe page d v)
         deed_can can = can_call {C = λ v l. IsClear v} deed_adds can (λ v l stood met. (deed_got.from v met (deed_adds.agreed v l stood met)).may)
@@ -499,21 +570,22 @@ module _ {σ0 σ : Standing} (d : Directory) (from : ℕ) (xs : List Made) (adds
           -- all grains of the page are known as free, so it isn't left
           pub not_left : CanCall σ0 (λ v l. IsClear v) → ServesPage rule page d σ2 σ3 None → ⊥
           not_left can serve =
-              let v : View = made (Deed page d) a ∷ ((find.steps ++ xs) ++ can.view) in
+              let v : View = made (Deed page d) a ∷ (read ++ can.view) in
               let may : MayServe page d v = (deed_got.from can.view can.met (deed_adds.agreed can.view can.whole can.stood can.met)).may in
-              serve.serves.outcome.not_free v may (serve.adds.agreed v _ (deed_adds.added can.view can.whole can.stood can.met) may) (λ g at. deed_frees page d a ((find.steps ++ xs) ++ can.view) g made_it at)
+              serve.serves.outcome.not_free v may (serve.adds.agreed v _ (deed_adds.added can.view can.whole can.stood can.met) may) (λ g at. deed_frees page d a (read ++ can.view) g made_it at)
 
           pub served_bare : (found : F) → ServesPage rule page d σ2 σ3 (Some found) → SearchesBare rule d σ0 σ3 (Some (record { page = page; found = found }))
           served_bare found serve = record {
-            steps = serve.steps ++ (made (Deed page d) a ∷ (find.steps ++ xs));
+            steps = serve.steps ++ (tried a);
             adds = adds_call {D = λ v l. MayServe page d v} deed_adds serve.adds (λ v l stood met. (deed_got.from v met (deed_adds.agreed v l stood met)).may);
+            few = let most = few_tried serve.steps in let high = of_region.1 in omega (arith, most, high, serve.serves.short);
             outcome = record {
               page = of_region;
-              before = (find.steps ++ xs);
+              before = read;
               reads = found_reads;
               lower = found_deeds;
               serve = serve.steps;
               serves = subst (λ (s : Seat). ServeSteps rule s.profile page d serve.steps (Some found)) deed_adds.seat_is serve.serves;
-              steps_are = ap (λ n. serve.steps ++ (made (Deed page d) n ∷ (find.steps ++ xs))) made_it;
+              steps_are = ap (λ n. serve.steps ++ (made (Deed page d) n ∷ read)) made_it;
             };
           }

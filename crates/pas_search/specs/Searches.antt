@@ -1,5 +1,5 @@
 -- What a search asks and promises.
-use Rattle.std.specs.Prelude.{ℕ, ◌+◌, ◌<◌, ◌≤◌, ◌≡◌, Bool, true, false, ◌⊎◌, List, ◌∷◌, ◌++◌, length, Result, MatchResult, Option, Some, MatchOption}
+use Rattle.std.specs.Prelude.{ℕ, ◌+◌, ◌*◌, ◌/◌, ◌<◌, ◌≤◌, ◌≡◌, Bool, true, false, ◌⊎◌, List, ◌∷◌, ◌++◌, length, Result, MatchResult, Option, Some, MatchOption}
 use Rattle.pas_profile.specs.Profiles.{IsPage}
 use Rattle.pas_profile.specs.declared.directory.Directory.{Directory}
 use Rattle.pas_profile.specs.declared.profile.Profile.{Profile}
@@ -39,6 +39,19 @@ pub record SearchRoom (f : Profile) (d : Directory) (n spare : ℕ) (v : View) :
 pub record BareRoom (f : Profile) (n spare : ℕ) (v : View) : Type 0 where
   pub clear : IsClear v
   pub room : HasRoom f n spare v
+
+-- ---- how many steps it makes, where a back end makes `each` at most on a page
+-- of the offered pages below `next`: a look at each eligible word, and for each page one look more, a claim and the back end's steps
+unfoldable pub offered_steps : ℕ → ℕ → ℕ
+offered_steps each next = next / 64 + next * (each + 2)
+
+-- of pages without a deed: a look at each deed word, a deed that another actor was first to make, and the back end's steps once
+abbrev pub bare_steps : ℕ → ℕ → ℕ
+bare_steps each pages = 2 * pages + each
+
+-- of a whole search: both, and the verdict, which looks for each 64 pages at their deed words and at a parked word
+abbrev pub search_steps : ℕ → ℕ → ℕ
+search_steps each pages = offered_steps each (pages + 1) + bare_steps each pages + 65 * (pages / 64 + 1)
 
 -- ---- how the page was chosen
 -- its eligible bit was read as 1, and the call never had its right before
@@ -120,6 +133,7 @@ pub record Searches {F : Type 0} (rule : Rule F) (tells : Bool) (d : Directory) 
   pub steps : List Made
   pub adds : Adds desk desk' (λ v l. MaySearch d v) steps
   pub searches : AreSearch steps
+  pub few : length steps ≤ search_steps rule.steps desk.seat.profile.pages
   pub outcome : MatchResult answer (IsServed rule desk.seat.profile d steps) (IsRefused rule.no_fit desk.seat.profile d steps)
   pub told : tells ≡ true → (v : View) (l : Whole) → desk.stands v l → MaySearch d v → IsTold (λ (s : Served F). s.page) rule.no_fit desk.seat.profile d l (triples desk.seat.actor steps ++ l) answer
 
@@ -135,15 +149,18 @@ pub record Searching (no_fit : Readings → Type 0) (f : Profile) (d : Directory
   pub zeros : (p : ℕ) → 1 ≤ p → p < next → is_marked marks p ≡ false → Once (ZeroHere d p) steps
   pub lacked : (p : ℕ) → is_marked marks p ≡ false → Always (LacksAfter p) steps
 
--- and no page from `next` on is marked
+-- and no page from `next` on is marked. The steps leave room for those on one page more.
 pub record GoesOn {F : Type 0} (rule : Rule F) (f : Profile) (d : Directory) (next : ℕ) (marks : List ℕ) (steps : List Made) : Type 0 where
   pub searching : Searching rule.no_fit f d next marks steps
   pub rest : (p : ℕ) → next ≤ p → is_marked marks p ≡ false
+  pub within : next ≤ f.pages + 1
+  pub few : length steps + (rule.steps + 2) ≤ offered_steps rule.steps next
 
 pub record SearchesOffered {F : Type 0} (rule : Rule F) (d : Directory) (desk desk' : Standing) (marks : List ℕ) (found : Option (Served F)) : Type 0 where
   pub steps : List Made
   pub adds : Adds desk desk' (λ v l. MaySearch d v) steps
   pub searches : AreSearch steps
+  pub few : length steps ≤ offered_steps rule.steps (desk.seat.profile.pages + 1)
   pub outcome : MatchOption found
       (Searching rule.no_fit desk.seat.profile d (desk.seat.profile.pages + 1) marks steps)
       (λ served. Finds rule desk.seat.profile d (FromOffered rule.no_fit d served.page) steps served)
@@ -162,6 +179,7 @@ pub record ServesBare {F : Type 0} (rule : Rule F) (f : Profile) (d : Directory)
 pub record SearchesBare {F : Type 0} (rule : Rule F) (d : Directory) (desk desk' : Standing) (found : Option (Served F)) : Type 0 where
   pub steps : List Made
   pub adds : Adds desk desk' (λ v l. IsClear v) steps
+  pub few : length steps ≤ bare_steps rule.steps desk.seat.profile.pages
   pub outcome : MatchOption found
       (OnlyReads steps × AllDeeds (desk.seat.profile.pages + 1) steps)
       (ServesBare rule desk.seat.profile d steps)

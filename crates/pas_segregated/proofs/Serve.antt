@@ -196,6 +196,7 @@ module _ (heap class : ℕ) {tells : Bool} {σ σ' : Standing} (served : Served 
   refills_ok = record {
     searched = searches.steps;
     searches = searches.searches;
+    few = searches.few;
     after = [];
     adds = searches.adds;
     outcome = record {
@@ -217,4 +218,4 @@ module _ (heap class : ℕ) {tells : Bool} {σ σ' : Standing} (served : Served 
   }
 
 pub refills_err : (heap class : ℕ) {tells : Bool} {σ σ' : Standing} (room : NoRoom) → Searches (exclusive class) tells (class_directory heap class) σ σ' (Err room) → Refills (exclusive_slots heap class) tells σ σ' (Err room)
-refills_err heap class room searches = record { searched = searches.steps; searches = searches.searches; after = []; adds = searches.adds; outcome = (searches.outcome, refl); told = searches.told }
+refills_err heap class room searches = record { searched = searches.steps; searches = searches.searches; few = searches.few; after = []; adds = searches.adds; outcome = (searches.outcome, refl); told = searches.told }

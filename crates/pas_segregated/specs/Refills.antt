@@ -13,7 +13,7 @@ use Rattle.pas_steps.specs.Evidence.{Readings}
 use Rattle.pas_steps.specs.Kinds.{returning, Only}
 use Rattle.pas_steps.specs.declared.step.Made.{Made}
 use Rattle.pas_search.specs.Kinds.{AreSearch, EventsAt}
-use Rattle.pas_search.specs.Searches.{MaySearch, FromOffered, ByDeed, FewEvents, IsRefused}
+use Rattle.pas_search.specs.Searches.{search_steps, MaySearch, FromOffered, ByDeed, FewEvents, IsRefused}
 use Rattle.pas_search.specs.Telling.{IsTold}
 use Rattle.pas_segregated.specs.Masks.{AreStarts}
 use Rattle.pas_bits.specs.Masks.{HasMember}
@@ -27,10 +27,11 @@ pub record Filling : Type 1 where
   pub class : ℕ  -- the class of the slots
   pub no_fit : Readings → Type 0  -- no slot fits of a page whose grains were read so
   pub took : ℕ → List Made → Mask4 → Type 0  -- the steps of the call took these slots of the page
+  pub steps : ℕ  -- how many steps a page's turn takes at most
 
 -- of an exclusive page: all slots that are free with all their grains
 abbrev pub exclusive_slots : ℕ → ℕ → Filling
-exclusive_slots heap class = record { directory = class_directory heap class; class = class; no_fit = NoSlot class; took = TookSlots class }
+exclusive_slots heap class = record { directory = class_directory heap class; class = class; no_fit = NoSlot class; took = TookSlots class; steps = 27 }
 
 -- ---- what it gives
 -- the grains of the slots are the actor's, and their page's right is just where it comes with them; all else is as it was
@@ -68,10 +69,12 @@ pub record GivesSlots (fill : Filling) (f : Profile) (searched after : List Made
 
 -- ---- a refill
 -- The pages of the directory were searched, and the page that was found was left where it is a shared one. The answer has its reasons in the steps of
--- the search, and is true of the states at entry and at exit where the desk tells them. After a refusal no step followed.
+-- the search, and is true of the states at entry and at exit where the desk tells them. After a refusal no step followed. The steps are those of a
+-- search at most.
 pub record Refills (fill : Filling) (tells : Bool) (desk desk' : Standing) (answer : Result Slots NoRoom) : Type 0 where
   pub searched : List Made
   pub searches : AreSearch searched
+  pub few : length searched ≤ search_steps fill.steps desk.seat.profile.pages
   pub after : List Made
   pub adds : Adds desk desk' (λ v l. MaySearch fill.directory v) (after ++ searched)
   pub outcome : MatchResult answer (GivesSlots fill desk.seat.profile searched after) (λ room. IsRefused fill.no_fit desk.seat.profile fill.directory searched room × (after ≡ []))

@@ -1,15 +1,27 @@
-use Rattle.std.proofs.Common.{◌≡◌, ◌∙◌, ◌==◌, ◌||◌, ◌+◌, ap, sym, subst, arith, None}
+use Rattle.std.proofs.Common.{◌≡◌, ◌∙◌, ◌==◌, ◌||◌, ◌+◌, ap, sym, subst, refl, arith, rules, [], None}
+use Rattle.pas_profile.specs.declared.profile.Profile.{Profile}
 use Rattle.pas_scan.specs.Marks.{is_marked}
+use Rattle.pas_steps.proofs.Adding.{adds_none}
 use Rattle.pas_search.specs.Searches.{MaySearch, SearchesOffered}
 use Rattle.pas_search.proofs.ForBackEnds.{room_kept}
-use Rattle.pas_search.proofs.PagesThatServe.{none_offered, further, claim_adds, claim_quiet, lost_goes, serve_can, serve_adds, found_there, left_goes}
+use Rattle.pas_search.proofs.PagesThatServe.{offered_first, all_offered, claim_can, none_offered, further, claim_adds, claim_quiet, lost_goes, serve_can, serve_adds, found_there, left_goes}
 use Rattle.pas_search.proofs.offered.search_offered.Goals as goal
+
+pub loop-looked-init : goal.loop-looked-init
+loop-looked-init g c =
+    let first = c.requires.next in let D = g.D.Desk in
+    record { low = omega (arith, first); directory = refl; steps = []; adds = adds_none; goes = record { searching = search rules; rest = λ p low. c.requires.unfit p; within = omega (arith, first); few = let few = offered_first (g.S.Serving.rule c.args.serving.now).steps first in omega (arith, few) }; home = refl }
 
 pub returns-in_default-clause-found : goal.returns-in_default-clause-found
 returns-in_default-clause-found g c =
     let i = c.loop-looked.invariant in let l = c.loop-looked.looked in let D = g.D.Desk in let d = c.args.looked.now.directory in let n = c.first_offered.new.looked in
     subst (λ m. SearchesOffered (g.S.Serving.rule c.args.serving.now) d (D.standing c.args.desk.now) (D.standing c.first_offered.new.desk) m None) (sym c.first_offered.ensures.unfit)
-    (none_offered d l.next l.unfit i.steps i.adds i.goes i.directory n.next c.in_default.ensures.found)
+    (none_offered d l.next l.unfit i.steps i.adds i.goes i.directory n.next (let pages : c.profile.result.now.pages ≡ (g.D.Desk.standing c.args.desk.now).seat.profile.pages = ap (λ (f : Profile). f.pages) c.profile.ensures in omega (arith, pages, c.loop-looked-test.true)) c.in_default.ensures.found)
+
+pub claim-requires-clause-can : goal.claim-requires-clause-can
+claim-requires-clause-can g c =
+    let i = c.loop-looked.invariant in let l = c.loop-looked.looked in let n = c.first_offered.new.looked in
+    claim_can c.args.looked.now.directory l.next l.unfit i.steps i.adds i.goes i.directory n.next c.in-Some.page c.in-Some.ensures.found c.requires.can
 
 pub serve-requires-clause-can : goal.serve-requires-clause-can
 serve-requires-clause-can g c =
@@ -51,3 +63,8 @@ loop-looked-preserved g c =
       goes = lost_goes d l.next l.unfit i.steps i.adds i.goes i.directory n.next p c.in-Some.ensures.found h.answer h.calls.adds n.unfit c.first_offered.ensures.unfit (sym h.got_is ∙ c.if-claim.false);
       home = c.claim.ensures.home ∙ c.first_offered.ensures.home ∙ i.home;
     }
+
+pub returns-clause-found : goal.returns-clause-found
+returns-clause-found g c =
+    let i = c.loop-looked.invariant in let l = c.loop-looked.looked in
+    all_offered c.args.looked.now.directory l.next l.unfit i.steps i.adds i.goes (let pages : c.profile.result.now.pages ≡ (g.D.Desk.standing c.args.desk.now).seat.profile.pages = ap (λ (f : Profile). f.pages) c.profile.ensures in omega (arith, pages, c.loop-looked-test.false))
