@@ -229,8 +229,8 @@ pub record Ends {F : Type 0} (rule : Rule F) (d : Directory) (desk desk' : Stand
   pub few : length steps ≤ search_steps rule.steps desk.seat.profile.pages
   pub outcome : MatchResult answer (IsServed rule desk.seat.profile d steps) (IsRefused rule.no_fit desk.seat.profile d steps)
 
-pub ends_offered : {F : Type 0} {rule : Rule F} {σ σ1 : Standing} {d' : Directory} (d : Directory) → d' ≡ d → (marks : List ℕ) (served : Served F) → SearchesOffered rule d' σ σ1 marks (Some served) → Ends rule d σ σ1 (Ok served)
-ends_offered {F} {rule} {σ} {σ1} d same marks served found = let offered : SearchesOffered rule d σ σ1 marks (Some served) = subst (λ x. SearchesOffered rule x σ σ1 marks (Some served)) same found in
+pub ends_offered : {F : Type 0} {rule : Rule F} {σ σ1 : Standing} {d' : Directory} (d : Directory) → d' ≡ d → {marks : List ℕ} {served : Served F} → SearchesOffered rule d' σ σ1 marks (Some served) → Ends rule d σ σ1 (Ok served)
+ends_offered {F} {rule} {σ} {σ1} d same {marks} {served} found = let offered : SearchesOffered rule d σ σ1 marks (Some served) = subst (λ x. SearchesOffered rule x σ σ1 marks (Some served)) same found in
     let o = offered.outcome in
     record { steps = offered.steps; adds = offered.adds; searches = offered.searches; few = omega (arith, offered.few); outcome = record { page = o.page; keeps = o.keeps; choice = inl o.choice; shows = o.shows; serves = o.serves; few = o.few; events = o.events } }
 
@@ -282,7 +282,7 @@ may_can can = record { view = can.view; whole = can.whole; stood = can.stood; me
 profile_kept : {σ σ' : Standing} {C : View → Whole → Type 0} {xs : List Made} → Adds σ σ' C xs → σ'.seat.profile ≡ σ.seat.profile
 profile_kept adds = ap (λ (s : Seat). s.profile) adds.seat_is
 
-module _ {F : Type 0} {rule : Rule F} {σ σ1 : Standing} {d' : Directory} (d : Directory) (same : d' ≡ d) (marks : List ℕ) (found : SearchesOffered rule d' σ σ1 marks None) where
+module _ {F : Type 0} {rule : Rule F} {σ σ1 : Standing} {d' : Directory} (d : Directory) (same : d' ≡ d) {marks : List ℕ} (found : SearchesOffered rule d' σ σ1 marks None) where
   offered : SearchesOffered rule d σ σ1 marks None
   offered = subst (λ x. SearchesOffered rule x σ σ1 marks None) same found
 
@@ -298,8 +298,8 @@ module _ {F : Type 0} {rule : Rule F} {σ σ1 : Standing} {d' : Directory} (d : 
   pages_kept : σ1.seat.profile.pages ≡ f.pages
   pages_kept = ap (λ (x : Profile). x.pages) (profile_kept offered.adds)
 
-  pub ends_bare : {σ2 : Standing} (served : Served F) → SearchesBare rule d σ1 σ2 (Some served) → Ends rule d σ σ2 (Ok served)
-  ends_bare served bare = let found : ServesBare rule f d bare.steps served = subst (λ x. ServesBare rule x d bare.steps served) (profile_kept offered.adds) bare.outcome in record {
+  pub ends_bare : {σ2 : Standing} {served : Served F} → SearchesBare rule d σ1 σ2 (Some served) → Ends rule d σ σ2 (Ok served)
+  ends_bare {served = served} bare = let found : ServesBare rule f d bare.steps served = subst (λ x. ServesBare rule x d bare.steps served) (profile_kept offered.adds) bare.outcome in record {
     steps = bare.steps ++ offered.steps;
     adds = bare_adds bare.adds;
     few = omega (arith, offered.few, bare.few, pages_kept, length-append bare.steps offered.steps);

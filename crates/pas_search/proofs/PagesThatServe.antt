@@ -349,78 +349,91 @@ module _ {F : Type 0} (rule : Rule F) (f : Profile) (d : Directory) (page : ℕ)
         few = few;
       }
 
-module _ {F : Type 0} {rule : Rule F} {σ0 σ : Standing} (d : Directory) (next : ℕ) (marks : List ℕ) (xs : List Made) (adds : Adds σ0 σ (λ v l. MaySearch d v) xs) (goes : GoesOn rule σ0.seat.profile d next marks xs) where
+-- the search of offered pages, so far
+pub record TriesPages {F : Type 0} (rule : Rule F) (d : Directory) (next : ℕ) (marks : List ℕ) (desk desk' : Standing) : Type 0 where
+  pub steps : List Made
+  pub adds : Adds desk desk' (λ v l. MaySearch d v) steps
+  pub goes : GoesOn rule desk.seat.profile d next marks steps
+
+module _ {F : Type 0} {rule : Rule F} {σ0 σ : Standing} {d : Directory} {next : ℕ} {marks : List ℕ} (tries : TriesPages rule d next marks σ0 σ) where
   abbrev pub f : Profile
   f = σ0.seat.profile
 
+  abbrev pub earlier : List Made
+  earlier = tries.steps
+
   -- all pages were searched
   pub all_offered : f.pages < next → SearchesOffered rule d σ0 σ marks None
-  all_offered past = let end : next ≡ f.pages + 1 = omega (arith, past, goes.within) in
-      record { steps = xs; adds = adds; searches = goes.searching.searches; few = subst (λ n. length xs ≤ offered_steps rule.steps n) end (let few = goes.few in omega (arith, few)); outcome = subst (λ n. Searching rule.no_fit f d n marks xs) end goes.searching }
+  all_offered past = let end : next ≡ f.pages + 1 = omega (arith, past, tries.goes.within) in
+      record { steps = earlier; adds = tries.adds; searches = tries.goes.searching.searches; few = subst (λ n. length earlier ≤ offered_steps rule.steps n) end (let few = tries.goes.few in omega (arith, few)); outcome = subst (λ n. Searching rule.no_fit f d n marks earlier) end tries.goes.searching }
 
   -- no page is offered any more
-  pub none_offered : {σ1 : Standing} {d' : Directory} → d' ≡ d → (next' : ℕ) → next ≤ f.pages → FindsOffered d' next σ σ1 next' None → SearchesOffered rule d σ0 σ1 marks None
-  none_offered {σ1} same next' low found =
+  pub none_offered : {σ1 : Standing} {d' : Directory} → d' ≡ d → {next' : ℕ} → next ≤ f.pages → FindsOffered d' next σ σ1 next' None → SearchesOffered rule d σ0 σ1 marks None
+  none_offered {σ1} same {next'} low found =
       let find : FindsOffered d next σ σ1 next' None = subst (λ x. FindsOffered x next σ σ1 next' None) same found in
-      let pages : σ.seat.profile.pages ≡ f.pages = ap (λ (s : Seat). s.profile.pages) adds.seat_is in
-      let s : Searching rule.no_fit f d (f.pages + 1) marks (find.steps ++ xs) = zeros_searching rule f d next marks (f.pages + 1) find.steps xs (reads_vain find.steps (looks_read find.steps (scans_look find.steps find.scans))) goes.searching
-      (λ p low high. zero_before d p find.steps xs (goes.searching.untouched p).right (find.outcome.1 p low (omega (arith, high, pages)))) in
-      record { steps = find.steps ++ xs; adds = adds_call {D = Anything} adds find.adds (λ v l stood met. tt); searches = s.searches; few = omega (arith, goes.few, find.count, pages, offered_further rule.steps low, length-append find.steps xs); outcome = s }
+      let pages : σ.seat.profile.pages ≡ f.pages = ap (λ (s : Seat). s.profile.pages) tries.adds.seat_is in
+      let s : Searching rule.no_fit f d (f.pages + 1) marks (find.steps ++ earlier) = zeros_searching rule f d next marks (f.pages + 1) find.steps earlier (reads_vain find.steps (looks_read find.steps (scans_look find.steps find.scans))) tries.goes.searching
+      (λ p low high. zero_before d p find.steps earlier (tries.goes.searching.untouched p).right (find.outcome.1 p low (omega (arith, high, pages)))) in
+      record { steps = find.steps ++ earlier; adds = adds_call {D = Anything} tries.adds find.adds (λ v l stood met. tt); searches = s.searches; few = omega (arith, tries.goes.few, find.count, pages, offered_further rule.steps low, length-append find.steps earlier); outcome = s }
 
-  module _ {σ1 : Standing} {d' : Directory} (same : d' ≡ d) (next' page : ℕ) (found : FindsOffered d' next σ σ1 next' (Some page)) where
+  module _ {σ1 : Standing} {d' : Directory} (same : d' ≡ d) {next' page : ℕ} (found : FindsOffered d' next σ σ1 next' (Some page)) where
     pub find : FindsOffered d next σ σ1 next' (Some page)
     find = subst (λ x. FindsOffered x next σ σ1 next' (Some page)) same found
 
     abbrev pub looked : List Made
-    looked = find.steps ++ xs
+    looked = find.steps ++ earlier
 
     vain : AreVain find.steps
     vain = reads_vain find.steps (looks_read find.steps (scans_look find.steps find.scans))
 
     first : IsFirstOffered f d next find.steps page
-    first = subst (λ (s : Seat). IsFirstOffered s.profile d next find.steps page) adds.seat_is find.outcome.1
+    first = subst (λ (s : Seat). IsFirstOffered s.profile d next find.steps page) tries.adds.seat_is find.outcome.1
 
     at_page : Searching rule.no_fit f d page marks looked
-    at_page = zeros_searching rule f d next marks page find.steps xs vain goes.searching (λ p low high. zero_before d p find.steps xs (goes.searching.untouched p).right (first.lower p low high))
+    at_page = zeros_searching rule f d next marks page find.steps earlier vain tries.goes.searching (λ p low high. zero_before d p find.steps earlier (tries.goes.searching.untouched p).right (first.lower p low high))
 
     rest_at : (p : ℕ) → page ≤ p → is_marked marks p ≡ false
-    rest_at p low = let from = first.from_next in goes.rest p (omega (arith, from, low))
+    rest_at p low = let from = first.from_next in tries.goes.rest p (omega (arith, from, low))
 
     pub further : next' ≡ page + 1
     further = find.outcome.0
 
     deed_at : (v : View) → KnowsDeed page d (looked ++ v)
-    deed_at v = subst (KnowsDeed page d) (sym (append_assoc find.steps xs v)) (first.deed (xs ++ v))
+    deed_at v = subst (KnowsDeed page d) (sym (append_assoc find.steps earlier v)) (first.deed (earlier ++ v))
 
     lacked : (v : View) → MaySearch d v → Agreed f v looked → has_right v page ≡ false
-    lacked v met agreed = sym ((goes.searching.still.from v met (agreed_later f v find.steps xs agreed)).right page) ∙ first.lacks (xs ++ v) (agreed_first f v find.steps xs agreed)
+    lacked v met agreed = sym ((tries.goes.searching.still.from v met (agreed_later f v find.steps earlier agreed)).right page) ∙ first.lacks (earlier ++ v) (agreed_first f v find.steps earlier agreed)
 
     pub claim_can : CanCall σ0 (λ v l. MaySearch d v) → CanCall σ1 (λ v l. KnowsDeed page d v)
-    claim_can can = can_call {C = λ v l. MaySearch d v} (adds_call {D = Anything} adds find.adds (λ v l stood met. tt)) can (λ v l stood met. deed_at v)
+    claim_can can = can_call {C = λ v l. MaySearch d v} (adds_call {D = Anything} tries.adds find.adds (λ v l stood met. tt)) can (λ v l stood met. deed_at v)
 
-    module _ {σ2 : Standing} (a : ℕ) (claim : Adds σ1 σ2 (λ v l. KnowsDeed page d v) (made (TakeRight page d) a ∷ [])) where
+    module _ {σ2 : Standing} {a : ℕ} (claim : Adds σ1 σ2 (λ v l. KnowsDeed page d v) (made (TakeRight page d) a ∷ [])) where
       abbrev pub claimed : List Made
       claimed = made (TakeRight page d) a ∷ looked
 
       -- with the steps of the back end
       few_after : (ys : List Made) → length ys ≤ rule.steps → length (ys ++ claimed) + (rule.steps + 2) ≤ offered_steps rule.steps (page + 1)
-      few_after ys short = let further = offered_further rule.steps first.from_next in omega (arith, goes.few, find.count, further, short, length-append ys claimed, length-append find.steps xs)
+      few_after ys short = let further = offered_further rule.steps first.from_next in omega (arith, tries.goes.few, find.count, further, short, length-append ys claimed, length-append find.steps earlier)
 
       pub claim_adds : Adds σ0 σ2 (λ v l. MaySearch d v) claimed
-      claim_adds = adds_call {D = λ v l. KnowsDeed page d v} (adds_call {D = Anything} adds find.adds (λ v l stood met. tt)) claim (λ v l stood met. deed_at v)
+      claim_adds = adds_call {D = λ v l. KnowsDeed page d v} (adds_call {D = Anything} tries.adds find.adds (λ v l stood met. tt)) claim (λ v l stood met. deed_at v)
 
       pub claim_quiet : AreQuiet claimed
       claim_quiet = (λ k e. refl, at_page.quiet)
 
       -- another actor was first
-      pub lost_goes : (marks' : List ℕ) → marks' ≡ marks → has_bit a (page % 64) ≡ false → GoesOn rule f d next' marks' claimed
-      lost_goes marks' unmarked bit = subst (λ k. GoesOn rule f d k marks' claimed) (sym further) (subst (λ x. GoesOn rule f d (page + 1) x claimed) (sym unmarked) (record {
-        searching = zeros_searching rule f d page marks (page + 1) (made (TakeRight page d) a ∷ []) looked (record { rights = claim_rights page d a false bit; quiet = λ k e. refl }, tt) at_page
-            (λ p low high. let same : page ≡ p = omega (arith, low, high) in inl (subst (λ q. ReadsEligible d q (TakeRight page d) × (has_bit a (q % 64) ≡ false) × (has_right looked q ≡ false)) same (ReadsEligible.Claims, bit, (at_page.untouched page).right)));
-        rest = λ p low. rest_at p (omega (arith, low));
-        within = let high = first.of_region.1 in omega (arith, high);
-        few = few_after [] (omega arith);
-      }))
+      pub lost_tries : {marks' : List ℕ} → marks' ≡ marks → has_bit a (page % 64) ≡ false → TriesPages rule d next' marks' σ0 σ2
+      lost_tries {marks'} unmarked bit = record {
+        steps = claimed;
+        adds = claim_adds;
+        goes = subst (λ k. GoesOn rule f d k marks' claimed) (sym further) (subst (λ x. GoesOn rule f d (page + 1) x claimed) (sym unmarked) (record {
+          searching = zeros_searching rule f d page marks (page + 1) (made (TakeRight page d) a ∷ []) looked (record { rights = claim_rights page d a false bit; quiet = λ k e. refl }, tt) at_page
+              (λ p low high. let same : page ≡ p = omega (arith, low, high) in inl (subst (λ q. ReadsEligible d q (TakeRight page d) × (has_bit a (q % 64) ≡ false) × (has_right looked q ≡ false)) same (ReadsEligible.Claims, bit, (at_page.untouched page).right)));
+          rest = λ p low. rest_at p (omega (arith, low));
+          within = let high = first.of_region.1 in omega (arith, high);
+          few = few_after [] (omega arith);
+        }));
+      }
 
       module _ (bit : has_bit a (page % 64) ≡ true) where
         got : Leads f (MaySearch d) (IsReady page d) claimed
@@ -436,18 +449,18 @@ module _ {F : Type 0} {rule : Rule F} {σ0 σ : Standing} (d : Directory) (next 
           pub serve_adds : (answer : Option F) (serve : ServesPage rule page d σ2 σ3 answer) → Adds σ0 σ3 (λ v l. MaySearch d v) (serve.steps ++ claimed)
           serve_adds answer serve = adds_call {D = λ v l. MayServe page d v} claim_adds serve.adds (λ v l stood met. (got.from v met (claim_adds.agreed v l stood met)).may)
 
-          pub found_there : (marks' : List ℕ) (found : F) → ServesPage rule page d σ2 σ3 (Some found) → SearchesOffered rule d σ0 σ3 marks' (Some (record { page = page; found = found }))
-          found_there marks' found serve = let s = at_page in record {
+          pub found_there : (marks' : List ℕ) {found : F} → ServesPage rule page d σ2 σ3 (Some found) → SearchesOffered rule d σ0 σ3 marks' (Some (record { page = page; found = found }))
+          found_there marks' {found} serve = let s = at_page in record {
             steps = serve.steps ++ claimed;
             adds = serve_adds (Some found) serve;
             few = let most = few_after serve.steps serve.serves.short in let high : page + 1 ≤ f.pages + 1 = (let h = first.of_region.1 in omega (arith, h)) in let all = offered_grows rule.steps high in omega (arith, most, all);
             searches = served_search page serve.steps claimed serve.serves.only (inl (GetsRight.Claims d a bit)) (got_search f d page (made (TakeRight page d) a) looked (GetsRight.Claims d a bit) s.searches);
             outcome = from_offered rule f d page marks (made (TakeRight page d) a) looked serve.steps (GetsRight.Claims d a bit) (λ k e. refl) (IsOnPage.Claims d, tt) serve.serves.only.on got s found (serve_at (Some found) serve) first.of_region
-                (offered_before d page find.steps xs vain (goes.searching.untouched page).right (goes.searching.lacked page (rest_at page (omega arith))) first.one);
+                (offered_before d page find.steps earlier vain (tries.goes.searching.untouched page).right (tries.goes.searching.lacked page (rest_at page (omega arith))) first.one);
           }
 
-          pub left_goes : (k : ℕ) → k ≡ page + 1 → (marks' : List ℕ) → ((p : ℕ) → is_marked marks' p ≡ ((page == p) || is_marked marks p)) → (serve : ServesPage rule page d σ2 σ3 None) → GoesOn rule f d k marks' (serve.steps ++ claimed)
-          left_goes k is marks' more serve = subst (λ j. GoesOn rule f d j marks' (serve.steps ++ claimed)) (sym is) (goes_on rule f d page marks (made (TakeRight page d) a) looked serve.steps (GetsRight.Claims d a bit) (λ k e. refl) (IsOnPage.Claims d, tt) serve.serves.only.on got at_page marks' more (serve_at None serve) lacked rest_at first.of_region.1 (few_after serve.steps serve.serves.short))
+          pub left_tries : {k : ℕ} → k ≡ page + 1 → (marks' : List ℕ) → ((p : ℕ) → is_marked marks' p ≡ ((page == p) || is_marked marks p)) → (serve : ServesPage rule page d σ2 σ3 None) → TriesPages rule d k marks' σ0 σ3
+          left_tries is marks' more serve = record { steps = serve.steps ++ claimed; adds = serve_adds None serve; goes = subst (λ j. GoesOn rule f d j marks' (serve.steps ++ claimed)) (sym is) (goes_on rule f d page marks (made (TakeRight page d) a) looked serve.steps (GetsRight.Claims d a bit) (λ k e. refl) (IsOnPage.Claims d, tt) serve.serves.only.on got at_page marks' more (serve_at None serve) lacked rest_at first.of_region.1 (few_after serve.steps serve.serves.short)) }
 
 pub deed_before : (p : ℕ) (ys xs : List Made) → Once (DeedHere p) ys → Once (DeedHere p) (ys ++ xs)
 deed_before p ys xs h = once_earlier (DeedHere p) (DeedHere p) ys xs (λ m before z. z) h
@@ -481,7 +494,7 @@ pub record PassesDeeds (from : ℕ) (desk desk' : Standing) : Type 0 where
   pub within : from ≤ desk.seat.profile.pages + 1
   pub few : length steps + 2 ≤ 2 * from
 
-module _ {σ0 σ : Standing} (d : Directory) (from : ℕ) (passes : PassesDeeds from σ0 σ) where
+module _ {σ0 σ : Standing} (d : Directory) {from : ℕ} (passes : PassesDeeds from σ0 σ) where
   abbrev pub region : Profile
   region = σ0.seat.profile
 
@@ -503,7 +516,7 @@ module _ {σ0 σ : Standing} (d : Directory) (from : ℕ) (passes : PassesDeeds 
       let pages : σ.seat.profile.pages ≡ region.pages = ap (λ (s : Seat). s.profile.pages) passes.adds.seat_is in let deeds = more_deeds (region.pages + 1) find.steps (λ p low high. find.outcome p low (omega (arith, high, pages))) in
       record { steps = find.steps ++ xs; adds = adds_call {D = Anything} passes.adds find.adds (λ v l stood met. tt); few = omega (arith, passes.few, passes.within, find.count, pages, length-append find.steps xs); outcome = (more_reads find.steps (looks_read find.steps (scans_look find.steps find.scans)), deeds) }
 
-  module _ {σ1 : Standing} (page : ℕ) (find : FindsBare from σ σ1 (Some page)) where
+  module _ {σ1 : Standing} {page : ℕ} (find : FindsBare from σ σ1 (Some page)) where
     abbrev pub read : List Made
     read = find.steps ++ xs
 
@@ -534,11 +547,11 @@ module _ {σ0 σ : Standing} (d : Directory) (from : ℕ) (passes : PassesDeeds 
       deed_room law' = let most = wide in room_kept {C = λ v l. IsClear v} 1 reads_adds (clear_can can) (vain_quiet read (reads_vain read found_reads)) law law' (omega (arith, most))
 
       -- and for those of the back end
-      pub serve_room : {σ2 : Standing} {spare' : ℕ} (a : ℕ) → Adds σ0 σ2 (λ v l. IsClear v) (tried a) → ((v : View) (l : Whole) → σ2.stands v l → spare' + length (events_of σ2.seat.actor v) ≡ σ2.seat.room) → n ≤ spare'
-      serve_room a deed_adds law' = room_after {C = λ v l. IsClear v} n 1 deed_adds (clear_can can) (λ k v.
+      pub serve_room : {σ2 : Standing} {spare' : ℕ} {a : ℕ} → Adds σ0 σ2 (λ v l. IsClear v) (tried a) → ((v : View) (l : Whole) → σ2.stands v l → spare' + length (events_of σ2.seat.actor v) ≡ σ2.seat.room) → n ≤ spare'
+      serve_room {a = a} deed_adds law' = room_after {C = λ v l. IsClear v} n 1 deed_adds (clear_can can) (λ k v.
           let none = ap length (events_quiet k v read (vain_quiet read (reads_vain read found_reads))) in let more = with_few (event_of k (epoch_of (read ++ v)) (Deed page d) a) (events_by k v read) in omega (arith, none, more)) law law' wide
 
-    module _ {σ2 : Standing} (a : ℕ) (makes : Makes σ1 σ2 (Deed page d) a) where
+    module _ {σ2 : Standing} {a : ℕ} (makes : Makes σ1 σ2 (Deed page d) a) where
       pub deed_adds : Adds σ0 σ2 (λ v l. IsClear v) (tried a)
       deed_adds = adds_step {C = λ v l. IsClear v} {step = Deed page d} reads_adds makes (λ v l stood met. tt)
 
@@ -574,8 +587,8 @@ module _ {σ0 σ : Standing} (d : Directory) (from : ℕ) (passes : PassesDeeds 
               let may : MayServe page d v = (deed_got.from can.view can.met (deed_adds.agreed can.view can.whole can.stood can.met)).may in
               serve.serves.outcome.not_free v may (serve.adds.agreed v _ (deed_adds.added can.view can.whole can.stood can.met) may) (λ g at. deed_frees page d a (read ++ can.view) g made_it at)
 
-          pub served_bare : (found : F) → ServesPage rule page d σ2 σ3 (Some found) → SearchesBare rule d σ0 σ3 (Some (record { page = page; found = found }))
-          served_bare found serve = record {
+          pub served_bare : {found : F} → ServesPage rule page d σ2 σ3 (Some found) → SearchesBare rule d σ0 σ3 (Some (record { page = page; found = found }))
+          served_bare {found} serve = record {
             steps = serve.steps ++ (tried a);
             adds = adds_call {D = λ v l. MayServe page d v} deed_adds serve.adds (λ v l stood met. (deed_got.from v met (deed_adds.agreed v l stood met)).may);
             few = let most = few_tried serve.steps in let high = of_region.1 in omega (arith, most, high, serve.serves.short);

@@ -4,67 +4,60 @@ use Rattle.pas_scan.specs.Marks.{is_marked}
 use Rattle.pas_steps.proofs.Adding.{adds_none}
 use Rattle.pas_search.specs.Searches.{MaySearch, SearchesOffered}
 use Rattle.pas_search.proofs.ForBackEnds.{room_kept}
-use Rattle.pas_search.proofs.PagesThatServe.{offered_first, all_offered, claim_can, none_offered, further, claim_adds, claim_quiet, lost_goes, serve_can, serve_adds, found_there, left_goes}
+use Rattle.pas_search.proofs.PagesThatServe.{offered_first, all_offered, claim_can, none_offered, further, claim_adds, claim_quiet, lost_tries, serve_can, found_there, left_tries}
 use Rattle.pas_search.proofs.offered.search_offered.Goals as goal
 
 pub loop-looked-init : goal.loop-looked-init
 loop-looked-init g c =
-    let first = c.requires.next in let D = g.D.Desk in
-    record { low = omega (arith, first); directory = refl; steps = []; adds = adds_none; goes = record { searching = search rules; rest = λ p low. c.requires.unfit p; within = omega (arith, first); few = let few = offered_first (g.S.Serving.rule c.args.serving.now).steps first in omega (arith, few) }; home = refl }
+    let first = c.requires.next in
+    record { low = omega (arith, first); directory = refl; tries = record { steps = []; adds = adds_none; goes = record { searching = search rules; rest = λ p low. c.requires.unfit p; within = omega (arith, first); few = let few = offered_first (g.S.Serving.rule c.args.serving.now).steps first in omega (arith, few) } }; home = refl }
 
 pub returns-in_default-clause-found : goal.returns-in_default-clause-found
 returns-in_default-clause-found g c =
-    let i = c.loop-looked.invariant in let l = c.loop-looked.looked in let D = g.D.Desk in let d = c.args.looked.now.directory in let n = c.first_offered.new.looked in
+    let i = c.loop-looked.invariant in let D = g.D.Desk in let d = c.args.looked.now.directory in
     subst (λ m. SearchesOffered (g.S.Serving.rule c.args.serving.now) d (D.standing c.args.desk.now) (D.standing c.first_offered.new.desk) m None) (sym c.first_offered.ensures.unfit)
-    (none_offered d l.next l.unfit i.steps i.adds i.goes i.directory n.next (let pages : c.profile.result.now.pages ≡ (g.D.Desk.standing c.args.desk.now).seat.profile.pages = ap (λ (f : Profile). f.pages) c.profile.ensures in omega (arith, pages, c.loop-looked-test.true)) c.in_default.ensures.found)
+    (none_offered i.tries i.directory (let pages : c.profile.result.now.pages ≡ (g.D.Desk.standing c.args.desk.now).seat.profile.pages = ap (λ (f : Profile). f.pages) c.profile.ensures in omega (arith, pages, c.loop-looked-test.true)) c.in_default.ensures.found)
 
 pub claim-requires-clause-can : goal.claim-requires-clause-can
-claim-requires-clause-can g c =
-    let i = c.loop-looked.invariant in let l = c.loop-looked.looked in let n = c.first_offered.new.looked in
-    claim_can c.args.looked.now.directory l.next l.unfit i.steps i.adds i.goes i.directory n.next c.in-Some.page c.in-Some.ensures.found c.requires.can
+claim-requires-clause-can g c = let i = c.loop-looked.invariant in claim_can i.tries i.directory c.in-Some.ensures.found c.requires.can
 
 pub serve-requires-clause-can : goal.serve-requires-clause-can
 serve-requires-clause-can g c =
-    let i = c.loop-looked.invariant in let l = c.loop-looked.looked in let D = g.D.Desk in let d = c.args.looked.now.directory in let n = c.first_offered.new.looked in let p = c.in-Some.page in let h = c.claim.ensures.claims in
-    serve_can d l.next l.unfit i.steps i.adds i.goes i.directory n.next p c.in-Some.ensures.found h.answer h.calls.adds (sym h.got_is ∙ c.if-claim.true) c.requires.can
+    let i = c.loop-looked.invariant in let h = c.claim.ensures.claims in
+    serve_can i.tries i.directory c.in-Some.ensures.found h.calls.adds (sym h.got_is ∙ c.if-claim.true) c.requires.can
 
 pub serve-requires-clause-room : goal.serve-requires-clause-room
 serve-requires-clause-room g c =
-    let i = c.loop-looked.invariant in let l = c.loop-looked.looked in let D = g.D.Desk in let d = c.args.looked.now.directory in let n = c.first_offered.new.looked in let p = c.in-Some.page in let h = c.claim.ensures.claims in
-    room_kept {C = λ v l. MaySearch d v} (g.S.Serving.rule c.args.serving.now).events (claim_adds d l.next l.unfit i.steps i.adds i.goes i.directory n.next p c.in-Some.ensures.found h.answer h.calls.adds) c.requires.can
-    (claim_quiet d l.next l.unfit i.steps i.adds i.goes i.directory n.next p c.in-Some.ensures.found h.answer h.calls.adds) (g.met.D.Desk.spares c.args.desk.now) (g.met.D.Desk.spares c.claim.new.desk) c.requires.room
+    let i = c.loop-looked.invariant in let d = c.args.looked.now.directory in let h = c.claim.ensures.claims in
+    room_kept {C = λ v l. MaySearch d v} (g.S.Serving.rule c.args.serving.now).events (claim_adds i.tries i.directory c.in-Some.ensures.found h.calls.adds) c.requires.can
+    (claim_quiet i.tries i.directory c.in-Some.ensures.found h.calls.adds) (g.met.D.Desk.spares c.args.desk.now) (g.met.D.Desk.spares c.claim.new.desk) c.requires.room
 
 pub returns-in-Some-serve-clause-found : goal.returns-in-Some-serve-clause-found
 returns-in-Some-serve-clause-found g c =
-    let i = c.loop-looked.invariant in let l = c.loop-looked.looked in let D = g.D.Desk in let d = c.args.looked.now.directory in let n = c.first_offered.new.looked in let p = c.in-Some.page in let h = c.claim.ensures.claims in
-    found_there d l.next l.unfit i.steps i.adds i.goes i.directory n.next p c.in-Some.ensures.found h.answer h.calls.adds (sym h.got_is ∙ c.if-claim.true) n.unfit c.in-Some-serve.found c.in-Some-serve.ensures.serves
+    let i = c.loop-looked.invariant in let n = c.first_offered.new.looked in let h = c.claim.ensures.claims in
+    found_there i.tries i.directory c.in-Some.ensures.found h.calls.adds (sym h.got_is ∙ c.if-claim.true) n.unfit c.in-Some-serve.ensures.serves
 
 pub loop-looked-preserved-then-claim : goal.loop-looked-preserved-then-claim
 loop-looked-preserved-then-claim g c =
-    let i = c.loop-looked.invariant in let l = c.loop-looked.looked in let D = g.D.Desk in let d = c.args.looked.now.directory in let n = c.first_offered.new.looked in let p = c.in-Some.page in let h = c.claim.ensures.claims in
+    let i = c.loop-looked.invariant in let p = c.in-Some.page in let h = c.claim.ensures.claims in
     let bit = sym h.got_is ∙ c.if-claim.true in let serves = c.in_default-serve.ensures.serves in let marked = c.mark_unfit.new.self in
-    let next : marked.next ≡ p + 1 = c.mark_unfit.ensures.next ∙ further d l.next l.unfit i.steps i.adds i.goes i.directory n.next p c.in-Some.ensures.found in record {
+    let next : marked.next ≡ p + 1 = c.mark_unfit.ensures.next ∙ further i.tries i.directory c.in-Some.ensures.found in record {
       low = omega (arith, next);
       directory = c.mark_unfit.ensures.directory ∙ c.first_offered.ensures.directory ∙ i.directory;
-      steps = _;
-      adds = serve_adds d l.next l.unfit i.steps i.adds i.goes i.directory n.next p c.in-Some.ensures.found h.answer h.calls.adds bit None serves;
-      goes = left_goes d l.next l.unfit i.steps i.adds i.goes i.directory n.next p c.in-Some.ensures.found h.answer h.calls.adds bit marked.next next marked.unfit (λ q. c.mark_unfit.ensures.unfit q ∙ ap (λ m. (p == q) || is_marked m q) c.first_offered.ensures.unfit) serves;
+      tries = left_tries i.tries i.directory c.in-Some.ensures.found h.calls.adds bit next marked.unfit (λ q. c.mark_unfit.ensures.unfit q ∙ ap (λ m. (p == q) || is_marked m q) c.first_offered.ensures.unfit) serves;
       home = c.serve.ensures.home ∙ c.claim.ensures.home ∙ c.first_offered.ensures.home ∙ i.home;
     }
 
 pub loop-looked-preserved : goal.loop-looked-preserved
 loop-looked-preserved g c =
-    let i = c.loop-looked.invariant in let l = c.loop-looked.looked in let D = g.D.Desk in let d = c.args.looked.now.directory in let n = c.first_offered.new.looked in let p = c.in-Some.page in let h = c.claim.ensures.claims in
-    let next = further d l.next l.unfit i.steps i.adds i.goes i.directory n.next p c.in-Some.ensures.found in record {
+    let i = c.loop-looked.invariant in let h = c.claim.ensures.claims in
+    let next = further i.tries i.directory c.in-Some.ensures.found in record {
       low = omega (arith, next);
       directory = c.first_offered.ensures.directory ∙ i.directory;
-      steps = _;
-      adds = claim_adds d l.next l.unfit i.steps i.adds i.goes i.directory n.next p c.in-Some.ensures.found h.answer h.calls.adds;
-      goes = lost_goes d l.next l.unfit i.steps i.adds i.goes i.directory n.next p c.in-Some.ensures.found h.answer h.calls.adds n.unfit c.first_offered.ensures.unfit (sym h.got_is ∙ c.if-claim.false);
+      tries = lost_tries i.tries i.directory c.in-Some.ensures.found h.calls.adds c.first_offered.ensures.unfit (sym h.got_is ∙ c.if-claim.false);
       home = c.claim.ensures.home ∙ c.first_offered.ensures.home ∙ i.home;
     }
 
 pub returns-clause-found : goal.returns-clause-found
 returns-clause-found g c =
-    let i = c.loop-looked.invariant in let l = c.loop-looked.looked in
-    all_offered c.args.looked.now.directory l.next l.unfit i.steps i.adds i.goes (let pages : c.profile.result.now.pages ≡ (g.D.Desk.standing c.args.desk.now).seat.profile.pages = ap (λ (f : Profile). f.pages) c.profile.ensures in omega (arith, pages, c.loop-looked-test.false))
+    all_offered c.loop-looked.invariant.tries (let pages : c.profile.result.now.pages ≡ (g.D.Desk.standing c.args.desk.now).seat.profile.pages = ap (λ (f : Profile). f.pages) c.profile.ensures in omega (arith, pages, c.loop-looked-test.false))
