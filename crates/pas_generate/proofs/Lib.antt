@@ -1,0 +1,3 @@
+pub mod Aligning
+pub mod Operations
+pub mod Traces

@@ -1,0 +1,5 @@
+pub mod Draws
+pub mod Requests
+pub mod Operations
+pub mod Lines
+pub mod Traces
