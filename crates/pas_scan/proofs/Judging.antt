@@ -18,7 +18,9 @@ use Rattle.pas_steps.proofs.Past.{once_later, always_both, always_map}
 use Rattle.pas_bits.specs.PageVectors.{is_in_word}
 use Rattle.pas_scan.specs.Marks.{is_marked}
 use Rattle.pas_steps.specs.Evidence.{ReadsParked, ParkedHere, IsSingle}
-use Rattle.pas_scan.specs.Scan.{IsMember, AllParked, InBlock}
+use Rattle.pas_steps.specs.Kinds.{kind_of, is_in, Only}
+use Rattle.pas_steps.proofs.Apart.{only_both}
+use Rattle.pas_scan.specs.Scan.{IsMember, AllParked, InBlock, judging}
 use Rattle.pas_bits.proofs.Words.{bit_cleared}
 use Rattle.pas_scan.proofs.Singles.{Below, From, below_more, below_append, single_append, single_more, place_of}
 use Rattle.pas_scan.proofs.Reading.{scans_lack}
@@ -128,6 +130,10 @@ pub turn_single : (block a : ℕ) (ms steps : List Made) → InBlock block ms �
 turn_single block a ms steps deeds below single before =
     single_more (65 * block + 64) (made (Look (Word.Parked block)) a) (ms ++ steps) (turn_before block ms steps deeds below) (omega arith)
     (single_append (65 * block) ms steps below (block_from block ms deeds) single before)
+
+pub turn_kinds : (block a : ℕ) (ms steps : List Made) → InBlock block ms → Only judging steps → Only judging (made (Look (Word.Parked block)) a ∷ (ms ++ steps))
+turn_kinds block a ms steps deeds before =
+    (refl, only_both judging ms steps (always_map (λ m before. (page : ℕ) × (m.step ≡ Look (Word.Deed page)) × (page / 64 ≡ block)) (λ m before. is_in judging (kind_of m.step) ≡ true) ms (λ m before h. ap (λ s. is_in judging (kind_of s)) h.1) deeds) before)
 
 -- ---- the pages of a block
 pub record IsSpan (block pages first end : ℕ) : Type 0 where

@@ -2,3 +2,6 @@ pub mod Marking
 pub mod Singles
 pub mod Reading
 pub mod Judging
+pub mod LeftPages
+pub mod PageLooks
+pub mod RunsSoFar

@@ -1,2 +1,4 @@
 pub mod Marks
 pub mod Scan
+pub mod Usable
+pub mod Runs

@@ -12,6 +12,7 @@ use Rattle.pas_steps.specs.Agreement.{Agreed}
 use Rattle.pas_steps.specs.Desks.{Standing, Anything, Adds, made}
 use Rattle.pas_steps.specs.Past.{Once, Always}
 use Rattle.pas_steps.specs.Frames.{OnlyScans}
+use Rattle.pas_steps.specs.Kinds.{Kinds, LookDeed, LookParked, Only}
 use Rattle.pas_steps.specs.declared.step.Made.{Made}
 use Rattle.pas_steps.specs.declared.step.Step.TheVariants.{Look}
 use Rattle.pas_profile.specs.declared.word.Word.TheVariants as Word
@@ -98,12 +99,17 @@ abbrev pub last_block : Profile → NoRoom → ℕ
 last_block f NoSpace = f.pages / 64
 last_block f (Held page) = page / 64
 
--- no word is read twice, so no parked bit is read both as 1 and as 0
+-- what a verdict does: it looks at deed words and at parked words
+abbrev pub judging : Kinds
+judging = LookDeed ∷ LookParked ∷ []
+
+-- no word is read twice, so no parked bit is read both as 1 and as 0; and no eligible word is read
 pub record Judges (marks : List ℕ) (d : Directory) (desk desk' : Standing) (answer : NoRoom) : Type 0 where
   pub steps : List Made
   pub adds : Adds desk desk' Anything steps
   pub scans : OnlyScans steps
   pub single : IsSingle steps
+  pub kinds : Only judging steps
   pub few : length steps ≤ 65 * (last_block desk.seat.profile answer + 1)
   pub verdict : IsVerdict desk.seat.profile marks d steps answer
 

@@ -1,13 +1,16 @@
-//! Searches of pages: for an offered page of a directory, for a page without a deed, and for why there is none, with the readings that
-//! show it.
+//! Searches of pages: for an offered page of a directory, for a page without a deed, for a run of whole pages, and for why there is none,
+//! with the readings that show it.
 #![tactic(auto)]
 
 mod bare;
 mod looked;
 mod offered;
 mod parked;
+mod runs;
+mod usable;
 
 pub use bare::first_without_deed;
 pub use looked::Looked;
 pub use offered::first_offered;
 pub use parked::verdict;
+pub use runs::run_of_pages;

@@ -5,7 +5,7 @@ use Rattle.pas_steps.specs.declared.step.Step.TheVariants.{Look}
 use Rattle.pas_steps.specs.Desks.{made}
 use Rattle.pas_steps.proofs.Adding.{adds_step, adds_call}
 use Rattle.pas_scan.specs.Scan.{IsMember}
-use Rattle.pas_scan.proofs.Judging.{turn_scans, turn_below, turn_single, scans_append, block_scans, parked_more, member_joined, held_bits, held_here}
+use Rattle.pas_scan.proofs.Judging.{turn_scans, turn_below, turn_single, turn_kinds, scans_append, block_scans, parked_more, member_joined, held_bits, held_here}
 use Rattle.pas_scan.proofs.parked.verdict.Goals as goal
 
 pub loop-block-preserved : goal.loop-block-preserved
@@ -17,6 +17,7 @@ loop-block-preserved g c =
       adds = adds_step (adds_call i.adds m.adds (λ v l stood met. tt)) c.look-parked.ensures.makes (λ v l stood met. tt);
       scans = turn_scans block a m.steps i.steps m.deeds i.scans;
       single = turn_single block a m.steps i.steps m.deeds i.below m.single i.single;
+      kinds = turn_kinds block a m.steps i.steps m.deeds i.kinds;
       below = turn_below block a m.steps i.steps m.deeds i.below;
       parked = parked_more f looked.unfit looked.directory block (64 * (block + 1)) c.members-members.result a m.steps i.steps c.look-parked.type_inv
           (scans_append m.steps i.steps (block_scans block m.steps m.deeds) i.scans) m.deeds i.parked
@@ -37,6 +38,7 @@ returns-in-Some-clause-judges g c =
       adds = adds_step (adds_call i.adds m.adds (λ v l stood met. tt)) c.look-parked.ensures.makes (λ v l stood met. tt);
       scans = turn_scans block a m.steps i.steps m.deeds i.scans;
       single = turn_single block a m.steps i.steps m.deeds i.below m.single i.single;
+      kinds = turn_kinds block a m.steps i.steps m.deeds i.kinds;
       few = (let n = length-append m.steps i.steps in let here = m.few in let before = i.few in omega (arith, n, here, before, at));
       verdict = (
         λ v. member_joined f looked.unfit looked.directory block a page m.steps i.steps v

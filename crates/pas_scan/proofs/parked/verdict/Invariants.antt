@@ -3,7 +3,8 @@ use Rattle.pas_steps.specs.declared.step.Made.{Made}
 use Rattle.pas_steps.specs.Desks.{Anything, Adds}
 use Rattle.pas_steps.specs.Frames.{OnlyScans}
 use Rattle.pas_steps.specs.Evidence.{IsSingle}
-use Rattle.pas_scan.specs.Scan.{AllParked}
+use Rattle.pas_steps.specs.Kinds.{Only}
+use Rattle.pas_scan.specs.Scan.{AllParked, judging}
 use Rattle.pas_scan.proofs.Singles.{Below}
 use Rattle.pas_scan.proofs.parked.verdict.Given as goal
 
@@ -14,6 +15,7 @@ invariant-loop-block g l = let D = g.D.Desk in record {
   adds : Adds (D.standing l.fn.desk) (D.standing l.desk) Anything steps;
   scans : OnlyScans steps;
   single : IsSingle steps;
+  kinds : Only judging steps;
   below : Below (65 * l.block) steps;
   parked : AllParked (D.standing l.fn.desk).seat.profile l.looked.unfit l.looked.directory (64 * l.block) steps;
   few : length steps ≤ 65 * l.block;

@@ -1,0 +1,343 @@
+-- The claim of the pages of a run, one page more, and how they are left.
+use Rattle.std.proofs.Common.{◌≡◌, ◌≢◌, ℕ, ◌+◌, ◌*◌, ◌/◌, ◌%◌, ◌<◌, ◌≤◌, ◌==◌, Bool, true, false, ◌&&◌, ◌||◌, if◌then◌else◌, List, [], ◌++◌, length, inl, inr, refl, ap, sym, ◌∙◌, subst, arith, append_assoc, length-append, Some, None}
+use Rattle.std.proofs.lemmas.Bool.{cases_eq, eqb-true}
+use Rattle.pas_profile.specs.Profiles.{IsPage}
+use Rattle.pas_profile.specs.declared.directory.Directory.{Directory}
+use Rattle.pas_profile.specs.declared.profile.Profile.{Profile}
+use Rattle.pas_rights.specs.Puts.{masked}
+use Rattle.pas_segregated.specs.Returns.{giving_back}
+use Rattle.pas_steps.specs.Agreement.{Agreed}
+use Rattle.pas_steps.specs.Calls.{Calls, Leads, Kept, Gained, Lost, now, nothing, Does}
+use Rattle.pas_steps.specs.Desks.{Seat, Standing, CanCall, Adds}
+use Rattle.pas_steps.specs.Events.{events_of, events_by}
+use Rattle.pas_steps.specs.Evidence.{KeptHere}
+use Rattle.pas_steps.specs.Kinds.{Only}
+use Rattle.pas_steps.specs.Lists.{Whole}
+use Rattle.pas_steps.specs.Past.{Since}
+use Rattle.pas_steps.specs.Unknown.{unknown_pages}
+use Rattle.pas_steps.specs.Views.{View, holds, has_right, KnowsDeed}
+use Rattle.pas_steps.specs.declared.step.Made.{Made}
+use Rattle.pas_steps.specs.declared.step.Step.TheVariants.{Deed}
+use Rattle.pas_steps.proofs.Adding.{adds_none, adds_call, can_call, room_left, agreed_first, agreed_later}
+use Rattle.pas_steps.proofs.Apart.{only_both, only_within}
+use Rattle.pas_steps.proofs.Called.{call_none, call_then, next_call}
+use Rattle.pas_steps.proofs.Calls.{does_as, does_then, does_none}
+use Rattle.pas_steps.proofs.Frames.{events_split}
+use Rattle.pas_steps.proofs.Kept.{right_on, knows_still}
+use Rattle.pas_steps.proofs.Past.{always_map, always_both, once_later}
+use Rattle.pas_steps.proofs.Sets.{both_fates}
+use Rattle.pas_scan.specs.Usable.{LeftAlone}
+use Rattle.pas_scan.proofs.LeftPages.{usable_later}
+use Rattle.pas_large.specs.Evidence.{LostHere, BrokenHere, TakenWholeHere}
+use Rattle.pas_large.specs.Pages.{MayClaim, MayPutAndLeave, put_and_left, PutsAndLeaves, of_pages, GotPages, DeedsOn, OnlyDeedsShow, taking_pages, claiming, LosesPage, BreaksPage, WinsPage, ClaimsPage}
+use Rattle.pas_large.specs.Claims.{in_span, MayClaimPages, HasRunRoom, AloneFrom, DeedsIn, HoldsSpan, FailsAt, ClaimsPages, HasPages, Releases, ClaimsRun}
+use Rattle.pas_large.specs.declared.claiming.Claimed.{Claimed}
+use Rattle.pas_large.proofs.PageClaims.{no_deeds, shows_both, shows_taking}
+use Rattle.pas_large.proofs.PageTakes.{after_more}
+use Rattle.pas_large.proofs.Spans.{span_in, in_parts, span_past, span_none, span_more, got_none, got_both, got_still, undone, full, full_set, alone_on, since_on}
+
+pub record PagesSoFar (d : Directory) (first end page : ℕ) (desk desk' : Standing) : Type 0 where
+  pub steps : List Made
+  pub adds : Adds desk desk' (λ v l. MayClaimPages first end v) steps
+  pub kinds : Only claiming steps
+  pub few : length steps + 33 * first ≤ 33 * page
+  pub deeds : DeedsIn d first end steps
+  pub shows : OnlyDeedsShow desk.seat.profile steps
+  pub got : Leads desk.seat.profile (MayClaimPages first end) (GotPages (in_span first page) d) steps
+  pub holding : (before : List Made) → AloneFrom first before → HoldsSpan first page (steps ++ before)
+  pub alone : (before : List Made) → AloneFrom first before → AloneFrom page (steps ++ before)
+
+pub pages_none : {σ : Standing} (d : Directory) (first end : ℕ) → PagesSoFar d first end first σ σ
+pages_none d first end = record {
+  steps = [];
+  adds = adds_none;
+  kinds = tt;
+  few = omega arith;
+  deeds = tt;
+  shows = λ k v agreed. omega arith;
+  got = record { from = λ v met agreed. got_none d (in_span first first) v (span_none first) (does_none v) };
+  holding = λ before alone. record { right = λ p low high. absurd (omega (arith, low, high)); whole = λ p word low high lt. absurd (omega (arith, low, high)) };
+  alone = λ before alone. alone;
+}
+
+pub run_page : (f : Profile) (first end page : ℕ) → 1 ≤ first → end ≤ f.pages + 1 → first ≤ page → page < end → IsPage f page
+run_page f first end page some region low high = (omega (arith, some, low), omega (arith, region, high))
+
+abbrev pub may_claim : {σ : Standing} {f : Profile} {first end n spare : ℕ} → CanCall σ (λ v l. HasRunRoom f first end n spare v) → CanCall σ (λ v l. MayClaimPages first end v)
+may_claim can = record { view = can.view; whole = can.whole; stood = can.stood; met = can.met.may }
+
+abbrev pub HasSpares : Standing → ℕ → Type 0
+HasSpares σ spare = (v : View) (l : Whole) → σ.stands v l → spare + length (events_of σ.seat.actor v) ≡ σ.seat.room
+
+-- the room for unknown deeds is kept, and the room for n events besides
+pub room_after : {σ σ' : Standing} {C : View → Whole → Type 0} {xs : List Made} {spare spare' : ℕ} (n : ℕ) → Adds σ σ' C xs → (can : CanCall σ C) → OnlyDeedsShow σ.seat.profile xs → n + unknown_pages σ.seat.profile can.view ≤ spare → HasSpares σ spare → HasSpares σ' spare'
+    → n + unknown_pages σ.seat.profile (xs ++ can.view) ≤ spare'
+room_after {σ} {xs = xs} {spare = spare} n adds can shows room law law' =
+    let k : ℕ = σ.seat.actor in
+    let now : spare + length (events_of k can.view) ≡ σ.seat.room = law can.view can.whole can.stood in
+    let count : length (events_of k (xs ++ can.view)) ≡ length (events_by k can.view xs) + length (events_of k can.view) = ap length (events_split k xs can.view) ∙ length-append (events_by k can.view xs) (events_of k can.view) in
+    let shown = shows k can.view (adds.agreed can.view can.whole can.stood can.met) in
+    room_left (n + unknown_pages σ.seat.profile (xs ++ can.view)) adds can law' (omega (arith, now, count, shown, room))
+
+deeds_widen : (d : Directory) (first end page : ℕ) (steps : List Made) → first ≤ page → page < end → DeedsOn d page steps → DeedsIn d first end steps
+deeds_widen d first end page steps low high = always_map (λ m before. (p : ℕ) (e : Directory) → m.step ≡ Deed p e → m.answer ≡ 0 → (e ≡ d) × (p ≡ page)) (λ m before. (p : ℕ) (e : Directory) → m.step ≡ Deed p e → m.answer ≡ 0 → (e ≡ d) × (first ≤ p) × (p < end)) steps
+    (λ m before h p e same z. let its = h p e same z in let at = its.1 in (its.0, omega (arith, at, low), omega (arith, at, high)))
+
+deeds_join : (d : Directory) (first end : ℕ) (ys xs : List Made) → DeedsIn d first end ys → DeedsIn d first end xs → DeedsIn d first end (ys ++ xs)
+deeds_join d first end ys xs = always_both (λ m before. (p : ℕ) (e : Directory) → m.step ≡ Deed p e → m.answer ≡ 0 → (e ≡ d) × (first ≤ p) × (p < end)) (λ m before. (p : ℕ) (e : Directory) → m.step ≡ Deed p e → m.answer ≡ 0 → (e ≡ d) × (first ≤ p) × (p < end)) ys xs (λ m before h. h)
+
+module _ {σ σ1 : Standing} (d : Directory) (first end page : ℕ) (low : first ≤ page) (high : page < end) (so_far : PagesSoFar d first end page σ σ1) where
+  abbrev xs : List Made
+  xs = so_far.steps
+
+  page_may : (v : View) → MayClaimPages first end v → GotPages (in_span first page) d v (xs ++ v) → MayClaim page (xs ++ v)
+  page_may v met got = record {
+    lacks = got.does.right page ∙ ap (λ t. now (if t then Gained else Kept) (has_right v page)) (span_past first page page (omega arith)) ∙ met.lacks page low high;
+    clear = record { on = λ q. got.does.clear q (met.clear.on q) };
+  }
+
+  pub page_call : CanCall σ (λ v l. MayClaimPages first end v) → CanCall σ1 (λ v l. MayClaim page v)
+  page_call can = can_call so_far.adds can (λ v l stood met. page_may v met (so_far.got.from v met (so_far.adds.agreed v l stood met)))
+
+  module _ {σ2 : Standing} {claimed : Claimed} (h : ClaimsPage d page σ1 σ2 claimed) where
+    abbrev ys : List Made
+    ys = h.steps
+
+    all_at : (v : View) → (ys ++ xs) ++ v ≡ ys ++ (xs ++ v)
+    all_at v = append_assoc ys xs v
+
+    turn_adds : Adds σ σ2 (λ v l. MayClaimPages first end v) (ys ++ xs)
+    turn_adds = adds_call {D = λ v l. MayClaim page v} so_far.adds h.adds (λ v l stood met. page_may v met (so_far.got.from v met (so_far.adds.agreed v l stood met)))
+
+    turn_shows : OnlyDeedsShow σ.seat.profile (ys ++ xs)
+    turn_shows = shows_both σ.seat.profile ys xs (subst (λ (s : Seat). OnlyDeedsShow s.profile ys) so_far.adds.seat_is h.shows) so_far.shows
+
+    turn_few : length (ys ++ xs) + 33 * first ≤ 33 * (page + 1)
+    turn_few = let n = length-append ys xs in let a = h.few in let b = so_far.few in omega (arith, n, a, b)
+
+    turn_deeds : DeedsIn d first end (ys ++ xs)
+    turn_deeds = deeds_join d first end ys xs (deeds_widen d first end page ys low high h.deeds) so_far.deeds
+
+    turn_alone : (before : List Made) → AloneFrom first before → AloneFrom (page + 1) ((ys ++ xs) ++ before)
+    turn_alone before free p ge = subst (LeftAlone p) (sym (all_at before)) (alone_on page p ys (xs ++ before) h.on (λ e. absurd (omega (arith, e, ge))) (so_far.alone before free p (omega (arith, ge))))
+
+    others_held : (before : List Made) → AloneFrom first before → HoldsSpan first page ((ys ++ xs) ++ before)
+    others_held before free = let old = so_far.holding before free in record {
+      right = λ p ge lt. ap (λ s. has_right s p) (all_at before) ∙ right_on page p ys (xs ++ before) h.on (λ e. absurd (omega (arith, e, lt))) ∙ old.right p ge lt;
+      whole = λ p word ge lt small. subst (Since (TakenWholeHere p word) (KeptHere p)) (sym (all_at before)) (since_on (TakenWholeHere p word) page p ys (xs ++ before) h.on (λ e. absurd (omega (arith, e, lt))) (old.right p ge lt) (old.whole p word ge lt small));
+    }
+
+    agreed_ys : (v : View) → Agreed σ.seat.profile v (ys ++ xs) → Agreed σ.seat.profile (xs ++ v) ys
+    agreed_ys v agreed = agreed_first σ.seat.profile v ys xs agreed
+
+    agreed_xs : (v : View) → Agreed σ.seat.profile v (ys ++ xs) → Agreed σ.seat.profile v xs
+    agreed_xs v agreed = agreed_later σ.seat.profile v ys xs agreed
+
+    -- it was won
+    pub won_turn : WinsPage σ1.seat.profile d page h.steps → PagesSoFar d first end (page + 1) σ σ2
+    won_turn won =
+        let wins = subst (λ (s : Seat). WinsPage s.profile d page ys) so_far.adds.seat_is won in
+        record {
+          steps = ys ++ xs;
+          adds = turn_adds;
+          kinds = only_both claiming ys xs h.kinds so_far.kinds;
+          few = turn_few;
+          deeds = turn_deeds;
+          shows = turn_shows;
+          got = record {
+            from = λ v met agreed.
+                let old = so_far.got.from v met (agreed_xs v agreed) in
+                let new = wins.leads.from (xs ++ v) (page_may v met old) (agreed_ys v agreed) in
+                subst (GotPages (in_span first (page + 1)) d v) (sym (all_at v)) (got_both d (in_span first page) (λ q. page == q) (in_span first (page + 1)) (λ p. span_more first page p low) old new (λ p knows. knows_still σ.seat.profile d p ys (xs ++ v) (agreed_ys v agreed) knows));
+          };
+          holding = λ before free.
+              let rest = others_held before free in let alone = so_far.alone before free page (omega arith) in record {
+                right = λ p ge lt. elim (cases_eq p page) [
+                  | inl e ↦ ap (has_right ((ys ++ xs) ++ before)) e ∙ ap (λ s. has_right s page) (all_at before) ∙ wins.right (xs ++ before) alone
+                  | inr ne ↦ rest.right p ge (omega (arith, lt, ne))
+                ];
+                whole = λ p word ge lt small. elim (cases_eq p page) [
+                  | inl e ↦ subst (λ q. Since (TakenWholeHere q word) (KeptHere q) ((ys ++ xs) ++ before)) (sym e) (subst (Since (TakenWholeHere page word) (KeptHere page)) (sym (all_at before)) (wins.whole (xs ++ before) alone word small))
+                  | inr ne ↦ rest.whole p word ge (omega (arith, lt, ne)) small
+                ];
+              };
+          alone = turn_alone;
+        }
+
+    -- it was lost or broken
+    stopped : Leads σ.seat.profile (MayClaim page) (Does nothing) h.steps → FailsAt σ.seat.profile d first page (h.steps ++ so_far.steps) → ClaimsPages d first end σ σ2 page
+    stopped still failed = record {
+      steps = ys ++ xs;
+      adds = turn_adds;
+      kinds = only_both claiming ys xs h.kinds so_far.kinds;
+      few = let few = turn_few in omega (arith, few, low, high);
+      deeds = turn_deeds;
+      shows = turn_shows;
+      span = (low, omega (arith, high));
+      got = record {
+        from = λ v met agreed.
+            let old = so_far.got.from v met (agreed_xs v agreed) in
+            subst (GotPages (in_span first page) d v) (sym (all_at v)) (got_still d (in_span first page) old (still.from (xs ++ v) (page_may v met old) (agreed_ys v agreed)) (λ p knows. knows_still σ.seat.profile d p ys (xs ++ v) (agreed_ys v agreed) knows));
+      };
+      holding = others_held;
+      alone = turn_alone;
+      failed = λ lt. failed;
+    }
+
+    pub lost_turn : LosesPage σ1.seat.profile d page h.steps → ClaimsPages d first end σ σ2 page
+    lost_turn lost =
+        let loses = subst (λ (s : Seat). LosesPage s.profile d page ys) so_far.adds.seat_is lost in
+        stopped loses.still (λ before v free usable agreed. inl (after_more (LostHere d page) ys xs before (loses.lost (xs ++ before) v (so_far.alone before free page (omega arith)) (usable_later d page xs before usable) (subst (Agreed σ.seat.profile v) (all_at before) agreed))))
+
+    pub broken_turn : BreaksPage σ1.seat.profile page h.steps → ClaimsPages d first end σ σ2 page
+    broken_turn broken =
+        let breaks = subst (λ (s : Seat). BreaksPage s.profile page ys) so_far.adds.seat_is broken in
+        stopped breaks.still (λ before v free usable agreed. inr (after_more (BrokenHere page) ys xs before (breaks.broken (xs ++ before) (so_far.alone before free page (omega arith)))))
+
+-- all were claimed
+pub all_claimed : {σ σ1 : Standing} (d : Directory) (first end page : ℕ) → page ≡ end → first ≤ end → PagesSoFar d first end page σ σ1 → ClaimsPages d first end σ σ1 end
+all_claimed {σ} {σ1} d first end page e le so_far =
+    let all = subst (λ p. PagesSoFar d first end p σ σ1) e so_far in
+    record {
+      steps = all.steps;
+      adds = all.adds;
+      kinds = all.kinds;
+      few = let few = all.few in omega (arith, few, le);
+      deeds = all.deeds;
+      shows = all.shows;
+      span = (le, omega arith);
+      got = all.got;
+      holding = all.holding;
+      alone = λ before free p ge. all.alone before free p (omega (arith, ge));
+      failed = λ lt. absurd (omega (arith, lt));
+    }
+
+-- ---- the pages are left
+pub record LeftSoFar (d : Directory) (first end page : ℕ) (desk desk' : Standing) : Type 0 where
+  pub steps : List Made
+  pub calls : Calls desk desk' (HasPages d first end) (λ v w. Does (of_pages (in_span first page) Lost) v w × ((p : ℕ) → in_span first end p ≡ true → KnowsDeed p d w)) steps
+  pub kinds : Only giving_back steps
+  pub few : length steps + 15 * first ≤ 15 * page
+  pub alone : (before : List Made) (p : ℕ) → page ≤ p → LeftAlone p before → LeftAlone p (steps ++ before)
+
+pub left_none : {σ : Standing} (d : Directory) (first end : ℕ) → LeftSoFar d first end first σ σ
+left_none d first end = record {
+  steps = [];
+  calls = call_none (λ v met. (
+    does_as (of_pages (in_span first first) Lost) (does_none v) (λ g. inl (ap (λ t. if t then Lost else Kept) (sym (span_none first (g / 256))))) (λ q. ap (λ t. if t then Lost else Kept) (sym (span_none first q))) (λ q h. h),
+    met.deeds,
+  ));
+  kinds = tt;
+  few = omega arith;
+  alone = λ before p ge alone. alone;
+}
+
+on_full : (page g : ℕ) → masked page full g ≡ (page == g / 256)
+on_full page g = ap (λ t. (page == g / 256) && t) (full_set (g % 256) (omega arith)) ∙ and_true (page == g / 256) where
+  and_true : (t : Bool) → (t && true) ≡ t
+  and_true true = refl
+  and_true false = refl
+
+module _ {σ σ1 : Standing} (d : Directory) (first end page : ℕ) (low : first ≤ page) (high : page < end) (so_far : LeftSoFar d first end page σ σ1) where
+  leave_may : (v : View) → HasPages d first end v → Does (of_pages (in_span first page) Lost) v (so_far.steps ++ v) × ((p : ℕ) → in_span first end p ≡ true → KnowsDeed p d (so_far.steps ++ v)) → MayPutAndLeave page d (masked page full) (so_far.steps ++ v)
+  leave_may v met left =
+      let here = span_in first end page low high in let past = span_past first page page (omega arith) in
+      record {
+        right = left.0.right page ∙ ap (λ t. now (if t then Lost else Kept) (has_right v page)) past ∙ met.right page here;
+        deed = left.1 page here;
+        held = λ g is.
+            let at : page ≡ g / 256 = eqb-true page (g / 256) (sym (on_full page g) ∙ is) in
+            left.0.held g ∙ ap (λ q. now (if in_span first page q then Lost else Kept) (holds v g)) (sym at) ∙ ap (λ t. now (if t then Lost else Kept) (holds v g)) past ∙ met.held g (ap (in_span first end) (sym at) ∙ here);
+        clear = left.0.clear page (met.clear.on page);
+      }
+
+  pub leave_call : CanCall σ (λ v l. HasPages d first end v) → CanCall σ1 (λ v l. MayPutAndLeave page d (masked page full) v)
+  leave_call can = next_call so_far.calls can leave_may
+
+  pub left_more : {σ2 : Standing} → PutsAndLeaves page d full σ1 σ2 → LeftSoFar d first end (page + 1) σ σ2
+  left_more h =
+      let ys = h.after ++ h.puts in
+      let next : Calls σ1 _ (λ v. MayPutAndLeave page d (masked page full) v × ((p : ℕ) → in_span first end p ≡ true → KnowsDeed p d v)) (λ v w. Does (put_and_left page (masked page full)) v w × ((p : ℕ) → in_span first end p ≡ true → KnowsDeed p d w)) ys = record {
+        adds = record { seat_is = h.calls.adds.seat_is; added = λ v l stood met. h.calls.adds.added v l stood met.0; agreed = λ v l stood met. h.calls.adds.agreed v l stood met.0 };
+        leads = record { from = λ v met agreed. (h.calls.leads.from v met.0 agreed, λ p is. knows_still σ1.seat.profile d p ys v agreed (met.1 p is)) };
+      } in
+      record {
+        steps = ys ++ so_far.steps;
+        calls = call_then (λ v w. Does (of_pages (in_span first (page + 1)) Lost) v w × ((p : ℕ) → in_span first end p ≡ true → KnowsDeed p d w)) so_far.calls next (λ v met left. (leave_may v met left, left.1))
+            (λ v met a b. (
+              does_as (of_pages (in_span first (page + 1)) Lost) (does_then a.0 b.0)
+              (λ g. inl (both_fates Lost (in_span first page (g / 256)) (masked page full g) (in_span first (page + 1) (g / 256)) refl (ap (λ t. in_span first page (g / 256) || t) (on_full page g) ∙ span_more first page (g / 256) low)))
+              (λ q. both_fates Lost (in_span first page q) (page == q) (in_span first (page + 1) q) refl (span_more first page q low)) (λ q h. h),
+              b.1,
+            ));
+        kinds = only_both giving_back ys so_far.steps h.kinds so_far.kinds;
+        few = let n = length-append ys so_far.steps in let a = h.few in let b = so_far.few in omega (arith, n, a, b);
+        alone = λ before p ge alone. subst (LeftAlone p) (sym (append_assoc ys so_far.steps before)) (alone_on page p ys (so_far.steps ++ before) h.on (λ e. absurd (omega (arith, e, ge))) (so_far.alone before p (omega (arith, ge)) alone));
+      }
+
+pub releases_all : {σ σ1 : Standing} (d : Directory) (first end page : ℕ) → page ≡ end → first ≤ end → LeftSoFar d first end page σ σ1 → Releases d first end σ σ1
+releases_all {σ} {σ1} d first end page e le so_far =
+    let all = subst (λ p. LeftSoFar d first end p σ σ1) e so_far in
+    record {
+      steps = all.steps;
+      calls = record { adds = all.calls.adds; leads = record { from = λ v met agreed. (all.calls.leads.from v met agreed).0 } };
+      kinds = all.kinds;
+      few = let few = all.few in omega (arith, few, le);
+      alone = all.alone;
+    }
+
+-- ---- the claim of a run
+pub run_claimed : {σ σ1 : Standing} (d : Directory) (first end stop : ℕ) → stop ≡ end → ClaimsPages d first end σ σ1 stop → ClaimsRun d first end σ σ1 None
+run_claimed {σ} {σ1} d first end stop e h =
+    let all = subst (ClaimsPages d first end σ σ1) e h in
+    record {
+      steps = all.steps;
+      adds = all.adds;
+      kinds = all.kinds;
+      few = let few = all.few in omega (arith, few);
+      deeds = all.deeds;
+      shows = all.shows;
+      outcome = record { got = all.got; holding = all.holding };
+    }
+
+module _ {σ σ1 : Standing} (d : Directory) (first end stop : ℕ) (ne : stop ≢ end) (h : ClaimsPages d first end σ σ1 stop) where
+  before_end : stop < end
+  before_end = let le = h.span.1 in omega (arith, ne, le)
+
+  may_release : (v : View) → MayClaimPages first end v → GotPages (in_span first stop) d v (h.steps ++ v) → HasPages d first stop (h.steps ++ v)
+  may_release v met got = record {
+    right = λ p is. got.does.right p ∙ ap (λ t. now (if t then Gained else Kept) (has_right v p)) is;
+    held = λ g is. got.does.held g ∙ ap (λ t. now (if t then Gained else Kept) (holds v g)) is;
+    deeds = got.deeds;
+    clear = record { on = λ q. got.does.clear q (met.clear.on q) };
+  }
+
+  got_call : Calls σ σ1 (MayClaimPages first end) (GotPages (in_span first stop) d) h.steps
+  got_call = record { adds = h.adds; leads = h.got }
+
+  pub release_call : CanCall σ (λ v l. MayClaimPages first end v) → CanCall σ1 (λ v l. HasPages d first stop v)
+  release_call can = next_call got_call can may_release
+
+  pub run_failed : {σ2 : Standing} → Releases d first stop σ1 σ2 → ClaimsRun d first end σ σ2 (Some stop)
+  run_failed r =
+      let calls = call_then (Does nothing) got_call r.calls may_release
+          (λ v met got lost. undone (in_span first stop) got.apart (λ p is. let at = in_parts first stop p is in let lt = at.1 in let last = before_end in met.lacks p at.0 (omega (arith, lt, last))) got.does lost) in
+      record {
+        steps = r.steps ++ h.steps;
+        adds = calls.adds;
+        kinds = only_both claiming r.steps h.steps (only_within giving_back claiming r.steps refl r.kinds) h.kinds;
+        few = let n = length-append r.steps h.steps in let a = r.few in let b = h.few in let le = h.span.1 in omega (arith, n, a, b, le);
+        deeds = deeds_join d first end r.steps h.steps (deeds_widen d first end stop r.steps h.span.0 before_end (no_deeds giving_back d stop r.steps refl r.kinds)) h.deeds;
+        shows = shows_both σ.seat.profile r.steps h.steps (shows_taking σ.seat.profile r.steps (only_within giving_back taking_pages r.steps refl r.kinds)) h.shows;
+        outcome = record {
+          in_run = (h.span.0, before_end);
+          still = calls.leads;
+          alone = λ before free p ge. subst (LeftAlone p) (sym (append_assoc r.steps h.steps before)) (r.alone (h.steps ++ before) p (omega (arith, ge)) (h.alone before free p ge));
+          failed = λ before v free usable agreed.
+              let mine : Agreed σ.seat.profile v (h.steps ++ before) = agreed_later σ.seat.profile v r.steps (h.steps ++ before) (subst (Agreed σ.seat.profile v) (append_assoc r.steps h.steps before) agreed) in
+              elim (h.failed before_end before v free usable mine) [
+                | inl lost ↦ inl (once_later (λ m b. LostHere d stop m (b ++ before)) r.steps h.steps lost)
+                | inr broken ↦ inr (once_later (λ m b. BrokenHere stop m (b ++ before)) r.steps h.steps broken)
+              ];
+        };
+      }

@@ -1,0 +1,104 @@
+-- The claim of the pages of a run, and how they are left.
+use Rattle.std.specs.Prelude.{ℕ, ◌+◌, ◌-◌, ◌*◌, ◌/◌, ◌<◌, ◌≤◌, ◌≡◌, ◌⊎◌, nat_le, nat_lt, Bool, true, false, ◌&&◌, List, ◌++◌, length, Option, MatchOption}
+use Rattle.pas_profile.specs.declared.directory.Directory.{Directory}
+use Rattle.pas_profile.specs.declared.profile.Profile.{Profile}
+use Rattle.pas_segregated.specs.Returns.{giving_back}
+use Rattle.pas_steps.specs.Agreement.{Agreed}
+use Rattle.pas_steps.specs.Calls.{Calls, Leads, Lost, nothing, Does}
+use Rattle.pas_steps.specs.Clear.{IsClear}
+use Rattle.pas_steps.specs.Desks.{Standing, Adds}
+use Rattle.pas_steps.specs.Evidence.{KeptHere}
+use Rattle.pas_steps.specs.Kinds.{Only}
+use Rattle.pas_steps.specs.Past.{Always, Since}
+use Rattle.pas_steps.specs.Unknown.{unknown_pages}
+use Rattle.pas_steps.specs.Views.{View, holds, has_right, KnowsDeed}
+use Rattle.pas_steps.specs.declared.step.Made.{Made}
+use Rattle.pas_steps.specs.declared.step.Step.TheVariants.{Deed}
+use Rattle.pas_scan.specs.Usable.{ReadUsable, LeftAlone}
+use Rattle.pas_large.specs.Evidence.{LostHere, BrokenHere, TakenWholeHere}
+use Rattle.pas_large.specs.Pages.{OnceAfter, of_pages, GotPages, OnlyDeedsShow, claiming}
+
+-- the page is one of those from `first` to below `end`
+abbrev pub in_span : ℕ → ℕ → ℕ → Bool
+in_span first end page = nat_le first page && nat_lt page end
+
+-- the right of no page of the run is the actor's, who is clear
+pub record MayClaimPages (first end : ℕ) (v : View) : Type 0 where
+  pub lacks : (page : ℕ) → first ≤ page → page < end → has_right v page ≡ false
+  pub clear : IsClear v
+
+-- and there is room for the deeds that aren't known, and for n events more
+pub record HasRunRoom (f : Profile) (first end n spare : ℕ) (v : View) : Type 0 where
+  pub may : MayClaimPages first end v
+  pub room : n + unknown_pages f v ≤ spare
+
+-- the steps before left each page from this one on alone
+abbrev pub AloneFrom : ℕ → List Made → Type 0
+AloneFrom first before = (page : ℕ) → first ≤ page → LeftAlone page before
+
+-- each deed that was made is of this directory and of one of these pages
+abbrev pub DeedsIn : Directory → ℕ → ℕ → List Made → Type 0
+DeedsIn d first end = Always (λ m before. (p : ℕ) (e : Directory) → m.step ≡ Deed p e → m.answer ≡ 0 → (e ≡ d) × (first ≤ p) × (p < end))
+
+-- the rights of the pages from `first` to below `stop` were got and kept, and each of their free words was taken whole since
+pub record HoldsSpan (first stop : ℕ) (steps : List Made) : Type 0 where
+  pub right : (p : ℕ) → first ≤ p → p < stop → has_right steps p ≡ true
+  pub whole : (p word : ℕ) → first ≤ p → p < stop → word < 4 → Since (TakenWholeHere p word) (KeptHere p) steps
+
+-- the page was lost or broken by one of these steps
+abbrev pub FailsAt : Profile → Directory → ℕ → ℕ → List Made → Type 0
+FailsAt f d first page steps = (before : List Made) (v : View) → AloneFrom first before → ReadUsable d page before → Agreed f v (steps ++ before)
+    → OnceAfter before (LostHere d page) steps ⊎ OnceAfter before (BrokenHere page) steps
+
+-- The pages below `stop` are the actor's. Where that isn't the end, the page `stop` was lost or broken. At most 33 steps a page.
+pub record ClaimsPages (d : Directory) (first end : ℕ) (desk desk' : Standing) (stop : ℕ) : Type 0 where
+  pub steps : List Made
+  pub adds : Adds desk desk' (λ v l. MayClaimPages first end v) steps
+  pub kinds : Only claiming steps
+  pub few : length steps ≤ 33 * (end - first)
+  pub deeds : DeedsIn d first end steps
+  pub shows : OnlyDeedsShow desk.seat.profile steps
+  pub span : (first ≤ stop) × (stop ≤ end)
+  pub got : Leads desk.seat.profile (MayClaimPages first end) (GotPages (in_span first stop) d) steps
+  pub holding : (before : List Made) → AloneFrom first before → HoldsSpan first stop (steps ++ before)
+  pub alone : (before : List Made) → AloneFrom first before → AloneFrom (stop + 1) (steps ++ before)
+  pub failed : stop < end → FailsAt desk.seat.profile d first stop steps
+
+-- ---- the pages are left
+-- the rights of these pages and all their grains are the actor's, who is clear
+pub record HasPages (d : Directory) (first end : ℕ) (v : View) : Type 0 where
+  pub right : (p : ℕ) → in_span first end p ≡ true → has_right v p ≡ true
+  pub held : (g : ℕ) → in_span first end (g / 256) ≡ true → holds v g ≡ true
+  pub deeds : (p : ℕ) → in_span first end p ≡ true → KnowsDeed p d v
+  pub clear : IsClear v
+
+-- They are the actor's no longer. At most 15 steps a page, and no event.
+pub record Releases (d : Directory) (first end : ℕ) (desk desk' : Standing) : Type 0 where
+  pub steps : List Made
+  pub calls : Calls desk desk' (HasPages d first end) (Does (of_pages (in_span first end) Lost)) steps
+  pub kinds : Only giving_back steps
+  pub few : length steps ≤ 15 * (end - first)
+  pub alone : (before : List Made) (p : ℕ) → end ≤ p → LeftAlone p before → LeftAlone p (steps ++ before)
+
+-- ---- the claim of a run
+-- the run is the actor's
+pub record HoldsRun (f : Profile) (d : Directory) (first end : ℕ) (steps : List Made) : Type 0 where
+  pub got : Leads f (MayClaimPages first end) (GotPages (in_span first end) d) steps
+  pub holding : (before : List Made) → AloneFrom first before → HoldsSpan first end (steps ++ before)
+
+-- This page of the run was lost or broken, and all is as it was. The pages behind it were left alone.
+pub record FailsRun (f : Profile) (d : Directory) (first end page : ℕ) (steps : List Made) : Type 0 where
+  pub in_run : (first ≤ page) × (page < end)
+  pub still : Leads f (MayClaimPages first end) (Does nothing) steps
+  pub alone : (before : List Made) → AloneFrom first before → AloneFrom (page + 1) (steps ++ before)
+  pub failed : FailsAt f d first page steps
+
+-- At most 48 steps a page.
+pub record ClaimsRun (d : Directory) (first end : ℕ) (desk desk' : Standing) (failed : Option ℕ) : Type 0 where
+  pub steps : List Made
+  pub adds : Adds desk desk' (λ v l. MayClaimPages first end v) steps
+  pub kinds : Only claiming steps
+  pub few : length steps ≤ 48 * (end - first)
+  pub deeds : DeedsIn d first end steps
+  pub shows : OnlyDeedsShow desk.seat.profile steps
+  pub outcome : MatchOption failed (HoldsRun desk.seat.profile d first end steps) (λ page. FailsRun desk.seat.profile d first end page steps)

@@ -1,0 +1,105 @@
+-- The evidence of a large request, over the steps of one call, the newest first.
+use Rattle.std.specs.Prelude.{ℕ, ◌+◌, ◌*◌, ◌%◌, ◌<◌, ◌≤◌, ◌≡◌, ◌≢◌, ◌⊎◌, true, false, List}
+use Rattle.pas_profile.specs.Classes.{has_bit}
+use Rattle.pas_profile.specs.Profiles.{IsPage}
+use Rattle.pas_profile.specs.declared.directory.Directory.{Directory}
+use Rattle.pas_profile.specs.declared.profile.Profile.{Profile}
+use Rattle.pas_profile.specs.declared.event.NoRoom.{NoRoom}
+use Rattle.pas_profile.specs.declared.name.Block.{Block}
+use Rattle.pas_steps.specs.Views.{has_right}
+use Rattle.pas_steps.specs.Past.{Once, Always, Since}
+use Rattle.pas_steps.specs.declared.step.Made.{Made}
+use Rattle.pas_steps.specs.declared.step.Step.TheVariants.{Deed, Back, Give, TakeRight}
+use Rattle.pas_steps.specs.Evidence.{Readings, NoDeedHere, KeptHere, UnfitHere}
+use Rattle.pas_scan.specs.Usable.{DeedReadHere, WholeHere, ReadUsable, IsFresh, UnusableHere, MakesNoDeedHere}
+use Rattle.pas_scan.specs.Runs.{IsInRun}
+use Rattle.pas_large.specs.Refusals.{IsReason}
+
+-- ---- lost and broken
+-- a claim read its eligible bit as 0
+abbrev pub LostRightHere : Directory → ℕ → Made → List Made → Type 0
+LostRightHere d page m before = (m.step ≡ TakeRight page d) × (has_bit m.answer (page % 64) ≡ false) × (has_right before page ≡ false) × IsFresh d page before
+
+-- a deed came too late: its deed word was read as 0 before, the call hadn't made its deed, and now it isn't 0
+abbrev pub LostDeedHere : Directory → ℕ → Made → List Made → Type 0
+LostDeedHere d page m before = (m.step ≡ Deed page d) × (m.answer ≢ 0) × Once (NoDeedHere page) before × Always (MakesNoDeedHere page) before
+
+abbrev pub LostHere : Directory → ℕ → Made → List Made → Type 0
+LostHere d page m before = LostRightHere d page m before ⊎ LostDeedHere d page m before
+
+-- some grain of the page wasn't read as free
+abbrev pub NotAll : Readings → Type 0
+NotAll r = ((b : ℕ) → b < 256 → r b ≡ true) → ⊥
+
+-- the page was got, one reading of its four free words, made while the right was kept, isn't all ones, and this step gives the right up
+abbrev pub BrokenHere : ℕ → Made → List Made → Type 0
+BrokenHere page m before = UnfitHere NotAll page m before
+
+-- ---- runs that can't serve
+abbrev pub BadHere : Directory → ℕ → Made → List Made → Type 0
+BadHere d page m before = UnusableHere d page m before ⊎ (LostHere d page m before ⊎ BrokenHere page m before)
+
+-- the run has a page that was read as not usable, or was lost or broken
+abbrev pub HasBad : Directory → ℕ → ℕ → List Made → Type 0
+HasBad d n first steps = (page : ℕ) × IsInRun first n page × Once (BadHere d page) steps
+
+-- each deed word was read, and no run can serve
+pub record IsVain (f : Profile) (d : Directory) (n : ℕ) (steps : List Made) : Type 0 where
+  pub deeds : (page : ℕ) → IsPage f page → Once (DeedReadHere page) steps
+  pub runs : (first : ℕ) → 1 ≤ first → first + n ≤ f.pages + 1 → HasBad d n first steps
+
+-- ---- runs that failed
+-- all pages of the run had been read as usable
+abbrev pub AllUsable : Directory → ℕ → ℕ → List Made → Type 0
+AllUsable d n first before = (page : ℕ) → IsInRun first n page → ReadUsable d page before
+
+-- a page of the run was lost or broken, after all of its pages had been read as usable
+abbrev pub FailsHere : Directory → ℕ → ℕ → Made → List Made → Type 0
+FailsHere d n first m before = AllUsable d n first before × ((page : ℕ) × IsInRun first n page × (LostHere d page m before ⊎ BrokenHere page m before))
+
+abbrev pub HasFailed : Directory → ℕ → ℕ → List Made → Type 0
+HasFailed d n first steps = Once (FailsHere d n first) steps
+
+-- each deed that was made is of a page of a run all of whose pages had been read as usable before it, and that run is one of these
+abbrev pub DeedsOf : Directory → ℕ → (ℕ → Type 0) → List Made → Type 0
+DeedsOf d n Chosen = Always (λ m before. (page : ℕ) (e : Directory) → m.step ≡ Deed page e → m.answer ≡ 0 → (e ≡ d) × ((first : ℕ) × IsInRun first n page × AllUsable d n first before × Chosen first))
+
+-- ---- the choice
+-- a take, made with the right, read each grain of this free word as free
+abbrev pub TakenWholeHere : ℕ → ℕ → Made → List Made → Type 0
+TakenWholeHere page word m before = WholeHere page word m before × KeptHere page m before
+
+-- Each page of the run was read as usable, and then got. Each of its free words was read as all free with the right, which was kept since.
+pub record IsTakenRun (d : Directory) (n first : ℕ) (before : List Made) : Type 0 where
+  pub usable : AllUsable d n first before
+  pub right : (page : ℕ) → IsInRun first n page → has_right before page ≡ true
+  pub whole : (page word : ℕ) → IsInRun first n page → word < 4 → Since (TakenWholeHere page word) (KeptHere page) before
+
+-- The give of the run's block. The run was whole and each lower one can't serve.
+pub record GivesHere (d : Directory) (n first : ℕ) (block : Block) (m : Made) (before : List Made) : Type 0 where
+  pub step_is : m.step ≡ Give block
+  pub taken : IsTakenRun d n first before
+  pub lower : (other : ℕ) → 1 ≤ other → other < first → HasBad d n other before
+
+-- each back is of a page of the run
+abbrev pub BacksOf : ℕ → ℕ → List Made → Type 0
+BacksOf n first = Always (λ m before. (page : ℕ) → m.step ≡ Back page → IsInRun first n page)
+
+abbrev pub NoBacks : List Made → Type 0
+NoBacks = Always (λ m before. (page : ℕ) → m.step ≡ Back page → ⊥)
+
+pub record IsServedLarge (f : Profile) (d : Directory) (n : ℕ) (steps : List Made) (block : Block) : Type 0 where
+  pub first : ℕ
+  pub of_region : (1 ≤ first) × (first + n ≤ f.pages + 1)
+  pub address : block.name.address.0 ≡ 4096 * first
+  pub room : block.room ≡ 4096 * n
+  pub heap : block.heap ≡ d.heap
+  pub gives : Once (GivesHere d n first block) steps
+  pub deeds : DeedsOf d n (λ other. (other ≡ first) ⊎ HasFailed d n other steps) steps
+  pub backs : BacksOf n first steps
+
+pub record IsRefusedLarge (f : Profile) (d : Directory) (n : ℕ) (steps : List Made) (room : NoRoom) : Type 0 where
+  pub vain : IsVain f d n steps
+  pub deeds : DeedsOf d n (λ other. HasFailed d n other steps) steps
+  pub backs : NoBacks steps
+  pub reason : IsReason f d steps room

@@ -1,0 +1,4 @@
+pub mod Refusals
+pub mod Evidence
+pub mod Pages
+pub mod Claims

@@ -1,0 +1,166 @@
+-- The claim of one page of a run.
+use Rattle.std.specs.Prelude.{ℕ, ◌+◌, ◌/◌, ◌<◌, ◌≤◌, ◌≡◌, ◌==◌, Bool, true, false, if◌then◌else◌, MatchBool, List, ◌++◌, ◌∷◌, [], length}
+use Rattle.pas_profile.specs.declared.directory.Directory.{Directory}
+use Rattle.pas_profile.specs.declared.profile.Profile.{Profile}
+use Rattle.pas_bits.specs.declared.mask.Mask4.{Mask4}
+use Rattle.pas_rights.specs.Leaves.{LosesHere}
+use Rattle.pas_rights.specs.Puts.{masked}
+use Rattle.pas_steps.specs.Agreement.{Agreed}
+use Rattle.pas_steps.specs.Calls.{Calls, Leads, AnyView, Fate, Kept, Gained, Lost, Effect, nothing, Does}
+use Rattle.pas_steps.specs.Clear.{IsClear, IsClearOn}
+use Rattle.pas_steps.specs.Desks.{Standing, Anything, Adds}
+use Rattle.pas_steps.specs.Events.{events_by}
+use Rattle.pas_steps.specs.Evidence.{KeptHere}
+use Rattle.pas_steps.specs.Frames.{OnlyOn, KeepsRight}
+use Rattle.pas_steps.specs.Kinds.{Kinds, LookDeed, Deeding, Claiming, Taking, Putting, Only}
+use Rattle.pas_steps.specs.Past.{Once, Always, Since}
+use Rattle.pas_steps.specs.Unknown.{unknown_pages}
+use Rattle.pas_steps.specs.Views.{View, holds, has_right, KnowsDeed}
+use Rattle.pas_steps.specs.declared.step.Made.{Made}
+use Rattle.pas_steps.specs.declared.step.Step.TheVariants.{Deed}
+use Rattle.pas_scan.specs.Usable.{ReadUsable, LeftAlone}
+use Rattle.pas_search.specs.Serving.{MayServe, GotBefore, right_of}
+use Rattle.pas_segregated.specs.Returns.{giving_back}
+use Rattle.pas_large.specs.Evidence.{LostHere, BrokenHere, TakenWholeHere}
+use Rattle.pas_large.specs.declared.claiming.Claimed.{Claimed}
+
+-- the page's right isn't the actor's, who is clear
+pub record MayClaim (page : ℕ) (v : View) : Type 0 where
+  pub lacks : has_right v page ≡ false
+  pub clear : IsClear v
+
+-- P holds at some of these steps, of it and of all steps before it, those that stood before these included
+abbrev pub OnceAfter : List Made → (Made → List Made → Type 0) → List Made → Type 0
+OnceAfter before P steps = Once (λ m b. P m (b ++ before)) steps
+
+-- ---- what becomes of pages
+-- all grains of these pages and their rights have this fate
+abbrev pub of_pages : (ℕ → Bool) → Fate → Effect
+of_pages pages fate = record { grains = λ g. if pages (g / 256) then fate else Kept; rights = λ q. if pages q then fate else Kept; clears = λ q. Kept }
+
+-- So they are the actor's: none of the grains was held before, and the deeds are known.
+pub record GotPages (pages : ℕ → Bool) (d : Directory) (v w : View) : Type 0 where
+  pub does : Does (of_pages pages Gained) v w
+  pub apart : (g : ℕ) → pages (g / 256) ≡ true → holds v g ≡ false
+  pub deeds : (p : ℕ) → pages p ≡ true → KnowsDeed p d w
+
+-- ---- deeds
+-- each deed that was made is of this page and directory
+abbrev pub DeedsOn : Directory → ℕ → List Made → Type 0
+DeedsOn d page = Always (λ m before. (p : ℕ) (e : Directory) → m.step ≡ Deed p e → m.answer ≡ 0 → (e ≡ d) × (p ≡ page))
+
+-- for each event a deed more is known
+abbrev pub OnlyDeedsShow : Profile → List Made → Type 0
+OnlyDeedsShow f steps = (k : ℕ) (v : View) → Agreed f v steps → length (events_by k v steps) + unknown_pages f (steps ++ v) ≤ unknown_pages f v
+
+-- ---- the right of a page
+abbrev pub getting : Kinds
+getting = LookDeed ∷ Deeding ∷ Claiming ∷ []
+
+-- the right is the actor's, and the page may be served from
+pub record GotRight (page : ℕ) (d : Directory) (v w : View) : Type 0 where
+  pub does : Does (right_of page Gained) v w
+  pub may : MayServe page d w
+
+pub record GetsRightOf (f : Profile) (d : Directory) (page : ℕ) (steps : List Made) : Type 0 where
+  pub leads : Leads f (MayClaim page) (GotRight page d) steps
+  pub got : (before : List Made) → LeftAlone page before → GotBefore page (steps ++ before)
+
+-- the page was lost, where the call had read it as usable before
+pub record LosesRightOf (f : Profile) (d : Directory) (page : ℕ) (steps : List Made) : Type 0 where
+  pub leads : Leads f AnyView (Does nothing) steps
+  pub lost : (before : List Made) (v : View) → LeftAlone page before → ReadUsable d page before → Agreed f v (steps ++ before) → OnceAfter before (LostHere d page) steps
+
+-- a look at the deed word, and a claim or a deed
+pub record GetsPage (d : Directory) (page : ℕ) (desk desk' : Standing) (got : Bool) : Type 0 where
+  pub steps : List Made
+  pub adds : Adds desk desk' Anything steps
+  pub on : OnlyOn page steps
+  pub kinds : Only getting steps
+  pub few : length steps ≤ 2
+  pub deeds : DeedsOn d page steps
+  pub shows : OnlyDeedsShow desk.seat.profile steps
+  pub outcome : MatchBool got (GetsRightOf desk.seat.profile d page steps) (LosesRightOf desk.seat.profile d page steps)
+
+-- ---- grains are put back, and their page is left
+-- the page's right and these of its grains are the actor's
+pub record MayPutAndLeave (page : ℕ) (d : Directory) (grains : ℕ → Bool) (v : View) : Type 0 where
+  pub right : has_right v page ≡ true
+  pub deed : KnowsDeed page d v
+  pub held : (g : ℕ) → grains g ≡ true → holds v g ≡ true
+  pub clear : IsClearOn page v
+
+abbrev pub put_and_left : ℕ → (ℕ → Bool) → Effect
+put_and_left page grains = record { grains = λ g. if grains g then Lost else Kept; rights = λ q. if page == q then Lost else Kept; clears = λ q. Kept }
+
+pub record PutsAndLeaves (page : ℕ) (d : Directory) (mask : Mask4) (desk desk' : Standing) : Type 0 where
+  pub puts : List Made
+  pub after : List Made
+  pub calls : Calls desk desk' (MayPutAndLeave page d (masked page mask)) (Does (put_and_left page (masked page mask))) (after ++ puts)
+  pub on : OnlyOn page (after ++ puts)
+  pub kinds : Only giving_back (after ++ puts)
+  pub few : length (after ++ puts) ≤ 15
+  pub only_puts : Only (Putting ∷ []) puts
+  pub left : Once (LosesHere page) after
+
+-- ---- the grains of a page
+-- all its grains are got, none of which was held before
+pub record TookPage (page : ℕ) (v w : View) : Type 0 where
+  pub does : Does (record { grains = λ g. if page == g / 256 then Gained else Kept; rights = λ q. Kept; clears = λ q. Kept }) v w
+  pub apart : (g : ℕ) → page ≡ g / 256 → holds v g ≡ false
+
+pub record KeepsAll (f : Profile) (d : Directory) (page : ℕ) (steps : List Made) : Type 0 where
+  pub leads : Leads f (MayServe page d) (TookPage page) steps
+  pub keeps : KeepsRight page steps
+  pub whole : (before : List Made) → GotBefore page before → (word : ℕ) → word < 4 → Since (TakenWholeHere page word) (KeptHere page) (steps ++ before)
+
+-- the page was broken: it was left, and its grains are as before
+pub record LeavesBroken (f : Profile) (d : Directory) (page : ℕ) (steps : List Made) : Type 0 where
+  pub leads : Leads f (MayServe page d) (Does (right_of page Lost)) steps
+  pub broken : (before : List Made) → GotBefore page before → OnceAfter before (BrokenHere page) steps
+
+abbrev pub taking_pages : Kinds
+taking_pages = Taking ∷ giving_back
+
+pub record TakesPage (d : Directory) (page : ℕ) (desk desk' : Standing) (whole : Bool) : Type 0 where
+  pub steps : List Made
+  pub adds : Adds desk desk' (λ v l. MayServe page d v) steps
+  pub on : OnlyOn page steps
+  pub kinds : Only taking_pages steps
+  pub few : length steps ≤ 31
+  pub outcome : MatchBool whole (KeepsAll desk.seat.profile d page steps) (LeavesBroken desk.seat.profile d page steps)
+
+-- ---- the claim
+abbrev pub claiming : Kinds
+claiming = LookDeed ∷ Deeding ∷ Claiming ∷ taking_pages
+
+-- another actor was first, and all is as it was
+pub record LosesPage (f : Profile) (d : Directory) (page : ℕ) (steps : List Made) : Type 0 where
+  pub still : Leads f (MayClaim page) (Does nothing) steps
+  pub lost : (before : List Made) (v : View) → LeftAlone page before → ReadUsable d page before → Agreed f v (steps ++ before) → OnceAfter before (LostHere d page) steps
+
+-- not all its grains were free, and all is as it was
+pub record BreaksPage (f : Profile) (page : ℕ) (steps : List Made) : Type 0 where
+  pub still : Leads f (MayClaim page) (Does nothing) steps
+  pub broken : (before : List Made) → LeftAlone page before → OnceAfter before (BrokenHere page) steps
+
+-- the page's right and all its grains are the actor's
+pub record WinsPage (f : Profile) (d : Directory) (page : ℕ) (steps : List Made) : Type 0 where
+  pub leads : Leads f (MayClaim page) (GotPages (λ q. page == q) d) steps
+  pub right : (before : List Made) → LeftAlone page before → has_right (steps ++ before) page ≡ true
+  pub whole : (before : List Made) → LeftAlone page before → (word : ℕ) → word < 4 → Since (TakenWholeHere page word) (KeptHere page) (steps ++ before)
+
+abbrev pub IsClaimed : Profile → Directory → ℕ → List Made → Claimed → Type 0
+IsClaimed f d page steps Claimed.Lost = LosesPage f d page steps
+IsClaimed f d page steps Claimed.Broken = BreaksPage f page steps
+IsClaimed f d page steps Claimed.Whole = WinsPage f d page steps
+
+pub record ClaimsPage (d : Directory) (page : ℕ) (desk desk' : Standing) (claimed : Claimed) : Type 0 where
+  pub steps : List Made
+  pub adds : Adds desk desk' (λ v l. MayClaim page v) steps
+  pub on : OnlyOn page steps
+  pub kinds : Only claiming steps
+  pub few : length steps ≤ 33
+  pub deeds : DeedsOn d page steps
+  pub shows : OnlyDeedsShow desk.seat.profile steps
+  pub outcome : IsClaimed desk.seat.profile d page steps claimed

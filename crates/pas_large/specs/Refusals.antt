@@ -1,0 +1,64 @@
+-- Why a large request is refused: what is said of each page of its directory.
+use Rattle.std.specs.Prelude.{ℕ, ◌+◌, ◌<◌, ◌≤◌, ◌≡◌, ◌⊎◌, false, MatchBool, List, ◌++◌}
+use Rattle.pas_profile.specs.Profiles.{IsPage}
+use Rattle.pas_profile.specs.declared.directory.Directory.{Directory}
+use Rattle.pas_profile.specs.declared.profile.Profile.{Profile}
+use Rattle.pas_profile.specs.declared.event.NoRoom.{NoRoom}
+use Rattle.pas_profile.specs.declared.event.NoRoom.TheVariants.{NoSpace, Held}
+use Rattle.pas_steps.specs.Views.{View, has_right, KnowsDeed}
+use Rattle.pas_steps.specs.Agreement.{Agreed}
+use Rattle.pas_steps.specs.Desks.{Standing, Anything, Adds}
+use Rattle.pas_steps.specs.Past.{Once, Always, Since}
+use Rattle.pas_steps.specs.Frames.{OnlyScans}
+use Rattle.pas_steps.specs.declared.step.Made.{Made}
+use Rattle.pas_scan.specs.Marks.{is_marked}
+use Rattle.pas_scan.specs.Scan.{IsVerdict}
+use Rattle.pas_steps.specs.Evidence.{ReadsEligible, ZeroHere, OneHere, Accounted, HeldHere, IsSingle}
+
+-- its eligible bit was last read as 1
+abbrev pub NotReadHere : Directory → ℕ → Made → List Made → Type 0
+NotReadHere d page m before = ReadsEligible d page m.step → ⊥
+
+abbrev pub LastOffered : Directory → ℕ → List Made → Type 0
+LastOffered d page steps = Since (OneHere d page) (NotReadHere d page) steps
+
+-- got and left, or read as parked after it was read as not offered, or last read as offered
+abbrev pub IsAccounted : Directory → ℕ → List Made → Type 0
+IsAccounted d page steps = Accounted d page steps ⊎ LastOffered d page steps
+
+abbrev pub AllAccounted : Profile → Directory → ℕ → List Made → Type 0
+AllAccounted f d end steps = (v : View) → Agreed f v steps → (p : ℕ) → 1 ≤ p → p < end → KnowsDeed p d (steps ++ v) → IsAccounted d p steps
+
+pub record IsHeldLarge (f : Profile) (d : Directory) (steps : List Made) (page : ℕ) : Type 0 where
+  pub page_of : IsPage f page
+  pub of_directory : (v : View) → Agreed f v steps → KnowsDeed page d (steps ++ v)
+  pub held : Once (HeldHere d page) steps
+  pub lower : AllAccounted f d page steps
+
+abbrev pub IsReason : Profile → Directory → List Made → NoRoom → Type 0
+IsReason f d steps NoSpace = AllAccounted f d (f.pages + 1) steps
+IsReason f d steps (Held page) = IsHeldLarge f d steps page
+
+-- ---- the parts
+-- exactly the pages are marked that were read as offered, and each last so
+pub record MarksOffered (d : Directory) (marks : List ℕ) (desk desk' : Standing) : Type 0 where
+  pub steps : List Made
+  pub adds : Adds desk desk' Anything steps
+  pub scans : OnlyScans steps
+  pub offered : (p : ℕ) → p ≤ desk.seat.profile.pages → MatchBool (is_marked marks p) (LastOffered d p steps) (Once (ZeroHere d p) steps)
+
+-- a verdict that reads no eligible word
+pub record JudgesApart (marks : List ℕ) (d : Directory) (desk desk' : Standing) (answer : NoRoom) : Type 0 where
+  pub steps : List Made
+  pub adds : Adds desk desk' Anything steps
+  pub scans : OnlyScans steps
+  pub single : IsSingle steps
+  pub apart : (p : ℕ) → Always (NotReadHere d p) steps
+  pub verdict : IsVerdict desk.seat.profile marks d steps answer
+
+-- The answer has its reason, whatever steps of the call stood before that have no right any more.
+pub record Refuses (d : Directory) (desk desk' : Standing) (answer : NoRoom) : Type 0 where
+  pub steps : List Made
+  pub adds : Adds desk desk' Anything steps
+  pub scans : OnlyScans steps
+  pub reason : (before : List Made) → ((p : ℕ) → has_right before p ≡ false) → IsReason desk.seat.profile d (steps ++ before) answer

@@ -1,0 +1,67 @@
+//! The pages of a run are claimed, one after the other, and left.
+ghost use Rattle.std.specs.Prelude.{◌≡◌, ◌≤◌, ◌+◌};
+ghost use Rattle.pas_profile.specs.Profiles.{IsDirectoryOf};
+ghost use Rattle.pas_steps.specs.Desks.{CanCall};
+ghost use Rattle.pas_large.specs.Claims.{HasRunRoom, ClaimsPages, ClaimsRun, HasPages, Releases};
+
+use crate::claiming::{Claimed, claim_page};
+use crate::leaving::put_and_leave;
+use pas_bits::Mask4;
+use pas_profile::Directory;
+use pas_steps::Desk;
+
+/// Claims the pages from `first` to below `end`, from the lowest up, until one is lost or broken, and answers the page where it stopped:
+/// `end` where all were claimed. The pages below are held whole, with their rights.
+fn claim_pages<D: Desk>(desk: &mut D, first: u32, end: u32, directory: Directory) -> u32
+    requires first { 1 ≤ first }
+    requires span { first ≤ end }
+    requires region { end ≤ (D.standing desk.old).seat.profile.pages + 1 }
+    requires directory { IsDirectoryOf (D.standing desk.old).seat.profile directory }
+    requires can { CanCall (D.standing desk.old) (λ v l. HasRunRoom (D.standing desk.old).seat.profile first end 1 (D.spare_of desk.old) v) }
+    ensures claims { ClaimsPages directory first end (D.standing desk.old) (D.standing desk.new) result }
+    ensures home { D.home desk.new ≡ D.home desk.old }
+{
+    for page in first..end {
+        match claim_page(desk, page, directory) {
+            Claimed::Whole => {}
+            Claimed::Lost => return page,
+            Claimed::Broken => return page,
+        }
+    }
+    end
+}
+
+/// Puts all grains of the pages from `first` to below `end` back and leaves them, from the lowest up.
+fn release<D: Desk>(desk: &mut D, first: u32, end: u32, directory: Directory)
+    requires first { 1 ≤ first }
+    requires span { first ≤ end }
+    requires region { end ≤ (D.standing desk.old).seat.profile.pages + 1 }
+    requires directory { IsDirectoryOf (D.standing desk.old).seat.profile directory }
+    requires can { CanCall (D.standing desk.old) (λ v l. HasPages directory first end v) }
+    ensures releases { Releases directory first end (D.standing desk.old) (D.standing desk.new) }
+    ensures home { D.home desk.new ≡ D.home desk.old }
+{
+    for page in first..end {
+        put_and_leave(desk, page, directory, &Mask4([u64::MAX; 4]));
+    }
+}
+
+/// Claims the pages from `first` to below `end` whole, from the lowest up.
+///
+/// None where all are held. Otherwise the page that was lost or broken: all that was got before is put back and left then.
+pub fn claim_run<D: Desk>(desk: &mut D, first: u32, end: u32, directory: Directory) -> Option<u32>
+    requires first { 1 ≤ first }
+    requires span { first ≤ end }
+    requires region { end ≤ (D.standing desk.old).seat.profile.pages + 1 }
+    requires directory { IsDirectoryOf (D.standing desk.old).seat.profile directory }
+    requires can { CanCall (D.standing desk.old) (λ v l. HasRunRoom (D.standing desk.old).seat.profile first end 1 (D.spare_of desk.old) v) }
+    ensures claims { ClaimsRun directory first end (D.standing desk.old) (D.standing desk.new) result }
+    ensures home { D.home desk.new ≡ D.home desk.old }
+{
+    let stop = claim_pages(desk, first, end, directory);
+    if stop == end {
+        return None;
+    }
+    release(desk, first, stop, directory);
+    Some(stop)
+}

@@ -1,0 +1,32 @@
+//! All grains of a page of a run.
+ghost use Rattle.std.specs.Prelude.{◌≡◌};
+ghost use Rattle.pas_profile.specs.Profiles.{IsPage, IsDirectoryOf};
+ghost use Rattle.pas_steps.specs.Desks.{CanCall};
+ghost use Rattle.pas_search.specs.Serving.{MayServe};
+ghost use Rattle.pas_large.specs.Pages.{TakesPage};
+
+use crate::leaving::put_and_leave;
+use pas_profile::Directory;
+use pas_segregated::take_slots;
+use pas_steps::Desk;
+
+/// The class whose slots are single grains.
+const GRAINS: u8 = 0;
+
+/// Takes all grains of the page, by four takes. False where some weren't free: those that were got are put back then, and the page is left.
+pub fn take_whole<D: Desk>(desk: &mut D, page: u32, directory: Directory) -> bool
+    requires page { IsPage (D.standing desk.old).seat.profile page }
+    requires directory { IsDirectoryOf (D.standing desk.old).seat.profile directory }
+    requires can { CanCall (D.standing desk.old) (λ v l. MayServe page directory v) }
+    ensures takes { TakesPage directory page (D.standing desk.old) (D.standing desk.new) result }
+    ensures home { D.home desk.new ≡ D.home desk.old }
+{
+    let got = take_slots(desk, page, directory, GRAINS);
+    match got.first_zero() {
+        None => true,
+        Some(_) => {
+            put_and_leave(desk, page, directory, &got);
+            false
+        }
+    }
+}
