@@ -4,3 +4,8 @@ pub mod PageTakes
 pub mod PageClaims
 pub mod Spans
 pub mod RunClaims
+pub mod Offers
+pub mod Reasons
+pub mod RunGives
+pub mod BlockGives
+pub mod WholeGives

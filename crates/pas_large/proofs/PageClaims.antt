@@ -36,7 +36,7 @@ claim_lost d page get = record {
   few = let few = get.few in omega (arith, few);
   deeds = get.deeds;
   shows = get.shows;
-  outcome = record { still = leads_as get.outcome.leads (λ v met. tt) (λ v w met does. does); lost = get.outcome.lost };
+  outcome = record { still = leads_as get.outcome.leads (λ v met. tt) (λ v w met does. does); lacks = get.outcome.lacks; lost = get.outcome.lost };
 }
 
 -- steps of a kind that makes no deeds and no events
@@ -129,5 +129,6 @@ module _ (d : Directory) (page : ℕ) {σ σ1 : Standing} (get : GetsPage d page
               let got = get.outcome.leads.from v met (agreed_later f v zs get.steps agreed) in
               subst (Does nothing v) (sym (append_assoc zs get.steps v)) (got_left page met.lacks got.does (left.from (get.steps ++ v) got.may (agreed_first f v zs get.steps agreed)));
         };
+        lacks = λ before none. ap (λ s. has_right s page) (append_assoc takes.steps get.steps before) ∙ takes.outcome.lacks (get.steps ++ before);
         broken = λ before alone. after_more (BrokenHere page) takes.steps get.steps before (takes.outcome.broken (get.steps ++ before) (get.outcome.got before alone));
       })

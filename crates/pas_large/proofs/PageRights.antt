@@ -107,6 +107,7 @@ module _ {σ σ1 : Standing} (d : Directory) (page a : ℕ) (is : a ≡ deed_wor
     deeds = (λ p e same z. cc, (λ p e same z. cc, tt));
     shows = λ k v agreed. (let still = unknown_stays σ.seat.profile (made (TakeRight page d) h.answer ∷ deed_look page a ∷ []) v agreed in omega (arith, still));
     outcome = record {
+      lacks = λ before none. claim_right h.answer false before h.got_is ∙ none;
       leads = record { from = λ v met agreed. nothing_lost page (claim_does h.answer Kept v agreed (claim_right h.answer false v h.got_is)) };
       lost = λ before v alone usable agreed. inl (inl (refl, sym h.got_is, alone.right, inl ((λ e. cc), alone.parks)));
     };
@@ -195,6 +196,7 @@ module _ {σ σ1 σ2 : Standing} (d : Directory) (page a b : ℕ) (is : IsPage �
     deeds = deeds_on d page a b;
     shows = shows_none (eqb-false b 0 e);
     outcome = record {
+      lacks = λ before none. deed_right false e before ∙ none;
       leads = record { from = λ v met agreed. nothing_lost page (deed_does Kept v agreed (deed_right false e v)) };
       lost = λ before v alone usable agreed. inl (inr (refl, eqb-false b 0 e, inr (other_known σ.seat.profile d page a before v ne usable agreed.1), ((λ x h z. cc), alone.deeds)));
     };

@@ -159,5 +159,5 @@ module _ (d : Directory) (page : ℕ) (got : Mask4) {σ σ1 : Standing} (taken :
       on = always_both (λ m before. IsOnPage page m.step) (λ m before. IsOnPage page m.step) (back.after ++ back.puts) taken.steps (λ m before h. h) back.on taken.on;
       kinds = only_both taking_pages (back.after ++ back.puts) taken.steps (only_within giving_back taking_pages (back.after ++ back.puts) refl back.kinds) taken.kinds;
       few = let n = length-append (back.after ++ back.puts) taken.steps in let a = back.few in let b = taken.few in omega (arith, n, a, b);
-      outcome = record { leads = left_call.leads; broken = broken };
+      outcome = record { leads = left_call.leads; lacks = λ before. ap (λ s. has_right s page) (append_assoc (back.after ++ back.puts) taken.steps before) ∙ back.lacks (taken.steps ++ before); broken = broken };
     }

@@ -1,5 +1,5 @@
 -- Grains are put back, and their page is left.
-use Rattle.std.proofs.Common.{◌≡◌, ℕ, ◌==◌, Bool, true, false, if◌then◌else◌, [], ◌∷◌, ◌++◌, inl, refl, ◌∙◌, subst, arith, length-append}
+use Rattle.std.proofs.Common.{◌≡◌, ℕ, ◌==◌, Bool, true, false, if◌then◌else◌, [], ◌∷◌, ◌++◌, inl, refl, ◌∙◌, subst, arith, length-append, ap, append_assoc}
 use Rattle.std.proofs.lemmas.Bool.{eqb-true}
 use Rattle.pas_profile.specs.declared.directory.Directory.{Directory}
 use Rattle.pas_bits.specs.declared.mask.Mask4.{Mask4}
@@ -7,12 +7,13 @@ use Rattle.pas_rights.specs.Leaves.{MayLeave, Leaves}
 use Rattle.pas_rights.specs.Puts.{masked, MayPut, PutsMask}
 use Rattle.pas_rights.specs.Returns.{Settles}
 use Rattle.pas_segregated.specs.Returns.{giving_back}
+use Rattle.pas_rights.proofs.Debts.{leave_lacks}
 use Rattle.pas_steps.specs.Calls.{Calls, Kept, Lost, later, put, Does, ClearAfter}
 use Rattle.pas_steps.specs.Clear.{IsClearOn}
 use Rattle.pas_steps.specs.Desks.{Standing, CanCall}
 use Rattle.pas_steps.specs.Frames.{IsOnPage}
 use Rattle.pas_steps.specs.Kinds.{Putting, returning}
-use Rattle.pas_steps.specs.Views.{View}
+use Rattle.pas_steps.specs.Views.{View, has_right}
 use Rattle.pas_steps.proofs.Apart.{deeds_same, unstamped_same, examines_same, only_both, only_within}
 use Rattle.pas_steps.proofs.Called.{call_as, call_then, next_call}
 use Rattle.pas_steps.proofs.Calls.{does_as, does_then, kept_first, returns_are}
@@ -53,4 +54,5 @@ module _ {σ σ1 : Standing} (page : ℕ) (d : Directory) (mask : Mask4) (puts :
     few = let all = length-append left.steps puts.steps in let a = left.few in let b = puts.few in omega (arith, all, a, b);
     only_puts = puts.kinds;
     left = left.left;
+    lacks = λ before. ap (λ s. has_right s page) (append_assoc left.steps puts.steps before) ∙ leave_lacks page d left.steps (puts.steps ++ before) left.order;
   }

@@ -30,11 +30,11 @@ use Rattle.pas_scan.specs.Usable.{LeftAlone}
 use Rattle.pas_scan.proofs.LeftPages.{usable_later}
 use Rattle.pas_large.specs.Evidence.{LostHere, BrokenHere, TakenWholeHere}
 use Rattle.pas_large.specs.Pages.{MayClaim, MayPutAndLeave, put_and_left, PutsAndLeaves, of_pages, GotPages, DeedsOn, OnlyDeedsShow, taking_pages, claiming, LosesPage, BreaksPage, WinsPage, ClaimsPage}
-use Rattle.pas_large.specs.Claims.{in_span, MayClaimPages, HasRunRoom, AloneFrom, DeedsIn, HoldsSpan, FailsAt, ClaimsPages, HasPages, Releases, ClaimsRun}
+use Rattle.pas_large.specs.Claims.{in_span, MayClaimPages, HasRunRoom, AloneFrom, DeedsIn, HoldsSpan, FailsAt, ClaimsPages, HasPages, Releases, ClaimsRun, LacksAll}
 use Rattle.pas_large.specs.declared.claiming.Claimed.{Claimed}
 use Rattle.pas_large.proofs.PageClaims.{no_deeds, shows_both, shows_taking}
 use Rattle.pas_large.proofs.PageTakes.{after_more}
-use Rattle.pas_large.proofs.Spans.{span_in, in_parts, span_past, span_none, span_more, got_none, got_both, got_still, undone, full, full_set, alone_on, since_on}
+use Rattle.pas_large.proofs.Spans.{span_in, in_parts, span_past, span_none, span_more, got_none, got_both, got_still, undone, full, full_set, alone_on, since_on, not_in, span_apart, span_less}
 
 pub record PagesSoFar (d : Directory) (first end page : ℕ) (desk desk' : Standing) : Type 0 where
   pub steps : List Made
@@ -45,6 +45,7 @@ pub record PagesSoFar (d : Directory) (first end page : ℕ) (desk desk' : Stand
   pub shows : OnlyDeedsShow desk.seat.profile steps
   pub got : Leads desk.seat.profile (MayClaimPages first end) (GotPages (in_span first page) d) steps
   pub holding : (before : List Made) → AloneFrom first before → HoldsSpan first page (steps ++ before)
+  pub lacks : (before : List Made) → LacksAll before → (p : ℕ) → in_span first page p ≡ false → has_right (steps ++ before) p ≡ false
   pub alone : (before : List Made) → AloneFrom first before → AloneFrom page (steps ++ before)
 
 pub pages_none : {σ : Standing} (d : Directory) (first end : ℕ) → PagesSoFar d first end first σ σ
@@ -57,6 +58,7 @@ pages_none d first end = record {
   shows = λ k v agreed. omega arith;
   got = record { from = λ v met agreed. got_none d (in_span first first) v (span_none first) (does_none v) };
   holding = λ before alone. record { right = λ p low high. absurd (omega (arith, low, high)); whole = λ p word low high lt. absurd (omega (arith, low, high)) };
+  lacks = λ before none p out. none p;
   alone = λ before alone. alone;
 }
 
@@ -161,12 +163,13 @@ module _ {σ σ1 : Standing} (d : Directory) (first end page : ℕ) (low : first
                   | inr ne ↦ rest.whole p word ge (omega (arith, lt, ne)) small
                 ];
               };
+          lacks = λ before none p out. let ne = not_in first page p low out in ap (λ s. has_right s p) (all_at before) ∙ right_on page p ys (xs ++ before) h.on ne ∙ so_far.lacks before none p (span_less first page p out);
           alone = turn_alone;
         }
 
     -- it was lost or broken
-    stopped : Leads σ.seat.profile (MayClaim page) (Does nothing) h.steps → FailsAt σ.seat.profile d first page (h.steps ++ so_far.steps) → ClaimsPages d first end σ σ2 page
-    stopped still failed = record {
+    stopped : Leads σ.seat.profile (MayClaim page) (Does nothing) h.steps → ((before : List Made) → has_right before page ≡ false → has_right (h.steps ++ before) page ≡ false) → FailsAt σ.seat.profile d first page (h.steps ++ so_far.steps) → ClaimsPages d first end σ σ2 page
+    stopped still lack failed = record {
       steps = ys ++ xs;
       adds = turn_adds;
       kinds = only_both claiming ys xs h.kinds so_far.kinds;
@@ -180,6 +183,10 @@ module _ {σ σ1 : Standing} (d : Directory) (first end page : ℕ) (low : first
             subst (GotPages (in_span first page) d v) (sym (all_at v)) (got_still d (in_span first page) old (still.from (xs ++ v) (page_may v met old) (agreed_ys v agreed)) (λ p knows. knows_still σ.seat.profile d p ys (xs ++ v) (agreed_ys v agreed) knows));
       };
       holding = others_held;
+      lacks = λ before none p out. let old = so_far.lacks before none p out in ap (λ s. has_right s p) (all_at before) ∙ elim (cases_eq p page) [
+        | inl e ↦ subst (λ q. has_right (xs ++ before) q ≡ false → has_right (ys ++ (xs ++ before)) q ≡ false) (sym e) (lack (xs ++ before)) old
+        | inr ne ↦ right_on page p ys (xs ++ before) h.on ne ∙ old
+      ];
       alone = turn_alone;
       failed = λ lt. failed;
     }
@@ -187,12 +194,12 @@ module _ {σ σ1 : Standing} (d : Directory) (first end page : ℕ) (low : first
     pub lost_turn : LosesPage σ1.seat.profile d page h.steps → ClaimsPages d first end σ σ2 page
     lost_turn lost =
         let loses = subst (λ (s : Seat). LosesPage s.profile d page ys) so_far.adds.seat_is lost in
-        stopped loses.still (λ before v free usable agreed. inl (after_more (LostHere d page) ys xs before (loses.lost (xs ++ before) v (so_far.alone before free page (omega arith)) (usable_later d page xs before usable) (subst (Agreed σ.seat.profile v) (all_at before) agreed))))
+        stopped loses.still loses.lacks (λ before v free usable agreed. inl (after_more (LostHere d page) ys xs before (loses.lost (xs ++ before) v (so_far.alone before free page (omega arith)) (usable_later d page xs before usable) (subst (Agreed σ.seat.profile v) (all_at before) agreed))))
 
     pub broken_turn : BreaksPage σ1.seat.profile page h.steps → ClaimsPages d first end σ σ2 page
     broken_turn broken =
         let breaks = subst (λ (s : Seat). BreaksPage s.profile page ys) so_far.adds.seat_is broken in
-        stopped breaks.still (λ before v free usable agreed. inr (after_more (BrokenHere page) ys xs before (breaks.broken (xs ++ before) (so_far.alone before free page (omega arith)))))
+        stopped breaks.still breaks.lacks (λ before v free usable agreed. inr (after_more (BrokenHere page) ys xs before (breaks.broken (xs ++ before) (so_far.alone before free page (omega arith)))))
 
 -- all were claimed
 pub all_claimed : {σ σ1 : Standing} (d : Directory) (first end page : ℕ) → page ≡ end → first ≤ end → PagesSoFar d first end page σ σ1 → ClaimsPages d first end σ σ1 end
@@ -208,6 +215,7 @@ all_claimed {σ} {σ1} d first end page e le so_far =
       span = (le, omega arith);
       got = all.got;
       holding = all.holding;
+      lacks = all.lacks;
       alone = λ before free p ge. all.alone before free p (omega (arith, ge));
       failed = λ lt. absurd (omega (arith, lt));
     }
@@ -218,6 +226,7 @@ pub record LeftSoFar (d : Directory) (first end page : ℕ) (desk desk' : Standi
   pub calls : Calls desk desk' (HasPages d first end) (λ v w. Does (of_pages (in_span first page) Lost) v w × ((p : ℕ) → in_span first end p ≡ true → KnowsDeed p d w)) steps
   pub kinds : Only giving_back steps
   pub few : length steps + 15 * first ≤ 15 * page
+  pub lacks : (before : List Made) (p : ℕ) → (in_span first page p ≡ false → has_right before p ≡ false) → has_right (steps ++ before) p ≡ false
   pub alone : (before : List Made) (p : ℕ) → page ≤ p → LeftAlone p before → LeftAlone p (steps ++ before)
 
 pub left_none : {σ : Standing} (d : Directory) (first end : ℕ) → LeftSoFar d first end first σ σ
@@ -229,6 +238,7 @@ left_none d first end = record {
   ));
   kinds = tt;
   few = omega arith;
+  lacks = λ before p none. none (span_none first p);
   alone = λ before p ge alone. alone;
 }
 
@@ -272,6 +282,10 @@ module _ {σ σ1 : Standing} (d : Directory) (first end page : ℕ) (low : first
             ));
         kinds = only_both giving_back ys so_far.steps h.kinds so_far.kinds;
         few = let n = length-append ys so_far.steps in let a = h.few in let b = so_far.few in omega (arith, n, a, b);
+        lacks = λ before p none. ap (λ s. has_right s p) (append_assoc ys so_far.steps before) ∙ elim (cases_eq p page) [
+          | inl e ↦ ap (has_right (ys ++ (so_far.steps ++ before))) e ∙ h.lacks (so_far.steps ++ before)
+          | inr ne ↦ right_on page p ys (so_far.steps ++ before) h.on ne ∙ so_far.lacks before p (λ out. none (span_apart first page p ne out))
+        ];
         alone = λ before p ge alone. subst (LeftAlone p) (sym (append_assoc ys so_far.steps before)) (alone_on page p ys (so_far.steps ++ before) h.on (λ e. absurd (omega (arith, e, ge))) (so_far.alone before p (omega (arith, ge)) alone));
       }
 
@@ -283,6 +297,7 @@ releases_all {σ} {σ1} d first end page e le so_far =
       calls = record { adds = all.calls.adds; leads = record { from = λ v met agreed. (all.calls.leads.from v met agreed).0 } };
       kinds = all.kinds;
       few = let few = all.few in omega (arith, few, le);
+      lacks = all.lacks;
       alone = all.alone;
     }
 
@@ -332,6 +347,7 @@ module _ {σ σ1 : Standing} (d : Directory) (first end stop : ℕ) (ne : stop �
         outcome = record {
           in_run = (h.span.0, before_end);
           still = calls.leads;
+          lacks = λ before none p. ap (λ s. has_right s p) (append_assoc r.steps h.steps before) ∙ r.lacks (h.steps ++ before) p (λ out. h.lacks before none p out);
           alone = λ before free p ge. subst (LeftAlone p) (sym (append_assoc r.steps h.steps before)) (r.alone (h.steps ++ before) p (omega (arith, ge)) (h.alone before free p ge));
           failed = λ before v free usable agreed.
               let mine : Agreed σ.seat.profile v (h.steps ++ before) = agreed_later σ.seat.profile v r.steps (h.steps ++ before) (subst (Agreed σ.seat.profile v) (append_assoc r.steps h.steps before) agreed) in

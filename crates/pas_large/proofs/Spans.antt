@@ -38,6 +38,15 @@ span_none first p = grind (arith, nat_tests)
 pub span_more : (first page p : ℕ) → first ≤ page → (in_span first page p || (page == p)) ≡ in_span first (page + 1) p
 span_more first page p low = grind (arith, nat_tests)
 
+pub span_less : (first page p : ℕ) → in_span first (page + 1) p ≡ false → in_span first page p ≡ false
+span_less first page p out = grind (arith, nat_tests)
+
+pub not_in : (first page p : ℕ) → first ≤ page → in_span first (page + 1) p ≡ false → p ≢ page
+not_in first page p low out e = true≢false (sym (span_in first (page + 1) p (omega (arith, e, low)) (omega (arith, e))) ∙ out)
+
+pub span_apart : (first page p : ℕ) → p ≢ page → in_span first page p ≡ false → in_span first (page + 1) p ≡ false
+span_apart first page p ne out = grind (arith, nat_tests)
+
 -- ---- effects on sets of pages
 was_not : (t had : Bool) → now (if t then Gained else Kept) had ≡ false → had ≡ false
 was_not true had h = cc

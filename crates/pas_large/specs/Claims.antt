@@ -36,6 +36,10 @@ pub record HasRunRoom (f : Profile) (first end n spare : ℕ) (v : View) : Type 
 abbrev pub AloneFrom : ℕ → List Made → Type 0
 AloneFrom first before = (page : ℕ) → first ≤ page → LeftAlone page before
 
+-- these steps have no right
+abbrev pub LacksAll : List Made → Type 0
+LacksAll before = (p : ℕ) → has_right before p ≡ false
+
 -- each deed that was made is of this directory and of one of these pages
 abbrev pub DeedsIn : Directory → ℕ → ℕ → List Made → Type 0
 DeedsIn d first end = Always (λ m before. (p : ℕ) (e : Directory) → m.step ≡ Deed p e → m.answer ≡ 0 → (e ≡ d) × (first ≤ p) × (p < end))
@@ -61,6 +65,7 @@ pub record ClaimsPages (d : Directory) (first end : ℕ) (desk desk' : Standing)
   pub span : (first ≤ stop) × (stop ≤ end)
   pub got : Leads desk.seat.profile (MayClaimPages first end) (GotPages (in_span first stop) d) steps
   pub holding : (before : List Made) → AloneFrom first before → HoldsSpan first stop (steps ++ before)
+  pub lacks : (before : List Made) → LacksAll before → (p : ℕ) → in_span first stop p ≡ false → has_right (steps ++ before) p ≡ false
   pub alone : (before : List Made) → AloneFrom first before → AloneFrom (stop + 1) (steps ++ before)
   pub failed : stop < end → FailsAt desk.seat.profile d first stop steps
 
@@ -78,6 +83,7 @@ pub record Releases (d : Directory) (first end : ℕ) (desk desk' : Standing) : 
   pub calls : Calls desk desk' (HasPages d first end) (Does (of_pages (in_span first end) Lost)) steps
   pub kinds : Only giving_back steps
   pub few : length steps ≤ 15 * (end - first)
+  pub lacks : (before : List Made) (p : ℕ) → (in_span first end p ≡ false → has_right before p ≡ false) → has_right (steps ++ before) p ≡ false
   pub alone : (before : List Made) (p : ℕ) → end ≤ p → LeftAlone p before → LeftAlone p (steps ++ before)
 
 -- ---- the claim of a run
@@ -90,6 +96,7 @@ pub record HoldsRun (f : Profile) (d : Directory) (first end : ℕ) (steps : Lis
 pub record FailsRun (f : Profile) (d : Directory) (first end page : ℕ) (steps : List Made) : Type 0 where
   pub in_run : (first ≤ page) × (page < end)
   pub still : Leads f (MayClaimPages first end) (Does nothing) steps
+  pub lacks : (before : List Made) → LacksAll before → LacksAll (steps ++ before)
   pub alone : (before : List Made) → AloneFrom first before → AloneFrom (page + 1) (steps ++ before)
   pub failed : FailsAt f d first page steps
 

@@ -2,3 +2,4 @@ pub mod Refusals
 pub mod Evidence
 pub mod Pages
 pub mod Claims
+pub mod Gives

@@ -69,6 +69,7 @@ pub record GetsRightOf (f : Profile) (d : Directory) (page : ℕ) (steps : List 
 -- the page was lost, where the call had read it as usable before
 pub record LosesRightOf (f : Profile) (d : Directory) (page : ℕ) (steps : List Made) : Type 0 where
   pub leads : Leads f AnyView (Does nothing) steps
+  pub lacks : (before : List Made) → has_right before page ≡ false → has_right (steps ++ before) page ≡ false
   pub lost : (before : List Made) (v : View) → LeftAlone page before → ReadUsable d page before → Agreed f v (steps ++ before) → OnceAfter before (LostHere d page) steps
 
 -- a look at the deed word, and a claim or a deed
@@ -102,6 +103,7 @@ pub record PutsAndLeaves (page : ℕ) (d : Directory) (mask : Mask4) (desk desk'
   pub few : length (after ++ puts) ≤ 15
   pub only_puts : Only (Putting ∷ []) puts
   pub left : Once (LosesHere page) after
+  pub lacks : (before : List Made) → has_right ((after ++ puts) ++ before) page ≡ false
 
 -- ---- the grains of a page
 -- all its grains are got, none of which was held before
@@ -117,6 +119,7 @@ pub record KeepsAll (f : Profile) (d : Directory) (page : ℕ) (steps : List Mad
 -- the page was broken: it was left, and its grains are as before
 pub record LeavesBroken (f : Profile) (d : Directory) (page : ℕ) (steps : List Made) : Type 0 where
   pub leads : Leads f (MayServe page d) (Does (right_of page Lost)) steps
+  pub lacks : (before : List Made) → has_right (steps ++ before) page ≡ false
   pub broken : (before : List Made) → GotBefore page before → OnceAfter before (BrokenHere page) steps
 
 abbrev pub taking_pages : Kinds
@@ -137,11 +140,13 @@ claiming = LookDeed ∷ Deeding ∷ Claiming ∷ taking_pages
 -- another actor was first, and all is as it was
 pub record LosesPage (f : Profile) (d : Directory) (page : ℕ) (steps : List Made) : Type 0 where
   pub still : Leads f (MayClaim page) (Does nothing) steps
+  pub lacks : (before : List Made) → has_right before page ≡ false → has_right (steps ++ before) page ≡ false
   pub lost : (before : List Made) (v : View) → LeftAlone page before → ReadUsable d page before → Agreed f v (steps ++ before) → OnceAfter before (LostHere d page) steps
 
 -- not all its grains were free, and all is as it was
 pub record BreaksPage (f : Profile) (page : ℕ) (steps : List Made) : Type 0 where
   pub still : Leads f (MayClaim page) (Does nothing) steps
+  pub lacks : (before : List Made) → has_right before page ≡ false → has_right (steps ++ before) page ≡ false
   pub broken : (before : List Made) → LeftAlone page before → OnceAfter before (BrokenHere page) steps
 
 -- the page's right and all its grains are the actor's

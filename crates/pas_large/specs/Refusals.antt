@@ -1,5 +1,5 @@
 -- Why a large request is refused: what is said of each page of its directory.
-use Rattle.std.specs.Prelude.{ℕ, ◌+◌, ◌<◌, ◌≤◌, ◌≡◌, ◌⊎◌, false, MatchBool, List, ◌++◌}
+use Rattle.std.specs.Prelude.{ℕ, ◌+◌, ◌<◌, ◌≤◌, ◌≡◌, ◌⊎◌, false, MatchBool, List, ◌++◌, length, ◌/◌, ◌*◌}
 use Rattle.pas_profile.specs.Profiles.{IsPage}
 use Rattle.pas_profile.specs.declared.directory.Directory.{Directory}
 use Rattle.pas_profile.specs.declared.profile.Profile.{Profile}
@@ -45,20 +45,13 @@ pub record MarksOffered (d : Directory) (marks : List ℕ) (desk desk' : Standin
   pub steps : List Made
   pub adds : Adds desk desk' Anything steps
   pub scans : OnlyScans steps
+  pub few : length steps ≤ desk.seat.profile.pages / 64 + 1
   pub offered : (p : ℕ) → p ≤ desk.seat.profile.pages → MatchBool (is_marked marks p) (LastOffered d p steps) (Once (ZeroHere d p) steps)
 
--- a verdict that reads no eligible word
-pub record JudgesApart (marks : List ℕ) (d : Directory) (desk desk' : Standing) (answer : NoRoom) : Type 0 where
-  pub steps : List Made
-  pub adds : Adds desk desk' Anything steps
-  pub scans : OnlyScans steps
-  pub single : IsSingle steps
-  pub apart : (p : ℕ) → Always (NotReadHere d p) steps
-  pub verdict : IsVerdict desk.seat.profile marks d steps answer
-
--- The answer has its reason, whatever steps of the call stood before that have no right any more.
+-- The answer has its reason, whatever steps of the call stood before that have no right any more. At most 66 looks for 64 pages.
 pub record Refuses (d : Directory) (desk desk' : Standing) (answer : NoRoom) : Type 0 where
   pub steps : List Made
   pub adds : Adds desk desk' Anything steps
   pub scans : OnlyScans steps
+  pub few : length steps ≤ 66 * (desk.seat.profile.pages / 64 + 1)
   pub reason : (before : List Made) → ((p : ℕ) → has_right before p ≡ false) → IsReason desk.seat.profile d (steps ++ before) answer

@@ -3,8 +3,12 @@
 
 mod claiming;
 mod getting;
+mod giving;
 mod leaving;
+mod refusing;
 mod running;
 mod taking;
 
+pub use giving::give_run;
+pub use refusing::refuse;
 pub use running::claim_run;

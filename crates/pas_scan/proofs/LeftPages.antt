@@ -38,7 +38,7 @@ left_alone_by ks rights grains p xs only = record {
 }
 
 -- ---- readings
-since_earlier : (P Q R S : Made → List Made → Type 0) (ys xs : List Made) → ((m : Made) (before : List Made) → P m before → R m (before ++ xs)) → ((m : Made) (before : List Made) → Q m before → S m (before ++ xs)) → Since P Q ys → Since R S (ys ++ xs)
+pub since_earlier : (P Q R S : Made → List Made → Type 0) (ys xs : List Made) → ((m : Made) (before : List Made) → P m before → R m (before ++ xs)) → ((m : Made) (before : List Made) → Q m before → S m (before ++ xs)) → Since P Q ys → Since R S (ys ++ xs)
 since_earlier P Q R S [] xs first later h = absurd h
 since_earlier P Q R S (m ∷ ys) xs first later (inl h) = inl (first m ys h)
 since_earlier P Q R S (m ∷ ys) xs first later (inr h) = inr (later m ys h.0, since_earlier P Q R S ys xs first later h.1)

@@ -1,0 +1,136 @@
+-- The reason of a refusal: the eligible words, and then the verdict.
+use Rattle.std.proofs.Common.{◌≡◌, ℕ, ◌+◌, ◌<◌, ◌≤◌, Bool, true, false, List, [], ◌∷◌, ◌++◌, inl, inr, refl, ap, sym, ◌∙◌, subst, arith, append_assoc, MatchBool, true≢false, length, length-append, ◌*◌, ◌/◌}
+use Rattle.pas_steps.specs.Kinds.{kind_of, is_in}
+use Rattle.pas_steps.specs.declared.step.Step.{Step}
+use Rattle.pas_profile.specs.declared.directory.Directory.{Directory}
+use Rattle.pas_profile.specs.declared.profile.Profile.{Profile}
+use Rattle.pas_profile.specs.declared.event.NoRoom.{NoRoom}
+use Rattle.pas_profile.specs.declared.event.NoRoom.TheVariants.{NoSpace, Held}
+use Rattle.pas_steps.specs.Views.{View, has_right, known_deed}
+use Rattle.pas_steps.specs.Past.{Once, Always, Since}
+use Rattle.pas_steps.specs.Frames.{IsScan, OnlyScans}
+use Rattle.pas_steps.specs.Desks.{Seat, Standing, Anything, Adds}
+use Rattle.pas_steps.specs.declared.step.Made.{Made}
+use Rattle.pas_steps.proofs.Adding.{adds_call}
+use Rattle.pas_steps.proofs.Past.{once_later, once_earlier, always_map}
+use Rattle.pas_scan.proofs.LeftPages.{since_earlier}
+use Rattle.pas_scan.specs.Marks.{is_marked}
+use Rattle.pas_scan.specs.Scan.{IsMember, AllParked, IsVerdict, Judges, judging, last_block}
+use Rattle.pas_steps.specs.Evidence.{ReadsEligible, ZeroHere, OneHere, ParkedHere, ParkedLater, LacksAfter, MissingHere, HeldHere}
+use Rattle.pas_scan.proofs.Reading.{right_scans}
+use Rattle.pas_scan.proofs.Judging.{scans_append}
+use Rattle.pas_steps.proofs.Frames.{right_own}
+use Rattle.pas_large.specs.Refusals.{NotReadHere, LastOffered, IsAccounted, AllAccounted, IsHeldLarge, IsReason, MarksOffered, Refuses}
+
+-- a verdict reads no eligible word
+since_later : (P Q R : Made → List Made → Type 0) (ys xs : List Made) → ((m : Made) (b : List Made) → R m b → Q m (b ++ xs)) → Always R ys → Since P Q xs → Since P Q (ys ++ xs)
+since_later P Q R [] xs f all h = h
+since_later P Q R (m ∷ ys) xs f all h = inr (f m ys all.0, since_later P Q R ys xs f all.1 h)
+
+eligible_kind : (d : Directory) (p : ℕ) (s : Step) → ReadsEligible d p s → is_in judging (kind_of s) ≡ false
+eligible_kind d p s (ReadsEligible.Looks n j a b) = refl
+eligible_kind d p s ReadsEligible.Claims = refl
+
+abbrev held_of : NoRoom → ℕ
+held_of NoSpace = 0
+held_of (Held p) = p
+
+last_within : (f : Profile) (room : NoRoom) → ((page : ℕ) → room ≡ Held page → page ≤ f.pages) → last_block f room ≤ f.pages / 64
+last_within f NoSpace h = omega arith
+last_within f (Held page) h = let le = h page refl in omega (arith, le)
+
+-- ---- a page read as not offered, and its right not had since
+missing : (d : Directory) (p : ℕ) (ys xs : List Made) → OnlyScans ys → has_right xs p ≡ false → Once (ZeroHere d p) ys → Since (MissingHere d p) (LacksAfter p) (ys ++ xs)
+missing d p [] xs scans none h = absurd h
+missing d p (m ∷ ys) xs scans none (inl z) = inl (inl (z.0, z.1, right_own p ys xs none ∙ z.2), right_scans (m ∷ ys) xs p scans ∙ none)
+missing d p (m ∷ ys) xs scans none (inr h) = inr (right_scans (m ∷ ys) xs p scans ∙ none, missing d p ys xs scans.1 none h)
+
+since_scans : (d : Directory) (p : ℕ) (ys xs : List Made) → OnlyScans ys → has_right xs p ≡ false → Since (MissingHere d p) (LacksAfter p) xs → Since (MissingHere d p) (LacksAfter p) (ys ++ xs)
+since_scans d p [] xs scans none h = h
+since_scans d p (m ∷ ys) xs scans none h = inr (right_scans (m ∷ ys) xs p scans ∙ none, since_scans d p ys xs scans.1 none h)
+
+held_from : (d : Directory) (p : ℕ) (ys xs : List Made) → OnlyScans ys → has_right xs p ≡ false → Since (MissingHere d p) (LacksAfter p) xs → Once (ParkedHere false p) ys → Once (HeldHere d p) (ys ++ xs)
+held_from d p [] xs scans none since h = absurd h
+held_from d p (m ∷ ys) xs scans none since (inl z) = inl ((z.0, z.1, right_own p ys xs none ∙ z.2), since_scans d p ys xs scans.1 none since)
+held_from d p (m ∷ ys) xs scans none since (inr h) = inr (held_from d p ys xs scans.1 none since h)
+
+zero_before : (d : Directory) (p : ℕ) (ys xs : List Made) → has_right xs p ≡ false → Once (ZeroHere d p) ys → Once (ZeroHere d p) (ys ++ xs)
+zero_before d p ys xs none = once_earlier (ZeroHere d p) (ZeroHere d p) ys xs (λ m before z. (z.0, z.1, right_own p before xs none ∙ z.2))
+
+module _ (d : Directory) (marks : List ℕ) {σ σ1 σ2 : Standing} (offers : MarksOffered d marks σ σ1) (room : NoRoom) (judges : Judges marks d σ1 σ2 room) where
+  abbrev f : Profile
+  f = σ.seat.profile
+
+  abbrev ms : List Made
+  ms = offers.steps
+
+  abbrev js : List Made
+  js = judges.steps
+
+  same : σ1.seat.profile ≡ f
+  same = ap (λ (s : Seat). s.profile) offers.adds.seat_is
+
+  reads_none : (p : ℕ) → Always (NotReadHere d p) js
+  reads_none p = always_map (λ m before. is_in judging (kind_of m.step) ≡ true) (NotReadHere d p) js (λ m before is reads. true≢false (sym is ∙ eligible_kind d p m.step reads)) judges.kinds
+
+  held_page : (answer : NoRoom) → IsVerdict f marks d js answer → (page : ℕ) → answer ≡ Held page → page ≤ f.pages
+  held_page NoSpace verdict page e = cc
+  held_page (Held q) verdict page e = let at : q ≡ page = ap held_of e in let le = (verdict.0 []).of_region.1 in omega (arith, at, le)
+
+  module _ (before : List Made) (none : (p : ℕ) → has_right before p ≡ false) where
+    ms_none : (p : ℕ) → has_right (ms ++ before) p ≡ false
+    ms_none p = right_scans ms before p offers.scans ∙ none p
+
+    at : (js ++ ms) ++ before ≡ js ++ (ms ++ before)
+    at = append_assoc js ms before
+
+    at_view : (v : View) → ((js ++ ms) ++ before) ++ v ≡ js ++ ((ms ++ before) ++ v)
+    at_view v = ap (λ s. s ++ v) at ∙ append_assoc js (ms ++ before) v
+
+    last : (p : ℕ) → LastOffered d p ms → LastOffered d p ((js ++ ms) ++ before)
+    last p h = subst (LastOffered d p) (sym at)
+        (since_later (OneHere d p) (NotReadHere d p) (NotReadHere d p) js (ms ++ before) (λ m b x. x) (reads_none p)
+        (since_earlier (OneHere d p) (NotReadHere d p) (OneHere d p) (NotReadHere d p) ms before (λ m b x. (x.0, x.1, right_own p b before (none p) ∙ x.2)) (λ m b x. x) h))
+
+    parked_later : (p : ℕ) → Once (ZeroHere d p) ms → Once (ParkedHere true p) js → Once (ParkedLater d p) ((js ++ ms) ++ before)
+    parked_later p zero_read h = subst (Once (ParkedLater d p)) (sym at)
+        (once_earlier (ParkedHere true p) (ParkedLater d p) js (ms ++ before) (λ m b x. ((x.0, x.1, right_own p b (ms ++ before) (ms_none p) ∙ x.2), inl (once_later (ZeroHere d p) b (ms ++ before) (zero_before d p ms before (none p) zero_read)))) h)
+
+    by_mark : (p : ℕ) (t : Bool) → is_marked marks p ≡ t → MatchBool t (LastOffered d p ms) (Once (ZeroHere d p) ms) → (is_marked marks p ≡ false → Once (ParkedHere true p) js) → IsAccounted d p ((js ++ ms) ++ before)
+    by_mark p true e h parked = inr (last p h)
+    by_mark p false e h parked = inl (inr (parked_later p h (parked e)))
+
+    accounted : (end : ℕ) → end ≤ f.pages + 1 → AllParked f marks d end js → AllAccounted f d end ((js ++ ms) ++ before)
+    accounted end le parked v agreed p some lt is =
+        let within : p ≤ f.pages = omega (arith, le, lt) in
+        by_mark p (is_marked marks p) refl (offers.offered p within) (λ unmarked. parked ((ms ++ before) ++ v) p lt (record { of_region = (some, within); of_directory = ap (λ s. known_deed s p) (sym (at_view v)) ∙ is; unmarked = unmarked }))
+
+    unmarked_zero : (p : ℕ) (t : Bool) → is_marked marks p ≡ t → t ≡ false → MatchBool t (LastOffered d p ms) (Once (ZeroHere d p) ms) → Once (ZeroHere d p) ms
+    unmarked_zero p true e z h = cc
+    unmarked_zero p false e z h = h
+
+    reason_of : (answer : NoRoom) → IsVerdict f marks d js answer → IsReason f d ((js ++ ms) ++ before) answer
+    reason_of NoSpace verdict = accounted (f.pages + 1) (omega arith) verdict
+    reason_of (Held page) verdict =
+        let here = verdict.0 before in let within = here.of_region.1 in
+        record {
+          page_of = here.of_region;
+          of_directory = λ v agreed. ap (λ s. known_deed s page) (at_view v) ∙ (verdict.0 ((ms ++ before) ++ v)).of_directory;
+          held = subst (Once (HeldHere d page)) (sym at)
+              (held_from d page js (ms ++ before) judges.scans (ms_none page) (missing d page ms before offers.scans (none page) (unmarked_zero page (is_marked marks page) refl here.unmarked (offers.offered page within))) verdict.1);
+          lower = accounted page (omega (arith, within)) verdict.2;
+        }
+
+  pub refuses : Refuses d σ σ2 room
+  refuses = record {
+    steps = js ++ ms;
+    adds = adds_call offers.adds judges.adds (λ v l stood met. tt);
+    scans = scans_append js ms judges.scans offers.scans;
+    few = let n = length-append js ms in let a = subst (λ x. length js ≤ 65 * (last_block x room + 1)) same judges.few in let b = offers.few in let last = last_within f room (held_page room (subst (λ x. IsVerdict x marks d js room) same judges.verdict)) in omega (arith, n, a, b, last);
+    reason = λ before none. reason_of before none room (subst (λ x. IsVerdict x marks d js room) same judges.verdict);
+  }
+
+-- by the directory that the search was begun with
+pub refuses_by : {σ σ1 σ2 : Standing} (d e h : Directory) (marks : List ℕ) → e ≡ d → h ≡ e → MarksOffered e marks σ σ1 → (room : NoRoom) → Judges marks h σ1 σ2 room → Refuses d σ σ2 room
+refuses_by {σ} {σ1} {σ2} d e h marks ed he offers room judges =
+    subst (λ x. Refuses x σ σ2 room) ed (refuses e marks offers room (subst (λ x. Judges marks x σ1 σ2 room) he judges))

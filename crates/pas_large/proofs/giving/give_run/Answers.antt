@@ -1,0 +1,14 @@
+use Rattle.pas_large.proofs.WholeGives.{can_give_block, room_for_block, can_leave_run, gives_run}
+use Rattle.pas_large.proofs.giving.give_run.Goals as goal
+
+pub give_block-block-requires-clause-can : goal.give_block-block-requires-clause-can
+give_block-block-requires-clause-can g c = can_give_block c.args.directory c.args.first c.args.pages c.back_run.ensures.backs c.requires.can
+
+pub give_block-block-requires-clause-room : goal.give_block-block-requires-clause-room
+give_block-block-requires-clause-room g c = room_for_block c.args.directory c.args.first c.args.pages c.back_run.ensures.backs c.requires.can (g.D.Desk.spare_of c.args.desk.now) _ c.requires.room (g.met.D.Desk.spares c.args.desk.now) (g.met.D.Desk.spares c.back_run.new.desk)
+
+pub leave_run-requires-clause-can : goal.leave_run-requires-clause-can
+leave_run-requires-clause-can g c = can_leave_run c.args.directory c.args.first c.args.pages c.back_run.ensures.backs c.give_block-block.result c.give_block-block.ensures.gives c.requires.can
+
+pub returns-clause-gives : goal.returns-clause-gives
+returns-clause-gives g c = gives_run c.args.directory c.args.first c.args.pages c.back_run.ensures.backs c.give_block-block.result c.give_block-block.ensures.gives c.leave_run.ensures.leaves

@@ -1,0 +1,96 @@
+-- A run of pages is given as one block.
+use Rattle.std.specs.Prelude.{ℕ, ◌+◌, ◌-◌, ◌*◌, ◌/◌, ◌^◌, ◌<◌, ◌≤◌, ◌≡◌, true, false, if◌then◌else◌, List, [], ◌∷◌, ◌++◌, length}
+use Rattle.pas_profile.specs.Lives.{turn_of}
+use Rattle.pas_profile.specs.declared.directory.Directory.{Directory}
+use Rattle.pas_profile.specs.declared.name.Block.{Block}
+use Rattle.pas_profile.specs.declared.word.Word.TheVariants as Word
+use Rattle.pas_steps.specs.Calls.{Calls, Effect, Kept, Lost, nothing, Does, Bears}
+use Rattle.pas_steps.specs.Desks.{Standing, made}
+use Rattle.pas_steps.specs.Kinds.{Backing, Only, returning}
+use Rattle.pas_steps.specs.Past.{Always}
+use Rattle.pas_steps.specs.Views.{View, has_right, KnowsDeed}
+use Rattle.pas_steps.specs.declared.step.Made.{Made}
+use Rattle.pas_steps.specs.declared.step.Step.TheVariants.{Look, Back, Give}
+use Rattle.pas_large.specs.Claims.{in_span, HasPages}
+use Rattle.pas_large.specs.Pages.{of_pages}
+
+-- each back is of one of these pages
+abbrev pub BacksIn : ℕ → ℕ → List Made → Type 0
+BacksIn first end = Always (λ m before. (page : ℕ) → m.step ≡ Back page → (first ≤ page) × (page < end))
+
+-- ---- of private functions: the pages are backed
+-- nothing changed but that they are known as backed
+pub record BackedRun (first end : ℕ) (v w : View) : Type 0 where
+  pub does : Does nothing v w
+  pub bears : (g : ℕ) → in_span first end (g / 256) ≡ true → Bears w g
+
+pub record BacksRun (d : Directory) (first end : ℕ) (desk desk' : Standing) : Type 0 where
+  pub steps : List Made
+  pub calls : Calls desk desk' (HasPages d first end) (BackedRun first end) steps
+  pub kinds : Only (Backing ∷ []) steps
+  pub backs : BacksIn first end steps
+  pub few : length steps ≤ end - first
+
+-- ---- and the pages are left
+pub record MayLeaveRun (d : Directory) (first end : ℕ) (v : View) : Type 0 where
+  pub right : (p : ℕ) → in_span first end p ≡ true → has_right v p ≡ true
+  pub deeds : (p : ℕ) → in_span first end p ≡ true → KnowsDeed p d v
+
+abbrev pub left_run : ℕ → ℕ → Effect
+left_run first end = record { grains = λ g. Kept; rights = λ q. if in_span first end q then Lost else Kept; clears = λ q. Kept }
+
+-- the rights are given up, and the deeds are known still
+pub record LeftRun (d : Directory) (first end : ℕ) (v w : View) : Type 0 where
+  pub does : Does (left_run first end) v w
+  pub deeds : (p : ℕ) → in_span first end p ≡ true → KnowsDeed p d w
+
+pub record LeavesRun (d : Directory) (first end : ℕ) (desk desk' : Standing) : Type 0 where
+  pub steps : List Made
+  pub calls : Calls desk desk' (MayLeaveRun d first end) (LeftRun d first end) steps
+  pub kinds : Only returning steps
+  pub few : length steps ≤ 11 * (end - first)
+
+-- ---- and given
+pub record MayGiveBlock (d : Directory) (first n : ℕ) (v : View) : Type 0 where
+  pub has : HasPages d first (first + n) v
+  pub bears : (g : ℕ) → in_span first (first + n) (g / 256) ≡ true → Bears v g
+
+-- the block of the run, with the turn of the life word that was read
+abbrev pub run_block : Directory → ℕ → ℕ → ℕ → Block
+run_block d first n word = record { name = record { address = record { 0 = first * 4096 }; turn = turn_of word }; room = n * 4096; heap = d.heap }
+
+-- a look at the life word of the first grain, and the give
+abbrev pub give_steps : ℕ → Block → ℕ → ℕ → List Made
+give_steps first block word answer = made (Give block) answer ∷ made (Look (Word.Life first 0)) word ∷ []
+
+abbrev pub given_run : ℕ → ℕ → Effect
+given_run first end = record { grains = λ g. if in_span first end (g / 256) then Lost else Kept; rights = λ q. Kept; clears = λ q. Kept }
+
+pub record GaveBlock (first n : ℕ) (block : Block) (v w : View) : Type 0 where
+  pub does : Does (given_run first (first + n)) v w
+  pub turn : block.name.turn < 2 ^ 37
+
+pub record GivesBlock (d : Directory) (first n : ℕ) (block : Block) (desk desk' : Standing) : Type 0 where
+  pub word : ℕ
+  pub answer : ℕ
+  pub block_is : block ≡ run_block d first n word
+  pub calls : Calls desk desk' (MayGiveBlock d first n) (GaveBlock first n block) (give_steps first block word answer)
+
+-- The run is given: its pages are backed, the block is given, and the pages are left. Nothing of it is the actor's then. At most n + 1 events, and
+-- 12 * n + 2 steps.
+pub record GaveRun (d : Directory) (first n : ℕ) (block : Block) (v w : View) : Type 0 where
+  pub does : Does (of_pages (in_span first (first + n)) Lost) v w
+  pub deeds : (p : ℕ) → in_span first (first + n) p ≡ true → KnowsDeed p d w
+  pub turn : block.name.turn < 2 ^ 37
+
+pub record GivesRun (d : Directory) (first n : ℕ) (block : Block) (desk desk' : Standing) : Type 0 where
+  pub backs : List Made
+  pub back_kinds : Only (Backing ∷ []) backs
+  pub back_pages : BacksIn first (first + n) backs
+  pub word : ℕ
+  pub answer : ℕ
+  pub block_is : block ≡ run_block d first n word
+  pub left : List Made
+  pub left_kinds : Only returning left
+  pub few : length (left ++ (give_steps first block word answer ++ backs)) ≤ 12 * n + 2
+  pub calls : Calls desk desk' (HasPages d first (first + n)) (GaveRun d first n block) (left ++ (give_steps first block word answer ++ backs))
