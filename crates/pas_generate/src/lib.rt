@@ -7,7 +7,7 @@
 mod draws;
 mod generator;
 mod lines;
-pub mod operation;
+mod operation;
 mod requests;
 #[cfg(test)]
 mod tests;
