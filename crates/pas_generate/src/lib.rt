@@ -6,6 +6,7 @@
 
 mod draws;
 mod generator;
+pub mod laws;
 mod lines;
 mod operation;
 mod requests;
