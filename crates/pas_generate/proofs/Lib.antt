@@ -1,3 +1,4 @@
 pub mod Aligning
+pub mod Valid
 pub mod Operations
 pub mod Traces

@@ -9,6 +9,7 @@ use Rattle.pas_generate.specs.declared.operation.Operation.{Operation}
 unfoldable pub header : ℕ → ℕ → List ℕ
 header pages threads = codes "pas 1 pages " ++ (decimal pages ++ (codes " threads " ++ (decimal threads ++ codes " heaps 6 age 2\nshared 5\n")))
 
+-- a line for each kind of operation, as in `a 4 1 3 1258 16`, `f 4 1` and `tick 1`
 abbrev pub allocation_line : ℕ → ℕ → Request → List ℕ
 allocation_line thread name r = codes "a " ++ (decimal thread ++ (codes " " ++ (decimal name ++ (codes " " ++ (decimal r.heap ++ (codes " " ++ (decimal r.size ++ (codes " " ++ (decimal r.align ++ codes "\n")))))))))
 

@@ -15,13 +15,16 @@ pub record State : Type 0 where
   pub next_name : ℕ
   pub phase : ℕ
 
+-- before the first operation: the draws stand at the seed, and names and phases count from 1
 abbrev pub first_state : ℕ → State
 first_state seed = record { x = seed; unfreed = []; next_name = 1; phase = 1 }
 
--- ---- an allocation by a thread takes the next trace name, and is added at the end of the list
+-- ---- an allocation by a thread
+-- it takes the next trace name, for a request that is drawn
 abbrev pub allocation : ℕ → State → Operation
 allocation thread s = Operation.Allocate thread s.next_name (request_from s.x)
 
+-- afterwards it stands at the end of the list
 abbrev pub after_allocation : ℕ → State → State
 after_allocation thread s = record {
   x = after_request s.x;
@@ -30,13 +33,16 @@ after_allocation thread s = record {
   phase = s.phase;
 }
 
--- ---- a free draws a place of the list; the last of the list moves to that place
+-- ---- a free
+-- the place in the list, counted from 0, that a draw gives
 abbrev pub place : State → ℕ
 place s = draw 1 s.x (length s.unfreed)
 
+-- what stands past the end of a list, which is never freed
 abbrev pub none : Allocated
 none = record { name = 0; thread = 0; phase = 0 }
 
+-- the allocation that is freed
 abbrev pub freed : State → Allocated
 freed s = slice_index_or s.unfreed (place s) none
 
@@ -44,13 +50,16 @@ freed s = slice_index_or s.unfreed (place s) none
 abbrev pub freeing_thread : ℕ → State → ℕ
 freeing_thread thread s = if nat_eq (freed s).phase s.phase then (freed s).thread else thread
 
+-- its line
 abbrev pub free_of : ℕ → State → Operation
 free_of thread s = Operation.Free (freeing_thread thread s) (freed s).name
 
+-- it is taken out of the list, and the last one moves to its place
 abbrev pub after_free : State → State
 after_free s = record s { x = moved_by 1 s.x; unfreed = swap_remove s.unfreed (place s) (freed s) }
 
--- ---- either of the two, by the first draw; where nothing is left to be freed it is an allocation
+-- ---- either of the two
+-- by the first draw half of them allocate, and all where nothing is left to be freed
 abbrev pub allocates : State → Bool
 allocates s = nat_lt (draw 1 s.x 8) 4 || nat_eq (length s.unfreed) 0
 
@@ -62,13 +71,15 @@ thread_of threads s = 1 + draw 2 s.x threads
 abbrev pub begun : State → State
 begun s = record s { x = moved_by 2 s.x }
 
+-- the operation by these draws, and the state after it
 unfoldable pub drawn_operation : ℕ → State → Operation
 drawn_operation threads s = if allocates s then allocation (thread_of threads s) (begun s) else free_of (thread_of threads s) (begun s)
 
 unfoldable pub after_drawn : ℕ → State → State
 after_drawn threads s = if allocates s then after_allocation (thread_of threads s) (begun s) else after_free (begun s)
 
--- ---- each operation: every thousandth is a pass, with which a phase ends, and the one before it a tick
+-- ---- each operation
+-- every thousandth is a pass, with which a phase ends, and the one before it a tick; neither draws
 unfoldable pub operation_at : ℕ → ℕ → State → Operation
 operation_at threads number s = if nat_eq (number % 1000) 999 then Operation.Tick (number / 1000 + 1) else (if nat_eq (number % 1000) 0 then Operation.Pass else drawn_operation threads s)
 

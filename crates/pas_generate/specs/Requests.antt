@@ -1,6 +1,6 @@
 -- Random requests. The first draw gives the heap, the second a lot that decides on the size and the alignment, which the
 -- third and the fourth give.
-use Rattle.std.specs.Prelude.{ℕ, ◌+◌, ◌*◌, ◌^◌, nat_eq, nat_lt, if◌then◌else◌}
+use Rattle.std.specs.Prelude.{ℕ, ◌≡◌, ◌<◌, ◌≤◌, ◌⊎◌, ◌+◌, ◌*◌, ◌^◌, nat_eq, nat_lt, if◌then◌else◌}
 use Rattle.pas_generate.specs.Draws.{draw, moved_by}
 use Rattle.pas_generate.specs.declared.operation.Request.{Request}
 
@@ -24,3 +24,9 @@ request_from x = record { heap = draw 1 x 6; size = size_from x; align = align_f
 -- the source of the draws after it
 abbrev pub after_request : ℕ → ℕ
 after_request x = if nat_lt (lot x) 3 then moved_by 3 x else moved_by 4 x
+
+-- a request that a trace of six heaps over at least two pages may have
+pub record IsValid (r : Request) : Type 0 where
+  pub heap : r.heap < 6
+  pub size : r.size ≤ 8192
+  pub align : (r.align ≡ 16) ⊎ ((r.align ≡ 32) ⊎ (r.align ≡ 64))

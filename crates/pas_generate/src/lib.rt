@@ -6,8 +6,9 @@
 
 mod draws;
 mod generator;
+pub mod laws;
 mod lines;
-pub mod operation;
+mod operation;
 mod requests;
 #[cfg(test)]
 mod tests;
