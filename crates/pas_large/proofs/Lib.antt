@@ -9,3 +9,5 @@ pub mod Reasons
 pub mod RunGives
 pub mod BlockGives
 pub mod WholeGives
+pub mod Vain
+pub mod RunSearches

@@ -3,3 +3,4 @@ pub mod Evidence
 pub mod Pages
 pub mod Claims
 pub mod Gives
+pub mod Finds

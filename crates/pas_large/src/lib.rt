@@ -2,6 +2,7 @@
 #![tactic(auto)]
 
 mod claiming;
+mod finding;
 mod getting;
 mod giving;
 mod leaving;
@@ -9,6 +10,7 @@ mod refusing;
 mod running;
 mod taking;
 
+pub use finding::find_run;
 pub use giving::give_run;
 pub use refusing::refuse;
 pub use running::claim_run;
