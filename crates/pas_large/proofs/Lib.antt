@@ -11,3 +11,4 @@ pub mod BlockGives
 pub mod WholeGives
 pub mod Vain
 pub mod RunSearches
+pub mod LargeBlocks

@@ -31,7 +31,7 @@ use Rattle.pas_large.specs.Pages.{GotPages, OnlyDeedsShow}
 use Rattle.pas_large.proofs.PageClaims.{shows_both}
 use Rattle.pas_large.proofs.PageRights.{known_of}
 use Rattle.pas_large.proofs.RunClaims.{HasSpares, room_after}
-use Rattle.pas_large.proofs.Spans.{got_both, got_after}
+use Rattle.pas_large.proofs.Spans.{in_parts, got_both, got_after}
 use Rattle.pas_large.proofs.Vain.{VainSoFar, vain_begins, vain_past, vain_ends, first_alone, all_usable, usable_still, lower_bad, vain_goes_on, run_has_failed}
 
 -- ---- a page that was read as having no deed isn't known to have one
@@ -221,6 +221,11 @@ module _ {σ σ1 : Standing} (d : Directory) (n from : ℕ) (low : 1 ≤ from) (
                   let before = agreed_later f v claim.steps ls agreed in
                   let does = (look_still find).from v met before in
                   subst (GotPages (in_span first (first + n)) d v) (sym (append_assoc claim.steps ls v)) (got_after (in_span first (first + n)) d does (holds_it.got.from (ls ++ v) (run_may v met before) (agreed_first f v claim.steps ls agreed)));
+            };
+            lacked = record {
+              from = λ v met agreed p is.
+                  let before = agreed_later f v claim.steps ls agreed in let at = in_parts first (first + n) p is in
+                  (let does = (look_still find).from v met before in sym (does.right p)) ∙ (run_may v met before).lacks p at.0 at.1;
             };
             taken = record {
               usable = usable_still f d n from first low find.steps xs so_far.vain find.kinds run_at claim.steps;

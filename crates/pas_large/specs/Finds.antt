@@ -1,5 +1,5 @@
 -- The search for a run that can be claimed.
-use Rattle.std.specs.Prelude.{ℕ, ◌+◌, ◌<◌, ◌≤◌, ◌≡◌, ◌⊎◌, false, List, Option, MatchOption}
+use Rattle.std.specs.Prelude.{ℕ, ◌+◌, ◌<◌, ◌≤◌, ◌≡◌, ◌⊎◌, true, false, List, Option, MatchOption}
 use Rattle.pas_profile.specs.declared.directory.Directory.{Directory}
 use Rattle.pas_profile.specs.declared.profile.Profile.{Profile}
 use Rattle.pas_steps.specs.Calls.{Leads, nothing, Does}
@@ -27,6 +27,7 @@ pub record FindRoom (f : Profile) (d : Directory) (n spare : ℕ) (v : View) : T
 pub record FoundRun (f : Profile) (d : Directory) (n : ℕ) (steps : List Made) (first : ℕ) : Type 0 where
   pub of_region : (1 ≤ first) × (first + n ≤ f.pages + 1)
   pub got : Leads f (MayFind d) (GotPages (in_span first (first + n)) d) steps
+  pub lacked : Leads f (MayFind d) (λ v w. (p : ℕ) → in_span first (first + n) p ≡ true → has_right v p ≡ false) steps
   pub taken : IsTakenRun d n first steps
   pub lower : (other : ℕ) → 1 ≤ other → other < first → HasBad d n other steps
   pub deeds : DeedsOf d n (λ other. (other ≡ first) ⊎ HasFailed d n other steps) steps

@@ -4,3 +4,4 @@ pub mod Pages
 pub mod Claims
 pub mod Gives
 pub mod Finds
+pub mod Allocates

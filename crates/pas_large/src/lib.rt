@@ -1,6 +1,7 @@
 //! Large blocks: runs of whole pages.
 #![tactic(auto)]
 
+mod allocating;
 mod claiming;
 mod finding;
 mod getting;
@@ -10,7 +11,4 @@ mod refusing;
 mod running;
 mod taking;
 
-pub use finding::find_run;
-pub use giving::give_run;
-pub use refusing::refuse;
-pub use running::claim_run;
+pub use allocating::alloc;
