@@ -1,26 +1,25 @@
 -- A large block: the run that was found is given, or the refusal has its reason.
-use Rattle.std.proofs.Common.{◌≡◌, ℕ, ◌+◌, ◌<◌, ◌≤◌, true, false, if◌then◌else◌, List, ◌++◌, Some, None, Ok, Err, refl, ap, sym, ◌∙◌, subst, arith, append_assoc}
+use Rattle.std.proofs.Common.{◌≡◌, ℕ, ◌+◌, ◌≤◌, true, false, if◌then◌else◌, List, ◌++◌, Some, None, Ok, Err, refl, ap, ◌∙◌, subst, arith}
 use Rattle.pas_profile.specs.declared.directory.Directory.{Directory}
 use Rattle.pas_profile.specs.declared.event.NoRoom.{NoRoom}
 use Rattle.pas_profile.specs.declared.name.Block.{Block}
 use Rattle.pas_profile.specs.declared.profile.Profile.{Profile}
 use Rattle.pas_scan.specs.Runs.{large_directory}
-use Rattle.pas_steps.specs.Agreement.{Agreed}
 use Rattle.pas_steps.specs.Calls.{Leads, Calls, AnyView, Kept, Gained, now, nothing, Does}
-use Rattle.pas_steps.specs.Desks.{Seat, Standing, Adds, CanCall}
+use Rattle.pas_steps.specs.Desks.{Seat, Standing, CanCall}
 use Rattle.pas_steps.specs.Kinds.{looking, kind_of, is_in}
 use Rattle.pas_steps.specs.Frames.{IsScan, OnlyScans}
 use Rattle.pas_steps.specs.declared.step.Step.{Step}
 use Rattle.pas_steps.proofs.Past.{always_map}
-use Rattle.pas_steps.specs.Views.{View, holds, has_right, KnowsDeed}
+use Rattle.pas_steps.specs.Views.{View, holds, has_right}
 use Rattle.pas_steps.specs.declared.step.Made.{Made}
-use Rattle.pas_steps.proofs.Adding.{adds_call, can_call}
+use Rattle.pas_steps.proofs.Adding.{adds_call}
 use Rattle.pas_steps.proofs.Called.{call_then, next_call}
-use Rattle.pas_steps.proofs.Calls.{leads_then, leads_at, leads_idly, does_then}
-use Rattle.pas_large.specs.Allocates.{GaveLarge, IsAllocatedLarge, IsRefusedLarge, AllocatesLarge}
+use Rattle.pas_steps.proofs.Calls.{leads_then, leads_idly, does_then}
+use Rattle.pas_large.specs.Allocates.{GaveLarge, AllocatesLarge}
 use Rattle.pas_large.specs.Claims.{in_span, HasPages}
-use Rattle.pas_large.specs.Finds.{MayFind, FindRoom, FoundRun, FoundNone, Finds}
-use Rattle.pas_large.specs.Gives.{GaveRun, GivesRun}
+use Rattle.pas_large.specs.Finds.{MayFind, FindRoom, FoundRun, Finds}
+use Rattle.pas_large.specs.Gives.{GivesRun}
 use Rattle.pas_large.specs.Pages.{GotPages}
 use Rattle.pas_large.specs.Refusals.{IsReason, Refuses}
 use Rattle.pas_large.proofs.RunClaims.{HasSpares, room_after}

@@ -1,37 +1,36 @@
 -- The search for a run that can be claimed, one run more.
-use Rattle.std.proofs.Common.{Option, ◌≡◌, ◌≢◌, ◌⊎◌, ℕ, ◌+◌, ◌<◌, ◌≤◌, true, false, List, [], ◌∷◌, ◌++◌, Some, None, inl, inr, refl, ap, sym, ◌∙◌, subst, arith, append_assoc, true≢false, length}
+use Rattle.std.proofs.Common.{Option, ◌≡◌, ◌≢◌, ◌⊎◌, ℕ, ◌+◌, ◌<◌, ◌≤◌, true, List, [], ◌∷◌, ◌++◌, Some, None, inl, inr, refl, ap, sym, ◌∙◌, subst, arith, append_assoc, true≢false, length}
 use Rattle.std.proofs.lemmas.Bool.{cases_eq}
 use Rattle.pas_profile.specs.declared.directory.Directory.{Directory}
 use Rattle.pas_profile.specs.declared.profile.Profile.{Profile}
 use Rattle.pas_steps.specs.Agreement.{Agreed, Agrees}
 use Rattle.pas_steps.specs.Calls.{Leads, nothing, Does}
-use Rattle.pas_steps.specs.Desks.{Seat, Standing, Anything, Adds, CanCall, triples}
+use Rattle.pas_steps.specs.Desks.{Seat, Standing, Adds, CanCall, triples}
 use Rattle.pas_steps.specs.Evidence.{ReadsDeed, NoDeedHere}
 use Rattle.pas_steps.specs.Kinds.{kind_of, is_in, Only}
-use Rattle.pas_steps.specs.Past.{Once, Always}
-use Rattle.pas_steps.specs.Unknown.{unknown_pages}
-use Rattle.pas_steps.specs.Views.{View, has_right, known_deed, KnowsDeed}
+use Rattle.pas_steps.specs.Past.{Once}
+use Rattle.pas_steps.specs.Views.{View, known_deed, KnowsDeed}
 use Rattle.pas_steps.specs.declared.step.Made.{Made}
 use Rattle.pas_steps.specs.declared.step.Step.{Step}
 use Rattle.pas_steps.specs.declared.step.Step.TheVariants.{Deed}
 use Rattle.pas_steps.proofs.Adding.{adds_none, adds_call, agreed_first, agreed_later}
 use Rattle.pas_steps.proofs.Apart.{no_events}
-use Rattle.pas_steps.proofs.Calls.{does_none, leads_none, leads_as, leads_at, leads_idly, leads_then, does_then, still_clear}
+use Rattle.pas_steps.proofs.Calls.{does_none, leads_none, leads_idly, leads_then, does_then, still_clear}
 use Rattle.pas_steps.proofs.Frames.{right_own}
-use Rattle.pas_steps.proofs.Kept.{deed_stays, knows_still}
+use Rattle.pas_steps.proofs.Kept.{deed_stays}
 use Rattle.pas_steps.proofs.Past.{always_map, always_both, once_later}
 use Rattle.pas_steps.proofs.Unknown.{unknown_stays}
 use Rattle.pas_scan.specs.Runs.{page_looks, IsInRun, FindsRun, IsFirstRun, HasNoRun}
-use Rattle.pas_scan.specs.Usable.{ReadUsable, LeftAlone}
+use Rattle.pas_scan.specs.Usable.{ReadUsable}
 use Rattle.pas_scan.proofs.LeftPages.{lacks_by, left_alone_by}
-use Rattle.pas_large.specs.Claims.{in_span, MayClaimPages, HasRunRoom, LacksAll, DeedsIn, ClaimsRun, HoldsRun, FailsRun}
-use Rattle.pas_large.specs.Evidence.{HasFailed, DeedsOf, AllUsable, IsVain}
-use Rattle.pas_large.specs.Finds.{MayFind, FindRoom, FoundRun, FoundNone, Finds}
+use Rattle.pas_large.specs.Claims.{in_span, MayClaimPages, HasRunRoom, LacksAll, ClaimsRun, HoldsRun, FailsRun}
+use Rattle.pas_large.specs.Evidence.{HasFailed, DeedsOf, AllUsable}
+use Rattle.pas_large.specs.Finds.{MayFind, FindRoom, Finds}
 use Rattle.pas_large.specs.Pages.{GotPages, OnlyDeedsShow}
 use Rattle.pas_large.proofs.PageClaims.{shows_both}
 use Rattle.pas_large.proofs.PageRights.{known_of}
 use Rattle.pas_large.proofs.RunClaims.{HasSpares, room_after}
-use Rattle.pas_large.proofs.Spans.{in_parts, got_both, got_after}
+use Rattle.pas_large.proofs.Spans.{in_parts, got_after}
 use Rattle.pas_large.proofs.Vain.{VainSoFar, vain_begins, vain_past, vain_ends, first_alone, all_usable, usable_still, lower_bad, vain_goes_on, run_has_failed}
 
 -- ---- a page that was read as having no deed isn't known to have one

@@ -1,5 +1,5 @@
 -- The search of runs so far: each run that begins below the next page can't serve.
-use Rattle.std.proofs.Common.{◌≡◌, ℕ, ◌+◌, ◌<◌, ◌≤◌, List, [], ◌∷◌, ◌++◌, refl, ◌∙◌, inl, inr, ◌⊎◌, subst, sym, arith, append_assoc}
+use Rattle.std.proofs.Common.{ℕ, ◌+◌, ◌<◌, ◌≤◌, List, [], ◌++◌, refl, ◌∙◌, inl, inr, ◌⊎◌, arith}
 use Rattle.std.proofs.lemmas.Bool.{cases_lt}
 use Rattle.pas_profile.specs.declared.directory.Directory.{Directory}
 use Rattle.pas_profile.specs.declared.profile.Profile.{Profile}
@@ -11,12 +11,12 @@ use Rattle.pas_scan.specs.Runs.{page_looks}
 use Rattle.pas_steps.specs.declared.step.Made.{Made}
 use Rattle.pas_steps.proofs.Past.{once_later, once_earlier, once_map, always_both}
 use Rattle.pas_scan.specs.Usable.{DeedReadHere, UnusableHere, LeftAlone, ParksNotHere, MakesNoDeedHere}
-use Rattle.pas_scan.specs.Runs.{IsInRun, HasUnusable, IsFirstRun, HasNoRun}
-use Rattle.pas_scan.proofs.LeftPages.{usable_before, usable_later, unusable_before, left_alone_by, lacks_by, holds_own, deed_before}
+use Rattle.pas_scan.specs.Runs.{HasUnusable, IsFirstRun, HasNoRun}
+use Rattle.pas_scan.proofs.LeftPages.{usable_before, usable_later, unusable_before, left_alone_by, holds_own, deed_before}
 use Rattle.pas_steps.proofs.Frames.{right_own}
 use Rattle.pas_large.specs.Evidence.{LostHere, BrokenHere, BadHere, HasBad, IsVain, AllUsable, FailsHere, HasFailed}
 use Rattle.pas_large.specs.Pages.{OnceAfter}
-use Rattle.pas_large.specs.Claims.{AloneFrom, FailsRun, LacksAll, DeedsIn}
+use Rattle.pas_large.specs.Claims.{AloneFrom, FailsRun}
 
 pub record VainSoFar (d : Directory) (n from : ℕ) (steps : List Made) : Type 0 where
   pub runs : (first : ℕ) → 1 ≤ first → first < from → HasBad d n first steps

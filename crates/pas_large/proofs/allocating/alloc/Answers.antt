@@ -1,4 +1,4 @@
-use Rattle.std.proofs.Common.{◌≡◌, ◌≤◌, ◌<◌, ◌+◌, sym, subst}
+use Rattle.std.proofs.Common.{◌≤◌, ◌+◌, sym, subst}
 use Rattle.pas_scan.specs.Runs.{large_directory}
 use Rattle.pas_steps.specs.Desks.{Seat}
 use Rattle.pas_steps.proofs.Adding.{can_call}
