@@ -68,7 +68,7 @@ pub allocates : {σ σ1 σ2 : Standing} (heap n first : ℕ) (find : Finds (larg
 allocates heap n first find block give =
     let d = large_directory heap in
     let calls = call_then (GaveLarge d first n block) (found_call d n first find) give.calls (has_pages d n first find)
-        (λ v met ready gave. record { does = undone (in_span first (first + n)) ready.got.apart ready.lacked ready.got.does gave.does; apart = ready.got.apart; deeds = gave.deeds; turn = gave.turn }) in
+    (λ v met ready gave. record { does = undone (in_span first (first + n)) ready.got.apart ready.lacked ready.got.does gave.does; apart = ready.got.apart; deeds = gave.deeds; turn = gave.turn }) in
     record {
       searched = find.steps;
       after = _;

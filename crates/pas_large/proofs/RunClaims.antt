@@ -276,8 +276,8 @@ module _ {σ σ1 : Standing} (d : Directory) (first end page : ℕ) (low : first
         calls = call_then (λ v w. Does (of_pages (in_span first (page + 1)) Lost) v w × ((p : ℕ) → in_span first end p ≡ true → KnowsDeed p d w)) so_far.calls next (λ v met left. (leave_may v met left, left.1))
             (λ v met a b. (
               does_as (of_pages (in_span first (page + 1)) Lost) (does_then a.0 b.0)
-              (λ g. inl (both_fates Lost (in_span first page (g / 256)) (masked page full g) (in_span first (page + 1) (g / 256)) refl (ap (λ t. in_span first page (g / 256) || t) (on_full page g) ∙ span_more first page (g / 256) low)))
-              (λ q. both_fates Lost (in_span first page q) (page == q) (in_span first (page + 1) q) refl (span_more first page q low)) (λ q h. h),
+                  (λ g. inl (both_fates Lost (in_span first page (g / 256)) (masked page full g) (in_span first (page + 1) (g / 256)) refl (ap (λ t. in_span first page (g / 256) || t) (on_full page g) ∙ span_more first page (g / 256) low)))
+                  (λ q. both_fates Lost (in_span first page q) (page == q) (in_span first (page + 1) q) refl (span_more first page q low)) (λ q h. h),
               b.1,
             ));
         kinds = only_both giving_back ys so_far.steps h.kinds so_far.kinds;
@@ -336,7 +336,7 @@ module _ {σ σ1 : Standing} (d : Directory) (first end stop : ℕ) (ne : stop �
   pub run_failed : {σ2 : Standing} → Releases d first stop σ1 σ2 → ClaimsRun d first end σ σ2 (Some stop)
   run_failed r =
       let calls = call_then (Does nothing) got_call r.calls may_release
-          (λ v met got lost. undone (in_span first stop) got.apart (λ p is. let at = in_parts first stop p is in let lt = at.1 in let last = before_end in met.lacks p at.0 (omega (arith, lt, last))) got.does lost) in
+      (λ v met got lost. undone (in_span first stop) got.apart (λ p is. let at = in_parts first stop p is in let lt = at.1 in let last = before_end in met.lacks p at.0 (omega (arith, lt, last))) got.does lost) in
       record {
         steps = r.steps ++ h.steps;
         adds = calls.adds;

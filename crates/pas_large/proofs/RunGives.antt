@@ -74,11 +74,11 @@ module _ {σ σ1 : Standing} (d : Directory) (first end page : ℕ) (low : first
         does = does_then old.does step;
         bears = λ g is. elim (cases_eq (g / 256) page) [
           | inl e ↦ record {
-              held = step.held g ∙ held_here v met old g e;
-              backed = subst (λ q. knows_backed (made (Back page) a ∷ (xs ++ v)) q ≡ true) (sym e)
-                  (and_from (if page == page then true else knows_backed (xs ++ v) page) (holds_on (made (Back page) a ∷ (xs ++ v)) page) (ap (λ t. if t then true else knows_backed (xs ++ v) page) (eq-eqb page page refl))
-                  (any_from 256 (λ b. holds (made (Back page) a ∷ (xs ++ v)) (page * 256 + b)) 0 (omega arith) (step.held (page * 256 + 0) ∙ held_here v met old (page * 256 + 0) (omega arith))));
-            }
+            held = step.held g ∙ held_here v met old g e;
+            backed = subst (λ q. knows_backed (made (Back page) a ∷ (xs ++ v)) q ≡ true) (sym e)
+                (and_from (if page == page then true else knows_backed (xs ++ v) page) (holds_on (made (Back page) a ∷ (xs ++ v)) page) (ap (λ t. if t then true else knows_backed (xs ++ v) page) (eq-eqb page page refl))
+                (any_from 256 (λ b. holds (made (Back page) a ∷ (xs ++ v)) (page * 256 + b)) 0 (omega arith) (step.held (page * 256 + 0) ∙ held_here v met old (page * 256 + 0) (omega arith))));
+          }
           | inr ne ↦ step.backed g refl (old.bears g (let at = in_parts first (page + 1) (g / 256) is in let lt = at.1 in span_in first page (g / 256) at.0 (omega (arith, lt, ne))))
         ];
       }
