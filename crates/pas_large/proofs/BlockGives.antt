@@ -1,9 +1,8 @@
 -- The block of a run is given.
-use Rattle.std.proofs.Common.{◌≡◌, ℕ, ◌+◌, ◌*◌, ◌/◌, ◌%◌, ◌^◌, ◌<◌, ◌≤◌, ◌==◌, nat_le, nat_lt, Bool, true, false, ◌&&◌, if◌then◌else◌, List, [], ◌∷◌, ◌++◌, length, Some, refl, ap, sym, ◌∙◌, subst, arith, inl, length-append}
+use Rattle.std.proofs.Common.{◌≡◌, ℕ, ◌+◌, ◌*◌, ◌/◌, ◌%◌, ◌^◌, ◌<◌, ◌≤◌, ◌==◌, Bool, true, false, ◌&&◌, if◌then◌else◌, [], ◌∷◌, Some, refl, ap, sym, ◌∙◌, subst, arith, inl}
 use Rattle.std.proofs.lemmas.Bool.{eq-eqb, and_from}
-use Rattle.std.proofs.lemmas.Bool.Decides.{nat_tests}
 use Rattle.pas_profile.specs.Lives.{turn_of}
-use Rattle.pas_profile.specs.Profiles.{IsPage, IsDirectoryOf}
+use Rattle.pas_profile.specs.Profiles.{IsDirectoryOf}
 use Rattle.pas_profile.specs.Runs.{in_run, grain_of, length_of}
 use Rattle.pas_profile.specs.declared.directory.Directory.{Directory}
 use Rattle.pas_profile.specs.declared.name.Block.{Block}
@@ -11,10 +10,9 @@ use Rattle.pas_profile.specs.declared.profile.Profile.{Profile}
 use Rattle.pas_profile.specs.declared.word.Word.TheVariants as Word
 use Rattle.pas_profile.proofs.Runs.{run_of, to_run}
 use Rattle.pas_steps.specs.Agreement.{Agreed}
-use Rattle.pas_steps.specs.Allowed.{IsBlockOf, KnowsBearing, MayGiveNow}
-use Rattle.pas_steps.specs.Calls.{Calls, Kept, Lost, later, grain_fate, Does}
+use Rattle.pas_steps.specs.Allowed.{IsBlockOf, MayGiveNow}
+use Rattle.pas_steps.specs.Calls.{Kept, Lost, later, grain_fate}
 use Rattle.pas_steps.specs.Desks.{Standing, made, Makes, CanMake, CanCall, Adds}
-use Rattle.pas_steps.specs.Events.{events_of}
 use Rattle.pas_steps.specs.Lists.{Whole}
 use Rattle.pas_steps.specs.Views.{View, Gives, Stays, holds, holds_on, knows_backed, known_life}
 use Rattle.pas_steps.specs.declared.step.Step.TheVariants.{Look, Give}
@@ -23,7 +21,7 @@ use Rattle.pas_steps.proofs.Backed.{backed_holds}
 use Rattle.pas_steps.proofs.Calls.{does_as, does_step, does_then}
 use Rattle.pas_steps.proofs.Frames.{given_le}
 use Rattle.pas_steps.proofs.Sets.{same_truth}
-use Rattle.pas_large.specs.Claims.{in_span, HasPages}
+use Rattle.pas_large.specs.Claims.{in_span}
 use Rattle.pas_large.specs.Gives.{MayGiveBlock, run_block, give_steps, given_run, GaveBlock, GivesBlock}
 use Rattle.pas_large.proofs.RunClaims.{HasSpares}
 use Rattle.pas_large.proofs.Spans.{span_in, in_parts}

@@ -9,3 +9,6 @@ pub mod Reasons
 pub mod RunGives
 pub mod BlockGives
 pub mod WholeGives
+pub mod Vain
+pub mod RunSearches
+pub mod LargeBlocks

@@ -1,5 +1,5 @@
 -- The offered pages are marked: one eligible word more.
-use Rattle.std.proofs.Common.{◌≡◌, ◌≢◌, ℕ, ◌+◌, ◌*◌, ◌/◌, ◌%◌, ◌<◌, ◌≤◌, Bool, true, false, List, [], ◌∷◌, length, inl, inr, refl, ap, sym, ◌∙◌, subst, arith, MatchBool}
+use Rattle.std.proofs.Common.{◌≡◌, ◌≢◌, ℕ, ◌+◌, ◌/◌, ◌%◌, ◌<◌, Bool, true, false, List, ◌∷◌, length, inl, inr, refl, ap, sym, ◌∙◌, subst, arith, MatchBool}
 use Rattle.std.proofs.Math.ListN.{set, get_or}
 use Rattle.std.proofs.lemmas.List.{get_or-set_same, get_or-set_other}
 use Rattle.std.proofs.lemmas.Bool.{cases_lt}
@@ -17,7 +17,7 @@ use Rattle.pas_steps.specs.declared.step.Step.TheVariants.{Look}
 use Rattle.pas_scan.specs.Marks.{is_marked}
 use Rattle.pas_steps.specs.Evidence.{ReadsEligible, ZeroHere}
 use Rattle.pas_scan.proofs.Reading.{scans_lack}
-use Rattle.pas_large.specs.Refusals.{NotReadHere, LastOffered}
+use Rattle.pas_large.specs.Refusals.{LastOffered}
 
 -- what is marked below a block, and what was read of it
 abbrev pub MarkedBelow : Directory → ℕ → List ℕ → List Made → Type 0

@@ -39,7 +39,7 @@ known_here : (s : Step) (a p known : ℕ) (d : Directory) → ReadsDeed p s → 
 known_here s a p known d ReadsDeed.Looks e = read_here p a known ∙ e
 known_here s a p known d (ReadsDeed.Deeds x) e = read_here p (if a == 0 then deed_word_of x else a) known ∙ ap (λ t. if t then deed_word_of x else a) (ne_eqb a 0 (λ z. deed_word_of-positive d (sym e ∙ z))) ∙ e
 
-known_of : (f : Profile) (d : Directory) (p : ℕ) (xs : List Made) (v : View) → Agreed f v xs → Once (OfHere d p) xs → KnowsDeed p d (xs ++ v)
+pub known_of : (f : Profile) (d : Directory) (p : ℕ) (xs : List Made) (v : View) → Agreed f v xs → Once (OfHere d p) xs → KnowsDeed p d (xs ++ v)
 known_of f d p [] v agreed h = absurd h
 known_of f d p (m ∷ xs) v agreed (inl h) = known_here m.step m.answer p (known_deed (xs ++ v) p) d h.0 h.1
 known_of f d p (m ∷ xs) v agreed (inr h) = knows_still f d p (m ∷ []) (xs ++ v) (agreed.0, tt) (known_of f d p xs v agreed.1 h)

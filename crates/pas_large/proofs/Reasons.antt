@@ -1,5 +1,5 @@
 -- The reason of a refusal: the eligible words, and then the verdict.
-use Rattle.std.proofs.Common.{◌≡◌, ℕ, ◌+◌, ◌<◌, ◌≤◌, Bool, true, false, List, [], ◌∷◌, ◌++◌, inl, inr, refl, ap, sym, ◌∙◌, subst, arith, append_assoc, MatchBool, true≢false, length, length-append, ◌*◌, ◌/◌}
+use Rattle.std.proofs.Common.{◌≡◌, ℕ, ◌+◌, ◌≤◌, Bool, true, false, List, [], ◌∷◌, ◌++◌, inl, inr, refl, ap, sym, ◌∙◌, subst, arith, append_assoc, MatchBool, true≢false, length, length-append, ◌*◌, ◌/◌}
 use Rattle.pas_steps.specs.Kinds.{kind_of, is_in}
 use Rattle.pas_steps.specs.declared.step.Step.{Step}
 use Rattle.pas_profile.specs.declared.directory.Directory.{Directory}
@@ -8,19 +8,19 @@ use Rattle.pas_profile.specs.declared.event.NoRoom.{NoRoom}
 use Rattle.pas_profile.specs.declared.event.NoRoom.TheVariants.{NoSpace, Held}
 use Rattle.pas_steps.specs.Views.{View, has_right, known_deed}
 use Rattle.pas_steps.specs.Past.{Once, Always, Since}
-use Rattle.pas_steps.specs.Frames.{IsScan, OnlyScans}
-use Rattle.pas_steps.specs.Desks.{Seat, Standing, Anything, Adds}
+use Rattle.pas_steps.specs.Frames.{OnlyScans}
+use Rattle.pas_steps.specs.Desks.{Seat, Standing}
 use Rattle.pas_steps.specs.declared.step.Made.{Made}
 use Rattle.pas_steps.proofs.Adding.{adds_call}
 use Rattle.pas_steps.proofs.Past.{once_later, once_earlier, always_map}
 use Rattle.pas_scan.proofs.LeftPages.{since_earlier}
 use Rattle.pas_scan.specs.Marks.{is_marked}
-use Rattle.pas_scan.specs.Scan.{IsMember, AllParked, IsVerdict, Judges, judging, last_block}
+use Rattle.pas_scan.specs.Scan.{AllParked, IsVerdict, Judges, judging, last_block}
 use Rattle.pas_steps.specs.Evidence.{ReadsEligible, ZeroHere, OneHere, ParkedHere, ParkedLater, LacksAfter, MissingHere, HeldHere}
 use Rattle.pas_scan.proofs.Reading.{right_scans}
 use Rattle.pas_scan.proofs.Judging.{scans_append}
 use Rattle.pas_steps.proofs.Frames.{right_own}
-use Rattle.pas_large.specs.Refusals.{NotReadHere, LastOffered, IsAccounted, AllAccounted, IsHeldLarge, IsReason, MarksOffered, Refuses}
+use Rattle.pas_large.specs.Refusals.{NotReadHere, LastOffered, IsAccounted, AllAccounted, IsReason, MarksOffered, Refuses}
 
 -- a verdict reads no eligible word
 since_later : (P Q R : Made → List Made → Type 0) (ys xs : List Made) → ((m : Made) (b : List Made) → R m b → Q m (b ++ xs)) → Always R ys → Since P Q xs → Since P Q (ys ++ xs)

@@ -14,7 +14,7 @@ use Rattle.pas_steps.specs.Views.{View, holds, has_right, KnowsDeed}
 use Rattle.pas_steps.specs.declared.step.Step.{Step}
 use Rattle.pas_steps.specs.declared.step.Made.{Made}
 use Rattle.pas_steps.specs.declared.step.Step.TheVariants.{Deed, Park}
-use Rattle.pas_steps.proofs.Calls.{does_as, does_then}
+use Rattle.pas_steps.proofs.Calls.{does_as, does_then, does_after_nothing}
 use Rattle.pas_steps.proofs.Kept.{right_on, holds_on_page}
 use Rattle.pas_steps.proofs.Past.{always_both}
 use Rattle.pas_steps.proofs.Sets.{both_fates}
@@ -75,6 +75,9 @@ got_both {v} {w} {u} d a b c same first second knows = record {
 
 pub got_still : {v w u : View} (d : Directory) (a : ℕ → Bool) → GotPages a d v w → Does nothing w u → ((p : ℕ) → KnowsDeed p d w → KnowsDeed p d u) → GotPages a d v u
 got_still d a first second knows = record { does = does_then first.does second; apart = first.apart; deeds = λ p h. knows p (first.deeds p h) }
+
+pub got_after : {v w u : View} (a : ℕ → Bool) (d : Directory) → Does nothing v w → GotPages a d w u → GotPages a d v u
+got_after a d first second = record { does = does_after_nothing (of_pages a Gained) first second.does; apart = λ g h. sym (first.held g) ∙ second.apart g h; deeds = second.deeds }
 
 -- what was got is lost again
 pub undone : {v w u : View} (pages : ℕ → Bool) → ((g : ℕ) → pages (g / 256) ≡ true → holds v g ≡ false) → ((p : ℕ) → pages p ≡ true → has_right v p ≡ false) → Does (of_pages pages Gained) v w → Does (of_pages pages Lost) w u → Does nothing v u

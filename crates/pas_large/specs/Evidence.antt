@@ -1,19 +1,16 @@
 -- The evidence of a large request, over the steps of one call, the newest first.
-use Rattle.std.specs.Prelude.{ℕ, ◌+◌, ◌*◌, ◌%◌, ◌<◌, ◌≤◌, ◌≡◌, ◌≢◌, ◌⊎◌, true, false, List}
+use Rattle.std.specs.Prelude.{ℕ, ◌+◌, ◌%◌, ◌<◌, ◌≤◌, ◌≡◌, ◌≢◌, ◌⊎◌, true, false, List}
 use Rattle.pas_profile.specs.Classes.{has_bit}
 use Rattle.pas_profile.specs.Profiles.{IsPage}
 use Rattle.pas_profile.specs.declared.directory.Directory.{Directory}
 use Rattle.pas_profile.specs.declared.profile.Profile.{Profile}
-use Rattle.pas_profile.specs.declared.event.NoRoom.{NoRoom}
-use Rattle.pas_profile.specs.declared.name.Block.{Block}
 use Rattle.pas_steps.specs.Views.{has_right}
 use Rattle.pas_steps.specs.Past.{Once, Always, Since}
 use Rattle.pas_steps.specs.declared.step.Made.{Made}
-use Rattle.pas_steps.specs.declared.step.Step.TheVariants.{Deed, Back, Give, TakeRight}
+use Rattle.pas_steps.specs.declared.step.Step.TheVariants.{Deed, TakeRight}
 use Rattle.pas_steps.specs.Evidence.{Readings, NoDeedHere, KeptHere, UnfitHere}
 use Rattle.pas_scan.specs.Usable.{DeedReadHere, WholeHere, ReadUsable, IsFresh, UnusableHere, MakesNoDeedHere}
 use Rattle.pas_scan.specs.Runs.{IsInRun}
-use Rattle.pas_large.specs.Refusals.{IsReason}
 
 -- ---- lost and broken
 -- a claim read its eligible bit as 0
@@ -74,32 +71,3 @@ pub record IsTakenRun (d : Directory) (n first : ℕ) (before : List Made) : Typ
   pub usable : AllUsable d n first before
   pub right : (page : ℕ) → IsInRun first n page → has_right before page ≡ true
   pub whole : (page word : ℕ) → IsInRun first n page → word < 4 → Since (TakenWholeHere page word) (KeptHere page) before
-
--- The give of the run's block. The run was whole and each lower one can't serve.
-pub record GivesHere (d : Directory) (n first : ℕ) (block : Block) (m : Made) (before : List Made) : Type 0 where
-  pub step_is : m.step ≡ Give block
-  pub taken : IsTakenRun d n first before
-  pub lower : (other : ℕ) → 1 ≤ other → other < first → HasBad d n other before
-
--- each back is of a page of the run
-abbrev pub BacksOf : ℕ → ℕ → List Made → Type 0
-BacksOf n first = Always (λ m before. (page : ℕ) → m.step ≡ Back page → IsInRun first n page)
-
-abbrev pub NoBacks : List Made → Type 0
-NoBacks = Always (λ m before. (page : ℕ) → m.step ≡ Back page → ⊥)
-
-pub record IsServedLarge (f : Profile) (d : Directory) (n : ℕ) (steps : List Made) (block : Block) : Type 0 where
-  pub first : ℕ
-  pub of_region : (1 ≤ first) × (first + n ≤ f.pages + 1)
-  pub address : block.name.address.0 ≡ 4096 * first
-  pub room : block.room ≡ 4096 * n
-  pub heap : block.heap ≡ d.heap
-  pub gives : Once (GivesHere d n first block) steps
-  pub deeds : DeedsOf d n (λ other. (other ≡ first) ⊎ HasFailed d n other steps) steps
-  pub backs : BacksOf n first steps
-
-pub record IsRefusedLarge (f : Profile) (d : Directory) (n : ℕ) (steps : List Made) (room : NoRoom) : Type 0 where
-  pub vain : IsVain f d n steps
-  pub deeds : DeedsOf d n (λ other. HasFailed d n other steps) steps
-  pub backs : NoBacks steps
-  pub reason : IsReason f d steps room

@@ -3,3 +3,5 @@ pub mod Evidence
 pub mod Pages
 pub mod Claims
 pub mod Gives
+pub mod Finds
+pub mod Allocates

@@ -8,12 +8,11 @@ use Rattle.pas_profile.specs.declared.event.NoRoom.TheVariants.{NoSpace, Held}
 use Rattle.pas_steps.specs.Views.{View, has_right, KnowsDeed}
 use Rattle.pas_steps.specs.Agreement.{Agreed}
 use Rattle.pas_steps.specs.Desks.{Standing, Anything, Adds}
-use Rattle.pas_steps.specs.Past.{Once, Always, Since}
+use Rattle.pas_steps.specs.Past.{Once, Since}
 use Rattle.pas_steps.specs.Frames.{OnlyScans}
 use Rattle.pas_steps.specs.declared.step.Made.{Made}
 use Rattle.pas_scan.specs.Marks.{is_marked}
-use Rattle.pas_scan.specs.Scan.{IsVerdict}
-use Rattle.pas_steps.specs.Evidence.{ReadsEligible, ZeroHere, OneHere, Accounted, HeldHere, IsSingle}
+use Rattle.pas_steps.specs.Evidence.{ReadsEligible, ZeroHere, OneHere, Accounted, HeldHere}
 
 -- its eligible bit was last read as 1
 abbrev pub NotReadHere : Directory → ℕ → Made → List Made → Type 0

@@ -1,7 +1,9 @@
 //! Large blocks: runs of whole pages.
 #![tactic(auto)]
 
+mod allocating;
 mod claiming;
+mod finding;
 mod getting;
 mod giving;
 mod leaving;
@@ -9,6 +11,4 @@ mod refusing;
 mod running;
 mod taking;
 
-pub use giving::give_run;
-pub use refusing::refuse;
-pub use running::claim_run;
+pub use allocating::alloc;

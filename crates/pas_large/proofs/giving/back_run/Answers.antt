@@ -1,4 +1,4 @@
-use Rattle.std.proofs.Common.{◌≡◌, ◌≤◌, ◌+◌, refl, sym, ◌∙◌, subst, arith}
+use Rattle.std.proofs.Common.{refl, ◌∙◌, arith}
 use Rattle.pas_large.proofs.RunClaims.{run_page}
 use Rattle.pas_large.proofs.RunGives.{backed_none, can_back, backed_more, backs_all, back_room}
 use Rattle.pas_large.proofs.giving.back_run.Goals as goal

@@ -1,0 +1,108 @@
+-- A large block: the run that was found is given, or the refusal has its reason.
+use Rattle.std.proofs.Common.{◌≡◌, ℕ, ◌+◌, ◌≤◌, true, false, if◌then◌else◌, List, ◌++◌, Some, None, Ok, Err, refl, ap, ◌∙◌, subst, arith}
+use Rattle.pas_profile.specs.declared.directory.Directory.{Directory}
+use Rattle.pas_profile.specs.declared.event.NoRoom.{NoRoom}
+use Rattle.pas_profile.specs.declared.name.Block.{Block}
+use Rattle.pas_profile.specs.declared.profile.Profile.{Profile}
+use Rattle.pas_scan.specs.Runs.{large_directory}
+use Rattle.pas_steps.specs.Calls.{Leads, Calls, AnyView, Kept, Gained, now, nothing, Does}
+use Rattle.pas_steps.specs.Desks.{Seat, Standing, CanCall}
+use Rattle.pas_steps.specs.Kinds.{looking, kind_of, is_in}
+use Rattle.pas_steps.specs.Frames.{IsScan, OnlyScans}
+use Rattle.pas_steps.specs.declared.step.Step.{Step}
+use Rattle.pas_steps.proofs.Past.{always_map}
+use Rattle.pas_steps.specs.Views.{View, holds, has_right}
+use Rattle.pas_steps.specs.declared.step.Made.{Made}
+use Rattle.pas_steps.proofs.Adding.{adds_call}
+use Rattle.pas_steps.proofs.Called.{call_then, next_call}
+use Rattle.pas_steps.proofs.Calls.{leads_then, leads_idly, does_then}
+use Rattle.pas_large.specs.Allocates.{GaveLarge, AllocatesLarge}
+use Rattle.pas_large.specs.Claims.{in_span, HasPages}
+use Rattle.pas_large.specs.Finds.{MayFind, FindRoom, FoundRun, Finds}
+use Rattle.pas_large.specs.Gives.{GivesRun}
+use Rattle.pas_large.specs.Pages.{GotPages}
+use Rattle.pas_large.specs.Refusals.{IsReason, Refuses}
+use Rattle.pas_large.proofs.RunClaims.{HasSpares, room_after}
+use Rattle.pas_large.proofs.RunSearches.{may_find}
+use Rattle.pas_large.proofs.Spans.{undone}
+
+pub room_to_find : {σ : Standing} {f : Profile} {d : Directory} {spare : ℕ} (n : ℕ) → CanCall σ (λ v l. FindRoom f d (n + 1) spare v) → CanCall σ (λ v l. FindRoom f d 1 spare v)
+room_to_find n can = let room = can.met.room in record { view = can.view; whole = can.whole; stood = can.stood; met = record { may = can.met.may; room = omega (arith, room) } }
+
+-- what the search leaves
+pub record Ready (d : Directory) (n first : ℕ) (v w : View) : Type 0 where
+  pub got : GotPages (in_span first (first + n)) d v w
+  pub lacked : (p : ℕ) → in_span first (first + n) p ≡ true → has_right v p ≡ false
+
+module _ {σ σ1 : Standing} (d : Directory) (n first : ℕ) (find : Finds d n σ σ1 (Some first)) where
+  pub found : FoundRun σ.seat.profile d n find.steps first
+  found = find.outcome
+
+  pub found_call : Calls σ σ1 (MayFind d) (Ready d n first) find.steps
+  found_call = record { adds = find.adds; leads = record { from = λ v met agreed. record { got = find.outcome.got.from v met agreed; lacked = find.outcome.lacked.from v met agreed } } }
+
+  pub has_pages : (v : View) → MayFind d v → Ready d n first v (find.steps ++ v) → HasPages d first (first + n) (find.steps ++ v)
+  has_pages v met ready = record {
+    right = λ p is. ready.got.does.right p ∙ ap (λ t. now (if t then Gained else Kept) (has_right v p)) is;
+    held = λ g is. ready.got.does.held g ∙ ap (λ t. now (if t then Gained else Kept) (holds v g)) is;
+    deeds = ready.got.deeds;
+    clear = record { on = λ q. ready.got.does.clear q (met.clear.on q) };
+  }
+
+  pub can_give_run : CanCall σ (λ v l. MayFind d v) → CanCall σ1 (λ v l. HasPages d first (first + n) v)
+  can_give_run can = next_call found_call can has_pages
+
+  pub room_to_give_run : (spare spare1 : ℕ) → CanCall σ (λ v l. FindRoom σ.seat.profile d (n + 1) spare v) → HasSpares σ spare → HasSpares σ1 spare1 → n + 1 ≤ spare1
+  room_to_give_run spare spare1 can law law1 = let room = room_after {spare = spare} {spare' = spare1} (n + 1) find.adds (may_find can) find.shows can.met.room law law1 in omega (arith, room)
+
+-- the looks of a refusal change nothing
+scan_kind : (s : Step) → IsScan s → is_in looking (kind_of s) ≡ true
+scan_kind s (IsScan.LooksEligible d j) = refl
+scan_kind s (IsScan.LooksDeed page) = refl
+scan_kind s (IsScan.LooksParked j) = refl
+
+scans_lead : (f : Profile) (steps : List Made) → OnlyScans steps → Leads f AnyView (Does nothing) steps
+scans_lead f steps scans = leads_idly f looking refl steps (always_map (λ m before. IsScan m.step) (λ m before. is_in looking (kind_of m.step) ≡ true) steps (λ m before is. scan_kind m.step is) scans)
+
+pub allocates : {σ σ1 σ2 : Standing} (heap n first : ℕ) (find : Finds (large_directory heap) n σ σ1 (Some first)) (block : Block) → GivesRun (large_directory heap) first n block σ1 σ2 → AllocatesLarge heap n σ σ2 (Ok block)
+allocates heap n first find block give =
+    let d = large_directory heap in
+    let calls = call_then (GaveLarge d first n block) (found_call d n first find) give.calls (has_pages d n first find)
+    (λ v met ready gave. record { does = undone (in_span first (first + n)) ready.got.apart ready.lacked ready.got.does gave.does; apart = ready.got.apart; deeds = gave.deeds; turn = gave.turn }) in
+    record {
+      searched = find.steps;
+      after = _;
+      adds = calls.adds;
+      outcome = record {
+        first = first;
+        found = find.outcome;
+        backs = give.backs;
+        back_kinds = give.back_kinds;
+        back_pages = give.back_pages;
+        word = give.word;
+        answer = give.answer;
+        block_is = give.block_is;
+        left = give.left;
+        left_kinds = give.left_kinds;
+        after_is = refl;
+        few = give.few;
+        gave = calls.leads;
+      };
+    }
+
+pub refuses_large : {σ σ1 σ2 : Standing} (heap n : ℕ) (find : Finds (large_directory heap) n σ σ1 None) (why : NoRoom) → Refuses (large_directory heap) σ1 σ2 why → AllocatesLarge heap n σ σ2 (Err why)
+refuses_large {σ} {σ1} heap n find why refused =
+    let same : σ1.seat.profile ≡ σ.seat.profile = ap (λ (s : Seat). s.profile) find.adds.seat_is in
+    let f : Profile = σ.seat.profile in
+    record {
+      searched = find.steps;
+      after = refused.steps;
+      adds = adds_call find.adds refused.adds (λ v l stood met. tt);
+      outcome = record {
+        found = find.outcome;
+        scans = refused.scans;
+        few = let few = refused.few in let e = ap (λ (x : Profile). x.pages) same in omega (arith, few, e);
+        reason = subst (λ x. IsReason x (large_directory heap) (refused.steps ++ find.steps) why) same (refused.reason find.steps find.outcome.lacks);
+        still = leads_then (Does nothing) find.outcome.still (scans_lead f refused.steps refused.scans) (λ v w met does. tt) (λ v w u a b. does_then a b);
+      };
+    }

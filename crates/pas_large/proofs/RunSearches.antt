@@ -1,0 +1,237 @@
+-- The search for a run that can be claimed, one run more.
+use Rattle.std.proofs.Common.{Option, ◌≡◌, ◌≢◌, ◌⊎◌, ℕ, ◌+◌, ◌<◌, ◌≤◌, true, List, [], ◌∷◌, ◌++◌, Some, None, inl, inr, refl, ap, sym, ◌∙◌, subst, arith, append_assoc, true≢false, length}
+use Rattle.std.proofs.lemmas.Bool.{cases_eq}
+use Rattle.pas_profile.specs.declared.directory.Directory.{Directory}
+use Rattle.pas_profile.specs.declared.profile.Profile.{Profile}
+use Rattle.pas_steps.specs.Agreement.{Agreed, Agrees}
+use Rattle.pas_steps.specs.Calls.{Leads, nothing, Does}
+use Rattle.pas_steps.specs.Desks.{Seat, Standing, Adds, CanCall, triples}
+use Rattle.pas_steps.specs.Evidence.{ReadsDeed, NoDeedHere}
+use Rattle.pas_steps.specs.Kinds.{kind_of, is_in, Only}
+use Rattle.pas_steps.specs.Past.{Once}
+use Rattle.pas_steps.specs.Views.{View, known_deed, KnowsDeed}
+use Rattle.pas_steps.specs.declared.step.Made.{Made}
+use Rattle.pas_steps.specs.declared.step.Step.{Step}
+use Rattle.pas_steps.specs.declared.step.Step.TheVariants.{Deed}
+use Rattle.pas_steps.proofs.Adding.{adds_none, adds_call, agreed_first, agreed_later}
+use Rattle.pas_steps.proofs.Apart.{no_events}
+use Rattle.pas_steps.proofs.Calls.{does_none, leads_none, leads_idly, leads_then, does_then, still_clear}
+use Rattle.pas_steps.proofs.Frames.{right_own}
+use Rattle.pas_steps.proofs.Kept.{deed_stays}
+use Rattle.pas_steps.proofs.Past.{always_map, always_both, once_later}
+use Rattle.pas_steps.proofs.Unknown.{unknown_stays}
+use Rattle.pas_scan.specs.Runs.{page_looks, IsInRun, FindsRun, IsFirstRun, HasNoRun}
+use Rattle.pas_scan.specs.Usable.{ReadUsable}
+use Rattle.pas_scan.proofs.LeftPages.{lacks_by, left_alone_by}
+use Rattle.pas_large.specs.Claims.{in_span, MayClaimPages, HasRunRoom, LacksAll, ClaimsRun, HoldsRun, FailsRun}
+use Rattle.pas_large.specs.Evidence.{HasFailed, DeedsOf, AllUsable}
+use Rattle.pas_large.specs.Finds.{MayFind, FindRoom, Finds}
+use Rattle.pas_large.specs.Pages.{GotPages, OnlyDeedsShow}
+use Rattle.pas_large.proofs.PageClaims.{shows_both}
+use Rattle.pas_large.proofs.PageRights.{known_of}
+use Rattle.pas_large.proofs.RunClaims.{HasSpares, room_after}
+use Rattle.pas_large.proofs.Spans.{in_parts, got_after}
+use Rattle.pas_large.proofs.Vain.{VainSoFar, vain_begins, vain_past, vain_ends, first_alone, all_usable, usable_still, lower_bad, vain_goes_on, run_has_failed}
+
+-- ---- a page that was read as having no deed isn't known to have one
+read_unknown : (f : Profile) (v : View) (p : ℕ) (s : Step) (a : ℕ) → ReadsDeed p s → Agrees f v s a → a ≡ 0 → known_deed v p ≢ 0 → ⊥
+read_unknown f v p s a ReadsDeed.Looks agrees z known = known (sym (agrees.known known) ∙ z)
+read_unknown f v p s a (ReadsDeed.Deeds d) agrees z known = known (sym (agrees.known known) ∙ z)
+
+unknown : (f : Profile) (v : View) (p : ℕ) (xs : List Made) → Agreed f v xs → Once (NoDeedHere p) xs → known_deed v p ≢ 0 → ⊥
+unknown f v p [] agreed h known = h
+unknown f v p (m ∷ more) agreed (inr h) known = unknown f v p more agreed.1 h known
+unknown f v p (m ∷ more) agreed (inl h) known = read_unknown f (more ++ v) p m.step m.answer h.0 agreed.0 h.1 (λ z. known (sym (deed_stays f more v p agreed.1 known) ∙ z))
+
+-- of a page that was read as usable the deed wasn't known, or as the directory's
+knew : (f : Profile) (d : Directory) (p : ℕ) (xs : List Made) (v : View) → Agreed f v xs → ReadUsable d p xs → (known_deed v p ≡ 0) ⊎ KnowsDeed p d v
+knew f d p xs v agreed usable = elim (cases_eq (known_deed v p) 0) [
+  | inl none ↦ inl none
+  | inr some ↦ elim usable [
+    | inl bare ↦ absurd (unknown f v p xs agreed bare some)
+    | inr whole ↦ inr (sym (deed_stays f xs v p agreed some) ∙ known_of f d p xs v agreed whole.of)
+  ]
+]
+
+-- ---- deeds
+abbrev DeedOf : Directory → ℕ → (ℕ → Type 0) → Made → List Made → Type 0
+DeedOf d n Chosen m before = (page : ℕ) (e : Directory) → m.step ≡ Deed page e → m.answer ≡ 0 → (e ≡ d) × ((first : ℕ) × IsInRun first n page × AllUsable d n first before × Chosen first)
+
+deeds_map : (d : Directory) (n : ℕ) (P Q : ℕ → Type 0) (steps : List Made) → ((s : ℕ) → P s → Q s) → DeedsOf d n P steps → DeedsOf d n Q steps
+deeds_map d n P Q steps more = always_map (DeedOf d n P) (DeedOf d n Q) steps (λ m before h p e same z. let its = h p e same z in (its.0, (its.1.0, its.1.1, its.1.2, more its.1.0 its.1.3)))
+
+deeds_looks : (d : Directory) (n : ℕ) (P : ℕ → Type 0) (ys xs : List Made) → Only page_looks ys → DeedsOf d n P xs → DeedsOf d n P (ys ++ xs)
+deeds_looks d n P ys xs looks = always_both (λ m before. is_in page_looks (kind_of m.step) ≡ true) (DeedOf d n P) ys xs (λ m before is p e same z. absurd (true≢false (sym is ∙ ap (λ s. is_in page_looks (kind_of s)) same))) looks
+
+-- ---- the search so far
+pub record SearchedRuns (d : Directory) (n from : ℕ) (desk desk' : Standing) : Type 0 where
+  pub steps : List Made
+  pub adds : Adds desk desk' (λ v l. MayFind d v) steps
+  pub still : Leads desk.seat.profile (MayFind d) (Does nothing) steps
+  pub shows : OnlyDeedsShow desk.seat.profile steps
+  pub lacks : LacksAll steps
+  pub vain : VainSoFar d n from steps
+  pub deeds : DeedsOf d n (λ other. HasFailed d n other steps) steps
+
+pub searched_none : {σ : Standing} (d : Directory) (n : ℕ) → SearchedRuns d n 1 σ σ
+searched_none d n = record {
+  steps = [];
+  adds = adds_none;
+  still = leads_none (λ v met. does_none v);
+  shows = λ k v agreed. omega arith;
+  lacks = λ p. refl;
+  vain = vain_begins d n (λ p ge. left_alone_by page_looks refl refl p [] tt);
+  deeds = tt;
+}
+
+abbrev pub may_find : {σ : Standing} {f : Profile} {d : Directory} {n spare : ℕ} → CanCall σ (λ v l. FindRoom f d n spare v) → CanCall σ (λ v l. MayFind d v)
+may_find can = record { view = can.view; whole = can.whole; stood = can.stood; met = can.met.may }
+
+-- no run is left
+pub none_left : {σ σ1 : Standing} (d : Directory) (n from : ℕ) → 1 ≤ n → σ.seat.profile.pages < from → SearchedRuns d n from σ σ1 → Finds d n σ σ1 None
+none_left {σ} d n from some past so_far = record {
+  steps = so_far.steps;
+  adds = so_far.adds;
+  shows = so_far.shows;
+  outcome = record { still = so_far.still; vain = vain_past σ.seat.profile d n from so_far.steps some past so_far.vain; deeds = so_far.deeds; lacks = so_far.lacks };
+}
+
+module _ {σ σ1 : Standing} (d : Directory) (n from : ℕ) (low : 1 ≤ from) (so_far : SearchedRuns d n from σ σ1) where
+  abbrev f : Profile
+  f = σ.seat.profile
+
+  abbrev xs : List Made
+  xs = so_far.steps
+
+  module _ {σ2 : Standing} {found : Option ℕ} (find : FindsRun d from n σ1 σ2 found) where
+    abbrev ys : List Made
+    ys = find.steps
+
+    pub look_adds : Adds σ σ2 (λ v l. MayFind d v) (ys ++ xs)
+    look_adds = adds_call so_far.adds find.adds (λ v l stood met. tt)
+
+    look_still : Leads f (MayFind d) (Does nothing) (ys ++ xs)
+    look_still = leads_then (Does nothing) so_far.still (leads_idly f page_looks refl ys find.kinds) (λ v w met does. tt) (λ v w u a b. does_then a b)
+
+    look_shows : OnlyDeedsShow f (ys ++ xs)
+    look_shows = shows_both f ys xs (λ k v agreed. let none = ap (λ es. length es) (no_events page_looks refl k v ys find.kinds) in let stays = unknown_stays f ys v agreed in omega (arith, none, stays)) so_far.shows
+
+    look_lacks : LacksAll (ys ++ xs)
+    look_lacks p = right_own p ys xs (so_far.lacks p) ∙ lacks_by page_looks refl p ys find.kinds
+
+    same : σ1.seat.profile ≡ f
+    same = ap (λ (s : Seat). s.profile) so_far.adds.seat_is
+
+  -- the scan found none
+  pub finds_none : {σ2 : Standing} → FindsRun d from n σ1 σ2 None → Finds d n σ σ2 None
+  finds_none find = record {
+    steps = find.steps ++ xs;
+    adds = look_adds find;
+    shows = look_shows find;
+    outcome = record {
+      still = look_still find;
+      vain = vain_ends f d n from find.steps xs low so_far.vain (subst (λ x. HasNoRun x d from n find.steps) (same find) find.outcome);
+      deeds = deeds_looks d n (λ other. HasFailed d n other (find.steps ++ xs)) find.steps xs find.kinds (deeds_map d n (λ other. HasFailed d n other xs) (λ other. HasFailed d n other (find.steps ++ xs)) xs (λ s h. once_later _ find.steps xs h) so_far.deeds);
+      lacks = look_lacks find;
+    };
+  }
+
+  -- it found one
+  module _ {σ2 : Standing} (first : ℕ) (find : FindsRun d from n σ1 σ2 (Some first)) where
+    abbrev ls : List Made
+    ls = find.steps ++ xs
+
+    pub run_at : IsFirstRun σ.seat.profile d from n find.steps first
+    run_at = subst (λ x. IsFirstRun x d from n find.steps first) (same find) find.outcome
+
+    usable : AllUsable d n first (find.steps ++ xs)
+    usable = all_usable f d n from first low find.steps xs so_far.vain find.kinds run_at
+
+    run_may : (v : View) → MayFind d v → Agreed f v (find.steps ++ xs) → MayClaimPages first (first + n) ((find.steps ++ xs) ++ v)
+    run_may v met agreed =
+        let does = (look_still find).from v met agreed in
+        record { lacks = λ p ge lt. does.right p ∙ met.lacks p (knew f d p ls v agreed (usable p (ge, lt))); clear = still_clear does met.clear }
+
+    pub can_claim_run : (spare spare2 : ℕ) → CanCall σ (λ v l. FindRoom σ.seat.profile d 1 spare v) → HasSpares σ spare → HasSpares σ2 spare2 → CanCall σ2 (λ v l. HasRunRoom σ2.seat.profile first (first + n) 1 spare2 v)
+    can_claim_run spare spare2 can law law2 =
+        let adds = look_adds find in let met = can.met.may in
+        record {
+          view = ls ++ can.view;
+          whole = triples σ.seat.actor ls ++ can.whole;
+          stood = adds.added can.view can.whole can.stood met;
+          met = subst (λ (s : Seat). HasRunRoom s.profile first (first + n) 1 spare2 (ls ++ can.view)) (sym adds.seat_is) (record {
+            may = run_may can.view met (adds.agreed can.view can.whole can.stood met);
+            room = room_after {spare = spare} {spare' = spare2} 1 adds (may_find can) (look_shows find) can.met.room law law2;
+          });
+        }
+
+    module _ {σ3 : Standing} {failed : Option ℕ} (claim : ClaimsRun d first (first + n) σ2 σ3 failed) where
+      abbrev zs : List Made
+      zs = claim.steps
+
+      same2 : σ2.seat.profile ≡ f
+      same2 = ap (λ (s : Seat). s.profile) (look_adds find).seat_is
+
+      claim_adds : Adds σ σ3 (λ v l. MayFind d v) (zs ++ ls)
+      claim_adds = let adds = look_adds find in adds_call {D = λ v l. MayClaimPages first (first + n) v} adds claim.adds (λ v l stood met. run_may v met (adds.agreed v l stood met))
+
+      claim_shows : OnlyDeedsShow f (zs ++ ls)
+      claim_shows = shows_both f zs ls (subst (λ x. OnlyDeedsShow x zs) same2 claim.shows) (look_shows find)
+
+      claim_deeds : (P : ℕ → Type 0) → P first → ((s : ℕ) → HasFailed d n s xs → P s) → DeedsOf d n P (zs ++ ls)
+      claim_deeds P its more = always_both (λ m before. (p : ℕ) (e : Directory) → m.step ≡ Deed p e → m.answer ≡ 0 → (e ≡ d) × (first ≤ p) × (p < first + n)) (DeedOf d n P) zs ls
+          (λ m before h p e is z. let at = h p e is z in (at.0, (first, (at.1, at.2), usable_still f d n from first low find.steps xs so_far.vain find.kinds run_at before, its)))
+          claim.deeds (deeds_looks d n P find.steps xs find.kinds (deeds_map d n (λ other. HasFailed d n other xs) P xs more so_far.deeds))
+
+    -- its claim failed
+    pub goes_on : {σ3 : Standing} → CanCall σ (λ v l. MayFind d v) → (page : ℕ) → ClaimsRun d first (first + n) σ2 σ3 (Some page) → SearchedRuns d n (page + 1) σ σ3
+    goes_on can page claim =
+        let fails = subst (λ x. FailsRun x d first (first + n) page claim.steps) (same2 claim) claim.outcome in
+        let adds = claim_adds claim in
+        let agreed = adds.agreed can.view can.whole can.stood can.met in
+        let failed = run_has_failed f d n from first low find.steps xs so_far.vain find.kinds run_at page claim.steps fails can.view agreed in
+        record {
+          steps = claim.steps ++ ls;
+          adds = adds;
+          still = record {
+            from = λ v met agreed.
+                let before = agreed_later f v claim.steps ls agreed in
+                subst (Does nothing v) (sym (append_assoc claim.steps ls v)) (does_then ((look_still find).from v met before) (fails.still.from (ls ++ v) (run_may v met before) (agreed_first f v claim.steps ls agreed)));
+          };
+          shows = claim_shows claim;
+          lacks = fails.lacks ls (look_lacks find);
+          vain = vain_goes_on f d n from first low find.steps xs so_far.vain find.kinds run_at page claim.steps fails can.view agreed;
+          deeds = claim_deeds claim (λ other. HasFailed d n other (claim.steps ++ ls)) failed (λ s h. once_later _ claim.steps ls (once_later _ find.steps xs h));
+        }
+
+    -- it was claimed
+    pub finds_run : {σ3 : Standing} → 1 ≤ n → ClaimsRun d first (first + n) σ2 σ3 None → Finds d n σ σ3 (Some first)
+    finds_run some claim =
+        let holds_it = subst (λ x. HoldsRun x d first (first + n) claim.steps) (same2 claim) claim.outcome in
+        let span = holds_it.holding ls (first_alone f d n from first low find.steps xs so_far.vain find.kinds run_at) in
+        record {
+          steps = claim.steps ++ ls;
+          adds = claim_adds claim;
+          shows = claim_shows claim;
+          outcome = record {
+            of_region = (let ge = run_at.from_there in omega (arith, ge, low), run_at.of_region);
+            got = record {
+              from = λ v met agreed.
+                  let before = agreed_later f v claim.steps ls agreed in
+                  let does = (look_still find).from v met before in
+                  subst (GotPages (in_span first (first + n)) d v) (sym (append_assoc claim.steps ls v)) (got_after (in_span first (first + n)) d does (holds_it.got.from (ls ++ v) (run_may v met before) (agreed_first f v claim.steps ls agreed)));
+            };
+            lacked = record {
+              from = λ v met agreed p is.
+                  let before = agreed_later f v claim.steps ls agreed in let at = in_parts first (first + n) p is in
+                  (let does = (look_still find).from v met before in sym (does.right p)) ∙ (run_may v met before).lacks p at.0 at.1;
+            };
+            taken = record {
+              usable = usable_still f d n from first low find.steps xs so_far.vain find.kinds run_at claim.steps;
+              right = λ p is. span.right p is.0 is.1;
+              whole = λ p word is lt. span.whole p word is.0 is.1 lt;
+            };
+            lower = lower_bad f d n from first low find.steps xs so_far.vain find.kinds run_at claim.steps;
+            deeds = claim_deeds claim (λ other. (other ≡ first) ⊎ HasFailed d n other (claim.steps ++ ls)) (inl refl) (λ s h. inr (once_later _ claim.steps ls (once_later _ find.steps xs h)));
+          };
+        }

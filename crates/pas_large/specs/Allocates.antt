@@ -1,0 +1,54 @@
+-- The allocation of a large block.
+use Rattle.std.specs.Prelude.{ℕ, ◌+◌, ◌*◌, ◌/◌, ◌^◌, ◌<◌, ◌≤◌, ◌≡◌, true, false, List, [], ◌∷◌, ◌++◌, length, Result, MatchResult}
+use Rattle.pas_profile.specs.declared.directory.Directory.{Directory}
+use Rattle.pas_profile.specs.declared.event.NoRoom.{NoRoom}
+use Rattle.pas_profile.specs.declared.name.Block.{Block}
+use Rattle.pas_profile.specs.declared.profile.Profile.{Profile}
+use Rattle.pas_scan.specs.Runs.{large_directory}
+use Rattle.pas_steps.specs.Calls.{Leads, nothing, Does}
+use Rattle.pas_steps.specs.Desks.{Standing, Adds}
+use Rattle.pas_steps.specs.Frames.{OnlyScans}
+use Rattle.pas_steps.specs.Kinds.{Backing, Only, returning}
+use Rattle.pas_steps.specs.Views.{View, holds, KnowsDeed}
+use Rattle.pas_steps.specs.declared.step.Made.{Made}
+use Rattle.pas_large.specs.Claims.{in_span}
+use Rattle.pas_large.specs.Finds.{MayFind, FoundRun, FoundNone}
+use Rattle.pas_large.specs.Gives.{BacksIn, run_block, give_steps}
+use Rattle.pas_large.specs.Refusals.{IsReason}
+
+-- What the actor holds and has is as it was: none of the block's grains was held. The pages are known to be of the directory.
+pub record GaveLarge (d : Directory) (first n : ℕ) (block : Block) (v w : View) : Type 0 where
+  pub does : Does nothing v w
+  pub apart : (g : ℕ) → in_span first (first + n) (g / 256) ≡ true → holds v g ≡ false
+  pub deeds : (p : ℕ) → in_span first (first + n) p ≡ true → KnowsDeed p d w
+  pub turn : block.name.turn < 2 ^ 37
+
+-- The search found the run. Then its pages were backed, the block of the whole run was given, and the pages were left.
+pub record IsAllocatedLarge (f : Profile) (d : Directory) (n : ℕ) (searched after : List Made) (block : Block) : Type 0 where
+  pub first : ℕ
+  pub found : FoundRun f d n searched first
+  pub backs : List Made
+  pub back_kinds : Only (Backing ∷ []) backs
+  pub back_pages : BacksIn first (first + n) backs
+  pub word : ℕ
+  pub answer : ℕ
+  pub block_is : block ≡ run_block d first n word
+  pub left : List Made
+  pub left_kinds : Only returning left
+  pub after_is : after ≡ left ++ (give_steps first block word answer ++ backs)
+  pub few : length after ≤ 12 * n + 2
+  pub gave : Leads f (MayFind d) (GaveLarge d first n block) (after ++ searched)
+
+-- The search found none. Then the eligible words and the parked words were looked at, which show the reason. All is as it was but for the deeds.
+pub record IsRefusedLarge (f : Profile) (d : Directory) (n : ℕ) (searched after : List Made) (why : NoRoom) : Type 0 where
+  pub found : FoundNone f d n searched
+  pub scans : OnlyScans after
+  pub few : length after ≤ 66 * (f.pages / 64 + 1)
+  pub reason : IsReason f d (after ++ searched) why
+  pub still : Leads f (MayFind d) (Does nothing) (after ++ searched)
+
+pub record AllocatesLarge (heap n : ℕ) (desk desk' : Standing) (answer : Result Block NoRoom) : Type 0 where
+  pub searched : List Made
+  pub after : List Made
+  pub adds : Adds desk desk' (λ v l. MayFind (large_directory heap) v) (after ++ searched)
+  pub outcome : MatchResult answer (IsAllocatedLarge desk.seat.profile (large_directory heap) n searched after) (IsRefusedLarge desk.seat.profile (large_directory heap) n searched after)

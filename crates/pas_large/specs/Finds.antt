@@ -1,0 +1,46 @@
+-- The search for a run that can be claimed.
+use Rattle.std.specs.Prelude.{ℕ, ◌+◌, ◌<◌, ◌≤◌, ◌≡◌, ◌⊎◌, true, false, List, Option, MatchOption}
+use Rattle.pas_profile.specs.declared.directory.Directory.{Directory}
+use Rattle.pas_profile.specs.declared.profile.Profile.{Profile}
+use Rattle.pas_steps.specs.Calls.{Leads, nothing, Does}
+use Rattle.pas_steps.specs.Clear.{IsClear}
+use Rattle.pas_steps.specs.Desks.{Standing, Adds}
+use Rattle.pas_steps.specs.Unknown.{unknown_pages}
+use Rattle.pas_steps.specs.Views.{View, has_right, known_deed, KnowsDeed}
+use Rattle.pas_steps.specs.declared.step.Made.{Made}
+use Rattle.pas_large.specs.Claims.{in_span, LacksAll}
+use Rattle.pas_large.specs.Evidence.{HasBad, IsVain, HasFailed, DeedsOf, IsTakenRun}
+use Rattle.pas_large.specs.Pages.{GotPages, OnlyDeedsShow}
+
+-- the actor is clear, and has no right of a page that is of the directory or whose deed it doesn't know
+pub record MayFind (d : Directory) (v : View) : Type 0 where
+  pub lacks : (p : ℕ) → (known_deed v p ≡ 0) ⊎ KnowsDeed p d v → has_right v p ≡ false
+  pub clear : IsClear v
+
+-- and there is room for the deeds that aren't known, and for n events more
+pub record FindRoom (f : Profile) (d : Directory) (n spare : ℕ) (v : View) : Type 0 where
+  pub may : MayFind d v
+  pub room : n + unknown_pages f v ≤ spare
+
+-- The run is the actor's. It was read as usable and then taken whole, and each lower run can't serve. Each deed is of a page of this run or of one
+-- that failed.
+pub record FoundRun (f : Profile) (d : Directory) (n : ℕ) (steps : List Made) (first : ℕ) : Type 0 where
+  pub of_region : (1 ≤ first) × (first + n ≤ f.pages + 1)
+  pub got : Leads f (MayFind d) (GotPages (in_span first (first + n)) d) steps
+  pub lacked : Leads f (MayFind d) (λ v w. (p : ℕ) → in_span first (first + n) p ≡ true → has_right v p ≡ false) steps
+  pub taken : IsTakenRun d n first steps
+  pub lower : (other : ℕ) → 1 ≤ other → other < first → HasBad d n other steps
+  pub deeds : DeedsOf d n (λ other. (other ≡ first) ⊎ HasFailed d n other steps) steps
+
+-- No run can serve, and all is as it was but for the deeds, each of a page of a run that failed.
+pub record FoundNone (f : Profile) (d : Directory) (n : ℕ) (steps : List Made) : Type 0 where
+  pub still : Leads f (MayFind d) (Does nothing) steps
+  pub vain : IsVain f d n steps
+  pub deeds : DeedsOf d n (λ other. HasFailed d n other steps) steps
+  pub lacks : LacksAll steps
+
+pub record Finds (d : Directory) (n : ℕ) (desk desk' : Standing) (found : Option ℕ) : Type 0 where
+  pub steps : List Made
+  pub adds : Adds desk desk' (λ v l. MayFind d v) steps
+  pub shows : OnlyDeedsShow desk.seat.profile steps
+  pub outcome : MatchOption found (FoundNone desk.seat.profile d n steps) (FoundRun desk.seat.profile d n steps)

@@ -1,0 +1,39 @@
+//! The search for a run that can be claimed.
+ghost use Rattle.std.specs.Prelude.{◌≡◌, ◌≤◌, ◌<◌};
+ghost use Rattle.pas_scan.specs.Runs.{large_directory};
+ghost use Rattle.pas_steps.specs.Desks.{CanCall};
+ghost use Rattle.pas_large.specs.Finds.{FindRoom, Finds};
+
+use crate::running::claim_run;
+use pas_profile::{Directory, Kind};
+use pas_scan::run_of_pages;
+use pas_steps::Desk;
+
+/// Claims the lowest run of so many pages that can be claimed for a large block of the heap, and answers its first page. Its pages are held then.
+///
+/// The scan goes over the pages from page 1 up. Where the claim of a run breaks at a page, what was got is put back and left, and the scan goes on
+/// after that page. None where no run is left: each deed word was read then. The deeds that a broken claim made stay.
+pub fn find_run<D: Desk>(desk: &mut D, heap: u8, pages: u32) -> Option<u32>
+    requires heap { heap < (D.standing desk.old).seat.profile.heaps }
+    requires pages { 1 ≤ pages }
+    requires can { CanCall (D.standing desk.old) (λ v l. FindRoom (D.standing desk.old).seat.profile (large_directory heap) 1 (D.spare_of desk.old) v) }
+    ensures finds { Finds (large_directory heap) pages (D.standing desk.old) (D.standing desk.new) result }
+    ensures home { D.home desk.new ≡ D.home desk.old }
+{
+    let directory = Directory {
+        heap,
+        kind: Kind::Large,
+    };
+    let last = desk.profile().pages;
+    let mut from = 1;
+    while from <= last {
+        let Some(first) = run_of_pages(desk, heap, from, pages) else {
+            return None;
+        };
+        match claim_run(desk, first, first + pages, directory) {
+            None => return Some(first),
+            Some(page) => from = page + 1,
+        }
+    }
+    None
+}
