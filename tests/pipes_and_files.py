@@ -102,7 +102,8 @@ def interrupted_writes(program):
         end = time.monotonic() + MOST_SECONDS
         while True:
             child.send_signal(signal.SIGSTOP)
-            os.waitid(os.P_PID, child.pid, os.WSTOPPED | os.WEXITED | os.WNOWAIT)
+            if child.returncode is None:
+                os.waitid(os.P_PID, child.pid, os.WSTOPPED | os.WEXITED | os.WNOWAIT)
             child.send_signal(signal.SIGCONT)
             if time.monotonic() > end:
                 child.kill()
