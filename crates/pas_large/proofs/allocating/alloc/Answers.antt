@@ -2,8 +2,8 @@ use Rattle.std.proofs.Common.{◌≤◌, ◌+◌, sym, subst}
 use Rattle.pas_scan.specs.Runs.{large_directory}
 use Rattle.pas_steps.specs.Desks.{Seat}
 use Rattle.pas_steps.proofs.Adding.{can_call}
-use Rattle.pas_large.proofs.LargeBlocks.{room_to_find, found, can_give_run, room_to_give_run, allocates, refuses_large}
-use Rattle.pas_large.proofs.RunSearches.{may_find}
+use Rattle.pas_large.proofs.Allocates.{room_to_find, found, can_give_run, room_to_give_run, allocates, refuses_large}
+use Rattle.pas_large.proofs.Finds.{may_find}
 use Rattle.pas_large.proofs.allocating.alloc.Goals as goal
 
 pub find_run-requires-clause-can : goal.find_run-requires-clause-can

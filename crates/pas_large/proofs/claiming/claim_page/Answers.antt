@@ -1,4 +1,4 @@
-use Rattle.pas_large.proofs.PageClaims.{claim_lost, can_take, claim_whole, claim_broken}
+use Rattle.pas_large.proofs.Pages.{claim_lost, can_take, claim_whole, claim_broken}
 use Rattle.pas_large.proofs.claiming.claim_page.Goals as goal
 
 pub returns-then-not-get_right-clause-claims : goal.returns-then-not-get_right-clause-claims

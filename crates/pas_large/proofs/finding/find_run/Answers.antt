@@ -3,7 +3,7 @@ use Rattle.pas_profile.specs.declared.profile.Profile.{Profile}
 use Rattle.pas_scan.specs.Runs.{large_directory}
 use Rattle.pas_steps.specs.Desks.{Seat}
 use Rattle.pas_steps.proofs.Adding.{can_call}
-use Rattle.pas_large.proofs.RunSearches.{look_adds, searched_none, none_left, finds_none, run_at, can_claim_run, goes_on, finds_run, may_find}
+use Rattle.pas_large.proofs.Finds.{look_adds, searched_none, none_left, finds_none, run_at, can_claim_run, goes_on, finds_run, may_find}
 use Rattle.pas_large.proofs.finding.find_run.Goals as goal
 
 pub loop-from-init : goal.loop-from-init

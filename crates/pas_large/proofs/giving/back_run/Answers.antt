@@ -1,6 +1,6 @@
 use Rattle.std.proofs.Common.{refl, ◌∙◌, arith}
-use Rattle.pas_large.proofs.RunClaims.{run_page}
-use Rattle.pas_large.proofs.RunGives.{backed_none, can_back, backed_more, backs_all, back_room}
+use Rattle.pas_large.proofs.Claims.{run_page}
+use Rattle.pas_large.proofs.Gives.{backed_none, can_back, backed_more, backs_all, back_room}
 use Rattle.pas_large.proofs.giving.back_run.Goals as goal
 
 pub loop-page-init : goal.loop-page-init

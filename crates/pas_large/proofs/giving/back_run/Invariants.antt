@@ -1,5 +1,5 @@
 use Rattle.std.proofs.Common.{◌≡◌}
-use Rattle.pas_large.proofs.RunGives.{BackedSoFar}
+use Rattle.pas_large.proofs.Gives.{BackedSoFar}
 use Rattle.pas_large.proofs.giving.back_run.Given as goal
 
 -- the pages below this one are backed

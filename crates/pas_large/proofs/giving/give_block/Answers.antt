@@ -1,4 +1,4 @@
-use Rattle.pas_large.proofs.BlockGives.{block_is, can_give, room_to_give, gives_block}
+use Rattle.pas_large.proofs.Gives.{block_is, can_give, room_to_give, gives_block}
 use Rattle.pas_large.proofs.giving.give_block.Goals as goal
 
 pub give-requires-clause-can : goal.give-requires-clause-can

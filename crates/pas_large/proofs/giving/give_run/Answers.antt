@@ -1,4 +1,4 @@
-use Rattle.pas_large.proofs.WholeGives.{can_give_block, room_for_block, can_leave_run, gives_run}
+use Rattle.pas_large.proofs.Gives.{can_give_block, room_for_block, can_leave_run, gives_run}
 use Rattle.pas_large.proofs.giving.give_run.Goals as goal
 
 pub give_block-block-requires-clause-can : goal.give_block-block-requires-clause-can

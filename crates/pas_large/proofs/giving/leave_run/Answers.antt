@@ -1,8 +1,8 @@
 use Rattle.std.proofs.Common.{refl, sym, ◌∙◌, subst, arith}
 use Rattle.pas_profile.specs.Profiles.{IsPage, IsDirectoryOf}
 use Rattle.pas_steps.specs.Desks.{Seat}
-use Rattle.pas_large.proofs.RunClaims.{run_page}
-use Rattle.pas_large.proofs.RunGives.{left_run_none, can_leave_next, left_run_more, leaves_all}
+use Rattle.pas_large.proofs.Claims.{run_page}
+use Rattle.pas_large.proofs.Gives.{left_run_none, can_leave_next, left_run_more, leaves_all}
 use Rattle.pas_large.proofs.giving.leave_run.Goals as goal
 
 pub loop-page-init : goal.loop-page-init

@@ -1,5 +1,5 @@
 use Rattle.std.proofs.Common.{◌≡◌}
-use Rattle.pas_large.proofs.RunGives.{LeftRunSoFar}
+use Rattle.pas_large.proofs.Gives.{LeftRunSoFar}
 use Rattle.pas_large.proofs.giving.leave_run.Given as goal
 
 -- the pages below this one are left

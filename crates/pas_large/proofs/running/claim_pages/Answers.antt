@@ -1,7 +1,7 @@
 use Rattle.std.proofs.Common.{refl, sym, ◌∙◌, subst, arith}
 use Rattle.pas_profile.specs.Profiles.{IsPage, IsDirectoryOf}
 use Rattle.pas_steps.specs.Desks.{Seat}
-use Rattle.pas_large.proofs.RunClaims.{pages_none, run_page, may_claim, page_call, room_after, won_turn, lost_turn, broken_turn, all_claimed}
+use Rattle.pas_large.proofs.Claims.{pages_none, run_page, may_claim, page_call, room_after, won_turn, lost_turn, broken_turn, all_claimed}
 use Rattle.pas_large.proofs.running.claim_pages.Goals as goal
 
 pub loop-page-init : goal.loop-page-init

@@ -1,5 +1,5 @@
 use Rattle.std.proofs.Common.{◌≡◌}
-use Rattle.pas_large.proofs.RunClaims.{PagesSoFar}
+use Rattle.pas_large.proofs.Claims.{PagesSoFar}
 use Rattle.pas_large.proofs.running.claim_pages.Given as goal
 
 -- the pages below this one are held

@@ -1,4 +1,4 @@
-use Rattle.pas_large.proofs.RunClaims.{may_claim, run_claimed, release_call, run_failed}
+use Rattle.pas_large.proofs.Claims.{may_claim, run_claimed, release_call, run_failed}
 use Rattle.pas_large.proofs.running.claim_run.Goals as goal
 
 pub returns-then-stop-end-clause-claims : goal.returns-then-stop-end-clause-claims

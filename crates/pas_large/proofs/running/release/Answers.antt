@@ -1,7 +1,7 @@
 use Rattle.std.proofs.Common.{refl, sym, ◌∙◌, subst, arith}
 use Rattle.pas_profile.specs.Profiles.{IsPage, IsDirectoryOf}
 use Rattle.pas_steps.specs.Desks.{Seat}
-use Rattle.pas_large.proofs.RunClaims.{run_page, left_none, leave_call, left_more, releases_all}
+use Rattle.pas_large.proofs.Claims.{run_page, left_none, leave_call, left_more, releases_all}
 use Rattle.pas_large.proofs.running.release.Goals as goal
 
 pub loop-page-init : goal.loop-page-init

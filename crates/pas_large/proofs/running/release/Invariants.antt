@@ -1,5 +1,5 @@
 use Rattle.std.proofs.Common.{◌≡◌}
-use Rattle.pas_large.proofs.RunClaims.{LeftSoFar}
+use Rattle.pas_large.proofs.Claims.{LeftSoFar}
 use Rattle.pas_large.proofs.running.release.Given as goal
 
 -- the pages below this one are left

@@ -22,9 +22,8 @@ use Rattle.pas_large.specs.Finds.{MayFind, FindRoom, FoundRun, Finds}
 use Rattle.pas_large.specs.Gives.{GivesRun}
 use Rattle.pas_large.specs.Pages.{GotPages}
 use Rattle.pas_large.specs.Refusals.{IsReason, Refuses}
-use Rattle.pas_large.proofs.RunClaims.{HasSpares, room_after}
-use Rattle.pas_large.proofs.RunSearches.{may_find}
-use Rattle.pas_large.proofs.Spans.{undone}
+use Rattle.pas_large.proofs.Claims.{HasSpares, room_after, undone}
+use Rattle.pas_large.proofs.Finds.{may_find}
 
 pub room_to_find : {σ : Standing} {f : Profile} {d : Directory} {spare : ℕ} (n : ℕ) → CanCall σ (λ v l. FindRoom f d (n + 1) spare v) → CanCall σ (λ v l. FindRoom f d 1 spare v)
 room_to_find n can = let room = can.met.room in record { view = can.view; whole = can.whole; stood = can.stood; met = record { may = can.met.may; room = omega (arith, room) } }
