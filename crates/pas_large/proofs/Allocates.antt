@@ -1,5 +1,5 @@
 -- A large block: the run that was found is given, or the refusal has its reason.
-use Rattle.std.proofs.Common.{◌≡◌, ℕ, ◌+◌, ◌≤◌, true, false, if◌then◌else◌, List, ◌++◌, Some, None, Ok, Err, refl, ap, ◌∙◌, subst, arith}
+use Rattle.std.proofs.Common.{◌≡◌, ℕ, ◌+◌, ◌≤◌, true, false, if◌then◌else◌, List, ◌++◌, Some, None, Ok, Err, refl, ap, ◌∙◌, subst, arith, ◌/◌}
 use Rattle.pas_profile.specs.declared.directory.Directory.{Directory}
 use Rattle.pas_profile.specs.declared.event.NoRoom.{NoRoom}
 use Rattle.pas_profile.specs.declared.name.Block.{Block}
@@ -22,7 +22,8 @@ use Rattle.pas_large.specs.Finds.{MayFind, FindRoom, FoundRun, Finds}
 use Rattle.pas_large.specs.Gives.{GivesRun}
 use Rattle.pas_large.specs.Pages.{GotPages}
 use Rattle.pas_large.specs.Refusals.{IsReason, Refuses}
-use Rattle.pas_large.proofs.Claims.{HasSpares, room_after, undone}
+use Rattle.pas_large.proofs.Claims.{HasSpares, room_after}
+use Rattle.pas_large.proofs.Pages.{undone}
 use Rattle.pas_large.proofs.Finds.{may_find}
 
 pub room_to_find : {σ : Standing} {f : Profile} {d : Directory} {spare : ℕ} (n : ℕ) → CanCall σ (λ v l. FindRoom f d (n + 1) spare v) → CanCall σ (λ v l. FindRoom f d 1 spare v)
@@ -67,7 +68,7 @@ pub allocates : {σ σ1 σ2 : Standing} (heap n first : ℕ) (find : Finds (larg
 allocates heap n first find block give =
     let d = large_directory heap in
     let calls = call_then (GaveLarge d first n block) (found_call d n first find) give.calls (has_pages d n first find)
-    (λ v met ready gave. record { does = undone (in_span first (first + n)) ready.got.apart ready.lacked ready.got.does gave.does; apart = ready.got.apart; deeds = gave.deeds; turn = gave.turn }) in
+    (λ v met ready gave. record { does = undone (λ g. in_span first (first + n) (g / 256)) (in_span first (first + n)) ready.got.apart ready.lacked ready.got.does gave.does; apart = ready.got.apart; deeds = gave.deeds; turn = gave.turn }) in
     record {
       searched = find.steps;
       after = _;

@@ -21,7 +21,7 @@ use Rattle.pas_steps.proofs.Sets.{both_fates}
 use Rattle.pas_scan.specs.Usable.{ParksNotHere, MakesNoDeedHere, LeftAlone}
 use Rattle.pas_large.specs.Pages.{of_pages, GotPages, MayClaim, MayPutAndLeave, put_and_left, PutsAndLeaves, DeedsOn, OnlyDeedsShow, taking_pages, claiming, LosesPage, BreaksPage, WinsPage, ClaimsPage}
 use Rattle.pas_large.specs.Claims.{in_span, MayClaimPages, HasRunRoom, AloneFrom, DeedsIn, HoldsSpan, FailsAt, ClaimsPages, HasPages, Releases, ClaimsRun, LacksAll}
-use Rattle.pas_large.proofs.Pages.{got_lost, no_deeds, shows_both, shows_taking, after_more}
+use Rattle.pas_large.proofs.Pages.{and_true, since_more, undone, no_deeds, shows_both, shows_taking, after_more}
 use Rattle.pas_profile.specs.Profiles.{IsPage}
 use Rattle.pas_profile.specs.declared.profile.Profile.{Profile}
 use Rattle.pas_rights.specs.Puts.{masked}
@@ -97,18 +97,6 @@ got_still d a first second knows = record { does = does_then first.does second; 
 pub got_after : {v w u : View} (a : ℕ → Bool) (d : Directory) → Does nothing v w → GotPages a d w u → GotPages a d v u
 got_after a d first second = record { does = does_after_nothing (of_pages a Gained) first second.does; apart = λ g h. sym (first.held g) ∙ second.apart g h; deeds = second.deeds }
 
--- what was got is lost again
-pub undone : {v w u : View} (pages : ℕ → Bool) → ((g : ℕ) → pages (g / 256) ≡ true → holds v g ≡ false) → ((p : ℕ) → pages p ≡ true → has_right v p ≡ false) → Does (of_pages pages Gained) v w → Does (of_pages pages Lost) w u → Does nothing v u
-undone {v} pages apart lacks a b = record {
-  held = λ x. b.held x ∙ ap (now (if pages (x / 256) then Lost else Kept)) (a.held x) ∙ got_lost (pages (x / 256)) (holds v x) (apart x);
-  right = λ q. b.right q ∙ ap (now (if pages q then Lost else Kept)) (a.right q) ∙ got_lost (pages q) (has_right v q) (lacks q);
-  clear = λ q is. b.clear q (a.clear q is);
-  backed = λ x kept bears. elim (cases_Bool (pages (x / 256))) [
-    | inl here ↦ absurd (true≢false (sym bears.held ∙ apart x here))
-    | inr other ↦ b.backed x (ap (λ t. if t then Lost else Kept) other) (a.backed x (ap (λ t. if t then Gained else Kept) other) bears)
-  ];
-}
-
 -- ---- all grains of a page
 abbrev pub full : Mask4
 full = record { 0 = (2 ^ 64 - 1) ∷ (2 ^ 64 - 1) ∷ (2 ^ 64 - 1) ∷ (2 ^ 64 - 1) ∷ [] }
@@ -134,10 +122,6 @@ alone_on q p ys xs on ne alone = record {
   parks = always_both (λ m before. IsOnPage q m.step) (ParksNotHere p) ys xs (λ m before h e. not_parked q p m.step ne h e) on alone.parks;
   deeds = always_both (λ m before. IsOnPage q m.step) (MakesNoDeedHere p) ys xs (λ m before h x e z. not_deeded q p m.step x ne h e) on alone.deeds;
 }
-
-pub since_on : (P : Made → List Made → Type 0) (q p : ℕ) (ys xs : List Made) → OnlyOn q ys → p ≢ q → has_right xs p ≡ true → Since P (KeptHere p) xs → Since P (KeptHere p) (ys ++ xs)
-since_on P q p [] xs on ne right h = h
-since_on P q p (m ∷ ys) xs on ne right h = inr (right_on q p ys xs on.1 ne ∙ right, since_on P q p ys xs on.1 ne right h)
 
 pub full_set : (g : ℕ) → g < 256 → is_set full g ≡ true
 full_set g lt = four_words (2 ^ 64 - 1) (2 ^ 64 - 1) (2 ^ 64 - 1) (2 ^ 64 - 1) (λ x. true) (λ x h. full_bit x h) (λ x h. full_bit x h) (λ x h. full_bit x h) (λ x h. full_bit x h) g lt
@@ -233,7 +217,7 @@ module _ {σ σ1 : Standing} (d : Directory) (first end page : ℕ) (low : first
     others_held : (before : List Made) → AloneFrom first before → HoldsSpan first page ((ys ++ xs) ++ before)
     others_held before free = let old = so_far.holding before free in record {
       right = λ p ge lt. ap (λ s. has_right s p) (all_at before) ∙ right_on page p ys (xs ++ before) h.on (λ e. absurd (omega (arith, e, lt))) ∙ old.right p ge lt;
-      whole = λ p word ge lt small. subst (Since (TakenWholeHere p word) (KeptHere p)) (sym (all_at before)) (since_on (TakenWholeHere p word) page p ys (xs ++ before) h.on (λ e. absurd (omega (arith, e, lt))) (old.right p ge lt) (old.whole p word ge lt small));
+      whole = λ p word ge lt small. subst (Since (TakenWholeHere p word) (KeptHere p)) (sym (all_at before)) (since_more (TakenWholeHere p word) (KeptHere p) (λ m c. IsOnPage page m.step) ys (xs ++ before) (λ m c is on. right_on page p c (xs ++ before) on (λ e. absurd (omega (arith, e, lt))) ∙ old.right p ge lt) h.on (old.whole p word ge lt small));
     }
 
     agreed_ys : (v : View) → Agreed σ.seat.profile v (ys ++ xs) → Agreed σ.seat.profile (xs ++ v) ys
@@ -350,10 +334,7 @@ left_none d first end = record {
 }
 
 on_full : (page g : ℕ) → masked page full g ≡ (page == g / 256)
-on_full page g = ap (λ t. (page == g / 256) && t) (full_set (g % 256) (omega arith)) ∙ and_true (page == g / 256) where
-  and_true : (t : Bool) → (t && true) ≡ t
-  and_true true = refl
-  and_true false = refl
+on_full page g = ap (λ t. (page == g / 256) && t) (full_set (g % 256) (omega arith)) ∙ and_true (page == g / 256)
 
 module _ {σ σ1 : Standing} (d : Directory) (first end page : ℕ) (low : first ≤ page) (high : page < end) (so_far : LeftSoFar d first end page σ σ1) where
   leave_may : (v : View) → HasPages d first end v → Does (of_pages (in_span first page) Lost) v (so_far.steps ++ v) × ((p : ℕ) → in_span first end p ≡ true → KnowsDeed p d (so_far.steps ++ v)) → MayPutAndLeave page d (masked page full) (so_far.steps ++ v)
@@ -443,7 +424,7 @@ module _ {σ σ1 : Standing} (d : Directory) (first end stop : ℕ) (ne : stop �
   pub run_failed : {σ2 : Standing} → Releases d first stop σ1 σ2 → ClaimsRun d first end σ σ2 (Some stop)
   run_failed r =
       let calls = call_then (Does nothing) got_call r.calls may_release
-      (λ v met got lost. undone (in_span first stop) got.apart (λ p is. let at = in_parts first stop p is in let lt = at.1 in let last = before_end in met.lacks p at.0 (omega (arith, lt, last))) got.does lost) in
+      (λ v met got lost. undone (λ g. in_span first stop (g / 256)) (in_span first stop) got.apart (λ p is. let at = in_parts first stop p is in let lt = at.1 in let last = before_end in met.lacks p at.0 (omega (arith, lt, last))) got.does lost) in
       record {
         steps = r.steps ++ h.steps;
         adds = calls.adds;

@@ -1,6 +1,6 @@
 -- The claim of one page: its right and its grains, and how it is left.
-use Rattle.std.proofs.Common.{◌≡◌, ℕ, ◌==◌, Bool, true, false, if◌then◌else◌, [], ◌∷◌, ◌++◌, inl, refl, ◌∙◌, subst, arith, length-append, ap, append_assoc, ◌⊎◌, ◌+◌, ◌*◌, ◌/◌, ◌%◌, ◌<◌, ◌&&◌, List, inr, sym, true≢false, ◌≢◌, length, Some, None}
-use Rattle.std.proofs.lemmas.Bool.{eqb-true, eq-eqb, ne_eqb, eqb-false, cases_eq}
+use Rattle.std.proofs.Common.{◌≡◌, ℕ, ◌==◌, Bool, true, false, if◌then◌else◌, [], ◌∷◌, ◌++◌, inl, refl, ◌∙◌, subst, arith, length-append, ap, append_assoc, ◌⊎◌, ◌+◌, ◌*◌, ◌/◌, ◌%◌, ◌<◌, ◌&&◌, List, inr, sym, true≢false, ◌≢◌, length, Some, None, MatchBool}
+use Rattle.std.proofs.lemmas.Bool.{eqb-true, eq-eqb, ne_eqb, eqb-false, cases_eq, cases_Bool}
 use Rattle.pas_profile.specs.declared.directory.Directory.{Directory}
 use Rattle.pas_bits.specs.declared.mask.Mask4.{Mask4}
 use Rattle.pas_rights.specs.Leaves.{MayLeave, Leaves, LosesHere}
@@ -11,26 +11,26 @@ use Rattle.pas_rights.proofs.Debts.{leave_lacks}
 use Rattle.pas_steps.specs.Calls.{Calls, Kept, Lost, later, put, Does, ClearAfter, Gained, now, Fate, nothing}
 use Rattle.pas_steps.specs.Clear.{IsClearOn}
 use Rattle.pas_steps.specs.Desks.{Standing, CanCall, Anything, Makes, Adds, made}
-use Rattle.pas_steps.specs.Frames.{IsOnPage, AreLooks, KeepsRight}
+use Rattle.pas_steps.specs.Frames.{IsOnPage, KeepsRight, IsRead, GivesUp}
 use Rattle.pas_steps.specs.Kinds.{Putting, returning, kind_of, is_in, Kinds, Deeding, Only}
 use Rattle.pas_steps.specs.Views.{View, has_right, holds, KnowsDeed, Way, Rests, ByDeed, FromOffer, had_after, deed_after, known_deed}
-use Rattle.pas_steps.proofs.Apart.{deeds_same, unstamped_same, examines_same, only_both, only_within, no_events}
+use Rattle.pas_steps.proofs.Apart.{deeds_same, unstamped_same, examines_same, only_both, only_within, no_events, holds_same}
 use Rattle.pas_steps.proofs.Called.{call_as, call_then, next_call, call_knows}
-use Rattle.pas_steps.proofs.Calls.{does_as, does_then, kept_first, returns_are, does_on_page, leads_as, leads_at}
+use Rattle.pas_steps.proofs.Calls.{does_as, does_then, kept_first, returns_are, does_on_page, leads_as, leads_at, owes_over, unexamined_over}
 use Rattle.pas_steps.proofs.Kept.{returns_on, looks_read, right_reads, deed_stays, knows_still}
-use Rattle.pas_steps.proofs.Past.{always_both, once_later, once_earlier, always_map}
-use Rattle.pas_large.specs.Pages.{MayPutAndLeave, put_and_left, PutsAndLeaves, OnceAfter, TookPage, TakesPage, taking_pages, getting, DeedsOn, OnlyDeedsShow, GetsPage, MayClaim, of_pages, GotPages, claiming, IsClaimed, ClaimsPage}
-use Rattle.pas_profile.specs.Classes.{IsSlotStart, has_bit}
+use Rattle.pas_steps.proofs.Past.{always_both, once_later, once_earlier, always_map, once_map}
+use Rattle.pas_large.specs.Pages.{MayPutAndLeave, put_and_left, PutsAndLeaves, OnceAfter, TookPage, TakesPage, taking_pages, getting, DeedsOn, OnlyDeedsShow, GetsPage, MayClaim, of_pages, GotPages, claiming, IsClaimed, ClaimsPage, GetsRightOf, LosesRightOf}
+use Rattle.pas_profile.specs.Classes.{has_bit}
 use Rattle.pas_profile.specs.declared.profile.Profile.{Profile}
 use Rattle.pas_bits.specs.Masks.{is_set, AllSetBelow, IsLowestClear}
-use Rattle.pas_steps.specs.Evidence.{GetsHere, ShowsHere, KeptHere, UnfitHere, Readings, ReadsDeed, GetsRight, NoDeedHere}
-use Rattle.pas_steps.specs.Past.{Once, Since}
+use Rattle.pas_steps.specs.Evidence.{GetsHere, ShowsHere, KeptHere, ReadsDeed, GetsRight, NoDeedHere}
+use Rattle.pas_steps.specs.Past.{Once, Since, Always}
 use Rattle.pas_steps.specs.declared.step.Made.{Made}
 use Rattle.pas_steps.proofs.Frames.{rights_stay, events_append}
 use Rattle.pas_search.specs.Serving.{MayServe, GotBefore, right_of}
 use Rattle.pas_segregated.proofs.GiveBack.{keeps_by}
 use Rattle.pas_segregated.specs.Takes.{slots_on, GetsGrains, TakesSlots}
-use Rattle.pas_large.specs.Evidence.{NotAll, BrokenHere, TakenWholeHere}
+use Rattle.pas_large.specs.Evidence.{NotAll, BrokenHere, TakenWholeHere, LostHere}
 use Rattle.pas_profile.specs.Directories.{number_of, deed_word_of}
 use Rattle.pas_profile.specs.Profiles.{IsPage}
 use Rattle.pas_profile.specs.declared.event.Event.{Event}
@@ -43,7 +43,7 @@ use Rattle.pas_steps.specs.declared.step.Step.TheVariants.{Look, Deed, TakeRight
 use Rattle.pas_steps.proofs.Adding.{adds_none, adds_step, adds_call, adds_under, can_call, agreed_first, agreed_later}
 use Rattle.pas_steps.proofs.Unknown.{unknown_stays, unknown_less}
 use Rattle.pas_rights.specs.Claims.{Claims}
-use Rattle.pas_scan.specs.Usable.{OfHere, ReadUsable}
+use Rattle.pas_scan.specs.Usable.{OfHere, ReadUsable, LeftAlone}
 use Rattle.pas_steps.specs.Unknown.{unknown_pages}
 use Rattle.pas_large.specs.declared.claiming.Claimed.{Claimed}
 
@@ -85,44 +85,24 @@ module _ {σ σ1 : Standing} (page : ℕ) (d : Directory) (mask : Mask4) (puts :
   }
 
 -- ---- all grains of a page of a run: four takes, and where some grain wasn't free, what was got is put back and the page is left
--- ---- slots of one grain
-one_grain : (x : ℕ) → x < 256 → IsSlotStart 0 x
-one_grain x lt = record { aligned = omega arith; within = omega (arith, lt) }
-
 since_map : (P P' Q : Made → List Made → Type 0) (xs : List Made) → ((m : Made) (before : List Made) → P m before → P' m before) → Since P Q xs → Since P' Q xs
 since_map P P' Q [] f h = h
 since_map P P' Q (m ∷ xs) f (inl h) = inl (f m xs h)
 since_map P P' Q (m ∷ xs) f (inr h) = inr (h.0, since_map P P' Q xs f h.1)
 
-since_kept : (P : Made → List Made → Type 0) (page : ℕ) (ys xs : List Made) → KeepsRight page ys → has_right xs page ≡ true → Since P (KeptHere page) xs → Since P (KeptHere page) (ys ++ xs)
-since_kept P page [] xs keeps right h = h
-since_kept P page (y ∷ ys) xs keeps right h = inr (rights_stay ys xs page keeps.1 right, since_kept P page ys xs keeps.1 right h)
-
--- ---- the loss, which is among these steps
-since_looks : (P : Made → List Made → Type 0) (p : ℕ) (ys xs : List Made) → AreLooks ys → has_right xs p ≡ true → Since P (KeptHere p) xs → Since P (KeptHere p) (ys ++ xs)
-since_looks P p [] xs looks right h = h
-since_looks P p (y ∷ ys) xs looks right h = inr (right_reads p ys xs (looks_read ys looks.1) ∙ right, since_looks P p ys xs looks.1 right h)
-
-unfit_in : (no_fit : Readings → Type 0) (p : ℕ) (ys xs : List Made) → Once (LosesHere p) ys → has_right xs p ≡ true → Once (GetsHere p) xs → (r : Readings) → no_fit r → ((word : ℕ) → word < 4 → Since (ShowsHere p word r) (KeptHere p) xs) → OnceAfter xs (UnfitHere no_fit p) ys
-unfit_in no_fit p [] xs left right got r none read = absurd left
-unfit_in no_fit p (y ∷ ys) xs (inl h) right got r none read = inl (record {
-  left = h.0;
-  kept = right_reads p ys xs (looks_read ys h.1) ∙ right;
-  got = once_later (GetsHere p) ys xs got;
-  readings = r;
-  none = none;
-  read = λ word lt. since_looks (ShowsHere p word r) p ys xs h.1 right (read word lt);
-})
-unfit_in no_fit p (y ∷ ys) xs (inr h) right got r none read = inr (unfit_in no_fit p ys xs h right got r none read)
+-- at each later step Q holds, by what is known of it and of the steps before it
+pub since_more : (P Q R : Made → List Made → Type 0) (ys xs : List Made) → ((m : Made) (b : List Made) → R m b → Always R b → Q m (b ++ xs)) → Always R ys → Since P Q xs → Since P Q (ys ++ xs)
+since_more P Q R [] xs f all h = h
+since_more P Q R (m ∷ ys) xs f all h = inr (f m ys all.0 all.1, since_more P Q R ys xs f all.1 h)
 
 pub after_more : (P : Made → List Made → Type 0) (ys zs xs : List Made) → OnceAfter (zs ++ xs) P ys → OnceAfter xs P (ys ++ zs)
 after_more P ys zs xs h = once_earlier (λ m b. P m (b ++ (zs ++ xs))) (λ m b. P m (b ++ xs)) ys zs (λ m b x. subst (P m) (sym (append_assoc b zs xs)) x) h
 
--- ---- what was got is put back
-now_gained : (t had : Bool) → t ≡ true → now (if t then Gained else Kept) had ≡ true
-now_gained true had h = refl
-now_gained false had h = cc
+pub and_true : (t : Bool) → (t && true) ≡ t
+and_true true = refl
+and_true false = refl
 
+-- ---- what was got is put back
 module _ (d : Directory) (page : ℕ) (got : Mask4) {σ σ1 : Standing} (taken : TakesSlots 0 page d σ σ1 got) where
   abbrev profile : Profile
   profile = σ.seat.profile
@@ -134,15 +114,12 @@ module _ (d : Directory) (page : ℕ) (got : Mask4) {σ σ1 : Standing} (taken :
   set_read x h = let both = (taken.are x).0 h in let within = both.0.within in both.1 x (omega (arith, within)) (omega arith) (omega arith)
 
   read_set : (x : ℕ) → x < 256 → is_set taken.answers x ≡ true → is_set got x ≡ true
-  read_set x lt h = (taken.are x).1 (one_grain x lt, λ g within low high. let e : x ≡ g = omega (arith, low, high) in ap (is_set taken.answers) (sym e) ∙ h)
+  read_set x lt h = (taken.are x).1 (record { aligned = omega arith; within = omega (arith, lt) }, λ g within low high. let e : x ≡ g = omega (arith, low, high) in ap (is_set taken.answers) (sym e) ∙ h)
 
   -- ---- all grains were got
   module _ (all : AllSetBelow got 256) where
     on_page : (g : ℕ) → slots_on page 0 got g ≡ (page == g / 256)
-    on_page g = slot g ∙ ap (λ t. (page == g / 256) && t) (all (g % 256) (omega arith)) ∙ and_true (page == g / 256) where
-      and_true : (t : Bool) → (t && true) ≡ t
-      and_true true = refl
-      and_true false = refl
+    on_page g = slot g ∙ ap (λ t. (page == g / 256) && t) (all (g % 256) (omega arith)) ∙ and_true (page == g / 256)
 
     whole_here : (word : ℕ) → word < 4 → (m : Made) (before : List Made) → ShowsHere page word (is_set taken.answers) m before → TakenWholeHere page word m before
     whole_here word small m before h = ((h.0, λ b lt. sym (h.2 b lt) ∙ set_read (64 * word + b) (all (64 * word + b) (omega (arith, small, lt)))), h.1)
@@ -175,7 +152,7 @@ module _ (d : Directory) (page : ℕ) (got : Mask4) {σ σ1 : Standing} (taken :
   may_put_back v met gets = record {
     right = gets.0.does.right page ∙ met.right;
     deed = gets.1;
-    held = λ g here. gets.0.does.held g ∙ now_gained (slots_on page 0 got g) (holds v g) (slot g ∙ here);
+    held = λ g here. gets.0.does.held g ∙ ap (λ t. now (if t then Gained else Kept) (holds v g)) (slot g ∙ here);
     clear = gets.0.does.clear page met.clear;
   }
 
@@ -189,9 +166,8 @@ module _ (d : Directory) (page : ℕ) (got : Mask4) {σ σ1 : Standing} (taken :
     -- what was got is lost again
     again : (s t had : Bool) → s ≡ t → (s ≡ true → had ≡ false) → (later (if s then Gained else Kept) (if t then Lost else Kept) ≡ Kept) ⊎ ((had ≡ false) × (now (later (if s then Gained else Kept) (if t then Lost else Kept)) false ≡ false))
     again true true had same none = inr (none refl, refl)
-    again true false had same none = cc
-    again false true had same none = cc
     again false false had same none = inl refl
+    again s t had same none = cc
 
     left_call : Calls σ σ2 (MayServe page d) (Does (right_of page Lost)) ((back.after ++ back.puts) ++ taken.steps)
     left_call = call_then (Does (right_of page Lost)) took_call back.calls may_put_back
@@ -202,11 +178,18 @@ module _ (d : Directory) (page : ℕ) (got : Mask4) {σ σ1 : Standing} (taken :
 
     broken : (before : List Made) → GotBefore page before → OnceAfter before (BrokenHere page) ((back.after ++ back.puts) ++ taken.steps)
     broken before met =
-        let right = rights_stay taken.steps before page taken.keeps met.right in
-        after_more (BrokenHere page) (back.after ++ back.puts) taken.steps before (after_more (BrokenHere page) back.after back.puts (taken.steps ++ before)
-        (unfit_in NotAll page back.after (back.puts ++ (taken.steps ++ before)) back.left (rights_stay back.puts (taken.steps ++ before) page puts_keep right)
-        (once_later (GetsHere page) back.puts (taken.steps ++ before) (once_later (GetsHere page) taken.steps before met.got)) (is_set taken.answers) not_all
-        (λ word lt. since_kept (ShowsHere page word (is_set taken.answers)) page back.puts (taken.steps ++ before) puts_keep right (taken.read before met word lt))))
+        let xs = taken.steps ++ before in let right = rights_stay taken.steps before page taken.keeps met.right in let kept = rights_stay back.puts xs page puts_keep right in
+        after_more (BrokenHere page) (back.after ++ back.puts) taken.steps before (after_more (BrokenHere page) back.after back.puts xs
+        (once_map (LosesHere page) (λ m b. BrokenHere page m (b ++ (back.puts ++ xs))) back.after (λ m b h. record {
+          left = h.0;
+          kept = right_reads page b (back.puts ++ xs) (looks_read b h.1) ∙ kept;
+          got = once_later (GetsHere page) b (back.puts ++ xs) (once_later (GetsHere page) back.puts xs (once_later (GetsHere page) taken.steps before met.got));
+          readings = is_set taken.answers;
+          none = not_all;
+          read = λ word lt. let shows = ShowsHere page word (is_set taken.answers) in
+              since_more shows (KeptHere page) (λ m c. IsRead m.step m.answer) b (back.puts ++ xs) (λ m c is reads. right_reads page c (back.puts ++ xs) reads ∙ kept) (looks_read b h.1)
+              (since_more shows (KeptHere page) (λ m c. GivesUp page m.step → ⊥) back.puts xs (λ m c is keeps. rights_stay c xs page keeps right) puts_keep (taken.read before met word lt));
+        }) back.left))
 
     pub leaves_broken : TakesPage d page σ σ2 false
     leaves_broken = record {
@@ -240,66 +223,58 @@ same_fate : (t : Bool) → (if t then Kept else Kept) ≡ Kept
 same_fate true = refl
 same_fate false = refl
 
--- this becomes of the right, and of nothing else
-pair_does : (f : Profile) (page a : ℕ) (m : Made) (r : Fate) (v : View) → is_in getting (kind_of m.step) ≡ true → IsOnPage page m.step → Agreed f v (m ∷ deed_look page a ∷ []) → has_right (m ∷ deed_look page a ∷ v) page ≡ now r (has_right v page)
-    → (IsClearOn page v → IsClearOn page (m ∷ deed_look page a ∷ v)) → Does (right_of page r) v (m ∷ deed_look page a ∷ v)
-pair_does f page a m r v kind on agreed right clear =
-    let does = does_on_page f page r Kept getting refl refl (m ∷ deed_look page a ∷ []) v (kind, (refl, tt)) (on, (IsOnPage.Looks (Word.Deed page), tt)) agreed right clear in
-    does_as (right_of page r) does (λ x. inl refl) (λ q. refl) (λ q h. subst (λ t. ClearAfter t q v (m ∷ deed_look page a ∷ v)) (same_fate (page == q)) h)
+way_taken : (page : ℕ) (t got had : Bool) (w : Way) → had_after w had ≡ true → t ≡ got → had_after (if (page == page) && t then w else Rests) had ≡ now (if got then Gained else Kept) had
+way_taken page true got had w gains e = ap (λ x. had_after (if x && true then w else Rests) had) (eq-eqb page page refl) ∙ gains ∙ ap (λ x. now (if x then Gained else Kept) had) e
+way_taken page false got had w gains e = ap (λ x. had_after (if x && false then w else Rests) had) (eq-eqb page page refl) ∙ ap (λ x. now (if x then Gained else Kept) had) e
 
-nothing_lost : (page : ℕ) {v w : View} → Does (right_of page Kept) v w → Does nothing v w
-nothing_lost page does = does_as nothing does (λ x. inl refl) (λ q. same_fate (page == q)) (λ q h. h)
+module _ {σ σ1 : Standing} (d : Directory) (page a : ℕ) (m : Made) (adds : Adds σ σ1 Anything (m ∷ deed_look page a ∷ [])) (on : IsOnPage page m.step) (kind : is_in getting (kind_of m.step) ≡ true) where
+  abbrev pair : List Made
+  pair = m ∷ deed_look page a ∷ []
 
-way_taken : (page : ℕ) (t got had : Bool) (w : Way) → t ≡ got → had_after (if (page == page) && t then w else Rests) had ≡ had_after (if got then w else Rests) had
-way_taken page t got had w e = ap (λ x. had_after (if x && t then w else Rests) had) (eq-eqb page page refl) ∙ ap (λ x. had_after (if x then w else Rests) had) e
+  -- this becomes of the right, and of nothing else
+  pair_does : (r : Fate) (v : View) → Agreed σ.seat.profile v pair → has_right (pair ++ v) page ≡ now r (has_right v page) → Does (right_of page r) v (pair ++ v)
+  pair_does r v agreed right =
+      let kinds : Only getting pair = (kind, (refl, tt)) in
+      let does = does_on_page σ.seat.profile page r Kept getting refl refl pair v kinds (on, (IsOnPage.Looks (Word.Deed page), tt)) agreed right (λ is. record {
+        stamped = unstamped_same getting refl page pair v kinds ∙ is.stamped;
+        owes = owes_over getting refl page pair v kinds is.owes;
+        examined = unexamined_over getting refl page pair v kinds is.examined;
+      }) in
+      does_as (right_of page r) does (λ x. inl refl) (λ q. refl) (λ q h. subst (λ t. ClearAfter t q v (pair ++ v)) (same_fate (page == q)) h)
+
+  pair_outcome : (got : Bool) → ((v : View) → has_right (pair ++ v) page ≡ now (if got then Gained else Kept) (has_right v page)) → (got ≡ true → (v : View) → Agreed σ.seat.profile v pair → KnowsDeed page d (pair ++ v)) → (got ≡ true → GetsRight page m.step m.answer)
+      → (got ≡ false → (before : List Made) (v : View) → LeftAlone page before → ReadUsable d page before → Agreed σ.seat.profile v (pair ++ before) → LostHere d page m (deed_look page a ∷ before)) → MatchBool got (GetsRightOf σ.seat.profile d page pair) (LosesRightOf σ.seat.profile d page pair)
+  pair_outcome true right known gets lost = record {
+    leads = record { from = λ v met agreed. let does = pair_does Gained v agreed (right v) in record { does = does; may = record { right = right v; deed = known refl v agreed; clear = does.clear page (met.clear.on page) } } };
+    got = λ before alone. record { right = right before; got = inl (gets refl); none = λ g at. holds_same getting refl g pair before (kind, (refl, tt)) ∙ alone.none g at; newest = gets refl };
+  }
+  pair_outcome false right known gets lost = record {
+    leads = record { from = λ v met agreed. does_as nothing (pair_does Kept v agreed (right v)) (λ x. inl refl) (λ q. same_fate (page == q)) (λ q h. h) };
+    lacks = λ before none. right before ∙ none;
+    lost = λ before v alone usable agreed. inl (lost refl before v alone usable agreed);
+  }
+
+  pair_gets : (got : Bool) → DeedsOn d page (m ∷ []) → OnlyDeedsShow σ.seat.profile pair → MatchBool got (GetsRightOf σ.seat.profile d page pair) (LosesRightOf σ.seat.profile d page pair) → GetsPage d page σ σ1 got
+  pair_gets got deeds shows outcome = record {
+    steps = pair;
+    adds = adds;
+    on = (on, (IsOnPage.Looks (Word.Deed page), tt));
+    kinds = (kind, (refl, tt));
+    few = omega arith;
+    deeds = (deeds.0, (λ p e same z. cc, tt));
+    shows = shows;
+    outcome = outcome;
+  }
 
 -- ---- the claim of a page whose deed word was read as the directory's
-module _ {σ σ1 : Standing} (d : Directory) (page a : ℕ) (is : a ≡ deed_word_of d) (look : Makes σ σ1 (Look (Word.Deed page)) a) where
-  claim_adds : {σ2 : Standing} {got : Bool} → (h : Claims page d σ1 σ2 got) → Adds σ σ2 Anything (made (TakeRight page d) h.answer ∷ deed_look page a ∷ [])
-  claim_adds h = adds_call {D = λ v l. KnowsDeed page d v} (adds_step adds_none look (λ v l stood met. tt)) h.calls.adds (λ v l stood met. read_here page a (known_deed v page) ∙ is)
-
-  claim_knows : (b : ℕ) (v : View) → Agreed σ.seat.profile v (made (TakeRight page d) b ∷ deed_look page a ∷ []) → KnowsDeed page d (made (TakeRight page d) b ∷ deed_look page a ∷ v)
-  claim_knows b v agreed = knows_still σ.seat.profile d page (made (TakeRight page d) b ∷ []) (deed_look page a ∷ v) (agreed.0, tt) (read_here page a (known_deed v page) ∙ is)
-
-  claim_does : (b : ℕ) (r : Fate) (v : View) → Agreed σ.seat.profile v (made (TakeRight page d) b ∷ deed_look page a ∷ []) → has_right (made (TakeRight page d) b ∷ deed_look page a ∷ v) page ≡ now r (has_right v page) → Does (right_of page r) v (made (TakeRight page d) b ∷ deed_look page a ∷ v)
-  claim_does b r v agreed right = pair_does σ.seat.profile page a (made (TakeRight page d) b) r v refl (IsOnPage.Claims d) agreed right
-      (λ is. record { stamped = is.stamped; owes = record { checks = λ w lt. is.owes.checks w lt; hint = is.owes.hint }; examined = is.examined })
-
-  claim_right : (b : ℕ) (got : Bool) (v : View) → got ≡ has_bit b (page % 64) → has_right (made (TakeRight page d) b ∷ deed_look page a ∷ v) page ≡ had_after (if got then FromOffer (number_of d) else Rests) (has_right v page)
-  claim_right b got v e = way_taken page (has_bit b (page % 64)) got (has_right v page) (FromOffer (number_of d)) (sym e)
-
-  pub claim_gets : {σ2 : Standing} (got : Bool) → Claims page d σ1 σ2 got → GetsPage d page σ σ2 got
-  claim_gets true h = record {
-    steps = made (TakeRight page d) h.answer ∷ deed_look page a ∷ [];
-    adds = claim_adds h;
-    on = (IsOnPage.Claims d, (IsOnPage.Looks (Word.Deed page), tt));
-    kinds = (refl, (refl, tt));
-    few = omega arith;
-    deeds = (λ p e same z. cc, (λ p e same z. cc, tt));
-    shows = λ k v agreed. (let still = unknown_stays σ.seat.profile (made (TakeRight page d) h.answer ∷ deed_look page a ∷ []) v agreed in omega (arith, still));
-    outcome = record {
-      leads = record {
-        from = λ v met agreed.
-            let does = claim_does h.answer Gained v agreed (claim_right h.answer true v h.got_is) in
-            record { does = does; may = record { right = claim_right h.answer true v h.got_is; deed = claim_knows h.answer v agreed; clear = does.clear page (met.clear.on page) } };
-      };
-      got = λ before alone. record { right = claim_right h.answer true before h.got_is; got = inl (GetsRight.Claims d h.answer (sym h.got_is)); none = λ g at. alone.none g at; newest = GetsRight.Claims d h.answer (sym h.got_is) };
-    };
-  }
-  claim_gets false h = record {
-    steps = made (TakeRight page d) h.answer ∷ deed_look page a ∷ [];
-    adds = claim_adds h;
-    on = (IsOnPage.Claims d, (IsOnPage.Looks (Word.Deed page), tt));
-    kinds = (refl, (refl, tt));
-    few = omega arith;
-    deeds = (λ p e same z. cc, (λ p e same z. cc, tt));
-    shows = λ k v agreed. (let still = unknown_stays σ.seat.profile (made (TakeRight page d) h.answer ∷ deed_look page a ∷ []) v agreed in omega (arith, still));
-    outcome = record {
-      lacks = λ before none. claim_right h.answer false before h.got_is ∙ none;
-      leads = record { from = λ v met agreed. nothing_lost page (claim_does h.answer Kept v agreed (claim_right h.answer false v h.got_is)) };
-      lost = λ before v alone usable agreed. inl (inl (refl, sym h.got_is, alone.right, inl ((λ e. cc), alone.parks)));
-    };
-  }
+pub claim_gets : {σ σ1 σ2 : Standing} (d : Directory) (page a : ℕ) → a ≡ deed_word_of d → Makes σ σ1 (Look (Word.Deed page)) a → (got : Bool) → Claims page d σ1 σ2 got → GetsPage d page σ σ2 got
+claim_gets {σ} {σ1} {σ2} d page a is look got h =
+    let m : Made = made (TakeRight page d) h.answer in let f : Profile = σ.seat.profile in let known = λ (v : View). read_here page a (known_deed v page) ∙ is in
+    let adds : Adds σ σ2 Anything (m ∷ deed_look page a ∷ []) = adds_call {D = λ v l. KnowsDeed page d v} (adds_step adds_none look (λ v l stood met. tt)) h.calls.adds (λ v l stood met. known v) in
+    pair_gets d page a m adds (IsOnPage.Claims d) refl got ((λ p e same z. cc), tt) (λ k v agreed. let still = unknown_stays f (m ∷ deed_look page a ∷ []) v agreed in omega (arith, still))
+    (pair_outcome d page a m adds (IsOnPage.Claims d) refl got (λ v. way_taken page (has_bit h.answer (page % 64)) got (has_right v page) (FromOffer (number_of d)) refl (sym h.got_is))
+    (λ e v agreed. knows_still f d page (m ∷ []) (deed_look page a ∷ v) (agreed.0, tt) (known v)) (λ e. GetsRight.Claims d h.answer (sym h.got_is ∙ e))
+    (λ e before v alone usable agreed. inl (refl, sym h.got_is ∙ e, alone.right, inl ((λ e. cc), alone.parks))))
 
 -- ---- the deed of a page whose deed word was read as another word
 other_known : (f : Profile) (d : Directory) (page a : ℕ) (before : List Made) (v : View) → a ≢ deed_word_of d → ReadUsable d page before → Agreed f v (deed_look page a ∷ before) → Once (NoDeedHere page) before
@@ -315,9 +290,6 @@ page_of other = 0
 abbrev directory_of : Directory → Step → Directory
 directory_of e (Deed p d) = d
 directory_of e other = e
-
-deeds_on : (d : Directory) (page a b : ℕ) → DeedsOn d page (made (Deed page d) b ∷ deed_look page a ∷ [])
-deeds_on d page a b = (λ p e same z. (sym (ap (directory_of e) same), sym (ap page_of same)), (λ p e same z. cc, tt))
 
 -- the deed was made
 deed_known : (p : ℕ) (d : Directory) (a : ℕ) (v : View) → a ≡ 0 → KnowsDeed p d (made (Deed p d) a ∷ v)
@@ -338,60 +310,21 @@ module _ {σ σ1 σ2 : Standing} (d : Directory) (page a b : ℕ) (is : IsPage �
         absurd (some (sym still ∙ sym (agreed.0.known (λ x. some (sym still ∙ x))) ∙ z))
   ]
 
-  shows_made : (b ≡ 0) → OnlyDeedsShow σ.seat.profile both
-  shows_made z k v agreed =
-      let one : length (events_by k v both) ≡ 1 = ap (λ t. length (with_event (if t then Some (Event.Deed k page d) else None) [])) (eq-eqb b 0 z) in
-      let fewer = unknown_less σ.seat.profile page both v agreed is (knew_none v agreed z) (λ none. deed_word_of-positive d (sym (deed_known page d b (deed_look page a ∷ v) z) ∙ none)) in
-      omega (arith, one, fewer)
-
-  shows_none : (b ≢ 0) → OnlyDeedsShow σ.seat.profile both
-  shows_none some k v agreed =
-      let none : length (events_by k v both) ≡ 0 = ap (λ t. length (with_event (if t then Some (Event.Deed k page d) else None) [])) (ne_eqb b 0 some) in
-      let still = unknown_stays σ.seat.profile both v agreed in
-      omega (arith, none, still)
-
-  deed_does : (r : Fate) (v : View) → Agreed σ.seat.profile v both → has_right (both ++ v) page ≡ now r (has_right v page) → Does (right_of page r) v (both ++ v)
-  deed_does r v agreed right = pair_does σ.seat.profile page a (made (Deed page d) b) r v refl (IsOnPage.Deeds d) agreed right
-      (λ is. record { stamped = is.stamped; owes = record { checks = λ w lt. is.owes.checks w lt; hint = is.owes.hint }; examined = is.examined })
-
-  deed_right : (got : Bool) → (b == 0) ≡ got → (v : View) → has_right (both ++ v) page ≡ had_after (if got then ByDeed else Rests) (has_right v page)
-  deed_right got e v = way_taken page (b == 0) got (has_right v page) ByDeed e
-
-  deed_by : (got : Bool) → (b == 0) ≡ got → GetsPage d page σ σ2 got
-  deed_by true e = record {
-    steps = both;
-    adds = deed_adds;
-    on = (IsOnPage.Deeds d, (IsOnPage.Looks (Word.Deed page), tt));
-    kinds = (refl, (refl, tt));
-    few = omega arith;
-    deeds = deeds_on d page a b;
-    shows = shows_made (eqb-true b 0 e);
-    outcome = record {
-      leads = record {
-        from = λ v met agreed.
-            let does = deed_does Gained v agreed (deed_right true e v) in
-            record { does = does; may = record { right = deed_right true e v; deed = deed_known page d b (deed_look page a ∷ v) (eqb-true b 0 e); clear = does.clear page (met.clear.on page) } };
-      };
-      got = λ before alone. record { right = deed_right true e before; got = inl (GetsRight.Deeds d b (eqb-true b 0 e)); none = λ g at. alone.none g at; newest = GetsRight.Deeds d b (eqb-true b 0 e) };
-    };
-  }
-  deed_by false e = record {
-    steps = both;
-    adds = deed_adds;
-    on = (IsOnPage.Deeds d, (IsOnPage.Looks (Word.Deed page), tt));
-    kinds = (refl, (refl, tt));
-    few = omega arith;
-    deeds = deeds_on d page a b;
-    shows = shows_none (eqb-false b 0 e);
-    outcome = record {
-      lacks = λ before none. deed_right false e before ∙ none;
-      leads = record { from = λ v met agreed. nothing_lost page (deed_does Kept v agreed (deed_right false e v)) };
-      lost = λ before v alone usable agreed. inl (inr (refl, eqb-false b 0 e, inr (other_known σ.seat.profile d page a before v ne usable agreed.1), ((λ x h z. cc), alone.deeds)));
-    };
-  }
+  deed_shows : OnlyDeedsShow σ.seat.profile both
+  deed_shows k v agreed =
+      let count = λ (t : Bool) (e : (b == 0) ≡ t). ap (λ x. length (with_event (if x then Some (Event.Deed k page d) else None) [])) e in
+      elim (cases_eq b 0) [
+        | inl z ↦
+            let one : length (events_by k v both) ≡ 1 = count true (eq-eqb b 0 z) in
+            let fewer = unknown_less σ.seat.profile page both v agreed is (knew_none v agreed z) (λ none. deed_word_of-positive d (sym (deed_known page d b (deed_look page a ∷ v) z) ∙ none)) in omega (arith, one, fewer)
+        | inr some ↦ let none : length (events_by k v both) ≡ 0 = count false (ne_eqb b 0 some) in let still = unknown_stays σ.seat.profile both v agreed in omega (arith, none, still)
+      ]
 
   pub deed_gets : GetsPage d page σ σ2 (b == 0)
-  deed_gets = deed_by (b == 0) refl
+  deed_gets = pair_gets d page a (made (Deed page d) b) deed_adds (IsOnPage.Deeds d) refl (b == 0) ((λ p e same z. (sym (ap (directory_of e) same), sym (ap page_of same))), tt) deed_shows
+      (pair_outcome d page a (made (Deed page d) b) deed_adds (IsOnPage.Deeds d) refl (b == 0) (λ v. way_taken page (b == 0) (b == 0) (has_right v page) ByDeed refl refl)
+      (λ e v agreed. deed_known page d b (deed_look page a ∷ v) (eqb-true b 0 e)) (λ e. GetsRight.Deeds d b (eqb-true b 0 e))
+      (λ e before v alone usable agreed. inr (refl, eqb-false b 0 e, inr (other_known σ.seat.profile d page a before v ne usable agreed.1), ((λ x h z. cc), alone.deeds))))
 
 -- ---- the claim of one page of a run: its right, and then its grains
 pub claim_lost : {σ σ1 : Standing} (d : Directory) (page : ℕ) → GetsPage d page σ σ1 false → ClaimsPage d page σ σ1 Claimed.Lost
@@ -425,21 +358,23 @@ pub shows_taking : (f : Profile) (steps : List Made) → Only taking_pages steps
 shows_taking f steps only k v agreed = let none = ap length (no_events taking_pages refl k v steps only) in let still = unknown_stays f steps v agreed in omega (arith, none, still)
 
 -- ---- effects
-pub got_lost : (t had : Bool) → (t ≡ true → had ≡ false) → now (if t then Lost else Kept) (now (if t then Gained else Kept) had) ≡ had
+got_lost : (t had : Bool) → (t ≡ true → had ≡ false) → now (if t then Lost else Kept) (now (if t then Gained else Kept) had) ≡ had
 got_lost true had lacked = sym (lacked refl)
 got_lost false had lacked = refl
 
-got_left : (page : ℕ) {v w u : View} → has_right v page ≡ false → Does (right_of page Gained) v w → Does (right_of page Lost) w u → Does nothing v u
-got_left page {v} lacked a b = record {
-  held = λ x. b.held x ∙ a.held x;
-  right = λ q. b.right q ∙ ap (now (if page == q then Lost else Kept)) (a.right q) ∙ got_lost (page == q) (has_right v q) (λ e. subst (λ r. has_right v r ≡ false) (eqb-true page q e) lacked);
+-- what was got is lost again
+pub undone : {v w u : View} (grains rights : ℕ → Bool) → ((g : ℕ) → grains g ≡ true → holds v g ≡ false) → ((p : ℕ) → rights p ≡ true → has_right v p ≡ false)
+    → Does (record { grains = λ g. if grains g then Gained else Kept; rights = λ q. if rights q then Gained else Kept; clears = λ q. Kept }) v w
+    → Does (record { grains = λ g. if grains g then Lost else Kept; rights = λ q. if rights q then Lost else Kept; clears = λ q. Kept }) w u → Does nothing v u
+undone {v} grains rights apart lacks a b = record {
+  held = λ x. b.held x ∙ ap (now (if grains x then Lost else Kept)) (a.held x) ∙ got_lost (grains x) (holds v x) (apart x);
+  right = λ q. b.right q ∙ ap (now (if rights q then Lost else Kept)) (a.right q) ∙ got_lost (rights q) (has_right v q) (lacks q);
   clear = λ q is. b.clear q (a.clear q is);
-  backed = λ x kept bears. b.backed x refl (a.backed x refl bears);
+  backed = λ x kept bears. elim (cases_Bool (grains x)) [
+    | inl here ↦ absurd (true≢false (sym bears.held ∙ apart x here))
+    | inr other ↦ b.backed x (ap (λ t. if t then Lost else Kept) other) (a.backed x (ap (λ t. if t then Gained else Kept) other) bears)
+  ];
 }
-
-first_fate : (t : Fate) → later Kept t ≡ t
-first_fate Kept = refl
-first_fate s = refl
 
 module _ (d : Directory) (page : ℕ) {σ σ1 : Standing} (get : GetsPage d page σ σ1 true) where
   pub can_take : CanCall σ (λ v l. MayClaim page v) → CanCall σ1 (λ v l. MayServe page d v)
@@ -476,7 +411,7 @@ module _ (d : Directory) (page : ℕ) {σ σ1 : Standing} (get : GetsPage d page
               let now = agreed_first f v zs get.steps agreed in
               let took = took.from (get.steps ++ v) got.may now in
               subst (GotPages (λ q. page == q) d v) (sym (append_assoc zs get.steps v)) (record {
-                does = does_as (of_pages (λ q. page == q) Gained) (does_then got.does took.does) (λ g. inl (first_fate (if page == g / 256 then Gained else Kept))) (λ q. refl) (λ q h. h);
+                does = does_as (of_pages (λ q. page == q) Gained) (does_then got.does took.does) (λ g. inl (kept_first (if page == g / 256 then Gained else Kept))) (λ q. refl) (λ q h. h);
                 apart = λ g at. sym (got.does.held g) ∙ took.apart g (eqb-true page (g / 256) at);
                 deeds = λ p at. subst (λ q. KnowsDeed q d (zs ++ (get.steps ++ v))) (eqb-true page p at) (knows_still f d page zs (get.steps ++ v) now got.may.deed);
               });
@@ -494,7 +429,7 @@ module _ (d : Directory) (page : ℕ) {σ σ1 : Standing} (get : GetsPage d page
           from = λ v met agreed.
               let f = σ.seat.profile in let zs = takes.steps in
               let got = get.outcome.leads.from v met (agreed_later f v zs get.steps agreed) in
-              subst (Does nothing v) (sym (append_assoc zs get.steps v)) (got_left page met.lacks got.does (left.from (get.steps ++ v) got.may (agreed_first f v zs get.steps agreed)));
+              subst (Does nothing v) (sym (append_assoc zs get.steps v)) (undone (λ g. false) (λ q. page == q) (λ g e. cc) (λ q e. subst (λ r. has_right v r ≡ false) (eqb-true page q e) met.lacks) got.does (left.from (get.steps ++ v) got.may (agreed_first f v zs get.steps agreed)));
         };
         lacks = λ before none. ap (λ s. has_right s page) (append_assoc takes.steps get.steps before) ∙ takes.outcome.lacks (get.steps ++ before);
         broken = λ before alone. after_more (BrokenHere page) takes.steps get.steps before (takes.outcome.broken (get.steps ++ before) (get.outcome.got before alone));
