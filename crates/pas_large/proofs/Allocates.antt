@@ -1,4 +1,5 @@
 -- A large block: the run that was found is given, or the refusal has its reason.
+use Rattle.pas_steps.proofs.SpareRoom.{Spares}
 use Rattle.std.proofs.Common.{◌≡◌, ℕ, ◌+◌, ◌≤◌, true, false, if◌then◌else◌, List, ◌++◌, Some, None, Ok, Err, refl, ap, ◌∙◌, subst, arith, ◌/◌}
 use Rattle.pas_profile.specs.declared.directory.Directory.{Directory}
 use Rattle.pas_profile.specs.declared.event.NoRoom.{NoRoom}
@@ -22,7 +23,7 @@ use Rattle.pas_large.specs.Finds.{MayFind, FindRoom, FoundRun, Finds}
 use Rattle.pas_large.specs.Gives.{GivesRun}
 use Rattle.pas_large.specs.Pages.{GotPages}
 use Rattle.pas_large.specs.Refusals.{IsReason, Refuses}
-use Rattle.pas_large.proofs.Claims.{HasSpares, room_after}
+use Rattle.pas_large.proofs.Claims.{room_after}
 use Rattle.pas_large.proofs.Pages.{undone}
 use Rattle.pas_large.proofs.Finds.{may_find}
 
@@ -52,7 +53,7 @@ module _ {σ σ1 : Standing} (d : Directory) (n first : ℕ) (find : Finds d n �
   pub can_give_run : CanCall σ (λ v l. MayFind d v) → CanCall σ1 (λ v l. HasPages d first (first + n) v)
   can_give_run can = next_call found_call can has_pages
 
-  pub room_to_give_run : (spare spare1 : ℕ) → CanCall σ (λ v l. FindRoom σ.seat.profile d (n + 1) spare v) → HasSpares σ spare → HasSpares σ1 spare1 → n + 1 ≤ spare1
+  pub room_to_give_run : (spare spare1 : ℕ) → CanCall σ (λ v l. FindRoom σ.seat.profile d (n + 1) spare v) → Spares σ spare → Spares σ1 spare1 → n + 1 ≤ spare1
   room_to_give_run spare spare1 can law law1 = let room = room_after {spare = spare} {spare' = spare1} (n + 1) find.adds (may_find can) find.shows can.met.room law law1 in omega (arith, room)
 
 -- the looks of a refusal change nothing

@@ -1,5 +1,6 @@
 -- The claim of the pages of a run, one page more, and how they are left.
-use Rattle.std.proofs.Common.{◌≡◌, ◌≢◌, ℕ, ◌+◌, ◌/◌, ◌-◌, ◌^◌, ◌<◌, ◌≤◌, ◌==◌, nat_le, nat_lt, Bool, true, false, ◌||◌, if◌then◌else◌, List, [], ◌∷◌, ◌++◌, inl, inr, refl, ap, sym, ◌∙◌, arith, true≢false, ◌*◌, ◌%◌, ◌&&◌, length, subst, append_assoc, length-append, Some, None}
+use Rattle.pas_steps.proofs.SpareRoom.{Spares, spare_falls}
+use Rattle.std.proofs.Common.{◌≡◌, ◌≢◌, ℕ, ◌+◌, ◌/◌, ◌-◌, ◌^◌, ◌<◌, ◌≤◌, ◌==◌, nat_le, nat_lt, Bool, true, false, ◌||◌, if◌then◌else◌, List, [], ◌∷◌, ◌++◌, inl, inr, refl, ap, sym, ◌∙◌, arith, true≢false, ◌%◌, ◌&&◌, length, subst, append_assoc, length-append, Some, None}
 use Rattle.std.proofs.lemmas.Bool.{and_parts, cases_Bool, cases_eq, eqb-true}
 use Rattle.std.proofs.lemmas.Bool.Decides.{nat_tests}
 use Rattle.pas_profile.specs.declared.directory.Directory.{Directory}
@@ -19,23 +20,21 @@ use Rattle.pas_steps.proofs.Kept.{right_on, holds_on_page, knows_still}
 use Rattle.pas_steps.proofs.Past.{always_both, always_map, once_later}
 use Rattle.pas_steps.proofs.Sets.{both_fates}
 use Rattle.pas_scan.specs.Usable.{ParksNotHere, MakesNoDeedHere, LeftAlone}
-use Rattle.pas_large.specs.Pages.{of_pages, GotPages, MayClaim, MayPutAndLeave, put_and_left, PutsAndLeaves, DeedsOn, OnlyDeedsShow, taking_pages, claiming, LosesPage, BreaksPage, WinsPage, ClaimsPage}
+use Rattle.pas_large.specs.Pages.{of_pages, GotPages, MayClaim, MayPutAndLeave, PutsAndLeaves, DeedsOn, OnlyDeedsShow, taking_pages, claiming, LosesPage, BreaksPage, WinsPage, ClaimsPage}
 use Rattle.pas_large.specs.Claims.{in_span, MayClaimPages, HasRunRoom, AloneFrom, DeedsIn, HoldsSpan, FailsAt, ClaimsPages, HasPages, Releases, ClaimsRun, LacksAll}
-use Rattle.pas_large.proofs.Pages.{and_true, since_more, undone, no_deeds, shows_both, shows_taking, after_more}
+use Rattle.pas_large.proofs.Pages.{MadeHere, and_true, since_more, undone, no_deeds, shows_both, shows_taking, after_more}
 use Rattle.pas_profile.specs.Profiles.{IsPage}
 use Rattle.pas_profile.specs.declared.profile.Profile.{Profile}
 use Rattle.pas_rights.specs.Puts.{masked}
 use Rattle.pas_segregated.specs.Returns.{giving_back}
 use Rattle.pas_steps.specs.Agreement.{Agreed}
 use Rattle.pas_steps.specs.Desks.{Seat, Standing, CanCall, Adds}
-use Rattle.pas_steps.specs.Events.{events_of, events_by}
-use Rattle.pas_steps.specs.Kinds.{Only}
+use Rattle.pas_steps.specs.Events.{events_by}
 use Rattle.pas_steps.specs.Lists.{Whole}
 use Rattle.pas_steps.specs.Unknown.{unknown_pages}
-use Rattle.pas_steps.proofs.Adding.{adds_none, adds_call, can_call, room_left, agreed_first, agreed_later}
+use Rattle.pas_steps.proofs.Adding.{adds_none, adds_call, can_call, agreed_first, agreed_later, adds_under}
 use Rattle.pas_steps.proofs.Apart.{only_both, only_within}
-use Rattle.pas_steps.proofs.Called.{call_none, call_then, next_call}
-use Rattle.pas_steps.proofs.Frames.{events_split}
+use Rattle.pas_steps.proofs.Called.{call_none, call_then, next_call, call_as}
 use Rattle.pas_scan.proofs.LeftPages.{usable_later}
 use Rattle.pas_large.specs.Evidence.{LostHere, BrokenHere, TakenWholeHere}
 use Rattle.pas_large.specs.declared.claiming.Claimed.{Claimed}
@@ -49,6 +48,9 @@ in_parts first stop p h = let parts = and_parts (nat_le first p) (nat_lt p stop)
 
 pub span_past : (first stop p : ℕ) → stop ≤ p → in_span first stop p ≡ false
 span_past first stop p past = grind (arith, nat_tests)
+
+pub span_wider : (first stop end p : ℕ) → stop ≤ end → in_span first stop p ≡ true → in_span first end p ≡ true
+span_wider first stop end p le is = grind (arith, nat_tests)
 
 pub span_none : (first p : ℕ) → in_span first first p ≡ false
 span_none first p = grind (arith, nat_tests)
@@ -127,70 +129,70 @@ pub full_set : (g : ℕ) → g < 256 → is_set full g ≡ true
 full_set g lt = four_words (2 ^ 64 - 1) (2 ^ 64 - 1) (2 ^ 64 - 1) (2 ^ 64 - 1) (λ x. true) (λ x h. full_bit x h) (λ x h. full_bit x h) (λ x h. full_bit x h) (λ x h. full_bit x h) g lt
 
 -- ---- the claim of the pages of a run, one page more, and how they are left
-pub record PagesSoFar (d : Directory) (first end page : ℕ) (desk desk' : Standing) : Type 0 where
-  pub steps : List Made
-  pub adds : Adds desk desk' (λ v l. MayClaimPages first end v) steps
-  pub kinds : Only claiming steps
-  pub few : length steps + 33 * first ≤ 33 * page
-  pub deeds : DeedsIn d first end steps
-  pub shows : OnlyDeedsShow desk.seat.profile steps
-  pub got : Leads desk.seat.profile (MayClaimPages first end) (GotPages (in_span first page) d) steps
-  pub holding : (before : List Made) → AloneFrom first before → HoldsSpan first page (steps ++ before)
-  pub lacks : (before : List Made) → LacksAll before → (p : ℕ) → in_span first page p ≡ false → has_right (steps ++ before) p ≡ false
-  pub alone : (before : List Made) → AloneFrom first before → AloneFrom page (steps ++ before)
+pub run_page : (f : Profile) (first end page : ℕ) → 1 ≤ first → end ≤ f.pages + 1 → first ≤ page → page < end → IsPage f page
+run_page f first end page some region low high = (omega (arith, some, low), omega (arith, region, high))
 
-pub pages_none : {σ : Standing} (d : Directory) (first end : ℕ) → PagesSoFar d first end first σ σ
-pages_none d first end = record {
+pub claims_fewer : (first stop end : ℕ) → stop ≤ end → (v : View) → MayClaimPages first end v → MayClaimPages first stop v
+claims_fewer first stop end le v met = record { lacks = λ p low high. met.lacks p low (omega (arith, high, le)); clear = met.clear }
+
+abbrev pub may_claim : {σ : Standing} {f : Profile} {first end n spare : ℕ} (stop : ℕ) → stop ≤ end → CanCall σ (λ v l. HasRunRoom f first end n spare v) → CanCall σ (λ v l. MayClaimPages first stop v)
+may_claim {first = first} {end = end} stop le can = record { view = can.view; whole = can.whole; stood = can.stood; met = claims_fewer first stop end le can.view can.met.may }
+
+-- the room for unknown deeds is kept, and the room for n events besides
+pub room_after : {σ σ' : Standing} {C : View → Whole → Type 0} {xs : List Made} {spare spare' : ℕ} (n : ℕ) → Adds σ σ' C xs → (can : CanCall σ C) → OnlyDeedsShow σ.seat.profile xs → n + unknown_pages σ.seat.profile can.view ≤ spare → Spares σ spare → Spares σ' spare'
+    → n + unknown_pages σ.seat.profile (xs ++ can.view) ≤ spare'
+room_after {σ} {xs = xs} {spare = spare} {spare' = spare'} n adds can shows room law law' =
+    let falls = spare_falls spare spare' (length (events_by σ.seat.actor can.view xs)) adds can law law' refl in let shown = shows σ.seat.actor can.view (adds.agreed can.view can.whole can.stood can.met) in omega (arith, falls, shown, room)
+
+-- the pages below this one were claimed, and it and those above it were left alone
+pub record ClaimedBelow (d : Directory) (first page : ℕ) (desk desk' : Standing) : Type 0 where
+  pub so_far : ClaimsPages d first page desk desk' page
+  pub alone : (before : List Made) → AloneFrom first before → AloneFrom page (so_far.steps ++ before)
+
+pub pages_none : {σ : Standing} (d : Directory) (first : ℕ) → ClaimedBelow d first first σ σ
+pages_none d first = record { alone = λ before alone. alone; so_far = record {
   steps = [];
   adds = adds_none;
   kinds = tt;
   few = omega arith;
   deeds = tt;
   shows = λ k v agreed. omega arith;
+  span = (omega arith, omega arith);
   got = record { from = λ v met agreed. got_none d (in_span first first) v (span_none first) (does_none v) };
   holding = λ before alone. record { right = λ p low high. absurd (omega (arith, low, high)); whole = λ p word low high lt. absurd (omega (arith, low, high)) };
   lacks = λ before none p out. none p;
-  alone = λ before alone. alone;
-}
+  alone = λ before alone p ge. alone p (omega (arith, ge));
+  failed = λ lt. absurd (omega (arith, lt));
+} }
 
-pub run_page : (f : Profile) (first end page : ℕ) → 1 ≤ first → end ≤ f.pages + 1 → first ≤ page → page < end → IsPage f page
-run_page f first end page some region low high = (omega (arith, some, low), omega (arith, region, high))
+abbrev MadeIn : Directory → ℕ → ℕ → Made → List Made → Type 0
+MadeIn d first end m before = (p : ℕ) (e : Directory) → m.step ≡ Deed p e → m.answer ≡ 0 → (e ≡ d) × (first ≤ p) × (p < end)
 
-abbrev pub may_claim : {σ : Standing} {f : Profile} {first end n spare : ℕ} → CanCall σ (λ v l. HasRunRoom f first end n spare v) → CanCall σ (λ v l. MayClaimPages first end v)
-may_claim can = record { view = can.view; whole = can.whole; stood = can.stood; met = can.met.may }
+deeds_join : (d : Directory) (first stop end page : ℕ) (ys xs : List Made) → first ≤ page → page < end → stop ≤ end → DeedsOn d page ys → DeedsIn d first stop xs → DeedsIn d first end (ys ++ xs)
+deeds_join d first stop end page ys xs low high le on within = always_both (MadeHere d page) (MadeIn d first end) ys xs (λ m before h p e same z. let its = h p e same z in let at = its.1 in (its.0, omega (arith, at, low), omega (arith, at, high))) on
+    (always_map (MadeIn d first stop) (MadeIn d first end) xs (λ m before h p e same z. let its = h p e same z in let lt = its.2 in (its.0, its.1, omega (arith, lt, le))) within)
 
-abbrev pub HasSpares : Standing → ℕ → Type 0
-HasSpares σ spare = (v : View) (l : Whole) → σ.stands v l → spare + length (events_of σ.seat.actor v) ≡ σ.seat.room
+module _ {σ σ1 : Standing} (d : Directory) (first end page : ℕ) (high : page < end) (below : ClaimedBelow d first page σ σ1) where
+  abbrev so_far : ClaimsPages d first page σ σ1 page
+  so_far = below.so_far
 
--- the room for unknown deeds is kept, and the room for n events besides
-pub room_after : {σ σ' : Standing} {C : View → Whole → Type 0} {xs : List Made} {spare spare' : ℕ} (n : ℕ) → Adds σ σ' C xs → (can : CanCall σ C) → OnlyDeedsShow σ.seat.profile xs → n + unknown_pages σ.seat.profile can.view ≤ spare → HasSpares σ spare → HasSpares σ' spare'
-    → n + unknown_pages σ.seat.profile (xs ++ can.view) ≤ spare'
-room_after {σ} {xs = xs} {spare = spare} n adds can shows room law law' =
-    let k : ℕ = σ.seat.actor in
-    let now : spare + length (events_of k can.view) ≡ σ.seat.room = law can.view can.whole can.stood in
-    let count : length (events_of k (xs ++ can.view)) ≡ length (events_by k can.view xs) + length (events_of k can.view) = ap length (events_split k xs can.view) ∙ length-append (events_by k can.view xs) (events_of k can.view) in
-    let shown = shows k can.view (adds.agreed can.view can.whole can.stood can.met) in
-    room_left (n + unknown_pages σ.seat.profile (xs ++ can.view)) adds can law' (omega (arith, now, count, shown, room))
-
-deeds_widen : (d : Directory) (first end page : ℕ) (steps : List Made) → first ≤ page → page < end → DeedsOn d page steps → DeedsIn d first end steps
-deeds_widen d first end page steps low high = always_map (λ m before. (p : ℕ) (e : Directory) → m.step ≡ Deed p e → m.answer ≡ 0 → (e ≡ d) × (p ≡ page)) (λ m before. (p : ℕ) (e : Directory) → m.step ≡ Deed p e → m.answer ≡ 0 → (e ≡ d) × (first ≤ p) × (p < end)) steps
-    (λ m before h p e same z. let its = h p e same z in let at = its.1 in (its.0, omega (arith, at, low), omega (arith, at, high)))
-
-deeds_join : (d : Directory) (first end : ℕ) (ys xs : List Made) → DeedsIn d first end ys → DeedsIn d first end xs → DeedsIn d first end (ys ++ xs)
-deeds_join d first end ys xs = always_both (λ m before. (p : ℕ) (e : Directory) → m.step ≡ Deed p e → m.answer ≡ 0 → (e ≡ d) × (first ≤ p) × (p < end)) (λ m before. (p : ℕ) (e : Directory) → m.step ≡ Deed p e → m.answer ≡ 0 → (e ≡ d) × (first ≤ p) × (p < end)) ys xs (λ m before h. h)
-
-module _ {σ σ1 : Standing} (d : Directory) (first end page : ℕ) (low : first ≤ page) (high : page < end) (so_far : PagesSoFar d first end page σ σ1) where
   abbrev xs : List Made
   xs = so_far.steps
 
-  page_may : (v : View) → MayClaimPages first end v → GotPages (in_span first page) d v (xs ++ v) → MayClaim page (xs ++ v)
-  page_may v met got = record {
-    lacks = got.does.right page ∙ ap (λ t. now (if t then Gained else Kept) (has_right v page)) (span_past first page page (omega arith)) ∙ met.lacks page low high;
+  so_adds : Adds σ σ1 (λ v l. MayClaimPages first end v) xs
+  so_adds = adds_under so_far.adds (λ v l stood met. claims_fewer first page end (omega (arith, high)) v met)
+
+  so_got : (v : View) → MayClaimPages first end v → Agreed σ.seat.profile v xs → GotPages (in_span first page) d v (xs ++ v)
+  so_got v met agreed = so_far.got.from v (claims_fewer first page end (omega (arith, high)) v met) agreed
+
+  page_may : (v : View) → MayClaimPages first end v → Agreed σ.seat.profile v xs → MayClaim page (xs ++ v)
+  page_may v met agreed = let got = so_got v met agreed in record {
+    lacks = got.does.right page ∙ ap (λ t. now (if t then Gained else Kept) (has_right v page)) (span_past first page page (omega arith)) ∙ met.lacks page so_far.span.0 high;
     clear = record { on = λ q. got.does.clear q (met.clear.on q) };
   }
 
   pub page_call : CanCall σ (λ v l. MayClaimPages first end v) → CanCall σ1 (λ v l. MayClaim page v)
-  page_call can = can_call so_far.adds can (λ v l stood met. page_may v met (so_far.got.from v met (so_far.adds.agreed v l stood met)))
+  page_call can = can_call so_adds can (λ v l stood met. page_may v met (so_adds.agreed v l stood met))
 
   module _ {σ2 : Standing} {claimed : Claimed} (h : ClaimsPage d page σ1 σ2 claimed) where
     abbrev ys : List Made
@@ -199,20 +201,25 @@ module _ {σ σ1 : Standing} (d : Directory) (first end page : ℕ) (low : first
     all_at : (v : View) → (ys ++ xs) ++ v ≡ ys ++ (xs ++ v)
     all_at v = append_assoc ys xs v
 
-    turn_adds : Adds σ σ2 (λ v l. MayClaimPages first end v) (ys ++ xs)
-    turn_adds = adds_call {D = λ v l. MayClaim page v} so_far.adds h.adds (λ v l stood met. page_may v met (so_far.got.from v met (so_far.adds.agreed v l stood met)))
-
-    turn_shows : OnlyDeedsShow σ.seat.profile (ys ++ xs)
-    turn_shows = shows_both σ.seat.profile ys xs (subst (λ (s : Seat). OnlyDeedsShow s.profile ys) so_far.adds.seat_is h.shows) so_far.shows
-
-    turn_few : length (ys ++ xs) + 33 * first ≤ 33 * (page + 1)
-    turn_few = let n = length-append ys xs in let a = h.few in let b = so_far.few in omega (arith, n, a, b)
-
-    turn_deeds : DeedsIn d first end (ys ++ xs)
-    turn_deeds = deeds_join d first end ys xs (deeds_widen d first end page ys low high h.deeds) so_far.deeds
-
     turn_alone : (before : List Made) → AloneFrom first before → AloneFrom (page + 1) ((ys ++ xs) ++ before)
-    turn_alone before free p ge = subst (LeftAlone p) (sym (all_at before)) (alone_on page p ys (xs ++ before) h.on (λ e. absurd (omega (arith, e, ge))) (so_far.alone before free p (omega (arith, ge))))
+    turn_alone before free p ge = subst (LeftAlone p) (sym (all_at before)) (alone_on page p ys (xs ++ before) h.on (λ e. absurd (omega (arith, e, ge))) (below.alone before free p (omega (arith, ge))))
+
+    turned : (stop : ℕ) → (page ≤ stop) × (stop ≤ end) → Leads σ.seat.profile (MayClaimPages first end) (GotPages (in_span first stop) d) (ys ++ xs) → ((before : List Made) → AloneFrom first before → HoldsSpan first stop ((ys ++ xs) ++ before))
+        → ((before : List Made) → LacksAll before → (p : ℕ) → in_span first stop p ≡ false → has_right ((ys ++ xs) ++ before) p ≡ false) → (stop < end → FailsAt σ.seat.profile d first stop (ys ++ xs)) → ClaimsPages d first end σ σ2 stop
+    turned stop at got holding lacks failed = let low = so_far.span.0 in let above = at.0 in record {
+      steps = ys ++ xs;
+      adds = adds_call {D = λ v l. MayClaim page v} so_adds h.adds (λ v l stood met. page_may v met (so_adds.agreed v l stood met));
+      kinds = only_both claiming ys xs h.kinds so_far.kinds;
+      few = let n = length-append ys xs in let a = h.few in let b = so_far.few in omega (arith, n, a, b, low, high);
+      deeds = deeds_join d first page end page ys xs low high (omega (arith, high)) h.deeds so_far.deeds;
+      shows = shows_both σ.seat.profile ys xs (subst (λ (s : Seat). OnlyDeedsShow s.profile ys) so_adds.seat_is h.shows) so_far.shows;
+      span = (omega (arith, low, above), at.1);
+      got = got;
+      holding = holding;
+      lacks = lacks;
+      alone = λ before free p ge. turn_alone before free p (omega (arith, ge, above));
+      failed = failed;
+    }
 
     others_held : (before : List Made) → AloneFrom first before → HoldsSpan first page ((ys ++ xs) ++ before)
     others_held before free = let old = so_far.holding before free in record {
@@ -226,107 +233,80 @@ module _ {σ σ1 : Standing} (d : Directory) (first end page : ℕ) (low : first
     agreed_xs : (v : View) → Agreed σ.seat.profile v (ys ++ xs) → Agreed σ.seat.profile v xs
     agreed_xs v agreed = agreed_later σ.seat.profile v ys xs agreed
 
-    -- it was won
-    pub won_turn : WinsPage σ1.seat.profile d page h.steps → PagesSoFar d first end (page + 1) σ σ2
-    won_turn won =
-        let wins = subst (λ (s : Seat). WinsPage s.profile d page ys) so_far.adds.seat_is won in
-        record {
-          steps = ys ++ xs;
-          adds = turn_adds;
-          kinds = only_both claiming ys xs h.kinds so_far.kinds;
-          few = turn_few;
-          deeds = turn_deeds;
-          shows = turn_shows;
-          got = record {
-            from = λ v met agreed.
-                let old = so_far.got.from v met (agreed_xs v agreed) in
-                let new = wins.leads.from (xs ++ v) (page_may v met old) (agreed_ys v agreed) in
-                subst (GotPages (in_span first (page + 1)) d v) (sym (all_at v)) (got_both d (in_span first page) (λ q. page == q) (in_span first (page + 1)) (λ p. span_more first page p low) old new (λ p knows. knows_still σ.seat.profile d p ys (xs ++ v) (agreed_ys v agreed) knows));
-          };
-          holding = λ before free.
-              let rest = others_held before free in let alone = so_far.alone before free page (omega arith) in record {
-                right = λ p ge lt. elim (cases_eq p page) [
-                  | inl e ↦ ap (has_right ((ys ++ xs) ++ before)) e ∙ ap (λ s. has_right s page) (all_at before) ∙ wins.right (xs ++ before) alone
-                  | inr ne ↦ rest.right p ge (omega (arith, lt, ne))
-                ];
-                whole = λ p word ge lt small. elim (cases_eq p page) [
-                  | inl e ↦ subst (λ q. Since (TakenWholeHere q word) (KeptHere q) ((ys ++ xs) ++ before)) (sym e) (subst (Since (TakenWholeHere page word) (KeptHere page)) (sym (all_at before)) (wins.whole (xs ++ before) alone word small))
-                  | inr ne ↦ rest.whole p word ge (omega (arith, lt, ne)) small
-                ];
-              };
-          lacks = λ before none p out. let ne = not_in first page p low out in ap (λ s. has_right s p) (all_at before) ∙ right_on page p ys (xs ++ before) h.on ne ∙ so_far.lacks before none p (span_less first page p out);
-          alone = turn_alone;
-        }
-
     -- it was lost or broken
     stopped : Leads σ.seat.profile (MayClaim page) (Does nothing) h.steps → ((before : List Made) → has_right before page ≡ false → has_right (h.steps ++ before) page ≡ false) → FailsAt σ.seat.profile d first page (h.steps ++ so_far.steps) → ClaimsPages d first end σ σ2 page
-    stopped still lack failed = record {
-      steps = ys ++ xs;
-      adds = turn_adds;
-      kinds = only_both claiming ys xs h.kinds so_far.kinds;
-      few = let few = turn_few in omega (arith, few, low, high);
-      deeds = turn_deeds;
-      shows = turn_shows;
-      span = (low, omega (arith, high));
-      got = record {
-        from = λ v met agreed.
-            let old = so_far.got.from v met (agreed_xs v agreed) in
-            subst (GotPages (in_span first page) d v) (sym (all_at v)) (got_still d (in_span first page) old (still.from (xs ++ v) (page_may v met old) (agreed_ys v agreed)) (λ p knows. knows_still σ.seat.profile d p ys (xs ++ v) (agreed_ys v agreed) knows));
-      };
-      holding = others_held;
-      lacks = λ before none p out. let old = so_far.lacks before none p out in ap (λ s. has_right s p) (all_at before) ∙ elim (cases_eq p page) [
-        | inl e ↦ subst (λ q. has_right (xs ++ before) q ≡ false → has_right (ys ++ (xs ++ before)) q ≡ false) (sym e) (lack (xs ++ before)) old
-        | inr ne ↦ right_on page p ys (xs ++ before) h.on ne ∙ old
-      ];
-      alone = turn_alone;
-      failed = λ lt. failed;
-    }
+    stopped still lack failed = turned page (omega arith, omega (arith, high))
+        (record {
+          from = λ v met agreed.
+              let mine = agreed_later σ.seat.profile v ys xs agreed in let next = agreed_first σ.seat.profile v ys xs agreed in
+              subst (GotPages (in_span first page) d v) (sym (all_at v)) (got_still d (in_span first page) (so_got v met mine) (still.from (xs ++ v) (page_may v met mine) next) (λ p knows. knows_still σ.seat.profile d p ys (xs ++ v) next knows));
+        })
+        others_held
+        (λ before none p out. let old = so_far.lacks before none p out in ap (λ s. has_right s p) (all_at before) ∙ elim (cases_eq p page) [
+          | inl e ↦ subst (λ q. has_right (xs ++ before) q ≡ false → has_right (ys ++ (xs ++ before)) q ≡ false) (sym e) (lack (xs ++ before)) old
+          | inr ne ↦ right_on page p ys (xs ++ before) h.on ne ∙ old
+        ])
+        (λ lt. failed)
 
     pub lost_turn : LosesPage σ1.seat.profile d page h.steps → ClaimsPages d first end σ σ2 page
     lost_turn lost =
-        let loses = subst (λ (s : Seat). LosesPage s.profile d page ys) so_far.adds.seat_is lost in
-        stopped loses.still loses.lacks (λ before v free usable agreed. inl (after_more (LostHere d page) ys xs before (loses.lost (xs ++ before) v (so_far.alone before free page (omega arith)) (usable_later d page xs before usable) (subst (Agreed σ.seat.profile v) (all_at before) agreed))))
+        let loses = subst (λ (s : Seat). LosesPage s.profile d page ys) so_adds.seat_is lost in
+        stopped loses.still loses.lacks (λ before v free usable agreed. inl (after_more (LostHere d page) ys xs before (loses.lost (xs ++ before) v (below.alone before free page (omega arith)) (usable_later d page xs before usable) (subst (Agreed σ.seat.profile v) (all_at before) agreed))))
 
     pub broken_turn : BreaksPage σ1.seat.profile page h.steps → ClaimsPages d first end σ σ2 page
     broken_turn broken =
-        let breaks = subst (λ (s : Seat). BreaksPage s.profile page ys) so_far.adds.seat_is broken in
-        stopped breaks.still breaks.lacks (λ before v free usable agreed. inr (after_more (BrokenHere page) ys xs before (breaks.broken (xs ++ before) (so_far.alone before free page (omega arith)))))
+        let breaks = subst (λ (s : Seat). BreaksPage s.profile page ys) so_adds.seat_is broken in
+        stopped breaks.still breaks.lacks (λ before v free usable agreed. inr (after_more (BrokenHere page) ys xs before (breaks.broken (xs ++ before) (below.alone before free page (omega arith)))))
 
--- all were claimed
-pub all_claimed : {σ σ1 : Standing} (d : Directory) (first end page : ℕ) → page ≡ end → first ≤ end → PagesSoFar d first end page σ σ1 → ClaimsPages d first end σ σ1 end
-all_claimed {σ} {σ1} d first end page e le so_far =
-    let all = subst (λ p. PagesSoFar d first end p σ σ1) e so_far in
-    record {
-      steps = all.steps;
-      adds = all.adds;
-      kinds = all.kinds;
-      few = let few = all.few in omega (arith, few, le);
-      deeds = all.deeds;
-      shows = all.shows;
-      span = (le, omega arith);
-      got = all.got;
-      holding = all.holding;
-      lacks = all.lacks;
-      alone = λ before free p ge. all.alone before free p (omega (arith, ge));
-      failed = λ lt. absurd (omega (arith, lt));
-    }
+    -- it was won
+    won_claims : end ≡ page + 1 → WinsPage σ1.seat.profile d page h.steps → ClaimsPages d first end σ σ2 (page + 1)
+    won_claims last won =
+        let wins = subst (λ (s : Seat). WinsPage s.profile d page ys) so_adds.seat_is won in let low = so_far.span.0 in
+        turned (page + 1) (omega arith, omega (arith, high))
+        (record {
+          from = λ v met agreed.
+              let mine = agreed_later σ.seat.profile v ys xs agreed in let next = agreed_first σ.seat.profile v ys xs agreed in
+              let new = wins.leads.from (xs ++ v) (page_may v met mine) next in
+              subst (GotPages (in_span first (page + 1)) d v) (sym (all_at v)) (got_both d (in_span first page) (λ q. page == q) (in_span first (page + 1)) (λ p. span_more first page p low) (so_got v met mine) new (λ p knows. knows_still σ.seat.profile d p ys (xs ++ v) next knows));
+        })
+        (λ before free. let rest = others_held before free in let alone = below.alone before free page (omega arith) in record {
+          right = λ p ge lt. elim (cases_eq p page) [
+            | inl e ↦ ap (has_right ((ys ++ xs) ++ before)) e ∙ ap (λ s. has_right s page) (all_at before) ∙ wins.right (xs ++ before) alone
+            | inr ne ↦ rest.right p ge (omega (arith, lt, ne))
+          ];
+          whole = λ p word ge lt small. elim (cases_eq p page) [
+            | inl e ↦ subst (λ q. Since (TakenWholeHere q word) (KeptHere q) ((ys ++ xs) ++ before)) (sym e) (subst (Since (TakenWholeHere page word) (KeptHere page)) (sym (all_at before)) (wins.whole (xs ++ before) alone word small))
+            | inr ne ↦ rest.whole p word ge (omega (arith, lt, ne)) small
+          ];
+        })
+        (λ before none p out. let ne = not_in first page p low out in ap (λ s. has_right s p) (all_at before) ∙ right_on page p ys (xs ++ before) h.on ne ∙ so_far.lacks before none p (span_less first page p out))
+        (λ lt. absurd (omega (arith, lt, last)))
+
+pub won_turn : {σ σ1 σ2 : Standing} (d : Directory) (first page : ℕ) → ClaimedBelow d first page σ σ1 → (h : ClaimsPage d page σ1 σ2 Claimed.Whole) → ClaimedBelow d first (page + 1) σ σ2
+unfolding won_claims turned
+won_turn d first page below h = record { so_far = won_claims d first (page + 1) page (omega arith) below h refl h.outcome; alone = turn_alone d first (page + 1) page (omega arith) below h }
 
 -- ---- the pages are left
-pub record LeftSoFar (d : Directory) (first end page : ℕ) (desk desk' : Standing) : Type 0 where
-  pub steps : List Made
-  pub calls : Calls desk desk' (HasPages d first end) (λ v w. Does (of_pages (in_span first page) Lost) v w × ((p : ℕ) → in_span first end p ≡ true → KnowsDeed p d w)) steps
-  pub kinds : Only giving_back steps
-  pub few : length steps + 15 * first ≤ 15 * page
-  pub lacks : (before : List Made) (p : ℕ) → (in_span first page p ≡ false → has_right before p ≡ false) → has_right (steps ++ before) p ≡ false
-  pub alone : (before : List Made) (p : ℕ) → page ≤ p → LeftAlone p before → LeftAlone p (steps ++ before)
+pages_fewer : (d : Directory) (first stop end : ℕ) → stop ≤ end → (v : View) → HasPages d first end v → HasPages d first stop v
+pages_fewer d first stop end le v met = record {
+  right = λ p is. met.right p (span_wider first stop end p le is);
+  held = λ g is. met.held g (span_wider first stop end (g / 256) le is);
+  deeds = λ p is. met.deeds p (span_wider first stop end p le is);
+  clear = met.clear;
+}
 
-pub left_none : {σ : Standing} (d : Directory) (first end : ℕ) → LeftSoFar d first end first σ σ
-left_none d first end = record {
+pub pages_call : {σ σ1 : Standing} {R : View → View → Type 0} {xs : List Made} (d : Directory) (first stop end : ℕ) → stop ≤ end → Calls σ σ1 (HasPages d first stop) R xs → Calls σ σ1 (HasPages d first end) R xs
+pages_call {R = R} d first stop end le c = call_as R c (pages_fewer d first stop end le) (λ v w met r. r)
+
+-- and the deeds of these pages are known still
+pub call_knowing : {σ σ1 : Standing} {B : View → Type 0} {R : View → View → Type 0} {xs : List Made} (d : Directory) (pages : ℕ → Bool) → Calls σ σ1 B R xs → ((v : View) → B v → (p : ℕ) → pages p ≡ true → KnowsDeed p d v)
+    → Calls σ σ1 B (λ v w. R v w × ((p : ℕ) → pages p ≡ true → KnowsDeed p d w)) xs
+call_knowing {σ} {xs = xs} d pages c knows = record { adds = c.adds; leads = record { from = λ v met agreed. (c.leads.from v met agreed, λ p is. knows_still σ.seat.profile d p xs v agreed (knows v met p is)) } }
+
+pub left_none : {σ : Standing} (d : Directory) (first : ℕ) → Releases d first first σ σ
+left_none d first = record {
   steps = [];
-  calls = call_none (λ v met. (
-    does_as (of_pages (in_span first first) Lost) (does_none v) (λ g. inl (ap (λ t. if t then Lost else Kept) (sym (span_none first (g / 256))))) (λ q. ap (λ t. if t then Lost else Kept) (sym (span_none first q))) (λ q h. h),
-    met.deeds,
-  ));
+  calls = call_none (λ v met. does_as (of_pages (in_span first first) Lost) (does_none v) (λ g. inl (ap (λ t. if t then Lost else Kept) (sym (span_none first (g / 256))))) (λ q. ap (λ t. if t then Lost else Kept) (sym (span_none first q))) (λ q h. h));
   kinds = tt;
   few = omega arith;
   lacks = λ before p none. none (span_none first p);
@@ -336,7 +316,10 @@ left_none d first end = record {
 on_full : (page g : ℕ) → masked page full g ≡ (page == g / 256)
 on_full page g = ap (λ t. (page == g / 256) && t) (full_set (g % 256) (omega arith)) ∙ and_true (page == g / 256)
 
-module _ {σ σ1 : Standing} (d : Directory) (first end page : ℕ) (low : first ≤ page) (high : page < end) (so_far : LeftSoFar d first end page σ σ1) where
+module _ {σ σ1 : Standing} (d : Directory) (first end page : ℕ) (low : first ≤ page) (high : page < end) (so_far : Releases d first page σ σ1) where
+  known : Calls σ σ1 (HasPages d first end) (λ v w. Does (of_pages (in_span first page) Lost) v w × ((p : ℕ) → in_span first end p ≡ true → KnowsDeed p d w)) so_far.steps
+  known = call_knowing d (in_span first end) (pages_call d first page end (omega (arith, high)) so_far.calls) (λ v met. met.deeds)
+
   leave_may : (v : View) → HasPages d first end v → Does (of_pages (in_span first page) Lost) v (so_far.steps ++ v) × ((p : ℕ) → in_span first end p ≡ true → KnowsDeed p d (so_far.steps ++ v)) → MayPutAndLeave page d (masked page full) (so_far.steps ++ v)
   leave_may v met left =
       let here = span_in first end page low high in let past = span_past first page page (omega arith) in
@@ -350,43 +333,24 @@ module _ {σ σ1 : Standing} (d : Directory) (first end page : ℕ) (low : first
       }
 
   pub leave_call : CanCall σ (λ v l. HasPages d first end v) → CanCall σ1 (λ v l. MayPutAndLeave page d (masked page full) v)
-  leave_call can = next_call so_far.calls can leave_may
+  leave_call can = next_call known can leave_may
 
-  pub left_more : {σ2 : Standing} → PutsAndLeaves page d full σ1 σ2 → LeftSoFar d first end (page + 1) σ σ2
-  left_more h =
-      let ys = h.after ++ h.puts in
-      let next : Calls σ1 _ (λ v. MayPutAndLeave page d (masked page full) v × ((p : ℕ) → in_span first end p ≡ true → KnowsDeed p d v)) (λ v w. Does (put_and_left page (masked page full)) v w × ((p : ℕ) → in_span first end p ≡ true → KnowsDeed p d w)) ys = record {
-        adds = record { seat_is = h.calls.adds.seat_is; added = λ v l stood met. h.calls.adds.added v l stood met.0; agreed = λ v l stood met. h.calls.adds.agreed v l stood met.0 };
-        leads = record { from = λ v met agreed. (h.calls.leads.from v met.0 agreed, λ p is. knows_still σ1.seat.profile d p ys v agreed (met.1 p is)) };
-      } in
-      record {
-        steps = ys ++ so_far.steps;
-        calls = call_then (λ v w. Does (of_pages (in_span first (page + 1)) Lost) v w × ((p : ℕ) → in_span first end p ≡ true → KnowsDeed p d w)) so_far.calls next (λ v met left. (leave_may v met left, left.1))
-            (λ v met a b. (
-              does_as (of_pages (in_span first (page + 1)) Lost) (does_then a.0 b.0)
-                  (λ g. inl (both_fates Lost (in_span first page (g / 256)) (masked page full g) (in_span first (page + 1) (g / 256)) refl (ap (λ t. in_span first page (g / 256) || t) (on_full page g) ∙ span_more first page (g / 256) low)))
-                  (λ q. both_fates Lost (in_span first page q) (page == q) (in_span first (page + 1) q) refl (span_more first page q low)) (λ q h. h),
-              b.1,
-            ));
-        kinds = only_both giving_back ys so_far.steps h.kinds so_far.kinds;
-        few = let n = length-append ys so_far.steps in let a = h.few in let b = so_far.few in omega (arith, n, a, b);
-        lacks = λ before p none. ap (λ s. has_right s p) (append_assoc ys so_far.steps before) ∙ elim (cases_eq p page) [
-          | inl e ↦ ap (has_right (ys ++ (so_far.steps ++ before))) e ∙ h.lacks (so_far.steps ++ before)
-          | inr ne ↦ right_on page p ys (so_far.steps ++ before) h.on ne ∙ so_far.lacks before p (λ out. none (span_apart first page p ne out))
-        ];
-        alone = λ before p ge alone. subst (LeftAlone p) (sym (append_assoc ys so_far.steps before)) (alone_on page p ys (so_far.steps ++ before) h.on (λ e. absurd (omega (arith, e, ge))) (so_far.alone before p (omega (arith, ge)) alone));
-      }
-
-pub releases_all : {σ σ1 : Standing} (d : Directory) (first end page : ℕ) → page ≡ end → first ≤ end → LeftSoFar d first end page σ σ1 → Releases d first end σ σ1
-releases_all {σ} {σ1} d first end page e le so_far =
-    let all = subst (λ p. LeftSoFar d first end p σ σ1) e so_far in
+pub left_more : {σ σ1 σ2 : Standing} (d : Directory) (first page : ℕ) → first ≤ page → Releases d first page σ σ1 → PutsAndLeaves page d full σ1 σ2 → Releases d first (page + 1) σ σ2
+left_more d first page low so_far h =
+    let ys = h.after ++ h.puts in
     record {
-      steps = all.steps;
-      calls = record { adds = all.calls.adds; leads = record { from = λ v met agreed. (all.calls.leads.from v met agreed).0 } };
-      kinds = all.kinds;
-      few = let few = all.few in omega (arith, few, le);
-      lacks = all.lacks;
-      alone = all.alone;
+      steps = ys ++ so_far.steps;
+      calls = call_then (Does (of_pages (in_span first (page + 1)) Lost)) (known d first (page + 1) page low (omega arith) so_far) h.calls (leave_may d first (page + 1) page low (omega arith) so_far)
+          (λ v met a b. does_as (of_pages (in_span first (page + 1)) Lost) (does_then a.0 b)
+              (λ g. inl (both_fates Lost (in_span first page (g / 256)) (masked page full g) (in_span first (page + 1) (g / 256)) refl (ap (λ t. in_span first page (g / 256) || t) (on_full page g) ∙ span_more first page (g / 256) low)))
+              (λ q. both_fates Lost (in_span first page q) (page == q) (in_span first (page + 1) q) refl (span_more first page q low)) (λ q h. h));
+      kinds = only_both giving_back ys so_far.steps h.kinds so_far.kinds;
+      few = let n = length-append ys so_far.steps in let a = h.few in let b = so_far.few in omega (arith, n, a, b, low);
+      lacks = λ before p none. ap (λ s. has_right s p) (append_assoc ys so_far.steps before) ∙ elim (cases_eq p page) [
+        | inl e ↦ ap (has_right (ys ++ (so_far.steps ++ before))) e ∙ h.lacks (so_far.steps ++ before)
+        | inr ne ↦ right_on page p ys (so_far.steps ++ before) h.on ne ∙ so_far.lacks before p (λ out. none (span_apart first page p ne out))
+      ];
+      alone = λ before p ge alone. subst (LeftAlone p) (sym (append_assoc ys so_far.steps before)) (alone_on page p ys (so_far.steps ++ before) h.on (λ e. absurd (omega (arith, e, ge))) (so_far.alone before p (omega (arith, ge)) alone));
     }
 
 -- ---- the claim of a run
@@ -430,7 +394,7 @@ module _ {σ σ1 : Standing} (d : Directory) (first end stop : ℕ) (ne : stop �
         adds = calls.adds;
         kinds = only_both claiming r.steps h.steps (only_within giving_back claiming r.steps refl r.kinds) h.kinds;
         few = let n = length-append r.steps h.steps in let a = r.few in let b = h.few in let le = h.span.1 in omega (arith, n, a, b, le);
-        deeds = deeds_join d first end r.steps h.steps (deeds_widen d first end stop r.steps h.span.0 before_end (no_deeds giving_back d stop r.steps refl r.kinds)) h.deeds;
+        deeds = deeds_join d first end end stop r.steps h.steps h.span.0 before_end (omega arith) (no_deeds giving_back d stop r.steps refl r.kinds) h.deeds;
         shows = shows_both σ.seat.profile r.steps h.steps (shows_taking σ.seat.profile r.steps (only_within giving_back taking_pages r.steps refl r.kinds)) h.shows;
         outcome = record {
           in_run = (h.span.0, before_end);

@@ -1,4 +1,5 @@
 -- The search for a run that can be claimed, one run more.
+use Rattle.pas_steps.proofs.SpareRoom.{Spares}
 use Rattle.std.proofs.Common.{ℕ, ◌+◌, ◌<◌, ◌≤◌, List, [], ◌++◌, refl, ◌∙◌, inl, inr, ◌⊎◌, arith, Option, ◌≡◌, ◌≢◌, true, ◌∷◌, Some, None, ap, sym, subst, append_assoc, true≢false, length}
 use Rattle.std.proofs.lemmas.Bool.{cases_lt, cases_eq}
 use Rattle.pas_profile.specs.declared.directory.Directory.{Directory}
@@ -28,7 +29,7 @@ use Rattle.pas_steps.proofs.Kept.{deed_stays}
 use Rattle.pas_steps.proofs.Unknown.{unknown_stays}
 use Rattle.pas_large.specs.Finds.{MayFind, FindRoom, Finds}
 use Rattle.pas_large.proofs.Pages.{shows_both, known_of}
-use Rattle.pas_large.proofs.Claims.{HasSpares, room_after, in_parts, got_after}
+use Rattle.pas_large.proofs.Claims.{room_after, in_parts, got_after}
 
 -- ---- the search of runs so far: each run that begins below the next page can't serve
 pub record VainSoFar (d : Directory) (n from : ℕ) (steps : List Made) : Type 0 where
@@ -255,7 +256,7 @@ module _ {σ σ1 : Standing} (d : Directory) (n from : ℕ) (low : 1 ≤ from) (
         let does = (look_still find).from v met agreed in
         record { lacks = λ p ge lt. does.right p ∙ met.lacks p (knew f d p ls v agreed (usable p (ge, lt))); clear = still_clear does met.clear }
 
-    pub can_claim_run : (spare spare2 : ℕ) → CanCall σ (λ v l. FindRoom σ.seat.profile d 1 spare v) → HasSpares σ spare → HasSpares σ2 spare2 → CanCall σ2 (λ v l. HasRunRoom σ2.seat.profile first (first + n) 1 spare2 v)
+    pub can_claim_run : (spare spare2 : ℕ) → CanCall σ (λ v l. FindRoom σ.seat.profile d 1 spare v) → Spares σ spare → Spares σ2 spare2 → CanCall σ2 (λ v l. HasRunRoom σ2.seat.profile first (first + n) 1 spare2 v)
     can_claim_run spare spare2 can law law2 =
         let adds = look_adds find in let met = can.met.may in
         record {

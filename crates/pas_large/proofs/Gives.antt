@@ -1,5 +1,7 @@
 -- The pages of a run are backed, its block is given, and they are left.
-use Rattle.std.proofs.Common.{◌≡◌, ℕ, ◌+◌, ◌*◌, ◌/◌, ◌<◌, ◌≤◌, ◌==◌, Bool, true, false, ◌||◌, if◌then◌else◌, List, [], ◌∷◌, ◌++◌, length, inl, inr, refl, ap, sym, ◌∙◌, subst, arith, length-append, true≢false, ◌%◌, ◌^◌, ◌&&◌, Some}
+use Rattle.pas_steps.proofs.Past.{always_map}
+use Rattle.pas_steps.proofs.SpareRoom.{Spares}
+use Rattle.std.proofs.Common.{◌≡◌, ℕ, ◌+◌, ◌*◌, ◌/◌, ◌<◌, ◌≤◌, ◌==◌, Bool, true, false, if◌then◌else◌, List, [], ◌∷◌, ◌++◌, length, inl, inr, refl, ap, sym, ◌∙◌, subst, arith, length-append, true≢false, ◌%◌, ◌^◌, ◌&&◌, Some}
 use Rattle.std.proofs.lemmas.Bool.{cases_eq, eq-eqb, and_from}
 use Rattle.pas_profile.specs.Profiles.{IsPage, IsDirectoryOf}
 use Rattle.pas_profile.specs.declared.directory.Directory.{Directory}
@@ -9,23 +11,22 @@ use Rattle.pas_steps.specs.Agreement.{Agrees, Agreed}
 use Rattle.pas_steps.specs.Allowed.{Allowed, IsBlockOf, MayGiveNow}
 use Rattle.pas_steps.specs.Calls.{Calls, Kept, Lost, now, nothing, Does, ClearAfter, later, grain_fate}
 use Rattle.pas_steps.specs.Desks.{Standing, CanCall, CanMake, Makes, made, Adds}
-use Rattle.pas_steps.specs.Events.{events_of, events_by, event_of}
-use Rattle.pas_steps.specs.Kinds.{Backing, Only, returning, Giving, LookLife}
+use Rattle.pas_steps.specs.Events.{events_by, event_of}
+use Rattle.pas_steps.specs.Kinds.{Backing, returning, Giving, LookLife}
 use Rattle.pas_steps.specs.Views.{View, holds, holds_on, has_right, knows_backed, KnowsDeed, epoch_of, Gives, Stays, known_life}
 use Rattle.pas_steps.specs.declared.step.Made.{Made}
 use Rattle.pas_steps.specs.declared.step.Step.{Step}
 use Rattle.pas_steps.specs.declared.step.Step.TheVariants.{Back, Look, Give}
 use Rattle.pas_steps.proofs.Apart.{only_both, deeds_same}
 use Rattle.pas_steps.proofs.Backed.{any_from, backed_holds}
-use Rattle.pas_steps.proofs.Called.{call_none, call_step, call_then, next_step, next_call}
+use Rattle.pas_steps.proofs.Called.{call_none, call_step, call_then, next_step, next_call, call_as}
 use Rattle.pas_steps.proofs.Calls.{does_as, does_then, does_none, does_idly, returns_are, does_step, does_after_nothing, kept_first}
-use Rattle.pas_steps.proofs.Kept.{knows_still}
-use Rattle.pas_steps.proofs.Sets.{both_fates, same_truth}
-use Rattle.pas_steps.proofs.Frames.{with_few, events_split, given_le}
+use Rattle.pas_steps.proofs.Sets.{both_fates, same_truth, kept_kept}
+use Rattle.pas_steps.proofs.Frames.{with_few, given_le}
 use Rattle.pas_steps.proofs.Adding.{room_left, adds_none, adds_step, can_step}
-use Rattle.pas_large.proofs.Claims.{HasSpares, span_in, in_parts, span_past, span_none, span_more}
+use Rattle.pas_large.proofs.Claims.{pages_call, call_knowing, span_wider, span_in, in_parts, span_past, span_none, span_more}
 use Rattle.pas_large.specs.Claims.{in_span, HasPages}
-use Rattle.pas_large.specs.Gives.{BacksIn, BackedRun, BacksRun, MayLeaveRun, left_run, LeavesRun, MayGiveBlock, run_block, give_steps, given_run, GaveBlock, GivesBlock, GaveRun, GivesRun}
+use Rattle.pas_large.specs.Gives.{BackedRun, BacksRun, MayLeaveRun, left_run, LeavesRun, MayGiveBlock, run_block, give_steps, given_run, GaveBlock, GivesBlock, GaveRun, GivesRun, LeftRun}
 use Rattle.pas_profile.specs.Lives.{turn_of}
 use Rattle.pas_profile.specs.Runs.{in_run, grain_of, length_of}
 use Rattle.pas_profile.specs.declared.name.Block.{Block}
@@ -37,15 +38,8 @@ use Rattle.pas_large.specs.Pages.{of_pages}
 
 -- ---- the pages of a run are backed, and left, one page more
 -- ---- backs
-pub record BackedSoFar (d : Directory) (first end page : ℕ) (desk desk' : Standing) : Type 0 where
-  pub steps : List Made
-  pub calls : Calls desk desk' (HasPages d first end) (BackedRun first page) steps
-  pub kinds : Only (Backing ∷ []) steps
-  pub backs : BacksIn first end steps
-  pub few : length steps + first ≤ page
-
-pub backed_none : {σ : Standing} (d : Directory) (first end : ℕ) → BackedSoFar d first end first σ σ
-backed_none d first end = record {
+pub backed_none : {σ : Standing} (d : Directory) (first : ℕ) → BacksRun d first first σ σ
+backed_none d first = record {
   steps = [];
   calls = call_none (λ v met. record { does = does_none v; bears = λ g h. absurd (true≢false (sym h ∙ span_none first (g / 256))) });
   kinds = tt;
@@ -57,9 +51,12 @@ abbrev page_of : Step → ℕ
 page_of (Back p) = p
 page_of other = 0
 
-module _ {σ σ1 : Standing} (d : Directory) (first end page : ℕ) (low : first ≤ page) (high : page < end) (so_far : BackedSoFar d first end page σ σ1) where
+module _ {σ σ1 : Standing} (d : Directory) (first end page : ℕ) (low : first ≤ page) (high : page < end) (so_far : BacksRun d first page σ σ1) where
   abbrev xs : List Made
   xs = so_far.steps
+
+  so_calls : Calls σ σ1 (HasPages d first end) (BackedRun first page) xs
+  so_calls = pages_call d first page end (omega (arith, high)) so_far.calls
 
   held_here : (v : View) → HasPages d first end v → BackedRun first page v (xs ++ v) → (g : ℕ) → g / 256 ≡ page → holds (xs ++ v) g ≡ true
   held_here v met old g at = old.does.held g ∙ met.held g (ap (in_span first end) at ∙ span_in first end page low high)
@@ -71,7 +68,7 @@ module _ {σ σ1 : Standing} (d : Directory) (first end page : ℕ) (low : first
   )
 
   pub can_back : CanCall σ (λ v l. HasPages d first end v) → IsPage σ.seat.profile page → CanMake σ1 (Back page)
-  can_back can is = next_step so_far.calls can is may_back
+  can_back can is = next_step so_calls can is may_back
 
   now_backed : (a : ℕ) (v : View) → HasPages d first end v → BackedRun first page v (xs ++ v) → Agrees σ.seat.profile (xs ++ v) (Back page) a → BackedRun first (page + 1) v (made (Back page) a ∷ (xs ++ v))
   now_backed a v met old agrees =
@@ -89,94 +86,57 @@ module _ {σ σ1 : Standing} (d : Directory) (first end page : ℕ) (low : first
         ];
       }
 
-  pub backed_more : {σ2 : Standing} (a : ℕ) → Makes σ1 σ2 (Back page) a → BackedSoFar d first end (page + 1) σ σ2
-  backed_more a makes = record {
+  pub backed_more : {σ2 : Standing} → end ≡ page + 1 → (a : ℕ) → Makes σ1 σ2 (Back page) a → BacksRun d first end σ σ2
+  backed_more last a makes = record {
     steps = made (Back page) a ∷ xs;
-    calls = call_step (BackedRun first (page + 1)) so_far.calls makes may_back (now_backed a);
+    calls = call_step (BackedRun first end) so_calls makes may_back (λ v met old agrees. subst (λ q. BackedRun first q v (made (Back page) a ∷ (xs ++ v))) (sym last) (now_backed a v met old agrees));
     kinds = (refl, so_far.kinds);
-    backs = (λ q e. let same : page ≡ q = ap page_of e in (omega (arith, same, low), omega (arith, same, high)), so_far.backs);
-    few = let few = so_far.few in omega (arith, few);
+    backs = ((λ q e. let same : page ≡ q = ap page_of e in (omega (arith, same, low), omega (arith, same, high))),
+        always_map (λ m before. (q : ℕ) → m.step ≡ Back q → (first ≤ q) × (q < page)) (λ m before. (q : ℕ) → m.step ≡ Back q → (first ≤ q) × (q < end)) xs (λ m before h q e. let its = h q e in let lt = its.1 in (its.0, omega (arith, lt, high))) so_far.backs);
+    few = let few = so_far.few in omega (arith, few, low, high);
   }
 
-pub backs_all : {σ σ1 : Standing} (d : Directory) (first end page : ℕ) → page ≡ end → first ≤ end → BackedSoFar d first end page σ σ1 → BacksRun d first end σ σ1
-backs_all {σ} {σ1} d first end page e le so_far =
-    let all = subst (λ p. BackedSoFar d first end p σ σ1) e so_far in
-    record { steps = all.steps; calls = all.calls; kinds = all.kinds; backs = all.backs; few = let few = all.few in omega (arith, few, le) }
-
 -- ---- leaves
-pub record LeftRunSoFar (d : Directory) (first end page : ℕ) (desk desk' : Standing) : Type 0 where
-  pub steps : List Made
-  pub calls : Calls desk desk' (MayLeaveRun d first end) (λ v w. Does (left_run first page) v w × ((p : ℕ) → in_span first end p ≡ true → KnowsDeed p d w)) steps
-  pub kinds : Only returning steps
-  pub few : length steps + 11 * first ≤ 11 * page
-
-pub left_run_none : {σ : Standing} (d : Directory) (first end : ℕ) → LeftRunSoFar d first end first σ σ
-left_run_none d first end = record {
+pub left_run_none : {σ : Standing} (d : Directory) (first : ℕ) → LeavesRun d first first σ σ
+left_run_none d first = record {
   steps = [];
-  calls = call_none (λ v met. (does_as (left_run first first) (does_none v) (λ g. inl refl) (λ q. ap (λ t. if t then Lost else Kept) (sym (span_none first q))) (λ q h. h), met.deeds));
+  calls = call_none (λ v met. record { does = does_as (left_run first first) (does_none v) (λ g. inl refl) (λ q. ap (λ t. if t then Lost else Kept) (sym (span_none first q))) (λ q h. h); deeds = met.deeds });
   kinds = tt;
   few = omega arith;
 }
 
-same_fate : (t : Bool) → (if t then Kept else Kept) ≡ Kept
-same_fate true = refl
-same_fate false = refl
+module _ {σ σ1 : Standing} (d : Directory) (first end page : ℕ) (low : first ≤ page) (high : page < end) (so_far : LeavesRun d first page σ σ1) where
+  leaves_fewer : (v : View) → MayLeaveRun d first end v → MayLeaveRun d first page v
+  leaves_fewer v met = record { right = λ p is. met.right p (span_wider first page end p (omega (arith, high)) is); deeds = λ p is. met.deeds p (span_wider first page end p (omega (arith, high)) is) }
 
-module _ {σ σ1 : Standing} (d : Directory) (first end page : ℕ) (low : first ≤ page) (high : page < end) (so_far : LeftRunSoFar d first end page σ σ1) where
-  may_leave : (v : View) → MayLeaveRun d first end v → Does (left_run first page) v (so_far.steps ++ v) × ((p : ℕ) → in_span first end p ≡ true → KnowsDeed p d (so_far.steps ++ v)) → MayLeave page d (so_far.steps ++ v)
+  so_left : Calls σ σ1 (MayLeaveRun d first end) (λ v w. LeftRun d first page v w × ((p : ℕ) → in_span first end p ≡ true → KnowsDeed p d w)) so_far.steps
+  so_left = call_knowing d (in_span first end) (call_as (LeftRun d first page) so_far.calls leaves_fewer (λ v w met left. left)) (λ v met. met.deeds)
+
+  may_leave : (v : View) → MayLeaveRun d first end v → LeftRun d first page v (so_far.steps ++ v) × ((p : ℕ) → in_span first end p ≡ true → KnowsDeed p d (so_far.steps ++ v)) → MayLeave page d (so_far.steps ++ v)
   may_leave v met left = record {
-    right = left.0.right page ∙ ap (λ t. now (if t then Lost else Kept) (has_right v page)) (span_past first page page (omega arith)) ∙ met.right page (span_in first end page low high);
+    right = left.0.does.right page ∙ ap (λ t. now (if t then Lost else Kept) (has_right v page)) (span_past first page page (omega arith)) ∙ met.right page (span_in first end page low high);
     deed = left.1 page (span_in first end page low high);
   }
 
   pub can_leave_next : CanCall σ (λ v l. MayLeaveRun d first end v) → CanCall σ1 (λ v l. MayLeave page d v)
-  can_leave_next can = next_call so_far.calls can may_leave
+  can_leave_next can = next_call so_left can may_leave
 
-  pub left_run_more : {σ2 : Standing} → Leaves page d σ1 σ2 → LeftRunSoFar d first end (page + 1) σ σ2
-  left_run_more {σ2} h =
-      let next : Calls σ1 σ2 (λ v. MayLeave page d v × ((p : ℕ) → in_span first end p ≡ true → KnowsDeed p d v)) (λ v w. Does (left_run page (page + 1)) v w × ((p : ℕ) → in_span first end p ≡ true → KnowsDeed p d w)) h.steps = record {
-        adds = record { seat_is = h.calls.adds.seat_is; added = λ v l stood met. h.calls.adds.added v l stood met.0; agreed = λ v l stood met. h.calls.adds.agreed v l stood met.0 };
-        leads = record {
-          from = λ v met agreed. (
-            does_as (left_run page (page + 1)) (h.calls.leads.from v met.0 agreed).does (λ g. inl refl) (λ q. ap (λ t. if t then Lost else Kept) (one_page page q)) (λ q c. subst (λ t. ClearAfter t q v (h.steps ++ v)) (same_fate (page == q)) c),
-            λ p is. knows_still σ1.seat.profile d p h.steps v agreed (met.1 p is),
-          );
-        };
-      } in
-      record {
-        steps = h.steps ++ so_far.steps;
-        calls = call_then (λ v w. Does (left_run first (page + 1)) v w × ((p : ℕ) → in_span first end p ≡ true → KnowsDeed p d w)) so_far.calls next (λ v met left. (may_leave v met left, left.1))
-            (λ v met a b. (does_as (left_run first (page + 1)) (does_then a.0 b.0) (λ g. inl refl) (λ q. both_fates Lost (in_span first page q) (in_span page (page + 1) q) (in_span first (page + 1) q) refl (ap (λ t. in_span first page q || t) (sym (one_page page q)) ∙ span_more first page q low)) (λ q c. c), b.1));
-        kinds = only_both returning h.steps so_far.steps (returns_are page h.steps h.returns) so_far.kinds;
-        few = let n = length-append h.steps so_far.steps in let a = h.few in let b = so_far.few in omega (arith, n, a, b);
-      }
-    where
-      one_page : (page q : ℕ) → (page == q) ≡ in_span page (page + 1) q
-      one_page page q = sym (ap (λ t. t || (page == q)) (span_none page q)) ∙ span_more page page q (omega arith)
-
-pub leaves_all : {σ σ1 : Standing} (d : Directory) (first end page : ℕ) → page ≡ end → first ≤ end → LeftRunSoFar d first end page σ σ1 → LeavesRun d first end σ σ1
-leaves_all {σ} {σ1} d first end page e le so_far =
-    let all = subst (λ p. LeftRunSoFar d first end p σ σ1) e so_far in
+pub left_run_more : {σ σ1 σ2 : Standing} (d : Directory) (first page : ℕ) → first ≤ page → LeavesRun d first page σ σ1 → Leaves page d σ1 σ2 → LeavesRun d first (page + 1) σ σ2
+left_run_more d first page low so_far h =
+    let calls = call_then (Does (left_run first (page + 1))) (so_left d first (page + 1) page low (omega arith) so_far) h.calls (may_leave d first (page + 1) page low (omega arith) so_far)
+        (λ v met a b. does_as (left_run first (page + 1)) (does_then a.0.does b.does) (λ g. inl refl) (λ q. both_fates Lost (in_span first page q) (page == q) (in_span first (page + 1) q) refl (span_more first page q low))
+        (λ q c. subst (λ t. ClearAfter t q v (h.steps ++ (so_far.steps ++ v))) (kept_kept (page == q)) c)) in
     record {
-      steps = all.steps;
-      calls = record { adds = all.calls.adds; leads = record { from = λ v met agreed. let left = all.calls.leads.from v met agreed in record { does = left.0; deeds = left.1 } } };
-      kinds = all.kinds;
-      few = let few = all.few in omega (arith, few, le);
+      steps = h.steps ++ so_far.steps;
+      calls = call_as (LeftRun d first (page + 1)) (call_knowing d (in_span first (page + 1)) calls (λ v met. met.deeds)) (λ v met. met) (λ v w met left. record { does = left.0; deeds = left.1 });
+      kinds = only_both returning h.steps so_far.steps (returns_are page h.steps h.returns) so_far.kinds;
+      few = let n = length-append h.steps so_far.steps in let a = h.few in let b = so_far.few in omega (arith, n, a, b, low);
     }
 
 -- ---- room for the backs
 pub back_events : (k : ℕ) (v : View) (steps : List Made) → length (events_by k v steps) ≤ length steps
 back_events k v [] = omega arith
 back_events k v (m ∷ more) = let rest = back_events k v more in let one = with_few (event_of k (epoch_of (more ++ v)) m.step m.answer) (events_by k v more) in omega (arith, rest, one)
-
-pub back_room : {σ σ1 : Standing} (d : Directory) (first end page : ℕ) → page < end → (so_far : BackedSoFar d first end page σ σ1) → CanCall σ (λ v l. HasPages d first end v) → (spare spare1 : ℕ) → end ≤ first + spare
-    → HasSpares σ spare → HasSpares σ1 spare1 → 1 ≤ spare1
-back_room {σ} d first end page high so_far can spare spare1 room law law1 =
-    let k : ℕ = σ.seat.actor in let xs = so_far.steps in
-    let now : spare + length (events_of k can.view) ≡ σ.seat.room = law can.view can.whole can.stood in
-    let count : length (events_of k (xs ++ can.view)) ≡ length (events_by k can.view xs) + length (events_of k can.view) = ap length (events_split k xs can.view) ∙ length-append (events_by k can.view xs) (events_of k can.view) in
-    let few = back_events k can.view xs in let so = so_far.few in
-    room_left {spare = spare1} 1 so_far.calls.adds can law1 (omega (arith, now, count, few, so, high, room))
 
 -- ---- the block of a run is given
 given_fate : (t : Bool) (g : ℕ) → later Kept (grain_fate (if t then Gives g else Stays)) ≡ (if t then Lost else Kept)
@@ -202,7 +162,7 @@ module _ (d : Directory) (first n word : ℕ) where
       ap (λ x. in_run x (n * 4096 / 16) g) at ∙ ap (λ x. in_run (first * 256) x g) long ∙ run_span first n g
 
   module _ {σ σ1 : Standing} (spare : ℕ) (low : 1 ≤ first) (some : 1 ≤ n) (region : first + n ≤ σ.seat.profile.pages + 1) (of_profile : IsDirectoryOf σ.seat.profile d)
-      (spares : HasSpares σ spare) (limit : σ.seat.room < 2 ^ 32) (look : Makes σ σ1 (Look (Word.Life first 0)) word) where
+      (spares : Spares σ spare) (limit : σ.seat.room < 2 ^ 32) (look : Makes σ σ1 (Look (Word.Life first 0)) word) where
     abbrev f : Profile
     f = σ.seat.profile
 
@@ -251,7 +211,7 @@ module _ (d : Directory) (first n word : ℕ) where
     pub can_give : (given : Block) → given ≡ run_block d first n word → CanCall σ (λ v l. MayGiveBlock d first n v) → CanMake σ1 (Give given)
     can_give given is can = subst (λ b. CanMake σ1 (Give b)) (sym is) (can_step {step = Give block} look_adds can of_the_region (λ v l stood met. may_give_now v met l stood))
 
-    pub room_to_give : {spare1 : ℕ} → HasSpares σ1 spare1 → 1 ≤ spare → CanCall σ (λ v l. MayGiveBlock d first n v) → 1 ≤ spare1
+    pub room_to_give : {spare1 : ℕ} → Spares σ1 spare1 → 1 ≤ spare → CanCall σ (λ v l. MayGiveBlock d first n v) → 1 ≤ spare1
     room_to_give {spare1} spares1 one can = let now = spares can.view can.whole can.stood in room_left {spare = spare1} 1 look_adds can spares1 (omega (arith, now, one))
 
     gave : (answer : ℕ) (v : View) → Agreed f v (give_steps first block word answer) → GaveBlock first n block v (made (Give block) answer ∷ made (Look (Word.Life first 0)) word ∷ v)
@@ -288,14 +248,6 @@ module _ {σ σ1 : Standing} (d : Directory) (first n : ℕ) (backs : BacksRun d
 
   pub can_give_block : CanCall σ (λ v l. HasPages d first (first + n) v) → CanCall σ1 (λ v l. MayGiveBlock d first n v)
   can_give_block can = next_call backs.calls can may_give_block
-
-  pub room_for_block : CanCall σ (λ v l. HasPages d first (first + n) v) → (spare spare1 : ℕ) → n + 1 ≤ spare → HasSpares σ spare → HasSpares σ1 spare1 → 1 ≤ spare1
-  room_for_block can spare spare1 room law law1 =
-      let k : ℕ = σ.seat.actor in let xs = backs.steps in
-      let now : spare + length (events_of k can.view) ≡ σ.seat.room = law can.view can.whole can.stood in
-      let count : length (events_of k (xs ++ can.view)) ≡ length (events_by k can.view xs) + length (events_of k can.view) = ap length (events_split k xs can.view) ∙ length-append (events_by k can.view xs) (events_of k can.view) in
-      let few = back_events k can.view xs in let so = backs.few in
-      room_left {spare = spare1} 1 backs.calls.adds can law1 (omega (arith, now, count, few, so, room))
 
   module _ {σ2 : Standing} (block : Block) (give : GivesBlock d first n block σ1 σ2) where
     abbrev gs : List Made

@@ -339,13 +339,12 @@ claim_lost d page get = record {
   outcome = record { still = leads_as get.outcome.leads (λ v met. tt) (λ v w met does. does); lacks = get.outcome.lacks; lost = get.outcome.lost };
 }
 
+abbrev pub MadeHere : Directory → ℕ → Made → List Made → Type 0
+MadeHere d page m before = (p : ℕ) (e : Directory) → m.step ≡ Deed p e → m.answer ≡ 0 → (e ≡ d) × (p ≡ page)
+
 -- steps of a kind that makes no deeds and no events
 pub no_deeds : (ks : Kinds) (d : Directory) (page : ℕ) (steps : List Made) → is_in ks Deeding ≡ false → Only ks steps → DeedsOn d page steps
-no_deeds ks d page steps none = always_map (λ m before. is_in ks (kind_of m.step) ≡ true) (λ m before. (p : ℕ) (e : Directory) → m.step ≡ Deed p e → m.answer ≡ 0 → (e ≡ d) × (p ≡ page)) steps
-    (λ m before is p e same z. absurd (true≢false (sym is ∙ ap (λ s. is_in ks (kind_of s)) same ∙ none)))
-
-deeds_both : (d : Directory) (page : ℕ) (ys xs : List Made) → DeedsOn d page ys → DeedsOn d page xs → DeedsOn d page (ys ++ xs)
-deeds_both d page ys xs = always_both (λ m before. (p : ℕ) (e : Directory) → m.step ≡ Deed p e → m.answer ≡ 0 → (e ≡ d) × (p ≡ page)) (λ m before. (p : ℕ) (e : Directory) → m.step ≡ Deed p e → m.answer ≡ 0 → (e ≡ d) × (p ≡ page)) ys xs (λ m before h. h)
+no_deeds ks d page steps none = always_map (λ m before. is_in ks (kind_of m.step) ≡ true) (MadeHere d page) steps (λ m before is p e same z. absurd (true≢false (sym is ∙ ap (λ s. is_in ks (kind_of s)) same ∙ none)))
 
 pub shows_both : (f : Profile) (ys xs : List Made) → OnlyDeedsShow f ys → OnlyDeedsShow f xs → OnlyDeedsShow f (ys ++ xs)
 shows_both f ys xs later first k v agreed =
@@ -394,7 +393,7 @@ module _ (d : Directory) (page : ℕ) {σ σ1 : Standing} (get : GetsPage d page
       on = always_both (λ m before. IsOnPage page m.step) (λ m before. IsOnPage page m.step) takes.steps get.steps (λ m before h. h) takes.on get.on;
       kinds = only_both claiming takes.steps get.steps (only_within taking_pages claiming takes.steps refl takes.kinds) (only_within getting claiming get.steps refl get.kinds);
       few = let n = length-append takes.steps get.steps in let a = takes.few in let b = get.few in omega (arith, n, a, b);
-      deeds = deeds_both d page takes.steps get.steps (no_deeds taking_pages d page takes.steps refl takes.kinds) get.deeds;
+      deeds = always_both (MadeHere d page) (MadeHere d page) takes.steps get.steps (λ m before h. h) (no_deeds taking_pages d page takes.steps refl takes.kinds) get.deeds;
       shows = shows_both σ.seat.profile takes.steps get.steps (shows_taking σ.seat.profile takes.steps takes.kinds) get.shows;
       outcome = outcome;
     }
