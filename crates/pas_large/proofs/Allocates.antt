@@ -1,29 +1,29 @@
 -- A large block: the run that was found is given, or the refusal has its reason.
 use Rattle.pas_steps.proofs.SpareRoom.{Spares}
-use Rattle.std.proofs.Common.{◌≡◌, ℕ, ◌+◌, ◌≤◌, true, false, if◌then◌else◌, List, ◌++◌, Some, None, Ok, Err, refl, ap, ◌∙◌, subst, arith, ◌/◌}
+use Rattle.std.proofs.Common.{◌≡◌, ℕ, ◌+◌, ◌≤◌, true, false, List, ◌++◌, Some, None, Ok, Err, refl, ap, subst, arith, ◌/◌}
 use Rattle.pas_profile.specs.declared.directory.Directory.{Directory}
 use Rattle.pas_profile.specs.declared.event.NoRoom.{NoRoom}
 use Rattle.pas_profile.specs.declared.name.Block.{Block}
 use Rattle.pas_profile.specs.declared.profile.Profile.{Profile}
 use Rattle.pas_scan.specs.Runs.{large_directory}
-use Rattle.pas_steps.specs.Calls.{Leads, Calls, AnyView, Kept, Gained, now, nothing, Does}
+use Rattle.pas_steps.specs.Calls.{Leads, Calls, AnyView, nothing, Does}
 use Rattle.pas_steps.specs.Desks.{Seat, Standing, CanCall}
 use Rattle.pas_steps.specs.Kinds.{looking, kind_of, is_in}
 use Rattle.pas_steps.specs.Frames.{IsScan, OnlyScans}
 use Rattle.pas_steps.specs.declared.step.Step.{Step}
 use Rattle.pas_steps.proofs.Past.{always_map}
-use Rattle.pas_steps.specs.Views.{View, holds, has_right}
+use Rattle.pas_steps.specs.Views.{View, has_right}
 use Rattle.pas_steps.specs.declared.step.Made.{Made}
 use Rattle.pas_steps.proofs.Adding.{adds_call}
 use Rattle.pas_steps.proofs.Called.{call_then, next_call}
 use Rattle.pas_steps.proofs.Calls.{leads_then, leads_idly, does_then}
 use Rattle.pas_large.specs.Allocates.{GaveLarge, AllocatesLarge}
 use Rattle.pas_large.specs.Claims.{in_span, HasPages}
-use Rattle.pas_large.specs.Finds.{MayFind, FindRoom, FoundRun, Finds}
+use Rattle.pas_large.specs.Finds.{MayFind, FindRoom, Finds}
 use Rattle.pas_large.specs.Gives.{GivesRun}
 use Rattle.pas_large.specs.Pages.{GotPages}
 use Rattle.pas_large.specs.Refusals.{IsReason, Refuses}
-use Rattle.pas_large.proofs.Claims.{room_after}
+use Rattle.pas_large.proofs.Claims.{has_got, room_after}
 use Rattle.pas_large.proofs.Pages.{undone}
 use Rattle.pas_large.proofs.Finds.{may_find}
 
@@ -36,19 +36,11 @@ pub record Ready (d : Directory) (n first : ℕ) (v w : View) : Type 0 where
   pub lacked : (p : ℕ) → in_span first (first + n) p ≡ true → has_right v p ≡ false
 
 module _ {σ σ1 : Standing} (d : Directory) (n first : ℕ) (find : Finds d n σ σ1 (Some first)) where
-  pub found : FoundRun σ.seat.profile d n find.steps first
-  found = find.outcome
-
   pub found_call : Calls σ σ1 (MayFind d) (Ready d n first) find.steps
   found_call = record { adds = find.adds; leads = record { from = λ v met agreed. record { got = find.outcome.got.from v met agreed; lacked = find.outcome.lacked.from v met agreed } } }
 
   pub has_pages : (v : View) → MayFind d v → Ready d n first v (find.steps ++ v) → HasPages d first (first + n) (find.steps ++ v)
-  has_pages v met ready = record {
-    right = λ p is. ready.got.does.right p ∙ ap (λ t. now (if t then Gained else Kept) (has_right v p)) is;
-    held = λ g is. ready.got.does.held g ∙ ap (λ t. now (if t then Gained else Kept) (holds v g)) is;
-    deeds = ready.got.deeds;
-    clear = record { on = λ q. ready.got.does.clear q (met.clear.on q) };
-  }
+  has_pages v met ready = has_got d first (first + n) met.clear ready.got
 
   pub can_give_run : CanCall σ (λ v l. MayFind d v) → CanCall σ1 (λ v l. HasPages d first (first + n) v)
   can_give_run can = next_call found_call can has_pages

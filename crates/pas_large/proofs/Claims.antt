@@ -1,4 +1,5 @@
 -- The claim of the pages of a run, one page more, and how they are left.
+use Rattle.pas_steps.specs.Clear.{IsClear}
 use Rattle.pas_steps.proofs.SpareRoom.{Spares, spare_falls}
 use Rattle.std.proofs.Common.{◌≡◌, ◌≢◌, ℕ, ◌+◌, ◌/◌, ◌-◌, ◌^◌, ◌<◌, ◌≤◌, ◌==◌, nat_le, nat_lt, Bool, true, false, ◌||◌, if◌then◌else◌, List, [], ◌∷◌, ◌++◌, inl, inr, refl, ap, sym, ◌∙◌, arith, true≢false, ◌%◌, ◌&&◌, length, subst, append_assoc, length-append, Some, None}
 use Rattle.std.proofs.lemmas.Bool.{and_parts, cases_Bool, cases_eq, eqb-true}
@@ -58,9 +59,6 @@ span_none first p = grind (arith, nat_tests)
 pub span_more : (first page p : ℕ) → first ≤ page → (in_span first page p || (page == p)) ≡ in_span first (page + 1) p
 span_more first page p low = grind (arith, nat_tests)
 
-pub span_less : (first page p : ℕ) → in_span first (page + 1) p ≡ false → in_span first page p ≡ false
-span_less first page p out = grind (arith, nat_tests)
-
 pub not_in : (first page p : ℕ) → first ≤ page → in_span first (page + 1) p ≡ false → p ≢ page
 not_in first page p low out e = true≢false (sym (span_in first (page + 1) p (omega (arith, e, low)) (omega (arith, e))) ∙ out)
 
@@ -68,14 +66,6 @@ pub span_apart : (first page p : ℕ) → p ≢ page → in_span first page p �
 span_apart first page p ne out = grind (arith, nat_tests)
 
 -- ---- effects on sets of pages
-was_not : (t had : Bool) → now (if t then Gained else Kept) had ≡ false → had ≡ false
-was_not true had h = cc
-was_not false had h = h
-
-or_split : (s t c : Bool) → (s || t) ≡ c → c ≡ true → (s ≡ false → t ≡ true)
-or_split true t c e h none = cc
-or_split false t c e h none = e ∙ h
-
 pub got_none : (d : Directory) (pages : ℕ → Bool) (v : View) → ((p : ℕ) → pages p ≡ false) → Does nothing v v → GotPages pages d v v
 got_none d pages v none does = record {
   does = does_as (of_pages pages Gained) does (λ g. inl (ap (λ t. if t then Gained else Kept) (sym (none (g / 256))))) (λ q. ap (λ t. if t then Gained else Kept) (sym (none q))) (λ q h. h);
@@ -88,9 +78,9 @@ got_both {v} {w} {u} d a b c same first second knows = record {
   does = does_as (of_pages c Gained) (does_then first.does second.does) (λ g. inl (both_fates Gained (a (g / 256)) (b (g / 256)) (c (g / 256)) refl (same (g / 256)))) (λ q. both_fates Gained (a q) (b q) (c q) refl (same q)) (λ q h. h);
   apart = λ g h. elim (cases_Bool (a (g / 256))) [
     | inl here ↦ first.apart g here
-    | inr other ↦ was_not (a (g / 256)) (holds v g) (sym (first.does.held g) ∙ second.apart g (or_split (a (g / 256)) (b (g / 256)) (c (g / 256)) (same (g / 256)) h other))
+    | inr other ↦ sym (ap (λ t. now (if t then Gained else Kept) (holds v g)) other) ∙ sym (first.does.held g) ∙ second.apart g (ap (λ t. t || b (g / 256)) (sym other) ∙ same (g / 256) ∙ h)
   ];
-  deeds = λ p h. elim (cases_Bool (a p)) [ inl here ↦ knows p (first.deeds p here) | inr other ↦ second.deeds p (or_split (a p) (b p) (c p) (same p) h other) ];
+  deeds = λ p h. elim (cases_Bool (a p)) [ inl here ↦ knows p (first.deeds p here) | inr other ↦ second.deeds p (ap (λ t. t || b p) (sym other) ∙ same p ∙ h) ];
 }
 
 pub got_still : {v w u : View} (d : Directory) (a : ℕ → Bool) → GotPages a d v w → Does nothing w u → ((p : ℕ) → KnowsDeed p d w → KnowsDeed p d u) → GotPages a d v u
@@ -104,17 +94,12 @@ abbrev pub full : Mask4
 full = record { 0 = (2 ^ 64 - 1) ∷ (2 ^ 64 - 1) ∷ (2 ^ 64 - 1) ∷ (2 ^ 64 - 1) ∷ [] }
 
 -- ---- steps on one page leave another alone
-abbrev page_of : Step → ℕ
-page_of (Deed p d) = p
-page_of (Park p) = p
-page_of other = 0
-
 not_parked : (q p : ℕ) (s : Step) → p ≢ q → IsOnPage q s → s ≡ Park p → ⊥
-not_parked q p s ne IsOnPage.Parks e = let same : q ≡ p = ap page_of e in ne (sym same)
+not_parked q p s ne IsOnPage.Parks e = let same : q ≡ p = cc in ne (sym same)
 not_parked q p s ne on e = cc
 
 not_deeded : (q p : ℕ) (s : Step) (x : Directory) → p ≢ q → IsOnPage q s → s ≡ Deed p x → ⊥
-not_deeded q p s x ne (IsOnPage.Deeds d) e = let same : q ≡ p = ap page_of e in ne (sym same)
+not_deeded q p s x ne (IsOnPage.Deeds d) e = let same : q ≡ p = cc in ne (sym same)
 not_deeded q p s x ne on e = cc
 
 pub alone_on : (q p : ℕ) (ys xs : List Made) → OnlyOn q ys → p ≢ q → LeftAlone p xs → LeftAlone p (ys ++ xs)
@@ -279,7 +264,7 @@ module _ {σ σ1 : Standing} (d : Directory) (first end page : ℕ) (high : page
             | inr ne ↦ rest.whole p word ge (omega (arith, lt, ne)) small
           ];
         })
-        (λ before none p out. let ne = not_in first page p low out in ap (λ s. has_right s p) (all_at before) ∙ right_on page p ys (xs ++ before) h.on ne ∙ so_far.lacks before none p (span_less first page p out))
+        (λ before none p out. let ne = not_in first page p low out in ap (λ s. has_right s p) (all_at before) ∙ right_on page p ys (xs ++ before) h.on ne ∙ so_far.lacks before none p (grind (arith, nat_tests)))
         (λ lt. absurd (omega (arith, lt, last)))
 
 pub won_turn : {σ σ1 σ2 : Standing} (d : Directory) (first page : ℕ) → ClaimedBelow d first page σ σ1 → (h : ClaimsPage d page σ1 σ2 Claimed.Whole) → ClaimedBelow d first (page + 1) σ σ2
@@ -287,6 +272,14 @@ unfolding won_claims turned
 won_turn d first page below h = record { so_far = won_claims d first (page + 1) page (omega arith) below h refl h.outcome; alone = turn_alone d first (page + 1) page (omega arith) below h }
 
 -- ---- the pages are left
+pub has_got : {v w : View} (d : Directory) (first stop : ℕ) → IsClear v → GotPages (in_span first stop) d v w → HasPages d first stop w
+has_got {v} d first stop clear got = record {
+  right = λ p is. got.does.right p ∙ ap (λ t. now (if t then Gained else Kept) (has_right v p)) is;
+  held = λ g is. got.does.held g ∙ ap (λ t. now (if t then Gained else Kept) (holds v g)) is;
+  deeds = got.deeds;
+  clear = record { on = λ q. got.does.clear q (clear.on q) };
+}
+
 pages_fewer : (d : Directory) (first stop end : ℕ) → stop ≤ end → (v : View) → HasPages d first end v → HasPages d first stop v
 pages_fewer d first stop end le v met = record {
   right = λ p is. met.right p (span_wider first stop end p le is);
@@ -372,12 +365,7 @@ module _ {σ σ1 : Standing} (d : Directory) (first end stop : ℕ) (ne : stop �
   before_end = let le = h.span.1 in omega (arith, ne, le)
 
   may_release : (v : View) → MayClaimPages first end v → GotPages (in_span first stop) d v (h.steps ++ v) → HasPages d first stop (h.steps ++ v)
-  may_release v met got = record {
-    right = λ p is. got.does.right p ∙ ap (λ t. now (if t then Gained else Kept) (has_right v p)) is;
-    held = λ g is. got.does.held g ∙ ap (λ t. now (if t then Gained else Kept) (holds v g)) is;
-    deeds = got.deeds;
-    clear = record { on = λ q. got.does.clear q (met.clear.on q) };
-  }
+  may_release v met got = has_got d first stop met.clear got
 
   got_call : Calls σ σ1 (MayClaimPages first end) (GotPages (in_span first stop) d) h.steps
   got_call = record { adds = h.adds; leads = h.got }

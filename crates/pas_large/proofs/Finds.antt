@@ -37,9 +37,6 @@ pub record VainSoFar (d : Directory) (n from : ℕ) (steps : List Made) : Type 0
   pub deeds : (page : ℕ) → 1 ≤ page → page < from → Once (DeedReadHere page) steps
   pub alone : AloneFrom from steps
 
-pub vain_begins : (d : Directory) (n : ℕ) → AloneFrom 1 [] → VainSoFar d n 1 []
-vain_begins d n alone = record { runs = λ s some lt. absurd (omega (arith, some, lt)); deeds = λ p some lt. absurd (omega (arith, some, lt)); alone = alone }
-
 bad_later : (d : Directory) (n first : ℕ) (ys xs : List Made) → HasBad d n first xs → HasBad d n first (ys ++ xs)
 bad_later d n first ys xs h = (h.0, h.1, once_later (BadHere d h.0) ys xs h.2)
 
@@ -48,9 +45,6 @@ unusable_bad : (d : Directory) (n from first : ℕ) (ys xs : List Made) → Alon
 unusable_bad d n from first ys xs alone ge h =
     let low = h.1.0 in
     (h.0, h.1, once_map (UnusableHere d h.0) (BadHere d h.0) (ys ++ xs) (λ m b x. inl x) (unusable_before d h.0 ys xs (alone h.0 (omega (arith, ge, low))) h.2))
-
-after_once : (P : Made → List Made → Type 0) (ys xs : List Made) → OnceAfter xs P ys → Once P (ys ++ xs)
-after_once P ys xs h = once_earlier (λ m b. P m (b ++ xs)) P ys xs (λ m b x. x) h
 
 -- looks at pages leave each page alone
 alone_looks : (p : ℕ) (ys xs : List Made) → Only page_looks ys → LeftAlone p xs → LeftAlone p (ys ++ xs)
@@ -62,13 +56,6 @@ alone_looks p ys xs looks alone =
       parks = always_both (ParksNotHere p) (ParksNotHere p) ys xs (λ m before h. h) own.parks alone.parks;
       deeds = always_both (MakesNoDeedHere p) (MakesNoDeedHere p) ys xs (λ m before h. h) own.deeds alone.deeds;
     }
-
--- the search came past the last page
-pub vain_past : (f : Profile) (d : Directory) (n from : ℕ) (xs : List Made) → 1 ≤ n → f.pages < from → VainSoFar d n from xs → IsVain f d n xs
-vain_past f d n from xs some past so_far = record {
-  deeds = λ p of. so_far.deeds p of.0 (let le = of.1 in omega (arith, le, past));
-  runs = λ s low le. so_far.runs s low (omega (arith, le, past, some));
-}
 
 -- the search found no run
 pub vain_ends : (f : Profile) (d : Directory) (n from : ℕ) (ys xs : List Made) → 1 ≤ from → VainSoFar d n from xs → HasNoRun f d from n ys → IsVain f d n (ys ++ xs)
@@ -105,23 +92,18 @@ module _ (f : Profile) (d : Directory) (n from first : ℕ) (some : 1 ≤ from) 
 
   -- and its claim failed
   module _ (page : ℕ) (zs : List Made) (fails : FailsRun f d first (first + n) page zs) (v : View) (agreed : Agreed f v (zs ++ (ys ++ xs))) where
-    failed : OnceAfter before (LostHere d page) zs ⊎ OnceAfter before (BrokenHere page) zs
-    failed = fails.failed before v first_alone (all_usable page (fails.in_run.0, fails.in_run.1)) agreed
-
-    page_bad : Once (BadHere d page) (zs ++ before)
-    page_bad = elim failed [
-      | inl lost ↦ once_map (LostHere d page) (BadHere d page) (zs ++ before) (λ m b x. inr (inl x)) (after_once (LostHere d page) zs before lost)
-      | inr broken ↦ once_map (BrokenHere page) (BadHere d page) (zs ++ before) (λ m b x. inr (inr x)) (after_once (BrokenHere page) zs before broken)
+    failed : OnceAfter before (λ m b. LostHere d page m b ⊎ BrokenHere page m b) zs
+    failed = elim (fails.failed before v first_alone (all_usable page (fails.in_run.0, fails.in_run.1)) agreed) [
+      | inl lost ↦ once_map (λ m b. LostHere d page m (b ++ before)) (λ m b. LostHere d page m (b ++ before) ⊎ BrokenHere page m (b ++ before)) zs (λ m b x. inl x) lost
+      | inr broken ↦ once_map (λ m b. BrokenHere page m (b ++ before)) (λ m b. LostHere d page m (b ++ before) ⊎ BrokenHere page m (b ++ before)) zs (λ m b x. inr x) broken
     ]
 
     pub vain_goes_on : VainSoFar d n (page + 1) (zs ++ (ys ++ xs))
     vain_goes_on = record {
-      runs = λ s low lt. elim (cases_lt s from) [
-        | inl below ↦ bad_later d n s zs before (bad_later d n s ys xs (so_far.runs s low below))
-        | inr above ↦ elim (cases_lt s first) [
-          | inl early ↦ lower_bad zs s low early
-          | inr late ↦ let high = fails.in_run.1 in (page, (omega (arith, lt), omega (arith, late, high)), page_bad)
-        ]
+      runs = λ s low lt. elim (cases_lt s first) [
+        | inl early ↦ lower_bad zs s low early
+        | inr late ↦ let high = fails.in_run.1 in
+            (page, (omega (arith, lt), omega (arith, late, high)), once_earlier (λ m b. LostHere d page m (b ++ before) ⊎ BrokenHere page m (b ++ before)) (BadHere d page) zs before (λ m b x. inr x) failed)
       ];
       deeds = λ p low lt. elim (cases_lt p from) [
         | inl below ↦ once_later (DeedReadHere p) zs before (once_later (DeedReadHere p) ys xs (so_far.deeds p low below))
@@ -131,10 +113,7 @@ module _ (f : Profile) (d : Directory) (n from first : ℕ) (some : 1 ≤ from) 
     }
 
     pub run_has_failed : HasFailed d n first (zs ++ (ys ++ xs))
-    run_has_failed = elim failed [
-      | inl lost ↦ once_earlier (λ m b. LostHere d page m (b ++ before)) (FailsHere d n first) zs before (λ m b x. (usable_still b, (page, (fails.in_run.0, fails.in_run.1), inl x))) lost
-      | inr broken ↦ once_earlier (λ m b. BrokenHere page m (b ++ before)) (FailsHere d n first) zs before (λ m b x. (usable_still b, (page, (fails.in_run.0, fails.in_run.1), inr x))) broken
-    ]
+    run_has_failed = once_earlier (λ m b. LostHere d page m (b ++ before) ⊎ BrokenHere page m (b ++ before)) (FailsHere d n first) zs before (λ m b x. (usable_still b, (page, (fails.in_run.0, fails.in_run.1), x))) failed
 
 -- ---- the search for a run that can be claimed, one run more
 -- ---- a page that was read as having no deed isn't known to have one
@@ -151,10 +130,7 @@ unknown f v p (m ∷ more) agreed (inl h) known = read_unknown f (more ++ v) p m
 knew : (f : Profile) (d : Directory) (p : ℕ) (xs : List Made) (v : View) → Agreed f v xs → ReadUsable d p xs → (known_deed v p ≡ 0) ⊎ KnowsDeed p d v
 knew f d p xs v agreed usable = elim (cases_eq (known_deed v p) 0) [
   | inl none ↦ inl none
-  | inr some ↦ elim usable [
-    | inl bare ↦ absurd (unknown f v p xs agreed bare some)
-    | inr whole ↦ inr (sym (deed_stays f xs v p agreed some) ∙ known_of f d p xs v agreed whole.of)
-  ]
+  | inr some ↦ elim usable [ inl bare ↦ absurd (unknown f v p xs agreed bare some) | inr whole ↦ inr (sym (deed_stays f xs v p agreed some) ∙ known_of f d p xs v agreed whole.of) ]
 ]
 
 -- ---- deeds
@@ -184,7 +160,7 @@ searched_none d n = record {
   still = leads_none (λ v met. does_none v);
   shows = λ k v agreed. omega arith;
   lacks = λ p. refl;
-  vain = vain_begins d n (λ p ge. left_alone_by page_looks refl refl p [] tt);
+  vain = record { runs = λ s some lt. absurd (omega (arith, some, lt)); deeds = λ p some lt. absurd (omega (arith, some, lt)); alone = λ p ge. left_alone_by page_looks refl refl p [] tt };
   deeds = tt;
 }
 
@@ -197,7 +173,7 @@ none_left {σ} d n from some past so_far = record {
   steps = so_far.steps;
   adds = so_far.adds;
   shows = so_far.shows;
-  outcome = record { still = so_far.still; vain = vain_past σ.seat.profile d n from so_far.steps some past so_far.vain; deeds = so_far.deeds; lacks = so_far.lacks };
+  outcome = record { still = so_far.still; vain = record { deeds = λ p of. let le = of.1 in so_far.vain.deeds p of.0 (omega (arith, le, past)); runs = λ s low le. so_far.vain.runs s low (omega (arith, le, past, some)) }; deeds = so_far.deeds; lacks = so_far.lacks };
 }
 
 module _ {σ σ1 : Standing} (d : Directory) (n from : ℕ) (low : 1 ≤ from) (so_far : SearchedRuns d n from σ σ1) where

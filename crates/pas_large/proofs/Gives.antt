@@ -15,7 +15,6 @@ use Rattle.pas_steps.specs.Events.{events_by, event_of}
 use Rattle.pas_steps.specs.Kinds.{Backing, returning, Giving, LookLife}
 use Rattle.pas_steps.specs.Views.{View, holds, holds_on, has_right, knows_backed, KnowsDeed, epoch_of, Gives, Stays, known_life}
 use Rattle.pas_steps.specs.declared.step.Made.{Made}
-use Rattle.pas_steps.specs.declared.step.Step.{Step}
 use Rattle.pas_steps.specs.declared.step.Step.TheVariants.{Back, Look, Give}
 use Rattle.pas_steps.proofs.Apart.{only_both, deeds_same}
 use Rattle.pas_steps.proofs.Backed.{any_from, backed_holds}
@@ -46,10 +45,6 @@ backed_none d first = record {
   backs = tt;
   few = omega arith;
 }
-
-abbrev page_of : Step → ℕ
-page_of (Back p) = p
-page_of other = 0
 
 module _ {σ σ1 : Standing} (d : Directory) (first end page : ℕ) (low : first ≤ page) (high : page < end) (so_far : BacksRun d first page σ σ1) where
   abbrev xs : List Made
@@ -91,7 +86,7 @@ module _ {σ σ1 : Standing} (d : Directory) (first end page : ℕ) (low : first
     steps = made (Back page) a ∷ xs;
     calls = call_step (BackedRun first end) so_calls makes may_back (λ v met old agrees. subst (λ q. BackedRun first q v (made (Back page) a ∷ (xs ++ v))) (sym last) (now_backed a v met old agrees));
     kinds = (refl, so_far.kinds);
-    backs = ((λ q e. let same : page ≡ q = ap page_of e in (omega (arith, same, low), omega (arith, same, high))),
+    backs = ((λ q e. let same : page ≡ q = cc in (omega (arith, same, low), omega (arith, same, high))),
         always_map (λ m before. (q : ℕ) → m.step ≡ Back q → (first ≤ q) × (q < page)) (λ m before. (q : ℕ) → m.step ≡ Back q → (first ≤ q) × (q < end)) xs (λ m before h q e. let its = h q e in let lt = its.1 in (its.0, omega (arith, lt, high))) so_far.backs);
     few = let few = so_far.few in omega (arith, few, low, high);
   }

@@ -283,14 +283,6 @@ other_known f d page a before v ne (inr whole) agreed =
     let known : KnowsDeed page d (before ++ v) = known_of f d page before v agreed.1 whole.of in
     absurd (ne (agreed.0.known (λ z. deed_word_of-positive d (sym known ∙ z)) ∙ known))
 
-abbrev page_of : Step → ℕ
-page_of (Deed p d) = p
-page_of other = 0
-
-abbrev directory_of : Directory → Step → Directory
-directory_of e (Deed p d) = d
-directory_of e other = e
-
 -- the deed was made
 deed_known : (p : ℕ) (d : Directory) (a : ℕ) (v : View) → a ≡ 0 → KnowsDeed p d (made (Deed p d) a ∷ v)
 deed_known p d a v e = ap (λ t. if t then (if a == 0 then deed_word_of d else a) else known_deed v p) (eq-eqb p p refl) ∙ ap (λ t. if t then deed_word_of d else a) (eq-eqb a 0 e)
@@ -321,7 +313,7 @@ module _ {σ σ1 σ2 : Standing} (d : Directory) (page a b : ℕ) (is : IsPage �
       ]
 
   pub deed_gets : GetsPage d page σ σ2 (b == 0)
-  deed_gets = pair_gets d page a (made (Deed page d) b) deed_adds (IsOnPage.Deeds d) refl (b == 0) ((λ p e same z. (sym (ap (directory_of e) same), sym (ap page_of same))), tt) deed_shows
+  deed_gets = pair_gets d page a (made (Deed page d) b) deed_adds (IsOnPage.Deeds d) refl (b == 0) ((λ p e same z. (cc, cc)), tt) deed_shows
       (pair_outcome d page a (made (Deed page d) b) deed_adds (IsOnPage.Deeds d) refl (b == 0) (λ v. way_taken page (b == 0) (b == 0) (has_right v page) ByDeed refl refl)
       (λ e v agreed. deed_known page d b (deed_look page a ∷ v) (eqb-true b 0 e)) (λ e. GetsRight.Deeds d b (eqb-true b 0 e))
       (λ e before v alone usable agreed. inr (refl, eqb-false b 0 e, inr (other_known σ.seat.profile d page a before v ne usable agreed.1), ((λ x h z. cc), alone.deeds))))

@@ -1,4 +1,5 @@
 -- The reason of a refusal: the eligible words, and then the verdict.
+use Rattle.pas_large.proofs.Pages.{since_more}
 use Rattle.std.proofs.Common.{◌≡◌, ◌≢◌, ℕ, ◌+◌, ◌/◌, ◌%◌, ◌<◌, Bool, true, false, List, ◌∷◌, length, inl, inr, refl, ap, sym, ◌∙◌, subst, arith, MatchBool, ◌≤◌, [], ◌++◌, append_assoc, true≢false, length-append, ◌*◌}
 use Rattle.std.proofs.Math.ListN.{set, get_or}
 use Rattle.std.proofs.lemmas.List.{get_or-set_same, get_or-set_other}
@@ -8,7 +9,7 @@ use Rattle.pas_profile.specs.Directories.{number_of}
 use Rattle.pas_profile.specs.declared.directory.Directory.{Directory}
 use Rattle.pas_profile.specs.declared.word.Word.TheVariants as Word
 use Rattle.pas_steps.specs.Past.{Once, Always, Since}
-use Rattle.pas_steps.specs.Frames.{OnlyScans}
+use Rattle.pas_steps.specs.Frames.{OnlyScans, IsScan}
 use Rattle.pas_steps.specs.Desks.{made, Seat, Standing}
 use Rattle.pas_steps.specs.declared.step.Made.{Made}
 use Rattle.pas_steps.specs.declared.step.Step.{Step}
@@ -67,17 +68,9 @@ marked_more d block a marks steps small scans before p lt = elim (cases_lt (p / 
 
 -- ---- the reason of a refusal: the eligible words, and then the verdict
 -- a verdict reads no eligible word
-since_later : (P Q R : Made → List Made → Type 0) (ys xs : List Made) → ((m : Made) (b : List Made) → R m b → Q m (b ++ xs)) → Always R ys → Since P Q xs → Since P Q (ys ++ xs)
-since_later P Q R [] xs f all h = h
-since_later P Q R (m ∷ ys) xs f all h = inr (f m ys all.0, since_later P Q R ys xs f all.1 h)
-
 eligible_kind : (d : Directory) (p : ℕ) (s : Step) → ReadsEligible d p s → is_in judging (kind_of s) ≡ false
 eligible_kind d p s (ReadsEligible.Looks n j a b) = refl
 eligible_kind d p s ReadsEligible.Claims = refl
-
-abbrev held_of : NoRoom → ℕ
-held_of NoSpace = 0
-held_of (Held p) = p
 
 last_within : (f : Profile) (room : NoRoom) → ((page : ℕ) → room ≡ Held page → page ≤ f.pages) → last_block f room ≤ f.pages / 64
 last_within f NoSpace h = omega arith
@@ -89,13 +82,9 @@ missing d p [] xs scans none h = absurd h
 missing d p (m ∷ ys) xs scans none (inl z) = inl (inl (z.0, z.1, right_own p ys xs none ∙ z.2), right_scans (m ∷ ys) xs p scans ∙ none)
 missing d p (m ∷ ys) xs scans none (inr h) = inr (right_scans (m ∷ ys) xs p scans ∙ none, missing d p ys xs scans.1 none h)
 
-since_scans : (d : Directory) (p : ℕ) (ys xs : List Made) → OnlyScans ys → has_right xs p ≡ false → Since (MissingHere d p) (LacksAfter p) xs → Since (MissingHere d p) (LacksAfter p) (ys ++ xs)
-since_scans d p [] xs scans none h = h
-since_scans d p (m ∷ ys) xs scans none h = inr (right_scans (m ∷ ys) xs p scans ∙ none, since_scans d p ys xs scans.1 none h)
-
 held_from : (d : Directory) (p : ℕ) (ys xs : List Made) → OnlyScans ys → has_right xs p ≡ false → Since (MissingHere d p) (LacksAfter p) xs → Once (ParkedHere false p) ys → Once (HeldHere d p) (ys ++ xs)
 held_from d p [] xs scans none since h = absurd h
-held_from d p (m ∷ ys) xs scans none since (inl z) = inl ((z.0, z.1, right_own p ys xs none ∙ z.2), since_scans d p ys xs scans.1 none since)
+held_from d p (m ∷ ys) xs scans none since (inl z) = inl ((z.0, z.1, right_own p ys xs none ∙ z.2), since_more (MissingHere d p) (LacksAfter p) (λ k c. IsScan k.step) ys xs (λ k c is more. right_scans (k ∷ c) xs p (is, more) ∙ none) scans.1 since)
 held_from d p (m ∷ ys) xs scans none since (inr h) = inr (held_from d p ys xs scans.1 none since h)
 
 zero_before : (d : Directory) (p : ℕ) (ys xs : List Made) → has_right xs p ≡ false → Once (ZeroHere d p) ys → Once (ZeroHere d p) (ys ++ xs)
@@ -119,7 +108,7 @@ module _ (d : Directory) (marks : List ℕ) {σ σ1 σ2 : Standing} (offers : Ma
 
   held_page : (answer : NoRoom) → IsVerdict f marks d js answer → (page : ℕ) → answer ≡ Held page → page ≤ f.pages
   held_page NoSpace verdict page e = cc
-  held_page (Held q) verdict page e = let at : q ≡ page = ap held_of e in let le = (verdict.0 []).of_region.1 in omega (arith, at, le)
+  held_page (Held q) verdict page e = let at : q ≡ page = cc in let le = (verdict.0 []).of_region.1 in omega (arith, at, le)
 
   module _ (before : List Made) (none : (p : ℕ) → has_right before p ≡ false) where
     ms_none : (p : ℕ) → has_right (ms ++ before) p ≡ false
@@ -133,7 +122,7 @@ module _ (d : Directory) (marks : List ℕ) {σ σ1 σ2 : Standing} (offers : Ma
 
     last : (p : ℕ) → LastOffered d p ms → LastOffered d p ((js ++ ms) ++ before)
     last p h = subst (LastOffered d p) (sym at)
-        (since_later (OneHere d p) (NotReadHere d p) (NotReadHere d p) js (ms ++ before) (λ m b x. x) (reads_none p)
+        (since_more (OneHere d p) (NotReadHere d p) (NotReadHere d p) js (ms ++ before) (λ m b x all. x) (reads_none p)
         (since_earlier (OneHere d p) (NotReadHere d p) (OneHere d p) (NotReadHere d p) ms before (λ m b x. (x.0, x.1, right_own p b before (none p) ∙ x.2)) (λ m b x. x) h))
 
     parked_later : (p : ℕ) → Once (ZeroHere d p) ms → Once (ParkedHere true p) js → Once (ParkedLater d p) ((js ++ ms) ++ before)
