@@ -8,7 +8,7 @@ use Rattle.pas_profile.specs.declared.directory.Directory.{Directory}
 use Rattle.pas_profile.proofs.Codecs.{deed_word_of-positive}
 use Rattle.pas_rights.specs.Leaves.{MayLeave, Leaves}
 use Rattle.pas_steps.specs.Agreement.{Agrees, Agreed}
-use Rattle.pas_steps.specs.Allowed.{Allowed, IsBlockOf, MayGiveNow}
+use Rattle.pas_steps.specs.Allowed.{Allowed, MayGiveNow}
 use Rattle.pas_steps.specs.Calls.{Calls, Kept, Lost, now, nothing, Does, ClearAfter, later, grain_fate}
 use Rattle.pas_steps.specs.Desks.{Standing, CanCall, CanMake, Makes, made, Adds}
 use Rattle.pas_steps.specs.Events.{events_by, event_of}
@@ -161,9 +161,6 @@ module _ (d : Directory) (first n word : ℕ) where
     abbrev f : Profile
     f = σ.seat.profile
 
-    of_the_region : IsBlockOf f block
-    of_the_region = record { first = omega (arith, low); last = omega (arith, region); heap = of_profile.heap; turn = omega arith }
-
     module _ (v : View) (may : MayGiveBlock d first n v) where
       abbrev looked : View
       looked = made (Look (Word.Life first 0)) word ∷ v
@@ -204,7 +201,7 @@ module _ (d : Directory) (first n word : ℕ) where
     look_adds = adds_step {step = Look (Word.Life first 0)} adds_none look (λ v l stood met. tt)
 
     pub can_give : (given : Block) → given ≡ run_block d first n word → CanCall σ (λ v l. MayGiveBlock d first n v) → CanMake σ1 (Give given)
-    can_give given is can = subst (λ b. CanMake σ1 (Give b)) (sym is) (can_step {step = Give block} look_adds can of_the_region (λ v l stood met. may_give_now v met l stood))
+    can_give given is can = subst (λ b. CanMake σ1 (Give b)) (sym is) (can_step {step = Give block} look_adds can (record { first = omega (arith, low); last = omega (arith, region); heap = of_profile.heap; turn = omega arith }) (λ v l stood met. may_give_now v met l stood))
 
     pub room_to_give : {spare1 : ℕ} → Spares σ1 spare1 → 1 ≤ spare → CanCall σ (λ v l. MayGiveBlock d first n v) → 1 ≤ spare1
     room_to_give {spare1} spares1 one can = let now = spares can.view can.whole can.stood in room_left {spare = spare1} 1 look_adds can spares1 (omega (arith, now, one))

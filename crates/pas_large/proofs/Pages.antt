@@ -4,7 +4,7 @@ use Rattle.std.proofs.lemmas.Bool.{eqb-true, eq-eqb, ne_eqb, eqb-false, cases_eq
 use Rattle.pas_profile.specs.declared.directory.Directory.{Directory}
 use Rattle.pas_bits.specs.declared.mask.Mask4.{Mask4}
 use Rattle.pas_rights.specs.Leaves.{MayLeave, Leaves, LosesHere}
-use Rattle.pas_rights.specs.Puts.{masked, MayPut, PutsMask}
+use Rattle.pas_rights.specs.Puts.{masked, PutsMask}
 use Rattle.pas_rights.specs.Returns.{Settles}
 use Rattle.pas_segregated.specs.Returns.{giving_back}
 use Rattle.pas_rights.proofs.Debts.{leave_lacks}
@@ -30,7 +30,7 @@ use Rattle.pas_steps.proofs.Frames.{rights_stay, events_append}
 use Rattle.pas_search.specs.Serving.{MayServe, GotBefore, right_of}
 use Rattle.pas_segregated.proofs.GiveBack.{keeps_by}
 use Rattle.pas_segregated.specs.Takes.{slots_on, GetsGrains, TakesSlots}
-use Rattle.pas_large.specs.Evidence.{NotAll, BrokenHere, TakenWholeHere, LostHere}
+use Rattle.pas_large.specs.Evidence.{BrokenHere, TakenWholeHere, LostHere}
 use Rattle.pas_profile.specs.Directories.{number_of, deed_word_of}
 use Rattle.pas_profile.specs.Profiles.{IsPage}
 use Rattle.pas_profile.specs.declared.event.Event.{Event}
@@ -53,11 +53,8 @@ clear_again true q v u again h = again refl
 clear_again false q v u again h = h
 
 module _ {σ σ1 : Standing} (page : ℕ) (d : Directory) (mask : Mask4) (puts : PutsMask page mask σ σ1) where
-  may_put : (v : View) → MayPutAndLeave page d (masked page mask) v → MayPut page mask v
-  may_put v met = record { held = met.held; stamped = met.clear.stamped }
-
   put_call : Calls σ σ1 (MayPutAndLeave page d (masked page mask)) (Does (put (masked page mask) page)) puts.steps
-  put_call = call_as (Does (put (masked page mask) page)) puts.calls may_put (λ v w met does. does)
+  put_call = call_as (Does (put (masked page mask) page)) puts.calls (λ v met. record { held = met.held; stamped = met.clear.stamped }) (λ v w met does. does)
 
   may_leave : (v : View) → MayPutAndLeave page d (masked page mask) v → Does (put (masked page mask) page) v (puts.steps ++ v) → MayLeave page d (puts.steps ++ v)
   may_leave v met does = record { right = does.right page ∙ met.right; deed = deeds_same (Putting ∷ []) refl page puts.steps v puts.kinds ∙ met.deed }
@@ -104,9 +101,6 @@ and_true false = refl
 
 -- ---- what was got is put back
 module _ (d : Directory) (page : ℕ) (got : Mask4) {σ σ1 : Standing} (taken : TakesSlots 0 page d σ σ1 got) where
-  abbrev profile : Profile
-  profile = σ.seat.profile
-
   slot : (g : ℕ) → slots_on page 0 got g ≡ masked page got g
   slot g = let e : g % 256 / 1 * 1 ≡ g % 256 = omega arith in ap (λ x. (page == g / 256) && is_set got x) e
 
@@ -160,9 +154,6 @@ module _ (d : Directory) (page : ℕ) (got : Mask4) {σ σ1 : Standing} (taken :
   can_put can = next_call took_call can may_put_back
 
   module _ {σ2 : Standing} (back : PutsAndLeaves page d got σ1 σ2) (x : ℕ) (clear : IsLowestClear got x) where
-    not_all : NotAll (is_set taken.answers)
-    not_all all = true≢false (sym (read_set x clear.within (all x clear.within)) ∙ clear.clear)
-
     -- what was got is lost again
     again : (s t had : Bool) → s ≡ t → (s ≡ true → had ≡ false) → (later (if s then Gained else Kept) (if t then Lost else Kept) ≡ Kept) ⊎ ((had ≡ false) × (now (later (if s then Gained else Kept) (if t then Lost else Kept)) false ≡ false))
     again true true had same none = inr (none refl, refl)
@@ -185,7 +176,7 @@ module _ (d : Directory) (page : ℕ) (got : Mask4) {σ σ1 : Standing} (taken :
           kept = right_reads page b (back.puts ++ xs) (looks_read b h.1) ∙ kept;
           got = once_later (GetsHere page) b (back.puts ++ xs) (once_later (GetsHere page) back.puts xs (once_later (GetsHere page) taken.steps before met.got));
           readings = is_set taken.answers;
-          none = not_all;
+          none = λ all. true≢false (sym (read_set x clear.within (all x clear.within)) ∙ clear.clear);
           read = λ word lt. let shows = ShowsHere page word (is_set taken.answers) in
               since_more shows (KeptHere page) (λ m c. IsRead m.step m.answer) b (back.puts ++ xs) (λ m c is reads. right_reads page c (back.puts ++ xs) reads ∙ kept) (looks_read b h.1)
               (since_more shows (KeptHere page) (λ m c. GivesUp page m.step → ⊥) back.puts xs (λ m c is keeps. rights_stay c xs page keeps right) puts_keep (taken.read before met word lt));

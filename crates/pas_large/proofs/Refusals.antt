@@ -3,7 +3,7 @@ use Rattle.pas_large.proofs.Pages.{since_more}
 use Rattle.std.proofs.Common.{◌≡◌, ◌≢◌, ℕ, ◌+◌, ◌/◌, ◌%◌, ◌<◌, Bool, true, false, List, ◌∷◌, length, inl, inr, refl, ap, sym, ◌∙◌, subst, arith, MatchBool, ◌≤◌, [], ◌++◌, append_assoc, true≢false, length-append, ◌*◌}
 use Rattle.std.proofs.Math.ListN.{set, get_or}
 use Rattle.std.proofs.lemmas.List.{get_or-set_same, get_or-set_other}
-use Rattle.std.proofs.lemmas.Bool.{cases_lt}
+use Rattle.std.proofs.lemmas.Bool.{MatchBool-at_false, cases_lt}
 use Rattle.pas_profile.specs.Classes.{has_bit}
 use Rattle.pas_profile.specs.Directories.{number_of}
 use Rattle.pas_profile.specs.declared.directory.Directory.{Directory}
@@ -138,10 +138,6 @@ module _ (d : Directory) (marks : List ℕ) {σ σ1 σ2 : Standing} (offers : Ma
         let within : p ≤ f.pages = omega (arith, le, lt) in
         by_mark p (is_marked marks p) refl (offers.offered p within) (λ unmarked. parked ((ms ++ before) ++ v) p lt (record { of_region = (some, within); of_directory = ap (λ s. known_deed s p) (sym (at_view v)) ∙ is; unmarked = unmarked }))
 
-    unmarked_zero : (p : ℕ) (t : Bool) → is_marked marks p ≡ t → t ≡ false → MatchBool t (LastOffered d p ms) (Once (ZeroHere d p) ms) → Once (ZeroHere d p) ms
-    unmarked_zero p true e z h = cc
-    unmarked_zero p false e z h = h
-
     reason_of : (answer : NoRoom) → IsVerdict f marks d js answer → IsReason f d ((js ++ ms) ++ before) answer
     reason_of NoSpace verdict = accounted (f.pages + 1) (omega arith) verdict
     reason_of (Held page) verdict =
@@ -150,7 +146,7 @@ module _ (d : Directory) (marks : List ℕ) {σ σ1 σ2 : Standing} (offers : Ma
           page_of = here.of_region;
           of_directory = λ v agreed. ap (λ s. known_deed s page) (at_view v) ∙ (verdict.0 ((ms ++ before) ++ v)).of_directory;
           held = subst (Once (HeldHere d page)) (sym at)
-              (held_from d page js (ms ++ before) judges.scans (ms_none page) (missing d page ms before offers.scans (none page) (unmarked_zero page (is_marked marks page) refl here.unmarked (offers.offered page within))) verdict.1);
+              (held_from d page js (ms ++ before) judges.scans (ms_none page) (missing d page ms before offers.scans (none page) (MatchBool-at_false (LastOffered d page ms) (Once (ZeroHere d page) ms) here.unmarked (offers.offered page within))) verdict.1);
           lower = accounted page (omega (arith, within)) verdict.2;
         }
 

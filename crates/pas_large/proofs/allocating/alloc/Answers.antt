@@ -13,9 +13,6 @@ pub give_run-requires-clause-region : goal.give_run-requires-clause-region
 give_run-requires-clause-region g c = let find = c.in-Some.ensures.finds in
     subst (λ (s : Seat). c.in-Some.first + c.args.pages ≤ s.profile.pages + 1) (sym find.adds.seat_is) find.outcome.of_region.1
 
-pub give_run-requires-clause-first : goal.give_run-requires-clause-first
-give_run-requires-clause-first g c = c.in-Some.ensures.finds.outcome.of_region.0
-
 pub give_run-requires-clause-can : goal.give_run-requires-clause-can
 give_run-requires-clause-can g c = can_give_run (large_directory c.args.heap) c.args.pages c.in-Some.first c.in-Some.ensures.finds (may_find c.requires.can)
 

@@ -26,10 +26,6 @@ pub claim_run-requires-clause-region : goal.claim_run-requires-clause-region
 claim_run-requires-clause-region g c = let i = c.loop-from.invariant in
     subst (λ (s : Seat). c.in-Some.first + c.args.pages ≤ s.profile.pages + 1) (sym (look_adds (large_directory c.args.heap) c.args.pages c.loop-from.from i.low i.so_far c.in-Some.ensures.found).seat_is) (run_at (large_directory c.args.heap) c.args.pages c.loop-from.from i.low i.so_far c.in-Some.first c.in-Some.ensures.found).of_region
 
-pub claim_run-requires-clause-first : goal.claim_run-requires-clause-first
-claim_run-requires-clause-first g c = let i = c.loop-from.invariant in let low = i.low in
-    let ge = (run_at (large_directory c.args.heap) c.args.pages c.loop-from.from i.low i.so_far c.in-Some.first c.in-Some.ensures.found).from_there in omega (arith, low, ge)
-
 pub returns-in-None-clause-finds : goal.returns-in-None-clause-finds
 returns-in-None-clause-finds g c = let i = c.loop-from.invariant in
     finds_run (large_directory c.args.heap) c.args.pages c.loop-from.from i.low i.so_far c.in-Some.first c.in-Some.ensures.found c.requires.pages c.in-None.ensures.claims
