@@ -1,20 +1,10 @@
-use Rattle.std.proofs.Common.{refl, sym, ◌∙◌, subst, arith}
-use Rattle.pas_profile.specs.Profiles.{IsPage, IsDirectoryOf}
-use Rattle.pas_steps.specs.Desks.{Seat}
-use Rattle.pas_large.proofs.Claims.{run_page}
+use Rattle.std.proofs.Common.{refl, ◌∙◌, subst, arith}
 use Rattle.pas_large.specs.Gives.{LeavesRun}
 use Rattle.pas_large.proofs.Gives.{left_run_none, can_leave_next, left_run_more}
 use Rattle.pas_large.proofs.giving.leave_run.Goals as goal
 
 pub loop-page-init : goal.loop-page-init
 loop-page-init g c = record { so_far = left_run_none c.args.directory c.args.first; home = refl }
-
-pub leave-requires-clause-page : goal.leave-requires-clause-page
-leave-requires-clause-page g c = let i = c.loop-page.invariant in
-    subst (λ (s : Seat). IsPage s.profile c.loop-page.page) (sym i.so_far.calls.adds.seat_is) (run_page (g.D.Desk.standing c.args.desk.now).seat.profile c.args.first c.args.end c.loop-page.page c.requires.first c.requires.region c.loop-page.auto.page c.loop-page-test.true)
-
-pub leave-requires-clause-directory : goal.leave-requires-clause-directory
-leave-requires-clause-directory g c = subst (λ (s : Seat). IsDirectoryOf s.profile c.args.directory) (sym c.loop-page.invariant.so_far.calls.adds.seat_is) c.requires.directory
 
 pub leave-requires-clause-can : goal.leave-requires-clause-can
 leave-requires-clause-can g c = can_leave_next c.args.directory c.args.first c.args.end c.loop-page.page c.loop-page.auto.page c.loop-page-test.true c.loop-page.invariant.so_far c.requires.can

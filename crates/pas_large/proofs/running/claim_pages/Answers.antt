@@ -1,19 +1,10 @@
-use Rattle.std.proofs.Common.{refl, sym, ◌∙◌, subst, arith}
-use Rattle.pas_profile.specs.Profiles.{IsPage, IsDirectoryOf}
-use Rattle.pas_steps.specs.Desks.{Seat}
+use Rattle.std.proofs.Common.{refl, ◌∙◌, subst, arith}
 use Rattle.pas_large.specs.Claims.{ClaimsPages}
-use Rattle.pas_large.proofs.Claims.{pages_none, run_page, may_claim, page_call, room_after, won_turn, lost_turn, broken_turn}
+use Rattle.pas_large.proofs.Claims.{pages_none, may_claim, page_call, room_after, won_turn, lost_turn, broken_turn}
 use Rattle.pas_large.proofs.running.claim_pages.Goals as goal
 
 pub loop-page-init : goal.loop-page-init
 loop-page-init g c = record { below = pages_none c.args.directory c.args.first; home = refl }
-
-pub claim_page-requires-clause-page : goal.claim_page-requires-clause-page
-claim_page-requires-clause-page g c = let i = c.loop-page.invariant in
-    subst (λ (s : Seat). IsPage s.profile c.loop-page.page) (sym i.below.so_far.adds.seat_is) (run_page (g.D.Desk.standing c.args.desk.now).seat.profile c.args.first c.args.end c.loop-page.page c.requires.first c.requires.region c.loop-page.auto.page c.loop-page-test.true)
-
-pub claim_page-requires-clause-directory : goal.claim_page-requires-clause-directory
-claim_page-requires-clause-directory g c = subst (λ (s : Seat). IsDirectoryOf s.profile c.args.directory) (sym c.loop-page.invariant.below.so_far.adds.seat_is) c.requires.directory
 
 pub claim_page-requires-clause-can : goal.claim_page-requires-clause-can
 claim_page-requires-clause-can g c = let i = c.loop-page.invariant in page_call c.args.directory c.args.first c.args.end c.loop-page.page c.loop-page-test.true i.below (may_claim c.args.end (omega arith) c.requires.can)

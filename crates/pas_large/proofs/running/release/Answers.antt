@@ -1,19 +1,10 @@
-use Rattle.std.proofs.Common.{refl, sym, ◌∙◌, subst, arith}
-use Rattle.pas_profile.specs.Profiles.{IsPage, IsDirectoryOf}
-use Rattle.pas_steps.specs.Desks.{Seat}
+use Rattle.std.proofs.Common.{refl, ◌∙◌, subst, arith}
 use Rattle.pas_large.specs.Claims.{Releases}
-use Rattle.pas_large.proofs.Claims.{run_page, left_none, leave_call, left_more}
+use Rattle.pas_large.proofs.Claims.{left_none, leave_call, left_more}
 use Rattle.pas_large.proofs.running.release.Goals as goal
 
 pub loop-page-init : goal.loop-page-init
 loop-page-init g c = record { so_far = left_none c.args.directory c.args.first; home = refl }
-
-pub put_and_leave-requires-clause-page : goal.put_and_leave-requires-clause-page
-put_and_leave-requires-clause-page g c = let i = c.loop-page.invariant in
-    subst (λ (s : Seat). IsPage s.profile c.loop-page.page) (sym i.so_far.calls.adds.seat_is) (run_page (g.D.Desk.standing c.args.desk.now).seat.profile c.args.first c.args.end c.loop-page.page c.requires.first c.requires.region c.loop-page.auto.page c.loop-page-test.true)
-
-pub put_and_leave-requires-clause-directory : goal.put_and_leave-requires-clause-directory
-put_and_leave-requires-clause-directory g c = subst (λ (s : Seat). IsDirectoryOf s.profile c.args.directory) (sym c.loop-page.invariant.so_far.calls.adds.seat_is) c.requires.directory
 
 pub put_and_leave-requires-clause-can : goal.put_and_leave-requires-clause-can
 put_and_leave-requires-clause-can g c = leave_call c.args.directory c.args.first c.args.end c.loop-page.page c.loop-page.auto.page c.loop-page-test.true c.loop-page.invariant.so_far c.requires.can
