@@ -22,7 +22,7 @@ use Rattle.pas_steps.proofs.Called.{call_none, call_step, call_then, next_step, 
 use Rattle.pas_steps.proofs.Calls.{does_as, does_then, does_none, does_idly, returns_are, does_step, does_after_nothing, kept_first}
 use Rattle.pas_steps.proofs.Sets.{both_fates, same_truth, kept_kept}
 use Rattle.pas_steps.proofs.Frames.{with_few, given_le}
-use Rattle.pas_steps.proofs.Adding.{room_left, adds_none, adds_step, can_step}
+use Rattle.pas_steps.proofs.Adding.{adds_none, adds_step, can_step}
 use Rattle.pas_large.proofs.Claims.{pages_call, call_knowing, span_wider, span_in, in_parts, span_past, span_none, span_more}
 use Rattle.pas_large.specs.Claims.{in_span, HasPages}
 use Rattle.pas_large.specs.Gives.{BackedRun, BacksRun, MayLeaveRun, left_run, LeavesRun, MayGiveBlock, run_block, give_steps, given_run, GaveBlock, GivesBlock, GaveRun, GivesRun, LeftRun}
@@ -202,9 +202,6 @@ module _ (d : Directory) (first n word : ℕ) where
 
     pub can_give : (given : Block) → given ≡ run_block d first n word → CanCall σ (λ v l. MayGiveBlock d first n v) → CanMake σ1 (Give given)
     can_give given is can = subst (λ b. CanMake σ1 (Give b)) (sym is) (can_step {step = Give block} look_adds can (record { first = omega (arith, low); last = omega (arith, region); heap = of_profile.heap; turn = omega arith }) (λ v l stood met. may_give_now v met l stood))
-
-    pub room_to_give : {spare1 : ℕ} → Spares σ1 spare1 → 1 ≤ spare → CanCall σ (λ v l. MayGiveBlock d first n v) → 1 ≤ spare1
-    room_to_give {spare1} spares1 one can = let now = spares can.view can.whole can.stood in room_left {spare = spare1} 1 look_adds can spares1 (omega (arith, now, one))
 
     gave : (answer : ℕ) (v : View) → Agreed f v (give_steps first block word answer) → GaveBlock first n block v (made (Give block) answer ∷ made (Look (Word.Life first 0)) word ∷ v)
     gave answer v agreed = record {

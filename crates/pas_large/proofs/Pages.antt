@@ -40,7 +40,7 @@ use Rattle.pas_steps.specs.Agreement.{Agreed}
 use Rattle.pas_steps.specs.Events.{with_event, events_by}
 use Rattle.pas_steps.specs.declared.step.Step.{Step}
 use Rattle.pas_steps.specs.declared.step.Step.TheVariants.{Look, Deed, TakeRight}
-use Rattle.pas_steps.proofs.Adding.{adds_none, adds_step, adds_call, adds_under, can_call, agreed_first, agreed_later}
+use Rattle.pas_steps.proofs.Adding.{adds_none, adds_step, adds_call, adds_under, agreed_first, agreed_later}
 use Rattle.pas_steps.proofs.Unknown.{unknown_stays, unknown_less}
 use Rattle.pas_rights.specs.Claims.{Claims}
 use Rattle.pas_scan.specs.Usable.{OfHere, ReadUsable, LeftAlone}
@@ -359,9 +359,6 @@ undone {v} grains rights apart lacks a b = record {
 }
 
 module _ (d : Directory) (page : ℕ) {σ σ1 : Standing} (get : GetsPage d page σ σ1 true) where
-  pub can_take : CanCall σ (λ v l. MayClaim page v) → CanCall σ1 (λ v l. MayServe page d v)
-  can_take can = can_call (adds_under get.adds (λ v l stood met. tt)) can (λ v l stood met. (get.outcome.leads.from v met (get.adds.agreed v l stood tt)).may)
-
   module _ {σ2 : Standing} {whole : Bool} (takes : TakesPage d page σ1 σ2 whole) where
     abbrev all : List Made
     all = takes.steps ++ get.steps
