@@ -27,19 +27,16 @@ use Rattle.pas_large.proofs.Claims.{has_got, room_after}
 use Rattle.pas_large.proofs.Pages.{undone}
 use Rattle.pas_large.proofs.Finds.{may_find}
 
-pub room_to_find : {σ : Standing} {f : Profile} {d : Directory} {spare : ℕ} (n : ℕ) → CanCall σ (λ v l. FindRoom f d (n + 1) spare v) → CanCall σ (λ v l. FindRoom f d 1 spare v)
-room_to_find n can = let room = can.met.room in record { view = can.view; whole = can.whole; stood = can.stood; met = record { may = can.met.may; room = omega (arith, room) } }
-
 -- what the search leaves
 pub record Ready (d : Directory) (n first : ℕ) (v w : View) : Type 0 where
   pub got : GotPages (in_span first (first + n)) d v w
   pub lacked : (p : ℕ) → in_span first (first + n) p ≡ true → has_right v p ≡ false
 
 module _ {σ σ1 : Standing} (d : Directory) (n first : ℕ) (find : Finds d n σ σ1 (Some first)) where
-  pub found_call : Calls σ σ1 (MayFind d) (Ready d n first) find.steps
+  found_call : Calls σ σ1 (MayFind d) (Ready d n first) find.steps
   found_call = record { adds = find.adds; leads = record { from = λ v met agreed. record { got = find.outcome.got.from v met agreed; lacked = find.outcome.lacked.from v met agreed } } }
 
-  pub has_pages : (v : View) → MayFind d v → Ready d n first v (find.steps ++ v) → HasPages d first (first + n) (find.steps ++ v)
+  has_pages : (v : View) → MayFind d v → Ready d n first v (find.steps ++ v) → HasPages d first (first + n) (find.steps ++ v)
   has_pages v met ready = has_got d first (first + n) met.clear ready.got
 
   pub can_give_run : CanCall σ (λ v l. MayFind d v) → CanCall σ1 (λ v l. HasPages d first (first + n) v)

@@ -59,21 +59,21 @@ span_none first p = grind (arith, nat_tests)
 pub span_more : (first page p : ℕ) → first ≤ page → (in_span first page p || (page == p)) ≡ in_span first (page + 1) p
 span_more first page p low = grind (arith, nat_tests)
 
-pub not_in : (first page p : ℕ) → first ≤ page → in_span first (page + 1) p ≡ false → p ≢ page
+not_in : (first page p : ℕ) → first ≤ page → in_span first (page + 1) p ≡ false → p ≢ page
 not_in first page p low out e = true≢false (sym (span_in first (page + 1) p (omega (arith, e, low)) (omega (arith, e))) ∙ out)
 
-pub span_apart : (first page p : ℕ) → p ≢ page → in_span first page p ≡ false → in_span first (page + 1) p ≡ false
+span_apart : (first page p : ℕ) → p ≢ page → in_span first page p ≡ false → in_span first (page + 1) p ≡ false
 span_apart first page p ne out = grind (arith, nat_tests)
 
 -- ---- effects on sets of pages
-pub got_none : (d : Directory) (pages : ℕ → Bool) (v : View) → ((p : ℕ) → pages p ≡ false) → Does nothing v v → GotPages pages d v v
+got_none : (d : Directory) (pages : ℕ → Bool) (v : View) → ((p : ℕ) → pages p ≡ false) → Does nothing v v → GotPages pages d v v
 got_none d pages v none does = record {
   does = does_as (of_pages pages Gained) does (λ g. inl (ap (λ t. if t then Gained else Kept) (sym (none (g / 256))))) (λ q. ap (λ t. if t then Gained else Kept) (sym (none q))) (λ q h. h);
   apart = λ g h. absurd (true≢false (sym h ∙ none (g / 256)));
   deeds = λ p h. absurd (true≢false (sym h ∙ none p));
 }
 
-pub got_both : {v w u : View} (d : Directory) (a b c : ℕ → Bool) → ((p : ℕ) → (a p || b p) ≡ c p) → GotPages a d v w → GotPages b d w u → ((p : ℕ) → KnowsDeed p d w → KnowsDeed p d u) → GotPages c d v u
+got_both : {v w u : View} (d : Directory) (a b c : ℕ → Bool) → ((p : ℕ) → (a p || b p) ≡ c p) → GotPages a d v w → GotPages b d w u → ((p : ℕ) → KnowsDeed p d w → KnowsDeed p d u) → GotPages c d v u
 got_both {v} {w} {u} d a b c same first second knows = record {
   does = does_as (of_pages c Gained) (does_then first.does second.does) (λ g. inl (both_fates Gained (a (g / 256)) (b (g / 256)) (c (g / 256)) refl (same (g / 256)))) (λ q. both_fates Gained (a q) (b q) (c q) refl (same q)) (λ q h. h);
   apart = λ g h. elim (cases_Bool (a (g / 256))) [
@@ -83,7 +83,7 @@ got_both {v} {w} {u} d a b c same first second knows = record {
   deeds = λ p h. elim (cases_Bool (a p)) [ inl here ↦ knows p (first.deeds p here) | inr other ↦ second.deeds p (ap (λ t. t || b p) (sym other) ∙ same p ∙ h) ];
 }
 
-pub got_still : {v w u : View} (d : Directory) (a : ℕ → Bool) → GotPages a d v w → Does nothing w u → ((p : ℕ) → KnowsDeed p d w → KnowsDeed p d u) → GotPages a d v u
+got_still : {v w u : View} (d : Directory) (a : ℕ → Bool) → GotPages a d v w → Does nothing w u → ((p : ℕ) → KnowsDeed p d w → KnowsDeed p d u) → GotPages a d v u
 got_still d a first second knows = record { does = does_then first.does second; apart = first.apart; deeds = λ p h. knows p (first.deeds p h) }
 
 pub got_after : {v w u : View} (a : ℕ → Bool) (d : Directory) → Does nothing v w → GotPages a d w u → GotPages a d v u
@@ -102,7 +102,7 @@ not_deeded : (q p : ℕ) (s : Step) (x : Directory) → p ≢ q → IsOnPage q s
 not_deeded q p s x ne (IsOnPage.Deeds d) e = let same : q ≡ p = cc in ne (sym same)
 not_deeded q p s x ne on e = cc
 
-pub alone_on : (q p : ℕ) (ys xs : List Made) → OnlyOn q ys → p ≢ q → LeftAlone p xs → LeftAlone p (ys ++ xs)
+alone_on : (q p : ℕ) (ys xs : List Made) → OnlyOn q ys → p ≢ q → LeftAlone p xs → LeftAlone p (ys ++ xs)
 alone_on q p ys xs on ne alone = record {
   right = right_on q p ys xs on ne ∙ alone.right;
   none = λ g at. holds_on_page q g ys xs on (λ e. ne (sym at ∙ e)) ∙ alone.none g at;
@@ -110,7 +110,7 @@ alone_on q p ys xs on ne alone = record {
   deeds = always_both (λ m before. IsOnPage q m.step) (MakesNoDeedHere p) ys xs (λ m before h x e z. not_deeded q p m.step x ne h e) on alone.deeds;
 }
 
-pub full_set : (g : ℕ) → g < 256 → is_set full g ≡ true
+full_set : (g : ℕ) → g < 256 → is_set full g ≡ true
 full_set g lt = four_words (2 ^ 64 - 1) (2 ^ 64 - 1) (2 ^ 64 - 1) (2 ^ 64 - 1) (λ x. true) (λ x h. full_bit x h) (λ x h. full_bit x h) (λ x h. full_bit x h) (λ x h. full_bit x h) g lt
 
 -- ---- the claim of the pages of a run, one page more, and how they are left
@@ -135,20 +135,23 @@ pub record ClaimedBelow (d : Directory) (first page : ℕ) (desk desk' : Standin
   pub alone : (before : List Made) → AloneFrom first before → AloneFrom page (so_far.steps ++ before)
 
 pub pages_none : {σ : Standing} (d : Directory) (first : ℕ) → ClaimedBelow d first first σ σ
-pages_none d first = record { alone = λ before alone. alone; so_far = record {
-  steps = [];
-  adds = adds_none;
-  kinds = tt;
-  few = omega arith;
-  deeds = tt;
-  shows = λ k v agreed. omega arith;
-  span = (omega arith, omega arith);
-  got = record { from = λ v met agreed. got_none d (in_span first first) v (span_none first) (does_none v) };
-  holding = λ before alone. record { right = λ p low high. absurd (omega (arith, low, high)); whole = λ p word low high lt. absurd (omega (arith, low, high)) };
-  lacks = λ before none p out. none p;
-  alone = λ before alone p ge. alone p (omega (arith, ge));
-  failed = λ lt. absurd (omega (arith, lt));
-} }
+pages_none d first = record {
+  alone = λ before alone. alone;
+  so_far = record {
+    steps = [];
+    adds = adds_none;
+    kinds = tt;
+    few = omega arith;
+    deeds = tt;
+    shows = λ k v agreed. omega arith;
+    span = (omega arith, omega arith);
+    got = record { from = λ v met agreed. got_none d (in_span first first) v (span_none first) (does_none v) };
+    holding = λ before alone. record { right = λ p low high. absurd (omega (arith, low, high)); whole = λ p word low high lt. absurd (omega (arith, low, high)) };
+    lacks = λ before none p out. none p;
+    alone = λ before alone p ge. alone p (omega (arith, ge));
+    failed = λ lt. absurd (omega (arith, lt));
+  };
+}
 
 abbrev MadeIn : Directory → ℕ → ℕ → Made → List Made → Type 0
 MadeIn d first end m before = (p : ℕ) (e : Directory) → m.step ≡ Deed p e → m.answer ≡ 0 → (e ≡ d) × (first ≤ p) × (p < end)
@@ -211,12 +214,6 @@ module _ {σ σ1 : Standing} (d : Directory) (first end page : ℕ) (high : page
       right = λ p ge lt. ap (λ s. has_right s p) (all_at before) ∙ right_on page p ys (xs ++ before) h.on (λ e. absurd (omega (arith, e, lt))) ∙ old.right p ge lt;
       whole = λ p word ge lt small. subst (Since (TakenWholeHere p word) (KeptHere p)) (sym (all_at before)) (since_more (TakenWholeHere p word) (KeptHere p) (λ m c. IsOnPage page m.step) ys (xs ++ before) (λ m c is on. right_on page p c (xs ++ before) on (λ e. absurd (omega (arith, e, lt))) ∙ old.right p ge lt) h.on (old.whole p word ge lt small));
     }
-
-    agreed_ys : (v : View) → Agreed σ.seat.profile v (ys ++ xs) → Agreed σ.seat.profile (xs ++ v) ys
-    agreed_ys v agreed = agreed_first σ.seat.profile v ys xs agreed
-
-    agreed_xs : (v : View) → Agreed σ.seat.profile v (ys ++ xs) → Agreed σ.seat.profile v xs
-    agreed_xs v agreed = agreed_later σ.seat.profile v ys xs agreed
 
     -- it was lost or broken
     stopped : Leads σ.seat.profile (MayClaim page) (Does nothing) h.steps → ((before : List Made) → has_right before page ≡ false → has_right (h.steps ++ before) page ≡ false) → FailsAt σ.seat.profile d first page (h.steps ++ so_far.steps) → ClaimsPages d first end σ σ2 page
@@ -335,8 +332,8 @@ left_more d first page low so_far h =
       steps = ys ++ so_far.steps;
       calls = call_then (Does (of_pages (in_span first (page + 1)) Lost)) (known d first (page + 1) page low (omega arith) so_far) h.calls (leave_may d first (page + 1) page low (omega arith) so_far)
           (λ v met a b. does_as (of_pages (in_span first (page + 1)) Lost) (does_then a.0 b)
-              (λ g. inl (both_fates Lost (in_span first page (g / 256)) (masked page full g) (in_span first (page + 1) (g / 256)) refl (ap (λ t. in_span first page (g / 256) || t) (on_full page g) ∙ span_more first page (g / 256) low)))
-              (λ q. both_fates Lost (in_span first page q) (page == q) (in_span first (page + 1) q) refl (span_more first page q low)) (λ q h. h));
+          (λ g. inl (both_fates Lost (in_span first page (g / 256)) (masked page full g) (in_span first (page + 1) (g / 256)) refl (ap (λ t. in_span first page (g / 256) || t) (on_full page g) ∙ span_more first page (g / 256) low)))
+          (λ q. both_fates Lost (in_span first page q) (page == q) (in_span first (page + 1) q) refl (span_more first page q low)) (λ q h. h));
       kinds = only_both giving_back ys so_far.steps h.kinds so_far.kinds;
       few = let n = length-append ys so_far.steps in let a = h.few in let b = so_far.few in omega (arith, n, a, b, low);
       lacks = λ before p none. ap (λ s. has_right s p) (append_assoc ys so_far.steps before) ∙ elim (cases_eq p page) [

@@ -58,7 +58,7 @@ alone_looks p ys xs looks alone =
     }
 
 -- the search found no run
-pub vain_ends : (f : Profile) (d : Directory) (n from : ℕ) (ys xs : List Made) → 1 ≤ from → VainSoFar d n from xs → HasNoRun f d from n ys → IsVain f d n (ys ++ xs)
+vain_ends : (f : Profile) (d : Directory) (n from : ℕ) (ys xs : List Made) → 1 ≤ from → VainSoFar d n from xs → HasNoRun f d from n ys → IsVain f d n (ys ++ xs)
 vain_ends f d n from ys xs some so_far none = record {
   deeds = λ p of. elim (cases_lt p from) [
     | inl low ↦ once_later (DeedReadHere p) ys xs (so_far.deeds p of.0 low)
@@ -75,16 +75,16 @@ module _ (f : Profile) (d : Directory) (n from first : ℕ) (some : 1 ≤ from) 
   abbrev before : List Made
   before = ys ++ xs
 
-  pub first_alone : AloneFrom first (ys ++ xs)
+  first_alone : AloneFrom first (ys ++ xs)
   first_alone p ge = let low = found.from_there in alone_looks p ys xs looks (so_far.alone p (omega (arith, low, ge)))
 
-  pub all_usable : AllUsable d n first (ys ++ xs)
+  all_usable : AllUsable d n first (ys ++ xs)
   all_usable p here = let low = found.from_there in let ge = here.0 in usable_before d p ys xs (so_far.alone p (omega (arith, low, ge))) (found.usable p here)
 
-  pub usable_still : (b : List Made) → AllUsable d n first (b ++ (ys ++ xs))
+  usable_still : (b : List Made) → AllUsable d n first (b ++ (ys ++ xs))
   usable_still b p here = usable_later d p b before (all_usable p here)
 
-  pub lower_bad : (zs : List Made) (s : ℕ) → 1 ≤ s → s < first → HasBad d n s (zs ++ (ys ++ xs))
+  lower_bad : (zs : List Made) (s : ℕ) → 1 ≤ s → s < first → HasBad d n s (zs ++ (ys ++ xs))
   lower_bad zs s low lt = elim (cases_lt s from) [
     | inl below ↦ bad_later d n s zs before (bad_later d n s ys xs (so_far.runs s low below))
     | inr above ↦ bad_later d n s zs before (unusable_bad d n from s ys xs so_far.alone above (found.lower s above lt))
@@ -98,7 +98,7 @@ module _ (f : Profile) (d : Directory) (n from first : ℕ) (some : 1 ≤ from) 
       | inr broken ↦ once_map (λ m b. BrokenHere page m (b ++ before)) (λ m b. LostHere d page m (b ++ before) ⊎ BrokenHere page m (b ++ before)) zs (λ m b x. inr x) broken
     ]
 
-    pub vain_goes_on : VainSoFar d n (page + 1) (zs ++ (ys ++ xs))
+    vain_goes_on : VainSoFar d n (page + 1) (zs ++ (ys ++ xs))
     vain_goes_on = record {
       runs = λ s low lt. elim (cases_lt s first) [
         | inl early ↦ lower_bad zs s low early
@@ -112,7 +112,7 @@ module _ (f : Profile) (d : Directory) (n from first : ℕ) (some : 1 ≤ from) 
       alone = fails.alone before first_alone;
     }
 
-    pub run_has_failed : HasFailed d n first (zs ++ (ys ++ xs))
+    run_has_failed : HasFailed d n first (zs ++ (ys ++ xs))
     run_has_failed = once_earlier (λ m b. LostHere d page m (b ++ before) ⊎ BrokenHere page m (b ++ before)) (FailsHere d n first) zs before (λ m b x. (usable_still b, (page, (fails.in_run.0, fails.in_run.1), x))) failed
 
 -- ---- the search for a run that can be claimed, one run more

@@ -86,8 +86,10 @@ module _ {σ σ1 : Standing} (d : Directory) (first end page : ℕ) (low : first
     steps = made (Back page) a ∷ xs;
     calls = call_step (BackedRun first end) so_calls makes may_back (λ v met old agrees. subst (λ q. BackedRun first q v (made (Back page) a ∷ (xs ++ v))) (sym last) (now_backed a v met old agrees));
     kinds = (refl, so_far.kinds);
-    backs = ((λ q e. let same : page ≡ q = cc in (omega (arith, same, low), omega (arith, same, high))),
-        always_map (λ m before. (q : ℕ) → m.step ≡ Back q → (first ≤ q) × (q < page)) (λ m before. (q : ℕ) → m.step ≡ Back q → (first ≤ q) × (q < end)) xs (λ m before h q e. let its = h q e in let lt = its.1 in (its.0, omega (arith, lt, high))) so_far.backs);
+    backs = (
+      (λ q e. let same : page ≡ q = cc in (omega (arith, same, low), omega (arith, same, high))),
+      always_map (λ m before. (q : ℕ) → m.step ≡ Back q → (first ≤ q) × (q < page)) (λ m before. (q : ℕ) → m.step ≡ Back q → (first ≤ q) × (q < end)) xs (λ m before h q e. let its = h q e in let lt = its.1 in (its.0, omega (arith, lt, high))) so_far.backs,
+    );
     few = let few = so_far.few in omega (arith, few, low, high);
   }
 
@@ -119,8 +121,8 @@ module _ {σ σ1 : Standing} (d : Directory) (first end page : ℕ) (low : first
 pub left_run_more : {σ σ1 σ2 : Standing} (d : Directory) (first page : ℕ) → first ≤ page → LeavesRun d first page σ σ1 → Leaves page d σ1 σ2 → LeavesRun d first (page + 1) σ σ2
 left_run_more d first page low so_far h =
     let calls = call_then (Does (left_run first (page + 1))) (so_left d first (page + 1) page low (omega arith) so_far) h.calls (may_leave d first (page + 1) page low (omega arith) so_far)
-        (λ v met a b. does_as (left_run first (page + 1)) (does_then a.0.does b.does) (λ g. inl refl) (λ q. both_fates Lost (in_span first page q) (page == q) (in_span first (page + 1) q) refl (span_more first page q low))
-        (λ q c. subst (λ t. ClearAfter t q v (h.steps ++ (so_far.steps ++ v))) (kept_kept (page == q)) c)) in
+    (λ v met a b. does_as (left_run first (page + 1)) (does_then a.0.does b.does) (λ g. inl refl) (λ q. both_fates Lost (in_span first page q) (page == q) (in_span first (page + 1) q) refl (span_more first page q low))
+    (λ q c. subst (λ t. ClearAfter t q v (h.steps ++ (so_far.steps ++ v))) (kept_kept (page == q)) c)) in
     record {
       steps = h.steps ++ so_far.steps;
       calls = call_as (LeftRun d first (page + 1)) (call_knowing d (in_span first (page + 1)) calls (λ v met. met.deeds)) (λ v met. met) (λ v w met left. record { does = left.0; deeds = left.1 });
