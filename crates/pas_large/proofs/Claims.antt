@@ -113,7 +113,7 @@ alone_on q p ys xs on ne alone = record {
 full_set : (g : ℕ) → g < 256 → is_set full g ≡ true
 full_set g lt = four_words (2 ^ 64 - 1) (2 ^ 64 - 1) (2 ^ 64 - 1) (2 ^ 64 - 1) (λ x. true) (λ x h. full_bit x h) (λ x h. full_bit x h) (λ x h. full_bit x h) (λ x h. full_bit x h) g lt
 
--- ---- the claim of the pages of a run, one page more, and how they are left
+-- ---- the claim of the pages of a run, one page more
 pub run_page : (f : Profile) (first end page : ℕ) → 1 ≤ first → end ≤ f.pages + 1 → first ≤ page → page < end → IsPage f page
 run_page f first end page some region low high = (omega (arith, some, low), omega (arith, region, high))
 
@@ -268,7 +268,7 @@ pub won_turn : {σ σ1 σ2 : Standing} (d : Directory) (first page : ℕ) → Cl
 unfolding won_claims turned
 won_turn d first page below h = record { so_far = won_claims d first (page + 1) page (omega arith) below h refl h.outcome; alone = turn_alone d first (page + 1) page (omega arith) below h }
 
--- ---- the pages are left
+-- ---- the pages are left, one page more
 pub has_got : {v w : View} (d : Directory) (first stop : ℕ) → IsClear v → GotPages (in_span first stop) d v w → HasPages d first stop w
 has_got {v} d first stop clear got = record {
   right = λ p is. got.does.right p ∙ ap (λ t. now (if t then Gained else Kept) (has_right v p)) is;

@@ -116,7 +116,7 @@ module _ (f : Profile) (d : Directory) (n from first : ℕ) (some : 1 ≤ from) 
     run_has_failed = once_earlier (λ m b. LostHere d page m (b ++ before) ⊎ BrokenHere page m (b ++ before)) (FailsHere d n first) zs before (λ m b x. (usable_still b, (page, (fails.in_run.0, fails.in_run.1), x))) failed
 
 -- ---- the search for a run that can be claimed, one run more
--- ---- a page that was read as having no deed isn't known to have one
+-- a page that was read as having no deed isn't known to have one
 read_unknown : (f : Profile) (v : View) (p : ℕ) (s : Step) (a : ℕ) → ReadsDeed p s → Agrees f v s a → a ≡ 0 → known_deed v p ≢ 0 → ⊥
 read_unknown f v p s a ReadsDeed.Looks agrees z known = known (sym (agrees.known known) ∙ z)
 read_unknown f v p s a (ReadsDeed.Deeds d) agrees z known = known (sym (agrees.known known) ∙ z)

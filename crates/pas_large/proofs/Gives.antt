@@ -35,8 +35,7 @@ use Rattle.pas_profile.proofs.Runs.{run_of, to_run}
 use Rattle.pas_steps.specs.Lists.{Whole}
 use Rattle.pas_large.specs.Pages.{of_pages}
 
--- ---- the pages of a run are backed, and left, one page more
--- ---- backs
+-- ---- the pages are backed, one page more
 pub backed_none : {σ : Standing} (d : Directory) (first : ℕ) → BacksRun d first first σ σ
 backed_none d first = record {
   steps = [];
@@ -93,7 +92,7 @@ module _ {σ σ1 : Standing} (d : Directory) (first end page : ℕ) (low : first
     few = let few = so_far.few in omega (arith, few, low, high);
   }
 
--- ---- leaves
+-- ---- and left
 pub left_run_none : {σ : Standing} (d : Directory) (first : ℕ) → LeavesRun d first first σ σ
 left_run_none d first = record {
   steps = [];

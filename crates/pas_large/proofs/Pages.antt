@@ -193,7 +193,7 @@ module _ (d : Directory) (page : ℕ) (got : Mask4) {σ σ1 : Standing} (taken :
     }
 
 -- ---- the right of a page of a run: a look at its deed word, and a claim or a deed
--- ---- a deed that was read is known
+-- a deed that was read is known
 read_here : (p : ℕ) (a known : ℕ) → (if p == p then a else known) ≡ a
 read_here p a known = ap (λ t. if t then a else known) (eq-eqb p p refl)
 
