@@ -1,29 +1,13 @@
-use Rattle.std.proofs.Common.{◌≤◌, ◌+◌, sym, subst}
 use Rattle.pas_scan.specs.Runs.{large_directory}
-use Rattle.pas_steps.specs.Desks.{Seat}
-use Rattle.pas_steps.proofs.Adding.{can_call}
-use Rattle.pas_large.proofs.LargeBlocks.{room_to_find, found, can_give_run, room_to_give_run, allocates, refuses_large}
-use Rattle.pas_large.proofs.RunSearches.{may_find}
+use Rattle.pas_large.proofs.Allocates.{can_give_run, room_to_give_run, allocates, refuses_large}
+use Rattle.pas_large.proofs.Finds.{may_find}
 use Rattle.pas_large.proofs.allocating.alloc.Goals as goal
-
-pub find_run-requires-clause-can : goal.find_run-requires-clause-can
-find_run-requires-clause-can g c = room_to_find c.args.pages c.requires.can
-
-pub give_run-requires-clause-region : goal.give_run-requires-clause-region
-give_run-requires-clause-region g c = let find = c.in-Some.ensures.finds in
-    subst (λ (s : Seat). c.in-Some.first + c.args.pages ≤ s.profile.pages + 1) (sym find.adds.seat_is) (found (large_directory c.args.heap) c.args.pages c.in-Some.first find).of_region.1
-
-pub give_run-requires-clause-first : goal.give_run-requires-clause-first
-give_run-requires-clause-first g c = (found (large_directory c.args.heap) c.args.pages c.in-Some.first c.in-Some.ensures.finds).of_region.0
 
 pub give_run-requires-clause-can : goal.give_run-requires-clause-can
 give_run-requires-clause-can g c = can_give_run (large_directory c.args.heap) c.args.pages c.in-Some.first c.in-Some.ensures.finds (may_find c.requires.can)
 
 pub give_run-requires-clause-room : goal.give_run-requires-clause-room
 give_run-requires-clause-room g c = room_to_give_run (large_directory c.args.heap) c.args.pages c.in-Some.first c.in-Some.ensures.finds (g.D.Desk.spare_of c.args.desk.now) _ c.requires.can (g.met.D.Desk.spares c.args.desk.now) (g.met.D.Desk.spares c.find_run.new.desk)
-
-pub refuse-requires-clause-can : goal.refuse-requires-clause-can
-refuse-requires-clause-can g c = can_call c.in-None.ensures.finds.adds (may_find c.requires.can) (λ v l stood met. tt)
 
 pub returns-in-Some-clause-allocates : goal.returns-in-Some-clause-allocates
 returns-in-Some-clause-allocates g c = allocates c.args.heap c.args.pages c.in-Some.first c.in-Some.ensures.finds c.give_run.result c.give_run.ensures.gives

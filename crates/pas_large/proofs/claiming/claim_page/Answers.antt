@@ -1,11 +1,8 @@
-use Rattle.pas_large.proofs.PageClaims.{claim_lost, can_take, claim_whole, claim_broken}
+use Rattle.pas_large.proofs.Pages.{claim_lost, claim_whole, claim_broken}
 use Rattle.pas_large.proofs.claiming.claim_page.Goals as goal
 
 pub returns-then-not-get_right-clause-claims : goal.returns-then-not-get_right-clause-claims
 returns-then-not-get_right-clause-claims g c = claim_lost c.args.directory c.args.page c.if-not-get_right.ensures.gets
-
-pub take_whole-requires-clause-can : goal.take_whole-requires-clause-can
-take_whole-requires-clause-can g c = can_take c.args.directory c.args.page c.if-not-get_right.ensures.gets c.requires.can
 
 pub returns-then-take_whole-clause-claims : goal.returns-then-take_whole-clause-claims
 returns-then-take_whole-clause-claims g c = claim_whole c.args.directory c.args.page c.if-not-get_right.ensures.gets c.if-take_whole.ensures.takes

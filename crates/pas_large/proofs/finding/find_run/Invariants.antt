@@ -1,6 +1,6 @@
 use Rattle.std.proofs.Common.{◌≡◌, ◌≤◌, ◌+◌, ◌-◌}
 use Rattle.pas_scan.specs.Runs.{large_directory}
-use Rattle.pas_large.proofs.RunSearches.{SearchedRuns}
+use Rattle.pas_large.proofs.Finds.{SearchedRuns}
 use Rattle.pas_large.proofs.finding.find_run.Given as goal
 
 -- no run that begins below this page can serve

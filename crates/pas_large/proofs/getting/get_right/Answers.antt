@@ -1,5 +1,5 @@
 use Rattle.std.proofs.Common.{sym, ◌∙◌}
-use Rattle.pas_large.proofs.PageRights.{claim_gets, deed_gets}
+use Rattle.pas_large.proofs.Pages.{claim_gets, deed_gets}
 use Rattle.pas_large.proofs.getting.get_right.Goals as goal
 
 pub returns-then-deed-deed_word-clause-gets : goal.returns-then-deed-deed_word-clause-gets

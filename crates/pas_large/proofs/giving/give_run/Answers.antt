@@ -1,11 +1,14 @@
-use Rattle.pas_large.proofs.WholeGives.{can_give_block, room_for_block, can_leave_run, gives_run}
+use Rattle.std.proofs.Common.{length, arith}
+use Rattle.pas_search.proofs.ForBackEnds.{room_after}
+use Rattle.pas_large.proofs.Gives.{can_give_block, back_events, can_leave_run, gives_run}
 use Rattle.pas_large.proofs.giving.give_run.Goals as goal
 
 pub give_block-block-requires-clause-can : goal.give_block-block-requires-clause-can
 give_block-block-requires-clause-can g c = can_give_block c.args.directory c.args.first c.args.pages c.back_run.ensures.backs c.requires.can
 
 pub give_block-block-requires-clause-room : goal.give_block-block-requires-clause-room
-give_block-block-requires-clause-room g c = room_for_block c.args.directory c.args.first c.args.pages c.back_run.ensures.backs c.requires.can (g.D.Desk.spare_of c.args.desk.now) _ c.requires.room (g.met.D.Desk.spares c.args.desk.now) (g.met.D.Desk.spares c.back_run.new.desk)
+give_block-block-requires-clause-room g c = let backs = c.back_run.ensures.backs in let few = backs.few in let room = c.requires.room in
+    room_after {spare = g.D.Desk.spare_of c.args.desk.now} {spare' = g.D.Desk.spare_of c.back_run.new.desk} 1 (length backs.steps) backs.calls.adds c.requires.can (λ k v. back_events k v backs.steps) (g.met.D.Desk.spares c.args.desk.now) (g.met.D.Desk.spares c.back_run.new.desk) (omega (arith, few, room))
 
 pub leave_run-requires-clause-can : goal.leave_run-requires-clause-can
 leave_run-requires-clause-can g c = can_leave_run c.args.directory c.args.first c.args.pages c.back_run.ensures.backs c.give_block-block.result c.give_block-block.ensures.gives c.requires.can

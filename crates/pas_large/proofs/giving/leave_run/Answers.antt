@@ -1,27 +1,18 @@
-use Rattle.std.proofs.Common.{refl, sym, ◌∙◌, subst, arith}
-use Rattle.pas_profile.specs.Profiles.{IsPage, IsDirectoryOf}
-use Rattle.pas_steps.specs.Desks.{Seat}
-use Rattle.pas_large.proofs.RunClaims.{run_page}
-use Rattle.pas_large.proofs.RunGives.{left_run_none, can_leave_next, left_run_more, leaves_all}
+use Rattle.std.proofs.Common.{refl, ◌∙◌, subst, arith}
+use Rattle.pas_large.specs.Gives.{LeavesRun}
+use Rattle.pas_large.proofs.Gives.{left_run_none, can_leave_next, left_run_more}
 use Rattle.pas_large.proofs.giving.leave_run.Goals as goal
 
 pub loop-page-init : goal.loop-page-init
-loop-page-init g c = record { so_far = left_run_none c.args.directory c.args.first c.args.end; home = refl }
-
-pub leave-requires-clause-page : goal.leave-requires-clause-page
-leave-requires-clause-page g c = let i = c.loop-page.invariant in
-    subst (λ (s : Seat). IsPage s.profile c.loop-page.page) (sym i.so_far.calls.adds.seat_is) (run_page (g.D.Desk.standing c.args.desk.now).seat.profile c.args.first c.args.end c.loop-page.page c.requires.first c.requires.region c.loop-page.auto.page c.loop-page-test.true)
-
-pub leave-requires-clause-directory : goal.leave-requires-clause-directory
-leave-requires-clause-directory g c = subst (λ (s : Seat). IsDirectoryOf s.profile c.args.directory) (sym c.loop-page.invariant.so_far.calls.adds.seat_is) c.requires.directory
+loop-page-init g c = record { so_far = left_run_none c.args.directory c.args.first; home = refl }
 
 pub leave-requires-clause-can : goal.leave-requires-clause-can
 leave-requires-clause-can g c = can_leave_next c.args.directory c.args.first c.args.end c.loop-page.page c.loop-page.auto.page c.loop-page-test.true c.loop-page.invariant.so_far c.requires.can
 
 pub loop-page-preserved : goal.loop-page-preserved
 loop-page-preserved g c = let i = c.loop-page.invariant in
-    record { so_far = left_run_more c.args.directory c.args.first c.args.end c.loop-page.page c.loop-page.auto.page c.loop-page-test.true i.so_far c.leave.ensures.leaves; home = c.leave.ensures.home ∙ i.home }
+    record { so_far = left_run_more c.args.directory c.args.first c.loop-page.page c.loop-page.auto.page i.so_far c.leave.ensures.leaves; home = c.leave.ensures.home ∙ i.home }
 
 pub returns-clause-leaves : goal.returns-clause-leaves
 returns-clause-leaves g c = let past = c.loop-page-test.false in let most = c.loop-page.auto.page-end c.requires.span in
-    leaves_all c.args.directory c.args.first c.args.end c.loop-page.page (omega (arith, past, most)) c.requires.span c.loop-page.invariant.so_far
+    subst (λ p. LeavesRun c.args.directory c.args.first p (g.D.Desk.standing c.args.desk.now) (g.D.Desk.standing c.loop-page.desk)) (omega (arith, past, most)) c.loop-page.invariant.so_far

@@ -1,4 +1,4 @@
-use Rattle.pas_large.proofs.PutsBack.{can_leave, puts_and_leaves}
+use Rattle.pas_large.proofs.Pages.{can_leave, puts_and_leaves}
 use Rattle.pas_large.proofs.leaving.put_and_leave.Goals as goal
 
 pub leave-requires-clause-can : goal.leave-requires-clause-can

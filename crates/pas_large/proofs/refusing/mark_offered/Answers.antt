@@ -7,7 +7,7 @@ use Rattle.pas_steps.specs.declared.step.Step.TheVariants.{Look}
 use Rattle.pas_steps.specs.Frames.{IsScan}
 use Rattle.pas_steps.specs.Desks.{Makes, made}
 use Rattle.pas_steps.proofs.Adding.{adds_step}
-use Rattle.pas_large.proofs.Offers.{marked_more}
+use Rattle.pas_large.proofs.Refusals.{marked_more}
 use Rattle.pas_large.proofs.refusing.mark_offered.Goals as goal
 
 pub loop-block-preserved : goal.loop-block-preserved

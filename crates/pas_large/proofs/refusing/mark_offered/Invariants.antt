@@ -2,7 +2,7 @@ use Rattle.std.proofs.Common.{◌≡◌, List, length, ◌≤◌}
 use Rattle.pas_steps.specs.declared.step.Made.{Made}
 use Rattle.pas_steps.specs.Desks.{Anything, Adds}
 use Rattle.pas_steps.specs.Frames.{OnlyScans}
-use Rattle.pas_large.proofs.Offers.{MarkedBelow}
+use Rattle.pas_large.proofs.Refusals.{MarkedBelow}
 use Rattle.pas_large.proofs.refusing.mark_offered.Given as goal
 
 -- of the pages below this block those are marked that were read as offered

@@ -1,4 +1,4 @@
-use Rattle.pas_large.proofs.Reasons.{refuses_by}
+use Rattle.pas_large.proofs.Refusals.{refuses_by}
 use Rattle.pas_large.proofs.refusing.refuse.Goals as goal
 
 pub returns-clause-refuses : goal.returns-clause-refuses

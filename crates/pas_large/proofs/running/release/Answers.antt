@@ -1,26 +1,18 @@
-use Rattle.std.proofs.Common.{refl, sym, ◌∙◌, subst, arith}
-use Rattle.pas_profile.specs.Profiles.{IsPage, IsDirectoryOf}
-use Rattle.pas_steps.specs.Desks.{Seat}
-use Rattle.pas_large.proofs.RunClaims.{run_page, left_none, leave_call, left_more, releases_all}
+use Rattle.std.proofs.Common.{refl, ◌∙◌, subst, arith}
+use Rattle.pas_large.specs.Claims.{Releases}
+use Rattle.pas_large.proofs.Claims.{left_none, leave_call, left_more}
 use Rattle.pas_large.proofs.running.release.Goals as goal
 
 pub loop-page-init : goal.loop-page-init
-loop-page-init g c = record { so_far = left_none c.args.directory c.args.first c.args.end; home = refl }
-
-pub put_and_leave-requires-clause-page : goal.put_and_leave-requires-clause-page
-put_and_leave-requires-clause-page g c = let i = c.loop-page.invariant in
-    subst (λ (s : Seat). IsPage s.profile c.loop-page.page) (sym i.so_far.calls.adds.seat_is) (run_page (g.D.Desk.standing c.args.desk.now).seat.profile c.args.first c.args.end c.loop-page.page c.requires.first c.requires.region c.loop-page.auto.page c.loop-page-test.true)
-
-pub put_and_leave-requires-clause-directory : goal.put_and_leave-requires-clause-directory
-put_and_leave-requires-clause-directory g c = subst (λ (s : Seat). IsDirectoryOf s.profile c.args.directory) (sym c.loop-page.invariant.so_far.calls.adds.seat_is) c.requires.directory
+loop-page-init g c = record { so_far = left_none c.args.directory c.args.first; home = refl }
 
 pub put_and_leave-requires-clause-can : goal.put_and_leave-requires-clause-can
 put_and_leave-requires-clause-can g c = leave_call c.args.directory c.args.first c.args.end c.loop-page.page c.loop-page.auto.page c.loop-page-test.true c.loop-page.invariant.so_far c.requires.can
 
 pub loop-page-preserved : goal.loop-page-preserved
 loop-page-preserved g c = let i = c.loop-page.invariant in
-    record { so_far = left_more c.args.directory c.args.first c.args.end c.loop-page.page c.loop-page.auto.page c.loop-page-test.true i.so_far c.put_and_leave.ensures.leaves; home = c.put_and_leave.ensures.home ∙ i.home }
+    record { so_far = left_more c.args.directory c.args.first c.loop-page.page c.loop-page.auto.page i.so_far c.put_and_leave.ensures.leaves; home = c.put_and_leave.ensures.home ∙ i.home }
 
 pub returns-clause-releases : goal.returns-clause-releases
 returns-clause-releases g c = let past = c.loop-page-test.false in let most = c.loop-page.auto.page-end c.requires.span in
-    releases_all c.args.directory c.args.first c.args.end c.loop-page.page (omega (arith, past, most)) c.requires.span c.loop-page.invariant.so_far
+    subst (λ p. Releases c.args.directory c.args.first p (g.D.Desk.standing c.args.desk.now) (g.D.Desk.standing c.loop-page.desk)) (omega (arith, past, most)) c.loop-page.invariant.so_far

@@ -1,4 +1,4 @@
-use Rattle.pas_large.proofs.PageTakes.{keeps_all, can_put, leaves_broken}
+use Rattle.pas_large.proofs.Pages.{keeps_all, can_put, leaves_broken}
 use Rattle.pas_large.proofs.taking.take_whole.Goals as goal
 
 pub returns-in-None-clause-takes : goal.returns-in-None-clause-takes

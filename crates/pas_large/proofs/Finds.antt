@@ -1,39 +1,122 @@
 -- The search for a run that can be claimed, one run more.
-use Rattle.std.proofs.Common.{Option, ◌≡◌, ◌≢◌, ◌⊎◌, ℕ, ◌+◌, ◌<◌, ◌≤◌, true, List, [], ◌∷◌, ◌++◌, Some, None, inl, inr, refl, ap, sym, ◌∙◌, subst, arith, append_assoc, true≢false, length}
-use Rattle.std.proofs.lemmas.Bool.{cases_eq}
+use Rattle.pas_steps.proofs.SpareRoom.{Spares}
+use Rattle.std.proofs.Common.{ℕ, ◌+◌, ◌<◌, ◌≤◌, List, [], ◌++◌, refl, ◌∙◌, inl, inr, ◌⊎◌, arith, Option, ◌≡◌, ◌≢◌, true, ◌∷◌, Some, None, ap, sym, subst, append_assoc, true≢false, length}
+use Rattle.std.proofs.lemmas.Bool.{cases_lt, cases_eq}
 use Rattle.pas_profile.specs.declared.directory.Directory.{Directory}
 use Rattle.pas_profile.specs.declared.profile.Profile.{Profile}
+use Rattle.pas_steps.specs.Views.{View, known_deed, KnowsDeed}
 use Rattle.pas_steps.specs.Agreement.{Agreed, Agrees}
+use Rattle.pas_steps.specs.Past.{Once}
+use Rattle.pas_steps.specs.Kinds.{Only, kind_of, is_in}
+use Rattle.pas_scan.specs.Runs.{page_looks, HasUnusable, IsFirstRun, HasNoRun, IsInRun, FindsRun}
+use Rattle.pas_steps.specs.declared.step.Made.{Made}
+use Rattle.pas_steps.proofs.Past.{once_later, once_earlier, once_map, always_both, always_map}
+use Rattle.pas_scan.specs.Usable.{DeedReadHere, UnusableHere, LeftAlone, ParksNotHere, MakesNoDeedHere, ReadUsable}
+use Rattle.pas_scan.proofs.LeftPages.{usable_before, usable_later, unusable_before, left_alone_by, holds_own, deed_before, lacks_by}
+use Rattle.pas_steps.proofs.Frames.{right_own}
+use Rattle.pas_large.specs.Evidence.{LostHere, BrokenHere, BadHere, HasBad, IsVain, AllUsable, FailsHere, HasFailed, DeedsOf}
+use Rattle.pas_large.specs.Pages.{OnceAfter, GotPages, OnlyDeedsShow}
+use Rattle.pas_large.specs.Claims.{AloneFrom, FailsRun, in_span, MayClaimPages, HasRunRoom, LacksAll, ClaimsRun, HoldsRun}
 use Rattle.pas_steps.specs.Calls.{Leads, nothing, Does}
 use Rattle.pas_steps.specs.Desks.{Seat, Standing, Adds, CanCall, triples}
 use Rattle.pas_steps.specs.Evidence.{ReadsDeed, NoDeedHere}
-use Rattle.pas_steps.specs.Kinds.{kind_of, is_in, Only}
-use Rattle.pas_steps.specs.Past.{Once}
-use Rattle.pas_steps.specs.Views.{View, known_deed, KnowsDeed}
-use Rattle.pas_steps.specs.declared.step.Made.{Made}
 use Rattle.pas_steps.specs.declared.step.Step.{Step}
 use Rattle.pas_steps.specs.declared.step.Step.TheVariants.{Deed}
 use Rattle.pas_steps.proofs.Adding.{adds_none, adds_call, agreed_first, agreed_later}
 use Rattle.pas_steps.proofs.Apart.{no_events}
 use Rattle.pas_steps.proofs.Calls.{does_none, leads_none, leads_idly, leads_then, does_then, still_clear}
-use Rattle.pas_steps.proofs.Frames.{right_own}
 use Rattle.pas_steps.proofs.Kept.{deed_stays}
-use Rattle.pas_steps.proofs.Past.{always_map, always_both, once_later}
 use Rattle.pas_steps.proofs.Unknown.{unknown_stays}
-use Rattle.pas_scan.specs.Runs.{page_looks, IsInRun, FindsRun, IsFirstRun, HasNoRun}
-use Rattle.pas_scan.specs.Usable.{ReadUsable}
-use Rattle.pas_scan.proofs.LeftPages.{lacks_by, left_alone_by}
-use Rattle.pas_large.specs.Claims.{in_span, MayClaimPages, HasRunRoom, LacksAll, ClaimsRun, HoldsRun, FailsRun}
-use Rattle.pas_large.specs.Evidence.{HasFailed, DeedsOf, AllUsable}
 use Rattle.pas_large.specs.Finds.{MayFind, FindRoom, Finds}
-use Rattle.pas_large.specs.Pages.{GotPages, OnlyDeedsShow}
-use Rattle.pas_large.proofs.PageClaims.{shows_both}
-use Rattle.pas_large.proofs.PageRights.{known_of}
-use Rattle.pas_large.proofs.RunClaims.{HasSpares, room_after}
-use Rattle.pas_large.proofs.Spans.{in_parts, got_after}
-use Rattle.pas_large.proofs.Vain.{VainSoFar, vain_begins, vain_past, vain_ends, first_alone, all_usable, usable_still, lower_bad, vain_goes_on, run_has_failed}
+use Rattle.pas_large.proofs.Pages.{shows_both, known_of}
+use Rattle.pas_large.proofs.Claims.{room_after, in_parts, got_after}
 
--- ---- a page that was read as having no deed isn't known to have one
+-- ---- the search of runs so far: each run that begins below the next page can't serve
+pub record VainSoFar (d : Directory) (n from : ℕ) (steps : List Made) : Type 0 where
+  pub runs : (first : ℕ) → 1 ≤ first → first < from → HasBad d n first steps
+  pub deeds : (page : ℕ) → 1 ≤ page → page < from → Once (DeedReadHere page) steps
+  pub alone : AloneFrom from steps
+
+bad_later : (d : Directory) (n first : ℕ) (ys xs : List Made) → HasBad d n first xs → HasBad d n first (ys ++ xs)
+bad_later d n first ys xs h = (h.0, h.1, once_later (BadHere d h.0) ys xs h.2)
+
+-- a page that was read as not usable, on pages that the steps before left alone
+unusable_bad : (d : Directory) (n from first : ℕ) (ys xs : List Made) → AloneFrom from xs → from ≤ first → HasUnusable d n first ys → HasBad d n first (ys ++ xs)
+unusable_bad d n from first ys xs alone ge h =
+    let low = h.1.0 in
+    (h.0, h.1, once_map (UnusableHere d h.0) (BadHere d h.0) (ys ++ xs) (λ m b x. inl x) (unusable_before d h.0 ys xs (alone h.0 (omega (arith, ge, low))) h.2))
+
+-- looks at pages leave each page alone
+alone_looks : (p : ℕ) (ys xs : List Made) → Only page_looks ys → LeftAlone p xs → LeftAlone p (ys ++ xs)
+alone_looks p ys xs looks alone =
+    let own = left_alone_by page_looks refl refl p ys looks in
+    record {
+      right = right_own p ys xs alone.right ∙ own.right;
+      none = λ g at. holds_own g ys xs (alone.none g at) ∙ own.none g at;
+      parks = always_both (ParksNotHere p) (ParksNotHere p) ys xs (λ m before h. h) own.parks alone.parks;
+      deeds = always_both (MakesNoDeedHere p) (MakesNoDeedHere p) ys xs (λ m before h. h) own.deeds alone.deeds;
+    }
+
+-- the search found no run
+vain_ends : (f : Profile) (d : Directory) (n from : ℕ) (ys xs : List Made) → 1 ≤ from → VainSoFar d n from xs → HasNoRun f d from n ys → IsVain f d n (ys ++ xs)
+vain_ends f d n from ys xs some so_far none = record {
+  deeds = λ p of. elim (cases_lt p from) [
+    | inl low ↦ once_later (DeedReadHere p) ys xs (so_far.deeds p of.0 low)
+    | inr high ↦ deed_before p ys xs (none.deeds p high of.1)
+  ];
+  runs = λ s low le. elim (cases_lt s from) [
+    | inl below ↦ bad_later d n s ys xs (so_far.runs s low below)
+    | inr above ↦ unusable_bad d n from s ys xs so_far.alone above (none.runs s above le)
+  ];
+}
+
+-- it found one
+module _ (f : Profile) (d : Directory) (n from first : ℕ) (some : 1 ≤ from) (ys xs : List Made) (so_far : VainSoFar d n from xs) (looks : Only page_looks ys) (found : IsFirstRun f d from n ys first) where
+  abbrev before : List Made
+  before = ys ++ xs
+
+  first_alone : AloneFrom first (ys ++ xs)
+  first_alone p ge = let low = found.from_there in alone_looks p ys xs looks (so_far.alone p (omega (arith, low, ge)))
+
+  all_usable : AllUsable d n first (ys ++ xs)
+  all_usable p here = let low = found.from_there in let ge = here.0 in usable_before d p ys xs (so_far.alone p (omega (arith, low, ge))) (found.usable p here)
+
+  usable_still : (b : List Made) → AllUsable d n first (b ++ (ys ++ xs))
+  usable_still b p here = usable_later d p b before (all_usable p here)
+
+  lower_bad : (zs : List Made) (s : ℕ) → 1 ≤ s → s < first → HasBad d n s (zs ++ (ys ++ xs))
+  lower_bad zs s low lt = elim (cases_lt s from) [
+    | inl below ↦ bad_later d n s zs before (bad_later d n s ys xs (so_far.runs s low below))
+    | inr above ↦ bad_later d n s zs before (unusable_bad d n from s ys xs so_far.alone above (found.lower s above lt))
+  ]
+
+  -- and its claim failed
+  module _ (page : ℕ) (zs : List Made) (fails : FailsRun f d first (first + n) page zs) (v : View) (agreed : Agreed f v (zs ++ (ys ++ xs))) where
+    failed : OnceAfter before (λ m b. LostHere d page m b ⊎ BrokenHere page m b) zs
+    failed = elim (fails.failed before v first_alone (all_usable page (fails.in_run.0, fails.in_run.1)) agreed) [
+      | inl lost ↦ once_map (λ m b. LostHere d page m (b ++ before)) (λ m b. LostHere d page m (b ++ before) ⊎ BrokenHere page m (b ++ before)) zs (λ m b x. inl x) lost
+      | inr broken ↦ once_map (λ m b. BrokenHere page m (b ++ before)) (λ m b. LostHere d page m (b ++ before) ⊎ BrokenHere page m (b ++ before)) zs (λ m b x. inr x) broken
+    ]
+
+    vain_goes_on : VainSoFar d n (page + 1) (zs ++ (ys ++ xs))
+    vain_goes_on = record {
+      runs = λ s low lt. elim (cases_lt s first) [
+        | inl early ↦ lower_bad zs s low early
+        | inr late ↦ let high = fails.in_run.1 in
+            (page, (omega (arith, lt), omega (arith, late, high)), once_earlier (λ m b. LostHere d page m (b ++ before) ⊎ BrokenHere page m (b ++ before)) (BadHere d page) zs before (λ m b x. inr x) failed)
+      ];
+      deeds = λ p low lt. elim (cases_lt p from) [
+        | inl below ↦ once_later (DeedReadHere p) zs before (once_later (DeedReadHere p) ys xs (so_far.deeds p low below))
+        | inr above ↦ let high = fails.in_run.1 in once_later (DeedReadHere p) zs before (deed_before p ys xs (found.deeds p above (omega (arith, lt, high))))
+      ];
+      alone = fails.alone before first_alone;
+    }
+
+    run_has_failed : HasFailed d n first (zs ++ (ys ++ xs))
+    run_has_failed = once_earlier (λ m b. LostHere d page m (b ++ before) ⊎ BrokenHere page m (b ++ before)) (FailsHere d n first) zs before (λ m b x. (usable_still b, (page, (fails.in_run.0, fails.in_run.1), x))) failed
+
+-- ---- the search for a run that can be claimed, one run more
+-- a page that was read as having no deed isn't known to have one
 read_unknown : (f : Profile) (v : View) (p : ℕ) (s : Step) (a : ℕ) → ReadsDeed p s → Agrees f v s a → a ≡ 0 → known_deed v p ≢ 0 → ⊥
 read_unknown f v p s a ReadsDeed.Looks agrees z known = known (sym (agrees.known known) ∙ z)
 read_unknown f v p s a (ReadsDeed.Deeds d) agrees z known = known (sym (agrees.known known) ∙ z)
@@ -47,10 +130,7 @@ unknown f v p (m ∷ more) agreed (inl h) known = read_unknown f (more ++ v) p m
 knew : (f : Profile) (d : Directory) (p : ℕ) (xs : List Made) (v : View) → Agreed f v xs → ReadUsable d p xs → (known_deed v p ≡ 0) ⊎ KnowsDeed p d v
 knew f d p xs v agreed usable = elim (cases_eq (known_deed v p) 0) [
   | inl none ↦ inl none
-  | inr some ↦ elim usable [
-    | inl bare ↦ absurd (unknown f v p xs agreed bare some)
-    | inr whole ↦ inr (sym (deed_stays f xs v p agreed some) ∙ known_of f d p xs v agreed whole.of)
-  ]
+  | inr some ↦ elim usable [ inl bare ↦ absurd (unknown f v p xs agreed bare some) | inr whole ↦ inr (sym (deed_stays f xs v p agreed some) ∙ known_of f d p xs v agreed whole.of) ]
 ]
 
 -- ---- deeds
@@ -80,7 +160,7 @@ searched_none d n = record {
   still = leads_none (λ v met. does_none v);
   shows = λ k v agreed. omega arith;
   lacks = λ p. refl;
-  vain = vain_begins d n (λ p ge. left_alone_by page_looks refl refl p [] tt);
+  vain = record { runs = λ s some lt. absurd (omega (arith, some, lt)); deeds = λ p some lt. absurd (omega (arith, some, lt)); alone = λ p ge. left_alone_by page_looks refl refl p [] tt };
   deeds = tt;
 }
 
@@ -93,7 +173,7 @@ none_left {σ} d n from some past so_far = record {
   steps = so_far.steps;
   adds = so_far.adds;
   shows = so_far.shows;
-  outcome = record { still = so_far.still; vain = vain_past σ.seat.profile d n from so_far.steps some past so_far.vain; deeds = so_far.deeds; lacks = so_far.lacks };
+  outcome = record { still = so_far.still; vain = record { deeds = λ p of. let le = of.1 in so_far.vain.deeds p of.0 (omega (arith, le, past)); runs = λ s low le. so_far.vain.runs s low (omega (arith, le, past, some)) }; deeds = so_far.deeds; lacks = so_far.lacks };
 }
 
 module _ {σ σ1 : Standing} (d : Directory) (n from : ℕ) (low : 1 ≤ from) (so_far : SearchedRuns d n from σ σ1) where
@@ -152,7 +232,7 @@ module _ {σ σ1 : Standing} (d : Directory) (n from : ℕ) (low : 1 ≤ from) (
         let does = (look_still find).from v met agreed in
         record { lacks = λ p ge lt. does.right p ∙ met.lacks p (knew f d p ls v agreed (usable p (ge, lt))); clear = still_clear does met.clear }
 
-    pub can_claim_run : (spare spare2 : ℕ) → CanCall σ (λ v l. FindRoom σ.seat.profile d 1 spare v) → HasSpares σ spare → HasSpares σ2 spare2 → CanCall σ2 (λ v l. HasRunRoom σ2.seat.profile first (first + n) 1 spare2 v)
+    pub can_claim_run : (spare spare2 : ℕ) → CanCall σ (λ v l. FindRoom σ.seat.profile d 1 spare v) → Spares σ spare → Spares σ2 spare2 → CanCall σ2 (λ v l. HasRunRoom σ2.seat.profile first (first + n) 1 spare2 v)
     can_claim_run spare spare2 can law law2 =
         let adds = look_adds find in let met = can.met.may in
         record {

@@ -1,39 +1,76 @@
 -- The reason of a refusal: the eligible words, and then the verdict.
-use Rattle.std.proofs.Common.{◌≡◌, ℕ, ◌+◌, ◌≤◌, Bool, true, false, List, [], ◌∷◌, ◌++◌, inl, inr, refl, ap, sym, ◌∙◌, subst, arith, append_assoc, MatchBool, true≢false, length, length-append, ◌*◌, ◌/◌}
-use Rattle.pas_steps.specs.Kinds.{kind_of, is_in}
-use Rattle.pas_steps.specs.declared.step.Step.{Step}
+use Rattle.pas_large.proofs.Pages.{since_more}
+use Rattle.std.proofs.Common.{◌≡◌, ◌≢◌, ℕ, ◌+◌, ◌/◌, ◌%◌, ◌<◌, Bool, true, false, List, ◌∷◌, length, inl, inr, refl, ap, sym, ◌∙◌, subst, arith, MatchBool, ◌≤◌, [], ◌++◌, append_assoc, true≢false, length-append, ◌*◌}
+use Rattle.std.proofs.Math.ListN.{set, get_or}
+use Rattle.std.proofs.lemmas.List.{get_or-set_same, get_or-set_other}
+use Rattle.std.proofs.lemmas.Bool.{MatchBool-at_false, cases_lt}
+use Rattle.pas_profile.specs.Classes.{has_bit}
+use Rattle.pas_profile.specs.Directories.{number_of}
 use Rattle.pas_profile.specs.declared.directory.Directory.{Directory}
+use Rattle.pas_profile.specs.declared.word.Word.TheVariants as Word
+use Rattle.pas_steps.specs.Past.{Once, Always, Since}
+use Rattle.pas_steps.specs.Frames.{OnlyScans, IsScan}
+use Rattle.pas_steps.specs.Desks.{made, Seat, Standing}
+use Rattle.pas_steps.specs.declared.step.Made.{Made}
+use Rattle.pas_steps.specs.declared.step.Step.{Step}
+use Rattle.pas_scan.proofs.Singles.{place_of}
+use Rattle.pas_steps.specs.declared.step.Step.TheVariants.{Look}
+use Rattle.pas_scan.specs.Marks.{is_marked}
+use Rattle.pas_steps.specs.Evidence.{ReadsEligible, ZeroHere, OneHere, ParkedHere, ParkedLater, LacksAfter, MissingHere, HeldHere}
+use Rattle.pas_scan.proofs.Reading.{scans_lack, right_scans}
+use Rattle.pas_large.specs.Refusals.{LastOffered, NotReadHere, IsAccounted, AllAccounted, IsReason, MarksOffered, Refuses}
+use Rattle.pas_steps.specs.Kinds.{kind_of, is_in}
 use Rattle.pas_profile.specs.declared.profile.Profile.{Profile}
 use Rattle.pas_profile.specs.declared.event.NoRoom.{NoRoom}
 use Rattle.pas_profile.specs.declared.event.NoRoom.TheVariants.{NoSpace, Held}
 use Rattle.pas_steps.specs.Views.{View, has_right, known_deed}
-use Rattle.pas_steps.specs.Past.{Once, Always, Since}
-use Rattle.pas_steps.specs.Frames.{OnlyScans}
-use Rattle.pas_steps.specs.Desks.{Seat, Standing}
-use Rattle.pas_steps.specs.declared.step.Made.{Made}
 use Rattle.pas_steps.proofs.Adding.{adds_call}
 use Rattle.pas_steps.proofs.Past.{once_later, once_earlier, always_map}
 use Rattle.pas_scan.proofs.LeftPages.{since_earlier}
-use Rattle.pas_scan.specs.Marks.{is_marked}
 use Rattle.pas_scan.specs.Scan.{AllParked, IsVerdict, Judges, judging, last_block}
-use Rattle.pas_steps.specs.Evidence.{ReadsEligible, ZeroHere, OneHere, ParkedHere, ParkedLater, LacksAfter, MissingHere, HeldHere}
-use Rattle.pas_scan.proofs.Reading.{right_scans}
 use Rattle.pas_scan.proofs.Judging.{scans_append}
 use Rattle.pas_steps.proofs.Frames.{right_own}
-use Rattle.pas_large.specs.Refusals.{NotReadHere, LastOffered, IsAccounted, AllAccounted, IsReason, MarksOffered, Refuses}
 
+-- ---- the offered pages are marked: one eligible word more
+-- what is marked below a block, and what was read of it
+abbrev pub MarkedBelow : Directory → ℕ → List ℕ → List Made → Type 0
+MarkedBelow d block marks steps = (p : ℕ) → p / 64 < block → MatchBool (is_marked marks p) (LastOffered d p steps) (Once (ZeroHere d p) steps)
+
+read_block : (d : Directory) (p : ℕ) (s : Step) → ReadsEligible d p s → (n j : ℕ) → s ≡ Look (Word.Eligible n j) → j ≡ p / 64
+read_block d p s (ReadsEligible.Looks m i e at) n j same = let here : i ≡ j = ap place_of same in sym here ∙ at
+read_block d p s ReadsEligible.Claims n j same = cc
+
+other_word : (d : Directory) (p n j : ℕ) → j ≢ p / 64 → ReadsEligible d p (Look (Word.Eligible n j)) → ⊥
+other_word d p n j ne r = ne (read_block d p (Look (Word.Eligible n j)) r n j refl)
+
+older : (d : Directory) (p block a : ℕ) (steps : List Made) (t : Bool) → p / 64 < block → MatchBool t (LastOffered d p steps) (Once (ZeroHere d p) steps)
+    → MatchBool t (LastOffered d p (made (Look (Word.Eligible (number_of d) block)) a ∷ steps)) (Once (ZeroHere d p) (made (Look (Word.Eligible (number_of d) block)) a ∷ steps))
+older d p block a steps true lt h = inr ((λ r. other_word d p (number_of d) block (λ e. absurd (omega (arith, e, lt))) r), h)
+older d p block a steps false lt h = inr h
+
+newest : (d : Directory) (p block a : ℕ) (steps : List Made) (t : Bool) → block ≡ p / 64 → OnlyScans steps → has_bit a (p % 64) ≡ t
+    → MatchBool t (LastOffered d p (made (Look (Word.Eligible (number_of d) block)) a ∷ steps)) (Once (ZeroHere d p) (made (Look (Word.Eligible (number_of d) block)) a ∷ steps))
+newest d p block a steps true at scans bit = inl (ReadsEligible.Looks (number_of d) block refl at, bit, scans_lack steps p scans)
+newest d p block a steps false at scans bit = inl (ReadsEligible.Looks (number_of d) block refl at, bit, scans_lack steps p scans)
+
+pub marked_more : (d : Directory) (block a : ℕ) (marks : List ℕ) (steps : List Made) → block < length marks → OnlyScans steps → MarkedBelow d block marks steps
+    → MarkedBelow d (block + 1) (set marks block a) (made (Look (Word.Eligible (number_of d) block)) a ∷ steps)
+marked_more d block a marks steps small scans before p lt = elim (cases_lt (p / 64) block) [
+  | inl low ↦
+      let same : is_marked marks p ≡ is_marked (set marks block a) p = ap (λ n. has_bit n (p % 64)) (sym (get_or-set_other marks block (p / 64) a 0 (λ e. absurd (omega (arith, e, low))))) in
+      subst (λ t. MatchBool t (LastOffered d p (made (Look (Word.Eligible (number_of d) block)) a ∷ steps)) (Once (ZeroHere d p) (made (Look (Word.Eligible (number_of d) block)) a ∷ steps))) same
+      (older d p block a steps (is_marked marks p) low (before p low))
+  | inr high ↦
+      let at : block ≡ p / 64 = omega (arith, lt, high) in
+      let here : has_bit a (p % 64) ≡ is_marked (set marks block a) p = ap (λ n. has_bit n (p % 64)) (sym (get_or-set_same marks block a 0 small)) ∙ ap (λ i. has_bit (get_or (set marks block a) i 0) (p % 64)) at in
+      newest d p block a steps (is_marked (set marks block a) p) at scans here
+]
+
+-- ---- the reason of a refusal: the eligible words, and then the verdict
 -- a verdict reads no eligible word
-since_later : (P Q R : Made → List Made → Type 0) (ys xs : List Made) → ((m : Made) (b : List Made) → R m b → Q m (b ++ xs)) → Always R ys → Since P Q xs → Since P Q (ys ++ xs)
-since_later P Q R [] xs f all h = h
-since_later P Q R (m ∷ ys) xs f all h = inr (f m ys all.0, since_later P Q R ys xs f all.1 h)
-
 eligible_kind : (d : Directory) (p : ℕ) (s : Step) → ReadsEligible d p s → is_in judging (kind_of s) ≡ false
 eligible_kind d p s (ReadsEligible.Looks n j a b) = refl
 eligible_kind d p s ReadsEligible.Claims = refl
-
-abbrev held_of : NoRoom → ℕ
-held_of NoSpace = 0
-held_of (Held p) = p
 
 last_within : (f : Profile) (room : NoRoom) → ((page : ℕ) → room ≡ Held page → page ≤ f.pages) → last_block f room ≤ f.pages / 64
 last_within f NoSpace h = omega arith
@@ -45,13 +82,9 @@ missing d p [] xs scans none h = absurd h
 missing d p (m ∷ ys) xs scans none (inl z) = inl (inl (z.0, z.1, right_own p ys xs none ∙ z.2), right_scans (m ∷ ys) xs p scans ∙ none)
 missing d p (m ∷ ys) xs scans none (inr h) = inr (right_scans (m ∷ ys) xs p scans ∙ none, missing d p ys xs scans.1 none h)
 
-since_scans : (d : Directory) (p : ℕ) (ys xs : List Made) → OnlyScans ys → has_right xs p ≡ false → Since (MissingHere d p) (LacksAfter p) xs → Since (MissingHere d p) (LacksAfter p) (ys ++ xs)
-since_scans d p [] xs scans none h = h
-since_scans d p (m ∷ ys) xs scans none h = inr (right_scans (m ∷ ys) xs p scans ∙ none, since_scans d p ys xs scans.1 none h)
-
 held_from : (d : Directory) (p : ℕ) (ys xs : List Made) → OnlyScans ys → has_right xs p ≡ false → Since (MissingHere d p) (LacksAfter p) xs → Once (ParkedHere false p) ys → Once (HeldHere d p) (ys ++ xs)
 held_from d p [] xs scans none since h = absurd h
-held_from d p (m ∷ ys) xs scans none since (inl z) = inl ((z.0, z.1, right_own p ys xs none ∙ z.2), since_scans d p ys xs scans.1 none since)
+held_from d p (m ∷ ys) xs scans none since (inl z) = inl ((z.0, z.1, right_own p ys xs none ∙ z.2), since_more (MissingHere d p) (LacksAfter p) (λ k c. IsScan k.step) ys xs (λ k c is more. right_scans (k ∷ c) xs p (is, more) ∙ none) scans.1 since)
 held_from d p (m ∷ ys) xs scans none since (inr h) = inr (held_from d p ys xs scans.1 none since h)
 
 zero_before : (d : Directory) (p : ℕ) (ys xs : List Made) → has_right xs p ≡ false → Once (ZeroHere d p) ys → Once (ZeroHere d p) (ys ++ xs)
@@ -75,7 +108,7 @@ module _ (d : Directory) (marks : List ℕ) {σ σ1 σ2 : Standing} (offers : Ma
 
   held_page : (answer : NoRoom) → IsVerdict f marks d js answer → (page : ℕ) → answer ≡ Held page → page ≤ f.pages
   held_page NoSpace verdict page e = cc
-  held_page (Held q) verdict page e = let at : q ≡ page = ap held_of e in let le = (verdict.0 []).of_region.1 in omega (arith, at, le)
+  held_page (Held q) verdict page e = let at : q ≡ page = cc in let le = (verdict.0 []).of_region.1 in omega (arith, at, le)
 
   module _ (before : List Made) (none : (p : ℕ) → has_right before p ≡ false) where
     ms_none : (p : ℕ) → has_right (ms ++ before) p ≡ false
@@ -89,7 +122,7 @@ module _ (d : Directory) (marks : List ℕ) {σ σ1 σ2 : Standing} (offers : Ma
 
     last : (p : ℕ) → LastOffered d p ms → LastOffered d p ((js ++ ms) ++ before)
     last p h = subst (LastOffered d p) (sym at)
-        (since_later (OneHere d p) (NotReadHere d p) (NotReadHere d p) js (ms ++ before) (λ m b x. x) (reads_none p)
+        (since_more (OneHere d p) (NotReadHere d p) (NotReadHere d p) js (ms ++ before) (λ m b x all. x) (reads_none p)
         (since_earlier (OneHere d p) (NotReadHere d p) (OneHere d p) (NotReadHere d p) ms before (λ m b x. (x.0, x.1, right_own p b before (none p) ∙ x.2)) (λ m b x. x) h))
 
     parked_later : (p : ℕ) → Once (ZeroHere d p) ms → Once (ParkedHere true p) js → Once (ParkedLater d p) ((js ++ ms) ++ before)
@@ -105,10 +138,6 @@ module _ (d : Directory) (marks : List ℕ) {σ σ1 σ2 : Standing} (offers : Ma
         let within : p ≤ f.pages = omega (arith, le, lt) in
         by_mark p (is_marked marks p) refl (offers.offered p within) (λ unmarked. parked ((ms ++ before) ++ v) p lt (record { of_region = (some, within); of_directory = ap (λ s. known_deed s p) (sym (at_view v)) ∙ is; unmarked = unmarked }))
 
-    unmarked_zero : (p : ℕ) (t : Bool) → is_marked marks p ≡ t → t ≡ false → MatchBool t (LastOffered d p ms) (Once (ZeroHere d p) ms) → Once (ZeroHere d p) ms
-    unmarked_zero p true e z h = cc
-    unmarked_zero p false e z h = h
-
     reason_of : (answer : NoRoom) → IsVerdict f marks d js answer → IsReason f d ((js ++ ms) ++ before) answer
     reason_of NoSpace verdict = accounted (f.pages + 1) (omega arith) verdict
     reason_of (Held page) verdict =
@@ -117,7 +146,7 @@ module _ (d : Directory) (marks : List ℕ) {σ σ1 σ2 : Standing} (offers : Ma
           page_of = here.of_region;
           of_directory = λ v agreed. ap (λ s. known_deed s page) (at_view v) ∙ (verdict.0 ((ms ++ before) ++ v)).of_directory;
           held = subst (Once (HeldHere d page)) (sym at)
-              (held_from d page js (ms ++ before) judges.scans (ms_none page) (missing d page ms before offers.scans (none page) (unmarked_zero page (is_marked marks page) refl here.unmarked (offers.offered page within))) verdict.1);
+              (held_from d page js (ms ++ before) judges.scans (ms_none page) (missing d page ms before offers.scans (none page) (MatchBool-at_false (LastOffered d page ms) (Once (ZeroHere d page) ms) here.unmarked (offers.offered page within))) verdict.1);
           lower = accounted page (omega (arith, within)) verdict.2;
         }
 

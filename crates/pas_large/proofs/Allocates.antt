@@ -1,33 +1,31 @@
 -- A large block: the run that was found is given, or the refusal has its reason.
-use Rattle.std.proofs.Common.{◌≡◌, ℕ, ◌+◌, ◌≤◌, true, false, if◌then◌else◌, List, ◌++◌, Some, None, Ok, Err, refl, ap, ◌∙◌, subst, arith}
+use Rattle.pas_steps.proofs.SpareRoom.{Spares}
+use Rattle.std.proofs.Common.{◌≡◌, ℕ, ◌+◌, ◌≤◌, true, false, List, ◌++◌, Some, None, Ok, Err, refl, ap, subst, arith, ◌/◌}
 use Rattle.pas_profile.specs.declared.directory.Directory.{Directory}
 use Rattle.pas_profile.specs.declared.event.NoRoom.{NoRoom}
 use Rattle.pas_profile.specs.declared.name.Block.{Block}
 use Rattle.pas_profile.specs.declared.profile.Profile.{Profile}
 use Rattle.pas_scan.specs.Runs.{large_directory}
-use Rattle.pas_steps.specs.Calls.{Leads, Calls, AnyView, Kept, Gained, now, nothing, Does}
+use Rattle.pas_steps.specs.Calls.{Leads, Calls, AnyView, nothing, Does}
 use Rattle.pas_steps.specs.Desks.{Seat, Standing, CanCall}
 use Rattle.pas_steps.specs.Kinds.{looking, kind_of, is_in}
 use Rattle.pas_steps.specs.Frames.{IsScan, OnlyScans}
 use Rattle.pas_steps.specs.declared.step.Step.{Step}
 use Rattle.pas_steps.proofs.Past.{always_map}
-use Rattle.pas_steps.specs.Views.{View, holds, has_right}
+use Rattle.pas_steps.specs.Views.{View, has_right}
 use Rattle.pas_steps.specs.declared.step.Made.{Made}
 use Rattle.pas_steps.proofs.Adding.{adds_call}
 use Rattle.pas_steps.proofs.Called.{call_then, next_call}
 use Rattle.pas_steps.proofs.Calls.{leads_then, leads_idly, does_then}
 use Rattle.pas_large.specs.Allocates.{GaveLarge, AllocatesLarge}
 use Rattle.pas_large.specs.Claims.{in_span, HasPages}
-use Rattle.pas_large.specs.Finds.{MayFind, FindRoom, FoundRun, Finds}
+use Rattle.pas_large.specs.Finds.{MayFind, FindRoom, Finds}
 use Rattle.pas_large.specs.Gives.{GivesRun}
 use Rattle.pas_large.specs.Pages.{GotPages}
 use Rattle.pas_large.specs.Refusals.{IsReason, Refuses}
-use Rattle.pas_large.proofs.RunClaims.{HasSpares, room_after}
-use Rattle.pas_large.proofs.RunSearches.{may_find}
-use Rattle.pas_large.proofs.Spans.{undone}
-
-pub room_to_find : {σ : Standing} {f : Profile} {d : Directory} {spare : ℕ} (n : ℕ) → CanCall σ (λ v l. FindRoom f d (n + 1) spare v) → CanCall σ (λ v l. FindRoom f d 1 spare v)
-room_to_find n can = let room = can.met.room in record { view = can.view; whole = can.whole; stood = can.stood; met = record { may = can.met.may; room = omega (arith, room) } }
+use Rattle.pas_large.proofs.Claims.{has_got, room_after}
+use Rattle.pas_large.proofs.Pages.{undone}
+use Rattle.pas_large.proofs.Finds.{may_find}
 
 -- what the search leaves
 pub record Ready (d : Directory) (n first : ℕ) (v w : View) : Type 0 where
@@ -35,24 +33,16 @@ pub record Ready (d : Directory) (n first : ℕ) (v w : View) : Type 0 where
   pub lacked : (p : ℕ) → in_span first (first + n) p ≡ true → has_right v p ≡ false
 
 module _ {σ σ1 : Standing} (d : Directory) (n first : ℕ) (find : Finds d n σ σ1 (Some first)) where
-  pub found : FoundRun σ.seat.profile d n find.steps first
-  found = find.outcome
-
-  pub found_call : Calls σ σ1 (MayFind d) (Ready d n first) find.steps
+  found_call : Calls σ σ1 (MayFind d) (Ready d n first) find.steps
   found_call = record { adds = find.adds; leads = record { from = λ v met agreed. record { got = find.outcome.got.from v met agreed; lacked = find.outcome.lacked.from v met agreed } } }
 
-  pub has_pages : (v : View) → MayFind d v → Ready d n first v (find.steps ++ v) → HasPages d first (first + n) (find.steps ++ v)
-  has_pages v met ready = record {
-    right = λ p is. ready.got.does.right p ∙ ap (λ t. now (if t then Gained else Kept) (has_right v p)) is;
-    held = λ g is. ready.got.does.held g ∙ ap (λ t. now (if t then Gained else Kept) (holds v g)) is;
-    deeds = ready.got.deeds;
-    clear = record { on = λ q. ready.got.does.clear q (met.clear.on q) };
-  }
+  has_pages : (v : View) → MayFind d v → Ready d n first v (find.steps ++ v) → HasPages d first (first + n) (find.steps ++ v)
+  has_pages v met ready = has_got d first (first + n) met.clear ready.got
 
   pub can_give_run : CanCall σ (λ v l. MayFind d v) → CanCall σ1 (λ v l. HasPages d first (first + n) v)
   can_give_run can = next_call found_call can has_pages
 
-  pub room_to_give_run : (spare spare1 : ℕ) → CanCall σ (λ v l. FindRoom σ.seat.profile d (n + 1) spare v) → HasSpares σ spare → HasSpares σ1 spare1 → n + 1 ≤ spare1
+  pub room_to_give_run : (spare spare1 : ℕ) → CanCall σ (λ v l. FindRoom σ.seat.profile d (n + 1) spare v) → Spares σ spare → Spares σ1 spare1 → n + 1 ≤ spare1
   room_to_give_run spare spare1 can law law1 = let room = room_after {spare = spare} {spare' = spare1} (n + 1) find.adds (may_find can) find.shows can.met.room law law1 in omega (arith, room)
 
 -- the looks of a refusal change nothing
@@ -68,7 +58,7 @@ pub allocates : {σ σ1 σ2 : Standing} (heap n first : ℕ) (find : Finds (larg
 allocates heap n first find block give =
     let d = large_directory heap in
     let calls = call_then (GaveLarge d first n block) (found_call d n first find) give.calls (has_pages d n first find)
-    (λ v met ready gave. record { does = undone (in_span first (first + n)) ready.got.apart ready.lacked ready.got.does gave.does; apart = ready.got.apart; deeds = gave.deeds; turn = gave.turn }) in
+    (λ v met ready gave. record { does = undone (λ g. in_span first (first + n) (g / 256)) (in_span first (first + n)) ready.got.apart ready.lacked ready.got.does gave.does; apart = ready.got.apart; deeds = gave.deeds; turn = gave.turn }) in
     record {
       searched = find.steps;
       after = _;

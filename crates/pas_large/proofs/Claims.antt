@@ -1,0 +1,396 @@
+-- The claim of the pages of a run, one page more, and how they are left.
+use Rattle.pas_steps.specs.Clear.{IsClear}
+use Rattle.pas_steps.proofs.SpareRoom.{Spares, spare_falls}
+use Rattle.std.proofs.Common.{◌≡◌, ◌≢◌, ℕ, ◌+◌, ◌/◌, ◌-◌, ◌^◌, ◌<◌, ◌≤◌, ◌==◌, nat_le, nat_lt, Bool, true, false, ◌||◌, if◌then◌else◌, List, [], ◌∷◌, ◌++◌, inl, inr, refl, ap, sym, ◌∙◌, arith, true≢false, ◌%◌, ◌&&◌, length, subst, append_assoc, length-append, Some, None}
+use Rattle.std.proofs.lemmas.Bool.{and_parts, cases_Bool, cases_eq, eqb-true}
+use Rattle.std.proofs.lemmas.Bool.Decides.{nat_tests}
+use Rattle.pas_profile.specs.declared.directory.Directory.{Directory}
+use Rattle.pas_bits.specs.declared.mask.Mask4.{Mask4}
+use Rattle.pas_bits.specs.Masks.{is_set}
+use Rattle.pas_bits.proofs.Words.{full_bit, four_words}
+use Rattle.pas_steps.specs.Calls.{Kept, Gained, Lost, now, nothing, Does, Calls, Leads}
+use Rattle.pas_steps.specs.Frames.{IsOnPage, OnlyOn}
+use Rattle.pas_steps.specs.Past.{Since}
+use Rattle.pas_steps.specs.Evidence.{KeptHere}
+use Rattle.pas_steps.specs.Views.{View, holds, has_right, KnowsDeed}
+use Rattle.pas_steps.specs.declared.step.Step.{Step}
+use Rattle.pas_steps.specs.declared.step.Made.{Made}
+use Rattle.pas_steps.specs.declared.step.Step.TheVariants.{Deed, Park}
+use Rattle.pas_steps.proofs.Calls.{does_as, does_then, does_after_nothing, does_none}
+use Rattle.pas_steps.proofs.Kept.{right_on, holds_on_page, knows_still}
+use Rattle.pas_steps.proofs.Past.{always_both, always_map, once_later}
+use Rattle.pas_steps.proofs.Sets.{both_fates}
+use Rattle.pas_scan.specs.Usable.{ParksNotHere, MakesNoDeedHere, LeftAlone}
+use Rattle.pas_large.specs.Pages.{of_pages, GotPages, MayClaim, MayPutAndLeave, PutsAndLeaves, DeedsOn, OnlyDeedsShow, taking_pages, claiming, LosesPage, BreaksPage, WinsPage, ClaimsPage}
+use Rattle.pas_large.specs.Claims.{in_span, MayClaimPages, HasRunRoom, AloneFrom, DeedsIn, HoldsSpan, FailsAt, ClaimsPages, HasPages, Releases, ClaimsRun, LacksAll}
+use Rattle.pas_large.proofs.Pages.{MadeHere, and_true, since_more, undone, no_deeds, shows_both, shows_taking, after_more}
+use Rattle.pas_profile.specs.Profiles.{IsPage}
+use Rattle.pas_profile.specs.declared.profile.Profile.{Profile}
+use Rattle.pas_rights.specs.Puts.{masked}
+use Rattle.pas_segregated.specs.Returns.{giving_back}
+use Rattle.pas_steps.specs.Agreement.{Agreed}
+use Rattle.pas_steps.specs.Desks.{Seat, Standing, CanCall, Adds}
+use Rattle.pas_steps.specs.Events.{events_by}
+use Rattle.pas_steps.specs.Lists.{Whole}
+use Rattle.pas_steps.specs.Unknown.{unknown_pages}
+use Rattle.pas_steps.proofs.Adding.{adds_none, adds_call, can_call, agreed_first, agreed_later, adds_under}
+use Rattle.pas_steps.proofs.Apart.{only_both, only_within}
+use Rattle.pas_steps.proofs.Called.{call_none, call_then, next_call, call_as}
+use Rattle.pas_scan.proofs.LeftPages.{usable_later}
+use Rattle.pas_large.specs.Evidence.{LostHere, BrokenHere, TakenWholeHere}
+use Rattle.pas_large.specs.declared.claiming.Claimed.{Claimed}
+
+-- ---- pages from one to below another, one page more, and what becomes of them
+pub span_in : (first stop p : ℕ) → first ≤ p → p < stop → in_span first stop p ≡ true
+span_in first stop p low high = grind (arith, nat_tests)
+
+pub in_parts : (first stop p : ℕ) → in_span first stop p ≡ true → (first ≤ p) × (p < stop)
+in_parts first stop p h = let parts = and_parts (nat_le first p) (nat_lt p stop) h in let a = parts.0 in let b = parts.1 in (grind (arith, nat_tests), grind (arith, nat_tests))
+
+pub span_past : (first stop p : ℕ) → stop ≤ p → in_span first stop p ≡ false
+span_past first stop p past = grind (arith, nat_tests)
+
+pub span_wider : (first stop end p : ℕ) → stop ≤ end → in_span first stop p ≡ true → in_span first end p ≡ true
+span_wider first stop end p le is = grind (arith, nat_tests)
+
+pub span_none : (first p : ℕ) → in_span first first p ≡ false
+span_none first p = grind (arith, nat_tests)
+
+pub span_more : (first page p : ℕ) → first ≤ page → (in_span first page p || (page == p)) ≡ in_span first (page + 1) p
+span_more first page p low = grind (arith, nat_tests)
+
+not_in : (first page p : ℕ) → first ≤ page → in_span first (page + 1) p ≡ false → p ≢ page
+not_in first page p low out e = true≢false (sym (span_in first (page + 1) p (omega (arith, e, low)) (omega (arith, e))) ∙ out)
+
+span_apart : (first page p : ℕ) → p ≢ page → in_span first page p ≡ false → in_span first (page + 1) p ≡ false
+span_apart first page p ne out = grind (arith, nat_tests)
+
+-- ---- effects on sets of pages
+got_none : (d : Directory) (pages : ℕ → Bool) (v : View) → ((p : ℕ) → pages p ≡ false) → Does nothing v v → GotPages pages d v v
+got_none d pages v none does = record {
+  does = does_as (of_pages pages Gained) does (λ g. inl (ap (λ t. if t then Gained else Kept) (sym (none (g / 256))))) (λ q. ap (λ t. if t then Gained else Kept) (sym (none q))) (λ q h. h);
+  apart = λ g h. absurd (true≢false (sym h ∙ none (g / 256)));
+  deeds = λ p h. absurd (true≢false (sym h ∙ none p));
+}
+
+got_both : {v w u : View} (d : Directory) (a b c : ℕ → Bool) → ((p : ℕ) → (a p || b p) ≡ c p) → GotPages a d v w → GotPages b d w u → ((p : ℕ) → KnowsDeed p d w → KnowsDeed p d u) → GotPages c d v u
+got_both {v} {w} {u} d a b c same first second knows = record {
+  does = does_as (of_pages c Gained) (does_then first.does second.does) (λ g. inl (both_fates Gained (a (g / 256)) (b (g / 256)) (c (g / 256)) refl (same (g / 256)))) (λ q. both_fates Gained (a q) (b q) (c q) refl (same q)) (λ q h. h);
+  apart = λ g h. elim (cases_Bool (a (g / 256))) [
+    | inl here ↦ first.apart g here
+    | inr other ↦ sym (ap (λ t. now (if t then Gained else Kept) (holds v g)) other) ∙ sym (first.does.held g) ∙ second.apart g (ap (λ t. t || b (g / 256)) (sym other) ∙ same (g / 256) ∙ h)
+  ];
+  deeds = λ p h. elim (cases_Bool (a p)) [ inl here ↦ knows p (first.deeds p here) | inr other ↦ second.deeds p (ap (λ t. t || b p) (sym other) ∙ same p ∙ h) ];
+}
+
+got_still : {v w u : View} (d : Directory) (a : ℕ → Bool) → GotPages a d v w → Does nothing w u → ((p : ℕ) → KnowsDeed p d w → KnowsDeed p d u) → GotPages a d v u
+got_still d a first second knows = record { does = does_then first.does second; apart = first.apart; deeds = λ p h. knows p (first.deeds p h) }
+
+pub got_after : {v w u : View} (a : ℕ → Bool) (d : Directory) → Does nothing v w → GotPages a d w u → GotPages a d v u
+got_after a d first second = record { does = does_after_nothing (of_pages a Gained) first second.does; apart = λ g h. sym (first.held g) ∙ second.apart g h; deeds = second.deeds }
+
+-- ---- all grains of a page
+abbrev pub full : Mask4
+full = record { 0 = (2 ^ 64 - 1) ∷ (2 ^ 64 - 1) ∷ (2 ^ 64 - 1) ∷ (2 ^ 64 - 1) ∷ [] }
+
+-- ---- steps on one page leave another alone
+not_parked : (q p : ℕ) (s : Step) → p ≢ q → IsOnPage q s → s ≡ Park p → ⊥
+not_parked q p s ne IsOnPage.Parks e = let same : q ≡ p = cc in ne (sym same)
+not_parked q p s ne on e = cc
+
+not_deeded : (q p : ℕ) (s : Step) (x : Directory) → p ≢ q → IsOnPage q s → s ≡ Deed p x → ⊥
+not_deeded q p s x ne (IsOnPage.Deeds d) e = let same : q ≡ p = cc in ne (sym same)
+not_deeded q p s x ne on e = cc
+
+alone_on : (q p : ℕ) (ys xs : List Made) → OnlyOn q ys → p ≢ q → LeftAlone p xs → LeftAlone p (ys ++ xs)
+alone_on q p ys xs on ne alone = record {
+  right = right_on q p ys xs on ne ∙ alone.right;
+  none = λ g at. holds_on_page q g ys xs on (λ e. ne (sym at ∙ e)) ∙ alone.none g at;
+  parks = always_both (λ m before. IsOnPage q m.step) (ParksNotHere p) ys xs (λ m before h e. not_parked q p m.step ne h e) on alone.parks;
+  deeds = always_both (λ m before. IsOnPage q m.step) (MakesNoDeedHere p) ys xs (λ m before h x e z. not_deeded q p m.step x ne h e) on alone.deeds;
+}
+
+full_set : (g : ℕ) → g < 256 → is_set full g ≡ true
+full_set g lt = four_words (2 ^ 64 - 1) (2 ^ 64 - 1) (2 ^ 64 - 1) (2 ^ 64 - 1) (λ x. true) (λ x h. full_bit x h) (λ x h. full_bit x h) (λ x h. full_bit x h) (λ x h. full_bit x h) g lt
+
+-- ---- the claim of the pages of a run, one page more
+pub run_page : (f : Profile) (first end page : ℕ) → 1 ≤ first → end ≤ f.pages + 1 → first ≤ page → page < end → IsPage f page
+run_page f first end page some region low high = (omega (arith, some, low), omega (arith, region, high))
+
+pub claims_fewer : (first stop end : ℕ) → stop ≤ end → (v : View) → MayClaimPages first end v → MayClaimPages first stop v
+claims_fewer first stop end le v met = record { lacks = λ p low high. met.lacks p low (omega (arith, high, le)); clear = met.clear }
+
+abbrev pub may_claim : {σ : Standing} {f : Profile} {first end n spare : ℕ} (stop : ℕ) → stop ≤ end → CanCall σ (λ v l. HasRunRoom f first end n spare v) → CanCall σ (λ v l. MayClaimPages first stop v)
+may_claim {first = first} {end = end} stop le can = record { view = can.view; whole = can.whole; stood = can.stood; met = claims_fewer first stop end le can.view can.met.may }
+
+-- the room for unknown deeds is kept, and the room for n events besides
+pub room_after : {σ σ' : Standing} {C : View → Whole → Type 0} {xs : List Made} {spare spare' : ℕ} (n : ℕ) → Adds σ σ' C xs → (can : CanCall σ C) → OnlyDeedsShow σ.seat.profile xs → n + unknown_pages σ.seat.profile can.view ≤ spare → Spares σ spare → Spares σ' spare'
+    → n + unknown_pages σ.seat.profile (xs ++ can.view) ≤ spare'
+room_after {σ} {xs = xs} {spare = spare} {spare' = spare'} n adds can shows room law law' =
+    let falls = spare_falls spare spare' (length (events_by σ.seat.actor can.view xs)) adds can law law' refl in let shown = shows σ.seat.actor can.view (adds.agreed can.view can.whole can.stood can.met) in omega (arith, falls, shown, room)
+
+-- the pages below this one were claimed, and it and those above it were left alone
+pub record ClaimedBelow (d : Directory) (first page : ℕ) (desk desk' : Standing) : Type 0 where
+  pub so_far : ClaimsPages d first page desk desk' page
+  pub alone : (before : List Made) → AloneFrom first before → AloneFrom page (so_far.steps ++ before)
+
+pub pages_none : {σ : Standing} (d : Directory) (first : ℕ) → ClaimedBelow d first first σ σ
+pages_none d first = record {
+  alone = λ before alone. alone;
+  so_far = record {
+    steps = [];
+    adds = adds_none;
+    kinds = tt;
+    few = omega arith;
+    deeds = tt;
+    shows = λ k v agreed. omega arith;
+    span = (omega arith, omega arith);
+    got = record { from = λ v met agreed. got_none d (in_span first first) v (span_none first) (does_none v) };
+    holding = λ before alone. record { right = λ p low high. absurd (omega (arith, low, high)); whole = λ p word low high lt. absurd (omega (arith, low, high)) };
+    lacks = λ before none p out. none p;
+    alone = λ before alone p ge. alone p (omega (arith, ge));
+    failed = λ lt. absurd (omega (arith, lt));
+  };
+}
+
+abbrev MadeIn : Directory → ℕ → ℕ → Made → List Made → Type 0
+MadeIn d first end m before = (p : ℕ) (e : Directory) → m.step ≡ Deed p e → m.answer ≡ 0 → (e ≡ d) × (first ≤ p) × (p < end)
+
+deeds_join : (d : Directory) (first stop end page : ℕ) (ys xs : List Made) → first ≤ page → page < end → stop ≤ end → DeedsOn d page ys → DeedsIn d first stop xs → DeedsIn d first end (ys ++ xs)
+deeds_join d first stop end page ys xs low high le on within = always_both (MadeHere d page) (MadeIn d first end) ys xs (λ m before h p e same z. let its = h p e same z in let at = its.1 in (its.0, omega (arith, at, low), omega (arith, at, high))) on
+    (always_map (MadeIn d first stop) (MadeIn d first end) xs (λ m before h p e same z. let its = h p e same z in let lt = its.2 in (its.0, its.1, omega (arith, lt, le))) within)
+
+module _ {σ σ1 : Standing} (d : Directory) (first end page : ℕ) (high : page < end) (below : ClaimedBelow d first page σ σ1) where
+  abbrev so_far : ClaimsPages d first page σ σ1 page
+  so_far = below.so_far
+
+  abbrev xs : List Made
+  xs = so_far.steps
+
+  so_adds : Adds σ σ1 (λ v l. MayClaimPages first end v) xs
+  so_adds = adds_under so_far.adds (λ v l stood met. claims_fewer first page end (omega (arith, high)) v met)
+
+  so_got : (v : View) → MayClaimPages first end v → Agreed σ.seat.profile v xs → GotPages (in_span first page) d v (xs ++ v)
+  so_got v met agreed = so_far.got.from v (claims_fewer first page end (omega (arith, high)) v met) agreed
+
+  page_may : (v : View) → MayClaimPages first end v → Agreed σ.seat.profile v xs → MayClaim page (xs ++ v)
+  page_may v met agreed = let got = so_got v met agreed in record {
+    lacks = got.does.right page ∙ ap (λ t. now (if t then Gained else Kept) (has_right v page)) (span_past first page page (omega arith)) ∙ met.lacks page so_far.span.0 high;
+    clear = record { on = λ q. got.does.clear q (met.clear.on q) };
+  }
+
+  pub page_call : CanCall σ (λ v l. MayClaimPages first end v) → CanCall σ1 (λ v l. MayClaim page v)
+  page_call can = can_call so_adds can (λ v l stood met. page_may v met (so_adds.agreed v l stood met))
+
+  module _ {σ2 : Standing} {claimed : Claimed} (h : ClaimsPage d page σ1 σ2 claimed) where
+    abbrev ys : List Made
+    ys = h.steps
+
+    all_at : (v : View) → (ys ++ xs) ++ v ≡ ys ++ (xs ++ v)
+    all_at v = append_assoc ys xs v
+
+    turn_alone : (before : List Made) → AloneFrom first before → AloneFrom (page + 1) ((ys ++ xs) ++ before)
+    turn_alone before free p ge = subst (LeftAlone p) (sym (all_at before)) (alone_on page p ys (xs ++ before) h.on (λ e. absurd (omega (arith, e, ge))) (below.alone before free p (omega (arith, ge))))
+
+    turned : (stop : ℕ) → (page ≤ stop) × (stop ≤ end) → Leads σ.seat.profile (MayClaimPages first end) (GotPages (in_span first stop) d) (ys ++ xs) → ((before : List Made) → AloneFrom first before → HoldsSpan first stop ((ys ++ xs) ++ before))
+        → ((before : List Made) → LacksAll before → (p : ℕ) → in_span first stop p ≡ false → has_right ((ys ++ xs) ++ before) p ≡ false) → (stop < end → FailsAt σ.seat.profile d first stop (ys ++ xs)) → ClaimsPages d first end σ σ2 stop
+    turned stop at got holding lacks failed = let low = so_far.span.0 in let above = at.0 in record {
+      steps = ys ++ xs;
+      adds = adds_call {D = λ v l. MayClaim page v} so_adds h.adds (λ v l stood met. page_may v met (so_adds.agreed v l stood met));
+      kinds = only_both claiming ys xs h.kinds so_far.kinds;
+      few = let n = length-append ys xs in let a = h.few in let b = so_far.few in omega (arith, n, a, b, low, high);
+      deeds = deeds_join d first page end page ys xs low high (omega (arith, high)) h.deeds so_far.deeds;
+      shows = shows_both σ.seat.profile ys xs (subst (λ (s : Seat). OnlyDeedsShow s.profile ys) so_adds.seat_is h.shows) so_far.shows;
+      span = (omega (arith, low, above), at.1);
+      got = got;
+      holding = holding;
+      lacks = lacks;
+      alone = λ before free p ge. turn_alone before free p (omega (arith, ge, above));
+      failed = failed;
+    }
+
+    others_held : (before : List Made) → AloneFrom first before → HoldsSpan first page ((ys ++ xs) ++ before)
+    others_held before free = let old = so_far.holding before free in record {
+      right = λ p ge lt. ap (λ s. has_right s p) (all_at before) ∙ right_on page p ys (xs ++ before) h.on (λ e. absurd (omega (arith, e, lt))) ∙ old.right p ge lt;
+      whole = λ p word ge lt small. subst (Since (TakenWholeHere p word) (KeptHere p)) (sym (all_at before)) (since_more (TakenWholeHere p word) (KeptHere p) (λ m c. IsOnPage page m.step) ys (xs ++ before) (λ m c is on. right_on page p c (xs ++ before) on (λ e. absurd (omega (arith, e, lt))) ∙ old.right p ge lt) h.on (old.whole p word ge lt small));
+    }
+
+    -- it was lost or broken
+    stopped : Leads σ.seat.profile (MayClaim page) (Does nothing) h.steps → ((before : List Made) → has_right before page ≡ false → has_right (h.steps ++ before) page ≡ false) → FailsAt σ.seat.profile d first page (h.steps ++ so_far.steps) → ClaimsPages d first end σ σ2 page
+    stopped still lack failed = turned page (omega arith, omega (arith, high))
+        (record {
+          from = λ v met agreed.
+              let mine = agreed_later σ.seat.profile v ys xs agreed in let next = agreed_first σ.seat.profile v ys xs agreed in
+              subst (GotPages (in_span first page) d v) (sym (all_at v)) (got_still d (in_span first page) (so_got v met mine) (still.from (xs ++ v) (page_may v met mine) next) (λ p knows. knows_still σ.seat.profile d p ys (xs ++ v) next knows));
+        })
+        others_held
+        (λ before none p out. let old = so_far.lacks before none p out in ap (λ s. has_right s p) (all_at before) ∙ elim (cases_eq p page) [
+          | inl e ↦ subst (λ q. has_right (xs ++ before) q ≡ false → has_right (ys ++ (xs ++ before)) q ≡ false) (sym e) (lack (xs ++ before)) old
+          | inr ne ↦ right_on page p ys (xs ++ before) h.on ne ∙ old
+        ])
+        (λ lt. failed)
+
+    pub lost_turn : LosesPage σ1.seat.profile d page h.steps → ClaimsPages d first end σ σ2 page
+    lost_turn lost =
+        let loses = subst (λ (s : Seat). LosesPage s.profile d page ys) so_adds.seat_is lost in
+        stopped loses.still loses.lacks (λ before v free usable agreed. inl (after_more (LostHere d page) ys xs before (loses.lost (xs ++ before) v (below.alone before free page (omega arith)) (usable_later d page xs before usable) (subst (Agreed σ.seat.profile v) (all_at before) agreed))))
+
+    pub broken_turn : BreaksPage σ1.seat.profile page h.steps → ClaimsPages d first end σ σ2 page
+    broken_turn broken =
+        let breaks = subst (λ (s : Seat). BreaksPage s.profile page ys) so_adds.seat_is broken in
+        stopped breaks.still breaks.lacks (λ before v free usable agreed. inr (after_more (BrokenHere page) ys xs before (breaks.broken (xs ++ before) (below.alone before free page (omega arith)))))
+
+    -- it was won
+    won_claims : end ≡ page + 1 → WinsPage σ1.seat.profile d page h.steps → ClaimsPages d first end σ σ2 (page + 1)
+    won_claims last won =
+        let wins = subst (λ (s : Seat). WinsPage s.profile d page ys) so_adds.seat_is won in let low = so_far.span.0 in
+        turned (page + 1) (omega arith, omega (arith, high))
+        (record {
+          from = λ v met agreed.
+              let mine = agreed_later σ.seat.profile v ys xs agreed in let next = agreed_first σ.seat.profile v ys xs agreed in
+              let new = wins.leads.from (xs ++ v) (page_may v met mine) next in
+              subst (GotPages (in_span first (page + 1)) d v) (sym (all_at v)) (got_both d (in_span first page) (λ q. page == q) (in_span first (page + 1)) (λ p. span_more first page p low) (so_got v met mine) new (λ p knows. knows_still σ.seat.profile d p ys (xs ++ v) next knows));
+        })
+        (λ before free. let rest = others_held before free in let alone = below.alone before free page (omega arith) in record {
+          right = λ p ge lt. elim (cases_eq p page) [
+            | inl e ↦ ap (has_right ((ys ++ xs) ++ before)) e ∙ ap (λ s. has_right s page) (all_at before) ∙ wins.right (xs ++ before) alone
+            | inr ne ↦ rest.right p ge (omega (arith, lt, ne))
+          ];
+          whole = λ p word ge lt small. elim (cases_eq p page) [
+            | inl e ↦ subst (λ q. Since (TakenWholeHere q word) (KeptHere q) ((ys ++ xs) ++ before)) (sym e) (subst (Since (TakenWholeHere page word) (KeptHere page)) (sym (all_at before)) (wins.whole (xs ++ before) alone word small))
+            | inr ne ↦ rest.whole p word ge (omega (arith, lt, ne)) small
+          ];
+        })
+        (λ before none p out. let ne = not_in first page p low out in ap (λ s. has_right s p) (all_at before) ∙ right_on page p ys (xs ++ before) h.on ne ∙ so_far.lacks before none p (grind (arith, nat_tests)))
+        (λ lt. absurd (omega (arith, lt, last)))
+
+pub won_turn : {σ σ1 σ2 : Standing} (d : Directory) (first page : ℕ) → ClaimedBelow d first page σ σ1 → (h : ClaimsPage d page σ1 σ2 Claimed.Whole) → ClaimedBelow d first (page + 1) σ σ2
+unfolding won_claims turned
+won_turn d first page below h = record { so_far = won_claims d first (page + 1) page (omega arith) below h refl h.outcome; alone = turn_alone d first (page + 1) page (omega arith) below h }
+
+-- ---- the pages are left, one page more
+pub has_got : {v w : View} (d : Directory) (first stop : ℕ) → IsClear v → GotPages (in_span first stop) d v w → HasPages d first stop w
+has_got {v} d first stop clear got = record {
+  right = λ p is. got.does.right p ∙ ap (λ t. now (if t then Gained else Kept) (has_right v p)) is;
+  held = λ g is. got.does.held g ∙ ap (λ t. now (if t then Gained else Kept) (holds v g)) is;
+  deeds = got.deeds;
+  clear = record { on = λ q. got.does.clear q (clear.on q) };
+}
+
+pages_fewer : (d : Directory) (first stop end : ℕ) → stop ≤ end → (v : View) → HasPages d first end v → HasPages d first stop v
+pages_fewer d first stop end le v met = record {
+  right = λ p is. met.right p (span_wider first stop end p le is);
+  held = λ g is. met.held g (span_wider first stop end (g / 256) le is);
+  deeds = λ p is. met.deeds p (span_wider first stop end p le is);
+  clear = met.clear;
+}
+
+pub pages_call : {σ σ1 : Standing} {R : View → View → Type 0} {xs : List Made} (d : Directory) (first stop end : ℕ) → stop ≤ end → Calls σ σ1 (HasPages d first stop) R xs → Calls σ σ1 (HasPages d first end) R xs
+pages_call {R = R} d first stop end le c = call_as R c (pages_fewer d first stop end le) (λ v w met r. r)
+
+-- and the deeds of these pages are known still
+pub call_knowing : {σ σ1 : Standing} {B : View → Type 0} {R : View → View → Type 0} {xs : List Made} (d : Directory) (pages : ℕ → Bool) → Calls σ σ1 B R xs → ((v : View) → B v → (p : ℕ) → pages p ≡ true → KnowsDeed p d v)
+    → Calls σ σ1 B (λ v w. R v w × ((p : ℕ) → pages p ≡ true → KnowsDeed p d w)) xs
+call_knowing {σ} {xs = xs} d pages c knows = record { adds = c.adds; leads = record { from = λ v met agreed. (c.leads.from v met agreed, λ p is. knows_still σ.seat.profile d p xs v agreed (knows v met p is)) } }
+
+pub left_none : {σ : Standing} (d : Directory) (first : ℕ) → Releases d first first σ σ
+left_none d first = record {
+  steps = [];
+  calls = call_none (λ v met. does_as (of_pages (in_span first first) Lost) (does_none v) (λ g. inl (ap (λ t. if t then Lost else Kept) (sym (span_none first (g / 256))))) (λ q. ap (λ t. if t then Lost else Kept) (sym (span_none first q))) (λ q h. h));
+  kinds = tt;
+  few = omega arith;
+  lacks = λ before p none. none (span_none first p);
+  alone = λ before p ge alone. alone;
+}
+
+on_full : (page g : ℕ) → masked page full g ≡ (page == g / 256)
+on_full page g = ap (λ t. (page == g / 256) && t) (full_set (g % 256) (omega arith)) ∙ and_true (page == g / 256)
+
+module _ {σ σ1 : Standing} (d : Directory) (first end page : ℕ) (low : first ≤ page) (high : page < end) (so_far : Releases d first page σ σ1) where
+  known : Calls σ σ1 (HasPages d first end) (λ v w. Does (of_pages (in_span first page) Lost) v w × ((p : ℕ) → in_span first end p ≡ true → KnowsDeed p d w)) so_far.steps
+  known = call_knowing d (in_span first end) (pages_call d first page end (omega (arith, high)) so_far.calls) (λ v met. met.deeds)
+
+  leave_may : (v : View) → HasPages d first end v → Does (of_pages (in_span first page) Lost) v (so_far.steps ++ v) × ((p : ℕ) → in_span first end p ≡ true → KnowsDeed p d (so_far.steps ++ v)) → MayPutAndLeave page d (masked page full) (so_far.steps ++ v)
+  leave_may v met left =
+      let here = span_in first end page low high in let past = span_past first page page (omega arith) in
+      record {
+        right = left.0.right page ∙ ap (λ t. now (if t then Lost else Kept) (has_right v page)) past ∙ met.right page here;
+        deed = left.1 page here;
+        held = λ g is.
+            let at : page ≡ g / 256 = eqb-true page (g / 256) (sym (on_full page g) ∙ is) in
+            left.0.held g ∙ ap (λ q. now (if in_span first page q then Lost else Kept) (holds v g)) (sym at) ∙ ap (λ t. now (if t then Lost else Kept) (holds v g)) past ∙ met.held g (ap (in_span first end) (sym at) ∙ here);
+        clear = left.0.clear page (met.clear.on page);
+      }
+
+  pub leave_call : CanCall σ (λ v l. HasPages d first end v) → CanCall σ1 (λ v l. MayPutAndLeave page d (masked page full) v)
+  leave_call can = next_call known can leave_may
+
+pub left_more : {σ σ1 σ2 : Standing} (d : Directory) (first page : ℕ) → first ≤ page → Releases d first page σ σ1 → PutsAndLeaves page d full σ1 σ2 → Releases d first (page + 1) σ σ2
+left_more d first page low so_far h =
+    let ys = h.after ++ h.puts in
+    record {
+      steps = ys ++ so_far.steps;
+      calls = call_then (Does (of_pages (in_span first (page + 1)) Lost)) (known d first (page + 1) page low (omega arith) so_far) h.calls (leave_may d first (page + 1) page low (omega arith) so_far)
+          (λ v met a b. does_as (of_pages (in_span first (page + 1)) Lost) (does_then a.0 b)
+          (λ g. inl (both_fates Lost (in_span first page (g / 256)) (masked page full g) (in_span first (page + 1) (g / 256)) refl (ap (λ t. in_span first page (g / 256) || t) (on_full page g) ∙ span_more first page (g / 256) low)))
+          (λ q. both_fates Lost (in_span first page q) (page == q) (in_span first (page + 1) q) refl (span_more first page q low)) (λ q h. h));
+      kinds = only_both giving_back ys so_far.steps h.kinds so_far.kinds;
+      few = let n = length-append ys so_far.steps in let a = h.few in let b = so_far.few in omega (arith, n, a, b, low);
+      lacks = λ before p none. ap (λ s. has_right s p) (append_assoc ys so_far.steps before) ∙ elim (cases_eq p page) [
+        | inl e ↦ ap (has_right (ys ++ (so_far.steps ++ before))) e ∙ h.lacks (so_far.steps ++ before)
+        | inr ne ↦ right_on page p ys (so_far.steps ++ before) h.on ne ∙ so_far.lacks before p (λ out. none (span_apart first page p ne out))
+      ];
+      alone = λ before p ge alone. subst (LeftAlone p) (sym (append_assoc ys so_far.steps before)) (alone_on page p ys (so_far.steps ++ before) h.on (λ e. absurd (omega (arith, e, ge))) (so_far.alone before p (omega (arith, ge)) alone));
+    }
+
+-- ---- the claim of a run
+pub run_claimed : {σ σ1 : Standing} (d : Directory) (first end stop : ℕ) → stop ≡ end → ClaimsPages d first end σ σ1 stop → ClaimsRun d first end σ σ1 None
+run_claimed {σ} {σ1} d first end stop e h =
+    let all = subst (ClaimsPages d first end σ σ1) e h in
+    record {
+      steps = all.steps;
+      adds = all.adds;
+      kinds = all.kinds;
+      few = let few = all.few in omega (arith, few);
+      deeds = all.deeds;
+      shows = all.shows;
+      outcome = record { got = all.got; holding = all.holding };
+    }
+
+module _ {σ σ1 : Standing} (d : Directory) (first end stop : ℕ) (ne : stop ≢ end) (h : ClaimsPages d first end σ σ1 stop) where
+  before_end : stop < end
+  before_end = let le = h.span.1 in omega (arith, ne, le)
+
+  may_release : (v : View) → MayClaimPages first end v → GotPages (in_span first stop) d v (h.steps ++ v) → HasPages d first stop (h.steps ++ v)
+  may_release v met got = has_got d first stop met.clear got
+
+  got_call : Calls σ σ1 (MayClaimPages first end) (GotPages (in_span first stop) d) h.steps
+  got_call = record { adds = h.adds; leads = h.got }
+
+  pub release_call : CanCall σ (λ v l. MayClaimPages first end v) → CanCall σ1 (λ v l. HasPages d first stop v)
+  release_call can = next_call got_call can may_release
+
+  pub run_failed : {σ2 : Standing} → Releases d first stop σ1 σ2 → ClaimsRun d first end σ σ2 (Some stop)
+  run_failed r =
+      let calls = call_then (Does nothing) got_call r.calls may_release
+      (λ v met got lost. undone (λ g. in_span first stop (g / 256)) (in_span first stop) got.apart (λ p is. let at = in_parts first stop p is in let lt = at.1 in let last = before_end in met.lacks p at.0 (omega (arith, lt, last))) got.does lost) in
+      record {
+        steps = r.steps ++ h.steps;
+        adds = calls.adds;
+        kinds = only_both claiming r.steps h.steps (only_within giving_back claiming r.steps refl r.kinds) h.kinds;
+        few = let n = length-append r.steps h.steps in let a = r.few in let b = h.few in let le = h.span.1 in omega (arith, n, a, b, le);
+        deeds = deeds_join d first end end stop r.steps h.steps h.span.0 before_end (omega arith) (no_deeds giving_back d stop r.steps refl r.kinds) h.deeds;
+        shows = shows_both σ.seat.profile r.steps h.steps (shows_taking σ.seat.profile r.steps (only_within giving_back taking_pages r.steps refl r.kinds)) h.shows;
+        outcome = record {
+          in_run = (h.span.0, before_end);
+          still = calls.leads;
+          lacks = λ before none p. ap (λ s. has_right s p) (append_assoc r.steps h.steps before) ∙ r.lacks (h.steps ++ before) p (λ out. h.lacks before none p out);
+          alone = λ before free p ge. subst (LeftAlone p) (sym (append_assoc r.steps h.steps before)) (r.alone (h.steps ++ before) p (omega (arith, ge)) (h.alone before free p ge));
+          failed = λ before v free usable agreed.
+              let mine : Agreed σ.seat.profile v (h.steps ++ before) = agreed_later σ.seat.profile v r.steps (h.steps ++ before) (subst (Agreed σ.seat.profile v) (append_assoc r.steps h.steps before) agreed) in
+              elim (h.failed before_end before v free usable mine) [
+                | inl lost ↦ inl (once_later (λ m b. LostHere d stop m (b ++ before)) r.steps h.steps lost)
+                | inr broken ↦ inr (once_later (λ m b. BrokenHere stop m (b ++ before)) r.steps h.steps broken)
+              ];
+        };
+      }

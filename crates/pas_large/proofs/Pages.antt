@@ -1,0 +1,415 @@
+-- The claim of one page: its right and its grains, and how it is left.
+use Rattle.std.proofs.Common.{◌≡◌, ℕ, ◌==◌, Bool, true, false, if◌then◌else◌, [], ◌∷◌, ◌++◌, inl, refl, ◌∙◌, subst, arith, length-append, ap, append_assoc, ◌⊎◌, ◌+◌, ◌*◌, ◌/◌, ◌%◌, ◌<◌, ◌&&◌, List, inr, sym, true≢false, ◌≢◌, length, Some, None, MatchBool}
+use Rattle.std.proofs.lemmas.Bool.{eqb-true, eq-eqb, ne_eqb, eqb-false, cases_eq, cases_Bool}
+use Rattle.pas_profile.specs.declared.directory.Directory.{Directory}
+use Rattle.pas_bits.specs.declared.mask.Mask4.{Mask4}
+use Rattle.pas_rights.specs.Leaves.{MayLeave, Leaves, LosesHere}
+use Rattle.pas_rights.specs.Puts.{masked, PutsMask}
+use Rattle.pas_rights.specs.Returns.{Settles}
+use Rattle.pas_segregated.specs.Returns.{giving_back}
+use Rattle.pas_rights.proofs.Debts.{leave_lacks}
+use Rattle.pas_steps.specs.Calls.{Calls, Kept, Lost, later, put, Does, ClearAfter, Gained, now, Fate, nothing}
+use Rattle.pas_steps.specs.Clear.{IsClearOn}
+use Rattle.pas_steps.specs.Desks.{Standing, CanCall, Anything, Makes, Adds, made}
+use Rattle.pas_steps.specs.Frames.{IsOnPage, KeepsRight, IsRead, GivesUp}
+use Rattle.pas_steps.specs.Kinds.{Putting, returning, kind_of, is_in, Kinds, Deeding, Only}
+use Rattle.pas_steps.specs.Views.{View, has_right, holds, KnowsDeed, Way, Rests, ByDeed, FromOffer, had_after, deed_after, known_deed}
+use Rattle.pas_steps.proofs.Apart.{deeds_same, unstamped_same, examines_same, only_both, only_within, no_events, holds_same}
+use Rattle.pas_steps.proofs.Called.{call_as, call_then, next_call, call_knows}
+use Rattle.pas_steps.proofs.Calls.{does_as, does_then, kept_first, returns_are, does_on_page, leads_as, leads_at, owes_over, unexamined_over}
+use Rattle.pas_steps.proofs.Kept.{returns_on, looks_read, right_reads, deed_stays, knows_still}
+use Rattle.pas_steps.proofs.Past.{always_both, once_later, once_earlier, always_map, once_map}
+use Rattle.pas_large.specs.Pages.{MayPutAndLeave, put_and_left, PutsAndLeaves, OnceAfter, TookPage, TakesPage, taking_pages, getting, DeedsOn, OnlyDeedsShow, GetsPage, MayClaim, of_pages, GotPages, claiming, IsClaimed, ClaimsPage, GetsRightOf, LosesRightOf}
+use Rattle.pas_profile.specs.Classes.{has_bit}
+use Rattle.pas_profile.specs.declared.profile.Profile.{Profile}
+use Rattle.pas_bits.specs.Masks.{is_set, AllSetBelow, IsLowestClear}
+use Rattle.pas_steps.specs.Evidence.{GetsHere, ShowsHere, KeptHere, ReadsDeed, GetsRight, NoDeedHere}
+use Rattle.pas_steps.specs.Past.{Once, Since, Always}
+use Rattle.pas_steps.specs.declared.step.Made.{Made}
+use Rattle.pas_steps.proofs.Frames.{rights_stay, events_append}
+use Rattle.pas_search.specs.Serving.{MayServe, GotBefore, right_of}
+use Rattle.pas_segregated.proofs.GiveBack.{keeps_by}
+use Rattle.pas_segregated.specs.Takes.{slots_on, GetsGrains, TakesSlots}
+use Rattle.pas_large.specs.Evidence.{BrokenHere, TakenWholeHere, LostHere}
+use Rattle.pas_profile.specs.Directories.{number_of, deed_word_of}
+use Rattle.pas_profile.specs.Profiles.{IsPage}
+use Rattle.pas_profile.specs.declared.event.Event.{Event}
+use Rattle.pas_profile.specs.declared.word.Word.TheVariants as Word
+use Rattle.pas_profile.proofs.Codecs.{deed_word_of-positive}
+use Rattle.pas_steps.specs.Agreement.{Agreed}
+use Rattle.pas_steps.specs.Events.{with_event, events_by}
+use Rattle.pas_steps.specs.declared.step.Step.{Step}
+use Rattle.pas_steps.specs.declared.step.Step.TheVariants.{Look, Deed, TakeRight}
+use Rattle.pas_steps.proofs.Adding.{adds_none, adds_step, adds_call, adds_under, agreed_first, agreed_later}
+use Rattle.pas_steps.proofs.Unknown.{unknown_stays, unknown_less}
+use Rattle.pas_rights.specs.Claims.{Claims}
+use Rattle.pas_scan.specs.Usable.{OfHere, ReadUsable, LeftAlone}
+use Rattle.pas_steps.specs.Unknown.{unknown_pages}
+use Rattle.pas_large.specs.declared.claiming.Claimed.{Claimed}
+
+-- ---- grains are put back, and their page is left
+clear_again : (t : Bool) (q : ℕ) (v u : View) → (t ≡ true → IsClearOn q v → IsClearOn q u) → ClearAfter (later (if t then Lost else Kept) (if t then Kept else Kept)) q v u → IsClearOn q v → IsClearOn q u
+clear_again true q v u again h = again refl
+clear_again false q v u again h = h
+
+module _ {σ σ1 : Standing} (page : ℕ) (d : Directory) (mask : Mask4) (puts : PutsMask page mask σ σ1) where
+  put_call : Calls σ σ1 (MayPutAndLeave page d (masked page mask)) (Does (put (masked page mask) page)) puts.steps
+  put_call = call_as (Does (put (masked page mask) page)) puts.calls (λ v met. record { held = met.held; stamped = met.clear.stamped }) (λ v w met does. does)
+
+  may_leave : (v : View) → MayPutAndLeave page d (masked page mask) v → Does (put (masked page mask) page) v (puts.steps ++ v) → MayLeave page d (puts.steps ++ v)
+  may_leave v met does = record { right = does.right page ∙ met.right; deed = deeds_same (Putting ∷ []) refl page puts.steps v puts.kinds ∙ met.deed }
+
+  pub can_leave : CanCall σ (λ v l. MayPutAndLeave page d (masked page mask) v) → CanCall σ1 (λ v l. MayLeave page d v)
+  can_leave can = next_call put_call can may_leave
+
+  settled : (v w : View) → Settles page Lost (puts.steps ++ v) w → IsClearOn page v → IsClearOn page w
+  settled v w settles clear =
+      settles.clear (unstamped_same (Putting ∷ []) refl page puts.steps v puts.kinds ∙ clear.stamped) (examines_same (Putting ∷ []) refl page puts.steps v puts.kinds ∙ clear.examined)
+
+  pub puts_and_leaves : {σ2 : Standing} → Leaves page d σ1 σ2 → PutsAndLeaves page d mask σ σ2
+  puts_and_leaves left = record {
+    puts = puts.steps;
+    after = left.steps;
+    calls = call_then (Does (put_and_left page (masked page mask))) put_call left.calls may_leave
+        (λ v met a b. does_as (put_and_left page (masked page mask)) (does_then a b.does) (λ g. inl refl) (λ q. kept_first (if page == q then Lost else Kept))
+        (λ q. clear_again (page == q) q v (left.steps ++ (puts.steps ++ v)) (λ e. subst (λ p. IsClearOn p v → IsClearOn p (left.steps ++ (puts.steps ++ v))) (eqb-true page q e) (settled v (left.steps ++ (puts.steps ++ v)) b))));
+    on = always_both (λ m before. IsOnPage page m.step) (λ m before. IsOnPage page m.step) left.steps puts.steps (λ m before h. h) (returns_on page left.steps left.returns) puts.on;
+    kinds = only_both giving_back left.steps puts.steps (only_within returning giving_back left.steps refl (returns_are page left.steps left.returns)) (only_within (Putting ∷ []) giving_back puts.steps refl puts.kinds);
+    few = let all = length-append left.steps puts.steps in let a = left.few in let b = puts.few in omega (arith, all, a, b);
+    only_puts = puts.kinds;
+    left = left.left;
+    lacks = λ before. ap (λ s. has_right s page) (append_assoc left.steps puts.steps before) ∙ leave_lacks page d left.steps (puts.steps ++ before) left.order;
+  }
+
+-- ---- all grains of a page of a run: four takes, and where some grain wasn't free, what was got is put back and the page is left
+since_map : (P P' Q : Made → List Made → Type 0) (xs : List Made) → ((m : Made) (before : List Made) → P m before → P' m before) → Since P Q xs → Since P' Q xs
+since_map P P' Q [] f h = h
+since_map P P' Q (m ∷ xs) f (inl h) = inl (f m xs h)
+since_map P P' Q (m ∷ xs) f (inr h) = inr (h.0, since_map P P' Q xs f h.1)
+
+-- at each later step Q holds, by what is known of it and of the steps before it
+pub since_more : (P Q R : Made → List Made → Type 0) (ys xs : List Made) → ((m : Made) (b : List Made) → R m b → Always R b → Q m (b ++ xs)) → Always R ys → Since P Q xs → Since P Q (ys ++ xs)
+since_more P Q R [] xs f all h = h
+since_more P Q R (m ∷ ys) xs f all h = inr (f m ys all.0 all.1, since_more P Q R ys xs f all.1 h)
+
+pub after_more : (P : Made → List Made → Type 0) (ys zs xs : List Made) → OnceAfter (zs ++ xs) P ys → OnceAfter xs P (ys ++ zs)
+after_more P ys zs xs h = once_earlier (λ m b. P m (b ++ (zs ++ xs))) (λ m b. P m (b ++ xs)) ys zs (λ m b x. subst (P m) (sym (append_assoc b zs xs)) x) h
+
+pub and_true : (t : Bool) → (t && true) ≡ t
+and_true true = refl
+and_true false = refl
+
+-- ---- what was got is put back
+module _ (d : Directory) (page : ℕ) (got : Mask4) {σ σ1 : Standing} (taken : TakesSlots 0 page d σ σ1 got) where
+  slot : (g : ℕ) → slots_on page 0 got g ≡ masked page got g
+  slot g = let e : g % 256 / 1 * 1 ≡ g % 256 = omega arith in ap (λ x. (page == g / 256) && is_set got x) e
+
+  set_read : (x : ℕ) → is_set got x ≡ true → is_set taken.answers x ≡ true
+  set_read x h = let both = (taken.are x).0 h in let within = both.0.within in both.1 x (omega (arith, within)) (omega arith) (omega arith)
+
+  read_set : (x : ℕ) → x < 256 → is_set taken.answers x ≡ true → is_set got x ≡ true
+  read_set x lt h = (taken.are x).1 (record { aligned = omega arith; within = omega (arith, lt) }, λ g within low high. let e : x ≡ g = omega (arith, low, high) in ap (is_set taken.answers) (sym e) ∙ h)
+
+  -- ---- all grains were got
+  module _ (all : AllSetBelow got 256) where
+    on_page : (g : ℕ) → slots_on page 0 got g ≡ (page == g / 256)
+    on_page g = slot g ∙ ap (λ t. (page == g / 256) && t) (all (g % 256) (omega arith)) ∙ and_true (page == g / 256)
+
+    whole_here : (word : ℕ) → word < 4 → (m : Made) (before : List Made) → ShowsHere page word (is_set taken.answers) m before → TakenWholeHere page word m before
+    whole_here word small m before h = ((h.0, λ b lt. sym (h.2 b lt) ∙ set_read (64 * word + b) (all (64 * word + b) (omega (arith, small, lt)))), h.1)
+
+    took : (v w : View) → GetsGrains (slots_on page 0 got) v w → TookPage page v w
+    took v w gets = record {
+      does = does_as (record { grains = λ g. if page == g / 256 then Gained else Kept; rights = λ q. Kept; clears = λ q. Kept }) gets.does (λ g. inl (ap (λ t. if t then Gained else Kept) (on_page g))) (λ q. refl) (λ q h. h);
+      apart = λ g at. gets.apart g (on_page g ∙ eq-eqb page (g / 256) at);
+    }
+
+    pub keeps_all : TakesPage d page σ σ1 true
+    keeps_all = record {
+      steps = taken.steps;
+      adds = taken.calls.adds;
+      on = taken.on;
+      kinds = taken.kinds;
+      few = let few = taken.few in omega (arith, few);
+      outcome = record {
+        leads = record { from = λ v met agreed. took v (taken.steps ++ v) (taken.calls.leads.from v met agreed) };
+        keeps = taken.keeps;
+        whole = λ before met word lt. since_map (ShowsHere page word (is_set taken.answers)) (TakenWholeHere page word) (KeptHere page) (taken.steps ++ before) (whole_here word lt) (taken.read before met word lt);
+      };
+    }
+
+  -- ---- some grain wasn't
+  took_call : Calls σ σ1 (MayServe page d) (λ v w. GetsGrains (slots_on page 0 got) v w × KnowsDeed page d w) taken.steps
+  took_call = call_knows page d taken.calls (λ v met. met.deed)
+
+  may_put_back : (v : View) → MayServe page d v → GetsGrains (slots_on page 0 got) v (taken.steps ++ v) × KnowsDeed page d (taken.steps ++ v) → MayPutAndLeave page d (masked page got) (taken.steps ++ v)
+  may_put_back v met gets = record {
+    right = gets.0.does.right page ∙ met.right;
+    deed = gets.1;
+    held = λ g here. gets.0.does.held g ∙ ap (λ t. now (if t then Gained else Kept) (holds v g)) (slot g ∙ here);
+    clear = gets.0.does.clear page met.clear;
+  }
+
+  pub can_put : CanCall σ (λ v l. MayServe page d v) → CanCall σ1 (λ v l. MayPutAndLeave page d (masked page got) v)
+  can_put can = next_call took_call can may_put_back
+
+  module _ {σ2 : Standing} (back : PutsAndLeaves page d got σ1 σ2) (x : ℕ) (clear : IsLowestClear got x) where
+    -- what was got is lost again
+    again : (s t had : Bool) → s ≡ t → (s ≡ true → had ≡ false) → (later (if s then Gained else Kept) (if t then Lost else Kept) ≡ Kept) ⊎ ((had ≡ false) × (now (later (if s then Gained else Kept) (if t then Lost else Kept)) false ≡ false))
+    again true true had same none = inr (none refl, refl)
+    again false false had same none = inl refl
+    again s t had same none = cc
+
+    left_call : Calls σ σ2 (MayServe page d) (Does (right_of page Lost)) ((back.after ++ back.puts) ++ taken.steps)
+    left_call = call_then (Does (right_of page Lost)) took_call back.calls may_put_back
+        (λ v met gets back. does_as (right_of page Lost) (does_then gets.0.does back) (λ g. again (slots_on page 0 got g) (masked page got g) (holds v g) (slot g) (gets.0.apart g)) (λ q. kept_first (if page == q then Lost else Kept)) (λ q h. h))
+
+    puts_keep : KeepsRight page back.puts
+    puts_keep = keeps_by page (Putting ∷ []) back.puts refl back.only_puts
+
+    broken : (before : List Made) → GotBefore page before → OnceAfter before (BrokenHere page) ((back.after ++ back.puts) ++ taken.steps)
+    broken before met =
+        let xs = taken.steps ++ before in let right = rights_stay taken.steps before page taken.keeps met.right in let kept = rights_stay back.puts xs page puts_keep right in
+        after_more (BrokenHere page) (back.after ++ back.puts) taken.steps before (after_more (BrokenHere page) back.after back.puts xs
+        (once_map (LosesHere page) (λ m b. BrokenHere page m (b ++ (back.puts ++ xs))) back.after (λ m b h. record {
+          left = h.0;
+          kept = right_reads page b (back.puts ++ xs) (looks_read b h.1) ∙ kept;
+          got = once_later (GetsHere page) b (back.puts ++ xs) (once_later (GetsHere page) back.puts xs (once_later (GetsHere page) taken.steps before met.got));
+          readings = is_set taken.answers;
+          none = λ all. true≢false (sym (read_set x clear.within (all x clear.within)) ∙ clear.clear);
+          read = λ word lt. let shows = ShowsHere page word (is_set taken.answers) in
+              since_more shows (KeptHere page) (λ m c. IsRead m.step m.answer) b (back.puts ++ xs) (λ m c is reads. right_reads page c (back.puts ++ xs) reads ∙ kept) (looks_read b h.1)
+              (since_more shows (KeptHere page) (λ m c. GivesUp page m.step → ⊥) back.puts xs (λ m c is keeps. rights_stay c xs page keeps right) puts_keep (taken.read before met word lt));
+        }) back.left))
+
+    pub leaves_broken : TakesPage d page σ σ2 false
+    leaves_broken = record {
+      steps = (back.after ++ back.puts) ++ taken.steps;
+      adds = left_call.adds;
+      on = always_both (λ m before. IsOnPage page m.step) (λ m before. IsOnPage page m.step) (back.after ++ back.puts) taken.steps (λ m before h. h) back.on taken.on;
+      kinds = only_both taking_pages (back.after ++ back.puts) taken.steps (only_within giving_back taking_pages (back.after ++ back.puts) refl back.kinds) taken.kinds;
+      few = let n = length-append (back.after ++ back.puts) taken.steps in let a = back.few in let b = taken.few in omega (arith, n, a, b);
+      outcome = record { leads = left_call.leads; lacks = λ before. ap (λ s. has_right s page) (append_assoc (back.after ++ back.puts) taken.steps before) ∙ back.lacks (taken.steps ++ before); broken = broken };
+    }
+
+-- ---- the right of a page of a run: a look at its deed word, and a claim or a deed
+-- a deed that was read is known
+read_here : (p : ℕ) (a known : ℕ) → (if p == p then a else known) ≡ a
+read_here p a known = ap (λ t. if t then a else known) (eq-eqb p p refl)
+
+known_here : (s : Step) (a p known : ℕ) (d : Directory) → ReadsDeed p s → a ≡ deed_word_of d → deed_after s a p known ≡ deed_word_of d
+known_here s a p known d ReadsDeed.Looks e = read_here p a known ∙ e
+known_here s a p known d (ReadsDeed.Deeds x) e = read_here p (if a == 0 then deed_word_of x else a) known ∙ ap (λ t. if t then deed_word_of x else a) (ne_eqb a 0 (λ z. deed_word_of-positive d (sym e ∙ z))) ∙ e
+
+pub known_of : (f : Profile) (d : Directory) (p : ℕ) (xs : List Made) (v : View) → Agreed f v xs → Once (OfHere d p) xs → KnowsDeed p d (xs ++ v)
+known_of f d p [] v agreed h = absurd h
+known_of f d p (m ∷ xs) v agreed (inl h) = known_here m.step m.answer p (known_deed (xs ++ v) p) d h.0 h.1
+known_of f d p (m ∷ xs) v agreed (inr h) = knows_still f d p (m ∷ []) (xs ++ v) (agreed.0, tt) (known_of f d p xs v agreed.1 h)
+
+abbrev pub deed_look : ℕ → ℕ → Made
+deed_look page a = made (Look (Word.Deed page)) a
+
+-- ---- both steps
+same_fate : (t : Bool) → (if t then Kept else Kept) ≡ Kept
+same_fate true = refl
+same_fate false = refl
+
+way_taken : (page : ℕ) (t got had : Bool) (w : Way) → had_after w had ≡ true → t ≡ got → had_after (if (page == page) && t then w else Rests) had ≡ now (if got then Gained else Kept) had
+way_taken page true got had w gains e = ap (λ x. had_after (if x && true then w else Rests) had) (eq-eqb page page refl) ∙ gains ∙ ap (λ x. now (if x then Gained else Kept) had) e
+way_taken page false got had w gains e = ap (λ x. had_after (if x && false then w else Rests) had) (eq-eqb page page refl) ∙ ap (λ x. now (if x then Gained else Kept) had) e
+
+module _ {σ σ1 : Standing} (d : Directory) (page a : ℕ) (m : Made) (adds : Adds σ σ1 Anything (m ∷ deed_look page a ∷ [])) (on : IsOnPage page m.step) (kind : is_in getting (kind_of m.step) ≡ true) where
+  abbrev pair : List Made
+  pair = m ∷ deed_look page a ∷ []
+
+  -- this becomes of the right, and of nothing else
+  pair_does : (r : Fate) (v : View) → Agreed σ.seat.profile v pair → has_right (pair ++ v) page ≡ now r (has_right v page) → Does (right_of page r) v (pair ++ v)
+  pair_does r v agreed right =
+      let kinds : Only getting pair = (kind, (refl, tt)) in
+      let does = does_on_page σ.seat.profile page r Kept getting refl refl pair v kinds (on, (IsOnPage.Looks (Word.Deed page), tt)) agreed right (λ is. record {
+        stamped = unstamped_same getting refl page pair v kinds ∙ is.stamped;
+        owes = owes_over getting refl page pair v kinds is.owes;
+        examined = unexamined_over getting refl page pair v kinds is.examined;
+      }) in
+      does_as (right_of page r) does (λ x. inl refl) (λ q. refl) (λ q h. subst (λ t. ClearAfter t q v (pair ++ v)) (same_fate (page == q)) h)
+
+  pair_outcome : (got : Bool) → ((v : View) → has_right (pair ++ v) page ≡ now (if got then Gained else Kept) (has_right v page)) → (got ≡ true → (v : View) → Agreed σ.seat.profile v pair → KnowsDeed page d (pair ++ v)) → (got ≡ true → GetsRight page m.step m.answer)
+      → (got ≡ false → (before : List Made) (v : View) → LeftAlone page before → ReadUsable d page before → Agreed σ.seat.profile v (pair ++ before) → LostHere d page m (deed_look page a ∷ before)) → MatchBool got (GetsRightOf σ.seat.profile d page pair) (LosesRightOf σ.seat.profile d page pair)
+  pair_outcome true right known gets lost = record {
+    leads = record { from = λ v met agreed. let does = pair_does Gained v agreed (right v) in record { does = does; may = record { right = right v; deed = known refl v agreed; clear = does.clear page (met.clear.on page) } } };
+    got = λ before alone. record { right = right before; got = inl (gets refl); none = λ g at. holds_same getting refl g pair before (kind, (refl, tt)) ∙ alone.none g at; newest = gets refl };
+  }
+  pair_outcome false right known gets lost = record {
+    leads = record { from = λ v met agreed. does_as nothing (pair_does Kept v agreed (right v)) (λ x. inl refl) (λ q. same_fate (page == q)) (λ q h. h) };
+    lacks = λ before none. right before ∙ none;
+    lost = λ before v alone usable agreed. inl (lost refl before v alone usable agreed);
+  }
+
+  pair_gets : (got : Bool) → DeedsOn d page (m ∷ []) → OnlyDeedsShow σ.seat.profile pair → MatchBool got (GetsRightOf σ.seat.profile d page pair) (LosesRightOf σ.seat.profile d page pair) → GetsPage d page σ σ1 got
+  pair_gets got deeds shows outcome = record {
+    steps = pair;
+    adds = adds;
+    on = (on, (IsOnPage.Looks (Word.Deed page), tt));
+    kinds = (kind, (refl, tt));
+    few = omega arith;
+    deeds = (deeds.0, (λ p e same z. cc, tt));
+    shows = shows;
+    outcome = outcome;
+  }
+
+-- ---- the claim of a page whose deed word was read as the directory's
+pub claim_gets : {σ σ1 σ2 : Standing} (d : Directory) (page a : ℕ) → a ≡ deed_word_of d → Makes σ σ1 (Look (Word.Deed page)) a → (got : Bool) → Claims page d σ1 σ2 got → GetsPage d page σ σ2 got
+claim_gets {σ} {σ1} {σ2} d page a is look got h =
+    let m : Made = made (TakeRight page d) h.answer in let f : Profile = σ.seat.profile in let known = λ (v : View). read_here page a (known_deed v page) ∙ is in
+    let adds : Adds σ σ2 Anything (m ∷ deed_look page a ∷ []) = adds_call {D = λ v l. KnowsDeed page d v} (adds_step adds_none look (λ v l stood met. tt)) h.calls.adds (λ v l stood met. known v) in
+    pair_gets d page a m adds (IsOnPage.Claims d) refl got ((λ p e same z. cc), tt) (λ k v agreed. let still = unknown_stays f (m ∷ deed_look page a ∷ []) v agreed in omega (arith, still))
+    (pair_outcome d page a m adds (IsOnPage.Claims d) refl got (λ v. way_taken page (has_bit h.answer (page % 64)) got (has_right v page) (FromOffer (number_of d)) refl (sym h.got_is))
+    (λ e v agreed. knows_still f d page (m ∷ []) (deed_look page a ∷ v) (agreed.0, tt) (known v)) (λ e. GetsRight.Claims d h.answer (sym h.got_is ∙ e))
+    (λ e before v alone usable agreed. inl (refl, sym h.got_is ∙ e, alone.right, inl ((λ e. cc), alone.parks))))
+
+-- ---- the deed of a page whose deed word was read as another word
+other_known : (f : Profile) (d : Directory) (page a : ℕ) (before : List Made) (v : View) → a ≢ deed_word_of d → ReadUsable d page before → Agreed f v (deed_look page a ∷ before) → Once (NoDeedHere page) before
+other_known f d page a before v ne (inl bare) agreed = bare
+other_known f d page a before v ne (inr whole) agreed =
+    let known : KnowsDeed page d (before ++ v) = known_of f d page before v agreed.1 whole.of in
+    absurd (ne (agreed.0.known (λ z. deed_word_of-positive d (sym known ∙ z)) ∙ known))
+
+-- the deed was made
+deed_known : (p : ℕ) (d : Directory) (a : ℕ) (v : View) → a ≡ 0 → KnowsDeed p d (made (Deed p d) a ∷ v)
+deed_known p d a v e = ap (λ t. if t then (if a == 0 then deed_word_of d else a) else known_deed v p) (eq-eqb p p refl) ∙ ap (λ t. if t then deed_word_of d else a) (eq-eqb a 0 e)
+
+module _ {σ σ1 σ2 : Standing} (d : Directory) (page a b : ℕ) (is : IsPage σ.seat.profile page) (ne : a ≢ deed_word_of d) (look : Makes σ σ1 (Look (Word.Deed page)) a) (deed : Makes σ1 σ2 (Deed page d) b) where
+  abbrev both : List Made
+  both = made (Deed page d) b ∷ deed_look page a ∷ []
+
+  deed_adds : Adds σ σ2 Anything both
+  deed_adds = adds_step (adds_step adds_none look (λ v l stood met. tt)) deed (λ v l stood met. tt)
+
+  knew_none : (v : View) → Agreed σ.seat.profile v both → b ≡ 0 → known_deed v page ≡ 0
+  knew_none v agreed z = elim (cases_eq (known_deed v page) 0) [
+    | inl none ↦ none
+    | inr some ↦
+        let still = deed_stays σ.seat.profile (deed_look page a ∷ []) v page (agreed.1.0, tt) some in
+        absurd (some (sym still ∙ sym (agreed.0.known (λ x. some (sym still ∙ x))) ∙ z))
+  ]
+
+  deed_shows : OnlyDeedsShow σ.seat.profile both
+  deed_shows k v agreed =
+      let count = λ (t : Bool) (e : (b == 0) ≡ t). ap (λ x. length (with_event (if x then Some (Event.Deed k page d) else None) [])) e in
+      elim (cases_eq b 0) [
+        | inl z ↦
+            let one : length (events_by k v both) ≡ 1 = count true (eq-eqb b 0 z) in
+            let fewer = unknown_less σ.seat.profile page both v agreed is (knew_none v agreed z) (λ none. deed_word_of-positive d (sym (deed_known page d b (deed_look page a ∷ v) z) ∙ none)) in omega (arith, one, fewer)
+        | inr some ↦ let none : length (events_by k v both) ≡ 0 = count false (ne_eqb b 0 some) in let still = unknown_stays σ.seat.profile both v agreed in omega (arith, none, still)
+      ]
+
+  pub deed_gets : GetsPage d page σ σ2 (b == 0)
+  deed_gets = pair_gets d page a (made (Deed page d) b) deed_adds (IsOnPage.Deeds d) refl (b == 0) ((λ p e same z. (cc, cc)), tt) deed_shows
+      (pair_outcome d page a (made (Deed page d) b) deed_adds (IsOnPage.Deeds d) refl (b == 0) (λ v. way_taken page (b == 0) (b == 0) (has_right v page) ByDeed refl refl)
+      (λ e v agreed. deed_known page d b (deed_look page a ∷ v) (eqb-true b 0 e)) (λ e. GetsRight.Deeds d b (eqb-true b 0 e))
+      (λ e before v alone usable agreed. inr (refl, eqb-false b 0 e, inr (other_known σ.seat.profile d page a before v ne usable agreed.1), ((λ x h z. cc), alone.deeds))))
+
+-- ---- the claim of one page of a run: its right, and then its grains
+pub claim_lost : {σ σ1 : Standing} (d : Directory) (page : ℕ) → GetsPage d page σ σ1 false → ClaimsPage d page σ σ1 Claimed.Lost
+claim_lost d page get = record {
+  steps = get.steps;
+  adds = adds_under get.adds (λ v l stood met. tt);
+  on = get.on;
+  kinds = only_within getting claiming get.steps refl get.kinds;
+  few = let few = get.few in omega (arith, few);
+  deeds = get.deeds;
+  shows = get.shows;
+  outcome = record { still = leads_as get.outcome.leads (λ v met. tt) (λ v w met does. does); lacks = get.outcome.lacks; lost = get.outcome.lost };
+}
+
+abbrev pub MadeHere : Directory → ℕ → Made → List Made → Type 0
+MadeHere d page m before = (p : ℕ) (e : Directory) → m.step ≡ Deed p e → m.answer ≡ 0 → (e ≡ d) × (p ≡ page)
+
+-- steps of a kind that makes no deeds and no events
+pub no_deeds : (ks : Kinds) (d : Directory) (page : ℕ) (steps : List Made) → is_in ks Deeding ≡ false → Only ks steps → DeedsOn d page steps
+no_deeds ks d page steps none = always_map (λ m before. is_in ks (kind_of m.step) ≡ true) (MadeHere d page) steps (λ m before is p e same z. absurd (true≢false (sym is ∙ ap (λ s. is_in ks (kind_of s)) same ∙ none)))
+
+pub shows_both : (f : Profile) (ys xs : List Made) → OnlyDeedsShow f ys → OnlyDeedsShow f xs → OnlyDeedsShow f (ys ++ xs)
+shows_both f ys xs later first k v agreed =
+    let a = later k (xs ++ v) (agreed_first f v ys xs agreed) in let b = first k v (agreed_later f v ys xs agreed) in
+    let n : length (events_by k v (ys ++ xs)) ≡ length (events_by k (xs ++ v) ys) + length (events_by k v xs) = ap length (events_append k ys xs v) ∙ length-append (events_by k (xs ++ v) ys) (events_by k v xs) in
+    let same : unknown_pages f ((ys ++ xs) ++ v) ≡ unknown_pages f (ys ++ (xs ++ v)) = ap (unknown_pages f) (append_assoc ys xs v) in
+    omega (arith, a, b, n, same)
+
+pub shows_taking : (f : Profile) (steps : List Made) → Only taking_pages steps → OnlyDeedsShow f steps
+shows_taking f steps only k v agreed = let none = ap length (no_events taking_pages refl k v steps only) in let still = unknown_stays f steps v agreed in omega (arith, none, still)
+
+-- ---- effects
+got_lost : (t had : Bool) → (t ≡ true → had ≡ false) → now (if t then Lost else Kept) (now (if t then Gained else Kept) had) ≡ had
+got_lost true had lacked = sym (lacked refl)
+got_lost false had lacked = refl
+
+-- what was got is lost again
+pub undone : {v w u : View} (grains rights : ℕ → Bool) → ((g : ℕ) → grains g ≡ true → holds v g ≡ false) → ((p : ℕ) → rights p ≡ true → has_right v p ≡ false)
+    → Does (record { grains = λ g. if grains g then Gained else Kept; rights = λ q. if rights q then Gained else Kept; clears = λ q. Kept }) v w
+    → Does (record { grains = λ g. if grains g then Lost else Kept; rights = λ q. if rights q then Lost else Kept; clears = λ q. Kept }) w u → Does nothing v u
+undone {v} grains rights apart lacks a b = record {
+  held = λ x. b.held x ∙ ap (now (if grains x then Lost else Kept)) (a.held x) ∙ got_lost (grains x) (holds v x) (apart x);
+  right = λ q. b.right q ∙ ap (now (if rights q then Lost else Kept)) (a.right q) ∙ got_lost (rights q) (has_right v q) (lacks q);
+  clear = λ q is. b.clear q (a.clear q is);
+  backed = λ x kept bears. elim (cases_Bool (grains x)) [
+    | inl here ↦ absurd (true≢false (sym bears.held ∙ apart x here))
+    | inr other ↦ b.backed x (ap (λ t. if t then Lost else Kept) other) (a.backed x (ap (λ t. if t then Gained else Kept) other) bears)
+  ];
+}
+
+module _ (d : Directory) (page : ℕ) {σ σ1 : Standing} (get : GetsPage d page σ σ1 true) where
+  module _ {σ2 : Standing} {whole : Bool} (takes : TakesPage d page σ1 σ2 whole) where
+    abbrev all : List Made
+    all = takes.steps ++ get.steps
+
+    all_adds : Adds σ σ2 (λ v l. MayClaim page v) all
+    all_adds = adds_call {D = λ v l. MayServe page d v} (adds_under get.adds (λ v l stood met. tt)) takes.adds (λ v l stood met. (get.outcome.leads.from v met (get.adds.agreed v l stood tt)).may)
+
+    pub claims : (claimed : Claimed) → IsClaimed σ.seat.profile d page (takes.steps ++ get.steps) claimed → ClaimsPage d page σ σ2 claimed
+    claims claimed outcome = record {
+      steps = all;
+      adds = all_adds;
+      on = always_both (λ m before. IsOnPage page m.step) (λ m before. IsOnPage page m.step) takes.steps get.steps (λ m before h. h) takes.on get.on;
+      kinds = only_both claiming takes.steps get.steps (only_within taking_pages claiming takes.steps refl takes.kinds) (only_within getting claiming get.steps refl get.kinds);
+      few = let n = length-append takes.steps get.steps in let a = takes.few in let b = get.few in omega (arith, n, a, b);
+      deeds = always_both (MadeHere d page) (MadeHere d page) takes.steps get.steps (λ m before h. h) (no_deeds taking_pages d page takes.steps refl takes.kinds) get.deeds;
+      shows = shows_both σ.seat.profile takes.steps get.steps (shows_taking σ.seat.profile takes.steps takes.kinds) get.shows;
+      outcome = outcome;
+    }
+
+  -- ---- all its grains were got
+  pub claim_whole : {σ2 : Standing} → TakesPage d page σ1 σ2 true → ClaimsPage d page σ σ2 Claimed.Whole
+  claim_whole takes =
+      let took = leads_at {R = TookPage page} get.adds.seat_is takes.outcome.leads in
+      claims takes Claimed.Whole (record {
+        leads = record {
+          from = λ v met agreed.
+              let f = σ.seat.profile in let zs = takes.steps in
+              let got = get.outcome.leads.from v met (agreed_later f v zs get.steps agreed) in
+              let now = agreed_first f v zs get.steps agreed in
+              let took = took.from (get.steps ++ v) got.may now in
+              subst (GotPages (λ q. page == q) d v) (sym (append_assoc zs get.steps v)) (record {
+                does = does_as (of_pages (λ q. page == q) Gained) (does_then got.does took.does) (λ g. inl (kept_first (if page == g / 256 then Gained else Kept))) (λ q. refl) (λ q h. h);
+                apart = λ g at. sym (got.does.held g) ∙ took.apart g (eqb-true page (g / 256) at);
+                deeds = λ p at. subst (λ q. KnowsDeed q d (zs ++ (get.steps ++ v))) (eqb-true page p at) (knows_still f d page zs (get.steps ++ v) now got.may.deed);
+              });
+        };
+        right = λ before alone. ap (λ s. has_right s page) (append_assoc takes.steps get.steps before) ∙ rights_stay takes.steps (get.steps ++ before) page takes.outcome.keeps (get.outcome.got before alone).right;
+        whole = λ before alone word lt. subst (Since (TakenWholeHere page word) (KeptHere page)) (sym (append_assoc takes.steps get.steps before)) (takes.outcome.whole (get.steps ++ before) (get.outcome.got before alone) word lt);
+      })
+
+  -- ---- some weren't free
+  pub claim_broken : {σ2 : Standing} → TakesPage d page σ1 σ2 false → ClaimsPage d page σ σ2 Claimed.Broken
+  claim_broken takes =
+      let left = leads_at {R = Does (right_of page Lost)} get.adds.seat_is takes.outcome.leads in
+      claims takes Claimed.Broken (record {
+        still = record {
+          from = λ v met agreed.
+              let f = σ.seat.profile in let zs = takes.steps in
+              let got = get.outcome.leads.from v met (agreed_later f v zs get.steps agreed) in
+              subst (Does nothing v) (sym (append_assoc zs get.steps v)) (undone (λ g. false) (λ q. page == q) (λ g e. cc) (λ q e. subst (λ r. has_right v r ≡ false) (eqb-true page q e) met.lacks) got.does (left.from (get.steps ++ v) got.may (agreed_first f v zs get.steps agreed)));
+        };
+        lacks = λ before none. ap (λ s. has_right s page) (append_assoc takes.steps get.steps before) ∙ takes.outcome.lacks (get.steps ++ before);
+        broken = λ before alone. after_more (BrokenHere page) takes.steps get.steps before (takes.outcome.broken (get.steps ++ before) (get.outcome.got before alone));
+      })
