@@ -1,5 +1,5 @@
 -- What follows once the acts of a plan were answered by a legal list, at whose end all actors have nothing.
-use Rattle.std.proofs.Common.{◌≡◌, ℕ, ◌==◌, Bool, true, false, if◌then◌else◌, inl, inr, List, [], ◌∷◌, ◌++◌, refl, sym, subst}
+use Rattle.std.proofs.Common.{◌≡◌, ℕ, ◌==◌, Bool, true, false, if◌then◌else◌, max, inl, inr, List, [], ◌∷◌, ◌++◌, refl, sym, subst}
 use Rattle.std.specs.Prelude.{All}
 use Rattle.std.proofs.lemmas.Bool.{cases_eq, eq-eqb}
 use Rattle.pas_profile.specs.declared.profile.Profile.{Profile}
@@ -8,7 +8,7 @@ use Rattle.pas_steps.specs.Views.{View}
 use Rattle.pas_steps.specs.Events.{events_by}
 use Rattle.pas_steps.specs.Desks.{made, triples}
 use Rattle.pas_steps.specs.declared.step.Made.{Made}
-use Rattle.pas_steps.specs.declared.step.Step.TheVariants.{Look}
+use Rattle.pas_steps.specs.declared.step.Step.TheVariants.{Tick}
 use Rattle.pas_steps.proofs.Parts.{part_of_own, part_of_others}
 use Rattle.pas_core.specs.Stamps.{AllStamped, AllKeepToEnds}
 use Rattle.pas_core.proofs.StampedEnds.{stamps_are_ends}
@@ -21,14 +21,18 @@ use Rattle.pas_steps.specs.Lists.{Whole, part, Legal}
 use Rattle.pas_core.proofs.MachineRuns.{runs}
 use Rattle.pas_trace.specs.declared.plan.Plan.{Plan}
 use Rattle.pas_report.specs.declared.record.Record.{Record}
+use Rattle.pas_report.specs.declared.record.Said.{Said}
 use Rattle.pas_report.proofs.TrueMarks.{true_marks}
-use Rattle.pas_answers.specs.Acts.{Act, Operates, MarksPhase, Wakes, MarksClose, Ends, acts_of}
-use Rattle.pas_answers.specs.Answers.{Progress, having, with_records, with_steps, begun, records_of, said_by, Follows}
+use Rattle.pas_cache.specs.Caches.{Cached}
+use Rattle.pas_scavenger.specs.Passes.{passing}
+use Rattle.pas_passes.specs.Records.{records_of_pass}
+use Rattle.pas_answers.specs.Acts.{Act, Operates, Ticks, MakesPass, ReadsEpoch, StopsIdle, MarksPhase, Wakes, MarksClose, Ends, acts_of}
+use Rattle.pas_answers.specs.Answers.{Progress, having, with_records, records_of, said_by, stopped, epoch_look, IsStopped, after_answer, after_wake, after_reading, after_tick, after_pass, after_stop, Follows}
 use Rattle.pas_answers.specs.Replays.{at_start, phases_of, IsReplay}
 use Rattle.pas_answers.specs.Ways.{Way, IsOneOrder, arranged}
 use Rattle.pas_answers.proofs.Parts.{Each, same_parts, legal_part, of_front, of_rest}
-use Rattle.pas_answers.proofs.Shown.{EachShown, each_both, each_arranged, piece_shown, records_shown, all_shown}
-use Rattle.pas_answers.proofs.Tidy.{Tidy, KeptPart, look_tidy, stop_tidy, answer_tidy}
+use Rattle.pas_answers.proofs.Shown.{EachShown, each_both, each_arranged, piece_shown, records_shown, pass_shown, all_shown}
+use Rattle.pas_answers.proofs.Tidy.{Tidy, KeptPart, tidy_over, look_tidy, tick_tidy, stop_tidy, answer_tidy}
 use Rattle.pas_answers.proofs.Requests.{known_directory}
 
 -- ---- the whole replay, by the parts of the actors
@@ -57,24 +61,43 @@ leaves_piece f k steps more l l' rs rs' piece shows rest =
 leaves_mark : (f : Profile) (mark : Record) (l l' : Whole) (rs rs' : List Record) → CanShow mark → Leaves f l l' (rs ++ mark ∷ []) rs' → Leaves f l l' rs rs'
 leaves_mark f mark l l' rs rs' can rest = record { of = rest.of; tidy = rest.tidy; shown = λ all. rest.shown (each_both rs (mark ∷ []) all (can, tt)) }
 
+-- steps of the scavenger, whose kinds leave a view tidy
+leaves_scavenged : (f : Profile) (steps : List Made) (more : List Record) (l l' : Whole) (rs rs' : List Record) → (Tidy (part 0 l) → Tidy (steps ++ part 0 l)) → (AreOfRegion f steps → EachShown more)
+    → Leaves f (triples 0 steps ++ l) l' (rs ++ more) rs' → Leaves f l l' rs rs'
+leaves_scavenged f steps more l l' rs rs' piece shows rest = leaves_piece f 0 steps more l l' rs rs' (λ of. piece) shows rest
+
+-- one look at the epoch, without a record
+leaves_look : (f : Profile) (k epoch : ℕ) (l l' : Whole) (rs rs' : List Record) → Leaves f (triples k (epoch_look epoch) ++ l) l' rs rs' → Leaves f l l' rs rs'
+leaves_look f k epoch l l' rs rs' rest =
+    record { of = of_rest f k (epoch_look epoch) l rest.of; tidy = λ all. rest.tidy (tidy_piece k (epoch_look epoch) l all (look_tidy Word.Epoch epoch (part k l) refl (all k))); shown = rest.shown }
+
+-- thread k was stopped, and something is said besides
+leaves_stop : (f : Profile) (p : Progress) (k : ℕ) (steps : List Made) (c : Cached) (said : List Record) (l : Whole) (rs : List Record) → IsStopped k (p.caches k) c steps → EachShown said
+    → Leaves f (triples k steps ++ p.list) l (p.records ++ (records_of (events_by k (part k p.list) steps) ++ said)) rs → Leaves f p.list l p.records rs
+leaves_stop f p k steps c said l rs is shown rest =
+    let v = part k p.list in
+    leaves_piece f k steps (records_of (events_by k v steps) ++ said) p.list l p.records rs (λ of tidy. stop_tidy f k (p.caches k) c steps v of is tidy)
+    (λ of. each_both (records_of (events_by k v steps)) said (records_shown f k steps v of) shown) rest
+
 leaves : (f : Profile) (acts : List Act) (p : Progress) (l : Whole) (rs : List Record) → Follows f acts p l rs → Each (AreOfRegion f) l → Leaves f p.list l p.records rs
 leaves f [] p l rs is of = record { of = subst (Each (AreOfRegion f)) is.0 of; tidy = λ all. subst (Each Tidy) (sym is.0) all; shown = λ all. subst EachShown (sym is.1) all }
 leaves f (MarksPhase n ∷ acts) p l rs is of = leaves_mark f (Record.Phase n) p.list l p.records rs tt (leaves f acts (with_records p (Record.Phase n ∷ [])) l rs is of)
 leaves f (MarksClose ∷ acts) p l rs is of = leaves_mark f Record.Close p.list l p.records rs tt (leaves f acts (with_records p (Record.Close ∷ [])) l rs is of)
-leaves f (Wakes k ∷ acts) p l rs is of =
-    let look : List Made = made (Look Word.Epoch) is.0 ∷ [] in
-    let rest = leaves f acts (with_steps p k look (begun (p.caches k) is.0)) l rs is.1 of in
-    record { of = of_rest f k look p.list rest.of; tidy = λ all. rest.tidy (tidy_piece k look p.list all (look_tidy Word.Epoch is.0 (part k p.list) refl (all k))); shown = rest.shown }
+leaves f (Wakes k ∷ acts) p l rs is of = leaves_look f k is.0 p.list l p.records rs (leaves f acts (after_wake p k is.0) l rs is.1 of)
 leaves f (Operates op ∷ acts) p l rs is of =
     let k = op.actor in
     let v = part k p.list in
-    let more = records_of (events_by k v is.0.steps) ++ said_by k is.0.said in
-    leaves_piece f k is.0.steps more p.list l p.records rs (answer_tidy f k op.what (having p.names v (p.caches k)) is.0 is.1) (piece_shown f k is.0.steps is.0.said v)
-    (leaves f acts (with_records (record (with_steps p k is.0.steps is.0.cache) { names = is.0.names }) more) l rs is.2 of)
-leaves f (Ends k ∷ acts) p l rs is of =
-    let more = records_of (events_by k (part k p.list) is.0) in
-    leaves_piece f k is.0 more p.list l p.records rs (λ of tidy. stop_tidy f k (p.caches k) is.1 is.0 (part k p.list) of is.2 tidy) (records_shown f k is.0 (part k p.list))
-    (leaves f acts (with_records (with_steps p k is.0 is.1) more) l rs is.3 of)
+    leaves_piece f k is.0.steps (records_of (events_by k v is.0.steps) ++ said_by k is.0.said) p.list l p.records rs (answer_tidy f k op.what (having p.names v (p.caches k)) is.0 is.1) (piece_shown f k is.0.steps is.0.said v)
+    (leaves f acts (after_answer p k is.0) l rs is.2 of)
+leaves f (Ticks asked ∷ acts) p l rs is of =
+    leaves_scavenged f (made (Tick asked) is.0 ∷ []) (Record.Said 0 (Said.Tick (max is.0 asked)) ∷ []) p.list l p.records rs (tick_tidy asked is.0 (part 0 p.list)) (λ of. (tt, tt)) (leaves f acts (after_tick p asked is.0) l rs is.1 of)
+leaves f (MakesPass ∷ acts) p l rs is of =
+    leaves_scavenged f is.2 (records_of_pass 0 is.0 is.1) p.list l p.records rs (tidy_over passing refl is.2 (part 0 p.list) is.3.kinds)
+    (λ of. pass_shown 0 is.0 is.1) (leaves f acts (after_pass p is.0 is.1 is.2) l rs is.4 of)
+leaves f (ReadsEpoch ∷ acts) p l rs is of = leaves_look f 0 is.0 p.list l p.records rs (leaves f acts (after_reading p is.0) l rs is.1 of)
+leaves f (StopsIdle k n ∷ acts) p l rs (inl is) of = leaves_stop f p k is.1 is.2 (stopped k) l rs is.3 (tt, tt) (leaves f acts (after_stop p k is.1 is.2 (stopped k)) l rs is.4 of)
+leaves f (StopsIdle k n ∷ acts) p l rs (inr is) of = leaves f acts p l rs is.1 of
+leaves f (Ends k ∷ acts) p l rs is of = leaves_stop f p k is.0 is.1 [] l rs is.2 tt (leaves f acts (after_stop p k is.0 is.1 []) l rs is.3 of)
 
 later_kept : (t : Bool) (m : Made) (v : View) → KeptPart (if t then m ∷ v else v) → KeptPart v
 later_kept true m v all = all.1

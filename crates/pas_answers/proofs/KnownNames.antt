@@ -8,11 +8,9 @@ use Rattle.pas_trace.specs.declared.plan.What.{What}
 use Rattle.pas_trace.specs.declared.plan.What.TheVariants.{Alloc, Free, Raw, Flush, Stop}
 use Rattle.pas_report.specs.declared.record.Said.{Said}
 use Rattle.pas_cache.specs.Caches.{Cached}
+use Rattle.pas_answers.specs.Calls.{AreKnown}
 use Rattle.pas_answers.specs.Answers.{name_of, having, answer_of, Named, standing_for, IsAnswered}
 use Rattle.pas_trace.specs.EveryPlan.{is_asked, asked_after}
-
-abbrev pub AreKnown : List ℕ → List Named → Type 0
-AreKnown asked names = (n : ℕ) → is_asked asked n ≡ true → (block : Option Name) × (standing_for names n ≡ Some block)
 
 one_more : (t : Bool) (block : Option Name) (rest : Option (Option Name)) (old : Bool) → (old ≡ true → (b : Option Name) × (rest ≡ Some b)) → t || old ≡ true
     → (b : Option Name) × ((if t then Some block else rest) ≡ Some b)

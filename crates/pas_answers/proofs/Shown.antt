@@ -4,6 +4,8 @@ use Rattle.std.specs.Prelude.{All, map}
 use Rattle.std.proofs.lemmas.List.Elements.{All-nil, All-push, All-append}
 use Rattle.pas_profile.specs.declared.profile.Profile.{Profile}
 use Rattle.pas_profile.specs.declared.event.Event.{Event}
+use Rattle.pas_profile.specs.declared.event.Outcome.{Outcome}
+use Rattle.pas_profile.specs.declared.event.Outcome.TheVariants.{Unbacked, Bare, Young, InUse, NotOffered}
 use Rattle.pas_steps.specs.Events.{events_by}
 use Rattle.pas_steps.specs.Views.{View}
 use Rattle.pas_steps.specs.declared.step.Made.{Made}
@@ -11,6 +13,7 @@ use Rattle.pas_report.specs.Lines.{CanShow}
 use Rattle.pas_report.specs.declared.record.Record.{Record}
 use Rattle.pas_report.specs.declared.record.Said.{Said}
 use Rattle.pas_report.proofs.Showable.{AreOfRegion, AreShowable, steps_showable, showable_reverse}
+use Rattle.pas_passes.specs.Records.{record_of, records_of_pass}
 use Rattle.pas_answers.specs.Answers.{records_of, said_by}
 use Rattle.pas_answers.specs.Ways.{Way, InOrder, OnThreads, is_of, records_by, by_actors, by_phases, arranged}
 
@@ -60,6 +63,21 @@ said_shown k (Some said) = (tt, tt)
 
 pub piece_shown : (f : Profile) (k : ℕ) (steps : List Made) (said : Option Said) (v : View) → AreOfRegion f steps → EachShown (records_of (events_by k v steps) ++ said_by k said)
 piece_shown f k steps said v of = each_both (records_of (events_by k v steps)) (said_by k said) (records_shown f k steps v of) (said_shown k said)
+
+-- ---- the records of a pass
+outcome_shown : (k epoch page : ℕ) (outcome : Outcome) → CanShow (record_of k epoch page outcome)
+outcome_shown k epoch page Unbacked = tt
+outcome_shown k epoch page Bare = tt
+outcome_shown k epoch page (Young stamp) = tt
+outcome_shown k epoch page (InUse word value) = tt
+outcome_shown k epoch page NotOffered = tt
+
+outcomes_shown : (k epoch : ℕ) (found : List (ℕ × Outcome)) → EachShown (map (λ p. record_of k epoch p.0 p.1) found)
+outcomes_shown k epoch [] = tt
+outcomes_shown k epoch (x ∷ found) = (outcome_shown k epoch x.0 x.1, outcomes_shown k epoch found)
+
+pub pass_shown : (k epoch : ℕ) (found : List (ℕ × Outcome)) → EachShown (records_of_pass k epoch found)
+pass_shown k epoch found = (tt, outcomes_shown k epoch found)
 
 -- ---- all records
 pub all_shown : (rs : List Record) → EachShown rs → All CanShow rs

@@ -75,12 +75,16 @@ stamped_tidy (End name guess) a p was h = absurd (true≢false h)
 stamped_tidy (Stamp q) a p was h = absurd (true≢false h)
 stamped_tidy s a p was h = refl
 
-tidy_over : (ks : Kinds) → apart ks untidy ≡ true → (steps : List Made) (v : View) → Only ks steps → Tidy v → Tidy (steps ++ v)
+pub tidy_over : (ks : Kinds) → apart ks untidy ≡ true → (steps : List Made) (v : View) → Only ks steps → Tidy v → Tidy (steps ++ v)
 tidy_over ks w = holds_over Tidy untidy ks
     (λ m v h tidy. record { kept = (keeps_tidy m.step v h tidy.stamped, tidy.kept); stamped = λ p. stamped_tidy m.step m.answer p (is_unstamped v p) h ∙ tidy.stamped p }) w
 
 pub look_tidy : (word : Word) (a : ℕ) (v : View) → is_in looking (look_kind word) ≡ true → Tidy v → Tidy (made (Look word) a ∷ v)
 look_tidy word a v is = tidy_over looking refl (made (Look word) a ∷ []) v (is, tt)
+
+-- a tick keeps to ends too, since nothing is unstamped for its actor
+pub tick_tidy : (asked a : ℕ) (v : View) → Tidy v → Tidy (made (Tick asked) a ∷ v)
+tick_tidy asked a v tidy = record { kept = (tidy.stamped, tidy.kept); stamped = tidy.stamped }
 
 tidy_none : (steps : List Made) (v : View) → steps ≡ [] → Tidy v → Tidy (steps ++ v)
 tidy_none steps v none tidy = subst (λ ms. Tidy (ms ++ v)) (sym none) tidy

@@ -1,5 +1,5 @@
 -- Which steps and records answer the acts of a replay.
-use Rattle.std.specs.Prelude.{ℕ, ◌/◌, ◌%◌, ◌≡◌, ◌==◌, ◌⊎◌, true, if◌then◌else◌, List, [], ◌∷◌, ◌++◌, map, reverse, Option, None, Some, Result, Ok, Err, MatchResult}
+use Rattle.std.specs.Prelude.{ℕ, ◌+◌, ◌/◌, ◌%◌, ◌≡◌, ◌≤◌, ◌==◌, ◌⊎◌, true, if◌then◌else◌, List, [], ◌∷◌, ◌++◌, map, max, reverse, Option, None, Some, Result, Ok, Err, MatchResult}
 use Rattle.std.specs.List.{AllByRecursion}
 use Rattle.pas_profile.specs.Routes.{route_of}
 use Rattle.pas_profile.specs.declared.profile.Profile.{Profile}
@@ -8,6 +8,7 @@ use Rattle.pas_profile.specs.declared.name.Block.{Block}
 use Rattle.pas_profile.specs.declared.word.Word.TheVariants as Word
 use Rattle.pas_profile.specs.declared.event.Event.{Event}
 use Rattle.pas_profile.specs.declared.event.FreeFault.{FreeFault}
+use Rattle.pas_profile.specs.declared.event.Outcome.{Outcome}
 use Rattle.pas_profile.specs.declared.event.FreeFault.TheVariants.{Outside, Unaligned}
 use Rattle.pas_profile.specs.declared.event.NoRoom.{NoRoom}
 use Rattle.pas_profile.specs.declared.event.NoRoom.TheVariants.{NoSpace, Held}
@@ -18,6 +19,7 @@ use Rattle.pas_steps.specs.Lists.{Whole, part}
 use Rattle.pas_steps.specs.Desks.{made, triples}
 use Rattle.pas_steps.specs.declared.step.Made.{Made}
 use Rattle.pas_steps.specs.declared.step.Step.TheVariants.{Look}
+use Rattle.pas_steps.specs.declared.step.Step.TheVariants as Step
 use Rattle.pas_trace.specs.declared.plan.What.{What}
 use Rattle.pas_trace.specs.declared.plan.What.TheVariants.{Alloc, Free, Raw, Flush, Stop, Tick, Pass, Idle}
 use Rattle.pas_report.specs.declared.record.Record.{Record}
@@ -28,7 +30,9 @@ use Rattle.pas_steps.specs.Kinds.{Only}
 use Rattle.pas_cache.specs.Kinds.{allocating, releasing}
 use Rattle.pas_cache.specs.Serves.{Wanted, wanted_for, ServesRequest, IsPreparing, IsPlaced, IsSmallRoute}
 use Rattle.pas_cache.specs.Calls.{TakesName, RefusesName}
-use Rattle.pas_answers.specs.Acts.{Act, Operates, MarksPhase, Wakes, MarksClose, Ends}
+use Rattle.pas_scavenger.specs.Passes.{PassSteps}
+use Rattle.pas_passes.specs.Records.{records_of_pass}
+use Rattle.pas_answers.specs.Acts.{Act, Operates, Ticks, MakesPass, ReadsEpoch, StopsIdle, MarksPhase, Wakes, MarksClose, Ends}
 
 -- ---- what the names of a trace stand for, the newest first: a block, by its address and turn, or nothing where the request was refused
 pub record Named : Type 0 where
@@ -169,7 +173,7 @@ pub record IsStopped (k : ℕ) (c c' : Cached) (steps : List Made) : Type 0 wher
   pub steps_are : steps ≡ stopped ++ flushed
 
 -- ---- operations and acts
--- An operation of actor k is answered so. Those that aren't built are never replayed.
+-- An operation of thread k is answered so. Those of the scavenger are acts of their own.
 abbrev pub IsAnswered : Profile → ℕ → What → Having → Answer → Type 0
 IsAnswered f k (Alloc name heap size align) b a = IsServed f k (record { name = name; heap = heap; size = size; align = align }) b a
 IsAnswered f k (Free name) b a = IsFreedBy f k b.cache a.cache name (standing_for b.names name) a.steps a.said × (a.names ≡ b.names)
@@ -184,15 +188,14 @@ IsAnswered f k (Idle n) b a = ⊥
 abbrev pub begun : Cached → ℕ → Cached
 begun c epoch = record { locals = c.locals; log = c.log; idle_since = epoch }
 
--- how far a replay has come: what the names stand for, what the caches hold, the list of the steps, and the records
+-- how far a replay has come: what the names stand for, what the caches hold, the epoch that the scavenger read last for an idle operation, the list of
+-- the steps, and the records
 pub record Progress : Type 0 where
   pub names : List Named
   pub caches : Caches
+  pub epoch : ℕ
   pub list : Whole
   pub records : List Record
-
-abbrev pub progress : List Named → Caches → Whole → List Record → Progress
-progress names caches l rs = record { names = names; caches = caches; list = l; records = rs }
 
 -- .. with records more at the end
 abbrev pub with_records : Progress → List Record → Progress
@@ -202,6 +205,44 @@ with_records p rs = record p { records = p.records ++ rs }
 abbrev pub with_steps : Progress → ℕ → List Made → Cached → Progress
 with_steps p k steps c = record p { caches = with_cache p.caches k c; list = triples k steps ++ p.list }
 
+-- .. after steps of the scavenger, which has no cache
+abbrev pub with_scavenged : Progress → List Made → Progress
+with_scavenged p steps = record p { list = triples 0 steps ++ p.list }
+
+-- ---- each kind of act
+-- a thread's operation was answered
+abbrev pub after_answer : Progress → ℕ → Answer → Progress
+after_answer p k a = with_records (record (with_steps p k a.steps a.cache) { names = a.names }) (records_of (events_by k (part k p.list) a.steps) ++ said_by k a.said)
+
+-- one look at the epoch
+abbrev pub epoch_look : ℕ → List Made
+epoch_look epoch = made (Look Word.Epoch) epoch ∷ []
+
+abbrev pub after_wake : Progress → ℕ → ℕ → Progress
+after_wake p k epoch = with_steps p k (epoch_look epoch) (begun (p.caches k) epoch)
+
+abbrev pub after_reading : Progress → ℕ → Progress
+after_reading p epoch = record (with_scavenged p (epoch_look epoch)) { epoch = epoch }
+
+-- the epoch was raised by one step; what is said is the epoch after it
+abbrev pub after_tick : Progress → ℕ → ℕ → Progress
+after_tick p asked answer = with_records (with_scavenged p (made (Step.Tick asked) answer ∷ [])) (Record.Said 0 (Said.Tick (max answer asked)) ∷ [])
+
+abbrev pub after_pass : Progress → ℕ → List (ℕ × Outcome) → List Made → Progress
+after_pass p epoch found steps = with_records (with_scavenged p steps) (records_of_pass 0 epoch found)
+
+-- thread k was stopped, and this is said besides the events of its flush
+abbrev pub after_stop : Progress → ℕ → List Made → Cached → List Record → Progress
+after_stop p k steps c said = with_records (with_steps p k steps c) (records_of (events_by k (part k p.list) steps) ++ said)
+
+-- the scavenger says that it stopped thread k
+abbrev pub stopped : ℕ → List Record
+stopped k = Record.Said 0 (Said.Stopped k) ∷ []
+
+-- thread k was idle for n epochs when the scavenger read the epoch
+abbrev pub IsIdleFor : Progress → ℕ → ℕ → Type 0
+IsIdleFor p k n = (p.caches k).idle_since + n ≤ p.epoch
+
 -- The acts are answered by pieces, in order: the steps of each go onto the list that those before it left, and its records to the end of the
 -- records: the events of the steps, and what is said. They begin as far as p, and end with the list l and the records rs. A piece is about the part of its
 -- own actor in the list and about its cache, and about nothing else: so the list says of each actor which pieces its part is made of, in the order of its
@@ -210,10 +251,12 @@ abbrev pub Follows : Profile → List Act → Progress → Whole → List Record
 Follows f [] p l rs = (l ≡ p.list) × (rs ≡ p.records)
 Follows f (MarksPhase n ∷ acts) p l rs = Follows f acts (with_records p (Record.Phase n ∷ [])) l rs
 Follows f (MarksClose ∷ acts) p l rs = Follows f acts (with_records p (Record.Close ∷ [])) l rs
-Follows f (Wakes k ∷ acts) p l rs = (epoch : ℕ) × Follows f acts (with_steps p k (made (Look Word.Epoch) epoch ∷ []) (begun (p.caches k) epoch)) l rs
-Follows f (Operates op ∷ acts) p l rs =
-    (a : Answer) × IsAnswered f op.actor op.what (having p.names (part op.actor p.list) (p.caches op.actor)) a
-    × Follows f acts (with_records (record (with_steps p op.actor a.steps a.cache) { names = a.names }) (records_of (events_by op.actor (part op.actor p.list) a.steps) ++ said_by op.actor a.said)) l rs
-Follows f (Ends k ∷ acts) p l rs =
-    (steps : List Made) × (c : Cached) × IsStopped k (p.caches k) c steps
-    × Follows f acts (with_records (with_steps p k steps c) (records_of (events_by k (part k p.list) steps))) l rs
+Follows f (Wakes k ∷ acts) p l rs = (epoch : ℕ) × Follows f acts (after_wake p k epoch) l rs
+Follows f (Operates op ∷ acts) p l rs = (a : Answer) × IsAnswered f op.actor op.what (having p.names (part op.actor p.list) (p.caches op.actor)) a × Follows f acts (after_answer p op.actor a) l rs
+Follows f (Ticks asked ∷ acts) p l rs = (answer : ℕ) × Follows f acts (after_tick p asked answer) l rs
+Follows f (MakesPass ∷ acts) p l rs = (epoch : ℕ) × (found : List (ℕ × Outcome)) × (steps : List Made) × PassSteps f 0 epoch found steps × Follows f acts (after_pass p epoch found steps) l rs
+Follows f (ReadsEpoch ∷ acts) p l rs = (epoch : ℕ) × Follows f acts (after_reading p epoch) l rs
+Follows f (StopsIdle k n ∷ acts) p l rs =
+    (IsIdleFor p k n × (steps : List Made) × (c : Cached) × IsStopped k (p.caches k) c steps × Follows f acts (after_stop p k steps c (stopped k)) l rs)
+    ⊎ ((IsIdleFor p k n → ⊥) × Follows f acts p l rs)
+Follows f (Ends k ∷ acts) p l rs = (steps : List Made) × (c : Cached) × IsStopped k (p.caches k) c steps × Follows f acts (after_stop p k steps c []) l rs

@@ -1,5 +1,5 @@
 -- What one operation asks and promises.
-use Rattle.std.specs.Prelude.{ℕ, ◌+◌, ◌-◌, ◌^◌, ◌<◌, ◌≤◌, ◌≡◌, List, ◌++◌, length, Option, None, Some}
+use Rattle.std.specs.Prelude.{ℕ, ◌+◌, ◌-◌, ◌^◌, ◌<◌, ◌≤◌, ◌≡◌, true, List, ◌++◌, length, Option, None, Some}
 use Rattle.pas_profile.specs.declared.profile.Profile.{Profile}
 use Rattle.pas_profile.specs.declared.name.Name.{Name}
 use Rattle.pas_steps.specs.Views.{View}
@@ -8,6 +8,7 @@ use Rattle.pas_steps.specs.Events.{events_by}
 use Rattle.pas_steps.specs.Lists.{Whole}
 use Rattle.pas_steps.specs.Desks.{Standing}
 use Rattle.pas_steps.specs.declared.step.Made.{Made}
+use Rattle.pas_trace.specs.EveryPlan.{is_asked}
 use Rattle.pas_trace.specs.declared.plan.What.{What}
 use Rattle.pas_trace.specs.declared.plan.What.TheVariants.{Alloc, Free, Raw, Flush, Stop, Tick, Pass, Idle}
 use Rattle.pas_report.specs.Rooms.{records_in, room_of}
@@ -34,6 +35,10 @@ Tells table names = (n : ℕ) → block_named table n ≡ block_behind (standing
 -- the turn of each block in it has a next one
 abbrev pub HasTurns : Names → Type 0
 HasTurns table = (n : ℕ) (block : Name) → block_named table n ≡ Some block → block.turn < 2 ^ 40 - 1
+
+-- the names that were asked for stand for something
+abbrev pub AreKnown : List ℕ → List Named → Type 0
+AreKnown asked names = (n : ℕ) → is_asked asked n ≡ true → (block : Option Name) × (standing_for names n ≡ Some block)
 
 -- a name that is freed was asked for
 abbrev pub IsKnown : List Named → What → Type 0

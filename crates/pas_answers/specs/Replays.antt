@@ -21,19 +21,19 @@ use Rattle.pas_report.specs.declared.record.Record.{Record}
 use Rattle.pas_cache.specs.Caches.{Cached}
 use Rattle.pas_cache.specs.Serves.{IsSmallRoute}
 use Rattle.pas_answers.specs.Acts.{acts_of}
-use Rattle.pas_answers.specs.Answers.{Caches, Progress, progress, Follows}
+use Rattle.pas_answers.specs.Answers.{Caches, Progress, Follows}
 use Rattle.pas_answers.specs.Ways.{Way, IsOneOrder, arranged}
 
--- ---- what can be replayed today: no request is of whole pages, and the scavenger has no operation
+-- ---- what can be replayed today: no request is of whole pages
 abbrev pub IsBuiltWhat : What → Type 0
 IsBuiltWhat (Alloc name heap size align) = IsSmallRoute (route_of size align)
 IsBuiltWhat (Free name) = Unit {0}
 IsBuiltWhat (Raw block) = Unit {0}
 IsBuiltWhat Flush = Unit {0}
 IsBuiltWhat Stop = Unit {0}
-IsBuiltWhat (Tick epoch) = ⊥
-IsBuiltWhat Pass = ⊥
-IsBuiltWhat (Idle n) = ⊥
+IsBuiltWhat (Tick epoch) = Unit {0}
+IsBuiltWhat Pass = Unit {0}
+IsBuiltWhat (Idle n) = Unit {0}
 
 abbrev pub AreBuilt : List Op → Type 0
 AreBuilt [] = Unit {0}
@@ -58,12 +58,12 @@ empty_cache = record { locals = []; log = []; idle_since = 0 }
 abbrev pub empty_caches : Caches
 empty_caches k = empty_cache
 
--- no name was asked for, no cache was used, and no step was made
+-- no name was asked for, no cache was used, no epoch was read, and no step was made
 abbrev pub at_start : Progress
-at_start = progress [] empty_caches [] []
+at_start = record { names = []; caches = empty_caches; epoch = 0; list = []; records = [] }
 
--- A REPLAY of a plan, for both ways: a list of steps and the records of it. The acts of the plan are answered by pieces, each by the thread's own
--- cache, which stand in `told` in the order of the acts with their records in `said`. The list has of each actor the same part as `told`, and the records
+-- A REPLAY of a plan, for both ways: a list of steps and the records of it. The acts of the plan are answered by pieces, each by its actor's own
+-- steps and cache, which stand in `told` in the order of the acts with their records in `said`. The list has of each actor the same part as `told`, and the records
 -- are those of the pieces, in the order of this way. The list is legal, and at its end all actors have nothing and owe nothing. Its visible events are a run
 -- of the allocator's machine, whose pages have the deeds that the threads know. The stamp of each page is the greatest epoch of an end there, and the
 -- marks of the pages are true.

@@ -120,7 +120,7 @@ fn perform<D: Desk>(
     }
 }
 
-/// Performs the operation, and adds its events and what is said to the records.
+/// Performs a thread's operation, and adds its events and what is said to the records.
 pub fn answer<D: Desk>(
     desk: &mut D,
     cache: &mut ThreadCache,

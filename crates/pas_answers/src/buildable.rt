@@ -12,8 +12,13 @@ fn is_built_what(what: What) -> bool
 {
     match what {
         What::Alloc { size, .. } => size <= MOST_BITFIT,
-        What::Free { .. } | What::Raw { .. } | What::Flush | What::Stop => true,
-        What::Tick(_) | What::Pass | What::Idle(_) => false,
+        What::Free { .. }
+        | What::Raw { .. }
+        | What::Flush
+        | What::Stop
+        | What::Tick(_)
+        | What::Pass
+        | What::Idle(_) => true,
     }
 }
 
@@ -41,7 +46,7 @@ fn all_built(phases: &[Phase]) -> bool
     true
 }
 
-/// Whether the plan can be replayed: it asks for no whole pages, and has no operation of the scavenger.
+/// Whether the plan can be replayed: it asks for no whole pages.
 pub fn is_built(plan: &Plan) -> bool
     ensures { IsTrue result ↔ IsBuilt plan.now }
 {

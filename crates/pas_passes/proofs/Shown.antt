@@ -29,4 +29,4 @@ outcomes_shown k epoch (x ∷ found) =
     ∙ reverse-append (unbacks_in k epoch (reverse found)) (unbacks_in k epoch one) ∙ ap (λ es. reverse es ++ reverse (unbacks_in k epoch (reverse found))) (append-nil (unback_of k epoch x.0 x.1)))
 
 pub pass_shown : {σ σ' : Standing} {epoch : ℕ} {found : List (ℕ × Outcome)} (passes : Passes σ σ' epoch found) (v : View) → events_in (records_of_pass σ.seat.actor epoch found) ≡ reverse (events_by σ.seat.actor v passes.steps)
-pass_shown {σ} {σ'} {epoch} {found} passes v = outcomes_shown σ.seat.actor epoch found ∙ ap reverse (sym (passes.events v))
+pass_shown {σ} {σ'} {epoch} {found} passes v = outcomes_shown σ.seat.actor epoch found ∙ ap reverse (sym (passes.order.events v))

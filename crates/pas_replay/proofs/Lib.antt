@@ -4,7 +4,9 @@ pub mod BuiltPlans
 pub mod Threads
 pub mod Turns
 pub mod Sittings
+pub mod Acting
 pub mod Operations
+pub mod Scavenging
 pub mod ActsInOrder
 pub mod StartAndEnd
 pub mod Opening

@@ -1,240 +1,344 @@
 -- A session after an operation of one of its threads.
-use Rattle.std.proofs.Common.{◌≡◌, ◌≢◌, ℕ, ◌+◌, ◌-◌, ◌<◌, ◌≤◌, ◌==◌, Bool, true, false, if◌then◌else◌, inl, inr, List, [], ◌∷◌, ◌++◌, length, reverse, get_or, set, Option, None, refl, ap, sym, ◌∙◌, subst, arith, length-append}
+use Rattle.std.proofs.Common.{◌≡◌, ◌≢◌, ◌⊎◌, ℕ, ◌+◌, ◌-◌, ◌<◌, ◌≤◌, ◌==◌, Bool, true, false, if◌then◌else◌, inl, inr, List, [], ◌∷◌, ◌++◌, length, reverse, get_or, set, Option, None, refl, ap, sym, ◌∙◌, subst, arith, length-append, append_assoc}
 use Rattle.std.proofs.lemmas.List.{length-reverse, length-map, length-set, append-nil, get_or-set_other}
 use Rattle.std.proofs.lemmas.Grind.{get_or-set_at}
 use Rattle.std.proofs.lemmas.Bool.{eq-eqb, ne_eqb, cases_eq}
 use Rattle.pas_profile.specs.declared.profile.Profile.{Profile}
 use Rattle.pas_profile.specs.declared.event.Event.{Event}
+use Rattle.pas_profile.specs.declared.word.Word.TheVariants as Word
+use Rattle.pas_steps.specs.Agreement.{Agreed}
 use Rattle.pas_steps.specs.Events.{events_by}
 use Rattle.pas_steps.specs.Views.{View}
 use Rattle.pas_steps.specs.Lists.{Whole, part}
-use Rattle.pas_steps.specs.Desks.{CanCall, triples}
+use Rattle.pas_steps.specs.Desks.{CanCall, Standing}
 use Rattle.pas_steps.specs.declared.step.Made.{Made}
-use Rattle.pas_steps.proofs.Parts.{part_of_own, part_of_others}
+use Rattle.pas_steps.proofs.Unknown.{unknown_stays}
 use Rattle.pas_trace.specs.declared.plan.Op.{Op}
 use Rattle.pas_trace.specs.declared.plan.What.{What}
-use Rattle.pas_trace.specs.declared.plan.What.TheVariants.{Free, Stop}
+use Rattle.pas_trace.specs.declared.plan.What.TheVariants.{Alloc, Free, Raw, Flush, Stop}
 use Rattle.pas_plain.specs.Plain.{profile_of, actor_of}
 use Rattle.pas_plain.specs.Seats.{region_of, pass_of, standing_of}
 use Rattle.pas_plain.specs.declared.region.PlainRegion.{PlainRegion}
 use Rattle.pas_plain.specs.declared.desk.PlainDesk.{PlainDesk}
-use Rattle.pas_report.specs.Rooms.{records_in}
+use Rattle.pas_report.specs.Rooms.{records_in, room_of}
 use Rattle.pas_report.specs.declared.record.Record.{Record}
 use Rattle.pas_report.specs.declared.record.Said.{Said}
 use Rattle.pas_report.specs.declared.records.Records.{Records}
 use Rattle.pas_cache.specs.Caches.{Cached, cached, AtRest}
-use Rattle.pas_answers.specs.Acts.{Act, Operates, Ends}
-use Rattle.pas_answers.specs.Answers.{having, answer_of, progress, Named, Caches, with_cache, IsAnswered, records_of, said_by, Follows}
-use Rattle.pas_answers.specs.Calls.{works, Tells, HasTurns, IsKnown, owed_events, MayAnswer, Answers}
-use Rattle.pas_answers.specs.Fit.{IsFitWhat, AreFit, cost_of_what, costs_of, own_costs_of, ops_in, marks_in}
+use Rattle.pas_cache.specs.Calls.{Begins}
+use Rattle.pas_cache.specs.declared.cache.ThreadCache.{ThreadCache}
+use Rattle.pas_utility.specs.Outcomes.{places_of}
+use Rattle.pas_profile.specs.declared.name.Name.{Name}
+use Rattle.pas_answers.specs.Acts.{Act, acts_of_what, Operates, StopsIdle, Wakes, Ends}
+use Rattle.pas_answers.specs.Answers.{having, Answer, answer_of, Progress, Named, epoch_look, stopped, after_wake, IsIdleFor, IsAnswered, with_records, with_steps, records_of, said_by, Follows}
+use Rattle.pas_answers.specs.Calls.{works, Tells, HasTurns, AreKnown, IsKnown, owed_events, MayAnswer, Answers}
+use Rattle.pas_answers.specs.Fit.{IsFitWhat, AreFit, cost_of_what, cost_of_act, own_cost_of_act, own_costs_of, unbacks_of_act}
 use Rattle.pas_trace.specs.EveryPlan.{asked_after}
 use Rattle.pas_answers.specs.Names.{names_held}
-use Rattle.pas_answers.proofs.KnownNames.{AreKnown, known_after}
-use Rattle.pas_replay.specs.Sessions.{IsSeated, Turn, risen, IsThreadOf, IsTaken, MayTakeTurn, TakesTurn, SoFar, spare_at}
+use Rattle.pas_answers.proofs.KnownNames.{known_after}
+use Rattle.pas_replay.specs.Sessions.{Slots, pass_in, risen, IsSeated, IsTaken, HasCache, MayTakeSeat, MayTakeTurn, TakesTurn, TakesThreadTurn, Hand, hand_at, HasNames, IsAt, spare_at}
 use Rattle.pas_answers.specs.declared.names.Names.{Names}
-use Rattle.pas_replay.specs.declared.seats.Thread.{Thread}
-use Rattle.pas_replay.proofs.Threads.{stands_at, set_stands, set_caches, set_owed, owed_at}
-use Rattle.pas_replay.proofs.Sittings.{same_session, Sits, sits, spare_is, place_in, may_take_seat, rises, other_stands}
+use Rattle.pas_replay.specs.declared.seats.Actors.{Actors}
+use Rattle.pas_replay.proofs.Turns.{risen_length}
+use Rattle.pas_replay.proofs.Threads.{stands_at, cache_at, owed_at}
+use Rattle.pas_replay.proofs.Sittings.{Sits, may_sit, spare_is}
+use Rattle.pas_replay.proofs.Acting.{thread_sits, hand_after, progress_after, ThreadActs, thread_acts}
 
--- ---- what an act costs
--- this act is an operation of thread k
-pub record IsActOf (f : Profile) (act : Act) (k : ℕ) (what : What) : Type 0 where
-  pub own : (more : List Act) → own_costs_of k (ops_in (act ∷ more)) ≡ cost_of_what what + own_costs_of k (ops_in more)
-  pub others : (more : List Act) (j : ℕ) → j ≢ k → own_costs_of j (ops_in (act ∷ more)) ≡ own_costs_of j (ops_in more)
-  pub all : (more : List Act) → costs_of (ops_in (act ∷ more)) ≡ cost_of_what what + costs_of (ops_in more)
-  pub marks : (more : List Act) → marks_in (act ∷ more) ≡ marks_in more
-  pub fit : (more : List Act) (limit : ℕ) (asked : List ℕ) → AreFit f limit asked (ops_in (act ∷ more)) → AreFit f limit (asked_after what asked) (ops_in more)
-  pub follows : (more : List Act) (names : List Named) (caches : Caches) (l : Whole) (rs : List Record) (l' : Whole) (rs' : List Record)
-      (steps : List Made) (said : Option Said) (names' : List Named) (c' : Cached) → IsAnswered f k what (having names (part k l) (caches k)) (answer_of steps said names' c')
-      → Follows f more (progress names' (with_cache caches k c') (triples k steps ++ l) (rs ++ (records_of (events_by k (part k l) steps) ++ said_by k said))) l' rs'
-      → Follows f (act ∷ more) (progress names caches l rs) l' rs'
+-- ---- what is in hand, written otherwise
+abbrev pub hand : PlainRegion → Slots → List ThreadCache → ℕ → Names → Records → Hand
+hand region passes caches places table out = record { region = region; passes = passes; caches = caches; places = places; table = table; out = out }
 
-if_same : (t : Bool) (c n : ℕ) → t ≡ true → (if t then c else 0) + n ≡ c + n
-if_same true c n is = refl
-if_same false c n is = absurd (let bad : false ≡ true = is in cc)
+pub same_hand : {f : Profile} {all acts : List Act} {p : Progress} {region : PlainRegion} {passes passes' : Slots} {caches caches' : List ThreadCache} {places places' : ℕ} {table : Names} {out : Records} → passes ≡ passes' → caches ≡ caches' → places ≡ places'
+    → IsAt f all acts (hand region passes caches places table out) p → IsAt f all acts (hand region passes' caches' places' table out) p
+same_hand {f} {all} {acts} {p} {region} {passes} {passes'} {caches} {caches'} {places} {places'} {table} {out} seats list room at =
+    subst (λ (n : ℕ). IsAt f all acts (hand region passes' caches' n table out) p) room (subst (λ (cs : List ThreadCache). IsAt f all acts (hand region passes' cs places table out) p) list
+    (subst (λ (ps : Slots). IsAt f all acts (hand region ps caches places table out) p) seats at))
 
-if_other : (t : Bool) (c n : ℕ) → t ≡ false → (if t then c else 0) + n ≡ n
-if_other true c n is = absurd (let bad : true ≡ false = is in cc)
-if_other false c n is = omega arith
+-- ---- an act that is a thread's operation
+-- The act is this operation of thread k, which is answered at this point of the replay. Besides, these records come to the end.
+pub record IsActOf (f : Profile) (act : Act) (k : ℕ) (what : What) (besides : List Record) (p : Progress) : Type 0 where
+  pub own : own_cost_of_act k act ≡ cost_of_what what
+  pub others : (j : ℕ) → j ≢ k → own_cost_of_act j act ≡ 0
+  pub none : unbacks_of_act f act ≡ 0
+  pub all : cost_of_what what + length besides ≡ cost_of_act f act
+  pub fit : (more : List Act) (limit : ℕ) (asked : List ℕ) → AreFit f limit asked (act ∷ more) → AreFit f limit (asked_after what asked) more
+  pub follows : (more : List Act) (l : Whole) (rs : List Record) (a : Answer) → IsAnswered f k what (having p.names (part k p.list) (p.caches k)) a
+      → Follows f more (progress_after p k a.steps a.cache a.names ((records_of (events_by k (part k p.list) a.steps) ++ said_by k a.said) ++ besides)) l rs → Follows f (act ∷ more) p l rs
 
-pub operation : (f : Profile) (op : Op) → IsActOf f (Operates op) op.actor op.what
-operation f op = record {
-  own = λ more. if_same (op.actor == op.actor) (cost_of_what op.what) (own_costs_of op.actor (ops_in more)) (eq-eqb op.actor op.actor refl);
-  others = λ more j ne. if_other (op.actor == j) (cost_of_what op.what) (own_costs_of j (ops_in more)) (ne_eqb op.actor j (λ e. ne (sym e)));
-  all = λ more. refl;
-  marks = λ more. refl;
+if_same : (t : Bool) (c : ℕ) → t ≡ true → (if t then c else 0) ≡ c
+if_same true c is = refl
+if_same false c is = absurd (let bad : false ≡ true = is in cc)
+
+if_other : (t : Bool) (c : ℕ) → t ≡ false → (if t then c else 0) ≡ 0
+if_other true c is = absurd (let bad : true ≡ false = is in cc)
+if_other false c is = refl
+
+-- nothing comes besides
+alone : (f : Profile) (more : List Act) (p : Progress) (k : ℕ) (a : Answer) (records : List Record) (l : Whole) (rs : List Record) → Follows f more (progress_after p k a.steps a.cache a.names (records ++ [])) l rs → Follows f more (progress_after p k a.steps a.cache a.names records) l rs
+alone f more p k a records l rs follows = subst (λ (xs : List Record). Follows f more (progress_after p k a.steps a.cache a.names xs) l rs) (append-nil records) follows
+
+pub operation : (f : Profile) (op : Op) (p : Progress) → IsActOf f (Operates op) op.actor op.what [] p
+operation f op p = record {
+  own = if_same (op.actor == op.actor) (cost_of_what op.what) (eq-eqb op.actor op.actor refl);
+  others = λ j ne. if_other (op.actor == j) (cost_of_what op.what) (ne_eqb op.actor j (λ e. ne (sym e)));
+  none = refl;
+  all = omega arith;
   fit = λ more limit asked fit. fit.2;
-  follows = λ more names caches l rs l' rs' steps said names' c' answered after. (answer_of steps said names' c', answered, after);
+  follows = λ more l rs a answered after. (a, answered, alone f more p op.actor a (records_of (events_by op.actor (part op.actor p.list) a.steps) ++ said_by op.actor a.said) l rs after);
 }
+
+-- a stop says nothing, and the names stay
+stop_follows : (f : Profile) (more : List Act) (p : Progress) (k : ℕ) (a : Answer) (besides : List Record) (l : Whole) (rs : List Record) → a.said ≡ None → a.names ≡ p.names
+    → Follows f more (progress_after p k a.steps a.cache a.names ((records_of (events_by k (part k p.list) a.steps) ++ said_by k a.said) ++ besides)) l rs
+    → Follows f more (progress_after p k a.steps a.cache p.names (records_of (events_by k (part k p.list) a.steps) ++ besides)) l rs
+stop_follows f more p k a besides l rs said names after =
+    let records = records_of (events_by k (part k p.list) a.steps) in
+    let same : (records ++ said_by k a.said) ++ besides ≡ records ++ besides = ap (λ (o : Option Said). (records ++ said_by k o) ++ besides) said ∙ ap (λ (xs : List Record). xs ++ besides) (append-nil records) in
+    subst (λ (ns : List Named). Follows f more (progress_after p k a.steps a.cache ns (records ++ besides)) l rs) names (subst (λ (xs : List Record). Follows f more (progress_after p k a.steps a.cache a.names xs) l rs) same after)
 
 -- the close stops each thread
-no_more : (k : ℕ) (rs es : List Record) (said : Option Said) → said ≡ None → rs ++ (es ++ said_by k said) ≡ rs ++ es
-no_more k rs es said is = ap (λ (o : Option Said). rs ++ (es ++ said_by k o)) is ∙ ap (λ (xs : List Record). rs ++ xs) (append-nil es)
-
-pub ending : (f : Profile) (k : ℕ) → IsActOf f (Ends k) k Stop
-ending f k = record {
-  own = λ more. omega arith;
-  others = λ more j ne. refl;
-  all = λ more. omega arith;
-  marks = λ more. refl;
+pub ending : (f : Profile) (k : ℕ) (p : Progress) → IsActOf f (Ends k) k Stop [] p
+ending f k p = record {
+  own = refl;
+  others = λ j ne. refl;
+  none = refl;
+  all = refl;
   fit = λ more limit asked fit. fit;
-  follows = λ more names caches l rs l' rs' steps said names' c' answered after. (
-    steps,
-    c',
-    answered.0,
-    subst (λ (now : List Record). Follows f more (progress names (with_cache caches k c') (triples k steps ++ l) now) l' rs') (no_more k rs (records_of (events_by k (part k l) steps)) said answered.1)
-        (subst (λ (ns : List Named). Follows f more (progress ns (with_cache caches k c') (triples k steps ++ l) (rs ++ (records_of (events_by k (part k l) steps) ++ said_by k said))) l' rs') answered.2 after),
-  );
+  follows = λ more l rs a answered after. (a.steps, a.cache, answered.0, stop_follows f more p k a [] l rs answered.1 answered.2 after);
 }
+
+-- the scavenger stops a thread that was idle for long enough, and says so
+pub stopping : (f : Profile) (k n : ℕ) (p : Progress) → IsIdleFor p k n → IsActOf f (StopsIdle k n) k Stop (stopped k) p
+stopping f k n p idle = record {
+  own = refl;
+  others = λ j ne. refl;
+  none = refl;
+  all = refl;
+  fit = λ more limit asked fit. fit;
+  follows = λ more l rs a answered after. inl (idle, a.steps, a.cache, answered.0, stop_follows f more p k a (stopped k) l rs answered.1 answered.2 after);
+}
+
+-- the acts of an operation that is a thread's
+pub acts_of_thread : (idle : List ℕ) (op : Op) (what : What)
+    → ((n : ℕ) × (h : ℕ) × (s : ℕ) × (a : ℕ) × (what ≡ Alloc n h s a)) ⊎ (((n : ℕ) × (what ≡ Free n)) ⊎ (((block : Name) × (what ≡ Raw block)) ⊎ ((what ≡ Flush) ⊎ (what ≡ Stop)))) → acts_of_what idle op what ≡ Operates op ∷ []
+acts_of_thread idle op what of = elim of [
+  | inl alloc ↦ ap (λ (w : What). acts_of_what idle op w) alloc.4
+  | inr more ↦ elim more [
+    | inl free ↦ ap (λ (w : What). acts_of_what idle op w) free.1
+    | inr more2 ↦ elim more2 [
+      | inl raw ↦ ap (λ (w : What). acts_of_what idle op w) raw.1
+      | inr more3 ↦ elim more3 [ inl flush ↦ ap (λ (w : What). acts_of_what idle op w) flush | inr stop ↦ ap (λ (w : What). acts_of_what idle op w) stop ]
+    ]
+  ]
+]
 
 -- ---- before the operation
 -- what the thread may do: the operation is fit, and its thread may sit down for it
-pub fit_now : {f : Profile} {all more : List Act} {op : Op} {region : PlainRegion} {threads : List Thread} {table : Names} {out : Records} → SoFar f all (Operates op ∷ more) region threads table out
-    → (asked : List ℕ) × IsFitWhat (profile_of region) (names_held table) asked op.what
-fit_now {f} {all} {more} {op} {region} {threads} {table} so = (so.asked, subst (λ (g : Profile). IsFitWhat g (names_held table) so.asked op.what) (sym so.profile_is) so.fit.1)
+pub fit_now : {f : Profile} {all more : List Act} {op : Op} {h : Hand} {p : Progress} → IsAt f all (Operates op ∷ more) h p → (asked : List ℕ) × IsFitWhat (profile_of h.region) (names_held h.table) asked op.what
+fit_now {f} {all} {more} {op} {h} {p} at = (at.names.asked, subst (λ (g : Profile). IsFitWhat g (names_held h.table) at.names.asked op.what) (sym at.profile_is) at.names.fit.1)
 
-pub known_if : (f : Profile) (limit : ℕ) (asked : List ℕ) (names : List Named) (what : What) → IsFitWhat f limit asked what → AreKnown asked names → IsKnown names what
+known_if : (f : Profile) (limit : ℕ) (asked : List ℕ) (names : List Named) (what : What) → IsFitWhat f limit asked what → AreKnown asked names → IsKnown names what
 known_if f limit asked names (Free name) fit known = known name fit
 known_if f limit asked names s fit known = tt
 
-pub known_now : {f : Profile} {all more : List Act} {op : Op} {region : PlainRegion} {threads : List Thread} {table : Names} {out : Records} → (so : SoFar f all (Operates op ∷ more) region threads table out) → IsKnown so.names op.what
-known_now {f} {all} {more} {op} {region} {threads} {table} so = known_if f (names_held table) so.asked so.names op.what so.fit.1 so.known
+pub known_now : {f : Profile} {all more : List Act} {op : Op} {h : Hand} {p : Progress} → IsAt f all (Operates op ∷ more) h p → IsKnown p.names op.what
+known_now {f} {all} {more} {op} {h} {p} at = known_if f (names_held h.table) at.names.asked p.names op.what at.names.fit.1 at.names.known
 
-can_operate : {f : Profile} {all more : List Act} {act : Act} {what : What} {region : PlainRegion} {threads : List Thread} {table : Names} {out : Records} {own : PlainDesk} (k i : ℕ) (d : Thread)
-    → IsActOf f act k what → k ≡ 1 + i → i < length threads → SoFar f all (act ∷ more) region threads table out → IsSeated region (get_or threads i d) own
-    → CanCall (standing_of own) (λ v l. MayAnswer (profile_of region) (cached (get_or threads i d).cache) what (spare_at own) out v)
-can_operate {f} {all} {more} {act} {what} {region} {threads} {table} {out} {own} k i d of at lt so seated =
-    let s = sits seated so.profile_is so.stands (stands_at (act ∷ more) threads i k d at lt so.each) in
-    let cost = of.own more in
-    let costs = of.all more in
-    let spare = so.spare in
-    let mine = owed_at f so.whole 1 threads i k d at lt in
-    let room = spare_is s in
-    record {
-      view = part k so.whole;
-      whole = so.whole;
-      stood = s.stood;
-      met = subst (λ (g : Profile). MayAnswer g (cached (get_or threads i d).cache) what (spare_at own) out (part k so.whole)) (sym so.profile_is) record {
-        may = record { rest = s.rest; room = omega (arith, room, cost) };
-        records = omega (arith, costs, spare, mine);
-      };
-    }
+module _ {f : Profile} {all acts : List Act} {table : Names} {out : Records} {p : Progress} (desk : PlainDesk) (actors : Actors) (at : IsAt f all acts (hand_at desk actors table out) p) (taken : IsTaken desk actors.passes.items) where
+  places : length actors.passes.items ≡ f.threads + 1
+  places = sym (risen_length desk actors.passes.items) ∙ at.actors
 
-pub may_operate : {f : Profile} {all more : List Act} {act : Act} {what : What} {table : Names} {out : Records} (desk : PlainDesk) (threads : List Thread) (k : ℕ)
-    → IsActOf f act k what → IsTaken desk threads → IsThreadOf threads k → SoFar f all (act ∷ more) (region_of desk) (risen desk threads) table out
-    → MayTakeTurn desk threads k (λ own c. CanCall (standing_of own) (λ v l. MayAnswer (profile_of (region_of desk)) c what (spare_at own) out v))
-may_operate desk threads k act_of taken of so =
-    let place = place_in desk threads k of in
-    record { seat = may_take_seat desk threads k taken of so; may = λ d own seated. can_operate k (k - 1) d act_of place.0 place.1 so seated }
+  -- thread k may sit down; it has a cache
+  pub thread_may_sit : (k : ℕ) → 1 ≤ k → k ≤ f.threads → MayTakeSeat desk actors.passes.items k
+  thread_may_sit k some most = record { taken = taken; place = omega (arith, places, most); own = may_sit at.profile_is at.stands (stands_at p.caches (risen desk actors.passes.items) acts k some most at.each) }
+
+  pub has_cache : (k : ℕ) → 1 ≤ k → k ≤ f.threads → HasCache actors.caches.items k (p.caches k)
+  has_cache k some most = let many = at.threads in cache_at p.caches actors.caches.items k some (omega (arith, most, many)) at.caches_are
+
+  -- the scavenger may sit down
+  pub scavenger_may_sit : MayTakeSeat desk actors.passes.items 0
+  scavenger_may_sit = record { taken = taken; place = omega (arith, places); own = may_sit at.profile_is at.stands at.scavenger }
+
+pub may_operate : {f : Profile} {all more : List Act} {act : Act} {what : What} {besides : List Record} {table : Names} {out : Records} {p : Progress} (desk : PlainDesk) (actors : Actors) (k : ℕ) → 1 ≤ k → k ≤ f.threads
+    → IsActOf f act k what besides p → (at : IsAt f all (act ∷ more) (hand_at desk actors table out) p) → IsTaken desk actors.passes.items
+    → (c : Cached) × HasCache actors.caches.items k c × MayTakeTurn desk actors.passes.items k (λ own. CanCall (standing_of own) (λ v l. MayAnswer (profile_of (region_of desk)) c what (spare_at own) out v))
+may_operate {f} {all} {more} {act} {what} {besides} {table} {out} {p} desk actors k some most of at taken =
+    let c = p.caches k in
+    (c, has_cache desk actors at taken k some most, record {
+      seat = thread_may_sit desk actors at taken k some most;
+      may = λ own seated.
+          let s = thread_sits at k own some most seated in
+          let cost = of.own in
+          let costs = of.all in
+          let spare = at.spare in
+          let mine = owed_at f p.list p.caches k f.threads some most in
+          let room = spare_is s in
+          record {
+            view = part k p.list;
+            whole = p.list;
+            stood = s.stood;
+            met = subst (λ (g : Profile). MayAnswer g c what (spare_at own) out (part k p.list)) (sym at.profile_is) record {
+              may = record { rest = s.rest; room = omega (arith, room, cost) };
+              records = omega (arith, costs, spare, mine);
+            };
+          };
+    })
 
 -- ---- after the operation
 -- the seat of a thread's desk
-at_seat : {f : Profile} {k : ℕ} {c : Cached} {desk : PlainDesk} {l : Whole} {own : ℕ} → Sits f k c desk l own → (P : ℕ → Profile → Type 0) → P (actor_of (pass_of desk)) (profile_of (region_of desk)) → P k f
-at_seat {f} {k} {c} {desk} s P p = subst (λ (g : Profile). P k g) s.profile (subst (λ (m : ℕ). P m (profile_of (region_of desk))) s.actor p)
+at_seat : {f : Profile} {k : ℕ} {Rest : View → Type 0} {desk : PlainDesk} {l : Whole} {need : ℕ} → Sits f k Rest desk l need → (P : ℕ → Profile → Type 0) → P (actor_of (pass_of desk)) (profile_of (region_of desk)) → P k f
+at_seat {f} {k} {Rest} {desk} s P p = subst (λ (g : Profile). P k g) s.profile (subst (λ (m : ℕ). P m (profile_of (region_of desk))) s.actor p)
 
-pub records_count : (es : List Event) → length (records_of es) ≡ length es
+records_count : (es : List Event) → length (records_of es) ≡ length es
 records_count es = length-map (reverse es) Record.Event ∙ length-reverse es
 
--- what the operation was answered by
-pub record IsDone (f : Profile) (k : ℕ) (what : What) (table' : Names) (names : List Named) (v : View) (c c' : Cached) (steps : List Made) (said : Option Said) : Type 0 where
-  pub after : List Named
-  pub tells : Tells table' after
-  pub answer : IsAnswered f k what (having names v c) (answer_of steps said after c')
+module _ {f : Profile} {all more : List Act} {act : Act} {what : What} {besides : List Record} {h : Hand} {p : Progress} (k : ℕ) (own desk' : PlainDesk) (cache : ThreadCache) (table' : Names) (out1 : Records)
+    (some : 1 ≤ k) (most : k ≤ f.threads) (of : IsActOf f act k what besides p) (at : IsAt f all (act ∷ more) h p) (known : IsKnown p.names what) (seated : IsSeated h.region (pass_in h.passes k) own)
+    (answers : Answers what (works h.table (p.caches k)) (works table' (cached cache)) h.out out1 (standing_of own) (standing_of desk')) where
+  sat : Sits f k (AtRest f (p.caches k)) own p.list (owed_events f (p.caches k) (part k p.list) + own_costs_of k (act ∷ more))
+  sat = thread_sits at k own some most seated
 
-pub done : {f : Profile} {all more : List Act} {act : Act} {what : What} {region region' : PlainRegion} {threads : List Thread} {table table' : Names} {out out' : Records} (k i : ℕ) (d thread' : Thread)
-    → k ≡ 1 + i → i < length threads
-    → (so : SoFar f all (act ∷ more) region threads table out)
-    → IsKnown so.names what
-    → (turn : Turn region region' (get_or threads i d) thread' (Answers what (works table (cached (get_or threads i d).cache)) (works table' (cached thread'.cache)) out out'))
-    → IsDone f k what table' so.names (part k so.whole) (so.caches k) (cached thread'.cache) turn.did.performs.steps turn.did.said
-done {f} {all} {more} {act} {what} {region} {region'} {threads} {table} {table'} k i d thread' at lt so known turn =
-    let c = cached (get_or threads i d).cache in
-    let c' = cached thread'.cache in
-    let s = sits turn.seated so.profile_is so.stands (stands_at (act ∷ more) threads i k d at lt so.each) in
-    let did = turn.did in
-    let v = part k so.whole in
-    let rest = subst (λ (g : Profile). AtRest g c v) (sym s.profile) s.rest in
-    let answered = did.performs.answered v so.whole s.stood rest so.names so.tells known in
-    let held = ap so.caches at ∙ so.caches_are i d lt in
-    record {
-      after = answered.0;
-      tells = answered.1;
-      answer = subst (λ (old : Cached). IsAnswered f k what (having so.names v old) (answer_of did.performs.steps did.said answered.0 c')) (sym held)
-          (at_seat s (λ (m : ℕ) (g : Profile). IsAnswered g m what (having so.names v c) (answer_of did.performs.steps did.said answered.0 c')) answered.2);
-    }
+  was_at_rest : AtRest (profile_of (region_of own)) (p.caches k) (part k p.list)
+  was_at_rest = subst (λ (g : Profile). AtRest g (p.caches k) (part k p.list)) (sym sat.profile) sat.rest
 
-pub operated : {f : Profile} {all more : List Act} {act : Act} {what : What} {region region' : PlainRegion} {threads : List Thread} {table table' : Names} {out out' : Records} (k i : ℕ) (d thread' : Thread)
-    → IsActOf f act k what → k ≡ 1 + i → i < length threads
-    → (so : SoFar f all (act ∷ more) region threads table out)
-    → IsKnown so.names what
-    → Turn region region' (get_or threads i d) thread' (Answers what (works table (cached (get_or threads i d).cache)) (works table' (cached thread'.cache)) out out')
-    → HasTurns table'
-    → SoFar f all more region' (set threads i thread') table' out'
-operated {f} {all} {more} {act} {what} {region} {region'} {threads} {table} {table'} {out} {out'} k i d thread' of at lt so known turn turns =
-    let thread = get_or threads i d in
-    let c = cached thread.cache in
-    let c' = cached thread'.cache in
-    let s = sits turn.seated so.profile_is so.stands (stands_at (act ∷ more) threads i k d at lt so.each) in
-    let did = turn.did in
-    let said = did.said in
-    let steps = did.performs.steps in
-    let v = part k so.whole in
-    let after = triples k steps ++ so.whole in
-    let rest = subst (λ (g : Profile). AtRest g c v) (sym s.profile) s.rest in
-    let agreed = did.performs.calls.adds.agreed v so.whole s.stood rest in
-    let few = at_seat s (λ (m : ℕ) (g : Profile). length (events_by m v steps) + length (said_by m said) + owed_events g c' (steps ++ v) ≤ cost_of_what what + owed_events g c v) (did.performs.few v rest agreed) in
-    let own = of.own more in
-    let r = rises {own' = own_costs_of k (ops_in more)} s turn.risen did.performs.calls (omega (arith, few, own)) in
-    let was = done k i d thread' at lt so known turn in
-    let pushed = at_seat s (λ (m : ℕ) (g : Profile). records_in out' ≡ records_in out ++ (records_of (events_by m v steps) ++ said_by m said)) (did.pushed v so.whole s.stood rest) in
-    let grown = ap length pushed ∙ length-append (records_in out) (records_of (events_by k v steps) ++ said_by k said) in
-    let both = length-append (records_of (events_by k v steps)) (said_by k said) in
-    let count = records_count (events_by k v steps) in
-    let owed = set_owed f so.whole after 1 threads i k d thread' at lt (λ j ne. part_of_others j k steps so.whole (λ e. ne (sym e))) in
-    let mine = ap (λ (w : View). owed_events f c' w) (part_of_own k steps so.whole) in
-    let costs = of.all more in
-    let marks = of.marks more in
-    let spare = so.spare in
-    let room = did.room in
-    let threads_count = so.count in
-    record {
-      profile_is = r.profile;
-      count = length-set threads i thread' ∙ so.count;
-      whole = after;
-      stands = r.stands;
-      each = set_stands (act ∷ more) more threads i k thread' at lt (λ j t ne st. other_stands steps (λ e. ne (sym e)) (of.others more j ne) st) r.this so.each;
-      nobody = λ j h. part_of_others j k steps so.whole (λ e. elim h [ inl low ↦ omega (arith, low, e, at) | inr high ↦ omega (arith, high, e, at, lt, threads_count) ]) ∙ so.nobody j h;
-      asked = asked_after what so.asked;
-      fit = subst (λ (limit : ℕ). AreFit f limit (asked_after what so.asked) (ops_in more)) (sym did.performs.held) (of.fit more (names_held table) so.asked so.fit);
-      names = was.after;
-      tells = was.tells;
-      turns = turns;
-      known = known_after f k what so.asked so.names was.after v (so.caches k) c' steps said was.answer so.known;
-      caches = with_cache so.caches k c';
-      caches_are = set_caches so.caches threads i k thread' at lt so.caches_are;
-      spare = omega (arith, grown, both, count, owed, mine, costs, marks, spare, room, few);
-      answers = λ l rs follows. so.answers l rs (of.follows more so.names so.caches so.whole (records_in out) l rs steps said was.after c' was.answer
-          (subst (λ (now : List Record). Follows f more (progress was.after (with_cache so.caches k c') after now) l rs) pushed follows));
-    }
+  pub answered : (names' : List Named) × Tells table' names' × IsAnswered (profile_of (region_of own)) (actor_of (pass_of own)) what (having p.names (part k p.list) (p.caches k)) (answer_of answers.performs.steps answers.said names' (cached cache))
+  answered = answers.performs.answered (part k p.list) p.list sat.stood was_at_rest p.names at.names.tells known
 
-pub has_operated : {f : Profile} {all more : List Act} {act : Act} {what : What} {table table' : Names} {out out' : Records} (desk desk' : PlainDesk) (threads threads' : List Thread) (k : ℕ)
-    → IsActOf f act k what → IsThreadOf threads k → (so : SoFar f all (act ∷ more) (region_of desk) (risen desk threads) table out) → IsKnown so.names what
-    → TakesTurn desk desk' threads threads' k (λ c c'. Answers what (works table c) (works table' c') out out') → HasTurns table' → SoFar f all more (region_of desk') (risen desk' threads') table' out'
-has_operated desk desk' threads threads' k act_of of so known turn turns =
-    let place = place_in desk threads k of in
-    same_session refl refl refl refl turn.threads_are (operated k (k - 1) turn.thread turn.thread act_of place.0 place.1 so known (turn.turn turn.thread) turns)
+  -- its answer
+  abbrev answer : Answer
+  answer = answer_of answers.performs.steps answers.said answered.0 (cached cache)
+
+  pub is_answered : IsAnswered f k what (having p.names (part k p.list) (p.caches k)) answer
+  is_answered = at_seat sat (λ (m : ℕ) (g : Profile). IsAnswered g m what (having p.names (part k p.list) (p.caches k)) answer) answered.2
+
+  abbrev records : List Record
+  records = records_of (events_by k (part k p.list) answers.performs.steps) ++ said_by k answers.said
+
+  -- there is room for the records that come besides
+  pub fits_besides : length (records_in out1) + length besides ≤ room_of out1
+  fits_besides =
+      let v = part k p.list in
+      let c = p.caches k in
+      let c' = cached cache in
+      let steps = answers.performs.steps in
+      let said = answers.said in
+      let agreed = answers.performs.calls.adds.agreed v p.list sat.stood was_at_rest in
+      let few = at_seat sat (λ (m : ℕ) (g : Profile). length (events_by m v steps) + length (said_by m said) + owed_events g c' (steps ++ v) ≤ cost_of_what what + owed_events g c v) (answers.performs.few v was_at_rest agreed) in
+      let pushed = ap (λ (rs : List Record). length rs) (at_seat sat (λ (m : ℕ) (g : Profile). records_in out1 ≡ records_in h.out ++ (records_of (events_by m v steps) ++ said_by m said)) (answers.pushed v p.list sat.stood was_at_rest))
+          ∙ length-append (records_in h.out) records in
+      let both = length-append (records_of (events_by k v steps)) (said_by k said) in
+      let count = records_count (events_by k v steps) in
+      let spare = at.spare in
+      let mine = owed_at f p.list p.caches k f.threads some most in
+      let all_cost = of.all in
+      let room = answers.room in
+      omega (arith, few, pushed, both, count, spare, mine, all_cost, room)
+
+  -- THE SESSION AFTERWARDS
+  pub operated : HasTurns table' → (out' : Records) → records_in out' ≡ records_in out1 ++ besides → room_of out' ≡ room_of out1
+      → (q : Progress) × IsAt f all more (hand_after h k desk' cache table' out') q × (q.epoch ≡ p.epoch)
+  operated turns out' added room =
+      let v = part k p.list in
+      let c = p.caches k in
+      let c' = cached cache in
+      let steps = answers.performs.steps in
+      let said = answers.said in
+      let s = sat in
+      let agreed = answers.performs.calls.adds.agreed v p.list s.stood was_at_rest in
+      let few = at_seat s (λ (m : ℕ) (g : Profile). length (events_by m v steps) + length (said_by m said) + owed_events g c' (steps ++ v) ≤ cost_of_what what + owed_events g c v) (answers.performs.few v was_at_rest agreed) in
+      let pushed = at_seat s (λ (m : ℕ) (g : Profile). records_in out1 ≡ records_in h.out ++ (records_of (events_by m v steps) ++ said_by m said)) (answers.pushed v p.list s.stood was_at_rest) in
+      let count = records_count (events_by k v steps) in
+      let both = length-append (records_of (events_by k v steps)) (said_by k said) in
+      let whole = length-append records besides in
+      let own_cost = of.own in
+      let all_cost = of.all in
+      (progress_after p k steps c' answered.0 (records ++ besides),
+      thread_acts at record {
+        some = some;
+        most = most;
+        seated = seated;
+        rests = answers.performs.calls;
+        events = omega (arith, few, own_cost);
+        others = of.others;
+        none = of.none;
+        paid = omega (arith, few, count, both, whole, all_cost);
+        names = record {
+          asked = asked_after what at.names.asked;
+          fit = subst (λ (limit : ℕ). AreFit f limit (asked_after what at.names.asked) more) (sym answers.performs.held) (of.fit more (names_held h.table) at.names.asked at.names.fit);
+          tells = answered.1;
+          turns = turns;
+          known = known_after f k what at.names.asked p.names answered.0 v c c' steps said is_answered at.names.known;
+        };
+        added = added ∙ ap (λ (rs : List Record). rs ++ besides) pushed ∙ append_assoc (records_in h.out) records besides;
+        room = room ∙ answers.room;
+        follows = λ l rs follows. of.follows more l rs answer is_answered follows;
+      },
+      refl)
+
+pub has_operated : {f : Profile} {all more : List Act} {act : Act} {what : What} {besides : List Record} {table table' : Names} {out out1 : Records} {p : Progress} (desk desk' : PlainDesk) (actors actors' : Actors) (k : ℕ) → 1 ≤ k → k ≤ f.threads
+    → IsActOf f act k what besides p → (at : IsAt f all (act ∷ more) (hand_at desk actors table out) p) → IsKnown p.names what
+    → TakesThreadTurn desk desk' actors actors' k (λ c'. Answers what (works table (p.caches k)) (works table' c') out out1) → HasTurns table'
+    → (out' : Records) → records_in out' ≡ records_in out1 ++ besides → room_of out' ≡ room_of out1
+    → (q : Progress) × IsAt f all more (hand_at desk' actors' table' out') q × (q.epoch ≡ p.epoch)
+has_operated {f} {all} {more} {act} {what} {besides} {table} {table'} {out} {out1} {p} desk desk' actors actors' k some most of at known turn turns out' added room =
+    let done = operated k turn.turn.own desk' turn.cache table' out1 some most of at known turn.turn.seated turn.turn.did turns out' added room in
+    (done.0, same_hand (sym turn.turn.passes_are) (sym turn.caches_are) (sym turn.places) done.1, done.2)
+
+pub room_besides : {f : Profile} {all more : List Act} {act : Act} {what : What} {besides : List Record} {table table' : Names} {out out1 : Records} {p : Progress} (desk desk' : PlainDesk) (actors actors' : Actors) (k : ℕ) → 1 ≤ k → k ≤ f.threads
+    → IsActOf f act k what besides p → (at : IsAt f all (act ∷ more) (hand_at desk actors table out) p) → IsKnown p.names what
+    → TakesThreadTurn desk desk' actors actors' k (λ c'. Answers what (works table (p.caches k)) (works table' c') out out1) → length (records_in out1) + length besides ≤ room_of out1
+room_besides {table' = table'} {out1 = out1} desk desk' actors actors' k some most of at known turn = fits_besides k turn.turn.own desk' turn.cache table' out1 some most of at known turn.turn.seated turn.turn.did
 
 -- ---- a stop leaves nothing in the cache
-pub emptied : {f : Profile} {all more : List Act} {region region' : PlainRegion} {threads : List Thread} {table table' : Names} {out out' : Records} (k i : ℕ) (d thread' : Thread)
-    → k ≡ 1 + i → i < length threads → SoFar f all (Ends k ∷ more) region threads table out
-    → Turn region region' (get_or threads i d) thread' (Answers Stop (works table (cached (get_or threads i d).cache)) (works table' (cached thread'.cache)) out out')
-    → (cached thread'.cache).locals ≡ []
-emptied k i d thread' at lt so turn = ap (λ (c : Cached). c.locals) (done k i d thread' at lt so tt turn).answer.0.cache
+pub emptied : {f : Profile} {all more : List Act} {table table' : Names} {out out1 : Records} {p : Progress} (desk desk' : PlainDesk) (actors actors' : Actors) (k : ℕ) → 1 ≤ k → k ≤ f.threads
+    → (at : IsAt f all (Ends k ∷ more) (hand_at desk actors table out) p) → (turn : TakesThreadTurn desk desk' actors actors' k (λ c'. Answers Stop (works table (p.caches k)) (works table' c') out out1)) → (cached turn.cache).locals ≡ []
+emptied {f} {p = p} desk desk' actors actors' k some most at turn = ap (λ (c : Cached). c.locals) (is_answered k turn.turn.own desk' turn.cache _ _ some most (ending f k p) at tt turn.turn.seated turn.turn.did).0.cache
 
 -- those below the next place are empty
-pub empty_next : (threads : List Thread) (i : ℕ) (thread' : Thread) → i < length threads → ((j : ℕ) (d : Thread) → j < i → (cached (get_or threads j d).cache).locals ≡ []) → (cached thread'.cache).locals ≡ []
-    → (j : ℕ) (d : Thread) → j < i + 1 → (cached (get_or (set threads i thread') j d).cache).locals ≡ []
-empty_next threads i thread' lt before this j d less = elim (cases_eq i j) [
-  | inl same ↦ ap (λ (t : Thread). (cached t.cache).locals) (get_or-set_at threads i j thread' d (sym same) lt) ∙ this
-  | inr other ↦ ap (λ (t : Thread). (cached t.cache).locals) (get_or-set_other threads i j thread' d (λ e. other (sym e))) ∙ before j d (omega (arith, less, other))
+pub empty_next : (caches caches' : List ThreadCache) (i : ℕ) (cache : ThreadCache) → caches' ≡ set caches i cache → i < length caches → ((j : ℕ) (d : ThreadCache) → j < i → (cached (get_or caches j d)).locals ≡ []) → (cached cache).locals ≡ []
+    → (j : ℕ) (d : ThreadCache) → j < i + 1 → (cached (get_or caches' j d)).locals ≡ []
+empty_next caches caches' i cache is lt before this j d less = elim (cases_eq i j) [
+  | inl same ↦ ap (λ (cs : List ThreadCache). (cached (get_or cs j d)).locals) is ∙ ap (λ (t : ThreadCache). (cached t).locals) (get_or-set_at caches i j cache d (sym same) lt) ∙ this
+  | inr other ↦ ap (λ (cs : List ThreadCache). (cached (get_or cs j d)).locals) is ∙ ap (λ (t : ThreadCache). (cached t).locals) (get_or-set_other caches i j cache d (λ e. other (sym e))) ∙ before j d (omega (arith, less, other))
 ]
+
+-- ---- a thread reads the epoch
+pub may_wake : {f : Profile} {all more : List Act} {table : Names} {out : Records} {p : Progress} (desk : PlainDesk) (actors : Actors) (k : ℕ) → 1 ≤ k → k ≤ f.threads → (at : IsAt f all (Wakes k ∷ more) (hand_at desk actors table out) p) → IsTaken desk actors.passes.items
+    → (c : Cached) × HasCache actors.caches.items k c × MayTakeTurn desk actors.passes.items k (λ own. CanCall (standing_of own) (λ v l. AtRest (profile_of (region_of desk)) c v))
+may_wake {f} {p = p} desk actors k some most at taken =
+    (p.caches k, has_cache desk actors at taken k some most, record {
+      seat = thread_may_sit desk actors at taken k some most;
+      may = λ own seated. let s = thread_sits at k own some most seated in
+          record { view = part k p.list; whole = p.list; stood = s.stood; met = subst (λ (g : Profile). AtRest g (p.caches k) (part k p.list)) (sym at.profile_is) s.rest };
+    })
+
+pub has_woken : {f : Profile} {all more : List Act} {table : Names} {out : Records} {p : Progress} (desk desk' : PlainDesk) (actors actors' : Actors) (k : ℕ) → 1 ≤ k → k ≤ f.threads → IsAt f all (Wakes k ∷ more) (hand_at desk actors table out) p
+    → TakesThreadTurn desk desk' actors actors' k (Begins (p.caches k)) → (q : Progress) × IsAt f all more (hand_at desk' actors' table out) q
+has_woken {f} {all} {more} {table} {out} {p} desk desk' actors actors' k some most at taken =
+    let did = taken.turn.did in
+    let steps = epoch_look did.epoch in
+    let c = p.caches k in
+    let c' = cached taken.cache in
+    let v = part k p.list in
+    let s = thread_sits at k taken.turn.own some most taken.turn.seated in
+    let agreed = subst (λ (g : Profile). Agreed g v steps) s.profile (did.calls.adds.agreed v p.list s.stood (subst (λ (g : Profile). AtRest g c v) (sym s.profile) s.rest)) in
+    let unknown = unknown_stays f steps v agreed in
+    let log = ap (λ (x : Cached). length x.log) did.cache in
+    let none = append-nil (records_in out) in
+    (progress_after p k steps c' p.names [],
+    same_hand (sym taken.turn.passes_are) (sym taken.caches_are) (sym taken.places) (thread_acts at record {
+      some = some;
+      most = most;
+      seated = taken.turn.seated;
+      rests = did.calls;
+      events = omega (arith, unknown, log);
+      others = λ j ne. refl;
+      none = refl;
+      paid = omega (arith, unknown, log);
+      names = record { asked = at.names.asked; fit = at.names.fit; tells = at.names.tells; turns = at.names.turns; known = at.names.known };
+      added = sym none;
+      room = refl;
+      follows = λ l rs follows. (did.epoch,
+          subst (λ (rs0 : List Record). Follows f more (record (after_wake p k did.epoch) { records = rs0 }) l rs) (append-nil p.records)
+            (subst (λ (x : Cached). Follows f more (progress_after p k steps x p.names []) l rs) did.cache follows));
+    }))

@@ -11,7 +11,9 @@ use Rattle.pas_answers.specs.Fit.{AllBelow}
 use Rattle.pas_answers.specs.Names.{block_named, names_held}
 use Rattle.pas_answers.specs.Replays.{phases_of, empty_cache}
 use Rattle.pas_replay.specs.declared.kit.PlainKit.{PlainKit}
-use Rattle.pas_replay.specs.declared.seats.Thread.{Thread}
+use Rattle.pas_utility.specs.Outcomes.{places_of}
+use Rattle.pas_cache.specs.declared.cache.ThreadCache.{ThreadCache}
+use Rattle.pas_replay.specs.Sessions.{pass_in}
 
 -- ---- the parts of a kit
 -- a room for each of so many actors, from actor 0 on, of the size that was left for it, with no event
@@ -20,26 +22,26 @@ pub record AreRooms (sizes : ℕ → Option ℕ) (count : ℕ) (rooms : List Eve
   pub each : (k : ℕ) (d : EventRoom) → k < count → sizes k ≡ Some (size_of_room (slice_index_or rooms k d))
   pub empty : All (λ room. shown room ≡ []) rooms
 
--- a thread for each pass but the first, with that pass and an empty cache
-pub record AreThreads (passes : List PlainPass) (threads : List Thread) : Type 0 where
-  pub many : length threads + 1 ≡ length passes
-  pub each : (i : ℕ) (d : Thread) (p : PlainPass) → i < length threads
-      → ((slice_index_or threads i d).pass ≡ Some (slice_index_or passes (1 + i) p)) × (cached (slice_index_or threads i d).cache ≡ empty_cache)
+-- so many caches that nobody used
+pub record AreUnused (count : ℕ) (caches : List ThreadCache) : Type 0 where
+  pub many : length caches ≡ count
+  pub each : (i : ℕ) (d : ThreadCache) → i < count → cached (slice_index_or caches i d) ≡ empty_cache
 
--- a thread that did nothing yet: its pass has room for its bound, and its cache is empty
-pub record IsFresh (plan : Plan) (k : ℕ) (thread : Thread) : Type 0 where
+-- an actor that did nothing yet: its pass has room for its bound
+pub record IsFresh (plan : Plan) (k : ℕ) (slot : Option PlainPass) : Type 0 where
   pub pass : PlainPass
-  pub present : thread.pass ≡ Some pass
+  pub present : slot ≡ Some pass
   pub actor : actor_of pass ≡ k
   pub stands : PassStands plan.profile pass []
   pub room : room_of_pass pass ≡ slice_index (bounds_of plan.bounds) k
-  pub cache : cached thread.cache ≡ empty_cache
 
 pub record IsKitOf (plan : Plan) (kit : PlainKit) : Type 0 where
   pub profile : profile_of kit.region ≡ plan.profile
   pub opening : RegionStands kit.region []
-  pub count : length kit.threads.items ≡ plan.profile.threads
-  pub fresh : (i : ℕ) (d : Thread) → i < length kit.threads.items → IsFresh plan (1 + i) (slice_index_or kit.threads.items i d)
+  pub actors : length kit.actors.passes.items ≡ plan.profile.threads + 1
+  pub fresh : (k : ℕ) → k < plan.profile.threads + 1 → IsFresh plan k (pass_in kit.actors.passes.items k)
+  pub unused : AreUnused plan.profile.threads kit.actors.caches.items
+  pub places : places_of kit.actors.outcomes ≡ plan.profile.pages
   pub no_name : (name : ℕ) → block_named kit.names name ≡ None
   pub names : AllBelow (names_held kit.names) (phases_of plan)
   pub none_left : kit.passes.items ≡ []

@@ -1,11 +1,15 @@
--- What stands between two acts of a replay: one legal list, for which the region and the pass of each thread stand, and at whose end each thread
--- is at rest with its cache.
-use Rattle.std.specs.Prelude.{ℕ, zero, suc, ◌+◌, ◌-◌, ◌<◌, ◌≤◌, ◌≡◌, ◌⊎◌, true, List, [], ◌∷◌, ◌++◌, length, Option, Some, slice_index_or, slice_set}
+-- What stands between two acts of a replay: one legal list, for which the region and the pass of each actor stand, and at whose end each thread is at
+-- rest with its cache, and the scavenger has nothing.
+use Rattle.std.specs.Prelude.{ℕ, not, zero, suc, ◌+◌, ◌-◌, ◌<◌, ◌≤◌, ◌≡◌, List, [], ◌∷◌, ◌++◌, length, Option, Some, None, slice_index_or, slice_set}
 use Rattle.pas_profile.specs.declared.profile.Profile.{Profile}
-use Rattle.pas_profile.specs.declared.name.Name.{Name}
+use Rattle.pas_profile.specs.declared.event.Outcome.{Outcome}
+use Rattle.pas_steps.specs.Clear.{HasNothing}
 use Rattle.pas_steps.specs.Events.{events_of}
 use Rattle.pas_steps.specs.Lists.{Whole, part}
 use Rattle.pas_steps.specs.Desks.{Standing}
+use Rattle.pas_steps.specs.Views.{View}
+use Rattle.pas_bits.specs.Masks.{is_set}
+use Rattle.pas_bits.specs.declared.mask.Mask4.{Mask4}
 use Rattle.pas_plain.specs.Plain.{profile_of, actor_of, events_shown, room_of_pass, RegionStands, PassStands}
 use Rattle.pas_plain.specs.Seats.{region_of, pass_of, standing_of, IsPassOf}
 use Rattle.pas_plain.specs.declared.region.PlainRegion.{PlainRegion}
@@ -15,145 +19,224 @@ use Rattle.pas_report.specs.Rooms.{records_in, room_of}
 use Rattle.pas_report.specs.declared.record.Record.{Record}
 use Rattle.pas_report.specs.declared.records.Records.{Records}
 use Rattle.pas_cache.specs.Caches.{Cached, cached, AtRest}
-use Rattle.pas_answers.specs.Acts.{Act}
-use Rattle.pas_answers.specs.Answers.{progress, Named, Caches, standing_for, Follows}
-use Rattle.pas_answers.specs.Calls.{Tells, HasTurns, owed_events}
-use Rattle.pas_answers.specs.Fit.{AreFit, costs_of, own_costs_of, ops_in, marks_in}
-use Rattle.pas_trace.specs.EveryPlan.{is_asked}
+use Rattle.pas_cache.specs.declared.cache.ThreadCache.{ThreadCache}
+use Rattle.pas_scavenger.specs.Passes.{Passes}
+use Rattle.pas_utility.specs.Outcomes.{places_of}
+use Rattle.pas_passes.specs.Records.{records_of_pass}
+use Rattle.pas_answers.specs.Acts.{Act, threads_where}
+use Rattle.pas_answers.specs.Answers.{Progress, Named, Caches, Follows}
+use Rattle.pas_answers.specs.Calls.{Tells, HasTurns, AreKnown, owed_events}
+use Rattle.pas_answers.specs.Fit.{AreFit, costs_of, own_costs_of, unbacks_of}
 use Rattle.pas_answers.specs.Names.{names_held}
 use Rattle.pas_answers.specs.Replays.{at_start}
 use Rattle.pas_answers.specs.declared.names.Names.{Names}
-use Rattle.pas_replay.specs.declared.seats.Thread.{Thread}
+use Rattle.pas_replay.specs.declared.seats.Actors.{Actors}
 
--- ---- a thread at its desk
-pub record IsSeated (region : PlainRegion) (thread : Thread) (desk : PlainDesk) : Type 0 where
+-- ---- passes, by actor; None of the one at the desk
+abbrev pub Slots : Type 0
+Slots = List (Option PlainPass)
+
+abbrev pub pass_in : Slots → ℕ → Option PlainPass
+pass_in passes k = slice_index_or passes k None
+
+-- the passes, once the actor at the desk has risen
+abbrev pub risen : PlainDesk → Slots → Slots
+risen desk passes = slice_set passes (actor_of (pass_of desk)) (Some (pass_of desk))
+
+-- the actor at the desk has a place among them
+abbrev pub IsTaken : PlainDesk → Slots → Type 0
+IsTaken desk passes = actor_of (pass_of desk) < length passes
+
+-- an actor with this pass at its desk
+pub record IsSeated (region : PlainRegion) (slot : Option PlainPass) (desk : PlainDesk) : Type 0 where
   pub region_is : region_of desk ≡ region
-  pub pass_is : thread.pass ≡ Some (pass_of desk)
+  pub pass_is : slot ≡ Some (pass_of desk)
 
--- the thread has its pass, which is one of the region, and of actor k
-pub record MaySit (region : PlainRegion) (thread : Thread) (k : ℕ) : Type 0 where
-  pub desk : PlainDesk
-  pub seated : IsSeated region thread desk
-  pub of_region : IsPassOf region (pass_of desk)
-  pub actor_is : actor_of (pass_of desk) ≡ k
+-- the slot has a pass, which is one of the region, and of actor k
+pub record MaySit (region : PlainRegion) (slot : Option PlainPass) (k : ℕ) : Type 0 where
+  pub pass : PlainPass
+  pub present : slot ≡ Some pass
+  pub of_region : IsPassOf region pass
+  pub actor_is : actor_of pass ≡ k
 
--- a thread sat down, did this at its desk, and rose again
-pub record Turn (region region' : PlainRegion) (thread thread' : Thread) (Did : Standing → Standing → Type 0) : Type 0 where
-  pub desk : PlainDesk
-  pub desk' : PlainDesk
-  pub seated : IsSeated region thread desk
-  pub risen : IsSeated region' thread' desk'
-  pub did : Did (standing_of desk) (standing_of desk')
-
--- ---- the one desk of a replay, at which the threads take turns
--- the threads, of which the one at place i has this pass
-abbrev pub with_pass : PlainPass → ℕ → List Thread → List Thread
-with_pass pass i [] = []
-with_pass pass zero (thread ∷ threads) = record { pass = Some pass; cache = thread.cache } ∷ threads
-with_pass pass (suc i) (thread ∷ threads) = thread ∷ with_pass pass i threads
-
--- the threads, once the one at the desk has risen
-abbrev pub risen : PlainDesk → List Thread → List Thread
-risen desk threads = with_pass (pass_of desk) (actor_of (pass_of desk) - 1) threads
-
-abbrev pub IsThreadOf : List Thread → ℕ → Type 0
-IsThreadOf threads k = (1 ≤ k) × (k ≤ length threads)
-
-abbrev pub IsTaken : PlainDesk → List Thread → Type 0
-IsTaken desk threads = IsThreadOf threads (actor_of (pass_of desk))
-
--- thread k may sit down in the place of the one at the desk
-pub record MayTakeSeat (desk : PlainDesk) (threads : List Thread) (k : ℕ) : Type 0 where
-  pub taken : IsTaken desk threads
-  pub place : IsThreadOf threads k
-  pub own : (d : Thread) → MaySit (region_of desk) (slice_index_or (risen desk threads) (k - 1) d) k
+-- ---- the one desk of a replay, at which the actors take turns
+-- actor k may sit down in the place of the one at the desk
+pub record MayTakeSeat (desk : PlainDesk) (passes : Slots) (k : ℕ) : Type 0 where
+  pub taken : IsTaken desk passes
+  pub place : k < length passes
+  pub own : MaySit (region_of desk) (pass_in (risen desk passes) k) k
 
 -- it sat down there: nothing else changed
-pub record TakesSeat (desk desk' : PlainDesk) (threads threads' : List Thread) (k : ℕ) : Type 0 where
+pub record TakesSeat (desk desk' : PlainDesk) (passes passes' : Slots) (k : ℕ) : Type 0 where
   pub region_is : region_of desk' ≡ region_of desk
   pub actor_is : actor_of (pass_of desk') ≡ k
-  pub threads_are : risen desk' threads' ≡ risen desk threads
+  pub passes_are : risen desk' passes' ≡ risen desk passes
 
--- .. and may call this there, with its cache
-pub record MayTakeTurn (desk : PlainDesk) (threads : List Thread) (k : ℕ) (May : PlainDesk → Cached → Type 0) : Type 0 where
-  pub seat : MayTakeSeat desk threads k
-  pub may : (d : Thread) (own : PlainDesk) → IsSeated (region_of desk) (slice_index_or (risen desk threads) (k - 1) d) own → May own (cached (slice_index_or (risen desk threads) (k - 1) d).cache)
+-- it may sit down and call this there
+pub record MayTakeTurn (desk : PlainDesk) (passes : Slots) (k : ℕ) (May : PlainDesk → Type 0) : Type 0 where
+  pub seat : MayTakeSeat desk passes k
+  pub may : (own : PlainDesk) → IsSeated (region_of desk) (pass_in (risen desk passes) k) own → May own
 
--- it sat down there and did this with its cache
-pub record TakesTurn (desk desk' : PlainDesk) (threads threads' : List Thread) (k : ℕ) (Did : Cached → Cached → Standing → Standing → Type 0) : Type 0 where
-  pub thread : Thread
-  pub threads_are : slice_set (risen desk threads) (k - 1) thread ≡ risen desk' threads'
-  pub turn : (d : Thread) → Turn (region_of desk) (region_of desk') (slice_index_or (risen desk threads) (k - 1) d) thread (Did (cached (slice_index_or (risen desk threads) (k - 1) d).cache) (cached thread.cache))
-  pub taken : IsTaken desk' threads'
+-- it sat down there and did this
+pub record TakesTurn (desk desk' : PlainDesk) (passes passes' : Slots) (k : ℕ) (Did : Standing → Standing → Type 0) : Type 0 where
+  pub passes_are : risen desk' passes' ≡ slice_set (risen desk passes) k (Some (pass_of desk'))
+  pub taken : IsTaken desk' passes'
+  pub own : PlainDesk
+  pub seated : IsSeated (region_of desk) (pass_in (risen desk passes) k) own
+  pub did : Did (standing_of own) (standing_of desk')
+
+-- thread k has a cache, which holds c
+pub record HasCache (caches : List ThreadCache) (k : ℕ) (c : Cached) : Type 0 where
+  pub some : 1 ≤ k
+  pub within : k ≤ length caches
+  pub holds : (d : ThreadCache) → c ≡ cached (slice_index_or caches (k - 1) d)
+
+-- .. and called this with it, and it holds c' then; no other cache changed
+pub record TakesThreadTurn (desk desk' : PlainDesk) (actors actors' : Actors) (k : ℕ) (Did : Cached → Standing → Standing → Type 0) : Type 0 where
+  pub cache : ThreadCache
+  pub caches_are : actors'.caches.items ≡ slice_set actors.caches.items (k - 1) cache
+  pub turn : TakesTurn desk desk' actors.passes.items actors'.passes.items k (Did (cached cache))
+  pub places : places_of actors'.outcomes ≡ places_of actors.outcomes
+
+-- the scavenger sat down and did this
+pub record Scavenges (desk desk' : PlainDesk) (actors actors' : Actors) (Did : Standing → Standing → Type 0) : Type 0 where
+  pub caches_are : actors'.caches.items ≡ actors.caches.items
+  pub turn : TakesTurn desk desk' actors.passes.items actors'.passes.items 0 Did
+  pub places : places_of actors'.outcomes ≡ places_of actors.outcomes
+
+-- a pass was made, on so many pages, and its records came to the end
+pub record MadePass (pages : ℕ) (before after : List Record) (desk desk' : Standing) : Type 0 where
+  pub epoch : ℕ
+  pub found : List (ℕ × Outcome)
+  pub passes : Passes desk desk' epoch found
+  pub within : length found ≤ pages
+  pub added : after ≡ before ++ records_of_pass desk.seat.actor epoch found
 
 -- for how many more events there is room
 abbrev pub spare_at : PlainDesk → ℕ
 spare_at desk = room_of_pass (pass_of desk) - length (events_shown (pass_of desk))
 
--- ---- all threads
--- Thread k has its pass, which stands for the list, and is at rest with its cache. There is room for the events that it owes, and for those of the
--- operations that are left, which cost `own`.
-pub record ThreadStands (f : Profile) (k : ℕ) (thread : Thread) (l : Whole) (own : ℕ) : Type 0 where
+-- ---- all actors
+-- Actor k has its pass, which stands for the list, at whose end its part is so. There is room for `need` events more.
+pub record SeatStands (f : Profile) (k : ℕ) (Rest : View → Type 0) (slot : Option PlainPass) (l : Whole) (need : ℕ) : Type 0 where
   pub pass : PlainPass
-  pub present : thread.pass ≡ Some pass
+  pub present : slot ≡ Some pass
   pub actor : actor_of pass ≡ k
   pub stands : PassStands f pass l
-  pub rest : AtRest f (cached thread.cache) (part k l)
-  pub room : length (events_of k (part k l)) + (owed_events f (cached thread.cache) (part k l) + own) ≤ room_of_pass pass
+  pub rest : Rest (part k l)
+  pub room : length (events_of k (part k l)) + need ≤ room_of_pass pass
 
--- the events that the threads from thread k on owe
-abbrev pub owed_from : Profile → Whole → ℕ → List Thread → ℕ
-owed_from f l k [] = 0
-owed_from f l k (thread ∷ threads) = owed_events f (cached thread.cache) (part k l) + owed_from f l (k + 1) threads
+-- Thread k is at rest with its cache. There is room for the events that it owes, and for those of the operations that are left, which cost `own`.
+abbrev pub ThreadStands : Profile → ℕ → Cached → Option PlainPass → Whole → ℕ → Type 0
+ThreadStands f k c slot l own = SeatStands f k (AtRest f c) slot l (owed_events f c (part k l) + own)
 
--- each of the threads stands, the first of which is thread 1
-abbrev pub AllStand : Profile → Whole → List Act → List Thread → Type 0
-AllStand f l acts threads = (i : ℕ) (d : Thread) → i < length threads → ThreadStands f (1 + i) (slice_index_or threads i d) l (own_costs_of (1 + i) (ops_in acts))
+-- the scavenger has nothing; there is room for the events of the passes that are left
+abbrev pub ScavengerStands : Profile → Option PlainPass → Whole → ℕ → Type 0
+ScavengerStands f slot l own = SeatStands f 0 HasNothing slot l own
+
+-- the events that the first n threads owe
+abbrev pub owed_by : Profile → Whole → Caches → ℕ → ℕ
+owed_by f l caches zero = 0
+owed_by f l caches (suc n) = owed_events f (caches (suc n)) (part (suc n) l) + owed_by f l caches n
+
+-- each of the threads stands
+abbrev pub AllStand : Profile → Whole → List Act → Caches → Slots → Type 0
+AllStand f l acts caches passes = (i : ℕ) → i < f.threads → ThreadStands f (suc i) (caches (suc i)) (pass_in passes (suc i)) l (own_costs_of (suc i) acts)
 
 -- what the caches hold
-abbrev pub AreCaches : Caches → List Thread → Type 0
-AreCaches caches threads = (i : ℕ) (d : Thread) → i < length threads → caches (1 + i) ≡ cached (slice_index_or threads i d).cache
+abbrev pub AreCaches : Caches → List ThreadCache → Type 0
+AreCaches caches list = (i : ℕ) (d : ThreadCache) → i < length list → caches (suc i) ≡ cached (slice_index_or list i d)
 
 -- no cache has a local allocator
-abbrev pub AreEmpty : List Thread → Type 0
-AreEmpty threads = (i : ℕ) (d : Thread) → i < length threads → (cached (slice_index_or threads i d).cache).locals ≡ []
+abbrev pub AreEmpty : List ThreadCache → Type 0
+AreEmpty list = (i : ℕ) (d : ThreadCache) → i < length list → (cached (slice_index_or list i d)).locals ≡ []
 
--- The acts are left of `all`: however they are answered from here on, the whole is answered so. There is room for what they may make.
-pub record SoFar (f : Profile) (all acts : List Act) (region : PlainRegion) (threads : List Thread) (table : Names) (out : Records) : Type 0 where
-  pub profile_is : profile_of region ≡ f
-  pub count : length threads ≡ f.threads
-  pub whole : Whole
-  pub stands : RegionStands region whole
-  pub each : AllStand f whole acts threads
-  pub nobody : (k : ℕ) → (k ≡ 0) ⊎ (f.threads < k) → part k whole ≡ []
-  pub asked : List ℕ
-  pub fit : AreFit f (names_held table) asked (ops_in acts)
-  pub names : List Named
-  pub tells : Tells table names
-  pub turns : HasTurns table
-  pub known : (n : ℕ) → is_asked asked n ≡ true → (block : Option Name) × (standing_for names n ≡ Some block)
-  pub caches : Caches
-  pub caches_are : AreCaches caches threads
-  pub spare : length (records_in out) + (owed_from f whole 1 threads + (costs_of (ops_in acts) + marks_in acts)) ≤ room_of out
-  pub answers : (l : Whole) (rs : List Record) → Follows f acts (progress names caches whole (records_in out)) l rs → Follows f all at_start l rs
+-- ---- the threads of a phase
+-- of so many, those of the mask, which are awake, and the others, which are idle
+abbrev pub awake_in : Mask4 → ℕ → List ℕ
+awake_in awake threads = threads_where (is_set awake) threads
+
+abbrev pub idle_in : Mask4 → ℕ → List ℕ
+idle_in awake threads = threads_where (λ k. not (is_set awake k)) threads
 
 -- ---- the replay goes on
 -- what a replay has in hand between two acts
 pub record Hand : Type 0 where
   pub region : PlainRegion
-  pub threads : List Thread
+  pub passes : Slots
+  pub caches : List ThreadCache
+  pub places : ℕ
   pub table : Names
   pub out : Records
 
--- .. once the thread at the desk has risen
-abbrev pub hand_at : PlainDesk → List Thread → Names → Records → Hand
-hand_at desk threads table out = record { region = region_of desk; threads = risen desk threads; table = table; out = out }
+-- .. while nobody sits at the desk
+abbrev pub hand_of : PlainRegion → Actors → Names → Records → Hand
+hand_of region actors table out = record {
+  region = region;
+  passes = actors.passes.items;
+  caches = actors.caches.items;
+  places = places_of actors.outcomes;
+  table = table;
+  out = out;
+}
+
+-- .. once the actor at the desk has risen
+abbrev pub hand_at : PlainDesk → Actors → Names → Records → Hand
+hand_at desk actors table out = record {
+  region = region_of desk;
+  passes = risen desk actors.passes.items;
+  caches = actors.caches.items;
+  places = places_of actors.outcomes;
+  table = table;
+  out = out;
+}
+
+-- the table says what the names stand for, and the acts that are left fit to them
+pub record HasNames (f : Profile) (acts : List Act) (table : Names) (names : List Named) : Type 0 where
+  pub asked : List ℕ
+  pub fit : AreFit f (names_held table) asked acts
+  pub tells : Tells table names
+  pub turns : HasTurns table
+  pub known : AreKnown asked names
+
+-- The acts are left of `all`, and the replay came as far as p: however they are answered from here on, the whole is answered so. There is room for what
+-- they may make.
+pub record IsAt (f : Profile) (all acts : List Act) (h : Hand) (p : Progress) : Type 0 where
+  pub profile_is : profile_of h.region ≡ f
+  pub actors : length h.passes ≡ f.threads + 1
+  pub threads : length h.caches ≡ f.threads
+  pub places : h.places ≡ f.pages
+  pub stands : RegionStands h.region p.list
+  pub scavenger : ScavengerStands f (pass_in h.passes 0) p.list (unbacks_of f acts)
+  pub each : AllStand f p.list acts p.caches h.passes
+  pub nobody : (k : ℕ) → f.threads < k → part k p.list ≡ []
+  pub names : HasNames f acts h.table p.names
+  pub caches_are : AreCaches p.caches h.caches
+  pub records_are : records_in h.out ≡ p.records
+  pub spare : length (records_in h.out) + (owed_by f p.list p.caches f.threads + costs_of f acts) ≤ room_of h.out
+  pub answers : (l : Whole) (rs : List Record) → Follows f acts p l rs → Follows f all at_start l rs
+
+abbrev pub SoFar : Profile → List Act → List Act → Hand → Type 0
+SoFar f all acts h = (p : Progress) × IsAt f all acts h p
 
 -- in some replay these acts come next
 abbrev pub MayGoOn : List Act → Hand → Type 0
-MayGoOn acts h = (all : List Act) × (more : List Act) × SoFar (profile_of h.region) all (acts ++ more) h.region h.threads h.table h.out
+MayGoOn acts h = (f : Profile) × (all : List Act) × (more : List Act) × SoFar f all (acts ++ more) h
 
 -- in each replay in which these acts come next, those after them are left afterwards
 abbrev pub GoesOn : List Act → Hand → Hand → Type 0
-GoesOn acts before after = (all more : List Act) → SoFar (profile_of before.region) all (acts ++ more) before.region before.threads before.table before.out
-    → SoFar (profile_of before.region) all more after.region after.threads after.table after.out
+GoesOn acts before after = (f : Profile) (all more : List Act) → SoFar f all (acts ++ more) before → SoFar f all more after
+
+-- the whole replay
+abbrev pub Replays : List Act → Hand → Hand → Type 0
+Replays acts before after = (f : Profile) → SoFar f acts acts before → SoFar f acts [] after
+
+-- ---- the same, where the scavenger read this epoch last for an idle operation
+abbrev pub HasRead : ℕ → Profile → List Act → List Act → Hand → Type 0
+HasRead epoch f all acts h = (p : Progress) × IsAt f all acts h p × (p.epoch ≡ epoch)
+
+abbrev pub MayGoOnAt : ℕ → List Act → Hand → Type 0
+MayGoOnAt epoch acts h = (f : Profile) × (all : List Act) × (more : List Act) × HasRead epoch f all (acts ++ more) h
+
+abbrev pub GoesOnAt : ℕ → List Act → Hand → Hand → Type 0
+GoesOnAt epoch acts before after = (f : Profile) (all more : List Act) → HasRead epoch f all (acts ++ more) before → HasRead epoch f all more after

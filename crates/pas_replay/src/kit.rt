@@ -4,16 +4,17 @@ ghost use Rattle.std.specs.Prelude.{◌≡◌, ◌≤◌, ◌<◌, ◌+◌, ◌^
 ghost use Rattle.pas_profile.specs.Rooms.{shown, size_of_room};
 ghost use Rattle.pas_profile.specs.declared.room.EventRoom.{EventRoom as TheRoom};
 ghost use Rattle.pas_trace.specs.Plans.{IsPlanOf};
-ghost use Rattle.pas_utility.specs.Pools.{threads_of, room_of as room_for, has_seat};
+ghost use Rattle.pas_utility.specs.Outcomes.{places_of};
+ghost use Rattle.pas_utility.specs.Pools.{threads_of, room_of as room_for, has_seat, outcomes_of};
 ghost use Rattle.pas_plain.specs.Plain.{passes_from};
 ghost use Rattle.pas_report.specs.Rooms.{records_in, room_of};
 ghost use Rattle.pas_answers.specs.Replays.{phases_of, IsBuilt, Shows};
 ghost use Rattle.pas_answers.specs.Ways.{InOrder};
-ghost use Rattle.pas_replay.specs.Kits.{AreRooms, AreThreads, IsKitOf};
+ghost use Rattle.pas_replay.specs.Kits.{AreRooms, AreUnused, IsKitOf};
 
 use crate::limits::names_limit;
 use crate::order::replay;
-use crate::seats::Thread;
+use crate::seats::Actors;
 use pas_answers::names::Names;
 use pas_cache::ThreadCache;
 use pas_plain::{PlainPass, PlainRegion, close};
@@ -21,15 +22,15 @@ use pas_profile::{EventRoom, NoMemory};
 use pas_report::Records;
 use pas_steps::State;
 use pas_trace::Plan;
-use pas_utility::Utility;
+use pas_utility::{Outcomes, Utility};
 use std::alloc::Global;
 
-/// All that a replay needs: the region, the threads with their passes and caches, and the table of names. Once it is made nothing takes
+/// All that a replay needs: the region, the actors with their passes and caches, and the table of names. Once it is made nothing takes
 /// memory.
 #[derive(Drop)]
 pub struct PlainKit {
     region: PlainRegion,
-    threads: Vec<Thread>,
+    actors: Actors,
     names: Names,
     /// None is left: with it the region is closed.
     passes: Vec<PlainPass>,
@@ -42,6 +43,7 @@ fn rooms_of(alloc: Global, utility: &mut Utility, threads: u8) -> Result<Vec<Eve
     requires left { (k : ℕ) → k ≤ threads → (size : ℕ) × (room_for utility.old k ≡ Some size) }
     ensures rooms { IfOk result (λ rooms. AreRooms (room_for utility.old) (threads + 1) rooms.items) }
     ensures seats { (k : ℕ) → has_seat utility.new k ≡ has_seat utility.old k }
+    ensures outcomes { outcomes_of utility.new ≡ outcomes_of utility.old }
     ensures threads { threads_of utility.new ≡ threads_of utility.old }
 {
     let Ok(mut rooms) = Vec::with_capacity(alloc, threads as usize + 1) else {
@@ -56,35 +58,57 @@ fn rooms_of(alloc: Global, utility: &mut Utility, threads: u8) -> Result<Vec<Eve
     Ok(rooms)
 }
 
-/// The threads, each with an empty cache, and with the pass of its number. The passes are those of all actors, the scavenger's first.
-fn threads_with(
+/// The passes at the places of their actors. They are taken out of the list.
+fn places_for(
     alloc: Global,
-    utility: &mut Utility,
     passes: &mut Vec<PlainPass>,
-) -> Result<Vec<Thread>, NoMemory>
-    requires few { vec_len passes.old ≤ 17 }
-    requires some { 1 ≤ vec_len passes.old }
-    requires threads { vec_len passes.old ≡ threads_of utility.old + 1 }
-    requires left { (k : ℕ) → 1 ≤ k → k ≤ threads_of utility.old → has_seat utility.old k ≡ true }
-    ensures threads { IfOk result (λ threads. AreThreads passes.old.items threads.items) }
-    ensures none { IfOk result (λ threads. passes.new.items ≡ []) }
+) -> Result<Vec<Option<PlainPass>>, NoMemory>
+    ensures places { IfOk result (λ places. places.items ≡ map Some passes.old.items) }
+    ensures none { IfOk result (λ places. passes.new.items ≡ []) }
 {
-    let count = passes.len() as u8 - 1;
-    let Ok(mut list) = Vec::with_capacity(alloc, count as usize) else {
+    let Ok(mut places) = Vec::with_capacity(alloc, passes.len()) else {
         return Err(NoMemory);
     };
     passes.reverse();
-    passes.pop();
-    for actor in 1..count + 1 {
-        let Some(seat) = utility.cache_seat(actor) else {
+    while let Some(pass) = passes.pop() {
+        places.push_reserved(Some(pass));
+    }
+    Ok(places)
+}
+
+/// An empty cache for each of so many threads.
+fn caches_for(
+    alloc: Global,
+    utility: &mut Utility,
+    threads: u8,
+) -> Result<Vec<ThreadCache>, NoMemory>
+    requires few { threads ≤ 16 }
+    requires threads { threads ≤ threads_of utility.old }
+    requires left { (k : ℕ) → 1 ≤ k → k ≤ threads → has_seat utility.old k ≡ true }
+    ensures caches { IfOk result (λ caches. AreUnused threads caches.items) }
+    ensures outcomes { outcomes_of utility.new ≡ outcomes_of utility.old }
+{
+    let Ok(mut caches) = Vec::with_capacity(alloc, threads as usize) else {
+        return Err(NoMemory);
+    };
+    for below in 0..threads {
+        let Some(seat) = utility.cache_seat(below + 1) else {
             unreachable!();
         };
-        let cache = ThreadCache::new(seat);
-        let pass = passes.pop();
-        list.push_reserved(Thread { pass, cache });
+        caches.push_reserved(ThreadCache::new(seat));
     }
-    passes.clear();
-    Ok(list)
+    Ok(caches)
+}
+
+/// The list for the outcomes of a pass.
+fn outcomes_from(utility: &mut Utility) -> Outcomes
+    requires { (places : ℕ) × (outcomes_of utility.old ≡ Some places) }
+    ensures { outcomes_of utility.old ≡ Some (places_of result) }
+{
+    let Some(outcomes) = utility.outcomes() else {
+        unreachable!();
+    };
+    outcomes
 }
 
 impl PlainKit {
@@ -96,11 +120,17 @@ impl PlainKit {
         let mut utility = Utility::try_new(alloc, &plan.profile, plan.bounds.as_slice())?;
         let rooms = rooms_of(alloc, &mut utility, plan.profile.threads)?;
         let (region, mut passes) = PlainRegion::try_new(alloc, plan.profile, rooms)?;
-        let threads = threads_with(alloc, &mut utility, &mut passes)?;
+        let places = places_for(alloc, &mut passes)?;
+        let caches = caches_for(alloc, &mut utility, plan.profile.threads)?;
         let names = Names::try_new(alloc, names_limit(plan.phases.as_slice()))?;
+        let actors = Actors {
+            passes: places,
+            caches,
+            outcomes: outcomes_from(&mut utility),
+        };
         Ok(PlainKit {
             region,
-            threads,
+            actors,
             names,
             passes,
         })
@@ -119,13 +149,13 @@ pub fn in_order(plan: &Plan, kit: PlainKit, out: &mut Records) -> State
 {
     let PlainKit {
         region,
-        mut threads,
+        mut actors,
         mut names,
         passes,
     } = kit;
     let region = replay(
         region,
-        &mut threads,
+        &mut actors,
         &mut names,
         plan.phases.as_slice(),
         out,

@@ -1,18 +1,20 @@
 //! The phases of a plan in order, and the close.
-ghost use Rattle.std.specs.Prelude.{◌≡◌, ◌+◌, ◌<◌, ◌≤◌, ◌++◌, ◌^◌, ℕ, map, length, [], List};
+ghost use Rattle.std.specs.Prelude.{◌≡◌, ◌↔◌, ◌+◌, ◌<◌, ◌≤◌, ◌^◌, ℕ, map, length, [], ◌∷◌, IsTrue};
 ghost use Rattle.pas_bits.specs.Masks.{is_set};
 ghost use Rattle.pas_trace.specs.Plans.{ops_of};
-ghost use Rattle.pas_plain.specs.Plain.{profile_of};
-ghost use Rattle.pas_answers.specs.Acts.{Act, Wakes, Operates, Ends, is_active, active_from, numbers_from, acts_of};
-ghost use Rattle.pas_replay.specs.Sessions.{SoFar, AreEmpty, MayGoOn, GoesOn, hand_at, risen, IsTaken};
+ghost use Rattle.pas_cache.specs.Caches.{cached};
+ghost use Rattle.pas_answers.specs.Acts.{Wakes, ReadsEpoch, StopsIdle, Ends, is_active, numbers_from, idle_stops, acts_of_op, acts_of_ops, acts_of};
+ghost use Rattle.pas_replay.specs.Sessions.{SoFar, AreEmpty, MayGoOn, GoesOn, MayGoOnAt, GoesOnAt, Replays, awake_in, idle_in, hand_at, hand_of, IsTaken};
+ghost use Rattle.pas_profile.specs.declared.profile.Profile.{Profile as TheProfile};
 ghost use Rattle.pas_report.specs.declared.records.Records.{Records as TheRecords};
 ghost use Rattle.pas_answers.specs.declared.names.Names.{Names as TheNames};
 
-use crate::seats::{Thread, operate, rise, sit, wake};
+use crate::seats::{Actors, SCAVENGER, operate, pass, read_epoch, rise, sit, tick, wake};
 use pas_answers::names::Names;
 use pas_bits::Mask4;
+use pas_cache::ThreadCache;
 use pas_plain::{PlainDesk, PlainRegion};
-use pas_report::{Record, Records};
+use pas_report::{Record, Records, Said};
 use pas_steps::Desk;
 use pas_trace::{Op, Phase, What};
 
@@ -31,83 +33,171 @@ fn active(ops: &[Op]) -> Mask4
 }
 
 /// Each thread that has an operation in the phase reads the epoch.
-fn wake_all(desk: &mut PlainDesk, threads: &mut [Thread], ops: &[Op])
-    requires few { length threads.old < 32 }
-    requires taken { IsTaken desk.old threads.old }
-    requires so_far { (table : TheNames) × (out : TheRecords) × MayGoOn (map Wakes (active_from 1 (length threads.old) ops.now)) (hand_at desk.old threads.old table out) }
-    ensures taken { IsTaken desk.new threads.new }
+fn wake_all(desk: &mut PlainDesk, actors: &mut Actors, awake: Mask4)
+    requires few { length actors.old.caches.items < 32 }
+    requires taken { IsTaken desk.old actors.old.passes.items }
+    requires so_far { (table : TheNames) × (out : TheRecords) × MayGoOn (map Wakes (awake_in awake (length actors.old.caches.items))) (hand_at desk.old actors.old table out) }
+    ensures taken { IsTaken desk.new actors.new.passes.items }
+    ensures threads { length actors.new.caches.items ≡ length actors.old.caches.items }
     ensures so_far { (table : TheNames) (out : TheRecords)
-        → GoesOn (map Wakes (active_from 1 (length threads.old) ops.now)) (hand_at desk.old threads.old table out) (hand_at desk.new threads.new table out) }
+        → GoesOn (map Wakes (awake_in awake (length actors.old.caches.items))) (hand_at desk.old actors.old table out) (hand_at desk.new actors.new table out) }
 {
-    let awake = active(ops);
-    for index in 0..threads.len() {
+    for index in 0..actors.caches.len() {
         let actor = index as u8 + 1;
         if awake.get(actor) {
-            wake(desk, threads, actor);
+            wake(desk, actors, actor);
+        }
+    }
+}
+
+/// Whether the thread of this cache was idle for so many epochs, now that it is this one.
+fn is_idle_for(cache: &ThreadCache, epochs: u64, epoch: u64) -> bool
+    ensures { IsTrue result ↔ ((cached cache.now).idle_since + epochs ≤ epoch) }
+{
+    let since = cache.idle_since();
+    since <= epoch && epochs <= epoch - since
+}
+
+/// Stops the thread, where it was idle for so many epochs, now that it is this one, and says so.
+fn stop_if_idle(
+    desk: &mut PlainDesk,
+    actors: &mut Actors,
+    names: &mut Names,
+    actor: u8,
+    epochs: u64,
+    epoch: u64,
+    out: &mut Records,
+)
+    requires some { 1 ≤ actor }
+    requires thread { actor ≤ length actors.old.caches.items }
+    requires taken { IsTaken desk.old actors.old.passes.items }
+    requires so_far { MayGoOnAt epoch (StopsIdle actor epochs ∷ []) (hand_at desk.old actors.old names.old out.old) }
+    ensures taken { IsTaken desk.new actors.new.passes.items }
+    ensures threads { length actors.new.caches.items ≡ length actors.old.caches.items }
+    ensures so_far { GoesOnAt epoch (StopsIdle actor epochs ∷ []) (hand_at desk.old actors.old names.old out.old) (hand_at desk.new actors.new names.new out.new) }
+{
+    if is_idle_for(&actors.caches[actor as usize - 1], epochs, epoch) {
+        operate(desk, actors, names, actor, What::Stop, out);
+        out.push(Record::Said(SCAVENGER, Said::Stopped(actor)));
+    }
+}
+
+/// Stops each thread that is idle in the phase, in order, where it was idle for so many epochs, and says so.
+fn stop_idle(
+    desk: &mut PlainDesk,
+    actors: &mut Actors,
+    names: &mut Names,
+    awake: Mask4,
+    epochs: u64,
+    out: &mut Records,
+)
+    requires few { length actors.old.caches.items < 32 }
+    requires taken { IsTaken desk.old actors.old.passes.items }
+    requires so_far { MayGoOn (ReadsEpoch ∷ idle_stops epochs (idle_in awake (length actors.old.caches.items))) (hand_at desk.old actors.old names.old out.old) }
+    ensures taken { IsTaken desk.new actors.new.passes.items }
+    ensures threads { length actors.new.caches.items ≡ length actors.old.caches.items }
+    ensures so_far { GoesOn (ReadsEpoch ∷ idle_stops epochs (idle_in awake (length actors.old.caches.items)))
+        (hand_at desk.old actors.old names.old out.old) (hand_at desk.new actors.new names.new out.new) }
+{
+    let epoch = read_epoch(desk, actors);
+    for index in 0..actors.caches.len() {
+        let actor = index as u8 + 1;
+        if !awake.get(actor) {
+            stop_if_idle(desk, actors, names, actor, epochs, epoch, out);
+        }
+    }
+}
+
+/// Performs an operation, in a phase in which these threads have one.
+#[inline(always)]
+fn perform(
+    desk: &mut PlainDesk,
+    actors: &mut Actors,
+    names: &mut Names,
+    awake: Mask4,
+    op: Op,
+    out: &mut Records,
+)
+    requires few { length actors.old.caches.items < 32 }
+    requires taken { IsTaken desk.old actors.old.passes.items }
+    requires so_far { MayGoOn (acts_of_op (idle_in awake (length actors.old.caches.items)) op) (hand_at desk.old actors.old names.old out.old) }
+    ensures taken { IsTaken desk.new actors.new.passes.items }
+    ensures threads { length actors.new.caches.items ≡ length actors.old.caches.items }
+    ensures so_far { GoesOn (acts_of_op (idle_in awake (length actors.old.caches.items)) op) (hand_at desk.old actors.old names.old out.old) (hand_at desk.new actors.new names.new out.new) }
+{
+    match op.what {
+        What::Tick(epoch) => tick(desk, actors, epoch, out),
+        What::Pass => pass(desk, actors, out),
+        What::Idle(epochs) => stop_idle(desk, actors, names, awake, epochs, out),
+        What::Alloc { .. } | What::Free { .. } | What::Raw { .. } | What::Flush | What::Stop => {
+            operate(desk, actors, names, op.actor, op.what, out);
         }
     }
 }
 
 /// Performs the operations of a phase in order.
-fn perform(
+fn perform_all(
     desk: &mut PlainDesk,
-    threads: &mut [Thread],
+    actors: &mut Actors,
     names: &mut Names,
+    awake: Mask4,
     ops: &[Op],
     out: &mut Records,
 )
-    requires taken { IsTaken desk.old threads.old }
-    requires so_far { MayGoOn (map Operates ops.now) (hand_at desk.old threads.old names.old out.old) }
-    ensures taken { IsTaken desk.new threads.new }
-    ensures so_far { GoesOn (map Operates ops.now) (hand_at desk.old threads.old names.old out.old) (hand_at desk.new threads.new names.new out.new) }
+    requires few { length actors.old.caches.items < 32 }
+    requires taken { IsTaken desk.old actors.old.passes.items }
+    requires so_far { MayGoOn (acts_of_ops (idle_in awake (length actors.old.caches.items)) ops.now) (hand_at desk.old actors.old names.old out.old) }
+    ensures taken { IsTaken desk.new actors.new.passes.items }
+    ensures threads { length actors.new.caches.items ≡ length actors.old.caches.items }
+    ensures so_far { GoesOn (acts_of_ops (idle_in awake (length actors.old.caches.items)) ops.now) (hand_at desk.old actors.old names.old out.old) (hand_at desk.new actors.new names.new out.new) }
 {
     for op in ops {
-        operate(desk, threads, names, op.actor, op.what, out);
+        perform(desk, actors, names, awake, *op, out);
     }
 }
 
 /// Stops each thread, in order.
-fn stop_all(desk: &mut PlainDesk, threads: &mut [Thread], names: &mut Names, out: &mut Records)
-    requires few { length threads.old < 32 }
-    requires taken { IsTaken desk.old threads.old }
-    requires so_far { MayGoOn (map Ends (numbers_from 1 (length threads.old))) (hand_at desk.old threads.old names.old out.old) }
-    ensures taken { IsTaken desk.new threads.new }
-    ensures so_far { GoesOn (map Ends (numbers_from 1 (length threads.old))) (hand_at desk.old threads.old names.old out.old) (hand_at desk.new threads.new names.new out.new) }
-    ensures empty { AreEmpty (risen desk.new threads.new) }
+fn stop_all(desk: &mut PlainDesk, actors: &mut Actors, names: &mut Names, out: &mut Records)
+    requires few { length actors.old.caches.items < 32 }
+    requires taken { IsTaken desk.old actors.old.passes.items }
+    requires so_far { MayGoOn (map Ends (numbers_from 1 (length actors.old.caches.items))) (hand_at desk.old actors.old names.old out.old) }
+    ensures taken { IsTaken desk.new actors.new.passes.items }
+    ensures threads { length actors.new.caches.items ≡ length actors.old.caches.items }
+    ensures so_far { GoesOn (map Ends (numbers_from 1 (length actors.old.caches.items))) (hand_at desk.old actors.old names.old out.old) (hand_at desk.new actors.new names.new out.new) }
+    ensures empty { AreEmpty actors.new.caches.items }
 {
-    for index in 0..threads.len() {
-        operate(desk, threads, names, index as u8 + 1, What::Stop, out);
+    for index in 0..actors.caches.len() {
+        operate(desk, actors, names, index as u8 + 1, What::Stop, out);
     }
 }
 
 /// Performs the phases in order, with a mark before each from the second on, and closes: a mark, and the stop of each thread. The region stays
-/// at one desk, at which the threads take turns.
+/// at one desk, at which the actors take turns.
 pub(crate) fn replay(
     region: PlainRegion,
-    threads: &mut [Thread],
+    actors: &mut Actors,
     names: &mut Names,
     phases: &[Phase],
     out: &mut Records,
 ) -> PlainRegion
     requires phases { length phases.now < 2 ^ 32 }
-    requires some { 1 ≤ length threads.old }
-    requires few { length threads.old < 32 }
-    requires so_far { SoFar (profile_of region) (acts_of (length threads.old) (map ops_of phases.now)) (acts_of (length threads.old) (map ops_of phases.now)) region threads.old names.old out.old }
-    ensures so_far { SoFar (profile_of region) (acts_of (length threads.old) (map ops_of phases.now)) [] result threads.new names.new out.new }
-    ensures empty { AreEmpty threads.new }
+    requires few { length actors.old.caches.items < 32 }
+    requires so_far { (f : TheProfile) × SoFar f (acts_of (length actors.old.caches.items) (map ops_of phases.now)) (acts_of (length actors.old.caches.items) (map ops_of phases.now)) (hand_of region actors.old names.old out.old) }
+    ensures so_far { Replays (acts_of (length actors.old.caches.items) (map ops_of phases.now)) (hand_of region actors.old names.old out.old) (hand_of result actors.new names.new out.new) }
+    ensures empty { AreEmpty actors.new.caches.items }
 {
-    let mut desk = sit(region, &mut threads[0]);
+    let mut desk = sit(region, actors, SCAVENGER);
     let mut number = 0;
     for phase in phases {
         number += 1;
         if number > UNMARKED {
             out.push(Record::Phase(number));
         }
-        wake_all(&mut desk, threads, phase.as_slice());
-        perform(&mut desk, threads, names, phase.as_slice(), out);
+        let awake = active(phase.as_slice());
+        wake_all(&mut desk, actors, awake);
+        perform_all(&mut desk, actors, names, awake, phase.as_slice(), out);
     }
     out.push(Record::Close);
-    stop_all(&mut desk, threads, names, out);
-    let last = desk.actor() as usize - 1;
-    rise(desk, &mut threads[last])
+    stop_all(&mut desk, actors, names, out);
+    rise(desk, actors)
 }

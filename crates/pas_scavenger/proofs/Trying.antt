@@ -206,19 +206,21 @@ module _ {σ σ1 : Standing} (epoch : ℕ) (makes : Makes σ σ1 (Look Word.Epoc
       let k = σ.seat.actor in let same = makes.seat_is in
       let found_are : reverse found ≡ outcomes_in (all_tried words) = tries.pairs ∙ append-nil (outcomes_in (all_tried words)) in
       record {
-        words = words;
-        numbers_are = subst (λ s. map (λ w. w.number) words ≡ numbers_below (vector_words s.profile.pages)) same numbers;
-        read = read;
-        order = subst (λ s. InTurn (WordSteps s.profile.age epoch) words read) same order;
-        found_are = found_are;
         steps = read ++ look;
-        steps_are = refl;
+        order = record {
+          words = words;
+          numbers_are = subst (λ s. map (λ w. w.number) words ≡ numbers_below (vector_words s.profile.pages)) same numbers;
+          read = read;
+          order = subst (λ s. InTurn (WordSteps s.profile.age epoch) words read) same order;
+          found_are = found_are;
+          steps_are = refl;
+          kinds = only_both passing read look (only_within trying passing read refl tries.kinds) (refl, tt);
+          events = λ v. events_append k read look v ∙ append-nil (events_by k (look ++ v) read)
+              ∙ subst (λ s. events_by s.actor (look ++ v) read ≡ unbacks_in s.actor epoch (outcomes_in (all_tried words))) same (tries.events (look ++ v) refl) ∙ ap (unbacks_in k epoch) (sym found_are);
+          few = let n = length-append read look in let most = subst (λ s. length read ≤ vector_words s.profile.pages + 38 * length (all_tried words)) same few in omega (arith, n, most);
+        };
         calls = call_then (λ v w. HasNothing w) read_epoch tries.calls (λ v met is. is) (λ v met is r. r.nothing);
-        kinds = only_both passing read look (only_within trying passing read refl tries.kinds) (refl, tt);
-        events = λ v. events_append k read look v ∙ append-nil (events_by k (look ++ v) read)
-            ∙ subst (λ s. events_by s.actor (look ++ v) read ≡ unbacks_in s.actor epoch (outcomes_in (all_tried words))) same (tries.events (look ++ v) refl) ∙ ap (unbacks_in k epoch) (sym found_are);
-        few = let n = length-append read look in let most = subst (λ s. length read ≤ vector_words s.profile.pages + 38 * length (all_tried words)) same few in omega (arith, n, most);
       }
 
 pub spare_pass : {σ σ' : Standing} {epoch : ℕ} {found : List (ℕ × Outcome)} (spare spare' : ℕ) → Passes σ σ' epoch found → CanCall σ (λ v l. HasNothing v) → Spares σ spare → Spares σ' spare' → spare' + length (unbacks_in σ.seat.actor epoch (reverse found)) ≡ spare
-spare_pass {σ} {epoch = epoch} {found} spare spare' p can old new = spare_falls {C = λ v l. HasNothing v} spare spare' (length (unbacks_in σ.seat.actor epoch (reverse found))) p.calls.adds can old new (ap (λ (es : List Event). length es) (p.events can.view))
+spare_pass {σ} {epoch = epoch} {found} spare spare' p can old new = spare_falls {C = λ v l. HasNothing v} spare spare' (length (unbacks_in σ.seat.actor epoch (reverse found))) p.calls.adds can old new (ap (λ (es : List Event). length es) (p.order.events can.view))

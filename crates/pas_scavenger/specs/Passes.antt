@@ -3,6 +3,7 @@ use Rattle.std.specs.Prelude.{ℕ, zero, suc, ◌+◌, ◌*◌, ◌%◌, ◌≤�
 use Rattle.std.specs.List.{flat_map}
 use Rattle.pas_profile.specs.Classes.{has_bit}
 use Rattle.pas_profile.specs.Profiles.{vector_words}
+use Rattle.pas_profile.specs.declared.profile.Profile.{Profile}
 use Rattle.pas_profile.specs.declared.event.Event.{Event}
 use Rattle.pas_profile.specs.declared.event.Outcome.{Outcome}
 use Rattle.pas_profile.specs.declared.word.Word.TheVariants as Word
@@ -77,21 +78,25 @@ passing = LookEpoch ∷ trying
 abbrev pub unbacks_in : ℕ → ℕ → List (ℕ × Outcome) → List Event
 unbacks_in k epoch pairs = flat_map (λ p. unback_of k epoch p.0 p.1) pairs
 
--- The epoch is read, and then each empty word, once and in order, with all that follows for its pages. `found` has the outcomes in order; each
--- page that was unbacked made an event, and no other event was made. The actor has nothing before and afterwards. There is one step, one for
--- each empty word, and at most 38 for each page that was read as hinted.
-pub record Passes (desk desk' : Standing) (epoch : ℕ) (found : List (ℕ × Outcome)) : Type 0 where
+-- THE STEPS OF A PASS of actor k. The epoch is read, and then each empty word, once and in order, with all that follows for its pages. `found` has
+-- the outcomes in order; each page that was unbacked made an event, and no other event was made. There is one step, one for each empty word, and at
+-- most 38 for each page that was read as hinted.
+pub record PassSteps (f : Profile) (k epoch : ℕ) (found : List (ℕ × Outcome)) (steps : List Made) : Type 0 where
   pub words : List WordRead
-  pub numbers_are : map (λ w. w.number) words ≡ numbers_below (vector_words desk.seat.profile.pages)
+  pub numbers_are : map (λ w. w.number) words ≡ numbers_below (vector_words f.pages)
   pub read : List Made
-  pub order : InTurn (WordSteps desk.seat.profile.age epoch) words read
+  pub order : InTurn (WordSteps f.age epoch) words read
   pub found_are : reverse found ≡ outcomes_in (all_tried words)
-  pub steps : List Made
   pub steps_are : steps ≡ read ++ (made (Look Word.Epoch) epoch ∷ [])
-  pub calls : Calls desk desk' HasNothing (λ v w. HasNothing w) steps
   pub kinds : Only passing steps
-  pub events : (v : View) → events_by desk.seat.actor v steps ≡ unbacks_in desk.seat.actor epoch (reverse found)
-  pub few : length steps ≤ 1 + vector_words desk.seat.profile.pages + 38 * length (all_tried words)
+  pub events : (v : View) → events_by k v steps ≡ unbacks_in k epoch (reverse found)
+  pub few : length steps ≤ 1 + vector_words f.pages + 38 * length (all_tried words)
+
+-- a pass was made; the actor has nothing before and afterwards
+pub record Passes (desk desk' : Standing) (epoch : ℕ) (found : List (ℕ × Outcome)) : Type 0 where
+  pub steps : List Made
+  pub order : PassSteps desk.seat.profile desk.seat.actor epoch found steps
+  pub calls : Calls desk desk' HasNothing (λ v w. HasNothing w) steps
 
 -- ---- of private functions
 -- the actor has nothing, and knows the epoch

@@ -9,6 +9,7 @@ loop-actor-init c = record {
   made = no_rooms (room_of c.args.utility.now) c.in-Ok.rooms.items c.in-Ok.ensures.items;
   left = λ k at. refl;
   seats = λ k. refl;
+  outcomes = refl;
   threads = refl;
   reserved = c.in-Ok.ensures.capacity;
 }
@@ -28,6 +29,7 @@ loop-actor-preserved c =
       made = next_room _ c.in-Some.room c.push_reserved.ensures.items (sym (i.left c.loop-actor.actor (omega arith)) ∙ c.in-Some.ensures.room.0) c.in-Some.ensures.room.1 i.made;
       left = λ k at. c.event_room.ensures.others k (λ e. absurd (omega (arith, e, at))) ∙ i.left k (omega (arith, at));
       seats = λ k. c.event_room.ensures.seats k ∙ i.seats k;
+      outcomes = c.event_room.ensures.outcomes ∙ i.outcomes;
       threads = c.event_room.ensures.threads ∙ i.threads;
       reserved = omega (arith, reserved, same);
     }
@@ -37,3 +39,6 @@ returns-clause-rooms c =
     let past = c.loop-actor-test.false in
     let end = c.loop-actor.auto.actor-end in
     subst (λ n. AreRooms (room_of c.args.utility.now) n c.loop-actor.rooms.items) (omega (arith, past, end)) c.loop-actor.invariant.made
+
+pub returns-clause-outcomes : goal.returns-clause-outcomes
+returns-clause-outcomes c = c.loop-actor.invariant.outcomes

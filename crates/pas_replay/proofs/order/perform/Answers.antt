@@ -1,32 +1,100 @@
-use Rattle.std.proofs.Common.{slice_index_or, drop_of_length-le}
-use Rattle.pas_answers.specs.Acts.{Operates}
-use Rattle.pas_plain.specs.Plain.{profile_of}
-use Rattle.pas_plain.specs.Seats.{region_of}
-use Rattle.pas_replay.proofs.Operations.{operation, fit_now, known_now, may_operate, has_operated}
-use Rattle.pas_replay.proofs.ActsInOrder.{as_list, past, at_next, thread_there}
+use Rattle.std.proofs.Common.{◌≡◌, ◌≤◌, ◌∙◌, ◌-◌, refl, ℕ, List, length, ap, sym, arith}
+use Rattle.pas_profile.specs.declared.profile.Profile.{Profile}
+use Rattle.pas_cache.specs.declared.cache.ThreadCache.{ThreadCache}
+use Rattle.pas_trace.specs.declared.plan.What.{What}
+use Rattle.pas_answers.specs.Acts.{acts_of_what}
+use Rattle.pas_replay.specs.Sessions.{idle_in}
+use Rattle.std.proofs.lemmas.List.{length-set, append-nil}
+use Rattle.pas_report.specs.Rooms.{records_in}
+use Rattle.pas_replay.proofs.ActsInOrder.{as_first}
+use Rattle.pas_replay.proofs.Operations.{operation, acts_of_thread, fit_now, known_now, has_cache, may_operate, has_operated}
+use Rattle.pas_replay.proofs.Scavenging.{may_scavenge, may_pass, has_ticked, has_passed}
 use Rattle.pas_replay.proofs.order.perform.Goals as goal
 
-pub operate-requires-clause-fit : goal.operate-requires-clause-fit
-operate-requires-clause-fit c = fit_now (at_next c.requires.so_far.1 c.args.ops.now c.loop-op.op-index c.loop-op-test.true (c.loop-op.invariant.far c.requires.so_far.0 c.requires.so_far.1 c.requires.so_far.2))
+pub tick-requires-clause-epoch : goal.tick-requires-clause-epoch
+tick-requires-clause-epoch c =
+    let so0 = c.requires.so_far in
+    (as_first so0.2 (ap (λ (w : What). acts_of_what (idle_in c.args.awake (length c.args.actors.now.caches.items)) c.args.op w) c.in-Tick.is) so0.3).1.names.fit.0
 
-pub operate-requires-clause-turns : goal.operate-requires-clause-turns
-operate-requires-clause-turns c = (c.loop-op.invariant.far c.requires.so_far.0 c.requires.so_far.1 c.requires.so_far.2).turns
+pub tick-requires-clause-can : goal.tick-requires-clause-can
+tick-requires-clause-can c = may_scavenge c.args.desk.now c.args.actors.now c.requires.so_far.3.1 c.requires.taken
 
-pub operate-requires-clause-can : goal.operate-requires-clause-can
-operate-requires-clause-can c =
-    let op = slice_index_or c.args.ops.now c.loop-op.op-index past in
-    let so = at_next c.requires.so_far.1 c.args.ops.now c.loop-op.op-index c.loop-op-test.true (c.loop-op.invariant.far c.requires.so_far.0 c.requires.so_far.1 c.requires.so_far.2) in
-    may_operate c.loop-op.desk c.loop-op.threads op.actor (operation (profile_of (region_of c.args.desk.now)) op) c.loop-op.invariant.taken (thread_there c.loop-op.desk c.loop-op.threads so) so
+pub tick-requires-clause-record : goal.tick-requires-clause-record
+tick-requires-clause-record c =
+    let so0 = c.requires.so_far in
+    let spare = (as_first so0.2 (ap (λ (w : What). acts_of_what (idle_in c.args.awake (length c.args.actors.now.caches.items)) c.args.op w) c.in-Tick.is) so0.3).1.spare in
+    omega (arith, spare)
 
-pub loop-op-preserved : goal.loop-op-preserved
-loop-op-preserved c = record {
-  far = λ all more so0.
-      let op = slice_index_or c.args.ops.now c.loop-op.op-index past in
-      let so = at_next more c.args.ops.now c.loop-op.op-index c.loop-op-test.true (c.loop-op.invariant.far all more so0) in
-      has_operated c.loop-op.desk c.operate.new.desk c.loop-op.threads c.operate.new.threads op.actor (operation (profile_of (region_of c.args.desk.now)) op) (thread_there c.loop-op.desk c.loop-op.threads so) so (known_now so)
-      c.operate.ensures.turn c.operate.ensures.turns;
-  taken = c.operate.ensures.turn.taken;
-}
+pub pass-requires-clause-can : goal.pass-requires-clause-can
+pass-requires-clause-can c =
+    let so0 = c.requires.so_far in
+    may_pass c.args.desk.now c.args.actors.now (as_first so0.2 (ap (λ (w : What). acts_of_what (idle_in c.args.awake (length c.args.actors.now.caches.items)) c.args.op w) c.in-Pass.is) so0.3).1 c.requires.taken
 
-pub returns-clause-so_far : goal.returns-clause-so_far
-returns-clause-so_far c all more so = as_list Operates more (drop_of_length-le c.args.ops.now c.loop-op-test.false) (c.loop-op.invariant.far all more so)
+pub pass-requires-clause-places : goal.pass-requires-clause-places
+pass-requires-clause-places c = let at = c.requires.so_far.3.1 in at.places ∙ ap (λ (g : Profile). g.pages) (sym at.profile_is)
+
+pub pass-requires-clause-records : goal.pass-requires-clause-records
+pass-requires-clause-records c =
+    let so0 = c.requires.so_far in
+    let at = (as_first so0.2 (ap (λ (w : What). acts_of_what (idle_in c.args.awake (length c.args.actors.now.caches.items)) c.args.op w) c.in-Pass.is) so0.3).1 in
+    let spare = at.spare in
+    let pages = ap (λ (g : Profile). g.pages) at.profile_is in
+    omega (arith, spare, pages)
+
+pub operate-requires : goal.operate-requires
+operate-requires c =
+    let so0 = c.requires.so_far in
+    let so = as_first so0.2 (acts_of_thread (idle_in c.args.awake (length c.args.actors.now.caches.items)) c.args.op c.args.op.what c.in-Alloc.is) so0.3 in
+    let of = so.1.names.fit.0 in
+    record { fit = fit_now so.1; turns = so.1.names.turns; can = may_operate c.args.desk.now c.args.actors.now c.args.op.actor of.0 of.1 (operation so0.0 c.args.op so.0) so.1 c.requires.taken }
+
+pub stop_idle-requires-clause-so_far : goal.stop_idle-requires-clause-so_far
+stop_idle-requires-clause-so_far c =
+    let so0 = c.requires.so_far in
+    (so0.0, so0.1, so0.2, as_first so0.2 (ap (λ (w : What). acts_of_what (idle_in c.args.awake (length c.args.actors.now.caches.items)) c.args.op w) c.in-Idle.is) so0.3)
+
+pub returns-in-Tick-clause-taken : goal.returns-in-Tick-clause-taken
+returns-in-Tick-clause-taken c = c.tick.ensures.ticks.turn.taken
+
+pub returns-in-Tick-clause-threads : goal.returns-in-Tick-clause-threads
+returns-in-Tick-clause-threads c = ap (λ (cs : List ThreadCache). length cs) c.tick.ensures.ticks.caches_are
+
+pub returns-in-Tick-clause-so_far : goal.returns-in-Tick-clause-so_far
+returns-in-Tick-clause-so_far c f all more so =
+    has_ticked c.in-Tick.epoch c.args.desk.now c.tick.new.desk c.args.actors.now c.tick.new.actors (as_first more (ap (λ (w : What). acts_of_what (idle_in c.args.awake (length c.args.actors.now.caches.items)) c.args.op w) c.in-Tick.is) so).1
+    c.tick.ensures.ticks c.tick.ensures.room
+
+pub returns-in-Pass-clause-taken : goal.returns-in-Pass-clause-taken
+returns-in-Pass-clause-taken c = c.pass.ensures.passes.turn.taken
+
+pub returns-in-Pass-clause-threads : goal.returns-in-Pass-clause-threads
+returns-in-Pass-clause-threads c = ap (λ (cs : List ThreadCache). length cs) c.pass.ensures.passes.caches_are
+
+pub returns-in-Pass-clause-so_far : goal.returns-in-Pass-clause-so_far
+returns-in-Pass-clause-so_far c f all more so =
+    has_passed c.args.desk.now c.pass.new.desk c.args.actors.now c.pass.new.actors (as_first more (ap (λ (w : What). acts_of_what (idle_in c.args.awake (length c.args.actors.now.caches.items)) c.args.op w) c.in-Pass.is) so).1
+    c.pass.ensures.passes c.pass.ensures.room
+
+pub returns-in-Idle-clause-so_far : goal.returns-in-Idle-clause-so_far
+returns-in-Idle-clause-so_far c f all more so =
+    c.stop_idle.ensures.so_far f all more (as_first more (ap (λ (w : What). acts_of_what (idle_in c.args.awake (length c.args.actors.now.caches.items)) c.args.op w) c.in-Idle.is) so)
+
+pub returns-in-Alloc : goal.returns-in-Alloc
+returns-in-Alloc c =
+    let so0 = c.requires.so_far in
+    let k = c.args.op.actor in
+    let thread = acts_of_thread (idle_in c.args.awake (length c.args.actors.now.caches.items)) c.args.op c.args.op.what c.in-Alloc.is in
+    let so = as_first so0.2 thread so0.3 in
+    let of = so.1.names.fit.0 in
+    let turn = c.operate.ensures.turn (so.0.caches k) (has_cache c.args.desk.now c.args.actors.now so.1 c.requires.taken k of.0 of.1) in
+    record {
+      taken = turn.turn.taken;
+      threads = ap (λ (cs : List ThreadCache). length cs) turn.caches_are ∙ length-set c.args.actors.now.caches.items (k - 1) turn.cache;
+      so_far = λ f all more so1.
+          let here = as_first more thread so1 in
+          let its = here.1.names.fit.0 in
+          let done = has_operated c.args.desk.now c.operate.new.desk c.args.actors.now c.operate.new.actors k its.0 its.1 (operation f c.args.op here.0) here.1 (known_now here.1)
+              (c.operate.ensures.turn (here.0.caches k) (has_cache c.args.desk.now c.args.actors.now here.1 c.requires.taken k its.0 its.1)) c.operate.ensures.turns
+              c.operate.new.out (sym (append-nil (records_in c.operate.new.out))) refl in
+          (done.0, done.1);
+    }

@@ -1,96 +1,120 @@
-use Rattle.std.proofs.Common.{◌≡◌, ◌+◌, ◌-◌, ◌++◌, ◌∙◌, ℕ, List, [], ◌∷◌, length, set, refl, sym, ap, subst, arith, drop}
-use Rattle.std.proofs.lemmas.List.{length-set}
-use Rattle.std.proofs.lemmas.Option.{same_Some}
+use Rattle.std.proofs.Common.{◌≡◌, ◌+◌, ◌-◌, ◌++◌, ◌∙◌, ℕ, List, [], ◌∷◌, length, refl, sym, ap, subst, arith, drop, append-nil}
 use Rattle.std.specs.Prelude.{map}
+use Rattle.pas_profile.specs.declared.profile.Profile.{Profile}
+use Rattle.pas_cache.specs.declared.cache.ThreadCache.{ThreadCache}
 use Rattle.pas_trace.specs.Plans.{ops_of}
-use Rattle.pas_plain.specs.Plain.{profile_of, actor_of}
-use Rattle.pas_plain.specs.Seats.{region_of}
+use Rattle.pas_trace.specs.declared.plan.Op.{Op}
 use Rattle.pas_report.specs.Rooms.{records_in}
 use Rattle.pas_report.specs.declared.record.Record.{Record}
-use Rattle.pas_answers.specs.Acts.{Act, Wakes, Operates, Ends, acts_of, active_from, numbers_from}
-use Rattle.pas_replay.specs.Sessions.{SoFar, AreEmpty, risen}
-use Rattle.pas_replay.specs.declared.seats.Thread.{Thread}
-use Rattle.pas_replay.proofs.Sittings.{same_session, own_pass}
-use Rattle.pas_replay.proofs.Turns.{sits_first, rises_last}
-use Rattle.pas_replay.proofs.ActsInOrder.{acts_left, as_acts, as_list, after_mark, next_phase, first_phase, other_phase, last_phase, wakes_first, ends_first, at_region, of_profile}
+use Rattle.pas_answers.specs.Acts.{Act, Wakes, Ends, acts_of, acts_of_ops, numbers_from}
+use Rattle.pas_replay.specs.Sessions.{SoFar, awake_in, idle_in, hand_of, hand_at}
+use Rattle.pas_replay.proofs.Sittings.{may_sit}
+use Rattle.pas_replay.proofs.ActsInOrder.{acts_left, as_acts, as_hand, as_first, as_idle, after_mark, next_phase, first_phase, other_phase, last_phase, wakes_first}
 use Rattle.pas_replay.proofs.order.replay.Goals as goal
-use Rattle.pas_replay.proofs.order.replay.Goals.{then-number-gt-UNMARKED, else-number-gt-UNMARKED, After-as_slice, After-push-2, After-rise}
+use Rattle.pas_replay.proofs.order.replay.Goals.{then-number-gt-UNMARKED, else-number-gt-UNMARKED, After-active-awake, After-push-2}
 
-pub sit-desk-requires : goal.sit-desk-requires
-sit-desk-requires c = let some = c.requires.some in (1, own_pass 1 0 c.index-threads-0.result refl (omega (arith, some)) c.requires.so_far)
+pub sit-desk-requires-clause-may : goal.sit-desk-requires-clause-may
+sit-desk-requires-clause-may c = let at = c.requires.so_far.1.1 in may_sit at.profile_is at.stands at.scavenger
 
 pub loop-phase-init : goal.loop-phase-init
-loop-phase-init c =
-    let some = c.requires.some in
-    let own = own_pass 1 0 c.index-threads-0.result refl (omega (arith, some)) c.requires.so_far in
-    let actor = ap actor_of (same_Some _ _ (sym c.sit-desk.ensures.seated.pass_is ∙ own.seated.pass_is)) ∙ own.actor_is in
-    let sized = length-set c.args.threads.now 0 c.sit-desk.new.thread in
-    record {
-      far = same_session refl refl refl (sym c.sit-desk.ensures.seated.region_is) (sits_first c.args.threads.now 0 c.index-threads-0.result c.sit-desk.new.thread c.sit-desk.ensures.seated c.sit-desk.ensures.cache (omega (arith, actor))) c.requires.so_far;
-      count = refl;
-      taken = (omega (arith, actor), omega (arith, actor, some, sized));
-    }
+loop-phase-init c = record {
+  far = λ f so. as_hand (c.sit-desk.ensures.hand c.args.names.now c.args.out.now) so;
+  count = refl;
+  taken = c.sit-desk.ensures.taken;
+  threads = ap (λ v. length v.items) c.sit-desk.ensures.caches;
+}
 
--- the acts of the phases after this one
-abbrev later : After-as_slice → List Act
-later c = acts_left (length c.args.threads.now) (c.loop-phase.phase-index + 1) (map ops_of (drop (c.loop-phase.phase-index + 1) c.args.phases.now))
-
--- the phase begins: its mark is pushed from the second one on, and its threads wake
-begins : (c : After-as_slice)
-    → SoFar (profile_of (region_of c.loop-phase.desk)) (acts_of (length c.args.threads.now) (map ops_of c.args.phases.now)) (map Wakes (active_from 1 (length c.loop-phase.threads) c.as_slice.result.now) ++ (map Operates c.as_slice.result.now ++ later c))
-    (region_of c.loop-phase.desk) (risen c.loop-phase.desk c.loop-phase.threads) c.loop-phase.names c.if-number-gt-UNMARKED.out
-begins c =
-    let ops = c.as_slice.result.now in
-    let threads = length c.args.threads.now in
+pub push-requires : goal.push-requires
+push-requires c =
+    let threads = length c.args.actors.now.caches.items in
     let i = c.loop-phase.phase-index in
-    let rest = map ops_of (drop (i + 1) c.args.phases.now) in
-    let far = as_acts (next_phase threads c.args.phases.now i c.phase-item.result ops c.loop-phase-test.true (ap ops_of (sym c.phase-item.is) ∙ sym c.as_slice.ensures)) c.loop-phase.invariant.far in
     let count = c.loop-phase.invariant.count in
-    wakes_first {f = profile_of c.args.region} threads (length c.loop-phase.threads) ops (later c) (c.loop-phase.auto.threads ∙ length-set c.args.threads.now 0 c.sit-desk.new.thread) (elim c.if-number-gt-UNMARKED.branch [
-      | then-number-gt-UNMARKED w ↦
-          let more = w.if-number-gt-UNMARKED.true in
-          let number : c.loop-phase.number + 1 ≡ i + 1 = omega (arith, count) in
-          let pushed = w.push.ensures.added ∙ ap (λ (n : ℕ). records_in c.loop-phase.out ++ Record.Phase n ∷ []) number in
-          rw (w.out-is) (after_mark (Record.Phase (i + 1)) (as_acts (other_phase threads i ops rest (omega (arith, count, more))) far) refl (omega arith) (λ l rs follows. follows) pushed w.push.ensures.size)
-      | else-number-gt-UNMARKED w ↦ let less = w.if-number-gt-UNMARKED.false in rw (w.out-is) (as_acts (first_phase threads i ops rest (omega (arith, count, less))) far)
-    ])
+    let more = c.if-number-gt-UNMARKED.true in
+    let item = c.phase-item.result in
+    let far = as_acts (next_phase threads c.args.phases.now i item (ops_of item) c.loop-phase-test.true (ap ops_of (sym c.phase-item.is))) (c.loop-phase.invariant.far c.requires.so_far.0 c.requires.so_far.1) in
+    let spare = (as_acts (other_phase threads i (ops_of item) (map ops_of (drop (i + 1) c.args.phases.now)) (omega (arith, count, more))) far).1.spare in
+    omega (arith, spare)
+
+-- what is there before a phase: its acts begin with its mark from the second one on, and then its threads wake
+module _ (c : After-active-awake) (f : Profile)
+    (so0 : SoFar f (acts_of (length c.args.actors.now.caches.items) (map ops_of c.args.phases.now)) (acts_of (length c.args.actors.now.caches.items) (map ops_of c.args.phases.now)) (hand_of c.args.region c.args.actors.now c.args.names.now c.args.out.now)) where
+  abbrev all : List Act
+  all = acts_of (length c.args.actors.now.caches.items) (map ops_of c.args.phases.now)
+
+  -- the acts of the phases after this one
+  abbrev later : List Act
+  later = acts_left (length c.args.actors.now.caches.items) (c.loop-phase.phase-index + 1) (map ops_of (drop (c.loop-phase.phase-index + 1) c.args.phases.now))
+
+  begins : SoFar f all (map Wakes (awake_in c.active-awake.result (length c.loop-phase.actors.caches.items)) ++ (acts_of_ops (idle_in c.active-awake.result (length c.loop-phase.actors.caches.items)) c.as_slice.result.now ++ later))
+      (hand_at c.loop-phase.desk c.loop-phase.actors c.loop-phase.names c.if-number-gt-UNMARKED.out)
+  begins =
+      let ops = c.as_slice.result.now in
+      let threads = length c.args.actors.now.caches.items in
+      let i = c.loop-phase.phase-index in
+      let rest = map ops_of (drop (i + 1) c.args.phases.now) in
+      let far = as_acts (next_phase threads c.args.phases.now i c.phase-item.result ops c.loop-phase-test.true (ap ops_of (sym c.phase-item.is) ∙ sym c.as_slice.ensures)) (c.loop-phase.invariant.far f so0) in
+      let count = c.loop-phase.invariant.count in
+      wakes_first threads (length c.loop-phase.actors.caches.items) c.active-awake.result ops later c.active-awake.ensures c.loop-phase.invariant.threads (elim c.if-number-gt-UNMARKED.branch [
+        | then-number-gt-UNMARKED w ↦
+            let more = w.if-number-gt-UNMARKED.true in
+            let number : c.loop-phase.number + 1 ≡ i + 1 = omega (arith, count) in
+            let pushed = w.push.ensures.added ∙ ap (λ (n : ℕ). records_in c.loop-phase.out ++ Record.Phase n ∷ []) number in
+            rw (w.out-is) (after_mark w.push.new.self (Record.Phase (i + 1)) (as_acts (other_phase threads i ops rest (omega (arith, count, more))) far) (λ j. refl) refl refl (λ limit asked fit. fit) (λ p l rs follows. follows) pushed w.push.ensures.size)
+        | else-number-gt-UNMARKED w ↦ let less = w.if-number-gt-UNMARKED.false in rw (w.out-is) (as_acts (first_phase threads i ops rest (omega (arith, count, less))) far)
+      ])
 
 pub wake_all-requires-clause-so_far : goal.wake_all-requires-clause-so_far
-wake_all-requires-clause-so_far c = let d = (goal.at.wake_all-requires-clause-so_far c).After-as_slice in (c.loop-phase.names, c.if-number-gt-UNMARKED.out, (_, map Operates c.as_slice.result.now ++ later d, begins d))
+wake_all-requires-clause-so_far c =
+    let d = (goal.at.wake_all-requires-clause-so_far c).After-active-awake in
+    let so0 = c.requires.so_far in
+    (c.loop-phase.names, c.if-number-gt-UNMARKED.out, (so0.0, all d so0.0 so0.1, _, begins d so0.0 so0.1))
 
-pub perform-requires-clause-so_far : goal.perform-requires-clause-so_far
-perform-requires-clause-so_far c =
-    let d = (goal.at.perform-requires-clause-so_far c).After-as_slice in
-    let woke = of_profile c.loop-phase.invariant.far.profile_is (c.wake_all.ensures.so_far c.loop-phase.names c.if-number-gt-UNMARKED.out _ (map Operates c.as_slice.result.now ++ later d) (begins d)) in
-    (_, later d, at_region (as_list Operates (later d) (c.as_slice.ensures ∙ sym c.as_slice-in-loop-phase.ensures) woke))
+pub perform_all-requires-clause-so_far : goal.perform_all-requires-clause-so_far
+perform_all-requires-clause-so_far c =
+    let d = (goal.at.perform_all-requires-clause-so_far c).After-active-awake in
+    let so0 = c.requires.so_far in
+    let awake = c.active-awake.result in
+    let more = later d so0.0 so0.1 in
+    let woke = c.wake_all.ensures.so_far c.loop-phase.names c.if-number-gt-UNMARKED.out so0.0 (all d so0.0 so0.1) _ (begins d so0.0 so0.1) in
+    let ops = c.as_slice.ensures ∙ sym c.as_slice-in-loop-phase.ensures in
+    (so0.0, all d so0.0 so0.1, more, as_first more (ap (λ (os : List Op). acts_of_ops (idle_in awake (length c.wake_all.new.actors.caches.items)) os) ops)
+        (as_idle awake (λ ks. acts_of_ops ks c.as_slice.result.now) more (sym c.wake_all.ensures.threads) woke))
 
 pub loop-phase-preserved : goal.loop-phase-preserved
 loop-phase-preserved c =
-    let d = (goal.at.loop-phase-preserved c).After-as_slice in
-    let woke = of_profile c.loop-phase.invariant.far.profile_is (c.wake_all.ensures.so_far c.loop-phase.names c.if-number-gt-UNMARKED.out _ (map Operates c.as_slice.result.now ++ later d) (begins d)) in
-    let ready = at_region (as_list Operates (later d) (c.as_slice.ensures ∙ sym c.as_slice-in-loop-phase.ensures) woke) in
-    record { far = of_profile woke.profile_is (c.perform.ensures.so_far _ (later d) ready); count = ap (λ n. n + 1) c.loop-phase.invariant.count; taken = c.perform.ensures.taken }
+    let d = (goal.at.loop-phase-preserved c).After-active-awake in
+    let awake = c.active-awake.result in
+    let ops = c.as_slice.ensures ∙ sym c.as_slice-in-loop-phase.ensures in
+    record {
+      far = λ f so0.
+          let more = later d f so0 in
+          let woke = c.wake_all.ensures.so_far c.loop-phase.names c.if-number-gt-UNMARKED.out f (all d f so0) _ (begins d f so0) in
+          c.perform_all.ensures.so_far f (all d f so0) more (as_first more (ap (λ (os : List Op). acts_of_ops (idle_in awake (length c.wake_all.new.actors.caches.items)) os) ops)
+          (as_idle awake (λ ks. acts_of_ops ks c.as_slice.result.now) more (sym c.wake_all.ensures.threads) woke));
+      count = ap (λ n. n + 1) c.loop-phase.invariant.count;
+      taken = c.perform_all.ensures.taken;
+      threads = c.perform_all.ensures.threads ∙ c.wake_all.ensures.threads ∙ c.loop-phase.invariant.threads;
+    }
 
--- the close
-closes : (c : After-push-2) → SoFar (profile_of (region_of c.loop-phase.desk)) (acts_of (length c.args.threads.now) (map ops_of c.args.phases.now)) (map Ends (numbers_from 1 (length c.loop-phase.threads)) ++ []) (region_of c.loop-phase.desk) (risen c.loop-phase.desk c.loop-phase.threads) c.loop-phase.names c.push-2.new.self
-closes c =
-    let far = as_acts (last_phase (length c.args.threads.now) c.args.phases.now c.loop-phase.phase-index c.loop-phase-test.false) c.loop-phase.invariant.far in
-    ends_first (length c.args.threads.now) (length c.loop-phase.threads) (c.loop-phase.auto.threads ∙ length-set c.args.threads.now 0 c.sit-desk.new.thread) (after_mark Record.Close far refl (omega arith) (λ l rs follows. follows) c.push-2.ensures.added c.push-2.ensures.size)
+-- ---- the close
+pub push-requires-2 : goal.push-requires-2
+push-requires-2 c =
+    let so0 = c.requires.so_far in
+    let spare = (as_acts (last_phase (length c.args.actors.now.caches.items) c.args.phases.now c.loop-phase.phase-index c.loop-phase-test.false) (c.loop-phase.invariant.far so0.0 so0.1)).1.spare in
+    omega (arith, spare)
+
+module _ (c : After-push-2) (f : Profile)
+    (so0 : SoFar f (acts_of (length c.args.actors.now.caches.items) (map ops_of c.args.phases.now)) (acts_of (length c.args.actors.now.caches.items) (map ops_of c.args.phases.now)) (hand_of c.args.region c.args.actors.now c.args.names.now c.args.out.now)) where
+  closes : SoFar f (acts_of (length c.args.actors.now.caches.items) (map ops_of c.args.phases.now)) (map Ends (numbers_from 1 (length c.loop-phase.actors.caches.items)) ++ []) (hand_at c.loop-phase.desk c.loop-phase.actors c.loop-phase.names c.push-2.new.self)
+  closes =
+      let threads = length c.args.actors.now.caches.items in
+      let far = as_acts (last_phase threads c.args.phases.now c.loop-phase.phase-index c.loop-phase-test.false) (c.loop-phase.invariant.far f so0) in
+      as_acts (ap (λ (n : ℕ). map Ends (numbers_from 1 n)) (sym c.loop-phase.invariant.threads) ∙ sym (append-nil (map Ends (numbers_from 1 (length c.loop-phase.actors.caches.items)))))
+      (after_mark c.push-2.new.self Record.Close far (λ j. refl) refl refl (λ limit asked fit. fit) (λ p l rs follows. follows) c.push-2.ensures.added c.push-2.ensures.size)
 
 pub stop_all-requires-clause-so_far : goal.stop_all-requires-clause-so_far
-stop_all-requires-clause-so_far c = (_, [], closes (goal.at.stop_all-requires-clause-so_far c).After-push-2)
-
--- the last one rises
-risen_again : (c : After-rise) → risen c.stop_all.new.desk c.stop_all.new.threads ≡ set c.stop_all.new.threads (c.actor.result - 1) c.rise.new.thread
-risen_again c =
-    let last = c.actor.ensures in
-    let low = c.stop_all.ensures.taken.0 in
-    let high = c.stop_all.ensures.taken.1 in
-    rises_last c.stop_all.new.desk c.stop_all.new.threads (c.actor.result - 1) c.index-threads-last.result c.rise.new.thread (ap (λ (n : ℕ). n - 1) last) (omega (arith, last, low, high)) c.rise.ensures.risen c.rise.ensures.cache
+stop_all-requires-clause-so_far c = let so0 = c.requires.so_far in (so0.0, _, [], closes (goal.at.stop_all-requires-clause-so_far c).After-push-2 so0.0 so0.1)
 
 pub returns-clause-so_far : goal.returns-clause-so_far
-returns-clause-so_far c =
-    same_session refl refl refl c.rise.ensures.risen.region_is (risen_again c) (of_profile c.loop-phase.invariant.far.profile_is (c.stop_all.ensures.so_far _ [] (closes (goal.at.returns-clause-so_far c).After-push-2)))
-
-pub returns-clause-empty : goal.returns-clause-empty
-returns-clause-empty c = subst (λ (ts : List Thread). AreEmpty ts) (risen_again c) c.stop_all.ensures.empty
+returns-clause-so_far c f so0 =
+    as_hand (c.rise.ensures.hand c.stop_all.new.names c.stop_all.new.out) (c.stop_all.ensures.so_far f _ [] (closes (goal.at.returns-clause-so_far c).After-push-2 f so0))

@@ -1,18 +1,19 @@
--- the threads so far are stopped
-use Rattle.std.proofs.Common.{◌≡◌, ◌+◌, ◌-◌, ◌<◌, ◌++◌, ℕ, List, [], length, slice_index_or}
+-- the threads so far were stopped
+use Rattle.std.proofs.Common.{◌≡◌, ◌+◌, ◌-◌, ◌<◌, ◌++◌, ℕ, List, [], length, get_or}
 use Rattle.std.specs.Prelude.{map}
-use Rattle.pas_plain.specs.Plain.{profile_of}
-use Rattle.pas_plain.specs.Seats.{region_of}
+use Rattle.pas_profile.specs.declared.profile.Profile.{Profile}
 use Rattle.pas_cache.specs.Caches.{cached}
+use Rattle.pas_cache.specs.declared.cache.ThreadCache.{ThreadCache}
 use Rattle.pas_answers.specs.Acts.{Act, Ends, numbers_from}
-use Rattle.pas_replay.specs.Sessions.{SoFar, IsTaken, risen}
-use Rattle.pas_replay.specs.declared.seats.Thread.{Thread}
+use Rattle.pas_replay.specs.Sessions.{SoFar, IsTaken, hand_at}
 use Rattle.pas_replay.proofs.order.stop_all.Given as goal
 
 abbrev pub invariant-loop-index : goal.invariant-loop-index
 invariant-loop-index l = record {
-  far : (all more : List Act) → SoFar (profile_of (region_of l.fn.desk)) all (map Ends (numbers_from 1 (length l.fn.threads)) ++ more) (region_of l.fn.desk) (risen l.fn.desk l.fn.threads) l.fn.names l.fn.out
-      → SoFar (profile_of (region_of l.fn.desk)) all (map Ends (numbers_from (l.index + 1) (length l.fn.threads - l.index)) ++ more) (region_of l.desk) (risen l.desk l.threads) l.names l.out;
-  empty : (i : ℕ) (d : Thread) → i < l.index → (cached (slice_index_or (risen l.desk l.threads) i d).cache).locals ≡ [];
-  taken : IsTaken l.desk l.threads;
+  far : (f : Profile) (all more : List Act)
+      → SoFar f all (map Ends (numbers_from 1 (length l.fn.actors.caches.items)) ++ more) (hand_at l.fn.desk l.fn.actors l.fn.names l.fn.out)
+      → SoFar f all (map Ends (numbers_from (l.index + 1) (length l.fn.actors.caches.items - l.index)) ++ more) (hand_at l.desk l.actors l.names l.out);
+  taken : IsTaken l.desk l.actors.passes.items;
+  threads : length l.actors.caches.items ≡ length l.fn.actors.caches.items;
+  empty : (j : ℕ) (d : ThreadCache) → j < l.index → (cached (get_or l.actors.caches.items j d)).locals ≡ [];
 }

@@ -1,50 +1,63 @@
-use Rattle.std.proofs.Common.{◌≡◌, ◌∙◌, ◌+◌, ◌-◌, ◌++◌, ℕ, true, false, List, length, sym, subst, arith}
+use Rattle.std.proofs.Common.{◌≡◌, ◌≤◌, ◌∙◌, ◌+◌, ◌-◌, ◌++◌, ℕ, true, false, List, length, set, ap, sym, arith}
 use Rattle.std.specs.Prelude.{map}
-use Rattle.pas_plain.specs.Plain.{profile_of}
-use Rattle.pas_plain.specs.Seats.{region_of}
+use Rattle.std.specs.List.{filter}
+use Rattle.std.proofs.lemmas.List.{length-set}
+use Rattle.pas_bits.specs.Masks.{is_set}
+use Rattle.pas_profile.specs.declared.profile.Profile.{Profile}
+use Rattle.pas_cache.specs.declared.cache.ThreadCache.{ThreadCache}
 use Rattle.pas_report.specs.declared.records.Records.{Records}
-use Rattle.pas_answers.specs.Acts.{Act, Wakes, is_active, active_from}
-use Rattle.pas_replay.specs.Sessions.{SoFar, risen}
+use Rattle.pas_answers.specs.Acts.{Act, Wakes, numbers_from, threads_where}
+use Rattle.pas_replay.specs.Sessions.{awake_in, SoFar, hand_at}
 use Rattle.pas_answers.specs.declared.names.Names.{Names}
-use Rattle.pas_replay.proofs.ActsInOrder.{may_wake, has_woken, as_list, active_next, active_last}
+use Rattle.pas_replay.proofs.ActsInOrder.{as_acts, next_chosen, next_passed, none_left}
+use Rattle.pas_replay.proofs.Operations.{has_cache, may_wake, has_woken}
 use Rattle.pas_replay.proofs.order.wake_all.Goals as goal
 use Rattle.pas_replay.proofs.order.wake_all.Goals.{then-get, else-get}
-
-pub loop-index-init : goal.loop-index-init
-loop-index-init c = record {
-  far = λ all more table out far. subst (λ (n : ℕ). SoFar (profile_of (region_of c.args.desk.now)) all (map Wakes (active_from 1 n c.args.ops.now) ++ more) (region_of c.args.desk.now) (risen c.args.desk.now c.args.threads.now) table out) (omega arith) far;
-  taken = c.requires.taken;
-}
 
 pub wake-requires : goal.wake-requires
 wake-requires c =
     let test = c.loop-index-test.true in
-    let count = c.loop-index.auto.threads in
-    let on : is_active c.args.ops.now (c.loop-index.index + 1) ≡ true = sym (c.active-awake.ensures (c.loop-index.index + 1)) ∙ sym c.get.ensures ∙ c.if-get.true in
-    may_wake c.loop-index.desk c.loop-index.threads (c.loop-index.index + 1) c.loop-index.invariant.taken (omega arith, omega (arith, test, count))
-    (as_list Wakes c.requires.so_far.2.1 (active_next (c.loop-index.index + 1) (length c.args.threads.now - c.loop-index.index) (length c.args.threads.now - (c.loop-index.index + 1)) c.args.ops.now (omega (arith, test)) on)
-    (c.loop-index.invariant.far c.requires.so_far.2.0 c.requires.so_far.2.1 c.requires.so_far.0 c.requires.so_far.1 c.requires.so_far.2.2))
+    let so0 = c.requires.so_far in
+    let threads = length c.args.actors.now.caches.items in
+    let i = c.loop-index.index in
+    let so = as_acts (next_chosen Wakes (is_set c.args.awake) i threads so0.2.2 (omega (arith, test)) (sym c.get.ensures ∙ c.if-get.true)) (c.loop-index.invariant.far so0.2.0 so0.2.1 so0.2.2 so0.0 so0.1 so0.2.3) in
+    let many = so.1.threads in
+    let same = c.loop-index.invariant.threads in
+    record { can = may_wake c.loop-index.desk c.loop-index.actors (i + 1) (omega arith) (omega (arith, test, many, same)) so.1 c.loop-index.invariant.taken }
 
 pub loop-index-preserved : goal.loop-index-preserved
 loop-index-preserved c = elim c.if-get.branch [
   | then-get w ↦
       let test = c.loop-index-test.true in
-      let count = c.loop-index.auto.threads in
-      let on : is_active c.args.ops.now (c.loop-index.index + 1) ≡ true = sym (c.active-awake.ensures (c.loop-index.index + 1)) ∙ sym c.get.ensures ∙ w.if-get.true in
-      let far = λ (all more : List Act) (table : Names) (out : Records) (so : SoFar (profile_of (region_of c.args.desk.now)) all (map Wakes (active_from 1 (length c.args.threads.now) c.args.ops.now) ++ more) (region_of c.args.desk.now) (risen c.args.desk.now c.args.threads.now) table out).
-      has_woken c.loop-index.desk w.wake.new.desk c.loop-index.threads w.wake.new.threads (c.loop-index.index + 1) (omega arith, omega (arith, test, count))
-      (as_list Wakes more (active_next (c.loop-index.index + 1) (length c.args.threads.now - c.loop-index.index) (length c.args.threads.now - (c.loop-index.index + 1)) c.args.ops.now (omega (arith, test)) on) (c.loop-index.invariant.far all more table out so))
-      w.wake.ensures in
-      rw (w.desk-is, w.threads-is) (record { far = far; taken = w.wake.ensures.taken })
+      let so0 = c.requires.so_far in
+      let threads = length c.args.actors.now.caches.items in
+      let i = c.loop-index.index in
+      let same = c.loop-index.invariant.threads in
+      let taken = c.loop-index.invariant.taken in
+      let on : is_set c.args.awake (i + 1) ≡ true = sym c.get.ensures ∙ w.if-get.true in
+      let next = λ (f : Profile) (all more : List Act) (table : Names) (out : Records) (so : SoFar f all (map Wakes (awake_in c.args.awake threads) ++ more) (hand_at c.args.desk.now c.args.actors.now table out)).
+          as_acts (next_chosen Wakes (is_set c.args.awake) i threads more (omega (arith, test)) on) (c.loop-index.invariant.far f all more table out so) in
+      let own = next so0.2.0 so0.2.1 so0.2.2 so0.0 so0.1 so0.2.3 in
+      let many = own.1.threads in
+      let turn = w.wake.ensures (own.0.caches (i + 1)) (has_cache c.loop-index.desk c.loop-index.actors own.1 taken (i + 1) (omega arith) (omega (arith, test, many, same))) in
+      let sized = ap (λ (cs : List ThreadCache). length cs) turn.caches_are ∙ length-set c.loop-index.actors.caches.items (i + 1 - 1) turn.cache in
+      let far = λ (f : Profile) (all more : List Act) (table : Names) (out : Records) (so : SoFar f all (map Wakes (awake_in c.args.awake threads) ++ more) (hand_at c.args.desk.now c.args.actors.now table out)).
+          let far = next f all more table out so in
+          let count = far.1.threads in
+          let most : i + 1 ≤ f.threads = omega (arith, test, count, same) in
+          has_woken c.loop-index.desk w.wake.new.desk c.loop-index.actors w.wake.new.actors (i + 1) (omega arith) most far.1
+          (w.wake.ensures (far.0.caches (i + 1)) (has_cache c.loop-index.desk c.loop-index.actors far.1 taken (i + 1) (omega arith) most)) in
+      rw (w.desk-is, w.actors-is) (record { far = far; taken = turn.turn.taken; threads = sized ∙ same })
   | else-get w ↦
       let test = c.loop-index-test.true in
-      let off : is_active c.args.ops.now (c.loop-index.index + 1) ≡ false = sym (c.active-awake.ensures (c.loop-index.index + 1)) ∙ sym c.get.ensures ∙ w.if-get.false in
-      let far = λ (all more : List Act) (table : Names) (out : Records) (so : SoFar (profile_of (region_of c.args.desk.now)) all (map Wakes (active_from 1 (length c.args.threads.now) c.args.ops.now) ++ more) (region_of c.args.desk.now) (risen c.args.desk.now c.args.threads.now) table out).
-      as_list Wakes more (active_next (c.loop-index.index + 1) (length c.args.threads.now - c.loop-index.index) (length c.args.threads.now - (c.loop-index.index + 1)) c.args.ops.now (omega (arith, test)) off) (c.loop-index.invariant.far all more table out so) in
-      rw (w.desk-is, w.threads-is) (record { far = far; taken = c.loop-index.invariant.taken })
+      let threads = length c.args.actors.now.caches.items in
+      let off : is_set c.args.awake (c.loop-index.index + 1) ≡ false = sym c.get.ensures ∙ w.if-get.false in
+      let far = λ (f : Profile) (all more : List Act) (table : Names) (out : Records) (so : SoFar f all (map Wakes (awake_in c.args.awake threads) ++ more) (hand_at c.args.desk.now c.args.actors.now table out)).
+          as_acts (next_passed Wakes (is_set c.args.awake) c.loop-index.index threads more (omega (arith, test)) off) (c.loop-index.invariant.far f all more table out so) in
+      rw (w.desk-is, w.actors-is) (record { far = far; taken = c.loop-index.invariant.taken; threads = c.loop-index.invariant.threads })
 ]
 
 pub returns-clause-so_far : goal.returns-clause-so_far
-returns-clause-so_far c table out all more so =
+returns-clause-so_far c table out f all more so =
     let test = c.loop-index-test.false in
-    as_list Wakes more (active_last (c.loop-index.index + 1) (length c.args.threads.now - c.loop-index.index) c.args.ops.now (omega (arith, test))) (c.loop-index.invariant.far all more table out so)
+    as_acts (none_left Wakes (is_set c.args.awake) c.loop-index.index (length c.args.actors.now.caches.items) more (omega (arith, test))) (c.loop-index.invariant.far f all more table out so)

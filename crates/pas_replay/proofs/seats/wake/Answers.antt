@@ -1,20 +1,16 @@
-use Rattle.std.proofs.Common.{◌-◌, slice_index_or, sym, ap, subst}
-use Rattle.pas_steps.specs.Desks.{CanCall}
-use Rattle.pas_plain.specs.Plain.{profile_of}
+use Rattle.std.proofs.Common.{refl, ap, sym, subst}
 use Rattle.pas_plain.specs.Seats.{standing_of}
-use Rattle.pas_plain.specs.declared.region.PlainRegion.{PlainRegion}
-use Rattle.pas_cache.specs.Caches.{cached, AtRest}
+use Rattle.pas_cache.specs.Caches.{Cached, cached}
 use Rattle.pas_cache.specs.Calls.{Begins}
-use Rattle.pas_replay.proofs.Turns.{thread_of, may_there, turn_taken}
+use Rattle.pas_replay.proofs.Turns.{may_there, turn_taken, has_at}
 use Rattle.pas_replay.proofs.seats.wake.Goals as goal
 
-pub begin-requires : goal.begin-requires
-begin-requires c = record {
-  can = subst (λ (r : PlainRegion). CanCall (standing_of c.take_seat.new.desk) (λ v l. AtRest (profile_of r) (cached (slice_index_or c.take_seat.new.threads (c.args.actor - 1) c.index-threads-actor.result).cache) v))
-      (sym c.take_seat.ensures.region_is) (may_there c.args.actor c.index-threads-actor.result c.requires c.take_seat.auto.threads c.take_seat.ensures);
-}
-
 pub returns : goal.returns
-returns c =
-    turn_taken (λ x y. Begins x y) c.args.actor c.index-threads-actor.result (thread_of (slice_index_or c.take_seat.new.threads (c.args.actor - 1) c.index-threads-actor.result).pass c.begin.new.self) c.requires.seat.place c.take_seat.auto.threads
-    c.take_seat.ensures (ap (λ s. s.actor) c.begin.ensures.begins.calls.adds.seat_is) c.begin.ensures.begins
+returns c own has = record {
+  cache = c.begin.new.self;
+  caches_are = refl;
+  turn = turn_taken c.args.actor c.requires.can.2.seat.place c.take_seat.ensures c.begin.ensures.begins.calls.adds.seat_is
+      (subst (λ (x : Cached). Begins x (cached c.begin.new.self) (standing_of c.take_seat.new.desk) (standing_of c.begin.new.desk))
+        (sym (has_at c.args.actors.now.caches.items c.args.actor c.index_mut.result.now has c.index_mut.ensures.value)) c.begin.ensures.begins);
+  places = refl;
+}
