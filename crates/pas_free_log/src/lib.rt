@@ -4,6 +4,7 @@
 mod ending;
 mod flushing;
 mod log;
+mod noting;
 mod returning;
 #[cfg(test)]
 mod tests;

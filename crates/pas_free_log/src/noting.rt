@@ -1,0 +1,42 @@
+//! The runs of large blocks that ended.
+ghost use Rattle.std.specs.Prelude.{◌≡◌, ◌++◌, ◌-◌, length, take, option_to_list};
+ghost use Rattle.pas_free_log.specs.Noted.{large_run as the_large_run};
+
+use arrayvec::ArrayVec;
+use pas_profile::limits::{MOST_LOGGED, PAGE_BYTES, PAGE_GRAINS};
+use pas_profile::{Directory, Kind, Name, Range};
+
+/// The heap and the pages of a block of so many grains that ended, which began on a page of the directory. None where it isn't a large block:
+/// its page is one of large blocks, and it begins with a page and ends with one.
+pub fn large_run(name: Name, grains: u32, directory: Option<Directory>) -> Option<(u8, Range)>
+    ensures { result ≡ the_large_run name grains directory }
+{
+    if name.address.0 % PAGE_BYTES != 0 || grains % PAGE_GRAINS != 0 {
+        return None;
+    }
+    let Some(
+        Directory {
+            heap,
+            kind: Kind::Large,
+        },
+    ) = directory else {
+        return None;
+    };
+    let range = Range {
+        first: name.address.0 / PAGE_BYTES,
+        pages: grains / PAGE_GRAINS,
+    };
+    Some((heap, range))
+}
+
+/// Adds the run at the end, where there is one and fewer than 64 are there.
+pub fn note(ended: &mut ArrayVec<(u8, Range), MOST_LOGGED>, run: Option<(u8, Range)>)
+    ensures { ended.new.items ≡ ended.old.items ++ take (64 - length ended.old.items) (option_to_list run) }
+{
+    let Some(run) = run else {
+        return;
+    };
+    if !ended.is_full() {
+        ended.push(run);
+    }
+}
