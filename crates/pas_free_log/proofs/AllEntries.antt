@@ -4,8 +4,8 @@ use Rattle.std.specs.Prelude.{map, reverse}
 use Rattle.std.specs.List.{flat_map}
 use Rattle.std.proofs.lemmas.List.{append-nil, flat_map_more, reverse-append, take_more}
 use Rattle.std.proofs.lemmas.List.Elements.{All-append, All-take}
+use Rattle.pas_free_log.specs.declared.noting.EndedRun.{EndedRun}
 use Rattle.pas_free_log.specs.declared.log.Entry.{Entry}
-use Rattle.pas_profile.specs.declared.event.Range.{Range}
 use Rattle.pas_profile.specs.declared.word.Word.TheVariants as Word
 use Rattle.pas_steps.specs.declared.step.Made.{Made}
 use Rattle.pas_steps.specs.declared.step.Step.TheVariants.{Look}
@@ -19,7 +19,7 @@ use Rattle.pas_steps.proofs.Apart.{only_within, only_both, epoch_same}
 use Rattle.pas_steps.proofs.Frames.{events_append}
 use Rattle.pas_free_log.specs.Stamps.{stamps_by}
 use Rattle.pas_free_log.specs.Frames.{ending, freeing}
-use Rattle.pas_free_log.specs.Flushes.{Settled, event_for, shown_for, stamps_by_outcome, stamps_for, noted_for, EntriesSteps, Flushes}
+use Rattle.pas_free_log.specs.Flushes.{Settled, event_for, shown_for, stamps_by_outcome, stamps_for, noted_for, noted_after, EntriesSteps, Flushes}
 use Rattle.pas_free_log.specs.Noted.{IsRange, AreRanges}
 use Rattle.pas_free_log.proofs.Stamped.{stamps_append}
 use Rattle.pas_steps.specs.Allowed.{IsEpochKnown}
@@ -64,8 +64,8 @@ noted_both n es xs ys =
     ∙ ap (λ k. es ++ (take (n - length es) xs ++ take k ys)) (omega (arith, long))
     ∙ ap (λ zs. es ++ zs) (take_both (n - length es) xs ys)
 
-pub noted_more : (settled : List Settled) (s : Settled) (es noted noted' runs : List (ℕ × Range)) → noted ≡ es ++ take (64 - length es) (flat_map noted_for (reverse settled)) → runs ≡ noted_for s → noted' ≡ noted ++ take (64 - length noted) runs
-    → noted' ≡ es ++ take (64 - length es) (flat_map noted_for (reverse (s ∷ settled)))
+pub noted_more : (settled : List Settled) (s : Settled) (es noted noted' runs : List EndedRun) → noted ≡ noted_after es settled → runs ≡ noted_for s → noted' ≡ noted ++ take (64 - length noted) runs
+    → noted' ≡ noted_after es (s ∷ settled)
 noted_more settled s es noted noted' runs before one more =
     let so_far = flat_map noted_for (reverse settled) in
     more ∙ ap (λ xs. noted ++ take (64 - length noted) xs) one
@@ -77,11 +77,11 @@ no_runs : {A : Type 0} (k : ℕ) → take {A = A} k [] ≡ []
 no_runs zero = refl
 no_runs (suc k) = refl
 
-pub noted_none : (es : List (ℕ × Range)) → es ≡ es ++ take (64 - length es) []
+pub noted_none : (es : List EndedRun) → es ≡ noted_after es []
 noted_none es = sym (ap (λ xs. es ++ xs) (no_runs (64 - length es)) ∙ append-nil es)
 
-pub ranges_more : (noted noted' runs : List (ℕ × Range)) → noted' ≡ noted ++ take (64 - length noted) runs → AreRanges runs → AreRanges noted → AreRanges noted'
-ranges_more noted noted' runs is more before = subst AreRanges (sym is) (All-append (λ run. IsRange run.1) noted (take (64 - length noted) runs) before (All-take (λ run. IsRange run.1) (64 - length noted) runs more))
+pub ranges_more : (noted noted' runs : List EndedRun) → noted' ≡ noted ++ take (64 - length noted) runs → AreRanges runs → AreRanges noted → AreRanges noted'
+ranges_more noted noted' runs is more before = subst AreRanges (sym is) (All-append (λ run. IsRange run.range) noted (take (64 - length noted) runs) before (All-take (λ run. IsRange run.range) (64 - length noted) runs more))
 
 -- ---- the whole flush
 pub epoch_after_entries : (epoch : ℕ) (entries : List Made) (v : View) → Only ending entries → known_epoch ((entries ++ made (Look Word.Epoch) epoch ∷ []) ++ v) ≡ Some epoch
@@ -91,7 +91,7 @@ epoch_after_entries epoch entries v kinds = ap known_epoch (append_assoc entries
 pub may_end : (epoch : ℕ) (entries : List Made) (v : View) → Only ending entries → Does nothing v ((entries ++ made (Look Word.Epoch) epoch ∷ []) ++ v) → IsClear v → MayEnd ((entries ++ made (Look Word.Epoch) epoch ∷ []) ++ v)
 may_end epoch entries v kinds does clear = record { epoch = subst IsEpochKnown (sym (epoch_after_entries epoch entries v kinds)) tt; examined = λ page. ((still_clear does clear).on page).examined }
 
-pub flushed : {σ σ' : Standing} (epoch : ℕ) (settled : List Settled) (logged : List Entry) (ended ended' : List (ℕ × Range)) (entries : List Made) → ended' ≡ ended ++ take (64 - length ended) (flat_map noted_for (reverse settled)) → (AreRanges ended → AreRanges ended') → reverse (map (λ s. s.entry) settled) ≡ logged → EntriesSteps settled entries
+pub flushed : {σ σ' : Standing} (epoch : ℕ) (settled : List Settled) (logged : List Entry) (ended ended' : List EndedRun) (entries : List Made) → ended' ≡ noted_after ended settled → (AreRanges ended → AreRanges ended') → reverse (map (λ s. s.entry) settled) ≡ logged → EntriesSteps settled entries
     → Calls σ σ' IsClear (Does nothing) (entries ++ made (Look Word.Epoch) epoch ∷ []) → Only ending entries
     → ((v : View) → epoch_of v ≡ epoch → events_by σ.seat.actor v entries ≡ map (shown_for σ.seat.actor epoch) settled) → ((v : View) → epoch_of v ≡ epoch → stamps_by v entries ≡ flat_map (stamps_for epoch) settled)
     → Flushes logged ended ended' σ σ'

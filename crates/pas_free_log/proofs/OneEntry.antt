@@ -28,6 +28,7 @@ use Rattle.pas_steps.proofs.Apart.{only_within, only_both, epoch_same, events_sa
 use Rattle.pas_steps.proofs.Adding.{adds_under}
 use Rattle.pas_steps.proofs.Called.{call_then}
 use Rattle.pas_steps.proofs.Calls.{leads_as, leads_then, nothing_then, end_fails, end_succeeds, end_later, ends_back, EndsBlock, unexamined_over}
+use Rattle.pas_free_log.specs.declared.noting.EndedRun.{EndedRun}
 use Rattle.pas_free_log.specs.declared.log.Entry.{Entry}
 use Rattle.pas_free_log.specs.Conditions.{IsEntryOf, KnowsEpoch, MayEnd, IsRun}
 use Rattle.pas_free_log.specs.Stamps.{stamps_by, page_count, pages_met, stamps_with}
@@ -67,7 +68,7 @@ entry_refused {σ} {σ1} entry read directory named e =
       outcome = Refused read;
       directory = directory;
       run_is = refl;
-      range = All-nil (λ run. IsRange run.1);
+      range = All-nil (λ run. IsRange run.range);
       steps = steps;
       calls = record { adds = adds_under (subst (λ s. Adds σ σ1 (λ v l. KnowsEpoch v) s) o.steps_are e.adds) (λ v l stood met. met.epoch); leads = leads_as (nothing_then (idle.does σ.seat.profile) (end_fails σ.seat.profile name o.guess o.answer ne)) (λ v met. tt) (λ v w met d. d) };
       kinds = (refl, only_within trying ending pre refl idle.kinds);
@@ -158,11 +159,11 @@ is_ended {σ} {σ1} name grains directory e =
 
 -- the pages of a large block are some
 range_of_kind : (kind : Kind) (heap : ℕ) (range : Range) → IsRange range → AreRanges (option_to_list (run_of_kind kind heap range))
-range_of_kind Kind.Large heap range is = All-cons (λ run. IsRange run.1) (heap, range) [] is (All-nil (λ run. IsRange run.1))
-range_of_kind kind heap range is = All-nil (λ run. IsRange run.1)
+range_of_kind Kind.Large heap range is = All-cons (λ run. IsRange run.range) (record { heap = heap; range = range }) [] is (All-nil (λ run. IsRange run.range))
+range_of_kind kind heap range is = All-nil (λ run. IsRange run.range)
 
 range_in : (directory : Option Directory) (range : Range) → IsRange range → AreRanges (option_to_list (run_in directory range))
-range_in None range is = All-nil (λ run. IsRange run.1)
+range_in None range is = All-nil (λ run. IsRange run.range)
 range_in (Some d) range is = range_of_kind d.kind d.heap range is
 
 whole_range : (f : Profile) (name : Name) (grains : ℕ) (directory : Option Directory) → IsValid f → IsRun f (grain_of name) grains → AreRanges (option_to_list (large_run name grains directory))
@@ -175,11 +176,11 @@ whole_range f name grains directory valid run = elim (cases_Bool (is_whole name 
       let pages = valid.pages in
       subst (λ t. AreRanges (option_to_list (if t then run_in directory (range_of name grains) else None))) (sym whole)
       (range_in directory (range_of name grains) record { first = omega (arith, address, first); some = omega (arith, length, some); last = omega (arith, address, length, last, pages) })
-  | inr other ↦ subst (λ t. AreRanges (option_to_list (if t then run_in directory (range_of name grains) else None))) (sym other) (All-nil (λ run. IsRange run.1))
+  | inr other ↦ subst (λ t. AreRanges (option_to_list (if t then run_in directory (range_of name grains) else None))) (sym other) (All-nil (λ run. IsRange run.range))
 ]
 
 -- whoever ended a block and put its grains back is as before
-pub entry_ended : {σ σ1 σ2 : Standing} (entry : Entry) (grains : ℕ) (directory : Option Directory) (run : Option (ℕ × Range)) → IsValid σ.seat.profile → IsEnded entry.name grains directory σ σ1 → ReturnsRun (grain_of entry.name) grains σ1 σ2 → run ≡ large_run entry.name grains directory → EndsEntry entry σ σ2 run
+pub entry_ended : {σ σ1 σ2 : Standing} (entry : Entry) (grains : ℕ) (directory : Option Directory) (run : Option EndedRun) → IsValid σ.seat.profile → IsEnded entry.name grains directory σ σ1 → ReturnsRun (grain_of entry.name) grains σ1 σ2 → run ≡ large_run entry.name grains directory → EndsEntry entry σ σ2 run
 entry_ended {σ} {σ1} {σ2} entry grains directory run valid e r is =
     let name = entry.name in
     let g = grain_of name in

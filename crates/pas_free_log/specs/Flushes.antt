@@ -3,7 +3,6 @@ use Rattle.std.specs.Prelude.{ℕ, ◌+◌, ◌-◌, ◌*◌, ◌≤◌, ◌≡�
 use Rattle.std.specs.List.{flat_map}
 use Rattle.pas_profile.specs.Directories.{directory_read}
 use Rattle.pas_profile.specs.declared.directory.Directory.{Directory}
-use Rattle.pas_profile.specs.declared.event.Range.{Range}
 use Rattle.pas_profile.specs.declared.name.Name.{Name}
 use Rattle.pas_profile.specs.declared.word.Word.TheVariants as Word
 use Rattle.pas_profile.specs.declared.event.Event.{Event}
@@ -24,6 +23,7 @@ use Rattle.pas_free_log.specs.Endings.{EndSteps}
 use Rattle.pas_free_log.specs.Returns.{RunSteps}
 use Rattle.pas_free_log.specs.Noted.{AreRanges, noted_by}
 use Rattle.pas_free_log.specs.declared.log.Entry.{Entry}
+use Rattle.pas_free_log.specs.declared.noting.EndedRun.{EndedRun}
 use Rattle.pas_free_log.specs.declared.ending.Outcome.{Outcome}
 use Rattle.pas_free_log.specs.declared.ending.Outcome.TheVariants.{Ended, Refused}
 
@@ -51,7 +51,7 @@ abbrev pub stamps_for : ℕ → Settled → List (ℕ × ℕ)
 stamps_for epoch settled = stamps_by_outcome epoch settled.entry.name settled.outcome
 
 -- the run of a large block that ended
-abbrev pub noted_for : Settled → List (ℕ × Range)
+abbrev pub noted_for : Settled → List EndedRun
 noted_for settled = noted_by settled.entry.name settled.directory settled.outcome
 
 -- what follows an end: the run of a block that ended is put back
@@ -69,7 +69,7 @@ pub record EntrySteps (settled : Settled) (steps : List Made) : Type 0 where
   pub steps_are : steps ≡ after ++ ends
 
 -- the actor is as it was then, and the run is that of a large block that ended
-pub record EndsEntry (entry : Entry) (desk desk' : Standing) (run : Option (ℕ × Range)) : Type 0 where
+pub record EndsEntry (entry : Entry) (desk desk' : Standing) (run : Option EndedRun) : Type 0 where
   pub outcome : Outcome
   pub directory : Option Directory
   pub run_is : option_to_list run ≡ noted_by entry.name directory outcome
@@ -81,6 +81,11 @@ pub record EndsEntry (entry : Entry) (desk desk' : Standing) (run : Option (ℕ 
   pub event : (v : View) → events_by desk.seat.actor v steps ≡ event_for desk.seat.actor (epoch_of v) entry.name outcome ∷ []
   pub stamps : (v : View) → stamps_by v steps ≡ stamps_by_outcome (epoch_of v) entry.name outcome
 
+-- the runs that are noted once these names were settled: those of the large blocks that ended, in order, behind the ones noted before, as far as 64
+-- have room
+abbrev pub noted_after : List EndedRun → List Settled → List EndedRun
+noted_after ended settled = ended ++ take (64 - length ended) (flat_map noted_for (reverse settled))
+
 -- ---- all entries
 -- the steps for the entries, the newest first
 abbrev pub EntriesSteps : List Settled → List Made → Type 0
@@ -90,11 +95,11 @@ EntriesSteps settled steps = InTurn EntrySteps settled steps
 -- Each makes one event, with the epoch that was read; each page of each block that ended is stamped once with it, and no other page.
 -- There are at most three steps for each entry, and fourteen for each page that is stamped. The actor is as it was: it holds the grains and has the rights that it had, is clear where it was, and knows as backed what it knew so.
 -- The runs of the large blocks that ended are noted in order behind those that were noted before, as far as 64 have room, and nothing else.
-pub record Flushes (logged : List Entry) (ended ended' : List (ℕ × Range)) (desk desk' : Standing) : Type 0 where
+pub record Flushes (logged : List Entry) (ended ended' : List EndedRun) (desk desk' : Standing) : Type 0 where
   pub epoch : ℕ
   pub settled : List Settled
   pub entries_are : reverse (map (λ s. s.entry) settled) ≡ logged
-  pub noted : ended' ≡ ended ++ take (64 - length ended) (flat_map noted_for (reverse settled))
+  pub noted : ended' ≡ noted_after ended settled
   pub ranges : AreRanges ended → AreRanges ended'
   pub steps : List Made
   pub entries : List Made

@@ -8,16 +8,16 @@ ghost use Rattle.pas_free_log.specs.Flushes.{EndsEntry, Flushes};
 
 use crate::ending::{Outcome, end_named};
 use crate::log::{Entry, FreeLog};
-use crate::noting::{large_run, note};
+use crate::noting::{EndedRun, large_run, note};
 use crate::returning::return_run;
 use arrayvec::ArrayVec;
 use pas_profile::limits::{GRAIN_BYTES, MOST_LOGGED};
-use pas_profile::{Range, Word};
+use pas_profile::Word;
 use pas_steps::Desk;
 
 /// Ends the block of the entry's name, and stamps its pages and puts its grains back where it ended. Answers the heap and the pages of a large block
 /// that ended. One event.
-fn end_entry<D: Desk>(desk: &mut D, entry: Entry) -> Option<(u8, Range)>
+fn end_entry<D: Desk>(desk: &mut D, entry: Entry) -> Option<EndedRun>
     requires entry { IsEntryOf (D.standing desk.old).seat.profile entry }
     requires room { 1 ≤ D.spare_of desk.old }
     requires can { CanCall (D.standing desk.old) (λ v l. MayEnd v) }
@@ -44,7 +44,7 @@ fn end_entry<D: Desk>(desk: &mut D, entry: Entry) -> Option<(u8, Range)>
 pub fn flush<D: Desk>(
     desk: &mut D,
     log: &mut FreeLog,
-    ended: &mut ArrayVec<(u8, Range), MOST_LOGGED>,
+    ended: &mut ArrayVec<EndedRun, MOST_LOGGED>,
 )
     requires entries { All (IsEntryOf (D.standing desk.old).seat.profile) (entries_in log.old) }
     requires room { length (entries_in log.old) ≤ D.spare_of desk.old }

@@ -11,3 +11,4 @@ mod tests;
 
 pub use flushing::flush;
 pub use log::{Entry, FreeLog};
+pub use noting::EndedRun;

@@ -1,4 +1,4 @@
-use Rattle.std.proofs.Common.{◌≡◌, ℕ, ◌+◌, ◌-◌, length, List, [], ◌∷◌, ◌++◌, take}
+use Rattle.std.proofs.Common.{◌≡◌, ℕ, ◌+◌, List, [], ◌∷◌, ◌++◌, take}
 use Rattle.std.specs.Prelude.{map, reverse}
 use Rattle.std.specs.List.{flat_map}
 use Rattle.pas_profile.specs.declared.word.Word.TheVariants as Word
@@ -12,7 +12,7 @@ use Rattle.pas_steps.specs.Desks.{made}
 use Rattle.pas_steps.specs.Clear.{IsClear}
 use Rattle.pas_free_log.specs.Stamps.{stamps_by}
 use Rattle.pas_free_log.specs.Frames.{ending}
-use Rattle.pas_free_log.specs.Flushes.{Settled, shown_for, stamps_for, noted_for, EntriesSteps}
+use Rattle.pas_free_log.specs.Flushes.{Settled, shown_for, stamps_for, noted_after, EntriesSteps}
 use Rattle.pas_free_log.specs.Noted.{AreRanges}
 use Rattle.pas_free_log.proofs.flushing.flush.Given as goal
 
@@ -22,7 +22,7 @@ invariant-loop-entry g l = let D = g.D.Desk in record {
   epoch : ℕ;
   settled : List Settled;
   entries_are : reverse (map (λ s. s.entry) settled) ≡ take l.entry-index l.entries;
-  noted : l.ended.items ≡ l.fn.ended.items ++ take (64 - length l.fn.ended.items) (flat_map noted_for (reverse settled));
+  noted : l.ended.items ≡ noted_after l.fn.ended.items settled;
   ranges : AreRanges l.fn.ended.items → AreRanges l.ended.items;
   entries : List Made;
   order : EntriesSteps settled entries;
