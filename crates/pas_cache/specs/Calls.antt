@@ -64,8 +64,8 @@ pub record RefusesName (f : Profile) (c c' : Cached) (name : Name) (steps : List
 -- otherwise the name is logged, after a full log was emptied
 pub record TakesName (f : Profile) (actor : ℕ) (c c' : Cached) (name : Name) (steps : List Made) : Type 0 where
   pub region : IsInRegion f name
-  pub logs : LogsName actor c.log c'.log name steps
-  pub cache : c' ≡ record c { log = c'.log }
+  pub logs : LogsName actor c.log c'.log c.noted c'.noted name steps
+  pub cache : c' ≡ record c { log = c'.log; noted = c'.noted }
 
 pub record Frees (name : Name) (c c' : Cached) (desk desk' : Standing) (answer : Result (Unit {0}) FreeFault) : Type 0 where
   pub steps : List Made
@@ -76,8 +76,8 @@ pub record Frees (name : Name) (c c' : Cached) (desk desk' : Standing) (answer :
 pub record FlushesLog (c c' : Cached) (desk desk' : Standing) : Type 0 where
   pub steps : List Made
   pub calls : Rests c c' desk desk' steps
-  pub empties : EmptiesLog desk.seat.actor c.log steps
-  pub cache : c' ≡ record c { log = [] }
+  pub empties : EmptiesLog desk.seat.actor c.log c.noted c'.noted steps
+  pub cache : c' ≡ record c { log = []; noted = c'.noted }
 
 -- The log is emptied, and then each local allocator is stopped. The cache is empty then, so the actor holds and has nothing. The stops make no
 -- event and stamp no page.
@@ -85,8 +85,8 @@ pub record StopsCache (c c' : Cached) (desk desk' : Standing) : Type 0 where
   pub flushed : List Made
   pub stopped : List Made
   pub calls : Calls desk desk' (AtRest desk.seat.profile c) (λ v w. AtRest desk.seat.profile c' w × HasNothing w) (stopped ++ flushed)
-  pub empties : EmptiesLog desk.seat.actor c.log flushed
+  pub empties : EmptiesLog desk.seat.actor c.log c.noted c'.noted flushed
   pub stops : StopsEach c.locals stopped
   pub kinds : Only releasing stopped
   pub silent : (k : ℕ) (v : View) → events_by k v stopped ≡ []
-  pub cache : c' ≡ record c { locals = []; log = [] }
+  pub cache : c' ≡ record c { locals = []; log = []; noted = c'.noted }
