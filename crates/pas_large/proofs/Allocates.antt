@@ -1,6 +1,6 @@
 -- A large block: the run that was found is given, or the refusal has its reason.
 use Rattle.pas_steps.proofs.SpareRoom.{Spares}
-use Rattle.std.proofs.Common.{◌≡◌, ℕ, ◌+◌, ◌≤◌, true, false, List, ◌++◌, Some, None, Ok, Err, refl, ap, subst, arith, ◌/◌}
+use Rattle.std.proofs.Common.{◌≡◌, ℕ, ◌+◌, ◌*◌, ◌≤◌, true, false, List, ◌++◌, length-append, Some, None, Ok, Err, refl, ap, subst, arith, ◌/◌}
 use Rattle.pas_profile.specs.declared.directory.Directory.{Directory}
 use Rattle.pas_profile.specs.declared.event.NoRoom.{NoRoom}
 use Rattle.pas_profile.specs.declared.name.Block.{Block}
@@ -20,7 +20,7 @@ use Rattle.pas_steps.proofs.Calls.{leads_then, leads_idly, does_then}
 use Rattle.pas_large.specs.Allocates.{GaveLarge, AllocatesLarge}
 use Rattle.pas_large.specs.Claims.{in_span, HasPages}
 use Rattle.pas_large.specs.Finds.{MayFind, FindRoom, Finds}
-use Rattle.pas_large.specs.Gives.{GivesRun}
+use Rattle.pas_large.specs.Gives.{give_steps, GivesRun}
 use Rattle.pas_large.specs.Pages.{GotPages}
 use Rattle.pas_large.specs.Refusals.{IsReason, Refuses}
 use Rattle.pas_large.proofs.Claims.{has_got, room_after}
@@ -63,12 +63,16 @@ allocates heap n first find block give =
       searched = find.steps;
       after = _;
       adds = calls.adds;
+      kinds = find.kinds;
+      shows = find.shows;
+      few = (let k = length-append (give.left ++ (give_steps first block give.word give.answer ++ give.backs)) find.steps in let a = give.few in let b = find.few in omega (arith, k, a, b));
       outcome = record {
         first = first;
         found = find.outcome;
         backs = give.backs;
         back_kinds = give.back_kinds;
         back_pages = give.back_pages;
+        back_few = give.back_few;
         word = give.word;
         answer = give.answer;
         block_is = give.block_is;
@@ -88,6 +92,9 @@ refuses_large {σ} {σ1} heap n find why refused =
       searched = find.steps;
       after = refused.steps;
       adds = adds_call find.adds refused.adds (λ v l stood met. tt);
+      kinds = find.kinds;
+      shows = find.shows;
+      few = (let k = length-append refused.steps find.steps in let a = refused.few in let e = ap (λ (x : Profile). x.pages) same in let b = find.few in omega (arith, k, a, b, e));
       outcome = record {
         found = find.outcome;
         scans = refused.scans;

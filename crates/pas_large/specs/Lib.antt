@@ -5,3 +5,4 @@ pub mod Claims
 pub mod Gives
 pub mod Finds
 pub mod Allocates
+pub mod Doors
