@@ -1,5 +1,5 @@
 -- What the calls of a cache promise.
-use Rattle.std.specs.Prelude.{ℕ, ◌+◌, ◌≤◌, ◌≡◌, Bool, true, List, [], ◌∷◌, ◌++◌, length, Result, MatchResult}
+use Rattle.std.specs.Prelude.{ℕ, ◌+◌, ◌*◌, ◌≤◌, ◌≡◌, Bool, true, List, [], ◌∷◌, ◌++◌, length, Result, MatchResult}
 use Rattle.pas_profile.specs.declared.event.FreeFault.{FreeFault}
 use Rattle.pas_profile.specs.declared.event.NoRoom.{NoRoom}
 use Rattle.pas_profile.specs.declared.name.Name.{Name}
@@ -14,14 +14,16 @@ use Rattle.pas_steps.specs.Desks.{Standing, triples, made}
 use Rattle.pas_steps.specs.declared.step.Made.{Made}
 use Rattle.pas_steps.specs.declared.step.Step.TheVariants.{Look}
 use Rattle.pas_search.specs.Searches.{search_steps}
-use Rattle.pas_steps.specs.Unknown.{HasRoom}
+use Rattle.pas_steps.specs.Unknown.{HasRoom, unknown_pages}
+use Rattle.pas_free_log.specs.declared.noting.EndedRun.{EndedRun}
+use Rattle.pas_profile.specs.declared.event.Range.{Range}
 use Rattle.pas_cache.specs.Caches.{Cached, AtRest}
 use Rattle.pas_steps.specs.Clear.{HasNothing}
 use Rattle.pas_cache.specs.Names.{IsInRegion, IsFaultOf}
 use Rattle.pas_cache.specs.Changes.{EmptiesLog, LogsName, StopsEach}
 use Rattle.pas_steps.specs.Kinds.{Only}
 use Rattle.pas_cache.specs.Kinds.{releasing, allocating}
-use Rattle.pas_cache.specs.Serves.{Wanted, turn_of, HasCached, ServesRequest, IsBlockFor, MakesFew, IsSilent, IsToldBy}
+use Rattle.pas_cache.specs.Serves.{Wanted, turn_of, HasCached, ServesRequest, IsBlockFor, pages_of, MakesFew, MakesAtMost, MakesDeedsOf, IsSilent, IsToldBy}
 
 -- an actor at rest with the one cache is at rest with the other after these steps
 abbrev pub Rests : Cached → Cached → Standing → Standing → List Made → Type 0
@@ -53,6 +55,30 @@ pub record Allocates (wanted : Wanted) (tells : Bool) (c c' : Cached) (desk desk
   pub few : MakesFew desk.seat.profile (AtRest desk.seat.profile c) 2 steps
   pub outcome : MatchResult answer (IsBlockFor desk.seat.profile wanted (AtRest desk.seat.profile c) steps) (λ room. IsSilent steps)
   pub told : tells ≡ true → (v : View) (l : Whole) → desk.stands v l → AtRest desk.seat.profile c v → IsToldBy desk.seat.profile wanted c.locals l (triples desk.seat.actor steps ++ l) answer
+
+-- ---- alloc_large
+-- the actor is at rest, and there is room for an event a page, one more, and the deeds that aren't known
+pub record MayAllocatePages (f : Profile) (c : Cached) (n spare : ℕ) (v : View) : Type 0 where
+  pub rest : AtRest f c v
+  pub room : n + 1 + unknown_pages f v ≤ spare
+
+-- The search for a run serves the request, the cache is as it was, and its actor is at rest again. The events are deeds of the directory, and where
+-- the block is given backs before it: at most one for each page of the block, one more, and the deeds that weren't known. At most 56 steps for each
+-- page of the region, 12 for each page that is asked for, and 66 more.
+pub record AllocatesPages (wanted : Wanted) (c c' : Cached) (desk desk' : Standing) (answer : Result Block NoRoom) : Type 0 where
+  pub steps : List Made
+  pub calls : Rests c c' desk desk' steps
+  pub change : ServesRequest desk.seat.profile wanted c c' steps answer
+  pub kinds : Only allocating steps
+  pub short : length steps ≤ 56 * desk.seat.profile.pages + 12 * pages_of wanted + 66
+  pub few : MakesAtMost desk.seat.profile (AtRest desk.seat.profile c) (pages_of wanted + 1) steps
+  pub outcome : MatchResult answer (IsBlockFor desk.seat.profile wanted (AtRest desk.seat.profile c) steps) (λ room. MakesDeedsOf wanted.directory steps)
+
+-- ---- settle
+-- each of the runs was handed on, in order, and the index changed by each
+abbrev pub SettlesEach : {Door : Type 0} → (Door → Door → ℕ → Range → Type 0) → List EndedRun → Door → Door → Type 0
+SettlesEach Settles [] door door' = door' ≡ door
+SettlesEach {Door} Settles (run ∷ rest) door door' = (next : Door) × Settles door next run.heap run.range × SettlesEach Settles rest next door'
 
 -- ---- free
 -- a fault changes nothing
