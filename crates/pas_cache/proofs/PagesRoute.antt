@@ -178,9 +178,12 @@ module _ (f : Profile) (heap n : ℕ) (searched after : List Made) (block : Bloc
     of_region = λ g inside. of_region (g / 256) (on_pages g inside);
     turn = record { from = λ v met agreed. (gave locals v (rests v met) agreed).turn };
     deeds = record { from = λ v met agreed g inside. (gave locals v (rests v met) agreed).deeds (g / 256) (on_pages g inside) };
-    events = λ k v. (events_by k (searched ++ v) is.backs ++ events_by k v searched, events_are k v,
-        all_both (IsPreparing d) (events_by k (searched ++ v) is.backs) (events_by k v searched) (backs_only d is.backs is.back_kinds k (searched ++ v))
-        (all_prepare d (events_by k v searched) (deeds_only d n _ searched kinds is.found.deeds k v)));
+    events = λ k v. (
+      events_by k (searched ++ v) is.backs ++ events_by k v searched,
+      events_are k v,
+      all_both (IsPreparing d) (events_by k (searched ++ v) is.backs) (events_by k v searched) (backs_only d is.backs is.back_kinds k (searched ++ v))
+          (all_prepare d (events_by k v searched) (deeds_only d n _ searched kinds is.found.deeds k v)),
+    );
   }
 
   pub given_few : OnlyDeedsShow f searched → (k : ℕ) (v : View) → Agreed f v (after ++ searched) → length (events_by k v (after ++ searched)) + unknown_pages f ((after ++ searched) ++ v) ≤ n + 1 + unknown_pages f v

@@ -27,11 +27,7 @@ fn check(profile: &Profile, name: Name) -> Result<(), FreeFault>
 }
 
 /// Flushes the log where it is full.
-fn make_room<D: Desk>(
-    desk: &mut D,
-    log: &mut FreeLog,
-    noted: &mut ArrayVec<EndedRun, MOST_LOGGED>,
-)
+fn make_room<D: Desk>(desk: &mut D, log: &mut FreeLog, noted: &mut ArrayVec<EndedRun, MOST_LOGGED>)
     requires room { 64 ≤ length (entries_in log.old) → length (entries_in log.old) ≤ D.spare_of desk.old }
     requires can { CanCall (D.standing desk.old) (λ v l. MayFlush (D.standing desk.old).seat.profile (entries_in log.old) v) }
     ensures empties { EmptiesWhere (nat_le 64 (length (entries_in log.old))) (entries_in log.old) (entries_in log.new) noted.old.items noted.new.items (D.standing desk.old) (D.standing desk.new) }

@@ -11,8 +11,8 @@ use crate::log::{Entry, FreeLog};
 use crate::noting::{EndedRun, large_run, note};
 use crate::returning::return_run;
 use arrayvec::ArrayVec;
-use pas_profile::limits::{GRAIN_BYTES, MOST_LOGGED};
 use pas_profile::Word;
+use pas_profile::limits::{GRAIN_BYTES, MOST_LOGGED};
 use pas_steps::Desk;
 
 /// Ends the block of the entry's name, and stamps its pages and puts its grains back where it ended. Answers the heap and the pages of a large block
@@ -41,11 +41,7 @@ fn end_entry<D: Desk>(desk: &mut D, entry: Entry) -> Option<EndedRun>
 /// ended are stamped, its grains are free again, and nothing is owed on its pages. The actor holds the grains and has the rights that it
 /// had before. The heap and the pages of each large block that ended are added to `ended`, in order, while fewer than 64 are there, and forgotten
 /// otherwise. A block is large where it begins on a page of large blocks, at the page's first byte, and takes whole pages. One step, and for each name at most three, and fourteen for each page of its block.
-pub fn flush<D: Desk>(
-    desk: &mut D,
-    log: &mut FreeLog,
-    ended: &mut ArrayVec<EndedRun, MOST_LOGGED>,
-)
+pub fn flush<D: Desk>(desk: &mut D, log: &mut FreeLog, ended: &mut ArrayVec<EndedRun, MOST_LOGGED>)
     requires entries { All (IsEntryOf (D.standing desk.old).seat.profile) (entries_in log.old) }
     requires room { length (entries_in log.old) ≤ D.spare_of desk.old }
     requires can { CanCall (D.standing desk.old) (λ v l. IsClear v) }

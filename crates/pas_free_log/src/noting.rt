@@ -36,7 +36,8 @@ pub fn large_run(name: Name, grains: u32, directory: Option<Directory>) -> Optio
             heap,
             kind: Kind::Large,
         },
-    ) = directory else {
+    ) = directory
+    else {
         return None;
     };
     let range = Range {

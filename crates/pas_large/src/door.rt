@@ -34,6 +34,7 @@ pub struct NoIndex;
 
 impl Door for NoIndex {
     ghost answers = { λ before after heap pages found. found ≡ None };
+
     ghost settles = { λ before after heap range. after ≡ before };
 
     fn find(&mut self, _heap: u8, _pages: u32) -> Option<u32> {

@@ -24,4 +24,3 @@ loop-first-preserved g c = let i = c.loop-first.invariant in record {
   so_far = goes_on (large_directory c.args.heap) c.args.pages c.loop-first.from c.loop-first.next i.low i.so_far c.in-Some.first c.in-Some.ensures.found (may_find c.requires.can) c.in-Some-claim_run.page c.in-Some-claim_run.ensures.claims;
   home = c.in-Some-claim_run.ensures.home ∙ c.in-Some.ensures.home ∙ i.home;
 }
-
