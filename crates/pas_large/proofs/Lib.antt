@@ -4,3 +4,4 @@ pub mod Refusals
 pub mod Gives
 pub mod Finds
 pub mod Allocates
+pub mod Told

@@ -6,3 +6,4 @@ pub mod Gives
 pub mod Finds
 pub mod Allocates
 pub mod Doors
+pub mod Telling
