@@ -22,11 +22,20 @@ use Rattle.pas_steps.specs.Desks.{Seat, Standing, Adds, CanCall, triples}
 use Rattle.pas_steps.specs.Evidence.{ReadsDeed, NoDeedHere}
 use Rattle.pas_steps.specs.declared.step.Step.{Step}
 use Rattle.pas_steps.specs.declared.step.Step.TheVariants.{Deed}
-use Rattle.pas_steps.proofs.Adding.{adds_none, adds_call, agreed_first, agreed_later}
+use Rattle.pas_steps.proofs.Adding.{Tells, adds_none, adds_call, agreed_first, agreed_later, legal_after}
 use Rattle.pas_steps.proofs.Apart.{no_events, only_both, only_within}
 use Rattle.pas_steps.proofs.Calls.{does_none, leads_none, leads_idly, leads_then, does_then, still_clear}
 use Rattle.pas_steps.proofs.Kept.{deed_stays}
 use Rattle.pas_steps.proofs.Unknown.{unknown_stays}
+use Rattle.std.specs.Prelude.{Bool}
+use Rattle.std.proofs.lemmas.List.{append-nil}
+use Rattle.pas_profile.specs.Directories.{IsKind}
+use Rattle.pas_steps.specs.Kinds.{looking}
+use Rattle.pas_steps.specs.Lists.{Whole, part, Legal}
+use Rattle.pas_steps.specs.Views.{has_right}
+use Rattle.pas_core.proofs.OneActorGrains.{lends_none}
+use Rattle.pas_large.specs.Telling.{IsUsableRun, IsLowestRun}
+use Rattle.pas_large.proofs.Told.{usable_told, has_unusable, fails_told}
 use Rattle.pas_large.specs.Finds.{MayFind, FindRoom, finding, Finds}
 use Rattle.pas_large.proofs.Pages.{shows_both, known_of}
 use Rattle.pas_large.proofs.Claims.{room_after, in_parts, got_after}
@@ -177,6 +186,10 @@ searched_none d n some = record {
   deeds = tt;
 }
 
+pub none_searched : (σ : Standing) (d : Directory) (n : ℕ) (some : 1 ≤ n) → (searched_none {σ = σ} d n some).steps ≡ []
+unfolding searched_none
+none_searched σ d n some = refl
+
 abbrev pub may_find : {σ : Standing} {f : Profile} {d : Directory} {n spare : ℕ} → CanCall σ (λ v l. FindRoom f d n spare v) → CanCall σ (λ v l. MayFind d v)
 may_find can = record { view = can.view; whole = can.whole; stood = can.stood; met = can.met.may }
 
@@ -209,9 +222,25 @@ module _ {σ σ1 : Standing} (d : Directory) (n from next : ℕ) (low : 1 ≤ fr
     same : σ1.seat.profile ≡ f
     same = ap (λ (s : Seat). s.profile) so_far.adds.seat_is
 
+    -- on a desk that tells the whole state these are the first looks
+    looks_alone : xs ≡ [] → Only looking ys
+    looks_alone none = only_within page_looks looking ys refl find.kinds
+
+    all_alone : xs ≡ [] → ys ++ xs ≡ ys
+    all_alone none = ap (λ zs. ys ++ zs) none ∙ append-nil ys
+
+    legal_alone : Tells σ2 → xs ≡ [] → (v : View) (l : Whole) → σ.stands v l → MayFind d v → Legal f (triples σ.seat.actor ys ++ l)
+    legal_alone tells none v l stood met = subst (λ zs. Legal f (triples σ.seat.actor zs ++ l)) (all_alone none) (legal_after look_adds tells v l stood met)
+
   -- the scan found none
-  pub finds_none : {σ2 : Standing} → FindsRun d from next n σ1 σ2 None → Finds d n σ σ2 None
-  finds_none find = record {
+  pub finds_none : {σ2 : Standing} (tells : Bool) → (tells ≡ true → Tells σ2) → (tells ≡ true → (from ≡ 1) × (next ≡ 1) × (xs ≡ [])) → FindsRun d from next n σ1 σ2 None → Finds d n tells σ σ2 None
+  finds_none tells laws first find = record {
+    told = λ t v l stood met.
+        let at = first t in
+        let legal = legal_alone find (laws t) at.2 v l stood met in
+        let only = looks_alone find at.2 in
+        let none = subst (λ x. HasNoRun x d from next n find.steps) (same find) find.outcome in
+        (λ start low le usable. has_unusable f σ.seat.actor l d n start find.steps legal only (none.runs start (let one = at.0 in omega (arith, one, low)) le) usable, subst (Only looking) (sym (all_alone find at.2)) only);
     steps = find.steps ++ xs;
     adds = look_adds find;
     kinds = look_kinds find;
@@ -275,6 +304,31 @@ module _ {σ σ1 : Standing} (d : Directory) (n from next : ℕ) (low : 1 ≤ fr
           (λ m before h p e is z. let at = h p e is z in (at.0, (first, (at.1, at.2), usable_still f d n from next first low find.steps xs so_far.vain find.kinds run_at before, its)))
           claim.deeds (deeds_looks d n P find.steps xs find.kinds (deeds_map d n (λ other. HasFailed d n other xs) P xs more so_far.deeds))
 
+    -- on a desk that tells the whole state all its pages are usable
+    all_usable_told : (l : Whole) → Legal f (triples σ.seat.actor find.steps ++ l) → (from ≡ 1) × (next ≡ 1) × (xs ≡ []) → IsUsableRun d n l first
+    all_usable_told l legal at p here =
+        let ge = run_at.from_there in let one = at.0 in let also = at.1 in let from_first = here.0 in
+        usable_told f σ.seat.actor l d p find.steps legal (looks_alone find at.2) (run_at.usable p here (omega (arith, ge, one, also, from_first)))
+
+    lowest_told : (l : Whole) → Legal f (triples σ.seat.actor find.steps ++ l) → (from ≡ 1) × (next ≡ 1) × (xs ≡ []) → IsLowestRun f d n l first
+    lowest_told l legal at = record {
+      of_region = (let ge = run_at.from_there in omega (arith, ge, low), run_at.of_region);
+      usable = all_usable_told l legal at;
+      lowest = λ other some lt u. has_unusable f σ.seat.actor l d n other find.steps legal (looks_alone find at.2) (run_at.lower other (let one = at.0 in omega (arith, one, some)) lt) u;
+    }
+
+    -- and its claim doesn't fail
+    pub never_fails : {σ3 : Standing} → IsKind d.kind → Tells σ2 → Tells σ3 → (page : ℕ) → (claim : ClaimsRun d first (first + n) σ2 σ3 (Some page)) → (from ≡ 1) × (next ≡ 1) × (xs ≡ []) → (can : CanCall σ (λ v l. MayFind d v)) → part σ.seat.actor can.whole ≡ can.view → ⊥
+    never_fails kind tells2 tells3 page claim at can own =
+        let adds = claim_adds claim in
+        let agreed = adds.agreed can.view can.whole can.stood can.met in
+        let fails = subst (λ x. FailsRun x d first (first + n) page claim.steps) (same2 claim) claim.outcome in
+        let legal = legal_alone find tells2 at.2 can.view can.whole can.stood can.met in
+        fails_told f σ.seat.actor can.whole d n first (claim.steps ++ ls) kind (legal_after adds tells3 can.view can.whole can.stood can.met) (lends_none finding refl (claim.steps ++ ls) (claim_kinds claim))
+        (all_usable_told can.whole legal at)
+        (λ p here. ap (λ v. has_right v p) own ∙ can.met.lacks p (knew f d p ls can.view (agreed_later f can.view claim.steps ls agreed) (usable p here)))
+        (run_has_failed f d n from next first low find.steps xs so_far.vain find.kinds run_at page claim.steps fails can.view agreed)
+
     -- its claim failed
     pub goes_on : {σ3 : Standing} → CanCall σ (λ v l. MayFind d v) → (page : ℕ) → ClaimsRun d first (first + n) σ2 σ3 (Some page) → SearchedRuns d n (page + 1) (first + n) σ σ3
     goes_on can page claim =
@@ -300,13 +354,14 @@ module _ {σ σ1 : Standing} (d : Directory) (n from next : ℕ) (low : 1 ≤ fr
         }
 
     -- it was claimed
-    pub finds_run : {σ3 : Standing} → 1 ≤ n → ClaimsRun d first (first + n) σ2 σ3 None → Finds d n σ σ3 (Some first)
-    finds_run some claim =
+    pub finds_run : {σ3 : Standing} (tells : Bool) → (tells ≡ true → Tells σ2) → (tells ≡ true → (from ≡ 1) × (next ≡ 1) × (xs ≡ [])) → 1 ≤ n → ClaimsRun d first (first + n) σ2 σ3 None → Finds d n tells σ σ3 (Some first)
+    finds_run tells laws alone some claim =
         let holds_it = subst (λ x. HoldsRun x d first (first + n) claim.steps) (same2 claim) claim.outcome in
         let span = holds_it.holding ls (first_alone f d n from next first low find.steps xs so_far.vain find.kinds run_at) in
         record {
           steps = claim.steps ++ ls;
           adds = claim_adds claim;
+          told = λ t v l stood met. lowest_told l (legal_alone find (laws t) (alone t).2 v l stood met) (alone t);
           kinds = claim_kinds claim;
           shows = claim_shows claim;
           few = (let k = length-append claim.steps ls in let j = length-append find.steps xs in let a = find.few in let b = so_far.few in let c = claim.few in let ge = run_at.from_there in let region = run_at.of_region in omega (arith, k, j, a, b, c, ge, region));

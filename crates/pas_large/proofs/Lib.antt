@@ -5,3 +5,4 @@ pub mod Gives
 pub mod Finds
 pub mod Allocates
 pub mod Told
+pub mod ToldReasons

@@ -27,7 +27,7 @@ pub fn alloc<D: Desk, O: Door>(
     requires heap { heap < (D.standing desk.old).seat.profile.heaps }
     requires pages { 1 ≤ pages }
     requires can { CanCall (D.standing desk.old) (λ v l. FindRoom (D.standing desk.old).seat.profile (large_directory heap) (pages + 1) (D.spare_of desk.old) v) }
-    ensures allocates { AllocatesLarge heap pages (D.standing desk.old) (D.standing desk.new) result }
+    ensures allocates { AllocatesLarge heap pages D.tells (D.standing desk.old) (D.standing desk.new) result }
     ensures asked { WasAsked (O.answers door.old door.new heap pages) }
     ensures home { D.home desk.new ≡ D.home desk.old }
 {
