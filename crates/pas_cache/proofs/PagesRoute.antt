@@ -21,7 +21,7 @@ use Rattle.pas_profile.proofs.Codecs.{deed_word_of-positive}
 use Rattle.pas_bitfit.proofs.Aligned.{stands_aligned}
 use Rattle.pas_steps.specs.Agreement.{Agreed}
 use Rattle.pas_steps.specs.Calls.{nothing, Does}
-use Rattle.pas_steps.specs.Desks.{Standing, CanCall}
+use Rattle.pas_steps.specs.Desks.{Standing, CanCall, triples}
 use Rattle.pas_steps.specs.Events.{event_of, with_event, events_by}
 use Rattle.pas_steps.specs.Frames.{IsScan, OnlyScans}
 use Rattle.pas_steps.specs.Kinds.{Kinds, Backing, returning, looking, kind_of, is_in, Only}
@@ -41,6 +41,7 @@ use Rattle.pas_large.specs.Evidence.{DeedsOf}
 use Rattle.pas_large.specs.Finds.{MayFind, FindRoom, finding}
 use Rattle.pas_large.specs.Gives.{run_block, give_steps}
 use Rattle.pas_large.specs.Pages.{OnlyDeedsShow}
+use Rattle.pas_large.specs.Telling.{IsToldLarge}
 use Rattle.pas_large.proofs.Claims.{in_parts}
 use Rattle.pas_large.proofs.Gives.{run_is, back_events}
 use Rattle.pas_scan.specs.Runs.{large_directory}
@@ -273,11 +274,11 @@ pages_call {σ} {c} {spare} {n} {m} heap same can = record {
   met = record { may = may_find σ.seat.profile can.view heap c.locals can.met.rest.locals; room = (let room = can.met.room in omega (arith, room, same)) };
 }
 
-pub pages_allocates : {σ σ' : Standing} (size align heap n : ℕ) (c : Cached) (answer : Result Block NoRoom) → n ≡ (size + 4096 - 1) / 4096 → 2048 < size → IsAlignment align → route_of size align ≡ Route.Large → AllocatesLarge heap n σ σ' answer → AllocatesPages (wanted_for σ.seat.profile heap size align) c c σ σ' answer
-pages_allocates {σ} {σ'} size align heap n c answer is some alignment route a =
+pub pages_allocates : {σ σ' : Standing} (size align heap n : ℕ) (tells : Bool) (c : Cached) (answer : Result Block NoRoom) → n ≡ (size + 4096 - 1) / 4096 → 2048 < size → IsAlignment align → route_of size align ≡ Route.Large → AllocatesLarge heap n tells σ σ' answer → AllocatesPages (wanted_for σ.seat.profile heap size align) tells c c σ σ' answer
+pages_allocates {σ} {σ'} size align heap n tells c answer is some alignment route a =
     let f : Profile = σ.seat.profile in
     let count : n * 4096 / 4096 ≡ n = omega arith in
-    subst (λ (w : Wanted). AllocatesPages w c c σ σ' answer) (pages_wanted f heap size align n is (omega (arith, some)) route) (record {
+    subst (λ (w : Wanted). AllocatesPages w tells c c σ σ' answer) (pages_wanted f heap size align n is (omega (arith, some)) route) (record {
       steps = a.after ++ a.searched;
       calls = record {
         adds = adds_under a.adds (λ v l stood met. may_find f v heap c.locals met.locals);
@@ -288,6 +289,7 @@ pages_allocates {σ} {σ'} size align heap n c answer is some alignment route a 
       short = (let short = a.few in omega (arith, short, count));
       few = λ k v met agreed. (let paid = few f heap n a.searched a.after answer a.outcome a.shows k v agreed in omega (arith, paid, count));
       outcome = ends f heap n a.searched a.after {Meets = AtRest f c} align c.locals alignment a.kinds (λ v met. met.locals) answer a.outcome;
+      told = λ t v l stood met. subst (λ k. IsToldLarge f (large_directory heap) k l (triples σ.seat.actor (a.after ++ a.searched) ++ l) answer) (sym count) (a.told t v l stood (may_find f v heap c.locals met.locals));
     })
 
 -- ---- the size of a request with this route

@@ -13,6 +13,7 @@ use Rattle.pas_steps.specs.Calls.{Calls}
 use Rattle.pas_steps.specs.Desks.{Standing, triples, made}
 use Rattle.pas_steps.specs.declared.step.Made.{Made}
 use Rattle.pas_steps.specs.declared.step.Step.TheVariants.{Look}
+use Rattle.pas_large.specs.Telling.{IsToldLarge}
 use Rattle.pas_search.specs.Searches.{search_steps}
 use Rattle.pas_steps.specs.Unknown.{HasRoom, unknown_pages}
 use Rattle.pas_free_log.specs.declared.noting.EndedRun.{EndedRun}
@@ -64,8 +65,9 @@ pub record MayAllocatePages (f : Profile) (c : Cached) (n spare : ℕ) (v : View
 
 -- The search for a run serves the request, the cache is as it was, and its actor is at rest again. The events are deeds of the directory, and where
 -- the block is given backs before it: at most one for each page of the block, one more, and the deeds that weren't known. At most 56 steps for each
--- page of the region, 12 for each page that is asked for, and 66 more.
-pub record AllocatesPages (wanted : Wanted) (c c' : Cached) (desk desk' : Standing) (answer : Result Block NoRoom) : Type 0 where
+-- page of the region, 12 for each page that is asked for, and 66 more. On a desk that tells the whole state the block is on the lowest run of usable
+-- pages at entry, and a refusal comes only where there is none then and none at exit, with its true reason.
+pub record AllocatesPages (wanted : Wanted) (tells : Bool) (c c' : Cached) (desk desk' : Standing) (answer : Result Block NoRoom) : Type 0 where
   pub steps : List Made
   pub calls : Rests c c' desk desk' steps
   pub change : ServesRequest desk.seat.profile wanted c c' steps answer
@@ -73,6 +75,7 @@ pub record AllocatesPages (wanted : Wanted) (c c' : Cached) (desk desk' : Standi
   pub short : length steps ≤ 56 * desk.seat.profile.pages + 12 * pages_of wanted + 66
   pub few : MakesAtMost desk.seat.profile (AtRest desk.seat.profile c) (pages_of wanted + 1) steps
   pub outcome : MatchResult answer (IsBlockFor desk.seat.profile wanted (AtRest desk.seat.profile c) steps) (λ room. MakesDeedsOf wanted.directory steps)
+  pub told : tells ≡ true → (v : View) (l : Whole) → desk.stands v l → AtRest desk.seat.profile c v → IsToldLarge desk.seat.profile wanted.directory (pages_of wanted) l (triples desk.seat.actor steps ++ l) answer
 
 -- ---- settle
 -- each of the runs was handed on, in order, and the index changed by each

@@ -34,7 +34,7 @@ impl ThreadCache {
         requires heap { heap < (D.standing desk.old).seat.profile.heaps }
         requires size { 2048 < size }
         requires can { CanCall (D.standing desk.old) (λ v l. MayAllocatePages (D.standing desk.old).seat.profile (cached self.old) ((size + 4096 - 1) / 4096) (D.spare_of desk.old) v) }
-        ensures allocates { (align : ℕ) → IsAlignment align → route_of size align ≡ TheRoute.Large → AllocatesPages (wanted_for (D.standing desk.old).seat.profile heap size align) (cached self.old) (cached self.new) (D.standing desk.old) (D.standing desk.new) result }
+        ensures allocates { (align : ℕ) → IsAlignment align → route_of size align ≡ TheRoute.Large → AllocatesPages (wanted_for (D.standing desk.old).seat.profile heap size align) D.tells (cached self.old) (cached self.new) (D.standing desk.old) (D.standing desk.new) result }
         ensures asked { WasAsked (O.answers door.old door.new heap ((size + 4096 - 1) / 4096)) }
         ensures actor { seat_of self.new ≡ seat_of self.old }
         ensures home { D.home desk.new ≡ D.home desk.old }
