@@ -1,6 +1,6 @@
 -- A large block: the run that was found is given, or the refusal has its reason.
 use Rattle.pas_steps.proofs.SpareRoom.{Spares}
-use Rattle.std.proofs.Common.{◌≡◌, ℕ, ◌+◌, ◌*◌, ◌≤◌, true, false, List, ◌++◌, length-append, Some, None, Ok, Err, refl, ap, sym, subst, arith, ◌/◌}
+use Rattle.std.proofs.Common.{◌≡◌, ℕ, ◌+◌, ◌≤◌, true, false, List, ◌++◌, length-append, Some, None, Ok, Err, refl, ap, sym, subst, arith, ◌/◌}
 use Rattle.pas_profile.specs.declared.directory.Directory.{Directory}
 use Rattle.pas_profile.specs.declared.event.NoRoom.{NoRoom}
 use Rattle.pas_profile.specs.declared.name.Block.{Block}
@@ -110,9 +110,11 @@ refuses_large {σ} {σ1} heap n tells find why laws parts refused =
           let steps = refused.steps ++ find.steps in
           let only = only_both looking refused.steps find.steps (scans_only refused.steps refused.scans) found.1 in
           let legal = legal_after adds (laws t) v l stood met in
-          let own = parts t v l stood in
-          (found.0, none_after f σ.seat.actor l (large_directory heap) n steps only found.0,
-           true_reason f σ.seat.actor l (large_directory heap) steps legal only (subst (λ x. Agreed f x steps) (sym own) (adds.agreed v l stood met)) (λ p of. once_later (DeedReadHere p) refused.steps find.steps (find.outcome.vain.deeds p of)) why reason);
+          let own = parts t v l stood in (
+            found.0,
+            none_after f σ.seat.actor l (large_directory heap) n steps only found.0,
+            true_reason f σ.seat.actor l (large_directory heap) steps legal only (subst (λ x. Agreed f x steps) (sym own) (adds.agreed v l stood met)) (λ p of. once_later (DeedReadHere p) refused.steps find.steps (find.outcome.vain.deeds p of)) why reason,
+          );
       kinds = find.kinds;
       shows = find.shows;
       few = (let k = length-append refused.steps find.steps in let a = refused.few in let e = ap (λ (x : Profile). x.pages) same in let b = find.few in omega (arith, k, a, b, e));

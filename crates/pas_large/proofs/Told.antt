@@ -1,35 +1,34 @@
 -- On a desk that tells the whole state: what the looks of a search tell of it, and that no page of a usable run is lost or broken.
-use Rattle.std.proofs.Common.{◌≡◌, ◌≢◌, ℕ, ◌+◌, ◌*◌, ◌/◌, ◌%◌, ◌<◌, ◌≤◌, ◌==◌, ◌⊎◌, Bool, true, false, ◌||◌, ◌&&◌, if◌then◌else◌, List, [], ◌∷◌, ◌++◌, inl, inr, refl, ap, sym, ◌∙◌, subst, arith, true≢false}
-use Rattle.std.proofs.lemmas.Bool.{cases_Bool, eqb-true, eq-eqb, false≢true}
+use Rattle.std.proofs.Common.{◌≡◌, ◌≢◌, ℕ, ◌+◌, ◌*◌, ◌/◌, ◌%◌, ◌<◌, ◌==◌, Bool, true, false, ◌||◌, ◌&&◌, if◌then◌else◌, List, [], ◌∷◌, ◌++◌, inl, inr, refl, ap, sym, ◌∙◌, subst, arith, true≢false}
+use Rattle.std.proofs.lemmas.Bool.{eqb-true, eq-eqb, false≢true}
 use Rattle.pas_profile.specs.Classes.{has_bit}
-use Rattle.pas_profile.specs.Directories.{deed_word_of, deed_word_numbered, number_of, IsKind}
+use Rattle.pas_profile.specs.Directories.{deed_word_of, number_of, IsKind}
 use Rattle.pas_profile.specs.Layouts.{same_word}
 use Rattle.pas_profile.specs.declared.directory.Directory.{Directory}
 use Rattle.pas_profile.specs.declared.profile.Profile.{Profile}
 use Rattle.pas_profile.specs.declared.word.Word.{Word}
-use Rattle.pas_profile.specs.declared.word.Word.TheVariants as Word
 use Rattle.pas_profile.proofs.Codecs.{deed_word_of-positive}
 use Rattle.pas_steps.specs.Effects.{target, new_value, free_word_at}
-use Rattle.pas_steps.specs.Views.{View, Way, Rests, ByDeed, FromOffer, FromParked, ToOffer, ToParked, way, epoch_of, holds, has_right, KnowsDeed}
+use Rattle.pas_steps.specs.Views.{Way, Rests, ByDeed, FromOffer, FromParked, ToOffer, ToParked, way, epoch_of, holds, has_right, KnowsDeed}
 use Rattle.pas_steps.specs.Lists.{Whole, part, word_after, Legal}
 use Rattle.pas_steps.specs.Past.{Once, Always, Since}
 use Rattle.pas_steps.specs.Kinds.{looking, kind_of, is_in, Only}
-use Rattle.pas_steps.specs.Desks.{triple, triples}
-use Rattle.pas_steps.specs.Evidence.{ReadsEligible, ReadsParked, ReadsDeed, ReadsFree, OneHere, NoDeedHere, ParkedHere}
+use Rattle.pas_steps.specs.Desks.{triples}
+use Rattle.pas_steps.specs.Evidence.{ReadsEligible, ReadsParked, ReadsDeed, ReadsFree, OneHere, NoDeedHere}
 use Rattle.pas_steps.specs.declared.step.Step.{Step}
 use Rattle.pas_steps.specs.declared.step.Made.{Made}
-use Rattle.pas_steps.specs.declared.step.Step.TheVariants.{Look, Deed, Take, TakeRight, Offer, Park, Unpark}
+use Rattle.pas_steps.specs.declared.step.Step.TheVariants.{Look, Deed, TakeRight, Offer, Park, Unpark}
 use Rattle.pas_steps.proofs.Frames.{right_own}
 use Rattle.pas_steps.proofs.Parts.{part_of_own}
 use Rattle.pas_core.specs.Rights.{eligible_bit, parked_bit, free_of_page}
-use Rattle.pas_core.proofs.DeedWords.{looked, known_is, number_told, deed_kept, deed_was_none}
+use Rattle.pas_core.proofs.DeedWords.{looked, known_is, number_told}
 use Rattle.pas_core.proofs.OneActorGrains.{LendsNone, unfit_entry, deed_none}
-use Rattle.pas_core.proofs.Spots.{Spot, Nowhere, With, Offered, InParked, is_with, is_offered, is_offered-true, spot_after, spot_of, DeedFits, IsSpotted, spotted, no_deed}
+use Rattle.pas_core.proofs.Spots.{Spot, Nowhere, With, Offered, InParked, is_with, is_offered, is_offered-true, spot_after, spot_of, DeedFits, spotted, no_deed}
 use Rattle.pas_core.proofs.Rights.{free_without_deed}
-use Rattle.pas_scan.specs.Usable.{OfHere, IsAllFree, WholeHere, ReadUsable, IsOfferedWhole, UnusableHere, ParksNotHere, IsFresh, MakesNoDeedHere}
+use Rattle.pas_scan.specs.Usable.{OfHere, WholeHere, ReadUsable, UnusableHere, ParksNotHere, IsFresh, MakesNoDeedHere}
 use Rattle.pas_scan.specs.Runs.{IsInRun, HasUnusable}
 use Rattle.pas_scan.proofs.LeftPages.{holds_none_by}
-use Rattle.pas_large.specs.Evidence.{LostRightHere, LostDeedHere, LostHere, NotAll, BrokenHere, FailsHere}
+use Rattle.pas_large.specs.Evidence.{LostRightHere, LostDeedHere, NotAll, FailsHere}
 use Rattle.pas_large.specs.Telling.{IsWholePage, IsUsablePage, IsUsableRun}
 
 -- ---- looks change no word

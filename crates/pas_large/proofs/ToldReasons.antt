@@ -1,5 +1,5 @@
 -- On a desk that tells the whole state: a refusal that only looked is true at exit.
-use Rattle.std.proofs.Common.{◌≡◌, ◌≢◌, ℕ, ◌+◌, ◌*◌, ◌/◌, ◌%◌, ◌<◌, ◌≤◌, ◌⊎◌, true, false, List, [], ◌∷◌, ◌++◌, inl, inr, refl, ap, sym, ◌∙◌, subst, arith, true≢false}
+use Rattle.std.proofs.Common.{◌≡◌, ℕ, ◌+◌, ◌*◌, ◌/◌, ◌%◌, true, false, List, [], ◌∷◌, ◌++◌, inl, inr, refl, ap, sym, ◌∙◌, arith, true≢false}
 use Rattle.pas_profile.specs.Classes.{has_bit}
 use Rattle.pas_profile.specs.Directories.{deed_word_of, number_of}
 use Rattle.pas_profile.specs.Profiles.{IsPage}
@@ -11,14 +11,13 @@ use Rattle.pas_profile.specs.declared.word.Word.TheVariants as Word
 use Rattle.pas_profile.proofs.Codecs.{deed_word_of-positive}
 use Rattle.pas_steps.specs.Agreement.{Agreed}
 use Rattle.pas_steps.specs.Effects.{free_word_at}
-use Rattle.pas_steps.specs.Views.{has_right, known_deed, KnowsDeed}
+use Rattle.pas_steps.specs.Views.{known_deed, KnowsDeed}
 use Rattle.pas_steps.specs.Lists.{Whole, part, word_after, Legal}
 use Rattle.pas_steps.specs.Past.{Once, Since}
 use Rattle.pas_steps.specs.Kinds.{looking, Only}
 use Rattle.pas_steps.specs.Desks.{triples}
-use Rattle.pas_steps.specs.Evidence.{ZeroHere, OneHere, NoDeedHere, ParkedHere, LeftHere, ParkedLater, MissingHere, LacksAfter, HeldHere, Accounted}
+use Rattle.pas_steps.specs.Evidence.{OneHere, LeftHere, ParkedLater, MissingHere, LacksAfter, HeldHere}
 use Rattle.pas_steps.specs.declared.step.Made.{Made}
-use Rattle.pas_steps.proofs.Past.{once_map}
 use Rattle.pas_steps.proofs.Parts.{part_of_own}
 use Rattle.pas_core.specs.Rights.{eligible_bit, parked_bit}
 use Rattle.pas_core.proofs.DeedWords.{known_is}
@@ -26,10 +25,10 @@ use Rattle.pas_core.proofs.Spots.{spotted}
 use Rattle.pas_scan.specs.Usable.{DeedReadHere, OfHere}
 use Rattle.pas_scan.proofs.LeftPages.{lacks_by}
 use Rattle.pas_search.specs.Telling.{IsInHands, IsTrueReason}
-use Rattle.pas_large.specs.Refusals.{NotReadHere, LastOffered, IsAccounted, AllAccounted, IsHeldLarge, IsReason}
+use Rattle.pas_large.specs.Refusals.{NotReadHere, IsAccounted, IsHeldLarge, IsReason}
 use Rattle.pas_large.specs.Telling.{IsUsablePage, HasNoUsableRun}
 use Rattle.pas_large.proofs.Pages.{known_of}
-use Rattle.pas_large.proofs.Told.{looks_same, once_of, deed_told, eligible_told, parked_bit_told, none_told}
+use Rattle.pas_large.proofs.Told.{looks_same, once_of, deed_told, eligible_told, parked_bit_told}
 
 since_once : (P Q : Made → List Made → Type 0) (xs : List Made) → Since P Q xs → Once P xs
 since_once P Q [] h = h

@@ -1,5 +1,4 @@
-use Rattle.std.proofs.Common.{◌≡◌, refl, ap, ◌∙◌, arith}
-use Rattle.pas_profile.specs.declared.profile.Profile.{Profile}
+use Rattle.std.proofs.Common.{refl, ◌∙◌, arith}
 use Rattle.pas_scan.specs.Runs.{large_directory}
 use Rattle.pas_large.proofs.Finds.{searched_none, none_searched, finds_none, can_claim_run, goes_on, never_fails, finds_run, may_find}
 use Rattle.pas_large.proofs.finding.find_run.Goals as goal
