@@ -56,4 +56,4 @@ budget_left {σ} {σ'} {c} {c'} {spare = spare} {spare' = spare'} n h can law la
 pub log_kept : (f : Profile) (wanted : Wanted) (c c' : Cached) (steps : List Made) (answer : Result Block NoRoom) (route : Route) → ServesBy route f wanted c c' steps answer → c'.log ≡ c.log
 log_kept f wanted c c' steps answer (Route.Class class) h = ap (λ x. x.log) h.cache
 log_kept f wanted c c' steps answer Route.Bitfit h = ap (λ x. x.log) h.cache
-log_kept f wanted c c' steps answer Route.Large h = absurd h
+log_kept f wanted c c' steps answer Route.Large h = ap (λ x. x.log) h.cache

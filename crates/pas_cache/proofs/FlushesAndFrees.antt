@@ -15,6 +15,7 @@ use Rattle.pas_steps.proofs.Adding.{adds_none, adds_step, adds_under}
 use Rattle.pas_steps.specs.Clear.{IsClear, HasNothing}
 use Rattle.pas_free_log.specs.Conditions.{IsEntryOf}
 use Rattle.pas_free_log.specs.declared.log.Entry.{Entry}
+use Rattle.pas_free_log.specs.declared.noting.EndedRun.{EndedRun}
 use Rattle.pas_free_log.specs.Logs.{entry_of}
 use Rattle.pas_free_log.specs.Flushes.{Flushes}
 use Rattle.pas_cache.specs.Locals.{IsLocal, RestsWith}
@@ -75,18 +76,18 @@ begins {σ} c epoch look = record {
 }
 
 -- ---- flush
-pub empties : {σ σ' : Standing} (logged : List Entry) (flush : Flushes logged σ σ') → EmptiesLog σ.seat.actor logged flush.steps
-empties logged flush = record { epoch = flush.epoch; settled = flush.settled; entries_are = flush.entries_are; entries = flush.entries; order = flush.order; steps_are = flush.steps_are; events = flush.events; stamps = flush.stamps; few = flush.few }
+pub empties : {σ σ' : Standing} (logged : List Entry) (noted noted' : List EndedRun) (flush : Flushes logged noted noted' σ σ') → EmptiesLog σ.seat.actor logged noted noted' flush.steps
+empties logged noted noted' flush = record { epoch = flush.epoch; settled = flush.settled; entries_are = flush.entries_are; noted_are = flush.noted; entries = flush.entries; order = flush.order; steps_are = flush.steps_are; events = flush.events; stamps = flush.stamps; few = flush.few }
 
-pub flushes_log : {σ σ' : Standing} (c c' : Cached) → c' ≡ record c { log = [] } → Flushes c.log σ σ' → FlushesLog c c' σ σ'
-flushes_log {σ} {σ'} c c' is flush =
+pub flushes_log : {σ σ' : Standing} (c c' : Cached) (noted : List EndedRun) → c' ≡ record c { log = []; noted = noted } → Flushes c.log c.noted noted σ σ' → FlushesLog c c' σ σ'
+flushes_log {σ} {σ'} c c' noted is flush =
     subst (λ x. FlushesLog c x σ σ') (sym is) (record {
       steps = flush.steps;
       calls = record {
         adds = adds_under flush.calls.adds (λ v l stood met. met.locals.clear);
-        leads = rests_idle σ.seat.profile c (record c { log = [] }) flush.steps refl flush.calls.leads (λ v h. (All-nil (IsEntryOf σ.seat.profile), omega arith));
+        leads = rests_idle σ.seat.profile c (record c { log = []; noted = noted }) flush.steps refl flush.calls.leads (λ v h. (All-nil (IsEntryOf σ.seat.profile), omega arith));
       };
-      empties = empties c.log flush;
+      empties = empties c.log c.noted noted flush;
       cache = refl;
     })
 
@@ -98,7 +99,7 @@ clear_call can = record { view = can.view; whole = can.whole; stood = can.stood;
 pub flushed_call : {σ σ1 : Standing} (c c' : Cached) → FlushesLog c c' σ σ1 → CanCall σ (λ v l. AtRest σ.seat.profile c v) → CanCall σ1 (λ v l. RestsWith σ1.seat.profile c'.locals v)
 flushed_call {σ} {σ1} c c' flush can = next_call flush.calls can (λ v h here. subst (λ (s : Seat). RestsWith s.profile c'.locals (flush.steps ++ v)) (sym flush.calls.adds.seat_is) here.locals)
 
-pub stops_cache : {σ σ1 σ2 : Standing} (c c1 c' : Cached) → (flush : FlushesLog c c1 σ σ1) → (stops : Releases (StopsEach c1.locals) c1.locals [] σ1 σ2) → c1 ≡ record c { log = [] } → c' ≡ record c { locals = []; log = [] } → StopsCache c c' σ σ2
+pub stops_cache : {σ σ1 σ2 : Standing} (c c1 c' : Cached) → (flush : FlushesLog c c1 σ σ1) → (stops : Releases (StopsEach c1.locals) c1.locals [] σ1 σ2) → c1 ≡ record c { log = []; noted = c1.noted } → c' ≡ record c { locals = []; log = []; noted = c1.noted } → StopsCache c c' σ σ2
 stops_cache {σ} {σ1} {σ2} c c1 c' flush stops mid is =
     let f : Profile = σ.seat.profile in
     let stop : Calls σ1 σ2 (RestsWith f c1.locals) (λ v w. RestsWith f [] w) stops.steps = subst (λ (s : Seat). Calls σ1 σ2 (RestsWith s.profile c1.locals) (λ v w. RestsWith s.profile [] w) stops.steps) flush.calls.adds.seat_is stops.calls in
@@ -109,26 +110,27 @@ stops_cache {σ} {σ1} {σ2} c c1 c' flush stops mid is =
           (λ v h here there.
           let nothing_left : HasNothing (stops.steps ++ (flush.steps ++ v)) = record { grains = there.grains; rights = there.rights; clear = there.clear } in
           (rests_empty f c' (stops.steps ++ (flush.steps ++ v)) (ap (λ x. x.locals) is) (ap (λ x. x.log) is) nothing_left, nothing_left));
-      empties = flush.empties;
+      empties = subst (λ xs. EmptiesLog σ.seat.actor c.log c.noted xs flush.steps) (sym (ap (λ x. x.noted) is)) flush.empties;
       stops = subst (λ xs. StopsEach xs stops.steps) (ap (λ x. x.locals) mid) stops.change;
       kinds = stops.kinds;
       silent = λ k v. no_events releasing refl k v stops.steps stops.kinds;
-      cache = is;
+      cache = is ∙ ap (λ xs. record c { locals = []; log = []; noted = xs }) (sym (ap (λ x. x.noted) is));
     }
 
 -- ---- names
-pub empties_where : {σ σ' : Standing} (log log' : List Entry) → 64 ≤ length log → log' ≡ [] → Flushes log σ σ' → EmptiesWhere (nat_le 64 (length log)) log log' σ σ'
-empties_where {σ} {σ'} log log' full none flush = record {
+pub empties_where : {σ σ' : Standing} (log log' : List Entry) (noted noted' : List EndedRun) → 64 ≤ length log → log' ≡ [] → Flushes log noted noted' σ σ' → EmptiesWhere (nat_le 64 (length log)) log log' noted noted' σ σ'
+empties_where {σ} {σ'} log log' noted noted' full none flush = record {
   steps = flush.steps;
   calls = flush.calls;
-  empties = subst (λ t. EmptiesFull t σ.seat.actor log log' flush.steps) (sym (le-leb 64 (length log) full)) (empties log flush, none);
+  empties = subst (λ t. EmptiesFull t σ.seat.actor log log' noted noted' flush.steps) (sym (le-leb 64 (length log) full)) (empties log noted noted' flush, none);
+  ranges = flush.ranges;
 }
 
-pub empties_nothing : {σ : Standing} (log : List Entry) → length log < 64 → EmptiesWhere (nat_le 64 (length log)) log log σ σ
-empties_nothing {σ} log few = record { steps = []; calls = call_none (λ v clear. does_none v); empties = subst (λ t. EmptiesFull t σ.seat.actor log log []) (sym (lt-leb 64 (length log) few)) (refl, refl) }
+pub empties_nothing : {σ : Standing} (log : List Entry) (noted : List EndedRun) → length log < 64 → EmptiesWhere (nat_le 64 (length log)) log log noted noted σ σ
+empties_nothing {σ} log noted few = record { steps = []; calls = call_none (λ v clear. does_none v); empties = subst (λ t. EmptiesFull t σ.seat.actor log log noted noted []) (sym (lt-leb 64 (length log) few)) (refl, refl, refl); ranges = λ are. are }
 
-pub logs_into : {σ σ' : Standing} (log kept log' : List Entry) (name : Name) → EmptiesWhere (nat_le 64 (length log)) log kept σ σ' → log' ≡ kept ++ entry_of name ∷ [] → LogsInto log log' name σ σ'
-logs_into log kept log' name emptied is = record { steps = emptied.steps; calls = emptied.calls; logs = record { kept = kept; emptied = emptied.empties; log_is = is } }
+pub logs_into : {σ σ' : Standing} (log kept log' : List Entry) (noted noted' : List EndedRun) (name : Name) → EmptiesWhere (nat_le 64 (length log)) log kept noted noted' σ σ' → log' ≡ kept ++ entry_of name ∷ [] → LogsInto log log' noted noted' name σ σ'
+logs_into log kept log' noted noted' name emptied is = record { steps = emptied.steps; calls = emptied.calls; logs = record { kept = kept; emptied = emptied.empties; log_is = is }; ranges = emptied.ranges }
 
 -- the names of a log after one more
 not_full : (n : ℕ) → false ≡ nat_le 64 n → n < 64
@@ -137,24 +139,24 @@ not_full n h = elim (cases_lt n 64) [
   | inr ge ↦ absurd (true≢false (sym (le-leb 64 n ge) ∙ sym h))
 ]
 
-kept_names : (f : Profile) (full : Bool) (k : ℕ) (log kept : List Entry) (steps : List Made) → full ≡ nat_le 64 (length log) → EmptiesFull full k log kept steps → All (IsEntryOf f) log → All (IsEntryOf f) kept × (length kept < 64)
-kept_names f true k log kept steps full h names = (All-same (IsEntryOf f) kept [] h.1 (All-nil (IsEntryOf f)), subst (λ xs. length xs < 64) (sym h.1) (omega arith))
-kept_names f false k log kept steps full h names = (All-same (IsEntryOf f) kept log h.1 names, subst (λ xs. length xs < 64) (sym h.1) (not_full (length log) full))
+kept_names : (f : Profile) (full : Bool) (k : ℕ) (log kept : List Entry) (noted noted' : List EndedRun) (steps : List Made) → full ≡ nat_le 64 (length log) → EmptiesFull full k log kept noted noted' steps → All (IsEntryOf f) log → All (IsEntryOf f) kept × (length kept < 64)
+kept_names f true k log kept noted noted' steps full h names = (All-same (IsEntryOf f) kept [] h.1 (All-nil (IsEntryOf f)), subst (λ xs. length xs < 64) (sym h.1) (omega arith))
+kept_names f false k log kept noted noted' steps full h names = (All-same (IsEntryOf f) kept log h.1 names, subst (λ xs. length xs < 64) (sym h.1) (not_full (length log) full))
 
-logged_names : (f : Profile) (k : ℕ) (log log' : List Entry) (name : Name) (steps : List Made) → LogsName k log log' name steps → IsEntryOf f (entry_of name) → All (IsEntryOf f) log → All (IsEntryOf f) log' × (length log' ≤ 64)
-logged_names f k log log' name steps logs is names =
-    let kept = kept_names f (nat_le 64 (length log)) k log logs.kept steps refl logs.emptied names in
+logged_names : (f : Profile) (k : ℕ) (log log' : List Entry) (noted noted' : List EndedRun) (name : Name) (steps : List Made) → LogsName k log log' noted noted' name steps → IsEntryOf f (entry_of name) → All (IsEntryOf f) log → All (IsEntryOf f) log' × (length log' ≤ 64)
+logged_names f k log log' noted noted' name steps logs is names =
+    let kept = kept_names f (nat_le 64 (length log)) k log logs.kept noted noted' steps refl logs.emptied names in
     let n : length log' ≡ length logs.kept + 1 = ap length logs.log_is ∙ length-append logs.kept (entry_of name ∷ []) in
     let few = kept.1 in
     (All-same (IsEntryOf f) log' (logs.kept ++ entry_of name ∷ []) logs.log_is (All-push (IsEntryOf f) logs.kept (entry_of name) kept.0 is), omega (arith, n, few))
 
-pub frees : {σ σ' : Standing} (c c' : Cached) (name : Name) → name.turn < 2 ^ 40 - 1 → IsInRegion σ.seat.profile name → LogsInto c.log c'.log name σ σ' → c' ≡ record c { log = c'.log } → Frees name c c' σ σ' (Ok tt)
+pub frees : {σ σ' : Standing} (c c' : Cached) (name : Name) → name.turn < 2 ^ 40 - 1 → IsInRegion σ.seat.profile name → LogsInto c.log c'.log c.noted c'.noted name σ σ' → c' ≡ record c { log = c'.log; noted = c'.noted } → Frees name c c' σ σ' (Ok tt)
 frees {σ} c c' name turn region logs is = record {
   steps = logs.steps;
   calls = record {
     adds = adds_under logs.calls.adds (λ v l stood met. met.locals.clear);
     leads = rests_idle σ.seat.profile c c' logs.steps (ap (λ x. x.locals) is) logs.calls.leads
-        (λ v h. logged_names σ.seat.profile σ.seat.actor c.log c'.log name logs.steps logs.logs (record { name = record { page = region.page; aligned = region.aligned; turn = turn } }) h.entries);
+        (λ v h. logged_names σ.seat.profile σ.seat.actor c.log c'.log c.noted c'.noted name logs.steps logs.logs (record { name = record { page = region.page; aligned = region.aligned; turn = turn } }) h.entries);
   };
   outcome = record { region = region; logs = logs.logs; cache = is };
 }

@@ -11,3 +11,5 @@ pub mod GivingSlots
 pub mod Served
 pub mod Budget
 pub mod BitfitRoute
+pub mod PagesRoute
+pub mod Settled

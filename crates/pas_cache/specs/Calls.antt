@@ -1,5 +1,5 @@
 -- What the calls of a cache promise.
-use Rattle.std.specs.Prelude.{ℕ, ◌+◌, ◌≤◌, ◌≡◌, Bool, true, List, [], ◌∷◌, ◌++◌, length, Result, MatchResult}
+use Rattle.std.specs.Prelude.{ℕ, ◌+◌, ◌*◌, ◌≤◌, ◌≡◌, Bool, true, List, [], ◌∷◌, ◌++◌, length, Result, MatchResult}
 use Rattle.pas_profile.specs.declared.event.FreeFault.{FreeFault}
 use Rattle.pas_profile.specs.declared.event.NoRoom.{NoRoom}
 use Rattle.pas_profile.specs.declared.name.Name.{Name}
@@ -13,15 +13,18 @@ use Rattle.pas_steps.specs.Calls.{Calls}
 use Rattle.pas_steps.specs.Desks.{Standing, triples, made}
 use Rattle.pas_steps.specs.declared.step.Made.{Made}
 use Rattle.pas_steps.specs.declared.step.Step.TheVariants.{Look}
+use Rattle.pas_large.specs.Telling.{IsToldLarge}
 use Rattle.pas_search.specs.Searches.{search_steps}
-use Rattle.pas_steps.specs.Unknown.{HasRoom}
+use Rattle.pas_steps.specs.Unknown.{HasRoom, unknown_pages}
+use Rattle.pas_free_log.specs.declared.noting.EndedRun.{EndedRun}
+use Rattle.pas_profile.specs.declared.event.Range.{Range}
 use Rattle.pas_cache.specs.Caches.{Cached, AtRest}
 use Rattle.pas_steps.specs.Clear.{HasNothing}
 use Rattle.pas_cache.specs.Names.{IsInRegion, IsFaultOf}
 use Rattle.pas_cache.specs.Changes.{EmptiesLog, LogsName, StopsEach}
 use Rattle.pas_steps.specs.Kinds.{Only}
 use Rattle.pas_cache.specs.Kinds.{releasing, allocating}
-use Rattle.pas_cache.specs.Serves.{Wanted, turn_of, HasCached, ServesRequest, IsBlockFor, MakesFew, IsSilent, IsToldBy}
+use Rattle.pas_cache.specs.Serves.{Wanted, turn_of, HasCached, ServesRequest, IsBlockFor, pages_of, MakesFew, MakesAtMost, MakesDeedsOf, IsSilent, IsToldBy}
 
 -- an actor at rest with the one cache is at rest with the other after these steps
 abbrev pub Rests : Cached → Cached → Standing → Standing → List Made → Type 0
@@ -54,6 +57,32 @@ pub record Allocates (wanted : Wanted) (tells : Bool) (c c' : Cached) (desk desk
   pub outcome : MatchResult answer (IsBlockFor desk.seat.profile wanted (AtRest desk.seat.profile c) steps) (λ room. IsSilent steps)
   pub told : tells ≡ true → (v : View) (l : Whole) → desk.stands v l → AtRest desk.seat.profile c v → IsToldBy desk.seat.profile wanted c.locals l (triples desk.seat.actor steps ++ l) answer
 
+-- ---- alloc_large
+-- the actor is at rest, and there is room for an event a page, one more, and the deeds that aren't known
+pub record MayAllocatePages (f : Profile) (c : Cached) (n spare : ℕ) (v : View) : Type 0 where
+  pub rest : AtRest f c v
+  pub room : n + 1 + unknown_pages f v ≤ spare
+
+-- The search for a run serves the request, the cache is as it was, and its actor is at rest again. The events are deeds of the directory, and where
+-- the block is given backs before it: at most one for each page of the block, one more, and the deeds that weren't known. At most 56 steps for each
+-- page of the region, 12 for each page that is asked for, and 66 more. On a desk that tells the whole state the block is on the lowest run of usable
+-- pages at entry, and a refusal comes only where there is none then and none at exit, with its true reason.
+pub record AllocatesPages (wanted : Wanted) (tells : Bool) (c c' : Cached) (desk desk' : Standing) (answer : Result Block NoRoom) : Type 0 where
+  pub steps : List Made
+  pub calls : Rests c c' desk desk' steps
+  pub change : ServesRequest desk.seat.profile wanted c c' steps answer
+  pub kinds : Only allocating steps
+  pub short : length steps ≤ 56 * desk.seat.profile.pages + 12 * pages_of wanted + 66
+  pub few : MakesAtMost desk.seat.profile (AtRest desk.seat.profile c) (pages_of wanted + 1) steps
+  pub outcome : MatchResult answer (IsBlockFor desk.seat.profile wanted (AtRest desk.seat.profile c) steps) (λ room. MakesDeedsOf wanted.directory steps)
+  pub told : tells ≡ true → (v : View) (l : Whole) → desk.stands v l → AtRest desk.seat.profile c v → IsToldLarge desk.seat.profile wanted.directory (pages_of wanted) l (triples desk.seat.actor steps ++ l) answer
+
+-- ---- settle
+-- each of the runs was handed on, in order, and the index changed by each
+abbrev pub SettlesEach : {Door : Type 0} → (Door → Door → ℕ → Range → Type 0) → List EndedRun → Door → Door → Type 0
+SettlesEach Settles [] door door' = door' ≡ door
+SettlesEach {Door} Settles (run ∷ rest) door door' = (next : Door) × Settles door next run.heap run.range × SettlesEach Settles rest next door'
+
 -- ---- free
 -- a fault changes nothing
 pub record RefusesName (f : Profile) (c c' : Cached) (name : Name) (steps : List Made) (fault : FreeFault) : Type 0 where
@@ -64,8 +93,8 @@ pub record RefusesName (f : Profile) (c c' : Cached) (name : Name) (steps : List
 -- otherwise the name is logged, after a full log was emptied
 pub record TakesName (f : Profile) (actor : ℕ) (c c' : Cached) (name : Name) (steps : List Made) : Type 0 where
   pub region : IsInRegion f name
-  pub logs : LogsName actor c.log c'.log name steps
-  pub cache : c' ≡ record c { log = c'.log }
+  pub logs : LogsName actor c.log c'.log c.noted c'.noted name steps
+  pub cache : c' ≡ record c { log = c'.log; noted = c'.noted }
 
 pub record Frees (name : Name) (c c' : Cached) (desk desk' : Standing) (answer : Result (Unit {0}) FreeFault) : Type 0 where
   pub steps : List Made
@@ -76,8 +105,8 @@ pub record Frees (name : Name) (c c' : Cached) (desk desk' : Standing) (answer :
 pub record FlushesLog (c c' : Cached) (desk desk' : Standing) : Type 0 where
   pub steps : List Made
   pub calls : Rests c c' desk desk' steps
-  pub empties : EmptiesLog desk.seat.actor c.log steps
-  pub cache : c' ≡ record c { log = [] }
+  pub empties : EmptiesLog desk.seat.actor c.log c.noted c'.noted steps
+  pub cache : c' ≡ record c { log = []; noted = c'.noted }
 
 -- The log is emptied, and then each local allocator is stopped. The cache is empty then, so the actor holds and has nothing. The stops make no
 -- event and stamp no page.
@@ -85,8 +114,8 @@ pub record StopsCache (c c' : Cached) (desk desk' : Standing) : Type 0 where
   pub flushed : List Made
   pub stopped : List Made
   pub calls : Calls desk desk' (AtRest desk.seat.profile c) (λ v w. AtRest desk.seat.profile c' w × HasNothing w) (stopped ++ flushed)
-  pub empties : EmptiesLog desk.seat.actor c.log flushed
+  pub empties : EmptiesLog desk.seat.actor c.log c.noted c'.noted flushed
   pub stops : StopsEach c.locals stopped
   pub kinds : Only releasing stopped
   pub silent : (k : ℕ) (v : View) → events_by k v stopped ≡ []
-  pub cache : c' ≡ record c { locals = []; log = [] }
+  pub cache : c' ≡ record c { locals = []; log = []; noted = c'.noted }

@@ -16,7 +16,8 @@ use Rattle.pas_steps.specs.declared.step.Step.TheVariants.{Look, Give}
 use Rattle.pas_free_log.specs.declared.log.Entry.{Entry}
 use Rattle.pas_free_log.specs.Logs.{entry_of}
 use Rattle.pas_free_log.specs.Stamps.{stamps_by}
-use Rattle.pas_free_log.specs.Flushes.{Settled, EntriesSteps, shown_for, stamps_for}
+use Rattle.pas_free_log.specs.Flushes.{Settled, EntriesSteps, shown_for, stamps_for, noted_after}
+use Rattle.pas_free_log.specs.declared.noting.EndedRun.{EndedRun}
 use Rattle.pas_segregated.specs.Stops.{home_of, LeavesWhere, StopStepsAt}
 use Rattle.pas_segregated.specs.declared.slots.Slots.{Slots}
 use Rattle.pas_cache.specs.Locals.{local_for, others_than}
@@ -85,11 +86,13 @@ pub record StopsEach (locals : List Slots) (steps : List Made) : Type 0 where
 -- ---- the log is emptied
 -- A look at the epoch, and then the steps for each of these entries in order. Each makes one event, with exactly its name and the epoch that was
 -- read; each page of each block that ended is stamped once with it, and no other page. `settled` has what came of each, the newest first.
+-- The runs of the large blocks that ended are noted in order behind the others, as far as 64 have room.
 -- There are at most three steps for each entry, and fourteen for each page that is stamped.
-pub record EmptiesLog (actor : ℕ) (logged : List Entry) (steps : List Made) : Type 0 where
+pub record EmptiesLog (actor : ℕ) (logged : List Entry) (noted noted' : List EndedRun) (steps : List Made) : Type 0 where
   pub epoch : ℕ
   pub settled : List Settled
   pub entries_are : reverse (map (λ s. s.entry) settled) ≡ logged
+  pub noted_are : noted' ≡ noted_after noted settled
   pub entries : List Made
   pub order : EntriesSteps settled entries
   pub steps_are : steps ≡ entries ++ (made (Look Word.Epoch) epoch ∷ [])
@@ -98,12 +101,12 @@ pub record EmptiesLog (actor : ℕ) (logged : List Entry) (steps : List Made) : 
   pub few : length steps ≤ 1 + 3 * length logged + 14 * length (flat_map (stamps_for epoch) settled)
 
 -- before a name is added: a full log is emptied, and another isn't touched
-abbrev pub EmptiesFull : Bool → ℕ → List Entry → List Entry → List Made → Type 0
-EmptiesFull true actor log log' steps = EmptiesLog actor log steps × (log' ≡ [])
-EmptiesFull false actor log log' steps = (steps ≡ []) × (log' ≡ log)
+abbrev pub EmptiesFull : Bool → ℕ → List Entry → List Entry → List EndedRun → List EndedRun → List Made → Type 0
+EmptiesFull true actor log log' noted noted' steps = EmptiesLog actor log noted noted' steps × (log' ≡ [])
+EmptiesFull false actor log log' noted noted' steps = (steps ≡ []) × (log' ≡ log) × (noted' ≡ noted)
 
 -- an entry of the name is logged at the end, after a full log was emptied
-pub record LogsName (actor : ℕ) (log log' : List Entry) (name : Name) (steps : List Made) : Type 0 where
+pub record LogsName (actor : ℕ) (log log' : List Entry) (noted noted' : List EndedRun) (name : Name) (steps : List Made) : Type 0 where
   pub kept : List Entry
-  pub emptied : EmptiesFull (nat_le 64 (length log)) actor log kept steps
+  pub emptied : EmptiesFull (nat_le 64 (length log)) actor log kept noted noted' steps
   pub log_is : log' ≡ kept ++ entry_of name ∷ []

@@ -12,6 +12,8 @@ use Rattle.pas_steps.specs.Desks.{Standing}
 use Rattle.pas_steps.specs.declared.step.Made.{Made}
 use Rattle.pas_steps.specs.Clear.{IsClear}
 use Rattle.pas_free_log.specs.declared.log.Entry.{Entry}
+use Rattle.pas_free_log.specs.declared.noting.EndedRun.{EndedRun}
+use Rattle.pas_free_log.specs.Noted.{AreRanges}
 use Rattle.pas_free_log.specs.Conditions.{IsEntryOf}
 use Rattle.pas_cache.specs.Changes.{EmptiesFull, LogsName}
 
@@ -31,12 +33,14 @@ pub record MayFlush (f : Profile) (logged : List Entry) (v : View) : Type 0 wher
   pub each : All (IsEntryOf f) logged
 
 -- the log is emptied where it is full
-pub record EmptiesWhere (full : Bool) (log log' : List Entry) (desk desk' : Standing) : Type 0 where
+pub record EmptiesWhere (full : Bool) (log log' : List Entry) (noted noted' : List EndedRun) (desk desk' : Standing) : Type 0 where
   pub steps : List Made
   pub calls : Calls desk desk' IsClear (Does nothing) steps
-  pub empties : EmptiesFull full desk.seat.actor log log' steps
+  pub empties : EmptiesFull full desk.seat.actor log log' noted noted' steps
+  pub ranges : AreRanges noted → AreRanges noted'
 
-pub record LogsInto (log log' : List Entry) (name : Name) (desk desk' : Standing) : Type 0 where
+pub record LogsInto (log log' : List Entry) (noted noted' : List EndedRun) (name : Name) (desk desk' : Standing) : Type 0 where
   pub steps : List Made
   pub calls : Calls desk desk' IsClear (Does nothing) steps
-  pub logs : LogsName desk.seat.actor log log' name steps
+  pub logs : LogsName desk.seat.actor log log' noted noted' name steps
+  pub ranges : AreRanges noted → AreRanges noted'

@@ -31,6 +31,7 @@ use Rattle.pas_segregated.specs.Takes.{NoSlot, TookSlots}
 use Rattle.pas_choice.specs.Choices.{TookChosen}
 use Rattle.pas_partial.specs.Rows.{rows}
 use Rattle.pas_segregated.specs.Refills.{Filling, GivesSlots}
+use Rattle.pas_large.specs.Allocates.{IsAllocatedLarge, IsRefusedLarge}
 use Rattle.pas_bitfit.specs.Allocates.{run_for, IsAllocated}
 use Rattle.pas_bitfit.specs.Runs.{NoneFits}
 use Rattle.pas_bits.specs.declared.mask.Mask4.{Mask4}
@@ -70,6 +71,20 @@ pub record ServesBitfit (f : Profile) (wanted : Wanted) (c c' : Cached) (steps :
   pub searches : AreSearch searched
   pub after : List Made
   pub outcome : MatchResult answer (IsAllocated f wanted.directory wanted.room wanted.align searched after) (λ room. IsRefused (NoneFits (run_for wanted.room wanted.align)) f wanted.directory searched room × (after ≡ []))
+  pub steps_are : steps ≡ after ++ searched
+
+-- ---- a request for whole pages
+-- how many pages it takes
+abbrev pub pages_of : Wanted → ℕ
+pages_of wanted = wanted.room / 4096
+
+-- The pages of the region were searched for a run that could be claimed, and the block was given and its pages left, or the search was refused.
+-- Nothing of the cache is changed.
+pub record ServesPages (f : Profile) (wanted : Wanted) (c c' : Cached) (steps : List Made) (answer : Result Block NoRoom) : Type 0 where
+  pub cache : c' ≡ c
+  pub searched : List Made
+  pub after : List Made
+  pub outcome : MatchResult answer (IsAllocatedLarge f wanted.directory (pages_of wanted) searched after) (IsRefusedLarge f wanted.directory (pages_of wanted) searched after)
   pub steps_are : steps ≡ after ++ searched
 
 -- ---- slots are obtained
@@ -169,7 +184,7 @@ pub record ServesClass (fill : Filling) (f : Profile) (c c' : Cached) (steps : L
 abbrev pub ServesBy : Route → Profile → Wanted → Cached → Cached → List Made → Result Block NoRoom → Type 0
 ServesBy (Route.Class class) f wanted c c' steps answer = ServesClass (filling_in wanted.directory class) f c c' steps answer
 ServesBy Route.Bitfit f wanted c c' steps answer = ServesBitfit f wanted c c' steps answer
-ServesBy Route.Large f wanted c c' steps answer = ⊥
+ServesBy Route.Large f wanted c c' steps answer = ServesPages f wanted c c' steps answer
 
 -- HOW A REQUEST IS SERVED, by its route
 abbrev pub ServesRequest : Profile → Wanted → Cached → Cached → List Made → Result Block NoRoom → Type 0
@@ -215,6 +230,19 @@ pub record IsFew (f : Profile) (n k : ℕ) (steps : List Made) (v : View) : Type
 
 abbrev pub MakesFew : Profile → (View → Type 0) → ℕ → List Made → Type 0
 MakesFew f Meets n steps = (k : ℕ) (v : View) → Meets v → Agreed f v steps → IsFew f n k steps v
+
+-- a deed of this directory
+pub data IsDeedOf (d : Directory) : Event → Type 0 where
+  Deeds : (k page : ℕ) → IsDeedOf d (Event.Deed k page d)
+
+-- no event was made but deeds of this directory
+abbrev pub MakesDeedsOf : Directory → List Made → Type 0
+MakesDeedsOf d steps = (k : ℕ) (v : View) → AllByRecursion (IsDeedOf d) (events_by k v steps)
+
+-- Each deed that was made is one that the actor didn't know before: the events, and the pages whose deed isn't known then, are at most n more than
+-- the pages whose deed wasn't known before.
+abbrev pub MakesAtMost : Profile → (View → Type 0) → ℕ → List Made → Type 0
+MakesAtMost f Meets n steps = (k : ℕ) (v : View) → Meets v → Agreed f v steps → length (events_by k v steps) + unknown_pages f (steps ++ v) ≤ n + unknown_pages f v
 
 -- no event was made
 abbrev pub IsSilent : List Made → Type 0

@@ -1,17 +1,18 @@
 //! The cache of a thread.
 ghost use Rattle.std.specs.Prelude.{All};
+ghost use Rattle.pas_free_log.specs.Noted.{AreRanges};
 ghost use Rattle.pas_cache.specs.Locals.{HasOneEach, IsFormed};
 
 use arrayvec::ArrayVec;
-use pas_free_log::FreeLog;
+use pas_free_log::{EndedRun, FreeLog};
 use pas_profile::Word;
-use pas_profile::limits::MOST_LOCALS;
+use pas_profile::limits::{MOST_LOCALS, MOST_LOGGED};
 use pas_segregated::Slots;
 use pas_steps::Desk;
 use pas_utility::CacheSeat;
 
-/// What a thread keeps between its requests: at most 32 local allocators, one for each pair of heap and class, and at most 64 names of blocks
-/// that it freed.
+/// What a thread keeps between its requests: at most 32 local allocators, one for each pair of heap and class, at most 64 names of blocks that it
+/// freed, and at most 64 runs of large blocks that it ended.
 ///
 /// It takes no memory. Its calls ask that the desk's actor is at rest with the cache, and leave it so.
 #[derive(Drop)]
@@ -20,9 +21,12 @@ pub struct ThreadCache {
     /// In order of last use, the last used at the end.
     pub(crate) locals: ArrayVec<Slots, MOST_LOCALS>,
     pub(crate) log: FreeLog,
+    /// The runs of large blocks that ended, in order, until they are handed on.
+    pub(crate) noted: ArrayVec<EndedRun, MOST_LOGGED>,
     pub(crate) idle_since: u64,
     ghost one_each: { HasOneEach locals.items },
     ghost formed: { All IsFormed locals.items },
+    ghost ranges: { AreRanges noted.items },
 }
 
 impl ThreadCache {
@@ -40,6 +44,7 @@ impl ThreadCache {
         ensures actor { seat_of result ≡ thread_of seat }
         ensures locals { (cached result).locals ≡ [] }
         ensures log { (cached result).log ≡ [] }
+        ensures noted { (cached result).noted ≡ [] }
         ensures idle_since { (cached result).idle_since ≡ 0 }
         ensures rest { (f : Profile) (v : View) → HasNothing v → AtRest f (cached result) v }
     {
@@ -47,6 +52,7 @@ impl ThreadCache {
             seat,
             locals: ArrayVec::new(),
             log: FreeLog::new(),
+            noted: ArrayVec::new(),
             idle_since: 0,
         }
     }

@@ -6,7 +6,8 @@ ghost use Rattle.pas_free_log.specs.Logs.{entries_in};
 ghost use Rattle.pas_cache.specs.Names.{IsInRegion, IsFaultOf, MayFlush, EmptiesWhere, LogsInto};
 
 use crate::cache::ThreadCache;
-use pas_free_log::{FreeLog, flush};
+use arrayvec::ArrayVec;
+use pas_free_log::{EndedRun, FreeLog, flush};
 use pas_profile::limits::{GRAIN_BYTES, MOST_LOGGED, PAGE_BYTES};
 use pas_profile::{FreeFault, Name, Profile};
 use pas_steps::Desk;
@@ -26,26 +27,31 @@ fn check(profile: &Profile, name: Name) -> Result<(), FreeFault>
 }
 
 /// Flushes the log where it is full.
-fn make_room<D: Desk>(desk: &mut D, log: &mut FreeLog)
+fn make_room<D: Desk>(desk: &mut D, log: &mut FreeLog, noted: &mut ArrayVec<EndedRun, MOST_LOGGED>)
     requires room { 64 ≤ length (entries_in log.old) → length (entries_in log.old) ≤ D.spare_of desk.old }
     requires can { CanCall (D.standing desk.old) (λ v l. MayFlush (D.standing desk.old).seat.profile (entries_in log.old) v) }
-    ensures empties { EmptiesWhere (nat_le 64 (length (entries_in log.old))) (entries_in log.old) (entries_in log.new) (D.standing desk.old) (D.standing desk.new) }
+    ensures empties { EmptiesWhere (nat_le 64 (length (entries_in log.old))) (entries_in log.old) (entries_in log.new) noted.old.items noted.new.items (D.standing desk.old) (D.standing desk.new) }
     ensures left { length (entries_in log.new) < 64 }
     ensures home { D.home desk.new ≡ D.home desk.old }
 {
     if log.len() as usize >= MOST_LOGGED {
-        flush(desk, log);
+        flush(desk, log, noted);
     }
 }
 
 /// Adds the name at the end of the log, and flushes a full one before.
-fn log_name<D: Desk>(desk: &mut D, log: &mut FreeLog, name: Name)
+fn log_name<D: Desk>(
+    desk: &mut D,
+    log: &mut FreeLog,
+    noted: &mut ArrayVec<EndedRun, MOST_LOGGED>,
+    name: Name,
+)
     requires room { 64 ≤ length (entries_in log.old) → length (entries_in log.old) ≤ D.spare_of desk.old }
     requires can { CanCall (D.standing desk.old) (λ v l. MayFlush (D.standing desk.old).seat.profile (entries_in log.old) v) }
-    ensures logs { LogsInto (entries_in log.old) (entries_in log.new) name (D.standing desk.old) (D.standing desk.new) }
+    ensures logs { LogsInto (entries_in log.old) (entries_in log.new) noted.old.items noted.new.items name (D.standing desk.old) (D.standing desk.new) }
     ensures home { D.home desk.new ≡ D.home desk.old }
 {
-    make_room(desk, log);
+    make_room(desk, log, noted);
     log.add(name);
 }
 
@@ -71,11 +77,12 @@ impl ThreadCache {
         if let Err(fault) = check(desk.profile(), name) {
             return Err(fault);
         }
-        log_name(desk, &mut self.log, name);
+        log_name(desk, &mut self.log, &mut self.noted, name);
         Ok(())
     }
 
-    /// Reads the epoch, and ends the blocks of the logged names in order. The log is empty afterwards.
+    /// Reads the epoch, and ends the blocks of the logged names in order. The log is empty afterwards. The runs of large blocks that ended are noted
+    /// for the next `settle`, while fewer than 64 are.
     ///
     /// Each name makes one event, and there is room for them: `End` with the epoch that was read, or `Reject` where no block of this name lives. One
     /// step, and at most three for each name and fourteen for each page of its block.
@@ -87,6 +94,6 @@ impl ThreadCache {
         ensures actor { seat_of self.new ≡ seat_of self.old }
         ensures home { D.home desk.new ≡ D.home desk.old }
     {
-        flush(desk, &mut self.log);
+        flush(desk, &mut self.log, &mut self.noted);
     }
 }

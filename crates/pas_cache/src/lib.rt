@@ -5,6 +5,7 @@ mod cache;
 mod freeing;
 mod giving;
 mod giving_up;
+mod large;
 mod obtaining;
 mod refilling;
 mod serving;

@@ -55,7 +55,7 @@ impl ThreadCache {
         ensures actor { seat_of self.new ≡ seat_of self.old }
         ensures home { D.home desk.new ≡ D.home desk.old }
     {
-        flush(desk, &mut self.log);
+        flush(desk, &mut self.log, &mut self.noted);
         stop_all(desk, &mut self.locals);
     }
 }

@@ -1,14 +1,20 @@
 -- One entry of a log.
-use Rattle.std.proofs.Common.{◌≡◌, ◌≢◌, ℕ, ◌+◌, ◌*◌, ◌/◌, ◌<◌, ◌≤◌, ◌==◌, ◌&&◌, Bool, true, false, if◌then◌else◌, List, [], ◌∷◌, ◌++◌, inl, refl, ap, sym, ◌∙◌, subst, arith}
+use Rattle.std.proofs.Common.{◌≡◌, ◌≢◌, ℕ, ◌+◌, ◌*◌, ◌/◌, ◌<◌, ◌≤◌, ◌==◌, ◌&&◌, Bool, true, false, if◌then◌else◌, List, [], ◌∷◌, ◌++◌, Option, Some, None, inl, inr, refl, ap, sym, ◌∙◌, subst, arith, ◌%◌}
+use Rattle.std.specs.Prelude.{option_to_list}
+use Rattle.std.proofs.lemmas.List.Elements.{All-nil, All-cons}
 use Rattle.std.proofs.lemmas.List.{append-nil}
-use Rattle.std.proofs.lemmas.Bool.{eq-eqb, and_from}
+use Rattle.std.proofs.lemmas.Bool.{cases_Bool, eq-eqb, eqb-true, and_from, and_parts}
 use Rattle.std.proofs.lemmas.Bool.Decides.{nat_tests}
 use Rattle.pas_profile.specs.Directories.{directory_read}
 use Rattle.pas_profile.specs.Lives.{live_word}
+use Rattle.pas_profile.specs.Profiles.{IsValid}
+use Rattle.pas_profile.specs.declared.directory.Directory.{Directory}
+use Rattle.pas_profile.specs.declared.directory.Kind.{Kind}
+use Rattle.pas_profile.specs.declared.event.Range.{Range}
 use Rattle.pas_profile.specs.declared.name.Name.{Name}
 use Rattle.pas_profile.specs.declared.profile.Profile.{Profile}
 use Rattle.pas_profile.specs.declared.event.Event.{Event}
-use Rattle.pas_profile.specs.Runs.{in_run, meets_page, grain_of}
+use Rattle.pas_profile.specs.Runs.{in_run, meets_page, address_of, grain_of}
 use Rattle.pas_profile.proofs.Runs.{to_run}
 use Rattle.pas_steps.specs.declared.step.Made.{Made}
 use Rattle.pas_steps.specs.declared.step.Step.TheVariants.{End}
@@ -22,13 +28,16 @@ use Rattle.pas_steps.proofs.Apart.{only_within, only_both, epoch_same, events_sa
 use Rattle.pas_steps.proofs.Adding.{adds_under}
 use Rattle.pas_steps.proofs.Called.{call_then}
 use Rattle.pas_steps.proofs.Calls.{leads_as, leads_then, nothing_then, end_fails, end_succeeds, end_later, ends_back, EndsBlock, unexamined_over}
+use Rattle.pas_free_log.specs.declared.noting.EndedRun.{EndedRun}
 use Rattle.pas_free_log.specs.declared.log.Entry.{Entry}
-use Rattle.pas_free_log.specs.Conditions.{IsEntryOf, KnowsEpoch, MayEnd}
+use Rattle.pas_free_log.specs.Conditions.{IsEntryOf, KnowsEpoch, MayEnd, IsRun}
 use Rattle.pas_free_log.specs.Stamps.{stamps_by, page_count, pages_met, stamps_with}
 use Rattle.pas_free_log.specs.Frames.{putting_back, ending, PutsBack}
 use Rattle.pas_free_log.specs.Endings.{guess_by, is_of, EndSteps, EndsName}
 use Rattle.pas_free_log.specs.Returns.{MayReturn, ReturnsRun}
 use Rattle.pas_free_log.specs.Flushes.{event_for, EndsEntry}
+use Rattle.pas_free_log.specs.Noted.{IsRange, AreRanges, is_whole, range_of, run_of_kind, run_in, large_run}
+use Rattle.pas_free_log.specs.declared.ending.Outcome.{Outcome}
 use Rattle.pas_free_log.specs.declared.ending.Outcome.TheVariants.{Ended, Refused}
 use Rattle.pas_free_log.proofs.Blocks.{count_some}
 use Rattle.pas_free_log.proofs.Stamped.{stamps_append, no_stamps}
@@ -44,8 +53,11 @@ refused_event k name guess a read pre v idle ne is same =
     ap (λ o. with_event o (events_by k v pre)) (refusal k (epoch_of (pre ++ v)) name guess a ne is)
     ∙ ap (λ es. Event.Reject k name (reason_of name a) ∷ es) (idle.events k v) ∙ ap (λ n. Event.Reject k name (reason_of name n) ∷ []) (sym same)
 
-pub entry_refused : {σ σ1 : Standing} (entry : Entry) (read : ℕ) → IsEntryOf σ.seat.profile entry → EndsName entry.name σ σ1 (Refused read) → EndsEntry entry σ σ1
-entry_refused {σ} {σ1} entry read named e =
+pub came_to : {σ σ1 : Standing} {name : Name} {directory : Option Directory} {outcome : Outcome} (o : Outcome) → outcome ≡ o → EndsName name σ σ1 outcome directory → EndsName name σ σ1 o directory
+came_to {σ} {σ1} {name} {directory} o is e = subst (λ x. EndsName name σ σ1 x directory) is e
+
+pub entry_refused : {σ σ1 : Standing} (entry : Entry) (read : ℕ) (directory : Option Directory) → IsEntryOf σ.seat.profile entry → EndsName entry.name σ σ1 (Refused read) directory → EndsEntry entry σ σ1 None
+entry_refused {σ} {σ1} entry read directory named e =
     let name = entry.name in
     let o = e.order in
     let pre = o.before ++ first_look name o.deed in
@@ -54,10 +66,13 @@ entry_refused {σ} {σ1} entry read named e =
     let ne = not_live name o.guess o.answer named.name.turn o.comes_to.0 in
     record {
       outcome = Refused read;
+      directory = directory;
+      run_is = refl;
+      range = All-nil (λ run. IsRange run.range);
       steps = steps;
       calls = record { adds = adds_under (subst (λ s. Adds σ σ1 (λ v l. KnowsEpoch v) s) o.steps_are e.adds) (λ v l stood met. met.epoch); leads = leads_as (nothing_then (idle.does σ.seat.profile) (end_fails σ.seat.profile name o.guess o.answer ne)) (λ v met. tt) (λ v w met d. d) };
       kinds = (refl, only_within trying ending pre refl idle.kinds);
-      order = record { ends = steps; order = subst (λ s. EndSteps name (Refused read) s) o.steps_are e.order; after = []; returns = refl; steps_are = refl };
+      order = record { ends = steps; order = record { deed = o.deed; before = o.before; guess = o.guess; answer = o.answer; tries = o.tries; comes_to = o.comes_to; steps_are = refl }; directory = e.tells; after = []; returns = refl; steps_are = refl };
       event = λ v. refused_event σ.seat.actor name o.guess o.answer read pre v idle ne o.comes_to.0 o.comes_to.1;
       stamps = λ v. no_stamps trying refl v pre idle.kinds;
     }
@@ -104,7 +119,7 @@ ended_stamps name guess a pre after v idle back =
     ∙ ap (λ o. stamps_with (or_zero o) (pages_met (grain_of name) guess)) (epoch_same trying refl pre v idle.kinds)
 
 -- the end, with its parts
-pub record IsEnded (name : Name) (grains : ℕ) (σ σ1 : Standing) : Type 0 where
+pub record IsEnded (name : Name) (grains : ℕ) (directory : Option Directory) (σ σ1 : Standing) : Type 0 where
   pub guess : ℕ
   pub answer : ℕ
   pub pre : List Made
@@ -114,9 +129,11 @@ pub record IsEnded (name : Name) (grains : ℕ) (σ σ1 : Standing) : Type 0 whe
   pub some : 1 ≤ guess
   pub calls : Calls σ σ1 MayEnd (λ v w. EndsBlock (grain_of name) grains v w × MayReturn (grain_of name) grains w) (ending_steps name guess answer pre)
   pub order : EndSteps name (Ended grains) (ending_steps name guess answer pre)
+  pub tells : directory ≡ directory_read order.deed
+  pub of_region : IsRun σ.seat.profile (grain_of name) grains
 
-pub is_ended : {σ σ1 : Standing} (name : Name) (grains : ℕ) → EndsName name σ σ1 (Ended grains) → IsEnded name grains σ σ1
-is_ended {σ} {σ1} name grains e =
+pub is_ended : {σ σ1 : Standing} (name : Name) (grains : ℕ) (directory : Option Directory) → EndsName name σ σ1 (Ended grains) directory → IsEnded name grains directory σ σ1
+is_ended {σ} {σ1} name grains directory e =
     let o = e.order in
     let pre = o.before ++ first_look name o.deed in
     let idle : AreIdle pre = tries_idle name o.deed (guess_by (directory_read o.deed)) o.guess o.before o.tries in
@@ -135,12 +152,36 @@ is_ended {σ} {σ1} name grains e =
               ((ends_block σ.seat.profile name o.guess o.answer pre idle o.comes_to.0).from v tt agreed, may_return name o.guess o.answer pre v idle o.comes_to.0 met);
         };
       };
-      order = subst (λ s. EndSteps name (Ended grains) s) o.steps_are e.order;
+      order = record { deed = o.deed; before = o.before; guess = o.guess; answer = o.answer; tries = o.tries; comes_to = o.comes_to; steps_are = refl };
+      tells = e.tells;
+      of_region = e.of_region;
     }
 
+-- the pages of a large block are some
+range_of_kind : (kind : Kind) (heap : ℕ) (range : Range) → IsRange range → AreRanges (option_to_list (run_of_kind kind heap range))
+range_of_kind Kind.Large heap range is = All-cons (λ run. IsRange run.range) (record { heap = heap; range = range }) [] is (All-nil (λ run. IsRange run.range))
+range_of_kind kind heap range is = All-nil (λ run. IsRange run.range)
+
+range_in : (directory : Option Directory) (range : Range) → IsRange range → AreRanges (option_to_list (run_in directory range))
+range_in None range is = All-nil (λ run. IsRange run.range)
+range_in (Some d) range is = range_of_kind d.kind d.heap range is
+
+whole_range : (f : Profile) (name : Name) (grains : ℕ) (directory : Option Directory) → IsValid f → IsRun f (grain_of name) grains → AreRanges (option_to_list (large_run name grains directory))
+whole_range f name grains directory valid run = elim (cases_Bool (is_whole name grains)) [
+  | inl whole ↦
+      let both = and_parts (address_of name % 4096 == 0) (grains % 256 == 0) whole in
+      let address = eqb-true (address_of name % 4096) 0 both.0 in
+      let length = eqb-true (grains % 256) 0 both.1 in
+      let some = run.some in let first = run.first in let last = run.last in
+      let pages = valid.pages in
+      subst (λ t. AreRanges (option_to_list (if t then run_in directory (range_of name grains) else None))) (sym whole)
+      (range_in directory (range_of name grains) record { first = omega (arith, address, first); some = omega (arith, length, some); last = omega (arith, address, length, last, pages) })
+  | inr other ↦ subst (λ t. AreRanges (option_to_list (if t then run_in directory (range_of name grains) else None))) (sym other) (All-nil (λ run. IsRange run.range))
+]
+
 -- whoever ended a block and put its grains back is as before
-pub entry_ended : {σ σ1 σ2 : Standing} (entry : Entry) (grains : ℕ) → IsEnded entry.name grains σ σ1 → ReturnsRun (grain_of entry.name) grains σ1 σ2 → EndsEntry entry σ σ2
-entry_ended {σ} {σ1} {σ2} entry grains e r =
+pub entry_ended : {σ σ1 σ2 : Standing} (entry : Entry) (grains : ℕ) (directory : Option Directory) (run : Option EndedRun) → IsValid σ.seat.profile → IsEnded entry.name grains directory σ σ1 → ReturnsRun (grain_of entry.name) grains σ1 σ2 → run ≡ large_run entry.name grains directory → EndsEntry entry σ σ2 run
+entry_ended {σ} {σ1} {σ2} entry grains directory run valid e r is =
     let name = entry.name in
     let g = grain_of name in
     let ends : List Made = ending_steps name e.guess e.answer e.pre in
@@ -148,10 +189,13 @@ entry_ended {σ} {σ1} {σ2} entry grains e r =
     let back : PutsBack g e.guess r.steps = subst (λ n. PutsBack g n r.steps) e.length_is r.back in
     record {
       outcome = Ended grains;
+      directory = directory;
+      run_is = ap option_to_list is;
+      range = subst (λ o. AreRanges (option_to_list o)) (sym is) (whole_range σ.seat.profile name grains directory valid e.of_region);
       steps = r.steps ++ ends;
       calls = call_then (Does nothing) e.calls r.calls (λ v met q. q.1) (λ v met q b. ends_back g grains (in_run (g / 256) (page_count g grains)) q.0 b (λ page. page_of_run g grains page some));
       kinds = only_both ending r.steps ends (only_within putting_back ending r.steps refl r.back.kinds) (refl, only_within trying ending e.pre refl e.idle.kinds);
-      order = record { ends = ends; order = e.order; after = r.steps; returns = r.order; steps_are = refl };
+      order = record { ends = ends; order = e.order; directory = e.tells; after = r.steps; returns = r.order; steps_are = refl };
       event = λ v. ended_event σ.seat.actor name e.guess e.answer e.pre r.steps v e.idle e.live r.back.kinds;
       stamps = λ v. ended_stamps name e.guess e.answer e.pre r.steps v e.idle back ∙ ap (λ n. stamps_with (epoch_of v) (pages_met (grain_of name) n)) (sym e.length_is);
     }

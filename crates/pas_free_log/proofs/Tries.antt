@@ -1,5 +1,6 @@
 -- The end of one name: the tries, and what the last one came to.
 use Rattle.std.proofs.Common.{◌≡◌, ◌≢◌, ℕ, ◌/◌, ◌^◌, ◌<◌, ◌≤◌, ◌==◌, true, false, List, [], ◌∷◌, ◌++◌, Option, Some, None, inl, inr, refl, ap, sym, ◌∙◌, subst, arith, ◌-◌, if◌then◌else◌}
+use Rattle.std.specs.Prelude.{IfSome}
 use Rattle.std.proofs.lemmas.Bool.{cases_Bool, eqb-true, eq-eqb, ne_eqb, and_parts, and_from, false≢true}
 use Rattle.pas_profile.specs.Directories.{IsKind, directory_read}
 use Rattle.pas_profile.specs.Lives.{live_word, is_live, turn_of, grains_of}
@@ -42,6 +43,13 @@ by_length (Some d) is = kind_length d.kind (is d refl)
 pub guess_length : (deed : ℕ) → IsLength (guess_by (directory_read deed))
 guess_length deed = by_length (directory_read deed) (λ d e. (read_is deed d e).0.kind)
 
+kind_if : (o : Option Directory) → ((d : Directory) → o ≡ Some d → IsKind d.kind) → IfSome o (λ d. IsKind d.kind)
+kind_if None is = tt
+kind_if (Some d) is = is d refl
+
+pub known_kind : (deed : ℕ) (directory : Option Directory) → directory ≡ directory_read deed → IfSome directory (λ d. IsKind d.kind)
+known_kind deed directory is = kind_if directory (λ d e. (read_is deed d (sym is ∙ e)).0.kind)
+
 -- ---- the steps
 -- the look at the deed word
 abbrev pub first_look : Name → ℕ → List Made
@@ -62,9 +70,9 @@ pub tried : {σ σ1 σ2 : Standing} (name : Name) (deed first guess a : ℕ) (be
 tried name deed first guess a before tries adds makes = adds_step adds makes (λ v l stood met. may_end name deed first guess before v tries met)
 
 -- what the last try came to, by what its answer agrees with
-pub ends_by : {σ σ1 σ2 : Standing} (name : Name) (outcome : Outcome) (deed guess a : ℕ) (before : List Made) → Tries name (guess_by (directory_read deed)) guess before → Adds σ σ1 (λ v l. KnowsEpoch v) (before ++ first_look name deed) → Makes σ1 σ2 (End name guess) a
-    → CanCall σ (λ v l. KnowsEpoch v) → ((v : View) → AgreesEnd σ.seat.profile (before ++ first_look name deed ++ v) name guess a → IsEndOf name guess a outcome × IsOfRegion σ.seat.profile name outcome) → EndsName name σ σ2 outcome
-ends_by {σ} {σ1} {σ2} name outcome deed guess a before tries adds makes can told =
+pub ends_by : {σ σ1 σ2 : Standing} (name : Name) (outcome : Outcome) (directory : Option Directory) (deed guess a : ℕ) (before : List Made) → directory ≡ directory_read deed → Tries name (guess_by (directory_read deed)) guess before → Adds σ σ1 (λ v l. KnowsEpoch v) (before ++ first_look name deed) → Makes σ1 σ2 (End name guess) a
+    → CanCall σ (λ v l. KnowsEpoch v) → ((v : View) → AgreesEnd σ.seat.profile (before ++ first_look name deed ++ v) name guess a → IsEndOf name guess a outcome × IsOfRegion σ.seat.profile name outcome) → EndsName name σ σ2 outcome directory
+ends_by {σ} {σ1} {σ2} name outcome directory deed guess a before tells tries adds makes can told =
     let all : Adds σ σ2 (λ v l. KnowsEpoch v) (made (End name guess) a ∷ before ++ first_look name deed) = tried name deed (guess_by (directory_read deed)) guess a before tries adds makes in
     let came = told can.view (all.agreed can.view can.whole can.stood can.met).0 in
     record {
@@ -72,6 +80,7 @@ ends_by {σ} {σ1} {σ2} name outcome deed guess a before tries adds makes can t
       adds = all;
       order = record { deed = deed; before = before; guess = guess; answer = a; tries = tries; comes_to = came.0; steps_are = refl };
       of_region = came.1;
+      tells = tells;
     }
 
 -- ---- what a try tells

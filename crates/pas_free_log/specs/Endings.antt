@@ -61,8 +61,10 @@ abbrev pub IsOfRegion : Profile → Name → Outcome → Type 0
 IsOfRegion f name (Ended grains) = IsRun f (grain_of name) grains
 IsOfRegion f name (Refused read) = Unit {0}
 
-pub record EndsName (name : Name) (desk desk' : Standing) (outcome : Outcome) : Type 0 where
+-- the directory is what the deed word of the name's page told
+pub record EndsName (name : Name) (desk desk' : Standing) (outcome : Outcome) (directory : Option Directory) : Type 0 where
   pub steps : List Made
   pub adds : Adds desk desk' (λ v l. KnowsEpoch v) steps
   pub order : EndSteps name outcome steps
   pub of_region : IsOfRegion desk.seat.profile name outcome
+  pub tells : directory ≡ directory_read order.deed

@@ -1,6 +1,8 @@
 -- The flush of a log.
-use Rattle.std.specs.Prelude.{ℕ, ◌+◌, ◌*◌, ◌≤◌, ◌≡◌, List, [], ◌∷◌, ◌++◌, length, map, reverse, Some}
+use Rattle.std.specs.Prelude.{ℕ, ◌+◌, ◌-◌, ◌*◌, ◌≤◌, ◌≡◌, List, [], ◌∷◌, ◌++◌, length, map, reverse, take, Option, Some, option_to_list}
 use Rattle.std.specs.List.{flat_map}
+use Rattle.pas_profile.specs.Directories.{directory_read}
+use Rattle.pas_profile.specs.declared.directory.Directory.{Directory}
 use Rattle.pas_profile.specs.declared.name.Name.{Name}
 use Rattle.pas_profile.specs.declared.word.Word.TheVariants as Word
 use Rattle.pas_profile.specs.declared.event.Event.{Event}
@@ -19,15 +21,18 @@ use Rattle.pas_free_log.specs.Stamps.{stamps_by, pages_met, stamps_with}
 use Rattle.pas_free_log.specs.Frames.{ending, freeing}
 use Rattle.pas_free_log.specs.Endings.{EndSteps}
 use Rattle.pas_free_log.specs.Returns.{RunSteps}
+use Rattle.pas_free_log.specs.Noted.{AreRanges, noted_by}
 use Rattle.pas_free_log.specs.declared.log.Entry.{Entry}
+use Rattle.pas_free_log.specs.declared.noting.EndedRun.{EndedRun}
 use Rattle.pas_free_log.specs.declared.ending.Outcome.{Outcome}
 use Rattle.pas_free_log.specs.declared.ending.Outcome.TheVariants.{Ended, Refused}
 
 -- ---- one entry
--- an entry, and what came of the end of its name
+-- an entry, what came of the end of its name, and of which directory its page was read
 pub record Settled : Type 0 where
   pub entry : Entry
   pub outcome : Outcome
+  pub directory : Option Directory
 
 -- its one event, by an actor that knows this epoch. The reason of a refusal is told by the life word that was read
 abbrev pub event_for : ℕ → ℕ → Name → Outcome → Event
@@ -45,6 +50,10 @@ stamps_by_outcome epoch name (Refused read) = []
 abbrev pub stamps_for : ℕ → Settled → List (ℕ × ℕ)
 stamps_for epoch settled = stamps_by_outcome epoch settled.entry.name settled.outcome
 
+-- the run of a large block that ended
+abbrev pub noted_for : Settled → List EndedRun
+noted_for settled = noted_by settled.entry.name settled.directory settled.outcome
+
 -- what follows an end: the run of a block that ended is put back
 abbrev pub AfterEnd : Name → Outcome → List Made → Type 0
 AfterEnd name (Ended grains) steps = RunSteps (grain_of name) grains steps
@@ -54,19 +63,28 @@ AfterEnd name (Refused read) steps = steps ≡ []
 pub record EntrySteps (settled : Settled) (steps : List Made) : Type 0 where
   pub ends : List Made
   pub order : EndSteps settled.entry.name settled.outcome ends
+  pub directory : settled.directory ≡ directory_read order.deed
   pub after : List Made
   pub returns : AfterEnd settled.entry.name settled.outcome after
   pub steps_are : steps ≡ after ++ ends
 
--- the actor is as it was then
-pub record EndsEntry (entry : Entry) (desk desk' : Standing) : Type 0 where
+-- the actor is as it was then, and the run is that of a large block that ended
+pub record EndsEntry (entry : Entry) (desk desk' : Standing) (run : Option EndedRun) : Type 0 where
   pub outcome : Outcome
+  pub directory : Option Directory
+  pub run_is : option_to_list run ≡ noted_by entry.name directory outcome
+  pub range : AreRanges (option_to_list run)
   pub steps : List Made
   pub calls : Calls desk desk' MayEnd (Does nothing) steps
   pub kinds : Only ending steps
-  pub order : EntrySteps record { entry = entry; outcome = outcome } steps
+  pub order : EntrySteps record { entry = entry; outcome = outcome; directory = directory } steps
   pub event : (v : View) → events_by desk.seat.actor v steps ≡ event_for desk.seat.actor (epoch_of v) entry.name outcome ∷ []
   pub stamps : (v : View) → stamps_by v steps ≡ stamps_by_outcome (epoch_of v) entry.name outcome
+
+-- the runs that are noted once these names were settled: those of the large blocks that ended, in order, behind the ones noted before, as far as 64
+-- have room
+abbrev pub noted_after : List EndedRun → List Settled → List EndedRun
+noted_after ended settled = ended ++ take (64 - length ended) (flat_map noted_for (reverse settled))
 
 -- ---- all entries
 -- the steps for the entries, the newest first
@@ -76,10 +94,13 @@ EntriesSteps settled steps = InTurn EntrySteps settled steps
 -- A flush of these entries: a look at the epoch, and then the steps for each entry in order. `settled` has what came of each, the newest first.
 -- Each makes one event, with the epoch that was read; each page of each block that ended is stamped once with it, and no other page.
 -- There are at most three steps for each entry, and fourteen for each page that is stamped. The actor is as it was: it holds the grains and has the rights that it had, is clear where it was, and knows as backed what it knew so.
-pub record Flushes (logged : List Entry) (desk desk' : Standing) : Type 0 where
+-- The runs of the large blocks that ended are noted in order behind those that were noted before, as far as 64 have room, and nothing else.
+pub record Flushes (logged : List Entry) (ended ended' : List EndedRun) (desk desk' : Standing) : Type 0 where
   pub epoch : ℕ
   pub settled : List Settled
   pub entries_are : reverse (map (λ s. s.entry) settled) ≡ logged
+  pub noted : ended' ≡ noted_after ended settled
+  pub ranges : AreRanges ended → AreRanges ended'
   pub steps : List Made
   pub entries : List Made
   pub order : EntriesSteps settled entries

@@ -4,4 +4,5 @@ pub mod Stamps
 pub mod Frames
 pub mod Endings
 pub mod Returns
+pub mod Noted
 pub mod Flushes

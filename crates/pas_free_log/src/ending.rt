@@ -1,7 +1,7 @@
 //! The end of one name.
-ghost use Rattle.std.specs.Prelude.{◌≡◌, ◌≤◌, true, false, MatchOption};
+ghost use Rattle.std.specs.Prelude.{◌≡◌, ◌≤◌, true, false, IfSome, MatchOption};
 ghost use Rattle.pas_profile.specs.Lives.{grains_of};
-ghost use Rattle.pas_profile.specs.Directories.{directory_read};
+ghost use Rattle.pas_profile.specs.Directories.{IsKind};
 ghost use Rattle.pas_steps.specs.Desks.{CanCall};
 ghost use Rattle.pas_free_log.specs.Conditions.{IsNameOf, KnowsEpoch};
 ghost use Rattle.pas_free_log.specs.Endings.{guess_by, is_of, EndsName};
@@ -20,11 +20,12 @@ pub enum Outcome {
     Refused { read: u64 },
 }
 
-/// How many grains a block has that begins on a page with this deed word: right for every block of a class, and 1 otherwise.
-fn guess(deed: u64) -> u32
-    ensures { result ≡ guess_by (directory_read deed) }
+/// How many grains a block has that begins on a page of the directory: right for every block of a class, and 1 otherwise.
+fn guess(directory: Option<Directory>) -> u32
+    requires { IfSome directory (λ d. IsKind d.kind) }
+    ensures { result ≡ guess_by directory }
 {
-    match read_deed(deed) {
+    match directory {
         Some(
             Directory {
                 heap: _,
@@ -47,30 +48,32 @@ fn length_in(name: Name, read: u64) -> Option<u32>
     }
 }
 
-/// Ends the block of this name, whatever its length. Two or three steps, and one event.
+/// Ends the block of this name, whatever its length, and answers what came of it, with the directory that the deed word of the name's page told.
+/// Two or three steps, and one event.
 ///
 /// The first try is made with a length that is guessed by the deed of the name's page. Where it reads a live block of the name's turn with
 /// another length, a second try is made with that length.
-pub fn end_named<D: Desk>(desk: &mut D, name: Name) -> Outcome
+pub fn end_named<D: Desk>(desk: &mut D, name: Name) -> (Outcome, Option<Directory>)
     requires name { IsNameOf (D.standing desk.old).seat.profile name }
     requires room { 1 ≤ D.spare_of desk.old }
     requires can { CanCall (D.standing desk.old) (λ v l. KnowsEpoch v) }
-    ensures ends { EndsName name (D.standing desk.old) (D.standing desk.new) result }
+    ensures ends { EndsName name (D.standing desk.old) (D.standing desk.new) result.0 result.1 }
     ensures home { D.home desk.new ≡ D.home desk.old }
 {
     let deed = desk.look(Word::Deed(name.address.0 / PAGE_BYTES));
-    let first = guess(deed);
+    let directory = read_deed(deed);
+    let first = guess(directory);
     let read = desk.end(name, first);
     if read == life_word(name.turn, first, true) {
-        return Outcome::Ended { grains: first };
+        return (Outcome::Ended { grains: first }, directory);
     }
     let Some(grains) = length_in(name, read) else {
-        return Outcome::Refused { read };
+        return (Outcome::Refused { read }, directory);
     };
     let read = desk.end(name, grains);
     if read == life_word(name.turn, grains, true) {
-        Outcome::Ended { grains }
+        (Outcome::Ended { grains }, directory)
     } else {
-        Outcome::Refused { read }
+        (Outcome::Refused { read }, directory)
     }
 }

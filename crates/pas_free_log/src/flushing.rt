@@ -8,23 +8,30 @@ ghost use Rattle.pas_free_log.specs.Flushes.{EndsEntry, Flushes};
 
 use crate::ending::{Outcome, end_named};
 use crate::log::{Entry, FreeLog};
+use crate::noting::{EndedRun, large_run, note};
 use crate::returning::return_run;
+use arrayvec::ArrayVec;
 use pas_profile::Word;
-use pas_profile::limits::GRAIN_BYTES;
+use pas_profile::limits::{GRAIN_BYTES, MOST_LOGGED};
 use pas_steps::Desk;
 
-/// Ends the block of the entry's name, and stamps its pages and puts its grains back where it ended. One event.
-fn end_entry<D: Desk>(desk: &mut D, entry: Entry)
+/// Ends the block of the entry's name, and stamps its pages and puts its grains back where it ended. Answers the heap and the pages of a large block
+/// that ended. One event.
+fn end_entry<D: Desk>(desk: &mut D, entry: Entry) -> Option<EndedRun>
     requires entry { IsEntryOf (D.standing desk.old).seat.profile entry }
     requires room { 1 ≤ D.spare_of desk.old }
     requires can { CanCall (D.standing desk.old) (λ v l. MayEnd v) }
-    ensures ends { EndsEntry entry (D.standing desk.old) (D.standing desk.new) }
+    ensures ends { EndsEntry entry (D.standing desk.old) (D.standing desk.new) result }
     ensures spare { D.spare_of desk.new + 1 ≡ D.spare_of desk.old }
     ensures home { D.home desk.new ≡ D.home desk.old }
 {
-    match end_named(desk, entry.name) {
-        Outcome::Ended { grains } => return_run(desk, entry.name.address.0 / GRAIN_BYTES, grains),
-        Outcome::Refused { read: _ } => {}
+    let (outcome, directory) = end_named(desk, entry.name);
+    match outcome {
+        Outcome::Ended { grains } => {
+            return_run(desk, entry.name.address.0 / GRAIN_BYTES, grains);
+            large_run(entry.name, grains, directory)
+        }
+        Outcome::Refused { read: _ } => None,
     }
 }
 
@@ -32,12 +39,13 @@ fn end_entry<D: Desk>(desk: &mut D, entry: Entry)
 ///
 /// Each name makes one event: `End` with the epoch that was read, or `Reject` where no block of this name lives. The pages of a block that
 /// ended are stamped, its grains are free again, and nothing is owed on its pages. The actor holds the grains and has the rights that it
-/// had before. One step, and for each name at most three, and fourteen for each page of its block.
-pub fn flush<D: Desk>(desk: &mut D, log: &mut FreeLog)
+/// had before. The heap and the pages of each large block that ended are added to `ended`, in order, while fewer than 64 are there, and forgotten
+/// otherwise. A block is large where it begins on a page of large blocks, at the page's first byte, and takes whole pages. One step, and for each name at most three, and fourteen for each page of its block.
+pub fn flush<D: Desk>(desk: &mut D, log: &mut FreeLog, ended: &mut ArrayVec<EndedRun, MOST_LOGGED>)
     requires entries { All (IsEntryOf (D.standing desk.old).seat.profile) (entries_in log.old) }
     requires room { length (entries_in log.old) ≤ D.spare_of desk.old }
     requires can { CanCall (D.standing desk.old) (λ v l. IsClear v) }
-    ensures flushes { Flushes (entries_in log.old) (D.standing desk.old) (D.standing desk.new) }
+    ensures flushes { Flushes (entries_in log.old) ended.old.items ended.new.items (D.standing desk.old) (D.standing desk.new) }
     ensures empty { entries_in log.new ≡ [] }
     ensures spare { D.spare_of desk.new + length (entries_in log.old) ≡ D.spare_of desk.old }
     ensures home { D.home desk.new ≡ D.home desk.old }
@@ -45,7 +53,8 @@ pub fn flush<D: Desk>(desk: &mut D, log: &mut FreeLog)
     desk.look(Word::Epoch);
     let entries = log.as_slice();
     for entry in entries {
-        end_entry(desk, *entry);
+        let run = end_entry(desk, *entry);
+        note(ended, run);
     }
     log.clear();
 }

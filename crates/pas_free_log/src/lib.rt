@@ -4,9 +4,11 @@
 mod ending;
 mod flushing;
 mod log;
+mod noting;
 mod returning;
 #[cfg(test)]
 mod tests;
 
 pub use flushing::flush;
 pub use log::{Entry, FreeLog};
+pub use noting::EndedRun;

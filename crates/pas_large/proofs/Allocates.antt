@@ -1,6 +1,6 @@
 -- A large block: the run that was found is given, or the refusal has its reason.
 use Rattle.pas_steps.proofs.SpareRoom.{Spares}
-use Rattle.std.proofs.Common.{◌≡◌, ℕ, ◌+◌, ◌≤◌, true, false, List, ◌++◌, Some, None, Ok, Err, refl, ap, subst, arith, ◌/◌}
+use Rattle.std.proofs.Common.{◌≡◌, ℕ, ◌+◌, ◌≤◌, true, false, List, ◌++◌, length-append, Some, None, Ok, Err, refl, ap, sym, subst, arith, ◌/◌}
 use Rattle.pas_profile.specs.declared.directory.Directory.{Directory}
 use Rattle.pas_profile.specs.declared.event.NoRoom.{NoRoom}
 use Rattle.pas_profile.specs.declared.name.Block.{Block}
@@ -8,22 +8,29 @@ use Rattle.pas_profile.specs.declared.profile.Profile.{Profile}
 use Rattle.pas_scan.specs.Runs.{large_directory}
 use Rattle.pas_steps.specs.Calls.{Leads, Calls, AnyView, nothing, Does}
 use Rattle.pas_steps.specs.Desks.{Seat, Standing, CanCall}
-use Rattle.pas_steps.specs.Kinds.{looking, kind_of, is_in}
+use Rattle.pas_steps.specs.Kinds.{looking, kind_of, is_in, Only}
 use Rattle.pas_steps.specs.Frames.{IsScan, OnlyScans}
 use Rattle.pas_steps.specs.declared.step.Step.{Step}
-use Rattle.pas_steps.proofs.Past.{always_map}
+use Rattle.pas_steps.proofs.Past.{always_map, once_later}
 use Rattle.pas_steps.specs.Views.{View, has_right}
 use Rattle.pas_steps.specs.declared.step.Made.{Made}
-use Rattle.pas_steps.proofs.Adding.{adds_call}
+use Rattle.pas_steps.proofs.Adding.{Tells, adds_call, legal_after}
 use Rattle.pas_steps.proofs.Called.{call_then, next_call}
 use Rattle.pas_steps.proofs.Calls.{leads_then, leads_idly, does_then}
 use Rattle.pas_large.specs.Allocates.{GaveLarge, AllocatesLarge}
 use Rattle.pas_large.specs.Claims.{in_span, HasPages}
 use Rattle.pas_large.specs.Finds.{MayFind, FindRoom, Finds}
-use Rattle.pas_large.specs.Gives.{GivesRun}
+use Rattle.pas_large.specs.Gives.{give_steps, GivesRun}
 use Rattle.pas_large.specs.Pages.{GotPages}
 use Rattle.pas_large.specs.Refusals.{IsReason, Refuses}
 use Rattle.pas_large.proofs.Claims.{has_got, room_after}
+use Rattle.std.specs.Prelude.{Bool}
+use Rattle.pas_profile.specs.Runs.{address_of}
+use Rattle.pas_steps.specs.Agreement.{Agreed}
+use Rattle.pas_steps.specs.Lists.{Whole, part}
+use Rattle.pas_steps.proofs.Apart.{only_both}
+use Rattle.pas_scan.specs.Usable.{DeedReadHere}
+use Rattle.pas_large.proofs.ToldReasons.{none_after, true_reason}
 use Rattle.pas_large.proofs.Pages.{undone}
 use Rattle.pas_large.proofs.Finds.{may_find}
 
@@ -32,7 +39,7 @@ pub record Ready (d : Directory) (n first : ℕ) (v w : View) : Type 0 where
   pub got : GotPages (in_span first (first + n)) d v w
   pub lacked : (p : ℕ) → in_span first (first + n) p ≡ true → has_right v p ≡ false
 
-module _ {σ σ1 : Standing} (d : Directory) (n first : ℕ) (find : Finds d n σ σ1 (Some first)) where
+module _ {σ σ1 : Standing} (d : Directory) (n first : ℕ) (tells : Bool) (find : Finds d n tells σ σ1 (Some first)) where
   found_call : Calls σ σ1 (MayFind d) (Ready d n first) find.steps
   found_call = record { adds = find.adds; leads = record { from = λ v met agreed. record { got = find.outcome.got.from v met agreed; lacked = find.outcome.lacked.from v met agreed } } }
 
@@ -51,24 +58,32 @@ scan_kind s (IsScan.LooksEligible d j) = refl
 scan_kind s (IsScan.LooksDeed page) = refl
 scan_kind s (IsScan.LooksParked j) = refl
 
-scans_lead : (f : Profile) (steps : List Made) → OnlyScans steps → Leads f AnyView (Does nothing) steps
-scans_lead f steps scans = leads_idly f looking refl steps (always_map (λ m before. IsScan m.step) (λ m before. is_in looking (kind_of m.step) ≡ true) steps (λ m before is. scan_kind m.step is) scans)
+scans_only : (steps : List Made) → OnlyScans steps → Only looking steps
+scans_only steps scans = always_map (λ m before. IsScan m.step) (λ m before. is_in looking (kind_of m.step) ≡ true) steps (λ m before is. scan_kind m.step is) scans
 
-pub allocates : {σ σ1 σ2 : Standing} (heap n first : ℕ) (find : Finds (large_directory heap) n σ σ1 (Some first)) (block : Block) → GivesRun (large_directory heap) first n block σ1 σ2 → AllocatesLarge heap n σ σ2 (Ok block)
-allocates heap n first find block give =
+scans_lead : (f : Profile) (steps : List Made) → OnlyScans steps → Leads f AnyView (Does nothing) steps
+scans_lead f steps scans = leads_idly f looking refl steps (scans_only steps scans)
+
+pub allocates : {σ σ1 σ2 : Standing} (heap n first : ℕ) (tells : Bool) (find : Finds (large_directory heap) n tells σ σ1 (Some first)) (block : Block) → GivesRun (large_directory heap) first n block σ1 σ2 → AllocatesLarge heap n tells σ σ2 (Ok block)
+allocates heap n first tells find block give =
     let d = large_directory heap in
-    let calls = call_then (GaveLarge d first n block) (found_call d n first find) give.calls (has_pages d n first find)
+    let calls = call_then (GaveLarge d first n block) (found_call d n first tells find) give.calls (has_pages d n first tells find)
     (λ v met ready gave. record { does = undone (λ g. in_span first (first + n) (g / 256)) (in_span first (first + n)) ready.got.apart ready.lacked ready.got.does gave.does; apart = ready.got.apart; deeds = gave.deeds; turn = gave.turn }) in
     record {
       searched = find.steps;
       after = _;
       adds = calls.adds;
+      told = λ t v l stood met. (first, find.told t v l stood met, ap (λ (b : Block). address_of b.name) give.block_is);
+      kinds = find.kinds;
+      shows = find.shows;
+      few = (let k = length-append (give.left ++ (give_steps first block give.word give.answer ++ give.backs)) find.steps in let a = give.few in let b = find.few in omega (arith, k, a, b));
       outcome = record {
         first = first;
         found = find.outcome;
         backs = give.backs;
         back_kinds = give.back_kinds;
         back_pages = give.back_pages;
+        back_few = give.back_few;
         word = give.word;
         answer = give.answer;
         block_is = give.block_is;
@@ -80,19 +95,34 @@ allocates heap n first find block give =
       };
     }
 
-pub refuses_large : {σ σ1 σ2 : Standing} (heap n : ℕ) (find : Finds (large_directory heap) n σ σ1 None) (why : NoRoom) → Refuses (large_directory heap) σ1 σ2 why → AllocatesLarge heap n σ σ2 (Err why)
-refuses_large {σ} {σ1} heap n find why refused =
+pub refuses_large : {σ σ1 σ2 : Standing} (heap n : ℕ) (tells : Bool) (find : Finds (large_directory heap) n tells σ σ1 None) (why : NoRoom) → (tells ≡ true → Tells σ2) → (tells ≡ true → (v : View) (l : Whole) → σ.stands v l → part σ.seat.actor l ≡ v) → Refuses (large_directory heap) σ1 σ2 why → AllocatesLarge heap n tells σ σ2 (Err why)
+refuses_large {σ} {σ1} heap n tells find why laws parts refused =
     let same : σ1.seat.profile ≡ σ.seat.profile = ap (λ (s : Seat). s.profile) find.adds.seat_is in
     let f : Profile = σ.seat.profile in
+    let adds = adds_call find.adds refused.adds (λ v l stood met. tt) in
+    let reason = subst (λ x. IsReason x (large_directory heap) (refused.steps ++ find.steps) why) same (refused.reason find.steps find.outcome.lacks) in
     record {
       searched = find.steps;
       after = refused.steps;
-      adds = adds_call find.adds refused.adds (λ v l stood met. tt);
+      adds = adds;
+      told = λ t v l stood met.
+          let found = find.told t v l stood met in
+          let steps = refused.steps ++ find.steps in
+          let only = only_both looking refused.steps find.steps (scans_only refused.steps refused.scans) found.1 in
+          let legal = legal_after adds (laws t) v l stood met in
+          let own = parts t v l stood in (
+            found.0,
+            none_after f σ.seat.actor l (large_directory heap) n steps only found.0,
+            true_reason f σ.seat.actor l (large_directory heap) steps legal only (subst (λ x. Agreed f x steps) (sym own) (adds.agreed v l stood met)) (λ p of. once_later (DeedReadHere p) refused.steps find.steps (find.outcome.vain.deeds p of)) why reason,
+          );
+      kinds = find.kinds;
+      shows = find.shows;
+      few = (let k = length-append refused.steps find.steps in let a = refused.few in let e = ap (λ (x : Profile). x.pages) same in let b = find.few in omega (arith, k, a, b, e));
       outcome = record {
         found = find.outcome;
         scans = refused.scans;
         few = let few = refused.few in let e = ap (λ (x : Profile). x.pages) same in omega (arith, few, e);
-        reason = subst (λ x. IsReason x (large_directory heap) (refused.steps ++ find.steps) why) same (refused.reason find.steps find.outcome.lacks);
+        reason = reason;
         still = leads_then (Does nothing) find.outcome.still (scans_lead f refused.steps refused.scans) (λ v w met does. tt) (λ v w u a b. does_then a b);
       };
     }

@@ -198,7 +198,7 @@ module _ {σ σ1 : Standing} (d : Directory) (first end page : ℕ) (high : page
       steps = ys ++ xs;
       adds = adds_call {D = λ v l. MayClaim page v} so_adds h.adds (λ v l stood met. page_may v met (so_adds.agreed v l stood met));
       kinds = only_both claiming ys xs h.kinds so_far.kinds;
-      few = let n = length-append ys xs in let a = h.few in let b = so_far.few in omega (arith, n, a, b, low, high);
+      few = let n = length-append ys xs in let a = h.few in let b = so_far.few in omega (arith, n, a, b, low, high, above);
       deeds = deeds_join d first page end page ys xs low high (omega (arith, high)) h.deeds so_far.deeds;
       shows = shows_both σ.seat.profile ys xs (subst (λ (s : Seat). OnlyDeedsShow s.profile ys) so_adds.seat_is h.shows) so_far.shows;
       span = (omega (arith, low, above), at.1);
@@ -378,7 +378,7 @@ module _ {σ σ1 : Standing} (d : Directory) (first end stop : ℕ) (ne : stop �
         steps = r.steps ++ h.steps;
         adds = calls.adds;
         kinds = only_both claiming r.steps h.steps (only_within giving_back claiming r.steps refl r.kinds) h.kinds;
-        few = let n = length-append r.steps h.steps in let a = r.few in let b = h.few in let le = h.span.1 in omega (arith, n, a, b, le);
+        few = let n = length-append r.steps h.steps in let a = r.few in let b = h.few in let le = h.span.0 in omega (arith, n, a, b, le);
         deeds = deeds_join d first end end stop r.steps h.steps h.span.0 before_end (omega arith) (no_deeds giving_back d stop r.steps refl r.kinds) h.deeds;
         shows = shows_both σ.seat.profile r.steps h.steps (shows_taking σ.seat.profile r.steps (only_within giving_back taking_pages r.steps refl r.kinds)) h.shows;
         outcome = record {

@@ -1,6 +1,6 @@
 -- The search for a run that can be claimed, one run more.
 use Rattle.pas_steps.proofs.SpareRoom.{Spares}
-use Rattle.std.proofs.Common.{ℕ, ◌+◌, ◌<◌, ◌≤◌, List, [], ◌++◌, refl, ◌∙◌, inl, inr, ◌⊎◌, arith, Option, ◌≡◌, ◌≢◌, true, ◌∷◌, Some, None, ap, sym, subst, append_assoc, true≢false, length}
+use Rattle.std.proofs.Common.{ℕ, ◌+◌, ◌<◌, ◌≤◌, List, [], ◌++◌, refl, ◌∙◌, inl, inr, ◌⊎◌, arith, Option, ◌≡◌, ◌≢◌, true, ◌∷◌, Some, None, ap, sym, subst, append_assoc, true≢false, length, ◌*◌, length-append}
 use Rattle.std.proofs.lemmas.Bool.{cases_lt, cases_eq}
 use Rattle.pas_profile.specs.declared.directory.Directory.{Directory}
 use Rattle.pas_profile.specs.declared.profile.Profile.{Profile}
@@ -15,26 +15,37 @@ use Rattle.pas_scan.specs.Usable.{DeedReadHere, UnusableHere, LeftAlone, ParksNo
 use Rattle.pas_scan.proofs.LeftPages.{usable_before, usable_later, unusable_before, left_alone_by, holds_own, deed_before, lacks_by}
 use Rattle.pas_steps.proofs.Frames.{right_own}
 use Rattle.pas_large.specs.Evidence.{LostHere, BrokenHere, BadHere, HasBad, IsVain, AllUsable, FailsHere, HasFailed, DeedsOf}
-use Rattle.pas_large.specs.Pages.{OnceAfter, GotPages, OnlyDeedsShow}
+use Rattle.pas_large.specs.Pages.{OnceAfter, GotPages, OnlyDeedsShow, claiming}
 use Rattle.pas_large.specs.Claims.{AloneFrom, FailsRun, in_span, MayClaimPages, HasRunRoom, LacksAll, ClaimsRun, HoldsRun}
 use Rattle.pas_steps.specs.Calls.{Leads, nothing, Does}
 use Rattle.pas_steps.specs.Desks.{Seat, Standing, Adds, CanCall, triples}
 use Rattle.pas_steps.specs.Evidence.{ReadsDeed, NoDeedHere}
 use Rattle.pas_steps.specs.declared.step.Step.{Step}
 use Rattle.pas_steps.specs.declared.step.Step.TheVariants.{Deed}
-use Rattle.pas_steps.proofs.Adding.{adds_none, adds_call, agreed_first, agreed_later}
-use Rattle.pas_steps.proofs.Apart.{no_events}
+use Rattle.pas_steps.proofs.Adding.{Tells, adds_none, adds_call, agreed_first, agreed_later, legal_after}
+use Rattle.pas_steps.proofs.Apart.{no_events, only_both, only_within}
 use Rattle.pas_steps.proofs.Calls.{does_none, leads_none, leads_idly, leads_then, does_then, still_clear}
 use Rattle.pas_steps.proofs.Kept.{deed_stays}
 use Rattle.pas_steps.proofs.Unknown.{unknown_stays}
-use Rattle.pas_large.specs.Finds.{MayFind, FindRoom, Finds}
+use Rattle.std.specs.Prelude.{Bool}
+use Rattle.std.proofs.lemmas.List.{append-nil}
+use Rattle.pas_profile.specs.Directories.{IsKind}
+use Rattle.pas_steps.specs.Kinds.{looking}
+use Rattle.pas_steps.specs.Lists.{Whole, part, Legal}
+use Rattle.pas_steps.specs.Views.{has_right}
+use Rattle.pas_core.proofs.OneActorGrains.{lends_none}
+use Rattle.pas_large.specs.Telling.{IsUsableRun, IsLowestRun}
+use Rattle.pas_large.proofs.Told.{usable_told, has_unusable, fails_told}
+use Rattle.pas_large.specs.Finds.{MayFind, FindRoom, finding, Finds}
 use Rattle.pas_large.proofs.Pages.{shows_both, known_of}
 use Rattle.pas_large.proofs.Claims.{room_after, in_parts, got_after}
 
--- ---- the search of runs so far: each run that begins below the next page can't serve
-pub record VainSoFar (d : Directory) (n from : ℕ) (steps : List Made) : Type 0 where
+-- ---- the search of runs so far: each run that begins below page `from` can't serve, and the pages from there to below `next` were read as usable
+pub record VainSoFar (d : Directory) (n from next : ℕ) (steps : List Made) : Type 0 where
+  pub order : (from ≤ next) × (next < from + n)
   pub runs : (first : ℕ) → 1 ≤ first → first < from → HasBad d n first steps
-  pub deeds : (page : ℕ) → 1 ≤ page → page < from → Once (DeedReadHere page) steps
+  pub deeds : (page : ℕ) → 1 ≤ page → page < next → Once (DeedReadHere page) steps
+  pub usable : (page : ℕ) → from ≤ page → page < next → ReadUsable d page steps
   pub alone : AloneFrom from steps
 
 bad_later : (d : Directory) (n first : ℕ) (ys xs : List Made) → HasBad d n first xs → HasBad d n first (ys ++ xs)
@@ -58,9 +69,9 @@ alone_looks p ys xs looks alone =
     }
 
 -- the search found no run
-vain_ends : (f : Profile) (d : Directory) (n from : ℕ) (ys xs : List Made) → 1 ≤ from → VainSoFar d n from xs → HasNoRun f d from n ys → IsVain f d n (ys ++ xs)
-vain_ends f d n from ys xs some so_far none = record {
-  deeds = λ p of. elim (cases_lt p from) [
+vain_ends : (f : Profile) (d : Directory) (n from next : ℕ) (ys xs : List Made) → 1 ≤ from → VainSoFar d n from next xs → HasNoRun f d from next n ys → IsVain f d n (ys ++ xs)
+vain_ends f d n from next ys xs some so_far none = record {
+  deeds = λ p of. elim (cases_lt p next) [
     | inl low ↦ once_later (DeedReadHere p) ys xs (so_far.deeds p of.0 low)
     | inr high ↦ deed_before p ys xs (none.deeds p high of.1)
   ];
@@ -71,7 +82,7 @@ vain_ends f d n from ys xs some so_far none = record {
 }
 
 -- it found one
-module _ (f : Profile) (d : Directory) (n from first : ℕ) (some : 1 ≤ from) (ys xs : List Made) (so_far : VainSoFar d n from xs) (looks : Only page_looks ys) (found : IsFirstRun f d from n ys first) where
+module _ (f : Profile) (d : Directory) (n from next first : ℕ) (some : 1 ≤ from) (ys xs : List Made) (so_far : VainSoFar d n from next xs) (looks : Only page_looks ys) (found : IsFirstRun f d from next n ys first) where
   abbrev before : List Made
   before = ys ++ xs
 
@@ -79,7 +90,10 @@ module _ (f : Profile) (d : Directory) (n from first : ℕ) (some : 1 ≤ from) 
   first_alone p ge = let low = found.from_there in alone_looks p ys xs looks (so_far.alone p (omega (arith, low, ge)))
 
   all_usable : AllUsable d n first (ys ++ xs)
-  all_usable p here = let low = found.from_there in let ge = here.0 in usable_before d p ys xs (so_far.alone p (omega (arith, low, ge))) (found.usable p here)
+  all_usable p here = let low = found.from_there in let ge = here.0 in elim (cases_lt p next) [
+    | inl old ↦ usable_later d p ys xs (so_far.usable p (omega (arith, low, ge)) old)
+    | inr new ↦ usable_before d p ys xs (so_far.alone p (omega (arith, low, ge))) (found.usable p here new)
+  ]
 
   usable_still : (b : List Made) → AllUsable d n first (b ++ (ys ++ xs))
   usable_still b p here = usable_later d p b before (all_usable p here)
@@ -98,17 +112,19 @@ module _ (f : Profile) (d : Directory) (n from first : ℕ) (some : 1 ≤ from) 
       | inr broken ↦ once_map (λ m b. BrokenHere page m (b ++ before)) (λ m b. LostHere d page m (b ++ before) ⊎ BrokenHere page m (b ++ before)) zs (λ m b x. inr x) broken
     ]
 
-    vain_goes_on : VainSoFar d n (page + 1) (zs ++ (ys ++ xs))
+    vain_goes_on : VainSoFar d n (page + 1) (first + n) (zs ++ (ys ++ xs))
     vain_goes_on = record {
+      order = (let lt = fails.in_run.1 in omega (arith, lt), (let le = fails.in_run.0 in omega (arith, le)));
       runs = λ s low lt. elim (cases_lt s first) [
         | inl early ↦ lower_bad zs s low early
         | inr late ↦ let high = fails.in_run.1 in
             (page, (omega (arith, lt), omega (arith, late, high)), once_earlier (λ m b. LostHere d page m (b ++ before) ⊎ BrokenHere page m (b ++ before)) (BadHere d page) zs before (λ m b x. inr x) failed)
       ];
-      deeds = λ p low lt. elim (cases_lt p from) [
+      deeds = λ p low lt. elim (cases_lt p next) [
         | inl below ↦ once_later (DeedReadHere p) zs before (once_later (DeedReadHere p) ys xs (so_far.deeds p low below))
-        | inr above ↦ let high = fails.in_run.1 in once_later (DeedReadHere p) zs before (deed_before p ys xs (found.deeds p above (omega (arith, lt, high))))
+        | inr above ↦ once_later (DeedReadHere p) zs before (deed_before p ys xs (found.deeds p above lt))
       ];
+      usable = λ p ge lt. usable_still zs p (let low = fails.in_run.0 in omega (arith, ge, low), lt);
       alone = fails.alone before first_alone;
     }
 
@@ -144,46 +160,47 @@ deeds_looks : (d : Directory) (n : ℕ) (P : ℕ → Type 0) (ys xs : List Made)
 deeds_looks d n P ys xs looks = always_both (λ m before. is_in page_looks (kind_of m.step) ≡ true) (DeedOf d n P) ys xs (λ m before is p e same z. absurd (true≢false (sym is ∙ ap (λ s. is_in page_looks (kind_of s)) same))) looks
 
 -- ---- the search so far
-pub record SearchedRuns (d : Directory) (n from : ℕ) (desk desk' : Standing) : Type 0 where
+pub record SearchedRuns (d : Directory) (n from next : ℕ) (desk desk' : Standing) : Type 0 where
   pub steps : List Made
   pub adds : Adds desk desk' (λ v l. MayFind d v) steps
   pub still : Leads desk.seat.profile (MayFind d) (Does nothing) steps
   pub shows : OnlyDeedsShow desk.seat.profile steps
   pub lacks : LacksAll steps
-  pub vain : VainSoFar d n from steps
+  pub kinds : Only finding steps
+  pub within : next ≤ desk.seat.profile.pages + 1
+  pub few : length steps + 54 ≤ 6 * next + 48 * from
+  pub vain : VainSoFar d n from next steps
   pub deeds : DeedsOf d n (λ other. HasFailed d n other steps) steps
 
-pub searched_none : {σ : Standing} (d : Directory) (n : ℕ) → SearchedRuns d n 1 σ σ
-searched_none d n = record {
+pub searched_none : {σ : Standing} (d : Directory) (n : ℕ) → 1 ≤ n → SearchedRuns d n 1 1 σ σ
+searched_none d n some = record {
+  kinds = tt;
+  within = omega arith;
+  few = omega arith;
   steps = [];
   adds = adds_none;
   still = leads_none (λ v met. does_none v);
   shows = λ k v agreed. omega arith;
   lacks = λ p. refl;
-  vain = record { runs = λ s some lt. absurd (omega (arith, some, lt)); deeds = λ p some lt. absurd (omega (arith, some, lt)); alone = λ p ge. left_alone_by page_looks refl refl p [] tt };
+  vain = record { order = (omega arith, omega (arith, some)); runs = λ s low lt. absurd (omega (arith, low, lt)); deeds = λ p low lt. absurd (omega (arith, low, lt)); usable = λ p ge lt. absurd (omega (arith, ge, lt)); alone = λ p ge. left_alone_by page_looks refl refl p [] tt };
   deeds = tt;
 }
+
+pub none_searched : (σ : Standing) (d : Directory) (n : ℕ) (some : 1 ≤ n) → (searched_none {σ = σ} d n some).steps ≡ []
+unfolding searched_none
+none_searched σ d n some = refl
 
 abbrev pub may_find : {σ : Standing} {f : Profile} {d : Directory} {n spare : ℕ} → CanCall σ (λ v l. FindRoom f d n spare v) → CanCall σ (λ v l. MayFind d v)
 may_find can = record { view = can.view; whole = can.whole; stood = can.stood; met = can.met.may }
 
--- no run is left
-pub none_left : {σ σ1 : Standing} (d : Directory) (n from : ℕ) → 1 ≤ n → σ.seat.profile.pages < from → SearchedRuns d n from σ σ1 → Finds d n σ σ1 None
-none_left {σ} d n from some past so_far = record {
-  steps = so_far.steps;
-  adds = so_far.adds;
-  shows = so_far.shows;
-  outcome = record { still = so_far.still; vain = record { deeds = λ p of. let le = of.1 in so_far.vain.deeds p of.0 (omega (arith, le, past)); runs = λ s low le. so_far.vain.runs s low (omega (arith, le, past, some)) }; deeds = so_far.deeds; lacks = so_far.lacks };
-}
-
-module _ {σ σ1 : Standing} (d : Directory) (n from : ℕ) (low : 1 ≤ from) (so_far : SearchedRuns d n from σ σ1) where
+module _ {σ σ1 : Standing} (d : Directory) (n from next : ℕ) (low : 1 ≤ from) (so_far : SearchedRuns d n from next σ σ1) where
   abbrev f : Profile
   f = σ.seat.profile
 
   abbrev xs : List Made
   xs = so_far.steps
 
-  module _ {σ2 : Standing} {found : Option ℕ} (find : FindsRun d from n σ1 σ2 found) where
+  module _ {σ2 : Standing} {found : Option ℕ} (find : FindsRun d from next n σ1 σ2 found) where
     abbrev ys : List Made
     ys = find.steps
 
@@ -192,6 +209,9 @@ module _ {σ σ1 : Standing} (d : Directory) (n from : ℕ) (low : 1 ≤ from) (
 
     look_still : Leads f (MayFind d) (Does nothing) (ys ++ xs)
     look_still = leads_then (Does nothing) so_far.still (leads_idly f page_looks refl ys find.kinds) (λ v w met does. tt) (λ v w u a b. does_then a b)
+
+    look_kinds : Only finding (ys ++ xs)
+    look_kinds = only_both finding ys xs (only_within page_looks finding ys refl find.kinds) so_far.kinds
 
     look_shows : OnlyDeedsShow f (ys ++ xs)
     look_shows = shows_both f ys xs (λ k v agreed. let none = ap (λ es. length es) (no_events page_looks refl k v ys find.kinds) in let stays = unknown_stays f ys v agreed in omega (arith, none, stays)) so_far.shows
@@ -202,30 +222,48 @@ module _ {σ σ1 : Standing} (d : Directory) (n from : ℕ) (low : 1 ≤ from) (
     same : σ1.seat.profile ≡ f
     same = ap (λ (s : Seat). s.profile) so_far.adds.seat_is
 
+    -- on a desk that tells the whole state these are the first looks
+    looks_alone : xs ≡ [] → Only looking ys
+    looks_alone none = only_within page_looks looking ys refl find.kinds
+
+    all_alone : xs ≡ [] → ys ++ xs ≡ ys
+    all_alone none = ap (λ zs. ys ++ zs) none ∙ append-nil ys
+
+    legal_alone : Tells σ2 → xs ≡ [] → (v : View) (l : Whole) → σ.stands v l → MayFind d v → Legal f (triples σ.seat.actor ys ++ l)
+    legal_alone tells none v l stood met = subst (λ zs. Legal f (triples σ.seat.actor zs ++ l)) (all_alone none) (legal_after look_adds tells v l stood met)
+
   -- the scan found none
-  pub finds_none : {σ2 : Standing} → FindsRun d from n σ1 σ2 None → Finds d n σ σ2 None
-  finds_none find = record {
+  pub finds_none : {σ2 : Standing} (tells : Bool) → (tells ≡ true → Tells σ2) → (tells ≡ true → (from ≡ 1) × (next ≡ 1) × (xs ≡ [])) → FindsRun d from next n σ1 σ2 None → Finds d n tells σ σ2 None
+  finds_none tells laws first find = record {
+    told = λ t v l stood met.
+        let at = first t in
+        let legal = legal_alone find (laws t) at.2 v l stood met in
+        let only = looks_alone find at.2 in
+        let none = subst (λ x. HasNoRun x d from next n find.steps) (same find) find.outcome in
+        (λ start low le usable. has_unusable f σ.seat.actor l d n start find.steps legal only (none.runs start (let one = at.0 in omega (arith, one, low)) le) usable, subst (Only looking) (sym (all_alone find at.2)) only);
     steps = find.steps ++ xs;
     adds = look_adds find;
+    kinds = look_kinds find;
     shows = look_shows find;
+    few = (let k = length-append find.steps xs in let a = find.few in let b = so_far.few in let within = so_far.within in let e = ap (λ (x : Profile). x.pages) (same find) in let le = so_far.vain.order.0 in omega (arith, k, a, b, within, e, le));
     outcome = record {
       still = look_still find;
-      vain = vain_ends f d n from find.steps xs low so_far.vain (subst (λ x. HasNoRun x d from n find.steps) (same find) find.outcome);
+      vain = vain_ends f d n from next find.steps xs low so_far.vain (subst (λ x. HasNoRun x d from next n find.steps) (same find) find.outcome);
       deeds = deeds_looks d n (λ other. HasFailed d n other (find.steps ++ xs)) find.steps xs find.kinds (deeds_map d n (λ other. HasFailed d n other xs) (λ other. HasFailed d n other (find.steps ++ xs)) xs (λ s h. once_later _ find.steps xs h) so_far.deeds);
       lacks = look_lacks find;
     };
   }
 
   -- it found one
-  module _ {σ2 : Standing} (first : ℕ) (find : FindsRun d from n σ1 σ2 (Some first)) where
+  module _ {σ2 : Standing} (first : ℕ) (find : FindsRun d from next n σ1 σ2 (Some first)) where
     abbrev ls : List Made
     ls = find.steps ++ xs
 
-    pub run_at : IsFirstRun σ.seat.profile d from n find.steps first
-    run_at = subst (λ x. IsFirstRun x d from n find.steps first) (same find) find.outcome
+    pub run_at : IsFirstRun σ.seat.profile d from next n find.steps first
+    run_at = subst (λ x. IsFirstRun x d from next n find.steps first) (same find) find.outcome
 
     usable : AllUsable d n first (find.steps ++ xs)
-    usable = all_usable f d n from first low find.steps xs so_far.vain find.kinds run_at
+    usable = all_usable f d n from next first low find.steps xs so_far.vain find.kinds run_at
 
     run_may : (v : View) → MayFind d v → Agreed f v (find.steps ++ xs) → MayClaimPages first (first + n) ((find.steps ++ xs) ++ v)
     run_may v met agreed =
@@ -255,21 +293,49 @@ module _ {σ σ1 : Standing} (d : Directory) (n from : ℕ) (low : 1 ≤ from) (
       claim_adds : Adds σ σ3 (λ v l. MayFind d v) (zs ++ ls)
       claim_adds = let adds = look_adds find in adds_call {D = λ v l. MayClaimPages first (first + n) v} adds claim.adds (λ v l stood met. run_may v met (adds.agreed v l stood met))
 
+      claim_kinds : Only finding (zs ++ ls)
+      claim_kinds = only_both finding zs ls (only_within claiming finding zs refl claim.kinds) (look_kinds find)
+
       claim_shows : OnlyDeedsShow f (zs ++ ls)
       claim_shows = shows_both f zs ls (subst (λ x. OnlyDeedsShow x zs) same2 claim.shows) (look_shows find)
 
       claim_deeds : (P : ℕ → Type 0) → P first → ((s : ℕ) → HasFailed d n s xs → P s) → DeedsOf d n P (zs ++ ls)
       claim_deeds P its more = always_both (λ m before. (p : ℕ) (e : Directory) → m.step ≡ Deed p e → m.answer ≡ 0 → (e ≡ d) × (first ≤ p) × (p < first + n)) (DeedOf d n P) zs ls
-          (λ m before h p e is z. let at = h p e is z in (at.0, (first, (at.1, at.2), usable_still f d n from first low find.steps xs so_far.vain find.kinds run_at before, its)))
+          (λ m before h p e is z. let at = h p e is z in (at.0, (first, (at.1, at.2), usable_still f d n from next first low find.steps xs so_far.vain find.kinds run_at before, its)))
           claim.deeds (deeds_looks d n P find.steps xs find.kinds (deeds_map d n (λ other. HasFailed d n other xs) P xs more so_far.deeds))
 
+    -- on a desk that tells the whole state all its pages are usable
+    all_usable_told : (l : Whole) → Legal f (triples σ.seat.actor find.steps ++ l) → (from ≡ 1) × (next ≡ 1) × (xs ≡ []) → IsUsableRun d n l first
+    all_usable_told l legal at p here =
+        let ge = run_at.from_there in let one = at.0 in let also = at.1 in let from_first = here.0 in
+        usable_told f σ.seat.actor l d p find.steps legal (looks_alone find at.2) (run_at.usable p here (omega (arith, ge, one, also, from_first)))
+
+    lowest_told : (l : Whole) → Legal f (triples σ.seat.actor find.steps ++ l) → (from ≡ 1) × (next ≡ 1) × (xs ≡ []) → IsLowestRun f d n l first
+    lowest_told l legal at = record {
+      of_region = (let ge = run_at.from_there in omega (arith, ge, low), run_at.of_region);
+      usable = all_usable_told l legal at;
+      lowest = λ other some lt u. has_unusable f σ.seat.actor l d n other find.steps legal (looks_alone find at.2) (run_at.lower other (let one = at.0 in omega (arith, one, some)) lt) u;
+    }
+
+    -- and its claim doesn't fail
+    pub never_fails : {σ3 : Standing} → IsKind d.kind → Tells σ2 → Tells σ3 → (page : ℕ) → (claim : ClaimsRun d first (first + n) σ2 σ3 (Some page)) → (from ≡ 1) × (next ≡ 1) × (xs ≡ []) → (can : CanCall σ (λ v l. MayFind d v)) → part σ.seat.actor can.whole ≡ can.view → ⊥
+    never_fails kind tells2 tells3 page claim at can own =
+        let adds = claim_adds claim in
+        let agreed = adds.agreed can.view can.whole can.stood can.met in
+        let fails = subst (λ x. FailsRun x d first (first + n) page claim.steps) (same2 claim) claim.outcome in
+        let legal = legal_alone find tells2 at.2 can.view can.whole can.stood can.met in
+        fails_told f σ.seat.actor can.whole d n first (claim.steps ++ ls) kind (legal_after adds tells3 can.view can.whole can.stood can.met) (lends_none finding refl (claim.steps ++ ls) (claim_kinds claim))
+        (all_usable_told can.whole legal at)
+        (λ p here. ap (λ v. has_right v p) own ∙ can.met.lacks p (knew f d p ls can.view (agreed_later f can.view claim.steps ls agreed) (usable p here)))
+        (run_has_failed f d n from next first low find.steps xs so_far.vain find.kinds run_at page claim.steps fails can.view agreed)
+
     -- its claim failed
-    pub goes_on : {σ3 : Standing} → CanCall σ (λ v l. MayFind d v) → (page : ℕ) → ClaimsRun d first (first + n) σ2 σ3 (Some page) → SearchedRuns d n (page + 1) σ σ3
+    pub goes_on : {σ3 : Standing} → CanCall σ (λ v l. MayFind d v) → (page : ℕ) → ClaimsRun d first (first + n) σ2 σ3 (Some page) → SearchedRuns d n (page + 1) (first + n) σ σ3
     goes_on can page claim =
         let fails = subst (λ x. FailsRun x d first (first + n) page claim.steps) (same2 claim) claim.outcome in
         let adds = claim_adds claim in
         let agreed = adds.agreed can.view can.whole can.stood can.met in
-        let failed = run_has_failed f d n from first low find.steps xs so_far.vain find.kinds run_at page claim.steps fails can.view agreed in
+        let failed = run_has_failed f d n from next first low find.steps xs so_far.vain find.kinds run_at page claim.steps fails can.view agreed in
         record {
           steps = claim.steps ++ ls;
           adds = adds;
@@ -278,21 +344,27 @@ module _ {σ σ1 : Standing} (d : Directory) (n from : ℕ) (low : 1 ≤ from) (
                 let before = agreed_later f v claim.steps ls agreed in
                 subst (Does nothing v) (sym (append_assoc claim.steps ls v)) (does_then ((look_still find).from v met before) (fails.still.from (ls ++ v) (run_may v met before) (agreed_first f v claim.steps ls agreed)));
           };
+          kinds = claim_kinds claim;
           shows = claim_shows claim;
           lacks = fails.lacks ls (look_lacks find);
-          vain = vain_goes_on f d n from first low find.steps xs so_far.vain find.kinds run_at page claim.steps fails can.view agreed;
+          within = run_at.of_region;
+          few = (let k = length-append claim.steps ls in let j = length-append find.steps xs in let a = find.few in let b = so_far.few in let c = claim.few in let ge = run_at.from_there in omega (arith, k, j, a, b, c, ge));
+          vain = vain_goes_on f d n from next first low find.steps xs so_far.vain find.kinds run_at page claim.steps fails can.view agreed;
           deeds = claim_deeds claim (λ other. HasFailed d n other (claim.steps ++ ls)) failed (λ s h. once_later _ claim.steps ls (once_later _ find.steps xs h));
         }
 
     -- it was claimed
-    pub finds_run : {σ3 : Standing} → 1 ≤ n → ClaimsRun d first (first + n) σ2 σ3 None → Finds d n σ σ3 (Some first)
-    finds_run some claim =
+    pub finds_run : {σ3 : Standing} (tells : Bool) → (tells ≡ true → Tells σ2) → (tells ≡ true → (from ≡ 1) × (next ≡ 1) × (xs ≡ [])) → 1 ≤ n → ClaimsRun d first (first + n) σ2 σ3 None → Finds d n tells σ σ3 (Some first)
+    finds_run tells laws alone some claim =
         let holds_it = subst (λ x. HoldsRun x d first (first + n) claim.steps) (same2 claim) claim.outcome in
-        let span = holds_it.holding ls (first_alone f d n from first low find.steps xs so_far.vain find.kinds run_at) in
+        let span = holds_it.holding ls (first_alone f d n from next first low find.steps xs so_far.vain find.kinds run_at) in
         record {
           steps = claim.steps ++ ls;
           adds = claim_adds claim;
+          told = λ t v l stood met. lowest_told l (legal_alone find (laws t) (alone t).2 v l stood met) (alone t);
+          kinds = claim_kinds claim;
           shows = claim_shows claim;
+          few = (let k = length-append claim.steps ls in let j = length-append find.steps xs in let a = find.few in let b = so_far.few in let c = claim.few in let ge = run_at.from_there in let region = run_at.of_region in omega (arith, k, j, a, b, c, ge, region));
           outcome = record {
             of_region = (let ge = run_at.from_there in omega (arith, ge, low), run_at.of_region);
             got = record {
@@ -307,11 +379,11 @@ module _ {σ σ1 : Standing} (d : Directory) (n from : ℕ) (low : 1 ≤ from) (
                   (let does = (look_still find).from v met before in sym (does.right p)) ∙ (run_may v met before).lacks p at.0 at.1;
             };
             taken = record {
-              usable = usable_still f d n from first low find.steps xs so_far.vain find.kinds run_at claim.steps;
+              usable = usable_still f d n from next first low find.steps xs so_far.vain find.kinds run_at claim.steps;
               right = λ p is. span.right p is.0 is.1;
               whole = λ p word is lt. span.whole p word is.0 is.1 lt;
             };
-            lower = lower_bad f d n from first low find.steps xs so_far.vain find.kinds run_at claim.steps;
+            lower = lower_bad f d n from next first low find.steps xs so_far.vain find.kinds run_at claim.steps;
             deeds = claim_deeds claim (λ other. (other ≡ first) ⊎ HasFailed d n other (claim.steps ++ ls)) (inl refl) (λ s h. inr (once_later _ claim.steps ls (once_later _ find.steps xs h)));
           };
         }

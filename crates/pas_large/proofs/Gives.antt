@@ -152,7 +152,7 @@ module _ (d : Directory) (first n word : ℕ) where
   abbrev block : Block
   block = run_block d first n word
 
-  run_is : (g : ℕ) → in_run (grain_of (run_block d first n word).name) (length_of (run_block d first n word)) g ≡ in_span first (first + n) (g / 256)
+  pub run_is : (g : ℕ) → in_run (grain_of (run_block d first n word).name) (length_of (run_block d first n word)) g ≡ in_span first (first + n) (g / 256)
   run_is g =
       let at : first * 4096 / 16 ≡ first * 256 = omega arith in let long : n * 4096 / 16 ≡ n * 256 = omega arith in
       ap (λ x. in_run x (n * 4096 / 16) g) at ∙ ap (λ x. in_run (first * 256) x g) long ∙ run_span first n g
@@ -261,6 +261,7 @@ module _ {σ σ1 : Standing} (d : Directory) (first n : ℕ) (backs : BacksRun d
       backs = backs.steps;
       back_kinds = backs.kinds;
       back_pages = backs.backs;
+      back_few = (let few = backs.few in omega (arith, few));
       word = give.word;
       answer = give.answer;
       block_is = give.block_is;

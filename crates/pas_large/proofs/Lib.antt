@@ -4,3 +4,5 @@ pub mod Refusals
 pub mod Gives
 pub mod Finds
 pub mod Allocates
+pub mod Told
+pub mod ToldReasons

@@ -1,20 +1,23 @@
 -- The allocation of a large block.
-use Rattle.std.specs.Prelude.{ℕ, ◌+◌, ◌*◌, ◌/◌, ◌^◌, ◌<◌, ◌≤◌, ◌≡◌, true, false, List, [], ◌∷◌, ◌++◌, length, Result, MatchResult}
+use Rattle.std.specs.Prelude.{ℕ, ◌+◌, ◌*◌, ◌/◌, ◌^◌, ◌<◌, ◌≤◌, ◌≡◌, Bool, true, false, List, [], ◌∷◌, ◌++◌, length, Result, MatchResult}
 use Rattle.pas_profile.specs.declared.directory.Directory.{Directory}
 use Rattle.pas_profile.specs.declared.event.NoRoom.{NoRoom}
 use Rattle.pas_profile.specs.declared.name.Block.{Block}
 use Rattle.pas_profile.specs.declared.profile.Profile.{Profile}
 use Rattle.pas_scan.specs.Runs.{large_directory}
 use Rattle.pas_steps.specs.Calls.{Leads, nothing, Does}
-use Rattle.pas_steps.specs.Desks.{Standing, Adds}
+use Rattle.pas_steps.specs.Desks.{Standing, Adds, triples}
+use Rattle.pas_steps.specs.Lists.{Whole}
 use Rattle.pas_steps.specs.Frames.{OnlyScans}
 use Rattle.pas_steps.specs.Kinds.{Backing, Only, returning}
 use Rattle.pas_steps.specs.Views.{View, holds, KnowsDeed}
 use Rattle.pas_steps.specs.declared.step.Made.{Made}
 use Rattle.pas_large.specs.Claims.{in_span}
-use Rattle.pas_large.specs.Finds.{MayFind, FoundRun, FoundNone}
+use Rattle.pas_large.specs.Finds.{MayFind, finding, FoundRun, FoundNone}
+use Rattle.pas_large.specs.Pages.{OnlyDeedsShow}
 use Rattle.pas_large.specs.Gives.{BacksIn, run_block, give_steps}
 use Rattle.pas_large.specs.Refusals.{IsReason}
+use Rattle.pas_large.specs.Telling.{IsToldLarge}
 
 -- What the actor holds and has is as it was: none of the block's grains was held. The pages are known to be of the directory.
 pub record GaveLarge (d : Directory) (first n : ℕ) (block : Block) (v w : View) : Type 0 where
@@ -30,6 +33,7 @@ pub record IsAllocatedLarge (f : Profile) (d : Directory) (n : ℕ) (searched af
   pub backs : List Made
   pub back_kinds : Only (Backing ∷ []) backs
   pub back_pages : BacksIn first (first + n) backs
+  pub back_few : length backs ≤ n
   pub word : ℕ
   pub answer : ℕ
   pub block_is : block ≡ run_block d first n word
@@ -47,8 +51,13 @@ pub record IsRefusedLarge (f : Profile) (d : Directory) (n : ℕ) (searched afte
   pub reason : IsReason f d (after ++ searched) why
   pub still : Leads f (MayFind d) (Does nothing) (after ++ searched)
 
-pub record AllocatesLarge (heap n : ℕ) (desk desk' : Standing) (answer : Result Block NoRoom) : Type 0 where
+-- A request makes at most 56 steps for each page of the region, 12 for each page that is asked for, and 66 more.
+pub record AllocatesLarge (heap n : ℕ) (tells : Bool) (desk desk' : Standing) (answer : Result Block NoRoom) : Type 0 where
   pub searched : List Made
   pub after : List Made
   pub adds : Adds desk desk' (λ v l. MayFind (large_directory heap) v) (after ++ searched)
+  pub kinds : Only finding searched
+  pub shows : OnlyDeedsShow desk.seat.profile searched
+  pub few : length (after ++ searched) ≤ 56 * desk.seat.profile.pages + 12 * n + 66
   pub outcome : MatchResult answer (IsAllocatedLarge desk.seat.profile (large_directory heap) n searched after) (IsRefusedLarge desk.seat.profile (large_directory heap) n searched after)
+  pub told : tells ≡ true → (v : View) (l : Whole) → desk.stands v l → MayFind (large_directory heap) v → IsToldLarge desk.seat.profile (large_directory heap) n l (triples desk.seat.actor (after ++ searched) ++ l) answer

@@ -1,5 +1,5 @@
 -- The claim of the pages of a run, and how they are left.
-use Rattle.std.specs.Prelude.{ℕ, ◌+◌, ◌-◌, ◌*◌, ◌/◌, ◌<◌, ◌≤◌, ◌≡◌, ◌⊎◌, nat_le, nat_lt, Bool, true, false, ◌&&◌, List, ◌++◌, length, Option, MatchOption}
+use Rattle.std.specs.Prelude.{ℕ, ◌+◌, ◌-◌, ◌*◌, ◌/◌, ◌<◌, ◌≤◌, ◌≡◌, ◌⊎◌, min, nat_le, nat_lt, Bool, true, false, ◌&&◌, List, ◌++◌, length, Option, MatchOption}
 use Rattle.pas_profile.specs.declared.directory.Directory.{Directory}
 use Rattle.pas_profile.specs.declared.profile.Profile.{Profile}
 use Rattle.pas_segregated.specs.Returns.{giving_back}
@@ -54,12 +54,12 @@ abbrev pub FailsAt : Profile → Directory → ℕ → ℕ → List Made → Typ
 FailsAt f d first page steps = (before : List Made) (v : View) → AloneFrom first before → ReadUsable d page before → Agreed f v (steps ++ before)
     → OnceAfter before (LostHere d page) steps ⊎ OnceAfter before (BrokenHere page) steps
 
--- The pages below `stop` are the actor's. Where that isn't the end, the page `stop` was lost or broken. At most 33 steps a page.
+-- The pages below `stop` are the actor's. Where that isn't the end, the page `stop` was lost or broken. At most 33 steps for each page that was tried.
 pub record ClaimsPages (d : Directory) (first end : ℕ) (desk desk' : Standing) (stop : ℕ) : Type 0 where
   pub steps : List Made
   pub adds : Adds desk desk' (λ v l. MayClaimPages first end v) steps
   pub kinds : Only claiming steps
-  pub few : length steps ≤ 33 * (end - first)
+  pub few : length steps ≤ 33 * (min (stop + 1) end - first)
   pub deeds : DeedsIn d first end steps
   pub shows : OnlyDeedsShow desk.seat.profile steps
   pub span : (first ≤ stop) × (stop ≤ end)
@@ -100,12 +100,12 @@ pub record FailsRun (f : Profile) (d : Directory) (first end page : ℕ) (steps 
   pub alone : (before : List Made) → AloneFrom first before → AloneFrom (page + 1) (steps ++ before)
   pub failed : FailsAt f d first page steps
 
--- At most 48 steps a page.
+-- At most 48 steps for each page that was tried.
 pub record ClaimsRun (d : Directory) (first end : ℕ) (desk desk' : Standing) (failed : Option ℕ) : Type 0 where
   pub steps : List Made
   pub adds : Adds desk desk' (λ v l. MayClaimPages first end v) steps
   pub kinds : Only claiming steps
-  pub few : length steps ≤ 48 * (end - first)
+  pub few : MatchOption failed (length steps ≤ 48 * (end - first)) (λ page. length steps + 48 * first ≤ 48 * (page + 1))
   pub deeds : DeedsIn d first end steps
   pub shows : OnlyDeedsShow desk.seat.profile steps
   pub outcome : MatchOption failed (HoldsRun desk.seat.profile d first end steps) (λ page. FailsRun desk.seat.profile d first end page steps)

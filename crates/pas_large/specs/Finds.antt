@@ -1,16 +1,19 @@
 -- The search for a run that can be claimed.
-use Rattle.std.specs.Prelude.{ℕ, ◌+◌, ◌<◌, ◌≤◌, ◌≡◌, ◌⊎◌, true, false, List, Option, MatchOption}
+use Rattle.std.specs.Prelude.{ℕ, ◌+◌, ◌*◌, ◌<◌, ◌≤◌, ◌≡◌, ◌⊎◌, Bool, true, false, ◌∷◌, List, length, Option, MatchOption}
 use Rattle.pas_profile.specs.declared.directory.Directory.{Directory}
 use Rattle.pas_profile.specs.declared.profile.Profile.{Profile}
 use Rattle.pas_steps.specs.Calls.{Leads, nothing, Does}
 use Rattle.pas_steps.specs.Clear.{IsClear}
 use Rattle.pas_steps.specs.Desks.{Standing, Adds}
+use Rattle.pas_steps.specs.Kinds.{Kinds, LookFree, LookEligible, looking, Only}
+use Rattle.pas_steps.specs.Lists.{Whole}
 use Rattle.pas_steps.specs.Unknown.{unknown_pages}
 use Rattle.pas_steps.specs.Views.{View, has_right, known_deed, KnowsDeed}
 use Rattle.pas_steps.specs.declared.step.Made.{Made}
 use Rattle.pas_large.specs.Claims.{in_span, LacksAll}
 use Rattle.pas_large.specs.Evidence.{HasBad, IsVain, HasFailed, DeedsOf, IsTakenRun}
-use Rattle.pas_large.specs.Pages.{GotPages, OnlyDeedsShow}
+use Rattle.pas_large.specs.Telling.{HasNoUsableRun, IsLowestRun}
+use Rattle.pas_large.specs.Pages.{GotPages, OnlyDeedsShow, claiming}
 
 -- the actor is clear, and has no right of a page that is of the directory or whose deed it doesn't know
 pub record MayFind (d : Directory) (v : View) : Type 0 where
@@ -21,6 +24,10 @@ pub record MayFind (d : Directory) (v : View) : Type 0 where
 pub record FindRoom (f : Profile) (d : Directory) (n spare : ℕ) (v : View) : Type 0 where
   pub may : MayFind d v
   pub room : n + unknown_pages f v ≤ spare
+
+-- what the search does: it looks at pages, claims them, and gives back what it got
+abbrev pub finding : Kinds
+finding = LookEligible ∷ LookFree ∷ claiming
 
 -- The run is the actor's. It was read as usable and then taken whole, and each lower run can't serve. Each deed is of a page of this run or of one
 -- that failed.
@@ -39,8 +46,16 @@ pub record FoundNone (f : Profile) (d : Directory) (n : ℕ) (steps : List Made)
   pub deeds : DeedsOf d n (λ other. HasFailed d n other steps) steps
   pub lacks : LacksAll steps
 
-pub record Finds (d : Directory) (n : ℕ) (desk desk' : Standing) (found : Option ℕ) : Type 0 where
+-- On a desk that tells the whole state the run is the lowest usable one, and where none is found there is none, and all steps were looks.
+abbrev pub IsToldFind : Profile → Directory → ℕ → Whole → List Made → Option ℕ → Type 0
+IsToldFind f d n l steps found = MatchOption found (HasNoUsableRun f d n l × Only looking steps) (IsLowestRun f d n l)
+
+-- At most six looks at each page, and 48 steps for the claim of each.
+pub record Finds (d : Directory) (n : ℕ) (tells : Bool) (desk desk' : Standing) (found : Option ℕ) : Type 0 where
   pub steps : List Made
   pub adds : Adds desk desk' (λ v l. MayFind d v) steps
+  pub kinds : Only finding steps
   pub shows : OnlyDeedsShow desk.seat.profile steps
+  pub few : length steps ≤ 54 * desk.seat.profile.pages
   pub outcome : MatchOption found (FoundNone desk.seat.profile d n steps) (FoundRun desk.seat.profile d n steps)
+  pub told : tells ≡ true → (v : View) (l : Whole) → desk.stands v l → MayFind d v → IsToldFind desk.seat.profile d n l steps found

@@ -87,6 +87,7 @@ pub record GivesRun (d : Directory) (first n : ℕ) (block : Block) (desk desk' 
   pub backs : List Made
   pub back_kinds : Only (Backing ∷ []) backs
   pub back_pages : BacksIn first (first + n) backs
+  pub back_few : length backs ≤ n
   pub word : ℕ
   pub answer : ℕ
   pub block_is : block ≡ run_block d first n word

@@ -5,3 +5,5 @@ pub mod Claims
 pub mod Gives
 pub mod Finds
 pub mod Allocates
+pub mod Doors
+pub mod Telling

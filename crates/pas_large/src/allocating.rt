@@ -3,8 +3,10 @@ ghost use Rattle.std.specs.Prelude.{◌≡◌, ◌≤◌, ◌<◌, ◌+◌};
 ghost use Rattle.pas_scan.specs.Runs.{large_directory};
 ghost use Rattle.pas_steps.specs.Desks.{CanCall};
 ghost use Rattle.pas_large.specs.Allocates.{AllocatesLarge};
+ghost use Rattle.pas_large.specs.Doors.{WasAsked};
 ghost use Rattle.pas_large.specs.Finds.{FindRoom};
 
+use crate::door::Door;
 use crate::finding::find_run;
 use crate::giving::give_run;
 use crate::refusing::refuse;
@@ -16,17 +18,24 @@ use pas_steps::Desk;
 /// Its pages are backed from the lowest up, the block is given, and then the pages are left. `Held` has the lowest page of the heap's large pages
 /// that was read as neither offered nor parked, and `NoSpace` comes where there is none. A refusal backs nothing; the deeds that broken claims made
 /// stay. At most one event for each deed that isn't known, and `pages + 1` more.
-pub fn alloc<D: Desk>(desk: &mut D, heap: u8, pages: u32) -> Result<Block, NoRoom>
+pub fn alloc<D: Desk, O: Door>(
+    desk: &mut D,
+    door: &mut O,
+    heap: u8,
+    pages: u32,
+) -> Result<Block, NoRoom>
     requires heap { heap < (D.standing desk.old).seat.profile.heaps }
     requires pages { 1 ≤ pages }
     requires can { CanCall (D.standing desk.old) (λ v l. FindRoom (D.standing desk.old).seat.profile (large_directory heap) (pages + 1) (D.spare_of desk.old) v) }
-    ensures allocates { AllocatesLarge heap pages (D.standing desk.old) (D.standing desk.new) result }
+    ensures allocates { AllocatesLarge heap pages D.tells (D.standing desk.old) (D.standing desk.new) result }
+    ensures asked { WasAsked (O.answers door.old door.new heap pages) }
     ensures home { D.home desk.new ≡ D.home desk.old }
 {
     let directory = Directory {
         heap,
         kind: Kind::Large,
     };
+    door.find(heap, pages);
     match find_run(desk, heap, pages) {
         Some(first) => Ok(give_run(desk, first, pages, directory)),
         None => Err(refuse(desk, directory)),

@@ -6,33 +6,34 @@ ghost use Rattle.pas_large.specs.Finds.{FindRoom, Finds};
 
 use crate::running::claim_run;
 use pas_profile::{Directory, Kind};
-use pas_scan::run_of_pages;
+use pas_scan::next_run;
 use pas_steps::Desk;
 
 /// Claims the lowest run of so many pages that can be claimed for a large block of the heap, and answers its first page. Its pages are held then.
 ///
-/// The scan goes over the pages from page 1 up. Where the claim of a run breaks at a page, what was got is put back and left, and the scan goes on
-/// after that page. None where no run is left: each deed word was read then. The deeds that a broken claim made stay.
+/// The scan goes over the pages from page 1 up and reads each once. Where the claim of a run breaks at a page, what was got is put back and left;
+/// the next run begins behind that page, and the scan goes on behind the last page that it read. None where no run is left: each deed word was
+/// read then. The deeds that a broken claim made stay. At most 54 steps for each page of the region.
 pub fn find_run<D: Desk>(desk: &mut D, heap: u8, pages: u32) -> Option<u32>
     requires heap { heap < (D.standing desk.old).seat.profile.heaps }
     requires pages { 1 ≤ pages }
     requires can { CanCall (D.standing desk.old) (λ v l. FindRoom (D.standing desk.old).seat.profile (large_directory heap) 1 (D.spare_of desk.old) v) }
-    ensures finds { Finds (large_directory heap) pages (D.standing desk.old) (D.standing desk.new) result }
+    ensures finds { Finds (large_directory heap) pages D.tells (D.standing desk.old) (D.standing desk.new) result }
     ensures home { D.home desk.new ≡ D.home desk.old }
 {
     let directory = Directory {
         heap,
         kind: Kind::Large,
     };
-    let last = desk.profile().pages;
     let mut from = 1;
-    while from <= last {
-        let Some(first) = run_of_pages(desk, heap, from, pages) else {
-            return None;
-        };
+    let mut next = 1;
+    while let Some(first) = next_run(desk, heap, from, next, pages) {
         match claim_run(desk, first, first + pages, directory) {
             None => return Some(first),
-            Some(page) => from = page + 1,
+            Some(page) => {
+                from = page + 1;
+                next = first + pages;
+            }
         }
     }
     None

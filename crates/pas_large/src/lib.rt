@@ -3,6 +3,7 @@
 
 mod allocating;
 mod claiming;
+mod door;
 mod finding;
 mod getting;
 mod giving;
@@ -12,3 +13,4 @@ mod running;
 mod taking;
 
 pub use allocating::alloc;
+pub use door::{Door, NoIndex};

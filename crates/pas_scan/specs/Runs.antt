@@ -53,23 +53,24 @@ IsInRun first n page = (first ≤ page) × (page < first + n)
 abbrev pub HasUnusable : Directory → ℕ → ℕ → List Made → Type 0
 HasUnusable d n first steps = (page : ℕ) × IsInRun first n page × Once (UnusableHere d page) steps
 
--- the lowest run from page `from` on all of whose pages were read as usable. The deed word of each page up to its end was read
-pub record IsFirstRun (f : Profile) (d : Directory) (from n : ℕ) (steps : List Made) (first : ℕ) : Type 0 where
+-- The lowest run from page `from` on all of whose pages were read as usable, those below `next` before these steps. The deed word of each page from
+-- there up to its end was read.
+pub record IsFirstRun (f : Profile) (d : Directory) (from next n : ℕ) (steps : List Made) (first : ℕ) : Type 0 where
   pub from_there : from ≤ first
   pub of_region : first + n ≤ f.pages + 1
-  pub usable : (page : ℕ) → IsInRun first n page → ReadUsable d page steps
+  pub usable : (page : ℕ) → IsInRun first n page → next ≤ page → ReadUsable d page steps
   pub lower : (other : ℕ) → from ≤ other → other < first → HasUnusable d n other steps
-  pub deeds : (page : ℕ) → from ≤ page → page < first + n → Once (DeedReadHere page) steps
+  pub deeds : (page : ℕ) → next ≤ page → page < first + n → Once (DeedReadHere page) steps
 
--- each run from there on has a page that was read as not usable, and the deed word of each page was read
-pub record HasNoRun (f : Profile) (d : Directory) (from n : ℕ) (steps : List Made) : Type 0 where
+-- each run from there on has a page that was read as not usable, and the deed word of each page from `next` on was read
+pub record HasNoRun (f : Profile) (d : Directory) (from next n : ℕ) (steps : List Made) : Type 0 where
   pub runs : (first : ℕ) → from ≤ first → first + n ≤ f.pages + 1 → HasUnusable d n first steps
-  pub deeds : (page : ℕ) → from ≤ page → page ≤ f.pages → Once (DeedReadHere page) steps
+  pub deeds : (page : ℕ) → next ≤ page → page ≤ f.pages → Once (DeedReadHere page) steps
 
--- At most six looks at each page that was read.
-pub record FindsRun (d : Directory) (from n : ℕ) (desk desk' : Standing) (found : Option ℕ) : Type 0 where
+-- At most six looks at each page from `next` on that was read.
+pub record FindsRun (d : Directory) (from next n : ℕ) (desk desk' : Standing) (found : Option ℕ) : Type 0 where
   pub steps : List Made
   pub adds : Adds desk desk' Anything steps
   pub kinds : Only page_looks steps
-  pub few : MatchOption found (length steps ≤ 6 * (desk.seat.profile.pages + 1 - from)) (λ first. length steps ≤ 6 * (first + n - from))
-  pub outcome : MatchOption found (HasNoRun desk.seat.profile d from n steps) (IsFirstRun desk.seat.profile d from n steps)
+  pub few : MatchOption found (length steps ≤ 6 * (desk.seat.profile.pages + 1 - next)) (λ first. length steps + 6 * next ≤ 6 * (first + n))
+  pub outcome : MatchOption found (HasNoRun desk.seat.profile d from next n steps) (IsFirstRun desk.seat.profile d from next n steps)

@@ -13,4 +13,4 @@ pub use bare::first_without_deed;
 pub use looked::Looked;
 pub use offered::first_offered;
 pub use parked::verdict;
-pub use runs::run_of_pages;
+pub use runs::{next_run, run_of_pages};

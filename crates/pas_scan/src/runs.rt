@@ -15,17 +15,19 @@ fn longer(length: u32, usable: bool) -> u32
     if usable { length + 1 } else { 0 }
 }
 
-/// The first page of the lowest run of so many pages, from page `from` on, that were all read as usable for a large block of the heap.
+/// The first page of the lowest run of so many pages, from page `from` on, that were all read as usable for a large block of the heap. The pages from
+/// `from` to below `next` were read so before, and fewer than `pages` are.
 ///
-/// Each lower run from there on has a page that was read as not usable, and None comes exactly where each run has one. A page is read once: its
-/// deed word first, and its eligible bit and its free words only where the deed word is the heap's, so at most six looks a page. On a region
-/// whose pages have other deeds it is one look a page.
-pub fn run_of_pages<D: Desk>(desk: &mut D, heap: u8, from: u32, pages: u32) -> Option<u32>
+/// Each lower run from there on has a page that was read as not usable, and None comes exactly where each run has one. A page from `next` on is read
+/// once: its deed word first, and its eligible bit and its free words only where the deed word is the heap's, so at most six looks a page. On a
+/// region whose pages have other deeds it is one look a page.
+pub fn next_run<D: Desk>(desk: &mut D, heap: u8, from: u32, next: u32, pages: u32) -> Option<u32>
     requires heap { heap < (D.standing desk.old).seat.profile.heaps }
     requires from { 1 ≤ from }
-    requires pages { 1 ≤ pages }
+    requires read { from ≤ next }
+    requires short { next < from + pages }
     requires can { CanCall (D.standing desk.old) Anything }
-    ensures found { FindsRun (large_directory heap) from pages (D.standing desk.old) (D.standing desk.new) result }
+    ensures found { FindsRun (large_directory heap) from next pages (D.standing desk.old) (D.standing desk.new) result }
     ensures home { D.home desk.new ≡ D.home desk.old }
 {
     let directory = Directory {
@@ -33,8 +35,8 @@ pub fn run_of_pages<D: Desk>(desk: &mut D, heap: u8, from: u32, pages: u32) -> O
         kind: Kind::Large,
     };
     let end = desk.profile().pages + 1;
-    let mut length = 0;
-    for page in from..end {
+    let mut length = next - from;
+    for page in next..end {
         let usable = is_usable(desk, page, directory);
         length = longer(length, usable);
         if length == pages {
@@ -42,4 +44,19 @@ pub fn run_of_pages<D: Desk>(desk: &mut D, heap: u8, from: u32, pages: u32) -> O
         }
     }
     None
+}
+
+/// The first page of the lowest run of so many pages, from page `from` on, that were all read as usable for a large block of the heap.
+///
+/// Each lower run from there on has a page that was read as not usable, and None comes exactly where each run has one. A page is read once, by at
+/// most six looks.
+pub fn run_of_pages<D: Desk>(desk: &mut D, heap: u8, from: u32, pages: u32) -> Option<u32>
+    requires heap { heap < (D.standing desk.old).seat.profile.heaps }
+    requires from { 1 ≤ from }
+    requires pages { 1 ≤ pages }
+    requires can { CanCall (D.standing desk.old) Anything }
+    ensures found { FindsRun (large_directory heap) from from pages (D.standing desk.old) (D.standing desk.new) result }
+    ensures home { D.home desk.new ≡ D.home desk.old }
+{
+    next_run(desk, heap, from, from, pages)
 }

@@ -1,23 +1,27 @@
-use Rattle.std.proofs.Common.{[], ◌∷◌, ◌++◌, refl, sym, ◌∙◌, inl, arith}
+use Rattle.std.proofs.Common.{[], ◌∷◌, ◌++◌, refl, ap, sym, ◌∙◌, inl, arith}
 use Rattle.pas_steps.specs.declared.step.Step.TheVariants.{End}
 use Rattle.pas_steps.specs.Desks.{made}
 use Rattle.pas_free_log.specs.declared.ending.Outcome.TheVariants.{Ended, Refused}
-use Rattle.pas_free_log.proofs.Tries.{guess_length, looked, tried, ends_by, ended_run, gone_since, ended_again, again, first_look}
+use Rattle.pas_free_log.specs.Endings.{guess_by}
+use Rattle.pas_free_log.proofs.Tries.{known_kind, guess_length, looked, tried, ends_by, ended_run, gone_since, ended_again, again, first_look}
 use Rattle.pas_free_log.proofs.ending.end_named.Goals as goal
 
+pub guess-first-requires : goal.guess-first-requires
+guess-first-requires g c = known_kind c.look-deed.result c.read_deed-directory.result c.read_deed-directory.ensures
+
 pub life_word-requires-clause-grains : goal.life_word-requires-clause-grains
-life_word-requires-clause-grains g c = let is = c.guess-first.ensures in let few = (guess_length c.look-deed.result).1 in omega (arith, is, few)
+life_word-requires-clause-grains g c = let is = (c.guess-first.ensures ∙ ap guess_by c.read_deed-directory.ensures) in let few = (guess_length c.look-deed.result).1 in omega (arith, is, few)
 
 pub returns-then-read-life_word-clause-ends : goal.returns-then-read-life_word-clause-ends
 returns-then-read-life_word-clause-ends g c =
-    let is = c.guess-first.ensures in let some = (guess_length c.look-deed.result).0 in
+    let is = (c.guess-first.ensures ∙ ap guess_by c.read_deed-directory.ensures) in let some = (guess_length c.look-deed.result).0 in
     let live = c.if-read-life_word.true ∙ c.life_word.ensures in
-    ends_by c.args.name (Ended c.guess-first.result) c.look-deed.result c.guess-first.result c.end-read.result [] (inl (is, refl)) (looked c.args.name c.look-deed.result c.look-deed.ensures.makes) c.end-read.ensures.makes c.requires.can
+    ends_by c.args.name (Ended c.guess-first.result) c.read_deed-directory.result c.look-deed.result c.guess-first.result c.end-read.result [] c.read_deed-directory.ensures (inl (is, refl)) (looked c.args.name c.look-deed.result c.look-deed.ensures.makes) c.end-read.ensures.makes c.requires.can
     (λ v agrees. ((live, refl), ended_run (g.D.Desk.standing c.args.desk.now).seat.profile (first_look c.args.name c.look-deed.result ++ v) c.args.name c.guess-first.result c.end-read.result (omega (arith, is, some)) live agrees))
 
 pub returns-in_default-clause-ends : goal.returns-in_default-clause-ends
 returns-in_default-clause-ends g c =
-    ends_by c.args.name (Refused c.end-read.result) c.look-deed.result c.guess-first.result c.end-read.result [] (inl (c.guess-first.ensures, refl)) (looked c.args.name c.look-deed.result c.look-deed.ensures.makes) c.end-read.ensures.makes c.requires.can
+    ends_by c.args.name (Refused c.end-read.result) c.read_deed-directory.result c.look-deed.result c.guess-first.result c.end-read.result [] c.read_deed-directory.ensures (inl ((c.guess-first.ensures ∙ ap guess_by c.read_deed-directory.ensures), refl)) (looked c.args.name c.look-deed.result c.look-deed.ensures.makes) c.end-read.ensures.makes c.requires.can
     (λ v agrees. ((c.in_default.ensures, refl), tt))
 
 -- the second try
@@ -26,8 +30,8 @@ returns-then-read-life_word-2-clause-ends g c =
     let name = c.args.name in let first = c.guess-first.result in let read = c.end-read.result in
     let live = c.if-read-life_word-2.true ∙ c.life_word-2.ensures in
     let before = made (End name first) read ∷ [] in
-    ends_by name (Ended c.in-Some.grains) c.look-deed.result c.in-Some.grains c.end-read-2.result before
-    (again name c.look-deed.result first c.in-Some.grains read c.guess-first.ensures (λ e. c.if-read-life_word.false (e ∙ sym c.life_word.ensures)) c.in-Some.ensures.0 c.in-Some.ensures.1)
+    ends_by name (Ended c.in-Some.grains) c.read_deed-directory.result c.look-deed.result c.in-Some.grains c.end-read-2.result before c.read_deed-directory.ensures
+    (again name c.look-deed.result first c.in-Some.grains read (c.guess-first.ensures ∙ ap guess_by c.read_deed-directory.ensures) (λ e. c.if-read-life_word.false (e ∙ sym c.life_word.ensures)) c.in-Some.ensures.0 c.in-Some.ensures.1)
     (tried name c.look-deed.result first first read [] (inl (refl, refl)) (looked name c.look-deed.result c.look-deed.ensures.makes) c.end-read.ensures.makes) c.end-read-2.ensures.makes c.requires.can
     (λ v agrees. ((live, refl), ended_again (g.D.Desk.standing c.args.desk.now).seat.profile (first_look name c.look-deed.result ++ v) name first c.in-Some.grains read c.end-read-2.result c.requires.name c.in-Some.ensures.0 c.in-Some.ensures.1 live agrees))
 
@@ -35,7 +39,7 @@ pub returns-else-read-life_word-2-clause-ends : goal.returns-else-read-life_word
 returns-else-read-life_word-2-clause-ends g c =
     let name = c.args.name in let first = c.guess-first.result in let read = c.end-read.result in
     let before = made (End name first) read ∷ [] in
-    ends_by name (Refused c.end-read-2.result) c.look-deed.result c.in-Some.grains c.end-read-2.result before
-    (again name c.look-deed.result first c.in-Some.grains read c.guess-first.ensures (λ e. c.if-read-life_word.false (e ∙ sym c.life_word.ensures)) c.in-Some.ensures.0 c.in-Some.ensures.1)
+    ends_by name (Refused c.end-read-2.result) c.read_deed-directory.result c.look-deed.result c.in-Some.grains c.end-read-2.result before c.read_deed-directory.ensures
+    (again name c.look-deed.result first c.in-Some.grains read (c.guess-first.ensures ∙ ap guess_by c.read_deed-directory.ensures) (λ e. c.if-read-life_word.false (e ∙ sym c.life_word.ensures)) c.in-Some.ensures.0 c.in-Some.ensures.1)
     (tried name c.look-deed.result first first read [] (inl (refl, refl)) (looked name c.look-deed.result c.look-deed.ensures.makes) c.end-read.ensures.makes) c.end-read-2.ensures.makes c.requires.can
     (λ v agrees. ((gone_since (g.D.Desk.standing c.args.desk.now).seat.profile (first_look name c.look-deed.result ++ v) name first c.in-Some.grains read c.end-read-2.result c.in-Some.ensures.0 c.in-Some.ensures.1 agrees.life (λ e. c.if-read-life_word-2.false (e ∙ sym c.life_word-2.ensures)), refl), tt))

@@ -1,4 +1,5 @@
 use Rattle.std.proofs.Common.{◌≡◌, [], ◌∷◌, ◌++◌, get_or, refl, sym, ◌∙◌, subst, arith, append_assoc}
+use Rattle.std.specs.Prelude.{option_to_list}
 use Rattle.std.proofs.lemmas.List.{take_all}
 use Rattle.pas_free_log.specs.declared.log.Entry.{Entry}
 use Rattle.pas_profile.specs.declared.word.Word.TheVariants as Word
@@ -15,7 +16,7 @@ use Rattle.pas_free_log.specs.Logs.{entries_in, entry_of}
 use Rattle.pas_steps.specs.Clear.{IsClear}
 use Rattle.pas_free_log.specs.Frames.{ending}
 use Rattle.pas_free_log.specs.Flushes.{Settled, event_for}
-use Rattle.pas_free_log.proofs.AllEntries.{events_more, stamps_more, entries_more, may_end, flushed}
+use Rattle.pas_free_log.proofs.AllEntries.{events_more, stamps_more, entries_more, noted_more, noted_none, ranges_more, may_end, flushed}
 use Rattle.pas_steps.proofs.SpareRoom.{spare_falls}
 use Rattle.pas_free_log.proofs.flushing.flush.Goals as goal
 
@@ -27,6 +28,8 @@ loop-entry-init g c =
       epoch = c.look.result;
       settled = [];
       entries_are = refl;
+      noted = noted_none c.args.ended.now.items;
+      ranges = λ are. are;
       entries = [];
       order = refl;
       calls = calls;
@@ -37,36 +40,38 @@ loop-entry-init g c =
       home = c.look.ensures.home;
     }
 
-pub end_entry-requires-clause-can : goal.end_entry-requires-clause-can
-end_entry-requires-clause-can g c =
+pub end_entry-run-requires-clause-can : goal.end_entry-run-requires-clause-can
+end_entry-run-requires-clause-can g c =
     let i = c.loop-entry.invariant in
     next_call i.calls c.requires.can (λ v met d. may_end i.epoch i.entries v i.kinds d met)
 
 pub loop-entry-preserved : goal.loop-entry-preserved
 loop-entry-preserved g c =
-    let D = g.D.Desk in let i = c.loop-entry.invariant in let s = c.end_entry.ensures.ends in let σ = D.standing c.args.desk.now in let index = c.loop-entry.entry-index in
+    let D = g.D.Desk in let i = c.loop-entry.invariant in let s = c.end_entry-run.ensures.ends in let σ = D.standing c.args.desk.now in let index = c.loop-entry.entry-index in
     let logged = c.as_slice-entries.result.now in
     let blank : Entry = entry_of (record { address = record { 0 = 0 }; turn = 0 }) in
-    let entry : Settled = record { entry = get_or logged index blank; outcome = s.outcome } in
+    let entry : Settled = record { entry = get_or logged index blank; outcome = s.outcome; directory = s.directory } in
     let event : (v : View) → events_by σ.seat.actor v s.steps ≡ event_for σ.seat.actor (epoch_of v) entry.entry.name s.outcome ∷ []
     = subst (λ t. (v : View) → events_by t.actor v s.steps ≡ event_for t.actor (epoch_of v) entry.entry.name s.outcome ∷ []) i.calls.adds.seat_is s.event in
-    let before = i.spare in let one = c.end_entry.ensures.spare in
+    let before = i.spare in let one = c.end_entry-run.ensures.spare in
     record {
       epoch = i.epoch;
       settled = entry ∷ i.settled;
       entries_are = entries_more i.settled entry logged index blank c.loop-entry-test.true refl i.entries_are;
+      noted = noted_more i.settled entry c.args.ended.now.items _ _ (option_to_list c.end_entry-run.result) i.noted s.run_is c.note.ensures;
+      ranges = λ are. ranges_more _ _ (option_to_list c.end_entry-run.result) c.note.ensures s.range (i.ranges are);
       entries = s.steps ++ i.entries;
       order = (s.steps, i.entries, s.order, i.order, refl);
-      calls = subst (λ xs. Calls σ (D.standing c.end_entry.new.desk) IsClear (Does nothing) xs) (sym (append_assoc s.steps i.entries (made (Look Word.Epoch) i.epoch ∷ [])))
+      calls = subst (λ xs. Calls σ (D.standing c.end_entry-run.new.desk) IsClear (Does nothing) xs) (sym (append_assoc s.steps i.entries (made (Look Word.Epoch) i.epoch ∷ [])))
           (call_then (Does nothing) i.calls s.calls (λ v met d. may_end i.epoch i.entries v i.kinds d met) (λ v met d e. does_then d e));
       kinds = only_both ending s.steps i.entries s.kinds i.kinds;
       events = events_more σ.seat.actor i.epoch entry i.settled s.steps i.entries i.kinds i.events event;
       stamps = stamps_more i.epoch entry i.settled s.steps i.entries i.kinds i.stamps s.stamps;
       spare = omega (arith, before, one);
-      home = c.end_entry.ensures.home ∙ i.home;
+      home = c.end_entry-run.ensures.home ∙ i.home;
     }
 
 pub returns-clause-flushes : goal.returns-clause-flushes
 returns-clause-flushes g c =
     let i = c.loop-entry.invariant in
-    flushed i.epoch i.settled (entries_in c.args.log.now) i.entries (i.entries_are ∙ take_all c.loop-entry.entry-index c.as_slice-entries.result.now c.loop-entry-test.false ∙ c.as_slice-entries.ensures) i.order i.calls i.kinds i.events i.stamps
+    flushed i.epoch i.settled (entries_in c.args.log.now) c.args.ended.now.items _ i.entries i.noted i.ranges (i.entries_are ∙ take_all c.loop-entry.entry-index c.as_slice-entries.result.now c.loop-entry-test.false ∙ c.as_slice-entries.ensures) i.order i.calls i.kinds i.events i.stamps

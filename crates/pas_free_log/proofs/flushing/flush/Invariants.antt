@@ -12,7 +12,8 @@ use Rattle.pas_steps.specs.Desks.{made}
 use Rattle.pas_steps.specs.Clear.{IsClear}
 use Rattle.pas_free_log.specs.Stamps.{stamps_by}
 use Rattle.pas_free_log.specs.Frames.{ending}
-use Rattle.pas_free_log.specs.Flushes.{Settled, shown_for, stamps_for, EntriesSteps}
+use Rattle.pas_free_log.specs.Flushes.{Settled, shown_for, stamps_for, noted_after, EntriesSteps}
+use Rattle.pas_free_log.specs.Noted.{AreRanges}
 use Rattle.pas_free_log.proofs.flushing.flush.Given as goal
 
 -- the entries so far were settled
@@ -21,6 +22,8 @@ invariant-loop-entry g l = let D = g.D.Desk in record {
   epoch : ℕ;
   settled : List Settled;
   entries_are : reverse (map (λ s. s.entry) settled) ≡ take l.entry-index l.entries;
+  noted : l.ended.items ≡ noted_after l.fn.ended.items settled;
+  ranges : AreRanges l.fn.ended.items → AreRanges l.ended.items;
   entries : List Made;
   order : EntriesSteps settled entries;
   calls : Calls (D.standing l.fn.desk) (D.standing l.desk) IsClear (Does nothing) (entries ++ made (Look Word.Epoch) epoch ∷ []);

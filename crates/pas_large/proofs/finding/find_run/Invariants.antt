@@ -1,15 +1,16 @@
-use Rattle.std.proofs.Common.{◌≡◌, ◌≤◌, ◌+◌, ◌-◌}
+use Rattle.std.proofs.Common.{true, [], ◌≡◌, ◌≤◌, ◌+◌, ◌-◌}
 use Rattle.pas_scan.specs.Runs.{large_directory}
 use Rattle.pas_large.proofs.Finds.{SearchedRuns}
 use Rattle.pas_large.proofs.finding.find_run.Given as goal
 
--- no run that begins below this page can serve
-abbrev pub invariant-loop-from : goal.invariant-loop-from
-invariant-loop-from g l = let D = g.D.Desk in record {
+-- on a desk that tells the whole state no claim fails; else no run that begins below page `from` can serve, and the pages from there to below `next` were read as usable
+abbrev pub invariant-loop-first : goal.invariant-loop-first
+invariant-loop-first g l = let D = g.D.Desk in record {
   low : 1 ≤ l.from;
-  so_far : SearchedRuns (large_directory l.heap) l.pages l.from (D.standing l.fn.desk) (D.standing l.desk);
+  so_far : SearchedRuns (large_directory l.heap) l.pages l.from l.next (D.standing l.fn.desk) (D.standing l.desk);
+  alone : D.tells ≡ true → (l.from ≡ 1) × (l.next ≡ 1) × (so_far.steps ≡ []);
   home : D.home l.desk ≡ D.home l.fn.desk;
 }
 
-abbrev pub decreases-loop-from : goal.decreases-loop-from
-decreases-loop-from g l = l.last + 1 - l.from
+abbrev pub decreases-loop-first : goal.decreases-loop-first
+decreases-loop-first g l = (g.D.Desk.standing l.fn.desk).seat.profile.pages + 2 - l.from

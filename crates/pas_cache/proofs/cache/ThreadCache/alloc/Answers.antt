@@ -16,10 +16,13 @@ serve-requires-clause-filling g c =
     subst (λ (d : Directory). IsFilling f (filling_in d class)) (sym (home_is f c.new.result c.args.heap class c.kind_for-kind.result c.kind_for-kind.ensures (c.new.ensures ∙ ap (λ (x : Profile). x.shared) c.profile.ensures)))
     (filling_for f c.args.size c.args.align c.args.heap class c.requires.admitted (sym c.route.ensures ∙ c.in-Class.is))
 
-pub invariant_of-self : goal.invariant_of-self
-invariant_of-self g c =
-    let rests = rests_after (filling_in (record { heap = c.args.heap; kind = c.kind_for-kind.result }) c.in-Class.class) g.D.Desk.tells _ _ c.serve.result c.serve.ensures.serves (obtain_rests (serve_call c.requires.can)) in
-    record { one_each = rests.apart.one_each; formed = formed _ _ _ rests }
+pub invariant_of-self-clause-one_each : goal.invariant_of-self-clause-one_each
+invariant_of-self-clause-one_each g c =
+    (rests_after (filling_in (record { heap = c.args.heap; kind = c.kind_for-kind.result }) c.in-Class.class) g.D.Desk.tells _ _ c.serve.result c.serve.ensures.serves (obtain_rests (serve_call c.requires.can))).apart.one_each
+
+pub invariant_of-self-clause-formed : goal.invariant_of-self-clause-formed
+invariant_of-self-clause-formed g c =
+    formed _ _ _ (rests_after (filling_in (record { heap = c.args.heap; kind = c.kind_for-kind.result }) c.in-Class.class) g.D.Desk.tells _ _ c.serve.result c.serve.ensures.serves (obtain_rests (serve_call c.requires.can)))
 
 pub alloc-requires-clause-room : goal.alloc-requires-clause-room
 alloc-requires-clause-room g c =

@@ -10,4 +10,4 @@ pub flush-requires-clause-can : goal.flush-requires-clause-can
 flush-requires-clause-can g c = clear_call c.requires.can
 
 pub returns-clause-flushes : goal.returns-clause-flushes
-returns-clause-flushes g c = flushes_log (cached c.args.self.now) _ (ap (λ x. record (cached c.args.self.now) { log = x }) c.flush.ensures.empty) c.flush.ensures.flushes
+returns-clause-flushes g c = flushes_log (cached c.args.self.now) _ c.flush.new.ended.items (ap (λ x. record (cached c.args.self.now) { log = x; noted = c.flush.new.ended.items }) c.flush.ensures.empty) c.flush.ensures.flushes

@@ -11,10 +11,12 @@ pub flush-requires-clause-can : goal.flush-requires-clause-can
 flush-requires-clause-can g c = clear_call c.requires.can
 
 pub stop_all-requires : goal.stop_all-requires
-stop_all-requires g c = let old = cached c.args.self.now in record { can = flushed_call old (record old { log = [] }) (flushes_log old (record old { log = [] }) refl c.flush.ensures.flushes) c.requires.can }
+stop_all-requires g c = let old = cached c.args.self.now in record { can = (let mid = record old { log = []; noted = c.flush.new.ended.items } in flushed_call old mid (flushes_log old mid c.flush.new.ended.items refl c.flush.ensures.flushes) c.requires.can) }
 
 pub returns-clause-stops : goal.returns-clause-stops
 returns-clause-stops g c =
     let old = cached c.args.self.now in
-    stops_cache old (record old { log = [] }) _ (flushes_log old (record old { log = [] }) refl c.flush.ensures.flushes) c.stop_all.ensures.stops refl
-    (ap (λ x. record (cached c.args.self.now) { locals = x; log = entries_in c.flush.new.log }) c.stop_all.ensures.empty ∙ ap (λ x. record (cached c.args.self.now) { locals = []; log = x }) c.flush.ensures.empty)
+    let noted = c.flush.new.ended.items in
+    let mid = record old { log = []; noted = noted } in
+    stops_cache old mid _ (flushes_log old mid noted refl c.flush.ensures.flushes) c.stop_all.ensures.stops refl
+    (ap (λ x. record old { locals = x; log = entries_in c.flush.new.log; noted = noted }) c.stop_all.ensures.empty ∙ ap (λ x. record old { locals = []; log = x; noted = noted }) c.flush.ensures.empty)

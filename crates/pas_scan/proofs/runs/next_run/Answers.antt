@@ -1,11 +1,22 @@
-use Rattle.std.proofs.Common.{◌≡◌, ◌+◌, ◌++◌, refl, ap, sym, ◌∙◌, subst, arith, length-append}
+use Rattle.std.proofs.Common.{◌≡◌, ◌+◌, ◌-◌, [], ◌++◌, refl, ap, sym, ◌∙◌, subst, arith, length-append}
 use Rattle.pas_profile.specs.declared.profile.Profile.{Profile}
-use Rattle.pas_steps.proofs.Adding.{adds_call}
+use Rattle.pas_steps.proofs.Adding.{adds_none, adds_call}
 use Rattle.pas_steps.proofs.Apart.{only_both}
 use Rattle.pas_scan.specs.Runs.{large_directory, page_looks}
 use Rattle.pas_scan.proofs.LeftPages.{left_alone_by}
-use Rattle.pas_scan.proofs.RunsSoFar.{RunSoFar, run_more, run_found, run_ended}
-use Rattle.pas_scan.proofs.runs.run_of_pages.Goals as goal
+use Rattle.pas_scan.proofs.RunsSoFar.{RunSoFar, run_none, run_more, run_found, run_ended}
+use Rattle.pas_scan.proofs.runs.next_run.Goals as goal
+
+pub loop-page-init : goal.loop-page-init
+loop-page-init g c = record {
+  steps = [];
+  adds = adds_none;
+  kinds = tt;
+  few = omega arith;
+  most = omega arith;
+  so_far = run_none (large_directory c.args.heap) c.args.from c.args.next c.args.pages (c.args.next - c.args.from) c.requires.read c.requires.short refl;
+  home = refl;
+}
 
 pub returns-then-length-pages-clause-found : goal.returns-then-length-pages-clause-found
 returns-then-length-pages-clause-found g c =
@@ -16,8 +27,8 @@ returns-then-length-pages-clause-found g c =
       steps = h.steps ++ i.steps;
       adds = adds_call i.adds h.adds (λ v l stood met. tt);
       kinds = only_both page_looks h.steps i.steps h.kinds i.kinds;
-      few = (let n = length-append h.steps i.steps in let here = h.few in let before = i.few in let long = i.so_far.within in let is = sym c.longer-length.ensures ∙ c.if-length-pages.true in omega (arith, n, here, before, c.requires.pages));
-      outcome = run_found f d c.args.from c.args.pages page c.loop-page.length h.steps i.steps c.is_usable-usable.result c.requires.pages (left_alone_by page_looks refl refl page i.steps i.kinds)
+      few = (let n = length-append h.steps i.steps in let here = h.few in let before = i.few in let long = i.so_far.within in let is = sym c.longer-length.ensures ∙ c.if-length-pages.true in omega (arith, n, here, before, long, is));
+      outcome = run_found f d c.args.from c.args.next c.args.pages page c.loop-page.length h.steps i.steps c.is_usable-usable.result (let le = c.requires.read in let lt = c.requires.short in omega (arith, le, lt)) (left_alone_by page_looks refl refl page i.steps i.kinds)
           (let lt = c.loop-page-test.true in omega (arith, lt, pages)) i.so_far h.deed h.outcome (sym c.longer-length.ensures ∙ c.if-length-pages.true);
     }
 
@@ -30,8 +41,8 @@ loop-page-preserved g c =
       kinds = only_both page_looks h.steps i.steps h.kinds i.kinds;
       few = (let n = length-append h.steps i.steps in let here = h.few in let before = i.few in omega (arith, n, here, before));
       most = (let n = length-append h.steps i.steps in let here = h.few in let before = i.few in let lt = c.loop-page-test.true in let pages : c.profile.result.now.pages ≡ (g.D.Desk.standing c.args.desk.now).seat.profile.pages = ap (λ (x : Profile). x.pages) c.profile.ensures in omega (arith, n, here, before, lt, pages));
-      so_far = subst (λ n. RunSoFar d c.args.from c.args.pages (page + 1) n (h.steps ++ i.steps)) (sym c.longer-length.ensures)
-          (run_more d c.args.from c.args.pages page c.loop-page.length h.steps i.steps c.is_usable-usable.result (left_alone_by page_looks refl refl page i.steps i.kinds) c.loop-page.auto.page i.so_far h.deed h.outcome
+      so_far = subst (λ n. RunSoFar d c.args.from c.args.next c.args.pages (page + 1) n (h.steps ++ i.steps)) (sym c.longer-length.ensures)
+          (run_more d c.args.from c.args.next c.args.pages page c.loop-page.length h.steps i.steps c.is_usable-usable.result (left_alone_by page_looks refl refl page i.steps i.kinds) (let low = c.loop-page.auto.page in let le = c.requires.read in omega (arith, low, le)) i.so_far h.deed h.outcome
           (λ e. c.if-length-pages.false (c.longer-length.ensures ∙ e)));
       home = c.is_usable-usable.ensures.home ∙ i.home;
     }
@@ -46,5 +57,5 @@ returns-clause-found g c =
       adds = i.adds;
       kinds = i.kinds;
       few = i.most;
-      outcome = run_ended f d c.args.from c.args.pages c.loop-page.page c.loop-page.length i.steps (let ge = c.loop-page-test.false in omega (arith, ge, pages)) i.so_far;
+      outcome = run_ended f d c.args.from c.args.next c.args.pages c.loop-page.page c.loop-page.length i.steps (let ge = c.loop-page-test.false in omega (arith, ge, pages)) i.so_far;
     }

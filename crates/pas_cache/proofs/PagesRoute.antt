@@ -1,0 +1,306 @@
+-- A request for whole pages: the actor is at rest with the cache as it was.
+use Rattle.std.proofs.Common.{◌≡◌, ℕ, ◌+◌, ◌-◌, ◌*◌, ◌/◌, ◌%◌, ◌<◌, ◌≤◌, ◌==◌, ◌||◌, Bool, true, false, if◌then◌else◌, List, [], ◌∷◌, ◌++◌, length, Option, None, Some, Ok, Err, Result, inl, inr, ◌⊎◌, refl, ap, sym, ◌∙◌, subst, arith, length-append, append_assoc, true≢false}
+use Rattle.std.specs.Prelude.{All, MatchResult, min, max, nat_le, not}
+use Rattle.std.specs.List.{AllByRecursion, list_any}
+use Rattle.std.proofs.lemmas.Bool.{eqb-true, cases_Bool, and_parts, leb-false}
+use Rattle.std.proofs.lemmas.List.Elements.{All-head, All-tail}
+use Rattle.std.proofs.Math.Nat.{zero-mod, le-max_right}
+use Rattle.pas_profile.specs.Classes.{IsAlignment, class_sizes}
+use Rattle.pas_profile.specs.Profiles.{IsPage}
+use Rattle.pas_profile.specs.Requests.{is_shared, kind_of_class, kind_of_route}
+use Rattle.pas_profile.specs.Routes.{first_class, route_with, route_of, room_by, room_of}
+use Rattle.pas_profile.specs.Runs.{in_run, address_of, grain_of, length_of}
+use Rattle.pas_profile.specs.declared.directory.Directory.{Directory}
+use Rattle.pas_profile.specs.declared.directory.Kind.TheVariants as Kind
+use Rattle.pas_profile.specs.declared.directory.Route.{Route}
+use Rattle.pas_profile.specs.declared.event.Event.{Event}
+use Rattle.pas_profile.specs.declared.event.NoRoom.{NoRoom}
+use Rattle.pas_profile.specs.declared.name.Block.{Block}
+use Rattle.pas_profile.specs.declared.profile.Profile.{Profile}
+use Rattle.pas_profile.proofs.Codecs.{deed_word_of-positive}
+use Rattle.pas_bitfit.proofs.Aligned.{stands_aligned}
+use Rattle.pas_steps.specs.Agreement.{Agreed}
+use Rattle.pas_steps.specs.Calls.{nothing, Does}
+use Rattle.pas_steps.specs.Desks.{Standing, CanCall, triples}
+use Rattle.pas_steps.specs.Events.{event_of, with_event, events_by}
+use Rattle.pas_steps.specs.Frames.{IsScan, OnlyScans}
+use Rattle.pas_steps.specs.Kinds.{Kinds, Backing, returning, looking, kind_of, is_in, Only}
+use Rattle.pas_steps.specs.Unknown.{unknown_pages}
+use Rattle.pas_steps.specs.Views.{View, known_deed, has_right, epoch_of, KnowsDeed}
+use Rattle.pas_steps.specs.declared.step.Made.{Made}
+use Rattle.pas_steps.specs.declared.step.Step.{Step}
+use Rattle.pas_steps.specs.declared.step.Step.TheVariants.{Deed, Back, Give, End, Unback}
+use Rattle.pas_steps.proofs.Adding.{agreed_first, agreed_later, adds_under}
+use Rattle.pas_steps.proofs.Apart.{only_both, only_within, events_same, no_events}
+use Rattle.pas_steps.proofs.Frames.{events_append}
+use Rattle.pas_steps.proofs.Past.{always_map}
+use Rattle.pas_steps.proofs.Unknown.{unknown_stays}
+use Rattle.pas_large.specs.Allocates.{GaveLarge, IsAllocatedLarge, IsRefusedLarge, AllocatesLarge}
+use Rattle.pas_large.specs.Claims.{in_span}
+use Rattle.pas_large.specs.Evidence.{DeedsOf}
+use Rattle.pas_large.specs.Finds.{MayFind, FindRoom, finding}
+use Rattle.pas_large.specs.Gives.{run_block, give_steps}
+use Rattle.pas_large.specs.Pages.{OnlyDeedsShow}
+use Rattle.pas_large.specs.Telling.{IsToldLarge}
+use Rattle.pas_large.proofs.Claims.{in_parts}
+use Rattle.pas_large.proofs.Gives.{run_is, back_events}
+use Rattle.pas_scan.specs.Runs.{large_directory}
+use Rattle.pas_segregated.specs.Stops.{home_of}
+use Rattle.pas_segregated.specs.declared.slots.Slots.{Slots}
+use Rattle.pas_cache.specs.Caches.{Cached, AtRest}
+use Rattle.pas_cache.specs.Calls.{MayAllocatePages, AllocatesPages}
+use Rattle.pas_cache.specs.Kinds.{allocating}
+use Rattle.pas_cache.specs.Locals.{keeps_right, any_keeps, IsLocal, RestsWith}
+use Rattle.pas_cache.specs.Serves.{Wanted, wanted_for, pages_of, IsBlockFor, IsPreparing, IsDeedOf, MakesDeedsOf, MakesAtMost}
+use Rattle.pas_cache.proofs.Refills.{no_right_in}
+use Rattle.pas_cache.proofs.Resting.{rests_kept}
+
+-- ---- no local allocator has a right of a large page, nor of a page whose deed isn't known
+none_of : (locals : List Slots) → list_any (λ (s : Slots). false) locals ≡ false
+none_of [] = refl
+none_of (s ∷ rest) = none_of rest
+
+not_large : (shared : Bool) (class : ℕ) → kind_of_class shared class ≡ Kind.Large → ⊥
+not_large true class same = cc
+not_large false class same = cc
+
+never : (heap : ℕ) (slots : Slots) → slots.right ≡ true → home_of slots ≡ large_directory heap → false ≡ true
+never heap slots right home = absurd (not_large (not slots.right) slots.class (ap (λ (d : Directory). d.kind) home))
+
+known_of_local : (f : Profile) (v : View) (p : ℕ) (locals : List Slots) → All (IsLocal f v) locals → any_keeps locals p ≡ true → known_deed v p ≡ 0 → ⊥
+known_of_local f v p [] all keeps none = true≢false (sym keeps)
+known_of_local f v p (first ∷ rest) all keeps none = elim (cases_Bool (keeps_right first p)) [
+  | inl here ↦
+      let at : IsLocal f v first = All-head (IsLocal f v) first rest all in
+      let both = and_parts first.right (first.page == p) here in
+      deed_word_of-positive (home_of first) (sym at.deed ∙ (ap (known_deed v) (eqb-true first.page p both.1) ∙ none))
+  | inr other ↦ known_of_local f v p rest (All-tail (IsLocal f v) first rest all) (ap (λ t. t || any_keeps rest p) (sym other) ∙ keeps) none
+]
+
+lacks_known : (f : Profile) (v : View) (locals : List Slots) (p : ℕ) → All (IsLocal f v) locals → known_deed v p ≡ 0 → any_keeps locals p ≡ false
+lacks_known f v locals p all none = elim (cases_Bool (any_keeps locals p)) [ inl keeps ↦ absurd (known_of_local f v p locals all keeps none) | inr lacks ↦ lacks ]
+
+pub may_find : (f : Profile) (v : View) (heap : ℕ) (locals : List Slots) → RestsWith f locals v → MayFind (large_directory heap) v
+may_find f v heap locals h = record {
+  lacks = λ p of. h.rights p ∙ elim of [
+    | inl none ↦ lacks_known f v locals p h.known none
+    | inr knows ↦ no_right_in f v (large_directory heap) (λ s. false) tt (never heap) locals h.known (none_of locals) p knows
+  ];
+  clear = h.clear;
+}
+
+-- ---- which events
+deed_more : (d : Directory) (t : Bool) (k p : ℕ) (x : Directory) (es : List Event) → (t ≡ true → x ≡ d) → AllByRecursion (IsDeedOf d) es → AllByRecursion (IsDeedOf d) (with_event (if t then Some (Event.Deed k p x) else None) es)
+deed_more d true k p x es is all = (subst (λ y. IsDeedOf d (Event.Deed k p y)) (sym (is refl)) (IsDeedOf.Deeds k p), all)
+deed_more d false k p x es is all = all
+
+one_more : (d : Directory) (k e : ℕ) (s : Step) (a : ℕ) (es : List Event) → is_in finding (kind_of s) ≡ true → ((p : ℕ) (x : Directory) → s ≡ Deed p x → a ≡ 0 → x ≡ d) → AllByRecursion (IsDeedOf d) es → AllByRecursion (IsDeedOf d) (with_event (event_of k e s a) es)
+one_more d k e (Deed p x) a es is made all = deed_more d (a == 0) k p x es (λ t. made p x refl (eqb-true a 0 t)) all
+one_more d k e (Back p) a es is made all = absurd (true≢false (sym is))
+one_more d k e (Give block) a es is made all = absurd (true≢false (sym is))
+one_more d k e (End name guess) a es is made all = absurd (true≢false (sym is))
+one_more d k e (Unback p) a es is made all = absurd (true≢false (sym is))
+one_more d k e s a es is made all = all
+
+pub deeds_only : (d : Directory) (n : ℕ) (P : ℕ → Type 0) (steps : List Made) → Only finding steps → DeedsOf d n P steps → (k : ℕ) (v : View) → AllByRecursion (IsDeedOf d) (events_by k v steps)
+deeds_only d n P [] kinds deeds k v = tt
+deeds_only d n P (m ∷ more) kinds deeds k v = one_more d k (epoch_of (more ++ v)) m.step m.answer (events_by k v more) kinds.0 (λ p x is z. (deeds.0 p x is z).0) (deeds_only d n P more kinds.1 deeds.1 k v)
+
+back_more : (d : Directory) (t : Bool) (k p : ℕ) (es : List Event) → AllByRecursion (IsPreparing d) es → AllByRecursion (IsPreparing d) (with_event (if t then Some (Event.Back k p) else None) es)
+back_more d true k p es all = (IsPreparing.Backs k p, all)
+back_more d false k p es all = all
+
+one_back : (d : Directory) (k e : ℕ) (s : Step) (a : ℕ) (es : List Event) → is_in (Backing ∷ []) (kind_of s) ≡ true → AllByRecursion (IsPreparing d) es → AllByRecursion (IsPreparing d) (with_event (event_of k e s a) es)
+one_back d k e (Back p) a es is all = back_more d (a == 0) k p es all
+one_back d k e (Deed p x) a es is all = absurd (true≢false (sym is))
+one_back d k e (Give block) a es is all = absurd (true≢false (sym is))
+one_back d k e (End name guess) a es is all = absurd (true≢false (sym is))
+one_back d k e (Unback p) a es is all = absurd (true≢false (sym is))
+one_back d k e s a es is all = all
+
+backs_only : (d : Directory) (steps : List Made) → Only (Backing ∷ []) steps → (k : ℕ) (v : View) → AllByRecursion (IsPreparing d) (events_by k v steps)
+backs_only d [] kinds k v = tt
+backs_only d (m ∷ more) kinds k v = one_back d k (epoch_of (more ++ v)) m.step m.answer (events_by k v more) kinds.0 (backs_only d more kinds.1 k v)
+
+all_both : {A : Type 0} (P : A → Type 0) (xs ys : List A) → AllByRecursion P xs → AllByRecursion P ys → AllByRecursion P (xs ++ ys)
+all_both P [] ys first second = second
+all_both P (x ∷ xs) ys first second = (first.0, all_both P xs ys first.1 second)
+
+deed_prepares : (d : Directory) (e : Event) → IsDeedOf d e → IsPreparing d e
+deed_prepares d e (IsDeedOf.Deeds k page) = IsPreparing.Deeds k page
+
+all_prepare : (d : Directory) (es : List Event) → AllByRecursion (IsDeedOf d) es → AllByRecursion (IsPreparing d) es
+all_prepare d [] all = tt
+all_prepare d (e ∷ es) all = (deed_prepares d e all.0, all_prepare d es all.1)
+
+-- ---- a block is given
+module _ (f : Profile) (heap n : ℕ) (searched after : List Made) (block : Block) (is : IsAllocatedLarge f (large_directory heap) n searched after block) where
+  abbrev d : Directory
+  d = large_directory heap
+
+  abbrev steps : List Made
+  steps = after ++ searched
+
+  abbrev pages : ℕ → Bool
+  pages = in_span is.first (is.first + n)
+
+  abbrev gs : List Made
+  gs = give_steps is.first block is.word is.answer
+
+  gave : (locals : List Slots) (v : View) → RestsWith f locals v → Agreed f v steps → GaveLarge d is.first n block v (steps ++ v)
+  gave locals v h agreed = is.gave.from v (may_find f v heap locals h) agreed
+
+  pub rests_given : (locals : List Slots) (v : View) → RestsWith f locals v → Agreed f v (after ++ searched) → RestsWith f locals ((after ++ searched) ++ v)
+  rests_given locals v h agreed = rests_kept f locals steps v (gave locals v h agreed).does agreed h
+
+  events_are : (k : ℕ) (v : View) → events_by k v (after ++ searched) ≡ Event.Give k block ∷ (events_by k (searched ++ v) is.backs ++ events_by k v searched)
+  events_are k v =
+      ap (λ xs. events_by k v (xs ++ searched)) is.after_is
+      ∙ ap (events_by k v) (append_assoc is.left (gs ++ is.backs) searched)
+      ∙ events_same returning refl k v is.left ((gs ++ is.backs) ++ searched) is.left_kinds
+      ∙ ap (λ es. Event.Give k block ∷ es) (events_append k is.backs searched v)
+
+  on_pages : (g : ℕ) → in_run (grain_of block.name) (length_of block) g ≡ true → pages (g / 256) ≡ true
+  on_pages g inside = sym (ap (λ (b : Block). in_run (grain_of b.name) (length_of b) g) is.block_is ∙ run_is d is.first n is.word g) ∙ inside
+
+  of_region : (p : ℕ) → pages p ≡ true → IsPage f p
+  of_region p here =
+      let at = in_parts is.first (is.first + n) p here in
+      let low = at.0 in let high = at.1 in let first = is.found.of_region.0 in let last = is.found.of_region.1 in
+      (omega (arith, low, first), omega (arith, high, last))
+
+  pub block_for : {Meets : View → Type 0} (align : ℕ) (locals : List Slots) → IsAlignment align → Only finding searched → ((v : View) → Meets v → RestsWith f locals v)
+      → IsBlockFor f (record { directory = large_directory heap; route = Route.Large; room = n * 4096; align = align }) Meets (after ++ searched) block
+  block_for align locals alignment kinds rests = record {
+    of_heap = ap (λ (b : Block). b.heap) is.block_is;
+    room = ap (λ (b : Block). b.room) is.block_is;
+    placed = ap (λ (b : Block). address_of b.name % 4096) is.block_is ∙ omega arith;
+    aligned = ap (λ (b : Block). address_of b.name % align) is.block_is ∙ ap (λ a. a % align) (omega arith) ∙ stands_aligned is.first 0 align alignment (zero-mod (align / 16));
+    of_region = λ g inside. of_region (g / 256) (on_pages g inside);
+    turn = record { from = λ v met agreed. (gave locals v (rests v met) agreed).turn };
+    deeds = record { from = λ v met agreed g inside. (gave locals v (rests v met) agreed).deeds (g / 256) (on_pages g inside) };
+    events = λ k v. (
+      events_by k (searched ++ v) is.backs ++ events_by k v searched,
+      events_are k v,
+      all_both (IsPreparing d) (events_by k (searched ++ v) is.backs) (events_by k v searched) (backs_only d is.backs is.back_kinds k (searched ++ v))
+          (all_prepare d (events_by k v searched) (deeds_only d n _ searched kinds is.found.deeds k v)),
+    );
+  }
+
+  pub given_few : OnlyDeedsShow f searched → (k : ℕ) (v : View) → Agreed f v (after ++ searched) → length (events_by k v (after ++ searched)) + unknown_pages f ((after ++ searched) ++ v) ≤ n + 1 + unknown_pages f v
+  given_few shows k v agreed =
+      let all = ap length (events_are k v) in
+      let both = length-append (events_by k (searched ++ v) is.backs) (events_by k v searched) in
+      let backs = back_events k (searched ++ v) is.backs in
+      let most = is.back_few in
+      let here = shows k v (agreed_later f v after searched agreed) in
+      let stays = unknown_stays f after (searched ++ v) (agreed_first f v after searched agreed) in
+      let same : unknown_pages f ((after ++ searched) ++ v) ≡ unknown_pages f (after ++ (searched ++ v)) = ap (unknown_pages f) (append_assoc after searched v) in
+      omega (arith, all, both, backs, most, here, stays, same)
+
+  pub given_kinds : Only finding searched → Only allocating (after ++ searched)
+  given_kinds kinds = only_both allocating after searched
+      (subst (Only allocating) (sym is.after_is) (only_both allocating is.left (gs ++ is.backs) (only_within returning allocating is.left refl is.left_kinds) (refl, (refl, only_within (Backing ∷ []) allocating is.backs refl is.back_kinds))))
+      (only_within finding allocating searched refl kinds)
+
+-- ---- a request is refused
+scan_kind : (s : Step) → IsScan s → is_in looking (kind_of s) ≡ true
+scan_kind s (IsScan.LooksEligible d j) = refl
+scan_kind s (IsScan.LooksDeed page) = refl
+scan_kind s (IsScan.LooksParked j) = refl
+
+module _ (f : Profile) (heap n : ℕ) (searched after : List Made) (why : NoRoom) (is : IsRefusedLarge f (large_directory heap) n searched after why) where
+  looks : Only looking after
+  looks = always_map (λ m before. IsScan m.step) (λ m before. is_in looking (kind_of m.step) ≡ true) after (λ m before s. scan_kind m.step s) is.scans
+
+  silent : (k : ℕ) (v : View) → events_by k v (after ++ searched) ≡ events_by k v searched
+  silent k v = events_same looking refl k v after searched looks
+
+  pub refused_deeds : Only finding searched → MakesDeedsOf (large_directory heap) (after ++ searched)
+  refused_deeds kinds k v = subst (AllByRecursion (IsDeedOf (large_directory heap))) (sym (silent k v)) (deeds_only (large_directory heap) n _ searched kinds is.found.deeds k v)
+
+  pub refused_few : OnlyDeedsShow f searched → (k : ℕ) (v : View) → Agreed f v (after ++ searched) → length (events_by k v (after ++ searched)) + unknown_pages f ((after ++ searched) ++ v) ≤ n + 1 + unknown_pages f v
+  refused_few shows k v agreed =
+      let all = ap length (silent k v) in
+      let here = shows k v (agreed_later f v after searched agreed) in
+      let stays = unknown_stays f after (searched ++ v) (agreed_first f v after searched agreed) in
+      let same : unknown_pages f ((after ++ searched) ++ v) ≡ unknown_pages f (after ++ (searched ++ v)) = ap (unknown_pages f) (append_assoc after searched v) in
+      omega (arith, all, here, stays, same)
+
+  pub refused_rests : (locals : List Slots) (v : View) → RestsWith f locals v → Agreed f v (after ++ searched) → RestsWith f locals ((after ++ searched) ++ v)
+  refused_rests locals v h agreed = rests_kept f locals (after ++ searched) v (is.still.from v (may_find f v heap locals h) agreed) agreed h
+
+  pub refused_kinds : Only finding searched → Only allocating (after ++ searched)
+  refused_kinds kinds = only_both allocating after searched (only_within looking allocating after refl looks) (only_within finding allocating searched refl kinds)
+
+-- ---- the call
+abbrev pub Ends : Profile → ℕ → ℕ → List Made → List Made → Result Block NoRoom → Type 0
+Ends f heap n searched after answer = MatchResult answer (IsAllocatedLarge f (large_directory heap) n searched after) (IsRefusedLarge f (large_directory heap) n searched after)
+
+module _ (f : Profile) (heap n : ℕ) (searched after : List Made) where
+  rests : (locals : List Slots) (answer : Result Block NoRoom) → Ends f heap n searched after answer → (v : View) → RestsWith f locals v → Agreed f v (after ++ searched) → RestsWith f locals ((after ++ searched) ++ v)
+  rests locals (Ok block) h v rest agreed = rests_given f heap n searched after block h locals v rest agreed
+  rests locals (Err why) h v rest agreed = refused_rests f heap n searched after why h locals v rest agreed
+
+  few : (answer : Result Block NoRoom) → Ends f heap n searched after answer → OnlyDeedsShow f searched → (k : ℕ) (v : View) → Agreed f v (after ++ searched) → length (events_by k v (after ++ searched)) + unknown_pages f ((after ++ searched) ++ v) ≤ n + 1 + unknown_pages f v
+  few (Ok block) h shows k v agreed = given_few f heap n searched after block h shows k v agreed
+  few (Err why) h shows k v agreed = refused_few f heap n searched after why h shows k v agreed
+
+  kinds : (answer : Result Block NoRoom) → Ends f heap n searched after answer → Only finding searched → Only allocating (after ++ searched)
+  kinds (Ok block) h only = given_kinds f heap n searched after block h only
+  kinds (Err why) h only = refused_kinds f heap n searched after why h only
+
+  ends : {Meets : View → Type 0} (align : ℕ) (locals : List Slots) → IsAlignment align → Only finding searched → ((v : View) → Meets v → RestsWith f locals v) → (answer : Result Block NoRoom) → Ends f heap n searched after answer
+      → MatchResult answer (IsBlockFor f (record { directory = large_directory heap; route = Route.Large; room = n * 4096; align = align }) Meets (after ++ searched)) (λ why. MakesDeedsOf (large_directory heap) (after ++ searched))
+  ends {Meets} align locals alignment only met (Ok block) h = block_for f heap n searched after block h {Meets = Meets} align locals alignment only met
+  ends align locals alignment only met (Err why) h = refused_deeds f heap n searched after why h only
+
+-- ---- what is asked for
+pages_wanted : (f : Profile) (heap size align n : ℕ) → n ≡ (size + 4096 - 1) / 4096 → 1 ≤ size → route_of size align ≡ Route.Large → record { directory = large_directory heap; route = Route.Large; room = n * 4096; align = align } ≡ wanted_for f heap size align
+pages_wanted f heap size align n is some route =
+    let whole : max size 1 ≡ size = omega (arith, some) in
+    let room : n * 4096 ≡ room_of size align = ap (λ x. x * 4096) (is ∙ ap (λ x. (x + 4096 - 1) / 4096) (sym whole)) ∙ ap (λ (r : Route). room_by r (max size 1)) (sym route) in
+    ap (λ (r : Route). record { directory = record { heap = heap; kind = kind_of_route (is_shared f heap) r }; route = r; room = n * 4096; align = align }) (sym route)
+    ∙ ap (λ x. record { directory = record { heap = heap; kind = kind_of_route (is_shared f heap) (route_of size align) }; route = route_of size align; room = x; align = align }) room
+
+pub whole_pages : (size : ℕ) → size / 4096 + min 1 (size % 4096) ≡ (size + 4096 - 1) / 4096
+whole_pages size = omega arith
+
+pub pages_call : {σ : Standing} {c : Cached} {spare n m : ℕ} (heap : ℕ) → m ≡ n → CanCall σ (λ v l. MayAllocatePages σ.seat.profile c n spare v) → CanCall σ (λ v l. FindRoom σ.seat.profile (large_directory heap) (m + 1) spare v)
+pages_call {σ} {c} {spare} {n} {m} heap same can = record {
+  view = can.view;
+  whole = can.whole;
+  stood = can.stood;
+  met = record { may = may_find σ.seat.profile can.view heap c.locals can.met.rest.locals; room = (let room = can.met.room in omega (arith, room, same)) };
+}
+
+pub pages_allocates : {σ σ' : Standing} (size align heap n : ℕ) (tells : Bool) (c : Cached) (answer : Result Block NoRoom) → n ≡ (size + 4096 - 1) / 4096 → 2048 < size → IsAlignment align → route_of size align ≡ Route.Large → AllocatesLarge heap n tells σ σ' answer → AllocatesPages (wanted_for σ.seat.profile heap size align) tells c c σ σ' answer
+pages_allocates {σ} {σ'} size align heap n tells c answer is some alignment route a =
+    let f : Profile = σ.seat.profile in
+    let count : n * 4096 / 4096 ≡ n = omega arith in
+    subst (λ (w : Wanted). AllocatesPages w tells c c σ σ' answer) (pages_wanted f heap size align n is (omega (arith, some)) route) (record {
+      steps = a.after ++ a.searched;
+      calls = record {
+        adds = adds_under a.adds (λ v l stood met. may_find f v heap c.locals met.locals);
+        leads = record { from = λ v met agreed. record { locals = rests f heap n a.searched a.after c.locals answer a.outcome v met.locals agreed; few = met.few; entries = met.entries; few_entries = met.few_entries } };
+      };
+      change = record { cache = refl; searched = a.searched; after = a.after; outcome = subst (λ k. Ends f heap k a.searched a.after answer) (sym count) a.outcome; steps_are = refl };
+      kinds = kinds f heap n a.searched a.after answer a.outcome a.kinds;
+      short = (let short = a.few in omega (arith, short, count));
+      few = λ k v met agreed. (let paid = few f heap n a.searched a.after answer a.outcome a.shows k v agreed in omega (arith, paid, count));
+      outcome = ends f heap n a.searched a.after {Meets = AtRest f c} align c.locals alignment a.kinds (λ v met. met.locals) answer a.outcome;
+      told = λ t v l stood met. subst (λ k. IsToldLarge f (large_directory heap) k l (triples σ.seat.actor (a.after ++ a.searched) ++ l) answer) (sym count) (a.told t v l stood (may_find f v heap c.locals met.locals));
+    })
+
+-- ---- the size of a request with this route
+large_at : (t : Bool) (n : ℕ) → (if t then Route.Bitfit else Route.Large) ≡ Route.Large → nat_le n 2048 ≡ t → 2048 < n
+large_at true n route is = cc
+large_at false n route is = leb-false n 2048 is
+
+large_with : (o : Option ℕ) (n : ℕ) → route_with o n ≡ Route.Large → 2048 < n
+large_with None n route = large_at (nat_le n 2048) n route refl
+large_with (Some class) n route = cc
+
+-- for callers
+pub large_size : (size align : ℕ) → route_of size align ≡ Route.Large → 2048 < size
+large_size size align route = let big = large_with (first_class class_sizes 0 (max size 1) align) (max size 1) route in omega (arith, big)

@@ -1,0 +1,27 @@
+use Rattle.std.proofs.Common.{◌≡◌, List, length, get_or, sym, ◌∙◌, subst, take, refl}
+use Rattle.std.proofs.lemmas.List.{take_all, take_more}
+use Rattle.pas_free_log.specs.declared.noting.EndedRun.{EndedRun}
+use Rattle.pas_free_log.specs.Noted.{AreRanges, IsRange}
+use Rattle.pas_cache.specs.Calls.{SettlesEach}
+use Rattle.pas_cache.proofs.Settled.{settles_more, blank}
+use Rattle.pas_cache.proofs.cache.ThreadCache.settle.Goals as goal
+
+pub loop-run-init : goal.loop-run-init
+loop-run-init g c = refl
+
+pub settle-requires : goal.settle-requires
+settle-requires g c =
+    let ranges : AreRanges c.as_slice-run-items.result.now = subst AreRanges (sym c.as_slice-run-items.ensures.value) c.args.self.now.ranges in
+    let is : IsRange (get_or c.as_slice-run-items.result.now c.loop-run.run-index blank).range = ranges c.loop-run.run-index blank c.loop-run-test.true in
+    record { first = is.first; some = is.some; last = is.last }
+
+pub loop-run-preserved : goal.loop-run-preserved
+loop-run-preserved g c =
+    let runs = c.as_slice-run-items.result.now in let i = c.loop-run.run-index in
+    subst (λ xs. SettlesEach g.O.Door.settles xs c.args.door.now c.settle.new.self) (sym (take_more runs i blank c.loop-run-test.true))
+    (settles_more g.O.Door.settles (take i runs) (get_or runs i blank) c.args.door.now c.loop-run.door c.settle.new.self c.loop-run.invariant c.settle.ensures.settles)
+
+pub returns-clause-settles : goal.returns-clause-settles
+returns-clause-settles g c =
+    let runs = c.as_slice-run-items.result.now in
+    subst (λ xs. SettlesEach g.O.Door.settles xs c.args.door.now c.loop-run.door) (take_all c.loop-run.run-index runs c.loop-run-test.false ∙ c.as_slice-run-items.ensures.value) c.loop-run.invariant

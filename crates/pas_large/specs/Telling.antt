@@ -1,0 +1,44 @@
+-- Runs of usable pages in a state, and what a request says of the states at its entry and its exit, on a desk that tells the whole state.
+use Rattle.std.specs.Prelude.{ℕ, ◌+◌, ◌*◌, ◌<◌, ◌≤◌, ◌≡◌, ◌⊎◌, true, Result, MatchResult}
+use Rattle.pas_profile.specs.Directories.{deed_word_of, number_of}
+use Rattle.pas_profile.specs.Runs.{address_of}
+use Rattle.pas_profile.specs.declared.directory.Directory.{Directory}
+use Rattle.pas_profile.specs.declared.event.NoRoom.{NoRoom}
+use Rattle.pas_profile.specs.declared.name.Block.{Block}
+use Rattle.pas_profile.specs.declared.profile.Profile.{Profile}
+use Rattle.pas_profile.specs.declared.word.Word.TheVariants as Word
+use Rattle.pas_steps.specs.Lists.{Whole, word_after}
+use Rattle.pas_core.specs.Rights.{eligible_bit, free_of_page}
+use Rattle.pas_scan.specs.Runs.{IsInRun}
+use Rattle.pas_search.specs.Telling.{IsTrueReason}
+
+-- the page is of the directory, is offered, and all its grains are free
+pub record IsWholePage (d : Directory) (l : Whole) (page : ℕ) : Type 0 where
+  pub deed : word_after l (Word.Deed page) ≡ deed_word_of d
+  pub offered : eligible_bit l (number_of d) page ≡ true
+  pub free : (b : ℕ) → b < 256 → free_of_page l page b ≡ true
+
+-- it has no deed, or is such a page
+abbrev pub IsUsablePage : Directory → Whole → ℕ → Type 0
+IsUsablePage d l page = (word_after l (Word.Deed page) ≡ 0) ⊎ IsWholePage d l page
+
+-- all pages of the run are usable
+abbrev pub IsUsableRun : Directory → ℕ → Whole → ℕ → Type 0
+IsUsableRun d n l first = (page : ℕ) → IsInRun first n page → IsUsablePage d l page
+
+-- the region has no run of n usable pages
+abbrev pub HasNoUsableRun : Profile → Directory → ℕ → Whole → Type 0
+HasNoUsableRun f d n l = (first : ℕ) → 1 ≤ first → first + n ≤ f.pages + 1 → IsUsableRun d n l first → ⊥
+
+-- the lowest one
+pub record IsLowestRun (f : Profile) (d : Directory) (n : ℕ) (l : Whole) (first : ℕ) : Type 0 where
+  pub of_region : (1 ≤ first) × (first + n ≤ f.pages + 1)
+  pub usable : IsUsableRun d n l first
+  pub lowest : (other : ℕ) → 1 ≤ other → other < first → IsUsableRun d n l other → ⊥
+
+-- The block is given on the lowest run that was usable at entry. Where the request is refused, there was none at entry, nor is there one at exit,
+-- and the reason is true at exit.
+abbrev pub IsToldLarge : Profile → Directory → ℕ → Whole → Whole → Result Block NoRoom → Type 0
+IsToldLarge f d n entry exit answer = MatchResult answer
+    (λ block. (first : ℕ) × IsLowestRun f d n entry first × (address_of block.name ≡ first * 4096))
+    (λ room. HasNoUsableRun f d n entry × HasNoUsableRun f d n exit × IsTrueReason f d exit room)
