@@ -26,8 +26,8 @@ use Rattle.pas_report.proofs.TrueMarks.{true_marks}
 use Rattle.pas_cache.specs.Caches.{Cached}
 use Rattle.pas_scavenger.specs.Passes.{passing}
 use Rattle.pas_passes.specs.Records.{records_of_pass}
-use Rattle.pas_answers.specs.Acts.{Act, Operates, Ticks, MakesPass, ReadsEpoch, StopsIdle, MarksPhase, Wakes, MarksClose, Ends, acts_of}
-use Rattle.pas_answers.specs.Answers.{Progress, having, with_records, records_of, said_by, stopped, epoch_look, IsStopped, after_answer, after_wake, after_reading, after_tick, after_pass, after_stop, Follows}
+use Rattle.pas_answers.specs.Acts.{Act, Operates, Settles, Ticks, MakesPass, ReadsEpoch, StopsIdle, MarksPhase, Wakes, MarksClose, Ends, acts_of}
+use Rattle.pas_answers.specs.Answers.{Progress, having, with_records, records_of, said_by, stopped, epoch_look, IsStopped, after_answer, after_settling, after_wake, after_reading, after_tick, after_pass, after_stop, Follows}
 use Rattle.pas_answers.specs.Replays.{at_start, phases_of, IsReplay}
 use Rattle.pas_answers.specs.Ways.{Way, IsOneOrder, arranged}
 use Rattle.pas_answers.proofs.Parts.{Each, same_parts, legal_part, of_front, of_rest}
@@ -89,6 +89,7 @@ leaves f (Operates op ∷ acts) p l rs is of =
     let v = part k p.list in
     leaves_piece f k is.0.steps (records_of (events_by k v is.0.steps) ++ said_by k is.0.said) p.list l p.records rs (answer_tidy f k op.what (having p.names v (p.caches k)) is.0 is.1) (piece_shown f k is.0.steps is.0.said v)
     (leaves f acts (after_answer p k is.0) l rs is.2 of)
+leaves f (Settles k ∷ acts) p l rs is of = leaves f acts (after_settling p k) l rs is of
 leaves f (Ticks asked ∷ acts) p l rs is of =
     leaves_scavenged f (made (Tick asked) is.0 ∷ []) (Record.Said 0 (Said.Tick (max is.0 asked)) ∷ []) p.list l p.records rs (tick_tidy asked is.0 (part 0 p.list)) (λ of. (tt, tt)) (leaves f acts (after_tick p asked is.0) l rs is.1 of)
 leaves f (MakesPass ∷ acts) p l rs is of =

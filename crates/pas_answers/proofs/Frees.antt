@@ -31,7 +31,7 @@ use Rattle.pas_steps.proofs.Unknown.{unknown_stays}
 taken_few : (f : Profile) (k : ℕ) (c c' : Cached) (name : Name) (steps : List Made) (v : View) → TakesName f k c c' name steps → Agreed f v steps
     → length (events_by k v steps) + 0 + owed_events f c' (steps ++ v) ≤ 1 + owed_events f c v
 taken_few f k c c' name steps v takes agreed =
-    let events = full_events (nat_le 64 (length c.log)) k c.log takes.logs.kept steps v takes.logs.emptied in
+    let events = full_events (nat_le 64 (length c.log)) k c.log takes.logs.kept c.noted c'.noted steps v takes.logs.emptied in
     let log = ap (λ (es : List Entry). length es) takes.logs.log_is ∙ length-append takes.logs.kept (entry_of name ∷ []) in
     let unknown = unknown_stays f steps v agreed in
     omega (arith, events, log, unknown)
@@ -117,7 +117,7 @@ performs_flush {σ} {σ'} what table c c' is flushes = subst (λ w. Performs w (
   steps = flushes.steps;
   calls = flushes.calls;
   few = λ v rest agreed.
-      let events = emptied_events σ.seat.actor c.log flushes.steps v flushes.empties in
+      let events = emptied_events σ.seat.actor c.log c.noted c'.noted flushes.steps v flushes.empties in
       let none = ap (λ (d : Cached). length d.log) flushes.cache in
       let unknown = unknown_stays σ.seat.profile flushes.steps v agreed in
       omega (arith, events, none, unknown);
@@ -134,7 +134,7 @@ performs_stop {σ} {σ'} what table c c' is stops = subst (λ w. Performs w (wor
   steps = stops.stopped ++ stops.flushed;
   calls = call_as (λ v w. AtRest σ.seat.profile c' w) stops.calls (λ v rest. rest) (λ v w rest stopped. stopped.0);
   few = λ v rest agreed.
-      let events = stopped_events σ.seat.actor c.log v stops.stopped stops.flushed (emptied_events σ.seat.actor c.log stops.flushed v stops.empties) (stops.silent σ.seat.actor (stops.flushed ++ v)) in
+      let events = stopped_events σ.seat.actor c.log v stops.stopped stops.flushed (emptied_events σ.seat.actor c.log c.noted c'.noted stops.flushed v stops.empties) (stops.silent σ.seat.actor (stops.flushed ++ v)) in
       let none = ap (λ (d : Cached). length d.log) stops.cache in
       let unknown = unknown_stays σ.seat.profile (stops.stopped ++ stops.flushed) v agreed in
       omega (arith, events, none, unknown);

@@ -1,4 +1,4 @@
-pub mod Built
+pub mod Routes
 pub mod OwedEvents
 pub mod Frees
 pub mod Requests

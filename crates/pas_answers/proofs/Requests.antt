@@ -1,6 +1,7 @@
 -- What a request promises.
 use Rattle.std.proofs.Common.{◌≡◌, ◌≢◌, ℕ, ◌+◌, ◌-◌, ◌^◌, ◌<◌, ◌≤◌, ◌==◌, ◌++◌, Bool, true, false, if◌then◌else◌, List, [], ◌∷◌, length, Option, Some, None, Result, Ok, Err, refl, ap, sym, ◌∙◌, subst, arith}
-use Rattle.std.specs.Prelude.{MatchResult}
+use Rattle.std.specs.Prelude.{◌/◌, max, MatchResult}
+use Rattle.std.specs.List.{AllByRecursion}
 use Rattle.std.proofs.lemmas.Option.{same_Some, none-some}
 use Rattle.pas_profile.specs.Directories.{IsDirectory, deed_word_of}
 use Rattle.pas_profile.specs.Profiles.{IsValid, IsDirectoryOf}
@@ -26,22 +27,102 @@ use Rattle.pas_steps.specs.Lists.{Whole, part, word_after, visible, Legal}
 use Rattle.pas_steps.specs.Desks.{Standing, CanCall}
 use Rattle.pas_trace.specs.declared.plan.What.TheVariants.{Alloc}
 use Rattle.pas_cache.specs.Caches.{Cached, AtRest}
-use Rattle.pas_cache.specs.Calls.{MayAllocate, Allocates}
+use Rattle.pas_profile.specs.Routes.{room_by}
+use Rattle.pas_profile.specs.declared.directory.Route.{Route}
+use Rattle.pas_trace.specs.Reasons.{cost_of_route}
+use Rattle.pas_cache.specs.Calls.{MayAllocate, Allocates, MayAllocatePages, AllocatesPages, most_events}
 use Rattle.pas_cache.proofs.Budget.{log_kept}
-use Rattle.pas_cache.specs.Serves.{wanted_for, IsSmallRoute, ServesRequest, IsBlockFor, IsSilent}
+use Rattle.pas_cache.specs.Serves.{Wanted, wanted_for, pages_of, ServesRequest, IsBlockFor, IsDeedOf, IsSilent, MakesFew, MakesAtMost, MakesDeedsOf}
 use Rattle.pas_steps.specs.Unknown.{unknown_pages}
-use Rattle.pas_answers.specs.Answers.{Named, named, standing_for, said_of_room}
+use Rattle.pas_answers.specs.Answers.{Named, named, standing_for, said_of_room, RefusalEnds}
 use Rattle.pas_answers.specs.Names.{block_named, names_held}
-use Rattle.pas_answers.specs.Calls.{works, block_behind, Tells, HasTurns, owed_events, MayPerform, Performs}
+use Rattle.pas_answers.specs.Calls.{works, block_behind, Tells, HasTurns, owed_events, MayPerform, MayServe, Serves, events_for, Performs}
 use Rattle.pas_answers.specs.declared.names.Names.{Names}
 use Rattle.pas_steps.proofs.Unknown.{unknown_stays, has_room}
+use Rattle.pas_answers.proofs.Routes.{small_cost, is_large}
 
 -- ---- what a request asks
-may_allocate : (f : Profile) (c : Cached) (name heap size align spare : ℕ) (v : View) → MayPerform f c (Alloc name heap size align) spare v → MayAllocate f c spare v
-may_allocate f c name heap size align spare v may = let fits = may.room in record { rest = may.rest; room = has_room f 2 spare v (omega (arith, fits)) }
+may_allocate : (f : Profile) (c : Cached) (cost spare : ℕ) (v : View) → 2 ≤ cost → MayServe f c cost spare v → MayAllocate f c spare v
+may_allocate f c cost spare v two may = let fits = may.room in record { rest = may.rest; room = has_room f 2 spare v (omega (arith, fits, two)) }
 
-pub can_allocate : {σ : Standing} (c : Cached) (name heap size align spare : ℕ) → CanCall σ (λ v l. MayPerform σ.seat.profile c (Alloc name heap size align) spare v) → CanCall σ (λ v l. MayAllocate σ.seat.profile c spare v)
-can_allocate {σ} c name heap size align spare can = record { view = can.view; whole = can.whole; stood = can.stood; met = may_allocate σ.seat.profile c name heap size align spare can.view can.met }
+pub can_allocate : {σ : Standing} (c : Cached) (size align spare : ℕ) → size ≤ 2048 → CanCall σ (λ v l. MayServe σ.seat.profile c (cost_of_route (route_of size align) size) spare v) → CanCall σ (λ v l. MayAllocate σ.seat.profile c spare v)
+can_allocate {σ} c size align spare small can =
+    let cost = small_cost size align small in
+    record { view = can.view; whole = can.whole; stood = can.stood; met = may_allocate σ.seat.profile c (cost_of_route (route_of size align) size) spare can.view (omega (arith, cost)) can.met }
+
+pub can_allocate_pages : {σ : Standing} (c : Cached) (size align spare : ℕ) → 2048 < size → CanCall σ (λ v l. MayServe σ.seat.profile c (cost_of_route (route_of size align) size) spare v)
+    → CanCall σ (λ v l. MayAllocatePages σ.seat.profile c ((size + 4096 - 1) / 4096) spare v)
+can_allocate_pages {σ} c size align spare large can =
+    let cost = ap (λ (r : Route). cost_of_route r size) (is_large size align large) in
+    let fits = can.met.room in
+    let pages : (size + 4095) / 4096 ≡ (size + 4096 - 1) / 4096 = omega arith in
+    record { view = can.view; whole = can.whole; stood = can.stood; met = record { rest = can.met.rest; room = omega (arith, fits, cost, pages) } }
+
+pub can_serve : {σ : Standing} (c : Cached) (name heap size align spare : ℕ) → CanCall σ (λ v l. MayPerform σ.seat.profile c (Alloc name heap size align) spare v) → CanCall σ (λ v l. MayServe σ.seat.profile c (cost_of_route (route_of size align) size) spare v)
+can_serve {σ} c name heap size align spare can = record { view = can.view; whole = can.whole; stood = can.stood; met = record { rest = can.met.rest; room = can.met.room } }
+
+-- ---- how it was served
+silent_ends : (r : Route) (d : Directory) (es : List Event) → es ≡ [] → RefusalEnds r d es
+silent_ends (Route.Class class) d es none = none
+silent_ends Route.Bitfit d es none = none
+silent_ends Route.Large d es none = subst (AllByRecursion (IsDeedOf d)) (sym none) tt
+
+small_ends : (f : Profile) (w : Wanted) (Meets : View → Type 0) (steps : List Made) (answer : Result Block NoRoom) → MatchResult answer (IsBlockFor f w Meets steps) (λ room. IsSilent steps)
+    → MatchResult answer (IsBlockFor f w Meets steps) (λ room. (k : ℕ) (v : View) → RefusalEnds w.route w.directory (events_by k v steps))
+small_ends f w Meets steps (Ok block) of = of
+small_ends f w Meets steps (Err room) silent = λ k v. silent_ends w.route w.directory (events_by k v steps) (silent k v)
+
+small_few : (f : Profile) (w : Wanted) (Meets : View → Type 0) (steps : List Made) (cost : ℕ) (answer : Result Block NoRoom) → cost ≡ 2 → MakesFew f Meets 2 steps → MatchResult answer (IsBlockFor f w Meets steps) (λ room. IsSilent steps)
+    → MakesAtMost f Meets (events_for cost answer) steps
+small_few f w Meets steps cost (Ok block) two few of = λ k v met agreed. let paid = (few k v met agreed).paid in omega (arith, paid, two)
+small_few f w Meets steps cost (Err room) two few silent = λ k v met agreed.
+    let none = ap (λ (es : List Event). length es) (silent k v) in
+    let unknown = unknown_stays f steps v agreed in
+    omega (arith, none, unknown)
+
+pub serves_small : {σ σ' : Standing} {answer : Result Block NoRoom} {tells : Bool} (c c' : Cached) (heap size align : ℕ) → size ≤ 2048 → Allocates (wanted_for σ.seat.profile heap size align) tells c c' σ σ' answer
+    → Serves (cost_of_route (route_of size align) size) (wanted_for σ.seat.profile heap size align) c c' σ σ' answer
+serves_small {σ} {σ'} {answer} c c' heap size align small call =
+    let f = σ.seat.profile in
+    let w = wanted_for f heap size align in
+    record {
+      steps = call.steps;
+      calls = call.calls;
+      change = call.change;
+      kinds = call.kinds;
+      few = small_few f w (AtRest f c) call.steps (cost_of_route (route_of size align) size) answer (small_cost size align small) call.few call.outcome;
+      outcome = small_ends f w (AtRest f c) call.steps answer call.outcome;
+      log_is = log_kept f w c c' call.steps answer (route_of size align) call.change;
+    }
+
+pages_ends : (f : Profile) (w : Wanted) (Meets : View → Type 0) (steps : List Made) (answer : Result Block NoRoom) → w.route ≡ Route.Large → MatchResult answer (IsBlockFor f w Meets steps) (λ room. MakesDeedsOf w.directory steps)
+    → MatchResult answer (IsBlockFor f w Meets steps) (λ room. (k : ℕ) (v : View) → RefusalEnds w.route w.directory (events_by k v steps))
+pages_ends f w Meets steps (Ok block) large of = of
+pages_ends f w Meets steps (Err room) large deeds = λ k v. subst (λ (r : Route). RefusalEnds r w.directory (events_by k v steps)) (sym large) (deeds k v)
+
+most_same : (n cost : ℕ) (answer : Result Block NoRoom) → cost ≡ n + 1 → most_events n answer ≡ events_for cost answer
+most_same n cost (Ok block) same = sym same
+most_same n cost (Err room) same = refl
+
+pub serves_pages : {σ σ' : Standing} {answer : Result Block NoRoom} {tells : Bool} (c c' : Cached) (heap size align : ℕ) → 2048 < size → AllocatesPages (wanted_for σ.seat.profile heap size align) tells c c' σ σ' answer
+    → Serves (cost_of_route (route_of size align) size) (wanted_for σ.seat.profile heap size align) c c' σ σ' answer
+serves_pages {σ} {σ'} {answer} c c' heap size align large call =
+    let f = σ.seat.profile in
+    let w = wanted_for f heap size align in
+    let route = is_large size align large in
+    let cost = ap (λ (r : Route). cost_of_route r size) route in
+    let whole : max size 1 ≡ size = omega (arith, large) in
+    let room = ap (λ (r : Route). room_by r (max size 1)) route in
+    let same : cost_of_route (route_of size align) size ≡ pages_of w + 1 = omega (arith, cost, whole, room) in
+    record {
+      steps = call.steps;
+      calls = call.calls;
+      change = call.change;
+      kinds = call.kinds;
+      few = subst (λ (n : ℕ). MakesAtMost f (AtRest f c) n call.steps) (most_same (pages_of w) (cost_of_route (route_of size align) size) answer same) call.few;
+      outcome = pages_ends f w (AtRest f c) call.steps answer route call.outcome;
+      log_is = log_kept f w c c' call.steps answer (route_of size align) call.change;
+    }
 
 -- ---- the directory
 -- a deed word of a directory is of that one
@@ -57,17 +138,18 @@ known_directory f l k page d valid legal of knows =
     (sym (deed_of f l legal page) ∙ sym (known_is (known_deed (part k l) page) (word_after l (Word.Deed page)) (deeds_known f l legal k page) some) ∙ knows)
 
 -- ---- what is owed
-given_few : (f : Profile) (k : ℕ) (c c' : Cached) (steps : List Made) (v : View) → c'.log ≡ c.log → length (events_by k v steps) + unknown_pages f (steps ++ v) ≤ 2 + unknown_pages f v
-    → length (events_by k v steps) + 0 + owed_events f c' (steps ++ v) ≤ 2 + owed_events f c v
-given_few f k c c' steps v same few = let log = ap (λ names. length names) same in omega (arith, log, few)
+given_few : (f : Profile) (k cost : ℕ) (c c' : Cached) (steps : List Made) (v : View) → c'.log ≡ c.log → length (events_by k v steps) + unknown_pages f (steps ++ v) ≤ cost + unknown_pages f v
+    → length (events_by k v steps) + 0 + owed_events f c' (steps ++ v) ≤ cost + owed_events f c v
+given_few f k cost c c' steps v same few = let log = ap (λ names. length names) same in omega (arith, log, few)
 
-refused_few : (f : Profile) (k : ℕ) (c c' : Cached) (steps : List Made) (v : View) → c'.log ≡ c.log → events_by k v steps ≡ [] → Agreed f v steps
-    → length (events_by k v steps) + 1 + owed_events f c' (steps ++ v) ≤ 2 + owed_events f c v
-refused_few f k c c' steps v same silent agreed =
-    let log = ap (λ names. length names) same in
-    let none = ap (λ (es : List Event). length es) silent in
-    let unknown = unknown_stays f steps v agreed in
-    omega (arith, log, none, unknown)
+some_cost : (r : Route) (size : ℕ) → 1 ≤ cost_of_route r size
+some_cost (Route.Class c) size = omega arith
+some_cost Route.Bitfit size = omega arith
+some_cost Route.Large size = omega arith
+
+refused_few : (f : Profile) (k cost : ℕ) (c c' : Cached) (steps : List Made) (v : View) → 1 ≤ cost → c'.log ≡ c.log → length (events_by k v steps) + unknown_pages f (steps ++ v) ≤ 0 + unknown_pages f v
+    → length (events_by k v steps) + 1 + owed_events f c' (steps ++ v) ≤ cost + owed_events f c v
+refused_few f k cost c c' steps v some same few = let log = ap (λ names. length names) same in omega (arith, log, few, some)
 
 -- ---- the names
 -- after the request the table has this at its name
@@ -89,11 +171,11 @@ turns_with : (table table' : Names) (name : ℕ) (block : Option Name) → HasTu
 turns_with table table' name block turns sets new n b is = turn_of_one (name == n) block (block_named table n) b new (turns n b) (sym (sets n) ∙ is)
 
 -- the turn of a block that was given is far below the last one
-pub turns_given : {σ σ' : Standing} {answer : Result Block NoRoom} {tells : Bool} (table table' : Names) (c c' : Cached) (name heap size align spare : ℕ) (block : Block) → HasTurns table → SetsName table table' name (Some block.name)
-    → CanCall σ (λ v l. MayPerform σ.seat.profile c (Alloc name heap size align) spare v) → Allocates (wanted_for σ.seat.profile heap size align) tells c c' σ σ' answer → answer ≡ Ok block → HasTurns table'
-turns_given {σ} {σ'} {answer} {tells} table table' c c' name heap size align spare block turns sets can call is =
+pub turns_given : {σ σ' : Standing} {answer : Result Block NoRoom} (table table' : Names) (c c' : Cached) (name heap size align spare : ℕ) (block : Block) → HasTurns table → SetsName table table' name (Some block.name)
+    → CanCall σ (λ v l. MayPerform σ.seat.profile c (Alloc name heap size align) spare v) → Serves (cost_of_route (route_of size align) size) (wanted_for σ.seat.profile heap size align) c c' σ σ' answer → answer ≡ Ok block → HasTurns table'
+turns_given {σ} {σ'} {answer} table table' c c' name heap size align spare block turns sets can call is =
     let of : IsBlockFor σ.seat.profile (wanted_for σ.seat.profile heap size align) (AtRest σ.seat.profile c) call.steps block
-    = subst (λ a. MatchResult a (IsBlockFor σ.seat.profile (wanted_for σ.seat.profile heap size align) (AtRest σ.seat.profile c) call.steps) (λ room. IsSilent call.steps)) is call.outcome in
+    = subst (λ a. MatchResult a (IsBlockFor σ.seat.profile (wanted_for σ.seat.profile heap size align) (AtRest σ.seat.profile c) call.steps) (λ room. (k : ℕ) (v : View) → RefusalEnds (route_of size align) (wanted_for σ.seat.profile heap size align).directory (events_by k v call.steps))) is call.outcome in
     let small = of.turn.from can.view can.met.rest (call.calls.adds.agreed can.view can.whole can.stood can.met.rest) in
     turns_with table table' name (Some block.name) turns sets (λ b same. subst (λ d. d.turn < 2 ^ 40 - 1) (same_Some _ _ same) (omega (arith, small)))
 
@@ -101,22 +183,21 @@ pub turns_refused : (table table' : Names) (name : ℕ) → HasTurns table → S
 turns_refused table table' name turns sets = turns_with table table' name None turns sets (λ b same. absurd (none-some _ same))
 
 -- ---- a request
-pub performs_given : {σ σ' : Standing} {answer : Result Block NoRoom} {tells : Bool} (table table' : Names) (c c' : Cached) (name heap size align : ℕ) (block : Block)
-    → IsSmallRoute (route_of size align)
-    → Allocates (wanted_for σ.seat.profile heap size align) tells c c' σ σ' answer → answer ≡ Ok block → SetsName table table' name (Some block.name) → names_held table' ≡ names_held table
+pub performs_given : {σ σ' : Standing} {answer : Result Block NoRoom} (table table' : Names) (c c' : Cached) (name heap size align : ℕ) (block : Block)
+    → Serves (cost_of_route (route_of size align) size) (wanted_for σ.seat.profile heap size align) c c' σ σ' answer → answer ≡ Ok block → SetsName table table' name (Some block.name) → names_held table' ≡ names_held table
     → Performs (Alloc name heap size align) (works table c) (works table' c') σ σ' None
-performs_given {σ} {σ'} {answer} {tells} table table' c c' name heap size align block route call is sets held =
+performs_given {σ} {σ'} {answer} table table' c c' name heap size align block call is sets held =
+    let cost = cost_of_route (route_of size align) size in
     let of : IsBlockFor σ.seat.profile (wanted_for σ.seat.profile heap size align) (AtRest σ.seat.profile c) call.steps block
-    = subst (λ a. MatchResult a (IsBlockFor σ.seat.profile (wanted_for σ.seat.profile heap size align) (AtRest σ.seat.profile c) call.steps) (λ room. IsSilent call.steps)) is call.outcome in
+    = subst (λ a. MatchResult a (IsBlockFor σ.seat.profile (wanted_for σ.seat.profile heap size align) (AtRest σ.seat.profile c) call.steps) (λ room. (k : ℕ) (v : View) → RefusalEnds (route_of size align) (wanted_for σ.seat.profile heap size align).directory (events_by k v call.steps))) is call.outcome in
     record {
       steps = call.steps;
       calls = call.calls;
-      few = λ v rest agreed. given_few σ.seat.profile σ.seat.actor c c' call.steps v (log_kept σ.seat.profile (wanted_for σ.seat.profile heap size align) c c' call.steps answer (route_of size align) call.change) (call.few σ.seat.actor v rest agreed).paid;
+      few = λ v rest agreed. given_few σ.seat.profile σ.seat.actor cost c c' call.steps v call.log_is (subst (λ a. MakesAtMost σ.seat.profile (AtRest σ.seat.profile c) (events_for cost a) call.steps) is call.few σ.seat.actor v rest agreed);
       answered = λ v l stood rest names tells known. (
         named name (Some block.name) ∷ names,
         tells_more table table' names name (Some block.name) tells sets,
         record {
-          route = route;
           answer = Ok block;
           serves = subst (λ a. ServesRequest σ.seat.profile (wanted_for σ.seat.profile heap size align) c c' call.steps a) is call.change;
           kinds = call.kinds;
@@ -137,25 +218,25 @@ performs_given {σ} {σ'} {answer} {tells} table table' c c' name heap size alig
       held = held;
     }
 
-pub performs_refused : {σ σ' : Standing} {answer : Result Block NoRoom} {tells : Bool} (table table' : Names) (c c' : Cached) (name heap size align : ℕ) (room : NoRoom)
-    → IsSmallRoute (route_of size align) → Allocates (wanted_for σ.seat.profile heap size align) tells c c' σ σ' answer → answer ≡ Err room → SetsName table table' name None → names_held table' ≡ names_held table
+pub performs_refused : {σ σ' : Standing} {answer : Result Block NoRoom} (table table' : Names) (c c' : Cached) (name heap size align : ℕ) (room : NoRoom)
+    → Serves (cost_of_route (route_of size align) size) (wanted_for σ.seat.profile heap size align) c c' σ σ' answer → answer ≡ Err room → SetsName table table' name None → names_held table' ≡ names_held table
     → Performs (Alloc name heap size align) (works table c) (works table' c') σ σ' (Some (said_of_room name room))
-performs_refused {σ} {σ'} {answer} {tells} table table' c c' name heap size align room route call is sets held =
-    let silent : IsSilent call.steps
-    = subst (λ a. MatchResult a (IsBlockFor σ.seat.profile (wanted_for σ.seat.profile heap size align) (AtRest σ.seat.profile c) call.steps) (λ room. IsSilent call.steps)) is call.outcome in
+performs_refused {σ} {σ'} {answer} table table' c c' name heap size align room call is sets held =
+    let cost = cost_of_route (route_of size align) size in
+    let ends : (k : ℕ) (v : View) → RefusalEnds (route_of size align) (wanted_for σ.seat.profile heap size align).directory (events_by k v call.steps)
+    = subst (λ a. MatchResult a (IsBlockFor σ.seat.profile (wanted_for σ.seat.profile heap size align) (AtRest σ.seat.profile c) call.steps) (λ room. (k : ℕ) (v : View) → RefusalEnds (route_of size align) (wanted_for σ.seat.profile heap size align).directory (events_by k v call.steps))) is call.outcome in
     record {
       steps = call.steps;
       calls = call.calls;
-      few = λ v rest agreed. refused_few σ.seat.profile σ.seat.actor c c' call.steps v (log_kept σ.seat.profile (wanted_for σ.seat.profile heap size align) c c' call.steps answer (route_of size align) call.change) (silent σ.seat.actor v) agreed;
+      few = λ v rest agreed. refused_few σ.seat.profile σ.seat.actor cost c c' call.steps v (some_cost (route_of size align) size) call.log_is (subst (λ a. MakesAtMost σ.seat.profile (AtRest σ.seat.profile c) (events_for cost a) call.steps) is call.few σ.seat.actor v rest agreed);
       answered = λ v l stood rest names tells known. (
         named name None ∷ names,
         tells_more table table' names name None tells sets,
         record {
-          route = route;
           answer = Err room;
           serves = subst (λ a. ServesRequest σ.seat.profile (wanted_for σ.seat.profile heap size align) c c' call.steps a) is call.change;
           kinds = call.kinds;
-          ends = silent σ.seat.actor v;
+          ends = ends σ.seat.actor v;
           said_is = refl;
           names_are = refl;
         },

@@ -22,6 +22,7 @@ use Rattle.pas_free_log.specs.Endings.{guess_by, Tries, IsEndOf, EndSteps}
 use Rattle.pas_free_log.specs.Returns.{PageSteps, PagesSteps, first_on, count_on}
 use Rattle.pas_free_log.specs.Stamps.{page_count}
 use Rattle.pas_free_log.specs.declared.log.Entry.{Entry}
+use Rattle.pas_free_log.specs.declared.noting.EndedRun.{EndedRun}
 use Rattle.pas_free_log.specs.Flushes.{Settled, AfterEnd, EntrySteps, EntriesSteps}
 use Rattle.pas_free_log.specs.declared.ending.Outcome.{Outcome}
 use Rattle.pas_free_log.specs.declared.ending.Outcome.TheVariants.{Ended, Refused}
@@ -252,8 +253,8 @@ entries_tidy f (entry ∷ earlier) steps v of h tidy =
     let here : AreOfRegion f (h.0 ++ h.1) = subst (AreOfRegion f) h.4 of in
     tidy_both steps h.0 h.1 v h.4 (entry_tidy f entry h.0 (h.1 ++ v) (of_front f h.0 h.1 here) h.2 (entries_tidy f earlier h.1 v (of_back f h.0 h.1 here) h.3 tidy))
 
-flush_tidy : (f : Profile) (k : ℕ) (logged : List Entry) (steps : List Made) (v : View) → AreOfRegion f steps → EmptiesLog k logged steps → Tidy v → Tidy (steps ++ v)
-flush_tidy f k logged steps v of h tidy =
+flush_tidy : (f : Profile) (k : ℕ) (logged : List Entry) (noted noted' : List EndedRun) (steps : List Made) (v : View) → AreOfRegion f steps → EmptiesLog k logged noted noted' steps → Tidy v → Tidy (steps ++ v)
+flush_tidy f k logged noted noted' steps v of h tidy =
     let look = made (Look Word.Epoch) h.epoch in
     tidy_both steps h.entries (look ∷ []) v h.steps_are (entries_tidy f h.settled h.entries (look ∷ v) (of_front f h.entries (look ∷ []) (subst (AreOfRegion f) h.steps_are of)) h.order (look_tidy Word.Epoch h.epoch v refl tidy))
 
@@ -261,14 +262,14 @@ flush_tidy f k logged steps v of h tidy =
 pub stop_tidy : (f : Profile) (k : ℕ) (c c' : Cached) (steps : List Made) (v : View) → AreOfRegion f steps → IsStopped k c c' steps → Tidy v → Tidy (steps ++ v)
 stop_tidy f k c c' steps v of h tidy =
     let flushed = of_back f h.stopped h.flushed (subst (AreOfRegion f) h.steps_are of) in
-    tidy_both steps h.stopped h.flushed v h.steps_are (tidy_over releasing refl h.stopped (h.flushed ++ v) h.kinds (flush_tidy f k c.log h.flushed v flushed h.empties tidy))
+    tidy_both steps h.stopped h.flushed v h.steps_are (tidy_over releasing refl h.stopped (h.flushed ++ v) h.kinds (flush_tidy f k c.log c.noted c'.noted h.flushed v flushed h.empties tidy))
 
-full_tidy : (f : Profile) (k : ℕ) (full : Bool) (log log' : List Entry) (steps : List Made) (v : View) → AreOfRegion f steps → EmptiesFull full k log log' steps → Tidy v → Tidy (steps ++ v)
-full_tidy f k true log log' steps v of h tidy = flush_tidy f k log steps v of h.0 tidy
-full_tidy f k false log log' steps v of h tidy = tidy_none steps v h.0 tidy
+full_tidy : (f : Profile) (k : ℕ) (full : Bool) (log log' : List Entry) (noted noted' : List EndedRun) (steps : List Made) (v : View) → AreOfRegion f steps → EmptiesFull full k log log' noted noted' steps → Tidy v → Tidy (steps ++ v)
+full_tidy f k true log log' noted noted' steps v of h tidy = flush_tidy f k log noted noted' steps v of h.0 tidy
+full_tidy f k false log log' noted noted' steps v of h tidy = tidy_none steps v h.0 tidy
 
 free_tidy : (f : Profile) (k : ℕ) (c c' : Cached) (name : Name) (steps : List Made) (said : Option Said) (v : View) → AreOfRegion f steps → IsFreed f k c c' name steps said → Tidy v → Tidy (steps ++ v)
-free_tidy f k c c' name steps said v of (inl h) tidy = full_tidy f k (nat_le 64 (length c.log)) c.log h.0.logs.kept steps v of h.0.logs.emptied tidy
+free_tidy f k c c' name steps said v of (inl h) tidy = full_tidy f k (nat_le 64 (length c.log)) c.log h.0.logs.kept c.noted c'.noted steps v of h.0.logs.emptied tidy
 free_tidy f k c c' name steps said v of (inr h) tidy = tidy_none steps v h.1.no_steps tidy
 
 freed_tidy : (f : Profile) (k : ℕ) (c c' : Cached) (name : ℕ) (is : Option (Option Name)) (steps : List Made) (said : Option Said) (v : View) → AreOfRegion f steps → IsFreedBy f k c c' name is steps said → Tidy v → Tidy (steps ++ v)
@@ -280,6 +281,6 @@ pub answer_tidy : (f : Profile) (k : ℕ) (what : What) (b : Having) (a : Answer
 answer_tidy f k (What.Alloc name heap size align) b a h of tidy = tidy_over allocating refl a.steps b.view h.kinds tidy
 answer_tidy f k (What.Free name) b a h of tidy = freed_tidy f k b.cache a.cache name (standing_for b.names name) a.steps a.said b.view of h.0 tidy
 answer_tidy f k (What.Raw block) b a h of tidy = free_tidy f k b.cache a.cache block a.steps a.said b.view of h.0 tidy
-answer_tidy f k What.Flush b a h of tidy = flush_tidy f k b.cache.log a.steps b.view of h.0.empties tidy
+answer_tidy f k What.Flush b a h of tidy = flush_tidy f k b.cache.log b.cache.noted a.cache.noted a.steps b.view of h.0.empties tidy
 answer_tidy f k What.Stop b a h of tidy = stop_tidy f k b.cache a.cache a.steps b.view of h.0 tidy
 answer_tidy f k what b a h of tidy = absurd h

@@ -7,10 +7,12 @@ use Rattle.pas_trace.specs.declared.plan.What.{What}
 use Rattle.pas_trace.specs.declared.plan.What.TheVariants.{Alloc, Free, Raw, Flush, Stop, Tick, Pass, Idle}
 use Rattle.pas_trace.specs.declared.plan.Op.{Op}
 
--- `Operates`: a thread's operation. `Ticks` and `MakesPass`: those of the scavenger. An idle operation is several acts: the scavenger reads the epoch, and then
--- each thread that is idle in the phase is stopped, where it was idle for so many epochs.
+-- `Operates`: a thread's operation, after which the runs of large blocks that its cache noted are handed on (`Settles`). `Ticks` and `MakesPass`: those of
+-- the scavenger. An idle operation is several acts: the scavenger reads the epoch, and then each thread that is idle in the phase is stopped, where it was
+-- idle for so many epochs. What such a stop noted is handed on after the thread's next operation.
 pub data Act : Type 0 where
   Operates : Op → Act
+  Settles : ℕ → Act
   Ticks : ℕ → Act
   MakesPass : Act
   ReadsEpoch : Act
@@ -47,11 +49,11 @@ idle_stops n idle = map (λ k. StopsIdle k n) idle
 
 -- the acts of an operation, in a phase in which these threads are idle
 abbrev pub acts_of_what : List ℕ → Op → What → List Act
-acts_of_what idle op (Alloc name heap size align) = Operates op ∷ []
-acts_of_what idle op (Free name) = Operates op ∷ []
-acts_of_what idle op (Raw block) = Operates op ∷ []
-acts_of_what idle op Flush = Operates op ∷ []
-acts_of_what idle op Stop = Operates op ∷ []
+acts_of_what idle op (Alloc name heap size align) = Operates op ∷ (Settles op.actor ∷ [])
+acts_of_what idle op (Free name) = Operates op ∷ (Settles op.actor ∷ [])
+acts_of_what idle op (Raw block) = Operates op ∷ (Settles op.actor ∷ [])
+acts_of_what idle op Flush = Operates op ∷ (Settles op.actor ∷ [])
+acts_of_what idle op Stop = Operates op ∷ (Settles op.actor ∷ [])
 acts_of_what idle op (Tick epoch) = Ticks epoch ∷ []
 acts_of_what idle op Pass = MakesPass ∷ []
 acts_of_what idle op (Idle n) = ReadsEpoch ∷ idle_stops n idle

@@ -1,7 +1,8 @@
 -- Which steps and records answer the acts of a replay.
 use Rattle.std.specs.Prelude.{ℕ, ◌+◌, ◌/◌, ◌%◌, ◌≡◌, ◌≤◌, ◌==◌, ◌⊎◌, true, if◌then◌else◌, List, [], ◌∷◌, ◌++◌, map, max, reverse, Option, None, Some, Result, Ok, Err, MatchResult}
 use Rattle.std.specs.List.{AllByRecursion}
-use Rattle.pas_profile.specs.Routes.{route_of}
+use Rattle.pas_profile.specs.declared.directory.Directory.{Directory}
+use Rattle.pas_profile.specs.declared.directory.Route.{Route}
 use Rattle.pas_profile.specs.declared.profile.Profile.{Profile}
 use Rattle.pas_profile.specs.declared.name.Name.{Name}
 use Rattle.pas_profile.specs.declared.name.Block.{Block}
@@ -28,11 +29,11 @@ use Rattle.pas_cache.specs.Caches.{Cached}
 use Rattle.pas_cache.specs.Changes.{EmptiesLog, StopsEach}
 use Rattle.pas_steps.specs.Kinds.{Only}
 use Rattle.pas_cache.specs.Kinds.{allocating, releasing}
-use Rattle.pas_cache.specs.Serves.{Wanted, wanted_for, ServesRequest, IsPreparing, IsPlaced, IsSmallRoute}
+use Rattle.pas_cache.specs.Serves.{Wanted, wanted_for, ServesRequest, IsPreparing, IsPlaced, IsDeedOf}
 use Rattle.pas_cache.specs.Calls.{TakesName, RefusesName}
 use Rattle.pas_scavenger.specs.Passes.{PassSteps}
 use Rattle.pas_passes.specs.Records.{records_of_pass}
-use Rattle.pas_answers.specs.Acts.{Act, Operates, Ticks, MakesPass, ReadsEpoch, StopsIdle, MarksPhase, Wakes, MarksClose, Ends}
+use Rattle.pas_answers.specs.Acts.{Act, Operates, Settles, Ticks, MakesPass, ReadsEpoch, StopsIdle, MarksPhase, Wakes, MarksClose, Ends}
 
 -- ---- what the names of a trace stand for, the newest first: a block, by its address and turn, or nothing where the request was refused
 pub record Named : Type 0 where
@@ -123,14 +124,18 @@ pub record IsGiven (k : ℕ) (wanted : Wanted) (v : View) (steps : List Made) (b
   pub events : events_by k v steps ≡ Event.Give k block ∷ before
   pub prepared : AllByRecursion (IsPreparing wanted.directory) before
 
--- a refused request makes no event
+-- A refused request makes no event. One for whole pages may have made deeds of pages of runs that broke, which stay.
+abbrev pub RefusalEnds : Route → Directory → List Event → Type 0
+RefusalEnds (Route.Class class) d es = es ≡ []
+RefusalEnds Route.Bitfit d es = es ≡ []
+RefusalEnds Route.Large d es = AllByRecursion (IsDeedOf d) es
+
 abbrev pub RequestEnds : ℕ → Wanted → View → List Made → Result Block NoRoom → Type 0
-RequestEnds k wanted v steps served = MatchResult served (IsGiven k wanted v steps) (λ room. events_by k v steps ≡ [])
+RequestEnds k wanted v steps served = MatchResult served (IsGiven k wanted v steps) (λ room. RefusalEnds wanted.route wanted.directory (events_by k v steps))
 
 -- Actor k's cache serves the request, or refuses it with the evidence of its search. Only a flush stamps pages, and none is made. From then on the name
 -- stands for the block, or for nothing.
 pub record IsServed (f : Profile) (k : ℕ) (r : Request) (before : Having) (after : Answer) : Type 0 where
-  pub route : IsSmallRoute (route_of r.size r.align)
   pub answer : Result Block NoRoom
   pub serves : ServesRequest f (wanted_by f r) before.cache after.cache after.steps answer
   pub kinds : Only allocating after.steps
@@ -158,18 +163,18 @@ IsFreedBy f k c c' name (Some (Some block)) steps said = IsFreed f k c c' block 
 
 -- ---- a flush and a stop
 pub record IsFlushed (k : ℕ) (c c' : Cached) (steps : List Made) : Type 0 where
-  pub empties : EmptiesLog k c.log steps
-  pub cache : c' ≡ record c { log = [] }
+  pub empties : EmptiesLog k c.log c.noted c'.noted steps
+  pub cache : c' ≡ record c { log = []; noted = c'.noted }
 
 -- the log is emptied, then each local allocator is stopped, without an event, and nothing is cached then
 pub record IsStopped (k : ℕ) (c c' : Cached) (steps : List Made) : Type 0 where
   pub flushed : List Made
   pub stopped : List Made
-  pub empties : EmptiesLog k c.log flushed
+  pub empties : EmptiesLog k c.log c.noted c'.noted flushed
   pub stops : StopsEach c.locals stopped
   pub kinds : Only releasing stopped
   pub silent : (v : View) → events_by k v stopped ≡ []
-  pub cache : c' ≡ record c { locals = []; log = [] }
+  pub cache : c' ≡ record c { locals = []; log = []; noted = c'.noted }
   pub steps_are : steps ≡ stopped ++ flushed
 
 -- ---- operations and acts
@@ -186,7 +191,11 @@ IsAnswered f k (Idle n) b a = ⊥
 
 -- the cache after its thread read this epoch at the start of a phase
 abbrev pub begun : Cached → ℕ → Cached
-begun c epoch = record { locals = c.locals; log = c.log; idle_since = epoch }
+begun c epoch = record { locals = c.locals; log = c.log; noted = c.noted; idle_since = epoch }
+
+-- .. and after the runs that it noted were handed on
+abbrev pub settled : Cached → Cached
+settled c = record { locals = c.locals; log = c.log; noted = []; idle_since = c.idle_since }
 
 -- how far a replay has come: what the names stand for, what the caches hold, the epoch that the scavenger read last for an idle operation, the list of
 -- the steps, and the records
@@ -213,6 +222,10 @@ with_scavenged p steps = record p { list = triples 0 steps ++ p.list }
 -- a thread's operation was answered
 abbrev pub after_answer : Progress → ℕ → Answer → Progress
 after_answer p k a = with_records (record (with_steps p k a.steps a.cache) { names = a.names }) (records_of (events_by k (part k p.list) a.steps) ++ said_by k a.said)
+
+-- what thread k's cache noted is handed on
+abbrev pub after_settling : Progress → ℕ → Progress
+after_settling p k = record p { caches = with_cache p.caches k (settled (p.caches k)) }
 
 -- one look at the epoch
 abbrev pub epoch_look : ℕ → List Made
@@ -253,6 +266,7 @@ Follows f (MarksPhase n ∷ acts) p l rs = Follows f acts (with_records p (Recor
 Follows f (MarksClose ∷ acts) p l rs = Follows f acts (with_records p (Record.Close ∷ [])) l rs
 Follows f (Wakes k ∷ acts) p l rs = (epoch : ℕ) × Follows f acts (after_wake p k epoch) l rs
 Follows f (Operates op ∷ acts) p l rs = (a : Answer) × IsAnswered f op.actor op.what (having p.names (part op.actor p.list) (p.caches op.actor)) a × Follows f acts (after_answer p op.actor a) l rs
+Follows f (Settles k ∷ acts) p l rs = Follows f acts (after_settling p k) l rs
 Follows f (Ticks asked ∷ acts) p l rs = (answer : ℕ) × Follows f acts (after_tick p asked answer) l rs
 Follows f (MakesPass ∷ acts) p l rs = (epoch : ℕ) × (found : List (ℕ × Outcome)) × (steps : List Made) × PassSteps f 0 epoch found steps × Follows f acts (after_pass p epoch found steps) l rs
 Follows f (ReadsEpoch ∷ acts) p l rs = (epoch : ℕ) × Follows f acts (after_reading p epoch) l rs

@@ -1,5 +1,5 @@
 -- What one operation asks and promises.
-use Rattle.std.specs.Prelude.{ℕ, ◌+◌, ◌-◌, ◌^◌, ◌<◌, ◌≤◌, ◌≡◌, true, List, ◌++◌, length, Option, None, Some}
+use Rattle.std.specs.Prelude.{ℕ, ◌+◌, ◌-◌, ◌^◌, ◌<◌, ◌≤◌, ◌≡◌, true, List, ◌++◌, length, Option, None, Some, Result, Ok, Err, MatchResult}
 use Rattle.pas_profile.specs.declared.profile.Profile.{Profile}
 use Rattle.pas_profile.specs.declared.name.Name.{Name}
 use Rattle.pas_steps.specs.Views.{View}
@@ -15,9 +15,14 @@ use Rattle.pas_report.specs.Rooms.{records_in, room_of}
 use Rattle.pas_report.specs.declared.record.Said.{Said}
 use Rattle.pas_report.specs.declared.records.Records.{Records}
 use Rattle.pas_cache.specs.Caches.{Cached, AtRest}
+use Rattle.pas_profile.specs.declared.event.NoRoom.{NoRoom}
+use Rattle.pas_profile.specs.declared.name.Block.{Block}
+use Rattle.pas_steps.specs.Kinds.{Only}
 use Rattle.pas_cache.specs.Calls.{Rests}
+use Rattle.pas_cache.specs.Kinds.{allocating}
+use Rattle.pas_cache.specs.Serves.{Wanted, ServesRequest, IsBlockFor, MakesAtMost}
 use Rattle.pas_steps.specs.Unknown.{unknown_pages}
-use Rattle.pas_answers.specs.Answers.{having, answer_of, Named, standing_for, IsFreed, IsAnswered, records_of, said_by}
+use Rattle.pas_answers.specs.Answers.{having, answer_of, Named, standing_for, IsFreed, IsAnswered, RefusalEnds, records_of, said_by}
 use Rattle.pas_answers.specs.Fit.{cost_of_what}
 use Rattle.pas_answers.specs.Names.{block_named, names_held}
 use Rattle.pas_answers.specs.declared.names.Names.{Names}
@@ -58,7 +63,12 @@ abbrev pub owed_events : Profile → Cached → View → ℕ
 owed_events f c v = unknown_pages f v + length c.log
 
 -- ---- an operation
--- the actor is at rest with its cache, and there is room for so many events
+-- the actor is at rest with its cache, and there is room for so many events and those that are owed
+pub record MayServe (f : Profile) (c : Cached) (cost spare : ℕ) (v : View) : Type 0 where
+  pub rest : AtRest f c v
+  pub room : cost + owed_events f c v ≤ spare
+
+-- the actor is at rest with its cache, and there is room for the events of the operation and those that are owed
 pub record MayPerform (f : Profile) (c : Cached) (what : What) (spare : ℕ) (v : View) : Type 0 where
   pub rest : AtRest f c v
   pub room : cost_of_what what + owed_events f c v ≤ spare
@@ -80,6 +90,21 @@ pub record Performs (what : What) (before after : Works) (desk desk' : Standing)
   pub answered : (v : View) (l : Whole) → desk.stands v l → AtRest desk.seat.profile before.cache v → (names : List Named) → Tells before.table names → IsKnown names what
       → (names' : List Named) × Tells after.table names' × IsAnswered desk.seat.profile desk.seat.actor what (having names v before.cache) (answer_of steps said names' after.cache)
   pub held : names_held after.table ≡ names_held before.table
+
+-- how many events a request makes at most, beside the deeds that weren't known: what it costs, or none where it was refused
+abbrev pub events_for : ℕ → Result Block NoRoom → ℕ
+events_for cost (Ok block) = cost
+events_for cost (Err room) = 0
+
+-- a request was served or refused, by its route
+pub record Serves (cost : ℕ) (wanted : Wanted) (c c' : Cached) (desk desk' : Standing) (answer : Result Block NoRoom) : Type 0 where
+  pub steps : List Made
+  pub calls : Rests c c' desk desk' steps
+  pub change : ServesRequest desk.seat.profile wanted c c' steps answer
+  pub kinds : Only allocating steps
+  pub few : MakesAtMost desk.seat.profile (AtRest desk.seat.profile c) (events_for cost answer) steps
+  pub outcome : MatchResult answer (IsBlockFor desk.seat.profile wanted (AtRest desk.seat.profile c) steps) (λ room. (k : ℕ) (v : View) → RefusalEnds wanted.route wanted.directory (events_by k v steps))
+  pub log_is : c'.log ≡ c.log
 
 -- a free by name and turn
 pub record FreesOne (block : Name) (c c' : Cached) (desk desk' : Standing) (said : Option Said) : Type 0 where

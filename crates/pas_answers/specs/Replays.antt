@@ -1,7 +1,6 @@
--- Which plans can be replayed, and what a replay shows.
+-- What a replay shows.
 use Rattle.std.specs.Prelude.{ℕ, ◌≡◌, List, [], ◌∷◌, Some, map}
 use Rattle.pas_profile.specs.Profiles.{IsDirectoryOf, IsWordOf}
-use Rattle.pas_profile.specs.Routes.{route_of}
 use Rattle.pas_profile.specs.declared.word.Word.{Word}
 use Rattle.pas_profile.specs.declared.directory.Directory.{Directory}
 use Rattle.pas_machine.specs.Machine.{Run}
@@ -12,48 +11,23 @@ use Rattle.pas_steps.specs.Clear.{HasNothing}
 use Rattle.pas_steps.specs.States.{profile_of, word_in}
 use Rattle.pas_steps.specs.declared.state.State.{State}
 use Rattle.pas_trace.specs.Plans.{ops_of}
-use Rattle.pas_trace.specs.declared.plan.What.{What}
-use Rattle.pas_trace.specs.declared.plan.What.TheVariants.{Alloc, Free, Raw, Flush, Stop, Tick, Pass, Idle}
 use Rattle.pas_trace.specs.declared.plan.Op.{Op}
 use Rattle.pas_trace.specs.declared.plan.Plan.{Plan}
 use Rattle.pas_report.specs.Rests.{AreStamped, AreTrueMarks}
 use Rattle.pas_report.specs.declared.record.Record.{Record}
 use Rattle.pas_cache.specs.Caches.{Cached}
-use Rattle.pas_cache.specs.Serves.{IsSmallRoute}
 use Rattle.pas_answers.specs.Acts.{acts_of}
 use Rattle.pas_answers.specs.Answers.{Caches, Progress, Follows}
 use Rattle.pas_answers.specs.Ways.{Way, IsOneOrder, arranged}
-
--- ---- what can be replayed today: no request is of whole pages
-abbrev pub IsBuiltWhat : What → Type 0
-IsBuiltWhat (Alloc name heap size align) = IsSmallRoute (route_of size align)
-IsBuiltWhat (Free name) = Unit {0}
-IsBuiltWhat (Raw block) = Unit {0}
-IsBuiltWhat Flush = Unit {0}
-IsBuiltWhat Stop = Unit {0}
-IsBuiltWhat (Tick epoch) = Unit {0}
-IsBuiltWhat Pass = Unit {0}
-IsBuiltWhat (Idle n) = Unit {0}
-
-abbrev pub AreBuilt : List Op → Type 0
-AreBuilt [] = Unit {0}
-AreBuilt (op ∷ ops) = IsBuiltWhat op.what × AreBuilt ops
-
-abbrev pub AllBuilt : List (List Op) → Type 0
-AllBuilt [] = Unit {0}
-AllBuilt (phase ∷ phases) = AreBuilt phase × AllBuilt phases
 
 -- the phases of a plan, as lists of operations
 abbrev pub phases_of : Plan → List (List Op)
 phases_of plan = map ops_of plan.phases.phases.items
 
-abbrev pub IsBuilt : Plan → Type 0
-IsBuilt plan = AllBuilt (phases_of plan)
-
 -- ---- what a replay shows
 -- a cache that nobody used
 abbrev pub empty_cache : Cached
-empty_cache = record { locals = []; log = []; idle_since = 0 }
+empty_cache = record { locals = []; log = []; noted = []; idle_since = 0 }
 
 abbrev pub empty_caches : Caches
 empty_caches k = empty_cache

@@ -7,11 +7,17 @@ ghost use Rattle.pas_cache.specs.Caches.{cached};
 ghost use Rattle.pas_answers.specs.Answers.{said_of_room};
 ghost use Rattle.pas_answers.specs.Fit.{IsFitWhat};
 ghost use Rattle.pas_answers.specs.Names.{names_held};
-ghost use Rattle.pas_answers.specs.Calls.{works, HasTurns, MayPerform, Performs, FreesOne, MayAnswer, Answers};
+ghost use Rattle.pas_profile.specs.Profiles.{IsAdmitted};
+ghost use Rattle.pas_profile.specs.Routes.{route_of};
+ghost use Rattle.pas_trace.specs.Reasons.{cost_of_route};
+ghost use Rattle.pas_cache.specs.Serves.{wanted_for};
+ghost use Rattle.pas_answers.specs.Calls.{works, HasTurns, MayPerform, MayServe, Serves, Performs, FreesOne, MayAnswer, Answers};
 
 use crate::names::Names;
 use pas_cache::ThreadCache;
-use pas_profile::{Event, FreeFault, Name, NoRoom};
+use pas_large::NoIndex;
+use pas_profile::limits::MOST_BITFIT;
+use pas_profile::{Block, Event, FreeFault, Name, NoRoom};
 use pas_report::{Record, Records, Said};
 use pas_steps::Desk;
 use pas_trace::What;
@@ -39,6 +45,27 @@ fn refusal(name: u32, room: NoRoom) -> Said
     }
 }
 
+/// A block of the heap for so many bytes, from the cache or in whole pages.
+#[inline(always)]
+fn serve<D: Desk>(
+    desk: &mut D,
+    cache: &mut ThreadCache,
+    heap: u8,
+    size: u32,
+    align: u32,
+) -> Result<Block, NoRoom>
+    requires admitted { IsAdmitted (D.standing desk.old).seat.profile size align heap }
+    requires can { CanCall (D.standing desk.old) (λ v l. MayServe (D.standing desk.old).seat.profile (cached cache.old) (cost_of_route (route_of size align) size) (D.spare_of desk.old) v) }
+    ensures serves { Serves (cost_of_route (route_of size align) size) (wanted_for (D.standing desk.old).seat.profile heap size align) (cached cache.old) (cached cache.new) (D.standing desk.old) (D.standing desk.new) result }
+    ensures home { D.home desk.new ≡ D.home desk.old }
+{
+    if size > MOST_BITFIT {
+        cache.alloc_large(desk, &mut NoIndex, heap, size)
+    } else {
+        cache.alloc(desk, heap, size, align)
+    }
+}
+
 /// Serves a request, and names the block. What is said where it was refused.
 fn allocate<D: Desk>(
     desk: &mut D,
@@ -56,7 +83,7 @@ fn allocate<D: Desk>(
     ensures turns { HasTurns names.new }
     ensures home { D.home desk.new ≡ D.home desk.old }
 {
-    match cache.alloc(desk, heap, size, align) {
+    match serve(desk, cache, heap, size, align) {
         Ok(block) => {
             names.set(name, Some(block.name));
             None

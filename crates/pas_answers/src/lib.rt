@@ -2,8 +2,6 @@
 #![tactic(auto)]
 
 mod answering;
-mod buildable;
 pub mod names;
 
 pub use answering::answer;
-pub use buildable::is_built;

@@ -48,7 +48,7 @@ use Rattle.pas_scan.specs.Runs.{large_directory}
 use Rattle.pas_segregated.specs.Stops.{home_of}
 use Rattle.pas_segregated.specs.declared.slots.Slots.{Slots}
 use Rattle.pas_cache.specs.Caches.{Cached, AtRest}
-use Rattle.pas_cache.specs.Calls.{MayAllocatePages, AllocatesPages}
+use Rattle.pas_cache.specs.Calls.{MayAllocatePages, AllocatesPages, most_events}
 use Rattle.pas_cache.specs.Kinds.{allocating}
 use Rattle.pas_cache.specs.Locals.{keeps_right, any_keeps, IsLocal, RestsWith}
 use Rattle.pas_cache.specs.Serves.{Wanted, wanted_for, pages_of, IsBlockFor, IsPreparing, IsDeedOf, MakesDeedsOf, MakesAtMost}
@@ -219,7 +219,7 @@ module _ (f : Profile) (heap n : ℕ) (searched after : List Made) (why : NoRoom
   pub refused_deeds : Only finding searched → MakesDeedsOf (large_directory heap) (after ++ searched)
   refused_deeds kinds k v = subst (AllByRecursion (IsDeedOf (large_directory heap))) (sym (silent k v)) (deeds_only (large_directory heap) n _ searched kinds is.found.deeds k v)
 
-  pub refused_few : OnlyDeedsShow f searched → (k : ℕ) (v : View) → Agreed f v (after ++ searched) → length (events_by k v (after ++ searched)) + unknown_pages f ((after ++ searched) ++ v) ≤ n + 1 + unknown_pages f v
+  pub refused_few : OnlyDeedsShow f searched → (k : ℕ) (v : View) → Agreed f v (after ++ searched) → length (events_by k v (after ++ searched)) + unknown_pages f ((after ++ searched) ++ v) ≤ 0 + unknown_pages f v
   refused_few shows k v agreed =
       let all = ap length (silent k v) in
       let here = shows k v (agreed_later f v after searched agreed) in
@@ -242,7 +242,7 @@ module _ (f : Profile) (heap n : ℕ) (searched after : List Made) where
   rests locals (Ok block) h v rest agreed = rests_given f heap n searched after block h locals v rest agreed
   rests locals (Err why) h v rest agreed = refused_rests f heap n searched after why h locals v rest agreed
 
-  few : (answer : Result Block NoRoom) → Ends f heap n searched after answer → OnlyDeedsShow f searched → (k : ℕ) (v : View) → Agreed f v (after ++ searched) → length (events_by k v (after ++ searched)) + unknown_pages f ((after ++ searched) ++ v) ≤ n + 1 + unknown_pages f v
+  few : (answer : Result Block NoRoom) → Ends f heap n searched after answer → OnlyDeedsShow f searched → (k : ℕ) (v : View) → Agreed f v (after ++ searched) → length (events_by k v (after ++ searched)) + unknown_pages f ((after ++ searched) ++ v) ≤ most_events n answer + unknown_pages f v
   few (Ok block) h shows k v agreed = given_few f heap n searched after block h shows k v agreed
   few (Err why) h shows k v agreed = refused_few f heap n searched after why h shows k v agreed
 
@@ -287,7 +287,7 @@ pages_allocates {σ} {σ'} size align heap n tells c answer is some alignment ro
       change = record { cache = refl; searched = a.searched; after = a.after; outcome = subst (λ k. Ends f heap k a.searched a.after answer) (sym count) a.outcome; steps_are = refl };
       kinds = kinds f heap n a.searched a.after answer a.outcome a.kinds;
       short = (let short = a.few in omega (arith, short, count));
-      few = λ k v met agreed. (let paid = few f heap n a.searched a.after answer a.outcome a.shows k v agreed in omega (arith, paid, count));
+      few = λ k v met agreed. subst (λ m. length (events_by k v (a.after ++ a.searched)) + unknown_pages f ((a.after ++ a.searched) ++ v) ≤ most_events m answer + unknown_pages f v) (sym count) (few f heap n a.searched a.after answer a.outcome a.shows k v agreed);
       outcome = ends f heap n a.searched a.after {Meets = AtRest f c} align c.locals alignment a.kinds (λ v met. met.locals) answer a.outcome;
       told = λ t v l stood met. subst (λ k. IsToldLarge f (large_directory heap) k l (triples σ.seat.actor (a.after ++ a.searched) ++ l) answer) (sym count) (a.told t v l stood (may_find f v heap c.locals met.locals));
     })

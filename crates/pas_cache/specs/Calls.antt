@@ -1,5 +1,5 @@
 -- What the calls of a cache promise.
-use Rattle.std.specs.Prelude.{ℕ, ◌+◌, ◌*◌, ◌≤◌, ◌≡◌, Bool, true, List, [], ◌∷◌, ◌++◌, length, Result, MatchResult}
+use Rattle.std.specs.Prelude.{ℕ, ◌+◌, ◌*◌, ◌≤◌, ◌≡◌, Bool, true, List, [], ◌∷◌, ◌++◌, length, Result, Ok, Err, MatchResult}
 use Rattle.pas_profile.specs.declared.event.FreeFault.{FreeFault}
 use Rattle.pas_profile.specs.declared.event.NoRoom.{NoRoom}
 use Rattle.pas_profile.specs.declared.name.Name.{Name}
@@ -63,8 +63,13 @@ pub record MayAllocatePages (f : Profile) (c : Cached) (n spare : ℕ) (v : View
   pub rest : AtRest f c v
   pub room : n + 1 + unknown_pages f v ≤ spare
 
--- The search for a run serves the request, the cache is as it was, and its actor is at rest again. The events are deeds of the directory, and where
--- the block is given backs before it: at most one for each page of the block, one more, and the deeds that weren't known. At most 56 steps for each
+-- how many events a request for n pages makes at most, beside the deeds that weren't known
+abbrev pub most_events : ℕ → Result Block NoRoom → ℕ
+most_events n (Ok block) = n + 1
+most_events n (Err room) = 0
+
+-- The search for a run serves the request, the cache is as it was, and its actor is at rest again. The events are deeds of the directory that weren't
+-- known, and where the block is given backs after them, one for each page at most, and last the give. At most 56 steps for each
 -- page of the region, 12 for each page that is asked for, and 66 more. On a desk that tells the whole state the block is on the lowest run of usable
 -- pages at entry, and a refusal comes only where there is none then and none at exit, with its true reason.
 pub record AllocatesPages (wanted : Wanted) (tells : Bool) (c c' : Cached) (desk desk' : Standing) (answer : Result Block NoRoom) : Type 0 where
@@ -73,7 +78,7 @@ pub record AllocatesPages (wanted : Wanted) (tells : Bool) (c c' : Cached) (desk
   pub change : ServesRequest desk.seat.profile wanted c c' steps answer
   pub kinds : Only allocating steps
   pub short : length steps ≤ 56 * desk.seat.profile.pages + 12 * pages_of wanted + 66
-  pub few : MakesAtMost desk.seat.profile (AtRest desk.seat.profile c) (pages_of wanted + 1) steps
+  pub few : MakesAtMost desk.seat.profile (AtRest desk.seat.profile c) (most_events (pages_of wanted) answer) steps
   pub outcome : MatchResult answer (IsBlockFor desk.seat.profile wanted (AtRest desk.seat.profile c) steps) (λ room. MakesDeedsOf wanted.directory steps)
   pub told : tells ≡ true → (v : View) (l : Whole) → desk.stands v l → AtRest desk.seat.profile c v → IsToldLarge desk.seat.profile wanted.directory (pages_of wanted) l (triples desk.seat.actor steps ++ l) answer
 

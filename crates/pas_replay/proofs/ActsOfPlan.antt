@@ -6,16 +6,13 @@ use Rattle.std.proofs.lemmas.Bool.{eq-eqb}
 use Rattle.std.proofs.Math.Nat.{suc-mul}
 use Rattle.pas_profile.specs.Routes.{route_of}
 use Rattle.pas_profile.specs.declared.profile.Profile.{Profile}
-use Rattle.pas_profile.specs.declared.directory.Route.{Route}
 use Rattle.pas_trace.specs.EveryPlan.{all_ops, asked_after, IsThread, IsActorOf, IsSoundWhat, AreSound, records_of_what, records_of_ops, own_records}
 use Rattle.pas_trace.specs.Reasons.{cost_of_route}
 use Rattle.pas_trace.specs.declared.plan.What.{What}
 use Rattle.pas_trace.specs.declared.plan.What.TheVariants.{Alloc, Free, Raw, Flush, Stop, Tick, Pass, Idle}
 use Rattle.pas_trace.specs.declared.plan.Op.{Op}
-use Rattle.pas_cache.specs.Serves.{IsSmallRoute}
 use Rattle.pas_answers.specs.Acts.{Act, Operates, StopsIdle, MarksPhase, MarksClose, Wakes, Ends, is_active, numbers_from, active_threads, idle_threads, idle_stops, acts_of_what, acts_of_op, acts_of_ops, phase_acts, close_acts, acts_from, acts_of}
 use Rattle.pas_answers.specs.Fit.{IsFitWhat, AreFit, cost_of_what, cost_of_act, costs_of, own_cost_of_act, own_costs_of, unbacks_of_act, unbacks_of, sum_over, IsBelow, AreBelow}
-use Rattle.pas_answers.specs.Replays.{IsBuiltWhat, AreBuilt}
 
 -- ---- so many threads
 numbers_count : (k n : ℕ) → length (numbers_from k n) ≡ n
@@ -33,18 +30,15 @@ chosen_few chosen (k ∷ ks) = one_chosen (chosen k) k (filter chosen ks) ks (ch
 idle_few : (threads : ℕ) (ops : List Op) → length (idle_threads threads ops) ≤ threads
 idle_few threads ops = let few = chosen_few (λ k. not (is_active ops k)) (numbers_from 1 threads) in let count = numbers_count 1 threads in omega (arith, few, count)
 
--- ---- operations of a plan that is built
-pub record IsPlanned (f : Profile) (op : Op) : Type 0 where
-  pub built : IsBuiltWhat op.what
-  pub actor : IsActorOf f op.what op.actor
-
+-- ---- operations of a plan
+-- each is of an actor that may make it
 abbrev pub ArePlanned : Profile → List Op → Type 0
 ArePlanned f [] = Unit {0}
-ArePlanned f (op ∷ ops) = IsPlanned f op × ArePlanned f ops
+ArePlanned f (op ∷ ops) = IsActorOf f op.what op.actor × ArePlanned f ops
 
-pub are_planned : (f : Profile) (asked : List ℕ) (ops : List Op) → AreBuilt ops → AreSound f asked ops → ArePlanned f ops
-are_planned f asked [] built sound = tt
-are_planned f asked (op ∷ ops) built sound = (record { built = built.0; actor = sound.0 }, are_planned f (asked_after op.what asked) ops built.1 sound.2)
+pub are_planned : (f : Profile) (asked : List ℕ) (ops : List Op) → AreSound f asked ops → ArePlanned f ops
+are_planned f asked [] sound = tt
+are_planned f asked (op ∷ ops) sound = (sound.0, are_planned f (asked_after op.what asked) ops sound.2)
 
 -- ---- what acts cost
 sum_both : (cost : Act → ℕ) (xs ys : List Act) → sum_over cost (xs ++ ys) ≡ sum_over cost xs + sum_over cost ys
@@ -67,7 +61,7 @@ sum_of_ops most [] = 0
 sum_of_ops most (op ∷ ops) = most op + sum_of_ops most ops
 
 -- each operation's acts cost at most `most` of it, and a mark `mark`
-module _ (f : Profile) (cost : Act → ℕ) (most : Op → ℕ) (mark : ℕ) (each : (idle : List ℕ) (op : Op) → length idle ≤ f.threads → IsPlanned f op → sum_over cost (acts_of_op idle op) ≤ most op)
+module _ (f : Profile) (cost : Act → ℕ) (most : Op → ℕ) (mark : ℕ) (each : (idle : List ℕ) (op : Op) → length idle ≤ f.threads → IsActorOf f op.what op.actor → sum_over cost (acts_of_op idle op) ≤ most op)
     (wakes : (k : ℕ) → cost (Wakes k) ≡ 0) (ends : (k : ℕ) → cost (Ends k) ≡ 0) (phase : (n : ℕ) → cost (MarksPhase n) ≡ mark) (close : cost MarksClose ≡ mark) where
   of_ops : (idle : List ℕ) (ops : List Op) → length idle ≤ f.threads → ArePlanned f ops → sum_over cost (acts_of_ops idle ops) ≤ sum_of_ops most ops
   of_ops idle [] few all = omega arith
@@ -121,36 +115,31 @@ module _ (f : Profile) (cost : Act → ℕ) (most : Op → ℕ) (mark : ℕ) (ea
       omega (arith, this, rest, both, ops, more)
 
 -- ---- each operation
-small_cost : (r : Route) (size : ℕ) → IsSmallRoute r → cost_of_route r size ≡ 2
-small_cost (Route.Class c) size is = refl
-small_cost Route.Bitfit size is = refl
-small_cost Route.Large size is = absurd is
-
 -- records
-what_costs : (f : Profile) (idle : List ℕ) (op : Op) (what : What) → op.what ≡ what → length idle ≤ f.threads → IsBuiltWhat what → costs_of f (acts_of_what idle op what) ≤ records_of_what f what
-what_costs f idle op (Alloc n h s a) is few built = let cost = ap cost_of_what is in let small = small_cost (route_of s a) s built in omega (arith, cost, small)
-what_costs f idle op (Free n) is few built = let cost = ap cost_of_what is in omega (arith, cost)
-what_costs f idle op (Raw block) is few built = let cost = ap cost_of_what is in omega (arith, cost)
-what_costs f idle op Flush is few built = let cost = ap cost_of_what is in omega (arith, cost)
-what_costs f idle op Stop is few built = let cost = ap cost_of_what is in omega (arith, cost)
-what_costs f idle op (Tick e) is few built = omega arith
-what_costs f idle op Pass is few built = omega arith
-what_costs f idle op (Idle n) is few built = let stops = one_each (cost_of_act f) (λ k. StopsIdle k n) (λ k. refl) idle in omega (arith, stops, few)
+what_costs : (f : Profile) (idle : List ℕ) (op : Op) (what : What) → op.what ≡ what → length idle ≤ f.threads → costs_of f (acts_of_what idle op what) ≤ records_of_what f what
+what_costs f idle op (Alloc n h s a) is few = let cost = ap cost_of_what is in omega (arith, cost)
+what_costs f idle op (Free n) is few = let cost = ap cost_of_what is in omega (arith, cost)
+what_costs f idle op (Raw block) is few = let cost = ap cost_of_what is in omega (arith, cost)
+what_costs f idle op Flush is few = let cost = ap cost_of_what is in omega (arith, cost)
+what_costs f idle op Stop is few = let cost = ap cost_of_what is in omega (arith, cost)
+what_costs f idle op (Tick e) is few = omega arith
+what_costs f idle op Pass is few = omega arith
+what_costs f idle op (Idle n) is few = let stops = one_each (cost_of_act f) (λ k. StopsIdle k n) (λ k. refl) idle in omega (arith, stops, few)
 
 -- events of thread k
-own_cost : (t : Bool) (a b c : ℕ) → a ≡ b → b ≡ c → (if t then a else 0) + 0 ≤ (if t then c else 0)
-own_cost true a b c ab bc = omega (arith, ab, bc)
-own_cost false a b c ab bc = omega arith
+own_cost : (t : Bool) (a b : ℕ) → a ≡ b → (if t then a else 0) + 0 ≤ (if t then b else 0)
+own_cost true a b same = omega (arith, same)
+own_cost false a b same = omega arith
 
-what_owns : (f : Profile) (k : ℕ) (idle : List ℕ) (op : Op) (what : What) → op.what ≡ what → IsBuiltWhat what → own_costs_of k (acts_of_what idle op what) ≤ (if op.actor == k then records_of_what f what else 0)
-what_owns f k idle op (Alloc n h s a) is built = own_cost (op.actor == k) (cost_of_what op.what) 2 (cost_of_route (route_of s a) s) (ap cost_of_what is) (sym (small_cost (route_of s a) s built))
-what_owns f k idle op (Free n) is built = own_cost (op.actor == k) (cost_of_what op.what) 1 1 (ap cost_of_what is) refl
-what_owns f k idle op (Raw block) is built = own_cost (op.actor == k) (cost_of_what op.what) 1 1 (ap cost_of_what is) refl
-what_owns f k idle op Flush is built = own_cost (op.actor == k) (cost_of_what op.what) 0 0 (ap cost_of_what is) refl
-what_owns f k idle op Stop is built = own_cost (op.actor == k) (cost_of_what op.what) 0 0 (ap cost_of_what is) refl
-what_owns f k idle op (Tick e) is built = omega arith
-what_owns f k idle op Pass is built = omega arith
-what_owns f k idle op (Idle n) is built = let stops = free_map (own_cost_of_act k) (λ j. StopsIdle j n) (λ j. refl) idle in omega (arith, stops)
+what_owns : (f : Profile) (k : ℕ) (idle : List ℕ) (op : Op) (what : What) → op.what ≡ what → own_costs_of k (acts_of_what idle op what) ≤ (if op.actor == k then records_of_what f what else 0)
+what_owns f k idle op (Alloc n h s a) is = own_cost (op.actor == k) (cost_of_what op.what) (cost_of_route (route_of s a) s) (ap cost_of_what is)
+what_owns f k idle op (Free n) is = own_cost (op.actor == k) (cost_of_what op.what) 1 (ap cost_of_what is)
+what_owns f k idle op (Raw block) is = own_cost (op.actor == k) (cost_of_what op.what) 1 (ap cost_of_what is)
+what_owns f k idle op Flush is = own_cost (op.actor == k) (cost_of_what op.what) 0 (ap cost_of_what is)
+what_owns f k idle op Stop is = own_cost (op.actor == k) (cost_of_what op.what) 0 (ap cost_of_what is)
+what_owns f k idle op (Tick e) is = omega arith
+what_owns f k idle op Pass is = omega arith
+what_owns f k idle op (Idle n) is = let stops = free_map (own_cost_of_act k) (λ j. StopsIdle j n) (λ j. refl) idle in omega (arith, stops)
 
 -- pages that the scavenger unbacks, which is actor 0
 its_own : (t : Bool) (n : ℕ) → t ≡ true → n ≤ (if t then 1 + n else 0)
@@ -178,19 +167,19 @@ own_sum f k (op ∷ ops) = ap (λ n. (if op.actor == k then records_of_what f op
 
 pub plan_costs : (f : Profile) (phases : List (List Op)) → ArePlanned f (all_ops phases) → costs_of f (acts_of f.threads phases) ≤ records_of_ops f (all_ops phases) + (length phases + 1)
 plan_costs f phases all =
-    let most = of_plan f (cost_of_act f) (λ op. records_of_what f op.what) 1 (λ idle op few is. what_costs f idle op op.what refl few is.built) (λ k. refl) (λ k. refl) (λ n. refl) refl phases all in
+    let most = of_plan f (cost_of_act f) (λ op. records_of_what f op.what) 1 (λ idle op few is. what_costs f idle op op.what refl few) (λ k. refl) (λ k. refl) (λ n. refl) refl phases all in
     let sum = records_sum f (all_ops phases) in
     omega (arith, most, sum)
 
 pub plan_owns : (f : Profile) (k : ℕ) (phases : List (List Op)) → ArePlanned f (all_ops phases) → own_costs_of k (acts_of f.threads phases) ≤ own_records f k (all_ops phases)
 plan_owns f k phases all =
-    let most = of_plan f (own_cost_of_act k) (λ op. if op.actor == k then records_of_what f op.what else 0) 0 (λ idle op few is. what_owns f k idle op op.what refl is.built) (λ j. refl) (λ j. refl) (λ n. refl) refl phases all in
+    let most = of_plan f (own_cost_of_act k) (λ op. if op.actor == k then records_of_what f op.what else 0) 0 (λ idle op few is. what_owns f k idle op op.what refl) (λ j. refl) (λ j. refl) (λ n. refl) refl phases all in
     let sum = own_sum f k (all_ops phases) in
     omega (arith, most, sum)
 
 pub plan_unbacks : (f : Profile) (phases : List (List Op)) → ArePlanned f (all_ops phases) → unbacks_of f (acts_of f.threads phases) ≤ own_records f 0 (all_ops phases)
 plan_unbacks f phases all =
-    let most = of_plan f (unbacks_of_act f) (λ op. if op.actor == 0 then records_of_what f op.what else 0) 0 (λ idle op few is. what_unbacks f idle op op.what is.actor) (λ j. refl) (λ j. refl) (λ n. refl) refl phases all in
+    let most = of_plan f (unbacks_of_act f) (λ op. if op.actor == 0 then records_of_what f op.what else 0) 0 (λ idle op few is. what_unbacks f idle op op.what is) (λ j. refl) (λ j. refl) (λ n. refl) refl phases all in
     let sum = own_sum f 0 (all_ops phases) in
     omega (arith, most, sum)
 
@@ -208,22 +197,22 @@ fits_thread : (f : Profile) (limit : ℕ) (asked : List ℕ) (op : Op) (what : W
 fits_thread f limit asked op what more is of fit rest =
     (of, subst (IsFitWhat f limit asked) (sym is) fit, subst (λ (w : What). AreFit f limit (asked_after w asked) more) (sym is) rest)
 
-fits : (f : Profile) (limit : ℕ) (asked : List ℕ) (op : Op) (what : What) (idle : List ℕ) (rest : List Op) (more : List Act) → op.what ≡ what → IsBuiltWhat what → IsBelow limit what → IsActorOf f what op.actor → IsSoundWhat f asked what
+fits : (f : Profile) (limit : ℕ) (asked : List ℕ) (op : Op) (what : What) (idle : List ℕ) (rest : List Op) (more : List Act) → op.what ≡ what → IsBelow limit what → IsActorOf f what op.actor → IsSoundWhat f asked what
     → AreSound f (asked_after what asked) rest → Continues f limit rest more → AreFit f limit asked (acts_of_what idle op what ++ more)
-fits f limit asked op (Alloc n h s a) idle rest more is built below of sound later go = fits_thread f limit asked op (Alloc n h s a) more is of (below, sound.0, built, sound.1) (go (n ∷ asked) later)
-fits f limit asked op (Free n) idle rest more is built below of sound later go = fits_thread f limit asked op (Free n) more is of sound (go asked later)
-fits f limit asked op (Raw block) idle rest more is built below of sound later go = fits_thread f limit asked op (Raw block) more is of sound (go asked later)
-fits f limit asked op Flush idle rest more is built below of sound later go = fits_thread f limit asked op Flush more is of tt (go asked later)
-fits f limit asked op Stop idle rest more is built below of sound later go = fits_thread f limit asked op Stop more is of tt (go asked later)
-fits f limit asked op (Tick e) idle rest more is built below of sound later go = (sound, go asked later)
-fits f limit asked op Pass idle rest more is built below of sound later go = go asked later
-fits f limit asked op (Idle n) idle rest more is built below of sound later go = skip_stops f limit asked n idle more (go asked later)
+fits f limit asked op (Alloc n h s a) idle rest more is below of sound later go = fits_thread f limit asked op (Alloc n h s a) more is of (below, sound.0, sound.1) (go (n ∷ asked) later)
+fits f limit asked op (Free n) idle rest more is below of sound later go = fits_thread f limit asked op (Free n) more is of sound (go asked later)
+fits f limit asked op (Raw block) idle rest more is below of sound later go = fits_thread f limit asked op (Raw block) more is of sound (go asked later)
+fits f limit asked op Flush idle rest more is below of sound later go = fits_thread f limit asked op Flush more is of tt (go asked later)
+fits f limit asked op Stop idle rest more is below of sound later go = fits_thread f limit asked op Stop more is of tt (go asked later)
+fits f limit asked op (Tick e) idle rest more is below of sound later go = (sound, go asked later)
+fits f limit asked op Pass idle rest more is below of sound later go = go asked later
+fits f limit asked op (Idle n) idle rest more is below of sound later go = skip_stops f limit asked n idle more (go asked later)
 
-ops_fit : (f : Profile) (limit : ℕ) (idle : List ℕ) (ops rest : List Op) (more : List Act) → AreBuilt (ops ++ rest) → AreBelow limit (ops ++ rest) → Continues f limit rest more → Continues f limit (ops ++ rest) (acts_of_ops idle ops ++ more)
-ops_fit f limit idle [] rest more built below go asked sound = go asked sound
-ops_fit f limit idle (op ∷ ops) rest more built below go asked sound =
+ops_fit : (f : Profile) (limit : ℕ) (idle : List ℕ) (ops rest : List Op) (more : List Act) → AreBelow limit (ops ++ rest) → Continues f limit rest more → Continues f limit (ops ++ rest) (acts_of_ops idle ops ++ more)
+ops_fit f limit idle [] rest more below go asked sound = go asked sound
+ops_fit f limit idle (op ∷ ops) rest more below go asked sound =
     subst (AreFit f limit asked) (sym (append_assoc (acts_of_op idle op) (acts_of_ops idle ops) more))
-    (fits f limit asked op op.what idle (ops ++ rest) (acts_of_ops idle ops ++ more) refl built.0 below.0 sound.0 sound.1 sound.2 (λ now later. ops_fit f limit idle ops rest more built.1 below.1 go now later))
+    (fits f limit asked op op.what idle (ops ++ rest) (acts_of_ops idle ops ++ more) refl below.0 sound.0 sound.1 sound.2 (λ now later. ops_fit f limit idle ops rest more below.1 go now later))
 
 wakes_fit : (f : Profile) (limit : ℕ) (asked : List ℕ) (ks : List ℕ) (more : List Act) → AreFit f limit asked more → AreFit f limit asked (map Wakes ks ++ more)
 wakes_fit f limit asked [] more fit = fit
@@ -233,26 +222,22 @@ ends_fit : (f : Profile) (limit : ℕ) (asked : List ℕ) (ks : List ℕ) → Ar
 ends_fit f limit asked [] = tt
 ends_fit f limit asked (k ∷ ks) = ends_fit f limit asked ks
 
-phase_fit : (f : Profile) (limit threads : ℕ) (ops rest : List Op) (more : List Act) → AreBuilt (ops ++ rest) → AreBelow limit (ops ++ rest) → Continues f limit rest more → Continues f limit (ops ++ rest) (phase_acts threads ops ++ more)
-phase_fit f limit threads ops rest more built below go asked sound =
+phase_fit : (f : Profile) (limit threads : ℕ) (ops rest : List Op) (more : List Act) → AreBelow limit (ops ++ rest) → Continues f limit rest more → Continues f limit (ops ++ rest) (phase_acts threads ops ++ more)
+phase_fit f limit threads ops rest more below go asked sound =
     let idle = idle_threads threads ops in
     subst (AreFit f limit asked) (sym (append_assoc (map Wakes (active_threads threads ops)) (acts_of_ops idle ops) more))
-    (wakes_fit f limit asked (active_threads threads ops) (acts_of_ops idle ops ++ more) (ops_fit f limit idle ops rest more built below go asked sound))
-
-back_built : (xs ys : List Op) → AreBuilt (xs ++ ys) → AreBuilt ys
-back_built [] ys all = all
-back_built (x ∷ xs) ys all = back_built xs ys all.1
+    (wakes_fit f limit asked (active_threads threads ops) (acts_of_ops idle ops ++ more) (ops_fit f limit idle ops rest more below go asked sound))
 
 back_below : (limit : ℕ) (xs ys : List Op) → AreBelow limit (xs ++ ys) → AreBelow limit ys
 back_below limit [] ys all = all
 back_below limit (x ∷ xs) ys all = back_below limit xs ys all.1
 
-later_fit : (f : Profile) (limit threads n : ℕ) (phases : List (List Op)) → AreBuilt (all_ops phases) → AreBelow limit (all_ops phases) → Continues f limit (all_ops phases) (acts_from threads n phases)
-later_fit f limit threads n [] built below asked sound = ends_fit f limit asked (numbers_from 1 threads)
-later_fit f limit threads n (p ∷ ps) built below asked sound =
-    phase_fit f limit threads p (all_ops ps) (acts_from threads (n + 1) ps) built below (later_fit f limit threads (n + 1) ps (back_built p (all_ops ps) built) (back_below limit p (all_ops ps) below)) asked sound
+later_fit : (f : Profile) (limit threads n : ℕ) (phases : List (List Op)) → AreBelow limit (all_ops phases) → Continues f limit (all_ops phases) (acts_from threads n phases)
+later_fit f limit threads n [] below asked sound = ends_fit f limit asked (numbers_from 1 threads)
+later_fit f limit threads n (p ∷ ps) below asked sound =
+    phase_fit f limit threads p (all_ops ps) (acts_from threads (n + 1) ps) below (later_fit f limit threads (n + 1) ps (back_below limit p (all_ops ps) below)) asked sound
 
-pub acts_fit : (f : Profile) (limit threads : ℕ) (phases : List (List Op)) → AreBuilt (all_ops phases) → AreBelow limit (all_ops phases) → AreSound f [] (all_ops phases) → AreFit f limit [] (acts_of threads phases)
-acts_fit f limit threads [] built below sound = ends_fit f limit [] (numbers_from 1 threads)
-acts_fit f limit threads (p ∷ ps) built below sound =
-    phase_fit f limit threads p (all_ops ps) (acts_from threads 2 ps) built below (later_fit f limit threads 2 ps (back_built p (all_ops ps) built) (back_below limit p (all_ops ps) below)) [] sound
+pub acts_fit : (f : Profile) (limit threads : ℕ) (phases : List (List Op)) → AreBelow limit (all_ops phases) → AreSound f [] (all_ops phases) → AreFit f limit [] (acts_of threads phases)
+acts_fit f limit threads [] below sound = ends_fit f limit [] (numbers_from 1 threads)
+acts_fit f limit threads (p ∷ ps) below sound =
+    phase_fit f limit threads p (all_ops ps) (acts_from threads 2 ps) below (later_fit f limit threads 2 ps (back_below limit p (all_ops ps) below)) [] sound

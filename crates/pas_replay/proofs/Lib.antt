@@ -1,6 +1,6 @@
 pub mod ActsOfPlan
 pub mod NameLimits
-pub mod BuiltPlans
+pub mod PlanFacts
 pub mod Threads
 pub mod Turns
 pub mod Sittings

@@ -78,8 +78,10 @@ next_unused {count} {caches} after cache is empty made =
     }
 
 -- a cache with these parts is empty
-pub is_empty : (c : Cached) → c.locals ≡ [] → c.log ≡ [] → c.idle_since ≡ 0 → c ≡ empty_cache
-is_empty c locals log idle = ap (λ ls. record { locals = ls; log = c.log; idle_since = c.idle_since }) locals ∙ ap (λ ns. record { locals = []; log = ns; idle_since = c.idle_since }) log ∙ ap (λ n. record { locals = []; log = []; idle_since = n }) idle
+pub is_empty : (c : Cached) → c.locals ≡ [] → c.log ≡ [] → c.noted ≡ [] → c.idle_since ≡ 0 → c ≡ empty_cache
+is_empty c locals log noted idle =
+    ap (λ ls. record { locals = ls; log = c.log; noted = c.noted; idle_since = c.idle_since }) locals ∙ ap (λ ns. record { locals = []; log = ns; noted = c.noted; idle_since = c.idle_since }) log
+    ∙ ap (λ rs. record { locals = []; log = []; noted = rs; idle_since = c.idle_since }) noted ∙ ap (λ n. record { locals = []; log = []; noted = []; idle_since = n }) idle
 
 -- ---- the kit
 pub passes_count : (n : ℕ) (rooms : List EventRoom) → length (passes_from n rooms) ≡ length rooms

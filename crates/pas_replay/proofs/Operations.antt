@@ -1,5 +1,5 @@
 -- A session after an operation of one of its threads.
-use Rattle.std.proofs.Common.{◌≡◌, ◌≢◌, ◌⊎◌, ℕ, ◌+◌, ◌-◌, ◌<◌, ◌≤◌, ◌==◌, Bool, true, false, if◌then◌else◌, inl, inr, List, [], ◌∷◌, ◌++◌, length, reverse, get_or, set, Option, None, refl, ap, sym, ◌∙◌, subst, arith, length-append, append_assoc}
+use Rattle.std.proofs.Common.{◌≡◌, ◌≢◌, ◌⊎◌, ℕ, suc, ◌+◌, ◌-◌, ◌<◌, ◌≤◌, ◌==◌, Bool, true, false, if◌then◌else◌, inl, inr, List, [], ◌∷◌, ◌++◌, length, reverse, get_or, set, Option, None, refl, ap, sym, ◌∙◌, subst, arith, length-append, append_assoc}
 use Rattle.std.proofs.lemmas.List.{length-reverse, length-map, length-set, append-nil, get_or-set_other}
 use Rattle.std.proofs.lemmas.Grind.{get_or-set_at}
 use Rattle.std.proofs.lemmas.Bool.{eq-eqb, ne_eqb, cases_eq}
@@ -29,18 +29,18 @@ use Rattle.pas_cache.specs.Calls.{Begins}
 use Rattle.pas_cache.specs.declared.cache.ThreadCache.{ThreadCache}
 use Rattle.pas_utility.specs.Outcomes.{places_of}
 use Rattle.pas_profile.specs.declared.name.Name.{Name}
-use Rattle.pas_answers.specs.Acts.{Act, acts_of_what, Operates, StopsIdle, Wakes, Ends}
-use Rattle.pas_answers.specs.Answers.{having, Answer, answer_of, Progress, Named, epoch_look, stopped, after_wake, IsIdleFor, IsAnswered, with_records, with_steps, records_of, said_by, Follows}
+use Rattle.pas_answers.specs.Acts.{Act, acts_of_what, Operates, Settles, StopsIdle, Wakes, Ends}
+use Rattle.pas_answers.specs.Answers.{having, Answer, answer_of, Progress, Named, epoch_look, stopped, settled, Caches, with_cache, after_settling, after_wake, IsIdleFor, IsAnswered, with_records, with_steps, records_of, said_by, Follows}
 use Rattle.pas_answers.specs.Calls.{works, Tells, HasTurns, AreKnown, IsKnown, owed_events, MayAnswer, Answers}
 use Rattle.pas_answers.specs.Fit.{IsFitWhat, AreFit, cost_of_what, cost_of_act, own_cost_of_act, own_costs_of, unbacks_of_act}
 use Rattle.pas_trace.specs.EveryPlan.{asked_after}
 use Rattle.pas_answers.specs.Names.{names_held}
 use Rattle.pas_answers.proofs.KnownNames.{known_after}
-use Rattle.pas_replay.specs.Sessions.{Slots, pass_in, risen, IsSeated, IsTaken, HasCache, MayTakeSeat, MayTakeTurn, TakesTurn, TakesThreadTurn, Hand, hand_at, HasNames, IsAt, spare_at}
+use Rattle.pas_replay.specs.Sessions.{Slots, pass_in, risen, IsSeated, IsTaken, HasCache, MayTakeSeat, MayTakeTurn, TakesTurn, TakesThreadTurn, Hand, hand_at, HasNames, IsAt, ThreadStands, AllStand, AreCaches, spare_at}
 use Rattle.pas_answers.specs.declared.names.Names.{Names}
 use Rattle.pas_replay.specs.declared.seats.Actors.{Actors}
 use Rattle.pas_replay.proofs.Turns.{risen_length}
-use Rattle.pas_replay.proofs.Threads.{stands_at, cache_at, owed_at}
+use Rattle.pas_replay.proofs.Threads.{stands_at, cache_at, owed_at, owed_moves, its_cache, other_cache, set_caches}
 use Rattle.pas_replay.proofs.Sittings.{Sits, may_sit, spare_is}
 use Rattle.pas_replay.proofs.Acting.{thread_sits, hand_after, progress_after, ThreadActs, thread_acts}
 
@@ -120,7 +120,7 @@ stopping f k n p idle = record {
 
 -- the acts of an operation that is a thread's
 pub acts_of_thread : (idle : List ℕ) (op : Op) (what : What)
-    → ((n : ℕ) × (h : ℕ) × (s : ℕ) × (a : ℕ) × (what ≡ Alloc n h s a)) ⊎ (((n : ℕ) × (what ≡ Free n)) ⊎ (((block : Name) × (what ≡ Raw block)) ⊎ ((what ≡ Flush) ⊎ (what ≡ Stop)))) → acts_of_what idle op what ≡ Operates op ∷ []
+    → ((n : ℕ) × (h : ℕ) × (s : ℕ) × (a : ℕ) × (what ≡ Alloc n h s a)) ⊎ (((n : ℕ) × (what ≡ Free n)) ⊎ (((block : Name) × (what ≡ Raw block)) ⊎ ((what ≡ Flush) ⊎ (what ≡ Stop)))) → acts_of_what idle op what ≡ Operates op ∷ (Settles op.actor ∷ [])
 acts_of_thread idle op what of = elim of [
   | inl alloc ↦ ap (λ (w : What). acts_of_what idle op w) alloc.4
   | inr more ↦ elim more [
@@ -342,3 +342,46 @@ has_woken {f} {all} {more} {table} {out} {p} desk desk' actors actors' k some mo
           subst (λ (rs0 : List Record). Follows f more (record (after_wake p k did.epoch) { records = rs0 }) l rs) (append-nil p.records)
             (subst (λ (x : Cached). Follows f more (progress_after p k steps x p.names []) l rs) did.cache follows));
     }))
+
+-- ---- what a thread's cache noted is handed on
+settled_rest : (f : Profile) (c : Cached) (v : View) → AtRest f c v → AtRest f (settled c) v
+settled_rest f c v rest = record { locals = rest.locals; few = rest.few; entries = rest.entries; few_entries = rest.few_entries }
+
+settled_stands : {f : Profile} {l : Whole} (caches : Caches) (passes : Slots) (acts acts' : List Act) (k : ℕ) → ((j : ℕ) → own_costs_of j acts ≡ own_costs_of j acts') → AllStand f l acts caches passes → AllStand f l acts' (with_cache caches k (settled (caches k))) passes
+settled_stands {f} {l} caches passes acts acts' k same all i less = elim (cases_eq (suc i) k) [
+  | inl here ↦
+      let st = all i less in
+      let own = same (suc i) in
+      let room = st.room in
+      subst (λ (c : Cached). ThreadStands f (suc i) c (pass_in passes (suc i)) l (own_costs_of (suc i) acts'))
+        (ap (λ (j : ℕ). settled (caches j)) here ∙ sym (its_cache caches k (settled (caches k))) ∙ ap (λ (j : ℕ). with_cache caches k (settled (caches k)) j) (sym here))
+        record { pass = st.pass; present = st.present; actor = st.actor; stands = st.stands; rest = settled_rest f (caches (suc i)) (part (suc i) l) st.rest; room = omega (arith, room, own) }
+  | inr other ↦
+      let st = all i less in
+      let own = same (suc i) in
+      let room = st.room in
+      subst (λ (c : Cached). ThreadStands f (suc i) c (pass_in passes (suc i)) l (own_costs_of (suc i) acts')) (sym (other_cache caches k (suc i) (settled (caches k)) other))
+        record { pass = st.pass; present = st.present; actor = st.actor; stands = st.stands; rest = st.rest; room = omega (arith, room, own) }
+]
+
+pub has_settled : {f : Profile} {all more : List Act} {h : Hand} {p : Progress} (k : ℕ) (cache : ThreadCache) → 1 ≤ k → k ≤ f.threads → cached cache ≡ settled (p.caches k) → IsAt f all (Settles k ∷ more) h p → IsAt f all more (record h { caches = set h.caches (k - 1) cache }) (after_settling p k)
+has_settled {f} {all} {more} {h} {p} k cache some most is at =
+    let threads = at.threads in
+    let moves = owed_moves f p.list p.list p.caches (with_cache p.caches k (settled (p.caches k))) k f.threads some most (λ j ne. refl) (λ j ne. other_cache p.caches k j (settled (p.caches k)) ne) in
+    let now = ap (λ (c : Cached). owed_events f c (part k p.list)) (its_cache p.caches k (settled (p.caches k))) in
+    let spare = at.spare in
+    record {
+      profile_is = at.profile_is;
+      actors = at.actors;
+      threads = length-set h.caches (k - 1) cache ∙ at.threads;
+      places = at.places;
+      stands = at.stands;
+      scavenger = let st = at.scavenger in let room = st.room in record { pass = st.pass; present = st.present; actor = st.actor; stands = st.stands; rest = st.rest; room = omega (arith, room) };
+      each = settled_stands p.caches h.passes (Settles k ∷ more) more k (λ j. omega arith) at.each;
+      nobody = at.nobody;
+      names = record { asked = at.names.asked; fit = at.names.fit; tells = at.names.tells; turns = at.names.turns; known = at.names.known };
+      caches_are = subst (λ (c : Cached). AreCaches (with_cache p.caches k c) (set h.caches (k - 1) cache)) is (set_caches p.caches h.caches k cache some (omega (arith, most, threads)) at.caches_are);
+      records_are = at.records_are;
+      spare = omega (arith, moves, now, spare);
+      answers = at.answers;
+    }

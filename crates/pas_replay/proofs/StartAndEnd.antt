@@ -31,7 +31,7 @@ use Rattle.pas_answers.specs.Answers.{Caches, Follows}
 use Rattle.pas_answers.specs.Calls.{owed_events}
 use Rattle.pas_answers.specs.Fit.{own_costs_of}
 use Rattle.pas_answers.specs.Names.{names_held}
-use Rattle.pas_answers.specs.Replays.{at_start, phases_of, IsBuilt, empty_cache, empty_caches, Shows}
+use Rattle.pas_answers.specs.Replays.{at_start, phases_of, empty_cache, empty_caches, Shows}
 use Rattle.pas_answers.specs.Ways.{InOrder}
 use Rattle.pas_answers.proofs.Consequences.{replays}
 use Rattle.pas_answers.specs.declared.names.Names.{Names}
@@ -39,7 +39,7 @@ use Rattle.pas_replay.specs.Kits.{IsFresh, IsKitOf}
 use Rattle.pas_replay.specs.Sessions.{pass_in, SeatStands, AllStand, AreCaches, AreEmpty, Hand, hand_of, IsAt, SoFar, owed_by}
 use Rattle.pas_replay.specs.declared.kit.PlainKit.{PlainKit}
 use Rattle.pas_replay.specs.declared.seats.Actors.{Actors}
-use Rattle.pas_replay.proofs.BuiltPlans.{plan_fit, plan_own, plan_scavenger, plan_total}
+use Rattle.pas_replay.proofs.PlanFacts.{plan_fit, plan_own, plan_scavenger, plan_total}
 use Rattle.pas_replay.proofs.Threads.{stands_at, cache_at}
 use Rattle.pas_replay.proofs.ActsInOrder.{as_acts}
 
@@ -68,13 +68,13 @@ owed_start f (suc n) =
     let more = suc-mul n f.pages in
     omega (arith, this, rest, more)
 
-pub start : {text : List ℕ} {plan : Plan} {kit : PlainKit} {out : Records} → IsPlanOf text plan → IsBuilt plan → IsKitOf plan kit → records_in out ≡ [] → plan.total + length (phases_of plan) + 1 ≤ room_of out
+pub start : {text : List ℕ} {plan : Plan} {kit : PlainKit} {out : Records} → IsPlanOf text plan → IsKitOf plan kit → records_in out ≡ [] → plan.total + length (phases_of plan) + 1 ≤ room_of out
     → SoFar plan.profile (acts_of plan.profile.threads (phases_of plan)) (acts_of plan.profile.threads (phases_of plan)) (hand_of kit.region kit.actors kit.names out)
-start {text} {plan} {kit} {out} read built made empty room =
+start {text} {plan} {kit} {out} read made empty room =
     let f = plan.profile in
     let acts = acts_of f.threads (phases_of plan) in
     let owed = owed_start f f.threads in
-    let total = plan_total read built in
+    let total = plan_total read in
     let none = ap (λ (rs : List Record). length rs) empty in
     let owes = nothing_owed f in
     (at_start, record {
@@ -83,14 +83,14 @@ start {text} {plan} {kit} {out} read built made empty room =
       threads = made.unused.many;
       places = made.places;
       stands = made.opening;
-      scavenger = starts_at plan 0 _ (pass_in kit.actors.passes.items 0) HasNothing nothing (plan_scavenger read built) (made.fresh 0 (omega arith));
+      scavenger = starts_at plan 0 _ (pass_in kit.actors.passes.items 0) HasNothing nothing (plan_scavenger read) (made.fresh 0 (omega arith));
       each = λ i lt.
-          let own = plan_own read built (suc i) (omega arith) (omega (arith, lt)) in
+          let own = plan_own read (suc i) (omega arith) (omega (arith, lt)) in
           starts_at plan (suc i) (owed_events f empty_cache [] + own_costs_of (suc i) acts) (pass_in kit.actors.passes.items (suc i)) (AtRest f empty_cache) (rests_empty f empty_cache [] refl refl nothing) (omega (arith, own, owes)) (made.fresh (suc i) (omega (arith, lt)));
       nobody = λ k past. refl;
       names = record {
         asked = [];
-        fit = plan_fit read built (names_held kit.names) made.names;
+        fit = plan_fit read (names_held kit.names) made.names;
         tells = made.no_name;
         turns = λ n block is. absurd (let bad : None ≡ Some block = sym (made.no_name n) ∙ is in cc);
         known = λ n is. absurd (let bad : false ≡ true = is in cc);

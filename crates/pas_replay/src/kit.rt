@@ -8,7 +8,7 @@ ghost use Rattle.pas_utility.specs.Outcomes.{places_of};
 ghost use Rattle.pas_utility.specs.Pools.{threads_of, room_of as room_for, has_seat, outcomes_of};
 ghost use Rattle.pas_plain.specs.Plain.{passes_from};
 ghost use Rattle.pas_report.specs.Rooms.{records_in, room_of};
-ghost use Rattle.pas_answers.specs.Replays.{phases_of, IsBuilt, Shows};
+ghost use Rattle.pas_answers.specs.Replays.{phases_of, Shows};
 ghost use Rattle.pas_answers.specs.Ways.{InOrder};
 ghost use Rattle.pas_replay.specs.Kits.{AreRooms, AreUnused, IsKitOf};
 
@@ -141,7 +141,6 @@ impl PlainKit {
 /// a right or owes anything. Takes no memory.
 pub fn in_order(plan: &Plan, kit: PlainKit, out: &mut Records) -> State
     requires plan { (text : List ℕ) × (length text ≤ 16777216) × IsPlanOf text plan.now }
-    requires built { IsBuilt plan.now }
     requires kit { IsKitOf plan.now kit }
     requires empty { records_in out.old ≡ [] }
     requires room { plan.now.total + length (phases_of plan.now) + 1 ≤ room_of out.old }

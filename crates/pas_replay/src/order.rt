@@ -13,6 +13,7 @@ use crate::seats::{Actors, SCAVENGER, operate, pass, read_epoch, rise, sit, tick
 use pas_answers::names::Names;
 use pas_bits::Mask4;
 use pas_cache::ThreadCache;
+use pas_large::NoIndex;
 use pas_plain::{PlainDesk, PlainRegion};
 use pas_report::{Record, Records, Said};
 use pas_steps::Desk;
@@ -108,7 +109,8 @@ fn stop_idle(
     }
 }
 
-/// Performs an operation, in a phase in which these threads have one.
+/// Performs an operation, in a phase in which these threads have one. After a thread's operation the runs of large blocks that its cache noted are
+/// handed on.
 #[inline(always)]
 fn perform(
     desk: &mut PlainDesk,
@@ -131,6 +133,7 @@ fn perform(
         What::Idle(epochs) => stop_idle(desk, actors, names, awake, epochs, out),
         What::Alloc { .. } | What::Free { .. } | What::Raw { .. } | What::Flush | What::Stop => {
             operate(desk, actors, names, op.actor, op.what, out);
+            actors.caches[op.actor as usize - 1].settle(&mut NoIndex);
         }
     }
 }

@@ -26,7 +26,7 @@ loop-below-preserved c =
     let reserved = i.reserved in
     let same = c.push_reserved.ensures.capacity in
     record {
-      made = next_unused c.push_reserved.new.self.items c.new.result c.push_reserved.ensures.items (is_empty (cached c.new.result) c.new.ensures.locals c.new.ensures.log c.new.ensures.idle_since) i.made;
+      made = next_unused c.push_reserved.new.self.items c.new.result c.push_reserved.ensures.items (is_empty (cached c.new.result) c.new.ensures.locals c.new.ensures.log c.new.ensures.noted c.new.ensures.idle_since) i.made;
       left = λ k at. c.cache_seat.ensures.others k (λ e. absurd (omega (arith, e, at))) ∙ i.left k (omega (arith, at));
       threads = c.cache_seat.ensures.threads ∙ i.threads;
       outcomes = c.cache_seat.ensures.outcomes ∙ i.outcomes;

@@ -6,7 +6,7 @@ use Rattle.pas_plain.specs.Plain.{profile_of, PassStands}
 use Rattle.pas_plain.specs.declared.pass.PlainPass.{PlainPass}
 use Rattle.pas_trace.specs.Plans.{ops_of}
 use Rattle.pas_trace.specs.declared.plan.Phase.{Phase}
-use Rattle.pas_replay.proofs.BuiltPlans.{plan_phases, plan_valid}
+use Rattle.pas_replay.proofs.PlanFacts.{plan_phases, plan_valid}
 use Rattle.pas_replay.proofs.StartAndEnd.{start, shows, handed, handed_back}
 use Rattle.pas_replay.proofs.kit.in_order.Goals as goal
 
@@ -21,13 +21,13 @@ replay-region-requires-clause-phases c =
 pub replay-region-requires-clause-so_far : goal.replay-region-requires-clause-so_far
 replay-region-requires-clause-so_far c =
     (c.args.plan.now.profile, handed c.args.plan.now (length c.args.kit.actors.caches.items) (map ops_of c.as_slice.result.now) c.requires.kit.unused.many (ap (λ (ps : List Phase). map ops_of ps) c.as_slice.ensures)
-        (start c.requires.plan.2 c.requires.built c.requires.kit c.requires.empty c.requires.room))
+        (start c.requires.plan.2 c.requires.kit c.requires.empty c.requires.room))
 
 pub close-requires : goal.close-requires
 close-requires c =
     let plan = c.args.plan.now in
     let so = c.replay-region.ensures.so_far plan.profile (handed plan (length c.args.kit.actors.caches.items) (map ops_of c.as_slice.result.now) c.requires.kit.unused.many (ap (λ (ps : List Phase). map ops_of ps) c.as_slice.ensures)
-        (start c.requires.plan.2 c.requires.built c.requires.kit c.requires.empty c.requires.room)) in
+        (start c.requires.plan.2 c.requires.kit c.requires.empty c.requires.room)) in
     let part = λ (pass : PlainPass). PassStands (profile_of c.replay-region.result) pass so.0.list in
     record { whole = so.0.list; stands = so.1.stands; parts = subst (λ (ps : List PlainPass). All part ps) (sym c.requires.kit.none_left) (All-nil part) }
 
@@ -37,5 +37,5 @@ returns c =
     let threads = length c.args.kit.actors.caches.items in
     let phases = map ops_of c.as_slice.result.now in
     let same = ap (λ (ps : List Phase). map ops_of ps) c.as_slice.ensures in
-    let so = c.replay-region.ensures.so_far plan.profile (handed plan threads phases c.requires.kit.unused.many same (start c.requires.plan.2 c.requires.built c.requires.kit c.requires.empty c.requires.room)) in
+    let so = c.replay-region.ensures.so_far plan.profile (handed plan threads phases c.requires.kit.unused.many same (start c.requires.plan.2 c.requires.kit c.requires.empty c.requires.room)) in
     shows {plan = plan} c.replay-region.new.actors c.replay-region.new.names (plan_valid c.requires.plan.2) (handed_back plan threads phases c.requires.kit.unused.many same so) c.replay-region.ensures.empty c.close.ensures.profile c.close.ensures.words

@@ -7,7 +7,10 @@ use Rattle.pas_replay.specs.Sessions.{idle_in}
 use Rattle.std.proofs.lemmas.List.{length-set, append-nil}
 use Rattle.pas_report.specs.Rooms.{records_in}
 use Rattle.pas_replay.proofs.ActsInOrder.{as_first}
-use Rattle.pas_replay.proofs.Operations.{operation, acts_of_thread, fit_now, known_now, has_cache, may_operate, has_operated}
+use Rattle.pas_replay.proofs.Operations.{operation, acts_of_thread, fit_now, known_now, has_cache, may_operate, has_operated, has_settled}
+use Rattle.pas_replay.proofs.Threads.{cache_at}
+use Rattle.pas_replay.proofs.Turns.{has_at}
+use Rattle.pas_answers.specs.Answers.{settled, after_settling}
 use Rattle.pas_replay.proofs.Scavenging.{may_scavenge, may_pass, has_ticked, has_passed}
 use Rattle.pas_replay.proofs.order.perform.Goals as goal
 
@@ -47,6 +50,20 @@ operate-requires c =
     let so = as_first so0.2 (acts_of_thread (idle_in c.args.awake (length c.args.actors.now.caches.items)) c.args.op c.args.op.what c.in-Alloc.is) so0.3 in
     let of = so.1.names.fit.0 in
     record { fit = fit_now so.1; turns = so.1.names.turns; can = may_operate c.args.desk.now c.args.actors.now c.args.op.actor of.0 of.1 (operation so0.0 c.args.op so.0) so.1 c.requires.taken }
+
+pub index_mut-requires : goal.index_mut-requires
+index_mut-requires c =
+    let so0 = c.requires.so_far in
+    let k = c.args.op.actor in
+    let so = as_first so0.2 (acts_of_thread (idle_in c.args.awake (length c.args.actors.now.caches.items)) c.args.op c.args.op.what c.in-Alloc.is) so0.3 in
+    let of = so.1.names.fit.0 in
+    let turn = c.operate.ensures.turn (so.0.caches k) (has_cache c.args.desk.now c.args.actors.now so.1 c.requires.taken k of.0 of.1) in
+    let sized = ap (λ (cs : List ThreadCache). length cs) turn.caches_are ∙ length-set c.args.actors.now.caches.items (k - 1) turn.cache in
+    let many = so.1.threads in
+    let low = of.0 in
+    let high = of.1 in
+    let ok = c.operate.new.actors.caches.ok.0 in
+    omega (arith, sized, many, low, high, ok)
 
 pub stop_idle-requires-clause-so_far : goal.stop_idle-requires-clause-so_far
 stop_idle-requires-clause-so_far c =
@@ -89,12 +106,16 @@ returns-in-Alloc c =
     let turn = c.operate.ensures.turn (so.0.caches k) (has_cache c.args.desk.now c.args.actors.now so.1 c.requires.taken k of.0 of.1) in
     record {
       taken = turn.turn.taken;
-      threads = ap (λ (cs : List ThreadCache). length cs) turn.caches_are ∙ length-set c.args.actors.now.caches.items (k - 1) turn.cache;
+      threads = length-set c.operate.new.actors.caches.items (k - 1) c.settle.new.self ∙ ap (λ (cs : List ThreadCache). length cs) turn.caches_are ∙ length-set c.args.actors.now.caches.items (k - 1) turn.cache;
       so_far = λ f all more so1.
           let here = as_first more thread so1 in
           let its = here.1.names.fit.0 in
           let done = has_operated c.args.desk.now c.operate.new.desk c.args.actors.now c.operate.new.actors k its.0 its.1 (operation f c.args.op here.0) here.1 (known_now here.1)
               (c.operate.ensures.turn (here.0.caches k) (has_cache c.args.desk.now c.args.actors.now here.1 c.requires.taken k its.0 its.1)) c.operate.ensures.turns
               c.operate.new.out (sym (append-nil (records_in c.operate.new.out))) refl in
-          (done.0, done.1);
+          let count = done.1.threads in
+          let its1 = its.1 in
+          let has = cache_at done.0.caches c.operate.new.actors.caches.items k its.0 (omega (arith, count, its1)) done.1.caches_are in
+          let there = has_at c.operate.new.actors.caches.items k c.index_mut.result.now has c.index_mut.ensures.value in
+          (after_settling done.0 k, has_settled k c.settle.new.self its.0 its.1 (c.settle.ensures.cache ∙ ap settled (sym there)) done.1);
     }
