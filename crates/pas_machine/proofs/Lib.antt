@@ -1,1 +1,2 @@
 pub mod LiveBlocks
+pub mod Refusals

@@ -2,3 +2,4 @@ pub mod State
 pub mod Machine
 pub mod Totals
 pub mod Laws
+pub mod Reasons

@@ -4,4 +4,7 @@
 //! crates above cite, and as laws over every run (`laws`).
 #![tactic(auto)]
 
+pub mod fault;
 pub mod laws;
+
+pub use fault::{Illegal, StepFault};
