@@ -1,2 +1,3 @@
 pub mod LiveBlocks
+pub mod Openings
 pub mod Refusals

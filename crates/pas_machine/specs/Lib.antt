@@ -3,3 +3,5 @@ pub mod Machine
 pub mod Totals
 pub mod Laws
 pub mod Reasons
+pub mod Places
+pub mod Machines

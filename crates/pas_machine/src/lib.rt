@@ -6,5 +6,8 @@
 
 pub mod fault;
 pub mod laws;
+pub mod machine;
+mod places;
 
 pub use fault::{Illegal, StepFault};
+pub use machine::Machine;
