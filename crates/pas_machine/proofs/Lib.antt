@@ -1,3 +1,5 @@
 pub mod LiveBlocks
 pub mod Openings
+pub mod Ranges
 pub mod Refusals
+pub mod Verdicts

@@ -116,10 +116,10 @@ admits_of f es (Event.Unback k page epoch) never = (
     le_of (epoch_in es page + f.age) epoch (never Illegal.TooYoung),
 )
 admits_of f es (Event.Give k block) never = record {
-  aligned = equal_of (address_of block.name % 16) 0 (λ h. never Illegal.BadPage (inl h));
-  whole = equal_of (block.room % 16) 0 (λ h. never Illegal.BadPage (inr (inr (inl h))));
-  some = long_of block.room (λ h. never Illegal.BadPage (inr (inl h)));
-  bears = λ x has. give_bears f es block.heap (x / 256) (λ h. never Illegal.BadPage (inr (inr (inr (x, has, h))))) (λ h. never Illegal.NoDeed (x, has, h)) (λ h. never Illegal.NotBacked (x, has, h));
+  aligned = equal_of (address_of block.name % 16) 0 (λ h. never Illegal.BadPage (inl (inl h)));
+  whole = equal_of (block.room % 16) 0 (λ h. never Illegal.BadPage (inl (inr (inr h))));
+  some = long_of block.room (λ h. never Illegal.BadPage (inl (inr (inl h))));
+  bears = λ x has. give_bears f es block.heap (x / 256) (λ h. never Illegal.BadPage (inr (x, has, h))) (λ h. never Illegal.NoDeed (x, has, h)) (λ h. never Illegal.NotBacked (x, has, h));
   clear = λ a b lives x has. false_of (in_run (grain_of block.name) (length_of block) x) (λ h. never Illegal.LivesThere (x, h, record { address = a; live = b; lives = lives; has = has }));
   turn = equal_of block.name.turn (gives_in es (address_of block.name)) (never Illegal.WrongTurn);
 }
@@ -147,10 +147,10 @@ unback_never f es k page epoch may Illegal.TooYoung h = let old : epoch_in es pa
 unback_never f es k page epoch may _ h = h
 
 not_no_run : (f : Profile) (es : List Event) (block : Block) → MayGive f es block → IsNoRun f block → ⊥
-not_no_run f es block may (inl h) = h may.aligned
-not_no_run f es block may (inr (inl h)) = let some : 0 < block.room = may.some in let none : block.room ≡ 0 = h in omega arith
-not_no_run f es block may (inr (inr (inl h))) = h may.whole
-not_no_run f es block may (inr (inr (inr h))) = not_outside f (h.0 / 256) (may.bears h.0 h.1).exists h.2
+not_no_run f es block may (inl (inl h)) = h may.aligned
+not_no_run f es block may (inl (inr (inl h))) = let some : 0 < block.room = may.some in let none : block.room ≡ 0 = h in omega arith
+not_no_run f es block may (inl (inr (inr h))) = h may.whole
+not_no_run f es block may (inr h) = not_outside f (h.0 / 256) (may.bears h.0 h.1).exists h.2
 
 first_grain : (f : Profile) (es : List Event) (block : Block) → MayGive f es block → IsGrainOf block (grain_of block.name)
 first_grain f es block may =

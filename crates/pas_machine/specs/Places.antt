@@ -1,9 +1,10 @@
 -- What a machine keeps of the pages and addresses of its region.
-use Rattle.std.specs.Prelude.{ℕ, ◌+◌, ◌*◌, ◌<◌, ◌≤◌, ◌≡◌, Bool, true, false, List, Option, None, Some, get_or}
+use Rattle.std.specs.Prelude.{ℕ, ◌+◌, ◌*◌, ◌%◌, ◌<◌, ◌≤◌, ◌≡◌, Bool, true, false, List, Option, None, Some, get_or}
 use Rattle.pas_profile.specs.declared.profile.Profile.{Profile}
 use Rattle.pas_profile.specs.declared.directory.Directory.{Directory}
 use Rattle.pas_profile.specs.declared.name.Block.{Block}
 use Rattle.pas_profile.specs.declared.event.Event.{Event}
+use Rattle.pas_profile.specs.Runs.{address_of, grain_of, length_of}
 use Rattle.pas_machine.specs.State.{Live, deed_in, backed_in, live_in, gives_in, epoch_in}
 use Rattle.pas_machine.specs.Machine.{Run}
 use Rattle.pas_machine.specs.Reasons.{Covers}
@@ -47,3 +48,24 @@ pub record Shows (f : Profile) (pages : List Page) (places : List Place) (covere
   pub pages_are : (page : ℕ) → page ≤ f.pages → get_or pages page blank_page ≡ page_in es page
   pub places_are : (g : ℕ) → g < grains_of f → get_or places g blank_place ≡ place_in es g
   pub covered_are : (x : ℕ) → x < grains_of f → IsCovered es x (get_or covered x false)
+
+-- some number, and each one, from `from` on and below `until`
+abbrev pub IsSome : ℕ → ℕ → (ℕ → Type 0) → Type 0
+IsSome from until P = (n : ℕ) × (from ≤ n) × (n < until) × P n
+
+abbrev pub IsEach : ℕ → ℕ → (ℕ → Type 0) → Type 0
+IsEach from until P = (n : ℕ) → from ≤ n → n < until → P n
+
+-- the block is of whole grains, and has one
+pub record IsWhole (block : Block) : Type 0 where
+  pub aligned : address_of block.name % 16 ≡ 0
+  pub some : 0 < block.room
+  pub whole : block.room % 16 ≡ 0
+
+-- its grains are of the pages of the region
+abbrev pub IsWithin : Profile → Block → Type 0
+IsWithin f block = (256 ≤ grain_of block.name) × (grain_of block.name + length_of block ≤ grains_of f)
+
+pub record IsInside (f : Profile) (block : Block) : Type 0 where
+  pub whole : IsWhole block
+  pub within : IsWithin f block

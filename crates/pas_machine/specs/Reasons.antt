@@ -38,9 +38,13 @@ IsNoPlace f address = IsOutside f (address / 4096) ⊎ (address % 16 ≢ 0)
 abbrev pub IsGrainOf : Block → ℕ → Type 0
 IsGrainOf block x = in_run (grain_of block.name) (length_of block) x ≡ true
 
+-- the block isn't of whole grains, or has none
+abbrev pub IsBroken : Block → Type 0
+IsBroken block = (address_of block.name % 16 ≢ 0) ⊎ (block.room ≡ 0) ⊎ (block.room % 16 ≢ 0)
+
 -- the block isn't of whole grains, has none, or has one that is outside
 abbrev pub IsNoRun : Profile → Block → Type 0
-IsNoRun f block = (address_of block.name % 16 ≢ 0) ⊎ (block.room ≡ 0) ⊎ (block.room % 16 ≢ 0) ⊎ ((x : ℕ) × IsGrainOf block x × IsOutside f (x / 256))
+IsNoRun f block = IsBroken block ⊎ ((x : ℕ) × IsGrainOf block x × IsOutside f (x / 256))
 
 -- ---- to which events each reason applies, where these events came before
 abbrev pub IsBadPage : Profile → Event → Type 0

@@ -7,7 +7,9 @@
 pub mod fault;
 pub mod laws;
 pub mod machine;
+mod looking;
 mod places;
+mod reasons;
 
 pub use fault::{Illegal, StepFault};
 pub use machine::Machine;
