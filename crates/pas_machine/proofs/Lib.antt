@@ -1,4 +1,5 @@
 pub mod LiveBlocks
+pub mod Moves
 pub mod Openings
 pub mod Ranges
 pub mod Refusals

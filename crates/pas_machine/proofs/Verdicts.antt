@@ -2,6 +2,8 @@
 use Rattle.std.proofs.Common.{◌≡◌, ◌≢◌, ℕ, ◌+◌, ◌-◌, ◌*◌, ◌/◌, ◌%◌, ◌<◌, ◌≤◌, ◌⊎◌, Bool, true, false, if◌then◌else◌, List, [], ◌∷◌, Option, Some, None, length, get_or, max, refl, ap, sym, ◌∙◌, subst, arith, inl, inr}
 use Rattle.std.specs.Prelude.{nat_lt, MatchBool}
 use Rattle.std.proofs.lemmas.Bool.{false≢true}
+use Rattle.std.proofs.Math.Logic.{∥∥₁_elim}
+use Rattle.std.specs.Coded.{le_prop}
 use Rattle.std.proofs.lemmas.List.{get_or_default}
 use Rattle.std.proofs.lemmas.Bool.Decides.{leb_tells, nat_tests}
 use Rattle.pas_profile.specs.declared.profile.Profile.{Profile}
@@ -16,11 +18,11 @@ use Rattle.pas_machine.specs.State.{Live, deed_in, backed_in, live_in, gives_in,
 use Rattle.pas_machine.specs.Laws.{IsCounted}
 use Rattle.pas_machine.specs.Machine.{Run}
 use Rattle.pas_machine.specs.Reasons.{reason_number, Applies, IsFirst, IsOutside, IsNoRun, IsGrainOf, HasDeedOf, Covers}
-use Rattle.pas_machine.specs.Places.{Shows, IsCovered, IsSome, IsEach, IsOfHeap, IsWhole, IsWithin, IsInside, blank_page, blank_place, block_of, page_in, place_in, grains_of}
+use Rattle.pas_machine.specs.Places.{Shows, IsLiveBlock, IsCovered, IsSome, IsEach, IsOfHeap, IsWhole, IsWithin, IsInside, blank_page, blank_place, block_of, page_in, place_in, grains_of}
 use Rattle.pas_machine.specs.declared.fault.Illegal.{Illegal}
 use Rattle.pas_machine.specs.declared.places.Page.{Page}
 use Rattle.pas_machine.specs.declared.places.Place.{Place}
-use Rattle.pas_machine.proofs.LiveBlocks.{lives_where, live_long, all_counted}
+use Rattle.pas_machine.proofs.LiveBlocks.{lives_where, live_long, all_counted, all_borne}
 use Rattle.pas_machine.proofs.Refusals.{not_outside}
 
 none_is : {A : Type 0} {x : A} → None ≡ Some x → ⊥
@@ -262,3 +264,17 @@ place_at f pages places covered es shows block is =
     let high = is.within.1 in
     let long : 0 < length_of block = long_of block is.whole in
     place_is f pages places covered es shows (grain_of block.name) (omega (arith, high, long))
+
+-- a live block ends within the region
+pub live_within : (f : Profile) (es : List Event) → Run f es → (a : ℕ) (b : Live) → live_in es a ≡ Some b → a / 16 + length_of b.block ≤ grains_of f
+live_within f es run a b is =
+    let long : 0 < length_of b.block = live_long f es run a b is in
+    let last : in_run (a / 16) (length_of b.block) (a / 16 + length_of b.block - 1) ≡ true = to_run (a / 16) (length_of b.block) (a / 16 + length_of b.block - 1) (omega (arith, long)) (omega (arith, long)) in
+    let on : (a / 16 + length_of b.block - 1) / 256 ≤ f.pages = (all_borne f es run a b is (a / 16 + length_of b.block - 1) last).exists.1 in
+    omega (arith, on, long)
+
+pub ends_within : (f : Profile) (pages : List Page) (places : List Place) (covered : List Bool) (name : Name) (block : Block) → ∥ ((es : List Event) × Shows f pages places covered es) ∥₁
+    → ((es : List Event) → Shows f pages places covered es → IsLiveBlock es name block) → grain_of name + length_of block ≤ grains_of f
+ends_within f pages places covered name block some is = ∥∥₁_elim some le_prop (λ s.
+    let live = is s.0 s.1 in
+    subst (λ (b : Block). grain_of name + length_of b ≤ grains_of f) live.2 (live_within f s.0 s.1.run (address_of name) live.0 live.1))

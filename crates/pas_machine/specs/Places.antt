@@ -1,7 +1,8 @@
 -- What a machine keeps of the pages and addresses of its region.
-use Rattle.std.specs.Prelude.{ℕ, ◌+◌, ◌*◌, ◌%◌, ◌<◌, ◌≤◌, ◌≡◌, Bool, true, false, List, Option, None, Some, get_or}
+use Rattle.std.specs.Prelude.{ℕ, ◌+◌, ◌*◌, ◌%◌, ◌<◌, ◌≤◌, ◌≡◌, Bool, true, false, List, Option, None, Some, get_or, max}
 use Rattle.pas_profile.specs.declared.profile.Profile.{Profile}
 use Rattle.pas_profile.specs.declared.directory.Directory.{Directory}
+use Rattle.pas_profile.specs.declared.name.Name.{Name}
 use Rattle.pas_profile.specs.declared.name.Block.{Block}
 use Rattle.pas_profile.specs.declared.event.Event.{Event}
 use Rattle.pas_profile.specs.Runs.{address_of, grain_of, length_of}
@@ -69,3 +70,11 @@ IsWithin f block = (256 ≤ grain_of block.name) × (grain_of block.name + lengt
 pub record IsInside (f : Profile) (block : Block) : Type 0 where
   pub whole : IsWhole block
   pub within : IsWithin f block
+
+-- the block of exactly this name lives
+abbrev pub IsLiveBlock : List Event → Name → Block → Type 0
+IsLiveBlock es name block = (b : Live) × (live_in es (address_of name) ≡ Some b) × (b.block ≡ block) × (block.name.turn ≡ name.turn)
+
+-- the page after an end on it
+abbrev pub ended_at : ℕ → Page → Page
+ended_at epoch page = record page { epoch = max page.epoch epoch }

@@ -10,6 +10,7 @@ pub mod machine;
 mod looking;
 mod places;
 mod reasons;
+mod stepping;
 
 pub use fault::{Illegal, StepFault};
 pub use machine::Machine;

@@ -1,12 +1,12 @@
 //! The first reason why an event may not come next, if there is one, in the order of the reasons.
-ghost use Rattle.std.specs.Prelude.{ℕ, ◌≡◌, ◌+◌, ◌<◌, MatchBool, List, None};
+ghost use Rattle.std.specs.Prelude.{ℕ, ◌≡◌, ◌+◌, ◌<◌, ◌≤◌, MatchBool, MatchOption, IfOk, IfErr, List, None};
 ghost use Rattle.pas_profile.specs.Profiles.{IsPage};
-ghost use Rattle.pas_profile.specs.Runs.{address_of};
+ghost use Rattle.pas_profile.specs.Runs.{address_of, grain_of, length_of};
 ghost use Rattle.pas_profile.specs.declared.event.Event.{Event as TheEvent};
 ghost use Rattle.pas_machine.specs.State.{ends_in};
 ghost use Rattle.pas_machine.specs.Machine.{IsPlace, IsLive};
-ghost use Rattle.pas_machine.specs.Reasons.{IsOutside, IsNoPlace, IsBroken, IsNoRun, IsVerdict};
-ghost use Rattle.pas_machine.specs.Places.{IsInside, IsWhole, IsWithin};
+ghost use Rattle.pas_machine.specs.Reasons.{IsOutside, IsNoPlace, IsBroken, IsNoRun, IsVerdict, IsFirst};
+ghost use Rattle.pas_machine.specs.Places.{IsInside, IsWhole, IsWithin, IsLiveBlock, grains_of};
 ghost use Rattle.pas_machine.specs.Machines.{profile_of, StandsFor};
 
 use crate::fault::Illegal;
@@ -49,14 +49,14 @@ impl Machine {
         !is_whole(block) || self.reaches_out(block)
     }
 
-    /// Whether exactly this name is live.
-    fn is_live(&self, name: &Name) -> bool
+    /// The block of exactly this name, where it lives.
+    fn live_block(&self, name: &Name) -> Option<Block>
         requires { IsPlace (profile_of self.now) (address_of name.now) }
-        ensures { (es : List TheEvent) → StandsFor self.now es → MatchBool result (IsLive es name.now) (IsLive es name.now → ⊥) }
+        ensures { (es : List TheEvent) → StandsFor self.now es → MatchOption result (IsLive es name.now → ⊥) (IsLiveBlock es name.now) }
     {
-        match &self.places[name.address.grain() as usize].block {
-            Some(block) => block.name.turn == name.turn,
-            None => false,
+        match self.places[name.address.grain() as usize].block {
+            Some(block) if block.name.turn == name.turn => Some(block),
+            _ => None,
         }
     }
 
@@ -155,17 +155,20 @@ impl Machine {
         None
     }
 
-    pub(crate) fn end_reason(&self, name: &Name) -> Option<Illegal>
-        ensures inside { result ≡ None → IsPlace (profile_of self.now) (address_of name.now) }
-        ensures verdict { (k epoch : ℕ) (es : List TheEvent) → StandsFor self.now es → IsVerdict (profile_of self.now) es (TheEvent.End k name.now epoch) result }
+    /// The block that ends with its name, or the first reason why the name can't end.
+    pub(crate) fn ending(&self, name: &Name) -> Result<Block, Illegal>
+        ensures place { IfOk result (λ _. IsPlace (profile_of self.now) (address_of name.now)) }
+        ensures within { IfOk result (λ block. grain_of name.now + length_of block ≤ grains_of (profile_of self.now)) }
+        ensures live { (es : List TheEvent) → StandsFor self.now es → IfOk result (IsLiveBlock es name.now) }
+        ensures reason { (k epoch : ℕ) (es : List TheEvent) → StandsFor self.now es → IfErr result (IsFirst (profile_of self.now) es (TheEvent.End k name.now epoch)) }
     {
         if self.is_no_place(name.address) {
-            return Some(Illegal::BadPage);
+            return Err(Illegal::BadPage);
         }
-        if !self.is_live(name) {
-            return Some(Illegal::NotLive);
+        match self.live_block(name) {
+            Some(block) => Ok(block),
+            None => Err(Illegal::NotLive),
         }
-        None
     }
 
     pub(crate) fn reject_reason(&self, name: &Name, why: Why) -> Option<Illegal>
@@ -177,7 +180,7 @@ impl Machine {
         let has_ended = self.ends(name.address) > name.turn;
         let is_true = match why {
             Why::Ended => has_ended,
-            Why::NoBlock => !has_ended && !self.is_live(name),
+            Why::NoBlock => !has_ended && self.live_block(name).is_none(),
         };
         if is_true { None } else { Some(Illegal::WrongReason) }
     }
