@@ -54,8 +54,8 @@ pub deed_shows : (f : Profile) (pages : List Page) (places : List Place) (covere
 deed_shows f pages places covered es shows k page d may p is low = record {
   run = (may, shows.run);
   pages_are = λ q h. written pages blank_page page (f.pages + 1) (record p { directory = Some d }) (page_in es) (page_in (Event.Deed k page d ∷ es)) low (λ j l. shows.pages_are j (omega (arith, l)))
-    (ap (λ (r : Page). record r { directory = Some d }) is ∙ ap (λ t. record { directory = if t then Some d else deed_in es page; backed = backed_in es page; epoch = epoch_in es page }) (sym (same_test page)))
-    (λ j ne. ap (λ t. record { directory = if t then Some d else deed_in es j; backed = backed_in es j; epoch = epoch_in es j }) (sym (other_test page j ne))) q (omega (arith, h));
+      (ap (λ (r : Page). record r { directory = Some d }) is ∙ ap (λ t. record { directory = if t then Some d else deed_in es page; backed = backed_in es page; epoch = epoch_in es page }) (sym (same_test page)))
+      (λ j ne. ap (λ t. record { directory = if t then Some d else deed_in es j; backed = backed_in es j; epoch = epoch_in es j }) (sym (other_test page j ne))) q (omega (arith, h));
   places_are = shows.places_are;
   covered_are = λ x h. same_covered es (Event.Deed k page d ∷ es) x (get_or covered x false) (λ a. refl) (shows.covered_are x h);
 }
@@ -65,8 +65,8 @@ pub back_shows : (f : Profile) (pages : List Page) (places : List Place) (covere
 back_shows f pages places covered es shows k page may p is low = record {
   run = (may, shows.run);
   pages_are = λ q h. written pages blank_page page (f.pages + 1) (record p { backed = true }) (page_in es) (page_in (Event.Back k page ∷ es)) low (λ j l. shows.pages_are j (omega (arith, l)))
-    (ap (λ (r : Page). record r { backed = true }) is ∙ ap (λ t. record { directory = deed_in es page; backed = if t then true else backed_in es page; epoch = epoch_in es page }) (sym (same_test page)))
-    (λ j ne. ap (λ t. record { directory = deed_in es j; backed = if t then true else backed_in es j; epoch = epoch_in es j }) (sym (other_test page j ne))) q (omega (arith, h));
+      (ap (λ (r : Page). record r { backed = true }) is ∙ ap (λ t. record { directory = deed_in es page; backed = if t then true else backed_in es page; epoch = epoch_in es page }) (sym (same_test page)))
+      (λ j ne. ap (λ t. record { directory = deed_in es j; backed = if t then true else backed_in es j; epoch = epoch_in es j }) (sym (other_test page j ne))) q (omega (arith, h));
   places_are = shows.places_are;
   covered_are = λ x h. same_covered es (Event.Back k page ∷ es) x (get_or covered x false) (λ a. refl) (shows.covered_are x h);
 }
@@ -76,8 +76,8 @@ pub unback_shows : (f : Profile) (pages : List Page) (places : List Place) (cove
 unback_shows f pages places covered es shows k page epoch may p is low = record {
   run = (may, shows.run);
   pages_are = λ q h. written pages blank_page page (f.pages + 1) (record p { backed = false }) (page_in es) (page_in (Event.Unback k page epoch ∷ es)) low (λ j l. shows.pages_are j (omega (arith, l)))
-    (ap (λ (r : Page). record r { backed = false }) is ∙ ap (λ t. record { directory = deed_in es page; backed = if t then false else backed_in es page; epoch = epoch_in es page }) (sym (same_test page)))
-    (λ j ne. ap (λ t. record { directory = deed_in es j; backed = if t then false else backed_in es j; epoch = epoch_in es j }) (sym (other_test page j ne))) q (omega (arith, h));
+      (ap (λ (r : Page). record r { backed = false }) is ∙ ap (λ t. record { directory = deed_in es page; backed = if t then false else backed_in es page; epoch = epoch_in es page }) (sym (same_test page)))
+      (λ j ne. ap (λ t. record { directory = deed_in es j; backed = if t then false else backed_in es j; epoch = epoch_in es j }) (sym (other_test page j ne))) q (omega (arith, h));
   places_are = shows.places_are;
   covered_are = λ x h. same_covered es (Event.Unback k page epoch ∷ es) x (get_or covered x false) (λ a. refl) (shows.covered_are x h);
 }
@@ -155,10 +155,12 @@ give_shows f pages places covered covered' es shows k block may gives is low set
         let t : (address_of block.name == 16 * grain_of block.name) ≡ true = eq-eqb (address_of block.name) (16 * grain_of block.name) (sym e) in
         ap (λ n. record { block = Some block; gives = n + 1 }) (is ∙ ap (gives_in es) (sym e))
         ∙ ap (λ t. record { block = block_of (if t then Some record { actor = k; block = block } else live_in es (16 * grain_of block.name)); gives = if t then gives_in es (16 * grain_of block.name) + 1 else gives_in es (16 * grain_of block.name) }) (sym t)
+
     others : (g : ℕ) → grain_of block.name ≢ g → place_in es g ≡ place_in (Event.Give k block ∷ es) g
     others g ne =
         let t : (address_of block.name == 16 * g) ≡ false = other_test (address_of block.name) (16 * g) (off_place (address_of block.name) g may.aligned ne) in
         ap (λ t. record { block = block_of (if t then Some record { actor = k; block = block } else live_in es (16 * g)); gives = if t then gives_in es (16 * g) + 1 else gives_in es (16 * g) }) (sym t)
+
     by : (x : ℕ) → x < grains_of f → (t : Bool) → in_run (grain_of block.name) (length_of block) x ≡ t → IsCovered (Event.Give k block ∷ es) x (get_or covered' x false)
     by x h true e =
         let on = run_of (grain_of block.name) (length_of block) x e in
@@ -196,8 +198,8 @@ apart_from f es run k name epoch block live x c = by (address_of name == c.addre
     by : (t : Bool) → (address_of name == c.address) ≡ t → (if t then None else live_in es c.address) ≡ Some c.live → (in_run (grain_of name) (length_of block) x ≡ true → ⊥) × Covers es x
     by true e is = absurd (none_is is)
     by false e is = (
-        (λ i. false≢true (sym (live_apart f es run c.address (address_of name) c.live live.0 is live.1 (λ same. false≢true (sym e ∙ eq-eqb (address_of name) c.address (sym same))) x c.has) ∙ (ap (λ (b : Block). in_run (grain_of name) (length_of b) x) live.2 ∙ i))),
-        record { address = c.address; live = c.live; lives = is; has = c.has },
+      (λ i. false≢true (sym (live_apart f es run c.address (address_of name) c.live live.0 is live.1 (λ same. false≢true (sym e ∙ eq-eqb (address_of name) c.address (sym same))) x c.has) ∙ (ap (λ (b : Block). in_run (grain_of name) (length_of b) x) live.2 ∙ i))),
+      record { address = c.address; live = c.live; lives = is; has = c.has },
     )
 
 still_covers : (es : List Event) (k : ℕ) (name : Name) (epoch : ℕ) (block : Block) → IsLiveBlock es name block → (x : ℕ) → (in_run (grain_of name) (length_of block) x ≡ true → ⊥) → Covers es x → Covers (Event.End k name epoch ∷ es) x
@@ -220,15 +222,19 @@ pub end_shows : (f : Profile) (pages pages' : List Page) (places : List Place) (
     → IsEach (grain_of name / 256) ((grain_of name + length_of block + 255) / 256) (λ q. get_or pages' q blank_page ≡ ended_at epoch (get_or pages q blank_page))
     → ((q : ℕ) → q < grain_of name / 256 → get_or pages' q blank_page ≡ get_or pages q blank_page) → ((q : ℕ) → (grain_of name + length_of block + 255) / 256 ≤ q → get_or pages' q blank_page ≡ get_or pages q blank_page)
     → Admits f es (Event.End k name epoch) × Shows f pages' (set places (grain_of name) (record p { block = None })) covered' (Event.End k name epoch ∷ es)
-end_shows f pages pages' places covered covered' es shows k name epoch place block live p is low cset cbelow cabove pset pbelow pabove = (may, record {
-  run = (may, shows.run);
-  pages_are = page;
-  places_are = written places blank_place (grain_of name) (grains_of f) (record p { block = None }) (place_in es) (place_in (Event.End k name epoch ∷ es)) low shows.places_are here others;
-  covered_are = λ x h. by x h (in_run (grain_of name) (length_of block) x) refl;
-})
+end_shows f pages pages' places covered covered' es shows k name epoch place block live p is low cset cbelow cabove pset pbelow pabove = (
+  may,
+  record {
+    run = (may, shows.run);
+    pages_are = page;
+    places_are = written places blank_place (grain_of name) (grains_of f) (record p { block = None }) (place_in es) (place_in (Event.End k name epoch ∷ es)) low shows.places_are here others;
+    covered_are = λ x h. by x h (in_run (grain_of name) (length_of block) x) refl;
+  },
+)
   where
     may : Admits f es (Event.End k name epoch)
     may = (place, (live.0, live.1, ap (λ (b : Block). b.name.turn) live.2 ∙ live.3))
+
     page : (q : ℕ) → q ≤ f.pages → get_or pages' q blank_page ≡ page_in (Event.End k name epoch ∷ es) q
     page q within = elim (leb_tells (grain_of name / 256) q) [
       | inl l ↦ elim (leb_tells ((grain_of name + length_of block + 255) / 256) q) [
@@ -237,15 +243,18 @@ end_shows f pages pages' places covered covered' es shows k name epoch place blo
       ]
       | inr l ↦ ended_page es k name epoch q false (get_or pages' q blank_page) (touches_of f es shows.run name block live q ∙ under_of (grain_of name) (length_of block) q l.1) (pbelow q l.1 ∙ shows.pages_are q within)
     ]
+
     here : record p { block = None } ≡ place_in (Event.End k name epoch ∷ es) (grain_of name)
     here =
         let e : 16 * grain_of name ≡ address_of name = at_place (address_of name) place.1 in
         let t : (address_of name == 16 * grain_of name) ≡ true = eq-eqb (address_of name) (16 * grain_of name) (sym e) in
         ap (λ (q : Place). record q { block = None }) is ∙ ap (λ t. record { block = block_of (if t then None else live_in es (16 * grain_of name)); gives = gives_in es (16 * grain_of name) }) (sym t)
+
     others : (g : ℕ) → grain_of name ≢ g → place_in es g ≡ place_in (Event.End k name epoch ∷ es) g
     others g ne =
         let t : (address_of name == 16 * g) ≡ false = other_test (address_of name) (16 * g) (off_place (address_of name) g place.1 ne) in
         ap (λ t. record { block = block_of (if t then None else live_in es (16 * g)); gives = gives_in es (16 * g) }) (sym t)
+
     by : (x : ℕ) → x < grains_of f → (t : Bool) → in_run (grain_of name) (length_of block) x ≡ t → IsCovered (Event.End k name epoch ∷ es) x (get_or covered' x false)
     by x h true e =
         let on = run_of (grain_of name) (length_of block) x e in

@@ -110,10 +110,10 @@ pub admits_of : (f : Profile) (es : List Event) (e : Event) → ((reason : Illeg
 admits_of f es (Event.Deed k page d) never = (page_of f page (never Illegal.BadPage), lt_of d.heap f.heaps (never Illegal.BadHeap), none_of (deed_in es page) (never Illegal.DeedTwice))
 admits_of f es (Event.Back k page) never = (page_of f page (never Illegal.BadPage), never Illegal.NoDeed, false_of (backed_in es page) (never Illegal.BackedTwice))
 admits_of f es (Event.Unback k page epoch) never = (
-    page_of f page (never Illegal.BadPage),
-    true_of (backed_in es page) (never Illegal.NotBacked),
-    (λ a. false_of (touches (live_in es a) page) (λ h. never Illegal.LivesThere (a, h))),
-    le_of (epoch_in es page + f.age) epoch (never Illegal.TooYoung),
+  page_of f page (never Illegal.BadPage),
+  true_of (backed_in es page) (never Illegal.NotBacked),
+  (λ a. false_of (touches (live_in es a) page) (λ h. never Illegal.LivesThere (a, h))),
+  le_of (epoch_in es page + f.age) epoch (never Illegal.TooYoung),
 )
 admits_of f es (Event.Give k block) never = record {
   aligned = equal_of (address_of block.name % 16) 0 (λ h. never Illegal.BadPage (inl (inl h)));

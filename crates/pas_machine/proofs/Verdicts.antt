@@ -62,6 +62,7 @@ inside_never f block is (inr h) = outside h.2
   where
     at : (grain_of block.name ≤ h.0) × (h.0 < grain_of block.name + length_of block)
     at = run_of (grain_of block.name) (length_of block) h.0 h.1
+
     outside : IsOutside f (h.0 / 256) → ⊥
     outside (inl low) = let from = at.0 in let first = is.within.0 in omega (arith, low, from, first)
     outside (inr high) = let until = at.1 in let last = is.within.1 in omega (arith, high, until, last)
@@ -110,8 +111,11 @@ ends_none f es run a aligned p is none =
 -- ---- unbacks
 -- a live block that has a grain of the page touches it, and the other way round
 touches_by : (f : Profile) (es : List Event) → Run f es → (page x : ℕ) → x / 256 ≡ page → Covers es x → (address : ℕ) × (touches (live_in es address) page ≡ true)
-touches_by f es run page x on c = (c.address, ap (λ o. touches o page) c.lives ∙ (ap (λ n. meets_page (n / 16) (length_of c.live.block) page) (lives_where f es run c.address c.live c.lives)
-    ∙ (ap (meets_page (c.address / 16) (length_of c.live.block)) (sym on) ∙ run_meets (c.address / 16) (length_of c.live.block) x c.has)))
+touches_by f es run page x on c = (
+  c.address,
+  ap (λ o. touches o page) c.lives ∙ (ap (λ n. meets_page (n / 16) (length_of c.live.block) page) (lives_where f es run c.address c.live c.lives)
+      ∙ (ap (meets_page (c.address / 16) (length_of c.live.block)) (sym on) ∙ run_meets (c.address / 16) (length_of c.live.block) x c.has)),
+)
 
 grain_met : (g n page : ℕ) → 0 < n → meets_page g n page ≡ true → (x : ℕ) × (in_run g n x ≡ true) × (256 * page ≤ x) × (x < 256 * page + 256)
 grain_met g n page some h =

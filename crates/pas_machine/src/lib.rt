@@ -6,11 +6,13 @@
 
 pub mod fault;
 pub mod laws;
-pub mod machine;
 mod looking;
+pub mod machine;
 mod places;
 mod reasons;
 mod stepping;
+#[cfg(test)]
+mod tests;
 
 pub use fault::{Illegal, StepFault};
 pub use machine::Machine;

@@ -182,6 +182,10 @@ impl Machine {
             Why::Ended => has_ended,
             Why::NoBlock => !has_ended && self.live_block(name).is_none(),
         };
-        if is_true { None } else { Some(Illegal::WrongReason) }
+        if is_true {
+            None
+        } else {
+            Some(Illegal::WrongReason)
+        }
     }
 }

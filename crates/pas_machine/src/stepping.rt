@@ -20,7 +20,11 @@ impl Machine {
         ensures steps { Steps self.old self.new event.now result }
     {
         match *event {
-            Event::Deed { page, directory, .. } => self.deed(page, directory),
+            Event::Deed {
+                page,
+                directory,
+                ..
+            } => self.deed(page, directory),
             Event::Back { page, .. } => self.back(page),
             Event::Unback { page, epoch, .. } => self.unback(page, epoch),
             Event::Give { block, .. } => self.give(block),
@@ -78,7 +82,12 @@ impl Machine {
             block: Some(block),
             gives: gives + 1,
         };
-        cover(&mut self.covered, first, first + block.grains() as usize, true);
+        cover(
+            &mut self.covered,
+            first,
+            first + block.grains() as usize,
+            true,
+        );
         Ok(())
     }
 

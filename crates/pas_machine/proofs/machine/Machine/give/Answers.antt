@@ -11,13 +11,16 @@ pub returns-in-Some-clause-steps : goal.returns-in-Some-clause-steps
 returns-in-Some-clause-steps c k = (refl, c.in-Some.ensures.verdict k)
 
 pub returns-then-gives-clause-steps : goal.returns-then-gives-clause-steps
-returns-then-gives-clause-steps c k = (refl, λ es shows.
-    let f = c.args.self.now.profile in
-    let block = c.args.block in
-    let inside = c.in_default.ensures.inside refl in
-    let read = rw c.grain-first.ensures at c.index.ensures in
-    let p = place_at f _ _ _ es shows block inside c.args.self.now.places.len c.args.self.now.places.ok.0 c.args.self.now.places_sized c.index.result.now read in
-    (admits_of f es (Event.Give k block) (c.in_default.ensures.verdict k es shows), sym (gives_are es (address_of block.name) inside.whole.aligned c.index.result.now p) ∙ c.if-gives.true))
+returns-then-gives-clause-steps c k = (
+  refl,
+  λ es shows.
+      let f = c.args.self.now.profile in
+      let block = c.args.block in
+      let inside = c.in_default.ensures.inside refl in
+      let read = rw c.grain-first.ensures at c.index.ensures in
+      let p = place_at f _ _ _ es shows block inside c.args.self.now.places.len c.args.self.now.places.ok.0 c.args.self.now.places_sized c.index.result.now read in
+      (admits_of f es (Event.Give k block) (c.in_default.ensures.verdict k es shows), sym (gives_are es (address_of block.name) inside.whole.aligned c.index.result.now p) ∙ c.if-gives.true),
+)
 
 pub invariant_of-self-clause-shown : goal.invariant_of-self-clause-shown
 invariant_of-self-clause-shown c = shown_after c.args.self.now.profile _ _ _ _ _ _ (λ es. Event.Give 0 c.args.block) (λ es shows.

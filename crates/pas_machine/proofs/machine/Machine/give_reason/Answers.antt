@@ -14,7 +14,7 @@ returns-then-lacks_deed-clause-verdict c k es shows =
     record {
       applies = verdict.lacks_deed f _ _ _ es shows k block is some;
       others = give_before f es k block 4 (λ _. inside_never f block is) (λ _ h. let lt = c.if-block-self.false in omega (arith, h, lt)) (λ lt. absurd (omega (arith, lt))) (λ lt. absurd (omega (arith, lt)))
-        (λ lt. absurd (omega (arith, lt))) (λ lt. absurd (omega (arith, lt)));
+          (λ lt. absurd (omega (arith, lt))) (λ lt. absurd (omega (arith, lt)));
     }
 
 pub returns-then-lacks_backing-clause-verdict : goal.returns-then-lacks_backing-clause-verdict
@@ -27,7 +27,7 @@ returns-then-lacks_backing-clause-verdict c k es shows =
     record {
       applies = verdict.lacks_backing f _ _ _ es shows k block is some;
       others = give_before f es k block 6 (λ _. inside_never f block is) (λ _ h. let lt = c.if-block-self.false in omega (arith, h, lt)) (λ _. verdict.has_deeds f _ _ _ es shows k block is deeds) (λ lt. absurd (omega (arith, lt)))
-        (λ lt. absurd (omega (arith, lt))) (λ lt. absurd (omega (arith, lt)));
+          (λ lt. absurd (omega (arith, lt))) (λ lt. absurd (omega (arith, lt)));
     }
 
 pub returns-then-is_some_covered-clause-verdict : goal.returns-then-is_some_covered-clause-verdict
@@ -41,7 +41,7 @@ returns-then-is_some_covered-clause-verdict c k es shows =
     record {
       applies = verdict.lives_there f _ _ _ es shows k block is some;
       others = give_before f es k block 7 (λ _. inside_never f block is) (λ _ h. let lt = c.if-block-self.false in omega (arith, h, lt)) (λ _. verdict.has_deeds f _ _ _ es shows k block is deeds)
-        (λ _. verdict.has_backing f _ _ _ es shows k block is backed) (λ lt. absurd (omega (arith, lt))) (λ lt. absurd (omega (arith, lt)));
+          (λ _. verdict.has_backing f _ _ _ es shows k block is backed) (λ lt. absurd (omega (arith, lt))) (λ lt. absurd (omega (arith, lt)));
     }
 
 pub returns-then-index-block-clause-verdict : goal.returns-then-index-block-clause-verdict
@@ -57,7 +57,7 @@ returns-then-index-block-clause-verdict c k es shows =
     record {
       applies = λ same. c.if-index-block.true (gives_are es (address_of block.name) is.whole.aligned c.index.result.now p ∙ sym same);
       others = give_before f es k block 9 (λ _. inside_never f block is) (λ _ h. let lt = c.if-block-self.false in omega (arith, h, lt)) (λ _. verdict.has_deeds f _ _ _ es shows k block is deeds)
-        (λ _. verdict.has_backing f _ _ _ es shows k block is backed) (λ _. verdict.is_clear f _ _ _ es shows k block is clear) (λ lt. absurd (omega (arith, lt)));
+          (λ _. verdict.has_backing f _ _ _ es shows k block is backed) (λ _. verdict.is_clear f _ _ _ es shows k block is clear) (λ lt. absurd (omega (arith, lt)));
     }
 
 pub returns-clause-verdict : goal.returns-clause-verdict
