@@ -1,0 +1,53 @@
+-- From what a replay of a generated trace shows to the summary that is written.
+use Rattle.std.proofs.Common.{◌≡◌, ℕ, ◌⊎◌, List, [], ◌++◌, append_assoc, Option, ap, sym, ◌∙◌, subst, inl, inr, arith}
+use Rattle.std.specs.Prelude.{count_by}
+use Rattle.pas_steps.specs.Lists.{visible}
+use Rattle.pas_steps.specs.declared.state.State.{State}
+use Rattle.pas_trace.specs.Plans.{IsPlanOf}
+use Rattle.pas_trace.specs.declared.plan.Plan.{Plan}
+use Rattle.pas_generate.specs.Traces.{trace_text}
+use Rattle.pas_report.specs.Counts.{totals_by_words}
+use Rattle.pas_report.specs.declared.record.Record.{Record}
+use Rattle.pas_io.specs.Told.{Tells}
+use Rattle.pas_top.specs.Summaries.{line_text, summary_text}
+use Rattle.pas_top.specs.Generating.{IsSummarized}
+use Rattle.pas_top.specs.Generated.{Generates}
+use Rattle.pas_top.specs.Outcomes.{IsShowing}
+use Rattle.pas_top.specs.Outputs.{GenComesTo, IsGen, IsOutput, IsCutOff}
+use Rattle.pas_top.proofs.Headline.{totals_are}
+use Rattle.pas_top.proofs.Statuses.{cut_off}
+
+-- ---- lines that were added one after the other
+pub one_more : (b b' l r x : List ℕ) → b' ≡ b ++ l → x ≡ b' ++ r → x ≡ b ++ (l ++ r)
+one_more b b' l r x e h = h ∙ (ap (λ (s : List ℕ). s ++ r) e ∙ append_assoc b l r)
+
+pub counted : (b b' words r x : List ℕ) (n m : ℕ) → b' ≡ b ++ line_text words n → n ≡ m → x ≡ b' ++ r → x ≡ b ++ (line_text words m ++ r)
+counted b b' words r x n m e same h = one_more b b' (line_text words m) r x (e ∙ ap (λ k. b ++ line_text words k) same) h
+
+-- ---- the summary
+pub summarized : (seed ops threads pages : ℕ) (bytes : List ℕ) (records : List Record) (state : State) (text : List ℕ) → IsShowing bytes records state → bytes ≡ trace_text seed ops threads pages
+    → text ≡ summary_text ops records (totals_by_words state) → IsSummarized seed ops threads pages text
+summarized seed ops threads pages bytes records state text is from text_is = record {
+  plan = is.plan;
+  read = subst (λ (t : List ℕ). IsPlanOf t is.plan) from is.read;
+  built = is.built;
+  whole = is.shows.whole;
+  records = records;
+  replay = is.shows.replay;
+  text_is = text_is ∙ ap (summary_text ops records) (totals_are is.read is.shows);
+}
+
+-- ---- a call that told it
+gen_not_four : (seed ops threads pages status : ℕ) (text : List ℕ) → GenComesTo seed ops threads pages status text → status ≡ 4 → ⊥
+gen_not_four seed ops threads pages status text comes four = elim comes [
+  | inl a ↦ let zero : status ≡ 0 = a.0 in omega (arith, zero, four)
+  | inr b ↦ let seven : status ≡ 7 = b.0 in omega (arith, seven, four)
+]
+
+pub gen_cut_off : (words : List (List ℕ)) (told before after : Option (List ℕ)) (faults faults' : ℕ) (seed ops threads pages answer : ℕ) → IsGen words seed ops threads pages
+    → Generates before after faults faults' seed ops threads pages answer → answer ≡ 4 → IsCutOff words told before after faults faults'
+gen_cut_off words told before after faults faults' seed ops threads pages answer asked generates four = elim generates [
+  | inl five ↦ absurd (omega (arith, five, four))
+  | inr (status, text, comes, tells) ↦ cut_off words told before after faults faults' text status answer tells
+    (inr (inr (record { seed = seed; ops = ops; threads = threads; pages = pages; asked = asked; comes = comes }))) (gen_not_four seed ops threads pages status text comes) four
+]
