@@ -36,7 +36,7 @@ gen_words words d0 d1 d2 d3 d4 r some few is t seed ops threads pages numbers = 
   t = (get_or words 3 d3).now;
   p = (get_or words 4 d4).now;
   words_are = five_words words d0 d1 d2 d3 d4 some few
-    ∙ ap (λ (x : List ℕ). x ∷ (get_or words 1 d1).now ∷ (get_or words 2 d2).now ∷ (get_or words 3 d3).now ∷ (get_or words 4 d4).now ∷ []) (is_text (get_or words 0 d0).now (codes "gen") r is t);
+      ∙ ap (λ (x : List ℕ). x ∷ (get_or words 1 d1).now ∷ (get_or words 2 d2).now ∷ (get_or words 3 d3).now ∷ (get_or words 4 d4).now ∷ []) (is_text (get_or words 0 d0).now (codes "gen") r is t);
   numbers = numbers;
 }
 

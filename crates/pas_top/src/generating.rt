@@ -3,10 +3,10 @@ ghost use Rattle.std.specs.Prelude.{ℕ, ◌≡◌, ◌⊎◌};
 ghost use Rattle.pas_io.specs.Told.{Tells};
 ghost use Rattle.pas_top.specs.Generated.{Generates};
 
+use crate::NOT_BUILT;
 use crate::job::Job;
 use crate::outcome::{Outcome, outcome_of, tell};
 use crate::summary::summary_of;
-use crate::NOT_BUILT;
 use pas_generate::trace_of;
 use pas_io::Sink;
 use std::alloc::Global;

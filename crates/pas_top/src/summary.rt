@@ -35,11 +35,17 @@ impl Tally {
             Tally::Freed => matches!(shown, Record::Event(Event::End { .. })),
             Tally::Ended => matches!(
                 shown,
-                Record::Event(Event::Reject { why: Why::Ended, .. })
+                Record::Event(Event::Reject {
+                    why: Why::Ended,
+                    ..
+                })
             ),
             Tally::NoBlock => matches!(
                 shown,
-                Record::Event(Event::Reject { why: Why::NoBlock, .. })
+                Record::Event(Event::Reject {
+                    why: Why::NoBlock,
+                    ..
+                })
             ),
             Tally::NoSpace => matches!(shown, Record::Said(_, Said::NoSpace { .. })),
             Tally::Held => matches!(shown, Record::Said(_, Said::Held { .. })),

@@ -76,7 +76,12 @@ fn job_of(seed: &str, ops: &str, threads: &str, pages: &str) -> Option<Job>
     let ops = number(ops.as_bytes())?;
     let threads = number(threads.as_bytes())?;
     let pages = number(pages.as_bytes())?;
-    let in_range = 1 <= ops && ops <= 200_000 && 1 <= threads && threads <= 16 && 2 <= pages && pages <= 4096;
+    let in_range = 1 <= ops
+        && ops <= 200_000
+        && 1 <= threads
+        && threads <= 16
+        && 2 <= pages
+        && pages <= 4096;
     if !in_range {
         return None;
     }
@@ -92,9 +97,7 @@ fn job_of(seed: &str, ops: &str, threads: &str, pages: &str) -> Option<Job>
 fn parsed<'a>(alloc: Global, words: &'a [String]) -> Result<ArgMatches<'a>, Error> {
     let mut generate = Command::new(alloc, "gen").disable_help_flag(true);
     for name in ["SEED", "OPS", "THREADS", "PAGES"] {
-        let number = Arg::new(alloc, name)
-            .required(true)
-            .action(ArgAction::Set);
+        let number = Arg::new(alloc, name).required(true).action(ArgAction::Set);
         generate = generate.arg(number)?;
     }
     let order = Command::new(alloc, "order").disable_help_flag(true);

@@ -11,7 +11,13 @@ pub returns-in-Ok-Replayed-clause-told : goal.returns-in-Ok-Replayed-clause-told
 returns-in-Ok-Replayed-clause-told g c =
     let job = c.args.job in
     let text_is = c.as_str.ensures.value ∙ (c.summary_of-summary.ensures ∙ ap (λ (rs : List Record). summary_text job.ops rs (totals_by_words c.in-Ok-Replayed.state)) c.as_slice.ensures) in
-    inr (0, c.as_str.result.now,
-        inl (refl, summarized job.seed job.ops job.threads job.pages c.in-Ok.text.items (records_in c.in-Ok-Replayed.records) c.in-Ok-Replayed.state c.as_str.result.now
-        (subst (IsOutcome c.in-Ok.text.items) c.in-Ok-Replayed.field-0-is c.in-Ok-Replayed.ensures) c.in-Ok.ensures.text text_is),
-        c.tell.ensures)
+    inr (
+      0,
+      c.as_str.result.now,
+      inl (
+        refl,
+        summarized job.seed job.ops job.threads job.pages c.in-Ok.text.items (records_in c.in-Ok-Replayed.records) c.in-Ok-Replayed.state c.as_str.result.now
+            (subst (IsOutcome c.in-Ok.text.items) c.in-Ok-Replayed.field-0-is c.in-Ok-Replayed.ensures) c.in-Ok.ensures.text text_is,
+      ),
+      c.tell.ensures,
+    )
