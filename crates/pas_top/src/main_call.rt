@@ -5,6 +5,7 @@ ghost use Rattle.pas_io.specs.Told.{Rose};
 ghost use Rattle.pas_trace.specs.Plans.{IsPlanOf, parsed};
 ghost use Rattle.pas_trace.specs.declared.plan.Plan.{Plan};
 ghost use Rattle.pas_trace.specs.declared.fault.TraceFault.{TraceFault};
+ghost use Rattle.pas_generate.specs.Traces.{trace_text};
 ghost use Rattle.pas_answers.specs.Replays.{IsBuilt};
 ghost use Rattle.pas_top.specs.Outputs.{most_bytes, texts_of, IsOrder, IsGen, IsAccepted, IsStatus, IsWriting, IsWritten, HasFailed, IsCutOff, IsUnbuilt};
 
@@ -41,6 +42,9 @@ pub fn pas_main<S: Source, K: Sink>(
     ensures usage { (IsAccepted (texts_of words.now) → ⊥) → (source.new ≡ source.old) × ((result ≡ 2) ⊎ (result ≡ 4)) }
     ensures generated { (seed ops threads pages : ℕ) → IsGen (texts_of words.now) seed ops threads pages
         → (source.new ≡ source.old) × ((result ≡ 0) ⊎ (result ≡ 7) ⊎ (result ≡ 4) ⊎ (result ≡ 5)) }
+    ensures summed { (seed ops threads pages : ℕ) → IsGen (texts_of words.now) seed ops threads pages
+        → (plan : Plan) → IsPlanOf (trace_text seed ops threads pages) plan → IsBuilt plan
+        → (Rose (K.faults sink.old) (K.faults sink.new) → ⊥) → (result ≡ 0) ⊎ (result ≡ 5) }
     ensures taken { (bytes : List ℕ) → S.rest source.old ≡ Some bytes → Takes bytes (S.rest source.new) (most_bytes + 1) }
     ensures source_failed { result ≡ 3 → HasFailed (S.rest source.old) (S.rest source.new) (S.faults source.old) (S.faults source.new) × (sink.new ≡ sink.old) }
     ensures sink_failed { result ≡ 4 → IsCutOff (texts_of words.now) (S.rest source.old) (K.held sink.old) (K.held sink.new) (K.faults sink.old) (K.faults sink.new) }

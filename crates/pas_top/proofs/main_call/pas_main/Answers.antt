@@ -2,7 +2,7 @@ use Rattle.std.proofs.Common.{rules, refl, ◌∙◌, subst, inl, inr, arith}
 use Rattle.pas_io.specs.Inputs.{IsInput}
 use Rattle.pas_top.specs.Outcomes.{outcome_status, outcome_text}
 use Rattle.pas_top.specs.Calls.{IsCall, IsMisread}
-use Rattle.pas_top.proofs.Summing.{gen_cut_off}
+use Rattle.pas_top.proofs.Summing.{gen_cut_off, gen_summed}
 use Rattle.pas_top.specs.Outputs.{IsOrder, IsAccepted, most_bytes, texts_of, usage_text, too_long_text}
 use Rattle.pas_top.proofs.Statuses.{cut_off, not_four, written}
 use Rattle.pas_top.proofs.Headline.{can_write, outcome_output, status_not_four}
@@ -43,3 +43,7 @@ returns-in-Ok-clause-sink_failed g c =
     (λ bytes told. let input = subst (IsInput most_bytes bytes) c.in-Ok-Whole.field-0-is (c.in-Ok-Whole.ensures.input bytes told) in input)
     c.in-Ok.ensures)
     (status_not_four c.in-Ok.outcome)
+
+pub returns-in-Ok-Gen-clause-summed : goal.returns-in-Ok-Gen-clause-summed
+returns-in-Ok-Gen-clause-summed g c = gen_summed (texts_of c.args.words.now) _ _ _ _ _ _ _ _ c.generate.result
+    (subst (IsCall (texts_of c.args.words.now)) c.in-Ok-Gen.field-0-is c.in-Ok-Gen.ensures.call) c.generate.ensures.told
