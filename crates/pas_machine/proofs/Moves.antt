@@ -1,5 +1,5 @@
 -- What a machine keeps after an event that may come next is what the events lead to.
-use Rattle.std.proofs.Common.{◌≡◌, ◌≢◌, ℕ, ◌+◌, ◌*◌, ◌/◌, ◌%◌, ◌<◌, ◌≤◌, ◌==◌, Bool, true, false, if◌then◌else◌, List, [], ◌∷◌, Option, Some, None, length, get_or, set, max, refl, ap, sym, ◌∙◌, subst, arith, inl, inr, get_or-set_same, get_or-set_other}
+use Rattle.std.proofs.Common.{◌≡◌, ◌≢◌, ℕ, ◌+◌, ◌*◌, ◌/◌, ◌%◌, ◌<◌, ◌≤◌, ◌==◌, Bool, true, false, if◌then◌else◌, List, ◌∷◌, Some, None, length, get_or, set, max, refl, ap, sym, ◌∙◌, subst, arith, inl, inr, get_or-set_same, get_or-set_other}
 use Rattle.std.proofs.lemmas.Bool.{false≢true, eqb-true, eq-eqb}
 use Rattle.std.proofs.Math.Logic.{∥∥₁_map}
 use Rattle.std.proofs.lemmas.Bool.Decides.{eqb_tells, leb_tells, nat_tests}
@@ -13,9 +13,8 @@ use Rattle.pas_profile.specs.Runs.{in_run, meets_page, address_of, grain_of, len
 use Rattle.pas_profile.proofs.Runs.{run_of, to_run}
 use Rattle.pas_machine.specs.State.{Live, deed_in, backed_in, live_in, gives_in, epoch_in, touches}
 use Rattle.pas_machine.specs.Machine.{Run, Admits, MayGive, IsPlace}
-use Rattle.pas_machine.specs.Reasons.{Applies, Covers}
-use Rattle.pas_machine.specs.Places.{Shows, IsCovered, IsEach, IsInside, IsWithin, IsLiveBlock, blank_page, blank_place, block_of, ended_at, page_in, place_in, grains_of}
-use Rattle.pas_machine.specs.declared.fault.Illegal.{Illegal}
+use Rattle.pas_machine.specs.Reasons.{Covers}
+use Rattle.pas_machine.specs.Places.{Shows, IsCovered, IsEach, IsLiveBlock, blank_page, blank_place, block_of, ended_at, page_in, place_in, grains_of}
 use Rattle.pas_machine.specs.declared.places.Page.{Page}
 use Rattle.pas_machine.specs.declared.places.Place.{Place}
 use Rattle.pas_machine.proofs.LiveBlocks.{lives_where, live_long, live_apart, no_block}

@@ -1,5 +1,5 @@
 -- What holds of each number of a range.
-use Rattle.std.proofs.Common.{ℕ, ◌≡◌, ◌≢◌, ◌+◌, ◌<◌, ◌≤◌, subst, sym, inl, inr, arith}
+use Rattle.std.proofs.Common.{ℕ, ◌≢◌, ◌+◌, subst, inl, inr, arith}
 use Rattle.std.proofs.lemmas.Bool.Decides.{eqb_tells}
 use Rattle.pas_machine.specs.Places.{IsEach}
 

@@ -1,7 +1,6 @@
 -- That a reason applies exactly where an event may not come next, and that there is one first reason.
 use Rattle.std.proofs.Common.{◌≡◌, ◌≢◌, ℕ, ◌+◌, ◌/◌, ◌%◌, ◌<◌, ◌≤◌, ◌⊎◌, ◌==◌, Bool, true, false, if◌then◌else◌, List, [], ◌∷◌, Option, Some, None, refl, ap, sym, ◌∙◌, subst, arith, inl, inr}
-use Rattle.std.specs.Prelude.{eqb}
-use Rattle.std.proofs.lemmas.Bool.{false≢true, eqb-true}
+use Rattle.std.proofs.lemmas.Bool.{false≢true}
 use Rattle.std.proofs.lemmas.Bool.Decides.{eqb_tells, leb_tells}
 use Rattle.pas_profile.specs.declared.profile.Profile.{Profile}
 use Rattle.pas_profile.specs.declared.directory.Directory.{Directory}
@@ -13,8 +12,8 @@ use Rattle.pas_profile.specs.Profiles.{IsPage}
 use Rattle.pas_profile.specs.Runs.{in_run, address_of, grain_of, length_of}
 use Rattle.pas_profile.proofs.Runs.{first_of_run}
 use Rattle.pas_machine.specs.State.{Live, deed_in, backed_in, live_in, gives_in, ends_in, epoch_in, touches}
-use Rattle.pas_machine.specs.Machine.{Run, Admits, MayGive, Bears, IsLive, IsReason, IsPlace, IsUntouched, IsClear}
-use Rattle.pas_machine.specs.Reasons.{reason_number, Applies, IsFirst, IsOutside, IsNoPlace, IsNoRun, IsGrainOf, HasDeedOf, Covers}
+use Rattle.pas_machine.specs.Machine.{Run, Admits, MayGive, Bears, IsLive, IsReason, IsPlace}
+use Rattle.pas_machine.specs.Reasons.{reason_number, Applies, IsFirst, IsOutside, IsNoPlace, IsNoRun, IsGrainOf, HasDeedOf}
 use Rattle.pas_machine.specs.declared.fault.Illegal.{Illegal}
 
 -- ---- what isn't otherwise

@@ -1,5 +1,5 @@
 -- The first reason of an event, by what a machine keeps.
-use Rattle.std.proofs.Common.{◌≡◌, ◌≢◌, ℕ, ◌+◌, ◌-◌, ◌*◌, ◌/◌, ◌%◌, ◌<◌, ◌≤◌, ◌⊎◌, Bool, true, false, if◌then◌else◌, List, [], ◌∷◌, Option, Some, None, length, get_or, max, refl, ap, sym, ◌∙◌, subst, arith, inl, inr}
+use Rattle.std.proofs.Common.{◌≡◌, ℕ, ◌+◌, ◌-◌, ◌*◌, ◌/◌, ◌%◌, ◌<◌, ◌≤◌, Bool, true, false, List, Option, Some, None, length, get_or, refl, ap, sym, ◌∙◌, subst, arith, inl, inr}
 use Rattle.std.specs.Prelude.{nat_lt, MatchBool}
 use Rattle.std.proofs.lemmas.Bool.{false≢true}
 use Rattle.std.proofs.Math.Logic.{∥∥₁_elim}
@@ -7,17 +7,16 @@ use Rattle.std.specs.Coded.{le_prop}
 use Rattle.std.proofs.lemmas.List.{get_or_default}
 use Rattle.std.proofs.lemmas.Bool.Decides.{leb_tells, nat_tests}
 use Rattle.pas_profile.specs.declared.profile.Profile.{Profile}
-use Rattle.pas_profile.specs.declared.directory.Directory.{Directory}
 use Rattle.pas_profile.specs.declared.name.Name.{Name}
 use Rattle.pas_profile.specs.declared.name.Block.{Block}
 use Rattle.pas_profile.specs.declared.event.Event.{Event}
 use Rattle.pas_profile.specs.Profiles.{IsPage}
 use Rattle.pas_profile.specs.Runs.{in_run, meets_page, address_of, grain_of, length_of}
 use Rattle.pas_profile.proofs.Runs.{run_of, to_run, run_meets}
-use Rattle.pas_machine.specs.State.{Live, deed_in, backed_in, live_in, gives_in, ends_in, epoch_in, touches}
+use Rattle.pas_machine.specs.State.{Live, backed_in, live_in, gives_in, ends_in, epoch_in, touches}
 use Rattle.pas_machine.specs.Laws.{IsCounted}
 use Rattle.pas_machine.specs.Machine.{Run}
-use Rattle.pas_machine.specs.Reasons.{reason_number, Applies, IsFirst, IsOutside, IsNoRun, IsGrainOf, HasDeedOf, Covers}
+use Rattle.pas_machine.specs.Reasons.{reason_number, Applies, IsFirst, IsOutside, IsNoRun, IsGrainOf, Covers}
 use Rattle.pas_machine.specs.Places.{Shows, IsLiveBlock, IsCovered, IsSome, IsEach, IsOfHeap, IsWhole, IsWithin, IsInside, blank_page, blank_place, block_of, page_in, place_in, grains_of}
 use Rattle.pas_machine.specs.declared.fault.Illegal.{Illegal}
 use Rattle.pas_machine.specs.declared.places.Page.{Page}

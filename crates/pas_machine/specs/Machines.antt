@@ -1,5 +1,5 @@
 -- What a machine stands for, and what a step of it does.
-use Rattle.std.specs.Prelude.{ℕ, ◌-◌, ◌^◌, ◌≡◌, List, ◌∷◌, Result, Ok, Err}
+use Rattle.std.specs.Prelude.{◌-◌, ◌^◌, ◌≡◌, List, ◌∷◌, Result, Ok, Err}
 use Rattle.pas_profile.specs.declared.profile.Profile.{Profile}
 use Rattle.pas_profile.specs.declared.event.Event.{Event}
 use Rattle.pas_profile.specs.Runs.{address_of}

@@ -1,4 +1,4 @@
-use Rattle.std.proofs.Common.{ℕ, ◌≡◌, ◌<◌, ◌≤◌, false, get_or}
+use Rattle.std.proofs.Common.{◌≡◌, false, get_or}
 use Rattle.pas_machine.specs.Places.{IsEach}
 use Rattle.pas_machine.proofs.looking.is_some_covered.Given as goal
 

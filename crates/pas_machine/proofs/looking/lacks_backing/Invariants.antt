@@ -1,4 +1,4 @@
-use Rattle.std.proofs.Common.{ℕ, ◌≡◌, ◌<◌, ◌≤◌, true, get_or}
+use Rattle.std.proofs.Common.{◌≡◌, true, get_or}
 use Rattle.pas_machine.specs.Places.{blank_page, IsEach}
 use Rattle.pas_machine.proofs.looking.lacks_backing.Given as goal
 

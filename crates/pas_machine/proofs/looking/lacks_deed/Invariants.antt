@@ -1,4 +1,4 @@
-use Rattle.std.proofs.Common.{ℕ, ◌<◌, ◌≤◌, get_or}
+use Rattle.std.proofs.Common.{get_or}
 use Rattle.pas_machine.specs.Places.{blank_page, IsOfHeap, IsEach}
 use Rattle.pas_machine.proofs.looking.lacks_deed.Given as goal
 

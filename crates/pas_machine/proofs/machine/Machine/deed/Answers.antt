@@ -1,8 +1,6 @@
-use Rattle.std.proofs.Common.{ℕ, ◌≡◌, ◌≤◌, ◌<◌, List, length, refl, arith}
+use Rattle.std.proofs.Common.{◌≤◌, refl, arith}
 use Rattle.pas_profile.specs.declared.event.Event.{Event}
 use Rattle.pas_machine.specs.Machine.{Admits}
-use Rattle.pas_machine.specs.Machines.{StandsFor}
-use Rattle.pas_machine.specs.Places.{Shows}
 use Rattle.pas_machine.proofs.Refusals.{admits_of}
 use Rattle.pas_machine.proofs.Verdicts.{page_is}
 use Rattle.pas_machine.proofs.Moves.{deed_shows, shown_after}

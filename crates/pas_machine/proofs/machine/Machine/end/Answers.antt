@@ -1,4 +1,4 @@
-use Rattle.std.proofs.Common.{ℕ, ◌/◌, ◌≡◌, ◌≤◌, ◌<◌, List, length, refl, arith}
+use Rattle.std.proofs.Common.{◌/◌, ◌≤◌, ◌<◌, length, refl, arith}
 use Rattle.pas_profile.specs.declared.event.Event.{Event}
 use Rattle.pas_profile.specs.Runs.{address_of, grain_of}
 use Rattle.pas_machine.proofs.Verdicts.{place_is}

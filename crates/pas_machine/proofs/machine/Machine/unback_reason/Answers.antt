@@ -1,4 +1,4 @@
-use Rattle.std.proofs.Common.{◌≡◌, ℕ, ◌+◌, ◌*◌, ◌<◌, ◌≤◌, List, Bool, true, false, get_or, subst, sym, ◌∙◌, arith}
+use Rattle.std.proofs.Common.{◌≡◌, ◌+◌, ◌*◌, ◌<◌, ◌≤◌, List, Bool, true, false, get_or, subst, sym, ◌∙◌, arith}
 use Rattle.pas_machine.specs.declared.places.Page.{Page}
 use Rattle.pas_machine.specs.Places.{IsSome, IsEach}
 use Rattle.pas_machine.proofs.Verdicts.{page_is, unback_lives, unback_young, unback_may}
