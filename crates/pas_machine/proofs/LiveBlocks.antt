@@ -93,7 +93,7 @@ counted_end true (Some b) gives ends some before = before.0
 counted_end false old gives ends some before = before
 
 -- a block may be given only where none lives
-no_block : (f : Profile) (es : List Event) (block : Block) (a : ℕ) (o : Option Live) → live_in es a ≡ o → MayGive f es block → address_of block.name ≡ a
+pub no_block : (f : Profile) (es : List Event) (block : Block) (a : ℕ) (o : Option Live) → live_in es a ≡ o → MayGive f es block → address_of block.name ≡ a
     → ((b : Live) → o ≡ Some b → 0 < length_of b.block) → o ≡ None
 no_block f es block a None is may e some = refl
 no_block f es block a (Some b) is may e some =

@@ -1,9 +1,11 @@
 //! What every run of the machine keeps. Each law is the contract of an empty function.
-ghost use Rattle.std.specs.Prelude.{List};
+ghost use Rattle.std.specs.Prelude.{List, ◌≡◌, ◌↔◌};
 ghost use Rattle.pas_profile.specs.declared.profile.Profile.{Profile};
 ghost use Rattle.pas_profile.specs.declared.event.Event.{Event};
-ghost use Rattle.pas_machine.specs.Machine.{Run};
+ghost use Rattle.pas_machine.specs.Machine.{Run, Admits};
 ghost use Rattle.pas_machine.specs.Laws.{IsWhere, AreApart, AreCounted, AreBorne};
+ghost use Rattle.pas_machine.specs.Reasons.{Applies, IsFirst};
+ghost use Rattle.pas_machine.specs.declared.fault.Illegal.{Illegal};
 
 /// Memory that one block has is never part of another: two blocks that live at different addresses have no grain in common.
 /// A block lives at its own address.
@@ -24,4 +26,11 @@ pub fn blocks_are_borne()
 #[tactic(auto, using(crate::proofs::LiveBlocks::all_counted))]
 pub fn blocks_are_counted()
     ensures { (f : Profile) (es : List Event) → Run f es → AreCounted es }
+{}
+
+/// What may come next and why an event may not are said apart, and agree: an event may come next in a run exactly where none of
+/// the eleven reasons applies to it. Where some apply, one of them is the first.
+pub fn reasons_are_complete()
+    ensures none { (f : Profile) (es : List Event) → Run f es → (e : Event) → ((reason : Illegal) → Applies f es e reason → ⊥) ↔ Admits f es e }
+    ensures one { (f : Profile) (es : List Event) (e : Event) (reason other : Illegal) → IsFirst f es e reason → IsFirst f es e other → reason ≡ other }
 {}

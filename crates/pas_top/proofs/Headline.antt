@@ -7,12 +7,14 @@ use Rattle.pas_steps.specs.States.{profile_of}
 use Rattle.pas_steps.specs.declared.state.State.{State}
 use Rattle.pas_trace.specs.Plans.{IsPlanOf}
 use Rattle.pas_trace.specs.declared.plan.Plan.{Plan}
-use Rattle.pas_report.specs.Counts.{report_by_words}
+use Rattle.pas_core.proofs.MachineRuns.{agrees}
+use Rattle.pas_report.specs.Counts.{report_by_words, totals_by_words}
 use Rattle.pas_report.specs.Lines.{lines_of}
 use Rattle.pas_report.specs.Marks.{marks_after}
-use Rattle.pas_report.specs.Reports.{report_text}
+use Rattle.pas_report.specs.Reports.{report_text, total_line}
 use Rattle.pas_report.specs.Rests.{AreStamped, HasWords}
 use Rattle.pas_report.specs.declared.record.Record.{Record}
+use Rattle.pas_report.proofs.Agreeing.{line_agrees}
 use Rattle.pas_report.proofs.ReportOfWords.{are_deed_words, nobody_holds, report_agrees}
 use Rattle.pas_answers.specs.Replays.{IsBuilt, Shows}
 use Rattle.pas_answers.specs.Ways.{Way}
@@ -43,6 +45,10 @@ module _ {bytes : List ℕ} {way : Way} {plan : Plan} {records : List Record} {s
       (nobody_holds (profile_of state) shows.whole valid_state legal_state (record { nobody = λ k g. (shows.replay.nothing k).grains g }))
       (subst (λ (f : Profile). AreStamped f shows.whole) (sym shows.profile) shows.replay.stamps)
       ∙ ap (λ (f : Profile). report_text f (visible shows.whole) (marks_after shows.whole)) shows.profile
+
+  -- the totals of a summary are the machine's
+  pub totals_are : totals_by_words state ≡ total_line plan.profile (visible shows.whole)
+  totals_are = line_agrees state shows.whole has_words (agrees (profile_of state) shows.whole valid_state legal_state) ∙ ap (λ (f : Profile). total_line f (visible shows.whole)) shows.profile
 
   -- WHAT EITHER WAY SHOWS is what is written
   pub shown_replayed : IsBuilt plan → IsReplayed way bytes (shown_text records state)
@@ -81,4 +87,4 @@ status_not_two Unbuilt two = omega (arith, two)
 pub outcome_output : (words : List (List ℕ)) (told : Option (List ℕ)) (read : List ℕ) (outcome : Outcome) → IsOrder words
     → ((bytes : List ℕ) → told ≡ Some bytes → (read ≡ bytes) × (length bytes ≤ most_bytes)) → IsOutcome read outcome → IsOutput words told (outcome_status outcome) (outcome_text outcome)
 outcome_output words told read outcome order whole is =
-    inr (order, status_not_two outcome, λ bytes tells. let input = whole bytes tells in comes_to bytes outcome input.1 (subst (λ (t : List ℕ). IsOutcome t outcome) input.0 is))
+    inr (inl (order, status_not_two outcome, λ bytes tells. let input = whole bytes tells in comes_to bytes outcome input.1 (subst (λ (t : List ℕ). IsOutcome t outcome) input.0 is)))

@@ -1,2 +1,4 @@
+pub mod Lists
 pub mod Statuses
 pub mod Headline
+pub mod Summing

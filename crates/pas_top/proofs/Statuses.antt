@@ -1,19 +1,8 @@
--- How a call ends: its words, what it wrote, and what status 4 says of a text that was cut off.
+-- How a call ends: what it wrote, and what status 4 says of a text that was cut off.
 use Rattle.std.proofs.Common.{◌≡◌, ℕ, ◌≤◌, ◌<◌, ◌⊎◌, Bool, List, [], ◌∷◌, ◌++◌, append_assoc, Option, IsTrue, Bor, get_or, length, ap, ◌∙◌, sym, subst, inl, inr, arith, nat_eq}
-use Rattle.std.proofs.lemmas.Slice.Eq.{slice_eq-Decides}
-use Rattle.std.proofs.lemmas.Bool.Decides.{Decides-eqb}
-use Rattle.std.specs.Cmp.Lexicographic.{pointwise}
 use Rattle.pas_io.specs.Told.{Tells, Writes, WritesFront}
 use Rattle.pas_io.proofs.Telling.{writes_more}
-use Rattle.pas_top.specs.Outputs.{texts_of, IsOutput, IsWriting, IsWritten, IsCutOff}
-
--- one word, which is or isn't the text
-pub only_word : (words : List (Bor (List ℕ))) (d : Bor (List ℕ)) (text : List ℕ) (r : Bool) → 1 ≤ length words → length words < 2 → r ≡ pointwise nat_eq (get_or words 0 d).now text → (IsTrue r → texts_of words ≡ text ∷ []) × (texts_of words ≡ text ∷ [] → IsTrue r)
-only_word [] d text r some few is = absurd (omega arith)
-only_word (word ∷ []) d text r some few is =
-    let decides = slice_eq-Decides Decides-eqb word.now text r is in
-    (λ t. ap (λ (x : List ℕ). x ∷ []) (decides.0 t), λ e. decides.1 (cc))
-only_word (word ∷ other ∷ words) d text r some few is = absurd (omega arith)
+use Rattle.pas_top.specs.Outputs.{IsOutput, IsWriting, IsWritten, IsCutOff}
 
 -- ---- a call that told a text for a status, which wasn't 4
 pub answered : (before after : Option (List ℕ)) (faults faults' : ℕ) (text : List ℕ) (status answer : ℕ) → Tells before after faults faults' text status answer → (answer ≡ status) ⊎ (answer ≡ 4)

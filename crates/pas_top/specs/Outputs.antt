@@ -1,6 +1,5 @@
 -- What the top call writes, for each status, and why.
-use Rattle.std.specs.Prelude.{ℕ, ◌<◌, ◌≤◌, ◌≡◌, ◌≢◌, ◌⊎◌, List, [], ◌∷◌, ◌++◌, Option, Some, Err, length, codes, map}
-use denote.Ref.{Bor}
+use Rattle.std.specs.Prelude.{ℕ, ◌<◌, ◌≤◌, ◌≡◌, ◌≢◌, ◌⊎◌, List, [], ◌∷◌, ◌++◌, Option, Some, Err, length, codes}
 use Rattle.pas_steps.specs.Lists.{Whole, visible}
 use Rattle.pas_trace.specs.Plans.{IsPlanOf, parsed}
 use Rattle.pas_trace.specs.declared.plan.Plan.{Plan}
@@ -13,7 +12,10 @@ use Rattle.pas_answers.specs.Replays.{IsBuilt, IsReplay}
 use Rattle.pas_answers.specs.Ways.{Way, InOrder}
 use Rattle.pas_io.specs.Inputs.{Takes}
 use Rattle.pas_io.specs.Told.{Rose, Writes, WritesFront}
+use Rattle.pas_generate.specs.Traces.{trace_text}
 use Rattle.pas_top.specs.Faults.{fault_text}
+use Rattle.pas_top.specs.Generating.{IsSummarized}
+pub use Rattle.pas_top.specs.Words.{texts_of, IsOrder, IsGen, IsAccepted}
 
 -- the most bytes of an input
 abbrev pub most_bytes : ℕ
@@ -36,16 +38,8 @@ pub record IsUnbuilt (bytes : List ℕ) : Type 0 where
   pub read : IsPlanOf bytes plan
   pub unbuilt : IsBuilt plan → ⊥
 
--- the texts of the words
-abbrev pub texts_of : List (Bor (List ℕ)) → List (List ℕ)
-texts_of words = map (λ w. w.now) words
-
--- the words are the one word `order`
-abbrev pub IsOrder : List (List ℕ) → Type 0
-IsOrder words = words ≡ codes "order" ∷ []
-
 abbrev pub usage_text : List ℕ
-usage_text = codes "usage: pas order\n"
+usage_text = codes "usage: pas order | pas gen SEED OPS THREADS PAGES\n"
 
 abbrev pub not_built_text : List ℕ
 not_built_text = codes "not built\n"
@@ -77,10 +71,23 @@ pub record IsTooLong (bytes text : List ℕ) : Type 0 where
 abbrev pub ComesTo : List ℕ → ℕ → List ℕ → Type 0
 ComesTo bytes status text = ((status ≡ 0) × IsTranscript bytes text) ⊎ ((status ≡ 1) × IsFaulty bytes text) ⊎ ((status ≡ 6) × IsTooLong bytes text) ⊎ ((status ≡ 7) × IsNotBuilt bytes text)
 
--- what a call with these words writes in full, with its status: the usage where the words are no accepted list, else another status and what the input
--- comes to, where the source tells it
+-- what a generated trace comes to, with the status and the text. 0: the summary of its replay; 7: it can't be replayed yet
+abbrev pub GenComesTo : ℕ → ℕ → ℕ → ℕ → ℕ → List ℕ → Type 0
+GenComesTo seed ops threads pages status text = ((status ≡ 0) × IsSummarized seed ops threads pages text) ⊎ ((status ≡ 7) × IsUnbuilt (trace_text seed ops threads pages) × (text ≡ not_built_text))
+
+-- the words ask for a generated trace, which comes to this
+pub record IsGenOutput (words : List (List ℕ)) (status : ℕ) (text : List ℕ) : Type 0 where
+  pub seed : ℕ
+  pub ops : ℕ
+  pub threads : ℕ
+  pub pages : ℕ
+  pub asked : IsGen words seed ops threads pages
+  pub comes : GenComesTo seed ops threads pages status text
+
+-- what a call with these words writes in full, with its status: the usage where the words are no accepted list; for `order` another status and what
+-- the input comes to, where the source tells it; for `gen` what the generated trace comes to
 abbrev pub IsOutput : List (List ℕ) → Option (List ℕ) → ℕ → List ℕ → Type 0
-IsOutput words told status text = ((IsOrder words → ⊥) × (status ≡ 2) × (text ≡ usage_text)) ⊎ (IsOrder words × (status ≢ 2) × ((bytes : List ℕ) → told ≡ Some bytes → ComesTo bytes status text))
+IsOutput words told status text = ((IsAccepted words → ⊥) × (status ≡ 2) × (text ≡ usage_text)) ⊎ (IsOrder words × (status ≢ 2) × ((bytes : List ℕ) → told ≡ Some bytes → ComesTo bytes status text)) ⊎ IsGenOutput words status text
 
 -- ---- what each status says. The sink told `before` and tells `after`
 abbrev pub IsWriting : ℕ → Type 0

@@ -1,14 +1,18 @@
 //! The top call: from the words and the bytes that come in to the bytes and the status that go out.
 #![tactic(auto)]
 
+mod generating;
+mod job;
 pub mod main_call;
 mod outcome;
+mod summary;
 #[cfg(test)]
 mod tests;
+mod words;
 
 pub use main_call::pas_main;
 
-const USAGE: &str = "usage: pas order\n";
+const USAGE: &str = "usage: pas order | pas gen SEED OPS THREADS PAGES\n";
 
 const NOT_BUILT: &str = "not built\n";
 

@@ -5,26 +5,30 @@ ghost use Rattle.pas_io.specs.Told.{Rose};
 ghost use Rattle.pas_trace.specs.Plans.{IsPlanOf, parsed};
 ghost use Rattle.pas_trace.specs.declared.plan.Plan.{Plan};
 ghost use Rattle.pas_trace.specs.declared.fault.TraceFault.{TraceFault};
+ghost use Rattle.pas_generate.specs.Traces.{trace_text};
 ghost use Rattle.pas_answers.specs.Replays.{IsBuilt};
-ghost use Rattle.pas_top.specs.Outputs.{most_bytes, texts_of, IsOrder, IsStatus, IsWriting, IsWritten, HasFailed, IsCutOff, IsUnbuilt};
+ghost use Rattle.pas_top.specs.Outputs.{most_bytes, texts_of, IsOrder, IsGen, IsAccepted, IsStatus, IsWriting, IsWritten, HasFailed, IsCutOff, IsUnbuilt};
 
+use crate::generating::generate;
 use crate::outcome::{outcome_of, tell, tell_outcome};
+use crate::words::{Call, Misread, call_of};
 use crate::{MOST_BYTES, TOO_LONG, USAGE};
 use pas_io::whole::{Input, Stop, read_all};
 use pas_io::{Sink, Source};
 use std::alloc::Global;
 
-/// Replays the trace that the source gives, where the words are the one word `order`, and writes its transcript and report.
+/// Replays the trace that the source gives and writes its transcript and report, where the words are the one word `order`. With the words
+/// `gen SEED OPS THREADS PAGES` replays a generated trace and writes its summary; nothing is read.
 ///
 /// The status is
-/// - 0: the transcript and the report were written.
+/// - 0: the transcript and the report, or the summary, were written.
 /// - 1: the input is no trace, and its first fault was written.
 /// - 2: the words are others. The usage was written, and nothing was read.
 /// - 3: a read failed, before more bytes were taken than an input may have. Nothing was written.
 /// - 4: a write failed. A first part of what status 0, 1, 2, 6 or 7 writes was written.
 /// - 5: memory was wanting. Nothing was written.
 /// - 6: the input is longer than 16,777,216 bytes, and that was written.
-/// - 7: the input is a trace that can't be replayed yet, and that was written.
+/// - 7: the trace can't be replayed yet, and that was written.
 ///
 /// At most 16,777,217 bytes are taken from the source. Nothing is written before the replay has ended. Linear in the input and in the output.
 pub fn pas_main<S: Source, K: Sink>(
@@ -35,7 +39,12 @@ pub fn pas_main<S: Source, K: Sink>(
 ) -> u8
     ensures status { IsStatus result }
     ensures written { IsWriting result → IsWritten (texts_of words.now) (S.rest source.old) (K.held sink.old) (K.held sink.new) result }
-    ensures usage { (IsOrder (texts_of words.now) → ⊥) → (source.new ≡ source.old) × ((result ≡ 2) ⊎ (result ≡ 4)) }
+    ensures usage { (IsAccepted (texts_of words.now) → ⊥) → (source.new ≡ source.old) × ((result ≡ 2) ⊎ (result ≡ 4)) }
+    ensures generated { (seed ops threads pages : ℕ) → IsGen (texts_of words.now) seed ops threads pages
+        → (source.new ≡ source.old) × ((result ≡ 0) ⊎ (result ≡ 7) ⊎ (result ≡ 4) ⊎ (result ≡ 5)) }
+    ensures summed { (seed ops threads pages : ℕ) → IsGen (texts_of words.now) seed ops threads pages
+        → (plan : Plan) → IsPlanOf (trace_text seed ops threads pages) plan → IsBuilt plan
+        → (Rose (K.faults sink.old) (K.faults sink.new) → ⊥) → (result ≡ 0) ⊎ (result ≡ 5) }
     ensures taken { (bytes : List ℕ) → S.rest source.old ≡ Some bytes → Takes bytes (S.rest source.new) (most_bytes + 1) }
     ensures source_failed { result ≡ 3 → HasFailed (S.rest source.old) (S.rest source.new) (S.faults source.old) (S.faults source.new) × (sink.new ≡ sink.old) }
     ensures sink_failed { result ≡ 4 → IsCutOff (texts_of words.now) (S.rest source.old) (K.held sink.old) (K.held sink.new) (K.faults sink.old) (K.faults sink.new) }
@@ -53,8 +62,11 @@ pub fn pas_main<S: Source, K: Sink>(
         → (Rose (S.faults source.old) (S.faults source.new) → ⊥) → (Rose (K.faults sink.old) (K.faults sink.new) → ⊥)
         → (result ≡ 0) ⊎ (result ≡ 5) }
 {
-    if !is_order(words) {
-        return tell(sink, USAGE, 2);
+    match call_of(alloc, words) {
+        Ok(Call::Order) => {}
+        Ok(Call::Gen(job)) => return generate(alloc, job, sink),
+        Err(Misread::Usage) => return tell(sink, USAGE, 2),
+        Err(Misread::Memory) => return 5,
     }
     let bytes = match read_all(alloc, source, MOST_BYTES) {
         Ok(Input::Whole(bytes)) => bytes,
@@ -65,14 +77,5 @@ pub fn pas_main<S: Source, K: Sink>(
     match outcome_of(alloc, bytes) {
         Ok(outcome) => tell_outcome(sink, &outcome),
         Err(_) => 5,
-    }
-}
-
-fn is_order(words: &[&str]) -> bool
-    ensures { IsTrue result ↔ IsOrder (texts_of words.now) }
-{
-    match words {
-        [word] => *word == "order",
-        _ => false,
     }
 }

@@ -4,8 +4,11 @@ use crate::outcome::{Outcome as Replay, outcome_of as replay_of};
 use crate::pas_main;
 use pas_bitfit::end_bits;
 use pas_bits::Mask4;
+use pas_generate::trace_of;
 use pas_io::memory::{MemorySink, MemorySource};
 use pas_io::sure::{SureSink, SureSource};
+use pas_machine::Machine;
+use pas_report::Record;
 use std::alloc::{AllocError, Global};
 use std::process::Abort;
 use std::test::Fail;
@@ -15,7 +18,11 @@ const TRACE: &str = "pas 1 pages 4 threads 1 heaps 1 age 2\na 1 1 0 24 16\nf 1 1
 const TRANSCRIPT: &str =
     "1 deed page 1 heap 0 class 32\n1 back page 1\n1 give 0x00001000 turn 0 room 32 heap 0\nclose\n1 freed 0x00001000 turn 0 epoch 0\nreport\npage 1 heap 0 class 32 live 0 free 256 stamp 0 marks backed+offered+hinted\ntotal deeds 1 backed 1 live 0 given 1 ended 1\n";
 
-const USAGE: &str = "usage: pas order\n";
+const USAGE: &str = "usage: pas order | pas gen SEED OPS THREADS PAGES\n";
+
+/// What a generated trace of twelve operations is summed up to: nine lines.
+const SUMMARY: &str =
+    "ops 12\ngive 9\nfreed 3\nended 0\nno-block 0\nno-space 0\nheld 0\nskipped 0\n";
 
 const NOT_BUILT: &str = "not built\n";
 
@@ -106,12 +113,23 @@ fn sure_status(alloc: Global, input: Vec<u8>) -> u8
 
 #[test]
 fn other_words_read_nothing(rt: HostRuntime) -> Result<(), Fail> {
-    let cases: [&[&str]; 5] = [
+    let cases: [&[&str]; 16] = [
         &[],
         &["order", "--"],
+        &["order", "order"],
         &["gen", "7"],
         &["Order"],
         &["order "],
+        &["run"],
+        &["help"],
+        &["gen", "7", "12", "4", "1024", "1"],
+        &["gen", "07", "12", "4", "1024"],
+        &["gen", "-7", "12", "4", "1024"],
+        &["gen", "18446744073709551616", "12", "4", "1024"],
+        &["gen", "7", "200001", "4", "1024"],
+        &["gen", "7", "12", "17", "1024"],
+        &["gen", "7", "12", "0", "1024"],
+        &["gen", "7", "12", "4", "1"],
     ];
     for words in cases {
         let outcome = outcome_of(rt.alloc(), words, TRACE.as_bytes(), &[1], &[], ROOM)?;
@@ -307,5 +325,50 @@ fn bitfit_blocks_have_ends(rt: HostRuntime) -> Result<(), Fail> {
         ends.set(grain);
     }
     assert_eq!(rt; ends_after(rt.alloc(), BITFIT_TRACE)?, Some(ends));
+    Ok(())
+}
+
+#[test]
+fn a_generated_trace_is_summed_up(rt: HostRuntime) -> Result<(), Fail> {
+    let words = ["gen", "7", "12", "4", "1024"];
+    let outcome = outcome_of(rt.alloc(), &words, &[], &[1], &[], ROOM)?;
+    assert_eq!(rt; outcome.status, 0);
+    let text = trace_of(rt.alloc(), 7, 12, 4, 1024)?;
+    let order = outcome_of(rt.alloc(), &["order"], &text, &[], &[], 4096)?;
+    assert_eq!(rt; order.status, 0);
+    assert!(rt; outcome.taken.as_slice().starts_with(SUMMARY.as_bytes()));
+    let totals = outcome.taken.as_slice().get(SUMMARY.len()..).unwrap_or(&[]);
+    assert!(rt; totals.starts_with(b"total deeds ".as_slice()));
+    assert!(rt; order.taken.as_slice().ends_with(totals));
+    check_cut_off(&rt, &words, &[], outcome.taken.as_slice(), 0)
+}
+
+#[test]
+fn long_generated_traces_are_not_built(rt: HostRuntime) -> Result<(), Fail> {
+    let words = ["gen", "7", "2000", "4", "1024"];
+    let outcome = outcome_of(rt.alloc(), &words, &[], &[1], &[], ROOM)?;
+    assert_eq!(rt; outcome.status, 7);
+    assert_eq!(rt; outcome.taken.as_slice(), NOT_BUILT.as_bytes());
+    Ok(())
+}
+
+/// Each event of the replays is one that the machine takes.
+#[test]
+fn the_machine_takes_what_is_replayed(rt: HostRuntime) -> Result<(), Fail> {
+    for (input, status, _) in OUTCOMES {
+        if status != 0 || input.len() > ROOM {
+            continue;
+        }
+        let bytes = Vec::from_slice(rt.alloc(), input.as_bytes())?;
+        let Ok(Replay::Replayed(records, state)) = replay_of(rt.alloc(), bytes) else {
+            return Err(AllocError.into());
+        };
+        let mut machine = Machine::try_new(rt.alloc(), *state.profile())?;
+        for shown in records.as_slice() {
+            if let Record::Event(event) = shown {
+                assert_eq!(rt; machine.step(event), Ok(()), "at {input:?}");
+            }
+        }
+    }
     Ok(())
 }

@@ -1,5 +1,7 @@
 //! Why a text is no trace.
 
+use thiserror::Error;
+
 /// The reasons, in the order in which they are tried on a line.
 #[derive(Clone, Copy, Debug, PartialEq, Eq, Drop)]
 pub enum Reason {
@@ -25,8 +27,10 @@ pub struct TraceFault {
 }
 
 /// Why a trace wasn't read.
-#[derive(Clone, Copy, Debug, PartialEq, Eq, Drop)]
+#[derive(Clone, Copy, Debug, PartialEq, Eq, Drop, Error)]
 pub enum ReadFault {
+    #[error("line {line}: {reason:?}", line = .0.line, reason = .0.reason)]
     Trace(TraceFault),
+    #[error("out of memory")]
     NoMemory,
 }

@@ -20,5 +20,6 @@ mod tests;
 mod words;
 
 pub use fault::{ReadFault, Reason, TraceFault};
+pub use numbers::number;
 pub use plan::{Bounds, Op, Phase, Phases, Plan, What};
 pub use reader::read_trace;

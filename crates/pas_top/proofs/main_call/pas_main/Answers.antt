@@ -1,28 +1,34 @@
 use Rattle.std.proofs.Common.{rules, refl, ◌∙◌, subst, inl, inr, arith}
 use Rattle.pas_io.specs.Inputs.{IsInput}
 use Rattle.pas_top.specs.Outcomes.{outcome_status, outcome_text}
-use Rattle.pas_top.specs.Outputs.{IsOrder, most_bytes, texts_of, usage_text, too_long_text}
+use Rattle.pas_top.specs.Calls.{IsCall, IsMisread}
+use Rattle.pas_top.proofs.Summing.{gen_cut_off, gen_summed}
+use Rattle.pas_top.specs.Outputs.{IsOrder, IsAccepted, most_bytes, texts_of, usage_text, too_long_text}
 use Rattle.pas_top.proofs.Statuses.{cut_off, not_four, written}
 use Rattle.pas_top.proofs.Headline.{can_write, outcome_output, status_not_four}
 use Rattle.pas_top.proofs.main_call.pas_main.Goals as goal
 
-pub returns-then-not-is_order-clause-sink_failed : goal.returns-then-not-is_order-clause-sink_failed
-returns-then-not-is_order-clause-sink_failed g c =
-    let other : IsOrder (texts_of c.args.words.now) → ⊥ = search rules in
+pub returns-in-Ok-Gen-clause-sink_failed : goal.returns-in-Ok-Gen-clause-sink_failed
+returns-in-Ok-Gen-clause-sink_failed g c = gen_cut_off (texts_of c.args.words.now) _ _ _ _ _ _ _ _ _ c.generate.result
+    (subst (IsCall (texts_of c.args.words.now)) c.in-Ok-Gen.field-0-is c.in-Ok-Gen.ensures.call) c.generate.ensures.told
+
+pub returns-in-Err-Usage-clause-sink_failed : goal.returns-in-Err-Usage-clause-sink_failed
+returns-in-Err-Usage-clause-sink_failed g c =
+    let other : IsAccepted (texts_of c.args.words.now) → ⊥ = subst (IsMisread (texts_of c.args.words.now)) c.in-Err-Usage.field-0-is c.in-Err-Usage.ensures.misread in
     cut_off _ _ _ _ _ _ usage_text 2 c.tell.result c.tell.ensures (inl (other, refl, refl)) (λ e. omega (arith, e))
 
 pub returns-in-Ok-TooLong-clause-sink_failed : goal.returns-in-Ok-TooLong-clause-sink_failed
 returns-in-Ok-TooLong-clause-sink_failed g c =
-    let order : IsOrder (texts_of c.args.words.now) = search rules in
+    let order : IsOrder (texts_of c.args.words.now) = subst (IsCall (texts_of c.args.words.now)) c.in-Ok-Order.field-0-is c.in-Ok-Order.ensures.call in
     cut_off _ _ _ _ _ _ too_long_text 6 c.tell-in-Ok-TooLong.result c.tell-in-Ok-TooLong.ensures
-    (inr (order, λ two. omega (arith, two), λ bytes told. inr (inr (inl (refl, record { long = subst (IsInput most_bytes bytes) c.in-Ok-TooLong.field-0-is (c.in-Ok-TooLong.ensures.input bytes told); text_is = refl }))))) (λ e. omega (arith, e))
+    (inr (inl (order, λ two. omega (arith, two), λ bytes told. inr (inr (inl (refl, record { long = subst (IsInput most_bytes bytes) c.in-Ok-TooLong.field-0-is (c.in-Ok-TooLong.ensures.input bytes told); text_is = refl })))))) (λ e. omega (arith, e))
 
 pub tell_outcome-requires : goal.tell_outcome-requires
 tell_outcome-requires g c = can_write c.in-Ok-Whole.bytes.items c.in-Ok.outcome c.in-Ok.ensures
 
 pub returns-in-Ok-clause-written : goal.returns-in-Ok-clause-written
 returns-in-Ok-clause-written g c = λ writing.
-    let order : IsOrder (texts_of c.args.words.now) = search rules in
+    let order : IsOrder (texts_of c.args.words.now) = subst (IsCall (texts_of c.args.words.now)) c.in-Ok-Order.field-0-is c.in-Ok-Order.ensures.call in
     written _ _ _ _ _ _ (outcome_text c.in-Ok.outcome) (outcome_status c.in-Ok.outcome) c.tell_outcome.result c.tell_outcome.ensures
     (outcome_output (texts_of c.args.words.now) (g.S.Source.rest c.args.source.now) c.in-Ok-Whole.bytes.items c.in-Ok.outcome order
     (λ bytes told. let input = subst (IsInput most_bytes bytes) c.in-Ok-Whole.field-0-is (c.in-Ok-Whole.ensures.input bytes told) in input)
@@ -31,9 +37,13 @@ returns-in-Ok-clause-written g c = λ writing.
 
 pub returns-in-Ok-clause-sink_failed : goal.returns-in-Ok-clause-sink_failed
 returns-in-Ok-clause-sink_failed g c =
-    let order : IsOrder (texts_of c.args.words.now) = search rules in
+    let order : IsOrder (texts_of c.args.words.now) = subst (IsCall (texts_of c.args.words.now)) c.in-Ok-Order.field-0-is c.in-Ok-Order.ensures.call in
     cut_off _ _ _ _ _ _ (outcome_text c.in-Ok.outcome) (outcome_status c.in-Ok.outcome) c.tell_outcome.result c.tell_outcome.ensures
     (outcome_output (texts_of c.args.words.now) (g.S.Source.rest c.args.source.now) c.in-Ok-Whole.bytes.items c.in-Ok.outcome order
     (λ bytes told. let input = subst (IsInput most_bytes bytes) c.in-Ok-Whole.field-0-is (c.in-Ok-Whole.ensures.input bytes told) in input)
     c.in-Ok.ensures)
     (status_not_four c.in-Ok.outcome)
+
+pub returns-in-Ok-Gen-clause-summed : goal.returns-in-Ok-Gen-clause-summed
+returns-in-Ok-Gen-clause-summed g c = gen_summed (texts_of c.args.words.now) _ _ _ _ _ _ _ _ c.generate.result
+    (subst (IsCall (texts_of c.args.words.now)) c.in-Ok-Gen.field-0-is c.in-Ok-Gen.ensures.call) c.generate.ensures.told

@@ -1,0 +1,74 @@
+use Rattle.std.proofs.Common.{◌∙◌, sym, arith}
+use Rattle.pas_profile.specs.Runs.{address_of}
+use Rattle.pas_machine.proofs.Verdicts.{inside_never, give_before, number_below, place_is, gives_are}
+use Rattle.pas_machine.proofs.Verdicts as verdict
+use Rattle.pas_machine.proofs.machine.Machine.give_reason.Goals as goal
+
+pub returns-then-lacks_deed-clause-verdict : goal.returns-then-lacks_deed-clause-verdict
+returns-then-lacks_deed-clause-verdict c k es shows =
+    let f = c.args.self.now.profile in
+    let block = c.args.block.now in
+    let is = c.if-is_no_run.ensures in
+    let some = rw (c.grain-first.ensures, c.grains.ensures, c.deref.ensures.value) at c.if-lacks_deed.ensures in
+    record {
+      applies = verdict.lacks_deed f _ _ _ es shows k block is some;
+      others = give_before f es k block 4 (λ _. inside_never f block is) (λ _ h. let lt = c.if-block-self.false in omega (arith, h, lt)) (λ lt. absurd (omega (arith, lt))) (λ lt. absurd (omega (arith, lt)))
+          (λ lt. absurd (omega (arith, lt))) (λ lt. absurd (omega (arith, lt)));
+    }
+
+pub returns-then-lacks_backing-clause-verdict : goal.returns-then-lacks_backing-clause-verdict
+returns-then-lacks_backing-clause-verdict c k es shows =
+    let f = c.args.self.now.profile in
+    let block = c.args.block.now in
+    let is = c.if-is_no_run.ensures in
+    let deeds = rw (c.grain-first.ensures, c.grains.ensures, c.deref.ensures.value) at c.if-lacks_deed.ensures in
+    let some = rw (c.grain-first.ensures, c.grains.ensures, c.deref-2.ensures.value) at c.if-lacks_backing.ensures in
+    record {
+      applies = verdict.lacks_backing f _ _ _ es shows k block is some;
+      others = give_before f es k block 6 (λ _. inside_never f block is) (λ _ h. let lt = c.if-block-self.false in omega (arith, h, lt)) (λ _. verdict.has_deeds f _ _ _ es shows k block is deeds) (λ lt. absurd (omega (arith, lt)))
+          (λ lt. absurd (omega (arith, lt))) (λ lt. absurd (omega (arith, lt)));
+    }
+
+pub returns-then-is_some_covered-clause-verdict : goal.returns-then-is_some_covered-clause-verdict
+returns-then-is_some_covered-clause-verdict c k es shows =
+    let f = c.args.self.now.profile in
+    let block = c.args.block.now in
+    let is = c.if-is_no_run.ensures in
+    let deeds = rw (c.grain-first.ensures, c.grains.ensures, c.deref.ensures.value) at c.if-lacks_deed.ensures in
+    let backed = rw (c.grain-first.ensures, c.grains.ensures, c.deref-2.ensures.value) at c.if-lacks_backing.ensures in
+    let some = rw (c.grain-first.ensures, c.grains.ensures, c.deref-3.ensures.value) at c.if-is_some_covered.ensures in
+    record {
+      applies = verdict.lives_there f _ _ _ es shows k block is some;
+      others = give_before f es k block 7 (λ _. inside_never f block is) (λ _ h. let lt = c.if-block-self.false in omega (arith, h, lt)) (λ _. verdict.has_deeds f _ _ _ es shows k block is deeds)
+          (λ _. verdict.has_backing f _ _ _ es shows k block is backed) (λ lt. absurd (omega (arith, lt))) (λ lt. absurd (omega (arith, lt)));
+    }
+
+pub returns-then-index-block-clause-verdict : goal.returns-then-index-block-clause-verdict
+returns-then-index-block-clause-verdict c k es shows =
+    let f = c.args.self.now.profile in
+    let block = c.args.block.now in
+    let is = c.if-is_no_run.ensures in
+    let deeds = rw (c.grain-first.ensures, c.grains.ensures, c.deref.ensures.value) at c.if-lacks_deed.ensures in
+    let backed = rw (c.grain-first.ensures, c.grains.ensures, c.deref-2.ensures.value) at c.if-lacks_backing.ensures in
+    let clear = rw (c.grain-first.ensures, c.grains.ensures, c.deref-3.ensures.value) at c.if-is_some_covered.ensures in
+    let read = rw c.grain-first.ensures at c.index.ensures in
+    let p = verdict.place_at f _ _ _ es shows block is c.args.self.now.places.len c.args.self.now.places.ok.0 c.args.self.now.places_sized c.index.result.now read in
+    record {
+      applies = λ same. c.if-index-block.true (gives_are es (address_of block.name) is.whole.aligned c.index.result.now p ∙ sym same);
+      others = give_before f es k block 9 (λ _. inside_never f block is) (λ _ h. let lt = c.if-block-self.false in omega (arith, h, lt)) (λ _. verdict.has_deeds f _ _ _ es shows k block is deeds)
+          (λ _. verdict.has_backing f _ _ _ es shows k block is backed) (λ _. verdict.is_clear f _ _ _ es shows k block is clear) (λ lt. absurd (omega (arith, lt)));
+    }
+
+pub returns-clause-verdict : goal.returns-clause-verdict
+returns-clause-verdict c k es shows reason =
+    let f = c.args.self.now.profile in
+    let block = c.args.block.now in
+    let is = c.if-is_no_run.ensures in
+    let deeds = rw (c.grain-first.ensures, c.grains.ensures, c.deref.ensures.value) at c.if-lacks_deed.ensures in
+    let backed = rw (c.grain-first.ensures, c.grains.ensures, c.deref-2.ensures.value) at c.if-lacks_backing.ensures in
+    let clear = rw (c.grain-first.ensures, c.grains.ensures, c.deref-3.ensures.value) at c.if-is_some_covered.ensures in
+    let read = rw c.grain-first.ensures at c.index.ensures in
+    let p = verdict.place_at f _ _ _ es shows block is c.args.self.now.places.len c.args.self.now.places.ok.0 c.args.self.now.places_sized c.index.result.now read in
+    give_before f es k block 12 (λ _. inside_never f block is) (λ _ h. let lt = c.if-block-self.false in omega (arith, h, lt)) (λ _. verdict.has_deeds f _ _ _ es shows k block is deeds)
+    (λ _. verdict.has_backing f _ _ _ es shows k block is backed) (λ _. verdict.is_clear f _ _ _ es shows k block is clear)
+    (λ _ h. h (sym c.if-index-block.false ∙ gives_are es (address_of block.name) is.whole.aligned c.index.result.now p)) reason (number_below reason)

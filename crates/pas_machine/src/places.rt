@@ -1,0 +1,90 @@
+//! What a machine keeps of a page and of an address.
+ghost use Rattle.std.specs.Prelude.{◌≡◌, IfOk, replicate, false};
+ghost use Rattle.pas_machine.specs.Places.{blank_page, blank_place};
+
+use pas_profile::{Block, Directory, NoMemory};
+use std::alloc::Global;
+
+/// What a machine keeps of a page.
+#[derive(Clone, Copy, Drop)]
+pub(crate) struct Page {
+    pub directory: Option<Directory>,
+    pub backed: bool,
+    /// The greatest epoch of an end on the page, at first 0.
+    pub epoch: u64,
+}
+
+/// What a machine keeps of an address: the block that lives there, and how many were given there.
+#[derive(Clone, Copy, Drop)]
+pub(crate) struct Place {
+    pub block: Option<Block>,
+    pub gives: u64,
+}
+
+impl Page {
+    ghost use Rattle.std.specs.Prelude.{MatchBool};
+    ghost use Rattle.pas_machine.specs.Places.{IsOfHeap};
+
+    /// A page that nothing happened to.
+    pub(crate) fn blank() -> Page
+        ensures { result ≡ blank_page }
+    {
+        Page {
+            directory: None,
+            backed: false,
+            epoch: 0,
+        }
+    }
+
+    /// Whether the page has a deed of the heap.
+    pub(crate) fn is_of(&self, heap: u8) -> bool
+        ensures { MatchBool result (IsOfHeap heap self.now.directory) (IsOfHeap heap self.now.directory → ⊥) }
+    {
+        match &self.directory {
+            Some(directory) => directory.heap == heap,
+            None => false,
+        }
+    }
+}
+
+impl Place {
+    /// An address at which no block was given.
+    pub(crate) fn blank() -> Place
+        ensures { result ≡ blank_place }
+    {
+        Place {
+            block: None,
+            gives: 0,
+        }
+    }
+}
+
+/// So many blank pages.
+pub(crate) fn blank_pages(alloc: Global, count: usize) -> Result<Vec<Page>, NoMemory>
+    ensures { IfOk result (λ pages. pages.items ≡ replicate count blank_page) }
+{
+    let Ok(pages) = vec![in alloc; Page::blank(); count] else {
+        return Err(NoMemory);
+    };
+    Ok(pages)
+}
+
+/// So many blank places.
+pub(crate) fn blank_places(alloc: Global, count: usize) -> Result<Vec<Place>, NoMemory>
+    ensures { IfOk result (λ places. places.items ≡ replicate count blank_place) }
+{
+    let Ok(places) = vec![in alloc; Place::blank(); count] else {
+        return Err(NoMemory);
+    };
+    Ok(places)
+}
+
+/// So many grains that no block has.
+pub(crate) fn free_grains(alloc: Global, count: usize) -> Result<Vec<bool>, NoMemory>
+    ensures { IfOk result (λ grains. grains.items ≡ replicate count false) }
+{
+    let Ok(grains) = vec![in alloc; false; count] else {
+        return Err(NoMemory);
+    };
+    Ok(grains)
+}

@@ -1,0 +1,61 @@
+-- Lists of words that are accepted.
+use Rattle.std.proofs.Common.{◌≡◌, ℕ, ◌≤◌, ◌<◌, Bool, List, [], ◌∷◌, IsTrue, Bor, Some, get_or, length, ap, ◌∙◌, sym, subst, inl, inr, arith, nat_eq, refl}
+use Rattle.std.specs.Prelude.{codes}
+use Rattle.std.proofs.lemmas.Slice.Eq.{slice_eq-Decides}
+use Rattle.std.proofs.lemmas.Bool.Decides.{Decides-eqb}
+use Rattle.std.specs.Cmp.Lexicographic.{pointwise}
+use Rattle.pas_trace.specs.Numbers.{number_of}
+use Rattle.pas_top.specs.Words.{texts_of, IsOrder, IsGen, IsNumbers, IsAccepted}
+
+-- a word that is the text
+is_text : (word text : List ℕ) (r : Bool) → r ≡ pointwise nat_eq word text → IsTrue r → word ≡ text
+is_text word text r is t = (slice_eq-Decides Decides-eqb word text r is).0 t
+
+-- one word
+pub order_words : (words : List (Bor (List ℕ))) (d : Bor (List ℕ)) (r : Bool) → 1 ≤ length words → length words < 2 → r ≡ pointwise nat_eq (get_or words 0 d).now (codes "order") → IsTrue r → IsOrder (texts_of words)
+order_words [] d r some few is t = absurd (omega arith)
+order_words (word ∷ []) d r some few is t = ap (λ (x : List ℕ). x ∷ []) (is_text word.now (codes "order") r is t)
+order_words (word ∷ other ∷ words) d r some few is t = absurd (omega arith)
+
+-- five words
+five_words : (words : List (Bor (List ℕ))) (d0 d1 d2 d3 d4 : Bor (List ℕ)) → 5 ≤ length words → length words < 6
+    → texts_of words ≡ (get_or words 0 d0).now ∷ (get_or words 1 d1).now ∷ (get_or words 2 d2).now ∷ (get_or words 3 d3).now ∷ (get_or words 4 d4).now ∷ []
+five_words [] d0 d1 d2 d3 d4 some few = absurd (omega arith)
+five_words (a ∷ []) d0 d1 d2 d3 d4 some few = absurd (omega arith)
+five_words (a ∷ b ∷ []) d0 d1 d2 d3 d4 some few = absurd (omega arith)
+five_words (a ∷ b ∷ c ∷ []) d0 d1 d2 d3 d4 some few = absurd (omega arith)
+five_words (a ∷ b ∷ c ∷ d ∷ []) d0 d1 d2 d3 d4 some few = absurd (omega arith)
+five_words (a ∷ b ∷ c ∷ d ∷ e ∷ []) d0 d1 d2 d3 d4 some few = refl
+five_words (a ∷ b ∷ c ∷ d ∷ e ∷ g ∷ rest) d0 d1 d2 d3 d4 some few = absurd (omega arith)
+
+pub gen_words : (words : List (Bor (List ℕ))) (d0 d1 d2 d3 d4 : Bor (List ℕ)) (r : Bool) → 5 ≤ length words → length words < 6 → r ≡ pointwise nat_eq (get_or words 0 d0).now (codes "gen") → IsTrue r
+    → (seed ops threads pages : ℕ) → IsNumbers (get_or words 1 d1).now (get_or words 2 d2).now (get_or words 3 d3).now (get_or words 4 d4).now seed ops threads pages → IsGen (texts_of words) seed ops threads pages
+gen_words words d0 d1 d2 d3 d4 r some few is t seed ops threads pages numbers = record {
+  s = (get_or words 1 d1).now;
+  o = (get_or words 2 d2).now;
+  t = (get_or words 3 d3).now;
+  p = (get_or words 4 d4).now;
+  words_are = five_words words d0 d1 d2 d3 d4 some few
+      ∙ ap (λ (x : List ℕ). x ∷ (get_or words 1 d1).now ∷ (get_or words 2 d2).now ∷ (get_or words 3 d3).now ∷ (get_or words 4 d4).now ∷ []) (is_text (get_or words 0 d0).now (codes "gen") r is t);
+  numbers = numbers;
+}
+
+-- two lists of five words
+same_words : (a b c d e a' b' c' d' e' : List ℕ) → a ∷ b ∷ c ∷ d ∷ e ∷ [] ≡ a' ∷ b' ∷ c' ∷ d' ∷ e' ∷ [] → (b ≡ b') × (c ≡ c') × (d ≡ d') × (e ≡ e')
+same_words a b c d e a' b' c' d' e' h = (cc, cc, cc, cc)
+
+not_one : (a b c d e x : List ℕ) → a ∷ b ∷ c ∷ d ∷ e ∷ [] ≡ x ∷ [] → ⊥
+not_one a b c d e x h = cc
+
+pub not_gen : (words : List (Bor (List ℕ))) (d1 d2 d3 d4 : Bor (List ℕ)) → 5 ≤ length words → length words < 6
+    → ((seed ops threads pages : ℕ) → IsNumbers (get_or words 1 d1).now (get_or words 2 d2).now (get_or words 3 d3).now (get_or words 4 d4).now seed ops threads pages → ⊥) → IsAccepted (texts_of words) → ⊥
+not_gen words d1 d2 d3 d4 some few never (inl order) = not_one _ _ _ _ _ (codes "order") (sym (five_words words d1 d1 d2 d3 d4 some few) ∙ order)
+not_gen words d1 d2 d3 d4 some few never (inr (seed, ops, threads, pages, is)) =
+    let same = same_words _ _ _ _ _ (codes "gen") is.s is.o is.t is.p (sym (five_words words d1 d1 d2 d3 d4 some few) ∙ is.words_are) in
+    never seed ops threads pages (record {
+      seed_is = ap number_of same.0 ∙ is.numbers.seed_is;
+      ops_is = ap number_of same.1 ∙ is.numbers.ops_is;
+      threads_is = ap number_of same.2 ∙ is.numbers.threads_is;
+      pages_is = ap number_of same.3 ∙ is.numbers.pages_is;
+      job = is.numbers.job;
+    })

@@ -1,0 +1,33 @@
+-- The lists of words that a call accepts.
+use Rattle.std.specs.Prelude.{ℕ, ◌≡◌, ◌⊎◌, List, [], ◌∷◌, Some, codes, map}
+use denote.Ref.{Bor}
+use Rattle.pas_trace.specs.Numbers.{number_of}
+use Rattle.pas_generate.specs.Traces.{IsJob}
+
+-- the texts of the words
+abbrev pub texts_of : List (Bor (List ℕ)) → List (List ℕ)
+texts_of words = map (λ w. w.now) words
+
+-- the words are the one word `order`
+abbrev pub IsOrder : List (List ℕ) → Type 0
+IsOrder words = words ≡ codes "order" ∷ []
+
+-- four words are these numbers, each within its range: decimals without a sign and without a leading zero
+pub record IsNumbers (s o t p : List ℕ) (seed ops threads pages : ℕ) : Type 0 where
+  pub seed_is : number_of s ≡ Some seed
+  pub ops_is : number_of o ≡ Some ops
+  pub threads_is : number_of t ≡ Some threads
+  pub pages_is : number_of p ≡ Some pages
+  pub job : IsJob ops threads pages
+
+-- the words are `gen SEED OPS THREADS PAGES` with these numbers
+pub record IsGen (words : List (List ℕ)) (seed ops threads pages : ℕ) : Type 0 where
+  pub s : List ℕ
+  pub o : List ℕ
+  pub t : List ℕ
+  pub p : List ℕ
+  pub words_are : words ≡ codes "gen" ∷ s ∷ o ∷ t ∷ p ∷ []
+  pub numbers : IsNumbers s o t p seed ops threads pages
+
+abbrev pub IsAccepted : List (List ℕ) → Type 0
+IsAccepted words = IsOrder words ⊎ ((seed ops threads pages : ℕ) × IsGen words seed ops threads pages)
