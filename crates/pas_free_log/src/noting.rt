@@ -14,6 +14,10 @@ pub struct EndedRun {
 }
 
 impl Default for EndedRun {
+    ghost use Rattle.std.specs.Prelude.{◌≡◌};
+
+    ghost is_default = { λ run. (run.heap ≡ 0) × (run.range.first ≡ 1) × (run.range.pages ≡ 1) };
+
     /// Page 1 of heap 0.
     fn default() -> EndedRun {
         EndedRun {
