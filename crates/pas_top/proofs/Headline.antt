@@ -16,14 +16,14 @@ use Rattle.pas_report.specs.Rests.{AreStamped, HasWords}
 use Rattle.pas_report.specs.declared.record.Record.{Record}
 use Rattle.pas_report.proofs.Agreeing.{line_agrees}
 use Rattle.pas_report.proofs.ReportOfWords.{are_deed_words, nobody_holds, report_agrees}
-use Rattle.pas_answers.specs.Replays.{IsBuilt, Shows}
+use Rattle.pas_answers.specs.Replays.{Shows}
 use Rattle.pas_answers.specs.Ways.{Way}
-use Rattle.pas_replay.proofs.BuiltPlans.{plan_valid}
+use Rattle.pas_replay.proofs.PlanFacts.{plan_valid}
 use Rattle.pas_answers.proofs.Consequences.{can_be_shown}
 use Rattle.pas_top.specs.Outcomes.{IsOutcome, IsShown, IsWritable, outcome_status, outcome_text, shown_text}
 use Rattle.pas_top.specs.Outputs.{most_bytes, ComesTo, IsOrder, IsOutput, IsReplayed}
 use Rattle.pas_top.specs.declared.outcome.Outcome.{Outcome}
-use Rattle.pas_top.specs.declared.outcome.Outcome.TheVariants.{Replayed, Faulty, Unbuilt}
+use Rattle.pas_top.specs.declared.outcome.Outcome.TheVariants.{Replayed, Faulty}
 
 -- ---- the state after a replay is a region at rest
 module _ {bytes : List ℕ} {way : Way} {plan : Plan} {records : List Record} {state : State} (read : IsPlanOf bytes plan) (shows : Shows way plan records state) where
@@ -51,11 +51,10 @@ module _ {bytes : List ℕ} {way : Way} {plan : Plan} {records : List Record} {s
   totals_are = line_agrees state shows.whole has_words (agrees (profile_of state) shows.whole valid_state legal_state) ∙ ap (λ (f : Profile). total_line f (visible shows.whole)) shows.profile
 
   -- WHAT EITHER WAY SHOWS is what is written
-  pub shown_replayed : IsBuilt plan → IsReplayed way bytes (shown_text records state)
-  shown_replayed built = record {
+  pub shown_replayed : IsReplayed way bytes (shown_text records state)
+  shown_replayed = record {
     plan = plan;
     read = read;
-    built = built;
     whole = shows.whole;
     records = records;
     replay = shows.replay;
@@ -66,22 +65,18 @@ module _ {bytes : List ℕ} {way : Way} {plan : Plan} {records : List Record} {s
 pub can_write : (bytes : List ℕ) (outcome : Outcome) → IsOutcome bytes outcome → IsWritable outcome
 can_write bytes (Replayed records state) replay = can_show replay.read replay.shows
 can_write bytes (Faulty fault) first = tt
-can_write bytes Unbuilt unbuilt = tt
 
 pub comes_to : (bytes : List ℕ) (outcome : Outcome) → length bytes ≤ most_bytes → IsOutcome bytes outcome → ComesTo bytes (outcome_status outcome) (outcome_text outcome)
-comes_to bytes (Replayed records state) short replay = inl (refl, record { short = short; replayed = shown_replayed replay.read replay.shows replay.built })
+comes_to bytes (Replayed records state) short replay = inl (refl, record { short = short; replayed = shown_replayed replay.read replay.shows })
 comes_to bytes (Faulty fault) short first = inr (inl (refl, record { short = short; fault = fault; first = first; text_is = refl }))
-comes_to bytes Unbuilt short unbuilt = inr (inr (inr (refl, record { short = short; unbuilt = unbuilt; text_is = refl })))
 
 pub status_not_four : (outcome : Outcome) → outcome_status outcome ≡ 4 → ⊥
 status_not_four (Replayed records state) four = omega (arith, four)
 status_not_four (Faulty fault) four = omega (arith, four)
-status_not_four Unbuilt four = omega (arith, four)
 
 pub status_not_two : (outcome : Outcome) → outcome_status outcome ≡ 2 → ⊥
 status_not_two (Replayed records state) two = omega (arith, two)
 status_not_two (Faulty fault) two = omega (arith, two)
-status_not_two Unbuilt two = omega (arith, two)
 
 -- the output of a call whose input was read whole
 pub outcome_output : (words : List (List ℕ)) (told : Option (List ℕ)) (read : List ℕ) (outcome : Outcome) → IsOrder words

@@ -6,7 +6,7 @@ use Rattle.pas_trace.specs.declared.plan.Plan.{Plan}
 use Rattle.pas_generate.specs.Traces.{trace_text}
 use Rattle.pas_report.specs.Reports.{total_line}
 use Rattle.pas_report.specs.declared.record.Record.{Record}
-use Rattle.pas_answers.specs.Replays.{IsBuilt, IsReplay}
+use Rattle.pas_answers.specs.Replays.{IsReplay}
 use Rattle.pas_answers.specs.Ways.{InOrder}
 use Rattle.pas_top.specs.Summaries.{summary_text}
 
@@ -15,7 +15,6 @@ use Rattle.pas_top.specs.Summaries.{summary_text}
 pub record IsSummarized (seed ops threads pages : ℕ) (text : List ℕ) : Type 0 where
   pub plan : Plan
   pub read : IsPlanOf (trace_text seed ops threads pages) plan
-  pub built : IsBuilt plan
   pub whole : Whole
   pub records : List Record
   pub replay : IsReplay InOrder plan whole records

@@ -7,24 +7,21 @@ use Rattle.pas_report.specs.Rooms.{records_in}
 use Rattle.pas_report.specs.Lines.{lines_of, CanShow}
 use Rattle.pas_report.specs.Counts.{AreDeedWords, report_by_words}
 use Rattle.pas_report.specs.declared.record.Record.{Record}
-use Rattle.pas_answers.specs.Replays.{IsBuilt, Shows}
+use Rattle.pas_answers.specs.Replays.{Shows}
 use Rattle.pas_answers.specs.Ways.{InOrder}
-use Rattle.pas_top.specs.Outputs.{IsUnbuilt, not_built_text}
 use Rattle.pas_top.specs.Faults.{fault_text}
 use Rattle.pas_top.specs.declared.outcome.Outcome.{Outcome}
-use Rattle.pas_top.specs.declared.outcome.Outcome.TheVariants.{Replayed, Faulty, Unbuilt}
+use Rattle.pas_top.specs.declared.outcome.Outcome.TheVariants.{Replayed, Faulty}
 
 -- the bytes are a trace, and its replay shows these
 pub record IsShowing (bytes : List ℕ) (records : List Record) (state : State) : Type 0 where
   pub plan : Plan
   pub read : IsPlanOf bytes plan
-  pub built : IsBuilt plan
   pub shows : Shows InOrder plan records state
 
 abbrev pub IsOutcome : List ℕ → Outcome → Type 0
 IsOutcome bytes (Replayed records state) = IsShowing bytes (records_in records) state
 IsOutcome bytes (Faulty fault) = parsed bytes ≡ Err fault
-IsOutcome bytes Unbuilt = IsUnbuilt bytes
 
 -- records and a state that can be written
 pub record IsShown (records : List Record) (state : State) : Type 0 where
@@ -34,7 +31,6 @@ pub record IsShown (records : List Record) (state : State) : Type 0 where
 abbrev pub IsWritable : Outcome → Type 0
 IsWritable (Replayed records state) = IsShown (records_in records) state
 IsWritable (Faulty fault) = Unit {0}
-IsWritable Unbuilt = Unit {0}
 
 -- ---- the text of an outcome, and its status
 abbrev pub shown_text : List Record → State → List ℕ
@@ -43,9 +39,7 @@ shown_text records state = lines_of records ++ report_by_words state
 abbrev pub outcome_text : Outcome → List ℕ
 outcome_text (Replayed records state) = shown_text (records_in records) state
 outcome_text (Faulty fault) = fault_text fault
-outcome_text Unbuilt = not_built_text
 
 abbrev pub outcome_status : Outcome → ℕ
 outcome_status (Replayed records state) = 0
 outcome_status (Faulty fault) = 1
-outcome_status Unbuilt = 7

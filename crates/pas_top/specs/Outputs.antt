@@ -8,11 +8,10 @@ use Rattle.pas_report.specs.Lines.{lines_of}
 use Rattle.pas_report.specs.Marks.{marks_after}
 use Rattle.pas_report.specs.Reports.{report_text}
 use Rattle.pas_report.specs.declared.record.Record.{Record}
-use Rattle.pas_answers.specs.Replays.{IsBuilt, IsReplay}
+use Rattle.pas_answers.specs.Replays.{IsReplay}
 use Rattle.pas_answers.specs.Ways.{Way, InOrder}
 use Rattle.pas_io.specs.Inputs.{Takes}
 use Rattle.pas_io.specs.Told.{Rose, Writes, WritesFront}
-use Rattle.pas_generate.specs.Traces.{trace_text}
 use Rattle.pas_top.specs.Faults.{fault_text}
 use Rattle.pas_top.specs.Generating.{IsSummarized}
 pub use Rattle.pas_top.specs.Words.{texts_of, IsOrder, IsGen, IsAccepted}
@@ -26,29 +25,19 @@ most_bytes = 16777216
 pub record IsReplayed (way : Way) (bytes text : List ℕ) : Type 0 where
   pub plan : Plan
   pub read : IsPlanOf bytes plan
-  pub built : IsBuilt plan
   pub whole : Whole
   pub records : List Record
   pub replay : IsReplay way plan whole records
   pub text_is : text ≡ lines_of records ++ report_text plan.profile (visible whole) (marks_after whole)
 
--- the bytes are a trace without a fault that can't be replayed yet
-pub record IsUnbuilt (bytes : List ℕ) : Type 0 where
-  pub plan : Plan
-  pub read : IsPlanOf bytes plan
-  pub unbuilt : IsBuilt plan → ⊥
-
 abbrev pub usage_text : List ℕ
 usage_text = codes "usage: pas order | pas gen SEED OPS THREADS PAGES\n"
-
-abbrev pub not_built_text : List ℕ
-not_built_text = codes "not built\n"
 
 abbrev pub too_long_text : List ℕ
 too_long_text = codes "input too long\n"
 
 -- ---- what an input of the source comes to, with the status and the text
--- 0: its replay; 1: its first fault; 6: it is too long; 7: it can't be replayed yet
+-- 0: its replay; 1: its first fault; 6: it is too long
 pub record IsTranscript (bytes text : List ℕ) : Type 0 where
   pub short : length bytes ≤ most_bytes
   pub replayed : IsReplayed InOrder bytes text
@@ -59,21 +48,16 @@ pub record IsFaulty (bytes text : List ℕ) : Type 0 where
   pub first : parsed bytes ≡ Err fault
   pub text_is : text ≡ fault_text fault
 
-pub record IsNotBuilt (bytes text : List ℕ) : Type 0 where
-  pub short : length bytes ≤ most_bytes
-  pub unbuilt : IsUnbuilt bytes
-  pub text_is : text ≡ not_built_text
-
 pub record IsTooLong (bytes text : List ℕ) : Type 0 where
   pub long : most_bytes < length bytes
   pub text_is : text ≡ too_long_text
 
 abbrev pub ComesTo : List ℕ → ℕ → List ℕ → Type 0
-ComesTo bytes status text = ((status ≡ 0) × IsTranscript bytes text) ⊎ ((status ≡ 1) × IsFaulty bytes text) ⊎ ((status ≡ 6) × IsTooLong bytes text) ⊎ ((status ≡ 7) × IsNotBuilt bytes text)
+ComesTo bytes status text = ((status ≡ 0) × IsTranscript bytes text) ⊎ ((status ≡ 1) × IsFaulty bytes text) ⊎ ((status ≡ 6) × IsTooLong bytes text)
 
--- what a generated trace comes to, with the status and the text. 0: the summary of its replay; 7: it can't be replayed yet
+-- what a generated trace comes to, with the status 0 and the text: the summary of its replay
 abbrev pub GenComesTo : ℕ → ℕ → ℕ → ℕ → ℕ → List ℕ → Type 0
-GenComesTo seed ops threads pages status text = ((status ≡ 0) × IsSummarized seed ops threads pages text) ⊎ ((status ≡ 7) × IsUnbuilt (trace_text seed ops threads pages) × (text ≡ not_built_text))
+GenComesTo seed ops threads pages status text = (status ≡ 0) × IsSummarized seed ops threads pages text
 
 -- the words ask for a generated trace, which comes to this
 pub record IsGenOutput (words : List (List ℕ)) (status : ℕ) (text : List ℕ) : Type 0 where
@@ -91,12 +75,12 @@ IsOutput words told status text = ((IsAccepted words → ⊥) × (status ≡ 2) 
 
 -- ---- what each status says. The sink told `before` and tells `after`
 abbrev pub IsWriting : ℕ → Type 0
-IsWriting status = (status ≡ 0) ⊎ (status ≡ 1) ⊎ (status ≡ 2) ⊎ (status ≡ 6) ⊎ (status ≡ 7)
+IsWriting status = (status ≡ 0) ⊎ (status ≡ 1) ⊎ (status ≡ 2) ⊎ (status ≡ 6)
 
 abbrev pub IsStatus : ℕ → Type 0
 IsStatus status = IsWriting status ⊎ (status ≡ 3) ⊎ (status ≡ 4) ⊎ (status ≡ 5)
 
--- 0, 1, 2, 6, 7: the whole text was written
+-- 0, 1, 2, 6: the whole text was written
 pub record IsWritten (words : List (List ℕ)) (told before after : Option (List ℕ)) (status : ℕ) : Type 0 where
   pub text : List ℕ
   pub output : IsOutput words told status text

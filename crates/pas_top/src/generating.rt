@@ -3,7 +3,6 @@ ghost use Rattle.std.specs.Prelude.{ℕ, ◌≡◌, ◌⊎◌};
 ghost use Rattle.pas_io.specs.Told.{Tells};
 ghost use Rattle.pas_top.specs.Generated.{Generates};
 
-use crate::NOT_BUILT;
 use crate::job::Job;
 use crate::outcome::{Outcome, outcome_of, tell};
 use crate::summary::summary_of;
@@ -11,8 +10,8 @@ use pas_generate::trace_of;
 use pas_io::Sink;
 use std::alloc::Global;
 
-/// Generates the trace of the job, replays it in the order of its text, and writes the summary. The status is 0, or 7 where the trace can't
-/// be replayed yet, 4 where the sink failed, or 5 where memory was wanting. Nothing is written before the replay has ended.
+/// Generates the trace of the job, replays it in the order of its text, and writes the summary. The status is 0, or 4 where
+/// the sink failed, or 5 where the program was out of memory. Nothing is written before the replay has ended.
 pub(crate) fn generate<K: Sink>(alloc: Global, job: Job, sink: &mut K) -> u8
     ensures told { Generates (K.held sink.old) (K.held sink.new) (K.faults sink.old) (K.faults sink.new) job.seed job.ops job.threads job.pages result }
     ensures memory { result ≡ 5 → sink.new ≡ sink.old }
@@ -25,7 +24,6 @@ pub(crate) fn generate<K: Sink>(alloc: Global, job: Job, sink: &mut K) -> u8
             let summary = summary_of(job.ops, records.as_slice(), &state);
             tell(sink, summary.as_str(), 0)
         }
-        Ok(Outcome::Unbuilt) => tell(sink, NOT_BUILT, 7),
         _ => 5,
     }
 }

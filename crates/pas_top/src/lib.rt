@@ -14,8 +14,6 @@ pub use main_call::pas_main;
 
 const USAGE: &str = "usage: pas order | pas gen SEED OPS THREADS PAGES\n";
 
-const NOT_BUILT: &str = "not built\n";
-
 const TOO_LONG: &str = "input too long\n";
 
 /// The most bytes of an input.

@@ -5,9 +5,7 @@ ghost use Rattle.pas_io.specs.Told.{Rose};
 ghost use Rattle.pas_trace.specs.Plans.{IsPlanOf, parsed};
 ghost use Rattle.pas_trace.specs.declared.plan.Plan.{Plan};
 ghost use Rattle.pas_trace.specs.declared.fault.TraceFault.{TraceFault};
-ghost use Rattle.pas_generate.specs.Traces.{trace_text};
-ghost use Rattle.pas_answers.specs.Replays.{IsBuilt};
-ghost use Rattle.pas_top.specs.Outputs.{most_bytes, texts_of, IsOrder, IsGen, IsAccepted, IsStatus, IsWriting, IsWritten, HasFailed, IsCutOff, IsUnbuilt};
+ghost use Rattle.pas_top.specs.Outputs.{most_bytes, texts_of, IsOrder, IsGen, IsAccepted, IsStatus, IsWriting, IsWritten, HasFailed, IsCutOff};
 
 use crate::generating::generate;
 use crate::outcome::{outcome_of, tell, tell_outcome};
@@ -25,10 +23,9 @@ use std::alloc::Global;
 /// - 1: the input is no trace, and its first fault was written.
 /// - 2: the words are others. The usage was written, and nothing was read.
 /// - 3: a read failed, before more bytes were taken than an input may have. Nothing was written.
-/// - 4: a write failed. A first part of what status 0, 1, 2, 6 or 7 writes was written.
-/// - 5: memory was wanting. Nothing was written.
+/// - 4: a write failed. A first part of what status 0, 1, 2 or 6 writes was written.
+/// - 5: the program was out of memory. Nothing was written.
 /// - 6: the input is longer than 16,777,216 bytes, and that was written.
-/// - 7: the trace can't be replayed yet, and that was written.
 ///
 /// At most 16,777,217 bytes are taken from the source. Nothing is written before the replay has ended. Linear in the input and in the output.
 pub fn pas_main<S: Source, K: Sink>(
@@ -41,24 +38,21 @@ pub fn pas_main<S: Source, K: Sink>(
     ensures written { IsWriting result → IsWritten (texts_of words.now) (S.rest source.old) (K.held sink.old) (K.held sink.new) result }
     ensures usage { (IsAccepted (texts_of words.now) → ⊥) → (source.new ≡ source.old) × ((result ≡ 2) ⊎ (result ≡ 4)) }
     ensures generated { (seed ops threads pages : ℕ) → IsGen (texts_of words.now) seed ops threads pages
-        → (source.new ≡ source.old) × ((result ≡ 0) ⊎ (result ≡ 7) ⊎ (result ≡ 4) ⊎ (result ≡ 5)) }
+        → (source.new ≡ source.old) × ((result ≡ 0) ⊎ (result ≡ 4) ⊎ (result ≡ 5)) }
     ensures summed { (seed ops threads pages : ℕ) → IsGen (texts_of words.now) seed ops threads pages
-        → (plan : Plan) → IsPlanOf (trace_text seed ops threads pages) plan → IsBuilt plan
         → (Rose (K.faults sink.old) (K.faults sink.new) → ⊥) → (result ≡ 0) ⊎ (result ≡ 5) }
     ensures taken { (bytes : List ℕ) → S.rest source.old ≡ Some bytes → Takes bytes (S.rest source.new) (most_bytes + 1) }
     ensures source_failed { result ≡ 3 → HasFailed (S.rest source.old) (S.rest source.new) (S.faults source.old) (S.faults source.new) × (sink.new ≡ sink.old) }
     ensures sink_failed { result ≡ 4 → IsCutOff (texts_of words.now) (S.rest source.old) (K.held sink.old) (K.held sink.new) (K.faults sink.old) (K.faults sink.new) }
     ensures memory { result ≡ 5 → sink.new ≡ sink.old }
 
-    // Each cause brings its status, but for a fault of the source or the sink and for want of memory.
+    // Each cause brings its status, but for a fault of the source or the sink, and where the program is out of memory.
     ensures too_long { IsOrder (texts_of words.now) → (bytes : List ℕ) → S.rest source.old ≡ Some bytes → most_bytes < length bytes
         → (result ≡ 6) ⊎ (result ≡ 3) ⊎ (result ≡ 4) ⊎ (result ≡ 5) }
     ensures faulty { IsOrder (texts_of words.now) → (bytes : List ℕ) → S.rest source.old ≡ Some bytes → length bytes ≤ most_bytes
         → (fault : TraceFault) → parsed bytes ≡ Err fault → (result ≡ 1) ⊎ (result ≡ 3) ⊎ (result ≡ 4) ⊎ (result ≡ 5) }
-    ensures not_built { IsOrder (texts_of words.now) → (bytes : List ℕ) → S.rest source.old ≡ Some bytes → length bytes ≤ most_bytes
-        → IsUnbuilt bytes → (result ≡ 7) ⊎ (result ≡ 3) ⊎ (result ≡ 4) ⊎ (result ≡ 5) }
     ensures complete { IsOrder (texts_of words.now) → (bytes : List ℕ) → S.rest source.old ≡ Some bytes → length bytes ≤ most_bytes
-        → (plan : Plan) → IsPlanOf bytes plan → IsBuilt plan
+        → (plan : Plan) → IsPlanOf bytes plan
         → (Rose (S.faults source.old) (S.faults source.new) → ⊥) → (Rose (K.faults sink.old) (K.faults sink.new) → ⊥)
         → (result ≡ 0) ⊎ (result ≡ 5) }
 {

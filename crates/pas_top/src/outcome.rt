@@ -5,8 +5,6 @@ ghost use Rattle.pas_report.specs.Rooms.{records_in};
 ghost use Rattle.pas_top.specs.Faults.{fault_text, reason_text};
 ghost use Rattle.pas_top.specs.Outcomes.{IsOutcome, IsShown, IsWritable, outcome_status, outcome_text, shown_text};
 
-use crate::NOT_BUILT;
-use pas_answers::is_built;
 use pas_io::whole::write_all;
 use pas_io::{Failed, Sink};
 use pas_profile::NoMemory;
@@ -24,8 +22,6 @@ pub(crate) enum Outcome {
     Replayed(Records, State),
     /// No trace: its first fault.
     Faulty(TraceFault),
-    /// A trace that can't be replayed yet.
-    Unbuilt,
 }
 
 /// Reads the bytes, lets them go, and replays the trace that they are. After the kit is made nothing takes memory.
@@ -39,9 +35,6 @@ pub(crate) fn outcome_of(alloc: Global, bytes: Vec<u8>) -> Result<Outcome, NoMem
         Err(ReadFault::NoMemory) => return Err(NoMemory),
     };
     drop(bytes);
-    if !is_built(&plan) {
-        return Ok(Outcome::Unbuilt);
-    }
     let mut records = Records::try_new(alloc, plan.total, plan.phases.as_slice().len() as u32)?;
     let kit = PlainKit::try_new(alloc, &plan)?;
     let state = in_order(&plan, kit, &mut records);
@@ -59,7 +52,6 @@ pub(crate) fn tell_outcome<K: Sink>(sink: &mut K, outcome: &Outcome) -> u8
             Err(Failed) => 4,
         },
         Outcome::Faulty(fault) => tell(sink, fault_line(*fault).as_str(), 1),
-        Outcome::Unbuilt => tell(sink, NOT_BUILT, 7),
     }
 }
 

@@ -14,7 +14,7 @@ returns-in-Ok-Replayed-clause-told g c =
     inr (
       0,
       c.as_str.result.now,
-      inl (
+      (
         refl,
         summarized job.seed job.ops job.threads job.pages c.in-Ok.text.items (records_in c.in-Ok-Replayed.records) c.in-Ok-Replayed.state c.as_str.result.now
             (subst (IsOutcome c.in-Ok.text.items) c.in-Ok-Replayed.field-0-is c.in-Ok-Replayed.ensures) c.in-Ok.ensures.text text_is,

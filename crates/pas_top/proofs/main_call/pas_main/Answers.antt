@@ -21,7 +21,7 @@ pub returns-in-Ok-TooLong-clause-sink_failed : goal.returns-in-Ok-TooLong-clause
 returns-in-Ok-TooLong-clause-sink_failed g c =
     let order : IsOrder (texts_of c.args.words.now) = subst (IsCall (texts_of c.args.words.now)) c.in-Ok-Order.field-0-is c.in-Ok-Order.ensures.call in
     cut_off _ _ _ _ _ _ too_long_text 6 c.tell-in-Ok-TooLong.result c.tell-in-Ok-TooLong.ensures
-    (inr (inl (order, λ two. omega (arith, two), λ bytes told. inr (inr (inl (refl, record { long = subst (IsInput most_bytes bytes) c.in-Ok-TooLong.field-0-is (c.in-Ok-TooLong.ensures.input bytes told); text_is = refl })))))) (λ e. omega (arith, e))
+    (inr (inl (order, λ two. omega (arith, two), λ bytes told. inr (inr (refl, record { long = subst (IsInput most_bytes bytes) c.in-Ok-TooLong.field-0-is (c.in-Ok-TooLong.ensures.input bytes told); text_is = refl }))))) (λ e. omega (arith, e))
 
 pub tell_outcome-requires : goal.tell_outcome-requires
 tell_outcome-requires g c = can_write c.in-Ok-Whole.bytes.items c.in-Ok.outcome c.in-Ok.ensures
@@ -45,5 +45,4 @@ returns-in-Ok-clause-sink_failed g c =
     (status_not_four c.in-Ok.outcome)
 
 pub returns-in-Ok-Gen-clause-summed : goal.returns-in-Ok-Gen-clause-summed
-returns-in-Ok-Gen-clause-summed g c = gen_summed (texts_of c.args.words.now) _ _ _ _ _ _ _ _ c.generate.result
-    (subst (IsCall (texts_of c.args.words.now)) c.in-Ok-Gen.field-0-is c.in-Ok-Gen.ensures.call) c.generate.ensures.told
+returns-in-Ok-Gen-clause-summed g c seed ops threads pages asked never = gen_summed _ _ _ _ _ _ _ _ c.generate.result c.generate.ensures.told never

@@ -1,13 +1,9 @@
 use Rattle.std.proofs.Common.{◌∙◌, ◌≤◌, List, ap, sym, subst, length, arith}
-use Rattle.std.proofs.lemmas.Bool.{false≢true}
 use Rattle.std.proofs.lemmas.List.{length-map}
 use Rattle.pas_trace.specs.Plans.{IsPlanOf, ops_of, phases_of as phases_in_order}
 use Rattle.pas_trace.specs.declared.plan.Phase.{Phase}
-use Rattle.pas_replay.proofs.BuiltPlans.{plan_phases}
+use Rattle.pas_replay.proofs.PlanFacts.{plan_phases}
 use Rattle.pas_top.proofs.outcome.outcome_of.Goals as goal
-
-pub returns-then-not-is_built : goal.returns-then-not-is_built
-returns-then-not-is_built c = record { plan = c.in-Ok.plan; read = subst (λ bytes. IsPlanOf bytes c.in-Ok.plan) c.deref.ensures.value c.in-Ok.ensures; unbuilt = λ built. absurd (false≢true (sym c.if-not-is_built.true ∙ c.is_built.ensures.1 built)) }
 
 pub overflow_cast-as_slice : goal.overflow_cast-as_slice
 overflow_cast-as_slice c =
@@ -17,4 +13,4 @@ overflow_cast-as_slice c =
     omega (arith, n, m, few)
 
 pub returns : goal.returns
-returns c = record { plan = c.in-Ok.plan; read = subst (λ bytes. IsPlanOf bytes c.in-Ok.plan) c.deref.ensures.value c.in-Ok.ensures; built = c.is_built.ensures.0 c.if-not-is_built.false; shows = c.in_order-state.ensures }
+returns c = record { plan = c.in-Ok.plan; read = subst (λ bytes. IsPlanOf bytes c.in-Ok.plan) c.deref.ensures.value c.in-Ok.ensures; shows = c.in_order-state.ensures }
