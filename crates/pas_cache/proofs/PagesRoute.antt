@@ -1,10 +1,10 @@
 -- A request for whole pages: the actor is at rest with the cache as it was.
-use Rattle.std.proofs.Common.{◌≡◌, ℕ, ◌+◌, ◌-◌, ◌*◌, ◌/◌, ◌%◌, ◌<◌, ◌≤◌, ◌==◌, ◌||◌, Bool, true, false, if◌then◌else◌, List, [], ◌∷◌, ◌++◌, length, Option, None, Some, Ok, Err, Result, inl, inr, ◌⊎◌, refl, ap, sym, ◌∙◌, subst, arith, length-append, append_assoc, true≢false}
+use Rattle.std.proofs.Common.{◌≡◌, ℕ, ◌+◌, ◌-◌, ◌*◌, ◌/◌, ◌%◌, ◌<◌, ◌≤◌, ◌==◌, ◌||◌, Bool, true, false, if◌then◌else◌, List, [], ◌∷◌, ◌++◌, length, Option, None, Some, Ok, Err, Result, inl, inr, refl, ap, sym, ◌∙◌, subst, arith, length-append, append_assoc, true≢false}
 use Rattle.std.specs.Prelude.{All, MatchResult, min, max, nat_le, not}
 use Rattle.std.specs.List.{AllByRecursion, list_any}
 use Rattle.std.proofs.lemmas.Bool.{eqb-true, cases_Bool, and_parts, leb-false}
 use Rattle.std.proofs.lemmas.List.Elements.{All-head, All-tail}
-use Rattle.std.proofs.Math.Nat.{zero-mod, le-max_right}
+use Rattle.std.proofs.Math.Nat.{zero-mod}
 use Rattle.pas_profile.specs.Classes.{IsAlignment, class_sizes}
 use Rattle.pas_profile.specs.Profiles.{IsPage}
 use Rattle.pas_profile.specs.Requests.{is_shared, kind_of_class, kind_of_route}
@@ -20,18 +20,17 @@ use Rattle.pas_profile.specs.declared.profile.Profile.{Profile}
 use Rattle.pas_profile.proofs.Codecs.{deed_word_of-positive}
 use Rattle.pas_bitfit.proofs.Aligned.{stands_aligned}
 use Rattle.pas_steps.specs.Agreement.{Agreed}
-use Rattle.pas_steps.specs.Calls.{nothing, Does}
 use Rattle.pas_steps.specs.Desks.{Standing, CanCall, triples}
 use Rattle.pas_steps.specs.Events.{event_of, with_event, events_by}
-use Rattle.pas_steps.specs.Frames.{IsScan, OnlyScans}
-use Rattle.pas_steps.specs.Kinds.{Kinds, Backing, returning, looking, kind_of, is_in, Only}
+use Rattle.pas_steps.specs.Frames.{IsScan}
+use Rattle.pas_steps.specs.Kinds.{Backing, returning, looking, kind_of, is_in, Only}
 use Rattle.pas_steps.specs.Unknown.{unknown_pages}
-use Rattle.pas_steps.specs.Views.{View, known_deed, has_right, epoch_of, KnowsDeed}
+use Rattle.pas_steps.specs.Views.{View, known_deed, epoch_of}
 use Rattle.pas_steps.specs.declared.step.Made.{Made}
 use Rattle.pas_steps.specs.declared.step.Step.{Step}
 use Rattle.pas_steps.specs.declared.step.Step.TheVariants.{Deed, Back, Give, End, Unback}
 use Rattle.pas_steps.proofs.Adding.{agreed_first, agreed_later, adds_under}
-use Rattle.pas_steps.proofs.Apart.{only_both, only_within, events_same, no_events}
+use Rattle.pas_steps.proofs.Apart.{only_both, only_within, events_same}
 use Rattle.pas_steps.proofs.Frames.{events_append}
 use Rattle.pas_steps.proofs.Past.{always_map}
 use Rattle.pas_steps.proofs.Unknown.{unknown_stays}
@@ -39,7 +38,7 @@ use Rattle.pas_large.specs.Allocates.{GaveLarge, IsAllocatedLarge, IsRefusedLarg
 use Rattle.pas_large.specs.Claims.{in_span}
 use Rattle.pas_large.specs.Evidence.{DeedsOf}
 use Rattle.pas_large.specs.Finds.{MayFind, FindRoom, finding}
-use Rattle.pas_large.specs.Gives.{run_block, give_steps}
+use Rattle.pas_large.specs.Gives.{give_steps}
 use Rattle.pas_large.specs.Pages.{OnlyDeedsShow}
 use Rattle.pas_large.specs.Telling.{IsToldLarge}
 use Rattle.pas_large.proofs.Claims.{in_parts}
@@ -51,7 +50,7 @@ use Rattle.pas_cache.specs.Caches.{Cached, AtRest}
 use Rattle.pas_cache.specs.Calls.{MayAllocatePages, AllocatesPages, most_events}
 use Rattle.pas_cache.specs.Kinds.{allocating}
 use Rattle.pas_cache.specs.Locals.{keeps_right, any_keeps, IsLocal, RestsWith}
-use Rattle.pas_cache.specs.Serves.{Wanted, wanted_for, pages_of, IsBlockFor, IsPreparing, IsDeedOf, MakesDeedsOf, MakesAtMost}
+use Rattle.pas_cache.specs.Serves.{Wanted, wanted_for, IsBlockFor, IsPreparing, IsDeedOf, MakesDeedsOf}
 use Rattle.pas_cache.proofs.Refills.{no_right_in}
 use Rattle.pas_cache.proofs.Resting.{rests_kept}
 

@@ -1,4 +1,4 @@
-use Rattle.std.proofs.Common.{◌∙◌, ◌≡◌, ap, subst}
+use Rattle.std.proofs.Common.{◌∙◌, subst}
 use Rattle.pas_large.specs.Doors.{WasAsked}
 use Rattle.pas_cache.proofs.PagesRoute.{whole_pages, pages_call, pages_allocates}
 use Rattle.pas_cache.proofs.cache.ThreadCache.alloc_large.Goals as goal

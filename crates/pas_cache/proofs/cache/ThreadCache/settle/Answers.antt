@@ -1,6 +1,5 @@
-use Rattle.std.proofs.Common.{◌≡◌, List, length, get_or, sym, ◌∙◌, subst, take, refl}
+use Rattle.std.proofs.Common.{get_or, sym, ◌∙◌, subst, take, refl}
 use Rattle.std.proofs.lemmas.List.{take_all, take_more}
-use Rattle.pas_free_log.specs.declared.noting.EndedRun.{EndedRun}
 use Rattle.pas_free_log.specs.Noted.{AreRanges, IsRange}
 use Rattle.pas_cache.specs.Calls.{SettlesEach}
 use Rattle.pas_cache.proofs.Settled.{settles_more, blank}
