@@ -1,7 +1,6 @@
 -- From what a replay of a generated trace shows to the summary that is written.
 use Rattle.std.proofs.Common.{◌≡◌, ℕ, ◌⊎◌, List, [], ◌∷◌, ◌++◌, append_assoc, Option, Some, Result, Ok, Err, ap, sym, ◌∙◌, subst, inl, inr, arith}
-use Rattle.std.specs.Prelude.{count_by, codes}
-use Rattle.pas_steps.specs.Lists.{visible}
+use Rattle.std.specs.Prelude.{codes}
 use Rattle.pas_steps.specs.declared.state.State.{State}
 use Rattle.pas_trace.specs.Numbers.{number_of}
 use Rattle.pas_trace.specs.Plans.{IsPlanOf, Parsed, phases_in}
@@ -12,12 +11,12 @@ use Rattle.pas_trace.specs.declared.plan.Plan.{Plan}
 use Rattle.pas_generate.specs.Traces.{trace_text}
 use Rattle.pas_report.specs.Counts.{totals_by_words}
 use Rattle.pas_report.specs.declared.record.Record.{Record}
-use Rattle.pas_io.specs.Told.{Rose, Tells}
+use Rattle.pas_io.specs.Told.{Rose}
 use Rattle.pas_top.specs.Summaries.{line_text, summary_text}
 use Rattle.pas_top.specs.Generating.{IsSummarized}
 use Rattle.pas_top.specs.Generated.{Generates}
 use Rattle.pas_top.specs.Outcomes.{IsShowing}
-use Rattle.pas_top.specs.Outputs.{GenComesTo, IsGen, IsOutput, IsCutOff}
+use Rattle.pas_top.specs.Outputs.{GenComesTo, IsGen, IsCutOff}
 use Rattle.pas_top.proofs.Headline.{totals_are}
 use Rattle.pas_top.proofs.Statuses.{cut_off}
 
@@ -97,7 +96,7 @@ gen_summed words before after faults faults' seed ops threads pages answer asked
     | inl whole ↦ elim comes [
       | inl zero ↦ inl (whole.0 ∙ zero.0)
       | inr seven ↦ absurd (seven.1.unbuilt (built_same (trace_text seed ops threads pages) plan seven.1.plan
-        (subst (λ (t : List ℕ). IsPlanOf t plan) (same_trace words seed ops threads pages seed' ops' threads' pages' asked asked') read) seven.1.read built))
+          (subst (λ (t : List ℕ). IsPlanOf t plan) (same_trace words seed ops threads pages seed' ops' threads' pages' asked asked') read) seven.1.read built))
     ]
     | inr cut ↦ absurd (never cut.1)
   ]
