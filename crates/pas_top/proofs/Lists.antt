@@ -1,5 +1,5 @@
 -- Lists of words that are accepted.
-use Rattle.std.proofs.Common.{◌≡◌, ℕ, ◌≤◌, ◌<◌, Bool, List, [], ◌∷◌, IsTrue, Bor, Some, get_or, length, ap, ◌∙◌, sym, subst, inl, inr, arith, nat_eq, refl}
+use Rattle.std.proofs.Common.{◌≡◌, ℕ, ◌≤◌, ◌<◌, Bool, List, [], ◌∷◌, IsTrue, Bor, get_or, length, ap, ◌∙◌, sym, inl, inr, arith, nat_eq, refl}
 use Rattle.std.specs.Prelude.{codes}
 use Rattle.std.proofs.lemmas.Slice.Eq.{slice_eq-Decides}
 use Rattle.std.proofs.lemmas.Bool.Decides.{Decides-eqb}

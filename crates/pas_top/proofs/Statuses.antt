@@ -1,5 +1,5 @@
 -- How a call ends: what it wrote, and what status 4 says of a text that was cut off.
-use Rattle.std.proofs.Common.{◌≡◌, ℕ, ◌≤◌, ◌<◌, ◌⊎◌, Bool, List, [], ◌∷◌, ◌++◌, append_assoc, Option, IsTrue, Bor, get_or, length, ap, ◌∙◌, sym, subst, inl, inr, arith, nat_eq}
+use Rattle.std.proofs.Common.{◌≡◌, ℕ, ◌⊎◌, List, ◌++◌, append_assoc, Option, ap, ◌∙◌, sym, subst, inl, inr, arith}
 use Rattle.pas_io.specs.Told.{Tells, Writes, WritesFront}
 use Rattle.pas_io.proofs.Telling.{writes_more}
 use Rattle.pas_top.specs.Outputs.{IsOutput, IsWriting, IsWritten, IsCutOff}

@@ -1,4 +1,4 @@
-use Rattle.std.proofs.Common.{◌++◌, ◌∙◌, List, ℕ, ap, refl}
+use Rattle.std.proofs.Common.{◌++◌, ◌∙◌, List, ℕ, ap}
 use Rattle.std.specs.Prelude.{codes}
 use Rattle.pas_top.proofs.Summing.{one_more, counted}
 use Rattle.pas_top.proofs.summary.summary_of.Goals as goal
