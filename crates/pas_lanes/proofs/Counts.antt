@@ -1,5 +1,5 @@
 -- How many bits of so many words are set.
-use Rattle.std.proofs.Common.{◌≡◌, ℕ, zero, suc, ◌+◌, ◌*◌, ◌^◌, ◌<◌, ◌≤◌, Bool, true, false, if◌then◌else◌, List, [], ◌∷◌, length, slice_index, map, take, drop, ap, sym, ◌∙◌, subst, refl, arith, add-one, add-zero}
+use Rattle.std.proofs.Common.{◌≡◌, ℕ, zero, suc, ◌+◌, ◌*◌, ◌^◌, ◌<◌, ◌≤◌, Bool, true, false, if◌then◌else◌, List, ◌∷◌, length, slice_index, map, take, drop, ap, sym, ◌∙◌, subst, refl, arith, add-one, add-zero}
 use Rattle.std.specs.Int.RustNames.{count_ones}
 use Rattle.std.specs.Simd.Lanes.{chunk, sum_l}
 use Rattle.std.proofs.Math.Seq.{drop-cons}

@@ -95,7 +95,7 @@ within_more a b start end fits none inside x h is = elim (cases_lt x (64 * start
   | inl lt ↦ inside x lt is
   | inr ge ↦ implied (is_set a x) (is_set b x)
       (sym (outside_bit (slice_index a (x / 64)) (slice_index b (x / 64)) (x % 64) (fits (x / 64)) (omega arith))
-        ∙ ap (λ n. has_bit n (x % 64)) (none (x / 64) (omega (arith, ge)) (omega (arith, h))) ∙ none_of_zero (x % 64)) is
+      ∙ ap (λ n. has_bit n (x % 64)) (none (x / 64) (omega (arith, ge)) (omega (arith, h))) ∙ none_of_zero (x % 64)) is
 ]
 
 pub within_one : (a b : List ℕ) (word : ℕ) → WordsFit b → outside a b word ≡ 0 → IsWithinBelow a b (64 * word) → IsWithinBelow a b (64 * (word + 1))

@@ -16,7 +16,8 @@ fn groups_within(a: &[u64], b: &[u64]) -> usize
     let mut start = 0;
     while a.len() - start >= LANES {
         let outside = u64x8::from_slice(&a[start..]) & !u64x8::from_slice(&b[start..]);
-        if outside.reduce_or() != 0 {
+        let union = outside.reduce_or();
+        if union != 0 {
             return start;
         }
         start += LANES;
@@ -24,13 +25,14 @@ fn groups_within(a: &[u64], b: &[u64]) -> usize
     start
 }
 
-/// Whether some bit is set in `a` and clear in `b`.
+/// Whether some bit is set in `a` and clear in `b`. The rows have the same length. Reads each word at most twice.
 pub fn any_and_not(a: &[u64], b: &[u64]) -> bool
     requires { length a.now ≡ length b.now }
     ensures { MatchBool result (HasMemberOutside a.now b.now) (IsWithin a.now b.now) }
 {
     for word in groups_within(a, b)..a.len() {
-        if a[word] & !b[word] != 0 {
+        let outside = a[word] & !b[word];
+        if outside != 0 {
             return true;
         }
     }

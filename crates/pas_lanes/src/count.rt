@@ -5,7 +5,7 @@ ghost use Rattle.pas_lanes.specs.Rows.{set_count};
 use crate::LANES;
 use std::simd::prelude::*;
 
-/// How many bits are set.
+/// How many bits are set. The row has fewer than 2^57 words, so the number fits. Reads each word once.
 pub fn count_ones(words: &[u64]) -> u64
     requires { length words.now < 2 ^ 57 }
     ensures { result ≡ set_count words.now }

@@ -14,7 +14,8 @@ fn clear_groups(words: &[u64]) -> usize
 {
     let mut start = 0;
     while words.len() - start >= LANES {
-        if u64x8::from_slice(&words[start..]).reduce_or() != 0 {
+        let union = u64x8::from_slice(&words[start..]).reduce_or();
+        if union != 0 {
             return start;
         }
         start += LANES;
@@ -22,12 +23,14 @@ fn clear_groups(words: &[u64]) -> usize
     start
 }
 
-/// The lowest number whose bit is set. None exactly where there is none.
+/// The lowest number whose bit is set: number n stands in bit `n % 64` of word `n / 64`. None exactly where there is none.
+/// 64 times the length fits in 64 bits. Reads each word at most twice.
 pub fn first_set(words: &[u64]) -> Option<usize>
     requires { 64 * length words.now < 2 ^ 64 }
     ensures { MatchOption result (IsEmpty words.now) (IsLowestSet words.now) }
 {
-    for word in clear_groups(words)..words.len() {
+    let start = clear_groups(words);
+    for word in start..words.len() {
         let bits = words[word];
         if bits != 0 {
             return Some(64 * word + bits.trailing_zeros() as usize);
@@ -36,12 +39,13 @@ pub fn first_set(words: &[u64]) -> Option<usize>
     None
 }
 
-/// Whether no bit is set.
+/// Whether no bit is set. Reads each word at most twice.
 pub fn all_zero(words: &[u64]) -> bool
     ensures { MatchBool result (IsEmpty words.now) (HasMember words.now) }
 {
     for word in clear_groups(words)..words.len() {
-        if words[word] != 0 {
+        let bits = words[word];
+        if bits != 0 {
             return false;
         }
     }

@@ -8,4 +8,4 @@ loop-start-preserved c =
     let a = c.args.a.now in
     let b = c.args.b.now in
     let start = c.loop-start.start in
-    (omega arith, within_more a b start (start + 8) (λ word. (c.type_inv.b word).fits) (group_within a b start 8 (omega arith) (omega arith) c.if-outside-ne0.false) c.loop-start.invariant.1)
+    (omega arith, within_more a b start (start + 8) (λ word. (c.type_inv.b word).fits) (group_within a b start 8 (omega arith) (omega arith) c.if-union-ne0.false) c.loop-start.invariant.1)

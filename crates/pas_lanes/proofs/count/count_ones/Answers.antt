@@ -1,4 +1,4 @@
-use Rattle.std.proofs.Common.{◌≡◌, ◌+◌, ◌*◌, ◌^◌, ◌<◌, length, refl, sym, ◌∙◌, ap, arith, w64, Fits}
+use Rattle.std.proofs.Common.{◌≡◌, ◌+◌, length, refl, sym, ◌∙◌, ap, arith, w64}
 use Rattle.std.specs.Simd.Lanes.{chunk, sum_l}
 use Rattle.std.proofs.lemmas.Simd.{adds_fit, fold-sum, length-zip2, sum-zip2, sum_fits}
 use Rattle.pas_lanes.proofs.Counts.{before_most, count_before, group_more, lane_counts, length_counts, none_before, whole_before, word_more}
@@ -18,9 +18,11 @@ pub loop-start-preserved : goal.loop-start-preserved
 loop-start-preserved c =
     let counts = lane_counts (chunk c.loop-start.start 8 c.args.words.now) in
     let more = group_more c.args.words.now c.loop-start.start 8 (omega arith) (λ word. (c.type_inv.words word).fits) in
-    let same : length c.loop-start.lanes ≡ length counts = c.loop-start.invariant.1 ∙ sym (length_counts c.args.words.now c.loop-start.start 8 (omega arith)) in
-    (omega arith, length-zip2 (λ a b. a + b) c.loop-start.lanes counts same ∙ c.loop-start.invariant.1,
-     sum-zip2 c.loop-start.lanes counts same ∙ ap (λ n. n + sum_l counts) c.loop-start.invariant.2 ∙ sym more)
+    let same : length c.loop-start.lanes ≡ length counts = c.loop-start.invariant.1 ∙ sym (length_counts c.args.words.now c.loop-start.start 8 (omega arith)) in (
+      omega arith,
+      length-zip2 (λ a b. a + b) c.loop-start.lanes counts same ∙ c.loop-start.invariant.1,
+      sum-zip2 c.loop-start.lanes counts same ∙ ap (λ n. n + sum_l counts) c.loop-start.invariant.2 ∙ sym more,
+    )
 
 pub overflow_add-ones : goal.overflow_add-ones
 overflow_add-ones c =

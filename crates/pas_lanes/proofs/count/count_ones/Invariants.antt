@@ -1,4 +1,4 @@
-use Rattle.std.proofs.Common.{◌≡◌, ℕ, ◌*◌, ◌-◌, ◌≤◌, length}
+use Rattle.std.proofs.Common.{◌≡◌, ◌-◌, ◌≤◌, length}
 use Rattle.std.specs.Simd.Lanes.{sum_l}
 use Rattle.pas_lanes.proofs.Counts.{count_before}
 use Rattle.pas_lanes.proofs.count.count_ones.Given as goal
