@@ -1,13 +1,17 @@
 -- A desk between whose own steps another actor acts.
-use Rattle.std.proofs.Common.{◌≡◌, ◌≢◌, ℕ, [], ◌∷◌, ◌++◌, refl, ap, sym, ◌∙◌, subst}
+use Rattle.std.proofs.Common.{◌≡◌, ◌≢◌, ℕ, true, [], ◌∷◌, ◌++◌, refl, ap, sym, ◌∙◌, subst}
 use Rattle.pas_profile.specs.declared.profile.Profile.{Profile}
 use Rattle.pas_steps.specs.Views.{View}
 use Rattle.pas_steps.specs.Allowed.{Allowed, IsStepOf}
 use Rattle.pas_steps.specs.Agreement.{Agrees}
+use Rattle.pas_steps.specs.Calls.{nothing, Does}
 use Rattle.pas_steps.specs.Clear.{HasNothing}
+use Rattle.pas_steps.specs.Kinds.{Kinds, kind_of, is_in, apart, changing}
 use Rattle.pas_steps.specs.Lists.{Whole, part}
-use Rattle.pas_steps.specs.Desks.{Seat, made, triple, triples, CanCall, CanMake, Makes}
+use Rattle.pas_steps.specs.Desks.{Seat, Standing, made, triple, triples, CanCall, CanMake, Makes}
 use Rattle.pas_steps.specs.declared.step.Step.{Step}
+use Rattle.pas_steps.proofs.Called.{call_none, call_step}
+use Rattle.pas_steps.proofs.Calls.{still_clear, does_idly}
 use Rattle.pas_steps.proofs.Parts.{part_of_others}
 use Rattle.pas_plain.specs.Plain.{profile_of, actor_of, room_of_pass, PassStands}
 use Rattle.pas_plain.specs.Seats.{region_of, pass_of, DeskStands, standing_of}
@@ -124,3 +128,19 @@ storm_makes old mid new foreign foreign' s a own profile stands makes =
           let at = stands v stood.0 stood.1 in
           subst (λ (f : Profile). Agrees f v s a) profile (makes.agrees v at.0 (own_stands mid foreign' v at.0 at.1) (allowed_there v allowed));
     }
+
+-- ---- for those who write intruders
+-- an actor that has nothing makes no step
+pub acts_not : {σ : Standing} → Acts σ σ
+acts_not = record { steps = []; calls = call_none {R = λ v w. HasNothing w} (λ v met. met) }
+
+still_nothing : {v w : View} → Does nothing v w → HasNothing v → HasNothing w
+still_nothing does none = record { grains = λ g. does.held g ∙ none.grains g; rights = λ page. does.right page ∙ none.rights page; clear = still_clear does none.clear }
+
+-- one that changes nothing of what it holds, has and owes, and that it may always make
+pub acts_idly : {σ σ' : Standing} {s : Step} {a : ℕ} (ks : Kinds) → apart ks changing ≡ true → is_in ks (kind_of s) ≡ true → ((v : View) → Allowed σ.seat.profile v s) → Makes σ σ' s a → Acts σ σ'
+acts_idly {σ} {s = s} {a = a} ks w is allowed makes = record {
+  steps = made s a ∷ [];
+  calls = call_step (λ v w. HasNothing w) (call_none {R = λ v w. HasNothing w} (λ v met. met)) makes (λ v met same. allowed v)
+      (λ v met same agrees. still_nothing (does_idly σ.seat.profile ks w (made s a ∷ []) v (is, tt) (agrees, tt)) met);
+}

@@ -12,6 +12,8 @@ pub mod region;
 pub mod session;
 pub mod storm;
 #[cfg(test)]
+mod storm_tests;
+#[cfg(test)]
 mod tests;
 
 pub use closed::Closed;
