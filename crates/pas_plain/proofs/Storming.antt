@@ -1,16 +1,17 @@
 -- A desk between whose own steps another actor acts.
-use Rattle.std.proofs.Common.{◌≡◌, ◌≢◌, ℕ, true, [], ◌∷◌, ◌++◌, refl, ap, sym, ◌∙◌, subst}
+use Rattle.std.proofs.Common.{◌≡◌, ◌≢◌, ℕ, true, List, [], ◌∷◌, ◌++◌, refl, ap, sym, ◌∙◌, subst}
 use Rattle.pas_profile.specs.declared.profile.Profile.{Profile}
 use Rattle.pas_steps.specs.Views.{View}
 use Rattle.pas_steps.specs.Allowed.{Allowed, IsStepOf}
 use Rattle.pas_steps.specs.Agreement.{Agrees}
-use Rattle.pas_steps.specs.Calls.{nothing, Does}
-use Rattle.pas_steps.specs.Clear.{HasNothing}
+use Rattle.pas_steps.specs.Calls.{nothing, Does, Calls}
+use Rattle.pas_steps.specs.Clear.{IsClear, HasNothing}
 use Rattle.pas_steps.specs.Kinds.{Kinds, kind_of, is_in, apart, changing}
 use Rattle.pas_steps.specs.Lists.{Whole, part}
 use Rattle.pas_steps.specs.Desks.{Seat, Standing, made, triple, triples, CanCall, CanMake, Makes}
+use Rattle.pas_steps.specs.declared.step.Made.{Made}
 use Rattle.pas_steps.specs.declared.step.Step.{Step}
-use Rattle.pas_steps.proofs.Called.{call_none, call_step}
+use Rattle.pas_steps.proofs.Called.{call_none, call_step, call_as}
 use Rattle.pas_steps.proofs.Calls.{still_clear, does_idly}
 use Rattle.pas_steps.proofs.Parts.{part_of_others}
 use Rattle.pas_plain.specs.Plain.{profile_of, actor_of, room_of_pass, PassStands}
@@ -134,7 +135,7 @@ storm_makes old mid new foreign foreign' s a own profile stands makes =
 pub acts_not : {σ : Standing} → Acts σ σ
 acts_not = record { steps = []; calls = call_none {R = λ v w. HasNothing w} (λ v met. met) }
 
-still_nothing : {v w : View} → Does nothing v w → HasNothing v → HasNothing w
+pub still_nothing : {v w : View} → Does nothing v w → HasNothing v → HasNothing w
 still_nothing does none = record { grains = λ g. does.held g ∙ none.grains g; rights = λ page. does.right page ∙ none.rights page; clear = still_clear does none.clear }
 
 -- one that changes nothing of what it holds, has and owes, and that it may always make
@@ -144,3 +145,7 @@ acts_idly {σ} {s = s} {a = a} ks w is allowed makes = record {
   calls = call_step (λ v w. HasNothing w) (call_none {R = λ v w. HasNothing w} (λ v met. met)) makes (λ v met same. allowed v)
       (λ v met same agrees. still_nothing (does_idly σ.seat.profile ks w (made s a ∷ []) v (is, tt) (agrees, tt)) met);
 }
+
+-- calls after which the actor holds, has and owes what it did
+pub acts_still : {σ σ' : Standing} {steps : List Made} → Calls σ σ' IsClear (Does nothing) steps → Acts σ σ'
+acts_still {steps = steps} calls = record { steps = steps; calls = call_as (λ v w. HasNothing w) calls (λ v none. none.clear) (λ v w none does. still_nothing does none) }

@@ -56,8 +56,9 @@ impl PlainRegion {
         ensures spare { ⟦<StormDesk<I> as Desk>⟧.spare_of result ≡ room_of_pass own - length (events_shown own) }
         ensures stands { (v : View) (w l : Whole) → StormStands self own foreign v w → (⟦<StormDesk<I> as Desk>⟧.standing result).stands v l }
     {
+        let desk = self.desk(own);
         StormDesk {
-            desk: self.desk(own),
+            desk,
             foreign,
             intruder,
             number: 0,
