@@ -4,3 +4,4 @@ pub mod Found
 pub mod Fills
 pub mod Borrowed
 pub mod Ageing
+pub mod Intruding
