@@ -12,7 +12,6 @@ use Rattle.pas_steps.proofs.Called.{call_as, call_then, next_call}
 use Rattle.pas_cache.specs.Caches.{Cached, AtRest}
 use Rattle.pas_cache.specs.Calls.{MayAllocate, Allocates, StopsCache}
 use Rattle.pas_cache.specs.Serves.{Wanted}
-use Rattle.pas_cache.proofs.Budget.{log_kept}
 use Rattle.pas_cache.proofs.FlushesAndFrees.{rests_empty}
 use Rattle.pas_plain.specs.Storms.{Acts}
 

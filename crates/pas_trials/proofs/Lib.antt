@@ -5,3 +5,5 @@ pub mod Fills
 pub mod Borrowed
 pub mod Ageing
 pub mod Intruding
+pub mod Borrowing
+pub mod Stormed

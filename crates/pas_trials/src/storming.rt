@@ -1,9 +1,11 @@
 //! Foreign actors that free or borrow a block between the steps of another one.
-ghost use Rattle.std.specs.Prelude.{◌≡◌, ◌≤◌, [], true};
+ghost use Rattle.std.specs.Prelude.{◌≡◌, ◌≤◌, ◌+◌, ◌*◌, [], true};
 ghost use Rattle.pas_steps.specs.Clear.{HasNothing};
 ghost use Rattle.pas_steps.specs.Desks.{CanCall};
+ghost use Rattle.pas_steps.specs.Unknown.{unknown_pages};
 ghost use Rattle.pas_free_log.specs.Conditions.{IsNameOf};
-ghost use Rattle.pas_cache.specs.Caches.{cached};
+ghost use Rattle.pas_cache.specs.Caches.{cached, AtRest};
+ghost use Rattle.pas_trials.specs.Borrowing.{Borrows};
 ghost use Rattle.pas_plain.specs.Storms.{Acts};
 
 use pas_cache::ThreadCache;
@@ -91,5 +93,16 @@ impl Intruder for Borrower {
             return;
         }
         borrow_one(desk, &mut self.cache);
+    }
+}
+
+/// Asks for so many blocks of 512 bytes of heap 0. At most two events for each, and one for the deed of each page.
+pub fn borrow_many<D: Desk>(desk: &mut D, cache: &mut ThreadCache, blocks: u8)
+    requires can { CanCall (D.standing desk.old) (λ v l. AtRest (D.standing desk.old).seat.profile (cached cache.old) v × (2 * blocks + unknown_pages (D.standing desk.old).seat.profile v ≤ D.spare_of desk.old)) }
+    ensures borrows { Borrows (cached cache.old) (cached cache.new) (D.standing desk.old) (D.standing desk.new) }
+    ensures home { D.home desk.new ≡ D.home desk.old }
+{
+    for done in 0..blocks {
+        let _ = cache.alloc(desk, 0, 512, 16);
     }
 }
