@@ -1,13 +1,11 @@
 -- What an actor that has nothing did.
-use Rattle.std.proofs.Common.{◌≡◌, ℕ, ◌+◌, ◌≤◌, [], ◌++◌, Bool, Result, sym, subst, inr, arith}
+use Rattle.std.proofs.Common.{◌≡◌, ℕ, ◌≤◌, [], ◌++◌, Bool, Result, sym, subst, inr, arith}
 use Rattle.pas_profile.specs.declared.name.Block.{Block}
 use Rattle.pas_profile.specs.declared.event.NoRoom.{NoRoom}
-use Rattle.pas_profile.specs.declared.profile.Profile.{Profile}
 use Rattle.pas_steps.specs.Calls.{Calls}
 use Rattle.pas_steps.specs.Clear.{HasNothing}
 use Rattle.pas_steps.specs.Desks.{Standing, Seat, CanCall}
 use Rattle.pas_steps.specs.Views.{View}
-use Rattle.pas_steps.specs.Lists.{Whole}
 use Rattle.pas_steps.proofs.Called.{call_as, call_then, next_call}
 use Rattle.pas_cache.specs.Caches.{Cached, AtRest}
 use Rattle.pas_cache.specs.Calls.{MayAllocate, Allocates, StopsCache}
