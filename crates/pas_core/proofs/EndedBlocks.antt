@@ -18,7 +18,7 @@ use Rattle.pas_steps.specs.Allowed.{IsStepOf}
 use Rattle.pas_steps.specs.Agreement.{heap_recorded}
 use Rattle.pas_steps.specs.Lists.{Triple, Whole, part, word_after, visible, IsNext, Legal}
 use Rattle.pas_steps.specs.declared.step.Step.{Step}
-use Rattle.pas_steps.specs.declared.step.Step.TheVariants.{Deed, End}
+use Rattle.pas_steps.specs.declared.step.Step.TheVariants.{End}
 use Rattle.pas_core.specs.Good.{word_of_deed}
 use Rattle.pas_core.proofs.DeedWords.{deed_kept}
 use Rattle.pas_core.proofs.Deeds.{deed_of, directory_is_of}

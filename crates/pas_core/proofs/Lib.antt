@@ -26,3 +26,4 @@ pub mod Offers
 pub mod OneActorRights
 pub mod OneActorGrains
 pub mod OneActorWords
+pub mod Alone

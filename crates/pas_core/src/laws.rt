@@ -22,6 +22,7 @@ ghost use Rattle.pas_steps.specs.Desks.{triples};
 ghost use Rattle.pas_steps.specs.declared.step.Made.{Made};
 
 pub use crate::knowledge_laws::{answers_agree, known_is_true, one_right, untouched};
+pub use crate::lone_laws::a_lone_search_finds_what_there_is;
 
 /// However the steps of the actors fall between each other, what they did is a run of the machine: each block was given where no
 /// other lived, on backed pages of its heap and under a name of its own, each end ended the very block of its name, and each

@@ -1,3 +1,4 @@
 pub mod Passes
 pub mod Stepping
+pub mod Storming
 pub mod Walk

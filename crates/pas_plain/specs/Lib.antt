@@ -1,3 +1,4 @@
 pub mod Plain
 pub mod Seats
 pub mod Sides
+pub mod Storms

@@ -9,7 +9,7 @@ use crate::pass::PlainPass;
 use crate::region::PlainRegion;
 use pas_profile::{Event, Profile};
 use pas_steps::{Desk, Step};
-use std::mem::replace;
+use std::mem::{replace, swap};
 
 /// The place of one actor at a region at which no other actor works.
 #[derive(Drop)]
@@ -61,6 +61,15 @@ impl PlainDesk {
         ensures risen { result ≡ pass_of self.old }
     {
         replace(&mut self.pass, pass)
+    }
+
+    /// Exchanges the pass of the actor that sits here for this one, in place. The region doesn't move.
+    pub(crate) fn exchange_pass(&mut self, pass: &mut PlainPass)
+        ensures region { region_of self.new ≡ region_of self.old }
+        ensures pass { pass_of self.new ≡ pass.old }
+        ensures risen { pass.new ≡ pass_of self.old }
+    {
+        swap(&mut self.pass, pass);
     }
 
     #[inline(always)]

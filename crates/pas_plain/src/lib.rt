@@ -10,6 +10,9 @@ pub mod opening;
 pub mod pass;
 pub mod region;
 pub mod session;
+pub mod storm;
+#[cfg(test)]
+mod storm_tests;
 #[cfg(test)]
 mod tests;
 
@@ -18,3 +21,4 @@ pub use desk::PlainDesk;
 pub use pass::PlainPass;
 pub use region::PlainRegion;
 pub use session::close;
+pub use storm::{Intruder, StormDesk};

@@ -73,6 +73,13 @@ impl PlainPass {
         self.room.as_slice()
     }
 
+    /// For how many more events there is room.
+    pub(crate) fn spare(&self) -> u32
+        ensures { result + length (events_shown self.now) ≡ room_of_pass self.now }
+    {
+        self.room.spare()
+    }
+
     /// The newest epoch that the actor read, 0 where it read none.
     #[inline]
     pub(crate) fn epoch(&self) -> u64

@@ -20,6 +20,9 @@ mod sharing_tests;
 #[cfg(test)]
 mod slot_tests;
 #[cfg(test)]
+mod storm_tests;
+pub mod storming;
+#[cfg(test)]
 mod tests;
 pub mod wanting;
 
@@ -29,4 +32,5 @@ pub use holding::{occupy, visit};
 pub use passing::age_and_pass;
 pub use seats::{change, close_both};
 pub use sharing::{Allocated, allocate, fill_shared};
+pub use storming::{Borrower, Flusher, borrow_many};
 pub use wanting::{Findings, ask, want};

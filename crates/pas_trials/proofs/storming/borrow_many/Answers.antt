@@ -1,0 +1,16 @@
+use Rattle.std.proofs.Common.{refl, ◌∙◌, arith}
+use Rattle.pas_cache.proofs.Budget.{may_allocate}
+use Rattle.pas_trials.proofs.Borrowing.{none_yet, one_more}
+use Rattle.pas_trials.proofs.storming.borrow_many.Goals as goal
+
+pub loop-done-init : goal.loop-done-init
+loop-done-init g c = (none_yet (omega arith) c.requires.can, refl)
+
+pub alloc-requires-clause-can : goal.alloc-requires-clause-can
+alloc-requires-clause-can g c = may_allocate _ (omega arith) c.loop-done.invariant.0.room
+
+pub loop-done-preserved : goal.loop-done-preserved
+loop-done-preserved g c = (
+  one_more (omega arith) c.loop-done.invariant.0 c.alloc.ensures.allocates (λ v l s. g.met.D.Desk.spares c.loop-done.desk v l s) (λ v l s. g.met.D.Desk.spares c.alloc.new.desk v l s),
+  c.alloc.ensures.home ∙ c.loop-done.invariant.1,
+)

@@ -1,0 +1,8 @@
+use Rattle.pas_trials.proofs.Intruding.{may_stop, acts_borrow}
+use Rattle.pas_trials.proofs.storming.borrow_one.Goals as goal
+
+pub stop-requires-clause-can : goal.stop-requires-clause-can
+stop-requires-clause-can g c = may_stop c.requires.locals c.requires.log c.alloc.ensures.allocates c.requires.can
+
+pub returns-clause-acts : goal.returns-clause-acts
+returns-clause-acts g c = acts_borrow c.requires.locals c.requires.log c.alloc.ensures.allocates c.stop.ensures.stops
