@@ -26,3 +26,5 @@ pub mod Offers
 pub mod OneActorRights
 pub mod OneActorGrains
 pub mod OneActorWords
+pub mod Ordered
+pub mod WordLists

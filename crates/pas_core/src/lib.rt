@@ -3,6 +3,7 @@
 
 pub mod knowledge_laws;
 pub mod laws;
+pub mod order_laws;
 pub mod run;
 
 pub use run::run_steps;
