@@ -1,0 +1,15 @@
+-- Elements that move from one list to another.
+use Rattle.std.proofs.Common.{◌≡◌, ℕ, zero, suc, ◌<◌, List, [], ◌∷◌, ◌++◌, length, sym, subst, arith}
+use Rattle.std.specs.List.{All}
+use Rattle.std.proofs.lemmas.List.Elements.{All-append, All-cons, All-nil}
+
+-- one more at the end
+pub all_more : {A : Type 0} (P : A → Type 0) (xs ys : List A) (x : A) → ys ≡ xs ++ x ∷ [] → All P xs → P x → All P ys
+all_more {A = A} P xs ys x is all new = subst (λ (zs : List A). All P zs) (sym is) (All-append P xs (x ∷ []) all (All-cons P x [] new (All-nil P)))
+
+-- the first, and the others
+pub first_is : {A : Type 0} (P : A → Type 0) (xs : List A) (x : A) (rest : List A) → xs ≡ x ∷ rest → All P xs → P x
+first_is {A = A} P xs x rest is all = subst (λ (ys : List A). All P ys) is all 0 x (omega arith)
+
+pub others_are : {A : Type 0} (P : A → Type 0) (xs : List A) (x : A) (rest : List A) → xs ≡ x ∷ rest → All P xs → All P rest
+others_are {A = A} P xs x rest is all k d lt = subst (λ (ys : List A). All P ys) is all (suc k) d (omega (arith, lt))
