@@ -1,7 +1,7 @@
 ghost use Rattle.std.specs.Prelude.{◌≡◌, All, IfOk};
 ghost use Rattle.pas_steps.specs.States.{profile_of as the_profile_of};
 
-use crate::seating::opened;
+use crate::seating::opened_for_two;
 use crate::*;
 use pas_bits::Mask4;
 use pas_profile::*;
@@ -41,8 +41,8 @@ fn one_has_all(answers: &[Option<Result<Slots, NoRoom>>]) -> bool {
 
 #[test]
 fn one_of_two_threads_gets_the_page(rt: HostRuntime) -> Result<(), Fail> {
-    let (region, mut passes) = opened(rt.alloc(), 1, 2, 2)?;
-    let scavenger = passes.remove(0);
+    let (region, first, second) = opened_for_two(rt.alloc(), 1, 2)?;
+    let passes = vec![in rt.alloc(); first, second]?;
     let mut workers = workers_of(rt.alloc(), &region, passes)?;
     race(&rt, &region, &mut workers);
     let (passes, answers) = rise(rt.alloc(), &region, workers)?;

@@ -4,7 +4,7 @@ ghost use Rattle.pas_profile.specs.Rooms.{shown, size_of_room};
 ghost use Rattle.pas_shared.specs.Passes.{profile_of};
 ghost use Rattle.pas_shared_trials.specs.Races.{IsFreshPass, trial_profile};
 
-use pas_profile::{EventRoom, Profile};
+use pas_profile::{EventRoom, NoMemory, Profile};
 use pas_shared::{SharedPass, SharedRegion};
 use std::alloc::Global;
 use std::test::Fail;
@@ -43,4 +43,25 @@ pub fn opened(
         shared: 0,
     };
     Ok(SharedRegion::try_new(alloc, profile, rooms)?)
+}
+
+/// Such a region of two threads, and the passes of these two.
+pub fn opened_for_two(
+    alloc: Global,
+    pages: u32,
+    events: u32,
+) -> Result<(SharedRegion, SharedPass, SharedPass), Fail>
+    requires pages { (1 ≤ pages) × (pages ≤ 4096) }
+    ensures profile { IfOk result (λ opened. profile_of opened.0 ≡ trial_profile pages 2) }
+    ensures first { IfOk result (λ opened. IsFreshPass opened.0 events opened.1) }
+    ensures second { IfOk result (λ opened. IsFreshPass opened.0 events opened.2) }
+{
+    let (region, mut passes) = opened(alloc, pages, 2, events)?;
+    let Some(second) = passes.pop() else {
+        return Err(NoMemory.into());
+    };
+    let Some(first) = passes.pop() else {
+        return Err(NoMemory.into());
+    };
+    Ok((region, first, second))
 }

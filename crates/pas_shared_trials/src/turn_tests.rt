@@ -1,6 +1,6 @@
 ghost use Rattle.std.specs.Prelude.{◌≤◌};
 
-use crate::seating::opened;
+use crate::seating::opened_for_two;
 use pas_profile::*;
 use pas_shared::close;
 use pas_trials::{Findings, visit, want};
@@ -27,13 +27,7 @@ struct Trial {
 fn two_at_once(alloc: Global, words: u8, leaves: bool) -> Result<Trial, Fail>
     requires { words ≤ 4 }
 {
-    let (region, mut passes) = opened(alloc, 2, 2, 1)?;
-    let Some(second) = passes.pop() else {
-        return Err(NoMemory.into());
-    };
-    let Some(first) = passes.pop() else {
-        return Err(NoMemory.into());
-    };
+    let (region, first, second) = opened_for_two(alloc, 2, 1)?;
     let mut first = region.desk(first);
     let mut second = region.desk(second);
     let left_in = visit(&mut first, 1, DIRECTORY, words, leaves);
