@@ -1,4 +1,4 @@
-//! The table of what was measured.
+//! The table of what was measured: processor time, since the clock on the wall also counts what others do on the machine.
 ghost use Rattle.std.specs.Prelude.{◌≡◌, ◌≤◌, ◌<◌, All, IfOk};
 ghost use Rattle.pas_steps.specs.Desks.{Anything, CanCall};
 ghost use Rattle.pas_shared_trials.specs.Races.{IsFreshPass};
@@ -14,9 +14,8 @@ use std::io;
 use std::io::ErrorKind;
 use std::sync::atomic::AtomicU64;
 use std::alloc::Global;
-use std::rt::Clock;
 use std::thread::Threads;
-use std::time::Instant;
+use std::time::{CpuClock, Duration};
 
 const NAMES: [&str; 4] = ["look", "hint", "unhint", "tick"];
 
@@ -27,11 +26,11 @@ struct Time {
     sum: u64,
 }
 
-/// The time since then, of so many rounds.
-fn since<R: Clock>(rt: &R, start: Instant, rounds: u64, sum: u64) -> io::Result<Time>
+/// The processor time of all threads since then, of so many rounds.
+fn since<R: CpuClock>(rt: &R, start: Duration, rounds: u64, sum: u64) -> io::Result<Time>
     requires { 1 ≤ rounds }
 {
-    let nanos = start.elapsed(rt)?.as_nanos();
+    let nanos = rt.process_cpu_time()?.saturating_sub(start).as_nanos();
     let tenths = nanos.saturating_mul(10) / rounds as u128;
     Ok(Time {
         tenths: u64::try_from(tenths).unwrap_or(u64::MAX),
@@ -40,20 +39,20 @@ fn since<R: Clock>(rt: &R, start: Instant, rounds: u64, sum: u64) -> io::Result<
 }
 
 #[inline(always)]
-fn of_kind<R: Clock, D: Desk>(rt: &R, desk: &mut D, kind: Kind, rounds: u64) -> io::Result<Time>
+fn of_kind<R: CpuClock, D: Desk>(rt: &R, desk: &mut D, kind: Kind, rounds: u64) -> io::Result<Time>
     requires rounds { 1 ≤ rounds }
     requires pages { 64 ≤ (D.standing desk.old).seat.profile.pages }
     requires can { CanCall (D.standing desk.old) Anything }
     ensures seat { (D.standing desk.new).seat ≡ (D.standing desk.old).seat }
     ensures can { CanCall (D.standing desk.new) Anything }
 {
-    let start = Instant::now(rt)?;
+    let start = rt.process_cpu_time()?;
     let sum = repeat(desk, kind, rounds);
     since(rt, start, rounds, sum)
 }
 
 /// Each kind of step at the desk.
-fn of_desk<R: Clock, D: Desk>(rt: &R, desk: &mut D, rounds: u64) -> io::Result<[Time; 4]>
+fn of_desk<R: CpuClock, D: Desk>(rt: &R, desk: &mut D, rounds: u64) -> io::Result<[Time; 4]>
     requires rounds { 1 ≤ rounds }
     requires pages { 64 ≤ (D.standing desk.old).seat.profile.pages }
     requires can { CanCall (D.standing desk.old) Anything }
@@ -66,7 +65,7 @@ fn of_desk<R: Clock, D: Desk>(rt: &R, desk: &mut D, rounds: u64) -> io::Result<[
 }
 
 #[inline(always)]
-fn of_words<R: Clock>(
+fn of_words<R: CpuClock>(
     rt: &R,
     words: &[AtomicU64; 4],
     kind: Kind,
@@ -74,13 +73,13 @@ fn of_words<R: Clock>(
 ) -> io::Result<Time>
     requires { 1 ≤ rounds }
 {
-    let start = Instant::now(rt)?;
+    let start = rt.process_cpu_time()?;
     let sum = bare::repeat(words, kind, rounds);
     since(rt, start, rounds, sum)
 }
 
 /// Each kind of operation on bare words.
-fn of_bare<R: Clock>(rt: &R, rounds: u64) -> io::Result<[Time; 4]>
+fn of_bare<R: CpuClock>(rt: &R, rounds: u64) -> io::Result<[Time; 4]>
     requires { 1 ≤ rounds }
 {
     let words = [
@@ -132,7 +131,7 @@ fn workers_of(
 }
 
 /// Takes by so many threads at once.
-fn of_threads<R: Clock + Threads + Sync>(rt: &R, alloc: Global, threads: usize, spread: bool, rounds: u64) -> io::Result<Time>
+fn of_threads<R: CpuClock + Threads + Sync>(rt: &R, alloc: Global, threads: usize, spread: bool, rounds: u64) -> io::Result<Time>
     requires threads { threads ≤ 4 }
     requires rounds { 1 ≤ rounds }
 {
@@ -140,9 +139,9 @@ fn of_threads<R: Clock + Threads + Sync>(rt: &R, alloc: Global, threads: usize, 
         return Err(ErrorKind::OutOfMemory.into());
     };
     let mut workers = workers_of(alloc, &region, passes, threads, spread)?;
-    let start = Instant::now(rt)?;
+    let start = rt.process_cpu_time()?;
     work_at_once(rt, &region, &mut workers, rounds);
-    since(rt, start, rounds, 0)
+    since(rt, start, rounds.saturating_mul(threads as u64).max(1), 0)
 }
 
 fn print_steps<R: Print>(rt: &R, plain: [Time; 4], shared: [Time; 4], bare: [Time; 4]) -> io::Result<()> {
@@ -158,7 +157,7 @@ fn print_steps<R: Print>(rt: &R, plain: [Time; 4], shared: [Time; 4], bare: [Tim
     Ok(())
 }
 
-fn print_threads<R: Clock + Print + Threads + Sync>(rt: &R, alloc: Global, rounds: u64) -> io::Result<()>
+fn print_threads<R: CpuClock + Print + Threads + Sync>(rt: &R, alloc: Global, rounds: u64) -> io::Result<()>
     requires { 1 ≤ rounds }
 {
     for threads in [1, 2, 4] {
@@ -173,7 +172,7 @@ fn print_threads<R: Clock + Print + Threads + Sync>(rt: &R, alloc: Global, round
 }
 
 /// Measures with so many rounds each, and prints the table.
-pub fn print<R: Clock + Print + Threads + Sync>(rt: &R, alloc: Global, rounds: u64) -> io::Result<()>
+pub fn print<R: CpuClock + Print + Threads + Sync>(rt: &R, alloc: Global, rounds: u64) -> io::Result<()>
     requires { 1 ≤ rounds }
 {
     let Ok(mut desk) = plain(alloc) else {
@@ -186,7 +185,7 @@ pub fn print<R: Clock + Print + Threads + Sync>(rt: &R, alloc: Global, rounds: u
 }
 
 /// Each kind of step at the desk of a shared region at which nobody else sits.
-fn of_shared<R: Clock>(rt: &R, alloc: Global, rounds: u64) -> io::Result<[Time; 4]>
+fn of_shared<R: CpuClock>(rt: &R, alloc: Global, rounds: u64) -> io::Result<[Time; 4]>
     requires { 1 ≤ rounds }
 {
     let Ok((region, mut passes)) = shared(alloc) else {
