@@ -16,8 +16,12 @@ pub record IsWorking (desk : Standing) (c : Cached) (room : ℕ) : Type 0 where
   pub rest : CanCall desk (λ v l. AtRest desk.seat.profile c v)
 
 -- the thread has a fresh pass of the region, and a cache with which an actor that has nothing is at rest
-abbrev pub IsCalm : SharedRegion → ℕ → Gale → Type 0
-IsCalm region events gale = IsSome gale.pass × IfSome gale.pass (IsFreshPass region events) × ((f : Profile) (v : View) → HasNothing v → AtRest f (cached gale.cache) v)
+pub record IsCalm (region : SharedRegion) (events : ℕ) (gale : Gale) : Type 0 where
+  pub has_pass : IsSome gale.pass
+  pub pass : IfSome gale.pass (IsFreshPass region events)
+  pub rest : (f : Profile) (v : View) → HasNothing v → AtRest f (cached gale.cache) v
 
-abbrev pub HasPass : SharedRegion → Gale → Type 0
-HasPass region gale = IsSome gale.pass × IfSome gale.pass (IsPassOf region)
+-- the thread has its pass of the region back
+pub record HasPass (region : SharedRegion) (gale : Gale) : Type 0 where
+  pub has_pass : IsSome gale.pass
+  pub pass : IfSome gale.pass (IsPassOf region)
