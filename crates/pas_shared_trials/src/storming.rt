@@ -85,7 +85,7 @@ impl Storm {
         }
     }
 
-    /// Frees one of the blocks, or asks for one in its place. Now and then the cache is stopped instead.
+    /// Frees one of the blocks, or asks for one in its place: of two classes, or bit-fit. Now and then the cache is stopped instead.
     fn turn<D: Desk>(&mut self, desk: &mut D, cache: &mut ThreadCache, room: usize)
         requires working { IsWorking (D.standing desk.old) (cached cache.old) room }
         ensures working { IsWorking (D.standing desk.new) (cached cache.new) room }
@@ -98,7 +98,7 @@ impl Storm {
             return;
         }
         let at = (drawn % 8) as usize;
-        let size = ((drawn >> 3) % 1024) as u32;
+        let size = 300 * ((drawn >> 3) % 3) as u32;
         match self.blocks[at] {
             Some(name) => {
                 free_once(desk, cache, room, name);
