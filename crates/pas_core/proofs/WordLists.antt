@@ -1,7 +1,7 @@
 -- The words in a row after one more step.
-use Rattle.std.proofs.Common.{◌≡◌, ℕ, ◌<◌, Bool, true, false, if◌then◌else◌, List, ◌∷◌, length, length-set, refl, ap, sym, subst, ◌∙◌}
+use Rattle.std.proofs.Common.{◌≡◌, ℕ, Bool, true, false, if◌then◌else◌, List, ◌∷◌, length-set, refl, ap, ◌∙◌}
 use Rattle.std.specs.Prelude.{slice_index, slice_set}
-use Rattle.pas_profile.specs.Layouts.{index_of, words_of, same_word}
+use Rattle.pas_profile.specs.Layouts.{index_of, same_word}
 use Rattle.pas_profile.specs.Profiles.{IsWordOf}
 use Rattle.pas_profile.specs.declared.profile.Profile.{Profile}
 use Rattle.pas_profile.specs.declared.word.Word.{Word}

@@ -1,5 +1,5 @@
 -- What a worker has before and after a race.
-use Rattle.std.specs.Prelude.{◌≡◌, ℕ, ◌≤◌, [], IsSome, IfSome}
+use Rattle.std.specs.Prelude.{◌≡◌, ℕ, [], IsSome, IfSome}
 use Rattle.pas_profile.specs.declared.profile.Profile.{Profile}
 use Rattle.pas_shared.specs.Passes.{IsPassOf, view_of, seat_of}
 use Rattle.pas_shared.specs.declared.region.SharedRegion.{SharedRegion}

@@ -63,7 +63,9 @@ fn blow(region: &SharedRegion, gale: &mut Gale, events: u32, turns: u64)
 {
     if let Some(pass) = gale.pass.take() {
         let mut desk = region.desk(pass);
-        gale.stopped = gale.storm.rage(&mut desk, &mut gale.cache, events as usize, turns);
+        gale.stopped = gale
+            .storm
+            .rage(&mut desk, &mut gale.cache, events as usize, turns);
         gale.pass = Some(desk.into_pass());
     }
 }

@@ -46,7 +46,10 @@ fn has_marks(state: &State, page: u32) -> bool
     match read_deed(state.word(Word::Deed(page))) {
         Some(directory) => {
             let number = directory.number();
-            number < 23 && has_bit(state.word(Word::Eligible(number, 0)), page) && !parked && (!backed || hinted)
+            number < 23
+                && has_bit(state.word(Word::Eligible(number, 0)), page)
+                && !parked
+                && (!backed || hinted)
         }
         None => !parked && !backed,
     }

@@ -36,7 +36,12 @@ pub fn has_room<D: Desk>(desk: &D, cache: &ThreadCache, room: usize, events: usi
 }
 
 /// One request, of at most 2,048 bytes. None where it was refused, or where there may be no room for its events.
-pub fn ask_once<D: Desk>(desk: &mut D, cache: &mut ThreadCache, room: usize, size: u32) -> Option<Name>
+pub fn ask_once<D: Desk>(
+    desk: &mut D,
+    cache: &mut ThreadCache,
+    room: usize,
+    size: u32,
+) -> Option<Name>
     requires size { size ≤ 2048 }
     requires working { IsWorking (D.standing desk.old) (cached cache.old) room }
     ensures working { IsWorking (D.standing desk.new) (cached cache.new) room }
@@ -127,7 +132,13 @@ impl Storm {
     }
 
     /// So many turns, and the end. Whether the cache was stopped, and the actor has nothing.
-    pub fn rage<D: Desk>(&mut self, desk: &mut D, cache: &mut ThreadCache, room: usize, turns: u64) -> bool
+    pub fn rage<D: Desk>(
+        &mut self,
+        desk: &mut D,
+        cache: &mut ThreadCache,
+        room: usize,
+        turns: u64,
+    ) -> bool
         requires working { IsWorking (D.standing desk.old) (cached cache.old) room }
         ensures home { D.home desk.new ≡ D.home desk.old }
     {

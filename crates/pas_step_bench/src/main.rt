@@ -10,8 +10,7 @@ mod repeating;
 mod sharing;
 mod table;
 
-use std::env;
-use std::io;
+use std::{env, io};
 
 /// The rounds that the first word asks for, 0 where there is none.
 fn rounds(rt: &HostRuntime) -> io::Result<u64> {

@@ -10,10 +10,10 @@ use crate::repeating::{Kind, repeat};
 use crate::sharing::{Worker, work_at_once};
 use pas_shared::{SharedPass, SharedRegion};
 use pas_steps::Desk;
+use std::alloc::Global;
 use std::io;
 use std::io::ErrorKind;
 use std::sync::atomic::AtomicU64;
-use std::alloc::Global;
 use std::thread::Threads;
 use std::time::{CpuClock, Duration};
 
@@ -131,7 +131,13 @@ fn workers_of(
 }
 
 /// Takes by so many threads at once.
-fn of_threads<R: CpuClock + Threads + Sync>(rt: &R, alloc: Global, threads: usize, spread: bool, rounds: u64) -> io::Result<Time>
+fn of_threads<R: CpuClock + Threads + Sync>(
+    rt: &R,
+    alloc: Global,
+    threads: usize,
+    spread: bool,
+    rounds: u64,
+) -> io::Result<Time>
     requires threads { threads ≤ 4 }
     requires rounds { 1 ≤ rounds }
 {
@@ -144,20 +150,37 @@ fn of_threads<R: CpuClock + Threads + Sync>(rt: &R, alloc: Global, threads: usiz
     since(rt, start, rounds.saturating_mul(threads as u64).max(1), 0)
 }
 
-fn print_steps<R: Print>(rt: &R, plain: [Time; 4], shared: [Time; 4], bare: [Time; 4]) -> io::Result<()> {
+fn print_steps<R: Print>(
+    rt: &R,
+    plain: [Time; 4],
+    shared: [Time; 4],
+    bare: [Time; 4],
+) -> io::Result<()> {
     for i in 0..NAMES.len() {
         let name = NAMES[i];
-        let sum = plain[i].sum.wrapping_add(shared[i].sum).wrapping_add(bare[i].sum);
+        let sum = plain[i]
+            .sum
+            .wrapping_add(shared[i].sum)
+            .wrapping_add(bare[i].sum);
         let (plain, shared, bare) = (plain[i].tenths, shared[i].tenths, bare[i].tenths);
         println!(rt;
             "{name}: plain {}.{} ns, shared {}.{} ns, bare {}.{} ns (sum {sum})",
-            plain / 10, plain % 10, shared / 10, shared % 10, bare / 10, bare % 10
+            plain / 10,
+            plain % 10,
+            shared / 10,
+            shared % 10,
+            bare / 10,
+            bare % 10
         )?;
     }
     Ok(())
 }
 
-fn print_threads<R: CpuClock + Print + Threads + Sync>(rt: &R, alloc: Global, rounds: u64) -> io::Result<()>
+fn print_threads<R: CpuClock + Print + Threads + Sync>(
+    rt: &R,
+    alloc: Global,
+    rounds: u64,
+) -> io::Result<()>
     requires { 1 ≤ rounds }
 {
     for threads in [1, 2, 4] {
@@ -165,14 +188,21 @@ fn print_threads<R: CpuClock + Print + Threads + Sync>(rt: &R, alloc: Global, ro
         let spread = of_threads(rt, alloc, threads, true, rounds)?.tenths;
         println!(rt;
             "take by {threads}: pages in a row {}.{} ns, pages apart {}.{} ns",
-            beside / 10, beside % 10, spread / 10, spread % 10
+            beside / 10,
+            beside % 10,
+            spread / 10,
+            spread % 10
         )?;
     }
     Ok(())
 }
 
 /// Measures with so many rounds each, and prints the table.
-pub fn print<R: CpuClock + Print + Threads + Sync>(rt: &R, alloc: Global, rounds: u64) -> io::Result<()>
+pub fn print<R: CpuClock + Print + Threads + Sync>(
+    rt: &R,
+    alloc: Global,
+    rounds: u64,
+) -> io::Result<()>
     requires { 1 ≤ rounds }
 {
     let Ok(mut desk) = plain(alloc) else {

@@ -1,4 +1,4 @@
-use Rattle.std.proofs.Common.{◌≡◌, [], arith, rules}
+use Rattle.std.proofs.Common.{◌≡◌, [], rules}
 use Rattle.pas_profile.specs.Rooms.{shown, size_of_room}
 use Rattle.pas_profile.specs.declared.room.EventRoom.{EventRoom}
 use Rattle.pas_shared_trials.proofs.Pops.{all_more}
