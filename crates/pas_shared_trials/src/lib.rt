@@ -1,7 +1,6 @@
 //! Trials of threads that work at one shared region at once.
 #![tactic(auto)]
 
-pub mod gales;
 pub mod racing;
 #[cfg(test)]
 mod racing_tests;
@@ -12,7 +11,8 @@ mod storm_tests;
 pub mod storming;
 #[cfg(test)]
 mod turn_tests;
+pub mod workers;
 
-pub use gales::{Gale, Total, blow_all, calm, gales_of};
 pub use racing::{Worker, race, refill_first, rise, workers_of};
 pub use storming::Storm;
+pub use workers::{StormWorker, Total, gather, run_storm, storm_workers};

@@ -59,9 +59,9 @@ fn has_marks(state: &State, page: u32) -> bool
 fn a_storm_loses_nothing(rt: HostRuntime) -> Result<(), Fail> {
     let (region, passes) = opened(rt.alloc(), PAGES, THREADS, EVENTS)?;
     let mut utility = Utility::try_new(rt.alloc(), region.profile(), &[0; 5])?;
-    let mut gales = gales_of(rt.alloc(), &region, passes, &mut utility, THREADS, EVENTS)?;
-    blow_all(&rt, &region, &mut gales, EVENTS, TURNS);
-    let (passes, total) = calm(rt.alloc(), &region, gales)?;
+    let mut workers = storm_workers(rt.alloc(), &region, passes, &mut utility, THREADS, EVENTS)?;
+    run_storm(&rt, &region, &mut workers, EVENTS, TURNS);
+    let (passes, total) = gather(rt.alloc(), &region, workers)?;
     assert_eq!(rt; total.stopped, 4);
     assert!(rt; total.served > 0);
     assert!(rt; total.steps >= 1_000_000);

@@ -132,7 +132,7 @@ impl Storm {
     }
 
     /// So many turns, and the end. Whether the cache was stopped, and the actor has nothing.
-    pub fn rage<D: Desk>(
+    pub fn run<D: Desk>(
         &mut self,
         desk: &mut D,
         cache: &mut ThreadCache,

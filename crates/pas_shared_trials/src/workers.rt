@@ -3,7 +3,7 @@ ghost use Rattle.std.specs.Prelude.{◌≡◌, ◌≤◌, All, IfOk};
 ghost use Rattle.pas_utility.specs.Pools.{threads_of};
 ghost use Rattle.pas_shared.specs.Passes.{IsPassOf};
 ghost use Rattle.pas_shared_trials.specs.Races.{IsFreshPass};
-ghost use Rattle.pas_shared_trials.specs.Storms.{IsCalm, HasPass};
+ghost use Rattle.pas_shared_trials.specs.Storms.{IsReadyForStorm, HasPass};
 
 use crate::storming::Storm;
 use pas_cache::ThreadCache;
@@ -14,7 +14,7 @@ use std::thread::{Threads, for_each_mut};
 
 /// A thread's pass while it doesn't sit at the region, its cache, and its storm.
 #[derive(Drop)]
-pub struct Gale {
+pub struct StormWorker {
     pub pass: Option<SharedPass>,
     pub cache: ThreadCache,
     pub storm: Storm,
@@ -22,22 +22,22 @@ pub struct Gale {
     pub stopped: bool,
 }
 
-/// A gale for each pass of a thread, with an empty cache. The scavenger's pass is let go.
-pub fn gales_of(
+/// A worker for each pass of a thread, with an empty cache. The scavenger's pass is let go.
+pub fn storm_workers(
     alloc: Global,
     region: &SharedRegion,
     passes: Vec<SharedPass>,
     utility: &mut Utility,
     threads: u8,
     events: u32,
-) -> Result<Vec<Gale>, AllocError>
+) -> Result<Vec<StormWorker>, AllocError>
     requires threads { threads_of utility.old ≡ threads }
     requires passes { All (IsFreshPass region.now events) passes.items }
-    ensures { IfOk result (λ gales. All (IsCalm region.now events) gales.items) }
+    ensures { IfOk result (λ workers. All (IsReadyForStorm region.now events) workers.items) }
 {
     let _ = region;
     let _ = events;
-    let mut gales = Vec::new(alloc);
+    let mut workers = Vec::new(alloc);
     for pass in passes {
         let actor = pass.actor();
         if actor < 1 || actor > threads {
@@ -46,42 +46,47 @@ pub fn gales_of(
         let Some(seat) = utility.cache_seat(actor) else {
             continue;
         };
-        gales.push(Gale {
+        workers.push(StormWorker {
             pass: Some(pass),
             cache: ThreadCache::new(seat),
             storm: Storm::new(actor as u64),
             stopped: false,
         })?;
     }
-    Ok(gales)
+    Ok(workers)
 }
 
-/// The thread sits down, rages for so many turns, and rises.
-fn blow(region: &SharedRegion, gale: &mut Gale, events: u32, turns: u64)
-    requires { IsCalm region.now events gale.old }
-    ensures { HasPass region.now gale.new }
+/// The thread sits down, makes so many turns, and rises.
+fn work(region: &SharedRegion, worker: &mut StormWorker, events: u32, turns: u64)
+    requires { IsReadyForStorm region.now events worker.old }
+    ensures { HasPass region.now worker.new }
 {
-    if let Some(pass) = gale.pass.take() {
+    if let Some(pass) = worker.pass.take() {
         let mut desk = region.desk(pass);
-        gale.stopped = gale
+        worker.stopped = worker
             .storm
-            .rage(&mut desk, &mut gale.cache, events as usize, turns);
-        gale.pass = Some(desk.into_pass());
+            .run(&mut desk, &mut worker.cache, events as usize, turns);
+        worker.pass = Some(desk.into_pass());
     }
 }
 
 /// All of them at once, each in a thread of its own.
-pub fn blow_all<R: Threads + Sync>(
+pub fn run_storm<R: Threads + Sync>(
     rt: &R,
     region: &SharedRegion,
-    gales: &mut Vec<Gale>,
+    workers: &mut Vec<StormWorker>,
     events: u32,
     turns: u64,
 )
-    requires { All (IsCalm region.now events) gales.old.items }
-    ensures { All (HasPass region.now) gales.new.items }
+    requires { All (IsReadyForStorm region.now events) workers.old.items }
+    ensures { All (HasPass region.now) workers.new.items }
 {
-    for_each_mut(rt, gales, 16, &|_, gale| blow(region, gale, events, turns));
+    for_each_mut(
+        rt,
+        workers,
+        16,
+        &|_, worker| work(region, worker, events, turns),
+    );
 }
 
 /// What the threads of a storm did, all together.
@@ -94,12 +99,12 @@ pub struct Total {
 }
 
 /// The passes of all, and what they did.
-pub fn calm(
+pub fn gather(
     alloc: Global,
     region: &SharedRegion,
-    gales: Vec<Gale>,
+    workers: Vec<StormWorker>,
 ) -> Result<(Vec<SharedPass>, Total), AllocError>
-    requires { All (HasPass region.now) gales.items }
+    requires { All (HasPass region.now) workers.items }
     ensures { IfOk result (λ r. All (IsPassOf region.now) r.0.items) }
 {
     let _ = region;
@@ -110,13 +115,13 @@ pub fn calm(
         events: 0,
         stopped: 0,
     };
-    for gale in gales {
-        let Gale {
+    for worker in workers {
+        let StormWorker {
             pass,
             cache: _,
             storm,
             stopped,
-        } = gale;
+        } = worker;
         let pass = pass.unwrap();
         total.steps = total.steps.saturating_add(pass.count());
         total.served = total.served.saturating_add(storm.served);

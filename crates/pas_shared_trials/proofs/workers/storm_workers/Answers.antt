@@ -1,18 +1,18 @@
 use Rattle.std.proofs.Common.{refl, ◌∙◌}
 use Rattle.pas_shared_trials.specs.Races.{IsFreshPass}
-use Rattle.pas_shared_trials.specs.Storms.{IsCalm}
+use Rattle.pas_shared_trials.specs.Storms.{IsReadyForStorm}
 use Rattle.pas_shared_trials.proofs.Pops.{all_more, first_is, others_are}
-use Rattle.pas_shared_trials.proofs.gales.gales_of.Goals as goal
+use Rattle.pas_shared_trials.proofs.workers.storm_workers.Goals as goal
 
 pub loop-pass-preserved-then-actor-lt1 : goal.loop-pass-preserved-then-actor-lt1
 loop-pass-preserved-then-actor-lt1 c =
     let inv = c.loop-pass.invariant in
-    record { threads = inv.threads; rest = others_are (IsFreshPass c.args.region.now c.args.events) _ _ _ c.in-Some.ensures.steps.0 inv.rest; calm = inv.calm }
+    record { threads = inv.threads; rest = others_are (IsFreshPass c.args.region.now c.args.events) _ _ _ c.in-Some.ensures.steps.0 inv.rest; ready = inv.ready }
 
 pub loop-pass-preserved-in_default : goal.loop-pass-preserved-in_default
 loop-pass-preserved-in_default c =
     let inv = c.loop-pass.invariant in
-    record { threads = c.cache_seat.ensures.threads ∙ inv.threads; rest = others_are (IsFreshPass c.args.region.now c.args.events) _ _ _ c.in-Some.ensures.steps.0 inv.rest; calm = inv.calm }
+    record { threads = c.cache_seat.ensures.threads ∙ inv.threads; rest = others_are (IsFreshPass c.args.region.now c.args.events) _ _ _ c.in-Some.ensures.steps.0 inv.rest; ready = inv.ready }
 
 pub loop-pass-preserved : goal.loop-pass-preserved
 loop-pass-preserved c =
@@ -24,5 +24,5 @@ loop-pass-preserved c =
     record {
       threads = c.cache_seat.ensures.threads ∙ inv.threads;
       rest = others_are (IsFreshPass region events) _ _ _ is inv.rest;
-      calm = all_more (IsCalm region events) _ _ _ c.in_ok-push.ensures.items inv.calm (record { has_pass = refl; pass = fresh; rest = c.new.ensures.rest });
+      ready = all_more (IsReadyForStorm region events) _ _ _ c.in_ok-push.ensures.items inv.ready (record { has_pass = refl; pass = fresh; rest = c.new.ensures.rest });
     }
