@@ -27,3 +27,5 @@ pub mod OneActorRights
 pub mod OneActorGrains
 pub mod OneActorWords
 pub mod Alone
+pub mod Ordered
+pub mod WordLists

@@ -4,6 +4,7 @@
 pub mod knowledge_laws;
 pub mod laws;
 pub mod lone_laws;
+pub mod order_laws;
 pub mod run;
 
 pub use run::run_steps;

@@ -1,18 +1,17 @@
 -- What a plain region, a pass and a plain desk stand for.
-use Rattle.std.specs.Prelude.{ℕ, ◌+◌, ◌-◌, ◌^◌, ◌≡◌, ◌≤◌, ◌++◌, List, [], ◌∷◌, length, min, reverse, slice_index, slice_set, Option, None}
-use Rattle.std.specs.Option.{option_to_list}
+use Rattle.std.specs.Prelude.{ℕ, ◌+◌, ◌-◌, ◌^◌, ◌≡◌, ◌≤◌, List, [], ◌∷◌, length, min, reverse, slice_index, slice_set, Option}
 use Rattle.pas_profile.specs.Layouts.{index_of}
 use Rattle.pas_profile.specs.Profiles.{IsWordOf}
-use Rattle.pas_profile.specs.Rooms.{shown, size_of_room}
 use Rattle.pas_profile.specs.declared.event.Event.{Event}
 use Rattle.pas_profile.specs.declared.profile.Profile.{Profile}
 use Rattle.pas_profile.specs.declared.room.EventRoom.{EventRoom}
 use Rattle.pas_profile.specs.declared.word.Word.{Word}
 use Rattle.pas_steps.specs.Effects.{target, new_value}
-use Rattle.pas_steps.specs.Events.{event_of, events_of}
-use Rattle.pas_steps.specs.Views.{known_epoch, epoch_after, or_zero}
+use Rattle.pas_steps.specs.Events.{events_of}
+use Rattle.pas_steps.specs.Views.{known_epoch}
 use Rattle.pas_steps.specs.Lists.{Whole, part, word_after, Legal}
 use Rattle.pas_steps.specs.declared.step.Step.{Step}
+use Rattle.pas_region.specs.Noted.{events_noted, room_of_notes, count_of_notes, epoch_noted, notes_for}
 use Rattle.pas_plain.specs.declared.region.PlainRegion.{PlainRegion}
 use Rattle.pas_plain.specs.declared.pass.PlainPass.{PlainPass}
 
@@ -34,17 +33,17 @@ abbrev pub actor_of : PlainPass → ℕ
 actor_of pass = pass.actor
 
 abbrev pub events_shown : PlainPass → List Event
-events_shown pass = shown pass.room
+events_shown pass = events_noted pass.notes
 
 -- for how many events the room was made
 abbrev pub room_of_pass : PlainPass → ℕ
-room_of_pass pass = size_of_room pass.room
+room_of_pass pass = room_of_notes pass.notes
 
 abbrev pub count_of_pass : PlainPass → ℕ
-count_of_pass pass = pass.count
+count_of_pass pass = count_of_notes pass.notes
 
 abbrev pub epoch_known : PlainPass → Option ℕ
-epoch_known pass = pass.epoch
+epoch_known pass = epoch_noted pass.notes
 
 -- the pass stands for the lists in which the part of its actor has its events, its count and its epoch
 pub record PassStands (f : Profile) (pass : PlainPass) (l : Whole) : Type 0 where
@@ -55,7 +54,7 @@ pub record PassStands (f : Profile) (pass : PlainPass) (l : Whole) : Type 0 wher
 
 -- the pass of an actor that made no step
 abbrev pub pass_for : ℕ → EventRoom → PlainPass
-pass_for actor room = record { actor = actor; room = room; count = 0; epoch = None }
+pass_for actor room = record { actor = actor; notes = notes_for room }
 
 -- a pass for each room, of the actors from this one on
 abbrev pub passes_from : ℕ → List EventRoom → List PlainPass
@@ -68,11 +67,3 @@ pub record IsExchanged (old new : PlainRegion) (epoch : ℕ) (step : Step) (answ
   pub answer_is : answer ≡ word_at old (target step)
   pub words : new.words.items ≡ slice_set old.words.items (index_of old.profile.pages (target step)) (new_value epoch step answer)
   pub profile : new.profile ≡ old.profile
-
--- the pass after the step with this answer
-pub record IsNoted (old new : PlainPass) (step : Step) (answer : ℕ) : Type 0 where
-  pub actor : actor_of new ≡ actor_of old
-  pub shown : events_shown new ≡ events_shown old ++ option_to_list (event_of (actor_of old) (or_zero (epoch_known old)) step answer)
-  pub size : room_of_pass new ≡ room_of_pass old
-  pub count : count_of_pass new ≡ min (count_of_pass old + 1) (2 ^ 64 - 1)
-  pub epoch : epoch_known new ≡ epoch_after step answer (epoch_known old)

@@ -4,7 +4,8 @@ use Rattle.pas_steps.specs.Views.{View, or_zero}
 use Rattle.pas_steps.specs.Lists.{Whole, part}
 use Rattle.pas_steps.specs.Desks.{Seat, Standing}
 use Rattle.pas_steps.specs.declared.step.Step.{Step}
-use Rattle.pas_plain.specs.Plain.{profile_of, RegionStands, actor_of, room_of_pass, epoch_known, PassStands, IsExchanged, IsNoted}
+use Rattle.pas_plain.specs.Plain.{profile_of, RegionStands, actor_of, room_of_pass, epoch_known, PassStands, IsExchanged}
+use Rattle.pas_region.specs.Noted.{IsNoted}
 use Rattle.pas_plain.specs.declared.region.PlainRegion.{PlainRegion}
 use Rattle.pas_plain.specs.declared.pass.PlainPass.{PlainPass}
 use Rattle.pas_plain.specs.declared.desk.PlainDesk.{PlainDesk}
@@ -31,7 +32,8 @@ standing_of desk = record { seat = seat_of desk; stands = DeskStands desk }
 -- the desk after the step with this answer
 pub record IsChanged (old new : PlainDesk) (step : Step) (answer : ℕ) : Type 0 where
   pub region : IsExchanged old.region new.region (or_zero (epoch_known old.pass)) step answer
-  pub pass : IsNoted old.pass new.pass step answer
+  pub actor : actor_of new.pass ≡ actor_of old.pass
+  pub pass : IsNoted old.pass.notes new.pass.notes (actor_of old.pass) step answer
 
 -- ---- passes of a region: region and passes stand for one list
 pub record IsPassOf (region : PlainRegion) (pass : PlainPass) : Type 0 where

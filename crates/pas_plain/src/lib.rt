@@ -6,7 +6,6 @@
 
 pub mod closed;
 pub mod desk;
-pub mod opening;
 pub mod pass;
 pub mod region;
 pub mod session;

@@ -1,41 +1,25 @@
 //! The passes of the actors.
-ghost use Rattle.std.specs.Prelude.{◌≡◌, ◌≤◌, ◌+◌, ◌++◌, length, vec_len, IfOk};
-ghost use Rattle.std.specs.Option.{option_to_list};
-ghost use Rattle.pas_profile.specs.Rooms.{shown, size_of_room};
+ghost use Rattle.std.specs.Prelude.{◌≡◌, ◌≤◌, ◌+◌, length, vec_len, IfOk};
 ghost use Rattle.pas_plain.specs.Plain.{passes_from};
 
 use pas_profile::{Event, EventRoom, NoMemory};
+use pas_region::Notes;
 use pas_steps::Step;
-use pas_steps::effect::{epoch_after, event_of};
 use std::alloc::Global;
 
-/// What an actor keeps while it isn't at the region: the room with its events, the number of its steps (which stays at
-/// 2^64 - 1 once it is there), and the newest epoch that it read.
+/// What an actor keeps while it isn't at the region: what it noted of its own steps.
 #[derive(Drop)]
 pub struct PlainPass {
     actor: u8,
-    room: EventRoom,
-    count: u64,
-    epoch: Option<u64>,
-}
-
-/// Adds the event, if there is one.
-#[inline]
-fn record(room: &mut EventRoom, event: Option<Event>)
-    requires { length (shown room.old) + length (option_to_list event) ≤ size_of_room room.old }
-    ensures added { shown room.new ≡ shown room.old ++ option_to_list event }
-    ensures size { size_of_room room.new ≡ size_of_room room.old }
-{
-    if let Some(event) = event {
-        room.push(event);
-    }
+    notes: Notes,
 }
 
 impl PlainPass {
     ghost use Rattle.pas_steps.specs.Events.{wants};
     ghost use Rattle.pas_steps.specs.Ranges.{IsRanged};
     ghost use Rattle.pas_steps.specs.Views.{or_zero};
-    ghost use Rattle.pas_plain.specs.Plain.{pass_for, IsNoted, actor_of, events_shown, room_of_pass, count_of_pass, epoch_known};
+    ghost use Rattle.pas_region.specs.Noted.{IsNoted};
+    ghost use Rattle.pas_plain.specs.Plain.{pass_for, actor_of, events_shown, room_of_pass, count_of_pass, epoch_known};
 
     /// The pass of an actor that made no step.
     pub(crate) fn new(actor: u8, room: EventRoom) -> PlainPass
@@ -43,9 +27,7 @@ impl PlainPass {
     {
         PlainPass {
             actor,
-            room,
-            count: 0,
-            epoch: None,
+            notes: Notes::new(room),
         }
     }
 
@@ -62,7 +44,7 @@ impl PlainPass {
     pub fn count(&self) -> u64
         ensures { result ≡ count_of_pass self.now }
     {
-        self.count
+        self.notes.count()
     }
 
     /// All events made, in order.
@@ -70,7 +52,7 @@ impl PlainPass {
     pub fn shown(&self) -> &[Event]
         ensures { result.now ≡ events_shown self.now }
     {
-        self.room.as_slice()
+        self.notes.shown()
     }
 
     /// For how many more events there is room.
@@ -85,10 +67,7 @@ impl PlainPass {
     pub(crate) fn epoch(&self) -> u64
         ensures { result ≡ or_zero (epoch_known self.now) }
     {
-        match self.epoch {
-            Some(epoch) => epoch,
-            None => 0,
-        }
+        self.notes.epoch()
     }
 
     /// Notes a step that the actor made, and its event.
@@ -96,12 +75,10 @@ impl PlainPass {
     pub(crate) fn note(&mut self, step: Step, answer: u64)
         requires ranged { IsRanged step }
         requires room { length (events_shown self.old) + wants step ≤ room_of_pass self.old }
-        ensures { IsNoted self.old self.new step answer }
+        ensures actor { actor_of self.new ≡ actor_of self.old }
+        ensures noted { IsNoted self.old.notes self.new.notes (actor_of self.old) step answer }
     {
-        let event = event_of(self.actor, self.epoch(), step, answer);
-        record(&mut self.room, event);
-        self.count = self.count.saturating_add(1);
-        self.epoch = epoch_after(step, answer, self.epoch);
+        self.notes.note(self.actor, step, answer);
     }
 }
 

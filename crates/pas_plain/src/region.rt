@@ -3,8 +3,8 @@ ghost use Rattle.std.specs.Prelude.{◌≡◌, ◌<◌, vec_len, length, slice_i
 ghost use Rattle.pas_profile.specs.Profiles.{IsValid};
 ghost use Rattle.pas_profile.specs.Layouts.{words_of};
 
-use crate::opening::opening_words;
 use pas_profile::{Layout, NoMemory, Profile};
+use pas_region::opening_words;
 use pas_steps::effect::{new_value, target};
 use pas_steps::{State, Step};
 use std::alloc::Global;

@@ -1,5 +1,5 @@
 -- Each step of the test is allowed by the steps before it, whose answers are told.
-use Rattle.std.proofs.Common.{◌≡◌, ℕ, ◌+◌, ◌-◌, ◌/◌, ◌%◌, ◌^◌, ◌≤◌, true, List, [], ◌∷◌, length, Option, None, Some, refl, ap, sym, ◌∙◌, subst, arith, leb, ltb}
+use Rattle.std.proofs.Common.{◌≡◌, ℕ, ◌-◌, ◌/◌, ◌%◌, ◌^◌, true, [], ◌∷◌, refl, ap, sym, subst, arith, leb, ltb}
 use Rattle.std.proofs.lemmas.Bool.{and_parts, leb-true, ltb-true}
 use Rattle.pas_profile.specs.declared.directory.Directory.{Directory}
 use Rattle.pas_profile.specs.declared.directory.Kind.TheVariants.{Class}
@@ -8,7 +8,7 @@ use Rattle.pas_profile.specs.declared.name.Name.{Name}
 use Rattle.pas_profile.specs.declared.profile.Profile.{Profile}
 use Rattle.pas_profile.specs.declared.word.Word.TheVariants as Word
 use Rattle.pas_profile.specs.Runs.{in_run}
-use Rattle.pas_steps.specs.Allowed.{Allowed, IsStepOf, KnowsBearing}
+use Rattle.pas_steps.specs.Allowed.{Allowed, KnowsBearing}
 use Rattle.pas_steps.specs.Desks.{made, Makes}
 use Rattle.pas_steps.specs.Views.{View, any_below, holds, has_right, known_deed, knows_backed, known_life}
 use Rattle.pas_steps.specs.declared.step.Step.{Step}

@@ -1,0 +1,5 @@
+use Rattle.pas_core.proofs.WordLists.{words_next}
+use Rattle.pas_core.proofs.order_laws.words_follow.Goals as goal
+
+pub returns : goal.returns
+returns c = words_next

@@ -1,0 +1,21 @@
+-- One order of what several actors did, each by itself.
+use Rattle.std.specs.Prelude.{ℕ, ◌≡◌, ◌≢◌, ◌==◌, if◌then◌else◌, ◌∷◌}
+use Rattle.pas_profile.specs.declared.profile.Profile.{Profile}
+use Rattle.pas_steps.specs.Views.{View}
+use Rattle.pas_steps.specs.Lists.{Whole, Legal, part}
+use Rattle.pas_steps.specs.Desks.{triple}
+use Rattle.pas_steps.specs.declared.step.Made.{Made}
+
+-- the part of each actor is that actor's own list
+abbrev pub IsOneOrder : Whole → (ℕ → View) → Type 0
+IsOneOrder l own = (k : ℕ) → part k l ≡ own k
+
+-- the own lists where actor k has one more step
+abbrev pub with_step : ℕ → Made → (ℕ → View) → ℕ → View
+with_step k m own j = if j == k then m ∷ own j else own j
+
+-- the list with one more step of actor k is legal, and just the part of actor k has the step
+pub record ExtendsOnePart (f : Profile) (l : Whole) (k : ℕ) (m : Made) : Type 0 where
+  pub legal : Legal f (triple k m ∷ l)
+  pub its_part : part k (triple k m ∷ l) ≡ m ∷ part k l
+  pub others : (j : ℕ) → j ≢ k → part j (triple k m ∷ l) ≡ part j l

@@ -1,0 +1,27 @@
+//! What one more step does to one order of the actors' lists, and to words in a row. Each law is the contract of an empty function.
+ghost use Rattle.std.specs.Prelude.{ℕ, ◌≡◌, List, ◌∷◌, slice_index, slice_set};
+ghost use Rattle.pas_profile.specs.Layouts.{index_of};
+ghost use Rattle.pas_profile.specs.Profiles.{IsWordOf};
+ghost use Rattle.pas_profile.specs.declared.profile.Profile.{Profile};
+ghost use Rattle.pas_steps.specs.Effects.{target, new_value};
+ghost use Rattle.pas_steps.specs.Views.{View, epoch_of};
+ghost use Rattle.pas_steps.specs.Lists.{Whole, part, IsNext, Legal};
+ghost use Rattle.pas_steps.specs.Desks.{made, triple};
+ghost use Rattle.pas_steps.specs.declared.step.Step.{Step};
+ghost use Rattle.pas_steps.specs.declared.step.Made.{Made};
+ghost use Rattle.pas_core.specs.Orders.{IsOneOrder, with_step, ExtendsOnePart};
+ghost use Rattle.pas_core.specs.WordLists.{AreWordsAfter};
+
+/// A step that may come next at the end of a legal list gives a legal list, in which just its actor's part has the step. So where each
+/// actor keeps its own list, one order of all of them stays one when one actor goes on.
+pub fn steps_extend_one_part()
+    ensures part { (f : Profile) (l : Whole) (k : ℕ) (m : Made) → Legal f l → IsNext f l (triple k m) → ExtendsOnePart f l k m }
+    ensures order { (l : Whole) (own : ℕ → View) (k : ℕ) (m : Made) → IsOneOrder l own → IsOneOrder (triple k m ∷ l) (with_step k m own) }
+{}
+
+/// Where words in a row are those after a list, they are those after the list with one more step, once the place of the step's word has
+/// the step's new value, by the epoch that its actor knows.
+pub fn words_follow()
+    ensures { (f : Profile) (words : List ℕ) (l : Whole) (e k : ℕ) (s : Step) (n : ℕ) → AreWordsAfter f words l → IsWordOf f (target s) → n ≡ slice_index words (index_of f.pages (target s)) → e ≡ epoch_of (part k l)
+        → AreWordsAfter f (slice_set words (index_of f.pages (target s)) (new_value e s n)) (triple k (made s n) ∷ l) }
+{}

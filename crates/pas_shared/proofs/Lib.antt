@@ -1,0 +1,4 @@
+pub mod Ruling
+pub mod Opened
+pub mod Closed
+pub mod Kept

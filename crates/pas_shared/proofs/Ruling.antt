@@ -1,0 +1,174 @@
+-- A step that the view of the stepping seat allows keeps the rule, and every other seat knows what it knew. So does a split and a join.
+use Rattle.std.proofs.Common.{◌≡◌, ◌≢◌, ◌⊎◌, inl, inr, ⊎_elim, ℕ, suc, zero, ◌+◌, ◌<◌, ◌≤◌, List, [], ◌∷◌, ◌++◌, length, set, Bool, true, false, eqb, eq-eqb, ne_eqb, refl, sym, ap, subst, ◌∙◌, arith, if◌then◌else◌}
+use Rattle.std.specs.Prelude.{slice_index, slice_set}
+use prog.Atomic.{either}
+use mathlib.Core.Option.{some, some-injective, some-ne-none}
+use lib.ListN.{get_elem?}
+use Rattle.atomic_table.specs.Seated.{TableId}
+use Rattle.atomic_table.specs.Table.{Me, keeps, Allows, Splits, Joins}
+use Rattle.atomic_table.proofs.Lists.{at_set}
+use Rattle.pas_profile.specs.Layouts.{index_of, words_of}
+use Rattle.pas_profile.specs.declared.profile.Profile.{Profile}
+use Rattle.pas_profile.proofs.Places.{index_lt}
+use Rattle.pas_steps.specs.Effects.{target, new_value}
+use Rattle.pas_steps.specs.Views.{View, epoch_of}
+use Rattle.pas_steps.specs.Lists.{Whole, part, word_after}
+use Rattle.pas_steps.specs.Desks.{made, triple}
+use Rattle.pas_steps.specs.declared.step.Step.{Step}
+use Rattle.pas_steps.specs.declared.step.Made.{Made}
+use Rattle.pas_steps.proofs.Targets.{target_of_region}
+use Rattle.pas_core.specs.Orders.{with_step}
+use Rattle.pas_core.specs.WordLists.{AreWordsAfter}
+use Rattle.pas_core.proofs.Nexts.{legal_next, agrees_next}
+use Rattle.pas_core.proofs.Ordered.{with_step_own, with_step_others, one_order_next}
+use Rattle.pas_core.proofs.WordLists.{words_next}
+use Rattle.pas_shared.specs.declared.rule.Part.{Part}
+use Rattle.pas_shared.specs.declared.rule.Roster.{Roster}
+use Rattle.pas_shared.specs.declared.rule.Roster.TheVariants.{Unused, Listed}
+use Rattle.pas_shared.specs.Ruled.{HasPart, Names, alone, first_alone, all_but_first, joined, AreNamed, Holds, IsAskedOf, IsAdded}
+
+-- ---- what the seats know after one more step of actor k, whose seat is id
+grows : (own : ℕ → View) (seat_number : ℕ → ℕ) (rosters : List Roster) (id k : ℕ) (v : View) (m : Made) → AreNamed own seat_number rosters → seat_number k ≡ id → own k ≡ v → AreNamed (with_step k m own) seat_number (set rosters id (alone k (m ∷ v)))
+grows own seat_number rosters id k v m h its is i u b x e named = ⊎_elim
+    (λ (t : (i ≡ id) × (alone k (m ∷ v) ≡ u)). here t.0 (subst (λ (y : Roster). Names y b x) (sym t.1) named))
+    (λ (t : (i ≢ id) × (get_elem? rosters i ≡ some u)). there t.0 (h i u b x t.1 named))
+    (at_set rosters id i (alone k (m ∷ v)) u e)
+  where
+    here : i ≡ id → Names (alone k (m ∷ v)) b x → (seat_number b ≡ i) × (with_step k m own b ≡ x)
+    here z (inl p) = (ap seat_number (sym p.0) ∙ (its ∙ sym z), subst (λ (c : ℕ). with_step k m own c ≡ x) p.0 (with_step_own k m own ∙ (ap (λ (y : View). m ∷ y) is ∙ p.1)))
+    here z (inr p) = absurd p
+
+    there : i ≢ id → (seat_number b ≡ i) × (own b ≡ x) → (seat_number b ≡ i) × (with_step k m own b ≡ x)
+    there ne p = (p.0, with_step_others b k m own (λ z. ne (sym p.0 ∙ (ap seat_number z ∙ its))) ∙ p.1)
+
+-- ---- a step
+pub adds : (f : Profile) (slots id k : ℕ) (v : View) (s : Step) (i : ℕ) (g : ℕ → ℕ) → IsAskedOf f k v s → i ≡ index_of f.pages (target s) → ((n : ℕ) → new_value (epoch_of v) s n ≡ g n)
+    → Allows (Holds f) slots id (alone k v, []) i g (IsAdded f k v s)
+adds f slots id k v s i g asked at same t h len there fits =
+    let n : ℕ = slice_index t.words i in
+    let l : Whole = h.whole in
+    let here = h.named id (alone k v) k v there (inl (refl, refl)) in
+    let its_part : part k l ≡ v = h.one_order k ∙ here.1 in
+    let of_word = target_of_region f v s asked.of_region asked.allowed in
+    let found : n ≡ slice_index t.words (index_of f.pages (target s)) = ap (slice_index t.words) at in
+    let read : n ≡ word_after l (target s) = found ∙ h.words_are.values (target s) of_word in (
+      alone k (made s n ∷ v),
+      keeps,
+      tt,
+      record {
+        whole = triple k (made s n) ∷ l;
+        legal = legal_next f l k v s n h.legal asked.actor its_part asked.of_region asked.allowed read;
+        words_are = subst (λ (z : ℕ × ℕ). AreWordsAfter f (slice_set t.words z.0 z.1) (triple k (made s n) ∷ l)) (λ j. (sym at j, same n j))
+            (words_next f t.words l (epoch_of v) k s n h.words_are of_word found (ap epoch_of (sym its_part)));
+        own = with_step k (made s n) h.own;
+        one_order = one_order_next l h.own k (made s n) h.one_order;
+        seat_number = h.seat_number;
+        named = grows h.own h.seat_number t.views id k v (made s n) h.named here.0 here.1;
+      },
+      (refl, agrees_next f l k v s n asked.valid h.legal its_part asked.of_region read),
+    )
+
+-- The same as the table asks it of a call: at a seat and a key that are known by equations, for the step that a match has shown to be s.
+pub may_make : {f key : Profile} {here there : TableId} {m slots id k : ℕ} {v : View} {chosen step s : Step} {i e : ℕ} {g : ℕ → ℕ} {me : Me (Unit {0}) Roster}
+    → (here ≡ there) × (key ≡ f) × (m ≡ words_of f.pages f.heaps)
+    → (me ≡ (alone k v, [])) × (chosen ≡ step) × IsAskedOf f k v step
+    → (i ≡ index_of f.pages (target step)) × (e ≡ epoch_of v)
+    → step ≡ s → ((n : ℕ) → new_value e s n ≡ g n)
+    → (here ≡ there) × (i < m) × Allows (Holds key) slots id me i g (IsAdded f k v chosen)
+may_make {f = f} {m = m} {slots = slots} {id = id} {k = k} {v = v} {s = s} {i = i} {g = g} place asked at shown new =
+    let ok : IsAskedOf f k v s = subst (IsAskedOf f k v) shown asked.2 in
+    let at' : i ≡ index_of f.pages (target s) = at.0 ∙ ap (λ x. index_of f.pages (target x)) shown in
+    let low : index_of f.pages (target s) < words_of f.pages f.heaps = index_lt f.pages f.heaps (target s) (target_of_region f v s ok.of_region ok.allowed) in
+    let below : i < m = subst (λ (z : ℕ × ℕ). z.0 < z.1) (λ j. (sym at' j, sym place.2 j)) low in
+    let new' : (n : ℕ) → new_value (epoch_of v) s n ≡ g n = λ n. ap (λ x. new_value x s n) (sym at.1) ∙ new n in
+    (place.0, below, subst (λ (z : Profile × Me (Unit {0}) Roster × Step). Allows (Holds z.0) slots id z.1 i g (IsAdded f k v z.2)) (λ j. (sym place.1 j, sym asked.0 j, sym (asked.1 ∙ shown) j)) (adds f slots id k v s i g ok at' new'))
+
+pub either_if : (b : Bool) (x y : ℕ) → (if b then x else y) ≡ either b x y
+either_if true x y = refl
+either_if false x y = refl
+
+-- ---- a split
+pub at_end : {A : Type 0} (l : List A) (a b : A) (j : ℕ) → get_elem? (l ++ a ∷ []) j ≡ some b → (get_elem? l j ≡ some b) ⊎ ((j ≡ length l) × (a ≡ b))
+at_end [] a b zero e = inr (refl, some-injective a b e)
+at_end [] a b (suc j) e = absurd (some-ne-none b (sym e))
+at_end (x ∷ xs) a b zero e = inl e
+at_end (x ∷ xs) a b (suc j) e = ⊎_elim inl (λ (t : (j ≡ length xs) × (a ≡ b)). inr (ap suc t.0, t.1)) (at_end xs a b j e)
+
+pub splits : (f : Profile) (id n : ℕ) → Splits (Holds f) id (Unused n) (all_but_first (Unused n)) (first_alone (Unused n))
+splits f id n s h there = record { whole = h.whole; legal = h.legal; words_are = h.words_are; own = h.own; one_order = h.one_order; seat_number = seat_number; named = all_named }
+  where
+    k : ℕ
+    k = length (set s.views id (Unused (n + 1)))
+
+    seat_number : ℕ → ℕ
+    seat_number b = (if eqb b n then k else h.seat_number b)
+
+    as_was : (b i : ℕ) → b ≢ n → h.seat_number b ≡ i → seat_number b ≡ i
+    as_was b i ne e = ap (λ c. if c then k else h.seat_number b) (ne_eqb b n ne) ∙ e
+
+    mine_now : (b : ℕ) → n ≡ b → seat_number b ≡ k
+    mine_now b e = ap (λ c. if c then k else h.seat_number b) (eq-eqb b n (sym e))
+
+    own : h.seat_number n ≡ id
+    own = (h.named id (Unused n) n [] there (omega arith, refl)).0
+
+    kept : (i : ℕ) (u : Roster) (b : ℕ) (x : View) → Names u b x → ((i ≡ id) × (Unused (n + 1) ≡ u)) ⊎ ((i ≢ id) × (get_elem? s.views i ≡ some u)) → (seat_number b ≡ i) × (h.own b ≡ x)
+    kept i u b x named (inl t) =
+        let q : (n + 1 ≤ b) × (x ≡ []) = subst (λ (y : Roster). Names y b x) (sym t.1) named in
+        let le = q.0 in
+        let old = h.named id (Unused n) b x there (omega arith, q.1) in
+        (as_was b i (λ e. omega arith) (old.0 ∙ sym t.0), old.1)
+    kept i u b x named (inr t) =
+        let old = h.named i u b x t.1 named in
+        (as_was b i (λ e. t.0 (sym old.0 ∙ (ap h.seat_number e ∙ own))) old.0, old.1)
+
+    new : (i : ℕ) (u : Roster) (b : ℕ) (x : View) → i ≡ k → Names (alone n []) b x → (seat_number b ≡ i) × (h.own b ≡ x)
+    new i u b x z (inl p) = (mine_now b p.0 ∙ sym z, (h.named id (Unused n) b x there (let e = p.0 in omega arith, sym p.1)).1)
+    new i u b x z (inr p) = absurd p
+
+    all_named : AreNamed h.own seat_number (set s.views id (Unused (n + 1)) ++ alone n [] ∷ [])
+    all_named i u b x e named = ⊎_elim
+        (λ was. kept i u b x named (at_set s.views id i (Unused (n + 1)) u was))
+        (λ (t : (i ≡ k) × (alone n [] ≡ u)). new i u b x t.0 (subst (λ (y : Roster). Names y b x) (sym t.1) named))
+        (at_end (set s.views id (Unused (n + 1))) (alone n []) u i e)
+
+-- ---- a join
+has_either : (ps qs : List Part) (k : ℕ) (v : View) → HasPart (ps ++ qs) k v → HasPart ps k v ⊎ HasPart qs k v
+has_either [] qs k v h = inr h
+has_either (p ∷ ps) qs k v (inl h) = inl (inl h)
+has_either (p ∷ ps) qs k v (inr h) = ⊎_elim (λ t. inl (inr t)) inr (has_either ps qs k v h)
+
+names_either : (u w : Roster) (k : ℕ) (v : View) → Names (joined u w) k v → Names u k v ⊎ Names w k v
+names_either (Listed ps) (Listed qs) k v h = ⊎_elim inr inl (has_either qs ps k v h)
+names_either (Listed ps) (Unused n) k v h = inl h
+names_either (Unused n) (Listed qs) k v h = inr h
+names_either (Unused n) (Unused m) k v h = inr h
+
+pub joins : (f : Profile) (id : ℕ) (u : Roster) (other : ℕ) (w : Roster) → Joins (Holds f) id u other w (joined u w) (Listed [])
+joins f id u other w s h here apart there = record { whole = h.whole; legal = h.legal; words_are = h.words_are; own = h.own; one_order = h.one_order; seat_number = seat_number; named = all_named }
+  where
+    seat_number : ℕ → ℕ
+    seat_number b = (if eqb (h.seat_number b) other then id else h.seat_number b)
+
+    theirs : get_elem? s.views other ≡ some w
+    theirs = ⊎_elim (λ (t : (other ≡ id) × (joined u w ≡ w)). absurd (apart t.0)) (λ (t : (other ≢ id) × (get_elem? s.views other ≡ some w)). t.1) (at_set s.views id other (joined u w) w there)
+
+    moved : (b : ℕ) → h.seat_number b ≡ other → seat_number b ≡ id
+    moved b e = ap (λ c. if c then id else h.seat_number b) (eq-eqb (h.seat_number b) other e)
+
+    as_was : (b i : ℕ) → i ≢ other → h.seat_number b ≡ i → seat_number b ≡ i
+    as_was b i ne e = ap (λ c. if c then id else h.seat_number b) (ne_eqb (h.seat_number b) other (λ z. ne (sym e ∙ z))) ∙ e
+
+    both : (i b : ℕ) (x : View) → i ≡ id → Names u b x ⊎ Names w b x → (seat_number b ≡ i) × (h.own b ≡ x)
+    both i b x z (inl named) = let old = h.named id u b x here named in (as_was b i (λ e. apart (sym e ∙ z)) (old.0 ∙ sym z), old.1)
+    both i b x z (inr named) = let old = h.named other w b x theirs named in (moved b old.0 ∙ sym z, old.1)
+
+    kept : (i : ℕ) (y : Roster) (b : ℕ) (x : View) → i ≢ other → Names y b x → ((i ≡ id) × (joined u w ≡ y)) ⊎ ((i ≢ id) × (get_elem? s.views i ≡ some y)) → (seat_number b ≡ i) × (h.own b ≡ x)
+    kept i y b x ne named (inl t) = both i b x t.0 (names_either u w b x (subst (λ (z : Roster). Names z b x) (sym t.1) named))
+    kept i y b x ne named (inr t) = let old = h.named i y b x t.1 named in (as_was b i ne old.0, old.1)
+
+    all_named : AreNamed h.own seat_number (set (set s.views id (joined u w)) other (Listed []))
+    all_named i y b x e named = ⊎_elim
+        (λ (t : (i ≡ other) × (Listed [] ≡ y)). absurd (subst (λ (z : Roster). Names z b x) (sym t.1) named))
+        (λ (t : (i ≢ other) × (get_elem? (set s.views id (joined u w)) i ≡ some y)). kept i y b x t.0 named (at_set s.views id i (joined u w) y t.1))
+        (at_set (set s.views id (joined u w)) other i (Listed []) y e)

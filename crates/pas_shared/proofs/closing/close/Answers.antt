@@ -1,0 +1,19 @@
+use Rattle.std.proofs.Common.{List, ℕ, ap, ◌∙◌}
+use Rattle.std.specs.Prelude.{slice_index}
+use Rattle.pas_profile.specs.Layouts.{index_of}
+use Rattle.pas_shared.proofs.Closed.{ends}
+use Rattle.pas_shared.proofs.closing.close.Goals as goal
+
+pub returns : goal.returns
+returns c =
+    let f = c.args.region.profile in
+    let after = ends f _ _ _ _ _ c.args.passes.items c.args.region.keyed.0 c.close_with-closed.ensures.values.2 c.join_all.ensures.passes in
+    record {
+      profile = c.of_words.ensures.profile;
+      after = record {
+        whole = after.whole;
+        legal = after.legal;
+        parts = after.parts;
+        words = λ w hw. c.of_words.ensures.words w ∙ ap (λ (ws : List ℕ). slice_index ws (index_of f.pages w)) c.copy.ensures ∙ after.words w hw;
+      };
+    }

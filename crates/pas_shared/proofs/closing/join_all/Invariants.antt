@@ -1,0 +1,16 @@
+use Rattle.std.proofs.Common.{◌≡◌, List, ◌++◌, []}
+use Rattle.std.specs.List.{All}
+use Rattle.pas_shared.specs.declared.pass.SharedPass.{SharedPass}
+use Rattle.pas_shared.specs.Passes.{IsNamed}
+use Rattle.pas_shared.proofs.closing.join_all.Given as goal
+
+-- the seat names the actors of the passes that were taken in
+abbrev pub invariant-loop-pass : goal.invariant-loop-pass
+invariant-loop-pass l =
+    (l.seat.table_id ≡ l.words.table_id)
+    × (l.seat.me.1 ≡ [])
+    × All (λ (p : SharedPass). p.place.seat.table_id ≡ l.words.table_id) l.passes.items
+    × ((rest : List SharedPass) × (l.passes.items ++ rest ≡ l.fn.passes.items) × All (IsNamed l.seat.me.0) rest)
+
+abbrev pub decreases-loop-pass : goal.decreases-loop-pass
+decreases-loop-pass l = goal.left-loop-pass l

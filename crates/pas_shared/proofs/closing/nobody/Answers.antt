@@ -1,0 +1,5 @@
+use Rattle.pas_shared.proofs.Closed.{arrives}
+use Rattle.pas_shared.proofs.closing.nobody.Goals as goal
+
+pub load_new_seat-requires : goal.load_new_seat-requires
+load_new_seat-requires c = (c.requires, arrives _ _ _)

@@ -1,0 +1,24 @@
+use Rattle.std.proofs.Common.{◌∙◌, ◌∷◌, [], List, ℕ, sym, ap, subst}
+use Rattle.std.specs.Prelude.{slice_index}
+use Rattle.pas_profile.specs.Layouts.{index_of, words_of}
+use Rattle.pas_profile.specs.Profiles.{IsWordIn}
+use Rattle.pas_shared.specs.declared.rule.Roster.TheVariants.{Unused}
+use Rattle.pas_shared.specs.Ruled.{AreAfterOneList}
+use Rattle.pas_shared.proofs.Opened.{begins, fresh_are_of}
+use Rattle.pas_shared.proofs.region.SharedRegion.try_new.Goals as goal
+
+pub of_words-requires : goal.of_words-requires
+of_words-requires c =
+    let f = c.args.profile in
+    let layout = c.new-layout.result in
+    let pages = c.new-layout.ensures.pages in
+    let heaps = c.new-layout.ensures.heaps in
+    let words = c.in_ok-words.words in
+    let sized = sym words.ok.0 ∙ c.in_ok-words.ensures.sized ∙ (λ i. words_of (pages i) (heaps i)) in
+    subst (λ (ws : List ℕ). AreAfterOneList f ws (Unused 0 ∷ [])) (sym c.deref.ensures.value)
+    (begins f words.items sized (λ w hw. ap (λ (n : ℕ). slice_index words.items (index_of n w)) (sym pages) ∙ c.in_ok-words.ensures.values w (subst (λ (z : ℕ × ℕ). IsWordIn z.0 z.1 w) (λ i. (sym pages i, sym heaps i)) hw)))
+
+pub returns-clause-of : goal.returns-clause-of
+returns-clause-of c =
+    let at = c.in-Ok.ensures in
+    fresh_are_of _ _ 0 c.args.rooms.items c.in_ok-passes.passes.items c.in_ok-passes.ensures

@@ -1,0 +1,96 @@
+-- The rule of the table: its words are those after one legal list, and what the seats know is the own list of each actor.
+use Rattle.std.specs.Prelude.{◌≡◌, ◌⊎◌, ℕ, ◌+◌, ◌≤◌, List, [], ◌∷◌, ◌++◌}
+use mathlib.Core.Option.{some}
+use lib.ListN.{get_elem?}
+use Rattle.atomic_table.specs.Table.{State, Me}
+use Rattle.pas_profile.specs.Profiles.{IsValid}
+use Rattle.pas_profile.specs.declared.profile.Profile.{Profile}
+use Rattle.pas_steps.specs.Views.{View}
+use Rattle.pas_steps.specs.Allowed.{Allowed, IsStepOf}
+use Rattle.pas_steps.specs.Agreement.{Agrees}
+use Rattle.pas_steps.specs.Lists.{Whole, Legal}
+use Rattle.pas_steps.specs.Desks.{made}
+use Rattle.pas_steps.specs.declared.step.Step.{Step}
+use Rattle.pas_core.specs.Orders.{IsOneOrder}
+use Rattle.pas_core.specs.WordLists.{AreWordsAfter}
+use Rattle.pas_shared.specs.declared.rule.Part.{Part}
+use Rattle.pas_shared.specs.declared.rule.Roster.{Roster}
+use Rattle.pas_shared.specs.declared.rule.Roster.TheVariants.{Unused, Listed}
+
+-- ---- which actors a seat names
+abbrev pub HasPart : List Part → ℕ → View → Type 0
+HasPart [] k v = ⊥
+HasPart (p ∷ ps) k v = ((p.actor ≡ k) × (p.made ≡ v)) ⊎ HasPart ps k v
+
+-- the seat names the actor, with these steps
+abbrev pub Names : Roster → ℕ → View → Type 0
+Names (Unused n) k v = (n ≤ k) × (v ≡ [])
+Names (Listed ps) k v = HasPart ps k v
+
+-- just this actor
+abbrev pub alone : ℕ → View → Roster
+alone k v = Listed (record { actor = k; made = v } ∷ [])
+
+-- the first of the actors that made no step, and the others
+abbrev pub first_alone : Roster → Roster
+first_alone (Unused n) = alone n []
+first_alone (Listed ps) = Listed []
+
+abbrev pub all_but_first : Roster → Roster
+all_but_first (Unused n) = Unused (n + 1)
+all_but_first (Listed ps) = Listed ps
+
+-- the actors of both, where both are lists. Of those without a step, which nobody joins, one side is enough
+abbrev pub joined : Roster → Roster → Roster
+joined (Listed ps) (Listed qs) = Listed (qs ++ ps)
+joined (Listed ps) (Unused n) = Listed ps
+joined (Unused n) u = u
+
+abbrev pub parts_in : Roster → List Part
+parts_in (Unused n) = []
+parts_in (Listed ps) = ps
+
+-- the steps and the number of the first actor in the list
+abbrev pub view_in : Roster → View
+view_in (Unused n) = []
+view_in (Listed []) = []
+view_in (Listed (p ∷ ps)) = p.made
+
+abbrev pub actor_in : Roster → ℕ
+actor_in (Unused n) = 0
+actor_in (Listed []) = 0
+actor_in (Listed (p ∷ ps)) = p.actor
+
+-- a seat that names no actor
+abbrev pub NamesNobody : Me (Unit {0}) Roster → Type 0
+NamesNobody me = me ≡ (Listed [], [])
+
+-- ---- the rule
+-- each actor that a seat names is named by that seat alone, and with its own list
+abbrev pub AreNamed : (ℕ → View) → (ℕ → ℕ) → List Roster → Type 0
+AreNamed own seat_number rosters = (i : ℕ) (u : Roster) (k : ℕ) (v : View) → get_elem? rosters i ≡ some u → Names u k v → (seat_number k ≡ i) × (own k ≡ v)
+
+-- the words are those after one legal list, which is one order of each actor's own list
+pub record AreAfterOneList (f : Profile) (words : List ℕ) (rosters : List Roster) : Type 0 where
+  pub whole : Whole
+  pub legal : Legal f whole
+  pub words_are : AreWordsAfter f words whole
+  pub own : ℕ → View
+  pub one_order : IsOneOrder whole own
+  pub seat_number : ℕ → ℕ
+  pub named : AreNamed own seat_number rosters
+
+abbrev pub Holds : Profile → State (Unit {0}) Roster → Type 0
+Holds f s = AreAfterOneList f s.words s.views
+
+-- ---- a step
+-- what is asked of the step of an actor with this view
+pub record IsAskedOf (f : Profile) (k : ℕ) (v : View) (step : Step) : Type 0 where
+  pub valid : IsValid f
+  pub actor : k ≤ f.threads
+  pub of_region : IsStepOf f step
+  pub allowed : Allowed f v step
+
+-- what the step tells: the actor's own list has it, with its answer, which agrees with the list before
+abbrev pub IsAdded : Profile → ℕ → View → Step → ℕ → Me (Unit {0}) Roster → Type 0
+IsAdded f k v step n me = (me ≡ (alone k (made step n ∷ v), [])) × Agrees f v step n

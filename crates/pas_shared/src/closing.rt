@@ -1,0 +1,80 @@
+//! The words of a region whose actors have all risen.
+ghost use Rattle.std.specs.Prelude.{◌≡◌, ◌<◌, [], length, All};
+ghost use Rattle.std.specs.Slots.{slots_items, slots_len, IsFull};
+ghost use Rattle.pas_shared.specs.Ruled.{joined};
+ghost use Rattle.pas_shared.specs.declared.rule.Roster.TheVariants.{Listed};
+ghost use Rattle.pas_shared.specs.Passes.{IsPassOf, IsNamed, EndsWith};
+
+use crate::pass::{ActorSeat, SharedPass};
+use crate::region::SharedRegion;
+use crate::rule::{Arrives, JoinsBoth, TableSeat, TableWords};
+use atomic_table::Closed;
+use pas_steps::State;
+use std::alloc::Global;
+
+/// A new seat, which names no actor.
+fn nobody(words: &TableWords) -> TableSeat
+    requires { 0 < words.now.table_id.words }
+    ensures { (result.table_id ≡ words.now.table_id) × (result.me ≡ (Listed [], [])) }
+{
+    words.load_new_seat::<Arrives>(0).1
+}
+
+/// The seat takes in the actor of the pass.
+fn join(words: &TableWords, seat: &mut TableSeat, pass: SharedPass)
+    requires { (seat.old.table_id ≡ words.now.table_id) × (0 < words.now.table_id.words) × (pass.place.seat.table_id ≡ words.now.table_id) }
+    ensures { (seat.new.table_id ≡ words.now.table_id) × (seat.new.me ≡ (joined seat.old.me.0 pass.place.seat.me.0, seat.old.me.1)) }
+{
+    let SharedPass {
+        place,
+        profile: _,
+        notes: _,
+    } = pass;
+    let ActorSeat {
+        seat: other,
+        actor: _,
+    } = place;
+    words.join_seat::<JoinsBoth>(seat, other);
+}
+
+/// The seat takes in those of all passes.
+fn join_all(words: &TableWords, seat: &mut TableSeat, mut passes: Vec<SharedPass>)
+    requires { (seat.old.table_id ≡ words.now.table_id) × (seat.old.me.1 ≡ []) × (0 < words.now.table_id.words) × All (λ p. p.place.seat.table_id ≡ words.now.table_id) passes.items }
+    ensures seat { seat.new.table_id ≡ words.now.table_id }
+    ensures passes { All (IsNamed seat.new.me.0) passes.items }
+{
+    while let Some(pass) = passes.pop() {
+        join(words, seat, pass);
+    }
+}
+
+/// Copies the words of the table, which nobody shares any more.
+fn copy(closed: &Closed<(), Global>, words: &mut Vec<u64>)
+    requires { IsFull closed.now.words × (length words.old.items ≡ slots_len closed.now.words) }
+    ensures { words.new.items ≡ slots_items closed.now.words }
+{
+    for i in 0..words.len() {
+        words[i] = closed.word(i);
+    }
+}
+
+/// Ends the work at a region. The words of the state are those after one legal list, whose part of the actor of each pass that is
+/// handed in is the list of that actor's own steps. It takes no memory: the words are copied into a vector that the region kept for
+/// them.
+pub fn close(region: SharedRegion, passes: Vec<SharedPass>) -> State
+    requires { All (IsPassOf region) passes.items }
+    ensures { EndsWith region.profile passes.items result }
+{
+    let SharedRegion {
+        table,
+        profile,
+        layout: _,
+        closed_words: mut words,
+    } = region;
+    let mut seat = nobody(&table.shared);
+    join_all(&table.shared, &mut seat, passes);
+    let closed = table.close_with(seat);
+    copy(&closed, &mut words);
+    closed.free();
+    State::of_words(profile, words)
+}

@@ -1,0 +1,68 @@
+//! Any step, for the seat of one actor: one atomic exchange or load of its word.
+ghost use Rattle.std.specs.Prelude.{◌≡◌, []};
+ghost use Rattle.pas_profile.specs.Layouts.{index_of, words_of};
+ghost use Rattle.pas_steps.specs.Effects.{target};
+ghost use Rattle.pas_steps.specs.Ranges.{IsRanged};
+ghost use Rattle.pas_steps.specs.Views.{epoch_of};
+ghost use Rattle.pas_shared.specs.Ruled.{alone, IsAdded, IsAskedOf};
+
+use crate::rule::{AddsStep, Chosen, TableSeat, TableWords};
+use pas_bits::page_vector::page_mask;
+use pas_profile::{deed_word, life_word};
+use pas_steps::Step;
+
+/// Makes the step on the word at its place, for an actor that knows this epoch, and answers the word's value before.
+#[inline(always)]
+pub(crate) fn exchange<C: Chosen>(
+    words: &TableWords,
+    seat: &mut TableSeat,
+    at: usize,
+    epoch: u64,
+    step: Step,
+) -> u64
+    requires place { (seat.old.table_id ≡ words.now.table_id) × (words.now.key ≡ C.profile) × (words.now.table_id.words ≡ words_of C.profile.pages C.profile.heaps) }
+    requires step { (seat.old.me ≡ (alone C.actor C.view, [])) × (C.step ≡ step) × IsAskedOf C.profile C.actor C.view step }
+    requires at { (at ≡ index_of C.profile.pages (target step)) × (epoch ≡ epoch_of C.view) }
+    requires ranged { IsRanged step }
+    ensures seat { seat.new.table_id ≡ seat.old.table_id }
+    ensures step { IsAdded C.profile C.actor C.view step result seat.new.me }
+{
+    match step {
+        Step::Look { word: _ } => words.load::<AddsStep<C>>(seat, at),
+        Step::Deed { page: _, directory } => {
+            words.compare_exchange::<AddsStep<C>>(seat, at, 0, deed_word(directory))
+        }
+        Step::Back { page: _ } => words.fetch_or::<AddsStep<C>>(seat, at, 1),
+        Step::Take {
+            page: _,
+            word: _,
+            mask,
+        } => words.fetch_and::<AddsStep<C>>(seat, at, !mask),
+        Step::Put {
+            page: _,
+            word: _,
+            mask,
+        } => words.fetch_or::<AddsStep<C>>(seat, at, mask),
+        Step::Give { block } => {
+            let word = life_word(block.name.turn, block.room / 16, true);
+            words.swap::<AddsStep<C>>(seat, at, word)
+        }
+        Step::End { name, guess } => {
+            let word = life_word(name.turn, guess, true);
+            words.compare_exchange::<AddsStep<C>>(seat, at, word, name.turn + 1)
+        }
+        Step::TakeRight { page, directory: _ } => {
+            words.fetch_and::<AddsStep<C>>(seat, at, !page_mask(page))
+        }
+        Step::Offer { page, directory: _ } => {
+            words.fetch_or::<AddsStep<C>>(seat, at, page_mask(page))
+        }
+        Step::Park { page } => words.fetch_or::<AddsStep<C>>(seat, at, page_mask(page)),
+        Step::Unpark { page } => words.fetch_and::<AddsStep<C>>(seat, at, !page_mask(page)),
+        Step::Stamp { page: _ } => words.fetch_max::<AddsStep<C>>(seat, at, epoch),
+        Step::Hint { page } => words.fetch_or::<AddsStep<C>>(seat, at, page_mask(page)),
+        Step::Tick { epoch: raised } => words.fetch_max::<AddsStep<C>>(seat, at, raised),
+        Step::Unback { page: _ } => words.swap::<AddsStep<C>>(seat, at, 0),
+        Step::Unhint { page } => words.fetch_and::<AddsStep<C>>(seat, at, !page_mask(page)),
+    }
+}

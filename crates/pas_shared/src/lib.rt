@@ -1,0 +1,19 @@
+//! A region that threads share: each of its words is changed by single atomic steps alone, and no call waits for another.
+//!
+//! Each actor has a pass. `SharedRegion::desk` seats it at the region, whoever else sits there, and `SharedDesk::into_pass` lets it
+//! rise again. The words are always those after one legal list of steps whose part of each actor is that actor's own list.
+#![tactic(auto)]
+
+pub mod closing;
+pub mod desk;
+mod exchange;
+pub mod laws;
+pub mod opening;
+pub mod pass;
+pub mod region;
+pub mod rule;
+
+pub use closing::close;
+pub use desk::SharedDesk;
+pub use pass::SharedPass;
+pub use region::SharedRegion;

@@ -1,0 +1,34 @@
+//! The region that the actors share.
+ghost use Rattle.std.specs.Prelude.{◌≡◌, vec_len};
+ghost use Rattle.pas_profile.specs.Layouts.{words_of};
+ghost use Rattle.pas_profile.specs.Profiles.{IsValid};
+
+use crate::rule::{OneList, Roster};
+use atomic_table::Table;
+use pas_profile::{Layout, Profile};
+use std::alloc::Global;
+
+/// A region whose words lie in a table of atomic words. Any number of actors sit at it at once.
+#[derive(Drop)]
+pub struct SharedRegion {
+    pub(crate) table: Table<(), Roster, Profile, OneList, Global>,
+    pub(crate) profile: Profile,
+    pub(crate) layout: Layout,
+    pub(crate) closed_words: Vec<u64>,
+    ghost keyed: { (table.shared.key ≡ profile) × (table.shared.table_id.words ≡ words_of profile.pages profile.heaps) × (table.shared.table_id.slots ≡ 0) },
+    ghost valid: { IsValid profile },
+    ghost laid: { (layout.pages ≡ profile.pages) × (layout.heaps ≡ profile.heaps) },
+    ghost sized: { vec_len closed_words ≡ words_of profile.pages profile.heaps },
+}
+
+impl SharedRegion {
+    ghost use Rattle.pas_shared.specs.Passes.{profile_of};
+
+    /// The profile of the region.
+    #[inline]
+    pub fn profile(&self) -> &Profile
+        ensures { result.now ≡ profile_of self.now }
+    {
+        &self.profile
+    }
+}

@@ -1,0 +1,108 @@
+//! What the seats of the table know, the rule of the table, and how a seat changes.
+
+use atomic_table::{Join, Play, Seat, Shared, Split, TableRule};
+use pas_profile::Profile;
+use pas_steps::Made;
+use std::collections::LinkedList;
+use std::marker::{Brand, PhantomData};
+
+/// The steps of one actor, the newest first. No value of it is made.
+pub struct Part {
+    pub actor: u64,
+    pub made: LinkedList<Made>,
+}
+
+/// The actors that a seat names: all from one on, none of which made a step, or those of a list. No value of it is made.
+pub enum Roster {
+    Unused { from: u64 },
+    Listed { parts: LinkedList<Part> },
+}
+
+/// The words are those after one legal list, and what the seats know is the own list of each actor.
+pub struct OneList;
+
+impl TableRule<(), Roster, Profile> for OneList {
+    ghost use Rattle.pas_shared.specs.Ruled.{Holds};
+    ghost use Rattle.pas_shared.specs.declared.rule.Roster.TheVariants.{Unused};
+
+    ghost holds = { λ f s. Holds f s };
+
+    ghost first = { λ f. Unused 0 };
+}
+
+pub(crate) type TableWords = Shared<(), Roster, Profile, OneList>;
+
+pub(crate) type TableSeat = Seat<(), Roster>;
+
+/// Which step a call makes, and for whom. Each call chooses it.
+pub(crate) trait Chosen {
+    ghost use Rattle.std.specs.Prelude.{ℕ};
+    ghost use Rattle.pas_profile.specs.declared.profile.Profile.{Profile};
+    ghost use Rattle.pas_steps.specs.declared.step.Step.{Step};
+    ghost use Rattle.pas_steps.specs.Views.{View};
+
+    ghost profile: { Profile };
+
+    ghost actor: { ℕ };
+
+    ghost view: { View };
+
+    ghost step: { Step };
+}
+
+impl Chosen for Brand {
+    ghost use Rattle.std.specs.Prelude.{[]};
+    ghost use Rattle.pas_steps.specs.declared.step.Step.TheVariants.{Tick};
+
+    ghost profile = { record { pages = 0; threads = 0; age = 0; heaps = 0; shared = 0 } };
+
+    ghost actor = { 0 };
+
+    ghost view = { [] };
+
+    ghost step = { Tick 0 };
+}
+
+/// A step that is added to the list.
+pub(crate) struct AddsStep<C> {
+    marker: PhantomData<C>,
+}
+
+impl<C: Chosen> Play<(), Roster> for AddsStep<C> {
+    ghost use Rattle.pas_shared.specs.Ruled.{IsAdded};
+
+    ghost then = { λ _ _ n me. IsAdded C.profile C.actor C.view C.step n me };
+}
+
+/// The first of the actors that made no step gets a seat of its own.
+pub(crate) struct SplitsFirst;
+
+impl Split<Roster> for SplitsFirst {
+    ghost use Rattle.pas_shared.specs.Ruled.{all_but_first, first_alone};
+
+    ghost left = { all_but_first };
+
+    ghost right = { first_alone };
+}
+
+/// One seat takes in the actors of another, which then names nobody.
+pub(crate) struct JoinsBoth;
+
+impl Join<Roster> for JoinsBoth {
+    ghost use Rattle.std.specs.Prelude.{[]};
+    ghost use Rattle.pas_shared.specs.declared.rule.Roster.TheVariants.{Listed};
+    ghost use Rattle.pas_shared.specs.Ruled.{joined};
+
+    ghost both = { joined };
+
+    ghost spent = { Listed [] };
+}
+
+/// A new seat, which names nobody.
+pub(crate) struct Arrives;
+
+impl Play<(), Roster> for Arrives {
+    ghost use Rattle.pas_shared.specs.Ruled.{NamesNobody};
+
+    ghost then = { λ _ _ _ me. NamesNobody me };
+}

@@ -1,0 +1,25 @@
+-- Elements that move from one list to another.
+use Rattle.std.proofs.Common.{◌≡◌, suc, List, [], ◌∷◌, ◌++◌, refl, sym, subst, arith}
+use Rattle.std.specs.List.{All}
+use Rattle.std.proofs.lemmas.List.Elements.{All-append, All-cons, All-nil}
+
+-- one more at the end
+pub all_more : {A : Type 0} (P : A → Type 0) (xs ys : List A) (x : A) → ys ≡ xs ++ x ∷ [] → All P xs → P x → All P ys
+all_more {A = A} P xs ys x is all new = subst (λ (zs : List A). All P zs) (sym is) (All-append P xs (x ∷ []) all (All-cons P x [] new (All-nil P)))
+
+-- the first, and the others
+pub first_is : {A : Type 0} (P : A → Type 0) (xs : List A) (x : A) (rest : List A) → xs ≡ x ∷ rest → All P xs → P x
+first_is {A = A} P xs x rest is all = subst (λ (ys : List A). All P ys) is all 0 x (omega arith)
+
+pub others_are : {A : Type 0} (P : A → Type 0) (xs : List A) (x : A) (rest : List A) → xs ≡ x ∷ rest → All P xs → All P rest
+others_are {A = A} P xs x rest is all k d lt = subst (λ (ys : List A). All P ys) is all (suc k) d (omega (arith, lt))
+
+-- the last, and those before it
+pub last_is : {A : Type 0} (P : A → Type 0) (xs ys : List A) (x : A) → xs ≡ ys ++ x ∷ [] → All P xs → All P ys × P x
+last_is {A = A} P xs ys x is all = parted ys (subst (λ (zs : List A). All P zs) is all)
+  where
+    parted : (ys : List A) → All P (ys ++ x ∷ []) → All P ys × P x
+    parted [] all = (All-nil P, first_is P (x ∷ []) x [] refl all)
+    parted (y ∷ ys) all =
+        let rest = parted ys (others_are P (y ∷ (ys ++ x ∷ [])) y (ys ++ x ∷ []) refl all) in
+        (All-cons P y ys (first_is P (y ∷ (ys ++ x ∷ [])) y (ys ++ x ∷ []) refl all) rest.0, rest.1)

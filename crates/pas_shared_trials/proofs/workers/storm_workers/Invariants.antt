@@ -1,0 +1,13 @@
+use Rattle.std.proofs.Common.{◌≡◌}
+use Rattle.std.specs.List.{All}
+use Rattle.pas_utility.specs.Pools.{threads_of}
+use Rattle.pas_shared_trials.specs.Races.{IsFreshPass}
+use Rattle.pas_shared_trials.specs.Storms.{IsReadyForStorm}
+use Rattle.pas_shared_trials.proofs.workers.storm_workers.Given as goal
+
+abbrev pub invariant-loop-pass : goal.invariant-loop-pass
+invariant-loop-pass l = record {
+  threads : threads_of l.utility ≡ l.threads;
+  rest : All (IsFreshPass l.region l.fn.events) l.pass-iterator.rest.items;
+  ready : All (IsReadyForStorm l.region l.fn.events) l.workers.items;
+}
