@@ -59,7 +59,7 @@ impl PlainPass {
     pub(crate) fn spare(&self) -> u32
         ensures { result + length (events_shown self.now) ≡ room_of_pass self.now }
     {
-        self.room.spare()
+        self.notes.spare()
     }
 
     /// The newest epoch that the actor read, 0 where it read none.

@@ -143,7 +143,7 @@ impl<I: Intruder> Desk for StormDesk<I> {
 
     ghost valid = { λ storm. storm.desk.region.valid };
 
-    ghost limited = { λ storm. storm.desk.pass.room.limited };
+    ghost limited = { λ storm. storm.desk.pass.notes.room.limited };
 
     ghost shows = { λ storm v l stood. shown_own storm.desk storm.foreign v stood.0 stood.1 };
 

@@ -61,6 +61,14 @@ impl Notes {
         self.room.as_slice()
     }
 
+    /// For how many more events there is room.
+    #[inline]
+    pub fn spare(&self) -> u32
+        ensures { result + length (events_noted self.now) ≡ room_of_notes self.now }
+    {
+        self.room.spare()
+    }
+
     /// The newest epoch that the actor read, 0 where it read none.
     #[inline]
     pub fn epoch(&self) -> u64

@@ -8,6 +8,7 @@ ghost use Rattle.pas_plain.specs.Seats.{DeskStands, region_of, pass_of, standing
 ghost use Rattle.pas_steps.specs.Clear.{IsClear};
 ghost use Rattle.pas_free_log.specs.Logs.{entries_in, entry_of};
 
+use arrayvec::ArrayVec;
 use pas_free_log::{FreeLog, flush};
 use pas_plain::{PlainDesk, PlainRegion, close};
 use pas_profile::*;
@@ -121,8 +122,10 @@ fn a_block_of_two_pages_ends_once(rt: HostRuntime) -> Result<(), Fail> {
     let mut desk = seated(rt.alloc())?;
     give(&mut desk);
     let mut log = logged();
-    flush(&mut desk, &mut log);
+    let mut ended = ArrayVec::new();
+    flush(&mut desk, &mut log, &mut ended);
     assert_eq!(rt; log.len(), 0);
+    assert_eq!(rt; ended.len(), 0);
     let events = [
         Event::End {
             actor: 1,

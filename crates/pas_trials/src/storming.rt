@@ -8,6 +8,7 @@ ghost use Rattle.pas_cache.specs.Caches.{cached, AtRest};
 ghost use Rattle.pas_trials.specs.Borrowing.{Borrows};
 ghost use Rattle.pas_plain.specs.Storms.{Acts};
 
+use arrayvec::ArrayVec;
 use pas_cache::ThreadCache;
 use pas_free_log::{FreeLog, flush};
 use pas_plain::Intruder;
@@ -40,7 +41,8 @@ fn flush_one<D: Desk>(desk: &mut D, name: Name)
 {
     let mut log = FreeLog::new();
     log.add(name);
-    flush(desk, &mut log);
+    let mut ended = ArrayVec::new();
+    flush(desk, &mut log, &mut ended);
 }
 
 impl Intruder for Flusher {
