@@ -24,8 +24,6 @@ const USAGE: &str = "usage: pas order | pas gen SEED OPS THREADS PAGES\n";
 const SUMMARY: &str =
     "ops 12\ngive 9\nfreed 3\nended 0\nno-block 0\nno-space 0\nheld 0\nskipped 0\n";
 
-const NOT_BUILT: &str = "not built\n";
-
 /// Room for each of the texts above.
 const ROOM: usize = 1024;
 
@@ -101,7 +99,7 @@ fn replays_a_trace(rt: HostRuntime) -> Result<(), Fail> {
 
 /// Neither a read nor a write can fail here, so the status is neither 3 nor 4.
 fn sure_status(alloc: Global, input: Vec<u8>) -> u8
-    ensures { (result ≡ 0) ⊎ (result ≡ 1) ⊎ (result ≡ 5) ⊎ (result ≡ 6) ⊎ (result ≡ 7) }
+    ensures { (result ≡ 0) ⊎ (result ≡ 1) ⊎ (result ≡ 5) ⊎ (result ≡ 6) }
 {
     pas_main(
         alloc,
@@ -221,28 +219,37 @@ const OUTCOMES: [(&str, u8, &str); 18] = [
     ),
     (
         "pas 1 pages 4 threads 1 heaps 1 age 2\na 1 1 0 2049 16\n",
-        7,
-        NOT_BUILT,
+        0,
+        "1 deed page 1 heap 0 large\n1 back page 1\n1 give 0x00001000 turn 0 room 4096 heap 0\nclose\nreport\n\
+         page 1 heap 0 large live 1 free 0 stamp 0 marks backed+parked\ntotal deeds 1 backed 1 live 1 given 1 ended 0\n",
     ),
     (
-        "pas 1 pages 4 threads 1 heaps 1 age 2\na 1 1 0 4097 16\n",
-        7,
-        NOT_BUILT,
+        "pas 1 pages 4 threads 1 heaps 1 age 2\na 1 1 0 16384 16\na 1 2 0 2049 16\n",
+        0,
+        "1 deed page 1 heap 0 large\n1 deed page 2 heap 0 large\n1 deed page 3 heap 0 large\n1 deed page 4 heap 0 large\n\
+         1 back page 1\n1 back page 2\n1 back page 3\n1 back page 4\n1 give 0x00001000 turn 0 room 16384 heap 0\n\
+         1 no-space name 2\nclose\nreport\n\
+         page 1 heap 0 large live 1 free 0 stamp 0 marks backed+parked\n\
+         page 2 heap 0 large live 0 free 0 stamp 0 marks backed+parked\n\
+         page 3 heap 0 large live 0 free 0 stamp 0 marks backed+parked\n\
+         page 4 heap 0 large live 0 free 0 stamp 0 marks backed+parked\n\
+         total deeds 4 backed 4 live 1 given 1 ended 0\n",
     ),
     (
-        "pas 1 pages 4 threads 1 heaps 1 age 2\ntick 0\n",
-        7,
-        NOT_BUILT,
+        "pas 1 pages 4 threads 1 heaps 1 age 2\ntick 7\ntick 5\n",
+        0,
+        "0 tick 7\n0 tick 7\nclose\nreport\ntotal deeds 0 backed 0 live 0 given 0 ended 0\n",
     ),
     (
         "pas 1 pages 4 threads 1 heaps 1 age 2\npass\n",
-        7,
-        NOT_BUILT,
+        0,
+        "0 pass 0\nclose\nreport\ntotal deeds 0 backed 0 live 0 given 0 ended 0\n",
     ),
     (
-        "pas 1 pages 4 threads 1 heaps 1 age 2\nidle 0\n",
-        7,
-        NOT_BUILT,
+        "pas 1 pages 4 threads 3 heaps 1 age 2\nstop 2\ntick 2\nidle 2\nphase\nidle 3\nidle 0\n",
+        0,
+        "0 tick 2\n0 stopped 1\n0 stopped 3\nphase 2\n0 stopped 1\n0 stopped 2\n0 stopped 3\nclose\nreport\n\
+         total deeds 0 backed 0 live 0 given 0 ended 0\n",
     ),
 ];
 
@@ -253,14 +260,7 @@ fn inputs_have_outcomes(rt: HostRuntime) -> Result<(), Fail> {
         assert_eq!(rt; outcome.status, status, "at {input:?}");
         assert_eq!(rt; outcome.taken.as_slice(), text.as_bytes(), "at {input:?}");
     }
-    check_cut_off(&rt, &["order"], b"", b"line 1: BadHeader\n", 1)?;
-    check_cut_off(
-        &rt,
-        &["order"],
-        b"pas 1 pages 1 threads 1 heaps 2 age 2\npass",
-        NOT_BUILT.as_bytes(),
-        7,
-    )
+    check_cut_off(&rt, &["order"], b"", b"line 1: BadHeader\n", 1)
 }
 
 #[test]
@@ -343,12 +343,16 @@ fn a_generated_trace_is_summed_up(rt: HostRuntime) -> Result<(), Fail> {
     check_cut_off(&rt, &words, &[], outcome.taken.as_slice(), 0)
 }
 
+/// What a long generated trace of 100,000 operations is summed up to: nine lines.
+const LONG_SUMMARY: &str = "ops 100000\ngive 50096\nfreed 49704\nended 0\nno-block 0\nno-space 0\nheld 0\nskipped 0\n\
+                            total deeds 482 backed 337 live 392 given 50096 ended 49704\n";
+
 #[test]
-fn long_generated_traces_are_not_built(rt: HostRuntime) -> Result<(), Fail> {
-    let words = ["gen", "7", "2000", "4", "1024"];
+fn a_long_generated_trace_is_summed_up(rt: HostRuntime) -> Result<(), Fail> {
+    let words = ["gen", "7", "100000", "4", "4096"];
     let outcome = outcome_of(rt.alloc(), &words, &[], &[1], &[], ROOM)?;
-    assert_eq!(rt; outcome.status, 7);
-    assert_eq!(rt; outcome.taken.as_slice(), NOT_BUILT.as_bytes());
+    assert_eq!(rt; outcome.status, 0);
+    assert_eq!(rt; outcome.taken.as_slice(), LONG_SUMMARY.as_bytes());
     Ok(())
 }
 
