@@ -114,7 +114,7 @@ thread_acts {f} {all} {more} {act} {h} {p} {k} {desk} {desk'} {cache} {steps} {t
           (other_stands steps (λ (e : k ≡ 0). omega (arith, e, some)) (omega (arith, none)) at.scavenger);
       each = set_stands p.caches h.passes (act ∷ more) more k c' slot (omega (arith, most, actors))
           (λ j o ne st. other_stands steps (λ (e : k ≡ j). ne (sym e))
-            (let owes = ap (λ (w : View). owed_events f (p.caches j) w) (kept j ne) in let free = x.others j ne in omega (arith, owes, free)) st) this at.each;
+          (let owes = ap (λ (w : View). owed_events f (p.caches j) w) (kept j ne) in let free = x.others j ne in omega (arith, owes, free)) st) this at.each;
       nobody = λ j past. kept j (λ (e : j ≡ k). omega (arith, past, e, most)) ∙ at.nobody j past;
       names = x.names;
       caches_are = set_caches p.caches h.caches k cache some (omega (arith, most, threads)) at.caches_are;
@@ -164,7 +164,7 @@ scavenger_acts {f} {all} {more} {act} {h} {p} {desk} {desk'} {epoch} {steps} {ou
       scavenger = subst (λ (o : Option PlainPass). SeatStands f 0 HasNothing o l' (unbacks_of f more)) (sym (put_there h.passes 0 slot (omega (arith, actors)))) r.this;
       each = keep_stands p.caches h.passes (act ∷ more) more slot
           (λ j o ne st. other_stands steps (λ (e : 0 ≡ j). ne (sym e))
-            (let owes = ap (λ (w : View). owed_events f (p.caches j) w) (kept j ne) in let free = x.others j in omega (arith, owes, free)) st) at.each;
+          (let owes = ap (λ (w : View). owed_events f (p.caches j) w) (kept j ne) in let free = x.others j in omega (arith, owes, free)) st) at.each;
       nobody = λ j past. kept j (λ (e : j ≡ 0). omega (arith, past, e)) ∙ at.nobody j past;
       names = x.names;
       caches_are = at.caches_are;

@@ -26,9 +26,10 @@ pub after_mark : {f : Profile} {all more : List Act} {act : Act} {h : Hand} (out
     → ((p : Progress) (l : Whole) (rs : List Record) → Follows f more (with_records p (mark ∷ [])) l rs → Follows f (act ∷ more) p l rs)
     → records_in out' ≡ records_in h.out ++ mark ∷ [] → room_of out' ≡ room_of h.out → SoFar f all more (record h { out = out' })
 after_mark {f} {all} {more} {act} {h} out' mark (p, at) free none one fit follows pushed room =
-    let names = at.names in
-    (with_records p (mark ∷ []),
-    idly out' (mark ∷ []) at free none record { asked = names.asked; fit = fit (names_held h.table) names.asked names.fit; tells = names.tells; turns = names.turns; known = names.known } (omega (arith, one)) pushed room (follows p))
+    let names = at.names in (
+      with_records p (mark ∷ []),
+      idly out' (mark ∷ []) at free none record { asked = names.asked; fit = fit (names_held h.table) names.asked names.fit; tells = names.tells; turns = names.turns; known = names.known } (omega (arith, one)) pushed room (follows p),
+    )
 
 -- ---- the acts that are left
 pub as_acts : {f : Profile} {all acts acts' : List Act} {h : Hand} → acts ≡ acts' → SoFar f all acts h → SoFar f all acts' h
@@ -142,9 +143,9 @@ wakes_first {f} {all} {h} threads n awake ops more alike same so =
     let active = threads_alike (is_set awake) (is_active ops) n alike in
     let idle = threads_alike (λ k. not (is_set awake k)) (λ k. not (is_active ops k)) n (λ k. ap not (alike k)) in
     as_acts (append_assoc (map Wakes (active_threads threads ops)) (acts_of_ops (idle_threads threads ops) ops) more
-      ∙ ap (λ (m : ℕ). map Wakes (active_threads m ops) ++ (acts_of_ops (idle_threads m ops) ops ++ more)) (sym same)
-      ∙ ap (λ (ks : List ℕ). map Wakes ks ++ (acts_of_ops (idle_threads n ops) ops ++ more)) (sym active)
-      ∙ ap (λ (ks : List ℕ). map Wakes (awake_in awake n) ++ (acts_of_ops ks ops ++ more)) (sym idle)) so
+    ∙ ap (λ (m : ℕ). map Wakes (active_threads m ops) ++ (acts_of_ops (idle_threads m ops) ops ++ more)) (sym same)
+    ∙ ap (λ (ks : List ℕ). map Wakes ks ++ (acts_of_ops (idle_threads n ops) ops ++ more)) (sym active)
+    ∙ ap (λ (ks : List ℕ). map Wakes (awake_in awake n) ++ (acts_of_ops ks ops ++ more)) (sym idle)) so
 
 -- the threads are as many as before
 pub as_idle : {f : Profile} {all : List Act} {h : Hand} {m n : ℕ} (awake : Mask4) (to : List ℕ → List Act) (more : List Act) → m ≡ n → SoFar f all (to (idle_in awake m) ++ more) h → SoFar f all (to (idle_in awake n) ++ more) h

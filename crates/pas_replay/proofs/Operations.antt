@@ -163,26 +163,29 @@ pub may_operate : {f : Profile} {all more : List Act} {act : Act} {what : What} 
     → IsActOf f act k what besides p → (at : IsAt f all (act ∷ more) (hand_at desk actors table out) p) → IsTaken desk actors.passes.items
     → (c : Cached) × HasCache actors.caches.items k c × MayTakeTurn desk actors.passes.items k (λ own. CanCall (standing_of own) (λ v l. MayAnswer (profile_of (region_of desk)) c what (spare_at own) out v))
 may_operate {f} {all} {more} {act} {what} {besides} {table} {out} {p} desk actors k some most of at taken =
-    let c = p.caches k in
-    (c, has_cache desk actors at taken k some most, record {
-      seat = thread_may_sit desk actors at taken k some most;
-      may = λ own seated.
-          let s = thread_sits at k own some most seated in
-          let cost = of.own in
-          let costs = of.all in
-          let spare = at.spare in
-          let mine = owed_at f p.list p.caches k f.threads some most in
-          let room = spare_is s in
-          record {
-            view = part k p.list;
-            whole = p.list;
-            stood = s.stood;
-            met = subst (λ (g : Profile). MayAnswer g c what (spare_at own) out (part k p.list)) (sym at.profile_is) record {
-              may = record { rest = s.rest; room = omega (arith, room, cost) };
-              records = omega (arith, costs, spare, mine);
+    let c = p.caches k in (
+      c,
+      has_cache desk actors at taken k some most,
+      record {
+        seat = thread_may_sit desk actors at taken k some most;
+        may = λ own seated.
+            let s = thread_sits at k own some most seated in
+            let cost = of.own in
+            let costs = of.all in
+            let spare = at.spare in
+            let mine = owed_at f p.list p.caches k f.threads some most in
+            let room = spare_is s in
+            record {
+              view = part k p.list;
+              whole = p.list;
+              stood = s.stood;
+              met = subst (λ (g : Profile). MayAnswer g c what (spare_at own) out (part k p.list)) (sym at.profile_is) record {
+                may = record { rest = s.rest; room = omega (arith, room, cost) };
+                records = omega (arith, costs, spare, mine);
+              };
             };
-          };
-    })
+      },
+    )
 
 -- ---- after the operation
 -- the seat of a thread's desk
@@ -225,7 +228,7 @@ module _ {f : Profile} {all more : List Act} {act : Act} {what : What} {besides 
       let agreed = answers.performs.calls.adds.agreed v p.list sat.stood was_at_rest in
       let few = at_seat sat (λ (m : ℕ) (g : Profile). length (events_by m v steps) + length (said_by m said) + owed_events g c' (steps ++ v) ≤ cost_of_what what + owed_events g c v) (answers.performs.few v was_at_rest agreed) in
       let pushed = ap (λ (rs : List Record). length rs) (at_seat sat (λ (m : ℕ) (g : Profile). records_in out1 ≡ records_in h.out ++ (records_of (events_by m v steps) ++ said_by m said)) (answers.pushed v p.list sat.stood was_at_rest))
-          ∙ length-append (records_in h.out) records in
+      ∙ length-append (records_in h.out) records in
       let both = length-append (records_of (events_by k v steps)) (said_by k said) in
       let count = records_count (events_by k v steps) in
       let spare = at.spare in
@@ -251,29 +254,30 @@ module _ {f : Profile} {all more : List Act} {act : Act} {what : What} {besides 
       let both = length-append (records_of (events_by k v steps)) (said_by k said) in
       let whole = length-append records besides in
       let own_cost = of.own in
-      let all_cost = of.all in
-      (progress_after p k steps c' answered.0 (records ++ besides),
-      thread_acts at record {
-        some = some;
-        most = most;
-        seated = seated;
-        rests = answers.performs.calls;
-        events = omega (arith, few, own_cost);
-        others = of.others;
-        none = of.none;
-        paid = omega (arith, few, count, both, whole, all_cost);
-        names = record {
-          asked = asked_after what at.names.asked;
-          fit = subst (λ (limit : ℕ). AreFit f limit (asked_after what at.names.asked) more) (sym answers.performs.held) (of.fit more (names_held h.table) at.names.asked at.names.fit);
-          tells = answered.1;
-          turns = turns;
-          known = known_after f k what at.names.asked p.names answered.0 v c c' steps said is_answered at.names.known;
-        };
-        added = added ∙ ap (λ (rs : List Record). rs ++ besides) pushed ∙ append_assoc (records_in h.out) records besides;
-        room = room ∙ answers.room;
-        follows = λ l rs follows. of.follows more l rs answer is_answered follows;
-      },
-      refl)
+      let all_cost = of.all in (
+        progress_after p k steps c' answered.0 (records ++ besides),
+        thread_acts at record {
+          some = some;
+          most = most;
+          seated = seated;
+          rests = answers.performs.calls;
+          events = omega (arith, few, own_cost);
+          others = of.others;
+          none = of.none;
+          paid = omega (arith, few, count, both, whole, all_cost);
+          names = record {
+            asked = asked_after what at.names.asked;
+            fit = subst (λ (limit : ℕ). AreFit f limit (asked_after what at.names.asked) more) (sym answers.performs.held) (of.fit more (names_held h.table) at.names.asked at.names.fit);
+            tells = answered.1;
+            turns = turns;
+            known = known_after f k what at.names.asked p.names answered.0 v c c' steps said is_answered at.names.known;
+          };
+          added = added ∙ ap (λ (rs : List Record). rs ++ besides) pushed ∙ append_assoc (records_in h.out) records besides;
+          room = room ∙ answers.room;
+          follows = λ l rs follows. of.follows more l rs answer is_answered follows;
+        },
+        refl,
+      )
 
 pub has_operated : {f : Profile} {all more : List Act} {act : Act} {what : What} {besides : List Record} {table table' : Names} {out out1 : Records} {p : Progress} (desk desk' : PlainDesk) (actors actors' : Actors) (k : ℕ) → 1 ≤ k → k ≤ f.threads
     → IsActOf f act k what besides p → (at : IsAt f all (act ∷ more) (hand_at desk actors table out) p) → IsKnown p.names what
@@ -305,12 +309,15 @@ empty_next caches caches' i cache is lt before this j d less = elim (cases_eq i 
 -- ---- a thread reads the epoch
 pub may_wake : {f : Profile} {all more : List Act} {table : Names} {out : Records} {p : Progress} (desk : PlainDesk) (actors : Actors) (k : ℕ) → 1 ≤ k → k ≤ f.threads → (at : IsAt f all (Wakes k ∷ more) (hand_at desk actors table out) p) → IsTaken desk actors.passes.items
     → (c : Cached) × HasCache actors.caches.items k c × MayTakeTurn desk actors.passes.items k (λ own. CanCall (standing_of own) (λ v l. AtRest (profile_of (region_of desk)) c v))
-may_wake {f} {p = p} desk actors k some most at taken =
-    (p.caches k, has_cache desk actors at taken k some most, record {
-      seat = thread_may_sit desk actors at taken k some most;
-      may = λ own seated. let s = thread_sits at k own some most seated in
-          record { view = part k p.list; whole = p.list; stood = s.stood; met = subst (λ (g : Profile). AtRest g (p.caches k) (part k p.list)) (sym at.profile_is) s.rest };
-    })
+may_wake {f} {p = p} desk actors k some most at taken = (
+  p.caches k,
+  has_cache desk actors at taken k some most,
+  record {
+    seat = thread_may_sit desk actors at taken k some most;
+    may = λ own seated. let s = thread_sits at k own some most seated in
+        record { view = part k p.list; whole = p.list; stood = s.stood; met = subst (λ (g : Profile). AtRest g (p.caches k) (part k p.list)) (sym at.profile_is) s.rest };
+  },
+)
 
 pub has_woken : {f : Profile} {all more : List Act} {table : Names} {out : Records} {p : Progress} (desk desk' : PlainDesk) (actors actors' : Actors) (k : ℕ) → 1 ≤ k → k ≤ f.threads → IsAt f all (Wakes k ∷ more) (hand_at desk actors table out) p
     → TakesThreadTurn desk desk' actors actors' k (Begins (p.caches k)) → (q : Progress) × IsAt f all more (hand_at desk' actors' table out) q
@@ -324,24 +331,27 @@ has_woken {f} {all} {more} {table} {out} {p} desk desk' actors actors' k some mo
     let agreed = subst (λ (g : Profile). Agreed g v steps) s.profile (did.calls.adds.agreed v p.list s.stood (subst (λ (g : Profile). AtRest g c v) (sym s.profile) s.rest)) in
     let unknown = unknown_stays f steps v agreed in
     let log = ap (λ (x : Cached). length x.log) did.cache in
-    let none = append-nil (records_in out) in
-    (progress_after p k steps c' p.names [],
-    same_hand (sym taken.turn.passes_are) (sym taken.caches_are) (sym taken.places) (thread_acts at record {
-      some = some;
-      most = most;
-      seated = taken.turn.seated;
-      rests = did.calls;
-      events = omega (arith, unknown, log);
-      others = λ j ne. refl;
-      none = refl;
-      paid = omega (arith, unknown, log);
-      names = record { asked = at.names.asked; fit = at.names.fit; tells = at.names.tells; turns = at.names.turns; known = at.names.known };
-      added = sym none;
-      room = refl;
-      follows = λ l rs follows. (did.epoch,
+    let none = append-nil (records_in out) in (
+      progress_after p k steps c' p.names [],
+      same_hand (sym taken.turn.passes_are) (sym taken.caches_are) (sym taken.places) (thread_acts at record {
+        some = some;
+        most = most;
+        seated = taken.turn.seated;
+        rests = did.calls;
+        events = omega (arith, unknown, log);
+        others = λ j ne. refl;
+        none = refl;
+        paid = omega (arith, unknown, log);
+        names = record { asked = at.names.asked; fit = at.names.fit; tells = at.names.tells; turns = at.names.turns; known = at.names.known };
+        added = sym none;
+        room = refl;
+        follows = λ l rs follows. (
+          did.epoch,
           subst (λ (rs0 : List Record). Follows f more (record (after_wake p k did.epoch) { records = rs0 }) l rs) (append-nil p.records)
-            (subst (λ (x : Cached). Follows f more (progress_after p k steps x p.names []) l rs) did.cache follows));
-    }))
+              (subst (λ (x : Cached). Follows f more (progress_after p k steps x p.names []) l rs) did.cache follows),
+        );
+      }),
+    )
 
 -- ---- what a thread's cache noted is handed on
 settled_rest : (f : Profile) (c : Cached) (v : View) → AtRest f c v → AtRest f (settled c) v
@@ -354,14 +364,14 @@ settled_stands {f} {l} caches passes acts acts' k same all i less = elim (cases_
       let own = same (suc i) in
       let room = st.room in
       subst (λ (c : Cached). ThreadStands f (suc i) c (pass_in passes (suc i)) l (own_costs_of (suc i) acts'))
-        (ap (λ (j : ℕ). settled (caches j)) here ∙ sym (its_cache caches k (settled (caches k))) ∙ ap (λ (j : ℕ). with_cache caches k (settled (caches k)) j) (sym here))
-        record { pass = st.pass; present = st.present; actor = st.actor; stands = st.stands; rest = settled_rest f (caches (suc i)) (part (suc i) l) st.rest; room = omega (arith, room, own) }
+      (ap (λ (j : ℕ). settled (caches j)) here ∙ sym (its_cache caches k (settled (caches k))) ∙ ap (λ (j : ℕ). with_cache caches k (settled (caches k)) j) (sym here))
+      record { pass = st.pass; present = st.present; actor = st.actor; stands = st.stands; rest = settled_rest f (caches (suc i)) (part (suc i) l) st.rest; room = omega (arith, room, own) }
   | inr other ↦
       let st = all i less in
       let own = same (suc i) in
       let room = st.room in
       subst (λ (c : Cached). ThreadStands f (suc i) c (pass_in passes (suc i)) l (own_costs_of (suc i) acts')) (sym (other_cache caches k (suc i) (settled (caches k)) other))
-        record { pass = st.pass; present = st.present; actor = st.actor; stands = st.stands; rest = st.rest; room = omega (arith, room, own) }
+      record { pass = st.pass; present = st.present; actor = st.actor; stands = st.stands; rest = st.rest; room = omega (arith, room, own) }
 ]
 
 pub has_settled : {f : Profile} {all more : List Act} {h : Hand} {p : Progress} (k : ℕ) (cache : ThreadCache) → 1 ≤ k → k ≤ f.threads → cached cache ≡ settled (p.caches k) → IsAt f all (Settles k ∷ more) h p → IsAt f all more (record h { caches = set h.caches (k - 1) cache }) (after_settling p k)

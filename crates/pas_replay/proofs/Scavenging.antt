@@ -72,21 +72,24 @@ has_ticked {f} {all} {more} {table} {out} {out'} {p} epoch desk desk' actors act
     let ticks = did.turn.did in
     let s = scavenger_sits at did.turn.own did.turn.seated in
     let records = Record.Said 0 (Said.Tick ticks.epoch) ∷ [] in
-    let silent = ap (λ (es : List Event). length es) (subst (λ (k : ℕ). events_by k (part 0 p.list) ticks.steps ≡ []) s.actor (ticks.silent (part 0 p.list))) in
-    (progress_scavenged p p.epoch ticks.steps records,
-    same_hand (sym did.turn.passes_are) (sym did.caches_are) (sym did.places) (scavenger_acts at record {
-      seated = did.turn.seated;
-      calls = ticks.calls;
-      events = omega (arith, silent);
-      others = λ j. refl;
-      paid = omega arith;
-      names = record { asked = at.names.asked; fit = at.names.fit.1; tells = at.names.tells; turns = at.names.turns; known = at.names.known };
-      added = ticks.added ∙ ap (λ (k : ℕ). records_in out ++ Record.Said k (Said.Tick ticks.epoch) ∷ []) s.actor;
-      room = room;
-      follows = λ l rs follows. (ticks.answer,
+    let silent = ap (λ (es : List Event). length es) (subst (λ (k : ℕ). events_by k (part 0 p.list) ticks.steps ≡ []) s.actor (ticks.silent (part 0 p.list))) in (
+      progress_scavenged p p.epoch ticks.steps records,
+      same_hand (sym did.turn.passes_are) (sym did.caches_are) (sym did.places) (scavenger_acts at record {
+        seated = did.turn.seated;
+        calls = ticks.calls;
+        events = omega (arith, silent);
+        others = λ j. refl;
+        paid = omega arith;
+        names = record { asked = at.names.asked; fit = at.names.fit.1; tells = at.names.tells; turns = at.names.turns; known = at.names.known };
+        added = ticks.added ∙ ap (λ (k : ℕ). records_in out ++ Record.Said k (Said.Tick ticks.epoch) ∷ []) s.actor;
+        room = room;
+        follows = λ l rs follows. (
+          ticks.answer,
           subst (λ (e : ℕ). Follows f more (progress_scavenged p p.epoch (made (Tick epoch) ticks.answer ∷ []) (Record.Said 0 (Said.Tick e) ∷ [])) l rs) (ticks.raised 0)
-            (subst (λ (xs : List Made). Follows f more (progress_scavenged p p.epoch xs records) l rs) ticks.steps_are follows));
-    }))
+              (subst (λ (xs : List Made). Follows f more (progress_scavenged p p.epoch xs records) l rs) ticks.steps_are follows),
+        );
+      }),
+    )
 
 -- ---- a pass
 one_unback : (k epoch page : ℕ) (o : Outcome) → length (unback_of k epoch page o) ≤ 1
@@ -118,19 +121,20 @@ has_passed {f} {all} {more} {table} {out} {out'} {p} desk desk' actors actors' a
     let turned = length-reverse found in
     let within = pass.within in
     let same = ap (λ (g : Profile). g.pages) at.profile_is in
-    let said = length-map found (λ (x : ℕ × Outcome). record_of 0 epoch x.0 x.1) in
-    (progress_scavenged p p.epoch steps (records_of_pass 0 epoch found),
-    same_hand (sym did.turn.passes_are) (sym did.caches_are) (sym did.places) (scavenger_acts at record {
-      seated = did.turn.seated;
-      calls = pass.passes.calls;
-      events = omega (arith, events, few, turned, within, same);
-      others = λ j. refl;
-      paid = omega (arith, said, within, same);
-      names = record { asked = at.names.asked; fit = at.names.fit; tells = at.names.tells; turns = at.names.turns; known = at.names.known };
-      added = pass.added ∙ ap (λ (k : ℕ). records_in out ++ records_of_pass k epoch found) s.actor;
-      room = room;
-      follows = λ l rs follows. (epoch, found, steps, order, follows);
-    }))
+    let said = length-map found (λ (x : ℕ × Outcome). record_of 0 epoch x.0 x.1) in (
+      progress_scavenged p p.epoch steps (records_of_pass 0 epoch found),
+      same_hand (sym did.turn.passes_are) (sym did.caches_are) (sym did.places) (scavenger_acts at record {
+        seated = did.turn.seated;
+        calls = pass.passes.calls;
+        events = omega (arith, events, few, turned, within, same);
+        others = λ j. refl;
+        paid = omega (arith, said, within, same);
+        names = record { asked = at.names.asked; fit = at.names.fit; tells = at.names.tells; turns = at.names.turns; known = at.names.known };
+        added = pass.added ∙ ap (λ (k : ℕ). records_in out ++ records_of_pass k epoch found) s.actor;
+        room = room;
+        follows = λ l rs follows. (epoch, found, steps, order, follows);
+      }),
+    )
 
 -- ---- the epoch is read for an idle operation
 reading : Kinds
@@ -143,20 +147,21 @@ reads {σ} {σ'} epoch makes = call_step (λ v w. HasNothing w) (call_none {R = 
 pub has_read : {f : Profile} {all more : List Act} {table : Names} {out : Records} {p : Progress} (epoch : ℕ) (desk desk' : PlainDesk) (actors actors' : Actors) → IsAt f all (ReadsEpoch ∷ more) (hand_at desk actors table out) p
     → Scavenges desk desk' actors actors' (λ σ σ'. Makes σ σ' (Look Word.Epoch) epoch) → (q : Progress) × IsAt f all more (hand_at desk' actors' table out) q × (q.epoch ≡ epoch)
 has_read {f} {all} {more} {table} {out} {p} epoch desk desk' actors actors' at did =
-    let s = scavenger_sits at did.turn.own did.turn.seated in
-    (progress_scavenged p epoch (epoch_look epoch) [],
-    same_hand (sym did.turn.passes_are) (sym did.caches_are) (sym did.places) (scavenger_acts at record {
-      seated = did.turn.seated;
-      calls = reads epoch did.turn.did;
-      events = omega arith;
-      others = λ j. refl;
-      paid = omega arith;
-      names = record { asked = at.names.asked; fit = at.names.fit; tells = at.names.tells; turns = at.names.turns; known = at.names.known };
-      added = sym (append-nil (records_in out));
-      room = refl;
-      follows = λ l rs follows. (epoch, subst (λ (rs0 : List Record). Follows f more (record (after_reading p epoch) { records = rs0 }) l rs) (append-nil p.records) follows);
-    }),
-    refl)
+    let s = scavenger_sits at did.turn.own did.turn.seated in (
+      progress_scavenged p epoch (epoch_look epoch) [],
+      same_hand (sym did.turn.passes_are) (sym did.caches_are) (sym did.places) (scavenger_acts at record {
+        seated = did.turn.seated;
+        calls = reads epoch did.turn.did;
+        events = omega arith;
+        others = λ j. refl;
+        paid = omega arith;
+        names = record { asked = at.names.asked; fit = at.names.fit; tells = at.names.tells; turns = at.names.turns; known = at.names.known };
+        added = sym (append-nil (records_in out));
+        room = refl;
+        follows = λ l rs follows. (epoch, subst (λ (rs0 : List Record). Follows f more (record (after_reading p epoch) { records = rs0 }) l rs) (append-nil p.records) follows);
+      }),
+      refl,
+    )
 
 -- ---- whether a thread was idle for long enough, by its cache
 pub idle_is : (p : Progress) (caches : List ThreadCache) (k n epoch : ℕ) (there : ThreadCache) → HasCache caches k (p.caches k) → there ≡ get_or caches (k - 1) there → p.epoch ≡ epoch → IsIdleFor p k n ↔ ((cached there).idle_since + n ≤ epoch)
@@ -168,6 +173,6 @@ idle_is p caches k n epoch there has value read =
 pub stays : {f : Profile} {all more : List Act} {h : Hand} {p : Progress} (k n : ℕ) → (IsIdleFor p k n → ⊥) → IsAt f all (StopsIdle k n ∷ more) h p → (q : Progress) × IsAt f all more h q × (q.epoch ≡ p.epoch)
 stays {f} {all} {more} {h} {p} k n short at =
     let kept = idly h.out [] at (λ j. refl) refl record { asked = at.names.asked; fit = at.names.fit; tells = at.names.tells; turns = at.names.turns; known = at.names.known }
-        (omega arith) (sym (append-nil (records_in h.out))) refl
-        (λ l rs follows. inr (short, subst (λ (rs0 : List Record). Follows f more (record p { records = rs0 }) l rs) (append-nil p.records) follows)) in
+    (omega arith) (sym (append-nil (records_in h.out))) refl
+    (λ l rs follows. inr (short, subst (λ (rs0 : List Record). Follows f more (record p { records = rs0 }) l rs) (append-nil p.records) follows)) in
     (record p { records = p.records ++ [] }, kept, refl)

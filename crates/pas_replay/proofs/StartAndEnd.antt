@@ -76,30 +76,32 @@ start {text} {plan} {kit} {out} read made empty room =
     let owed = owed_start f f.threads in
     let total = plan_total read in
     let none = ap (λ (rs : List Record). length rs) empty in
-    let owes = nothing_owed f in
-    (at_start, record {
-      profile_is = made.profile;
-      actors = made.actors;
-      threads = made.unused.many;
-      places = made.places;
-      stands = made.opening;
-      scavenger = starts_at plan 0 _ (pass_in kit.actors.passes.items 0) HasNothing nothing (plan_scavenger read) (made.fresh 0 (omega arith));
-      each = λ i lt.
-          let own = plan_own read (suc i) (omega arith) (omega (arith, lt)) in
-          starts_at plan (suc i) (owed_events f empty_cache [] + own_costs_of (suc i) acts) (pass_in kit.actors.passes.items (suc i)) (AtRest f empty_cache) (rests_empty f empty_cache [] refl refl nothing) (omega (arith, own, owes)) (made.fresh (suc i) (omega (arith, lt)));
-      nobody = λ k past. refl;
-      names = record {
-        asked = [];
-        fit = plan_fit read (names_held kit.names) made.names;
-        tells = made.no_name;
-        turns = λ n block is. absurd (let bad : None ≡ Some block = sym (made.no_name n) ∙ is in cc);
-        known = λ n is. absurd (let bad : false ≡ true = is in cc);
-      };
-      caches_are = λ i d lt. let many = made.unused.many in sym (made.unused.each i d (omega (arith, lt, many)));
-      records_are = empty;
-      spare = omega (arith, owed, total, none, room);
-      answers = λ l rs follows. follows;
-    })
+    let owes = nothing_owed f in (
+      at_start,
+      record {
+        profile_is = made.profile;
+        actors = made.actors;
+        threads = made.unused.many;
+        places = made.places;
+        stands = made.opening;
+        scavenger = starts_at plan 0 _ (pass_in kit.actors.passes.items 0) HasNothing nothing (plan_scavenger read) (made.fresh 0 (omega arith));
+        each = λ i lt.
+            let own = plan_own read (suc i) (omega arith) (omega (arith, lt)) in
+            starts_at plan (suc i) (owed_events f empty_cache [] + own_costs_of (suc i) acts) (pass_in kit.actors.passes.items (suc i)) (AtRest f empty_cache) (rests_empty f empty_cache [] refl refl nothing) (omega (arith, own, owes)) (made.fresh (suc i) (omega (arith, lt)));
+        nobody = λ k past. refl;
+        names = record {
+          asked = [];
+          fit = plan_fit read (names_held kit.names) made.names;
+          tells = made.no_name;
+          turns = λ n block is. absurd (let bad : None ≡ Some block = sym (made.no_name n) ∙ is in cc);
+          known = λ n is. absurd (let bad : false ≡ true = is in cc);
+        };
+        caches_are = λ i d lt. let many = made.unused.many in sym (made.unused.each i d (omega (arith, lt, many)));
+        records_are = empty;
+        spare = omega (arith, owed, total, none, room);
+        answers = λ l rs follows. follows;
+      },
+    )
 
 -- ---- the end
 no_slots : (locals : List Slots) → locals ≡ [] → (g : ℕ) → (any_covers locals g ≡ false) × (any_keeps locals g ≡ false)

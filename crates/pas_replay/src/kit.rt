@@ -152,12 +152,6 @@ pub fn in_order(plan: &Plan, kit: PlainKit, out: &mut Records) -> State
         mut names,
         passes,
     } = kit;
-    let region = replay(
-        region,
-        &mut actors,
-        &mut names,
-        plan.phases.as_slice(),
-        out,
-    );
+    let region = replay(region, &mut actors, &mut names, plan.phases.as_slice(), out);
     close(region, passes)
 }

@@ -344,7 +344,8 @@ fn a_generated_trace_is_summed_up(rt: HostRuntime) -> Result<(), Fail> {
 }
 
 /// What a long generated trace of 100,000 operations is summed up to: nine lines.
-const LONG_SUMMARY: &str = "ops 100000\ngive 50096\nfreed 49704\nended 0\nno-block 0\nno-space 0\nheld 0\nskipped 0\n\
+const LONG_SUMMARY: &str =
+    "ops 100000\ngive 50096\nfreed 49704\nended 0\nno-block 0\nno-space 0\nheld 0\nskipped 0\n\
                             total deeds 482 backed 337 live 392 given 50096 ended 49704\n";
 
 #[test]

@@ -19,15 +19,17 @@ replay-region-requires-clause-phases c =
     omega (arith, m, k, few)
 
 pub replay-region-requires-clause-so_far : goal.replay-region-requires-clause-so_far
-replay-region-requires-clause-so_far c =
-    (c.args.plan.now.profile, handed c.args.plan.now (length c.args.kit.actors.caches.items) (map ops_of c.as_slice.result.now) c.requires.kit.unused.many (ap (λ (ps : List Phase). map ops_of ps) c.as_slice.ensures)
-        (start c.requires.plan.2 c.requires.kit c.requires.empty c.requires.room))
+replay-region-requires-clause-so_far c = (
+  c.args.plan.now.profile,
+  handed c.args.plan.now (length c.args.kit.actors.caches.items) (map ops_of c.as_slice.result.now) c.requires.kit.unused.many (ap (λ (ps : List Phase). map ops_of ps) c.as_slice.ensures)
+      (start c.requires.plan.2 c.requires.kit c.requires.empty c.requires.room),
+)
 
 pub close-requires : goal.close-requires
 close-requires c =
     let plan = c.args.plan.now in
     let so = c.replay-region.ensures.so_far plan.profile (handed plan (length c.args.kit.actors.caches.items) (map ops_of c.as_slice.result.now) c.requires.kit.unused.many (ap (λ (ps : List Phase). map ops_of ps) c.as_slice.ensures)
-        (start c.requires.plan.2 c.requires.kit c.requires.empty c.requires.room)) in
+    (start c.requires.plan.2 c.requires.kit c.requires.empty c.requires.room)) in
     let part = λ (pass : PlainPass). PassStands (profile_of c.replay-region.result) pass so.0.list in
     record { whole = so.0.list; stands = so.1.stands; parts = subst (λ (ps : List PlainPass). All part ps) (sym c.requires.kit.none_left) (All-nil part) }
 

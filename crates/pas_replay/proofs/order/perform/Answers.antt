@@ -111,8 +111,8 @@ returns-in-Alloc c =
           let here = as_first more thread so1 in
           let its = here.1.names.fit.0 in
           let done = has_operated c.args.desk.now c.operate.new.desk c.args.actors.now c.operate.new.actors k its.0 its.1 (operation f c.args.op here.0) here.1 (known_now here.1)
-              (c.operate.ensures.turn (here.0.caches k) (has_cache c.args.desk.now c.args.actors.now here.1 c.requires.taken k its.0 its.1)) c.operate.ensures.turns
-              c.operate.new.out (sym (append-nil (records_in c.operate.new.out))) refl in
+          (c.operate.ensures.turn (here.0.caches k) (has_cache c.args.desk.now c.args.actors.now here.1 c.requires.taken k its.0 its.1)) c.operate.ensures.turns
+          c.operate.new.out (sym (append-nil (records_in c.operate.new.out))) refl in
           let count = done.1.threads in
           let its1 = its.1 in
           let has = cache_at done.0.caches c.operate.new.actors.caches.items k its.0 (omega (arith, count, its1)) done.1.caches_are in

@@ -9,9 +9,13 @@ pub perform-requires-clause-so_far : goal.perform-requires-clause-so_far
 perform-requires-clause-so_far c =
     let so0 = c.requires.so_far in
     let idle = idle_in c.args.awake (length c.args.actors.now.caches.items) in
-    let op = get_or c.args.ops.now c.loop-op.op-index past in
-    (so0.0, so0.1, _, as_idle c.args.awake (λ ks. acts_of_op ks op) _ (sym c.loop-op.invariant.threads)
-        (at_next idle so0.2 c.args.ops.now c.loop-op.op-index c.loop-op-test.true (c.loop-op.invariant.far so0.0 so0.1 so0.2 so0.3)))
+    let op = get_or c.args.ops.now c.loop-op.op-index past in (
+      so0.0,
+      so0.1,
+      _,
+      as_idle c.args.awake (λ ks. acts_of_op ks op) _ (sym c.loop-op.invariant.threads)
+          (at_next idle so0.2 c.args.ops.now c.loop-op.op-index c.loop-op-test.true (c.loop-op.invariant.far so0.0 so0.1 so0.2 so0.3)),
+    )
 
 pub loop-op-preserved : goal.loop-op-preserved
 loop-op-preserved c =

@@ -76,9 +76,13 @@ perform_all-requires-clause-so_far c =
     let awake = c.active-awake.result in
     let more = later d so0.0 so0.1 in
     let woke = c.wake_all.ensures.so_far c.loop-phase.names c.if-number-gt-UNMARKED.out so0.0 (all d so0.0 so0.1) _ (begins d so0.0 so0.1) in
-    let ops = c.as_slice.ensures ∙ sym c.as_slice-in-loop-phase.ensures in
-    (so0.0, all d so0.0 so0.1, more, as_first more (ap (λ (os : List Op). acts_of_ops (idle_in awake (length c.wake_all.new.actors.caches.items)) os) ops)
-        (as_idle awake (λ ks. acts_of_ops ks c.as_slice.result.now) more (sym c.wake_all.ensures.threads) woke))
+    let ops = c.as_slice.ensures ∙ sym c.as_slice-in-loop-phase.ensures in (
+      so0.0,
+      all d so0.0 so0.1,
+      more,
+      as_first more (ap (λ (os : List Op). acts_of_ops (idle_in awake (length c.wake_all.new.actors.caches.items)) os) ops)
+          (as_idle awake (λ ks. acts_of_ops ks c.as_slice.result.now) more (sym c.wake_all.ensures.threads) woke),
+    )
 
 pub loop-phase-preserved : goal.loop-phase-preserved
 loop-phase-preserved c =

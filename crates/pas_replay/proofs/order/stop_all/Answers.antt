@@ -44,8 +44,8 @@ loop-index-preserved c =
           let count = far.1.threads in
           let within : i + 1 ≤ f.threads = omega (arith, test, count, same) in
           let done = has_operated c.loop-index.desk c.operate.new.desk c.loop-index.actors c.operate.new.actors (i + 1) (omega arith) within (ending f (i + 1) far.0) far.1 tt
-              (c.operate.ensures.turn (far.0.caches (i + 1)) (has_cache c.loop-index.desk c.loop-index.actors far.1 taken (i + 1) (omega arith) within)) c.operate.ensures.turns
-              c.operate.new.out (sym (append-nil (records_in c.operate.new.out))) refl in
+          (c.operate.ensures.turn (far.0.caches (i + 1)) (has_cache c.loop-index.desk c.loop-index.actors far.1 taken (i + 1) (omega arith) within)) c.operate.ensures.turns
+          c.operate.new.out (sym (append-nil (records_in c.operate.new.out))) refl in
           (done.0, done.1);
       taken = turn.turn.taken;
       threads = sized ∙ same;

@@ -32,9 +32,13 @@ stop_if_idle-requires-clause-so_far c =
     let i = c.loop-index.index in
     let sized = ap (λ (cs : List ThreadCache). length cs) c.read_epoch-epoch.ensures.caches_are in
     let len = c.len-index-end.ensures in
-    let ok = c.read_epoch-epoch.new.actors.caches.ok.0 in
-    (so0.0, so0.1, _, as_read (next_chosen (λ k. StopsIdle k c.args.epochs) (λ k. not (is_set c.args.awake k)) i (length c.args.actors.now.caches.items) so0.2 (omega (arith, test, sized, len, ok)) (ap not (sym c.get.ensures ∙ c.if-not-get.true)))
-        (c.loop-index.invariant.far so0.0 so0.1 so0.2 so0.3))
+    let ok = c.read_epoch-epoch.new.actors.caches.ok.0 in (
+      so0.0,
+      so0.1,
+      _,
+      as_read (next_chosen (λ k. StopsIdle k c.args.epochs) (λ k. not (is_set c.args.awake k)) i (length c.args.actors.now.caches.items) so0.2 (omega (arith, test, sized, len, ok)) (ap not (sym c.get.ensures ∙ c.if-not-get.true)))
+          (c.loop-index.invariant.far so0.0 so0.1 so0.2 so0.3),
+    )
 
 pub loop-index-preserved : goal.loop-index-preserved
 loop-index-preserved c = elim c.if-not-get.branch [
@@ -46,8 +50,8 @@ loop-index-preserved c = elim c.if-not-get.branch [
       let ok = c.read_epoch-epoch.new.actors.caches.ok.0 in
       let on = ap not (sym c.get.ensures ∙ w.if-not-get.true) in
       let far = λ (f : Profile) (all more : List Act) (so : SoFar f all (ReadsEpoch ∷ (idle_stops c.args.epochs (idle_in c.args.awake (length c.args.actors.now.caches.items)) ++ more)) (hand_at c.args.desk.now c.args.actors.now c.args.names.now c.args.out.now)).
-          w.stop_if_idle.ensures.so_far f all _ (as_read (next_chosen (λ k. StopsIdle k c.args.epochs) (λ k. not (is_set c.args.awake k)) i (length c.args.actors.now.caches.items) more (omega (arith, test, sized, len, ok)) on)
-          (c.loop-index.invariant.far f all more so)) in
+      w.stop_if_idle.ensures.so_far f all _ (as_read (next_chosen (λ k. StopsIdle k c.args.epochs) (λ k. not (is_set c.args.awake k)) i (length c.args.actors.now.caches.items) more (omega (arith, test, sized, len, ok)) on)
+      (c.loop-index.invariant.far f all more so)) in
       rw (w.desk-is, w.actors-is, w.names-is, w.out-is) (record { far = far; taken = w.stop_if_idle.ensures.taken; threads = w.stop_if_idle.ensures.threads ∙ c.loop-index.invariant.threads })
   | else-not-get w ↦
       let test = c.loop-index-test.true in
@@ -57,7 +61,7 @@ loop-index-preserved c = elim c.if-not-get.branch [
       let ok = c.read_epoch-epoch.new.actors.caches.ok.0 in
       let off = ap not (sym c.get.ensures ∙ w.if-not-get.false) in
       let far = λ (f : Profile) (all more : List Act) (so : SoFar f all (ReadsEpoch ∷ (idle_stops c.args.epochs (idle_in c.args.awake (length c.args.actors.now.caches.items)) ++ more)) (hand_at c.args.desk.now c.args.actors.now c.args.names.now c.args.out.now)).
-          as_read (next_passed (λ k. StopsIdle k c.args.epochs) (λ k. not (is_set c.args.awake k)) i (length c.args.actors.now.caches.items) more (omega (arith, test, sized, len, ok)) off) (c.loop-index.invariant.far f all more so) in
+      as_read (next_passed (λ k. StopsIdle k c.args.epochs) (λ k. not (is_set c.args.awake k)) i (length c.args.actors.now.caches.items) more (omega (arith, test, sized, len, ok)) off) (c.loop-index.invariant.far f all more so) in
       rw (w.desk-is, w.actors-is, w.names-is, w.out-is) (record { far = far; taken = c.loop-index.invariant.taken; threads = c.loop-index.invariant.threads })
 ]
 

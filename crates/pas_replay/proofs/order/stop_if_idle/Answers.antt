@@ -31,7 +31,7 @@ push-requires c =
     let has = has_cache c.args.desk.now c.args.actors.now at c.requires.taken k c.requires.some most in
     let idle = idle_is so0.3.0 c.args.actors.now.caches.items k c.args.epochs c.args.epoch c.index.result.now has c.index.ensures so0.3.2 in
     let room = room_besides c.args.desk.now c.operate.new.desk c.args.actors.now c.operate.new.actors k c.requires.some most (stopping so0.0 k c.args.epochs so0.3.0 (idle.1 (c.if-is_idle_for.ensures.0 refl))) at tt
-        (c.operate.ensures.turn (so0.3.0.caches k) has) in
+    (c.operate.ensures.turn (so0.3.0.caches k) has) in
     omega (arith, room)
 
 pub returns-then-is_idle_for-clause-taken : goal.returns-then-is_idle_for-clause-taken
@@ -60,7 +60,7 @@ returns-then-is_idle_for-clause-so_far c f all more (p, at, read) =
     let has = has_cache c.args.desk.now c.args.actors.now at c.requires.taken k c.requires.some most in
     let idle = idle_is p c.args.actors.now.caches.items k c.args.epochs c.args.epoch c.index.result.now has c.index.ensures read in
     let done = has_operated c.args.desk.now c.operate.new.desk c.args.actors.now c.operate.new.actors k c.requires.some most (stopping f k c.args.epochs p (idle.1 (c.if-is_idle_for.ensures.0 refl))) at tt
-        (c.operate.ensures.turn (p.caches k) has) c.operate.ensures.turns c.push.new.self c.push.ensures.added c.push.ensures.size in
+    (c.operate.ensures.turn (p.caches k) has) c.operate.ensures.turns c.push.new.self c.push.ensures.added c.push.ensures.size in
     (done.0, done.1, done.2 ∙ read)
 
 pub returns-else-is_idle_for-clause-so_far : goal.returns-else-is_idle_for-clause-so_far

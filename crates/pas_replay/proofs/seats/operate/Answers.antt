@@ -15,7 +15,7 @@ answer-requires-clause-can c =
     let there = c.index_mut-cache.result.now in
     subst (λ (g : Profile). CanCall (standing_of desk) (λ v l. MayAnswer g (cached there) c.args.what (spare_at desk) c.args.out.now v)) (ap profile_of (sym c.take_seat.ensures.region_is))
     (subst (λ (x : Cached). CanCall (standing_of desk) (λ v l. MayAnswer (profile_of c.args.desk.now.region) x c.args.what (spare_at desk) c.args.out.now v))
-      (has_at c.args.actors.now.caches.items c.args.actor there c.requires.can.1 c.index_mut-cache.ensures.value) (may_there c.args.actor c.requires.can.2 c.take_seat.ensures))
+    (has_at c.args.actors.now.caches.items c.args.actor there c.requires.can.1 c.index_mut-cache.ensures.value) (may_there c.args.actor c.requires.can.2 c.take_seat.ensures))
 
 pub returns-clause-turn : goal.returns-clause-turn
 returns-clause-turn c own has = record {
@@ -23,6 +23,6 @@ returns-clause-turn c own has = record {
   caches_are = refl;
   turn = turn_taken c.args.actor c.requires.can.2.seat.place c.take_seat.ensures c.answer.ensures.answers.performs.calls.adds.seat_is
       (subst (λ (x : Cached). Answers c.args.what (works c.args.names.now x) (works c.answer.new.names (cached c.answer.new.cache)) c.args.out.now c.answer.new.out (standing_of c.take_seat.new.desk) (standing_of c.answer.new.desk))
-        (sym (has_at c.args.actors.now.caches.items c.args.actor c.index_mut-cache.result.now has c.index_mut-cache.ensures.value)) c.answer.ensures.answers);
+      (sym (has_at c.args.actors.now.caches.items c.args.actor c.index_mut-cache.result.now has c.index_mut-cache.ensures.value)) c.answer.ensures.answers);
   places = refl;
 }
