@@ -22,7 +22,6 @@ use Rattle.pas_core.proofs.Knowledge.{deeds_known}
 use Rattle.pas_steps.specs.declared.step.Made.{Made}
 use Rattle.pas_steps.specs.Views.{View, known_deed, KnowsDeed}
 use Rattle.pas_steps.specs.Events.{events_by}
-use Rattle.pas_steps.specs.Agreement.{Agreed}
 use Rattle.pas_steps.specs.Lists.{Whole, part, word_after, visible, Legal}
 use Rattle.pas_steps.specs.Desks.{Standing, CanCall}
 use Rattle.pas_trace.specs.declared.plan.What.TheVariants.{Alloc}

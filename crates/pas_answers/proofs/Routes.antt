@@ -1,7 +1,7 @@
 -- By which route a request goes, by its size.
-use Rattle.std.proofs.Common.{◌≡◌, ℕ, ◌+◌, ◌<◌, ◌≤◌, Bool, true, false, if◌then◌else◌, get_or, Option, None, Some, refl, ap, sym, ◌∙◌, subst, arith, max}
+use Rattle.std.proofs.Common.{◌≡◌, ℕ, ◌<◌, ◌≤◌, Bool, true, false, if◌then◌else◌, get_or, Option, None, Some, refl, ap, sym, subst, arith, max}
 use Rattle.std.specs.Prelude.{nat_le}
-use Rattle.std.proofs.lemmas.Bool.{le-leb, leb-true, leb-false, false≢true}
+use Rattle.std.proofs.lemmas.Bool.{le-leb, leb-true}
 use Rattle.pas_profile.specs.Classes.{IsClass, class_sizes, class_size}
 use Rattle.pas_profile.proofs.ClassFacts.{class_suits}
 use Rattle.pas_profile.specs.Routes.{first_class, route_with, route_of}

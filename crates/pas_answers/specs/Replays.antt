@@ -1,5 +1,5 @@
 -- What a replay shows.
-use Rattle.std.specs.Prelude.{ℕ, ◌≡◌, List, [], ◌∷◌, Some, map}
+use Rattle.std.specs.Prelude.{ℕ, ◌≡◌, List, [], Some, map}
 use Rattle.pas_profile.specs.Profiles.{IsDirectoryOf, IsWordOf}
 use Rattle.pas_profile.specs.declared.word.Word.{Word}
 use Rattle.pas_profile.specs.declared.directory.Directory.{Directory}

@@ -1,5 +1,5 @@
 -- A session after an actor did something.
-use Rattle.std.proofs.Common.{◌≡◌, ◌≢◌, ℕ, ◌+◌, ◌-◌, ◌<◌, ◌≤◌, inl, inr, List, [], ◌∷◌, ◌++◌, length, set, Option, Some, refl, ap, sym, ◌∙◌, subst, arith, suc, length-append}
+use Rattle.std.proofs.Common.{◌≡◌, ◌≢◌, ℕ, ◌+◌, ◌-◌, ◌≤◌, List, ◌∷◌, ◌++◌, length, set, Option, Some, refl, ap, sym, ◌∙◌, subst, arith, suc, length-append}
 use Rattle.std.proofs.lemmas.List.{length-set}
 use Rattle.pas_profile.specs.declared.profile.Profile.{Profile}
 use Rattle.pas_steps.specs.Calls.{Calls}
@@ -10,10 +10,8 @@ use Rattle.pas_steps.specs.Lists.{Whole, part}
 use Rattle.pas_steps.specs.Desks.{triples}
 use Rattle.pas_steps.specs.declared.step.Made.{Made}
 use Rattle.pas_steps.proofs.Parts.{part_of_own, part_of_others}
-use Rattle.pas_plain.specs.Plain.{profile_of}
 use Rattle.pas_plain.specs.Seats.{region_of, pass_of, standing_of}
 use Rattle.pas_plain.specs.declared.pass.PlainPass.{PlainPass}
-use Rattle.pas_plain.specs.declared.region.PlainRegion.{PlainRegion}
 use Rattle.pas_plain.specs.declared.desk.PlainDesk.{PlainDesk}
 use Rattle.pas_report.specs.Rooms.{records_in, room_of}
 use Rattle.pas_report.specs.declared.record.Record.{Record}
@@ -25,11 +23,11 @@ use Rattle.pas_answers.specs.Acts.{Act}
 use Rattle.pas_answers.specs.Answers.{Progress, Named, with_cache, with_records, Follows}
 use Rattle.pas_answers.specs.declared.names.Names.{Names}
 use Rattle.pas_answers.specs.Calls.{owed_events}
-use Rattle.pas_answers.specs.Fit.{cost_of_act, costs_of, own_cost_of_act, own_costs_of, unbacks_of_act, unbacks_of}
+use Rattle.pas_answers.specs.Fit.{cost_of_act, own_cost_of_act, own_costs_of, unbacks_of_act, unbacks_of}
 use Rattle.pas_replay.specs.Sessions.{pass_in, IsSeated, Hand, HasNames, IsAt, SeatStands, ThreadStands}
 use Rattle.pas_replay.proofs.Turns.{put_there, put_elsewhere}
-use Rattle.pas_replay.proofs.Threads.{stands_at, its_cache, other_cache, set_stands, keep_stands, set_caches, owed_kept, owed_moves, owed_at}
-use Rattle.pas_replay.proofs.Sittings.{Sits, sits, may_sit, rises, other_stands}
+use Rattle.pas_replay.proofs.Threads.{stands_at, its_cache, other_cache, set_stands, keep_stands, set_caches, owed_kept, owed_moves}
+use Rattle.pas_replay.proofs.Sittings.{Sits, sits, rises, other_stands}
 
 -- ---- before
 module _ {f : Profile} {all acts : List Act} {h : Hand} {p : Progress} (at : IsAt f all acts h p) where

@@ -1,6 +1,6 @@
 -- The acts of a replay, one after the other.
 use Rattle.std.proofs.Common.{◌≡◌, ℕ, zero, suc, ◌+◌, ◌-◌, ◌<◌, ◌≤◌, Bool, true, false, if◌then◌else◌, not, List, [], ◌∷◌, ◌++◌, map, length, drop, get_or, slice_index_or, refl, ap, sym, ◌∙◌, subst, arith, append_assoc, drop_of_length-le}
-use Rattle.std.specs.List.{filter, flat_map}
+use Rattle.std.specs.List.{filter}
 use Rattle.std.proofs.lemmas.List.{drop_more}
 use Rattle.pas_profile.specs.declared.profile.Profile.{Profile}
 use Rattle.pas_steps.specs.Lists.{Whole}
@@ -11,13 +11,13 @@ use Rattle.pas_trace.specs.declared.plan.What.TheVariants.{Alloc}
 use Rattle.pas_report.specs.Rooms.{records_in, room_of}
 use Rattle.pas_report.specs.declared.record.Record.{Record}
 use Rattle.pas_report.specs.declared.records.Records.{Records}
-use Rattle.pas_answers.specs.Acts.{Act, Operates, MarksPhase, MarksClose, Wakes, Ends, is_active, numbers_from, threads_where, active_threads, idle_threads, acts_of_op, acts_of_ops, phase_acts, close_acts, acts_from, acts_of}
+use Rattle.pas_answers.specs.Acts.{Act, MarksPhase, Wakes, is_active, numbers_from, threads_where, active_threads, idle_threads, acts_of_op, acts_of_ops, phase_acts, close_acts, acts_from, acts_of}
 use Rattle.pas_answers.specs.Answers.{Progress, with_records, Follows}
 use Rattle.pas_answers.specs.Fit.{AreFit, cost_of_act, own_cost_of_act, unbacks_of_act}
 use Rattle.pas_answers.specs.Names.{names_held}
 use Rattle.pas_bits.specs.Masks.{is_set}
 use Rattle.pas_bits.specs.declared.mask.Mask4.{Mask4}
-use Rattle.pas_replay.specs.Sessions.{awake_in, idle_in, Hand, HasNames, IsAt, SoFar, HasRead}
+use Rattle.pas_replay.specs.Sessions.{awake_in, idle_in, Hand, SoFar, HasRead}
 use Rattle.pas_replay.proofs.Acting.{idly}
 
 -- ---- marks

@@ -5,13 +5,11 @@ use Rattle.std.proofs.lemmas.Grind.{get_or-set_at}
 use Rattle.std.proofs.lemmas.Bool.{eq-eqb, ne_eqb, cases_eq}
 use Rattle.pas_profile.specs.declared.profile.Profile.{Profile}
 use Rattle.pas_profile.specs.declared.event.Event.{Event}
-use Rattle.pas_profile.specs.declared.word.Word.TheVariants as Word
 use Rattle.pas_steps.specs.Agreement.{Agreed}
 use Rattle.pas_steps.specs.Events.{events_by}
 use Rattle.pas_steps.specs.Views.{View}
 use Rattle.pas_steps.specs.Lists.{Whole, part}
-use Rattle.pas_steps.specs.Desks.{CanCall, Standing}
-use Rattle.pas_steps.specs.declared.step.Made.{Made}
+use Rattle.pas_steps.specs.Desks.{CanCall}
 use Rattle.pas_steps.proofs.Unknown.{unknown_stays}
 use Rattle.pas_trace.specs.declared.plan.Op.{Op}
 use Rattle.pas_trace.specs.declared.plan.What.{What}
@@ -27,22 +25,21 @@ use Rattle.pas_report.specs.declared.records.Records.{Records}
 use Rattle.pas_cache.specs.Caches.{Cached, cached, AtRest}
 use Rattle.pas_cache.specs.Calls.{Begins}
 use Rattle.pas_cache.specs.declared.cache.ThreadCache.{ThreadCache}
-use Rattle.pas_utility.specs.Outcomes.{places_of}
 use Rattle.pas_profile.specs.declared.name.Name.{Name}
 use Rattle.pas_answers.specs.Acts.{Act, acts_of_what, Operates, Settles, StopsIdle, Wakes, Ends}
-use Rattle.pas_answers.specs.Answers.{having, Answer, answer_of, Progress, Named, epoch_look, stopped, settled, Caches, with_cache, after_settling, after_wake, IsIdleFor, IsAnswered, with_records, with_steps, records_of, said_by, Follows}
+use Rattle.pas_answers.specs.Answers.{having, Answer, answer_of, Progress, Named, epoch_look, stopped, settled, Caches, with_cache, after_settling, after_wake, IsIdleFor, IsAnswered, records_of, said_by, Follows}
 use Rattle.pas_answers.specs.Calls.{works, Tells, HasTurns, AreKnown, IsKnown, owed_events, MayAnswer, Answers}
 use Rattle.pas_answers.specs.Fit.{IsFitWhat, AreFit, cost_of_what, cost_of_act, own_cost_of_act, own_costs_of, unbacks_of_act}
 use Rattle.pas_trace.specs.EveryPlan.{asked_after}
 use Rattle.pas_answers.specs.Names.{names_held}
 use Rattle.pas_answers.proofs.KnownNames.{known_after}
-use Rattle.pas_replay.specs.Sessions.{Slots, pass_in, risen, IsSeated, IsTaken, HasCache, MayTakeSeat, MayTakeTurn, TakesTurn, TakesThreadTurn, Hand, hand_at, HasNames, IsAt, ThreadStands, AllStand, AreCaches, spare_at}
+use Rattle.pas_replay.specs.Sessions.{Slots, pass_in, risen, IsSeated, IsTaken, HasCache, MayTakeSeat, MayTakeTurn, TakesThreadTurn, Hand, hand_at, IsAt, ThreadStands, AllStand, AreCaches, spare_at}
 use Rattle.pas_answers.specs.declared.names.Names.{Names}
 use Rattle.pas_replay.specs.declared.seats.Actors.{Actors}
 use Rattle.pas_replay.proofs.Turns.{risen_length}
 use Rattle.pas_replay.proofs.Threads.{stands_at, cache_at, owed_at, owed_moves, its_cache, other_cache, set_caches}
 use Rattle.pas_replay.proofs.Sittings.{Sits, may_sit, spare_is}
-use Rattle.pas_replay.proofs.Acting.{thread_sits, hand_after, progress_after, ThreadActs, thread_acts}
+use Rattle.pas_replay.proofs.Acting.{thread_sits, hand_after, progress_after, thread_acts}
 
 -- ---- what is in hand, written otherwise
 abbrev pub hand : PlainRegion → Slots → List ThreadCache → ℕ → Names → Records → Hand

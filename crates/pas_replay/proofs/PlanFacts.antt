@@ -1,11 +1,10 @@
 -- Each plan can be replayed: its operations follow one another, and its bounds suffice for their records.
-use Rattle.std.proofs.Common.{◌≡◌, ℕ, ◌+◌, ◌*◌, ◌<◌, ◌≤◌, List, [], ◌∷◌, ◌++◌, length, slice_index, arith}
+use Rattle.std.proofs.Common.{◌≡◌, ℕ, ◌+◌, ◌*◌, ◌<◌, ◌≤◌, List, [], length, slice_index, arith}
 use Rattle.std.specs.Prelude.{◌^◌}
 use Rattle.std.proofs.lemmas.List.{length-map}
 use Rattle.pas_profile.specs.Profiles.{IsValid}
 use Rattle.pas_trace.specs.EveryPlan.{all_ops}
 use Rattle.pas_trace.specs.Plans.{IsPlanOf, bounds_of, ops_of}
-use Rattle.pas_trace.specs.declared.plan.Op.{Op}
 use Rattle.pas_trace.specs.declared.plan.Plan.{Plan}
 use Rattle.pas_trace.proofs.EveryPlan.{every_plan}
 use Rattle.pas_answers.specs.Acts.{acts_of}

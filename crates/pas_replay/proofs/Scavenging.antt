@@ -1,7 +1,6 @@
 -- A session after an act of the scavenger.
-use Rattle.std.proofs.Common.{◌≡◌, ℕ, ◌+◌, ◌-◌, ◌<◌, ◌≤◌, ◌^◌, get_or, true, false, not, inl, inr, List, [], ◌∷◌, ◌++◌, length, max, reverse, refl, ap, sym, ◌∙◌, subst, arith, length-append}
-use Rattle.std.specs.Prelude.{map, ◌↔◌, IsTrue}
-use Rattle.std.specs.List.{filter, flat_map}
+use Rattle.std.proofs.Common.{◌≡◌, ℕ, ◌+◌, ◌-◌, ◌≤◌, get_or, inr, List, [], ◌∷◌, ◌++◌, length, reverse, refl, ap, sym, ◌∙◌, subst, arith, length-append}
+use Rattle.std.specs.Prelude.{◌↔◌}
 use Rattle.std.proofs.lemmas.List.{append-nil, length-map, length-reverse}
 use Rattle.pas_profile.specs.declared.profile.Profile.{Profile}
 use Rattle.pas_profile.specs.declared.event.Event.{Event}
@@ -12,9 +11,8 @@ use Rattle.pas_steps.specs.Calls.{Calls}
 use Rattle.pas_steps.specs.Clear.{HasNothing}
 use Rattle.pas_steps.specs.Events.{events_by}
 use Rattle.pas_steps.specs.Kinds.{Kinds, LookEpoch}
-use Rattle.pas_steps.specs.Lists.{Whole, part}
-use Rattle.pas_steps.specs.Views.{View}
-use Rattle.pas_steps.specs.Desks.{CanCall, Standing, Seat, Makes, made}
+use Rattle.pas_steps.specs.Lists.{part}
+use Rattle.pas_steps.specs.Desks.{CanCall, Standing, Makes, made}
 use Rattle.pas_steps.specs.declared.step.Made.{Made}
 use Rattle.pas_steps.specs.declared.step.Step.TheVariants.{Look, Tick}
 use Rattle.pas_steps.proofs.Called.{call_none, call_step}
@@ -22,8 +20,8 @@ use Rattle.pas_steps.proofs.Calls.{does_idly}
 use Rattle.pas_scavenger.specs.Pages.{unback_of}
 use Rattle.pas_scavenger.specs.Passes.{PassSteps, unbacks_in}
 use Rattle.pas_scavenger.proofs.Trying.{nothing_still}
-use Rattle.pas_plain.specs.Plain.{profile_of, actor_of}
-use Rattle.pas_plain.specs.Seats.{region_of, pass_of, standing_of}
+use Rattle.pas_plain.specs.Plain.{profile_of}
+use Rattle.pas_plain.specs.Seats.{region_of, standing_of}
 use Rattle.pas_plain.specs.declared.desk.PlainDesk.{PlainDesk}
 use Rattle.pas_report.specs.Rooms.{records_in, room_of}
 use Rattle.pas_report.specs.declared.record.Record.{Record}
@@ -34,15 +32,14 @@ use Rattle.pas_cache.specs.declared.cache.ThreadCache.{ThreadCache}
 use Rattle.pas_passes.specs.Answers.{AnswersTick}
 use Rattle.pas_passes.specs.Records.{record_of, records_of_pass}
 use Rattle.pas_answers.specs.Acts.{Act, Ticks, MakesPass, ReadsEpoch, StopsIdle}
-use Rattle.pas_answers.specs.Answers.{Progress, after_tick, after_pass, after_reading, epoch_look, IsIdleFor, Follows}
-use Rattle.pas_answers.specs.Fit.{costs_of}
+use Rattle.pas_answers.specs.Answers.{Progress, after_reading, epoch_look, IsIdleFor, Follows}
 use Rattle.pas_answers.specs.declared.names.Names.{Names}
-use Rattle.pas_replay.specs.Sessions.{MayTakeTurn, IsTaken, Scavenges, MadePass, HasCache, Hand, hand_at, HasNames, IsAt, spare_at}
+use Rattle.pas_replay.specs.Sessions.{MayTakeTurn, IsTaken, Scavenges, MadePass, HasCache, Hand, hand_at, IsAt, spare_at}
 use Rattle.pas_replay.specs.declared.seats.Actors.{Actors}
 use Rattle.pas_replay.proofs.Turns.{has_at}
 use Rattle.pas_replay.proofs.Sittings.{spare_is}
 use Rattle.pas_replay.proofs.Acting.{scavenger_sits, progress_scavenged, scavenger_acts, idly}
-use Rattle.pas_replay.proofs.Operations.{scavenger_may_sit, same_hand, has_cache}
+use Rattle.pas_replay.proofs.Operations.{scavenger_may_sit, same_hand}
 
 -- ---- before
 -- it may sit down, and has nothing then

@@ -1,5 +1,5 @@
 -- How a replay starts, and what it shows at its end.
-use Rattle.std.proofs.Common.{◌≡◌, ℕ, zero, suc, ◌+◌, ◌-◌, ◌*◌, ◌<◌, ◌≤◌, true, false, inl, inr, List, [], ◌∷◌, length, get_or, Option, Some, None, refl, ap, sym, ◌∙◌, subst, arith, slice_index}
+use Rattle.std.proofs.Common.{◌≡◌, ℕ, zero, suc, ◌+◌, ◌-◌, ◌*◌, ◌≤◌, true, false, inl, inr, List, [], ◌∷◌, length, Option, Some, None, refl, ap, sym, ◌∙◌, subst, arith, slice_index}
 use Rattle.std.proofs.lemmas.Bool.{cases_eq, cases_lt}
 use Rattle.std.proofs.Math.Nat.{suc-mul}
 use Rattle.pas_profile.specs.Profiles.{IsValid, IsWordOf}
@@ -21,13 +21,11 @@ use Rattle.pas_report.specs.Rooms.{records_in, room_of}
 use Rattle.pas_report.specs.declared.record.Record.{Record}
 use Rattle.pas_report.specs.declared.records.Records.{Records}
 use Rattle.pas_cache.specs.Locals.{any_covers, any_keeps}
-use Rattle.pas_cache.specs.Caches.{Cached, cached, AtRest}
+use Rattle.pas_cache.specs.Caches.{Cached, AtRest}
 use Rattle.pas_cache.specs.declared.cache.ThreadCache.{ThreadCache}
 use Rattle.pas_cache.proofs.FlushesAndFrees.{rests_empty}
 use Rattle.pas_segregated.specs.declared.slots.Slots.{Slots}
-use Rattle.pas_utility.specs.Outcomes.{places_of}
 use Rattle.pas_answers.specs.Acts.{Act, acts_of}
-use Rattle.pas_answers.specs.Answers.{Caches, Follows}
 use Rattle.pas_answers.specs.Calls.{owed_events}
 use Rattle.pas_answers.specs.Fit.{own_costs_of}
 use Rattle.pas_answers.specs.Names.{names_held}
@@ -36,12 +34,11 @@ use Rattle.pas_answers.specs.Ways.{InOrder}
 use Rattle.pas_answers.proofs.Consequences.{replays}
 use Rattle.pas_answers.specs.declared.names.Names.{Names}
 use Rattle.pas_replay.specs.Kits.{IsFresh, IsKitOf}
-use Rattle.pas_replay.specs.Sessions.{pass_in, SeatStands, AllStand, AreCaches, AreEmpty, Hand, hand_of, IsAt, SoFar, owed_by}
+use Rattle.pas_replay.specs.Sessions.{pass_in, SeatStands, AreEmpty, Hand, hand_of, SoFar, owed_by}
 use Rattle.pas_replay.specs.declared.kit.PlainKit.{PlainKit}
 use Rattle.pas_replay.specs.declared.seats.Actors.{Actors}
 use Rattle.pas_replay.proofs.PlanFacts.{plan_fit, plan_own, plan_scavenger, plan_total}
 use Rattle.pas_replay.proofs.Threads.{stands_at, cache_at}
-use Rattle.pas_replay.proofs.ActsInOrder.{as_acts}
 
 -- ---- the start
 unknown_all : (n : ℕ) → unknown_below n [] ≡ n

@@ -1,5 +1,5 @@
 -- The threads of a session, when an actor did something.
-use Rattle.std.proofs.Common.{◌≡◌, ◌≢◌, ℕ, zero, suc, ◌+◌, ◌-◌, ◌<◌, ◌≤◌, Bool, if◌then◌else◌, inl, inr, List, [], ◌∷◌, length, get_or, set, Option, Some, refl, ap, sym, ◌∙◌, subst, arith}
+use Rattle.std.proofs.Common.{◌≡◌, ◌≢◌, ℕ, zero, suc, ◌+◌, ◌-◌, ◌<◌, ◌≤◌, Bool, if◌then◌else◌, inl, inr, List, length, get_or, set, Option, refl, ap, sym, ◌∙◌, subst, arith}
 use Rattle.std.proofs.lemmas.Bool.{eq-eqb, ne_eqb, cases_eq}
 use Rattle.std.proofs.lemmas.List.{length-set, get_or-set_other}
 use Rattle.std.proofs.lemmas.Grind.{get_or-set_at}
@@ -13,7 +13,7 @@ use Rattle.pas_answers.specs.Acts.{Act}
 use Rattle.pas_answers.specs.Answers.{Caches, with_cache}
 use Rattle.pas_answers.specs.Calls.{owed_events}
 use Rattle.pas_answers.specs.Fit.{own_costs_of}
-use Rattle.pas_replay.specs.Sessions.{Slots, pass_in, HasCache, ThreadStands, AllStand, AreCaches, AreEmpty, owed_by}
+use Rattle.pas_replay.specs.Sessions.{Slots, pass_in, HasCache, ThreadStands, AllStand, AreCaches, owed_by}
 use Rattle.pas_replay.proofs.Turns.{put_there, put_elsewhere}
 
 -- ---- thread k

@@ -1,15 +1,14 @@
 -- The one desk of a replay, at which the actors take turns.
-use Rattle.std.proofs.Common.{◌≡◌, ◌≢◌, ℕ, ◌+◌, ◌-◌, ◌<◌, List, length, set, get_or, Option, Some, None, refl, ap, sym, ◌∙◌, subst, arith, get_or-set_same, get_or-set_other}
+use Rattle.std.proofs.Common.{◌≡◌, ◌≢◌, ℕ, ◌-◌, ◌<◌, List, length, set, get_or, Option, Some, None, ap, sym, ◌∙◌, arith, get_or-set_same, get_or-set_other}
 use Rattle.std.proofs.lemmas.List.{length-set, set-set, set_comm, set-get_or}
 use Rattle.pas_steps.specs.Desks.{Standing, Seat}
 use Rattle.pas_plain.specs.Plain.{actor_of}
 use Rattle.pas_plain.specs.Seats.{region_of, pass_of, standing_of}
 use Rattle.pas_plain.specs.declared.pass.PlainPass.{PlainPass}
-use Rattle.pas_plain.specs.declared.region.PlainRegion.{PlainRegion}
 use Rattle.pas_plain.specs.declared.desk.PlainDesk.{PlainDesk}
 use Rattle.pas_cache.specs.Caches.{Cached, cached}
 use Rattle.pas_cache.specs.declared.cache.ThreadCache.{ThreadCache}
-use Rattle.pas_replay.specs.Sessions.{HasCache, Slots, pass_in, risen, IsTaken, IsSeated, MayTakeSeat, TakesSeat, MayTakeTurn, TakesTurn}
+use Rattle.pas_replay.specs.Sessions.{HasCache, Slots, pass_in, risen, IsSeated, MayTakeSeat, TakesSeat, MayTakeTurn, TakesTurn}
 
 -- ---- the places of the passes
 pub risen_length : (desk : PlainDesk) (passes : Slots) → length (risen desk passes) ≡ length passes

@@ -1,6 +1,6 @@
 -- What stands between two acts of a replay: one legal list, for which the region and the pass of each actor stand, and at whose end each thread is at
 -- rest with its cache, and the scavenger has nothing.
-use Rattle.std.specs.Prelude.{ℕ, not, zero, suc, ◌+◌, ◌-◌, ◌<◌, ◌≤◌, ◌≡◌, List, [], ◌∷◌, ◌++◌, length, Option, Some, None, slice_index_or, slice_set}
+use Rattle.std.specs.Prelude.{ℕ, not, zero, suc, ◌+◌, ◌-◌, ◌<◌, ◌≤◌, ◌≡◌, List, [], ◌++◌, length, Option, Some, None, slice_index_or, slice_set}
 use Rattle.pas_profile.specs.declared.profile.Profile.{Profile}
 use Rattle.pas_profile.specs.declared.event.Outcome.{Outcome}
 use Rattle.pas_steps.specs.Clear.{HasNothing}

@@ -1,4 +1,3 @@
-use Rattle.std.proofs.Common.{arith}
 use Rattle.pas_cache.specs.Caches.{cached}
 use Rattle.pas_answers.proofs.Requests.{can_allocate, can_allocate_pages, serves_small, serves_pages}
 use Rattle.pas_answers.proofs.Routes.{is_small, is_large}

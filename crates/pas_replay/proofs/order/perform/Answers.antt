@@ -1,4 +1,4 @@
-use Rattle.std.proofs.Common.{◌≡◌, ◌≤◌, ◌∙◌, ◌-◌, refl, ℕ, List, length, ap, sym, arith}
+use Rattle.std.proofs.Common.{◌∙◌, ◌-◌, refl, List, length, ap, sym, arith}
 use Rattle.pas_profile.specs.declared.profile.Profile.{Profile}
 use Rattle.pas_cache.specs.declared.cache.ThreadCache.{ThreadCache}
 use Rattle.pas_trace.specs.declared.plan.What.{What}

@@ -1,8 +1,7 @@
 -- the operations so far are done
-use Rattle.std.proofs.Common.{◌≡◌, ◌++◌, not, List, drop, length}
-use Rattle.pas_bits.specs.Masks.{is_set}
+use Rattle.std.proofs.Common.{◌≡◌, ◌++◌, List, drop, length}
 use Rattle.pas_profile.specs.declared.profile.Profile.{Profile}
-use Rattle.pas_answers.specs.Acts.{Act, threads_where, acts_of_ops}
+use Rattle.pas_answers.specs.Acts.{Act, acts_of_ops}
 use Rattle.pas_replay.specs.Sessions.{idle_in, SoFar, IsTaken, hand_at}
 use Rattle.pas_replay.proofs.order.perform_all.Given as goal
 

@@ -1,5 +1,5 @@
 -- the phases so far are done
-use Rattle.std.proofs.Common.{◌≡◌, List, drop, length}
+use Rattle.std.proofs.Common.{◌≡◌, drop, length}
 use Rattle.std.specs.Prelude.{map}
 use Rattle.pas_trace.specs.Plans.{ops_of}
 use Rattle.pas_profile.specs.declared.profile.Profile.{Profile}

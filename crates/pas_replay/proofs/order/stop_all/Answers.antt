@@ -1,11 +1,8 @@
-use Rattle.std.proofs.Common.{◌≡◌, ◌∙◌, ◌+◌, ◌-◌, ◌≤◌, ◌++◌, ℕ, List, [], ◌∷◌, length, set, refl, ap, sym, arith, append-nil}
-use Rattle.std.specs.Prelude.{map}
+use Rattle.std.proofs.Common.{◌≡◌, ◌∙◌, ◌+◌, ◌-◌, ◌≤◌, ℕ, List, length, set, refl, ap, sym, arith, append-nil}
 use Rattle.std.proofs.lemmas.List.{length-set}
-use Rattle.pas_profile.specs.declared.profile.Profile.{Profile}
 use Rattle.pas_cache.specs.declared.cache.ThreadCache.{ThreadCache}
 use Rattle.pas_report.specs.Rooms.{records_in}
-use Rattle.pas_answers.specs.Acts.{Act, Ends, numbers_from}
-use Rattle.pas_replay.specs.Sessions.{SoFar, hand_at}
+use Rattle.pas_answers.specs.Acts.{Ends}
 use Rattle.pas_replay.proofs.ActsInOrder.{next_number, no_number}
 use Rattle.pas_replay.proofs.Operations.{has_cache, ending, may_operate, has_operated, emptied, empty_next}
 use Rattle.pas_replay.proofs.order.stop_all.Goals as goal

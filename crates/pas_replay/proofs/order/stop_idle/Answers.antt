@@ -1,10 +1,10 @@
-use Rattle.std.proofs.Common.{◌≡◌, ◌≤◌, ◌∙◌, ◌+◌, ◌-◌, ◌++◌, ℕ, true, false, not, List, ◌∷◌, length, refl, ap, sym, subst, arith}
+use Rattle.std.proofs.Common.{◌≡◌, ◌∙◌, ◌-◌, ◌++◌, ℕ, not, List, ◌∷◌, length, ap, sym, arith}
 use Rattle.std.specs.List.{filter}
 use Rattle.pas_bits.specs.Masks.{is_set}
 use Rattle.pas_profile.specs.declared.profile.Profile.{Profile}
 use Rattle.pas_cache.specs.declared.cache.ThreadCache.{ThreadCache}
 use Rattle.pas_answers.specs.Acts.{Act, ReadsEpoch, StopsIdle, numbers_from, idle_stops}
-use Rattle.pas_replay.specs.Sessions.{SoFar, HasRead, idle_in, hand_at}
+use Rattle.pas_replay.specs.Sessions.{SoFar, idle_in, hand_at}
 use Rattle.pas_replay.proofs.ActsInOrder.{as_read, next_chosen, next_passed, none_left}
 use Rattle.pas_replay.proofs.Scavenging.{may_scavenge, has_read}
 use Rattle.pas_replay.proofs.order.stop_idle.Goals as goal

@@ -3,7 +3,7 @@ use Rattle.std.proofs.Common.{◌≡◌, ◌+◌, ◌-◌, ◌++◌, not, List, 
 use Rattle.std.specs.List.{filter}
 use Rattle.pas_bits.specs.Masks.{is_set}
 use Rattle.pas_profile.specs.declared.profile.Profile.{Profile}
-use Rattle.pas_answers.specs.Acts.{Act, ReadsEpoch, numbers_from, threads_where, idle_stops}
+use Rattle.pas_answers.specs.Acts.{Act, ReadsEpoch, numbers_from, idle_stops}
 use Rattle.pas_replay.specs.Sessions.{idle_in, SoFar, HasRead, IsTaken, hand_at}
 use Rattle.pas_replay.proofs.order.stop_idle.Given as goal
 

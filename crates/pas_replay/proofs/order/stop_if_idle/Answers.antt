@@ -1,4 +1,4 @@
-use Rattle.std.proofs.Common.{◌≡◌, ◌≤◌, ◌-◌, ◌∙◌, List, length, refl, ap, sym, arith}
+use Rattle.std.proofs.Common.{◌≤◌, ◌-◌, ◌∙◌, List, length, refl, ap, arith}
 use Rattle.std.proofs.lemmas.Bool.{false≢true}
 use Rattle.std.proofs.lemmas.List.{length-set}
 use Rattle.pas_cache.specs.declared.cache.ThreadCache.{ThreadCache}

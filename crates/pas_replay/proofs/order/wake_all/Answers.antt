@@ -1,12 +1,11 @@
-use Rattle.std.proofs.Common.{◌≡◌, ◌≤◌, ◌∙◌, ◌+◌, ◌-◌, ◌++◌, ℕ, true, false, List, length, set, ap, sym, arith}
+use Rattle.std.proofs.Common.{◌≡◌, ◌≤◌, ◌∙◌, ◌+◌, ◌-◌, ◌++◌, true, false, List, length, ap, sym, arith}
 use Rattle.std.specs.Prelude.{map}
-use Rattle.std.specs.List.{filter}
 use Rattle.std.proofs.lemmas.List.{length-set}
 use Rattle.pas_bits.specs.Masks.{is_set}
 use Rattle.pas_profile.specs.declared.profile.Profile.{Profile}
 use Rattle.pas_cache.specs.declared.cache.ThreadCache.{ThreadCache}
 use Rattle.pas_report.specs.declared.records.Records.{Records}
-use Rattle.pas_answers.specs.Acts.{Act, Wakes, numbers_from, threads_where}
+use Rattle.pas_answers.specs.Acts.{Act, Wakes}
 use Rattle.pas_replay.specs.Sessions.{awake_in, SoFar, hand_at}
 use Rattle.pas_answers.specs.declared.names.Names.{Names}
 use Rattle.pas_replay.proofs.ActsInOrder.{as_acts, next_chosen, next_passed, none_left}

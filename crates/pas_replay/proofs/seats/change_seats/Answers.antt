@@ -1,4 +1,4 @@
-use Rattle.std.proofs.Common.{None, Some, Option, ap, sym, ◌∙◌, subst, set}
+use Rattle.std.proofs.Common.{None, Some, ap, sym, ◌∙◌, subst, set}
 use Rattle.std.proofs.lemmas.List.{get_or_default}
 use Rattle.std.proofs.lemmas.Option.{same_Some}
 use Rattle.pas_plain.specs.Plain.{actor_of}

@@ -1,4 +1,4 @@
-use Rattle.std.proofs.Common.{ℕ, ◌+◌, ◌≤◌, List, length, refl, ap, ◌∙◌, subst, arith, length-append}
+use Rattle.std.proofs.Common.{List, length, refl, ap, ◌∙◌, arith, length-append}
 use Rattle.std.proofs.lemmas.List.{length-map}
 use Rattle.pas_plain.specs.Plain.{profile_of}
 use Rattle.pas_plain.specs.declared.region.PlainRegion.{PlainRegion}
@@ -6,7 +6,7 @@ use Rattle.pas_report.specs.Rooms.{records_in}
 use Rattle.pas_report.specs.declared.record.Record.{Record}
 use Rattle.pas_utility.specs.Outcomes.{pairs_in}
 use Rattle.pas_passes.specs.Records.{record_of, records_of_pass}
-use Rattle.pas_replay.proofs.Turns.{may_there, turn_taken}
+use Rattle.pas_replay.proofs.Turns.{turn_taken}
 use Rattle.pas_replay.proofs.seats.pass.Goals as goal
 
 pub returns-clause-passes : goal.returns-clause-passes

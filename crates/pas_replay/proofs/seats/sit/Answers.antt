@@ -1,4 +1,4 @@
-use Rattle.std.proofs.Common.{List, None, Some, ap, sym, ◌∙◌}
+use Rattle.std.proofs.Common.{None, Some, ap, sym, ◌∙◌}
 use Rattle.std.proofs.lemmas.List.{get_or_default}
 use Rattle.std.proofs.lemmas.Option.{same_Some}
 use Rattle.pas_plain.specs.Plain.{actor_of}

@@ -1,5 +1,5 @@
 use Rattle.std.proofs.Common.{refl}
-use Rattle.pas_replay.proofs.Turns.{may_there, turn_taken}
+use Rattle.pas_replay.proofs.Turns.{turn_taken}
 use Rattle.pas_replay.proofs.seats.tick.Goals as goal
 
 pub returns-clause-ticks : goal.returns-clause-ticks

@@ -1,8 +1,8 @@
-use Rattle.std.proofs.Common.{refl, ap, sym, subst}
+use Rattle.std.proofs.Common.{refl, sym, subst}
 use Rattle.pas_plain.specs.Seats.{standing_of}
 use Rattle.pas_cache.specs.Caches.{Cached, cached}
 use Rattle.pas_cache.specs.Calls.{Begins}
-use Rattle.pas_replay.proofs.Turns.{may_there, turn_taken, has_at}
+use Rattle.pas_replay.proofs.Turns.{turn_taken, has_at}
 use Rattle.pas_replay.proofs.seats.wake.Goals as goal
 
 pub returns : goal.returns
