@@ -1,22 +1,16 @@
 -- From what a replay of a generated trace shows to the summary that is written.
-use Rattle.std.proofs.Common.{◌≡◌, ℕ, ◌⊎◌, List, [], ◌∷◌, ◌++◌, append_assoc, Option, Some, Result, Ok, Err, ap, sym, ◌∙◌, subst, inl, inr, arith}
-use Rattle.std.specs.Prelude.{count_by, codes}
-use Rattle.pas_steps.specs.Lists.{visible}
+use Rattle.std.proofs.Common.{◌≡◌, ℕ, ◌⊎◌, List, ◌++◌, append_assoc, Option, ap, ◌∙◌, subst, inl, inr, arith}
 use Rattle.pas_steps.specs.declared.state.State.{State}
-use Rattle.pas_trace.specs.Numbers.{number_of}
-use Rattle.pas_trace.specs.Plans.{IsPlanOf, Parsed, phases_in}
-use Rattle.pas_trace.specs.declared.fault.TraceFault.{TraceFault}
-use Rattle.pas_trace.specs.declared.item.Item.{Item}
-use Rattle.pas_trace.specs.declared.plan.Plan.{Plan}
+use Rattle.pas_trace.specs.Plans.{IsPlanOf}
 use Rattle.pas_generate.specs.Traces.{trace_text}
 use Rattle.pas_report.specs.Counts.{totals_by_words}
 use Rattle.pas_report.specs.declared.record.Record.{Record}
-use Rattle.pas_io.specs.Told.{Rose, Tells}
+use Rattle.pas_io.specs.Told.{Rose}
 use Rattle.pas_top.specs.Summaries.{line_text, summary_text}
 use Rattle.pas_top.specs.Generating.{IsSummarized}
 use Rattle.pas_top.specs.Generated.{Generates}
 use Rattle.pas_top.specs.Outcomes.{IsShowing}
-use Rattle.pas_top.specs.Outputs.{GenComesTo, IsGen, IsOutput, IsCutOff}
+use Rattle.pas_top.specs.Outputs.{GenComesTo, IsGen, IsCutOff}
 use Rattle.pas_top.proofs.Headline.{totals_are}
 use Rattle.pas_top.proofs.Statuses.{cut_off}
 

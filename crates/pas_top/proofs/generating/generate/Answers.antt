@@ -1,4 +1,4 @@
-use Rattle.std.proofs.Common.{◌∙◌, List, ap, subst, inl, inr, refl}
+use Rattle.std.proofs.Common.{◌∙◌, List, ap, subst, inr, refl}
 use Rattle.pas_report.specs.Counts.{totals_by_words}
 use Rattle.pas_report.specs.Rooms.{records_in}
 use Rattle.pas_report.specs.declared.record.Record.{Record}
