@@ -17,6 +17,7 @@ use Rattle.pas_steps.proofs.Adding.{can_call}
 use Rattle.pas_steps.specs.Unknown.{unknown_pages}
 use Rattle.pas_cache.specs.Caches.{Cached, AtRest}
 use Rattle.pas_free_log.specs.declared.log.Entry.{Entry}
+use Rattle.pas_free_log.specs.declared.noting.EndedRun.{EndedRun}
 use Rattle.pas_free_log.specs.Logs.{entry_of}
 use Rattle.pas_cache.specs.Changes.{EmptiesFull}
 use Rattle.pas_cache.specs.Calls.{Allocates, TakesName, RefusesName, Frees, StopsCache}
@@ -49,9 +50,9 @@ small_turn {answer = answer} h can = small_answer answer h can
 impossible : true ≡ nat_le 64 (length {A = Name} []) → ⊥
 impossible h = true≢false h
 
-empties_none : (full : Bool) (actor : ℕ) (log kept : List Entry) (steps : List Made) → full ≡ nat_le 64 (length log) → log ≡ [] → EmptiesFull full actor log kept steps → (kept ≡ []) × (steps ≡ [])
-empties_none true actor log kept steps full none h = absurd (impossible (full ∙ ap (λ xs. nat_le 64 (length xs)) none))
-empties_none false actor log kept steps full none h = (h.1 ∙ none, h.0)
+empties_none : (full : Bool) (actor : ℕ) (log kept : List Entry) (noted noted' : List EndedRun) (steps : List Made) → full ≡ nat_le 64 (length log) → log ≡ [] → EmptiesFull full actor log kept noted noted' steps → (kept ≡ []) × (steps ≡ [])
+empties_none true actor log kept noted noted' steps full none h = absurd (impossible (full ∙ ap (λ xs. nat_le 64 (length xs)) none))
+empties_none false actor log kept noted noted' steps full none h = (h.1 ∙ none, h.0)
 
 pub record LogsOne (c c' : Cached) (steps : List Made) : Type 0 where
   pub log : length c'.log ≤ 1
@@ -59,7 +60,7 @@ pub record LogsOne (c c' : Cached) (steps : List Made) : Type 0 where
 
 logs_one : (f : Profile) (actor : ℕ) (c c' : Cached) (name : Name) (steps : List Made) (answer : Result (Unit {0}) FreeFault) → c.log ≡ [] → MatchResult answer (λ done. TakesName f actor c c' name steps) (RefusesName f c c' name steps) → LogsOne c c' steps
 logs_one f actor c c' name steps (Ok done) none h =
-    let kept = empties_none (nat_le 64 (length c.log)) actor c.log h.logs.kept steps refl none h.logs.emptied in
+    let kept = empties_none (nat_le 64 (length c.log)) actor c.log h.logs.kept c.noted c'.noted steps refl none h.logs.emptied in
     let n : length c'.log ≡ length h.logs.kept + 1 = ap length h.logs.log_is ∙ length-append h.logs.kept (entry_of name ∷ []) in
     let m : length h.logs.kept ≡ 0 = ap length kept.0 in
     record { log = omega (arith, n, m); no_steps = kept.1 }
