@@ -3,6 +3,8 @@
 
 mod generating;
 mod job;
+#[cfg(test)]
+mod machine_tests;
 pub mod main_call;
 mod outcome;
 mod summary;

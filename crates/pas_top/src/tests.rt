@@ -7,8 +7,6 @@ use pas_bits::Mask4;
 use pas_generate::trace_of;
 use pas_io::memory::{MemorySink, MemorySource};
 use pas_io::sure::{SureSink, SureSource};
-use pas_machine::Machine;
-use pas_report::Record;
 use std::alloc::{AllocError, Global};
 use std::process::Abort;
 use std::test::Fail;
@@ -354,26 +352,5 @@ fn a_long_generated_trace_is_summed_up(rt: HostRuntime) -> Result<(), Fail> {
     let outcome = outcome_of(rt.alloc(), &words, &[], &[1], &[], ROOM)?;
     assert_eq!(rt; outcome.status, 0);
     assert_eq!(rt; outcome.taken.as_slice(), LONG_SUMMARY.as_bytes());
-    Ok(())
-}
-
-/// Each event of the replays is one that the machine takes.
-#[test]
-fn the_machine_takes_what_is_replayed(rt: HostRuntime) -> Result<(), Fail> {
-    for (input, status, _) in OUTCOMES {
-        if status != 0 || input.len() > ROOM {
-            continue;
-        }
-        let bytes = Vec::from_slice(rt.alloc(), input.as_bytes())?;
-        let Ok(Replay::Replayed(records, state)) = replay_of(rt.alloc(), bytes) else {
-            return Err(AllocError.into());
-        };
-        let mut machine = Machine::try_new(rt.alloc(), *state.profile())?;
-        for shown in records.as_slice() {
-            if let Record::Event(event) = shown {
-                assert_eq!(rt; machine.step(event), Ok(()), "at {input:?}");
-            }
-        }
-    }
     Ok(())
 }
