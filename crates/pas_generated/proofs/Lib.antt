@@ -1,0 +1,5 @@
+pub mod Digits
+pub mod Splits
+pub mod Says
+pub mod Headers
+pub mod Reading
