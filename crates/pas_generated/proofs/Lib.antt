@@ -3,3 +3,7 @@ pub mod Splits
 pub mod Says
 pub mod Headers
 pub mod Reading
+pub mod Checks
+pub mod Listed
+pub mod Steps
+pub mod Whole

@@ -79,7 +79,7 @@ abbrev pub lacks : ℕ → List ℕ → Bool
 lacks s [] = true
 lacks s (b ∷ bs) = not (b == s) && lacks s bs
 
-lacks-by : (s : ℕ) (w : List ℕ) → lacks s w ≡ true → Lacks s w
+pub lacks-by : (s : ℕ) (w : List ℕ) → lacks s w ≡ true → Lacks s w
 lacks-by s [] e = tt
 lacks-by s (b ∷ bs) e =
     let p = and_parts (not (b == s)) (lacks s bs) e in
