@@ -1,5 +1,5 @@
 -- The checks of generated items hold.
-use Rattle.std.proofs.Common.{◌≡◌, ◌≢◌, ◌⊎◌, ℕ, zero, suc, ◌+◌, ◌*◌, ◌/◌, ◌%◌, ◌<◌, ◌≤◌, ◌==◌, nat_eq, nat_lt, nat_le, Bool, true, false, not, ◌&&◌, ◌||◌, if◌then◌else◌, List, [], ◌∷◌, None, Some, inl, inr, refl, sym, ap, ◌∙◌, arith}
+use Rattle.std.proofs.Common.{◌≡◌, ◌≢◌, ◌⊎◌, ℕ, zero, suc, ◌+◌, ◌*◌, ◌/◌, ◌%◌, ◌<◌, ◌≤◌, ◌==◌, nat_eq, nat_lt, nat_le, Bool, true, false, not, ◌&&◌, ◌||◌, if◌then◌else◌, List, [], ◌∷◌, length, None, Some, inl, inr, refl, sym, ap, ◌∙◌, arith}
 use Rattle.std.proofs.Math.Nat.{mul-le-mul}
 use Rattle.std.proofs.lemmas.Bool.{le-leb, lt-ltb, eq-eqb, ne_eqb, and_from, cases_eq}
 use Rattle.pas_profile.specs.declared.profile.Profile.{Profile}
@@ -22,10 +22,12 @@ none-failed [] h = refl
 none-failed (c ∷ cs) h = ap (λ (t : Bool). if t then first_failed cs else Some c.1) h.0 ∙ none-failed cs h.1
 
 -- ---- the counts
--- after so many operations there are so many, and few records: three for each of them, and one for each page at a pass
+-- after so many operations there are so many, with few records: three for each of them, and one for each page at a pass. No operation has more than
+-- two lines
 pub record Counted (pages threads n : ℕ) (items : List Item) : Type 0 where
   pub operations : operations_in items ≡ n
   pub costs : costs_of (region pages threads) items ≤ 3 * n + 4096 * (n / 1000)
+  pub lines : length items ≤ 2 * n + 1
 
 pub route-cost : (r : Route) (size : ℕ) → size ≤ 8192 → cost_of_route r size ≤ 3
 route-cost (Route.Class c) size within = omega arith

@@ -7,3 +7,4 @@ pub mod Checks
 pub mod Listed
 pub mod Steps
 pub mod Whole
+pub mod Plans

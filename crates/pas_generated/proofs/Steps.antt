@@ -52,6 +52,7 @@ tick-step ops threads pages n s items job more h =
         counted = record {
           operations = one-more pages threads n items h.counted.operations;
           costs = let costs : costs_of (region pages threads) items ≤ 3 * n + 4096 * (n / 1000) = h.counted.costs in omega arith;
+          lines = let lines : length items ≤ 2 * n + 1 = h.counted.lines in omega arith;
         };
       };
     }
@@ -74,6 +75,7 @@ pass-step ops threads pages n s items job more turn h =
         counted = record {
           operations = one-more pages threads n items h.counted.operations;
           costs = let costs : costs_of f items ≤ 3 * n + 4096 * (n / 1000) = h.counted.costs in omega arith;
+          lines = let lines : length items ≤ 2 * n + 1 = h.counted.lines in omega arith;
         };
       };
     }
@@ -130,6 +132,7 @@ allocation-step ops threads pages n t s items job more lo hi h =
         counted = record {
           operations = one-more pages threads n items h.counted.operations;
           costs = let costs : costs_of f items ≤ 3 * n + 4096 * (n / 1000) = h.counted.costs in let cost : cost_of f i ≤ 3 = allocation-cost size align small in omega arith;
+          lines = let lines : length items ≤ 2 * n + 1 = h.counted.lines in omega arith;
         };
       };
     }
@@ -165,6 +168,7 @@ free-step ops threads pages n t s items job more lo hi some h =
         counted = record {
           operations = one-more pages threads n items h.counted.operations;
           costs = let costs : costs_of f items ≤ 3 * n + 4096 * (n / 1000) = h.counted.costs in omega arith;
+          lines = let lines : length items ≤ 2 * n + 1 = h.counted.lines in omega arith;
         };
       };
     }

@@ -1,8 +1,10 @@
 -- The whole text is read, one operation after the other.
-use Rattle.std.proofs.Common.{◌≡◌, ◌≢◌, ℕ, zero, suc, ◌+◌, ◌*◌, ◌/◌, ◌%◌, ◌<◌, ◌≤◌, nat_eq, Bool, true, false, if◌then◌else◌, List, [], ◌∷◌, ◌++◌, codes, inl, inr, Ok, refl, sym, ap, subst, ◌∙◌, arith}
+use Rattle.std.proofs.Common.{◌≡◌, ◌≢◌, ℕ, zero, suc, ◌+◌, ◌*◌, ◌/◌, ◌%◌, ◌<◌, ◌≤◌, nat_eq, Bool, true, false, if◌then◌else◌, List, [], ◌∷◌, ◌++◌, length, codes, inl, inr, Ok, refl, sym, ap, subst, ◌∙◌, arith}
 use Rattle.std.proofs.lemmas.Bool.{ne_eqb, cases_eq}
 use Rattle.std.proofs.lemmas.List.Elements.{All-nil}
-use Rattle.pas_trace.specs.Plans.{parsed}
+use Rattle.std.specs.Global.{Global}
+use Rattle.pas_trace.specs.Plans.{parsed, IsPlanOf}
+use Rattle.pas_trace.specs.declared.plan.Plan.{Plan}
 use Rattle.pas_trace.specs.declared.item.Item.{Item}
 use Rattle.pas_trace.specs.declared.item.Item.TheVariants.{Shares, Ticks, Passes, NextPhase}
 use Rattle.pas_generate.specs.Lines.{header, line_of}
@@ -13,6 +15,7 @@ use Rattle.pas_generated.specs.Meant.{region, with_drawn, with_operation, items_
 use Rattle.pas_generated.proofs.Splits.{lacks-by, line-then}
 use Rattle.pas_generated.proofs.Headers.{header_words, header-line, header-says}
 use Rattle.pas_generated.proofs.Reading.{Reads, reads-none, reads-both, reads-line, parsed-by}
+use Rattle.pas_generated.proofs.Plans.{has-plan}
 use Rattle.pas_generated.proofs.Steps.{Follows, Step, tick-step, pass-step, drawn-step}
 
 -- ---- the operation of a number
@@ -66,7 +69,7 @@ none-read pages threads seed = record {
     few_names = omega arith;
     fresh = λ name later. refl;
     listed = All-nil _;
-    counted = record { operations = refl; costs = omega arith };
+    counted = record { operations = refl; costs = omega arith; lines = omega arith };
   };
 }
 
@@ -87,6 +90,9 @@ all-read : (ops pages threads seed n : ℕ) → IsJob ops threads pages → n �
 all-read ops pages threads seed zero job within = none-read pages threads seed
 all-read ops pages threads seed (suc n) job within = more-read ops pages threads seed n job (omega arith) (all-read ops pages threads seed n job (omega arith))
 
+pub lines-few : (seed ops threads pages : ℕ) → IsJob ops threads pages → length (items_after threads seed ops) ≤ 2 * ops + 1
+lines-few seed ops threads pages job = (all-read ops pages threads seed ops job (omega arith)).follows.counted.lines
+
 -- ---- the text
 pub text-read : (seed ops threads pages : ℕ) → IsJob ops threads pages → parsed (trace_text seed ops threads pages) ≡ Ok (meant seed ops threads pages)
 text-read seed ops threads pages job =
@@ -101,3 +107,10 @@ text-read seed ops threads pages job =
     (line-then (header pages threads) (header_words pages threads) (codes "shared 5\n") lines (header-line pages threads (omega arith) (omega arith)))
     (header-says pages threads (omega arith) pages_hi threads_lo threads_hi)
     (reads-both f [] (Shares 5 ∷ []) (items_after threads seed ops) (codes "shared 5\n") lines (reads-line f [] (codes "shared 5") (Shares 5) (lacks-by 10 (codes "shared 5") refl) refl) all.reads)
+
+pub text-planned : (heap : Global) (seed ops threads pages : ℕ) → IsJob ops threads pages → (plan : Plan) × IsPlanOf (trace_text seed ops threads pages) plan
+text-planned heap seed ops threads pages job =
+    let few : length (items_after threads seed ops) ≤ 2 * ops + 1 = lines-few seed ops threads pages job in
+    let most : ops ≤ 200000 = job.most in
+    let some_threads : threads ≤ 16 = job.threads_most in
+    has-plan heap (trace_text seed ops threads pages) (region pages threads) (items_after threads seed ops) (text-read seed ops threads pages job) (omega arith) (omega arith)

@@ -1,5 +1,8 @@
-use Rattle.pas_generated.proofs.Whole.{text-read}
+use Rattle.pas_generated.proofs.Whole.{text-planned, text-read}
 use Rattle.pas_generated.proofs.laws.generated_texts_are_read.Goals as goal
 
-pub returns : goal.returns
-returns c = text-read
+pub returns-clause-read : goal.returns-clause-read
+returns-clause-read c = text-read
+
+pub returns-clause-planned : goal.returns-clause-planned
+returns-clause-planned c = text-planned
