@@ -1,8 +1,7 @@
 -- The checks of generated items hold.
-use Rattle.std.proofs.Common.{◌≡◌, ◌≢◌, ◌⊎◌, ℕ, zero, suc, ◌+◌, ◌*◌, ◌/◌, ◌%◌, ◌<◌, ◌≤◌, ◌==◌, nat_eq, nat_lt, nat_le, Bool, true, false, not, ◌&&◌, ◌||◌, if◌then◌else◌, List, [], ◌∷◌, length, None, Some, inl, inr, refl, sym, ap, ◌∙◌, arith}
+use Rattle.std.proofs.Common.{◌≡◌, ◌⊎◌, ℕ, ◌+◌, ◌*◌, ◌/◌, ◌<◌, ◌≤◌, ◌==◌, nat_le, Bool, true, false, not, ◌||◌, if◌then◌else◌, List, [], ◌∷◌, length, None, Some, inl, inr, refl, ap, ◌∙◌, arith}
 use Rattle.std.proofs.Math.Nat.{mul-le-mul}
-use Rattle.std.proofs.lemmas.Bool.{le-leb, lt-ltb, eq-eqb, ne_eqb, and_from, cases_eq}
-use Rattle.pas_profile.specs.declared.profile.Profile.{Profile}
+use Rattle.std.proofs.lemmas.Bool.{le-leb, lt-ltb, and_from}
 use Rattle.pas_profile.specs.declared.directory.Route.{Route}
 use Rattle.pas_profile.specs.Routes.{route_of}
 use Rattle.pas_trace.specs.Reasons.{first_failed, is_thread, is_alignment, is_named, is_named_now, thread_of, operations_in, cost_of_route, cost_of, costs_of, record_bound, few_enough, checks_of, reason_of}
@@ -75,9 +74,22 @@ pub allocation-fine : (ops threads pages n : ℕ) (items : List Item) (t name he
 allocation-fine ops threads pages n items t name heap size align job more counted r =
     let cost : cost_of_route (route_of size align) size ≤ 3 = route-cost (route_of size align) size r.small in
     let within : size ≤ 4096 * pages = let most : size ≤ 8192 = r.small in let some : 2 ≤ pages = job.two_pages in omega arith in
-    none-failed (checks_of (region pages threads) items (Allocates t record { name = name; heap = heap; size = size; align = align }))
-    (thread-fine pages threads t r.some_thread r.thread_within, (lt-ltb heap 6 r.known_heap, (le-leb size (4096 * pages) within, (align-fine align r.aligned, (ap not r.fresh,
-    few ops threads pages n items (Allocates t record { name = name; heap = heap; size = size; align = align }) job more counted (omega (arith, cost)))))))
+    none-failed (checks_of (region pages threads) items (Allocates t record { name = name; heap = heap; size = size; align = align })) (
+      thread-fine pages threads t r.some_thread r.thread_within,
+      (
+        lt-ltb heap 6 r.known_heap,
+        (
+          le-leb size (4096 * pages) within,
+          (
+            align-fine align r.aligned,
+            (
+              ap not r.fresh,
+              few ops threads pages n items (Allocates t record { name = name; heap = heap; size = size; align = align }) job more counted (omega (arith, cost)),
+            ),
+          ),
+        ),
+      ),
+    )
 
 -- ---- frees
 pub free-fine : (ops threads pages n : ℕ) (items : List Item) (t name : ℕ) → IsJob ops threads pages → n < ops → Counted pages threads n items → 1 ≤ t → t ≤ threads → is_named items name ≡ true

@@ -1,11 +1,11 @@
 -- The plan of a text that is read, made of its items.
-use Rattle.std.proofs.Common.{◌≡◌, ℕ, zero, suc, ◌+◌, ◌^◌, ◌<◌, ◌≤◌, List, [], ◌∷◌, ◌++◌, map, length, Some, Ok, refl, sym, ap, subst, ◌∙◌, arith, length-append}
+use Rattle.std.proofs.Common.{◌≡◌, ℕ, zero, suc, ◌+◌, ◌^◌, ◌<◌, ◌≤◌, List, [], ◌∷◌, ◌++◌, map, length, Some, Ok, refl, ap, subst, arith, length-append}
 use Rattle.std.specs.Global.{Global, Vec}
 use Rattle.std.proofs.lemmas.List.{length-map}
 use denote.RawPtr.{null_ptr}
 use Rattle.pas_profile.specs.declared.profile.Profile.{Profile}
 use Rattle.pas_trace.specs.Reasons.{record_bound}
-use Rattle.pas_trace.specs.Plans.{parsed, shared_in, operation_of, add_last, line_of_newest, phases_after, phases_in, bound_of, bounds_upto, ops_of, phases_of, bounds_of, IsPlanOf}
+use Rattle.pas_trace.specs.Plans.{parsed, shared_in, add_last, line_of_newest, phases_after, phases_in, bound_of, bounds_upto, ops_of, IsPlanOf}
 use Rattle.pas_trace.specs.declared.item.Item.{Item}
 use Rattle.pas_trace.specs.declared.item.Item.TheVariants.{Blank, Shares, NextPhase, Allocates, Frees, FreesRaw, Flushes, Stops, Ticks, Passes, Idles}
 use Rattle.pas_trace.specs.declared.plan.Op.{Op}
@@ -98,20 +98,25 @@ plan-of heap f items few threads =
     let small : length items < 2 ^ 63 = omega arith in
     record {
       profile = record f { shared = shared_in items };
-      phases = record { phases = holding heap (held heap (length items) small (phases_in items) (most-in items))
-          (omega (arith, length-map (held heap (length items) small (phases_in items) (most-in items)) ops_of, ap (λ ps. length ps) (held-back heap (length items) small (phases_in items) (most-in items)), few-in items)) };
+      phases = record {
+        phases = holding heap (held heap (length items) small (phases_in items) (most-in items))
+            (omega (arith, length-map (held heap (length items) small (phases_in items) (most-in items)) ops_of, ap (λ ps. length ps) (held-back heap (length items) small (phases_in items) (most-in items)), few-in items));
+      };
       bounds = record { bounds = holding heap (bounds_upto f items (f.threads + 1)) (omega (arith, bounds-count f items (f.threads + 1))) };
       total = record_bound f items;
     }
 
 pub has-plan : (heap : Global) (text : List ℕ) (f : Profile) (items : List Item) → parsed text ≡ Ok (record { header = f; items = items }) → length items < 2 ^ 62 → f.threads < 2 ^ 62 → (plan : Plan) × IsPlanOf text plan
 unfolding plan-of holding
-has-plan heap text f items read few threads = (plan-of heap f items few threads, record {
-  items = items;
-  header = f;
-  read = read;
-  profile = refl;
-  phases = held-back heap (length items) (omega arith) (phases_in items) (most-in items);
-  bounds = refl;
-  total = refl;
-})
+has-plan heap text f items read few threads = (
+  plan-of heap f items few threads,
+  record {
+    items = items;
+    header = f;
+    read = read;
+    profile = refl;
+    phases = held-back heap (length items) (omega arith) (phases_in items) (most-in items);
+    bounds = refl;
+    total = refl;
+  },
+)

@@ -1,9 +1,8 @@
 -- Texts that are read line by line, with nothing between them.
-use Rattle.std.proofs.Common.{◌≡◌, ℕ, ◌+◌, Bool, List, [], ◌∷◌, ◌++◌, codes, None, Some, Ok, refl, sym, ap, ◌∙◌, append_assoc}
+use Rattle.std.proofs.Common.{◌≡◌, ℕ, ◌+◌, List, [], ◌∷◌, ◌++◌, None, Some, Ok, refl, sym, ap, ◌∙◌, append_assoc}
 use Rattle.std.proofs.lemmas.List.{append-nil}
 use Rattle.pas_profile.specs.declared.profile.Profile.{Profile}
 use Rattle.pas_trace.specs.Texts.{lines_of}
-use Rattle.pas_trace.specs.Items.{item_of_line}
 use Rattle.pas_trace.specs.Reasons.{started, header_of_words, reason_of, checked, kept, line_says}
 use Rattle.pas_trace.specs.Plans.{after_item, items_from, with_items, with_header, parsed_lines, parsed}
 use Rattle.pas_trace.specs.declared.item.Item.{Item}
@@ -27,8 +26,8 @@ pub reads-line : (f : Profile) (earlier : List Item) (line : List ℕ) (i : Item
 reads-line f earlier line i whole says number rest = (
   number + 1,
   ap (λ (t : List ℕ). items_from f number earlier (lines_of t)) (append_assoc line (10 ∷ []) rest)
-  ∙ ap (items_from f number earlier) (lines-until line rest whole)
-  ∙ ap (λ r. after_item number r (λ i. items_from f (number + 1) (i ∷ earlier) (lines_of rest))) says
+      ∙ ap (items_from f number earlier) (lines-until line rest whole)
+      ∙ ap (λ r. after_item number r (λ i. items_from f (number + 1) (i ∷ earlier) (lines_of rest))) says,
 )
 
 pub reads-said : (f : Profile) (earlier : List Item) (text : List ℕ) (i : Item) → Says text i → reason_of f earlier i ≡ None → Reads f earlier text (i ∷ earlier)

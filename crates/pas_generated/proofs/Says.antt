@@ -1,12 +1,11 @@
 -- What the lines of operations say.
-use Rattle.std.proofs.Common.{◌≡◌, ◌≢◌, ℕ, ◌^◌, ◌<◌, ◌≤◌, ◌==◌, nat_lt, nat_le, Bool, true, false, if◌then◌else◌, List, [], ◌∷◌, ◌++◌, get_or, codes, Some, None, Ok, refl, ap, ◌∙◌, arith, lit<}
+use Rattle.std.proofs.Common.{◌≡◌, ℕ, ◌^◌, ◌<◌, ◌≤◌, ◌==◌, nat_lt, nat_le, Bool, true, false, if◌then◌else◌, List, [], ◌∷◌, ◌++◌, get_or, codes, Some, None, Ok, refl, ap, ◌∙◌, arith, lit<}
 use Rattle.std.specs.Fmt.{decimal}
 use Rattle.std.proofs.lemmas.Bool.{le-leb, lt-ltb, ne_eqb}
-use Rattle.pas_trace.specs.Texts.{lines_of, words_of}
-use Rattle.pas_trace.specs.Numbers.{number_of}
+use Rattle.pas_trace.specs.Texts.{words_of}
 use Rattle.pas_trace.specs.Items.{below, from_one, trace_name, epoch_word, item1, item2, item5, item_of_words, item_of_line}
 use Rattle.pas_trace.specs.declared.item.Item.{Item}
-use Rattle.pas_trace.specs.declared.item.Item.TheVariants.{Allocates, Frees, Ticks, Passes, NextPhase}
+use Rattle.pas_trace.specs.declared.item.Item.TheVariants.{Allocates, Frees, Ticks}
 use Rattle.pas_generate.specs.Lines.{free_line, tick_line}
 use Rattle.pas_generated.proofs.Digits.{number-back}
 use Rattle.pas_generated.proofs.Splits.{Lacks, IsWord, IsLine, decimal-word, word-by, last-word, word-before}

@@ -1,13 +1,13 @@
 -- One operation more: its lines are read, and what is kept between two operations holds again.
-use Rattle.std.proofs.Common.{◌≡◌, ◌≢◌, ◌⊎◌, ℕ, zero, suc, ◌+◌, ◌*◌, ◌/◌, ◌%◌, ◌^◌, ◌<◌, ◌≤◌, ◌==◌, nat_eq, nat_lt, Bool, true, false, ◌||◌, if◌then◌else◌, List, [], ◌∷◌, ◌++◌, length, codes, slice_index_or, None, Ok, inl, inr, refl, sym, ap, ◌∙◌, arith, lit<}
+use Rattle.std.proofs.Common.{◌≡◌, ◌⊎◌, ℕ, zero, suc, ◌+◌, ◌*◌, ◌/◌, ◌%◌, ◌^◌, ◌<◌, ◌≤◌, nat_eq, nat_lt, Bool, true, false, ◌||◌, List, ◌∷◌, length, codes, inl, inr, refl, ap, ◌∙◌, arith}
 use Rattle.std.proofs.Math.Nat.{mod-lt}
 use Rattle.std.proofs.lemmas.Bool.{ne_eqb}
 use Rattle.pas_profile.specs.Routes.{route_of}
-use Rattle.pas_trace.specs.Reasons.{is_named, cost_of_route, operations_in, cost_of, costs_of, reason_of, kept}
+use Rattle.pas_trace.specs.Reasons.{is_named, cost_of_route, operations_in, cost_of, costs_of, kept}
 use Rattle.pas_trace.specs.declared.item.Item.{Item}
 use Rattle.pas_trace.specs.declared.item.Item.TheVariants.{Allocates, Frees, Ticks, Passes, NextPhase}
 use Rattle.pas_generate.specs.Draws.{drawn, draw, moved_by}
-use Rattle.pas_generate.specs.Requests.{IsValid, request_from}
+use Rattle.pas_generate.specs.Requests.{request_from}
 use Rattle.pas_generate.specs.Lines.{line_of, tick_line}
 use Rattle.pas_generate.specs.Operations.{State, place, none, freed, freeing_thread, allocation, after_allocation, free_of, after_free, allocates, begun, thread_of, drawn_operation, after_drawn}
 use Rattle.pas_generate.specs.Traces.{IsJob}

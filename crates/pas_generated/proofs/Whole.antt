@@ -1,14 +1,15 @@
 -- The whole text is read, one operation after the other.
-use Rattle.std.proofs.Common.{◌≡◌, ◌≢◌, ℕ, zero, suc, ◌+◌, ◌*◌, ◌/◌, ◌%◌, ◌<◌, ◌≤◌, nat_eq, Bool, true, false, if◌then◌else◌, List, [], ◌∷◌, ◌++◌, length, codes, inl, inr, Ok, refl, sym, ap, subst, ◌∙◌, arith}
+use Rattle.std.proofs.Common.{◌≡◌, ◌≢◌, ℕ, zero, suc, ◌+◌, ◌*◌, ◌/◌, ◌%◌, ◌<◌, ◌≤◌, List, [], ◌∷◌, ◌++◌, length, codes, inl, inr, Ok, Err, refl, sym, ap, subst, ◌∙◌, arith}
 use Rattle.std.proofs.lemmas.Bool.{ne_eqb, cases_eq}
 use Rattle.std.proofs.lemmas.List.Elements.{All-nil}
 use Rattle.std.specs.Global.{Global}
 use Rattle.pas_trace.specs.Plans.{parsed, IsPlanOf}
+use Rattle.pas_trace.specs.declared.fault.TraceFault.{TraceFault}
 use Rattle.pas_trace.specs.declared.plan.Plan.{Plan}
 use Rattle.pas_trace.specs.declared.item.Item.{Item}
 use Rattle.pas_trace.specs.declared.item.Item.TheVariants.{Shares, Ticks, Passes, NextPhase}
 use Rattle.pas_generate.specs.Lines.{header, line_of}
-use Rattle.pas_generate.specs.Operations.{State, first_state, operation_at, after_operation}
+use Rattle.pas_generate.specs.Operations.{State, operation_at, after_operation}
 use Rattle.pas_generate.specs.Traces.{IsJob, state_after, lines_of, trace_text}
 use Rattle.pas_generate.proofs.Operations.{tick_at, pass_at, drawn_at}
 use Rattle.pas_generated.specs.Meant.{region, with_drawn, with_operation, items_after, meant}
@@ -80,7 +81,7 @@ more-read ops pages threads seed n job more h =
     let items = items_after threads seed n in
     let next : n + 1 ≡ suc n = omega arith in
     let step : Step pages threads n items (line_of (operation_at threads (suc n) s)) (after_operation threads (suc n) s) (with_operation threads (suc n) s items) =
-        subst (λ k. Step pages threads n items (line_of (operation_at threads k s)) (after_operation threads k s) (with_operation threads k s items)) next (operation-step ops threads pages n s items job more h.follows) in
+    subst (λ k. Step pages threads n items (line_of (operation_at threads k s)) (after_operation threads k s) (with_operation threads k s items)) next (operation-step ops threads pages n s items job more h.follows) in
     record {
       reads = reads-both (region pages threads) (Shares 5 ∷ []) items (with_operation threads (suc n) s items) (lines_of threads seed n) (line_of (operation_at threads (suc n) s)) h.reads step.reads;
       follows = subst (λ k. Follows pages threads k (after_operation threads (suc n) s) (with_operation threads (suc n) s items)) next step.follows;
@@ -107,6 +108,9 @@ text-read seed ops threads pages job =
     (line-then (header pages threads) (header_words pages threads) (codes "shared 5\n") lines (header-line pages threads (omega arith) (omega arith)))
     (header-says pages threads (omega arith) pages_hi threads_lo threads_hi)
     (reads-both f [] (Shares 5 ∷ []) (items_after threads seed ops) (codes "shared 5\n") lines (reads-line f [] (codes "shared 5") (Shares 5) (lacks-by 10 (codes "shared 5") refl) refl) all.reads)
+
+pub text-faultless : (seed ops threads pages : ℕ) → IsJob ops threads pages → (fault : TraceFault) → parsed (trace_text seed ops threads pages) ≢ Err fault
+text-faultless seed ops threads pages job fault bad = let same : Ok (meant seed ops threads pages) ≡ Err fault = sym (text-read seed ops threads pages job) ∙ bad in absurd (cc)
 
 pub text-planned : (heap : Global) (seed ops threads pages : ℕ) → IsJob ops threads pages → (plan : Plan) × IsPlanOf (trace_text seed ops threads pages) plan
 text-planned heap seed ops threads pages job =
