@@ -1,5 +1,5 @@
 -- What the first line says.
-use Rattle.std.proofs.Common.{◌≡◌, ℕ, ◌^◌, ◌<◌, ◌≤◌, nat_le, Bool, if◌then◌else◌, List, [], ◌∷◌, ◌++◌, codes, Some, None, refl, ap, ◌∙◌, arith}
+use Rattle.std.proofs.Common.{◌≡◌, ℕ, ◌^◌, ◌<◌, ◌≤◌, nat_le, Bool, if◌then◌else◌, List, [], ◌∷◌, codes, Some, None, refl, ap, ◌∙◌, arith}
 use Rattle.std.specs.Fmt.{decimal}
 use Rattle.std.proofs.lemmas.Bool.{le-leb, and_from}
 use Rattle.pas_trace.specs.Numbers.{number_of}
@@ -7,21 +7,18 @@ use Rattle.pas_trace.specs.Reasons.{within, profile_with, header_of_words}
 use Rattle.pas_generate.specs.Lines.{header}
 use Rattle.pas_generated.specs.Meant.{region}
 use Rattle.pas_generated.proofs.Digits.{number-back}
-use Rattle.pas_generated.proofs.Splits.{IsWord, IsLine, decimal-word, word-by, last-word, word-before}
+use Rattle.pas_generated.proofs.Splits.{IsLine, decimal-word, word-by, last-word, word-before}
 
 abbrev pub header_words : ℕ → ℕ → List (List ℕ)
 header_words pages threads =
     codes "pas" ∷ codes "1" ∷ codes "pages" ∷ decimal pages ∷ codes "threads" ∷ decimal threads ∷ codes "heaps" ∷ codes "6" ∷ codes "age" ∷ codes "2" ∷ []
 
-known : (w : List ℕ) (after : List ℕ) (words : List (List ℕ)) (rest : List ℕ) → IsWord w → IsLine after words rest → IsLine (w ++ 32 ∷ after) (w ∷ words) rest
-known w after words rest h l = word-before w after words rest h l
-
 pub header-line : (pages threads : ℕ) → pages < 2 ^ 64 → threads < 2 ^ 64 → IsLine (header pages threads) (header_words pages threads) (codes "shared 5\n")
 unfolding header
 header-line pages threads pw tw =
-    known (codes "pas") _ _ _ (word-by (codes "pas") refl refl refl) (known (codes "1") _ _ _ (word-by (codes "1") refl refl refl) (known (codes "pages") _ _ _ (word-by (codes "pages") refl refl refl)
-    (known (decimal pages) _ _ _ (decimal-word pages pw) (known (codes "threads") _ _ _ (word-by (codes "threads") refl refl refl) (known (decimal threads) _ _ _ (decimal-word threads tw)
-    (known (codes "heaps") _ _ _ (word-by (codes "heaps") refl refl refl) (known (codes "6") _ _ _ (word-by (codes "6") refl refl refl) (known (codes "age") _ _ _ (word-by (codes "age") refl refl refl)
+    word-before (codes "pas") _ _ _ (word-by (codes "pas") refl refl refl) (word-before (codes "1") _ _ _ (word-by (codes "1") refl refl refl) (word-before (codes "pages") _ _ _ (word-by (codes "pages") refl refl refl)
+    (word-before (decimal pages) _ _ _ (decimal-word pages pw) (word-before (codes "threads") _ _ _ (word-by (codes "threads") refl refl refl) (word-before (decimal threads) _ _ _ (decimal-word threads tw)
+    (word-before (codes "heaps") _ _ _ (word-by (codes "heaps") refl refl refl) (word-before (codes "6") _ _ _ (word-by (codes "6") refl refl refl) (word-before (codes "age") _ _ _ (word-by (codes "age") refl refl refl)
     (last-word (codes "2") (codes "shared 5\n") (word-by (codes "2") refl refl refl))))))))))
 
 in-range : (least most n : ℕ) → n < 2 ^ 64 → least ≤ n → n ≤ most → within least most (number_of (decimal n)) ≡ Some n
