@@ -1,0 +1,99 @@
+-- The checks of generated items hold.
+use Rattle.std.proofs.Common.{◌≡◌, ◌⊎◌, ℕ, ◌+◌, ◌*◌, ◌/◌, ◌<◌, ◌≤◌, ◌==◌, nat_le, Bool, true, false, not, ◌||◌, if◌then◌else◌, List, [], ◌∷◌, length, None, Some, inl, inr, refl, ap, ◌∙◌, arith}
+use Rattle.std.proofs.Math.Nat.{mul-le-mul}
+use Rattle.std.proofs.lemmas.Bool.{le-leb, lt-ltb, and_from}
+use Rattle.pas_profile.specs.declared.directory.Route.{Route}
+use Rattle.pas_profile.specs.Routes.{route_of}
+use Rattle.pas_trace.specs.Reasons.{first_failed, is_thread, is_alignment, is_named, is_named_now, thread_of, operations_in, cost_of_route, cost_of, costs_of, record_bound, few_enough, checks_of, reason_of}
+use Rattle.pas_trace.specs.declared.fault.Reason.{Reason}
+use Rattle.pas_trace.specs.declared.item.Item.{Item}
+use Rattle.pas_trace.specs.declared.item.Item.TheVariants.{Allocates, Frees, Ticks, Passes}
+use Rattle.pas_generate.specs.Traces.{IsJob}
+use Rattle.pas_generated.specs.Meant.{region}
+
+-- all of these checks hold
+abbrev pub AreHeld : List (Bool × Reason) → Type 0
+AreHeld [] = Unit {0}
+AreHeld (c ∷ cs) = (c.0 ≡ true) × AreHeld cs
+
+none-failed : (cs : List (Bool × Reason)) → AreHeld cs → first_failed cs ≡ None
+none-failed [] h = refl
+none-failed (c ∷ cs) h = ap (λ (t : Bool). if t then first_failed cs else Some c.1) h.0 ∙ none-failed cs h.1
+
+-- ---- the counts
+-- after so many operations there are so many, with few records: three for each of them, and one for each page at a pass. No operation has more than
+-- two lines
+pub record Counted (pages threads n : ℕ) (items : List Item) : Type 0 where
+  pub operations : operations_in items ≡ n
+  pub costs : costs_of (region pages threads) items ≤ 3 * n + 4096 * (n / 1000)
+  pub lines : length items ≤ 2 * n + 1
+
+pub route-cost : (r : Route) (size : ℕ) → size ≤ 8192 → cost_of_route r size ≤ 3
+route-cost (Route.Class c) size within = omega arith
+route-cost Route.Bitfit size within = omega arith
+route-cost Route.Large size within = omega arith
+
+few : (ops threads pages n : ℕ) (items : List Item) (i : Item) → IsJob ops threads pages → n < ops → Counted pages threads n items → cost_of (region pages threads) i ≤ 4097
+    → AreHeld (few_enough (region pages threads) items i)
+few ops threads pages n items i job more counted small =
+    let operations : operations_in items ≡ n = counted.operations in
+    let costs : costs_of (region pages threads) items ≤ 3 * n + 4096 * (n / 1000) = counted.costs in
+    let most : ops ≤ 200000 = job.most in
+    let deeds : threads * pages ≤ 16 * 4096 = mul-le-mul job.threads_most job.pages_most in
+    (lt-ltb (operations_in items) 1000000 (omega arith), (le-leb (record_bound (region pages threads) (i ∷ items)) 2000000 (omega arith), tt))
+
+-- ---- ticks and passes
+pub tick-fine : (ops threads pages n : ℕ) (items : List Item) (epoch : ℕ) → IsJob ops threads pages → n < ops → Counted pages threads n items → reason_of (region pages threads) items (Ticks epoch) ≡ None
+tick-fine ops threads pages n items epoch job more counted =
+    none-failed (checks_of (region pages threads) items (Ticks epoch)) (few ops threads pages n items (Ticks epoch) job more counted (omega arith))
+
+pub pass-fine : (ops threads pages n : ℕ) (items : List Item) → IsJob ops threads pages → n < ops → Counted pages threads n items → reason_of (region pages threads) items Passes ≡ None
+pass-fine ops threads pages n items job more counted =
+    none-failed (checks_of (region pages threads) items Passes) (few ops threads pages n items Passes job more counted (let most : pages ≤ 4096 = job.pages_most in omega arith))
+
+-- ---- allocations
+pub thread-fine : (pages threads t : ℕ) → 1 ≤ t → t ≤ threads → is_thread (region pages threads) t ≡ true
+thread-fine pages threads t lo hi = and_from (nat_le 1 t) (nat_le t threads) (le-leb 1 t lo) (le-leb t threads hi)
+
+align-fine : (a : ℕ) → (a ≡ 16) ⊎ ((a ≡ 32) ⊎ (a ≡ 64)) → is_alignment a ≡ true
+align-fine a (inl e) = ap is_alignment e
+align-fine a (inr (inl e)) = ap is_alignment e
+align-fine a (inr (inr e)) = ap is_alignment e
+
+-- the thread and the request are of the region, and no item has the name
+pub record IsRequested (threads t name heap size align : ℕ) (items : List Item) : Type 0 where
+  pub some_thread : 1 ≤ t
+  pub thread_within : t ≤ threads
+  pub known_heap : heap < 6
+  pub small : size ≤ 8192
+  pub aligned : (align ≡ 16) ⊎ ((align ≡ 32) ⊎ (align ≡ 64))
+  pub fresh : is_named items name ≡ false
+
+pub allocation-fine : (ops threads pages n : ℕ) (items : List Item) (t name heap size align : ℕ) → IsJob ops threads pages → n < ops → Counted pages threads n items → IsRequested threads t name heap size align items
+    → reason_of (region pages threads) items (Allocates t record { name = name; heap = heap; size = size; align = align }) ≡ None
+allocation-fine ops threads pages n items t name heap size align job more counted r =
+    let cost : cost_of_route (route_of size align) size ≤ 3 = route-cost (route_of size align) size r.small in
+    let within : size ≤ 4096 * pages = let most : size ≤ 8192 = r.small in let some : 2 ≤ pages = job.two_pages in omega arith in
+    none-failed (checks_of (region pages threads) items (Allocates t record { name = name; heap = heap; size = size; align = align })) (
+      thread-fine pages threads t r.some_thread r.thread_within,
+      (
+        lt-ltb heap 6 r.known_heap,
+        (
+          le-leb size (4096 * pages) within,
+          (
+            align-fine align r.aligned,
+            (
+              ap not r.fresh,
+              few ops threads pages n items (Allocates t record { name = name; heap = heap; size = size; align = align }) job more counted (omega (arith, cost)),
+            ),
+          ),
+        ),
+      ),
+    )
+
+-- ---- frees
+pub free-fine : (ops threads pages n : ℕ) (items : List Item) (t name : ℕ) → IsJob ops threads pages → n < ops → Counted pages threads n items → 1 ≤ t → t ≤ threads → is_named items name ≡ true
+    → ((t == thread_of items name) || not (is_named_now items name)) ≡ true → reason_of (region pages threads) items (Frees t name) ≡ None
+free-fine ops threads pages n items t name job more counted lo hi named early =
+    none-failed (checks_of (region pages threads) items (Frees t name))
+    (thread-fine pages threads t lo hi, (named, (early, few ops threads pages n items (Frees t name) job more counted (omega arith))))

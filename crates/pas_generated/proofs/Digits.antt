@@ -1,0 +1,57 @@
+-- The decimal of a number is read as the number.
+use Rattle.std.proofs.Common.{◌≡◌, ℕ, zero, suc, ◌+◌, ◌-◌, ◌*◌, ◌/◌, ◌%◌, ◌^◌, ◌<◌, ◌≤◌, nat_lt, nat_le, Bool, true, if◌then◌else◌, List, [], ◌∷◌, ◌++◌, length, get_or, None, Some, refl, ap, ◌∙◌, arith, length-append}
+use Rattle.std.specs.Fmt.{decimal}
+use Rattle.std.proofs.lemmas.Bool.{le-leb, lt-ltb, and_from, and_parts}
+use Rattle.std.proofs.lemmas.Fmt.{decimal_by_steps, decimal_digit, first_decimal}
+use Rattle.pas_trace.specs.Numbers.{is_digit, all_digits, value_from, is_decimal, number_of}
+
+digit-is : (d : ℕ) → d < 10 → is_digit (48 + d) ≡ true
+digit-is d small = and_from (nat_le 48 (48 + d)) (nat_le (48 + d) 57) (le-leb 48 (48 + d) (omega arith)) (le-leb (48 + d) 57 (omega arith))
+
+digits-add : (ds : List ℕ) (d : ℕ) → all_digits ds ≡ true → is_digit d ≡ true → all_digits (ds ++ d ∷ []) ≡ true
+digits-add [] d e digit = and_from (is_digit d) true digit refl
+digits-add (b ∷ ds) d e digit = let p = and_parts (is_digit b) (all_digits ds) e in and_from (is_digit b) (all_digits (ds ++ d ∷ [])) p.0 (digits-add ds d p.1 digit)
+
+value-add : (n : ℕ) (ds : List ℕ) (d : ℕ) → value_from n (ds ++ d ∷ []) ≡ 10 * value_from n ds + (d - 48)
+value-add n [] d = refl
+value-add n (b ∷ ds) d = value-add (10 * n + (b - 48)) ds d
+
+-- the bytes are digits of this value
+pub record AreDigits (n : ℕ) (bytes : List ℕ) : Type 0 where
+  pub some : 0 < length bytes
+  pub digits : all_digits bytes ≡ true
+  pub value_is : value_from 0 bytes ≡ n
+
+one-digit : (n : ℕ) → n < 10 → AreDigits n ((48 + n) ∷ [])
+one-digit n small = record {
+  some = omega arith;
+  digits = and_from (is_digit (48 + n)) true (digit-is n small) refl;
+  value_is = omega arith;
+}
+
+more-digits : (n : ℕ) (ds : List ℕ) → 10 ≤ n → AreDigits (n / 10) ds → AreDigits n (ds ++ ((48 + n % 10) ∷ []))
+more-digits n ds large h = record {
+  some = let some : 0 < length ds = h.some in omega (arith, length-append ds ((48 + n % 10) ∷ []));
+  digits = digits-add ds (48 + n % 10) h.digits (digit-is (n % 10) (omega arith));
+  value_is = let value_is : value_from 0 ds ≡ n / 10 = h.value_is in value-add 0 ds (48 + n % 10) ∙ omega (arith, value_is);
+}
+
+pub are-digits : (n : ℕ) → n < 2 ^ 64 → AreDigits n (decimal n)
+are-digits = decimal_by_steps AreDigits one-digit more-digits
+
+decimal-from : (w : List ℕ) → all_digits w ≡ true → 0 < length w → 48 < get_or w 0 0 → is_decimal w ≡ true
+decimal-from [] digits some head = absurd (omega arith)
+decimal-from (b ∷ []) digits some head = (and_parts (is_digit b) true digits).0
+decimal-from (b ∷ c ∷ bs) digits some head = and_from (nat_le 49 b) (all_digits (b ∷ c ∷ bs)) (le-leb 49 b (omega (arith, head))) digits
+
+is-decimal : (n : ℕ) → n < 2 ^ 64 → is_decimal (decimal n) ≡ true
+is-decimal zero small = ap is_decimal (decimal_digit 0 (omega arith))
+is-decimal (suc n) small = let h = are-digits (suc n) small in decimal-from (decimal (suc n)) h.digits h.some (first_decimal (suc n) (omega arith) small)
+
+-- it reads back
+pub number-back : (n : ℕ) → n < 2 ^ 64 → number_of (decimal n) ≡ Some n
+number-back n small =
+    let value_is : value_from 0 (decimal n) ≡ n = (are-digits n small).value_is in
+    let fits : nat_lt (value_from 0 (decimal n)) (2 ^ 64) ≡ true = lt-ltb (value_from 0 (decimal n)) (2 ^ 64) (omega arith) in
+    let tested = and_from (is_decimal (decimal n)) (nat_lt (value_from 0 (decimal n)) (2 ^ 64)) (is-decimal n small) fits in
+    ap (λ (t : Bool). if t then Some (value_from 0 (decimal n)) else None) tested ∙ ap Some value_is

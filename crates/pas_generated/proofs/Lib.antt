@@ -1,0 +1,10 @@
+pub mod Digits
+pub mod Splits
+pub mod Says
+pub mod Headers
+pub mod Reading
+pub mod Checks
+pub mod Listed
+pub mod Steps
+pub mod Whole
+pub mod Plans

@@ -1,0 +1,108 @@
+-- The allocations that no line has freed, against the items so far.
+use Rattle.std.proofs.Common.{◌≡◌, ◌≢◌, ℕ, ◌+◌, ◌-◌, ◌<◌, ◌≤◌, ◌==◌, nat_eq, Bool, true, false, not, ◌||◌, if◌then◌else◌, List, [], ◌∷◌, ◌++◌, length, set, get_or, All, swap_remove, inl, inr, refl, sym, ap, ◌∙◌, arith}
+use Rattle.std.proofs.lemmas.Bool.{eq-eqb, ne_eqb, cases_eq}
+use Rattle.std.proofs.lemmas.List.Elements.{All-push, All-take, All-set, All-get_or, All-weaker}
+use Rattle.pas_trace.specs.Reasons.{allocates, is_phase, is_named, is_named_now, thread_of, actor_of}
+use Rattle.pas_trace.specs.declared.item.Item.{Item}
+use Rattle.pas_trace.specs.declared.item.Item.TheVariants.{Allocates, NextPhase}
+use Rattle.pas_trace.specs.declared.item.Request.{Request}
+
+-- The name was asked for before the next one, by the thread; and if in the present phase, then at this one.
+pub record IsListed (threads phase next : ℕ) (items : List Item) (name thread at : ℕ) : Type 0 where
+  pub some_name : 1 ≤ name
+  pub before : name < next
+  pub named : is_named items name ≡ true
+  pub thread_is : thread_of items name ≡ thread
+  pub some_thread : 1 ≤ thread
+  pub thread_within : thread ≤ threads
+  pub now : is_named_now items name ≡ true → at ≡ phase
+
+-- an item that doesn't allocate the name and begins no phase changes nothing
+pub listed-past : (threads phase next more : ℕ) (items : List Item) (i : Item) (name thread at : ℕ) → next ≤ more → allocates i name ≡ false → is_phase i ≡ false → IsListed threads phase next items name thread at
+    → IsListed threads phase more (i ∷ items) name thread at
+listed-past threads phase next more items i name thread at le other same h = record {
+  some_name = h.some_name;
+  before = let before : name < next = h.before in omega arith;
+  named = ap (λ (t : Bool). t || is_named items name) other ∙ h.named;
+  thread_is = ap (λ (t : Bool). if t then actor_of i else thread_of items name) other ∙ h.thread_is;
+  some_thread = h.some_thread;
+  thread_within = h.thread_within;
+  now = λ e. h.now (sym (ap (λ (p : Bool). if p then false else (allocates i name || is_named_now items name)) same ∙ ap (λ (t : Bool). t || is_named_now items name) other) ∙ e);
+}
+
+-- in a new phase there is no name yet
+pub listed-next : (threads phase next : ℕ) (items : List Item) (name thread at : ℕ) → IsListed threads phase next items name thread at → IsListed threads (phase + 1) next (NextPhase ∷ items) name thread at
+listed-next threads phase next items name thread at h = record {
+  some_name = h.some_name;
+  before = h.before;
+  named = h.named;
+  thread_is = h.thread_is;
+  some_thread = h.some_thread;
+  thread_within = h.thread_within;
+  now = λ e. absurd (cc);
+}
+
+-- the name that is asked for
+pub listed-new : (threads phase next : ℕ) (items : List Item) (t : ℕ) (q : Request) → q.name ≡ next → 1 ≤ next → 1 ≤ t → t ≤ threads → IsListed threads phase (next + 1) (Allocates t q ∷ items) next t phase
+listed-new threads phase next items t q is some lo hi =
+    let same : (q.name == next) ≡ true = eq-eqb q.name next is in
+    record {
+      some_name = some;
+      before = omega arith;
+      named = ap (λ (b : Bool). b || is_named items next) same;
+      thread_is = ap (λ (b : Bool). if b then t else thread_of items next) same;
+      some_thread = lo;
+      thread_within = hi;
+      now = λ e. refl;
+    }
+
+-- ---- the thread that frees it
+-- the thread is of the region, and no free comes too early
+pub record IsFreer (threads : ℕ) (items : List Item) (name t : ℕ) : Type 0 where
+  pub some_thread : 1 ≤ t
+  pub thread_within : t ≤ threads
+  pub late : ((t == thread_of items name) || not (is_named_now items name)) ≡ true
+
+or-true : (b : Bool) → (b || true) ≡ true
+or-true true = refl
+or-true false = refl
+
+never-true : (b : Bool) → (b ≡ true → ⊥) → b ≡ false
+never-true true h = absurd (h refl)
+never-true false h = refl
+
+own-thread : (threads phase next : ℕ) (items : List Item) (name thread at : ℕ) → IsListed threads phase next items name thread at → IsFreer threads items name thread
+own-thread threads phase next items name thread at h = record {
+  some_thread = h.some_thread;
+  thread_within = h.thread_within;
+  late = ap (λ (b : Bool). b || not (is_named_now items name)) (eq-eqb thread (thread_of items name) (sym h.thread_is));
+}
+
+other-thread : (threads phase next : ℕ) (items : List Item) (name thread at t : ℕ) → IsListed threads phase next items name thread at → at ≢ phase → 1 ≤ t → t ≤ threads → IsFreer threads items name t
+other-thread threads phase next items name thread at t h past lo hi = record {
+  some_thread = lo;
+  thread_within = hi;
+  late = ap (λ (b : Bool). (t == thread_of items name) || not b) (never-true (is_named_now items name) (λ e. past (h.now e))) ∙ or-true (t == thread_of items name);
+}
+
+pub freer : (threads phase next : ℕ) (items : List Item) (name thread at t : ℕ) → IsListed threads phase next items name thread at → 1 ≤ t → t ≤ threads
+    → IsFreer threads items name (if nat_eq at phase then thread else t)
+freer threads phase next items name thread at t h lo hi = elim (cases_eq at phase) [
+  | inl e ↦ let tested : nat_eq at phase ≡ true = eq-eqb at phase e in rw tested (own-thread threads phase next items name thread at h)
+  | inr ne ↦ let tested : nat_eq at phase ≡ false = ne_eqb at phase ne in rw tested (other-thread threads phase next items name thread at t h ne lo hi)
+]
+
+-- ---- elements of a list
+abbrev pub Each : {A : Type 0} → List A → (A → Type 0) → Type 0
+Each xs P = All P xs
+
+pub each-left : {A : Type 0} (xs : List A) (P : A → Type 0) (i : ℕ) (d : A) → i < length xs → Each xs P → Each (swap_remove xs i d) P
+each-left xs P i d within h =
+    let last : P (get_or xs (length xs - 1) d) = All-get_or P xs (length xs - 1) d (omega arith) h in
+    All-take P (length xs - 1) (set xs i (get_or xs (length xs - 1) d)) (All-set P xs i (get_or xs (length xs - 1) d) last h)
+
+pub each-more : {A : Type 0} (xs : List A) (x : A) (P : A → Type 0) → Each xs P → P x → Each (xs ++ x ∷ []) P
+each-more xs x P h p = All-push P xs x h p
+
+pub each-weaker : {A : Type 0} (xs : List A) (P Q : A → Type 0) → ((x : A) → P x → Q x) → Each xs P → Each xs Q
+each-weaker xs P Q f h = All-weaker P Q f xs h

@@ -1,0 +1,122 @@
+-- The plan of a text that is read, made of its items.
+use Rattle.std.proofs.Common.{◌≡◌, ℕ, zero, suc, ◌+◌, ◌^◌, ◌<◌, ◌≤◌, List, [], ◌∷◌, ◌++◌, map, length, Some, Ok, refl, ap, subst, arith, length-append}
+use Rattle.std.specs.Global.{Global, Vec}
+use Rattle.std.proofs.lemmas.List.{length-map}
+use denote.RawPtr.{null_ptr}
+use Rattle.pas_profile.specs.declared.profile.Profile.{Profile}
+use Rattle.pas_trace.specs.Reasons.{record_bound}
+use Rattle.pas_trace.specs.Plans.{parsed, shared_in, add_last, line_of_newest, phases_after, phases_in, bound_of, bounds_upto, ops_of, IsPlanOf}
+use Rattle.pas_trace.specs.declared.item.Item.{Item}
+use Rattle.pas_trace.specs.declared.item.Item.TheVariants.{Blank, Shares, NextPhase, Allocates, Frees, FreesRaw, Flushes, Stops, Ticks, Passes, Idles}
+use Rattle.pas_trace.specs.declared.plan.Op.{Op}
+use Rattle.pas_trace.specs.declared.plan.Phase.{Phase}
+use Rattle.pas_trace.specs.declared.plan.Plan.{Plan}
+
+-- ---- vectors
+holding : {X : Type 0} (heap : Global) (xs : List X) → length xs < 2 ^ 63 → Vec X
+holding heap xs small = record { ptr = null_ptr; len = length xs; cap = length xs; alloc = heap; items = xs; ok = (refl, omega arith); small = small }
+
+-- ---- phases
+-- no phase is longer
+abbrev AtMost : ℕ → List (List Op) → Type 0
+AtMost n [] = Unit {0}
+AtMost n (p ∷ ps) = (length p ≤ n) × AtMost n ps
+
+most-more : (n : ℕ) (ps : List (List Op)) → AtMost n ps → AtMost (n + 1) ps
+most-more n [] h = tt
+most-more n (p ∷ ps) h = (let le = h.0 in omega (arith, le), most-more n ps h.1)
+
+most-next : (n : ℕ) (ps : List (List Op)) → AtMost n ps → AtMost (n + 1) (ps ++ [] ∷ [])
+most-next n [] h = (omega arith, tt)
+most-next n (p ∷ ps) h = (let le = h.0 in omega (arith, le), most-next n ps h.1)
+
+most-add : (n : ℕ) (op : Op) (ps : List (List Op)) → AtMost n ps → AtMost (n + 1) (add_last (Some op) ps)
+most-add n op [] h = (omega arith, tt)
+most-add n op (p ∷ []) h = (let le = h.0 in omega (arith, le, length-append p (op ∷ [])), tt)
+most-add n op (p ∷ q ∷ ps) h = (let le = h.0 in omega (arith, le), most-add n op (q ∷ ps) h.1)
+
+most-after : (n line : ℕ) (i : Item) (ps : List (List Op)) → AtMost n ps → AtMost (n + 1) (phases_after i line ps)
+most-after n line Blank ps h = most-more n ps h
+most-after n line (Shares a) ps h = most-more n ps h
+most-after n line NextPhase ps h = most-next n ps h
+most-after n line (Allocates t q) ps h = most-add n _ ps h
+most-after n line (Frees t a) ps h = most-add n _ ps h
+most-after n line (FreesRaw t a b) ps h = most-add n _ ps h
+most-after n line (Flushes t) ps h = most-add n _ ps h
+most-after n line (Stops t) ps h = most-add n _ ps h
+most-after n line (Ticks e) ps h = most-add n _ ps h
+most-after n line Passes ps h = most-add n _ ps h
+most-after n line (Idles a) ps h = most-add n _ ps h
+
+most-in : (items : List Item) → AtMost (length items) (phases_in items)
+most-in [] = (omega arith, tt)
+most-in (i ∷ items) =
+    let e : length items + 1 ≡ length (i ∷ items) = omega arith in
+    subst (λ n. AtMost n (phases_in (i ∷ items))) e (most-after (length items) (line_of_newest (i ∷ items)) i (phases_in items) (most-in items))
+
+-- .. and there are few
+add-few : (op : Op) (ps : List (List Op)) → length (add_last (Some op) ps) ≤ length ps + 1
+add-few op [] = omega arith
+add-few op (p ∷ []) = omega arith
+add-few op (p ∷ q ∷ ps) = omega (arith, add-few op (q ∷ ps))
+
+few-after : (line : ℕ) (i : Item) (ps : List (List Op)) → length (phases_after i line ps) ≤ length ps + 1
+few-after line Blank ps = omega arith
+few-after line (Shares a) ps = omega arith
+few-after line NextPhase ps = omega (arith, length-append ps ([] ∷ []))
+few-after line (Allocates t q) ps = add-few _ ps
+few-after line (Frees t a) ps = add-few _ ps
+few-after line (FreesRaw t a b) ps = add-few _ ps
+few-after line (Flushes t) ps = add-few _ ps
+few-after line (Stops t) ps = add-few _ ps
+few-after line (Ticks e) ps = add-few _ ps
+few-after line Passes ps = add-few _ ps
+few-after line (Idles a) ps = add-few _ ps
+
+few-in : (items : List Item) → length (phases_in items) ≤ length items + 1
+few-in [] = omega arith
+few-in (i ∷ items) = omega (arith, few-after (line_of_newest (i ∷ items)) i (phases_in items), few-in items)
+
+-- the phases with these operations
+held : Global → (n : ℕ) → n < 2 ^ 63 → (ps : List (List Op)) → AtMost n ps → List Phase
+held heap n small [] h = []
+held heap n small (p ∷ ps) h = record { ops = holding heap p (let le = h.0 in omega (arith, le)) } ∷ held heap n small ps h.1
+
+held-back : (heap : Global) (n : ℕ) (small : n < 2 ^ 63) (ps : List (List Op)) (h : AtMost n ps) → map ops_of (held heap n small ps h) ≡ ps
+unfolding held holding
+held-back heap n small [] h = refl
+held-back heap n small (p ∷ ps) h = ap (λ qs. p ∷ qs) (held-back heap n small ps h.1)
+
+-- ---- bounds
+bounds-count : (f : Profile) (items : List Item) (n : ℕ) → length (bounds_upto f items n) ≡ n
+bounds-count f items zero = refl
+bounds-count f items (suc n) = omega (arith, bounds-count f items n, length-append (bounds_upto f items n) (bound_of f items n ∷ []))
+
+-- ---- the plan
+pub plan-of : Global → (f : Profile) (items : List Item) → length items < 2 ^ 62 → f.threads < 2 ^ 62 → Plan
+plan-of heap f items few threads =
+    let small : length items < 2 ^ 63 = omega arith in
+    record {
+      profile = record f { shared = shared_in items };
+      phases = record {
+        phases = holding heap (held heap (length items) small (phases_in items) (most-in items))
+            (omega (arith, length-map (held heap (length items) small (phases_in items) (most-in items)) ops_of, ap (λ ps. length ps) (held-back heap (length items) small (phases_in items) (most-in items)), few-in items));
+      };
+      bounds = record { bounds = holding heap (bounds_upto f items (f.threads + 1)) (omega (arith, bounds-count f items (f.threads + 1))) };
+      total = record_bound f items;
+    }
+
+pub has-plan : (heap : Global) (text : List ℕ) (f : Profile) (items : List Item) → parsed text ≡ Ok (record { header = f; items = items }) → length items < 2 ^ 62 → f.threads < 2 ^ 62 → (plan : Plan) × IsPlanOf text plan
+unfolding plan-of holding
+has-plan heap text f items read few threads = (
+  plan-of heap f items few threads,
+  record {
+    items = items;
+    header = f;
+    read = read;
+    profile = refl;
+    phases = held-back heap (length items) (omega arith) (phases_in items) (most-in items);
+    bounds = refl;
+    total = refl;
+  },
+)
