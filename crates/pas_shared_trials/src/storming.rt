@@ -10,10 +10,11 @@ use pas_steps::Desk;
 /// The blocks that a thread has at a time.
 pub const BLOCKS: usize = 8;
 
-/// A thread in a storm: its blocks, its own numbers, and how many requests were served.
+/// A thread in a storm: its blocks, the sizes that it asks for, its own numbers, and how many requests were served.
 #[derive(Drop)]
 pub struct Storm {
     pub blocks: [Option<Name>; BLOCKS],
+    pub sizes: [u32; 3],
     pub numbers: u64,
     pub served: u64,
 }
@@ -81,16 +82,18 @@ pub fn stop_once<D: Desk>(desk: &mut D, cache: &mut ThreadCache, room: usize) ->
 }
 
 impl Storm {
-    /// A thread without blocks, whose numbers begin with this one.
-    pub fn new(numbers: u64) -> Storm {
+    /// A thread without blocks, whose numbers begin with this one, that asks for blocks of these sizes, each taken as at
+    /// most 2,048 bytes.
+    pub fn new(numbers: u64, sizes: [u32; 3]) -> Storm {
         Storm {
             blocks: [None; BLOCKS],
+            sizes,
             numbers,
             served: 0,
         }
     }
 
-    /// Frees one of the blocks, or asks for one in its place: of two classes, or bit-fit. Now and then the cache is stopped instead.
+    /// Frees one of the blocks, or asks for one in its place, of one of the sizes. Now and then the cache is stopped instead.
     fn turn<D: Desk>(&mut self, desk: &mut D, cache: &mut ThreadCache, room: usize)
         requires working { IsWorking (D.standing desk.old) (cached cache.old) room }
         ensures working { IsWorking (D.standing desk.new) (cached cache.new) room }
@@ -103,7 +106,7 @@ impl Storm {
             return;
         }
         let at = (drawn % 8) as usize;
-        let size = 300 * ((drawn >> 3) % 3) as u32;
+        let size = self.sizes[((drawn >> 3) % 3) as usize].min(2048);
         match self.blocks[at] {
             Some(name) => {
                 free_once(desk, cache, room, name);

@@ -22,7 +22,8 @@ pub struct StormWorker {
     pub stopped: bool,
 }
 
-/// A worker for each pass of a thread, with an empty cache. The scavenger's pass is let go.
+/// A worker for each pass of a thread, with an empty cache, that asks for blocks of these sizes. The scavenger's pass is
+/// let go.
 pub fn storm_workers(
     alloc: Global,
     region: &SharedRegion,
@@ -30,6 +31,7 @@ pub fn storm_workers(
     utility: &mut Utility,
     threads: u8,
     events: u32,
+    sizes: [u32; 3],
 ) -> Result<Vec<StormWorker>, AllocError>
     requires threads { threads_of utility.old ≡ threads }
     requires passes { All (IsFreshPass region.now events) passes.items }
@@ -49,7 +51,7 @@ pub fn storm_workers(
         workers.push(StormWorker {
             pass: Some(pass),
             cache: ThreadCache::new(seat),
-            storm: Storm::new(actor as u64),
+            storm: Storm::new(actor as u64, sizes),
             stopped: false,
         })?;
     }

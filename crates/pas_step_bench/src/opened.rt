@@ -25,17 +25,17 @@ const PROFILE: Profile = Profile {
     shared: 0,
 };
 
-/// A room for one event for each actor.
-fn rooms(alloc: Global) -> Result<Vec<EventRoom>, NoMemory>
+/// A room for so many events for each actor.
+fn rooms(alloc: Global, events: u32) -> Result<Vec<EventRoom>, NoMemory>
     ensures count { IfOk result (λ rooms. vec_len rooms ≡ 5) }
     ensures empty { IfOk result (λ rooms. All (λ room. shown room ≡ []) rooms.items) }
-    ensures size { IfOk result (λ rooms. All (λ room. size_of_room room ≡ 1) rooms.items) }
+    ensures size { IfOk result (λ rooms. All (λ room. size_of_room room ≡ events) rooms.items) }
 {
     let Ok(mut rooms) = Vec::with_capacity(alloc, 5) else {
         return Err(NoMemory);
     };
     for _index in 0..THREADS + 1 {
-        rooms.push_reserved(EventRoom::try_new(alloc, 1)?);
+        rooms.push_reserved(EventRoom::try_new(alloc, events)?);
     }
     Ok(rooms)
 }
@@ -45,17 +45,17 @@ pub fn plain(alloc: Global) -> Result<PlainDesk, NoMemory>
     ensures can { IfOk result (λ desk. CanCall (standing_of desk) Anything) }
     ensures profile { IfOk result (λ desk. profile_of (region_of desk) ≡ bench_profile) }
 {
-    let (region, mut passes) = PlainRegion::try_new(alloc, PROFILE, rooms(alloc)?)?;
+    let (region, mut passes) = PlainRegion::try_new(alloc, PROFILE, rooms(alloc, 1)?)?;
     let Some(pass) = passes.pop() else {
         return Err(NoMemory);
     };
     Ok(region.desk(pass))
 }
 
-/// A shared region and its passes.
-pub fn shared(alloc: Global) -> Result<(SharedRegion, Vec<SharedPass>), NoMemory>
+/// A shared region and its passes, each with room for so many events.
+pub fn shared(alloc: Global, events: u32) -> Result<(SharedRegion, Vec<SharedPass>), NoMemory>
     ensures profile { IfOk result (λ opened. the_profile_of opened.0 ≡ bench_profile) }
-    ensures passes { IfOk result (λ opened. All (IsFreshPass opened.0 1) opened.1.items) }
+    ensures passes { IfOk result (λ opened. All (IsFreshPass opened.0 events) opened.1.items) }
 {
-    Ok(SharedRegion::try_new(alloc, PROFILE, rooms(alloc)?)?)
+    Ok(SharedRegion::try_new(alloc, PROFILE, rooms(alloc, events)?)?)
 }

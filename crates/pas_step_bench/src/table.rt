@@ -5,11 +5,13 @@ ghost use Rattle.pas_shared_trials.specs.Races.{IsFreshPass};
 ghost use Rattle.pas_step_bench.specs.Repeats.{IsReady};
 
 use crate::bare;
-use crate::opened::{plain, shared};
+use crate::opened::{THREADS, plain, shared};
 use crate::repeating::{Kind, repeat};
 use crate::sharing::{Worker, work_at_once};
 use pas_shared::{SharedPass, SharedRegion};
+use pas_shared_trials::{gather, run_storm, storm_workers};
 use pas_steps::Desk;
+use pas_utility::Utility;
 use std::alloc::Global;
 use std::io;
 use std::io::ErrorKind;
@@ -18,6 +20,11 @@ use std::thread::Threads;
 use std::time::{CpuClock, Duration};
 
 const NAMES: [&str; 4] = ["look", "hint", "unhint", "tick"];
+
+/// The events for which each thread of a storm has room, and the sizes of its blocks.
+const EVENTS: u32 = 1_000_000;
+
+const SIZES: [u32; 3] = [16, 200, 512];
 
 /// Tenths of a nanosecond a round, and the sum of the answers, so that no answer is for nothing.
 #[derive(Clone, Copy, Drop)]
@@ -141,7 +148,7 @@ fn of_threads<R: CpuClock + Threads + Sync>(
     requires threads { threads ≤ 4 }
     requires rounds { 1 ≤ rounds }
 {
-    let Ok((region, passes)) = shared(alloc) else {
+    let Ok((region, passes)) = shared(alloc, 1) else {
         return Err(ErrorKind::OutOfMemory.into());
     };
     let mut workers = workers_of(alloc, &region, passes, threads, spread)?;
@@ -197,6 +204,43 @@ fn print_threads<R: CpuClock + Print + Threads + Sync>(
     Ok(())
 }
 
+/// A storm of so many threads, each with a cache, of so many turns: the time of a step.
+fn of_storm<R: CpuClock + Threads + Sync>(
+    rt: &R,
+    alloc: Global,
+    threads: usize,
+    turns: u64,
+) -> io::Result<Time> {
+    let Ok((region, passes)) = shared(alloc, EVENTS) else {
+        return Err(ErrorKind::OutOfMemory.into());
+    };
+    let Ok(mut utility) = Utility::try_new(alloc, region.profile(), &[0; 5]) else {
+        return Err(ErrorKind::OutOfMemory.into());
+    };
+    let mut workers = storm_workers(alloc, &region, passes, &mut utility, THREADS, EVENTS, SIZES)?;
+    workers.truncate(threads);
+    let start = rt.process_cpu_time()?;
+    run_storm(rt, &region, &mut workers, EVENTS, turns);
+    let (_, total) = gather(alloc, &region, workers)?;
+    since(rt, start, total.steps.max(1), total.served)
+}
+
+fn print_storms<R: CpuClock + Print + Threads + Sync>(
+    rt: &R,
+    alloc: Global,
+    turns: u64,
+) -> io::Result<()> {
+    for threads in [1, 2, 4] {
+        let Time { tenths, sum } = of_storm(rt, alloc, threads, turns)?;
+        println!(rt;
+            "step in a storm of {threads}: {}.{} ns (blocks {sum})",
+            tenths / 10,
+            tenths % 10
+        )?;
+    }
+    Ok(())
+}
+
 /// Measures with so many rounds each, and prints the table.
 pub fn print<R: CpuClock + Print + Threads + Sync>(
     rt: &R,
@@ -211,14 +255,15 @@ pub fn print<R: CpuClock + Print + Threads + Sync>(
     let at_plain = of_desk(rt, &mut desk, rounds)?;
     let at_shared = of_shared(rt, alloc, rounds)?;
     print_steps(rt, at_plain, at_shared, of_bare(rt, rounds)?)?;
-    print_threads(rt, alloc, rounds)
+    print_threads(rt, alloc, rounds)?;
+    print_storms(rt, alloc, rounds / 64)
 }
 
 /// Each kind of step at the desk of a shared region at which nobody else sits.
 fn of_shared<R: CpuClock>(rt: &R, alloc: Global, rounds: u64) -> io::Result<[Time; 4]>
     requires { 1 ≤ rounds }
 {
-    let Ok((region, mut passes)) = shared(alloc) else {
+    let Ok((region, mut passes)) = shared(alloc, 1) else {
         return Err(ErrorKind::OutOfMemory.into());
     };
     let Some(pass) = passes.pop() else {

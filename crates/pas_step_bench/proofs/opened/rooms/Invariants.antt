@@ -9,5 +9,5 @@ invariant-loop-index l = record {
   count : vec_len l.rooms ≡ l._index;
   reserved : 5 ≤ vec_capacity l.rooms;
   empty : All (λ (room : EventRoom). shown room ≡ []) l.rooms.items;
-  sized : All (λ (room : EventRoom). size_of_room room ≡ 1) l.rooms.items;
+  sized : All (λ (room : EventRoom). size_of_room room ≡ l.events) l.rooms.items;
 }
