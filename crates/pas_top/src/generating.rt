@@ -7,7 +7,9 @@ use crate::job::Job;
 use crate::outcome::{Outcome, outcome_of, tell};
 use crate::summary::summary_of;
 use pas_generate::trace_of;
+use pas_generated::laws::generated_texts_are_read;
 use pas_io::Sink;
+use pas_profile::NoMemory;
 use std::alloc::Global;
 
 /// Generates the trace of the job, replays it in the order of its text, and writes the summary. The status is 0, or 4 where
@@ -19,11 +21,13 @@ pub(crate) fn generate<K: Sink>(alloc: Global, job: Job, sink: &mut K) -> u8
     let Ok(text) = trace_of(alloc, job.seed, job.ops, job.threads, job.pages) else {
         return 5;
     };
+    generated_texts_are_read();
     match outcome_of(alloc, text) {
         Ok(Outcome::Replayed(records, state)) => {
             let summary = summary_of(job.ops, records.as_slice(), &state);
             tell(sink, summary.as_str(), 0)
         }
-        _ => 5,
+        Ok(Outcome::Faulty(_)) => unreachable!(),
+        Err(NoMemory) => 5,
     }
 }
