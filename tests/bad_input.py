@@ -1,0 +1,268 @@
+#!/usr/bin/env python3
+"""tests/bad_input.py PROGRAM
+
+Feeds texts that are no traces, and some at the border, to the program `pas`, and compares each answer with a second reading of the rules of
+docs/FORMAT.md: the first fault of a text, or none. A text with a fault is answered by that one line and status 1, one without by status 0, and one
+that is too long by status 6. Ends with status 0 where all answers are right."""
+import random
+import re
+import subprocess
+import sys
+
+MOST_SECONDS = 60
+MOST_BYTES = 16_777_216
+MOST_RECORDS = 2_000_000
+MOST_OPERATIONS = 1_000_000
+HEADER = b"pas 1 pages 4 threads 2 heaps 2 age 2\n"
+
+# The words behind the first one of each kind of line, by what they are.
+SHAPES = {
+    b"shared": ["heap"],
+    b"a": ["thread", "name", "heap", "size", "align"],
+    b"f": ["thread", "name"],
+    b"r": ["thread", "address", "turn"],
+    b"flush": ["thread"],
+    b"stop": ["thread"],
+    b"tick": ["epoch"],
+    b"pass": [],
+    b"idle": ["epoch"],
+    b"phase": [],
+}
+
+
+def number_of(word):
+    """The number that a word is, or None."""
+    if re.fullmatch(rb"0|[1-9][0-9]{0,19}", word) and int(word) < 1 << 64:
+        return int(word)
+    return None
+
+
+def value_of(shape, word):
+    """What a word says where something of this shape should be, or None where it is a bad number."""
+    if shape == "address":
+        return int(word, 16) if re.fullmatch(rb"0x[0-9a-f]{8}", word) else None
+    number = number_of(word)
+    limits = {"name": range(1, 1_000_001), "epoch": range(1 << 40), "turn": range((1 << 40) - 1)}
+    return number if number is not None and (shape not in limits or number in limits[shape]) else None
+
+
+def header_of(line):
+    """Pages, threads and heaps, or None."""
+    words = [word for word in line.split(b" ") if word]
+    if len(words) != 10 or [words[at] for at in (0, 1, 2, 4, 6, 8)] != [b"pas", b"1", b"pages", b"threads", b"heaps", b"age"]:
+        return None
+    values = [number_of(words[at]) for at in (3, 5, 7, 9)]
+    limits = (4096, 16, 32, 1_000_000)
+    if any(value is None or not 1 <= value <= most for value, most in zip(values, limits)):
+        return None
+    return values[:3]
+
+
+class Reader:
+    """What earlier lines said, as far as later ones need it."""
+
+    def __init__(self, pages, threads, heaps):
+        self.pages, self.threads, self.heaps = pages, threads, heaps
+        self.asked, self.phase, self.operations, self.begun = {}, 1, 0, False
+        self.records = threads * pages
+
+    def cost(self, kind, has):
+        if kind == b"a":
+            return 2 if has["size"] <= 2048 else 1 + -(-has["size"] // 4096)
+        return {b"f": 1, b"r": 1, b"tick": 1, b"pass": 1 + self.pages, b"idle": self.threads}.get(kind, 0)
+
+    def name_fault(self, kind, has):
+        if kind == b"a" and has["name"] in self.asked:
+            return "NameTaken"
+        if kind == b"f":
+            if has["name"] not in self.asked:
+                return "NameUnknown"
+            thread, phase = self.asked[has["name"]]
+            if thread != has["thread"] and phase == self.phase:
+                return "TooEarly"
+        return None
+
+    def fault(self, line):
+        """The fault of a line, or None."""
+        words = [word for word in line.split(b" ") if word]
+        if not words or line.startswith(b"#"):
+            return None
+        kind = words[0]
+        if kind not in SHAPES or len(words) != 1 + len(SHAPES[kind]) or (kind == b"shared" and self.begun):
+            return "BadWord"
+        has = {shape: value_of(shape, word) for shape, word in zip(SHAPES[kind], words[1:])}
+        if None in has.values():
+            return "BadNumber"
+        if "thread" in has and not 1 <= has["thread"] <= self.threads:
+            return "BadThread"
+        if "heap" in has and has["heap"] >= self.heaps:
+            return "BadHeap"
+        if "size" in has and has["size"] > 4096 * self.pages:
+            return "BadSize"
+        if "align" in has and has["align"] not in [16 << by for by in range(9)]:
+            return "BadAlign"
+        if fault := self.name_fault(kind, has):
+            return fault
+        self.begun = self.begun or kind != b"shared"
+        if kind == b"phase":
+            self.phase += 1
+        if kind in (b"shared", b"phase"):
+            return None
+        self.operations += 1
+        self.records += self.cost(kind, has)
+        if kind == b"a":
+            self.asked[has["name"]] = (has["thread"], self.phase)
+        if self.operations > MOST_OPERATIONS:
+            return "TooManyOps"
+        return "TraceTooLarge" if self.records > MOST_RECORDS else None
+
+
+def first_fault(text):
+    """The number and the reason of the lowest faulty line, or None."""
+    lines = text.split(b"\n")
+    if lines[-1] == b"":
+        lines.pop()
+    header = header_of(lines[0]) if lines else None
+    if header is None:
+        return 1, "BadHeader"
+    reader = Reader(*header)
+    for number, line in enumerate(lines[1:], 2):
+        if fault := reader.fault(line):
+            return number, fault
+    return None
+
+
+def is_wrong(program, text):
+    """What is wrong with the answer to a text, or None."""
+    run = subprocess.run([program, "order"], input=text, stdout=subprocess.PIPE, timeout=MOST_SECONDS)
+    if len(text) > MOST_BYTES:
+        wanted, status = b"input too long\n", 6
+    elif fault := first_fault(text):
+        wanted, status = b"line %d: %s\n" % (fault[0], fault[1].encode()), 1
+    else:
+        wanted, status = None, 0
+    if run.returncode != status or (wanted is not None and run.stdout != wanted):
+        return f"status {run.returncode} and {run.stdout[:60]!r}, not {status} and {wanted!r}, of {text[:200]!r}"
+    return None
+
+
+GOOD = [
+    b"shared 1", b"a 1 1 0 24 16", b"a 2 2 1 600 64", b"f 1 1", b"r 2 0x00001000 0", b"flush 1", b"tick 3", b"phase", b"f 1 2", b"pass", b"idle 1",
+    b"a 1 3 0 8192 4096", b"stop 2",
+]
+
+# A line for each reason but the first and the last two, by what must have come before: the lines of GOOD.
+BAD = {
+    "BadWord": [b"free 1 1", b"a 1 9 0 24", b"a 1 9 0 24 16 0", b"pass 1", b"phase 2", b"shared 1", b"\xff\xfe", b"A 1 9 0 24 16", b"flush\t1"],
+    "BadNumber": [
+        b"a 1 9 0 024 16", b"a 1 9 0 +24 16", b"a 1 9 0 -1 16", b"a 1 9 0 18446744073709551616 16", b"a 1 0 0 24 16", b"a 1 1000001 0 24 16", b"a x 9 0 24 16",
+        b"tick 1099511627776", b"idle 1099511627776", b"r 1 0x00001000 1099511627775", b"r 1 0x1000 0", b"r 1 0x0000100A 0", b"r 1 4096 0",
+        b"flush 1\r", b"flush \xb2", b"f 1 1.0",
+    ],
+    "BadThread": [b"a 0 9 0 24 16", b"a 3 9 0 24 16", b"f 3 1", b"r 17 0x00001000 0", b"flush 0", b"stop 18446744073709551615"],
+    "BadHeap": [b"a 1 9 2 24 16", b"a 1 9 18446744073709551615 24 16"],
+    "BadSize": [b"a 1 9 0 16385 16", b"a 1 9 0 18446744073709551615 16"],
+    "BadAlign": [b"a 1 9 0 24 0", b"a 1 9 0 24 8", b"a 1 9 0 24 24", b"a 1 9 0 24 8192", b"a 1 9 0 24 18446744073709551615"],
+    "NameTaken": [b"a 1 1 0 24 16", b"a 2 3 0 24 16"],
+    "NameUnknown": [b"f 1 9", b"f 2 1000000"],
+    "TooEarly": [b"f 2 3"],
+}
+
+# Lines at the border of a limit, all of them good behind GOOD.
+BORDER = [
+    b"a 1 1000000 0 0 16", b"a 1 9 1 16384 4096", b"a 2 9 0 2048 4096", b"tick 1099511627775", b"idle 1099511627775", b"idle 0",
+    b"r 1 0xffffffff 1099511627774", b"  flush   1  ", b"", b"   ", b"#\xff", b"# a 1 1", b"f 2 1", b"f 1 1",
+]
+
+HEADERS = {
+    True: [(1, 1, 1, 1), (4096, 16, 32, 1_000_000), (4096, 1, 1, 2), (1, 16, 32, 1)],
+    False: [(0, 1, 1, 1), (4097, 1, 1, 1), (4, 0, 1, 1), (4, 17, 1, 1), (4, 1, 0, 1), (4, 1, 33, 1), (4, 1, 1, 0), (4, 1, 1, 1_000_001)],
+}
+
+
+def faults():
+    """Each bad line and each border line as the first one, in the middle and as the last one, with and without a line feed at the end."""
+    good = b"\n".join(GOOD) + b"\n"
+    for line in [line for lines in BAD.values() for line in lines] + BORDER:
+        for text in (HEADER + line + b"\n" + good, HEADER + good + line + b"\n" + good[-7:], HEADER + good + line, HEADER + good + line + b"\n"):
+            yield text
+
+
+def reasons():
+    """Each reason comes where its table says it."""
+    good = HEADER + b"\n".join(GOOD) + b"\n"
+    for reason, lines in BAD.items():
+        for line in lines:
+            if first_fault(good + line) != (len(GOOD) + 2, reason):
+                sys.exit(f"the table of bad lines is wrong at {line!r}")
+            yield good + line
+    for line in BORDER:
+        if first_fault(good + line) is not None:
+            sys.exit(f"the table of border lines is wrong at {line!r}")
+        yield good + line
+
+
+def headers():
+    for is_good, values in HEADERS.items():
+        for pages, threads, heaps, age in values:
+            text = b"pas 1 pages %d threads %d heaps %d age %d\n" % (pages, threads, heaps, age)
+            if (first_fault(text) is None) != is_good:
+                sys.exit(f"the table of headers is wrong at {text!r}")
+            yield text
+            yield text + b"pass"
+    for line in (b"", b"\n", b"\n" + HEADER, b"# a trace\n" + HEADER, b"pas 2" + HEADER[5:], b" pas  1 pages 4 threads 2 heaps 2 age 2 ", HEADER[:-1] + b" 1"):
+        yield line
+
+
+def cuts():
+    """A trace that is cut at each byte."""
+    text = HEADER + b"\n".join(GOOD) + b"\n"
+    for length in range(len(text) + 1):
+        yield text[:length]
+
+
+def changes():
+    """A trace in which one byte is another, is missing or comes twice: each byte above 127 among them."""
+    text = HEADER + b"\n".join(GOOD) + b"\n"
+    draws = random.Random(1)
+    for at in range(len(text)):
+        for byte in (draws.randrange(256), draws.randrange(128, 256), draws.choice(b" \n#0x9a")):
+            yield text[:at] + bytes([byte]) + text[at + 1 :]
+        yield text[:at] + text[at + 1 :]
+        yield text[: at + 1] + text[at:]
+
+
+def long_texts():
+    """Texts at the limits of bytes, operations and records, and one beyond; and lines of nearly all bytes."""
+    for length in (MOST_BYTES, MOST_BYTES + 1):
+        yield b"\n" * length
+        yield HEADER + b"#" * (length - len(HEADER))
+        yield HEADER + b"flush 1" + b" " * (length - len(HEADER) - 7)
+        yield HEADER + b"9" * (length - len(HEADER))
+        yield HEADER + b"a 1 " + b"1" * (length - len(HEADER) - 4)
+    for operations in (MOST_OPERATIONS, MOST_OPERATIONS + 1):
+        yield HEADER + b"flush 1\n" * operations
+    whole = b"pas 1 pages 4096 threads 1 heaps 1 age 2\n"
+    for passes in (487, 488):
+        yield whole + b"pass\n" * passes
+    ticks = (MOST_RECORDS - 4096 - 4097 * 487) % 4097
+    yield whole + b"pass\n" * 487 + b"tick 1\n" * ticks
+    yield whole + b"pass\n" * 487 + b"tick 1\n" * (ticks + 1)
+
+
+def main():
+    if len(sys.argv) != 2:
+        sys.exit(__doc__)
+    count, wrong = 0, 0
+    for texts in (headers, reasons, faults, cuts, changes, long_texts):
+        for text in texts():
+            count += 1
+            if what := is_wrong(sys.argv[1], text):
+                wrong += 1
+                print(f"{texts.__name__}: {what}")
+    print(f"{count} texts, {wrong} answered wrongly")
+    sys.exit(1 if wrong else 0)
+
+
+if __name__ == "__main__":
+    main()

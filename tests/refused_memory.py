@@ -1,0 +1,131 @@
+#!/usr/bin/env python3
+"""tests/refused_memory.py PROGRAM
+
+Runs the program `pas` with each of its allocations refused in turn, and once with all from each one on: a run that was refused memory ends with
+status 5 and wrote nothing, or it ends as the run without a refusal. Needs `cc`, for a library that stands between the program and malloc.
+Ends with status 0 where each run is so."""
+import os
+import pathlib
+import subprocess
+import sys
+import tempfile
+
+MOST_SECONDS = 60
+
+SHIM = r"""
+#define _GNU_SOURCE
+#include <dlfcn.h>
+#include <stdlib.h>
+#include <unistd.h>
+
+static long made, first = -1, last = -1;
+static void *(*real_malloc)(size_t);
+static void *(*real_realloc)(void *, size_t);
+
+static int is_refused(void)
+{
+    if (!real_malloc) {
+        real_malloc = dlsym(RTLD_NEXT, "malloc");
+        real_realloc = dlsym(RTLD_NEXT, "realloc");
+        first = getenv("REFUSE_FROM") ? atol(getenv("REFUSE_FROM")) : -1;
+        last = getenv("REFUSE_TO") ? atol(getenv("REFUSE_TO")) : -1;
+    }
+    long number = made++;
+    return first >= 0 && number >= first && number <= last;
+}
+
+void *malloc(size_t size) { return is_refused() ? 0 : real_malloc(size); }
+void *realloc(void *old, size_t size) { return is_refused() ? 0 : real_realloc(old, size); }
+
+__attribute__((destructor)) static void tell(void)
+{
+    char *path = getenv("REFUSE_COUNT");
+    if (!path)
+        return;
+    unsetenv("REFUSE_COUNT");
+    char digits[24];
+    int at = sizeof digits;
+    long left = made;
+    do
+        digits[--at] = '0' + left % 10;
+    while (left /= 10);
+    extern int open(const char *, int, ...);
+    int file = open(path, 01 | 0100 | 01000, 0600);
+    if (file >= 0 && write(file, digits + at, sizeof digits - at) < 0)
+        _exit(99);
+}
+"""
+
+
+def full_log_and_cache():
+    """A trace that fills a log, a cache and some pages, with shared, bit-fit and large blocks, and two threads in two phases."""
+    lines = ["pas 1 pages 64 threads 2 heaps 3 age 1", "shared 2"]
+    names = 0
+    for heap in range(3):
+        for size in [16 * by for by in range(1, 33)] + [600, 1500, 2048, 2049, 12288]:
+            names += 1
+            lines.append(f"a 1 {names} {heap} {size} 16")
+    lines += [f"f 1 {name}" for name in range(1, names, 2)]
+    lines += ["tick 3", "phase"] + [f"f 2 {name}" for name in range(2, names, 2)]
+    lines += ["flush 2", "tick 9", "pass", "idle 2", f"a 2 {names + 1} 0 40960 4096"]
+    return ("\n".join(lines) + "\n").encode()
+
+
+RUNS = {
+    "a small trace": (["order"], b"pas 1 pages 4 threads 1 heaps 1 age 2\na 1 1 0 24 16\nf 1 1\n"),
+    "two threads in two phases": (
+        ["order"],
+        b"pas 1 pages 8 threads 2 heaps 1 age 2\na 1 1 0 16 16\na 2 2 0 16 16\nf 1 1\nphase\nf 2 1\nf 1 2\n",
+    ),
+    "a full log and a full cache, blocks of every kind": (["order"], full_log_and_cache()),
+    "a fault": (["order"], b"pas 1 pages 4 threads 1 heaps 1 age 2\nf 1 1\n"),
+    "a generated trace": (["gen", "7", "2000", "4", "64"], b""),
+    "other words": (["replay", "it"], b""),
+}
+
+
+def run(program, shim, words, text, first=None, last=None, count=None):
+    """The status of a run in which these allocations are refused, and what it wrote."""
+    environment = dict(os.environ, LD_PRELOAD=str(shim))
+    if first is not None:
+        environment |= {"REFUSE_FROM": str(first), "REFUSE_TO": str(last)}
+    if count is not None:
+        environment["REFUSE_COUNT"] = str(count)
+    child = subprocess.run([program, *words], input=text, stdout=subprocess.PIPE, env=environment, timeout=MOST_SECONDS)
+    return child.returncode, child.stdout
+
+
+def tried(program, folder, shim, words, text):
+    """How many allocations the run makes, and what is wrong where some are refused."""
+    count = folder / "count"
+    wanted = run(program, shim, words, text, count=count)
+    made = int(count.read_text())
+    faults = []
+    for first in range(made):
+        for last in (first, 1 << 40):
+            found = run(program, shim, words, text, first, last)
+            if found not in (wanted, (5, b"")):
+                faults.append(f"refused {first} to {last}: status {found[0]} and {len(found[1])} bytes")
+    return made, faults
+
+
+def main():
+    if len(sys.argv) != 2:
+        sys.exit(__doc__)
+    wrong = 0
+    with tempfile.TemporaryDirectory() as name:
+        folder = pathlib.Path(name)
+        source, shim = folder / "refuse.c", folder / "refuse.so"
+        source.write_text(SHIM)
+        subprocess.run(["cc", "-O1", "-shared", "-fPIC", "-o", shim, source, "-ldl"], check=True)
+        for what, (words, text) in RUNS.items():
+            made, faults = tried(sys.argv[1], folder, shim, words, text)
+            for fault in faults:
+                print(f"{what}: {fault}")
+            wrong += len(faults)
+            print(f"{what}: {made} allocations, each refused alone and with all after it; {len(faults)} wrong")
+    sys.exit(1 if wrong else 0)
+
+
+if __name__ == "__main__":
+    main()
