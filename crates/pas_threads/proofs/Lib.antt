@@ -1,0 +1,4 @@
+pub mod Speaking
+pub mod Naming
+pub mod Sharing
+pub mod Weaving

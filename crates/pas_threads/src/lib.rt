@@ -1,0 +1,4 @@
+//! The replay of a plan on threads, over a region that they share.
+#![tactic(auto)]
+
+pub mod laws;
