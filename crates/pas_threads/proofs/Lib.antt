@@ -2,3 +2,4 @@ pub mod Speaking
 pub mod Naming
 pub mod Sharing
 pub mod Weaving
+pub mod Working

@@ -1,4 +1,8 @@
 //! The replay of a plan on threads, over a region that they share.
 #![tactic(auto)]
 
+pub mod gate;
 pub mod laws;
+pub mod own;
+
+pub use gate::{Gate, OpenGate};

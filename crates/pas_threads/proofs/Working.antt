@@ -1,0 +1,250 @@
+-- The operations of one thread, one after the other.
+use Rattle.std.proofs.Common.{◌≡◌, ℕ, ◌+◌, ◌<◌, ◌≤◌, ◌==◌, Bool, true, false, if◌then◌else◌, List, [], ◌∷◌, ◌++◌, length, reverse, drop, get_or, Option, Some, None, refl, ap, sym, ◌∙◌, subst, arith, length-append, append_assoc, drop_of_length-le}
+use Rattle.std.proofs.lemmas.List.{append-nil, length-map, length-reverse, drop_more}
+use Rattle.std.proofs.lemmas.Bool.{eq-eqb, ne_eqb}
+use Rattle.pas_profile.specs.declared.profile.Profile.{Profile}
+use Rattle.pas_profile.specs.declared.event.Event.{Event}
+use Rattle.pas_steps.specs.Events.{events_of, events_by}
+use Rattle.pas_steps.specs.Lists.{Whole, part}
+use Rattle.pas_steps.specs.Views.{View}
+use Rattle.pas_steps.specs.Desks.{Seat, Standing, CanCall, triples}
+use Rattle.pas_steps.specs.declared.step.Made.{Made}
+use Rattle.pas_steps.proofs.Frames.{events_split}
+use Rattle.pas_steps.proofs.Parts.{part_of_own}
+use Rattle.pas_trace.specs.EveryPlan.{asked_after}
+use Rattle.pas_trace.specs.declared.plan.Op.{Op}
+use Rattle.pas_trace.specs.declared.plan.What.{What}
+use Rattle.pas_trace.specs.declared.plan.What.TheVariants.{Alloc, Free, Raw, Flush, Stop}
+use Rattle.pas_report.specs.Rooms.{records_in, room_of}
+use Rattle.pas_report.specs.declared.record.Record.{Record}
+use Rattle.pas_report.specs.declared.record.Said.{Said}
+use Rattle.pas_report.specs.declared.records.Records.{Records}
+use Rattle.pas_cache.specs.Caches.{Cached, AtRest}
+use Rattle.pas_answers.specs.Acts.{Act, Operates, Settles}
+use Rattle.pas_answers.specs.Answers.{having, Answer, answer_of, Progress, Named, Caches, with_cache, settled, after_answer, after_settling, IsAnswered, records_of, said_by}
+use Rattle.pas_answers.specs.Calls.{works, Tells, HasTurns, AreKnown, IsKnown, owed_events, MayAnswer, Answers}
+use Rattle.pas_answers.specs.Fit.{IsFitWhat, AreFit, cost_of_what, own_costs_of}
+use Rattle.pas_answers.specs.Names.{names_held}
+use Rattle.pas_answers.specs.declared.names.Names.{Names}
+use Rattle.pas_answers.proofs.KnownNames.{known_after}
+use Rattle.pas_threads.specs.Shares.{Reaches}
+use Rattle.pas_threads.specs.Works.{own_acts, Keeps, keeps, Sits, KnowsNames, ThreadAt, Works}
+
+-- what a desk says of its room, for each view that it stands for
+abbrev pub HasSpare : Standing → ℕ → Type 0
+HasSpare σ spare = (v : View) (l : Whole) → σ.stands v l → spare + length (events_of σ.seat.actor v) ≡ σ.seat.room
+
+if_same : (t : Bool) (c : ℕ) → t ≡ true → (if t then c else 0) ≡ c
+if_same true c is = refl
+if_same false c is = absurd (let bad : false ≡ true = is in cc)
+
+-- what an operation costs its thread
+own_cost : (op : Op) → (if op.actor == op.actor then cost_of_what op.what else 0) ≡ cost_of_what op.what
+own_cost op = if_same (op.actor == op.actor) (cost_of_what op.what) (eq-eqb op.actor op.actor refl)
+
+known_if : (f : Profile) (limit : ℕ) (asked : List ℕ) (names : List Named) (what : What) → IsFitWhat f limit asked what → AreKnown asked names → IsKnown names what
+known_if f limit asked names (Free name) fit known = known name fit
+known_if f limit asked names s fit known = tt
+
+records_count : (es : List Event) → length (records_of es) ≡ length es
+records_count es = length-map (reverse es) Record.Event ∙ length-reverse es
+
+its_cache : (caches : Caches) (k : ℕ) (c : Cached) → with_cache caches k c k ≡ c
+its_cache caches k c = ap (λ (t : Bool). if t then c else caches k) (eq-eqb k k refl)
+
+abbrev Before : Profile → Op → List Act → Standing → Keeps → ℕ → Progress → Type 0
+Before f op next σ has later p = ThreadAt f op.actor (Operates op ∷ (Settles op.actor ∷ next)) σ has later p
+
+-- ---- before an operation
+pub fit_now : {f : Profile} {op : Op} {next : List Act} {σ : Standing} {has : Keeps} {later : ℕ} {p : Progress} → Before f op next σ has later p → (asked : List ℕ) × IsFitWhat σ.seat.profile (names_held has.table) asked op.what
+fit_now {f} {op} {next} {σ} {has} {later} {p} at = (at.names.asked, subst (λ (g : Profile). IsFitWhat g (names_held has.table) at.names.asked op.what) (sym at.sits.profile) at.names.fit.1)
+
+pub may_answer : {f : Profile} {op : Op} {next : List Act} {σ : Standing} {has : Keeps} {later : ℕ} {p : Progress} (spare : ℕ) → HasSpare σ spare → Before f op next σ has later p
+    → CanCall σ (λ v l. MayAnswer σ.seat.profile has.cache op.what spare has.out v)
+may_answer {f} {op} {next} {σ} {has} {later} {p} spare fits at =
+    let v = part op.actor p.list in
+    let is = subst (λ (k : ℕ). spare + length (events_of k v) ≡ σ.seat.room) at.sits.actor (fits v at.sits.beside at.sits.stood) in
+    let room = at.sits.room in
+    let records = at.spare in
+    let cost = own_cost op in
+    record {
+      view = v;
+      whole = at.sits.beside;
+      stood = at.sits.stood;
+      met = subst (λ (g : Profile). MayAnswer g has.cache op.what spare has.out v) (sym at.sits.profile) record {
+        may = record { rest = at.sits.rest; room = omega (arith, is, room, cost) };
+        records = omega (arith, records, cost);
+      };
+    }
+
+-- ---- after an operation
+module _ {f : Profile} {op : Op} {next : List Act} {σ σ' : Standing} {c c1 : Cached} {table table' : Names} {out out' : Records} {later : ℕ} {p : Progress} (at : Before f op next σ (keeps c table out) later p)
+    (did : Answers op.what (works table c) (works table' c1) out out' σ σ') (turns : HasTurns table') where
+  abbrev v : View
+  v = part op.actor p.list
+
+  -- what is said of the desk's seat is said of the thread
+  seated : (P : ℕ → Profile → Type 0) → P σ.seat.actor σ.seat.profile → P op.actor f
+  seated P is = subst (λ (g : Profile). P op.actor g) at.sits.profile (subst (λ (k : ℕ). P k σ.seat.profile) at.sits.actor is)
+
+  was_at_rest : AtRest σ.seat.profile c v
+  was_at_rest = subst (λ (g : Profile). AtRest g c v) (sym at.sits.profile) at.sits.rest
+
+  answered : (names' : List Named) × Tells table' names' × IsAnswered σ.seat.profile σ.seat.actor op.what (having p.names v c) (answer_of did.performs.steps did.said names' c1)
+  answered = did.performs.answered v at.sits.beside at.sits.stood was_at_rest p.names at.names.tells (known_if f (names_held table) at.names.asked p.names op.what at.names.fit.1 at.names.known)
+
+  abbrev the_answer : Answer
+  the_answer = answer_of did.performs.steps did.said answered.0 c1
+
+  is_answered : IsAnswered f op.actor op.what (having p.names v c) the_answer
+  is_answered = seated (λ (k : ℕ) (g : Profile). IsAnswered g k op.what (having p.names v c) the_answer) answered.2
+
+  abbrev piece : List Record
+  piece = records_of (events_by op.actor v did.performs.steps) ++ said_by op.actor did.said
+
+  abbrev midway : Progress
+  midway = after_answer p op.actor the_answer
+
+  pushed : records_in out' ≡ records_in out ++ piece
+  pushed = seated (λ (k : ℕ) (g : Profile). records_in out' ≡ records_in out ++ (records_of (events_by k v did.performs.steps) ++ said_by k did.said)) (did.pushed v at.sits.beside at.sits.stood was_at_rest)
+
+  few : length (events_by op.actor v did.performs.steps) + length (said_by op.actor did.said) + owed_events f c1 (did.performs.steps ++ v) ≤ cost_of_what op.what + owed_events f c v
+  few = seated (λ (k : ℕ) (g : Profile). length (events_by k v did.performs.steps) + length (said_by k did.said) + owed_events g c1 (did.performs.steps ++ v) ≤ cost_of_what op.what + owed_events g c v)
+      (did.performs.few v was_at_rest (did.performs.calls.adds.agreed v at.sits.beside at.sits.stood was_at_rest))
+
+  new_part : part op.actor midway.list ≡ did.performs.steps ++ v
+  new_part = part_of_own op.actor did.performs.steps p.list
+
+  settled_rest : AtRest f (settled c1) (did.performs.steps ++ v)
+  settled_rest =
+      let rest = subst (λ (g : Profile). AtRest g c1 (did.performs.steps ++ v)) at.sits.profile (did.performs.calls.leads.from v was_at_rest (did.performs.calls.adds.agreed v at.sits.beside at.sits.stood was_at_rest)) in
+      record { locals = rest.locals; few = rest.few; entries = rest.entries; few_entries = rest.few_entries }
+
+  sits_again : Sits f op.actor (AtRest f (settled c1)) σ' (did.performs.steps ++ v) (owed_events f (settled c1) (did.performs.steps ++ v) + own_costs_of op.actor next + later)
+  sits_again =
+      let steps = did.performs.steps in
+      let seat = did.performs.calls.adds.seat_is in
+      let grown = ap length (events_split op.actor steps v) ∙ length-append (events_by op.actor v steps) (events_of op.actor v) in
+      let room = at.sits.room in
+      let cost = own_cost op in
+      let less = few in
+      record {
+        actor = ap (λ (s : Seat). s.actor) seat ∙ at.sits.actor;
+        profile = ap (λ (s : Seat). s.profile) seat ∙ at.sits.profile;
+        beside = triples σ.seat.actor steps ++ at.sits.beside;
+        stood = did.performs.calls.adds.added v at.sits.beside at.sits.stood was_at_rest;
+        rest = settled_rest;
+        room = subst (λ (s : Seat). length (events_of op.actor (steps ++ v)) + (owed_events f (settled c1) (steps ++ v) + own_costs_of op.actor next + later) ≤ s.room) (sym seat) (omega (arith, grown, less, room, cost));
+      }
+
+  spare_again : length (records_in out') + (owed_events f (settled c1) (did.performs.steps ++ v) + own_costs_of op.actor next + later) ≤ room_of out'
+  spare_again =
+      let steps = did.performs.steps in
+      let longer = ap (λ (rs : List Record). length rs) pushed ∙ length-append (records_in out) piece in
+      let both = length-append (records_of (events_by op.actor v steps)) (said_by op.actor did.said) in
+      let count = records_count (events_by op.actor v steps) in
+      let records = at.spare in
+      let same = did.room in
+      let cost = own_cost op in
+      let less = few in
+      omega (arith, longer, both, count, less, records, same, cost)
+
+  names_again : KnowsNames f next table' answered.0
+  names_again = record {
+    asked = asked_after op.what at.names.asked;
+    fit = subst (λ (n : ℕ). AreFit f n (asked_after op.what at.names.asked) next) (sym did.performs.held) at.names.fit.2;
+    tells = answered.1;
+    turns = turns;
+    known = known_after f op.actor op.what at.names.asked p.names answered.0 v c c1 did.performs.steps did.said is_answered at.names.known;
+  }
+
+  pub operated : {c' : Cached} → c' ≡ settled c1 → Works f op.actor (Operates op ∷ (Settles op.actor ∷ [])) next σ σ' (keeps c table out) (keeps c' table' out') later p
+  operated {c'} is = record {
+    reached = after_settling midway op.actor;
+    reaches = (midway, (the_answer, subst (λ (d : Cached). IsAnswered f op.actor op.what (having p.names v d) the_answer) (sym at.cache) is_answered, refl), (after_settling midway op.actor, refl, refl));
+    stands = subst (λ (d : Cached). ThreadAt f op.actor next σ' (keeps d table' out') later (after_settling midway op.actor)) (sym is) record {
+      sits = subst (λ (w : View). Sits f op.actor (AtRest f (settled c1)) σ' w (owed_events f (settled c1) w + own_costs_of op.actor next + later)) (sym new_part) sits_again;
+      cache = its_cache midway.caches op.actor (settled (midway.caches op.actor)) ∙ ap settled (its_cache p.caches op.actor c1);
+      spare = subst (λ (w : View). length (records_in out') + (owed_events f (settled c1) w + own_costs_of op.actor next + later) ≤ room_of out') (sym new_part) spare_again;
+      names = names_again;
+    };
+    said = piece;
+    records_are = refl;
+    pushed = pushed;
+    room = did.room;
+    held = did.performs.held;
+  }
+
+-- ---- one after the other
+reach_both : (f : Profile) (xs ys : List Act) (p q r : Progress) → Reaches f xs p q → Reaches f ys q r → Reaches f (xs ++ ys) p r
+reach_both f [] ys p q r one two = subst (λ (s : Progress). Reaches f ys s r) one two
+reach_both f (x ∷ xs) ys p q r one two = (one.0, one.1, reach_both f xs ys one.0 q r one.2 two)
+
+pub works_both : {f : Profile} {k : ℕ} {xs ys mid next : List Act} {σ0 σ σ' : Standing} {h0 h h' : Keeps} {later : ℕ} {p : Progress} → (one : Works f k xs mid σ0 σ h0 h later p) → Works f k ys next σ σ' h h' later one.reached → Works f k (xs ++ ys) next σ0 σ' h0 h' later p
+works_both {f} {k} {xs} {ys} {mid} {next} {σ0} {σ} {σ'} {h0} {h} {h'} {later} {p} one two = record {
+  reached = two.reached;
+  reaches = reach_both f xs ys p one.reached two.reached one.reaches two.reaches;
+  stands = two.stands;
+  said = one.said ++ two.said;
+  records_are = two.records_are ∙ ap (λ (rs : List Record). rs ++ two.said) one.records_are ∙ append_assoc p.records one.said two.said;
+  pushed = two.pushed ∙ ap (λ (rs : List Record). rs ++ two.said) one.pushed ∙ append_assoc (records_in h0.out) one.said two.said;
+  room = two.room ∙ one.room;
+  held = two.held ∙ one.held;
+}
+
+pub works_none : {f : Profile} {k : ℕ} {acts : List Act} {σ : Standing} {has : Keeps} {later : ℕ} {p : Progress} → ThreadAt f k acts σ has later p → Works f k [] acts σ σ has has later p
+works_none {f} {k} {acts} {σ} {has} {later} {p} at = record {
+  reached = p;
+  reaches = refl;
+  stands = at;
+  said = [];
+  records_are = sym (append-nil p.records);
+  pushed = sym (append-nil (records_in has.out));
+  room = refl;
+  held = refl;
+}
+
+-- ---- which operation comes next
+-- the acts of the first operation of these
+abbrev pub head_acts : Op → List Act
+head_acts op = Operates op ∷ (Settles op.actor ∷ [])
+
+pub own_next : (k : ℕ) (ops : List Op) (i : ℕ) (d : Op) → i < length ops → (get_or ops i d).actor ≡ k → own_acts k (drop i ops) ≡ head_acts (get_or ops i d) ++ own_acts k (drop (i + 1) ops)
+own_next k ops i d lt is = ap (λ (xs : List Op). own_acts k xs) (drop_more ops i d lt)
+    ∙ ap (λ (t : Bool). if t then Operates (get_or ops i d) ∷ (Settles (get_or ops i d).actor ∷ own_acts k (drop (i + 1) ops)) else own_acts k (drop (i + 1) ops)) (eq-eqb (get_or ops i d).actor k is)
+
+pub own_skip : (k : ℕ) (ops : List Op) (i : ℕ) (d : Op) → i < length ops → ((get_or ops i d).actor ≡ k → ⊥) → own_acts k (drop i ops) ≡ own_acts k (drop (i + 1) ops)
+own_skip k ops i d lt other = ap (λ (xs : List Op). own_acts k xs) (drop_more ops i d lt)
+    ∙ ap (λ (t : Bool). if t then Operates (get_or ops i d) ∷ (Settles (get_or ops i d).actor ∷ own_acts k (drop (i + 1) ops)) else own_acts k (drop (i + 1) ops)) (ne_eqb (get_or ops i d).actor k other)
+
+-- so far, the acts of thread k before the operation at this place were done
+abbrev pub SoFar : Profile → ℕ → List Op → ℕ → Standing → Standing → Keeps → Keeps → ℕ → Progress → Type 0
+SoFar f k ops i σ0 σ h0 h later p = (did : List Act) × (did ++ own_acts k (drop i ops) ≡ own_acts k ops) × Works f k did (own_acts k (drop i ops)) σ0 σ h0 h later p
+
+pub begins : {f : Profile} {k : ℕ} (ops : List Op) {σ : Standing} {has : Keeps} {later : ℕ} {p : Progress} → ThreadAt f k (own_acts k ops) σ has later p → SoFar f k ops 0 σ σ has has later p
+begins ops at = ([], refl, works_none at)
+
+-- the operation is the thread's: it stands before it
+pub stands_before : {f : Profile} {k : ℕ} (ops : List Op) {i : ℕ} {σ0 σ : Standing} {h0 h : Keeps} {later : ℕ} {p : Progress} (d : Op) → i < length ops → (get_or ops i d).actor ≡ k → (so : SoFar f k ops i σ0 σ h0 h later p)
+    → ThreadAt f (get_or ops i d).actor (Operates (get_or ops i d) ∷ (Settles (get_or ops i d).actor ∷ own_acts k (drop (i + 1) ops))) σ h later so.2.reached
+stands_before {f} {k} ops {i} {σ0} {σ} {h0} {h} {later} {p} d lt is so =
+    subst (λ (j : ℕ). ThreadAt f j (Operates (get_or ops i d) ∷ (Settles (get_or ops i d).actor ∷ own_acts k (drop (i + 1) ops))) σ h later so.2.reached) (sym is)
+    (subst (λ (acts : List Act). ThreadAt f k acts σ h later so.2.reached) (own_next k ops i d lt is) so.2.stands)
+
+pub goes_on : {f : Profile} {k : ℕ} (ops : List Op) {i : ℕ} {σ0 σ σ' : Standing} {h0 h h' : Keeps} {later : ℕ} {p : Progress} (d : Op) → i < length ops → (get_or ops i d).actor ≡ k → (so : SoFar f k ops i σ0 σ h0 h later p)
+    → Works f (get_or ops i d).actor (head_acts (get_or ops i d)) (own_acts k (drop (i + 1) ops)) σ σ' h h' later so.2.reached → SoFar f k ops (i + 1) σ0 σ' h0 h' later p
+goes_on {f} {k} ops {i} {σ0} {σ} {σ'} {h0} {h} {h'} {later} {p} d lt is so did =
+    let op = get_or ops i d in
+    let rest = own_acts k (drop (i + 1) ops) in
+    let mine : Works f k (head_acts op) rest σ σ' h h' later so.2.reached = subst (λ (j : ℕ). Works f j (head_acts op) rest σ σ' h h' later so.2.reached) is did in
+    (so.0 ++ head_acts op, append_assoc so.0 (head_acts op) rest ∙ ap (λ (acts : List Act). so.0 ++ acts) (sym (own_next k ops i d lt is)) ∙ so.1, works_both so.2 mine)
+
+pub skips : {f : Profile} {k : ℕ} (ops : List Op) {i : ℕ} {σ0 σ : Standing} {h0 h : Keeps} {later : ℕ} {p : Progress} (d : Op) → i < length ops → ((get_or ops i d).actor ≡ k → ⊥) → SoFar f k ops i σ0 σ h0 h later p → SoFar f k ops (i + 1) σ0 σ h0 h later p
+skips {f} {k} ops {i} {σ0} {σ} {h0} {h} {later} {p} d lt other so =
+    subst (λ (acts : List Act). (did : List Act) × (did ++ acts ≡ own_acts k ops) × Works f k did acts σ0 σ h0 h later p) (own_skip k ops i d lt other) so
+
+pub ends : {f : Profile} {k : ℕ} (ops : List Op) {i : ℕ} {σ0 σ : Standing} {h0 h : Keeps} {later : ℕ} {p : Progress} → length ops ≤ i → SoFar f k ops i σ0 σ h0 h later p → Works f k (own_acts k ops) [] σ0 σ h0 h later p
+ends {f} {k} ops {i} {σ0} {σ} {h0} {h} {later} {p} le so =
+    let none : own_acts k (drop i ops) ≡ [] = ap (λ (xs : List Op). own_acts k xs) (drop_of_length-le ops le) in
+    let all : so.0 ≡ own_acts k ops = sym (append-nil so.0) ∙ ap (λ (acts : List Act). so.0 ++ acts) (sym none) ∙ so.1 in
+    subst (λ (acts : List Act). Works f k acts [] σ0 σ h0 h later p) all (subst (λ (acts : List Act). Works f k so.0 acts σ0 σ h0 h later p) none so.2)
