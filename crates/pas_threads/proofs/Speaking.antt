@@ -18,13 +18,10 @@ use Rattle.pas_report.specs.declared.record.Record.{Record}
 use Rattle.pas_report.specs.declared.record.Said.{Said}
 use Rattle.pas_passes.specs.Records.{record_of, records_of_pass}
 use Rattle.pas_answers.specs.Answers.{records_of, said_by}
+use Rattle.pas_threads.specs.Shares.{EachOf}
 use Rattle.pas_answers.specs.Ways.{is_event_of, is_of, AreSpoken, records_by}
 
 -- ---- each is of actor j
-abbrev pub EachOf : ℕ → List Record → Type 0
-EachOf j [] = Unit {0}
-EachOf j (r ∷ rs) = ((k : ℕ) → is_of k r ≡ (j == k)) × EachOf j rs
-
 abbrev EventsOf : ℕ → List Event → Type 0
 EventsOf j [] = Unit {0}
 EventsOf j (e ∷ es) = ((k : ℕ) → is_event_of k e ≡ (j == k)) × EventsOf j es

@@ -19,8 +19,8 @@ use Rattle.pas_answers.specs.Acts.{Act, Operates, Settles, Ticks, MakesPass, Rea
 use Rattle.pas_answers.specs.Answers.{Named, having, answer_of, Answer, standing_for, IsAnswered, IsStopped, Progress, with_records, with_steps, with_scavenged, after_answer, after_settling, after_wake, after_reading, after_tick, after_pass, after_stop, stopped, epoch_look, begun, settled, IsIdleFor, records_of, said_by, Follows}
 use Rattle.pas_answers.specs.Fit.{AreFit, IsFitWhat}
 use Rattle.pas_answers.specs.Ways.{AreSpoken, records_by}
-use Rattle.pas_threads.specs.Shares.{Advances, Reaches, Owners, actor_of_act, IsInHand, AreInHand, acts_by, AreAmong, OnlyAsked, Asks, NoneAsks, asked_after_act, asked_after_acts, IsShareOf, IsWoven}
-use Rattle.pas_threads.proofs.Speaking.{EachOf, each_both, events_of_piece, piece_of, pass_of, spoken_piece, spoken_both}
+use Rattle.pas_threads.specs.Shares.{Advances, Reaches, Owners, actor_of_act, IsInHand, AreInHand, acts_by, AreAmong, OnlyAsked, Asks, NoneAsks, asked_after_act, asked_after_acts, IsShareOf, EachOf, IsWoven}
+use Rattle.pas_threads.proofs.Speaking.{each_both, events_of_piece, piece_of, pass_of, spoken_piece, spoken_both}
 use Rattle.pas_threads.proofs.Naming.{Retold, retold}
 use Rattle.pas_threads.proofs.Sharing.{share_steps, share_scavenged, share_cache, share_records, share_names, share_epoch, beside_steps, beside_scavenged, beside_cache, beside_records, beside_names, beside_epoch, elsewhere, elsewhere_both}
 

@@ -21,13 +21,14 @@ use Rattle.pas_report.specs.declared.record.Said.{Said}
 use Rattle.pas_report.specs.declared.records.Records.{Records}
 use Rattle.pas_cache.specs.Caches.{Cached, AtRest}
 use Rattle.pas_answers.specs.Acts.{Act, Operates, Settles}
-use Rattle.pas_answers.specs.Answers.{having, Answer, answer_of, Progress, Named, Caches, with_cache, settled, after_answer, after_settling, IsAnswered, records_of, said_by}
+use Rattle.pas_answers.specs.Answers.{having, Answer, answer_of, Progress, with_records, Named, Caches, with_cache, settled, after_answer, after_settling, IsAnswered, records_of, said_by}
 use Rattle.pas_answers.specs.Calls.{works, Tells, HasTurns, AreKnown, IsKnown, owed_events, MayAnswer, Answers}
 use Rattle.pas_answers.specs.Fit.{IsFitWhat, AreFit, cost_of_what, own_costs_of}
 use Rattle.pas_answers.specs.Names.{names_held}
 use Rattle.pas_answers.specs.declared.names.Names.{Names}
 use Rattle.pas_answers.proofs.KnownNames.{known_after}
 use Rattle.pas_threads.specs.Shares.{Reaches}
+use Rattle.pas_threads.proofs.Speaking.{piece_of, each_both}
 use Rattle.pas_threads.specs.Works.{own_acts, Keeps, keeps, Sits, KnowsNames, ThreadAt, Works}
 
 -- what a desk says of its room, for each view that it stands for
@@ -78,102 +79,132 @@ may_answer {f} {op} {next} {σ} {has} {later} {p} spare fits at =
     }
 
 -- ---- after an operation
-module _ {f : Profile} {op : Op} {next : List Act} {σ σ' : Standing} {c c1 : Cached} {table table' : Names} {out out' : Records} {later : ℕ} {p : Progress} (at : Before f op next σ (keeps c table out) later p)
-    (did : Answers op.what (works table c) (works table' c1) out out' σ σ') (turns : HasTurns table') where
+-- what an operation of thread k comes to, where these acts were left and those are left then
+pub record IsOperation (f : Profile) (k : ℕ) (what : What) (acts next : List Act) : Type 0 where
+  pub cost : own_costs_of k acts ≡ cost_of_what what + own_costs_of k next
+  pub now : (limit : ℕ) (asked : List ℕ) → AreFit f limit asked acts → IsFitWhat f limit asked what
+  pub left : (limit : ℕ) (asked : List ℕ) → AreFit f limit asked acts → AreFit f limit (asked_after what asked) next
+
+module _ {f : Profile} {k : ℕ} {what : What} {acts next : List Act} {σ σ' : Standing} {c c1 : Cached} {table table' : Names} {out out' : Records} {later : ℕ} {p : Progress} (of : IsOperation f k what acts next)
+    (at : ThreadAt f k acts σ (keeps c table out) later p) (did : Answers what (works table c) (works table' c1) out out' σ σ') (turns : HasTurns table') where
   abbrev v : View
-  v = part op.actor p.list
+  v = part k p.list
 
   -- what is said of the desk's seat is said of the thread
-  seated : (P : ℕ → Profile → Type 0) → P σ.seat.actor σ.seat.profile → P op.actor f
-  seated P is = subst (λ (g : Profile). P op.actor g) at.sits.profile (subst (λ (k : ℕ). P k σ.seat.profile) at.sits.actor is)
+  seated : (P : ℕ → Profile → Type 0) → P σ.seat.actor σ.seat.profile → P k f
+  seated P is = subst (λ (g : Profile). P k g) at.sits.profile (subst (λ (j : ℕ). P j σ.seat.profile) at.sits.actor is)
 
   was_at_rest : AtRest σ.seat.profile c v
   was_at_rest = subst (λ (g : Profile). AtRest g c v) (sym at.sits.profile) at.sits.rest
 
-  answered : (names' : List Named) × Tells table' names' × IsAnswered σ.seat.profile σ.seat.actor op.what (having p.names v c) (answer_of did.performs.steps did.said names' c1)
-  answered = did.performs.answered v at.sits.beside at.sits.stood was_at_rest p.names at.names.tells (known_if f (names_held table) at.names.asked p.names op.what at.names.fit.1 at.names.known)
+  pub answered : (names' : List Named) × Tells table' names' × IsAnswered σ.seat.profile σ.seat.actor what (having p.names v c) (answer_of did.performs.steps did.said names' c1)
+  answered = did.performs.answered v at.sits.beside at.sits.stood was_at_rest p.names at.names.tells (known_if f (names_held table) at.names.asked p.names what (of.now (names_held table) at.names.asked at.names.fit) at.names.known)
 
-  abbrev the_answer : Answer
+  abbrev pub the_answer : Answer
   the_answer = answer_of did.performs.steps did.said answered.0 c1
 
-  is_answered : IsAnswered f op.actor op.what (having p.names v c) the_answer
-  is_answered = seated (λ (k : ℕ) (g : Profile). IsAnswered g k op.what (having p.names v c) the_answer) answered.2
+  is_answered : IsAnswered f k what (having p.names v c) the_answer
+  is_answered = seated (λ (j : ℕ) (g : Profile). IsAnswered g j what (having p.names v c) the_answer) answered.2
 
-  abbrev piece : List Record
-  piece = records_of (events_by op.actor v did.performs.steps) ++ said_by op.actor did.said
+  pub answers_now : IsAnswered f k what (having p.names v (p.caches k)) the_answer
+  answers_now = subst (λ (d : Cached). IsAnswered f k what (having p.names v d) the_answer) (sym at.cache) is_answered
 
-  abbrev midway : Progress
-  midway = after_answer p op.actor the_answer
+  abbrev pub piece : List Record
+  piece = records_of (events_by k v did.performs.steps) ++ said_by k did.said
 
-  pushed : records_in out' ≡ records_in out ++ piece
-  pushed = seated (λ (k : ℕ) (g : Profile). records_in out' ≡ records_in out ++ (records_of (events_by k v did.performs.steps) ++ said_by k did.said)) (did.pushed v at.sits.beside at.sits.stood was_at_rest)
+  pub pushed : records_in out' ≡ records_in out ++ piece
+  pushed = seated (λ (j : ℕ) (g : Profile). records_in out' ≡ records_in out ++ (records_of (events_by j v did.performs.steps) ++ said_by j did.said)) (did.pushed v at.sits.beside at.sits.stood was_at_rest)
 
-  few : length (events_by op.actor v did.performs.steps) + length (said_by op.actor did.said) + owed_events f c1 (did.performs.steps ++ v) ≤ cost_of_what op.what + owed_events f c v
-  few = seated (λ (k : ℕ) (g : Profile). length (events_by k v did.performs.steps) + length (said_by k did.said) + owed_events g c1 (did.performs.steps ++ v) ≤ cost_of_what op.what + owed_events g c v)
+  few : length (events_by k v did.performs.steps) + length (said_by k did.said) + owed_events f c1 (did.performs.steps ++ v) ≤ cost_of_what what + owed_events f c v
+  few = seated (λ (j : ℕ) (g : Profile). length (events_by j v did.performs.steps) + length (said_by j did.said) + owed_events g c1 (did.performs.steps ++ v) ≤ cost_of_what what + owed_events g c v)
       (did.performs.few v was_at_rest (did.performs.calls.adds.agreed v at.sits.beside at.sits.stood was_at_rest))
 
-  new_part : part op.actor midway.list ≡ did.performs.steps ++ v
-  new_part = part_of_own op.actor did.performs.steps p.list
-
-  settled_rest : AtRest f (settled c1) (did.performs.steps ++ v)
-  settled_rest =
-      let rest = subst (λ (g : Profile). AtRest g c1 (did.performs.steps ++ v)) at.sits.profile (did.performs.calls.leads.from v was_at_rest (did.performs.calls.adds.agreed v at.sits.beside at.sits.stood was_at_rest)) in
-      record { locals = rest.locals; few = rest.few; entries = rest.entries; few_entries = rest.few_entries }
-
-  sits_again : Sits f op.actor (AtRest f (settled c1)) σ' (did.performs.steps ++ v) (owed_events f (settled c1) (did.performs.steps ++ v) + own_costs_of op.actor next + later)
+  sits_again : Sits f k (AtRest f c1) σ' (did.performs.steps ++ v) (owed_events f c1 (did.performs.steps ++ v) + own_costs_of k next + later)
   sits_again =
       let steps = did.performs.steps in
       let seat = did.performs.calls.adds.seat_is in
-      let grown = ap length (events_split op.actor steps v) ∙ length-append (events_by op.actor v steps) (events_of op.actor v) in
+      let grown = ap length (events_split k steps v) ∙ length-append (events_by k v steps) (events_of k v) in
       let room = at.sits.room in
-      let cost = own_cost op in
+      let cost = of.cost in
       let less = few in
       record {
         actor = ap (λ (s : Seat). s.actor) seat ∙ at.sits.actor;
         profile = ap (λ (s : Seat). s.profile) seat ∙ at.sits.profile;
         beside = triples σ.seat.actor steps ++ at.sits.beside;
         stood = did.performs.calls.adds.added v at.sits.beside at.sits.stood was_at_rest;
-        rest = settled_rest;
-        room = subst (λ (s : Seat). length (events_of op.actor (steps ++ v)) + (owed_events f (settled c1) (steps ++ v) + own_costs_of op.actor next + later) ≤ s.room) (sym seat) (omega (arith, grown, less, room, cost));
+        rest = subst (λ (g : Profile). AtRest g c1 (steps ++ v)) at.sits.profile (did.performs.calls.leads.from v was_at_rest (did.performs.calls.adds.agreed v at.sits.beside at.sits.stood was_at_rest));
+        room = subst (λ (s : Seat). length (events_of k (steps ++ v)) + (owed_events f c1 (steps ++ v) + own_costs_of k next + later) ≤ s.room) (sym seat) (omega (arith, grown, less, room, cost));
       }
 
-  spare_again : length (records_in out') + (owed_events f (settled c1) (did.performs.steps ++ v) + own_costs_of op.actor next + later) ≤ room_of out'
+  spare_again : length (records_in out') + (owed_events f c1 (did.performs.steps ++ v) + own_costs_of k next + later) ≤ room_of out'
   spare_again =
       let steps = did.performs.steps in
       let longer = ap (λ (rs : List Record). length rs) pushed ∙ length-append (records_in out) piece in
-      let both = length-append (records_of (events_by op.actor v steps)) (said_by op.actor did.said) in
-      let count = records_count (events_by op.actor v steps) in
+      let both = length-append (records_of (events_by k v steps)) (said_by k did.said) in
+      let count = records_count (events_by k v steps) in
       let records = at.spare in
       let same = did.room in
-      let cost = own_cost op in
+      let cost = of.cost in
       let less = few in
       omega (arith, longer, both, count, less, records, same, cost)
 
   names_again : KnowsNames f next table' answered.0
   names_again = record {
-    asked = asked_after op.what at.names.asked;
-    fit = subst (λ (n : ℕ). AreFit f n (asked_after op.what at.names.asked) next) (sym did.performs.held) at.names.fit.2;
+    asked = asked_after what at.names.asked;
+    fit = subst (λ (n : ℕ). AreFit f n (asked_after what at.names.asked) next) (sym did.performs.held) (of.left (names_held table) at.names.asked at.names.fit);
     tells = answered.1;
     turns = turns;
-    known = known_after f op.actor op.what at.names.asked p.names answered.0 v c c1 did.performs.steps did.said is_answered at.names.known;
+    known = known_after f k what at.names.asked p.names answered.0 v c c1 did.performs.steps did.said is_answered at.names.known;
   }
 
-  pub operated : {c' : Cached} → c' ≡ settled c1 → Works f op.actor (Operates op ∷ (Settles op.actor ∷ [])) next σ σ' (keeps c table out) (keeps c' table' out') later p
-  operated {c'} is = record {
-    reached = after_settling midway op.actor;
-    reaches = (midway, (the_answer, subst (λ (d : Cached). IsAnswered f op.actor op.what (having p.names v d) the_answer) (sym at.cache) is_answered, refl), (after_settling midway op.actor, refl, refl));
-    stands = subst (λ (d : Cached). ThreadAt f op.actor next σ' (keeps d table' out') later (after_settling midway op.actor)) (sym is) record {
-      sits = subst (λ (w : View). Sits f op.actor (AtRest f (settled c1)) σ' w (owed_events f (settled c1) w + own_costs_of op.actor next + later)) (sym new_part) sits_again;
-      cache = its_cache midway.caches op.actor (settled (midway.caches op.actor)) ∙ ap settled (its_cache p.caches op.actor c1);
-      spare = subst (λ (w : View). length (records_in out') + (owed_events f (settled c1) w + own_costs_of op.actor next + later) ≤ room_of out') (sym new_part) spare_again;
-      names = names_again;
-    };
-    said = piece;
-    records_are = refl;
-    pushed = pushed;
-    room = did.room;
-    held = did.performs.held;
+  -- it stands again, whatever is said besides
+  pub stands_again : (besides : List Record) → ThreadAt f k next σ' (keeps c1 table' out') later (with_records (after_answer p k the_answer) besides)
+  stands_again besides = record {
+    sits = subst (λ (w : View). Sits f k (AtRest f c1) σ' w (owed_events f c1 w + own_costs_of k next + later)) (sym (part_of_own k did.performs.steps p.list)) sits_again;
+    cache = its_cache p.caches k c1;
+    spare = subst (λ (w : View). length (records_in out') + (owed_events f c1 w + own_costs_of k next + later) ≤ room_of out') (sym (part_of_own k did.performs.steps p.list)) spare_again;
+    names = names_again;
   }
+
+-- ---- what its cache noted is handed on
+pub settled_stands : {f : Profile} {k : ℕ} {acts : List Act} {σ : Standing} {c c' : Cached} {table : Names} {out : Records} {later : ℕ} {p : Progress} (besides : List Record) → c' ≡ settled c → ThreadAt f k acts σ (keeps c table out) later (with_records p besides)
+    → ThreadAt f k acts σ (keeps c' table out) later (after_settling p k)
+settled_stands {f} {k} {acts} {σ} {c} {c'} {table} {out} {later} {p} besides is at =
+    let s = at.sits in
+    let rest = s.rest in
+    subst (λ (d : Cached). ThreadAt f k acts σ (keeps d table out) later (after_settling p k)) (sym is) record {
+      sits = record { actor = s.actor; profile = s.profile; beside = s.beside; stood = s.stood; room = s.room; rest = record { locals = rest.locals; few = rest.few; entries = rest.entries; few_entries = rest.few_entries } };
+      cache = its_cache p.caches k (settled (p.caches k)) ∙ ap settled at.cache;
+      spare = at.spare;
+      names = record { asked = at.names.asked; fit = at.names.fit; tells = at.names.tells; turns = at.names.turns; known = at.names.known };
+    }
+
+-- an operation of a plan
+pub operation : (f : Profile) (op : Op) (next : List Act) → IsOperation f op.actor op.what (Operates op ∷ (Settles op.actor ∷ next)) next
+operation f op next = record {
+  cost = let cost = own_cost op in omega (arith, cost);
+  now = λ limit asked fit. fit.1;
+  left = λ limit asked fit. fit.2;
+}
+
+pub operated : {f : Profile} {op : Op} {next : List Act} {σ σ' : Standing} {c c1 c' : Cached} {table table' : Names} {out out' : Records} {later : ℕ} {p : Progress} → Before f op next σ (keeps c table out) later p
+    → Answers op.what (works table c) (works table' c1) out out' σ σ' → HasTurns table' → c' ≡ settled c1
+    → Works f op.actor (Operates op ∷ (Settles op.actor ∷ [])) next σ σ' (keeps c table out) (keeps c' table' out') later p
+operated {f} {op} {next} {σ} {σ'} {c} {c1} {c'} {table} {table'} {out} {out'} {later} {p} at did turns is =
+    let of = operation f op next in
+    let a = the_answer of at did turns in
+    let midway = after_answer p op.actor a in
+    record {
+      reached = after_settling midway op.actor;
+      reaches = (midway, (a, answers_now of at did turns, refl), (after_settling midway op.actor, refl, refl));
+      stands = settled_stands [] is (stands_again of at did turns []);
+      said = piece of at did turns;
+      records_are = refl;
+      pushed = pushed of at did turns;
+      room = did.room;
+      held = did.performs.held;
+      each = piece_of op.actor (part op.actor p.list) did.performs.steps did.said;
+    }
 
 -- ---- one after the other
 reach_both : (f : Profile) (xs ys : List Act) (p q r : Progress) → Reaches f xs p q → Reaches f ys q r → Reaches f (xs ++ ys) p r
@@ -190,6 +221,7 @@ works_both {f} {k} {xs} {ys} {mid} {next} {σ0} {σ} {σ'} {h0} {h} {h'} {later}
   pushed = two.pushed ∙ ap (λ (rs : List Record). rs ++ two.said) one.pushed ∙ append_assoc (records_in h0.out) one.said two.said;
   room = two.room ∙ one.room;
   held = two.held ∙ one.held;
+  each = each_both k one.said two.said one.each two.each;
 }
 
 pub works_none : {f : Profile} {k : ℕ} {acts : List Act} {σ : Standing} {has : Keeps} {later : ℕ} {p : Progress} → ThreadAt f k acts σ has later p → Works f k [] acts σ σ has has later p
@@ -202,6 +234,7 @@ works_none {f} {k} {acts} {σ} {has} {later} {p} at = record {
   pushed = sym (append-nil (records_in has.out));
   room = refl;
   held = refl;
+  each = tt;
 }
 
 -- ---- which operation comes next

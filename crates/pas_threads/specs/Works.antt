@@ -16,7 +16,7 @@ use Rattle.pas_answers.specs.Calls.{Tells, HasTurns, AreKnown, owed_events}
 use Rattle.pas_answers.specs.Fit.{AreFit, own_costs_of}
 use Rattle.pas_answers.specs.Names.{names_held}
 use Rattle.pas_answers.specs.declared.names.Names.{Names}
-use Rattle.pas_threads.specs.Shares.{Reaches}
+use Rattle.pas_threads.specs.Shares.{Reaches, EachOf}
 
 -- the acts of thread k's operations among those of a phase
 abbrev pub own_acts : ℕ → List Op → List Act
@@ -67,3 +67,4 @@ pub record Works (f : Profile) (k : ℕ) (acts next : List Act) (desk desk' : St
   pub pushed : records_in has'.out ≡ records_in has.out ++ said
   pub room : room_of has'.out ≡ room_of has.out
   pub held : names_held has'.table ≡ names_held has.table
+  pub each : EachOf k said
