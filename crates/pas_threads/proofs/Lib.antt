@@ -3,3 +3,4 @@ pub mod Naming
 pub mod Sharing
 pub mod Weaving
 pub mod Working
+pub mod ByScavenger

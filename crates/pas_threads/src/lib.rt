@@ -4,5 +4,6 @@
 pub mod gate;
 pub mod laws;
 pub mod own;
+pub mod scavenging;
 
 pub use gate::{Gate, OpenGate};
