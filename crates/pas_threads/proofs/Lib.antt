@@ -4,3 +4,4 @@ pub mod Sharing
 pub mod Weaving
 pub mod Working
 pub mod ByScavenger
+pub mod Sitting

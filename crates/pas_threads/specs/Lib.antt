@@ -1,3 +1,4 @@
 pub mod Shares
 pub mod Works
 pub mod Scavenges
+pub mod Hands

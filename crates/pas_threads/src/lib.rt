@@ -5,5 +5,7 @@ pub mod gate;
 pub mod laws;
 pub mod own;
 pub mod scavenging;
+pub mod workers;
 
 pub use gate::{Gate, OpenGate};
+pub use workers::Worker;
