@@ -5,3 +5,4 @@ pub mod Weaving
 pub mod Working
 pub mod ByScavenger
 pub mod Sitting
+pub mod PhaseActs

@@ -9,7 +9,8 @@ use Rattle.pas_shared.specs.declared.region.SharedRegion.{SharedRegion}
 use Rattle.pas_shared.specs.declared.pass.SharedPass.{SharedPass}
 use Rattle.pas_answers.specs.Acts.{Act}
 use Rattle.pas_answers.specs.Answers.{Progress}
-use Rattle.pas_threads.specs.Works.{Keeps, own_acts, ThreadAt, Works}
+use Rattle.pas_threads.specs.Shares.{own_acts}
+use Rattle.pas_threads.specs.Works.{Keeps, ThreadAt, Works}
 use Rattle.pas_threads.specs.Scavenges.{StopsThread}
 use Rattle.pas_threads.specs.Hands.{standing_of_pass, kept_by, HasPass, WorkerAt, Did}
 use Rattle.pas_threads.specs.declared.workers.Worker.{Worker}

@@ -27,9 +27,9 @@ use Rattle.pas_answers.specs.Fit.{IsFitWhat, AreFit, cost_of_what, own_costs_of}
 use Rattle.pas_answers.specs.Names.{names_held}
 use Rattle.pas_answers.specs.declared.names.Names.{Names}
 use Rattle.pas_answers.proofs.KnownNames.{known_after}
-use Rattle.pas_threads.specs.Shares.{Reaches}
+use Rattle.pas_threads.specs.Shares.{own_acts, Reaches}
 use Rattle.pas_threads.proofs.Speaking.{piece_of, each_both}
-use Rattle.pas_threads.specs.Works.{own_acts, Keeps, keeps, Sits, KnowsNames, ThreadAt, Works}
+use Rattle.pas_threads.specs.Works.{Keeps, keeps, Sits, KnowsNames, ThreadAt, Works}
 
 -- what a desk says of its room, for each view that it stands for
 abbrev pub HasSpare : Standing → ℕ → Type 0

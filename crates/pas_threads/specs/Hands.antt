@@ -10,7 +10,8 @@ use Rattle.pas_shared.specs.declared.region.SharedRegion.{SharedRegion}
 use Rattle.pas_shared.specs.declared.pass.SharedPass.{SharedPass}
 use Rattle.pas_answers.specs.Acts.{Act}
 use Rattle.pas_answers.specs.Answers.{Progress}
-use Rattle.pas_threads.specs.Works.{Keeps, keeps, own_acts, ThreadAt, Works}
+use Rattle.pas_threads.specs.Shares.{own_acts}
+use Rattle.pas_threads.specs.Works.{Keeps, keeps, ThreadAt, Works}
 use Rattle.pas_threads.specs.declared.workers.Worker.{Worker}
 
 -- a pass stands for the view of its actor, and for no other, beside any list

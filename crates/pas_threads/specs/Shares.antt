@@ -1,17 +1,18 @@
 -- What each worker does in a phase, apart from the others, and how the shares of all workers make up the whole phase.
-use Rattle.std.specs.Prelude.{ℕ, ◌≡◌, ◌≢◌, ◌==◌, ◌⊎◌, Bool, false, if◌then◌else◌, List, [], ◌∷◌, ◌++◌, Option, None, Some}
+use Rattle.std.specs.Prelude.{ℕ, ◌≤◌, ◌≡◌, ◌≢◌, ◌==◌, ◌⊎◌, Bool, true, false, if◌then◌else◌, List, [], ◌∷◌, ◌++◌, Option, None, Some}
 use Rattle.pas_profile.specs.declared.profile.Profile.{Profile}
 use Rattle.pas_profile.specs.declared.name.Name.{Name}
 use Rattle.pas_profile.specs.declared.event.Outcome.{Outcome}
 use Rattle.pas_steps.specs.Lists.{Whole, part}
 use Rattle.pas_steps.specs.declared.step.Made.{Made}
-use Rattle.pas_trace.specs.EveryPlan.{is_asked, asked_after}
+use Rattle.pas_trace.specs.EveryPlan.{is_asked, asked_after, AreSound}
 use Rattle.pas_trace.specs.declared.plan.What.{What}
+use Rattle.pas_trace.specs.declared.plan.Op.{Op}
 use Rattle.pas_trace.specs.declared.plan.What.TheVariants.{Alloc, Free, Raw, Flush, Stop, Tick, Pass, Idle}
 use Rattle.pas_report.specs.declared.record.Record.{Record}
 use Rattle.pas_cache.specs.Caches.{Cached}
 use Rattle.pas_scavenger.specs.Passes.{PassSteps}
-use Rattle.pas_answers.specs.Acts.{Act, Operates, Settles, Ticks, MakesPass, ReadsEpoch, StopsIdle, MarksPhase, Wakes, MarksClose, Ends}
+use Rattle.pas_answers.specs.Acts.{Act, Operates, Settles, Ticks, MakesPass, ReadsEpoch, StopsIdle, MarksPhase, Wakes, MarksClose, Ends, is_active, idle_threads, acts_of_ops}
 use Rattle.pas_answers.specs.Answers.{Named, standing_for, Answer, having, IsAnswered, IsStopped, Progress, with_records, after_answer, after_settling, after_wake, after_reading, after_tick, after_pass, after_stop, stopped, IsIdleFor, Follows}
 use Rattle.pas_answers.specs.Fit.{AreFit}
 use Rattle.pas_answers.specs.Ways.{AreSpoken, is_of, records_by}
@@ -170,3 +171,21 @@ AreWoven = (f : Profile) (owner : Owners) (limit : ℕ) (asked : List ℕ) (acts
 -- What follows acts that were answered so follows the whole.
 abbrev pub AreJoined : Type 0
 AreJoined = (f : Profile) (acts more : List Act) (p p' : Progress) (l : Whole) (rs : List Record) → Reaches f acts p p' → Follows f more p' l rs → Follows f (acts ++ more) p l rs
+
+-- ---- the acts of a phase
+-- whose hands an actor is in, in a phase of these operations
+abbrev pub owner_in : List Op → Owners
+owner_in ops k = if is_active ops k then k else 0
+
+-- the acts of thread k's operations among those of a phase
+abbrev pub own_acts : ℕ → List Op → List Act
+own_acts k [] = []
+own_acts k (op ∷ ops) = if op.actor == k then Operates op ∷ (Settles op.actor ∷ own_acts k ops) else own_acts k ops
+
+-- In a phase of a plan of so many threads all acts are in the hands of their workers. A thread with an operation in it makes the acts of its own
+-- operations, and no other.
+abbrev pub ActsAreShared : Type 0
+ActsAreShared = (f : Profile) (threads : ℕ) (asked : List ℕ) (ops : List Op) → AreSound f asked ops
+    → AreInHand (owner_in ops) (acts_of_ops (idle_threads threads ops) ops)
+    × ((k : ℕ) → 1 ≤ k → is_active ops k ≡ true → acts_by (owner_in ops) k (acts_of_ops (idle_threads threads ops) ops) ≡ own_acts k ops)
+    × ((k : ℕ) → 1 ≤ k → is_active ops k ≡ false → acts_by (owner_in ops) k (acts_of_ops (idle_threads threads ops) ops) ≡ [])

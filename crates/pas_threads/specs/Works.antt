@@ -1,27 +1,21 @@
 -- What a thread's worker has before and after its acts of a phase, at any desk.
-use Rattle.std.specs.Prelude.{ℕ, ◌+◌, ◌≤◌, ◌≡◌, ◌==◌, if◌then◌else◌, List, [], ◌∷◌, ◌++◌, length}
+use Rattle.std.specs.Prelude.{ℕ, ◌+◌, ◌≤◌, ◌≡◌, List, [], ◌∷◌, ◌++◌, length}
 use Rattle.pas_profile.specs.declared.profile.Profile.{Profile}
 use Rattle.pas_steps.specs.Events.{events_of}
 use Rattle.pas_steps.specs.Lists.{Whole, part}
 use Rattle.pas_steps.specs.Views.{View}
 use Rattle.pas_steps.specs.Desks.{Standing}
-use Rattle.pas_trace.specs.declared.plan.Op.{Op}
 use Rattle.pas_report.specs.Rooms.{records_in, room_of}
 use Rattle.pas_report.specs.declared.record.Record.{Record}
 use Rattle.pas_report.specs.declared.records.Records.{Records}
 use Rattle.pas_cache.specs.Caches.{Cached, AtRest}
-use Rattle.pas_answers.specs.Acts.{Act, Operates, Settles}
+use Rattle.pas_answers.specs.Acts.{Act}
 use Rattle.pas_answers.specs.Answers.{Named, Progress}
 use Rattle.pas_answers.specs.Calls.{Tells, HasTurns, AreKnown, owed_events}
 use Rattle.pas_answers.specs.Fit.{AreFit, own_costs_of}
 use Rattle.pas_answers.specs.Names.{names_held}
 use Rattle.pas_answers.specs.declared.names.Names.{Names}
 use Rattle.pas_threads.specs.Shares.{Reaches, EachOf}
-
--- the acts of thread k's operations among those of a phase
-abbrev pub own_acts : ℕ → List Op → List Act
-own_acts k [] = []
-own_acts k (op ∷ ops) = if op.actor == k then Operates op ∷ (Settles op.actor ∷ own_acts k ops) else own_acts k ops
 
 -- what a thread keeps beside its desk: its cache, what names stand for to it, and its records
 pub record Keeps : Type 0 where

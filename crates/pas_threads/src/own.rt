@@ -4,7 +4,8 @@ ghost use Rattle.pas_profile.specs.declared.profile.Profile.{Profile as TheProfi
 ghost use Rattle.pas_cache.specs.Caches.{cached};
 ghost use Rattle.pas_answers.specs.Acts.{Act, Operates, Settles};
 ghost use Rattle.pas_answers.specs.Answers.{Progress};
-ghost use Rattle.pas_threads.specs.Works.{own_acts, keeps, ThreadAt, Works};
+ghost use Rattle.pas_threads.specs.Shares.{own_acts};
+ghost use Rattle.pas_threads.specs.Works.{keeps, ThreadAt, Works};
 
 use crate::gate::Gate;
 use pas_answers::answer;

@@ -4,7 +4,8 @@ use Rattle.pas_profile.specs.declared.profile.Profile.{Profile}
 use Rattle.pas_cache.specs.Caches.{cached}
 use Rattle.pas_answers.specs.Acts.{Act}
 use Rattle.pas_answers.specs.Answers.{Progress}
-use Rattle.pas_threads.specs.Works.{own_acts, keeps, ThreadAt, Works}
+use Rattle.pas_threads.specs.Shares.{own_acts}
+use Rattle.pas_threads.specs.Works.{keeps, ThreadAt, Works}
 use Rattle.pas_threads.proofs.own.work.Given as goal
 
 abbrev pub invariant-loop-op : goal.invariant-loop-op
