@@ -6,3 +6,4 @@ pub mod Working
 pub mod ByScavenger
 pub mod Sitting
 pub mod PhaseActs
+pub mod ByLent

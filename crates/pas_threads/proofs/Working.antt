@@ -207,7 +207,7 @@ operated {f} {op} {next} {σ} {σ'} {c} {c1} {c'} {table} {table'} {out} {out'} 
     }
 
 -- ---- one after the other
-reach_both : (f : Profile) (xs ys : List Act) (p q r : Progress) → Reaches f xs p q → Reaches f ys q r → Reaches f (xs ++ ys) p r
+pub reach_both : (f : Profile) (xs ys : List Act) (p q r : Progress) → Reaches f xs p q → Reaches f ys q r → Reaches f (xs ++ ys) p r
 reach_both f [] ys p q r one two = subst (λ (s : Progress). Reaches f ys s r) one two
 reach_both f (x ∷ xs) ys p q r one two = (one.0, one.1, reach_both f xs ys one.0 q r one.2 two)
 

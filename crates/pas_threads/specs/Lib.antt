@@ -2,3 +2,4 @@ pub mod Shares
 pub mod Works
 pub mod Scavenges
 pub mod Hands
+pub mod Lent

@@ -3,6 +3,7 @@
 
 pub mod gate;
 pub mod laws;
+pub mod lending;
 pub mod own;
 pub mod scavenging;
 pub mod workers;
