@@ -1,19 +1,17 @@
 -- The stops of lent threads, one after the other.
-use Rattle.std.proofs.Common.{◌≡◌, ◌≢◌, ℕ, ◌+◌, ◌<◌, ◌≤◌, ◌==◌, Bool, true, if◌then◌else◌, inl, inr, List, [], ◌∷◌, ◌++◌, length, drop, set, get_or, Some, Option, refl, ap, sym, ◌∙◌, subst, arith, length-append, append_assoc, drop_of_length-le}
-use Rattle.std.specs.Prelude.{map}
+use Rattle.std.proofs.Common.{◌≡◌, ◌≢◌, ℕ, ◌+◌, ◌<◌, ◌≤◌, Bool, if◌then◌else◌, inl, inr, List, [], ◌∷◌, ◌++◌, length, drop, set, get_or, refl, ap, sym, ◌∙◌, subst, arith, length-append, append_assoc, drop_of_length-le}
 use Rattle.std.proofs.lemmas.List.{append-nil, drop_more, length-set, get_or-set_other, get_or_default}
 use Rattle.std.proofs.lemmas.Grind.{get_or-set_at}
 use Rattle.std.proofs.lemmas.Bool.{cases_eq, eq-eqb}
 use Rattle.pas_profile.specs.declared.profile.Profile.{Profile}
-use Rattle.pas_steps.specs.Desks.{Standing}
-use Rattle.pas_report.specs.Rooms.{records_in, room_of}
+use Rattle.pas_report.specs.Rooms.{records_in}
 use Rattle.pas_report.specs.declared.record.Record.{Record}
 use Rattle.pas_report.specs.declared.records.Records.{Records}
 use Rattle.pas_shared.specs.declared.region.SharedRegion.{SharedRegion}
 use Rattle.pas_answers.specs.Acts.{Act, StopsIdle, idle_stops}
 use Rattle.pas_answers.specs.Answers.{Progress}
-use Rattle.pas_answers.specs.Ways.{is_of, records_by}
-use Rattle.pas_threads.specs.Shares.{Reaches, EachOf}
+use Rattle.pas_answers.specs.Ways.{records_by}
+use Rattle.pas_threads.specs.Shares.{EachOf}
 use Rattle.pas_threads.specs.Scavenges.{StopsThread}
 use Rattle.pas_threads.specs.Hands.{kept_by, WorkerAt, Did}
 use Rattle.pas_threads.specs.Lent.{AreDistinct, AreLent, DidWithLent}

@@ -1,6 +1,5 @@
 -- The acts of the scavenger.
-use Rattle.std.proofs.Common.{◌≡◌, ◌≢◌, ℕ, ◌+◌, ◌<◌, ◌≤◌, ◌==◌, Bool, if◌then◌else◌, inl, inr, List, [], ◌∷◌, ◌++◌, length, max, reverse, Option, Some, None, refl, ap, sym, ◌∙◌, subst, arith, length-append, append_assoc}
-use Rattle.std.specs.Prelude.{map, ◌↔◌, IsTrue, true}
+use Rattle.std.proofs.Common.{◌≡◌, ℕ, ◌+◌, ◌≤◌, Bool, if◌then◌else◌, inl, inr, List, [], ◌∷◌, ◌++◌, length, max, reverse, Option, refl, ap, sym, ◌∙◌, subst, arith, length-append}
 use Rattle.std.proofs.lemmas.List.{append-nil, length-map, length-reverse}
 use Rattle.std.proofs.lemmas.Bool.{ne_eqb}
 use Rattle.pas_profile.specs.declared.profile.Profile.{Profile}
@@ -12,7 +11,7 @@ use Rattle.pas_steps.specs.Calls.{Calls}
 use Rattle.pas_steps.specs.Clear.{HasNothing}
 use Rattle.pas_steps.specs.Events.{events_by, events_of}
 use Rattle.pas_steps.specs.Kinds.{LookEpoch}
-use Rattle.pas_steps.specs.Lists.{Whole, part}
+use Rattle.pas_steps.specs.Lists.{part}
 use Rattle.pas_steps.specs.Views.{View}
 use Rattle.pas_steps.specs.Desks.{CanCall, Standing, Seat, Makes, made, triples}
 use Rattle.pas_steps.specs.declared.step.Made.{Made}
@@ -22,7 +21,7 @@ use Rattle.pas_steps.proofs.Calls.{does_idly}
 use Rattle.pas_steps.proofs.Frames.{events_split}
 use Rattle.pas_steps.proofs.Parts.{part_of_own, part_of_others}
 use Rattle.pas_scavenger.specs.Pages.{unback_of}
-use Rattle.pas_scavenger.specs.Passes.{PassSteps, Passes, unbacks_in}
+use Rattle.pas_scavenger.specs.Passes.{PassSteps, unbacks_in}
 use Rattle.pas_scavenger.proofs.Trying.{nothing_still}
 use Rattle.pas_trace.specs.declared.plan.What.TheVariants.{Stop}
 use Rattle.pas_report.specs.Rooms.{records_in, room_of}
@@ -32,12 +31,11 @@ use Rattle.pas_report.specs.declared.records.Records.{Records}
 use Rattle.pas_cache.specs.Caches.{Cached, AtRest}
 use Rattle.pas_passes.specs.Answers.{AnswersTick, AnswersPass}
 use Rattle.pas_passes.specs.Records.{record_of, records_of_pass}
-use Rattle.pas_answers.specs.Acts.{Act, Ticks, MakesPass, ReadsEpoch, StopsIdle}
-use Rattle.pas_answers.specs.Answers.{Progress, Answer, Named, with_cache, after_tick, after_pass, after_reading, after_stop, stopped, epoch_look, IsIdleFor, records_of, said_by}
+use Rattle.pas_answers.specs.Acts.{Act, Ticks, MakesPass, ReadsEpoch}
+use Rattle.pas_answers.specs.Answers.{Progress, Named, after_tick, after_pass, after_reading, after_stop, stopped, epoch_look, records_of, said_by}
 use Rattle.pas_answers.specs.Calls.{works, Answers, HasTurns, MayAnswer, owed_events}
 use Rattle.pas_answers.specs.Fit.{costs_of, own_costs_of}
 use Rattle.pas_answers.specs.declared.names.Names.{Names}
-use Rattle.pas_threads.specs.Shares.{EachOf}
 use Rattle.pas_threads.specs.Works.{Keeps, keeps, Sits, KnowsNames, ThreadAt}
 use Rattle.pas_threads.specs.Scavenges.{ScavengerAt, Scavenges, StopsThread}
 use Rattle.pas_threads.proofs.Speaking.{events_of_piece, pass_of}
@@ -72,7 +70,7 @@ has_ticked {f} {next} {σ} {σ'} {places} {out} {out'} {later} {p} epoch at tick
     let q = after_tick p epoch ticks.answer in
     let calls = subst (λ (ms : List Made). Calls σ σ' HasNothing (λ v w. HasNothing w) ms) ticks.steps_are ticks.calls in
     let added : records_in out' ≡ records_in out ++ said = ticks.added ∙ ap (λ (k : ℕ). records_in out ++ Record.Said k (Said.Tick ticks.epoch) ∷ []) at.sits.actor
-        ∙ ap (λ (e : ℕ). records_in out ++ Record.Said 0 (Said.Tick e) ∷ []) (ticks.raised 0) in
+    ∙ ap (λ (e : ℕ). records_in out ++ Record.Said 0 (Said.Tick e) ∷ []) (ticks.raised 0) in
     let longer = ap (λ (rs : List Record). length rs) added ∙ length-append (records_in out) said in
     let spare = at.spare in
     record {
@@ -153,24 +151,26 @@ pub has_read : {f : Profile} {next : List Act} {σ σ' : Standing} {places : ℕ
     → (did : Scavenges f ReadsEpoch next σ σ' places places out out later p) × (did.reached.epoch ≡ epoch)
 has_read {f} {next} {σ} {σ'} {places} {out} {later} {p} epoch at makes =
     let q = after_reading p epoch in
-    let spare = at.spare in
-    (record {
-      reached = q;
-      reaches = (q, (epoch, refl), refl);
-      stands = record {
-        sits = subst (λ (w : View). Sits f 0 HasNothing σ' w (costs_of f next + later)) (sym (part_of_own 0 (epoch_look epoch) p.list)) (sits_on at.sits (reads epoch makes) (omega arith));
-        has_places = at.has_places;
-        spare = omega (arith, spare);
-      };
-      said = [];
-      records_are = sym (append-nil p.records);
-      pushed = sym (append-nil (records_in out));
-      room = refl;
-      each = tt;
-      parts = λ k other. part_of_others k 0 (epoch_look epoch) p.list other;
-      caches = refl;
-      names = refl;
-    }, refl)
+    let spare = at.spare in (
+      record {
+        reached = q;
+        reaches = (q, (epoch, refl), refl);
+        stands = record {
+          sits = subst (λ (w : View). Sits f 0 HasNothing σ' w (costs_of f next + later)) (sym (part_of_own 0 (epoch_look epoch) p.list)) (sits_on at.sits (reads epoch makes) (omega arith));
+          has_places = at.has_places;
+          spare = omega (arith, spare);
+        };
+        said = [];
+        records_are = sym (append-nil p.records);
+        pushed = sym (append-nil (records_in out));
+        room = refl;
+        each = tt;
+        parts = λ k other. part_of_others k 0 (epoch_look epoch) p.list other;
+        caches = refl;
+        names = refl;
+      },
+      refl,
+    )
 
 -- ---- a thread that is idle
 -- a thread stands at each progress of which it has the same in hand

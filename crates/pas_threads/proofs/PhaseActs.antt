@@ -1,15 +1,14 @@
 -- The acts of a phase are shared among its workers.
-use Rattle.std.proofs.Common.{◌≡◌, ◌≢◌, ℕ, suc, ◌+◌, ◌≤◌, ◌==◌, ◌||◌, ◌⊎◌, not, Bool, true, false, if◌then◌else◌, inl, inr, List, [], ◌∷◌, ◌++◌, refl, ap, sym, ◌∙◌, subst, arith}
-use Rattle.std.specs.Prelude.{map}
-use Rattle.std.specs.List.{filter, flat_map}
-use Rattle.std.proofs.lemmas.Bool.{eq-eqb, ne_eqb, eqb-true, true≢false, false≢true, cases_eq}
+use Rattle.std.proofs.Common.{◌≡◌, ◌≢◌, ℕ, ◌≤◌, ◌==◌, ◌||◌, not, Bool, true, false, if◌then◌else◌, inl, inr, List, [], ◌∷◌, ◌++◌, refl, ap, sym, ◌∙◌, subst, arith}
+use Rattle.std.specs.List.{filter}
+use Rattle.std.proofs.lemmas.Bool.{eq-eqb, ne_eqb, true≢false, false≢true, cases_eq}
 use Rattle.pas_profile.specs.declared.profile.Profile.{Profile}
-use Rattle.pas_trace.specs.EveryPlan.{AreSound, IsActorOf, IsSoundWhat, asked_after}
+use Rattle.pas_trace.specs.EveryPlan.{AreSound, IsActorOf, asked_after}
 use Rattle.pas_trace.specs.declared.plan.What.{What}
 use Rattle.pas_trace.specs.declared.plan.What.TheVariants.{Alloc, Free, Raw, Flush, Stop, Tick, Pass, Idle}
 use Rattle.pas_trace.specs.declared.plan.Op.{Op}
 use Rattle.pas_answers.specs.Acts.{Act, Operates, Settles, Ticks, MakesPass, ReadsEpoch, StopsIdle, is_active, numbers_from, idle_threads, idle_stops, acts_of_what, acts_of_op, acts_of_ops}
-use Rattle.pas_threads.specs.Shares.{own_acts, Owners, actor_of_act, IsInHand, AreInHand, acts_by, owner_in, ActsAreShared}
+use Rattle.pas_threads.specs.Shares.{own_acts, Owners, actor_of_act, AreInHand, acts_by, owner_in, ActsAreShared}
 
 -- ---- who owns whom
 -- each operation's actor is its own worker
@@ -154,8 +153,7 @@ are_idle ops (k ∷ ks) = idle_one ops k (is_active ops k) (filter (λ k. not (i
 pub acts_are_shared : ActsAreShared
 acts_are_shared f threads asked ops sound =
     let own = all_own ops ops (λ k is. is) in
-    let zero = zero_own (is_active ops 0) in
-    (
+    let zero = zero_own (is_active ops 0) in (
       hands_all (owner_in ops) (idle_threads threads ops) ops (are_idle ops (numbers_from 1 threads)),
       λ k some active. of_all f (owner_in ops) k (idle_threads threads ops) asked ops some zero own sound,
       λ k some idle. of_all f (owner_in ops) k (idle_threads threads ops) asked ops some zero own sound ∙ none_own k ops idle,

@@ -1,5 +1,5 @@
 -- What a piece does to the share of its own worker, and to those of the others.
-use Rattle.std.proofs.Common.{◌≡◌, ◌≢◌, ℕ, ◌==◌, Bool, if◌then◌else◌, inl, inr, List, [], ◌∷◌, ◌++◌, refl, ap, sym, ◌∙◌, subst}
+use Rattle.std.proofs.Common.{◌≡◌, ◌≢◌, ℕ, ◌==◌, Bool, if◌then◌else◌, inl, inr, List, [], ◌++◌, refl, ap, sym, ◌∙◌, subst}
 use Rattle.std.proofs.lemmas.List.{append-nil}
 use Rattle.std.proofs.lemmas.Bool.{ne_eqb, cases_eq}
 use Rattle.pas_steps.specs.Lists.{Whole, part}
@@ -8,7 +8,7 @@ use Rattle.pas_steps.specs.declared.step.Made.{Made}
 use Rattle.pas_steps.proofs.Parts.{part_of_own, part_of_others}
 use Rattle.pas_report.specs.declared.record.Record.{Record}
 use Rattle.pas_cache.specs.Caches.{Cached}
-use Rattle.pas_answers.specs.Answers.{Named, Caches, with_cache, Progress, with_records, with_steps, with_scavenged}
+use Rattle.pas_answers.specs.Answers.{Named, with_cache, Progress, with_records, with_steps, with_scavenged}
 use Rattle.pas_answers.specs.Ways.{records_by}
 use Rattle.pas_threads.specs.Shares.{Owners, AreAmong, IsShareOf, EachOf}
 use Rattle.pas_threads.proofs.Speaking.{records_both, none_by}

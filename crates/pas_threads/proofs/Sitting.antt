@@ -3,7 +3,6 @@ use Rattle.std.proofs.Common.{◌≡◌, ℕ, List, [], Option, Some, None, refl
 use Rattle.pas_profile.specs.declared.profile.Profile.{Profile}
 use Rattle.pas_steps.specs.Desks.{Standing}
 use Rattle.pas_trace.specs.declared.plan.Op.{Op}
-use Rattle.pas_report.specs.declared.records.Records.{Records}
 use Rattle.pas_shared.specs.Passes.{seat_of, IsPassOf}
 use Rattle.pas_shared.specs.declared.region.SharedRegion.{SharedRegion}
 use Rattle.pas_shared.specs.declared.pass.SharedPass.{SharedPass}
@@ -11,12 +10,11 @@ use Rattle.pas_answers.specs.Acts.{Act}
 use Rattle.pas_answers.specs.Answers.{Progress}
 use Rattle.pas_threads.specs.Shares.{own_acts}
 use Rattle.pas_threads.specs.Works.{Keeps, ThreadAt, Works}
-use Rattle.pas_threads.specs.Scavenges.{StopsThread}
 use Rattle.pas_threads.specs.Hands.{standing_of_pass, kept_by, HasPass, WorkerAt, Did}
 use Rattle.pas_threads.specs.declared.workers.Worker.{Worker}
 
 some_is : {a b : SharedPass} → Some a ≡ Some b → a ≡ b
-some_is {a} {b} is = ap (λ (o : Option SharedPass). elim o [ | None ↦ a | Some x ↦ x ]) is
+some_is {a} {b} is = ap (λ (o : Option SharedPass). elim o [ None ↦ a | Some x ↦ x ]) is
 
 -- its pass is the one that it sits with
 pub seated : {region : SharedRegion} {f : Profile} {k : ℕ} {acts : List Act} {worker : Worker} {later : ℕ} {p : Progress} (pass : SharedPass) → worker.pass ≡ Some pass → WorkerAt region f k acts worker later p

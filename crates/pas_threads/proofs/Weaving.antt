@@ -1,5 +1,5 @@
 -- What workers did, each for itself, is put into the order of the acts.
-use Rattle.std.proofs.Common.{◌≡◌, ◌≢◌, ℕ, ◌+◌, ◌==◌, ◌≤◌, ◌⊎◌, Bool, true, false, if◌then◌else◌, inl, inr, List, [], ◌∷◌, ◌++◌, append_assoc, max, refl, ap, sym, ◌∙◌, subst}
+use Rattle.std.proofs.Common.{◌≡◌, ◌≢◌, ℕ, ◌+◌, ◌==◌, ◌≤◌, Bool, if◌then◌else◌, inl, inr, List, [], ◌∷◌, ◌++◌, append_assoc, max, refl, ap, sym, ◌∙◌, subst}
 use Rattle.std.proofs.lemmas.List.{append-nil}
 use Rattle.std.proofs.lemmas.Bool.{eq-eqb, ne_eqb, cases_eq}
 use Rattle.pas_profile.specs.declared.profile.Profile.{Profile}
@@ -9,19 +9,18 @@ use Rattle.pas_steps.specs.Lists.{Whole, part}
 use Rattle.pas_steps.specs.Desks.{made}
 use Rattle.pas_steps.specs.declared.step.Made.{Made}
 use Rattle.pas_steps.specs.declared.step.Step.TheVariants as Step
-use Rattle.pas_trace.specs.EveryPlan.{asked_after}
 use Rattle.pas_trace.specs.declared.plan.Op.{Op}
 use Rattle.pas_report.specs.declared.record.Record.{Record}
 use Rattle.pas_report.specs.declared.record.Said.{Said}
 use Rattle.pas_cache.specs.Caches.{Cached}
 use Rattle.pas_passes.specs.Records.{records_of_pass}
 use Rattle.pas_answers.specs.Acts.{Act, Operates, Settles, Ticks, MakesPass, ReadsEpoch, StopsIdle, MarksPhase, Wakes, MarksClose, Ends}
-use Rattle.pas_answers.specs.Answers.{Named, having, answer_of, Answer, standing_for, IsAnswered, IsStopped, Progress, with_records, with_steps, with_scavenged, after_answer, after_settling, after_wake, after_reading, after_tick, after_pass, after_stop, stopped, epoch_look, begun, settled, IsIdleFor, records_of, said_by, Follows}
+use Rattle.pas_answers.specs.Answers.{having, answer_of, standing_for, IsAnswered, IsStopped, Progress, with_records, with_steps, after_answer, after_settling, after_wake, after_reading, after_tick, after_pass, after_stop, stopped, epoch_look, begun, settled, IsIdleFor, records_of, said_by, Follows}
 use Rattle.pas_answers.specs.Fit.{AreFit, IsFitWhat}
-use Rattle.pas_answers.specs.Ways.{AreSpoken, records_by}
-use Rattle.pas_threads.specs.Shares.{Advances, Reaches, Owners, actor_of_act, IsInHand, AreInHand, acts_by, AreAmong, OnlyAsked, Asks, NoneAsks, asked_after_act, asked_after_acts, IsShareOf, EachOf, IsWoven}
-use Rattle.pas_threads.proofs.Speaking.{each_both, events_of_piece, piece_of, pass_of, spoken_piece, spoken_both}
-use Rattle.pas_threads.proofs.Naming.{Retold, retold}
+use Rattle.pas_answers.specs.Ways.{AreSpoken}
+use Rattle.pas_threads.specs.Shares.{Advances, Reaches, Owners, actor_of_act, IsInHand, AreInHand, acts_by, OnlyAsked, Asks, asked_after_act, IsShareOf, EachOf, IsWoven}
+use Rattle.pas_threads.proofs.Speaking.{events_of_piece, piece_of, pass_of, spoken_piece, spoken_both}
+use Rattle.pas_threads.proofs.Naming.{retold}
 use Rattle.pas_threads.proofs.Sharing.{share_steps, share_scavenged, share_cache, share_records, share_names, share_epoch, beside_steps, beside_scavenged, beside_cache, beside_records, beside_names, beside_epoch, elsewhere, elsewhere_both}
 
 -- ---- acts that were answered are followed by others
@@ -222,16 +221,16 @@ idle_one f owner asked k n p before after mine only share did =
             same_names = λ n none. refl;
           }
       | inr not_so ↦ record {
-          next = p;
-          advances = inr (λ idle. not_so.0 (subst (λ (A : Type 0). A) (sym same) idle), refl);
-          share = subst (λ (q : Progress). IsShareOf owner (owner 0) q p) (sym not_so.1) share;
-          beside = λ x o other theirs. theirs;
-          said = [];
-          records_are = sym (append-nil p.records);
-          spoken = tt;
-          only_asked = only;
-          same_names = λ n none. refl;
-        }
+        next = p;
+        advances = inr (λ idle. not_so.0 (subst (λ (A : Type 0). A) (sym same) idle), refl);
+        share = subst (λ (q : Progress). IsShareOf owner (owner 0) q p) (sym not_so.1) share;
+        beside = λ x o other theirs. theirs;
+        said = [];
+        records_are = sym (append-nil p.records);
+        spoken = tt;
+        only_asked = only;
+        same_names = λ n none. refl;
+      }
     ]
 
 -- ---- any act

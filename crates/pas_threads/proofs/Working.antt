@@ -1,5 +1,5 @@
 -- The operations of one thread, one after the other.
-use Rattle.std.proofs.Common.{◌≡◌, ℕ, ◌+◌, ◌<◌, ◌≤◌, ◌==◌, Bool, true, false, if◌then◌else◌, List, [], ◌∷◌, ◌++◌, length, reverse, drop, get_or, Option, Some, None, refl, ap, sym, ◌∙◌, subst, arith, length-append, append_assoc, drop_of_length-le}
+use Rattle.std.proofs.Common.{◌≡◌, ℕ, ◌+◌, ◌<◌, ◌≤◌, ◌==◌, Bool, true, false, if◌then◌else◌, List, [], ◌∷◌, ◌++◌, length, reverse, drop, get_or, refl, ap, sym, ◌∙◌, subst, arith, length-append, append_assoc, drop_of_length-le}
 use Rattle.std.proofs.lemmas.List.{append-nil, length-map, length-reverse, drop_more}
 use Rattle.std.proofs.lemmas.Bool.{eq-eqb, ne_eqb}
 use Rattle.pas_profile.specs.declared.profile.Profile.{Profile}
@@ -8,16 +8,14 @@ use Rattle.pas_steps.specs.Events.{events_of, events_by}
 use Rattle.pas_steps.specs.Lists.{Whole, part}
 use Rattle.pas_steps.specs.Views.{View}
 use Rattle.pas_steps.specs.Desks.{Seat, Standing, CanCall, triples}
-use Rattle.pas_steps.specs.declared.step.Made.{Made}
 use Rattle.pas_steps.proofs.Frames.{events_split}
 use Rattle.pas_steps.proofs.Parts.{part_of_own}
 use Rattle.pas_trace.specs.EveryPlan.{asked_after}
 use Rattle.pas_trace.specs.declared.plan.Op.{Op}
 use Rattle.pas_trace.specs.declared.plan.What.{What}
-use Rattle.pas_trace.specs.declared.plan.What.TheVariants.{Alloc, Free, Raw, Flush, Stop}
+use Rattle.pas_trace.specs.declared.plan.What.TheVariants.{Free}
 use Rattle.pas_report.specs.Rooms.{records_in, room_of}
 use Rattle.pas_report.specs.declared.record.Record.{Record}
-use Rattle.pas_report.specs.declared.record.Said.{Said}
 use Rattle.pas_report.specs.declared.records.Records.{Records}
 use Rattle.pas_cache.specs.Caches.{Cached, AtRest}
 use Rattle.pas_answers.specs.Acts.{Act, Operates, Settles}

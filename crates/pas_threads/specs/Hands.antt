@@ -1,9 +1,8 @@
 -- What a worker of the shared region has in hand while it doesn't sit at the region, before and after its acts of a phase.
-use Rattle.std.specs.Prelude.{ℕ, ◌<◌, ◌≡◌, List, [], ◌∷◌, length, Option, Some, get_or}
+use Rattle.std.specs.Prelude.{ℕ, ◌≡◌, List, [], Option, Some}
 use Rattle.pas_profile.specs.declared.profile.Profile.{Profile}
 use Rattle.pas_steps.specs.Desks.{Standing}
 use Rattle.pas_trace.specs.declared.plan.Op.{Op}
-use Rattle.pas_report.specs.declared.records.Records.{Records}
 use Rattle.pas_cache.specs.Caches.{cached}
 use Rattle.pas_shared.specs.Passes.{seat_of, view_of, IsPassOf}
 use Rattle.pas_shared.specs.declared.region.SharedRegion.{SharedRegion}

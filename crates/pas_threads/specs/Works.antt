@@ -1,5 +1,5 @@
 -- What a thread's worker has before and after its acts of a phase, at any desk.
-use Rattle.std.specs.Prelude.{ℕ, ◌+◌, ◌≤◌, ◌≡◌, List, [], ◌∷◌, ◌++◌, length}
+use Rattle.std.specs.Prelude.{ℕ, ◌+◌, ◌≤◌, ◌≡◌, List, ◌++◌, length}
 use Rattle.pas_profile.specs.declared.profile.Profile.{Profile}
 use Rattle.pas_steps.specs.Events.{events_of}
 use Rattle.pas_steps.specs.Lists.{Whole, part}

@@ -1,4 +1,4 @@
-use Rattle.std.proofs.Common.{◌≡◌, ◌∙◌, ◌+◌, ◌<◌, ◌≤◌, ℕ, List, [], length, get_or, refl, sym, ap, subst, arith, length-append}
+use Rattle.std.proofs.Common.{◌∙◌, ◌<◌, List, [], length, get_or, refl, ap, arith, length-append}
 use Rattle.pas_report.specs.Rooms.{records_in}
 use Rattle.pas_report.specs.declared.record.Record.{Record}
 use Rattle.pas_answers.specs.Ways.{records_by}
@@ -36,7 +36,7 @@ loop-index-preserved c = record {
       let lt : c.loop-index.index < length c.loop-index.lent = omega (arith, size, test) in
       let at = so.2.lent.each c.loop-index.index c.index-lent-index.result lt in
       goes_on c.args.epochs c.loop-index.index c.index-lent-index.result c.stop_lent.new.worker distinct so lt size
-          (c.stop_lent.ensures.stops f (get_or idle c.loop-index.index 0) (later c.loop-index.index) so.2.reached at (so.2.epoch ∙ read));
+      (c.stop_lent.ensures.stops f (get_or idle c.loop-index.index 0) (later c.loop-index.index) so.2.reached at (so.2.epoch ∙ read));
 }
 
 pub returns-clause-stops : goal.returns-clause-stops

@@ -1,6 +1,5 @@
-use Rattle.std.proofs.Common.{◌∙◌, ◌+◌, ◌≤◌, ap, sym, subst, arith, ℕ, length}
+use Rattle.std.proofs.Common.{◌∙◌, ap, sym, arith}
 use Rattle.pas_profile.specs.declared.profile.Profile.{Profile}
-use Rattle.pas_report.specs.Rooms.{records_in}
 use Rattle.pas_threads.proofs.ByScavenger.{can_scavenge, pass_room, has_passed}
 use Rattle.pas_threads.proofs.scavenging.pass.Goals as goal
 

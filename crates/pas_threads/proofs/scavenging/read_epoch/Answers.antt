@@ -1,4 +1,4 @@
-use Rattle.pas_threads.proofs.ByScavenger.{can_scavenge, has_read}
+use Rattle.pas_threads.proofs.ByScavenger.{has_read}
 use Rattle.pas_threads.proofs.scavenging.read_epoch.Goals as goal
 
 pub look-requires-clause-can : goal.look-requires-clause-can

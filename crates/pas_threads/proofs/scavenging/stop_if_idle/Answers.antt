@@ -1,10 +1,10 @@
-use Rattle.std.proofs.Common.{◌≡◌, ◌∙◌, ◌++◌, ◌∷◌, [], ℕ, refl, ap, sym}
+use Rattle.std.proofs.Common.{◌∙◌, ◌++◌, ◌∷◌, [], ℕ, refl, ap}
 use Rattle.std.proofs.lemmas.Bool.{false≢true}
 use Rattle.pas_steps.specs.Desks.{Seat}
 use Rattle.pas_report.specs.Rooms.{records_in}
 use Rattle.pas_report.specs.declared.record.Record.{Record}
 use Rattle.pas_report.specs.declared.record.Said.{Said}
-use Rattle.pas_threads.proofs.ByScavenger.{stop, may_stop, has_stopped, has_stayed}
+use Rattle.pas_threads.proofs.ByScavenger.{may_stop, has_stopped, has_stayed}
 use Rattle.pas_threads.proofs.scavenging.stop_if_idle.Goals as goal
 
 pub answer-requires-clause-fit : goal.answer-requires-clause-fit
