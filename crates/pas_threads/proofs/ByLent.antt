@@ -36,7 +36,7 @@ by_other : (j k : ℕ) (mine told : List Record) → EachOf k mine → EachOf 0 
 by_other j k mine told one two ne zero = records_both j mine told ∙ ap (λ (xs : List Record). xs ++ records_by j told) (none_by j k mine one ne) ∙ none_by j 0 told two zero
 
 -- what came to the end of records, and then more
-more_by : (k : ℕ) (before after new said more mine : List Record) → after ≡ before ++ records_by k said → new ≡ after ++ mine → records_by k more ≡ mine → new ≡ before ++ records_by k (said ++ more)
+pub more_by : (k : ℕ) (before after new said more mine : List Record) → after ≡ before ++ records_by k said → new ≡ after ++ mine → records_by k more ≡ mine → new ≡ before ++ records_by k (said ++ more)
 more_by k before after new said more mine one two is =
     two ∙ ap (λ (rs : List Record). rs ++ mine) one ∙ append_assoc before (records_by k said) mine
     ∙ ap (λ (rs : List Record). before ++ rs) (sym (records_both k said more ∙ ap (λ (rs : List Record). records_by k said ++ rs) is))

@@ -7,3 +7,4 @@ pub mod ByScavenger
 pub mod Sitting
 pub mod PhaseActs
 pub mod ByLent
+pub mod ByCrew

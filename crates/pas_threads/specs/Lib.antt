@@ -3,3 +3,4 @@ pub mod Works
 pub mod Scavenges
 pub mod Hands
 pub mod Lent
+pub mod Crews

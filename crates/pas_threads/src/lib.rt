@@ -1,6 +1,7 @@
 //! The replay of a plan on threads, over a region that they share.
 #![tactic(auto)]
 
+pub mod crew;
 pub mod gate;
 pub mod laws;
 pub mod lending;

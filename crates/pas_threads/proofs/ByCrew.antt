@@ -1,0 +1,103 @@
+-- The acts of the scavenger's worker.
+use Rattle.std.proofs.Common.{◌≡◌, ◌≢◌, ℕ, ◌+◌, ◌<◌, ◌≤◌, List, [], ◌∷◌, ◌++◌, length, get_or, refl, ap, sym, ◌∙◌, subst, arith, length-append, append_assoc}
+use Rattle.std.proofs.lemmas.List.{append-nil}
+use Rattle.pas_profile.specs.declared.profile.Profile.{Profile}
+use Rattle.pas_steps.specs.Clear.{HasNothing}
+use Rattle.pas_steps.specs.Desks.{Standing}
+use Rattle.pas_steps.specs.Lists.{part}
+use Rattle.pas_steps.specs.Views.{View}
+use Rattle.pas_report.specs.Rooms.{records_in, room_of}
+use Rattle.pas_report.specs.declared.record.Record.{Record}
+use Rattle.pas_report.specs.declared.records.Records.{Records}
+use Rattle.pas_shared.specs.declared.region.SharedRegion.{SharedRegion}
+use Rattle.pas_answers.specs.Acts.{Act, ReadsEpoch, idle_stops}
+use Rattle.pas_answers.specs.Answers.{Progress, Caches}
+use Rattle.pas_answers.specs.Fit.{costs_of}
+use Rattle.pas_answers.specs.Ways.{records_by}
+use Rattle.pas_threads.specs.Works.{Sits}
+use Rattle.pas_threads.specs.Scavenges.{ScavengerAt, Scavenges}
+use Rattle.pas_threads.specs.Lent.{AreDistinct, AreLent, DidWithLent}
+use Rattle.pas_threads.specs.Crews.{Crew, crew, CrewAt, CrewDid}
+use Rattle.pas_threads.specs.declared.workers.Worker.{Worker}
+use Rattle.pas_threads.proofs.Speaking.{none_by, records_both}
+use Rattle.pas_threads.proofs.Working.{reach_both}
+use Rattle.pas_threads.proofs.ByScavenger.{same_stands}
+use Rattle.pas_threads.proofs.ByLent.{all_by, more_by}
+
+-- ---- the scavenger's own act leaves the lent threads where they are
+pub still_lent : {region : SharedRegion} {f : Profile} {idle : List ℕ} {act : Act} {next : List Act} {σ σ' : Standing} {places places' : ℕ} {out out' : Records} {later : ℕ} {lends : ℕ → ℕ} {lent : List Worker} {p : Progress} → AreDistinct idle
+    → (did : Scavenges f act next σ σ' places places' out out' later p) → AreLent region f idle lends lent p → AreLent region f idle lends lent did.reached
+still_lent {region} {f} {idle} {lends = lends} {lent} {p} distinct did at = record {
+  many = at.many;
+  each = λ i d lt.
+      let was = at.each i d lt in
+      let many = at.many in
+      let k = get_or idle i 0 in
+      record { has = was.has; stands = same_stands (did.parts k (distinct.threads i (omega (arith, lt, many)))) (ap (λ (cs : Caches). cs k) did.caches) did.names was.stands };
+}
+
+pub did_alone : {region : SharedRegion} {f : Profile} {idle : List ℕ} {act : Act} {next : List Act} {σ σ' : Standing} {places places' : ℕ} {out out' : Records} {later : ℕ} {lends : ℕ → ℕ} {lent : List Worker} {p : Progress} → AreDistinct idle
+    → Scavenges f act next σ σ' places places' out out' later p → AreLent region f idle lends lent p → CrewDid region f idle (act ∷ []) next σ σ' (crew lent places out) (crew lent places' out') later lends p
+did_alone {region} {f} {idle} {act} {next} {σ} {σ'} {places} {places'} {out} {out'} {later} {lends} {lent} {p} distinct did at = record {
+  reached = did.reached;
+  reaches = did.reaches;
+  stands = record { stands = did.stands; lent = still_lent distinct did at };
+  said = did.said;
+  records_are = did.records_are;
+  told = did.pushed ∙ ap (λ (rs : List Record). records_in out ++ rs) (sym (all_by 0 did.said did.each));
+  flushed = λ i d lt.
+      let many = at.many in
+      let none = none_by (get_or idle i 0) 0 did.said did.each (distinct.threads i (omega (arith, lt, many))) in
+      sym (append-nil (records_in (get_or lent i d).out)) ∙ ap (λ (rs : List Record). records_in (get_or lent i d).out ++ rs) (sym none);
+  room = did.room;
+}
+
+-- ---- an idle operation
+pub costs_stops : (f : Profile) (n : ℕ) (idle : List ℕ) (next : List Act) → costs_of f (idle_stops n idle ++ next) ≡ length idle + costs_of f next
+costs_stops f n [] next = omega arith
+costs_stops f n (k ∷ idle) next = let rest = costs_stops f n idle next in omega (arith, rest)
+
+sits_less : {f : Profile} {σ : Standing} {v : View} {need need' : ℕ} → need' ≤ need → Sits f 0 HasNothing σ v need → Sits f 0 HasNothing σ v need'
+sits_less le s = let room = s.room in record { actor = s.actor; profile = s.profile; beside = s.beside; stood = s.stood; rest = s.rest; room = omega (arith, room, le) }
+
+pub did_idle : {region : SharedRegion} {f : Profile} {idle : List ℕ} {next : List Act} {σ σ' : Standing} {places : ℕ} {out out' : Records} {later : ℕ} {lends : ℕ → ℕ} {old new : List Worker} {p : Progress} (n : ℕ) → AreDistinct idle
+    → (read : Scavenges f ReadsEpoch (idle_stops n idle ++ next) σ σ' places places out out later p) → AreLent region f idle lends old p → DidWithLent region f (idle_stops n idle) idle lends old new out out' (length old) read.reached
+    → CrewDid region f idle (ReadsEpoch ∷ idle_stops n idle) next σ σ' (crew old places out) (crew new places out') later lends p
+did_idle {region} {f} {idle} {next} {σ} {σ'} {places} {out} {out'} {later} {lends} {old} {new} {p} n distinct read at stops =
+    let q = stops.reached in
+    let costs = costs_stops f n idle next in
+    let many = at.many in
+    let few = stops.few in
+    let spare = read.stands.spare in
+    let longer = ap (λ (rs : List Record). length rs) stops.told ∙ length-append (records_in out) (records_by 0 stops.said) in
+    let room = stops.room in
+    record {
+      reached = q;
+      reaches = reach_both f (ReadsEpoch ∷ []) (idle_stops n idle) p read.reached q read.reaches stops.reaches;
+      stands = record {
+        stands = record {
+          sits = subst (λ (v : View). Sits f 0 HasNothing σ' v (costs_of f next + later)) (sym stops.scavenger) (sits_less (omega (arith, costs)) read.stands.sits);
+          has_places = read.stands.has_places;
+          spare = omega (arith, longer, few, spare, costs, many, room);
+        };
+        lent = stops.lent;
+      };
+      said = read.said ++ stops.said;
+      records_are = stops.records_are ∙ ap (λ (rs : List Record). rs ++ stops.said) read.records_are ∙ append_assoc p.records read.said stops.said;
+      told = more_by 0 (records_in out) (records_in out) (records_in out') read.said stops.said (records_by 0 stops.said) (read.pushed ∙ ap (λ (rs : List Record). records_in out ++ rs) (sym (all_by 0 read.said read.each))) stops.told refl;
+      flushed = λ i d lt.
+          let k = get_or idle i 0 in
+          let none = none_by k 0 read.said read.each (distinct.threads i (omega (arith, lt, many))) in
+          let was = records_in (get_or old i d).out in
+          more_by k was was (records_in (get_or new i d).out) read.said stops.said (records_by k stops.said) (sym (append-nil was) ∙ ap (λ (rs : List Record). was ++ rs) (sym none)) (stops.flushed i d lt) refl;
+      room = stops.room;
+    }
+
+-- ---- the acts written otherwise
+pub as_acts : {region : SharedRegion} {f : Profile} {idle : List ℕ} {acts acts' : List Act} {σ : Standing} {has : Crew} {later : ℕ} {lends : ℕ → ℕ} {p : Progress} (next : List Act) → acts ≡ acts'
+    → CrewAt region f idle (acts ++ next) σ has later lends p → CrewAt region f idle (acts' ++ next) σ has later lends p
+as_acts {region} {f} {idle} {acts} {acts'} {σ} {has} {later} {lends} {p} next is at = subst (λ (xs : List Act). CrewAt region f idle (xs ++ next) σ has later lends p) is at
+
+pub to_acts : {region : SharedRegion} {f : Profile} {idle : List ℕ} {acts acts' next : List Act} {σ σ' : Standing} {has has' : Crew} {later : ℕ} {lends : ℕ → ℕ} {p : Progress} → acts ≡ acts'
+    → CrewDid region f idle acts' next σ σ' has has' later lends p → CrewDid region f idle acts next σ σ' has has' later lends p
+to_acts {region} {f} {idle} {acts} {acts'} {next} {σ} {σ'} {has} {has'} {later} {lends} {p} is did = subst (λ (xs : List Act). CrewDid region f idle xs next σ σ' has has' later lends p) (sym is) did
