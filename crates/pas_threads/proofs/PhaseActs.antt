@@ -8,7 +8,7 @@ use Rattle.pas_trace.specs.declared.plan.What.{What}
 use Rattle.pas_trace.specs.declared.plan.What.TheVariants.{Alloc, Free, Raw, Flush, Stop, Tick, Pass, Idle}
 use Rattle.pas_trace.specs.declared.plan.Op.{Op}
 use Rattle.pas_answers.specs.Acts.{Act, Operates, Settles, Ticks, MakesPass, ReadsEpoch, StopsIdle, is_active, numbers_from, idle_threads, idle_stops, acts_of_what, acts_of_op, acts_of_ops}
-use Rattle.pas_threads.specs.Shares.{own_acts, Owners, actor_of_act, AreInHand, acts_by, owner_in, ActsAreShared}
+use Rattle.pas_threads.specs.Shares.{own_acts, scavenger_acts, Owners, actor_of_act, AreInHand, acts_by, owner_in, ActsAreShared}
 
 -- ---- who owns whom
 -- each operation's actor is its own worker
@@ -103,6 +103,45 @@ of_all f owner k idle asked (op ∷ ops) some zero own sound =
     ∙ ap (λ (acts : List Act). (if op.actor == k then two op else []) ++ acts) (of_all f owner k idle (asked_after op.what asked) ops some zero own.1 sound.2)
     ∙ then_rest (op.actor == k) op (own_acts k ops)
 
+-- ---- the scavenger's acts
+abbrev OfScavenger : Owners → List ℕ → Op → What → Type 0
+OfScavenger owner idle op what = acts_by owner 0 (acts_of_what idle op what) ≡ (if op.actor == 0 then acts_of_what idle op what else [])
+
+threads_not : (owner : Owners) (op : Op) → owner op.actor ≡ op.actor → 1 ≤ op.actor → acts_by owner 0 (two op) ≡ (if op.actor == 0 then two op else [])
+threads_not owner op own some =
+    let ne : op.actor ≢ 0 = λ is. omega (arith, some, is) in
+    two_other owner 0 op own ne ∙ sym (ap (λ (t : Bool). if t then two op else []) (ne_eqb op.actor 0 ne))
+
+all_stops : (owner : Owners) (n : ℕ) (idle : List ℕ) → owner 0 ≡ 0 → acts_by owner 0 (idle_stops n idle) ≡ idle_stops n idle
+all_stops owner n [] zero = refl
+all_stops owner n (k ∷ idle) zero = takes owner 0 (StopsIdle k n) (idle_stops n idle) zero ∙ ap (λ (acts : List Act). StopsIdle k n ∷ acts) (all_stops owner n idle zero)
+
+all_of : (op : Op) (xs acts : List Act) → op.actor ≡ 0 → xs ≡ acts → xs ≡ (if op.actor == 0 then acts else [])
+all_of op xs acts is same = same ∙ sym (ap (λ (t : Bool). if t then acts else []) (eq-eqb op.actor 0 is))
+
+of_scavenger : (f : Profile) (owner : Owners) (idle : List ℕ) (op : Op) (what : What) → owner 0 ≡ 0 → owner op.actor ≡ op.actor → IsActorOf f what op.actor → OfScavenger owner idle op what
+of_scavenger f owner idle op (Alloc name heap size align) zero own actor = threads_not owner op own actor.0
+of_scavenger f owner idle op (Free name) zero own actor = threads_not owner op own actor.0
+of_scavenger f owner idle op (Raw block) zero own actor = threads_not owner op own actor.0
+of_scavenger f owner idle op Flush zero own actor = threads_not owner op own actor.0
+of_scavenger f owner idle op Stop zero own actor = threads_not owner op own actor.0
+of_scavenger f owner idle op (Tick epoch) zero own actor = all_of op (acts_by owner 0 (Ticks epoch ∷ [])) (Ticks epoch ∷ []) actor (takes owner 0 (Ticks epoch) [] zero)
+of_scavenger f owner idle op Pass zero own actor = all_of op (acts_by owner 0 (MakesPass ∷ [])) (MakesPass ∷ []) actor (takes owner 0 MakesPass [] zero)
+of_scavenger f owner idle op (Idle n) zero own actor = all_of op (acts_by owner 0 (ReadsEpoch ∷ idle_stops n idle)) (ReadsEpoch ∷ idle_stops n idle) actor
+    (takes owner 0 ReadsEpoch (idle_stops n idle) zero ∙ ap (λ (acts : List Act). ReadsEpoch ∷ acts) (all_stops owner n idle zero))
+
+then_others : (t : Bool) (acts rest : List Act) → (if t then acts else []) ++ rest ≡ (if t then acts ++ rest else rest)
+then_others true acts rest = refl
+then_others false acts rest = refl
+
+of_scavengers : (f : Profile) (owner : Owners) (idle asked : List ℕ) (ops : List Op) → owner 0 ≡ 0 → OwnThemselves owner ops → AreSound f asked ops → acts_by owner 0 (acts_of_ops idle ops) ≡ scavenger_acts idle ops
+of_scavengers f owner idle asked [] zero own sound = refl
+of_scavengers f owner idle asked (op ∷ ops) zero own sound =
+    by_both owner 0 (acts_of_op idle op) (acts_of_ops idle ops)
+    ∙ ap (λ (acts : List Act). acts ++ acts_by owner 0 (acts_of_ops idle ops)) (of_scavenger f owner idle op op.what zero own.0 sound.0)
+    ∙ ap (λ (acts : List Act). (if op.actor == 0 then acts_of_op idle op else []) ++ acts) (of_scavengers f owner idle (asked_after op.what asked) ops zero own.1 sound.2)
+    ∙ then_others (op.actor == 0) (acts_of_op idle op) (scavenger_acts idle ops)
+
 -- a thread without an operation has no act
 or_false : (s t : Bool) → s || t ≡ false → (s ≡ false) × (t ≡ false)
 or_false true t is = absurd (true≢false is)
@@ -157,4 +196,5 @@ acts_are_shared f threads asked ops sound =
       hands_all (owner_in ops) (idle_threads threads ops) ops (are_idle ops (numbers_from 1 threads)),
       λ k some active. of_all f (owner_in ops) k (idle_threads threads ops) asked ops some zero own sound,
       λ k some idle. of_all f (owner_in ops) k (idle_threads threads ops) asked ops some zero own sound ∙ none_own k ops idle,
+      of_scavengers f (owner_in ops) (idle_threads threads ops) asked ops zero own sound,
     )

@@ -1,5 +1,5 @@
 -- The scavenger's worker, at its desk with the threads that are lent to it.
-use Rattle.std.specs.Prelude.{ℕ, ◌<◌, ◌≡◌, ◌==◌, if◌then◌else◌, List, [], ◌∷◌, ◌++◌, length, get_or}
+use Rattle.std.specs.Prelude.{ℕ, ◌<◌, ◌≡◌, List, ◌++◌, length, get_or}
 use Rattle.pas_profile.specs.declared.profile.Profile.{Profile}
 use Rattle.pas_steps.specs.Desks.{Standing}
 use Rattle.pas_trace.specs.EveryPlan.{IsActorOf, IsSoundWhat}
@@ -8,7 +8,7 @@ use Rattle.pas_report.specs.Rooms.{records_in, room_of}
 use Rattle.pas_report.specs.declared.record.Record.{Record}
 use Rattle.pas_report.specs.declared.records.Records.{Records}
 use Rattle.pas_shared.specs.declared.region.SharedRegion.{SharedRegion}
-use Rattle.pas_answers.specs.Acts.{Act, acts_of_op}
+use Rattle.pas_answers.specs.Acts.{Act}
 use Rattle.pas_answers.specs.Answers.{Progress}
 use Rattle.pas_answers.specs.Ways.{records_by}
 use Rattle.pas_threads.specs.Shares.{Reaches}
@@ -46,8 +46,3 @@ pub record IsScavengers (f : Profile) (op : Op) : Type 0 where
   pub asked : List ℕ
   pub actor : IsActorOf f op.what 0
   pub sound : IsSoundWhat f asked op.what
-
--- the acts of the scavenger's operations among those of a phase in which these threads are idle
-abbrev pub scavenger_acts : List ℕ → List Op → List Act
-scavenger_acts idle [] = []
-scavenger_acts idle (op ∷ ops) = if op.actor == 0 then acts_of_op idle op ++ scavenger_acts idle ops else scavenger_acts idle ops

@@ -12,7 +12,7 @@ use Rattle.pas_trace.specs.declared.plan.What.TheVariants.{Alloc, Free, Raw, Flu
 use Rattle.pas_report.specs.declared.record.Record.{Record}
 use Rattle.pas_cache.specs.Caches.{Cached}
 use Rattle.pas_scavenger.specs.Passes.{PassSteps}
-use Rattle.pas_answers.specs.Acts.{Act, Operates, Settles, Ticks, MakesPass, ReadsEpoch, StopsIdle, MarksPhase, Wakes, MarksClose, Ends, is_active, idle_threads, acts_of_ops}
+use Rattle.pas_answers.specs.Acts.{Act, Operates, Settles, Ticks, MakesPass, ReadsEpoch, StopsIdle, MarksPhase, Wakes, MarksClose, Ends, is_active, idle_threads, acts_of_op, acts_of_ops}
 use Rattle.pas_answers.specs.Answers.{Named, standing_for, Answer, having, IsAnswered, IsStopped, Progress, with_records, after_answer, after_settling, after_wake, after_reading, after_tick, after_pass, after_stop, stopped, IsIdleFor, Follows}
 use Rattle.pas_answers.specs.Fit.{AreFit}
 use Rattle.pas_answers.specs.Ways.{AreSpoken, is_of, records_by}
@@ -182,10 +182,16 @@ abbrev pub own_acts : ℕ → List Op → List Act
 own_acts k [] = []
 own_acts k (op ∷ ops) = if op.actor == k then Operates op ∷ (Settles op.actor ∷ own_acts k ops) else own_acts k ops
 
+-- the acts of the scavenger's operations among those of a phase in which these threads are idle
+abbrev pub scavenger_acts : List ℕ → List Op → List Act
+scavenger_acts idle [] = []
+scavenger_acts idle (op ∷ ops) = if op.actor == 0 then acts_of_op idle op ++ scavenger_acts idle ops else scavenger_acts idle ops
+
 -- In a phase of a plan of so many threads all acts are in the hands of their workers. A thread with an operation in it makes the acts of its own
--- operations, and no other.
+-- operations, and no other, and the scavenger those of its own.
 abbrev pub ActsAreShared : Type 0
 ActsAreShared = (f : Profile) (threads : ℕ) (asked : List ℕ) (ops : List Op) → AreSound f asked ops
     → AreInHand (owner_in ops) (acts_of_ops (idle_threads threads ops) ops)
     × ((k : ℕ) → 1 ≤ k → is_active ops k ≡ true → acts_by (owner_in ops) k (acts_of_ops (idle_threads threads ops) ops) ≡ own_acts k ops)
     × ((k : ℕ) → 1 ≤ k → is_active ops k ≡ false → acts_by (owner_in ops) k (acts_of_ops (idle_threads threads ops) ops) ≡ [])
+    × (acts_by (owner_in ops) 0 (acts_of_ops (idle_threads threads ops) ops) ≡ scavenger_acts (idle_threads threads ops) ops)

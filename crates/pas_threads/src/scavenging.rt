@@ -21,7 +21,7 @@ use pas_trace::What;
 use pas_utility::Outcomes;
 
 /// The scavenger's number.
-const SCAVENGER: u8 = 0;
+pub(crate) const SCAVENGER: u8 = 0;
 
 /// Raises the epoch to at least this, which is below 2^40. One step and one record.
 pub fn tick<D: Desk>(desk: &mut D, epoch: u64, out: &mut Records)
