@@ -1,5 +1,5 @@
 -- The acts of the scavenger's worker.
-use Rattle.std.proofs.Common.{◌≡◌, ◌≢◌, ℕ, zero, suc, ◌+◌, ◌<◌, ◌≤◌, ◌==◌, Bool, if◌then◌else◌, drop, drop_of_length-le, List, [], ◌∷◌, ◌++◌, length, get_or, refl, ap, sym, ◌∙◌, subst, arith, length-append, append_assoc}
+use Rattle.std.proofs.Common.{◌≡◌, ℕ, zero, suc, ◌+◌, ◌<◌, ◌≤◌, Bool, if◌then◌else◌, drop, drop_of_length-le, List, [], ◌∷◌, ◌++◌, length, get_or, refl, ap, sym, ◌∙◌, subst, arith, length-append, append_assoc}
 use Rattle.std.proofs.lemmas.List.{append-nil, drop_more}
 use Rattle.std.proofs.lemmas.Bool.{eq-eqb, ne_eqb}
 use Rattle.pas_trace.specs.EveryPlan.{AreSound, IsActorOf, asked_after}
@@ -7,9 +7,8 @@ use Rattle.pas_trace.specs.declared.plan.Op.{Op}
 use Rattle.pas_profile.specs.declared.profile.Profile.{Profile}
 use Rattle.pas_steps.specs.Clear.{HasNothing}
 use Rattle.pas_steps.specs.Desks.{Standing}
-use Rattle.pas_steps.specs.Lists.{part}
 use Rattle.pas_steps.specs.Views.{View}
-use Rattle.pas_report.specs.Rooms.{records_in, room_of}
+use Rattle.pas_report.specs.Rooms.{records_in}
 use Rattle.pas_report.specs.declared.record.Record.{Record}
 use Rattle.pas_report.specs.declared.records.Records.{Records}
 use Rattle.pas_shared.specs.declared.region.SharedRegion.{SharedRegion}
@@ -18,12 +17,12 @@ use Rattle.pas_answers.specs.Answers.{Progress, Caches}
 use Rattle.pas_answers.specs.Fit.{costs_of}
 use Rattle.pas_answers.specs.Ways.{records_by}
 use Rattle.pas_threads.specs.Works.{Sits}
-use Rattle.pas_threads.specs.Scavenges.{ScavengerAt, Scavenges}
+use Rattle.pas_threads.specs.Scavenges.{Scavenges}
 use Rattle.pas_threads.specs.Lent.{AreDistinct, AreLent, DidWithLent}
 use Rattle.pas_threads.specs.Shares.{scavenger_acts}
 use Rattle.pas_threads.specs.Crews.{Crew, crew, CrewAt, CrewDid, IsScavengers}
 use Rattle.pas_threads.specs.declared.workers.Worker.{Worker}
-use Rattle.pas_threads.proofs.Speaking.{none_by, records_both}
+use Rattle.pas_threads.proofs.Speaking.{none_by}
 use Rattle.pas_threads.proofs.Working.{reach_both}
 use Rattle.pas_threads.proofs.ByScavenger.{same_stands}
 use Rattle.pas_threads.proofs.ByLent.{all_by, more_by}

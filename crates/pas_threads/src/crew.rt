@@ -9,8 +9,8 @@ ghost use Rattle.pas_threads.specs.Lent.{AreDistinct};
 ghost use Rattle.pas_threads.specs.Shares.{scavenger_acts};
 ghost use Rattle.pas_threads.specs.Crews.{crew, CrewAt, CrewDid, IsScavengers};
 
-use crate::lending::stop_idle;
 use crate::gate::Gate;
+use crate::lending::stop_idle;
 use crate::scavenging::{SCAVENGER, pass, read_epoch, tick};
 use crate::workers::Worker;
 use pas_report::Records;

@@ -1,4 +1,4 @@
-use Rattle.std.proofs.Common.{◌≡◌, ◌∙◌, ◌+◌, ◌<◌, sym, refl, get_or, length, arith}
+use Rattle.std.proofs.Common.{◌∙◌, refl, arith}
 use Rattle.pas_trace.specs.declared.plan.Op.{Op}
 use Rattle.pas_trace.specs.declared.plan.What.TheVariants.{Alloc}
 use Rattle.pas_threads.proofs.ByCrew.{sound_at, crew_begins, crew_before, crew_goes_on, crew_skips, crew_ends}
@@ -36,7 +36,7 @@ loop-op-preserved g c = elim c.if-op-eq-SCAVENGER.branch [
             let lt = c.loop-op-test.true in
             let is = w.if-op-eq-SCAVENGER.true in
             crew_goes_on c.args.ops.now past lt is at.lent.many so
-                (w.scavenge_one.ensures.did f idle _ later lends so.2.reached (sound_at f asked c.args.ops.now c.loop-op.op-index past sound lt is) distinct (crew_before c.args.ops.now past lt is so));
+            (w.scavenge_one.ensures.did f idle _ later lends so.2.reached (sound_at f asked c.args.ops.now c.loop-op.op-index past sound lt is) distinct (crew_before c.args.ops.now past lt is so));
         number = omega (arith, low);
         home = w.scavenge_one.ensures.home ∙ c.loop-op.invariant.home;
         many = w.scavenge_one.ensures.many ∙ c.loop-op.invariant.many;

@@ -1,9 +1,7 @@
-use Rattle.std.proofs.Common.{◌≡◌, ◌∙◌, ◌+◌, ◌≤◌, ◌∷◌, [], ◌++◌, ℕ, List, length, ap, sym, subst, arith}
-use Rattle.pas_profile.specs.declared.profile.Profile.{Profile}
-use Rattle.pas_steps.specs.Desks.{Standing}
-use Rattle.pas_trace.specs.EveryPlan.{IsActorOf, IsSoundWhat}
+use Rattle.std.proofs.Common.{[], ◌++◌, ap, subst, arith}
+use Rattle.pas_trace.specs.EveryPlan.{IsSoundWhat}
 use Rattle.pas_trace.specs.declared.plan.What.{What}
-use Rattle.pas_answers.specs.Acts.{Act, ReadsEpoch, idle_stops, acts_of_what}
+use Rattle.pas_answers.specs.Acts.{idle_stops, acts_of_what}
 use Rattle.pas_threads.proofs.ByCrew.{costs_stops, still_lent, as_acts, to_acts, did_alone, did_idle}
 use Rattle.pas_threads.proofs.crew.scavenge_one.Goals as goal
 
