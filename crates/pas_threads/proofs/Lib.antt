@@ -8,3 +8,4 @@ pub mod Sitting
 pub mod PhaseActs
 pub mod ByLent
 pub mod ByCrew
+pub mod Arranging

@@ -1,5 +1,5 @@
 -- What each worker does in a phase, apart from the others, and how the shares of all workers make up the whole phase.
-use Rattle.std.specs.Prelude.{ℕ, ◌≤◌, ◌≡◌, ◌==◌, ◌⊎◌, true, false, if◌then◌else◌, List, [], ◌∷◌, ◌++◌, Option, None, Some}
+use Rattle.std.specs.Prelude.{ℕ, ◌+◌, ◌≤◌, ◌≡◌, ◌==◌, ◌⊎◌, true, false, if◌then◌else◌, List, [], ◌∷◌, ◌++◌, Option, None, Some}
 use Rattle.pas_profile.specs.declared.profile.Profile.{Profile}
 use Rattle.pas_profile.specs.declared.name.Name.{Name}
 use Rattle.pas_profile.specs.declared.event.Outcome.{Outcome}
@@ -15,7 +15,7 @@ use Rattle.pas_scavenger.specs.Passes.{PassSteps}
 use Rattle.pas_answers.specs.Acts.{Act, Operates, Settles, Ticks, MakesPass, ReadsEpoch, StopsIdle, MarksPhase, Wakes, MarksClose, Ends, is_active, idle_threads, acts_of_op, acts_of_ops}
 use Rattle.pas_answers.specs.Answers.{Named, standing_for, Answer, having, IsAnswered, IsStopped, Progress, with_records, after_answer, after_settling, after_wake, after_reading, after_tick, after_pass, after_stop, stopped, IsIdleFor, Follows}
 use Rattle.pas_answers.specs.Fit.{AreFit}
-use Rattle.pas_answers.specs.Ways.{AreSpoken, is_of, records_by}
+use Rattle.pas_answers.specs.Ways.{OnThreads, AreSpoken, is_of, records_by, by_actors, arranged}
 
 -- ---- acts that are answered one after the other
 -- one act takes a replay from p to p'
@@ -195,3 +195,11 @@ ActsAreShared = (f : Profile) (threads : ℕ) (asked : List ℕ) (ops : List Op)
     × ((k : ℕ) → 1 ≤ k → is_active ops k ≡ true → acts_by (owner_in ops) k (acts_of_ops (idle_threads threads ops) ops) ≡ own_acts k ops)
     × ((k : ℕ) → 1 ≤ k → is_active ops k ≡ false → acts_by (owner_in ops) k (acts_of_ops (idle_threads threads ops) ops) ≡ [])
     × (acts_by (owner_in ops) 0 (acts_of_ops (idle_threads threads ops) ops) ≡ scavenger_acts (idle_threads threads ops) ops)
+
+-- ---- the records
+-- Records without a mark, those of a phase, are written actor by actor, from the scavenger to the last thread; then comes the mark, and what follows.
+abbrev pub ArePhasesArranged : Type 0
+ArePhasesArranged = (threads : ℕ) (said : List Record) → AreSpoken said
+    → ((n : ℕ) (more : List Record) → arranged OnThreads threads (said ++ Record.Phase n ∷ more) ≡ by_actors 0 (threads + 1) said ++ Record.Phase n ∷ arranged OnThreads threads more)
+    × ((more : List Record) → arranged OnThreads threads (said ++ Record.Close ∷ more) ≡ by_actors 0 (threads + 1) said ++ Record.Close ∷ arranged OnThreads threads more)
+    × (arranged OnThreads threads said ≡ by_actors 0 (threads + 1) said)
