@@ -9,3 +9,4 @@ pub mod PhaseActs
 pub mod ByLent
 pub mod ByCrew
 pub mod Arranging
+pub mod KnownAfter

@@ -14,6 +14,7 @@ use Rattle.pas_cache.specs.Caches.{Cached}
 use Rattle.pas_scavenger.specs.Passes.{PassSteps}
 use Rattle.pas_answers.specs.Acts.{Act, Operates, Settles, Ticks, MakesPass, ReadsEpoch, StopsIdle, MarksPhase, Wakes, MarksClose, Ends, is_active, idle_threads, acts_of_op, acts_of_ops}
 use Rattle.pas_answers.specs.Answers.{Named, standing_for, Answer, having, IsAnswered, IsStopped, Progress, with_records, after_answer, after_settling, after_wake, after_reading, after_tick, after_pass, after_stop, stopped, IsIdleFor, Follows}
+use Rattle.pas_answers.specs.Calls.{AreKnown}
 use Rattle.pas_answers.specs.Fit.{AreFit}
 use Rattle.pas_answers.specs.Ways.{OnThreads, AreSpoken, is_of, records_by, by_actors, arranged}
 
@@ -171,6 +172,10 @@ AreWoven = (f : Profile) (owner : Owners) (limit : ℕ) (asked : List ℕ) (acts
 -- What follows acts that were answered so follows the whole.
 abbrev pub AreJoined : Type 0
 AreJoined = (f : Profile) (acts more : List Act) (p p' : Progress) (l : Whole) (rs : List Record) → Reaches f acts p p' → Follows f more p' l rs → Follows f (acts ++ more) p l rs
+
+-- After acts that were answered so, the names that were asked for stand for something, those that the acts asked for too.
+abbrev pub AreKnownAfter : Type 0
+AreKnownAfter = (f : Profile) (acts : List Act) (asked : List ℕ) (p p' : Progress) → Reaches f acts p p' → AreKnown asked p.names → AreKnown (asked_after_acts acts asked) p'.names
 
 -- ---- the acts of a phase
 -- whose hands an actor is in, in a phase of these operations

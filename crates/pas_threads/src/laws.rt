@@ -1,10 +1,11 @@
 //! What holds of workers that each answer their own acts, however their steps interleave. Each law is the contract of an empty function.
-ghost use Rattle.pas_threads.specs.Shares.{AreWoven, AreJoined, ActsAreShared, ArePhasesArranged};
+ghost use Rattle.pas_threads.specs.Shares.{AreWoven, AreJoined, AreKnownAfter, ActsAreShared, ArePhasesArranged};
 
 /// What all workers of a phase did, each for itself, answers the acts of the phase in the order of the text.
 pub fn weaving()
     ensures woven { AreWoven }
     ensures joined { AreJoined }
+    ensures known { AreKnownAfter }
 {}
 
 /// Each act of a phase is in the hands of one worker: a thread that has an operation in it, or the scavenger.

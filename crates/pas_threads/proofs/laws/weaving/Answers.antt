@@ -1,3 +1,4 @@
+use Rattle.pas_threads.proofs.KnownAfter.{are_known}
 use Rattle.pas_threads.proofs.Weaving.{weave, joined}
 use Rattle.pas_threads.proofs.laws.weaving.Goals as goal
 
@@ -6,3 +7,6 @@ returns-clause-woven c = weave
 
 pub returns-clause-joined : goal.returns-clause-joined
 returns-clause-joined c = joined
+
+pub returns-clause-known : goal.returns-clause-known
+returns-clause-known c = are_known
