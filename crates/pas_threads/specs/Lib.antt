@@ -4,3 +4,4 @@ pub mod Scavenges
 pub mod Hands
 pub mod Lent
 pub mod Crews
+pub mod Scavengers

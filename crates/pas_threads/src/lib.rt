@@ -6,8 +6,10 @@ pub mod gate;
 pub mod laws;
 pub mod lending;
 pub mod own;
+pub mod scavenger;
 pub mod scavenging;
 pub mod workers;
 
 pub use gate::{Gate, OpenGate};
+pub use scavenger::Scavenger;
 pub use workers::Worker;
