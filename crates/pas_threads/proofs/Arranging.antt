@@ -1,9 +1,9 @@
 -- The records of phases, as they are written.
-use Rattle.std.proofs.Common.{◌≡◌, ℕ, ◌+◌, false, true, List, [], ◌∷◌, ◌++◌, refl, ap, sym, ◌∙◌, append_assoc}
+use Rattle.std.proofs.Common.{◌≡◌, ℕ, List, [], ◌∷◌, ◌++◌, ap, sym, ◌∙◌, append_assoc}
 use Rattle.std.proofs.lemmas.Bool.{false≢true}
 use Rattle.std.proofs.lemmas.List.{append-nil}
 use Rattle.pas_report.specs.declared.record.Record.{Record}
-use Rattle.pas_answers.specs.Ways.{OnThreads, AreSpoken, by_actors, by_phases, arranged}
+use Rattle.pas_answers.specs.Ways.{AreSpoken, by_phases}
 use Rattle.pas_threads.specs.Shares.{ArePhasesArranged}
 
 -- records without a mark are added to those since the last one

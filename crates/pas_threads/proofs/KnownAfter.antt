@@ -6,7 +6,7 @@ use Rattle.pas_answers.specs.Acts.{Act, Operates, Settles, Ticks, MakesPass, Rea
 use Rattle.pas_answers.specs.Answers.{Progress}
 use Rattle.pas_answers.specs.Calls.{AreKnown}
 use Rattle.pas_answers.proofs.KnownNames.{known_after}
-use Rattle.pas_threads.specs.Shares.{Advances, Reaches, asked_after_act, asked_after_acts, AreKnownAfter}
+use Rattle.pas_threads.specs.Shares.{Advances, asked_after_act, AreKnownAfter}
 
 -- nothing was asked for, and the names are as they were
 same_known : (asked : List ℕ) {q r : Progress} → q ≡ r → AreKnown asked r.names → AreKnown asked q.names
