@@ -1,0 +1,12 @@
+pub mod Speaking
+pub mod Naming
+pub mod Sharing
+pub mod Weaving
+pub mod Working
+pub mod ByScavenger
+pub mod Sitting
+pub mod PhaseActs
+pub mod ByLent
+pub mod ByCrew
+pub mod Arranging
+pub mod KnownAfter

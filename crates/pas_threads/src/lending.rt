@@ -1,0 +1,31 @@
+//! The stops of the threads that are idle in a phase, by the scavenger's worker, to which they are lent.
+ghost use Rattle.std.specs.Prelude.{◌≡◌, ◌+◌, ◌≤◌, ℕ, List, length};
+ghost use Rattle.pas_profile.specs.declared.profile.Profile.{Profile as TheProfile};
+ghost use Rattle.pas_report.specs.Rooms.{records_in, room_of};
+ghost use Rattle.pas_answers.specs.Acts.{idle_stops};
+ghost use Rattle.pas_answers.specs.Answers.{Progress};
+ghost use Rattle.pas_threads.specs.Lent.{AreDistinct, AreLent, DidWithLent};
+
+use crate::workers::{Worker, stop_lent};
+use pas_report::Records;
+use pas_shared::SharedRegion;
+
+/// Stops each of the lent threads, in order, where it was idle for so many epochs, now that it is this one. What a stop's flush says comes to the
+/// thread's own records, and that the thread was stopped to `out`.
+pub fn stop_idle(
+    region: &SharedRegion,
+    lent: &mut [Worker],
+    epochs: u64,
+    epoch: u64,
+    out: &mut Records,
+)
+    requires lent { (f : TheProfile) × (idle : List ℕ) × (later : ℕ → ℕ) × (p : Progress) × AreDistinct idle × AreLent region.now f idle later lent.old p × (p.epoch ≡ epoch) }
+    requires room { length (records_in out.old) + length lent.old ≤ room_of out.old }
+    ensures stops { (f : TheProfile) (idle : List ℕ) (later : ℕ → ℕ) (p : Progress) → AreDistinct idle → AreLent region.now f idle later lent.old p → p.epoch ≡ epoch
+        → DidWithLent region.now f (idle_stops epochs idle) idle later lent.old lent.new out.old out.new (length lent.old) p }
+    ensures many { length lent.new ≡ length lent.old }
+{
+    for index in 0..lent.len() {
+        stop_lent(region, &mut lent[index], epochs, epoch, out);
+    }
+}

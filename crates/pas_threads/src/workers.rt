@@ -1,0 +1,97 @@
+//! The workers of the threads at a shared region, and the fork and join of a phase.
+ghost use Rattle.std.specs.Prelude.{◌≡◌, ◌<◌, ◌^◌, ◌≤◌, ℕ, List, [], All, length, get_or};
+ghost use Rattle.pas_profile.specs.declared.profile.Profile.{Profile as TheProfile};
+ghost use Rattle.pas_answers.specs.Answers.{Progress};
+ghost use Rattle.pas_report.specs.Rooms.{records_in, room_of};
+ghost use Rattle.pas_threads.specs.Hands.{WorkerAt, Did, kept_by, MayDoPhase, DidPhase};
+ghost use Rattle.pas_threads.specs.Scavenges.{StopsThread};
+
+use crate::gate::Gate;
+use crate::own::work;
+use crate::scavenging::stop_if_idle;
+use pas_answers::names::Names;
+use pas_cache::ThreadCache;
+use pas_report::Records;
+use pas_shared::{SharedPass, SharedRegion};
+use pas_trace::Op;
+use std::thread::{Threads, for_each_mut};
+
+/// A thread of the replay: its pass while it doesn't sit at the region, its cache, what names stand for to it, and its records.
+#[derive(Drop)]
+pub struct Worker {
+    pub pass: Option<SharedPass>,
+    pub cache: ThreadCache,
+    pub names: Names,
+    pub out: Records,
+}
+
+/// The thread sits down, performs its operations of a phase, and rises.
+pub fn perform<G: Gate>(region: &SharedRegion, worker: &mut Worker, ops: &[Op], gate: &G)
+    requires few { length ops.now < 2 ^ 32 }
+    requires may { MayDoPhase region.now ops.now worker.old }
+    ensures did { DidPhase region.now ops.now worker.old worker.new }
+{
+    let Some(pass) = worker.pass.take() else {
+        unreachable!();
+    };
+    let mut desk = region.desk(pass);
+    work(
+        &mut desk,
+        &mut worker.cache,
+        &mut worker.names,
+        ops,
+        gate,
+        &mut worker.out,
+    );
+    worker.pass = Some(desk.into_pass());
+}
+
+/// All threads of a phase at once, each in a thread of its own.
+pub fn fork<R: Threads + Sync, G: Gate + Sync>(
+    rt: &R,
+    region: &SharedRegion,
+    workers: &mut [Worker],
+    ops: &[Op],
+    gate: &G,
+)
+    requires few { length ops.now < 2 ^ 32 }
+    requires may { All (MayDoPhase region.now ops.now) workers.old }
+    ensures many { length workers.new ≡ length workers.old }
+    ensures did { (i : ℕ) (d : Worker) → i < length workers.old → DidPhase region.now ops.now (get_or workers.old i d) (get_or workers.new i d) }
+{
+    for_each_mut(
+        rt,
+        workers,
+        16,
+        &|_, worker| perform(region, worker, ops, gate),
+    );
+}
+
+/// The thread, which was lent to the scavenger, sits down, is stopped where it was idle for so many epochs, now that it is this one, and rises.
+pub fn stop_lent(
+    region: &SharedRegion,
+    worker: &mut Worker,
+    epochs: u64,
+    epoch: u64,
+    out: &mut Records,
+)
+    requires may { (f : TheProfile) × (k : ℕ) × (later : ℕ) × (p : Progress) × WorkerAt region.now f k [] worker.old later p }
+    requires room { length (records_in out.old) < room_of out.old }
+    ensures stops { (f : TheProfile) (k later : ℕ) (p : Progress) → WorkerAt region.now f k [] worker.old later p → p.epoch ≡ epoch
+        → Did region.now worker.old.pass worker.new.pass (λ σ σ'. StopsThread f k epochs σ σ' (kept_by worker.old) (kept_by worker.new) out.old out.new later p) }
+{
+    let Some(pass) = worker.pass.take() else {
+        unreachable!();
+    };
+    let mut desk = region.desk(pass);
+    stop_if_idle(
+        &mut desk,
+        &mut worker.cache,
+        &mut worker.names,
+        epochs,
+        epoch,
+        &mut worker.out,
+        out,
+    );
+    worker.pass = Some(desk.into_pass());
+}
