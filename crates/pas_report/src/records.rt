@@ -46,6 +46,20 @@ impl Records {
         self.items.push_reserved(item);
     }
 
+    /// Moves the records of another room to the end of this one, where there must be room for them. The other is empty then, with the
+    /// room that it had.
+    pub fn append(&mut self, other: &mut Records)
+        requires { length (records_in self.old) + length (records_in other.old) ≤ room_of self.old }
+        ensures added { records_in self.new ≡ records_in self.old ++ records_in other.old }
+        ensures none { records_in other.new ≡ [] }
+        ensures size { room_of self.new ≡ room_of self.old }
+        ensures other_size { room_of other.new ≡ room_of other.old }
+    {
+        let Ok(()) = self.items.append(&mut other.items) else {
+            unreachable!();
+        };
+    }
+
     /// The records in order.
     pub fn as_slice(&self) -> &[Record]
         ensures { result.now ≡ records_in self.now }
