@@ -10,3 +10,4 @@ pub mod ByLent
 pub mod ByCrew
 pub mod Arranging
 pub mod KnownAfter
+pub mod Dealt

@@ -5,3 +5,5 @@ pub mod Hands
 pub mod Lent
 pub mod Crews
 pub mod Scavengers
+pub mod Acting
+pub mod Dealing

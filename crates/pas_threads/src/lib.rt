@@ -2,7 +2,9 @@
 #![tactic(auto)]
 
 pub mod crew;
+mod dealing;
 pub mod gate;
+mod hands;
 pub mod laws;
 pub mod lending;
 pub mod own;

@@ -1,0 +1,92 @@
+//! The hands that act in a phase, all at once: the worker of each thread that has an operation in it, and the scavenger where one is its own.
+ghost use Rattle.std.specs.Prelude.{◌≡◌, ◌<◌, ◌^◌, ℕ, true, false, All, List, length, map, get_or, vec_capacity};
+ghost use Rattle.pas_threads.specs.Acting.{MayAct, DidAct, DidEach};
+ghost use Rattle.pas_threads.specs.Hands.{MayDoPhase};
+ghost use Rattle.pas_threads.specs.Scavengers.{MayScavenge, DidScavenge};
+ghost use Rattle.pas_threads.specs.declared.workers.Worker.{Worker as TheWorker};
+ghost use Rattle.pas_threads.specs.declared.hands.Hand.{Hand as AnyHand};
+ghost use Rattle.pas_threads.specs.declared.hands.Hand.TheVariants as TheHand;
+
+use crate::gate::Gate;
+use crate::scavenger::{Scavenger, keep_up};
+use crate::workers::{Worker, perform};
+use pas_shared::SharedRegion;
+use pas_trace::Op;
+use std::sync::Wait;
+use std::thread::{Threads, for_each_mut};
+
+/// The most hands of a phase: those of 16 threads and the scavenger.
+const MOST_HANDS: usize = 17;
+
+/// Who acts in a phase.
+#[derive(Drop)]
+pub(crate) enum Hand {
+    /// A thread that has an operation in the phase.
+    Thread(Worker),
+    /// The scavenger, with the threads that are lent to it.
+    Scavenger(Scavenger),
+}
+
+/// The hand does its operations of the phase.
+fn act<G: Gate>(region: &SharedRegion, hand: &mut Hand, ops: &[Op], gate: &G)
+    requires few { length ops.now < 2 ^ 32 }
+    requires may { MayAct region.now ops.now hand.old }
+    ensures did { DidAct region.now ops.now hand.old hand.new }
+{
+    match hand {
+        Hand::Thread(worker) => perform(region, worker, ops, gate),
+        Hand::Scavenger(scavenger) => keep_up(region, scavenger, ops, gate),
+    }
+}
+
+/// All hands at once, each in a thread of its own. Nothing waits but the end, for all of them.
+pub(crate) fn act_all<R: Threads + Wait + Sync, G: Gate + Sync>(
+    rt: &R,
+    region: &SharedRegion,
+    hands: &mut [Hand],
+    ops: &[Op],
+    gate: &G,
+)
+    requires few { length ops.now < 2 ^ 32 }
+    requires may { All (MayAct region.now ops.now) hands.old }
+    ensures many { length hands.new ≡ length hands.old }
+    ensures did { (i : ℕ) (d : AnyHand) → i < length hands.old → DidAct region.now ops.now (get_or hands.old i d) (get_or hands.new i d) }
+{
+    for_each_mut(
+        rt,
+        hands,
+        MOST_HANDS,
+        &|_, hand| act(region, hand, ops, gate),
+    );
+}
+
+/// The hands act, and with them the scavenger where one of the operations is its own. The scavenger, as it is then.
+pub(crate) fn act_with<R: Threads + Wait + Sync, G: Gate + Sync>(
+    rt: &R,
+    region: &SharedRegion,
+    hands: &mut Vec<Hand>,
+    scavenger: Scavenger,
+    busy: bool,
+    ops: &[Op],
+    gate: &G,
+) -> Scavenger
+    requires few { length ops.now < 2 ^ 32 }
+    requires threads { (own : List TheWorker) × (hands.old.items ≡ map TheHand.Thread own) × All (MayDoPhase region.now ops.now) own }
+    requires scavenger { busy ≡ true → MayScavenge region.now ops.now scavenger }
+    requires place { length hands.old.items < vec_capacity hands.old }
+    ensures threads { (own : List TheWorker) → hands.old.items ≡ map TheHand.Thread own → DidEach region.now ops.now own hands.new.items }
+    ensures did { busy ≡ true → DidScavenge region.now ops.now scavenger result }
+    ensures stayed { busy ≡ false → result ≡ scavenger }
+    ensures place { vec_capacity hands.new ≡ vec_capacity hands.old }
+{
+    if !busy {
+        act_all(rt, region, hands, ops, gate);
+        return scavenger;
+    }
+    hands.push_reserved(Hand::Scavenger(scavenger));
+    act_all(rt, region, hands, ops, gate);
+    let Some(Hand::Scavenger(scavenger)) = hands.pop() else {
+        unreachable!();
+    };
+    scavenger
+}
