@@ -1,5 +1,5 @@
 -- What a request promises.
-use Rattle.std.proofs.Common.{◌≡◌, ◌≢◌, ℕ, ◌+◌, ◌-◌, ◌^◌, ◌<◌, ◌≤◌, ◌==◌, ◌++◌, Bool, true, false, if◌then◌else◌, List, [], ◌∷◌, length, Option, Some, None, Result, Ok, Err, refl, ap, sym, ◌∙◌, subst, arith}
+use Rattle.std.proofs.Common.{◌≡◌, ◌≢◌, ℕ, ◌+◌, ◌-◌, ◌^◌, ◌<◌, ◌≤◌, ◌++◌, Bool, List, [], ◌∷◌, length, Option, Some, None, Result, Ok, Err, refl, ap, sym, ◌∙◌, subst, arith}
 use Rattle.std.specs.Prelude.{◌/◌, max, MatchResult}
 use Rattle.std.specs.List.{AllByRecursion}
 use Rattle.std.proofs.lemmas.Option.{same_Some, none-some}
@@ -33,10 +33,8 @@ use Rattle.pas_cache.specs.Calls.{MayAllocate, Allocates, MayAllocatePages, Allo
 use Rattle.pas_cache.proofs.Budget.{log_kept}
 use Rattle.pas_cache.specs.Serves.{Wanted, wanted_for, pages_of, ServesRequest, IsBlockFor, IsDeedOf, IsSilent, MakesFew, MakesAtMost, MakesDeedsOf}
 use Rattle.pas_steps.specs.Unknown.{unknown_pages}
-use Rattle.pas_answers.specs.Answers.{Named, named, standing_for, said_of_room, RefusalEnds}
-use Rattle.pas_answers.specs.Names.{block_named, names_held}
-use Rattle.pas_answers.specs.Calls.{block_behind, Tells, HasTurns, HasTurn, owed_events, MayPerform, MayServe, Serves, events_for, PerformsMeant}
-use Rattle.pas_answers.specs.declared.names.Names.{Names}
+use Rattle.pas_answers.specs.Answers.{named, said_of_room, RefusalEnds}
+use Rattle.pas_answers.specs.Calls.{HasTurn, owed_events, MayPerform, MayServe, Serves, events_for, PerformsMeant}
 use Rattle.pas_steps.proofs.Unknown.{unknown_stays, has_room}
 use Rattle.pas_answers.proofs.Routes.{small_cost, is_large}
 
@@ -150,25 +148,7 @@ refused_few : (f : Profile) (k cost : ℕ) (c c' : Cached) (steps : List Made) (
     → length (events_by k v steps) + 1 + owed_events f c' (steps ++ v) ≤ cost + owed_events f c v
 refused_few f k cost c c' steps v some same few = let log = ap (λ names. length names) same in omega (arith, log, few, some)
 
--- ---- the names
--- after the request the table has this at its name
-abbrev pub SetsName : Names → Names → ℕ → Option Name → Type 0
-SetsName table table' name block = (n : ℕ) → block_named table' n ≡ (if name == n then block else block_named table n)
-
-tells_one : (t : Bool) (block was : Option Name) (old : Option (Option Name)) → was ≡ block_behind old → (if t then block else was) ≡ block_behind (if t then Some block else old)
-tells_one true block was old tells = refl
-tells_one false block was old tells = tells
-
-tells_more : (table table' : Names) (names : List Named) (name : ℕ) (block : Option Name) → Tells table names → SetsName table table' name block → Tells table' (named name block ∷ names)
-tells_more table table' names name block tells sets n = sets n ∙ tells_one (name == n) block (block_named table n) (standing_for names n) (tells n)
-
-turn_of_one : (t : Bool) (block was : Option Name) (b : Name) → ((b : Name) → block ≡ Some b → b.turn < 2 ^ 40 - 1) → (was ≡ Some b → b.turn < 2 ^ 40 - 1) → (if t then block else was) ≡ Some b → b.turn < 2 ^ 40 - 1
-turn_of_one true block was b new old is = new b is
-turn_of_one false block was b new old is = old is
-
-turns_with : (table table' : Names) (name : ℕ) (block : Option Name) → HasTurns table → SetsName table table' name block → ((b : Name) → block ≡ Some b → b.turn < 2 ^ 40 - 1) → HasTurns table'
-turns_with table table' name block turns sets new n b is = turn_of_one (name == n) block (block_named table n) b new (turns n b) (sym (sets n) ∙ is)
-
+-- ---- the turn of its block
 -- the turn of a block that was given is far below the last one
 pub turn_given : {σ σ' : Standing} {answer : Result Block NoRoom} (c c' : Cached) (name heap size align spare : ℕ) (block : Block)
     → CanCall σ (λ v l. MayPerform σ.seat.profile c (Alloc name heap size align) spare v) → Serves (cost_of_route (route_of size align) size) (wanted_for σ.seat.profile heap size align) c c' σ σ' answer → answer ≡ Ok block → HasTurn (Some block.name)

@@ -82,16 +82,16 @@ named_by (Tick epoch) came = []
 named_by Pass came = []
 named_by (Idle n) came = []
 
--- what the table says of the name that the operation frees
-abbrev pub freed_in : Names → What → Option Name
-freed_in table (Alloc name heap size align) = None
-freed_in table (Free name) = block_named table name
-freed_in table (Raw block) = None
-freed_in table Flush = None
-freed_in table Stop = None
-freed_in table (Tick epoch) = None
-freed_in table Pass = None
-freed_in table (Idle n) = None
+-- what the name that the operation frees stands for, by what each name stands for
+abbrev pub freed_by : (ℕ → Option Name) → What → Option Name
+freed_by block (Alloc name heap size align) = None
+freed_by block (Free name) = block name
+freed_by block (Raw freed) = None
+freed_by block Flush = None
+freed_by block Stop = None
+freed_by block (Tick epoch) = None
+freed_by block Pass = None
+freed_by block (Idle n) = None
 
 -- ---- what is owed in the end
 -- The events that an actor may still make without another request: one for the deed of each page that it doesn't know, and one for each logged

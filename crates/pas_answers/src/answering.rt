@@ -6,14 +6,14 @@ ghost use Rattle.pas_steps.specs.Desks.{CanCall};
 ghost use Rattle.pas_cache.specs.Caches.{cached};
 ghost use Rattle.pas_answers.specs.Answers.{Named, said_of_room};
 ghost use Rattle.pas_answers.specs.Fit.{IsFitWhat};
-ghost use Rattle.pas_answers.specs.Names.{names_held};
+ghost use Rattle.pas_answers.specs.Names.{block_named, names_held};
 ghost use Rattle.pas_profile.specs.Profiles.{IsAdmitted};
 ghost use Rattle.pas_profile.specs.declared.profile.Profile.{Profile as TheProfile};
 ghost use Rattle.pas_profile.specs.declared.name.Name.{Name as TheName};
 ghost use Rattle.pas_profile.specs.Routes.{route_of};
 ghost use Rattle.pas_trace.specs.Reasons.{cost_of_route};
 ghost use Rattle.pas_cache.specs.Serves.{wanted_for};
-ghost use Rattle.pas_answers.specs.Calls.{works, Tells, HasTurns, HasTurn, named_by, freed_in, MayPerform, MayServe, Serves, PerformsMeant, FreesOne, MayAnswer, Answers, AnswersMeant};
+ghost use Rattle.pas_answers.specs.Calls.{works, Tells, HasTurns, HasTurn, named_by, freed_by, MayPerform, MayServe, Serves, PerformsMeant, FreesOne, MayAnswer, Answers, AnswersMeant};
 
 use crate::names::Names;
 use pas_cache::ThreadCache;
@@ -170,7 +170,7 @@ pub fn answer_meant<D: Desk>(
 /// What the name that the operation frees stands for.
 #[inline(always)]
 fn freed(names: &Names, what: What) -> Option<Name>
-    ensures { result ≡ freed_in names.now what }
+    ensures { result ≡ freed_by (block_named names.now) what }
 {
     match what {
         What::Free { name } => names.get(name),
