@@ -20,9 +20,7 @@ use Rattle.pas_free_log.specs.Logs.{entry_of}
 use Rattle.pas_cache.specs.Caches.{Cached, AtRest}
 use Rattle.pas_cache.specs.Calls.{TakesName, RefusesName, Frees, FlushesLog, StopsCache}
 use Rattle.pas_answers.specs.Answers.{Named, standing_for, said_of_fault, IsFreedBy}
-use Rattle.pas_answers.specs.Names.{block_named}
-use Rattle.pas_answers.specs.Calls.{works, block_behind, Tells, IsKnown, owed_events, Performs, FreesOne}
-use Rattle.pas_answers.specs.declared.names.Names.{Names}
+use Rattle.pas_answers.specs.Calls.{block_behind, IsMeant, IsKnown, owed_events, PerformsMeant, FreesOne}
 use Rattle.pas_answers.proofs.OwedEvents.{emptied_events, full_events}
 use Rattle.pas_steps.proofs.Unknown.{unknown_stays}
 
@@ -66,54 +64,45 @@ frees_refused {σ} {σ'} {answer} name c c' fault frees is =
     }
 
 -- ---- a free by a name of the trace
--- a name that was asked for stands for what the table says
+-- a name that was asked for stands for what is meant
 behind : (o : Option (Option Name)) (b : Option Name) → o ≡ Some b → block_behind o ≡ b
 behind o b is = ap block_behind is
 
-stands_for : (table : Names) (names : List Named) (name : ℕ) (block : Option Name) → block_named table name ≡ block → Tells table names → IsKnown names (Free name) → standing_for names name ≡ Some block
-stands_for table names name block named tells known =
-    known.1 ∙ ap (λ b. Some b) (sym (behind (standing_for names name) known.0 known.1) ∙ sym (tells name) ∙ named)
+stands_for : (names : List Named) (name : ℕ) (block : Option Name) → IsMeant names (Free name) block → IsKnown names (Free name) → standing_for names name ≡ Some block
+stands_for names name block means known = known.1 ∙ ap (λ b. Some b) (sym (behind (standing_for names name) known.0 known.1) ∙ means)
 
-pub performs_free : {σ σ' : Standing} {said : Option Said} (what : What) (table : Names) (c c' : Cached) (name : ℕ) (block : Name) → what ≡ Free name → block_named table name ≡ Some block → FreesOne block c c' σ σ' said → Performs what (works table c) (works table c') σ σ' said
-performs_free {σ} {σ'} {said} what table c c' name block is named frees = subst (λ w. Performs w (works table c) (works table c') σ σ' said) (sym is) record {
+pub performs_free : {σ σ' : Standing} {said : Option Said} (what : What) (meant : Option Name) (c c' : Cached) (name : ℕ) (block : Name) → what ≡ Free name → meant ≡ Some block → FreesOne block c c' σ σ' said → PerformsMeant what meant None c c' σ σ' said
+performs_free {σ} {σ'} {said} what meant c c' name block is named frees = subst (λ w. PerformsMeant w meant None c c' σ σ' said) (sym is) record {
   steps = frees.steps;
   calls = frees.calls;
   few = frees.few;
-  answered = λ v l stood rest names tells known. (
-    names,
-    tells,
-    (subst (λ o. IsFreedBy σ.seat.profile σ.seat.actor c c' name o frees.steps said) (sym (stands_for table names name (Some block) named tells known)) frees.freed, refl),
-  );
-  held = refl;
+  answered = λ v l stood rest names means known. (subst (λ o. IsFreedBy σ.seat.profile σ.seat.actor c c' name o frees.steps said) (sym (stands_for names name (Some block) (means ∙ named) known)) frees.freed, refl);
+  others = λ none. refl;
 }
 
 -- its request was refused
-pub performs_skip : {σ : Standing} (what : What) (table : Names) (c : Cached) (name : ℕ) → what ≡ Free name → block_named table name ≡ None → Performs what (works table c) (works table c) σ σ (Some (Said.Skipped name))
-performs_skip {σ} what table c name is named = subst (λ w. Performs w (works table c) (works table c) σ σ (Some (Said.Skipped name))) (sym is) record {
+pub performs_skip : {σ : Standing} (what : What) (meant : Option Name) (c : Cached) (name : ℕ) → what ≡ Free name → meant ≡ None → PerformsMeant what meant None c c σ σ (Some (Said.Skipped name))
+performs_skip {σ} what meant c name is named = subst (λ w. PerformsMeant w meant None c c σ σ (Some (Said.Skipped name))) (sym is) record {
   steps = [];
   calls = call_none (λ v rest. rest);
   few = λ v rest agreed. omega arith;
-  answered = λ v l stood rest names tells known. (
-    names,
-    tells,
-    (subst (λ o. IsFreedBy σ.seat.profile σ.seat.actor c c name o [] (Some (Said.Skipped name))) (sym (stands_for table names name None named tells known)) (refl, refl, refl), refl),
-  );
-  held = refl;
+  answered = λ v l stood rest names means known. (subst (λ o. IsFreedBy σ.seat.profile σ.seat.actor c c name o [] (Some (Said.Skipped name))) (sym (stands_for names name None (means ∙ named) known)) (refl, refl, refl), refl);
+  others = λ none. refl;
 }
 
 -- a free by address and turn
-pub performs_raw : {σ σ' : Standing} {said : Option Said} (what : What) (table : Names) (c c' : Cached) (block : Name) → what ≡ Raw block → FreesOne block c c' σ σ' said → Performs what (works table c) (works table c') σ σ' said
-performs_raw {σ} {σ'} {said} what table c c' block is frees = subst (λ w. Performs w (works table c) (works table c') σ σ' said) (sym is) record {
+pub performs_raw : {σ σ' : Standing} {said : Option Said} (what : What) (meant : Option Name) (c c' : Cached) (block : Name) → what ≡ Raw block → FreesOne block c c' σ σ' said → PerformsMeant what meant None c c' σ σ' said
+performs_raw {σ} {σ'} {said} what meant c c' block is frees = subst (λ w. PerformsMeant w meant None c c' σ σ' said) (sym is) record {
   steps = frees.steps;
   calls = frees.calls;
   few = frees.few;
-  answered = λ v l stood rest names tells known. (names, tells, (frees.freed, refl));
-  held = refl;
+  answered = λ v l stood rest names means known. (frees.freed, refl);
+  others = λ none. refl;
 }
 
 -- ---- a flush and a stop
-pub performs_flush : {σ σ' : Standing} (what : What) (table : Names) (c c' : Cached) → what ≡ Flush → FlushesLog c c' σ σ' → Performs what (works table c) (works table c') σ σ' None
-performs_flush {σ} {σ'} what table c c' is flushes = subst (λ w. Performs w (works table c) (works table c') σ σ' None) (sym is) record {
+pub performs_flush : {σ σ' : Standing} (what : What) (meant : Option Name) (c c' : Cached) → what ≡ Flush → FlushesLog c c' σ σ' → PerformsMeant what meant None c c' σ σ' None
+performs_flush {σ} {σ'} what meant c c' is flushes = subst (λ w. PerformsMeant w meant None c c' σ σ' None) (sym is) record {
   steps = flushes.steps;
   calls = flushes.calls;
   few = λ v rest agreed.
@@ -121,16 +110,16 @@ performs_flush {σ} {σ'} what table c c' is flushes = subst (λ w. Performs w (
       let none = ap (λ (d : Cached). length d.log) flushes.cache in
       let unknown = unknown_stays σ.seat.profile flushes.steps v agreed in
       omega (arith, events, none, unknown);
-  answered = λ v l stood rest names tells known. (names, tells, (record { empties = flushes.empties; cache = flushes.cache }, refl, refl));
-  held = refl;
+  answered = λ v l stood rest names means known. (record { empties = flushes.empties; cache = flushes.cache }, refl, refl);
+  others = λ none. refl;
 }
 
 stopped_events : (k : ℕ) (logged : List Entry) (v : View) (stopped flushed : List Made) → length (events_by k v flushed) ≡ length logged → events_by k (flushed ++ v) stopped ≡ [] → length (events_by k v (stopped ++ flushed)) ≡ length logged
 stopped_events k logged v stopped flushed events silent =
     ap (λ (es : List Event). length es) (events_append k stopped flushed v ∙ ap (λ (es : List Event). es ++ events_by k v flushed) silent) ∙ events
 
-pub performs_stop : {σ σ' : Standing} (what : What) (table : Names) (c c' : Cached) → what ≡ Stop → StopsCache c c' σ σ' → Performs what (works table c) (works table c') σ σ' None
-performs_stop {σ} {σ'} what table c c' is stops = subst (λ w. Performs w (works table c) (works table c') σ σ' None) (sym is) record {
+pub performs_stop : {σ σ' : Standing} (what : What) (meant : Option Name) (c c' : Cached) → what ≡ Stop → StopsCache c c' σ σ' → PerformsMeant what meant None c c' σ σ' None
+performs_stop {σ} {σ'} what meant c c' is stops = subst (λ w. PerformsMeant w meant None c c' σ σ' None) (sym is) record {
   steps = stops.stopped ++ stops.flushed;
   calls = call_as (λ v w. AtRest σ.seat.profile c' w) stops.calls (λ v rest. rest) (λ v w rest stopped. stopped.0);
   few = λ v rest agreed.
@@ -138,23 +127,19 @@ performs_stop {σ} {σ'} what table c c' is stops = subst (λ w. Performs w (wor
       let none = ap (λ (d : Cached). length d.log) stops.cache in
       let unknown = unknown_stays σ.seat.profile (stops.stopped ++ stops.flushed) v agreed in
       omega (arith, events, none, unknown);
-  answered = λ v l stood rest names tells known. (
-    names,
-    tells,
-    (
-      record {
-        flushed = stops.flushed;
-        stopped = stops.stopped;
-        empties = stops.empties;
-        stops = stops.stops;
-        kinds = stops.kinds;
-        silent = λ v. stops.silent σ.seat.actor v;
-        cache = stops.cache;
-        steps_are = refl;
-      },
-      refl,
-      refl,
-    ),
+  answered = λ v l stood rest names means known. (
+    record {
+      flushed = stops.flushed;
+      stopped = stops.stopped;
+      empties = stops.empties;
+      stops = stops.stops;
+      kinds = stops.kinds;
+      silent = λ v. stops.silent σ.seat.actor v;
+      cache = stops.cache;
+      steps_are = refl;
+    },
+    refl,
+    refl,
   );
-  held = refl;
+  others = λ none. refl;
 }

@@ -2,6 +2,7 @@ pub mod Routes
 pub mod OwedEvents
 pub mod Frees
 pub mod Requests
+pub mod Kept
 pub mod Records
 pub mod KnownNames
 pub mod Parts

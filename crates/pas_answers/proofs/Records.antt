@@ -17,8 +17,8 @@ use Rattle.pas_report.specs.declared.record.Said.{Said}
 use Rattle.pas_report.specs.declared.records.Records.{Records}
 use Rattle.pas_cache.specs.Caches.{Cached, AtRest}
 use Rattle.pas_answers.specs.Answers.{records_of, said_by}
-use Rattle.pas_answers.specs.Calls.{works, Performs, MayAnswer, Answers}
-use Rattle.pas_answers.specs.declared.names.Names.{Names}
+use Rattle.pas_answers.specs.Calls.{PerformsMeant, MayAnswer, AnswersMeant}
+use Rattle.pas_profile.specs.declared.name.Name.{Name}
 
 -- ---- what the desk shows
 -- the events shown are those of each view
@@ -50,10 +50,10 @@ can_rest {σ} c what spare out can = record { view = can.view; whole = can.whole
 
 -- ---- the records
 -- there is room for the events, and for what is said besides
-pub records_fit : {σ σ' : Standing} {said : Option Said} {c' : Cached} (what : What) (table table' : Names) (c : Cached) (spare : ℕ) (out : Records) (old new : List Event) → (can : CanCall σ (λ v l. MayAnswer σ.seat.profile c what spare out v))
-    → Performs what (works table c) (works table' c') σ σ' said → IsShown σ old → IsShown σ' new → length (records_in out) + length (drop (length old) new) + length (said_by σ.seat.actor said) ≤ room_of out
+pub records_fit : {σ σ' : Standing} {said : Option Said} {c' : Cached} (what : What) (meant came : Option Name) (c : Cached) (spare : ℕ) (out : Records) (old new : List Event) → (can : CanCall σ (λ v l. MayAnswer σ.seat.profile c what spare out v))
+    → PerformsMeant what meant came c c' σ σ' said → IsShown σ old → IsShown σ' new → length (records_in out) + length (drop (length old) new) + length (said_by σ.seat.actor said) ≤ room_of out
 unfolding can_rest
-records_fit {σ} {σ'} {said} {c'} what table table' c spare out old new can performs before after =
+records_fit {σ} {σ'} {said} {c'} what meant came c spare out old new can performs before after =
     let rest = can_rest c what spare out can in
     let events : length (drop (length old) new) ≡ length (events_by σ.seat.actor can.view performs.steps) = new_few performs.calls.adds old new before after rest in
     let few = performs.few can.view can.met.may.rest (performs.calls.adds.agreed can.view can.whole can.stood can.met.may.rest) in
@@ -74,9 +74,9 @@ said_fits {said} k out pushed events message is fits added same =
     omega (arith, size, one, fits, same)
 
 -- nothing is said besides
-pub answers_silent : {σ σ' : Standing} {said : Option Said} (what : What) (table table' : Names) (c c' : Cached) (out out' : Records) (old new : List Event) → said ≡ None
-    → Performs what (works table c) (works table' c') σ σ' said → IsShown σ old → IsShown σ' new → records_in out' ≡ records_in out ++ map Record.Event (drop (length old) new) → room_of out' ≡ room_of out → Answers what (works table c) (works table' c') out out' σ σ'
-answers_silent {σ} {σ'} {said} what table table' c c' out out' old new is performs before after added room = record {
+pub answers_silent : {σ σ' : Standing} {said : Option Said} (what : What) (meant came : Option Name) (c c' : Cached) (out out' : Records) (old new : List Event) → said ≡ None
+    → PerformsMeant what meant came c c' σ σ' said → IsShown σ old → IsShown σ' new → records_in out' ≡ records_in out ++ map Record.Event (drop (length old) new) → room_of out' ≡ room_of out → AnswersMeant what meant came c c' out out' σ σ'
+answers_silent {σ} {σ'} {said} what meant came c c' out out' old new is performs before after added room = record {
   said = said;
   performs = performs;
   pushed = λ v l stood rest. added ∙ ap (λ es. records_in out ++ map Record.Event es) (shown_new performs.calls.adds old new before after v l stood rest)
@@ -85,10 +85,10 @@ answers_silent {σ} {σ'} {said} what table table' c c' out out' old new is perf
 }
 
 -- this is said besides
-pub answers_said : {σ σ' : Standing} {said : Option Said} (what : What) (table table' : Names) (c c' : Cached) (out pushed out' : Records) (old new : List Event) (message : Said) (actor : ℕ) → said ≡ Some message → actor ≡ σ'.seat.actor
-    → Performs what (works table c) (works table' c') σ σ' said → IsShown σ old → IsShown σ' new → records_in pushed ≡ records_in out ++ map Record.Event (drop (length old) new) → room_of pushed ≡ room_of out
-    → records_in out' ≡ records_in pushed ++ Record.Said actor message ∷ [] → room_of out' ≡ room_of pushed → Answers what (works table c) (works table' c') out out' σ σ'
-answers_said {σ} {σ'} {said} what table table' c c' out pushed out' old new message actor is actor_is performs before after added same last room =
+pub answers_said : {σ σ' : Standing} {said : Option Said} (what : What) (meant came : Option Name) (c c' : Cached) (out pushed out' : Records) (old new : List Event) (message : Said) (actor : ℕ) → said ≡ Some message → actor ≡ σ'.seat.actor
+    → PerformsMeant what meant came c c' σ σ' said → IsShown σ old → IsShown σ' new → records_in pushed ≡ records_in out ++ map Record.Event (drop (length old) new) → room_of pushed ≡ room_of out
+    → records_in out' ≡ records_in pushed ++ Record.Said actor message ∷ [] → room_of out' ≡ room_of pushed → AnswersMeant what meant came c c' out out' σ σ'
+answers_said {σ} {σ'} {said} what meant came c c' out pushed out' old new message actor is actor_is performs before after added same last room =
     let own : actor ≡ σ.seat.actor = actor_is ∙ ap (λ s. s.actor) performs.calls.adds.seat_is in
     record {
       said = said;

@@ -1,5 +1,5 @@
 -- What a request promises.
-use Rattle.std.proofs.Common.{◌≡◌, ◌≢◌, ℕ, ◌+◌, ◌-◌, ◌^◌, ◌<◌, ◌≤◌, ◌==◌, ◌++◌, Bool, true, false, if◌then◌else◌, List, [], ◌∷◌, length, Option, Some, None, Result, Ok, Err, refl, ap, sym, ◌∙◌, subst, arith}
+use Rattle.std.proofs.Common.{◌≡◌, ◌≢◌, ℕ, ◌+◌, ◌-◌, ◌^◌, ◌<◌, ◌≤◌, ◌++◌, Bool, List, [], ◌∷◌, length, Option, Some, None, Result, Ok, Err, refl, ap, sym, ◌∙◌, subst, arith}
 use Rattle.std.specs.Prelude.{◌/◌, max, MatchResult}
 use Rattle.std.specs.List.{AllByRecursion}
 use Rattle.std.proofs.lemmas.Option.{same_Some, none-some}
@@ -33,10 +33,8 @@ use Rattle.pas_cache.specs.Calls.{MayAllocate, Allocates, MayAllocatePages, Allo
 use Rattle.pas_cache.proofs.Budget.{log_kept}
 use Rattle.pas_cache.specs.Serves.{Wanted, wanted_for, pages_of, ServesRequest, IsBlockFor, IsDeedOf, IsSilent, MakesFew, MakesAtMost, MakesDeedsOf}
 use Rattle.pas_steps.specs.Unknown.{unknown_pages}
-use Rattle.pas_answers.specs.Answers.{Named, named, standing_for, said_of_room, RefusalEnds}
-use Rattle.pas_answers.specs.Names.{block_named, names_held}
-use Rattle.pas_answers.specs.Calls.{works, block_behind, Tells, HasTurns, owed_events, MayPerform, MayServe, Serves, events_for, Performs}
-use Rattle.pas_answers.specs.declared.names.Names.{Names}
+use Rattle.pas_answers.specs.Answers.{named, said_of_room, RefusalEnds}
+use Rattle.pas_answers.specs.Calls.{HasTurn, owed_events, MayPerform, MayServe, Serves, events_for, PerformsMeant}
 use Rattle.pas_steps.proofs.Unknown.{unknown_stays, has_room}
 use Rattle.pas_answers.proofs.Routes.{small_cost, is_large}
 
@@ -150,42 +148,24 @@ refused_few : (f : Profile) (k cost : ℕ) (c c' : Cached) (steps : List Made) (
     → length (events_by k v steps) + 1 + owed_events f c' (steps ++ v) ≤ cost + owed_events f c v
 refused_few f k cost c c' steps v some same few = let log = ap (λ names. length names) same in omega (arith, log, few, some)
 
--- ---- the names
--- after the request the table has this at its name
-abbrev pub SetsName : Names → Names → ℕ → Option Name → Type 0
-SetsName table table' name block = (n : ℕ) → block_named table' n ≡ (if name == n then block else block_named table n)
-
-tells_one : (t : Bool) (block was : Option Name) (old : Option (Option Name)) → was ≡ block_behind old → (if t then block else was) ≡ block_behind (if t then Some block else old)
-tells_one true block was old tells = refl
-tells_one false block was old tells = tells
-
-tells_more : (table table' : Names) (names : List Named) (name : ℕ) (block : Option Name) → Tells table names → SetsName table table' name block → Tells table' (named name block ∷ names)
-tells_more table table' names name block tells sets n = sets n ∙ tells_one (name == n) block (block_named table n) (standing_for names n) (tells n)
-
-turn_of_one : (t : Bool) (block was : Option Name) (b : Name) → ((b : Name) → block ≡ Some b → b.turn < 2 ^ 40 - 1) → (was ≡ Some b → b.turn < 2 ^ 40 - 1) → (if t then block else was) ≡ Some b → b.turn < 2 ^ 40 - 1
-turn_of_one true block was b new old is = new b is
-turn_of_one false block was b new old is = old is
-
-turns_with : (table table' : Names) (name : ℕ) (block : Option Name) → HasTurns table → SetsName table table' name block → ((b : Name) → block ≡ Some b → b.turn < 2 ^ 40 - 1) → HasTurns table'
-turns_with table table' name block turns sets new n b is = turn_of_one (name == n) block (block_named table n) b new (turns n b) (sym (sets n) ∙ is)
-
+-- ---- the turn of its block
 -- the turn of a block that was given is far below the last one
-pub turns_given : {σ σ' : Standing} {answer : Result Block NoRoom} (table table' : Names) (c c' : Cached) (name heap size align spare : ℕ) (block : Block) → HasTurns table → SetsName table table' name (Some block.name)
-    → CanCall σ (λ v l. MayPerform σ.seat.profile c (Alloc name heap size align) spare v) → Serves (cost_of_route (route_of size align) size) (wanted_for σ.seat.profile heap size align) c c' σ σ' answer → answer ≡ Ok block → HasTurns table'
-turns_given {σ} {σ'} {answer} table table' c c' name heap size align spare block turns sets can call is =
+pub turn_given : {σ σ' : Standing} {answer : Result Block NoRoom} (c c' : Cached) (name heap size align spare : ℕ) (block : Block)
+    → CanCall σ (λ v l. MayPerform σ.seat.profile c (Alloc name heap size align) spare v) → Serves (cost_of_route (route_of size align) size) (wanted_for σ.seat.profile heap size align) c c' σ σ' answer → answer ≡ Ok block → HasTurn (Some block.name)
+turn_given {σ} {σ'} {answer} c c' name heap size align spare block can call is =
     let of : IsBlockFor σ.seat.profile (wanted_for σ.seat.profile heap size align) (AtRest σ.seat.profile c) call.steps block
     = subst (λ a. MatchResult a (IsBlockFor σ.seat.profile (wanted_for σ.seat.profile heap size align) (AtRest σ.seat.profile c) call.steps) (λ room. (k : ℕ) (v : View) → RefusalEnds (route_of size align) (wanted_for σ.seat.profile heap size align).directory (events_by k v call.steps))) is call.outcome in
     let small = of.turn.from can.view can.met.rest (call.calls.adds.agreed can.view can.whole can.stood can.met.rest) in
-    turns_with table table' name (Some block.name) turns sets (λ b same. subst (λ d. d.turn < 2 ^ 40 - 1) (same_Some _ _ same) (omega (arith, small)))
+    λ b same. subst (λ d. d.turn < 2 ^ 40 - 1) (same_Some _ _ same) (omega (arith, small))
 
-pub turns_refused : (table table' : Names) (name : ℕ) → HasTurns table → SetsName table table' name None → HasTurns table'
-turns_refused table table' name turns sets = turns_with table table' name None turns sets (λ b same. absurd (none-some _ same))
+pub turn_refused : HasTurn None
+turn_refused = λ b same. absurd (none-some _ same)
 
 -- ---- a request
-pub performs_given : {σ σ' : Standing} {answer : Result Block NoRoom} (table table' : Names) (c c' : Cached) (name heap size align : ℕ) (block : Block)
-    → Serves (cost_of_route (route_of size align) size) (wanted_for σ.seat.profile heap size align) c c' σ σ' answer → answer ≡ Ok block → SetsName table table' name (Some block.name) → names_held table' ≡ names_held table
-    → Performs (Alloc name heap size align) (works table c) (works table' c') σ σ' None
-performs_given {σ} {σ'} {answer} table table' c c' name heap size align block call is sets held =
+pub performs_given : {σ σ' : Standing} {answer : Result Block NoRoom} (c c' : Cached) (name heap size align : ℕ) (block : Block)
+    → Serves (cost_of_route (route_of size align) size) (wanted_for σ.seat.profile heap size align) c c' σ σ' answer → answer ≡ Ok block → (meant : Option Name)
+    → PerformsMeant (Alloc name heap size align) meant (Some block.name) c c' σ σ' None
+performs_given {σ} {σ'} {answer} c c' name heap size align block call is meant =
     let cost = cost_of_route (route_of size align) size in
     let of : IsBlockFor σ.seat.profile (wanted_for σ.seat.profile heap size align) (AtRest σ.seat.profile c) call.steps block
     = subst (λ a. MatchResult a (IsBlockFor σ.seat.profile (wanted_for σ.seat.profile heap size align) (AtRest σ.seat.profile c) call.steps) (λ room. (k : ℕ) (v : View) → RefusalEnds (route_of size align) (wanted_for σ.seat.profile heap size align).directory (events_by k v call.steps))) is call.outcome in
@@ -193,10 +173,7 @@ performs_given {σ} {σ'} {answer} table table' c c' name heap size align block 
       steps = call.steps;
       calls = call.calls;
       few = λ v rest agreed. given_few σ.seat.profile σ.seat.actor cost c c' call.steps v call.log_is (subst (λ a. MakesAtMost σ.seat.profile (AtRest σ.seat.profile c) (events_for cost a) call.steps) is call.few σ.seat.actor v rest agreed);
-      answered = λ v l stood rest names tells known. (
-        named name (Some block.name) ∷ names,
-        tells_more table table' names name (Some block.name) tells sets,
-        record {
+      answered = λ v l stood rest names means known. record {
           answer = Ok block;
           serves = subst (λ a. ServesRequest σ.seat.profile (wanted_for σ.seat.profile heap size align) c c' call.steps a) is call.change;
           kinds = call.kinds;
@@ -212,15 +189,14 @@ performs_given {σ} {σ'} {answer} table table' c c' name heap size align block 
           };
           said_is = refl;
           names_are = refl;
-        },
-      );
-      held = held;
+        };
+      others = λ none. absurd (let bad : named name (Some block.name) ∷ [] ≡ [] = none in cc);
     }
 
-pub performs_refused : {σ σ' : Standing} {answer : Result Block NoRoom} (table table' : Names) (c c' : Cached) (name heap size align : ℕ) (room : NoRoom)
-    → Serves (cost_of_route (route_of size align) size) (wanted_for σ.seat.profile heap size align) c c' σ σ' answer → answer ≡ Err room → SetsName table table' name None → names_held table' ≡ names_held table
-    → Performs (Alloc name heap size align) (works table c) (works table' c') σ σ' (Some (said_of_room name room))
-performs_refused {σ} {σ'} {answer} table table' c c' name heap size align room call is sets held =
+pub performs_refused : {σ σ' : Standing} {answer : Result Block NoRoom} (c c' : Cached) (name heap size align : ℕ) (room : NoRoom)
+    → Serves (cost_of_route (route_of size align) size) (wanted_for σ.seat.profile heap size align) c c' σ σ' answer → answer ≡ Err room → (meant : Option Name)
+    → PerformsMeant (Alloc name heap size align) meant None c c' σ σ' (Some (said_of_room name room))
+performs_refused {σ} {σ'} {answer} c c' name heap size align room call is meant =
     let cost = cost_of_route (route_of size align) size in
     let ends : (k : ℕ) (v : View) → RefusalEnds (route_of size align) (wanted_for σ.seat.profile heap size align).directory (events_by k v call.steps)
     = subst (λ a. MatchResult a (IsBlockFor σ.seat.profile (wanted_for σ.seat.profile heap size align) (AtRest σ.seat.profile c) call.steps) (λ room. (k : ℕ) (v : View) → RefusalEnds (route_of size align) (wanted_for σ.seat.profile heap size align).directory (events_by k v call.steps))) is call.outcome in
@@ -228,17 +204,13 @@ performs_refused {σ} {σ'} {answer} table table' c c' name heap size align room
       steps = call.steps;
       calls = call.calls;
       few = λ v rest agreed. refused_few σ.seat.profile σ.seat.actor cost c c' call.steps v (some_cost (route_of size align) size) call.log_is (subst (λ a. MakesAtMost σ.seat.profile (AtRest σ.seat.profile c) (events_for cost a) call.steps) is call.few σ.seat.actor v rest agreed);
-      answered = λ v l stood rest names tells known. (
-        named name None ∷ names,
-        tells_more table table' names name None tells sets,
-        record {
+      answered = λ v l stood rest names means known. record {
           answer = Err room;
           serves = subst (λ a. ServesRequest σ.seat.profile (wanted_for σ.seat.profile heap size align) c c' call.steps a) is call.change;
           kinds = call.kinds;
           ends = ends σ.seat.actor v;
           said_is = refl;
           names_are = refl;
-        },
-      );
-      held = held;
+        };
+      others = λ none. refl;
     }

@@ -1,5 +1,5 @@
 -- What one operation asks and promises.
-use Rattle.std.specs.Prelude.{ℕ, ◌+◌, ◌-◌, ◌^◌, ◌<◌, ◌≤◌, ◌≡◌, true, List, ◌++◌, length, Option, None, Some, Result, Ok, Err, MatchResult}
+use Rattle.std.specs.Prelude.{ℕ, ◌+◌, ◌-◌, ◌^◌, ◌<◌, ◌≤◌, ◌≡◌, true, List, [], ◌∷◌, ◌++◌, length, Option, None, Some, Result, Ok, Err, MatchResult}
 use Rattle.pas_profile.specs.declared.profile.Profile.{Profile}
 use Rattle.pas_profile.specs.declared.name.Name.{Name}
 use Rattle.pas_steps.specs.Views.{View}
@@ -22,7 +22,7 @@ use Rattle.pas_cache.specs.Calls.{Rests}
 use Rattle.pas_cache.specs.Kinds.{allocating}
 use Rattle.pas_cache.specs.Serves.{Wanted, ServesRequest, IsBlockFor, MakesAtMost}
 use Rattle.pas_steps.specs.Unknown.{unknown_pages}
-use Rattle.pas_answers.specs.Answers.{having, answer_of, Named, standing_for, IsFreed, IsAnswered, RefusalEnds, records_of, said_by}
+use Rattle.pas_answers.specs.Answers.{having, answer_of, Named, named, standing_for, IsFreed, IsAnswered, RefusalEnds, records_of, said_by}
 use Rattle.pas_answers.specs.Fit.{cost_of_what}
 use Rattle.pas_answers.specs.Names.{block_named, names_held}
 use Rattle.pas_answers.specs.declared.names.Names.{Names}
@@ -41,6 +41,10 @@ Tells table names = (n : ℕ) → block_named table n ≡ block_behind (standing
 abbrev pub HasTurns : Names → Type 0
 HasTurns table = (n : ℕ) (block : Name) → block_named table n ≡ Some block → block.turn < 2 ^ 40 - 1
 
+-- the block, where there is one, has a next turn
+abbrev pub HasTurn : Option Name → Type 0
+HasTurn found = (block : Name) → found ≡ Some block → block.turn < 2 ^ 40 - 1
+
 -- the names that were asked for stand for something
 abbrev pub AreKnown : List ℕ → List Named → Type 0
 AreKnown asked names = (n : ℕ) → is_asked asked n ≡ true → (block : Option Name) × (standing_for names n ≡ Some block)
@@ -55,6 +59,39 @@ IsKnown names Stop = Unit {0}
 IsKnown names (Tick epoch) = Unit {0}
 IsKnown names Pass = Unit {0}
 IsKnown names (Idle n) = Unit {0}
+
+-- the name that the operation frees stands for this
+abbrev pub IsMeant : List Named → What → Option Name → Type 0
+IsMeant names (Alloc name heap size align) meant = Unit {0}
+IsMeant names (Free name) meant = block_behind (standing_for names name) ≡ meant
+IsMeant names (Raw block) meant = Unit {0}
+IsMeant names Flush meant = Unit {0}
+IsMeant names Stop meant = Unit {0}
+IsMeant names (Tick epoch) meant = Unit {0}
+IsMeant names Pass meant = Unit {0}
+IsMeant names (Idle n) meant = Unit {0}
+
+-- the name that the operation asks for, with what it came to
+abbrev pub named_by : What → Option Name → List Named
+named_by (Alloc name heap size align) came = named name came ∷ []
+named_by (Free name) came = []
+named_by (Raw block) came = []
+named_by Flush came = []
+named_by Stop came = []
+named_by (Tick epoch) came = []
+named_by Pass came = []
+named_by (Idle n) came = []
+
+-- what the name that the operation frees stands for, by what each name stands for
+abbrev pub freed_by : (ℕ → Option Name) → What → Option Name
+freed_by block (Alloc name heap size align) = None
+freed_by block (Free name) = block name
+freed_by block (Raw freed) = None
+freed_by block Flush = None
+freed_by block Stop = None
+freed_by block (Tick epoch) = None
+freed_by block Pass = None
+freed_by block (Idle n) = None
 
 -- ---- what is owed in the end
 -- The events that an actor may still make without another request: one for the deed of each page that it doesn't know, and one for each logged
@@ -91,6 +128,16 @@ pub record Performs (what : What) (before after : Works) (desk desk' : Standing)
       → (names' : List Named) × Tells after.table names' × IsAnswered desk.seat.profile desk.seat.actor what (having names v before.cache) (answer_of steps said names' after.cache)
   pub held : names_held after.table ≡ names_held before.table
 
+-- The same without a table: the name that the operation frees stands for `meant`, and the one that it asks for stands for `came` from then on.
+pub record PerformsMeant (what : What) (meant came : Option Name) (c c' : Cached) (desk desk' : Standing) (said : Option Said) : Type 0 where
+  pub steps : List Made
+  pub calls : Rests c c' desk desk' steps
+  pub few : (v : View) → AtRest desk.seat.profile c v → Agreed desk.seat.profile v steps
+      → length (events_by desk.seat.actor v steps) + length (said_by desk.seat.actor said) + owed_events desk.seat.profile c' (steps ++ v) ≤ cost_of_what what + owed_events desk.seat.profile c v
+  pub answered : (v : View) (l : Whole) → desk.stands v l → AtRest desk.seat.profile c v → (names : List Named) → IsMeant names what meant → IsKnown names what
+      → IsAnswered desk.seat.profile desk.seat.actor what (having names v c) (answer_of steps said (named_by what came ++ names) c')
+  pub others : named_by what came ≡ [] → came ≡ None
+
 -- how many events a request makes at most, beside the deeds that weren't known: what it costs, or none where it was refused
 abbrev pub events_for : ℕ → Result Block NoRoom → ℕ
 events_for cost (Ok block) = cost
@@ -124,5 +171,13 @@ pub record Answers (what : What) (before after : Works) (out out' : Records) (de
   pub said : Option Said
   pub performs : Performs what before after desk desk' said
   pub pushed : (v : View) (l : Whole) → desk.stands v l → AtRest desk.seat.profile before.cache v
+      → records_in out' ≡ records_in out ++ (records_of (events_by desk.seat.actor v performs.steps) ++ said_by desk.seat.actor said)
+  pub room : room_of out' ≡ room_of out
+
+-- .. without a table
+pub record AnswersMeant (what : What) (meant came : Option Name) (c c' : Cached) (out out' : Records) (desk desk' : Standing) : Type 0 where
+  pub said : Option Said
+  pub performs : PerformsMeant what meant came c c' desk desk' said
+  pub pushed : (v : View) (l : Whole) → desk.stands v l → AtRest desk.seat.profile c v
       → records_in out' ≡ records_in out ++ (records_of (events_by desk.seat.actor v performs.steps) ++ said_by desk.seat.actor said)
   pub room : room_of out' ≡ room_of out

@@ -1,17 +1,19 @@
 //! One operation of a thread.
-ghost use Rattle.std.specs.Prelude.{◌≡◌, ◌+◌, ◌-◌, ◌^◌, ◌≤◌, ◌<◌, ◌++◌, true, false, ℕ, List, length, map, drop};
+ghost use Rattle.std.specs.Prelude.{◌≡◌, ◌+◌, ◌-◌, ◌^◌, ◌≤◌, ◌<◌, ◌++◌, true, false, ℕ, List, Option, length, map, drop};
 ghost use Rattle.pas_trace.specs.declared.plan.What.TheVariants as TheWhat;
 ghost use Rattle.pas_report.specs.Rooms.{records_in, room_of};
 ghost use Rattle.pas_steps.specs.Desks.{CanCall};
 ghost use Rattle.pas_cache.specs.Caches.{cached};
-ghost use Rattle.pas_answers.specs.Answers.{said_of_room};
+ghost use Rattle.pas_answers.specs.Answers.{Named, said_of_room};
 ghost use Rattle.pas_answers.specs.Fit.{IsFitWhat};
-ghost use Rattle.pas_answers.specs.Names.{names_held};
+ghost use Rattle.pas_answers.specs.Names.{block_named, names_held};
 ghost use Rattle.pas_profile.specs.Profiles.{IsAdmitted};
+ghost use Rattle.pas_profile.specs.declared.profile.Profile.{Profile as TheProfile};
+ghost use Rattle.pas_profile.specs.declared.name.Name.{Name as TheName};
 ghost use Rattle.pas_profile.specs.Routes.{route_of};
 ghost use Rattle.pas_trace.specs.Reasons.{cost_of_route};
 ghost use Rattle.pas_cache.specs.Serves.{wanted_for};
-ghost use Rattle.pas_answers.specs.Calls.{works, HasTurns, MayPerform, MayServe, Serves, Performs, FreesOne, MayAnswer, Answers};
+ghost use Rattle.pas_answers.specs.Calls.{works, Tells, HasTurns, HasTurn, named_by, freed_by, MayPerform, MayServe, Serves, PerformsMeant, FreesOne, MayAnswer, Answers, AnswersMeant};
 
 use crate::names::Names;
 use pas_cache::ThreadCache;
@@ -66,32 +68,24 @@ fn serve<D: Desk>(
     }
 }
 
-/// Serves a request, and names the block. What is said where it was refused.
+/// Serves a request: what its name stands for from then on, and what is said where it was refused.
 fn allocate<D: Desk>(
     desk: &mut D,
     cache: &mut ThreadCache,
-    names: &mut Names,
     name: u32,
     heap: u8,
     size: u32,
     align: u32,
-) -> Option<Said>
-    requires fit { (asked : List ℕ) × IsFitWhat (D.standing desk.old).seat.profile (names_held names.old) asked (TheWhat.Alloc name heap size align) }
-    requires turns { HasTurns names.old }
+) -> (Option<Name>, Option<Said>)
+    requires admitted { IsAdmitted (D.standing desk.old).seat.profile size align heap }
     requires can { CanCall (D.standing desk.old) (λ v l. MayPerform (D.standing desk.old).seat.profile (cached cache.old) (TheWhat.Alloc name heap size align) (D.spare_of desk.old) v) }
-    ensures performs { Performs (TheWhat.Alloc name heap size align) (works names.old (cached cache.old)) (works names.new (cached cache.new)) (D.standing desk.old) (D.standing desk.new) result }
-    ensures turns { HasTurns names.new }
+    ensures performs { (meant : Option TheName) → PerformsMeant (TheWhat.Alloc name heap size align) meant result.0 (cached cache.old) (cached cache.new) (D.standing desk.old) (D.standing desk.new) result.1 }
+    ensures turn { HasTurn result.0 }
     ensures home { D.home desk.new ≡ D.home desk.old }
 {
     match serve(desk, cache, heap, size, align) {
-        Ok(block) => {
-            names.set(name, Some(block.name));
-            None
-        }
-        Err(room) => {
-            names.set(name, None);
-            Some(refusal(name, room))
-        }
+        Ok(block) => (Some(block.name), None),
+        Err(room) => (None, Some(refusal(name, room))),
     }
 }
 
@@ -109,18 +103,19 @@ fn free<D: Desk>(desk: &mut D, cache: &mut ThreadCache, block: Name) -> Option<S
     }
 }
 
-/// Performs the operation. What is said besides its events.
+/// Performs the operation, of which the freed name stands for `meant`: what the asked name stands for from then on, and what is said besides its
+/// events.
 fn perform<D: Desk>(
     desk: &mut D,
     cache: &mut ThreadCache,
-    names: &mut Names,
     what: What,
-) -> Option<Said>
-    requires fit { (asked : List ℕ) × IsFitWhat (D.standing desk.old).seat.profile (names_held names.old) asked what }
-    requires turns { HasTurns names.old }
+    meant: Option<Name>,
+) -> (Option<Name>, Option<Said>)
+    requires fit { (limit : ℕ) × (asked : List ℕ) × IsFitWhat (D.standing desk.old).seat.profile limit asked what }
+    requires turn { HasTurn meant }
     requires can { CanCall (D.standing desk.old) (λ v l. MayPerform (D.standing desk.old).seat.profile (cached cache.old) what (D.spare_of desk.old) v) }
-    ensures performs { Performs what (works names.old (cached cache.old)) (works names.new (cached cache.new)) (D.standing desk.old) (D.standing desk.new) result }
-    ensures turns { HasTurns names.new }
+    ensures performs { PerformsMeant what meant result.0 (cached cache.old) (cached cache.new) (D.standing desk.old) (D.standing desk.new) result.1 }
+    ensures turn { HasTurn result.0 }
     ensures home { D.home desk.new ≡ D.home desk.old }
 {
     match what {
@@ -129,21 +124,71 @@ fn perform<D: Desk>(
             heap,
             size,
             align,
-        } => allocate(desk, cache, names, name, heap, size, align),
-        What::Free { name } => match names.get(name) {
-            Some(block) => free(desk, cache, block),
-            None => Some(Said::Skipped { name }),
+        } => allocate(desk, cache, name, heap, size, align),
+        What::Free { name } => match meant {
+            Some(block) => (None, free(desk, cache, block)),
+            None => (None, Some(Said::Skipped { name })),
         },
-        What::Raw { block } => free(desk, cache, block),
+        What::Raw { block } => (None, free(desk, cache, block)),
         What::Flush => {
             cache.flush(desk);
-            None
+            (None, None)
         }
         What::Stop => {
             cache.stop(desk);
-            None
+            (None, None)
         }
         What::Tick(_) | What::Pass | What::Idle(_) => unreachable!(),
+    }
+}
+
+/// Performs a thread's operation, and adds its events and what is said to the records. `meant` is the block that the freed name of a `What::Free` stands
+/// for, if any, and the result the block that the asked name of a `What::Alloc` stands for from then on; None for every other operation.
+pub fn answer_meant<D: Desk>(
+    desk: &mut D,
+    cache: &mut ThreadCache,
+    what: What,
+    meant: Option<Name>,
+    out: &mut Records,
+) -> Option<Name>
+    requires fit { (limit : ℕ) × (asked : List ℕ) × IsFitWhat (D.standing desk.old).seat.profile limit asked what }
+    requires turn { HasTurn meant }
+    requires can { CanCall (D.standing desk.old) (λ v l. MayAnswer (D.standing desk.old).seat.profile (cached cache.old) what (D.spare_of desk.old) out.old v) }
+    ensures answers { AnswersMeant what meant result (cached cache.old) (cached cache.new) out.old out.new (D.standing desk.old) (D.standing desk.new) }
+    ensures turn { HasTurn result }
+    ensures home { D.home desk.new ≡ D.home desk.old }
+{
+    let before = desk.shown().len();
+    let (came, said) = perform(desk, cache, what, meant);
+    push_events(desk.shown(), before, out);
+    if let Some(said) = said {
+        out.push(Record::Said(desk.actor(), said));
+    }
+    came
+}
+
+/// What the name that the operation frees stands for.
+#[inline(always)]
+fn freed(names: &Names, what: What) -> Option<Name>
+    ensures { result ≡ freed_by (block_named names.now) what }
+{
+    match what {
+        What::Free { name } => names.get(name),
+        _ => None,
+    }
+}
+
+/// Keeps what the name that the operation asked for came to.
+#[inline(always)]
+fn keep(names: &mut Names, what: What, came: Option<Name>)
+    requires fit { (f : TheProfile) × (asked : List ℕ) × IsFitWhat f (names_held names.old) asked what }
+    ensures tells { (known : List Named) → Tells names.old known → Tells names.new (named_by what came ++ known) }
+    ensures turns { HasTurns names.old → HasTurn came → HasTurns names.new }
+    ensures held { names_held names.new ≡ names_held names.old }
+{
+    match what {
+        What::Alloc { name, .. } => names.set(name, came),
+        _ => {}
     }
 }
 
@@ -162,10 +207,7 @@ pub fn answer<D: Desk>(
     ensures turns { HasTurns names.new }
     ensures home { D.home desk.new ≡ D.home desk.old }
 {
-    let before = desk.shown().len();
-    let said = perform(desk, cache, names, what);
-    push_events(desk.shown(), before, out);
-    if let Some(said) = said {
-        out.push(Record::Said(desk.actor(), said));
-    }
+    let meant = freed(names, what);
+    let came = answer_meant(desk, cache, what, meant, out);
+    keep(names, what, came);
 }

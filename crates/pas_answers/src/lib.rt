@@ -4,4 +4,4 @@
 mod answering;
 pub mod names;
 
-pub use answering::answer;
+pub use answering::{answer, answer_meant};

@@ -19,14 +19,30 @@ pub struct Names {
     meanings: Vec<Meaning>,
 }
 
-/// A name stands for this.
-#[inline]
-fn meaning_of(block: Option<Name>) -> Meaning
-    ensures { name_in result ≡ block }
-{
-    match block {
-        Some(Name { address, turn }) => Meaning::Block { address, turn },
-        None => Meaning::Nothing,
+impl Meaning {
+    /// That of a block, or of nothing.
+    #[inline]
+    pub fn of(block: Option<Name>) -> Meaning
+        ensures { name_in result ≡ block }
+    {
+        match block {
+            Some(Name { address, turn }) => Meaning::Block { address, turn },
+            None => Meaning::Nothing,
+        }
+    }
+
+    /// The block, if any.
+    #[inline]
+    pub fn block(&self) -> Option<Name>
+        ensures { result ≡ name_in self.now }
+    {
+        match self {
+            Meaning::Block { address, turn } => Some(Name {
+                address: *address,
+                turn: *turn,
+            }),
+            Meaning::Nothing => None,
+        }
     }
 }
 
@@ -49,7 +65,7 @@ impl Names {
         ensures names { (n : ℕ) → block_named self.new n ≡ (if name == n then block else block_named self.old n) }
         ensures room { names_held self.new ≡ names_held self.old }
     {
-        self.meanings[name as usize] = meaning_of(block);
+        self.meanings[name as usize] = Meaning::of(block);
     }
 
     /// What the name stands for.

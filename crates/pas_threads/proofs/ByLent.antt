@@ -41,7 +41,7 @@ more_by k before after new said more mine one two is =
     two ∙ ap (λ (rs : List Record). rs ++ mine) one ∙ append_assoc before (records_by k said) mine
     ∙ ap (λ (rs : List Record). before ++ rs) (sym (records_both k said more ∙ ap (λ (rs : List Record). records_by k said ++ rs) is))
 
-pub begins : {region : SharedRegion} {f : Profile} {idle : List ℕ} {later : ℕ → ℕ} {lent : List Worker} {out : Records} {p : Progress} → AreLent region f idle later lent p → DidWithLent region f [] idle later lent lent out out 0 p
+pub begins : {region : SharedRegion} {f : Profile} {idle : List ℕ} {later : ℕ → Later} {lent : List Worker} {out : Records} {p : Progress} → AreLent region f idle later lent p → DidWithLent region f [] idle later lent lent out out 0 p
 begins {region} {f} {idle} {later} {lent} {out} {p} at = record {
   reached = p;
   reaches = refl;
@@ -58,7 +58,7 @@ begins {region} {f} {idle} {later} {lent} {out} {p} at = record {
 }
 
 -- the next of the lent threads
-module _ {region : SharedRegion} {f : Profile} {acts : List Act} {idle : List ℕ} {later : ℕ → ℕ} {old now : List Worker} {out out1 out2 : Records} {p : Progress} (n i : ℕ) (d w : Worker) (distinct : AreDistinct idle)
+module _ {region : SharedRegion} {f : Profile} {acts : List Act} {idle : List ℕ} {later : ℕ → Later} {old now : List Worker} {out out1 out2 : Records} {p : Progress} (n i : ℕ) (d w : Worker) (distinct : AreDistinct idle)
     (so : DidWithLent region f acts idle later old now out out1 i p) (lt : i < length now) (many : length now ≡ length old)
     (did : Did region (get_or now i d).pass w.pass (λ σ σ'. StopsThread f (get_or idle i 0) n σ σ' (kept_by (get_or now i d)) (kept_by w) out1 out2 (later i) so.reached)) where
   abbrev k : ℕ
@@ -142,13 +142,13 @@ module _ {region : SharedRegion} {f : Profile} {acts : List Act} {idle : List �
 
 -- ---- all of them
 -- the stops of the lent threads before this place were done
-abbrev pub SoFar : SharedRegion → Profile → ℕ → List ℕ → (ℕ → ℕ) → List Worker → List Worker → Records → Records → ℕ → Progress → Type 0
+abbrev pub SoFar : SharedRegion → Profile → ℕ → List ℕ → (ℕ → Later) → List Worker → List Worker → Records → Records → ℕ → Progress → Type 0
 SoFar region f n idle later old now out out1 i p = (acts : List Act) × (acts ++ idle_stops n (drop i idle) ≡ idle_stops n idle) × DidWithLent region f acts idle later old now out out1 i p
 
 next_stop : (n : ℕ) (idle : List ℕ) (i : ℕ) → i < length idle → idle_stops n (drop i idle) ≡ (StopsIdle (get_or idle i 0) n ∷ []) ++ idle_stops n (drop (i + 1) idle)
 next_stop n idle i lt = ap (λ (ks : List ℕ). idle_stops n ks) (drop_more idle i 0 lt)
 
-pub goes_on : {region : SharedRegion} {f : Profile} {idle : List ℕ} {later : ℕ → ℕ} {old now : List Worker} {out out1 out2 : Records} {p : Progress} (n i : ℕ) (d w : Worker) → AreDistinct idle
+pub goes_on : {region : SharedRegion} {f : Profile} {idle : List ℕ} {later : ℕ → Later} {old now : List Worker} {out out1 out2 : Records} {p : Progress} (n i : ℕ) (d w : Worker) → AreDistinct idle
     → (so : SoFar region f n idle later old now out out1 i p) → i < length now → length now ≡ length old
     → Did region (get_or now i d).pass w.pass (λ σ σ'. StopsThread f (get_or idle i 0) n σ σ' (kept_by (get_or now i d)) (kept_by w) out1 out2 (later i) so.2.reached)
     → SoFar region f n idle later old (set now i w) out out2 (i + 1) p
@@ -158,7 +158,7 @@ goes_on {region} {f} {idle} {later} {old} {now} {out} {out1} {out2} {p} n i d w 
     let head : List Act = StopsIdle (get_or idle i 0) n ∷ [] in
     (so.0 ++ head, append_assoc so.0 head (idle_stops n (drop (i + 1) idle)) ∙ ap (λ (acts : List Act). so.0 ++ acts) (sym one) ∙ so.1, next n i d w distinct so.2 lt many did)
 
-pub ends : {region : SharedRegion} {f : Profile} {idle : List ℕ} {later : ℕ → ℕ} {old now : List Worker} {out out1 : Records} {p : Progress} (n i : ℕ) → length old ≤ i → i ≤ length old → length now ≡ length old
+pub ends : {region : SharedRegion} {f : Profile} {idle : List ℕ} {later : ℕ → Later} {old now : List Worker} {out out1 : Records} {p : Progress} (n i : ℕ) → length old ≤ i → i ≤ length old → length now ≡ length old
     → SoFar region f n idle later old now out out1 i p → DidWithLent region f (idle_stops n idle) idle later old now out out1 (length old) p
 ends {region} {f} {idle} {later} {old} {now} {out} {out1} {p} n i le ge many so =
     let size = so.2.lent.many in

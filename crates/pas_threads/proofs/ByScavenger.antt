@@ -42,7 +42,7 @@ use Rattle.pas_threads.proofs.Speaking.{events_of_piece, pass_of}
 use Rattle.pas_threads.proofs.Working.{HasSpare, IsOperation, the_answer, answers_now, piece, pushed, stands_again}
 
 -- ---- at the desk
-pub can_scavenge : {f : Profile} {acts : List Act} {σ : Standing} {places : ℕ} {out : Records} {later : ℕ} {p : Progress} → ScavengerAt f acts σ places out later p → CanCall σ (λ v l. HasNothing v)
+pub can_scavenge : {f : Profile} {acts : List Act} {σ : Standing} {places : ℕ} {out : Records} {later : Later} {p : Progress} → ScavengerAt f acts σ places out later p → CanCall σ (λ v l. HasNothing v)
 can_scavenge {p = p} at = record { view = part 0 p.list; whole = at.sits.beside; stood = at.sits.stood; met = at.sits.rest }
 
 sits_on : {f : Profile} {σ σ' : Standing} {v : View} {need need' : ℕ} {steps : List Made} → Sits f 0 HasNothing σ v need → Calls σ σ' HasNothing (λ v w. HasNothing w) steps → length (events_by 0 v steps) + need' ≤ need
@@ -61,7 +61,7 @@ sits_on {f} {σ} {σ'} {v} {need} {need'} {steps} s calls few =
     }
 
 -- ---- a tick
-pub has_ticked : {f : Profile} {next : List Act} {σ σ' : Standing} {places : ℕ} {out out' : Records} {later : ℕ} {p : Progress} (epoch : ℕ) → ScavengerAt f (Ticks epoch ∷ next) σ places out later p
+pub has_ticked : {f : Profile} {next : List Act} {σ σ' : Standing} {places : ℕ} {out out' : Records} {later : Later} {p : Progress} (epoch : ℕ) → ScavengerAt f (Ticks epoch ∷ next) σ places out later p
     → AnswersTick epoch σ σ' (records_in out) (records_in out') → room_of out' ≡ room_of out → Scavenges f (Ticks epoch) next σ σ' places places out out' later p
 has_ticked {f} {next} {σ} {σ'} {places} {out} {out'} {later} {p} epoch at ticks room =
     let v = part 0 p.list in
@@ -77,7 +77,7 @@ has_ticked {f} {next} {σ} {σ'} {places} {out} {out'} {later} {p} epoch at tick
       reached = q;
       reaches = (q, (ticks.answer, refl), refl);
       stands = record {
-        sits = subst (λ (w : View). Sits f 0 HasNothing σ' w (costs_of f next + later)) (sym (part_of_own 0 steps p.list)) (sits_on at.sits calls (omega arith));
+        sits = subst (λ (w : View). Sits f 0 HasNothing σ' w (costs_of f next + later.events)) (sym (part_of_own 0 steps p.list)) (sits_on at.sits calls (omega arith));
         has_places = at.has_places;
         spare = omega (arith, longer, spare, room);
       };
@@ -107,7 +107,7 @@ few_unbacks k epoch (x ∷ pairs) =
     let both = length-append (unback_of k epoch x.0 x.1) (unbacks_in k epoch pairs) in
     omega (arith, one, rest, both)
 
-pub has_passed : {f : Profile} {next : List Act} {σ σ' : Standing} {places places' spare spare' : ℕ} {found : List (ℕ × Outcome)} {out out' : Records} {later : ℕ} {p : Progress} → ScavengerAt f (MakesPass ∷ next) σ places out later p
+pub has_passed : {f : Profile} {next : List Act} {σ σ' : Standing} {places places' spare spare' : ℕ} {found : List (ℕ × Outcome)} {out out' : Records} {later : Later} {p : Progress} → ScavengerAt f (MakesPass ∷ next) σ places out later p
     → AnswersPass σ σ' spare spare' found (records_in out) (records_in out') → length (records_in out') ≤ length (records_in out) + (1 + f.pages) → room_of out' ≡ room_of out → places' ≡ places
     → Scavenges f MakesPass next σ σ' places places' out out' later p
 has_passed {f} {next} {σ} {σ'} {places} {places'} {spare} {spare'} {found} {out} {out'} {later} {p} at pass short room same =
@@ -128,7 +128,7 @@ has_passed {f} {next} {σ} {σ'} {places} {places'} {spare} {spare'} {found} {ou
       reached = q;
       reaches = (q, (epoch, found, steps, order, refl), refl);
       stands = record {
-        sits = subst (λ (w : View). Sits f 0 HasNothing σ' w (costs_of f next + later)) (sym (part_of_own 0 steps p.list)) (sits_on at.sits pass.passes.calls (omega (arith, events, few, turned, longer, size, short)));
+        sits = subst (λ (w : View). Sits f 0 HasNothing σ' w (costs_of f next + later.events)) (sym (part_of_own 0 steps p.list)) (sits_on at.sits pass.passes.calls (omega (arith, events, few, turned, longer, size, short)));
         has_places = same ∙ at.has_places;
         spare = omega (arith, longer, short, spare0, room);
       };
@@ -147,7 +147,7 @@ reads : {σ σ' : Standing} (epoch : ℕ) → Makes σ σ' (Look Word.Epoch) epo
 reads {σ} {σ'} epoch makes = call_step (λ v w. HasNothing w) (call_none {R = λ v w. HasNothing w} (λ v met. met)) makes (λ v met is. tt)
     (λ v met is agrees. nothing_still (does_idly σ.seat.profile (LookEpoch ∷ []) refl (epoch_look epoch) v (refl, tt) (agrees, tt)) met)
 
-pub has_read : {f : Profile} {next : List Act} {σ σ' : Standing} {places : ℕ} {out : Records} {later : ℕ} {p : Progress} (epoch : ℕ) → ScavengerAt f (ReadsEpoch ∷ next) σ places out later p → Makes σ σ' (Look Word.Epoch) epoch
+pub has_read : {f : Profile} {next : List Act} {σ σ' : Standing} {places : ℕ} {out : Records} {later : Later} {p : Progress} (epoch : ℕ) → ScavengerAt f (ReadsEpoch ∷ next) σ places out later p → Makes σ σ' (Look Word.Epoch) epoch
     → (did : Scavenges f ReadsEpoch next σ σ' places places out out later p) × (did.reached.epoch ≡ epoch)
 has_read {f} {next} {σ} {σ'} {places} {out} {later} {p} epoch at makes =
     let q = after_reading p epoch in
@@ -156,7 +156,7 @@ has_read {f} {next} {σ} {σ'} {places} {out} {later} {p} epoch at makes =
         reached = q;
         reaches = (q, (epoch, refl), refl);
         stands = record {
-          sits = subst (λ (w : View). Sits f 0 HasNothing σ' w (costs_of f next + later)) (sym (part_of_own 0 (epoch_look epoch) p.list)) (sits_on at.sits (reads epoch makes) (omega arith));
+          sits = subst (λ (w : View). Sits f 0 HasNothing σ' w (costs_of f next + later.events)) (sym (part_of_own 0 (epoch_look epoch) p.list)) (sits_on at.sits (reads epoch makes) (omega arith));
           has_places = at.has_places;
           spare = omega (arith, spare);
         };
@@ -174,18 +174,18 @@ has_read {f} {next} {σ} {σ'} {places} {out} {later} {p} epoch at makes =
 
 -- ---- a thread that is idle
 -- a thread stands at each progress of which it has the same in hand
-pub same_stands : {f : Profile} {k : ℕ} {acts : List Act} {σ : Standing} {has : Keeps} {later : ℕ} {p q : Progress} → part k q.list ≡ part k p.list → q.caches k ≡ p.caches k → q.names ≡ p.names → ThreadAt f k acts σ has later p → ThreadAt f k acts σ has later q
+pub same_stands : {f : Profile} {k : ℕ} {acts : List Act} {σ : Standing} {has : Keeps} {later : Later} {p q : Progress} → part k q.list ≡ part k p.list → q.caches k ≡ p.caches k → q.names ≡ p.names → ThreadAt f k acts σ has later p → ThreadAt f k acts σ has later q
 same_stands {f} {k} {acts} {σ} {has} {later} {p} {q} parts caches names at = record {
-  sits = subst (λ (w : View). Sits f k (AtRest f has.cache) σ w (owed_events f has.cache w + own_costs_of k acts + later)) (sym parts) at.sits;
+  sits = subst (λ (w : View). Sits f k (AtRest f has.cache) σ w (owed_events f has.cache w + own_costs_of k acts + later.events)) (sym parts) at.sits;
   cache = caches ∙ at.cache;
-  spare = subst (λ (w : View). length (records_in has.out) + (owed_events f has.cache w + own_costs_of k acts + later) ≤ room_of has.out) (sym parts) at.spare;
+  spare = subst (λ (w : View). length (records_in has.out) + (owed_events f has.cache w + own_costs_of k acts + later.records) ≤ room_of has.out) (sym parts) at.spare;
   names = subst (λ (ns : List Named). KnowsNames f acts has.table ns) (sym names) at.names;
 }
 
 pub stop : (f : Profile) (k : ℕ) → IsOperation f k Stop [] []
 stop f k = record { cost = refl; now = λ limit asked fit. tt; left = λ limit asked fit. fit }
 
-pub has_stopped : {f : Profile} {k n epoch : ℕ} {σ σ' : Standing} {c c1 : Cached} {table table' : Names} {own own' out out' : Records} {later : ℕ} {p : Progress} → ThreadAt f k [] σ (keeps c table own) later p → p.epoch ≡ epoch
+pub has_stopped : {f : Profile} {k n epoch : ℕ} {σ σ' : Standing} {c c1 : Cached} {table table' : Names} {own own' out out' : Records} {later : Later} {p : Progress} → ThreadAt f k [] σ (keeps c table own) later p → p.epoch ≡ epoch
     → c.idle_since + n ≤ epoch → Answers Stop (works table c) (works table' c1) own own' σ σ' → HasTurns table' → records_in out' ≡ records_in out ++ stopped k → room_of out' ≡ room_of out
     → StopsThread f k n σ σ' (keeps c table own) (keeps c1 table' own') out out' later p
 has_stopped {f} {k} {n} {epoch} {σ} {σ'} {c} {c1} {table} {table'} {own} {own'} {out} {out'} {later} {p} at read idle did turns added room =
@@ -217,7 +217,7 @@ has_stopped {f} {k} {n} {epoch} {σ} {σ'} {c} {c1} {table} {table'} {own} {own'
       epoch = refl;
     }
 
-pub has_stayed : {f : Profile} {k n epoch : ℕ} {σ : Standing} {has : Keeps} {out : Records} {later : ℕ} {p : Progress} → ThreadAt f k [] σ has later p → p.epoch ≡ epoch → (has.cache.idle_since + n ≤ epoch → ⊥)
+pub has_stayed : {f : Profile} {k n epoch : ℕ} {σ : Standing} {has : Keeps} {out : Records} {later : Later} {p : Progress} → ThreadAt f k [] σ has later p → p.epoch ≡ epoch → (has.cache.idle_since + n ≤ epoch → ⊥)
     → StopsThread f k n σ σ has has out out later p
 has_stayed {f} {k} {n} {epoch} {σ} {has} {out} {later} {p} at read short =
     let since = ap (λ (d : Cached). d.idle_since) at.cache in
@@ -242,7 +242,7 @@ has_stayed {f} {k} {n} {epoch} {σ} {has} {out} {later} {p} at read short =
     }
 
 -- ---- there is room
-pub pass_room : {f : Profile} {next : List Act} {σ : Standing} {places : ℕ} {out : Records} {later : ℕ} {p : Progress} (spare : ℕ) → HasSpare σ spare → ScavengerAt f (MakesPass ∷ next) σ places out later p → σ.seat.profile.pages ≤ spare
+pub pass_room : {f : Profile} {next : List Act} {σ : Standing} {places : ℕ} {out : Records} {later : Later} {p : Progress} (spare : ℕ) → HasSpare σ spare → ScavengerAt f (MakesPass ∷ next) σ places out later p → σ.seat.profile.pages ≤ spare
 pass_room {f} {next} {σ} {places} {out} {later} {p} spare fits at =
     let v = part 0 p.list in
     let is = subst (λ (k : ℕ). spare + length (events_of k v) ≡ σ.seat.room) at.sits.actor (fits v at.sits.beside at.sits.stood) in
@@ -250,7 +250,7 @@ pass_room {f} {next} {σ} {places} {out} {later} {p} spare fits at =
     let pages = ap (λ (h : Profile). h.pages) at.sits.profile in
     omega (arith, is, room, pages)
 
-pub may_stop : {f : Profile} {k : ℕ} {σ : Standing} {has : Keeps} {later : ℕ} {p : Progress} (spare : ℕ) → HasSpare σ spare → ThreadAt f k [] σ has later p → CanCall σ (λ v l. MayAnswer σ.seat.profile has.cache Stop spare has.out v)
+pub may_stop : {f : Profile} {k : ℕ} {σ : Standing} {has : Keeps} {later : Later} {p : Progress} (spare : ℕ) → HasSpare σ spare → ThreadAt f k [] σ has later p → CanCall σ (λ v l. MayAnswer σ.seat.profile has.cache Stop spare has.out v)
 may_stop {f} {k} {σ} {has} {later} {p} spare fits at =
     let v = part k p.list in
     let is = subst (λ (j : ℕ). spare + length (events_of j v) ≡ σ.seat.room) at.sits.actor (fits v at.sits.beside at.sits.stood) in

@@ -20,22 +20,22 @@ some_is : {a b : SharedPass} → Some a ≡ Some b → a ≡ b
 some_is {a} {b} is = ap (λ (o : Option SharedPass). elim o [ None ↦ a | Some x ↦ x ]) is
 
 -- its pass is the one that it sits with
-pub seated : {region : SharedRegion} {f : Profile} {k : ℕ} {acts : List Act} {worker : Worker} {later : ℕ} {p : Progress} (pass : SharedPass) → worker.pass ≡ Some pass → WorkerAt region f k acts worker later p
+pub seated : {region : SharedRegion} {f : Profile} {k : ℕ} {acts : List Act} {worker : Worker} {later : Later} {p : Progress} (pass : SharedPass) → worker.pass ≡ Some pass → WorkerAt region f k acts worker later p
     → ThreadAt f k acts (standing_of_pass pass) (kept_by worker) later p
 seated {region} {f} {k} {acts} {worker} {later} {p} pass is at = subst (λ (x : SharedPass). ThreadAt f k acts (standing_of_pass x) (kept_by worker) later p) (some_is (sym at.has.present ∙ is)) at.stands
 
-has_pass : {region : SharedRegion} {f : Profile} {k : ℕ} {acts : List Act} {worker : Worker} {later : ℕ} {p : Progress} (pass : SharedPass) → worker.pass ≡ Some pass → WorkerAt region f k acts worker later p → HasPass region worker.pass
+has_pass : {region : SharedRegion} {f : Profile} {k : ℕ} {acts : List Act} {worker : Worker} {later : Later} {p : Progress} (pass : SharedPass) → worker.pass ≡ Some pass → WorkerAt region f k acts worker later p → HasPass region worker.pass
 has_pass {region} pass is at = record { pass = pass; present = is; of = subst (λ (x : SharedPass). IsPassOf region x) (some_is (sym at.has.present ∙ is)) at.has.of }
 
 -- .. with the acts of the actor of its pass
-pub seated_own : {region : SharedRegion} {f : Profile} {k : ℕ} (ops : List Op) {worker : Worker} {later : ℕ} {p : Progress} (pass : SharedPass) → worker.pass ≡ Some pass → WorkerAt region f k (own_acts k ops) worker later p
+pub seated_own : {region : SharedRegion} {f : Profile} {k : ℕ} (ops : List Op) {worker : Worker} {later : Later} {p : Progress} (pass : SharedPass) → worker.pass ≡ Some pass → WorkerAt region f k (own_acts k ops) worker later p
     → ThreadAt f (seat_of pass).actor (own_acts (seat_of pass).actor ops) (standing_of_pass pass) (kept_by worker) later p
 seated_own {region} {f} {k} ops {worker} {later} {p} pass is at =
     let here = seated pass is at in
     subst (λ (j : ℕ). ThreadAt f j (own_acts j ops) (standing_of_pass pass) (kept_by worker) later p) (sym here.sits.actor) here
 
 -- what it did with its pass
-pub rose : {region : SharedRegion} {f : Profile} {k : ℕ} {acts : List Act} {worker : Worker} {later : ℕ} {p : Progress} (Does : Standing → Standing → Type 0) (pass left after : SharedPass) → worker.pass ≡ Some pass → WorkerAt region f k acts worker later p
+pub rose : {region : SharedRegion} {f : Profile} {k : ℕ} {acts : List Act} {worker : Worker} {later : Later} {p : Progress} (Does : Standing → Standing → Type 0) (pass left after : SharedPass) → worker.pass ≡ Some pass → WorkerAt region f k acts worker later p
     → after ≡ left → IsPassOf region after → Does (standing_of_pass pass) (standing_of_pass left) → Did region worker.pass (Some after) Does
 unfolding has_pass
 rose {region} {f} {k} {acts} {worker} {later} {p} Does pass left after is at same of does = record {
@@ -45,12 +45,12 @@ rose {region} {f} {k} {acts} {worker} {later} {p} Does pass left after is at sam
 }
 
 -- the acts of the actor of its pass are those of its thread
-pub worked : {f : Profile} {k : ℕ} (ops : List Op) {σ' : Standing} {has has' : Keeps} {later : ℕ} {p : Progress} (pass : SharedPass) → (seat_of pass).actor ≡ k
+pub worked : {f : Profile} {k : ℕ} (ops : List Op) {σ' : Standing} {has has' : Keeps} {later : Later} {p : Progress} (pass : SharedPass) → (seat_of pass).actor ≡ k
     → Works f (seat_of pass).actor (own_acts (seat_of pass).actor ops) [] (standing_of_pass pass) σ' has has' later p → Works f k (own_acts k ops) [] (standing_of_pass pass) σ' has has' later p
 worked {f} {k} ops {σ'} {has} {has'} {later} {p} pass is works = subst (λ (j : ℕ). Works f j (own_acts j ops) [] (standing_of_pass pass) σ' has has' later p) is works
 
 -- ---- the scavenger
-pub scavenger_seated : {region : SharedRegion} {f : Profile} {idle : List ℕ} {acts : List Act} {scavenger : Scavenger} {later : ℕ} {lends : ℕ → ℕ} {p : Progress} (pass : SharedPass) → scavenger.pass ≡ Some pass
+pub scavenger_seated : {region : SharedRegion} {f : Profile} {idle : List ℕ} {acts : List Act} {scavenger : Scavenger} {later : Later} {lends : ℕ → Later} {p : Progress} (pass : SharedPass) → scavenger.pass ≡ Some pass
     → ScavengerStands region f idle acts scavenger later lends p → CrewAt region f idle acts (standing_of_pass pass) (crew_of scavenger) later lends p
 scavenger_seated {region} {f} {idle} {acts} {scavenger} {later} {lends} {p} pass is stands =
     subst (λ (x : SharedPass). CrewAt region f idle acts (standing_of_pass x) (crew_of scavenger) later lends p) (some_is (sym stands.has.present ∙ is)) stands.at

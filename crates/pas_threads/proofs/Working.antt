@@ -51,14 +51,14 @@ records_count es = length-map (reverse es) Record.Event ∙ length-reverse es
 its_cache : (caches : Caches) (k : ℕ) (c : Cached) → with_cache caches k c k ≡ c
 its_cache caches k c = ap (λ (t : Bool). if t then c else caches k) (eq-eqb k k refl)
 
-abbrev Before : Profile → Op → List Act → Standing → Keeps → ℕ → Progress → Type 0
+abbrev Before : Profile → Op → List Act → Standing → Keeps → Later → Progress → Type 0
 Before f op next σ has later p = ThreadAt f op.actor (Operates op ∷ (Settles op.actor ∷ next)) σ has later p
 
 -- ---- before an operation
-pub fit_now : {f : Profile} {op : Op} {next : List Act} {σ : Standing} {has : Keeps} {later : ℕ} {p : Progress} → Before f op next σ has later p → (asked : List ℕ) × IsFitWhat σ.seat.profile (names_held has.table) asked op.what
+pub fit_now : {f : Profile} {op : Op} {next : List Act} {σ : Standing} {has : Keeps} {later : Later} {p : Progress} → Before f op next σ has later p → (asked : List ℕ) × IsFitWhat σ.seat.profile (names_held has.table) asked op.what
 fit_now {f} {op} {next} {σ} {has} {later} {p} at = (at.names.asked, subst (λ (g : Profile). IsFitWhat g (names_held has.table) at.names.asked op.what) (sym at.sits.profile) at.names.fit.1)
 
-pub may_answer : {f : Profile} {op : Op} {next : List Act} {σ : Standing} {has : Keeps} {later : ℕ} {p : Progress} (spare : ℕ) → HasSpare σ spare → Before f op next σ has later p
+pub may_answer : {f : Profile} {op : Op} {next : List Act} {σ : Standing} {has : Keeps} {later : Later} {p : Progress} (spare : ℕ) → HasSpare σ spare → Before f op next σ has later p
     → CanCall σ (λ v l. MayAnswer σ.seat.profile has.cache op.what spare has.out v)
 may_answer {f} {op} {next} {σ} {has} {later} {p} spare fits at =
     let v = part op.actor p.list in
@@ -83,7 +83,7 @@ pub record IsOperation (f : Profile) (k : ℕ) (what : What) (acts next : List A
   pub now : (limit : ℕ) (asked : List ℕ) → AreFit f limit asked acts → IsFitWhat f limit asked what
   pub left : (limit : ℕ) (asked : List ℕ) → AreFit f limit asked acts → AreFit f limit (asked_after what asked) next
 
-module _ {f : Profile} {k : ℕ} {what : What} {acts next : List Act} {σ σ' : Standing} {c c1 : Cached} {table table' : Names} {out out' : Records} {later : ℕ} {p : Progress} (of : IsOperation f k what acts next)
+module _ {f : Profile} {k : ℕ} {what : What} {acts next : List Act} {σ σ' : Standing} {c c1 : Cached} {table table' : Names} {out out' : Records} {later : Later} {p : Progress} (of : IsOperation f k what acts next)
     (at : ThreadAt f k acts σ (keeps c table out) later p) (did : Answers what (works table c) (works table' c1) out out' σ σ') (turns : HasTurns table') where
   abbrev v : View
   v = part k p.list
@@ -117,7 +117,7 @@ module _ {f : Profile} {k : ℕ} {what : What} {acts next : List Act} {σ σ' : 
   few = seated (λ (j : ℕ) (g : Profile). length (events_by j v did.performs.steps) + length (said_by j did.said) + owed_events g c1 (did.performs.steps ++ v) ≤ cost_of_what what + owed_events g c v)
       (did.performs.few v was_at_rest (did.performs.calls.adds.agreed v at.sits.beside at.sits.stood was_at_rest))
 
-  sits_again : Sits f k (AtRest f c1) σ' (did.performs.steps ++ v) (owed_events f c1 (did.performs.steps ++ v) + own_costs_of k next + later)
+  sits_again : Sits f k (AtRest f c1) σ' (did.performs.steps ++ v) (owed_events f c1 (did.performs.steps ++ v) + own_costs_of k next + later.events)
   sits_again =
       let steps = did.performs.steps in
       let seat = did.performs.calls.adds.seat_is in
@@ -131,10 +131,10 @@ module _ {f : Profile} {k : ℕ} {what : What} {acts next : List Act} {σ σ' : 
         beside = triples σ.seat.actor steps ++ at.sits.beside;
         stood = did.performs.calls.adds.added v at.sits.beside at.sits.stood was_at_rest;
         rest = subst (λ (g : Profile). AtRest g c1 (steps ++ v)) at.sits.profile (did.performs.calls.leads.from v was_at_rest (did.performs.calls.adds.agreed v at.sits.beside at.sits.stood was_at_rest));
-        room = subst (λ (s : Seat). length (events_of k (steps ++ v)) + (owed_events f c1 (steps ++ v) + own_costs_of k next + later) ≤ s.room) (sym seat) (omega (arith, grown, less, room, cost));
+        room = subst (λ (s : Seat). length (events_of k (steps ++ v)) + (owed_events f c1 (steps ++ v) + own_costs_of k next + later.events) ≤ s.room) (sym seat) (omega (arith, grown, less, room, cost));
       }
 
-  spare_again : length (records_in out') + (owed_events f c1 (did.performs.steps ++ v) + own_costs_of k next + later) ≤ room_of out'
+  spare_again : length (records_in out') + (owed_events f c1 (did.performs.steps ++ v) + own_costs_of k next + later.records) ≤ room_of out'
   spare_again =
       let steps = did.performs.steps in
       let longer = ap (λ (rs : List Record). length rs) pushed ∙ length-append (records_in out) piece in
@@ -158,14 +158,14 @@ module _ {f : Profile} {k : ℕ} {what : What} {acts next : List Act} {σ σ' : 
   -- it stands again, whatever is said besides
   pub stands_again : (besides : List Record) → ThreadAt f k next σ' (keeps c1 table' out') later (with_records (after_answer p k the_answer) besides)
   stands_again besides = record {
-    sits = subst (λ (w : View). Sits f k (AtRest f c1) σ' w (owed_events f c1 w + own_costs_of k next + later)) (sym (part_of_own k did.performs.steps p.list)) sits_again;
+    sits = subst (λ (w : View). Sits f k (AtRest f c1) σ' w (owed_events f c1 w + own_costs_of k next + later.events)) (sym (part_of_own k did.performs.steps p.list)) sits_again;
     cache = its_cache p.caches k c1;
-    spare = subst (λ (w : View). length (records_in out') + (owed_events f c1 w + own_costs_of k next + later) ≤ room_of out') (sym (part_of_own k did.performs.steps p.list)) spare_again;
+    spare = subst (λ (w : View). length (records_in out') + (owed_events f c1 w + own_costs_of k next + later.records) ≤ room_of out') (sym (part_of_own k did.performs.steps p.list)) spare_again;
     names = names_again;
   }
 
 -- ---- what its cache noted is handed on
-pub settled_stands : {f : Profile} {k : ℕ} {acts : List Act} {σ : Standing} {c c' : Cached} {table : Names} {out : Records} {later : ℕ} {p : Progress} (besides : List Record) → c' ≡ settled c → ThreadAt f k acts σ (keeps c table out) later (with_records p besides)
+pub settled_stands : {f : Profile} {k : ℕ} {acts : List Act} {σ : Standing} {c c' : Cached} {table : Names} {out : Records} {later : Later} {p : Progress} (besides : List Record) → c' ≡ settled c → ThreadAt f k acts σ (keeps c table out) later (with_records p besides)
     → ThreadAt f k acts σ (keeps c' table out) later (after_settling p k)
 settled_stands {f} {k} {acts} {σ} {c} {c'} {table} {out} {later} {p} besides is at =
     let s = at.sits in
@@ -185,7 +185,7 @@ operation f op next = record {
   left = λ limit asked fit. fit.2;
 }
 
-pub operated : {f : Profile} {op : Op} {next : List Act} {σ σ' : Standing} {c c1 c' : Cached} {table table' : Names} {out out' : Records} {later : ℕ} {p : Progress} → Before f op next σ (keeps c table out) later p
+pub operated : {f : Profile} {op : Op} {next : List Act} {σ σ' : Standing} {c c1 c' : Cached} {table table' : Names} {out out' : Records} {later : Later} {p : Progress} → Before f op next σ (keeps c table out) later p
     → Answers op.what (works table c) (works table' c1) out out' σ σ' → HasTurns table' → c' ≡ settled c1
     → Works f op.actor (Operates op ∷ (Settles op.actor ∷ [])) next σ σ' (keeps c table out) (keeps c' table' out') later p
 operated {f} {op} {next} {σ} {σ'} {c} {c1} {c'} {table} {table'} {out} {out'} {later} {p} at did turns is =
@@ -209,7 +209,7 @@ pub reach_both : (f : Profile) (xs ys : List Act) (p q r : Progress) → Reaches
 reach_both f [] ys p q r one two = subst (λ (s : Progress). Reaches f ys s r) one two
 reach_both f (x ∷ xs) ys p q r one two = (one.0, one.1, reach_both f xs ys one.0 q r one.2 two)
 
-pub works_both : {f : Profile} {k : ℕ} {xs ys mid next : List Act} {σ0 σ σ' : Standing} {h0 h h' : Keeps} {later : ℕ} {p : Progress} → (one : Works f k xs mid σ0 σ h0 h later p) → Works f k ys next σ σ' h h' later one.reached → Works f k (xs ++ ys) next σ0 σ' h0 h' later p
+pub works_both : {f : Profile} {k : ℕ} {xs ys mid next : List Act} {σ0 σ σ' : Standing} {h0 h h' : Keeps} {later : Later} {p : Progress} → (one : Works f k xs mid σ0 σ h0 h later p) → Works f k ys next σ σ' h h' later one.reached → Works f k (xs ++ ys) next σ0 σ' h0 h' later p
 works_both {f} {k} {xs} {ys} {mid} {next} {σ0} {σ} {σ'} {h0} {h} {h'} {later} {p} one two = record {
   reached = two.reached;
   reaches = reach_both f xs ys p one.reached two.reached one.reaches two.reaches;
@@ -222,7 +222,7 @@ works_both {f} {k} {xs} {ys} {mid} {next} {σ0} {σ} {σ'} {h0} {h} {h'} {later}
   each = each_both k one.said two.said one.each two.each;
 }
 
-pub works_none : {f : Profile} {k : ℕ} {acts : List Act} {σ : Standing} {has : Keeps} {later : ℕ} {p : Progress} → ThreadAt f k acts σ has later p → Works f k [] acts σ σ has has later p
+pub works_none : {f : Profile} {k : ℕ} {acts : List Act} {σ : Standing} {has : Keeps} {later : Later} {p : Progress} → ThreadAt f k acts σ has later p → Works f k [] acts σ σ has has later p
 works_none {f} {k} {acts} {σ} {has} {later} {p} at = record {
   reached = p;
   reaches = refl;
@@ -249,20 +249,20 @@ own_skip k ops i d lt other = ap (λ (xs : List Op). own_acts k xs) (drop_more o
     ∙ ap (λ (t : Bool). if t then Operates (get_or ops i d) ∷ (Settles (get_or ops i d).actor ∷ own_acts k (drop (i + 1) ops)) else own_acts k (drop (i + 1) ops)) (ne_eqb (get_or ops i d).actor k other)
 
 -- so far, the acts of thread k before the operation at this place were done
-abbrev pub SoFar : Profile → ℕ → List Op → ℕ → Standing → Standing → Keeps → Keeps → ℕ → Progress → Type 0
+abbrev pub SoFar : Profile → ℕ → List Op → ℕ → Standing → Standing → Keeps → Keeps → Later → Progress → Type 0
 SoFar f k ops i σ0 σ h0 h later p = (did : List Act) × (did ++ own_acts k (drop i ops) ≡ own_acts k ops) × Works f k did (own_acts k (drop i ops)) σ0 σ h0 h later p
 
-pub begins : {f : Profile} {k : ℕ} (ops : List Op) {σ : Standing} {has : Keeps} {later : ℕ} {p : Progress} → ThreadAt f k (own_acts k ops) σ has later p → SoFar f k ops 0 σ σ has has later p
+pub begins : {f : Profile} {k : ℕ} (ops : List Op) {σ : Standing} {has : Keeps} {later : Later} {p : Progress} → ThreadAt f k (own_acts k ops) σ has later p → SoFar f k ops 0 σ σ has has later p
 begins ops at = ([], refl, works_none at)
 
 -- the operation is the thread's: it stands before it
-pub stands_before : {f : Profile} {k : ℕ} (ops : List Op) {i : ℕ} {σ0 σ : Standing} {h0 h : Keeps} {later : ℕ} {p : Progress} (d : Op) → i < length ops → (get_or ops i d).actor ≡ k → (so : SoFar f k ops i σ0 σ h0 h later p)
+pub stands_before : {f : Profile} {k : ℕ} (ops : List Op) {i : ℕ} {σ0 σ : Standing} {h0 h : Keeps} {later : Later} {p : Progress} (d : Op) → i < length ops → (get_or ops i d).actor ≡ k → (so : SoFar f k ops i σ0 σ h0 h later p)
     → ThreadAt f (get_or ops i d).actor (Operates (get_or ops i d) ∷ (Settles (get_or ops i d).actor ∷ own_acts k (drop (i + 1) ops))) σ h later so.2.reached
 stands_before {f} {k} ops {i} {σ0} {σ} {h0} {h} {later} {p} d lt is so =
     subst (λ (j : ℕ). ThreadAt f j (Operates (get_or ops i d) ∷ (Settles (get_or ops i d).actor ∷ own_acts k (drop (i + 1) ops))) σ h later so.2.reached) (sym is)
     (subst (λ (acts : List Act). ThreadAt f k acts σ h later so.2.reached) (own_next k ops i d lt is) so.2.stands)
 
-pub goes_on : {f : Profile} {k : ℕ} (ops : List Op) {i : ℕ} {σ0 σ σ' : Standing} {h0 h h' : Keeps} {later : ℕ} {p : Progress} (d : Op) → i < length ops → (get_or ops i d).actor ≡ k → (so : SoFar f k ops i σ0 σ h0 h later p)
+pub goes_on : {f : Profile} {k : ℕ} (ops : List Op) {i : ℕ} {σ0 σ σ' : Standing} {h0 h h' : Keeps} {later : Later} {p : Progress} (d : Op) → i < length ops → (get_or ops i d).actor ≡ k → (so : SoFar f k ops i σ0 σ h0 h later p)
     → Works f (get_or ops i d).actor (head_acts (get_or ops i d)) (own_acts k (drop (i + 1) ops)) σ σ' h h' later so.2.reached → SoFar f k ops (i + 1) σ0 σ' h0 h' later p
 goes_on {f} {k} ops {i} {σ0} {σ} {σ'} {h0} {h} {h'} {later} {p} d lt is so did =
     let op = get_or ops i d in
@@ -270,11 +270,11 @@ goes_on {f} {k} ops {i} {σ0} {σ} {σ'} {h0} {h} {h'} {later} {p} d lt is so di
     let mine : Works f k (head_acts op) rest σ σ' h h' later so.2.reached = subst (λ (j : ℕ). Works f j (head_acts op) rest σ σ' h h' later so.2.reached) is did in
     (so.0 ++ head_acts op, append_assoc so.0 (head_acts op) rest ∙ ap (λ (acts : List Act). so.0 ++ acts) (sym (own_next k ops i d lt is)) ∙ so.1, works_both so.2 mine)
 
-pub skips : {f : Profile} {k : ℕ} (ops : List Op) {i : ℕ} {σ0 σ : Standing} {h0 h : Keeps} {later : ℕ} {p : Progress} (d : Op) → i < length ops → ((get_or ops i d).actor ≡ k → ⊥) → SoFar f k ops i σ0 σ h0 h later p → SoFar f k ops (i + 1) σ0 σ h0 h later p
+pub skips : {f : Profile} {k : ℕ} (ops : List Op) {i : ℕ} {σ0 σ : Standing} {h0 h : Keeps} {later : Later} {p : Progress} (d : Op) → i < length ops → ((get_or ops i d).actor ≡ k → ⊥) → SoFar f k ops i σ0 σ h0 h later p → SoFar f k ops (i + 1) σ0 σ h0 h later p
 skips {f} {k} ops {i} {σ0} {σ} {h0} {h} {later} {p} d lt other so =
     subst (λ (acts : List Act). (did : List Act) × (did ++ acts ≡ own_acts k ops) × Works f k did acts σ0 σ h0 h later p) (own_skip k ops i d lt other) so
 
-pub ends : {f : Profile} {k : ℕ} (ops : List Op) {i : ℕ} {σ0 σ : Standing} {h0 h : Keeps} {later : ℕ} {p : Progress} → length ops ≤ i → SoFar f k ops i σ0 σ h0 h later p → Works f k (own_acts k ops) [] σ0 σ h0 h later p
+pub ends : {f : Profile} {k : ℕ} (ops : List Op) {i : ℕ} {σ0 σ : Standing} {h0 h : Keeps} {later : Later} {p : Progress} → length ops ≤ i → SoFar f k ops i σ0 σ h0 h later p → Works f k (own_acts k ops) [] σ0 σ h0 h later p
 ends {f} {k} ops {i} {σ0} {σ} {h0} {h} {later} {p} le so =
     let none : own_acts k (drop i ops) ≡ [] = ap (λ (xs : List Op). own_acts k xs) (drop_of_length-le ops le) in
     let all : so.0 ≡ own_acts k ops = sym (append-nil so.0) ∙ ap (λ (acts : List Act). so.0 ++ acts) (sym none) ∙ so.1 in

@@ -12,8 +12,10 @@ use Rattle.pas_answers.specs.Acts.{Act}
 use Rattle.pas_answers.specs.Answers.{Progress}
 use Rattle.pas_answers.specs.Ways.{records_by}
 use Rattle.pas_threads.specs.Shares.{Reaches}
+use Rattle.pas_threads.specs.Works.{Later}
 use Rattle.pas_threads.specs.Scavenges.{ScavengerAt}
 use Rattle.pas_threads.specs.Lent.{AreLent}
+use Rattle.pas_threads.specs.declared.names.NameBook.{NameBook}
 use Rattle.pas_threads.specs.declared.workers.Worker.{Worker}
 
 -- what the scavenger's worker works with beside its desk: the lent workers, its places for outcomes, and its records
@@ -26,15 +28,15 @@ abbrev pub crew : List Worker → ℕ → Records → Crew
 crew lent places out = record { lent = lent; places = places; out = out }
 
 -- The scavenger and the lent threads stand where the replay came as far as p, and these acts come next.
-pub record CrewAt (region : SharedRegion) (f : Profile) (idle : List ℕ) (acts : List Act) (desk : Standing) (has : Crew) (later : ℕ) (lends : ℕ → ℕ) (p : Progress) : Type 0 where
+pub record CrewAt (region : SharedRegion) (book : NameBook) (f : Profile) (idle : List ℕ) (acts : List Act) (desk : Standing) (has : Crew) (later : Later) (lends : ℕ → Later) (p : Progress) : Type 0 where
   pub stands : ScavengerAt f acts desk has.places has.out later p
-  pub lent : AreLent region f idle lends has.lent p
+  pub lent : AreLent region book f idle lends has.lent p
 
 -- These acts were done, and those come next. The records of each actor came to the end of its own.
-pub record CrewDid (region : SharedRegion) (f : Profile) (idle : List ℕ) (acts next : List Act) (desk desk' : Standing) (has has' : Crew) (later : ℕ) (lends : ℕ → ℕ) (p : Progress) : Type 0 where
+pub record CrewDid (region : SharedRegion) (book : NameBook) (f : Profile) (idle : List ℕ) (acts next : List Act) (desk desk' : Standing) (has has' : Crew) (later : Later) (lends : ℕ → Later) (p : Progress) : Type 0 where
   pub reached : Progress
   pub reaches : Reaches f acts p reached
-  pub stands : CrewAt region f idle next desk' has' later lends reached
+  pub stands : CrewAt region book f idle next desk' has' later lends reached
   pub said : List Record
   pub records_are : reached.records ≡ p.records ++ said
   pub told : records_in has'.out ≡ records_in has.out ++ records_by 0 said

@@ -10,16 +10,18 @@ use Rattle.pas_shared.specs.declared.pass.SharedPass.{SharedPass}
 use Rattle.pas_answers.specs.Acts.{Act}
 use Rattle.pas_answers.specs.Answers.{Progress}
 use Rattle.pas_threads.specs.Shares.{own_acts}
-use Rattle.pas_threads.specs.Works.{Keeps, keeps, ThreadAt, Works}
+use Rattle.pas_threads.specs.NameBooks.{table}
+use Rattle.pas_threads.specs.Works.{Keeps, keeps, Later, ThreadAt, Works}
+use Rattle.pas_threads.specs.declared.names.NameBook.{NameBook}
 use Rattle.pas_threads.specs.declared.workers.Worker.{Worker}
 
 -- a pass stands for the view of its actor, and for no other, beside any list
 abbrev pub standing_of_pass : SharedPass → Standing
 standing_of_pass pass = record { seat = seat_of pass; stands = λ v l. view_of pass ≡ v }
 
--- what the thread keeps beside its pass
-abbrev pub kept_by : Worker → Keeps
-kept_by worker = keeps (cached worker.cache) worker.names worker.out
+-- what the thread keeps beside its pass, in a phase with this book of names
+abbrev pub kept_by : NameBook → Worker → Keeps
+kept_by book worker = keeps (cached worker.cache) (table book worker.requests) worker.out
 
 -- it has its pass, which is one of the region
 pub record HasPass (region : SharedRegion) (slot : Option SharedPass) : Type 0 where
@@ -28,9 +30,9 @@ pub record HasPass (region : SharedRegion) (slot : Option SharedPass) : Type 0 w
   pub of : IsPassOf region pass
 
 -- The worker of thread k has its pass, and with it stands where the replay came as far as p. These of its acts come next.
-pub record WorkerAt (region : SharedRegion) (f : Profile) (k : ℕ) (acts : List Act) (worker : Worker) (later : ℕ) (p : Progress) : Type 0 where
+pub record WorkerAt (region : SharedRegion) (book : NameBook) (f : Profile) (k : ℕ) (acts : List Act) (worker : Worker) (later : Later) (p : Progress) : Type 0 where
   pub has : HasPass region worker.pass
-  pub stands : ThreadAt f k acts (standing_of_pass has.pass) (kept_by worker) later p
+  pub stands : ThreadAt f k acts (standing_of_pass has.pass) (kept_by book worker) later p
 
 -- The worker has its pass again, and did this with it.
 pub record Did (region : SharedRegion) (old new : Option SharedPass) (Does : Standing → Standing → Type 0) : Type 0 where
@@ -39,14 +41,14 @@ pub record Did (region : SharedRegion) (old new : Option SharedPass) (Does : Sta
   pub does : Does (standing_of_pass before.pass) (standing_of_pass after.pass)
 
 -- the worker's acts of its operations in a phase were done, wherever the replay stood
-pub record DidPhase (region : SharedRegion) (ops : List Op) (old new : Worker) : Type 0 where
-  pub did : (f : Profile) (k later : ℕ) (p : Progress) → WorkerAt region f k (own_acts k ops) old later p
-      → Did region old.pass new.pass (λ σ σ'. Works f k (own_acts k ops) [] σ σ' (kept_by old) (kept_by new) later p)
+pub record DidPhase (region : SharedRegion) (book : NameBook) (ops : List Op) (old new : Worker) : Type 0 where
+  pub did : (f : Profile) (k : ℕ) (later : Later) (p : Progress) → WorkerAt region book f k (own_acts k ops) old later p
+      → Did region old.pass new.pass (λ σ σ'. Works f k (own_acts k ops) [] σ σ' (kept_by book old) (kept_by book new) later p)
 
 -- the operations of this worker's thread in the phase can be done
-pub record MayDoPhase (region : SharedRegion) (ops : List Op) (worker : Worker) : Type 0 where
+pub record MayDoPhase (region : SharedRegion) (book : NameBook) (ops : List Op) (worker : Worker) : Type 0 where
   pub profile : Profile
   pub thread : ℕ
-  pub later : ℕ
+  pub later : Later
   pub progress : Progress
-  pub stands : WorkerAt region profile thread (own_acts thread ops) worker later progress
+  pub stands : WorkerAt region book profile thread (own_acts thread ops) worker later progress

@@ -10,7 +10,9 @@ use Rattle.pas_answers.specs.Acts.{Act}
 use Rattle.pas_answers.specs.Answers.{Progress}
 use Rattle.pas_answers.specs.Ways.{records_by}
 use Rattle.pas_threads.specs.Shares.{Reaches}
+use Rattle.pas_threads.specs.Works.{Later}
 use Rattle.pas_threads.specs.Hands.{WorkerAt}
+use Rattle.pas_threads.specs.declared.names.NameBook.{NameBook}
 use Rattle.pas_threads.specs.declared.workers.Worker.{Worker}
 
 -- these are numbers of threads, and each comes once
@@ -19,16 +21,16 @@ pub record AreDistinct (idle : List ℕ) : Type 0 where
   pub apart : (i j : ℕ) → i < length idle → j < length idle → i ≢ j → get_or idle i 0 ≢ get_or idle j 0
 
 -- A worker was lent for each of these threads, in order. Each stands where the replay came as far as p, with room for what its thread does later.
-pub record AreLent (region : SharedRegion) (f : Profile) (idle : List ℕ) (later : ℕ → ℕ) (lent : List Worker) (p : Progress) : Type 0 where
+pub record AreLent (region : SharedRegion) (book : NameBook) (f : Profile) (idle : List ℕ) (later : ℕ → Later) (lent : List Worker) (p : Progress) : Type 0 where
   pub many : length lent ≡ length idle
-  pub each : (i : ℕ) (d : Worker) → i < length lent → WorkerAt region f (get_or idle i 0) [] (get_or lent i d) (later i) p
+  pub each : (i : ℕ) (d : Worker) → i < length lent → WorkerAt region book f (get_or idle i 0) [] (get_or lent i d) (later i) p
 
 -- These acts were done with the lent workers, and at most `most` things were said. The records of each actor came to the end of its own: those of a thread
 -- to its worker's, and those of the scavenger to `out`. The scavenger's part, the names and the epoch that it read stay.
-pub record DidWithLent (region : SharedRegion) (f : Profile) (acts : List Act) (idle : List ℕ) (later : ℕ → ℕ) (old new : List Worker) (out out' : Records) (most : ℕ) (p : Progress) : Type 0 where
+pub record DidWithLent (region : SharedRegion) (book : NameBook) (f : Profile) (acts : List Act) (idle : List ℕ) (later : ℕ → Later) (old new : List Worker) (out out' : Records) (most : ℕ) (p : Progress) : Type 0 where
   pub reached : Progress
   pub reaches : Reaches f acts p reached
-  pub lent : AreLent region f idle later new reached
+  pub lent : AreLent region book f idle later new reached
   pub said : List Record
   pub records_are : reached.records ≡ p.records ++ said
   pub told : records_in out' ≡ records_in out ++ records_by 0 said

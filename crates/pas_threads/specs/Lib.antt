@@ -1,4 +1,6 @@
 pub mod Shares
+pub mod NameBooks
+pub mod Taken
 pub mod Works
 pub mod Scavenges
 pub mod Hands

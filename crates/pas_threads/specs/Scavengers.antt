@@ -8,9 +8,11 @@ use Rattle.pas_shared.specs.declared.region.SharedRegion.{SharedRegion}
 use Rattle.pas_answers.specs.Acts.{Act}
 use Rattle.pas_answers.specs.Answers.{Progress}
 use Rattle.pas_threads.specs.Shares.{scavenger_acts}
+use Rattle.pas_threads.specs.Works.{Later}
 use Rattle.pas_threads.specs.Hands.{standing_of_pass, HasPass, Did}
 use Rattle.pas_threads.specs.Lent.{AreDistinct}
 use Rattle.pas_threads.specs.Crews.{Crew, crew, CrewAt, CrewDid}
+use Rattle.pas_threads.specs.declared.names.NameBook.{NameBook}
 use Rattle.pas_threads.specs.declared.scavenger.Scavenger.{Scavenger}
 
 -- what it works with beside its pass
@@ -18,23 +20,24 @@ abbrev pub crew_of : Scavenger → Crew
 crew_of scavenger = crew scavenger.lent.items (places_of scavenger.outcomes) scavenger.out
 
 -- It has its pass, and with it and the lent threads stands where the replay came as far as p. These acts come next.
-pub record ScavengerStands (region : SharedRegion) (f : Profile) (idle : List ℕ) (acts : List Act) (scavenger : Scavenger) (later : ℕ) (lends : ℕ → ℕ) (p : Progress) : Type 0 where
+pub record ScavengerStands (region : SharedRegion) (book : NameBook) (f : Profile) (idle : List ℕ) (acts : List Act) (scavenger : Scavenger) (later : Later) (lends : ℕ → Later) (p : Progress) : Type 0 where
   pub has : HasPass region scavenger.pass
-  pub at : CrewAt region f idle acts (standing_of_pass has.pass) (crew_of scavenger) later lends p
+  pub at : CrewAt region book f idle acts (standing_of_pass has.pass) (crew_of scavenger) later lends p
 
 -- its operations of the phase can be done
 pub record MayScavenge (region : SharedRegion) (ops : List Op) (scavenger : Scavenger) : Type 0 where
+  pub book : NameBook
   pub profile : Profile
   pub idle : List ℕ
   pub asked : List ℕ
-  pub later : ℕ
-  pub lends : ℕ → ℕ
+  pub later : Later
+  pub lends : ℕ → Later
   pub progress : Progress
   pub sound : AreSound profile asked ops
   pub distinct : AreDistinct idle
-  pub stands : ScavengerStands region profile idle (scavenger_acts idle ops) scavenger later lends progress
+  pub stands : ScavengerStands region book profile idle (scavenger_acts idle ops) scavenger later lends progress
 
 -- they were done, wherever the replay stood, and it has its pass again
 pub record DidScavenge (region : SharedRegion) (ops : List Op) (old new : Scavenger) : Type 0 where
-  pub did : (f : Profile) (idle asked : List ℕ) (later : ℕ) (lends : ℕ → ℕ) (p : Progress) → AreSound f asked ops → AreDistinct idle → ScavengerStands region f idle (scavenger_acts idle ops) old later lends p
-      → Did region old.pass new.pass (λ σ σ'. CrewDid region f idle (scavenger_acts idle ops) [] σ σ' (crew_of old) (crew_of new) later lends p)
+  pub did : (book : NameBook) (f : Profile) (idle asked : List ℕ) (later : Later) (lends : ℕ → Later) (p : Progress) → AreSound f asked ops → AreDistinct idle → ScavengerStands region book f idle (scavenger_acts idle ops) old later lends p
+      → Did region old.pass new.pass (λ σ σ'. CrewDid region book f idle (scavenger_acts idle ops) [] σ σ' (crew_of old) (crew_of new) later lends p)

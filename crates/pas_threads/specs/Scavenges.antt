@@ -11,17 +11,17 @@ use Rattle.pas_answers.specs.Acts.{Act, StopsIdle}
 use Rattle.pas_answers.specs.Answers.{Progress}
 use Rattle.pas_answers.specs.Fit.{costs_of}
 use Rattle.pas_threads.specs.Shares.{Reaches, EachOf}
-use Rattle.pas_threads.specs.Works.{Keeps, Sits, ThreadAt}
+use Rattle.pas_threads.specs.Works.{Keeps, Later, Sits, ThreadAt}
 
 -- The replay, as far as the scavenger has a hand in it, came as far as p, and these of its acts come next. It has nothing, and places for the outcomes of
--- a pass. There is room for the events and the records of these acts, and for `later` more.
-pub record ScavengerAt (f : Profile) (acts : List Act) (desk : Standing) (places : ℕ) (out : Records) (later : ℕ) (p : Progress) : Type 0 where
-  pub sits : Sits f 0 HasNothing desk (part 0 p.list) (costs_of f acts + later)
+-- a pass. There is room for the events and the records of these acts, and for those of `later` more.
+pub record ScavengerAt (f : Profile) (acts : List Act) (desk : Standing) (places : ℕ) (out : Records) (later : Later) (p : Progress) : Type 0 where
+  pub sits : Sits f 0 HasNothing desk (part 0 p.list) (costs_of f acts + later.events)
   pub has_places : places ≡ f.pages
-  pub spare : length (records_in out) + (costs_of f acts + later) ≤ room_of out
+  pub spare : length (records_in out) + (costs_of f acts + later.records) ≤ room_of out
 
 -- The scavenger did this act, and those come next. What it said came to the end of its records. Nothing of a thread changed.
-pub record Scavenges (f : Profile) (act : Act) (next : List Act) (desk desk' : Standing) (places places' : ℕ) (out out' : Records) (later : ℕ) (p : Progress) : Type 0 where
+pub record Scavenges (f : Profile) (act : Act) (next : List Act) (desk desk' : Standing) (places places' : ℕ) (out out' : Records) (later : Later) (p : Progress) : Type 0 where
   pub reached : Progress
   pub reaches : Reaches f (act ∷ []) p reached
   pub stands : ScavengerAt f next desk' places' out' later reached
@@ -36,7 +36,7 @@ pub record Scavenges (f : Profile) (act : Act) (next : List Act) (desk desk' : S
 
 -- Thread k was stopped where it was idle for n epochs. The records of its flush came to its own, and that it was stopped to those of the scavenger.
 -- Nothing of another actor changed.
-pub record StopsThread (f : Profile) (k n : ℕ) (desk desk' : Standing) (has has' : Keeps) (out out' : Records) (later : ℕ) (p : Progress) : Type 0 where
+pub record StopsThread (f : Profile) (k n : ℕ) (desk desk' : Standing) (has has' : Keeps) (out out' : Records) (later : Later) (p : Progress) : Type 0 where
   pub reached : Progress
   pub reaches : Reaches f (StopsIdle k n ∷ []) p reached
   pub stands : ThreadAt f k [] desk' has' later reached

@@ -5,6 +5,8 @@ ghost use Rattle.pas_utility.specs.Outcomes.{places_of};
 ghost use Rattle.pas_trace.specs.EveryPlan.{AreSound};
 ghost use Rattle.pas_answers.specs.Acts.{Act, acts_of_op};
 ghost use Rattle.pas_answers.specs.Answers.{Progress};
+ghost use Rattle.pas_threads.specs.declared.names.NameBook.{NameBook as TheBook};
+ghost use Rattle.pas_threads.specs.Works.{Later};
 ghost use Rattle.pas_threads.specs.Lent.{AreDistinct};
 ghost use Rattle.pas_threads.specs.Shares.{scavenger_acts};
 ghost use Rattle.pas_threads.specs.Crews.{crew, CrewAt, CrewDid, IsScavengers};
@@ -28,11 +30,11 @@ pub fn scavenge_one<D: Desk>(
     op: Op,
     out: &mut Records,
 )
-    requires may { (f : TheProfile) × (idle : List ℕ) × (next : List Act) × (later : ℕ) × (lends : ℕ → ℕ) × (p : Progress) × IsScavengers f op × AreDistinct idle
-        × CrewAt region.now f idle (acts_of_op idle op ++ next) (D.standing desk.old) (crew lent.old (places_of outcomes.old) out.old) later lends p }
-    ensures did { (f : TheProfile) (idle : List ℕ) (next : List Act) (later : ℕ) (lends : ℕ → ℕ) (p : Progress) → IsScavengers f op → AreDistinct idle
-        → CrewAt region.now f idle (acts_of_op idle op ++ next) (D.standing desk.old) (crew lent.old (places_of outcomes.old) out.old) later lends p
-        → CrewDid region.now f idle (acts_of_op idle op) next (D.standing desk.old) (D.standing desk.new) (crew lent.old (places_of outcomes.old) out.old) (crew lent.new (places_of outcomes.new) out.new) later lends p }
+    requires may { (book : TheBook) × (f : TheProfile) × (idle : List ℕ) × (next : List Act) × (later : Later) × (lends : ℕ → Later) × (p : Progress) × IsScavengers f op × AreDistinct idle
+        × CrewAt region.now book f idle (acts_of_op idle op ++ next) (D.standing desk.old) (crew lent.old (places_of outcomes.old) out.old) later lends p }
+    ensures did { (book : TheBook) (f : TheProfile) (idle : List ℕ) (next : List Act) (later : Later) (lends : ℕ → Later) (p : Progress) → IsScavengers f op → AreDistinct idle
+        → CrewAt region.now book f idle (acts_of_op idle op ++ next) (D.standing desk.old) (crew lent.old (places_of outcomes.old) out.old) later lends p
+        → CrewDid region.now book f idle (acts_of_op idle op) next (D.standing desk.old) (D.standing desk.new) (crew lent.old (places_of outcomes.old) out.old) (crew lent.new (places_of outcomes.new) out.new) later lends p }
     ensures home { D.home desk.new ≡ D.home desk.old }
     ensures many { length lent.new ≡ length lent.old }
 {
@@ -60,11 +62,11 @@ pub fn scavenge<D: Desk, G: Gate>(
     out: &mut Records,
 )
     requires few { length ops.now < 2 ^ 32 }
-    requires may { (f : TheProfile) × (idle : List ℕ) × (asked : List ℕ) × (later : ℕ) × (lends : ℕ → ℕ) × (p : Progress) × AreSound f asked ops.now × AreDistinct idle
-        × CrewAt region.now f idle (scavenger_acts idle ops.now) (D.standing desk.old) (crew lent.old (places_of outcomes.old) out.old) later lends p }
-    ensures did { (f : TheProfile) (idle asked : List ℕ) (later : ℕ) (lends : ℕ → ℕ) (p : Progress) → AreSound f asked ops.now → AreDistinct idle
-        → CrewAt region.now f idle (scavenger_acts idle ops.now) (D.standing desk.old) (crew lent.old (places_of outcomes.old) out.old) later lends p
-        → CrewDid region.now f idle (scavenger_acts idle ops.now) [] (D.standing desk.old) (D.standing desk.new) (crew lent.old (places_of outcomes.old) out.old) (crew lent.new (places_of outcomes.new) out.new) later lends p }
+    requires may { (book : TheBook) × (f : TheProfile) × (idle : List ℕ) × (asked : List ℕ) × (later : Later) × (lends : ℕ → Later) × (p : Progress) × AreSound f asked ops.now × AreDistinct idle
+        × CrewAt region.now book f idle (scavenger_acts idle ops.now) (D.standing desk.old) (crew lent.old (places_of outcomes.old) out.old) later lends p }
+    ensures did { (book : TheBook) (f : TheProfile) (idle asked : List ℕ) (later : Later) (lends : ℕ → Later) (p : Progress) → AreSound f asked ops.now → AreDistinct idle
+        → CrewAt region.now book f idle (scavenger_acts idle ops.now) (D.standing desk.old) (crew lent.old (places_of outcomes.old) out.old) later lends p
+        → CrewDid region.now book f idle (scavenger_acts idle ops.now) [] (D.standing desk.old) (D.standing desk.new) (crew lent.old (places_of outcomes.old) out.old) (crew lent.new (places_of outcomes.new) out.new) later lends p }
     ensures home { D.home desk.new ≡ D.home desk.old }
     ensures many { length lent.new ≡ length lent.old }
 {

@@ -4,6 +4,8 @@ ghost use Rattle.pas_profile.specs.declared.profile.Profile.{Profile as TheProfi
 ghost use Rattle.pas_report.specs.Rooms.{records_in, room_of};
 ghost use Rattle.pas_answers.specs.Acts.{idle_stops};
 ghost use Rattle.pas_answers.specs.Answers.{Progress};
+ghost use Rattle.pas_threads.specs.declared.names.NameBook.{NameBook as TheBook};
+ghost use Rattle.pas_threads.specs.Works.{Later};
 ghost use Rattle.pas_threads.specs.Lent.{AreDistinct, AreLent, DidWithLent};
 
 use crate::workers::{Worker, stop_lent};
@@ -19,10 +21,10 @@ pub fn stop_idle(
     epoch: u64,
     out: &mut Records,
 )
-    requires lent { (f : TheProfile) × (idle : List ℕ) × (later : ℕ → ℕ) × (p : Progress) × AreDistinct idle × AreLent region.now f idle later lent.old p × (p.epoch ≡ epoch) }
+    requires lent { (book : TheBook) × (f : TheProfile) × (idle : List ℕ) × (later : ℕ → Later) × (p : Progress) × AreDistinct idle × AreLent region.now book f idle later lent.old p × (p.epoch ≡ epoch) }
     requires room { length (records_in out.old) + length lent.old ≤ room_of out.old }
-    ensures stops { (f : TheProfile) (idle : List ℕ) (later : ℕ → ℕ) (p : Progress) → AreDistinct idle → AreLent region.now f idle later lent.old p → p.epoch ≡ epoch
-        → DidWithLent region.now f (idle_stops epochs idle) idle later lent.old lent.new out.old out.new (length lent.old) p }
+    ensures stops { (book : TheBook) (f : TheProfile) (idle : List ℕ) (later : ℕ → Later) (p : Progress) → AreDistinct idle → AreLent region.now book f idle later lent.old p → p.epoch ≡ epoch
+        → DidWithLent region.now book f (idle_stops epochs idle) idle later lent.old lent.new out.old out.new (length lent.old) p }
     ensures many { length lent.new ≡ length lent.old }
 {
     for index in 0..lent.len() {

@@ -7,11 +7,13 @@ pub mod gate;
 mod hands;
 pub mod laws;
 pub mod lending;
+pub mod names;
 pub mod own;
 pub mod scavenger;
 pub mod scavenging;
 pub mod workers;
 
 pub use gate::{Gate, OpenGate};
+pub use names::{NameBook, Requests};
 pub use scavenger::Scavenger;
 pub use workers::Worker;

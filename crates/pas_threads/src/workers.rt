@@ -3,33 +3,44 @@ ghost use Rattle.std.specs.Prelude.{◌≡◌, ◌<◌, ◌^◌, ◌≤◌, ℕ,
 ghost use Rattle.pas_profile.specs.declared.profile.Profile.{Profile as TheProfile};
 ghost use Rattle.pas_answers.specs.Answers.{Progress};
 ghost use Rattle.pas_report.specs.Rooms.{records_in, room_of};
+ghost use Rattle.pas_threads.specs.declared.names.NameBook.{NameBook as TheBook};
+ghost use Rattle.pas_threads.specs.Works.{Later};
 ghost use Rattle.pas_threads.specs.Hands.{WorkerAt, Did, kept_by, MayDoPhase, DidPhase};
+ghost use Rattle.pas_answers.specs.Names.{names_held};
+ghost use Rattle.pas_threads.specs.NameBooks.{HasTaken};
+ghost use Rattle.pas_threads.specs.Taken.{requests_of, IsWithin, IsEmptied};
 ghost use Rattle.pas_threads.specs.Scavenges.{StopsThread};
 
 use crate::gate::Gate;
+use crate::names::{NameBook, Requests};
 use crate::own::work;
 use crate::scavenging::stop_if_idle;
-use pas_answers::names::Names;
 use pas_cache::ThreadCache;
 use pas_report::Records;
 use pas_shared::{SharedPass, SharedRegion};
 use pas_trace::Op;
 use std::thread::{Threads, for_each_mut};
 
-/// A thread of the replay: its pass while it doesn't sit at the region, its cache, what names stand for to it, and its records.
+/// A thread of the replay: its pass while it doesn't sit at the region, its cache, its requests of the phase, and its records.
 #[derive(Drop)]
 pub struct Worker {
     pub pass: Option<SharedPass>,
     pub cache: ThreadCache,
-    pub names: Names,
+    pub requests: Requests,
     pub out: Records,
 }
 
 /// The thread sits down, performs its operations of a phase, and rises.
-pub fn perform<G: Gate>(region: &SharedRegion, worker: &mut Worker, ops: &[Op], gate: &G)
+pub fn perform<G: Gate>(
+    region: &SharedRegion,
+    book: &NameBook,
+    worker: &mut Worker,
+    ops: &[Op],
+    gate: &G,
+)
     requires few { length ops.now < 2 ^ 32 }
-    requires may { MayDoPhase region.now ops.now worker.old }
-    ensures did { DidPhase region.now ops.now worker.old worker.new }
+    requires may { MayDoPhase region.now book.now ops.now worker.old }
+    ensures did { DidPhase region.now book.now ops.now worker.old worker.new }
 {
     let Some(pass) = worker.pass.take() else {
         unreachable!();
@@ -37,8 +48,9 @@ pub fn perform<G: Gate>(region: &SharedRegion, worker: &mut Worker, ops: &[Op], 
     let mut desk = region.desk(pass);
     work(
         &mut desk,
+        book,
         &mut worker.cache,
-        &mut worker.names,
+        &mut worker.requests,
         ops,
         gate,
         &mut worker.out,
@@ -50,20 +62,21 @@ pub fn perform<G: Gate>(region: &SharedRegion, worker: &mut Worker, ops: &[Op], 
 pub fn fork<R: Threads + Sync, G: Gate + Sync>(
     rt: &R,
     region: &SharedRegion,
+    book: &NameBook,
     workers: &mut [Worker],
     ops: &[Op],
     gate: &G,
 )
     requires few { length ops.now < 2 ^ 32 }
-    requires may { All (MayDoPhase region.now ops.now) workers.old }
+    requires may { All (MayDoPhase region.now book.now ops.now) workers.old }
     ensures many { length workers.new ≡ length workers.old }
-    ensures did { (i : ℕ) (d : Worker) → i < length workers.old → DidPhase region.now ops.now (get_or workers.old i d) (get_or workers.new i d) }
+    ensures did { (i : ℕ) (d : Worker) → i < length workers.old → DidPhase region.now book.now ops.now (get_or workers.old i d) (get_or workers.new i d) }
 {
     for_each_mut(
         rt,
         workers,
         16,
-        &|_, worker| perform(region, worker, ops, gate),
+        &|_, worker| perform(region, book, worker, ops, gate),
     );
 }
 
@@ -75,10 +88,10 @@ pub fn stop_lent(
     epoch: u64,
     out: &mut Records,
 )
-    requires may { (f : TheProfile) × (k : ℕ) × (later : ℕ) × (p : Progress) × WorkerAt region.now f k [] worker.old later p }
+    requires may { (book : TheBook) × (f : TheProfile) × (k : ℕ) × (later : Later) × (p : Progress) × WorkerAt region.now book f k [] worker.old later p }
     requires room { length (records_in out.old) < room_of out.old }
-    ensures stops { (f : TheProfile) (k later : ℕ) (p : Progress) → WorkerAt region.now f k [] worker.old later p → p.epoch ≡ epoch
-        → Did region.now worker.old.pass worker.new.pass (λ σ σ'. StopsThread f k epochs σ σ' (kept_by worker.old) (kept_by worker.new) out.old out.new later p) }
+    ensures stops { (book : TheBook) (f : TheProfile) (k : ℕ) (later : Later) (p : Progress) → WorkerAt region.now book f k [] worker.old later p → p.epoch ≡ epoch
+        → Did region.now worker.old.pass worker.new.pass (λ σ σ'. StopsThread f k epochs σ σ' (kept_by book worker.old) (kept_by book worker.new) out.old out.new later p) }
 {
     let Some(pass) = worker.pass.take() else {
         unreachable!();
@@ -87,11 +100,23 @@ pub fn stop_lent(
     stop_if_idle(
         &mut desk,
         &mut worker.cache,
-        &mut worker.names,
         epochs,
         epoch,
         &mut worker.out,
         out,
     );
     worker.pass = Some(desk.into_pass());
+}
+
+/// The book takes the requests of all workers over, after a phase.
+pub fn take_all(book: &mut NameBook, workers: &mut [Worker])
+    requires within { All (IsWithin (names_held book.old.names)) workers.old }
+    ensures taken { HasTaken book.old book.new (requests_of workers.old) }
+    ensures room { names_held book.new.names ≡ names_held book.old.names }
+    ensures many { length workers.new ≡ length workers.old }
+    ensures emptied { (i : ℕ) (d : Worker) → i < length workers.old → IsEmptied (get_or workers.old i d) (get_or workers.new i d) }
+{
+    for index in 0..workers.len() {
+        book.take(&mut workers[index].requests);
+    }
 }

@@ -1,33 +1,14 @@
-use Rattle.std.proofs.Common.{◌∙◌, arith, length, drop}
-use Rattle.pas_cache.specs.Caches.{cached}
-use Rattle.pas_answers.proofs.Records.{can_rest, shown_longer, records_fit, said_fits, answers_silent, answers_said}
+use Rattle.std.proofs.Common.{sym, subst}
+use Rattle.pas_answers.specs.Names.{block_named}
+use Rattle.pas_answers.specs.Calls.{HasTurn}
+use Rattle.pas_answers.proofs.Kept.{turn_meant, kept}
 use Rattle.pas_answers.proofs.answering.answer.Goals as goal
 
-pub push_events-requires-clause-within : goal.push_events-requires-clause-within
-push_events-requires-clause-within g c = shown_longer c.perform-said.ensures.performs.calls.adds c.shown-before.result.now c.shown.result.now
-    (λ v l stood. c.shown-before.ensures ∙ g.met.D.Desk.shows c.args.desk.now v l stood) (λ v l stood. c.shown.ensures ∙ g.met.D.Desk.shows c.perform-said.new.desk v l stood)
-    (can_rest (cached c.args.cache.now) c.args.what (g.D.Desk.spare_of c.args.desk.now) c.args.out.now c.requires.can)
+pub answer_meant-came-requires-clause-turn : goal.answer_meant-came-requires-clause-turn
+answer_meant-came-requires-clause-turn g c = subst HasTurn (sym c.freed-meant.ensures) (turn_meant (block_named c.args.names.now) c.args.what c.requires.turns)
 
-pub push_events-requires-clause-room : goal.push_events-requires-clause-room
-push_events-requires-clause-room g c =
-    let fits = records_fit c.args.what c.args.names.now c.perform-said.new.names (cached c.args.cache.now) (g.D.Desk.spare_of c.args.desk.now) c.args.out.now c.shown-before.result.now c.shown.result.now c.requires.can c.perform-said.ensures.performs
-    (λ v l stood. c.shown-before.ensures ∙ g.met.D.Desk.shows c.args.desk.now v l stood) (λ v l stood. c.shown.ensures ∙ g.met.D.Desk.shows c.perform-said.new.desk v l stood) in
-    omega (arith, fits)
+pub returns-clause-answers : goal.returns-clause-answers
+returns-clause-answers g c = kept c.args.names.now c.keep.new.names c.freed-meant.ensures c.keep.ensures.tells c.keep.ensures.held c.answer_meant-came.ensures.answers
 
-pub push-requires : goal.push-requires
-push-requires g c = said_fits (g.D.Desk.standing c.args.desk.now).seat.actor c.args.out.now c.push_events.new.out (drop (length c.shown-before.result.now) c.shown.result.now) c.in-Some.said c.in-Some.is
-    (records_fit c.args.what c.args.names.now c.perform-said.new.names (cached c.args.cache.now) (g.D.Desk.spare_of c.args.desk.now) c.args.out.now c.shown-before.result.now c.shown.result.now c.requires.can c.perform-said.ensures.performs
-    (λ v l stood. c.shown-before.ensures ∙ g.met.D.Desk.shows c.args.desk.now v l stood) (λ v l stood. c.shown.ensures ∙ g.met.D.Desk.shows c.perform-said.new.desk v l stood))
-    c.push_events.ensures.added c.push_events.ensures.room
-
-pub returns-in-Some-clause-answers : goal.returns-in-Some-clause-answers
-returns-in-Some-clause-answers g c = answers_said c.args.what c.args.names.now c.perform-said.new.names (cached c.args.cache.now) (cached c.perform-said.new.cache) c.args.out.now c.push_events.new.out c.push.new.self c.shown-before.result.now c.shown.result.now
-    c.in-Some.said c.actor.result c.in-Some.is c.actor.ensures c.perform-said.ensures.performs
-    (λ v l stood. c.shown-before.ensures ∙ g.met.D.Desk.shows c.args.desk.now v l stood) (λ v l stood. c.shown.ensures ∙ g.met.D.Desk.shows c.perform-said.new.desk v l stood)
-    c.push_events.ensures.added c.push_events.ensures.room c.push.ensures.added c.push.ensures.size
-
-pub returns-in_default-clause-answers : goal.returns-in_default-clause-answers
-returns-in_default-clause-answers g c = answers_silent c.args.what c.args.names.now c.perform-said.new.names (cached c.args.cache.now) (cached c.perform-said.new.cache) c.args.out.now c.push_events.new.out c.shown-before.result.now c.shown.result.now
-    c.in_default.is c.perform-said.ensures.performs
-    (λ v l stood. c.shown-before.ensures ∙ g.met.D.Desk.shows c.args.desk.now v l stood) (λ v l stood. c.shown.ensures ∙ g.met.D.Desk.shows c.perform-said.new.desk v l stood)
-    c.push_events.ensures.added c.push_events.ensures.room
+pub returns-clause-turns : goal.returns-clause-turns
+returns-clause-turns g c = c.keep.ensures.turns c.requires.turns c.answer_meant-came.ensures.turn

@@ -12,7 +12,7 @@ use Rattle.pas_threads.proofs.crew.scavenge.Given as goal
 
 abbrev pub invariant-loop-op : goal.invariant-loop-op
 invariant-loop-op g l = record {
-  far : (f : Profile) (idle asked : List ℕ) (later : ℕ) (lends : ℕ → ℕ) (p : Progress) → AreSound f asked l.ops → AreDistinct idle
+  far : (f : Profile) (idle asked : List ℕ) (later : Later) (lends : ℕ → Later) (p : Progress) → AreSound f asked l.ops → AreDistinct idle
       → CrewAt l.region f idle (scavenger_acts idle l.ops) (g.D.Desk.standing l.fn.desk) (crew l.fn.lent (places_of l.fn.outcomes) l.fn.out) later lends p
       → CrewSoFar l.region f idle l.ops l.op-index (g.D.Desk.standing l.fn.desk) (g.D.Desk.standing l.desk) (crew l.fn.lent (places_of l.fn.outcomes) l.fn.out) (crew l.lent (places_of l.outcomes) l.out) later lends p;
   number : l.number ≤ l.op-index;

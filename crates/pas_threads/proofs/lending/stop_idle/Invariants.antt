@@ -8,5 +8,5 @@ use Rattle.pas_threads.proofs.lending.stop_idle.Given as goal
 
 abbrev pub invariant-loop-index : goal.invariant-loop-index
 invariant-loop-index l = record {
-  far : (f : Profile) (idle : List ℕ) (later : ℕ → ℕ) (p : Progress) → AreDistinct idle → AreLent l.region f idle later l.fn.lent p → p.epoch ≡ l.fn.epoch → SoFar l.region f l.fn.epochs idle later l.fn.lent l.lent l.fn.out l.out l.index p;
+  far : (f : Profile) (idle : List ℕ) (later : ℕ → Later) (p : Progress) → AreDistinct idle → AreLent l.region f idle later l.fn.lent p → p.epoch ≡ l.fn.epoch → SoFar l.region f l.fn.epochs idle later l.fn.lent l.lent l.fn.out l.out l.index p;
 }

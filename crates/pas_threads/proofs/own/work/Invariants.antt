@@ -10,7 +10,7 @@ use Rattle.pas_threads.proofs.own.work.Given as goal
 
 abbrev pub invariant-loop-op : goal.invariant-loop-op
 invariant-loop-op g l = record {
-  far : (f : Profile) (later : ℕ) (p : Progress)
+  far : (f : Profile) (later : Later) (p : Progress)
       → ThreadAt f (g.D.Desk.standing l.fn.desk).seat.actor (own_acts (g.D.Desk.standing l.fn.desk).seat.actor l.ops) (g.D.Desk.standing l.fn.desk) (keeps (cached l.fn.cache) l.fn.names l.fn.out) later p
       → (did : List Act) × (did ++ own_acts (g.D.Desk.standing l.fn.desk).seat.actor (drop l.op-index l.ops) ≡ own_acts (g.D.Desk.standing l.fn.desk).seat.actor l.ops)
       × Works f (g.D.Desk.standing l.fn.desk).seat.actor did (own_acts (g.D.Desk.standing l.fn.desk).seat.actor (drop l.op-index l.ops)) (g.D.Desk.standing l.fn.desk) (g.D.Desk.standing l.desk)
