@@ -87,7 +87,9 @@ turned : {A : Type 0} (xs ys : List A) (x y : A) → xs ++ x ∷ [] ≡ ys ++ y 
 turned xs ys x y is = sym (reverse-append xs (x ∷ [])) ∙ ap reverse is ∙ reverse-append ys (y ∷ [])
 
 pub same_last : {A : Type 0} (xs ys : List A) (x y : A) → xs ++ x ∷ [] ≡ ys ++ y ∷ [] → x ≡ y
+unfolding front_of
 same_last xs ys x y is = ap (front_of x) (turned xs ys x y is)
 
 pub same_before : {A : Type 0} (xs ys : List A) (x y : A) → xs ++ x ∷ [] ≡ ys ++ y ∷ [] → xs ≡ ys
+unfolding back_of
 same_before xs ys x y is = sym (reverse-reverse xs) ∙ ap (λ zs. reverse (back_of zs)) (turned xs ys x y is) ∙ reverse-reverse ys

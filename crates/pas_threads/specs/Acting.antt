@@ -5,24 +5,25 @@ use Rattle.pas_shared.specs.declared.region.SharedRegion.{SharedRegion}
 use Rattle.pas_threads.specs.Hands.{MayDoPhase, DidPhase}
 use Rattle.pas_threads.specs.Scavengers.{MayScavenge, DidScavenge}
 use Rattle.pas_threads.specs.declared.workers.Worker.{Worker}
+use Rattle.pas_threads.specs.declared.names.NameBook.{NameBook}
 use Rattle.pas_threads.specs.declared.hands.Hand.{Hand}
 use Rattle.pas_threads.specs.declared.hands.Hand.TheVariants.{Thread, Scavenger}
 
 -- the hand's operations of the phase can be done
-abbrev pub MayAct : SharedRegion → List Op → Hand → Type 0
-MayAct region ops (Thread worker) = MayDoPhase region ops worker
-MayAct region ops (Scavenger scavenger) = MayScavenge region ops scavenger
+abbrev pub MayAct : SharedRegion → NameBook → List Op → Hand → Type 0
+MayAct region book ops (Thread worker) = MayDoPhase region book ops worker
+MayAct region book ops (Scavenger scavenger) = MayScavenge region ops scavenger
 
 -- they were done, and it is a hand of the same sort
-abbrev pub DidAct : SharedRegion → List Op → Hand → Hand → Type 0
-DidAct region ops (Thread old) (Thread new) = DidPhase region ops old new
-DidAct region ops (Thread old) (Scavenger new) = ⊥
-DidAct region ops (Scavenger old) (Thread new) = ⊥
-DidAct region ops (Scavenger old) (Scavenger new) = DidScavenge region ops old new
+abbrev pub DidAct : SharedRegion → NameBook → List Op → Hand → Hand → Type 0
+DidAct region book ops (Thread old) (Thread new) = DidPhase region book ops old new
+DidAct region book ops (Thread old) (Scavenger new) = ⊥
+DidAct region book ops (Scavenger old) (Thread new) = ⊥
+DidAct region book ops (Scavenger old) (Scavenger new) = DidScavenge region ops old new
 
 -- each of these workers did its operations, and is at its place among the hands
-pub record DidEach (region : SharedRegion) (ops : List Op) (own : List Worker) (hands : List Hand) : Type 0 where
+pub record DidEach (region : SharedRegion) (book : NameBook) (ops : List Op) (own : List Worker) (hands : List Hand) : Type 0 where
   pub after : List Worker
   pub hands_are : hands ≡ map Thread after
   pub many : length after ≡ length own
-  pub each : (i : ℕ) (d : Worker) → i < length own → DidPhase region ops (get_or own i d) (get_or after i d)
+  pub each : (i : ℕ) (d : Worker) → i < length own → DidPhase region book ops (get_or own i d) (get_or after i d)

@@ -9,3 +9,4 @@ pub mod Crews
 pub mod Scavengers
 pub mod Acting
 pub mod Dealing
+pub mod Sessions

@@ -8,6 +8,7 @@ ghost use Rattle.pas_threads.specs.declared.hands.Hand.{Hand as AnyHand};
 ghost use Rattle.pas_threads.specs.declared.hands.Hand.TheVariants as TheHand;
 
 use crate::gate::Gate;
+use crate::names::NameBook;
 use crate::scavenger::{Scavenger, keep_up};
 use crate::workers::{Worker, perform};
 use pas_shared::SharedRegion;
@@ -28,13 +29,19 @@ pub(crate) enum Hand {
 }
 
 /// The hand does its operations of the phase.
-fn act<G: Gate>(region: &SharedRegion, hand: &mut Hand, ops: &[Op], gate: &G)
+fn act<G: Gate>(
+    region: &SharedRegion,
+    book: &NameBook,
+    hand: &mut Hand,
+    ops: &[Op],
+    gate: &G,
+)
     requires few { length ops.now < 2 ^ 32 }
-    requires may { MayAct region.now ops.now hand.old }
-    ensures did { DidAct region.now ops.now hand.old hand.new }
+    requires may { MayAct region.now book.now ops.now hand.old }
+    ensures did { DidAct region.now book.now ops.now hand.old hand.new }
 {
     match hand {
-        Hand::Thread(worker) => perform(region, worker, ops, gate),
+        Hand::Thread(worker) => perform(region, book, worker, ops, gate),
         Hand::Scavenger(scavenger) => keep_up(region, scavenger, ops, gate),
     }
 }
@@ -43,20 +50,21 @@ fn act<G: Gate>(region: &SharedRegion, hand: &mut Hand, ops: &[Op], gate: &G)
 pub(crate) fn act_all<R: Threads + Wait + Sync, G: Gate + Sync>(
     rt: &R,
     region: &SharedRegion,
+    book: &NameBook,
     hands: &mut [Hand],
     ops: &[Op],
     gate: &G,
 )
     requires few { length ops.now < 2 ^ 32 }
-    requires may { All (MayAct region.now ops.now) hands.old }
+    requires may { All (MayAct region.now book.now ops.now) hands.old }
     ensures many { length hands.new ≡ length hands.old }
-    ensures did { (i : ℕ) (d : AnyHand) → i < length hands.old → DidAct region.now ops.now (get_or hands.old i d) (get_or hands.new i d) }
+    ensures did { (i : ℕ) (d : AnyHand) → i < length hands.old → DidAct region.now book.now ops.now (get_or hands.old i d) (get_or hands.new i d) }
 {
     for_each_mut(
         rt,
         hands,
         MOST_HANDS,
-        &|_, hand| act(region, hand, ops, gate),
+        &|_, hand| act(region, book, hand, ops, gate),
     );
 }
 
@@ -64,6 +72,7 @@ pub(crate) fn act_all<R: Threads + Wait + Sync, G: Gate + Sync>(
 pub(crate) fn act_with<R: Threads + Wait + Sync, G: Gate + Sync>(
     rt: &R,
     region: &SharedRegion,
+    book: &NameBook,
     hands: &mut Vec<Hand>,
     scavenger: Scavenger,
     busy: bool,
@@ -71,20 +80,20 @@ pub(crate) fn act_with<R: Threads + Wait + Sync, G: Gate + Sync>(
     gate: &G,
 ) -> Scavenger
     requires few { length ops.now < 2 ^ 32 }
-    requires threads { (own : List TheWorker) × (hands.old.items ≡ map TheHand.Thread own) × All (MayDoPhase region.now ops.now) own }
+    requires threads { (own : List TheWorker) × (hands.old.items ≡ map TheHand.Thread own) × All (MayDoPhase region.now book.now ops.now) own }
     requires scavenger { busy ≡ true → MayScavenge region.now ops.now scavenger }
     requires place { length hands.old.items < vec_capacity hands.old }
-    ensures threads { (own : List TheWorker) → hands.old.items ≡ map TheHand.Thread own → DidEach region.now ops.now own hands.new.items }
+    ensures threads { (own : List TheWorker) → hands.old.items ≡ map TheHand.Thread own → DidEach region.now book.now ops.now own hands.new.items }
     ensures did { busy ≡ true → DidScavenge region.now ops.now scavenger result }
     ensures stayed { busy ≡ false → result ≡ scavenger }
     ensures place { vec_capacity hands.new ≡ vec_capacity hands.old }
 {
     if !busy {
-        act_all(rt, region, hands, ops, gate);
+        act_all(rt, region, book, hands, ops, gate);
         return scavenger;
     }
     hands.push_reserved(Hand::Scavenger(scavenger));
-    act_all(rt, region, hands, ops, gate);
+    act_all(rt, region, book, hands, ops, gate);
     let Some(Hand::Scavenger(scavenger)) = hands.pop() else {
         unreachable!();
     };

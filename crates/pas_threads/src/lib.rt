@@ -9,6 +9,7 @@ pub mod laws;
 pub mod lending;
 pub mod names;
 pub mod own;
+mod phases;
 pub mod scavenger;
 pub mod scavenging;
 pub mod workers;

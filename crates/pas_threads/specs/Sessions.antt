@@ -1,0 +1,98 @@
+-- What stands between two phases of a replay on threads.
+use Rattle.std.specs.Prelude.{ℕ, zero, suc, ◌+◌, ◌<◌, ◌≤◌, ◌≡◌, List, [], ◌++◌, length, get_or, vec_capacity}
+use Rattle.pas_profile.specs.declared.profile.Profile.{Profile}
+use Rattle.pas_steps.specs.Lists.{part}
+use Rattle.pas_trace.specs.EveryPlan.{all_ops, own_records, records_of_ops}
+use Rattle.pas_trace.specs.declared.plan.Op.{Op}
+use Rattle.pas_report.specs.Rooms.{records_in, room_of}
+use Rattle.pas_report.specs.declared.record.Record.{Record}
+use Rattle.pas_report.specs.declared.records.Records.{Records}
+use Rattle.pas_utility.specs.Outcomes.{places_of}
+use Rattle.pas_cache.specs.Caches.{cached, AtRest}
+use Rattle.pas_shared.specs.declared.region.SharedRegion.{SharedRegion}
+use Rattle.pas_answers.specs.Acts.{acts_of}
+use Rattle.pas_answers.specs.Replays.{at_start}
+use Rattle.pas_answers.specs.Answers.{Progress, Follows}
+use Rattle.pas_answers.specs.Calls.{owed_events}
+use Rattle.pas_answers.specs.Ways.{OnThreads, arranged, by_actors, AreSpoken}
+use Rattle.pas_threads.specs.Works.{Later, Sits}
+use Rattle.pas_threads.specs.Scavenges.{ScavengerAt}
+use Rattle.pas_threads.specs.Hands.{standing_of_pass, HasPass}
+use Rattle.pas_threads.specs.NameBooks.{NamesAt, requests_in, room_for}
+use Rattle.pas_threads.specs.declared.workers.Worker.{Worker}
+use Rattle.pas_threads.specs.declared.scavenger.Scavenger.{Scavenger}
+use Rattle.pas_threads.specs.declared.phases.Team.{Team}
+
+-- ---- the workers
+-- The worker of thread k has its pass, and nothing is said or asked that wasn't gathered. There is room for the events, the records and the requests that
+-- the thread owes or may make later.
+pub record WorkerRests (region : SharedRegion) (f : Profile) (k : ℕ) (worker : Worker) (later : ℕ) (p : Progress) : Type 0 where
+  pub has : HasPass region worker.pass
+  pub sits : Sits f k (AtRest f (cached worker.cache)) (standing_of_pass has.pass) (part k p.list) (owed_events f (cached worker.cache) (part k p.list) + later)
+  pub cache : p.caches k ≡ cached worker.cache
+  pub said : records_in worker.out ≡ []
+  pub spare : owed_events f (cached worker.cache) (part k p.list) + later ≤ room_of worker.out
+  pub asked : requests_in worker.requests ≡ []
+  pub requests : later ≤ room_for worker.requests
+
+-- .. each of these workers, of the threads from 1 on
+abbrev pub AreResting : SharedRegion → Profile → List Worker → (ℕ → ℕ) → Progress → Type 0
+AreResting region f workers later p = (i : ℕ) (d : Worker) → i < length workers → WorkerRests region f (suc i) (get_or workers i d) (later (suc i)) p
+
+-- the scavenger has its pass, nothing that it said wasn't gathered, and no thread is lent to it
+pub record ScavengerRests (region : SharedRegion) (f : Profile) (scavenger : Scavenger) (later : ℕ) (p : Progress) : Type 0 where
+  pub has : HasPass region scavenger.pass
+  pub at : ScavengerAt f [] (standing_of_pass has.pass) (places_of scavenger.outcomes) scavenger.out (record { events = later; records = later }) p
+  pub said : records_in scavenger.out ≡ []
+  pub none : scavenger.lent.items ≡ []
+
+-- ---- the team
+-- there is a place for each of so many threads wherever a worker may stand
+pub record HasPlaces (threads : ℕ) (team : Team) : Type 0 where
+  pub workers : threads ≤ vec_capacity team.threads
+  pub hands : threads < vec_capacity team.hands
+  pub lent : threads ≤ vec_capacity team.scavenger.lent
+  pub free : team.hands.items ≡ []
+
+-- The team stands where the replay came as far as p, and the phases are left.
+pub record TeamAt (region : SharedRegion) (f : Profile) (phases : List (List Op)) (team : Team) (p : Progress) : Type 0 where
+  pub many : length team.threads.items ≡ f.threads
+  pub workers : AreResting region f team.threads.items (λ k. own_records f k (all_ops phases)) p
+  pub scavenger : ScavengerRests region f team.scavenger (own_records f 0 (all_ops phases)) p
+  pub nobody : (k : ℕ) → f.threads < k → part k p.list ≡ []
+  pub names : NamesAt f (all_ops phases) team.book p
+  pub places : HasPlaces f.threads team
+
+-- ---- the records
+-- The records end with a mark, or there are none yet, and they are written so: what comes after them is arranged by itself.
+abbrev pub AreMarked : ℕ → List Record → List Record → Type 0
+AreMarked threads records written = (more : List Record) → arranged OnThreads threads (records ++ more) ≡ written ++ arranged OnThreads threads more
+
+-- The records of a phase follow such records, and are written actor by actor.
+pub record AreWritten (threads : ℕ) (records written : List Record) : Type 0 where
+  pub before : List Record
+  pub before_written : List Record
+  pub said : List Record
+  pub marked : AreMarked threads before before_written
+  pub spoken : AreSpoken said
+  pub records_are : records ≡ before ++ said
+  pub written_are : written ≡ before_written ++ by_actors 0 (threads + 1) said
+
+-- the events that the first n threads owe
+abbrev pub owed_by : Profile → Progress → ℕ → ℕ
+owed_by f p zero = 0
+owed_by f p (suc n) = owed_events f (p.caches (suc n)) (part (suc n) p.list) + owed_by f p n
+
+-- There is room for the records that the operations of the phases that are left may make, for those of `marks` marks, and for what the threads owe.
+abbrev pub HasRoom : Profile → List (List Op) → ℕ → Records → Progress → Type 0
+HasRoom f phases marks out p = length (records_in out) + (owed_by f p f.threads + records_of_ops f (all_ops phases) + marks) ≤ room_of out
+
+-- ---- the whole replay
+-- All phases and the close were replayed: their acts are answered, the records are written phase by phase and actor by actor, the team stands at the end, and
+-- no cache has a local allocator.
+pub record HasReplayed (region : SharedRegion) (f : Profile) (phases : List (List Op)) (team : Team) (written : List Record) : Type 0 where
+  pub end : Progress
+  pub answers : Follows f (acts_of f.threads phases) at_start end.list end.records
+  pub stands : TeamAt region f [] team end
+  pub written_are : written ≡ arranged OnThreads f.threads end.records
+  pub empty : (i : ℕ) (d : Worker) → i < length team.threads.items → (cached (get_or team.threads.items i d).cache).locals ≡ []
