@@ -1,5 +1,5 @@
 -- What the names stand for to a thread, by the places of its requests.
-use Rattle.std.proofs.Common.{◌≡◌, ℕ, zero, suc, ◌+◌, ◌<◌, ◌≤◌, ◌==◌, Bool, true, false, if◌then◌else◌, inl, inr, List, [], ◌∷◌, ◌++◌, length, Option, Some, None, refl, ap, sym, ◌∙◌, subst, arith, length-append, append_assoc}
+use Rattle.std.proofs.Common.{◌≡◌, ℕ, zero, suc, ◌+◌, ◌<◌, ◌≤◌, ◌==◌, Bool, true, false, if◌then◌else◌, inl, inr, List, [], ◌∷◌, ◌++◌, map, get_or, length, Option, Some, None, refl, ap, sym, ◌∙◌, subst, arith, length-append, append_assoc}
 use Rattle.std.proofs.lemmas.List.{append-nil}
 use Rattle.std.proofs.lemmas.Bool.{ne_eqb, eq-eqb, cases_eq, false≢true}
 use Rattle.pas_profile.specs.declared.name.Name.{Name}
@@ -8,7 +8,9 @@ use Rattle.pas_trace.specs.declared.plan.What.TheVariants.{Alloc, Free, Raw, Flu
 use Rattle.pas_answers.specs.Acts.{Act}
 use Rattle.pas_answers.specs.Answers.{Named, named, standing_for}
 use Rattle.pas_answers.specs.Calls.{block_behind, HasTurn, named_by}
-use Rattle.pas_threads.specs.NameBooks.{name_asked, name_asked_by, names_asked, names_of, place_in, ArePlaced, came_to}
+use Rattle.pas_threads.specs.NameBooks.{name_asked, name_asked_by, names_asked, names_of, place_in, ArePlaced, request_at, named_of, came_to}
+use Rattle.pas_threads.specs.declared.names.Request.{Request}
+use Rattle.pas_answers.specs.Names.{name_in}
 use Rattle.pas_threads.specs.declared.names.NameBook.{NameBook}
 
 -- ---- names in order
@@ -73,6 +75,33 @@ before_none book i [] n placed lt = refl
 before_none book i (r ∷ rs) n placed lt =
     let here = placed.0 in
     skip r rs n (λ is. let same = ap (λ (m : ℕ). place_in book m) is in omega (arith, here, same, lt)) ∙ before_none book (i + 1) rs n placed.1 (omega (arith, lt))
+
+-- where each is at its place, the request at a name's place is the only one that can have it
+pub at_place : (book : NameBook) (i : ℕ) (rs : List Named) (n j : ℕ) → ArePlaced book i (names_of rs) → place_in book n ≡ i + j → standing_for rs n ≡ request_at rs j n
+at_place book i [] n j placed is = refl
+at_place book i (r ∷ rs) n zero placed is = ap (λ (o : Option (Option Name)). if r.name == n then Some r.block else o) (before_none book (i + 1) rs n placed.1 (omega (arith, is)))
+at_place book i (r ∷ rs) n (suc j) placed is =
+    let here = placed.0 in
+    skip r rs n (λ same. let there = ap (λ (m : ℕ). place_in book m) same in omega (arith, here, there, is)) ∙ at_place book (i + 1) rs n j placed.1 (omega (arith, is))
+
+-- the request at a place of the room
+pub at_index : (items : List Request) (i n : ℕ) (d : Request) → i < length items → request_at (map named_of items) i n ≡ (if (get_or items i d).name == n then Some (name_in (get_or items i d).meaning) else None)
+at_index [] i n d lt = absurd (omega (arith, lt))
+at_index (r ∷ items) zero n d lt = refl
+at_index (r ∷ items) (suc i) n d lt = at_index items i n d (omega (arith, lt))
+
+pub at_named : (items : List Request) (i n : ℕ) (r : Request) → i < length items → r ≡ get_or items i r → r.name ≡ n → Some (name_in r.meaning) ≡ request_at (map named_of items) i n
+at_named items i n r lt is same =
+    sym (at_index items i n r lt ∙ ap (λ (x : Request). if x.name == n then Some (name_in x.meaning) else None) (sym is) ∙ ap (λ (t : Bool). if t then Some (name_in r.meaning) else None) (eq-eqb r.name n same))
+
+pub at_other : (items : List Request) (i n : ℕ) (r : Request) → i < length items → r ≡ get_or items i r → (r.name ≡ n → ⊥) → None ≡ request_at (map named_of items) i n
+at_other items i n r lt is other =
+    sym (at_index items i n r lt ∙ ap (λ (x : Request). if x.name == n then Some (name_in x.meaning) else None) (sym is) ∙ ap (λ (t : Bool). if t then Some (name_in r.meaning) else None) (ne_eqb r.name n other))
+
+pub at_past : (items : List Request) (i n : ℕ) → length items ≤ i → request_at (map named_of items) i n ≡ None
+at_past [] i n le = refl
+at_past (r ∷ items) zero n le = absurd (omega (arith, le))
+at_past (r ∷ items) (suc i) n le = at_past items i n (omega (arith, le))
 
 -- ---- after an operation
 both_ways : (t : Bool) (o : Option (Option Name)) (came base : Option Name) (old : Option (Option Name)) → (t ≡ true → o ≡ None) → came_to o base ≡ block_behind old
