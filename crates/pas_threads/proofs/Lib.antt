@@ -1,4 +1,5 @@
 pub mod Speaking
+pub mod Places
 pub mod Naming
 pub mod Sharing
 pub mod Weaving
