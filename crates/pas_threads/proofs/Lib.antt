@@ -12,3 +12,4 @@ pub mod ByCrew
 pub mod Arranging
 pub mod KnownAfter
 pub mod Dealt
+pub mod Waking
