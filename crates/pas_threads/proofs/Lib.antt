@@ -13,3 +13,4 @@ pub mod Arranging
 pub mod KnownAfter
 pub mod Dealt
 pub mod Waking
+pub mod Gathering
