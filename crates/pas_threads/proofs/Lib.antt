@@ -13,4 +13,5 @@ pub mod Arranging
 pub mod KnownAfter
 pub mod Dealt
 pub mod Waking
+pub mod Stopping
 pub mod Gathering

@@ -45,7 +45,7 @@ pub(crate) fn wake_all(region: &SharedRegion, threads: &mut [Worker], awake: Mas
 /// The thread sits down, is stopped, and rises. What its flush says comes to its records.
 fn stop(region: &SharedRegion, worker: &mut Worker)
     requires rests { (f : TheProfile) × (k : ℕ) × (later : ℕ) × (p : Progress) × WorkerRests region.now f k worker.old later p }
-    ensures stopped { (f : TheProfile) (k later : ℕ) (p : Progress) → WorkerRests region.now f k worker.old later p → Stopped region.now f k worker.old worker.new later p }
+    ensures stopped { (f : TheProfile) (k later : ℕ) (p : Progress) → 1 ≤ k → WorkerRests region.now f k worker.old later p → Stopped region.now f k worker.old worker.new later p }
 {
     let Some(pass) = worker.pass.take() else {
         unreachable!();
