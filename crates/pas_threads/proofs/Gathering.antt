@@ -1,6 +1,6 @@
 -- What workers said comes to the end of other records, one worker after the other.
-use Rattle.std.proofs.Common.{◌≡◌, ◌≢◌, ℕ, ◌+◌, ◌<◌, ◌≤◌, inl, inr, List, [], ◌∷◌, ◌++◌, length, drop, set, get_or, refl, ap, sym, ◌∙◌, subst, arith, append_assoc, drop_of_length-le}
-use Rattle.std.proofs.lemmas.List.{append-nil, drop_more, length-set, get_or-set_other, get_or_default}
+use Rattle.std.proofs.Common.{◌≡◌, ◌≢◌, ℕ, ◌+◌, ◌<◌, ◌≤◌, inl, inr, List, ◌++◌, length, drop, set, get_or, refl, ap, sym, ◌∙◌, subst, arith, append_assoc, drop_of_length-le}
+use Rattle.std.proofs.lemmas.List.{append-nil, drop_more, get_or-set_other, get_or_default}
 use Rattle.std.proofs.lemmas.Grind.{get_or-set_at}
 use Rattle.std.proofs.lemmas.Bool.{cases_eq}
 use Rattle.pas_report.specs.Rooms.{records_in}

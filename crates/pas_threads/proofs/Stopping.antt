@@ -1,12 +1,11 @@
 -- Threads that are stopped at the close, one after the other.
 use Rattle.std.proofs.Common.{◌≡◌, ◌≢◌, ℕ, suc, ◌+◌, ◌-◌, ◌<◌, ◌≤◌, ◌==◌, Bool, true, false, if◌then◌else◌, inl, inr, List, [], ◌∷◌, ◌++◌, map, reverse, drop, length, set, get_or, Option, Some, None, refl, ap, sym, ◌∙◌, subst, arith, append_assoc, length-append}
-use Rattle.std.proofs.lemmas.List.{append-nil, length-map, length-reverse, length-set, get_or-set_other, get_or_default}
+use Rattle.std.proofs.lemmas.List.{append-nil, length-map, length-reverse, get_or-set_other, get_or_default}
 use Rattle.std.proofs.lemmas.Grind.{get_or-set_at}
 use Rattle.std.proofs.lemmas.Bool.{cases_eq, eqb-true, false≢true}
 use Rattle.pas_profile.specs.declared.profile.Profile.{Profile}
 use Rattle.pas_profile.specs.declared.event.Event.{Event}
 use Rattle.pas_profile.specs.declared.name.Name.{Name}
-use Rattle.pas_steps.specs.Desks.{triples}
 use Rattle.pas_steps.specs.Events.{events_by}
 use Rattle.pas_steps.specs.Lists.{part}
 use Rattle.pas_steps.specs.Views.{View}
@@ -30,7 +29,7 @@ use Rattle.pas_replay.proofs.ActsInOrder.{number_next, number_last}
 use Rattle.pas_replay.proofs.Threads.{its_cache, other_cache}
 use Rattle.pas_threads.specs.Shares.{Reaches, EachOf}
 use Rattle.pas_threads.specs.Works.{Sits}
-use Rattle.pas_threads.specs.Hands.{standing_of_pass, HasPass}
+use Rattle.pas_threads.specs.Hands.{standing_of_pass}
 use Rattle.pas_threads.specs.Sessions.{WorkerRests, AreResting}
 use Rattle.pas_threads.specs.Turns.{LeavesOthers, owed_at, Spoke, WorkerSaid, Stopped, StoppedAll}
 use Rattle.pas_threads.specs.declared.workers.Worker.{Worker}

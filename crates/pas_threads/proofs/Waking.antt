@@ -192,7 +192,7 @@ wakes_go_on awake {region} {f} {old} {now} {later} {p} i d w on so lt many woke 
     let same : suc i ≡ i + 1 = omega arith in (
       so.0 ++ head,
       append_assoc so.0 head (acts_there Wakes (is_set awake) (i + 1) (length old) [])
-      ∙ ap (λ (acts : List Act). so.0 ++ acts) (sym (next_chosen Wakes (is_set awake) i (length old) [] (omega (arith, lt, many)) on)) ∙ so.1,
+          ∙ ap (λ (acts : List Act). so.0 ++ acts) (sym (next_chosen Wakes (is_set awake) i (length old) [] (omega (arith, lt, many)) on)) ∙ so.1,
       subst (λ (m : ℕ). AreWaking region f (so.0 ++ (Wakes m ∷ [])) old (set now i w) later p) same (next i d w so.2 lt many woke),
     )
 
@@ -205,8 +205,8 @@ wakes_end awake {region} {f} {old} {now} {later} {p} i le so =
     let n = length old in
     let whole : n - 0 ≡ n = omega arith in
     let all : so.0 ≡ map Wakes (awake_in awake n) =
-        sym (append-nil so.0) ∙ ap (λ (acts : List Act). so.0 ++ acts) (sym (none_left Wakes (is_set awake) i n [] le)) ∙ so.1
-        ∙ append-nil (map Wakes (filter (is_set awake) (numbers_from 1 (n - 0)))) ∙ ap (λ (m : ℕ). map Wakes (filter (is_set awake) (numbers_from 1 m))) whole
+    sym (append-nil so.0) ∙ ap (λ (acts : List Act). so.0 ++ acts) (sym (none_left Wakes (is_set awake) i n [] le)) ∙ so.1
+    ∙ append-nil (map Wakes (filter (is_set awake) (numbers_from 1 (n - 0)))) ∙ ap (λ (m : ℕ). map Wakes (filter (is_set awake) (numbers_from 1 m))) whole
     in
     record {
       reached = so.2.reached;

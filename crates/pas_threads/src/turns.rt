@@ -51,7 +51,13 @@ fn stop(region: &SharedRegion, worker: &mut Worker)
         unreachable!();
     };
     let mut desk = region.desk(pass);
-    answer_meant(&mut desk, &mut worker.cache, What::Stop, None, &mut worker.out);
+    answer_meant(
+        &mut desk,
+        &mut worker.cache,
+        What::Stop,
+        None,
+        &mut worker.out,
+    );
     worker.pass = Some(desk.into_pass());
 }
 
@@ -84,7 +90,7 @@ pub(crate) fn gather(threads: &mut [Worker], out: &mut Records)
     ensures gathered { (i : ℕ) (d : TheWorker) → i < length threads.old → IsGathered (get_or threads.old i d) (get_or threads.new i d) }
     ensures many { length threads.new ≡ length threads.old }
 {
-    for index in 0..threads.len() {
-        gather_one(&mut threads[index], out);
+    for place in 0..threads.len() {
+        gather_one(&mut threads[place], out);
     }
 }
