@@ -1,4 +1,5 @@
 pub mod Speaking
+pub mod Places
 pub mod Naming
 pub mod Sharing
 pub mod Weaving
@@ -12,3 +13,6 @@ pub mod Arranging
 pub mod KnownAfter
 pub mod Dealt
 pub mod Acted
+pub mod Waking
+pub mod Stopping
+pub mod Gathering

@@ -1,6 +1,6 @@
 -- What the names of a trace stand for in a phase on threads. What they stood for before it is kept once, for all threads; what a thread's own requests came
 -- to in the phase is kept with the thread, and comes to the book after the phase.
-use Rattle.std.specs.Prelude.{ℕ, ◌+◌, ◌<◌, ◌≡◌, ◌==◌, ◌⊎◌, true, false, if◌then◌else◌, List, [], ◌∷◌, ◌++◌, map, length, get_or, slice_index_or, Option, None, Some}
+use Rattle.std.specs.Prelude.{ℕ, zero, suc, ◌+◌, ◌<◌, ◌≡◌, ◌==◌, ◌⊎◌, true, false, if◌then◌else◌, List, [], ◌∷◌, ◌++◌, map, length, get_or, slice_index_or, Option, None, Some}
 use Rattle.pas_profile.specs.declared.profile.Profile.{Profile}
 use Rattle.pas_profile.specs.declared.name.Name.{Name}
 use Rattle.pas_trace.specs.EveryPlan.{is_asked, asked_after, AreSound}
@@ -32,6 +32,12 @@ room_for requests = requests.bound
 abbrev pub names_of : List Named → List ℕ
 names_of [] = []
 names_of (r ∷ rs) = r.name ∷ names_of rs
+
+-- what the request at a place came to, where it has the name
+abbrev pub request_at : List Named → ℕ → ℕ → Option (Option Name)
+request_at [] place n = None
+request_at (r ∷ rs) zero n = if r.name == n then Some r.block else None
+request_at (r ∷ rs) (suc place) n = request_at rs place n
 
 -- the names that an operation asks for, and those of acts, in order
 abbrev pub name_asked : What → List ℕ

@@ -35,7 +35,7 @@ pub struct NameBook {
 impl Requests {
     ghost use Rattle.std.specs.Prelude.{◌≡◌, ◌++◌, ◌∷◌, [], IfOk, length};
     ghost use Rattle.pas_answers.specs.Answers.{named};
-    ghost use Rattle.pas_threads.specs.NameBooks.{requests_in, room_for};
+    ghost use Rattle.pas_threads.specs.NameBooks.{requests_in, room_for, request_at};
 
     /// Room for so many requests.
     pub fn try_new(alloc: Global, bound: usize) -> Result<Requests, NoMemory>
@@ -45,6 +45,23 @@ impl Requests {
         match Vec::with_capacity(alloc, bound) {
             Ok(items) => Ok(Requests { items, bound }),
             Err(_) => Err(NoMemory),
+        }
+    }
+
+    /// What the request at this place came to, where it has the name.
+    #[inline]
+    fn at(&self, place: usize, name: u32) -> Option<Option<Name>>
+        ensures { result ≡ request_at (requests_in self.now) place name }
+    {
+        if place < self.items.len() {
+            let request = self.items[place];
+            if request.name == name {
+                Some(request.meaning.block())
+            } else {
+                None
+            }
+        } else {
+            None
         }
     }
 
@@ -154,9 +171,9 @@ impl NameBook {
         requires { ArePlaced self.now 0 (names_of (requests_in requests.now)) }
         ensures { result ≡ known_in self.now requests.now name }
     {
-        match requests.items.get(self.place(name) as usize) {
-            Some(request) if request.name == name => request.meaning.block(),
-            _ => self.names.get(name),
+        match requests.at(self.place(name) as usize, name) {
+            Some(block) => block,
+            None => self.names.get(name),
         }
     }
 }

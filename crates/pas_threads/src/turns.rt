@@ -45,13 +45,19 @@ pub(crate) fn wake_all(region: &SharedRegion, threads: &mut [Worker], awake: Mas
 /// The thread sits down, is stopped, and rises. What its flush says comes to its records.
 fn stop(region: &SharedRegion, worker: &mut Worker)
     requires rests { (f : TheProfile) × (k : ℕ) × (later : ℕ) × (p : Progress) × WorkerRests region.now f k worker.old later p }
-    ensures stopped { (f : TheProfile) (k later : ℕ) (p : Progress) → WorkerRests region.now f k worker.old later p → Stopped region.now f k worker.old worker.new later p }
+    ensures stopped { (f : TheProfile) (k later : ℕ) (p : Progress) → 1 ≤ k → WorkerRests region.now f k worker.old later p → Stopped region.now f k worker.old worker.new later p }
 {
     let Some(pass) = worker.pass.take() else {
         unreachable!();
     };
     let mut desk = region.desk(pass);
-    answer_meant(&mut desk, &mut worker.cache, What::Stop, None, &mut worker.out);
+    answer_meant(
+        &mut desk,
+        &mut worker.cache,
+        What::Stop,
+        None,
+        &mut worker.out,
+    );
     worker.pass = Some(desk.into_pass());
 }
 
@@ -84,7 +90,7 @@ pub(crate) fn gather(threads: &mut [Worker], out: &mut Records)
     ensures gathered { (i : ℕ) (d : TheWorker) → i < length threads.old → IsGathered (get_or threads.old i d) (get_or threads.new i d) }
     ensures many { length threads.new ≡ length threads.old }
 {
-    for index in 0..threads.len() {
-        gather_one(&mut threads[index], out);
+    for place in 0..threads.len() {
+        gather_one(&mut threads[place], out);
     }
 }
