@@ -1,5 +1,7 @@
 pub mod Speaking
 pub mod Places
+pub mod Noting
+pub mod Taking
 pub mod Naming
 pub mod Sharing
 pub mod Weaving

@@ -113,14 +113,3 @@ pub record NamesAt (f : Profile) (ops : List Op) (book : NameBook) (p : Progress
   pub turns : HasTurns book.names
   pub known : AreKnown asked p.names
   pub only : OnlyAsked asked p.names
-
--- ---- after a phase
--- one of the requests has the name
-abbrev pub HasRequest : Requests → ℕ → Type 0
-HasRequest requests n = is_asked (names_of (requests_in requests)) n ≡ true
-
--- What each name stands for in the book after it has taken these threads' requests: what one of them came to that has the name; what it stood for where none has it.
-abbrev pub HasTaken : NameBook → NameBook → List Requests → Type 0
-HasTaken before after all = (n : ℕ)
-    → ((i : ℕ) × (i < length all) × ((d : Requests) → HasRequest (get_or all i d) n × (block_named after.names n ≡ known_in before (get_or all i d) n)))
-    ⊎ (((i : ℕ) (d : Requests) → i < length all → HasRequest (get_or all i d) n → ⊥) × (block_named after.names n ≡ block_named before.names n))
