@@ -13,3 +13,5 @@ pub mod ByLent
 pub mod ByCrew
 pub mod Arranging
 pub mod KnownAfter
+pub mod NamesBefore
+pub mod NamesOfPhases

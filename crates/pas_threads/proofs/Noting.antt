@@ -68,12 +68,12 @@ count_small k ops i lt =
     omega (arith, few, size, lt)
 
 -- ---- a new name is none of those before
-or_none : (s t : Bool) → s || t ≡ false → (s ≡ false) × (t ≡ false)
+pub or_none : (s t : Bool) → s || t ≡ false → (s ≡ false) × (t ≡ false)
 or_none true t is = absurd (true≢false is)
 or_none false t is = (refl, is)
 
 -- not asked for afterwards: neither before nor by the operation
-not_before : (what : What) (asked : List ℕ) (n : ℕ) → is_asked (asked_after what asked) n ≡ false → (is_asked (name_asked what) n ≡ false) × (is_asked asked n ≡ false)
+pub not_before : (what : What) (asked : List ℕ) (n : ℕ) → is_asked (asked_after what asked) n ≡ false → (is_asked (name_asked what) n ≡ false) × (is_asked asked n ≡ false)
 not_before (Alloc name heap size align) asked n none = let both = or_none (name == n) (is_asked asked n) none in (ap (λ (t : Bool). t || false) both.0, both.1)
 not_before (Free name) asked n none = (refl, none)
 not_before (Raw block) asked n none = (refl, none)
