@@ -1,8 +1,7 @@
 -- What the book says of the names after a phase.
-use Rattle.std.proofs.Common.{◌≡◌, ℕ, ◌+◌, ◌<◌, ◌≤◌, ◌==◌, ◌||◌, ◌⊎◌, Bool, true, false, if◌then◌else◌, inl, inr, List, [], ◌∷◌, ◌++◌, length, get_or, Option, Some, None, refl, ap, sym, ◌∙◌, subst, arith}
-use Rattle.std.proofs.lemmas.Bool.{eq-eqb, cases_eq, false≢true}
+use Rattle.std.proofs.Common.{◌≡◌, ℕ, ◌<◌, ◌≤◌, ◌==◌, ◌||◌, ◌⊎◌, Bool, true, false, if◌then◌else◌, inl, inr, List, [], ◌∷◌, ◌++◌, length, get_or, refl, ap, sym, ◌∙◌, subst, arith}
+use Rattle.std.proofs.lemmas.Bool.{eq-eqb, false≢true}
 use Rattle.pas_profile.specs.declared.profile.Profile.{Profile}
-use Rattle.pas_profile.specs.declared.name.Name.{Name}
 use Rattle.pas_steps.specs.Desks.{Standing}
 use Rattle.pas_trace.specs.EveryPlan.{is_asked, asked_after, asked_by, AreSound, IsActorOf}
 use Rattle.pas_trace.specs.declared.plan.What.{What}
@@ -14,8 +13,8 @@ use Rattle.pas_answers.specs.Calls.{block_behind, HasTurn, AreKnown}
 use Rattle.pas_answers.specs.Fit.{IsBelow, AreBelow}
 use Rattle.pas_answers.specs.Names.{block_named, names_held}
 use Rattle.pas_answers.specs.declared.names.Names.{Names}
-use Rattle.pas_threads.specs.Shares.{own_acts, owner_in, Reaches, IsWoven, AreAmong, Asks, IsRequestOf, NoneAsks, asked_after_act, asked_after_acts, OnlyAsked}
-use Rattle.pas_threads.specs.NameBooks.{requests_in, name_asked, name_asked_by, names_asked, names_of, AreWithin, known_in, NamesAt}
+use Rattle.pas_threads.specs.Shares.{own_acts, owner_in, IsWoven, AreAmong, IsRequestOf, NoneAsks, asked_after_act, asked_after_acts, OnlyAsked}
+use Rattle.pas_threads.specs.NameBooks.{requests_in, name_asked, name_asked_by, names_asked, names_of, AreWithin, NamesAt}
 use Rattle.pas_threads.specs.Taken.{HasRequest, HasTaken, HandsOver}
 use Rattle.pas_threads.specs.Works.{Later, Works}
 use Rattle.pas_threads.specs.Hands.{kept_by}

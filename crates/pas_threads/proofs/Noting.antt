@@ -12,7 +12,7 @@ use Rattle.pas_answers.specs.Fit.{IsBelow, AreBelow}
 use Rattle.pas_threads.specs.Shares.{own_acts}
 use Rattle.pas_threads.specs.NameBooks.{name_asked, names_asked, place_in, ArePlaced}
 use Rattle.pas_threads.specs.declared.names.NameBook.{NameBook}
-use Rattle.pas_threads.proofs.Places.{asked_both, placed_all}
+use Rattle.pas_threads.proofs.Places.{placed_all}
 
 -- ---- counts
 pub none_yet : (n k : ℕ) → ◌≡◌ {A = ℕ} (get_or (replicate n 0) k 0) 0

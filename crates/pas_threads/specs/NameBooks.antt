@@ -1,6 +1,6 @@
 -- What the names of a trace stand for in a phase on threads. What they stood for before it is kept once, for all threads; what a thread's own requests came
 -- to in the phase is kept with the thread, and comes to the book after the phase.
-use Rattle.std.specs.Prelude.{ℕ, zero, suc, ◌+◌, ◌<◌, ◌≡◌, ◌==◌, ◌⊎◌, true, false, if◌then◌else◌, List, [], ◌∷◌, ◌++◌, map, length, get_or, slice_index_or, Option, None, Some}
+use Rattle.std.specs.Prelude.{ℕ, zero, suc, ◌+◌, ◌<◌, ◌≡◌, ◌==◌, true, if◌then◌else◌, List, [], ◌∷◌, ◌++◌, map, slice_index_or, Option, None, Some}
 use Rattle.pas_profile.specs.declared.profile.Profile.{Profile}
 use Rattle.pas_profile.specs.declared.name.Name.{Name}
 use Rattle.pas_trace.specs.EveryPlan.{is_asked, asked_after, AreSound}
@@ -9,7 +9,7 @@ use Rattle.pas_trace.specs.declared.plan.Op.{Op}
 use Rattle.pas_trace.specs.declared.plan.What.TheVariants.{Alloc, Free, Raw, Flush, Stop, Tick, Pass, Idle}
 use Rattle.pas_answers.specs.Acts.{Act, Operates, Settles, Ticks, MakesPass, ReadsEpoch, StopsIdle, MarksPhase, Wakes, MarksClose, Ends}
 use Rattle.pas_answers.specs.Answers.{Named, named, standing_for, Progress}
-use Rattle.pas_answers.specs.Calls.{block_behind, Tells, HasTurns, AreKnown}
+use Rattle.pas_answers.specs.Calls.{Tells, HasTurns, AreKnown}
 use Rattle.pas_answers.specs.Fit.{AreBelow}
 use Rattle.pas_answers.specs.Names.{name_in, block_named, names_held}
 use Rattle.pas_threads.specs.Shares.{OnlyAsked}

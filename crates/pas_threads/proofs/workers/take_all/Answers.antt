@@ -1,4 +1,4 @@
-use Rattle.std.proofs.Common.{◌≡◌, ◌<◌, ℕ, length, get_or, inr, refl, ap, sym, ◌∙◌, subst, arith}
+use Rattle.std.proofs.Common.{◌≡◌, ℕ, length, get_or, inr, refl, sym, ◌∙◌, subst, arith}
 use Rattle.std.proofs.lemmas.List.{length-set, get_or-set_other, get_or_default}
 use Rattle.pas_answers.specs.Names.{names_held, block_named}
 use Rattle.pas_threads.specs.NameBooks.{requests_in, names_of, known_in, AreWithin}

@@ -1,4 +1,4 @@
-use Rattle.std.proofs.Common.{ℕ, ◌<◌, get_or, length, if◌then◌else◌, refl, ap, sym, ◌∙◌, subst, arith, List, Bool, ◌==◌, ◌+◌}
+use Rattle.std.proofs.Common.{ℕ, ◌<◌, get_or, length, refl, ap, sym, ◌∙◌, subst, arith, List}
 use Rattle.pas_trace.specs.declared.plan.Op.{Op}
 use Rattle.pas_trace.specs.declared.plan.What.{What}
 use Rattle.pas_trace.specs.declared.plan.What.TheVariants.{Alloc}

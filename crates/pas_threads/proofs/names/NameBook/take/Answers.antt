@@ -1,4 +1,4 @@
-use Rattle.std.proofs.Common.{◌≡◌, ◌<◌, ◌-◌, ◌+◌, ℕ, List, drop, map, length, refl, ap, sym, ◌∙◌, subst, arith, drop_of_length-le}
+use Rattle.std.proofs.Common.{◌≡◌, ◌-◌, ◌+◌, ℕ, List, drop, map, refl, ap, sym, ◌∙◌, subst, arith, drop_of_length-le}
 use Rattle.pas_answers.specs.Answers.{standing_for}
 use Rattle.pas_answers.specs.Names.{names_held, block_named}
 use Rattle.pas_threads.specs.NameBooks.{named_of, came_to}

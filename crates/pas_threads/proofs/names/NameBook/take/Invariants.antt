@@ -1,5 +1,5 @@
 -- the last requests so far were taken over
-use Rattle.std.proofs.Common.{◌≡◌, ◌-◌, ℕ, List, map, drop, length}
+use Rattle.std.proofs.Common.{◌≡◌, ◌-◌, ℕ, map, drop, length}
 use Rattle.pas_answers.specs.Answers.{standing_for}
 use Rattle.pas_answers.specs.Names.{names_held, block_named}
 use Rattle.pas_threads.specs.NameBooks.{named_of, came_to}
