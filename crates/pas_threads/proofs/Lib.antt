@@ -1,5 +1,7 @@
 pub mod Speaking
 pub mod Places
+pub mod Noting
+pub mod Taking
 pub mod Naming
 pub mod Sharing
 pub mod Weaving
@@ -16,3 +18,5 @@ pub mod Acted
 pub mod Waking
 pub mod Stopping
 pub mod Gathering
+pub mod NamesBefore
+pub mod NamesOfPhases

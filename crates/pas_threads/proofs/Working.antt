@@ -20,8 +20,8 @@ use Rattle.pas_report.specs.declared.record.Record.{Record}
 use Rattle.pas_report.specs.declared.records.Records.{Records}
 use Rattle.pas_cache.specs.Caches.{Cached, AtRest}
 use Rattle.pas_answers.specs.Acts.{Act, Operates, Settles}
-use Rattle.pas_answers.specs.Answers.{having, Answer, answer_of, Progress, with_records, Named, standing_for, Caches, with_cache, settled, after_answer, after_settling, IsAnswered, records_of, said_by}
-use Rattle.pas_answers.specs.Calls.{HasTurn, block_behind, AreKnown, IsMeant, IsKnown, named_by, freed_by, owed_events, MayAnswer, AnswersMeant}
+use Rattle.pas_answers.specs.Answers.{having, Answer, answer_of, Progress, with_records, Named, Caches, with_cache, settled, after_answer, after_settling, IsAnswered, records_of, said_by}
+use Rattle.pas_answers.specs.Calls.{HasTurn, AreKnown, IsMeant, IsKnown, named_by, freed_by, owed_events, MayAnswer, AnswersMeant}
 use Rattle.pas_answers.specs.Fit.{IsFitWhat, AreFit, cost_of_what, own_costs_of}
 use Rattle.pas_answers.specs.Names.{block_named, names_held}
 use Rattle.pas_answers.proofs.KnownNames.{known_after}

@@ -32,6 +32,33 @@ pub struct NameBook {
     ghost whole: { vec_len places ≡ names_held names },
 }
 
+/// How many names each actor asked for so far in a phase.
+#[derive(Drop)]
+struct Counts {
+    of: [u32; 256],
+}
+
+impl Counts {
+    ghost use Rattle.std.specs.Prelude.{◌≡◌, ◌+◌, ◌<◌, ◌^◌, ◌==◌, ℕ, if◌then◌else◌, slice_index_or};
+
+    fn new() -> Counts
+        ensures { (k : ℕ) → slice_index_or result.of k 0 ≡ 0 }
+    {
+        Counts { of: [0; 256] }
+    }
+
+    /// Counts one more of this actor; how many there were before.
+    fn add(&mut self, actor: u8) -> u32
+        requires { slice_index_or self.old.of actor 0 + 1 < 2 ^ 32 }
+        ensures before { result ≡ slice_index_or self.old.of actor 0 }
+        ensures one { (k : ℕ) → slice_index_or self.new.of k 0 ≡ (if actor == k then result + 1 else slice_index_or self.old.of k 0) }
+    {
+        let count = self.of[actor as usize];
+        self.of[actor as usize] = count + 1;
+        count
+    }
+}
+
 impl Requests {
     ghost use Rattle.std.specs.Prelude.{◌≡◌, ◌++◌, ◌∷◌, [], IfOk, length};
     ghost use Rattle.pas_answers.specs.Answers.{named};
@@ -139,12 +166,11 @@ impl NameBook {
         ensures placed { (k : ℕ) → ArePlaced self.new 0 (names_asked (own_acts k ops.now)) }
         ensures names { self.new.names ≡ self.old.names }
     {
-        let mut counts = [0; 256];
+        let mut counts = Counts::new();
         for op in ops {
             if let What::Alloc { name, .. } = op.what {
-                let count = counts[op.actor as usize];
-                counts[op.actor as usize] = count + 1;
-                self.set_place(name, count);
+                let place = counts.add(op.actor);
+                self.set_place(name, place);
             }
         }
     }

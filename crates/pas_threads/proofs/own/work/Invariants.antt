@@ -1,5 +1,5 @@
 -- the operations so far are done
-use Rattle.std.proofs.Common.{◌≡◌, ◌≤◌, ℕ, List, ◌++◌, drop}
+use Rattle.std.proofs.Common.{◌≡◌, ◌≤◌, List, ◌++◌, drop}
 use Rattle.pas_profile.specs.declared.profile.Profile.{Profile}
 use Rattle.pas_cache.specs.Caches.{cached}
 use Rattle.pas_answers.specs.Acts.{Act}

@@ -1,4 +1,4 @@
-use Rattle.std.proofs.Common.{◌≡◌, ℕ, Some, refl, ap, sym, ◌∙◌, arith}
+use Rattle.std.proofs.Common.{Some, ap, sym, ◌∙◌, arith}
 use Rattle.pas_threads.proofs.Places.{at_named, at_other, at_past}
 use Rattle.pas_threads.proofs.names.Requests.at.Goals as goal
 
