@@ -3,7 +3,7 @@
 
 mod kit;
 mod limits;
-mod order;
+pub mod order;
 mod seats;
 
 pub use kit::{PlainKit, in_order};
