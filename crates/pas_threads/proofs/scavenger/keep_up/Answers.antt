@@ -1,4 +1,4 @@
-use Rattle.std.proofs.Common.{◌∙◌, List, [], Some, ap, sym, subst}
+use Rattle.std.proofs.Common.{◌∙◌, List, [], Some, refl, ap, sym, subst}
 use Rattle.pas_shared.specs.Passes.{IsPassOf}
 use Rattle.pas_shared.specs.declared.region.SharedRegion.{SharedRegion}
 use Rattle.std.specs.Vec.{with_items}
