@@ -1,6 +1,6 @@
 -- In each phase of every plan, the names that a thread frees were asked for by itself or before the phase.
 use Rattle.std.proofs.Common.{◌≡◌, ℕ, ◌==◌, ◌||◌, Bool, true, false, not, if◌then◌else◌, List, [], ◌∷◌, ◌++◌, map, Some, None, refl, ap, sym, ◌∙◌, subst, append_assoc}
-use Rattle.std.proofs.lemmas.Bool.{eqb-true, eq-eqb}
+use Rattle.std.proofs.lemmas.Bool.{eqb-true, eq-eqb, false≢true}
 use Rattle.std.proofs.lemmas.List.{append-nil}
 use Rattle.pas_profile.specs.declared.profile.Profile.{Profile}
 use Rattle.pas_trace.specs.Reasons.{is_phase, is_named, is_named_now, actor_of, thread_of, reason_of}
@@ -93,7 +93,7 @@ either_same false asked n is = is
 -- the request of a name by thread t: what another thread may free is no other than before
 own_request : (new mine : Bool) (name n : ℕ) (asked : List ℕ) → name == n ≡ new → (new ≡ true → mine ≡ true) → (new ≡ false → is_asked asked n ≡ true) → is_asked (if mine then name ∷ asked else asked) n ≡ true
 own_request true true name n asked is own old = ap (λ b. b || is_asked asked n) is
-own_request true false name n asked is own old = absurd (cc)
+own_request true false name n asked is own old = absurd (false≢true (own refl))
 own_request false true name n asked is own old = ap (λ b. b || is_asked asked n) is ∙ old refl
 own_request false false name n asked is own old = old refl
 
