@@ -10,3 +10,4 @@ pub mod Scavengers
 pub mod Acting
 pub mod Dealing
 pub mod Sessions
+pub mod Kits
