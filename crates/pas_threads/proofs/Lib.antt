@@ -11,3 +11,6 @@ pub mod ByCrew
 pub mod Arranging
 pub mod KnownAfter
 pub mod Dealt
+pub mod Equipping
+pub mod Starting
+pub mod Ending

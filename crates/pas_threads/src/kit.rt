@@ -1,5 +1,5 @@
 //! All that a replay on threads needs, and the replay.
-ghost use Rattle.std.specs.Prelude.{◌≡◌, ◌≤◌, ◌<◌, ◌+◌, ◌^◌, ℕ, List, IfOk, All, true, Some, [], map, length, vec_capacity};
+ghost use Rattle.std.specs.Prelude.{◌≡◌, ◌≤◌, ◌<◌, ◌+◌, ◌^◌, ℕ, List, IfOk, All, true, Some, [], map, length, vec_capacity, ◌++◌, ◌∷◌};
 ghost use Rattle.pas_profile.specs.declared.profile.Profile.{Profile as TheProfile};
 ghost use Rattle.pas_trace.specs.Plans.{IsPlanOf, bounds_of};
 ghost use Rattle.pas_utility.specs.Outcomes.{places_of};
@@ -8,6 +8,7 @@ ghost use Rattle.pas_cache.specs.Caches.{cached};
 ghost use Rattle.pas_report.specs.Rooms.{records_in, room_of};
 ghost use Rattle.pas_answers.specs.Replays.{phases_of, empty_cache, Shows};
 ghost use Rattle.pas_answers.specs.Ways.{OnThreads};
+ghost use Rattle.pas_shared.specs.declared.pass.SharedPass.{SharedPass as ThePass};
 ghost use Rattle.pas_threads.specs.Kits.{IsEquipped, AreEquipped, IsReady, IsTeamOf, IsKitOf, slots_of, AreAllBack};
 
 use crate::gate::Gate;
@@ -140,6 +141,19 @@ fn team_for(
     })
 }
 
+/// Adds the pass that stands at this place.
+fn add_pass(passes: &mut Vec<SharedPass>, slot: Option<SharedPass>)
+    requires back { (pass : ThePass) × (slot ≡ Some pass) }
+    requires place { length passes.old.items < vec_capacity passes.old }
+    ensures added { map Some passes.new.items ≡ map Some passes.old.items ++ slot ∷ [] }
+    ensures places { vec_capacity passes.new ≡ vec_capacity passes.old }
+{
+    let Some(pass) = slot else {
+        unreachable!();
+    };
+    passes.push_reserved(pass);
+}
+
 /// The passes of all actors, from the scavenger on, at the places of this list.
 fn passes_of(team: Team, mut passes: Vec<SharedPass>) -> Vec<SharedPass>
     requires none { passes.items ≡ [] }
@@ -153,15 +167,9 @@ fn passes_of(team: Team, mut passes: Vec<SharedPass>) -> Vec<SharedPass>
         hands: _,
         book: _,
     } = team;
-    let Some(first) = scavenger.pass else {
-        unreachable!();
-    };
-    passes.push_reserved(first);
+    add_pass(&mut passes, scavenger.pass);
     for worker in threads {
-        let Some(pass) = worker.pass else {
-            unreachable!();
-        };
-        passes.push_reserved(pass);
+        add_pass(&mut passes, worker.pass);
     }
     passes
 }
