@@ -9,7 +9,8 @@ use Rattle.pas_profile.specs.declared.profile.Profile.{Profile}
 use Rattle.pas_steps.specs.Clear.{HasNothing}
 use Rattle.pas_steps.specs.Lists.{Whole, part, Legal}
 use Rattle.pas_steps.specs.declared.state.State.{State}
-use Rattle.pas_trace.specs.declared.plan.Op.{Op}
+use Rattle.pas_trace.specs.Plans.{ops_of, phases_of as the_phases}
+use Rattle.pas_trace.specs.declared.plan.Phase.{Phase}
 use Rattle.pas_trace.specs.declared.plan.Plan.{Plan}
 use Rattle.pas_report.specs.declared.record.Record.{Record}
 use Rattle.pas_cache.specs.Caches.{cached}
@@ -54,16 +55,17 @@ own_at : (region : SharedRegion) (l : Whole) (k : ℕ) (slot : Option SharedPass
 own_at region l k slot has pass at actor is =
     subst (IsOwn region l k) (same_Some has.pass pass (sym has.present ∙ at)) (record { of_region = has.of; actor = actor; part_is = is })
 
+-- there is a pass
+abbrev IsBackAt : Option SharedPass → Type 0
+IsBackAt slot = (pass : SharedPass) × (slot ≡ Some pass)
+
 module _ {region : SharedRegion} {f : Profile} {team : Team} {end : Progress} (stands : TeamAt region f [] team end) where
   -- all passes are back
   pub all_back : AreAllBack team
   all_back = All-cons IsBackAt team.scavenger.pass (map (λ (w : Worker). w.pass) team.threads.items) (stands.scavenger.has.pass, stands.scavenger.has.present)
       (All-map IsBackAt (λ (w : Worker). w.pass) team.threads.items (λ i d lt. let has = (stands.workers i d lt).has in (has.pass, has.present)))
-    where
-      abbrev IsBackAt : Option SharedPass → Type 0
-      IsBackAt slot = (pass : SharedPass) × (slot ≡ Some pass)
 
-  module _ {passes : List SharedPass} (back : map (λ (pass : SharedPass). Some pass) passes ≡ slots_of team) where
+  module _ (passes : List SharedPass) (back : map (λ (pass : SharedPass). Some pass) passes ≡ slots_of team) where
     count : length passes ≡ f.threads + 1
     count =
         let same = ap (λ (slots : List (Option SharedPass)). length slots) back in
@@ -92,8 +94,8 @@ module _ {region : SharedRegion} {f : Profile} {team : Team} {end : Progress} (s
     all_of_region k d lt = (own k d lt).of_region
 
     -- the list of the closed region has of each actor the same part as that of the pieces
-    pub same_parts : {whole : Whole} → Legal f whole → All (λ pass. part (seat_of pass).actor whole ≡ view_of pass) passes → (k : ℕ) → part k whole ≡ part k end.list
-    same_parts {whole} legal parts k = elim (cases_lt f.threads k) [
+    pub same_parts : (whole : Whole) → Legal f whole → All (λ pass. part (seat_of pass).actor whole ≡ view_of pass) passes → (k : ℕ) → part k whole ≡ part k end.list
+    same_parts whole legal parts k = elim (cases_lt f.threads k) [
       | inl past ↦ nobody_past f whole k past legal ∙ sym (stands.nobody k past)
       | inr within ↦
           let all = count in
@@ -120,13 +122,13 @@ module _ {region : SharedRegion} {f : Profile} {team : Team} {end : Progress} (s
     | inr past ↦ subst HasNothing (sym (stands.nobody (suc i) (omega (arith, past)))) nothing
   ]
 
-pub shows : {plan : Plan} {region : SharedRegion} {team : Team} {passes : List SharedPass} {written : List Record} {state : State} → IsValid plan.profile → region.profile ≡ plan.profile
+pub shows : {plan : Plan} {region : SharedRegion} {team : Team} (passes : List SharedPass) {written : List Record} {state : State} → IsValid plan.profile → region.profile ≡ plan.profile
     → HasReplayed region plan.profile (phases_of plan) team written → map (λ (pass : SharedPass). Some pass) passes ≡ slots_of team → EndsWith region.profile passes state → Shows OnThreads plan written state
-shows {plan} {region} {team} {passes} {written} {state} valid of_profile replayed back ends =
+shows {plan} {region} {team} passes {written} {state} valid of_profile replayed back ends =
     let closed = subst (λ (f : Profile). EndsWith f passes state) of_profile ends in
     let after = closed.after in
     let end = replayed.end in
-    let same = same_parts replayed.stands back after.legal after.parts in
+    let same = same_parts replayed.stands passes back after.whole after.legal after.parts in
     record {
       whole = after.whole;
       replay = replays OnThreads plan end.list after.whole end.records written valid replayed.answers same replayed.written_are after.legal
@@ -134,3 +136,8 @@ shows {plan} {region} {team} {passes} {written} {state} valid of_profile replaye
       profile = closed.profile;
       words = after.words;
     }
+
+-- the plan as the replay was handed it
+pub replayed_so : (plan : Plan) {region : SharedRegion} {team : Team} {written : List Record} (slice : List Phase) → slice ≡ the_phases plan.phases → HasReplayed region plan.profile (map ops_of slice) team written
+    → HasReplayed region plan.profile (phases_of plan) team written
+replayed_so plan {region} {team} {written} slice is replayed = subst (λ (ps : List Phase). HasReplayed region plan.profile (map ops_of ps) team written) is replayed

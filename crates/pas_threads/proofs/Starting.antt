@@ -1,14 +1,14 @@
 -- How a kit is made, and where its team stands when a replay starts.
-use Rattle.std.proofs.Common.{◌≡◌, ℕ, zero, suc, ◌+◌, ◌*◌, ◌<◌, ◌≤◌, true, false, List, [], ◌∷◌, length, slice_index, slice_index_or, get_or, Option, Some, None, refl, ap, sym, ◌∙◌, subst, arith}
+use Rattle.std.proofs.Common.{◌≡◌, ℕ, zero, suc, ◌+◌, ◌*◌, ◌<◌, ◌≤◌, true, false, List, [], ◌∷◌, map, length, slice_index, slice_index_or, get_or, Option, Some, None, refl, ap, sym, ◌∙◌, subst, arith}
 use Rattle.std.specs.List.{remove}
-use Rattle.std.proofs.lemmas.Option.{same_Some}
+use Rattle.std.proofs.lemmas.List.{length-map}
 use Rattle.std.proofs.Math.Nat.{suc-mul}
 use Rattle.pas_profile.specs.Rooms.{size_of_room}
 use Rattle.pas_profile.specs.declared.profile.Profile.{Profile}
 use Rattle.pas_profile.specs.declared.room.EventRoom.{EventRoom}
 use Rattle.pas_trace.specs.EveryPlan.{IsSound, all_ops, own_records}
-use Rattle.pas_trace.specs.Plans.{IsPlanOf, bounds_of}
-use Rattle.pas_trace.specs.declared.plan.Op.{Op}
+use Rattle.pas_trace.specs.Plans.{IsPlanOf, bounds_of, ops_of, phases_of as the_phases}
+use Rattle.pas_trace.specs.declared.plan.Phase.{Phase}
 use Rattle.pas_trace.specs.declared.plan.Plan.{Plan}
 use Rattle.pas_trace.proofs.EveryPlan.{every_plan}
 use Rattle.pas_report.specs.Rooms.{records_in, room_of}
@@ -126,7 +126,7 @@ owed_start f (suc n) =
     let more = suc-mul n f.pages in
     omega (arith, this, rest, more)
 
-pub start : {text : List ℕ} {plan : Plan} {kit : SharedKit} → IsPlanOf text plan → IsKitOf plan kit → TeamAt kit.region plan.profile (phases_of plan) kit.team at_start
+start : {text : List ℕ} {plan : Plan} {kit : SharedKit} → IsPlanOf text plan → IsKitOf plan kit → TeamAt kit.region plan.profile (phases_of plan) kit.team at_start
 start {text} {plan} {kit} read made =
     let f = plan.profile in
     let bounds = bounds_of plan.bounds in
@@ -145,10 +145,18 @@ start {text} {plan} {kit} read made =
       places = made.team.places;
     }
 
-pub start_room : {text : List ℕ} {plan : Plan} {out : Records} → IsPlanOf text plan → records_in out ≡ [] → plan.total + length (phases_of plan) + 1 ≤ room_of out → HasRoom plan.profile (phases_of plan) (length (phases_of plan) + 1) out at_start
-start_room {text} {plan} {out} read empty room =
+start_room : {text : List ℕ} {plan : Plan} (out : Records) → IsPlanOf text plan → records_in out ≡ [] → plan.total + length (phases_of plan) + 1 ≤ room_of out
+    → HasRoom plan.profile (phases_of plan) (length (the_phases plan.phases) + 1) out at_start
+start_room {text} {plan} out read empty room =
     let f = plan.profile in
     let owed = owed_start f f.threads in
     let total = (every_plan read).total in
     let none = ap (λ (rs : List Record). length rs) empty in
-    omega (arith, owed, total, none, room)
+    let many = length-map (the_phases plan.phases) ops_of in
+    omega (arith, owed, total, none, room, many)
+
+-- the plan as the replay is handed it
+pub handed : {text : List ℕ} {plan : Plan} {kit : SharedKit} (out : Records) (slice : List Phase) → IsPlanOf text plan → IsKitOf plan kit → slice ≡ the_phases plan.phases → records_in out ≡ []
+    → plan.total + length (phases_of plan) + 1 ≤ room_of out → TeamAt kit.region plan.profile (map ops_of slice) kit.team at_start × HasRoom plan.profile (map ops_of slice) (length slice + 1) out at_start
+handed {text} {plan} {kit} out slice read made is empty room =
+    subst (λ (ps : List Phase). TeamAt kit.region plan.profile (map ops_of ps) kit.team at_start × HasRoom plan.profile (map ops_of ps) (length ps + 1) out at_start) (sym is) (start read made, start_room out read empty room)
