@@ -18,7 +18,7 @@ replay-team-requires-clause-phases g c =
 pub replay-team-requires-clause-stands : goal.replay-team-requires-clause-stands
 replay-team-requires-clause-stands g c =
     let start = handed c.args.out.now c.as_slice.result.now c.requires.plan.2 c.requires.kit c.as_slice.ensures c.requires.empty c.requires.room in
-    ?
+    λ lifetimes outlive. (c.args.plan.now.profile, start.0, start.1)
 
 pub passes_of-requires-clause-places : goal.passes_of-requires-clause-places
 passes_of-requires-clause-places g c =
