@@ -37,7 +37,11 @@ pub struct PlainKit {
 }
 
 /// The room of each actor, from the scavenger on.
-pub fn rooms_of(alloc: Global, utility: &mut Utility, threads: u8) -> Result<Vec<EventRoom>, NoMemory>
+pub fn rooms_of(
+    alloc: Global,
+    utility: &mut Utility,
+    threads: u8,
+) -> Result<Vec<EventRoom>, NoMemory>
     requires threads { threads ≤ threads_of utility.old }
     requires few { threads ≤ 16 }
     requires left { (k : ℕ) → k ≤ threads → (size : ℕ) × (room_for utility.old k ≡ Some size) }

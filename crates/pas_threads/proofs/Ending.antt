@@ -87,7 +87,7 @@ module _ {region : SharedRegion} {f : Profile} {team : Team} {end : Progress} (s
         let w = some_worker team.threads.items (omega (arith, below)) in
         let rests = stands.workers i w below in
         let at = sym (get_or-map (λ (w : Worker). w.pass) team.threads.items i w None below) ∙ ap (λ (slots : List (Option SharedPass)). get_or slots (suc i) None) (sym back)
-            ∙ get_or-map (λ (pass : SharedPass). Some pass) passes (suc i) d None lt in
+        ∙ get_or-map (λ (pass : SharedPass). Some pass) passes (suc i) d None lt in
         own_at region end.list (suc i) (get_or team.threads.items i w).pass rests.has (get_or passes (suc i) d) at rests.sits.actor rests.sits.stood
 
     pub all_of_region : All (IsPassOf region) passes

@@ -6,7 +6,7 @@ use Rattle.pas_cache.specs.declared.cache.ThreadCache.{ThreadCache}
 use Rattle.pas_shared.specs.declared.region.SharedRegion.{SharedRegion}
 use Rattle.pas_shared.specs.declared.pass.SharedPass.{SharedPass}
 use Rattle.pas_answers.specs.Replays.{empty_cache}
-use Rattle.pas_threads.specs.Kits.{IsUnused, AreUnused, IsEquipped, AreEquipped, slots_of, AreAllBack}
+use Rattle.pas_threads.specs.Kits.{IsNew, AreNew, IsEquipped, AreEquipped, slots_of, AreAllBack}
 use Rattle.pas_threads.specs.declared.workers.Worker.{Worker}
 use Rattle.pas_threads.specs.declared.phases.Team.{Team}
 

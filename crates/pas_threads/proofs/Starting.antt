@@ -27,7 +27,7 @@ use Rattle.pas_replay.proofs.NameLimits.{below_all}
 use Rattle.pas_replay.proofs.StartAndEnd.{nothing, nothing_owed}
 use Rattle.pas_threads.specs.Sessions.{WorkerRests, AreResting, ScavengerRests, TeamAt, HasRoom, owed_by}
 use Rattle.pas_threads.specs.NameBooks.{NamesAt}
-use Rattle.pas_threads.specs.Kits.{IsUnused, AreUnused, IsEquipped, AreEquipped, IsReady, IsBookOf, IsKitOf}
+use Rattle.pas_threads.specs.Kits.{IsNew, AreNew, IsEquipped, AreEquipped, IsReady, IsBookOf, IsKitOf}
 use Rattle.pas_threads.specs.declared.kit.SharedKit.{SharedKit}
 use Rattle.pas_threads.specs.declared.names.NameBook.{NameBook}
 use Rattle.pas_threads.specs.declared.scavenger.Scavenger.{Scavenger}
@@ -35,16 +35,16 @@ use Rattle.pas_threads.specs.declared.workers.Worker.{Worker}
 use Rattle.pas_threads.proofs.Equipping.{equipped_many}
 
 -- ---- the kit
--- the passes of a region that was just opened are unused
-pub fresh_unused : (region : SharedRegion) (bounds : List ℕ) (k : ℕ) (rooms : List EventRoom) (passes : List SharedPass) → AreFresh region.table.shared.table_id region.profile k rooms passes
-    → ((i : ℕ) (d : EventRoom) → i < length rooms → size_of_room (slice_index_or rooms i d) ≡ slice_index bounds (k + i)) → AreUnused region bounds k passes
-fresh_unused region bounds k [] [] fresh sizes = tt
-fresh_unused region bounds k [] (pass ∷ passes) fresh sizes = absurd fresh
-fresh_unused region bounds k (room ∷ rooms) [] fresh sizes = absurd fresh
-fresh_unused region bounds k (room ∷ rooms) (pass ∷ passes) fresh sizes =
+-- the passes of a region that was just opened are new
+pub fresh_new : (region : SharedRegion) (bounds : List ℕ) (k : ℕ) (rooms : List EventRoom) (passes : List SharedPass) → AreFresh region.table.shared.table_id region.profile k rooms passes
+    → ((i : ℕ) (d : EventRoom) → i < length rooms → size_of_room (slice_index_or rooms i d) ≡ slice_index bounds (k + i)) → AreNew region bounds k passes
+fresh_new region bounds k [] [] fresh sizes = tt
+fresh_new region bounds k [] (pass ∷ passes) fresh sizes = absurd fresh
+fresh_new region bounds k (room ∷ rooms) [] fresh sizes = absurd fresh
+fresh_new region bounds k (room ∷ rooms) (pass ∷ passes) fresh sizes =
     let one = fresh.0 in (
       record { of_region = one.of_table; actor = one.actor_is; room = one.room_is ∙ sizes 0 room (omega arith) ∙ ap (λ (n : ℕ). slice_index bounds n) (omega arith); no_step = one.view_is },
-      fresh_unused region bounds (k + 1) rooms passes fresh.1 (λ i d lt. sizes (suc i) d (omega (arith, lt)) ∙ ap (λ (n : ℕ). slice_index bounds n) (omega arith)),
+      fresh_new region bounds (k + 1) rooms passes fresh.1 (λ i d lt. sizes (suc i) d (omega (arith, lt)) ∙ ap (λ (n : ℕ). slice_index bounds n) (omega arith)),
     )
 
 -- the first pass, once it is taken out, and the others
@@ -54,7 +54,7 @@ first_taken (p ∷ ps) rest pass some is left = ap (λ (q : SharedPass). q ∷ p
 
 -- ---- the start
 -- a thread that made no step is at rest
-starts_at : (region : SharedRegion) (f : Profile) (k bound later : ℕ) (pass : SharedPass) (worker : Worker) → region.profile ≡ f → f.pages + later ≤ bound → IsUnused region k bound pass → IsEquipped pass bound worker
+starts_at : (region : SharedRegion) (f : Profile) (k bound later : ℕ) (pass : SharedPass) (worker : Worker) → region.profile ≡ f → f.pages + later ≤ bound → IsNew region k bound pass → IsEquipped pass bound worker
     → WorkerRests region f k worker later at_start
 starts_at region f k bound later pass worker of_profile within unused has =
     let owed : owed_events f (cached worker.cache) [] ≡ f.pages = ap (λ (c : Cached). owed_events f c []) has.cache ∙ nothing_owed f in
@@ -78,19 +78,19 @@ starts_at region f k bound later pass worker of_profile within unused has =
       requests = omega (arith, requests, within);
     }
 
-all_start : (region : SharedRegion) (f : Profile) (bounds : List ℕ) (k : ℕ) (later : ℕ → ℕ) (passes : List SharedPass) (workers : List Worker) → region.profile ≡ f → AreUnused region bounds k passes → AreEquipped bounds k passes workers
+all_start : (region : SharedRegion) (f : Profile) (bounds : List ℕ) (k : ℕ) (later : ℕ → ℕ) (passes : List SharedPass) (workers : List Worker) → region.profile ≡ f → AreNew region bounds k passes → AreEquipped bounds k passes workers
     → ((i : ℕ) → i < length workers → f.pages + later (k + i) ≤ slice_index bounds (k + i)) → (i : ℕ) (d : Worker) → i < length workers → WorkerRests region f (k + i) (get_or workers i d) (later (k + i)) at_start
 all_start region f bounds k later [] [] of_profile unused have within i d bad = absurd (omega (arith, bad))
 all_start region f bounds k later [] (w ∷ workers) of_profile unused have within i d lt = absurd have
 all_start region f bounds k later (p ∷ passes) [] of_profile unused have within i d lt = absurd have
 all_start region f bounds k later (p ∷ passes) (w ∷ workers) of_profile unused have within zero d lt =
     subst (λ (n : ℕ). WorkerRests region f n w (later n) at_start) (omega arith)
-        (starts_at region f k (slice_index bounds k) (later k) p w of_profile (subst (λ (n : ℕ). f.pages + later n ≤ slice_index bounds n) (omega arith) (within 0 (omega arith))) unused.0 have.0)
+    (starts_at region f k (slice_index bounds k) (later k) p w of_profile (subst (λ (n : ℕ). f.pages + later n ≤ slice_index bounds n) (omega arith) (within 0 (omega arith))) unused.0 have.0)
 all_start region f bounds k later (p ∷ passes) (w ∷ workers) of_profile unused have within (suc i) d lt =
     subst (λ (n : ℕ). WorkerRests region f n (get_or workers i d) (later n) at_start) (omega arith)
-        (all_start region f bounds (k + 1) later passes workers of_profile unused.1 have.1 (λ j le. subst (λ (n : ℕ). f.pages + later n ≤ slice_index bounds n) (omega arith) (within (suc j) (omega (arith, le)))) i d (omega (arith, lt)))
+    (all_start region f bounds (k + 1) later passes workers of_profile unused.1 have.1 (λ j le. subst (λ (n : ℕ). f.pages + later n ≤ slice_index bounds n) (omega arith) (within (suc j) (omega (arith, le)))) i d (omega (arith, lt)))
 
-scavenger_starts : (region : SharedRegion) (f : Profile) (bound later : ℕ) (pass : SharedPass) (scavenger : Scavenger) → region.profile ≡ f → later ≤ bound → IsUnused region 0 bound pass → IsReady f pass bound scavenger
+scavenger_starts : (region : SharedRegion) (f : Profile) (bound later : ℕ) (pass : SharedPass) (scavenger : Scavenger) → region.profile ≡ f → later ≤ bound → IsNew region 0 bound pass → IsReady f pass bound scavenger
     → ScavengerRests region f scavenger later at_start
 scavenger_starts region f bound later pass scavenger of_profile within unused ready =
     let room = unused.room in
@@ -138,7 +138,7 @@ start {text} {plan} {kit} read made =
       many = many;
       workers = λ i d lt. subst (λ (n : ℕ). WorkerRests kit.region f n (get_or kit.team.threads.items i d) (own_records f n ops) at_start) (omega arith)
           (all_start kit.region f bounds 1 (λ k. own_records f k ops) made.others kit.team.threads.items made.profile made.unused.1 made.team.workers
-              (λ j le. let own = plans.own (1 + j) (omega arith) (omega (arith, le, many)) in omega (arith, own)) i d lt);
+          (λ j le. let own = plans.own (1 + j) (omega arith) (omega (arith, le, many)) in omega (arith, own)) i d lt);
       scavenger = scavenger_starts kit.region f (slice_index bounds 0) (own_records f 0 ops) made.first kit.team.scavenger made.profile (omega (arith, scavenger)) made.unused.0 made.team.scavenger;
       nobody = λ k past. refl;
       names = names_start read made.team.book;

@@ -22,16 +22,16 @@ use Rattle.pas_threads.specs.declared.kit.SharedKit.{SharedKit}
 
 -- ---- the passes
 -- a pass of the region, of actor k, with room for so many events, that made no step
-pub record IsUnused (region : SharedRegion) (k bound : ℕ) (pass : SharedPass) : Type 0 where
+pub record IsNew (region : SharedRegion) (k bound : ℕ) (pass : SharedPass) : Type 0 where
   pub of_region : IsPassOf region pass
   pub actor : (seat_of pass).actor ≡ k
   pub room : (seat_of pass).room ≡ bound
   pub no_step : view_of pass ≡ []
 
 -- such passes, of the actors from k on, each with room for its actor's bound
-abbrev pub AreUnused : SharedRegion → List ℕ → ℕ → List SharedPass → Type 0
-AreUnused region bounds k [] = Unit {0}
-AreUnused region bounds k (pass ∷ passes) = IsUnused region k (slice_index bounds k) pass × AreUnused region bounds (k + 1) passes
+abbrev pub AreNew : SharedRegion → List ℕ → ℕ → List SharedPass → Type 0
+AreNew region bounds k [] = Unit {0}
+AreNew region bounds k (pass ∷ passes) = IsNew region k (slice_index bounds k) pass × AreNew region bounds (k + 1) passes
 
 -- ---- the team
 -- The worker of a thread has this pass, a cache that nobody used, and room for so many requests and as many records, of which there are none.
@@ -76,7 +76,7 @@ pub record IsKitOf (plan : Plan) (kit : SharedKit) : Type 0 where
   pub first : SharedPass
   pub others : List SharedPass
   pub many : length others ≡ plan.profile.threads
-  pub unused : AreUnused kit.region (bounds_of plan.bounds) 0 (first ∷ others)
+  pub unused : AreNew kit.region (bounds_of plan.bounds) 0 (first ∷ others)
   pub team : IsTeamOf plan first others kit.team
   pub none : kit.passes.items ≡ []
   pub place : plan.profile.threads < vec_capacity kit.passes

@@ -1,4 +1,4 @@
-use Rattle.std.proofs.Common.{◌≡◌, ◌+◌, ◌++◌, ◌∷◌, [], ℕ, List, Option, Some, map, length, ap, sym, ◌∙◌, subst, arith, length-append, slice_index_or}
+use Rattle.std.proofs.Common.{◌++◌, ◌∷◌, [], List, Option, Some, map, length, ap, ◌∙◌, subst, arith, length-append, slice_index_or}
 use Rattle.std.proofs.lemmas.List.{length-map}
 use Rattle.std.proofs.lemmas.List.Elements.{All-rest, All-same}
 use Rattle.pas_shared.specs.declared.pass.SharedPass.{SharedPass}

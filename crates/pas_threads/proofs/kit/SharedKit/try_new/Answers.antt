@@ -1,11 +1,11 @@
-use Rattle.std.proofs.Common.{◌≡◌, ◌+◌, ◌<◌, ◌∷◌, ℕ, List, Some, length, slice_index, slice_index_or, ap, sym, ◌∙◌, subst, arith}
+use Rattle.std.proofs.Common.{ℕ, List, Some, length, slice_index, ap, sym, ◌∙◌, subst, arith}
 use Rattle.std.proofs.lemmas.Option.{same_Some}
 use Rattle.pas_trace.specs.Plans.{bounds_of}
 use Rattle.pas_shared.specs.declared.pass.SharedPass.{SharedPass}
 use Rattle.pas_shared.proofs.Opened.{fresh_many}
 use Rattle.pas_replay.proofs.PlanFacts.{plan_valid, plan_bounds}
-use Rattle.pas_threads.specs.Kits.{AreUnused}
-use Rattle.pas_threads.proofs.Starting.{fresh_unused, first_taken}
+use Rattle.pas_threads.specs.Kits.{AreNew}
+use Rattle.pas_threads.proofs.Starting.{fresh_new, first_taken}
 use Rattle.pas_threads.proofs.kit.SharedKit.try_new.Goals as goal
 
 pub try_new-requires : goal.try_new-requires
@@ -54,11 +54,11 @@ returns c =
       first = c.remove-first.result;
       others = c.remove-first.new.self.items;
       many = omega (arith, many, same, long, left, rest);
-      unused = subst (λ (ps : List SharedPass). AreUnused region bounds 0 ps)
+      unused = subst (λ (ps : List SharedPass). AreNew region bounds 0 ps)
           (first_taken c.in_ok-region.others.items c.remove-first.new.self.items c.remove-first.result (omega (arith, many, same)) c.remove-first.ensures.value c.remove-first.ensures.items)
-          (fresh_unused region bounds 0 c.in_ok-rooms.rooms.items c.in_ok-region.others.items fresh
-              (λ i d lt. same_Some _ _ (sym (rooms.each i d (omega (arith, lt, many))) ∙ c.in_ok-utility.ensures.rooms i (omega (arith, lt, many)) ∙ ap (λ (bs : List ℕ). Some (slice_index bs i)) c.as_slice.ensures)
-                  ∙ ap (λ (n : ℕ). slice_index bounds n) (omega arith)));
+          (fresh_new region bounds 0 c.in_ok-rooms.rooms.items c.in_ok-region.others.items fresh
+          (λ i d lt. same_Some _ _ (sym (rooms.each i d (omega (arith, lt, many))) ∙ c.in_ok-utility.ensures.rooms i (omega (arith, lt, many)) ∙ ap (λ (bs : List ℕ). Some (slice_index bs i)) c.as_slice.ensures)
+          ∙ ap (λ (n : ℕ). slice_index bounds n) (omega arith)));
       team = c.in_ok-team.ensures;
       none = c.in-Ok.ensures.items;
       place = omega (arith, place);
