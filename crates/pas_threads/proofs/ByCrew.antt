@@ -16,7 +16,8 @@ use Rattle.pas_answers.specs.Acts.{Act, ReadsEpoch, idle_stops, acts_of_op}
 use Rattle.pas_answers.specs.Answers.{Progress, Caches}
 use Rattle.pas_answers.specs.Fit.{costs_of}
 use Rattle.pas_answers.specs.Ways.{records_by}
-use Rattle.pas_threads.specs.Works.{Sits}
+use Rattle.pas_threads.specs.declared.names.NameBook.{NameBook}
+use Rattle.pas_threads.specs.Works.{Later, Sits}
 use Rattle.pas_threads.specs.Scavenges.{Scavenges}
 use Rattle.pas_threads.specs.Lent.{AreDistinct, AreLent, DidWithLent}
 use Rattle.pas_threads.specs.Shares.{scavenger_acts}
@@ -28,9 +29,9 @@ use Rattle.pas_threads.proofs.ByScavenger.{same_stands}
 use Rattle.pas_threads.proofs.ByLent.{all_by, more_by}
 
 -- ---- the scavenger's own act leaves the lent threads where they are
-pub still_lent : {region : SharedRegion} {f : Profile} {idle : List ℕ} {act : Act} {next : List Act} {σ σ' : Standing} {places places' : ℕ} {out out' : Records} {later : Later} {lends : ℕ → Later} {lent : List Worker} {p : Progress} → AreDistinct idle
-    → (did : Scavenges f act next σ σ' places places' out out' later p) → AreLent region f idle lends lent p → AreLent region f idle lends lent did.reached
-still_lent {region} {f} {idle} {lends = lends} {lent} {p} distinct did at = record {
+pub still_lent : {region : SharedRegion} {book : NameBook} {f : Profile} {idle : List ℕ} {act : Act} {next : List Act} {σ σ' : Standing} {places places' : ℕ} {out out' : Records} {later : Later} {lends : ℕ → Later} {lent : List Worker} {p : Progress} → AreDistinct idle
+    → (did : Scavenges f act next σ σ' places places' out out' later p) → AreLent region book f idle lends lent p → AreLent region book f idle lends lent did.reached
+still_lent {region} {book} {f} {idle} {lends = lends} {lent} {p} distinct did at = record {
   many = at.many;
   each = λ i d lt.
       let was = at.each i d lt in
@@ -39,9 +40,9 @@ still_lent {region} {f} {idle} {lends = lends} {lent} {p} distinct did at = reco
       record { has = was.has; stands = same_stands (did.parts k (distinct.threads i (omega (arith, lt, many)))) (ap (λ (cs : Caches). cs k) did.caches) did.names was.stands };
 }
 
-pub did_alone : {region : SharedRegion} {f : Profile} {idle : List ℕ} {act : Act} {next : List Act} {σ σ' : Standing} {places places' : ℕ} {out out' : Records} {later : Later} {lends : ℕ → Later} {lent : List Worker} {p : Progress} → AreDistinct idle
-    → Scavenges f act next σ σ' places places' out out' later p → AreLent region f idle lends lent p → CrewDid region f idle (act ∷ []) next σ σ' (crew lent places out) (crew lent places' out') later lends p
-did_alone {region} {f} {idle} {act} {next} {σ} {σ'} {places} {places'} {out} {out'} {later} {lends} {lent} {p} distinct did at = record {
+pub did_alone : {region : SharedRegion} {book : NameBook} {f : Profile} {idle : List ℕ} {act : Act} {next : List Act} {σ σ' : Standing} {places places' : ℕ} {out out' : Records} {later : Later} {lends : ℕ → Later} {lent : List Worker} {p : Progress} → AreDistinct idle
+    → Scavenges f act next σ σ' places places' out out' later p → AreLent region book f idle lends lent p → CrewDid region book f idle (act ∷ []) next σ σ' (crew lent places out) (crew lent places' out') later lends p
+did_alone {region} {book} {f} {idle} {act} {next} {σ} {σ'} {places} {places'} {out} {out'} {later} {lends} {lent} {p} distinct did at = record {
   reached = did.reached;
   reaches = did.reaches;
   stands = record { stands = did.stands; lent = still_lent distinct did at };
@@ -63,10 +64,10 @@ costs_stops f n (k ∷ idle) next = let rest = costs_stops f n idle next in omeg
 sits_less : {f : Profile} {σ : Standing} {v : View} {need need' : ℕ} → need' ≤ need → Sits f 0 HasNothing σ v need → Sits f 0 HasNothing σ v need'
 sits_less le s = let room = s.room in record { actor = s.actor; profile = s.profile; beside = s.beside; stood = s.stood; rest = s.rest; room = omega (arith, room, le) }
 
-pub did_idle : {region : SharedRegion} {f : Profile} {idle : List ℕ} {next : List Act} {σ σ' : Standing} {places : ℕ} {out out' : Records} {later : Later} {lends : ℕ → Later} {old new : List Worker} {p : Progress} (n : ℕ) → AreDistinct idle
-    → (read : Scavenges f ReadsEpoch (idle_stops n idle ++ next) σ σ' places places out out later p) → AreLent region f idle lends old p → DidWithLent region f (idle_stops n idle) idle lends old new out out' (length old) read.reached
-    → CrewDid region f idle (ReadsEpoch ∷ idle_stops n idle) next σ σ' (crew old places out) (crew new places out') later lends p
-did_idle {region} {f} {idle} {next} {σ} {σ'} {places} {out} {out'} {later} {lends} {old} {new} {p} n distinct read at stops =
+pub did_idle : {region : SharedRegion} {book : NameBook} {f : Profile} {idle : List ℕ} {next : List Act} {σ σ' : Standing} {places : ℕ} {out out' : Records} {later : Later} {lends : ℕ → Later} {old new : List Worker} {p : Progress} (n : ℕ) → AreDistinct idle
+    → (read : Scavenges f ReadsEpoch (idle_stops n idle ++ next) σ σ' places places out out later p) → AreLent region book f idle lends old p → DidWithLent region book f (idle_stops n idle) idle lends old new out out' (length old) read.reached
+    → CrewDid region book f idle (ReadsEpoch ∷ idle_stops n idle) next σ σ' (crew old places out) (crew new places out') later lends p
+did_idle {region} {book} {f} {idle} {next} {σ} {σ'} {places} {out} {out'} {later} {lends} {old} {new} {p} n distinct read at stops =
     let q = stops.reached in
     let costs = costs_stops f n idle next in
     let many = at.many in
@@ -97,17 +98,17 @@ did_idle {region} {f} {idle} {next} {σ} {σ'} {places} {out} {out'} {later} {le
     }
 
 -- ---- the acts written otherwise
-pub as_acts : {region : SharedRegion} {f : Profile} {idle : List ℕ} {acts acts' : List Act} {σ : Standing} {has : Crew} {later : Later} {lends : ℕ → Later} {p : Progress} (next : List Act) → acts ≡ acts'
-    → CrewAt region f idle (acts ++ next) σ has later lends p → CrewAt region f idle (acts' ++ next) σ has later lends p
-as_acts {region} {f} {idle} {acts} {acts'} {σ} {has} {later} {lends} {p} next is at = subst (λ (xs : List Act). CrewAt region f idle (xs ++ next) σ has later lends p) is at
+pub as_acts : {region : SharedRegion} {book : NameBook} {f : Profile} {idle : List ℕ} {acts acts' : List Act} {σ : Standing} {has : Crew} {later : Later} {lends : ℕ → Later} {p : Progress} (next : List Act) → acts ≡ acts'
+    → CrewAt region book f idle (acts ++ next) σ has later lends p → CrewAt region book f idle (acts' ++ next) σ has later lends p
+as_acts {region} {book} {f} {idle} {acts} {acts'} {σ} {has} {later} {lends} {p} next is at = subst (λ (xs : List Act). CrewAt region book f idle (xs ++ next) σ has later lends p) is at
 
-pub to_acts : {region : SharedRegion} {f : Profile} {idle : List ℕ} {acts acts' next : List Act} {σ σ' : Standing} {has has' : Crew} {later : Later} {lends : ℕ → Later} {p : Progress} → acts ≡ acts'
-    → CrewDid region f idle acts' next σ σ' has has' later lends p → CrewDid region f idle acts next σ σ' has has' later lends p
-to_acts {region} {f} {idle} {acts} {acts'} {next} {σ} {σ'} {has} {has'} {later} {lends} {p} is did = subst (λ (xs : List Act). CrewDid region f idle xs next σ σ' has has' later lends p) (sym is) did
+pub to_acts : {region : SharedRegion} {book : NameBook} {f : Profile} {idle : List ℕ} {acts acts' next : List Act} {σ σ' : Standing} {has has' : Crew} {later : Later} {lends : ℕ → Later} {p : Progress} → acts ≡ acts'
+    → CrewDid region book f idle acts' next σ σ' has has' later lends p → CrewDid region book f idle acts next σ σ' has has' later lends p
+to_acts {region} {book} {f} {idle} {acts} {acts'} {next} {σ} {σ'} {has} {has'} {later} {lends} {p} is did = subst (λ (xs : List Act). CrewDid region book f idle xs next σ σ' has has' later lends p) (sym is) did
 
 -- ---- one after the other
-pub crew_none : {region : SharedRegion} {f : Profile} {idle : List ℕ} {acts : List Act} {σ : Standing} {has : Crew} {later : Later} {lends : ℕ → Later} {p : Progress} → CrewAt region f idle acts σ has later lends p → CrewDid region f idle [] acts σ σ has has later lends p
-crew_none {region} {f} {idle} {acts} {σ} {has} {later} {lends} {p} at = record {
+pub crew_none : {region : SharedRegion} {book : NameBook} {f : Profile} {idle : List ℕ} {acts : List Act} {σ : Standing} {has : Crew} {later : Later} {lends : ℕ → Later} {p : Progress} → CrewAt region book f idle acts σ has later lends p → CrewDid region book f idle [] acts σ σ has has later lends p
+crew_none {region} {book} {f} {idle} {acts} {σ} {has} {later} {lends} {p} at = record {
   reached = p;
   reaches = refl;
   stands = at;
@@ -118,9 +119,9 @@ crew_none {region} {f} {idle} {acts} {σ} {has} {later} {lends} {p} at = record 
   room = refl;
 }
 
-pub crew_both : {region : SharedRegion} {f : Profile} {idle : List ℕ} {xs ys mid next : List Act} {σ0 σ σ' : Standing} {h0 h h' : Crew} {later : Later} {lends : ℕ → Later} {p : Progress} → length h0.lent ≡ length idle
-    → (one : CrewDid region f idle xs mid σ0 σ h0 h later lends p) → CrewDid region f idle ys next σ σ' h h' later lends one.reached → CrewDid region f idle (xs ++ ys) next σ0 σ' h0 h' later lends p
-crew_both {region} {f} {idle} {xs} {ys} {mid} {next} {σ0} {σ} {σ'} {h0} {h} {h'} {later} {lends} {p} many one two = record {
+pub crew_both : {region : SharedRegion} {book : NameBook} {f : Profile} {idle : List ℕ} {xs ys mid next : List Act} {σ0 σ σ' : Standing} {h0 h h' : Crew} {later : Later} {lends : ℕ → Later} {p : Progress} → length h0.lent ≡ length idle
+    → (one : CrewDid region book f idle xs mid σ0 σ h0 h later lends p) → CrewDid region book f idle ys next σ σ' h h' later lends one.reached → CrewDid region book f idle (xs ++ ys) next σ0 σ' h0 h' later lends p
+crew_both {region} {book} {f} {idle} {xs} {ys} {mid} {next} {σ0} {σ} {σ'} {h0} {h} {h'} {later} {lends} {p} many one two = record {
   reached = two.reached;
   reaches = reach_both f xs ys p one.reached two.reached one.reaches two.reaches;
   stands = two.stands;
@@ -149,33 +150,33 @@ skip_acts idle ops i d lt other = ap (λ (xs : List Op). scavenger_acts idle xs)
     ∙ ap (λ (t : Bool). if t then acts_of_op idle (get_or ops i d) ++ scavenger_acts idle (drop (i + 1) ops) else scavenger_acts idle (drop (i + 1) ops)) (ne_eqb (get_or ops i d).actor 0 other)
 
 -- so far, the scavenger's operations before this place were done
-abbrev pub CrewSoFar : SharedRegion → Profile → List ℕ → List Op → ℕ → Standing → Standing → Crew → Crew → Later → (ℕ → Later) → Progress → Type 0
-CrewSoFar region f idle ops i σ0 σ h0 h later lends p = (did : List Act) × (did ++ scavenger_acts idle (drop i ops) ≡ scavenger_acts idle ops) × CrewDid region f idle did (scavenger_acts idle (drop i ops)) σ0 σ h0 h later lends p
+abbrev pub CrewSoFar : SharedRegion → NameBook → Profile → List ℕ → List Op → ℕ → Standing → Standing → Crew → Crew → Later → (ℕ → Later) → Progress → Type 0
+CrewSoFar region book f idle ops i σ0 σ h0 h later lends p = (did : List Act) × (did ++ scavenger_acts idle (drop i ops) ≡ scavenger_acts idle ops) × CrewDid region book f idle did (scavenger_acts idle (drop i ops)) σ0 σ h0 h later lends p
 
-pub crew_begins : {region : SharedRegion} {f : Profile} {idle : List ℕ} (ops : List Op) {σ : Standing} {has : Crew} {later : Later} {lends : ℕ → Later} {p : Progress} → CrewAt region f idle (scavenger_acts idle ops) σ has later lends p
-    → CrewSoFar region f idle ops 0 σ σ has has later lends p
+pub crew_begins : {region : SharedRegion} {book : NameBook} {f : Profile} {idle : List ℕ} (ops : List Op) {σ : Standing} {has : Crew} {later : Later} {lends : ℕ → Later} {p : Progress} → CrewAt region book f idle (scavenger_acts idle ops) σ has later lends p
+    → CrewSoFar region book f idle ops 0 σ σ has has later lends p
 crew_begins ops at = ([], refl, crew_none at)
 
-pub crew_before : {region : SharedRegion} {f : Profile} {idle : List ℕ} (ops : List Op) {i : ℕ} {σ0 σ : Standing} {h0 h : Crew} {later : Later} {lends : ℕ → Later} {p : Progress} (d : Op) → i < length ops → (get_or ops i d).actor ≡ 0
-    → (so : CrewSoFar region f idle ops i σ0 σ h0 h later lends p) → CrewAt region f idle (acts_of_op idle (get_or ops i d) ++ scavenger_acts idle (drop (i + 1) ops)) σ h later lends so.2.reached
-crew_before {region} {f} {idle} ops {i} {σ0} {σ} {h0} {h} {later} {lends} {p} d lt is so = subst (λ (acts : List Act). CrewAt region f idle acts σ h later lends so.2.reached) (next_acts idle ops i d lt is) so.2.stands
+pub crew_before : {region : SharedRegion} {book : NameBook} {f : Profile} {idle : List ℕ} (ops : List Op) {i : ℕ} {σ0 σ : Standing} {h0 h : Crew} {later : Later} {lends : ℕ → Later} {p : Progress} (d : Op) → i < length ops → (get_or ops i d).actor ≡ 0
+    → (so : CrewSoFar region book f idle ops i σ0 σ h0 h later lends p) → CrewAt region book f idle (acts_of_op idle (get_or ops i d) ++ scavenger_acts idle (drop (i + 1) ops)) σ h later lends so.2.reached
+crew_before {region} {book} {f} {idle} ops {i} {σ0} {σ} {h0} {h} {later} {lends} {p} d lt is so = subst (λ (acts : List Act). CrewAt region book f idle acts σ h later lends so.2.reached) (next_acts idle ops i d lt is) so.2.stands
 
-pub crew_goes_on : {region : SharedRegion} {f : Profile} {idle : List ℕ} (ops : List Op) {i : ℕ} {σ0 σ σ' : Standing} {h0 h h' : Crew} {later : Later} {lends : ℕ → Later} {p : Progress} (d : Op) → i < length ops → (get_or ops i d).actor ≡ 0
-    → length h0.lent ≡ length idle → (so : CrewSoFar region f idle ops i σ0 σ h0 h later lends p)
-    → CrewDid region f idle (acts_of_op idle (get_or ops i d)) (scavenger_acts idle (drop (i + 1) ops)) σ σ' h h' later lends so.2.reached → CrewSoFar region f idle ops (i + 1) σ0 σ' h0 h' later lends p
-crew_goes_on {region} {f} {idle} ops {i} {σ0} {σ} {σ'} {h0} {h} {h'} {later} {lends} {p} d lt is many so did =
+pub crew_goes_on : {region : SharedRegion} {book : NameBook} {f : Profile} {idle : List ℕ} (ops : List Op) {i : ℕ} {σ0 σ σ' : Standing} {h0 h h' : Crew} {later : Later} {lends : ℕ → Later} {p : Progress} (d : Op) → i < length ops → (get_or ops i d).actor ≡ 0
+    → length h0.lent ≡ length idle → (so : CrewSoFar region book f idle ops i σ0 σ h0 h later lends p)
+    → CrewDid region book f idle (acts_of_op idle (get_or ops i d)) (scavenger_acts idle (drop (i + 1) ops)) σ σ' h h' later lends so.2.reached → CrewSoFar region book f idle ops (i + 1) σ0 σ' h0 h' later lends p
+crew_goes_on {region} {book} {f} {idle} ops {i} {σ0} {σ} {σ'} {h0} {h} {h'} {later} {lends} {p} d lt is many so did =
     let one = acts_of_op idle (get_or ops i d) in
     let rest = scavenger_acts idle (drop (i + 1) ops) in
     (so.0 ++ one, append_assoc so.0 one rest ∙ ap (λ (acts : List Act). so.0 ++ acts) (sym (next_acts idle ops i d lt is)) ∙ so.1, crew_both many so.2 did)
 
-pub crew_skips : {region : SharedRegion} {f : Profile} {idle : List ℕ} (ops : List Op) {i : ℕ} {σ0 σ : Standing} {h0 h : Crew} {later : Later} {lends : ℕ → Later} {p : Progress} (d : Op) → i < length ops → ((get_or ops i d).actor ≡ 0 → ⊥)
-    → CrewSoFar region f idle ops i σ0 σ h0 h later lends p → CrewSoFar region f idle ops (i + 1) σ0 σ h0 h later lends p
-crew_skips {region} {f} {idle} ops {i} {σ0} {σ} {h0} {h} {later} {lends} {p} d lt other so =
-    subst (λ (acts : List Act). (did : List Act) × (did ++ acts ≡ scavenger_acts idle ops) × CrewDid region f idle did acts σ0 σ h0 h later lends p) (skip_acts idle ops i d lt other) so
+pub crew_skips : {region : SharedRegion} {book : NameBook} {f : Profile} {idle : List ℕ} (ops : List Op) {i : ℕ} {σ0 σ : Standing} {h0 h : Crew} {later : Later} {lends : ℕ → Later} {p : Progress} (d : Op) → i < length ops → ((get_or ops i d).actor ≡ 0 → ⊥)
+    → CrewSoFar region book f idle ops i σ0 σ h0 h later lends p → CrewSoFar region book f idle ops (i + 1) σ0 σ h0 h later lends p
+crew_skips {region} {book} {f} {idle} ops {i} {σ0} {σ} {h0} {h} {later} {lends} {p} d lt other so =
+    subst (λ (acts : List Act). (did : List Act) × (did ++ acts ≡ scavenger_acts idle ops) × CrewDid region book f idle did acts σ0 σ h0 h later lends p) (skip_acts idle ops i d lt other) so
 
-pub crew_ends : {region : SharedRegion} {f : Profile} {idle : List ℕ} (ops : List Op) {i : ℕ} {σ0 σ : Standing} {h0 h : Crew} {later : Later} {lends : ℕ → Later} {p : Progress} → length ops ≤ i → CrewSoFar region f idle ops i σ0 σ h0 h later lends p
-    → CrewDid region f idle (scavenger_acts idle ops) [] σ0 σ h0 h later lends p
-crew_ends {region} {f} {idle} ops {i} {σ0} {σ} {h0} {h} {later} {lends} {p} le so =
+pub crew_ends : {region : SharedRegion} {book : NameBook} {f : Profile} {idle : List ℕ} (ops : List Op) {i : ℕ} {σ0 σ : Standing} {h0 h : Crew} {later : Later} {lends : ℕ → Later} {p : Progress} → length ops ≤ i → CrewSoFar region book f idle ops i σ0 σ h0 h later lends p
+    → CrewDid region book f idle (scavenger_acts idle ops) [] σ0 σ h0 h later lends p
+crew_ends {region} {book} {f} {idle} ops {i} {σ0} {σ} {h0} {h} {later} {lends} {p} le so =
     let none : scavenger_acts idle (drop i ops) ≡ [] = ap (λ (xs : List Op). scavenger_acts idle xs) (drop_of_length-le ops le) in
     let all : so.0 ≡ scavenger_acts idle ops = sym (append-nil so.0) ∙ ap (λ (acts : List Act). so.0 ++ acts) (sym none) ∙ so.1 in
-    subst (λ (acts : List Act). CrewDid region f idle acts [] σ0 σ h0 h later lends p) all (subst (λ (acts : List Act). CrewDid region f idle so.0 acts σ0 σ h0 h later lends p) none so.2)
+    subst (λ (acts : List Act). CrewDid region book f idle acts [] σ0 σ h0 h later lends p) all (subst (λ (acts : List Act). CrewDid region book f idle so.0 acts σ0 σ h0 h later lends p) none so.2)

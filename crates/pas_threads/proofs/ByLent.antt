@@ -11,6 +11,8 @@ use Rattle.pas_shared.specs.declared.region.SharedRegion.{SharedRegion}
 use Rattle.pas_answers.specs.Acts.{Act, StopsIdle, idle_stops}
 use Rattle.pas_answers.specs.Answers.{Progress}
 use Rattle.pas_answers.specs.Ways.{records_by}
+use Rattle.pas_threads.specs.declared.names.NameBook.{NameBook}
+use Rattle.pas_threads.specs.Works.{Later}
 use Rattle.pas_threads.specs.Shares.{EachOf}
 use Rattle.pas_threads.specs.Scavenges.{StopsThread}
 use Rattle.pas_threads.specs.Hands.{kept_by, WorkerAt, Did}
@@ -41,8 +43,8 @@ more_by k before after new said more mine one two is =
     two ∙ ap (λ (rs : List Record). rs ++ mine) one ∙ append_assoc before (records_by k said) mine
     ∙ ap (λ (rs : List Record). before ++ rs) (sym (records_both k said more ∙ ap (λ (rs : List Record). records_by k said ++ rs) is))
 
-pub begins : {region : SharedRegion} {f : Profile} {idle : List ℕ} {later : ℕ → Later} {lent : List Worker} {out : Records} {p : Progress} → AreLent region f idle later lent p → DidWithLent region f [] idle later lent lent out out 0 p
-begins {region} {f} {idle} {later} {lent} {out} {p} at = record {
+pub begins : {region : SharedRegion} {book : NameBook} {f : Profile} {idle : List ℕ} {later : ℕ → Later} {lent : List Worker} {out : Records} {p : Progress} → AreLent region book f idle later lent p → DidWithLent region book f [] idle later lent lent out out 0 p
+begins {region} {book} {f} {idle} {later} {lent} {out} {p} at = record {
   reached = p;
   reaches = refl;
   lent = at;
@@ -58,9 +60,9 @@ begins {region} {f} {idle} {later} {lent} {out} {p} at = record {
 }
 
 -- the next of the lent threads
-module _ {region : SharedRegion} {f : Profile} {acts : List Act} {idle : List ℕ} {later : ℕ → Later} {old now : List Worker} {out out1 out2 : Records} {p : Progress} (n i : ℕ) (d w : Worker) (distinct : AreDistinct idle)
-    (so : DidWithLent region f acts idle later old now out out1 i p) (lt : i < length now) (many : length now ≡ length old)
-    (did : Did region (get_or now i d).pass w.pass (λ σ σ'. StopsThread f (get_or idle i 0) n σ σ' (kept_by (get_or now i d)) (kept_by w) out1 out2 (later i) so.reached)) where
+module _ {region : SharedRegion} {book : NameBook} {f : Profile} {acts : List Act} {idle : List ℕ} {later : ℕ → Later} {old now : List Worker} {out out1 out2 : Records} {p : Progress} (n i : ℕ) (d w : Worker) (distinct : AreDistinct idle)
+    (so : DidWithLent region book f acts idle later old now out out1 i p) (lt : i < length now) (many : length now ≡ length old)
+    (did : Did region (get_or now i d).pass w.pass (λ σ σ'. StopsThread f (get_or idle i 0) n σ σ' (kept_by book (get_or now i d)) (kept_by book w) out1 out2 (later i) so.reached)) where
   abbrev k : ℕ
   k = get_or idle i 0
 
@@ -82,21 +84,21 @@ module _ {region : SharedRegion} {f : Profile} {acts : List Act} {idle : List �
   others : (j : ℕ) → j < length idle → j ≢ i → get_or idle j 0 ≢ k
   others j less ne = distinct.apart j i less within ne
 
-  lent_again : AreLent region f idle later (set now i w) q
+  lent_again : AreLent region book f idle later (set now i w) q
   lent_again = record {
     many = length-set now i w ∙ so.lent.many;
     each = λ j e less. elim (cases_eq j i) [
       | inl same ↦
-          let here : WorkerAt region f k [] w (later i) q = record { has = did.after; stands = did.does.stands } in
-          subst (λ (x : Worker). WorkerAt region f (get_or idle j 0) [] x (later j) q) (sym (get_or-set_at now i j w e same lt))
-          (subst (λ (m : ℕ). WorkerAt region f (get_or idle m 0) [] w (later m) q) (sym same) here)
+          let here : WorkerAt region book f k [] w (later i) q = record { has = did.after; stands = did.does.stands } in
+          subst (λ (x : Worker). WorkerAt region book f (get_or idle j 0) [] x (later j) q) (sym (get_or-set_at now i j w e same lt))
+          (subst (λ (m : ℕ). WorkerAt region book f (get_or idle m 0) [] w (later m) q) (sym same) here)
       | inr other ↦
           let size = length-set now i w in
           let low : j < length now = omega (arith, size, less) in
           let many0 = so.lent.many in
           let ne = others j (omega (arith, low, many0)) other in
           let was = so.lent.each j e low in
-          subst (λ (x : Worker). WorkerAt region f (get_or idle j 0) [] x (later j) q) (sym (get_or-set_other now i j w e other))
+          subst (λ (x : Worker). WorkerAt region book f (get_or idle j 0) [] x (later j) q) (sym (get_or-set_other now i j w e other))
           record { has = was.has; stands = same_stands (did.does.parts (get_or idle j 0) (λ is. ne (sym is))) (did.does.caches (get_or idle j 0) ne) did.does.names was.stands }
     ];
   }
@@ -118,7 +120,7 @@ module _ {region : SharedRegion} {f : Profile} {acts : List Act} {idle : List �
         ∙ more_by (get_or idle j 0) (records_in (get_or old j e).out) (records_in (get_or now j e).out) (records_in (get_or now j e).out) so.said (mine ++ told) [] (so.flushed j e less) (sym (append-nil (records_in (get_or now j e).out))) none
   ]
 
-  pub next : DidWithLent region f (acts ++ (StopsIdle k n ∷ [])) idle later old (set now i w) out out2 (i + 1) p
+  pub next : DidWithLent region book f (acts ++ (StopsIdle k n ∷ [])) idle later old (set now i w) out out2 (i + 1) p
   next =
       let by = by_scavenger k mine told did.does.each did.does.each_told no_zero in
       let both = ap (λ (rs : List Record). length rs) (records_both 0 so.said (mine ++ told)) ∙ length-append (records_by 0 so.said) (records_by 0 (mine ++ told)) in
@@ -142,27 +144,27 @@ module _ {region : SharedRegion} {f : Profile} {acts : List Act} {idle : List �
 
 -- ---- all of them
 -- the stops of the lent threads before this place were done
-abbrev pub SoFar : SharedRegion → Profile → ℕ → List ℕ → (ℕ → Later) → List Worker → List Worker → Records → Records → ℕ → Progress → Type 0
-SoFar region f n idle later old now out out1 i p = (acts : List Act) × (acts ++ idle_stops n (drop i idle) ≡ idle_stops n idle) × DidWithLent region f acts idle later old now out out1 i p
+abbrev pub SoFar : SharedRegion → NameBook → Profile → ℕ → List ℕ → (ℕ → Later) → List Worker → List Worker → Records → Records → ℕ → Progress → Type 0
+SoFar region book f n idle later old now out out1 i p = (acts : List Act) × (acts ++ idle_stops n (drop i idle) ≡ idle_stops n idle) × DidWithLent region book f acts idle later old now out out1 i p
 
 next_stop : (n : ℕ) (idle : List ℕ) (i : ℕ) → i < length idle → idle_stops n (drop i idle) ≡ (StopsIdle (get_or idle i 0) n ∷ []) ++ idle_stops n (drop (i + 1) idle)
 next_stop n idle i lt = ap (λ (ks : List ℕ). idle_stops n ks) (drop_more idle i 0 lt)
 
-pub goes_on : {region : SharedRegion} {f : Profile} {idle : List ℕ} {later : ℕ → Later} {old now : List Worker} {out out1 out2 : Records} {p : Progress} (n i : ℕ) (d w : Worker) → AreDistinct idle
-    → (so : SoFar region f n idle later old now out out1 i p) → i < length now → length now ≡ length old
-    → Did region (get_or now i d).pass w.pass (λ σ σ'. StopsThread f (get_or idle i 0) n σ σ' (kept_by (get_or now i d)) (kept_by w) out1 out2 (later i) so.2.reached)
-    → SoFar region f n idle later old (set now i w) out out2 (i + 1) p
-goes_on {region} {f} {idle} {later} {old} {now} {out} {out1} {out2} {p} n i d w distinct so lt many did =
+pub goes_on : {region : SharedRegion} {book : NameBook} {f : Profile} {idle : List ℕ} {later : ℕ → Later} {old now : List Worker} {out out1 out2 : Records} {p : Progress} (n i : ℕ) (d w : Worker) → AreDistinct idle
+    → (so : SoFar region book f n idle later old now out out1 i p) → i < length now → length now ≡ length old
+    → Did region (get_or now i d).pass w.pass (λ σ σ'. StopsThread f (get_or idle i 0) n σ σ' (kept_by book (get_or now i d)) (kept_by book w) out1 out2 (later i) so.2.reached)
+    → SoFar region book f n idle later old (set now i w) out out2 (i + 1) p
+goes_on {region} {book} {f} {idle} {later} {old} {now} {out} {out1} {out2} {p} n i d w distinct so lt many did =
     let same = so.2.lent.many in
     let one = next_stop n idle i (omega (arith, same, lt)) in
     let head : List Act = StopsIdle (get_or idle i 0) n ∷ [] in
     (so.0 ++ head, append_assoc so.0 head (idle_stops n (drop (i + 1) idle)) ∙ ap (λ (acts : List Act). so.0 ++ acts) (sym one) ∙ so.1, next n i d w distinct so.2 lt many did)
 
-pub ends : {region : SharedRegion} {f : Profile} {idle : List ℕ} {later : ℕ → Later} {old now : List Worker} {out out1 : Records} {p : Progress} (n i : ℕ) → length old ≤ i → i ≤ length old → length now ≡ length old
-    → SoFar region f n idle later old now out out1 i p → DidWithLent region f (idle_stops n idle) idle later old now out out1 (length old) p
-ends {region} {f} {idle} {later} {old} {now} {out} {out1} {p} n i le ge many so =
+pub ends : {region : SharedRegion} {book : NameBook} {f : Profile} {idle : List ℕ} {later : ℕ → Later} {old now : List Worker} {out out1 : Records} {p : Progress} (n i : ℕ) → length old ≤ i → i ≤ length old → length now ≡ length old
+    → SoFar region book f n idle later old now out out1 i p → DidWithLent region book f (idle_stops n idle) idle later old now out out1 (length old) p
+ends {region} {book} {f} {idle} {later} {old} {now} {out} {out1} {p} n i le ge many so =
     let size = so.2.lent.many in
     let none : idle_stops n (drop i idle) ≡ [] = ap (λ (ks : List ℕ). idle_stops n ks) (drop_of_length-le idle (omega (arith, le, many, size))) in
     let all : so.0 ≡ idle_stops n idle = sym (append-nil so.0) ∙ ap (λ (acts : List Act). so.0 ++ acts) (sym none) ∙ so.1 in
     let count : i ≡ length old = omega (arith, le, ge) in
-    subst (λ (m : ℕ). DidWithLent region f (idle_stops n idle) idle later old now out out1 m p) count (subst (λ (acts : List Act). DidWithLent region f acts idle later old now out out1 i p) all so.2)
+    subst (λ (m : ℕ). DidWithLent region book f (idle_stops n idle) idle later old now out out1 m p) count (subst (λ (acts : List Act). DidWithLent region book f acts idle later old now out out1 i p) all so.2)

@@ -1,8 +1,9 @@
 -- The acts of the scavenger.
-use Rattle.std.proofs.Common.{◌≡◌, ℕ, ◌+◌, ◌≤◌, Bool, if◌then◌else◌, inl, inr, List, [], ◌∷◌, ◌++◌, length, max, reverse, Option, refl, ap, sym, ◌∙◌, subst, arith, length-append}
+use Rattle.std.proofs.Common.{None, ◌≡◌, ℕ, ◌+◌, ◌≤◌, Bool, if◌then◌else◌, inl, inr, List, [], ◌∷◌, ◌++◌, length, max, reverse, Option, refl, ap, sym, ◌∙◌, subst, arith, length-append}
 use Rattle.std.proofs.lemmas.List.{append-nil, length-map, length-reverse}
 use Rattle.std.proofs.lemmas.Bool.{ne_eqb}
 use Rattle.pas_profile.specs.declared.profile.Profile.{Profile}
+use Rattle.pas_profile.specs.declared.name.Name.{Name}
 use Rattle.pas_profile.specs.declared.event.Event.{Event}
 use Rattle.pas_profile.specs.declared.event.Outcome.{Outcome}
 use Rattle.pas_profile.specs.declared.event.Outcome.TheVariants.{Unbacked, Bare, Young, InUse, NotOffered}
@@ -33,13 +34,13 @@ use Rattle.pas_passes.specs.Answers.{AnswersTick, AnswersPass}
 use Rattle.pas_passes.specs.Records.{record_of, records_of_pass}
 use Rattle.pas_answers.specs.Acts.{Act, Ticks, MakesPass, ReadsEpoch}
 use Rattle.pas_answers.specs.Answers.{Progress, Named, after_tick, after_pass, after_reading, after_stop, stopped, epoch_look, records_of, said_by}
-use Rattle.pas_answers.specs.Calls.{works, Answers, HasTurns, MayAnswer, owed_events}
+use Rattle.pas_answers.specs.Calls.{HasTurn, AnswersMeant, MayAnswer, owed_events}
 use Rattle.pas_answers.specs.Fit.{costs_of, own_costs_of}
-use Rattle.pas_answers.specs.declared.names.Names.{Names}
-use Rattle.pas_threads.specs.Works.{Keeps, keeps, Sits, KnowsNames, ThreadAt}
+use Rattle.pas_threads.specs.NameBooks.{Table, requests_in}
+use Rattle.pas_threads.specs.Works.{Later, Keeps, keeps, Sits, KnowsNames, ThreadAt}
 use Rattle.pas_threads.specs.Scavenges.{ScavengerAt, Scavenges, StopsThread}
 use Rattle.pas_threads.proofs.Speaking.{events_of_piece, pass_of}
-use Rattle.pas_threads.proofs.Working.{HasSpare, IsOperation, the_answer, answers_now, piece, pushed, stands_again}
+use Rattle.pas_threads.proofs.Working.{HasSpare, IsOperation, IsKept, the_answer, answers_now, piece, pushed, stands_again}
 
 -- ---- at the desk
 pub can_scavenge : {f : Profile} {acts : List Act} {σ : Standing} {places : ℕ} {out : Records} {later : Later} {p : Progress} → ScavengerAt f acts σ places out later p → CanCall σ (λ v l. HasNothing v)
@@ -183,28 +184,32 @@ same_stands {f} {k} {acts} {σ} {has} {later} {p} {q} parts caches names at = re
 }
 
 pub stop : (f : Profile) (k : ℕ) → IsOperation f k Stop [] []
-stop f k = record { cost = refl; now = λ limit asked fit. tt; left = λ limit asked fit. fit }
+stop f k = record { cost = refl; now = λ limit asked fit. tt; left = λ limit asked fit. fit; names = refl }
 
-pub has_stopped : {f : Profile} {k n epoch : ℕ} {σ σ' : Standing} {c c1 : Cached} {table table' : Names} {own own' out out' : Records} {later : Later} {p : Progress} → ThreadAt f k [] σ (keeps c table own) later p → p.epoch ≡ epoch
-    → c.idle_since + n ≤ epoch → Answers Stop (works table c) (works table' c1) own own' σ σ' → HasTurns table' → records_in out' ≡ records_in out ++ stopped k → room_of out' ≡ room_of out
-    → StopsThread f k n σ σ' (keeps c table own) (keeps c1 table' own') out out' later p
-has_stopped {f} {k} {n} {epoch} {σ} {σ'} {c} {c1} {table} {table'} {own} {own'} {out} {out'} {later} {p} at read idle did turns added room =
+kept_all : (known : Table) (came : Option Name) → IsKept known known Stop came
+kept_all known came = record { book = refl; requests = sym (append-nil (requests_in known.requests)); room = refl }
+
+pub has_stopped : {f : Profile} {k n epoch : ℕ} {σ σ' : Standing} {c c1 : Cached} {known : Table} {came : Option Name} {own own' out out' : Records} {later : Later} {p : Progress} → ThreadAt f k [] σ (keeps c known own) later p → p.epoch ≡ epoch
+    → c.idle_since + n ≤ epoch → AnswersMeant Stop None came c c1 own own' σ σ' → HasTurn came → records_in out' ≡ records_in out ++ stopped k → room_of out' ≡ room_of out
+    → StopsThread f k n σ σ' (keeps c known own) (keeps c1 known own') out out' later p
+has_stopped {f} {k} {n} {epoch} {σ} {σ'} {c} {c1} {known} {came} {own} {own'} {out} {out'} {later} {p} at read idle did turn added room =
+    let kept = kept_all known came in
     let of = stop f k in
-    let a = the_answer of at did turns in
-    let is = answers_now of at did turns in
+    let a = the_answer of at did refl kept turn in
+    let is = answers_now of at did refl kept turn in
     let v = part k p.list in
     let q = after_stop p k a.steps a.cache (stopped k) in
     let events = records_of (events_by k v a.steps) in
-    let silent : piece of at did turns ≡ events = ap (λ (o : Option Said). events ++ said_by k o) is.1 ∙ append-nil events in
+    let silent : piece of at did refl kept turn ≡ events = ap (λ (o : Option Said). events ++ said_by k o) is.1 ∙ append-nil events in
     let since = ap (λ (d : Cached). d.idle_since) at.cache in
     record {
       reached = q;
       reaches = (q, inl (omega (arith, since, read, idle), a.steps, a.cache, is.0, refl), refl);
-      stands = same_stands refl refl (sym is.2) (stands_again of at did turns []);
+      stands = same_stands refl refl (sym is.2) (stands_again of at did refl kept turn []);
       flushed = events;
       told = stopped k;
       records_are = refl;
-      pushed = pushed of at did turns ∙ ap (λ (rs : List Record). records_in own ++ rs) silent;
+      pushed = pushed of at did refl kept turn ∙ ap (λ (rs : List Record). records_in own ++ rs) silent;
       said = added;
       one = omega arith;
       room = did.room;

@@ -1,4 +1,7 @@
 pub mod Speaking
+pub mod Places
+pub mod Noting
+pub mod Taking
 pub mod Naming
 pub mod Sharing
 pub mod Weaving
@@ -11,6 +14,12 @@ pub mod ByCrew
 pub mod Arranging
 pub mod KnownAfter
 pub mod Dealt
+pub mod Acted
+pub mod Waking
+pub mod Stopping
+pub mod Gathering
+pub mod NamesBefore
+pub mod NamesOfPhases
 pub mod Equipping
 pub mod Starting
 pub mod Ending

@@ -27,7 +27,7 @@ use Rattle.pas_replay.proofs.NameLimits.{below_all}
 use Rattle.pas_replay.proofs.StartAndEnd.{nothing, nothing_owed}
 use Rattle.pas_threads.specs.Sessions.{WorkerRests, AreResting, ScavengerRests, TeamAt, HasRoom, owed_by}
 use Rattle.pas_threads.specs.NameBooks.{NamesAt}
-use Rattle.pas_threads.specs.Kits.{IsNew, AreNew, IsEquipped, AreEquipped, IsReady, IsBookOf, IsKitOf}
+use Rattle.pas_threads.specs.Kits.{IsNew, AreNew, IsEquipped, AreEquipped, IsSupplied, IsBookOf, IsKitOf}
 use Rattle.pas_threads.specs.declared.kit.SharedKit.{SharedKit}
 use Rattle.pas_threads.specs.declared.names.NameBook.{NameBook}
 use Rattle.pas_threads.specs.declared.scavenger.Scavenger.{Scavenger}
@@ -90,7 +90,7 @@ all_start region f bounds k later (p ∷ passes) (w ∷ workers) of_profile unus
     subst (λ (n : ℕ). WorkerRests region f n (get_or workers i d) (later n) at_start) (omega arith)
     (all_start region f bounds (k + 1) later passes workers of_profile unused.1 have.1 (λ j le. subst (λ (n : ℕ). f.pages + later n ≤ slice_index bounds n) (omega arith) (within (suc j) (omega (arith, le)))) i d (omega (arith, lt)))
 
-scavenger_starts : (region : SharedRegion) (f : Profile) (bound later : ℕ) (pass : SharedPass) (scavenger : Scavenger) → region.profile ≡ f → later ≤ bound → IsNew region 0 bound pass → IsReady f pass bound scavenger
+scavenger_starts : (region : SharedRegion) (f : Profile) (bound later : ℕ) (pass : SharedPass) (scavenger : Scavenger) → region.profile ≡ f → later ≤ bound → IsNew region 0 bound pass → IsSupplied f pass bound scavenger
     → ScavengerRests region f scavenger later at_start
 scavenger_starts region f bound later pass scavenger of_profile within unused ready =
     let room = unused.room in

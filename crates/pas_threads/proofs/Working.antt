@@ -1,8 +1,9 @@
 -- The operations of one thread, one after the other.
-use Rattle.std.proofs.Common.{◌≡◌, ℕ, ◌+◌, ◌<◌, ◌≤◌, ◌==◌, Bool, true, false, if◌then◌else◌, List, [], ◌∷◌, ◌++◌, length, reverse, drop, get_or, refl, ap, sym, ◌∙◌, subst, arith, length-append, append_assoc, drop_of_length-le}
+use Rattle.std.proofs.Common.{Option, ◌≡◌, ℕ, ◌+◌, ◌<◌, ◌≤◌, ◌==◌, Bool, true, false, if◌then◌else◌, List, [], ◌∷◌, ◌++◌, length, reverse, drop, get_or, refl, ap, sym, ◌∙◌, subst, arith, length-append, append_assoc, drop_of_length-le}
 use Rattle.std.proofs.lemmas.List.{append-nil, length-map, length-reverse, drop_more}
 use Rattle.std.proofs.lemmas.Bool.{eq-eqb, ne_eqb}
 use Rattle.pas_profile.specs.declared.profile.Profile.{Profile}
+use Rattle.pas_profile.specs.declared.name.Name.{Name}
 use Rattle.pas_profile.specs.declared.event.Event.{Event}
 use Rattle.pas_steps.specs.Events.{events_of, events_by}
 use Rattle.pas_steps.specs.Lists.{Whole, part}
@@ -20,14 +21,17 @@ use Rattle.pas_report.specs.declared.records.Records.{Records}
 use Rattle.pas_cache.specs.Caches.{Cached, AtRest}
 use Rattle.pas_answers.specs.Acts.{Act, Operates, Settles}
 use Rattle.pas_answers.specs.Answers.{having, Answer, answer_of, Progress, with_records, Named, Caches, with_cache, settled, after_answer, after_settling, IsAnswered, records_of, said_by}
-use Rattle.pas_answers.specs.Calls.{works, Tells, HasTurns, AreKnown, IsKnown, owed_events, MayAnswer, Answers}
+use Rattle.pas_answers.specs.Calls.{HasTurn, AreKnown, IsMeant, IsKnown, named_by, freed_by, owed_events, MayAnswer, AnswersMeant}
 use Rattle.pas_answers.specs.Fit.{IsFitWhat, AreFit, cost_of_what, own_costs_of}
-use Rattle.pas_answers.specs.Names.{names_held}
-use Rattle.pas_answers.specs.declared.names.Names.{Names}
+use Rattle.pas_answers.specs.Names.{block_named, names_held}
 use Rattle.pas_answers.proofs.KnownNames.{known_after}
+use Rattle.pas_answers.proofs.Kept.{meant_by, turn_meant}
+use Rattle.pas_threads.specs.NameBooks.{Table, requests_in, room_for, names_of, name_asked, names_asked, ArePlaced, known_in}
+use Rattle.pas_threads.specs.declared.names.NameBook.{NameBook}
+use Rattle.pas_threads.proofs.Places.{names_both, names_count, asked_both, names_named, placed_both, tells_more, turns_more}
 use Rattle.pas_threads.specs.Shares.{own_acts, Reaches}
 use Rattle.pas_threads.proofs.Speaking.{piece_of, each_both}
-use Rattle.pas_threads.specs.Works.{Keeps, keeps, Sits, KnowsNames, ThreadAt, Works}
+use Rattle.pas_threads.specs.Works.{Later, Keeps, keeps, Sits, KnowsNames, ThreadAt, Works}
 
 -- what a desk says of its room, for each view that it stands for
 abbrev pub HasSpare : Standing → ℕ → Type 0
@@ -55,8 +59,8 @@ abbrev Before : Profile → Op → List Act → Standing → Keeps → Later →
 Before f op next σ has later p = ThreadAt f op.actor (Operates op ∷ (Settles op.actor ∷ next)) σ has later p
 
 -- ---- before an operation
-pub fit_now : {f : Profile} {op : Op} {next : List Act} {σ : Standing} {has : Keeps} {later : Later} {p : Progress} → Before f op next σ has later p → (asked : List ℕ) × IsFitWhat σ.seat.profile (names_held has.table) asked op.what
-fit_now {f} {op} {next} {σ} {has} {later} {p} at = (at.names.asked, subst (λ (g : Profile). IsFitWhat g (names_held has.table) at.names.asked op.what) (sym at.sits.profile) at.names.fit.1)
+pub fit_now : {f : Profile} {op : Op} {next : List Act} {σ : Standing} {has : Keeps} {later : Later} {p : Progress} → Before f op next σ has later p → (limit : ℕ) × (asked : List ℕ) × IsFitWhat σ.seat.profile limit asked op.what
+fit_now {f} {op} {next} {σ} {has} {later} {p} at = (names_held has.table.book.names, at.names.asked, subst (λ (g : Profile). IsFitWhat g (names_held has.table.book.names) at.names.asked op.what) (sym at.sits.profile) at.names.fit.1)
 
 pub may_answer : {f : Profile} {op : Op} {next : List Act} {σ : Standing} {has : Keeps} {later : Later} {p : Progress} (spare : ℕ) → HasSpare σ spare → Before f op next σ has later p
     → CanCall σ (λ v l. MayAnswer σ.seat.profile has.cache op.what spare has.out v)
@@ -76,15 +80,35 @@ may_answer {f} {op} {next} {σ} {has} {later} {p} spare fits at =
       };
     }
 
+-- what the freed name stands for, and the room for the asked one
+pub its_own : {f : Profile} {acts : List Act} {known : Table} {names : List Named} → KnowsNames f acts known names → ArePlaced known.book 0 (names_of (requests_in known.requests))
+its_own {f} {acts} {known} {names} knows = (placed_both known.book 0 (names_of (requests_in known.requests)) (names_asked acts) knows.placed).0
+
+pub meant_turn : {f : Profile} {acts : List Act} {known : Table} {names : List Named} {meant : Option Name} (what : What) → KnowsNames f acts known names → meant ≡ freed_by (known_in known.book known.requests) what → HasTurn meant
+meant_turn {f} {acts} {known} {names} what knows is = subst HasTurn (sym is) (turn_meant (known_in known.book known.requests) what knows.turns)
+
+pub room_now : {f : Profile} {k : ℕ} {op : Op} {next : List Act} {known : Table} {names : List Named} → KnowsNames f (Operates op ∷ (Settles k ∷ next)) known names → length (requests_in known.requests) + length (name_asked op.what) ≤ room_for known.requests
+room_now {f} {k} {op} {next} knows =
+    let room = knows.room in
+    let both = length-append (name_asked op.what) (names_asked next) in
+    omega (arith, room, both)
+
 -- ---- after an operation
 -- what an operation of thread k comes to, where these acts were left and those are left then
 pub record IsOperation (f : Profile) (k : ℕ) (what : What) (acts next : List Act) : Type 0 where
   pub cost : own_costs_of k acts ≡ cost_of_what what + own_costs_of k next
   pub now : (limit : ℕ) (asked : List ℕ) → AreFit f limit asked acts → IsFitWhat f limit asked what
   pub left : (limit : ℕ) (asked : List ℕ) → AreFit f limit asked acts → AreFit f limit (asked_after what asked) next
+  pub names : names_asked acts ≡ name_asked what ++ names_asked next
 
-module _ {f : Profile} {k : ℕ} {what : What} {acts next : List Act} {σ σ' : Standing} {c c1 : Cached} {table table' : Names} {out out' : Records} {later : Later} {p : Progress} (of : IsOperation f k what acts next)
-    (at : ThreadAt f k acts σ (keeps c table out) later p) (did : Answers what (works table c) (works table' c1) out out' σ σ') (turns : HasTurns table') where
+-- what the thread knows after it: the name that the operation asked for is its last request
+pub record IsKept (known known' : Table) (what : What) (came : Option Name) : Type 0 where
+  pub book : known'.book ≡ known.book
+  pub requests : requests_in known'.requests ≡ requests_in known.requests ++ named_by what came
+  pub room : room_for known'.requests ≡ room_for known.requests
+
+module _ {f : Profile} {k : ℕ} {what : What} {acts next : List Act} {σ σ' : Standing} {c c1 : Cached} {known known' : Table} {meant came : Option Name} {out out' : Records} {later : Later} {p : Progress} (of : IsOperation f k what acts next)
+    (at : ThreadAt f k acts σ (keeps c known out) later p) (did : AnswersMeant what meant came c c1 out out' σ σ') (means : meant ≡ freed_by (known_in known.book known.requests) what) (kept : IsKept known known' what came) (turn : HasTurn came) where
   abbrev v : View
   v = part k p.list
 
@@ -95,14 +119,19 @@ module _ {f : Profile} {k : ℕ} {what : What} {acts next : List Act} {σ σ' : 
   was_at_rest : AtRest σ.seat.profile c v
   was_at_rest = subst (λ (g : Profile). AtRest g c v) (sym at.sits.profile) at.sits.rest
 
-  pub answered : (names' : List Named) × Tells table' names' × IsAnswered σ.seat.profile σ.seat.actor what (having p.names v c) (answer_of did.performs.steps did.said names' c1)
-  answered = did.performs.answered v at.sits.beside at.sits.stood was_at_rest p.names at.names.tells (known_if f (names_held table) at.names.asked p.names what (of.now (names_held table) at.names.asked at.names.fit) at.names.known)
+  abbrev names_then : List Named
+  names_then = named_by what came ++ p.names
+
+  answered : IsAnswered σ.seat.profile σ.seat.actor what (having p.names v c) (answer_of did.performs.steps did.said names_then c1)
+  answered = did.performs.answered v at.sits.beside at.sits.stood was_at_rest p.names
+      (subst (λ (o : Option Name). IsMeant p.names what o) (sym means) (meant_by (known_in known.book known.requests) p.names what at.names.tells))
+      (known_if f (names_held known.book.names) at.names.asked p.names what (of.now (names_held known.book.names) at.names.asked at.names.fit) at.names.known)
 
   abbrev pub the_answer : Answer
-  the_answer = answer_of did.performs.steps did.said answered.0 c1
+  the_answer = answer_of did.performs.steps did.said names_then c1
 
   is_answered : IsAnswered f k what (having p.names v c) the_answer
-  is_answered = seated (λ (j : ℕ) (g : Profile). IsAnswered g j what (having p.names v c) the_answer) answered.2
+  is_answered = seated (λ (j : ℕ) (g : Profile). IsAnswered g j what (having p.names v c) the_answer) answered
 
   pub answers_now : IsAnswered f k what (having p.names v (p.caches k)) the_answer
   answers_now = subst (λ (d : Cached). IsAnswered f k what (having p.names v d) the_answer) (sym at.cache) is_answered
@@ -146,17 +175,45 @@ module _ {f : Profile} {k : ℕ} {what : What} {acts next : List Act} {σ σ' : 
       let less = few in
       omega (arith, longer, both, count, less, records, same, cost)
 
-  names_again : KnowsNames f next table' answered.0
-  names_again = record {
+  placed_now : ArePlaced known.book 0 (names_of (requests_in known.requests) ++ (name_asked what ++ names_asked next))
+  placed_now = subst (λ (ns : List ℕ). ArePlaced known.book 0 (names_of (requests_in known.requests) ++ ns)) of.names at.names.placed
+
+  names_kept : names_of (requests_in known'.requests) ≡ names_of (requests_in known.requests) ++ name_asked what
+  names_kept = ap names_of kept.requests ∙ names_both (requests_in known.requests) (named_by what came) ∙ ap (λ (ns : List ℕ). names_of (requests_in known.requests) ++ ns) (names_named what came)
+
+  pub noted : names_of (requests_in known'.requests) ≡ names_of (requests_in known.requests) ++ (name_asked what ++ [])
+  noted = names_kept ∙ ap (λ (ns : List ℕ). names_of (requests_in known.requests) ++ ns) (sym (append-nil (name_asked what)))
+
+  placed_again : ArePlaced known.book 0 (names_of (requests_in known'.requests) ++ names_asked next)
+  placed_again = subst (λ (ns : List ℕ). ArePlaced known.book 0 ns)
+      (sym (ap (λ (ns : List ℕ). ns ++ names_asked next) names_kept ∙ append_assoc (names_of (requests_in known.requests)) (name_asked what) (names_asked next))) placed_now
+
+  room_again : length (requests_in known'.requests) + length (names_asked next) ≤ room_for known'.requests
+  room_again =
+      let now = at.names.room in
+      let same = kept.room in
+      let count = names_count (requests_in known.requests) in
+      let count' = names_count (requests_in known'.requests) in
+      let grown = ap (λ (ns : List ℕ). length ns) names_kept ∙ length-append (names_of (requests_in known.requests)) (name_asked what) in
+      let both = ap (λ (ns : List ℕ). length ns) of.names ∙ length-append (name_asked what) (names_asked next) in
+      omega (arith, now, same, count, count', grown, both)
+
+  known_again : KnowsNames f next (record { book = known.book; requests = known'.requests }) names_then
+  known_again = record {
     asked = asked_after what at.names.asked;
-    fit = subst (λ (n : ℕ). AreFit f n (asked_after what at.names.asked) next) (sym did.performs.held) (of.left (names_held table) at.names.asked at.names.fit);
-    tells = answered.1;
-    turns = turns;
-    known = known_after f k what at.names.asked p.names answered.0 v c c1 did.performs.steps did.said is_answered at.names.known;
+    fit = of.left (names_held known.book.names) at.names.asked at.names.fit;
+    tells = λ n. tells_more known.book (requests_in known.requests) (requests_in known'.requests) what came p.names (names_asked next) n (block_named known.book.names n) kept.requests placed_now (at.names.tells n);
+    turns = λ n. turns_more (requests_in known.requests) (requests_in known'.requests) what came n (block_named known.book.names n) kept.requests turn (at.names.turns n);
+    known = known_after f k what at.names.asked p.names names_then v c c1 did.performs.steps did.said is_answered at.names.known;
+    placed = placed_again;
+    room = room_again;
   }
 
+  names_again : KnowsNames f next known' names_then
+  names_again = subst (λ (b : NameBook). KnowsNames f next (record { book = b; requests = known'.requests }) names_then) (sym kept.book) known_again
+
   -- it stands again, whatever is said besides
-  pub stands_again : (besides : List Record) → ThreadAt f k next σ' (keeps c1 table' out') later (with_records (after_answer p k the_answer) besides)
+  pub stands_again : (besides : List Record) → ThreadAt f k next σ' (keeps c1 known' out') later (with_records (after_answer p k the_answer) besides)
   stands_again besides = record {
     sits = subst (λ (w : View). Sits f k (AtRest f c1) σ' w (owed_events f c1 w + own_costs_of k next + later.events)) (sym (part_of_own k did.performs.steps p.list)) sits_again;
     cache = its_cache p.caches k c1;
@@ -165,16 +222,16 @@ module _ {f : Profile} {k : ℕ} {what : What} {acts next : List Act} {σ σ' : 
   }
 
 -- ---- what its cache noted is handed on
-pub settled_stands : {f : Profile} {k : ℕ} {acts : List Act} {σ : Standing} {c c' : Cached} {table : Names} {out : Records} {later : Later} {p : Progress} (besides : List Record) → c' ≡ settled c → ThreadAt f k acts σ (keeps c table out) later (with_records p besides)
-    → ThreadAt f k acts σ (keeps c' table out) later (after_settling p k)
-settled_stands {f} {k} {acts} {σ} {c} {c'} {table} {out} {later} {p} besides is at =
+pub settled_stands : {f : Profile} {k : ℕ} {acts : List Act} {σ : Standing} {c c' : Cached} {known : Table} {out : Records} {later : Later} {p : Progress} (besides : List Record) → c' ≡ settled c → ThreadAt f k acts σ (keeps c known out) later (with_records p besides)
+    → ThreadAt f k acts σ (keeps c' known out) later (after_settling p k)
+settled_stands {f} {k} {acts} {σ} {c} {c'} {known} {out} {later} {p} besides is at =
     let s = at.sits in
     let rest = s.rest in
-    subst (λ (d : Cached). ThreadAt f k acts σ (keeps d table out) later (after_settling p k)) (sym is) record {
+    subst (λ (d : Cached). ThreadAt f k acts σ (keeps d known out) later (after_settling p k)) (sym is) record {
       sits = record { actor = s.actor; profile = s.profile; beside = s.beside; stood = s.stood; room = s.room; rest = record { locals = rest.locals; few = rest.few; entries = rest.entries; few_entries = rest.few_entries } };
       cache = its_cache p.caches k (settled (p.caches k)) ∙ ap settled at.cache;
       spare = at.spare;
-      names = record { asked = at.names.asked; fit = at.names.fit; tells = at.names.tells; turns = at.names.turns; known = at.names.known };
+      names = at.names;
     }
 
 -- an operation of a plan
@@ -183,24 +240,27 @@ operation f op next = record {
   cost = let cost = own_cost op in omega (arith, cost);
   now = λ limit asked fit. fit.1;
   left = λ limit asked fit. fit.2;
+  names = refl;
 }
 
-pub operated : {f : Profile} {op : Op} {next : List Act} {σ σ' : Standing} {c c1 c' : Cached} {table table' : Names} {out out' : Records} {later : Later} {p : Progress} → Before f op next σ (keeps c table out) later p
-    → Answers op.what (works table c) (works table' c1) out out' σ σ' → HasTurns table' → c' ≡ settled c1
-    → Works f op.actor (Operates op ∷ (Settles op.actor ∷ [])) next σ σ' (keeps c table out) (keeps c' table' out') later p
-operated {f} {op} {next} {σ} {σ'} {c} {c1} {c'} {table} {table'} {out} {out'} {later} {p} at did turns is =
+pub operated : {f : Profile} {op : Op} {next : List Act} {σ σ' : Standing} {c c1 c' : Cached} {known known' : Table} {meant came : Option Name} {out out' : Records} {later : Later} {p : Progress} → Before f op next σ (keeps c known out) later p
+    → AnswersMeant op.what meant came c c1 out out' σ σ' → meant ≡ freed_by (known_in known.book known.requests) op.what → IsKept known known' op.what came → HasTurn came → c' ≡ settled c1
+    → Works f op.actor (Operates op ∷ (Settles op.actor ∷ [])) next σ σ' (keeps c known out) (keeps c' known' out') later p
+operated {f} {op} {next} {σ} {σ'} {c} {c1} {c'} {known} {known'} {meant} {came} {out} {out'} {later} {p} at did means kept turn is =
     let of = operation f op next in
-    let a = the_answer of at did turns in
+    let a = the_answer of at did means kept turn in
     let midway = after_answer p op.actor a in
     record {
       reached = after_settling midway op.actor;
-      reaches = (midway, (a, answers_now of at did turns, refl), (after_settling midway op.actor, refl, refl));
-      stands = settled_stands [] is (stands_again of at did turns []);
-      said = piece of at did turns;
+      reaches = (midway, (a, answers_now of at did means kept turn, refl), (after_settling midway op.actor, refl, refl));
+      stands = settled_stands [] is (stands_again of at did means kept turn []);
+      said = piece of at did means kept turn;
       records_are = refl;
-      pushed = pushed of at did turns;
+      pushed = pushed of at did means kept turn;
       room = did.room;
-      held = did.performs.held;
+      book = kept.book;
+      noted = noted of at did means kept turn;
+      room_noted = kept.room;
       each = piece_of op.actor (part op.actor p.list) did.performs.steps did.said;
     }
 
@@ -218,7 +278,10 @@ works_both {f} {k} {xs} {ys} {mid} {next} {σ0} {σ} {σ'} {h0} {h} {h'} {later}
   records_are = two.records_are ∙ ap (λ (rs : List Record). rs ++ two.said) one.records_are ∙ append_assoc p.records one.said two.said;
   pushed = two.pushed ∙ ap (λ (rs : List Record). rs ++ two.said) one.pushed ∙ append_assoc (records_in h0.out) one.said two.said;
   room = two.room ∙ one.room;
-  held = two.held ∙ one.held;
+  book = two.book ∙ one.book;
+  noted = two.noted ∙ ap (λ (ns : List ℕ). ns ++ names_asked ys) one.noted ∙ append_assoc (names_of (requests_in h0.table.requests)) (names_asked xs) (names_asked ys)
+      ∙ ap (λ (ns : List ℕ). names_of (requests_in h0.table.requests) ++ ns) (sym (asked_both xs ys));
+  room_noted = two.room_noted ∙ one.room_noted;
   each = each_both k one.said two.said one.each two.each;
 }
 
@@ -231,7 +294,9 @@ works_none {f} {k} {acts} {σ} {has} {later} {p} at = record {
   records_are = sym (append-nil p.records);
   pushed = sym (append-nil (records_in has.out));
   room = refl;
-  held = refl;
+  book = refl;
+  noted = sym (append-nil (names_of (requests_in has.table.requests)));
+  room_noted = refl;
   each = tt;
 }
 

@@ -14,7 +14,7 @@ use Rattle.pas_answers.specs.Ways.{records_by}
 use Rattle.pas_threads.specs.Shares.{Reaches}
 use Rattle.pas_threads.specs.Works.{Later}
 use Rattle.pas_threads.specs.Scavenges.{ScavengerAt}
-use Rattle.pas_threads.specs.Lent.{AreLent}
+use Rattle.pas_threads.specs.Lent.{AreLent, KeepsRooms}
 use Rattle.pas_threads.specs.declared.names.NameBook.{NameBook}
 use Rattle.pas_threads.specs.declared.workers.Worker.{Worker}
 
@@ -41,6 +41,7 @@ pub record CrewDid (region : SharedRegion) (book : NameBook) (f : Profile) (idle
   pub records_are : reached.records ≡ p.records ++ said
   pub told : records_in has'.out ≡ records_in has.out ++ records_by 0 said
   pub flushed : (i : ℕ) (d : Worker) → i < length has.lent → records_in (get_or has'.lent i d).out ≡ records_in (get_or has.lent i d).out ++ records_by (get_or idle i 0) said
+  pub kept : (i : ℕ) (d : Worker) → i < length has.lent → KeepsRooms (get_or has.lent i d) (get_or has'.lent i d)
   pub room : room_of has'.out ≡ room_of has.out
 
 -- the operation is the scavenger's, and can be done

@@ -51,7 +51,7 @@ AreEquipped bounds k (pass ∷ passes) [] = ⊥
 AreEquipped bounds k (pass ∷ passes) (worker ∷ workers) = IsEquipped pass (slice_index bounds k) worker × AreEquipped bounds (k + 1) passes workers
 
 -- The scavenger has this pass, a place for the outcome of each page, and room for so many records, of which there are none. No thread is lent to it.
-pub record IsReady (f : Profile) (pass : SharedPass) (bound : ℕ) (scavenger : Scavenger) : Type 0 where
+pub record IsSupplied (f : Profile) (pass : SharedPass) (bound : ℕ) (scavenger : Scavenger) : Type 0 where
   pub present : scavenger.pass ≡ Some pass
   pub places : places_of scavenger.outcomes ≡ f.pages
   pub said : records_in scavenger.out ≡ []
@@ -65,7 +65,7 @@ pub record IsBookOf (plan : Plan) (book : NameBook) : Type 0 where
 
 -- a team that did nothing yet, whose actors have these passes
 pub record IsTeamOf (plan : Plan) (first : SharedPass) (others : List SharedPass) (team : Team) : Type 0 where
-  pub scavenger : IsReady plan.profile first (slice_index (bounds_of plan.bounds) 0) team.scavenger
+  pub scavenger : IsSupplied plan.profile first (slice_index (bounds_of plan.bounds) 0) team.scavenger
   pub workers : AreEquipped (bounds_of plan.bounds) 1 others team.threads.items
   pub book : IsBookOf plan team.book
   pub places : HasPlaces plan.profile.threads team

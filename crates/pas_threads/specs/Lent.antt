@@ -25,6 +25,11 @@ pub record AreLent (region : SharedRegion) (book : NameBook) (f : Profile) (idle
   pub many : length lent ≡ length idle
   pub each : (i : ℕ) (d : Worker) → i < length lent → WorkerAt region book f (get_or idle i 0) [] (get_or lent i d) (later i) p
 
+-- the worker's room for records is what it was, and so are its requests
+pub record KeepsRooms (old new : Worker) : Type 0 where
+  pub room : room_of new.out ≡ room_of old.out
+  pub requests : new.requests ≡ old.requests
+
 -- These acts were done with the lent workers, and at most `most` things were said. The records of each actor came to the end of its own: those of a thread
 -- to its worker's, and those of the scavenger to `out`. The scavenger's part, the names and the epoch that it read stay.
 pub record DidWithLent (region : SharedRegion) (book : NameBook) (f : Profile) (acts : List Act) (idle : List ℕ) (later : ℕ → Later) (old new : List Worker) (out out' : Records) (most : ℕ) (p : Progress) : Type 0 where
@@ -35,6 +40,7 @@ pub record DidWithLent (region : SharedRegion) (book : NameBook) (f : Profile) (
   pub records_are : reached.records ≡ p.records ++ said
   pub told : records_in out' ≡ records_in out ++ records_by 0 said
   pub flushed : (i : ℕ) (d : Worker) → i < length old → records_in (get_or new i d).out ≡ records_in (get_or old i d).out ++ records_by (get_or idle i 0) said
+  pub kept : (i : ℕ) (d : Worker) → i < length old → KeepsRooms (get_or old i d) (get_or new i d)
   pub few : length (records_by 0 said) ≤ most
   pub room : room_of out' ≡ room_of out
   pub scavenger : part 0 reached.list ≡ part 0 p.list

@@ -10,4 +10,6 @@ pub mod Scavengers
 pub mod Acting
 pub mod Dealing
 pub mod Sessions
+pub mod Turns
+pub mod Performing
 pub mod Kits

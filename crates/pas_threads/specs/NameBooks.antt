@@ -1,15 +1,15 @@
 -- What the names of a trace stand for in a phase on threads. What they stood for before it is kept once, for all threads; what a thread's own requests came
 -- to in the phase is kept with the thread, and comes to the book after the phase.
-use Rattle.std.specs.Prelude.{ℕ, ◌+◌, ◌<◌, ◌≡◌, ◌==◌, ◌⊎◌, true, false, if◌then◌else◌, List, [], ◌∷◌, ◌++◌, map, length, get_or, slice_index_or, Option, None, Some}
+use Rattle.std.specs.Prelude.{ℕ, zero, suc, ◌+◌, ◌<◌, ◌≡◌, ◌==◌, true, if◌then◌else◌, List, [], ◌∷◌, ◌++◌, map, slice_index_or, Option, None, Some}
 use Rattle.pas_profile.specs.declared.profile.Profile.{Profile}
 use Rattle.pas_profile.specs.declared.name.Name.{Name}
-use Rattle.pas_trace.specs.EveryPlan.{is_asked, asked_after, AreSound}
+use Rattle.pas_trace.specs.EveryPlan.{is_asked, asked_after, asked_by, AreSound}
 use Rattle.pas_trace.specs.declared.plan.What.{What}
 use Rattle.pas_trace.specs.declared.plan.Op.{Op}
 use Rattle.pas_trace.specs.declared.plan.What.TheVariants.{Alloc, Free, Raw, Flush, Stop, Tick, Pass, Idle}
 use Rattle.pas_answers.specs.Acts.{Act, Operates, Settles, Ticks, MakesPass, ReadsEpoch, StopsIdle, MarksPhase, Wakes, MarksClose, Ends}
 use Rattle.pas_answers.specs.Answers.{Named, named, standing_for, Progress}
-use Rattle.pas_answers.specs.Calls.{block_behind, Tells, HasTurns, AreKnown}
+use Rattle.pas_answers.specs.Calls.{Tells, HasTurns, AreKnown}
 use Rattle.pas_answers.specs.Fit.{AreBelow}
 use Rattle.pas_answers.specs.Names.{name_in, block_named, names_held}
 use Rattle.pas_threads.specs.Shares.{OnlyAsked}
@@ -32,6 +32,12 @@ room_for requests = requests.bound
 abbrev pub names_of : List Named → List ℕ
 names_of [] = []
 names_of (r ∷ rs) = r.name ∷ names_of rs
+
+-- what the request at a place came to, where it has the name
+abbrev pub request_at : List Named → ℕ → ℕ → Option (Option Name)
+request_at [] place n = None
+request_at (r ∷ rs) zero n = if r.name == n then Some r.block else None
+request_at (r ∷ rs) (suc place) n = request_at rs place n
 
 -- the names that an operation asks for, and those of acts, in order
 abbrev pub name_asked : What → List ℕ
@@ -98,6 +104,11 @@ abbrev pub FreesItsOwn : ℕ → List ℕ → List Op → Type 0
 FreesItsOwn k asked [] = Unit {0}
 FreesItsOwn k asked (op ∷ ops) = ((n : ℕ) → op.actor ≡ k → op.what ≡ Free n → is_asked asked n ≡ true) × FreesItsOwn k (if op.actor == k then asked_after op.what asked else asked) ops
 
+-- .. and so it is in each of these phases, for all threads, once the names of the phases before it were asked for
+abbrev pub FreeTheirOwn : List ℕ → List (List Op) → Type 0
+FreeTheirOwn asked [] = Unit {0}
+FreeTheirOwn asked (phase ∷ phases) = ((k : ℕ) → FreesItsOwn k asked phase) × FreeTheirOwn (asked_by asked phase) phases
+
 -- Before a phase: these operations are left, from the phase's on, and the book says what all names stand for.
 pub record NamesAt (f : Profile) (ops : List Op) (book : NameBook) (p : Progress) : Type 0 where
   pub asked : List ℕ
@@ -107,14 +118,3 @@ pub record NamesAt (f : Profile) (ops : List Op) (book : NameBook) (p : Progress
   pub turns : HasTurns book.names
   pub known : AreKnown asked p.names
   pub only : OnlyAsked asked p.names
-
--- ---- after a phase
--- one of the requests has the name
-abbrev pub HasRequest : Requests → ℕ → Type 0
-HasRequest requests n = is_asked (names_of (requests_in requests)) n ≡ true
-
--- What each name stands for in the book after it has taken these threads' requests: what one of them came to that has the name; what it stood for where none has it.
-abbrev pub HasTaken : NameBook → NameBook → List Requests → Type 0
-HasTaken before after all = (n : ℕ)
-    → ((i : ℕ) × (i < length all) × ((d : Requests) → HasRequest (get_or all i d) n × (block_named after.names n ≡ known_in before (get_or all i d) n)))
-    ⊎ (((i : ℕ) (d : Requests) → i < length all → HasRequest (get_or all i d) n → ⊥) × (block_named after.names n ≡ block_named before.names n))

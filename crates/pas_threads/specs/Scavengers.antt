@@ -1,5 +1,5 @@
 -- What the scavenger's worker has in hand while it doesn't sit at the region, before and after its acts of a phase.
-use Rattle.std.specs.Prelude.{ℕ, List, []}
+use Rattle.std.specs.Prelude.{ℕ, ◌≡◌, List, [], vec_capacity}
 use Rattle.pas_profile.specs.declared.profile.Profile.{Profile}
 use Rattle.pas_trace.specs.EveryPlan.{AreSound}
 use Rattle.pas_trace.specs.declared.plan.Op.{Op}
@@ -41,3 +41,4 @@ pub record MayScavenge (region : SharedRegion) (ops : List Op) (scavenger : Scav
 pub record DidScavenge (region : SharedRegion) (ops : List Op) (old new : Scavenger) : Type 0 where
   pub did : (book : NameBook) (f : Profile) (idle asked : List ℕ) (later : Later) (lends : ℕ → Later) (p : Progress) → AreSound f asked ops → AreDistinct idle → ScavengerStands region book f idle (scavenger_acts idle ops) old later lends p
       → Did region old.pass new.pass (λ σ σ'. CrewDid region book f idle (scavenger_acts idle ops) [] σ σ' (crew_of old) (crew_of new) later lends p)
+  pub places : vec_capacity new.lent ≡ vec_capacity old.lent

@@ -18,7 +18,7 @@ use Rattle.pas_answers.specs.Ways.{OnThreads, arranged, by_actors, AreSpoken}
 use Rattle.pas_threads.specs.Works.{Later, Sits}
 use Rattle.pas_threads.specs.Scavenges.{ScavengerAt}
 use Rattle.pas_threads.specs.Hands.{standing_of_pass, HasPass}
-use Rattle.pas_threads.specs.NameBooks.{NamesAt, requests_in, room_for}
+use Rattle.pas_threads.specs.NameBooks.{NamesAt, FreeTheirOwn, requests_in, room_for}
 use Rattle.pas_threads.specs.declared.workers.Worker.{Worker}
 use Rattle.pas_threads.specs.declared.scavenger.Scavenger.{Scavenger}
 use Rattle.pas_threads.specs.declared.phases.Team.{Team}
@@ -61,6 +61,7 @@ pub record TeamAt (region : SharedRegion) (f : Profile) (phases : List (List Op)
   pub scavenger : ScavengerRests region f team.scavenger (own_records f 0 (all_ops phases)) p
   pub nobody : (k : ℕ) → f.threads < k → part k p.list ≡ []
   pub names : NamesAt f (all_ops phases) team.book p
+  pub frees : FreeTheirOwn names.asked phases
   pub places : HasPlaces f.threads team
 
 -- ---- the records

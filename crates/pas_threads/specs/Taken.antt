@@ -1,16 +1,30 @@
 -- What the workers of a phase hand over after it.
-use Rattle.std.specs.Prelude.{ℕ, ◌≡◌, List, [], map}
-use Rattle.pas_threads.specs.NameBooks.{requests_in, room_for, names_of, AreWithin}
-use Rattle.pas_threads.specs.declared.names.Requests.{Requests}
+use Rattle.std.specs.Prelude.{ℕ, ◌<◌, ◌≡◌, ◌⊎◌, true, List, [], length, get_or, Option, Some}
+use Rattle.pas_profile.specs.declared.name.Name.{Name}
+use Rattle.pas_trace.specs.EveryPlan.{is_asked}
+use Rattle.pas_trace.specs.declared.plan.Op.{Op}
+use Rattle.pas_answers.specs.Answers.{Named, standing_for}
+use Rattle.pas_answers.specs.Calls.{HasTurn}
+use Rattle.pas_answers.specs.Names.{block_named}
+use Rattle.pas_threads.specs.Shares.{own_acts}
+use Rattle.pas_threads.specs.NameBooks.{requests_in, room_for, names_of, names_asked, AreWithin, known_in}
+use Rattle.pas_threads.specs.declared.names.NameBook.{NameBook}
 use Rattle.pas_threads.specs.declared.workers.Worker.{Worker}
-
--- the requests of each
-abbrev pub requests_of : List Worker → List Requests
-requests_of workers = map (λ w. w.requests) workers
 
 -- the names of the worker's requests are below the limit
 pub record IsWithin (limit : ℕ) (worker : Worker) : Type 0 where
   pub within : AreWithin limit (names_of (requests_in worker.requests))
+
+-- a request of the worker has the name
+abbrev pub HasRequest : Worker → ℕ → Type 0
+HasRequest worker n = is_asked (names_of (requests_in worker.requests)) n ≡ true
+
+-- What each name stands for in the book after it has taken the requests of these workers: what one of them came to that has the name; what it stood for
+-- before where none has it.
+abbrev pub HasTaken : NameBook → NameBook → List Worker → Type 0
+HasTaken before after workers = (n : ℕ)
+    → ((i : ℕ) × (i < length workers) × ((d : Worker) → HasRequest (get_or workers i d) n × (block_named after.names n ≡ known_in before (get_or workers i d).requests n)))
+    ⊎ (((i : ℕ) (d : Worker) → i < length workers → HasRequest (get_or workers i d) n → ⊥) × (block_named after.names n ≡ block_named before.names n))
 
 -- the worker's requests were taken over, and nothing else of it changed
 pub record IsEmptied (old new : Worker) : Type 0 where
@@ -19,3 +33,8 @@ pub record IsEmptied (old new : Worker) : Type 0 where
   pub out : new.out ≡ old.out
   pub empty : requests_in new.requests ≡ []
   pub room : room_for new.requests ≡ room_for old.requests
+
+-- The worker of thread k made all requests of its operations in the phase, and what each came to is what its name stands for.
+pub record HandsOver (phase : List Op) (book : NameBook) (k : ℕ) (worker : Worker) (names : List Named) : Type 0 where
+  pub noted : names_of (requests_in worker.requests) ≡ names_asked (own_acts k phase)
+  pub says : (n : ℕ) → HasRequest worker n → (block : Option Name) × (standing_for names n ≡ Some block) × (known_in book worker.requests n ≡ block) × HasTurn block

@@ -2,6 +2,7 @@
 ghost use Rattle.std.specs.Prelude.{◌≡◌, ◌<◌, ◌≤◌, ◌++◌, [], ◌∷◌, true, false, List, map, length, vec_capacity};
 ghost use Rattle.pas_threads.specs.Dealing.{AreDealt, AreSized};
 ghost use Rattle.pas_threads.specs.declared.workers.Worker.{Worker as TheWorker};
+ghost use Rattle.pas_threads.specs.declared.hands.Hand.{Hand as AnyHand};
 ghost use Rattle.pas_threads.specs.declared.hands.Hand.TheVariants as TheHand;
 
 use crate::hands::Hand;
@@ -34,23 +35,31 @@ pub(crate) fn deal(
     }
 }
 
+/// Takes the last of the hands out, which is a thread's.
+fn pop_thread(hands: &mut Vec<Hand>) -> Worker
+    requires { (front : List AnyHand) × (worker : TheWorker) × (hands.old.items ≡ front ++ TheHand.Thread worker ∷ []) }
+    ensures items { hands.old.items ≡ hands.new.items ++ TheHand.Thread result ∷ [] }
+    ensures place { vec_capacity hands.new ≡ vec_capacity hands.old }
+{
+    match hands.pop() {
+        Some(Hand::Thread(worker)) => worker,
+        Some(Hand::Scavenger(_scavenger)) => unreachable!(),
+        None => unreachable!(),
+    }
+}
+
 /// The worker of the next thread: the last of the hands where it was awake, and the last of those that were lent otherwise.
 fn next_back(awake: bool, hands: &mut Vec<Hand>, lent: &mut Vec<Worker>) -> Worker
-    requires awake { awake ≡ true → (own : List TheWorker) × (worker : TheWorker) × (hands.old.items ≡ map TheHand.Thread own ++ TheHand.Thread worker ∷ []) }
+    requires awake { awake ≡ true → (front : List AnyHand) × (worker : TheWorker) × (hands.old.items ≡ front ++ TheHand.Thread worker ∷ []) }
     requires idle { awake ≡ false → 0 < length lent.old.items }
     ensures awake { awake ≡ true → (hands.old.items ≡ hands.new.items ++ TheHand.Thread result ∷ []) × (lent.new.items ≡ lent.old.items) }
     ensures idle { awake ≡ false → (lent.old.items ≡ lent.new.items ++ result ∷ []) × (hands.new.items ≡ hands.old.items) }
     ensures places { (vec_capacity hands.new ≡ vec_capacity hands.old) × (vec_capacity lent.new ≡ vec_capacity lent.old) }
 {
-    let next = if awake {
-        match hands.pop() {
-            Some(Hand::Thread(worker)) => Some(worker),
-            Some(Hand::Scavenger(_)) | None => None,
-        }
-    } else {
-        lent.pop()
-    };
-    let Some(worker) = next else {
+    if awake {
+        return pop_thread(hands);
+    }
+    let Some(worker) = lent.pop() else {
         unreachable!();
     };
     worker

@@ -1,9 +1,10 @@
 //! The hands that act in a phase, all at once: the worker of each thread that has an operation in it, and the scavenger where one is its own.
-ghost use Rattle.std.specs.Prelude.{◌≡◌, ◌<◌, ◌^◌, ℕ, true, false, All, List, length, map, get_or, vec_capacity};
+ghost use Rattle.std.specs.Prelude.{◌≡◌, ◌<◌, ◌^◌, ◌++◌, ◌∷◌, [], ℕ, true, false, All, List, length, map, get_or, vec_capacity};
 ghost use Rattle.pas_threads.specs.Acting.{MayAct, DidAct, DidEach};
 ghost use Rattle.pas_threads.specs.Hands.{MayDoPhase};
 ghost use Rattle.pas_threads.specs.Scavengers.{MayScavenge, DidScavenge};
 ghost use Rattle.pas_threads.specs.declared.workers.Worker.{Worker as TheWorker};
+ghost use Rattle.pas_threads.specs.declared.scavenger.Scavenger.{Scavenger as TheScavenger};
 ghost use Rattle.pas_threads.specs.declared.hands.Hand.{Hand as AnyHand};
 ghost use Rattle.pas_threads.specs.declared.hands.Hand.TheVariants as TheHand;
 
@@ -47,18 +48,19 @@ fn act<G: Gate>(
 }
 
 /// All hands at once, each in a thread of its own. Nothing waits but the end, for all of them.
-pub(crate) fn act_all<R: Threads + Wait + Sync, G: Gate + Sync>(
+fn act_all<R: Threads + Wait + Sync, G: Gate + Sync>(
     rt: &R,
     region: &SharedRegion,
     book: &NameBook,
-    hands: &mut [Hand],
+    hands: &mut Vec<Hand>,
     ops: &[Op],
     gate: &G,
 )
     requires few { length ops.now < 2 ^ 32 }
-    requires may { All (MayAct region.now book.now ops.now) hands.old }
-    ensures many { length hands.new ≡ length hands.old }
-    ensures did { (i : ℕ) (d : AnyHand) → i < length hands.old → DidAct region.now book.now ops.now (get_or hands.old i d) (get_or hands.new i d) }
+    requires may { All (MayAct region.now book.now ops.now) hands.old.items }
+    ensures many { length hands.new.items ≡ length hands.old.items }
+    ensures did { (i : ℕ) (d : AnyHand) → i < length hands.old.items → DidAct region.now book.now ops.now (get_or hands.old.items i d) (get_or hands.new.items i d) }
+    ensures place { vec_capacity hands.new ≡ vec_capacity hands.old }
 {
     for_each_mut(
         rt,
@@ -66,6 +68,19 @@ pub(crate) fn act_all<R: Threads + Wait + Sync, G: Gate + Sync>(
         MOST_HANDS,
         &|_, hand| act(region, book, hand, ops, gate),
     );
+}
+
+/// Takes the scavenger out, which is the last of the hands.
+fn pop_scavenger(hands: &mut Vec<Hand>) -> Scavenger
+    requires { (front : List AnyHand) × (scavenger : TheScavenger) × (hands.old.items ≡ front ++ TheHand.Scavenger scavenger ∷ []) }
+    ensures items { hands.old.items ≡ hands.new.items ++ TheHand.Scavenger result ∷ [] }
+    ensures place { vec_capacity hands.new ≡ vec_capacity hands.old }
+{
+    match hands.pop() {
+        Some(Hand::Scavenger(scavenger)) => scavenger,
+        Some(Hand::Thread(_worker)) => unreachable!(),
+        None => unreachable!(),
+    }
 }
 
 /// The hands act, and with them the scavenger where one of the operations is its own. The scavenger, as it is then.
@@ -94,8 +109,5 @@ pub(crate) fn act_with<R: Threads + Wait + Sync, G: Gate + Sync>(
     }
     hands.push_reserved(Hand::Scavenger(scavenger));
     act_all(rt, region, book, hands, ops, gate);
-    let Some(Hand::Scavenger(scavenger)) = hands.pop() else {
-        unreachable!();
-    };
-    scavenger
+    pop_scavenger(hands)
 }

@@ -9,7 +9,7 @@ ghost use Rattle.pas_report.specs.Rooms.{records_in, room_of};
 ghost use Rattle.pas_answers.specs.Replays.{phases_of, empty_cache, Shows};
 ghost use Rattle.pas_answers.specs.Ways.{OnThreads};
 ghost use Rattle.pas_shared.specs.declared.pass.SharedPass.{SharedPass as ThePass};
-ghost use Rattle.pas_threads.specs.Kits.{IsEquipped, AreEquipped, IsReady, IsTeamOf, IsKitOf, slots_of, AreAllBack};
+ghost use Rattle.pas_threads.specs.Kits.{IsEquipped, AreEquipped, IsSupplied, IsTeamOf, IsKitOf, slots_of, AreAllBack};
 
 use crate::gate::Gate;
 use crate::names::{NameBook, Requests};
@@ -93,7 +93,7 @@ fn scavenger_with(
     bound: u32,
     threads: u8,
 ) -> Result<Scavenger, NoMemory>
-    ensures ready { (f : TheProfile) → places_of outcomes ≡ f.pages → IfOk result (λ scavenger. IsReady f pass bound scavenger) }
+    ensures ready { (f : TheProfile) → places_of outcomes ≡ f.pages → IfOk result (λ scavenger. IsSupplied f pass bound scavenger) }
     ensures places { IfOk result (λ scavenger. threads ≤ vec_capacity scavenger.lent) }
 {
     let out = Records::try_new(alloc, bound, 0)?;

@@ -13,6 +13,7 @@ pub mod own;
 mod phases;
 pub mod scavenger;
 pub mod scavenging;
+mod turns;
 pub mod workers;
 
 pub use gate::{Gate, OpenGate};

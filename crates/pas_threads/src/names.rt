@@ -32,10 +32,37 @@ pub struct NameBook {
     ghost whole: { vec_len places ≡ names_held names },
 }
 
+/// How many names each actor asked for so far in a phase.
+#[derive(Drop)]
+struct Counts {
+    of: [u32; 256],
+}
+
+impl Counts {
+    ghost use Rattle.std.specs.Prelude.{◌≡◌, ◌+◌, ◌<◌, ◌^◌, ◌==◌, ℕ, if◌then◌else◌, slice_index_or};
+
+    fn new() -> Counts
+        ensures { (k : ℕ) → slice_index_or result.of k 0 ≡ 0 }
+    {
+        Counts { of: [0; 256] }
+    }
+
+    /// Counts one more of this actor; how many there were before.
+    fn add(&mut self, actor: u8) -> u32
+        requires { slice_index_or self.old.of actor 0 + 1 < 2 ^ 32 }
+        ensures before { result ≡ slice_index_or self.old.of actor 0 }
+        ensures one { (k : ℕ) → slice_index_or self.new.of k 0 ≡ (if actor == k then result + 1 else slice_index_or self.old.of k 0) }
+    {
+        let count = self.of[actor as usize];
+        self.of[actor as usize] = count + 1;
+        count
+    }
+}
+
 impl Requests {
     ghost use Rattle.std.specs.Prelude.{◌≡◌, ◌++◌, ◌∷◌, [], IfOk, length};
     ghost use Rattle.pas_answers.specs.Answers.{named};
-    ghost use Rattle.pas_threads.specs.NameBooks.{requests_in, room_for};
+    ghost use Rattle.pas_threads.specs.NameBooks.{requests_in, room_for, request_at};
 
     /// Room for so many requests.
     pub fn try_new(alloc: Global, bound: usize) -> Result<Requests, NoMemory>
@@ -45,6 +72,23 @@ impl Requests {
         match Vec::with_capacity(alloc, bound) {
             Ok(items) => Ok(Requests { items, bound }),
             Err(_) => Err(NoMemory),
+        }
+    }
+
+    /// What the request at this place came to, where it has the name.
+    #[inline]
+    fn at(&self, place: usize, name: u32) -> Option<Option<Name>>
+        ensures { result ≡ request_at (requests_in self.now) place name }
+    {
+        if place < self.items.len() {
+            let request = self.items[place];
+            if request.name == name {
+                Some(request.meaning.block())
+            } else {
+                None
+            }
+        } else {
+            None
         }
     }
 
@@ -122,12 +166,11 @@ impl NameBook {
         ensures placed { (k : ℕ) → ArePlaced self.new 0 (names_asked (own_acts k ops.now)) }
         ensures names { self.new.names ≡ self.old.names }
     {
-        let mut counts = [0; 256];
+        let mut counts = Counts::new();
         for op in ops {
             if let What::Alloc { name, .. } = op.what {
-                let count = counts[op.actor as usize];
-                counts[op.actor as usize] = count + 1;
-                self.set_place(name, count);
+                let place = counts.add(op.actor);
+                self.set_place(name, place);
             }
         }
     }
@@ -154,9 +197,9 @@ impl NameBook {
         requires { ArePlaced self.now 0 (names_of (requests_in requests.now)) }
         ensures { result ≡ known_in self.now requests.now name }
     {
-        match requests.items.get(self.place(name) as usize) {
-            Some(request) if request.name == name => request.meaning.block(),
-            _ => self.names.get(name),
+        match requests.at(self.place(name) as usize, name) {
+            Some(block) => block,
+            None => self.names.get(name),
         }
     }
 }

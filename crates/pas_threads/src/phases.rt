@@ -1,19 +1,27 @@
 //! The phases of a replay on threads, one after the other, and the close.
-ghost use Rattle.std.specs.Prelude.{◌≡◌, ◌+◌, ◌<◌, ◌^◌, [], map, length};
+ghost use Rattle.std.specs.Prelude.{◌≡◌, ◌+◌, ◌<◌, ◌^◌, ℕ, [], map, length};
+ghost use Rattle.pas_bits.specs.Masks.{is_set};
 ghost use Rattle.pas_profile.specs.declared.profile.Profile.{Profile as TheProfile};
 ghost use Rattle.pas_trace.specs.Plans.{ops_of};
 ghost use Rattle.pas_report.specs.Rooms.{records_in};
 ghost use Rattle.pas_answers.specs.Replays.{at_start};
+ghost use Rattle.pas_answers.specs.Acts.{is_active};
+ghost use Rattle.pas_answers.specs.Answers.{Progress};
+ghost use Rattle.pas_threads.specs.Works.{Later};
+ghost use Rattle.pas_threads.specs.Performing.{IsReady, IsDone};
 ghost use Rattle.pas_threads.specs.Sessions.{TeamAt, HasRoom, HasReplayed};
 
+use crate::dealing::{deal, take_back};
 use crate::gate::Gate;
-use crate::hands::Hand;
+use crate::hands::{Hand, act_with};
 use crate::names::NameBook;
 use crate::scavenger::Scavenger;
+use crate::scavenging::SCAVENGER;
 use crate::workers::Worker;
+use pas_bits::Mask4;
 use pas_report::Records;
 use pas_shared::SharedRegion;
-use pas_trace::Phase;
+use pas_trace::{Op, Phase};
 use std::sync::Wait;
 use std::thread::Threads;
 
@@ -26,6 +34,40 @@ pub(crate) struct Team {
     /// Empty between two phases.
     pub(crate) hands: Vec<Hand>,
     pub(crate) book: NameBook,
+}
+
+/// The operations of a phase, by all hands at once, in as many threads of the system: the worker of each thread that has one, and the scavenger where one is
+/// its own, with the threads that have none. `awake` has the numbers of those that have one.
+fn perform_all<R: Threads + Wait + Sync, G: Gate + Sync>(
+    rt: &R,
+    region: &SharedRegion,
+    team: Team,
+    awake: Mask4,
+    ops: &[Op],
+    gate: &G,
+) -> Team
+    requires few { length ops.now < 2 ^ 32 }
+    requires awake { (k : ℕ) → is_set awake k ≡ is_active ops.now k }
+    requires ready { (f : TheProfile) × (later : ℕ → Later) × (p : Progress) × IsReady region.now f ops.now team later p }
+    ensures done { (f : TheProfile) (later : ℕ → Later) (p : Progress) → IsReady region.now f ops.now team later p → IsDone region.now f ops.now team result later p }
+{
+    let Team {
+        mut threads,
+        mut scavenger,
+        mut hands,
+        book,
+    } = team;
+    let count = threads.len() as u8;
+    deal(&mut threads, awake, &mut hands, &mut scavenger.lent);
+    let busy = awake.get(SCAVENGER);
+    let mut scavenger = act_with(rt, region, &book, &mut hands, scavenger, busy, ops, gate);
+    take_back(&mut threads, count, awake, &mut hands, &mut scavenger.lent);
+    Team {
+        threads,
+        scavenger,
+        hands,
+        book,
+    }
 }
 
 /// Performs the phases in order, with a mark before each from the second on, and closes: a mark, and the stop of each thread. The operations of a phase are

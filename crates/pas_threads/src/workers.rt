@@ -7,8 +7,7 @@ ghost use Rattle.pas_threads.specs.declared.names.NameBook.{NameBook as TheBook}
 ghost use Rattle.pas_threads.specs.Works.{Later};
 ghost use Rattle.pas_threads.specs.Hands.{WorkerAt, Did, kept_by, MayDoPhase, DidPhase};
 ghost use Rattle.pas_answers.specs.Names.{names_held};
-ghost use Rattle.pas_threads.specs.NameBooks.{HasTaken};
-ghost use Rattle.pas_threads.specs.Taken.{requests_of, IsWithin, IsEmptied};
+ghost use Rattle.pas_threads.specs.Taken.{HasTaken, IsWithin, IsEmptied};
 ghost use Rattle.pas_threads.specs.Scavenges.{StopsThread};
 
 use crate::gate::Gate;
@@ -111,7 +110,7 @@ pub fn stop_lent(
 /// The book takes the requests of all workers over, after a phase.
 pub fn take_all(book: &mut NameBook, workers: &mut [Worker])
     requires within { All (IsWithin (names_held book.old.names)) workers.old }
-    ensures taken { HasTaken book.old book.new (requests_of workers.old) }
+    ensures taken { HasTaken book.old book.new workers.old }
     ensures room { names_held book.new.names ≡ names_held book.old.names }
     ensures many { length workers.new ≡ length workers.old }
     ensures emptied { (i : ℕ) (d : Worker) → i < length workers.old → IsEmptied (get_or workers.old i d) (get_or workers.new i d) }

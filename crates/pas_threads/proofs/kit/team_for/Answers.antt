@@ -5,7 +5,7 @@ use Rattle.pas_trace.specs.declared.plan.Phase.{Phase}
 use Rattle.pas_answers.specs.Fit.{AllBelow}
 use Rattle.pas_answers.specs.Replays.{phases_of}
 use Rattle.pas_replay.proofs.PlanFacts.{plan_valid, plan_bounds}
-use Rattle.pas_threads.specs.Kits.{AreEquipped, IsReady}
+use Rattle.pas_threads.specs.Kits.{AreEquipped, IsSupplied}
 use Rattle.pas_threads.proofs.kit.team_for.Goals as goal
 
 pub caches_for-requires-clause-few : goal.caches_for-requires-clause-few
@@ -29,7 +29,7 @@ returns c =
     let threads = c.in_ok-threads.ensures.places in
     let hands = c.in-Ok.ensures.capacity in
     record {
-      scavenger = subst (λ (bs : List ℕ). IsReady plan.profile c.args.first (slice_index bs 0) c.in_ok-scavenger.scavenger) c.as_slice-bounds.ensures
+      scavenger = subst (λ (bs : List ℕ). IsSupplied plan.profile c.args.first (slice_index bs 0) c.in_ok-scavenger.scavenger) c.as_slice-bounds.ensures
           (c.in_ok-scavenger.ensures.ready plan.profile (same_Some _ _ (sym c.outcomes_from-outcomes.ensures ∙ c.caches_for.ensures.outcomes ∙ c.requires.outcomes)));
       workers = subst (λ (bs : List ℕ). AreEquipped bs 1 c.args.others.items c.in_ok-threads.threads.items) c.as_slice-bounds.ensures c.in_ok-threads.ensures.workers;
       book = record {

@@ -28,7 +28,7 @@ pub loop-op-preserved : goal.loop-op-preserved
 loop-op-preserved g c = elim c.if-op-actor.branch [
   | then-op-actor w ↦
       let low = c.loop-op.invariant.number in
-      rw (w.desk-is, w.cache-is, w.names-is, w.out-is, w.number-is) (record {
+      rw (w.desk-is, w.cache-is, w.requests-is, w.out-is, w.number-is) (record {
         far = λ f later p at.
             let so = c.loop-op.invariant.far f later p at in
             goes_on c.args.ops.now past c.loop-op-test.true (w.if-op-actor.true ∙ c.actor-actor.ensures) so (w.operate.ensures.works f _ later so.2.reached (stands_before c.args.ops.now past c.loop-op-test.true (w.if-op-actor.true ∙ c.actor-actor.ensures) so));
@@ -37,7 +37,7 @@ loop-op-preserved g c = elim c.if-op-actor.branch [
       })
   | else-op-actor w ↦
       let low = c.loop-op.invariant.number in
-      rw (w.desk-is, w.cache-is, w.names-is, w.out-is, w.number-is) (record {
+      rw (w.desk-is, w.cache-is, w.requests-is, w.out-is, w.number-is) (record {
         far = λ f later p at. skips c.args.ops.now past c.loop-op-test.true (λ e. w.if-op-actor.false (e ∙ sym c.actor-actor.ensures)) (c.loop-op.invariant.far f later p at);
         number = omega (arith, low);
         home = c.loop-op.invariant.home;

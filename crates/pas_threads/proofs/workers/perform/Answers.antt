@@ -18,7 +18,7 @@ returns g c = record {
     did = λ f k later p at.
         let pass = c.desk-desk.result.pass in
         let is = sym c.take.ensures.value ∙ c.in-Some.is ∙ ap Some (sym c.desk-desk.ensures.pass) in
-        rose (λ σ σ'. Works f k (own_acts k c.args.ops.now) [] σ σ' (kept_by c.args.worker.now) _ later p) pass c.work.new.desk.pass c.into_pass.result is at c.into_pass.ensures.pass
+        rose (λ σ σ'. Works f k (own_acts k c.args.ops.now) [] σ σ' (kept_by c.args.book.now c.args.worker.now) _ later p) pass c.work.new.desk.pass c.into_pass.result is at c.into_pass.ensures.pass
         (subst (λ (r : SharedRegion). IsPassOf r c.into_pass.result) (c.work.ensures.home ∙ c.desk-desk.ensures.region) c.into_pass.ensures.of)
         (worked c.args.ops.now pass (seated pass is at).sits.actor (c.work.ensures.works f later p (seated_own c.args.ops.now pass is at)));
   };

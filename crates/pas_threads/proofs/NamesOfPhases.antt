@@ -1,0 +1,277 @@
+-- What the book says of the names after a phase.
+use Rattle.std.proofs.Common.{◌≡◌, ℕ, ◌<◌, ◌≤◌, ◌==◌, ◌||◌, ◌⊎◌, Bool, true, false, if◌then◌else◌, inl, inr, List, [], ◌∷◌, ◌++◌, length, get_or, refl, ap, sym, ◌∙◌, subst, arith}
+use Rattle.std.proofs.lemmas.Bool.{eq-eqb, false≢true}
+use Rattle.pas_profile.specs.declared.profile.Profile.{Profile}
+use Rattle.pas_steps.specs.Desks.{Standing}
+use Rattle.pas_trace.specs.EveryPlan.{is_asked, asked_after, asked_by, AreSound, IsActorOf}
+use Rattle.pas_trace.specs.declared.plan.What.{What}
+use Rattle.pas_trace.specs.declared.plan.What.TheVariants.{Alloc, Free, Raw, Flush, Stop, Tick, Pass, Idle}
+use Rattle.pas_trace.specs.declared.plan.Op.{Op}
+use Rattle.pas_answers.specs.Acts.{Act, Operates, Settles, Ticks, MakesPass, ReadsEpoch, StopsIdle, MarksPhase, Wakes, MarksClose, Ends, is_active, idle_threads, idle_stops, acts_of_what, acts_of_op, acts_of_ops}
+use Rattle.pas_answers.specs.Answers.{Named, standing_for, Progress}
+use Rattle.pas_answers.specs.Calls.{block_behind, HasTurn, AreKnown}
+use Rattle.pas_answers.specs.Fit.{IsBelow, AreBelow}
+use Rattle.pas_answers.specs.Names.{block_named, names_held}
+use Rattle.pas_answers.specs.declared.names.Names.{Names}
+use Rattle.pas_threads.specs.Shares.{own_acts, owner_in, IsWoven, AreAmong, IsRequestOf, NoneAsks, asked_after_act, asked_after_acts, OnlyAsked}
+use Rattle.pas_threads.specs.NameBooks.{requests_in, name_asked, name_asked_by, names_asked, names_of, AreWithin, NamesAt}
+use Rattle.pas_threads.specs.Taken.{HasRequest, HasTaken, HandsOver}
+use Rattle.pas_threads.specs.Works.{Later, Works}
+use Rattle.pas_threads.specs.Hands.{kept_by}
+use Rattle.pas_threads.specs.declared.names.NameBook.{NameBook}
+use Rattle.pas_threads.specs.declared.workers.Worker.{Worker}
+use Rattle.pas_threads.proofs.KnownAfter.{are_known}
+use Rattle.pas_threads.proofs.Noting.{asks, asks_more}
+use Rattle.pas_threads.proofs.NamesBefore.{sound_front, sound_back, below_back}
+
+-- ---- what acts ask for
+or_right : (s t : Bool) → t ≡ true → s || t ≡ true
+or_right true t is = refl
+or_right false t is = is
+
+or_either : (s t : Bool) → s || t ≡ true → (s ≡ true) ⊎ (t ≡ true)
+or_either true t is = inl refl
+or_either false t is = inr is
+
+-- a name that was asked for stays so
+kept_what : (what : What) (asked : List ℕ) (n : ℕ) → is_asked asked n ≡ true → is_asked (asked_after what asked) n ≡ true
+kept_what (Alloc name heap size align) asked n is = or_right (name == n) (is_asked asked n) is
+kept_what (Free name) asked n is = is
+kept_what (Raw block) asked n is = is
+kept_what Flush asked n is = is
+kept_what Stop asked n is = is
+kept_what (Tick epoch) asked n is = is
+kept_what Pass asked n is = is
+kept_what (Idle m) asked n is = is
+
+kept_act : (act : Act) (asked : List ℕ) (n : ℕ) → is_asked asked n ≡ true → is_asked (asked_after_act act asked) n ≡ true
+kept_act (Operates op) asked n is = kept_what op.what asked n is
+kept_act (Settles k) asked n is = is
+kept_act (Ticks epoch) asked n is = is
+kept_act MakesPass asked n is = is
+kept_act ReadsEpoch asked n is = is
+kept_act (StopsIdle k m) asked n is = is
+kept_act (MarksPhase m) asked n is = is
+kept_act (Wakes k) asked n is = is
+kept_act MarksClose asked n is = is
+kept_act (Ends k) asked n is = is
+
+kept_acts : (acts : List Act) (asked : List ℕ) (n : ℕ) → is_asked asked n ≡ true → is_asked (asked_after_acts acts asked) n ≡ true
+kept_acts [] asked n is = is
+kept_acts (act ∷ acts) asked n is = kept_acts acts (asked_after_act act asked) n (kept_act act asked n is)
+
+-- the names that acts ask for were asked for after them
+new_what : (what : What) (asked ns : List ℕ) (n : ℕ) → is_asked (name_asked what ++ ns) n ≡ true → (is_asked (asked_after what asked) n ≡ true) ⊎ (is_asked ns n ≡ true)
+new_what (Alloc name heap size align) asked ns n is = elim (or_either (name == n) (is_asked ns n) is) [
+  | inl here ↦ inl (ap (λ (t : Bool). t || is_asked asked n) here)
+  | inr later ↦ inr later
+]
+new_what (Free name) asked ns n is = inr is
+new_what (Raw block) asked ns n is = inr is
+new_what Flush asked ns n is = inr is
+new_what Stop asked ns n is = inr is
+new_what (Tick epoch) asked ns n is = inr is
+new_what Pass asked ns n is = inr is
+new_what (Idle m) asked ns n is = inr is
+
+new_act : (act : Act) (asked ns : List ℕ) (n : ℕ) → is_asked (name_asked_by act ++ ns) n ≡ true → (is_asked (asked_after_act act asked) n ≡ true) ⊎ (is_asked ns n ≡ true)
+new_act (Operates op) asked ns n is = new_what op.what asked ns n is
+new_act (Settles k) asked ns n is = inr is
+new_act (Ticks epoch) asked ns n is = inr is
+new_act MakesPass asked ns n is = inr is
+new_act ReadsEpoch asked ns n is = inr is
+new_act (StopsIdle k m) asked ns n is = inr is
+new_act (MarksPhase m) asked ns n is = inr is
+new_act (Wakes k) asked ns n is = inr is
+new_act MarksClose asked ns n is = inr is
+new_act (Ends k) asked ns n is = inr is
+
+asked_then : (acts : List Act) (asked : List ℕ) (n : ℕ) → is_asked (names_asked acts) n ≡ true → is_asked (asked_after_acts acts asked) n ≡ true
+asked_then [] asked n is = absurd (false≢true is)
+asked_then (act ∷ acts) asked n is = elim (new_act act asked (names_asked acts) n is) [
+  | inl here ↦ kept_acts acts (asked_after_act act asked) n here
+  | inr later ↦ asked_then acts (asked_after_act act asked) n later
+]
+
+-- ---- the acts of a phase
+after_both : (xs ys : List Act) (asked : List ℕ) → asked_after_acts (xs ++ ys) asked ≡ asked_after_acts ys (asked_after_acts xs asked)
+after_both [] ys asked = refl
+after_both (x ∷ xs) ys asked = after_both xs ys (asked_after_act x asked)
+
+after_stops : (m : ℕ) (idle asked : List ℕ) → asked_after_acts (idle_stops m idle) asked ≡ asked
+after_stops m [] asked = refl
+after_stops m (k ∷ idle) asked = after_stops m idle asked
+
+after_op : (idle : List ℕ) (op : Op) (what : What) (asked : List ℕ) → op.what ≡ what → asked_after_acts (acts_of_what idle op what) asked ≡ asked_after what asked
+after_op idle op (Alloc name heap size align) asked is = ap (λ (w : What). asked_after w asked) is
+after_op idle op (Free name) asked is = ap (λ (w : What). asked_after w asked) is
+after_op idle op (Raw block) asked is = ap (λ (w : What). asked_after w asked) is
+after_op idle op Flush asked is = ap (λ (w : What). asked_after w asked) is
+after_op idle op Stop asked is = ap (λ (w : What). asked_after w asked) is
+after_op idle op (Tick epoch) asked is = refl
+after_op idle op Pass asked is = refl
+after_op idle op (Idle m) asked is = after_stops m idle asked
+
+after_ops : (idle : List ℕ) (ops : List Op) (asked : List ℕ) → asked_after_acts (acts_of_ops idle ops) asked ≡ asked_by asked ops
+after_ops idle [] asked = refl
+after_ops idle (op ∷ ops) asked = after_both (acts_of_op idle op) (acts_of_ops idle ops) asked
+    ∙ ap (λ (ns : List ℕ). asked_after_acts (acts_of_ops idle ops) ns) (after_op idle op op.what asked refl) ∙ after_ops idle ops (asked_after op.what asked)
+
+-- ---- none of them asks for a name that no thread asks for
+none_both : (n : ℕ) (xs ys : List Act) → NoneAsks n xs → NoneAsks n ys → NoneAsks n (xs ++ ys)
+none_both n [] ys one two = two
+none_both n (x ∷ xs) ys one two = (one.0, none_both n xs ys one.1 two)
+
+none_stops : (n m : ℕ) (idle : List ℕ) → NoneAsks n (idle_stops m idle)
+none_stops n m [] = tt
+none_stops n m (k ∷ idle) = (λ bad. bad, none_stops n m idle)
+
+none_op : (n : ℕ) (idle : List ℕ) (op : Op) (what : What) → (IsRequestOf n op.what → ⊥) → NoneAsks n (acts_of_what idle op what)
+none_op n idle op (Alloc name heap size align) none = (none, (λ bad. bad, tt))
+none_op n idle op (Free name) none = (none, (λ bad. bad, tt))
+none_op n idle op (Raw block) none = (none, (λ bad. bad, tt))
+none_op n idle op Flush none = (none, (λ bad. bad, tt))
+none_op n idle op Stop none = (none, (λ bad. bad, tt))
+none_op n idle op (Tick epoch) none = (λ bad. bad, tt)
+none_op n idle op Pass none = (λ bad. bad, tt)
+none_op n idle op (Idle m) none = (λ bad. bad, none_stops n m idle)
+
+-- who asks for a name is a thread, and has it among its own
+asks_own : (f : Profile) (n k : ℕ) (what : What) → IsActorOf f what k → IsRequestOf n what → (1 ≤ k) × (is_asked (name_asked what) n ≡ true)
+asks_own f n k (Alloc name heap size align) actor is = (actor.0, ap (λ (t : Bool). t || false) (eq-eqb name n is))
+asks_own f n k (Free name) actor is = absurd is
+asks_own f n k (Raw block) actor is = absurd is
+asks_own f n k Flush actor is = absurd is
+asks_own f n k Stop actor is = absurd is
+asks_own f n k (Tick epoch) actor is = absurd is
+asks_own f n k Pass actor is = absurd is
+asks_own f n k (Idle m) actor is = absurd is
+
+front_asked : (ms ns : List ℕ) (n : ℕ) → is_asked ms n ≡ true → is_asked (ms ++ ns) n ≡ true
+front_asked [] ns n is = absurd (false≢true is)
+front_asked (m ∷ ms) ns n is = elim (or_either (m == n) (is_asked ms n) is) [
+  | inl here ↦ ap (λ (t : Bool). t || is_asked (ms ++ ns) n) here
+  | inr later ↦ or_right (m == n) (is_asked (ms ++ ns) n) (front_asked ms ns n later)
+]
+
+back_asked : (ms ns : List ℕ) (n : ℕ) → is_asked ns n ≡ true → is_asked (ms ++ ns) n ≡ true
+back_asked [] ns n is = is
+back_asked (m ∷ ms) ns n is = or_right (m == n) (is_asked (ms ++ ns) n) (back_asked ms ns n is)
+
+none_ask : (f : Profile) (n : ℕ) (idle asked : List ℕ) (ops : List Op) → AreSound f asked ops → ((k : ℕ) → 1 ≤ k → is_asked (asks k ops) n ≡ true → ⊥) → NoneAsks n (acts_of_ops idle ops)
+none_ask f n idle asked [] sound none = tt
+none_ask f n idle asked (op ∷ ops) sound none =
+    let first = λ (k : ℕ). if op.actor == k then name_asked op.what else [] in
+    none_both n (acts_of_op idle op) (acts_of_ops idle ops)
+    (none_op n idle op op.what (λ is.
+        let k = op.actor in
+        let own = asks_own f n k op.what sound.0 is in
+        let mine = ap (λ (t : Bool). if t then name_asked op.what else []) (eq-eqb k k refl) in
+        none k own.0 (ap (λ (ns : List ℕ). is_asked ns n) (asks_more k op ops ∙ ap (λ (ns : List ℕ). ns ++ asks k ops) mine) ∙ front_asked (name_asked op.what) (asks k ops) n own.1)))
+    (none_ask f n idle (asked_after op.what asked) ops sound.2 (λ k some is. none k some (ap (λ (ns : List ℕ). is_asked ns n) (asks_more k op ops) ∙ back_asked (first k) (asks k ops) n is)))
+
+-- a thread that asks for a name has an operation in the phase
+active_if : (t s : Bool) (ms ns : List ℕ) (n : ℕ) → (is_asked ns n ≡ true → s ≡ true) → is_asked ((if t then ms else []) ++ ns) n ≡ true → t || s ≡ true
+active_if true s ms ns n rest is = refl
+active_if false s ms ns n rest is = rest is
+
+active_asks : (k : ℕ) (ops : List Op) (n : ℕ) → is_asked (asks k ops) n ≡ true → is_active ops k ≡ true
+active_asks k [] n is = absurd (false≢true is)
+active_asks k (op ∷ ops) n is = active_if (op.actor == k) (is_active ops k) (name_asked op.what) (asks k ops) n (active_asks k ops n) (ap (λ (ns : List ℕ). is_asked ns n) (sym (asks_more k op ops)) ∙ is)
+
+-- ---- what a worker hands over
+pub hands_over : {f : Profile} {phase : List Op} {book : NameBook} {k : ℕ} {σ σ' : Standing} {later : Later} {p : Progress} (old new : Worker) (names : List Named) → (did : Works f k (own_acts k phase) [] σ σ' (kept_by book old) (kept_by book new) later p)
+    → requests_in old.requests ≡ [] → AreAmong did.reached.names names → HandsOver phase book k new names
+hands_over {f} {phase} {book} {k} {p = p} old new names did none among =
+    let noted = did.noted ∙ ap (λ (rs : List Named). names_of rs ++ names_asked (own_acts k phase)) none in
+    let knows = did.stands.names in
+    record {
+      noted = noted;
+      says = λ n has.
+          let mine = ap (λ (ns : List ℕ). is_asked ns n) (sym noted) ∙ has in
+          let known = are_known f (own_acts k phase) [] p did.reached did.reaches (λ m is. absurd (false≢true is)) n (asked_then (own_acts k phase) [] n mine) in
+          let block = knows.tells n ∙ ap block_behind known.1 in
+          (known.0, among n known.0 known.1, block, subst HasTurn block (knows.turns n));
+    }
+
+-- a worker with no operation in the phase hands over nothing
+pub hands_nothing : {phase : List Op} {book : NameBook} {k : ℕ} (worker : Worker) (names : List Named) → requests_in worker.requests ≡ [] → own_acts k phase ≡ [] → HandsOver phase book k worker names
+hands_nothing {phase} {book} {k} worker names none idle = record {
+  noted = ap names_of none ∙ ap names_asked (sym idle);
+  says = λ n has. absurd (false≢true (ap (λ (rs : List Named). is_asked (names_of rs) n) (sym none) ∙ has));
+}
+
+-- the names of its requests are below the limit
+within_if : (t : Bool) (limit : ℕ) (what : What) (ns : List ℕ) → IsBelow limit what → AreWithin limit ns → AreWithin limit ((if t then name_asked what else []) ++ ns)
+within_if true limit (Alloc name heap size align) ns below within = (below, within)
+within_if true limit (Free name) ns below within = within
+within_if true limit (Raw block) ns below within = within
+within_if true limit Flush ns below within = within
+within_if true limit Stop ns below within = within
+within_if true limit (Tick epoch) ns below within = within
+within_if true limit Pass ns below within = within
+within_if true limit (Idle m) ns below within = within
+within_if false limit what ns below within = within
+
+pub names_within : (limit k : ℕ) (phase : List Op) → AreBelow limit phase → AreWithin limit (names_asked (own_acts k phase))
+names_within limit k [] below = tt
+names_within limit k (op ∷ ops) below = subst (AreWithin limit) (sym (asks_more k op ops)) (within_if (op.actor == k) limit op.what (asks k ops) below.0 (names_within limit k ops below.1))
+
+-- ---- after a phase
+some_worker : (workers : List Worker) (i : ℕ) → i < length workers → Worker
+some_worker [] i lt = absurd (omega (arith, lt))
+some_worker (w ∷ workers) i lt = w
+
+-- Each worker handed over, and each thread with an operation in the phase has one.
+module _ {f : Profile} {book : NameBook} {p q : Progress} {own : ℕ → Progress} (threads : ℕ) (phase rest : List Op) (book1 book2 : NameBook) (numbers : List ℕ) (workers : List Worker) (at : NamesAt f (phase ++ rest) book p) (are : q.names ≡ p.names)
+    (woven : IsWoven f (owner_in phase) (acts_of_ops (idle_threads threads phase) phase) at.asked q own) (noted : book1.names ≡ book.names)
+    (each : (i : ℕ) (d : Worker) → i < length workers → HandsOver phase book1 (get_or numbers i 0) (get_or workers i d) woven.reached.names)
+    (all : (k : ℕ) → 1 ≤ k → is_active phase k ≡ true → (i : ℕ) × (i < length workers) × (get_or numbers i 0 ≡ k)) (taken : HasTaken book1 book2 workers) where
+  abbrev after : List Named
+  after = woven.reached.names
+
+  -- what no request was for stands for what it did
+  stays : (n : ℕ) → ((i : ℕ) (d : Worker) → i < length workers → HasRequest (get_or workers i d) n → ⊥) → standing_for after n ≡ standing_for p.names n
+  stays n none = woven.same_names n (none_ask f n (idle_threads threads phase) at.asked phase (sound_front f at.asked phase rest at.sound) (λ k some is.
+      let who = all k some (active_asks k phase n is) in
+      let d = some_worker workers who.0 who.1 in
+      none who.0 d who.1 (ap (λ (ns : List ℕ). is_asked ns n) ((each who.0 d who.1).noted ∙ ap (λ (j : ℕ). names_asked (own_acts j phase)) who.2) ∙ is)))
+    ∙ ap (λ (ns : List Named). standing_for ns n) are
+
+  was : (n : ℕ) → block_named book1.names n ≡ block_named book.names n
+  was n = ap (λ (t : Names). block_named t n) noted
+
+  book_tells : (n : ℕ) → block_named book2.names n ≡ block_behind (standing_for after n)
+  book_tells n = elim (taken n) [
+    | inl one ↦
+        let d = some_worker workers one.0 one.1 in
+        let has = one.2 d in
+        let says = (each one.0 d one.1).says n has.0 in
+        has.1 ∙ says.2 ∙ sym (ap block_behind says.1)
+    | inr none ↦ none.1 ∙ was n ∙ at.tells n ∙ ap block_behind (sym (stays n none.0))
+  ]
+
+  book_turns : (n : ℕ) → HasTurn (block_named book2.names n)
+  book_turns n = elim (taken n) [
+    | inl one ↦
+        let d = some_worker workers one.0 one.1 in
+        let has = one.2 d in
+        let says = (each one.0 d one.1).says n has.0 in
+        subst HasTurn (sym (has.1 ∙ says.2)) says.3
+    | inr none ↦ subst HasTurn (sym (none.1 ∙ was n)) (at.turns n)
+  ]
+
+  asked_is : asked_after_acts (acts_of_ops (idle_threads threads phase) phase) at.asked ≡ asked_by at.asked phase
+  asked_is = after_ops (idle_threads threads phase) phase at.asked
+
+  pub names_after : names_held book2.names ≡ names_held book1.names → NamesAt f rest book2 woven.reached
+  names_after held = record {
+    asked = asked_by at.asked phase;
+    sound = sound_back f at.asked phase rest at.sound;
+    below = subst (λ (limit : ℕ). AreBelow limit rest) (sym (held ∙ ap names_held noted)) (below_back (names_held book.names) phase rest at.below);
+    tells = book_tells;
+    turns = book_turns;
+    known = subst (λ (ns : List ℕ). AreKnown ns after) asked_is
+        (are_known f (acts_of_ops (idle_threads threads phase) phase) at.asked q woven.reached woven.reaches (subst (λ (ns : List Named). AreKnown at.asked ns) (sym are) at.known));
+    only = subst (λ (ns : List ℕ). OnlyAsked ns after) asked_is woven.only_asked;
+  }

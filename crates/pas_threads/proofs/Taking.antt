@@ -1,0 +1,90 @@
+-- A thread's requests are taken over, from the last to the first.
+use Rattle.std.proofs.Common.{◌≡◌, ℕ, zero, suc, ◌+◌, ◌<◌, ◌==◌, ◌||◌, ◌⊎◌, inl, inr, Bool, true, false, if◌then◌else◌, List, [], ◌∷◌, map, drop, set, length, get_or, Option, Some, None, refl, ap, sym, ◌∙◌, subst, arith}
+use Rattle.std.proofs.lemmas.List.{drop_more, get_or_default, get_or-set_other}
+use Rattle.std.proofs.lemmas.Grind.{get_or-set_at}
+use Rattle.std.proofs.lemmas.Bool.{cases_eq, false≢true}
+use Rattle.pas_profile.specs.declared.name.Name.{Name}
+use Rattle.pas_trace.specs.EveryPlan.{is_asked}
+use Rattle.pas_answers.specs.Answers.{Named, standing_for}
+use Rattle.pas_answers.specs.Names.{name_in, block_named}
+use Rattle.pas_threads.specs.NameBooks.{requests_in, room_for, named_of, names_of, AreWithin, came_to, known_in}
+use Rattle.pas_threads.specs.declared.names.Request.{Request}
+use Rattle.pas_threads.specs.declared.names.NameBook.{NameBook}
+use Rattle.pas_threads.specs.declared.names.Requests.{Requests}
+use Rattle.pas_threads.specs.declared.workers.Worker.{Worker}
+use Rattle.pas_threads.specs.Taken.{HasRequest, IsEmptied}
+
+pub within_at : (limit : ℕ) (items : List Request) (i : ℕ) (d : Request) → AreWithin limit (names_of (map named_of items)) → i < length items → (get_or items i d).name < limit
+within_at limit [] i d within lt = absurd (let bad : i < 0 = lt in omega (arith, bad))
+within_at limit (r ∷ items) zero d within lt = within.0
+within_at limit (r ∷ items) (suc i) d within lt = within_at limit items i d within.1 (omega (arith, lt))
+
+take_one : (t : Bool) (block old base : Option Name) (o : Option (Option Name)) → old ≡ came_to o base → (if t then block else old) ≡ came_to (if t then Some block else o) base
+take_one true block old base o is = refl
+take_one false block old base o is = is
+
+pub took_one : (items : List Request) (i n : ℕ) (r : Request) (old new base : Option Name) → i < length items → r ≡ get_or items i r → old ≡ came_to (standing_for (map named_of (drop (i + 1) items)) n) base
+    → new ≡ (if r.name == n then name_in r.meaning else old) → new ≡ came_to (standing_for (map named_of (drop i items)) n) base
+took_one items i n r old new base lt is was sets =
+    sets ∙ take_one (r.name == n) (name_in r.meaning) old base (standing_for (map named_of (drop (i + 1) items)) n) was
+    ∙ ap (λ (x : Request). came_to (standing_for (map named_of (x ∷ drop (i + 1) items)) n) base) is ∙ ap (λ (xs : List Request). came_to (standing_for (map named_of xs) n) base) (sym (drop_more items i r lt))
+
+-- ---- all workers, one after the other
+-- a request of these has the name, and what it came to is the same whatever else is said; or none has it
+either_if : (t : Bool) (b : Option Name) (s : Bool) (o : Option (Option Name)) → ((s ≡ true) × ((x y : Option Name) → came_to o x ≡ came_to o y)) ⊎ ((s ≡ false) × (o ≡ None))
+    → ((t || s ≡ true) × ((x y : Option Name) → came_to (if t then Some b else o) x ≡ came_to (if t then Some b else o) y)) ⊎ ((t || s ≡ false) × ((if t then Some b else o) ≡ None))
+either_if true b s o rest = inl (refl, λ x y. refl)
+either_if false b s o rest = rest
+
+pub has_or_not : (rs : List Named) (n : ℕ) → ((is_asked (names_of rs) n ≡ true) × ((x y : Option Name) → came_to (standing_for rs n) x ≡ came_to (standing_for rs n) y)) ⊎ ((is_asked (names_of rs) n ≡ false) × (standing_for rs n ≡ None))
+has_or_not [] n = inr (refl, refl)
+has_or_not (r ∷ rs) n = either_if (r.name == n) r.block (is_asked (names_of rs) n) (standing_for rs n) (has_or_not rs n)
+
+-- .. as far as the workers before this place
+abbrev pub TakenUpTo : NameBook → NameBook → List Worker → ℕ → ℕ → Type 0
+TakenUpTo before after workers many n =
+    ((i : ℕ) × (i < many) × ((d : Worker) → HasRequest (get_or workers i d) n × (block_named after.names n ≡ known_in before (get_or workers i d).requests n)))
+    ⊎ (((i : ℕ) (d : Worker) → i < many → HasRequest (get_or workers i d) n → ⊥) × (block_named after.names n ≡ block_named before.names n))
+
+pub taken_more : (before now after : NameBook) (workers : List Worker) (i n : ℕ) (w : Worker) → i < length workers → ((d : Worker) → w ≡ get_or workers i d) → block_named after.names n ≡ known_in now w.requests n
+    → TakenUpTo before now workers i n → TakenUpTo before after workers (i + 1) n
+taken_more before now after workers i n w lt is takes so = elim (has_or_not (requests_in w.requests) n) [
+  | inl has ↦ inl (
+    i,
+    omega arith,
+    λ d. (subst (λ (x : Worker). HasRequest x n) (is d) has.0, takes ∙ has.1 (block_named now.names n) (block_named before.names n) ∙ ap (λ (x : Worker). known_in before x.requests n) (is d)),
+  )
+  | inr none ↦
+      let same : block_named after.names n ≡ block_named now.names n = takes ∙ ap (λ (o : Option (Option Name)). came_to o (block_named now.names n)) none.1 in
+      elim so [
+        | inl one ↦ inl (one.0, let low = one.1 in omega (arith, low), λ d. ((one.2 d).0, same ∙ (one.2 d).1))
+        | inr all ↦ inr (
+          λ j d low has. elim (cases_eq j i) [
+            | inl here ↦ false≢true (sym none.0 ∙ subst (λ (x : Worker). HasRequest x n) (sym (is d)) (subst (λ (m : ℕ). HasRequest (get_or workers m d) n) here has))
+            | inr other ↦ all.0 j d (omega (arith, low, other)) has
+          ],
+          same ∙ all.1,
+        )
+      ]
+]
+
+-- the worker with these requests
+abbrev pub with_requests : Worker → Requests → Worker
+with_requests w rs = record { pass = w.pass; cache = w.cache; requests = rs; out = w.out }
+
+pub emptied_more : (old now : List Worker) (i : ℕ) (e : Worker) (rs : Requests) → i < length now → get_or now i e ≡ get_or old i e → i < length old → requests_in rs ≡ [] → room_for rs ≡ room_for (get_or now i e).requests
+    → ((j : ℕ) (d : Worker) → j < i → IsEmptied (get_or old j d) (get_or now j d)) → (j : ℕ) (d : Worker) → j < i + 1 → IsEmptied (get_or old j d) (get_or (set now i (with_requests (get_or now i e) rs)) j d)
+emptied_more old now i e rs lt left lt' none room so j d low = elim (cases_eq j i) [
+  | inl here ↦
+      let new = with_requests (get_or now i e) rs in
+      let was = left ∙ get_or_default old i e d lt' in
+      let one : IsEmptied (get_or old i d) new = record {
+        pass = ap (λ (w : Worker). w.pass) was;
+        cache = ap (λ (w : Worker). w.cache) was;
+        out = ap (λ (w : Worker). w.out) was;
+        empty = none;
+        room = room ∙ ap (λ (w : Worker). room_for w.requests) was;
+      } in
+      subst (λ (w : Worker). IsEmptied (get_or old j d) w) (sym (get_or-set_at now i j new d here lt)) (subst (λ (m : ℕ). IsEmptied (get_or old m d) new) (sym here) one)
+  | inr other ↦ subst (λ (w : Worker). IsEmptied (get_or old j d) w) (sym (get_or-set_other now i j (with_requests (get_or now i e) rs) d other)) (so j d (omega (arith, low, other)))
+]

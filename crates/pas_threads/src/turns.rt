@@ -1,0 +1,96 @@
+//! What threads do one after the other, while nobody else makes a step: the reads of the epoch before a phase, the stops at the close, and what is
+//! gathered of them.
+ghost use Rattle.std.specs.Prelude.{◌≡◌, ◌+◌, ◌<◌, ◌≤◌, ◌++◌, ℕ, [], length, get_or};
+ghost use Rattle.pas_profile.specs.declared.profile.Profile.{Profile as TheProfile};
+ghost use Rattle.pas_report.specs.Rooms.{records_in, room_of};
+ghost use Rattle.pas_answers.specs.Answers.{Progress};
+ghost use Rattle.pas_threads.specs.Sessions.{WorkerRests, AreResting};
+ghost use Rattle.pas_threads.specs.Turns.{Woke, WokeAll, Stopped, StoppedAll, said_by_all, IsGathered};
+ghost use Rattle.pas_threads.specs.declared.workers.Worker.{Worker as TheWorker};
+
+use crate::workers::Worker;
+use pas_answers::answer_meant;
+use pas_bits::Mask4;
+use pas_report::Records;
+use pas_shared::SharedRegion;
+use pas_trace::What;
+
+/// The thread sits down, reads the epoch, and rises. One step.
+fn wake(region: &SharedRegion, worker: &mut Worker)
+    requires rests { (f : TheProfile) × (k : ℕ) × (later : ℕ) × (p : Progress) × WorkerRests region.now f k worker.old later p }
+    ensures woke { (f : TheProfile) (k later : ℕ) (p : Progress) → WorkerRests region.now f k worker.old later p → Woke region.now f k worker.old worker.new later p }
+{
+    let Some(pass) = worker.pass.take() else {
+        unreachable!();
+    };
+    let mut desk = region.desk(pass);
+    worker.cache.begin(&mut desk);
+    worker.pass = Some(desk.into_pass());
+}
+
+/// Each thread of the mask reads the epoch, in order. One step each.
+pub(crate) fn wake_all(region: &SharedRegion, threads: &mut [Worker], awake: Mask4)
+    requires few { length threads.old < 32 }
+    requires rest { (f : TheProfile) × (later : ℕ → ℕ) × (p : Progress) × AreResting region.now f threads.old later p }
+    ensures woke { (f : TheProfile) (later : ℕ → ℕ) (p : Progress) → AreResting region.now f threads.old later p → WokeAll region.now f awake threads.old threads.new later p }
+    ensures many { length threads.new ≡ length threads.old }
+{
+    for index in 0..threads.len() {
+        if awake.get(index as u8 + 1) {
+            wake(region, &mut threads[index]);
+        }
+    }
+}
+
+/// The thread sits down, is stopped, and rises. What its flush says comes to its records.
+fn stop(region: &SharedRegion, worker: &mut Worker)
+    requires rests { (f : TheProfile) × (k : ℕ) × (later : ℕ) × (p : Progress) × WorkerRests region.now f k worker.old later p }
+    ensures stopped { (f : TheProfile) (k later : ℕ) (p : Progress) → 1 ≤ k → WorkerRests region.now f k worker.old later p → Stopped region.now f k worker.old worker.new later p }
+{
+    let Some(pass) = worker.pass.take() else {
+        unreachable!();
+    };
+    let mut desk = region.desk(pass);
+    answer_meant(
+        &mut desk,
+        &mut worker.cache,
+        What::Stop,
+        None,
+        &mut worker.out,
+    );
+    worker.pass = Some(desk.into_pass());
+}
+
+/// Each thread is stopped, in order.
+pub(crate) fn stop_all(region: &SharedRegion, threads: &mut [Worker])
+    requires rest { (f : TheProfile) × (later : ℕ → ℕ) × (p : Progress) × AreResting region.now f threads.old later p }
+    ensures stopped { (f : TheProfile) (later : ℕ → ℕ) (p : Progress) → AreResting region.now f threads.old later p → StoppedAll region.now f threads.old threads.new later p }
+    ensures many { length threads.new ≡ length threads.old }
+{
+    for index in 0..threads.len() {
+        stop(region, &mut threads[index]);
+    }
+}
+
+/// What the worker said comes to the end of `out`.
+fn gather_one(worker: &mut Worker, out: &mut Records)
+    requires room { length (records_in out.old) + length (records_in worker.old.out) ≤ room_of out.old }
+    ensures added { records_in out.new ≡ records_in out.old ++ records_in worker.old.out }
+    ensures room { room_of out.new ≡ room_of out.old }
+    ensures gathered { IsGathered worker.old worker.new }
+{
+    out.append(&mut worker.out);
+}
+
+/// What the workers said comes to the end of `out`, one worker after the other.
+pub(crate) fn gather(threads: &mut [Worker], out: &mut Records)
+    requires room { length (records_in out.old) + length (said_by_all threads.old) ≤ room_of out.old }
+    ensures added { records_in out.new ≡ records_in out.old ++ said_by_all threads.old }
+    ensures room { room_of out.new ≡ room_of out.old }
+    ensures gathered { (i : ℕ) (d : TheWorker) → i < length threads.old → IsGathered (get_or threads.old i d) (get_or threads.new i d) }
+    ensures many { length threads.new ≡ length threads.old }
+{
+    for place in 0..threads.len() {
+        gather_one(&mut threads[place], out);
+    }
+}
