@@ -10,6 +10,7 @@ use Rattle.pas_trace.specs.EveryPlan.{IsSound, all_ops, own_records}
 use Rattle.pas_trace.specs.Plans.{IsPlanOf, bounds_of, ops_of, phases_of as the_phases}
 use Rattle.pas_trace.specs.declared.plan.Phase.{Phase}
 use Rattle.pas_trace.specs.declared.plan.Plan.{Plan}
+use Rattle.pas_trace.proofs.EveryPhase.{every_phase}
 use Rattle.pas_trace.proofs.EveryPlan.{every_plan}
 use Rattle.pas_report.specs.Rooms.{records_in, room_of}
 use Rattle.pas_report.specs.declared.record.Record.{Record}
@@ -127,6 +128,7 @@ owed_start f (suc n) =
     omega (arith, this, rest, more)
 
 start : {text : List ℕ} {plan : Plan} {kit : SharedKit} → IsPlanOf text plan → IsKitOf plan kit → TeamAt kit.region plan.profile (phases_of plan) kit.team at_start
+unfolding names_start
 start {text} {plan} {kit} read made =
     let f = plan.profile in
     let bounds = bounds_of plan.bounds in
@@ -142,6 +144,7 @@ start {text} {plan} {kit} read made =
       scavenger = scavenger_starts kit.region f (slice_index bounds 0) (own_records f 0 ops) made.first kit.team.scavenger made.profile (omega (arith, scavenger)) made.unused.0 made.team.scavenger;
       nobody = λ k past. refl;
       names = names_start read made.team.book;
+      frees = every_phase read;
       places = made.team.places;
     }
 
