@@ -5,3 +5,4 @@ pub mod Hands
 pub mod Lent
 pub mod Crews
 pub mod Scavengers
+pub mod Kits

@@ -3,6 +3,7 @@
 
 pub mod crew;
 pub mod gate;
+pub mod kit;
 pub mod laws;
 pub mod lending;
 pub mod own;
@@ -11,5 +12,6 @@ pub mod scavenging;
 pub mod workers;
 
 pub use gate::{Gate, OpenGate};
+pub use kit::{SharedKit, on_threads};
 pub use scavenger::Scavenger;
 pub use workers::Worker;
