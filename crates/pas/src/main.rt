@@ -40,5 +40,5 @@ fn call(rt: &HostRuntime, words: &[String]) -> Result<u8, AllocError> {
     let words: Vec<&str> = words.iter().map(|word| word.as_str()).collect(rt.alloc())?;
     let mut source = RealSource::new(rt.stdin());
     let mut sink = RealSink::new(rt.stdout());
-    Ok(pas_main(rt.alloc(), &words, &mut source, &mut sink))
+    Ok(pas_main(rt, rt.alloc(), &words, &mut source, &mut sink))
 }

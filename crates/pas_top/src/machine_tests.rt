@@ -57,7 +57,7 @@ fn is_taken(
 }
 
 /// Requests of so many bytes, one after the other, and then the frees of all.
-fn filling(alloc: Global, pages: u32, requests: u32, size: u32) -> Result<Vec<u8>, Fail> {
+pub(crate) fn filling(alloc: Global, pages: u32, requests: u32, size: u32) -> Result<Vec<u8>, Fail> {
     let mut text = Vec::new(alloc);
     let header = format!(in alloc; "pas 1 pages {pages} threads 1 heaps 1 age 2\n")?;
     text.extend_from_slice(header.as_bytes())?;

@@ -14,9 +14,9 @@ use std::sync::Wait;
 use std::test::Fail;
 use std::thread::Threads;
 
-const TRACE: &str = "pas 1 pages 4 threads 1 heaps 1 age 2\na 1 1 0 24 16\nf 1 1\n";
+pub(crate) const TRACE: &str = "pas 1 pages 4 threads 1 heaps 1 age 2\na 1 1 0 24 16\nf 1 1\n";
 
-const TRANSCRIPT: &str =
+pub(crate) const TRANSCRIPT: &str =
     "1 deed page 1 heap 0 class 32\n1 back page 1\n1 give 0x00001000 turn 0 room 32 heap 0\nclose\n1 freed 0x00001000 turn 0 epoch 0\nreport\npage 1 heap 0 class 32 live 0 free 256 stamp 0 marks backed+offered+hinted\ntotal deeds 1 backed 1 live 0 given 1 ended 1\n";
 
 const USAGE: &str = "usage: pas order | pas run | pas gen SEED OPS THREADS PAGES\n";
@@ -26,17 +26,17 @@ const SUMMARY: &str =
     "ops 12\ngive 9\nfreed 3\nended 0\nno-block 0\nno-space 0\nheld 0\nskipped 0\n";
 
 /// Room for each of the texts above.
-const ROOM: usize = 1024;
+pub(crate) const ROOM: usize = 1024;
 
 /// The status of a call, and what its sink took.
 #[derive(Debug, Drop)]
-struct Outcome {
-    status: u8,
-    taken: Vec<u8>,
+pub(crate) struct Outcome {
+    pub status: u8,
+    pub taken: Vec<u8>,
 }
 
 /// A call whose listed reads and writes fail, into so many bytes of room. The sink takes a byte a call.
-fn outcome_of(
+pub(crate) fn outcome_of(
     rt: &(impl AllocGlobal + Threads + Wait + Sync),
     words: &[&str],
     input: &[u8],
@@ -60,7 +60,7 @@ fn outcome_of(
 }
 
 /// Each write in turn fails, up to the one after the last.
-fn check_cut_off(
+pub(crate) fn check_cut_off(
     rt: &(impl Abort + AllocGlobal + Threads + Wait + Sync),
     words: &[&str],
     input: &[u8],
