@@ -13,4 +13,4 @@ overflow_cast-as_slice g c =
     omega (arith, n, m, few)
 
 pub returns : goal.returns
-returns g c = record { plan = c.in-Ok.plan; read = subst (λ bytes. IsPlanOf bytes c.in-Ok.plan) c.deref.ensures.value c.in-Ok.ensures; shows = c.in_ok-replay.ensures }
+returns g c = record { plan = c.in-Ok.plan; read = subst (λ bytes. IsPlanOf bytes c.in-Ok.plan) c.deref.ensures.value c.in-Ok.ensures; shows = c.in_ok-state.ensures }
