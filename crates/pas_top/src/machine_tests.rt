@@ -35,14 +35,12 @@ const TRACES: [&str; 20] = [
 ];
 
 /// Whether the trace is replayed, and the machine takes each event of its replay.
-fn is_taken(
-    rt: &(impl AllocGlobal + Threads + Wait + Sync),
-    text: Vec<u8>,
-) -> Result<bool, Fail> {
+fn is_taken(rt: &(impl AllocGlobal + Threads + Wait + Sync), text: Vec<u8>) -> Result<bool, Fail> {
     if text.len() > MOST_BYTES {
         return Ok(false);
     }
-    let Ok(Outcome::Replayed(records, state)) = outcome_of(rt, rt.alloc(), Manner::InOrder, text) else {
+    let Ok(Outcome::Replayed(records, state)) = outcome_of(rt, rt.alloc(), Manner::InOrder, text)
+    else {
         return Ok(false);
     };
     let mut machine = Machine::try_new(rt.alloc(), *state.profile())?;
@@ -57,7 +55,12 @@ fn is_taken(
 }
 
 /// Requests of so many bytes, one after the other, and then the frees of all.
-pub(crate) fn filling(alloc: Global, pages: u32, requests: u32, size: u32) -> Result<Vec<u8>, Fail> {
+pub(crate) fn filling(
+    alloc: Global,
+    pages: u32,
+    requests: u32,
+    size: u32,
+) -> Result<Vec<u8>, Fail> {
     let mut text = Vec::new(alloc);
     let header = format!(in alloc; "pas 1 pages {pages} threads 1 heaps 1 age 2\n")?;
     text.extend_from_slice(header.as_bytes())?;

@@ -76,14 +76,7 @@ pub(crate) fn check_cut_off(
             "after {done} bytes"
         );
     }
-    let outcome = outcome_of(
-        rt,
-        words,
-        input,
-        &[],
-        &[text.len() as u64 + 1],
-        ROOM,
-    )?;
+    let outcome = outcome_of(rt, words, input, &[], &[text.len() as u64 + 1], ROOM)?;
     assert_eq!(rt; outcome.status, status);
     assert_eq!(rt; outcome.taken.as_slice(), text);
     Ok(())

@@ -32,7 +32,11 @@ fn check_same(
     let run = outcome_of(rt, &["run"], trace, &[], &[], MORE_ROOM)?;
     assert_eq!(rt; order.status, 0, "at {trace:?}");
     assert_eq!(rt; run.status, 0, "at {trace:?}");
-    assert_eq!(rt; run.taken.as_slice(), order.taken.as_slice(), "at {trace:?}");
+    assert_eq!(rt;
+        run.taken.as_slice(),
+        order.taken.as_slice(),
+        "at {trace:?}"
+    );
     Ok(())
 }
 

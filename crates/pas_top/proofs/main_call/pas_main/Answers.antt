@@ -1,4 +1,4 @@
-use Rattle.std.proofs.Common.{refl, subst, inl, inr, arith}
+use Rattle.std.proofs.Common.{refl, subst, inl, arith}
 use Rattle.pas_io.specs.Inputs.{IsInput}
 use Rattle.pas_top.specs.Outcomes.{outcome_status, outcome_text}
 use Rattle.pas_top.specs.Calls.{IsCall, IsMisread}
