@@ -12,6 +12,15 @@ use Rattle.pas_threads.specs.declared.hands.Hand.TheVariants.{Thread, Scavenger}
 sized_if : (b t : Bool) (n m : ℕ) → b ≡ t → (if b then n else m) ≡ (if t then n else m)
 sized_if b t n m is = ap (λ (c : Bool). if c then n else m) is
 
+-- no more are in the mask than there are
+most_if : (t : Bool) (m n : ℕ) → m ≤ n → (if t then 1 + m else m) ≤ n + 1
+most_if true m n le = omega (arith, le)
+most_if false m n le = omega (arith, le)
+
+pub count_most : (mask : Mask4) (k n : ℕ) → count_in mask k n ≤ n
+count_most mask k zero = omega arith
+count_most mask k (suc n) = let rest = most_if (is_set mask k) (count_in mask (k + 1) n) n (count_most mask (k + 1) n) in omega (arith, rest)
+
 pub dealt_sizes : (mask : Mask4) (k : ℕ) (ws own lent : List Worker) → AreDealt mask k ws own lent → AreSized mask k (length ws) own lent
 dealt_sizes mask k [] own lent dealt = record { inside = ap (λ (xs : List Worker). length xs) dealt.0; outside = ap (λ (xs : List Worker). length xs) dealt.1 }
 dealt_sizes mask k (w ∷ ws) own lent (inl dealt) =

@@ -23,3 +23,5 @@ pub mod NamesOfPhases
 pub mod Equipping
 pub mod Starting
 pub mod Ending
+pub mod Ranks
+pub mod Performed

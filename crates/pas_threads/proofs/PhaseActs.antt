@@ -143,11 +143,11 @@ of_scavengers f owner idle asked (op ∷ ops) zero own sound =
     ∙ then_others (op.actor == 0) (acts_of_op idle op) (scavenger_acts idle ops)
 
 -- a thread without an operation has no act
-or_false : (s t : Bool) → s || t ≡ false → (s ≡ false) × (t ≡ false)
+pub or_false : (s t : Bool) → s || t ≡ false → (s ≡ false) × (t ≡ false)
 or_false true t is = absurd (true≢false is)
 or_false false t is = (refl, is)
 
-none_own : (k : ℕ) (ops : List Op) → is_active ops k ≡ false → own_acts k ops ≡ []
+pub none_own : (k : ℕ) (ops : List Op) → is_active ops k ≡ false → own_acts k ops ≡ []
 none_own k [] is = refl
 none_own k (op ∷ ops) is =
     let both = or_false (op.actor == k) (is_active ops k) is in
