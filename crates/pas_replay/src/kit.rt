@@ -36,7 +36,7 @@ pub struct PlainKit {
     passes: Vec<PlainPass>,
 }
 
-/// The room of each actor, from the scavenger on.
+/// The room of each actor, from the scavenger on. NoMemory where memory was wanting.
 pub fn rooms_of(
     alloc: Global,
     utility: &mut Utility,
@@ -80,7 +80,7 @@ fn places_for(
     Ok(places)
 }
 
-/// An empty cache for each of so many threads.
+/// An empty cache for each of so many threads, from thread 1 on. NoMemory where memory was wanting.
 pub fn caches_for(
     alloc: Global,
     utility: &mut Utility,

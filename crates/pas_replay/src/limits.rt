@@ -27,7 +27,7 @@ fn limit_of(ops: &[Op], least: usize) -> usize
     limit
 }
 
-/// A number above all names that the phases ask for.
+/// A number above all names that the phases ask for: the least such one. One look at each operation.
 pub fn names_limit(phases: &[Phase]) -> usize
     ensures { AllBelow result (map ops_of phases.now) }
 {

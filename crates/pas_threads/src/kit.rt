@@ -175,7 +175,8 @@ fn passes_of(team: Team, mut passes: Vec<SharedPass>) -> Vec<SharedPass>
 }
 
 impl SharedKit {
-    /// The kit of a plan. NoMemory where memory was wanting. Costs two passes over the words of the region and one over the plan.
+    /// The kit of a plan: its rooms are as large as the bounds of the plan's actors say. NoMemory where memory was wanting. Costs two passes over the words of
+    /// the region, one over the plan, and two over the numbers of its names.
     pub fn try_new(alloc: Global, plan: &Plan) -> Result<SharedKit, NoMemory>
         requires { (text : List ℕ) × IsPlanOf text plan.now }
         ensures { IfOk result (λ kit. IsKitOf plan.now kit) }
@@ -197,9 +198,12 @@ impl SharedKit {
     }
 }
 
-/// Replays the plan with each thread's operations of a phase in a thread of their own, and says what was done, phase by phase and actor by actor.
-/// The gate is called round each operation of a thread. The state of the region at the end, at which no actor holds a grain, has a right or
-/// owes anything. Takes no memory but for the threads.
+/// Replays the plan. In each phase the operations of each thread that has one are performed in a thread of the system, all at once, and those of the
+/// scavenger in another; a phase begins when the one before it is over. The records come phase by phase, and actor by actor in each. The gate is called
+/// round each operation. The result is the state of the region at the end, at which no actor holds a grain, has a right or owes anything.
+///
+/// Takes no memory. Beside the operations it costs a look at the epoch for each thread of a phase, the stop of each thread at the end, and
+/// for each phase a pass over its operations for each of its threads, and one over its records.
 pub fn on_threads<R: Threads + Wait + Sync, G: Gate + Sync>(
     rt: &R,
     plan: &Plan,
