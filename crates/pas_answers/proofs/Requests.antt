@@ -174,22 +174,22 @@ performs_given {σ} {σ'} {answer} c c' name heap size align block call is meant
       calls = call.calls;
       few = λ v rest agreed. given_few σ.seat.profile σ.seat.actor cost c c' call.steps v call.log_is (subst (λ a. MakesAtMost σ.seat.profile (AtRest σ.seat.profile c) (events_for cost a) call.steps) is call.few σ.seat.actor v rest agreed);
       answered = λ v l stood rest names means known. record {
-          answer = Ok block;
-          serves = subst (λ a. ServesRequest σ.seat.profile (wanted_for σ.seat.profile heap size align) c c' call.steps a) is call.change;
-          kinds = call.kinds;
-          ends = record {
-            of_heap = of.of_heap;
-            room = of.room;
-            placed = of.placed;
-            aligned = of.aligned;
-            of_directory = λ g inside. of.deeds.from v rest (call.calls.adds.agreed v l stood rest) g inside;
-            before = (of.events σ.seat.actor v).0;
-            events = (of.events σ.seat.actor v).1;
-            prepared = (of.events σ.seat.actor v).2;
-          };
-          said_is = refl;
-          names_are = refl;
+        answer = Ok block;
+        serves = subst (λ a. ServesRequest σ.seat.profile (wanted_for σ.seat.profile heap size align) c c' call.steps a) is call.change;
+        kinds = call.kinds;
+        ends = record {
+          of_heap = of.of_heap;
+          room = of.room;
+          placed = of.placed;
+          aligned = of.aligned;
+          of_directory = λ g inside. of.deeds.from v rest (call.calls.adds.agreed v l stood rest) g inside;
+          before = (of.events σ.seat.actor v).0;
+          events = (of.events σ.seat.actor v).1;
+          prepared = (of.events σ.seat.actor v).2;
         };
+        said_is = refl;
+        names_are = refl;
+      };
       others = λ none. absurd (let bad : named name (Some block.name) ∷ [] ≡ [] = none in cc);
     }
 
@@ -205,12 +205,12 @@ performs_refused {σ} {σ'} {answer} c c' name heap size align room call is mean
       calls = call.calls;
       few = λ v rest agreed. refused_few σ.seat.profile σ.seat.actor cost c c' call.steps v (some_cost (route_of size align) size) call.log_is (subst (λ a. MakesAtMost σ.seat.profile (AtRest σ.seat.profile c) (events_for cost a) call.steps) is call.few σ.seat.actor v rest agreed);
       answered = λ v l stood rest names means known. record {
-          answer = Err room;
-          serves = subst (λ a. ServesRequest σ.seat.profile (wanted_for σ.seat.profile heap size align) c c' call.steps a) is call.change;
-          kinds = call.kinds;
-          ends = ends σ.seat.actor v;
-          said_is = refl;
-          names_are = refl;
-        };
+        answer = Err room;
+        serves = subst (λ a. ServesRequest σ.seat.profile (wanted_for σ.seat.profile heap size align) c c' call.steps a) is call.change;
+        kinds = call.kinds;
+        ends = ends σ.seat.actor v;
+        said_is = refl;
+        names_are = refl;
+      };
       others = λ none. refl;
     }

@@ -92,8 +92,8 @@ own_fit f limit k few many (op ∷ ops) some small sound below frees =
     let t = op.actor == k in
     fit_if t f limit few op (own_acts k ops)
     (λ is.
-        let same = same_actor op.actor k is in
-        fit_what f limit op.actor few many op.what (omega (arith, some, same)) small sound.0 sound.1 below.0 (λ n free. frees.0 n same free))
+    let same = same_actor op.actor k is in
+    fit_what f limit op.actor few many op.what (omega (arith, some, same)) small sound.0 sound.1 below.0 (λ n free. frees.0 n same free))
     (own_fit f limit k (if t then asked_after op.what few else few) (asked_after op.what many) ops some (smaller_if t op.what few many small) sound.2 below.1 frees.1)
 
 -- ---- there is room for its requests

@@ -44,10 +44,10 @@ loop-op-preserved c = elim c.match-op.branch [
             ∙ counted c.args.ops.now c.loop-op.op-index past w.in-Alloc.name w.in-Alloc.heap w.in-Alloc.size w.in-Alloc.align k w.add-place.result _ c.loop-op-test.true w.in-Alloc.is here (c.loop-op.invariant.counts k);
       })
   | in_default w ↦ rw (w.self-is, w.counts-is) (record {
-        names = c.loop-op.invariant.names;
-        placed = λ k. subst (λ (ns : List ℕ). ArePlaced c.loop-op.self 0 ns) (sym (asks_same k c.args.ops.now c.loop-op.op-index past c.loop-op-test.true (no_request _ w.in_default.not-Alloc))) (c.loop-op.invariant.placed k);
-        counts = λ k. c.loop-op.invariant.counts k ∙ ap (λ (ns : List ℕ). length ns) (sym (asks_same k c.args.ops.now c.loop-op.op-index past c.loop-op-test.true (no_request _ w.in_default.not-Alloc)));
-      })
+    names = c.loop-op.invariant.names;
+    placed = λ k. subst (λ (ns : List ℕ). ArePlaced c.loop-op.self 0 ns) (sym (asks_same k c.args.ops.now c.loop-op.op-index past c.loop-op-test.true (no_request _ w.in_default.not-Alloc))) (c.loop-op.invariant.placed k);
+    counts = λ k. c.loop-op.invariant.counts k ∙ ap (λ (ns : List ℕ). length ns) (sym (asks_same k c.args.ops.now c.loop-op.op-index past c.loop-op-test.true (no_request _ w.in_default.not-Alloc)));
+  })
 ]
 
 pub returns-clause-placed : goal.returns-clause-placed
