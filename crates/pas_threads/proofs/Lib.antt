@@ -20,3 +20,4 @@ pub mod Stopping
 pub mod Gathering
 pub mod NamesBefore
 pub mod NamesOfPhases
+pub mod FreesOfPlans
