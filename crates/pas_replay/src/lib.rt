@@ -1,9 +1,9 @@
 //! The replay of a plan in the order of the text, over a plain region.
 #![tactic(auto)]
 
-mod kit;
-mod limits;
-mod order;
+pub mod kit;
+pub mod limits;
+pub mod order;
 mod seats;
 
 pub use kit::{PlainKit, in_order};

@@ -23,7 +23,7 @@ use pas_trace::{Op, Phase, What};
 const UNMARKED: u32 = 1;
 
 /// The threads that have an operation among these, by their numbers.
-fn active(ops: &[Op]) -> Mask4
+pub fn active(ops: &[Op]) -> Mask4
     ensures { (k : ℕ) → is_set result k ≡ is_active ops.now k }
 {
     let mut threads = Mask4([0; 4]);

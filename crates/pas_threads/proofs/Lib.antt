@@ -20,4 +20,6 @@ pub mod Stopping
 pub mod Gathering
 pub mod NamesBefore
 pub mod NamesOfPhases
-pub mod FreesOfPlans
+pub mod Equipping
+pub mod Starting
+pub mod Ending

@@ -11,3 +11,5 @@ pub mod Acting
 pub mod Dealing
 pub mod Sessions
 pub mod Turns
+pub mod Performing
+pub mod Kits

@@ -1,5 +1,5 @@
 -- What stands between two phases of a replay on threads.
-use Rattle.std.specs.Prelude.{ℕ, zero, suc, ◌+◌, ◌<◌, ◌≤◌, ◌≡◌, List, [], ◌++◌, length, get_or, vec_capacity}
+use Rattle.std.specs.Prelude.{ℕ, zero, suc, ◌+◌, ◌<◌, ◌≤◌, ◌≡◌, ◌^◌, List, [], ◌∷◌, ◌++◌, map, length, get_or, vec_capacity}
 use Rattle.pas_profile.specs.declared.profile.Profile.{Profile}
 use Rattle.pas_steps.specs.Lists.{part}
 use Rattle.pas_trace.specs.EveryPlan.{all_ops, own_records, records_of_ops}
@@ -11,11 +11,12 @@ use Rattle.pas_report.specs.declared.records.Records.{Records}
 use Rattle.pas_utility.specs.Outcomes.{places_of}
 use Rattle.pas_cache.specs.Caches.{cached, AtRest}
 use Rattle.pas_shared.specs.declared.region.SharedRegion.{SharedRegion}
-use Rattle.pas_answers.specs.Acts.{acts_of}
+use Rattle.pas_answers.specs.Acts.{Ends, numbers_from, acts_of, phase_acts}
 use Rattle.pas_answers.specs.Replays.{at_start}
 use Rattle.pas_answers.specs.Answers.{Progress, Follows}
 use Rattle.pas_answers.specs.Calls.{owed_events}
 use Rattle.pas_answers.specs.Ways.{OnThreads, arranged, by_actors, AreSpoken}
+use Rattle.pas_threads.specs.Shares.{Reaches}
 use Rattle.pas_threads.specs.Works.{Later, Sits}
 use Rattle.pas_threads.specs.Scavenges.{ScavengerAt}
 use Rattle.pas_threads.specs.Hands.{standing_of_pass, HasPass}
@@ -58,6 +59,8 @@ pub record HasPlaces (threads : ℕ) (team : Team) : Type 0 where
 -- The team stands where the replay came as far as p, and the phases are left.
 pub record TeamAt (region : SharedRegion) (f : Profile) (phases : List (List Op)) (team : Team) (p : Progress) : Type 0 where
   pub many : length team.threads.items ≡ f.threads
+  pub few_threads : f.threads ≤ 16
+  pub few : length (all_ops phases) < 2 ^ 32
   pub workers : AreResting region f team.threads.items (λ k. own_records f k (all_ops phases)) p
   pub scavenger : ScavengerRests region f team.scavenger (own_records f 0 (all_ops phases)) p
   pub nobody : (k : ℕ) → f.threads < k → part k p.list ≡ []
@@ -88,6 +91,31 @@ owed_by f p (suc n) = owed_events f (p.caches (suc n)) (part (suc n) p.list) + o
 -- There is room for the records that the operations of the phases that are left may make, for those of `marks` marks, and for what the threads owe.
 abbrev pub HasRoom : Profile → List (List Op) → ℕ → Records → Progress → Type 0
 HasRoom f phases marks out p = length (records_in out) + (owed_by f p f.threads + records_of_ops f (all_ops phases) + marks) ≤ room_of out
+
+-- ---- one phase
+-- The operations of a phase come next, and then those of the phases after it. The records so far end with a mark and are written.
+pub record PhaseAt (region : SharedRegion) (f : Profile) (ops : List Op) (rest : List (List Op)) (marks : ℕ) (team : Team) (out : Records) (p : Progress) : Type 0 where
+  pub team_at : TeamAt region f (ops ∷ rest) team p
+  pub marked : AreMarked f.threads p.records (records_in out)
+  pub room : HasRoom f (ops ∷ rest) marks out p
+
+-- its acts were answered, and its records are written
+pub record PhaseDone (region : SharedRegion) (f : Profile) (ops : List Op) (rest : List (List Op)) (marks : ℕ) (team : Team) (out out' : Records) (p : Progress) : Type 0 where
+  pub reached : Progress
+  pub reaches : Reaches f (phase_acts f.threads ops) p reached
+  pub team_at : TeamAt region f rest team reached
+  pub written : AreWritten f.threads reached.records (records_in out')
+  pub room : HasRoom f rest marks out' reached
+  pub size : room_of out' ≡ room_of out
+
+-- ---- the close
+-- The threads were stopped, after the mark of the close, what they said is written, and no cache has a local allocator.
+pub record CloseDone (region : SharedRegion) (f : Profile) (team : Team) (written : List Record) (p : Progress) : Type 0 where
+  pub reached : Progress
+  pub reaches : Reaches f (map Ends (numbers_from 1 f.threads)) p reached
+  pub team_at : TeamAt region f [] team reached
+  pub written_so : AreWritten f.threads reached.records written
+  pub empty : (i : ℕ) (d : Worker) → i < length team.threads.items → (cached (get_or team.threads.items i d).cache).locals ≡ []
 
 -- ---- the whole replay
 -- All phases and the close were replayed: their acts are answered, the records are written phase by phase and actor by actor, the team stands at the end, and

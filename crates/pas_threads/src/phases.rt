@@ -1,21 +1,35 @@
 //! The phases of a replay on threads, one after the other, and the close.
-ghost use Rattle.std.specs.Prelude.{◌≡◌, ◌+◌, ◌<◌, ◌^◌, [], map, length};
+ghost use Rattle.std.specs.Prelude.{◌≡◌, ◌+◌, ◌<◌, ◌^◌, ℕ, [], List, map, length};
+ghost use Rattle.pas_bits.specs.Masks.{is_set};
 ghost use Rattle.pas_profile.specs.declared.profile.Profile.{Profile as TheProfile};
 ghost use Rattle.pas_trace.specs.Plans.{ops_of};
+ghost use Rattle.pas_trace.specs.declared.plan.Op.{Op as TheOp};
 ghost use Rattle.pas_report.specs.Rooms.{records_in};
 ghost use Rattle.pas_answers.specs.Replays.{at_start};
-ghost use Rattle.pas_threads.specs.Sessions.{TeamAt, HasRoom, HasReplayed};
+ghost use Rattle.pas_answers.specs.Acts.{is_active};
+ghost use Rattle.pas_answers.specs.Answers.{Progress};
+ghost use Rattle.pas_threads.specs.Works.{Later};
+ghost use Rattle.pas_threads.specs.Performing.{IsReady, IsDone};
+ghost use Rattle.pas_threads.specs.Sessions.{AreMarked, CloseDone, PhaseAt, PhaseDone, TeamAt, HasRoom, HasReplayed};
 
+use crate::dealing::{deal, take_back};
 use crate::gate::Gate;
-use crate::hands::Hand;
+use crate::hands::{Hand, act_with};
 use crate::names::NameBook;
 use crate::scavenger::Scavenger;
-use crate::workers::Worker;
-use pas_report::Records;
+use crate::scavenging::SCAVENGER;
+use crate::turns::{gather, stop_all, wake_all};
+use crate::workers::{Worker, take_all};
+use pas_bits::Mask4;
+use pas_replay::order::active;
+use pas_report::{Record, Records};
 use pas_shared::SharedRegion;
-use pas_trace::Phase;
+use pas_trace::{Op, Phase};
 use std::sync::Wait;
 use std::thread::Threads;
+
+/// The number of the phase that begins without a mark.
+const UNMARKED: u32 = 1;
 
 /// All actors of a replay on threads, while none of them sits at the region, and what they share.
 #[derive(Drop)]
@@ -26,6 +40,75 @@ pub(crate) struct Team {
     /// Empty between two phases.
     pub(crate) hands: Vec<Hand>,
     pub(crate) book: NameBook,
+}
+
+/// The operations of a phase, by all hands at once, in as many threads of the system: the worker of each thread that has one, and the scavenger where one is
+/// its own, with the threads that have none. `awake` has the numbers of those that have one.
+fn perform_all<R: Threads + Wait + Sync, G: Gate + Sync>(
+    rt: &R,
+    region: &SharedRegion,
+    team: Team,
+    awake: Mask4,
+    ops: &[Op],
+    gate: &G,
+) -> Team
+    requires few { length ops.now < 2 ^ 32 }
+    requires awake { (k : ℕ) → is_set awake k ≡ is_active ops.now k }
+    requires ready { (f : TheProfile) × (later : ℕ → Later) × (p : Progress) × IsReady region.now f ops.now team later p }
+    ensures done { (f : TheProfile) (later : ℕ → Later) (p : Progress) → IsReady region.now f ops.now team later p → IsDone region.now f ops.now team result later p }
+{
+    let Team {
+        mut threads,
+        mut scavenger,
+        mut hands,
+        book,
+    } = team;
+    let count = threads.len() as u8;
+    deal(&mut threads, awake, &mut hands, &mut scavenger.lent);
+    let busy = awake.get(SCAVENGER);
+    let mut scavenger = act_with(rt, region, &book, &mut hands, scavenger, busy, ops, gate);
+    take_back(&mut threads, count, awake, &mut hands, &mut scavenger.lent);
+    Team {
+        threads,
+        scavenger,
+        hands,
+        book,
+    }
+}
+
+/// One phase: its threads read the epoch, its operations are performed, and what was said is gathered, actor by actor.
+fn perform_phase<R: Threads + Wait + Sync, G: Gate + Sync>(
+    rt: &R,
+    region: &SharedRegion,
+    team: Team,
+    ops: &[Op],
+    gate: &G,
+    out: &mut Records,
+) -> Team
+    requires may { (f : TheProfile) × (rest : List (List TheOp)) × (marks : ℕ) × (p : Progress) × PhaseAt region.now f ops.now rest marks team out.old p }
+    ensures done { (f : TheProfile) (rest : List (List TheOp)) (marks : ℕ) (p : Progress) → PhaseAt region.now f ops.now rest marks team out.old p → PhaseDone region.now f ops.now rest marks result out.old out.new p }
+{
+    let awake = active(ops);
+    let mut team = team;
+    wake_all(region, &mut team.threads, awake);
+    team.book.note(ops);
+    let mut team = perform_all(rt, region, team, awake, ops, gate);
+    out.append(&mut team.scavenger.out);
+    gather(&mut team.threads, out);
+    take_all(&mut team.book, &mut team.threads);
+    team
+}
+
+/// The close: each thread is stopped, and what the stops said is gathered.
+fn finish(region: &SharedRegion, team: Team, out: &mut Records) -> Team
+    requires may { (f : TheProfile) × (p : Progress) × TeamAt region.now f [] team p × AreMarked f.threads p.records (records_in out.old) × HasRoom f [] 0 out.old p }
+    ensures done { (f : TheProfile) (p : Progress) → TeamAt region.now f [] team p → AreMarked f.threads p.records (records_in out.old) → HasRoom f [] 0 out.old p
+        → CloseDone region.now f result (records_in out.new) p }
+{
+    let mut team = team;
+    stop_all(region, &mut team.threads);
+    gather(&mut team.threads, out);
+    team
 }
 
 /// Performs the phases in order, with a mark before each from the second on, and closes: a mark, and the stop of each thread. The operations of a phase are
@@ -44,6 +127,15 @@ pub(crate) fn replay<R: Threads + Wait + Sync, G: Gate + Sync>(
     ensures replayed { (f : TheProfile) → TeamAt region.now f (map ops_of phases.now) team at_start → HasRoom f (map ops_of phases.now) (length phases.now + 1) out.old at_start
         → HasReplayed region.now f (map ops_of phases.now) result (records_in out.new) }
 {
-    let _ = (rt, region, phases, gate, out);
-    team
+    let mut team = team;
+    let mut number = 0;
+    for phase in phases {
+        number += 1;
+        if number > UNMARKED {
+            out.push(Record::Phase(number));
+        }
+        team = perform_phase(rt, region, team, phase.as_slice(), gate, out);
+    }
+    out.push(Record::Close);
+    finish(region, team, out)
 }

@@ -24,9 +24,9 @@ abbrev own_by : ℕ → List ℕ → List Op → List ℕ
 own_by k asked [] = asked
 own_by k asked (op ∷ ops) = own_by k (own_after k asked op) ops
 
-own_by_both : (k : ℕ) (asked : List ℕ) (xs ys : List Op) → own_by k asked (xs ++ ys) ≡ own_by k (own_by k asked xs) ys
-own_by_both k asked [] ys = refl
-own_by_both k asked (x ∷ xs) ys = own_by_both k (own_after k asked x) xs ys
+own_both : (k : ℕ) (asked : List ℕ) (xs ys : List Op) → own_by k asked (xs ++ ys) ≡ own_by k (own_by k asked xs) ys
+own_both k asked [] ys = refl
+own_both k asked (x ∷ xs) ys = own_both k (own_after k asked x) xs ys
 
 frees_both : (k : ℕ) (asked : List ℕ) (xs ys : List Op) → FreesItsOwn k asked xs → FreesItsOwn k (own_by k asked xs) ys → FreesItsOwn k asked (xs ++ ys)
 frees_both k asked [] ys a b = b
@@ -107,13 +107,13 @@ request_own true named now t thread k name n asked is known may old =
     own_request true (t == k) name n asked is (λ yes. eq-eqb t k (sym (eqb-true k t (only_left (k == t) may)))) (λ no. absurd (cc))
 request_own false named now t thread k name n asked is known may old = own_request false (t == k) name n asked is (λ yes. absurd (cc)) (λ no. old known may)
 
-item_leaves : (i : Item) (earlier : List Item) (own : ℕ → List ℕ) → is_phase i ≡ false → HaveOwn own earlier → HaveOwn (λ k. own_by k (own k) (new_ops i earlier)) (i ∷ earlier)
-item_leaves (Allocates t q) earlier own other have k n may =
+item_own : (i : Item) (earlier : List Item) (own : ℕ → List ℕ) → is_phase i ≡ false → HaveOwn own earlier → HaveOwn (λ k. own_by k (own k) (new_ops i earlier)) (i ∷ earlier)
+item_own (Allocates t q) earlier own other have k n may =
     request_own (q.name == n) (is_named earlier n) (is_named_now earlier n) t (thread_of earlier n) k q.name n (own k) refl may.0 may.1 (λ known free. have k n (known, free))
-item_leaves NextPhase earlier own other have k n may = absurd (cc)
-item_leaves Blank earlier own other have k n may = have k n may
-item_leaves (Shares h) earlier own other have k n may = have k n may
-item_leaves i earlier own other have k n may = either_same (actor_of i == k) (own k) n (have k n may)
+item_own NextPhase earlier own other have k n may = absurd (cc)
+item_own Blank earlier own other have k n may = have k n may
+item_own (Shares h) earlier own other have k n may = have k n may
+item_own i earlier own other have k n may = either_same (actor_of i == k) (own k) n (have k n may)
 
 -- ---- item by item
 item_behind : (i : Item) (earlier : List Item) (front : List (List Op)) (last : List Op) → is_phase i ≡ false → phases_in earlier ≡ front ++ last ∷ []
@@ -135,7 +135,7 @@ after_other f i earlier other passed at =
       fronts = at.fronts;
       names = subst (λ now. AreNames now (i ∷ earlier)) (sym (asked_both before at.last news)) (item_names i earlier (asked_by before at.last) at.names);
       frees = λ k. frees_both k before at.last news (at.frees k) (item_frees f i earlier own passed at.own k);
-      own = λ k n may. subst (λ now. is_asked now n ≡ true) (sym (own_by_both k before at.last news)) (item_leaves i earlier own other at.own k n may);
+      own = λ k n may. subst (λ now. is_asked now n ≡ true) (sym (own_both k before at.last news)) (item_own i earlier own other at.own k n may);
     }
 
 after_phase : (earlier : List Item) → HasLast earlier → HasLast (NextPhase ∷ earlier)
