@@ -12,6 +12,7 @@ use Rattle.pas_trace.specs.declared.plan.Phase.{Phase}
 use Rattle.pas_trace.specs.declared.plan.Plan.{Plan}
 use Rattle.pas_trace.proofs.EveryPhase.{every_phase}
 use Rattle.pas_trace.proofs.EveryPlan.{every_plan}
+use Rattle.pas_trace.proofs.OperationCounts.{few_operations}
 use Rattle.pas_report.specs.Rooms.{records_in, room_of}
 use Rattle.pas_report.specs.declared.record.Record.{Record}
 use Rattle.pas_report.specs.declared.records.Records.{Records}
@@ -136,8 +137,11 @@ start {text} {plan} {kit} read made =
     let plans = every_plan read in
     let many = equipped_many bounds 1 made.others kit.team.threads.items made.team.workers ∙ made.many in
     let scavenger = plans.scavenger in
+    let count = few_operations read in
     record {
       many = many;
+      few_threads = plans.valid.threads;
+      few = omega (arith, count);
       workers = λ i d lt. subst (λ (n : ℕ). WorkerRests kit.region f n (get_or kit.team.threads.items i d) (own_records f n ops) at_start) (omega arith)
           (all_start kit.region f bounds 1 (λ k. own_records f k ops) made.others kit.team.threads.items made.profile made.unused.1 made.team.workers
           (λ j le. let own = plans.own (1 + j) (omega arith) (omega (arith, le, many)) in omega (arith, own)) i d lt);

@@ -14,3 +14,4 @@ mod ParsedItems
 mod OperationsOfItems
 pub mod EveryPlan
 pub mod EveryPhase
+pub mod OperationCounts

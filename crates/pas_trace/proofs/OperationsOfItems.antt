@@ -33,7 +33,7 @@ all_add op [] = refl
 all_add op (p ∷ []) = append-nil (p ++ op ∷ []) ∙ ap (λ ops. ops ++ op ∷ []) (sym (append-nil p))
 all_add op (p ∷ q ∷ phases) = ap (λ ops. p ++ ops) (all_add op (q ∷ phases)) ∙ sym (append_assoc p (all_ops (q ∷ phases)) (op ∷ []))
 
-ops_next : (i : Item) (earlier : List Item) → ops_in (i ∷ earlier) ≡ ops_in earlier ++ new_ops i earlier
+pub ops_next : (i : Item) (earlier : List Item) → ops_in (i ∷ earlier) ≡ ops_in earlier ++ new_ops i earlier
 ops_next Blank earlier = sym (append-nil (ops_in earlier))
 ops_next (Shares h) earlier = sym (append-nil (ops_in earlier))
 ops_next NextPhase earlier = all_more (phases_in earlier) ∙ sym (append-nil (ops_in earlier))
