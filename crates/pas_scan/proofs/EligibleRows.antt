@@ -1,11 +1,8 @@
 -- Rows of eligible words: their looks in order, what each shows, and the lowest page that they show.
-use Rattle.std.proofs.Common.{◌≡◌, ◌≢◌, ℕ, ◌+◌, ◌-◌, ◌*◌, ◌/◌, ◌%◌, ◌^◌, ◌<◌, ◌≤◌, ◌==◌, ◌&&◌, ◌||◌, nat_lt, Bool, true, false, not, if◌then◌else◌, List, [], ◌∷◌, ◌++◌, length, slice_index, slice_set, replicate, refl, ap, sym, ◌∙◌, subst, arith, inl, inr, true≢false, bit_and, length-append, get_or-set_same, get_or-set_other}
-use Rattle.std.specs.Int.{bit_at}
-use Rattle.std.proofs.lemmas.Bool.{cases_lt, cases_eq, cases_Bool, eq-eqb}
+use Rattle.std.proofs.Common.{◌≡◌, ◌≢◌, ℕ, ◌+◌, ◌-◌, ◌*◌, ◌/◌, ◌%◌, ◌<◌, ◌≤◌, ◌==◌, ◌&&◌, Bool, true, false, if◌then◌else◌, List, [], ◌∷◌, ◌++◌, length, slice_index, slice_set, replicate, refl, ap, sym, ◌∙◌, subst, arith, inl, inr, true≢false, length-append, get_or-set_same, get_or-set_other}
+use Rattle.std.proofs.lemmas.Bool.{cases_lt, cases_Bool, eq-eqb}
 use Rattle.std.proofs.lemmas.List.{get_or_past, get_or-replicate}
-use Rattle.std.proofs.lemmas.Nat.Bits.{bit_at_ones, bit_at_above}
 use Rattle.pas_bits.proofs.Words.{none_of_zero}
-use Rattle.pas_lanes.specs.Rows.{is_set}
 use Rattle.pas_profile.specs.Classes.{has_bit}
 use Rattle.pas_profile.specs.Directories.{IsKind, number_of, deed_word_of, deed_word_numbered}
 use Rattle.pas_profile.specs.Profiles.{IsPage}
@@ -18,10 +15,9 @@ use Rattle.pas_steps.specs.Agreement.{Agreed, Agrees, AgreesEligible}
 use Rattle.pas_steps.specs.Past.{Once}
 use Rattle.pas_steps.specs.Frames.{IsScan, OnlyScans}
 use Rattle.pas_steps.specs.Desks.{made}
-use Rattle.pas_steps.specs.declared.step.Step.{Step}
 use Rattle.pas_steps.specs.declared.step.Made.{Made}
 use Rattle.pas_steps.specs.declared.step.Step.TheVariants.{Look}
-use Rattle.pas_steps.specs.Evidence.{ReadsEligible, ZeroHere, OneHere, IsSingle}
+use Rattle.pas_steps.specs.Evidence.{ReadsEligible, ZeroHere, IsSingle}
 use Rattle.pas_steps.proofs.Past.{once_later, once_earlier}
 use Rattle.pas_scan.specs.Rows.{eligible_looks, WordReadHere, shows_page, IsLowestShown}
 use Rattle.pas_scan.specs.Scan.{IsFirstOffered}
@@ -29,7 +25,7 @@ use Rattle.pas_scan.proofs.Reading.{right_scans, scans_lack}
 use Rattle.pas_scan.proofs.Singles.{Below, below_more, single_more}
 
 -- ---- looks in order
-pub eligible_scans : (number from : ℕ) (answers : List ℕ) → OnlyScans (eligible_looks number from answers)
+eligible_scans : (number from : ℕ) (answers : List ℕ) → OnlyScans (eligible_looks number from answers)
 eligible_scans number from [] = tt
 eligible_scans number from (a ∷ more) = (IsScan.LooksEligible number (from + length more), eligible_scans number from more)
 
@@ -37,7 +33,7 @@ eligible_below : (number from : ℕ) (answers : List ℕ) → Below (from + leng
 eligible_below number from [] = tt
 eligible_below number from (a ∷ more) = (omega arith, below_more (from + length more) (from + length (a ∷ more)) (eligible_looks number from more) (omega arith) (eligible_below number from more))
 
-pub eligible_single : (number from : ℕ) (answers : List ℕ) → IsSingle (eligible_looks number from answers)
+eligible_single : (number from : ℕ) (answers : List ℕ) → IsSingle (eligible_looks number from answers)
 eligible_single number from [] = tt
 eligible_single number from (a ∷ more) = single_more (from + length more) (made (Look (Word.Eligible number (from + length more))) a) (eligible_looks number from more) (eligible_below number from more) (omega arith) (eligible_single number from more)
 
@@ -52,6 +48,12 @@ eligible_append number from (a ∷ more) earlier =
 pub row_after : (number from block : ℕ) (ys xs : List Made) (later earlier : List ℕ) → from + length earlier ≡ block → ys ≡ eligible_looks number block later → xs ≡ eligible_looks number from earlier → ys ++ xs ≡ eligible_looks number from (later ++ earlier)
 row_after number from block ys xs later earlier at order_y order_x =
     ap (λ s. s ++ xs) order_y ∙ ap (λ s. eligible_looks number block later ++ s) order_x ∙ ap (λ j. eligible_looks number j later ++ eligible_looks number from earlier) (sym at) ∙ eligible_append number from later earlier
+
+pub scans_of : (number from : ℕ) (answers : List ℕ) (steps : List Made) → steps ≡ eligible_looks number from answers → OnlyScans steps
+scans_of number from answers steps order = subst OnlyScans (sym order) (eligible_scans number from answers)
+
+pub single_of : (number from : ℕ) (answers : List ℕ) (steps : List Made) → steps ≡ eligible_looks number from answers → IsSingle steps
+single_of number from answers steps order = subst IsSingle (sym order) (eligible_single number from answers)
 
 -- ---- one word more of a row
 pub zero_row : (word : ℕ) → slice_index (replicate 8 0) word ≡ 0
@@ -143,7 +145,7 @@ pub row_one : (f : Profile) (d : Directory) (next from block end page : ℕ) (ro
 row_one f d next from block end page row answers steps v is agreed order before words within lowest =
     let a : ℕ = slice_index row (page / 64 - block) in
     let low = lowest.from_block in
-    let scans : OnlyScans steps = subst OnlyScans (sym order) (eligible_scans (number_of d) from answers) in
+    let scans : OnlyScans steps = scans_of (number_of d) from answers steps order in
     let read : Once (WordReadHere (number_of d) (page / 64) a) steps = words (page / 64) (omega (arith, low)) (omega (arith, within)) in
     let bit : has_bit a (page % 64) ≡ true = sym (shown_bit row block page low) ∙ lowest.shown in
     record {

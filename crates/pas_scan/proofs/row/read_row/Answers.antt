@@ -1,7 +1,6 @@
-use Rattle.std.proofs.Common.{◌≡◌, ◌∙◌, ◌∷◌, [], ◌-◌, refl, sym, subst, arith, rules}
+use Rattle.std.proofs.Common.{◌∙◌, ◌∷◌, [], ◌-◌, refl, subst, arith, rules}
 use Rattle.pas_profile.specs.Directories.{number_of}
 use Rattle.pas_profile.specs.declared.word.Word.TheVariants as Word
-use Rattle.pas_steps.specs.declared.step.Made.{Made}
 use Rattle.pas_steps.specs.declared.step.Step.TheVariants.{Look}
 use Rattle.pas_steps.specs.Desks.{Makes, made}
 use Rattle.pas_steps.proofs.Adding.{adds_none, adds_step}
