@@ -52,6 +52,10 @@ pub record ReadsRow (d : Directory) (block end : ℕ) (desk desk' : Standing) (r
 abbrev pub row_end : Profile → ℕ → ℕ
 row_end f page = min (8 * (page / 512 + 1)) (f.pages / 64 + 1)
 
+-- a row of a region of so many pages has so many words at most
+abbrev pub row_words : ℕ → ℕ
+row_words pages = min 8 (pages / 64 + 1)
+
 -- the words from that of `next` on up to the end of the row of this page
 abbrev pub words_to : Profile → ℕ → ℕ → ℕ
 words_to f next page = row_end f page - next / 64
