@@ -1,7 +1,6 @@
 //! A region of which the last page alone is offered.
-ghost use Rattle.std.specs.Prelude.{◌≡◌, ◌≤◌, [], All, IfOk, vec_len};
+ghost use Rattle.std.specs.Prelude.{IfOk};
 ghost use Rattle.pas_profile.specs.Profiles.{IsDirectoryOf};
-ghost use Rattle.pas_profile.specs.Rooms.{shown, size_of_room};
 ghost use Rattle.pas_steps.specs.Desks.{Anything, CanCall};
 ghost use Rattle.pas_plain.specs.Seats.{standing_of};
 
@@ -27,27 +26,17 @@ const PROFILE: Profile = Profile {
     shared: 0,
 };
 
-/// A room for one event for each actor.
-fn rooms(alloc: Global) -> Result<Vec<EventRoom>, NoMemory>
-    ensures count { IfOk result (λ rooms. vec_len rooms ≡ 2) }
-    ensures empty { IfOk result (λ rooms. All (λ room. shown room ≡ []) rooms.items) }
-    ensures size { IfOk result (λ rooms. All (λ room. size_of_room room ≡ 1) rooms.items) }
-{
-    let Ok(mut rooms) = Vec::with_capacity(alloc, 2) else {
-        return Err(NoMemory);
-    };
-    for _index in 0..2 {
-        rooms.push_reserved(EventRoom::try_new(alloc, 1)?);
-    }
-    Ok(rooms)
-}
-
 /// A desk at such a region.
 pub fn last_offered(alloc: Global) -> Result<PlainDesk, NoMemory>
     ensures can { IfOk result (λ desk. CanCall (standing_of desk) Anything) }
     ensures directory { IfOk result (λ desk. IsDirectoryOf (standing_of desk).seat.profile DIRECTORY) }
 {
-    let (region, mut passes) = PlainRegion::try_new(alloc, PROFILE, rooms(alloc)?)?;
+    let Ok(mut rooms) = Vec::with_capacity(alloc, 2) else {
+        return Err(NoMemory);
+    };
+    rooms.push_reserved(EventRoom::try_new(alloc, 1)?);
+    rooms.push_reserved(EventRoom::try_new(alloc, 1)?);
+    let (region, mut passes) = PlainRegion::try_new(alloc, PROFILE, rooms)?;
     let Some(pass) = passes.pop() else {
         return Err(NoMemory);
     };
