@@ -1,5 +1,6 @@
 -- The lowest place of a mask as the lowest run that fits.
-use Rattle.std.proofs.Common.{◌≡◌, ℕ, arith}
+use Rattle.std.proofs.Common.{◌≡◌, ℕ, arith, sym, ◌∙◌, true≢false}
+use Rattle.pas_lanes.specs.Rows.{IsEmpty}
 use Rattle.pas_profile.specs.Runs.{in_run}
 use Rattle.pas_profile.proofs.Runs.{run_of, first_of_run}
 use Rattle.pas_bits.specs.declared.mask.Mask4.{Mask4}
@@ -17,6 +18,11 @@ module _ (wanted : Wanted) (mask : Mask4) (is : IsWanted wanted) where
     none = λ g fits. none g (place_of g fits);
     used = λ all. none 0 (record { aligned = grind arith; within = let n = is.grains.1 in omega (arith, n); set = λ x low high. let n = is.grains.1 in all x (omega (arith, high, n)) });
   }
+
+  -- no grain is free
+  pub empty_fits : IsEmpty mask.0 → IsUnfit (runs wanted) (is_set mask)
+  empty_fits empty = none_fits (λ g place.
+      let some = is.grains.0 in absurd (true≢false (sym (place.set g (omega arith) (omega (arith, some))) ∙ empty g)))
 
   pub lowest_fits : (first : ℕ) (grains : Mask4) → IsLowestPlace mask wanted.grains wanted.align 256 first → ((g : ℕ) → is_set grains g ≡ in_run first wanted.grains g) → IsChosen (runs wanted) (is_set mask) first grains
   lowest_fits first grains lowest run =

@@ -19,7 +19,8 @@ use pas_steps::Desk;
 ///
 /// The room is a multiple of 16, from 16 to 2,048. `NoSpace` and `Held` come as the search of the heap's bit-fit pages gives them. At most two
 /// events where the deed of each page is known, and three otherwise. A page's turn takes at most 15 steps, the search of
-/// `n` pages at most `19 n + 98` and 66 more for each 64 of them, and the block and the leave 13 more.
+/// `n` pages at most `(18 + w) n + 81` and 66 more for each 64 of them, where `w` is the lesser of 8 and `n / 64 + 1`, and the block and the
+/// leave 13 more. A page none of whose grains is free is left with no search for a run.
 pub fn alloc<D: Desk>(desk: &mut D, heap: u8, room: u32, align: u32) -> Result<Block, NoRoom>
     requires directory { IsDirectoryOf (D.standing desk.old).seat.profile (bitfit_directory heap) }
     requires room { (16 ≤ room) × (room ≤ 2048) × (room % 16 ≡ 0) }

@@ -1,6 +1,7 @@
 //! The lowest run of free grains that fits.
 use pas_bits::Mask4;
 use pas_choice::{Choosing, Chosen, serve_chosen};
+use pas_lanes::all_zero;
 use pas_profile::Directory;
 use pas_search::Serving;
 use pas_steps::Desk;
@@ -19,8 +20,12 @@ impl Choosing for Wanted {
 
     ghost choice = { λ wanted. runs wanted };
 
-    /// The lowest run that fits, by its first grain. Looks at most twice at the four words for each run of free grains.
+    /// The lowest run that fits, by its first grain. Looks at most twice at the four words for each run of free grains, and once where none is
+    /// free.
     fn choose(&self, free: &Mask4) -> Option<Chosen<u8>> {
+        if all_zero(&free.0) {
+            return None;
+        }
         let first = free.first_run(self.grains, self.align)?;
         Some(Chosen {
             found: first,

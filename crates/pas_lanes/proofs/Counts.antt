@@ -35,6 +35,10 @@ pub before_most : (words : List ℕ) (word : ℕ) → count_before words word �
 unfolding count_before
 before_most words word = count_most (64 * word) (is_set words)
 
+pub set_most : (words : List ℕ) → set_count words ≤ 64 * length words
+unfolding set_count
+set_most words = count_most (64 * length words) (is_set words)
+
 -- ---- one more word
 next_word : (words : List ℕ) (word k : ℕ) → k ≡ 64 → WordsFit words → count_below (k * (word + 1)) (is_set words) ≡ count_below (k * word) (is_set words) + count_ones (slice_index words word)
 next_word words word k width fits =

@@ -18,8 +18,8 @@ use pas_steps::Desk;
 /// three slots after it as far as they are free without a break. The page's right is left at once.
 ///
 /// `NoSpace` and `Held` come as the search of the heap's shared pages gives them. At most one event where the deed of each page is known, and
-/// two otherwise. A page's turn takes at most 15 steps, the search of `n` pages at most `19 n + 98` and 66 more for each 64 of them, and the
-/// leave 11 more.
+/// two otherwise. A page's turn takes at most 15 steps, the search of `n` pages at most `(18 + w) n + 81` and 66 more for each 64 of them, where
+/// `w` is the lesser of 8 and `n / 64 + 1`, and the leave 11 more.
 pub fn refill<D: Desk>(desk: &mut D, heap: u8, class: u8) -> Result<Slots, NoRoom>
     requires class { IsClass class }
     requires directory { IsDirectoryOf (D.standing desk.old).seat.profile (shared_directory heap) }

@@ -1,10 +1,11 @@
 -- Counts and sums below a number: one more, and how great they may be.
-use Rattle.std.proofs.Common.{◌≡◌, ℕ, zero, suc, ◌+◌, ◌*◌, ◌/◌, ◌%◌, ◌^◌, ◌<◌, Bool, if◌then◌else◌, refl, ap, sym, ◌∙◌, arith, add-one}
+use Rattle.std.proofs.Common.{◌≡◌, ℕ, zero, suc, ◌+◌, ◌/◌, ◌%◌, ◌<◌, ◌≤◌, Bool, if◌then◌else◌, [], ◌∷◌, slice_index, refl, ap, arith, add-one}
 use Rattle.pas_report.specs.Reports.{grains_that}
-use Rattle.std.specs.Int.RustNames.{count_ones}
+use Rattle.pas_lanes.specs.Rows.{set_count}
+use Rattle.pas_lanes.proofs.Counts.{set_most}
 use Rattle.pas_profile.specs.Classes.{has_bit}
 use Rattle.pas_profile.specs.Runs.{count_below}
-use Rattle.pas_profile.proofs.Counts.{count_suc, count_same, count_add, ones_counted}
+use Rattle.pas_profile.proofs.Counts.{count_suc, count_same}
 use Rattle.pas_machine.specs.Totals.{sum_below}
 
 -- ---- one more
@@ -30,14 +31,17 @@ pub grains_same : (p q : ℕ → Bool) → ((b : ℕ) → b < 256 → p b ≡ q 
 unfolding grains_that
 grains_same p q same = count_same 256 p q same
 
--- one word more of 64 bits
-pub word_more : (v : ℕ → ℕ) (i word counted k : ℕ) → k ≡ 64 → word ≡ v i → word < 2 ^ k → counted ≡ count_below (64 * i) (λ b. has_bit (v (b / 64)) (b % 64))
-    → counted + count_ones word ≡ count_below (64 * (i + 1)) (λ b. has_bit (v (b / 64)) (b % 64))
-word_more v i word counted k width is small before =
-    let p : ℕ → Bool = λ b. has_bit (v (b / 64)) (b % 64) in
-    let parts : 64 * (i + 1) ≡ 64 * i + k = omega arith in
-    let bits : count_below k (λ b. has_bit (v ((64 * i + b) / 64)) ((64 * i + b) % 64)) ≡ count_below k (has_bit word) = count_same k _ _ (λ b h.
-    let at : (64 * i + b) / 64 ≡ i = omega arith in
-    let bit : (64 * i + b) % 64 ≡ b = omega arith in
-    (λ t. has_bit (v (at t)) (bit t)) ∙ ap (λ w. has_bit w b) (sym is)) in
-    omega (arith, before, ones_counted k word small, bits, ap (λ n. count_below n (λ b. has_bit (v (b / 64)) (b % 64))) parts, count_add (64 * i) k (λ b. has_bit (v (b / 64)) (b % 64)))
+-- ---- the four free words of a page as a row
+pub few_in_four : (n a b c d : ℕ) → n ≡ set_count (a ∷ b ∷ c ∷ d ∷ []) → n ≤ 256
+few_in_four n a b c d is = let most = set_most (a ∷ b ∷ c ∷ d ∷ []) in omega (arith, is, most)
+
+four_words : (v : ℕ → ℕ) (a b c d : ℕ) → a ≡ v 0 → b ≡ v 1 → c ≡ v 2 → d ≡ v 3 → (word : ℕ) → word < 4 → slice_index (a ∷ b ∷ c ∷ d ∷ []) word ≡ v word
+four_words v a b c d first second third fourth zero few = first
+four_words v a b c d first second third fourth (suc zero) few = second
+four_words v a b c d first second third fourth (suc (suc zero)) few = third
+four_words v a b c d first second third fourth (suc (suc (suc zero))) few = fourth
+four_words v a b c d first second third fourth (suc (suc (suc (suc n)))) few = absurd (omega arith)
+
+pub four_counted : (v : ℕ → ℕ) (a b c d : ℕ) → a ≡ v 0 → b ≡ v 1 → c ≡ v 2 → d ≡ v 3 → set_count (a ∷ b ∷ c ∷ d ∷ []) ≡ grains_that (λ g. has_bit (v (g / 64)) (g % 64))
+unfolding set_count grains_that
+four_counted v a b c d first second third fourth = count_same 256 _ _ (λ g h. ap (λ w. has_bit w (g % 64)) (four_words v a b c d first second third fourth (g / 64) (omega (arith, h))))

@@ -4,6 +4,7 @@ ghost use Rattle.pas_profile.specs.Profiles.{IsPage};
 ghost use Rattle.pas_steps.specs.States.{profile_of};
 ghost use Rattle.pas_report.specs.Counts.{AreCounted, backed_counted, deeds_counted, ended_counted, free_counted_on, live_counted, live_counted_on};
 
+use pas_lanes::count_ones;
 use pas_profile::{Word, read_life};
 use pas_steps::State;
 
@@ -26,11 +27,13 @@ pub(crate) fn free_on(state: &State, page: u32) -> u16
     requires { IsPage (profile_of state.now) page }
     ensures { result ≡ free_counted_on state.now page }
 {
-    let mut free = 0;
-    for word in 0..4u8 {
-        free += state.word(Word::Free(page, word)).count_ones() as u16;
-    }
-    free
+    let words = [
+        state.word(Word::Free(page, 0)),
+        state.word(Word::Free(page, 1)),
+        state.word(Word::Free(page, 2)),
+        state.word(Word::Free(page, 3)),
+    ];
+    count_ones(&words) as u16
 }
 
 /// The number of pages that have a deed.

@@ -1,6 +1,8 @@
 pub mod Marking
 pub mod Singles
 pub mod Reading
+pub mod EligibleRows
+pub mod OpenPages
 pub mod Judging
 pub mod LeftPages
 pub mod PageLooks

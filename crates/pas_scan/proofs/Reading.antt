@@ -1,23 +1,18 @@
 -- One reading more.
-use Rattle.std.proofs.Common.{◌≡◌, ◌≢◌, ℕ, suc, length, ◌+◌, ◌*◌, ◌/◌, ◌%◌, ◌<◌, ◌≤◌, Bool, true, false, ◌&&◌, if◌then◌else◌, List, [], ◌∷◌, ◌++◌, refl, ap, sym, ◌∙◌, subst, arith, inl, inr, true≢false}
-use Rattle.std.proofs.lemmas.Bool.{cases_lt, cases_Bool, eq-eqb}
-use Rattle.pas_profile.specs.Classes.{has_bit}
-use Rattle.pas_profile.specs.Directories.{IsKind, number_of, deed_word_of, deed_word_numbered}
-use Rattle.pas_profile.specs.Profiles.{IsPage}
-use Rattle.pas_profile.specs.declared.directory.Directory.{Directory}
+use Rattle.std.proofs.Common.{◌≡◌, ◌≢◌, ℕ, suc, length, ◌+◌, ◌<◌, ◌≤◌, Bool, false, List, [], ◌∷◌, ◌++◌, refl, ap, sym, ◌∙◌, subst, arith, inl, inr}
+use Rattle.std.proofs.lemmas.Bool.{cases_lt}
 use Rattle.pas_profile.specs.declared.profile.Profile.{Profile}
 use Rattle.pas_profile.specs.declared.word.Word.TheVariants as Word
-use Rattle.pas_profile.proofs.Codecs.{kind_number_lt}
-use Rattle.pas_steps.specs.Views.{View, has_right, right_after, known_deed}
-use Rattle.pas_steps.specs.Agreement.{Agreed}
+use Rattle.pas_steps.specs.Views.{View, has_right, right_after}
 use Rattle.pas_steps.specs.Past.{Once}
 use Rattle.pas_steps.specs.Frames.{IsScan, OnlyScans}
 use Rattle.pas_steps.specs.Desks.{made}
 use Rattle.pas_steps.specs.declared.step.Step.{Step}
 use Rattle.pas_steps.specs.declared.step.Made.{Made}
 use Rattle.pas_steps.specs.declared.step.Step.TheVariants.{Look}
-use Rattle.pas_steps.specs.Evidence.{ReadsEligible, ReadsDeed, ZeroHere, DeedHere}
-use Rattle.pas_scan.specs.Scan.{eligible_looks, deed_looks, IsFirstOffered, IsFirstBare}
+use Rattle.pas_steps.specs.Evidence.{ReadsDeed, DeedHere}
+use Rattle.pas_scan.specs.Rows.{eligible_looks}
+use Rattle.pas_scan.specs.Scan.{deed_looks, IsFirstBare}
 
 -- ---- these looks give no right
 scan_right : (s : Step) (a p : ℕ) (had : Bool) → IsScan s → right_after s a p had ≡ had
@@ -52,39 +47,6 @@ deeds_counted from (a ∷ more) = ap (λ k. suc k) (deeds_counted from more)
 
 pub deeds_count : (from n : ℕ) (steps : List Made) (answers : List ℕ) → steps ≡ deed_looks from answers → length answers ≡ n → length steps ≡ n
 deeds_count from n steps answers order is = ap length order ∙ deeds_counted from answers ∙ is
-
--- ---- the eligible bits
--- one word more was read, whose bits below `end` are 0
-pub zero_more : (d : Directory) (next block end a : ℕ) (steps : List Made) → OnlyScans steps → ((p : ℕ) → next ≤ p → p < 64 * block → Once (ZeroHere d p) steps)
-    → ((p : ℕ) → next ≤ p → p / 64 ≡ block → p < end → has_bit a (p % 64) ≡ false) → end ≤ 64 * (block + 1)
-    → (p : ℕ) → next ≤ p → p < end → Once (ZeroHere d p) (made (Look (Word.Eligible (number_of d) block)) a ∷ steps)
-zero_more d next block end a steps scans before bits limit p low high = elim (cases_lt p (64 * block)) [
-  | inl lt ↦ inr (before p low lt)
-  | inr ge ↦ let e : p / 64 ≡ block = omega (arith, ge, high, limit) in inl (ReadsEligible.Looks (number_of d) block refl (sym e), bits p low e high, scans_lack steps p scans)
-]
-
-deed_from_number : (d : Directory) → IsKind d.kind → deed_word_numbered (number_of d) ≡ deed_word_of d
-deed_from_number d is = omega (arith, kind_number_lt d.kind is)
-
--- the first page whose bit was read as 1
-pub first_one : (f : Profile) (d : Directory) (next block page a : ℕ) (steps : List Made) (v : View) → IsKind d.kind → OnlyScans steps → ((p : ℕ) → next ≤ p → p < 64 * block → Once (ZeroHere d p) steps)
-    → next ≤ page → page / 64 ≡ block → has_bit a (page % 64) ≡ true → ((p : ℕ) → next ≤ p → p / 64 ≡ block → p < page → has_bit a (p % 64) ≡ false)
-    → Agreed f v (made (Look (Word.Eligible (number_of d) block)) a ∷ steps)
-    → IsFirstOffered f d next (made (Look (Word.Eligible (number_of d) block)) a ∷ steps) page
-first_one f d next block page a steps v is scans before low e bit bits agreed =
-    let whole : 64 * block + page % 64 ≡ page = omega (arith, e) in
-    record {
-      from_next = low;
-      of_region = subst (IsPage f) whole (agreed.0.page (page % 64) (omega arith) bit);
-      one = inl (ReadsEligible.Looks (number_of d) block refl (sym e), bit, scans_lack steps page scans);
-      lower = zero_more d next block page a steps scans before bits (omega (arith, e));
-      deed = λ w. ap (λ t. if t && has_bit a (page % 64) then deed_word_numbered (number_of d) else known_deed (steps ++ w) page) (eq-eqb block (page / 64) (sym e))
-          ∙ ap (λ t. if t then deed_word_numbered (number_of d) else known_deed (steps ++ w) page) bit ∙ deed_from_number d is;
-      lacks = λ w agreed'. sym (right_scans steps w page scans) ∙ elim (cases_Bool (has_right (steps ++ w) page)) [
-        | inl has ↦ absurd (true≢false (sym bit ∙ agreed'.0.right (page % 64) (omega arith) (ap (has_right (steps ++ w)) whole ∙ has)))
-        | inr lacks ↦ lacks
-      ];
-    }
 
 -- ---- deeds
 pub deed_more : (from page : ℕ) (steps : List Made) (a : ℕ) → ((p : ℕ) → from ≤ p → p < page → Once (DeedHere p) steps) → a ≢ 0 → (p : ℕ) → from ≤ p → p < page + 1 → Once (DeedHere p) (made (Look (Word.Deed page)) a ∷ steps)

@@ -17,6 +17,7 @@ use Rattle.pas_steps.specs.declared.step.Made.{Made}
 use Rattle.pas_steps.specs.declared.step.Step.TheVariants.{Look}
 use Rattle.pas_profile.specs.declared.word.Word.TheVariants as Word
 use Rattle.pas_scan.specs.Marks.{is_marked}
+use Rattle.pas_scan.specs.Rows.{eligible_looks, words_to}
 use Rattle.pas_steps.specs.Evidence.{ZeroHere, OneHere, DeedHere, NoDeedHere, ParkedHere, IsSingle}
 
 -- ---- the search of offered pages from page `next` on
@@ -33,13 +34,8 @@ pub record IsFirstOffered (f : Profile) (d : Directory) (next : ℕ) (steps : Li
   pub deed : (v : View) → KnowsDeed page d (steps ++ v)
   pub lacks : (v : View) → Agreed f v steps → has_right v page ≡ false
 
--- looks at the eligible words of the directory of this number from this block on, in order, with these answers, the newest first
-abbrev pub eligible_looks : ℕ → ℕ → List ℕ → List Made
-eligible_looks number block [] = []
-eligible_looks number block (a ∷ more) = made (Look (Word.Eligible number (block + length more))) a ∷ eligible_looks number block more
-
--- The eligible words from that of `next` on were read, each once and the lowest first, up to the one that shows the page, or all of them; and
--- nothing else. `next'` is where the search goes on.
+-- The eligible words from that of `next` on were read, each once and the lowest first, up to the end of the row that shows the page, or all of
+-- them; and nothing else. `next'` is where the search goes on.
 pub record FindsOffered (d : Directory) (next : ℕ) (desk desk' : Standing) (next' : ℕ) (found : Option ℕ) : Type 0 where
   pub steps : List Made
   pub adds : Adds desk desk' Anything steps
@@ -47,7 +43,7 @@ pub record FindsOffered (d : Directory) (next : ℕ) (desk desk' : Standing) (ne
   pub single : IsSingle steps
   pub answers : List ℕ
   pub order : steps ≡ eligible_looks (number_of d) (next / 64) answers
-  pub count : MatchOption found (length steps ≡ desk.seat.profile.pages / 64 + 1 - next / 64) (λ page. length steps ≡ page / 64 + 1 - next / 64)
+  pub count : MatchOption found (length steps ≡ desk.seat.profile.pages / 64 + 1 - next / 64) (λ page. length steps ≡ words_to desk.seat.profile next page)
   pub outcome : MatchOption found
       ((next' ≡ next) × NoneOffered desk.seat.profile d next steps)
       (λ page. (next' ≡ page + 1) × IsFirstOffered desk.seat.profile d next steps page)

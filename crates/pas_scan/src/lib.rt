@@ -6,6 +6,7 @@ mod bare;
 mod looked;
 mod offered;
 mod parked;
+mod row;
 mod runs;
 mod usable;
 

@@ -27,6 +27,7 @@ use Rattle.pas_profile.specs.Directories.{number_of, deed_word_of}
 use Rattle.pas_steps.specs.Calls.{Leads, AnyView, Fate, Kept, Gained, Lost, now, nothing, ClearAfter, Does, grain_fate, way_fate, right_fate, opens, later}
 use Rattle.pas_search.specs.Serving.{righted, IsUntouched, Rule, MayServe, GotBefore, right_of, served, Keeps, ReadsNoneHeld, ServeSteps, ServesPage}
 use Rattle.pas_scan.specs.Marks.{is_marked}
+use Rattle.pas_scan.specs.Rows.{row_end, row_words, words_to}
 use Rattle.pas_search.specs.Searches.{offered_steps, OfferedHere, Searching, MaySearch, FromOffered, KeepsFound, FewEvents, Finds, GoesOn, SearchesOffered, BareRoom, SearchesBare}
 use Rattle.pas_search.proofs.ForBackEnds.{events_quiet, room_after, room_kept}
 use Rattle.pas_profile.specs.Profiles.{IsPage}
@@ -278,18 +279,22 @@ module _ (f : Profile) (d : Directory) (page : ℕ) (m : Made) (ws : List Made) 
         }
 
 -- ---- how many steps are made
-offered_grows : (each : ℕ) {a b : ℕ} → a ≤ b → offered_steps each a ≤ offered_steps each b
+offered_grows : (each words : ℕ) {a b : ℕ} → a ≤ b → offered_steps each words a ≤ offered_steps each words b
 unfolding offered_steps
-offered_grows each le = let more = mul-le-mul_right (each + 2) le in omega (arith, le, more)
+offered_grows each words le = let more = mul-le-mul_right (each + words + 1) le in omega (arith, le, more)
 
 -- from the search from `next` on, which finds the page, to that from the page after it
-offered_further : (each : ℕ) {next page : ℕ} → next ≤ page → offered_steps each next + (page / 64 + 1 - next / 64) + (each + 1) ≤ offered_steps each (page + 1)
+offered_further : (each words : ℕ) {next page end : ℕ} → 1 ≤ page → next ≤ page → end ≤ page / 64 + words → offered_steps each words (next - 1) + (end - next / 64) + (each + 1) ≤ offered_steps each words page
 unfolding offered_steps
-offered_further each {next} {page} le = let more : suc next * (each + 2) ≤ (page + 1) * (each + 2) = mul-le-mul_right (each + 2) (omega (arith, le)) in omega (arith, le, more, suc-mul next (each + 2))
+offered_further each words {next} {page} {end} some le within =
+    let more : suc (next - 1) * (each + words + 1) ≤ page * (each + words + 1) = mul-le-mul_right (each + words + 1) (omega (arith, some, le)) in omega (arith, some, le, within, more, suc-mul (next - 1) (each + words + 1))
 
-pub offered_first : (each : ℕ) {next : ℕ} → next ≡ 1 → each + 2 ≤ offered_steps each next
-unfolding offered_steps
-offered_first each first = subst (λ n. each + 2 ≤ n / 64 + n * (each + 2)) (sym first) (omega arith)
+-- the search goes on from the page after this one
+few_past : (each page : ℕ) (f : Profile) (steps : List Made) → length steps ≤ offered_steps each (row_words f.pages) page → length steps ≤ offered_steps each (row_words f.pages) (page + 1 - 1)
+few_past each page f steps few = let same : page ≡ page + 1 - 1 = omega arith in subst (λ n. length steps ≤ offered_steps each (row_words f.pages) n) same few
+
+row_within : (f : Profile) (page : ℕ) → page ≤ f.pages → row_end f page ≤ page / 64 + row_words f.pages
+row_within f page le = omega (arith, le)
 
 -- ---- an offered page
 module _ {F : Type 0} (rule : Rule F) (f : Profile) (d : Directory) (page : ℕ) (marks : List ℕ) (m : Made) (ws zs : List Made) (gets : GetsRight page m.step m.answer) (quiet : IsQuiet m) (on_m : OnlyOn page (m ∷ [])) (on : OnlyOn page zs)
@@ -321,7 +326,7 @@ module _ {F : Type 0} (rule : Rule F) (f : Profile) (d : Directory) (page : ℕ)
 
   -- it was left
   pub goes_on : (marks' : List ℕ) → ((p : ℕ) → is_marked marks' p ≡ ((page == p) || is_marked marks p)) → ServeSteps rule f page d zs None → ((v : View) → MaySearch d v → Agreed f v ws → has_right v page ≡ false) → ((p : ℕ) → page ≤ p → is_marked marks p ≡ false)
-      → page ≤ f.pages → length (zs ++ (m ∷ ws)) + (rule.steps + 2) ≤ offered_steps rule.steps (page + 1) → GoesOn rule f d (page + 1) marks' (zs ++ (m ∷ ws))
+      → page ≤ f.pages → length (zs ++ (m ∷ ws)) ≤ offered_steps rule.steps (row_words f.pages) page → GoesOn rule f d (page + 1) marks' (zs ++ (m ∷ ws))
   goes_on marks' more serve lacked rest within few =
       let left = serve.outcome in let got = got_before f d page m ws gets (s.untouched page) in
       let lacking : Leads f (MaySearch d) (λ v w. IsReady page d v w × (has_right v page ≡ false)) (m ∷ ws) = record { from = λ v met agreed. (ready.from v met agreed, lacked v met agreed.1) } in
@@ -346,7 +351,7 @@ module _ {F : Type 0} (rule : Rule F) (f : Profile) (d : Directory) (page : ℕ)
         };
         rest = λ p low. others p (λ e. absurd (omega (arith, e, low))) ∙ rest p (omega (arith, low));
         within = omega (arith, within);
-        few = few;
+        few = few_past rule.steps page f (zs ++ (m ∷ ws)) few;
       }
 
 -- the search of offered pages, so far
@@ -365,16 +370,16 @@ module _ {F : Type 0} {rule : Rule F} {σ0 σ : Standing} {d : Directory} {next 
   -- all pages were searched
   pub all_offered : f.pages < next → SearchesOffered rule d σ0 σ marks None
   all_offered past = let end : next ≡ f.pages + 1 = omega (arith, past, tries.goes.within) in
-      record { steps = earlier; adds = tries.adds; searches = tries.goes.searching.searches; few = subst (λ n. length earlier ≤ offered_steps rule.steps n) end (let few = tries.goes.few in omega (arith, few)); outcome = subst (λ n. Searching rule.no_fit f d n marks earlier) end tries.goes.searching }
+      record { steps = earlier; adds = tries.adds; searches = tries.goes.searching.searches; few = let last : next - 1 ≡ f.pages = omega (arith, end) in subst (λ n. length earlier ≤ offered_steps rule.steps (row_words f.pages) n) last tries.goes.few; outcome = subst (λ n. Searching rule.no_fit f d n marks earlier) end tries.goes.searching }
 
   -- no page is offered any more
-  pub none_offered : {σ1 : Standing} {d' : Directory} → d' ≡ d → {next' : ℕ} → next ≤ f.pages → FindsOffered d' next σ σ1 next' None → SearchesOffered rule d σ0 σ1 marks None
-  none_offered {σ1} same {next'} low found =
+  pub none_offered : {σ1 : Standing} {d' : Directory} → d' ≡ d → {next' : ℕ} → 1 ≤ next → next ≤ f.pages → FindsOffered d' next σ σ1 next' None → SearchesOffered rule d σ0 σ1 marks None
+  none_offered {σ1} same {next'} some low found =
       let find : FindsOffered d next σ σ1 next' None = subst (λ x. FindsOffered x next σ σ1 next' None) same found in
       let pages : σ.seat.profile.pages ≡ f.pages = ap (λ (s : Seat). s.profile.pages) tries.adds.seat_is in
       let s : Searching rule.no_fit f d (f.pages + 1) marks (find.steps ++ earlier) = zeros_searching rule f d next marks (f.pages + 1) find.steps earlier (reads_vain find.steps (looks_read find.steps (scans_look find.steps find.scans))) tries.goes.searching
       (λ p low high. zero_before d p find.steps earlier (tries.goes.searching.untouched p).right (find.outcome.1 p low (omega (arith, high, pages)))) in
-      record { steps = find.steps ++ earlier; adds = adds_call {D = Anything} tries.adds find.adds (λ v l stood met. tt); searches = s.searches; few = omega (arith, tries.goes.few, find.count, pages, offered_further rule.steps low, length-append find.steps earlier); outcome = s }
+      record { steps = find.steps ++ earlier; adds = adds_call {D = Anything} tries.adds find.adds (λ v l stood met. tt); searches = s.searches; few = let all = offered_further rule.steps (row_words f.pages) {end = f.pages / 64 + 1} (omega (arith, some, low)) low (omega arith) in omega (arith, tries.goes.few, find.count, pages, all, length-append find.steps earlier); outcome = s }
 
   module _ {σ1 : Standing} {d' : Directory} (same : d' ≡ d) {next' page : ℕ} (found : FindsOffered d' next σ σ1 next' (Some page)) where
     pub find : FindsOffered d next σ σ1 next' (Some page)
@@ -412,8 +417,11 @@ module _ {F : Type 0} {rule : Rule F} {σ0 σ : Standing} {d : Directory} {next 
       claimed = made (TakeRight page d) a ∷ looked
 
       -- with the steps of the back end
-      few_after : (ys : List Made) → length ys ≤ rule.steps → length (ys ++ claimed) + (rule.steps + 2) ≤ offered_steps rule.steps (page + 1)
-      few_after ys short = let further = offered_further rule.steps first.from_next in omega (arith, tries.goes.few, find.count, further, short, length-append ys claimed, length-append find.steps earlier)
+      few_after : (ys : List Made) → length ys ≤ rule.steps → length (ys ++ claimed) ≤ offered_steps rule.steps (row_words f.pages) page
+      few_after ys short =
+          let counted : length find.steps ≡ words_to f next page = subst (λ (s : Seat). length find.steps ≡ words_to s.profile next page) tries.adds.seat_is find.count in
+          let further = offered_further rule.steps (row_words f.pages) {end = row_end f page} first.of_region.0 first.from_next (row_within f page first.of_region.1) in
+          omega (arith, tries.goes.few, counted, further, short, length-append ys claimed, length-append find.steps earlier)
 
       pub claim_adds : Adds σ0 σ2 (λ v l. MaySearch d v) claimed
       claim_adds = adds_call {D = λ v l. KnowsDeed page d v} (adds_call {D = Anything} tries.adds find.adds (λ v l stood met. tt)) claim (λ v l stood met. deed_at v)
@@ -431,7 +439,7 @@ module _ {F : Type 0} {rule : Rule F} {σ0 σ : Standing} {d : Directory} {next 
               (λ p low high. let same : page ≡ p = omega (arith, low, high) in inl (subst (λ q. ReadsEligible d q (TakeRight page d) × (has_bit a (q % 64) ≡ false) × (has_right looked q ≡ false)) same (ReadsEligible.Claims, bit, (at_page.untouched page).right)));
           rest = λ p low. rest_at p (omega (arith, low));
           within = let high = first.of_region.1 in omega (arith, high);
-          few = few_after [] (omega arith);
+          few = few_past rule.steps page f claimed (few_after [] (omega arith));
         }));
       }
 
@@ -453,7 +461,7 @@ module _ {F : Type 0} {rule : Rule F} {σ0 σ : Standing} {d : Directory} {next 
           found_there marks' {found} serve = let s = at_page in record {
             steps = serve.steps ++ claimed;
             adds = serve_adds (Some found) serve;
-            few = let most = few_after serve.steps serve.serves.short in let high : page + 1 ≤ f.pages + 1 = (let h = first.of_region.1 in omega (arith, h)) in let all = offered_grows rule.steps high in omega (arith, most, all);
+            few = let most = few_after serve.steps serve.serves.short in let all = offered_grows rule.steps (row_words f.pages) first.of_region.1 in omega (arith, most, all);
             searches = served_search page serve.steps claimed serve.serves.only (inl (GetsRight.Claims d a bit)) (got_search f d page (made (TakeRight page d) a) looked (GetsRight.Claims d a bit) s.searches);
             outcome = from_offered rule f d page marks (made (TakeRight page d) a) looked serve.steps (GetsRight.Claims d a bit) (λ k e. refl) (IsOnPage.Claims d, tt) serve.serves.only.on got s found (serve_at (Some found) serve) first.of_region
                 (offered_before d page find.steps earlier vain (tries.goes.searching.untouched page).right (tries.goes.searching.lacked page (rest_at page (omega arith))) first.one);

@@ -1,5 +1,5 @@
 -- What a search asks and promises.
-use Rattle.std.specs.Prelude.{ℕ, ◌+◌, ◌*◌, ◌/◌, ◌<◌, ◌≤◌, ◌≡◌, Bool, true, false, ◌⊎◌, List, ◌∷◌, ◌++◌, length, Result, MatchResult, Option, Some, MatchOption}
+use Rattle.std.specs.Prelude.{ℕ, ◌+◌, ◌-◌, ◌*◌, ◌/◌, ◌<◌, ◌≤◌, ◌≡◌, Bool, true, false, ◌⊎◌, List, ◌∷◌, ◌++◌, length, Result, MatchResult, Option, Some, MatchOption}
 use Rattle.pas_profile.specs.Profiles.{IsPage}
 use Rattle.pas_profile.specs.declared.directory.Directory.{Directory}
 use Rattle.pas_profile.specs.declared.profile.Profile.{Profile}
@@ -19,6 +19,7 @@ use Rattle.pas_steps.specs.Unknown.{KnowsAllDeeds, HasRoom}
 use Rattle.pas_steps.specs.declared.step.Made.{Made}
 use Rattle.pas_steps.specs.declared.step.Step.TheVariants.{Deed}
 use Rattle.pas_scan.specs.Marks.{is_marked}
+use Rattle.pas_scan.specs.Rows.{row_words}
 use Rattle.pas_search.specs.Kinds.{AreSearch, AreQuiet, EventsAt, deeds_made}
 use Rattle.pas_search.specs.Serving.{Rule, IsUntouched, Keeps, ShowsFit, ServeSteps}
 use Rattle.pas_search.specs.Telling.{IsTold}
@@ -41,9 +42,10 @@ pub record BareRoom (f : Profile) (n spare : ℕ) (v : View) : Type 0 where
   pub room : HasRoom f n spare v
 
 -- ---- how many steps it makes, where a back end makes `each` at most on a page
--- of the offered pages below `next`: a look at each eligible word, and for each page one look more, a claim and the back end's steps
-unfoldable pub offered_steps : ℕ → ℕ → ℕ
-offered_steps each next = next / 64 + next * (each + 2)
+-- of the offered pages up to this one: a look at each eligible word, and for each page those at the words of its row, which may be looked at
+-- again, a claim and the back end's steps
+unfoldable pub offered_steps : ℕ → ℕ → ℕ → ℕ
+offered_steps each words page = (page + 1) / 64 + page * (each + words + 1)
 
 -- of pages without a deed: a look at each deed word, a deed that another actor was first to make, and the back end's steps once
 abbrev pub bare_steps : ℕ → ℕ → ℕ
@@ -51,7 +53,7 @@ bare_steps each pages = 2 * pages + each
 
 -- of a whole search: both, and the verdict, which looks for each 64 pages at their deed words and at a parked word
 abbrev pub search_steps : ℕ → ℕ → ℕ
-search_steps each pages = offered_steps each (pages + 1) + bare_steps each pages + 65 * (pages / 64 + 1)
+search_steps each pages = offered_steps each (row_words pages) pages + bare_steps each pages + 65 * (pages / 64 + 1)
 
 -- ---- how the page was chosen
 -- its eligible bit was read as 1, and the call never had its right before
@@ -149,18 +151,18 @@ pub record Searching (no_fit : Readings → Type 0) (f : Profile) (d : Directory
   pub zeros : (p : ℕ) → 1 ≤ p → p < next → is_marked marks p ≡ false → Once (ZeroHere d p) steps
   pub lacked : (p : ℕ) → is_marked marks p ≡ false → Always (LacksAfter p) steps
 
--- and no page from `next` on is marked. The steps leave room for those on one page more.
+-- and no page from `next` on is marked
 pub record GoesOn {F : Type 0} (rule : Rule F) (f : Profile) (d : Directory) (next : ℕ) (marks : List ℕ) (steps : List Made) : Type 0 where
   pub searching : Searching rule.no_fit f d next marks steps
   pub rest : (p : ℕ) → next ≤ p → is_marked marks p ≡ false
   pub within : next ≤ f.pages + 1
-  pub few : length steps + (rule.steps + 2) ≤ offered_steps rule.steps next
+  pub few : length steps ≤ offered_steps rule.steps (row_words f.pages) (next - 1)
 
 pub record SearchesOffered {F : Type 0} (rule : Rule F) (d : Directory) (desk desk' : Standing) (marks : List ℕ) (found : Option (Served F)) : Type 0 where
   pub steps : List Made
   pub adds : Adds desk desk' (λ v l. MaySearch d v) steps
   pub searches : AreSearch steps
-  pub few : length steps ≤ offered_steps rule.steps (desk.seat.profile.pages + 1)
+  pub few : length steps ≤ offered_steps rule.steps (row_words desk.seat.profile.pages) desk.seat.profile.pages
   pub outcome : MatchOption found
       (Searching rule.no_fit desk.seat.profile d (desk.seat.profile.pages + 1) marks steps)
       (λ served. Finds rule desk.seat.profile d (FromOffered rule.no_fit d served.page) steps served)

@@ -17,9 +17,10 @@ use pas_steps::Desk;
 /// and the request is served from that page. Where there is none either, the answer is `Held` with the lowest page of the directory that
 /// was in some actor's hands, and `NoSpace` where none was. At most one deed is made, and a refusal makes no event and changes no block.
 ///
-/// Steps: a look at each eligible word and one more for each page that is tried; a claim for each of these, and the back end's steps; a look at
-/// each deed word, and a step for each that is read as 0. A refusal looks at each deed word once more, and at the parked words. Where the back
-/// end makes at most `s` steps on a page, that is at most `(s + 4) n + 2 s + 68` steps on `n` pages, and 66 more for each 64 of them.
+/// Steps: a look at each eligible word, and at those of a row again for each page that is tried; a claim for each of these, and the back end's
+/// steps; a look at each deed word, and a step for each that is read as 0. A refusal looks at each deed word once more, and at the parked words.
+/// Where the back end makes at most `s` steps on a page, that is at most `(s + w + 3) n + s + 66` steps on `n` pages, and 66 more for each 64
+/// of them; `w` is the words of a row, the lesser of 8 and `n / 64 + 1`.
 pub fn find_page<S: Serving, D: Desk>(
     serving: &S,
     desk: &mut D,

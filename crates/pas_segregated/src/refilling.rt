@@ -15,7 +15,8 @@ use pas_steps::Desk;
 /// All free slots of the lowest offered page of the class that has any, or of the lowest page without a deed, with the page's right.
 ///
 /// `NoSpace` and `Held` come as the search of the pages of the class gives them. At most one event where the deed of each page is known, and
-/// two otherwise. A page's turn takes at most 27 steps, a refill from `n` pages at most `31 n + 122`, and 66 more for each 64 of them.
+/// two otherwise. A page's turn takes at most 27 steps, a refill from `n` pages at most `(30 + w) n + 93`, and 66 more for each 64 of them; `w`
+/// is the lesser of 8 and `n / 64 + 1`.
 pub fn refill<D: Desk>(desk: &mut D, heap: u8, class: u8) -> Result<Slots, NoRoom>
     requires directory { IsDirectoryOf (D.standing desk.old).seat.profile (class_directory heap class) }
     requires can { CanCall (D.standing desk.old) (λ v l. SearchRoom (D.standing desk.old).seat.profile (class_directory heap class) 1 (D.spare_of desk.old) v) }

@@ -1,14 +1,11 @@
-use Rattle.std.proofs.Common.{◌∙◌, ◌*◌, refl, arith, rules}
+use Rattle.std.proofs.Common.{◌∙◌, arith}
 use Rattle.pas_profile.specs.declared.word.Word.TheVariants as Word
 use Rattle.pas_steps.specs.States.{word_in}
-use Rattle.pas_report.proofs.Counting.{grains_counted, word_more}
+use Rattle.pas_report.proofs.Counting.{few_in_four, four_counted}
 use Rattle.pas_report.proofs.counts.free_on.Goals as goal
 
-pub loop-word-preserved : goal.loop-word-preserved
-loop-word-preserved c = record {
-  counted = word_more (λ w. word_in c.args.state.now (Word.Free c.args.page w)) c.loop-word.word c.word.result c.loop-word.free 64 refl c.word.ensures (search rules) c.loop-word.invariant.counted;
-  few = search rules;
-}
+pub overflow_cast-result : goal.overflow_cast-result
+overflow_cast-result c = let few = few_in_four c.count_ones.result c.word.result c.word-2.result c.word-3.result c.word-4.result c.count_ones.ensures in omega (arith, few)
 
 pub returns : goal.returns
-returns c = c.loop-word.invariant.counted ∙ grains_counted (64 * c.loop-word.word) _ (omega arith)
+returns c = c.count_ones.ensures ∙ four_counted (λ word. word_in c.args.state.now (Word.Free c.args.page word)) c.word.result c.word-2.result c.word-3.result c.word-4.result c.word.ensures c.word-2.ensures c.word-3.ensures c.word-4.ensures

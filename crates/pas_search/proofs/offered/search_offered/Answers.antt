@@ -4,19 +4,19 @@ use Rattle.pas_scan.specs.Marks.{is_marked}
 use Rattle.pas_steps.proofs.Adding.{adds_none}
 use Rattle.pas_search.specs.Searches.{MaySearch, SearchesOffered}
 use Rattle.pas_search.proofs.ForBackEnds.{room_kept}
-use Rattle.pas_search.proofs.PagesThatServe.{offered_first, all_offered, claim_can, none_offered, further, claim_adds, claim_quiet, lost_tries, serve_can, found_there, left_tries}
+use Rattle.pas_search.proofs.PagesThatServe.{all_offered, claim_can, none_offered, further, claim_adds, claim_quiet, lost_tries, serve_can, found_there, left_tries}
 use Rattle.pas_search.proofs.offered.search_offered.Goals as goal
 
 pub loop-looked-init : goal.loop-looked-init
 loop-looked-init g c =
     let first = c.requires.next in
-    record { low = omega (arith, first); directory = refl; tries = record { steps = []; adds = adds_none; goes = record { searching = search rules; rest = λ p low. c.requires.unfit p; within = omega (arith, first); few = let few = offered_first (g.S.Serving.rule c.args.serving.now).steps first in omega (arith, few) } }; home = refl }
+    record { low = omega (arith, first); directory = refl; tries = record { steps = []; adds = adds_none; goes = record { searching = search rules; rest = λ p low. c.requires.unfit p; within = omega (arith, first); few = omega arith } }; home = refl }
 
 pub returns-in_default-clause-found : goal.returns-in_default-clause-found
 returns-in_default-clause-found g c =
     let i = c.loop-looked.invariant in let D = g.D.Desk in let d = c.args.looked.now.directory in
     subst (λ m. SearchesOffered (g.S.Serving.rule c.args.serving.now) d (D.standing c.args.desk.now) (D.standing c.first_offered.new.desk) m None) (sym c.first_offered.ensures.unfit)
-    (none_offered i.tries i.directory (let pages : c.profile.result.now.pages ≡ (g.D.Desk.standing c.args.desk.now).seat.profile.pages = ap (λ (f : Profile). f.pages) c.profile.ensures in omega (arith, pages, c.loop-looked-test.true)) c.in_default.ensures.found)
+    (none_offered i.tries i.directory i.low (let pages : c.profile.result.now.pages ≡ (g.D.Desk.standing c.args.desk.now).seat.profile.pages = ap (λ (f : Profile). f.pages) c.profile.ensures in omega (arith, pages, c.loop-looked-test.true)) c.in_default.ensures.found)
 
 pub claim-requires-clause-can : goal.claim-requires-clause-can
 claim-requires-clause-can g c = let i = c.loop-looked.invariant in claim_can i.tries i.directory c.in-Some.ensures.found c.requires.can

@@ -1,5 +1,8 @@
-use Rattle.pas_bitfit.proofs.Lowest.{none_fits, lowest_fits}
+use Rattle.pas_bitfit.proofs.Lowest.{none_fits, empty_fits, lowest_fits}
 use Rattle.pas_bitfit.proofs.wanted.WantedChoosing.choose.Goals as goal
+
+pub returns-then-all_zero : goal.returns-then-all_zero
+returns-then-all_zero c = empty_fits c.args.self.now c.args.free.now c.requires.asked c.if-all_zero.ensures
 
 pub returns-in_err-first : goal.returns-in_err-first
 returns-in_err-first c = rw c.from_residual.ensures (none_fits c.args.self.now c.args.free.now c.requires.asked c.in_err-first.ensures)

@@ -1,0 +1,165 @@
+-- Rows of eligible words: their looks in order, what each shows, and the lowest page that they show.
+use Rattle.std.proofs.Common.{◌≡◌, ◌≢◌, ℕ, ◌+◌, ◌-◌, ◌*◌, ◌/◌, ◌%◌, ◌<◌, ◌≤◌, ◌==◌, ◌&&◌, Bool, true, false, if◌then◌else◌, List, [], ◌∷◌, ◌++◌, length, slice_index, slice_set, replicate, refl, ap, sym, ◌∙◌, subst, arith, inl, inr, true≢false, length-append, get_or-set_same, get_or-set_other}
+use Rattle.std.proofs.lemmas.Bool.{cases_lt, cases_Bool, eq-eqb}
+use Rattle.std.proofs.lemmas.List.{get_or_past, get_or-replicate}
+use Rattle.pas_bits.proofs.Words.{none_of_zero}
+use Rattle.pas_profile.specs.Classes.{has_bit}
+use Rattle.pas_profile.specs.Directories.{IsKind, number_of, deed_word_of, deed_word_numbered}
+use Rattle.pas_profile.specs.Profiles.{IsPage}
+use Rattle.pas_profile.specs.declared.directory.Directory.{Directory}
+use Rattle.pas_profile.specs.declared.profile.Profile.{Profile}
+use Rattle.pas_profile.specs.declared.word.Word.TheVariants as Word
+use Rattle.pas_profile.proofs.Codecs.{kind_number_lt}
+use Rattle.pas_steps.specs.Views.{View, has_right, known_deed, deed_after}
+use Rattle.pas_steps.specs.Agreement.{Agreed, Agrees, AgreesEligible}
+use Rattle.pas_steps.specs.Past.{Once}
+use Rattle.pas_steps.specs.Frames.{IsScan, OnlyScans}
+use Rattle.pas_steps.specs.Desks.{made}
+use Rattle.pas_steps.specs.declared.step.Made.{Made}
+use Rattle.pas_steps.specs.declared.step.Step.TheVariants.{Look}
+use Rattle.pas_steps.specs.Evidence.{ReadsEligible, ZeroHere, IsSingle}
+use Rattle.pas_steps.proofs.Past.{once_later, once_earlier}
+use Rattle.pas_scan.specs.Rows.{eligible_looks, WordReadHere, shows_page, IsLowestShown}
+use Rattle.pas_scan.specs.Scan.{IsFirstOffered}
+use Rattle.pas_scan.proofs.Reading.{right_scans, scans_lack}
+use Rattle.pas_scan.proofs.Singles.{Below, below_more, single_more}
+
+-- ---- looks in order
+eligible_scans : (number from : ℕ) (answers : List ℕ) → OnlyScans (eligible_looks number from answers)
+eligible_scans number from [] = tt
+eligible_scans number from (a ∷ more) = (IsScan.LooksEligible number (from + length more), eligible_scans number from more)
+
+eligible_below : (number from : ℕ) (answers : List ℕ) → Below (from + length answers) (eligible_looks number from answers)
+eligible_below number from [] = tt
+eligible_below number from (a ∷ more) = (omega arith, below_more (from + length more) (from + length (a ∷ more)) (eligible_looks number from more) (omega arith) (eligible_below number from more))
+
+eligible_single : (number from : ℕ) (answers : List ℕ) → IsSingle (eligible_looks number from answers)
+eligible_single number from [] = tt
+eligible_single number from (a ∷ more) = single_more (from + length more) (made (Look (Word.Eligible number (from + length more))) a) (eligible_looks number from more) (eligible_below number from more) (omega arith) (eligible_single number from more)
+
+eligible_append : (number from : ℕ) (later earlier : List ℕ) → eligible_looks number (from + length earlier) later ++ eligible_looks number from earlier ≡ eligible_looks number from (later ++ earlier)
+eligible_append number from [] earlier = refl
+eligible_append number from (a ∷ more) earlier =
+    let at : from + length earlier + length more ≡ from + length (more ++ earlier) = omega (arith, length-append more earlier) in
+    ap (λ j. made (Look (Word.Eligible number j)) a ∷ (eligible_looks number (from + length earlier) more ++ eligible_looks number from earlier)) at
+    ∙ ap (λ s. made (Look (Word.Eligible number (from + length (more ++ earlier)))) a ∷ s) (eligible_append number from more earlier)
+
+-- a row after the rows before it
+pub row_after : (number from block : ℕ) (ys xs : List Made) (later earlier : List ℕ) → from + length earlier ≡ block → ys ≡ eligible_looks number block later → xs ≡ eligible_looks number from earlier → ys ++ xs ≡ eligible_looks number from (later ++ earlier)
+row_after number from block ys xs later earlier at order_y order_x =
+    ap (λ s. s ++ xs) order_y ∙ ap (λ s. eligible_looks number block later ++ s) order_x ∙ ap (λ j. eligible_looks number j later ++ eligible_looks number from earlier) (sym at) ∙ eligible_append number from later earlier
+
+pub scans_of : (number from : ℕ) (answers : List ℕ) (steps : List Made) → steps ≡ eligible_looks number from answers → OnlyScans steps
+scans_of number from answers steps order = subst OnlyScans (sym order) (eligible_scans number from answers)
+
+pub single_of : (number from : ℕ) (answers : List ℕ) (steps : List Made) → steps ≡ eligible_looks number from answers → IsSingle steps
+single_of number from answers steps order = subst IsSingle (sym order) (eligible_single number from answers)
+
+-- ---- one word more of a row
+pub zero_row : (word : ℕ) → slice_index (replicate 8 0) word ≡ 0
+zero_row word = elim (cases_lt word 8) [ inl lt ↦ get_or-replicate 8 word 0 0 lt | inr ge ↦ get_or_past (replicate 8 0) word 0 ge ]
+
+pub words_more : (number block word a : ℕ) (row : List ℕ) (steps : List Made) → block ≤ word → word < block + length row → ((b : ℕ) → block ≤ b → b < word → Once (WordReadHere number b (slice_index row (b - block))) steps)
+    → (b : ℕ) → block ≤ b → b < word + 1 → Once (WordReadHere number b (slice_index (slice_set row (word - block) a) (b - block))) (made (Look (Word.Eligible number word)) a ∷ steps)
+words_more number block word a row steps from room before b low high = elim (cases_lt b word) [
+  | inl lt ↦ let other : b - block ≢ word - block = λ e. absurd (omega (arith, e, lt, low)) in
+      inr (subst (λ n. Once (WordReadHere number b n) steps) (sym (get_or-set_other row (word - block) (b - block) a 0 other)) (before b low lt))
+  | inr ge ↦ let same : word ≡ b = omega (arith, ge, high) in let place : b - block ≡ word - block = omega (arith, same) in
+      inl (ap (λ w. Look (Word.Eligible number w)) same, sym (ap (slice_index (slice_set row (word - block) a)) place ∙ get_or-set_same row (word - block) a 0 (omega (arith, room, from))))
+]
+
+pub rest_more : (block word a : ℕ) (row : List ℕ) → block ≤ word → ((b : ℕ) → word ≤ b → slice_index row (b - block) ≡ 0) → (b : ℕ) → word + 1 ≤ b → slice_index (slice_set row (word - block) a) (b - block) ≡ 0
+rest_more block word a row from rest b low = get_or-set_other row (word - block) (b - block) a 0 (λ e. absurd (omega (arith, e, low, from))) ∙ rest b (omega (arith, low))
+
+-- ---- what a reading of a word shows of its pages
+pub shown_as : (bit : Bool) (d : Directory) (p a : ℕ) (steps : List Made) → OnlyScans steps → Once (WordReadHere (number_of d) (p / 64) a) steps → has_bit a (p % 64) ≡ bit
+    → Once (λ m before. ReadsEligible d p m.step × (has_bit m.answer (p % 64) ≡ bit) × (has_right before p ≡ false)) steps
+shown_as bit d p a [] scans h is = absurd h
+shown_as bit d p a (m ∷ before) scans (inl h) is = inl (subst (λ s. ReadsEligible d p s) (sym h.0) (ReadsEligible.Looks (number_of d) (p / 64) refl refl), ap (λ n. has_bit n (p % 64)) h.1 ∙ is, scans_lack before p scans.1)
+shown_as bit d p a (m ∷ before) scans (inr h) is = inr (shown_as bit d p a before scans.1 h is)
+
+-- the answer to a look that was made so
+agreed_word : (f : Profile) (v : View) (number block a : ℕ) (m : Made) → WordReadHere number block a m [] → Agrees f v m.step m.answer → AgreesEligible f v number block a
+agreed_word f v number block a m h agrees = subst (λ n. Agrees f v (Look (Word.Eligible number block)) n) h.1 (subst (λ s. Agrees f v s m.answer) h.0 agrees)
+
+one_page : (f : Profile) (v : View) (number page a : ℕ) (steps : List Made) → Agreed f v steps → Once (WordReadHere number (page / 64) a) steps → has_bit a (page % 64) ≡ true → IsPage f page
+one_page f v number page a [] agreed h bit = absurd h
+one_page f v number page a (m ∷ before) agreed (inl h) bit =
+    let whole : 64 * (page / 64) + page % 64 ≡ page = omega arith in
+    subst (IsPage f) whole ((agreed_word f (before ++ v) number (page / 64) a m h agreed.0).page (page % 64) (omega arith) bit)
+one_page f v number page a (m ∷ before) agreed (inr h) bit = one_page f v number page a before agreed.1 h bit
+
+one_lacks : (f : Profile) (v : View) (number page a : ℕ) (steps : List Made) → OnlyScans steps → Agreed f v steps → Once (WordReadHere number (page / 64) a) steps → has_bit a (page % 64) ≡ true → has_right v page ≡ false
+one_lacks f v number page a [] scans agreed h bit = absurd h
+one_lacks f v number page a (m ∷ before) scans agreed (inl h) bit = sym (right_scans before v page scans.1) ∙ elim (cases_Bool (has_right (before ++ v) page)) [
+  | inl has ↦
+      let whole : 64 * (page / 64) + page % 64 ≡ page = omega arith in
+      absurd (true≢false (sym bit ∙ (agreed_word f (before ++ v) number (page / 64) a m h agreed.0).right (page % 64) (omega arith) (ap (has_right (before ++ v)) whole ∙ has)))
+  | inr lacks ↦ lacks
+]
+one_lacks f v number page a (m ∷ before) scans agreed (inr h) bit = one_lacks f v number page a before scans.1 agreed.1 h bit
+
+-- a deed that is known stays so over a look at a word of its directory
+stays_so : (t : Bool) (deed known : ℕ) → known ≡ deed → (if t then deed else known) ≡ deed
+stays_so true deed known is = refl
+stays_so false deed known is = is
+
+one_deed : (number page a from : ℕ) (answers : List ℕ) (v : View) → Once (WordReadHere number (page / 64) a) (eligible_looks number from answers) → has_bit a (page % 64) ≡ true → known_deed (eligible_looks number from answers ++ v) page ≡ deed_word_numbered number
+one_deed number page a from [] v h bit = absurd h
+one_deed number page a from (b ∷ more) v (inl h) bit =
+    let known : ℕ = known_deed (eligible_looks number from more ++ v) page in
+    ap (λ s. deed_after s b page known) h.0 ∙ ap (λ t. if t && has_bit b (page % 64) then deed_word_numbered number else known) (eq-eqb (page / 64) (page / 64) refl)
+    ∙ ap (λ t. if t then deed_word_numbered number else known) (ap (λ n. has_bit n (page % 64)) h.1 ∙ bit)
+one_deed number page a from (b ∷ more) v (inr h) bit =
+    stays_so ((from + length more == page / 64) && has_bit b (page % 64)) (deed_word_numbered number) (known_deed (eligible_looks number from more ++ v) page) (one_deed number page a from more v h bit)
+
+deed_from_number : (d : Directory) → IsKind d.kind → deed_word_numbered (number_of d) ≡ deed_word_of d
+deed_from_number d is = omega (arith, kind_number_lt d.kind is)
+
+-- ---- the pages of a row
+pub shown_bit : (row : List ℕ) (block p : ℕ) → 64 * block ≤ p → shows_page row block p ≡ has_bit (slice_index row (p / 64 - block)) (p % 64)
+shown_bit row block p low =
+    let word : (p - 64 * block) / 64 ≡ p / 64 - block = omega (arith, low) in
+    let bit : (p - 64 * block) % 64 ≡ p % 64 = omega (arith, low) in
+    ap (λ w. has_bit (slice_index row w) ((p - 64 * block) % 64)) word ∙ ap (has_bit (slice_index row (p / 64 - block))) bit
+
+-- a page that a row shows has its word in it
+pub shown_within : (row : List ℕ) (block end p : ℕ) → ((b : ℕ) → end ≤ b → slice_index row (b - block) ≡ 0) → 64 * block ≤ p → shows_page row block p ≡ true → p < 64 * end
+shown_within row block end p rest low shown = elim (cases_lt p (64 * end)) [
+  | inl lt ↦ lt
+  | inr ge ↦ absurd (true≢false (sym shown ∙ shown_bit row block p low ∙ ap (λ n. has_bit n (p % 64)) (rest (p / 64) (omega (arith, ge))) ∙ none_of_zero (p % 64)))
+]
+
+pub row_zeros : (d : Directory) (next block end stop : ℕ) (row : List ℕ) (steps : List Made) → OnlyScans steps → ((p : ℕ) → next ≤ p → p < 64 * block → Once (ZeroHere d p) steps)
+    → ((b : ℕ) → block ≤ b → b < end → Once (WordReadHere (number_of d) b (slice_index row (b - block))) steps) → ((p : ℕ) → next ≤ p → 64 * block ≤ p → p < stop → shows_page row block p ≡ false) → stop ≤ 64 * end
+    → (p : ℕ) → next ≤ p → p < stop → Once (ZeroHere d p) steps
+row_zeros d next block end stop row steps scans before words none limit p low high = elim (cases_lt p (64 * block)) [
+  | inl lt ↦ before p low lt
+  | inr ge ↦ shown_as false d p (slice_index row (p / 64 - block)) steps scans (words (p / 64) (omega (arith, ge)) (omega (arith, high, limit))) (sym (shown_bit row block p ge) ∙ none p low ge high)
+]
+
+-- the lowest page that a row shows, where the rows before it showed none
+pub row_one : (f : Profile) (d : Directory) (next from block end page : ℕ) (row answers : List ℕ) (steps : List Made) (v : View) → IsKind d.kind → Agreed f v steps → steps ≡ eligible_looks (number_of d) from answers
+    → ((p : ℕ) → next ≤ p → p < 64 * block → Once (ZeroHere d p) steps) → ((b : ℕ) → block ≤ b → b < end → Once (WordReadHere (number_of d) b (slice_index row (b - block))) steps)
+    → page < 64 * end → IsLowestShown row block next page → IsFirstOffered f d next steps page
+row_one f d next from block end page row answers steps v is agreed order before words within lowest =
+    let a : ℕ = slice_index row (page / 64 - block) in
+    let low = lowest.from_block in
+    let scans : OnlyScans steps = scans_of (number_of d) from answers steps order in
+    let read : Once (WordReadHere (number_of d) (page / 64) a) steps = words (page / 64) (omega (arith, low)) (omega (arith, within)) in
+    let bit : has_bit a (page % 64) ≡ true = sym (shown_bit row block page low) ∙ lowest.shown in
+    record {
+      from_next = lowest.from_next;
+      of_region = one_page f v (number_of d) page a steps agreed read bit;
+      one = shown_as true d page a steps scans read bit;
+      lower = row_zeros d next block end page row steps scans before words lowest.lower (omega (arith, within));
+      deed = λ w. ap (λ s. known_deed (s ++ w) page) order ∙ one_deed (number_of d) page a from answers w (subst (λ s. Once (WordReadHere (number_of d) (page / 64) a) s) order read) bit ∙ deed_from_number d is;
+      lacks = λ w agreed'. one_lacks f w (number_of d) page a steps scans agreed' read bit;
+    }
+
+-- the readings of a row, with the steps before it
+pub words_later : (number block end : ℕ) (row : List ℕ) (ys xs : List Made) → ((b : ℕ) → block ≤ b → b < end → Once (WordReadHere number b (slice_index row (b - block))) ys) → (b : ℕ) → block ≤ b → b < end → Once (WordReadHere number b (slice_index row (b - block))) (ys ++ xs)
+words_later number block end row ys xs words b low high = once_earlier (WordReadHere number b (slice_index row (b - block))) (WordReadHere number b (slice_index row (b - block))) ys xs (λ m before h. h) (words b low high)
+
+pub zeros_later : (d : Directory) (next end : ℕ) (ys xs : List Made) → ((p : ℕ) → next ≤ p → p < end → Once (ZeroHere d p) xs) → (p : ℕ) → next ≤ p → p < end → Once (ZeroHere d p) (ys ++ xs)
+zeros_later d next end ys xs zeros p low high = once_later (ZeroHere d p) ys xs (zeros p low high)
