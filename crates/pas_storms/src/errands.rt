@@ -1,5 +1,5 @@
 //! What an actor does at one go.
-ghost use Rattle.std.specs.Prelude.{◌≡◌, ◌≤◌, ◌<◌, ◌+◌, ◌*◌, [], All, length, true};
+ghost use Rattle.std.specs.Prelude.{◌≡◌, ◌≤◌, ◌<◌, ◌+◌, ◌*◌, ◌^◌, [], All, length, true};
 ghost use Rattle.pas_profile.specs.Profiles.{IsAdmitted};
 ghost use Rattle.pas_steps.specs.Desks.{CanCall};
 ghost use Rattle.pas_free_log.specs.Conditions.{IsNameOf, IsEntryOf};
@@ -31,6 +31,8 @@ pub enum Errand {
     Free { first: u32, gap: u32, blocks: u8 },
     /// Stops its cache.
     Stop,
+    /// Stops its cache and raises the epoch to this one, at most 2^40 - 1.
+    Age { epoch: u64 },
     /// Stops its cache and makes the pass of a scavenger.
     Pass,
 }
@@ -123,6 +125,18 @@ fn stop<D: Desk>(desk: &mut D, cache: &mut ThreadCache)
     cache.stop(desk);
 }
 
+/// Stops the cache and raises the epoch.
+fn age<D: Desk>(desk: &mut D, cache: &mut ThreadCache, epoch: u64)
+    requires log { (cached cache.old).log ≡ [] }
+    requires epoch { epoch < 2 ^ 40 }
+    requires can { CanCall (D.standing desk.old) (λ v l. AtRest (D.standing desk.old).seat.profile (cached cache.old) v) }
+    ensures goes { Borrows (cached cache.old) (cached cache.new) (D.standing desk.old) (D.standing desk.new) }
+    ensures home { D.home desk.new ≡ D.home desk.old }
+{
+    cache.stop(desk);
+    desk.tick(epoch);
+}
+
 /// Stops the cache and makes a pass.
 fn scavenge<D: Desk>(desk: &mut D, cache: &mut ThreadCache, outcomes: &mut Outcomes)
     requires log { (cached cache.old).log ≡ [] }
@@ -166,6 +180,7 @@ impl Hands {
             Errand::Ask { heap, size, align } => ask(desk, &mut self.cache, heap, size, align),
             Errand::Free { first, gap, blocks } => free(desk, &self.cache, first, gap, blocks),
             Errand::Stop => stop(desk, &mut self.cache),
+            Errand::Age { epoch } => age(desk, &mut self.cache, epoch.min((1 << 40) - 1)),
             Errand::Pass => {
                 let pages = desk.profile().pages;
                 if pages == self.pages && pages <= MOST_PAGES {

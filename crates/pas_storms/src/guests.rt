@@ -21,7 +21,7 @@ pub struct Visit {
 }
 
 /// A moment of a storm: before the own step of this number, an actor had shown so many events and made so many steps in all.
-#[derive(Clone, Copy, Debug, PartialEq, Eq, Drop)]
+#[derive(Clone, Copy, Debug, Default, PartialEq, Eq, Drop)]
 pub struct Moment {
     pub at: u64,
     pub shown: usize,

@@ -124,7 +124,7 @@ fn first_unlawful(alloc: Global, pages: u32, events: &[Event]) -> Result<Option<
 }
 
 /// Judges a region after a storm.
-fn found(alloc: Global, pages: u32, calm: Calm) -> Result<Found, Fail> {
+fn settled(alloc: Global, pages: u32, calm: Calm) -> Result<Found, Fail> {
     let own = own_events(alloc, calm.own.shown(), calm.begun, calm.counts.as_slice())?;
     let foreign = foreign_events(alloc, calm.foreign.shown(), calm.guest.moments())?;
     let events = weave(alloc, &own, &foreign)?;
@@ -156,5 +156,5 @@ pub fn storm(alloc: Global, pages: u32, before: &[Errand], errand: Errand, visit
         return Err(Fail::new("too many events before the storm"));
     }
     let calm = ride(desk, foreign, &mut hands, errand, guest);
-    found(alloc, pages, calm)
+    settled(alloc, pages, calm)
 }
