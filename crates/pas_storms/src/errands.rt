@@ -13,7 +13,8 @@ use pas_cache::ThreadCache;
 use pas_free_log::{FreeLog, flush};
 use pas_large::NoIndex;
 use pas_profile::limits::MOST_BITFIT;
-use pas_profile::{Address, Name, Profile};
+
+use pas_profile::{Address, Name, Profile, Route, route};
 use pas_scavenger::pass;
 use pas_steps::Desk;
 use pas_utility::{CacheSeat, Outcomes};
@@ -95,10 +96,18 @@ fn serve<D: Desk>(desk: &mut D, cache: &mut ThreadCache, heap: u8, size: u32, al
     ensures goes { Borrows (cached cache.old) (cached cache.new) (D.standing desk.old) (D.standing desk.new) }
     ensures home { D.home desk.new ≡ D.home desk.old }
 {
-    if size > MOST_BITFIT {
-        let _ = cache.alloc_large(desk, &mut NoIndex, heap, size);
-    } else {
-        let _ = cache.alloc(desk, heap, size, align);
+    match route(size, align) {
+        Route::Class(_) => {
+            let _ = cache.alloc(desk, heap, size, align);
+        }
+        Route::Bitfit => {
+            let _ = cache.alloc(desk, heap, size, align);
+        }
+        Route::Large => {
+            if size > MOST_BITFIT {
+                let _ = cache.alloc_large(desk, &mut NoIndex, heap, size);
+            }
+        }
     }
 }
 

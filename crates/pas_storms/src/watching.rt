@@ -31,7 +31,8 @@ impl<D: Desk> Watched<D> {
     pub fn new(desk: D) -> Watched<D>
         ensures home { ⟦<Watched<D> as Desk>⟧.home result ≡ D.home desk }
         ensures spare { ⟦<Watched<D> as Desk>⟧.spare_of result ≡ D.spare_of desk }
-        ensures stands { ⟦<Watched<D> as Desk>⟧.standing result ≡ D.standing desk }
+        ensures seat { (⟦<Watched<D> as Desk>⟧.standing result).seat ≡ (D.standing desk).seat }
+        ensures stands { (v : View) (l : Whole) → (D.standing desk).stands v l → (⟦<Watched<D> as Desk>⟧.standing result).stands v l }
     {
         Watched {
             desk,
@@ -42,7 +43,8 @@ impl<D: Desk> Watched<D> {
     /// The desk, and the number of steps right after each event since it was watched, in order, of 128 at most.
     pub fn into_parts(self) -> (D, ArrayVec<u64, MOST_WATCHED>)
         ensures home { D.home result.0 ≡ ⟦<Watched<D> as Desk>⟧.home self }
-        ensures stands { D.standing result.0 ≡ ⟦<Watched<D> as Desk>⟧.standing self }
+        ensures seat { (D.standing result.0).seat ≡ (⟦<Watched<D> as Desk>⟧.standing self).seat }
+        ensures stands { (v : View) (l : Whole) → (⟦<Watched<D> as Desk>⟧.standing self).stands v l → (D.standing result.0).stands v l }
     {
         (self.desk, self.counts)
     }

@@ -10,21 +10,26 @@ pub struct Timed {
     pub event: Event,
 }
 
+/// Adds the foreign events from this place on that came before this own step or an earlier one. The place of the first that is left.
+fn push_until(woven: &mut Vec<Event>, foreign: &[Timed], from: usize, at: u64) -> Result<usize, AllocError> {
+    for place in from..foreign.len() {
+        if foreign[place].at > at {
+            return Ok(place);
+        }
+        woven.push(foreign[place].event)?;
+    }
+    Ok(foreign.len())
+}
+
 /// The events of both, the oldest first: a foreign one comes before an own one where it came before that own step or an earlier one.
 pub fn weave(alloc: Global, own: &[Timed], foreign: &[Timed]) -> Result<Vec<Event>, AllocError> {
     let mut woven = Vec::new(alloc);
     let mut rest = 0;
     for mine in own {
-        while rest < foreign.len() && foreign[rest].at <= mine.at {
-            woven.push(foreign[rest].event)?;
-            rest += 1;
-        }
+        rest = push_until(&mut woven, foreign, rest, mine.at)?;
         woven.push(mine.event)?;
     }
-    while rest < foreign.len() {
-        woven.push(foreign[rest].event)?;
-        rest += 1;
-    }
+    push_until(&mut woven, foreign, rest, u64::MAX)?;
     Ok(woven)
 }
 
