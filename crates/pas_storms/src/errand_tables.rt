@@ -1,4 +1,5 @@
 //! Tables of intruders: an own errand against foreign ones, at each own step number in turn.
+ghost use Rattle.std.specs.Prelude.{◌<◌};
 
 use crate::errands::Errand;
 use crate::guests::Visit;
@@ -63,7 +64,9 @@ fn visits(alloc: Global, way: u8, at: u64, errand: Errand) -> Result<Vec<Visit>,
 }
 
 /// Storms the own errand with one foreign errand in one way, from each own step number in turn until the own actor makes no such step.
-fn sweep_way(alloc: Global, swept: &mut Swept, before: &[Errand], errand: Errand, number: usize, way: u8) -> Result<(), Fail> {
+fn sweep_way(alloc: Global, swept: &mut Swept, before: &[Errand], errand: Errand, number: usize, way: u8) -> Result<(), Fail>
+    requires number { number < 10 }
+{
     for at in 1..64u64 {
         let found = storm(alloc, 3, before, errand, visits(alloc, way, at, FOREIGN[number])?)?;
         if at > found.steps {

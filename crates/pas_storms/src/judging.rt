@@ -75,9 +75,13 @@ fn is_minded(state: &State, page: u32) -> bool
     requires page { IsPage (profile_of state.now) page }
     ensures { IsTrue result ↔ IsMinded state.now page }
 {
-    state.word(Word::Backed(page)) != 1
-        || free_grains(state, page).count() != 256
-        || has_page(state.word(Word::Empty(page / 64)), page)
+    if state.word(Word::Backed(page)) != 1 {
+        return true;
+    }
+    if !free_grains(state, page).complement().is_empty() {
+        return true;
+    }
+    has_page(state.word(Word::Empty(page / 64)), page)
 }
 
 /// Whether one of the blocks covers the grain.

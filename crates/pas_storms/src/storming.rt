@@ -1,9 +1,9 @@
 //! One row of a table: an errand of actor 1 among the visits of actor 2.
-ghost use Rattle.std.specs.Prelude.{◌≡◌, ◌≤◌, [], IfOk};
+ghost use Rattle.std.specs.Prelude.{◌≡◌, ◌≤◌, true, length, IfOk};
 ghost use Rattle.pas_steps.specs.Lists.{Whole};
 ghost use Rattle.pas_steps.specs.States.{profile_of as the_profile_of};
 ghost use Rattle.pas_steps.specs.Views.{View};
-ghost use Rattle.pas_plain.specs.Plain.{profile_of, room_of_pass};
+ghost use Rattle.pas_plain.specs.Plain.{profile_of, room_of_pass, events_shown};
 ghost use Rattle.pas_plain.specs.Seats.{region_of, pass_of};
 ghost use Rattle.pas_plain.specs.Storms.{StormStands};
 ghost use Rattle.pas_trials.specs.Borrowing.{RestsBeside};
@@ -49,7 +49,14 @@ pub struct Found {
 }
 
 /// Actor 1 goes on errands before the storm. Each asks for room of 70 events.
-fn prepare(desk: &mut PlainDesk, foreign: &PlainPass, hands: &mut Hands, errands: &[Errand]) -> bool {
+fn prepare(desk: &mut PlainDesk, foreign: &PlainPass, hands: &mut Hands, errands: &[Errand]) -> bool
+    requires rest { RestsBeside desk.old foreign.now (cache_of hands.old) }
+    requires room { room_of_pass (pass_of desk.old) ≡ 1000 }
+    ensures rest { RestsBeside desk.new foreign.now (cache_of hands.new) }
+    ensures room { room_of_pass (pass_of desk.new) ≡ 1000 }
+    ensures profile { profile_of (region_of desk.new) ≡ profile_of (region_of desk.old) }
+    ensures few { result ≡ true → length (events_shown (pass_of desk.new)) ≤ 900 }
+{
     for errand in errands {
         if desk.shown().len() > 900 {
             return false;
@@ -60,7 +67,13 @@ fn prepare(desk: &mut PlainDesk, foreign: &PlainPass, hands: &mut Hands, errands
 }
 
 /// Actor 1 goes on the errand and stops its cache, while the guest may act before each of its steps.
-fn ride(desk: PlainDesk, foreign: PlainPass, hands: &mut Hands, errand: Errand, guest: Guest) -> Calm {
+fn ride(desk: PlainDesk, foreign: PlainPass, hands: &mut Hands, errand: Errand, guest: Guest) -> Calm
+    requires rest { RestsBeside desk foreign (cache_of hands.old) }
+    requires room { room_of_pass (pass_of desk) ≡ 1000 }
+    requires few { length (events_shown (pass_of desk)) ≤ 900 }
+    ensures storm { (v : View) × (l : Whole) × StormStands result.region result.own result.foreign v l }
+    ensures profile { profile_of result.region ≡ profile_of (region_of desk) }
+{
     let begun = desk.count();
     let (region, own) = desk.into_parts();
     let mut storm = Watched::new(region.storm(own, foreign, guest));
@@ -113,7 +126,9 @@ fn foreign_events(alloc: Global, shown: &[Event], moments: &[Moment]) -> Result<
 }
 
 /// The first event that the machine doesn't take.
-fn first_unlawful(alloc: Global, pages: u32, events: &[Event]) -> Result<Option<Fault>, Fail> {
+fn first_unlawful(alloc: Global, pages: u32, events: &[Event]) -> Result<Option<Fault>, Fail>
+    requires pages { (1 ≤ pages) × (pages ≤ 30) }
+{
     let mut machine = Machine::try_new(alloc, profile_for(pages))?;
     for place in 0..events.len() {
         if machine.step(&events[place]).is_err() {
@@ -123,8 +138,20 @@ fn first_unlawful(alloc: Global, pages: u32, events: &[Event]) -> Result<Option<
     Ok(None)
 }
 
+/// The region is closed with both passes.
+fn closed(alloc: Global, region: PlainRegion, own: PlainPass, foreign: PlainPass) -> Result<State, AllocError>
+    requires storm { (v : View) × (l : Whole) × StormStands region own foreign v l }
+    ensures { IfOk result (λ state. the_profile_of state ≡ profile_of region) }
+{
+    Ok(close(region, vec![in alloc; own, foreign]?))
+}
+
 /// Judges a region after a storm.
-fn settled(alloc: Global, pages: u32, calm: Calm) -> Result<Found, Fail> {
+fn settled(alloc: Global, pages: u32, calm: Calm) -> Result<Found, Fail>
+    requires pages { (1 ≤ pages) × (pages ≤ 30) }
+    requires storm { (v : View) × (l : Whole) × StormStands calm.region calm.own calm.foreign v l }
+    ensures { IfOk result (λ found. the_profile_of found.state ≡ profile_of calm.region) }
+{
     let own = own_events(alloc, calm.own.shown(), calm.begun, calm.counts.as_slice())?;
     let foreign = foreign_events(alloc, calm.foreign.shown(), calm.guest.moments())?;
     let events = weave(alloc, &own, &foreign)?;
@@ -132,7 +159,7 @@ fn settled(alloc: Global, pages: u32, calm: Calm) -> Result<Found, Fail> {
     let steps = calm.own.count().saturating_sub(calm.begun);
     let visits = calm.guest.moments().len();
     let foreign_steps = calm.foreign.count();
-    let state = close(calm.region, vec![in alloc; calm.own, calm.foreign]?);
+    let state = closed(alloc, calm.region, calm.own, calm.foreign)?;
     let fault = match first_unlawful(alloc, pages, &events)? {
         Some(fault) => Some(fault),
         None => judge(&state, &live),
@@ -148,7 +175,10 @@ fn settled(alloc: Global, pages: u32, calm: Calm) -> Result<Found, Fail> {
 }
 
 /// Actor 1 goes on errands in a region of so many pages, and then on one more and stops its cache, while actor 2 makes its visits.
-pub fn storm(alloc: Global, pages: u32, before: &[Errand], errand: Errand, visits: Vec<Visit>) -> Result<Found, Fail> {
+pub fn storm(alloc: Global, pages: u32, before: &[Errand], errand: Errand, visits: Vec<Visit>) -> Result<Found, Fail>
+    requires pages { (1 ≤ pages) × (pages ≤ 30) }
+    ensures { IfOk result (λ found. the_profile_of found.state ≡ stormy pages) }
+{
     let (mut desk, foreign) = seated(alloc, pages)?;
     let mut hands = hands_for(alloc, pages, 1)?;
     let guest = Guest::new(hands_for(alloc, pages, 2)?, visits);
