@@ -69,8 +69,8 @@ pub record StandsAfter (σ : Standing) : Type 0 where
   pub stood : σ.stands view whole
 
 pub stands_after : {σ σ1 σ2 : Standing} {c c1 c2 : Cached} → CanCall σ (λ v l. AtRest σ.seat.profile c v) → Borrows c c1 σ σ1 → StopsCache c1 c2 σ1 σ2 → StandsAfter σ2
-stands_after can goes stops = let then = may_stop_then can goes in record {
+stands_after {σ1 = σ1} can goes stops = let then = may_stop_then can goes in record {
   view = (stops.stopped ++ stops.flushed) ++ then.view;
-  whole = _;
+  whole = triples σ1.seat.actor (stops.stopped ++ stops.flushed) ++ then.whole;
   stood = stops.calls.adds.added then.view then.whole then.stood then.met;
 }
