@@ -7,6 +7,7 @@
 mod errands;
 mod guests;
 mod judging;
+pub mod laws;
 mod watching;
 mod weaving;
 #[cfg(test)]
