@@ -1,6 +1,5 @@
 -- Errands of an actor that is at rest with its cache.
-use Rattle.std.proofs.Common.{◌≡◌, ℕ, zero, suc, ◌+◌, ◌-◌, ◌*◌, ◌≤◌, List, [], ◌∷◌, ◌++◌, ◌==◌, Bool, true, false, if◌then◌else◌, Result, refl, ap, sym, ◌∙◌, subst, arith}
-use Rattle.std.specs.Prelude.{◌/◌}
+use Rattle.std.proofs.Common.{◌≡◌, ℕ, zero, suc, ◌≤◌, List, [], ◌∷◌, ◌++◌, ◌==◌, Bool, true, false, if◌then◌else◌, Result, refl, ap, sym, ◌∙◌, subst, arith}
 use Rattle.pas_profile.specs.declared.event.NoRoom.{NoRoom}
 use Rattle.pas_profile.specs.declared.name.Block.{Block}
 use Rattle.pas_profile.specs.declared.profile.Profile.{Profile}
@@ -8,7 +7,7 @@ use Rattle.pas_steps.specs.Calls.{Calls}
 use Rattle.pas_steps.specs.Clear.{HasNothing}
 use Rattle.pas_steps.specs.Desks.{Standing, Seat, CanCall, Makes, made}
 use Rattle.pas_steps.specs.Kinds.{Ticking}
-use Rattle.pas_steps.specs.Unknown.{unknown_here, unknown_below, unknown_pages}
+use Rattle.pas_steps.specs.Unknown.{unknown_here, unknown_below}
 use Rattle.pas_steps.specs.Views.{View, known_deed}
 use Rattle.pas_steps.specs.declared.step.Made.{Made}
 use Rattle.pas_steps.specs.declared.step.Step.TheVariants.{Tick}

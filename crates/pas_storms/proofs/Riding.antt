@@ -1,5 +1,5 @@
 -- An actor that goes on errands beside another one, and then in a storm.
-use Rattle.std.proofs.Common.{◌≡◌, ◌≢◌, ℕ, ◌+◌, ◌-◌, ◌≤◌, [], ◌++◌, refl, ap, sym, ◌∙◌, subst}
+use Rattle.std.proofs.Common.{◌≡◌, ◌≢◌, ℕ, [], ◌++◌, refl, ap, sym, ◌∙◌, subst}
 use Rattle.pas_profile.specs.declared.profile.Profile.{Profile}
 use Rattle.pas_steps.specs.Clear.{HasNothing}
 use Rattle.pas_steps.specs.Desks.{Seat, Standing, CanCall, triples}
@@ -12,7 +12,7 @@ use Rattle.pas_cache.specs.Calls.{StopsCache}
 use Rattle.pas_cache.proofs.FlushesAndFrees.{rests_empty}
 use Rattle.pas_plain.specs.Plain.{profile_of, actor_of, PassStands}
 use Rattle.pas_plain.specs.Seats.{region_of, pass_of, DeskStands, standing_of}
-use Rattle.pas_plain.specs.Storms.{StormStands, MayStorm, own_stands}
+use Rattle.pas_plain.specs.Storms.{MayStorm, own_stands}
 use Rattle.pas_plain.specs.declared.desk.PlainDesk.{PlainDesk}
 use Rattle.pas_plain.specs.declared.pass.PlainPass.{PlainPass}
 use Rattle.pas_plain.specs.declared.region.PlainRegion.{PlainRegion}

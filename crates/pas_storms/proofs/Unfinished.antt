@@ -1,5 +1,5 @@
 -- What is still owed after a call that ends too early, and that it is owed with reason.
-use Rattle.std.proofs.Common.{◌≡◌, ℕ, ◌<◌, ◌==◌, ◌&&◌, not, Bool, true, false, if◌then◌else◌, true≢false, List, [], ◌∷◌, ◌++◌, length, refl, ap, sym, ◌∙◌, arith}
+use Rattle.std.proofs.Common.{◌≡◌, ℕ, ◌<◌, ◌==◌, ◌&&◌, not, Bool, true, false, if◌then◌else◌, true≢false, List, [], ◌∷◌, ◌++◌, refl, ap, sym, ◌∙◌, arith}
 use Rattle.std.proofs.lemmas.Bool.{eq-eqb}
 use Rattle.pas_profile.specs.Profiles.{IsValid}
 use Rattle.pas_profile.specs.declared.profile.Profile.{Profile}
@@ -10,7 +10,7 @@ use Rattle.pas_core.specs.Hints.{IsEmptyBacked}
 use Rattle.pas_core.specs.Rights.{parked_bit, empty_bit, IsUsableFree, IsRightOffered, AllClear}
 use Rattle.pas_core.proofs.Checks.{parked_is_owed}
 use Rattle.pas_core.proofs.Offers.{each_clear, hinted_at_rest}
-use Rattle.pas_storms.specs.Unfinished.{ParkingOwes, LookingOwes, looks_only}
+use Rattle.pas_storms.specs.Unfinished.{ParkingOwes, LookingOwes}
 
 -- ---- a parking without looks
 pub parking_owes : ParkingOwes

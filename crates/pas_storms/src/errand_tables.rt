@@ -9,23 +9,72 @@ use std::alloc::Global;
 use std::test::Fail;
 
 /// Requests of heap 0: a slot of 512 bytes of an exclusive page, a bit-fit block, one page and two pages.
-const SLOT: Errand = Errand::Ask { heap: 0, size: 512, align: 16 };
-const BITFIT: Errand = Errand::Ask { heap: 0, size: 1040, align: 16 };
-const PAGE: Errand = Errand::Ask { heap: 0, size: 4096, align: 16 };
-const PAGES: Errand = Errand::Ask { heap: 0, size: 8192, align: 16 };
+const SLOT: Errand = Errand::Ask {
+    heap: 0,
+    size: 512,
+    align: 16,
+};
+
+const BITFIT: Errand = Errand::Ask {
+    heap: 0,
+    size: 1040,
+    align: 16,
+};
+
+const PAGE: Errand = Errand::Ask {
+    heap: 0,
+    size: 4096,
+    align: 16,
+};
+
+const PAGES: Errand = Errand::Ask {
+    heap: 0,
+    size: 8192,
+    align: 16,
+};
 
 /// Requests of heap 1: slots of 512 and of 48 bytes of a shared page.
-const SHARED: Errand = Errand::Ask { heap: 1, size: 512, align: 16 };
-const SMALL: Errand = Errand::Ask { heap: 1, size: 48, align: 16 };
+const SHARED: Errand = Errand::Ask {
+    heap: 1,
+    size: 512,
+    align: 16,
+};
+
+const SMALL: Errand = Errand::Ask {
+    heap: 1,
+    size: 48,
+    align: 16,
+};
 
 /// The ends of the first block of page 1, of what begins at its first three and at all eight slots of 512 bytes, and of two blocks of 1,040 bytes.
-const FIRST: Errand = Errand::Free { first: 4096, gap: 512, blocks: 1 };
-const EIGHT: Errand = Errand::Free { first: 4096, gap: 512, blocks: 8 };
-const THREE: Errand = Errand::Free { first: 4096, gap: 512, blocks: 3 };
-const FITS: Errand = Errand::Free { first: 4096, gap: 1040, blocks: 2 };
+const FIRST: Errand = Errand::Free {
+    first: 4096,
+    gap: 512,
+    blocks: 1,
+};
+
+const EIGHT: Errand = Errand::Free {
+    first: 4096,
+    gap: 512,
+    blocks: 8,
+};
+
+const THREE: Errand = Errand::Free {
+    first: 4096,
+    gap: 512,
+    blocks: 3,
+};
+
+const FITS: Errand = Errand::Free {
+    first: 4096,
+    gap: 1040,
+    blocks: 2,
+};
 
 const AGE: Errand = Errand::Age { epoch: 7 };
+
 const STOP: Errand = Errand::Stop;
+
 const PASS: Errand = Errand::Pass;
 
 /// The foreign errands: requests with a stop, flushes, and a pass. The pass finds old pages where the epoch was raised before.
@@ -64,11 +113,24 @@ fn visits(alloc: Global, way: u8, at: u64, errand: Errand) -> Result<Vec<Visit>,
 }
 
 /// Storms the own errand with one foreign errand in one way, from each own step number in turn until the own actor makes no such step.
-fn sweep_way(alloc: Global, swept: &mut Swept, before: &[Errand], errand: Errand, number: usize, way: u8) -> Result<(), Fail>
+fn sweep_way(
+    alloc: Global,
+    swept: &mut Swept,
+    before: &[Errand],
+    errand: Errand,
+    number: usize,
+    way: u8,
+) -> Result<(), Fail>
     requires number { number < 10 }
 {
     for at in 1..64u64 {
-        let found = storm(alloc, 3, before, errand, visits(alloc, way, at, FOREIGN[number])?)?;
+        let found = storm(
+            alloc,
+            3,
+            before,
+            errand,
+            visits(alloc, way, at, FOREIGN[number])?,
+        )?;
         if at > found.steps {
             return Ok(());
         }
@@ -114,10 +176,7 @@ fn refills_of_exclusive_pages(rt: HostRuntime) -> Result<(), Fail> {
 
 #[test]
 fn refills_of_shared_pages(rt: HostRuntime) -> Result<(), Fail> {
-    let rows: [(&[Errand], Errand); 2] = [
-        (&[], SHARED),
-        (&[SHARED, SMALL, FIRST, STOP], SHARED),
-    ];
+    let rows: [(&[Errand], Errand); 2] = [(&[], SHARED), (&[SHARED, SMALL, FIRST, STOP], SHARED)];
     let swept = sweep(rt.alloc(), &rows)?;
     assert_eq!(rt; swept.fault, None);
     assert_eq!(rt; swept.unvisited, 0, "in each storm the guest acts");

@@ -13,7 +13,6 @@ use pas_cache::ThreadCache;
 use pas_free_log::{FreeLog, flush};
 use pas_large::NoIndex;
 use pas_profile::limits::MOST_BITFIT;
-
 use pas_profile::{Address, Name, Profile, Route, route};
 use pas_scavenger::pass;
 use pas_steps::Desk;

@@ -72,7 +72,8 @@ impl Hands {
 impl Guest {
     /// A guest with these visits, whose hands did nothing yet.
     pub fn new(hands: Hands, visits: Vec<Visit>) -> Guest
-        requires { (cache_of hands).locals ≡ [] }
+        requires locals { (cache_of hands).locals ≡ [] }
+        ensures none { result.moments.items ≡ [] }
     {
         Guest {
             hands,
@@ -82,7 +83,9 @@ impl Guest {
     }
 
     /// The moments after its visits, in order, at most 128.
-    pub fn moments(&self) -> &[Moment] {
+    pub fn moments(&self) -> &[Moment]
+        ensures { result.now ≡ self.now.moments.items }
+    {
         self.moments.as_slice()
     }
 }

@@ -58,7 +58,10 @@ fn is_offered(state: &State, page: u32, directory: Directory) -> bool
     ensures { IsTrue result ↔ IsOffered state.now page directory }
 {
     directory.heap < state.profile().heaps
-        && has_page(state.word(Word::Eligible(directory.number(), page / 64)), page)
+        && has_page(
+            state.word(Word::Eligible(directory.number(), page / 64)),
+            page,
+        )
 }
 
 /// Whether the page of this directory is offered wherever some grain is free that its blocks may cover.
@@ -67,7 +70,8 @@ fn is_kept(state: &State, page: u32, directory: Directory) -> bool
     requires kind { IsKind directory.kind }
     ensures { IsTrue result ↔ IsKept state.now page directory }
 {
-    is_offered(state, page, directory) || free_grains(state, page).is_full(&usable_grains(directory.kind))
+    is_offered(state, page, directory)
+        || free_grains(state, page).is_full(&usable_grains(directory.kind))
 }
 
 /// Whether the page is hinted wherever it is backed and all its grains are free.

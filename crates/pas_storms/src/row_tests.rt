@@ -8,8 +8,17 @@ use pas_steps::State;
 use std::alloc::Global;
 use std::test::Fail;
 
-const SLOT: Errand = Errand::Ask { heap: 0, size: 512, align: 16 };
-const FIRST: Errand = Errand::Free { first: 4096, gap: 512, blocks: 1 };
+const SLOT: Errand = Errand::Ask {
+    heap: 0,
+    size: 512,
+    align: 16,
+};
+
+const FIRST: Errand = Errand::Free {
+    first: 4096,
+    gap: 512,
+    blocks: 1,
+};
 
 /// The first block of page 1.
 const NAME: Name = Name {
@@ -19,13 +28,30 @@ const NAME: Name = Name {
 
 #[test]
 fn a_block_that_another_actor_ended_is_refused(rt: HostRuntime) -> Result<(), Fail> {
-    let visits = vec![in rt.alloc(); Visit { at: 1, errand: FIRST }]?;
+    let visits = vec![in rt.alloc();
+        Visit {
+            at: 1,
+            errand: FIRST
+        },
+    ]?;
     let found = storm(rt.alloc(), 1, &[SLOT], FIRST, visits)?;
     let last = [
-        Event::End { actor: 2, name: NAME, epoch: 0 },
-        Event::Reject { actor: 1, name: NAME, why: Why::Ended },
+        Event::End {
+            actor: 2,
+            name: NAME,
+            epoch: 0,
+        },
+        Event::Reject {
+            actor: 1,
+            name: NAME,
+            why: Why::Ended,
+        },
     ];
-    assert!(rt; found.events.as_slice().ends_with(&last), "{:?}", found.events);
+    assert!(rt;
+        found.events.as_slice().ends_with(&last),
+        "{:?}",
+        found.events
+    );
     assert_eq!(rt; found.fault, None);
     Ok(())
 }
@@ -68,7 +94,11 @@ fn each_fault_is_found(rt: HostRuntime) -> Result<(), Fail> {
         (false, Spoil::Free, Some(Fault::Miscounted(1))),
     ];
     for (lives, spoil, fault) in table {
-        assert_eq!(rt; spoilt(rt.alloc(), lives, spoil)?, fault, "{lives} {spoil:?}");
+        assert_eq!(rt;
+            spoilt(rt.alloc(), lives, spoil)?,
+            fault,
+            "{lives} {spoil:?}"
+        );
     }
     Ok(())
 }

@@ -67,7 +67,13 @@ fn prepare(desk: &mut PlainDesk, foreign: &PlainPass, hands: &mut Hands, errands
 }
 
 /// Actor 1 goes on the errand and stops its cache, while the guest may act before each of its steps.
-fn ride(desk: PlainDesk, foreign: PlainPass, hands: &mut Hands, errand: Errand, guest: Guest) -> Calm
+fn ride(
+    desk: PlainDesk,
+    foreign: PlainPass,
+    hands: &mut Hands,
+    errand: Errand,
+    guest: Guest,
+) -> Calm
     requires rest { RestsBeside desk foreign (cache_of hands.old) }
     requires room { room_of_pass (pass_of desk) ≡ 1000 }
     requires few { length (events_shown (pass_of desk)) ≤ 900 }
@@ -92,7 +98,12 @@ fn ride(desk: PlainDesk, foreign: PlainPass, hands: &mut Hands, errand: Errand, 
 }
 
 /// The own events with the own steps at which they came, 0 before the storm.
-fn own_events(alloc: Global, shown: &[Event], begun: u64, counts: &[u64]) -> Result<Vec<Timed>, AllocError> {
+fn own_events(
+    alloc: Global,
+    shown: &[Event],
+    begun: u64,
+    counts: &[u64],
+) -> Result<Vec<Timed>, AllocError> {
     let mut timed = Vec::new(alloc);
     let before = shown.len().saturating_sub(counts.len());
     for place in 0..shown.len() {
@@ -100,7 +111,10 @@ fn own_events(alloc: Global, shown: &[Event], begun: u64, counts: &[u64]) -> Res
             Some(later) if later < counts.len() => counts[later].saturating_sub(begun),
             _ => 0,
         };
-        timed.push(Timed { at, event: shown[place] })?;
+        timed.push(Timed {
+            at,
+            event: shown[place],
+        })?;
     }
     Ok(timed)
 }
@@ -116,11 +130,18 @@ fn moment_of(moments: &[Moment], place: usize) -> u64 {
 }
 
 /// The foreign events with the own steps before which they came.
-fn foreign_events(alloc: Global, shown: &[Event], moments: &[Moment]) -> Result<Vec<Timed>, AllocError> {
+fn foreign_events(
+    alloc: Global,
+    shown: &[Event],
+    moments: &[Moment],
+) -> Result<Vec<Timed>, AllocError> {
     let mut timed = Vec::new(alloc);
     for place in 0..shown.len() {
         let at = moment_of(moments, place);
-        timed.push(Timed { at, event: shown[place] })?;
+        timed.push(Timed {
+            at,
+            event: shown[place],
+        })?;
     }
     Ok(timed)
 }
@@ -139,7 +160,12 @@ fn first_unlawful(alloc: Global, pages: u32, events: &[Event]) -> Result<Option<
 }
 
 /// The region is closed with both passes.
-fn closed(alloc: Global, region: PlainRegion, own: PlainPass, foreign: PlainPass) -> Result<State, AllocError>
+fn closed(
+    alloc: Global,
+    region: PlainRegion,
+    own: PlainPass,
+    foreign: PlainPass,
+) -> Result<State, AllocError>
     requires storm { (v : View) × (l : Whole) × StormStands region own foreign v l }
     ensures { IfOk result (λ state. the_profile_of state ≡ profile_of region) }
 {
@@ -175,7 +201,13 @@ fn settled(alloc: Global, pages: u32, calm: Calm) -> Result<Found, Fail>
 }
 
 /// Actor 1 goes on errands in a region of so many pages, and then on one more and stops its cache, while actor 2 makes its visits.
-pub fn storm(alloc: Global, pages: u32, before: &[Errand], errand: Errand, visits: Vec<Visit>) -> Result<Found, Fail>
+pub fn storm(
+    alloc: Global,
+    pages: u32,
+    before: &[Errand],
+    errand: Errand,
+    visits: Vec<Visit>,
+) -> Result<Found, Fail>
     requires pages { (1 ≤ pages) × (pages ≤ 30) }
     ensures { IfOk result (λ found. the_profile_of found.state ≡ stormy pages) }
 {

@@ -11,7 +11,12 @@ pub struct Timed {
 }
 
 /// Adds the foreign events from this place on that came before this own step or an earlier one. The place of the first that is left.
-fn push_until(woven: &mut Vec<Event>, foreign: &[Timed], from: usize, at: u64) -> Result<usize, AllocError> {
+fn push_until(
+    woven: &mut Vec<Event>,
+    foreign: &[Timed],
+    from: usize,
+    at: u64,
+) -> Result<usize, AllocError> {
     for place in from..foreign.len() {
         if foreign[place].at > at {
             return Ok(place);

@@ -1,4 +1,4 @@
-use Rattle.std.proofs.Common.{◌+◌, ◌-◌, sym, ◌∙◌, arith}
+use Rattle.std.proofs.Common.{◌+◌, ◌-◌, sym, arith}
 use Rattle.std.specs.Prelude.{◌/◌}
 use Rattle.pas_storms.proofs.Going.{room_for_slot, room_for_pages, none_asked, slot_asked, pages_asked}
 use Rattle.pas_storms.proofs.errands.serve.Goals as goal
