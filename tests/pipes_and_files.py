@@ -86,6 +86,37 @@ def file_that_is_full(program):
     return None
 
 
+def disk_that_is_full(program):
+    """The output is a device that has no room: the first write fails, of a transcript, of the line of a fault and of the usage alike."""
+    words = ([], ["order"], ["--help"])
+    for arguments in words:
+        for trace in (b"", SMALL, long_trace()):
+            with open("/dev/full", "wb") as sink:
+                child = subprocess.run([program, *arguments], input=trace, stdout=sink, timeout=MOST_SECONDS)
+            if wrong := compared(child.returncode, 4):
+                return f"{arguments} with {len(trace)} bytes: {wrong}"
+    return None
+
+
+def pauses(program):
+    """The input stands still in mid-line, and the output isn't read for a while: nothing is lost, and nothing comes twice."""
+    trace = long_trace()
+    wanted = plain(program, trace)
+    child = subprocess.Popen([program, "order"], stdin=subprocess.PIPE, stdout=subprocess.PIPE)
+    for first, last in ((0, 1), (1, 50), (50, len(trace) // 2), (len(trace) // 2, len(trace))):
+        child.stdin.write(trace[first:last])
+        child.stdin.flush()
+        time.sleep(0.1)
+        if child.poll() is not None:
+            return "the program ended before its input did"
+    child.stdin.close()
+    time.sleep(0.3)
+    text = b""
+    while part := child.stdout.read(4000):
+        text += part
+    return compared((text, child.wait(MOST_SECONDS)), wanted)
+
+
 def interrupted_writes(program):
     """The output is a socket with little room, and the program is stopped again and again while it waits there in mid-write: such a write answers
     that it took a part."""
@@ -151,7 +182,7 @@ def main():
         return 2
     program = os.path.abspath(sys.argv[1])
     failed = 0
-    for test in (bytes_alone, file_that_is_full, interrupted_writes, reader_that_goes, source_that_fails):
+    for test in (bytes_alone, file_that_is_full, disk_that_is_full, pauses, interrupted_writes, reader_that_goes, source_that_fails):
         wrong = test(program)
         print(f"{test.__name__}: {wrong or 'ok'}")
         failed += wrong is not None

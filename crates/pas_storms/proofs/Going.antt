@@ -1,0 +1,122 @@
+-- Errands of an actor that is at rest with its cache.
+use Rattle.std.proofs.Common.{◌≡◌, ℕ, zero, suc, ◌≤◌, List, [], ◌∷◌, ◌++◌, ◌==◌, Bool, true, false, if◌then◌else◌, Result, refl, ap, sym, ◌∙◌, subst, arith}
+use Rattle.pas_profile.specs.declared.event.NoRoom.{NoRoom}
+use Rattle.pas_profile.specs.declared.name.Block.{Block}
+use Rattle.pas_profile.specs.declared.profile.Profile.{Profile}
+use Rattle.pas_steps.specs.Calls.{Calls}
+use Rattle.pas_steps.specs.Clear.{HasNothing}
+use Rattle.pas_steps.specs.Desks.{Standing, Seat, CanCall, Makes, made}
+use Rattle.pas_steps.specs.Kinds.{Ticking}
+use Rattle.pas_steps.specs.Unknown.{unknown_here, unknown_below}
+use Rattle.pas_steps.specs.Views.{View, known_deed}
+use Rattle.pas_steps.specs.declared.step.Made.{Made}
+use Rattle.pas_steps.specs.declared.step.Step.TheVariants.{Tick}
+use Rattle.pas_steps.proofs.Adding.{adds_under}
+use Rattle.pas_steps.proofs.Called.{call_none, call_step, call_as, call_then, next_call}
+use Rattle.pas_steps.proofs.Calls.{does_idly}
+use Rattle.pas_steps.proofs.Unknown.{has_room}
+use Rattle.pas_scavenger.proofs.Trying.{nothing_still}
+use Rattle.pas_free_log.specs.Flushes.{Flushes}
+use Rattle.pas_free_log.specs.declared.log.Entry.{Entry}
+use Rattle.pas_free_log.specs.declared.noting.EndedRun.{EndedRun}
+use Rattle.pas_cache.specs.Caches.{Cached, AtRest}
+use Rattle.pas_cache.specs.Calls.{MayAllocate, Allocates, MayAllocatePages, AllocatesPages, StopsCache}
+use Rattle.pas_cache.specs.Serves.{Wanted}
+use Rattle.pas_cache.proofs.Budget.{log_kept}
+use Rattle.pas_cache.proofs.FlushesAndFrees.{rests_empty}
+use Rattle.pas_cache.proofs.Resting.{rests_kept}
+use Rattle.pas_plain.specs.Storms.{Acts}
+use Rattle.pas_trials.specs.Borrowing.{Borrows}
+
+-- ---- room
+at_most_one : (t : Bool) → (if t then 1 else 0) ≤ 1
+at_most_one true = omega arith
+at_most_one false = omega arith
+
+few_here : (deed : ℕ) → unknown_here deed ≤ 1
+few_here deed = at_most_one (deed == 0)
+
+few_below : (n : ℕ) (v : View) → unknown_below n v ≤ n
+few_below zero v = omega arith
+few_below (suc n) v = let here = few_here (known_deed v (suc n)) in let below = few_below n v in omega (arith, here, below)
+
+pub room_for_slot : {σ : Standing} {c : Cached} {spare : ℕ} → 70 ≤ spare → σ.seat.profile.pages ≤ 30 → CanCall σ (λ v l. AtRest σ.seat.profile c v) → CanCall σ (λ v l. MayAllocate σ.seat.profile c spare v)
+room_for_slot {σ} {c} {spare} room few can =
+    let unknown = few_below σ.seat.profile.pages can.view in
+    record { view = can.view; whole = can.whole; stood = can.stood; met = record { rest = can.met; room = has_room σ.seat.profile 2 spare can.view (omega (arith, unknown, few, room)) } }
+
+pub room_for_pages : {σ : Standing} {c : Cached} {spare : ℕ} (n : ℕ) → 70 ≤ spare → σ.seat.profile.pages ≤ 30 → n ≤ σ.seat.profile.pages → CanCall σ (λ v l. AtRest σ.seat.profile c v) → CanCall σ (λ v l. MayAllocatePages σ.seat.profile c n spare v)
+room_for_pages {σ} {c} {spare} n room few within can =
+    let unknown = few_below σ.seat.profile.pages can.view in
+    record { view = can.view; whole = can.whole; stood = can.stood; met = record { rest = can.met; room = omega (arith, unknown, few, room, within) } }
+
+-- ---- requests
+pub none_asked : {σ : Standing} {c : Cached} → Borrows c c σ σ
+none_asked = record { steps = []; rests = call_none (λ v rest. rest); log = refl }
+
+pub slot_asked : {σ σ' : Standing} {c c' : Cached} {wanted : Wanted} {tells : Bool} {answer : Result Block NoRoom} → Allocates wanted tells c c' σ σ' answer → Borrows c c' σ σ'
+slot_asked {σ} {σ'} {c} {c'} {wanted} {tells} {answer} h = record { steps = h.steps; rests = h.calls; log = log_kept σ.seat.profile wanted c c' h.steps answer wanted.route h.change }
+
+pub pages_asked : {σ σ' : Standing} {c c' : Cached} {wanted : Wanted} {tells : Bool} {answer : Result Block NoRoom} → AllocatesPages wanted tells c c' σ σ' answer → Borrows c c' σ σ'
+pages_asked {σ} {σ'} {c} {c'} {wanted} {tells} {answer} h = record { steps = h.steps; rests = h.calls; log = log_kept σ.seat.profile wanted c c' h.steps answer wanted.route h.change }
+
+-- ---- a flush of another log than that of the cache
+pub log_flushed : {σ σ' : Standing} {logged : List Entry} {ended ended' : List EndedRun} (c : Cached) → Flushes logged ended ended' σ σ' → Borrows c c σ σ'
+log_flushed {σ} c h = let f : Profile = σ.seat.profile in record {
+  steps = h.steps;
+  rests = record {
+    adds = adds_under h.calls.adds (λ v l stood rest. rest.locals.clear);
+    leads = record {
+      from = λ v rest agreed. record {
+        locals = rests_kept f c.locals h.steps v (h.calls.leads.from v rest.locals.clear agreed) agreed rest.locals;
+        few = rest.few;
+        entries = rest.entries;
+        few_entries = rest.few_entries;
+      };
+    };
+  };
+  log = refl;
+}
+
+-- ---- a stop, and what an actor with an empty cache does then
+pub cache_stopped : {σ σ' : Standing} {c c' : Cached} → c.log ≡ [] → StopsCache c c' σ σ' → Borrows c c' σ σ'
+cache_stopped {σ} {σ'} {c} {c'} log h = record {
+  steps = h.stopped ++ h.flushed;
+  rests = call_as (λ v w. AtRest σ.seat.profile c' w) h.calls (λ v rest. rest) (λ v w rest done. done.0);
+  log = ap (λ (x : Cached). x.log) h.cache ∙ sym log;
+}
+
+pub nothing_after : {σ σ' : Standing} {c c' : Cached} → StopsCache c c' σ σ' → CanCall σ (λ v l. AtRest σ.seat.profile c v) → CanCall σ' (λ v l. HasNothing v)
+nothing_after h can = next_call h.calls can (λ v rest done. done.1)
+
+pub stopped_then : {σ σ1 σ2 : Standing} {c c' : Cached} {steps : List Made} → c.log ≡ [] → StopsCache c c' σ σ1 → Calls σ1 σ2 HasNothing (λ v w. HasNothing w) steps → Borrows c c' σ σ2
+stopped_then {σ} {σ1} {σ2} {c} {c'} {steps} log h quiet = let f : Profile = σ.seat.profile in record {
+  steps = steps ++ (h.stopped ++ h.flushed);
+  rests = call_then (λ v w. AtRest f c' w) h.calls quiet (λ v rest done. done.1)
+      (λ v rest done none. rests_empty f c' (steps ++ ((h.stopped ++ h.flushed) ++ v)) (ap (λ (x : Cached). x.locals) h.cache) (ap (λ (x : Cached). x.log) h.cache) none);
+  log = ap (λ (x : Cached). x.log) h.cache ∙ sym log;
+}
+
+pub ticked : {σ σ' : Standing} (epoch t : ℕ) → Makes σ σ' (Tick epoch) t → Calls σ σ' HasNothing (λ v w. HasNothing w) (made (Tick epoch) t ∷ [])
+ticked {σ} epoch t makes = call_step (λ v w. HasNothing w) (call_none {R = λ v w. HasNothing w} (λ v met. met)) makes (λ v met is. tt)
+    (λ v met is agrees. nothing_still (does_idly σ.seat.profile (Ticking ∷ []) refl (made (Tick epoch) t ∷ []) v (refl, tt) (agrees, tt)) met)
+
+-- ---- a visit: an errand with an empty cache, and the stop of the cache
+module _ {σ σ1 : Standing} {c c1 : Cached} (locals : c.locals ≡ []) (log : c.log ≡ []) (goes : Borrows c c1 σ σ1) where
+  from_nothing : Calls σ σ1 HasNothing (λ v w. AtRest σ.seat.profile c1 w) goes.steps
+  from_nothing = call_as (λ v w. AtRest σ.seat.profile c1 w) goes.rests (λ v none. rests_empty σ.seat.profile c v locals log none) (λ v w none rest. rest)
+
+  rests_then : (v : View) → AtRest σ.seat.profile c1 v → AtRest σ1.seat.profile c1 v
+  rests_then v rest = subst (λ (s : Seat). AtRest s.profile c1 v) (sym goes.rests.adds.seat_is) rest
+
+  pub may_stop : CanCall σ (λ v l. HasNothing v) → CanCall σ1 (λ v l. AtRest σ1.seat.profile c1 v)
+  may_stop can = next_call from_nothing can (λ v none rest. rests_then (goes.steps ++ v) rest)
+
+  pub visited : {σ2 : Standing} {c2 : Cached} → StopsCache c1 c2 σ1 σ2 → Acts σ σ2
+  visited stops = record {
+    steps = (stops.stopped ++ stops.flushed) ++ goes.steps;
+    calls = call_then (λ v w. HasNothing w) from_nothing stops.calls (λ v none rest. rests_then (goes.steps ++ v) rest) (λ v none rest done. done.1);
+  }
+
+pub may_go : {σ : Standing} {c : Cached} → c.locals ≡ [] → c.log ≡ [] → CanCall σ (λ v l. HasNothing v) → CanCall σ (λ v l. AtRest σ.seat.profile c v)
+may_go {σ} {c} locals log can = record { view = can.view; whole = can.whole; stood = can.stood; met = rests_empty σ.seat.profile c can.view locals log can.met }

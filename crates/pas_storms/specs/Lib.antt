@@ -1,0 +1,3 @@
+pub mod Storms
+pub mod Judging
+pub mod Unfinished
