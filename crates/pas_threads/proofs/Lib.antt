@@ -20,3 +20,5 @@ pub mod Stopping
 pub mod Gathering
 pub mod NamesBefore
 pub mod NamesOfPhases
+pub mod PhaseRooms
+pub mod PhaseStarts
