@@ -22,3 +22,6 @@ pub mod NamesBefore
 pub mod NamesOfPhases
 pub mod PhaseRooms
 pub mod PhaseStarts
+pub mod Beyond
+pub mod PhaseEnds
+pub mod PhaseTeams

@@ -29,7 +29,7 @@ or_right : (s t : Bool) → t ≡ true → s || t ≡ true
 or_right true t is = refl
 or_right false t is = is
 
-or_either : (s t : Bool) → s || t ≡ true → (s ≡ true) ⊎ (t ≡ true)
+pub or_either : (s t : Bool) → s || t ≡ true → (s ≡ true) ⊎ (t ≡ true)
 or_either true t is = inl refl
 or_either false t is = inr is
 

@@ -21,7 +21,7 @@ use Rattle.pas_threads.specs.Shares.{own_acts, scavenger_acts}
 use Rattle.pas_threads.specs.NameBooks.{NamesAt, FreesItsOwn, ArePlaced, names_asked, room_for, table}
 use Rattle.pas_threads.specs.Works.{Later, Sits, KnowsNames}
 use Rattle.pas_threads.specs.Hands.{standing_of_pass, WorkerAt}
-use Rattle.pas_threads.specs.Sessions.{WorkerRests, ScavengerRests, HasPlaces, TeamAt}
+use Rattle.pas_threads.specs.Sessions.{WorkerRests, AreResting, ScavengerRests, HasPlaces, TeamAt}
 use Rattle.pas_threads.specs.Turns.{owed_at, WokeAll}
 use Rattle.pas_threads.specs.Performing.{ScavengerHas, IsReady}
 use Rattle.pas_threads.specs.declared.names.NameBook.{NameBook}
@@ -126,3 +126,22 @@ team_ready {region} {f} {awake} {team} {p} ops rest team1 at woke many scavenger
       scavenger = scavenger_ready ops left (later_beside f ops left team1 q 0) (subst (λ (s : Scavenger). ScavengerRests region f s (own_records f 0 (ops ++ left)) p) (sym scavenger) at.scavenger) woke.leaves.scavenger refl refl;
       places = places;
     }
+
+-- ---- what a phase begins with
+-- its threads read the epoch and its names are noted: all hands are ready
+pub record HasBegun (region : SharedRegion) (f : Profile) (awake : Mask4) (ops : List Op) (rest : List (List Op)) (team team1 : Team) (p : Progress) : Type 0 where
+  pub woke : WokeAll region f awake team.threads.items team1.threads.items (λ k. own_records f k (all_ops (ops ∷ rest))) p
+  pub many : length team1.threads.items ≡ length team.threads.items
+  pub scavenger : team1.scavenger ≡ team.scavenger
+  pub names : team1.book.names ≡ team.book.names
+  pub ready : IsReady region f ops team1 (later_beside f ops (all_ops rest) team1 woke.reached) woke.reached
+
+pub has_begun : {region : SharedRegion} {f : Profile} {awake : Mask4} {team : Team} {p : Progress} {given now : List Worker} (ops : List Op) (rest : List (List Op)) (team1 : Team) (at : TeamAt region f (ops ∷ rest) team p) → given ≡ team.threads.items → team1.threads.items ≡ now
+    → ((g : Profile) (later : ℕ → ℕ) (o : Progress) → AreResting region g given later o → WokeAll region g awake given now later o) → length now ≡ length given → team1.scavenger ≡ team.scavenger
+    → team1.book.names ≡ team.book.names → ((k : ℕ) → ArePlaced team1.book 0 (names_asked (own_acts k ops))) → HasPlaces f.threads team1 → HasBegun region f awake ops rest team team1 p
+has_begun {region} {f} {awake} {team} {p} {given} {now} ops rest team1 at value new wakes many scavenger names placed places =
+    let later : ℕ → ℕ = λ k. own_records f k (all_ops (ops ∷ rest)) in
+    let resting : AreResting region f given later p = subst (λ (ws : List Worker). AreResting region f ws later p) (sym value) at.workers in
+    let woke : WokeAll region f awake team.threads.items team1.threads.items later p = subst (λ (ws : List Worker). WokeAll region f awake team.threads.items ws later p) (sym new) (subst (λ (ws : List Worker). WokeAll region f awake ws now later p) value (wakes f later p resting)) in
+    let all = ap (λ (ws : List Worker). length ws) new ∙ many ∙ ap (λ (ws : List Worker). length ws) value in
+    record { woke = woke; many = all; scavenger = scavenger; names = names; ready = team_ready ops rest team1 at woke all scavenger names placed places }

@@ -1,0 +1,46 @@
+use Rattle.std.proofs.Common.{◌≡◌, ◌+◌, ◌≤◌, ◌∙◌, ◌∷◌, ℕ, List, length, ap, sym, refl, subst, All}
+use Rattle.std.proofs.lemmas.List.{with_items_is}
+use Rattle.pas_trace.specs.EveryPlan.{all_ops, own_records}
+use Rattle.pas_report.specs.Rooms.{records_in, room_of}
+use Rattle.pas_answers.specs.Names.{names_held}
+use Rattle.pas_threads.specs.Sessions.{AreResting, HasPlaces}
+use Rattle.pas_threads.specs.Taken.{IsWithin}
+use Rattle.pas_threads.specs.Turns.{said_by_all}
+use Rattle.pas_threads.specs.declared.workers.Worker.{Worker}
+use Rattle.pas_threads.proofs.NamesBefore.{sound_front, below_front}
+use Rattle.pas_threads.proofs.PhaseStarts.{has_begun}
+use Rattle.pas_threads.proofs.PhaseTeams.{WereGathered, WereTaken, may_append, may_gather, may_take, phase_done}
+use Rattle.pas_threads.proofs.phases.perform_phase.Goals as goal
+
+pub wake_all-requires-clause-rest : goal.wake_all-requires-clause-rest
+wake_all-requires-clause-rest g c =
+    let m = c.requires.may in
+    let later : ℕ → ℕ = λ k. own_records m.0 k (all_ops (c.args.ops.now ∷ m.1)) in
+    (m.0, later, m.3, subst (λ (ws : List Worker). AreResting c.args.region.now m.0 ws later m.3) (sym c.deref_mut.ensures.value) m.4.team_at.workers)
+
+pub note-requires-clause-below : goal.note-requires-clause-below
+note-requires-clause-below g c = let m = c.requires.may in below_front _ c.args.ops.now (all_ops m.1) m.4.team_at.names.below
+
+pub note-requires-clause-sound : goal.note-requires-clause-sound
+note-requires-clause-sound g c = let m = c.requires.may in (m.0, m.4.team_at.names.asked, sound_front m.0 m.4.team_at.names.asked c.args.ops.now (all_ops m.1) m.4.team_at.names.sound)
+
+pub perform_all-team-requires-clause-ready : goal.perform_all-team-requires-clause-ready
+perform_all-team-requires-clause-ready g c κs within =
+    let m = c.requires.may in
+    let at = m.4.team_at in
+    let woken = with_items_is c.args.team.threads c.wake_all.new.threads (c.wake_all.ensures.many ∙ c.deref_mut.ensures.len) in
+    let begun = has_begun c.args.ops.now m.1 _ at c.deref_mut.ensures.value woken c.wake_all.ensures.woke c.wake_all.ensures.many refl c.note.ensures.names c.note.ensures.placed (record { workers = at.places.workers; hands = at.places.hands; lent = at.places.lent; free = at.places.free }) in
+    (m.0, _, begun.woke.reached, begun.ready)
+
+pub append-requires : goal.append-requires
+append-requires g c = ?
+
+pub gather-requires : goal.gather-requires
+gather-requires g c = ?
+
+pub take_all-requires : goal.take_all-requires
+take_all-requires g c = ?
+
+pub returns : goal.returns
+returns g c =
+    let any = phase_done in ?
