@@ -55,7 +55,7 @@ phase_woven {f} {book} {p} ops left at q own same reaches =
     (subst (λ (names : List Named). OnlyAsked at.asked names) (sym same) at.only) (λ w. whole_share (owner_in ops) w q) reaches
 
 -- ---- a thread
-module _ {region : SharedRegion} {f : Profile} {k : ℕ} {book : NameBook} {old new : Worker} {later : Later} {q own reached : Progress} (ops left : List Op) (said : List Record) (rests : WorkerRests region f k old (own_records f k (ops ++ left)) q)
+module _ {region : SharedRegion} {f : Profile} {k : ℕ} {book : NameBook} {old new : Worker} {later : Later} {q own : Progress} (ops left : List Op) (said : List Record) (reached : Progress) (rests : WorkerRests region f k old (own_records f k (ops ++ left)) q)
     (done : ThreadDone region book f ops k old new later q own) (parts : part k own.list ≡ part k reached.list) (caches : own.caches k ≡ reached.caches k) (records : records_by k own.records ≡ records_by k reached.records)
     (records_are : reached.records ≡ q.records ++ said) (events : later.events ≡ own_records f k left) (spare : later.records ≡ room_of old.out - (owed_at f k q + own_costs_of k (own_acts k ops))) where
   said_own : done.said ≡ records_by k said
@@ -119,7 +119,7 @@ handed {ops} {book} {k} {new} {gathered} {names} g over = record {
 }
 
 -- ---- the scavenger
-module _ {region : SharedRegion} {f : Profile} {old new : Scavenger} {later : Later} {p q own reached : Progress} (ops left : List Op) (said : List Record) (rests : ScavengerRests region f old (own_records f 0 (ops ++ left)) p)
+module _ {region : SharedRegion} {f : Profile} {old new : Scavenger} {later : Later} {p q own : Progress} (ops left : List Op) (said : List Record) (reached : Progress) (rests : ScavengerRests region f old (own_records f 0 (ops ++ left)) p)
     (done : ScavengerDone region f old new later q own) (parts : part 0 own.list ≡ part 0 reached.list) (records : records_by 0 own.records ≡ records_by 0 reached.records)
     (records_are : reached.records ≡ q.records ++ said) (events : later.events ≡ own_records f 0 left) (spare : later.records ≡ room_of old.out - costs_of f (scavenger_acts (idle_threads f.threads ops) ops)) where
   pub scavenger_said : records_in new.out ≡ records_by 0 said

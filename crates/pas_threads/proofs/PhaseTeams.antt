@@ -91,12 +91,12 @@ module _ {region : SharedRegion} {f : Profile} {awake : Mask4} {team team1 team2
   thread_said : (i : ℕ) (d : Worker) → i < length team1.threads.items → records_in (get_or team2.threads.items i d).out ≡ records_by (suc i) said
   thread_said i d lt =
       let share = woven.shares (owner_in ops (suc i)) in
-      has_said ops left said (begun.woke.rests i d lt) (done.each i d lt) (share.parts (suc i) refl) (share.caches (suc i) refl) (share.records (suc i) refl) woven.records_are refl (room_set i d lt)
+      has_said ops left said reached (begun.woke.rests i d lt) (done.each i d lt) (share.parts (suc i) refl) (share.caches (suc i) refl) (share.records (suc i) refl) woven.records_are refl (room_set i d lt)
 
   thread_paid : (i : ℕ) (d : Worker) → i < length team1.threads.items → length (records_by (suc i) said) + owed_at f (suc i) reached ≤ owed_at f (suc i) begun.woke.reached + own_records f (suc i) ops
   thread_paid i d lt =
       let share = woven.shares (owner_in ops (suc i)) in
-      has_paid ops left said (begun.woke.rests i d lt) (done.each i d lt) (share.parts (suc i) refl) (share.caches (suc i) refl) (share.records (suc i) refl) woven.records_are refl (room_set i d lt)
+      has_paid ops left said reached (begun.woke.rests i d lt) (done.each i d lt) (share.parts (suc i) refl) (share.caches (suc i) refl) (share.records (suc i) refl) woven.records_are refl (room_set i d lt)
 
   own_rests : ScavengerRests region f team1.scavenger (own_records f 0 (ops ++ left)) p
   own_rests = subst (λ (s : Scavenger). ScavengerRests region f s (own_records f 0 (ops ++ left)) p) (sym begun.scavenger) at.scavenger
@@ -108,12 +108,12 @@ module _ {region : SharedRegion} {f : Profile} {awake : Mask4} {team team1 team2
   told : records_in team2.scavenger.out ≡ records_by 0 said
   told =
       let share = woven.shares 0 in
-      scavenger_said ops left said own_rests done.scavenger (share.parts 0 its_hands) (share.records 0 its_hands) woven.records_are refl refl
+      scavenger_said ops left said reached own_rests done.scavenger (share.parts 0 its_hands) (share.records 0 its_hands) woven.records_are refl refl
 
   told_few : length (records_by 0 said) ≤ own_records f 0 ops
   told_few =
       let share = woven.shares 0 in
-      scavenger_paid ops left said own_rests done.scavenger (share.parts 0 its_hands) (share.records 0 its_hands) woven.records_are refl refl
+      scavenger_paid ops left said reached own_rests done.scavenger (share.parts 0 its_hands) (share.records 0 its_hands) woven.records_are refl refl
 
   -- ---- what is gathered
   counted : length team1.threads.items ≡ f.threads
@@ -134,7 +134,7 @@ module _ {region : SharedRegion} {f : Profile} {awake : Mask4} {team team1 team2
       let few = told_few in
       omega (arith, threads, own, owed, few)
 
-  module _ {marks : ℕ} {out : Records} (room : HasRoom f (ops ∷ rest) marks out p) where
+  module _ (marks : ℕ) (out : Records) (room : HasRoom f (ops ∷ rest) marks out p) where
     pub may_append : length (records_in out) + length (records_in team2.scavenger.out) ≤ room_of out
     may_append =
         let own = ap (λ (rs : List Record). length rs) told in
@@ -142,7 +142,7 @@ module _ {region : SharedRegion} {f : Profile} {awake : Mask4} {team team1 team2
         let both = records_of_both f ops left in
         omega (arith, own, most, both, room)
 
-    module _ {out1 : Records} (added : records_in out1 ≡ records_in out ++ records_in team2.scavenger.out) (size : room_of out1 ≡ room_of out) where
+    module _ (out1 : Records) (added : records_in out1 ≡ records_in out ++ records_in team2.scavenger.out) (size : room_of out1 ≡ room_of out) where
       counted_own : length (records_in out1) ≡ length (records_in out) + length (records_by 0 said)
       counted_own =
           let both = ap (λ (rs : List Record). length rs) added in
@@ -158,7 +158,7 @@ module _ {region : SharedRegion} {f : Profile} {awake : Mask4} {team team1 team2
           let both = records_of_both f ops left in
           omega (arith, own, all, most, both, room, size)
 
-      module _ {out2 : Records} (gathered : records_in out2 ≡ records_in out1 ++ said_by_all team2.threads.items) (size2 : room_of out2 ≡ room_of out1) where
+      module _ (out2 : Records) (gathered : records_in out2 ≡ records_in out1 ++ said_by_all team2.threads.items) (size2 : room_of out2 ≡ room_of out1) where
         pub room_left : HasRoom f rest marks out2 reached
         room_left =
             let own = counted_own in
@@ -191,7 +191,7 @@ module _ {region : SharedRegion} {f : Profile} {awake : Mask4} {team team1 team2
       (subst (λ (ks : List ℕ). Reaches f (map Wakes ks) p begun.woke.reached) wakes begun.woke.reaches) woven.reaches
 
   -- ---- the workers, once what they said is gathered
-  module _ {workers : List Worker} (gathered : (i : ℕ) (d : Worker) → i < length team2.threads.items → IsGathered (get_or team2.threads.items i d) (get_or workers i d)) (size : length workers ≡ length team2.threads.items) where
+  module _ (workers : List Worker) (gathered : (i : ℕ) (d : Worker) → i < length team2.threads.items → IsGathered (get_or team2.threads.items i d) (get_or workers i d)) (size : length workers ≡ length team2.threads.items) where
     sized : length workers ≡ length team1.threads.items
     sized = size ∙ done.many
 
@@ -232,7 +232,7 @@ module _ {region : SharedRegion} {f : Profile} {awake : Mask4} {team team1 team2
               let here : i < length workers = omega (arith, lt, size3) in
               let first : i < length team1.threads.items = omega (arith, here, within) in
               let share = woven.shares (owner_in ops (suc i)) in
-              rests_after ops left said (begun.woke.rests i d first) (done.each i d first) (share.parts (suc i) refl) (share.caches (suc i) refl) (share.records (suc i) refl) woven.records_are refl (room_set i d first)
+              rests_after ops left said reached (begun.woke.rests i d first) (done.each i d first) (share.parts (suc i) refl) (share.caches (suc i) refl) (share.records (suc i) refl) woven.records_are refl (room_set i d first)
               (gathered i d (omega (arith, here, size))) (emptied i d here);
           scavenger = scavenger;
           nobody = λ k far. part_stays f k (acts_of_ops (idle_threads f.threads ops) ops) begun.woke.reached reached (apart_beyond f k at.names.asked ops far sound) woven.reaches ∙ begun.woke.leaves.beyond k (let n = at.many in omega (arith, far, n)) ∙ at.nobody k far;
@@ -245,7 +245,7 @@ module _ {region : SharedRegion} {f : Profile} {awake : Mask4} {team team1 team2
       → ScavengerRests region f after (own_records f 0 left) reached
   scavenger_after after pass outcomes none empty size =
       let share = woven.shares 0 in
-      scavenger_rests ops left said own_rests done.scavenger (share.parts 0 its_hands) (share.records 0 its_hands) woven.records_are refl refl after pass (ap places_of outcomes) none empty size
+      scavenger_rests ops left said reached own_rests done.scavenger (share.parts 0 its_hands) (share.records 0 its_hands) woven.records_are refl refl after pass (ap places_of outcomes) none empty size
 
 -- ---- all together
 -- what these workers said came to the end of the records
@@ -273,8 +273,8 @@ phase_done {region} {f} {awake} {team} {team1} {team2} {p} {marks} {out} {out1} 
     record {
       reached = reached ops rest at.team_at begun done;
       reaches = reaches ops rest at.team_at begun done alike;
-      team_at = team_after ops rest at.team_at begun done g.each g.many team3 taken.each taken.many taken.taken taken.held scavenger places;
-      written = written ops rest at.team_at begun done at.room added size g.added g.size at.marked;
-      room = room_left ops rest at.team_at begun done at.room added size g.added g.size;
+      team_at = team_after ops rest at.team_at begun done workers g.each g.many team3 taken.each taken.many taken.taken taken.held scavenger places;
+      written = written ops rest at.team_at begun done marks out at.room out1 added size out2 g.added g.size at.marked;
+      room = room_left ops rest at.team_at begun done marks out at.room out1 added size out2 g.added g.size;
       size = g.size ∙ size;
     }

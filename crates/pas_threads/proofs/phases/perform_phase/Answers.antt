@@ -1,4 +1,5 @@
 use Rattle.std.proofs.Common.{◌≡◌, ◌+◌, ◌≤◌, ◌∙◌, ◌∷◌, ℕ, List, length, ap, sym, refl, subst, All}
+use Rattle.std.specs.Vec.{with_items}
 use Rattle.std.proofs.lemmas.List.{with_items_is}
 use Rattle.pas_trace.specs.EveryPlan.{all_ops, own_records}
 use Rattle.pas_report.specs.Rooms.{records_in, room_of}
@@ -33,14 +34,58 @@ perform_all-team-requires-clause-ready g c κs within =
     (m.0, _, begun.woke.reached, begun.ready)
 
 pub append-requires : goal.append-requires
-append-requires g c = ?
+append-requires g c =
+    let m = c.requires.may in
+    let at = m.4.team_at in
+    let woken = with_items_is c.args.team.threads c.wake_all.new.threads (c.wake_all.ensures.many ∙ c.deref_mut.ensures.len) in
+    let begun = has_begun c.args.ops.now m.1 _ at c.deref_mut.ensures.value woken c.wake_all.ensures.woke c.wake_all.ensures.many refl c.note.ensures.names c.note.ensures.placed (record { workers = at.places.workers; hands = at.places.hands; lent = at.places.lent; free = at.places.free }) in
+    may_append c.args.ops.now m.1 at begun (c.perform_all-team.ensures.done m.0 _ begun.woke.reached begun.ready) m.2 c.args.out.now m.4.room
 
 pub gather-requires : goal.gather-requires
-gather-requires g c = ?
+gather-requires g c =
+    let m = c.requires.may in
+    let at = m.4.team_at in
+    let woken = with_items_is c.args.team.threads c.wake_all.new.threads (c.wake_all.ensures.many ∙ c.deref_mut.ensures.len) in
+    let begun = has_begun c.args.ops.now m.1 _ at c.deref_mut.ensures.value woken c.wake_all.ensures.woke c.wake_all.ensures.many refl c.note.ensures.names c.note.ensures.placed (record { workers = at.places.workers; hands = at.places.hands; lent = at.places.lent; free = at.places.free }) in
+    record {
+      room = subst (λ (ws : List Worker). length (records_in c.append.new.self) + length (said_by_all ws) ≤ room_of c.append.new.self) (sym c.deref_mut-2.ensures.value)
+          (may_gather c.args.ops.now m.1 at begun (c.perform_all-team.ensures.done m.0 _ begun.woke.reached begun.ready) m.2 c.args.out.now m.4.room c.append.new.self c.append.ensures.added c.append.ensures.size);
+    }
 
 pub take_all-requires : goal.take_all-requires
-take_all-requires g c = ?
+take_all-requires g c =
+    let m = c.requires.may in
+    let at = m.4.team_at in
+    let woken = with_items_is c.args.team.threads c.wake_all.new.threads (c.wake_all.ensures.many ∙ c.deref_mut.ensures.len) in
+    let begun = has_begun c.args.ops.now m.1 _ at c.deref_mut.ensures.value woken c.wake_all.ensures.woke c.wake_all.ensures.many refl c.note.ensures.names c.note.ensures.placed (record { workers = at.places.workers; hands = at.places.hands; lent = at.places.lent; free = at.places.free }) in
+    let given = with_items_is c.perform_all-team.result.threads c.gather.new.threads (c.gather.ensures.many ∙ c.deref_mut-2.ensures.len) in
+    let gathered : WereGathered c.perform_all-team.result.threads.items c.gather.new.threads c.append.new.self c.gather.new.out =
+        subst (λ (ws : List Worker). WereGathered ws c.gather.new.threads c.append.new.self c.gather.new.out) c.deref_mut-2.ensures.value
+        (record { added = c.gather.ensures.added; size = c.gather.ensures.room; each = c.gather.ensures.gathered; many = c.gather.ensures.many })
+    in
+    record {
+      within = subst (λ (ws : List Worker). All (IsWithin (names_held c.perform_all-team.result.book.names)) ws) (sym (c.deref_mut-3.ensures.value ∙ given))
+          (may_take c.args.ops.now m.1 at begun (c.perform_all-team.ensures.done m.0 _ begun.woke.reached begun.ready) c.gather.new.threads gathered.each gathered.many);
+    }
 
 pub returns : goal.returns
 returns g c =
-    let any = phase_done in ?
+    let woken = with_items_is c.args.team.threads c.wake_all.new.threads (c.wake_all.ensures.many ∙ c.deref_mut.ensures.len) in
+    let given = with_items_is c.perform_all-team.result.threads c.gather.new.threads (c.gather.ensures.many ∙ c.deref_mut-2.ensures.len) in
+    let left = with_items_is (with_items c.perform_all-team.result.threads c.gather.new.threads) c.take_all.new.workers (c.take_all.ensures.many ∙ c.deref_mut-3.ensures.len) in
+    let gathered : WereGathered c.perform_all-team.result.threads.items c.gather.new.threads c.append.new.self c.gather.new.out =
+        subst (λ (ws : List Worker). WereGathered ws c.gather.new.threads c.append.new.self c.gather.new.out) c.deref_mut-2.ensures.value
+        (record { added = c.gather.ensures.added; size = c.gather.ensures.room; each = c.gather.ensures.gathered; many = c.gather.ensures.many })
+    in
+    let taken : WereTaken c.gather.new.threads c.take_all.new.workers c.perform_all-team.result.book c.take_all.new.book =
+        subst (λ (ws : List Worker). WereTaken ws c.take_all.new.workers c.perform_all-team.result.book c.take_all.new.book) (c.deref_mut-3.ensures.value ∙ given)
+        (record { taken = c.take_all.ensures.taken; held = c.take_all.ensures.room; each = c.take_all.ensures.emptied; many = c.take_all.ensures.many })
+    in
+    record {
+      done = λ f rest marks p whole.
+          let at = whole.team_at in
+          let begun = has_begun c.args.ops.now rest _ at c.deref_mut.ensures.value woken c.wake_all.ensures.woke c.wake_all.ensures.many refl c.note.ensures.names c.note.ensures.placed (record { workers = at.places.workers; hands = at.places.hands; lent = at.places.lent; free = at.places.free }) in
+          let done = c.perform_all-team.ensures.done f _ begun.woke.reached begun.ready in
+          phase_done c.args.ops.now rest whole begun done c.active-awake.ensures c.append.ensures.added c.append.ensures.size gathered _ taken left refl refl done.none c.append.ensures.none c.append.ensures.other_size
+          (record { workers = done.places.workers; hands = done.places.hands; lent = done.places.lent; free = done.places.free });
+    }
