@@ -78,6 +78,7 @@ RUNS = {
         b"pas 1 pages 8 threads 2 heaps 1 age 2\na 1 1 0 16 16\na 2 2 0 16 16\nf 1 1\nphase\nf 2 1\nf 1 2\n",
     ),
     "a full log and a full cache, blocks of every kind": (["order"], full_log_and_cache()),
+    "two threads at once": (["run"], b"pas 1 pages 1 threads 2 heaps 1 age 2\na 2 1 0 16 16\nr 1 0x00000008 0\nphase\nf 1 1\nidle 0\n"),
     "a fault": (["order"], b"pas 1 pages 4 threads 1 heaps 1 age 2\nf 1 1\n"),
     "a generated trace": (["gen", "7", "2000", "4", "64"], b""),
     "other words": (["replay", "it"], b""),

@@ -4,17 +4,22 @@
 ghost use Rattle.std.specs.Prelude.{◌≡◌, IfOk, OnErr};
 
 use pas_io::real::{RealSink, RealSource};
+use pas_io::{Sink, Source};
 use pas_top::pas_main;
-use std::alloc::AllocError;
+use std::alloc::{AllocError, Global};
 use std::env;
 use std::io::ErrorKind;
 use std::process::ExitCode;
+use std::sync::Wait;
+use std::thread::Threads;
 
 /// The status where memory is wanting.
 const NO_MEMORY: u8 = 5;
 
 fn main(rt: HostRuntime) -> ExitCode {
-    let called = words(&rt).and_then(|words| call(&rt, &words));
+    let mut source = RealSource::new(rt.stdin());
+    let mut sink = RealSink::new(rt.stdout());
+    let called = words(&rt).and_then(|words| call(&rt, rt.alloc(), &words, &mut source, &mut sink));
     ExitCode::from(status(called))
 }
 
@@ -35,10 +40,14 @@ fn words(rt: &HostRuntime) -> Result<Vec<String>, AllocError> {
     }
 }
 
-/// Calls with these words, over standard input and output.
-fn call(rt: &HostRuntime, words: &[String]) -> Result<u8, AllocError> {
-    let words: Vec<&str> = words.iter().map(|word| word.as_str()).collect(rt.alloc())?;
-    let mut source = RealSource::new(rt.stdin());
-    let mut sink = RealSink::new(rt.stdout());
-    Ok(pas_main(rt.alloc(), &words, &mut source, &mut sink))
+/// Calls with these words.
+fn call<R: Threads + Wait + Sync, S: Source, K: Sink>(
+    rt: &R,
+    alloc: Global,
+    words: &[String],
+    source: &mut S,
+    sink: &mut K,
+) -> Result<u8, AllocError> {
+    let words: Vec<&str> = words.iter().map(|word| word.as_str()).collect(alloc)?;
+    Ok(pas_main(rt, alloc, &words, source, sink))
 }

@@ -45,10 +45,10 @@ unknown_all : (n : ℕ) → unknown_below n [] ≡ n
 unknown_all zero = refl
 unknown_all (suc n) = let rest = unknown_all n in omega (arith, rest)
 
-nothing_owed : (f : Profile) → owed_events f empty_cache [] ≡ f.pages
+pub nothing_owed : (f : Profile) → owed_events f empty_cache [] ≡ f.pages
 nothing_owed f = let all = unknown_all f.pages in omega (arith, all)
 
-nothing : HasNothing []
+pub nothing : HasNothing []
 nothing = record { grains = λ g. refl; rights = λ page. refl; clear = record { on = λ page. record { stamped = refl; owes = record { checks = λ word lt. refl; hint = refl }; examined = refl } } }
 
 -- an actor that made no step, which rests
@@ -101,7 +101,7 @@ start {text} {plan} {kit} {out} read made empty room =
     )
 
 -- ---- the end
-no_slots : (locals : List Slots) → locals ≡ [] → (g : ℕ) → (any_covers locals g ≡ false) × (any_keeps locals g ≡ false)
+pub no_slots : (locals : List Slots) → locals ≡ [] → (g : ℕ) → (any_covers locals g ≡ false) × (any_keeps locals g ≡ false)
 no_slots locals is g = (ap (λ (xs : List Slots). any_covers xs g) is, ap (λ (xs : List Slots). any_keeps xs g) is)
 
 some_cache : (caches : List ThreadCache) → 1 ≤ length caches → ThreadCache

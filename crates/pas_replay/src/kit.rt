@@ -37,7 +37,11 @@ pub struct PlainKit {
 }
 
 /// The room of each actor, from the scavenger on.
-fn rooms_of(alloc: Global, utility: &mut Utility, threads: u8) -> Result<Vec<EventRoom>, NoMemory>
+pub fn rooms_of(
+    alloc: Global,
+    utility: &mut Utility,
+    threads: u8,
+) -> Result<Vec<EventRoom>, NoMemory>
     requires threads { threads ≤ threads_of utility.old }
     requires few { threads ≤ 16 }
     requires left { (k : ℕ) → k ≤ threads → (size : ℕ) × (room_for utility.old k ≡ Some size) }
@@ -77,7 +81,7 @@ fn places_for(
 }
 
 /// An empty cache for each of so many threads.
-fn caches_for(
+pub fn caches_for(
     alloc: Global,
     utility: &mut Utility,
     threads: u8,
@@ -101,7 +105,7 @@ fn caches_for(
 }
 
 /// The list for the outcomes of a pass.
-fn outcomes_from(utility: &mut Utility) -> Outcomes
+pub fn outcomes_from(utility: &mut Utility) -> Outcomes
     requires { (places : ℕ) × (outcomes_of utility.old ≡ Some places) }
     ensures { outcomes_of utility.old ≡ Some (places_of result) }
 {

@@ -1,8 +1,8 @@
 //! The replay of a plan in the order of the text, over a plain region.
 #![tactic(auto)]
 
-mod kit;
-mod limits;
+pub mod kit;
+pub mod limits;
 pub mod order;
 mod seats;
 

@@ -28,7 +28,7 @@ fn limit_of(ops: &[Op], least: usize) -> usize
 }
 
 /// A number above all names that the phases ask for.
-pub(crate) fn names_limit(phases: &[Phase]) -> usize
+pub fn names_limit(phases: &[Phase]) -> usize
     ensures { AllBelow result (map ops_of phases.now) }
 {
     let mut limit = 0;

@@ -53,6 +53,7 @@ did_alone {region} {book} {f} {idle} {act} {next} {σ} {σ'} {places} {places'} 
       let many = at.many in
       let none = none_by (get_or idle i 0) 0 did.said did.each (distinct.threads i (omega (arith, lt, many))) in
       sym (append-nil (records_in (get_or lent i d).out)) ∙ ap (λ (rs : List Record). records_in (get_or lent i d).out ++ rs) (sym none);
+  kept = λ i d lt. record { room = refl; requests = refl };
   room = did.room;
 }
 
@@ -94,6 +95,7 @@ did_idle {region} {book} {f} {idle} {next} {σ} {σ'} {places} {out} {out'} {lat
           let none = none_by k 0 read.said read.each (distinct.threads i (omega (arith, lt, many))) in
           let was = records_in (get_or old i d).out in
           more_by k was was (records_in (get_or new i d).out) read.said stops.said (records_by k stops.said) (sym (append-nil was) ∙ ap (λ (rs : List Record). was ++ rs) (sym none)) (stops.flushed i d lt) refl;
+      kept = stops.kept;
       room = stops.room;
     }
 
@@ -116,6 +118,7 @@ crew_none {region} {book} {f} {idle} {acts} {σ} {has} {later} {lends} {p} at = 
   records_are = sym (append-nil p.records);
   told = sym (append-nil (records_in has.out));
   flushed = λ i d lt. sym (append-nil (records_in (get_or has.lent i d).out));
+  kept = λ i d lt. record { room = refl; requests = refl };
   room = refl;
 }
 
@@ -132,6 +135,11 @@ crew_both {region} {book} {f} {idle} {xs} {ys} {mid} {next} {σ0} {σ} {σ'} {h0
       let k = get_or idle i 0 in
       let size = one.stands.lent.many in
       more_by k (records_in (get_or h0.lent i d).out) (records_in (get_or h.lent i d).out) (records_in (get_or h'.lent i d).out) one.said two.said (records_by k two.said) (one.flushed i d lt) (two.flushed i d (omega (arith, lt, many, size))) refl;
+  kept = λ i d lt.
+      let size = one.stands.lent.many in
+      let before = one.kept i d lt in
+      let after = two.kept i d (omega (arith, lt, many, size)) in
+      record { room = after.room ∙ before.room; requests = after.requests ∙ before.requests };
   room = two.room ∙ one.room;
 }
 

@@ -16,7 +16,7 @@ use Rattle.pas_threads.specs.Works.{Later}
 use Rattle.pas_threads.specs.Shares.{EachOf}
 use Rattle.pas_threads.specs.Scavenges.{StopsThread}
 use Rattle.pas_threads.specs.Hands.{kept_by, WorkerAt, Did}
-use Rattle.pas_threads.specs.Lent.{AreDistinct, AreLent, DidWithLent}
+use Rattle.pas_threads.specs.Lent.{AreDistinct, AreLent, KeepsRooms, DidWithLent}
 use Rattle.pas_threads.specs.declared.workers.Worker.{Worker}
 use Rattle.pas_threads.proofs.Speaking.{records_both, none_by}
 use Rattle.pas_threads.proofs.Working.{reach_both}
@@ -52,6 +52,7 @@ begins {region} {book} {f} {idle} {later} {lent} {out} {p} at = record {
   records_are = sym (append-nil p.records);
   told = sym (append-nil (records_in out));
   flushed = λ i d lt. sym (append-nil (records_in (get_or lent i d).out));
+  kept = λ i d lt. record { room = refl; requests = refl };
   few = omega arith;
   room = refl;
   scavenger = refl;
@@ -62,7 +63,8 @@ begins {region} {book} {f} {idle} {later} {lent} {out} {p} at = record {
 -- the next of the lent threads
 module _ {region : SharedRegion} {book : NameBook} {f : Profile} {acts : List Act} {idle : List ℕ} {later : ℕ → Later} {old now : List Worker} {out out1 out2 : Records} {p : Progress} (n i : ℕ) (d w : Worker) (distinct : AreDistinct idle)
     (so : DidWithLent region book f acts idle later old now out out1 i p) (lt : i < length now) (many : length now ≡ length old)
-    (did : Did region (get_or now i d).pass w.pass (λ σ σ'. StopsThread f (get_or idle i 0) n σ σ' (kept_by book (get_or now i d)) (kept_by book w) out1 out2 (later i) so.reached)) where
+    (did : Did region (get_or now i d).pass w.pass (λ σ σ'. StopsThread f (get_or idle i 0) n σ σ' (kept_by book (get_or now i d)) (kept_by book w) out1 out2 (later i) so.reached))
+    (asked : w.requests ≡ (get_or now i d).requests) where
   abbrev k : ℕ
   k = get_or idle i 0
 
@@ -120,6 +122,17 @@ module _ {region : SharedRegion} {book : NameBook} {f : Profile} {acts : List Ac
         ∙ more_by (get_or idle j 0) (records_in (get_or old j e).out) (records_in (get_or now j e).out) (records_in (get_or now j e).out) so.said (mine ++ told) [] (so.flushed j e less) (sym (append-nil (records_in (get_or now j e).out))) none
   ]
 
+  kept_again : (j : ℕ) (e : Worker) → j < length old → KeepsRooms (get_or old j e) (get_or (set now i w) j e)
+  kept_again j e less = elim (cases_eq j i) [
+    | inl same ↦
+        let low : i < length old = omega (arith, less, same) in
+        let was = so.kept i d low in
+        let here : KeepsRooms (get_or old i d) w = record { room = did.does.room ∙ was.room; requests = asked ∙ was.requests } in
+        subst (λ (x : Worker). KeepsRooms x (get_or (set now i w) j e)) (get_or_default old i d e low ∙ ap (λ (m : ℕ). get_or old m e) (sym same))
+        (subst (λ (x : Worker). KeepsRooms (get_or old i d) x) (sym (get_or-set_at now i j w e same lt)) here)
+    | inr other ↦ subst (λ (x : Worker). KeepsRooms (get_or old j e) x) (sym (get_or-set_other now i j w e other)) (so.kept j e less)
+  ]
+
   pub next : DidWithLent region book f (acts ++ (StopsIdle k n ∷ [])) idle later old (set now i w) out out2 (i + 1) p
   next =
       let by = by_scavenger k mine told did.does.each did.does.each_told no_zero in
@@ -135,6 +148,7 @@ module _ {region : SharedRegion} {book : NameBook} {f : Profile} {acts : List Ac
         records_are = did.does.records_are ∙ ap (λ (rs : List Record). rs ++ (mine ++ told)) so.records_are ∙ append_assoc p.records so.said (mine ++ told);
         told = more_by 0 (records_in out) (records_in out1) (records_in out2) so.said (mine ++ told) told so.told did.does.said by;
         flushed = flushed_again;
+        kept = kept_again;
         few = omega (arith, both, size, few, one);
         room = did.does.room_said ∙ so.room;
         scavenger = did.does.parts 0 (λ is. no_zero (sym is)) ∙ so.scavenger;
@@ -153,12 +167,12 @@ next_stop n idle i lt = ap (λ (ks : List ℕ). idle_stops n ks) (drop_more idle
 pub goes_on : {region : SharedRegion} {book : NameBook} {f : Profile} {idle : List ℕ} {later : ℕ → Later} {old now : List Worker} {out out1 out2 : Records} {p : Progress} (n i : ℕ) (d w : Worker) → AreDistinct idle
     → (so : SoFar region book f n idle later old now out out1 i p) → i < length now → length now ≡ length old
     → Did region (get_or now i d).pass w.pass (λ σ σ'. StopsThread f (get_or idle i 0) n σ σ' (kept_by book (get_or now i d)) (kept_by book w) out1 out2 (later i) so.2.reached)
-    → SoFar region book f n idle later old (set now i w) out out2 (i + 1) p
-goes_on {region} {book} {f} {idle} {later} {old} {now} {out} {out1} {out2} {p} n i d w distinct so lt many did =
+    → w.requests ≡ (get_or now i d).requests → SoFar region book f n idle later old (set now i w) out out2 (i + 1) p
+goes_on {region} {book} {f} {idle} {later} {old} {now} {out} {out1} {out2} {p} n i d w distinct so lt many did asked =
     let same = so.2.lent.many in
     let one = next_stop n idle i (omega (arith, same, lt)) in
     let head : List Act = StopsIdle (get_or idle i 0) n ∷ [] in
-    (so.0 ++ head, append_assoc so.0 head (idle_stops n (drop (i + 1) idle)) ∙ ap (λ (acts : List Act). so.0 ++ acts) (sym one) ∙ so.1, next n i d w distinct so.2 lt many did)
+    (so.0 ++ head, append_assoc so.0 head (idle_stops n (drop (i + 1) idle)) ∙ ap (λ (acts : List Act). so.0 ++ acts) (sym one) ∙ so.1, next n i d w distinct so.2 lt many did asked)
 
 pub ends : {region : SharedRegion} {book : NameBook} {f : Profile} {idle : List ℕ} {later : ℕ → Later} {old now : List Worker} {out out1 : Records} {p : Progress} (n i : ℕ) → length old ≤ i → i ≤ length old → length now ≡ length old
     → SoFar region book f n idle later old now out out1 i p → DidWithLent region book f (idle_stops n idle) idle later old now out out1 (length old) p

@@ -25,3 +25,6 @@ pub mod PhaseStarts
 pub mod Beyond
 pub mod PhaseEnds
 pub mod PhaseTeams
+pub mod Equipping
+pub mod Starting
+pub mod Ending

@@ -7,6 +7,7 @@ use Rattle.pas_profile.specs.declared.directory.Route.{Route}
 use Rattle.pas_profile.specs.Routes.{route_of}
 use Rattle.pas_trace.specs.Reasons.{cost_of_route}
 use Rattle.pas_trace.specs.EveryPlan.{is_asked, asked_after, asked_by, AreSound, IsSoundWhat, IsActorOf, IsThread}
+use Rattle.pas_trace.specs.EveryPhase.{FreesItsOwn}
 use Rattle.pas_trace.specs.declared.plan.What.{What}
 use Rattle.pas_trace.specs.declared.plan.What.TheVariants.{Alloc, Free, Raw, Flush, Stop, Tick, Pass, Idle}
 use Rattle.pas_trace.specs.declared.plan.Op.{Op}
@@ -18,7 +19,7 @@ use Rattle.pas_answers.specs.Names.{block_named, names_held}
 use Rattle.pas_answers.specs.Replays.{at_start}
 use Rattle.pas_answers.specs.declared.names.Names.{Names}
 use Rattle.pas_threads.specs.Shares.{own_acts}
-use Rattle.pas_threads.specs.NameBooks.{requests_in, room_for, name_asked, names_asked, names_of, ArePlaced, came_to, known_in, table, FreesItsOwn, NamesAt}
+use Rattle.pas_threads.specs.NameBooks.{requests_in, room_for, name_asked, names_asked, names_of, ArePlaced, came_to, known_in, table, NamesAt}
 use Rattle.pas_threads.specs.Works.{KnowsNames}
 use Rattle.pas_threads.specs.declared.names.NameBook.{NameBook}
 use Rattle.pas_threads.specs.declared.names.Requests.{Requests}

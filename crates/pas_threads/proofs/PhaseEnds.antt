@@ -7,6 +7,7 @@ use Rattle.pas_steps.specs.Lists.{part}
 use Rattle.pas_steps.specs.Views.{View}
 use Rattle.pas_trace.specs.EveryPlan.{is_asked, own_records}
 use Rattle.pas_trace.specs.declared.plan.Op.{Op}
+use Rattle.pas_trace.proofs.OperationsOfItems.{own_both}
 use Rattle.pas_report.specs.Rooms.{records_in, room_of}
 use Rattle.pas_report.specs.declared.record.Record.{Record}
 use Rattle.pas_utility.specs.Outcomes.{places_of}
@@ -35,7 +36,7 @@ use Rattle.pas_threads.specs.declared.scavenger.Scavenger.{Scavenger}
 use Rattle.pas_threads.specs.declared.workers.Worker.{Worker}
 use Rattle.pas_threads.proofs.NamesBefore.{sound_front}
 use Rattle.pas_threads.proofs.PhaseActs.{acts_are_shared}
-use Rattle.pas_threads.proofs.PhaseRooms.{own_both, own_costs, scavenger_costs}
+use Rattle.pas_threads.proofs.PhaseRooms.{own_costs, scavenger_costs}
 use Rattle.pas_threads.proofs.PhaseStarts.{sits_less}
 use Rattle.pas_threads.proofs.Speaking.{records_both}
 use Rattle.pas_threads.proofs.Weaving.{weave}

@@ -18,15 +18,6 @@ use Rattle.pas_threads.specs.Sessions.{owed_by}
 use Rattle.pas_threads.specs.Turns.{owed_at, said_by_all}
 use Rattle.pas_threads.specs.declared.workers.Worker.{Worker}
 
--- ---- a phase and the rest
-pub own_both : (f : Profile) (k : ℕ) (xs ys : List Op) → own_records f k (xs ++ ys) ≡ own_records f k xs + own_records f k ys
-own_both f k [] ys = omega arith
-own_both f k (x ∷ xs) ys = let rest = own_both f k xs ys in omega (arith, rest)
-
-pub records_of_both : (f : Profile) (xs ys : List Op) → records_of_ops f (xs ++ ys) ≡ records_of_ops f xs + records_of_ops f ys
-records_of_both f [] ys = omega arith
-records_of_both f (x ∷ xs) ys = let rest = records_of_both f xs ys in omega (arith, rest)
-
 -- ---- a thread
 cost_le : (f : Profile) (what : What) → cost_of_what what ≤ records_of_what f what
 cost_le f (Alloc name heap size align) = omega arith

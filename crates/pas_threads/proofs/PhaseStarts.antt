@@ -1,13 +1,17 @@
 -- The hands of a phase are ready once its threads read the epoch and its names are noted.
 use Rattle.std.proofs.Common.{◌≡◌, ℕ, zero, suc, ◌+◌, ◌-◌, ◌<◌, ◌≤◌, List, [], ◌∷◌, ◌++◌, length, get_or, refl, ap, sym, ◌∙◌, subst, arith}
+use Rattle.std.specs.Vec.{with_items}
+use Rattle.std.proofs.lemmas.List.{with_items_is}
 use Rattle.pas_bits.specs.declared.mask.Mask4.{Mask4}
 use Rattle.pas_profile.specs.declared.profile.Profile.{Profile}
 use Rattle.pas_steps.specs.Clear.{HasNothing}
 use Rattle.pas_steps.specs.Desks.{Standing}
 use Rattle.pas_steps.specs.Lists.{part}
 use Rattle.pas_steps.specs.Views.{View}
+use Rattle.pas_trace.specs.EveryPhase.{FreesItsOwn}
 use Rattle.pas_trace.specs.EveryPlan.{all_ops, own_records}
 use Rattle.pas_trace.specs.declared.plan.Op.{Op}
+use Rattle.pas_trace.proofs.OperationsOfItems.{own_both}
 use Rattle.pas_report.specs.Rooms.{records_in, room_of}
 use Rattle.pas_report.specs.declared.record.Record.{Record}
 use Rattle.pas_cache.specs.Caches.{Cached, cached}
@@ -18,7 +22,7 @@ use Rattle.pas_answers.specs.Calls.{owed_events}
 use Rattle.pas_answers.specs.Fit.{costs_of, own_costs_of}
 use Rattle.pas_replay.proofs.ActsOfPlan.{idle_few}
 use Rattle.pas_threads.specs.Shares.{own_acts, scavenger_acts}
-use Rattle.pas_threads.specs.NameBooks.{NamesAt, FreesItsOwn, ArePlaced, names_asked, room_for, table}
+use Rattle.pas_threads.specs.NameBooks.{NamesAt, ArePlaced, names_asked, room_for, table}
 use Rattle.pas_threads.specs.Works.{Later, Sits, KnowsNames}
 use Rattle.pas_threads.specs.Hands.{standing_of_pass, WorkerAt}
 use Rattle.pas_threads.specs.Sessions.{WorkerRests, AreResting, ScavengerRests, HasPlaces, TeamAt}
@@ -29,7 +33,7 @@ use Rattle.pas_threads.specs.declared.phases.Team.{Team}
 use Rattle.pas_threads.specs.declared.scavenger.Scavenger.{Scavenger}
 use Rattle.pas_threads.specs.declared.workers.Worker.{Worker}
 use Rattle.pas_threads.proofs.NamesBefore.{names_before, sound_front}
-use Rattle.pas_threads.proofs.PhaseRooms.{own_both, own_costs, scavenger_costs}
+use Rattle.pas_threads.proofs.PhaseRooms.{own_costs, scavenger_costs}
 
 -- ---- rooms
 -- what the worker at this place has room for
@@ -128,6 +132,10 @@ team_ready {region} {f} {awake} {team} {p} ops rest team1 at woke many scavenger
     }
 
 -- ---- what a phase begins with
+-- the team with these workers and this book
+abbrev pub team_with : Team → List Worker → NameBook → Team
+team_with team workers book = record team { threads = with_items team.threads workers; book = book }
+
 -- its threads read the epoch and its names are noted: all hands are ready
 pub record HasBegun (region : SharedRegion) (f : Profile) (awake : Mask4) (ops : List Op) (rest : List (List Op)) (team team1 : Team) (p : Progress) : Type 0 where
   pub woke : WokeAll region f awake team.threads.items team1.threads.items (λ k. own_records f k (all_ops (ops ∷ rest))) p
@@ -136,12 +144,16 @@ pub record HasBegun (region : SharedRegion) (f : Profile) (awake : Mask4) (ops :
   pub names : team1.book.names ≡ team.book.names
   pub ready : IsReady region f ops team1 (later_beside f ops (all_ops rest) team1 woke.reached) woke.reached
 
-pub has_begun : {region : SharedRegion} {f : Profile} {awake : Mask4} {team : Team} {p : Progress} {given now : List Worker} (ops : List Op) (rest : List (List Op)) (team1 : Team) (at : TeamAt region f (ops ∷ rest) team p) → given ≡ team.threads.items → team1.threads.items ≡ now
-    → ((g : Profile) (later : ℕ → ℕ) (o : Progress) → AreResting region g given later o → WokeAll region g awake given now later o) → length now ≡ length given → team1.scavenger ≡ team.scavenger
-    → team1.book.names ≡ team.book.names → ((k : ℕ) → ArePlaced team1.book 0 (names_asked (own_acts k ops))) → HasPlaces f.threads team1 → HasBegun region f awake ops rest team team1 p
-has_begun {region} {f} {awake} {team} {p} {given} {now} ops rest team1 at value new wakes many scavenger names placed places =
+-- (`given` are the team's workers, as they are handed to what wakes them, and `now` what they are afterwards)
+pub has_begun : {region : SharedRegion} {f : Profile} {awake : Mask4} {team : Team} {p : Progress} {given now : List Worker} {book : NameBook} (ops : List Op) (rest : List (List Op)) → TeamAt region f (ops ∷ rest) team p → given ≡ team.threads.items → length given ≡ team.threads.len
+    → ((g : Profile) (later : ℕ → ℕ) (o : Progress) → AreResting region g given later o → WokeAll region g awake given now later o) → length now ≡ length given
+    → book.names ≡ team.book.names → ((k : ℕ) → ArePlaced book 0 (names_asked (own_acts k ops))) → HasBegun region f awake ops rest team (team_with team now book) p
+has_begun {region} {f} {awake} {team} {p} {given} {now} {book} ops rest at value len wakes many names placed =
     let later : ℕ → ℕ = λ k. own_records f k (all_ops (ops ∷ rest)) in
+    let team1 = team_with team now book in
+    let new = with_items_is team.threads now (many ∙ len) in
     let resting : AreResting region f given later p = subst (λ (ws : List Worker). AreResting region f ws later p) (sym value) at.workers in
     let woke : WokeAll region f awake team.threads.items team1.threads.items later p = subst (λ (ws : List Worker). WokeAll region f awake team.threads.items ws later p) (sym new) (subst (λ (ws : List Worker). WokeAll region f awake ws now later p) value (wakes f later p resting)) in
     let all = ap (λ (ws : List Worker). length ws) new ∙ many ∙ ap (λ (ws : List Worker). length ws) value in
-    record { woke = woke; many = all; scavenger = scavenger; names = names; ready = team_ready ops rest team1 at woke all scavenger names placed places }
+    let places : HasPlaces f.threads team1 = record { workers = at.places.workers; hands = at.places.hands; lent = at.places.lent; free = at.places.free } in
+    record { woke = woke; many = all; scavenger = refl; names = names; ready = team_ready ops rest team1 at woke all refl names placed places }

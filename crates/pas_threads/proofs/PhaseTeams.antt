@@ -5,10 +5,12 @@ use Rattle.pas_bits.specs.Masks.{is_set}
 use Rattle.pas_bits.specs.declared.mask.Mask4.{Mask4}
 use Rattle.pas_profile.specs.declared.profile.Profile.{Profile}
 use Rattle.pas_steps.specs.Lists.{part}
+use Rattle.pas_trace.specs.EveryPhase.{FreeTheirOwn}
 use Rattle.pas_trace.specs.EveryPlan.{all_ops, asked_after, AreSound, IsActorOf, own_records, records_of_ops}
 use Rattle.pas_trace.specs.declared.plan.What.{What}
 use Rattle.pas_trace.specs.declared.plan.What.TheVariants.{Alloc, Free, Raw, Flush, Stop, Tick, Pass, Idle}
 use Rattle.pas_trace.specs.declared.plan.Op.{Op}
+use Rattle.pas_trace.proofs.OperationsOfItems.{records_both}
 use Rattle.pas_utility.specs.Outcomes.{places_of}
 use Rattle.pas_report.specs.Rooms.{records_in, room_of}
 use Rattle.pas_report.specs.declared.record.Record.{Record}
@@ -22,7 +24,7 @@ use Rattle.pas_answers.specs.Ways.{records_by, by_actors}
 use Rattle.pas_replay.specs.Sessions.{awake_in}
 use Rattle.pas_replay.proofs.ActsInOrder.{threads_alike}
 use Rattle.pas_threads.specs.Shares.{Reaches, own_acts, owner_in, IsWoven}
-use Rattle.pas_threads.specs.NameBooks.{AreWithin, FreeTheirOwn, requests_in, names_of, names_asked}
+use Rattle.pas_threads.specs.NameBooks.{AreWithin, requests_in, names_of, names_asked}
 use Rattle.pas_threads.specs.Taken.{HasTaken, HandsOver, IsWithin, IsEmptied}
 use Rattle.pas_threads.specs.Sessions.{ScavengerRests, HasPlaces, TeamAt, AreMarked, AreWritten, HasRoom, owed_by, PhaseAt, PhaseDone}
 use Rattle.pas_threads.specs.Turns.{owed_at, IsGathered, said_by_all}
@@ -35,8 +37,9 @@ use Rattle.pas_threads.specs.declared.workers.Worker.{Worker}
 use Rattle.pas_threads.proofs.Beyond.{part_stays, apart_beyond}
 use Rattle.pas_threads.proofs.NamesBefore.{sound_front, below_front}
 use Rattle.pas_threads.proofs.NamesOfPhases.{or_either, some_worker, names_then, names_within}
+use Rattle.pas_threads.proofs.PhaseActs.{zero_own}
 use Rattle.pas_threads.proofs.PhaseEnds.{phase_woven, has_said, has_paid, rests_after, handed, scavenger_said, scavenger_paid, scavenger_rests}
-use Rattle.pas_threads.proofs.PhaseRooms.{records_of_both, own_by, own_all, all_paid, owed_alike, said_in_order, by_first}
+use Rattle.pas_threads.proofs.PhaseRooms.{ own_all, all_paid, owed_alike, said_in_order, by_first}
 use Rattle.pas_threads.proofs.PhaseStarts.{room_is, later_beside, HasBegun}
 use Rattle.pas_threads.proofs.Working.{reach_both}
 
@@ -65,10 +68,6 @@ active_within f asked (op ∷ ops) k sound is = elim (or_either (op.actor == k) 
   ]
   | inr later ↦ active_within f (asked_after op.what asked) ops k sound.2 later
 ]
-
-zero_either : (t : Bool) → ◌≡◌ {A = ℕ} (if t then 0 else 0) 0
-zero_either true = refl
-zero_either false = refl
 
 -- ---- the team, once all hands did their operations
 module _ {region : SharedRegion} {f : Profile} {awake : Mask4} {team team1 team2 : Team} {p : Progress} (ops : List Op) (rest : List (List Op)) (at : TeamAt region f (ops ∷ rest) team p) (begun : HasBegun region f awake ops rest team team1 p)
@@ -103,7 +102,7 @@ module _ {region : SharedRegion} {f : Profile} {awake : Mask4} {team team1 team2
 
   -- the scavenger is in its own hands
   its_hands : owner_in ops 0 ≡ 0
-  its_hands = zero_either (is_active ops 0)
+  its_hands = zero_own (is_active ops 0)
 
   told : records_in team2.scavenger.out ≡ records_by 0 said
   told =
@@ -139,7 +138,7 @@ module _ {region : SharedRegion} {f : Profile} {awake : Mask4} {team team1 team2
     may_append =
         let own = ap (λ (rs : List Record). length rs) told in
         let most = paid in
-        let both = records_of_both f ops left in
+        let both = records_both f ops left in
         omega (arith, own, most, both, room)
 
     module _ (out1 : Records) (added : records_in out1 ≡ records_in out ++ records_in team2.scavenger.out) (size : room_of out1 ≡ room_of out) where
@@ -155,7 +154,7 @@ module _ {region : SharedRegion} {f : Profile} {awake : Mask4} {team team1 team2
           let own = counted_own in
           let all = ap (λ (rs : List Record). length rs) all_said in
           let most = paid in
-          let both = records_of_both f ops left in
+          let both = records_both f ops left in
           omega (arith, own, all, most, both, room, size)
 
       module _ (out2 : Records) (gathered : records_in out2 ≡ records_in out1 ++ said_by_all team2.threads.items) (size2 : room_of out2 ≡ room_of out1) where
@@ -166,7 +165,7 @@ module _ {region : SharedRegion} {f : Profile} {awake : Mask4} {team team1 team2
             let sum = length-append (records_in out1) (said_by_all team2.threads.items) in
             let all = ap (λ (rs : List Record). length rs) all_said in
             let most = paid in
-            let both = records_of_both f ops left in
+            let both = records_both f ops left in
             omega (arith, own, now, sum, all, most, both, room, size, size2)
 
         pub written : AreMarked f.threads p.records (records_in out) → AreWritten f.threads reached.records (records_in out2)

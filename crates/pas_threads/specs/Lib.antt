@@ -12,3 +12,4 @@ pub mod Dealing
 pub mod Sessions
 pub mod Turns
 pub mod Performing
+pub mod Kits

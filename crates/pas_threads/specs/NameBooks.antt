@@ -1,9 +1,9 @@
 -- What the names of a trace stand for in a phase on threads. What they stood for before it is kept once, for all threads; what a thread's own requests came
 -- to in the phase is kept with the thread, and comes to the book after the phase.
-use Rattle.std.specs.Prelude.{ℕ, zero, suc, ◌+◌, ◌<◌, ◌≡◌, ◌==◌, true, if◌then◌else◌, List, [], ◌∷◌, ◌++◌, map, slice_index_or, Option, None, Some}
+use Rattle.std.specs.Prelude.{ℕ, zero, suc, ◌+◌, ◌<◌, ◌≡◌, ◌==◌, if◌then◌else◌, List, [], ◌∷◌, ◌++◌, map, slice_index_or, Option, None, Some}
 use Rattle.pas_profile.specs.declared.profile.Profile.{Profile}
 use Rattle.pas_profile.specs.declared.name.Name.{Name}
-use Rattle.pas_trace.specs.EveryPlan.{is_asked, asked_after, asked_by, AreSound}
+use Rattle.pas_trace.specs.EveryPlan.{AreSound}
 use Rattle.pas_trace.specs.declared.plan.What.{What}
 use Rattle.pas_trace.specs.declared.plan.Op.{Op}
 use Rattle.pas_trace.specs.declared.plan.What.TheVariants.{Alloc, Free, Raw, Flush, Stop, Tick, Pass, Idle}
@@ -99,16 +99,6 @@ abbrev pub table : NameBook → Requests → Table
 table book requests = record { book = book; requests = requests }
 
 -- ---- the phases
--- Each name that thread k frees in a phase of these operations was asked for by itself, or before the phase.
-abbrev pub FreesItsOwn : ℕ → List ℕ → List Op → Type 0
-FreesItsOwn k asked [] = Unit {0}
-FreesItsOwn k asked (op ∷ ops) = ((n : ℕ) → op.actor ≡ k → op.what ≡ Free n → is_asked asked n ≡ true) × FreesItsOwn k (if op.actor == k then asked_after op.what asked else asked) ops
-
--- .. and so it is in each of these phases, for all threads, once the names of the phases before it were asked for
-abbrev pub FreeTheirOwn : List ℕ → List (List Op) → Type 0
-FreeTheirOwn asked [] = Unit {0}
-FreeTheirOwn asked (phase ∷ phases) = ((k : ℕ) → FreesItsOwn k asked phase) × FreeTheirOwn (asked_by asked phase) phases
-
 -- Before a phase: these operations are left, from the phase's on, and the book says what all names stand for.
 pub record NamesAt (f : Profile) (ops : List Op) (book : NameBook) (p : Progress) : Type 0 where
   pub asked : List ℕ

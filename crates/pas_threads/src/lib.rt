@@ -5,6 +5,7 @@ pub mod crew;
 mod dealing;
 pub mod gate;
 mod hands;
+pub mod kit;
 pub mod laws;
 pub mod lending;
 pub mod names;
@@ -16,6 +17,7 @@ mod turns;
 pub mod workers;
 
 pub use gate::{Gate, OpenGate};
+pub use kit::{SharedKit, on_threads};
 pub use names::{NameBook, Requests};
 pub use scavenger::Scavenger;
 pub use workers::Worker;

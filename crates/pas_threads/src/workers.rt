@@ -91,6 +91,7 @@ pub fn stop_lent(
     requires room { length (records_in out.old) < room_of out.old }
     ensures stops { (book : TheBook) (f : TheProfile) (k : ℕ) (later : Later) (p : Progress) → WorkerAt region.now book f k [] worker.old later p → p.epoch ≡ epoch
         → Did region.now worker.old.pass worker.new.pass (λ σ σ'. StopsThread f k epochs σ σ' (kept_by book worker.old) (kept_by book worker.new) out.old out.new later p) }
+    ensures requests { worker.new.requests ≡ worker.old.requests }
 {
     let Some(pass) = worker.pass.take() else {
         unreachable!();

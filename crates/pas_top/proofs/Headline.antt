@@ -1,5 +1,5 @@
 -- From what a replay shows to what is written of it.
-use Rattle.std.proofs.Common.{◌≡◌, ℕ, ◌≤◌, List, ◌++◌, Option, Some, refl, ap, sym, ◌∙◌, subst, inl, inr, length, arith}
+use Rattle.std.proofs.Common.{◌≡◌, ℕ, ◌≤◌, ◌<◌, List, ◌++◌, Option, Some, refl, ap, sym, ◌∙◌, subst, inl, inr, length, arith}
 use Rattle.pas_profile.specs.Profiles.{IsValid, IsWordOf}
 use Rattle.pas_profile.specs.declared.profile.Profile.{Profile}
 use Rattle.pas_steps.specs.Lists.{Legal, visible}
@@ -21,7 +21,7 @@ use Rattle.pas_answers.specs.Ways.{Way}
 use Rattle.pas_replay.proofs.PlanFacts.{plan_valid}
 use Rattle.pas_answers.proofs.Consequences.{can_be_shown}
 use Rattle.pas_top.specs.Outcomes.{IsOutcome, IsShown, IsWritable, outcome_status, outcome_text, shown_text}
-use Rattle.pas_top.specs.Outputs.{most_bytes, ComesTo, IsOrder, IsOutput, IsReplayed}
+use Rattle.pas_top.specs.Outputs.{most_bytes, too_long_text, ComesTo, IsReplaying, IsOutput, IsReplayed}
 use Rattle.pas_top.specs.declared.outcome.Outcome.{Outcome}
 use Rattle.pas_top.specs.declared.outcome.Outcome.TheVariants.{Replayed, Faulty}
 
@@ -62,13 +62,13 @@ module _ {bytes : List ℕ} {way : Way} {plan : Plan} {records : List Record} {s
   }
 
 -- ---- what an input comes to
-pub can_write : (bytes : List ℕ) (outcome : Outcome) → IsOutcome bytes outcome → IsWritable outcome
-can_write bytes (Replayed records state) replay = can_show replay.read replay.shows
-can_write bytes (Faulty fault) first = tt
+pub can_write : (way : Way) (bytes : List ℕ) (outcome : Outcome) → IsOutcome way bytes outcome → IsWritable outcome
+can_write way bytes (Replayed records state) replay = can_show replay.read replay.shows
+can_write way bytes (Faulty fault) first = tt
 
-pub comes_to : (bytes : List ℕ) (outcome : Outcome) → length bytes ≤ most_bytes → IsOutcome bytes outcome → ComesTo bytes (outcome_status outcome) (outcome_text outcome)
-comes_to bytes (Replayed records state) short replay = inl (refl, record { short = short; replayed = shown_replayed replay.read replay.shows })
-comes_to bytes (Faulty fault) short first = inr (inl (refl, record { short = short; fault = fault; first = first; text_is = refl }))
+pub comes_to : (way : Way) (bytes : List ℕ) (outcome : Outcome) → length bytes ≤ most_bytes → IsOutcome way bytes outcome → ComesTo way bytes (outcome_status outcome) (outcome_text outcome)
+comes_to way bytes (Replayed records state) short replay = inl (refl, record { short = short; replayed = shown_replayed replay.read replay.shows })
+comes_to way bytes (Faulty fault) short first = inr (inl (refl, record { short = short; fault = fault; first = first; text_is = refl }))
 
 pub status_not_four : (outcome : Outcome) → outcome_status outcome ≡ 4 → ⊥
 status_not_four (Replayed records state) four = omega (arith, four)
@@ -79,7 +79,20 @@ status_not_two (Replayed records state) two = omega (arith, two)
 status_not_two (Faulty fault) two = omega (arith, two)
 
 -- the output of a call whose input was read whole
-pub outcome_output : (words : List (List ℕ)) (told : Option (List ℕ)) (read : List ℕ) (outcome : Outcome) → IsOrder words
-    → ((bytes : List ℕ) → told ≡ Some bytes → (read ≡ bytes) × (length bytes ≤ most_bytes)) → IsOutcome read outcome → IsOutput words told (outcome_status outcome) (outcome_text outcome)
-outcome_output words told read outcome order whole is =
-    inr (inl (order, status_not_two outcome, λ bytes tells. let input = whole bytes tells in comes_to bytes outcome input.1 (subst (λ (t : List ℕ). IsOutcome t outcome) input.0 is)))
+pub outcome_output : (words : List (List ℕ)) (told : Option (List ℕ)) (read : List ℕ) (way : Way) (outcome : Outcome) → IsReplaying way words
+    → ((bytes : List ℕ) → told ≡ Some bytes → (read ≡ bytes) × (length bytes ≤ most_bytes)) → IsOutcome way read outcome → IsOutput words told (outcome_status outcome) (outcome_text outcome)
+outcome_output words told read way outcome asked whole is = inr (inl (record {
+  way = way;
+  asked = asked;
+  other = status_not_two outcome;
+  comes = λ bytes tells. let input = whole bytes tells in comes_to way bytes outcome input.1 (subst (λ (t : List ℕ). IsOutcome way t outcome) input.0 is);
+}))
+
+-- the output of a call whose input was too long
+pub too_long_output : (words : List (List ℕ)) (told : Option (List ℕ)) (way : Way) → IsReplaying way words → ((bytes : List ℕ) → told ≡ Some bytes → most_bytes < length bytes) → IsOutput words told 6 too_long_text
+too_long_output words told way asked long = inr (inl (record {
+  way = way;
+  asked = asked;
+  other = λ two. omega (arith, two);
+  comes = λ bytes tells. inr (inr (refl, record { long = long bytes tells; text_is = refl }));
+}))

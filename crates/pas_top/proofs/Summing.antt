@@ -10,6 +10,7 @@ use Rattle.pas_top.specs.Summaries.{line_text, summary_text}
 use Rattle.pas_top.specs.Generating.{IsSummarized}
 use Rattle.pas_top.specs.Generated.{Generates}
 use Rattle.pas_top.specs.Outcomes.{IsShowing}
+use Rattle.pas_answers.specs.Ways.{InOrder}
 use Rattle.pas_top.specs.Outputs.{GenComesTo, IsGen, IsCutOff}
 use Rattle.pas_top.proofs.Headline.{totals_are}
 use Rattle.pas_top.proofs.Statuses.{cut_off}
@@ -22,7 +23,7 @@ pub counted : (b b' words r x : List ℕ) (n m : ℕ) → b' ≡ b ++ line_text 
 counted b b' words r x n m e same h = one_more b b' (line_text words m) r x (e ∙ ap (λ k. b ++ line_text words k) same) h
 
 -- ---- the summary
-pub summarized : (seed ops threads pages : ℕ) (bytes : List ℕ) (records : List Record) (state : State) (text : List ℕ) → IsShowing bytes records state → bytes ≡ trace_text seed ops threads pages
+pub summarized : (seed ops threads pages : ℕ) (bytes : List ℕ) (records : List Record) (state : State) (text : List ℕ) → IsShowing InOrder bytes records state → bytes ≡ trace_text seed ops threads pages
     → text ≡ summary_text ops records (totals_by_words state) → IsSummarized seed ops threads pages text
 summarized seed ops threads pages bytes records state text is from text_is = record {
   plan = is.plan;

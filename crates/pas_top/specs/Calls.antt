@@ -1,14 +1,15 @@
 -- What the words of a call come to.
 use Rattle.std.specs.Prelude.{ℕ, List}
-use Rattle.pas_top.specs.Words.{IsOrder, IsGen, IsAccepted}
+use Rattle.pas_top.specs.Words.{IsReplaying, IsGen, IsAccepted}
+use Rattle.pas_top.specs.Manners.{way_of}
 use Rattle.pas_top.specs.declared.words.Call.{Call}
-use Rattle.pas_top.specs.declared.words.Call.TheVariants.{Order, Gen}
+use Rattle.pas_top.specs.declared.words.Call.TheVariants.{Replay, Gen}
 use Rattle.pas_top.specs.declared.words.Misread.{Misread}
 use Rattle.pas_top.specs.declared.words.Misread.TheVariants.{Usage, Memory}
 
 -- the words ask for the call
 abbrev pub IsCall : List (List ℕ) → Call → Type 0
-IsCall words Order = IsOrder words
+IsCall words (Replay manner) = IsReplaying (way_of manner) words
 IsCall words (Gen job) = IsGen words job.seed job.ops job.threads job.pages
 
 -- no accepted list; an accepted one, where memory was wanting

@@ -1,5 +1,6 @@
 pub mod Faults
 pub mod Words
+pub mod Manners
 pub mod Calls
 pub mod Summaries
 pub mod Generating

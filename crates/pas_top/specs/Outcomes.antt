@@ -8,20 +8,20 @@ use Rattle.pas_report.specs.Lines.{lines_of, CanShow}
 use Rattle.pas_report.specs.Counts.{AreDeedWords, report_by_words}
 use Rattle.pas_report.specs.declared.record.Record.{Record}
 use Rattle.pas_answers.specs.Replays.{Shows}
-use Rattle.pas_answers.specs.Ways.{InOrder}
+use Rattle.pas_answers.specs.Ways.{Way}
 use Rattle.pas_top.specs.Faults.{fault_text}
 use Rattle.pas_top.specs.declared.outcome.Outcome.{Outcome}
 use Rattle.pas_top.specs.declared.outcome.Outcome.TheVariants.{Replayed, Faulty}
 
--- the bytes are a trace, and its replay shows these
-pub record IsShowing (bytes : List ℕ) (records : List Record) (state : State) : Type 0 where
+-- the bytes are a trace, and its replay in this way shows these
+pub record IsShowing (way : Way) (bytes : List ℕ) (records : List Record) (state : State) : Type 0 where
   pub plan : Plan
   pub read : IsPlanOf bytes plan
-  pub shows : Shows InOrder plan records state
+  pub shows : Shows way plan records state
 
-abbrev pub IsOutcome : List ℕ → Outcome → Type 0
-IsOutcome bytes (Replayed records state) = IsShowing bytes (records_in records) state
-IsOutcome bytes (Faulty fault) = parsed bytes ≡ Err fault
+abbrev pub IsOutcome : Way → List ℕ → Outcome → Type 0
+IsOutcome way bytes (Replayed records state) = IsShowing way bytes (records_in records) state
+IsOutcome way bytes (Faulty fault) = parsed bytes ≡ Err fault
 
 -- records and a state that can be written
 pub record IsShown (records : List Record) (state : State) : Type 0 where

@@ -9,12 +9,12 @@ use Rattle.pas_report.specs.Marks.{marks_after}
 use Rattle.pas_report.specs.Reports.{report_text}
 use Rattle.pas_report.specs.declared.record.Record.{Record}
 use Rattle.pas_answers.specs.Replays.{IsReplay}
-use Rattle.pas_answers.specs.Ways.{Way, InOrder}
+use Rattle.pas_answers.specs.Ways.{Way}
 use Rattle.pas_io.specs.Inputs.{Takes}
 use Rattle.pas_io.specs.Told.{Rose, Writes, WritesFront}
 use Rattle.pas_top.specs.Faults.{fault_text}
 use Rattle.pas_top.specs.Generating.{IsSummarized}
-pub use Rattle.pas_top.specs.Words.{texts_of, IsOrder, IsGen, IsAccepted}
+pub use Rattle.pas_top.specs.Words.{texts_of, IsReplaying, IsGen, IsAccepted}
 
 -- the most bytes of an input
 abbrev pub most_bytes : ℕ
@@ -31,16 +31,16 @@ pub record IsReplayed (way : Way) (bytes text : List ℕ) : Type 0 where
   pub text_is : text ≡ lines_of records ++ report_text plan.profile (visible whole) (marks_after whole)
 
 abbrev pub usage_text : List ℕ
-usage_text = codes "usage: pas order | pas gen SEED OPS THREADS PAGES\n"
+usage_text = codes "usage: pas order | pas run | pas gen SEED OPS THREADS PAGES\n"
 
 abbrev pub too_long_text : List ℕ
 too_long_text = codes "input too long\n"
 
--- ---- what an input of the source comes to, with the status and the text
+-- ---- what an input of the source comes to, replayed in a way, with the status and the text
 -- 0: its replay; 1: its first fault; 6: it is too long
-pub record IsTranscript (bytes text : List ℕ) : Type 0 where
+pub record IsTranscript (way : Way) (bytes text : List ℕ) : Type 0 where
   pub short : length bytes ≤ most_bytes
-  pub replayed : IsReplayed InOrder bytes text
+  pub replayed : IsReplayed way bytes text
 
 pub record IsFaulty (bytes text : List ℕ) : Type 0 where
   pub short : length bytes ≤ most_bytes
@@ -52,8 +52,8 @@ pub record IsTooLong (bytes text : List ℕ) : Type 0 where
   pub long : most_bytes < length bytes
   pub text_is : text ≡ too_long_text
 
-abbrev pub ComesTo : List ℕ → ℕ → List ℕ → Type 0
-ComesTo bytes status text = ((status ≡ 0) × IsTranscript bytes text) ⊎ ((status ≡ 1) × IsFaulty bytes text) ⊎ ((status ≡ 6) × IsTooLong bytes text)
+abbrev pub ComesTo : Way → List ℕ → ℕ → List ℕ → Type 0
+ComesTo way bytes status text = ((status ≡ 0) × IsTranscript way bytes text) ⊎ ((status ≡ 1) × IsFaulty bytes text) ⊎ ((status ≡ 6) × IsTooLong bytes text)
 
 -- what a generated trace comes to, with the status 0 and the text: the summary of its replay
 abbrev pub GenComesTo : ℕ → ℕ → ℕ → ℕ → ℕ → List ℕ → Type 0
@@ -68,10 +68,17 @@ pub record IsGenOutput (words : List (List ℕ)) (status : ℕ) (text : List ℕ
   pub asked : IsGen words seed ops threads pages
   pub comes : GenComesTo seed ops threads pages status text
 
--- what a call with these words writes in full, with its status: the usage where the words are no accepted list; for `order` another status and what
--- the input comes to, where the source tells it; for `gen` what the generated trace comes to
+-- the words ask for a replay of the input in a way, and the status isn't that of the usage; where the source tells the input, it comes to this
+pub record IsReplayOutput (words : List (List ℕ)) (told : Option (List ℕ)) (status : ℕ) (text : List ℕ) : Type 0 where
+  pub way : Way
+  pub asked : IsReplaying way words
+  pub other : status ≢ 2
+  pub comes : (bytes : List ℕ) → told ≡ Some bytes → ComesTo way bytes status text
+
+-- what a call with these words writes in full, with its status: the usage where the words are no accepted list; for `order` and `run` what the input comes
+-- to; for `gen` what the generated trace comes to
 abbrev pub IsOutput : List (List ℕ) → Option (List ℕ) → ℕ → List ℕ → Type 0
-IsOutput words told status text = ((IsAccepted words → ⊥) × (status ≡ 2) × (text ≡ usage_text)) ⊎ (IsOrder words × (status ≢ 2) × ((bytes : List ℕ) → told ≡ Some bytes → ComesTo bytes status text)) ⊎ IsGenOutput words status text
+IsOutput words told status text = ((IsAccepted words → ⊥) × (status ≡ 2) × (text ≡ usage_text)) ⊎ IsReplayOutput words told status text ⊎ IsGenOutput words status text
 
 -- ---- what each status says. The sink told `before` and tells `after`
 abbrev pub IsWriting : ℕ → Type 0

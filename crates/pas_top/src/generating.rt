@@ -4,6 +4,7 @@ ghost use Rattle.pas_io.specs.Told.{Tells};
 ghost use Rattle.pas_top.specs.Generated.{Generates};
 
 use crate::job::Job;
+use crate::manner::Manner;
 use crate::outcome::{Outcome, outcome_of, tell};
 use crate::summary::summary_of;
 use pas_generate::trace_of;
@@ -11,10 +12,17 @@ use pas_generated::laws::generated_texts_are_read;
 use pas_io::Sink;
 use pas_profile::NoMemory;
 use std::alloc::Global;
+use std::sync::Wait;
+use std::thread::Threads;
 
 /// Generates the trace of the job, replays it in the order of its text, and writes the summary. The status is 0, or 4 where
 /// the sink failed, or 5 where the program was out of memory. Nothing is written before the replay has ended.
-pub(crate) fn generate<K: Sink>(alloc: Global, job: Job, sink: &mut K) -> u8
+pub(crate) fn generate<R: Threads + Wait + Sync, K: Sink>(
+    rt: &R,
+    alloc: Global,
+    job: Job,
+    sink: &mut K,
+) -> u8
     ensures told { Generates (K.held sink.old) (K.held sink.new) (K.faults sink.old) (K.faults sink.new) job.seed job.ops job.threads job.pages result }
     ensures memory { result ≡ 5 → sink.new ≡ sink.old }
 {
@@ -22,7 +30,7 @@ pub(crate) fn generate<K: Sink>(alloc: Global, job: Job, sink: &mut K) -> u8
         return 5;
     };
     generated_texts_are_read();
-    match outcome_of(alloc, text) {
+    match outcome_of(rt, alloc, Manner::InOrder, text) {
         Ok(Outcome::Replayed(records, state)) => {
             let summary = summary_of(job.ops, records.as_slice(), &state);
             tell(sink, summary.as_str(), 0)

@@ -6,15 +6,18 @@ mod job;
 #[cfg(test)]
 mod machine_tests;
 pub mod main_call;
+mod manner;
 mod outcome;
 mod summary;
 #[cfg(test)]
 mod tests;
+#[cfg(test)]
+mod way_tests;
 mod words;
 
 pub use main_call::pas_main;
 
-const USAGE: &str = "usage: pas order | pas gen SEED OPS THREADS PAGES\n";
+const USAGE: &str = "usage: pas order | pas run | pas gen SEED OPS THREADS PAGES\n";
 
 const TOO_LONG: &str = "input too long\n";
 

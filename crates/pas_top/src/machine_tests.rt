@@ -1,11 +1,14 @@
 //! The machine as a program takes each event of each replay.
 use crate::MOST_BYTES;
+use crate::manner::Manner;
 use crate::outcome::{Outcome, outcome_of};
 use pas_generate::trace_of;
 use pas_machine::Machine;
 use pas_report::Record;
 use std::alloc::Global;
+use std::sync::Wait;
 use std::test::Fail;
+use std::thread::Threads;
 
 /// Traces whose replays have events and refusals of every kind.
 const TRACES: [&str; 20] = [
@@ -32,14 +35,15 @@ const TRACES: [&str; 20] = [
 ];
 
 /// Whether the trace is replayed, and the machine takes each event of its replay.
-fn is_taken(alloc: Global, text: Vec<u8>) -> Result<bool, Fail> {
+fn is_taken(rt: &(impl AllocGlobal + Threads + Wait + Sync), text: Vec<u8>) -> Result<bool, Fail> {
     if text.len() > MOST_BYTES {
         return Ok(false);
     }
-    let Ok(Outcome::Replayed(records, state)) = outcome_of(alloc, text) else {
+    let Ok(Outcome::Replayed(records, state)) = outcome_of(rt, rt.alloc(), Manner::InOrder, text)
+    else {
         return Ok(false);
     };
-    let mut machine = Machine::try_new(alloc, *state.profile())?;
+    let mut machine = Machine::try_new(rt.alloc(), *state.profile())?;
     for shown in records.as_slice() {
         if let Record::Event(event) = shown {
             if machine.step(event).is_err() {
@@ -51,7 +55,12 @@ fn is_taken(alloc: Global, text: Vec<u8>) -> Result<bool, Fail> {
 }
 
 /// Requests of so many bytes, one after the other, and then the frees of all.
-fn filling(alloc: Global, pages: u32, requests: u32, size: u32) -> Result<Vec<u8>, Fail> {
+pub(crate) fn filling(
+    alloc: Global,
+    pages: u32,
+    requests: u32,
+    size: u32,
+) -> Result<Vec<u8>, Fail> {
     let mut text = Vec::new(alloc);
     let header = format!(in alloc; "pas 1 pages {pages} threads 1 heaps 1 age 2\n")?;
     text.extend_from_slice(header.as_bytes())?;
@@ -70,7 +79,7 @@ fn filling(alloc: Global, pages: u32, requests: u32, size: u32) -> Result<Vec<u8
 fn small_traces_are_taken(rt: HostRuntime) -> Result<(), Fail> {
     for trace in TRACES {
         let text = Vec::from_slice(rt.alloc(), trace.as_bytes())?;
-        assert!(rt; is_taken(rt.alloc(), text)?, "at {trace:?}");
+        assert!(rt; is_taken(&rt, text)?, "at {trace:?}");
     }
     Ok(())
 }
@@ -80,7 +89,7 @@ fn full_pages_and_logs_are_taken(rt: HostRuntime) -> Result<(), Fail> {
     for (pages, requests, size) in [(2, 86, 48), (1, 65, 16), (4, 9, 2048), (16, 5, 12_288)] {
         let text = filling(rt.alloc(), pages, requests, size)?;
         assert!(rt;
-            is_taken(rt.alloc(), text)?,
+            is_taken(&rt, text)?,
             "at {requests} requests of {size} bytes"
         );
     }
@@ -95,15 +104,15 @@ fn passes_are_taken(rt: HostRuntime) -> Result<(), Fail> {
     for _ in 0..487 {
         text.extend_from_slice(b"pass\n")?;
     }
-    assert!(rt; is_taken(rt.alloc(), text)?);
+    assert!(rt; is_taken(&rt, text)?);
     Ok(())
 }
 
 #[test]
 fn generated_traces_are_taken(rt: HostRuntime) -> Result<(), Fail> {
     let small = trace_of(rt.alloc(), 7, 2000, 4, 1024)?;
-    assert!(rt; is_taken(rt.alloc(), small)?);
+    assert!(rt; is_taken(&rt, small)?);
     let large = trace_of(rt.alloc(), 7, 100_000, 4, 4096)?;
-    assert!(rt; is_taken(rt.alloc(), large)?);
+    assert!(rt; is_taken(&rt, large)?);
     Ok(())
 }

@@ -5,7 +5,8 @@ ghost use Rattle.pas_io.specs.Told.{Rose};
 ghost use Rattle.pas_trace.specs.Plans.{IsPlanOf, parsed};
 ghost use Rattle.pas_trace.specs.declared.plan.Plan.{Plan};
 ghost use Rattle.pas_trace.specs.declared.fault.TraceFault.{TraceFault};
-ghost use Rattle.pas_top.specs.Outputs.{most_bytes, texts_of, IsOrder, IsGen, IsAccepted, IsStatus, IsWriting, IsWritten, HasFailed, IsCutOff};
+ghost use Rattle.pas_answers.specs.Ways.{Way};
+ghost use Rattle.pas_top.specs.Outputs.{most_bytes, texts_of, IsReplaying, IsGen, IsAccepted, IsStatus, IsWriting, IsWritten, HasFailed, IsCutOff};
 
 use crate::generating::generate;
 use crate::outcome::{outcome_of, tell, tell_outcome};
@@ -14,9 +15,12 @@ use crate::{MOST_BYTES, TOO_LONG, USAGE};
 use pas_io::whole::{Input, Stop, read_all};
 use pas_io::{Sink, Source};
 use std::alloc::Global;
+use std::sync::Wait;
+use std::thread::Threads;
 
-/// Replays the trace that the source gives and writes its transcript and report, where the words are the one word `order`. With the words
-/// `gen SEED OPS THREADS PAGES` replays a generated trace and writes its summary; nothing is read.
+/// Replays the trace that the source gives and writes its transcript and report, where the words are the one word `order` or `run`: in the
+/// order of its text, or with each thread's operations in a thread of their own. With the words `gen SEED OPS THREADS PAGES` replays a
+/// generated trace in the order of its text and writes its summary; nothing is read.
 ///
 /// The status is
 /// - 0: the transcript and the report, or the summary, were written.
@@ -28,7 +32,8 @@ use std::alloc::Global;
 /// - 6: the input is longer than 16,777,216 bytes, and that was written.
 ///
 /// At most 16,777,217 bytes are taken from the source. Nothing is written before the replay has ended. Linear in the input and in the output.
-pub fn pas_main<S: Source, K: Sink>(
+pub fn pas_main<R: Threads + Wait + Sync, S: Source, K: Sink>(
+    rt: &R,
     alloc: Global,
     words: &[&str],
     source: &mut S,
@@ -47,28 +52,28 @@ pub fn pas_main<S: Source, K: Sink>(
     ensures memory { result ≡ 5 → sink.new ≡ sink.old }
 
     // Each cause brings its status, but for a fault of the source or the sink, and where the program is out of memory.
-    ensures too_long { IsOrder (texts_of words.now) → (bytes : List ℕ) → S.rest source.old ≡ Some bytes → most_bytes < length bytes
+    ensures too_long { (way : Way) → IsReplaying way (texts_of words.now) → (bytes : List ℕ) → S.rest source.old ≡ Some bytes → most_bytes < length bytes
         → (result ≡ 6) ⊎ (result ≡ 3) ⊎ (result ≡ 4) ⊎ (result ≡ 5) }
-    ensures faulty { IsOrder (texts_of words.now) → (bytes : List ℕ) → S.rest source.old ≡ Some bytes → length bytes ≤ most_bytes
+    ensures faulty { (way : Way) → IsReplaying way (texts_of words.now) → (bytes : List ℕ) → S.rest source.old ≡ Some bytes → length bytes ≤ most_bytes
         → (fault : TraceFault) → parsed bytes ≡ Err fault → (result ≡ 1) ⊎ (result ≡ 3) ⊎ (result ≡ 4) ⊎ (result ≡ 5) }
-    ensures complete { IsOrder (texts_of words.now) → (bytes : List ℕ) → S.rest source.old ≡ Some bytes → length bytes ≤ most_bytes
+    ensures complete { (way : Way) → IsReplaying way (texts_of words.now) → (bytes : List ℕ) → S.rest source.old ≡ Some bytes → length bytes ≤ most_bytes
         → (plan : Plan) → IsPlanOf bytes plan
         → (Rose (S.faults source.old) (S.faults source.new) → ⊥) → (Rose (K.faults sink.old) (K.faults sink.new) → ⊥)
         → (result ≡ 0) ⊎ (result ≡ 5) }
 {
-    match call_of(alloc, words) {
-        Ok(Call::Order) => {}
-        Ok(Call::Gen(job)) => return generate(alloc, job, sink),
+    let manner = match call_of(alloc, words) {
+        Ok(Call::Replay(manner)) => manner,
+        Ok(Call::Gen(job)) => return generate(rt, alloc, job, sink),
         Err(Misread::Usage) => return tell(sink, USAGE, 2),
         Err(Misread::Memory) => return 5,
-    }
+    };
     let bytes = match read_all(alloc, source, MOST_BYTES) {
         Ok(Input::Whole(bytes)) => bytes,
         Ok(Input::TooLong) => return tell(sink, TOO_LONG, 6),
         Err(Stop::Fault) => return 3,
         Err(Stop::Memory) => return 5,
     };
-    match outcome_of(alloc, bytes) {
+    match outcome_of(rt, alloc, manner, bytes) {
         Ok(outcome) => tell_outcome(sink, &outcome),
         Err(_) => 5,
     }

@@ -1,10 +1,14 @@
 //! What an input comes to, and how it is written.
-ghost use Rattle.std.specs.Prelude.{◌≡◌, ◌≤◌, IfOk, OnOk, OnErr, length};
+ghost use Rattle.std.specs.Prelude.{◌≡◌, ◌≤◌, ◌+◌, ℕ, List, [], IfOk, OnOk, OnErr, length};
 ghost use Rattle.pas_io.specs.Told.{Rose, Tells, Writes, WritesFront};
-ghost use Rattle.pas_report.specs.Rooms.{records_in};
+ghost use Rattle.pas_trace.specs.Plans.{IsPlanOf};
+ghost use Rattle.pas_report.specs.Rooms.{records_in, room_of};
+ghost use Rattle.pas_answers.specs.Replays.{phases_of, Shows};
 ghost use Rattle.pas_top.specs.Faults.{fault_text, reason_text};
+ghost use Rattle.pas_top.specs.Manners.{way_of};
 ghost use Rattle.pas_top.specs.Outcomes.{IsOutcome, IsShown, IsWritable, outcome_status, outcome_text, shown_text};
 
+use crate::manner::Manner;
 use pas_io::whole::write_all;
 use pas_io::{Failed, Sink};
 use pas_profile::NoMemory;
@@ -12,8 +16,11 @@ use pas_replay::{PlainKit, in_order};
 use pas_report::text::push_field;
 use pas_report::{Line, Records, report, write_lines};
 use pas_steps::State;
-use pas_trace::{ReadFault, Reason, TraceFault, read_trace};
+use pas_threads::{OpenGate, SharedKit, on_threads};
+use pas_trace::{Plan, ReadFault, Reason, TraceFault, read_trace};
 use std::alloc::Global;
+use std::sync::Wait;
+use std::thread::Threads;
 
 /// What an input comes to.
 #[derive(Drop)]
@@ -24,10 +31,15 @@ pub(crate) enum Outcome {
     Faulty(TraceFault),
 }
 
-/// Reads the bytes, lets them go, and replays the trace that they are. After the kit is made nothing takes memory.
-pub(crate) fn outcome_of(alloc: Global, bytes: Vec<u8>) -> Result<Outcome, NoMemory>
+/// Reads the bytes, lets them go, and replays the trace that they are in this manner. NoMemory comes before the replay begins, or not at all.
+pub(crate) fn outcome_of<R: Threads + Wait + Sync>(
+    rt: &R,
+    alloc: Global,
+    manner: Manner,
+    bytes: Vec<u8>,
+) -> Result<Outcome, NoMemory>
     requires { length bytes.items ≤ 16777216 }
-    ensures { IfOk result (IsOutcome bytes.items) }
+    ensures { IfOk result (IsOutcome (way_of manner) bytes.items) }
 {
     let plan = match read_trace(alloc, &bytes) {
         Ok(plan) => plan,
@@ -36,9 +48,33 @@ pub(crate) fn outcome_of(alloc: Global, bytes: Vec<u8>) -> Result<Outcome, NoMem
     };
     drop(bytes);
     let mut records = Records::try_new(alloc, plan.total, plan.phases.as_slice().len() as u32)?;
-    let kit = PlainKit::try_new(alloc, &plan)?;
-    let state = in_order(&plan, kit, &mut records);
+    let state = replay(rt, alloc, manner, &plan, &mut records)?;
     Ok(Outcome::Replayed(records, state))
+}
+
+/// Replays the plan in this manner, and answers the region's state afterwards. Memory is taken for the kit alone, before the replay begins.
+fn replay<R: Threads + Wait + Sync>(
+    rt: &R,
+    alloc: Global,
+    manner: Manner,
+    plan: &Plan,
+    out: &mut Records,
+) -> Result<State, NoMemory>
+    requires plan { (text : List ℕ) × (length text ≤ 16777216) × IsPlanOf text plan.now }
+    requires empty { records_in out.old ≡ [] }
+    requires room { plan.now.total + length (phases_of plan.now) + 1 ≤ room_of out.old }
+    ensures { IfOk result (Shows (way_of manner) plan.now (records_in out.new)) }
+{
+    match manner {
+        Manner::InOrder => {
+            let kit = PlainKit::try_new(alloc, plan)?;
+            Ok(in_order(plan, kit, out))
+        }
+        Manner::OnThreads => {
+            let kit = SharedKit::try_new(alloc, plan)?;
+            Ok(on_threads(rt, plan, kit, &OpenGate, out))
+        }
+    }
 }
 
 /// Writes what an input came to, and answers the status, or 4 where the sink failed.

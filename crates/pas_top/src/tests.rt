@@ -1,5 +1,6 @@
 ghost use Rattle.std.specs.Prelude.{◌≡◌, ◌⊎◌};
 
+use crate::manner::Manner;
 use crate::outcome::{Outcome as Replay, outcome_of as replay_of};
 use crate::pas_main;
 use pas_bitfit::end_bits;
@@ -7,40 +8,43 @@ use pas_bits::Mask4;
 use pas_generate::trace_of;
 use pas_io::memory::{MemorySink, MemorySource};
 use pas_io::sure::{SureSink, SureSource};
-use std::alloc::{AllocError, Global};
+use std::alloc::AllocError;
 use std::process::Abort;
+use std::sync::Wait;
 use std::test::Fail;
+use std::thread::Threads;
 
-const TRACE: &str = "pas 1 pages 4 threads 1 heaps 1 age 2\na 1 1 0 24 16\nf 1 1\n";
+pub(crate) const TRACE: &str = "pas 1 pages 4 threads 1 heaps 1 age 2\na 1 1 0 24 16\nf 1 1\n";
 
-const TRANSCRIPT: &str =
+pub(crate) const TRANSCRIPT: &str =
     "1 deed page 1 heap 0 class 32\n1 back page 1\n1 give 0x00001000 turn 0 room 32 heap 0\nclose\n1 freed 0x00001000 turn 0 epoch 0\nreport\npage 1 heap 0 class 32 live 0 free 256 stamp 0 marks backed+offered+hinted\ntotal deeds 1 backed 1 live 0 given 1 ended 1\n";
 
-const USAGE: &str = "usage: pas order | pas gen SEED OPS THREADS PAGES\n";
+const USAGE: &str = "usage: pas order | pas run | pas gen SEED OPS THREADS PAGES\n";
 
 /// What a generated trace of twelve operations is summed up to: nine lines.
 const SUMMARY: &str =
     "ops 12\ngive 9\nfreed 3\nended 0\nno-block 0\nno-space 0\nheld 0\nskipped 0\n";
 
 /// Room for each of the texts above.
-const ROOM: usize = 1024;
+pub(crate) const ROOM: usize = 1024;
 
 /// The status of a call, and what its sink took.
 #[derive(Debug, Drop)]
-struct Outcome {
-    status: u8,
-    taken: Vec<u8>,
+pub(crate) struct Outcome {
+    pub status: u8,
+    pub taken: Vec<u8>,
 }
 
 /// A call whose listed reads and writes fail, into so many bytes of room. The sink takes a byte a call.
-fn outcome_of(
-    alloc: Global,
+pub(crate) fn outcome_of(
+    rt: &(impl AllocGlobal + Threads + Wait + Sync),
     words: &[&str],
     input: &[u8],
     reads: &[u64],
     writes: &[u64],
     room: usize,
 ) -> Result<Outcome, AllocError> {
+    let alloc = rt.alloc();
     let mut source = MemorySource::new(
         Vec::from_slice(alloc, input)?,
         Vec::from_slice(alloc, reads)?,
@@ -50,21 +54,21 @@ fn outcome_of(
         1,
         Vec::from_slice(alloc, writes)?,
     );
-    let status = pas_main(alloc, words, &mut source, &mut sink);
+    let status = pas_main(rt, alloc, words, &mut source, &mut sink);
     let taken = Vec::from_slice(alloc, sink.held())?;
     Ok(Outcome { status, taken })
 }
 
 /// Each write in turn fails, up to the one after the last.
-fn check_cut_off(
-    rt: &(impl Abort + AllocGlobal),
+pub(crate) fn check_cut_off(
+    rt: &(impl Abort + AllocGlobal + Threads + Wait + Sync),
     words: &[&str],
     input: &[u8],
     text: &[u8],
     status: u8,
 ) -> Result<(), Fail> {
     for done in 0..text.len() {
-        let outcome = outcome_of(rt.alloc(), words, input, &[], &[done as u64 + 1], ROOM)?;
+        let outcome = outcome_of(rt, words, input, &[], &[done as u64 + 1], ROOM)?;
         assert_eq!(rt; outcome.status, 4, "after {done} bytes");
         assert_eq!(rt;
             outcome.taken.as_slice(),
@@ -72,14 +76,7 @@ fn check_cut_off(
             "after {done} bytes"
         );
     }
-    let outcome = outcome_of(
-        rt.alloc(),
-        words,
-        input,
-        &[],
-        &[text.len() as u64 + 1],
-        ROOM,
-    )?;
+    let outcome = outcome_of(rt, words, input, &[], &[text.len() as u64 + 1], ROOM)?;
     assert_eq!(rt; outcome.status, status);
     assert_eq!(rt; outcome.taken.as_slice(), text);
     Ok(())
@@ -87,20 +84,21 @@ fn check_cut_off(
 
 #[test]
 fn replays_a_trace(rt: HostRuntime) -> Result<(), Fail> {
-    let outcome = outcome_of(rt.alloc(), &["order"], TRACE.as_bytes(), &[], &[], ROOM)?;
+    let outcome = outcome_of(&rt, &["order"], TRACE.as_bytes(), &[], &[], ROOM)?;
     assert_eq!(rt; outcome.status, 0);
     assert_eq!(rt; outcome.taken.as_slice(), TRANSCRIPT.as_bytes());
-    let status = sure_status(rt.alloc(), Vec::from_slice(rt.alloc(), TRACE.as_bytes())?);
+    let status = sure_status(&rt, Vec::from_slice(rt.alloc(), TRACE.as_bytes())?);
     assert_eq!(rt; status, 0);
     Ok(())
 }
 
 /// Neither a read nor a write can fail here, so the status is neither 3 nor 4.
-fn sure_status(alloc: Global, input: Vec<u8>) -> u8
+fn sure_status(rt: &(impl AllocGlobal + Threads + Wait + Sync), input: Vec<u8>) -> u8
     ensures { (result ≡ 0) ⊎ (result ≡ 1) ⊎ (result ≡ 5) ⊎ (result ≡ 6) }
 {
     pas_main(
-        alloc,
+        rt,
+        rt.alloc(),
         &["order"],
         &mut SureSource::new(input),
         &mut SureSink::new(),
@@ -109,14 +107,18 @@ fn sure_status(alloc: Global, input: Vec<u8>) -> u8
 
 #[test]
 fn other_words_read_nothing(rt: HostRuntime) -> Result<(), Fail> {
-    let cases: [&[&str]; 16] = [
+    let cases: [&[&str]; 20] = [
         &[],
         &["order", "--"],
         &["order", "order"],
         &["gen", "7"],
         &["Order"],
         &["order "],
-        &["run"],
+        &["run", "x"],
+        &["run", "--"],
+        &["run", "run"],
+        &["order", "run"],
+        &["Run"],
         &["help"],
         &["gen", "7", "12", "4", "1024", "1"],
         &["gen", "07", "12", "4", "1024"],
@@ -128,7 +130,7 @@ fn other_words_read_nothing(rt: HostRuntime) -> Result<(), Fail> {
         &["gen", "7", "12", "4", "1"],
     ];
     for words in cases {
-        let outcome = outcome_of(rt.alloc(), words, TRACE.as_bytes(), &[1], &[], ROOM)?;
+        let outcome = outcome_of(&rt, words, TRACE.as_bytes(), &[1], &[], ROOM)?;
         assert_eq!(rt; outcome.status, 2, "at {words:?}");
         assert_eq!(rt; outcome.taken.as_slice(), USAGE.as_bytes(), "at {words:?}");
     }
@@ -138,11 +140,11 @@ fn other_words_read_nothing(rt: HostRuntime) -> Result<(), Fail> {
 #[test]
 fn failing_reads(rt: HostRuntime) -> Result<(), Fail> {
     for call in 1..3u64 {
-        let outcome = outcome_of(rt.alloc(), &["order"], TRACE.as_bytes(), &[call], &[], ROOM)?;
+        let outcome = outcome_of(&rt, &["order"], TRACE.as_bytes(), &[call], &[], ROOM)?;
         assert_eq!(rt; outcome.status, 3, "at read {call}");
         assert!(rt; outcome.taken.is_empty(), "at read {call}");
     }
-    let outcome = outcome_of(rt.alloc(), &["order"], TRACE.as_bytes(), &[3], &[], ROOM)?;
+    let outcome = outcome_of(&rt, &["order"], TRACE.as_bytes(), &[3], &[], ROOM)?;
     assert_eq!(rt; outcome.status, 0);
     Ok(())
 }
@@ -150,7 +152,7 @@ fn failing_reads(rt: HostRuntime) -> Result<(), Fail> {
 #[test]
 fn failing_writes(rt: HostRuntime) -> Result<(), Fail> {
     check_cut_off(&rt, &["order"], TRACE.as_bytes(), TRANSCRIPT.as_bytes(), 0)?;
-    let outcome = outcome_of(rt.alloc(), &["order"], TRACE.as_bytes(), &[], &[], 7)?;
+    let outcome = outcome_of(&rt, &["order"], TRACE.as_bytes(), &[], &[], 7)?;
     assert_eq!(rt; outcome.status, 4);
     assert_eq!(rt; outcome.taken.as_slice(), b"1 deed ".as_slice());
     Ok(())
@@ -254,7 +256,7 @@ const OUTCOMES: [(&str, u8, &str); 18] = [
 #[test]
 fn inputs_have_outcomes(rt: HostRuntime) -> Result<(), Fail> {
     for (input, status, text) in OUTCOMES {
-        let outcome = outcome_of(rt.alloc(), &["order"], input.as_bytes(), &[], &[], ROOM)?;
+        let outcome = outcome_of(&rt, &["order"], input.as_bytes(), &[], &[], ROOM)?;
         assert_eq!(rt; outcome.status, status, "at {input:?}");
         assert_eq!(rt; outcome.taken.as_slice(), text.as_bytes(), "at {input:?}");
     }
@@ -269,7 +271,7 @@ fn inputs_have_a_limit(rt: HostRuntime) -> Result<(), Fail> {
     ];
     for (length, status, text) in cases {
         let input = vec![in rt.alloc(); 10u8; length]?;
-        let outcome = outcome_of(rt.alloc(), &["order"], &input, &[], &[], ROOM)?;
+        let outcome = outcome_of(&rt, &["order"], &input, &[], &[], ROOM)?;
         assert_eq!(rt; outcome.status, status, "at {length} bytes");
         assert_eq!(rt;
             outcome.taken.as_slice(),
@@ -288,7 +290,7 @@ fn operations_have_a_limit(rt: HostRuntime) -> Result<(), Fail> {
     for _ in 0..1_000_001 {
         input.extend_from_slice(b"flush 1\n")?;
     }
-    let outcome = outcome_of(rt.alloc(), &["order"], &input, &[], &[], ROOM)?;
+    let outcome = outcome_of(&rt, &["order"], &input, &[], &[], ROOM)?;
     assert_eq!(rt; outcome.status, 1);
     assert_eq!(rt;
         outcome.taken.as_slice(),
@@ -302,12 +304,15 @@ const BITFIT_TRACE: &str =
     "pas 1 pages 1 threads 1 heaps 1 age 2\na 1 1 0 528 16\na 1 2 0 528 16\na 1 3 0 528 16\nf 1 2\nflush 1\na 1 4 0 528 16\nf 1 4\nflush 1\na 1 5 0 529 16\n";
 
 /// Where the live blocks of page 1 end after the trace; None where it can't be replayed.
-fn ends_after(alloc: Global, trace: &str) -> Result<Option<Mask4>, AllocError> {
-    let bytes = Vec::from_slice(alloc, trace.as_bytes())?;
+fn ends_after(
+    rt: &(impl AllocGlobal + Threads + Wait + Sync),
+    trace: &str,
+) -> Result<Option<Mask4>, AllocError> {
+    let bytes = Vec::from_slice(rt.alloc(), trace.as_bytes())?;
     if bytes.len() > ROOM {
         return Ok(None);
     }
-    let Ok(Replay::Replayed(_, state)) = replay_of(alloc, bytes) else {
+    let Ok(Replay::Replayed(_, state)) = replay_of(rt, rt.alloc(), Manner::InOrder, bytes) else {
         return Ok(None);
     };
     if state.profile().pages < 1 {
@@ -322,17 +327,17 @@ fn bitfit_blocks_have_ends(rt: HostRuntime) -> Result<(), Fail> {
     for grain in [32, 98, 132] {
         ends.set(grain);
     }
-    assert_eq!(rt; ends_after(rt.alloc(), BITFIT_TRACE)?, Some(ends));
+    assert_eq!(rt; ends_after(&rt, BITFIT_TRACE)?, Some(ends));
     Ok(())
 }
 
 #[test]
 fn a_generated_trace_is_summed_up(rt: HostRuntime) -> Result<(), Fail> {
     let words = ["gen", "7", "12", "4", "1024"];
-    let outcome = outcome_of(rt.alloc(), &words, &[], &[1], &[], ROOM)?;
+    let outcome = outcome_of(&rt, &words, &[], &[1], &[], ROOM)?;
     assert_eq!(rt; outcome.status, 0);
     let text = trace_of(rt.alloc(), 7, 12, 4, 1024)?;
-    let order = outcome_of(rt.alloc(), &["order"], &text, &[], &[], 4096)?;
+    let order = outcome_of(&rt, &["order"], &text, &[], &[], 4096)?;
     assert_eq!(rt; order.status, 0);
     assert!(rt; outcome.taken.as_slice().starts_with(SUMMARY.as_bytes()));
     let totals = outcome.taken.as_slice().get(SUMMARY.len()..).unwrap_or(&[]);
@@ -349,7 +354,7 @@ const LONG_SUMMARY: &str =
 #[test]
 fn a_long_generated_trace_is_summed_up(rt: HostRuntime) -> Result<(), Fail> {
     let words = ["gen", "7", "100000", "4", "4096"];
-    let outcome = outcome_of(rt.alloc(), &words, &[], &[1], &[], ROOM)?;
+    let outcome = outcome_of(&rt, &words, &[], &[1], &[], ROOM)?;
     assert_eq!(rt; outcome.status, 0);
     assert_eq!(rt; outcome.taken.as_slice(), LONG_SUMMARY.as_bytes());
     Ok(())

@@ -1,9 +1,12 @@
 //! What the words of a call ask for.
-ghost use Rattle.std.specs.Prelude.{ℕ, IfOk, IfErr, MatchOption};
-ghost use Rattle.pas_top.specs.Words.{texts_of, IsAccepted, IsNumbers};
+ghost use Rattle.std.specs.Prelude.{ℕ, ◌≡◌, IfOk, IfErr, MatchOption};
+ghost use Rattle.pas_answers.specs.Ways.{Way};
+ghost use Rattle.pas_top.specs.Words.{texts_of, word_of, IsAccepted, IsNumbers};
+ghost use Rattle.pas_top.specs.Manners.{way_of};
 ghost use Rattle.pas_top.specs.Calls.{IsCall, IsMisread};
 
 use crate::job::Job;
+use crate::manner::Manner;
 use clap::{Arg, ArgAction, ArgMatches, Command, Error};
 use pas_trace::number;
 use std::alloc::Global;
@@ -12,7 +15,7 @@ use std::alloc::Global;
 #[derive(Clone, Copy, Drop)]
 pub(crate) enum Call {
     /// Replay the trace that the source gives.
-    Order,
+    Replay(Manner),
     /// Replay a generated trace.
     Gen(Job),
 }
@@ -59,10 +62,21 @@ fn accepted(words: &[&str]) -> Option<Call>
     ensures { MatchOption result (IsAccepted (texts_of words.now) → ⊥) (IsCall (texts_of words.now)) }
 {
     match words {
-        [word] if *word == "order" => Some(Call::Order),
+        [word] => Some(Call::Replay(manner_of(word)?)),
         [word, seed, ops, threads, pages] if *word == "gen" => {
             Some(Call::Gen(job_of(seed, ops, threads, pages)?))
         }
+        _ => None,
+    }
+}
+
+/// The manner that a word asks for. None exactly where it is the word of none.
+fn manner_of(word: &str) -> Option<Manner>
+    ensures { MatchOption result ((way : Way) → word.now ≡ word_of way → ⊥) (λ manner. word.now ≡ word_of (way_of manner)) }
+{
+    match word {
+        "order" => Some(Manner::InOrder),
+        "run" => Some(Manner::OnThreads),
         _ => None,
     }
 }
@@ -101,6 +115,7 @@ fn parsed<'a>(alloc: Global, words: &'a [String]) -> Result<ArgMatches<'a>, Erro
         generate = generate.arg(number)?;
     }
     let order = Command::new(alloc, "order").disable_help_flag(true);
+    let run = Command::new(alloc, "run").disable_help_flag(true);
     Command::new(alloc, "pas")
         .no_binary_name(true)
         .disable_help_flag(true)
@@ -108,6 +123,7 @@ fn parsed<'a>(alloc: Global, words: &'a [String]) -> Result<ArgMatches<'a>, Erro
         .disable_version_flag(true)
         .subcommand_required(true)
         .subcommand(order)?
+        .subcommand(run)?
         .subcommand(generate)?
         .try_get_matches_from(words)
 }
@@ -115,7 +131,8 @@ fn parsed<'a>(alloc: Global, words: &'a [String]) -> Result<ArgMatches<'a>, Erro
 /// Whether `clap` read the words as this call.
 fn is_reading(matches: &ArgMatches, call: &Call) -> bool {
     match (matches.subcommand(), call) {
-        (Some(("order", _)), Call::Order) => true,
+        (Some(("order", _)), Call::Replay(Manner::InOrder)) => true,
+        (Some(("run", _)), Call::Replay(Manner::OnThreads)) => true,
         (Some(("gen", values)), Call::Gen(job)) => {
             is_value(values, "SEED", job.seed)
                 && is_value(values, "OPS", job.ops as u64)

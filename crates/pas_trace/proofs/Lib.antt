@@ -13,3 +13,4 @@ mod ItemRanges
 mod ParsedItems
 mod OperationsOfItems
 pub mod EveryPlan
+pub mod EveryPhase

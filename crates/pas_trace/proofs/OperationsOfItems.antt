@@ -21,7 +21,7 @@ abbrev one : Option Op → List Op
 one None = []
 one (Some op) = op ∷ []
 
-abbrev new_ops : Item → List Item → List Op
+abbrev pub new_ops : Item → List Item → List Op
 new_ops i earlier = one (operation_of (line_of_newest (i ∷ earlier)) i)
 
 all_more : (phases : List (List Op)) → all_ops (phases ++ [] ∷ []) ≡ all_ops phases
@@ -40,7 +40,7 @@ ops_next NextPhase earlier = all_more (phases_in earlier) ∙ sym (append-nil (o
 ops_next i earlier = all_add _ (phases_in earlier)
 
 -- ---- they follow one another
-asked_both : (asked : List ℕ) (xs ys : List Op) → asked_by asked (xs ++ ys) ≡ asked_by (asked_by asked xs) ys
+pub asked_both : (asked : List ℕ) (xs ys : List Op) → asked_by asked (xs ++ ys) ≡ asked_by (asked_by asked xs) ys
 asked_both asked [] ys = refl
 asked_both asked (x ∷ xs) ys = asked_both (asked_after x.what asked) xs ys
 
@@ -49,7 +49,7 @@ sound_both f asked [] ys a b = b
 sound_both f asked (x ∷ xs) ys a b = (a.0, a.1, sound_both f (asked_after x.what asked) xs ys a.2 b)
 
 -- the names are those that the items allocate
-abbrev AreNames : List ℕ → List Item → Type 0
+abbrev pub AreNames : List ℕ → List Item → Type 0
 AreNames asked items = (n : ℕ) → is_asked asked n ≡ is_named items n
 
 abbrev sharing : Profile → ℕ → Profile
@@ -69,7 +69,7 @@ item_sound f shared Passes earlier asked passed range names = (refl, range, tt)
 item_sound f shared (Idles n) earlier asked passed range names = (refl, range, tt)
 item_sound f shared i earlier asked passed range names = tt
 
-item_names : (i : Item) (earlier : List Item) (asked : List ℕ) → AreNames asked earlier → AreNames (asked_by asked (new_ops i earlier)) (i ∷ earlier)
+pub item_names : (i : Item) (earlier : List Item) (asked : List ℕ) → AreNames asked earlier → AreNames (asked_by asked (new_ops i earlier)) (i ∷ earlier)
 item_names (Allocates t q) earlier asked names m = ap (λ b. (q.name == m) || b) (names m)
 item_names i earlier asked names m = names m
 
@@ -89,11 +89,11 @@ following f shared (i ∷ earlier) checked =
     }
 
 -- ---- how many records
-records_both : (f : Profile) (xs ys : List Op) → records_of_ops f (xs ++ ys) ≡ records_of_ops f xs + records_of_ops f ys
+pub records_both : (f : Profile) (xs ys : List Op) → records_of_ops f (xs ++ ys) ≡ records_of_ops f xs + records_of_ops f ys
 records_both f [] ys = omega arith
 records_both f (x ∷ xs) ys = omega (arith, records_both f xs ys)
 
-own_both : (f : Profile) (k : ℕ) (xs ys : List Op) → own_records f k (xs ++ ys) ≡ own_records f k xs + own_records f k ys
+pub own_both : (f : Profile) (k : ℕ) (xs ys : List Op) → own_records f k (xs ++ ys) ≡ own_records f k xs + own_records f k ys
 own_both f k [] ys = omega arith
 own_both f k (x ∷ xs) ys = omega (arith, own_both f k xs ys)
 

@@ -6,3 +6,4 @@ pub mod Reasons
 pub mod Plans
 pub mod Told
 pub mod EveryPlan
+pub mod EveryPhase

@@ -36,7 +36,7 @@ loop-index-preserved c = record {
       let lt : c.loop-index.index < length c.loop-index.lent = omega (arith, size, test) in
       let at = so.2.lent.each c.loop-index.index c.index-lent-index.result lt in
       goes_on c.args.epochs c.loop-index.index c.index-lent-index.result c.stop_lent.new.worker distinct so lt size
-      (c.stop_lent.ensures.stops book f (get_or idle c.loop-index.index 0) (later c.loop-index.index) so.2.reached at (so.2.epoch ∙ read));
+      (c.stop_lent.ensures.stops book f (get_or idle c.loop-index.index 0) (later c.loop-index.index) so.2.reached at (so.2.epoch ∙ read)) c.stop_lent.ensures.requests;
 }
 
 pub returns-clause-stops : goal.returns-clause-stops

@@ -29,24 +29,21 @@ pub perform_all-team-requires-clause-ready : goal.perform_all-team-requires-clau
 perform_all-team-requires-clause-ready g c κs within =
     let m = c.requires.may in
     let at = m.4.team_at in
-    let woken = with_items_is c.args.team.threads c.wake_all.new.threads (c.wake_all.ensures.many ∙ c.deref_mut.ensures.len) in
-    let begun = has_begun c.args.ops.now m.1 _ at c.deref_mut.ensures.value woken c.wake_all.ensures.woke c.wake_all.ensures.many refl c.note.ensures.names c.note.ensures.placed (record { workers = at.places.workers; hands = at.places.hands; lent = at.places.lent; free = at.places.free }) in
+    let begun = has_begun c.args.ops.now m.1 at c.deref_mut.ensures.value c.deref_mut.ensures.len c.wake_all.ensures.woke c.wake_all.ensures.many c.note.ensures.names c.note.ensures.placed in
     (m.0, _, begun.woke.reached, begun.ready)
 
 pub append-requires : goal.append-requires
 append-requires g c =
     let m = c.requires.may in
     let at = m.4.team_at in
-    let woken = with_items_is c.args.team.threads c.wake_all.new.threads (c.wake_all.ensures.many ∙ c.deref_mut.ensures.len) in
-    let begun = has_begun c.args.ops.now m.1 _ at c.deref_mut.ensures.value woken c.wake_all.ensures.woke c.wake_all.ensures.many refl c.note.ensures.names c.note.ensures.placed (record { workers = at.places.workers; hands = at.places.hands; lent = at.places.lent; free = at.places.free }) in
+    let begun = has_begun c.args.ops.now m.1 at c.deref_mut.ensures.value c.deref_mut.ensures.len c.wake_all.ensures.woke c.wake_all.ensures.many c.note.ensures.names c.note.ensures.placed in
     may_append c.args.ops.now m.1 at begun (c.perform_all-team.ensures.done m.0 _ begun.woke.reached begun.ready) m.2 c.args.out.now m.4.room
 
 pub gather-requires : goal.gather-requires
 gather-requires g c =
     let m = c.requires.may in
     let at = m.4.team_at in
-    let woken = with_items_is c.args.team.threads c.wake_all.new.threads (c.wake_all.ensures.many ∙ c.deref_mut.ensures.len) in
-    let begun = has_begun c.args.ops.now m.1 _ at c.deref_mut.ensures.value woken c.wake_all.ensures.woke c.wake_all.ensures.many refl c.note.ensures.names c.note.ensures.placed (record { workers = at.places.workers; hands = at.places.hands; lent = at.places.lent; free = at.places.free }) in
+    let begun = has_begun c.args.ops.now m.1 at c.deref_mut.ensures.value c.deref_mut.ensures.len c.wake_all.ensures.woke c.wake_all.ensures.many c.note.ensures.names c.note.ensures.placed in
     record {
       room = subst (λ (ws : List Worker). length (records_in c.append.new.self) + length (said_by_all ws) ≤ room_of c.append.new.self) (sym c.deref_mut-2.ensures.value)
           (may_gather c.args.ops.now m.1 at begun (c.perform_all-team.ensures.done m.0 _ begun.woke.reached begun.ready) m.2 c.args.out.now m.4.room c.append.new.self c.append.ensures.added c.append.ensures.size);
@@ -56,8 +53,7 @@ pub take_all-requires : goal.take_all-requires
 take_all-requires g c =
     let m = c.requires.may in
     let at = m.4.team_at in
-    let woken = with_items_is c.args.team.threads c.wake_all.new.threads (c.wake_all.ensures.many ∙ c.deref_mut.ensures.len) in
-    let begun = has_begun c.args.ops.now m.1 _ at c.deref_mut.ensures.value woken c.wake_all.ensures.woke c.wake_all.ensures.many refl c.note.ensures.names c.note.ensures.placed (record { workers = at.places.workers; hands = at.places.hands; lent = at.places.lent; free = at.places.free }) in
+    let begun = has_begun c.args.ops.now m.1 at c.deref_mut.ensures.value c.deref_mut.ensures.len c.wake_all.ensures.woke c.wake_all.ensures.many c.note.ensures.names c.note.ensures.placed in
     let given = with_items_is c.perform_all-team.result.threads c.gather.new.threads (c.gather.ensures.many ∙ c.deref_mut-2.ensures.len) in
     let gathered : WereGathered c.perform_all-team.result.threads.items c.gather.new.threads c.append.new.self c.gather.new.out =
         subst (λ (ws : List Worker). WereGathered ws c.gather.new.threads c.append.new.self c.gather.new.out) c.deref_mut-2.ensures.value
@@ -70,7 +66,6 @@ take_all-requires g c =
 
 pub returns : goal.returns
 returns g c =
-    let woken = with_items_is c.args.team.threads c.wake_all.new.threads (c.wake_all.ensures.many ∙ c.deref_mut.ensures.len) in
     let given = with_items_is c.perform_all-team.result.threads c.gather.new.threads (c.gather.ensures.many ∙ c.deref_mut-2.ensures.len) in
     let left = with_items_is (with_items c.perform_all-team.result.threads c.gather.new.threads) c.take_all.new.workers (c.take_all.ensures.many ∙ c.deref_mut-3.ensures.len) in
     let gathered : WereGathered c.perform_all-team.result.threads.items c.gather.new.threads c.append.new.self c.gather.new.out =
@@ -84,7 +79,7 @@ returns g c =
     record {
       done = λ f rest marks p whole.
           let at = whole.team_at in
-          let begun = has_begun c.args.ops.now rest _ at c.deref_mut.ensures.value woken c.wake_all.ensures.woke c.wake_all.ensures.many refl c.note.ensures.names c.note.ensures.placed (record { workers = at.places.workers; hands = at.places.hands; lent = at.places.lent; free = at.places.free }) in
+          let begun = has_begun c.args.ops.now rest at c.deref_mut.ensures.value c.deref_mut.ensures.len c.wake_all.ensures.woke c.wake_all.ensures.many c.note.ensures.names c.note.ensures.placed in
           let done = c.perform_all-team.ensures.done f _ begun.woke.reached begun.ready in
           phase_done c.args.ops.now rest whole begun done c.active-awake.ensures c.append.ensures.added c.append.ensures.size gathered _ taken left refl refl done.none c.append.ensures.none c.append.ensures.other_size
           (record { workers = done.places.workers; hands = done.places.hands; lent = done.places.lent; free = done.places.free });

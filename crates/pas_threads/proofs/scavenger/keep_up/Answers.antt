@@ -1,4 +1,4 @@
-use Rattle.std.proofs.Common.{◌∙◌, List, [], Some, ap, sym, subst}
+use Rattle.std.proofs.Common.{◌∙◌, List, [], Some, refl, ap, sym, subst}
 use Rattle.pas_shared.specs.Passes.{IsPassOf}
 use Rattle.pas_shared.specs.declared.region.SharedRegion.{SharedRegion}
 use Rattle.std.specs.Vec.{with_items}
@@ -47,5 +47,6 @@ returns g c = record {
         scavenger_rose (λ σ σ'. CrewDid c.args.region.now book f idle acts [] σ σ' (crew_of before) (crew (with_items before.lent c.scavenge.new.lent).items (places_of c.scavenge.new.outcomes) c.scavenge.new.out) later lends p)
         pass c.scavenge.new.desk.pass c.into_pass.result is stands.has c.into_pass.ensures.pass
         (subst (λ (r : SharedRegion). IsPassOf r c.into_pass.result) (c.scavenge.ensures.home ∙ c.desk-desk.ensures.region) c.into_pass.ensures.of) new;
+    places = refl;
   };
 }

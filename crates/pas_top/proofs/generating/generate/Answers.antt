@@ -2,6 +2,7 @@ use Rattle.std.proofs.Common.{◌∙◌, List, ap, subst, inr, refl}
 use Rattle.pas_report.specs.Counts.{totals_by_words}
 use Rattle.pas_report.specs.Rooms.{records_in}
 use Rattle.pas_report.specs.declared.record.Record.{Record}
+use Rattle.pas_answers.specs.Ways.{InOrder}
 use Rattle.pas_top.specs.Outcomes.{IsOutcome}
 use Rattle.pas_top.specs.Summaries.{summary_text}
 use Rattle.pas_top.proofs.Summing.{summarized}
@@ -17,7 +18,7 @@ returns-in-Ok-Replayed-clause-told g c =
       (
         refl,
         summarized job.seed job.ops job.threads job.pages c.in-Ok.text.items (records_in c.in-Ok-Replayed.records) c.in-Ok-Replayed.state c.as_str.result.now
-            (subst (IsOutcome c.in-Ok.text.items) c.in-Ok-Replayed.field-0-is c.in-Ok-Replayed.ensures) c.in-Ok.ensures.text text_is,
+            (subst (IsOutcome InOrder c.in-Ok.text.items) c.in-Ok-Replayed.field-0-is c.in-Ok-Replayed.ensures) c.in-Ok.ensures.text text_is,
       ),
       c.tell.ensures,
     )

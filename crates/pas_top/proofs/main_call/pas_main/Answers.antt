@@ -1,11 +1,12 @@
-use Rattle.std.proofs.Common.{refl, subst, inl, inr, arith}
+use Rattle.std.proofs.Common.{refl, subst, inl, arith}
 use Rattle.pas_io.specs.Inputs.{IsInput}
 use Rattle.pas_top.specs.Outcomes.{outcome_status, outcome_text}
 use Rattle.pas_top.specs.Calls.{IsCall, IsMisread}
+use Rattle.pas_top.specs.Manners.{way_of}
 use Rattle.pas_top.proofs.Summing.{gen_cut_off, gen_summed}
-use Rattle.pas_top.specs.Outputs.{IsOrder, IsAccepted, most_bytes, texts_of, usage_text, too_long_text}
+use Rattle.pas_top.specs.Outputs.{IsReplaying, IsAccepted, most_bytes, texts_of, usage_text, too_long_text}
 use Rattle.pas_top.proofs.Statuses.{cut_off, not_four, written}
-use Rattle.pas_top.proofs.Headline.{can_write, outcome_output, status_not_four}
+use Rattle.pas_top.proofs.Headline.{can_write, outcome_output, too_long_output, status_not_four}
 use Rattle.pas_top.proofs.main_call.pas_main.Goals as goal
 
 pub returns-in-Ok-Gen-clause-sink_failed : goal.returns-in-Ok-Gen-clause-sink_failed
@@ -19,27 +20,27 @@ returns-in-Err-Usage-clause-sink_failed g c =
 
 pub returns-in-Ok-TooLong-clause-sink_failed : goal.returns-in-Ok-TooLong-clause-sink_failed
 returns-in-Ok-TooLong-clause-sink_failed g c =
-    let order : IsOrder (texts_of c.args.words.now) = subst (IsCall (texts_of c.args.words.now)) c.in-Ok-Order.field-0-is c.in-Ok-Order.ensures.call in
+    let asked : IsReplaying (way_of c.in-Ok-Replay.manner) (texts_of c.args.words.now) = subst (IsCall (texts_of c.args.words.now)) c.in-Ok-Replay.field-0-is c.in-Ok-Replay.ensures.call in
     cut_off _ _ _ _ _ _ too_long_text 6 c.tell-in-Ok-TooLong.result c.tell-in-Ok-TooLong.ensures
-    (inr (inl (order, λ two. omega (arith, two), λ bytes told. inr (inr (refl, record { long = subst (IsInput most_bytes bytes) c.in-Ok-TooLong.field-0-is (c.in-Ok-TooLong.ensures.input bytes told); text_is = refl }))))) (λ e. omega (arith, e))
+    (too_long_output _ _ _ asked (λ bytes told. let input = subst (IsInput most_bytes bytes) c.in-Ok-TooLong.field-0-is (c.in-Ok-TooLong.ensures.input bytes told) in input)) (λ e. omega (arith, e))
 
 pub tell_outcome-requires : goal.tell_outcome-requires
-tell_outcome-requires g c = can_write c.in-Ok-Whole.bytes.items c.in-Ok.outcome c.in-Ok.ensures
+tell_outcome-requires g c = can_write (way_of c.in-Ok-Replay.manner) c.in-Ok-Whole.bytes.items c.in-Ok.outcome c.in-Ok.ensures
 
 pub returns-in-Ok-clause-written : goal.returns-in-Ok-clause-written
 returns-in-Ok-clause-written g c = λ writing.
-    let order : IsOrder (texts_of c.args.words.now) = subst (IsCall (texts_of c.args.words.now)) c.in-Ok-Order.field-0-is c.in-Ok-Order.ensures.call in
+    let asked : IsReplaying (way_of c.in-Ok-Replay.manner) (texts_of c.args.words.now) = subst (IsCall (texts_of c.args.words.now)) c.in-Ok-Replay.field-0-is c.in-Ok-Replay.ensures.call in
     written _ _ _ _ _ _ (outcome_text c.in-Ok.outcome) (outcome_status c.in-Ok.outcome) c.tell_outcome.result c.tell_outcome.ensures
-    (outcome_output (texts_of c.args.words.now) (g.S.Source.rest c.args.source.now) c.in-Ok-Whole.bytes.items c.in-Ok.outcome order
+    (outcome_output (texts_of c.args.words.now) (g.S.Source.rest c.args.source.now) c.in-Ok-Whole.bytes.items (way_of c.in-Ok-Replay.manner) c.in-Ok.outcome asked
     (λ bytes told. let input = subst (IsInput most_bytes bytes) c.in-Ok-Whole.field-0-is (c.in-Ok-Whole.ensures.input bytes told) in input)
     c.in-Ok.ensures)
     (not_four c.tell_outcome.result writing)
 
 pub returns-in-Ok-clause-sink_failed : goal.returns-in-Ok-clause-sink_failed
 returns-in-Ok-clause-sink_failed g c =
-    let order : IsOrder (texts_of c.args.words.now) = subst (IsCall (texts_of c.args.words.now)) c.in-Ok-Order.field-0-is c.in-Ok-Order.ensures.call in
+    let asked : IsReplaying (way_of c.in-Ok-Replay.manner) (texts_of c.args.words.now) = subst (IsCall (texts_of c.args.words.now)) c.in-Ok-Replay.field-0-is c.in-Ok-Replay.ensures.call in
     cut_off _ _ _ _ _ _ (outcome_text c.in-Ok.outcome) (outcome_status c.in-Ok.outcome) c.tell_outcome.result c.tell_outcome.ensures
-    (outcome_output (texts_of c.args.words.now) (g.S.Source.rest c.args.source.now) c.in-Ok-Whole.bytes.items c.in-Ok.outcome order
+    (outcome_output (texts_of c.args.words.now) (g.S.Source.rest c.args.source.now) c.in-Ok-Whole.bytes.items (way_of c.in-Ok-Replay.manner) c.in-Ok.outcome asked
     (λ bytes told. let input = subst (IsInput most_bytes bytes) c.in-Ok-Whole.field-0-is (c.in-Ok-Whole.ensures.input bytes told) in input)
     c.in-Ok.ensures)
     (status_not_four c.in-Ok.outcome)

@@ -1,0 +1,223 @@
+//! All that a replay on threads needs, and the replay.
+ghost use Rattle.std.specs.Prelude.{◌≡◌, ◌≤◌, ◌<◌, ◌+◌, ◌^◌, ℕ, List, IfOk, All, true, Some, [], map, length, vec_capacity, ◌++◌, ◌∷◌};
+ghost use Rattle.pas_profile.specs.declared.profile.Profile.{Profile as TheProfile};
+ghost use Rattle.pas_trace.specs.Plans.{IsPlanOf, bounds_of};
+ghost use Rattle.pas_utility.specs.Outcomes.{places_of};
+ghost use Rattle.pas_utility.specs.Pools.{threads_of, has_seat, outcomes_of};
+ghost use Rattle.pas_cache.specs.Caches.{cached};
+ghost use Rattle.pas_report.specs.Rooms.{records_in, room_of};
+ghost use Rattle.pas_answers.specs.Replays.{phases_of, empty_cache, Shows};
+ghost use Rattle.pas_answers.specs.Ways.{OnThreads};
+ghost use Rattle.pas_shared.specs.declared.pass.SharedPass.{SharedPass as ThePass};
+ghost use Rattle.pas_threads.specs.Kits.{IsEquipped, AreEquipped, IsSupplied, IsTeamOf, IsKitOf, slots_of, AreAllBack};
+
+use crate::gate::Gate;
+use crate::names::{NameBook, Requests};
+use crate::phases::{Team, replay};
+use crate::scavenger::Scavenger;
+use crate::workers::Worker;
+use pas_cache::ThreadCache;
+use pas_profile::NoMemory;
+use pas_replay::kit::{caches_for, outcomes_from, rooms_of};
+use pas_replay::limits::names_limit;
+use pas_report::Records;
+use pas_shared::{SharedPass, SharedRegion, close};
+use pas_steps::State;
+use pas_trace::Plan;
+use pas_utility::{Outcomes, Utility};
+use std::alloc::Global;
+use std::sync::Wait;
+use std::thread::Threads;
+
+/// All that a replay on threads needs: the region, the workers of all actors with their rooms, and the names. Once it is made nothing takes memory.
+#[derive(Drop)]
+pub struct SharedKit {
+    region: SharedRegion,
+    team: Team,
+    /// None yet, with a place for that of each actor: with them the region is closed.
+    passes: Vec<SharedPass>,
+}
+
+/// The worker of a thread, with room for so many requests and their records.
+fn worker_with(
+    alloc: Global,
+    pass: SharedPass,
+    cache: ThreadCache,
+    bound: u32,
+) -> Result<Worker, NoMemory>
+    requires { cached cache ≡ empty_cache }
+    ensures { IfOk result (λ worker. IsEquipped pass bound worker) }
+{
+    let requests = Requests::try_new(alloc, bound as usize)?;
+    let out = Records::try_new(alloc, bound, 0)?;
+    Ok(Worker {
+        pass: Some(pass),
+        cache,
+        requests,
+        out,
+    })
+}
+
+/// The workers of the threads, from thread 1 on, which have these passes and caches in order. The bounds are those of all actors.
+fn workers_for(
+    alloc: Global,
+    passes: Vec<SharedPass>,
+    mut caches: Vec<ThreadCache>,
+    bounds: &[u32],
+) -> Result<Vec<Worker>, NoMemory>
+    requires bounds { length bounds.now ≡ length passes.items + 1 }
+    requires caches { length caches.items ≡ length passes.items }
+    requires unused { All (λ cache. cached cache ≡ empty_cache) caches.items }
+    ensures workers { IfOk result (λ workers. AreEquipped bounds.now 1 passes.items workers.items) }
+    ensures places { IfOk result (λ workers. length passes.items ≤ vec_capacity workers) }
+{
+    let Ok(mut workers) = Vec::with_capacity(alloc, passes.len()) else {
+        return Err(NoMemory);
+    };
+    caches.reverse();
+    for pass in passes {
+        let Some(cache) = caches.pop() else {
+            unreachable!();
+        };
+        let bound = bounds[workers.len() + 1];
+        workers.push_reserved(worker_with(alloc, pass, cache, bound)?);
+    }
+    Ok(workers)
+}
+
+/// The scavenger, with room for so many records, to which as many as so many threads may be lent.
+fn scavenger_with(
+    alloc: Global,
+    pass: SharedPass,
+    outcomes: Outcomes,
+    bound: u32,
+    threads: u8,
+) -> Result<Scavenger, NoMemory>
+    ensures ready { (f : TheProfile) → places_of outcomes ≡ f.pages → IfOk result (λ scavenger. IsSupplied f pass bound scavenger) }
+    ensures places { IfOk result (λ scavenger. threads ≤ vec_capacity scavenger.lent) }
+{
+    let out = Records::try_new(alloc, bound, 0)?;
+    let Ok(lent) = Vec::with_capacity(alloc, threads as usize) else {
+        return Err(NoMemory);
+    };
+    Ok(Scavenger {
+        pass: Some(pass),
+        outcomes,
+        out,
+        lent,
+    })
+}
+
+/// The team of a plan, whose scavenger has the first pass, and whose threads have the others in order.
+fn team_for(
+    alloc: Global,
+    plan: &Plan,
+    utility: &mut Utility,
+    first: SharedPass,
+    others: Vec<SharedPass>,
+) -> Result<Team, NoMemory>
+    requires plan { (text : List ℕ) × IsPlanOf text plan.now }
+    requires passes { length others.items ≡ plan.now.profile.threads }
+    requires threads { plan.now.profile.threads ≤ threads_of utility.old }
+    requires seats { (k : ℕ) → 1 ≤ k → k ≤ plan.now.profile.threads → has_seat utility.old k ≡ true }
+    requires outcomes { outcomes_of utility.old ≡ Some plan.now.profile.pages }
+    ensures { IfOk result (λ team. IsTeamOf plan.now first others.items team) }
+{
+    let bounds = plan.bounds.as_slice();
+    let count = plan.profile.threads;
+    let caches = caches_for(alloc, utility, count)?;
+    let threads = workers_for(alloc, others, caches, bounds)?;
+    let outcomes = outcomes_from(utility);
+    let scavenger = scavenger_with(alloc, first, outcomes, bounds[0], count)?;
+    let book = NameBook::try_new(alloc, names_limit(plan.phases.as_slice()))?;
+    let Ok(hands) = Vec::with_capacity(alloc, count as usize + 1) else {
+        return Err(NoMemory);
+    };
+    Ok(Team {
+        threads,
+        scavenger,
+        hands,
+        book,
+    })
+}
+
+/// Adds the pass that stands at this place.
+fn add_pass(passes: &mut Vec<SharedPass>, slot: Option<SharedPass>)
+    requires back { (pass : ThePass) × (slot ≡ Some pass) }
+    requires place { length passes.old.items < vec_capacity passes.old }
+    ensures added { map Some passes.new.items ≡ map Some passes.old.items ++ slot ∷ [] }
+    ensures places { vec_capacity passes.new ≡ vec_capacity passes.old }
+{
+    let Some(pass) = slot else {
+        unreachable!();
+    };
+    passes.push_reserved(pass);
+}
+
+/// The passes of all actors, from the scavenger on, at the places of this list.
+fn passes_of(team: Team, mut passes: Vec<SharedPass>) -> Vec<SharedPass>
+    requires none { passes.items ≡ [] }
+    requires places { length team.threads.items < vec_capacity passes }
+    requires back { AreAllBack team }
+    ensures { map Some result.items ≡ slots_of team }
+{
+    let Team {
+        threads,
+        scavenger,
+        hands: _,
+        book: _,
+    } = team;
+    add_pass(&mut passes, scavenger.pass);
+    for worker in threads {
+        add_pass(&mut passes, worker.pass);
+    }
+    passes
+}
+
+impl SharedKit {
+    /// The kit of a plan. NoMemory where memory was wanting. Costs two passes over the words of the region and one over the plan.
+    pub fn try_new(alloc: Global, plan: &Plan) -> Result<SharedKit, NoMemory>
+        requires { (text : List ℕ) × IsPlanOf text plan.now }
+        ensures { IfOk result (λ kit. IsKitOf plan.now kit) }
+    {
+        let count = plan.profile.threads;
+        let mut utility = Utility::try_new(alloc, &plan.profile, plan.bounds.as_slice())?;
+        let rooms = rooms_of(alloc, &mut utility, count)?;
+        let (region, mut others) = SharedRegion::try_new(alloc, plan.profile, rooms)?;
+        let first = others.remove(0);
+        let team = team_for(alloc, plan, &mut utility, first, others)?;
+        let Ok(passes) = Vec::with_capacity(alloc, count as usize + 1) else {
+            return Err(NoMemory);
+        };
+        Ok(SharedKit {
+            region,
+            team,
+            passes,
+        })
+    }
+}
+
+/// Replays the plan with each thread's operations of a phase in a thread of their own, and says what was done, phase by phase and actor by actor.
+/// The gate is called round each operation of a thread. The state of the region at the end, at which no actor holds a grain, has a right or
+/// owes anything. Takes no memory but for the threads.
+pub fn on_threads<R: Threads + Wait + Sync, G: Gate + Sync>(
+    rt: &R,
+    plan: &Plan,
+    kit: SharedKit,
+    gate: &G,
+    out: &mut Records,
+) -> State
+    requires plan { (text : List ℕ) × (length text ≤ 16777216) × IsPlanOf text plan.now }
+    requires kit { IsKitOf plan.now kit }
+    requires empty { records_in out.old ≡ [] }
+    requires room { plan.now.total + length (phases_of plan.now) + 1 ≤ room_of out.old }
+    ensures { Shows OnThreads plan.now (records_in out.new) result }
+{
+    let SharedKit {
+        region,
+        team,
+        passes,
+    } = kit;
+    let team = replay(rt, &region, team, plan.phases.as_slice(), gate, out);
+    close(region, passes_of(team, passes))
+}

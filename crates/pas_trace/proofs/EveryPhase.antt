@@ -1,0 +1,166 @@
+-- In each phase of every plan, the names that a thread frees were asked for by itself or before the phase.
+use Rattle.std.proofs.Common.{◌≡◌, ℕ, ◌==◌, ◌||◌, Bool, true, false, not, if◌then◌else◌, List, [], ◌∷◌, ◌++◌, map, Some, None, refl, ap, sym, ◌∙◌, subst, append_assoc}
+use Rattle.std.proofs.lemmas.Bool.{eqb-true, eq-eqb, false≢true}
+use Rattle.std.proofs.lemmas.List.{append-nil}
+use Rattle.pas_profile.specs.declared.profile.Profile.{Profile}
+use Rattle.pas_trace.specs.Reasons.{is_phase, is_named, is_named_now, actor_of, thread_of, reason_of}
+use Rattle.pas_trace.specs.Plans.{IsPlanOf, phases_of, ops_of, add_last, phases_in}
+use Rattle.pas_trace.specs.EveryPlan.{all_ops, is_asked, asked_after, asked_by}
+use Rattle.pas_trace.specs.EveryPhase.{FreesItsOwn, FreeTheirOwn}
+use Rattle.pas_trace.specs.declared.item.Item.{Item}
+use Rattle.pas_trace.specs.declared.item.Item.TheVariants.{Blank, Shares, NextPhase, Allocates, Frees, FreesRaw, Flushes, Stops, Ticks, Passes, Idles}
+use Rattle.pas_trace.specs.declared.plan.What.TheVariants.{Free}
+use Rattle.pas_trace.specs.declared.plan.Op.{Op}
+use Rattle.pas_trace.specs.declared.plan.Plan.{Plan}
+use Rattle.pas_trace.proofs.OperationsOfItems.{new_ops, asked_both, AreNames, item_names}
+use Rattle.pas_trace.proofs.ParsedItems.{AreChecked, parts_of}
+use Rattle.pas_trace.proofs.PassedChecks.{passes}
+
+-- ---- the names that thread k may free: those that were asked for before the phase, and its own after operations of the phase
+abbrev own_after : ℕ → List ℕ → Op → List ℕ
+own_after k asked op = if op.actor == k then asked_after op.what asked else asked
+
+abbrev own_by : ℕ → List ℕ → List Op → List ℕ
+own_by k asked [] = asked
+own_by k asked (op ∷ ops) = own_by k (own_after k asked op) ops
+
+own_both : (k : ℕ) (asked : List ℕ) (xs ys : List Op) → own_by k asked (xs ++ ys) ≡ own_by k (own_by k asked xs) ys
+own_both k asked [] ys = refl
+own_both k asked (x ∷ xs) ys = own_both k (own_after k asked x) xs ys
+
+frees_both : (k : ℕ) (asked : List ℕ) (xs ys : List Op) → FreesItsOwn k asked xs → FreesItsOwn k (own_by k asked xs) ys → FreesItsOwn k asked (xs ++ ys)
+frees_both k asked [] ys a b = b
+frees_both k asked (x ∷ xs) ys a b = (a.0, frees_both k (own_after k asked x) xs ys a.1 b)
+
+-- ---- the last phase after others
+frees_last : (asked : List ℕ) (front : List (List Op)) (last : List Op) → FreeTheirOwn asked front → ((k : ℕ) → FreesItsOwn k (asked_by asked (all_ops front)) last) → FreeTheirOwn asked (front ++ last ∷ [])
+frees_last asked [] last fronts frees = (frees, tt)
+frees_last asked (p ∷ ps) last fronts frees =
+    (fronts.0, frees_last (asked_by asked p) ps last fronts.1 (λ k. subst (λ now. FreesItsOwn k now last) (asked_both asked p (all_ops ps)) (frees k)))
+
+add_behind : (op : Op) (front : List (List Op)) (last : List Op) → add_last (Some op) (front ++ last ∷ []) ≡ front ++ (last ++ op ∷ []) ∷ []
+add_behind op [] last = refl
+add_behind op (p ∷ []) last = refl
+add_behind op (p ∷ q ∷ ps) last = ap (λ phases. p ∷ phases) (add_behind op (q ∷ ps) last)
+
+all_behind : (front : List (List Op)) (last : List Op) → all_ops (front ++ last ∷ []) ≡ all_ops front ++ last
+all_behind [] last = append-nil last
+all_behind (p ∷ ps) last = ap (λ ops. p ++ ops) (all_behind ps last) ∙ sym (append_assoc p (all_ops ps) last)
+
+-- ---- the names that an item's thread may free by the check of its line
+abbrev MayFree : List Item → ℕ → ℕ → Type 0
+MayFree items k n = (is_named items n ≡ true) × (((k == thread_of items n) || not (is_named_now items n)) ≡ true)
+
+-- of each thread, these names have all that it may free
+abbrev HaveOwn : (ℕ → List ℕ) → List Item → Type 0
+HaveOwn own items = (k n : ℕ) → MayFree items k n → is_asked (own k) n ≡ true
+
+-- the names that these phases asked for
+abbrev asked_in : List (List Op) → List ℕ
+asked_in phases = asked_by [] (all_ops phases)
+
+-- the phases of items end with this one, and each thread frees its own in all of them
+record HasLast (items : List Item) : Type 0 where
+  front : List (List Op)
+  last : List Op
+  same : phases_in items ≡ front ++ last ∷ []
+  fronts : FreeTheirOwn [] front
+  names : AreNames (asked_by (asked_in front) last) items
+  frees : (k : ℕ) → FreesItsOwn k (asked_in front) last
+  own : HaveOwn (λ k. own_by k (asked_in front) last) items
+
+free_name : {n m : ℕ} → Free n ≡ Free m → n ≡ m
+free_name h = cc
+
+item_frees : (f : Profile) (i : Item) (earlier : List Item) (own : ℕ → List ℕ) → reason_of f earlier i ≡ None → HaveOwn own earlier → (k : ℕ) → FreesItsOwn k (own k) (new_ops i earlier)
+item_frees f (Allocates t q) earlier own passed have k = (λ n who what. absurd (cc), tt)
+item_frees f (Frees t n) earlier own passed have k =
+    let held = passes f earlier (Frees t n) passed in
+    (λ m who what. subst (λ j. is_asked (own j) m ≡ true) who (subst (λ j. is_asked (own t) j ≡ true) (free_name what) (have t n (held.1.0, held.1.1.0))), tt)
+item_frees f (FreesRaw t a n) earlier own passed have k = (λ m who what. absurd (cc), tt)
+item_frees f (Flushes t) earlier own passed have k = (λ m who what. absurd (cc), tt)
+item_frees f (Stops t) earlier own passed have k = (λ m who what. absurd (cc), tt)
+item_frees f (Ticks e) earlier own passed have k = (λ m who what. absurd (cc), tt)
+item_frees f Passes earlier own passed have k = (λ m who what. absurd (cc), tt)
+item_frees f (Idles e) earlier own passed have k = (λ m who what. absurd (cc), tt)
+item_frees f i earlier own passed have k = tt
+
+-- ---- what a thread may free after an item
+either_same : (t : Bool) (asked : List ℕ) (n : ℕ) → is_asked asked n ≡ true → is_asked (if t then asked else asked) n ≡ true
+either_same true asked n is = is
+either_same false asked n is = is
+
+-- the request of a name by thread t: what another thread may free is no other than before
+own_request : (new mine : Bool) (name n : ℕ) (asked : List ℕ) → name == n ≡ new → (new ≡ true → mine ≡ true) → (new ≡ false → is_asked asked n ≡ true) → is_asked (if mine then name ∷ asked else asked) n ≡ true
+own_request true true name n asked is own old = ap (λ b. b || is_asked asked n) is
+own_request true false name n asked is own old = absurd (false≢true (own refl))
+own_request false true name n asked is own old = ap (λ b. b || is_asked asked n) is ∙ old refl
+own_request false false name n asked is own old = old refl
+
+only_left : (t : Bool) → t || false ≡ true → t ≡ true
+only_left true is = refl
+only_left false is = absurd (cc)
+
+request_own : (new named now : Bool) (t thread k name n : ℕ) (asked : List ℕ) → name == n ≡ new → new || named ≡ true → ((k == (if new then t else thread)) || not (new || now)) ≡ true
+    → (named ≡ true → ((k == thread) || not now) ≡ true → is_asked asked n ≡ true) → is_asked (if t == k then name ∷ asked else asked) n ≡ true
+request_own true named now t thread k name n asked is known may old =
+    own_request true (t == k) name n asked is (λ yes. eq-eqb t k (sym (eqb-true k t (only_left (k == t) may)))) (λ no. absurd (cc))
+request_own false named now t thread k name n asked is known may old = own_request false (t == k) name n asked is (λ yes. absurd (cc)) (λ no. old known may)
+
+item_own : (i : Item) (earlier : List Item) (own : ℕ → List ℕ) → is_phase i ≡ false → HaveOwn own earlier → HaveOwn (λ k. own_by k (own k) (new_ops i earlier)) (i ∷ earlier)
+item_own (Allocates t q) earlier own other have k n may =
+    request_own (q.name == n) (is_named earlier n) (is_named_now earlier n) t (thread_of earlier n) k q.name n (own k) refl may.0 may.1 (λ known free. have k n (known, free))
+item_own NextPhase earlier own other have k n may = absurd (cc)
+item_own Blank earlier own other have k n may = have k n may
+item_own (Shares h) earlier own other have k n may = have k n may
+item_own i earlier own other have k n may = either_same (actor_of i == k) (own k) n (have k n may)
+
+-- ---- item by item
+item_behind : (i : Item) (earlier : List Item) (front : List (List Op)) (last : List Op) → is_phase i ≡ false → phases_in earlier ≡ front ++ last ∷ []
+    → phases_in (i ∷ earlier) ≡ front ++ (last ++ new_ops i earlier) ∷ []
+item_behind Blank earlier front last other same = same ∙ ap (λ ops. front ++ ops ∷ []) (sym (append-nil last))
+item_behind (Shares h) earlier front last other same = same ∙ ap (λ ops. front ++ ops ∷ []) (sym (append-nil last))
+item_behind NextPhase earlier front last other same = absurd (cc)
+item_behind i earlier front last other same = ap (add_last (Some _)) same ∙ add_behind _ front last
+
+after_other : (f : Profile) (i : Item) (earlier : List Item) → is_phase i ≡ false → reason_of f earlier i ≡ None → HasLast earlier → HasLast (i ∷ earlier)
+after_other f i earlier other passed at =
+    let before = asked_in at.front in
+    let own : ℕ → List ℕ = λ k. own_by k before at.last in
+    let news = new_ops i earlier in
+    record {
+      front = at.front;
+      last = at.last ++ news;
+      same = item_behind i earlier at.front at.last other at.same;
+      fronts = at.fronts;
+      names = subst (λ now. AreNames now (i ∷ earlier)) (sym (asked_both before at.last news)) (item_names i earlier (asked_by before at.last) at.names);
+      frees = λ k. frees_both k before at.last news (at.frees k) (item_frees f i earlier own passed at.own k);
+      own = λ k n may. subst (λ now. is_asked now n ≡ true) (sym (own_both k before at.last news)) (item_own i earlier own other at.own k n may);
+    }
+
+after_phase : (earlier : List Item) → HasLast earlier → HasLast (NextPhase ∷ earlier)
+after_phase earlier at =
+    let asked : asked_by (asked_in at.front) at.last ≡ asked_in (at.front ++ at.last ∷ []) = sym (ap (asked_by []) (all_behind at.front at.last) ∙ asked_both [] (all_ops at.front) at.last) in
+    let names : AreNames (asked_in (at.front ++ at.last ∷ [])) earlier = subst (λ now. AreNames now earlier) asked at.names in
+    record {
+      front = at.front ++ at.last ∷ [];
+      last = [];
+      same = ap (λ phases. phases ++ [] ∷ []) at.same;
+      fronts = frees_last [] at.front at.last at.fronts at.frees;
+      names = names;
+      frees = λ k. tt;
+      own = λ k n may. names n ∙ may.0;
+    }
+
+after_item : (f : Profile) (i : Item) (earlier : List Item) → reason_of f earlier i ≡ None → HasLast earlier → HasLast (i ∷ earlier)
+after_item f NextPhase earlier passed at = after_phase earlier at
+after_item f i earlier passed at = after_other f i earlier refl passed at
+
+after_all : (f : Profile) (items : List Item) → AreChecked f items → HasLast items
+after_all f [] checked = record { front = []; last = []; same = refl; fronts = tt; names = λ n. refl; frees = λ k. tt; own = λ k n may. may.0 }
+after_all f (i ∷ earlier) checked = after_item f i earlier checked.0.passes (after_all f earlier checked.1)
+
+pub every_phase : {text : List ℕ} {plan : Plan} → IsPlanOf text plan → FreeTheirOwn [] (map ops_of (phases_of plan.phases))
+every_phase {text} {plan} is =
+    let at = after_all is.header is.items (parts_of text is.header is.items is.read).checked in
+    subst (FreeTheirOwn []) (sym (is.phases ∙ at.same)) (frees_last [] at.front at.last at.fronts at.frees)
