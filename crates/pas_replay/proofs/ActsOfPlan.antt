@@ -27,7 +27,7 @@ chosen_few : (chosen : ℕ → Bool) (ks : List ℕ) → length (filter chosen k
 chosen_few chosen [] = omega arith
 chosen_few chosen (k ∷ ks) = one_chosen (chosen k) k (filter chosen ks) ks (chosen_few chosen ks)
 
-idle_few : (threads : ℕ) (ops : List Op) → length (idle_threads threads ops) ≤ threads
+pub idle_few : (threads : ℕ) (ops : List Op) → length (idle_threads threads ops) ≤ threads
 idle_few threads ops = let few = chosen_few (λ k. not (is_active ops k)) (numbers_from 1 threads) in let count = numbers_count 1 threads in omega (arith, few, count)
 
 -- ---- operations of a plan
@@ -41,7 +41,7 @@ are_planned f asked [] sound = tt
 are_planned f asked (op ∷ ops) sound = (sound.0, are_planned f (asked_after op.what asked) ops sound.2)
 
 -- ---- what acts cost
-sum_both : (cost : Act → ℕ) (xs ys : List Act) → sum_over cost (xs ++ ys) ≡ sum_over cost xs + sum_over cost ys
+pub sum_both : (cost : Act → ℕ) (xs ys : List Act) → sum_over cost (xs ++ ys) ≡ sum_over cost xs + sum_over cost ys
 sum_both cost [] ys = omega arith
 sum_both cost (x ∷ xs) ys = let rest = sum_both cost xs ys in omega (arith, rest)
 
@@ -116,7 +116,7 @@ module _ (f : Profile) (cost : Act → ℕ) (most : Op → ℕ) (mark : ℕ) (ea
 
 -- ---- each operation
 -- records
-what_costs : (f : Profile) (idle : List ℕ) (op : Op) (what : What) → op.what ≡ what → length idle ≤ f.threads → costs_of f (acts_of_what idle op what) ≤ records_of_what f what
+pub what_costs : (f : Profile) (idle : List ℕ) (op : Op) (what : What) → op.what ≡ what → length idle ≤ f.threads → costs_of f (acts_of_what idle op what) ≤ records_of_what f what
 what_costs f idle op (Alloc n h s a) is few = let cost = ap cost_of_what is in omega (arith, cost)
 what_costs f idle op (Free n) is few = let cost = ap cost_of_what is in omega (arith, cost)
 what_costs f idle op (Raw block) is few = let cost = ap cost_of_what is in omega (arith, cost)
@@ -185,7 +185,7 @@ plan_unbacks f phases all =
 
 -- ---- what acts fit to
 -- what is said after operations and before the acts of those that follow
-abbrev Continues : Profile → ℕ → List Op → List Act → Type 0
+abbrev pub Continues : Profile → ℕ → List Op → List Act → Type 0
 Continues f limit ops acts = (asked : List ℕ) → AreSound f asked ops → AreFit f limit asked acts
 
 skip_stops : (f : Profile) (limit : ℕ) (asked : List ℕ) (n : ℕ) (idle : List ℕ) (more : List Act) → AreFit f limit asked more → AreFit f limit asked (idle_stops n idle ++ more)
@@ -208,7 +208,7 @@ fits f limit asked op (Tick e) idle rest more is below of sound later go = (soun
 fits f limit asked op Pass idle rest more is below of sound later go = go asked later
 fits f limit asked op (Idle n) idle rest more is below of sound later go = skip_stops f limit asked n idle more (go asked later)
 
-ops_fit : (f : Profile) (limit : ℕ) (idle : List ℕ) (ops rest : List Op) (more : List Act) → AreBelow limit (ops ++ rest) → Continues f limit rest more → Continues f limit (ops ++ rest) (acts_of_ops idle ops ++ more)
+pub ops_fit : (f : Profile) (limit : ℕ) (idle : List ℕ) (ops rest : List Op) (more : List Act) → AreBelow limit (ops ++ rest) → Continues f limit rest more → Continues f limit (ops ++ rest) (acts_of_ops idle ops ++ more)
 ops_fit f limit idle [] rest more below go asked sound = go asked sound
 ops_fit f limit idle (op ∷ ops) rest more below go asked sound =
     subst (AreFit f limit asked) (sym (append_assoc (acts_of_op idle op) (acts_of_ops idle ops) more))

@@ -20,6 +20,11 @@ pub mod Stopping
 pub mod Gathering
 pub mod NamesBefore
 pub mod NamesOfPhases
+pub mod PhaseRooms
+pub mod PhaseStarts
+pub mod Beyond
+pub mod PhaseEnds
+pub mod PhaseTeams
 pub mod Equipping
 pub mod Starting
 pub mod Ending

@@ -29,7 +29,7 @@ or_right : (s t : Bool) → t ≡ true → s || t ≡ true
 or_right true t is = refl
 or_right false t is = is
 
-or_either : (s t : Bool) → s || t ≡ true → (s ≡ true) ⊎ (t ≡ true)
+pub or_either : (s t : Bool) → s || t ≡ true → (s ≡ true) ⊎ (t ≡ true)
 or_either true t is = inl refl
 or_either false t is = inr is
 
@@ -218,7 +218,7 @@ names_within limit k [] below = tt
 names_within limit k (op ∷ ops) below = subst (AreWithin limit) (sym (asks_more k op ops)) (within_if (op.actor == k) limit op.what (asks k ops) below.0 (names_within limit k ops below.1))
 
 -- ---- after a phase
-some_worker : (workers : List Worker) (i : ℕ) → i < length workers → Worker
+pub some_worker : (workers : List Worker) (i : ℕ) → i < length workers → Worker
 some_worker [] i lt = absurd (omega (arith, lt))
 some_worker (w ∷ workers) i lt = w
 
@@ -275,3 +275,8 @@ module _ {f : Profile} {book : NameBook} {p q : Progress} {own : ℕ → Progres
         (are_known f (acts_of_ops (idle_threads threads phase) phase) at.asked q woven.reached woven.reaches (subst (λ (ns : List Named). AreKnown at.asked ns) (sym are) at.known));
     only = subst (λ (ns : List ℕ). OnlyAsked ns after) asked_is woven.only_asked;
   }
+
+  -- .. and these were asked for then
+  pub names_then : names_held book2.names ≡ names_held book1.names → (names : NamesAt f rest book2 woven.reached) × (names.asked ≡ asked_by at.asked phase)
+  unfolding names_after
+  names_then held = (names_after held, refl)

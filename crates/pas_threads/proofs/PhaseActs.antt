@@ -32,7 +32,7 @@ all_own all (op ∷ ops) within = (
   all_own all ops (λ k is. within k (or_right (op.actor == k) (is_active ops k) is)),
 )
 
-zero_own : (t : Bool) → ◌≡◌ {A = ℕ} (if t then 0 else 0) 0
+pub zero_own : (t : Bool) → ◌≡◌ {A = ℕ} (if t then 0 else 0) 0
 zero_own true = refl
 zero_own false = refl
 

@@ -89,11 +89,11 @@ following f shared (i ∷ earlier) checked =
     }
 
 -- ---- how many records
-records_both : (f : Profile) (xs ys : List Op) → records_of_ops f (xs ++ ys) ≡ records_of_ops f xs + records_of_ops f ys
+pub records_both : (f : Profile) (xs ys : List Op) → records_of_ops f (xs ++ ys) ≡ records_of_ops f xs + records_of_ops f ys
 records_both f [] ys = omega arith
 records_both f (x ∷ xs) ys = omega (arith, records_both f xs ys)
 
-own_both : (f : Profile) (k : ℕ) (xs ys : List Op) → own_records f k (xs ++ ys) ≡ own_records f k xs + own_records f k ys
+pub own_both : (f : Profile) (k : ℕ) (xs ys : List Op) → own_records f k (xs ++ ys) ≡ own_records f k xs + own_records f k ys
 own_both f k [] ys = omega arith
 own_both f k (x ∷ xs) ys = omega (arith, own_both f k xs ys)
 
