@@ -11,7 +11,7 @@ mod Reading
 mod LineCounts
 mod ItemRanges
 mod ParsedItems
-mod OperationsOfItems
+pub mod OperationsOfItems
 pub mod EveryPlan
 pub mod EveryPhase
 pub mod OperationCounts
