@@ -20,3 +20,7 @@ pub mod Stopping
 pub mod Gathering
 pub mod NamesBefore
 pub mod NamesOfPhases
+pub mod Marking
+pub mod Staying
+pub mod Closing
+pub mod BetweenPhases
