@@ -73,7 +73,7 @@ module _ {region : SharedRegion} {f : Profile} {all : List (List Op)} {n : ℕ} 
   pub first_begins : n ≡ 0 → BeforePhase region f all n ops rest team out
   first_begins is = record {
     p = so.p;
-    at = record { team_at = so.team_at; marked = are_none f.threads (so.none is).0 (so.none is).1; room = room_without_mark (one_more out so.p so.room) };
+    at = record { team_at = so.team_at; marked = are_none f.threads (so.none is).0 (so.none is).1; room = room_without_mark f (ops ∷ rest) (length rest + 1) out so.p (one_more out so.p so.room) };
     leads = subst (λ (acts : List Act). Leads f all acts so.p) (first_phase f.threads n ops rest is) so.leads;
   }
 
@@ -84,8 +84,8 @@ module _ {region : SharedRegion} {f : Profile} {all : List (List Op)} {n : ℕ} 
         p = with_records so.p (Record.Phase (n + 1) ∷ []);
         at = record {
           team_at = team_at_records (Record.Phase (n + 1) ∷ []) so.team_at;
-          marked = as_marked pushed (phase_marked (n + 1) so.written);
-          room = room_after_mark (Record.Phase (n + 1)) pushed size (one_more out so.p so.room);
+          marked = as_marked f.threads (so.p.records ++ Record.Phase (n + 1) ∷ []) pushed (phase_marked (n + 1) so.written);
+          room = room_after_mark f (ops ∷ rest) (length rest + 1) out out' so.p (Record.Phase (n + 1)) pushed size (one_more out so.p so.room);
         };
         leads = λ l rs follows. (subst (λ (acts : List Act). Leads f all acts so.p) (other_phase f.threads n ops rest some) marked) l rs follows;
       }
@@ -118,8 +118,8 @@ module _ {region : SharedRegion} {f : Profile} {all : List (List Op)} {n : ℕ} 
   close_begins {out'} pushed size = record {
     p = with_records so.p (Record.Close ∷ []);
     team_at = team_at_records (Record.Close ∷ []) so.team_at;
-    marked = as_marked pushed (close_marked so.written);
-    room = room_after_mark Record.Close pushed size so.room;
+    marked = as_marked f.threads (so.p.records ++ Record.Close ∷ []) pushed (close_marked so.written);
+    room = room_after_mark f [] 0 out out' so.p Record.Close pushed size so.room;
     leads = λ l rs follows. (subst (λ (acts : List Act). Leads f all acts so.p) (close_left f.threads n) so.leads) l rs follows;
   }
 

@@ -63,14 +63,14 @@ said_few {f} {threads} {p} {q} spoke (suc n) le =
     let same = ap (λ (j : ℕ). length (records_by j spoke.all)) (let e : n + 1 ≡ suc n = omega arith in e) in
     omega (arith, before, own, size, same)
 
+is_none : (rs : List Record) → length rs ≤ 0 → rs ≡ []
+is_none [] le = refl
+is_none (r ∷ rs) le = absurd (omega (arith, le))
+
 -- where the scavenger said nothing, what the threads said is all
 pub all_actors : (n : ℕ) (all : List Record) → length (records_by 0 all) ≤ 0 → by_actors 0 (n + 1) all ≡ by_actors 1 n all
 all_actors n all few =
     ap (λ (m : ℕ). by_actors 0 m all) (let e : n + 1 ≡ suc n = omega arith in e) ∙ ap (λ (rs : List Record). rs ++ by_actors 1 n all) (is_none (records_by 0 all) few)
-where
-  is_none : (rs : List Record) → length rs ≤ 0 → rs ≡ []
-  is_none [] le = refl
-  is_none (r ∷ rs) le = absurd (omega (arith, le))
 
 -- ---- a worker
 rests_gathered : {region : SharedRegion} {f : Profile} {k later : ℕ} {w w' : Worker} {said : List Record} {q : Progress} → WorkerSaid region f k w said later q → requests_in w.requests ≡ [] → later ≤ room_for w.requests → IsGathered w w' → WorkerRests region f k w' later q
@@ -89,7 +89,7 @@ rests_gathered {region} {f} {k} {later} {w} {w'} {said} {q} at asked fits did =
     }
 
 -- ---- the close
-module _ {region : SharedRegion} {f : Profile} {team : Team} {written : List Record} {p : Progress} (stopped gathered : List Worker) (at : TeamAt region f [] team p)
+module _ {region : SharedRegion} {f : Profile} {team : Team} {p : Progress} (written : List Record) (stopped gathered : List Worker) (at : TeamAt region f [] team p)
     (did : StoppedAll region f team.threads.items stopped (λ k. own_records f k (all_ops [])) p) (many : length stopped ≡ length team.threads.items) where
   said_are : said_by_all stopped ≡ by_actors 1 f.threads did.spoke.all
   said_are =

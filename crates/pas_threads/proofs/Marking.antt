@@ -53,8 +53,8 @@ pub close_marked : {threads : ℕ} {records written : List Record} → AreWritte
 close_marked {threads} so = marked_by Record.Close (λ said more spoken. (are_arranged threads said spoken).1 more) so
 
 -- where another text of the records was written
-pub as_marked : {threads : ℕ} {records written written' : List Record} → written' ≡ written → AreMarked threads records written → AreMarked threads records written'
-as_marked {threads} {records} same so = subst (λ (ws : List Record). AreMarked threads records ws) (sym same) so
+pub as_marked : (threads : ℕ) (records : List Record) {written written' : List Record} → written' ≡ written → AreMarked threads records written → AreMarked threads records written'
+as_marked threads records same so = subst (λ (ws : List Record). AreMarked threads records ws) (sym same) so
 
 -- ---- the end
 pub written_whole : {threads : ℕ} {records written : List Record} → AreWritten threads records written → written ≡ arranged OnThreads threads records

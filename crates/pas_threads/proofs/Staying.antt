@@ -55,6 +55,7 @@ same_owed_by f p q same (suc n) = ap (λ (m : ℕ). m + owed_by f q n) (same (su
 
 -- ---- more records
 pub team_at_records : {region : SharedRegion} {f : Profile} {phases : List (List Op)} {team : Team} {p : Progress} (more : List Record) → TeamAt region f phases team p → TeamAt region f phases team (with_records p more)
+unfolding names_at
 team_at_records {region} {f} {phases} {team} {p} more at = record {
   many = at.many;
   few_threads = at.few_threads;
@@ -68,14 +69,14 @@ team_at_records {region} {f} {phases} {team} {p} more at = record {
 }
 
 -- a mark took the room for one
-pub room_after_mark : {f : Profile} {phases : List (List Op)} {marks : ℕ} {out out' : Records} {p : Progress} (mark : Record) → records_in out' ≡ records_in out ++ mark ∷ [] → room_of out' ≡ room_of out
+pub room_after_mark : (f : Profile) (phases : List (List Op)) (marks : ℕ) (out out' : Records) (p : Progress) (mark : Record) → records_in out' ≡ records_in out ++ mark ∷ [] → room_of out' ≡ room_of out
     → HasRoom f phases (marks + 1) out p → HasRoom f phases marks out' (with_records p (mark ∷ []))
-room_after_mark {f} {phases} {marks} {out} {out'} {p} mark pushed size room =
+room_after_mark f phases marks out out' p mark pushed size room =
     let grown = ap (λ (rs : List Record). length rs) pushed in
     let one = length-append (records_in out) (mark ∷ []) in
     let same = same_owed_by f p (with_records p (mark ∷ [])) (λ k. refl) f.threads in
     omega (arith, grown, one, same, size, room)
 
 -- .. and no mark took none
-pub room_without_mark : {f : Profile} {phases : List (List Op)} {marks : ℕ} {out : Records} {p : Progress} → HasRoom f phases (marks + 1) out p → HasRoom f phases marks out p
-room_without_mark room = omega (arith, room)
+pub room_without_mark : (f : Profile) (phases : List (List Op)) (marks : ℕ) (out : Records) (p : Progress) → HasRoom f phases (marks + 1) out p → HasRoom f phases marks out p
+room_without_mark f phases marks out p room = omega (arith, room)
