@@ -1,6 +1,6 @@
 -- How a replay on threads goes from phase to phase, and to its end.
-use Rattle.std.proofs.Common.{◌≡◌, ℕ, zero, suc, ◌+◌, ◌<◌, ◌≤◌, List, [], ◌∷◌, ◌++◌, map, length, drop, slice_index_or, refl, ap, sym, ◌∙◌, subst, arith, append_assoc, drop_of_length-le}
-use Rattle.std.proofs.lemmas.List.{append-nil, length-map, drop_more}
+use Rattle.std.proofs.Common.{◌≡◌, ℕ, zero, ◌+◌, ◌<◌, ◌≤◌, List, [], ◌∷◌, ◌++◌, map, length, drop, slice_index_or, refl, ap, sym, ◌∙◌, subst, arith, drop_of_length-le}
+use Rattle.std.proofs.lemmas.List.{append-nil, drop_more}
 use Rattle.pas_profile.specs.declared.profile.Profile.{Profile}
 use Rattle.pas_steps.specs.Lists.{Whole}
 use Rattle.pas_trace.specs.Plans.{ops_of}
@@ -10,7 +10,7 @@ use Rattle.pas_report.specs.Rooms.{records_in, room_of}
 use Rattle.pas_report.specs.declared.record.Record.{Record}
 use Rattle.pas_report.specs.declared.records.Records.{Records}
 use Rattle.pas_shared.specs.declared.region.SharedRegion.{SharedRegion}
-use Rattle.pas_answers.specs.Acts.{Act, Ends, numbers_from, phase_acts, close_acts, acts_of}
+use Rattle.pas_answers.specs.Acts.{Act, Ends, numbers_from, phase_acts, acts_of}
 use Rattle.pas_answers.specs.Replays.{at_start}
 use Rattle.pas_answers.specs.Answers.{Progress, with_records, Follows}
 use Rattle.pas_replay.proofs.ActsInOrder.{acts_left, close_left, first_phase, other_phase}

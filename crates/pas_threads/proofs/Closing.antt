@@ -4,30 +4,25 @@ use Rattle.std.proofs.lemmas.List.{with_items_is}
 use Rattle.std.specs.Prelude.{map}
 use Rattle.std.specs.Vec.{with_items}
 use Rattle.pas_profile.specs.declared.profile.Profile.{Profile}
-use Rattle.pas_steps.specs.Clear.{HasNothing}
 use Rattle.pas_steps.specs.Lists.{part}
-use Rattle.pas_steps.specs.Views.{View}
 use Rattle.pas_trace.specs.EveryPlan.{all_ops, own_records}
-use Rattle.pas_trace.specs.declared.plan.Op.{Op}
 use Rattle.pas_report.specs.Rooms.{records_in, room_of}
 use Rattle.pas_report.specs.declared.record.Record.{Record}
 use Rattle.pas_cache.specs.Caches.{cached, AtRest}
 use Rattle.pas_cache.specs.declared.cache.ThreadCache.{ThreadCache}
 use Rattle.pas_shared.specs.declared.region.SharedRegion.{SharedRegion}
 use Rattle.pas_answers.specs.Acts.{Ends, numbers_from}
-use Rattle.pas_answers.specs.Answers.{Named, Progress}
-use Rattle.pas_answers.specs.Calls.{Tells, AreKnown, owed_events}
+use Rattle.pas_answers.specs.Answers.{Progress}
+use Rattle.pas_answers.specs.Calls.{owed_events}
 use Rattle.pas_answers.specs.Ways.{records_by, by_actors}
-use Rattle.pas_threads.specs.Shares.{OnlyAsked, Reaches}
+use Rattle.pas_threads.specs.Shares.{Reaches}
 use Rattle.pas_threads.specs.Works.{Sits}
 use Rattle.pas_threads.specs.Hands.{standing_of_pass}
-use Rattle.pas_threads.specs.NameBooks.{NamesAt, requests_in, room_for}
-use Rattle.pas_threads.specs.Sessions.{WorkerRests, AreResting, ScavengerRests, TeamAt, AreMarked, AreWritten, CloseDone, owed_by, HasRoom}
-use Rattle.pas_threads.specs.Turns.{owed_at, Spoke, WorkerSaid, StoppedAll, said_by_all, IsGathered}
-use Rattle.pas_threads.specs.declared.names.NameBook.{NameBook}
+use Rattle.pas_threads.specs.NameBooks.{requests_in, room_for}
+use Rattle.pas_threads.specs.Sessions.{WorkerRests, AreResting, TeamAt, AreMarked, AreWritten, CloseDone, owed_by}
+use Rattle.pas_threads.specs.Turns.{Spoke, WorkerSaid, StoppedAll, said_by_all, IsGathered}
 use Rattle.pas_threads.specs.declared.names.Requests.{Requests}
 use Rattle.pas_threads.specs.declared.workers.Worker.{Worker}
-use Rattle.pas_threads.specs.declared.scavenger.Scavenger.{Scavenger}
 use Rattle.pas_threads.specs.declared.phases.Team.{Team}
 use Rattle.pas_threads.proofs.Staying.{scavenger_rests, names_at}
 
@@ -94,7 +89,7 @@ module _ {region : SharedRegion} {f : Profile} {team : Team} {p : Progress} (wri
   said_are : said_by_all stopped ≡ by_actors 1 f.threads did.spoke.all
   said_are =
       said_actors 1 stopped did.spoke.all
-          (λ i d lt. (did.each i d (omega (arith, lt, many))).said_is ∙ ap (λ (j : ℕ). records_by j did.spoke.all) (let e : suc i ≡ i + 1 = omega arith in e))
+      (λ i d lt. (did.each i d (omega (arith, lt, many))).said_is ∙ ap (λ (j : ℕ). records_by j did.spoke.all) (let e : suc i ≡ i + 1 = omega arith in e))
       ∙ ap (λ (n : ℕ). by_actors 1 n did.spoke.all) (many ∙ at.many)
 
   -- there is room for what they said

@@ -50,7 +50,7 @@ returns c =
     record {
       done = λ f p at marked room.
           has_closed (records_in c.args.out.now) now new at (stopped d f p at) (many d) (subst (λ (ws : List Worker). length new ≡ length ws) (again d) c.gather.ensures.many)
-              (subst (λ (ws : List Worker). (i : ℕ) (e : Worker) → i < length ws → IsGathered (get_or ws i e) (get_or new i e)) (again d) c.gather.ensures.gathered)
-              (c.gather.ensures.many ∙ c.deref_mut-2.ensures.len) marked
-              (subst (λ (ws : List Worker). records_in c.gather.new.out ≡ records_in c.args.out.now ++ said_by_all ws) (again d) c.gather.ensures.added);
+          (subst (λ (ws : List Worker). (i : ℕ) (e : Worker) → i < length ws → IsGathered (get_or ws i e) (get_or new i e)) (again d) c.gather.ensures.gathered)
+          (c.gather.ensures.many ∙ c.deref_mut-2.ensures.len) marked
+          (subst (λ (ws : List Worker). records_in c.gather.new.out ≡ records_in c.args.out.now ++ said_by_all ws) (again d) c.gather.ensures.added);
     }
