@@ -104,7 +104,7 @@ abbrev pub acts_left : ℕ → ℕ → List (List Op) → List Act
 acts_left threads zero phases = acts_of threads phases
 acts_left threads (suc n) phases = acts_from threads (suc n + 1) phases
 
-close_left : (threads n : ℕ) → acts_left threads n [] ≡ close_acts threads
+pub close_left : (threads n : ℕ) → acts_left threads n [] ≡ close_acts threads
 close_left threads zero = refl
 close_left threads (suc n) = refl
 

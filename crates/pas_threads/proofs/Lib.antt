@@ -30,3 +30,7 @@ pub mod Starting
 pub mod Ending
 pub mod Ranks
 pub mod Performed
+pub mod Marking
+pub mod Staying
+pub mod Closing
+pub mod BetweenPhases
