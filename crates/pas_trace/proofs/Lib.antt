@@ -11,6 +11,6 @@ mod Reading
 mod LineCounts
 mod ItemRanges
 mod ParsedItems
-mod OperationsOfItems
+pub mod OperationsOfItems
 pub mod EveryPlan
 pub mod EveryPhase
