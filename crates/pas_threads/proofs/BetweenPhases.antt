@@ -1,5 +1,5 @@
 -- How a replay on threads goes from phase to phase, and to its end.
-use Rattle.std.proofs.Common.{◌≡◌, ℕ, zero, ◌+◌, ◌<◌, ◌≤◌, List, [], ◌∷◌, ◌++◌, map, length, drop, slice_index_or, refl, ap, sym, ◌∙◌, subst, arith, drop_of_length-le}
+use Rattle.std.proofs.Common.{◌≡◌, ℕ, ◌+◌, ◌<◌, ◌≤◌, List, [], ◌∷◌, ◌++◌, map, length, drop, slice_index_or, refl, ap, sym, ◌∙◌, subst, arith, drop_of_length-le}
 use Rattle.std.proofs.lemmas.List.{append-nil, drop_more}
 use Rattle.pas_profile.specs.declared.profile.Profile.{Profile}
 use Rattle.pas_steps.specs.Lists.{Whole}

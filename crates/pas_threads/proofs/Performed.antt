@@ -1,5 +1,5 @@
 -- What each hand did for the threads in its hands, and that all hands together did the operations of a phase.
-use Rattle.std.proofs.Common.{◌≡◌, ◌≢◌, ℕ, zero, suc, ◌+◌, ◌-◌, ◌<◌, ◌≤◌, ◌==◌, ◌||◌, not, Bool, true, false, if◌then◌else◌, inl, inr, All, List, [], ◌∷◌, ◌++◌, length, get_or, refl, ap, sym, ◌∙◌, subst, arith}
+use Rattle.std.proofs.Common.{◌≡◌, ◌≢◌, ℕ, zero, suc, ◌+◌, ◌<◌, ◌≤◌, ◌==◌, ◌||◌, not, Bool, true, false, if◌then◌else◌, inl, inr, All, List, [], ◌∷◌, ◌++◌, length, get_or, refl, ap, sym, ◌∙◌, subst, arith}
 use Rattle.std.specs.Prelude.{vec_capacity}
 use Rattle.std.specs.List.{filter}
 use Rattle.std.proofs.lemmas.List.{append-nil}
@@ -19,20 +19,18 @@ use Rattle.pas_utility.specs.Outcomes.{places_of}
 use Rattle.pas_utility.specs.declared.outcomes.Outcomes.{Outcomes}
 use Rattle.pas_shared.specs.declared.region.SharedRegion.{SharedRegion}
 use Rattle.pas_answers.specs.Acts.{Act, is_active, numbers_from, idle_threads, acts_of_op, acts_of_ops}
-use Rattle.pas_answers.specs.Answers.{Named, Progress}
+use Rattle.pas_answers.specs.Answers.{Progress}
 use Rattle.pas_answers.specs.Ways.{records_by}
 use Rattle.pas_threads.specs.Shares.{Reaches, owner_in, acts_by, own_acts, scavenger_acts, ActsAreShared}
 use Rattle.pas_threads.specs.NameBooks.{requests_in, room_for, names_of, names_asked}
-use Rattle.pas_threads.specs.Works.{Later, Works}
-use Rattle.pas_threads.specs.Hands.{standing_of_pass, kept_by, WorkerAt, Did, MayDoPhase, DidPhase}
+use Rattle.pas_threads.specs.Works.{Later}
+use Rattle.pas_threads.specs.Hands.{standing_of_pass, WorkerAt, Did, MayDoPhase, DidPhase}
 use Rattle.pas_threads.specs.Lent.{AreDistinct, AreLent}
 use Rattle.pas_threads.specs.Crews.{Crew, CrewDid}
 use Rattle.pas_threads.specs.Scavengers.{crew_of, ScavengerStands, DidScavenge}
 use Rattle.pas_threads.specs.Scavenges.{ScavengerAt}
 use Rattle.pas_threads.specs.Dealing.{AreDealt}
-use Rattle.pas_threads.specs.Acting.{DidEach}
-use Rattle.pas_threads.specs.Performing.{ScavengerHas, IsReady, ThreadDone, ScavengerDone, IsDone}
-use Rattle.pas_threads.specs.Sessions.{HasPlaces}
+use Rattle.pas_threads.specs.Performing.{IsReady, ThreadDone, ScavengerDone}
 use Rattle.pas_threads.specs.declared.names.NameBook.{NameBook}
 use Rattle.pas_threads.specs.declared.names.Requests.{Requests}
 use Rattle.pas_threads.specs.declared.workers.Worker.{Worker}

@@ -1,12 +1,12 @@
 -- How a kit is made, and where its team stands when a replay starts.
-use Rattle.std.proofs.Common.{◌≡◌, ℕ, zero, suc, ◌+◌, ◌*◌, ◌<◌, ◌≤◌, true, false, List, [], ◌∷◌, map, length, slice_index, slice_index_or, get_or, Option, Some, None, refl, ap, sym, ◌∙◌, subst, arith}
+use Rattle.std.proofs.Common.{◌≡◌, ℕ, zero, suc, ◌+◌, ◌*◌, ◌<◌, ◌≤◌, true, false, List, [], ◌∷◌, map, length, slice_index, slice_index_or, get_or, Some, None, refl, ap, sym, ◌∙◌, subst, arith}
 use Rattle.std.specs.List.{remove}
 use Rattle.std.proofs.lemmas.List.{length-map}
 use Rattle.std.proofs.Math.Nat.{suc-mul}
 use Rattle.pas_profile.specs.Rooms.{size_of_room}
 use Rattle.pas_profile.specs.declared.profile.Profile.{Profile}
 use Rattle.pas_profile.specs.declared.room.EventRoom.{EventRoom}
-use Rattle.pas_trace.specs.EveryPlan.{IsSound, all_ops, own_records}
+use Rattle.pas_trace.specs.EveryPlan.{all_ops, own_records}
 use Rattle.pas_trace.specs.Plans.{IsPlanOf, bounds_of, ops_of, phases_of as the_phases}
 use Rattle.pas_trace.specs.declared.plan.Phase.{Phase}
 use Rattle.pas_trace.specs.declared.plan.Plan.{Plan}
@@ -21,13 +21,12 @@ use Rattle.pas_cache.proofs.FlushesAndFrees.{rests_empty}
 use Rattle.pas_shared.specs.Passes.{AreFresh}
 use Rattle.pas_shared.specs.declared.region.SharedRegion.{SharedRegion}
 use Rattle.pas_shared.specs.declared.pass.SharedPass.{SharedPass}
-use Rattle.pas_answers.specs.Answers.{Named}
 use Rattle.pas_answers.specs.Calls.{owed_events}
-use Rattle.pas_answers.specs.Names.{block_named, names_held}
-use Rattle.pas_answers.specs.Replays.{at_start, phases_of, empty_cache}
+use Rattle.pas_answers.specs.Names.{names_held}
+use Rattle.pas_answers.specs.Replays.{at_start, phases_of}
 use Rattle.pas_replay.proofs.NameLimits.{below_all}
 use Rattle.pas_replay.proofs.StartAndEnd.{nothing, nothing_owed}
-use Rattle.pas_threads.specs.Sessions.{WorkerRests, AreResting, ScavengerRests, TeamAt, HasRoom, owed_by}
+use Rattle.pas_threads.specs.Sessions.{WorkerRests, ScavengerRests, TeamAt, HasRoom, owed_by}
 use Rattle.pas_threads.specs.NameBooks.{NamesAt}
 use Rattle.pas_threads.specs.Kits.{IsNew, AreNew, IsEquipped, AreEquipped, IsSupplied, IsBookOf, IsKitOf}
 use Rattle.pas_threads.specs.declared.kit.SharedKit.{SharedKit}

@@ -17,7 +17,7 @@ use Rattle.pas_answers.specs.Answers.{Progress, Follows}
 use Rattle.pas_answers.specs.Calls.{owed_events}
 use Rattle.pas_answers.specs.Ways.{OnThreads, arranged, by_actors, AreSpoken}
 use Rattle.pas_threads.specs.Shares.{Reaches}
-use Rattle.pas_threads.specs.Works.{Later, Sits}
+use Rattle.pas_threads.specs.Works.{Sits}
 use Rattle.pas_threads.specs.Scavenges.{ScavengerAt}
 use Rattle.pas_threads.specs.Hands.{standing_of_pass, HasPass}
 use Rattle.pas_threads.specs.NameBooks.{NamesAt, requests_in, room_for}

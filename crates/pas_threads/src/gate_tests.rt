@@ -63,7 +63,11 @@ fn meet(rt: &(impl Abort + AllocGlobal + Threads + Wait + Sync)) -> Result<bool,
         return Ok(false);
     };
     let kit = SharedKit::try_new(rt.alloc(), &plan)?;
-    let mut records = Records::try_new(rt.alloc(), plan.total, plan.phases.as_slice().len() as u32)?;
+    let mut records = Records::try_new(
+        rt.alloc(),
+        plan.total,
+        plan.phases.as_slice().len() as u32,
+    )?;
     let meeting = Meeting::new();
     let _state = on_threads(rt, &plan, kit, &meeting, &mut records);
     Ok(!meeting.gave_up.load(SeqCst))

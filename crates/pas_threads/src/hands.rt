@@ -30,13 +30,7 @@ pub(crate) enum Hand {
 }
 
 /// The hand does its operations of the phase.
-fn act<G: Gate>(
-    region: &SharedRegion,
-    book: &NameBook,
-    hand: &mut Hand,
-    ops: &[Op],
-    gate: &G,
-)
+fn act<G: Gate>(region: &SharedRegion, book: &NameBook, hand: &mut Hand, ops: &[Op], gate: &G)
     requires few { length ops.now < 2 ^ 32 }
     requires may { MayAct region.now book.now ops.now hand.old }
     ensures did { DidAct region.now book.now ops.now hand.old hand.new }

@@ -1,5 +1,5 @@
 -- the workers so far are dealt, and there are places for the others
-use Rattle.std.proofs.Common.{◌≡◌, ◌+◌, ◌<◌, ◌≤◌, length, reverse}
+use Rattle.std.proofs.Common.{◌≡◌, ◌+◌, ◌≤◌, length, reverse}
 use Rattle.std.specs.Prelude.{vec_capacity}
 use Rattle.pas_threads.proofs.Dealt.{SoDealt}
 use Rattle.pas_threads.proofs.dealing.deal.Given as goal

@@ -1,8 +1,6 @@
-use Rattle.std.proofs.Common.{◌≡◌, ◌∙◌, ◌+◌, ◌-◌, suc, zero, inl, inr, true, false, ap, sym, refl, subst, arith, reverse, List, map, length, length-append}
-use Rattle.pas_bits.specs.Masks.{is_set}
+use Rattle.std.proofs.Common.{◌≡◌, ◌∙◌, ◌+◌, ◌-◌, suc, inl, inr, ap, sym, refl, subst, arith, reverse, List, length, length-append}
 use Rattle.pas_threads.specs.declared.workers.Worker.{Worker}
 use Rattle.pas_threads.specs.declared.hands.Hand.{Hand}
-use Rattle.pas_threads.specs.declared.hands.Hand.TheVariants.{Thread}
 use Rattle.pas_threads.proofs.Dealt.{SoTaken, none_taken, some_in, some_out, taken_in, taken_out, all_taken, true_or_false, sized_of}
 use Rattle.pas_threads.proofs.dealing.take_back.Goals as goal
 

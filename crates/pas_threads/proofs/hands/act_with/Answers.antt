@@ -1,4 +1,4 @@
-use Rattle.std.proofs.Common.{rules, ◌≡◌, ◌∙◌, ◌++◌, ◌∷◌, [], List, length, ap, sym, subst}
+use Rattle.std.proofs.Common.{rules, ◌∙◌, ◌++◌, ◌∷◌, [], List, length, ap, sym, subst}
 use Rattle.pas_threads.specs.Acting.{DidEach}
 use Rattle.pas_threads.specs.Scavengers.{DidScavenge}
 use Rattle.pas_threads.specs.declared.scavenger.Scavenger.{Scavenger as TheScavenger}

@@ -1,9 +1,8 @@
-use Rattle.std.proofs.Common.{◌≡◌, ◌∙◌, suc, true, false, get_or, ap, sym, refl, subst, arith, List, length}
+use Rattle.std.proofs.Common.{◌≡◌, ◌∙◌, suc, true, false, get_or, ap, sym, refl, arith, List, length}
 use Rattle.std.proofs.lemmas.List.{length-map}
 use Rattle.pas_answers.specs.Acts.{idle_threads, is_active}
-use Rattle.pas_threads.specs.Shares.{owner_in, scavenger_acts}
+use Rattle.pas_threads.specs.Shares.{owner_in}
 use Rattle.pas_threads.specs.Dealing.{count_in, count_out}
-use Rattle.pas_threads.specs.declared.workers.Worker.{Worker}
 use Rattle.pas_threads.specs.declared.hands.Hand.{Hand}
 use Rattle.pas_threads.proofs.Dealt.{dealt_sizes, count_most}
 use Rattle.pas_threads.proofs.Performed.{own_may, may_scavenge, piece, lent_same, lent_places, idle_distinct}
@@ -57,7 +56,7 @@ take_back-requires-clause-sized g c =
     let sizes = dealt_sizes c.args.awake 1 c.args.team.threads.items dealt.0 c.deal.new.lent.items dealt.2 in
     let count : c.len-count.result ≡ length c.args.team.threads.items = (let ok = c.args.team.threads.ok.0 in let is = c.len-count.ensures in omega (arith, ok, is)) in
     let lent = lent_same ready c.args.awake c.requires.awake dealt.0 c.deal.new.lent.items dealt.2 _ c.act_with-scavenger.result (may_scavenge ready c.args.awake c.requires.awake dealt.0 c.deal.new.lent.items dealt.2 _ refl refl refl refl) refl
-        (λ on. c.act_with-scavenger.ensures.did (c.get-busy.ensures ∙ c.requires.awake 0 ∙ on)) (λ off. c.act_with-scavenger.ensures.stayed (c.get-busy.ensures ∙ c.requires.awake 0 ∙ off)) in
+    (λ on. c.act_with-scavenger.ensures.did (c.get-busy.ensures ∙ c.requires.awake 0 ∙ on)) (λ off. c.act_with-scavenger.ensures.stayed (c.get-busy.ensures ∙ c.requires.awake 0 ∙ off)) in
     (each.after, each.hands_are, record { inside = each.many ∙ sizes.inside ∙ ap (λ n. count_in c.args.awake 1 n) (sym count); outside = lent ∙ sizes.outside ∙ ap (λ n. count_out c.args.awake 1 n) (sym count) })
 
 pub returns : goal.returns
