@@ -164,10 +164,10 @@ none_ask f n idle asked (op ∷ ops) sound none =
     let first = λ (k : ℕ). if op.actor == k then name_asked op.what else [] in
     none_both n (acts_of_op idle op) (acts_of_ops idle ops)
     (none_op n idle op op.what (λ is.
-        let k = op.actor in
-        let own = asks_own f n k op.what sound.0 is in
-        let mine = ap (λ (t : Bool). if t then name_asked op.what else []) (eq-eqb k k refl) in
-        none k own.0 (ap (λ (ns : List ℕ). is_asked ns n) (asks_more k op ops ∙ ap (λ (ns : List ℕ). ns ++ asks k ops) mine) ∙ front_asked (name_asked op.what) (asks k ops) n own.1)))
+    let k = op.actor in
+    let own = asks_own f n k op.what sound.0 is in
+    let mine = ap (λ (t : Bool). if t then name_asked op.what else []) (eq-eqb k k refl) in
+    none k own.0 (ap (λ (ns : List ℕ). is_asked ns n) (asks_more k op ops ∙ ap (λ (ns : List ℕ). ns ++ asks k ops) mine) ∙ front_asked (name_asked op.what) (asks k ops) n own.1)))
     (none_ask f n idle (asked_after op.what asked) ops sound.2 (λ k some is. none k some (ap (λ (ns : List ℕ). is_asked ns n) (asks_more k op ops) ∙ back_asked (first k) (asks k ops) n is)))
 
 -- a thread that asks for a name has an operation in the phase
@@ -236,7 +236,7 @@ module _ {f : Profile} {book : NameBook} {p q : Progress} {own : ℕ → Progres
       let who = all k some (active_asks k phase n is) in
       let d = some_worker workers who.0 who.1 in
       none who.0 d who.1 (ap (λ (ns : List ℕ). is_asked ns n) ((each who.0 d who.1).noted ∙ ap (λ (j : ℕ). names_asked (own_acts j phase)) who.2) ∙ is)))
-    ∙ ap (λ (ns : List Named). standing_for ns n) are
+      ∙ ap (λ (ns : List Named). standing_for ns n) are
 
   was : (n : ℕ) → block_named book1.names n ≡ block_named book.names n
   was n = ap (λ (t : Names). block_named t n) noted

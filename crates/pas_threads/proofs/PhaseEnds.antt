@@ -1,5 +1,5 @@
 -- What stands once a worker's acts of a phase were done and what it said is gathered, by its share of the whole phase.
-use Rattle.std.proofs.Common.{◌≡◌, ℕ, ◌+◌, ◌-◌, ◌<◌, ◌≤◌, true, List, [], ◌∷◌, ◌++◌, length, get_or, Option, Some, refl, ap, sym, ◌∙◌, subst, arith}
+use Rattle.std.proofs.Common.{◌≡◌, ℕ, ◌+◌, ◌-◌, ◌≤◌, List, [], ◌++◌, length, refl, ap, sym, ◌∙◌, subst, arith}
 use Rattle.std.proofs.lemmas.List.{append-nil, append_cancel_left}
 use Rattle.pas_profile.specs.declared.profile.Profile.{Profile}
 use Rattle.pas_steps.specs.Clear.{HasNothing}
@@ -12,7 +12,6 @@ use Rattle.pas_report.specs.Rooms.{records_in, room_of}
 use Rattle.pas_report.specs.declared.record.Record.{Record}
 use Rattle.pas_utility.specs.Outcomes.{places_of}
 use Rattle.pas_cache.specs.Caches.{Cached, cached, AtRest}
-use Rattle.pas_cache.specs.declared.cache.ThreadCache.{ThreadCache}
 use Rattle.pas_shared.specs.declared.region.SharedRegion.{SharedRegion}
 use Rattle.pas_answers.specs.Acts.{acts_of_ops, idle_threads}
 use Rattle.pas_answers.specs.Answers.{Named, Progress}
@@ -25,7 +24,6 @@ use Rattle.pas_threads.specs.Shares.{Reaches, Owners, acts_by, owner_in, own_act
 use Rattle.pas_threads.specs.NameBooks.{NamesAt, requests_in, room_for, names_of, known_in}
 use Rattle.pas_threads.specs.Taken.{HandsOver, IsEmptied}
 use Rattle.pas_threads.specs.Works.{Later, Sits}
-use Rattle.pas_threads.specs.Scavenges.{ScavengerAt}
 use Rattle.pas_threads.specs.Hands.{standing_of_pass}
 use Rattle.pas_threads.specs.Sessions.{WorkerRests, ScavengerRests}
 use Rattle.pas_threads.specs.Turns.{owed_at, IsGathered}

@@ -12,7 +12,7 @@ use Rattle.pas_trace.specs.EveryPhase.{FreesItsOwn}
 use Rattle.pas_trace.specs.EveryPlan.{all_ops, own_records}
 use Rattle.pas_trace.specs.declared.plan.Op.{Op}
 use Rattle.pas_trace.proofs.OperationsOfItems.{own_both}
-use Rattle.pas_report.specs.Rooms.{records_in, room_of}
+use Rattle.pas_report.specs.Rooms.{room_of}
 use Rattle.pas_report.specs.declared.record.Record.{Record}
 use Rattle.pas_cache.specs.Caches.{Cached, cached}
 use Rattle.pas_shared.specs.declared.region.SharedRegion.{SharedRegion}
@@ -22,8 +22,8 @@ use Rattle.pas_answers.specs.Calls.{owed_events}
 use Rattle.pas_answers.specs.Fit.{costs_of, own_costs_of}
 use Rattle.pas_replay.proofs.ActsOfPlan.{idle_few}
 use Rattle.pas_threads.specs.Shares.{own_acts, scavenger_acts}
-use Rattle.pas_threads.specs.NameBooks.{NamesAt, ArePlaced, names_asked, room_for, table}
-use Rattle.pas_threads.specs.Works.{Later, Sits, KnowsNames}
+use Rattle.pas_threads.specs.NameBooks.{NamesAt, ArePlaced, names_asked}
+use Rattle.pas_threads.specs.Works.{Later, Sits}
 use Rattle.pas_threads.specs.Hands.{standing_of_pass, WorkerAt}
 use Rattle.pas_threads.specs.Sessions.{WorkerRests, AreResting, ScavengerRests, HasPlaces, TeamAt}
 use Rattle.pas_threads.specs.Turns.{owed_at, WokeAll}

@@ -1,10 +1,9 @@
 -- A phase of the team: what all its workers did and said is put together.
-use Rattle.std.proofs.Common.{◌≡◌, ℕ, zero, suc, ◌+◌, ◌-◌, ◌<◌, ◌≤◌, ◌==◌, ◌^◌, Bool, true, false, if◌then◌else◌, All, inl, inr, List, [], ◌∷◌, ◌++◌, map, length, get_or, refl, ap, sym, ◌∙◌, subst, arith, append_assoc, length-append}
+use Rattle.std.proofs.Common.{◌≡◌, ℕ, zero, suc, ◌+◌, ◌-◌, ◌<◌, ◌≤◌, ◌==◌, true, false, All, inl, inr, List, [], ◌∷◌, ◌++◌, map, length, get_or, refl, ap, sym, ◌∙◌, subst, arith, append_assoc, length-append}
 use Rattle.std.proofs.lemmas.Bool.{cases_eq, ne_eqb, false≢true}
 use Rattle.pas_bits.specs.Masks.{is_set}
 use Rattle.pas_bits.specs.declared.mask.Mask4.{Mask4}
 use Rattle.pas_profile.specs.declared.profile.Profile.{Profile}
-use Rattle.pas_steps.specs.Lists.{part}
 use Rattle.pas_trace.specs.EveryPhase.{FreeTheirOwn}
 use Rattle.pas_trace.specs.EveryPlan.{all_ops, asked_after, AreSound, IsActorOf, own_records, records_of_ops}
 use Rattle.pas_trace.specs.declared.plan.What.{What}
@@ -24,13 +23,12 @@ use Rattle.pas_answers.specs.Ways.{records_by, by_actors}
 use Rattle.pas_replay.specs.Sessions.{awake_in}
 use Rattle.pas_replay.proofs.ActsInOrder.{threads_alike}
 use Rattle.pas_threads.specs.Shares.{Reaches, own_acts, owner_in, IsWoven}
-use Rattle.pas_threads.specs.NameBooks.{AreWithin, requests_in, names_of, names_asked}
+use Rattle.pas_threads.specs.NameBooks.{AreWithin, requests_in, names_of}
 use Rattle.pas_threads.specs.Taken.{HasTaken, HandsOver, IsWithin, IsEmptied}
 use Rattle.pas_threads.specs.Sessions.{ScavengerRests, HasPlaces, TeamAt, AreMarked, AreWritten, HasRoom, owed_by, PhaseAt, PhaseDone}
 use Rattle.pas_threads.specs.Turns.{owed_at, IsGathered, said_by_all}
 use Rattle.pas_threads.specs.Performing.{IsDone}
 use Rattle.pas_threads.specs.declared.names.NameBook.{NameBook}
-use Rattle.pas_threads.specs.declared.names.Requests.{Requests}
 use Rattle.pas_threads.specs.declared.phases.Team.{Team}
 use Rattle.pas_threads.specs.declared.scavenger.Scavenger.{Scavenger}
 use Rattle.pas_threads.specs.declared.workers.Worker.{Worker}
@@ -39,7 +37,7 @@ use Rattle.pas_threads.proofs.NamesBefore.{sound_front, below_front}
 use Rattle.pas_threads.proofs.NamesOfPhases.{or_either, some_worker, names_then, names_within}
 use Rattle.pas_threads.proofs.PhaseActs.{zero_own}
 use Rattle.pas_threads.proofs.PhaseEnds.{phase_woven, has_said, has_paid, rests_after, handed, scavenger_said, scavenger_paid, scavenger_rests}
-use Rattle.pas_threads.proofs.PhaseRooms.{ own_all, all_paid, owed_alike, said_in_order, by_first}
+use Rattle.pas_threads.proofs.PhaseRooms.{own_all, all_paid, owed_alike, said_in_order, by_first}
 use Rattle.pas_threads.proofs.PhaseStarts.{room_is, later_beside, HasBegun}
 use Rattle.pas_threads.proofs.Working.{reach_both}
 
@@ -217,11 +215,11 @@ module _ {region : SharedRegion} {f : Profile} {awake : Mask4} {team team1 team2
         let both = length-append ops left in
         let sound = sound_front f at.names.asked ops left at.names.sound in
         let names = names_then f.threads ops left team1.book team3.book (numbers_from 1 f.threads) workers at.names begun.woke.leaves.names woven begun.names
-            (λ i d lt. subst (λ (k : ℕ). HandsOver ops team1.book k (get_or workers i d) reached.names) (let is : suc i ≡ 1 + i = omega arith in is ∙ sym (number_at 1 f.threads i (omega (arith, lt, within, count)))) (hands i d lt))
-            (λ k some is.
-                let le = active_within f at.names.asked ops k sound is in
-                (k - 1, omega (arith, some, le, within, count), number_at 1 f.threads (k - 1) (omega (arith, some, le)) ∙ (let back : 1 + (k - 1) ≡ k = omega (arith, some) in back)))
-            (subst (λ (b : NameBook). HasTaken b team3.book workers) done.book taken) (held ∙ ap (λ (b : NameBook). names_held b.names) done.book)
+        (λ i d lt. subst (λ (k : ℕ). HandsOver ops team1.book k (get_or workers i d) reached.names) (let is : suc i ≡ 1 + i = omega arith in is ∙ sym (number_at 1 f.threads i (omega (arith, lt, within, count)))) (hands i d lt))
+        (λ k some is.
+        let le = active_within f at.names.asked ops k sound is in
+        (k - 1, omega (arith, some, le, within, count), number_at 1 f.threads (k - 1) (omega (arith, some, le)) ∙ (let back : 1 + (k - 1) ≡ k = omega (arith, some) in back)))
+        (subst (λ (b : NameBook). HasTaken b team3.book workers) done.book taken) (held ∙ ap (λ (b : NameBook). names_held b.names) done.book)
         in
         record {
           many = size3 ∙ sized ∙ counted;

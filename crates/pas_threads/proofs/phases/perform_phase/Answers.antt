@@ -1,10 +1,10 @@
-use Rattle.std.proofs.Common.{◌≡◌, ◌+◌, ◌≤◌, ◌∙◌, ◌∷◌, ℕ, List, length, ap, sym, refl, subst, All}
+use Rattle.std.proofs.Common.{◌+◌, ◌≤◌, ◌∙◌, ◌∷◌, ℕ, List, length, sym, refl, subst, All}
 use Rattle.std.specs.Vec.{with_items}
 use Rattle.std.proofs.lemmas.List.{with_items_is}
 use Rattle.pas_trace.specs.EveryPlan.{all_ops, own_records}
 use Rattle.pas_report.specs.Rooms.{records_in, room_of}
 use Rattle.pas_answers.specs.Names.{names_held}
-use Rattle.pas_threads.specs.Sessions.{AreResting, HasPlaces}
+use Rattle.pas_threads.specs.Sessions.{AreResting}
 use Rattle.pas_threads.specs.Taken.{IsWithin}
 use Rattle.pas_threads.specs.Turns.{said_by_all}
 use Rattle.pas_threads.specs.declared.workers.Worker.{Worker}
@@ -56,8 +56,8 @@ take_all-requires g c =
     let begun = has_begun c.args.ops.now m.1 at c.deref_mut.ensures.value c.deref_mut.ensures.len c.wake_all.ensures.woke c.wake_all.ensures.many c.note.ensures.names c.note.ensures.placed in
     let given = with_items_is c.perform_all-team.result.threads c.gather.new.threads (c.gather.ensures.many ∙ c.deref_mut-2.ensures.len) in
     let gathered : WereGathered c.perform_all-team.result.threads.items c.gather.new.threads c.append.new.self c.gather.new.out =
-        subst (λ (ws : List Worker). WereGathered ws c.gather.new.threads c.append.new.self c.gather.new.out) c.deref_mut-2.ensures.value
-        (record { added = c.gather.ensures.added; size = c.gather.ensures.room; each = c.gather.ensures.gathered; many = c.gather.ensures.many })
+    subst (λ (ws : List Worker). WereGathered ws c.gather.new.threads c.append.new.self c.gather.new.out) c.deref_mut-2.ensures.value
+    (record { added = c.gather.ensures.added; size = c.gather.ensures.room; each = c.gather.ensures.gathered; many = c.gather.ensures.many })
     in
     record {
       within = subst (λ (ws : List Worker). All (IsWithin (names_held c.perform_all-team.result.book.names)) ws) (sym (c.deref_mut-3.ensures.value ∙ given))
@@ -69,12 +69,12 @@ returns g c =
     let given = with_items_is c.perform_all-team.result.threads c.gather.new.threads (c.gather.ensures.many ∙ c.deref_mut-2.ensures.len) in
     let left = with_items_is (with_items c.perform_all-team.result.threads c.gather.new.threads) c.take_all.new.workers (c.take_all.ensures.many ∙ c.deref_mut-3.ensures.len) in
     let gathered : WereGathered c.perform_all-team.result.threads.items c.gather.new.threads c.append.new.self c.gather.new.out =
-        subst (λ (ws : List Worker). WereGathered ws c.gather.new.threads c.append.new.self c.gather.new.out) c.deref_mut-2.ensures.value
-        (record { added = c.gather.ensures.added; size = c.gather.ensures.room; each = c.gather.ensures.gathered; many = c.gather.ensures.many })
+    subst (λ (ws : List Worker). WereGathered ws c.gather.new.threads c.append.new.self c.gather.new.out) c.deref_mut-2.ensures.value
+    (record { added = c.gather.ensures.added; size = c.gather.ensures.room; each = c.gather.ensures.gathered; many = c.gather.ensures.many })
     in
     let taken : WereTaken c.gather.new.threads c.take_all.new.workers c.perform_all-team.result.book c.take_all.new.book =
-        subst (λ (ws : List Worker). WereTaken ws c.take_all.new.workers c.perform_all-team.result.book c.take_all.new.book) (c.deref_mut-3.ensures.value ∙ given)
-        (record { taken = c.take_all.ensures.taken; held = c.take_all.ensures.room; each = c.take_all.ensures.emptied; many = c.take_all.ensures.many })
+    subst (λ (ws : List Worker). WereTaken ws c.take_all.new.workers c.perform_all-team.result.book c.take_all.new.book) (c.deref_mut-3.ensures.value ∙ given)
+    (record { taken = c.take_all.ensures.taken; held = c.take_all.ensures.room; each = c.take_all.ensures.emptied; many = c.take_all.ensures.many })
     in
     record {
       done = λ f rest marks p whole.
