@@ -1,12 +1,12 @@
 -- A team at the close: each thread was stopped, and what the stops said is gathered.
-use Rattle.std.proofs.Common.{◌≡◌, ℕ, zero, suc, ◌+◌, ◌<◌, ◌≤◌, List, [], ◌∷◌, ◌++◌, length, get_or, refl, ap, sym, ◌∙◌, subst, arith, length-append}
+use Rattle.std.proofs.Common.{◌≡◌, ℕ, zero, suc, ◌+◌, ◌<◌, ◌≤◌, List, [], ◌∷◌, ◌++◌, length, get_or, refl, ap, sym, ◌∙◌, subst, arith}
 use Rattle.std.proofs.lemmas.List.{with_items_is}
 use Rattle.std.specs.Prelude.{map}
 use Rattle.std.specs.Vec.{with_items}
 use Rattle.pas_profile.specs.declared.profile.Profile.{Profile}
 use Rattle.pas_steps.specs.Lists.{part}
 use Rattle.pas_trace.specs.EveryPlan.{all_ops, own_records}
-use Rattle.pas_report.specs.Rooms.{records_in, room_of}
+use Rattle.pas_report.specs.Rooms.{room_of}
 use Rattle.pas_report.specs.declared.record.Record.{Record}
 use Rattle.pas_cache.specs.Caches.{cached, AtRest}
 use Rattle.pas_cache.specs.declared.cache.ThreadCache.{ThreadCache}
@@ -24,38 +24,18 @@ use Rattle.pas_threads.specs.Turns.{Spoke, WorkerSaid, StoppedAll, said_by_all, 
 use Rattle.pas_threads.specs.declared.names.Requests.{Requests}
 use Rattle.pas_threads.specs.declared.workers.Worker.{Worker}
 use Rattle.pas_threads.specs.declared.phases.Team.{Team}
+use Rattle.pas_threads.proofs.PhaseRooms.{said_in_order, by_first, by_last}
 use Rattle.pas_threads.proofs.Staying.{scavenger_rests, names_at}
 
 -- ---- what was said
--- the workers of the threads from k on, each of which said what its thread did
-pub said_actors : (k : ℕ) (ws : List Worker) (all : List Record) → ((i : ℕ) (d : Worker) → i < length ws → records_in (get_or ws i d).out ≡ records_by (i + k) all) → said_by_all ws ≡ by_actors k (length ws) all
-said_actors k [] all each = refl
-said_actors k (w ∷ ws) all each =
-    let first : records_in w.out ≡ records_by k all = each 0 w (omega arith) ∙ ap (λ (j : ℕ). records_by j all) (let e : 0 + k ≡ k = omega arith in e) in
-    let rest = said_actors (k + 1) ws all (λ i d lt. each (suc i) d (omega (arith, lt)) ∙ ap (λ (j : ℕ). records_by j all) (let e : suc i + k ≡ i + (k + 1) = omega arith in e)) in
-    ap (λ (rs : List Record). rs ++ said_by_all ws) first ∙ ap (λ (rs : List Record). records_by k all ++ rs) rest
-
--- one actor more
-size_more : (k n : ℕ) (all : List Record) → length (by_actors k (suc n) all) ≡ length (by_actors k n all) + length (records_by (n + k) all)
-size_more k zero all =
-    let one = length-append (records_by k all) [] in
-    let same = ap (λ (j : ℕ). length (records_by j all)) (let e : 0 + k ≡ k = omega arith in e) in
-    omega (arith, one, same)
-size_more k (suc n) all =
-    let more = size_more (k + 1) n all in
-    let two = length-append (records_by k all) (by_actors (k + 1) (suc n) all) in
-    let one = length-append (records_by k all) (by_actors (k + 1) n all) in
-    let same = ap (λ (j : ℕ). length (records_by j all)) (let e : n + (k + 1) ≡ suc n + k = omega arith in e) in
-    omega (arith, more, two, one, same)
-
 -- the first n threads said no more than what they owed
 pub said_few : {f : Profile} {threads : ℕ} {p q : Progress} (spoke : Spoke f threads (λ j. 0) p q) (n : ℕ) → n ≤ threads → length (by_actors 1 n spoke.all) ≤ owed_by f p n
 said_few {f} {threads} {p} {q} spoke zero le = omega arith
 said_few {f} {threads} {p} {q} spoke (suc n) le =
     let before = said_few spoke n (omega (arith, le)) in
     let own = spoke.few (suc n) (omega arith) le in
-    let size = size_more 1 n spoke.all in
-    let same = ap (λ (j : ℕ). length (records_by j spoke.all)) (let e : n + 1 ≡ suc n = omega arith in e) in
+    let size = by_last 1 n spoke.all in
+    let same = ap (λ (j : ℕ). length (records_by j spoke.all)) (let e : 1 + n ≡ suc n = omega arith in e) in
     omega (arith, before, own, size, same)
 
 is_none : (rs : List Record) → length rs ≤ 0 → rs ≡ []
@@ -65,7 +45,7 @@ is_none (r ∷ rs) le = absurd (omega (arith, le))
 -- where the scavenger said nothing, what the threads said is all
 pub all_actors : (n : ℕ) (all : List Record) → length (records_by 0 all) ≤ 0 → by_actors 0 (n + 1) all ≡ by_actors 1 n all
 all_actors n all few =
-    ap (λ (m : ℕ). by_actors 0 m all) (let e : n + 1 ≡ suc n = omega arith in e) ∙ ap (λ (rs : List Record). rs ++ by_actors 1 n all) (is_none (records_by 0 all) few)
+    by_first n all ∙ ap (λ (rs : List Record). rs ++ by_actors 1 n all) (is_none (records_by 0 all) few)
 
 -- ---- a worker
 rests_gathered : {region : SharedRegion} {f : Profile} {k later : ℕ} {w w' : Worker} {said : List Record} {q : Progress} → WorkerSaid region f k w said later q → requests_in w.requests ≡ [] → later ≤ room_for w.requests → IsGathered w w' → WorkerRests region f k w' later q
@@ -88,8 +68,8 @@ module _ {region : SharedRegion} {f : Profile} {team : Team} {p : Progress} (wri
     (did : StoppedAll region f team.threads.items stopped (λ k. own_records f k (all_ops [])) p) (many : length stopped ≡ length team.threads.items) where
   said_are : said_by_all stopped ≡ by_actors 1 f.threads did.spoke.all
   said_are =
-      said_actors 1 stopped did.spoke.all
-      (λ i d lt. (did.each i d (omega (arith, lt, many))).said_is ∙ ap (λ (j : ℕ). records_by j did.spoke.all) (let e : suc i ≡ i + 1 = omega arith in e))
+      said_in_order 1 stopped did.spoke.all
+      (λ i d lt. (did.each i d (omega (arith, lt, many))).said_is ∙ ap (λ (j : ℕ). records_by j did.spoke.all) (let e : suc i ≡ 1 + i = omega arith in e))
       ∙ ap (λ (n : ℕ). by_actors 1 n did.spoke.all) (many ∙ at.many)
 
   -- there is room for what they said

@@ -113,7 +113,7 @@ own_all f (op ∷ ops) n =
     omega (arith, more, this, rest)
 
 -- ---- what they said
-by_last : (k n : ℕ) (rs : List Record) → length (by_actors k (suc n) rs) ≡ length (by_actors k n rs) + length (records_by (k + n) rs)
+pub by_last : (k n : ℕ) (rs : List Record) → length (by_actors k (suc n) rs) ≡ length (by_actors k n rs) + length (records_by (k + n) rs)
 by_last k zero rs =
     let same = ap (λ (j : ℕ). length (records_by j rs)) (let is : k + 0 ≡ k = omega arith in is) in
     let one = length-append (records_by k rs) [] in

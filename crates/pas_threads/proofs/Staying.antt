@@ -1,5 +1,5 @@
 -- What stays so at another progress of the replay, and where only records were added.
-use Rattle.std.proofs.Common.{◌≡◌, ℕ, zero, suc, ◌+◌, List, [], ◌∷◌, ◌++◌, length, refl, ap, sym, ◌∙◌, subst, arith, length-append}
+use Rattle.std.proofs.Common.{◌≡◌, ℕ, ◌+◌, List, [], ◌∷◌, ◌++◌, length, refl, ap, sym, subst, arith, length-append}
 use Rattle.pas_profile.specs.declared.profile.Profile.{Profile}
 use Rattle.pas_steps.specs.Clear.{HasNothing}
 use Rattle.pas_steps.specs.Lists.{part}
@@ -15,8 +15,8 @@ use Rattle.pas_threads.specs.Shares.{OnlyAsked}
 use Rattle.pas_threads.specs.Works.{Sits}
 use Rattle.pas_threads.specs.Hands.{standing_of_pass}
 use Rattle.pas_threads.specs.NameBooks.{NamesAt}
-use Rattle.pas_threads.specs.Sessions.{ScavengerRests, TeamAt, owed_by, HasRoom}
-use Rattle.pas_threads.specs.Turns.{owed_at}
+use Rattle.pas_threads.specs.Sessions.{ScavengerRests, TeamAt, HasRoom}
+use Rattle.pas_threads.proofs.PhaseRooms.{owed_alike}
 use Rattle.pas_threads.specs.declared.names.NameBook.{NameBook}
 use Rattle.pas_threads.specs.declared.scavenger.Scavenger.{Scavenger}
 use Rattle.pas_threads.specs.declared.phases.Team.{Team}
@@ -48,11 +48,6 @@ names_at {f} {ops} {book} {p} {q} same at = record {
   only = subst (λ (names : List Named). OnlyAsked at.asked names) (sym same) at.only;
 }
 
--- the first n threads owe the same where each does
-pub same_owed_by : (f : Profile) (p q : Progress) → ((k : ℕ) → owed_at f k q ≡ owed_at f k p) → (n : ℕ) → owed_by f q n ≡ owed_by f p n
-same_owed_by f p q same zero = refl
-same_owed_by f p q same (suc n) = ap (λ (m : ℕ). m + owed_by f q n) (same (suc n)) ∙ ap (λ (m : ℕ). owed_at f (suc n) p + m) (same_owed_by f p q same n)
-
 -- ---- more records
 pub team_at_records : {region : SharedRegion} {f : Profile} {phases : List (List Op)} {team : Team} {p : Progress} (more : List Record) → TeamAt region f phases team p → TeamAt region f phases team (with_records p more)
 unfolding names_at
@@ -74,7 +69,7 @@ pub room_after_mark : (f : Profile) (phases : List (List Op)) (marks : ℕ) (out
 room_after_mark f phases marks out out' p mark pushed size room =
     let grown = ap (λ (rs : List Record). length rs) pushed in
     let one = length-append (records_in out) (mark ∷ []) in
-    let same = same_owed_by f p (with_records p (mark ∷ [])) (λ k. refl) f.threads in
+    let same = owed_alike f p (with_records p (mark ∷ [])) f.threads (λ k. refl) in
     omega (arith, grown, one, same, size, room)
 
 -- .. and no mark took none

@@ -1,4 +1,4 @@
-//! The workers of the threads at a shared region, and the fork and join of a phase.
+//! The workers of the threads at a shared region.
 ghost use Rattle.std.specs.Prelude.{◌≡◌, ◌<◌, ◌^◌, ◌≤◌, ℕ, List, [], All, length, get_or};
 ghost use Rattle.pas_profile.specs.declared.profile.Profile.{Profile as TheProfile};
 ghost use Rattle.pas_answers.specs.Answers.{Progress};
@@ -18,7 +18,6 @@ use pas_cache::ThreadCache;
 use pas_report::Records;
 use pas_shared::{SharedPass, SharedRegion};
 use pas_trace::Op;
-use std::thread::{Threads, for_each_mut};
 
 /// A thread of the replay: its pass while it doesn't sit at the region, its cache, its requests of the phase, and its records.
 #[derive(Drop)]
@@ -55,28 +54,6 @@ pub fn perform<G: Gate>(
         &mut worker.out,
     );
     worker.pass = Some(desk.into_pass());
-}
-
-/// All threads of a phase at once, each in a thread of its own.
-pub fn fork<R: Threads + Sync, G: Gate + Sync>(
-    rt: &R,
-    region: &SharedRegion,
-    book: &NameBook,
-    workers: &mut [Worker],
-    ops: &[Op],
-    gate: &G,
-)
-    requires few { length ops.now < 2 ^ 32 }
-    requires may { All (MayDoPhase region.now book.now ops.now) workers.old }
-    ensures many { length workers.new ≡ length workers.old }
-    ensures did { (i : ℕ) (d : Worker) → i < length workers.old → DidPhase region.now book.now ops.now (get_or workers.old i d) (get_or workers.new i d) }
-{
-    for_each_mut(
-        rt,
-        workers,
-        16,
-        &|_, worker| perform(region, book, worker, ops, gate),
-    );
 }
 
 /// The thread, which was lent to the scavenger, sits down, is stopped where it was idle for so many epochs, now that it is this one, and rises.
