@@ -43,28 +43,29 @@ def trace(pages, threads, heaps, age, *phases, shared=()):
 
 
 def two_frees():
-    """Two threads free the same forty blocks, so each block is ended once and its other free has come too late."""
-    names = range(1, 41)
-    frees = [freed(thread, names) + [f"flush {thread}"] for thread in (1, 2)]
-    return trace(2, 2, 1, 2, asked(1, names, 0, 64), in_turn(*frees))
+    """Two threads free the same blocks, so each block is ended once and its other free has come too late."""
+    names = range(1, 1001)
+    frees = [[line for name in names for line in freed(thread, [name]) + ([f"flush {thread}"] if name % 5 == 0 else [])] for thread in (1, 2)]
+    return trace(16, 2, 1, 2, asked(1, names, 0, 64), in_turn(*frees))
 
 
 def the_one_page():
     """Four threads ask for slots of the one page, and give them up again and again."""
-    turns = [[line for name in range(100 * thread, 100 * thread + 12) for line in asked(thread, [name], 0, 256) + freed(thread, [name]) + [f"stop {thread}"]]
+    turns = [[line for name in range(100 * thread, 100 * thread + 60) for line in asked(thread, [name], 0, 256) + freed(thread, [name]) + [f"stop {thread}"]]
              for thread in range(1, 5)]
     return trace(1, 4, 1, 2, in_turn(*turns))
 
 
 def whose_page():
-    """Four threads with a heap each race for the deeds of three pages."""
-    return trace(3, 4, 4, 2, *[in_turn(*(asked(thread, [phase * 10 + thread], thread - 1, 16 * thread) for thread in range(1, 5))) for phase in (1, 2, 3)])
+    """Four threads with a heap each race for the deeds of the pages."""
+    turns = [asked(thread, range(thread * 1000, thread * 1000 + 150), thread - 1, 512) for thread in range(1, 5)]
+    return trace(60, 4, 4, 2, in_turn(*turns))
 
 
 def shared_pages():
     """Three threads have views of the same pages for three classes, and free what another asked for."""
-    first = [asked(thread, range(thread * 100, thread * 100 + 30), 0, 16 * thread) for thread in (1, 2, 3)]
-    second = [in_turn(freed(thread, range(thread % 3 * 100 + 100, thread % 3 * 100 + 130)), asked(thread, range(thread * 1000, thread * 1000 + 30), 0, 48))
+    first = [asked(thread, range(thread * 100, thread * 100 + 100), 0, 16 * thread) for thread in (1, 2, 3)]
+    second = [in_turn(freed(thread, range(thread % 3 * 100 + 100, thread % 3 * 100 + 200)), asked(thread, range(thread * 1000, thread * 1000 + 100), 0, 48))
               + [f"stop {thread}"] for thread in (1, 2, 3)]
     return trace(3, 3, 1, 2, in_turn(*first), in_turn(*second), shared=[0])
 
@@ -73,7 +74,7 @@ def bit_fit():
     """Three threads fit blocks of many sizes between each other's on few pages."""
     turns = []
     for thread in (1, 2, 3):
-        names = range(thread * 100, thread * 100 + 24)
+        names = range(thread * 100, thread * 100 + 100)
         asks = [line for name in names for line in asked(thread, [name], 0, 520 + name * 37 % 1500, 16 << name % 3)]
         frees = [line for name in names for line in freed(thread, [name]) + ([f"flush {thread}"] if name % 2 else [])]
         turns.append(in_turn(asks, [""] * 2 + frees))
@@ -82,54 +83,54 @@ def bit_fit():
 
 def large_blocks():
     """Three threads claim runs of one to three of eight pages."""
-    turns = [[line for name in range(thread * 100, thread * 100 + 15)
+    turns = [[line for name in range(thread * 100, thread * 100 + 60)
               for line in asked(thread, [name], 0, 4096 * (name % 3) + 2100) + freed(thread, [name]) + [f"flush {thread}"]] for thread in (1, 2, 3)]
     return trace(8, 3, 1, 2, in_turn(*turns))
 
 
 def large_and_small():
     """Runs of pages, bit-fit blocks and slots, of two heaps, race for the pages of the region."""
-    turns = [asked(thread, range(thread * 100, thread * 100 + 6), thread % 2, size) for thread, size in ((1, 9000), (2, 1500), (3, 512), (4, 4096))]
-    frees = [freed(thread, range(thread * 100, thread * 100 + 6)) + [f"stop {thread}"] for thread in range(1, 5)]
-    again = [asked(thread, range(thread * 1000, thread * 1000 + 6), thread % 2, size) for thread, size in ((1, 4096), (2, 512), (3, 1500), (4, 9000))]
-    return trace(12, 4, 2, 2, in_turn(*turns), in_turn(*(first + second for first, second in zip(frees, again))))
+    turns = [asked(thread, range(thread * 100, thread * 100 + 30), thread % 2, size) for thread, size in ((1, 9000), (2, 1500), (3, 512), (4, 4096))]
+    frees = [freed(thread, range(thread * 100, thread * 100 + 30)) + [f"stop {thread}"] for thread in range(1, 5)]
+    again = [asked(thread, range(thread * 1000, thread * 1000 + 30), thread % 2, size) for thread, size in ((1, 4096), (2, 512), (3, 1500), (4, 9000))]
+    return trace(50, 4, 2, 2, in_turn(*turns), in_turn(*(first + second for first, second in zip(frees, again))))
 
 
 def full_logs():
     """Each of two threads frees more of the other's blocks than a log has places for, and its own ones."""
-    names = {thread: range(thread * 1000, thread * 1000 + 100) for thread in (1, 2)}
-    frees = [in_turn(freed(thread, names[3 - thread]), asked(thread, range(thread * 2000 + 1000, thread * 2000 + 1050), 0, 32)) for thread in (1, 2)]
-    return trace(4, 2, 1, 2, in_turn(*(asked(thread, names[thread], 0, 32) for thread in (1, 2))), in_turn(*frees))
+    names = {thread: range(thread * 1000, thread * 1000 + 800) for thread in (1, 2)}
+    frees = [in_turn(freed(thread, names[3 - thread]), asked(thread, range(thread * 2000 + 1000, thread * 2000 + 1400), 0, 32)) for thread in (1, 2)]
+    return trace(18, 2, 1, 2, in_turn(*(asked(thread, names[thread], 0, 32) for thread in (1, 2))), in_turn(*frees))
 
 
 def ticks_beside():
     """The epoch rises while three threads free."""
-    names = {thread: range(thread * 100, thread * 100 + 40) for thread in (1, 2, 3)}
+    names = {thread: range(thread * 1000, thread * 1000 + 250) for thread in (1, 2, 3)}
     turns = [[line for name in names[thread] for line in asked(thread, [name], thread % 2, 112) + freed(thread, [name]) + [f"flush {thread}"]]
              for thread in (1, 2, 3)]
-    return trace(6, 3, 2, 2, in_turn(*turns, [f"tick {epoch}" for epoch in range(1, 60)]))
+    return trace(6, 3, 2, 2, in_turn(*turns, [f"tick {epoch}" for epoch in range(1, 2500)]))
 
 
 def passes_beside():
     """The scavenger takes pages back while threads empty and fill them: slots, large blocks and bit-fit ones."""
-    turns = [[line for name in range(thread * 100, thread * 100 + 25)
+    turns = [[line for name in range(thread * 1000, thread * 1000 + 200)
               for line in asked(thread, [name], 0, size) + freed(thread, [name]) + [f"stop {thread}"]] for thread, size in ((1, 512), (2, 3000), (3, 1040))]
-    scavenger = [line for epoch in range(1, 40) for line in (f"tick {epoch}", "pass")]
-    return trace(4, 3, 1, 1, in_turn(*turns, scavenger), ["pass", "tick 90", "pass"], in_turn(*(asked(thread, [thread], 0, 512) for thread in (1, 2, 3))))
+    scavenger = [line for epoch in range(1, 900) for line in (f"tick {epoch}", "pass")]
+    return trace(4, 3, 1, 1, in_turn(*turns, scavenger), ["pass", "tick 900", "pass"], in_turn(*(asked(thread, [thread], 0, 512) for thread in (1, 2, 3))))
 
 
 def idle_threads():
     """Threads that rest have their caches stopped, while another asks for their slots."""
     names = {thread: range(thread * 100, thread * 100 + 20) for thread in (1, 2, 3)}
     asks = in_turn(*(asked(thread, names[thread], 0, 128) + freed(thread, names[thread][5:]) for thread in (1, 2, 3)))
-    beside = in_turn(asked(1, range(1000, 1060), 0, 128), ["tick 1", "idle 2", "tick 2", "idle 1", "pass", "tick 3", "idle 0", "pass", "idle 9"])
-    return trace(3, 3, 1, 1, asks, [], beside, ["tick 4", "idle 1", "pass"], asked(2, range(2000, 2030), 0, 128))
+    beside = in_turn(asked(1, range(1000, 1300), 0, 128), ["tick 1", "idle 2", "tick 2"] + ["idle 3", "pass"] * 400 + ["idle 1", "pass", "tick 3", "idle 0", "pass", "idle 9"])
+    return trace(10, 3, 1, 1, asks, [], beside, ["tick 4", "idle 1", "pass"], asked(2, range(2000, 2030), 0, 128))
 
 
 def raw_frees():
     """Frees by address and turn race with the gives that these turns wait for."""
-    turns = [line for name in range(1, 31) for line in asked(1, [name], 0, 512) + freed(1, [name]) + ["stop 1"]]
-    frees = [[line for turn in range(30) for line in (f"r {thread} 0x00001000 {turn}", f"flush {thread}")] for thread in (2, 3)]
+    turns = [line for name in range(1, 151) for line in asked(1, [name], 0, 512) + freed(1, [name]) + ["stop 1"]]
+    frees = [[line for turn in range(150) for line in (f"r {thread} 0x00001000 {turn}", f"flush {thread}")] for thread in (2, 3)]
     others = ["r 2 0x00000ff0 0", "r 2 0x00001008 1", "r 3 0x00002000 0", "r 3 0x00001010 0", "flush 3"]
     return trace(1, 3, 1, 2, in_turn(turns, *frees), others)
 
