@@ -177,12 +177,13 @@ def keep(name, text, transcript):
     return folder
 
 
-def run_often(program, name, text, runs):
+def run_often(program, name, text, runs, load):
     """Runs a trace so often, says what came of it, and answers how many transcripts were wrong."""
     found = {}
-    for _ in range(runs):
-        transcript = written(program, "run", text)
-        found[transcript] = found.get(transcript, 0) + 1
+    with load:
+        for _ in range(runs):
+            transcript = written(program, "run", text)
+            found[transcript] = found.get(transcript, 0) + 1
     wrong = {transcript: reason for transcript in found if (reason := judged(program, text, transcript))}
     count = sum(found[transcript] for transcript in wrong)
     print(f"{name}: {runs} runs, {len(found)} different transcripts, {count} wrong", flush=True)
@@ -258,8 +259,8 @@ def main():
     traces = [(os.path.basename(path), named(path)) for path in paths] or [(own.__name__, own()) for own in OWN]
     if "--self-test" in options:
         return self_test(program, traces)
-    with Load(os.cpu_count() if "--load" in options else 0):
-        wrong = sum(run_often(program, name, text, runs or (5 if paths else 100)) for name, text in traces)
+    load = Load(os.cpu_count() if "--load" in options else 0)
+    wrong = sum(run_often(program, name, text, runs or (5 if paths else 100), load) for name, text in traces)
     print(f"{wrong} wrong")
     return 1 if wrong else 0
 
