@@ -123,7 +123,8 @@ def idle_threads():
     """Threads that rest have their caches stopped, while another asks for their slots."""
     names = {thread: range(thread * 100, thread * 100 + 20) for thread in (1, 2, 3)}
     asks = in_turn(*(asked(thread, names[thread], 0, 128) + freed(thread, names[thread][5:]) for thread in (1, 2, 3)))
-    beside = in_turn(asked(1, range(1000, 1300), 0, 128), ["tick 1", "idle 2", "tick 2"] + ["idle 3", "pass"] * 400 + ["idle 1", "pass", "tick 3", "idle 0", "pass", "idle 9"])
+    scavenger = ["tick 1", "idle 2", "tick 2"] + ["idle 3", "pass"] * 400 + ["idle 1", "pass", "tick 3", "idle 0", "pass", "idle 9"]
+    beside = in_turn(asked(1, range(1000, 1300), 0, 128), scavenger)
     return trace(10, 3, 1, 1, asks, [], beside, ["tick 4", "idle 1", "pass"], asked(2, range(2000, 2030), 0, 128))
 
 
@@ -138,12 +139,12 @@ def raw_frees():
 def one_thread():
     """One thread, so there is no race."""
     names = range(1, 91)
-    return trace(12, 1, 2, 2, [line for name in names for line in asked(1, [name], name % 2, name * 97 % 3000)] + freed(1, names), asked(1, range(91, 120), 1, 48),
-                 shared=[1])
+    asks = [line for name in names for line in asked(1, [name], name % 2, name * 97 % 3000)]
+    return trace(12, 1, 2, 2, asks + freed(1, names), asked(1, range(91, 120), 1, 48), shared=[1])
 
 
-OWN = [two_frees, the_one_page, whose_page, shared_pages, bit_fit, large_blocks, large_and_small, full_logs, ticks_beside, passes_beside, idle_threads, raw_frees,
-       one_thread]
+OWN = [two_frees, the_one_page, whose_page, shared_pages, bit_fit, large_blocks, large_and_small, full_logs, ticks_beside, passes_beside,
+       idle_threads, raw_frees, one_thread]
 
 
 def named(path):
