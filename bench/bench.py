@@ -200,4 +200,5 @@ def main():
             print(row + (f" {100 * cached / given:6.1f}%" if given else f" {'':>7}"), flush=True)
 
 
-main()
+if __name__ == "__main__":
+    main()

@@ -1,0 +1,89 @@
+#!/usr/bin/env python3
+"""Times `pas run` beside `pas order` by the number of threads, and prints a table.
+
+usage: bench/threads.py [--repeat N] [--operations N] PROGRAM
+
+PROGRAM is the built crates/pas/out/pas. The traces have 400,000 operations in one phase, divided among 1, 2, 4, 8 and 16 threads: requests of
+16 to 256 bytes, and frees by name of the thread's own blocks. In one the threads work in heaps of their own, in the other all share one heap.
+The table has the seconds by the wall clock from the bytes of the trace to those of the transcript, of the fastest of N runs (7), the peak
+memory, and how many times as fast `run` is as `order`. The two ways run in turn. What else the machine does meanwhile shows in the figures.
+"""
+
+import os
+import subprocess
+import sys
+import tempfile
+import time
+
+from bench import Numbers, write_trace
+
+THREADS = [1, 2, 4, 8, 16]
+WAYS = ["order", "run"]
+PAGES = 4096
+LEAST, MOST = 16, 256
+LIVE = 20_000
+
+
+def generated(operations, threads, is_own, seed=7):
+    """A trace whose threads take turns: each asks until it has its share of the live blocks, and then frees as often as it asks. The heaps are
+    those of the threads, or one."""
+    numbers, blocks, name = Numbers(seed), [[] for _ in range(threads)], 0
+    yield f"pas 1 pages {PAGES} threads {threads} heaps {threads if is_own else 1} age 2"
+    for i in range(operations):
+        thread = i % threads
+        mine = blocks[thread]
+        if mine and (len(mine) >= LIVE // threads or numbers.below(2)):
+            at = numbers.below(len(mine))
+            mine[at], mine[-1] = mine[-1], mine[at]
+            yield f"f {thread + 1} {mine.pop()}"
+        else:
+            name += 1
+            mine.append(name)
+            yield f"a {thread + 1} {name} {thread if is_own else 0} {LEAST + numbers.below(MOST - LEAST + 1)} 16"
+
+
+def timed(program, way, path):
+    """Seconds by the clock, the peak memory in MB, and how many requests were refused."""
+    with open(path, "rb") as source, tempfile.TemporaryFile() as output:
+        start = time.perf_counter()
+        child = subprocess.Popen([program, way], stdin=source, stdout=output)
+        _, status, usage = os.wait4(child.pid, 0)
+        seconds = time.perf_counter() - start
+        child.returncode = os.waitstatus_to_exitcode(status)
+        if child.returncode != 0:
+            sys.exit(f"{program} {way}: status {child.returncode} on {path}")
+        output.seek(0)
+        refused = sum(b" held " in line or b" no-space " in line for line in output)
+    return seconds, usage.ru_maxrss / 1024, refused
+
+
+def row(program, name, path, repeat):
+    """The line of a trace."""
+    best, peak, refused = dict.fromkeys(WAYS, 9e9), dict.fromkeys(WAYS, 0.0), 0
+    for _ in range(repeat):
+        for way in WAYS:
+            seconds, memory, count = timed(program, way, path)
+            best[way], peak[way], refused = min(best[way], seconds), max(peak[way], memory), max(refused, count)
+    figures = " | ".join(f"{best[way]:.3f} | {peak[way]:.1f}" for way in WAYS)
+    return f"| {name} | {figures} | {best['order'] / best['run']:.2f} | {refused} |"
+
+
+def main(arguments):
+    options = {"--repeat": 7, "--operations": 400_000}
+    while arguments and arguments[0] in options:
+        options[arguments[0]] = int(arguments[1])
+        arguments = arguments[2:]
+    if len(arguments) != 1:
+        sys.exit(__doc__)
+    program = os.path.abspath(arguments[0])
+    print("| Heaps, threads | `order`, s | MB | `run`, s | MB | `order` / `run` | Refused |\n|---|---|---|---|---|---|---|")
+    with tempfile.TemporaryDirectory() as folder:
+        for is_own in (True, False):
+            for threads in THREADS:
+                name = f"{'their own' if is_own else 'one'}, {threads}"
+                _, path = write_trace(folder, f"{name}.trace", generated(options["--operations"], threads, is_own))
+                print(row(program, name, path, options["--repeat"]), flush=True)
+
+
+if __name__ == "__main__":
+    main(sys.argv[1:])

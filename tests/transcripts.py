@@ -1,0 +1,456 @@
+#!/usr/bin/env python3
+"""tests/transcripts.py TRACE TRANSCRIPT
+
+Judges a transcript of `pas run` for a trace, by a second reading of the rules of docs/FORMAT.md: its lines stand by phase
+and by actor; each actor's lines answer its operations, in order; some order of all of them, each actor's in its own order
+and phase after phase, is a run of the allocator's machine; and the report is that of the state which this run reaches.
+Prints what is wrong, with status 1, or `right`. The order of two actors' lines in a phase isn't told by a transcript: it
+is looked for (tests/orders.py)."""
+
+import re
+import sys
+from typing import NamedTuple
+
+from orders import (GRAIN, GRAINS, PAGE, Back, Bare, Deed, End, Ended, Give, InUse, Machine, NoBlock, NotOffered, Read, Refused, Tick, Unback,
+                    Undecided, Young, find_order)
+
+CLASSES = [16, 32, 48, 64, 80, 96, 112, 128, 160, 192, 224, 256, 320, 384, 448, 512]
+MOST_BITFIT = 2048
+MOST_LOGGED = 64
+MARKS = ["backed", "offered", "parked", "hinted"]
+
+# The lines by their second word: N is a number, A an address, V the value of a free word, KIND the kind of a page.
+SHAPES = {
+    "deed": "page N heap N KIND",
+    "back": "page N",
+    "give": "A turn N room N heap N",
+    "freed": "A turn N epoch N",
+    "ended": "A turn N",
+    "no-block": "A turn N",
+    "no-space": "name N",
+    "held": "N name N",
+    "outside": "A turn N",
+    "unaligned": "A turn N",
+    "skipped": "name N",
+    "tick": "N",
+    "pass": "N",
+    "unback": "page N epoch N",
+    "bare": "page N",
+    "young": "page N stamp N",
+    "in-use": "page N word N value V",
+    "not-offered": "page N",
+    "stopped": "N",
+}
+OUTCOMES = ("unback", "bare", "young", "in-use", "not-offered")
+NUMBER = "(0|[1-9][0-9]*)"
+WORDS = {"N": NUMBER, "A": "(0x[0-9a-f]{8})", "V": "(0x[0-9a-f]{16})", "KIND": "(class (?:%s)|bitfit|shared|large)" % "|".join(map(str, CLASSES))}
+PATTERNS = {word: re.compile(" ".join([NUMBER, word] + [WORDS.get(part, part) for part in shape.split()])) for word, shape in SHAPES.items()}
+
+
+class Wrong(Exception):
+    """What is wrong with a transcript."""
+
+
+class Line(NamedTuple):
+    """A line of an actor: its second word, and the values of the others."""
+
+    actor: int
+    word: str
+    values: tuple
+    text: str
+
+
+class Wanted(NamedTuple):
+    """What a request asks for: its directory, its room, what its address is a multiple of, and the bytes of a page that
+    blocks of its kind and room cover at most."""
+
+    name: int
+    directory: tuple
+    room: int
+    step: int
+    most: int
+
+    def is_placed(self, address):
+        """Whether a block of it may begin there: in its page where it isn't large."""
+        offset = address % PAGE
+        return offset % self.step == 0 and (self.directory[1] == "large" or offset + self.room <= self.most)
+
+
+class Trace(NamedTuple):
+    """A trace without a fault."""
+
+    pages: int
+    threads: int
+    age: int
+    shared: set
+    phases: list
+
+    def wanted(self, name, heap, size, align):
+        """By the route of the request: the smallest class that suits, else a bit-fit page, else whole pages."""
+        for bytes_ in CLASSES:
+            if bytes_ >= size and bytes_ % align == 0:
+                kind = "shared" if heap in self.shared else f"class {bytes_}"
+                return Wanted(name, (heap, kind), bytes_, bytes_, PAGE // bytes_ * bytes_)
+        if size <= MOST_BITFIT:
+            return Wanted(name, (heap, "bitfit"), -(-max(size, 1) // GRAIN) * GRAIN, align, PAGE)
+        return Wanted(name, (heap, "large"), -(-size // PAGE) * PAGE, PAGE, PAGE)
+
+    def acting(self, phase):
+        """The threads that have an operation in the phase; and 0 where the scavenger has one."""
+        return {operation[1] if operation[0] in ("a", "f", "r", "flush", "stop") else 0 for operation in self.phases[phase]}
+
+    def is_in_order(self):
+        """Whether at most one actor works in each phase. Then all runs say the same."""
+        return all(len(self.acting(phase)) <= 1 for phase in range(len(self.phases)))
+
+
+def read_trace(text):
+    """The trace of a text without a fault."""
+    first, *lines = text.split("\n")
+    words = first.split()
+    shared, phases = set(), [[]]
+    for line in lines:
+        word, *rest = line.split() or ["#"]
+        if word.startswith("#"):
+            continue
+        if word == "phase":
+            phases.append([])
+        elif word == "shared":
+            shared.add(int(rest[0]))
+        else:
+            phases[-1].append((word, *(int(value, 0) for value in rest)))
+    return Trace(int(words[3]), int(words[5]), int(words[9]), shared, phases)
+
+
+def line_of(text, threads):
+    """The line that a text is."""
+    words = text.split(" ", 2)
+    pattern = PATTERNS.get(words[1]) if len(words) > 1 else None
+    match = pattern.fullmatch(text) if pattern else None
+    if not match:
+        raise Wrong(f"no such line: {text}")
+    actor, *values = match.groups()
+    if int(actor) > threads or (int(actor) == 0) != (words[1] in OUTCOMES + ("tick", "pass", "stopped")):
+        raise Wrong(f"not a line of this actor: {text}")
+    return Line(int(actor), words[1], tuple(value if value[0] in "bcls" else int(value, 0) for value in values), text)
+
+
+class Lines:
+    """Lines that are taken in order."""
+
+    def __init__(self, lines):
+        self.lines, self.at = lines, 0
+
+    def peek(self):
+        """The second word of the next line, or None."""
+        return self.lines[self.at].word if self.at < len(self.lines) else None
+
+    def take(self, what, *words):
+        """The next line, which has one of these words, or these and no other values."""
+        if self.peek() not in words:
+            raise Wrong(f"{what}: {self.lines[self.at].text if self.peek() else 'no line'}")
+        self.at += 1
+        return self.lines[self.at - 1]
+
+    def take_exactly(self, what, word, *values):
+        line = self.take(what, word)
+        if line.values != values:
+            raise Wrong(f"{what}: {line.text}")
+
+    def end(self, what):
+        if self.peek():
+            raise Wrong(f"{what}: {self.lines[self.at].text}")
+
+
+def parts_of(trace, text):
+    """For each phase, and for the close, the lines of each actor; and the lines of the report."""
+    if not text.endswith("\n"):
+        raise Wrong("the last line has no end")
+    texts = text[:-1].split("\n")
+    marks = [f"phase {number}" for number in range(2, len(trace.phases) + 1)] + ["close", "report"]
+    parts = []
+    for mark in marks:
+        if mark not in texts:
+            raise Wrong(f"no line {mark}")
+        at = texts.index(mark)
+        parts.append(by_actor([line_of(line, trace.threads) for line in texts[:at]], trace.threads))
+        texts = texts[at + 1:]
+    return parts, texts
+
+
+def by_actor(lines, threads):
+    """The lines of each actor, which stand actor by actor."""
+    for before, after in zip(lines, lines[1:]):
+        if before.actor > after.actor:
+            raise Wrong(f"it stands after a line of actor {before.actor}: {after.text}")
+    return [Lines([line for line in lines if line.actor == actor]) for actor in range(threads + 1)]
+
+
+class Accounts:
+    """What the actors were asked and answered so far, each by its own lines; these become events."""
+
+    def __init__(self, trace):
+        self.trace = trace
+        self.named = {}
+        self.logs = {thread: [] for thread in range(1, trace.threads + 1)}
+        self.since = dict.fromkeys(self.logs, 0)
+        self.epoch = 0
+
+    def phase(self, phase, lines):
+        """The events of each actor in a phase. Of a thread that has no operation in it, the scavenger has them."""
+        operations, acting = self.trace.phases[phase], self.trace.acting(phase)
+        self.since.update(dict.fromkeys(acting - {0}, self.epoch))
+        idle = [thread for thread in self.logs if thread not in acting]
+        sequences = [self.scavenged([each for each in operations if each[0] in ("tick", "pass", "idle")], idle, lines)]
+        for thread in sorted(acting - {0}):
+            sequences.append([])
+            for operation in operations:
+                if operation[0] not in ("tick", "pass", "idle") and operation[1] == thread:
+                    sequences[-1] += self.answered(operation, lines[thread])
+        for actor, rest in enumerate(lines):
+            rest.end(f"nothing that actor {actor} does in phase {phase + 1} says this")
+        return sequences
+
+    def answered(self, operation, lines):
+        """The events of one operation of a thread."""
+        word, thread, *values = operation
+        if word == "a":
+            return self.requested(self.trace.wanted(*values), lines)
+        if word == "f":
+            if self.named[values[0]] is None:
+                lines.take_exactly(f"name {values[0]} has no block", "skipped", values[0])
+                return []
+            return self.freed(thread, self.named[values[0]], lines)
+        if word == "r":
+            return self.freed(thread, tuple(values), lines)
+        return self.flushed(thread, lines)
+
+    def requested(self, wanted, lines):
+        """The deeds and backs of a request, and then its block or its refusal."""
+        made = []
+        while lines.peek() in ("deed", "back"):
+            made.append(lines.take("", "deed", "back"))
+        line = lines.take(f"no answer to the request of name {wanted.name}", "give", "held", "no-space")
+        deeds = [each.values[0] for each in made if each.word == "deed"]
+        backs = [each.values[0] for each in made if each.word == "back"]
+        for each in made:
+            if each.word == "deed" and each.values[1:] != wanted.directory:
+                raise Wrong(f"not for the request of name {wanted.name}: {each.text}")
+        if [each.word for each in made] != ["deed"] * len(deeds) + ["back"] * len(backs):
+            raise Wrong(f"a deed after a back in the request of name {wanted.name}")
+        events = [Deed(page, wanted.directory) for page in deeds] + [Back(page) for page in backs]
+        return events + [self.given(wanted, line, deeds, backs) if line.word == "give" else self.refused(wanted, line, deeds, backs)]
+
+    def given(self, wanted, line, deeds, backs):
+        """A block of the right room and heap at a place of its route. A small request makes a deed only of the block's page; all
+        back only pages of the block, and the deeds and backs of a large one rise."""
+        address, turn, room, heap = line.values
+        if (room, heap) != (wanted.room, wanted.directory[0]) or not wanted.is_placed(address):
+            raise Wrong(f"no block for the request of name {wanted.name}: {line.text}")
+        give = Give(address, turn, room, wanted.directory)
+        if address < PAGE or give.pages[-1] > self.trace.pages:
+            raise Wrong(f"outside the region: {line.text}")
+        is_large = wanted.directory[1] == "large"
+        if not are_rising(deeds) or not are_rising(backs) or not set(backs if is_large else deeds + backs) <= set(give.pages):
+            raise Wrong(f"no pages for the request of name {wanted.name}: deeds {deeds}, backs {backs}, {line.text}")
+        self.named[wanted.name] = address, turn
+        return give
+
+    def refused(self, wanted, line, deeds, backs):
+        """A refusal, before which a small request makes nothing, and a large one at most deeds."""
+        *page, name = line.values
+        is_large = wanted.directory[1] == "large"
+        if name != wanted.name or backs or not are_rising(deeds) or (deeds and not is_large):
+            raise Wrong(f"no refusal of the request of name {wanted.name}: deeds {deeds}, backs {backs}, {line.text}")
+        self.named[wanted.name] = None
+        return Refused(wanted.directory, wanted.room // PAGE if is_large else 1, *(page or [None]))
+
+    def freed(self, thread, name, lines):
+        """A free is refused at once, or logged; a full log is flushed before."""
+        address, turn = name
+        if not PAGE <= address < PAGE * (self.trace.pages + 1):
+            lines.take_exactly("a free outside the region", "outside", *name)
+            return []
+        if address % GRAIN:
+            lines.take_exactly("an unaligned free", "unaligned", *name)
+            return []
+        events = self.flushed(thread, lines) if len(self.logs[thread]) == MOST_LOGGED else []
+        self.logs[thread].append(name)
+        return events
+
+    def flushed(self, thread, lines):
+        """The log's names in order, each ended or refused. The epoch is read once and before; it is told where one ended."""
+        events, epochs = [], set()
+        for address, turn in self.logs[thread]:
+            line = lines.take(f"no answer to the free of {address:#010x} turn {turn}", "freed", "ended", "no-block")
+            if line.values[:2] != (address, turn):
+                raise Wrong(f"not the free of {address:#010x} turn {turn}: {line.text}")
+            epochs.update(line.values[2:])
+            events.append({"freed": End, "ended": Ended, "no-block": NoBlock}[line.word](*line.values))
+        if len(epochs) > 1:
+            raise Wrong(f"epochs {sorted(epochs)} in one flush of thread {thread}")
+        self.logs[thread] = []
+        return [Read(epoch) for epoch in epochs] + events
+
+    def scavenged(self, operations, idle, lines):
+        """The events of the scavenger's operations."""
+        events = []
+        for operation in operations:
+            if operation[0] == "tick":
+                self.epoch = max(self.epoch, operation[1])
+                lines[0].take_exactly(f"a tick to {self.epoch}", "tick", self.epoch)
+                events.append(Tick(self.epoch))
+            elif operation[0] == "pass":
+                lines[0].take_exactly(f"a pass in epoch {self.epoch}", "pass", self.epoch)
+                events += self.passed(lines[0])
+            else:
+                for thread in idle:
+                    if self.epoch >= self.since[thread] + operation[1]:
+                        events += self.flushed(thread, lines[thread])
+                        lines[0].take_exactly(f"thread {thread} is idle", "stopped", thread)
+        return events
+
+    def passed(self, lines):
+        """The outcomes of a pass, at most one a page, the lowest first."""
+        events, pages = [], []
+        while lines.peek() in OUTCOMES:
+            line = lines.take("", *OUTCOMES)
+            pages.append(line.values[0])
+            events.append(self.outcome(line))
+        if not are_rising(pages) or not set(pages) <= set(range(1, self.trace.pages + 1)):
+            raise Wrong(f"the pages of a pass: {pages}")
+        return events
+
+    def outcome(self, line):
+        """The event of an outcome."""
+        if line.word == "in-use":
+            page, word, value = line.values
+            if word > 3 or value == 2**64 - 1:
+                raise Wrong(f"no word in use: {line.text}")
+            return InUse(page, word, value)
+        if line.word == "young":
+            return Young(*line.values, self.epoch)
+        if line.word == "unback":
+            if line.values[1] != self.epoch:
+                raise Wrong(f"not in epoch {self.epoch}: {line.text}")
+            return Unback(*line.values)
+        return {"bare": Bare, "not-offered": NotOffered}[line.word](*line.values)
+
+    def closed(self, lines):
+        """The events of the close: each thread in order is stopped."""
+        events = []
+        for thread in self.logs:
+            events += self.flushed(thread, lines[thread])
+        for actor, rest in enumerate(lines):
+            rest.end(f"nothing that actor {actor} does at the close says this")
+        return [events]
+
+
+def are_rising(numbers):
+    return all(before < after for before, after in zip(numbers, numbers[1:]))
+
+
+def check_run(trace, machine, parts):
+    """Phase by phase the lines answer the operations, and in some order their events are a run."""
+    accounts = Accounts(trace)
+    for phase, lines in enumerate(parts):
+        is_close = phase == len(trace.phases)
+        sequences = accounts.closed(lines) if is_close else accounts.phase(phase, lines)
+        if stuck := find_order(machine, sequences):
+            events = [(type(event).__name__, vars(event)) for event in stuck]
+            raise Wrong(f"{'at the close' if is_close else f'in phase {phase + 1}'} no order of the events is a run; none of these can come next: {events}")
+
+
+def page_line(machine, page):
+    """What the report says of a page, without its marks."""
+    heap, kind = machine.deeds[page]
+    blocks = [machine.live[address] for address in machine.lives_on[page]]
+    begun = sum(block.address // PAGE == page for block in blocks)
+    free = GRAINS - sum(block.grains_on(page).bit_count() for block in blocks)
+    return f"page {page} heap {heap} {kind} live {begun} free {free} stamp {machine.newest[page]} marks "
+
+
+def has_room(machine, page):
+    """Whether a block of the page's kind could cover one of its free grains."""
+    kind = machine.deeds[page][1].split()
+    covered = sum(machine.live[address].grains_on(page).bit_count() for address in machine.lives_on[page])
+    usable = PAGE // int(kind[1]) * int(kind[1]) // GRAIN if len(kind) > 1 else GRAINS
+    return covered < usable
+
+
+def check_marks(machine, page, text):
+    """A page is marked as backed where it is; as offered or parked, and offered where it has room; and as hinted at least where
+    it is backed and empty."""
+    marks = text.split("+")
+    if marks != [mark for mark in MARKS if mark in marks]:
+        raise Wrong(f"no marks: {text}")
+    is_backed = page in machine.backed
+    if ("backed" in marks) != is_backed or ("offered" in marks) == ("parked" in marks):
+        raise Wrong(f"not the marks of page {page}: {text}")
+    if has_room(machine, page) and "parked" in marks:
+        raise Wrong(f"page {page} has room: {text}")
+    if is_backed and not machine.lives_on[page] and "hinted" not in marks:
+        raise Wrong(f"page {page} is backed and empty: {text}")
+
+
+def check_report(machine, texts):
+    """The report is that of the machine."""
+    pages = sorted(machine.deeds)
+    if len(texts) != len(pages) + 1:
+        raise Wrong(f"the report has {len(texts)} lines for {len(pages)} pages")
+    for page, text in zip(pages, texts):
+        wanted = page_line(machine, page)
+        if not text.startswith(wanted):
+            raise Wrong(f"the report says {text} and not {wanted}..")
+        check_marks(machine, page, text[len(wanted):])
+    live, ended = len(machine.live), sum(machine.ends.values())
+    wanted = f"total deeds {len(pages)} backed {len(machine.backed)} live {live} given {live + ended} ended {ended}"
+    if texts[-1] != wanted:
+        raise Wrong(f"the report says {texts[-1]} and not {wanted}")
+
+
+def judge(trace, text):
+    """What is wrong with a transcript of `run` for a trace, or None."""
+    machine = Machine(trace.pages, trace.age)
+    try:
+        parts, report = parts_of(trace, text)
+        check_run(trace, machine, parts)
+        check_report(machine, report)
+    except Wrong as wrong:
+        return str(wrong)
+    except Undecided:
+        return "no order of the events of a phase was found in time"
+    return None
+
+
+def by_phase_and_actor(text):
+    """The text that `run` may write where it makes its steps in the order of the text, from the one that `order` writes."""
+    written, phase = [], []
+    lines = text.split("\n")
+    for at, line in enumerate(lines):
+        if line in ("close", "report") or line.startswith("phase "):
+            written += sorted(phase, key=actor_of) + [line]
+            phase = []
+        else:
+            phase.append(line)
+        if line == "report":
+            return "\n".join(written + lines[at + 1:])
+    return text
+
+
+def actor_of(line):
+    return int(line.split(" ", 1)[0])
+
+
+def main():
+    if len(sys.argv) != 3:
+        print(__doc__)
+        return 2
+    with open(sys.argv[1], encoding="ascii") as trace, open(sys.argv[2], encoding="ascii") as transcript:
+        wrong = judge(read_trace(trace.read()), transcript.read())
+    print(wrong or "right")
+    return 1 if wrong else 0
+
+
+if __name__ == "__main__":
+    sys.exit(main())
