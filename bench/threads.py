@@ -1,12 +1,14 @@
 #!/usr/bin/env python3
 """Times `pas run` beside `pas order` by the number of threads, and prints a table.
 
-usage: bench/threads.py [--repeat N] [--operations N] PROGRAM
+usage: bench/threads.py [--repeat N] [--operations N] PROGRAM TIMING [TRACE..]
 
-PROGRAM is the built crates/pas/out/pas. The traces have 400,000 operations in one phase, divided among 1, 2, 4, 8 and 16 threads: requests of
+PROGRAM is the built crates/pas/out/pas, and TIMING the built crates/pas_replay_timing/out/pas_replay_timing. The traces have 400,000 operations in one phase, divided among 1, 2, 4, 8 and 16 threads: requests of
 16 to 256 bytes, and frees by name of the thread's own blocks. In one the threads work in heaps of their own, in the other all share one heap.
-The table has the seconds by the wall clock from the bytes of the trace to those of the transcript, of the fastest of N runs (7), the peak
-memory, and how many times as fast `run` is as `order`. The two ways run in turn. What else the machine does meanwhile shows in the figures.
+The table has the milliseconds by the wall clock from the bytes of the trace to those of the transcript, of the fastest of N runs (7), the
+peak memory, how many times as long `run` takes as `order`, and the same for the operations alone, from a kit that is ready to the last
+record. The ways run in turn. Where traces are named, they are timed in place of the generated ones. What else the machine does meanwhile
+shows in the figures.
 """
 
 import os
@@ -57,15 +59,25 @@ def timed(program, way, path):
     return seconds, usage.ru_maxrss / 1024, refused
 
 
-def row(program, name, path, repeat):
+def alone(timing, way, path):
+    """Seconds by the clock of the operations alone."""
+    with open(path, "rb") as source:
+        done = subprocess.run([timing, way, "time"], stdin=source, capture_output=True, text=True, check=True)
+    return int(done.stdout.split()[-1]) / 1e9
+
+
+def row(program, timing, name, path, repeat):
     """The line of a trace."""
-    best, peak, refused = dict.fromkeys(WAYS, 9e9), dict.fromkeys(WAYS, 0.0), 0
+    best, inner, peak, refused = dict.fromkeys(WAYS, 9e9), dict.fromkeys(WAYS, 9e9), dict.fromkeys(WAYS, 0.0), 0
     for _ in range(repeat):
         for way in WAYS:
             seconds, memory, count = timed(program, way, path)
             best[way], peak[way], refused = min(best[way], seconds), max(peak[way], memory), max(refused, count)
-    figures = " | ".join(f"{best[way]:.3f} | {peak[way]:.1f}" for way in WAYS)
-    return f"| {name} | {figures} | {best['order'] / best['run']:.2f} | {refused} |"
+            inner[way] = min(inner[way], alone(timing, way, path))
+    whole = " | ".join(f"{1000 * best[way]:.1f} | {peak[way]:.1f}" for way in WAYS)
+    figures = f"{whole} | {best['run'] / best['order']:.2f}"
+    figures += f" | {1000 * inner['order']:.1f} | {1000 * inner['run']:.1f} | {inner['run'] / inner['order']:.2f}"
+    return f"| {name} | {figures} | {refused} |"
 
 
 def main(arguments):
@@ -73,16 +85,21 @@ def main(arguments):
     while arguments and arguments[0] in options:
         options[arguments[0]] = int(arguments[1])
         arguments = arguments[2:]
-    if len(arguments) != 1:
+    if len(arguments) < 2:
         sys.exit(__doc__)
-    program = os.path.abspath(arguments[0])
-    print("| Heaps, threads | `order`, s | MB | `run`, s | MB | `order` / `run` | Refused |\n|---|---|---|---|---|---|---|")
+    program, timing = map(os.path.abspath, arguments[:2])
+    print("| Heaps, threads | `order`, ms | MB | `run`, ms | MB | Times | Alone: `order`, ms | `run`, ms | Times | Refused |")
+    print("|---|---|---|---|---|---|---|---|---|---|")
+    for path in arguments[2:]:
+        print(row(program, timing, os.path.basename(path), path, options["--repeat"]), flush=True)
+    if arguments[2:]:
+        return
     with tempfile.TemporaryDirectory() as folder:
         for is_own in (True, False):
             for threads in THREADS:
                 name = f"{'their own' if is_own else 'one'}, {threads}"
                 _, path = write_trace(folder, f"{name}.trace", generated(options["--operations"], threads, is_own))
-                print(row(program, name, path, options["--repeat"]), flush=True)
+                print(row(program, timing, name, path, options["--repeat"]), flush=True)
 
 
 if __name__ == "__main__":

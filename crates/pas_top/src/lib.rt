@@ -7,6 +7,7 @@ mod job;
 mod machine_tests;
 pub mod main_call;
 mod manner;
+mod opening;
 mod outcome;
 mod summary;
 #[cfg(test)]

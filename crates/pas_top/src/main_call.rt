@@ -74,7 +74,7 @@ pub fn pas_main<R: Threads + Wait + Sync, S: Source, K: Sink>(
         Err(Stop::Memory) => return 5,
     };
     match outcome_of(rt, alloc, manner, bytes) {
-        Ok(outcome) => tell_outcome(sink, &outcome),
+        Ok(outcome) => tell_outcome(rt, alloc, manner, sink, &outcome),
         Err(_) => 5,
     }
 }

@@ -1,7 +1,8 @@
 //! What an input comes to, and how it is written.
-ghost use Rattle.std.specs.Prelude.{◌≡◌, ◌≤◌, ◌+◌, ℕ, List, [], IfOk, OnOk, OnErr, length};
+ghost use Rattle.std.specs.Prelude.{◌≡◌, ◌≤◌, ◌+◌, ℕ, List, [], All, IfOk, OnOk, OnErr, length};
 ghost use Rattle.pas_io.specs.Told.{Rose, Tells, Writes, WritesFront};
 ghost use Rattle.pas_trace.specs.Plans.{IsPlanOf};
+ghost use Rattle.pas_report.specs.Lines.{CanShow, lines_of};
 ghost use Rattle.pas_report.specs.Rooms.{records_in, room_of};
 ghost use Rattle.pas_answers.specs.Replays.{phases_of, Shows};
 ghost use Rattle.pas_top.specs.Faults.{fault_text, reason_text};
@@ -9,14 +10,17 @@ ghost use Rattle.pas_top.specs.Manners.{way_of};
 ghost use Rattle.pas_top.specs.Outcomes.{IsOutcome, IsShown, IsWritable, outcome_status, outcome_text, shown_text};
 
 use crate::manner::Manner;
+use crate::opening::{kit_at, read_and_open};
 use pas_io::whole::write_all;
 use pas_io::{Failed, Sink};
 use pas_profile::NoMemory;
 use pas_replay::{PlainKit, in_order};
 use pas_report::text::push_field;
-use pas_report::{Line, Records, report, write_lines};
+use pas_report::{Line, Record, Records, report, write_lines};
+use pas_shared::Opening;
+use pas_sheets::{Sheets, write_lines_on};
 use pas_steps::State;
-use pas_threads::{OpenGate, SharedKit, on_threads};
+use pas_threads::{OpenGate, on_threads};
 use pas_trace::{Plan, ReadFault, Reason, TraceFault, read_trace};
 use std::alloc::Global;
 use std::sync::Wait;
@@ -31,7 +35,11 @@ pub(crate) enum Outcome {
     Faulty(TraceFault),
 }
 
-/// Reads the bytes, lets them go, and replays the trace that they are in this manner. NoMemory comes before the replay begins, or not at all.
+/// Fewer records than this aren't worth the start of a thread.
+const MANY_RECORDS: usize = 4096;
+
+/// Reads the bytes, lets them go, and replays the trace that they are in this manner. On threads the region is opened while the bytes are
+/// read. NoMemory comes before the replay begins, or not at all.
 pub(crate) fn outcome_of<R: Threads + Wait + Sync>(
     rt: &R,
     alloc: Global,
@@ -41,23 +49,29 @@ pub(crate) fn outcome_of<R: Threads + Wait + Sync>(
     requires { length bytes.items ≤ 16777216 }
     ensures { IfOk result (IsOutcome (way_of manner) bytes.items) }
 {
-    let plan = match read_trace(alloc, &bytes) {
+    let (read, opening) = match manner {
+        Manner::InOrder => (read_trace(alloc, &bytes), None),
+        Manner::OnThreads => read_and_open(rt, alloc, &bytes),
+    };
+    drop(bytes);
+    let plan = match read {
         Ok(plan) => plan,
         Err(ReadFault::Trace(fault)) => return Ok(Outcome::Faulty(fault)),
         Err(ReadFault::NoMemory) => return Err(NoMemory),
     };
-    drop(bytes);
     let mut records = Records::try_new(alloc, plan.total, plan.phases.as_slice().len() as u32)?;
-    let state = replay(rt, alloc, manner, &plan, &mut records)?;
+    let state = replay(rt, alloc, manner, &plan, opening, &mut records)?;
     Ok(Outcome::Replayed(records, state))
 }
 
-/// Replays the plan in this manner, and answers the region's state afterwards. Memory is taken for the kit alone, before the replay begins.
+/// Replays the plan in this manner, on threads at the region that was opened for it, if there is one, and answers the region's state
+/// afterwards. Memory is taken for the kit alone, before the replay begins.
 fn replay<R: Threads + Wait + Sync>(
     rt: &R,
     alloc: Global,
     manner: Manner,
     plan: &Plan,
+    opening: Option<Opening>,
     out: &mut Records,
 ) -> Result<State, NoMemory>
     requires plan { (text : List ℕ) × (length text ≤ 16777216) × IsPlanOf text plan.now }
@@ -71,19 +85,25 @@ fn replay<R: Threads + Wait + Sync>(
             Ok(in_order(plan, kit, out))
         }
         Manner::OnThreads => {
-            let kit = SharedKit::try_new(alloc, plan)?;
+            let kit = kit_at(alloc, plan, opening)?;
             Ok(on_threads(rt, plan, kit, &OpenGate, out))
         }
     }
 }
 
-/// Writes what an input came to, and answers the status, or 4 where the sink failed.
-pub(crate) fn tell_outcome<K: Sink>(sink: &mut K, outcome: &Outcome) -> u8
+/// Writes what an input came to in this manner, and answers the status, or 4 where the sink failed.
+pub(crate) fn tell_outcome<R: Threads + Wait + Sync, K: Sink>(
+    rt: &R,
+    alloc: Global,
+    manner: Manner,
+    sink: &mut K,
+    outcome: &Outcome,
+) -> u8
     requires { IsWritable outcome.now }
     ensures { Tells (K.held sink.old) (K.held sink.new) (K.faults sink.old) (K.faults sink.new) (outcome_text outcome.now) (outcome_status outcome.now) result }
 {
     match outcome {
-        Outcome::Replayed(records, state) => match write_replayed(records, state, sink) {
+        Outcome::Replayed(records, state) => match write_replayed(rt, alloc, manner, records, state, sink) {
             Ok(()) => 0,
             Err(Failed) => 4,
         },
@@ -101,14 +121,47 @@ pub(crate) fn tell<K: Sink>(sink: &mut K, text: &str, status: u8) -> u8
     }
 }
 
+/// Writes the lines of the records: those of many records on threads are made by several threads, where there is memory for that.
+fn write_records<R: Threads + Wait + Sync, K: Sink>(
+    rt: &R,
+    alloc: Global,
+    manner: Manner,
+    records: &[Record],
+    sink: &mut K,
+) -> Result<(), Failed>
+    requires { All CanShow records.now }
+    ensures whole { OnOk result (Writes (K.held sink.old) (K.held sink.new) (lines_of records.now)) }
+    ensures front { OnErr result (WritesFront (K.held sink.old) (K.held sink.new) (lines_of records.now)) }
+    ensures failed { OnErr result (Rose (K.faults sink.old) (K.faults sink.new)) }
+    ensures count { K.faults sink.old ≤ K.faults sink.new }
+{
+    if records.len() < MANY_RECORDS {
+        return write_lines(records, sink);
+    }
+    match manner {
+        Manner::InOrder => write_lines(records, sink),
+        Manner::OnThreads => match Sheets::try_new(alloc) {
+            Ok(mut sheets) => write_lines_on(rt, &mut sheets, records, sink),
+            Err(NoMemory) => write_lines(records, sink),
+        },
+    }
+}
+
 /// Writes the lines of the records and then the report.
-fn write_replayed<K: Sink>(records: &Records, state: &State, sink: &mut K) -> Result<(), Failed>
+fn write_replayed<R: Threads + Wait + Sync, K: Sink>(
+    rt: &R,
+    alloc: Global,
+    manner: Manner,
+    records: &Records,
+    state: &State,
+    sink: &mut K,
+) -> Result<(), Failed>
     requires { IsShown (records_in records.now) state.now }
     ensures whole { OnOk result (Writes (K.held sink.old) (K.held sink.new) (shown_text (records_in records.now) state.now)) }
     ensures front { OnErr result (WritesFront (K.held sink.old) (K.held sink.new) (shown_text (records_in records.now) state.now)) }
     ensures failed { OnErr result (Rose (K.faults sink.old) (K.faults sink.new)) }
 {
-    write_lines(records.as_slice(), sink)?;
+    write_records(rt, alloc, manner, records.as_slice(), sink)?;
     report(state, sink)
 }
 

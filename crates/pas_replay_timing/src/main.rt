@@ -1,0 +1,50 @@
+//! Times the operations of a trace alone: from a plan and a kit that are ready to the records and the region's last state.
+//!
+//! Standard input is the trace. The first word is `order` or `run`: in the order of the text, or each thread's operations in a thread of
+//! their own. It prints how many records came, and with a second word also the nanoseconds by the clock on the wall. Where the words are
+//! others, the input is no trace or memory is wanting, it prints `no replay`.
+#![tactic(auto)]
+
+mod timed;
+
+use pas_io::real::RealSource;
+use pas_io::whole::{Input, read_all};
+use std::{env, io};
+use timed::{Timed, Way, timed};
+
+/// The most bytes of a trace.
+const MOST_BYTES: usize = 16_777_216;
+
+/// The way that the first word names.
+fn way_of(word: &str) -> Option<Way> {
+    match word {
+        "order" => Some(Way::InOrder),
+        "run" => Some(Way::OnThreads),
+        _ => None,
+    }
+}
+
+/// The replay of standard input in this way. None where it is no trace, or memory is wanting.
+fn replayed(rt: &HostRuntime, way: Way) -> io::Result<Option<Timed>> {
+    let mut source = RealSource::new(rt.stdin());
+    match read_all(rt.alloc(), &mut source, MOST_BYTES) {
+        Ok(Input::Whole(text)) => timed(rt, rt.alloc(), &text, way),
+        _ => Ok(None),
+    }
+}
+
+fn main(rt: HostRuntime) -> io::Result<()> {
+    let mut words = env::args(&rt)?.skip(1);
+    let way = words.next().and_then(|word| way_of(word.as_str()));
+    let is_shown = words.next().is_some();
+    let Some(way) = way else {
+        return println!(rt; "no replay");
+    };
+    let Some(Timed { records, took }) = replayed(&rt, way)? else {
+        return println!(rt; "no replay");
+    };
+    if is_shown {
+        return println!(rt; "records {records} nanoseconds {}", took.as_nanos());
+    }
+    println!(rt; "records {records}")
+}

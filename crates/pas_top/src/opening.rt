@@ -1,0 +1,50 @@
+//! A region that is opened while the text is read, and the kit over it.
+ghost use Rattle.std.specs.Prelude.{◌≡◌, ◌≤◌, ℕ, List, IfOk, length};
+ghost use Rattle.pas_trace.specs.Plans.{IsPlanOf, IsReading};
+ghost use Rattle.pas_threads.specs.Kits.{IsKitOf};
+
+use pas_profile::NoMemory;
+use pas_shared::Opening;
+use pas_threads::SharedKit;
+use pas_trace::{Plan, ReadFault, read_trace};
+use std::alloc::Global;
+use std::thread::{Threads, join};
+
+/// What the text comes to, and the region of its header, which is opened meanwhile. There is none where the first line is no header, or
+/// memory was wanting for it.
+pub(crate) fn read_and_open<R: Threads + Sync>(
+    rt: &R,
+    alloc: Global,
+    text: &[u8],
+) -> (Result<Plan, ReadFault>, Option<Opening>)
+    requires { length text.now ≤ 16777216 }
+    ensures { IsReading text.now result.0 }
+{
+    join(rt, || read_trace(alloc, text), || opening_of(alloc, text))
+}
+
+/// The region that the first line names, with nobody at it.
+fn opening_of(alloc: Global, text: &[u8]) -> Option<Opening> {
+    let profile = header_of_text(text)?;
+    Opening::try_new(alloc, profile).ok()
+}
+
+/// The kit of the plan: at the region that was opened, where that is the plan's, or else at a new one. A header says nothing of shared
+/// heaps, so the region of a plan that has some is a new one.
+pub(crate) fn kit_at(
+    alloc: Global,
+    plan: &Plan,
+    opening: Option<Opening>,
+) -> Result<SharedKit, NoMemory>
+    requires { (text : List ℕ) × IsPlanOf text plan.now }
+    ensures { IfOk result (λ kit. IsKitOf plan.now kit) }
+{
+    let Some(opening) = opening else {
+        return SharedKit::try_new(alloc, plan);
+    };
+    if *opening.profile() == plan.profile {
+        return SharedKit::try_new_at(alloc, plan, opening);
+    }
+    drop(opening);
+    SharedKit::try_new(alloc, plan)
+}
