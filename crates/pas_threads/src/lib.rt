@@ -4,6 +4,8 @@
 pub mod crew;
 mod dealing;
 pub mod gate;
+#[cfg(test)]
+mod gate_tests;
 mod hands;
 pub mod kit;
 pub mod laws;
