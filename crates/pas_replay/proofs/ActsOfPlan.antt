@@ -228,7 +228,7 @@ phase_fit f limit threads ops rest more below go asked sound =
     subst (AreFit f limit asked) (sym (append_assoc (map Wakes (active_threads threads ops)) (acts_of_ops idle ops) more))
     (wakes_fit f limit asked (active_threads threads ops) (acts_of_ops idle ops ++ more) (ops_fit f limit idle ops rest more below go asked sound))
 
-back_below : (limit : ℕ) (xs ys : List Op) → AreBelow limit (xs ++ ys) → AreBelow limit ys
+pub back_below : (limit : ℕ) (xs ys : List Op) → AreBelow limit (xs ++ ys) → AreBelow limit ys
 back_below limit [] ys all = all
 back_below limit (x ∷ xs) ys all = back_below limit xs ys all.1
 

@@ -55,11 +55,6 @@ left_room found size none some = absurd (cc)
 pub record ArePlaced (passes : List PlainPass) (places : List (Option PlainPass)) (left : List PlainPass) : Type 0 where
   pub together : places ++ map Some (reverse left) ≡ map Some passes
 
-pub none_placed : (passes : List PlainPass) (places : List (Option PlainPass)) (left : List PlainPass) → places ≡ [] → left ≡ reverse passes → ArePlaced passes places left
-none_placed passes places left none is = record {
-  together = ap (λ (ps : List (Option PlainPass)). ps ++ map Some (reverse left)) none ∙ ap (λ (xs : List PlainPass). map Some (reverse xs)) is ∙ ap (λ (xs : List PlainPass). map Some xs) (reverse-reverse passes);
-}
-
 -- ---- caches
 pub none_unused : (caches : List ThreadCache) → caches ≡ [] → AreUnused 0 caches
 none_unused caches none = record { many = ap (λ (cs : List ThreadCache). length cs) none; each = λ i d bad. absurd (omega (arith, bad)) }

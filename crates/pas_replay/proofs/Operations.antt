@@ -62,7 +62,7 @@ pub record IsActOf (f : Profile) (act : Act) (k : ℕ) (what : What) (besides : 
   pub follows : (more : List Act) (l : Whole) (rs : List Record) (a : Answer) → IsAnswered f k what (having p.names (part k p.list) (p.caches k)) a
       → Follows f more (progress_after p k a.steps a.cache a.names ((records_of (events_by k (part k p.list) a.steps) ++ said_by k a.said) ++ besides)) l rs → Follows f (act ∷ more) p l rs
 
-if_same : (t : Bool) (c : ℕ) → t ≡ true → (if t then c else 0) ≡ c
+pub if_same : (t : Bool) (c : ℕ) → t ≡ true → (if t then c else 0) ≡ c
 if_same true c is = refl
 if_same false c is = absurd (let bad : false ≡ true = is in cc)
 
@@ -134,7 +134,7 @@ acts_of_thread idle op what of = elim of [
 pub fit_now : {f : Profile} {all more : List Act} {op : Op} {h : Hand} {p : Progress} → IsAt f all (Operates op ∷ more) h p → (asked : List ℕ) × IsFitWhat (profile_of h.region) (names_held h.table) asked op.what
 fit_now {f} {all} {more} {op} {h} {p} at = (at.names.asked, subst (λ (g : Profile). IsFitWhat g (names_held h.table) at.names.asked op.what) (sym at.profile_is) at.names.fit.1)
 
-known_if : (f : Profile) (limit : ℕ) (asked : List ℕ) (names : List Named) (what : What) → IsFitWhat f limit asked what → AreKnown asked names → IsKnown names what
+pub known_if : (f : Profile) (limit : ℕ) (asked : List ℕ) (names : List Named) (what : What) → IsFitWhat f limit asked what → AreKnown asked names → IsKnown names what
 known_if f limit asked names (Free name) fit known = known name fit
 known_if f limit asked names s fit known = tt
 
@@ -189,7 +189,7 @@ may_operate {f} {all} {more} {act} {what} {besides} {table} {out} {p} desk actor
 at_seat : {f : Profile} {k : ℕ} {Rest : View → Type 0} {desk : PlainDesk} {l : Whole} {need : ℕ} → Sits f k Rest desk l need → (P : ℕ → Profile → Type 0) → P (actor_of (pass_of desk)) (profile_of (region_of desk)) → P k f
 at_seat {f} {k} {Rest} {desk} s P p = subst (λ (g : Profile). P k g) s.profile (subst (λ (m : ℕ). P m (profile_of (region_of desk))) s.actor p)
 
-records_count : (es : List Event) → length (records_of es) ≡ length es
+pub records_count : (es : List Event) → length (records_of es) ≡ length es
 records_count es = length-map (reverse es) Record.Event ∙ length-reverse es
 
 module _ {f : Profile} {all more : List Act} {act : Act} {what : What} {besides : List Record} {h : Hand} {p : Progress} (k : ℕ) (own desk' : PlainDesk) (cache : ThreadCache) (table' : Names) (out1 : Records)

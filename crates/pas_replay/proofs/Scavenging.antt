@@ -96,7 +96,7 @@ one_unback k epoch page (Young stamp) = omega arith
 one_unback k epoch page (InUse word value) = omega arith
 one_unback k epoch page NotOffered = omega arith
 
-few_unbacks : (k epoch : ℕ) (pairs : List (ℕ × Outcome)) → length (unbacks_in k epoch pairs) ≤ length pairs
+pub few_unbacks : (k epoch : ℕ) (pairs : List (ℕ × Outcome)) → length (unbacks_in k epoch pairs) ≤ length pairs
 few_unbacks k epoch [] = omega arith
 few_unbacks k epoch (x ∷ pairs) =
     let one = one_unback k epoch x.0 x.1 in

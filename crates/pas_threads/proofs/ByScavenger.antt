@@ -20,6 +20,7 @@ use Rattle.pas_steps.specs.declared.step.Step.TheVariants.{Look, Tick}
 use Rattle.pas_steps.proofs.Called.{call_none, call_step}
 use Rattle.pas_steps.proofs.Calls.{does_idly}
 use Rattle.pas_steps.proofs.Frames.{events_split}
+use Rattle.pas_steps.proofs.SpareRoom.{Spares}
 use Rattle.pas_steps.proofs.Parts.{part_of_own, part_of_others}
 use Rattle.pas_scavenger.specs.Pages.{unback_of}
 use Rattle.pas_scavenger.specs.Passes.{PassSteps, unbacks_in}
@@ -40,7 +41,8 @@ use Rattle.pas_threads.specs.NameBooks.{Table, requests_in}
 use Rattle.pas_threads.specs.Works.{Later, Keeps, keeps, Sits, KnowsNames, ThreadAt}
 use Rattle.pas_threads.specs.Scavenges.{ScavengerAt, Scavenges, StopsThread}
 use Rattle.pas_threads.proofs.Speaking.{events_of_piece, pass_of}
-use Rattle.pas_threads.proofs.Working.{HasSpare, IsOperation, IsKept, the_answer, answers_now, piece, pushed, stands_again}
+use Rattle.pas_replay.proofs.Scavenging.{few_unbacks, reads}
+use Rattle.pas_threads.proofs.Working.{IsOperation, IsKept, the_answer, answers_now, piece, pushed, stands_again}
 
 -- ---- at the desk
 pub can_scavenge : {f : Profile} {acts : List Act} {σ : Standing} {places : ℕ} {out : Records} {later : Later} {p : Progress} → ScavengerAt f acts σ places out later p → CanCall σ (λ v l. HasNothing v)
@@ -93,21 +95,6 @@ has_ticked {f} {next} {σ} {σ'} {places} {out} {out'} {later} {p} epoch at tick
     }
 
 -- ---- a pass
-one_unback : (k epoch page : ℕ) (o : Outcome) → length (unback_of k epoch page o) ≤ 1
-one_unback k epoch page Unbacked = omega arith
-one_unback k epoch page Bare = omega arith
-one_unback k epoch page (Young stamp) = omega arith
-one_unback k epoch page (InUse word value) = omega arith
-one_unback k epoch page NotOffered = omega arith
-
-few_unbacks : (k epoch : ℕ) (pairs : List (ℕ × Outcome)) → length (unbacks_in k epoch pairs) ≤ length pairs
-few_unbacks k epoch [] = omega arith
-few_unbacks k epoch (x ∷ pairs) =
-    let one = one_unback k epoch x.0 x.1 in
-    let rest = few_unbacks k epoch pairs in
-    let both = length-append (unback_of k epoch x.0 x.1) (unbacks_in k epoch pairs) in
-    omega (arith, one, rest, both)
-
 pub has_passed : {f : Profile} {next : List Act} {σ σ' : Standing} {places places' spare spare' : ℕ} {found : List (ℕ × Outcome)} {out out' : Records} {later : Later} {p : Progress} → ScavengerAt f (MakesPass ∷ next) σ places out later p
     → AnswersPass σ σ' spare spare' found (records_in out) (records_in out') → length (records_in out') ≤ length (records_in out) + (1 + f.pages) → room_of out' ≡ room_of out → places' ≡ places
     → Scavenges f MakesPass next σ σ' places places' out out' later p
@@ -144,9 +131,6 @@ has_passed {f} {next} {σ} {σ'} {places} {places'} {spare} {spare'} {found} {ou
     }
 
 -- ---- the epoch is read
-reads : {σ σ' : Standing} (epoch : ℕ) → Makes σ σ' (Look Word.Epoch) epoch → Calls σ σ' HasNothing (λ v w. HasNothing w) (epoch_look epoch)
-reads {σ} {σ'} epoch makes = call_step (λ v w. HasNothing w) (call_none {R = λ v w. HasNothing w} (λ v met. met)) makes (λ v met is. tt)
-    (λ v met is agrees. nothing_still (does_idly σ.seat.profile (LookEpoch ∷ []) refl (epoch_look epoch) v (refl, tt) (agrees, tt)) met)
 
 pub has_read : {f : Profile} {next : List Act} {σ σ' : Standing} {places : ℕ} {out : Records} {later : Later} {p : Progress} (epoch : ℕ) → ScavengerAt f (ReadsEpoch ∷ next) σ places out later p → Makes σ σ' (Look Word.Epoch) epoch
     → (did : Scavenges f ReadsEpoch next σ σ' places places out out later p) × (did.reached.epoch ≡ epoch)
@@ -247,7 +231,7 @@ has_stayed {f} {k} {n} {epoch} {σ} {has} {out} {later} {p} at read short =
     }
 
 -- ---- there is room
-pub pass_room : {f : Profile} {next : List Act} {σ : Standing} {places : ℕ} {out : Records} {later : Later} {p : Progress} (spare : ℕ) → HasSpare σ spare → ScavengerAt f (MakesPass ∷ next) σ places out later p → σ.seat.profile.pages ≤ spare
+pub pass_room : {f : Profile} {next : List Act} {σ : Standing} {places : ℕ} {out : Records} {later : Later} {p : Progress} (spare : ℕ) → Spares σ spare → ScavengerAt f (MakesPass ∷ next) σ places out later p → σ.seat.profile.pages ≤ spare
 pass_room {f} {next} {σ} {places} {out} {later} {p} spare fits at =
     let v = part 0 p.list in
     let is = subst (λ (k : ℕ). spare + length (events_of k v) ≡ σ.seat.room) at.sits.actor (fits v at.sits.beside at.sits.stood) in
@@ -255,7 +239,7 @@ pass_room {f} {next} {σ} {places} {out} {later} {p} spare fits at =
     let pages = ap (λ (h : Profile). h.pages) at.sits.profile in
     omega (arith, is, room, pages)
 
-pub may_stop : {f : Profile} {k : ℕ} {σ : Standing} {has : Keeps} {later : Later} {p : Progress} (spare : ℕ) → HasSpare σ spare → ThreadAt f k [] σ has later p → CanCall σ (λ v l. MayAnswer σ.seat.profile has.cache Stop spare has.out v)
+pub may_stop : {f : Profile} {k : ℕ} {σ : Standing} {has : Keeps} {later : Later} {p : Progress} (spare : ℕ) → Spares σ spare → ThreadAt f k [] σ has later p → CanCall σ (λ v l. MayAnswer σ.seat.profile has.cache Stop spare has.out v)
 may_stop {f} {k} {σ} {has} {later} {p} spare fits at =
     let v = part k p.list in
     let is = subst (λ (j : ℕ). spare + length (events_of j v) ≡ σ.seat.room) at.sits.actor (fits v at.sits.beside at.sits.stood) in

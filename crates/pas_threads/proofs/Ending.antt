@@ -27,10 +27,7 @@ use Rattle.pas_threads.specs.Sessions.{TeamAt, HasReplayed}
 use Rattle.pas_threads.specs.Kits.{slots_of, AreAllBack}
 use Rattle.pas_threads.specs.declared.workers.Worker.{Worker}
 use Rattle.pas_threads.specs.declared.phases.Team.{Team}
-
-some_worker : (workers : List Worker) → 1 ≤ length workers → Worker
-some_worker [] bad = absurd (omega (arith, bad))
-some_worker (worker ∷ workers) some = worker
+use Rattle.pas_threads.proofs.Ranks.{some_worker}
 
 some_pass : (passes : List SharedPass) → 1 ≤ length passes → SharedPass
 some_pass [] bad = absurd (omega (arith, bad))
@@ -83,7 +80,7 @@ module _ {region : SharedRegion} {f : Profile} {team : Team} {end : Progress} (s
         let all = count in
         let many = stands.many in
         let below : i < length team.threads.items = omega (arith, lt, all, many) in
-        let w = some_worker team.threads.items (omega (arith, below)) in
+        let w = some_worker team.threads.items i below in
         let rests = stands.workers i w below in
         let at = sym (get_or-map (λ (w : Worker). w.pass) team.threads.items i w None below) ∙ ap (λ (slots : List (Option SharedPass)). get_or slots (suc i) None) (sym back)
         ∙ get_or-map (λ (pass : SharedPass). Some pass) passes (suc i) d None lt in
@@ -109,7 +106,7 @@ module _ {region : SharedRegion} {f : Profile} {team : Team} {end : Progress} (s
   thread_bare empty i lt =
       let many = stands.many in
       let below : i < length team.threads.items = omega (arith, lt, many) in
-      let d = some_worker team.threads.items (omega (arith, below)) in
+      let d = some_worker team.threads.items i below in
       let rest = (stands.workers i d below).sits.rest in
       let none = no_slots (cached (get_or team.threads.items i d).cache).locals (empty i d below) in
       record { grains = λ g. rest.locals.grains g ∙ (none g).0; rights = λ page. rest.locals.rights page ∙ (none page).1; clear = rest.locals.clear }

@@ -23,7 +23,8 @@ use Rattle.pas_threads.specs.NameBooks.{requests_in, room_for, name_asked, names
 use Rattle.pas_threads.specs.Works.{KnowsNames}
 use Rattle.pas_threads.specs.declared.names.NameBook.{NameBook}
 use Rattle.pas_threads.specs.declared.names.Requests.{Requests}
-use Rattle.pas_threads.proofs.Noting.{or_none, not_before}
+use Rattle.pas_threads.proofs.Noting.{is_same, not_before}
+use Rattle.pas_threads.proofs.PhaseActs.{or_none}
 
 -- ---- a phase and the rest
 pub sound_front : (f : Profile) (asked : List ℕ) (xs ys : List Op) → AreSound f asked (xs ++ ys) → AreSound f asked xs
@@ -37,10 +38,6 @@ sound_back f asked (x ∷ xs) ys sound = sound_back f (asked_after x.what asked)
 pub below_front : (limit : ℕ) (xs ys : List Op) → AreBelow limit (xs ++ ys) → AreBelow limit xs
 below_front limit [] ys below = tt
 below_front limit (x ∷ xs) ys below = (below.0, below_front limit xs ys below.1)
-
-pub below_back : (limit : ℕ) (xs ys : List Op) → AreBelow limit (xs ++ ys) → AreBelow limit ys
-below_back limit [] ys below = below
-below_back limit (x ∷ xs) ys below = below_back limit xs ys below.1
 
 -- ---- the thread's own operations fit
 -- what was asked for among the first was so among the second
@@ -80,19 +77,13 @@ fit_if : (t : Bool) (f : Profile) (limit : ℕ) (asked : List ℕ) (op : Op) (ac
 fit_if true f limit asked op acts here rest = let fit = here refl in (fit.0, fit.1, rest)
 fit_if false f limit asked op acts here rest = rest
 
-same_actor : (a k : ℕ) → a == k ≡ true → a ≡ k
-same_actor a k is = elim (cases_eq a k) [
-  | inl same ↦ same
-  | inr other ↦ absurd (true≢false (sym is ∙ ne_eqb a k other))
-]
-
 own_fit : (f : Profile) (limit k : ℕ) (few many : List ℕ) (ops : List Op) → 1 ≤ k → IsSmaller few many → AreSound f many ops → AreBelow limit ops → FreesItsOwn k few ops → AreFit f limit few (own_acts k ops)
 own_fit f limit k few many [] some small sound below frees = tt
 own_fit f limit k few many (op ∷ ops) some small sound below frees =
     let t = op.actor == k in
     fit_if t f limit few op (own_acts k ops)
     (λ is.
-    let same = same_actor op.actor k is in
+    let same = is_same op.actor k is in
     fit_what f limit op.actor few many op.what (omega (arith, some, same)) small sound.0 sound.1 below.0 (λ n free. frees.0 n same free))
     (own_fit f limit k (if t then asked_after op.what few else few) (asked_after op.what many) ops some (smaller_if t op.what few many small) sound.2 below.1 frees.1)
 
@@ -169,7 +160,7 @@ names_before {f} {book} k phase rest book1 requests at some frees same placed no
     (own_fit f (names_held book.names) k at.asked at.asked phase some (λ n is. is) (sound_front f at.asked phase rest at.sound) (below_front (names_held book.names) phase rest at.below) frees) placed (omega (arith, few, room))
 
 -- ---- before the first phase no name stands for a block
-pub names_at_start : (f : Profile) (ops : List Op) (book : NameBook) → AreSound f [] ops → AreBelow (names_held book.names) ops → ((n : ℕ) → block_named book.names n ≡ None) → NamesAt f ops book at_start
+unfoldable pub names_at_start : (f : Profile) (ops : List Op) (book : NameBook) → AreSound f [] ops → AreBelow (names_held book.names) ops → ((n : ℕ) → block_named book.names n ≡ None) → NamesAt f ops book at_start
 names_at_start f ops book sound below none = record {
   asked = [];
   sound = sound;

@@ -13,6 +13,7 @@ use Rattle.pas_answers.specs.Calls.{block_behind, HasTurn, AreKnown}
 use Rattle.pas_answers.specs.Fit.{IsBelow, AreBelow}
 use Rattle.pas_answers.specs.Names.{block_named, names_held}
 use Rattle.pas_answers.specs.declared.names.Names.{Names}
+use Rattle.pas_replay.proofs.ActsOfPlan.{back_below}
 use Rattle.pas_threads.specs.Shares.{own_acts, owner_in, IsWoven, AreAmong, IsRequestOf, NoneAsks, asked_after_act, asked_after_acts, OnlyAsked}
 use Rattle.pas_threads.specs.NameBooks.{requests_in, name_asked, name_asked_by, names_asked, names_of, AreWithin, NamesAt}
 use Rattle.pas_threads.specs.Taken.{HasRequest, HasTaken, HandsOver}
@@ -22,12 +23,11 @@ use Rattle.pas_threads.specs.declared.names.NameBook.{NameBook}
 use Rattle.pas_threads.specs.declared.workers.Worker.{Worker}
 use Rattle.pas_threads.proofs.KnownAfter.{are_known}
 use Rattle.pas_threads.proofs.Noting.{asks, asks_more}
-use Rattle.pas_threads.proofs.NamesBefore.{sound_front, sound_back, below_back}
+use Rattle.pas_threads.proofs.NamesBefore.{sound_front, sound_back}
+use Rattle.pas_threads.proofs.PhaseActs.{or_right}
+use Rattle.pas_threads.proofs.Ranks.{some_worker}
 
 -- ---- what acts ask for
-or_right : (s t : Bool) → t ≡ true → s || t ≡ true
-or_right true t is = refl
-or_right false t is = is
 
 pub or_either : (s t : Bool) → s || t ≡ true → (s ≡ true) ⊎ (t ≡ true)
 or_either true t is = inl refl
@@ -218,9 +218,6 @@ names_within limit k [] below = tt
 names_within limit k (op ∷ ops) below = subst (AreWithin limit) (sym (asks_more k op ops)) (within_if (op.actor == k) limit op.what (asks k ops) below.0 (names_within limit k ops below.1))
 
 -- ---- after a phase
-pub some_worker : (workers : List Worker) (i : ℕ) → i < length workers → Worker
-some_worker [] i lt = absurd (omega (arith, lt))
-some_worker (w ∷ workers) i lt = w
 
 -- Each worker handed over, and each thread with an operation in the phase has one.
 module _ {f : Profile} {book : NameBook} {p q : Progress} {own : ℕ → Progress} (threads : ℕ) (phase rest : List Op) (book1 book2 : NameBook) (numbers : List ℕ) (workers : List Worker) (at : NamesAt f (phase ++ rest) book p) (are : q.names ≡ p.names)
@@ -268,7 +265,7 @@ module _ {f : Profile} {book : NameBook} {p q : Progress} {own : ℕ → Progres
   names_after held = record {
     asked = asked_by at.asked phase;
     sound = sound_back f at.asked phase rest at.sound;
-    below = subst (λ (limit : ℕ). AreBelow limit rest) (sym (held ∙ ap names_held noted)) (below_back (names_held book.names) phase rest at.below);
+    below = subst (λ (limit : ℕ). AreBelow limit rest) (sym (held ∙ ap names_held noted)) (back_below (names_held book.names) phase rest at.below);
     tells = book_tells;
     turns = book_turns;
     known = subst (λ (ns : List ℕ). AreKnown ns after) asked_is

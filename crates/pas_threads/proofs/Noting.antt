@@ -12,6 +12,7 @@ use Rattle.pas_answers.specs.Fit.{IsBelow, AreBelow}
 use Rattle.pas_threads.specs.Shares.{own_acts}
 use Rattle.pas_threads.specs.NameBooks.{name_asked, names_asked, place_in, ArePlaced}
 use Rattle.pas_threads.specs.declared.names.NameBook.{NameBook}
+use Rattle.pas_threads.proofs.PhaseActs.{or_none}
 use Rattle.pas_threads.proofs.Places.{placed_all}
 
 -- ---- counts
@@ -68,9 +69,6 @@ count_small k ops i lt =
     omega (arith, few, size, lt)
 
 -- ---- a new name is none of those before
-pub or_none : (s t : Bool) → s || t ≡ false → (s ≡ false) × (t ≡ false)
-or_none true t is = absurd (true≢false is)
-or_none false t is = (refl, is)
 
 -- not asked for afterwards: neither before nor by the operation
 pub not_before : (what : What) (asked : List ℕ) (n : ℕ) → is_asked (asked_after what asked) n ≡ false → (is_asked (name_asked what) n ≡ false) × (is_asked asked n ≡ false)
@@ -141,7 +139,7 @@ one_more false old new name xs here placed = subst (λ (ns : List ℕ). ArePlace
 pub asks_next : (k : ℕ) (ops : List Op) (i : ℕ) (d : Op) (what : What) → i < length ops → (get_or ops i d).what ≡ what → asks k (take (i + 1) ops) ≡ asks k (take i ops) ++ (if (get_or ops i d).actor == k then name_asked what else [])
 asks_next k ops i d what lt is = ap (λ (xs : List Op). asks k xs) (take_more ops i d lt) ∙ asks_last k (take i ops) (get_or ops i d) ∙ ap (λ (w : What). asks k (take i ops) ++ (if (get_or ops i d).actor == k then name_asked w else [])) is
 
-is_same : (a k : ℕ) → a == k ≡ true → a ≡ k
+pub is_same : (a k : ℕ) → a == k ≡ true → a ≡ k
 is_same a k is = elim (cases_eq a k) [
   | inl same ↦ same
   | inr other ↦ absurd (true≢false (sym is ∙ ne_eqb a k other))

@@ -38,10 +38,10 @@ use Rattle.pas_threads.specs.declared.scavenger.Scavenger.{Scavenger}
 use Rattle.pas_threads.specs.declared.phases.Team.{Team}
 use Rattle.pas_threads.proofs.Speaking.{records_both}
 use Rattle.pas_threads.proofs.ByLent.{all_by}
-use Rattle.pas_threads.proofs.PhaseActs.{or_false, none_own, acts_are_shared}
+use Rattle.pas_threads.proofs.PhaseActs.{active_within, or_none, none_own, acts_are_shared}
 use Rattle.pas_threads.proofs.NamesOfPhases.{hands_over, hands_nothing}
 use Rattle.pas_threads.proofs.Dealt.{true_or_false}
-use Rattle.pas_threads.proofs.Ranks.{PlaceIn, own_from, place_in, place_out, lent_many, lent_number, same_get, first_of}
+use Rattle.pas_threads.proofs.Ranks.{PlaceIn, own_from, place_in, place_out, lent_many, lent_number, same_get, some_worker}
 
 -- what actor k said, which came to the end of the records
 told_more : (k : ℕ) (before after said : List Record) → after ≡ before ++ said → records_by k after ≡ records_by k before ++ records_by k said
@@ -165,7 +165,7 @@ idle_distinct threads ops =
 none_scavenged : (idle : List ℕ) (ops : List Op) → is_active ops 0 ≡ false → scavenger_acts idle ops ≡ []
 none_scavenged idle [] off = refl
 none_scavenged idle (op ∷ ops) off =
-    let both = or_false (op.actor == 0) (is_active ops 0) off in
+    let both = or_none (op.actor == 0) (is_active ops 0) off in
     ap (λ (t : Bool). if t then acts_of_op idle op ++ scavenger_acts idle ops else scavenger_acts idle ops) both.0 ∙ none_scavenged idle ops both.1
 
 -- ---- all hands together
@@ -184,24 +184,6 @@ pub record Piece (region : SharedRegion) (book : NameBook) (f : Profile) (ops : 
   pub reaches : Reaches f (acts_by (owner_in ops) w (acts_of_ops (idle_threads f.threads ops) ops)) p reached
   pub threads : (i : ℕ) (d : Worker) → i < length old → owner_in ops (suc i) ≡ w → ThreadDone region book f ops (suc i) (get_or old i d) (get_or new i d) (later (suc i)) p reached
   pub scavenger : w ≡ 0 → ScavengerDone region f before after (later 0) p reached
-
--- who is active is a thread of the region, or the scavenger
-what_within : (f : Profile) (what : What) (k : ℕ) → IsActorOf f what k → k ≤ f.threads
-what_within f (Alloc name heap size align) k of = of.1
-what_within f (Free name) k of = of.1
-what_within f (Raw block) k of = of.1
-what_within f Flush k of = of.1
-what_within f Stop k of = of.1
-what_within f (Tick epoch) k of = omega (arith, of)
-what_within f Pass k of = omega (arith, of)
-what_within f (Idle n) k of = omega (arith, of)
-
-active_within : (f : Profile) (asked : List ℕ) (ops : List Op) (k : ℕ) → AreSound f asked ops → is_active ops k ≡ true → k ≤ f.threads
-active_within f asked [] k sound on = absurd (false≢true on)
-active_within f asked (op ∷ ops) k sound on = elim (cases_eq op.actor k) [
-  | inl is ↦ let within = what_within f op.what op.actor sound.0 in omega (arith, within, is)
-  | inr other ↦ active_within f (asked_after op.what asked) ops k sound.2 (sym (ap (λ (t : Bool). t || is_active ops k) (ne_eqb op.actor k other)) ∙ on)
-]
 
 module _ {region : SharedRegion} {f : Profile} {ops : List Op} {team : Team} {later : ℕ → Later} {p : Progress} (ready : IsReady region f ops team later p) (awake : Mask4) (same : (k : ℕ) → is_set awake k ≡ is_active ops k)
     (own lent : List Worker) (dealt : AreDealt awake 1 team.threads.items own lent) where
@@ -279,7 +261,7 @@ module _ {region : SharedRegion} {f : Profile} {ops : List Op} {team : Team} {la
     thread_piece i lt on =
         let set : is_set awake (1 + i) ≡ true = ap (λ (k : ℕ). is_set awake k) (let one : 1 + i ≡ suc i = omega arith in one) ∙ same (suc i) ∙ on in
         let place = place_in awake 1 team.threads.items own lent new own1 scav1.lent.items dealt dealt1 (sym size) i lt set in
-        let d = first_of team.threads.items i lt in
+        let d = some_worker team.threads.items i lt in
         let phase = subst (λ (w : Worker). DidPhase region team.book ops (get_or team.threads.items i d) w) (place.after d) (subst (λ (w : Worker). DidPhase region team.book ops w (get_or own1 place.rank d)) (place.before d) (each place.rank d place.within)) in
         let done = active_done (suc i) (get_or team.threads.items i d) (get_or new i d) (ready.workers i d lt) phase in
         record {

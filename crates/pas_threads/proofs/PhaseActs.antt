@@ -16,7 +16,7 @@ abbrev OwnThemselves : Owners → List Op → Type 0
 OwnThemselves owner [] = Unit {0}
 OwnThemselves owner (op ∷ ops) = (owner op.actor ≡ op.actor) × OwnThemselves owner ops
 
-or_right : (s t : Bool) → t ≡ true → s || t ≡ true
+pub or_right : (s t : Bool) → t ≡ true → s || t ≡ true
 or_right true t is = refl
 or_right false t is = is
 
@@ -35,6 +35,24 @@ all_own all (op ∷ ops) within = (
 pub zero_own : (t : Bool) → ◌≡◌ {A = ℕ} (if t then 0 else 0) 0
 zero_own true = refl
 zero_own false = refl
+
+-- who is active is a thread of the region, or the scavenger
+what_within : (f : Profile) (what : What) (k : ℕ) → IsActorOf f what k → k ≤ f.threads
+what_within f (Alloc name heap size align) k of = of.1
+what_within f (Free name) k of = of.1
+what_within f (Raw block) k of = of.1
+what_within f Flush k of = of.1
+what_within f Stop k of = of.1
+what_within f (Tick epoch) k of = omega (arith, of)
+what_within f Pass k of = omega (arith, of)
+what_within f (Idle n) k of = omega (arith, of)
+
+pub active_within : (f : Profile) (asked : List ℕ) (ops : List Op) (k : ℕ) → AreSound f asked ops → is_active ops k ≡ true → k ≤ f.threads
+active_within f asked [] k sound on = absurd (false≢true on)
+active_within f asked (op ∷ ops) k sound on = elim (cases_eq op.actor k) [
+  | inl is ↦ let within = what_within f op.what op.actor sound.0 in omega (arith, within, is)
+  | inr other ↦ active_within f (asked_after op.what asked) ops k sound.2 (sym (ap (λ (t : Bool). t || is_active ops k) (ne_eqb op.actor k other)) ∙ on)
+]
 
 -- ---- the acts of one worker
 if_both : (t : Bool) (act : Act) (xs ys zs : List Act) → zs ≡ xs ++ ys → (if t then act ∷ zs else zs) ≡ (if t then act ∷ xs else xs) ++ ys
@@ -143,14 +161,14 @@ of_scavengers f owner idle asked (op ∷ ops) zero own sound =
     ∙ then_others (op.actor == 0) (acts_of_op idle op) (scavenger_acts idle ops)
 
 -- a thread without an operation has no act
-pub or_false : (s t : Bool) → s || t ≡ false → (s ≡ false) × (t ≡ false)
-or_false true t is = absurd (true≢false is)
-or_false false t is = (refl, is)
+pub or_none : (s t : Bool) → s || t ≡ false → (s ≡ false) × (t ≡ false)
+or_none true t is = absurd (true≢false is)
+or_none false t is = (refl, is)
 
 pub none_own : (k : ℕ) (ops : List Op) → is_active ops k ≡ false → own_acts k ops ≡ []
 none_own k [] is = refl
 none_own k (op ∷ ops) is =
-    let both = or_false (op.actor == k) (is_active ops k) is in
+    let both = or_none (op.actor == k) (is_active ops k) is in
     ap (λ (t : Bool). if t then Operates op ∷ (Settles op.actor ∷ own_acts k ops) else own_acts k ops) both.0 ∙ none_own k ops both.1
 
 -- ---- all is in hand

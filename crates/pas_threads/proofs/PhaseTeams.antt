@@ -34,10 +34,11 @@ use Rattle.pas_threads.specs.declared.scavenger.Scavenger.{Scavenger}
 use Rattle.pas_threads.specs.declared.workers.Worker.{Worker}
 use Rattle.pas_threads.proofs.Beyond.{part_stays, apart_beyond}
 use Rattle.pas_threads.proofs.NamesBefore.{sound_front, below_front}
-use Rattle.pas_threads.proofs.NamesOfPhases.{or_either, some_worker, names_then, names_within}
-use Rattle.pas_threads.proofs.PhaseActs.{zero_own}
+use Rattle.pas_threads.proofs.NamesOfPhases.{names_then, names_within}
+use Rattle.pas_threads.proofs.PhaseActs.{active_within, zero_own}
 use Rattle.pas_threads.proofs.PhaseEnds.{phase_woven, has_said, has_paid, rests_after, handed, scavenger_said, scavenger_paid, scavenger_rests}
 use Rattle.pas_threads.proofs.PhaseRooms.{own_all, all_paid, owed_alike, said_in_order, by_first}
+use Rattle.pas_threads.proofs.Ranks.{some_worker}
 use Rattle.pas_threads.proofs.PhaseStarts.{room_is, later_beside, HasBegun}
 use Rattle.pas_threads.proofs.Working.{reach_both}
 
@@ -46,26 +47,6 @@ number_at : (k n i : ℕ) → i < n → get_or (numbers_from k n) i 0 ≡ k + i
 number_at k zero i lt = absurd (omega (arith, lt))
 number_at k (suc n) zero lt = let is : k ≡ k + 0 = omega arith in is
 number_at k (suc n) (suc i) lt = number_at (k + 1) n i (omega (arith, lt)) ∙ (let is : k + 1 + i ≡ k + suc i = omega arith in is)
-
-actor_within : (f : Profile) (what : What) (k : ℕ) → IsActorOf f what k → k ≤ f.threads
-actor_within f (Alloc name heap size align) k actor = actor.1
-actor_within f (Free name) k actor = actor.1
-actor_within f (Raw block) k actor = actor.1
-actor_within f Flush k actor = actor.1
-actor_within f Stop k actor = actor.1
-actor_within f (Tick epoch) k zero_is = omega (arith, zero_is)
-actor_within f Pass k zero_is = omega (arith, zero_is)
-actor_within f (Idle n) k zero_is = omega (arith, zero_is)
-
-active_within : (f : Profile) (asked : List ℕ) (ops : List Op) (k : ℕ) → AreSound f asked ops → is_active ops k ≡ true → k ≤ f.threads
-active_within f asked [] k sound is = absurd (false≢true is)
-active_within f asked (op ∷ ops) k sound is = elim (or_either (op.actor == k) (is_active ops k) is) [
-  | inl here ↦ elim (cases_eq op.actor k) [
-    | inl same ↦ let le = actor_within f op.what op.actor sound.0 in omega (arith, le, same)
-    | inr other ↦ absurd (false≢true (sym (ne_eqb op.actor k other) ∙ here))
-  ]
-  | inr later ↦ active_within f (asked_after op.what asked) ops k sound.2 later
-]
 
 -- ---- the team, once all hands did their operations
 module _ {region : SharedRegion} {f : Profile} {awake : Mask4} {team team1 team2 : Team} {p : Progress} (ops : List Op) (rest : List (List Op)) (at : TeamAt region f (ops ∷ rest) team p) (begun : HasBegun region f awake ops rest team team1 p)

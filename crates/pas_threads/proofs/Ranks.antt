@@ -149,6 +149,6 @@ same_get [] i d e bad = absurd (omega (arith, bad))
 same_get (w ∷ ws) zero d e lt = refl
 same_get (w ∷ ws) (suc i) d e lt = same_get ws i d e (omega (arith, lt))
 
-pub first_of : (ws : List Worker) (i : ℕ) → i < length ws → Worker
-first_of [] i bad = absurd (omega (arith, bad))
-first_of (w ∷ ws) i lt = w
+pub some_worker : (ws : List Worker) (i : ℕ) → i < length ws → Worker
+some_worker [] i bad = absurd (omega (arith, bad))
+some_worker (w ∷ ws) i lt = w

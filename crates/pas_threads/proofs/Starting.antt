@@ -34,6 +34,7 @@ use Rattle.pas_threads.specs.declared.names.NameBook.{NameBook}
 use Rattle.pas_threads.specs.declared.scavenger.Scavenger.{Scavenger}
 use Rattle.pas_threads.specs.declared.workers.Worker.{Worker}
 use Rattle.pas_threads.proofs.Equipping.{equipped_many}
+use Rattle.pas_threads.proofs.NamesBefore.{names_at_start}
 
 -- ---- the kit
 -- the passes of a region that was just opened are new
@@ -108,17 +109,6 @@ scavenger_starts region f bound later pass scavenger of_profile within unused re
       none = ready.none;
     }
 
-names_start : {text : List ℕ} {plan : Plan} {book : NameBook} → IsPlanOf text plan → IsBookOf plan book → NamesAt plan.profile (all_ops (phases_of plan)) book at_start
-names_start {text} {plan} {book} read made = record {
-  asked = [];
-  sound = (every_plan read).operations;
-  below = below_all (names_held book.names) (phases_of plan) made.names;
-  tells = made.no_name;
-  turns = λ n block is. absurd (let bad : None ≡ Some block = sym (made.no_name n) ∙ is in cc);
-  known = λ n is. absurd (let bad : false ≡ true = is in cc);
-  only = λ n not_asked. refl;
-}
-
 owed_start : (f : Profile) (n : ℕ) → owed_by f at_start n ≡ n * f.pages
 owed_start f zero = omega arith
 owed_start f (suc n) =
@@ -128,7 +118,7 @@ owed_start f (suc n) =
     omega (arith, this, rest, more)
 
 start : {text : List ℕ} {plan : Plan} {kit : SharedKit} → IsPlanOf text plan → IsKitOf plan kit → TeamAt kit.region plan.profile (phases_of plan) kit.team at_start
-unfolding names_start
+unfolding names_at_start
 start {text} {plan} {kit} read made =
     let f = plan.profile in
     let bounds = bounds_of plan.bounds in
@@ -146,7 +136,7 @@ start {text} {plan} {kit} read made =
           (λ j le. let own = plans.own (1 + j) (omega arith) (omega (arith, le, many)) in omega (arith, own)) i d lt);
       scavenger = scavenger_starts kit.region f (slice_index bounds 0) (own_records f 0 ops) made.first kit.team.scavenger made.profile (omega (arith, scavenger)) made.unused.0 made.team.scavenger;
       nobody = λ k past. refl;
-      names = names_start read made.team.book;
+      names = names_at_start f ops kit.team.book plans.operations (below_all (names_held kit.team.book.names) (phases_of plan) made.team.book.names) made.team.book.no_name;
       frees = every_phase read;
       places = made.team.places;
     }

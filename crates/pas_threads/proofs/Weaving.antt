@@ -235,8 +235,6 @@ idle_one f owner asked k n p before after mine only share did =
 
 -- ---- any act
 -- what of the fitness of all acts is that of the first, and of the others after it
-first_fit : (f : Profile) (limit : ℕ) (asked : List ℕ) (op : Op) (acts : List Act) → AreFit f limit asked (Operates op ∷ acts) → IsFitWhat f limit asked op.what
-first_fit f limit asked op acts fit = fit.1
 
 rest_fit : (f : Profile) (limit : ℕ) (asked : List ℕ) (act : Act) (acts : List Act) → AreFit f limit asked (act ∷ acts) → AreFit f limit (asked_after_act act asked) acts
 rest_fit f limit asked (Operates op) acts fit = fit.2

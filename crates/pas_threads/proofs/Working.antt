@@ -10,6 +10,7 @@ use Rattle.pas_steps.specs.Lists.{Whole, part}
 use Rattle.pas_steps.specs.Views.{View}
 use Rattle.pas_steps.specs.Desks.{Seat, Standing, CanCall, triples}
 use Rattle.pas_steps.proofs.Frames.{events_split}
+use Rattle.pas_steps.proofs.SpareRoom.{Spares}
 use Rattle.pas_steps.proofs.Parts.{part_of_own}
 use Rattle.pas_trace.specs.EveryPlan.{asked_after}
 use Rattle.pas_trace.specs.declared.plan.Op.{Op}
@@ -26,6 +27,8 @@ use Rattle.pas_answers.specs.Fit.{IsFitWhat, AreFit, cost_of_what, own_costs_of}
 use Rattle.pas_answers.specs.Names.{block_named, names_held}
 use Rattle.pas_answers.proofs.KnownNames.{known_after}
 use Rattle.pas_answers.proofs.Kept.{meant_by, turn_meant}
+use Rattle.pas_replay.proofs.Operations.{if_same, known_if, records_count}
+use Rattle.pas_replay.proofs.Threads.{its_cache}
 use Rattle.pas_threads.specs.NameBooks.{Table, requests_in, room_for, names_of, name_asked, names_asked, ArePlaced, known_in}
 use Rattle.pas_threads.specs.declared.names.NameBook.{NameBook}
 use Rattle.pas_threads.proofs.Places.{names_both, names_count, asked_both, names_named, placed_both, tells_more, turns_more}
@@ -33,27 +36,9 @@ use Rattle.pas_threads.specs.Shares.{own_acts, Reaches}
 use Rattle.pas_threads.proofs.Speaking.{piece_of, each_both}
 use Rattle.pas_threads.specs.Works.{Later, Keeps, keeps, Sits, KnowsNames, ThreadAt, Works}
 
--- what a desk says of its room, for each view that it stands for
-abbrev pub HasSpare : Standing → ℕ → Type 0
-HasSpare σ spare = (v : View) (l : Whole) → σ.stands v l → spare + length (events_of σ.seat.actor v) ≡ σ.seat.room
-
-if_same : (t : Bool) (c : ℕ) → t ≡ true → (if t then c else 0) ≡ c
-if_same true c is = refl
-if_same false c is = absurd (let bad : false ≡ true = is in cc)
-
 -- what an operation costs its thread
 own_cost : (op : Op) → (if op.actor == op.actor then cost_of_what op.what else 0) ≡ cost_of_what op.what
 own_cost op = if_same (op.actor == op.actor) (cost_of_what op.what) (eq-eqb op.actor op.actor refl)
-
-known_if : (f : Profile) (limit : ℕ) (asked : List ℕ) (names : List Named) (what : What) → IsFitWhat f limit asked what → AreKnown asked names → IsKnown names what
-known_if f limit asked names (Free name) fit known = known name fit
-known_if f limit asked names s fit known = tt
-
-records_count : (es : List Event) → length (records_of es) ≡ length es
-records_count es = length-map (reverse es) Record.Event ∙ length-reverse es
-
-its_cache : (caches : Caches) (k : ℕ) (c : Cached) → with_cache caches k c k ≡ c
-its_cache caches k c = ap (λ (t : Bool). if t then c else caches k) (eq-eqb k k refl)
 
 abbrev Before : Profile → Op → List Act → Standing → Keeps → Later → Progress → Type 0
 Before f op next σ has later p = ThreadAt f op.actor (Operates op ∷ (Settles op.actor ∷ next)) σ has later p
@@ -62,7 +47,7 @@ Before f op next σ has later p = ThreadAt f op.actor (Operates op ∷ (Settles 
 pub fit_now : {f : Profile} {op : Op} {next : List Act} {σ : Standing} {has : Keeps} {later : Later} {p : Progress} → Before f op next σ has later p → (limit : ℕ) × (asked : List ℕ) × IsFitWhat σ.seat.profile limit asked op.what
 fit_now {f} {op} {next} {σ} {has} {later} {p} at = (names_held has.table.book.names, at.names.asked, subst (λ (g : Profile). IsFitWhat g (names_held has.table.book.names) at.names.asked op.what) (sym at.sits.profile) at.names.fit.1)
 
-pub may_answer : {f : Profile} {op : Op} {next : List Act} {σ : Standing} {has : Keeps} {later : Later} {p : Progress} (spare : ℕ) → HasSpare σ spare → Before f op next σ has later p
+pub may_answer : {f : Profile} {op : Op} {next : List Act} {σ : Standing} {has : Keeps} {later : Later} {p : Progress} (spare : ℕ) → Spares σ spare → Before f op next σ has later p
     → CanCall σ (λ v l. MayAnswer σ.seat.profile has.cache op.what spare has.out v)
 may_answer {f} {op} {next} {σ} {has} {later} {p} spare fits at =
     let v = part op.actor p.list in

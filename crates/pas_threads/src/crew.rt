@@ -22,7 +22,7 @@ use pas_trace::{Op, What};
 use pas_utility::Outcomes;
 
 /// Does one of the scavenger's operations: a tick, a pass, or the stops of the lent threads that were idle for long enough.
-pub fn scavenge_one<D: Desk>(
+pub(crate) fn scavenge_one<D: Desk>(
     region: &SharedRegion,
     desk: &mut D,
     lent: &mut [Worker],
@@ -52,7 +52,7 @@ pub fn scavenge_one<D: Desk>(
 }
 
 /// Does the scavenger's operations among those of a phase, in order, with the gate called round each.
-pub fn scavenge<D: Desk, G: Gate>(
+pub(crate) fn scavenge<D: Desk, G: Gate>(
     region: &SharedRegion,
     desk: &mut D,
     lent: &mut [Worker],

@@ -14,7 +14,7 @@ use pas_shared::SharedRegion;
 
 /// Stops each of the lent threads, in order, where it was idle for so many epochs, now that it is this one. What a stop's flush says comes to the
 /// thread's own records, and that the thread was stopped to `out`.
-pub fn stop_idle(
+pub(crate) fn stop_idle(
     region: &SharedRegion,
     lent: &mut [Worker],
     epochs: u64,

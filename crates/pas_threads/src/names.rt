@@ -9,14 +9,14 @@ use std::alloc::Global;
 
 /// A request of a thread: its name, and what it came to. 24 bytes.
 #[derive(Clone, Copy, Drop)]
-pub struct Request {
+pub(crate) struct Request {
     name: u32,
     meaning: Meaning,
 }
 
 /// A thread's own requests of a phase, in order. There is room for a fixed number, so that adding one takes no memory.
 #[derive(Drop)]
-pub struct Requests {
+pub(crate) struct Requests {
     items: Vec<Request>,
     bound: usize,
     ghost reserved: { bound ≤ vec_capacity items },
@@ -26,7 +26,7 @@ pub struct Requests {
 /// What the names stood for when the phase began, and for each name that is asked for in the phase its place among those that its thread asks for in
 /// it. All threads of a phase share it. 20 bytes a name.
 #[derive(Drop)]
-pub struct NameBook {
+pub(crate) struct NameBook {
     names: Names,
     places: Vec<u32>,
     ghost whole: { vec_len places ≡ names_held names },
@@ -65,7 +65,7 @@ impl Requests {
     ghost use Rattle.pas_threads.specs.NameBooks.{requests_in, room_for, request_at};
 
     /// Room for so many requests.
-    pub fn try_new(alloc: Global, bound: usize) -> Result<Requests, NoMemory>
+    pub(crate) fn try_new(alloc: Global, bound: usize) -> Result<Requests, NoMemory>
         ensures empty { IfOk result (λ requests. requests_in requests ≡ []) }
         ensures room { IfOk result (λ requests. room_for requests ≡ bound) }
     {
@@ -94,7 +94,7 @@ impl Requests {
 
     /// Adds a request at the end. There must be room for one.
     #[inline]
-    pub fn push(&mut self, name: u32, block: Option<Name>)
+    pub(crate) fn push(&mut self, name: u32, block: Option<Name>)
         requires { length (requests_in self.old) < room_for self.old }
         ensures added { requests_in self.new ≡ requests_in self.old ++ named name block ∷ [] }
         ensures room { room_for self.new ≡ room_for self.old }
@@ -116,7 +116,7 @@ impl NameBook {
     ghost use Rattle.pas_threads.specs.NameBooks.{requests_in, room_for, names_of, names_asked, place_in, ArePlaced, AreWithin, known_in};
 
     /// No name stands for a block. There is room for the names below the limit.
-    pub fn try_new(alloc: Global, limit: usize) -> Result<NameBook, NoMemory>
+    pub(crate) fn try_new(alloc: Global, limit: usize) -> Result<NameBook, NoMemory>
         ensures empty { IfOk result (λ book. (name : ℕ) → block_named book.names name ≡ None) }
         ensures room { IfOk result (λ book. names_held book.names ≡ limit) }
     {
@@ -159,7 +159,7 @@ impl NameBook {
     }
 
     /// Notes the places of the names that are asked for in a phase of these operations. One look at each operation.
-    pub fn note(&mut self, ops: &[Op])
+    pub(crate) fn note(&mut self, ops: &[Op])
         requires few { length ops.now < 2 ^ 32 }
         requires below { AreBelow (names_held self.old.names) ops.now }
         requires sound { (f : TheProfile) × (asked : List ℕ) × AreSound f asked ops.now }
@@ -176,7 +176,7 @@ impl NameBook {
     }
 
     /// Takes the requests of a thread over, after the phase: each name stands for what its request came to. There are no requests then.
-    pub fn take(&mut self, requests: &mut Requests)
+    pub(crate) fn take(&mut self, requests: &mut Requests)
         requires within { AreWithin (names_held self.old.names) (names_of (requests_in requests.old)) }
         ensures names { (n : ℕ) → block_named self.new.names n ≡ known_in self.old requests.old n }
         ensures room { names_held self.new.names ≡ names_held self.old.names }
@@ -193,7 +193,7 @@ impl NameBook {
 
     /// What the name stands for to the thread with these requests: what its own request came to, or what the book says. Takes one look at its place.
     #[inline]
-    pub fn meaning(&self, requests: &Requests, name: u32) -> Option<Name>
+    pub(crate) fn meaning(&self, requests: &Requests, name: u32) -> Option<Name>
         requires { ArePlaced self.now 0 (names_of (requests_in requests.now)) }
         ensures { result ≡ known_in self.now requests.now name }
     {

@@ -65,7 +65,7 @@ fn operate<D: Desk>(
 }
 
 /// Performs the operations of the desk's thread among those of a phase, in order, with the gate called round each.
-pub fn work<D: Desk, G: Gate>(
+pub(crate) fn work<D: Desk, G: Gate>(
     desk: &mut D,
     book: &NameBook,
     cache: &mut ThreadCache,

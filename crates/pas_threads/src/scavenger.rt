@@ -13,15 +13,15 @@ use pas_utility::Outcomes;
 /// The scavenger of the replay: its pass while it doesn't sit at the region, its places for the outcomes of a pass, its records, and the workers
 /// of the threads that are idle in the phase.
 #[derive(Drop)]
-pub struct Scavenger {
-    pub pass: Option<SharedPass>,
-    pub outcomes: Outcomes,
-    pub out: Records,
-    pub lent: Vec<Worker>,
+pub(crate) struct Scavenger {
+    pub(crate) pass: Option<SharedPass>,
+    pub(crate) outcomes: Outcomes,
+    pub(crate) out: Records,
+    pub(crate) lent: Vec<Worker>,
 }
 
 /// The scavenger sits down, does its operations of a phase, and rises.
-pub fn keep_up<G: Gate>(region: &SharedRegion, scavenger: &mut Scavenger, ops: &[Op], gate: &G)
+pub(crate) fn keep_up<G: Gate>(region: &SharedRegion, scavenger: &mut Scavenger, ops: &[Op], gate: &G)
     requires few { length ops.now < 2 ^ 32 }
     requires may { MayScavenge region.now ops.now scavenger.old }
     ensures did { DidScavenge region.now ops.now scavenger.old scavenger.new }

@@ -1,5 +1,5 @@
 //! What the scavenger's worker does in a phase, at any desk: ticks, passes, and the stops of threads that are idle.
-ghost use Rattle.std.specs.Prelude.{◌≡◌, ◌↔◌, ◌+◌, ◌<◌, ◌≤◌, ℕ, List, [], ◌∷◌, IsTrue, length};
+ghost use Rattle.std.specs.Prelude.{◌≡◌, ◌<◌, ℕ, List, [], ◌∷◌, length};
 ghost use Rattle.pas_profile.specs.declared.profile.Profile.{Profile as TheProfile};
 ghost use Rattle.pas_cache.specs.Caches.{cached};
 ghost use Rattle.pas_report.specs.Rooms.{records_in, room_of};
@@ -15,6 +15,7 @@ ghost use Rattle.pas_threads.specs.Scavenges.{ScavengerAt, Scavenges, StopsThrea
 use pas_answers::answer_meant;
 use pas_cache::ThreadCache;
 use pas_profile::Word;
+use pas_replay::order::is_idle_for;
 use pas_report::{Record, Records, Said};
 use pas_steps::Desk;
 use pas_trace::What;
@@ -24,7 +25,7 @@ use pas_utility::Outcomes;
 pub(crate) const SCAVENGER: u8 = 0;
 
 /// Raises the epoch to at least this, which is below 2^40. One step and one record.
-pub fn tick<D: Desk>(desk: &mut D, epoch: u64, out: &mut Records)
+pub(crate) fn tick<D: Desk>(desk: &mut D, epoch: u64, out: &mut Records)
     requires fit { (f : TheProfile) × (limit : ℕ) × (asked : List ℕ) × AreFit f limit asked (Ticks epoch ∷ []) }
     requires stands { (f : TheProfile) × (next : List Act) × (places : ℕ) × (later : Later) × (p : Progress) × ScavengerAt f (Ticks epoch ∷ next) (D.standing desk.old) places out.old later p }
     ensures scavenges { (f : TheProfile) (next : List Act) (places : ℕ) (later : Later) (p : Progress) → ScavengerAt f (Ticks epoch ∷ next) (D.standing desk.old) places out.old later p
@@ -35,7 +36,7 @@ pub fn tick<D: Desk>(desk: &mut D, epoch: u64, out: &mut Records)
 }
 
 /// Makes a pass over the pages that are hinted as empty. One record, and one for each outcome, of which there are at most as many as pages.
-pub fn pass<D: Desk>(desk: &mut D, outcomes: &mut Outcomes, out: &mut Records)
+pub(crate) fn pass<D: Desk>(desk: &mut D, outcomes: &mut Outcomes, out: &mut Records)
     requires stands { (f : TheProfile) × (next : List Act) × (later : Later) × (p : Progress) × ScavengerAt f (MakesPass ∷ next) (D.standing desk.old) (places_of outcomes.old) out.old later p }
     ensures scavenges { (f : TheProfile) (next : List Act) (later : Later) (p : Progress) → ScavengerAt f (MakesPass ∷ next) (D.standing desk.old) (places_of outcomes.old) out.old later p
         → Scavenges f MakesPass next (D.standing desk.old) (D.standing desk.new) (places_of outcomes.old) (places_of outcomes.new) out.old out.new later p }
@@ -45,7 +46,7 @@ pub fn pass<D: Desk>(desk: &mut D, outcomes: &mut Outcomes, out: &mut Records)
 }
 
 /// Reads the epoch, for an idle operation. One step.
-pub fn read_epoch<D: Desk>(desk: &mut D) -> u64
+pub(crate) fn read_epoch<D: Desk>(desk: &mut D) -> u64
     requires stands { (f : TheProfile) × (next : List Act) × (places : ℕ) × (out : TheRecords) × (later : Later) × (p : Progress) × ScavengerAt f (ReadsEpoch ∷ next) (D.standing desk.old) places out later p }
     ensures scavenges { (f : TheProfile) (next : List Act) (places : ℕ) (out : TheRecords) (later : Later) (p : Progress) → ScavengerAt f (ReadsEpoch ∷ next) (D.standing desk.old) places out later p
         → (did : Scavenges f ReadsEpoch next (D.standing desk.old) (D.standing desk.new) places places out out later p) × (did.reached.epoch ≡ result) }
@@ -54,17 +55,9 @@ pub fn read_epoch<D: Desk>(desk: &mut D) -> u64
     desk.look(Word::Epoch)
 }
 
-/// Whether the thread of this cache was idle for so many epochs, now that it is this one.
-fn is_idle_for(cache: &ThreadCache, epochs: u64, epoch: u64) -> bool
-    ensures { IsTrue result ↔ ((cached cache.now).idle_since + epochs ≤ epoch) }
-{
-    let since = cache.idle_since();
-    since <= epoch && epochs <= epoch - since
-}
-
 /// Stops the thread of this desk, which was lent to the scavenger, where it was idle for so many epochs, now that it is this one. The records of its
 /// flush come to its own, and that it was stopped comes to those of the scavenger.
-pub fn stop_if_idle<D: Desk>(
+pub(crate) fn stop_if_idle<D: Desk>(
     desk: &mut D,
     cache: &mut ThreadCache,
     epochs: u64,

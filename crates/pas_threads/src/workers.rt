@@ -21,15 +21,15 @@ use pas_trace::Op;
 
 /// A thread of the replay: its pass while it doesn't sit at the region, its cache, its requests of the phase, and its records.
 #[derive(Drop)]
-pub struct Worker {
-    pub pass: Option<SharedPass>,
-    pub cache: ThreadCache,
-    pub requests: Requests,
-    pub out: Records,
+pub(crate) struct Worker {
+    pub(crate) pass: Option<SharedPass>,
+    pub(crate) cache: ThreadCache,
+    pub(crate) requests: Requests,
+    pub(crate) out: Records,
 }
 
 /// The thread sits down, performs its operations of a phase, and rises.
-pub fn perform<G: Gate>(
+pub(crate) fn perform<G: Gate>(
     region: &SharedRegion,
     book: &NameBook,
     worker: &mut Worker,
@@ -57,7 +57,7 @@ pub fn perform<G: Gate>(
 }
 
 /// The thread, which was lent to the scavenger, sits down, is stopped where it was idle for so many epochs, now that it is this one, and rises.
-pub fn stop_lent(
+pub(crate) fn stop_lent(
     region: &SharedRegion,
     worker: &mut Worker,
     epochs: u64,
@@ -86,7 +86,7 @@ pub fn stop_lent(
 }
 
 /// The book takes the requests of all workers over, after a phase.
-pub fn take_all(book: &mut NameBook, workers: &mut [Worker])
+pub(crate) fn take_all(book: &mut NameBook, workers: &mut [Worker])
     requires within { All (IsWithin (names_held book.old.names)) workers.old }
     ensures taken { HasTaken book.old book.new workers.old }
     ensures room { names_held book.new.names ≡ names_held book.old.names }

@@ -1,0 +1,87 @@
+//! The workers of a phase run at once.
+ghost use Rattle.std.specs.Prelude.{◌≤◌, length};
+
+use crate::{Gate, SharedKit, on_threads};
+use pas_report::Records;
+use pas_trace::read_trace;
+use std::process::Abort;
+use std::sync::Wait;
+use std::sync::atomic::AtomicBool;
+use std::sync::atomic::Ordering::SeqCst;
+use std::test::Fail;
+use std::thread::Threads;
+
+/// Two threads, with two operations each in one phase.
+const TRACE: &str =
+    "pas 1 pages 4 threads 2 heaps 1 age 2\na 1 1 0 16 16\na 1 2 0 16 16\na 2 3 0 32 16\na 2 4 0 32 16\n";
+
+/// How often a thread looks whether the other is there.
+const TURNS: u32 = 100_000_000;
+
+/// Holds each of the two threads before its second operation until the first one of the other is answered.
+#[derive(Drop)]
+struct Meeting {
+    answered: [AtomicBool; 2],
+    gave_up: AtomicBool,
+}
+
+impl Gate for Meeting {
+    fn before(&self, actor: u8, number: u32) {
+        if number == 2 && !self.is_met(actor) {
+            self.gave_up.store(true, SeqCst);
+        }
+    }
+
+    fn after(&self, actor: u8, number: u32) {
+        if number == 1 {
+            self.answered[actor as usize % 2].store(true, SeqCst);
+        }
+    }
+}
+
+impl Meeting {
+    fn new() -> Meeting {
+        Meeting {
+            answered: [AtomicBool::new(false), AtomicBool::new(false)],
+            gave_up: AtomicBool::new(false),
+        }
+    }
+
+    /// Whether the first operation of the other thread was answered before the turns ended.
+    fn is_met(&self, actor: u8) -> bool {
+        let other = (actor as usize + 1) % 2;
+        for _ in 0..TURNS {
+            if self.answered[other].load(SeqCst) {
+                return true;
+            }
+        }
+        false
+    }
+}
+
+/// Whether both threads met in a replay of the trace.
+fn meet(
+    rt: &(impl Abort + AllocGlobal + Threads + Wait + Sync),
+    text: &[u8],
+) -> Result<bool, Fail>
+    requires { length text.now ≤ 16777216 }
+{
+    let Ok(plan) = read_trace(rt.alloc(), text) else {
+        return Ok(false);
+    };
+    let kit = SharedKit::try_new(rt.alloc(), &plan)?;
+    let mut records = Records::try_new(
+        rt.alloc(),
+        plan.total,
+        plan.phases.as_slice().len() as u32,
+    )?;
+    let meeting = Meeting::new();
+    let _state = on_threads(rt, &plan, kit, &meeting, &mut records);
+    Ok(!meeting.gave_up.load(SeqCst))
+}
+
+#[test]
+fn the_workers_of_a_phase_run_at_once(rt: HostRuntime) -> Result<(), Fail> {
+    assert!(rt; meet(&rt, TRACE.as_bytes())?);
+    Ok(())
+}
