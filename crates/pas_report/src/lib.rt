@@ -14,7 +14,7 @@ mod tests;
 pub mod text;
 pub mod transcript;
 
-pub use lines::{event_line, record_line, said_line};
+pub use lines::{event_line, push_record, record_line, said_line};
 pub use marking::{Marks, page_marks};
 pub use pages::{page_line, total_line};
 pub use record::{Record, Said};

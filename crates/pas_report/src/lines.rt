@@ -55,12 +55,14 @@ pub fn said_line(actor: u8, said: &Said) -> Line
     line
 }
 
-/// Adds the line of a record, of at most 128 bytes.
+/// Adds the line of a record, which has at most 128 bytes, at the end of a text. There must be room for 128 bytes, and a deed's class must
+/// be below 16. Takes no memory, and time in the length of the line.
 #[inline(always)]
-pub(crate) fn push_record<const C: usize>(text: &mut ArrayString<C>, item: &Record)
+pub fn push_record<const C: usize>(text: &mut ArrayString<C>, item: &Record)
     requires shown { CanShow item.now }
     requires room { array_string_len text.old + 128 ≤ C }
-    ensures { text.new.bytes ≡ text.old.bytes ++ line_of item.now }
+    ensures bytes { text.new.bytes ≡ text.old.bytes ++ line_of item.now }
+    ensures len { array_string_len text.new ≤ array_string_len text.old + 128 }
 {
     match item {
         Record::Event(event) => push_event(text, event),
@@ -75,7 +77,8 @@ pub(crate) fn push_record<const C: usize>(text: &mut ArrayString<C>, item: &Reco
 fn push_event<const C: usize>(text: &mut ArrayString<C>, event: &Event)
     requires shown { IsShowable event.now }
     requires room { array_string_len text.old + 128 ≤ C }
-    ensures { text.new.bytes ≡ text.old.bytes ++ line_of_event event.now }
+    ensures bytes { text.new.bytes ≡ text.old.bytes ++ line_of_event event.now }
+    ensures len { array_string_len text.new ≤ array_string_len text.old + 128 }
 {
     match *event {
         Event::Deed {
@@ -103,7 +106,8 @@ fn push_event<const C: usize>(text: &mut ArrayString<C>, event: &Event)
 /// Adds the line of an answer to this actor.
 fn push_said<const C: usize>(text: &mut ArrayString<C>, actor: u8, said: &Said)
     requires { array_string_len text.old + 128 ≤ C }
-    ensures { text.new.bytes ≡ text.old.bytes ++ line_of_answer actor said.now }
+    ensures bytes { text.new.bytes ≡ text.old.bytes ++ line_of_answer actor said.now }
+    ensures len { array_string_len text.new ≤ array_string_len text.old + 128 }
 {
     match *said {
         Said::NoSpace { name } => push_numbered(text, actor, " no-space name ", name as u64),
@@ -124,7 +128,8 @@ fn push_said<const C: usize>(text: &mut ArrayString<C>, actor: u8, said: &Said)
 /// Adds the line of the start of a phase.
 fn push_phase<const C: usize>(text: &mut ArrayString<C>, phase: u32)
     requires { array_string_len text.old + 128 ≤ C }
-    ensures { text.new.bytes ≡ text.old.bytes ++ line_of (Record.Phase phase) }
+    ensures bytes { text.new.bytes ≡ text.old.bytes ++ line_of (Record.Phase phase) }
+    ensures len { array_string_len text.new ≤ array_string_len text.old + 128 }
 {
     push_field(text, "phase ", phase);
     text.push_str("\n");
@@ -134,7 +139,8 @@ fn push_phase<const C: usize>(text: &mut ArrayString<C>, phase: u32)
 fn push_deed<const C: usize>(text: &mut ArrayString<C>, actor: u8, page: u32, directory: Directory)
     requires kind { IsKind directory.kind }
     requires room { array_string_len text.old + 128 ≤ C }
-    ensures { text.new.bytes ≡ text.old.bytes ++ deed_text actor page directory }
+    ensures bytes { text.new.bytes ≡ text.old.bytes ++ deed_text actor page directory }
+    ensures len { array_string_len text.new ≤ array_string_len text.old + 128 }
 {
     push_number(text, actor);
     push_field(text, " deed page ", page);
@@ -147,7 +153,8 @@ fn push_deed<const C: usize>(text: &mut ArrayString<C>, actor: u8, page: u32, di
 /// Adds the line of a page that is backed now.
 fn push_back<const C: usize>(text: &mut ArrayString<C>, actor: u8, page: u32)
     requires { array_string_len text.old + 128 ≤ C }
-    ensures { text.new.bytes ≡ text.old.bytes ++ back_text actor page }
+    ensures bytes { text.new.bytes ≡ text.old.bytes ++ back_text actor page }
+    ensures len { array_string_len text.new ≤ array_string_len text.old + 128 }
 {
     push_number(text, actor);
     push_field(text, " back page ", page);
@@ -157,7 +164,8 @@ fn push_back<const C: usize>(text: &mut ArrayString<C>, actor: u8, page: u32)
 /// Adds the line of a page whose memory went back.
 fn push_unback<const C: usize>(text: &mut ArrayString<C>, actor: u8, page: u32, epoch: u64)
     requires { array_string_len text.old + 128 ≤ C }
-    ensures { text.new.bytes ≡ text.old.bytes ++ unback_text actor page epoch }
+    ensures bytes { text.new.bytes ≡ text.old.bytes ++ unback_text actor page epoch }
+    ensures len { array_string_len text.new ≤ array_string_len text.old + 128 }
 {
     push_number(text, actor);
     push_field(text, " unback page ", page);
@@ -168,7 +176,8 @@ fn push_unback<const C: usize>(text: &mut ArrayString<C>, actor: u8, page: u32, 
 /// Adds the line of a block that was given.
 fn push_give<const C: usize>(text: &mut ArrayString<C>, actor: u8, block: Block)
     requires { array_string_len text.old + 128 ≤ C }
-    ensures { text.new.bytes ≡ text.old.bytes ++ give_text actor block }
+    ensures bytes { text.new.bytes ≡ text.old.bytes ++ give_text actor block }
+    ensures len { array_string_len text.new ≤ array_string_len text.old + 128 }
 {
     push_number(text, actor);
     text.push_str(" give");
@@ -181,7 +190,8 @@ fn push_give<const C: usize>(text: &mut ArrayString<C>, actor: u8, block: Block)
 /// Adds the line of a block that ended.
 fn push_freed<const C: usize>(text: &mut ArrayString<C>, actor: u8, name: Name, epoch: u64)
     requires { array_string_len text.old + 128 ≤ C }
-    ensures { text.new.bytes ≡ text.old.bytes ++ freed_text actor name epoch }
+    ensures bytes { text.new.bytes ≡ text.old.bytes ++ freed_text actor name epoch }
+    ensures len { array_string_len text.new ≤ array_string_len text.old + 128 }
 {
     push_number(text, actor);
     text.push_str(" freed");
@@ -194,7 +204,8 @@ fn push_freed<const C: usize>(text: &mut ArrayString<C>, actor: u8, name: Name, 
 fn push_refused<const C: usize>(text: &mut ArrayString<C>, actor: u8, cause: &str, block: Name)
     requires short { length cause.now ≤ 32 }
     requires room { array_string_len text.old + 128 ≤ C }
-    ensures { text.new.bytes ≡ text.old.bytes ++ refused_text actor cause.now block }
+    ensures bytes { text.new.bytes ≡ text.old.bytes ++ refused_text actor cause.now block }
+    ensures len { array_string_len text.new ≤ array_string_len text.old + 128 }
 {
     push_number(text, actor);
     text.push_str(cause);
@@ -206,7 +217,8 @@ fn push_refused<const C: usize>(text: &mut ArrayString<C>, actor: u8, cause: &st
 fn push_numbered<const C: usize>(text: &mut ArrayString<C>, actor: u8, words: &str, number: u64)
     requires short { length words.now ≤ 32 }
     requires room { array_string_len text.old + 128 ≤ C }
-    ensures { text.new.bytes ≡ text.old.bytes ++ numbered_text actor words.now number }
+    ensures bytes { text.new.bytes ≡ text.old.bytes ++ numbered_text actor words.now number }
+    ensures len { array_string_len text.new ≤ array_string_len text.old + 128 }
 {
     push_number(text, actor);
     push_field(text, words, number);
@@ -216,7 +228,8 @@ fn push_numbered<const C: usize>(text: &mut ArrayString<C>, actor: u8, words: &s
 /// Adds the line of a page in other hands.
 fn push_held<const C: usize>(text: &mut ArrayString<C>, actor: u8, page: u32, name: u32)
     requires { array_string_len text.old + 128 ≤ C }
-    ensures { text.new.bytes ≡ text.old.bytes ++ held_text actor page name }
+    ensures bytes { text.new.bytes ≡ text.old.bytes ++ held_text actor page name }
+    ensures len { array_string_len text.new ≤ array_string_len text.old + 128 }
 {
     push_number(text, actor);
     push_field(text, " held ", page);
@@ -227,7 +240,8 @@ fn push_held<const C: usize>(text: &mut ArrayString<C>, actor: u8, page: u32, na
 /// Adds the line of a page that isn't empty for long enough.
 fn push_young<const C: usize>(text: &mut ArrayString<C>, actor: u8, page: u32, stamp: u64)
     requires { array_string_len text.old + 128 ≤ C }
-    ensures { text.new.bytes ≡ text.old.bytes ++ young_text actor page stamp }
+    ensures bytes { text.new.bytes ≡ text.old.bytes ++ young_text actor page stamp }
+    ensures len { array_string_len text.new ≤ array_string_len text.old + 128 }
 {
     push_number(text, actor);
     push_field(text, " young page ", page);
@@ -244,7 +258,8 @@ fn push_in_use<const C: usize>(
     value: u64,
 )
     requires { array_string_len text.old + 128 ≤ C }
-    ensures { text.new.bytes ≡ text.old.bytes ++ in_use_text actor page word value }
+    ensures bytes { text.new.bytes ≡ text.old.bytes ++ in_use_text actor page word value }
+    ensures len { array_string_len text.new ≤ array_string_len text.old + 128 }
 {
     push_number(text, actor);
     push_field(text, " in-use page ", page);

@@ -15,7 +15,7 @@ pub struct Records {
 }
 
 impl Records {
-    ghost use Rattle.std.specs.Prelude.{◌≡◌, ◌+◌, ◌++◌, ◌∷◌, [], IfOk, length};
+    ghost use Rattle.std.specs.Prelude.{◌≡◌, ◌+◌, ◌++◌, ◌∷◌, [], true, IfOk, length};
     ghost use Rattle.pas_report.specs.Rooms.{records_in, room_of};
 
     /// Room for the records of a replay that says at most `bound` answers in so many phases, with its close: `bound + phases + 1`.
@@ -46,8 +46,18 @@ impl Records {
         self.items.push_reserved(item);
     }
 
+    /// Whether this room is empty, and the memory of each of the two is large enough for all records of the other.
+    fn can_exchange(&self, other: &Records) -> bool
+        ensures { result ≡ true → (records_in self.now ≡ []) × (room_of self.now ≤ vec_capacity other.now.items) × (room_of other.now ≤ vec_capacity self.now.items) }
+    {
+        self.items.is_empty()
+            && other.items.capacity() as u64 >= self.bound
+            && self.items.capacity() as u64 >= other.bound
+    }
+
     /// Moves the records of another room to the end of this one, where there must be room for them. The other is empty then, with the
-    /// room that it had.
+    /// room that it had. Where this room is empty and the memory of each is large enough for all records of the other, the two memories
+    /// are exchanged and no record is moved. Otherwise the cost is a copy of each record of the other.
     pub fn append(&mut self, other: &mut Records)
         requires { length (records_in self.old) + length (records_in other.old) ≤ room_of self.old }
         ensures added { records_in self.new ≡ records_in self.old ++ records_in other.old }
@@ -55,6 +65,10 @@ impl Records {
         ensures size { room_of self.new ≡ room_of self.old }
         ensures other_size { room_of other.new ≡ room_of other.old }
     {
+        if self.can_exchange(other) {
+            std::mem::swap(&mut self.items, &mut other.items);
+            return;
+        }
         let Ok(()) = self.items.append(&mut other.items) else {
             unreachable!();
         };

@@ -4,8 +4,8 @@ use Rattle.pas_report.specs.Lines.{name_text}
 use Rattle.pas_report.proofs.Texts.{then_piece, then_field}
 use Rattle.pas_report.proofs.lines.push_give.Goals as goal
 
-pub returns : goal.returns
-returns g c =
+pub returns-clause-bytes : goal.returns-clause-bytes
+returns-clause-bytes g c =
     then_piece _ _ _ (decimal c.args.actor) _ c.push_number.ensures.bytes
     (then_piece _ _ _ (codes " give") _ c.push_str.ensures.bytes
     (then_piece _ _ _ (name_text c.args.block.name) _ c.push_name.ensures.bytes

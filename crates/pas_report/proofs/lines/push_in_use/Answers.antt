@@ -4,8 +4,8 @@ use Rattle.pas_report.specs.Lines.{hex_digits}
 use Rattle.pas_report.proofs.Texts.{then_piece, then_field}
 use Rattle.pas_report.proofs.lines.push_in_use.Goals as goal
 
-pub returns : goal.returns
-returns g c =
+pub returns-clause-bytes : goal.returns-clause-bytes
+returns-clause-bytes g c =
     then_piece _ _ _ (decimal c.args.actor) _ c.push_number.ensures.bytes
     (then_field _ _ _ (codes " in-use page ") (decimal c.args.page) _ c.push_field.ensures.bytes
     (then_field _ _ _ (codes " word ") (decimal c.args.word) _ c.push_field-2.ensures.bytes

@@ -28,7 +28,7 @@ loop-item-preserved g c =
     let kept = c.in_ok-make_room.ensures.keeps (g.K.Sink.held c.args.sink.now) c.loop-item.invariant.text c.loop-item.invariant.put_out in
     record {
       text = c.loop-item.invariant.text ++ line;
-      put_out = put_more (g.K.Sink.held c.args.sink.now) (g.K.Sink.held c.make_room.new.sink) c.make_room.new.lines.bytes c.push_record.new.text.bytes c.loop-item.invariant.text line c.push_record.ensures kept;
+      put_out = put_more (g.K.Sink.held c.args.sink.now) (g.K.Sink.held c.make_room.new.sink) c.make_room.new.lines.bytes c.push_record.new.text.bytes c.loop-item.invariant.text line c.push_record.ensures.bytes kept;
       rest = append_assoc c.loop-item.invariant.text line (lines_of (drop (c.loop-item.item-index + 1) c.args.records.now))
           ∙ ap (λ (t : List ℕ). c.loop-item.invariant.text ++ t) (sym more)
           ∙ c.loop-item.invariant.rest;
