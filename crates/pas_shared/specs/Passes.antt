@@ -15,11 +15,15 @@ use Rattle.pas_region.specs.Noted.{room_of_notes}
 use Rattle.pas_shared.specs.Ruled.{view_in, parts_in, HasPart}
 use Rattle.pas_shared.specs.declared.rule.Roster.{Roster}
 use Rattle.pas_shared.specs.declared.region.SharedRegion.{SharedRegion}
+use Rattle.pas_shared.specs.declared.region.Opening.{Opening}
 use Rattle.pas_shared.specs.declared.pass.SharedPass.{SharedPass}
 use Rattle.pas_shared.specs.declared.desk.SharedDesk.{SharedDesk}
 
 abbrev pub profile_of : SharedRegion → Profile
 profile_of region = region.profile
+
+abbrev pub profile_of_opening : Opening → Profile
+profile_of_opening opening = opening.region.profile
 
 -- the list of the actor's own steps
 abbrev pub view_of : SharedPass → View

@@ -16,4 +16,4 @@ pub mod rule;
 pub use closing::close;
 pub use desk::SharedDesk;
 pub use pass::SharedPass;
-pub use region::SharedRegion;
+pub use region::{Opening, SharedRegion};

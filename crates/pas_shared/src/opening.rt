@@ -3,11 +3,11 @@ ghost use Rattle.std.specs.Prelude.{◌≡◌, ◌+◌, ◌<◌, ◌≤◌, [], 
 ghost use Rattle.pas_profile.specs.Profiles.{IsValid};
 ghost use Rattle.pas_profile.specs.Rooms.{shown};
 ghost use Rattle.pas_shared.specs.Ruled.{alone};
-ghost use Rattle.pas_shared.specs.Passes.{profile_of, IsPassOf, IsFresh, AreFresh, AreFreshOf};
+ghost use Rattle.pas_shared.specs.Passes.{profile_of, profile_of_opening, IsPassOf, IsFresh, AreFresh, AreFreshOf};
 ghost use Rattle.pas_shared.specs.declared.rule.Roster.TheVariants.{Unused};
 
 use crate::pass::{ActorSeat, SharedPass};
-use crate::region::SharedRegion;
+use crate::region::{Opening, SharedRegion};
 use crate::rule::{SplitsFirst, TableSeat, TableWords};
 use atomic_table::Table;
 use pas_profile::{EventRoom, Layout, NoMemory, Profile};
@@ -71,6 +71,28 @@ fn deal(
     Ok(passes)
 }
 
+impl Opening {
+    /// A region that nobody used yet, and at which nobody has a seat. It costs two passes over the words, and refuses only where
+    /// memory is wanting.
+    pub fn try_new(alloc: Global, profile: Profile) -> Result<Opening, NoMemory>
+        requires { IsValid profile }
+        ensures { IfOk result (λ opening. profile_of_opening opening ≡ profile) }
+    {
+        let layout = Layout::new(&profile);
+        let words = opening_words(alloc, &layout)?;
+        let Ok((table, seat)) = Table::of_words(alloc, &words, &profile) else {
+            return Err(NoMemory);
+        };
+        let region = SharedRegion {
+            table,
+            profile,
+            layout,
+            closed_words: words,
+        };
+        Ok(Opening { region, seat })
+    }
+}
+
 impl SharedRegion {
     /// A region that nobody used yet, and the passes of its actors: that of the scavenger, which is actor 0, and those of the
     /// threads, each with the room at its number. It costs two passes over the words, and a load for each actor. It refuses only
@@ -87,20 +109,32 @@ impl SharedRegion {
         ensures passes { IfOk result (λ opened. AreFreshOf opened.0 rooms.items opened.1.items) }
         ensures of { IfOk result (λ opened. All (IsPassOf opened.0) opened.1.items) }
     {
-        let layout = Layout::new(&profile);
-        let words = opening_words(alloc, &layout)?;
-        let Ok((table, mut seat)) = Table::of_words(alloc, &words, &profile) else {
-            return Err(NoMemory);
-        };
-        let passes = deal(alloc, &table.shared, &mut seat, profile, rooms)?;
-        Ok((
-            SharedRegion {
-                table,
-                profile,
-                layout,
-                closed_words: words,
-            },
-            passes,
-        ))
+        SharedRegion::try_new_at(alloc, Opening::try_new(alloc, profile)?, rooms)
     }
+
+    /// The region of the opening, and the passes of its actors, as `try_new` gives them. It costs a load for each actor, whatever
+    /// the number of words. It refuses only where memory is wanting.
+    pub fn try_new_at(
+        alloc: Global,
+        opening: Opening,
+        rooms: Vec<EventRoom>,
+    ) -> Result<(SharedRegion, Vec<SharedPass>), NoMemory>
+        requires actors { vec_len rooms ≡ (profile_of_opening opening).threads + 1 }
+        requires empty { All (λ room. shown room ≡ []) rooms.items }
+        ensures profile { IfOk result (λ opened. profile_of opened.0 ≡ profile_of_opening opening) }
+        ensures passes { IfOk result (λ opened. AreFreshOf opened.0 rooms.items opened.1.items) }
+        ensures of { IfOk result (λ opened. All (IsPassOf opened.0) opened.1.items) }
+    {
+        let Opening { region, mut seat } = opening;
+        let passes = deal(alloc, &region.table.shared, &mut seat, region.profile, rooms)?;
+        Ok((region, passes))
+    }
+}
+
+/// Asks of a type that its values may be handed from one thread to another.
+fn asks_send<T: Send>() {}
+
+/// An opening may be.
+fn an_opening_is_sent() {
+    asks_send::<Opening>();
 }

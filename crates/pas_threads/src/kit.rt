@@ -8,6 +8,7 @@ ghost use Rattle.pas_cache.specs.Caches.{cached};
 ghost use Rattle.pas_report.specs.Rooms.{records_in, room_of};
 ghost use Rattle.pas_answers.specs.Replays.{phases_of, empty_cache, Shows};
 ghost use Rattle.pas_answers.specs.Ways.{OnThreads};
+ghost use Rattle.pas_shared.specs.Passes.{profile_of_opening};
 ghost use Rattle.pas_shared.specs.declared.pass.SharedPass.{SharedPass as ThePass};
 ghost use Rattle.pas_threads.specs.Kits.{IsEquipped, AreEquipped, IsSupplied, IsTeamOf, IsKitOf, slots_of, AreAllBack};
 
@@ -21,7 +22,7 @@ use pas_profile::NoMemory;
 use pas_replay::kit::{caches_for, outcomes_from, rooms_of};
 use pas_replay::limits::names_limit;
 use pas_report::Records;
-use pas_shared::{SharedPass, SharedRegion, close};
+use pas_shared::{Opening, SharedPass, SharedRegion, close};
 use pas_steps::State;
 use pas_trace::Plan;
 use pas_utility::{Outcomes, Utility};
@@ -175,16 +176,26 @@ fn passes_of(team: Team, mut passes: Vec<SharedPass>) -> Vec<SharedPass>
 }
 
 impl SharedKit {
-    /// The kit of a plan: its rooms are as large as the bounds of the plan's actors say. NoMemory where memory was wanting. Costs two passes over the words of
-    /// the region, one over the plan, and two over the numbers of its names.
+    /// The kit of a plan: its rooms are as large as the bounds of the plan's actors say, and the busiest thread has room for the records of all. NoMemory
+    /// where memory was wanting. Costs two passes over the words of the region, one over the plan, and two over the numbers of its names.
     pub fn try_new(alloc: Global, plan: &Plan) -> Result<SharedKit, NoMemory>
         requires { (text : List ℕ) × IsPlanOf text plan.now }
+        ensures { IfOk result (λ kit. IsKitOf plan.now kit) }
+    {
+        SharedKit::try_new_at(alloc, plan, Opening::try_new(alloc, plan.profile)?)
+    }
+
+    /// The kit of a plan, as `try_new` gives it, at a region that was opened before, with the plan's profile. NoMemory where memory was wanting. Costs one pass
+    /// over the plan, and two over the numbers of its names, whatever the number of the region's words.
+    pub fn try_new_at(alloc: Global, plan: &Plan, opening: Opening) -> Result<SharedKit, NoMemory>
+        requires plan { (text : List ℕ) × IsPlanOf text plan.now }
+        requires profile { profile_of_opening opening ≡ plan.now.profile }
         ensures { IfOk result (λ kit. IsKitOf plan.now kit) }
     {
         let count = plan.profile.threads;
         let mut utility = Utility::try_new(alloc, &plan.profile, plan.bounds.as_slice())?;
         let rooms = rooms_of(alloc, &mut utility, count)?;
-        let (region, mut others) = SharedRegion::try_new(alloc, plan.profile, rooms)?;
+        let (region, mut others) = SharedRegion::try_new_at(alloc, opening, rooms)?;
         let first = others.remove(0);
         let team = team_for(alloc, plan, &mut utility, first, others)?;
         let Ok(passes) = Vec::with_capacity(alloc, count as usize + 1) else {

@@ -1,6 +1,8 @@
 -- What stands at the front of a text.
-use Rattle.std.specs.Prelude.{ℕ, ◌<◌, ◌≡◌, Bool, true, List, ◌∷◌, ◌++◌, length, Some, Ok}
+use Rattle.std.specs.Prelude.{ℕ, ◌<◌, ◌≡◌, Bool, true, List, [], ◌∷◌, ◌++◌, length, Option, None, Some, Ok}
+use Rattle.pas_profile.specs.declared.profile.Profile.{Profile}
 use Rattle.pas_trace.specs.Texts.{lines_of}
+use Rattle.pas_trace.specs.Reasons.{header_of}
 use Rattle.pas_trace.specs.Numbers.{all_digits, number_of}
 use Rattle.pas_trace.specs.Items.{item_of_line}
 use Rattle.pas_trace.specs.declared.item.Item.{Item}
@@ -18,3 +20,11 @@ pub record FirstSays (text : List ℕ) (item : Item) (rest : List ℕ) : Type 0 
   pub cut : lines_of text ≡ line ∷ lines_of rest
   pub shorter : length rest < length text
   pub says : (started : Bool) → item_of_line started line ≡ Ok item
+
+-- the region that the first line of a text names, if there is one and it is a header
+abbrev pub header_of_first : List (List ℕ) → Option Profile
+header_of_first [] = None
+header_of_first (line ∷ lines) = header_of line
+
+abbrev pub first_header : List ℕ → Option Profile
+first_header text = header_of_first (lines_of text)

@@ -1,9 +1,12 @@
 //! The first line of a trace.
 ghost use Rattle.std.specs.Prelude.{◌≡◌, ◌<◌, ◌≤◌, ◌∷◌, IfSome, MatchOption, length};
+ghost use Rattle.pas_profile.specs.Profiles.{IsValid};
+ghost use Rattle.pas_trace.specs.FirstLines.{first_header};
 ghost use Rattle.pas_trace.specs.Texts.{words_of};
 ghost use Rattle.pas_trace.specs.Numbers.{number_of};
 ghost use Rattle.pas_trace.specs.Reasons.{within, profile_with, header_of};
 
+use crate::lines::next_line;
 use crate::numbers::number;
 use crate::words::{is_word, next_word};
 use pas_profile::Profile;
@@ -71,4 +74,14 @@ pub fn read_header(line: &[u8]) -> Option<Profile>
     } else {
         None
     }
+}
+
+/// The region that the first line of a text names, before any heap is marked as shared. None where there is no line, or where the
+/// first is no header. It costs two passes over that line, and looks at no other.
+pub fn header_of_text(text: &[u8]) -> Option<Profile>
+    ensures header { result ≡ first_header text.now }
+    ensures valid { IfSome result (λ header. IsValid header) }
+{
+    let (line, _) = next_line(text)?;
+    read_header(line)
 }

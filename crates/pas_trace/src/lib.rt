@@ -20,6 +20,7 @@ mod tests;
 mod words;
 
 pub use fault::{ReadFault, Reason, TraceFault};
+pub use header::header_of_text;
 pub use numbers::number;
 pub use plan::{Bounds, Op, Phase, Phases, Plan, What};
 pub use reader::read_trace;

@@ -4,8 +4,8 @@ use Rattle.pas_profile.specs.Layouts.{index_of, words_of}
 use Rattle.pas_profile.specs.Profiles.{IsWordIn}
 use Rattle.pas_shared.specs.declared.rule.Roster.TheVariants.{Unused}
 use Rattle.pas_shared.specs.Ruled.{AreAfterOneList}
-use Rattle.pas_shared.proofs.Opened.{begins, fresh_are_of}
-use Rattle.pas_shared.proofs.region.SharedRegion.try_new.Goals as goal
+use Rattle.pas_shared.proofs.Opened.{begins}
+use Rattle.pas_shared.proofs.region.Opening.try_new.Goals as goal
 
 pub of_words-requires : goal.of_words-requires
 of_words-requires c =
@@ -17,8 +17,3 @@ of_words-requires c =
     let sized = sym words.ok.0 ∙ c.in_ok-words.ensures.sized ∙ (λ i. words_of (pages i) (heaps i)) in
     subst (λ (ws : List ℕ). AreAfterOneList f ws (Unused 0 ∷ [])) (sym c.deref.ensures.value)
     (begins f words.items sized (λ w hw. ap (λ (n : ℕ). slice_index words.items (index_of n w)) (sym pages) ∙ c.in_ok-words.ensures.values w (subst (λ (z : ℕ × ℕ). IsWordIn z.0 z.1 w) (λ i. (sym pages i, sym heaps i)) hw)))
-
-pub returns-clause-of : goal.returns-clause-of
-returns-clause-of c =
-    let at = c.in-Ok.ensures in
-    fresh_are_of _ _ 0 c.args.rooms.items c.in_ok-passes.passes.items c.in_ok-passes.ensures

@@ -1,0 +1,62 @@
+use Rattle.std.proofs.Common.{ℕ, List, Some, length, slice_index, ap, sym, ◌∙◌, subst, arith}
+use Rattle.std.proofs.lemmas.Option.{same_Some}
+use Rattle.pas_trace.specs.Plans.{bounds_of}
+use Rattle.pas_shared.specs.declared.pass.SharedPass.{SharedPass}
+use Rattle.pas_shared.proofs.Opened.{fresh_many}
+use Rattle.pas_replay.proofs.PlanFacts.{plan_valid, plan_bounds}
+use Rattle.pas_threads.specs.Kits.{AreNew}
+use Rattle.pas_threads.proofs.Starting.{fresh_new, first_taken}
+use Rattle.pas_threads.proofs.kit.SharedKit.try_new_at.Goals as goal
+
+pub try_new-requires : goal.try_new-requires
+try_new-requires c = record { bounds = ap (λ (bs : List ℕ). length bs) c.as_slice.ensures ∙ plan_bounds c.requires.plan.1 }
+
+pub rooms_of-requires-clause-few : goal.rooms_of-requires-clause-few
+rooms_of-requires-clause-few c = (plan_valid c.requires.plan.1).threads
+
+pub rooms_of-requires-clause-left : goal.rooms_of-requires-clause-left
+rooms_of-requires-clause-left c = λ k le. (slice_index c.as_slice.result.now k, c.in_ok-utility.ensures.rooms k le)
+
+pub remove-first-requires : goal.remove-first-requires
+remove-first-requires c =
+    let many = c.in_ok-rooms.ensures.rooms.many in
+    let same = fresh_many _ _ _ _ _ c.in_ok-region.ensures.passes in
+    let long = c.in_ok-region.others.ok.0 in
+    omega (arith, many, same, long)
+
+pub team_for-requires-clause-passes : goal.team_for-requires-clause-passes
+team_for-requires-clause-passes c =
+    let many = c.in_ok-rooms.ensures.rooms.many in
+    let same = fresh_many _ _ _ _ _ c.in_ok-region.ensures.passes in
+    let long = c.in_ok-region.others.ok.0 in
+    let left = c.remove-first.ensures.len in
+    let rest = c.remove-first.new.self.ok.0 in
+    omega (arith, many, same, long, left, rest)
+
+pub returns : goal.returns
+returns c =
+    let plan = c.args.plan.now in
+    let region = c.in_ok-region.region in
+    let bounds = bounds_of plan.bounds in
+    let rooms = c.in_ok-rooms.ensures.rooms in
+    let many = rooms.many in
+    let fresh = c.in_ok-region.ensures.passes in
+    let same = fresh_many _ _ _ _ _ fresh in
+    let long = c.in_ok-region.others.ok.0 in
+    let left = c.remove-first.ensures.len in
+    let rest = c.remove-first.new.self.ok.0 in
+    let place = c.in-Ok.ensures.capacity in
+    record {
+      profile = c.in_ok-region.ensures.profile ∙ c.requires.profile;
+      first = c.remove-first.result;
+      others = c.remove-first.new.self.items;
+      many = omega (arith, many, same, long, left, rest);
+      unused = subst (λ (ps : List SharedPass). AreNew region bounds 0 ps)
+          (first_taken c.in_ok-region.others.items c.remove-first.new.self.items c.remove-first.result (omega (arith, many, same)) c.remove-first.ensures.value c.remove-first.ensures.items)
+          (fresh_new region bounds 0 c.in_ok-rooms.rooms.items c.in_ok-region.others.items fresh
+          (λ i d lt. same_Some _ _ (sym (rooms.each i d (omega (arith, lt, many))) ∙ c.in_ok-utility.ensures.rooms i (omega (arith, lt, many)) ∙ ap (λ (bs : List ℕ). Some (slice_index bs i)) c.as_slice.ensures)
+          ∙ ap (λ (n : ℕ). slice_index bounds n) (omega arith)));
+      team = c.in_ok-team.ensures;
+      none = c.in-Ok.ensures.items;
+      place = omega (arith, place);
+    }
