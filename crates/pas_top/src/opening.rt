@@ -6,7 +6,7 @@ ghost use Rattle.pas_threads.specs.Kits.{IsKitOf};
 use pas_profile::NoMemory;
 use pas_shared::Opening;
 use pas_threads::SharedKit;
-use pas_trace::{Plan, ReadFault, read_trace};
+use pas_trace::{Plan, ReadFault, header_of_text, read_trace};
 use std::alloc::Global;
 use std::thread::{Threads, join};
 
