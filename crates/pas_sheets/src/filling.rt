@@ -1,0 +1,60 @@
+//! Filling all sheets with the lines of a round, in several threads at once.
+ghost use Rattle.std.specs.Prelude.{◌≡◌, ◌<◌, ◌≤◌, ℕ, All, length, get_or};
+ghost use Rattle.arrayvec.specs.ArrayString.{ArrayString};
+ghost use Rattle.pas_report.specs.Lines.{CanShow, lines_of};
+ghost use Rattle.pas_sheets.specs.Texts.{part_of};
+
+use crate::sheets::{SHEET_RECORDS, Sheet};
+use pas_report::{Record, push_record};
+use std::thread::{Threads, available_parallelism, for_each_mut};
+
+/// How many threads are worth starting: as many as there are processors, or one where that isn't known.
+pub(crate) fn useful_threads<R: Threads>(rt: &R) -> usize
+    ensures { 0 < result }
+{
+    match available_parallelism(rt) {
+        Ok(count) => count.get(),
+        Err(_) => 1,
+    }
+}
+
+/// The records of the sheet at this place. Those after the round's last record have none.
+fn part(round: &[Record], place: usize) -> &[Record]
+    requires { place < 64 }
+    ensures { result.now ≡ part_of round.now place }
+{
+    let rest = &round[round.len().min(place * SHEET_RECORDS)..];
+    &rest[..rest.len().min(SHEET_RECORDS)]
+}
+
+/// Writes the lines of these records on the sheet, in place of what it held.
+fn fill(sheet: &mut Sheet, records: &[Record])
+    requires few { length records.now ≤ 512 }
+    requires shown { All CanShow records.now }
+    ensures { sheet.new.bytes ≡ lines_of records.now }
+{
+    sheet.clear();
+    for item in records {
+        push_record(sheet, item);
+    }
+}
+
+/// Fills each sheet with the lines of its part of the round, in at most so many threads.
+pub(crate) fn fill_all<R: Threads + Sync>(
+    rt: &R,
+    sheets: &mut [Sheet],
+    round: &[Record],
+    threads: usize,
+)
+    requires some { 0 < threads }
+    requires few { length sheets.old ≤ 64 }
+    requires shown { All CanShow round.now }
+    ensures { (place : ℕ) (d : ArrayString) → place < length sheets.old → (get_or sheets.new place d).bytes ≡ lines_of (part_of round.now place) }
+{
+    for_each_mut(
+        rt,
+        sheets,
+        threads,
+        &|place, sheet| fill(sheet, part(round, place)),
+    );
+}

@@ -1,0 +1,11 @@
+//! The lines of records, made by several threads at once.
+#![tactic(auto)]
+
+mod filling;
+mod sheets;
+#[cfg(test)]
+mod tests;
+mod writing;
+
+pub use sheets::Sheets;
+pub use writing::write_lines_on;
