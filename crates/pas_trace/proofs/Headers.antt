@@ -1,6 +1,6 @@
 -- A header has ten words, and its numbers are within the limits.
-use Rattle.std.proofs.Common.{◌≡◌, ℕ, ◌<◌, ◌≤◌, ◌&&◌, nat_le, Bool, true, false, if◌then◌else◌, List, [], ◌∷◌, length, Option, None, Some, refl, subst, arith}
-use Rattle.std.specs.Prelude.{codes}
+use Rattle.std.proofs.Common.{◌≡◌, ℕ, ◌<◌, ◌≤◌, ◌&&◌, nat_le, Bool, true, false, if◌then◌else◌, List, [], ◌∷◌, length, Option, None, Some, refl, sym, subst, arith}
+use Rattle.std.specs.Prelude.{codes, IfSome}
 use Rattle.std.proofs.lemmas.Bool.{leb-true, and_parts}
 use Rattle.pas_profile.specs.Profiles.{IsValid}
 use Rattle.pas_profile.specs.declared.profile.Profile.{Profile}
@@ -66,3 +66,7 @@ words_valid s f e = no_header f e
 
 pub header_valid : (line : List ℕ) (f : Profile) → header_of line ≡ Some f → IsValid f
 header_valid line f is = words_valid (words_of line) f is
+
+pub found_valid : (line : List ℕ) (found : Option Profile) → found ≡ header_of line → IfSome found (λ f. IsValid f)
+found_valid line None is = tt
+found_valid line (Some f) is = header_valid line f (sym is)
