@@ -9,26 +9,28 @@ use std::sync::Wait;
 use std::sync::atomic::AtomicBool;
 use std::sync::atomic::Ordering::SeqCst;
 use std::test::Fail;
-use std::thread::Threads;
+use std::thread::{Threads, yield_now};
 
 /// Two threads, with two operations each in one phase.
 const TRACE: &str =
     "pas 1 pages 4 threads 2 heaps 1 age 2\na 1 1 0 16 16\na 1 2 0 16 16\na 2 3 0 32 16\na 2 4 0 32 16\n";
 
-/// How often a thread looks whether the other is there.
-const TURNS: u32 = 100_000_000;
+/// How often a thread looks for the other's answer, and lets others run in between, before it gives up.
+const TURNS: u32 = 2_000_000;
 
-/// Holds each of the two threads before its second operation until the first one of the other is answered.
+/// Holds each of the two threads before its second operation until the other's first is answered.
 #[derive(Drop)]
 struct Meeting {
+    /// Of each thread, whether its first operation is answered.
     answered: [AtomicBool; 2],
-    gave_up: AtomicBool,
+    /// Of each thread, whether it came to its second operation and the other's first was answered then.
+    met: [AtomicBool; 2],
 }
 
 impl Gate for Meeting {
     fn before(&self, actor: u8, number: u32) {
-        if number == 2 && !self.is_met(actor) {
-            self.gave_up.store(true, SeqCst);
+        if number == 2 && self.is_other_there(actor) {
+            self.met[actor as usize % 2].store(true, SeqCst);
         }
     }
 
@@ -43,19 +45,25 @@ impl Meeting {
     fn new() -> Meeting {
         Meeting {
             answered: [AtomicBool::new(false), AtomicBool::new(false)],
-            gave_up: AtomicBool::new(false),
+            met: [AtomicBool::new(false), AtomicBool::new(false)],
         }
     }
 
-    /// Whether the first operation of the other thread was answered before the turns ended.
-    fn is_met(&self, actor: u8) -> bool {
+    /// Whether the other thread's first operation is answered before the turns end.
+    fn is_other_there(&self, actor: u8) -> bool {
         let other = (actor as usize + 1) % 2;
         for _ in 0..TURNS {
             if self.answered[other].load(SeqCst) {
                 return true;
             }
+            yield_now();
         }
         false
+    }
+
+    /// Whether each thread met the other.
+    fn have_met(&self) -> bool {
+        self.met[0].load(SeqCst) && self.met[1].load(SeqCst)
     }
 }
 
@@ -77,7 +85,7 @@ fn meet(
     )?;
     let meeting = Meeting::new();
     let _state = on_threads(rt, &plan, kit, &meeting, &mut records);
-    Ok(!meeting.gave_up.load(SeqCst))
+    Ok(meeting.have_met())
 }
 
 #[test]
