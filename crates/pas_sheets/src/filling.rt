@@ -39,6 +39,15 @@ fn fill(sheet: &mut Sheet, records: &[Record])
     }
 }
 
+/// Fills the sheet at this place with the lines of its part of the round.
+fn fill_at(sheet: &mut Sheet, round: &[Record], place: usize)
+    requires place { place < 64 }
+    requires shown { All CanShow round.now }
+    ensures { sheet.new.bytes ≡ lines_of (part_of round.now place) }
+{
+    fill(sheet, part(round, place));
+}
+
 /// Fills each sheet with the lines of its part of the round, in at most so many threads.
 pub(crate) fn fill_all<R: Threads + Sync>(
     rt: &R,
@@ -55,6 +64,6 @@ pub(crate) fn fill_all<R: Threads + Sync>(
         rt,
         sheets,
         threads,
-        &|place, sheet| fill(sheet, part(round, place)),
+        &|place, sheet| fill_at(sheet, round, place),
     );
 }
