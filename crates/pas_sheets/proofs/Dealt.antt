@@ -1,6 +1,6 @@
 -- Sheets that hold the parts of a round hold the round.
 use Rattle.std.proofs.Common.{◌≡◌, ℕ, zero, suc, ◌+◌, ◌*◌, ◌-◌, min, ◌<◌, ◌≤◌, List, [], ◌∷◌, ◌++◌, All, refl, ap, sym, ◌∙◌, subst, arith, append_assoc, length, length-take, get_or, take, drop}
-use Rattle.std.proofs.lemmas.List.{take_all, take_at, take_min, take_rest, drop_at, drop_min, drop-drop}
+use Rattle.std.proofs.lemmas.List.{length-take-le, take_all, take_min, take_rest, drop_at, drop_min, drop-drop}
 use Rattle.std.proofs.lemmas.List.Elements.{All-drop}
 use Rattle.std.proofs.Math.Seq.{take-add}
 use Rattle.arrayvec.specs.ArrayString.{ArrayString}
@@ -47,18 +47,18 @@ part_is round place start size start_is size_is =
 pub part_short : (round : List Record) (place : ℕ) → length (part_of round place) ≤ 512
 part_short round place = omega (arith, length-take 512 (drop (place * 512) round))
 
--- sheets that were filled, with the parts of a round for which they have room, and are read again
-pub filled_round : (old new sheets items : List ArrayString) (n : ℕ) (round : List Record) → sheets ≡ take n (new ++ drop (length new) items) → length new ≡ n → length old ≡ n → n ≡ 64 → length round ≤ 32768 → ((place : ℕ) (d : ArrayString) → place < length old → (get_or new place d).bytes ≡ lines_of (part_of round place)) → texts_of sheets ≡ lines_of round
-filled_round old new sheets items n round read size old_size all few filled =
-    let same : sheets ≡ new = read ∙ take_at new (drop (length new) items) n size in
+-- the first n sheets, which have room for the round, filled with its parts
+pub filled_round : (sheets new : List ArrayString) (n : ℕ) (round : List Record) → n ≤ length sheets → length new ≡ length (take n sheets) → length round ≤ n * 512 → ((place : ℕ) (d : ArrayString) → place < length (take n sheets) → (get_or new place d).bytes ≡ lines_of (part_of round place)) → texts_of new ≡ lines_of round
+filled_round sheets new n round fits same few filled =
+    let size = length-take-le n sheets fits in
     let each : AreFilled new round = λ place d within. filled place d (omega arith) in
-    ap texts_of same ∙ round_is new round (omega arith) each
+    round_is new round (omega arith) each
 
 -- the lines of one round more
-pub next_round : (records rest round more : List Record) (text piece : List ℕ) → rest ≡ round ++ more → piece ≡ lines_of round → text ++ lines_of rest ≡ lines_of records → text ++ (piece ++ lines_of more) ≡ lines_of records
-next_round records rest round more text piece rest_is piece_is before =
+pub next_round : (records rest round more : List Record) (text : List ℕ) → rest ≡ round ++ more → text ++ lines_of rest ≡ lines_of records → text ++ (lines_of round ++ lines_of more) ≡ lines_of records
+next_round records rest round more text rest_is before =
     let whole : lines_of rest ≡ lines_of round ++ lines_of more = ap lines_of rest_is ∙ lines_append round more in
-    ap (λ (t : List ℕ). text ++ (t ++ lines_of more)) piece_is ∙ ap (λ (t : List ℕ). text ++ t) (sym whole) ∙ before
+    ap (λ (t : List ℕ). text ++ t) (sym whole) ∙ before
 
 pub shown_after : (rest round more : List Record) → rest ≡ round ++ more → All CanShow rest → All CanShow more
 shown_after rest round more is shown =
