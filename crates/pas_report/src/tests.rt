@@ -225,5 +225,16 @@ fn rooms_of_records(rt: HostRuntime) -> Result<(), Fail> {
     room.push(Record::Close);
     assert_eq!(rt; room.spare(), 0);
     assert_eq!(rt; room.as_slice(), [Record::Close].as_slice());
+
+    let mut all = Records::try_new(rt.alloc(), 2, 0)?;
+    all.append(&mut room);
+    assert_eq!(rt; all.spare(), 2);
+    assert_eq!(rt; room.spare(), 1);
+    room.push(Record::Phase(1));
+    all.append(&mut room);
+    assert_eq!(rt;
+        all.as_slice(),
+        [Record::Close, Record::Phase(1)].as_slice()
+    );
     Ok(())
 }

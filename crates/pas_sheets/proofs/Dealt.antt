@@ -1,10 +1,11 @@
 -- Sheets that hold the parts of a round hold the round.
-use Rattle.std.proofs.Common.{◌≡◌, ℕ, zero, suc, ◌+◌, ◌*◌, ◌<◌, ◌≤◌, List, [], ◌∷◌, ◌++◌, refl, ap, sym, ◌∙◌, arith, append_assoc, length, get_or, take, drop}
-use Rattle.std.proofs.lemmas.List.{take_all, take-append-drop, drop-drop}
+use Rattle.std.proofs.Common.{◌≡◌, ℕ, zero, suc, ◌+◌, ◌*◌, ◌-◌, min, ◌<◌, ◌≤◌, List, [], ◌∷◌, ◌++◌, All, refl, ap, sym, ◌∙◌, subst, arith, append_assoc, length, length-take, get_or, take, drop}
+use Rattle.std.proofs.lemmas.List.{length-take-le, take_all, take_min, take_rest, drop_at, drop_min, drop-drop}
+use Rattle.std.proofs.lemmas.List.Elements.{All-drop}
 use Rattle.std.proofs.Math.Seq.{take-add}
 use Rattle.arrayvec.specs.ArrayString.{ArrayString}
 use Rattle.pas_report.specs.declared.record.Record.{Record}
-use Rattle.pas_report.specs.Lines.{line_of, lines_of}
+use Rattle.pas_report.specs.Lines.{CanShow, line_of, lines_of}
 use Rattle.pas_sheets.specs.Texts.{part_of, texts_of}
 
 -- each sheet holds the lines of its part
@@ -33,3 +34,33 @@ texts_are (sheet ∷ sheets) round filled =
 -- .. the whole round, where there are sheets enough
 pub round_is : (sheets : List ArrayString) (round : List Record) → length round ≤ length sheets * 512 → AreFilled sheets round → texts_of sheets ≡ lines_of round
 round_is sheets round few filled = texts_are sheets round filled ∙ ap lines_of (take_all (length sheets * 512) round few)
+
+-- what is cut out of a round is a part
+pub part_is : (round : List Record) (place start size : ℕ) → start ≡ min (length round) (place * 512) → size ≡ min (length (take (length round - start) (drop start round))) 512 → take size (take (length round - start) (drop start round)) ≡ part_of round place
+part_is round place start size start_is size_is =
+    let rest : List Record = take (length round - start) (drop start round) in
+    let start' : start ≡ min (place * 512) (length round) = omega arith in
+    let size' : size ≡ min 512 (length rest) = omega arith in
+    let all : rest ≡ drop (place * 512) round = take_rest round start ∙ ap (λ n. drop n round) start' ∙ drop_min (place * 512) round in
+    ap (λ n. take n rest) size' ∙ take_min 512 rest ∙ ap (λ (rs : List Record). take 512 rs) all
+
+pub part_short : (round : List Record) (place : ℕ) → length (part_of round place) ≤ 512
+part_short round place = omega (arith, length-take 512 (drop (place * 512) round))
+
+-- the first n sheets, which have room for the round, filled with its parts
+pub filled_round : (sheets new : List ArrayString) (n : ℕ) (round : List Record) → n ≤ length sheets → length new ≡ length (take n sheets) → length round ≤ n * 512 → ((place : ℕ) (d : ArrayString) → place < length (take n sheets) → (get_or new place d).bytes ≡ lines_of (part_of round place)) → texts_of new ≡ lines_of round
+filled_round sheets new n round fits same few filled =
+    let size = length-take-le n sheets fits in
+    let each : AreFilled new round = λ place d within. filled place d (omega arith) in
+    round_is new round (omega arith) each
+
+-- the lines of one round more
+pub next_round : (records rest round more : List Record) (text : List ℕ) → rest ≡ round ++ more → text ++ lines_of rest ≡ lines_of records → text ++ (lines_of round ++ lines_of more) ≡ lines_of records
+next_round records rest round more text rest_is before =
+    let whole : lines_of rest ≡ lines_of round ++ lines_of more = ap lines_of rest_is ∙ lines_append round more in
+    ap (λ (t : List ℕ). text ++ t) (sym whole) ∙ before
+
+pub shown_after : (rest round more : List Record) → rest ≡ round ++ more → All CanShow rest → All CanShow more
+shown_after rest round more is shown =
+    let more_is : drop (length round) rest ≡ more = ap (λ (rs : List Record). drop (length round) rs) is ∙ drop_at round more (length round) refl in
+    subst (λ (rs : List Record). All CanShow rs) more_is (All-drop CanShow (length round) rest shown)

@@ -1,7 +1,15 @@
 -- Texts that are written one after the other.
-use Rattle.std.proofs.Common.{◌≡◌, ℕ, List, ◌++◌, Option, ap, sym, ◌∙◌, append_assoc}
+use Rattle.std.proofs.Common.{◌≡◌, ℕ, ◌+◌, ◌<◌, List, [], ◌++◌, Option, None, Some, refl, ap, sym, ◌∙◌, append_assoc, append-nil, length, get_or, drop}
+use Rattle.std.proofs.lemmas.List.{at_drop_more}
+use Rattle.arrayvec.specs.ArrayString.{ArrayString}
 use Rattle.pas_io.specs.Told.{Writes, WritesFront}
 use Rattle.pas_io.proofs.Telling.{writes_more}
+use Rattle.pas_sheets.specs.Texts.{texts_of}
+
+-- nothing was written
+pub writes_none : (held : Option (List ℕ)) → Writes held held []
+writes_none None = refl
+writes_none (Some held) = ap Some (sym (append-nil held))
 
 -- the front of a piece, after all that came before it
 pub front_more : (before middle after : Option (List ℕ)) (text piece rest whole : List ℕ) → text ++ (piece ++ rest) ≡ whole → Writes before middle text → WritesFront middle after piece → WritesFront before after whole
@@ -9,3 +17,10 @@ front_more before middle after text piece rest whole is wrote (front, back, piec
     let parts : text ++ (piece ++ rest) ≡ (text ++ front) ++ (back ++ rest) =
     ap (λ (t : List ℕ). text ++ (t ++ rest)) piece_is ∙ ap (λ (t : List ℕ). text ++ t) (append_assoc front back rest) ∙ sym (append_assoc text front (back ++ rest)) in
     (text ++ front, back ++ rest, sym is ∙ parts, writes_more before middle after text front wrote last)
+
+-- the text of one sheet more
+pub next_text : (sheets : List ArrayString) (i : ℕ) (sheet : ArrayString) (text piece : List ℕ) → i < length sheets → sheet ≡ get_or sheets i sheet → piece ≡ sheet.bytes → text ++ texts_of (drop i sheets) ≡ texts_of sheets → text ++ (piece ++ texts_of (drop (i + 1) sheets)) ≡ texts_of sheets
+next_text sheets i sheet text piece within is piece_is before =
+    let bytes : piece ≡ (get_or sheets i sheet).bytes = piece_is ∙ ap (λ (s : ArrayString). s.bytes) is in
+    let more : texts_of (drop i sheets) ≡ (get_or sheets i sheet).bytes ++ texts_of (drop (i + 1) sheets) = at_drop_more texts_of sheets i sheet within in
+    ap (λ (t : List ℕ). text ++ (t ++ texts_of (drop (i + 1) sheets))) bytes ∙ ap (λ (t : List ℕ). text ++ t) (sym more) ∙ before

@@ -4,7 +4,7 @@ ghost use Rattle.arrayvec.specs.ArrayString.{ArrayString};
 ghost use Rattle.pas_report.specs.Lines.{CanShow, lines_of};
 ghost use Rattle.pas_sheets.specs.Texts.{part_of};
 
-use crate::sheets::{SHEET_RECORDS, Sheet};
+use crate::sheets::{SHEET_RECORDS, SHEETS, Sheet};
 use pas_report::{Record, push_record};
 use std::thread::{Threads, available_parallelism, for_each_mut};
 
@@ -20,7 +20,7 @@ pub(crate) fn useful_threads<R: Threads>(rt: &R) -> usize
 
 /// The records of the sheet at this place. Those after the round's last record have none.
 fn part(round: &[Record], place: usize) -> &[Record]
-    requires { place < 64 }
+    requires { place < SHEETS }
     ensures { result.now ≡ part_of round.now place }
 {
     let rest = &round[round.len().min(place * SHEET_RECORDS)..];
@@ -29,7 +29,7 @@ fn part(round: &[Record], place: usize) -> &[Record]
 
 /// Writes the lines of these records on the sheet, in place of what it held.
 fn fill(sheet: &mut Sheet, records: &[Record])
-    requires few { length records.now ≤ 512 }
+    requires few { length records.now ≤ SHEET_RECORDS }
     requires shown { All CanShow records.now }
     ensures { sheet.new.bytes ≡ lines_of records.now }
 {
@@ -37,6 +37,15 @@ fn fill(sheet: &mut Sheet, records: &[Record])
     for item in records {
         push_record(sheet, item);
     }
+}
+
+/// Fills the sheet at this place with the lines of its part of the round.
+fn fill_at(sheet: &mut Sheet, round: &[Record], place: usize)
+    requires place { place < SHEETS }
+    requires shown { All CanShow round.now }
+    ensures { sheet.new.bytes ≡ lines_of (part_of round.now place) }
+{
+    fill(sheet, part(round, place));
 }
 
 /// Fills each sheet with the lines of its part of the round, in at most so many threads.
@@ -47,7 +56,7 @@ pub(crate) fn fill_all<R: Threads + Sync>(
     threads: usize,
 )
     requires some { 0 < threads }
-    requires few { length sheets.old ≤ 64 }
+    requires few { length sheets.old ≤ SHEETS }
     requires shown { All CanShow round.now }
     ensures { (place : ℕ) (d : ArrayString) → place < length sheets.old → (get_or sheets.new place d).bytes ≡ lines_of (part_of round.now place) }
 {
@@ -55,6 +64,6 @@ pub(crate) fn fill_all<R: Threads + Sync>(
         rt,
         sheets,
         threads,
-        &|place, sheet| fill(sheet, part(round, place)),
+        &|place, sheet| fill_at(sheet, round, place),
     );
 }

@@ -1,5 +1,6 @@
 //! The sheets on which the lines of a round are made.
 ghost use Rattle.std.specs.Prelude.{◌≡◌, vec_len};
+ghost use Rattle.pas_sheets.specs.declared.sheets.TheConstants.{SHEETS};
 
 use arrayvec::ArrayString;
 use pas_profile::NoMemory;
@@ -19,7 +20,7 @@ pub(crate) type Sheet = ArrayString<65536>;
 #[derive(Drop)]
 pub struct Sheets {
     pub(crate) sheets: Vec<Sheet>,
-    ghost all: { vec_len sheets ≡ 64 },
+    ghost all: { vec_len sheets ≡ SHEETS },
 }
 
 impl Sheets {

@@ -1,5 +1,5 @@
 //! Writing the lines of records, a round of sheets at a time.
-ghost use Rattle.std.specs.Prelude.{◌≤◌, All, OnOk, OnErr};
+ghost use Rattle.std.specs.Prelude.{◌*◌, ◌<◌, ◌≤◌, All, OnOk, OnErr, length};
 ghost use Rattle.pas_io.specs.Told.{Rose, Writes, WritesFront};
 ghost use Rattle.pas_report.specs.Lines.{CanShow, lines_of};
 ghost use Rattle.pas_sheets.specs.Texts.{texts_of};
@@ -27,9 +27,32 @@ fn write_texts<K: Sink>(sheets: &[Sheet], sink: &mut K) -> Result<(), Failed>
     Ok(())
 }
 
-/// Writes the line of each record, in order. The lines are made by as many threads as there are processors, a round of 32,768 records at a
-/// time, and written by this one, some 64 KB or less at a time. It takes no memory. After a failure some first part of the lines was
-/// written.
+/// Makes the lines of a round on as many of the sheets as it takes, in at most so many threads, and writes them. There must be sheets
+/// enough. After a failure some first part of the lines was written.
+fn write_round<R: Threads + Sync, K: Sink>(
+    rt: &R,
+    sheets: &mut [Sheet],
+    round: &[Record],
+    threads: usize,
+    sink: &mut K,
+) -> Result<(), Failed>
+    requires some { 0 < threads }
+    requires sheets { length sheets.old ≤ SHEETS }
+    requires few { length round.now ≤ length sheets.old * SHEET_RECORDS }
+    requires shown { All CanShow round.now }
+    ensures whole { OnOk result (Writes (K.held sink.old) (K.held sink.new) (lines_of round.now)) }
+    ensures front { OnErr result (WritesFront (K.held sink.old) (K.held sink.new) (lines_of round.now)) }
+    ensures failed { OnErr result (Rose (K.faults sink.old) (K.faults sink.new)) }
+    ensures count { K.faults sink.old ≤ K.faults sink.new }
+{
+    let used = &mut sheets[..round.len().div_ceil(SHEET_RECORDS)];
+    fill_all(rt, used, round, threads);
+    write_texts(used, sink)
+}
+
+/// Writes the line of each record, in order. The lines are made a round of 32,768 records at a time, by as many threads as there are
+/// processors, and written by this one, at most 64 KB at a time; up to 512 records are one thread's. It takes no memory, and time in the
+/// length of the lines. After a failure some first part of the lines was written.
 pub fn write_lines_on<R: Threads + Sync, K: Sink>(
     rt: &R,
     sheets: &mut Sheets,
@@ -44,8 +67,7 @@ pub fn write_lines_on<R: Threads + Sync, K: Sink>(
 {
     let threads = useful_threads(rt);
     for round in records.chunks(ROUND_RECORDS) {
-        fill_all(rt, &mut sheets.sheets, round, threads);
-        write_texts(&sheets.sheets, sink)?;
+        write_round(rt, &mut sheets.sheets, round, threads, sink)?;
     }
     Ok(())
 }

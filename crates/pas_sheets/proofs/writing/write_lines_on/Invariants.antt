@@ -1,5 +1,4 @@
 use Rattle.std.proofs.Common.{◌≡◌, ◌≤◌, ◌++◌, ℕ, List, All}
-use Rattle.core.specs.Slice.Iter.{chunks_rest, chunks_size}
 use Rattle.pas_io.specs.Told.{Writes}
 use Rattle.pas_report.specs.Lines.{CanShow, lines_of}
 use Rattle.pas_sheets.proofs.writing.write_lines_on.Given as goal
@@ -9,8 +8,8 @@ abbrev pub invariant-loop-round : goal.invariant-loop-round
 invariant-loop-round g l = record {
   text : List ℕ;
   written : Writes (g.K.Sink.held l.fn.sink) (g.K.Sink.held l.sink) text;
-  rest : text ++ lines_of (chunks_rest l.round-iterator) ≡ lines_of l.records;
-  size : chunks_size l.round-iterator ≡ 32768;
-  shown : All CanShow (chunks_rest l.round-iterator);
+  rest : text ++ lines_of l.round-iterator.rest.now ≡ lines_of l.records;
+  size : l.round-iterator.size ≡ 32768;
+  shown : All CanShow l.round-iterator.rest.now;
   count : g.K.Sink.faults l.fn.sink ≤ g.K.Sink.faults l.sink;
 }
