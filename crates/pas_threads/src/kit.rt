@@ -1,5 +1,5 @@
 //! All that a replay on threads needs, and the replay.
-ghost use Rattle.std.specs.Prelude.{◌≡◌, ◌≤◌, ◌<◌, ◌+◌, ◌^◌, ℕ, List, IfOk, All, true, Some, [], map, length, vec_capacity, ◌++◌, ◌∷◌};
+ghost use Rattle.std.specs.Prelude.{◌≡◌, ◌≤◌, ◌<◌, ◌+◌, ◌^◌, ℕ, List, IfOk, All, true, Some, [], map, length, slice_index, vec_capacity, ◌++◌, ◌∷◌};
 ghost use Rattle.pas_profile.specs.declared.profile.Profile.{Profile as TheProfile};
 ghost use Rattle.pas_trace.specs.Plans.{IsPlanOf, bounds_of};
 ghost use Rattle.pas_utility.specs.Outcomes.{places_of};
@@ -39,18 +39,61 @@ pub struct SharedKit {
     passes: Vec<SharedPass>,
 }
 
-/// The worker of a thread, with room for so many requests and their records.
+/// Where the records of a whole replay have room: with this thread, and so many in so many phases.
+#[derive(Clone, Copy)]
+struct WholeRoom {
+    thread: usize,
+    total: u32,
+    phases: u32,
+}
+
+/// The first thread whose bound is greatest. The bounds are those of all actors.
+fn busiest(bounds: &[u32]) -> usize
+    ensures thread { 1 ≤ result }
+    ensures greatest { (k : ℕ) → 1 ≤ k → k < length bounds.now → slice_index bounds.now k ≤ slice_index bounds.now result }
+    ensures first { (k : ℕ) → 1 ≤ k → k < result → slice_index bounds.now k < slice_index bounds.now result }
+{
+    let mut busiest = 1;
+    for thread in 2..bounds.len() {
+        if bounds[thread] > bounds[busiest] {
+            busiest = thread;
+        }
+    }
+    busiest
+}
+
+/// Room for the records of a thread with this bound. That of one thread is large enough for the whole replay: where nothing was said before, what this thread
+/// says can become the record of the replay without being moved.
+fn records_for(
+    alloc: Global,
+    thread: usize,
+    bound: u32,
+    whole: WholeRoom,
+) -> Result<Records, NoMemory>
+    ensures empty { IfOk result (λ out. records_in out ≡ []) }
+    ensures size { IfOk result (λ out. bound ≤ room_of out) }
+{
+    if thread == whole.thread {
+        Records::try_new(alloc, bound.max(whole.total), whole.phases)
+    } else {
+        Records::try_new(alloc, bound, 0)
+    }
+}
+
+/// The worker of a thread, with this room for its records, and room for so many requests.
 fn worker_with(
     alloc: Global,
     pass: SharedPass,
     cache: ThreadCache,
     bound: u32,
+    out: Records,
 ) -> Result<Worker, NoMemory>
-    requires { cached cache ≡ empty_cache }
+    requires unused { cached cache ≡ empty_cache }
+    requires empty { records_in out ≡ [] }
+    requires size { bound ≤ room_of out }
     ensures { IfOk result (λ worker. IsEquipped pass bound worker) }
 {
     let requests = Requests::try_new(alloc, bound as usize)?;
-    let out = Records::try_new(alloc, bound, 0)?;
     Ok(Worker {
         pass: Some(pass),
         cache,
@@ -65,6 +108,7 @@ fn workers_for(
     passes: Vec<SharedPass>,
     mut caches: Vec<ThreadCache>,
     bounds: &[u32],
+    whole: WholeRoom,
 ) -> Result<Vec<Worker>, NoMemory>
     requires bounds { length bounds.now ≡ length passes.items + 1 }
     requires caches { length caches.items ≡ length passes.items }
@@ -80,8 +124,10 @@ fn workers_for(
         let Some(cache) = caches.pop() else {
             unreachable!();
         };
-        let bound = bounds[workers.len() + 1];
-        workers.push_reserved(worker_with(alloc, pass, cache, bound)?);
+        let thread = workers.len() + 1;
+        let bound = bounds[thread];
+        let out = records_for(alloc, thread, bound, whole)?;
+        workers.push_reserved(worker_with(alloc, pass, cache, bound, out)?);
     }
     Ok(workers)
 }
@@ -127,7 +173,12 @@ fn team_for(
     let bounds = plan.bounds.as_slice();
     let count = plan.profile.threads;
     let caches = caches_for(alloc, utility, count)?;
-    let threads = workers_for(alloc, others, caches, bounds)?;
+    let whole = WholeRoom {
+        thread: busiest(bounds),
+        total: plan.total,
+        phases: u32::try_from(plan.phases.as_slice().len()).unwrap_or(u32::MAX),
+    };
+    let threads = workers_for(alloc, others, caches, bounds, whole)?;
     let outcomes = outcomes_from(utility);
     let scavenger = scavenger_with(alloc, first, outcomes, bounds[0], count)?;
     let book = NameBook::try_new(alloc, names_limit(plan.phases.as_slice()))?;
