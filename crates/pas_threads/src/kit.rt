@@ -72,6 +72,7 @@ fn records_for(
 ) -> Result<Records, NoMemory>
     ensures empty { IfOk result (λ out. records_in out ≡ []) }
     ensures size { IfOk result (λ out. bound ≤ room_of out) }
+    ensures whole { thread ≡ whole.thread → IfOk result (λ out. whole.total + whole.phases + 1 ≤ room_of out) }
 {
     if thread == whole.thread {
         Records::try_new(alloc, bound.max(whole.total), whole.phases)
@@ -171,17 +172,18 @@ fn team_for(
     ensures { IfOk result (λ team. IsTeamOf plan.now first others.items team) }
 {
     let bounds = plan.bounds.as_slice();
+    let phases = plan.phases.as_slice();
     let count = plan.profile.threads;
     let caches = caches_for(alloc, utility, count)?;
     let whole = WholeRoom {
         thread: busiest(bounds),
         total: plan.total,
-        phases: u32::try_from(plan.phases.as_slice().len()).unwrap_or(u32::MAX),
+        phases: u32::try_from(phases.len()).unwrap_or(u32::MAX),
     };
     let threads = workers_for(alloc, others, caches, bounds, whole)?;
     let outcomes = outcomes_from(utility);
     let scavenger = scavenger_with(alloc, first, outcomes, bounds[0], count)?;
-    let book = NameBook::try_new(alloc, names_limit(plan.phases.as_slice()))?;
+    let book = NameBook::try_new(alloc, names_limit(phases))?;
     let Ok(hands) = Vec::with_capacity(alloc, count as usize + 1) else {
         return Err(NoMemory);
     };

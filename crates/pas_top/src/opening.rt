@@ -3,6 +3,7 @@ ghost use Rattle.std.specs.Prelude.{◌≡◌, ◌≤◌, ℕ, List, IfOk, lengt
 ghost use Rattle.pas_trace.specs.Plans.{IsPlanOf, IsReading};
 ghost use Rattle.pas_threads.specs.Kits.{IsKitOf};
 
+use crate::manner::Manner;
 use pas_profile::NoMemory;
 use pas_shared::Opening;
 use pas_threads::SharedKit;
@@ -12,7 +13,7 @@ use std::thread::{Threads, join};
 
 /// What the text comes to, and the region of its header, which is opened meanwhile. There is none where the first line is no header, or
 /// memory was wanting for it.
-pub(crate) fn read_and_open<R: Threads + Sync>(
+fn read_and_open<R: Threads + Sync>(
     rt: &R,
     alloc: Global,
     text: &[u8],
@@ -21,6 +22,22 @@ pub(crate) fn read_and_open<R: Threads + Sync>(
     ensures { IsReading text.now result.0 }
 {
     join(rt, || read_trace(alloc, text), || opening_of(alloc, text))
+}
+
+/// What the text comes to, and in a replay on threads the region of its header.
+pub(crate) fn read_for<R: Threads + Sync>(
+    rt: &R,
+    alloc: Global,
+    manner: Manner,
+    text: &[u8],
+) -> (Result<Plan, ReadFault>, Option<Opening>)
+    requires { length text.now ≤ 16777216 }
+    ensures { IsReading text.now result.0 }
+{
+    match manner {
+        Manner::InOrder => (read_trace(alloc, text), None),
+        Manner::OnThreads => read_and_open(rt, alloc, text),
+    }
 }
 
 /// The region that the first line names, with nobody at it.

@@ -10,7 +10,7 @@ ghost use Rattle.pas_top.specs.Manners.{way_of};
 ghost use Rattle.pas_top.specs.Outcomes.{IsOutcome, IsShown, IsWritable, outcome_status, outcome_text, shown_text};
 
 use crate::manner::Manner;
-use crate::opening::{kit_at, read_and_open};
+use crate::opening::{kit_at, read_for};
 use pas_io::whole::write_all;
 use pas_io::{Failed, Sink};
 use pas_profile::NoMemory;
@@ -21,7 +21,7 @@ use pas_shared::Opening;
 use pas_sheets::{Sheets, write_lines_on};
 use pas_steps::State;
 use pas_threads::{OpenGate, on_threads};
-use pas_trace::{Plan, ReadFault, Reason, TraceFault, read_trace};
+use pas_trace::{Plan, ReadFault, Reason, TraceFault};
 use std::alloc::Global;
 use std::sync::Wait;
 use std::thread::Threads;
@@ -49,10 +49,7 @@ pub(crate) fn outcome_of<R: Threads + Wait + Sync>(
     requires { length bytes.items ≤ 16777216 }
     ensures { IfOk result (IsOutcome (way_of manner) bytes.items) }
 {
-    let (read, opening) = match manner {
-        Manner::InOrder => (read_trace(alloc, &bytes), None),
-        Manner::OnThreads => read_and_open(rt, alloc, &bytes),
-    };
+    let (read, opening) = read_for(rt, alloc, manner, &bytes);
     drop(bytes);
     let plan = match read {
         Ok(plan) => plan,

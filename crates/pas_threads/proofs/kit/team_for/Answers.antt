@@ -35,7 +35,7 @@ returns c =
       book = record {
         no_name = c.in_ok-book.ensures.empty;
         names = subst (λ (n : ℕ). AllBelow n (phases_of plan)) (sym c.in_ok-book.ensures.room)
-            (subst (λ (ps : List Phase). AllBelow c.names_limit.result (map ops_of ps)) c.as_slice.ensures c.names_limit.ensures);
+            (subst (λ (ps : List Phase). AllBelow c.names_limit.result (map ops_of ps)) c.as_slice-phases.ensures c.names_limit.ensures);
       };
       places = record { workers = omega (arith, many, threads); hands = omega (arith, hands); lent = c.in_ok-scavenger.ensures.places; free = c.in-Ok.ensures.items };
     }

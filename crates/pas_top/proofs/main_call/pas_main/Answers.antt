@@ -1,4 +1,4 @@
-use Rattle.std.proofs.Common.{refl, subst, inl, arith}
+use Rattle.std.proofs.Common.{rules, refl, subst, inl, arith}
 use Rattle.pas_io.specs.Inputs.{IsInput}
 use Rattle.pas_top.specs.Outcomes.{outcome_status, outcome_text}
 use Rattle.pas_top.specs.Calls.{IsCall, IsMisread}
@@ -25,7 +25,7 @@ returns-in-Ok-TooLong-clause-sink_failed g c =
     (too_long_output _ _ _ asked (λ bytes told. let input = subst (IsInput most_bytes bytes) c.in-Ok-TooLong.field-0-is (c.in-Ok-TooLong.ensures.input bytes told) in input)) (λ e. omega (arith, e))
 
 pub tell_outcome-requires : goal.tell_outcome-requires
-tell_outcome-requires g c = can_write (way_of c.in-Ok-Replay.manner) c.in-Ok-Whole.bytes.items c.in-Ok.outcome c.in-Ok.ensures
+tell_outcome-requires g c = let can = can_write (way_of c.in-Ok-Replay.manner) c.in-Ok-Whole.bytes.items c.in-Ok.outcome c.in-Ok.ensures in search (rules, can)
 
 pub returns-in-Ok-clause-written : goal.returns-in-Ok-clause-written
 returns-in-Ok-clause-written g c = λ writing.
