@@ -226,15 +226,19 @@ fn rooms_of_records(rt: HostRuntime) -> Result<(), Fail> {
     assert_eq!(rt; room.spare(), 0);
     assert_eq!(rt; room.as_slice(), [Record::Close].as_slice());
 
-    let mut all = Records::try_new(rt.alloc(), 2, 0)?;
-    all.append(&mut room);
-    assert_eq!(rt; all.spare(), 2);
-    assert_eq!(rt; room.spare(), 1);
-    room.push(Record::Phase(1));
+    let mut all = Records::try_new(rt.alloc(), 1, 1)?;
+    let mut more = Records::try_new(rt.alloc(), 2, 0)?;
+    more.push(Record::Phase(1));
+    all.append(&mut more);
+    assert_eq!(rt; more.as_slice(), [].as_slice());
+    more.push(Record::Phase(2));
+    all.append(&mut more);
     all.append(&mut room);
     assert_eq!(rt;
         all.as_slice(),
-        [Record::Close, Record::Phase(1)].as_slice()
+        [Record::Phase(1), Record::Phase(2), Record::Close].as_slice()
     );
+    assert_eq!(rt; all.spare(), 0);
+    assert_eq!(rt; more.spare(), 3);
     Ok(())
 }

@@ -126,7 +126,13 @@ impl SharedRegion {
         ensures of { IfOk result (λ opened. All (IsPassOf opened.0) opened.1.items) }
     {
         let Opening { region, mut seat } = opening;
-        let passes = deal(alloc, &region.table.shared, &mut seat, region.profile, rooms)?;
+        let passes = deal(
+            alloc,
+            &region.table.shared,
+            &mut seat,
+            region.profile,
+            rooms,
+        )?;
         Ok((region, passes))
     }
 }

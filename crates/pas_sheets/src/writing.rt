@@ -51,8 +51,8 @@ fn write_round<R: Threads + Sync, K: Sink>(
 }
 
 /// Writes the line of each record, in order. The lines are made a round of 32,768 records at a time, by as many threads as there are
-/// processors, and written by this one, at most 64 KB at a time; up to 512 records are one thread's. It takes no memory, and time in the
-/// length of the lines. After a failure some first part of the lines was written.
+/// processors, and written by this one, at most 64 KB at a time. A round of up to 512 records starts no thread. It takes no
+/// memory but the threads' stacks, and time in the length of the lines. After a failure some first part of the lines was written.
 pub fn write_lines_on<R: Threads + Sync, K: Sink>(
     rt: &R,
     sheets: &mut Sheets,

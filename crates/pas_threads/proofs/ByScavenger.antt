@@ -6,25 +6,19 @@ use Rattle.pas_profile.specs.declared.profile.Profile.{Profile}
 use Rattle.pas_profile.specs.declared.name.Name.{Name}
 use Rattle.pas_profile.specs.declared.event.Event.{Event}
 use Rattle.pas_profile.specs.declared.event.Outcome.{Outcome}
-use Rattle.pas_profile.specs.declared.event.Outcome.TheVariants.{Unbacked, Bare, Young, InUse, NotOffered}
 use Rattle.pas_profile.specs.declared.word.Word.TheVariants as Word
 use Rattle.pas_steps.specs.Calls.{Calls}
 use Rattle.pas_steps.specs.Clear.{HasNothing}
 use Rattle.pas_steps.specs.Events.{events_by, events_of}
-use Rattle.pas_steps.specs.Kinds.{LookEpoch}
 use Rattle.pas_steps.specs.Lists.{part}
 use Rattle.pas_steps.specs.Views.{View}
 use Rattle.pas_steps.specs.Desks.{CanCall, Standing, Seat, Makes, made, triples}
 use Rattle.pas_steps.specs.declared.step.Made.{Made}
 use Rattle.pas_steps.specs.declared.step.Step.TheVariants.{Look, Tick}
-use Rattle.pas_steps.proofs.Called.{call_none, call_step}
-use Rattle.pas_steps.proofs.Calls.{does_idly}
 use Rattle.pas_steps.proofs.Frames.{events_split}
 use Rattle.pas_steps.proofs.SpareRoom.{Spares}
 use Rattle.pas_steps.proofs.Parts.{part_of_own, part_of_others}
-use Rattle.pas_scavenger.specs.Pages.{unback_of}
-use Rattle.pas_scavenger.specs.Passes.{PassSteps, unbacks_in}
-use Rattle.pas_scavenger.proofs.Trying.{nothing_still}
+use Rattle.pas_scavenger.specs.Passes.{PassSteps}
 use Rattle.pas_trace.specs.declared.plan.What.TheVariants.{Stop}
 use Rattle.pas_report.specs.Rooms.{records_in, room_of}
 use Rattle.pas_report.specs.declared.record.Record.{Record}

@@ -1,5 +1,5 @@
 -- How a kit is made, and where its team stands when a replay starts.
-use Rattle.std.proofs.Common.{◌≡◌, ℕ, zero, suc, ◌+◌, ◌*◌, ◌<◌, ◌≤◌, true, false, List, [], ◌∷◌, map, length, slice_index, slice_index_or, get_or, Some, None, refl, ap, sym, ◌∙◌, subst, arith}
+use Rattle.std.proofs.Common.{◌≡◌, ℕ, zero, suc, ◌+◌, ◌*◌, ◌<◌, ◌≤◌, List, [], ◌∷◌, map, length, slice_index, slice_index_or, get_or, refl, ap, sym, ◌∙◌, subst, arith}
 use Rattle.std.specs.List.{remove}
 use Rattle.std.proofs.lemmas.List.{length-map}
 use Rattle.std.proofs.Math.Nat.{suc-mul}
@@ -27,10 +27,8 @@ use Rattle.pas_answers.specs.Replays.{at_start, phases_of}
 use Rattle.pas_replay.proofs.NameLimits.{below_all}
 use Rattle.pas_replay.proofs.StartAndEnd.{nothing, nothing_owed}
 use Rattle.pas_threads.specs.Sessions.{WorkerRests, ScavengerRests, TeamAt, HasRoom, owed_by}
-use Rattle.pas_threads.specs.NameBooks.{NamesAt}
-use Rattle.pas_threads.specs.Kits.{IsNew, AreNew, IsEquipped, AreEquipped, IsSupplied, IsBookOf, IsKitOf}
+use Rattle.pas_threads.specs.Kits.{IsNew, AreNew, IsEquipped, AreEquipped, IsSupplied, IsKitOf}
 use Rattle.pas_threads.specs.declared.kit.SharedKit.{SharedKit}
-use Rattle.pas_threads.specs.declared.names.NameBook.{NameBook}
 use Rattle.pas_threads.specs.declared.scavenger.Scavenger.{Scavenger}
 use Rattle.pas_threads.specs.declared.workers.Worker.{Worker}
 use Rattle.pas_threads.proofs.Equipping.{equipped_many}

@@ -1,12 +1,11 @@
 -- The operations of one thread, one after the other.
-use Rattle.std.proofs.Common.{Option, ◌≡◌, ℕ, ◌+◌, ◌<◌, ◌≤◌, ◌==◌, Bool, true, false, if◌then◌else◌, List, [], ◌∷◌, ◌++◌, length, reverse, drop, get_or, refl, ap, sym, ◌∙◌, subst, arith, length-append, append_assoc, drop_of_length-le}
-use Rattle.std.proofs.lemmas.List.{append-nil, length-map, length-reverse, drop_more}
+use Rattle.std.proofs.Common.{Option, ◌≡◌, ℕ, ◌+◌, ◌<◌, ◌≤◌, ◌==◌, Bool, if◌then◌else◌, List, [], ◌∷◌, ◌++◌, length, drop, get_or, refl, ap, sym, ◌∙◌, subst, arith, length-append, append_assoc, drop_of_length-le}
+use Rattle.std.proofs.lemmas.List.{append-nil, drop_more}
 use Rattle.std.proofs.lemmas.Bool.{eq-eqb, ne_eqb}
 use Rattle.pas_profile.specs.declared.profile.Profile.{Profile}
 use Rattle.pas_profile.specs.declared.name.Name.{Name}
-use Rattle.pas_profile.specs.declared.event.Event.{Event}
 use Rattle.pas_steps.specs.Events.{events_of, events_by}
-use Rattle.pas_steps.specs.Lists.{Whole, part}
+use Rattle.pas_steps.specs.Lists.{part}
 use Rattle.pas_steps.specs.Views.{View}
 use Rattle.pas_steps.specs.Desks.{Seat, Standing, CanCall, triples}
 use Rattle.pas_steps.proofs.Frames.{events_split}
@@ -15,14 +14,13 @@ use Rattle.pas_steps.proofs.Parts.{part_of_own}
 use Rattle.pas_trace.specs.EveryPlan.{asked_after}
 use Rattle.pas_trace.specs.declared.plan.Op.{Op}
 use Rattle.pas_trace.specs.declared.plan.What.{What}
-use Rattle.pas_trace.specs.declared.plan.What.TheVariants.{Free}
 use Rattle.pas_report.specs.Rooms.{records_in, room_of}
 use Rattle.pas_report.specs.declared.record.Record.{Record}
 use Rattle.pas_report.specs.declared.records.Records.{Records}
 use Rattle.pas_cache.specs.Caches.{Cached, AtRest}
 use Rattle.pas_answers.specs.Acts.{Act, Operates, Settles}
-use Rattle.pas_answers.specs.Answers.{having, Answer, answer_of, Progress, with_records, Named, Caches, with_cache, settled, after_answer, after_settling, IsAnswered, records_of, said_by}
-use Rattle.pas_answers.specs.Calls.{HasTurn, AreKnown, IsMeant, IsKnown, named_by, freed_by, owed_events, MayAnswer, AnswersMeant}
+use Rattle.pas_answers.specs.Answers.{having, Answer, answer_of, Progress, with_records, Named, settled, after_answer, after_settling, IsAnswered, records_of, said_by}
+use Rattle.pas_answers.specs.Calls.{HasTurn, IsMeant, named_by, freed_by, owed_events, MayAnswer, AnswersMeant}
 use Rattle.pas_answers.specs.Fit.{IsFitWhat, AreFit, cost_of_what, own_costs_of}
 use Rattle.pas_answers.specs.Names.{block_named, names_held}
 use Rattle.pas_answers.proofs.KnownNames.{known_after}

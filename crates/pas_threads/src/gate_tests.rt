@@ -68,10 +68,7 @@ impl Meeting {
 }
 
 /// Whether both threads met in a replay of the trace.
-fn meet(
-    rt: &(impl Abort + AllocGlobal + Threads + Wait + Sync),
-    text: &[u8],
-) -> Result<bool, Fail>
+fn meet(rt: &(impl Abort + AllocGlobal + Threads + Wait + Sync), text: &[u8]) -> Result<bool, Fail>
     requires { length text.now ≤ 16777216 }
 {
     let Ok(plan) = read_trace(rt.alloc(), text) else {

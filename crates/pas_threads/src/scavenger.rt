@@ -21,7 +21,12 @@ pub(crate) struct Scavenger {
 }
 
 /// The scavenger sits down, does its operations of a phase, and rises.
-pub(crate) fn keep_up<G: Gate>(region: &SharedRegion, scavenger: &mut Scavenger, ops: &[Op], gate: &G)
+pub(crate) fn keep_up<G: Gate>(
+    region: &SharedRegion,
+    scavenger: &mut Scavenger,
+    ops: &[Op],
+    gate: &G,
+)
     requires few { length ops.now < 2 ^ 32 }
     requires may { MayScavenge region.now ops.now scavenger.old }
     ensures did { DidScavenge region.now ops.now scavenger.old scavenger.new }

@@ -338,7 +338,9 @@ fn headers_have_limits(rt: HostRuntime) {
 fn the_first_line_names_the_region(rt: HostRuntime) {
     let text = b"pas 1 pages 4 threads 2 heaps 1 age 2\nshared 0\nno line\n";
     let found = header_of_text(text);
-    assert!(rt; found.is_some_and(|header| header.pages == 4 && header.threads == 2 && header.shared == 0));
+    assert!(rt;
+        found.is_some_and(|header| header.pages == 4 && header.threads == 2 && header.shared == 0)
+    );
     assert!(rt; header_of_text(b"# pas\npas 1 pages 4 threads 2 heaps 1 age 2\n").is_none());
     assert!(rt; header_of_text(b"").is_none());
 }

@@ -1,8 +1,7 @@
-use Rattle.std.proofs.Common.{rules, ◌≡◌, ◌*◌, ◌≤◌, List, length, drop, take, ap, sym, subst, arith, All}
+use Rattle.std.proofs.Common.{◌*◌, List, length, drop, ap, sym, subst, arith, All}
 use Rattle.std.proofs.lemmas.List.Elements.{All-take, All-drop}
 use Rattle.pas_report.specs.declared.record.Record.{Record}
 use Rattle.pas_report.specs.Lines.{CanShow}
-use Rattle.pas_sheets.specs.Texts.{part_of}
 use Rattle.pas_sheets.proofs.Dealt.{part_short}
 use Rattle.pas_sheets.proofs.filling.fill_at.Goals as goal
 

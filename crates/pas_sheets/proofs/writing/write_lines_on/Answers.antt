@@ -1,4 +1,4 @@
-use Rattle.std.proofs.Common.{rules, ◌≡◌, ◌≤◌, ◌++◌, [], List, All, length, ap, sym, ◌∙◌, subst, arith, append_assoc}
+use Rattle.std.proofs.Common.{rules, ◌≡◌, ◌++◌, [], List, All, ap, sym, ◌∙◌, subst, arith, append_assoc}
 use Rattle.pas_io.proofs.Telling.{writes_more}
 use Rattle.pas_report.specs.declared.record.Record.{Record}
 use Rattle.pas_report.specs.Lines.{CanShow, lines_of}

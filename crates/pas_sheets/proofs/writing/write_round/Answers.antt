@@ -1,7 +1,6 @@
 use Rattle.std.proofs.Common.{rules, ◌≤◌, List, ℕ, length, subst, arith}
 use Rattle.std.proofs.lemmas.Result.{on_ok_weaker, on_err_weaker}
 use Rattle.pas_io.specs.Told.{Writes, WritesFront}
-use Rattle.pas_report.specs.Lines.{lines_of}
 use Rattle.pas_sheets.specs.Texts.{texts_of}
 use Rattle.pas_sheets.proofs.Dealt.{filled_round}
 use Rattle.pas_sheets.proofs.writing.write_round.Goals as goal

@@ -1,4 +1,4 @@
-use Rattle.std.proofs.Common.{List, ap, subst, length, arith}
+use Rattle.std.proofs.Common.{List, ap, length, arith}
 use Rattle.std.proofs.lemmas.List.{length-map}
 use Rattle.pas_trace.specs.Plans.{ops_of, phases_of as phases_in_order}
 use Rattle.pas_trace.specs.declared.plan.Phase.{Phase}
