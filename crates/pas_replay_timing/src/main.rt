@@ -5,12 +5,17 @@
 //! others, the input is no trace or memory is wanting, it prints `no replay`.
 #![tactic(auto)]
 
-mod timed;
+mod replaying;
 
+use pas_io::Source;
 use pas_io::real::RealSource;
 use pas_io::whole::{Input, read_all};
+use replaying::{Timed, Way, time_replay};
+use std::alloc::Global;
+use std::sync::Wait;
+use std::thread::Threads;
+use std::time::Clock;
 use std::{env, io};
-use timed::{Timed, Way, timed};
 
 /// The most bytes of a trace.
 const MOST_BYTES: usize = 16_777_216;
@@ -24,11 +29,15 @@ fn way_of(word: &str) -> Option<Way> {
     }
 }
 
-/// The replay of standard input in this way. None where it is no trace, or memory is wanting.
-fn replayed(rt: &HostRuntime, way: Way) -> io::Result<Option<Timed>> {
-    let mut source = RealSource::new(rt.stdin());
-    match read_all(rt.alloc(), &mut source, MOST_BYTES) {
-        Ok(Input::Whole(text)) => timed(rt, rt.alloc(), &text, way),
+/// The replay of what the source gives in this way. None where it is no trace, or memory is wanting.
+fn replayed<R: Clock + Threads + Wait + Sync, S: Source>(
+    rt: &R,
+    alloc: Global,
+    source: &mut S,
+    way: Way,
+) -> io::Result<Option<Timed>> {
+    match read_all(alloc, source, MOST_BYTES) {
+        Ok(Input::Whole(text)) => time_replay(rt, alloc, &text, way),
         _ => Ok(None),
     }
 }
@@ -40,7 +49,8 @@ fn main(rt: HostRuntime) -> io::Result<()> {
     let Some(way) = way else {
         return println!(rt; "no replay");
     };
-    let Some(Timed { records, took }) = replayed(&rt, way)? else {
+    let mut source = RealSource::new(rt.stdin());
+    let Some(Timed { records, took }) = replayed(&rt, rt.alloc(), &mut source, way)? else {
         return println!(rt; "no replay");
     };
     if is_shown {

@@ -38,7 +38,7 @@ fn room_for(alloc: Global, plan: &Plan) -> Option<Records>
 }
 
 /// The replay in the order of the text. None where memory is wanting.
-fn timed_in_order<R: Clock>(
+fn time_in_order<R: Clock>(
     rt: &R,
     alloc: Global,
     plan: &Plan,
@@ -59,7 +59,7 @@ fn timed_in_order<R: Clock>(
 }
 
 /// The replay on threads. None where memory is wanting.
-fn timed_on_threads<R: Clock + Threads + Wait + Sync>(
+fn time_on_threads<R: Clock + Threads + Wait + Sync>(
     rt: &R,
     alloc: Global,
     plan: &Plan,
@@ -80,7 +80,7 @@ fn timed_on_threads<R: Clock + Threads + Wait + Sync>(
 }
 
 /// The replay of the text in this way, from the kit on. None where the text is no trace, or memory is wanting.
-pub fn timed<R: Clock + Threads + Wait + Sync>(
+pub fn time_replay<R: Clock + Threads + Wait + Sync>(
     rt: &R,
     alloc: Global,
     text: &[u8],
@@ -95,8 +95,8 @@ pub fn timed<R: Clock + Threads + Wait + Sync>(
         return Ok(None);
     };
     let took = match way {
-        Way::InOrder => timed_in_order(rt, alloc, &plan, &mut out)?,
-        Way::OnThreads => timed_on_threads(rt, alloc, &plan, &mut out)?,
+        Way::InOrder => time_in_order(rt, alloc, &plan, &mut out)?,
+        Way::OnThreads => time_on_threads(rt, alloc, &plan, &mut out)?,
     };
     Ok(took.map(|took| Timed {
         records: out.as_slice().len(),
