@@ -100,7 +100,9 @@ pub(crate) fn tell_outcome<R: Threads + Wait + Sync, K: Sink>(
     ensures { Tells (K.held sink.old) (K.held sink.new) (K.faults sink.old) (K.faults sink.new) (outcome_text outcome.now) (outcome_status outcome.now) result }
 {
     match outcome {
-        Outcome::Replayed(records, state) => match write_replayed(rt, alloc, manner, records, state, sink) {
+        Outcome::Replayed(records, state) => match write_replayed(
+            rt, alloc, manner, records, state, sink,
+        ) {
             Ok(()) => 0,
             Err(Failed) => 4,
         },
