@@ -33,10 +33,10 @@ class Numbers:
         return (self.state >> 33) % n
 
 
-def generated(operations, threads, heaps, pages, live, seed=7):
-    """A trace whose threads take turns: each allocates from the classes until it has so many blocks, and then frees as often as it allocates."""
+def in_turns(operations, threads, live, request, seed=7):
+    """Lines of threads that take turns: each asks, for what `request` says by a source of numbers and the thread from 0, until it has so many
+    blocks, and then frees as often as it asks."""
     numbers, blocks, name = Numbers(seed), [[] for _ in range(threads)], 0
-    yield f"pas 1 pages {pages} threads {threads} heaps {heaps} age 2"
     for i in range(operations):
         thread = i % threads
         mine = blocks[thread]
@@ -47,7 +47,13 @@ def generated(operations, threads, heaps, pages, live, seed=7):
         else:
             name += 1
             mine.append(name)
-            yield f"a {thread + 1} {name} {numbers.below(heaps)} {CLASSES[numbers.below(16)]} 16"
+            yield f"a {thread + 1} {name} {request(numbers, thread)} 16"
+
+
+def generated(operations, threads, heaps, pages, live):
+    """A trace whose threads take turns, and ask for the sizes of classes in all heaps."""
+    yield f"pas 1 pages {pages} threads {threads} heaps {heaps} age 2"
+    yield from in_turns(operations, threads, live, lambda numbers, _: f"{numbers.below(heaps)} {CLASSES[numbers.below(16)]}")
 
 
 def refused(operations, pages):

@@ -17,7 +17,7 @@ import sys
 import tempfile
 import time
 
-from bench import Numbers, write_trace
+from bench import in_turns, write_trace
 
 THREADS = [1, 2, 4, 8, 16]
 WAYS = ["order", "run"]
@@ -26,22 +26,11 @@ LEAST, MOST = 16, 256
 LIVE = 20_000
 
 
-def generated(operations, threads, is_own, seed=7):
-    """A trace whose threads take turns: each asks until it has its share of the live blocks, and then frees as often as it asks. The heaps are
-    those of the threads, or one."""
-    numbers, blocks, name = Numbers(seed), [[] for _ in range(threads)], 0
+def generated(operations, threads, is_own):
+    """A trace whose threads take turns, with their shares of the live blocks. The heaps are those of the threads, or one."""
     yield f"pas 1 pages {PAGES} threads {threads} heaps {threads if is_own else 1} age 2"
-    for i in range(operations):
-        thread = i % threads
-        mine = blocks[thread]
-        if mine and (len(mine) >= LIVE // threads or numbers.below(2)):
-            at = numbers.below(len(mine))
-            mine[at], mine[-1] = mine[-1], mine[at]
-            yield f"f {thread + 1} {mine.pop()}"
-        else:
-            name += 1
-            mine.append(name)
-            yield f"a {thread + 1} {name} {thread if is_own else 0} {LEAST + numbers.below(MOST - LEAST + 1)} 16"
+    yield from in_turns(operations, threads, LIVE // threads,
+                        lambda numbers, thread: f"{thread if is_own else 0} {LEAST + numbers.below(MOST - LEAST + 1)}")
 
 
 def timed(program, way, path):

@@ -21,7 +21,8 @@ fn read_and_open<R: Threads + Sync>(
     requires { length text.now ≤ 16777216 }
     ensures { IsReading text.now result.0 }
 {
-    join(rt, || read_trace(alloc, text), || opening_of(alloc, text))
+    let (opening, read) = join(rt, || opening_of(alloc, text), || read_trace(alloc, text));
+    (read, opening)
 }
 
 /// What the text comes to, and in a replay on threads the region of its header.
