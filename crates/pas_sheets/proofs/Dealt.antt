@@ -1,7 +1,7 @@
 -- Sheets that hold the parts of a round hold the round.
 use Rattle.std.proofs.Common.{◌≡◌, ℕ, suc, ◌+◌, ◌*◌, ◌-◌, min, ◌<◌, ◌≤◌, List, [], ◌∷◌, ◌++◌, All, refl, ap, sym, ◌∙◌, subst, arith, append_assoc, length, length-take, get_or, take, drop}
-use Rattle.std.proofs.lemmas.List.{length-take-le, take_all, take_min, take_rest, drop_at, drop_min, drop-drop}
-use Rattle.std.proofs.lemmas.List.Elements.{All-drop}
+use Rattle.std.proofs.lemmas.List.{take_all, take_min, take_rest, drop_at, take_at, drop_min, drop-drop}
+use Rattle.std.proofs.lemmas.List.Elements.{All-take, All-drop}
 use Rattle.std.proofs.Math.Seq.{take-add}
 use Rattle.arrayvec.specs.ArrayString.{ArrayString}
 use Rattle.pas_report.specs.declared.record.Record.{Record}
@@ -47,20 +47,25 @@ part_is round place start size start_is size_is =
 pub part_short : (round : List Record) (place : ℕ) → length (part_of round place) ≤ 512
 part_short round place = omega (arith, length-take 512 (drop (place * 512) round))
 
--- the first n sheets, which have room for the round, filled with its parts
-pub filled_round : (sheets new : List ArrayString) (n : ℕ) (round : List Record) → n ≤ length sheets → length new ≡ length (take n sheets) → length round ≤ n * 512 → ((place : ℕ) (d : ArrayString) → place < length (take n sheets) → (get_or new place d).bytes ≡ lines_of (part_of round place)) → texts_of new ≡ lines_of round
-filled_round sheets new n round fits same few filled =
-    let size = length-take-le n sheets fits in
-    let each : AreFilled new round = λ place d within. filled place d (omega arith) in
-    round_is new round (omega arith) each
+-- the first round's lines, before those of the others
+pub first_round : (records first others : List Record) (text : List ℕ) → records ≡ first ++ others → text ≡ lines_of first → text ++ lines_of others ≡ lines_of records
+first_round records first others text is text_is = ap (λ (t : List ℕ). t ++ lines_of others) text_is ∙ sym (lines_append first others) ∙ ap lines_of (sym is)
 
--- the lines of one round more
-pub next_round : (records rest round more : List Record) (text : List ℕ) → rest ≡ round ++ more → text ++ lines_of rest ≡ lines_of records → text ++ (lines_of round ++ lines_of more) ≡ lines_of records
-next_round records rest round more text rest_is before =
+-- the lines of one round more, where a text was written and another holds the round's before
+pub next_round : (records rest round more : List Record) (text held next : List ℕ) → rest ≡ round ++ more → next ≡ lines_of round → text ++ (held ++ lines_of rest) ≡ lines_of records → (text ++ held) ++ (next ++ lines_of more) ≡ lines_of records
+next_round records rest round more text held next rest_is next_is before =
     let whole : lines_of rest ≡ lines_of round ++ lines_of more = ap lines_of rest_is ∙ lines_append round more in
-    ap (λ (t : List ℕ). text ++ t) (sym whole) ∙ before
+    ap (λ (t : List ℕ). (text ++ held) ++ (t ++ lines_of more)) next_is
+    ∙ ap (λ (t : List ℕ). (text ++ held) ++ t) (sym whole)
+    ∙ append_assoc text held (lines_of rest)
+    ∙ before
 
 pub shown_after : (rest round more : List Record) → rest ≡ round ++ more → All CanShow rest → All CanShow more
 shown_after rest round more is shown =
     let more_is : drop (length round) rest ≡ more = ap (λ (rs : List Record). drop (length round) rs) is ∙ drop_at round more (length round) refl in
     subst (λ (rs : List Record). All CanShow rs) more_is (All-drop CanShow (length round) rest shown)
+
+pub shown_before : (rest round more : List Record) → rest ≡ round ++ more → All CanShow rest → All CanShow round
+shown_before rest round more is shown =
+    let round_is : take (length round) rest ≡ round = ap (λ (rs : List Record). take (length round) rs) is ∙ take_at round more (length round) refl in
+    subst (λ (rs : List Record). All CanShow rs) round_is (All-take CanShow (length round) rest shown)

@@ -2,9 +2,9 @@
 ghost use Rattle.std.specs.Prelude.{◌≡◌, ◌<◌, ◌≤◌, ℕ, All, length, get_or};
 ghost use Rattle.arrayvec.specs.ArrayString.{ArrayString};
 ghost use Rattle.pas_report.specs.Lines.{CanShow, lines_of};
-ghost use Rattle.pas_sheets.specs.Texts.{part_of};
+ghost use Rattle.pas_sheets.specs.Texts.{part_of, texts_of};
 
-use crate::sheets::{SHEET_RECORDS, SHEETS, Sheet};
+use crate::sheets::{Batch, ROUND_RECORDS, SHEET_RECORDS, SHEETS, Sheet};
 use pas_report::{Record, push_record};
 use std::thread::{Threads, available_parallelism, for_each_mut};
 
@@ -49,7 +49,7 @@ fn fill_at(sheet: &mut Sheet, round: &[Record], place: usize)
 }
 
 /// Fills each sheet with the lines of its part of the round, in at most so many threads.
-pub(crate) fn fill_all<R: Threads + Sync>(
+fn fill_all<R: Threads + Sync>(
     rt: &R,
     sheets: &mut [Sheet],
     round: &[Record],
@@ -66,4 +66,20 @@ pub(crate) fn fill_all<R: Threads + Sync>(
         threads,
         &|place, sheet| fill_at(sheet, round, place),
     );
+}
+
+/// Lets the batch hold the lines of a round, made in at most so many threads. A round of up to 512 records starts none.
+pub(crate) fn fill_batch<R: Threads + Sync>(
+    rt: &R,
+    round: &[Record],
+    threads: usize,
+    batch: &mut Batch,
+)
+    requires some { 0 < threads }
+    requires few { length round.now ≤ ROUND_RECORDS }
+    requires shown { All CanShow round.now }
+    ensures { texts_of batch.new.sheets.items ≡ lines_of round.now }
+{
+    batch.resize(round.len().div_ceil(SHEET_RECORDS));
+    fill_all(rt, &mut batch.sheets, round, threads);
 }

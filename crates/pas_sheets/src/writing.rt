@@ -1,18 +1,16 @@
 //! Writing the lines of records, a round of sheets at a time.
-ghost use Rattle.std.specs.Prelude.{◌*◌, ◌<◌, ◌≤◌, All, OnOk, OnErr, length};
+ghost use Rattle.std.specs.Prelude.{◌≡◌, ◌<◌, ◌≤◌, All, OnOk, OnErr, length};
 ghost use Rattle.pas_io.specs.Told.{Rose, Writes, WritesFront};
 ghost use Rattle.pas_report.specs.Lines.{CanShow, lines_of};
 ghost use Rattle.pas_sheets.specs.Texts.{texts_of};
 
-use crate::filling::{fill_all, useful_threads};
-use crate::sheets::{SHEET_RECORDS, SHEETS, Sheet, Sheets};
+use crate::filling::{fill_batch, useful_threads};
+use crate::sheets::{Batch, ROUND_RECORDS, Sheet, Sheets};
 use pas_io::whole::write_all;
 use pas_io::{Failed, Sink};
 use pas_report::Record;
-use std::thread::Threads;
-
-/// The most records of a round.
-const ROUND_RECORDS: usize = SHEETS * SHEET_RECORDS;
+use std::mem::swap;
+use std::thread::{Threads, join_mut};
 
 /// Writes the texts of the sheets in order. After a failure some first part of them was written.
 fn write_texts<K: Sink>(sheets: &[Sheet], sink: &mut K) -> Result<(), Failed>
@@ -27,32 +25,43 @@ fn write_texts<K: Sink>(sheets: &[Sheet], sink: &mut K) -> Result<(), Failed>
     Ok(())
 }
 
-/// Makes the lines of a round on as many of the sheets as it takes, in at most so many threads, and writes them. There must be sheets
-/// enough. After a failure some first part of the lines was written.
-fn write_round<R: Threads + Sync, K: Sink>(
+/// Writes the full batch, while other threads fill the next one with a round. After a failure some first part of the texts was
+/// written, and the next batch is filled all the same.
+fn write_and_fill<R: Threads + Sync, K: Sink>(
     rt: &R,
-    sheets: &mut [Sheet],
+    full: &Batch,
     round: &[Record],
     threads: usize,
+    next: &mut Batch,
     sink: &mut K,
 ) -> Result<(), Failed>
     requires some { 0 < threads }
-    requires sheets { length sheets.old ≤ SHEETS }
-    requires few { length round.now ≤ length sheets.old * SHEET_RECORDS }
+    requires few { length round.now ≤ ROUND_RECORDS }
     requires shown { All CanShow round.now }
-    ensures whole { OnOk result (Writes (K.held sink.old) (K.held sink.new) (lines_of round.now)) }
-    ensures front { OnErr result (WritesFront (K.held sink.old) (K.held sink.new) (lines_of round.now)) }
+    ensures whole { OnOk result (Writes (K.held sink.old) (K.held sink.new) (texts_of full.now.sheets.items)) }
+    ensures front { OnErr result (WritesFront (K.held sink.old) (K.held sink.new) (texts_of full.now.sheets.items)) }
     ensures failed { OnErr result (Rose (K.faults sink.old) (K.faults sink.new)) }
     ensures count { K.faults sink.old ≤ K.faults sink.new }
+    ensures next { texts_of next.new.sheets.items ≡ lines_of round.now }
 {
-    let used = &mut sheets[..round.len().div_ceil(SHEET_RECORDS)];
-    fill_all(rt, used, round, threads);
-    write_texts(used, sink)
+    let mut fill = ||
+        requires { (0 < threads) × (length round.now ≤ ROUND_RECORDS) × All CanShow round.now }
+        ensures { texts_of next.exit.now.sheets.items ≡ lines_of round.entry.now }
+    { fill_batch(rt, round, threads, next) };
+    let mut write = || -> Result<(), Failed>
+        ensures whole { OnOk result (Writes (K.held sink.entry.now) (K.held sink.exit.now) (texts_of full.entry.now.sheets.items)) }
+        ensures front { OnErr result (WritesFront (K.held sink.entry.now) (K.held sink.exit.now) (texts_of full.entry.now.sheets.items)) }
+        ensures failed { OnErr result (Rose (K.faults sink.entry.now) (K.faults sink.exit.now)) }
+        ensures count { K.faults sink.entry.now ≤ K.faults sink.exit.now }
+    { write_texts(&full.sheets, sink) };
+    let ((), wrote) = join_mut(rt, &mut fill, &mut write);
+    wrote
 }
 
-/// Writes the line of each record, in order. The lines are made a round of 32,768 records at a time, by as many threads as there are
-/// processors, and written by this one, at most 64 KB at a time. A round of up to 512 records starts no thread. It takes no
-/// memory but the threads' stacks, and time in the length of the lines. After a failure some first part of the lines was written.
+/// Writes the line of each record, in order. The lines are made a round of 8,192 records at a time, by as many threads as there are
+/// processors, and each round's are written by this one, at most 64 KB at a time, while the others make those of the next. Up to 512
+/// records start no thread. It takes no memory but the threads' stacks, and time in the length of the lines. After a failure some
+/// first part of the lines was written.
 pub fn write_lines_on<R: Threads + Sync, K: Sink>(
     rt: &R,
     sheets: &mut Sheets,
@@ -66,8 +75,12 @@ pub fn write_lines_on<R: Threads + Sync, K: Sink>(
     ensures count { K.faults sink.old ≤ K.faults sink.new }
 {
     let threads = useful_threads(rt);
-    for round in records.chunks(ROUND_RECORDS) {
-        write_round(rt, &mut sheets.sheets, round, threads, sink)?;
+    let (first, others) = records.split_at(records.len().min(ROUND_RECORDS));
+    fill_batch(rt, first, threads, &mut sheets.full);
+    let fillers = threads.saturating_sub(1).max(1);
+    for round in others.chunks(ROUND_RECORDS) {
+        write_and_fill(rt, &sheets.full, round, fillers, &mut sheets.next, sink)?;
+        swap(&mut sheets.full, &mut sheets.next);
     }
-    Ok(())
+    write_texts(&sheets.full.sheets, sink)
 }
