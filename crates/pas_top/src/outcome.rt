@@ -35,8 +35,8 @@ pub(crate) enum Outcome {
     Faulty(TraceFault),
 }
 
-/// Fewer records than this aren't worth the start of a thread.
-const MANY_RECORDS: usize = 4096;
+/// Fewer records than this aren't worth the memory of the sheets and the start of threads.
+const MANY_RECORDS: usize = 100_000;
 
 /// Reads the bytes, lets them go, and replays the trace that they are in this manner. On threads the region is opened while the bytes are
 /// read. NoMemory comes before the replay begins, or not at all.
