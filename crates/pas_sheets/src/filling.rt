@@ -49,12 +49,7 @@ fn fill_at(sheet: &mut Sheet, round: &[Record], place: usize)
 }
 
 /// Fills each sheet with the lines of its part of the round, in at most so many threads.
-fn fill_all<R: Threads + Sync>(
-    rt: &R,
-    sheets: &mut [Sheet],
-    round: &[Record],
-    threads: usize,
-)
+fn fill_all<R: Threads + Sync>(rt: &R, sheets: &mut [Sheet], round: &[Record], threads: usize)
     requires some { 0 < threads }
     requires few { length sheets.old ≤ SHEETS }
     requires shown { All CanShow round.now }

@@ -36,13 +36,37 @@ fn lines_of_more_than_a_round(rt: HostRuntime) -> Result<(), Fail> {
     assert_eq!(rt; write_lines_on(&rt, &mut sheets, &marks, &mut made), Ok(()));
     assert_eq!(rt; made.held(), all.held());
 
-    let mut cut_off = sink(rt.alloc(), &[70])?;
+    let mut again = sink(rt.alloc(), &[])?;
     assert_eq!(rt;
-        write_lines_on(&rt, &mut sheets, &marks, &mut cut_off),
+        write_lines_on(&rt, &mut sheets, &marks, &mut again),
+        Ok(())
+    );
+    assert_eq!(rt; again.held(), all.held());
+    Ok(())
+}
+
+#[test]
+fn faults_cut_the_lines_off(rt: HostRuntime) -> Result<(), Fail> {
+    let marks = marks(rt.alloc(), 40_000)?;
+    let mut all = sink(rt.alloc(), &[])?;
+    assert_eq!(rt; write_lines(&marks, &mut all), Ok(()));
+
+    let mut sheets = Sheets::try_new(rt.alloc())?;
+    let mut between = sink(rt.alloc(), &[40])?;
+    assert_eq!(rt;
+        write_lines_on(&rt, &mut sheets, &marks, &mut between),
         Err(Failed)
     );
-    assert!(rt; all.held().starts_with(cut_off.held()));
-    assert!(rt; cut_off.held().len() > 300_000);
+    assert!(rt; all.held().starts_with(between.held()));
+    assert!(rt; between.held().len() > 200_000);
+
+    let mut last = sink(rt.alloc(), &[70])?;
+    assert_eq!(rt;
+        write_lines_on(&rt, &mut sheets, &marks, &mut last),
+        Err(Failed)
+    );
+    assert!(rt; all.held().starts_with(last.held()));
+    assert!(rt; last.held().len() > between.held().len() + 100_000);
     Ok(())
 }
 
