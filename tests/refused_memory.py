@@ -88,12 +88,21 @@ def full_log_and_cache():
     return ("\n".join(lines) + "\n").encode()
 
 
+def many_lines():
+    """A trace of one thread whose transcript is so long that other threads make its lines."""
+    lines = ["pas 1 pages 8 threads 1 heaps 1 age 2"]
+    for name in range(1, 55_001):
+        lines += [f"a 1 {name} 0 16 16", f"f 1 {name}"]
+    return ("\n".join(lines) + "\n").encode()
+
+
 TRACES = {
     "a small trace": b"pas 1 pages 4 threads 1 heaps 1 age 2\na 1 1 0 24 16\nf 1 1\n",
     "two threads in two phases": b"pas 1 pages 8 threads 2 heaps 1 age 2\na 1 1 0 16 16\na 2 2 0 16 16\nf 1 1\nphase\nf 2 1\nf 1 2\n",
     "two threads at once, and then the scavenger": b"pas 1 pages 1 threads 2 heaps 1 age 2\na 2 1 0 16 16\nr 1 0x00000008 0\nphase\nf 1 1\nidle 0\n",
     "one block that two threads free at once": b"pas 1 pages 1 threads 2 heaps 1 age 2\na 1 1 0 16 16\nphase\nf 1 1\nflush 1\nf 2 1\nflush 2\n",
     "a full log and a full cache, blocks of every kind": full_log_and_cache(),
+    "lines that other threads make": many_lines(),
     "a fault": b"pas 1 pages 4 threads 1 heaps 1 age 2\nf 1 1\n",
 }
 
