@@ -15,8 +15,11 @@ use std::thread::{Threads, yield_now};
 const TRACE: &str =
     "pas 1 pages 4 threads 2 heaps 1 age 2\na 1 1 0 16 16\na 1 2 0 16 16\na 2 3 0 32 16\na 2 4 0 32 16\n";
 
-/// How often a thread looks for the other's answer, and lets others run in between, before it gives up.
-const TURNS: u32 = 2_000_000;
+/// How often a thread looks for the other's answer before it gives up.
+const TURNS: u32 = 100_000_000;
+
+/// After so many turns it lets other threads run, which may be as many as the processors.
+const PATIENCE: u32 = 1024;
 
 /// Holds each of the two threads before its second operation until the other's first is answered.
 #[derive(Drop)]
@@ -52,11 +55,13 @@ impl Meeting {
     /// Whether the other thread's first operation is answered before the turns end.
     fn is_other_there(&self, actor: u8) -> bool {
         let other = (actor as usize + 1) % 2;
-        for _ in 0..TURNS {
+        for turn in 0..TURNS {
             if self.answered[other].load(SeqCst) {
                 return true;
             }
-            yield_now();
+            if turn % PATIENCE == 0 {
+                yield_now();
+            }
         }
         false
     }

@@ -235,12 +235,24 @@ impl SharedKit {
         requires { (text : List ℕ) × IsPlanOf text plan.now }
         ensures { IfOk result (λ kit. IsKitOf plan.now kit) }
     {
-        SharedKit::try_new_at(alloc, plan, Opening::try_new(alloc, plan.profile)?)
+        SharedKit::made_at(alloc, plan, Opening::try_new(alloc, plan.profile)?)
     }
 
-    /// The kit of a plan, as `try_new` gives it, at a region that was opened before, with the plan's profile. NoMemory where memory was wanting. Costs one pass
-    /// over the plan, and two over the numbers of its names, whatever the number of the region's words.
+    /// The kit of a plan, as `try_new` gives it, at a region that was opened before, where that has the plan's profile; otherwise the opening is let go, and the
+    /// region is a new one. NoMemory where memory was wanting. With the plan's profile it costs no pass over the words of the region.
     pub fn try_new_at(alloc: Global, plan: &Plan, opening: Opening) -> Result<SharedKit, NoMemory>
+        requires { (text : List ℕ) × IsPlanOf text plan.now }
+        ensures { IfOk result (λ kit. IsKitOf plan.now kit) }
+    {
+        if *opening.profile() == plan.profile {
+            return SharedKit::made_at(alloc, plan, opening);
+        }
+        drop(opening);
+        SharedKit::try_new(alloc, plan)
+    }
+
+    /// The kit of a plan at this region, which has the plan's profile.
+    fn made_at(alloc: Global, plan: &Plan, opening: Opening) -> Result<SharedKit, NoMemory>
         requires plan { (text : List ℕ) × IsPlanOf text plan.now }
         requires profile { profile_of_opening opening ≡ plan.now.profile }
         ensures { IfOk result (λ kit. IsKitOf plan.now kit) }

@@ -1,5 +1,5 @@
 //! A region that is opened while the text is read, and the kit over it.
-ghost use Rattle.std.specs.Prelude.{◌≡◌, ◌≤◌, ℕ, List, IfOk, length};
+ghost use Rattle.std.specs.Prelude.{◌≤◌, ℕ, List, IfOk, length};
 ghost use Rattle.pas_trace.specs.Plans.{IsPlanOf, IsReading};
 ghost use Rattle.pas_threads.specs.Kits.{IsKitOf};
 
@@ -47,8 +47,8 @@ fn opening_of(alloc: Global, text: &[u8]) -> Option<Opening> {
     Opening::try_new(alloc, profile).ok()
 }
 
-/// The kit of the plan: at the region that was opened, where that is the plan's, or else at a new one. A header says nothing of shared
-/// heaps, so the region of a plan that has some is a new one.
+/// The kit of the plan, at the region that was opened for it, if there is one. A header says nothing of shared heaps, so the region of a plan
+/// that has some is a new one.
 pub(crate) fn kit_at(
     alloc: Global,
     plan: &Plan,
@@ -57,12 +57,8 @@ pub(crate) fn kit_at(
     requires { (text : List ℕ) × IsPlanOf text plan.now }
     ensures { IfOk result (λ kit. IsKitOf plan.now kit) }
 {
-    let Some(opening) = opening else {
-        return SharedKit::try_new(alloc, plan);
-    };
-    if *opening.profile() == plan.profile {
-        return SharedKit::try_new_at(alloc, plan, opening);
+    match opening {
+        Some(opening) => SharedKit::try_new_at(alloc, plan, opening),
+        None => SharedKit::try_new(alloc, plan),
     }
-    drop(opening);
-    SharedKit::try_new(alloc, plan)
 }
