@@ -39,6 +39,12 @@ pub struct SharedKit {
     passes: Vec<SharedPass>,
 }
 
+/// The rooms of the actors of a replay that is over. They may be let go in another thread than that of the replay.
+#[derive(Drop)]
+pub struct Rooms {
+    _team: Team,
+}
+
 /// Where the records of a whole replay have room: with this thread, and so many in so many phases.
 #[derive(Clone, Copy)]
 struct WholeRoom {
@@ -208,22 +214,16 @@ fn add_pass(passes: &mut Vec<SharedPass>, slot: Option<SharedPass>)
     passes.push_reserved(pass);
 }
 
-/// The passes of all actors, from the scavenger on, at the places of this list.
-fn passes_of(team: Team, mut passes: Vec<SharedPass>) -> Vec<SharedPass>
+/// Takes the passes of all actors out, from the scavenger on, to the places of this list.
+fn passes_of(team: &mut Team, mut passes: Vec<SharedPass>) -> Vec<SharedPass>
     requires none { passes.items ≡ [] }
-    requires places { length team.threads.items < vec_capacity passes }
-    requires back { AreAllBack team }
-    ensures { map Some result.items ≡ slots_of team }
+    requires places { length team.old.threads.items < vec_capacity passes }
+    requires back { AreAllBack team.old }
+    ensures { map Some result.items ≡ slots_of team.old }
 {
-    let Team {
-        threads,
-        scavenger,
-        hands: _,
-        book: _,
-    } = team;
-    add_pass(&mut passes, scavenger.pass);
-    for worker in threads {
-        add_pass(&mut passes, worker.pass);
+    add_pass(&mut passes, team.scavenger.pass.take());
+    for place in 0..team.threads.len() {
+        add_pass(&mut passes, team.threads[place].pass.take());
     }
     passes
 }
@@ -274,6 +274,31 @@ impl SharedKit {
     }
 }
 
+/// Replays the plan as `on_threads` does, and gives the rooms of its actors out with the state: to let them go takes about as long as to write two lines in
+/// a hundred of what was said, which another thread can do.
+pub fn on_threads_with_rooms<R: Threads + Wait + Sync, G: Gate + Sync>(
+    rt: &R,
+    plan: &Plan,
+    kit: SharedKit,
+    gate: &G,
+    out: &mut Records,
+) -> (State, Rooms)
+    requires plan { (text : List ℕ) × (length text ≤ 16777216) × IsPlanOf text plan.now }
+    requires kit { IsKitOf plan.now kit }
+    requires empty { records_in out.old ≡ [] }
+    requires room { plan.now.total + length (phases_of plan.now) + 1 ≤ room_of out.old }
+    ensures { Shows OnThreads plan.now (records_in out.new) result.0 }
+{
+    let SharedKit {
+        region,
+        team,
+        passes,
+    } = kit;
+    let mut team = replay(rt, &region, team, plan.phases.as_slice(), gate, out);
+    let passes = passes_of(&mut team, passes);
+    (close(region, passes), Rooms { _team: team })
+}
+
 /// Replays the plan. In each phase the operations of each thread that has one are performed in a thread of the system, all at once, and those of the
 /// scavenger in another; a phase begins when the one before it is over. The records come phase by phase, and actor by actor in each. The gate is called
 /// round each operation. The result is the state of the region at the end, at which no actor holds a grain, has a right or owes anything.
@@ -293,11 +318,5 @@ pub fn on_threads<R: Threads + Wait + Sync, G: Gate + Sync>(
     requires room { plan.now.total + length (phases_of plan.now) + 1 ≤ room_of out.old }
     ensures { Shows OnThreads plan.now (records_in out.new) result }
 {
-    let SharedKit {
-        region,
-        team,
-        passes,
-    } = kit;
-    let team = replay(rt, &region, team, plan.phases.as_slice(), gate, out);
-    close(region, passes_of(team, passes))
+    on_threads_with_rooms(rt, plan, kit, gate, out).0
 }

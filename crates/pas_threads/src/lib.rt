@@ -19,4 +19,4 @@ mod turns;
 mod workers;
 
 pub use gate::{Gate, OpenGate};
-pub use kit::{SharedKit, on_threads};
+pub use kit::{Rooms, SharedKit, on_threads, on_threads_with_rooms};
