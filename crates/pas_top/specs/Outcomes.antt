@@ -20,7 +20,7 @@ pub record IsShowing (way : Way) (bytes : List ℕ) (records : List Record) (sta
   pub shows : Shows way plan records state
 
 abbrev pub IsOutcome : Way → List ℕ → Outcome → Type 0
-IsOutcome way bytes (Replayed records state) = IsShowing way bytes (records_in records) state
+IsOutcome way bytes (Replayed records ending) = IsShowing way bytes (records_in records) ending.state
 IsOutcome way bytes (Faulty fault) = parsed bytes ≡ Err fault
 
 -- records and a state that can be written
@@ -29,7 +29,7 @@ pub record IsShown (records : List Record) (state : State) : Type 0 where
   pub deeds : AreDeedWords state
 
 abbrev pub IsWritable : Outcome → Type 0
-IsWritable (Replayed records state) = IsShown (records_in records) state
+IsWritable (Replayed records ending) = IsShown (records_in records) ending.state
 IsWritable (Faulty fault) = Unit {0}
 
 -- ---- the text of an outcome, and its status
@@ -37,9 +37,9 @@ abbrev pub shown_text : List Record → State → List ℕ
 shown_text records state = lines_of records ++ report_by_words state
 
 abbrev pub outcome_text : Outcome → List ℕ
-outcome_text (Replayed records state) = shown_text (records_in records) state
+outcome_text (Replayed records ending) = shown_text (records_in records) ending.state
 outcome_text (Faulty fault) = fault_text fault
 
 abbrev pub outcome_status : Outcome → ℕ
-outcome_status (Replayed records state) = 0
+outcome_status (Replayed records ending) = 0
 outcome_status (Faulty fault) = 1

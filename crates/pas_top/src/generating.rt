@@ -5,8 +5,9 @@ ghost use Rattle.pas_top.specs.Generated.{Generates};
 
 use crate::job::Job;
 use crate::manner::Manner;
-use crate::outcome::{Outcome, outcome_of, tell};
+use crate::outcome::{Outcome, outcome_of};
 use crate::summary::summary_of;
+use crate::telling::tell;
 use pas_generate::trace_of;
 use pas_generated::laws::generated_texts_are_read;
 use pas_io::Sink;
@@ -31,8 +32,8 @@ pub(crate) fn generate<R: Threads + Wait + Sync, K: Sink>(
     };
     generated_texts_are_read();
     match outcome_of(rt, alloc, Manner::InOrder, text) {
-        Ok(Outcome::Replayed(records, state)) => {
-            let summary = summary_of(job.ops, records.as_slice(), &state);
+        Ok(Outcome::Replayed(records, ending)) => {
+            let summary = summary_of(job.ops, records.as_slice(), &ending.state);
             tell(sink, summary.as_str(), 0)
         }
         Ok(Outcome::Faulty(_)) => unreachable!(),

@@ -9,7 +9,9 @@ pub mod main_call;
 mod manner;
 mod opening;
 mod outcome;
+mod settling;
 mod summary;
+mod telling;
 #[cfg(test)]
 mod tests;
 #[cfg(test)]

@@ -39,11 +39,11 @@ fn is_taken(rt: &(impl AllocGlobal + Threads + Wait + Sync), text: Vec<u8>) -> R
     if text.len() > MOST_BYTES {
         return Ok(false);
     }
-    let Ok(Outcome::Replayed(records, state)) = outcome_of(rt, rt.alloc(), Manner::InOrder, text)
+    let Ok(Outcome::Replayed(records, ending)) = outcome_of(rt, rt.alloc(), Manner::InOrder, text)
     else {
         return Ok(false);
     };
-    let mut machine = Machine::try_new(rt.alloc(), *state.profile())?;
+    let mut machine = Machine::try_new(rt.alloc(), *ending.state.profile())?;
     for shown in records.as_slice() {
         if let Record::Event(event) = shown {
             if machine.step(event).is_err() {

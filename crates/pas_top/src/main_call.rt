@@ -9,7 +9,8 @@ ghost use Rattle.pas_answers.specs.Ways.{Way};
 ghost use Rattle.pas_top.specs.Outputs.{most_bytes, texts_of, IsReplaying, IsGen, IsAccepted, IsStatus, IsWriting, IsWritten, HasFailed, IsCutOff};
 
 use crate::generating::generate;
-use crate::outcome::{outcome_of, tell, tell_outcome};
+use crate::outcome::outcome_of;
+use crate::telling::{tell, tell_outcome};
 use crate::words::{Call, Misread, call_of};
 use crate::{MOST_BYTES, TOO_LONG, USAGE};
 use pas_io::whole::{Input, Stop, read_all};
@@ -74,7 +75,7 @@ pub fn pas_main<R: Threads + Wait + Sync, S: Source, K: Sink>(
         Err(Stop::Memory) => return 5,
     };
     match outcome_of(rt, alloc, manner, bytes) {
-        Ok(outcome) => tell_outcome(rt, alloc, manner, sink, &outcome),
+        Ok(outcome) => tell_outcome(rt, alloc, manner, sink, outcome),
         Err(_) => 5,
     }
 }

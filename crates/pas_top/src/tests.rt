@@ -312,9 +312,10 @@ fn ends_after(
     if bytes.len() > ROOM {
         return Ok(None);
     }
-    let Ok(Replay::Replayed(_, state)) = replay_of(rt, rt.alloc(), Manner::InOrder, bytes) else {
+    let Ok(Replay::Replayed(_, ending)) = replay_of(rt, rt.alloc(), Manner::InOrder, bytes) else {
         return Ok(None);
     };
+    let state = ending.state;
     if state.profile().pages < 1 {
         return Ok(None);
     }

@@ -19,4 +19,4 @@ overflow_cast-as_slice g c =
     omega (arith, n, m, few)
 
 pub returns : goal.returns
-returns g c = record { plan = c.in-Ok.plan; read = read_plan _ _ _ _ c.deref.ensures.value c.in-Ok.is c.read_for-read.ensures; shows = c.in_ok-state.ensures }
+returns g c = record { plan = c.in-Ok.plan; read = read_plan _ _ _ _ c.deref.ensures.value c.in-Ok.is c.read_for-read.ensures; shows = c.in_ok-ending.ensures }
