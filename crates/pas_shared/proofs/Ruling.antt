@@ -83,8 +83,8 @@ adds_if_kept f slots id k v s i asked at t h len there fits = ⊎_elim kept chan
 
     kept : new_value (epoch_of v) s n ≡ n → Answer
     kept e =
-        let made_it = adds f slots id k v s i (new_value (epoch_of v) s) asked at (λ x. refl) t h len there fits in
-        (made_it.0, made_it.1, made_it.2, subst (λ x. Holds f (stepped t i x id [] made_it.0 made_it.1)) e made_it.3, record { kept = λ same. made_it.4; changed = λ ne. absurd (ne e) })
+        let added = adds f slots id k v s i (new_value (epoch_of v) s) asked at (λ x. refl) t h len there fits in
+        (added.0, added.1, added.2, subst (λ x. Holds f (stepped t i x id [] added.0 added.1)) e added.3, record { kept = λ same. added.4; changed = λ ne. absurd (ne e) })
 
     changed : new_value (epoch_of v) s n ≢ n → Answer
     changed ne = (
@@ -119,6 +119,7 @@ may_make {f = f} {slots = slots} {id = id} {k = k} {v = v} {chosen = chosen} {s 
     let new' : (n : ℕ) → new_value (epoch_of v) s n ≡ g n = λ n. ap (λ x. new_value x s n) (sym at.1) ∙ new n in
     at_call s g (IsAdded f k v chosen) place asked.0 ok at' (subst (λ x. Allows (Holds f) slots id (alone k v, []) i g (IsAdded f k v x)) (sym (asked.1 ∙ shown)) (adds f slots id k v s i g ok at' new'))
 
+-- for a load that is the step only where that would leave the word as it is
 pub may_look_first : {f key : Profile} {here there : TableId} {m slots id k : ℕ} {v : View} {s : Step} {i : ℕ} {me : Me (Unit {0}) Roster}
     → (here ≡ there) × (key ≡ f) × (m ≡ words_of f.pages f.heaps)
     → (me ≡ (alone k v, [])) × IsAskedOf f k v s
