@@ -1,12 +1,14 @@
 -- A step that the view of the stepping seat allows keeps the rule, and every other seat knows what it knew. So does a split and a join.
 use Rattle.std.proofs.Common.{◌≡◌, ◌≢◌, ◌⊎◌, inl, inr, ⊎_elim, ℕ, suc, zero, ◌+◌, ◌<◌, ◌≤◌, List, [], ◌∷◌, ◌++◌, length, set, Bool, true, false, eqb, eq-eqb, ne_eqb, refl, sym, ap, subst, ◌∙◌, arith, if◌then◌else◌}
+use Rattle.std.proofs.lemmas.Bool.{cases_eq}
+use Rattle.std.proofs.lemmas.List.{set-get_or}
 use Rattle.std.specs.Prelude.{slice_index, slice_set}
 use prog.Atomic.{either}
 use mathlib.Core.Option.{some, some-injective, some-ne-none}
 use lib.ListN.{get_elem?}
 use Rattle.atomic_table.specs.Seated.{TableId}
-use Rattle.atomic_table.specs.Table.{Me, keeps, Allows, Splits, Joins}
-use Rattle.atomic_table.proofs.Lists.{at_set}
+use Rattle.atomic_table.specs.Table.{Me, Act, keeps, Valid, stepped, carried_after, Allows, Splits, Joins}
+use Rattle.atomic_table.proofs.Lists.{at_set, set_again}
 use Rattle.pas_profile.specs.Layouts.{index_of, words_of}
 use Rattle.pas_profile.specs.declared.profile.Profile.{Profile}
 use Rattle.pas_profile.proofs.Places.{index_lt}
@@ -25,7 +27,7 @@ use Rattle.pas_core.proofs.WordLists.{words_next}
 use Rattle.pas_shared.specs.declared.rule.Part.{Part}
 use Rattle.pas_shared.specs.declared.rule.Roster.{Roster}
 use Rattle.pas_shared.specs.declared.rule.Roster.TheVariants.{Unused, Listed}
-use Rattle.pas_shared.specs.Ruled.{HasPart, Names, alone, first_alone, all_but_first, joined, AreNamed, Holds, IsAskedOf, IsAdded}
+use Rattle.pas_shared.specs.Ruled.{HasPart, Names, alone, first_alone, all_but_first, joined, AreNamed, AreAfterOneList, Holds, IsAskedOf, IsAdded, IsAddedIfKept}
 
 -- ---- what the seats know after one more step of actor k, whose seat is id
 grows : (own : ℕ → View) (seat_number : ℕ → ℕ) (rosters : List Roster) (id k : ℕ) (v : View) (m : Made) → AreNamed own seat_number rosters → seat_number k ≡ id → own k ≡ v → AreNamed (with_step k m own) seat_number (set rosters id (alone k (m ∷ v)))
@@ -68,20 +70,62 @@ adds f slots id k v s i g asked at same t h len there fits =
       (refl, agrees_next f l k v s n asked.valid h.legal its_part asked.of_region read),
     )
 
--- The same as the table asks it of a call: at a seat and a key that are known by equations, for the step that a match has shown to be s.
+-- A load of the word is the step where that would leave the word as it is. Otherwise words, views and list stay.
+pub adds_if_kept : (f : Profile) (slots id k : ℕ) (v : View) (s : Step) (i : ℕ) → IsAskedOf f k v s → i ≡ index_of f.pages (target s)
+    → Allows (Holds f) slots id (alone k v, []) i (λ n. n) (IsAddedIfKept f k v s)
+adds_if_kept f slots id k v s i asked at t h len there fits = ⊎_elim kept changed (cases_eq (new_value (epoch_of v) s n) n)
+  where
+    n : ℕ
+    n = slice_index t.words i
+
+    Answer : Type 0
+    Answer = (w : Roster) × (a : Act (Unit {0})) × Valid t.homes [] a × Holds f (stepped t i n id [] w a) × IsAddedIfKept f k v s n (w, carried_after [] a)
+
+    kept : new_value (epoch_of v) s n ≡ n → Answer
+    kept e =
+        let added = adds f slots id k v s i (new_value (epoch_of v) s) asked at (λ x. refl) t h len there fits in
+        (added.0, added.1, added.2, subst (λ x. Holds f (stepped t i x id [] added.0 added.1)) e added.3, record { kept = λ same. added.4; changed = λ ne. absurd (ne e) })
+
+    changed : new_value (epoch_of v) s n ≢ n → Answer
+    changed ne = (
+      alone k v,
+      keeps,
+      tt,
+      subst (λ (z : List ℕ × List Roster). AreAfterOneList f z.0 z.1) (λ j. (sym (set-get_or t.words i 0) j, sym (set_again t.views id (alone k v) there) j)) h,
+      record { kept = λ same. absurd (ne same); changed = λ other. refl },
+    )
+
+-- ---- a call: what the table asks of it, at a seat and a key that are known by equations
+at_call : {f key : Profile} {here there : TableId} {m slots id k : ℕ} {v : View} {i : ℕ} {me : Me (Unit {0}) Roster} (s : Step) (g : ℕ → ℕ) (told : ℕ → Me (Unit {0}) Roster → Type 0)
+    → (here ≡ there) × (key ≡ f) × (m ≡ words_of f.pages f.heaps)
+    → me ≡ (alone k v, []) → IsAskedOf f k v s → i ≡ index_of f.pages (target s)
+    → Allows (Holds f) slots id (alone k v, []) i g told
+    → (here ≡ there) × (i < m) × Allows (Holds key) slots id me i g told
+at_call {f = f} {m = m} {slots = slots} {id = id} {v = v} {i = i} s g told place seated asked at allows =
+    let low : index_of f.pages (target s) < words_of f.pages f.heaps = index_lt f.pages f.heaps (target s) (target_of_region f v s asked.of_region asked.allowed) in
+    let below : i < m = subst (λ (z : ℕ × ℕ). z.0 < z.1) (λ j. (sym at j, sym place.2 j)) low in
+    (place.0, below, subst (λ (z : Profile × Me (Unit {0}) Roster). Allows (Holds z.0) slots id z.1 i g told) (λ j. (sym place.1 j, sym seated j)) allows)
+
+-- for the step that a match has shown to be s
 pub may_make : {f key : Profile} {here there : TableId} {m slots id k : ℕ} {v : View} {chosen step s : Step} {i e : ℕ} {g : ℕ → ℕ} {me : Me (Unit {0}) Roster}
     → (here ≡ there) × (key ≡ f) × (m ≡ words_of f.pages f.heaps)
     → (me ≡ (alone k v, [])) × (chosen ≡ step) × IsAskedOf f k v step
     → (i ≡ index_of f.pages (target step)) × (e ≡ epoch_of v)
     → step ≡ s → ((n : ℕ) → new_value e s n ≡ g n)
     → (here ≡ there) × (i < m) × Allows (Holds key) slots id me i g (IsAdded f k v chosen)
-may_make {f = f} {m = m} {slots = slots} {id = id} {k = k} {v = v} {s = s} {i = i} {g = g} place asked at shown new =
+may_make {f = f} {slots = slots} {id = id} {k = k} {v = v} {chosen = chosen} {s = s} {i = i} {g = g} place asked at shown new =
     let ok : IsAskedOf f k v s = subst (IsAskedOf f k v) shown asked.2 in
     let at' : i ≡ index_of f.pages (target s) = at.0 ∙ ap (λ x. index_of f.pages (target x)) shown in
-    let low : index_of f.pages (target s) < words_of f.pages f.heaps = index_lt f.pages f.heaps (target s) (target_of_region f v s ok.of_region ok.allowed) in
-    let below : i < m = subst (λ (z : ℕ × ℕ). z.0 < z.1) (λ j. (sym at' j, sym place.2 j)) low in
     let new' : (n : ℕ) → new_value (epoch_of v) s n ≡ g n = λ n. ap (λ x. new_value x s n) (sym at.1) ∙ new n in
-    (place.0, below, subst (λ (z : Profile × Me (Unit {0}) Roster × Step). Allows (Holds z.0) slots id z.1 i g (IsAdded f k v z.2)) (λ j. (sym place.1 j, sym asked.0 j, sym (asked.1 ∙ shown) j)) (adds f slots id k v s i g ok at' new'))
+    at_call s g (IsAdded f k v chosen) place asked.0 ok at' (subst (λ x. Allows (Holds f) slots id (alone k v, []) i g (IsAdded f k v x)) (sym (asked.1 ∙ shown)) (adds f slots id k v s i g ok at' new'))
+
+-- for a load that is the step only where that would leave the word as it is
+pub may_look_first : {f key : Profile} {here there : TableId} {m slots id k : ℕ} {v : View} {s : Step} {i : ℕ} {me : Me (Unit {0}) Roster}
+    → (here ≡ there) × (key ≡ f) × (m ≡ words_of f.pages f.heaps)
+    → (me ≡ (alone k v, [])) × IsAskedOf f k v s
+    → i ≡ index_of f.pages (target s)
+    → (here ≡ there) × (i < m) × Allows (Holds key) slots id me i (λ n. n) (IsAddedIfKept f k v s)
+may_look_first {f = f} {slots = slots} {id = id} {k = k} {v = v} {s = s} {i = i} place asked at = at_call s (λ n. n) (IsAddedIfKept f k v s) place asked.0 asked.1 at (adds_if_kept f slots id k v s i asked.1 at)
 
 pub either_if : (b : Bool) (x y : ℕ) → (if b then x else y) ≡ either b x y
 either_if true x y = refl

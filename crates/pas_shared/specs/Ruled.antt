@@ -1,11 +1,12 @@
 -- The rule of the table: its words are those after one legal list, and what the seats know is the own list of each actor.
-use Rattle.std.specs.Prelude.{◌≡◌, ◌⊎◌, ℕ, ◌+◌, ◌≤◌, List, [], ◌∷◌, ◌++◌}
+use Rattle.std.specs.Prelude.{◌≡◌, ◌≢◌, ◌⊎◌, ℕ, ◌+◌, ◌≤◌, max, List, [], ◌∷◌, ◌++◌}
 use mathlib.Core.Option.{some}
 use lib.ListN.{get_elem?}
 use Rattle.atomic_table.specs.Table.{State, Me}
 use Rattle.pas_profile.specs.Profiles.{IsValid}
 use Rattle.pas_profile.specs.declared.profile.Profile.{Profile}
-use Rattle.pas_steps.specs.Views.{View}
+use Rattle.pas_steps.specs.Views.{View, epoch_of}
+use Rattle.pas_steps.specs.Effects.{new_value}
 use Rattle.pas_steps.specs.Allowed.{Allowed, IsStepOf}
 use Rattle.pas_steps.specs.Agreement.{Agrees}
 use Rattle.pas_steps.specs.Lists.{Whole, Legal}
@@ -94,3 +95,12 @@ pub record IsAskedOf (f : Profile) (k : ℕ) (v : View) (step : Step) : Type 0 w
 -- what the step tells: the actor's own list has it, with its answer, which agrees with the list before
 abbrev pub IsAdded : Profile → ℕ → View → Step → ℕ → Me (Unit {0}) Roster → Type 0
 IsAdded f k v step n me = (me ≡ (alone k (made step n ∷ v), [])) × Agrees f v step n
+
+-- the step makes of its word the greater of it and this value
+abbrev pub RaisesTo : View → Step → ℕ → Type 0
+RaisesTo v step value = (n : ℕ) → new_value (epoch_of v) step n ≡ max n value
+
+-- what a load tells: where the step would leave the word that it found as it is, the load is the step, and otherwise it is no step at all
+pub record IsAddedIfKept (f : Profile) (k : ℕ) (v : View) (step : Step) (n : ℕ) (me : Me (Unit {0}) Roster) : Type 0 where
+  pub kept : new_value (epoch_of v) step n ≡ n → IsAdded f k v step n me
+  pub changed : new_value (epoch_of v) step n ≢ n → me ≡ (alone k v, [])

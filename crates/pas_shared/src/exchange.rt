@@ -1,12 +1,13 @@
-//! Any step, for the seat of one actor: one atomic exchange or load of its word.
+//! Any step, for the seat of one actor: one atomic exchange or load of its word. A stamp that finds a smaller word is a load that adds
+//! nothing, and then the exchange that is the step.
 ghost use Rattle.std.specs.Prelude.{◌≡◌, []};
 ghost use Rattle.pas_profile.specs.Layouts.{index_of, words_of};
 ghost use Rattle.pas_steps.specs.Effects.{target};
 ghost use Rattle.pas_steps.specs.Ranges.{IsRanged};
 ghost use Rattle.pas_steps.specs.Views.{epoch_of};
-ghost use Rattle.pas_shared.specs.Ruled.{alone, IsAdded, IsAskedOf};
+ghost use Rattle.pas_shared.specs.Ruled.{alone, IsAdded, IsAskedOf, RaisesTo};
 
-use crate::rule::{AddsStep, Chosen, TableSeat, TableWords};
+use crate::rule::{AddsIfKept, AddsStep, Chosen, TableSeat, TableWords};
 use pas_bits::page_vector::page_mask;
 use pas_profile::{deed_word, life_word};
 use pas_steps::Step;
@@ -59,10 +60,29 @@ pub(crate) fn exchange<C: Chosen>(
         }
         Step::Park { page } => words.fetch_or::<AddsStep<C>>(seat, at, page_mask(page)),
         Step::Unpark { page } => words.fetch_and::<AddsStep<C>>(seat, at, !page_mask(page)),
-        Step::Stamp { page: _ } => words.fetch_max::<AddsStep<C>>(seat, at, epoch),
+        Step::Stamp { page: _ } => raise::<C>(words, seat, at, epoch),
         Step::Hint { page } => words.fetch_or::<AddsStep<C>>(seat, at, page_mask(page)),
         Step::Tick { epoch: raised } => words.fetch_max::<AddsStep<C>>(seat, at, raised),
         Step::Unback { page: _ } => words.swap::<AddsStep<C>>(seat, at, 0),
         Step::Unhint { page } => words.fetch_and::<AddsStep<C>>(seat, at, !page_mask(page)),
+    }
+}
+
+/// Makes a step that raises the word at its place to this value, and answers the word's value before: by one load where the word is as
+/// great already, and otherwise by a load and an exchange. For words that are nearly always as great.
+#[inline(always)]
+fn raise<C: Chosen>(words: &TableWords, seat: &mut TableSeat, at: usize, value: u64) -> u64
+    requires place { (seat.old.table_id ≡ words.now.table_id) × (words.now.key ≡ C.profile) × (words.now.table_id.words ≡ words_of C.profile.pages C.profile.heaps) }
+    requires step { (seat.old.me ≡ (alone C.actor C.view, [])) × IsAskedOf C.profile C.actor C.view C.step }
+    requires at { at ≡ index_of C.profile.pages (target C.step) }
+    requires raises { RaisesTo C.view C.step value }
+    ensures seat { seat.new.table_id ≡ seat.old.table_id }
+    ensures step { IsAdded C.profile C.actor C.view C.step result seat.new.me }
+{
+    let found = words.load::<AddsIfKept<C>>(seat, at);
+    if found >= value {
+        found
+    } else {
+        words.fetch_max::<AddsStep<C>>(seat, at, value)
     }
 }

@@ -74,6 +74,17 @@ impl<C: Chosen> Play<(), Roster> for AddsStep<C> {
     ghost then = { λ _ _ n me. IsAdded C.profile C.actor C.view C.step n me };
 }
 
+/// A step that is added to the list where it leaves the word that it found as it is. Otherwise nothing is.
+pub(crate) struct AddsIfKept<C> {
+    marker: PhantomData<C>,
+}
+
+impl<C: Chosen> Play<(), Roster> for AddsIfKept<C> {
+    ghost use Rattle.pas_shared.specs.Ruled.{IsAddedIfKept};
+
+    ghost then = { λ _ _ n me. IsAddedIfKept C.profile C.actor C.view C.step n me };
+}
+
 /// The first of the actors that made no step gets a seat of its own.
 pub(crate) struct SplitsFirst;
 

@@ -40,14 +40,11 @@ fetch_or-requires-in-Park g c = may_make c.requires.place c.requires.step c.requ
 pub fetch_and-requires-in-Unpark : goal.fetch_and-requires-in-Unpark
 fetch_and-requires-in-Unpark g c = may_make c.requires.place c.requires.step c.requires.at c.in-Unpark.is (λ n. ap (λ x. bit_and n (bit_not w64 x)) (sym c.page_mask-in-Unpark.ensures))
 
-pub fetch_max-requires : goal.fetch_max-requires
-fetch_max-requires g c = may_make c.requires.place c.requires.step c.requires.at c.in-Stamp.is (λ n. refl)
-
 pub fetch_or-requires-in-Hint : goal.fetch_or-requires-in-Hint
 fetch_or-requires-in-Hint g c = may_make c.requires.place c.requires.step c.requires.at c.in-Hint.is (λ n. ap (bit_or n) (sym c.page_mask-in-Hint.ensures))
 
-pub fetch_max-requires-in-Tick : goal.fetch_max-requires-in-Tick
-fetch_max-requires-in-Tick g c = may_make c.requires.place c.requires.step c.requires.at c.in-Tick.is (λ n. refl)
+pub fetch_max-requires : goal.fetch_max-requires
+fetch_max-requires g c = may_make c.requires.place c.requires.step c.requires.at c.in-Tick.is (λ n. refl)
 
 pub swap-requires-in-Unback : goal.swap-requires-in-Unback
 swap-requires-in-Unback g c = may_make c.requires.place c.requires.step c.requires.at c.in-Unback.is (λ n. refl)
