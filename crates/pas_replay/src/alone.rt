@@ -15,7 +15,7 @@ use pas_steps::State;
 use pas_trace::Plan;
 
 /// Whether all operations of the plan are of one thread: it has no other, and the scavenger has none. Two looks at the plan, however long it is:
-/// each operation of the scavenger makes a record at least, so that a bound of 0 tells that there is none.
+/// the scavenger's bound counts one record at least for each of its operations, so that 0 tells that there is none.
 pub fn is_of_one_thread(plan: &Plan) -> bool
     requires { (text : List ℕ) × IsPlanOf text plan.now }
     ensures { IsTrue result ↔ IsOfOneThread plan.now }
@@ -23,8 +23,8 @@ pub fn is_of_one_thread(plan: &Plan) -> bool
     plan.profile.threads == 1 && plan.bounds.as_slice()[SCAVENGER as usize] == 0
 }
 
-/// Replays a plan of one thread in the order of the text, which shows just what its replay on threads shows: with one actor there is one order
-/// of the steps, and one of the records. Takes no memory, starts no thread, and makes no atomic exchange.
+/// Replays a plan of one thread in the order of the text. All that is said of a replay on threads holds of it: where one actor works there is one
+/// order of the steps, and one of the records. Takes no memory, starts no thread, and makes no atomic exchange.
 pub fn by_one_thread(plan: &Plan, kit: PlainKit, out: &mut Records) -> State
     requires plan { (text : List ℕ) × (length text ≤ 16777216) × IsPlanOf text plan.now }
     requires alone { IsOfOneThread plan.now }
