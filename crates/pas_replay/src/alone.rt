@@ -23,8 +23,8 @@ pub fn is_of_one_thread(plan: &Plan) -> bool
     plan.profile.threads == 1 && plan.bounds.as_slice()[SCAVENGER as usize] == 0
 }
 
-/// Replays a plan of one thread in the order of the text. All that is said of a replay on threads holds of it: where one actor works there is one
-/// order of the steps, and one of the records. Takes no memory, starts no thread, and makes no atomic exchange.
+/// Replays a plan of one thread in the order of the text. All that is said of a replay on threads holds of it: where one actor works there is
+/// one order of the steps, and one of the records. Takes no memory, starts no thread, and makes no atomic exchange.
 pub fn by_one_thread(plan: &Plan, kit: PlainKit, out: &mut Records) -> State
     requires plan { (text : List ℕ) × (length text ≤ 16777216) × IsPlanOf text plan.now }
     requires alone { IsOfOneThread plan.now }
