@@ -10,3 +10,5 @@ pub mod Scavenging
 pub mod ActsInOrder
 pub mod StartAndEnd
 pub mod Opening
+pub mod PlansOfOne
+pub mod RecordsOfOne

@@ -1,9 +1,11 @@
 //! The replay of a plan in the order of the text, over a plain region.
 #![tactic(auto)]
 
+pub mod alone;
 pub mod kit;
 pub mod limits;
 pub mod order;
 mod seats;
 
+pub use alone::{by_one_thread, is_of_one_thread};
 pub use kit::{PlainKit, in_order};

@@ -1,0 +1,139 @@
+-- The bounds of a plan say whether it is of one thread, and the acts of such a plan are that thread's.
+use Rattle.std.proofs.Common.{◌≡◌, ℕ, ◌+◌, ◌≤◌, ◌==◌, Bool, true, false, if◌then◌else◌, List, [], ◌∷◌, ◌++◌, slice_index, refl, ap, sym, ◌∙◌, subst, arith}
+use Rattle.std.specs.Prelude.{map}
+use Rattle.std.specs.List.{AllByRecursion}
+use Rattle.std.proofs.lemmas.Bool.{eq-eqb}
+use Rattle.pas_profile.specs.declared.profile.Profile.{Profile}
+use Rattle.pas_trace.specs.EveryPlan.{all_ops, IsActorOf, records_of_what, own_records}
+use Rattle.pas_trace.specs.Plans.{IsPlanOf, bounds_of}
+use Rattle.pas_trace.specs.declared.plan.What.{What}
+use Rattle.pas_trace.specs.declared.plan.What.TheVariants.{Alloc, Free, Raw, Flush, Stop, Tick, Pass, Idle}
+use Rattle.pas_trace.specs.declared.plan.Op.{Op}
+use Rattle.pas_trace.specs.declared.plan.Plan.{Plan}
+use Rattle.pas_trace.proofs.EveryPlan.{every_plan}
+use Rattle.pas_answers.specs.Acts.{Act, Operates, Settles, Ticks, MakesPass, ReadsEpoch, StopsIdle, MarksPhase, Wakes, MarksClose, Ends, active_threads, idle_threads, acts_of_what, acts_of_op, acts_of_ops, phase_acts, acts_from, acts_of}
+use Rattle.pas_answers.specs.Replays.{phases_of}
+use Rattle.pas_replay.specs.OneThread.{IsOfOneThread}
+use Rattle.pas_replay.proofs.ActsOfPlan.{ArePlanned}
+use Rattle.pas_replay.proofs.PlanFacts.{plan_planned}
+
+-- ---- elements of two lists
+pub all_both : {A : Type 0} (P : A → Type 0) (xs ys : List A) → AllByRecursion P xs → AllByRecursion P ys → AllByRecursion P (xs ++ ys)
+all_both P [] ys first second = second
+all_both P (x ∷ xs) ys first second = (first.0, all_both P xs ys first.1 second)
+
+-- ---- operations of thread 1
+abbrev pub IsOfOne : Op → Type 0
+IsOfOne op = op.actor ≡ 1
+
+abbrev pub AreOfOne : List Op → Type 0
+AreOfOne ops = AllByRecursion IsOfOne ops
+
+-- an operation of the scavenger makes a record
+its_record : (t : Bool) (n : ℕ) → t ≡ true → 1 ≤ n → (if t then n else 0) ≡ 0 → ⊥
+its_record true n is some none = omega (arith, some, none)
+its_record false n is some none = absurd (let bad : false ≡ true = is in cc)
+
+thread_or_record : (f : Profile) (k : ℕ) (what : What) → f.threads ≡ 1 → IsActorOf f what k → (if k == 0 then records_of_what f what else 0) ≡ 0 → k ≡ 1
+thread_or_record f k (Tick e) one of none = absurd (its_record (k == 0) 1 (eq-eqb k 0 of) (omega arith) none)
+thread_or_record f k Pass one of none = absurd (its_record (k == 0) (1 + f.pages) (eq-eqb k 0 of) (omega arith) none)
+thread_or_record f k (Idle n) one of none = absurd (its_record (k == 0) f.threads (eq-eqb k 0 of) (omega (arith, one)) none)
+thread_or_record f k (Alloc name heap size align) one of none = let some = of.0 in let most = of.1 in omega (arith, one, some, most)
+thread_or_record f k (Free name) one of none = let some = of.0 in let most = of.1 in omega (arith, one, some, most)
+thread_or_record f k (Raw block) one of none = let some = of.0 in let most = of.1 in omega (arith, one, some, most)
+thread_or_record f k Flush one of none = let some = of.0 in let most = of.1 in omega (arith, one, some, most)
+thread_or_record f k Stop one of none = let some = of.0 in let most = of.1 in omega (arith, one, some, most)
+
+no_records : (f : Profile) (ops : List Op) → f.threads ≡ 1 → ArePlanned f ops → own_records f 0 ops ≡ 0 → AreOfOne ops
+no_records f [] one all none = tt
+no_records f (op ∷ ops) one all none =
+    (thread_or_record f op.actor op.what one all.0 (omega (arith, none)), no_records f ops one all.1 (omega (arith, none)))
+
+one_records : (f : Profile) (ops : List Op) → AreOfOne ops → own_records f 0 ops ≡ 0
+one_records f [] all = refl
+one_records f (op ∷ ops) all =
+    let this : (if op.actor == 0 then records_of_what f op.what else 0) ≡ 0 = ap (λ (k : ℕ). if k == 0 then records_of_what f op.what else 0) all.0 in
+    let rest = one_records f ops all.1 in
+    omega (arith, this, rest)
+
+-- ---- what the bounds say
+pub bound_shows : {text : List ℕ} {plan : Plan} → IsPlanOf text plan → plan.profile.threads ≡ 1 → slice_index (bounds_of plan.bounds) 0 ≡ 0 → IsOfOneThread plan
+bound_shows {text} {plan} is one none =
+    record { threads = one; own = no_records plan.profile (all_ops (phases_of plan)) one (plan_planned is) (sym (every_plan is).scavenger ∙ none) }
+
+pub one_shows : {text : List ℕ} {plan : Plan} → IsPlanOf text plan → IsOfOneThread plan → slice_index (bounds_of plan.bounds) 0 ≡ 0
+one_shows {text} {plan} is alone = (every_plan is).scavenger ∙ one_records plan.profile (all_ops (phases_of plan)) alone.own
+
+-- ---- acts
+-- the act is thread 1's, or a mark
+abbrev pub IsActOfOne : Act → Type 0
+IsActOfOne (Operates op) = op.actor ≡ 1
+IsActOfOne (Settles k) = Unit {0}
+IsActOfOne (Ticks epoch) = ⊥
+IsActOfOne MakesPass = ⊥
+IsActOfOne ReadsEpoch = ⊥
+IsActOfOne (StopsIdle k n) = ⊥
+IsActOfOne (MarksPhase n) = Unit {0}
+IsActOfOne (Wakes k) = Unit {0}
+IsActOfOne MarksClose = Unit {0}
+IsActOfOne (Ends k) = k ≡ 1
+
+abbrev pub AreActsOfOne : List Act → Type 0
+AreActsOfOne acts = AllByRecursion IsActOfOne acts
+
+-- the scavenger, which is actor 0, isn't thread 1
+not_first : {A : Type 0} (k : ℕ) → k ≡ 0 → k ≡ 1 → A
+not_first k none one = absurd (omega (arith, none, one))
+
+what_of_one : (f : Profile) (idle : List ℕ) (op : Op) (what : What) → IsActorOf f what op.actor → IsOfOne op → AreActsOfOne (acts_of_what idle op what)
+what_of_one f idle op (Tick e) of one = not_first op.actor of one
+what_of_one f idle op Pass of one = not_first op.actor of one
+what_of_one f idle op (Idle n) of one = not_first op.actor of one
+what_of_one f idle op (Alloc name heap size align) of one = (one, (tt, tt))
+what_of_one f idle op (Free name) of one = (one, (tt, tt))
+what_of_one f idle op (Raw block) of one = (one, (tt, tt))
+what_of_one f idle op Flush of one = (one, (tt, tt))
+what_of_one f idle op Stop of one = (one, (tt, tt))
+
+-- each phase takes the first operations, and its acts come before those that follow
+ops_of_one : (f : Profile) (idle : List ℕ) (ops : List Op) → ArePlanned f ops → AreOfOne ops → AreActsOfOne (acts_of_ops idle ops)
+ops_of_one f idle [] all own = tt
+ops_of_one f idle (op ∷ ops) all own =
+    all_both IsActOfOne (acts_of_op idle op) (acts_of_ops idle ops) (what_of_one f idle op op.what all.0 own.0) (ops_of_one f idle ops all.1 own.1)
+
+wakes_of_one : (ks : List ℕ) → AreActsOfOne (map Wakes ks)
+wakes_of_one [] = tt
+wakes_of_one (k ∷ ks) = (tt, wakes_of_one ks)
+
+phase_of_one : (f : Profile) (ops : List Op) → ArePlanned f ops → AreOfOne ops → AreActsOfOne (phase_acts 1 ops)
+phase_of_one f ops all own =
+    all_both IsActOfOne (map Wakes (active_threads 1 ops)) (acts_of_ops (idle_threads 1 ops) ops) (wakes_of_one (active_threads 1 ops)) (ops_of_one f (idle_threads 1 ops) ops all own)
+
+-- those of a phase are planned and thread 1's, and those of the phases after it
+record AreBoth (f : Profile) (ops more : List Op) : Type 0 where
+  planned : ArePlanned f ops
+  own : AreOfOne ops
+  planned_after : ArePlanned f more
+  own_after : AreOfOne more
+
+both_of : (f : Profile) (ops more : List Op) → ArePlanned f (ops ++ more) → AreOfOne (ops ++ more) → AreBoth f ops more
+both_of f [] more all own = record { planned = tt; own = tt; planned_after = all; own_after = own }
+both_of f (op ∷ ops) more all own =
+    let rest = both_of f ops more all.1 own.1 in
+    record { planned = (all.0, rest.planned); own = (own.0, rest.own); planned_after = rest.planned_after; own_after = rest.own_after }
+
+later_of_one : (f : Profile) (n : ℕ) (phases : List (List Op)) → ArePlanned f (all_ops phases) → AreOfOne (all_ops phases) → AreActsOfOne (acts_from 1 n phases)
+later_of_one f n [] all own = (tt, (refl, tt))
+later_of_one f n (p ∷ ps) all own =
+    let both = both_of f p (all_ops ps) all own in
+    (tt, all_both IsActOfOne (phase_acts 1 p) (acts_from 1 (n + 1) ps) (phase_of_one f p both.planned both.own) (later_of_one f (n + 1) ps both.planned_after both.own_after))
+
+acts_of_one : (f : Profile) (phases : List (List Op)) → ArePlanned f (all_ops phases) → AreOfOne (all_ops phases) → AreActsOfOne (acts_of 1 phases)
+acts_of_one f [] all own = (tt, (refl, tt))
+acts_of_one f (p ∷ ps) all own =
+    let both = both_of f p (all_ops ps) all own in
+    all_both IsActOfOne (phase_acts 1 p) (acts_from 1 2 ps) (phase_of_one f p both.planned both.own) (later_of_one f 2 ps both.planned_after both.own_after)
+
+pub plan_of_one : {text : List ℕ} {plan : Plan} → IsPlanOf text plan → IsOfOneThread plan → AreActsOfOne (acts_of plan.profile.threads (phases_of plan))
+plan_of_one {text} {plan} is alone =
+    subst (λ (n : ℕ). AreActsOfOne (acts_of n (phases_of plan))) (sym alone.threads) (acts_of_one plan.profile (phases_of plan) (plan_planned is) alone.own)
