@@ -1,31 +1,38 @@
 //! A region that is opened while the text is read, and the kit over it.
 ghost use Rattle.std.specs.Prelude.{◌≤◌, ℕ, List, IfOk, length};
+ghost use Rattle.pas_profile.specs.Profiles.{IsValid};
 ghost use Rattle.pas_trace.specs.Plans.{IsPlanOf, IsReading};
 ghost use Rattle.pas_threads.specs.Kits.{IsKitOf};
 
 use crate::manner::Manner;
-use pas_profile::NoMemory;
+use pas_profile::{NoMemory, Profile};
 use pas_shared::Opening;
 use pas_threads::SharedKit;
 use pas_trace::{Plan, ReadFault, header_of_text, read_trace};
 use std::alloc::Global;
 use std::thread::{Threads, join};
 
-/// What the text comes to, and the region of its header, which is opened meanwhile. There is none where the first line is no header, or
-/// memory was wanting for it.
+/// What the text comes to, and the region of this profile, which is opened meanwhile. There is none where memory was wanting for it.
 fn read_and_open<R: Threads + Sync>(
     rt: &R,
     alloc: Global,
+    profile: Profile,
     text: &[u8],
 ) -> (Result<Plan, ReadFault>, Option<Opening>)
-    requires { length text.now ≤ 16777216 }
+    requires text { length text.now ≤ 16777216 }
+    requires profile { IsValid profile }
     ensures { IsReading text.now result.0 }
 {
-    let (opening, read) = join(rt, || opening_of(alloc, text), || read_trace(alloc, text));
+    let theirs = alloc;
+    let (opening, read) = join(
+        rt,
+        || Opening::try_new(theirs, profile).ok(),
+        || read_trace(alloc, text),
+    );
     (read, opening)
 }
 
-/// What the text comes to, and in a replay on threads the region of its header.
+/// What the text comes to, and in a replay on threads the region of its header, where that names more than one thread.
 pub(crate) fn read_for<R: Threads + Sync>(
     rt: &R,
     alloc: Global,
@@ -37,14 +44,11 @@ pub(crate) fn read_for<R: Threads + Sync>(
 {
     match manner {
         Manner::InOrder => (read_trace(alloc, text), None),
-        Manner::OnThreads => read_and_open(rt, alloc, text),
+        Manner::OnThreads => match header_of_text(text) {
+            Some(profile) if profile.threads > 1 => read_and_open(rt, alloc, profile, text),
+            _ => (read_trace(alloc, text), None),
+        },
     }
-}
-
-/// The region that the first line names, with nobody at it.
-fn opening_of(alloc: Global, text: &[u8]) -> Option<Opening> {
-    let profile = header_of_text(text)?;
-    Opening::try_new(alloc, profile).ok()
 }
 
 /// The kit of the plan, at the region that was opened for it, if there is one. A header says nothing of shared heaps, so the region of a plan

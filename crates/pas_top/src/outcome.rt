@@ -3,13 +3,14 @@ ghost use Rattle.std.specs.Prelude.{◌≡◌, ◌≤◌, ◌+◌, ℕ, List, []
 ghost use Rattle.pas_trace.specs.Plans.{IsPlanOf};
 ghost use Rattle.pas_report.specs.Rooms.{records_in, room_of};
 ghost use Rattle.pas_answers.specs.Replays.{phases_of, Shows};
+ghost use Rattle.pas_answers.specs.Ways.{OnThreads};
 ghost use Rattle.pas_top.specs.Manners.{way_of};
 ghost use Rattle.pas_top.specs.Outcomes.{IsOutcome};
 
 use crate::manner::Manner;
 use crate::opening::{kit_at, read_for};
 use pas_profile::NoMemory;
-use pas_replay::{PlainKit, in_order};
+use pas_replay::{PlainKit, by_one_thread, in_order, is_of_one_thread};
 use pas_report::Records;
 use pas_shared::Opening;
 use pas_steps::State;
@@ -60,8 +61,35 @@ pub(crate) fn outcome_of<R: Threads + Wait + Sync>(
     Ok(Outcome::Replayed(records, ending))
 }
 
-/// Replays the plan in this manner, on threads at the region that was opened for it, if there is one, and answers the region's state
-/// afterwards, with the rooms that were used. Memory is taken for the kit alone, before the replay begins.
+/// Replays the plan on threads, at the region that was opened for it, if there is one. A plan of one thread has nothing that could be at once, and is
+/// replayed over plain words.
+fn replay_on_threads<R: Threads + Wait + Sync>(
+    rt: &R,
+    alloc: Global,
+    plan: &Plan,
+    opening: Option<Opening>,
+    out: &mut Records,
+) -> Result<Ending, NoMemory>
+    requires plan { (text : List ℕ) × (length text ≤ 16777216) × IsPlanOf text plan.now }
+    requires empty { records_in out.old ≡ [] }
+    requires room { plan.now.total + length (phases_of plan.now) + 1 ≤ room_of out.old }
+    ensures { IfOk result (λ ending. Shows OnThreads plan.now (records_in out.new) ending.state) }
+{
+    if is_of_one_thread(plan) {
+        let kit = PlainKit::try_new(alloc, plan)?;
+        let state = by_one_thread(plan, kit, out);
+        return Ok(Ending { state, rooms: None });
+    }
+    let kit = kit_at(alloc, plan, opening)?;
+    let (state, rooms) = on_threads_with_rooms(rt, plan, kit, &OpenGate, out);
+    Ok(Ending {
+        state,
+        rooms: Some(rooms),
+    })
+}
+
+/// Replays the plan in this manner, and answers the region's state afterwards, with the rooms that were used. Memory is taken for the kit alone, before the
+/// replay begins.
 fn replay<R: Threads + Wait + Sync>(
     rt: &R,
     alloc: Global,
@@ -81,13 +109,6 @@ fn replay<R: Threads + Wait + Sync>(
             let state = in_order(plan, kit, out);
             Ok(Ending { state, rooms: None })
         }
-        Manner::OnThreads => {
-            let kit = kit_at(alloc, plan, opening)?;
-            let (state, rooms) = on_threads_with_rooms(rt, plan, kit, &OpenGate, out);
-            Ok(Ending {
-                state,
-                rooms: Some(rooms),
-            })
-        }
+        Manner::OnThreads => replay_on_threads(rt, alloc, plan, opening, out),
     }
 }
