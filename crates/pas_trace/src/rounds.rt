@@ -1,0 +1,120 @@
+//! Reading a trace on two threads: one takes the lines of a piece apart while the other reads the piece before.
+ghost use Rattle.std.specs.Prelude.{◌≡◌, ◌≤◌, ◌<◌, ◌+◌, ◌++◌, ◌^◌, ℕ, List, Ok, Err, IfOk, OnOk, MatchResult, length};
+ghost use Rattle.pas_trace.specs.Lexed.{AreLexed};
+ghost use Rattle.pas_trace.specs.Plans.{IsReading};
+ghost use Rattle.pas_trace.specs.Texts.{lines_of};
+ghost use Rattle.pas_trace.specs.Told.{Tells, IsRead};
+ghost use Rattle.pas_trace.specs.declared.item.Item.{Item};
+
+use crate::fault::ReadFault;
+use crate::item::Item;
+use crate::lexing::lex;
+use crate::pieces::piece_length;
+use crate::plan::Plan;
+use crate::reader::{Reader, begun, read_trace};
+use std::alloc::Global;
+use std::mem::swap;
+use std::thread::{Threads, join_mut};
+
+/// A piece has so many bytes, and those up to the end of its last line.
+const PIECE_BYTES: usize = 131_072;
+
+/// The lines of a piece that are taken apart at most.
+const PIECE_LINES: usize = 12_288;
+
+/// The least bytes of a text that is read on two threads.
+const LEAST_BYTES: usize = 262_144;
+
+/// A piece of whole lines at the front of a text, and the text after it.
+fn cut(text: &[u8]) -> (&[u8], &[u8])
+    ensures lines { lines_of text.now ≡ lines_of result.0.now ++ lines_of result.1.now }
+    ensures bytes { length result.0.now + length result.1.now ≡ length text.now }
+    ensures some { 0 < length text.now → length result.1.now < length text.now }
+{
+    if text.len() <= PIECE_BYTES {
+        return text.split_at(text.len());
+    }
+    let end = PIECE_BYTES + piece_length(&text[PIECE_BYTES..], b'\n');
+    if end == text.len() {
+        return text.split_at(text.len());
+    }
+    text.split_at(end + 1)
+}
+
+/// Reads a piece, of which these items were taken apart and this text is left, while another thread takes the next piece apart. It answers
+/// also what is left of the next one.
+fn take_and_lex<'a, R: Threads + Sync>(
+    rt: &R,
+    reader: &mut Reader,
+    items: &[Item],
+    left: &[u8],
+    piece: &'a [u8],
+    next: &mut Vec<Item>,
+) -> (Result<(), ReadFault>, &'a [u8])
+    requires tells { (told : List Item) × Tells reader.old told }
+    requires lexed { (text : List ℕ) × AreLexed text items.now left.now × (reader.old.line + length text ≤ 2 ^ 24 + 1) }
+    ensures read { (told : List Item) (text : List ℕ) → Tells reader.old told → AreLexed text items.now left.now → IsRead reader.old told text reader.new result.0 }
+    ensures few { OnOk result.0 ((text : List ℕ) → AreLexed text items.now left.now → reader.new.line ≤ reader.old.line + length text) }
+    ensures next { AreLexed piece.now next.new.items result.1.now }
+{
+    let mut take_apart = || -> &[u8]
+        ensures { AreLexed piece.entry.now next.exit.now.items result.now }
+    { lex(piece, next) };
+    let mut take = || -> Result<(), ReadFault>
+        requires tells { (told : List Item) × Tells reader.now told }
+        requires lexed { (text : List ℕ) × AreLexed text items.now left.now × (reader.now.line + length text ≤ 2 ^ 24 + 1) }
+        ensures read { (told : List Item) (text : List ℕ) → Tells reader.entry.now told → AreLexed text items.entry.now left.entry.now → IsRead reader.entry.now told text reader.exit.now result }
+        ensures few { OnOk result ((text : List ℕ) → AreLexed text items.entry.now left.entry.now → reader.exit.now.line ≤ reader.entry.now.line + length text) }
+    { reader.take_lexed(items, left) };
+    let (after, took) = join_mut(rt, &mut take_apart, &mut take);
+    (took, after)
+}
+
+/// Reads the lines of a text, a piece at a time, in two places for what the lines of a piece say.
+fn read_pieces<R: Threads + Sync>(
+    rt: &R,
+    reader: &mut Reader,
+    text: &[u8],
+    full: &mut Vec<Item>,
+    next: &mut Vec<Item>,
+) -> Result<(), ReadFault>
+    requires tells { (told : List Item) × Tells reader.old told }
+    requires size { reader.old.line + length text.now ≤ 2 ^ 24 + 1 }
+    ensures { (told : List Item) → Tells reader.old told → IsRead reader.old told text.now reader.new result }
+{
+    full.clear();
+    let (first, mut rest) = cut(text);
+    let mut left = first;
+    while !rest.is_empty() {
+        let (piece, after) = cut(rest);
+        let (took, lexed) = take_and_lex(rt, reader, full, left, piece, next);
+        took?;
+        left = lexed;
+        swap(full, next);
+        rest = after;
+    }
+    reader.take_lexed(full, left)
+}
+
+/// As `read_trace`, on two threads where the text has at least 256 KB and memory for 1 MB more is at hand.
+pub fn read_trace_on<R: Threads + Sync>(
+    rt: &R,
+    alloc: Global,
+    text: &[u8],
+) -> Result<Plan, ReadFault>
+    requires { length text.now ≤ 16777216 }
+    ensures { IsReading text.now result }
+{
+    if text.len() < LEAST_BYTES {
+        return read_trace(alloc, text);
+    }
+    let (Ok(mut full), Ok(mut next)) = (
+        Vec::with_capacity(alloc, PIECE_LINES),
+        Vec::with_capacity(alloc, PIECE_LINES),
+    ) else {
+        return read_trace(alloc, text);
+    };
+    let (mut reader, rest) = begun(alloc, text)?;
+    read_pieces(rt, &mut reader, rest, &mut full, &mut next)?;
+    reader.planned()
+}
