@@ -16,6 +16,8 @@ mod pieces;
 pub mod plan;
 mod reader;
 mod requests;
+#[cfg(test)]
+mod round_tests;
 mod rounds;
 #[cfg(test)]
 mod tests;

@@ -16,16 +16,17 @@ use std::alloc::Global;
 use std::mem::swap;
 use std::thread::{Threads, join_mut};
 
-/// A piece has so many bytes, and those up to the end of its last line.
-const PIECE_BYTES: usize = 131_072;
+/// A piece has so many bytes, and those up to the end of its last line. A start of a thread takes less than a tenth of the time that its
+/// lines do.
+const PIECE_BYTES: usize = 262_144;
 
-/// The lines of a piece that are taken apart at most.
-const PIECE_LINES: usize = 12_288;
+/// The most lines of a piece that are taken apart ahead: at 11 bytes a line, all of them.
+const PIECE_LINES: usize = 24_576;
 
 /// The least bytes of a text that is read on two threads.
-const LEAST_BYTES: usize = 262_144;
+const LEAST_BYTES: usize = 2 * PIECE_BYTES;
 
-/// A piece of whole lines at the front of a text, and the text after it.
+/// A piece of whole lines at the front of a text, and the text after it. It looks at no byte but those of the piece's last line.
 fn cut(text: &[u8]) -> (&[u8], &[u8])
     ensures lines { lines_of text.now ≡ lines_of result.0.now ++ lines_of result.1.now }
     ensures bytes { length result.0.now + length result.1.now ≡ length text.now }
@@ -70,7 +71,8 @@ fn take_and_lex<'a, R: Threads + Sync>(
     (took, after)
 }
 
-/// Reads the lines of a text, a piece at a time, in two places for what the lines of a piece say.
+/// Reads the lines of a text, a piece at a time, with two places for what the lines of a piece say. Nothing of the first piece is taken
+/// apart ahead.
 fn read_pieces<R: Threads + Sync>(
     rt: &R,
     reader: &mut Reader,
@@ -96,7 +98,9 @@ fn read_pieces<R: Threads + Sync>(
     reader.take_lexed(full, left)
 }
 
-/// As `read_trace`, on two threads where the text has at least 256 KB and memory for 1 MB more is at hand.
+/// What `read_trace` answers, in less time where the text has at least 512 KB: another thread takes the lines of each piece of 256 KB apart
+/// while this one reads the piece before. One pass over the bytes, in linear time. It takes 2.4 MB more, or reads as `read_trace` does where
+/// they are wanting, so NoMemory comes only where it does there.
 pub fn read_trace_on<R: Threads + Sync>(
     rt: &R,
     alloc: Global,

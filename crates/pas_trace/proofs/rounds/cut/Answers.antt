@@ -7,4 +7,4 @@ pub returns-clause-lines : goal.returns-clause-lines
 returns-clause-lines c =
     let e = c.piece_length-end.ensures in
     let s = c.split_at-2.ensures in
-    lines-from c.args.text.now 131072 c.piece_length-end.result e.within e.ended (omega arith) c.if-end-text.false ∙ (λ i. lines_of (sym s.front i) ++ lines_of (sym s.back i))
+    lines-from c.args.text.now 262144 c.piece_length-end.result e.within e.ended (omega arith) c.if-end-text.false ∙ (λ i. lines_of (sym s.front i) ++ lines_of (sym s.back i))
