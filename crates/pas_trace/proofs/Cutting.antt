@@ -1,6 +1,6 @@
 -- A text that is cut behind the end of a line: its lines are those of the front and those of the rest.
 use Rattle.std.proofs.Common.{◌≡◌, ◌≢◌, ℕ, ◌+◌, ◌-◌, ◌<◌, ◌≤◌, ◌==◌, Bool, true, false, if◌then◌else◌, List, [], ◌∷◌, ◌++◌, take, drop, length, get_or, refl, sym, ap, ◌∙◌, arith}
-use Rattle.std.proofs.lemmas.List.{take_more, drop_more, take-append-drop, append-nil, append_assoc, drop_all, take_all, take_rest, length-drop, get_or-drop}
+use Rattle.std.proofs.lemmas.List.{take_more, drop_more, take-append-drop, append-nil, drop_all, take_all, take_rest, length-drop, get_or-drop}
 use Rattle.pas_trace.specs.Texts.{put_first, pieces, without_empty_end, lines_of}
 use Rattle.pas_trace.proofs.Splits.{pieces-at, pieces-some, end-cons}
 

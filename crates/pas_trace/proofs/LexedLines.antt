@@ -1,10 +1,10 @@
 -- Lines that say something by themselves, and what is read of them.
-use Rattle.std.proofs.Common.{◌≡◌, ℕ, ◌+◌, ◌≤◌, ◌==◌, Bool, true, false, if◌then◌else◌, List, [], ◌∷◌, ◌++◌, All, OnOk, map, length, Result, Ok, Err, codes, refl, sym, ap, ◌∙◌, arith, append_assoc, length-append}
+use Rattle.std.proofs.Common.{◌≡◌, ℕ, ◌+◌, ◌==◌, Bool, true, false, if◌then◌else◌, List, [], ◌∷◌, ◌++◌, OnOk, map, length, Result, Ok, Err, codes, refl, sym, ap, ◌∙◌, arith, append_assoc, length-append}
 use Rattle.std.proofs.lemmas.List.{map-append}
 use Rattle.std.proofs.lemmas.List.Elements.{All-nil, All-push}
 use Rattle.pas_profile.specs.declared.profile.Profile.{Profile}
 use Rattle.pas_trace.specs.Texts.{lines_of, words_of}
-use Rattle.pas_trace.specs.Items.{same_bytes, item1, item_of_words, item_of_two, item_of_line, plain}
+use Rattle.pas_trace.specs.Items.{same_bytes, item1, item_of_words, item_of_line, plain}
 use Rattle.pas_trace.specs.FirstLines.{FirstSays}
 use Rattle.pas_trace.specs.Reasons.{line_says}
 use Rattle.pas_trace.specs.Plans.{items_from, after_item, line_of_newest}

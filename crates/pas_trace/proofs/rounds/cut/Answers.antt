@@ -1,6 +1,6 @@
-use Rattle.std.proofs.Common.{◌≡◌, ◌+◌, ◌++◌, sym, ap, ◌∙◌, arith}
+use Rattle.std.proofs.Common.{◌++◌, sym, ◌∙◌, arith}
 use Rattle.pas_trace.specs.Texts.{lines_of}
-use Rattle.pas_trace.proofs.Cutting.{lines-from, lines-whole}
+use Rattle.pas_trace.proofs.Cutting.{lines-from}
 use Rattle.pas_trace.proofs.rounds.cut.Goals as goal
 
 pub returns-clause-lines : goal.returns-clause-lines

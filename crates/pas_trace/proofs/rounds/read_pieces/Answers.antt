@@ -1,11 +1,11 @@
-use Rattle.std.proofs.Common.{rules, ◌≡◌, ◌≤◌, ◌+◌, ◌++◌, [], ℕ, List, length, subst, sym, ap, ◌∙◌, arith}
+use Rattle.std.proofs.Common.{◌≡◌, ◌++◌, [], ℕ, List, subst, sym, ap, ◌∙◌, arith}
 use Rattle.std.proofs.lemmas.Result.{err_from_is_err_and}
 use Rattle.std.proofs.lemmas.List.{append-nil}
 use Rattle.pas_trace.specs.Lexed.{AreLexed}
 use Rattle.pas_trace.specs.Texts.{lines_of}
-use Rattle.pas_trace.specs.Told.{Tells, AreTaken}
+use Rattle.pas_trace.specs.Told.{AreTaken}
 use Rattle.pas_trace.specs.declared.item.Item.{Item}
-use Rattle.pas_trace.proofs.Reading.{SoFar, at-first, left-is}
+use Rattle.pas_trace.proofs.Reading.{at-first, left-is}
 use Rattle.pas_trace.proofs.LexedLines.{lexed-none, after-lines, lines-fault, all-read, at-ok, none-of}
 use Rattle.pas_trace.proofs.rounds.read_pieces.Goals as goal
 
