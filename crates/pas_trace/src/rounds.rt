@@ -16,8 +16,8 @@ use std::alloc::Global;
 use std::mem::swap;
 use std::thread::{Threads, join_mut};
 
-/// A piece has so many bytes, and those up to the end of its last line. A start of a thread takes less than a tenth of the time that its
-/// lines do.
+/// A piece has so many bytes, and those up to the end of its last line. What its lines say fits into a processor's own cache, and they
+/// take some ten times as long as a start of a thread.
 const PIECE_BYTES: usize = 262_144;
 
 /// The most lines of a piece that are taken apart ahead: at 11 bytes a line, all of them.
@@ -99,8 +99,8 @@ fn read_pieces<R: Threads + Sync>(
 }
 
 /// What `read_trace` answers, in less time where the text has at least 512 KB: another thread takes the lines of each piece of 256 KB apart
-/// while this one reads the piece before. One pass over the bytes, in linear time. It takes 2.4 MB more, or reads as `read_trace` does where
-/// they are wanting, so NoMemory comes only where it does there.
+/// while this one reads the piece before. One pass over the bytes, in linear time. It takes 2.4 MB more while it reads, and where they are
+/// wanting it reads as `read_trace` does. Where no thread can be made, this one does all.
 pub fn read_trace_on<R: Threads + Sync>(
     rt: &R,
     alloc: Global,
