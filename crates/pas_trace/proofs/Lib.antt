@@ -8,6 +8,8 @@ mod Headers
 mod PassedChecks
 mod Telling
 mod Reading
+mod Cutting
+mod LexedLines
 mod LineCounts
 mod ItemRanges
 mod ParsedItems

@@ -1,10 +1,10 @@
 -- The lines that are read, and those that are left.
-use Rattle.std.proofs.Common.{◌≡◌, ℕ, ◌+◌, List, [], ◌∷◌, Some, Ok, Err, refl, sym, ap, subst, ◌∙◌}
+use Rattle.std.proofs.Common.{◌≡◌, ℕ, ◌+◌, List, [], ◌∷◌, Some, Result, Ok, Err, MatchResult, refl, sym, ap, subst, ◌∙◌}
 use Rattle.pas_profile.specs.declared.profile.Profile.{Profile}
 use Rattle.pas_trace.specs.Texts.{lines_of}
 use Rattle.pas_trace.specs.Reasons.{line_says, header_of}
 use Rattle.pas_trace.specs.Plans.{parsed, parsed_lines, with_header, with_items, items_from, after_item, IsPlanOf, IsReading}
-use Rattle.pas_trace.specs.Told.{Tells, IsFirstTaken, IsRead, IsPlanned}
+use Rattle.pas_trace.specs.Told.{Tells, IsTaken, IsFirstTaken, AreTaken, IsRead, IsBegun, IsPlanned}
 use Rattle.pas_trace.specs.declared.fault.ReadFault.{ReadFault}
 use Rattle.pas_trace.specs.declared.fault.ReadFault.TheVariants.{Trace, NoMemory}
 use Rattle.pas_trace.specs.declared.item.Item.{Item}
@@ -12,40 +12,48 @@ use Rattle.pas_trace.specs.declared.plan.Plan.{Plan}
 use Rattle.pas_trace.specs.declared.reader.Reader.{Reader}
 
 -- the answer of the lines that are left is the answer of all
-pub record SoFar (old : Reader) (start : List Item) (text : List ℕ) (now : Reader) (rest : List ℕ) : Type 0 where
+pub record SoFar (old : Reader) (start : List Item) (lines : List (List ℕ)) (now : Reader) (left : List (List ℕ)) : Type 0 where
   pub items : List Item
   pub tells : Tells now items
   pub header : now.header ≡ old.header
-  pub same : items_from old.header (old.line + 1) start (lines_of text) ≡ items_from old.header (now.line + 1) items (lines_of rest)
+  pub same : items_from old.header (old.line + 1) start lines ≡ items_from old.header (now.line + 1) items left
 
-pub at-first : (r : Reader) (start : List Item) (text : List ℕ) → Tells r start → SoFar r start text r text
-at-first r start text t = record { items = start; tells = t; header = refl; same = refl }
+abbrev pub at-first : (r : Reader) (start : List Item) (lines : List (List ℕ)) → Tells r start → SoFar r start lines r lines
+at-first r start lines t = record { items = start; tells = t; header = refl; same = refl }
 
-pub after-line : (old now new : Reader) (start : List Item) (text rest after : List ℕ) (far : SoFar old start text now rest) → IsFirstTaken now far.items rest after new (Ok tt) → SoFar old start text new after
-after-line old now new start text rest after far first =
-    let t = first.taken in
+pub after-taken : (old now new : Reader) (start : List Item) (lines : List (List ℕ)) (line : List ℕ) (left : List (List ℕ)) (far : SoFar old start lines now (line ∷ left)) → IsTaken now far.items line new (Ok tt) → SoFar old start lines new left
+after-taken old now new start lines line left far t =
     let i = t.0 in
-    let says : line_says old.header far.items first.line ≡ Ok i = ap (λ (f : Profile). line_says f far.items first.line) (sym far.header) ∙ t.1 in
+    let says : line_says old.header far.items line ≡ Ok i = ap (λ (f : Profile). line_says f far.items line) (sym far.header) ∙ t.1 in
     record {
       items = i ∷ far.items;
       tells = t.2;
       header = t.3 ∙ far.header;
-      same = far.same ∙ ap (items_from old.header (now.line + 1) far.items) first.cut
-          ∙ ap (λ says. after_item (now.line + 1) says (λ i. items_from old.header (now.line + 1 + 1) (i ∷ far.items) (lines_of after))) says
-          ∙ ap (λ n. items_from old.header (n + 1) (i ∷ far.items) (lines_of after)) (sym t.4);
+      same = far.same ∙ ap (λ says. after_item (now.line + 1) says (λ i. items_from old.header (now.line + 1 + 1) (i ∷ far.items) left)) says
+          ∙ ap (λ n. items_from old.header (n + 1) (i ∷ far.items) left) (sym t.4);
     }
 
-pub read-fault : (old now new : Reader) (start : List Item) (text rest after : List ℕ) (fault : ReadFault) (far : SoFar old start text now rest) → IsFirstTaken now far.items rest after new (Err fault) → IsRead old start text new (Err fault)
-read-fault old now new start text rest after (Trace fault) far first =
-    let t = first.taken in
-    let says : line_says old.header far.items first.line ≡ Err t.0 = ap (λ (f : Profile). line_says f far.items first.line) (sym far.header) ∙ t.1 in
-    far.same ∙ ap (items_from old.header (now.line + 1) far.items) first.cut
-    ∙ ap (λ says. after_item (now.line + 1) says (λ i. items_from old.header (now.line + 1 + 1) (i ∷ far.items) (lines_of after))) says
+pub taken-fault : (old now new : Reader) (start : List Item) (lines : List (List ℕ)) (line : List ℕ) (left : List (List ℕ)) (fault : ReadFault) (far : SoFar old start lines now (line ∷ left)) → IsTaken now far.items line new (Err fault) → AreTaken old start lines new (Err fault)
+taken-fault old now new start lines line left (Trace fault) far t =
+    let says : line_says old.header far.items line ≡ Err t.0 = ap (λ (f : Profile). line_says f far.items line) (sym far.header) ∙ t.1 in
+    far.same ∙ ap (λ says. after_item (now.line + 1) says (λ i. items_from old.header (now.line + 1 + 1) (i ∷ far.items) left)) says
     ∙ ap Err (sym t.2)
-read-fault old now new start text rest after NoMemory far first = tt
+taken-fault old now new start lines line left NoMemory far t = tt
 
-pub at-end : (old now : Reader) (start : List Item) (text rest : List ℕ) → SoFar old start text now rest → lines_of rest ≡ [] → IsRead old start text now (Ok tt)
-at-end old now start text rest far none = (far.items, far.same ∙ ap (items_from old.header (now.line + 1) far.items) none, far.tells, far.header)
+pub at-end : (old now : Reader) (start : List Item) (lines left : List (List ℕ)) → SoFar old start lines now left → left ≡ [] → AreTaken old start lines now (Ok tt)
+at-end old now start lines left far none = (far.items, far.same ∙ ap (items_from old.header (now.line + 1) far.items) none, far.tells, far.header)
+
+-- ---- the first line of a text
+abbrev pub left-is : (old now : Reader) (start : List Item) (lines left other : List (List ℕ)) → left ≡ other → SoFar old start lines now left → SoFar old start lines now other
+left-is old now start lines left other e far = record { items = far.items; tells = far.tells; header = far.header; same = far.same ∙ ap (items_from old.header (now.line + 1) far.items) e }
+
+pub after-line : (old now new : Reader) (start : List Item) (text rest after : List ℕ) (far : SoFar old start (lines_of text) now (lines_of rest)) → IsFirstTaken now far.items rest after new (Ok tt) → SoFar old start (lines_of text) new (lines_of after)
+after-line old now new start text rest after far first =
+    after-taken old now new start (lines_of text) first.line (lines_of after) (left-is old now start (lines_of text) (lines_of rest) (first.line ∷ lines_of after) first.cut far) first.taken
+
+pub read-fault : (old now new : Reader) (start : List Item) (text rest after : List ℕ) (fault : ReadFault) (far : SoFar old start (lines_of text) now (lines_of rest)) → IsFirstTaken now far.items rest after new (Err fault) → IsRead old start text new (Err fault)
+read-fault old now new start text rest after fault far first =
+    taken-fault old now new start (lines_of text) first.line (lines_of after) fault (left-is old now start (lines_of text) (lines_of rest) (first.line ∷ lines_of after) first.cut far) first.taken
 
 -- ---- from the text
 pub parsed-items : (text line rest : List ℕ) (f : Profile) → lines_of text ≡ line ∷ lines_of rest → header_of line ≡ Some f → parsed text ≡ with_items f (items_from f 2 [] (lines_of rest))
@@ -64,16 +72,22 @@ planned text line rest f all plan e h i p = record {
   total = p.total;
 }
 
-from-second : (r : Reader) (f : Profile) (rest : List ℕ) → r.header ≡ f → Tells r [] → items_from f 2 [] (lines_of rest) ≡ items_from r.header (r.line + 1) [] (lines_of rest)
-from-second r f rest header t =
-    ap (λ n. items_from f n [] (lines_of rest)) (sym (ap (λ n. n + 1) t.line)) ∙ ap (λ (g : Profile). items_from g (r.line + 1) [] (lines_of rest)) (sym header)
+from-second : (r : Reader) (rest : List ℕ) → Tells r [] → items_from r.header 2 [] (lines_of rest) ≡ items_from r.header (r.line + 1) [] (lines_of rest)
+from-second r rest t = ap (λ n. items_from r.header n [] (lines_of rest)) (sym (ap (λ n. n + 1) t.line))
 
-pub read-planned : (text line rest : List ℕ) (f : Profile) (r new : Reader) (plan : Plan) → lines_of text ≡ line ∷ lines_of rest → header_of line ≡ Some f → r.header ≡ f → Tells r []
-    → IsRead r [] rest new (Ok tt) → ((items : List Item) → Tells new items → IsPlanned new.header items plan) → IsPlanOf text plan
-read-planned text line rest f r new plan cut some header t h made =
-    planned text line rest f h.0 plan cut some (from-second r f rest header t ∙ h.1) (subst (λ (g : Profile). IsPlanned g h.0 plan) (h.3 ∙ header) (made h.0 h.2))
+pub read-planned : (text rest : List ℕ) (r new : Reader) (plan : Plan) → IsBegun text r rest → IsRead r [] rest new (Ok tt)
+    → ((items : List Item) → Tells new items → IsPlanned new.header items plan) → IsPlanOf text plan
+read-planned text rest r new plan b h made =
+    planned text b.line rest r.header h.0 plan b.cut b.header (from-second r rest b.tells ∙ h.1) (subst (λ (g : Profile). IsPlanned g h.0 plan) h.3 (made h.0 h.2))
 
-pub read-failed : (text line rest : List ℕ) (f : Profile) (r new : Reader) (fault : ReadFault) → lines_of text ≡ line ∷ lines_of rest → header_of line ≡ Some f → r.header ≡ f → Tells r []
-    → IsRead r [] rest new (Err fault) → IsReading text (Err fault)
-read-failed text line rest f r new (Trace fault) cut some header t h = parsed-items text line rest f cut some ∙ ap (with_items f) (from-second r f rest header t ∙ h)
-read-failed text line rest f r new NoMemory cut some header t h = tt
+pub read-failed : (text rest : List ℕ) (r new : Reader) (fault : ReadFault) → IsBegun text r rest → IsRead r [] rest new (Err fault) → IsReading text (Err fault)
+read-failed text rest r new (Trace fault) b h = parsed-items text b.line rest r.header b.cut b.header ∙ ap (with_items r.header) (from-second r rest b.tells ∙ h)
+read-failed text rest r new NoMemory b h = tt
+
+-- .. which may want memory
+pub planned-reading : (text : List ℕ) (reader : Reader) (result : Result Plan ReadFault)
+    → ((plan : Plan) → ((items : List Item) → Tells reader items → IsPlanned reader.header items plan) → IsPlanOf text plan)
+    → MatchResult result (λ plan. (items : List Item) → Tells reader items → IsPlanned reader.header items plan) (λ fault. fault ≡ NoMemory) → IsReading text result
+planned-reading text reader (Ok plan) is h = is plan h
+planned-reading text reader (Err NoMemory) is h = tt
+planned-reading text reader (Err (Trace fault)) is h = absurd (cc)

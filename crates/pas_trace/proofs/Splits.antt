@@ -45,7 +45,7 @@ pieces-some s [] = ([], [], refl)
 pieces-some s (b ∷ bs) = if-some (b == s) ([] ∷ pieces s bs) (put_first b (pieces s bs)) ([], pieces s bs, refl) (put_first-some b (pieces s bs))
 
 -- ---- lines
-end-cons : (p q : List ℕ) (qs : List (List ℕ)) → without_empty_end (p ∷ q ∷ qs) ≡ p ∷ without_empty_end (q ∷ qs)
+pub end-cons : (p q : List ℕ) (qs : List (List ℕ)) → without_empty_end (p ∷ q ∷ qs) ≡ p ∷ without_empty_end (q ∷ qs)
 end-cons [] q qs = refl
 end-cons (b ∷ bs) q qs = refl
 

@@ -5,5 +5,6 @@ pub mod FirstLines
 pub mod Reasons
 pub mod Plans
 pub mod Told
+pub mod Lexed
 pub mod EveryPlan
 pub mod EveryPhase

@@ -2,7 +2,7 @@
 use Rattle.std.specs.Prelude.{if◌then◌else◌, ℕ, ◌+◌, ◌*◌, ◌^◌, ◌==◌, ◌≡◌, ◌≤◌, ◌<◌, nat_lt, nat_le, Bool, true, not, ◌&&◌, ◌||◌, List, [], ◌∷◌, ◌++◌, map, length, None, Some, Result, Ok, Err, slice_index, slice_index_or, slice_set}
 use Rattle.pas_profile.specs.Profiles.{IsValid}
 use Rattle.pas_profile.specs.declared.profile.Profile.{Profile}
-use Rattle.pas_trace.specs.Reasons.{first_failed, is_thread, is_alignment, cost_of, started, operations_in, is_named, is_named_now, thread_of, record_bound, line_says, reason_of}
+use Rattle.pas_trace.specs.Reasons.{header_of, first_failed, is_thread, is_alignment, cost_of, started, operations_in, is_named, is_named_now, thread_of, record_bound, line_says, reason_of}
 use Rattle.pas_trace.specs.declared.fault.Reason.{Reason}
 use Rattle.pas_trace.specs.declared.item.Item.{Item}
 use Rattle.pas_trace.specs.declared.item.Item.TheVariants.{Blank, Shares, NextPhase, Allocates, Frees, FreesRaw, Flushes, Stops, Ticks, Passes, Idles}
@@ -147,11 +147,23 @@ pub record IsFirstTaken (old : Reader) (items : List Item) (text rest : List ℕ
   pub shorter : length rest < length text
   pub taken : IsTaken old items line new result
 
+-- lines were taken after these items, or have this fault
+abbrev pub AreTaken : Reader → List Item → List (List ℕ) → Reader → Result (Unit {0}) ReadFault → Type 0
+AreTaken old items lines new (Ok done) = (all : List Item) × (items_from old.header (old.line + 1) items lines ≡ Ok all) × Tells new all × (new.header ≡ old.header)
+AreTaken old items lines new (Err (Trace fault)) = items_from old.header (old.line + 1) items lines ≡ Err fault
+AreTaken old items lines new (Err NoMemory) = Unit {0}
+
 -- the lines of a text were taken after these items, or have this fault
 abbrev pub IsRead : Reader → List Item → List ℕ → Reader → Result (Unit {0}) ReadFault → Type 0
-IsRead old items text new (Ok done) = (all : List Item) × (items_from old.header (old.line + 1) items (lines_of text) ≡ Ok all) × Tells new all × (new.header ≡ old.header)
-IsRead old items text new (Err (Trace fault)) = items_from old.header (old.line + 1) items (lines_of text) ≡ Err fault
-IsRead old items text new (Err NoMemory) = Unit {0}
+IsRead old items text new result = AreTaken old items (lines_of text) new result
+
+-- the reader has read the header of the text, and this text is left
+pub record IsBegun (text : List ℕ) (r : Reader) (rest : List ℕ) : Type 0 where
+  pub line : List ℕ
+  pub cut : lines_of text ≡ line ∷ lines_of rest
+  pub shorter : length rest < length text
+  pub header : header_of line ≡ Some r.header
+  pub tells : Tells r []
 
 -- the plan of a header and items
 pub record IsPlanned (header : Profile) (items : List Item) (plan : Plan) : Type 0 where

@@ -8,6 +8,7 @@ mod gathered;
 mod header;
 mod item;
 mod items;
+mod lexing;
 mod lines;
 mod names;
 mod numbers;
@@ -15,6 +16,9 @@ mod pieces;
 pub mod plan;
 mod reader;
 mod requests;
+#[cfg(test)]
+mod round_tests;
+mod rounds;
 #[cfg(test)]
 mod tests;
 mod words;
@@ -24,3 +28,4 @@ pub use header::header_of_text;
 pub use numbers::number;
 pub use plan::{Bounds, Op, Phase, Phases, Plan, What};
 pub use reader::read_trace;
+pub use rounds::read_trace_on;

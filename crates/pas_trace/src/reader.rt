@@ -1,11 +1,12 @@
 //! The reader: what it keeps of the lines before, and how it takes a line.
-ghost use Rattle.std.specs.Prelude.{◌≡◌, ◌<◌, ◌≤◌, ◌+◌, ◌∷◌, ◌^◌, [], ℕ, List, Some, None, Ok, Err, OnOk, IfOk, MatchOption, MatchResult, length, slice_index};
+ghost use Rattle.std.specs.Prelude.{◌≡◌, ◌<◌, ◌≤◌, ◌+◌, ◌∷◌, ◌^◌, [], ℕ, List, All, Some, None, Ok, Err, OnOk, IfOk, MatchOption, MatchResult, length, slice_index};
 ghost use Rattle.pas_profile.specs.Profiles.{IsValid};
 ghost use Rattle.pas_trace.specs.Reasons.{reason_of, cost_of, started, is_thread};
 ghost use Rattle.pas_trace.specs.Items.{item_of_line};
 ghost use Rattle.pas_trace.specs.Plans.{IsReading, bounds_of, bounds_upto, fault_at, name_at};
 ghost use Rattle.pas_trace.specs.Texts.{lines_of};
-ghost use Rattle.pas_trace.specs.Told.{IsRanged, Tells, IsOperated, IsAllocated, IsNextPhase, IsAdded, IsTaken, IsFirstTaken, IsRead, IsPlanned, IsChecked, few_told, thread_told, told_checks};
+ghost use Rattle.pas_trace.specs.Told.{IsRanged, Tells, IsOperated, IsAllocated, IsNextPhase, IsAdded, IsTaken, IsFirstTaken, AreTaken, IsRead, IsBegun, IsPlanned, IsChecked, few_told, thread_told, told_checks};
+ghost use Rattle.pas_trace.specs.Lexed.{Say, AreLexed};
 ghost use Rattle.pas_trace.specs.declared.item.Item.{Item};
 
 use crate::counts::{Counts, MOST_OPERATIONS, MOST_RECORDS};
@@ -322,16 +323,44 @@ impl Reader {
 
     /// Reads the lines of a text.
     #[inline(never)]
-    fn read_lines(&mut self, text: &[u8]) -> Result<(), ReadFault>
+    pub(crate) fn read_lines(&mut self, text: &[u8]) -> Result<(), ReadFault>
         requires tells { (items : List Item) × Tells self.old items }
         requires size { self.old.line + length text.now ≤ 2 ^ 24 + 1 }
-        ensures { (items : List Item) → Tells self.old items → IsRead self.old items text.now self.new result }
+        ensures read { (items : List Item) → Tells self.old items → IsRead self.old items text.now self.new result }
+        ensures few { OnOk result (self.new.line ≤ self.old.line + length text.now) }
     {
         let mut rest = text;
         while let Some(after) = self.read_line(rest)? {
             rest = after;
         }
         Ok(())
+    }
+
+    /// Takes what lines say, one after another.
+    #[inline(never)]
+    fn take_items(&mut self, items: &[Item]) -> Result<(), ReadFault>
+        requires tells { (told : List Item) × Tells self.old told }
+        requires said { (lines : List (List ℕ)) × Say lines items.now }
+        requires ranged { All IsRanged items.now }
+        requires size { self.old.line + length items.now ≤ 2 ^ 24 + 1 }
+        ensures taken { (told : List Item) (lines : List (List ℕ)) → Tells self.old told → Say lines items.now → AreTaken self.old told lines self.new result }
+        ensures few { OnOk result (self.new.line ≤ self.old.line + length items.now) }
+    {
+        for item in items {
+            self.take_item(*item)?;
+        }
+        Ok(())
+    }
+
+    /// Takes what the lines of a text say, and then reads the text that is left of it.
+    pub(crate) fn take_lexed(&mut self, items: &[Item], left: &[u8]) -> Result<(), ReadFault>
+        requires tells { (told : List Item) × Tells self.old told }
+        requires lexed { (text : List ℕ) × AreLexed text items.now left.now × (self.old.line + length text ≤ 2 ^ 24 + 1) }
+        ensures read { (told : List Item) (text : List ℕ) → Tells self.old told → AreLexed text items.now left.now → IsRead self.old told text self.new result }
+        ensures few { OnOk result ((text : List ℕ) → AreLexed text items.now left.now → self.new.line ≤ self.old.line + length text) }
+    {
+        self.take_items(items)?;
+        self.read_lines(left)
     }
 
     /// The bounds of the actors: for a thread a deed for each page and its costs, for the scavenger its costs.
@@ -367,6 +396,17 @@ impl Reader {
             total: counts.bound,
         })
     }
+
+    /// The plan of the lines, or that memory was wanting.
+    pub(crate) fn planned(self) -> Result<Plan, ReadFault>
+        requires { (items : List Item) × Tells self items }
+        ensures { MatchResult result (λ plan. (items : List Item) → Tells self items → IsPlanned self.header items plan) (λ fault. fault ≡ ReadFault.NoMemory) }
+    {
+        match self.finish() {
+            Ok(plan) => Ok(plan),
+            Err(AllocError) => Err(ReadFault::NoMemory),
+        }
+    }
 }
 
 /// The fault of a text whose first line is no header.
@@ -375,11 +415,9 @@ const NO_HEADER: ReadFault = ReadFault::Trace(TraceFault {
     reason: Reason::BadHeader,
 });
 
-/// The plan of a text of at most 16 MiB, or the fault of its lowest faulty line. NoMemory only where an allocation fails.
-/// One pass over the bytes, in linear time.
-pub fn read_trace(alloc: Global, text: &[u8]) -> Result<Plan, ReadFault>
-    requires { length text.now ≤ 16777216 }
-    ensures { IsReading text.now result }
+/// A reader that has read the header of a text, and the text after the first line. BadHeader where that line is no header.
+pub(crate) fn begun(alloc: Global, text: &[u8]) -> Result<(Reader, &[u8]), ReadFault>
+    ensures { MatchResult result (λ p. IsBegun text.now p.0 p.1.now) (λ fault. IsReading text.now (Err fault)) }
 {
     let Some((line, rest)) = next_line(text) else {
         return Err(NO_HEADER);
@@ -387,10 +425,16 @@ pub fn read_trace(alloc: Global, text: &[u8]) -> Result<Plan, ReadFault>
     let Some(header) = read_header(line) else {
         return Err(NO_HEADER);
     };
-    let mut reader = Reader::new(alloc, header);
+    Ok((Reader::new(alloc, header), rest))
+}
+
+/// The plan of a text of at most 16 MiB, or the fault of its lowest faulty line. NoMemory only where an allocation fails.
+/// One pass over the bytes, in linear time.
+pub fn read_trace(alloc: Global, text: &[u8]) -> Result<Plan, ReadFault>
+    requires { length text.now ≤ 16777216 }
+    ensures { IsReading text.now result }
+{
+    let (mut reader, rest) = begun(alloc, text)?;
     reader.read_lines(rest)?;
-    match reader.finish() {
-        Ok(plan) => Ok(plan),
-        Err(AllocError) => Err(ReadFault::NoMemory),
-    }
+    reader.planned()
 }

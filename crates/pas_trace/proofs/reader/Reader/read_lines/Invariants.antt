@@ -1,11 +1,12 @@
 use Rattle.std.proofs.Common.{◌+◌, ◌≤◌, List, length}
+use Rattle.pas_trace.specs.Texts.{lines_of}
 use Rattle.pas_trace.specs.Told.{Tells}
 use Rattle.pas_trace.specs.declared.item.Item.{Item}
 use Rattle.pas_trace.proofs.Reading.{SoFar}
 use Rattle.pas_trace.proofs.reader.Reader.read_lines.Given as goal
 
 abbrev pub invariant-loop-after : goal.invariant-loop-after
-invariant-loop-after l = ((start : List Item) → Tells l.fn.self start → SoFar l.fn.self start l.fn.text l.self l.rest) × (l.self.line + length l.rest ≤ 16777217)
+invariant-loop-after l = ((start : List Item) → Tells l.fn.self start → SoFar l.fn.self start (lines_of l.fn.text) l.self (lines_of l.rest)) × (l.self.line + length l.rest ≤ l.fn.self.line + length l.fn.text)
 
 abbrev pub decreases-loop-after : goal.decreases-loop-after
 decreases-loop-after l = length l.rest

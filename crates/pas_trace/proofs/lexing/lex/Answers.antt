@@ -1,0 +1,11 @@
+use Rattle.std.proofs.Common.{List, sym, subst}
+use Rattle.pas_trace.specs.Lexed.{AreLexed}
+use Rattle.pas_trace.specs.declared.item.Item.{Item}
+use Rattle.pas_trace.proofs.LexedLines.{lexed-more}
+use Rattle.pas_trace.proofs.lexing.lex.Goals as goal
+
+pub loop-left-preserved : goal.loop-left-preserved
+loop-left-preserved c =
+    let first = c.in-Some.ensures in
+    subst (λ (items : List Item). AreLexed c.args.text.now items c.in-Some.after.now) (sym c.push_reserved.ensures.items)
+    (lexed-more c.args.text.now c.loop-left.left.now c.in-Some.after.now c.loop-left.items.items c.in-Some.item c.loop-left.invariant first.says first.ranged)

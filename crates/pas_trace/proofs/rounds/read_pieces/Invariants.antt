@@ -1,0 +1,18 @@
+use Rattle.std.proofs.Common.{◌≤◌, ◌+◌, ◌++◌, ℕ, List, length}
+use Rattle.pas_trace.specs.Lexed.{AreLexed}
+use Rattle.pas_trace.specs.Texts.{lines_of}
+use Rattle.pas_trace.specs.Told.{Tells}
+use Rattle.pas_trace.specs.declared.item.Item.{Item}
+use Rattle.pas_trace.proofs.Reading.{SoFar}
+use Rattle.pas_trace.proofs.rounds.read_pieces.Given as goal
+
+abbrev pub invariant-loop-rest : goal.invariant-loop-rest
+invariant-loop-rest g l = record {
+  piece : List ℕ;
+  lexed : AreLexed piece l.full.items l.left;
+  far : (told : List Item) → Tells l.fn.reader told → SoFar l.fn.reader told (lines_of l.fn.text) l.reader (lines_of piece ++ lines_of l.rest);
+  size : l.reader.line + length piece + length l.rest ≤ 16777217;
+}
+
+abbrev pub decreases-loop-rest : goal.decreases-loop-rest
+decreases-loop-rest g l = length l.rest
