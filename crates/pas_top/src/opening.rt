@@ -8,7 +8,7 @@ use crate::manner::Manner;
 use pas_profile::{NoMemory, Profile};
 use pas_shared::Opening;
 use pas_threads::SharedKit;
-use pas_trace::{Plan, ReadFault, header_of_text, read_trace};
+use pas_trace::{Plan, ReadFault, header_of_text, read_trace, read_trace_on};
 use std::alloc::Global;
 use std::thread::{Threads, join};
 
@@ -24,12 +24,12 @@ fn read_and_open<R: Threads + Sync>(
     ensures { IsReading text.now result.0 }
 {
     let theirs = alloc;
-    let (opening, read) = join(
-        rt,
-        || Opening::try_new(theirs, profile).ok(),
-        || read_trace(alloc, text),
-    );
-    (read, opening)
+    let read = || -> Result<Plan, ReadFault>
+        requires { length text.now ≤ 16777216 }
+        ensures { IsReading text.entry.now result }
+    { read_trace_on(rt, alloc, text) };
+    let (opening, plan) = join(rt, || Opening::try_new(theirs, profile).ok(), read);
+    (plan, opening)
 }
 
 /// What the text comes to, and in a replay on threads the region of its header, where that names more than one thread.
@@ -46,7 +46,7 @@ pub(crate) fn read_for<R: Threads + Sync>(
         Manner::InOrder => (read_trace(alloc, text), None),
         Manner::OnThreads => match header_of_text(text) {
             Some(profile) if profile.threads > 1 => read_and_open(rt, alloc, profile, text),
-            _ => (read_trace(alloc, text), None),
+            _ => (read_trace_on(rt, alloc, text), None),
         },
     }
 }
