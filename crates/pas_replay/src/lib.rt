@@ -9,3 +9,4 @@ mod seats;
 
 pub use alone::{by_one_thread, is_of_one_thread};
 pub use kit::{PlainKit, in_order};
+pub use limits::records_for;

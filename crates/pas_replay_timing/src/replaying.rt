@@ -1,10 +1,10 @@
 //! A replay, and how long it took.
-ghost use Rattle.std.specs.Prelude.{◌≡◌, ◌≤◌, ◌+◌, ℕ, List, [], IfSome, length};
+ghost use Rattle.std.specs.Prelude.{◌≡◌, ◌≤◌, ◌+◌, ℕ, List, [], length};
 ghost use Rattle.pas_trace.specs.Plans.{IsPlanOf};
 ghost use Rattle.pas_report.specs.Rooms.{records_in, room_of};
 ghost use Rattle.pas_answers.specs.Replays.{phases_of};
 
-use pas_replay::{PlainKit, in_order};
+use pas_replay::{PlainKit, in_order, records_for};
 use pas_report::Records;
 use pas_threads::{OpenGate, SharedKit, on_threads};
 use pas_trace::{Plan, read_trace};
@@ -26,15 +26,6 @@ pub enum Way {
 pub struct Timed {
     pub records: usize,
     pub took: Duration,
-}
-
-/// Room for what a replay of the plan says.
-fn room_for(alloc: Global, plan: &Plan) -> Option<Records>
-    requires { (text : List ℕ) × (length text ≤ 16777216) × IsPlanOf text plan.now }
-    ensures empty { IfSome result (λ out. records_in out ≡ []) }
-    ensures room { IfSome result (λ out. room_of out ≡ plan.now.total + length (phases_of plan.now) + 1) }
-{
-    Records::try_new(alloc, plan.total, plan.phases.as_slice().len() as u32).ok()
 }
 
 /// The replay in the order of the text. None where memory is wanting.
@@ -91,7 +82,7 @@ pub fn time_replay<R: Clock + Threads + Wait + Sync>(
     let Ok(plan) = read_trace(alloc, text) else {
         return Ok(None);
     };
-    let Some(mut out) = room_for(alloc, &plan) else {
+    let Ok(mut out) = records_for(alloc, &plan) else {
         return Ok(None);
     };
     let took = match way {

@@ -2,7 +2,7 @@
 ghost use Rattle.std.specs.Prelude.{◌≤◌, length};
 
 use crate::{Gate, SharedKit, on_threads};
-use pas_report::Records;
+use pas_replay::records_for;
 use pas_trace::read_trace;
 use std::process::Abort;
 use std::sync::Wait;
@@ -80,11 +80,7 @@ fn meet(rt: &(impl Abort + AllocGlobal + Threads + Wait + Sync), text: &[u8]) ->
         return Ok(false);
     };
     let kit = SharedKit::try_new(rt.alloc(), &plan)?;
-    let mut records = Records::try_new(
-        rt.alloc(),
-        plan.total,
-        plan.phases.as_slice().len() as u32,
-    )?;
+    let mut records = records_for(rt.alloc(), &plan)?;
     let meeting = Meeting::new();
     let _state = on_threads(rt, &plan, kit, &meeting, &mut records);
     Ok(meeting.have_met())

@@ -10,7 +10,7 @@ ghost use Rattle.pas_top.specs.Outcomes.{IsOutcome};
 use crate::manner::Manner;
 use crate::opening::{kit_at, read_for};
 use pas_profile::NoMemory;
-use pas_replay::{PlainKit, by_one_thread, in_order, is_of_one_thread};
+use pas_replay::{PlainKit, by_one_thread, in_order, is_of_one_thread, records_for};
 use pas_report::Records;
 use pas_shared::Opening;
 use pas_steps::State;
@@ -56,7 +56,7 @@ pub(crate) fn outcome_of<R: Threads + Wait + Sync>(
         Err(ReadFault::Trace(fault)) => return Ok(Outcome::Faulty(fault)),
         Err(ReadFault::NoMemory) => return Err(NoMemory),
     };
-    let mut records = Records::try_new(alloc, plan.total, plan.phases.as_slice().len() as u32)?;
+    let mut records = records_for(alloc, &plan)?;
     let ending = replay(rt, alloc, manner, &plan, opening, &mut records)?;
     Ok(Outcome::Replayed(records, ending))
 }

@@ -132,14 +132,7 @@ pub(crate) fn write_and_settle<R: Threads + Sync, K: Sink>(
     ensures failed { OnErr result (Rose (K.faults sink.old) (K.faults sink.new)) }
 {
     let Ending { state, mut rooms } = ending;
-    let (made, wrote) = settle_and_write(
-        rt,
-        alloc,
-        records.as_slice(),
-        &state,
-        &mut rooms,
-        sink,
-    );
+    let (made, wrote) = settle_and_write(rt, alloc, records.as_slice(), &state, &mut rooms, sink);
     match wrote {
         Ok(()) => write_report(&state, made, sink),
         Err(Failed) => Err(Failed),

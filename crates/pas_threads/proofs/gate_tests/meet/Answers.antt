@@ -1,16 +1,7 @@
-use Rattle.std.proofs.Common.{List, ap, length, arith}
-use Rattle.std.proofs.lemmas.List.{length-map}
-use Rattle.pas_trace.specs.Plans.{ops_of, phases_of as phases_in_order}
-use Rattle.pas_trace.specs.declared.plan.Phase.{Phase}
-use Rattle.pas_replay.proofs.PlanFacts.{plan_phases}
 use Rattle.pas_threads.proofs.gate_tests.meet.Goals as goal
 
-pub overflow_cast-as_slice : goal.overflow_cast-as_slice
-overflow_cast-as_slice g c =
-    let n = ap (λ (ps : List Phase). length ps) c.as_slice.ensures in
-    let m = length-map (phases_in_order c.in-Ok.plan.phases) ops_of in
-    let few = plan_phases c.in-Ok.ensures c.requires in
-    omega (arith, n, m, few)
+pub records_for-requires : goal.records_for-requires
+records_for-requires g c = λ here lives. (c.args.text.now, c.requires, c.in-Ok.ensures)
 
 pub on_threads-state-requires-clause-plan : goal.on_threads-state-requires-clause-plan
 on_threads-state-requires-clause-plan g c = λ here lives. (c.args.text.now, c.requires, c.in-Ok.ensures)

@@ -17,7 +17,7 @@ next_slot first fn i worker lt is =
     let many = length-map fn (λ (w : Worker). w.pass) in
     let on : i + 1 ≡ suc i = omega arith in
     let at : get_or (first ∷ map (λ (w : Worker). w.pass) fn) (i + 1) None ≡ worker.pass =
-        ap (λ (n : ℕ). get_or (first ∷ map (λ (w : Worker). w.pass) fn) n None) on ∙ get_or-map (λ (w : Worker). w.pass) fn i worker None lt ∙ ap (λ (w : Worker). w.pass) (sym is) in
+    ap (λ (n : ℕ). get_or (first ∷ map (λ (w : Worker). w.pass) fn) n None) on ∙ get_or-map (λ (w : Worker). w.pass) fn i worker None lt ∙ ap (λ (w : Worker). w.pass) (sym is) in
     take_more (first ∷ map (λ (w : Worker). w.pass) fn) (i + 1) None (omega (arith, lt, many)) ∙ ap (λ (slot : Option SharedPass). take (i + 1) (first ∷ map (λ (w : Worker). w.pass) fn) ++ slot ∷ []) at
 
 pub add_pass-requires-clause-back : goal.add_pass-requires-clause-back

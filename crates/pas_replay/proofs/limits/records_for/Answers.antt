@@ -3,7 +3,7 @@ use Rattle.std.proofs.lemmas.List.{length-map}
 use Rattle.pas_trace.specs.Plans.{ops_of, phases_of as phases_in_order}
 use Rattle.pas_trace.specs.declared.plan.Phase.{Phase}
 use Rattle.pas_replay.proofs.PlanFacts.{plan_phases}
-use Rattle.pas_replay_timing.proofs.replaying.room_for.Goals as goal
+use Rattle.pas_replay.proofs.limits.records_for.Goals as goal
 
 pub overflow_cast-as_slice : goal.overflow_cast-as_slice
 overflow_cast-as_slice c =
