@@ -25,8 +25,15 @@ use std::thread::Threads;
 pub(crate) struct Ending {
     /// The region's state.
     pub(crate) state: State,
-    /// The rooms of the threads, where it was on threads. They are let go while the lines are written.
-    pub(crate) rooms: Option<Rooms>,
+    /// What nobody needs any more.
+    pub(crate) spent: Spent,
+}
+
+/// The plan of a replay that is over, and the rooms of its threads, where it was on threads. On threads they are let go while the lines are written.
+#[derive(Drop)]
+pub(crate) struct Spent {
+    _plan: Plan,
+    _rooms: Option<Rooms>,
 }
 
 /// What an input comes to.
@@ -57,8 +64,12 @@ pub(crate) fn outcome_of<R: Threads + Wait + Sync>(
         Err(ReadFault::NoMemory) => return Err(NoMemory),
     };
     let mut records = records_for(alloc, &plan)?;
-    let ending = replay(rt, alloc, manner, &plan, opening, &mut records)?;
-    Ok(Outcome::Replayed(records, ending))
+    let (state, rooms) = replay(rt, alloc, manner, &plan, opening, &mut records)?;
+    let spent = Spent {
+        _plan: plan,
+        _rooms: rooms,
+    };
+    Ok(Outcome::Replayed(records, Ending { state, spent }))
 }
 
 /// Replays the plan on threads, at the region that was opened for it, if there is one. A plan of one thread has nothing that could be at once, and is
@@ -69,23 +80,19 @@ fn replay_on_threads<R: Threads + Wait + Sync>(
     plan: &Plan,
     opening: Option<Opening>,
     out: &mut Records,
-) -> Result<Ending, NoMemory>
+) -> Result<(State, Option<Rooms>), NoMemory>
     requires plan { (text : List ℕ) × (length text ≤ 16777216) × IsPlanOf text plan.now }
     requires empty { records_in out.old ≡ [] }
     requires room { plan.now.total + length (phases_of plan.now) + 1 ≤ room_of out.old }
-    ensures { IfOk result (λ ending. Shows OnThreads plan.now (records_in out.new) ending.state) }
+    ensures { IfOk result (λ ended. Shows OnThreads plan.now (records_in out.new) ended.0) }
 {
     if is_of_one_thread(plan) {
         let kit = PlainKit::try_new(alloc, plan)?;
-        let state = by_one_thread(plan, kit, out);
-        return Ok(Ending { state, rooms: None });
+        return Ok((by_one_thread(plan, kit, out), None));
     }
     let kit = kit_at(alloc, plan, opening)?;
     let (state, rooms) = on_threads_with_rooms(rt, plan, kit, &OpenGate, out);
-    Ok(Ending {
-        state,
-        rooms: Some(rooms),
-    })
+    Ok((state, Some(rooms)))
 }
 
 /// Replays the plan in this manner, and answers the region's state afterwards, with the rooms that were used. Memory is taken for the kit alone, before the
@@ -97,17 +104,16 @@ fn replay<R: Threads + Wait + Sync>(
     plan: &Plan,
     opening: Option<Opening>,
     out: &mut Records,
-) -> Result<Ending, NoMemory>
+) -> Result<(State, Option<Rooms>), NoMemory>
     requires plan { (text : List ℕ) × (length text ≤ 16777216) × IsPlanOf text plan.now }
     requires empty { records_in out.old ≡ [] }
     requires room { plan.now.total + length (phases_of plan.now) + 1 ≤ room_of out.old }
-    ensures { IfOk result (λ ending. Shows (way_of manner) plan.now (records_in out.new) ending.state) }
+    ensures { IfOk result (λ ended. Shows (way_of manner) plan.now (records_in out.new) ended.0) }
 {
     match manner {
         Manner::InOrder => {
             let kit = PlainKit::try_new(alloc, plan)?;
-            let state = in_order(plan, kit, out);
-            Ok(Ending { state, rooms: None })
+            Ok((in_order(plan, kit, out), None))
         }
         Manner::OnThreads => replay_on_threads(rt, alloc, plan, opening, out),
     }

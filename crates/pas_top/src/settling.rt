@@ -1,4 +1,4 @@
-//! The end of a replay on threads: the report is made, and the rooms are let go, while the lines of the records are written.
+//! The end of a replay on threads: the report is made, and what is spent is let go, while the lines of the records are written.
 ghost use Rattle.std.specs.Prelude.{◌≡◌, ◌≤◌, All, IfSome, OnOk, OnErr};
 ghost use Rattle.pas_io.specs.Told.{Rose, Writes, WritesFront};
 ghost use Rattle.pas_io.specs.Taken.{taken};
@@ -7,7 +7,7 @@ ghost use Rattle.pas_report.specs.Counts.{AreDeedWords, report_by_words};
 ghost use Rattle.pas_report.specs.Rooms.{records_in};
 ghost use Rattle.pas_top.specs.Outcomes.{IsShown, shown_text};
 
-use crate::outcome::Ending;
+use crate::outcome::{Ending, Spent};
 use pas_io::memory::MemorySink;
 use pas_io::whole::write_all;
 use pas_io::{Failed, Sink};
@@ -15,7 +15,6 @@ use pas_profile::NoMemory;
 use pas_report::{Record, Records, report, write_lines};
 use pas_sheets::{Sheets, write_lines_on};
 use pas_steps::State;
-use pas_threads::Rooms;
 use std::alloc::Global;
 use std::thread::{Threads, join_mut};
 
@@ -37,12 +36,12 @@ fn report_in_memory(alloc: Global, state: &State) -> Option<MemorySink>
     Some(text)
 }
 
-/// Lets the rooms go, and makes the report of the state.
-fn settle(alloc: Global, state: &State, rooms: &mut Option<Rooms>) -> Option<MemorySink>
+/// Lets what is spent go, and makes the report of the state.
+fn settle(alloc: Global, state: &State, spent: &mut Option<Spent>) -> Option<MemorySink>
     requires { AreDeedWords state.now }
     ensures { IfSome result (λ text. taken text ≡ report_by_words state.now) }
 {
-    drop(rooms.take());
+    drop(spent.take());
     report_in_memory(alloc, state)
 }
 
@@ -86,13 +85,13 @@ fn write_report<K: Sink>(
     }
 }
 
-/// Lets the rooms go and makes the report of the state in another thread, while the lines of the records are written in this one.
+/// Lets what is spent go and makes the report of the state in another thread, while the lines of the records are written in this one.
 fn settle_and_write<R: Threads + Sync, K: Sink>(
     rt: &R,
     alloc: Global,
     records: &[Record],
     state: &State,
-    rooms: &mut Option<Rooms>,
+    spent: &mut Option<Spent>,
     sink: &mut K,
 ) -> (Option<MemorySink>, Result<(), Failed>)
     requires deeds { AreDeedWords state.now }
@@ -107,7 +106,7 @@ fn settle_and_write<R: Threads + Sync, K: Sink>(
     let mut settle = || -> Option<MemorySink>
         requires { AreDeedWords state.now }
         ensures { IfSome result (λ text. taken text ≡ report_by_words state.entry.now) }
-    { settle(theirs, state, rooms) };
+    { settle(theirs, state, spent) };
     let mut write = || -> Result<(), Failed>
         requires { All CanShow records.now }
         ensures whole { OnOk result (Writes (K.held sink.entry.now) (K.held sink.exit.now) (lines_of records.entry.now)) }
@@ -131,8 +130,9 @@ pub(crate) fn write_and_settle<R: Threads + Sync, K: Sink>(
     ensures front { OnErr result (WritesFront (K.held sink.old) (K.held sink.new) (shown_text (records_in records.now) ending.state)) }
     ensures failed { OnErr result (Rose (K.faults sink.old) (K.faults sink.new)) }
 {
-    let Ending { state, mut rooms } = ending;
-    let (made, wrote) = settle_and_write(rt, alloc, records.as_slice(), &state, &mut rooms, sink);
+    let Ending { state, spent } = ending;
+    let mut spent = Some(spent);
+    let (made, wrote) = settle_and_write(rt, alloc, records.as_slice(), &state, &mut spent, sink);
     match wrote {
         Ok(()) => write_report(&state, made, sink),
         Err(Failed) => Err(Failed),
