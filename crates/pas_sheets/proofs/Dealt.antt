@@ -3,49 +3,49 @@ use Rattle.std.proofs.Common.{◌≡◌, ℕ, suc, ◌+◌, ◌*◌, ◌-◌, mi
 use Rattle.std.proofs.lemmas.List.{take_all, take_min, take_rest, drop_at, take_at, drop_min, drop-drop}
 use Rattle.std.proofs.lemmas.List.Elements.{All-take, All-drop}
 use Rattle.std.proofs.Math.Seq.{take-add}
-use Rattle.arrayvec.specs.ArrayString.{ArrayString}
+use Rattle.pas_sheets.specs.declared.sheets.Sheet.{Sheet}
 use Rattle.pas_report.specs.declared.record.Record.{Record}
 use Rattle.pas_report.specs.Lines.{CanShow, line_of, lines_of}
 use Rattle.pas_sheets.specs.Texts.{part_of, texts_of}
 
 -- each sheet holds the lines of its part
-abbrev pub AreFilled : List ArrayString → List Record → Type 0
-AreFilled sheets round = (place : ℕ) (d : ArrayString) → place < length sheets → (get_or sheets place d).bytes ≡ lines_of (part_of round place)
+abbrev pub AreFilled : List Sheet → List Record → Type 0
+AreFilled sheets round = (place : ℕ) (d : Sheet) → place < length sheets → (get_or sheets place d).text.items ≡ lines_of (part_of round place)
 
 pub lines_append : (rs more : List Record) → lines_of (rs ++ more) ≡ lines_of rs ++ lines_of more
 lines_append [] more = refl
 lines_append (r ∷ rs) more = ap (λ (t : List ℕ). line_of r ++ t) (lines_append rs more) ∙ sym (append_assoc (line_of r) (lines_of rs) (lines_of more))
 
-next_part : (round : List Record) (place : ℕ) → part_of round (suc place) ≡ part_of (drop 512 round) place
+next_part : (round : List Record) (place : ℕ) → part_of round (suc place) ≡ part_of (drop 2048 round) place
 next_part round place =
-    let e : suc place * 512 ≡ 512 + place * 512 = omega arith in
-    ap (λ n. take 512 (drop n round)) e ∙ ap (λ (rs : List Record). take 512 rs) (sym (drop-drop (place * 512) 512 round))
+    let e : suc place * 2048 ≡ 2048 + place * 2048 = omega arith in
+    ap (λ n. take 2048 (drop n round)) e ∙ ap (λ (rs : List Record). take 2048 rs) (sym (drop-drop (place * 2048) 2048 round))
 
-pub texts_are : (sheets : List ArrayString) (round : List Record) → AreFilled sheets round → texts_of sheets ≡ lines_of (take (length sheets * 512) round)
+pub texts_are : (sheets : List Sheet) (round : List Record) → AreFilled sheets round → texts_of sheets ≡ lines_of (take (length sheets * 2048) round)
 texts_are [] round filled = refl
 texts_are (sheet ∷ sheets) round filled =
-    let first : sheet.bytes ≡ lines_of (take 512 round) = filled 0 sheet (omega arith) in
-    let others : AreFilled sheets (drop 512 round) = λ place d within. filled (suc place) d (omega arith) ∙ ap lines_of (next_part round place) in
-    let e : suc (length sheets) * 512 ≡ 512 + length sheets * 512 = omega arith in
-    (λ t. first t ++ texts_are sheets (drop 512 round) others t)
-    ∙ sym (lines_append (take 512 round) (take (length sheets * 512) (drop 512 round)))
-    ∙ ap lines_of (sym (ap (λ n. take n round) e ∙ take-add 512 (length sheets * 512) round))
+    let first : sheet.text.items ≡ lines_of (take 2048 round) = filled 0 sheet (omega arith) in
+    let others : AreFilled sheets (drop 2048 round) = λ place d within. filled (suc place) d (omega arith) ∙ ap lines_of (next_part round place) in
+    let e : suc (length sheets) * 2048 ≡ 2048 + length sheets * 2048 = omega arith in
+    (λ t. first t ++ texts_are sheets (drop 2048 round) others t)
+    ∙ sym (lines_append (take 2048 round) (take (length sheets * 2048) (drop 2048 round)))
+    ∙ ap lines_of (sym (ap (λ n. take n round) e ∙ take-add 2048 (length sheets * 2048) round))
 
 -- .. the whole round, where there are sheets enough
-pub round_is : (sheets : List ArrayString) (round : List Record) → length round ≤ length sheets * 512 → AreFilled sheets round → texts_of sheets ≡ lines_of round
-round_is sheets round few filled = texts_are sheets round filled ∙ ap lines_of (take_all (length sheets * 512) round few)
+pub round_is : (sheets : List Sheet) (round : List Record) → length round ≤ length sheets * 2048 → AreFilled sheets round → texts_of sheets ≡ lines_of round
+round_is sheets round few filled = texts_are sheets round filled ∙ ap lines_of (take_all (length sheets * 2048) round few)
 
 -- what is cut out of a round is a part
-pub part_is : (round : List Record) (place start size : ℕ) → start ≡ min (length round) (place * 512) → size ≡ min (length (take (length round - start) (drop start round))) 512 → take size (take (length round - start) (drop start round)) ≡ part_of round place
+pub part_is : (round : List Record) (place start size : ℕ) → start ≡ min (length round) (place * 2048) → size ≡ min (length (take (length round - start) (drop start round))) 2048 → take size (take (length round - start) (drop start round)) ≡ part_of round place
 part_is round place start size start_is size_is =
     let rest : List Record = take (length round - start) (drop start round) in
-    let start' : start ≡ min (place * 512) (length round) = omega arith in
-    let size' : size ≡ min 512 (length rest) = omega arith in
-    let all : rest ≡ drop (place * 512) round = take_rest round start ∙ ap (λ n. drop n round) start' ∙ drop_min (place * 512) round in
-    ap (λ n. take n rest) size' ∙ take_min 512 rest ∙ ap (λ (rs : List Record). take 512 rs) all
+    let start' : start ≡ min (place * 2048) (length round) = omega arith in
+    let size' : size ≡ min 2048 (length rest) = omega arith in
+    let all : rest ≡ drop (place * 2048) round = take_rest round start ∙ ap (λ n. drop n round) start' ∙ drop_min (place * 2048) round in
+    ap (λ n. take n rest) size' ∙ take_min 2048 rest ∙ ap (λ (rs : List Record). take 2048 rs) all
 
-pub part_short : (round : List Record) (place : ℕ) → length (part_of round place) ≤ 512
-part_short round place = omega (arith, length-take 512 (drop (place * 512) round))
+pub part_short : (round : List Record) (place : ℕ) → length (part_of round place) ≤ 2048
+part_short round place = omega (arith, length-take 2048 (drop (place * 2048) round))
 
 -- the first round's lines, before those of the others
 pub first_round : (records first others : List Record) (text : List ℕ) → records ≡ first ++ others → text ≡ lines_of first → text ++ lines_of others ≡ lines_of records

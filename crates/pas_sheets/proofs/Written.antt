@@ -1,7 +1,7 @@
 -- Texts that are written one after the other.
 use Rattle.std.proofs.Common.{◌≡◌, ℕ, ◌+◌, ◌<◌, List, [], ◌++◌, Option, None, Some, refl, ap, sym, ◌∙◌, append_assoc, append-nil, length, get_or, drop}
 use Rattle.std.proofs.lemmas.List.{at_drop_more}
-use Rattle.arrayvec.specs.ArrayString.{ArrayString}
+use Rattle.pas_sheets.specs.declared.sheets.Sheet.{Sheet}
 use Rattle.pas_io.specs.Told.{Writes, WritesFront}
 use Rattle.pas_io.proofs.Telling.{writes_more}
 use Rattle.pas_sheets.specs.Texts.{texts_of}
@@ -19,8 +19,8 @@ front_more before middle after text piece rest whole is wrote (front, back, piec
     (text ++ front, back ++ rest, sym is ∙ parts, writes_more before middle after text front wrote last)
 
 -- the text of one sheet more
-pub next_text : (sheets : List ArrayString) (i : ℕ) (sheet : ArrayString) (text piece : List ℕ) → i < length sheets → sheet ≡ get_or sheets i sheet → piece ≡ sheet.bytes → text ++ texts_of (drop i sheets) ≡ texts_of sheets → text ++ (piece ++ texts_of (drop (i + 1) sheets)) ≡ texts_of sheets
+pub next_text : (sheets : List Sheet) (i : ℕ) (sheet : Sheet) (text piece : List ℕ) → i < length sheets → sheet ≡ get_or sheets i sheet → piece ≡ sheet.text.items → text ++ texts_of (drop i sheets) ≡ texts_of sheets → text ++ (piece ++ texts_of (drop (i + 1) sheets)) ≡ texts_of sheets
 next_text sheets i sheet text piece within is piece_is before =
-    let bytes : piece ≡ (get_or sheets i sheet).bytes = piece_is ∙ ap (λ (s : ArrayString). s.bytes) is in
-    let more : texts_of (drop i sheets) ≡ (get_or sheets i sheet).bytes ++ texts_of (drop (i + 1) sheets) = at_drop_more texts_of sheets i sheet within in
+    let bytes : piece ≡ (get_or sheets i sheet).text.items = piece_is ∙ ap (λ (s : Sheet). s.text.items) is in
+    let more : texts_of (drop i sheets) ≡ (get_or sheets i sheet).text.items ++ texts_of (drop (i + 1) sheets) = at_drop_more texts_of sheets i sheet within in
     ap (λ (t : List ℕ). text ++ (t ++ texts_of (drop (i + 1) sheets))) bytes ∙ ap (λ (t : List ℕ). text ++ t) (sym more) ∙ before

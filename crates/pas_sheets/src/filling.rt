@@ -1,11 +1,12 @@
 //! Filling all sheets with the lines of a round, in several threads at once.
-ghost use Rattle.std.specs.Prelude.{◌≡◌, ◌<◌, ◌≤◌, ℕ, All, length, get_or};
-ghost use Rattle.arrayvec.specs.ArrayString.{ArrayString};
-ghost use Rattle.pas_report.specs.Lines.{CanShow, lines_of};
+ghost use Rattle.std.specs.Prelude.{◌≡◌, ◌<◌, ◌≤◌, ◌+◌, ◌++◌, ℕ, All, length, get_or};
+ghost use Rattle.pas_report.specs.Lines.{CanShow, line_of, lines_of};
 ghost use Rattle.pas_sheets.specs.Texts.{part_of, texts_of};
+ghost use Rattle.pas_sheets.specs.declared.sheets.Sheet.{Sheet as TheSheet};
+ghost use Rattle.pas_sheets.specs.declared.sheets.TheConstants.{LINE_BYTES, SHEET_BYTES};
 
 use crate::sheets::{Batch, ROUND_RECORDS, SHEET_RECORDS, SHEETS, Sheet};
-use pas_report::{Record, push_record};
+use pas_report::{Line, Record, push_record};
 use std::thread::{Threads, available_parallelism, for_each_mut};
 
 /// How many threads are worth starting: as many as there are processors, or one where that isn't known.
@@ -27,15 +28,27 @@ fn part(round: &[Record], place: usize) -> &[Record]
     &rest[..rest.len().min(SHEET_RECORDS)]
 }
 
+/// Adds the line of the record.
+fn push_line(sheet: &mut Sheet, item: &Record)
+    requires shown { CanShow item.now }
+    requires room { length sheet.old.text.items + LINE_BYTES ≤ SHEET_BYTES }
+    ensures bytes { sheet.new.text.items ≡ sheet.old.text.items ++ line_of item.now }
+    ensures short { length sheet.new.text.items ≤ length sheet.old.text.items + LINE_BYTES }
+{
+    let mut line = Line::new();
+    push_record(&mut line, item);
+    sheet.push(line.as_str().as_bytes());
+}
+
 /// Writes the lines of these records on the sheet, in place of what it held.
 fn fill(sheet: &mut Sheet, records: &[Record])
     requires few { length records.now ≤ SHEET_RECORDS }
     requires shown { All CanShow records.now }
-    ensures { sheet.new.bytes ≡ lines_of records.now }
+    ensures { sheet.new.text.items ≡ lines_of records.now }
 {
     sheet.clear();
     for item in records {
-        push_record(sheet, item);
+        push_line(sheet, item);
     }
 }
 
@@ -43,7 +56,7 @@ fn fill(sheet: &mut Sheet, records: &[Record])
 fn fill_at(sheet: &mut Sheet, round: &[Record], place: usize)
     requires place { place < SHEETS }
     requires shown { All CanShow round.now }
-    ensures { sheet.new.bytes ≡ lines_of (part_of round.now place) }
+    ensures { sheet.new.text.items ≡ lines_of (part_of round.now place) }
 {
     fill(sheet, part(round, place));
 }
@@ -53,7 +66,7 @@ fn fill_all<R: Threads + Sync>(rt: &R, sheets: &mut [Sheet], round: &[Record], t
     requires some { 0 < threads }
     requires few { length sheets.old ≤ SHEETS }
     requires shown { All CanShow round.now }
-    ensures { (place : ℕ) (d : ArrayString) → place < length sheets.old → (get_or sheets.new place d).bytes ≡ lines_of (part_of round.now place) }
+    ensures { (place : ℕ) (d : TheSheet) → place < length sheets.old → (get_or sheets.new place d).text.items ≡ lines_of (part_of round.now place) }
 {
     for_each_mut(
         rt,
@@ -63,7 +76,7 @@ fn fill_all<R: Threads + Sync>(rt: &R, sheets: &mut [Sheet], round: &[Record], t
     );
 }
 
-/// Lets the batch hold the lines of a round, made in at most so many threads. A round of up to 512 records starts none.
+/// Lets the batch hold the lines of a round, made in at most so many threads. Sheets after the round's last record hold none.
 pub(crate) fn fill_batch<R: Threads + Sync>(
     rt: &R,
     round: &[Record],
@@ -75,6 +88,5 @@ pub(crate) fn fill_batch<R: Threads + Sync>(
     requires shown { All CanShow round.now }
     ensures { texts_of batch.new.sheets.items ≡ lines_of round.now }
 {
-    batch.resize(round.len().div_ceil(SHEET_RECORDS));
     fill_all(rt, &mut batch.sheets, round, threads);
 }

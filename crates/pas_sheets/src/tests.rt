@@ -52,7 +52,7 @@ fn faults_cut_the_lines_off(rt: HostRuntime) -> Result<(), Fail> {
     assert_eq!(rt; write_lines(&marks, &mut all), Ok(()));
 
     let mut sheets = Sheets::try_new(rt.alloc())?;
-    let mut between = sink(rt.alloc(), &[40])?;
+    let mut between = sink(rt.alloc(), &[12])?;
     assert_eq!(rt;
         write_lines_on(&rt, &mut sheets, &marks, &mut between),
         Err(Failed)
@@ -60,7 +60,7 @@ fn faults_cut_the_lines_off(rt: HostRuntime) -> Result<(), Fail> {
     assert!(rt; all.held().starts_with(between.held()));
     assert!(rt; between.held().len() > 200_000);
 
-    let mut last = sink(rt.alloc(), &[70])?;
+    let mut last = sink(rt.alloc(), &[18])?;
     assert_eq!(rt;
         write_lines_on(&rt, &mut sheets, &marks, &mut last),
         Err(Failed)

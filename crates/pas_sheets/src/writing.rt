@@ -20,7 +20,7 @@ fn write_texts<K: Sink>(sheets: &[Sheet], sink: &mut K) -> Result<(), Failed>
     ensures count { K.faults sink.old ≤ K.faults sink.new }
 {
     for sheet in sheets {
-        write_all(sink, sheet.as_str().as_bytes())?;
+        write_all(sink, &sheet.text)?;
     }
     Ok(())
 }
@@ -58,9 +58,8 @@ fn write_and_fill<R: Threads + Sync, K: Sink>(
     wrote
 }
 
-/// Writes the line of each record, in order. The lines are made a round of 8,192 records at a time, by as many threads as there are
-/// processors, and each round's are written by this one, at most 64 KB at a time, while the others make those of the next. Up to 512
-/// records start no thread. It takes no memory but the threads' stacks, and time in the length of the lines. After a failure some
+/// Writes the line of each record, in order. The lines are made a round of 32,768 records at a time, by as many threads as there are
+/// processors, and each round's are written by this one, at most 256 KB at a time, while the others make those of the next. It takes no memory but the threads' stacks, and time in the length of the lines. After a failure some
 /// first part of the lines was written.
 pub fn write_lines_on<R: Threads + Sync, K: Sink>(
     rt: &R,

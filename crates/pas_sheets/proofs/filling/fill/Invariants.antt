@@ -5,6 +5,6 @@ use Rattle.pas_sheets.proofs.filling.fill.Given as goal
 -- the lines of the records before this one are on the sheet
 abbrev pub invariant-loop-item : goal.invariant-loop-item
 invariant-loop-item l = record {
-  rest : l.sheet.bytes ++ lines_of (drop l.item-index l.records) ≡ lines_of l.records;
-  short : length l.sheet.bytes ≤ 128 * l.item-index;
+  rest : l.sheet.text.items ++ lines_of (drop l.item-index l.records) ≡ lines_of l.records;
+  short : length l.sheet.text.items ≤ 128 * l.item-index;
 }

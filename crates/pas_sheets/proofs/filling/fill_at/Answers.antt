@@ -12,5 +12,5 @@ fill-requires-clause-few c =
 
 pub fill-requires-clause-shown : goal.fill-requires-clause-shown
 fill-requires-clause-shown c =
-    let may = All-take CanShow 512 (drop (c.args.place * 512) c.args.round.now) (All-drop CanShow (c.args.place * 512) c.args.round.now c.requires.shown) in
+    let may = All-take CanShow 2048 (drop (c.args.place * 2048) c.args.round.now) (All-drop CanShow (c.args.place * 2048) c.args.round.now c.requires.shown) in
     subst (λ (rs : List Record). All CanShow rs) (sym c.part.ensures) may

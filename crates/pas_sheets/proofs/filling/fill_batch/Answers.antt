@@ -7,7 +7,9 @@ use Rattle.pas_sheets.proofs.filling.fill_batch.Goals as goal
 pub returns : goal.returns
 returns g c =
     let same : length c.fill_all.new.sheets ≡ length c.deref_mut.result.now = search rules in
-    let many : vec_len c.resize.new.self.sheets ≡ length c.fill_all.new.sheets = search rules in
-    let rest = drop (length c.fill_all.new.sheets) c.resize.new.self.sheets.items in
-    ap texts_of (take_at c.fill_all.new.sheets rest (vec_len c.resize.new.self.sheets) (omega (arith, many)))
-    ∙ round_is c.fill_all.new.sheets c.args.round.now (omega arith) (λ place d within. c.fill_all.ensures place d (omega arith))
+    let long = c.deref_mut.ensures.len in
+    let all = c.args.batch.now.all in
+    let few = c.requires.few in
+    let rest = drop (length c.fill_all.new.sheets) c.args.batch.now.sheets.items in
+    ap texts_of (take_at c.fill_all.new.sheets rest (vec_len c.args.batch.now.sheets) (omega (arith, same, long)))
+    ∙ round_is c.fill_all.new.sheets c.args.round.now (omega (arith, same, long, all, few)) (λ place d within. c.fill_all.ensures place d (omega (arith, same, within)))

@@ -10,7 +10,7 @@ invariant-loop-round g l = record {
   text : List ℕ;
   written : Writes (g.K.Sink.held l.fn.sink) (g.K.Sink.held l.sink) text;
   rest : text ++ (texts_of l.sheets.full.sheets.items ++ lines_of l.round-iterator.rest.now) ≡ lines_of l.records;
-  size : l.round-iterator.size ≡ 8192;
+  size : l.round-iterator.size ≡ 32768;
   shown : All CanShow l.round-iterator.rest.now;
   count : g.K.Sink.faults l.fn.sink ≤ g.K.Sink.faults l.sink;
 }
