@@ -1,6 +1,6 @@
 -- How the workers of a team are equipped, one after the other, and how their passes are handed back.
 use Rattle.std.proofs.Common.{◌≡◌, ℕ, suc, ◌+◌, List, [], ◌∷◌, ◌++◌, map, length, slice_index, All, Option, Some, None, refl, ap, sym, ◌∙◌, subst, arith}
-use Rattle.std.proofs.lemmas.List.{get_or-map, map-append, length-map}
+use Rattle.std.proofs.lemmas.List.{get_or-map, length-map}
 use Rattle.pas_shared.specs.declared.pass.SharedPass.{SharedPass}
 use Rattle.pas_threads.specs.Kits.{IsEquipped, AreEquipped, AreAllBack}
 use Rattle.pas_threads.specs.declared.workers.Worker.{Worker}
@@ -32,9 +32,3 @@ pub others_back : (team : Team) → AreAllBack team → All IsBack team.threads.
 others_back team back i d lt =
     let it = back (suc i) None (omega (arith, lt, length-map team.threads.items (λ (w : Worker). w.pass))) in
     (it.0, sym (get_or-map (λ (w : Worker). w.pass) team.threads.items i d None lt) ∙ it.1)
-
--- one more
-pub slot_added : (first : Option SharedPass) (done : List Worker) (worker : Worker) (before after : List (Option SharedPass)) → before ≡ first ∷ map (λ w. w.pass) done → after ≡ before ++ worker.pass ∷ []
-    → after ≡ first ∷ map (λ w. w.pass) (done ++ worker ∷ [])
-slot_added first done worker before after were added =
-    added ∙ ap (λ (xs : List (Option SharedPass)). xs ++ worker.pass ∷ []) were ∙ ap (λ (xs : List (Option SharedPass)). first ∷ xs) (sym (map-append (λ (w : Worker). w.pass) done (worker ∷ [])))
