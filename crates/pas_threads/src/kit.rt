@@ -274,8 +274,8 @@ impl SharedKit {
     }
 }
 
-/// Replays the plan as `on_threads` does, and gives the rooms of its actors out with the state: to let them go takes about as long as to write two lines in
-/// a hundred of what was said, which another thread can do.
+/// Replays the plan as `on_threads` does, and gives the rooms of its actors out with the state, so that another thread may let them go: that takes time in
+/// the memory which they touched.
 pub fn on_threads_with_rooms<R: Threads + Wait + Sync, G: Gate + Sync>(
     rt: &R,
     plan: &Plan,
