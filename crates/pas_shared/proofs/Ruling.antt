@@ -24,10 +24,11 @@ use Rattle.pas_core.specs.WordLists.{AreWordsAfter}
 use Rattle.pas_core.proofs.Nexts.{legal_next, agrees_next}
 use Rattle.pas_core.proofs.Ordered.{with_step_own, with_step_others, one_order_next}
 use Rattle.pas_core.proofs.WordLists.{words_next}
+use Rattle.pas_shared.specs.declared.exchange.Change.{Change}
 use Rattle.pas_shared.specs.declared.rule.Part.{Part}
 use Rattle.pas_shared.specs.declared.rule.Roster.{Roster}
 use Rattle.pas_shared.specs.declared.rule.Roster.TheVariants.{Unused, Listed}
-use Rattle.pas_shared.specs.Ruled.{HasPart, Names, alone, first_alone, all_but_first, joined, AreNamed, AreAfterOneList, Holds, IsAskedOf, IsAdded, IsAddedIfKept}
+use Rattle.pas_shared.specs.Ruled.{HasPart, Names, alone, first_alone, all_but_first, joined, AreNamed, AreAfterOneList, Holds, changed, IsAskedOf, IsAdded, Makes, IsAddedIfKept}
 
 -- ---- what the seats know after one more step of actor k, whose seat is id
 grows : (own : ℕ → View) (seat_number : ℕ → ℕ) (rosters : List Roster) (id k : ℕ) (v : View) (m : Made) → AreNamed own seat_number rosters → seat_number k ≡ id → own k ≡ v → AreNamed (with_step k m own) seat_number (set rosters id (alone k (m ∷ v)))
@@ -126,6 +127,16 @@ pub may_look_first : {f key : Profile} {here there : TableId} {m slots id k : �
     → i ≡ index_of f.pages (target s)
     → (here ≡ there) × (i < m) × Allows (Holds key) slots id me i (λ n. n) (IsAddedIfKept f k v s)
 may_look_first {f = f} {slots = slots} {id = id} {k = k} {v = v} {s = s} {i = i} place asked at = at_call s (λ n. n) (IsAddedIfKept f k v s) place asked.0 asked.1 at (adds_if_kept f slots id k v s i asked.1 at)
+
+-- for the exchange after such a load, which found a word that the change alters
+pub may_change : {f key : Profile} {here there : TableId} {m slots id k : ℕ} {v : View} {s : Step} {i n : ℕ} {g : ℕ → ℕ} {me : Me (Unit {0}) Roster} (change : Change)
+    → (here ≡ there) × (key ≡ f) × (m ≡ words_of f.pages f.heaps)
+    → IsAskedOf f k v s → i ≡ index_of f.pages (target s) → Makes v s change
+    → IsAddedIfKept f k v s n me → changed change n ≢ n
+    → ((x : ℕ) → changed change x ≡ g x)
+    → (here ≡ there) × (i < m) × Allows (Holds key) slots id me i g (IsAdded f k v s)
+may_change {n = n} change place asked at makes looked altered new =
+    may_make place (looked.changed (λ same. altered (sym (makes n) ∙ same)), refl, asked) (at, refl) refl (λ x. makes x ∙ new x)
 
 pub either_if : (b : Bool) (x y : ℕ) → (if b then x else y) ≡ either b x y
 either_if true x y = refl

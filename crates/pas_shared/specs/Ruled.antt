@@ -1,5 +1,6 @@
 -- The rule of the table: its words are those after one legal list, and what the seats know is the own list of each actor.
-use Rattle.std.specs.Prelude.{◌≡◌, ◌≢◌, ◌⊎◌, ℕ, ◌+◌, ◌≤◌, max, List, [], ◌∷◌, ◌++◌}
+use Rattle.std.specs.Prelude.{◌≡◌, ◌≢◌, ◌⊎◌, ℕ, ◌+◌, ◌≤◌, max, List, [], ◌∷◌, ◌++◌, bit_and, bit_or}
+use Rattle.std.specs.Int.{bit_not, w64}
 use mathlib.Core.Option.{some}
 use lib.ListN.{get_elem?}
 use Rattle.atomic_table.specs.Table.{State, Me}
@@ -14,6 +15,8 @@ use Rattle.pas_steps.specs.Desks.{made}
 use Rattle.pas_steps.specs.declared.step.Step.{Step}
 use Rattle.pas_core.specs.Orders.{IsOneOrder}
 use Rattle.pas_core.specs.WordLists.{AreWordsAfter}
+use Rattle.pas_shared.specs.declared.exchange.Change.{Change}
+use Rattle.pas_shared.specs.declared.exchange.Change.TheVariants.{Raise, Set, Clear}
 use Rattle.pas_shared.specs.declared.rule.Part.{Part}
 use Rattle.pas_shared.specs.declared.rule.Roster.{Roster}
 use Rattle.pas_shared.specs.declared.rule.Roster.TheVariants.{Unused, Listed}
@@ -96,9 +99,15 @@ pub record IsAskedOf (f : Profile) (k : ℕ) (v : View) (step : Step) : Type 0 w
 abbrev pub IsAdded : Profile → ℕ → View → Step → ℕ → Me (Unit {0}) Roster → Type 0
 IsAdded f k v step n me = (me ≡ (alone k (made step n ∷ v), [])) × Agrees f v step n
 
--- the step makes of its word the greater of it and this value
-abbrev pub RaisesTo : View → Step → ℕ → Type 0
-RaisesTo v step value = (n : ℕ) → new_value (epoch_of v) step n ≡ max n value
+-- the word after a change
+abbrev pub changed : Change → ℕ → ℕ
+changed (Raise value) n = max n value
+changed (Set mask) n = bit_or n mask
+changed (Clear mask) n = bit_and n (bit_not w64 mask)
+
+-- the step changes its word in this way
+abbrev pub Makes : View → Step → Change → Type 0
+Makes v step change = (n : ℕ) → new_value (epoch_of v) step n ≡ changed change n
 
 -- what a load tells: where the step would leave the word that it found as it is, the load is the step, and otherwise it is no step at all
 pub record IsAddedIfKept (f : Profile) (k : ℕ) (v : View) (step : Step) (n : ℕ) (me : Me (Unit {0}) Roster) : Type 0 where

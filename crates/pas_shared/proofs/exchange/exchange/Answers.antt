@@ -13,14 +13,11 @@ load-requires g c = may_make c.requires.place c.requires.step c.requires.at c.in
 pub compare_exchange-requires : goal.compare_exchange-requires
 compare_exchange-requires g c = may_make c.requires.place c.requires.step c.requires.at c.in-Deed.is (λ n. either_if (n == 0) (deed_word_of c.in-Deed.directory) n ∙ ap (λ x. either (n == 0) x n) (sym c.deed_word.ensures))
 
-pub fetch_or-requires : goal.fetch_or-requires
-fetch_or-requires g c = may_make c.requires.place c.requires.step c.requires.at c.in-Back.is (λ n. refl)
-
 pub fetch_and-requires : goal.fetch_and-requires
 fetch_and-requires g c = may_make c.requires.place c.requires.step c.requires.at c.in-Take.is (λ n. refl)
 
-pub fetch_or-requires-in-Put : goal.fetch_or-requires-in-Put
-fetch_or-requires-in-Put g c = may_make c.requires.place c.requires.step c.requires.at c.in-Put.is (λ n. refl)
+pub fetch_or-requires : goal.fetch_or-requires
+fetch_or-requires g c = may_make c.requires.place c.requires.step c.requires.at c.in-Put.is (λ n. refl)
 
 pub swap-requires : goal.swap-requires
 swap-requires g c = may_make c.requires.place c.requires.step c.requires.at c.in-Give.is (λ n. sym c.life_word-word.ensures)
@@ -36,12 +33,6 @@ fetch_or-requires-in-Offer g c = may_make c.requires.place c.requires.step c.req
 
 pub fetch_or-requires-in-Park : goal.fetch_or-requires-in-Park
 fetch_or-requires-in-Park g c = may_make c.requires.place c.requires.step c.requires.at c.in-Park.is (λ n. ap (bit_or n) (sym c.page_mask-in-Park.ensures))
-
-pub fetch_and-requires-in-Unpark : goal.fetch_and-requires-in-Unpark
-fetch_and-requires-in-Unpark g c = may_make c.requires.place c.requires.step c.requires.at c.in-Unpark.is (λ n. ap (λ x. bit_and n (bit_not w64 x)) (sym c.page_mask-in-Unpark.ensures))
-
-pub fetch_or-requires-in-Hint : goal.fetch_or-requires-in-Hint
-fetch_or-requires-in-Hint g c = may_make c.requires.place c.requires.step c.requires.at c.in-Hint.is (λ n. ap (bit_or n) (sym c.page_mask-in-Hint.ensures))
 
 pub fetch_max-requires : goal.fetch_max-requires
 fetch_max-requires g c = may_make c.requires.place c.requires.step c.requires.at c.in-Tick.is (λ n. refl)
