@@ -26,7 +26,7 @@ below_higher : (limit higher : ℕ) (ops : List Op) → limit ≤ higher → Are
 below_higher limit higher [] le all = tt
 below_higher limit higher (op ∷ ops) le all = (below_what limit higher op.what le all.0, below_higher limit higher ops le all.1)
 
-all_higher : (limit higher : ℕ) (phases : List (List Op)) → limit ≤ higher → AllBelow limit phases → AllBelow higher phases
+pub all_higher : (limit higher : ℕ) (phases : List (List Op)) → limit ≤ higher → AllBelow limit phases → AllBelow higher phases
 all_higher limit higher [] le all = tt
 all_higher limit higher (p ∷ ps) le all = (below_higher limit higher p le all.0, all_higher limit higher ps le all.1)
 

@@ -30,6 +30,48 @@ impl Records {
         }
     }
 
+    /// Room as `try_new` gives it, of which the memory for the first `touched` records, or for all, was touched. The first touch of memory takes
+    /// long, and so may be left to a thread that has nothing else to do. One write for each of these records.
+    pub fn try_new_touched(
+        alloc: Global,
+        bound: u32,
+        phases: u32,
+        touched: u32,
+    ) -> Result<Records, NoMemory>
+        ensures empty { IfOk result (λ room. records_in room ≡ []) }
+        ensures size { IfOk result (λ room. room_of room ≡ bound + phases + 1) }
+    {
+        let mut room = Records::try_new(alloc, bound, phases)?;
+        for _ in 0..room.bound.min(touched as u64) {
+            room.push(Record::Close);
+        }
+        room.items.clear();
+        Ok(room)
+    }
+
+    /// Room as `try_new` gives it, in the memory of a room that was made before, where that is large enough. What that room held is forgotten.
+    pub fn try_new_in(
+        alloc: Global,
+        bound: u32,
+        phases: u32,
+        before: Records,
+    ) -> Result<Records, NoMemory>
+        ensures empty { IfOk result (λ room. records_in room ≡ []) }
+        ensures size { IfOk result (λ room. room_of room ≡ bound + phases + 1) }
+    {
+        let Records { mut items, bound: _ } = before;
+        let needed = bound as u64 + phases as u64 + 1;
+        if items.capacity() as u64 >= needed {
+            items.clear();
+            return Ok(Records {
+                items,
+                bound: needed,
+            });
+        }
+        drop(items);
+        Records::try_new(alloc, bound, phases)
+    }
+
     /// For how many more records there is room.
     pub fn spare(&self) -> u64
         ensures { result + length (records_in self.now) ≡ room_of self.now }

@@ -1,17 +1,19 @@
 //! All that a replay on threads needs, and the replay.
-ghost use Rattle.std.specs.Prelude.{◌≡◌, ◌≤◌, ◌<◌, ◌+◌, ◌^◌, ℕ, List, IfOk, All, true, Some, [], map, length, slice_index, vec_capacity, ◌++◌, ◌∷◌};
+ghost use Rattle.std.specs.Prelude.{◌≡◌, ◌≤◌, ◌<◌, ◌+◌, ◌^◌, ℕ, List, IfOk, All, true, Some, None, [], map, length, slice_index, vec_capacity, ◌++◌, ◌∷◌};
 ghost use Rattle.pas_profile.specs.declared.profile.Profile.{Profile as TheProfile};
 ghost use Rattle.pas_trace.specs.Plans.{IsPlanOf, bounds_of};
 ghost use Rattle.pas_utility.specs.Outcomes.{places_of};
 ghost use Rattle.pas_utility.specs.Pools.{threads_of, has_seat, outcomes_of};
 ghost use Rattle.pas_cache.specs.Caches.{cached};
 ghost use Rattle.pas_report.specs.Rooms.{records_in, room_of};
+ghost use Rattle.pas_answers.specs.Names.{block_named, names_held};
 ghost use Rattle.pas_answers.specs.Replays.{phases_of, empty_cache, Shows};
 ghost use Rattle.pas_answers.specs.Ways.{OnThreads};
 ghost use Rattle.pas_shared.specs.Passes.{profile_of_opening};
 ghost use Rattle.pas_shared.specs.declared.pass.SharedPass.{SharedPass as ThePass};
 ghost use Rattle.pas_threads.specs.Kits.{IsEquipped, AreEquipped, IsSupplied, IsTeamOf, IsKitOf, slots_of, AreAllBack};
 
+use crate::ahead::{Ahead, Spare};
 use crate::gate::Gate;
 use crate::names::{NameBook, Requests};
 use crate::phases::{Team, replay};
@@ -45,12 +47,14 @@ pub struct Rooms {
     _team: Team,
 }
 
-/// Where the records of a whole replay have room: with this thread, and so many in so many phases.
-#[derive(Clone, Copy)]
+/// Where the records of a whole replay have room: with this thread, so many in so many phases.
+#[derive(Drop)]
 struct WholeRoom {
     thread: usize,
     total: u32,
     phases: u32,
+    /// A room that was made before, for that thread. None once it has it.
+    before: Option<Records>,
 }
 
 /// The first thread whose bound is greatest. The bounds are those of all actors.
@@ -69,21 +73,25 @@ fn busiest(bounds: &[u32]) -> usize
 }
 
 /// Room for the records of a thread with this bound. That of one thread is large enough for the whole replay: where nothing was said before, what this thread
-/// says can become the record of the replay without being moved.
+/// says can become the record of the replay without being moved. It lies in the memory that was made for it before, where that is large enough.
 fn records_for(
     alloc: Global,
     thread: usize,
     bound: u32,
-    whole: WholeRoom,
+    whole: &mut WholeRoom,
 ) -> Result<Records, NoMemory>
     ensures empty { IfOk result (λ out. records_in out ≡ []) }
     ensures size { IfOk result (λ out. bound ≤ room_of out) }
-    ensures whole { thread ≡ whole.thread → IfOk result (λ out. whole.total + whole.phases + 1 ≤ room_of out) }
+    ensures whole { thread ≡ whole.old.thread → IfOk result (λ out. whole.old.total + whole.old.phases + 1 ≤ room_of out) }
+    ensures others { (whole.new.thread ≡ whole.old.thread) × (whole.new.total ≡ whole.old.total) × (whole.new.phases ≡ whole.old.phases) }
 {
-    if thread == whole.thread {
-        Records::try_new(alloc, bound.max(whole.total), whole.phases)
-    } else {
-        Records::try_new(alloc, bound, 0)
+    if thread != whole.thread {
+        return Records::try_new(alloc, bound, 0);
+    }
+    let bound = bound.max(whole.total);
+    match whole.before.take() {
+        Some(before) => Records::try_new_in(alloc, bound, whole.phases, before),
+        None => Records::try_new(alloc, bound, whole.phases),
     }
 }
 
@@ -115,7 +123,7 @@ fn workers_for(
     passes: Vec<SharedPass>,
     mut caches: Vec<ThreadCache>,
     bounds: &[u32],
-    whole: WholeRoom,
+    mut whole: WholeRoom,
 ) -> Result<Vec<Worker>, NoMemory>
     requires bounds { length bounds.now ≡ length passes.items + 1 }
     requires caches { length caches.items ≡ length passes.items }
@@ -133,7 +141,7 @@ fn workers_for(
         };
         let thread = workers.len() + 1;
         let bound = bounds[thread];
-        let out = records_for(alloc, thread, bound, whole)?;
+        let out = records_for(alloc, thread, bound, &mut whole)?;
         workers.push_reserved(worker_with(alloc, pass, cache, bound, out)?);
     }
     Ok(workers)
@@ -162,13 +170,28 @@ fn scavenger_with(
     })
 }
 
-/// The team of a plan, whose scavenger has the first pass, and whose threads have the others in order.
+/// A book of which there is room for the names below the limit: the one that was made before, where it has room for them.
+fn book_of(alloc: Global, limit: usize, before: NameBook) -> Result<NameBook, NoMemory>
+    requires { (name : ℕ) → block_named before.names name ≡ None }
+    ensures empty { IfOk result (λ book. (name : ℕ) → block_named book.names name ≡ None) }
+    ensures room { IfOk result (λ book. limit ≤ names_held book.names) }
+{
+    if before.room() >= limit {
+        return Ok(before);
+    }
+    drop(before);
+    NameBook::try_new(alloc, limit)
+}
+
+/// The team of a plan, whose scavenger has the first pass, and whose threads have the others in order. Its names and the records of the busiest thread lie
+/// in what was made before, where that is large enough.
 fn team_for(
     alloc: Global,
     plan: &Plan,
     utility: &mut Utility,
     first: SharedPass,
     others: Vec<SharedPass>,
+    before: Spare,
 ) -> Result<Team, NoMemory>
     requires plan { (text : List ℕ) × IsPlanOf text plan.now }
     requires passes { length others.items ≡ plan.now.profile.threads }
@@ -180,16 +203,18 @@ fn team_for(
     let bounds = plan.bounds.as_slice();
     let phases = plan.phases.as_slice();
     let count = plan.profile.threads;
+    let Spare { book, records } = before;
     let caches = caches_for(alloc, utility, count)?;
     let whole = WholeRoom {
         thread: busiest(bounds),
         total: plan.total,
         phases: u32::try_from(phases.len()).unwrap_or(u32::MAX),
+        before: Some(records),
     };
     let threads = workers_for(alloc, others, caches, bounds, whole)?;
     let outcomes = outcomes_from(utility);
     let scavenger = scavenger_with(alloc, first, outcomes, bounds[0], count)?;
-    let book = NameBook::try_new(alloc, names_limit(phases))?;
+    let book = book_of(alloc, names_limit(phases), book)?;
     let Ok(hands) = Vec::with_capacity(alloc, count as usize + 1) else {
         return Err(NoMemory);
     };
@@ -235,24 +260,32 @@ impl SharedKit {
         requires { (text : List ℕ) × IsPlanOf text plan.now }
         ensures { IfOk result (λ kit. IsKitOf plan.now kit) }
     {
-        SharedKit::made_at(alloc, plan, Opening::try_new(alloc, plan.profile)?)
+        let opening = Opening::try_new(alloc, plan.profile)?;
+        SharedKit::made_at(alloc, plan, opening, Spare::try_new(alloc, 0, 0, 0)?)
     }
 
-    /// The kit of a plan, as `try_new` gives it, at a region that was opened before, where that has the plan's profile; otherwise the opening is let go, and the
-    /// region is a new one. NoMemory where memory was wanting. With the plan's profile it costs no pass over the words of the region.
-    pub fn try_new_at(alloc: Global, plan: &Plan, opening: Opening) -> Result<SharedKit, NoMemory>
+    /// The kit of a plan, as `try_new` gives it, of what was made ahead, as far as that serves: at its region where that has the plan's profile, and with its
+    /// rooms where they are large enough. The rest is let go. NoMemory where memory was wanting. Where all of it serves, it costs one pass over the plan.
+    pub fn try_new_of(alloc: Global, plan: &Plan, ahead: Ahead) -> Result<SharedKit, NoMemory>
         requires { (text : List ℕ) × IsPlanOf text plan.now }
         ensures { IfOk result (λ kit. IsKitOf plan.now kit) }
     {
+        let Ahead { opening, spare } = ahead;
         if *opening.profile() == plan.profile {
-            return SharedKit::made_at(alloc, plan, opening);
+            return SharedKit::made_at(alloc, plan, opening, spare);
         }
         drop(opening);
-        SharedKit::try_new(alloc, plan)
+        let opening = Opening::try_new(alloc, plan.profile)?;
+        SharedKit::made_at(alloc, plan, opening, spare)
     }
 
-    /// The kit of a plan at this region, which has the plan's profile.
-    fn made_at(alloc: Global, plan: &Plan, opening: Opening) -> Result<SharedKit, NoMemory>
+    /// The kit of a plan at this region, which has the plan's profile, with these rooms where they are large enough.
+    fn made_at(
+        alloc: Global,
+        plan: &Plan,
+        opening: Opening,
+        before: Spare,
+    ) -> Result<SharedKit, NoMemory>
         requires plan { (text : List ℕ) × IsPlanOf text plan.now }
         requires profile { profile_of_opening opening ≡ plan.now.profile }
         ensures { IfOk result (λ kit. IsKitOf plan.now kit) }
@@ -262,7 +295,7 @@ impl SharedKit {
         let rooms = rooms_of(alloc, &mut utility, count)?;
         let (region, mut others) = SharedRegion::try_new_at(alloc, opening, rooms)?;
         let first = others.remove(0);
-        let team = team_for(alloc, plan, &mut utility, first, others)?;
+        let team = team_for(alloc, plan, &mut utility, first, others, before)?;
         let Ok(passes) = Vec::with_capacity(alloc, count as usize + 1) else {
             return Err(NoMemory);
         };

@@ -1,6 +1,7 @@
 //! The replay of a plan on threads, over a region that they share.
 #![tactic(auto)]
 
+mod ahead;
 mod crew;
 mod dealing;
 pub mod gate;
@@ -18,5 +19,6 @@ mod scavenging;
 mod turns;
 mod workers;
 
+pub use ahead::Ahead;
 pub use gate::{Gate, OpenGate};
 pub use kit::{Rooms, SharedKit, on_threads, on_threads_with_rooms};

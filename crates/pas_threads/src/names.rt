@@ -129,6 +129,13 @@ impl NameBook {
         }
     }
 
+    /// The number below which names have room.
+    pub(crate) fn room(&self) -> usize
+        ensures { result ≡ names_held self.now.names }
+    {
+        self.places.len()
+    }
+
     /// The place of a name that is asked for in the phase; of another any number.
     #[inline]
     fn place(&self, name: u32) -> u32

@@ -8,13 +8,12 @@ ghost use Rattle.pas_top.specs.Manners.{way_of};
 ghost use Rattle.pas_top.specs.Outcomes.{IsOutcome};
 
 use crate::manner::Manner;
-use crate::opening::{kit_at, read_for};
+use crate::opening::{kit_of, read_for};
 use pas_profile::NoMemory;
 use pas_replay::{PlainKit, by_one_thread, in_order, is_of_one_thread, records_for};
 use pas_report::Records;
-use pas_shared::Opening;
 use pas_steps::State;
-use pas_threads::{OpenGate, Rooms, on_threads_with_rooms};
+use pas_threads::{Ahead, OpenGate, Rooms, on_threads_with_rooms};
 use pas_trace::{Plan, ReadFault, TraceFault};
 use std::alloc::Global;
 use std::sync::Wait;
@@ -45,8 +44,8 @@ pub(crate) enum Outcome {
     Faulty(TraceFault),
 }
 
-/// Reads the bytes, lets them go, and replays the trace that they are in this manner. On threads the region is opened while the bytes are
-/// read. NoMemory comes before the replay begins, or not at all.
+/// Reads the bytes, lets them go, and replays the trace that they are in this manner. On threads what the replay needs is made while the
+/// bytes are read. NoMemory comes before the replay begins, or not at all.
 pub(crate) fn outcome_of<R: Threads + Wait + Sync>(
     rt: &R,
     alloc: Global,
@@ -56,7 +55,7 @@ pub(crate) fn outcome_of<R: Threads + Wait + Sync>(
     requires { length bytes.items ≤ 16777216 }
     ensures { IfOk result (IsOutcome (way_of manner) bytes.items) }
 {
-    let (read, opening) = read_for(rt, alloc, manner, &bytes);
+    let (read, ahead) = read_for(rt, alloc, manner, &bytes);
     drop(bytes);
     let plan = match read {
         Ok(plan) => plan,
@@ -64,7 +63,7 @@ pub(crate) fn outcome_of<R: Threads + Wait + Sync>(
         Err(ReadFault::NoMemory) => return Err(NoMemory),
     };
     let mut records = records_for(alloc, &plan)?;
-    let (state, rooms) = replay(rt, alloc, manner, &plan, opening, &mut records)?;
+    let (state, rooms) = replay(rt, alloc, manner, &plan, ahead, &mut records)?;
     let spent = Spent {
         _plan: plan,
         _rooms: rooms,
@@ -72,13 +71,13 @@ pub(crate) fn outcome_of<R: Threads + Wait + Sync>(
     Ok(Outcome::Replayed(records, Ending { state, spent }))
 }
 
-/// Replays the plan on threads, at the region that was opened for it, if there is one. A plan of one thread has nothing that could be at once, and is
+/// Replays the plan on threads, with what was made ahead for it, if that was. A plan of one thread has nothing that could be at once, and is
 /// replayed over plain words.
 fn replay_on_threads<R: Threads + Wait + Sync>(
     rt: &R,
     alloc: Global,
     plan: &Plan,
-    opening: Option<Opening>,
+    ahead: Option<Ahead>,
     out: &mut Records,
 ) -> Result<(State, Option<Rooms>), NoMemory>
     requires plan { (text : List ℕ) × (length text ≤ 16777216) × IsPlanOf text plan.now }
@@ -90,7 +89,7 @@ fn replay_on_threads<R: Threads + Wait + Sync>(
         let kit = PlainKit::try_new(alloc, plan)?;
         return Ok((by_one_thread(plan, kit, out), None));
     }
-    let kit = kit_at(alloc, plan, opening)?;
+    let kit = kit_of(alloc, plan, ahead)?;
     let (state, rooms) = on_threads_with_rooms(rt, plan, kit, &OpenGate, out);
     Ok((state, Some(rooms)))
 }
@@ -102,7 +101,7 @@ fn replay<R: Threads + Wait + Sync>(
     alloc: Global,
     manner: Manner,
     plan: &Plan,
-    opening: Option<Opening>,
+    ahead: Option<Ahead>,
     out: &mut Records,
 ) -> Result<(State, Option<Rooms>), NoMemory>
     requires plan { (text : List ℕ) × (length text ≤ 16777216) × IsPlanOf text plan.now }
@@ -115,6 +114,6 @@ fn replay<R: Threads + Wait + Sync>(
             let kit = PlainKit::try_new(alloc, plan)?;
             Ok((in_order(plan, kit, out), None))
         }
-        Manner::OnThreads => replay_on_threads(rt, alloc, plan, opening, out),
+        Manner::OnThreads => replay_on_threads(rt, alloc, plan, ahead, out),
     }
 }

@@ -3,7 +3,9 @@ use Rattle.std.proofs.lemmas.Option.{same_Some}
 use Rattle.pas_trace.specs.Plans.{ops_of}
 use Rattle.pas_trace.specs.declared.plan.Phase.{Phase}
 use Rattle.pas_answers.specs.Fit.{AllBelow}
+use Rattle.pas_answers.specs.Names.{names_held}
 use Rattle.pas_answers.specs.Replays.{phases_of}
+use Rattle.pas_replay.proofs.NameLimits.{all_higher}
 use Rattle.pas_replay.proofs.PlanFacts.{plan_valid, plan_bounds}
 use Rattle.pas_threads.specs.Kits.{AreEquipped, IsSupplied}
 use Rattle.pas_threads.proofs.kit.team_for.Goals as goal
@@ -34,7 +36,7 @@ returns c =
       workers = subst (λ (bs : List ℕ). AreEquipped bs 1 c.args.others.items c.in_ok-threads.threads.items) c.as_slice-bounds.ensures c.in_ok-threads.ensures.workers;
       book = record {
         no_name = c.in_ok-book.ensures.empty;
-        names = subst (λ (n : ℕ). AllBelow n (phases_of plan)) (sym c.in_ok-book.ensures.room)
+        names = all_higher c.names_limit.result (names_held c.in_ok-book.book.names) (phases_of plan) c.in_ok-book.ensures.room
             (subst (λ (ps : List Phase). AllBelow c.names_limit.result (map ops_of ps)) c.as_slice-phases.ensures c.names_limit.ensures);
       };
       places = record { workers = omega (arith, many, threads); hands = omega (arith, hands); lent = c.in_ok-scavenger.ensures.places; free = c.in-Ok.ensures.items };
