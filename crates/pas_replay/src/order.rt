@@ -28,7 +28,9 @@ pub fn active(ops: &[Op]) -> Mask4
 {
     let mut threads = Mask4([0; 4]);
     for op in ops {
-        threads.set(op.actor);
+        if !threads.get(op.actor) {
+            threads.set(op.actor);
+        }
     }
     threads
 }

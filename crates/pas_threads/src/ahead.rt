@@ -75,12 +75,10 @@ impl Ahead {
         let open = || -> Result<Opening, NoMemory>
             requires { IsValid profile }
             ensures { IfOk result (λ opening. profile_of_opening opening ≡ profile) }
-        { Opening::try_new(alloc, profile) };
-        let (spare, opening) = join(
-            rt,
-            || Spare::try_new(theirs, names.saturating_add(names / 8 + 1), bound, lines),
-            open,
-        );
+        { Opening::try_new(theirs, profile) };
+        let (opening, spare) = join(rt, open, || {
+            Spare::try_new(alloc, names.saturating_add(names / 8 + 1), bound, lines)
+        });
         Ok(Ahead {
             opening: opening?,
             spare: spare?,

@@ -27,11 +27,10 @@ fn read_and_prepare<R: Threads + Sync>(
         requires { length text.now ≤ 16777216 }
         ensures { IsReading text.entry.now result }
     { read_trace_on(rt, alloc, text) };
-    let (ahead, plan) = join(
-        rt,
-        || Ahead::try_new(rt, theirs, profile, text).ok(),
-        read,
-    );
+    let prepare = || -> Option<Ahead>
+        requires { IsValid profile }
+    { Ahead::try_new(rt, theirs, profile, text).ok() };
+    let (ahead, plan) = join(rt, prepare, read);
     (plan, ahead)
 }
 
