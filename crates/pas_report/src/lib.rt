@@ -20,5 +20,5 @@ pub use pages::{page_line, total_line};
 pub use record::{Record, Said};
 pub use records::Records;
 pub use reports::{has_deed_words, report};
-pub use text::Line;
+pub use text::{LINE_BYTES, Line};
 pub use transcript::write_lines;

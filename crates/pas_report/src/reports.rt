@@ -7,7 +7,7 @@ ghost use Rattle.pas_report.specs.Counts.{AreDeedWords, IsDeedWord, report_by_wo
 ghost use Rattle.pas_report.specs.Pieces.{IsPutOut};
 
 use crate::pages::{push_page, push_totals};
-use crate::text::Lines;
+use crate::text::{LINE_BYTES, Lines};
 use pas_io::whole::write_all;
 use pas_io::{Failed, Sink};
 use pas_profile::{Profile, Word, read_deed};
@@ -44,7 +44,7 @@ pub(crate) fn make_room<K: Sink>(sink: &mut K, lines: &mut Lines) -> Result<(), 
     ensures failed { OnErr result (Rose (K.faults sink.old) (K.faults sink.new)) }
     ensures count { K.faults sink.old ≤ K.faults sink.new }
 {
-    if lines.remaining_capacity() < 128 {
+    if lines.remaining_capacity() < LINE_BYTES {
         write_all(sink, lines.as_str().as_bytes())?;
         lines.clear();
     }

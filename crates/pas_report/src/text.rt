@@ -9,8 +9,11 @@ use arrayvec::ArrayString;
 use itoa::{Buffer, Integer};
 use pas_profile::{Kind, Name};
 
-/// A line, with its newline. The longest, of a report, have at most 121 bytes.
-pub type Line = ArrayString<128>;
+/// The most bytes of a line, with its newline. The longest, of a report, have at most 121.
+pub const LINE_BYTES: usize = 128;
+
+/// A line, with its newline.
+pub type Line = ArrayString<LINE_BYTES>;
 
 /// Lines that wait to be written together.
 pub(crate) type Lines = ArrayString<65536>;

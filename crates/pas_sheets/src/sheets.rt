@@ -3,6 +3,7 @@ ghost use Rattle.std.specs.Prelude.{◌≡◌, ◌≤◌, ◌+◌, ◌++◌, IfO
 ghost use Rattle.pas_sheets.specs.declared.sheets.TheConstants.{SHEETS, SHEET_BYTES};
 
 use pas_profile::NoMemory;
+use pas_report::LINE_BYTES;
 use std::alloc::Global;
 
 /// How many sheets are filled at once.
@@ -13,9 +14,6 @@ pub(crate) const SHEET_RECORDS: usize = 2048;
 
 /// The most records of a round.
 pub(crate) const ROUND_RECORDS: usize = SHEETS * SHEET_RECORDS;
-
-/// The most bytes of a line.
-pub(crate) const LINE_BYTES: usize = 128;
 
 /// The bytes of a sheet: the lines of its records fit. Most lines are shorter by far, and memory that they don't need isn't touched.
 pub(crate) const SHEET_BYTES: usize = LINE_BYTES * SHEET_RECORDS;

@@ -12,7 +12,7 @@ use pas_io::memory::MemorySink;
 use pas_io::whole::write_all;
 use pas_io::{Failed, Sink};
 use pas_profile::NoMemory;
-use pas_report::{Record, Records, report, write_lines};
+use pas_report::{LINE_BYTES, Record, Records, report, write_lines};
 use pas_sheets::{Sheets, write_lines_on};
 use pas_steps::State;
 use std::alloc::Global;
@@ -20,9 +20,6 @@ use std::thread::{Threads, join_mut};
 
 /// Fewer records than this aren't worth the memory of the sheets and the start of threads.
 const MANY_RECORDS: usize = 100_000;
-
-/// The most bytes of a line of the report.
-const LINE_BYTES: usize = 128;
 
 /// The report of the state, or None where memory was wanting for it.
 fn report_in_memory(alloc: Global, state: &State) -> Option<MemorySink>
