@@ -4,6 +4,7 @@ pub mod Frees
 pub mod Requests
 pub mod Kept
 pub mod Records
+pub mod OwnRecords
 pub mod KnownNames
 pub mod Parts
 pub mod Shown

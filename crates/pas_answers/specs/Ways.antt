@@ -37,6 +37,11 @@ abbrev pub AreSpoken : List Record → Type 0
 AreSpoken [] = Unit {0}
 AreSpoken (r ∷ rs) = ((j : ℕ) × (is_of j r ≡ true)) × AreSpoken rs
 
+-- each of these records is of actor j, and none is a mark
+abbrev pub EachOf : ℕ → List Record → Type 0
+EachOf j [] = Unit {0}
+EachOf j (r ∷ rs) = ((k : ℕ) → is_of k r ≡ (j == k)) × EachOf j rs
+
 -- the records of actor k among these
 abbrev pub records_by : ℕ → List Record → List Record
 records_by k [] = []

@@ -16,6 +16,7 @@ use Rattle.pas_answers.specs.Acts.{Act, ReadsEpoch, idle_stops, acts_of_op}
 use Rattle.pas_answers.specs.Answers.{Progress, Caches}
 use Rattle.pas_answers.specs.Fit.{costs_of}
 use Rattle.pas_answers.specs.Ways.{records_by}
+use Rattle.pas_answers.proofs.OwnRecords.{none_by, all_by}
 use Rattle.pas_threads.specs.declared.names.NameBook.{NameBook}
 use Rattle.pas_threads.specs.Works.{Later, Sits}
 use Rattle.pas_threads.specs.Scavenges.{Scavenges}
@@ -23,10 +24,9 @@ use Rattle.pas_threads.specs.Lent.{AreDistinct, AreLent, DidWithLent}
 use Rattle.pas_threads.specs.Shares.{scavenger_acts}
 use Rattle.pas_threads.specs.Crews.{Crew, crew, CrewAt, CrewDid, IsScavengers}
 use Rattle.pas_threads.specs.declared.workers.Worker.{Worker}
-use Rattle.pas_threads.proofs.Speaking.{none_by}
 use Rattle.pas_threads.proofs.Working.{reach_both}
 use Rattle.pas_threads.proofs.ByScavenger.{same_stands}
-use Rattle.pas_threads.proofs.ByLent.{all_by, more_by}
+use Rattle.pas_threads.proofs.ByLent.{more_by}
 
 -- ---- the scavenger's own act leaves the lent threads where they are
 pub still_lent : {region : SharedRegion} {book : NameBook} {f : Profile} {idle : List ℕ} {act : Act} {next : List Act} {σ σ' : Standing} {places places' : ℕ} {out out' : Records} {later : Later} {lends : ℕ → Later} {lent : List Worker} {p : Progress} → AreDistinct idle

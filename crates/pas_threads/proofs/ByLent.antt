@@ -1,8 +1,8 @@
 -- The stops of lent threads, one after the other.
-use Rattle.std.proofs.Common.{◌≡◌, ◌≢◌, ℕ, ◌+◌, ◌<◌, ◌≤◌, Bool, if◌then◌else◌, inl, inr, List, [], ◌∷◌, ◌++◌, length, drop, set, get_or, refl, ap, sym, ◌∙◌, subst, arith, length-append, append_assoc, drop_of_length-le}
+use Rattle.std.proofs.Common.{◌≡◌, ◌≢◌, ℕ, ◌+◌, ◌<◌, ◌≤◌, inl, inr, List, [], ◌∷◌, ◌++◌, length, drop, set, get_or, refl, ap, sym, ◌∙◌, subst, arith, length-append, append_assoc, drop_of_length-le}
 use Rattle.std.proofs.lemmas.List.{append-nil, drop_more, length-set, get_or-set_other, get_or_default}
 use Rattle.std.proofs.lemmas.Grind.{get_or-set_at}
-use Rattle.std.proofs.lemmas.Bool.{cases_eq, eq-eqb}
+use Rattle.std.proofs.lemmas.Bool.{cases_eq}
 use Rattle.pas_profile.specs.declared.profile.Profile.{Profile}
 use Rattle.pas_report.specs.Rooms.{records_in}
 use Rattle.pas_report.specs.declared.record.Record.{Record}
@@ -10,22 +10,16 @@ use Rattle.pas_report.specs.declared.records.Records.{Records}
 use Rattle.pas_shared.specs.declared.region.SharedRegion.{SharedRegion}
 use Rattle.pas_answers.specs.Acts.{Act, StopsIdle, idle_stops}
 use Rattle.pas_answers.specs.Answers.{Progress}
-use Rattle.pas_answers.specs.Ways.{records_by}
+use Rattle.pas_answers.specs.Ways.{EachOf, records_by}
+use Rattle.pas_answers.proofs.OwnRecords.{records_both, none_by, all_by}
 use Rattle.pas_threads.specs.declared.names.NameBook.{NameBook}
 use Rattle.pas_threads.specs.Works.{Later}
-use Rattle.pas_threads.specs.Shares.{EachOf}
 use Rattle.pas_threads.specs.Scavenges.{StopsThread}
 use Rattle.pas_threads.specs.Hands.{kept_by, WorkerAt, Did}
 use Rattle.pas_threads.specs.Lent.{AreDistinct, AreLent, KeepsRooms, DidWithLent}
 use Rattle.pas_threads.specs.declared.workers.Worker.{Worker}
-use Rattle.pas_threads.proofs.Speaking.{records_both, none_by}
 use Rattle.pas_threads.proofs.Working.{reach_both}
 use Rattle.pas_threads.proofs.ByScavenger.{same_stands}
-
--- the records of an actor are all of its own
-pub all_by : (j : ℕ) (rs : List Record) → EachOf j rs → records_by j rs ≡ rs
-all_by j [] all = refl
-all_by j (r ∷ rs) all = ap (λ (t : Bool). if t then r ∷ records_by j rs else records_by j rs) (all.0 j ∙ eq-eqb j j refl) ∙ ap (λ (xs : List Record). r ∷ xs) (all_by j rs all.1)
 
 -- those of thread k and then of the scavenger, by actor
 by_own : (k : ℕ) (mine told : List Record) → EachOf k mine → EachOf 0 told → 0 ≢ k → records_by k (mine ++ told) ≡ mine

@@ -31,10 +31,10 @@ use Rattle.pas_answers.specs.Acts.{Act, Ticks, MakesPass, ReadsEpoch}
 use Rattle.pas_answers.specs.Answers.{Progress, Named, after_tick, after_pass, after_reading, after_stop, stopped, epoch_look, records_of, said_by}
 use Rattle.pas_answers.specs.Calls.{HasTurn, AnswersMeant, MayAnswer, owed_events}
 use Rattle.pas_answers.specs.Fit.{costs_of, own_costs_of}
+use Rattle.pas_answers.proofs.OwnRecords.{events_of_piece, pass_of}
 use Rattle.pas_threads.specs.NameBooks.{Table, requests_in}
 use Rattle.pas_threads.specs.Works.{Later, Keeps, keeps, Sits, KnowsNames, ThreadAt}
 use Rattle.pas_threads.specs.Scavenges.{ScavengerAt, Scavenges, StopsThread}
-use Rattle.pas_threads.proofs.Speaking.{events_of_piece, pass_of}
 use Rattle.pas_replay.proofs.Scavenging.{few_unbacks, reads}
 use Rattle.pas_threads.proofs.Working.{IsOperation, IsKept, the_answer, answers_now, piece, pushed, stands_again}
 

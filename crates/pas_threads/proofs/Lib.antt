@@ -1,4 +1,3 @@
-pub mod Speaking
 pub mod Places
 pub mod Noting
 pub mod Taking

@@ -18,6 +18,7 @@ use Rattle.pas_shared.specs.declared.region.SharedRegion.{SharedRegion}
 use Rattle.pas_answers.specs.Acts.{Act, is_active, numbers_from, idle_threads, acts_of_op, acts_of_ops}
 use Rattle.pas_answers.specs.Answers.{Progress}
 use Rattle.pas_answers.specs.Ways.{records_by}
+use Rattle.pas_answers.proofs.OwnRecords.{records_both, all_by}
 use Rattle.pas_threads.specs.Shares.{Reaches, owner_in, acts_by, own_acts, scavenger_acts, ActsAreShared}
 use Rattle.pas_threads.specs.NameBooks.{requests_in, room_for, names_of, names_asked}
 use Rattle.pas_threads.specs.Works.{Later}
@@ -33,8 +34,6 @@ use Rattle.pas_threads.specs.declared.names.Requests.{Requests}
 use Rattle.pas_threads.specs.declared.workers.Worker.{Worker}
 use Rattle.pas_threads.specs.declared.scavenger.Scavenger.{Scavenger}
 use Rattle.pas_threads.specs.declared.phases.Team.{Team}
-use Rattle.pas_threads.proofs.Speaking.{records_both}
-use Rattle.pas_threads.proofs.ByLent.{all_by}
 use Rattle.pas_threads.proofs.PhaseActs.{active_within, or_none, none_own, acts_are_shared}
 use Rattle.pas_threads.proofs.NamesOfPhases.{hands_over, hands_nothing}
 use Rattle.pas_threads.proofs.Dealt.{true_or_false}

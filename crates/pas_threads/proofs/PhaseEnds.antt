@@ -19,6 +19,7 @@ use Rattle.pas_answers.specs.Calls.{owed_events}
 use Rattle.pas_answers.specs.Fit.{AreFit, costs_of, own_costs_of}
 use Rattle.pas_answers.specs.Names.{names_held}
 use Rattle.pas_answers.specs.Ways.{records_by}
+use Rattle.pas_answers.proofs.OwnRecords.{records_both}
 use Rattle.pas_replay.proofs.ActsOfPlan.{ops_fit, idle_few}
 use Rattle.pas_threads.specs.Shares.{Reaches, Owners, acts_by, owner_in, own_acts, scavenger_acts, IsShareOf, IsWoven, OnlyAsked}
 use Rattle.pas_threads.specs.NameBooks.{NamesAt, requests_in, room_for, names_of, known_in}
@@ -36,7 +37,6 @@ use Rattle.pas_threads.proofs.NamesBefore.{sound_front}
 use Rattle.pas_threads.proofs.PhaseActs.{acts_are_shared}
 use Rattle.pas_threads.proofs.PhaseRooms.{own_costs, scavenger_costs}
 use Rattle.pas_threads.proofs.PhaseStarts.{sits_less}
-use Rattle.pas_threads.proofs.Speaking.{records_both}
 use Rattle.pas_threads.proofs.Weaving.{weave}
 
 -- ---- the whole phase

@@ -9,9 +9,9 @@ use Rattle.pas_steps.proofs.Parts.{part_of_own, part_of_others}
 use Rattle.pas_report.specs.declared.record.Record.{Record}
 use Rattle.pas_cache.specs.Caches.{Cached}
 use Rattle.pas_answers.specs.Answers.{Named, with_cache, Progress, with_records, with_steps, with_scavenged}
-use Rattle.pas_answers.specs.Ways.{records_by}
-use Rattle.pas_threads.specs.Shares.{Owners, AreAmong, IsShareOf, EachOf}
-use Rattle.pas_threads.proofs.Speaking.{records_both, none_by}
+use Rattle.pas_answers.specs.Ways.{EachOf, records_by}
+use Rattle.pas_answers.proofs.OwnRecords.{records_both, none_by}
+use Rattle.pas_threads.specs.Shares.{Owners, AreAmong, IsShareOf}
 
 -- ---- parts
 pub same_part : (j k : ℕ) (steps : List Made) (l m : Whole) → part j l ≡ part j m → part j (triples k steps ++ l) ≡ part j (triples k steps ++ m)

@@ -24,17 +24,16 @@ use Rattle.pas_shared.specs.declared.pass.SharedPass.{SharedPass}
 use Rattle.pas_answers.specs.Acts.{Act, Ends, numbers_from}
 use Rattle.pas_answers.specs.Answers.{having, answer_of, Progress, IsAnswered, IsStopped, after_stop, records_of, said_by}
 use Rattle.pas_answers.specs.Calls.{named_by, owed_events, AnswersMeant}
-use Rattle.pas_answers.specs.Ways.{is_event_of, is_of, records_by}
+use Rattle.pas_answers.specs.Ways.{EachOf, is_event_of, is_of, records_by}
+use Rattle.pas_answers.proofs.OwnRecords.{events_of_piece, spoken_piece, spoken_both, records_both, none_by, all_by}
 use Rattle.pas_replay.proofs.ActsInOrder.{number_next, number_last}
 use Rattle.pas_replay.proofs.Threads.{its_cache, other_cache}
-use Rattle.pas_threads.specs.Shares.{Reaches, EachOf}
+use Rattle.pas_threads.specs.Shares.{Reaches}
 use Rattle.pas_threads.specs.Works.{Sits}
 use Rattle.pas_threads.specs.Hands.{standing_of_pass}
 use Rattle.pas_threads.specs.Sessions.{WorkerRests, AreResting}
 use Rattle.pas_threads.specs.Turns.{LeavesOthers, owed_at, Spoke, WorkerSaid, Stopped, StoppedAll}
 use Rattle.pas_threads.specs.declared.workers.Worker.{Worker}
-use Rattle.pas_threads.proofs.Speaking.{events_of_piece, spoken_piece, spoken_both, records_both, none_by}
-use Rattle.pas_threads.proofs.ByLent.{all_by}
 use Rattle.pas_threads.proofs.Working.{reach_both}
 use Rattle.pas_threads.proofs.Waking.{sits_at, sits_more, same_rests, same_owed}
 

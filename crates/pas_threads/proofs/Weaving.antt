@@ -17,9 +17,9 @@ use Rattle.pas_passes.specs.Records.{records_of_pass}
 use Rattle.pas_answers.specs.Acts.{Act, Operates, Settles, Ticks, MakesPass, ReadsEpoch, StopsIdle, MarksPhase, Wakes, MarksClose, Ends}
 use Rattle.pas_answers.specs.Answers.{having, answer_of, standing_for, IsAnswered, IsStopped, Progress, with_records, with_steps, after_answer, after_settling, after_wake, after_reading, after_tick, after_pass, after_stop, stopped, epoch_look, begun, settled, IsIdleFor, records_of, said_by, Follows}
 use Rattle.pas_answers.specs.Fit.{AreFit, IsFitWhat}
-use Rattle.pas_answers.specs.Ways.{AreSpoken}
-use Rattle.pas_threads.specs.Shares.{Advances, Reaches, Owners, actor_of_act, IsInHand, AreInHand, acts_by, OnlyAsked, Asks, asked_after_act, IsShareOf, EachOf, IsWoven}
-use Rattle.pas_threads.proofs.Speaking.{events_of_piece, piece_of, pass_of, spoken_piece, spoken_both}
+use Rattle.pas_answers.specs.Ways.{EachOf, AreSpoken}
+use Rattle.pas_answers.proofs.OwnRecords.{events_of_piece, pass_of, piece_of, spoken_piece, spoken_both}
+use Rattle.pas_threads.specs.Shares.{Advances, Reaches, Owners, actor_of_act, IsInHand, AreInHand, acts_by, OnlyAsked, Asks, asked_after_act, IsShareOf, IsWoven}
 use Rattle.pas_threads.proofs.Naming.{retold}
 use Rattle.pas_threads.proofs.Sharing.{share_steps, share_scavenged, share_cache, share_records, share_names, share_epoch, beside_steps, beside_scavenged, beside_cache, beside_records, beside_names, beside_epoch, elsewhere, elsewhere_both}
 

@@ -25,13 +25,13 @@ use Rattle.pas_answers.specs.Fit.{IsFitWhat, AreFit, cost_of_what, own_costs_of}
 use Rattle.pas_answers.specs.Names.{block_named, names_held}
 use Rattle.pas_answers.proofs.KnownNames.{known_after}
 use Rattle.pas_answers.proofs.Kept.{meant_by, turn_meant}
+use Rattle.pas_answers.proofs.OwnRecords.{piece_of, each_both}
 use Rattle.pas_replay.proofs.Operations.{if_same, known_if, records_count}
 use Rattle.pas_replay.proofs.Threads.{its_cache}
 use Rattle.pas_threads.specs.NameBooks.{Table, requests_in, room_for, names_of, name_asked, names_asked, ArePlaced, known_in}
 use Rattle.pas_threads.specs.declared.names.NameBook.{NameBook}
 use Rattle.pas_threads.proofs.Places.{names_both, names_count, asked_both, names_named, placed_both, tells_more, turns_more}
 use Rattle.pas_threads.specs.Shares.{own_acts, Reaches}
-use Rattle.pas_threads.proofs.Speaking.{piece_of, each_both}
 use Rattle.pas_threads.specs.Works.{Later, Keeps, keeps, Sits, KnowsNames, ThreadAt, Works}
 
 -- what an operation costs its thread

@@ -10,7 +10,8 @@ use Rattle.pas_report.specs.declared.records.Records.{Records}
 use Rattle.pas_answers.specs.Acts.{Act, StopsIdle}
 use Rattle.pas_answers.specs.Answers.{Progress}
 use Rattle.pas_answers.specs.Fit.{costs_of}
-use Rattle.pas_threads.specs.Shares.{Reaches, EachOf}
+use Rattle.pas_answers.specs.Ways.{EachOf}
+use Rattle.pas_threads.specs.Shares.{Reaches}
 use Rattle.pas_threads.specs.Works.{Keeps, Later, Sits, ThreadAt}
 
 -- The replay, as far as the scavenger has a hand in it, came as far as p, and these of its acts come next. It has nothing, and places for the outcomes of

@@ -16,7 +16,7 @@ use Rattle.pas_answers.specs.Acts.{Act, Operates, Settles, Ticks, MakesPass, Rea
 use Rattle.pas_answers.specs.Answers.{Named, standing_for, Answer, having, IsAnswered, IsStopped, Progress, with_records, after_answer, after_settling, after_wake, after_reading, after_tick, after_pass, after_stop, stopped, IsIdleFor, Follows}
 use Rattle.pas_answers.specs.Calls.{AreKnown}
 use Rattle.pas_answers.specs.Fit.{AreFit}
-use Rattle.pas_answers.specs.Ways.{OnThreads, AreSpoken, is_of, records_by, by_actors, arranged}
+use Rattle.pas_answers.specs.Ways.{OnThreads, AreSpoken, records_by, by_actors, arranged}
 
 -- ---- acts that are answered one after the other
 -- one act takes a replay from p to p'
@@ -155,11 +155,6 @@ pub record IsWoven (f : Profile) (owner : Owners) (acts : List Act) (asked : Lis
   pub spoken : AreSpoken said
   pub only_asked : OnlyAsked (asked_after_acts acts asked) reached.names
   pub same_names : (n : ℕ) → NoneAsks n acts → standing_for reached.names n ≡ standing_for p.names n
-
--- each of these records is of actor j, and none is a mark
-abbrev pub EachOf : ℕ → List Record → Type 0
-EachOf j [] = Unit {0}
-EachOf j (r ∷ rs) = ((k : ℕ) → is_of k r ≡ (j == k)) × EachOf j rs
 
 -- ---- the law
 -- Each worker answered its own acts, in order, from its share on: by its own actors' parts, caches and records, and by what it knew of names. Then all

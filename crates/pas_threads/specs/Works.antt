@@ -14,7 +14,8 @@ use Rattle.pas_answers.specs.Answers.{Named, standing_for, Progress}
 use Rattle.pas_answers.specs.Calls.{HasTurn, block_behind, AreKnown, owed_events}
 use Rattle.pas_answers.specs.Fit.{AreFit, own_costs_of}
 use Rattle.pas_answers.specs.Names.{names_held}
-use Rattle.pas_threads.specs.Shares.{Reaches, EachOf}
+use Rattle.pas_answers.specs.Ways.{EachOf}
+use Rattle.pas_threads.specs.Shares.{Reaches}
 use Rattle.pas_threads.specs.NameBooks.{Table, requests_in, room_for, names_of, names_asked, ArePlaced, known_in}
 
 -- for how many events and how many records more there is room in the end
