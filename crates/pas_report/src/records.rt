@@ -59,7 +59,10 @@ impl Records {
         ensures empty { IfOk result (λ room. records_in room ≡ []) }
         ensures size { IfOk result (λ room. room_of room ≡ bound + phases + 1) }
     {
-        let Records { mut items, bound: _ } = before;
+        let Records {
+            mut items,
+            bound: _,
+        } = before;
         let needed = bound as u64 + phases as u64 + 1;
         if items.capacity() as u64 >= needed {
             items.clear();

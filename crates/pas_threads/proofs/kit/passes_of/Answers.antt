@@ -1,9 +1,9 @@
-use Rattle.std.proofs.Common.{rules, ◌≡◌, ◌+◌, ◌<◌, ◌≤◌, ◌∷◌, ◌++◌, ℕ, suc, [], List, Option, Some, None, map, length, take, get_or, refl, ap, sym, ◌∙◌, subst, arith}
-use Rattle.std.proofs.lemmas.List.{length-map, length-append, length-set, get_or-map, get_or-set_other, take_more, take_all}
+use Rattle.std.proofs.Common.{◌≡◌, ◌+◌, ◌<◌, ◌≤◌, ◌∷◌, ◌++◌, ℕ, suc, [], List, Option, Some, None, map, length, take, get_or, ap, sym, ◌∙◌, arith}
+use Rattle.std.proofs.lemmas.List.{length-map, length-append, length-set, get_or-map, get_or-set_other, take_more}
 use Rattle.pas_shared.specs.declared.pass.SharedPass.{SharedPass}
 use Rattle.pas_threads.specs.Kits.{slots_of}
 use Rattle.pas_threads.specs.declared.workers.Worker.{Worker}
-use Rattle.pas_threads.proofs.Equipping.{IsBack, first_back, others_back}
+use Rattle.pas_threads.proofs.Equipping.{first_back, others_back}
 use Rattle.pas_threads.proofs.kit.passes_of.Goals as goal
 
 -- the worker at this place, whose turn it is
