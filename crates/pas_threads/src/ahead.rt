@@ -4,7 +4,7 @@ ghost use Rattle.pas_profile.specs.Profiles.{IsValid};
 ghost use Rattle.pas_answers.specs.Names.{block_named};
 ghost use Rattle.pas_shared.specs.Passes.{profile_of_opening};
 
-use crate::names::NameBook;
+use crate::names::{NameBook, Requests};
 use pas_profile::{NoMemory, Profile};
 use pas_report::Records;
 use pas_shared::Opening;
@@ -16,6 +16,7 @@ use std::thread::{Threads, join};
 pub(crate) struct Spare {
     pub(crate) book: NameBook,
     pub(crate) records: Records,
+    pub(crate) requests: Requests,
     ghost unnamed: { (name : ℕ) → block_named book.names name ≡ None },
 }
 
@@ -28,7 +29,8 @@ pub struct Ahead {
 }
 
 impl Spare {
-    /// Room for the names below the limit, and for `bound` records, or as many as can be counted, of which the memory of so many was touched.
+    /// Room for the names below the limit, and for `bound` records, or as many as can be counted, and requests, of which the memory of so many records and of half
+    /// as many requests as there are names was touched.
     pub(crate) fn try_new(
         alloc: Global,
         limit: usize,
@@ -39,7 +41,12 @@ impl Spare {
         let bound = u32::try_from(bound).unwrap_or(u32::MAX);
         let touched = u32::try_from(touched).unwrap_or(u32::MAX);
         let records = Records::try_new_touched(alloc, bound, 0, touched)?;
-        Ok(Spare { book, records })
+        let requests = Requests::try_new_touched(alloc, bound as usize, limit / 2)?;
+        Ok(Spare {
+            book,
+            records,
+            requests,
+        })
     }
 }
 

@@ -11,6 +11,7 @@ ghost use Rattle.pas_answers.specs.Replays.{phases_of, empty_cache, Shows};
 ghost use Rattle.pas_answers.specs.Ways.{OnThreads};
 ghost use Rattle.pas_shared.specs.Passes.{profile_of_opening};
 ghost use Rattle.pas_shared.specs.declared.pass.SharedPass.{SharedPass as ThePass};
+ghost use Rattle.pas_threads.specs.NameBooks.{requests_in, room_for};
 ghost use Rattle.pas_threads.specs.Kits.{IsEquipped, AreEquipped, IsSupplied, IsTeamOf, IsKitOf, slots_of, AreAllBack};
 
 use crate::ahead::{Ahead, Spare};
@@ -53,8 +54,9 @@ struct WholeRoom {
     thread: usize,
     total: u32,
     phases: u32,
-    /// A room that was made before, for that thread. None once it has it.
-    before: Option<Records>,
+    /// Rooms that were made before, for that thread. None once it has them.
+    records: Option<Records>,
+    requests: Option<Requests>,
 }
 
 /// The first thread whose bound is greatest. The bounds are those of all actors.
@@ -89,32 +91,52 @@ fn records_for(
         return Records::try_new(alloc, bound, 0);
     }
     let bound = bound.max(whole.total);
-    match whole.before.take() {
+    match whole.records.take() {
         Some(before) => Records::try_new_in(alloc, bound, whole.phases, before),
         None => Records::try_new(alloc, bound, whole.phases),
     }
 }
 
-/// The worker of a thread, with this room for its records, and room for so many requests.
-fn worker_with(
+/// Room for so many requests of a thread, in the memory that was made for it before, where that is large enough.
+fn requests_for(
     alloc: Global,
+    thread: usize,
+    bound: u32,
+    whole: &mut WholeRoom,
+) -> Result<Requests, NoMemory>
+    ensures empty { IfOk result (λ requests. requests_in requests ≡ []) }
+    ensures room { IfOk result (λ requests. room_for requests ≡ bound) }
+{
+    if thread == whole.thread {
+        if let Some(before) = whole.requests.take() {
+            return Requests::try_new_in(alloc, bound as usize, before);
+        }
+    }
+    Requests::try_new(alloc, bound as usize)
+}
+
+/// The worker of a thread, with these rooms.
+fn worker_with(
     pass: SharedPass,
     cache: ThreadCache,
     bound: u32,
+    requests: Requests,
     out: Records,
-) -> Result<Worker, NoMemory>
+) -> Worker
     requires unused { cached cache ≡ empty_cache }
     requires empty { records_in out ≡ [] }
     requires size { bound ≤ room_of out }
-    ensures { IfOk result (λ worker. IsEquipped pass bound worker) }
+    requires none { requests_in requests ≡ [] }
+    requires place { room_for requests ≡ bound }
+    ensures { IsEquipped pass bound result }
 {
-    let requests = Requests::try_new(alloc, bound as usize)?;
-    Ok(Worker {
+    let _ = bound;
+    Worker {
         pass: Some(pass),
         cache,
         requests,
         out,
-    })
+    }
 }
 
 /// The workers of the threads, from thread 1 on, which have these passes and caches in order. The bounds are those of all actors.
@@ -142,7 +164,8 @@ fn workers_for(
         let thread = workers.len() + 1;
         let bound = bounds[thread];
         let out = records_for(alloc, thread, bound, &mut whole)?;
-        workers.push_reserved(worker_with(alloc, pass, cache, bound, out)?);
+        let requests = requests_for(alloc, thread, bound, &mut whole)?;
+        workers.push_reserved(worker_with(pass, cache, bound, requests, out));
     }
     Ok(workers)
 }
@@ -183,7 +206,7 @@ fn book_of(alloc: Global, limit: usize, before: NameBook) -> Result<NameBook, No
     NameBook::try_new(alloc, limit)
 }
 
-/// The team of a plan, whose scavenger has the first pass, and whose threads have the others in order. Its names and the records of the busiest thread lie
+/// The team of a plan, whose scavenger has the first pass, and whose threads have the others in order. Its names and the rooms of the busiest thread lie
 /// in what was made before, where that is large enough.
 fn team_for(
     alloc: Global,
@@ -203,13 +226,18 @@ fn team_for(
     let bounds = plan.bounds.as_slice();
     let phases = plan.phases.as_slice();
     let count = plan.profile.threads;
-    let Spare { book, records } = before;
+    let Spare {
+        book,
+        records,
+        requests,
+    } = before;
     let caches = caches_for(alloc, utility, count)?;
     let whole = WholeRoom {
         thread: busiest(bounds),
         total: plan.total,
         phases: u32::try_from(phases.len()).unwrap_or(u32::MAX),
-        before: Some(records),
+        records: Some(records),
+        requests: Some(requests),
     };
     let threads = workers_for(alloc, others, caches, bounds, whole)?;
     let outcomes = outcomes_from(utility);

@@ -75,6 +75,44 @@ impl Requests {
         }
     }
 
+    /// Room as `try_new` gives it, of which the memory for the first `touched` requests, or for all, was touched. One write for each of these.
+    pub(crate) fn try_new_touched(
+        alloc: Global,
+        bound: usize,
+        touched: usize,
+    ) -> Result<Requests, NoMemory>
+        ensures empty { IfOk result (λ requests. requests_in requests ≡ []) }
+        ensures room { IfOk result (λ requests. room_for requests ≡ bound) }
+    {
+        let mut requests = Requests::try_new(alloc, bound)?;
+        for _ in 0..bound.min(touched) {
+            requests.push(0, None);
+        }
+        requests.items.clear();
+        Ok(requests)
+    }
+
+    /// Room as `try_new` gives it, in the memory of one that was made before, where that is large enough. What that held is forgotten.
+    pub(crate) fn try_new_in(
+        alloc: Global,
+        bound: usize,
+        before: Requests,
+    ) -> Result<Requests, NoMemory>
+        ensures empty { IfOk result (λ requests. requests_in requests ≡ []) }
+        ensures room { IfOk result (λ requests. room_for requests ≡ bound) }
+    {
+        let Requests {
+            mut items,
+            bound: _,
+        } = before;
+        if items.capacity() >= bound {
+            items.clear();
+            return Ok(Requests { items, bound });
+        }
+        drop(items);
+        Requests::try_new(alloc, bound)
+    }
+
     /// What the request at this place came to, where it has the name.
     #[inline]
     fn at(&self, place: usize, name: u32) -> Option<Option<Name>>

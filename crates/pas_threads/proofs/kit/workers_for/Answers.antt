@@ -29,7 +29,7 @@ loop-pass-preserved c =
         more,
         one_done i.some.0 _ c.in-Some.pass _ _ step i.some.1,
         subst (λ (ws : List Worker). AreEquipped bounds 1 more ws) (sym c.push_reserved.ensures.items)
-            (equipped_more bounds 1 (c.len-thread.result + 1) i.some.0 c.loop-pass.workers.items c.in-Some.pass c.in_ok-worker_with.field-0 i.some.2 (omega (arith, len)) c.in_ok-worker_with.ensures),
+            (equipped_more bounds 1 (c.len-thread.result + 1) i.some.0 c.loop-pass.workers.items c.in-Some.pass c.worker_with.result i.some.2 (omega (arith, len)) c.worker_with.ensures),
       );
       unused = (All-pop (λ (cache : ThreadCache). cached cache ≡ empty_cache) _ _ _ c.pop.ensures.items i.unused).0;
       caches = omega (arith, rest, popped, caches);
