@@ -1,11 +1,12 @@
 //! All that a replay on threads needs, and the replay.
-ghost use Rattle.std.specs.Prelude.{◌≡◌, ◌≤◌, ◌<◌, ◌+◌, ◌^◌, ℕ, List, IfOk, All, true, Some, None, [], map, length, slice_index, vec_capacity, ◌++◌, ◌∷◌};
+ghost use Rattle.std.specs.Prelude.{◌≡◌, ◌≤◌, ◌<◌, ◌+◌, ◌^◌, ℕ, List, IfOk, All, true, Some, None, [], map, length, slice_index, vec_capacity, ◌++◌, ◌∷◌, false};
 ghost use Rattle.pas_profile.specs.declared.profile.Profile.{Profile as TheProfile};
 ghost use Rattle.pas_trace.specs.Plans.{IsPlanOf, bounds_of};
 ghost use Rattle.pas_utility.specs.Outcomes.{places_of};
 ghost use Rattle.pas_utility.specs.Pools.{threads_of, has_seat, outcomes_of};
 ghost use Rattle.pas_cache.specs.Caches.{cached};
 ghost use Rattle.pas_report.specs.Rooms.{records_in, room_of};
+ghost use Rattle.pas_answers.specs.Acts.{is_active};
 ghost use Rattle.pas_answers.specs.Names.{block_named, names_held};
 ghost use Rattle.pas_answers.specs.Replays.{phases_of, empty_cache, Shows};
 ghost use Rattle.pas_answers.specs.Ways.{OnThreads};
@@ -24,10 +25,11 @@ use pas_cache::ThreadCache;
 use pas_profile::NoMemory;
 use pas_replay::kit::{caches_for, outcomes_from, rooms_of};
 use pas_replay::limits::names_limit;
+use pas_replay::order::active;
 use pas_report::Records;
 use pas_shared::{Opening, SharedPass, SharedRegion, close};
 use pas_steps::State;
-use pas_trace::Plan;
+use pas_trace::{Op, Plan};
 use pas_utility::{Outcomes, Utility};
 use std::alloc::Global;
 use std::sync::Wait;
@@ -59,19 +61,19 @@ struct WholeRoom {
     requests: Option<Requests>,
 }
 
-/// The first thread whose bound is greatest. The bounds are those of all actors.
-fn busiest(bounds: &[u32]) -> usize
+/// The first thread that has an operation among these, or thread 1 where none has. What it says in a first phase is what a replay says first.
+fn first_active(ops: &[Op], threads: u8) -> usize
+    requires few { threads < 32 }
     ensures thread { 1 ≤ result }
-    ensures greatest { (k : ℕ) → 1 ≤ k → k < length bounds.now → slice_index bounds.now k ≤ slice_index bounds.now result }
-    ensures first { (k : ℕ) → 1 ≤ k → k < result → slice_index bounds.now k < slice_index bounds.now result }
+    ensures first { (k : ℕ) → 1 ≤ k → k < result → is_active ops.now k ≡ false }
 {
-    let mut busiest = 1;
-    for thread in 2..bounds.len() {
-        if bounds[thread] > bounds[busiest] {
-            busiest = thread;
+    let awake = active(ops);
+    for below in 0..threads {
+        if awake.get(below + 1) {
+            return below as usize + 1;
         }
     }
-    busiest
+    1
 }
 
 /// Room for the records of a thread with this bound. That of one thread is large enough for the whole replay: where nothing was said before, what this thread
@@ -206,7 +208,7 @@ fn book_of(alloc: Global, limit: usize, before: NameBook) -> Result<NameBook, No
     NameBook::try_new(alloc, limit)
 }
 
-/// The team of a plan, whose scavenger has the first pass, and whose threads have the others in order. Its names and the rooms of the busiest thread lie
+/// The team of a plan, whose scavenger has the first pass, and whose threads have the others in order. Its names and the rooms of the thread that speaks first lie
 /// in what was made before, where that is large enough.
 fn team_for(
     alloc: Global,
@@ -226,6 +228,9 @@ fn team_for(
     let bounds = plan.bounds.as_slice();
     let phases = plan.phases.as_slice();
     let count = plan.profile.threads;
+    let first_ops = phases
+        .first()
+        .map_or(&[] as &[Op], |phase| phase.as_slice());
     let Spare {
         book,
         records,
@@ -233,7 +238,7 @@ fn team_for(
     } = before;
     let caches = caches_for(alloc, utility, count)?;
     let whole = WholeRoom {
-        thread: busiest(bounds),
+        thread: first_active(first_ops, count),
         total: plan.total,
         phases: u32::try_from(phases.len()).unwrap_or(u32::MAX),
         records: Some(records),
@@ -282,7 +287,7 @@ fn passes_of(team: &mut Team, mut passes: Vec<SharedPass>) -> Vec<SharedPass>
 }
 
 impl SharedKit {
-    /// The kit of a plan: its rooms are as large as the bounds of the plan's actors say, and the busiest thread has room for the records of all. NoMemory
+    /// The kit of a plan: its rooms are as large as the bounds of the plan's actors say, and the thread that speaks first has room for the records of all. NoMemory
     /// where memory was wanting. Costs two passes over the words of the region, one over the plan, and two over the numbers of its names.
     pub fn try_new(alloc: Global, plan: &Plan) -> Result<SharedKit, NoMemory>
         requires { (text : List ℕ) × IsPlanOf text plan.now }
