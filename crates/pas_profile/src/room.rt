@@ -34,6 +34,37 @@ impl EventRoom {
         }
     }
 
+    /// A room as `try_new` gives it, of which the memory for the first `touched` events, or for all, was touched. The first touch of memory takes long,
+    /// and so may be left to a thread that has nothing else to do. One write for each of these events.
+    pub fn try_new_touched(alloc: Global, bound: u32, touched: u32) -> Result<EventRoom, NoMemory>
+        ensures empty { IfOk result (λ room. shown room ≡ []) }
+        ensures size { IfOk result (λ room. size_of_room room ≡ bound) }
+    {
+        let mut room = EventRoom::try_new(alloc, bound)?;
+        for _ in 0..bound.min(touched) {
+            room.push(Event::Back { actor: 0, page: 0 });
+        }
+        room.events.clear();
+        Ok(room)
+    }
+
+    /// Moves this room, which has no event yet, into the memory of another, where that is large enough. What the other held is forgotten, and
+    /// the memory that is left is let go. Takes no memory.
+    pub fn move_into(&mut self, other: EventRoom)
+        requires { shown self.old ≡ [] }
+        ensures empty { shown self.new ≡ [] }
+        ensures size { size_of_room self.new ≡ size_of_room self.old }
+    {
+        let EventRoom {
+            mut events,
+            bound: _,
+        } = other;
+        if events.capacity() >= self.bound as usize {
+            events.clear();
+            self.events = events;
+        }
+    }
+
     /// For how many more events there is room.
     pub fn spare(&self) -> u32
         ensures { result + length (shown self.now) ≡ size_of_room self.now }

@@ -163,6 +163,23 @@ fn rooms_take_their_events(rt: HostRuntime) -> Result<(), Fail> {
 }
 
 #[test]
+fn rooms_move_into_memory_that_was_touched(rt: HostRuntime) -> Result<(), Fail> {
+    let event = Event::Back { actor: 1, page: 7 };
+    for (size, touched) in [(1, 1), (2, 5), (3, 0)] {
+        let mut before = EventRoom::try_new_touched(rt.alloc(), size, touched)?;
+        assert_eq!(rt; before.spare(), size);
+        before.push(event);
+        let mut room = EventRoom::try_new(rt.alloc(), 2)?;
+        room.move_into(before);
+        assert_eq!(rt; room.spare(), 2);
+        assert_eq!(rt; room.as_slice(), [].as_slice());
+        room.push(event);
+        assert_eq!(rt; room.as_slice(), [event].as_slice());
+    }
+    Ok(())
+}
+
+#[test]
 fn addresses_have_pages_and_grains(rt: HostRuntime) {
     let address = Address(3 * 4096 + 5 * 16);
     assert_eq!(rt; address.page(), 3);

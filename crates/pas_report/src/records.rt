@@ -49,30 +49,21 @@ impl Records {
         Ok(room)
     }
 
-    /// Room as `try_new` gives it, in the memory of a room that was made before, where that is large enough. What that room held is forgotten.
-    pub fn try_new_in(
-        alloc: Global,
-        bound: u32,
-        phases: u32,
-        before: Records,
-    ) -> Result<Records, NoMemory>
-        ensures empty { IfOk result (λ room. records_in room ≡ []) }
-        ensures size { IfOk result (λ room. room_of room ≡ bound + phases + 1) }
+    /// Moves this room, which has no record yet, into the memory of another, where that is large enough. What the other held is forgotten, and
+    /// the memory that is left is let go. Takes no memory.
+    pub fn move_into(&mut self, other: Records)
+        requires { records_in self.old ≡ [] }
+        ensures empty { records_in self.new ≡ [] }
+        ensures size { room_of self.new ≡ room_of self.old }
     {
         let Records {
             mut items,
             bound: _,
-        } = before;
-        let needed = bound as u64 + phases as u64 + 1;
-        if items.capacity() as u64 >= needed {
+        } = other;
+        if items.capacity() as u64 >= self.bound {
             items.clear();
-            return Ok(Records {
-                items,
-                bound: needed,
-            });
+            self.items = items;
         }
-        drop(items);
-        Records::try_new(alloc, bound, phases)
     }
 
     /// For how many more records there is room.

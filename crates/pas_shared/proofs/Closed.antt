@@ -18,11 +18,6 @@ use Rattle.pas_shared.specs.Ruled.{HasPart, Names, alone, joined, parts_in, AreN
 use Rattle.pas_shared.specs.Passes.{view_of, seat_of, IsNamed, AreWordsOf}
 use Rattle.pas_shared.proofs.Ruling.{at_end}
 
-has_left : (ps qs : List Part) (k : ℕ) (v : View) → HasPart ps k v → HasPart (ps ++ qs) k v
-has_left (p ∷ ps) qs k v (inl h) = inl h
-has_left (p ∷ ps) qs k v (inr h) = inr (has_left ps qs k v h)
-has_left [] qs k v h = absurd h
-
 has_right : (ps qs : List Part) (k : ℕ) (v : View) → HasPart qs k v → HasPart (ps ++ qs) k v
 has_right [] qs k v h = h
 has_right (p ∷ ps) qs k v h = inr (has_right ps qs k v h)

@@ -1,6 +1,13 @@
 -- How the workers of a team are equipped, one after the other, and how their passes are handed back.
-use Rattle.std.proofs.Common.{◌≡◌, ℕ, suc, ◌+◌, List, [], ◌∷◌, ◌++◌, length, slice_index, All, Some, None, refl, ap, sym, ◌∙◌, subst, arith}
-use Rattle.std.proofs.lemmas.List.{get_or-map, length-map}
+use Rattle.std.proofs.Common.{◌≡◌, ℕ, suc, ◌+◌, ◌<◌, inl, inr, List, [], ◌∷◌, ◌++◌, length, get_or, slice_index, All, Option, Some, None, refl, ap, sym, ◌∙◌, subst, arith}
+use Rattle.std.proofs.Math.ListN.{set}
+use Rattle.std.proofs.lemmas.Bool.{cases_eq}
+use Rattle.std.proofs.lemmas.Grind.{get_or-set_at}
+use Rattle.std.proofs.lemmas.List.{get_or-map, get_or-set_other, length-map, length-set}
+use Rattle.std.proofs.lemmas.List.Elements.{All-set}
+use Rattle.pas_profile.specs.Rooms.{shown, size_of_room}
+use Rattle.pas_profile.specs.declared.room.EventRoom.{EventRoom}
+use Rattle.pas_replay.specs.Kits.{AreRooms}
 use Rattle.pas_shared.specs.declared.pass.SharedPass.{SharedPass}
 use Rattle.pas_threads.specs.Kits.{IsEquipped, AreEquipped, AreAllBack}
 use Rattle.pas_threads.specs.declared.workers.Worker.{Worker}
@@ -19,6 +26,21 @@ equipped_many bounds k [] [] are = refl
 equipped_many bounds k [] (w ∷ workers) are = absurd are
 equipped_many bounds k (p ∷ passes) [] are = absurd are
 equipped_many bounds k (p ∷ passes) (w ∷ workers) are = ap suc (equipped_many bounds (k + 1) passes workers are.1)
+
+-- ---- rooms that move
+-- a room of the same size without an event, in the place of one of these
+pub one_moved : (sizes : ℕ → Option ℕ) (count : ℕ) (rooms : List EventRoom) (i : ℕ) (old new : EventRoom) → i < length rooms → old ≡ get_or rooms i old → size_of_room new ≡ size_of_room old → shown new ≡ []
+    → AreRooms sizes count rooms → AreRooms sizes count (set rooms i new)
+one_moved sizes count rooms i old new lt is size none are = record {
+  many = length-set rooms i new ∙ are.many;
+  each = λ k d within. elim (cases_eq k i) [
+    | inl same ↦
+        let at : get_or (set rooms i new) k d ≡ new = get_or-set_at rooms i k new d same lt in
+        are.each k old within ∙ ap (λ (n : ℕ). Some (size_of_room (get_or rooms n old))) same ∙ ap (λ (room : EventRoom). Some (size_of_room room)) (sym is) ∙ ap Some (sym size) ∙ ap (λ (room : EventRoom). Some (size_of_room room)) (sym at)
+    | inr other ↦ are.each k d within ∙ ap (λ (room : EventRoom). Some (size_of_room room)) (sym (get_or-set_other rooms i k new d other))
+  ];
+  empty = All-set (λ (room : EventRoom). shown room ≡ []) rooms i new none are.empty;
+}
 
 -- ---- handing back
 -- the worker has its pass

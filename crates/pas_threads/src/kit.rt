@@ -1,5 +1,6 @@
 //! All that a replay on threads needs, and the replay.
-ghost use Rattle.std.specs.Prelude.{◌≡◌, ◌≤◌, ◌<◌, ◌+◌, ◌^◌, ℕ, List, IfOk, All, true, Some, None, [], map, length, slice_index, vec_capacity, ◌++◌, ◌∷◌, false};
+ghost use Rattle.std.specs.Prelude.{◌≡◌, ◌≤◌, ◌<◌, ◌+◌, ◌^◌, ◌⊎◌, ℕ, List, Option, IfOk, All, true, Some, None, [], map, length, slice_index, vec_capacity, ◌++◌, ◌∷◌, false};
+ghost use Rattle.pas_profile.specs.Rooms.{shown};
 ghost use Rattle.pas_profile.specs.declared.profile.Profile.{Profile as TheProfile};
 ghost use Rattle.pas_trace.specs.Plans.{IsPlanOf, bounds_of};
 ghost use Rattle.pas_utility.specs.Outcomes.{places_of};
@@ -10,10 +11,11 @@ ghost use Rattle.pas_answers.specs.Acts.{is_active};
 ghost use Rattle.pas_answers.specs.Names.{block_named, names_held};
 ghost use Rattle.pas_answers.specs.Replays.{phases_of, empty_cache, Shows};
 ghost use Rattle.pas_answers.specs.Ways.{OnThreads};
+ghost use Rattle.pas_replay.specs.Kits.{AreRooms};
 ghost use Rattle.pas_shared.specs.Passes.{profile_of_opening};
 ghost use Rattle.pas_shared.specs.declared.pass.SharedPass.{SharedPass as ThePass};
 ghost use Rattle.pas_threads.specs.NameBooks.{requests_in, room_for};
-ghost use Rattle.pas_threads.specs.Kits.{IsEquipped, AreEquipped, IsSupplied, IsTeamOf, IsKitOf, slots_of, AreAllBack};
+ghost use Rattle.pas_threads.specs.Kits.{AreEquipped, IsSupplied, IsTeamOf, IsKitOf, slots_of, AreAllBack};
 
 use crate::ahead::{Ahead, Spare};
 use crate::gate::Gate;
@@ -22,14 +24,14 @@ use crate::phases::{Team, replay};
 use crate::scavenger::Scavenger;
 use crate::workers::Worker;
 use pas_cache::ThreadCache;
-use pas_profile::NoMemory;
+use pas_profile::{EventRoom, NoMemory};
 use pas_replay::kit::{caches_for, outcomes_from, rooms_of};
 use pas_replay::limits::names_limit;
 use pas_replay::order::active;
 use pas_report::Records;
 use pas_shared::{Opening, SharedPass, SharedRegion, close};
 use pas_steps::State;
-use pas_trace::{Op, Plan};
+use pas_trace::{Op, Phase, Plan};
 use pas_utility::{Outcomes, Utility};
 use std::alloc::Global;
 use std::sync::Wait;
@@ -61,11 +63,18 @@ struct WholeRoom {
     requests: Option<Requests>,
 }
 
+/// The operations of the first phase.
+fn first_ops(phases: &[Phase]) -> &[Op] {
+    phases
+        .first()
+        .map_or(&[] as &[Op], |phase| phase.as_slice())
+}
+
 /// The first thread that has an operation among these, or thread 1 where none has. What it says in a first phase is what a replay says first.
 fn first_active(ops: &[Op], threads: u8) -> usize
-    requires few { threads < 32 }
     ensures thread { 1 ≤ result }
     ensures first { (k : ℕ) → 1 ≤ k → k < result → is_active ops.now k ≡ false }
+    ensures active { (is_active ops.now result ≡ true) ⊎ ((result ≡ 1) × ((k : ℕ) → 1 ≤ k → k ≤ threads → is_active ops.now k ≡ false)) }
 {
     let awake = active(ops);
     for below in 0..threads {
@@ -74,6 +83,21 @@ fn first_active(ops: &[Op], threads: u8) -> usize
         }
     }
     1
+}
+
+/// Each of the first rooms moves into the memory of the other at its place, where that is large enough.
+fn move_rooms(rooms: &mut Vec<EventRoom>, before: Vec<EventRoom>)
+    requires { All (λ room. shown room ≡ []) rooms.old.items }
+    ensures { (sizes : ℕ → Option ℕ) (count : ℕ) → AreRooms sizes count rooms.old.items → AreRooms sizes count rooms.new.items }
+{
+    let mut actor = 0;
+    for other in before {
+        if actor == rooms.len() {
+            return;
+        }
+        rooms[actor].move_into(other);
+        actor += 1;
+    }
 }
 
 /// Room for the records of a thread with this bound. That of one thread is large enough for the whole replay: where nothing was said before, what this thread
@@ -92,11 +116,11 @@ fn records_for(
     if thread != whole.thread {
         return Records::try_new(alloc, bound, 0);
     }
-    let bound = bound.max(whole.total);
-    match whole.records.take() {
-        Some(before) => Records::try_new_in(alloc, bound, whole.phases, before),
-        None => Records::try_new(alloc, bound, whole.phases),
+    let mut out = Records::try_new(alloc, bound.max(whole.total), whole.phases)?;
+    if let Some(before) = whole.records.take() {
+        out.move_into(before);
     }
+    Ok(out)
 }
 
 /// Room for so many requests of a thread, in the memory that was made for it before, where that is large enough.
@@ -109,36 +133,13 @@ fn requests_for(
     ensures empty { IfOk result (λ requests. requests_in requests ≡ []) }
     ensures room { IfOk result (λ requests. room_for requests ≡ bound) }
 {
+    let mut requests = Requests::try_new(alloc, bound as usize)?;
     if thread == whole.thread {
         if let Some(before) = whole.requests.take() {
-            return Requests::try_new_in(alloc, bound as usize, before);
+            requests.move_into(before);
         }
     }
-    Requests::try_new(alloc, bound as usize)
-}
-
-/// The worker of a thread, with these rooms.
-fn worker_with(
-    pass: SharedPass,
-    cache: ThreadCache,
-    bound: u32,
-    requests: Requests,
-    out: Records,
-) -> Worker
-    requires unused { cached cache ≡ empty_cache }
-    requires empty { records_in out ≡ [] }
-    requires size { bound ≤ room_of out }
-    requires none { requests_in requests ≡ [] }
-    requires place { room_for requests ≡ bound }
-    ensures { IsEquipped pass bound result }
-{
-    let _ = bound;
-    Worker {
-        pass: Some(pass),
-        cache,
-        requests,
-        out,
-    }
+    Ok(requests)
 }
 
 /// The workers of the threads, from thread 1 on, which have these passes and caches in order. The bounds are those of all actors.
@@ -167,7 +168,12 @@ fn workers_for(
         let bound = bounds[thread];
         let out = records_for(alloc, thread, bound, &mut whole)?;
         let requests = requests_for(alloc, thread, bound, &mut whole)?;
-        workers.push_reserved(worker_with(pass, cache, bound, requests, out));
+        workers.push_reserved(Worker {
+            pass: Some(pass),
+            cache,
+            requests,
+            out,
+        });
     }
     Ok(workers)
 }
@@ -208,46 +214,33 @@ fn book_of(alloc: Global, limit: usize, before: NameBook) -> Result<NameBook, No
     NameBook::try_new(alloc, limit)
 }
 
-/// The team of a plan, whose scavenger has the first pass, and whose threads have the others in order. Its names and the rooms of the thread that speaks first lie
-/// in what was made before, where that is large enough.
+/// The team of a plan, whose scavenger has the first pass, and whose threads have the others in order. Its names lie in the book that was made before, where that
+/// is large enough.
 fn team_for(
     alloc: Global,
     plan: &Plan,
     utility: &mut Utility,
     first: SharedPass,
     others: Vec<SharedPass>,
-    before: Spare,
+    whole: WholeRoom,
+    before: NameBook,
 ) -> Result<Team, NoMemory>
     requires plan { (text : List ℕ) × IsPlanOf text plan.now }
     requires passes { length others.items ≡ plan.now.profile.threads }
     requires threads { plan.now.profile.threads ≤ threads_of utility.old }
     requires seats { (k : ℕ) → 1 ≤ k → k ≤ plan.now.profile.threads → has_seat utility.old k ≡ true }
     requires outcomes { outcomes_of utility.old ≡ Some plan.now.profile.pages }
+    requires unnamed { (name : ℕ) → block_named before.names name ≡ None }
     ensures { IfOk result (λ team. IsTeamOf plan.now first others.items team) }
 {
     let bounds = plan.bounds.as_slice();
     let phases = plan.phases.as_slice();
     let count = plan.profile.threads;
-    let first_ops = phases
-        .first()
-        .map_or(&[] as &[Op], |phase| phase.as_slice());
-    let Spare {
-        book,
-        records,
-        requests,
-    } = before;
     let caches = caches_for(alloc, utility, count)?;
-    let whole = WholeRoom {
-        thread: first_active(first_ops, count),
-        total: plan.total,
-        phases: u32::try_from(phases.len()).unwrap_or(u32::MAX),
-        records: Some(records),
-        requests: Some(requests),
-    };
     let threads = workers_for(alloc, others, caches, bounds, whole)?;
     let outcomes = outcomes_from(utility);
     let scavenger = scavenger_with(alloc, first, outcomes, bounds[0], count)?;
-    let book = book_of(alloc, names_limit(phases), book)?;
+    let book = book_of(alloc, names_limit(phases), before)?;
     let Ok(hands) = Vec::with_capacity(alloc, count as usize + 1) else {
         return Err(NoMemory);
     };
@@ -288,17 +281,19 @@ fn passes_of(team: &mut Team, mut passes: Vec<SharedPass>) -> Vec<SharedPass>
 
 impl SharedKit {
     /// The kit of a plan: its rooms are as large as the bounds of the plan's actors say, and the thread that speaks first has room for the records of all. NoMemory
-    /// where memory was wanting. Costs two passes over the words of the region, one over the plan, and two over the numbers of its names.
+    /// where memory was wanting. Costs two passes over the words of the region, one over the plan and one more over its first phase, and two over the numbers of
+    /// its names.
     pub fn try_new(alloc: Global, plan: &Plan) -> Result<SharedKit, NoMemory>
         requires { (text : List ℕ) × IsPlanOf text plan.now }
         ensures { IfOk result (λ kit. IsKitOf plan.now kit) }
     {
         let opening = Opening::try_new(alloc, plan.profile)?;
-        SharedKit::made_at(alloc, plan, opening, Spare::try_new(alloc, 0, 0, 0)?)
+        SharedKit::made_at(alloc, plan, opening, Spare::none(alloc)?)
     }
 
     /// The kit of a plan, as `try_new` gives it, of what was made ahead, as far as that serves: at its region where that has the plan's profile, and with its
-    /// rooms where they are large enough. The rest is let go. NoMemory where memory was wanting. Where all of it serves, it costs one pass over the plan.
+    /// rooms where they are large enough. The rest is let go. NoMemory where memory was wanting. Where all of it serves, it costs one pass over the plan, and one
+    /// more over its first phase.
     pub fn try_new_of(alloc: Global, plan: &Plan, ahead: Ahead) -> Result<SharedKit, NoMemory>
         requires { (text : List ℕ) × IsPlanOf text plan.now }
         ensures { IfOk result (λ kit. IsKitOf plan.now kit) }
@@ -323,12 +318,28 @@ impl SharedKit {
         requires profile { profile_of_opening opening ≡ plan.now.profile }
         ensures { IfOk result (λ kit. IsKitOf plan.now kit) }
     {
+        let Spare {
+            book,
+            events,
+            records,
+            requests,
+        } = before;
         let count = plan.profile.threads;
-        let mut utility = Utility::try_new(alloc, &plan.profile, plan.bounds.as_slice())?;
-        let rooms = rooms_of(alloc, &mut utility, count)?;
+        let bounds = plan.bounds.as_slice();
+        let phases = plan.phases.as_slice();
+        let whole = WholeRoom {
+            thread: first_active(first_ops(phases), count),
+            total: plan.total,
+            phases: u32::try_from(phases.len()).unwrap_or(u32::MAX),
+            records: Some(records),
+            requests: Some(requests),
+        };
+        let mut utility = Utility::try_new(alloc, &plan.profile, bounds)?;
+        let mut rooms = rooms_of(alloc, &mut utility, count)?;
+        move_rooms(&mut rooms, events);
         let (region, mut others) = SharedRegion::try_new_at(alloc, opening, rooms)?;
         let first = others.remove(0);
-        let team = team_for(alloc, plan, &mut utility, first, others, before)?;
+        let team = team_for(alloc, plan, &mut utility, first, others, whole, book)?;
         let Ok(passes) = Vec::with_capacity(alloc, count as usize + 1) else {
             return Err(NoMemory);
         };

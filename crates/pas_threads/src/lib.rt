@@ -11,6 +11,7 @@ mod hands;
 pub mod kit;
 pub mod laws;
 mod lending;
+mod likely;
 mod names;
 mod own;
 mod phases;

@@ -92,25 +92,21 @@ impl Requests {
         Ok(requests)
     }
 
-    /// Room as `try_new` gives it, in the memory of one that was made before, where that is large enough. What that held is forgotten.
-    pub(crate) fn try_new_in(
-        alloc: Global,
-        bound: usize,
-        before: Requests,
-    ) -> Result<Requests, NoMemory>
-        ensures empty { IfOk result (λ requests. requests_in requests ≡ []) }
-        ensures room { IfOk result (λ requests. room_for requests ≡ bound) }
+    /// Moves this room, which has no request yet, into the memory of another, where that is large enough. What the other held is forgotten, and the memory that is
+    /// left is let go. Takes no memory.
+    pub(crate) fn move_into(&mut self, other: Requests)
+        requires { requests_in self.old ≡ [] }
+        ensures empty { requests_in self.new ≡ [] }
+        ensures room { room_for self.new ≡ room_for self.old }
     {
         let Requests {
             mut items,
             bound: _,
-        } = before;
-        if items.capacity() >= bound {
+        } = other;
+        if items.capacity() >= self.bound {
             items.clear();
-            return Ok(Requests { items, bound });
+            self.items = items;
         }
-        drop(items);
-        Requests::try_new(alloc, bound)
     }
 
     /// What the request at this place came to, where it has the name.

@@ -1,6 +1,6 @@
 -- A text that is cut behind the end of a line: its lines are those of the front and those of the rest.
 use Rattle.std.proofs.Common.{◌≡◌, ◌≢◌, ℕ, ◌+◌, ◌-◌, ◌<◌, ◌≤◌, ◌==◌, Bool, true, false, if◌then◌else◌, List, [], ◌∷◌, ◌++◌, take, drop, length, get_or, refl, sym, ap, ◌∙◌, arith}
-use Rattle.std.proofs.lemmas.List.{take_more, drop_more, take-append-drop, append-nil, drop_all, take_all, take_rest, length-drop, get_or-drop}
+use Rattle.std.proofs.lemmas.List.{take_more, drop_more, take-append-drop, append-nil, take_rest, length-drop, get_or-drop}
 use Rattle.pas_trace.specs.Texts.{put_first, pieces, without_empty_end, lines_of}
 use Rattle.pas_trace.proofs.Splits.{pieces-at, pieces-some, end-cons}
 
@@ -43,10 +43,3 @@ lines-from bs p n within ended le ne =
     let lt : n < length (take (length bs - p) (drop p bs)) = omega (arith, within, long, le, ne) in
     let found : get_or bs (p + n) 0 ≡ 10 = sym (get_or-drop p bs n 0) ∙ sym (ap (λ (t : List ℕ). get_or t n 0) rest) ∙ ended lt in
     lines-cut bs (p + n) (omega (arith, lt, long)) found
-
--- .. and at the end
-pub lines-whole : (bs : List ℕ) → lines_of bs ≡ lines_of (take (length bs) bs) ++ lines_of (drop (length bs) bs)
-lines-whole bs =
-    let none : drop (length bs) bs ≡ [] = drop_all (length bs) bs (omega arith) in
-    let all : take (length bs) bs ≡ bs = take_all (length bs) bs (omega arith) in
-    sym (ap (λ (t : List ℕ). lines_of (take (length bs) bs) ++ lines_of t) none ∙ append-nil (lines_of (take (length bs) bs)) ∙ ap lines_of all)

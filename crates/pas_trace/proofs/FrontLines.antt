@@ -175,9 +175,3 @@ pub free-first : (text t1 rest : List ℕ) (t n : ℕ) → BeginsWith text t 32 
 free-first text t1 rest t n b1 b2 lo hi =
     let named = name-fits b2.word n b2.number lo hi in
     line-says 102 text (b1.word ∷ b2.word ∷ []) rest _ (omega arith) (line-more text t t1 _ rest b1 (line-end t1 n rest b2)) (λ started i. item2 Frees (b1.number i) (named i))
-
--- ---- the first two bytes
-pub two-first : (text : List ℕ) (a b : ℕ) → 2 ≤ length text → get_or text 0 0 ≡ a → get_or text 1 0 ≡ b → a ∷ b ∷ take (length text - 2) (drop 2 text) ≡ text
-two-first [] a b two ha hb = absurd (omega arith)
-two-first (x ∷ []) a b two ha hb = absurd (omega arith)
-two-first (x ∷ y ∷ rest) a b two ha hb = λ i. sym ha i ∷ sym hb i ∷ take_rest (x ∷ y ∷ rest) 2 i

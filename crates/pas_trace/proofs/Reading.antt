@@ -4,7 +4,7 @@ use Rattle.pas_profile.specs.declared.profile.Profile.{Profile}
 use Rattle.pas_trace.specs.Texts.{lines_of}
 use Rattle.pas_trace.specs.Reasons.{line_says, header_of}
 use Rattle.pas_trace.specs.Plans.{parsed, parsed_lines, with_header, with_items, items_from, after_item, IsPlanOf, IsReading}
-use Rattle.pas_trace.specs.Told.{Tells, IsTaken, IsFirstTaken, AreTaken, IsRead, IsBegun, IsPlanned}
+use Rattle.pas_trace.specs.Told.{Tells, IsTaken, AreTaken, IsRead, IsBegun, IsPlanned}
 use Rattle.pas_trace.specs.declared.fault.ReadFault.{ReadFault}
 use Rattle.pas_trace.specs.declared.fault.ReadFault.TheVariants.{Trace, NoMemory}
 use Rattle.pas_trace.specs.declared.item.Item.{Item}
@@ -46,14 +46,6 @@ at-end old now start lines left far none = (far.items, far.same ∙ ap (items_fr
 -- ---- the first line of a text
 abbrev pub left-is : (old now : Reader) (start : List Item) (lines left other : List (List ℕ)) → left ≡ other → SoFar old start lines now left → SoFar old start lines now other
 left-is old now start lines left other e far = record { items = far.items; tells = far.tells; header = far.header; same = far.same ∙ ap (items_from old.header (now.line + 1) far.items) e }
-
-pub after-line : (old now new : Reader) (start : List Item) (text rest after : List ℕ) (far : SoFar old start (lines_of text) now (lines_of rest)) → IsFirstTaken now far.items rest after new (Ok tt) → SoFar old start (lines_of text) new (lines_of after)
-after-line old now new start text rest after far first =
-    after-taken old now new start (lines_of text) first.line (lines_of after) (left-is old now start (lines_of text) (lines_of rest) (first.line ∷ lines_of after) first.cut far) first.taken
-
-pub read-fault : (old now new : Reader) (start : List Item) (text rest after : List ℕ) (fault : ReadFault) (far : SoFar old start (lines_of text) now (lines_of rest)) → IsFirstTaken now far.items rest after new (Err fault) → IsRead old start text new (Err fault)
-read-fault old now new start text rest after fault far first =
-    taken-fault old now new start (lines_of text) first.line (lines_of after) fault (left-is old now start (lines_of text) (lines_of rest) (first.line ∷ lines_of after) first.cut far) first.taken
 
 -- ---- from the text
 pub parsed-items : (text line rest : List ℕ) (f : Profile) → lines_of text ≡ line ∷ lines_of rest → header_of line ≡ Some f → parsed text ≡ with_items f (items_from f 2 [] (lines_of rest))

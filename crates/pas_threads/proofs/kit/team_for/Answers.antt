@@ -13,9 +13,6 @@ use Rattle.pas_threads.proofs.kit.team_for.Goals as goal
 pub caches_for-requires-clause-few : goal.caches_for-requires-clause-few
 caches_for-requires-clause-few c = (plan_valid c.requires.plan.1).threads
 
-pub first_active-requires : goal.first_active-requires
-first_active-requires c = record { few = let threads = (plan_valid c.requires.plan.1).threads in omega (arith, threads) }
-
 pub workers_for-requires-clause-bounds : goal.workers_for-requires-clause-bounds
 workers_for-requires-clause-bounds c =
     let count = ap (λ (bs : List ℕ). length bs) c.as_slice-bounds.ensures ∙ plan_bounds c.requires.plan.1 in

@@ -1,5 +1,6 @@
 use Rattle.std.proofs.Common.{ℕ, List, Some, length, slice_index, ap, sym, ◌∙◌, subst, arith}
 use Rattle.std.proofs.lemmas.Option.{same_Some}
+use Rattle.pas_profile.specs.declared.profile.Profile.{Profile}
 use Rattle.pas_trace.specs.Plans.{bounds_of}
 use Rattle.pas_shared.specs.declared.pass.SharedPass.{SharedPass}
 use Rattle.pas_shared.proofs.Opened.{fresh_many}
@@ -9,24 +10,37 @@ use Rattle.pas_threads.proofs.Starting.{fresh_new, first_taken}
 use Rattle.pas_threads.proofs.kit.SharedKit.made_at.Goals as goal
 
 pub try_new-requires : goal.try_new-requires
-try_new-requires c = record { bounds = ap (λ (bs : List ℕ). length bs) c.as_slice.ensures ∙ plan_bounds c.requires.plan.1 }
+try_new-requires c = record { bounds = ap (λ (bs : List ℕ). length bs) c.as_slice-bounds.ensures ∙ plan_bounds c.requires.plan.1 }
+
+pub move_rooms-requires : goal.move_rooms-requires
+move_rooms-requires c = c.in_ok-rooms.ensures.rooms.empty
 
 pub rooms_of-requires-clause-few : goal.rooms_of-requires-clause-few
 rooms_of-requires-clause-few c = (plan_valid c.requires.plan.1).threads
 
 pub rooms_of-requires-clause-left : goal.rooms_of-requires-clause-left
-rooms_of-requires-clause-left c = λ k le. (slice_index c.as_slice.result.now k, c.in_ok-utility.ensures.rooms k le)
+rooms_of-requires-clause-left c = λ k le. (slice_index c.as_slice-bounds.result.now k, c.in_ok-utility.ensures.rooms k le)
+
+pub try_new_at-requires-clause-actors : goal.try_new_at-requires-clause-actors
+try_new_at-requires-clause-actors c =
+    let many = (c.move_rooms.ensures _ _ c.in_ok-rooms.ensures.rooms).many in
+    let long = c.move_rooms.new.rooms.ok.0 in
+    let threads = ap (λ (f : Profile). f.threads) c.requires.profile in
+    omega (arith, many, long, threads)
+
+pub try_new_at-requires-clause-empty : goal.try_new_at-requires-clause-empty
+try_new_at-requires-clause-empty c = (c.move_rooms.ensures _ _ c.in_ok-rooms.ensures.rooms).empty
 
 pub remove-first-requires : goal.remove-first-requires
 remove-first-requires c =
-    let many = c.in_ok-rooms.ensures.rooms.many in
+    let many = (c.move_rooms.ensures _ _ c.in_ok-rooms.ensures.rooms).many in
     let same = fresh_many _ _ _ _ _ c.in_ok-region.ensures.passes in
     let long = c.in_ok-region.others.ok.0 in
     omega (arith, many, same, long)
 
 pub team_for-requires-clause-passes : goal.team_for-requires-clause-passes
 team_for-requires-clause-passes c =
-    let many = c.in_ok-rooms.ensures.rooms.many in
+    let many = (c.move_rooms.ensures _ _ c.in_ok-rooms.ensures.rooms).many in
     let same = fresh_many _ _ _ _ _ c.in_ok-region.ensures.passes in
     let long = c.in_ok-region.others.ok.0 in
     let left = c.remove-first.ensures.len in
@@ -38,7 +52,7 @@ returns c =
     let plan = c.args.plan.now in
     let region = c.in_ok-region.region in
     let bounds = bounds_of plan.bounds in
-    let rooms = c.in_ok-rooms.ensures.rooms in
+    let rooms = c.move_rooms.ensures _ _ c.in_ok-rooms.ensures.rooms in
     let many = rooms.many in
     let fresh = c.in_ok-region.ensures.passes in
     let same = fresh_many _ _ _ _ _ fresh in
@@ -53,8 +67,8 @@ returns c =
       many = omega (arith, many, same, long, left, rest);
       unused = subst (λ (ps : List SharedPass). AreNew region bounds 0 ps)
           (first_taken c.in_ok-region.others.items c.remove-first.new.self.items c.remove-first.result (omega (arith, many, same)) c.remove-first.ensures.value c.remove-first.ensures.items)
-          (fresh_new region bounds 0 c.in_ok-rooms.rooms.items c.in_ok-region.others.items fresh
-          (λ i d lt. same_Some _ _ (sym (rooms.each i d (omega (arith, lt, many))) ∙ c.in_ok-utility.ensures.rooms i (omega (arith, lt, many)) ∙ ap (λ (bs : List ℕ). Some (slice_index bs i)) c.as_slice.ensures)
+          (fresh_new region bounds 0 c.move_rooms.new.rooms.items c.in_ok-region.others.items fresh
+          (λ i d lt. same_Some _ _ (sym (rooms.each i d (omega (arith, lt, many))) ∙ c.in_ok-utility.ensures.rooms i (omega (arith, lt, many)) ∙ ap (λ (bs : List ℕ). Some (slice_index bs i)) c.as_slice-bounds.ensures)
           ∙ ap (λ (n : ℕ). slice_index bounds n) (omega arith)));
       team = c.in_ok-team.ensures;
       none = c.in-Ok.ensures.items;
