@@ -15,12 +15,10 @@ use std::thread::{Threads, join};
 /// Rooms of a kit that nobody used yet.
 #[derive(Drop)]
 pub(crate) struct Spare {
-    pub(crate) book: NameBook,
     /// By actor.
     pub(crate) events: Vec<EventRoom>,
     pub(crate) records: Records,
     pub(crate) requests: Requests,
-    ghost unnamed: { (name : ℕ) → block_named book.names name ≡ None },
 }
 
 /// A region that nobody used yet, and rooms as large as a trace is likely to need. What a replay is likely to use of their memory was touched: the first touch of
@@ -28,7 +26,9 @@ pub(crate) struct Spare {
 #[derive(Drop)]
 pub struct Ahead {
     pub(crate) opening: Opening,
+    pub(crate) book: NameBook,
     pub(crate) spare: Spare,
+    ghost unnamed: { (name : ℕ) → block_named book.names name ≡ None },
 }
 
 /// As many as can be counted in 32 bits.
@@ -51,11 +51,9 @@ fn event_rooms(alloc: Global, pages: u32, likely: &Likely) -> Result<Vec<EventRo
 impl Spare {
     /// Rooms of no size.
     pub(crate) fn none(alloc: Global) -> Result<Spare, NoMemory> {
-        let book = NameBook::try_new(alloc, 0)?;
         let records = Records::try_new(alloc, 0, 0)?;
         let requests = Requests::try_new(alloc, 0)?;
         Ok(Spare {
-            book,
             events: Vec::new(alloc),
             records,
             requests,
@@ -68,12 +66,10 @@ impl Spare {
         let Likely { lines, names, .. } = *likely;
         let deeds = profile.pages as usize * profile.threads as usize;
         let bound = capped(deeds.saturating_add(lines.saturating_mul(2)));
-        let book = NameBook::try_new(alloc, names.saturating_add(names / 8 + 1))?;
         let events = event_rooms(alloc, profile.pages, likely)?;
         let records = Records::try_new_touched(alloc, bound, 0, capped(lines))?;
         let requests = Requests::try_new_touched(alloc, bound as usize, names / 2)?;
         Ok(Spare {
-            book,
             events,
             records,
             requests,
@@ -84,7 +80,7 @@ impl Spare {
 impl Ahead {
     /// What a replay of this text needs, by its header's profile and by a guess at the rest. Each line of a trace makes about one record, and none but a request
     /// for whole pages more than two; a line that gives a name begins with an `a`, and an eighth more names have room. Two passes over the words of the region, and
-    /// a write for each likely line and name, and two for each likely event. Another thread makes the rooms. NoMemory where memory was wanting.
+    /// a write for each likely line and name, and two for each likely event. Another thread makes half of it. NoMemory where memory was wanting.
     pub fn try_new<R: Threads + Sync>(
         rt: &R,
         alloc: Global,
@@ -95,15 +91,21 @@ impl Ahead {
         ensures { IfOk result (λ ahead. profile_of_opening ahead.opening ≡ profile) }
     {
         let theirs = alloc;
-        let open = || -> Result<Opening, NoMemory>
+        let likely = Likely::of(text);
+        let limit = likely.names.saturating_add(likely.names / 8 + 1);
+        let open = || -> Result<(Opening, NameBook), NoMemory>
             requires { IsValid profile }
-            ensures { IfOk result (λ opening. profile_of_opening opening ≡ profile) }
-        { Opening::try_new(theirs, profile) };
-        let (opening, spare) = join(rt, open, || {
-            Spare::try_new(alloc, &profile, &Likely::of(text))
-        });
+            ensures profile { IfOk result (λ made. profile_of_opening made.0 ≡ profile) }
+            ensures unnamed { IfOk result (λ made. (name : ℕ) → block_named made.1.names name ≡ None) }
+        {
+            let opening = Opening::try_new(theirs, profile)?;
+            Ok((opening, NameBook::try_new(theirs, limit)?))
+        };
+        let (made, spare) = join(rt, open, || Spare::try_new(alloc, &profile, &likely));
+        let (opening, book) = made?;
         Ok(Ahead {
-            opening: opening?,
+            opening,
+            book,
             spare: spare?,
         })
     }

@@ -288,7 +288,8 @@ impl SharedKit {
         ensures { IfOk result (λ kit. IsKitOf plan.now kit) }
     {
         let opening = Opening::try_new(alloc, plan.profile)?;
-        SharedKit::made_at(alloc, plan, opening, Spare::none(alloc)?)
+        let book = NameBook::try_new(alloc, 0)?;
+        SharedKit::made_at(alloc, plan, opening, book, Spare::none(alloc)?)
     }
 
     /// The kit of a plan, as `try_new` gives it, of what was made ahead, as far as that serves: at its region where that has the plan's profile, and with its
@@ -298,28 +299,33 @@ impl SharedKit {
         requires { (text : List ℕ) × IsPlanOf text plan.now }
         ensures { IfOk result (λ kit. IsKitOf plan.now kit) }
     {
-        let Ahead { opening, spare } = ahead;
+        let Ahead {
+            opening,
+            book,
+            spare,
+        } = ahead;
         if *opening.profile() == plan.profile {
-            return SharedKit::made_at(alloc, plan, opening, spare);
+            return SharedKit::made_at(alloc, plan, opening, book, spare);
         }
         drop(opening);
         let opening = Opening::try_new(alloc, plan.profile)?;
-        SharedKit::made_at(alloc, plan, opening, spare)
+        SharedKit::made_at(alloc, plan, opening, book, spare)
     }
 
-    /// The kit of a plan at this region, which has the plan's profile, with these rooms where they are large enough.
+    /// The kit of a plan at this region, which has the plan's profile, with this book, in which no name is, and these rooms, where they are large enough.
     fn made_at(
         alloc: Global,
         plan: &Plan,
         opening: Opening,
+        book: NameBook,
         before: Spare,
     ) -> Result<SharedKit, NoMemory>
         requires plan { (text : List ℕ) × IsPlanOf text plan.now }
         requires profile { profile_of_opening opening ≡ plan.now.profile }
+        requires unnamed { (name : ℕ) → block_named book.names name ≡ None }
         ensures { IfOk result (λ kit. IsKitOf plan.now kit) }
     {
         let Spare {
-            book,
             events,
             records,
             requests,

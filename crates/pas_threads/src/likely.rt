@@ -5,10 +5,10 @@ ghost use Rattle.std.specs.Prelude.{◌<◌, IfSome};
 const ACTORS: usize = 17;
 
 /// In how many places a text is looked at.
-const SAMPLES: usize = 16;
+const SAMPLES: usize = 64;
 
 /// How many bytes are looked at in each of them.
-const SAMPLE_BYTES: usize = 4_096;
+const SAMPLE_BYTES: usize = 1_024;
 
 /// How often each is likely to stand in a text.
 #[derive(Clone, Copy, Debug, Drop)]
@@ -61,7 +61,7 @@ impl Likely {
         }
     }
 
-    /// What is likely to stand in this text. It looks at 64 KB, in 16 places.
+    /// What is likely to stand in this text. It looks at 64 KB, in 64 places.
     pub(crate) fn of(text: &[u8]) -> Likely {
         let mut seen = Likely {
             lines: 0,
