@@ -7,3 +7,4 @@ pub mod Generating
 pub mod Outputs
 pub mod Generated
 pub mod Outcomes
+pub mod Settled

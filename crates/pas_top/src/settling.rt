@@ -1,13 +1,15 @@
 //! The end of a replay on threads: the report is made, and what is spent is let go, while the lines of the records are written.
-ghost use Rattle.std.specs.Prelude.{◌≡◌, ◌≤◌, All, IfSome, OnOk, OnErr};
+ghost use Rattle.std.specs.Prelude.{◌≡◌, ◌≤◌, All, IfSome, Some, OnOk, OnErr};
 ghost use Rattle.pas_io.specs.Told.{Rose, Writes, WritesFront};
 ghost use Rattle.pas_io.specs.Taken.{taken};
 ghost use Rattle.pas_report.specs.Lines.{CanShow, lines_of};
 ghost use Rattle.pas_report.specs.Counts.{AreDeedWords, report_by_words};
 ghost use Rattle.pas_report.specs.Rooms.{records_in};
 ghost use Rattle.pas_top.specs.Outcomes.{IsShown, shown_text};
+ghost use Rattle.pas_top.specs.Settled.{CanReport, report_of};
+ghost use Rattle.pas_top.specs.declared.outcome.Ending.{Ending as TheEnding};
 
-use crate::outcome::{Ending, Spent};
+use crate::outcome::Ending;
 use pas_io::memory::MemorySink;
 use pas_io::whole::write_all;
 use pas_io::{Failed, Sink};
@@ -33,13 +35,28 @@ fn report_in_memory(alloc: Global, state: &State) -> Option<MemorySink>
     Some(text)
 }
 
-/// Lets what is spent go, and makes the report of the state.
-fn settle(alloc: Global, state: &State, spent: &mut Option<Spent>) -> Option<MemorySink>
-    requires { AreDeedWords state.now }
-    ensures { IfSome result (λ text. taken text ≡ report_by_words state.now) }
+/// What is written last.
+#[derive(Drop)]
+pub(crate) enum Last {
+    /// The text of the report.
+    Made(MemorySink),
+    /// The state that it is of: memory was wanting for the text.
+    Unmade(State),
+}
+
+/// Makes the report, and lets the state and what is spent go. Where memory is wanting for the text, the state stays.
+fn settle(alloc: Global, ending: &mut Option<Ending>) -> Last
+    requires { (end : TheEnding) × (ending.old ≡ Some end) × AreDeedWords end.state }
+    ensures { (end : TheEnding) → ending.old ≡ Some end → AreDeedWords end.state → CanReport result × (report_of result ≡ report_by_words end.state) }
 {
-    drop(spent.take());
-    report_in_memory(alloc, state)
+    let Some(Ending { state, spent }) = ending.take() else {
+        unreachable!();
+    };
+    drop(spent);
+    match report_in_memory(alloc, &state) {
+        Some(text) => Last::Made(text),
+        None => Last::Unmade(state),
+    }
 }
 
 /// Writes the lines of the records: those of many records are made by several threads, where there is memory for that.
@@ -64,46 +81,40 @@ fn write_records<R: Threads + Sync, K: Sink>(
     }
 }
 
-/// Writes the report of the state, which may have been made.
-fn write_report<K: Sink>(
-    state: &State,
-    made: Option<MemorySink>,
-    sink: &mut K,
-) -> Result<(), Failed>
-    requires deeds { AreDeedWords state.now }
-    requires made { IfSome made (λ text. taken text ≡ report_by_words state.now) }
-    ensures whole { OnOk result (Writes (K.held sink.old) (K.held sink.new) (report_by_words state.now)) }
-    ensures front { OnErr result (WritesFront (K.held sink.old) (K.held sink.new) (report_by_words state.now)) }
+/// Writes the report.
+fn write_last<K: Sink>(last: &Last, sink: &mut K) -> Result<(), Failed>
+    requires { CanReport last.now }
+    ensures whole { OnOk result (Writes (K.held sink.old) (K.held sink.new) (report_of last.now)) }
+    ensures front { OnErr result (WritesFront (K.held sink.old) (K.held sink.new) (report_of last.now)) }
     ensures failed { OnErr result (Rose (K.faults sink.old) (K.faults sink.new)) }
 {
-    match made {
-        Some(text) => write_all(sink, text.held()),
-        None => report(state, sink),
+    match last {
+        Last::Made(text) => write_all(sink, text.held()),
+        Last::Unmade(state) => report(state, sink),
     }
 }
 
-/// Lets what is spent go and makes the report of the state in another thread, while the lines of the records are written in this one.
+/// Makes the report and lets the rest go in another thread, while the lines of the records are written in this one.
 fn settle_and_write<R: Threads + Sync, K: Sink>(
     rt: &R,
     alloc: Global,
     records: &[Record],
-    state: &State,
-    spent: &mut Option<Spent>,
+    ending: &mut Option<Ending>,
     sink: &mut K,
-) -> (Option<MemorySink>, Result<(), Failed>)
-    requires deeds { AreDeedWords state.now }
+) -> (Last, Result<(), Failed>)
+    requires ending { (end : TheEnding) × (ending.old ≡ Some end) × AreDeedWords end.state }
     requires shown { All CanShow records.now }
-    ensures made { IfSome result.0 (λ text. taken text ≡ report_by_words state.now) }
+    ensures last { (end : TheEnding) → ending.old ≡ Some end → AreDeedWords end.state → CanReport result.0 × (report_of result.0 ≡ report_by_words end.state) }
     ensures whole { OnOk result.1 (Writes (K.held sink.old) (K.held sink.new) (lines_of records.now)) }
     ensures front { OnErr result.1 (WritesFront (K.held sink.old) (K.held sink.new) (lines_of records.now)) }
     ensures failed { OnErr result.1 (Rose (K.faults sink.old) (K.faults sink.new)) }
     ensures count { K.faults sink.old ≤ K.faults sink.new }
 {
     let theirs = alloc;
-    let mut settle = || -> Option<MemorySink>
-        requires { AreDeedWords state.now }
-        ensures { IfSome result (λ text. taken text ≡ report_by_words state.entry.now) }
-    { settle(theirs, state, spent) };
+    let mut settle = || -> Last
+        requires { (end : TheEnding) × (ending.now ≡ Some end) × AreDeedWords end.state }
+        ensures { (end : TheEnding) → ending.entry.now ≡ Some end → AreDeedWords end.state → CanReport result × (report_of result ≡ report_by_words end.state) }
+    { settle(theirs, ending) };
     let mut write = || -> Result<(), Failed>
         requires { All CanShow records.now }
         ensures whole { OnOk result (Writes (K.held sink.entry.now) (K.held sink.exit.now) (lines_of records.entry.now)) }
@@ -127,11 +138,10 @@ pub(crate) fn write_and_settle<R: Threads + Sync, K: Sink>(
     ensures front { OnErr result (WritesFront (K.held sink.old) (K.held sink.new) (shown_text (records_in records.now) ending.state)) }
     ensures failed { OnErr result (Rose (K.faults sink.old) (K.faults sink.new)) }
 {
-    let Ending { state, spent } = ending;
-    let mut spent = Some(spent);
-    let (made, wrote) = settle_and_write(rt, alloc, records.as_slice(), &state, &mut spent, sink);
+    let mut ending = Some(ending);
+    let (last, wrote) = settle_and_write(rt, alloc, records.as_slice(), &mut ending, sink);
     match wrote {
-        Ok(()) => write_report(&state, made, sink),
+        Ok(()) => write_last(&last, sink),
         Err(Failed) => Err(Failed),
     }
 }

@@ -1,0 +1,15 @@
+-- What is written last of a replay on threads: its report, made ahead or from the state.
+use Rattle.std.specs.Prelude.{ℕ, List}
+use Rattle.pas_io.specs.Taken.{taken}
+use Rattle.pas_report.specs.Counts.{AreDeedWords, report_by_words}
+use Rattle.pas_top.specs.declared.settling.Last.{Last}
+use Rattle.pas_top.specs.declared.settling.Last.TheVariants.{Made, Unmade}
+
+abbrev pub report_of : Last → List ℕ
+report_of (Made text) = taken text
+report_of (Unmade state) = report_by_words state
+
+-- it can be written
+abbrev pub CanReport : Last → Type 0
+CanReport (Made text) = Unit {0}
+CanReport (Unmade state) = AreDeedWords state
