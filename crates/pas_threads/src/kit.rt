@@ -17,7 +17,7 @@ ghost use Rattle.pas_shared.specs.declared.pass.SharedPass.{SharedPass as ThePas
 ghost use Rattle.pas_threads.specs.NameBooks.{requests_in, room_for};
 ghost use Rattle.pas_threads.specs.Kits.{AreEquipped, IsSupplied, IsTeamOf, IsKitOf, slots_of, AreAllBack};
 
-use crate::ahead::{Ahead, Spare};
+use crate::ahead::{Ahead, Spare, SpareRooms};
 use crate::gate::Gate;
 use crate::names::{NameBook, Requests};
 use crate::phases::{Team, replay};
@@ -288,48 +288,42 @@ impl SharedKit {
         ensures { IfOk result (λ kit. IsKitOf plan.now kit) }
     {
         let opening = Opening::try_new(alloc, plan.profile)?;
-        let book = NameBook::try_new(alloc, 0)?;
-        SharedKit::made_at(alloc, plan, opening, book, Spare::none(alloc)?)
+        SharedKit::made_at(alloc, plan, opening, Spare::none(alloc)?)
     }
 
     /// The kit of a plan, as `try_new` gives it, of what was made ahead, as far as that serves: at its region where that has the plan's profile, and with its
     /// rooms where they are large enough. The rest is let go. NoMemory where memory was wanting. Where all of it serves, it costs one pass over the plan, and one
-    /// more over its first phase.
+    /// more over its first phase. A room stands twice while it moves into the memory that was made for it.
     pub fn try_new_of(alloc: Global, plan: &Plan, ahead: Ahead) -> Result<SharedKit, NoMemory>
         requires { (text : List ℕ) × IsPlanOf text plan.now }
         ensures { IfOk result (λ kit. IsKitOf plan.now kit) }
     {
-        let Ahead {
-            opening,
-            book,
-            spare,
-        } = ahead;
+        let Ahead { opening, spare } = ahead;
         if *opening.profile() == plan.profile {
-            return SharedKit::made_at(alloc, plan, opening, book, spare);
+            return SharedKit::made_at(alloc, plan, opening, spare);
         }
         drop(opening);
         let opening = Opening::try_new(alloc, plan.profile)?;
-        SharedKit::made_at(alloc, plan, opening, book, spare)
+        SharedKit::made_at(alloc, plan, opening, spare)
     }
 
-    /// The kit of a plan at this region, which has the plan's profile, with this book, in which no name is, and these rooms, where they are large enough.
+    /// The kit of a plan at this region, which has the plan's profile, with this book and these rooms where they are large enough.
     fn made_at(
         alloc: Global,
         plan: &Plan,
         opening: Opening,
-        book: NameBook,
         before: Spare,
     ) -> Result<SharedKit, NoMemory>
         requires plan { (text : List ℕ) × IsPlanOf text plan.now }
         requires profile { profile_of_opening opening ≡ plan.now.profile }
-        requires unnamed { (name : ℕ) → block_named book.names name ≡ None }
         ensures { IfOk result (λ kit. IsKitOf plan.now kit) }
     {
-        let Spare {
+        let Spare { book, rooms } = before;
+        let SpareRooms {
             events,
             records,
             requests,
-        } = before;
+        } = rooms;
         let count = plan.profile.threads;
         let bounds = plan.bounds.as_slice();
         let phases = plan.phases.as_slice();

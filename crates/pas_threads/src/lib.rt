@@ -4,6 +4,9 @@
 mod ahead;
 mod crew;
 mod dealing;
+mod estimate;
+#[cfg(test)]
+mod estimate_tests;
 pub mod gate;
 #[cfg(test)]
 mod gate_tests;
@@ -11,7 +14,6 @@ mod hands;
 pub mod kit;
 pub mod laws;
 mod lending;
-mod likely;
 mod names;
 mod own;
 mod phases;

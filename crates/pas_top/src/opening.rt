@@ -53,7 +53,8 @@ pub(crate) fn read_for<R: Threads + Sync>(
     }
 }
 
-/// The kit of the plan, of what was made ahead for it, if that was. A header says nothing of shared heaps, so the region of a plan that has some is a new one.
+/// The kit of the plan, of what was made ahead for it, if that was. A header says nothing of shared heaps, so the region of a plan that has some is a new one. While
+/// its rooms move a kit needs memory beside what was made ahead; where that is wanting, it is made anew.
 pub(crate) fn kit_of(
     alloc: Global,
     plan: &Plan,
@@ -62,8 +63,10 @@ pub(crate) fn kit_of(
     requires { (text : List ℕ) × IsPlanOf text plan.now }
     ensures { IfOk result (λ kit. IsKitOf plan.now kit) }
 {
-    match ahead {
-        Some(ahead) => SharedKit::try_new_of(alloc, plan, ahead),
-        None => SharedKit::try_new(alloc, plan),
+    if let Some(ahead) = ahead {
+        if let Ok(kit) = SharedKit::try_new_of(alloc, plan, ahead) {
+            return Ok(kit);
+        }
     }
+    SharedKit::try_new(alloc, plan)
 }

@@ -40,14 +40,15 @@ fn report_in_memory(alloc: Global, state: &State) -> Option<MemorySink>
 pub(crate) enum Last {
     /// The text of the report.
     Made(MemorySink),
-    /// The state that it is of: memory was wanting for the text.
-    Unmade(State),
+    /// The state that the report is of: memory was wanting for its text.
+    Due(State),
 }
 
 /// Makes the report, and lets the state and what is spent go. Where memory is wanting for the text, the state stays.
 fn settle(alloc: Global, ending: &mut Option<Ending>) -> Last
-    requires { (end : TheEnding) × (ending.old ≡ Some end) × AreDeedWords end.state }
-    ensures { (end : TheEnding) → ending.old ≡ Some end → AreDeedWords end.state → CanReport result × (report_of result ≡ report_by_words end.state) }
+    requires some { (end : TheEnding) × (ending.old ≡ Some end) }
+    requires deeds { IfSome ending.old (λ end. AreDeedWords end.state) }
+    ensures { IfSome ending.old (λ end. CanReport result × (report_of result ≡ report_by_words end.state)) }
 {
     let Some(Ending { state, spent }) = ending.take() else {
         unreachable!();
@@ -55,7 +56,7 @@ fn settle(alloc: Global, ending: &mut Option<Ending>) -> Last
     drop(spent);
     match report_in_memory(alloc, &state) {
         Some(text) => Last::Made(text),
-        None => Last::Unmade(state),
+        None => Last::Due(state),
     }
 }
 
@@ -90,7 +91,7 @@ fn write_last<K: Sink>(last: &Last, sink: &mut K) -> Result<(), Failed>
 {
     match last {
         Last::Made(text) => write_all(sink, text.held()),
-        Last::Unmade(state) => report(state, sink),
+        Last::Due(state) => report(state, sink),
     }
 }
 
@@ -102,9 +103,10 @@ fn settle_and_write<R: Threads + Sync, K: Sink>(
     ending: &mut Option<Ending>,
     sink: &mut K,
 ) -> (Last, Result<(), Failed>)
-    requires ending { (end : TheEnding) × (ending.old ≡ Some end) × AreDeedWords end.state }
+    requires some { (end : TheEnding) × (ending.old ≡ Some end) }
+    requires deeds { IfSome ending.old (λ end. AreDeedWords end.state) }
     requires shown { All CanShow records.now }
-    ensures last { (end : TheEnding) → ending.old ≡ Some end → AreDeedWords end.state → CanReport result.0 × (report_of result.0 ≡ report_by_words end.state) }
+    ensures last { IfSome ending.old (λ end. CanReport result.0 × (report_of result.0 ≡ report_by_words end.state)) }
     ensures whole { OnOk result.1 (Writes (K.held sink.old) (K.held sink.new) (lines_of records.now)) }
     ensures front { OnErr result.1 (WritesFront (K.held sink.old) (K.held sink.new) (lines_of records.now)) }
     ensures failed { OnErr result.1 (Rose (K.faults sink.old) (K.faults sink.new)) }
@@ -112,8 +114,9 @@ fn settle_and_write<R: Threads + Sync, K: Sink>(
 {
     let theirs = alloc;
     let mut settle = || -> Last
-        requires { (end : TheEnding) × (ending.now ≡ Some end) × AreDeedWords end.state }
-        ensures { (end : TheEnding) → ending.entry.now ≡ Some end → AreDeedWords end.state → CanReport result × (report_of result ≡ report_by_words end.state) }
+        requires some { (end : TheEnding) × (ending.now ≡ Some end) }
+        requires deeds { IfSome ending.now (λ end. AreDeedWords end.state) }
+        ensures { IfSome ending.entry.now (λ end. CanReport result × (report_of result ≡ report_by_words end.state)) }
     { settle(theirs, ending) };
     let mut write = || -> Result<(), Failed>
         requires { All CanShow records.now }

@@ -12,8 +12,11 @@ use Rattle.pas_top.specs.Settled.{report_of}
 use Rattle.pas_top.proofs.Statuses.{front_after}
 use Rattle.pas_top.proofs.settling.write_and_settle.Goals as goal
 
+pub settle_and_write-last-requires-clause-some : goal.settle_and_write-last-requires-clause-some
+settle_and_write-last-requires-clause-some g c κs within = (c.args.ending, refl)
+
 pub write_last-requires : goal.write_last-requires
-write_last-requires g c = (c.settle_and_write-last.ensures.last c.args.ending refl c.requires.deeds).0
+write_last-requires g c = c.settle_and_write-last.ensures.last.0
 
 pub returns-clause-front : goal.returns-clause-front
 returns-clause-front g c =
@@ -28,7 +31,7 @@ returns-clause-front g c =
 pub returns-in-Ok-clause-whole : goal.returns-in-Ok-clause-whole
 returns-in-Ok-clause-whole g c =
     let last = c.settle_and_write-last.result.0 in
-    let report = (c.settle_and_write-last.ensures.last c.args.ending refl c.requires.deeds).1 in
+    let report = c.settle_and_write-last.ensures.last.1 in
     let all : lines_of c.as_slice.result.now ++ report_of last ≡ shown_text (records_in c.args.records.now) c.args.ending.state =
     ap (λ text. lines_of c.as_slice.result.now ++ text) report ∙ ap (λ rs. lines_of rs ++ report_by_words c.args.ending.state) c.as_slice.ensures in
     let wrote : Writes (g.K.Sink.held c.args.sink.now) (g.K.Sink.held c.settle_and_write-last.new.sink) (lines_of c.as_slice.result.now) =
@@ -40,7 +43,7 @@ returns-in-Ok-clause-whole g c =
 pub returns-in-Ok-clause-front : goal.returns-in-Ok-clause-front
 returns-in-Ok-clause-front g c =
     let last = c.settle_and_write-last.result.0 in
-    let report = (c.settle_and_write-last.ensures.last c.args.ending refl c.requires.deeds).1 in
+    let report = c.settle_and_write-last.ensures.last.1 in
     let all : lines_of c.as_slice.result.now ++ report_of last ≡ shown_text (records_in c.args.records.now) c.args.ending.state =
     ap (λ text. lines_of c.as_slice.result.now ++ text) report ∙ ap (λ rs. lines_of rs ++ report_by_words c.args.ending.state) c.as_slice.ensures in
     let wrote : Writes (g.K.Sink.held c.args.sink.now) (g.K.Sink.held c.settle_and_write-last.new.sink) (lines_of c.as_slice.result.now) =

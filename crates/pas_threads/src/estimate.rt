@@ -1,8 +1,7 @@
 //! What is likely to stand in a text, by a look at some of it.
 ghost use Rattle.std.specs.Prelude.{◌<◌, IfSome};
 
-/// The places for actors: the scavenger, and 16 threads.
-const ACTORS: usize = 17;
+use pas_profile::limits::MOST_THREADS;
 
 /// In how many places a text is looked at.
 const SAMPLES: usize = 64;
@@ -11,13 +10,13 @@ const SAMPLES: usize = 64;
 const SAMPLE_BYTES: usize = 1_024;
 
 /// How often each is likely to stand in a text.
-#[derive(Clone, Copy, Debug, Drop)]
-pub(crate) struct Likely {
+#[derive(Clone, Copy, Drop)]
+pub(crate) struct Estimate {
     pub(crate) lines: usize,
     /// Lines that begin with an `a`, and so give a name.
     pub(crate) names: usize,
-    /// Lines of each actor. Those that name no thread are the scavenger's.
-    pub(crate) by_actor: [usize; ACTORS],
+    /// Requests and frees of each thread, by its number. None of number 0.
+    pub(crate) by_actor: [usize; MOST_THREADS as usize + 1],
 }
 
 /// The value of a digit.
@@ -30,8 +29,11 @@ fn digit(byte: Option<&u8>) -> Option<usize>
     }
 }
 
-/// The thread that stands second in the line, or 0.
+/// The thread of a line that begins as a request or a free does, or 0: the number at its third byte.
 fn thread_in(line: &[u8]) -> usize {
+    if !matches!(line.first(), Some(b'a' | b'f' | b'r')) || line.get(1) != Some(&b' ') {
+        return 0;
+    }
     match (digit(line.get(2)), digit(line.get(3))) {
         (Some(tens), Some(ones)) => 10 * tens + ones,
         (Some(ones), None) => ones,
@@ -39,34 +41,38 @@ fn thread_in(line: &[u8]) -> usize {
     }
 }
 
-impl Likely {
+impl Estimate {
     /// One line more.
     fn count(&mut self, line: &[u8]) {
         self.lines = self.lines.saturating_add(1);
         if line.first() == Some(&b'a') {
             self.names = self.names.saturating_add(1);
         }
-        if let Some(lines) = self.by_actor.get_mut(thread_in(line)) {
+        let thread = thread_in(line);
+        if thread == 0 {
+            return;
+        }
+        if let Some(lines) = self.by_actor.get_mut(thread) {
             *lines = lines.saturating_add(1);
         }
     }
 
     /// Each `whole / part` times as often.
-    fn scaled(self, whole: usize, part: usize) -> Likely {
+    fn scaled(self, whole: usize, part: usize) -> Estimate {
         let scale = |count: usize| count.saturating_mul(whole) / part.max(1);
-        Likely {
+        Estimate {
             lines: scale(self.lines),
             names: scale(self.names),
             by_actor: self.by_actor.map(scale),
         }
     }
 
-    /// What is likely to stand in this text. It looks at 64 KB, in 64 places.
-    pub(crate) fn of(text: &[u8]) -> Likely {
-        let mut seen = Likely {
+    /// What is likely to stand in this text, by 1 KB in each of some 64 places. The lines of a text of at most 64 KB are all counted.
+    pub(crate) fn of(text: &[u8]) -> Estimate {
+        let mut seen = Estimate {
             lines: 0,
             names: 0,
-            by_actor: [0; ACTORS],
+            by_actor: [0; MOST_THREADS as usize + 1],
         };
         let mut looked: usize = 0;
         for part in text.chunks((text.len() / SAMPLES).max(SAMPLE_BYTES)) {
