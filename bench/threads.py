@@ -3,15 +3,18 @@
 
 usage: bench/threads.py [--repeat N] [--operations N] PROGRAM TIMING [TRACE..]
 
-PROGRAM is the built crates/pas/out/pas, and TIMING the built crates/pas_replay_timing/out/pas_replay_timing. The traces have 400,000 operations in one phase, divided among 1, 2, 4, 8 and 16 threads: requests of
-16 to 256 bytes, and frees by name of the thread's own blocks. In one the threads work in heaps of their own, in the other all share one heap.
-The table has the milliseconds by the wall clock from the bytes of the trace to those of the transcript, of the fastest of N runs (7), the
-peak memory, how many times as long `run` takes as `order`, and the same for the operations alone, from a kit that is ready to the last
-record. The ways run in turn. Where traces are named, they are timed in place of the generated ones. What else the machine does meanwhile
-shows in the figures.
+PROGRAM is the built crates/pas/out/pas, and TIMING the built crates/pas_replay_timing/out/pas_replay_timing. The
+traces have 400,000 operations in one phase, divided among 1, 2, 4, 8 and 16 threads: requests of 16 to 256 bytes, and
+frees by name of the thread's own blocks. In one the threads work in heaps of their own, in the other all share one
+heap. The table has the milliseconds by the wall clock from the bytes of the trace to those of the transcript, of the
+fastest of N runs (7), the peak memory, how many times as long `run` takes as `order`, by the fastest of each and by
+the median of the pairs of runs that follow each other, and the same for the operations alone, from a kit that is
+ready to the last record. The ways run in turn. Where traces are named, they are timed in place of the generated ones.
+What else the machine does meanwhile shows in the figures.
 """
 
 import os
+import statistics
 import subprocess
 import sys
 import tempfile
@@ -57,14 +60,17 @@ def alone(timing, way, path):
 
 def row(program, timing, name, path, repeat):
     """The line of a trace."""
-    best, inner, peak, refused = dict.fromkeys(WAYS, 9e9), dict.fromkeys(WAYS, 9e9), dict.fromkeys(WAYS, 0.0), 0
+    took, inner, peak, refused = {way: [] for way in WAYS}, dict.fromkeys(WAYS, 9e9), dict.fromkeys(WAYS, 0.0), 0
     for _ in range(repeat):
         for way in WAYS:
             seconds, memory, count = timed(program, way, path)
-            best[way], peak[way], refused = min(best[way], seconds), max(peak[way], memory), max(refused, count)
+            took[way].append(seconds)
+            peak[way], refused = max(peak[way], memory), max(refused, count)
+        for way in WAYS:
             inner[way] = min(inner[way], alone(timing, way, path))
-    whole = " | ".join(f"{1000 * best[way]:.1f} | {peak[way]:.1f}" for way in WAYS)
-    figures = f"{whole} | {best['run'] / best['order']:.2f}"
+    whole = " | ".join(f"{1000 * min(took[way]):.1f} | {peak[way]:.1f}" for way in WAYS)
+    pairs = statistics.median(run / order for order, run in zip(took["order"], took["run"]))
+    figures = f"{whole} | {min(took['run']) / min(took['order']):.2f}, {pairs:.2f}"
     figures += f" | {1000 * inner['order']:.1f} | {1000 * inner['run']:.1f} | {inner['run'] / inner['order']:.2f}"
     return f"| {name} | {figures} | {refused} |"
 
