@@ -12,20 +12,12 @@ use pas_shared::Opening;
 use std::alloc::Global;
 use std::thread::{Threads, join};
 
-/// Rooms that nobody used yet, or that may be forgotten.
-#[derive(Drop)]
-pub(crate) struct SpareRooms {
-    /// By actor.
-    pub(crate) events: Vec<EventRoom>,
-    pub(crate) records: Records,
-    pub(crate) requests: Requests,
-}
-
-/// What a kit may have of what was made before: a book in which no name is, and rooms.
+/// What a kit may have of what was made before: a book in which no name is, and rooms for the thread that speaks first.
 #[derive(Drop)]
 pub(crate) struct Spare {
     pub(crate) book: NameBook,
-    pub(crate) rooms: SpareRooms,
+    pub(crate) records: Records,
+    pub(crate) requests: Requests,
     ghost unnamed: { (name : ℕ) → block_named book.names name ≡ None },
 }
 
@@ -34,8 +26,13 @@ pub(crate) struct Spare {
 #[derive(Drop)]
 pub struct Ahead {
     pub(crate) opening: Opening,
+    /// By actor.
+    pub(crate) events: Vec<EventRoom>,
     pub(crate) spare: Spare,
 }
+
+/// Rooms for events, by actor, and for the records and the requests of one thread.
+type GuessedRooms = (Vec<EventRoom>, Records, Requests);
 
 /// As many, or as many as can be counted in 32 bits.
 fn saturated(count: usize) -> u32 {
@@ -63,40 +60,33 @@ fn event_rooms(
     Ok(rooms)
 }
 
-impl SpareRooms {
-    /// Rooms for a text in which this is likely to stand. All records of a replay come together, but each thread has its own events; half of the names may be
-    /// those of one thread in one phase, whose requests are kept.
-    fn try_new(
-        alloc: Global,
-        profile: &Profile,
-        likely: &Estimate,
-    ) -> Result<SpareRooms, NoMemory> {
-        let Estimate { lines, names, .. } = *likely;
-        let deeds = profile.pages as usize * profile.threads as usize;
-        let bound = saturated(twice_and_more(lines).saturating_add(deeds));
-        let events = event_rooms(alloc, profile, likely)?;
-        let records = Records::try_new_touched(alloc, bound, 0, saturated(lines))?;
-        let requests = Requests::try_new_touched(alloc, bound as usize, names / 2)?;
-        Ok(SpareRooms {
-            events,
-            records,
-            requests,
-        })
-    }
+/// Rooms for a text in which this is likely to stand. All records of a replay come together, but each thread has its own events; half of the names may be those of
+/// one thread in one phase, whose requests are kept.
+fn rooms_for(
+    alloc: Global,
+    profile: &Profile,
+    likely: &Estimate,
+) -> Result<GuessedRooms, NoMemory> {
+    let Estimate { lines, names, .. } = *likely;
+    let deeds = profile.pages as usize * profile.threads as usize;
+    let bound = saturated(twice_and_more(lines).saturating_add(deeds));
+    let events = event_rooms(alloc, profile, likely)?;
+    let records = Records::try_new_touched(alloc, bound, 0, saturated(lines))?;
+    let requests = Requests::try_new_touched(alloc, bound as usize, names / 2)?;
+    Ok((events, records, requests))
 }
 
 impl Spare {
-    /// No place for a name, and no room for events and requests.
+    /// No place for a name, and no room for requests.
     pub(crate) fn none(alloc: Global) -> Result<Spare, NoMemory> {
         let book = NameBook::try_new(alloc, 0)?;
         let records = Records::try_new(alloc, 0, 0)?;
         let requests = Requests::try_new(alloc, 0)?;
-        let rooms = SpareRooms {
-            events: Vec::new(alloc),
+        Ok(Spare {
+            book,
             records,
             requests,
-        };
-        Ok(Spare { book, rooms })
+        })
     }
 }
 
@@ -124,12 +114,17 @@ impl Ahead {
             let opening = Opening::try_new(theirs, profile)?;
             Ok((opening, NameBook::try_new(theirs, limit)?))
         };
-        let (made, rooms) = join(rt, open, || SpareRooms::try_new(alloc, &profile, &likely));
+        let (made, rooms) = join(rt, open, || rooms_for(alloc, &profile, &likely));
         let (opening, book) = made?;
-        let rooms = rooms?;
+        let (events, records, requests) = rooms?;
         Ok(Ahead {
             opening,
-            spare: Spare { book, rooms },
+            events,
+            spare: Spare {
+                book,
+                records,
+                requests,
+            },
         })
     }
 }

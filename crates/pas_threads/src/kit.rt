@@ -17,7 +17,7 @@ ghost use Rattle.pas_shared.specs.declared.pass.SharedPass.{SharedPass as ThePas
 ghost use Rattle.pas_threads.specs.NameBooks.{requests_in, room_for};
 ghost use Rattle.pas_threads.specs.Kits.{AreEquipped, IsSupplied, IsTeamOf, IsKitOf, slots_of, AreAllBack};
 
-use crate::ahead::{Ahead, Spare, SpareRooms};
+use crate::ahead::{Ahead, Spare};
 use crate::gate::Gate;
 use crate::names::{NameBook, Requests};
 use crate::phases::{Team, replay};
@@ -214,33 +214,43 @@ fn book_of(alloc: Global, limit: usize, before: NameBook) -> Result<NameBook, No
     NameBook::try_new(alloc, limit)
 }
 
-/// The team of a plan, whose scavenger has the first pass, and whose threads have the others in order. Its names lie in the book that was made before, where that
-/// is large enough.
+/// The team of a plan, whose scavenger has the first pass, and whose threads have the others in order. Its names and the rooms of the thread that speaks first lie
+/// in what was made before, where that is large enough.
 fn team_for(
     alloc: Global,
     plan: &Plan,
     utility: &mut Utility,
     first: SharedPass,
     others: Vec<SharedPass>,
-    whole: WholeRoom,
-    before: NameBook,
+    before: Spare,
 ) -> Result<Team, NoMemory>
     requires plan { (text : List ℕ) × IsPlanOf text plan.now }
     requires passes { length others.items ≡ plan.now.profile.threads }
     requires threads { plan.now.profile.threads ≤ threads_of utility.old }
     requires seats { (k : ℕ) → 1 ≤ k → k ≤ plan.now.profile.threads → has_seat utility.old k ≡ true }
     requires outcomes { outcomes_of utility.old ≡ Some plan.now.profile.pages }
-    requires unnamed { (name : ℕ) → block_named before.names name ≡ None }
     ensures { IfOk result (λ team. IsTeamOf plan.now first others.items team) }
 {
     let bounds = plan.bounds.as_slice();
     let phases = plan.phases.as_slice();
     let count = plan.profile.threads;
+    let Spare {
+        book,
+        records,
+        requests,
+    } = before;
     let caches = caches_for(alloc, utility, count)?;
+    let whole = WholeRoom {
+        thread: first_active(first_ops(phases), count),
+        total: plan.total,
+        phases: u32::try_from(phases.len()).unwrap_or(u32::MAX),
+        records: Some(records),
+        requests: Some(requests),
+    };
     let threads = workers_for(alloc, others, caches, bounds, whole)?;
     let outcomes = outcomes_from(utility);
     let scavenger = scavenger_with(alloc, first, outcomes, bounds[0], count)?;
-    let book = book_of(alloc, names_limit(phases), before)?;
+    let book = book_of(alloc, names_limit(phases), book)?;
     let Ok(hands) = Vec::with_capacity(alloc, count as usize + 1) else {
         return Err(NoMemory);
     };
@@ -288,7 +298,7 @@ impl SharedKit {
         ensures { IfOk result (λ kit. IsKitOf plan.now kit) }
     {
         let opening = Opening::try_new(alloc, plan.profile)?;
-        SharedKit::made_at(alloc, plan, opening, Spare::none(alloc)?)
+        SharedKit::made_at(alloc, plan, opening, Vec::new(alloc), Spare::none(alloc)?)
     }
 
     /// The kit of a plan, as `try_new` gives it, of what was made ahead, as far as that serves: at its region where that has the plan's profile, and with its
@@ -298,48 +308,40 @@ impl SharedKit {
         requires { (text : List ℕ) × IsPlanOf text plan.now }
         ensures { IfOk result (λ kit. IsKitOf plan.now kit) }
     {
-        let Ahead { opening, spare } = ahead;
+        let Ahead {
+            opening,
+            events,
+            spare,
+        } = ahead;
         if *opening.profile() == plan.profile {
-            return SharedKit::made_at(alloc, plan, opening, spare);
+            return SharedKit::made_at(alloc, plan, opening, events, spare);
         }
         drop(opening);
         let opening = Opening::try_new(alloc, plan.profile)?;
-        SharedKit::made_at(alloc, plan, opening, spare)
+        SharedKit::made_at(alloc, plan, opening, events, spare)
     }
 
-    /// The kit of a plan at this region, which has the plan's profile, with this book and these rooms where they are large enough.
+    /// The kit of a plan at this region, which has the plan's profile, with these rooms for events and what else was made before where they are
+    /// large enough.
     fn made_at(
         alloc: Global,
         plan: &Plan,
         opening: Opening,
+        events: Vec<EventRoom>,
         before: Spare,
     ) -> Result<SharedKit, NoMemory>
         requires plan { (text : List ℕ) × IsPlanOf text plan.now }
         requires profile { profile_of_opening opening ≡ plan.now.profile }
         ensures { IfOk result (λ kit. IsKitOf plan.now kit) }
     {
-        let Spare { book, rooms } = before;
-        let SpareRooms {
-            events,
-            records,
-            requests,
-        } = rooms;
         let count = plan.profile.threads;
         let bounds = plan.bounds.as_slice();
-        let phases = plan.phases.as_slice();
-        let whole = WholeRoom {
-            thread: first_active(first_ops(phases), count),
-            total: plan.total,
-            phases: u32::try_from(phases.len()).unwrap_or(u32::MAX),
-            records: Some(records),
-            requests: Some(requests),
-        };
         let mut utility = Utility::try_new(alloc, &plan.profile, bounds)?;
         let mut rooms = rooms_of(alloc, &mut utility, count)?;
         move_rooms(&mut rooms, events);
         let (region, mut others) = SharedRegion::try_new_at(alloc, opening, rooms)?;
         let first = others.remove(0);
-        let team = team_for(alloc, plan, &mut utility, first, others, whole, book)?;
+        let team = team_for(alloc, plan, &mut utility, first, others, before)?;
         let Ok(passes) = Vec::with_capacity(alloc, count as usize + 1) else {
             return Err(NoMemory);
         };

@@ -92,21 +92,16 @@ impl Requests {
         Ok(requests)
     }
 
-    /// Moves this room, which has no request yet, into the memory of another, where that is large enough. What the other held is forgotten, and the memory that is
-    /// left is let go. Takes no memory.
+    /// Moves this room into the memory of another, where that is large enough. What both held is forgotten, and the memory that is left is let go. Takes no memory.
     pub(crate) fn move_into(&mut self, other: Requests)
-        requires { requests_in self.old ≡ [] }
         ensures empty { requests_in self.new ≡ [] }
         ensures room { room_for self.new ≡ room_for self.old }
     {
-        let Requests {
-            mut items,
-            bound: _,
-        } = other;
+        let Requests { items, bound: _ } = other;
         if items.capacity() >= self.bound {
-            items.clear();
             self.items = items;
         }
+        self.items.clear();
     }
 
     /// What the request at this place came to, where it has the name.

@@ -7,4 +7,3 @@ pub mod Generating
 pub mod Outputs
 pub mod Generated
 pub mod Outcomes
-pub mod Settled

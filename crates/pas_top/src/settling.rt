@@ -1,15 +1,13 @@
 //! The end of a replay on threads: the report is made, and what is spent is let go, while the lines of the records are written.
-ghost use Rattle.std.specs.Prelude.{◌≡◌, ◌≤◌, All, IfSome, Some, OnOk, OnErr};
+ghost use Rattle.std.specs.Prelude.{◌≡◌, ◌≤◌, All, IfSome, OnOk, OnErr};
 ghost use Rattle.pas_io.specs.Told.{Rose, Writes, WritesFront};
 ghost use Rattle.pas_io.specs.Taken.{taken};
 ghost use Rattle.pas_report.specs.Lines.{CanShow, lines_of};
 ghost use Rattle.pas_report.specs.Counts.{AreDeedWords, report_by_words};
 ghost use Rattle.pas_report.specs.Rooms.{records_in};
 ghost use Rattle.pas_top.specs.Outcomes.{IsShown, shown_text};
-ghost use Rattle.pas_top.specs.Settled.{CanReport, report_of};
-ghost use Rattle.pas_top.specs.declared.outcome.Ending.{Ending as TheEnding};
 
-use crate::outcome::Ending;
+use crate::outcome::{Ending, Spent};
 use pas_io::memory::MemorySink;
 use pas_io::whole::write_all;
 use pas_io::{Failed, Sink};
@@ -35,29 +33,13 @@ fn report_in_memory(alloc: Global, state: &State) -> Option<MemorySink>
     Some(text)
 }
 
-/// What is written last.
-#[derive(Drop)]
-pub(crate) enum Last {
-    /// The text of the report.
-    Made(MemorySink),
-    /// The state that the report is of: memory was wanting for its text.
-    Due(State),
-}
-
-/// Makes the report, and lets the state and what is spent go. Where memory is wanting for the text, the state stays.
-fn settle(alloc: Global, ending: &mut Option<Ending>) -> Last
-    requires some { (end : TheEnding) × (ending.old ≡ Some end) }
-    requires deeds { IfSome ending.old (λ end. AreDeedWords end.state) }
-    ensures { IfSome ending.old (λ end. CanReport result × (report_of result ≡ report_by_words end.state)) }
+/// Lets what is spent go, and makes the report of the state.
+fn settle(alloc: Global, state: &State, spent: &mut Option<Spent>) -> Option<MemorySink>
+    requires { AreDeedWords state.now }
+    ensures { IfSome result (λ text. taken text ≡ report_by_words state.now) }
 {
-    let Some(Ending { state, spent }) = ending.take() else {
-        unreachable!();
-    };
-    drop(spent);
-    match report_in_memory(alloc, &state) {
-        Some(text) => Last::Made(text),
-        None => Last::Due(state),
-    }
+    drop(spent.take());
+    report_in_memory(alloc, state)
 }
 
 /// Writes the lines of the records: those of many records are made by several threads, where there is memory for that.
@@ -82,42 +64,46 @@ fn write_records<R: Threads + Sync, K: Sink>(
     }
 }
 
-/// Writes the report.
-fn write_last<K: Sink>(last: &Last, sink: &mut K) -> Result<(), Failed>
-    requires { CanReport last.now }
-    ensures whole { OnOk result (Writes (K.held sink.old) (K.held sink.new) (report_of last.now)) }
-    ensures front { OnErr result (WritesFront (K.held sink.old) (K.held sink.new) (report_of last.now)) }
+/// Writes the report of the state, which may have been made.
+fn write_report<K: Sink>(
+    state: &State,
+    made: Option<MemorySink>,
+    sink: &mut K,
+) -> Result<(), Failed>
+    requires deeds { AreDeedWords state.now }
+    requires made { IfSome made (λ text. taken text ≡ report_by_words state.now) }
+    ensures whole { OnOk result (Writes (K.held sink.old) (K.held sink.new) (report_by_words state.now)) }
+    ensures front { OnErr result (WritesFront (K.held sink.old) (K.held sink.new) (report_by_words state.now)) }
     ensures failed { OnErr result (Rose (K.faults sink.old) (K.faults sink.new)) }
 {
-    match last {
-        Last::Made(text) => write_all(sink, text.held()),
-        Last::Due(state) => report(state, sink),
+    match made {
+        Some(text) => write_all(sink, text.held()),
+        None => report(state, sink),
     }
 }
 
-/// Makes the report and lets the rest go in another thread, while the lines of the records are written in this one.
+/// Lets what is spent go and makes the report of the state in another thread, while the lines of the records are written in this one.
 fn settle_and_write<R: Threads + Sync, K: Sink>(
     rt: &R,
     alloc: Global,
     records: &[Record],
-    ending: &mut Option<Ending>,
+    state: &State,
+    spent: &mut Option<Spent>,
     sink: &mut K,
-) -> (Last, Result<(), Failed>)
-    requires some { (end : TheEnding) × (ending.old ≡ Some end) }
-    requires deeds { IfSome ending.old (λ end. AreDeedWords end.state) }
+) -> (Option<MemorySink>, Result<(), Failed>)
+    requires deeds { AreDeedWords state.now }
     requires shown { All CanShow records.now }
-    ensures last { IfSome ending.old (λ end. CanReport result.0 × (report_of result.0 ≡ report_by_words end.state)) }
+    ensures made { IfSome result.0 (λ text. taken text ≡ report_by_words state.now) }
     ensures whole { OnOk result.1 (Writes (K.held sink.old) (K.held sink.new) (lines_of records.now)) }
     ensures front { OnErr result.1 (WritesFront (K.held sink.old) (K.held sink.new) (lines_of records.now)) }
     ensures failed { OnErr result.1 (Rose (K.faults sink.old) (K.faults sink.new)) }
     ensures count { K.faults sink.old ≤ K.faults sink.new }
 {
     let theirs = alloc;
-    let mut settle = || -> Last
-        requires some { (end : TheEnding) × (ending.now ≡ Some end) }
-        requires deeds { IfSome ending.now (λ end. AreDeedWords end.state) }
-        ensures { IfSome ending.entry.now (λ end. CanReport result × (report_of result ≡ report_by_words end.state)) }
-    { settle(theirs, ending) };
+    let mut settle = || -> Option<MemorySink>
+        requires { AreDeedWords state.now }
+        ensures { IfSome result (λ text. taken text ≡ report_by_words state.entry.now) }
+    { settle(theirs, state, spent) };
     let mut write = || -> Result<(), Failed>
         requires { All CanShow records.now }
         ensures whole { OnOk result (Writes (K.held sink.entry.now) (K.held sink.exit.now) (lines_of records.entry.now)) }
@@ -141,10 +127,11 @@ pub(crate) fn write_and_settle<R: Threads + Sync, K: Sink>(
     ensures front { OnErr result (WritesFront (K.held sink.old) (K.held sink.new) (shown_text (records_in records.now) ending.state)) }
     ensures failed { OnErr result (Rose (K.faults sink.old) (K.faults sink.new)) }
 {
-    let mut ending = Some(ending);
-    let (last, wrote) = settle_and_write(rt, alloc, records.as_slice(), &mut ending, sink);
+    let Ending { state, spent } = ending;
+    let mut spent = Some(spent);
+    let (made, wrote) = settle_and_write(rt, alloc, records.as_slice(), &state, &mut spent, sink);
     match wrote {
-        Ok(()) => write_last(&last, sink),
+        Ok(()) => write_report(&state, made, sink),
         Err(Failed) => Err(Failed),
     }
 }
