@@ -18,7 +18,7 @@ use Rattle.pas_report.specs.declared.record.Said.{Said}
 use Rattle.pas_free_log.specs.declared.log.Entry.{Entry}
 use Rattle.pas_free_log.specs.Logs.{entry_of}
 use Rattle.pas_cache.specs.Caches.{Cached, AtRest}
-use Rattle.pas_cache.specs.Calls.{TakesName, RefusesName, Frees, FlushesLog, StopsCache}
+use Rattle.pas_cache.specs.Calls.{TakesEntry, RefusesName, Frees, FlushesLog, StopsCache}
 use Rattle.pas_answers.specs.Answers.{Named, standing_for, said_of_fault, IsFreedBy}
 use Rattle.pas_answers.specs.Calls.{block_behind, IsMeant, IsKnown, owed_events, PerformsMeant, FreesOne}
 use Rattle.pas_answers.proofs.OwedEvents.{emptied_events, full_events}
@@ -26,7 +26,7 @@ use Rattle.pas_steps.proofs.Unknown.{unknown_stays}
 
 -- ---- a free
 -- the events of the flush of a full log, and what is owed with the name in the log
-taken_few : (f : Profile) (k : ℕ) (c c' : Cached) (name : Name) (steps : List Made) (v : View) → TakesName f k c c' name steps → Agreed f v steps
+taken_few : (f : Profile) (k : ℕ) (c c' : Cached) (name : Name) (steps : List Made) (v : View) → TakesEntry f k c c' (entry_of name) steps → Agreed f v steps
     → length (events_by k v steps) + 0 + owed_events f c' (steps ++ v) ≤ 1 + owed_events f c v
 taken_few f k c c' name steps v takes agreed =
     let events = full_events (nat_le 64 (length c.log)) k c.log takes.logs.kept c.noted c'.noted steps v takes.logs.emptied in
@@ -41,10 +41,10 @@ refused_few f k c c' name steps fault v refuses =
     let owed : owed_events f c' (steps ++ v) ≡ owed_events f c v = ap (λ (d : Cached). owed_events f d (steps ++ v)) refuses.cache ∙ ap (λ (ms : List Made). owed_events f c (ms ++ v)) refuses.no_steps in
     omega (arith, none, owed)
 
-pub frees_taken : {σ σ' : Standing} {answer : Result (Unit {0}) FreeFault} (name : Name) (c c' : Cached) (done : Unit {0}) → Frees name c c' σ σ' answer → answer ≡ Ok done → FreesOne name c c' σ σ' None
+pub frees_taken : {σ σ' : Standing} {answer : Result (Unit {0}) FreeFault} (name : Name) (c c' : Cached) (done : Unit {0}) → Frees (entry_of name) c c' σ σ' answer → answer ≡ Ok done → FreesOne name c c' σ σ' None
 frees_taken {σ} {σ'} {answer} name c c' done frees is =
-    let takes : TakesName σ.seat.profile σ.seat.actor c c' name frees.steps
-    = subst (λ a. MatchResult a (λ done. TakesName σ.seat.profile σ.seat.actor c c' name frees.steps) (RefusesName σ.seat.profile c c' name frees.steps)) is frees.outcome in
+    let takes : TakesEntry σ.seat.profile σ.seat.actor c c' (entry_of name) frees.steps
+    = subst (λ a. MatchResult a (λ done. TakesEntry σ.seat.profile σ.seat.actor c c' (entry_of name) frees.steps) (RefusesName σ.seat.profile c c' name frees.steps)) is frees.outcome in
     record {
       steps = frees.steps;
       calls = frees.calls;
@@ -52,10 +52,10 @@ frees_taken {σ} {σ'} {answer} name c c' done frees is =
       freed = inl (takes, refl);
     }
 
-pub frees_refused : {σ σ' : Standing} {answer : Result (Unit {0}) FreeFault} (name : Name) (c c' : Cached) (fault : FreeFault) → Frees name c c' σ σ' answer → answer ≡ Err fault → FreesOne name c c' σ σ' (Some (said_of_fault name fault))
+pub frees_refused : {σ σ' : Standing} {answer : Result (Unit {0}) FreeFault} (name : Name) (c c' : Cached) (fault : FreeFault) → Frees (entry_of name) c c' σ σ' answer → answer ≡ Err fault → FreesOne name c c' σ σ' (Some (said_of_fault name fault))
 frees_refused {σ} {σ'} {answer} name c c' fault frees is =
     let refuses : RefusesName σ.seat.profile c c' name frees.steps fault
-    = subst (λ a. MatchResult a (λ done. TakesName σ.seat.profile σ.seat.actor c c' name frees.steps) (RefusesName σ.seat.profile c c' name frees.steps)) is frees.outcome in
+    = subst (λ a. MatchResult a (λ done. TakesEntry σ.seat.profile σ.seat.actor c c' (entry_of name) frees.steps) (RefusesName σ.seat.profile c c' name frees.steps)) is frees.outcome in
     record {
       steps = frees.steps;
       calls = frees.calls;

@@ -1,5 +1,5 @@
 -- The records of a piece are of its actor.
-use Rattle.std.proofs.Common.{◌≡◌, ◌≢◌, ℕ, ◌==◌, ◌&&◌, Bool, true, false, if◌then◌else◌, List, [], ◌∷◌, ◌++◌, reverse, Option, Some, None, refl, ap, sym, ◌∙◌, subst}
+use Rattle.std.proofs.Common.{◌≡◌, ◌≢◌, ℕ, ◌==◌, ◌&&◌, Bool, true, false, if◌then◌else◌, List, [], ◌∷◌, ◌++◌, reverse, Option, Some, None, refl, ap, sym, ◌∙◌, subst, ◌/◌}
 use Rattle.std.specs.Prelude.{map}
 use Rattle.std.proofs.lemmas.List.{reverse-append, map-append}
 use Rattle.std.proofs.lemmas.Bool.{eq-eqb, ne_eqb}
@@ -8,11 +8,11 @@ use Rattle.pas_profile.specs.declared.event.Event.{Event}
 use Rattle.pas_profile.specs.declared.event.Outcome.{Outcome}
 use Rattle.pas_profile.specs.declared.event.Outcome.TheVariants.{Unbacked, Bare, Young, InUse, NotOffered}
 use Rattle.pas_steps.specs.Effects.{succeeds}
-use Rattle.pas_steps.specs.Events.{events_by, event_of, with_event, reason_of}
+use Rattle.pas_steps.specs.Events.{events_by, event_of, with_event, reason_of, sized_reason}
 use Rattle.pas_steps.specs.Views.{View, epoch_of}
 use Rattle.pas_steps.specs.declared.step.Made.{Made}
 use Rattle.pas_steps.specs.declared.step.Step.{Step}
-use Rattle.pas_steps.specs.declared.step.Step.TheVariants.{Deed, Back, Give, End, Unback}
+use Rattle.pas_steps.specs.declared.step.Step.TheVariants.{Deed, Back, Give, End, EndSized, Unback}
 use Rattle.pas_report.specs.declared.record.Record.{Record}
 use Rattle.pas_report.specs.declared.record.Said.{Said}
 use Rattle.pas_passes.specs.Records.{record_of, records_of_pass}
@@ -44,6 +44,8 @@ with_step j epoch (Back page) a es all = with_some j (a == 0) (Event.Back j page
 with_step j epoch (Give block) a es all = (λ k. refl, all)
 with_step j epoch (End name guess) a es all =
     with_end j (succeeds name guess a) (is_live a && (turn_of a == name.turn)) (Event.End j name epoch) (Event.Reject j name (reason_of name a)) es (λ k. refl, all) (λ k. refl, all)
+with_step j epoch (EndSized name room) a es all =
+    with_end j (succeeds name (room / 16) a) false (Event.End j name epoch) (Event.Reject j name (sized_reason name room a)) es (λ k. refl, all) (λ k. refl, all)
 with_step j epoch (Unback page) a es all = (λ k. refl, all)
 with_step j epoch s a es all = all
 

@@ -101,7 +101,7 @@ most_same : (n cost : ℕ) (answer : Result Block NoRoom) → cost ≡ n + 1 →
 most_same n cost (Ok block) same = sym same
 most_same n cost (Err room) same = refl
 
-pub serves_pages : {σ σ' : Standing} {answer : Result Block NoRoom} {tells : Bool} (c c' : Cached) (heap size align : ℕ) → 2048 < size → AllocatesPages (wanted_for σ.seat.profile heap size align) tells c c' σ σ' answer
+pub serves_pages : {σ σ' : Standing} {answer : Result Block NoRoom} {found : Option ℕ} {tells : Bool} (c c' : Cached) (heap size align : ℕ) → 2048 < size → AllocatesPages (wanted_for σ.seat.profile heap size align) found tells c c' σ σ' answer
     → Serves (cost_of_route (route_of size align) size) (wanted_for σ.seat.profile heap size align) c c' σ σ' answer
 serves_pages {σ} {σ'} {answer} c c' heap size align large call =
     let f = σ.seat.profile in

@@ -1,6 +1,6 @@
 -- What answers an operation leaves its actor's view tidy: no epoch is learned between an end and its stamps, a page is stamped only where it is unstamped,
 -- and at the end none is.
-use Rattle.std.proofs.Common.{◌≡◌, ℕ, zero, suc, ◌+◌, ◌-◌, ◌*◌, ◌/◌, ◌^◌, ◌<◌, ◌≤◌, ◌==◌, nat_le, Bool, true, false, ◌&&◌, if◌then◌else◌, List, [], ◌∷◌, ◌++◌, length, Option, Some, None, inl, inr, refl, ap, sym, ◌∙◌, subst, arith, append_assoc}
+use Rattle.std.proofs.Common.{◌≡◌, ◌≢◌, ℕ, zero, suc, ◌+◌, ◌-◌, ◌*◌, ◌/◌, ◌^◌, ◌<◌, ◌≤◌, ◌==◌, nat_le, Bool, true, false, ◌&&◌, if◌then◌else◌, List, [], ◌∷◌, ◌++◌, length, Option, Some, None, inl, inr, refl, ap, sym, ◌∙◌, subst, arith, append_assoc}
 use Rattle.std.proofs.lemmas.Bool.{true≢false, false≢true, eqb-false, eq-eqb, ne_eqb, false_from_ne_true}
 use Rattle.std.proofs.lemmas.Bool.Decides.{nat_tests}
 use Rattle.pas_profile.specs.Lives.{live_word}
@@ -14,11 +14,12 @@ use Rattle.pas_steps.specs.Allowed.{IsStepOf}
 use Rattle.pas_steps.specs.Desks.{made}
 use Rattle.pas_steps.specs.declared.step.Made.{Made}
 use Rattle.pas_steps.specs.declared.step.Step.{Step}
-use Rattle.pas_steps.specs.declared.step.Step.TheVariants.{Look, End, Stamp, Tick}
+use Rattle.pas_steps.specs.declared.step.Step.TheVariants.{Look, End, EndSized, Stamp, Tick}
 use Rattle.pas_core.specs.Stamps.{AllStamped, KeepsToEnds}
 use Rattle.pas_rights.proofs.Orders.{return_returns}
 use Rattle.pas_rights.proofs.Puts.{puts_kinds}
-use Rattle.pas_free_log.specs.Endings.{guess_by, Tries, IsEndOf, EndSteps}
+use Rattle.pas_free_log.specs.Endings.{guess_by, Tries, TriesBy, last_step, IsRefusedBy, IsEndOf, EndSteps}
+use Rattle.pas_free_log.specs.Logs.{is_sized}
 use Rattle.pas_free_log.specs.Returns.{PageSteps, PagesSteps, first_on, count_on}
 use Rattle.pas_free_log.specs.Stamps.{page_count}
 use Rattle.pas_free_log.specs.declared.log.Entry.{Entry}
@@ -73,6 +74,7 @@ keeps_tidy s v h stamped = tt
 
 stamped_tidy : (s : Step) (a p : ℕ) (was : Bool) → is_in untidy (kind_of s) ≡ false → unstamped_after s a p was ≡ was
 stamped_tidy (End name guess) a p was h = absurd (true≢false h)
+stamped_tidy (EndSized name room) a p was h = absurd (true≢false h)
 stamped_tidy (Stamp q) a p was h = absurd (true≢false h)
 stamped_tidy s a p was h = refl
 
@@ -207,36 +209,76 @@ record IsTried (name : Name) (outcome : Outcome) (v : View) : Type 0 where
   ended : (grains : ℕ) → outcome ≡ Ended grains → (1 ≤ grains) × PagesDone (grain_of name) grains 0 v
   refused : (read : ℕ) → outcome ≡ Refused read → Tidy v
 
-pending_now : (name : Name) (guess a : ℕ) (u : View) → AllStamped u → a ≡ live_word name.turn guess → IsPending (grain_of name) guess 0 (made (End name guess) a ∷ u)
-pending_now name guess a u stamped hit =
+-- what the last try came to
+abbrev EndOf : Bool → Name → ℕ → ℕ → Outcome → Type 0
+EndOf t name guess a (Ended grains) = (a ≡ live_word name.turn guess) × (grains ≡ guess)
+EndOf t name guess a (Refused read) = IsRefusedBy t name guess a × (read ≡ a)
+
+end_of : (entry : Entry) (guess a : ℕ) (outcome : Outcome) → IsEndOf entry guess a outcome → EndOf (is_sized entry) entry.name guess a outcome
+end_of entry guess a (Ended grains) h = h
+end_of entry guess a (Refused read) h = h
+
+-- what the step of an end leaves unstamped, by a length or by a room
+record MarksEnds (name : Name) (n : ℕ) (s : Step) : Type 0 where
+  marks : (a p : ℕ) (u : View) → is_unstamped (made s a ∷ u) p ≡ (if (a == live_word name.turn n) && meets_page (grain_of name) n p then true else is_unstamped u p)
+  keeps : (u : View) → KeepsToEnds u s
+
+marks_by : (t : Bool) (entry : Entry) (n : ℕ) → (t ≡ true → n ≡ entry.room / 16) → MarksEnds entry.name n (last_step t entry n)
+marks_by true entry n is = subst (λ m. MarksEnds entry.name m (EndSized entry.name entry.room)) (sym (is refl)) (record { marks = λ a p u. refl; keeps = λ u. tt })
+marks_by false entry n is = record { marks = λ a p u. refl; keeps = λ u. tt }
+
+-- the length of the last try is that of the room, where one was named
+length_is : (t : Bool) (entry : Entry) (first guess : ℕ) (before : List Made) → TriesBy t entry first guess before → t ≡ true → guess ≡ entry.room / 16
+length_is true entry first guess before tries e = tries.0
+length_is false entry first guess before tries e = absurd (true≢false (sym e))
+
+last_of : (f : Profile) (t : Bool) (entry : Entry) (n : ℕ) → (t ≡ true → n ≡ entry.room / 16) → IsStepOf f (last_step t entry n) → (entry.name.turn < 2 ^ 40 - 1) × (1 ≤ n)
+last_of f true entry n is of = (of.0.2, subst (λ m. 1 ≤ m) (sym (is refl)) of.0.3)
+last_of f false entry n is of = (of.2, of.3)
+
+tries_by_tidy : (t : Bool) (entry : Entry) (first guess : ℕ) (before : List Made) (v : View) → TriesBy t entry first guess before → Tidy v → Tidy (before ++ v)
+tries_by_tidy true entry first guess before v h tidy = tidy_none before v h.1 tidy
+tries_by_tidy false entry first guess before v h tidy = tries_tidy entry.name first guess before v h tidy
+
+not_its : (t : Bool) (name : Name) (guess a : ℕ) → name.turn < 2 ^ 40 - 1 → IsRefusedBy t name guess a → a ≢ live_word name.turn guess
+not_its true name guess a turn h = h
+not_its false name guess a turn h = not_live name guess a turn h
+
+pending_now : (name : Name) (guess a : ℕ) (s : Step) (u : View) → MarksEnds name guess s → AllStamped u → a ≡ live_word name.turn guess → IsPending (grain_of name) guess 0 (made s a ∷ u)
+pending_now name guess a s u h stamped hit =
     let z : (a == live_word name.turn guess) ≡ true = eq-eqb a (live_word name.turn guess) hit in
-    let is : (p : ℕ) → is_unstamped (made (End name guess) a ∷ u) p ≡ meets_page (grain_of name) guess p = λ p. ap (λ t. if t && meets_page (grain_of name) guess p then true else is_unstamped u p) z ∙ if_met (meets_page (grain_of name) guess p) (is_unstamped u p) (stamped p) in
+    let is : (p : ℕ) → is_unstamped (made s a ∷ u) p ≡ meets_page (grain_of name) guess p = λ p. h.marks a p u ∙ ap (λ t. if t && meets_page (grain_of name) guess p then true else is_unstamped u p) z ∙ if_met (meets_page (grain_of name) guess p) (is_unstamped u p) (stamped p) in
     record {
       only = λ p un. let meets : meets_page (grain_of name) guess p ≡ true = sym (is p) ∙ un in (meets, met_from (grain_of name) guess p meets);
       rest = λ p meets le. is p ∙ meets;
     }
 
-end_done : (name : Name) (outcome : Outcome) (guess a : ℕ) (u : View) → Tidy u → name.turn < 2 ^ 40 - 1 → 1 ≤ guess → IsEndOf name guess a outcome → IsTried name outcome (made (End name guess) a ∷ u)
-end_done name (Ended grains) guess a u tidy turn some h = record {
-  ended = λ n e. subst (λ m. (1 ≤ m) × PagesDone (grain_of name) m 0 (made (End name guess) a ∷ u)) (sym h.1 ∙ ended_is e) (some, record { kept = (tt, tidy.kept); pending = pending_now name guess a u tidy.stamped h.0 });
+end_done : (t : Bool) (name : Name) (outcome : Outcome) (guess a : ℕ) (s : Step) (u : View) → MarksEnds name guess s → Tidy u → name.turn < 2 ^ 40 - 1 → 1 ≤ guess → EndOf t name guess a outcome → IsTried name outcome (made s a ∷ u)
+end_done t name (Ended grains) guess a s u marks tidy turn some h = record {
+  ended = λ n e. subst (λ m. (1 ≤ m) × PagesDone (grain_of name) m 0 (made s a ∷ u)) (sym h.1 ∙ ended_is e) (some, record { kept = (marks.keeps u, tidy.kept); pending = pending_now name guess a s u marks tidy.stamped h.0 });
   refused = λ read e. absurd (not_refused e);
 }
-end_done name (Refused read) guess a u tidy turn some h = record {
+end_done t name (Refused read) guess a s u marks tidy turn some h = record {
   ended = λ n e. absurd (not_refused (sym e));
   refused = λ r e. record {
-    kept = (tt, tidy.kept);
-    stamped = λ p. misses (a == live_word name.turn guess) (meets_page (grain_of name) guess p) (is_unstamped u p) (ne_eqb a (live_word name.turn guess) (not_live name guess a turn h.0)) ∙ tidy.stamped p;
+    kept = (marks.keeps u, tidy.kept);
+    stamped = λ p. marks.marks a p u ∙ misses (a == live_word name.turn guess) (meets_page (grain_of name) guess p) (is_unstamped u p) (ne_eqb a (live_word name.turn guess) (not_its t name guess a turn h.0)) ∙ tidy.stamped p;
   };
 }
 
 -- ---- an entry, all entries, and a flush; the steps are of the region
-ends_done : (f : Profile) (name : Name) (outcome : Outcome) (steps : List Made) (v : View) → AreOfRegion f steps → EndSteps name outcome steps → Tidy v → IsTried name outcome (steps ++ v)
-ends_done f name outcome steps v of h tidy =
-    let look = made (Look (Word.Deed (address_of name / 4096))) h.deed in
-    let step : IsStepOf f (End name h.guess) = (subst (AreOfRegion f) h.steps_are of).0 in
+ends_done : (f : Profile) (entry : Entry) (outcome : Outcome) (steps : List Made) (v : View) → AreOfRegion f steps → EndSteps entry outcome steps → Tidy v → IsTried entry.name outcome (steps ++ v)
+ends_done f entry outcome steps v of h tidy =
+    let t : Bool = is_sized entry in
+    let first : ℕ = guess_by (directory_read h.deed) in
+    let look = made (Look (Word.Deed (address_of entry.name / 4096))) h.deed in
+    let is : t ≡ true → h.guess ≡ entry.room / 16 = length_is t entry first h.guess h.before h.tries in
+    let step : IsStepOf f (last_step t entry h.guess) = (subst (AreOfRegion f) h.steps_are of).0 in
+    let last : (entry.name.turn < 2 ^ 40 - 1) × (1 ≤ h.guess) = last_of f t entry h.guess is step in
     let tried : Tidy ((h.before ++ look ∷ []) ++ v) = tidy_both (h.before ++ look ∷ []) h.before (look ∷ []) v refl
-    (tries_tidy name (guess_by (directory_read h.deed)) h.guess h.before (look ∷ v) h.tries (look_tidy (Word.Deed (address_of name / 4096)) h.deed v refl tidy)) in
-    subst (λ ms. IsTried name outcome (ms ++ v)) (sym h.steps_are) (end_done name outcome h.guess h.answer ((h.before ++ look ∷ []) ++ v) tried step.2 step.3 h.comes_to)
+    (tries_by_tidy t entry first h.guess h.before (look ∷ v) h.tries (look_tidy (Word.Deed (address_of entry.name / 4096)) h.deed v refl tidy)) in
+    subst (λ ms. IsTried entry.name outcome (ms ++ v)) (sym h.steps_are)
+    (end_done t entry.name outcome h.guess h.answer (last_step t entry h.guess) ((h.before ++ look ∷ []) ++ v) (marks_by t entry h.guess is) tried last.0 last.1 (end_of entry h.guess h.answer outcome h.comes_to))
 
 after_tidy : (name : Name) (outcome : Outcome) (after : List Made) (v : View) → IsTried name outcome v → AfterEnd name outcome after → Tidy (after ++ v)
 after_tidy name (Ended grains) after v h run = let now = h.ended grains refl in run_tidy (grain_of name) grains after v now.0 now.1 run
@@ -245,7 +287,7 @@ after_tidy name (Refused read) after v h none = tidy_none after v none (h.refuse
 entry_tidy : (f : Profile) (entry : Settled) (steps : List Made) (v : View) → AreOfRegion f steps → EntrySteps entry steps → Tidy v → Tidy (steps ++ v)
 entry_tidy f entry steps v of h tidy =
     let ends = of_back f h.after h.ends (subst (AreOfRegion f) h.steps_are of) in
-    tidy_both steps h.after h.ends v h.steps_are (after_tidy entry.entry.name entry.outcome h.after (h.ends ++ v) (ends_done f entry.entry.name entry.outcome h.ends v ends h.order tidy) h.returns)
+    tidy_both steps h.after h.ends v h.steps_are (after_tidy entry.entry.name entry.outcome h.after (h.ends ++ v) (ends_done f entry.entry entry.outcome h.ends v ends h.order tidy) h.returns)
 
 entries_tidy : (f : Profile) (settled : List Settled) (steps : List Made) (v : View) → AreOfRegion f steps → EntriesSteps settled steps → Tidy v → Tidy (steps ++ v)
 entries_tidy f [] steps v of h tidy = tidy_none steps v h tidy

@@ -30,7 +30,8 @@ use Rattle.pas_cache.specs.Changes.{EmptiesLog, StopsEach}
 use Rattle.pas_steps.specs.Kinds.{Only}
 use Rattle.pas_cache.specs.Kinds.{allocating, releasing}
 use Rattle.pas_cache.specs.Serves.{Wanted, wanted_for, ServesRequest, IsPreparing, IsPlaced, IsDeedOf}
-use Rattle.pas_cache.specs.Calls.{TakesName, RefusesName}
+use Rattle.pas_free_log.specs.Logs.{entry_of}
+use Rattle.pas_cache.specs.Calls.{TakesEntry, RefusesName}
 use Rattle.pas_scavenger.specs.Passes.{PassSteps}
 use Rattle.pas_passes.specs.Records.{records_of_pass}
 use Rattle.pas_answers.specs.Acts.{Act, Operates, Settles, Ticks, MakesPass, ReadsEpoch, StopsIdle, MarksPhase, Wakes, MarksClose, Ends}
@@ -151,7 +152,7 @@ said_of_fault name Unaligned = Said.Unaligned name
 -- the name is logged, after a full log was emptied; or it can't be any block's, which is said
 abbrev pub IsFreed : Profile → ℕ → Cached → Cached → Name → List Made → Option Said → Type 0
 IsFreed f k c c' name steps said =
-    (TakesName f k c c' name steps × (said ≡ None))
+    (TakesEntry f k c c' (entry_of name) steps × (said ≡ None))
     ⊎ ((fault : FreeFault) × RefusesName f c c' name steps fault × (said ≡ Some (said_of_fault name fault)))
 
 -- what a free by a name of the trace comes to: the name was never asked for (which no trace has), its request was refused, or it stands for a

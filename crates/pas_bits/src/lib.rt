@@ -9,7 +9,5 @@ mod moving;
 pub mod page_vector;
 pub mod run;
 pub mod search;
-#[cfg(test)]
-mod tests;
 
 pub use mask::Mask4;

@@ -1,10 +1,9 @@
 -- An epoch is read, a log is flushed, names are logged, and a cache is stopped.
-use Rattle.std.proofs.Common.{◌≡◌, ℕ, ◌+◌, ◌-◌, ◌^◌, ◌<◌, ◌≤◌, nat_le, Bool, true, false, List, [], ◌∷◌, ◌++◌, length, inl, inr, true≢false, refl, ap, sym, ◌∙◌, subst, arith, length-append}
+use Rattle.std.proofs.Common.{◌≡◌, ℕ, ◌+◌, ◌-◌, ◌*◌, ◌%◌, ◌^◌, ◌<◌, ◌≤◌, nat_le, Bool, true, false, List, [], ◌∷◌, ◌++◌, length, inl, inr, true≢false, refl, ap, sym, ◌∙◌, subst, arith, length-append}
 use Rattle.std.specs.Prelude.{All, Ok, Err}
 use Rattle.std.proofs.lemmas.Bool.{le-leb, lt-leb, cases_lt}
 use Rattle.std.proofs.lemmas.List.Elements.{All-nil, All-push, All-same}
 use Rattle.pas_profile.specs.declared.profile.Profile.{Profile}
-use Rattle.pas_profile.specs.declared.name.Name.{Name}
 use Rattle.pas_profile.specs.declared.word.Word.TheVariants as Word
 use Rattle.pas_profile.specs.declared.event.FreeFault.{FreeFault}
 use Rattle.pas_steps.specs.Views.{View}
@@ -16,11 +15,10 @@ use Rattle.pas_steps.specs.Clear.{IsClear, HasNothing}
 use Rattle.pas_free_log.specs.Conditions.{IsEntryOf}
 use Rattle.pas_free_log.specs.declared.log.Entry.{Entry}
 use Rattle.pas_free_log.specs.declared.noting.EndedRun.{EndedRun}
-use Rattle.pas_free_log.specs.Logs.{entry_of}
 use Rattle.pas_free_log.specs.Flushes.{Flushes}
 use Rattle.pas_cache.specs.Locals.{IsLocal, RestsWith}
 use Rattle.pas_cache.specs.Caches.{Cached, AtRest}
-use Rattle.pas_cache.specs.Changes.{EmptiesLog, EmptiesFull, LogsName, StopsEach}
+use Rattle.pas_cache.specs.Changes.{EmptiesLog, EmptiesFull, LogsEntry, StopsEach}
 use Rattle.pas_cache.specs.Names.{IsInRegion, IsFaultOf, MayFlush, EmptiesWhere, LogsInto}
 use Rattle.pas_cache.specs.Parts.{Releases}
 use Rattle.pas_cache.specs.Calls.{Begins, Frees, FlushesLog, StopsCache}
@@ -129,8 +127,8 @@ empties_where {σ} {σ'} log log' noted noted' full none flush = record {
 pub empties_nothing : {σ : Standing} (log : List Entry) (noted : List EndedRun) → length log < 64 → EmptiesWhere (nat_le 64 (length log)) log log noted noted σ σ
 empties_nothing {σ} log noted few = record { steps = []; calls = call_none (λ v clear. does_none v); empties = subst (λ t. EmptiesFull t σ.seat.actor log log noted noted []) (sym (lt-leb 64 (length log) few)) (refl, refl, refl); ranges = λ are. are }
 
-pub logs_into : {σ σ' : Standing} (log kept log' : List Entry) (noted noted' : List EndedRun) (name : Name) → EmptiesWhere (nat_le 64 (length log)) log kept noted noted' σ σ' → log' ≡ kept ++ entry_of name ∷ [] → LogsInto log log' noted noted' name σ σ'
-logs_into log kept log' noted noted' name emptied is = record { steps = emptied.steps; calls = emptied.calls; logs = record { kept = kept; emptied = emptied.empties; log_is = is }; ranges = emptied.ranges }
+pub logs_into : {σ σ' : Standing} (log kept log' : List Entry) (noted noted' : List EndedRun) (entry : Entry) → EmptiesWhere (nat_le 64 (length log)) log kept noted noted' σ σ' → log' ≡ kept ++ entry ∷ [] → LogsInto log log' noted noted' entry σ σ'
+logs_into log kept log' noted noted' entry emptied is = record { steps = emptied.steps; calls = emptied.calls; logs = record { kept = kept; emptied = emptied.empties; log_is = is }; ranges = emptied.ranges }
 
 -- the names of a log after one more
 not_full : (n : ℕ) → false ≡ nat_le 64 n → n < 64
@@ -143,26 +141,26 @@ kept_names : (f : Profile) (full : Bool) (k : ℕ) (log kept : List Entry) (note
 kept_names f true k log kept noted noted' steps full h names = (All-same (IsEntryOf f) kept [] h.1 (All-nil (IsEntryOf f)), subst (λ xs. length xs < 64) (sym h.1) (omega arith))
 kept_names f false k log kept noted noted' steps full h names = (All-same (IsEntryOf f) kept log h.1 names, subst (λ xs. length xs < 64) (sym h.1) (not_full (length log) full))
 
-logged_names : (f : Profile) (k : ℕ) (log log' : List Entry) (noted noted' : List EndedRun) (name : Name) (steps : List Made) → LogsName k log log' noted noted' name steps → IsEntryOf f (entry_of name) → All (IsEntryOf f) log → All (IsEntryOf f) log' × (length log' ≤ 64)
-logged_names f k log log' noted noted' name steps logs is names =
+logged_names : (f : Profile) (k : ℕ) (log log' : List Entry) (noted noted' : List EndedRun) (entry : Entry) (steps : List Made) → LogsEntry k log log' noted noted' entry steps → IsEntryOf f entry → All (IsEntryOf f) log → All (IsEntryOf f) log' × (length log' ≤ 64)
+logged_names f k log log' noted noted' entry steps logs is names =
     let kept = kept_names f (nat_le 64 (length log)) k log logs.kept noted noted' steps refl logs.emptied names in
-    let n : length log' ≡ length logs.kept + 1 = ap length logs.log_is ∙ length-append logs.kept (entry_of name ∷ []) in
+    let n : length log' ≡ length logs.kept + 1 = ap length logs.log_is ∙ length-append logs.kept (entry ∷ []) in
     let few = kept.1 in
-    (All-same (IsEntryOf f) log' (logs.kept ++ entry_of name ∷ []) logs.log_is (All-push (IsEntryOf f) logs.kept (entry_of name) kept.0 is), omega (arith, n, few))
+    (All-same (IsEntryOf f) log' (logs.kept ++ entry ∷ []) logs.log_is (All-push (IsEntryOf f) logs.kept entry kept.0 is), omega (arith, n, few))
 
-pub frees : {σ σ' : Standing} (c c' : Cached) (name : Name) → name.turn < 2 ^ 40 - 1 → IsInRegion σ.seat.profile name → LogsInto c.log c'.log c.noted c'.noted name σ σ' → c' ≡ record c { log = c'.log; noted = c'.noted } → Frees name c c' σ σ' (Ok tt)
-frees {σ} c c' name turn region logs is = record {
+pub frees : {σ σ' : Standing} (c c' : Cached) (entry : Entry) → entry.name.turn < 2 ^ 40 - 1 → (entry.room % 16 ≡ 0) × (entry.room ≤ 4096 * σ.seat.profile.pages) → IsInRegion σ.seat.profile entry.name → LogsInto c.log c'.log c.noted c'.noted entry σ σ' → c' ≡ record c { log = c'.log; noted = c'.noted } → Frees entry c c' σ σ' (Ok tt)
+frees {σ} c c' entry turn size region logs is = record {
   steps = logs.steps;
   calls = record {
     adds = adds_under logs.calls.adds (λ v l stood met. met.locals.clear);
     leads = rests_idle σ.seat.profile c c' logs.steps (ap (λ x. x.locals) is) logs.calls.leads
-        (λ v h. logged_names σ.seat.profile σ.seat.actor c.log c'.log c.noted c'.noted name logs.steps logs.logs (record { name = record { page = region.page; aligned = region.aligned; turn = turn } }) h.entries);
+        (λ v h. logged_names σ.seat.profile σ.seat.actor c.log c'.log c.noted c'.noted entry logs.steps logs.logs (record { name = record { page = region.page; aligned = region.aligned; turn = turn }; whole = size.0; within = size.1 }) h.entries);
   };
   outcome = record { region = region; logs = logs.logs; cache = is };
 }
 
-pub refuses : {σ : Standing} (c c' : Cached) (name : Name) (fault : FreeFault) → IsFaultOf σ.seat.profile name fault → c' ≡ c → Frees name c c' σ σ (Err fault)
-refuses {σ} c c' name fault is same = record {
+pub refuses : {σ : Standing} (c c' : Cached) (entry : Entry) (fault : FreeFault) → IsFaultOf σ.seat.profile entry.name fault → c' ≡ c → Frees entry c c' σ σ (Err fault)
+refuses {σ} c c' entry fault is same = record {
   steps = [];
   calls = call_none (λ v h. subst (λ x. AtRest σ.seat.profile x v) (sym same) h);
   outcome = record { fault_is = is; cache = same; no_steps = refl };

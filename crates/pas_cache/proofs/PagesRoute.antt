@@ -1,5 +1,5 @@
 -- A request for whole pages: the actor is at rest with the cache as it was.
-use Rattle.std.proofs.Common.{◌≡◌, ℕ, ◌+◌, ◌-◌, ◌*◌, ◌/◌, ◌%◌, ◌<◌, ◌≤◌, ◌==◌, ◌||◌, Bool, true, false, if◌then◌else◌, List, [], ◌∷◌, ◌++◌, length, Option, None, Some, Ok, Err, Result, inl, inr, refl, ap, sym, ◌∙◌, subst, arith, length-append, append_assoc, true≢false}
+use Rattle.std.proofs.Common.{◌≡◌, ℕ, ◌+◌, ◌-◌, ◌*◌, ◌/◌, ◌%◌, ◌<◌, ◌≤◌, ◌==◌, ◌||◌, Bool, true, false, if◌then◌else◌, List, [], ◌∷◌, ◌++◌, length, Option, None, Some, Ok, Err, Result, ◌⊎◌, inl, inr, refl, ap, sym, ◌∙◌, subst, arith, length-append, append_assoc, true≢false}
 use Rattle.std.specs.Prelude.{All, MatchResult, min, max, nat_le, not}
 use Rattle.std.specs.List.{AllByRecursion, list_any}
 use Rattle.std.proofs.lemmas.Bool.{eqb-true, cases_Bool, and_parts, leb-false}
@@ -28,15 +28,15 @@ use Rattle.pas_steps.specs.Unknown.{unknown_pages}
 use Rattle.pas_steps.specs.Views.{View, known_deed, epoch_of}
 use Rattle.pas_steps.specs.declared.step.Made.{Made}
 use Rattle.pas_steps.specs.declared.step.Step.{Step}
-use Rattle.pas_steps.specs.declared.step.Step.TheVariants.{Deed, Back, Give, End, Unback}
+use Rattle.pas_steps.specs.declared.step.Step.TheVariants.{Deed, Back, Give, End, EndSized, Unback}
 use Rattle.pas_steps.proofs.Adding.{agreed_first, agreed_later, adds_under}
 use Rattle.pas_steps.proofs.Apart.{only_both, only_within, events_same}
 use Rattle.pas_steps.proofs.Frames.{events_append}
 use Rattle.pas_steps.proofs.Past.{always_map}
 use Rattle.pas_steps.proofs.Unknown.{unknown_stays}
-use Rattle.pas_large.specs.Allocates.{GaveLarge, IsAllocatedLarge, IsRefusedLarge, AllocatesLarge}
+use Rattle.pas_large.specs.Allocates.{GaveLarge, IsServedNamed, IsScanned, AllocatesLarge}
+use Rattle.pas_large.proofs.Outcomes.{MadeOf, IsGivenRun, IsRefusedRun, HasEnded, ended}
 use Rattle.pas_large.specs.Claims.{in_span}
-use Rattle.pas_large.specs.Evidence.{DeedsOf}
 use Rattle.pas_large.specs.Finds.{MayFind, FindRoom, finding}
 use Rattle.pas_large.specs.Gives.{give_steps}
 use Rattle.pas_large.specs.Pages.{OnlyDeedsShow}
@@ -98,12 +98,13 @@ one_more d k e (Deed p x) a es is made all = deed_more d (a == 0) k p x es (λ t
 one_more d k e (Back p) a es is made all = absurd (true≢false (sym is))
 one_more d k e (Give block) a es is made all = absurd (true≢false (sym is))
 one_more d k e (End name guess) a es is made all = absurd (true≢false (sym is))
+one_more d k e (EndSized name room) a es is made all = absurd (true≢false (sym is))
 one_more d k e (Unback p) a es is made all = absurd (true≢false (sym is))
 one_more d k e s a es is made all = all
 
-pub deeds_only : (d : Directory) (n : ℕ) (P : ℕ → Type 0) (steps : List Made) → Only finding steps → DeedsOf d n P steps → (k : ℕ) (v : View) → AllByRecursion (IsDeedOf d) (events_by k v steps)
-deeds_only d n P [] kinds deeds k v = tt
-deeds_only d n P (m ∷ more) kinds deeds k v = one_more d k (epoch_of (more ++ v)) m.step m.answer (events_by k v more) kinds.0 (λ p x is z. (deeds.0 p x is z).0) (deeds_only d n P more kinds.1 deeds.1 k v)
+pub deeds_only : (d : Directory) (steps : List Made) → Only finding steps → MadeOf d steps → (k : ℕ) (v : View) → AllByRecursion (IsDeedOf d) (events_by k v steps)
+deeds_only d [] kinds deeds k v = tt
+deeds_only d (m ∷ more) kinds deeds k v = one_more d k (epoch_of (more ++ v)) m.step m.answer (events_by k v more) kinds.0 (λ p x is z. deeds.0 p x is z) (deeds_only d more kinds.1 deeds.1 k v)
 
 back_more : (d : Directory) (t : Bool) (k p : ℕ) (es : List Event) → AllByRecursion (IsPreparing d) es → AllByRecursion (IsPreparing d) (with_event (if t then Some (Event.Back k p) else None) es)
 back_more d true k p es all = (IsPreparing.Backs k p, all)
@@ -114,6 +115,7 @@ one_back d k e (Back p) a es is all = back_more d (a == 0) k p es all
 one_back d k e (Deed p x) a es is all = absurd (true≢false (sym is))
 one_back d k e (Give block) a es is all = absurd (true≢false (sym is))
 one_back d k e (End name guess) a es is all = absurd (true≢false (sym is))
+one_back d k e (EndSized name room) a es is all = absurd (true≢false (sym is))
 one_back d k e (Unback p) a es is all = absurd (true≢false (sym is))
 one_back d k e s a es is all = all
 
@@ -133,7 +135,7 @@ all_prepare d [] all = tt
 all_prepare d (e ∷ es) all = (deed_prepares d e all.0, all_prepare d es all.1)
 
 -- ---- a block is given
-module _ (f : Profile) (heap n : ℕ) (searched after : List Made) (block : Block) (is : IsAllocatedLarge f (large_directory heap) n searched after block) where
+module _ (f : Profile) (heap n : ℕ) (searched after : List Made) (block : Block) (is : IsGivenRun f (large_directory heap) n searched after block) where
   abbrev d : Directory
   d = large_directory heap
 
@@ -165,7 +167,7 @@ module _ (f : Profile) (heap n : ℕ) (searched after : List Made) (block : Bloc
   of_region : (p : ℕ) → pages p ≡ true → IsPage f p
   of_region p here =
       let at = in_parts is.first (is.first + n) p here in
-      let low = at.0 in let high = at.1 in let first = is.found.of_region.0 in let last = is.found.of_region.1 in
+      let low = at.0 in let high = at.1 in let first = is.of_region.0 in let last = is.of_region.1 in
       (omega (arith, low, first), omega (arith, high, last))
 
   pub block_for : {Meets : View → Type 0} (align : ℕ) (locals : List Slots) → IsAlignment align → Only finding searched → ((v : View) → Meets v → RestsWith f locals v)
@@ -182,7 +184,7 @@ module _ (f : Profile) (heap n : ℕ) (searched after : List Made) (block : Bloc
       events_by k (searched ++ v) is.backs ++ events_by k v searched,
       events_are k v,
       all_both (IsPreparing d) (events_by k (searched ++ v) is.backs) (events_by k v searched) (backs_only d is.backs is.back_kinds k (searched ++ v))
-          (all_prepare d (events_by k v searched) (deeds_only d n _ searched kinds is.found.deeds k v)),
+          (all_prepare d (events_by k v searched) (deeds_only d searched kinds is.made k v)),
     );
   }
 
@@ -208,7 +210,7 @@ scan_kind s (IsScan.LooksEligible d j) = refl
 scan_kind s (IsScan.LooksDeed page) = refl
 scan_kind s (IsScan.LooksParked j) = refl
 
-module _ (f : Profile) (heap n : ℕ) (searched after : List Made) (why : NoRoom) (is : IsRefusedLarge f (large_directory heap) n searched after why) where
+module _ (f : Profile) (heap n : ℕ) (searched after : List Made) (is : IsRefusedRun f (large_directory heap) searched after) where
   looks : Only looking after
   looks = always_map (λ m before. IsScan m.step) (λ m before. is_in looking (kind_of m.step) ≡ true) after (λ m before s. scan_kind m.step s) is.scans
 
@@ -216,7 +218,7 @@ module _ (f : Profile) (heap n : ℕ) (searched after : List Made) (why : NoRoom
   silent k v = events_same looking refl k v after searched looks
 
   pub refused_deeds : Only finding searched → MakesDeedsOf (large_directory heap) (after ++ searched)
-  refused_deeds kinds k v = subst (AllByRecursion (IsDeedOf (large_directory heap))) (sym (silent k v)) (deeds_only (large_directory heap) n _ searched kinds is.found.deeds k v)
+  refused_deeds kinds k v = subst (AllByRecursion (IsDeedOf (large_directory heap))) (sym (silent k v)) (deeds_only (large_directory heap) searched kinds is.made k v)
 
   pub refused_few : OnlyDeedsShow f searched → (k : ℕ) (v : View) → Agreed f v (after ++ searched) → length (events_by k v (after ++ searched)) + unknown_pages f ((after ++ searched) ++ v) ≤ 0 + unknown_pages f v
   refused_few shows k v agreed =
@@ -234,25 +236,25 @@ module _ (f : Profile) (heap n : ℕ) (searched after : List Made) (why : NoRoom
 
 -- ---- the call
 abbrev pub Ends : Profile → ℕ → ℕ → List Made → List Made → Result Block NoRoom → Type 0
-Ends f heap n searched after answer = MatchResult answer (IsAllocatedLarge f (large_directory heap) n searched after) (IsRefusedLarge f (large_directory heap) n searched after)
+Ends f heap n searched after answer = MatchResult answer (IsGivenRun f (large_directory heap) n searched after) (λ why. IsRefusedRun f (large_directory heap) searched after)
 
 module _ (f : Profile) (heap n : ℕ) (searched after : List Made) where
   rests : (locals : List Slots) (answer : Result Block NoRoom) → Ends f heap n searched after answer → (v : View) → RestsWith f locals v → Agreed f v (after ++ searched) → RestsWith f locals ((after ++ searched) ++ v)
   rests locals (Ok block) h v rest agreed = rests_given f heap n searched after block h locals v rest agreed
-  rests locals (Err why) h v rest agreed = refused_rests f heap n searched after why h locals v rest agreed
+  rests locals (Err why) h v rest agreed = refused_rests f heap n searched after h locals v rest agreed
 
   few : (answer : Result Block NoRoom) → Ends f heap n searched after answer → OnlyDeedsShow f searched → (k : ℕ) (v : View) → Agreed f v (after ++ searched) → length (events_by k v (after ++ searched)) + unknown_pages f ((after ++ searched) ++ v) ≤ most_events n answer + unknown_pages f v
   few (Ok block) h shows k v agreed = given_few f heap n searched after block h shows k v agreed
-  few (Err why) h shows k v agreed = refused_few f heap n searched after why h shows k v agreed
+  few (Err why) h shows k v agreed = refused_few f heap n searched after h shows k v agreed
 
   kinds : (answer : Result Block NoRoom) → Ends f heap n searched after answer → Only finding searched → Only allocating (after ++ searched)
   kinds (Ok block) h only = given_kinds f heap n searched after block h only
-  kinds (Err why) h only = refused_kinds f heap n searched after why h only
+  kinds (Err why) h only = refused_kinds f heap n searched after h only
 
   ends : {Meets : View → Type 0} (align : ℕ) (locals : List Slots) → IsAlignment align → Only finding searched → ((v : View) → Meets v → RestsWith f locals v) → (answer : Result Block NoRoom) → Ends f heap n searched after answer
       → MatchResult answer (IsBlockFor f (record { directory = large_directory heap; route = Route.Large; room = n * 4096; align = align }) Meets (after ++ searched)) (λ why. MakesDeedsOf (large_directory heap) (after ++ searched))
   ends {Meets} align locals alignment only met (Ok block) h = block_for f heap n searched after block h {Meets = Meets} align locals alignment only met
-  ends align locals alignment only met (Err why) h = refused_deeds f heap n searched after why h only
+  ends align locals alignment only met (Err why) h = refused_deeds f heap n searched after h only
 
 -- ---- what is asked for
 pages_wanted : (f : Profile) (heap size align n : ℕ) → n ≡ (size + 4096 - 1) / 4096 → 1 ≤ size → route_of size align ≡ Route.Large → record { directory = large_directory heap; route = Route.Large; room = n * 4096; align = align } ≡ wanted_for f heap size align
@@ -273,22 +275,35 @@ pages_call {σ} {c} {spare} {n} {m} heap same can = record {
   met = record { may = may_find σ.seat.profile can.view heap c.locals can.met.rest.locals; room = (let room = can.met.room in omega (arith, room, same)) };
 }
 
-pub pages_allocates : {σ σ' : Standing} (size align heap n : ℕ) (tells : Bool) (c : Cached) (answer : Result Block NoRoom) → n ≡ (size + 4096 - 1) / 4096 → 2048 < size → IsAlignment align → route_of size align ≡ Route.Large → AllocatesLarge heap n tells σ σ' answer → AllocatesPages (wanted_for σ.seat.profile heap size align) tells c c σ σ' answer
-pages_allocates {σ} {σ'} size align heap n tells c answer is some alignment route a =
+pub pages_allocates : {σ σ' : Standing} (size align heap n : ℕ) (found : Option ℕ) (tells : Bool) (c : Cached) (answer : Result Block NoRoom) → n ≡ (size + 4096 - 1) / 4096 → 2048 < size → IsAlignment align → route_of size align ≡ Route.Large → AllocatesLarge heap n found tells σ σ' answer → AllocatesPages (wanted_for σ.seat.profile heap size align) found tells c c σ σ' answer
+pages_allocates {σ} {σ'} size align heap n found tells c answer is some alignment route a =
     let f : Profile = σ.seat.profile in
+    let d : Directory = large_directory heap in
     let count : n * 4096 / 4096 ≡ n = omega arith in
-    subst (λ (w : Wanted). AllocatesPages w tells c c σ σ' answer) (pages_wanted f heap size align n is (omega (arith, some)) route) (record {
-      steps = a.after ++ a.searched;
+    let e : HasEnded σ.seat.profile (large_directory heap) n (a.rest ++ a.tried) answer = ended f d n a.tried a.old a.shows found a.rest answer a.outcome in
+    let same : a.rest ++ a.tried ≡ e.after ++ e.got = e.steps_are in
+    subst (λ (w : Wanted). AllocatesPages w found tells c c σ σ' answer) (pages_wanted f heap size align n is (omega (arith, some)) route) (record {
+      steps = a.rest ++ a.tried;
       calls = record {
         adds = adds_under a.adds (λ v l stood met. may_find f v heap c.locals met.locals);
-        leads = record { from = λ v met agreed. record { locals = rests f heap n a.searched a.after c.locals answer a.outcome v met.locals agreed; few = met.few; entries = met.entries; few_entries = met.few_entries } };
+        leads = record {
+          from = λ v met agreed. record {
+            locals = subst (λ xs. RestsWith f c.locals (xs ++ v)) (sym same) (rests f heap n e.got e.after c.locals answer e.outcome v met.locals (subst (Agreed f v) same agreed));
+            few = met.few;
+            entries = met.entries;
+            few_entries = met.few_entries;
+          };
+        };
       };
-      change = record { cache = refl; searched = a.searched; after = a.after; outcome = subst (λ k. Ends f heap k a.searched a.after answer) (sym count) a.outcome; steps_are = refl };
-      kinds = kinds f heap n a.searched a.after answer a.outcome a.kinds;
+      change = record { cache = refl; found = found; tried = a.tried; rest = a.rest; old = a.old; outcome = subst (λ k. IsServedNamed f d k found a.tried a.rest answer ⊎ IsScanned f d k a.tried a.rest answer) (sym count) a.outcome; steps_are = refl };
+      kinds = subst (Only allocating) (sym same) (kinds f heap n e.got e.after answer e.outcome e.kinds);
       short = (let short = a.few in omega (arith, short, count));
-      few = λ k v met agreed. subst (λ m. length (events_by k v (a.after ++ a.searched)) + unknown_pages f ((a.after ++ a.searched) ++ v) ≤ most_events m answer + unknown_pages f v) (sym count) (few f heap n a.searched a.after answer a.outcome a.shows k v agreed);
-      outcome = ends f heap n a.searched a.after {Meets = AtRest f c} align c.locals alignment a.kinds (λ v met. met.locals) answer a.outcome;
-      told = λ t v l stood met. subst (λ k. IsToldLarge f (large_directory heap) k l (triples σ.seat.actor (a.after ++ a.searched) ++ l) answer) (sym count) (a.told t v l stood (may_find f v heap c.locals met.locals));
+      few = λ k v met agreed.
+          subst (λ m. length (events_by k v (a.rest ++ a.tried)) + unknown_pages f ((a.rest ++ a.tried) ++ v) ≤ most_events m answer + unknown_pages f v) (sym count)
+          (subst (λ xs. length (events_by k v xs) + unknown_pages f (xs ++ v) ≤ most_events n answer + unknown_pages f v) (sym same) (few f heap n e.got e.after answer e.outcome e.shows k v (subst (Agreed f v) same agreed)));
+      outcome = subst (λ xs. MatchResult answer (IsBlockFor f (record { directory = large_directory heap; route = Route.Large; room = n * 4096; align = align }) (AtRest f c) xs) (λ why. MakesDeedsOf (large_directory heap) xs)) (sym same)
+          (ends f heap n e.got e.after {Meets = AtRest f c} align c.locals alignment e.kinds (λ v met. met.locals) answer e.outcome);
+      told = λ none t v l stood met. subst (λ k. IsToldLarge f (large_directory heap) k l (triples σ.seat.actor (a.rest ++ a.tried) ++ l) answer) (sym count) (a.told none t v l stood (may_find f v heap c.locals met.locals));
     })
 
 -- ---- the size of a request with this route

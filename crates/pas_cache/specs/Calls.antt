@@ -1,5 +1,5 @@
 -- What the calls of a cache promise.
-use Rattle.std.specs.Prelude.{ℕ, ◌+◌, ◌*◌, ◌≤◌, ◌≡◌, Bool, true, List, [], ◌∷◌, ◌++◌, length, Result, Ok, Err, MatchResult}
+use Rattle.std.specs.Prelude.{ℕ, ◌+◌, ◌*◌, ◌≤◌, ◌≡◌, Bool, true, List, [], ◌∷◌, ◌++◌, length, Option, None, Result, Ok, Err, MatchResult}
 use Rattle.pas_profile.specs.declared.event.FreeFault.{FreeFault}
 use Rattle.pas_profile.specs.declared.event.NoRoom.{NoRoom}
 use Rattle.pas_profile.specs.declared.name.Name.{Name}
@@ -21,7 +21,8 @@ use Rattle.pas_profile.specs.declared.event.Range.{Range}
 use Rattle.pas_cache.specs.Caches.{Cached, AtRest}
 use Rattle.pas_steps.specs.Clear.{HasNothing}
 use Rattle.pas_cache.specs.Names.{IsInRegion, IsFaultOf}
-use Rattle.pas_cache.specs.Changes.{EmptiesLog, LogsName, StopsEach}
+use Rattle.pas_free_log.specs.declared.log.Entry.{Entry}
+use Rattle.pas_cache.specs.Changes.{EmptiesLog, LogsEntry, StopsEach}
 use Rattle.pas_steps.specs.Kinds.{Only}
 use Rattle.pas_cache.specs.Kinds.{releasing, allocating}
 use Rattle.pas_cache.specs.Serves.{Wanted, turn_of, HasCached, ServesRequest, IsBlockFor, pages_of, MakesFew, MakesAtMost, MakesDeedsOf, IsSilent, IsToldBy}
@@ -68,19 +69,19 @@ abbrev pub most_events : ℕ → Result Block NoRoom → ℕ
 most_events n (Ok block) = n + 1
 most_events n (Err room) = 0
 
--- The search for a run serves the request, the cache is as it was, and its actor is at rest again. The events are deeds of the directory that weren't
+-- The run that the door named or the search for one serves the request, the cache is as it was, and its actor is at rest again. The events are deeds of the directory that weren't
 -- known, and where the block is given backs after them, one for each page at most, and last the give. At most 56 steps for each
--- page of the region, 12 for each page that is asked for, and 66 more. On a desk that tells the whole state the block is on the lowest run of usable
--- pages at entry, and a refusal comes only where there is none then and none at exit, with its true reason.
-pub record AllocatesPages (wanted : Wanted) (tells : Bool) (c c' : Cached) (desk desk' : Standing) (answer : Result Block NoRoom) : Type 0 where
+-- page of the region, 60 for each page that is asked for, and 66 more. On a desk that tells the whole state, where no run was named, the block is on the
+-- lowest run of usable pages at entry, and a refusal comes only where there is none then and none at exit, with its true reason.
+pub record AllocatesPages (wanted : Wanted) (found : Option ℕ) (tells : Bool) (c c' : Cached) (desk desk' : Standing) (answer : Result Block NoRoom) : Type 0 where
   pub steps : List Made
   pub calls : Rests c c' desk desk' steps
   pub change : ServesRequest desk.seat.profile wanted c c' steps answer
   pub kinds : Only allocating steps
-  pub short : length steps ≤ 56 * desk.seat.profile.pages + 12 * pages_of wanted + 66
+  pub short : length steps ≤ 56 * desk.seat.profile.pages + 60 * pages_of wanted + 66
   pub few : MakesAtMost desk.seat.profile (AtRest desk.seat.profile c) (most_events (pages_of wanted) answer) steps
   pub outcome : MatchResult answer (IsBlockFor desk.seat.profile wanted (AtRest desk.seat.profile c) steps) (λ room. MakesDeedsOf wanted.directory steps)
-  pub told : tells ≡ true → (v : View) (l : Whole) → desk.stands v l → AtRest desk.seat.profile c v → IsToldLarge desk.seat.profile wanted.directory (pages_of wanted) l (triples desk.seat.actor steps ++ l) answer
+  pub told : found ≡ None → tells ≡ true → (v : View) (l : Whole) → desk.stands v l → AtRest desk.seat.profile c v → IsToldLarge desk.seat.profile wanted.directory (pages_of wanted) l (triples desk.seat.actor steps ++ l) answer
 
 -- ---- settle
 -- each of the runs was handed on, in order, and the index changed by each
@@ -96,15 +97,15 @@ pub record RefusesName (f : Profile) (c c' : Cached) (name : Name) (steps : List
   pub no_steps : steps ≡ []
 
 -- otherwise the name is logged, after a full log was emptied
-pub record TakesName (f : Profile) (actor : ℕ) (c c' : Cached) (name : Name) (steps : List Made) : Type 0 where
-  pub region : IsInRegion f name
-  pub logs : LogsName actor c.log c'.log c.noted c'.noted name steps
+pub record TakesEntry (f : Profile) (actor : ℕ) (c c' : Cached) (entry : Entry) (steps : List Made) : Type 0 where
+  pub region : IsInRegion f entry.name
+  pub logs : LogsEntry actor c.log c'.log c.noted c'.noted entry steps
   pub cache : c' ≡ record c { log = c'.log; noted = c'.noted }
 
-pub record Frees (name : Name) (c c' : Cached) (desk desk' : Standing) (answer : Result (Unit {0}) FreeFault) : Type 0 where
+pub record Frees (entry : Entry) (c c' : Cached) (desk desk' : Standing) (answer : Result (Unit {0}) FreeFault) : Type 0 where
   pub steps : List Made
   pub calls : Rests c c' desk desk' steps
-  pub outcome : MatchResult answer (λ done. TakesName desk.seat.profile desk.seat.actor c c' name steps) (RefusesName desk.seat.profile c c' name steps)
+  pub outcome : MatchResult answer (λ done. TakesEntry desk.seat.profile desk.seat.actor c c' entry steps) (RefusesName desk.seat.profile c c' entry.name steps)
 
 -- ---- flush and stop
 pub record FlushesLog (c c' : Cached) (desk desk' : Standing) : Type 0 where

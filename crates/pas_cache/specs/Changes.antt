@@ -3,7 +3,6 @@ use Rattle.std.specs.Prelude.{ℕ, ◌+◌, ◌*◌, ◌≤◌, ◌≡◌, ◌==
 use Rattle.std.specs.List.{flat_map}
 use Rattle.pas_profile.specs.Classes.{class_size}
 use Rattle.pas_profile.specs.Lives.{turn_of}
-use Rattle.pas_profile.specs.declared.name.Name.{Name}
 use Rattle.pas_profile.specs.declared.name.Block.{Block}
 use Rattle.pas_profile.specs.declared.word.Word.TheVariants as Word
 use Rattle.pas_bits.specs.Masks.{is_set, IsLowestSet, IsEmpty}
@@ -14,7 +13,6 @@ use Rattle.pas_steps.specs.Desks.{made}
 use Rattle.pas_steps.specs.declared.step.Made.{Made}
 use Rattle.pas_steps.specs.declared.step.Step.TheVariants.{Look, Give}
 use Rattle.pas_free_log.specs.declared.log.Entry.{Entry}
-use Rattle.pas_free_log.specs.Logs.{entry_of}
 use Rattle.pas_free_log.specs.Stamps.{stamps_by}
 use Rattle.pas_free_log.specs.Flushes.{Settled, EntriesSteps, shown_for, stamps_for, noted_after}
 use Rattle.pas_free_log.specs.declared.noting.EndedRun.{EndedRun}
@@ -105,8 +103,8 @@ abbrev pub EmptiesFull : Bool → ℕ → List Entry → List Entry → List End
 EmptiesFull true actor log log' noted noted' steps = EmptiesLog actor log noted noted' steps × (log' ≡ [])
 EmptiesFull false actor log log' noted noted' steps = (steps ≡ []) × (log' ≡ log) × (noted' ≡ noted)
 
--- an entry of the name is logged at the end, after a full log was emptied
-pub record LogsName (actor : ℕ) (log log' : List Entry) (noted noted' : List EndedRun) (name : Name) (steps : List Made) : Type 0 where
+-- the entry is logged at the end, after a full log was emptied
+pub record LogsEntry (actor : ℕ) (log log' : List Entry) (noted noted' : List EndedRun) (entry : Entry) (steps : List Made) : Type 0 where
   pub kept : List Entry
   pub emptied : EmptiesFull (nat_le 64 (length log)) actor log kept noted noted' steps
-  pub log_is : log' ≡ kept ++ entry_of name ∷ []
+  pub log_is : log' ≡ kept ++ entry ∷ []

@@ -15,7 +15,7 @@ use Rattle.pas_free_log.specs.declared.log.Entry.{Entry}
 use Rattle.pas_free_log.specs.declared.noting.EndedRun.{EndedRun}
 use Rattle.pas_free_log.specs.Noted.{AreRanges}
 use Rattle.pas_free_log.specs.Conditions.{IsEntryOf}
-use Rattle.pas_cache.specs.Changes.{EmptiesFull, LogsName}
+use Rattle.pas_cache.specs.Changes.{EmptiesFull, LogsEntry}
 
 -- the address is a multiple of 16 on a page of the region
 pub record IsInRegion (f : Profile) (name : Name) : Type 0 where
@@ -39,8 +39,8 @@ pub record EmptiesWhere (full : Bool) (log log' : List Entry) (noted noted' : Li
   pub empties : EmptiesFull full desk.seat.actor log log' noted noted' steps
   pub ranges : AreRanges noted → AreRanges noted'
 
-pub record LogsInto (log log' : List Entry) (noted noted' : List EndedRun) (name : Name) (desk desk' : Standing) : Type 0 where
+pub record LogsInto (log log' : List Entry) (noted noted' : List EndedRun) (entry : Entry) (desk desk' : Standing) : Type 0 where
   pub steps : List Made
   pub calls : Calls desk desk' IsClear (Does nothing) steps
-  pub logs : LogsName desk.seat.actor log log' noted noted' name steps
+  pub logs : LogsEntry desk.seat.actor log log' noted noted' entry steps
   pub ranges : AreRanges noted → AreRanges noted'

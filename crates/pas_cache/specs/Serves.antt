@@ -1,5 +1,5 @@
 -- How a request of a class changes a cache, and what its block is.
-use Rattle.std.specs.Prelude.{ℕ, ◌+◌, ◌*◌, ◌/◌, ◌^◌, ◌<◌, ◌≤◌, ◌%◌, ◌≡◌, true, ◌⊎◌, List, [], ◌∷◌, ◌++◌, length, Some, Result, Ok, Err, MatchResult}
+use Rattle.std.specs.Prelude.{ℕ, ◌+◌, ◌*◌, ◌/◌, ◌^◌, ◌<◌, ◌≤◌, ◌%◌, ◌≡◌, true, ◌⊎◌, List, [], ◌∷◌, ◌++◌, length, Option, Some, Result, Ok, Err, MatchResult}
 use Rattle.std.specs.List.{AllByRecursion}
 use Rattle.pas_profile.specs.Profiles.{IsPage, IsDirectoryOf}
 use Rattle.pas_profile.specs.Requests.{directory_for, is_shared, kind_of_class}
@@ -31,7 +31,8 @@ use Rattle.pas_segregated.specs.Takes.{NoSlot, TookSlots}
 use Rattle.pas_choice.specs.Choices.{TookChosen}
 use Rattle.pas_partial.specs.Rows.{rows}
 use Rattle.pas_segregated.specs.Refills.{Filling, GivesSlots}
-use Rattle.pas_large.specs.Allocates.{IsAllocatedLarge, IsRefusedLarge}
+use Rattle.pas_large.specs.Allocates.{IsServedNamed, IsScanned}
+use Rattle.pas_large.specs.Pages.{claiming_old}
 use Rattle.pas_bitfit.specs.Allocates.{run_for, IsAllocated}
 use Rattle.pas_bitfit.specs.Runs.{NoneFits}
 use Rattle.pas_bits.specs.declared.mask.Mask4.{Mask4}
@@ -78,14 +79,16 @@ pub record ServesBitfit (f : Profile) (wanted : Wanted) (c c' : Cached) (steps :
 abbrev pub pages_of : Wanted → ℕ
 pages_of wanted = wanted.room / 4096
 
--- The pages of the region were searched for a run that could be claimed, and the block was given and its pages left, or the search was refused.
--- Nothing of the cache is changed.
+-- The door named a run or none. The block was given on that run, without a deed, or what was tried with it was undone and the pages of the region were
+-- searched for a run that could be claimed: the block was given on it and its pages left, or the search was refused. Nothing of the cache is changed.
 pub record ServesPages (f : Profile) (wanted : Wanted) (c c' : Cached) (steps : List Made) (answer : Result Block NoRoom) : Type 0 where
   pub cache : c' ≡ c
-  pub searched : List Made
-  pub after : List Made
-  pub outcome : MatchResult answer (IsAllocatedLarge f wanted.directory (pages_of wanted) searched after) (IsRefusedLarge f wanted.directory (pages_of wanted) searched after)
-  pub steps_are : steps ≡ after ++ searched
+  pub found : Option ℕ
+  pub tried : List Made
+  pub rest : List Made
+  pub old : Only claiming_old tried
+  pub outcome : IsServedNamed f wanted.directory (pages_of wanted) found tried rest answer ⊎ IsScanned f wanted.directory (pages_of wanted) tried rest answer
+  pub steps_are : steps ≡ rest ++ tried
 
 -- ---- slots are obtained
 -- The local allocator of the heap and the class has a slot, and is taken out of the list without a step.

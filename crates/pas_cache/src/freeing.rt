@@ -7,7 +7,7 @@ ghost use Rattle.pas_cache.specs.Names.{IsInRegion, IsFaultOf, MayFlush, Empties
 
 use crate::cache::ThreadCache;
 use arrayvec::ArrayVec;
-use pas_free_log::{EndedRun, FreeLog, flush};
+use pas_free_log::{EndedRun, Entry, FreeLog, flush};
 use pas_profile::limits::{GRAIN_BYTES, MOST_LOGGED, PAGE_BYTES};
 use pas_profile::{FreeFault, Name, Profile};
 use pas_steps::Desk;
@@ -39,24 +39,25 @@ fn make_room<D: Desk>(desk: &mut D, log: &mut FreeLog, noted: &mut ArrayVec<Ende
     }
 }
 
-/// Adds the name at the end of the log, and flushes a full one before.
-fn log_name<D: Desk>(
+/// Adds the entry at the end of the log, and flushes a full one before.
+fn log_entry<D: Desk>(
     desk: &mut D,
     log: &mut FreeLog,
     noted: &mut ArrayVec<EndedRun, MOST_LOGGED>,
-    name: Name,
+    entry: Entry,
 )
     requires room { 64 ≤ length (entries_in log.old) → length (entries_in log.old) ≤ D.spare_of desk.old }
     requires can { CanCall (D.standing desk.old) (λ v l. MayFlush (D.standing desk.old).seat.profile (entries_in log.old) v) }
-    ensures logs { LogsInto (entries_in log.old) (entries_in log.new) noted.old.items noted.new.items name (D.standing desk.old) (D.standing desk.new) }
+    ensures logs { LogsInto (entries_in log.old) (entries_in log.new) noted.old.items noted.new.items entry (D.standing desk.old) (D.standing desk.new) }
     ensures home { D.home desk.new ≡ D.home desk.old }
 {
     make_room(desk, log, noted);
-    log.add(name);
+    log.push(entry);
 }
 
 impl ThreadCache {
-    ghost use Rattle.std.specs.Prelude.{◌≡◌, ◌<◌, ◌≤◌, ◌-◌, ◌^◌, ◌+◌, length};
+    ghost use Rattle.std.specs.Prelude.{◌≡◌, ◌<◌, ◌≤◌, ◌-◌, ◌*◌, ◌%◌, ◌^◌, ◌+◌, length};
+    ghost use Rattle.pas_free_log.specs.Logs.{entry_of, sized_entry};
     ghost use Rattle.pas_steps.specs.Desks.{CanCall};
     ghost use Rattle.pas_cache.specs.Caches.{cached, seat_of, AtRest};
     ghost use Rattle.pas_cache.specs.Calls.{Frees, FlushesLog};
@@ -70,14 +71,44 @@ impl ThreadCache {
         requires turn { name.turn < 2 ^ 40 - 1 }
         requires room { length (cached self.old).log ≡ 64 → 64 ≤ D.spare_of desk.old }
         requires can { CanCall (D.standing desk.old) (λ v l. AtRest (D.standing desk.old).seat.profile (cached self.old) v) }
-        ensures frees { Frees name (cached self.old) (cached self.new) (D.standing desk.old) (D.standing desk.new) result }
+        ensures frees { Frees (entry_of name) (cached self.old) (cached self.new) (D.standing desk.old) (D.standing desk.new) result }
         ensures actor { seat_of self.new ≡ seat_of self.old }
         ensures home { D.home desk.new ≡ D.home desk.old }
     {
-        if let Err(fault) = check(desk.profile(), name) {
+        self.free_entry(desk, Entry { name, room: 0 })
+    }
+
+    /// The same of a block that the caller believes to have this room, a multiple of 16: at the flush its block ends where it has it.
+    pub fn free_sized<D: Desk>(
+        &mut self,
+        desk: &mut D,
+        name: Name,
+        room: u32,
+    ) -> Result<(), FreeFault>
+        requires turn { name.turn < 2 ^ 40 - 1 }
+        requires size { (room % 16 ≡ 0) × (16 ≤ room) × (room ≤ 4096 * (D.standing desk.old).seat.profile.pages) }
+        requires room { length (cached self.old).log ≡ 64 → 64 ≤ D.spare_of desk.old }
+        requires can { CanCall (D.standing desk.old) (λ v l. AtRest (D.standing desk.old).seat.profile (cached self.old) v) }
+        ensures frees { Frees (sized_entry name room) (cached self.old) (cached self.new) (D.standing desk.old) (D.standing desk.new) result }
+        ensures actor { seat_of self.new ≡ seat_of self.old }
+        ensures home { D.home desk.new ≡ D.home desk.old }
+    {
+        self.free_entry(desk, Entry { name, room })
+    }
+
+    fn free_entry<D: Desk>(&mut self, desk: &mut D, entry: Entry) -> Result<(), FreeFault>
+        requires turn { entry.name.turn < 2 ^ 40 - 1 }
+        requires size { (entry.room % 16 ≡ 0) × (entry.room ≤ 4096 * (D.standing desk.old).seat.profile.pages) }
+        requires room { length (cached self.old).log ≡ 64 → 64 ≤ D.spare_of desk.old }
+        requires can { CanCall (D.standing desk.old) (λ v l. AtRest (D.standing desk.old).seat.profile (cached self.old) v) }
+        ensures frees { Frees entry (cached self.old) (cached self.new) (D.standing desk.old) (D.standing desk.new) result }
+        ensures actor { seat_of self.new ≡ seat_of self.old }
+        ensures home { D.home desk.new ≡ D.home desk.old }
+    {
+        if let Err(fault) = check(desk.profile(), entry.name) {
             return Err(fault);
         }
-        log_name(desk, &mut self.log, &mut self.noted, name);
+        log_entry(desk, &mut self.log, &mut self.noted, entry);
         Ok(())
     }
 

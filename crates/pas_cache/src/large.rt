@@ -8,19 +8,19 @@ use pas_profile::{Block, NoRoom};
 use pas_steps::Desk;
 
 impl ThreadCache {
-    ghost use Rattle.std.specs.Prelude.{◌≡◌, ◌<◌, ◌+◌, ◌-◌, ◌/◌, ℕ, []};
+    ghost use Rattle.std.specs.Prelude.{◌≡◌, ◌<◌, ◌+◌, ◌-◌, ◌/◌, ℕ, Option, []};
     ghost use Rattle.pas_profile.specs.Classes.{IsAlignment};
     ghost use Rattle.pas_profile.specs.Routes.{route_of};
     ghost use Rattle.pas_profile.specs.declared.directory.Route.TheVariants as TheRoute;
     ghost use Rattle.pas_steps.specs.Desks.{CanCall};
-    ghost use Rattle.pas_large.specs.Doors.{WasAsked};
     ghost use Rattle.pas_cache.specs.Serves.{wanted_for};
     ghost use Rattle.pas_cache.specs.Caches.{cached, seat_of};
     ghost use Rattle.pas_cache.specs.Calls.{MayAllocatePages, AllocatesPages, SettlesEach};
 
     /// A block of the heap for so many bytes, in whole pages. It begins with a page, so it suits every alignment.
     ///
-    /// The door is asked for a range first. The lowest run of pages without a deed, or offered and free, that can be claimed is backed and given.
+    /// The door is asked for a range first. Its pages are given where each is one of the heap's large pages, offered and free. Otherwise the lowest run of pages
+    /// without a deed, or offered and free, that can be claimed is backed and given.
     /// `Held` has the lowest of the heap's large pages that was in some actor's hands, and `NoSpace` comes where there is none; the deeds that broken
     /// claims made stay. Nothing is cached. There is room for an event for each page of the block, for one more, and for the deed of each page that
     /// isn't known.
@@ -34,8 +34,8 @@ impl ThreadCache {
         requires heap { heap < (D.standing desk.old).seat.profile.heaps }
         requires size { 2048 < size }
         requires can { CanCall (D.standing desk.old) (λ v l. MayAllocatePages (D.standing desk.old).seat.profile (cached self.old) ((size + 4096 - 1) / 4096) (D.spare_of desk.old) v) }
-        ensures allocates { (align : ℕ) → IsAlignment align → route_of size align ≡ TheRoute.Large → AllocatesPages (wanted_for (D.standing desk.old).seat.profile heap size align) D.tells (cached self.old) (cached self.new) (D.standing desk.old) (D.standing desk.new) result }
-        ensures asked { WasAsked (O.answers door.old door.new heap ((size + 4096 - 1) / 4096)) }
+        ensures allocates { (found : Option ℕ) × O.answers door.old door.new heap ((size + 4096 - 1) / 4096) found
+            × ((align : ℕ) → IsAlignment align → route_of size align ≡ TheRoute.Large → AllocatesPages (wanted_for (D.standing desk.old).seat.profile heap size align) found D.tells (cached self.old) (cached self.new) (D.standing desk.old) (D.standing desk.new) result) }
         ensures actor { seat_of self.new ≡ seat_of self.old }
         ensures home { D.home desk.new ≡ D.home desk.old }
     {

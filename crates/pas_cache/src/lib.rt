@@ -6,6 +6,7 @@ mod freeing;
 mod giving;
 mod giving_up;
 mod large;
+mod moving;
 mod obtaining;
 mod refilling;
 mod serving;
@@ -13,3 +14,4 @@ mod stopping;
 mod taking;
 
 pub use cache::ThreadCache;
+pub use moving::Moved;

@@ -17,7 +17,7 @@ use Rattle.pas_steps.specs.Allowed.{IsStepOf}
 use Rattle.pas_steps.specs.Lists.{Triple, Whole, part, visible, word_after, IsNext, Legal}
 use Rattle.pas_steps.specs.Agreement.{IsDeedWord, heap_recorded, AgreesDeed, AgreesFree, AgreesLife, AgreesEnd, AgreesBacked, AgreesParked, AgreesEmpty, AgreesEligible, AgreesEpoch, AgreesStamp, Agrees}
 use Rattle.pas_steps.specs.declared.step.Step.{Step}
-use Rattle.pas_steps.specs.declared.step.Step.TheVariants.{Look, Deed, Back, Take, Put, Give, End, TakeRight, Offer, Park, Unpark, Stamp, Hint, Unback, Unhint}
+use Rattle.pas_steps.specs.declared.step.Step.TheVariants.{Look, Deed, Back, Take, Put, Give, End, EndSized, TakeRight, Offer, Park, Unpark, Stamp, Hint, Unback, Unhint}
 use Rattle.pas_core.specs.Good.{Held, is_free, is_covered_by, covers, IsPlacedOnce, IsLifeOf}
 use Rattle.pas_core.proofs.Grains.{is_held_by-true, placed_once}
 use Rattle.pas_core.proofs.Lives.{life_is_known, live_is_live, life_of}
@@ -188,6 +188,7 @@ answer_agrees_at f l valid legal k (Take q w mask) a of is = free_agrees f l val
 answer_agrees_at f l valid legal k (Put q w mask) a of is = free_agrees f l valid legal k q w a is
 answer_agrees_at f l valid legal k (Give block) a of is = life_agrees f l valid legal k (grain_of block.name) a is
 answer_agrees_at f l valid legal k (End name guess) a of is = end_agrees f l valid legal k name guess a of is
+answer_agrees_at f l valid legal k (EndSized name room) a of is = end_agrees f l valid legal k name (room / 16) a of.0 is
 answer_agrees_at f l valid legal k (TakeRight q d) a of is = eligible_agrees f l legal k (number_of d) (q / 64) a is
 answer_agrees_at f l valid legal k (Offer q d) a of is = eligible_agrees f l legal k (number_of d) (q / 64) a is
 answer_agrees_at f l valid legal k (Park q) a of is = parked_agrees f l legal k (q / 64) a is

@@ -1,5 +1,5 @@
 -- The deed words and the backed words are those of the machine.
-use Rattle.std.proofs.Common.{◌≡◌, ℕ, ◌==◌, Bool, true, false, not, ◌&&◌, if◌then◌else◌, List, [], ◌∷◌, Option, Some, None, refl, ap, sym, ◌∙◌, subst, arith, bit_or}
+use Rattle.std.proofs.Common.{◌≡◌, ℕ, ◌==◌, Bool, true, false, not, ◌&&◌, if◌then◌else◌, List, [], ◌∷◌, Option, Some, None, refl, ap, sym, ◌∙◌, subst, arith, bit_or, ◌/◌}
 use Rattle.std.proofs.lemmas.Bool.{eqb-true, eqb-false, cond_both}
 use Rattle.pas_profile.specs.Layouts.{same_word}
 use Rattle.pas_profile.specs.Directories.{deed_word_of}
@@ -12,11 +12,11 @@ use Rattle.pas_profile.specs.declared.event.Event.{Event}
 use Rattle.pas_machine.specs.State.{deed_in, backed_in}
 use Rattle.pas_steps.specs.Effects.{target, new_value}
 use Rattle.pas_steps.specs.Views.{epoch_of}
-use Rattle.pas_steps.specs.Events.{event_of, with_event, reason_of}
+use Rattle.pas_steps.specs.Events.{event_of, with_event, reason_of, sized_reason}
 use Rattle.pas_steps.specs.Allowed.{IsStepOf}
 use Rattle.pas_steps.specs.Lists.{Whole, word_after, part, visible, Legal}
 use Rattle.pas_steps.specs.declared.step.Step.{Step}
-use Rattle.pas_steps.specs.declared.step.Step.TheVariants.{Look, Deed, Back, End, Unback}
+use Rattle.pas_steps.specs.declared.step.Step.TheVariants.{Look, Deed, Back, End, EndSized, Unback}
 use Rattle.pas_core.specs.Good.{word_of_deed, word_of_backed}
 use Rattle.std.proofs.lemmas.Option.{same_Some}
 use Rattle.pas_core.proofs.DeedWords.{looked}
@@ -43,6 +43,7 @@ deed_step l k e (Look word) a p is h = looked (same_word word (Word.Deed p)) (wo
 deed_step l k e (Deed q d) a p is h = deed_agrees (q == p) (a == 0) k q d p (word_after l (Word.Deed p)) a (visible l) refl (λ t. is ∙ ap (λ n. word_after l (Word.Deed n)) (eqb-true q p t)) refl h
 deed_step l k e (Back q) a p is h = h ∙ ap word_of_deed (sym (event_if (λ x. deed_in x p ≡ deed_in (visible l) p) (a == 0) (Event.Back k q) (visible l) refl refl))
 deed_step l k e (End name guess) a p is h = h ∙ ap word_of_deed (sym (end_if (λ x. deed_in x p ≡ deed_in (visible l) p) (a == live_word name.turn guess) (is_live a && (turn_of a == name.turn)) (Event.End k name e) (Event.Reject k name (reason_of name a)) (visible l) (λ hit. refl) refl refl))
+deed_step l k e (EndSized name room) a p is h = h ∙ ap word_of_deed (sym (end_if (λ x. deed_in x p ≡ deed_in (visible l) p) (a == live_word name.turn (room / 16)) false (Event.End k name e) (Event.Reject k name (sized_reason name room a)) (visible l) (λ hit. refl) refl refl))
 deed_step l k e s a p is h = h
 
 -- the deed word of a page records the machine's directory
@@ -66,6 +67,7 @@ directory_step : (f : Profile) (k e : ℕ) (s : Step) (a : ℕ) (es : List Event
 directory_step f k e (Deed q d) a es of rest = directory_if f (a == 0) k q d es of.1 rest
 directory_step f k e (Back q) a es of rest = λ p d is. rest p d (sym (event_if (λ x. deed_in x p ≡ deed_in es p) (a == 0) (Event.Back k q) es refl refl) ∙ is)
 directory_step f k e (End name guess) a es of rest = λ p d is. rest p d (sym (end_if (λ x. deed_in x p ≡ deed_in es p) (a == live_word name.turn guess) (is_live a && (turn_of a == name.turn)) (Event.End k name e) (Event.Reject k name (reason_of name a)) es (λ hit. refl) refl refl) ∙ is)
+directory_step f k e (EndSized name room) a es of rest = λ p d is. rest p d (sym (end_if (λ x. deed_in x p ≡ deed_in es p) (a == live_word name.turn (room / 16)) false (Event.End k name e) (Event.Reject k name (sized_reason name room a)) es (λ hit. refl) refl refl) ∙ is)
 directory_step f k e s a es of rest = rest
 
 pub directory_is_of : (f : Profile) (l : Whole) → Legal f l → (p : ℕ) (d : Directory) → deed_in (visible l) p ≡ Some d → IsDirectoryOf f d
@@ -100,6 +102,7 @@ back_step l k e (Look word) a p is h = looked (same_word word (Word.Backed p)) (
 back_step l k e (Deed q d) a p is h = h ∙ ap word_of_backed (sym (event_if (λ x. backed_in x p ≡ backed_in (visible l) p) (a == 0) (Event.Deed k q d) (visible l) refl refl))
 back_step l k e (Back q) a p is h = back_agrees (q == p) (a == 0) k q p (word_after l (Word.Backed p)) a (visible l) refl (λ t. is ∙ ap (λ n. word_after l (Word.Backed n)) (eqb-true q p t)) refl h
 back_step l k e (End name guess) a p is h = h ∙ ap word_of_backed (sym (end_if (λ x. backed_in x p ≡ backed_in (visible l) p) (a == live_word name.turn guess) (is_live a && (turn_of a == name.turn)) (Event.End k name e) (Event.Reject k name (reason_of name a)) (visible l) (λ hit. refl) refl refl))
+back_step l k e (EndSized name room) a p is h = h ∙ ap word_of_backed (sym (end_if (λ x. backed_in x p ≡ backed_in (visible l) p) (a == live_word name.turn (room / 16)) false (Event.End k name e) (Event.Reject k name (sized_reason name room a)) (visible l) (λ hit. refl) refl refl))
 back_step l k e (Unback q) a p is h = unback_agrees (q == p) (word_after l (Word.Backed p)) (backed_in (visible l) p) h
 back_step l k e s a p is h = h
 

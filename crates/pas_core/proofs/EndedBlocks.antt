@@ -18,7 +18,7 @@ use Rattle.pas_steps.specs.Allowed.{IsStepOf}
 use Rattle.pas_steps.specs.Agreement.{heap_recorded}
 use Rattle.pas_steps.specs.Lists.{Triple, Whole, part, word_after, visible, IsNext, Legal}
 use Rattle.pas_steps.specs.declared.step.Step.{Step}
-use Rattle.pas_steps.specs.declared.step.Step.TheVariants.{End}
+use Rattle.pas_steps.specs.declared.step.Step.TheVariants.{End, EndSized}
 use Rattle.pas_core.specs.Good.{word_of_deed}
 use Rattle.pas_core.proofs.DeedWords.{deed_kept}
 use Rattle.pas_core.proofs.Deeds.{deed_of, directory_is_of}
@@ -79,6 +79,9 @@ end_pages f l valid legal name guess a of is false e =
 
 has_ended : (f : Profile) (l : Whole) → IsValid f → Legal f l → (s : Step) (a : ℕ) → IsStepOf f s → a ≡ word_after l (target s) → HasEnded l s a
 has_ended f l valid legal (End name guess) a of is = end_pages f l valid legal name guess a of is (a == live_word name.turn guess) refl
+has_ended f l valid legal (EndSized name room) a of is =
+    let at : HasEnded l (End name (room / 16)) a = end_pages f l valid legal name (room / 16) a of.0 is (a == live_word name.turn (room / 16)) refl in
+    record { heap = at.heap; pages = at.pages }
 has_ended f l valid legal s a of is = no_end l s a (λ page. refl)
 
 -- a page of a block that an actor once ended has a deed

@@ -1,5 +1,5 @@
 -- The epoch only grows, every word fits 64 bits, and epochs and stamps are below 2 ^ 40.
-use Rattle.std.proofs.Common.{◌≡◌, ℕ, ◌+◌, ◌^◌, ◌<◌, ◌≤◌, ◌==◌, max, [], ◌∷◌, Option, arith}
+use Rattle.std.proofs.Common.{◌≡◌, ℕ, ◌+◌, ◌^◌, ◌<◌, ◌≤◌, ◌==◌, max, [], ◌∷◌, Option, arith, ◌/◌}
 use Rattle.std.specs.Int.{bit_not, w64}
 use Rattle.std.proofs.lemmas.Nat.{and_le_l, or_lt}
 use Rattle.pas_profile.specs.Directories.{deed_word_of}
@@ -16,7 +16,7 @@ use Rattle.pas_steps.specs.Views.{epoch_after, known_epoch, or_zero, epoch_of}
 use Rattle.pas_steps.specs.Allowed.{IsStepOf}
 use Rattle.pas_steps.specs.Lists.{Triple, Whole, part, word_after, IsNext, Legal}
 use Rattle.pas_steps.specs.declared.step.Step.{Step}
-use Rattle.pas_steps.specs.declared.step.Step.TheVariants.{Look, Deed, Back, Take, Put, Give, End, TakeRight, Offer, Park, Unpark, Stamp, Hint, Tick, Unhint}
+use Rattle.pas_steps.specs.declared.step.Step.TheVariants.{Look, Deed, Back, Take, Put, Give, End, EndSized, TakeRight, Offer, Park, Unpark, Stamp, Hint, Tick, Unhint}
 use Rattle.pas_core.proofs.Grains.{give_short}
 use Rattle.pas_bits.proofs.PageVectors.{page_mask_lt}
 use Rattle.pas_core.proofs.DeedWords.{next_value, looked}
@@ -63,6 +63,7 @@ value_small f e (Take q w mask) old valid of he h = omega (arith, and_le_l old (
 value_small f e (Put q w mask) old valid of he h = or_lt 64 old mask h of.2
 value_small f e (Give block) old valid of he h = live_small block.name.turn (length_of block) of.turn (give_short f (address_of block.name) block.room valid of.last)
 value_small f e (End name guess) old valid of he h = cond_both (old == live_word name.turn guess) (name.turn + 1) old (λ m. m < 2 ^ 64) (λ here. (omega (arith, of.2))) (λ other. h)
+value_small f e (EndSized name room) old valid of he h = cond_both (old == live_word name.turn (room / 16)) (name.turn + 1) old (λ m. m < 2 ^ 64) (λ here. (omega (arith, of.0.2))) (λ other. h)
 value_small f e (TakeRight q directory) old valid of he h = omega (arith, and_le_l old (bit_not w64 (page_mask q)))
 value_small f e (Offer q directory) old valid of he h = or_lt 64 old (page_mask q) h (page_mask_lt q)
 value_small f e (Park q) old valid of he h = or_lt 64 old (page_mask q) h (page_mask_lt q)

@@ -1,5 +1,5 @@
 -- What callers need of the blocks that were given: names keep their blocks, and there are no more gives than events.
-use Rattle.std.proofs.Common.{◌≡◌, ℕ, ◌+◌, ◌≤◌, ◌==◌, Bool, true, false, ◌&&◌, if◌then◌else◌, List, [], ◌∷◌, ◌++◌, length, Option, Some, None, refl, ap, sym, ◌∙◌, arith}
+use Rattle.std.proofs.Common.{◌≡◌, ℕ, ◌+◌, ◌≤◌, ◌==◌, Bool, true, false, ◌&&◌, if◌then◌else◌, List, [], ◌∷◌, ◌++◌, length, Option, Some, None, refl, ap, sym, ◌∙◌, arith, ◌/◌}
 use Rattle.std.proofs.lemmas.Bool.{eqb-true, eq-eqb, cond_both}
 use Rattle.pas_profile.specs.Lives.{live_word, is_live, turn_of}
 use Rattle.pas_profile.specs.declared.profile.Profile.{Profile}
@@ -9,9 +9,9 @@ use Rattle.pas_profile.specs.Runs.{address_of}
 use Rattle.pas_machine.specs.State.{Live, live_in, gives_in}
 use Rattle.pas_machine.specs.Machine.{Admits, Run}
 use Rattle.pas_steps.specs.Views.{given_after}
-use Rattle.pas_steps.specs.Events.{event_of, with_event, reason_of}
+use Rattle.pas_steps.specs.Events.{event_of, with_event, reason_of, sized_reason}
 use Rattle.pas_steps.specs.declared.step.Step.{Step}
-use Rattle.pas_steps.specs.declared.step.Step.TheVariants.{Deed, Back, End}
+use Rattle.pas_steps.specs.declared.step.Step.TheVariants.{Deed, Back, End, EndSized}
 use Rattle.pas_core.specs.Given.{WasGiven}
 use Rattle.std.proofs.lemmas.Option.{same_Some}
 use Rattle.pas_core.proofs.Deeds.{event_if, end_if}
@@ -86,6 +86,7 @@ pub count_step : (k e : ℕ) (s : Step) (a : ℕ) (es : List Event) → count_gi
 count_step k e (Deed page directory) a es = event_if (λ x. count_gives x ≡ count_gives es) (a == 0) (Event.Deed k page directory) es refl refl
 count_step k e (Back page) a es = event_if (λ x. count_gives x ≡ count_gives es) (a == 0) (Event.Back k page) es refl refl
 count_step k e (End name guess) a es = end_if (λ x. count_gives x ≡ count_gives es) (a == live_word name.turn guess) (is_live a && (turn_of a == name.turn)) (Event.End k name e) (Event.Reject k name (reason_of name a)) es (λ hit. refl) refl refl
+count_step k e (EndSized name room) a es = end_if (λ x. count_gives x ≡ count_gives es) (a == live_word name.turn (room / 16)) false (Event.End k name e) (Event.Reject k name (sized_reason name room a)) es (λ hit. refl) refl refl
 count_step k e s a es = refl
 
 -- no address was given more often than there are events

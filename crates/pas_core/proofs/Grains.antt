@@ -17,7 +17,7 @@ use Rattle.pas_steps.specs.Views.{Move, Stays, Gets, Puts, Gives, Ends, grain_mo
 use Rattle.pas_steps.specs.Allowed.{Allowed, IsStepOf}
 use Rattle.pas_steps.specs.Lists.{Whole, word_after, part, IsNext, Legal}
 use Rattle.pas_steps.specs.declared.step.Step.{Step}
-use Rattle.pas_steps.specs.declared.step.Step.TheVariants.{Look, Take, Put, Give, End}
+use Rattle.pas_steps.specs.declared.step.Step.TheVariants.{Look, Take, Put, Give, End, EndSized}
 use Rattle.pas_core.specs.Good.{Place, IsFree, Held, Covered, is_free, is_held_by, is_covered_by, covers, IsPlacedOnce}
 use Rattle.pas_bits.proofs.Words.{bit_cleared, bit_of_or}
 use Rattle.pas_profile.proofs.Runs.{first_of_run}
@@ -149,6 +149,7 @@ free_step f l e (Take page word mask) a g of is = take_free ((word == g / 64 % 4
 free_step f l e (Put page word mask) a g of is = put_free ((word == g / 64 % 4) && (page == g / 256)) (word_after l (free_word_at g)) mask (g % 64)
 free_step f l e (Give block) a g of is = rests_free (in_run (grain_of block.name) (length_of block) g) (has_bit (word_after l (free_word_at g)) (g % 64)) (Gives (grain_of block.name)) refl
 free_step f l e (End name guess) a g of is = rests_free ((a == live_word name.turn guess) && in_run (grain_of name) guess g) (has_bit (word_after l (free_word_at g)) (g % 64)) (Ends (grain_of name)) refl
+free_step f l e (EndSized name room) a g of is = rests_free ((a == live_word name.turn (room / 16)) && in_run (grain_of name) (room / 16) g) (has_bit (word_after l (free_word_at g)) (g % 64)) (Ends (grain_of name)) refl
 free_step f l e s a g of is = refl
 
 -- ---- the life words
@@ -210,6 +211,10 @@ covered_step f l k e (End name guess) a g b valid placed of allowed is =
     ap (λ t. covers (if t then (if word_after l (life_word_at b) == live_word name.turn guess then name.turn + 1 else word_after l (life_word_at b)) else word_after l (life_word_at b)) b g) (life_same (grain_of name) b)
     ∙ end_covers (grain_of name == b) (grain_of name) b g name.turn guess (word_after l (life_word_at b)) a refl of.2 (guess_fits guess f.pages valid.pages of.4)
     (λ e. is ∙ ap (λ x. word_after l (life_word_at x)) (eqb-true (grain_of name) b e)) (a == live_word name.turn guess) refl (in_run (grain_of name) guess g) refl
+covered_step f l k e (EndSized name room) a g b valid placed of allowed is =
+    ap (λ t. covers (if t then (if word_after l (life_word_at b) == live_word name.turn (room / 16) then name.turn + 1 else word_after l (life_word_at b)) else word_after l (life_word_at b)) b g) (life_same (grain_of name) b)
+    ∙ end_covers (grain_of name == b) (grain_of name) b g name.turn (room / 16) (word_after l (life_word_at b)) a refl of.0.2 (guess_fits (room / 16) f.pages valid.pages of.0.4)
+    (λ e. is ∙ ap (λ x. word_after l (life_word_at x)) (eqb-true (grain_of name) b e)) (a == live_word name.turn (room / 16)) refl (in_run (grain_of name) (room / 16) g) refl
 covered_step f l k e s a g b valid placed of allowed is = refl
 
 -- ---- a legal step's move fits
@@ -227,6 +232,10 @@ step_fits f l k (End name guess) a g at valid of allowed is = fits_if k (Ends (g
     let parts = and_parts (a == live_word name.turn guess) (in_run (grain_of name) guess g) h in
     is_covered_by-true (grain_of name) at.place (sym (at.covered (grain_of name)) ∙ ap (λ w. covers w (grain_of name) g) (sym is ∙ eqb-true a (live_word name.turn guess) parts.0)
     ∙ covers_live name.turn guess (grain_of name) g (let t = of.2 in omega (arith, t)) (guess_fits guess f.pages valid.pages of.4) ∙ parts.1))
+step_fits f l k (EndSized name room) a g at valid of allowed is = fits_if k (Ends (grain_of name)) at.place ((a == live_word name.turn (room / 16)) && in_run (grain_of name) (room / 16) g) (λ h.
+    let parts = and_parts (a == live_word name.turn (room / 16)) (in_run (grain_of name) (room / 16) g) h in
+    is_covered_by-true (grain_of name) at.place (sym (at.covered (grain_of name)) ∙ ap (λ w. covers w (grain_of name) g) (sym is ∙ eqb-true a (live_word name.turn (room / 16)) parts.0)
+    ∙ covers_live name.turn (room / 16) (grain_of name) g (let t = of.0.2 in omega (arith, t)) (guess_fits (room / 16) f.pages valid.pages of.0.4) ∙ parts.1))
 step_fits f l k s a g at valid of allowed is = tt
 
 -- ---- the induction

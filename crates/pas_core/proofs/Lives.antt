@@ -14,11 +14,11 @@ use Rattle.pas_profile.specs.Runs.{in_run, address_of, grain_of, length_of}
 use Rattle.pas_machine.specs.State.{Live, live_in, gives_in, ends_in}
 use Rattle.pas_steps.specs.Effects.{life_word_at, target, new_value}
 use Rattle.pas_steps.specs.Views.{View, Move, Stays, Gets, Gives, Ends, grain_move, held_after, holds, epoch_of, looks_at_life, life_after, known_life}
-use Rattle.pas_steps.specs.Events.{event_of, end_event, with_event, reason_of}
+use Rattle.pas_steps.specs.Events.{event_of, end_event, with_event, reason_of, sized_reason, sized_event}
 use Rattle.pas_steps.specs.Allowed.{Allowed, IsStepOf, IsBlockOf}
 use Rattle.pas_steps.specs.Lists.{Whole, word_after, part, visible, IsNext, Legal}
 use Rattle.pas_steps.specs.declared.step.Step.{Step}
-use Rattle.pas_steps.specs.declared.step.Step.TheVariants.{Look, Deed, Back, Give, End}
+use Rattle.pas_steps.specs.declared.step.Step.TheVariants.{Look, Deed, Back, Give, End, EndSized}
 use Rattle.pas_core.specs.Good.{Place, IsFree, Held, Covered, is_held_by, is_covered_by, covers, IsPlacedOnce, IsLifeOf, IsLifeOfNone, IsLifeOfLive, IsBare}
 use Rattle.pas_core.proofs.Grains.{life_same, give_short, Fits, is_held_by-true, covers_live, some_grain, step_fits, placed_once}
 use Rattle.std.proofs.lemmas.Option.{same_Some, none-some}
@@ -60,6 +60,9 @@ life_rests f l k e (Give block) a g of allowed is still =
 life_rests f l k e (End name guess) a g of allowed is still =
     as_test (same_word (life_word_at (grain_of name)) (life_word_at g)) (grain_of name == g) (λ w. w ≡ word_after l (life_word_at g)) (if word_after l (life_word_at g) == live_word name.turn guess then name.turn + 1 else word_after l (life_word_at g)) (word_after l (life_word_at g)) (life_same (grain_of name) g)
     (end_rests (grain_of name == g) (a == live_word name.turn guess) (in_run (grain_of name) guess g) (grain_of name) g guess (word_after l (life_word_at g)) name.turn a refl (word_is l a (grain_of name) g is) of.3 refl refl still)
+life_rests f l k e (EndSized name room) a g of allowed is still =
+    as_test (same_word (life_word_at (grain_of name)) (life_word_at g)) (grain_of name == g) (λ w. w ≡ word_after l (life_word_at g)) (if word_after l (life_word_at g) == live_word name.turn (room / 16) then name.turn + 1 else word_after l (life_word_at g)) (word_after l (life_word_at g)) (life_same (grain_of name) g)
+    (end_rests (grain_of name == g) (a == live_word name.turn (room / 16)) (in_run (grain_of name) (room / 16) g) (grain_of name) g (room / 16) (word_after l (life_word_at g)) name.turn a refl (word_is l a (grain_of name) g is) of.0.3 refl refl still)
 life_rests f l k e s a g of allowed is still = refl
 
 -- ---- what is known of a life word
@@ -222,6 +225,11 @@ life_step f l k e (End name guess) a g valid of allowed is dead tells h =
     (life_same (grain_of name) g ∙ sym (address_same (address_of name) g of.1))
     (end_life (address_of name == 16 * g) (a == live_word name.turn guess) (is_live a && (turn_of a == name.turn)) f g k e a (word_after l (life_word_at g)) guess name (reason_of name a) (visible l) (16 * g) refl
     (λ x. word_is l a (grain_of name) g is (sym (address_same (address_of name) g of.1) ∙ x)) refl of.2 h)
+life_step f l k e (EndSized name room) a g valid of allowed is dead tells h =
+    as_test (same_word (life_word_at (grain_of name)) (life_word_at g)) (address_of name == 16 * g) (λ w. LifeIn f g w (with_event (sized_event k e name room a) (visible l)) (16 * g)) (if word_after l (life_word_at g) == live_word name.turn (room / 16) then name.turn + 1 else word_after l (life_word_at g)) (word_after l (life_word_at g))
+    (life_same (grain_of name) g ∙ sym (address_same (address_of name) g of.0.1))
+    (end_life (address_of name == 16 * g) (a == live_word name.turn (room / 16)) false f g k e a (word_after l (life_word_at g)) (room / 16) name (sized_reason name room a) (visible l) (16 * g) refl
+    (λ x. word_is l a (grain_of name) g is (sym (address_same (address_of name) g of.0.1) ∙ x)) refl of.0.2 h)
 life_step f l k e s a g valid of allowed is dead tells h = h
 
 -- a grain of a live block is covered
@@ -272,6 +280,9 @@ bare_step f v k e (Give block) a es address of allowed un h =
 bare_step f v k e (End name guess) a es address of allowed un h =
     end_if (λ x. BareIn x address) (a == live_word name.turn guess) (is_live a && (turn_of a == name.turn)) (Event.End k name e) (Event.Reject k name (reason_of name a)) es
     (λ hit. bare_ended (address_of name == address) address (live_in es address) (gives_in es address) (ends_in es address) (other_address (address_of name) address of.1 un (address_of name == address) refl) h) h h
+bare_step f v k e (EndSized name room) a es address of allowed un h =
+    end_if (λ x. BareIn x address) (a == live_word name.turn (room / 16)) false (Event.End k name e) (Event.Reject k name (sized_reason name room a)) es
+    (λ hit. bare_ended (address_of name == address) address (live_in es address) (gives_in es address) (ends_in es address) (other_address (address_of name) address of.0.1 un (address_of name == address) refl) h) h h
 bare_step f v k e s a es address of allowed un h = h
 
 pub bare_of : (f : Profile) (l : Whole) → Legal f l → (address : ℕ) → address % 16 ≢ 0 → IsBare address (live_in (visible l) address) (gives_in (visible l) address) (ends_in (visible l) address)

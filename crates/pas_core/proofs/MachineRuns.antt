@@ -1,6 +1,6 @@
 -- The visible events of every legal list are a run of the machine.
 use Rattle.std.proofs.Common.{◌≡◌, ◌≢◌, ℕ, ◌+◌, ◌-◌, ◌*◌, ◌/◌, ◌%◌, ◌^◌, ◌<◌, ◌≤◌, ◌==◌, nat_lt, Bool, true, false, ◌&&◌, if◌then◌else◌, List, [], ◌∷◌, Option, Some, None, refl, ap, sym, ◌∙◌, subst, arith}
-use Rattle.std.proofs.lemmas.Bool.{false≢true, eqb-true, eq-eqb, and_from, cond_both, false_from_ne_true}
+use Rattle.std.proofs.lemmas.Bool.{false≢true, eqb-true, eqb-false, eq-eqb, and_parts, and_from, cond_both, false_from_ne_true}
 use Rattle.std.proofs.lemmas.Bool.Decides.{nat_tests}
 use Rattle.pas_profile.specs.Directories.{kind_number, deed_word_of}
 use Rattle.pas_profile.specs.Lives.{live_word, is_live, turn_of}
@@ -21,7 +21,7 @@ use Rattle.pas_steps.specs.Events.{event_of, with_event, reason_of}
 use Rattle.pas_steps.specs.Allowed.{Allowed, IsStepOf, IsBlockOf, KnowsBearing, MayUnback}
 use Rattle.pas_steps.specs.Lists.{Whole, word_after, part, visible, Legal}
 use Rattle.pas_steps.specs.declared.step.Step.{Step}
-use Rattle.pas_steps.specs.declared.step.Step.TheVariants.{Deed, Back, Give, End, Unback}
+use Rattle.pas_steps.specs.declared.step.Step.TheVariants.{Deed, Back, Give, End, EndSized, Unback}
 use Rattle.pas_core.specs.Good.{word_of_deed, word_of_backed, IsLifeOf, IsLifeOfNone, IsLifeOfLive, AgreesWithWords}
 use Rattle.pas_core.proofs.Grains.{some_grain, placed_once}
 use Rattle.pas_core.proofs.DeedWords.{known_is}
@@ -96,6 +96,21 @@ reason : (x : Bool) (es : List Event) (name : Name) (turn : ℕ) → turn ≡ en
 reason true es name turn is e dead = let lt : name.turn < turn = grind (arith, nat_tests, e) in omega (arith, lt, is)
 reason false es name turn is e dead = let ge : turn ≤ name.turn = grind (arith, nat_tests, e) in (omega (arith, ge, is), dead)
 
+-- no block of the name lives where the word tells of none
+none_lives : (f : Profile) (g word a : ℕ) (name : Name) (es : List Event) → a ≡ word → IsLifeOf f g word (live_in es (address_of name)) (gives_in es (address_of name)) (ends_in es (address_of name)) → (is_live a && (turn_of a == name.turn)) ≡ false → IsLive es name → ⊥
+none_lives f g word a name es is life none live =
+    let here : IsLifeOfLive f g word live.0 (gives_in es (address_of name)) (ends_in es (address_of name)) = subst (λ v. IsLifeOf f g word v (gives_in es (address_of name)) (ends_in es (address_of name))) live.1 life in
+    let turn : turn_of a ≡ ends_in es (address_of name) = ap turn_of is ∙ turn_is f g word (live_in es (address_of name)) (gives_in es (address_of name)) (ends_in es (address_of name)) life in
+    false≢true (sym none ∙ and_from (is_live a) (turn_of a == name.turn)
+    (ap is_live is ∙ live_is_live f g word live.0 (gives_in es (address_of name)) (ends_in es (address_of name)) here)
+    (eq-eqb (turn_of a) name.turn (turn ∙ sym here.turn ∙ live.2)))
+
+-- such an end is refused by its true reason
+refused : (f : Profile) (g word a : ℕ) (name : Name) (es : List Event) → a ≡ word → IsLifeOf f g word (live_in es (address_of name)) (gives_in es (address_of name)) (ends_in es (address_of name)) → (is_live a && (turn_of a == name.turn)) ≡ false → IsReason es name (reason_of name a)
+refused f g word a name es is life none =
+    let turn : turn_of a ≡ ends_in es (address_of name) = ap turn_of is ∙ turn_is f g word (live_in es (address_of name)) (gives_in es (address_of name)) (ends_in es (address_of name)) life in
+    reason (nat_lt name.turn (turn_of a)) es name (turn_of a) turn refl (none_lives f g word a name es is life none)
+
 end_admits : (f : Profile) (z y : Bool) (k ep g a word guess : ℕ) (name : Name) (es : List Event) → Run f es → IsPlace f (address_of name) → a ≡ word → name.turn < 2 ^ 40 - 1
     → IsLifeOf f g word (live_in es (address_of name)) (gives_in es (address_of name)) (ends_in es (address_of name)) → (a == live_word name.turn guess) ≡ z → (is_live a && (turn_of a == name.turn)) ≡ y
     → Run f (with_event (if z then Some (Event.End k name ep) else (if y then None else Some (Event.Reject k name (reason_of name a)))) es)
@@ -103,19 +118,32 @@ end_admits f true y k ep g a word guess name es run of is small life ze ye =
     let found = block_of_word f g word (live_in es (address_of name)) (gives_in es (address_of name)) (ends_in es (address_of name)) name.turn guess life (omega (arith, small)) (sym is ∙ eqb-true a (live_word name.turn guess) ze) in
     ((of, (found.0, found.1, found.2)), run)
 end_admits f false true k ep g a word guess name es run of is small life ze ye = run
-end_admits f false false k ep g a word guess name es run of is small life ze ye =
-    let turn : turn_of a ≡ ends_in es (address_of name) = ap turn_of is ∙ turn_is f g word (live_in es (address_of name)) (gives_in es (address_of name)) (ends_in es (address_of name)) life in (
-      (
-        of,
-        reason (nat_lt name.turn (turn_of a)) es name (turn_of a) turn refl
-            (λ live.
-            let here : IsLifeOfLive f g word live.0 (gives_in es (address_of name)) (ends_in es (address_of name)) = subst (λ v. IsLifeOf f g word v (gives_in es (address_of name)) (ends_in es (address_of name))) live.1 life in
-            false≢true (sym ye ∙ and_from (is_live a) (turn_of a == name.turn)
-            (ap is_live is ∙ live_is_live f g word live.0 (gives_in es (address_of name)) (ends_in es (address_of name)) here)
-            (eq-eqb (turn_of a) name.turn (turn ∙ sym here.turn ∙ live.2)))),
-      ),
-      run,
+end_admits f false false k ep g a word guess name es run of is small life ze ye = ((of, refused f g word a name es is life ye), run)
+
+-- a block of the name lives, and its room isn't the one that was named
+other_room : (f : Profile) (g word a room : ℕ) (name : Name) (es : List Event) (live : Option Live) → live_in es (address_of name) ≡ live → a ≡ word → IsLifeOf f g word live (gives_in es (address_of name)) (ends_in es (address_of name))
+    → (a == live_word name.turn (room / 16)) ≡ false → is_live a ≡ true → turn_of a ≡ name.turn → IsReason es name (Why.SizeDiffers room)
+other_room f g word a room name es None at is life ne lives turn = let w = life.word_is in let few = life.few in let big : 2 ^ 63 ≤ word = grind (arith, nat_tests, lives, is) in absurd (omega (arith, w, few, big))
+other_room f g word a room name es (Some b) at is life ne lives turn =
+    let w = life.word_is in
+    let ends : turn_of a ≡ ends_in es (address_of name) = ap turn_of is ∙ turn_is f g word (Some b) (gives_in es (address_of name)) (ends_in es (address_of name)) life in (
+      omega (arith, ends, turn),
+      record {
+        block = b;
+        lives = at;
+        turn_is = life.turn ∙ sym ends ∙ turn;
+        differs = λ e. eqb-false a (live_word name.turn (room / 16)) ne (is ∙ w ∙ ap (λ t. live_word t (length_of b.block)) (sym ends ∙ turn) ∙ ap (λ r. live_word name.turn (r / 16)) e);
+      },
     )
+
+sized_admits : (f : Profile) (z y : Bool) (k ep g a word room : ℕ) (name : Name) (es : List Event) → Run f es → IsPlace f (address_of name) → a ≡ word → name.turn < 2 ^ 40 - 1
+    → IsLifeOf f g word (live_in es (address_of name)) (gives_in es (address_of name)) (ends_in es (address_of name)) → (a == live_word name.turn (room / 16)) ≡ z → (is_live a && (turn_of a == name.turn)) ≡ y
+    → Run f (with_event (if z then Some (Event.End k name ep) else Some (Event.Reject k name (if y then Why.SizeDiffers room else reason_of name a))) es)
+sized_admits f true y k ep g a word room name es run of is small life ze ye = end_admits f true y k ep g a word (room / 16) name es run of is small life ze ye
+sized_admits f false true k ep g a word room name es run of is small life ze ye =
+    let parts = and_parts (is_live a) (turn_of a == name.turn) ye in
+    ((of, other_room f g word a room name es (live_in es (address_of name)) refl is life ze parts.0 (eqb-true (turn_of a) name.turn parts.1)), run)
+sized_admits f false false k ep g a word room name es run of is small life ze ye = ((of, refused f g word a name es is life ye), run)
 
 give_admits : (f : Profile) (l : Whole) → IsValid f → Legal f l → (k : ℕ) (block : Block) → IsBlockOf f block → Allowed f (part k l) (Give block) → MayGive f (visible l) block
 give_admits f l valid legal k block of allowed =
@@ -168,6 +196,8 @@ admits f l valid legal k (Back q) a of allowed is run = cond_both (a == 0) (Some
 admits f l valid legal k (Give block) a of allowed is run = (give_admits f l valid legal k block of allowed, run)
 admits f l valid legal k (End name guess) a of allowed is run =
     end_admits f (a == live_word name.turn guess) (is_live a && (turn_of a == name.turn)) k (epoch_of (part k l)) (grain_of name) a (word_after l (life_word_at (grain_of name))) guess name (visible l) run (of.0, of.1) is of.2 (life_at f l valid legal (address_of name) of.1) refl refl
+admits f l valid legal k (EndSized name room) a of allowed is run =
+    sized_admits f (a == live_word name.turn (room / 16)) (is_live a && (turn_of a == name.turn)) k (epoch_of (part k l)) (grain_of name) a (word_after l (life_word_at (grain_of name))) room name (visible l) run (of.0.0, of.0.1) is of.0.2 (life_at f l valid legal (address_of name) of.0.1) refl refl
 admits f l valid legal k (Unback q) a of allowed is run = (unback_admits f l valid legal k q of allowed, run)
 admits f l valid legal k s a of allowed is run = run
 

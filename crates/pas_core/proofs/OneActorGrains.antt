@@ -21,7 +21,7 @@ use Rattle.pas_steps.proofs.Past.{since_once, always_map}
 use Rattle.pas_core.specs.Rights.{free_of_page}
 use Rattle.pas_steps.specs.declared.step.Step.{Step}
 use Rattle.pas_steps.specs.declared.step.Made.{Made}
-use Rattle.pas_steps.specs.declared.step.Step.TheVariants.{Look, Deed, Take, Put, Give, End}
+use Rattle.pas_steps.specs.declared.step.Step.TheVariants.{Look, Deed, Take, Put, Give, End, EndSized}
 use Rattle.pas_steps.proofs.Parts.{part_of_own}
 use Rattle.pas_core.specs.Good.{Place, Held, is_free, is_held_by, IsPlacedOnce}
 use Rattle.pas_core.proofs.DeedWords.{looked, deed_kept, deed_was_none}
@@ -41,6 +41,7 @@ plain_move (Take p w mask) a g h = cond_both (in_mask p w mask g && has_bit a (g
 plain_move (Put p w mask) a g h = cond_both (in_mask p w mask g) Puts Stays IsPlain (λ here. tt) (λ other. tt)
 plain_move (Give b) a g h = absurd (true≢false h)
 plain_move (End n b) a g h = absurd (true≢false h)
+plain_move (EndSized n room) a g h = absurd (true≢false h)
 plain_move s a g h = tt
 
 -- no block is given or ended

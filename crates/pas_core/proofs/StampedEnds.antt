@@ -13,12 +13,12 @@ use Rattle.pas_profile.specs.Runs.{meets_page, address_of, grain_of}
 use Rattle.pas_machine.specs.State.{live_in, touches, epoch_in}
 use Rattle.pas_steps.specs.Effects.{life_word_at, target}
 use Rattle.pas_steps.specs.Views.{View, epoch_of, unstamped_after, is_unstamped, ends_on}
-use Rattle.pas_steps.specs.Events.{event_of, with_event, reason_of}
+use Rattle.pas_steps.specs.Events.{event_of, with_event, reason_of, sized_reason}
 use Rattle.pas_steps.specs.Allowed.{IsStepOf}
 use Rattle.pas_steps.specs.Lists.{Whole, part, word_after, visible, IsNext, Legal}
 use Rattle.pas_steps.specs.Desks.{made}
 use Rattle.pas_steps.specs.declared.step.Step.{Step}
-use Rattle.pas_steps.specs.declared.step.Step.TheVariants.{Look, End, Stamp, Tick}
+use Rattle.pas_steps.specs.declared.step.Step.TheVariants.{Look, End, EndSized, Stamp, Tick}
 use Rattle.pas_core.specs.Stamps.{IsStampedOr, KeepsToEnds, AllKeepToEnds}
 use Rattle.pas_core.proofs.DeedWords.{next_value, looked}
 use Rattle.pas_core.proofs.Ends.{IsFound, end_finds}
@@ -50,6 +50,8 @@ end_reached false y k e name reject es p h on = absurd (false≢true h)
 end_reaches : (f : Profile) (l : Whole) → IsValid f → Legal f l → (k e : ℕ) (s : Step) (a p : ℕ) → IsStepOf f s → a ≡ word_after l (target s) → ends_on s a p ≡ true → e ≤ epoch_in (with_event (event_of k e s a) (visible l)) p
 end_reaches f l valid legal k e (End name guess) a p of is h = let parts = and_parts (a == live_word name.turn guess) (meets_page (grain_of name) guess p) h in
     end_reached (a == live_word name.turn guess) (is_live a && (turn_of a == name.turn)) k e name (Event.Reject k name (reason_of name a)) (visible l) p parts.0 (touched_by_end f l valid legal name guess a p of is parts.0 parts.1)
+end_reaches f l valid legal k e (EndSized name room) a p of is h = let parts = and_parts (a == live_word name.turn (room / 16)) (meets_page (grain_of name) (room / 16) p) h in
+    end_reached (a == live_word name.turn (room / 16)) false k e name (Event.Reject k name (sized_reason name room a)) (visible l) p parts.0 (touched_by_end f l valid legal name (room / 16) a p of.0 is parts.0 parts.1)
 end_reaches f l valid legal k e s a p of is h = absurd (false≢true h)
 
 -- ---- steps
@@ -74,6 +76,7 @@ ended_or false was h = inl h
 
 was_or_ends : (s : Step) (a p : ℕ) (was : Bool) → unstamped_after s a p was ≡ true → (was ≡ true) ⊎ (ends_on s a p ≡ true)
 was_or_ends (End name guess) a p was h = ended_or ((a == live_word name.turn guess) && meets_page (grain_of name) guess p) was h
+was_or_ends (EndSized name room) a p was h = ended_or ((a == live_word name.turn (room / 16)) && meets_page (grain_of name) (room / 16) p) was h
 was_or_ends (Stamp q) a p was h = inl (was_set (q == p) was h)
 was_or_ends s a p was h = inl h
 

@@ -15,12 +15,12 @@ use Rattle.pas_profile.specs.Runs.{in_run, meets_page, address_of, grain_of, len
 use Rattle.pas_machine.specs.State.{live_in, touches, epoch_in}
 use Rattle.pas_steps.specs.Effects.{in_mask, life_word_at, target}
 use Rattle.pas_steps.specs.Views.{View, Move, Stays, Gets, Puts, Gives, Ends, held_after, holds, holds_all, or_zero, known_epoch, epoch_after, epoch_of, stamp_after, known_stamp, unstamped_after, is_unstamped, ends_on}
-use Rattle.pas_steps.specs.Events.{event_of, with_event, reason_of}
+use Rattle.pas_steps.specs.Events.{event_of, with_event, reason_of, sized_reason}
 use Rattle.pas_steps.specs.Allowed.{Allowed, IsStepOf, HoldsOn, MayPutNow, MayGiveNow}
 use Rattle.pas_steps.specs.Lists.{Triple, Whole, part, word_after, visible, IsNext, Legal}
 use Rattle.pas_steps.specs.Desks.{made}
 use Rattle.pas_steps.specs.declared.step.Step.{Step}
-use Rattle.pas_steps.specs.declared.step.Step.TheVariants.{Look, Deed, Back, Take, Put, Give, End, TakeRight, Offer, Park, Unpark, Stamp, Hint, Tick, Unback, Unhint}
+use Rattle.pas_steps.specs.declared.step.Step.TheVariants.{Look, Deed, Back, Take, Put, Give, End, EndSized, TakeRight, Offer, Park, Unpark, Stamp, Hint, Tick, Unback, Unhint}
 use Rattle.pas_core.specs.Stamps.{IsSoAtEnd, EachEnd, IsStampedOr}
 use Rattle.pas_steps.proofs.Bits.{all_below-at}
 use Rattle.pas_core.proofs.DeedWords.{next_value, looked}
@@ -120,6 +120,7 @@ keeps_held f v (Take q w mask) a p of allowed before h = let was = before h in (
 keeps_held f v (Put q w mask) a p of allowed before h = let was = before h in (was.0, was.1, moved_held (in_mask q w mask was.0) (holds v was.0) Puts (λ here. absurd (false≢true (sym (put_misses v q w mask p was.0 allowed h was.1) ∙ here))) was.2)
 keeps_held f v (Give block) a p of allowed before h = let was = before h in (was.0, was.1, moved_held (in_run (grain_of block.name) (length_of block) was.0) (holds v was.0) (Gives (grain_of block.name)) (λ here. absurd (false≢true (sym (give_misses f v block p was.0 allowed h was.1) ∙ here))) was.2)
 keeps_held f v (End name guess) a p of allowed before h = end_keeps v name guess a p of.3 before (a == live_word name.turn guess) refl (meets_page (grain_of name) guess p) refl h
+keeps_held f v (EndSized name room) a p of allowed before h = end_keeps v name (room / 16) a p of.0.3 before (a == live_word name.turn (room / 16)) refl (meets_page (grain_of name) (room / 16) p) refl h
 keeps_held f v (Stamp q) a p of allowed before h = let was = before (was_set (q == p) (is_unstamped v p) h) in (was.0, was.1, was.2)
 keeps_held f v s a p of allowed before h = let was = before h in (was.0, was.1, was.2)
 
@@ -166,6 +167,8 @@ ends_step f l valid legal P k e (Put q w mask) a p of is new h = h
 ends_step f l valid legal P k e (Give block) a p of is new h = (tt, h)
 ends_step f l valid legal P k e (End name guess) a p of is new h = end_if (λ x. EachEnd P x p) (a == live_word name.turn guess) (is_live a && (turn_of a == name.turn)) (Event.End k name e) (Event.Reject k name (reason_of name a)) (visible l)
     (λ hit. (λ on. new (end_touches f l valid legal name guess a p of is hit on), h)) (tt, h) h
+ends_step f l valid legal P k e (EndSized name room) a p of is new h = end_if (λ x. EachEnd P x p) (a == live_word name.turn (room / 16)) false (Event.End k name e) (Event.Reject k name (sized_reason name room a)) (visible l)
+    (λ hit. (λ on. new (end_touches f l valid legal name (room / 16) a p of.0 is hit on), h)) (tt, h) h
 ends_step f l valid legal P k e (TakeRight q d) a p of is new h = h
 ends_step f l valid legal P k e (Offer q d) a p of is new h = h
 ends_step f l valid legal P k e (Park q) a p of is new h = h
@@ -195,6 +198,7 @@ stamped_now false was e n old h le = inl h
 
 own_late : (e : ℕ) (s : Step) (a p : ℕ) (was : Bool) (n old : ℕ) → was ≡ true → n ≤ e → (unstamped_after s a p was ≡ true) ⊎ (n ≤ next_value e s (Word.Stamp p) old)
 own_late e (End name guess) a p was n old h le = inl (stays_set ((a == live_word name.turn guess) && meets_page (grain_of name) guess p) was h)
+own_late e (EndSized name room) a p was n old h le = inl (stays_set ((a == live_word name.turn (room / 16)) && meets_page (grain_of name) (room / 16) p) was h)
 own_late e (Stamp q) a p was n old h le = stamped_now (q == p) was e n old h le
 own_late e s a p was n old h le = inl h
 
@@ -214,10 +218,12 @@ late_next f t l legal p k n (inr late) =
 -- an end that is made now
 new_unstamped : (s : Step) (a p : ℕ) (was : Bool) → ends_on s a p ≡ true → unstamped_after s a p was ≡ true
 new_unstamped (End name guess) a p was h = ap (λ t. if t then true else was) h
+new_unstamped (EndSized name room) a p was h = ap (λ t. if t then true else was) h
 new_unstamped s a p was h = absurd (false≢true h)
 
 new_epoch : (s : Step) (a p : ℕ) (known : Option ℕ) → ends_on s a p ≡ true → or_zero known ≤ or_zero (epoch_after s a known)
 new_epoch (End name guess) a p known h = omega arith
+new_epoch (EndSized name room) a p known h = omega arith
 new_epoch s a p known h = absurd (false≢true h)
 
 now_late : (t : Triple) (l : Whole) (p : ℕ) → ends_on t.made.step t.made.answer p ≡ true → IsStampedOr (t ∷ l) p t.actor (epoch_of (part t.actor l))

@@ -16,7 +16,7 @@ use Rattle.pas_steps.specs.Views.{epoch_of, reads_life, IsLiveRead, ReadLive, re
 use Rattle.pas_steps.specs.Events.{event_of, with_event}
 use Rattle.pas_steps.specs.Lists.{Whole, part, word_after, visible, IsNext, Legal}
 use Rattle.pas_steps.specs.declared.step.Step.{Step}
-use Rattle.pas_steps.specs.declared.step.Step.TheVariants.{Look, Back, Give, End, Unback}
+use Rattle.pas_steps.specs.declared.step.Step.TheVariants.{Look, Back, Give, End, EndSized, Unback}
 use Rattle.pas_core.specs.Good.{word_of_deed, IsLifeOf}
 use Rattle.pas_core.specs.Given.{WasGiven}
 use Rattle.pas_core.proofs.DeedWords.{deed_kept}
@@ -79,6 +79,7 @@ life_read : (l : Whole) (s : Step) (a g : ℕ) → a ≡ word_after l (target s)
 life_read l (Look word) a g is h = look_is l (Look word) a g is h
 life_read l (Give block) a g is h = word_is l a (grain_of block.name) g is h
 life_read l (End name guess) a g is h = word_is l a (grain_of name) g is h
+life_read l (EndSized name room) a g is h = word_is l a (grain_of name) g is h
 life_read l s a g is h = absurd (false≢true h)
 
 -- a block of so many grains was given at the grain, with this turn

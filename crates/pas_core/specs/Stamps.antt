@@ -7,7 +7,7 @@ use Rattle.pas_profile.specs.declared.word.Word.{Word}
 use Rattle.pas_steps.specs.Views.{View, is_unstamped, epoch_of}
 use Rattle.pas_steps.specs.declared.step.Step.{Step}
 use Rattle.pas_steps.specs.declared.step.Made.{Made}
-use Rattle.pas_steps.specs.declared.step.Step.TheVariants.{Look, Deed, Back, Take, Put, Give, End, TakeRight, Offer, Park, Unpark, Stamp, Hint, Tick, Unback, Unhint}
+use Rattle.pas_steps.specs.declared.step.Step.TheVariants.{Look, Deed, Back, Take, Put, Give, End, EndSized, TakeRight, Offer, Park, Unpark, Stamp, Hint, Tick, Unback, Unhint}
 use Rattle.pas_steps.specs.Lists.{Whole, part, word_after}
 
 -- if the event, after these, is an end of a block that touches the page, its actor and its epoch are so
@@ -54,6 +54,7 @@ KeepsToEnds v (Take q w mask) = Unit {0}
 KeepsToEnds v (Put q w mask) = Unit {0}
 KeepsToEnds v (Give block) = Unit {0}
 KeepsToEnds v (End name guess) = Unit {0}
+KeepsToEnds v (EndSized name room) = Unit {0}
 KeepsToEnds v (TakeRight q d) = Unit {0}
 KeepsToEnds v (Offer q d) = Unit {0}
 KeepsToEnds v (Park q) = Unit {0}

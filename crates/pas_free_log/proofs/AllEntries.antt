@@ -29,12 +29,12 @@ use Rattle.pas_free_log.proofs.StepCounts.{entries_few, settled_count}
 
 -- ---- one entry more
 pub events_more : (k epoch : ℕ) (entry : Settled) (settled : List Settled) (ys xs : List Made) → Only ending xs
-    → ((v : View) → epoch_of v ≡ epoch → events_by k v xs ≡ map (shown_for k epoch) settled) → ((v : View) → events_by k v ys ≡ event_for k (epoch_of v) entry.entry.name entry.outcome ∷ [])
+    → ((v : View) → epoch_of v ≡ epoch → events_by k v xs ≡ map (shown_for k epoch) settled) → ((v : View) → events_by k v ys ≡ event_for k (epoch_of v) entry.entry entry.outcome ∷ [])
     → (v : View) → epoch_of v ≡ epoch → events_by k v (ys ++ xs) ≡ map (shown_for k epoch) (entry ∷ settled)
 events_more k epoch entry settled ys xs kinds before one v is =
     events_append k ys xs v
     ∙ ap (λ es. es ++ events_by k v xs) (one (xs ++ v))
-    ∙ ap (λ e. event_for k e entry.entry.name entry.outcome ∷ events_by k v xs) (ap or_zero (epoch_same ending refl xs v kinds) ∙ is)
+    ∙ ap (λ e. event_for k e entry.entry entry.outcome ∷ events_by k v xs) (ap or_zero (epoch_same ending refl xs v kinds) ∙ is)
     ∙ ap (λ es. shown_for k epoch entry ∷ es) (before v is)
 
 pub stamps_more : (epoch : ℕ) (entry : Settled) (settled : List Settled) (ys xs : List Made) → Only ending xs

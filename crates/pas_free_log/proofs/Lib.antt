@@ -1,5 +1,6 @@
 pub mod Stamped
 pub mod Tries
+pub mod Lasts
 pub mod Pages
 pub mod Blocks
 pub mod OneEntry

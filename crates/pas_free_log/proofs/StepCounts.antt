@@ -1,5 +1,5 @@
 -- How many steps a flush makes at most.
-use Rattle.std.proofs.Common.{◌≡◌, ℕ, ◌+◌, ◌*◌, ◌/◌, ◌≤◌, List, [], ◌∷◌, ◌++◌, length, inl, inr, ap, sym, ◌∙◌, arith, length-append}
+use Rattle.std.proofs.Common.{◌≡◌, ℕ, Bool, true, false, ◌+◌, ◌*◌, ◌/◌, ◌≤◌, List, [], ◌∷◌, ◌++◌, length, inl, inr, ap, sym, ◌∙◌, arith, length-append}
 use Rattle.std.specs.Prelude.{map, reverse}
 use Rattle.std.specs.List.{flat_map}
 use Rattle.std.proofs.lemmas.List.{length-map, length-reverse}
@@ -14,7 +14,8 @@ use Rattle.pas_steps.proofs.InTurn.{in_turn_length}
 use Rattle.pas_rights.proofs.Orders.{return_few}
 use Rattle.pas_rights.proofs.Puts.{puts_few}
 use Rattle.pas_free_log.specs.Stamps.{pages_met, stamps_with}
-use Rattle.pas_free_log.specs.Endings.{guess_by, Tries, EndSteps}
+use Rattle.pas_free_log.specs.Endings.{guess_by, Tries, TriesBy, EndSteps}
+use Rattle.pas_free_log.specs.Logs.{is_sized}
 use Rattle.pas_free_log.specs.Returns.{PageSteps, first_on, count_on}
 use Rattle.pas_free_log.specs.declared.log.Entry.{Entry}
 use Rattle.pas_free_log.specs.Flushes.{Settled, stamps_by_outcome, stamps_for, AfterEnd, EntriesSteps}
@@ -34,8 +35,12 @@ tries_few : (name : Name) (first guess : ℕ) (before : List Made) → Tries nam
 tries_few name first guess before (inl none) = let n = ap length none.1 in omega (arith, n)
 tries_few name first guess before (inr one) = let n = ap length one.4 in omega (arith, n)
 
-end_few : (name : Name) (outcome : Outcome) (steps : List Made) → EndSteps name outcome steps → length steps ≤ 3
-end_few name outcome steps h = let all = ap length h.steps_are in let n = length-append h.before (made (Look (Word.Deed (address_of name / 4096))) h.deed ∷ []) in let few = tries_few name (guess_by (directory_read h.deed)) h.guess h.before h.tries in omega (arith, all, n, few)
+by_few : (t : Bool) (entry : Entry) (first guess : ℕ) (before : List Made) → TriesBy t entry first guess before → length before ≤ 1
+by_few true entry first guess before one = let n = ap length one.1 in omega (arith, n)
+by_few false entry first guess before tries = tries_few entry.name first guess before tries
+
+end_few : (entry : Entry) (outcome : Outcome) (steps : List Made) → EndSteps entry outcome steps → length steps ≤ 3
+end_few entry outcome steps h = let all = ap length h.steps_are in let n = length-append h.before (made (Look (Word.Deed (address_of entry.name / 4096))) h.deed ∷ []) in let few = by_few (is_sized entry) entry (guess_by (directory_read h.deed)) h.guess h.before h.tries in omega (arith, all, n, few)
 
 after_few : (epoch : ℕ) (name : Name) (outcome : Outcome) (steps : List Made) → AfterEnd name outcome steps → length steps ≤ 14 * length (stamps_by_outcome epoch name outcome)
 after_few epoch name (Ended grains) steps h =
@@ -51,7 +56,7 @@ entries_few epoch (entry ∷ earlier) steps h =
     let e = h.2 in
     let all = ap length h.4 ∙ length-append h.0 h.1 in
     let here = ap length e.steps_are ∙ length-append e.after e.ends in
-    let ends = end_few entry.entry.name entry.outcome e.ends e.order in
+    let ends = end_few entry.entry entry.outcome e.ends e.order in
     let after = after_few epoch entry.entry.name entry.outcome e.after e.returns in
     let before = entries_few epoch earlier h.1 h.3 in
     let stamps : length (flat_map (stamps_for epoch) (entry ∷ earlier)) ≡ length (stamps_for epoch entry) + length (flat_map (stamps_for epoch) earlier) = length-append (stamps_for epoch entry) (flat_map (stamps_for epoch) earlier) in

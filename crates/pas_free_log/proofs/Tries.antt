@@ -1,7 +1,7 @@
 -- The end of one name: the tries, and what the last one came to.
 use Rattle.std.proofs.Common.{◌≡◌, ◌≢◌, ℕ, ◌/◌, ◌^◌, ◌<◌, ◌≤◌, ◌==◌, true, false, List, [], ◌∷◌, ◌++◌, Option, Some, None, inl, inr, refl, ap, sym, ◌∙◌, subst, arith, ◌-◌, if◌then◌else◌}
 use Rattle.std.specs.Prelude.{IfSome}
-use Rattle.std.proofs.lemmas.Bool.{cases_Bool, eqb-true, eq-eqb, ne_eqb, and_parts, and_from, false≢true}
+use Rattle.std.proofs.lemmas.Bool.{cases_Bool, eqb-true, eqb-false, eq-eqb, ne_eqb, not-true, and_parts, and_from, false≢true}
 use Rattle.pas_profile.specs.Directories.{IsKind, directory_read}
 use Rattle.pas_profile.specs.Lives.{live_word, is_live, turn_of, grains_of}
 use Rattle.pas_profile.specs.declared.directory.Directory.{Directory}
@@ -13,15 +13,18 @@ use Rattle.pas_profile.proofs.ClassFacts.{class_grains_positive, class_grains_le
 use Rattle.pas_profile.proofs.Codecs.{read_is, is_live-live_word, turn_of-live_word}
 use Rattle.pas_profile.specs.Runs.{address_of, grain_of}
 use Rattle.pas_steps.specs.declared.step.Made.{Made}
-use Rattle.pas_steps.specs.declared.step.Step.TheVariants.{Look, End}
+use Rattle.pas_steps.specs.declared.step.Step.TheVariants.{Look, End, EndSized}
 use Rattle.pas_steps.specs.Views.{View, known_epoch, or_zero}
-use Rattle.pas_steps.specs.Allowed.{IsEpochKnown}
+use Rattle.pas_steps.specs.Allowed.{IsEpochKnown, IsStepOf}
 use Rattle.pas_steps.specs.Agreement.{AgreesLife, AgreesEnd}
 use Rattle.pas_steps.specs.Desks.{Standing, made, Makes, CanCall, Adds}
 use Rattle.pas_steps.proofs.Adding.{adds_none, adds_step}
-use Rattle.pas_free_log.specs.Conditions.{IsNameOf, KnowsEpoch, IsRun}
-use Rattle.pas_free_log.specs.Endings.{guess_by, guess_by_kind, is_of, Tries, IsEndOf, IsOfRegion, EndsName}
+use Rattle.pas_free_log.specs.Conditions.{IsNameOf, IsEntryOf, KnowsEpoch, IsRun}
+use Rattle.pas_free_log.specs.Endings.{guess_by, guess_by_kind, is_of, Tries, TriesBy, IsRefusedBy, last_step, IsEndOf, IsOfRegion, EndsOne}
 use Rattle.pas_free_log.specs.declared.ending.Outcome.{Outcome}
+use Rattle.pas_free_log.specs.declared.ending.Outcome.TheVariants.{Refused}
+use Rattle.pas_free_log.specs.declared.log.Entry.{Entry}
+use Rattle.pas_free_log.specs.Logs.{entry_of, is_sized}
 use Rattle.pas_profile.specs.declared.event.Event.{Event}
 use Rattle.pas_steps.specs.Calls.{Leads, AnyView, nothing, Does}
 use Rattle.pas_steps.specs.Kinds.{Kinds, LookDeed, Ending, Only}
@@ -71,7 +74,7 @@ tried name deed first guess a before tries adds makes = adds_step adds makes (λ
 
 -- what the last try came to, by what its answer agrees with
 pub ends_by : {σ σ1 σ2 : Standing} (name : Name) (outcome : Outcome) (directory : Option Directory) (deed guess a : ℕ) (before : List Made) → directory ≡ directory_read deed → Tries name (guess_by (directory_read deed)) guess before → Adds σ σ1 (λ v l. KnowsEpoch v) (before ++ first_look name deed) → Makes σ1 σ2 (End name guess) a
-    → CanCall σ (λ v l. KnowsEpoch v) → ((v : View) → AgreesEnd σ.seat.profile (before ++ first_look name deed ++ v) name guess a → IsEndOf name guess a outcome × IsOfRegion σ.seat.profile name outcome) → EndsName name σ σ2 outcome directory
+    → CanCall σ (λ v l. KnowsEpoch v) → ((v : View) → AgreesEnd σ.seat.profile (before ++ first_look name deed ++ v) name guess a → IsEndOf (entry_of name) guess a outcome × IsOfRegion σ.seat.profile name outcome) → EndsOne (entry_of name) σ σ2 outcome directory
 ends_by {σ} {σ1} {σ2} name outcome directory deed guess a before tells tries adds makes can told =
     let all : Adds σ σ2 (λ v l. KnowsEpoch v) (made (End name guess) a ∷ before ++ first_look name deed) = tried name deed (guess_by (directory_read deed)) guess a before tries adds makes in
     let came = told can.view (all.agreed can.view can.whole can.stood can.met).0 in
@@ -82,6 +85,44 @@ ends_by {σ} {σ1} {σ2} name outcome directory deed guess a before tells tries 
       of_region = came.1;
       tells = tells;
     }
+
+-- ---- an entry with a room
+-- the one try
+pub tried_by_room : {σ σ1 σ2 : Standing} (name : Name) (deed room a : ℕ) → Adds σ σ1 (λ v l. KnowsEpoch v) (first_look name deed) → Makes σ1 σ2 (EndSized name room) a → Adds σ σ2 (λ v l. KnowsEpoch v) (made (EndSized name room) a ∷ first_look name deed)
+tried_by_room name deed room a adds makes = adds_step adds makes (λ v l stood met. met)
+
+pub ends_by_room : {σ σ1 σ2 : Standing} (entry : Entry) (outcome : Outcome) (directory : Option Directory) (deed a : ℕ) → is_sized entry ≡ true → directory ≡ directory_read deed → Adds σ σ1 (λ v l. KnowsEpoch v) (first_look entry.name deed) → Makes σ1 σ2 (EndSized entry.name entry.room) a
+    → CanCall σ (λ v l. KnowsEpoch v) → ((v : View) → AgreesEnd σ.seat.profile (first_look entry.name deed ++ v) entry.name (entry.room / 16) a → IsEndOf entry (entry.room / 16) a outcome × IsOfRegion σ.seat.profile entry.name outcome) → EndsOne entry σ σ2 outcome directory
+ends_by_room {σ} {σ1} {σ2} entry outcome directory deed a sized tells adds makes can told =
+    let all : Adds σ σ2 (λ v l. KnowsEpoch v) (made (EndSized entry.name entry.room) a ∷ first_look entry.name deed) = tried_by_room entry.name deed entry.room a adds makes in
+    let came = told can.view (all.agreed can.view can.whole can.stood can.met).0 in
+    record {
+      steps = made (EndSized entry.name entry.room) a ∷ first_look entry.name deed;
+      adds = all;
+      order = record {
+        deed = deed;
+        before = [];
+        guess = entry.room / 16;
+        answer = a;
+        tries = subst (λ t. TriesBy t entry (guess_by (directory_read deed)) (entry.room / 16) []) (sym sized) (refl, refl);
+        comes_to = came.0;
+        steps_are = ap (λ t. made (last_step t entry (entry.room / 16)) a ∷ first_look entry.name deed) (sym sized);
+      };
+      of_region = came.1;
+      tells = tells;
+    }
+
+some_bytes : (entry : Entry) → is_sized entry ≡ true → 0 < entry.room
+some_bytes entry sized = let ne = eqb-false entry.room 0 (not-true (entry.room == 0) sized) in omega (arith, ne)
+
+pub some_room : (f : Profile) (entry : Entry) → IsEntryOf f entry → is_sized entry ≡ true → 1 ≤ entry.room / 16
+some_room f entry of sized = let some = some_bytes entry sized in let whole = of.whole in omega (arith, some, whole)
+
+pub room_end : (f : Profile) (entry : Entry) → IsEntryOf f entry → is_sized entry ≡ true → IsStepOf f (EndSized entry.name entry.room)
+room_end f entry of sized = let within = of.within in ((of.name.page, of.name.aligned, of.name.turn, some_room f entry of sized, omega (arith, within)), of.whole)
+
+pub refused_by_room : (entry : Entry) (a : ℕ) → is_sized entry ≡ true → a ≢ live_word entry.name.turn (entry.room / 16) → IsEndOf entry (entry.room / 16) a (Refused a)
+refused_by_room entry a sized ne = (subst (λ t. IsRefusedBy t entry.name (entry.room / 16) a) (sym sized) ne, refl)
 
 -- ---- what a try tells
 pub ended_run : (f : Profile) (v : View) (name : Name) (guess a : ℕ) → 1 ≤ guess → a ≡ live_word name.turn guess → AgreesEnd f v name guess a → IsRun f (grain_of name) guess
@@ -136,14 +177,6 @@ no_event k e name guess a ne is =
     ap (λ t. if t then Some (Event.End k name e) else (if is_of name a then None else Some (Event.Reject k name (reason_of name a)))) (ne_eqb a (live_word name.turn guess) ne)
     ∙ ap (λ t. if t then None else Some (Event.Reject k name (reason_of name a))) is
 
-pub refusal : (k e : ℕ) (name : Name) (guess a : ℕ) → a ≢ live_word name.turn guess → is_of name a ≡ false → end_event k e name guess a ≡ Some (Event.Reject k name (reason_of name a))
-refusal k e name guess a ne is =
-    ap (λ t. if t then Some (Event.End k name e) else (if is_of name a then None else Some (Event.Reject k name (reason_of name a)))) (ne_eqb a (live_word name.turn guess) ne)
-    ∙ ap (λ t. if t then None else Some (Event.Reject k name (reason_of name a))) is
-
-pub success : (k e : ℕ) (name : Name) (guess a : ℕ) → a ≡ live_word name.turn guess → end_event k e name guess a ≡ Some (Event.End k name e)
-success k e name guess a live = ap (λ t. if t then Some (Event.End k name e) else (if is_of name a then None else Some (Event.Reject k name (reason_of name a)))) (eq-eqb a (live_word name.turn guess) live)
-
 -- a life word that isn't the name's is not that of its block
 pub not_live : (name : Name) (guess a : ℕ) → name.turn < 2 ^ 40 - 1 → is_of name a ≡ false → a ≢ live_word name.turn guess
 not_live name guess a turn is live =
@@ -151,7 +184,7 @@ not_live name guess a turn is live =
     false≢true (sym is ∙ is_of_name name a (ap is_live live ∙ is_live-live_word name.turn guess) (ap turn_of live ∙ turn_of-live_word name.turn guess small))
 
 -- ---- the steps before the last try
-idle_look : (name : Name) (deed : ℕ) → AreIdle (first_look name deed)
+pub idle_look : (name : Name) (deed : ℕ) → AreIdle (first_look name deed)
 idle_look name deed = record {
   kinds = (refl, tt);
   does = λ f. leads_idly f (LookDeed ∷ []) refl (first_look name deed) (refl, tt);

@@ -17,6 +17,8 @@ pub record IsNameOf (f : Profile) (name : Name) : Type 0 where
 -- .. and so may that of an entry
 pub record IsEntryOf (f : Profile) (entry : Entry) : Type 0 where
   pub name : IsNameOf f entry.name
+  pub whole : entry.room % 16 ≡ 0
+  pub within : entry.room ≤ 4096 * f.pages
 
 -- the actor read the epoch
 abbrev pub KnowsEpoch : View → Type 0

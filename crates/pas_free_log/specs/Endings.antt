@@ -11,8 +11,13 @@ use Rattle.pas_profile.specs.declared.word.Word.TheVariants as Word
 use Rattle.pas_profile.specs.Runs.{address_of, grain_of}
 use Rattle.pas_steps.specs.Desks.{Standing, Adds, made}
 use Rattle.pas_steps.specs.declared.step.Made.{Made}
-use Rattle.pas_steps.specs.declared.step.Step.TheVariants.{Look, End}
+use Rattle.pas_steps.specs.declared.step.Step.{Step}
+use Rattle.pas_steps.specs.declared.step.Step.TheVariants.{Look, End, EndSized}
+use Rattle.pas_steps.specs.Events.{reason_of, sized_reason}
+use Rattle.pas_profile.specs.declared.event.Why.{Why}
 use Rattle.pas_free_log.specs.Conditions.{KnowsEpoch, IsRun}
+use Rattle.pas_free_log.specs.Logs.{is_sized}
+use Rattle.pas_free_log.specs.declared.log.Entry.{Entry}
 use Rattle.pas_free_log.specs.declared.ending.Outcome.{Outcome}
 use Rattle.pas_free_log.specs.declared.ending.Outcome.TheVariants.{Ended, Refused}
 
@@ -40,21 +45,44 @@ Tries name first guess steps =
     ((guess ≡ first) × (steps ≡ []))
     ⊎ ((a : ℕ) × (a ≢ live_word name.turn first) × (is_of name a ≡ true) × (guess ≡ grains_of a) × (steps ≡ made (End name first) a ∷ []))
 
+-- .. of an entry. One with a room has none, and the length is that of its room
+abbrev pub TriesBy : Bool → Entry → ℕ → ℕ → List Made → Type 0
+TriesBy true entry first guess steps = (guess ≡ entry.room / 16) × (steps ≡ [])
+TriesBy false entry first guess steps = Tries entry.name first guess steps
+
+-- the last try: an entry with a room has its event by a step with this room, and another one by a step with a length
+abbrev pub last_step : Bool → Entry → ℕ → Step
+last_step true entry guess = EndSized entry.name entry.room
+last_step false entry guess = End entry.name guess
+
+-- the life word isn't that of a block that the last try ends
+abbrev pub IsRefusedBy : Bool → Name → ℕ → ℕ → Type 0
+IsRefusedBy true name guess a = a ≢ live_word name.turn guess
+IsRefusedBy false name guess a = is_of name a ≡ false
+
 -- what the last try came to, which was made with this length and read this life word
-abbrev pub IsEndOf : Name → ℕ → ℕ → Outcome → Type 0
-IsEndOf name guess a (Ended grains) = (a ≡ live_word name.turn guess) × (grains ≡ guess)
-IsEndOf name guess a (Refused read) = (is_of name a ≡ false) × (read ≡ a)
+abbrev pub IsEndOf : Entry → ℕ → ℕ → Outcome → Type 0
+IsEndOf entry guess a (Ended grains) = (a ≡ live_word entry.name.turn guess) × (grains ≡ guess)
+IsEndOf entry guess a (Refused read) = IsRefusedBy (is_sized entry) entry.name guess a × (read ≡ a)
+
+-- why it was refused
+abbrev pub reason_by : Bool → Entry → ℕ → Why
+reason_by true entry read = sized_reason entry.name entry.room read
+reason_by false entry read = reason_of entry.name read
+
+abbrev pub reason_for : Entry → ℕ → Why
+reason_for entry read = reason_by (is_sized entry) entry read
 
 -- The steps of an end: a look at the deed word of the name's page, and one try or two, each with exactly this name. The first one is made with
--- the length that this deed word tells.
-pub record EndSteps (name : Name) (outcome : Outcome) (steps : List Made) : Type 0 where
+-- the room of the entry, or else with the length that this deed word tells.
+pub record EndSteps (entry : Entry) (outcome : Outcome) (steps : List Made) : Type 0 where
   pub deed : ℕ
   pub before : List Made
   pub guess : ℕ
   pub answer : ℕ
-  pub tries : Tries name (guess_by (directory_read deed)) guess before
-  pub comes_to : IsEndOf name guess answer outcome
-  pub steps_are : steps ≡ made (End name guess) answer ∷ before ++ (made (Look (Word.Deed (address_of name / 4096))) deed ∷ [])
+  pub tries : TriesBy (is_sized entry) entry (guess_by (directory_read deed)) guess before
+  pub comes_to : IsEndOf entry guess answer outcome
+  pub steps_are : steps ≡ made (last_step (is_sized entry) entry guess) answer ∷ before ++ (made (Look (Word.Deed (address_of entry.name / 4096))) deed ∷ [])
 
 -- a block that ended lies in the region
 abbrev pub IsOfRegion : Profile → Name → Outcome → Type 0
@@ -62,9 +90,9 @@ IsOfRegion f name (Ended grains) = IsRun f (grain_of name) grains
 IsOfRegion f name (Refused read) = Unit {0}
 
 -- the directory is what the deed word of the name's page told
-pub record EndsName (name : Name) (desk desk' : Standing) (outcome : Outcome) (directory : Option Directory) : Type 0 where
+pub record EndsOne (entry : Entry) (desk desk' : Standing) (outcome : Outcome) (directory : Option Directory) : Type 0 where
   pub steps : List Made
   pub adds : Adds desk desk' (λ v l. KnowsEpoch v) steps
-  pub order : EndSteps name outcome steps
-  pub of_region : IsOfRegion desk.seat.profile name outcome
+  pub order : EndSteps entry outcome steps
+  pub of_region : IsOfRegion desk.seat.profile entry.name outcome
   pub tells : directory ≡ directory_read order.deed

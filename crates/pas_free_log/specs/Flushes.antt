@@ -8,7 +8,7 @@ use Rattle.pas_profile.specs.declared.word.Word.TheVariants as Word
 use Rattle.pas_profile.specs.declared.event.Event.{Event}
 use Rattle.pas_profile.specs.Runs.{grain_of}
 use Rattle.pas_steps.specs.Views.{View, known_epoch, epoch_of}
-use Rattle.pas_steps.specs.Events.{reason_of, events_by}
+use Rattle.pas_steps.specs.Events.{events_by}
 use Rattle.pas_steps.specs.Calls.{nothing, Does, Calls}
 use Rattle.pas_steps.specs.Kinds.{Only}
 use Rattle.pas_steps.specs.Desks.{Standing, made}
@@ -19,7 +19,7 @@ use Rattle.pas_steps.specs.Clear.{IsClear}
 use Rattle.pas_free_log.specs.Conditions.{MayEnd}
 use Rattle.pas_free_log.specs.Stamps.{stamps_by, pages_met, stamps_with}
 use Rattle.pas_free_log.specs.Frames.{ending, freeing}
-use Rattle.pas_free_log.specs.Endings.{EndSteps}
+use Rattle.pas_free_log.specs.Endings.{reason_for, EndSteps}
 use Rattle.pas_free_log.specs.Returns.{RunSteps}
 use Rattle.pas_free_log.specs.Noted.{AreRanges, noted_by}
 use Rattle.pas_free_log.specs.declared.log.Entry.{Entry}
@@ -35,12 +35,12 @@ pub record Settled : Type 0 where
   pub directory : Option Directory
 
 -- its one event, by an actor that knows this epoch. The reason of a refusal is told by the life word that was read
-abbrev pub event_for : ℕ → ℕ → Name → Outcome → Event
-event_for k epoch name (Ended grains) = Event.End k name epoch
-event_for k epoch name (Refused read) = Event.Reject k name (reason_of name read)
+abbrev pub event_for : ℕ → ℕ → Entry → Outcome → Event
+event_for k epoch entry (Ended grains) = Event.End k entry.name epoch
+event_for k epoch entry (Refused read) = Event.Reject k entry.name (reason_for entry read)
 
 abbrev pub shown_for : ℕ → ℕ → Settled → Event
-shown_for k epoch settled = event_for k epoch settled.entry.name settled.outcome
+shown_for k epoch settled = event_for k epoch settled.entry settled.outcome
 
 -- each page of a block that ended is stamped once, and no page of a name that was refused
 abbrev pub stamps_by_outcome : ℕ → Name → Outcome → List (ℕ × ℕ)
@@ -62,7 +62,7 @@ AfterEnd name (Refused read) steps = steps ≡ []
 -- the steps for one entry
 pub record EntrySteps (settled : Settled) (steps : List Made) : Type 0 where
   pub ends : List Made
-  pub order : EndSteps settled.entry.name settled.outcome ends
+  pub order : EndSteps settled.entry settled.outcome ends
   pub directory : settled.directory ≡ directory_read order.deed
   pub after : List Made
   pub returns : AfterEnd settled.entry.name settled.outcome after
@@ -78,7 +78,7 @@ pub record EndsEntry (entry : Entry) (desk desk' : Standing) (run : Option Ended
   pub calls : Calls desk desk' MayEnd (Does nothing) steps
   pub kinds : Only ending steps
   pub order : EntrySteps record { entry = entry; outcome = outcome; directory = directory } steps
-  pub event : (v : View) → events_by desk.seat.actor v steps ≡ event_for desk.seat.actor (epoch_of v) entry.name outcome ∷ []
+  pub event : (v : View) → events_by desk.seat.actor v steps ≡ event_for desk.seat.actor (epoch_of v) entry outcome ∷ []
   pub stamps : (v : View) → stamps_by v steps ≡ stamps_by_outcome (epoch_of v) entry.name outcome
 
 -- the runs that are noted once these names were settled: those of the large blocks that ended, in order, behind the ones noted before, as far as 64

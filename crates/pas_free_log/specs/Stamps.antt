@@ -3,7 +3,7 @@ use Rattle.std.specs.Prelude.{ℕ, zero, suc, ◌+◌, ◌-◌, ◌/◌, ◌==�
 use Rattle.pas_steps.specs.Views.{View, epoch_of}
 use Rattle.pas_steps.specs.declared.step.Made.{Made}
 use Rattle.pas_steps.specs.declared.step.Step.{Step}
-use Rattle.pas_steps.specs.declared.step.Step.TheVariants.{Look, Deed, Back, Take, Put, Give, End, TakeRight, Offer, Park, Unpark, Stamp, Hint, Tick, Unback, Unhint}
+use Rattle.pas_steps.specs.declared.step.Step.TheVariants.{Look, Deed, Back, Take, Put, Give, End, EndSized, TakeRight, Offer, Park, Unpark, Stamp, Hint, Tick, Unback, Unhint}
 
 abbrev pub stamped_by : Step → ℕ → List (ℕ × ℕ) → List (ℕ × ℕ)
 stamped_by (Look word) epoch stamps = stamps
@@ -13,6 +13,7 @@ stamped_by (Take page word mask) epoch stamps = stamps
 stamped_by (Put page word mask) epoch stamps = stamps
 stamped_by (Give block) epoch stamps = stamps
 stamped_by (End name guess) epoch stamps = stamps
+stamped_by (EndSized name room) epoch stamps = stamps
 stamped_by (TakeRight page directory) epoch stamps = stamps
 stamped_by (Offer page directory) epoch stamps = stamps
 stamped_by (Park page) epoch stamps = stamps

@@ -3,9 +3,11 @@ ghost use Rattle.std.specs.Prelude.{◌≡◌, ◌≤◌, true, false, IfSome, M
 ghost use Rattle.pas_profile.specs.Lives.{grains_of};
 ghost use Rattle.pas_profile.specs.Directories.{IsKind};
 ghost use Rattle.pas_steps.specs.Desks.{CanCall};
-ghost use Rattle.pas_free_log.specs.Conditions.{IsNameOf, KnowsEpoch};
-ghost use Rattle.pas_free_log.specs.Endings.{guess_by, is_of, EndsName};
+ghost use Rattle.pas_free_log.specs.Conditions.{IsNameOf, IsEntryOf, KnowsEpoch};
+ghost use Rattle.pas_free_log.specs.Endings.{guess_by, is_of, EndsOne};
+ghost use Rattle.pas_free_log.specs.Logs.{entry_of, is_sized};
 
+use crate::log::Entry;
 use pas_profile::classes::class_size;
 use pas_profile::limits::{GRAIN_BYTES, PAGE_BYTES};
 use pas_profile::{Directory, Kind, Name, Word, life_word, read_deed, read_life};
@@ -53,11 +55,11 @@ fn length_in(name: Name, read: u64) -> Option<u32>
 ///
 /// The first try is made with a length that is guessed by the deed of the name's page. Where it reads a live block of the name's turn with
 /// another length, a second try is made with that length.
-pub fn end_named<D: Desk>(desk: &mut D, name: Name) -> (Outcome, Option<Directory>)
+fn end_named<D: Desk>(desk: &mut D, name: Name) -> (Outcome, Option<Directory>)
     requires name { IsNameOf (D.standing desk.old).seat.profile name }
     requires room { 1 ≤ D.spare_of desk.old }
     requires can { CanCall (D.standing desk.old) (λ v l. KnowsEpoch v) }
-    ensures ends { EndsName name (D.standing desk.old) (D.standing desk.new) result.0 result.1 }
+    ensures ends { EndsOne (entry_of name) (D.standing desk.old) (D.standing desk.new) result.0 result.1 }
     ensures home { D.home desk.new ≡ D.home desk.old }
 {
     let deed = desk.look(Word::Deed(name.address.0 / PAGE_BYTES));
@@ -75,5 +77,41 @@ pub fn end_named<D: Desk>(desk: &mut D, name: Name) -> (Outcome, Option<Director
         (Outcome::Ended { grains }, directory)
     } else {
         (Outcome::Refused { read }, directory)
+    }
+}
+
+/// Ends the block of the entry's name where it has the entry's room, and answers what came of it, with the directory that the deed word of the name's
+/// page told. Two steps, and one event.
+fn end_by_room<D: Desk>(desk: &mut D, entry: Entry) -> (Outcome, Option<Directory>)
+    requires entry { IsEntryOf (D.standing desk.old).seat.profile entry }
+    requires sized { is_sized entry ≡ true }
+    requires room { 1 ≤ D.spare_of desk.old }
+    requires can { CanCall (D.standing desk.old) (λ v l. KnowsEpoch v) }
+    ensures ends { EndsOne entry (D.standing desk.old) (D.standing desk.new) result.0 result.1 }
+    ensures home { D.home desk.new ≡ D.home desk.old }
+{
+    let deed = desk.look(Word::Deed(entry.name.address.0 / PAGE_BYTES));
+    let directory = read_deed(deed);
+    let read = desk.end_sized(entry.name, entry.room);
+    let length = entry.room / GRAIN_BYTES;
+    if read == life_word(entry.name.turn, length, true) {
+        (Outcome::Ended { grains: length }, directory)
+    } else {
+        (Outcome::Refused { read }, directory)
+    }
+}
+
+/// Ends the block of the entry's name: where it has the entry's room, or whatever its length, where the entry has none.
+pub fn end_logged<D: Desk>(desk: &mut D, entry: Entry) -> (Outcome, Option<Directory>)
+    requires entry { IsEntryOf (D.standing desk.old).seat.profile entry }
+    requires room { 1 ≤ D.spare_of desk.old }
+    requires can { CanCall (D.standing desk.old) (λ v l. KnowsEpoch v) }
+    ensures ends { EndsOne entry (D.standing desk.old) (D.standing desk.new) result.0 result.1 }
+    ensures home { D.home desk.new ≡ D.home desk.old }
+{
+    if entry.room == 0 {
+        end_named(desk, entry.name)
+    } else {
+        end_by_room(desk, entry)
     }
 }

@@ -6,7 +6,7 @@ ghost use Rattle.pas_steps.specs.Clear.{IsClear};
 ghost use Rattle.pas_free_log.specs.Conditions.{IsEntryOf, MayEnd};
 ghost use Rattle.pas_free_log.specs.Flushes.{EndsEntry, Flushes};
 
-use crate::ending::{Outcome, end_named};
+use crate::ending::{Outcome, end_logged};
 use crate::log::{Entry, FreeLog};
 use crate::noting::{EndedRun, large_run, note};
 use crate::returning::return_run;
@@ -25,7 +25,7 @@ fn end_entry<D: Desk>(desk: &mut D, entry: Entry) -> Option<EndedRun>
     ensures spare { D.spare_of desk.new + 1 ≡ D.spare_of desk.old }
     ensures home { D.home desk.new ≡ D.home desk.old }
 {
-    let (outcome, directory) = end_named(desk, entry.name);
+    let (outcome, directory) = end_logged(desk, entry);
     match outcome {
         Outcome::Ended { grains } => {
             return_run(desk, entry.name.address.0 / GRAIN_BYTES, grains);

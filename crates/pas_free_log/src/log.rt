@@ -1,15 +1,16 @@
 //! The log.
 ghost use Rattle.std.specs.Prelude.{◌≡◌, ◌++◌, ◌∷◌, ◌<◌, ◌↔◌, [], IsTrue, true, false, length};
-ghost use Rattle.pas_free_log.specs.Logs.{entries_in, entry_of};
+ghost use Rattle.pas_free_log.specs.Logs.{entries_in, entry_of, sized_entry};
 
 use arrayvec::ArrayVec;
 use pas_profile::Name;
 use pas_profile::limits::MOST_LOGGED;
 
-/// What a log holds of a free: the name of the block.
+/// What a log holds of a free: the name of the block, and the room that it was freed with, or 0 where none was named.
 #[derive(Clone, Copy, Debug, Default, PartialEq, Eq, Drop)]
 pub struct Entry {
     pub name: Name,
+    pub room: u32,
 }
 
 /// At most 64 entries of blocks that were freed, in the order in which they came. It takes no memory.
@@ -41,10 +42,28 @@ impl FreeLog {
         ensures added { result ≡ true → entries_in self.new ≡ entries_in self.old ++ entry_of name ∷ [] }
         ensures full { result ≡ false → entries_in self.new ≡ entries_in self.old }
     {
+        self.push(Entry { name, room: 0 })
+    }
+
+    /// Adds an entry of the name with this room at the end. False exactly where 64 are there, and the log is unchanged then.
+    pub fn add_sized(&mut self, name: Name, room: u32) -> bool
+        ensures room { IsTrue result ↔ (length (entries_in self.old) < 64) }
+        ensures added { result ≡ true → entries_in self.new ≡ entries_in self.old ++ sized_entry name room ∷ [] }
+        ensures full { result ≡ false → entries_in self.new ≡ entries_in self.old }
+    {
+        self.push(Entry { name, room })
+    }
+
+    /// Adds the entry at the end, where fewer than 64 are there.
+    pub fn push(&mut self, entry: Entry) -> bool
+        ensures room { IsTrue result ↔ (length (entries_in self.old) < 64) }
+        ensures added { result ≡ true → entries_in self.new ≡ entries_in self.old ++ entry ∷ [] }
+        ensures full { result ≡ false → entries_in self.new ≡ entries_in self.old }
+    {
         if self.entries.is_full() {
             return false;
         }
-        self.entries.push(Entry { name });
+        self.entries.push(entry);
         true
     }
 

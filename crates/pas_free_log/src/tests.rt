@@ -21,7 +21,11 @@ fn a_log_has_64_entries(rt: HostRuntime) -> Result<(), Fail> {
     assert!(rt; !log.add(name(64)));
     assert_eq!(rt; log.len(), 64);
     let entries = log.as_slice();
-    assert!(rt; entries.first() == Some(&Entry { name: name(0) }));
-    assert!(rt; entries.last() == Some(&Entry { name: name(63) }));
+    let entry = |grain| Entry {
+        name: name(grain),
+        room: 0,
+    };
+    assert!(rt; entries.first() == Some(&entry(0)));
+    assert!(rt; entries.last() == Some(&entry(63)));
     Ok(())
 }

@@ -10,8 +10,6 @@ pub mod laws;
 mod lines;
 mod operation;
 mod requests;
-#[cfg(test)]
-mod tests;
 pub mod trace;
 
 pub use trace::trace_of;

@@ -8,8 +8,6 @@ pub mod memory;
 pub mod real;
 mod schedule;
 pub mod sure;
-#[cfg(test)]
-mod tests;
 mod unread;
 pub mod whole;
 

@@ -8,8 +8,6 @@
 mod compare;
 mod count;
 mod search;
-#[cfg(test)]
-mod tests;
 
 pub use compare::any_and_not;
 pub use count::count_ones;

@@ -1,13 +1,13 @@
 -- A large block: the run that was found is given, or the refusal has its reason.
 use Rattle.pas_steps.proofs.SpareRoom.{Spares}
-use Rattle.std.proofs.Common.{◌≡◌, ℕ, ◌+◌, ◌≤◌, true, false, List, ◌++◌, length-append, Some, None, Ok, Err, refl, ap, sym, subst, arith, ◌/◌}
+use Rattle.std.proofs.Common.{◌≡◌, ℕ, ◌+◌, ◌≤◌, true, false, List, ◌++◌, length-append, Option, Some, None, Result, MatchResult, Ok, Err, inl, inr, refl, ap, sym, ◌∙◌, subst, arith, ◌/◌}
 use Rattle.pas_profile.specs.declared.directory.Directory.{Directory}
 use Rattle.pas_profile.specs.declared.event.NoRoom.{NoRoom}
 use Rattle.pas_profile.specs.declared.name.Block.{Block}
 use Rattle.pas_profile.specs.declared.profile.Profile.{Profile}
 use Rattle.pas_scan.specs.Runs.{large_directory}
 use Rattle.pas_steps.specs.Calls.{Leads, Calls, AnyView, nothing, Does}
-use Rattle.pas_steps.specs.Desks.{Seat, Standing, CanCall}
+use Rattle.pas_steps.specs.Desks.{Seat, Standing, CanCall, triples}
 use Rattle.pas_steps.specs.Kinds.{looking, kind_of, is_in, Only}
 use Rattle.pas_steps.specs.Frames.{IsScan, OnlyScans}
 use Rattle.pas_steps.specs.declared.step.Step.{Step}
@@ -16,12 +16,16 @@ use Rattle.pas_steps.specs.Views.{View, has_right}
 use Rattle.pas_steps.specs.declared.step.Made.{Made}
 use Rattle.pas_steps.proofs.Adding.{Tells, adds_call, legal_after}
 use Rattle.pas_steps.proofs.Called.{call_then, next_call}
-use Rattle.pas_steps.proofs.Calls.{leads_then, leads_idly, does_then}
-use Rattle.pas_large.specs.Allocates.{GaveLarge, AllocatesLarge}
+use Rattle.pas_steps.proofs.Calls.{leads_then, leads_idly, does_then, still_clear}
+use Rattle.pas_large.specs.Allocates.{GaveLarge, IsAllocatedLarge, IsRefusedLarge, AllocatesByScan, AllocatesLarge}
+use Rattle.pas_large.specs.Named.{ClaimsNamed}
+use Rattle.pas_large.specs.Telling.{IsToldLarge}
+use Rattle.pas_large.proofs.Named.{some_none}
+use Rattle.std.proofs.lemmas.List.{append-nil}
 use Rattle.pas_large.specs.Claims.{in_span, HasPages}
 use Rattle.pas_large.specs.Finds.{MayFind, FindRoom, Finds}
 use Rattle.pas_large.specs.Gives.{give_steps, GivesRun}
-use Rattle.pas_large.specs.Pages.{GotPages}
+use Rattle.pas_large.specs.Pages.{GotPages, OnlyDeedsShow}
 use Rattle.pas_large.specs.Refusals.{IsReason, Refuses}
 use Rattle.pas_large.proofs.Claims.{has_got, room_after}
 use Rattle.std.specs.Prelude.{Bool}
@@ -31,20 +35,15 @@ use Rattle.pas_steps.specs.Lists.{Whole, part}
 use Rattle.pas_steps.proofs.Apart.{only_both}
 use Rattle.pas_scan.specs.Usable.{DeedReadHere}
 use Rattle.pas_large.proofs.ToldReasons.{none_after, true_reason}
-use Rattle.pas_large.proofs.Pages.{undone}
+use Rattle.pas_large.proofs.Pages.{undone, knew_before}
 use Rattle.pas_large.proofs.Finds.{may_find}
 
--- what the search leaves
-pub record Ready (d : Directory) (n first : ℕ) (v w : View) : Type 0 where
-  pub got : GotPages (in_span first (first + n)) d v w
-  pub lacked : (p : ℕ) → in_span first (first + n) p ≡ true → has_right v p ≡ false
-
 module _ {σ σ1 : Standing} (d : Directory) (n first : ℕ) (tells : Bool) (find : Finds d n tells σ σ1 (Some first)) where
-  found_call : Calls σ σ1 (MayFind d) (Ready d n first) find.steps
-  found_call = record { adds = find.adds; leads = record { from = λ v met agreed. record { got = find.outcome.got.from v met agreed; lacked = find.outcome.lacked.from v met agreed } } }
+  found_call : Calls σ σ1 (MayFind d) (GotPages (in_span first (first + n)) d) find.steps
+  found_call = record { adds = find.adds; leads = find.outcome.got }
 
-  has_pages : (v : View) → MayFind d v → Ready d n first v (find.steps ++ v) → HasPages d first (first + n) (find.steps ++ v)
-  has_pages v met ready = has_got d first (first + n) met.clear ready.got
+  has_pages : (v : View) → MayFind d v → GotPages (in_span first (first + n)) d v (find.steps ++ v) → HasPages d first (first + n) (find.steps ++ v)
+  has_pages v met got = has_got d first (first + n) met.clear got
 
   pub can_give_run : CanCall σ (λ v l. MayFind d v) → CanCall σ1 (λ v l. HasPages d first (first + n) v)
   can_give_run can = next_call found_call can has_pages
@@ -64,11 +63,11 @@ scans_only steps scans = always_map (λ m before. IsScan m.step) (λ m before. i
 scans_lead : (f : Profile) (steps : List Made) → OnlyScans steps → Leads f AnyView (Does nothing) steps
 scans_lead f steps scans = leads_idly f looking refl steps (scans_only steps scans)
 
-pub allocates : {σ σ1 σ2 : Standing} (heap n first : ℕ) (tells : Bool) (find : Finds (large_directory heap) n tells σ σ1 (Some first)) (block : Block) → GivesRun (large_directory heap) first n block σ1 σ2 → AllocatesLarge heap n tells σ σ2 (Ok block)
+pub allocates : {σ σ1 σ2 : Standing} (heap n first : ℕ) (tells : Bool) (find : Finds (large_directory heap) n tells σ σ1 (Some first)) (block : Block) → GivesRun (large_directory heap) first n block σ1 σ2 → AllocatesByScan heap n tells σ σ2 (Ok block)
 allocates heap n first tells find block give =
     let d = large_directory heap in
     let calls = call_then (GaveLarge d first n block) (found_call d n first tells find) give.calls (has_pages d n first tells find)
-    (λ v met ready gave. record { does = undone (λ g. in_span first (first + n) (g / 256)) (in_span first (first + n)) ready.got.apart ready.lacked ready.got.does gave.does; apart = ready.got.apart; deeds = gave.deeds; turn = gave.turn }) in
+    (λ v met got gave. record { does = undone (λ g. in_span first (first + n) (g / 256)) (in_span first (first + n)) got.apart got.lacked got.does gave.does; apart = got.apart; deeds = gave.deeds; turn = gave.turn }) in
     record {
       searched = find.steps;
       after = _;
@@ -83,19 +82,21 @@ allocates heap n first tells find block give =
         backs = give.backs;
         back_kinds = give.back_kinds;
         back_pages = give.back_pages;
+        back_order = give.back_order;
         back_few = give.back_few;
         word = give.word;
         answer = give.answer;
         block_is = give.block_is;
         left = give.left;
         left_kinds = give.left_kinds;
+        left_order = give.left_order;
         after_is = refl;
         few = give.few;
         gave = calls.leads;
       };
     }
 
-pub refuses_large : {σ σ1 σ2 : Standing} (heap n : ℕ) (tells : Bool) (find : Finds (large_directory heap) n tells σ σ1 None) (why : NoRoom) → (tells ≡ true → Tells σ2) → (tells ≡ true → (v : View) (l : Whole) → σ.stands v l → part σ.seat.actor l ≡ v) → Refuses (large_directory heap) σ1 σ2 why → AllocatesLarge heap n tells σ σ2 (Err why)
+pub refuses_large : {σ σ1 σ2 : Standing} (heap n : ℕ) (tells : Bool) (find : Finds (large_directory heap) n tells σ σ1 None) (why : NoRoom) → (tells ≡ true → Tells σ2) → (tells ≡ true → (v : View) (l : Whole) → σ.stands v l → part σ.seat.actor l ≡ v) → Refuses (large_directory heap) σ1 σ2 why → AllocatesByScan heap n tells σ σ2 (Err why)
 refuses_large {σ} {σ1} heap n tells find why laws parts refused =
     let same : σ1.seat.profile ≡ σ.seat.profile = ap (λ (s : Seat). s.profile) find.adds.seat_is in
     let f : Profile = σ.seat.profile in
@@ -125,4 +126,108 @@ refuses_large {σ} {σ1} heap n tells find why laws parts refused =
         reason = reason;
         still = leads_then (Does nothing) find.outcome.still (scans_lead f refused.steps refused.scans) (λ v w met does. tt) (λ v w u a b. does_then a b);
       };
+    }
+
+-- ---- the run that the door named
+module _ {σ σ1 : Standing} (d : Directory) (n first : ℕ) (found : Option ℕ) (claim : ClaimsNamed d n found σ σ1 (Some first)) where
+  named_call : Calls σ σ1 (MayFind d) (GotPages (in_span first (first + n)) d) claim.steps
+  named_call = record { adds = claim.adds; leads = claim.outcome.got }
+
+  named_pages : (v : View) → MayFind d v → GotPages (in_span first (first + n)) d v (claim.steps ++ v) → HasPages d first (first + n) (claim.steps ++ v)
+  named_pages v met got = has_got d first (first + n) met.clear got
+
+  pub can_give_named : CanCall σ (λ v l. MayFind d v) → CanCall σ1 (λ v l. HasPages d first (first + n) v)
+  can_give_named can = next_call named_call can named_pages
+
+pub region_named : {σ σ1 : Standing} (d : Directory) (n first : ℕ) (found : Option ℕ) → ClaimsNamed d n found σ σ1 (Some first) → first + n ≤ σ1.seat.profile.pages + 1
+region_named d n first found claim = subst (λ (s : Seat). first + n ≤ s.profile.pages + 1) (sym claim.adds.seat_is) claim.outcome.of_region.1
+
+-- room for so many events is left
+pub room_named : {σ σ1 : Standing} (d : Directory) (n k : ℕ) {found result : Option ℕ} (claim : ClaimsNamed d n found σ σ1 result) (spare spare1 : ℕ) → CanCall σ (λ v l. FindRoom σ.seat.profile d k spare v) → Spares σ spare → Spares σ1 spare1 → k ≤ spare1
+room_named d n k claim spare spare1 can law law1 = let room = room_after {spare = spare} {spare' = spare1} k claim.adds (may_find can) claim.shows can.met.room law law1 in omega (arith, room)
+
+-- the actor may find a run again
+pub find_again : (f : Profile) (d : Directory) (v : View) (xs : List Made) → MayFind d v → Agreed f v xs → Does nothing v (xs ++ v) → MayFind d (xs ++ v)
+find_again f d v xs met agreed does = record { lacks = λ p knows. does.right p ∙ met.lacks p (knew_before f d p xs v agreed knows); clear = still_clear does met.clear }
+
+pub can_scan : {σ σ1 : Standing} (d : Directory) (n k : ℕ) {found : Option ℕ} (claim : ClaimsNamed d n found σ σ1 None) (spare spare1 : ℕ) → CanCall σ (λ v l. FindRoom σ.seat.profile d k spare v) → Spares σ spare → Spares σ1 spare1 → CanCall σ1 (λ v l. FindRoom σ1.seat.profile d k spare1 v)
+can_scan {σ} {σ1} d n k claim spare spare1 can law law1 =
+    let xs = claim.steps in let met = can.met.may in
+    let agreed = claim.adds.agreed can.view can.whole can.stood met in
+    record {
+      view = xs ++ can.view;
+      whole = triples σ.seat.actor xs ++ can.whole;
+      stood = claim.adds.added can.view can.whole can.stood met;
+      met = subst (λ (s : Seat). FindRoom s.profile d k spare1 (xs ++ can.view)) (sym claim.adds.seat_is) (record {
+        may = find_again σ.seat.profile d can.view xs met agreed (claim.outcome.still.from can.view met agreed);
+        room = room_after {spare = spare} {spare' = spare1} k claim.adds (may_find can) claim.shows can.met.room law law1;
+      });
+    }
+
+pub serves_named : {σ σ1 σ2 : Standing} (heap n first : ℕ) (found : Option ℕ) (tells : Bool) (claim : ClaimsNamed (large_directory heap) n found σ σ1 (Some first)) (block : Block) → GivesRun (large_directory heap) first n block σ1 σ2 → AllocatesLarge heap n found tells σ σ2 (Ok block)
+serves_named heap n first found tells claim block give =
+    let d = large_directory heap in
+    let calls = call_then (GaveLarge d first n block) (named_call d n first found claim) give.calls (named_pages d n first found claim)
+    (λ v met got gave. record { does = undone (λ g. in_span first (first + n) (g / 256)) (in_span first (first + n)) got.apart got.lacked got.does gave.does; apart = got.apart; deeds = gave.deeds; turn = gave.turn }) in
+    let k = length-append (give.left ++ (give_steps first block give.word give.answer ++ give.backs)) claim.steps in let a = give.few in let b = claim.outcome.few in
+    record {
+      tried = claim.steps;
+      rest = _;
+      adds = calls.adds;
+      old = claim.old;
+      shows = claim.shows;
+      few = omega (arith, k, a, b);
+      told = λ none. absurd (some_none first found claim.outcome.named none);
+      outcome = inl (
+        block,
+        refl,
+        record {
+          first = first;
+          holds_it = claim.outcome;
+          backs = give.backs;
+          back_kinds = give.back_kinds;
+          back_pages = give.back_pages;
+          back_order = give.back_order;
+          back_few = give.back_few;
+          word = give.word;
+          answer = give.answer;
+          block_is = give.block_is;
+          left = give.left;
+          left_kinds = give.left_kinds;
+          left_order = give.left_order;
+          after_is = refl;
+          few = omega (arith, k, a, b);
+          gave = calls.leads;
+        },
+      );
+    }
+
+pub scans_after : {σ σ1 σ2 : Standing} (heap n : ℕ) (found : Option ℕ) (tells : Bool) (claim : ClaimsNamed (large_directory heap) n found σ σ1 None) (answer : Result Block NoRoom) → AllocatesByScan heap n tells σ1 σ2 answer → AllocatesLarge heap n found tells σ σ2 answer
+scans_after {σ} {σ1} heap n found tells claim answer scan =
+    let d = large_directory heap in
+    let same : σ1.seat.profile ≡ σ.seat.profile = ap (λ (s : Seat). s.profile) claim.adds.seat_is in
+    let k = length-append (scan.after ++ scan.searched) claim.steps in let a = scan.few in let b = claim.outcome.few in let e = ap (λ (x : Profile). x.pages) same in
+    record {
+      tried = claim.steps;
+      rest = scan.after ++ scan.searched;
+      adds = adds_call claim.adds scan.adds (λ v l stood met. let agreed = claim.adds.agreed v l stood met in find_again σ.seat.profile d v claim.steps met agreed (claim.outcome.still.from v met agreed));
+      old = claim.old;
+      shows = claim.shows;
+      few = omega (arith, k, a, b, e);
+      told = λ none t v l stood met.
+          let no_steps = claim.unnamed none in
+          let stands = subst (λ xs. σ1.stands (xs ++ v) (triples σ.seat.actor xs ++ l)) no_steps (claim.adds.added v l stood met) in
+          let told = scan.told t v l stands met in
+          subst (λ xs. IsToldLarge σ.seat.profile d n l (triples σ.seat.actor ((scan.after ++ scan.searched) ++ xs) ++ l) answer) (sym no_steps)
+          (subst (λ xs. IsToldLarge σ.seat.profile d n l (triples σ.seat.actor xs ++ l) answer) (sym (append-nil (scan.after ++ scan.searched)))
+          (subst (λ (s : Seat). IsToldLarge s.profile d n l (triples s.actor (scan.after ++ scan.searched) ++ l) answer) claim.adds.seat_is told));
+      outcome = inr (record {
+        misses = claim.outcome;
+        searched = scan.searched;
+        after = scan.after;
+        rest_is = refl;
+        kinds = scan.kinds;
+        shows = subst (λ f. OnlyDeedsShow f scan.searched) same scan.shows;
+        outcome = subst (λ f. MatchResult answer (IsAllocatedLarge f d n scan.searched scan.after) (IsRefusedLarge f d n scan.searched scan.after)) same scan.outcome;
+      });
     }

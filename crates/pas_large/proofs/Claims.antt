@@ -1,7 +1,7 @@
 -- The claim of the pages of a run, one page more, and how they are left.
 use Rattle.pas_steps.specs.Clear.{IsClear}
 use Rattle.pas_steps.proofs.SpareRoom.{Spares, spare_falls}
-use Rattle.std.proofs.Common.{◌≡◌, ◌≢◌, ℕ, ◌+◌, ◌/◌, ◌-◌, ◌^◌, ◌<◌, ◌≤◌, ◌==◌, nat_le, nat_lt, Bool, true, false, ◌||◌, if◌then◌else◌, List, [], ◌∷◌, ◌++◌, inl, inr, refl, ap, sym, ◌∙◌, arith, true≢false, ◌%◌, ◌&&◌, length, subst, append_assoc, length-append, Some, None}
+use Rattle.std.proofs.Common.{◌≡◌, ◌≢◌, ℕ, ◌+◌, ◌/◌, ◌-◌, ◌^◌, ◌<◌, ◌≤◌, ◌==◌, ◌*◌, min, nat_le, nat_lt, Bool, true, false, ◌||◌, if◌then◌else◌, List, [], ◌∷◌, ◌++◌, inl, inr, refl, ap, sym, ◌∙◌, arith, true≢false, ◌%◌, ◌&&◌, length, subst, append_assoc, length-append, Some, None}
 use Rattle.std.proofs.lemmas.Bool.{and_parts, cases_Bool, cases_eq, eqb-true}
 use Rattle.std.proofs.lemmas.Bool.Decides.{nat_tests}
 use Rattle.pas_profile.specs.declared.directory.Directory.{Directory}
@@ -12,18 +12,18 @@ use Rattle.pas_steps.specs.Calls.{Kept, Gained, Lost, now, nothing, Does, Calls,
 use Rattle.pas_steps.specs.Frames.{IsOnPage, OnlyOn}
 use Rattle.pas_steps.specs.Past.{Since}
 use Rattle.pas_steps.specs.Evidence.{KeptHere}
-use Rattle.pas_steps.specs.Views.{View, holds, has_right, KnowsDeed}
+use Rattle.pas_steps.specs.Views.{View, Stays, grain_move, holds, has_right, KnowsDeed}
 use Rattle.pas_steps.specs.declared.step.Step.{Step}
 use Rattle.pas_steps.specs.declared.step.Made.{Made}
 use Rattle.pas_steps.specs.declared.step.Step.TheVariants.{Deed, Park}
 use Rattle.pas_steps.proofs.Calls.{does_as, does_then, does_after_nothing, does_none}
-use Rattle.pas_steps.proofs.Kept.{right_on, holds_on_page, knows_still}
+use Rattle.pas_steps.proofs.Kept.{right_on, on_grain, holds_on_page, knows_still}
 use Rattle.pas_steps.proofs.Past.{always_both, always_map, once_later}
 use Rattle.pas_steps.proofs.Sets.{both_fates}
 use Rattle.pas_scan.specs.Usable.{ParksNotHere, MakesNoDeedHere, LeftAlone}
-use Rattle.pas_large.specs.Pages.{of_pages, GotPages, MayClaim, MayPutAndLeave, PutsAndLeaves, DeedsOn, OnlyDeedsShow, taking_pages, claiming, LosesPage, BreaksPage, WinsPage, ClaimsPage}
-use Rattle.pas_large.specs.Claims.{in_span, MayClaimPages, HasRunRoom, AloneFrom, DeedsIn, HoldsSpan, FailsAt, ClaimsPages, HasPages, Releases, ClaimsRun, LacksAll}
-use Rattle.pas_large.proofs.Pages.{MadeHere, and_true, since_more, undone, no_deeds, shows_both, shows_taking, after_more}
+use Rattle.pas_large.specs.Pages.{of_pages, GotPages, MayClaim, MayPutAndLeave, PutsAndLeaves, DeedsOn, OnlyDeedsShow, taking_pages, claiming, claiming_old, LosesPage, BreaksPage, WinsPage, ClaimsPage}
+use Rattle.pas_large.specs.Claims.{in_span, MayClaimPages, HasRunRoom, AloneFrom, DeedsIn, HoldsSpan, FailsAt, ClaimsPages, HasPages, Releases, ClaimsRun, LacksAll, StaysPut}
+use Rattle.pas_large.proofs.Pages.{MadeHere, and_true, since_more, undone, no_deeds, knew_before, shows_both, shows_taking, after_more}
 use Rattle.pas_profile.specs.Profiles.{IsPage}
 use Rattle.pas_profile.specs.declared.profile.Profile.{Profile}
 use Rattle.pas_rights.specs.Puts.{masked}
@@ -70,28 +70,49 @@ got_none : (d : Directory) (pages : ℕ → Bool) (v : View) → ((p : ℕ) → 
 got_none d pages v none does = record {
   does = does_as (of_pages pages Gained) does (λ g. inl (ap (λ t. if t then Gained else Kept) (sym (none (g / 256))))) (λ q. ap (λ t. if t then Gained else Kept) (sym (none q))) (λ q h. h);
   apart = λ g h. absurd (true≢false (sym h ∙ none (g / 256)));
+  lacked = λ p h. absurd (true≢false (sym h ∙ none p));
   deeds = λ p h. absurd (true≢false (sym h ∙ none p));
 }
 
-got_both : {v w u : View} (d : Directory) (a b c : ℕ → Bool) → ((p : ℕ) → (a p || b p) ≡ c p) → GotPages a d v w → GotPages b d w u → ((p : ℕ) → KnowsDeed p d w → KnowsDeed p d u) → GotPages c d v u
+pub got_both : {v w u : View} (d : Directory) (a b c : ℕ → Bool) → ((p : ℕ) → (a p || b p) ≡ c p) → GotPages a d v w → GotPages b d w u → ((p : ℕ) → KnowsDeed p d w → KnowsDeed p d u) → GotPages c d v u
 got_both {v} {w} {u} d a b c same first second knows = record {
   does = does_as (of_pages c Gained) (does_then first.does second.does) (λ g. inl (both_fates Gained (a (g / 256)) (b (g / 256)) (c (g / 256)) refl (same (g / 256)))) (λ q. both_fates Gained (a q) (b q) (c q) refl (same q)) (λ q h. h);
   apart = λ g h. elim (cases_Bool (a (g / 256))) [
     | inl here ↦ first.apart g here
     | inr other ↦ sym (ap (λ t. now (if t then Gained else Kept) (holds v g)) other) ∙ sym (first.does.held g) ∙ second.apart g (ap (λ t. t || b (g / 256)) (sym other) ∙ same (g / 256) ∙ h)
   ];
+  lacked = λ p h. elim (cases_Bool (a p)) [
+    | inl here ↦ first.lacked p here
+    | inr other ↦ sym (ap (λ t. now (if t then Gained else Kept) (has_right v p)) other) ∙ sym (first.does.right p) ∙ second.lacked p (ap (λ t. t || b p) (sym other) ∙ same p ∙ h)
+  ];
   deeds = λ p h. elim (cases_Bool (a p)) [ inl here ↦ knows p (first.deeds p here) | inr other ↦ second.deeds p (ap (λ t. t || b p) (sym other) ∙ same p ∙ h) ];
 }
 
 got_still : {v w u : View} (d : Directory) (a : ℕ → Bool) → GotPages a d v w → Does nothing w u → ((p : ℕ) → KnowsDeed p d w → KnowsDeed p d u) → GotPages a d v u
-got_still d a first second knows = record { does = does_then first.does second; apart = first.apart; deeds = λ p h. knows p (first.deeds p h) }
+got_still d a first second knows = record { does = does_then first.does second; apart = first.apart; lacked = first.lacked; deeds = λ p h. knows p (first.deeds p h) }
 
 pub got_after : {v w u : View} (a : ℕ → Bool) (d : Directory) → Does nothing v w → GotPages a d w u → GotPages a d v u
-got_after a d first second = record { does = does_after_nothing (of_pages a Gained) first second.does; apart = λ g h. sym (first.held g) ∙ second.apart g h; deeds = second.deeds }
+got_after a d first second = record { does = does_after_nothing (of_pages a Gained) first second.does; apart = λ g h. sym (first.held g) ∙ second.apart g h; lacked = λ p h. sym (first.right p) ∙ second.lacked p h; deeds = second.deeds }
 
 -- ---- all grains of a page
 abbrev pub full : Mask4
 full = record { 0 = (2 ^ 64 - 1) ∷ (2 ^ 64 - 1) ∷ (2 ^ 64 - 1) ∷ (2 ^ 64 - 1) ∷ [] }
+
+-- ---- grains of pages that aren't of the span stay put
+abbrev pub StaysHere : ℕ → Made → List Made → Type 0
+StaysHere g m before = grain_move m.step m.answer g ≡ Stays
+
+pub steady_on : (q g : ℕ) (ys : List Made) → OnlyOn q ys → g / 256 ≢ q → StaysPut g ys
+steady_on q g ys on ne = always_map (λ m before. IsOnPage q m.step) (StaysHere g) ys (λ m before h. on_grain q m.step m.answer g h ne) on
+
+pub steady_both : (g : ℕ) (ys xs : List Made) → StaysPut g ys → StaysPut g xs → StaysPut g (ys ++ xs)
+steady_both g ys xs = always_both (StaysHere g) (StaysHere g) ys xs (λ m before h. h)
+
+pub out_of : (first end p q : ℕ) → in_span first end p ≡ false → first ≤ q → q < end → p ≢ q
+out_of first end p q out low high e = true≢false (sym (ap (in_span first end) e ∙ span_in first end q low high) ∙ out)
+
+pub narrower : (first stop end p : ℕ) → stop ≤ end → in_span first end p ≡ false → in_span first stop p ≡ false
+narrower first stop end p le out = grind (arith, nat_tests)
 
 -- ---- steps on one page leave another alone
 not_parked : (q p : ℕ) (s : Step) → p ≢ q → IsOnPage q s → s ≡ Park p → ⊥
@@ -102,7 +123,7 @@ not_deeded : (q p : ℕ) (s : Step) (x : Directory) → p ≢ q → IsOnPage q s
 not_deeded q p s x ne (IsOnPage.Deeds d) e = let same : q ≡ p = cc in ne (sym same)
 not_deeded q p s x ne on e = cc
 
-alone_on : (q p : ℕ) (ys xs : List Made) → OnlyOn q ys → p ≢ q → LeftAlone p xs → LeftAlone p (ys ++ xs)
+pub alone_on : (q p : ℕ) (ys xs : List Made) → OnlyOn q ys → p ≢ q → LeftAlone p xs → LeftAlone p (ys ++ xs)
 alone_on q p ys xs on ne alone = record {
   right = right_on q p ys xs on ne ∙ alone.right;
   none = λ g at. holds_on_page q g ys xs on (λ e. ne (sym at ∙ e)) ∙ alone.none g at;
@@ -117,11 +138,11 @@ full_set g lt = four_words (2 ^ 64 - 1) (2 ^ 64 - 1) (2 ^ 64 - 1) (2 ^ 64 - 1) (
 pub run_page : (f : Profile) (first end page : ℕ) → 1 ≤ first → end ≤ f.pages + 1 → first ≤ page → page < end → IsPage f page
 run_page f first end page some region low high = (omega (arith, some, low), omega (arith, region, high))
 
-pub claims_fewer : (first stop end : ℕ) → stop ≤ end → (v : View) → MayClaimPages first end v → MayClaimPages first stop v
-claims_fewer first stop end le v met = record { lacks = λ p low high. met.lacks p low (omega (arith, high, le)); clear = met.clear }
+pub claims_fewer : (d : Directory) (first stop end : ℕ) → stop ≤ end → (v : View) → MayClaimPages d first end v → MayClaimPages d first stop v
+claims_fewer d first stop end le v met = record { lacks = λ p low high. met.lacks p low (omega (arith, high, le)); clear = met.clear }
 
-abbrev pub may_claim : {σ : Standing} {f : Profile} {first end n spare : ℕ} (stop : ℕ) → stop ≤ end → CanCall σ (λ v l. HasRunRoom f first end n spare v) → CanCall σ (λ v l. MayClaimPages first stop v)
-may_claim {first = first} {end = end} stop le can = record { view = can.view; whole = can.whole; stood = can.stood; met = claims_fewer first stop end le can.view can.met.may }
+abbrev pub may_claim : {σ : Standing} {f : Profile} {d : Directory} {first end n spare : ℕ} (stop : ℕ) → stop ≤ end → CanCall σ (λ v l. HasRunRoom f d first end n spare v) → CanCall σ (λ v l. MayClaimPages d first stop v)
+may_claim {d = d} {first = first} {end = end} stop le can = record { view = can.view; whole = can.whole; stood = can.stood; met = claims_fewer d first stop end le can.view can.met.may }
 
 -- the room for unknown deeds is kept, and the room for n events besides
 pub room_after : {σ σ' : Standing} {C : View → Whole → Type 0} {xs : List Made} {spare spare' : ℕ} (n : ℕ) → Adds σ σ' C xs → (can : CanCall σ C) → OnlyDeedsShow σ.seat.profile xs → n + unknown_pages σ.seat.profile can.view ≤ spare → Spares σ spare → Spares σ' spare'
@@ -130,26 +151,28 @@ room_after {σ} {xs = xs} {spare = spare} {spare' = spare'} n adds can shows roo
     let falls = spare_falls spare spare' (length (events_by σ.seat.actor can.view xs)) adds can law law' refl in let shown = shows σ.seat.actor can.view (adds.agreed can.view can.whole can.stood can.met) in omega (arith, falls, shown, room)
 
 -- the pages below this one were claimed, and it and those above it were left alone
-pub record ClaimedBelow (d : Directory) (first page : ℕ) (desk desk' : Standing) : Type 0 where
-  pub so_far : ClaimsPages d first page desk desk' page
+pub record ClaimedBelow (deeds : Bool) (d : Directory) (first page : ℕ) (desk desk' : Standing) : Type 0 where
+  pub so_far : ClaimsPages deeds d first page desk desk' page
   pub alone : (before : List Made) → AloneFrom first before → AloneFrom page (so_far.steps ++ before)
 
-pub pages_none : {σ : Standing} (d : Directory) (first : ℕ) → ClaimedBelow d first first σ σ
-pages_none d first = record {
+pub pages_none : {σ : Standing} (deeds : Bool) (d : Directory) (first : ℕ) → ClaimedBelow deeds d first first σ σ
+pages_none deeds d first = record {
   alone = λ before alone. alone;
   so_far = record {
     steps = [];
     adds = adds_none;
     kinds = tt;
+    old = λ none. tt;
     few = omega arith;
-    deeds = tt;
+    made = tt;
     shows = λ k v agreed. omega arith;
     span = (omega arith, omega arith);
     got = record { from = λ v met agreed. got_none d (in_span first first) v (span_none first) (does_none v) };
     holding = λ before alone. record { right = λ p low high. absurd (omega (arith, low, high)); whole = λ p word low high lt. absurd (omega (arith, low, high)) };
     lacks = λ before none p out. none p;
     alone = λ before alone p ge. alone p (omega (arith, ge));
-    failed = λ lt. absurd (omega (arith, lt));
+    steady = λ g out. tt;
+    failed = λ lt may. absurd (omega (arith, lt));
   };
 }
 
@@ -160,29 +183,30 @@ deeds_join : (d : Directory) (first stop end page : ℕ) (ys xs : List Made) →
 deeds_join d first stop end page ys xs low high le on within = always_both (MadeHere d page) (MadeIn d first end) ys xs (λ m before h p e same z. let its = h p e same z in let at = its.1 in (its.0, omega (arith, at, low), omega (arith, at, high))) on
     (always_map (MadeIn d first stop) (MadeIn d first end) xs (λ m before h p e same z. let its = h p e same z in let lt = its.2 in (its.0, its.1, omega (arith, lt, le))) within)
 
-module _ {σ σ1 : Standing} (d : Directory) (first end page : ℕ) (high : page < end) (below : ClaimedBelow d first page σ σ1) where
-  abbrev so_far : ClaimsPages d first page σ σ1 page
+module _ {σ σ1 : Standing} (deeds : Bool) (d : Directory) (first end page : ℕ) (high : page < end) (below : ClaimedBelow deeds d first page σ σ1) where
+  abbrev so_far : ClaimsPages deeds d first page σ σ1 page
   so_far = below.so_far
 
   abbrev xs : List Made
   xs = so_far.steps
 
-  so_adds : Adds σ σ1 (λ v l. MayClaimPages first end v) xs
-  so_adds = adds_under so_far.adds (λ v l stood met. claims_fewer first page end (omega (arith, high)) v met)
+  so_adds : Adds σ σ1 (λ v l. MayClaimPages d first end v) xs
+  so_adds = adds_under so_far.adds (λ v l stood met. claims_fewer d first page end (omega (arith, high)) v met)
 
-  so_got : (v : View) → MayClaimPages first end v → Agreed σ.seat.profile v xs → GotPages (in_span first page) d v (xs ++ v)
-  so_got v met agreed = so_far.got.from v (claims_fewer first page end (omega (arith, high)) v met) agreed
+  so_got : (v : View) → MayClaimPages d first end v → Agreed σ.seat.profile v xs → GotPages (in_span first page) d v (xs ++ v)
+  so_got v met agreed = so_far.got.from v (claims_fewer d first page end (omega (arith, high)) v met) agreed
 
-  page_may : (v : View) → MayClaimPages first end v → Agreed σ.seat.profile v xs → MayClaim page (xs ++ v)
+  page_may : (v : View) → MayClaimPages d first end v → Agreed σ.seat.profile v xs → MayClaim d page (xs ++ v)
   page_may v met agreed = let got = so_got v met agreed in record {
-    lacks = got.does.right page ∙ ap (λ t. now (if t then Gained else Kept) (has_right v page)) (span_past first page page (omega arith)) ∙ met.lacks page so_far.span.0 high;
+    lacks = λ knows.
+        got.does.right page ∙ ap (λ t. now (if t then Gained else Kept) (has_right v page)) (span_past first page page (omega arith)) ∙ met.lacks page so_far.span.0 high (knew_before σ.seat.profile d page xs v agreed knows);
     clear = record { on = λ q. got.does.clear q (met.clear.on q) };
   }
 
-  pub page_call : CanCall σ (λ v l. MayClaimPages first end v) → CanCall σ1 (λ v l. MayClaim page v)
+  pub page_call : CanCall σ (λ v l. MayClaimPages d first end v) → CanCall σ1 (λ v l. MayClaim d page v)
   page_call can = can_call so_adds can (λ v l stood met. page_may v met (so_adds.agreed v l stood met))
 
-  module _ {σ2 : Standing} {claimed : Claimed} (h : ClaimsPage d page σ1 σ2 claimed) where
+  module _ {σ2 : Standing} {claimed : Claimed} (h : ClaimsPage deeds d page σ1 σ2 claimed) where
     abbrev ys : List Made
     ys = h.steps
 
@@ -192,20 +216,22 @@ module _ {σ σ1 : Standing} (d : Directory) (first end page : ℕ) (high : page
     turn_alone : (before : List Made) → AloneFrom first before → AloneFrom (page + 1) ((ys ++ xs) ++ before)
     turn_alone before free p ge = subst (LeftAlone p) (sym (all_at before)) (alone_on page p ys (xs ++ before) h.on (λ e. absurd (omega (arith, e, ge))) (below.alone before free p (omega (arith, ge))))
 
-    turned : (stop : ℕ) → (page ≤ stop) × (stop ≤ end) → Leads σ.seat.profile (MayClaimPages first end) (GotPages (in_span first stop) d) (ys ++ xs) → ((before : List Made) → AloneFrom first before → HoldsSpan first stop ((ys ++ xs) ++ before))
-        → ((before : List Made) → LacksAll before → (p : ℕ) → in_span first stop p ≡ false → has_right ((ys ++ xs) ++ before) p ≡ false) → (stop < end → FailsAt σ.seat.profile d first stop (ys ++ xs)) → ClaimsPages d first end σ σ2 stop
-    turned stop at got holding lacks failed = let low = so_far.span.0 in let above = at.0 in record {
+    turned : (stop : ℕ) → (page ≤ stop) × (stop ≤ end) → Leads σ.seat.profile (MayClaimPages d first end) (GotPages (in_span first stop) d) (ys ++ xs) → ((before : List Made) → AloneFrom first before → HoldsSpan first stop ((ys ++ xs) ++ before))
+        → ((before : List Made) → LacksAll before → (p : ℕ) → in_span first stop p ≡ false → has_right ((ys ++ xs) ++ before) p ≡ false) → (stop < end → deeds ≡ true → FailsAt σ.seat.profile d first stop (ys ++ xs)) → length ys ≤ 6 * (stop - page) + 21 * (min (stop + 1) end - stop) → ClaimsPages deeds d first end σ σ2 stop
+    turned stop at got holding lacks failed few = let low = so_far.span.0 in let above = at.0 in record {
       steps = ys ++ xs;
-      adds = adds_call {D = λ v l. MayClaim page v} so_adds h.adds (λ v l stood met. page_may v met (so_adds.agreed v l stood met));
+      adds = adds_call {D = λ v l. MayClaim d page v} so_adds h.adds (λ v l stood met. page_may v met (so_adds.agreed v l stood met));
       kinds = only_both claiming ys xs h.kinds so_far.kinds;
-      few = let n = length-append ys xs in let a = h.few in let b = so_far.few in omega (arith, n, a, b, low, high, above);
-      deeds = deeds_join d first page end page ys xs low high (omega (arith, high)) h.deeds so_far.deeds;
+      old = λ none. only_both claiming_old ys xs (h.old none) (so_far.old none);
+      few = let n = length-append ys xs in let b = so_far.few in omega (arith, n, few, b, low, high, above);
+      made = deeds_join d first page end page ys xs low high (omega (arith, high)) h.made so_far.made;
       shows = shows_both σ.seat.profile ys xs (subst (λ (s : Seat). OnlyDeedsShow s.profile ys) so_adds.seat_is h.shows) so_far.shows;
       span = (omega (arith, low, above), at.1);
       got = got;
       holding = holding;
       lacks = lacks;
-      alone = λ before free p ge. turn_alone before free p (omega (arith, ge, above));
+      alone = λ before free p ge. turn_alone before free p (omega (arith, ge, above, high));
+      steady = λ g out. steady_both g ys xs (steady_on page g ys h.on (out_of first end (g / 256) page out low high)) (so_far.steady g (narrower first page end (g / 256) (omega (arith, high)) out));
       failed = failed;
     }
 
@@ -216,7 +242,7 @@ module _ {σ σ1 : Standing} (d : Directory) (first end page : ℕ) (high : page
     }
 
     -- it was lost or broken
-    stopped : Leads σ.seat.profile (MayClaim page) (Does nothing) h.steps → ((before : List Made) → has_right before page ≡ false → has_right (h.steps ++ before) page ≡ false) → FailsAt σ.seat.profile d first page (h.steps ++ so_far.steps) → ClaimsPages d first end σ σ2 page
+    stopped : Leads σ.seat.profile (MayClaim d page) (Does nothing) h.steps → ((before : List Made) → has_right before page ≡ false → has_right (h.steps ++ before) page ≡ false) → (deeds ≡ true → FailsAt σ.seat.profile d first page (h.steps ++ so_far.steps)) → ClaimsPages deeds d first end σ σ2 page
     stopped still lack failed = turned page (omega arith, omega (arith, high))
         (record {
           from = λ v met agreed.
@@ -229,19 +255,20 @@ module _ {σ σ1 : Standing} (d : Directory) (first end page : ℕ) (high : page
           | inr ne ↦ right_on page p ys (xs ++ before) h.on ne ∙ old
         ])
         (λ lt. failed)
+        (let few = h.few in omega (arith, few, high))
 
-    pub lost_turn : LosesPage σ1.seat.profile d page h.steps → ClaimsPages d first end σ σ2 page
+    pub lost_turn : LosesPage deeds σ1.seat.profile d page h.steps → ClaimsPages deeds d first end σ σ2 page
     lost_turn lost =
-        let loses = subst (λ (s : Seat). LosesPage s.profile d page ys) so_adds.seat_is lost in
-        stopped loses.still loses.lacks (λ before v free usable agreed. inl (after_more (LostHere d page) ys xs before (loses.lost (xs ++ before) v (below.alone before free page (omega arith)) (usable_later d page xs before usable) (subst (Agreed σ.seat.profile v) (all_at before) agreed))))
+        let loses = subst (λ (s : Seat). LosesPage deeds s.profile d page ys) so_adds.seat_is lost in
+        stopped loses.still loses.lacks (λ may before v free usable agreed. inl (after_more (LostHere d page) ys xs before (loses.lost may (xs ++ before) v (below.alone before free page (omega arith)) (usable_later d page xs before usable) (subst (Agreed σ.seat.profile v) (all_at before) agreed))))
 
-    pub broken_turn : BreaksPage σ1.seat.profile page h.steps → ClaimsPages d first end σ σ2 page
+    pub broken_turn : BreaksPage σ1.seat.profile d page h.steps → ClaimsPages deeds d first end σ σ2 page
     broken_turn broken =
-        let breaks = subst (λ (s : Seat). BreaksPage s.profile page ys) so_adds.seat_is broken in
-        stopped breaks.still breaks.lacks (λ before v free usable agreed. inr (after_more (BrokenHere page) ys xs before (breaks.broken (xs ++ before) (below.alone before free page (omega arith)))))
+        let breaks = subst (λ (s : Seat). BreaksPage s.profile d page ys) so_adds.seat_is broken in
+        stopped breaks.still breaks.lacks (λ may before v free usable agreed. inr (after_more (BrokenHere page) ys xs before (breaks.broken (xs ++ before) (below.alone before free page (omega arith)))))
 
     -- it was won
-    won_claims : end ≡ page + 1 → WinsPage σ1.seat.profile d page h.steps → ClaimsPages d first end σ σ2 (page + 1)
+    won_claims : end ≡ page + 1 → WinsPage σ1.seat.profile d page h.steps → ClaimsPages deeds d first end σ σ2 (page + 1)
     won_claims last won =
         let wins = subst (λ (s : Seat). WinsPage s.profile d page ys) so_adds.seat_is won in let low = so_far.span.0 in
         turned (page + 1) (omega arith, omega (arith, high))
@@ -263,10 +290,11 @@ module _ {σ σ1 : Standing} (d : Directory) (first end page : ℕ) (high : page
         })
         (λ before none p out. let ne = not_in first page p low out in ap (λ s. has_right s p) (all_at before) ∙ right_on page p ys (xs ++ before) h.on ne ∙ so_far.lacks before none p (grind (arith, nat_tests)))
         (λ lt. absurd (omega (arith, lt, last)))
+        (let few = wins.few in omega (arith, few))
 
-pub won_turn : {σ σ1 σ2 : Standing} (d : Directory) (first page : ℕ) → ClaimedBelow d first page σ σ1 → (h : ClaimsPage d page σ1 σ2 Claimed.Whole) → ClaimedBelow d first (page + 1) σ σ2
+pub won_turn : {σ σ1 σ2 : Standing} (deeds : Bool) (d : Directory) (first page : ℕ) → ClaimedBelow deeds d first page σ σ1 → (h : ClaimsPage deeds d page σ1 σ2 Claimed.Whole) → ClaimedBelow deeds d first (page + 1) σ σ2
 unfolding won_claims turned
-won_turn d first page below h = record { so_far = won_claims d first (page + 1) page (omega arith) below h refl h.outcome; alone = turn_alone d first (page + 1) page (omega arith) below h }
+won_turn deeds d first page below h = record { so_far = won_claims deeds d first (page + 1) page (omega arith) below h refl h.outcome; alone = turn_alone deeds d first (page + 1) page (omega arith) below h }
 
 -- ---- the pages are left, one page more
 pub has_got : {v w : View} (d : Directory) (first stop : ℕ) → IsClear v → GotPages (in_span first stop) d v w → HasPages d first stop w
@@ -277,7 +305,7 @@ has_got {v} d first stop clear got = record {
   clear = record { on = λ q. got.does.clear q (clear.on q) };
 }
 
-pages_fewer : (d : Directory) (first stop end : ℕ) → stop ≤ end → (v : View) → HasPages d first end v → HasPages d first stop v
+pub pages_fewer : (d : Directory) (first stop end : ℕ) → stop ≤ end → (v : View) → HasPages d first end v → HasPages d first stop v
 pages_fewer d first stop end le v met = record {
   right = λ p is. met.right p (span_wider first stop end p le is);
   held = λ g is. met.held g (span_wider first stop end (g / 256) le is);
@@ -301,9 +329,10 @@ left_none d first = record {
   few = omega arith;
   lacks = λ before p none. none (span_none first p);
   alone = λ before p ge alone. alone;
+  steady = λ g out. tt;
 }
 
-on_full : (page g : ℕ) → masked page full g ≡ (page == g / 256)
+pub on_full : (page g : ℕ) → masked page full g ≡ (page == g / 256)
 on_full page g = ap (λ t. (page == g / 256) && t) (full_set (g % 256) (omega arith)) ∙ and_true (page == g / 256)
 
 module _ {σ σ1 : Standing} (d : Directory) (first end page : ℕ) (low : first ≤ page) (high : page < end) (so_far : Releases d first page σ σ1) where
@@ -341,54 +370,58 @@ left_more d first page low so_far h =
         | inr ne ↦ right_on page p ys (so_far.steps ++ before) h.on ne ∙ so_far.lacks before p (λ out. none (span_apart first page p ne out))
       ];
       alone = λ before p ge alone. subst (LeftAlone p) (sym (append_assoc ys so_far.steps before)) (alone_on page p ys (so_far.steps ++ before) h.on (λ e. absurd (omega (arith, e, ge))) (so_far.alone before p (omega (arith, ge)) alone));
+      steady = λ g out. steady_both g ys so_far.steps (steady_on page g ys h.on (out_of first (page + 1) (g / 256) page out low (omega arith))) (so_far.steady g (narrower first page (page + 1) (g / 256) (omega arith) out));
     }
 
 -- ---- the claim of a run
-pub run_claimed : {σ σ1 : Standing} (d : Directory) (first end stop : ℕ) → stop ≡ end → ClaimsPages d first end σ σ1 stop → ClaimsRun d first end σ σ1 None
-run_claimed {σ} {σ1} d first end stop e h =
-    let all = subst (ClaimsPages d first end σ σ1) e h in
+pub run_claimed : {σ σ1 : Standing} (deeds : Bool) (d : Directory) (first end stop : ℕ) → stop ≡ end → ClaimsPages deeds d first end σ σ1 stop → ClaimsRun deeds d first end σ σ1 None
+run_claimed {σ} {σ1} deeds d first end stop e h =
+    let all = subst (ClaimsPages deeds d first end σ σ1) e h in
     record {
       steps = all.steps;
       adds = all.adds;
       kinds = all.kinds;
-      few = let few = all.few in omega (arith, few);
-      deeds = all.deeds;
+      old = all.old;
+      made = all.made;
       shows = all.shows;
-      outcome = record { got = all.got; holding = all.holding };
+      steady = all.steady;
+      outcome = record { few = (let few = all.few in omega (arith, few)); got = all.got; holding = all.holding; lacks = all.lacks; alone = λ before free p ge. all.alone before free p (omega (arith, ge)) };
     }
 
-module _ {σ σ1 : Standing} (d : Directory) (first end stop : ℕ) (ne : stop ≢ end) (h : ClaimsPages d first end σ σ1 stop) where
+module _ {σ σ1 : Standing} (deeds : Bool) (d : Directory) (first end stop : ℕ) (ne : stop ≢ end) (h : ClaimsPages deeds d first end σ σ1 stop) where
   before_end : stop < end
   before_end = let le = h.span.1 in omega (arith, ne, le)
 
-  may_release : (v : View) → MayClaimPages first end v → GotPages (in_span first stop) d v (h.steps ++ v) → HasPages d first stop (h.steps ++ v)
+  may_release : (v : View) → MayClaimPages d first end v → GotPages (in_span first stop) d v (h.steps ++ v) → HasPages d first stop (h.steps ++ v)
   may_release v met got = has_got d first stop met.clear got
 
-  got_call : Calls σ σ1 (MayClaimPages first end) (GotPages (in_span first stop) d) h.steps
+  got_call : Calls σ σ1 (MayClaimPages d first end) (GotPages (in_span first stop) d) h.steps
   got_call = record { adds = h.adds; leads = h.got }
 
-  pub release_call : CanCall σ (λ v l. MayClaimPages first end v) → CanCall σ1 (λ v l. HasPages d first stop v)
+  pub release_call : CanCall σ (λ v l. MayClaimPages d first end v) → CanCall σ1 (λ v l. HasPages d first stop v)
   release_call can = next_call got_call can may_release
 
-  pub run_failed : {σ2 : Standing} → Releases d first stop σ1 σ2 → ClaimsRun d first end σ σ2 (Some stop)
+  pub run_failed : {σ2 : Standing} → Releases d first stop σ1 σ2 → ClaimsRun deeds d first end σ σ2 (Some stop)
   run_failed r =
       let calls = call_then (Does nothing) got_call r.calls may_release
-      (λ v met got lost. undone (λ g. in_span first stop (g / 256)) (in_span first stop) got.apart (λ p is. let at = in_parts first stop p is in let lt = at.1 in let last = before_end in met.lacks p at.0 (omega (arith, lt, last))) got.does lost) in
+      (λ v met got lost. undone (λ g. in_span first stop (g / 256)) (in_span first stop) got.apart got.lacked got.does lost) in
       record {
         steps = r.steps ++ h.steps;
         adds = calls.adds;
         kinds = only_both claiming r.steps h.steps (only_within giving_back claiming r.steps refl r.kinds) h.kinds;
-        few = let n = length-append r.steps h.steps in let a = r.few in let b = h.few in let le = h.span.0 in omega (arith, n, a, b, le);
-        deeds = deeds_join d first end end stop r.steps h.steps h.span.0 before_end (omega arith) (no_deeds giving_back d stop r.steps refl r.kinds) h.deeds;
+        old = λ none. only_both claiming_old r.steps h.steps (only_within giving_back claiming_old r.steps refl r.kinds) (h.old none);
+        made = deeds_join d first end end stop r.steps h.steps h.span.0 before_end (omega arith) (no_deeds giving_back d stop r.steps refl r.kinds) h.made;
         shows = shows_both σ.seat.profile r.steps h.steps (shows_taking σ.seat.profile r.steps (only_within giving_back taking_pages r.steps refl r.kinds)) h.shows;
+        steady = λ g out. steady_both g r.steps h.steps (r.steady g (narrower first stop end (g / 256) h.span.1 out)) (h.steady g out);
         outcome = record {
           in_run = (h.span.0, before_end);
+          few = (let n = length-append r.steps h.steps in let a = r.few in let b = h.few in let le = h.span.0 in let lt = before_end in omega (arith, n, a, b, le, lt));
           still = calls.leads;
           lacks = λ before none p. ap (λ s. has_right s p) (append_assoc r.steps h.steps before) ∙ r.lacks (h.steps ++ before) p (λ out. h.lacks before none p out);
-          alone = λ before free p ge. subst (LeftAlone p) (sym (append_assoc r.steps h.steps before)) (r.alone (h.steps ++ before) p (omega (arith, ge)) (h.alone before free p ge));
-          failed = λ before v free usable agreed.
+          alone = λ before free p ge. subst (LeftAlone p) (sym (append_assoc r.steps h.steps before)) (r.alone (h.steps ++ before) p (omega (arith, ge)) (h.alone before free p (omega (arith, ge))));
+          failed = λ may before v free usable agreed.
               let mine : Agreed σ.seat.profile v (h.steps ++ before) = agreed_later σ.seat.profile v r.steps (h.steps ++ before) (subst (Agreed σ.seat.profile v) (append_assoc r.steps h.steps before) agreed) in
-              elim (h.failed before_end before v free usable mine) [
+              elim (h.failed before_end may before v free usable mine) [
                 | inl lost ↦ inl (once_later (λ m b. LostHere d stop m (b ++ before)) r.steps h.steps lost)
                 | inr broken ↦ inr (once_later (λ m b. BrokenHere stop m (b ++ before)) r.steps h.steps broken)
               ];

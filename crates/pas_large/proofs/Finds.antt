@@ -38,7 +38,7 @@ use Rattle.pas_large.specs.Telling.{IsUsableRun, IsLowestRun}
 use Rattle.pas_large.proofs.Told.{usable_told, has_unusable, fails_told}
 use Rattle.pas_large.specs.Finds.{MayFind, FindRoom, finding, Finds}
 use Rattle.pas_large.proofs.Pages.{shows_both, known_of}
-use Rattle.pas_large.proofs.Claims.{room_after, in_parts, got_after}
+use Rattle.pas_large.proofs.Claims.{room_after, got_after}
 
 -- ---- the search of runs so far: each run that begins below page `from` can't serve, and the pages from there to below `next` were read as usable
 pub record VainSoFar (d : Directory) (n from next : ℕ) (steps : List Made) : Type 0 where
@@ -48,17 +48,17 @@ pub record VainSoFar (d : Directory) (n from next : ℕ) (steps : List Made) : T
   pub usable : (page : ℕ) → from ≤ page → page < next → ReadUsable d page steps
   pub alone : AloneFrom from steps
 
-bad_later : (d : Directory) (n first : ℕ) (ys xs : List Made) → HasBad d n first xs → HasBad d n first (ys ++ xs)
+pub bad_later : (d : Directory) (n first : ℕ) (ys xs : List Made) → HasBad d n first xs → HasBad d n first (ys ++ xs)
 bad_later d n first ys xs h = (h.0, h.1, once_later (BadHere d h.0) ys xs h.2)
 
 -- a page that was read as not usable, on pages that the steps before left alone
-unusable_bad : (d : Directory) (n from first : ℕ) (ys xs : List Made) → AloneFrom from xs → from ≤ first → HasUnusable d n first ys → HasBad d n first (ys ++ xs)
+pub unusable_bad : (d : Directory) (n from first : ℕ) (ys xs : List Made) → AloneFrom from xs → from ≤ first → HasUnusable d n first ys → HasBad d n first (ys ++ xs)
 unusable_bad d n from first ys xs alone ge h =
     let low = h.1.0 in
     (h.0, h.1, once_map (UnusableHere d h.0) (BadHere d h.0) (ys ++ xs) (λ m b x. inl x) (unusable_before d h.0 ys xs (alone h.0 (omega (arith, ge, low))) h.2))
 
 -- looks at pages leave each page alone
-alone_looks : (p : ℕ) (ys xs : List Made) → Only page_looks ys → LeftAlone p xs → LeftAlone p (ys ++ xs)
+pub alone_looks : (p : ℕ) (ys xs : List Made) → Only page_looks ys → LeftAlone p xs → LeftAlone p (ys ++ xs)
 alone_looks p ys xs looks alone =
     let own = left_alone_by page_looks refl refl p ys looks in
     record {
@@ -105,9 +105,9 @@ module _ (f : Profile) (d : Directory) (n from next first : ℕ) (some : 1 ≤ f
   ]
 
   -- and its claim failed
-  module _ (page : ℕ) (zs : List Made) (fails : FailsRun f d first (first + n) page zs) (v : View) (agreed : Agreed f v (zs ++ (ys ++ xs))) where
+  module _ (page : ℕ) (zs : List Made) (fails : FailsRun true f d first (first + n) page zs) (v : View) (agreed : Agreed f v (zs ++ (ys ++ xs))) where
     failed : OnceAfter before (λ m b. LostHere d page m b ⊎ BrokenHere page m b) zs
-    failed = elim (fails.failed before v first_alone (all_usable page (fails.in_run.0, fails.in_run.1)) agreed) [
+    failed = elim (fails.failed refl before v first_alone (all_usable page (fails.in_run.0, fails.in_run.1)) agreed) [
       | inl lost ↦ once_map (λ m b. LostHere d page m (b ++ before)) (λ m b. LostHere d page m (b ++ before) ⊎ BrokenHere page m (b ++ before)) zs (λ m b x. inl x) lost
       | inr broken ↦ once_map (λ m b. BrokenHere page m (b ++ before)) (λ m b. LostHere d page m (b ++ before) ⊎ BrokenHere page m (b ++ before)) zs (λ m b x. inr x) broken
     ]
@@ -137,26 +137,26 @@ read_unknown : (f : Profile) (v : View) (p : ℕ) (s : Step) (a : ℕ) → Reads
 read_unknown f v p s a ReadsDeed.Looks agrees z known = known (sym (agrees.known known) ∙ z)
 read_unknown f v p s a (ReadsDeed.Deeds d) agrees z known = known (sym (agrees.known known) ∙ z)
 
-unknown : (f : Profile) (v : View) (p : ℕ) (xs : List Made) → Agreed f v xs → Once (NoDeedHere p) xs → known_deed v p ≢ 0 → ⊥
+pub unknown : (f : Profile) (v : View) (p : ℕ) (xs : List Made) → Agreed f v xs → Once (NoDeedHere p) xs → known_deed v p ≢ 0 → ⊥
 unknown f v p [] agreed h known = h
 unknown f v p (m ∷ more) agreed (inr h) known = unknown f v p more agreed.1 h known
 unknown f v p (m ∷ more) agreed (inl h) known = read_unknown f (more ++ v) p m.step m.answer h.0 agreed.0 h.1 (λ z. known (sym (deed_stays f more v p agreed.1 known) ∙ z))
 
 -- of a page that was read as usable the deed wasn't known, or as the directory's
-knew : (f : Profile) (d : Directory) (p : ℕ) (xs : List Made) (v : View) → Agreed f v xs → ReadUsable d p xs → (known_deed v p ≡ 0) ⊎ KnowsDeed p d v
+pub knew : (f : Profile) (d : Directory) (p : ℕ) (xs : List Made) (v : View) → Agreed f v xs → ReadUsable d p xs → (known_deed v p ≡ 0) ⊎ KnowsDeed p d v
 knew f d p xs v agreed usable = elim (cases_eq (known_deed v p) 0) [
   | inl none ↦ inl none
   | inr some ↦ elim usable [ inl bare ↦ absurd (unknown f v p xs agreed bare some) | inr whole ↦ inr (sym (deed_stays f xs v p agreed some) ∙ known_of f d p xs v agreed whole.of) ]
 ]
 
 -- ---- deeds
-abbrev DeedOf : Directory → ℕ → (ℕ → Type 0) → Made → List Made → Type 0
+abbrev pub DeedOf : Directory → ℕ → (ℕ → Type 0) → Made → List Made → Type 0
 DeedOf d n Chosen m before = (page : ℕ) (e : Directory) → m.step ≡ Deed page e → m.answer ≡ 0 → (e ≡ d) × ((first : ℕ) × IsInRun first n page × AllUsable d n first before × Chosen first)
 
-deeds_map : (d : Directory) (n : ℕ) (P Q : ℕ → Type 0) (steps : List Made) → ((s : ℕ) → P s → Q s) → DeedsOf d n P steps → DeedsOf d n Q steps
+pub deeds_map : (d : Directory) (n : ℕ) (P Q : ℕ → Type 0) (steps : List Made) → ((s : ℕ) → P s → Q s) → DeedsOf d n P steps → DeedsOf d n Q steps
 deeds_map d n P Q steps more = always_map (DeedOf d n P) (DeedOf d n Q) steps (λ m before h p e same z. let its = h p e same z in (its.0, (its.1.0, its.1.1, its.1.2, more its.1.0 its.1.3)))
 
-deeds_looks : (d : Directory) (n : ℕ) (P : ℕ → Type 0) (ys xs : List Made) → Only page_looks ys → DeedsOf d n P xs → DeedsOf d n P (ys ++ xs)
+pub deeds_looks : (d : Directory) (n : ℕ) (P : ℕ → Type 0) (ys xs : List Made) → Only page_looks ys → DeedsOf d n P xs → DeedsOf d n P (ys ++ xs)
 deeds_looks d n P ys xs looks = always_both (λ m before. is_in page_looks (kind_of m.step) ≡ true) (DeedOf d n P) ys xs (λ m before is p e same z. absurd (true≢false (sym is ∙ ap (λ s. is_in page_looks (kind_of s)) same))) looks
 
 -- ---- the search so far
@@ -265,25 +265,25 @@ module _ {σ σ1 : Standing} (d : Directory) (n from next : ℕ) (low : 1 ≤ fr
     usable : AllUsable d n first (find.steps ++ xs)
     usable = all_usable f d n from next first low find.steps xs so_far.vain find.kinds run_at
 
-    run_may : (v : View) → MayFind d v → Agreed f v (find.steps ++ xs) → MayClaimPages first (first + n) ((find.steps ++ xs) ++ v)
+    run_may : (v : View) → MayFind d v → Agreed f v (find.steps ++ xs) → MayClaimPages d first (first + n) ((find.steps ++ xs) ++ v)
     run_may v met agreed =
         let does = (look_still find).from v met agreed in
-        record { lacks = λ p ge lt. does.right p ∙ met.lacks p (knew f d p ls v agreed (usable p (ge, lt))); clear = still_clear does met.clear }
+        record { lacks = λ p ge lt knows. does.right p ∙ met.lacks p (knew f d p ls v agreed (usable p (ge, lt))); clear = still_clear does met.clear }
 
-    pub can_claim_run : (spare spare2 : ℕ) → CanCall σ (λ v l. FindRoom σ.seat.profile d 1 spare v) → Spares σ spare → Spares σ2 spare2 → CanCall σ2 (λ v l. HasRunRoom σ2.seat.profile first (first + n) 1 spare2 v)
+    pub can_claim_run : (spare spare2 : ℕ) → CanCall σ (λ v l. FindRoom σ.seat.profile d 1 spare v) → Spares σ spare → Spares σ2 spare2 → CanCall σ2 (λ v l. HasRunRoom σ2.seat.profile d first (first + n) 1 spare2 v)
     can_claim_run spare spare2 can law law2 =
         let adds = look_adds find in let met = can.met.may in
         record {
           view = ls ++ can.view;
           whole = triples σ.seat.actor ls ++ can.whole;
           stood = adds.added can.view can.whole can.stood met;
-          met = subst (λ (s : Seat). HasRunRoom s.profile first (first + n) 1 spare2 (ls ++ can.view)) (sym adds.seat_is) (record {
+          met = subst (λ (s : Seat). HasRunRoom s.profile d first (first + n) 1 spare2 (ls ++ can.view)) (sym adds.seat_is) (record {
             may = run_may can.view met (adds.agreed can.view can.whole can.stood met);
             room = room_after {spare = spare} {spare' = spare2} 1 adds (may_find can) (look_shows find) can.met.room law law2;
           });
         }
 
-    module _ {σ3 : Standing} {failed : Option ℕ} (claim : ClaimsRun d first (first + n) σ2 σ3 failed) where
+    module _ {σ3 : Standing} {failed : Option ℕ} (claim : ClaimsRun true d first (first + n) σ2 σ3 failed) where
       abbrev zs : List Made
       zs = claim.steps
 
@@ -291,7 +291,7 @@ module _ {σ σ1 : Standing} (d : Directory) (n from next : ℕ) (low : 1 ≤ fr
       same2 = ap (λ (s : Seat). s.profile) (look_adds find).seat_is
 
       claim_adds : Adds σ σ3 (λ v l. MayFind d v) (zs ++ ls)
-      claim_adds = let adds = look_adds find in adds_call {D = λ v l. MayClaimPages first (first + n) v} adds claim.adds (λ v l stood met. run_may v met (adds.agreed v l stood met))
+      claim_adds = let adds = look_adds find in adds_call {D = λ v l. MayClaimPages d first (first + n) v} adds claim.adds (λ v l stood met. run_may v met (adds.agreed v l stood met))
 
       claim_kinds : Only finding (zs ++ ls)
       claim_kinds = only_both finding zs ls (only_within claiming finding zs refl claim.kinds) (look_kinds find)
@@ -302,7 +302,7 @@ module _ {σ σ1 : Standing} (d : Directory) (n from next : ℕ) (low : 1 ≤ fr
       claim_deeds : (P : ℕ → Type 0) → P first → ((s : ℕ) → HasFailed d n s xs → P s) → DeedsOf d n P (zs ++ ls)
       claim_deeds P its more = always_both (λ m before. (p : ℕ) (e : Directory) → m.step ≡ Deed p e → m.answer ≡ 0 → (e ≡ d) × (first ≤ p) × (p < first + n)) (DeedOf d n P) zs ls
           (λ m before h p e is z. let at = h p e is z in (at.0, (first, (at.1, at.2), usable_still f d n from next first low find.steps xs so_far.vain find.kinds run_at before, its)))
-          claim.deeds (deeds_looks d n P find.steps xs find.kinds (deeds_map d n (λ other. HasFailed d n other xs) P xs more so_far.deeds))
+          claim.made (deeds_looks d n P find.steps xs find.kinds (deeds_map d n (λ other. HasFailed d n other xs) P xs more so_far.deeds))
 
     -- on a desk that tells the whole state all its pages are usable
     all_usable_told : (l : Whole) → Legal f (triples σ.seat.actor find.steps ++ l) → (from ≡ 1) × (next ≡ 1) × (xs ≡ []) → IsUsableRun d n l first
@@ -318,11 +318,11 @@ module _ {σ σ1 : Standing} (d : Directory) (n from next : ℕ) (low : 1 ≤ fr
     }
 
     -- and its claim doesn't fail
-    pub never_fails : {σ3 : Standing} → IsKind d.kind → Tells σ2 → Tells σ3 → (page : ℕ) → (claim : ClaimsRun d first (first + n) σ2 σ3 (Some page)) → (from ≡ 1) × (next ≡ 1) × (xs ≡ []) → (can : CanCall σ (λ v l. MayFind d v)) → part σ.seat.actor can.whole ≡ can.view → ⊥
+    pub never_fails : {σ3 : Standing} → IsKind d.kind → Tells σ2 → Tells σ3 → (page : ℕ) → (claim : ClaimsRun true d first (first + n) σ2 σ3 (Some page)) → (from ≡ 1) × (next ≡ 1) × (xs ≡ []) → (can : CanCall σ (λ v l. MayFind d v)) → part σ.seat.actor can.whole ≡ can.view → ⊥
     never_fails kind tells2 tells3 page claim at can own =
         let adds = claim_adds claim in
         let agreed = adds.agreed can.view can.whole can.stood can.met in
-        let fails = subst (λ x. FailsRun x d first (first + n) page claim.steps) (same2 claim) claim.outcome in
+        let fails = subst (λ x. FailsRun true x d first (first + n) page claim.steps) (same2 claim) claim.outcome in
         let legal = legal_alone find tells2 at.2 can.view can.whole can.stood can.met in
         fails_told f σ.seat.actor can.whole d n first (claim.steps ++ ls) kind (legal_after adds tells3 can.view can.whole can.stood can.met) (lends_none finding refl (claim.steps ++ ls) (claim_kinds claim))
         (all_usable_told can.whole legal at)
@@ -330,9 +330,9 @@ module _ {σ σ1 : Standing} (d : Directory) (n from next : ℕ) (low : 1 ≤ fr
         (run_has_failed f d n from next first low find.steps xs so_far.vain find.kinds run_at page claim.steps fails can.view agreed)
 
     -- its claim failed
-    pub goes_on : {σ3 : Standing} → CanCall σ (λ v l. MayFind d v) → (page : ℕ) → ClaimsRun d first (first + n) σ2 σ3 (Some page) → SearchedRuns d n (page + 1) (first + n) σ σ3
+    pub goes_on : {σ3 : Standing} → CanCall σ (λ v l. MayFind d v) → (page : ℕ) → ClaimsRun true d first (first + n) σ2 σ3 (Some page) → SearchedRuns d n (page + 1) (first + n) σ σ3
     goes_on can page claim =
-        let fails = subst (λ x. FailsRun x d first (first + n) page claim.steps) (same2 claim) claim.outcome in
+        let fails = subst (λ x. FailsRun true x d first (first + n) page claim.steps) (same2 claim) claim.outcome in
         let adds = claim_adds claim in
         let agreed = adds.agreed can.view can.whole can.stood can.met in
         let failed = run_has_failed f d n from next first low find.steps xs so_far.vain find.kinds run_at page claim.steps fails can.view agreed in
@@ -348,13 +348,13 @@ module _ {σ σ1 : Standing} (d : Directory) (n from next : ℕ) (low : 1 ≤ fr
           shows = claim_shows claim;
           lacks = fails.lacks ls (look_lacks find);
           within = run_at.of_region;
-          few = (let k = length-append claim.steps ls in let j = length-append find.steps xs in let a = find.few in let b = so_far.few in let c = claim.few in let ge = run_at.from_there in omega (arith, k, j, a, b, c, ge));
+          few = (let k = length-append claim.steps ls in let j = length-append find.steps xs in let a = find.few in let b = so_far.few in let c = fails.few in let ge = run_at.from_there in omega (arith, k, j, a, b, c, ge));
           vain = vain_goes_on f d n from next first low find.steps xs so_far.vain find.kinds run_at page claim.steps fails can.view agreed;
           deeds = claim_deeds claim (λ other. HasFailed d n other (claim.steps ++ ls)) failed (λ s h. once_later _ claim.steps ls (once_later _ find.steps xs h));
         }
 
     -- it was claimed
-    pub finds_run : {σ3 : Standing} (tells : Bool) → (tells ≡ true → Tells σ2) → (tells ≡ true → (from ≡ 1) × (next ≡ 1) × (xs ≡ [])) → 1 ≤ n → ClaimsRun d first (first + n) σ2 σ3 None → Finds d n tells σ σ3 (Some first)
+    pub finds_run : {σ3 : Standing} (tells : Bool) → (tells ≡ true → Tells σ2) → (tells ≡ true → (from ≡ 1) × (next ≡ 1) × (xs ≡ [])) → 1 ≤ n → ClaimsRun true d first (first + n) σ2 σ3 None → Finds d n tells σ σ3 (Some first)
     finds_run tells laws alone some claim =
         let holds_it = subst (λ x. HoldsRun x d first (first + n) claim.steps) (same2 claim) claim.outcome in
         let span = holds_it.holding ls (first_alone f d n from next first low find.steps xs so_far.vain find.kinds run_at) in
@@ -364,7 +364,7 @@ module _ {σ σ1 : Standing} (d : Directory) (n from next : ℕ) (low : 1 ≤ fr
           told = λ t v l stood met. lowest_told l (legal_alone find (laws t) (alone t).2 v l stood met) (alone t);
           kinds = claim_kinds claim;
           shows = claim_shows claim;
-          few = (let k = length-append claim.steps ls in let j = length-append find.steps xs in let a = find.few in let b = so_far.few in let c = claim.few in let ge = run_at.from_there in let region = run_at.of_region in omega (arith, k, j, a, b, c, ge, region));
+          few = (let k = length-append claim.steps ls in let j = length-append find.steps xs in let a = find.few in let b = so_far.few in let c = holds_it.few in let ge = run_at.from_there in let region = run_at.of_region in omega (arith, k, j, a, b, c, ge, region));
           outcome = record {
             of_region = (let ge = run_at.from_there in omega (arith, ge, low), run_at.of_region);
             got = record {
@@ -372,11 +372,6 @@ module _ {σ σ1 : Standing} (d : Directory) (n from next : ℕ) (low : 1 ≤ fr
                   let before = agreed_later f v claim.steps ls agreed in
                   let does = (look_still find).from v met before in
                   subst (GotPages (in_span first (first + n)) d v) (sym (append_assoc claim.steps ls v)) (got_after (in_span first (first + n)) d does (holds_it.got.from (ls ++ v) (run_may v met before) (agreed_first f v claim.steps ls agreed)));
-            };
-            lacked = record {
-              from = λ v met agreed p is.
-                  let before = agreed_later f v claim.steps ls agreed in let at = in_parts first (first + n) p is in
-                  (let does = (look_still find).from v met before in sym (does.right p)) ∙ (run_may v met before).lacks p at.0 at.1;
             };
             taken = record {
               usable = usable_still f d n from next first low find.steps xs so_far.vain find.kinds run_at claim.steps;

@@ -1,7 +1,7 @@
 -- The pages of a run are backed, its block is given, and they are left.
 use Rattle.pas_steps.proofs.Past.{always_map}
 use Rattle.pas_steps.proofs.SpareRoom.{Spares}
-use Rattle.std.proofs.Common.{◌≡◌, ℕ, ◌+◌, ◌*◌, ◌/◌, ◌<◌, ◌≤◌, ◌==◌, Bool, true, false, if◌then◌else◌, List, [], ◌∷◌, ◌++◌, length, inl, inr, refl, ap, sym, ◌∙◌, subst, arith, length-append, true≢false, ◌%◌, ◌^◌, ◌&&◌, Some}
+use Rattle.std.proofs.Common.{◌≡◌, ℕ, zero, suc, ◌+◌, ◌-◌, ◌*◌, ◌/◌, ◌<◌, ◌≤◌, ◌==◌, Bool, true, false, if◌then◌else◌, List, [], ◌∷◌, ◌++◌, length, inl, inr, refl, ap, sym, ◌∙◌, subst, arith, length-append, true≢false, ◌%◌, ◌^◌, ◌&&◌, Some}
 use Rattle.std.proofs.lemmas.Bool.{cases_eq, eq-eqb, and_from}
 use Rattle.pas_profile.specs.Profiles.{IsPage, IsDirectoryOf}
 use Rattle.pas_profile.specs.declared.directory.Directory.{Directory}
@@ -25,7 +25,9 @@ use Rattle.pas_steps.proofs.Frames.{with_few, given_le}
 use Rattle.pas_steps.proofs.Adding.{adds_none, adds_step, can_step}
 use Rattle.pas_large.proofs.Claims.{pages_call, call_knowing, span_wider, span_in, in_parts, span_past, span_none, span_more}
 use Rattle.pas_large.specs.Claims.{in_span, HasPages}
-use Rattle.pas_large.specs.Gives.{BackedRun, BacksRun, MayLeaveRun, left_run, LeavesRun, MayGiveBlock, run_block, give_steps, given_run, GaveBlock, GivesBlock, GaveRun, GivesRun, LeftRun}
+use Rattle.pas_rights.specs.Leaves.{LeaveSteps}
+use Rattle.pas_steps.specs.InTurn.{InTurn}
+use Rattle.pas_large.specs.Gives.{BackStep, pages_from, BackedRun, BacksRun, MayLeaveRun, left_run, LeavesRun, MayGiveBlock, run_block, give_steps, given_run, GaveBlock, GivesBlock, GaveRun, GivesRun, LeftRun}
 use Rattle.pas_profile.specs.Lives.{turn_of}
 use Rattle.pas_profile.specs.Runs.{in_run, grain_of, length_of}
 use Rattle.pas_profile.specs.declared.name.Block.{Block}
@@ -35,6 +37,19 @@ use Rattle.pas_profile.proofs.Runs.{run_of, to_run}
 use Rattle.pas_steps.specs.Lists.{Whole}
 use Rattle.pas_large.specs.Pages.{of_pages}
 
+-- ---- pages in turn
+none_in_turn : (P : ℕ → List Made → Type 0) (first : ℕ) → InTurn P (pages_from first (first - first)) []
+none_in_turn P first = let none : zero ≡ first - first = omega arith in subst (λ n. InTurn P (pages_from first n) []) none refl
+
+more_in_turn : (P : ℕ → List Made → Type 0) (first page end : ℕ) (xs steps : List Made) → first ≤ page → end ≡ page + 1 → P page xs → InTurn P (pages_from first (page - first)) steps → InTurn P (pages_from first (end - first)) (xs ++ steps)
+more_in_turn P first page end xs steps low last this earlier =
+    let count : suc (page - first) ≡ end - first = omega (arith, low, last) in
+    let same : page ≡ first + (page - first) = omega (arith, low) in
+    subst (λ n. InTurn P (pages_from first n) (xs ++ steps)) count (xs, steps, subst (λ q. P q xs) same this, earlier, refl)
+
+run_in_turn : (P : ℕ → List Made → Type 0) (first n : ℕ) (steps : List Made) → InTurn P (pages_from first (first + n - first)) steps → InTurn P (pages_from first n) steps
+run_in_turn P first n steps h = let count : first + n - first ≡ n = omega arith in subst (λ m. InTurn P (pages_from first m) steps) count h
+
 -- ---- the pages are backed, one page more
 pub backed_none : {σ : Standing} (d : Directory) (first : ℕ) → BacksRun d first first σ σ
 backed_none d first = record {
@@ -42,6 +57,7 @@ backed_none d first = record {
   calls = call_none (λ v met. record { does = does_none v; bears = λ g h. absurd (true≢false (sym h ∙ span_none first (g / 256))) });
   kinds = tt;
   backs = tt;
+  order = none_in_turn BackStep first;
   few = omega arith;
 }
 
@@ -89,6 +105,7 @@ module _ {σ σ1 : Standing} (d : Directory) (first end page : ℕ) (low : first
       (λ q e. let same : page ≡ q = cc in (omega (arith, same, low), omega (arith, same, high))),
       always_map (λ m before. (q : ℕ) → m.step ≡ Back q → (first ≤ q) × (q < page)) (λ m before. (q : ℕ) → m.step ≡ Back q → (first ≤ q) × (q < end)) xs (λ m before h q e. let its = h q e in let lt = its.1 in (its.0, omega (arith, lt, high))) so_far.backs,
     );
+    order = more_in_turn BackStep first page end (made (Back page) a ∷ []) xs low last (a, refl) so_far.order;
     few = let few = so_far.few in omega (arith, few, low, high);
   }
 
@@ -97,6 +114,7 @@ pub left_run_none : {σ : Standing} (d : Directory) (first : ℕ) → LeavesRun 
 left_run_none d first = record {
   steps = [];
   calls = call_none (λ v met. record { does = does_as (left_run first first) (does_none v) (λ g. inl refl) (λ q. ap (λ t. if t then Lost else Kept) (sym (span_none first q))) (λ q h. h); deeds = met.deeds });
+  order = none_in_turn (λ page piece. LeaveSteps page d piece) first;
   kinds = tt;
   few = omega arith;
 }
@@ -125,6 +143,7 @@ left_run_more d first page low so_far h =
     record {
       steps = h.steps ++ so_far.steps;
       calls = call_as (LeftRun d first (page + 1)) (call_knowing d (in_span first (page + 1)) calls (λ v met. met.deeds)) (λ v met. met) (λ v w met left. record { does = left.0; deeds = left.1 });
+      order = more_in_turn (λ q piece. LeaveSteps q d piece) first page (page + 1) h.steps so_far.steps low refl h.order so_far.order;
       kinds = only_both returning h.steps so_far.steps (returns_are page h.steps h.returns) so_far.kinds;
       few = let n = length-append h.steps so_far.steps in let a = h.few in let b = so_far.few in omega (arith, n, a, b, low);
     }
@@ -261,12 +280,14 @@ module _ {σ σ1 : Standing} (d : Directory) (first n : ℕ) (backs : BacksRun d
       backs = backs.steps;
       back_kinds = backs.kinds;
       back_pages = backs.backs;
+      back_order = run_in_turn BackStep first n backs.steps backs.order;
       back_few = (let few = backs.few in omega (arith, few));
       word = give.word;
       answer = give.answer;
       block_is = give.block_is;
       left = left.steps;
       left_kinds = left.kinds;
+      left_order = run_in_turn (λ page piece. LeaveSteps page d piece) first n left.steps left.order;
       few = let a = length-append left.steps (gs ++ backs.steps) in let b = backs.few in let c = left.few in omega (arith, a, b, c);
       calls = call_then (GaveRun d first n block) given_call left.calls (λ v met given. given.1)
           (λ v met given left. record {

@@ -3,6 +3,9 @@ pub mod Claims
 pub mod Refusals
 pub mod Gives
 pub mod Finds
+pub mod Named
 pub mod Allocates
+pub mod Outcomes
 pub mod Told
 pub mod ToldReasons
+pub mod Lifted

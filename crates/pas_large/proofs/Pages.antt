@@ -1,6 +1,6 @@
 -- The claim of one page: its right and its grains, and how it is left.
 use Rattle.std.proofs.Common.{◌≡◌, ℕ, ◌==◌, Bool, true, false, if◌then◌else◌, [], ◌∷◌, ◌++◌, inl, refl, ◌∙◌, subst, arith, length-append, ap, append_assoc, ◌⊎◌, ◌+◌, ◌*◌, ◌/◌, ◌%◌, ◌<◌, ◌&&◌, List, inr, sym, true≢false, ◌≢◌, length, Some, None, MatchBool}
-use Rattle.std.proofs.lemmas.Bool.{eqb-true, eq-eqb, ne_eqb, eqb-false, cases_eq, cases_Bool}
+use Rattle.std.proofs.lemmas.Bool.{eqb-true, eq-eqb, ne_eqb, eqb-false, cases_eq, cases_Bool, and_parts, and_from, lt-ltb}
 use Rattle.pas_profile.specs.declared.directory.Directory.{Directory}
 use Rattle.pas_bits.specs.declared.mask.Mask4.{Mask4}
 use Rattle.pas_rights.specs.Leaves.{MayLeave, Leaves, LosesHere}
@@ -11,15 +11,15 @@ use Rattle.pas_rights.proofs.Debts.{leave_lacks}
 use Rattle.pas_steps.specs.Calls.{Calls, Kept, Lost, later, put, Does, ClearAfter, Gained, now, Fate, nothing}
 use Rattle.pas_steps.specs.Clear.{IsClearOn}
 use Rattle.pas_steps.specs.Desks.{Standing, CanCall, Anything, Makes, Adds, made}
-use Rattle.pas_steps.specs.Frames.{IsOnPage, KeepsRight, IsRead, GivesUp}
-use Rattle.pas_steps.specs.Kinds.{Putting, returning, kind_of, is_in, Kinds, Deeding, Only}
+use Rattle.pas_steps.specs.Frames.{IsOnPage, OnlyOn, KeepsRight, IsRead, GivesUp}
+use Rattle.pas_steps.specs.Kinds.{Putting, Taking, returning, kind_of, is_in, Kinds, LookDeed, Deeding, Only}
 use Rattle.pas_steps.specs.Views.{View, has_right, holds, KnowsDeed, Way, Rests, ByDeed, FromOffer, had_after, deed_after, known_deed}
 use Rattle.pas_steps.proofs.Apart.{deeds_same, unstamped_same, examines_same, only_both, only_within, no_events, holds_same}
 use Rattle.pas_steps.proofs.Called.{call_as, call_then, next_call, call_knows}
-use Rattle.pas_steps.proofs.Calls.{does_as, does_then, kept_first, returns_are, does_on_page, leads_as, leads_at, owes_over, unexamined_over}
+use Rattle.pas_steps.proofs.Calls.{does_as, does_then, kept_first, returns_are, does_on_page, leads_as, leads_at, leads_idly, owes_over, unexamined_over}
 use Rattle.pas_steps.proofs.Kept.{returns_on, looks_read, right_reads, deed_stays, knows_still}
 use Rattle.pas_steps.proofs.Past.{always_both, once_later, once_earlier, always_map, once_map}
-use Rattle.pas_large.specs.Pages.{MayPutAndLeave, put_and_left, PutsAndLeaves, OnceAfter, TookPage, TakesPage, taking_pages, getting, DeedsOn, OnlyDeedsShow, GetsPage, MayClaim, of_pages, GotPages, claiming, IsClaimed, ClaimsPage, GetsRightOf, LosesRightOf}
+use Rattle.pas_large.specs.Pages.{MayPutAndLeave, put_and_left, PutsAndLeaves, OnceAfter, TookPage, TakesPage, taking_pages, getting, DeedsOn, OnlyDeedsShow, GetsPage, MayClaim, of_pages, GotPages, getting_old, claiming, claiming_old, IsClaimed, ClaimsPage, GetsRightOf, LosesRightOf}
 use Rattle.pas_profile.specs.Classes.{has_bit}
 use Rattle.pas_profile.specs.declared.profile.Profile.{Profile}
 use Rattle.pas_bits.specs.Masks.{is_set, AllSetBelow, IsLowestClear}
@@ -29,7 +29,8 @@ use Rattle.pas_steps.specs.declared.step.Made.{Made}
 use Rattle.pas_steps.proofs.Frames.{rights_stay, events_append}
 use Rattle.pas_search.specs.Serving.{MayServe, GotBefore, right_of}
 use Rattle.pas_segregated.proofs.GiveBack.{keeps_by}
-use Rattle.pas_segregated.specs.Takes.{slots_on, GetsGrains, TakesSlots}
+use Rattle.pas_segregated.specs.Takes.{four_takes, GetsGrains, TakesUsable}
+use Rattle.pas_segregated.proofs.FourTakes.{takes_read}
 use Rattle.pas_large.specs.Evidence.{BrokenHere, TakenWholeHere, LostHere}
 use Rattle.pas_profile.specs.Directories.{number_of, deed_word_of}
 use Rattle.pas_profile.specs.Profiles.{IsPage}
@@ -99,26 +100,38 @@ pub and_true : (t : Bool) → (t && true) ≡ t
 and_true true = refl
 and_true false = refl
 
--- ---- what was got is put back
-module _ (d : Directory) (page : ℕ) (got : Mask4) {σ σ1 : Standing} (taken : TakesSlots 0 page d σ σ1 got) where
-  slot : (g : ℕ) → slots_on page 0 got g ≡ masked page got g
-  slot g = let e : g % 256 / 1 * 1 ≡ g % 256 = omega arith in ap (λ x. (page == g / 256) && is_set got x) e
+-- ---- all grains that were free were got, by four takes
+module _ (d : Directory) (page : ℕ) (got : Mask4) {σ σ1 : Standing} (taken : TakesUsable page 0 σ σ1 got) where
+  abbrev takes : List Made
+  takes = four_takes page taken.usable taken.answers
+
+  take_kinds : Only (Taking ∷ []) takes
+  take_kinds = (refl, (refl, (refl, (refl, tt))))
+
+  take_on : OnlyOn page takes
+  take_on = (IsOnPage.Takes 3 _, (IsOnPage.Takes 2 _, (IsOnPage.Takes 1 _, (IsOnPage.Takes 0 _, tt))))
+
+  takes_keep : KeepsRight page takes
+  takes_keep = keeps_by page (Taking ∷ []) takes refl take_kinds
+
+  take_call : Calls σ σ1 (MayServe page d) (GetsGrains (masked page got)) takes
+  take_call = call_as (GetsGrains (masked page got)) taken.calls (λ v met. met.right) (λ v w met gets. gets)
 
   set_read : (x : ℕ) → is_set got x ≡ true → is_set taken.answers x ≡ true
-  set_read x h = let both = (taken.are x).0 h in let within = both.0.within in both.1 x (omega (arith, within)) (omega arith) (omega arith)
+  set_read x h = (and_parts (is_set taken.answers x) (is_set taken.usable x) (sym (taken.got_is x) ∙ h)).0
 
   read_set : (x : ℕ) → x < 256 → is_set taken.answers x ≡ true → is_set got x ≡ true
-  read_set x lt h = (taken.are x).1 (record { aligned = omega arith; within = omega (arith, lt) }, λ g within low high. let e : x ≡ g = omega (arith, low, high) in ap (is_set taken.answers) (sym e) ∙ h)
+  read_set x lt h = taken.got_is x ∙ and_from (is_set taken.answers x) (is_set taken.usable x) h (taken.usable_are x lt ∙ lt-ltb x 256 lt)
 
-  -- ---- all grains were got
+  -- ---- all grains of the page were
   module _ (all : AllSetBelow got 256) where
-    on_page : (g : ℕ) → slots_on page 0 got g ≡ (page == g / 256)
-    on_page g = slot g ∙ ap (λ t. (page == g / 256) && t) (all (g % 256) (omega arith)) ∙ and_true (page == g / 256)
+    on_page : (g : ℕ) → masked page got g ≡ (page == g / 256)
+    on_page g = ap (λ t. (page == g / 256) && t) (all (g % 256) (omega arith)) ∙ and_true (page == g / 256)
 
     whole_here : (word : ℕ) → word < 4 → (m : Made) (before : List Made) → ShowsHere page word (is_set taken.answers) m before → TakenWholeHere page word m before
     whole_here word small m before h = ((h.0, λ b lt. sym (h.2 b lt) ∙ set_read (64 * word + b) (all (64 * word + b) (omega (arith, small, lt)))), h.1)
 
-    took : (v w : View) → GetsGrains (slots_on page 0 got) v w → TookPage page v w
+    took : (v w : View) → GetsGrains (masked page got) v w → TookPage page v w
     took v w gets = record {
       does = does_as (record { grains = λ g. if page == g / 256 then Gained else Kept; rights = λ q. Kept; clears = λ q. Kept }) gets.does (λ g. inl (ap (λ t. if t then Gained else Kept) (on_page g))) (λ q. refl) (λ q h. h);
       apart = λ g at. gets.apart g (on_page g ∙ eq-eqb page (g / 256) at);
@@ -126,27 +139,28 @@ module _ (d : Directory) (page : ℕ) (got : Mask4) {σ σ1 : Standing} (taken :
 
     pub keeps_all : TakesPage d page σ σ1 true
     keeps_all = record {
-      steps = taken.steps;
-      adds = taken.calls.adds;
-      on = taken.on;
-      kinds = taken.kinds;
-      few = let few = taken.few in omega (arith, few);
+      steps = takes;
+      adds = take_call.adds;
+      on = take_on;
+      kinds = only_within (Taking ∷ []) taking_pages takes refl take_kinds;
+      few = omega arith;
       outcome = record {
-        leads = record { from = λ v met agreed. took v (taken.steps ++ v) (taken.calls.leads.from v met agreed) };
-        keeps = taken.keeps;
-        whole = λ before met word lt. since_map (ShowsHere page word (is_set taken.answers)) (TakenWholeHere page word) (KeptHere page) (taken.steps ++ before) (whole_here word lt) (taken.read before met word lt);
+        few = omega arith;
+        leads = record { from = λ v met agreed. took v (takes ++ v) (take_call.leads.from v met agreed) };
+        keeps = takes_keep;
+        whole = λ before met word lt. since_map (ShowsHere page word (is_set taken.answers)) (TakenWholeHere page word) (KeptHere page) (takes ++ before) (whole_here word lt) (takes_read page taken.usable taken.answers before met.right met.none word lt);
       };
     }
 
   -- ---- some grain wasn't
-  took_call : Calls σ σ1 (MayServe page d) (λ v w. GetsGrains (slots_on page 0 got) v w × KnowsDeed page d w) taken.steps
-  took_call = call_knows page d taken.calls (λ v met. met.deed)
+  took_call : Calls σ σ1 (MayServe page d) (λ v w. GetsGrains (masked page got) v w × KnowsDeed page d w) takes
+  took_call = call_knows page d take_call (λ v met. met.deed)
 
-  may_put_back : (v : View) → MayServe page d v → GetsGrains (slots_on page 0 got) v (taken.steps ++ v) × KnowsDeed page d (taken.steps ++ v) → MayPutAndLeave page d (masked page got) (taken.steps ++ v)
+  may_put_back : (v : View) → MayServe page d v → GetsGrains (masked page got) v (takes ++ v) × KnowsDeed page d (takes ++ v) → MayPutAndLeave page d (masked page got) (takes ++ v)
   may_put_back v met gets = record {
     right = gets.0.does.right page ∙ met.right;
     deed = gets.1;
-    held = λ g here. gets.0.does.held g ∙ ap (λ t. now (if t then Gained else Kept) (holds v g)) (slot g ∙ here);
+    held = λ g here. gets.0.does.held g ∙ ap (λ t. now (if t then Gained else Kept) (holds v g)) here;
     clear = gets.0.does.clear page met.clear;
   }
 
@@ -155,41 +169,40 @@ module _ (d : Directory) (page : ℕ) (got : Mask4) {σ σ1 : Standing} (taken :
 
   module _ {σ2 : Standing} (back : PutsAndLeaves page d got σ1 σ2) (x : ℕ) (clear : IsLowestClear got x) where
     -- what was got is lost again
-    again : (s t had : Bool) → s ≡ t → (s ≡ true → had ≡ false) → (later (if s then Gained else Kept) (if t then Lost else Kept) ≡ Kept) ⊎ ((had ≡ false) × (now (later (if s then Gained else Kept) (if t then Lost else Kept)) false ≡ false))
-    again true true had same none = inr (none refl, refl)
-    again false false had same none = inl refl
-    again s t had same none = cc
+    again : (t had : Bool) → (t ≡ true → had ≡ false) → (later (if t then Gained else Kept) (if t then Lost else Kept) ≡ Kept) ⊎ ((had ≡ false) × (now (later (if t then Gained else Kept) (if t then Lost else Kept)) false ≡ false))
+    again true had none = inr (none refl, refl)
+    again false had none = inl refl
 
-    left_call : Calls σ σ2 (MayServe page d) (Does (right_of page Lost)) ((back.after ++ back.puts) ++ taken.steps)
+    left_call : Calls σ σ2 (MayServe page d) (Does (right_of page Lost)) ((back.after ++ back.puts) ++ takes)
     left_call = call_then (Does (right_of page Lost)) took_call back.calls may_put_back
-        (λ v met gets back. does_as (right_of page Lost) (does_then gets.0.does back) (λ g. again (slots_on page 0 got g) (masked page got g) (holds v g) (slot g) (gets.0.apart g)) (λ q. kept_first (if page == q then Lost else Kept)) (λ q h. h))
+        (λ v met gets back. does_as (right_of page Lost) (does_then gets.0.does back) (λ g. again (masked page got g) (holds v g) (gets.0.apart g)) (λ q. kept_first (if page == q then Lost else Kept)) (λ q h. h))
 
     puts_keep : KeepsRight page back.puts
     puts_keep = keeps_by page (Putting ∷ []) back.puts refl back.only_puts
 
-    broken : (before : List Made) → GotBefore page before → OnceAfter before (BrokenHere page) ((back.after ++ back.puts) ++ taken.steps)
+    broken : (before : List Made) → GotBefore page before → OnceAfter before (BrokenHere page) ((back.after ++ back.puts) ++ takes)
     broken before met =
-        let xs = taken.steps ++ before in let right = rights_stay taken.steps before page taken.keeps met.right in let kept = rights_stay back.puts xs page puts_keep right in
-        after_more (BrokenHere page) (back.after ++ back.puts) taken.steps before (after_more (BrokenHere page) back.after back.puts xs
+        let xs = takes ++ before in let right = rights_stay takes before page takes_keep met.right in let kept = rights_stay back.puts xs page puts_keep right in
+        after_more (BrokenHere page) (back.after ++ back.puts) takes before (after_more (BrokenHere page) back.after back.puts xs
         (once_map (LosesHere page) (λ m b. BrokenHere page m (b ++ (back.puts ++ xs))) back.after (λ m b h. record {
           left = h.0;
           kept = right_reads page b (back.puts ++ xs) (looks_read b h.1) ∙ kept;
-          got = once_later (GetsHere page) b (back.puts ++ xs) (once_later (GetsHere page) back.puts xs (once_later (GetsHere page) taken.steps before met.got));
+          got = once_later (GetsHere page) b (back.puts ++ xs) (once_later (GetsHere page) back.puts xs (once_later (GetsHere page) takes before met.got));
           readings = is_set taken.answers;
           none = λ all. true≢false (sym (read_set x clear.within (all x clear.within)) ∙ clear.clear);
           read = λ word lt. let shows = ShowsHere page word (is_set taken.answers) in
               since_more shows (KeptHere page) (λ m c. IsRead m.step m.answer) b (back.puts ++ xs) (λ m c is reads. right_reads page c (back.puts ++ xs) reads ∙ kept) (looks_read b h.1)
-              (since_more shows (KeptHere page) (λ m c. GivesUp page m.step → ⊥) back.puts xs (λ m c is keeps. rights_stay c xs page keeps right) puts_keep (taken.read before met word lt));
+              (since_more shows (KeptHere page) (λ m c. GivesUp page m.step → ⊥) back.puts xs (λ m c is keeps. rights_stay c xs page keeps right) puts_keep (takes_read page taken.usable taken.answers before met.right met.none word lt));
         }) back.left))
 
     pub leaves_broken : TakesPage d page σ σ2 false
     leaves_broken = record {
-      steps = (back.after ++ back.puts) ++ taken.steps;
+      steps = (back.after ++ back.puts) ++ takes;
       adds = left_call.adds;
-      on = always_both (λ m before. IsOnPage page m.step) (λ m before. IsOnPage page m.step) (back.after ++ back.puts) taken.steps (λ m before h. h) back.on taken.on;
-      kinds = only_both taking_pages (back.after ++ back.puts) taken.steps (only_within giving_back taking_pages (back.after ++ back.puts) refl back.kinds) taken.kinds;
-      few = let n = length-append (back.after ++ back.puts) taken.steps in let a = back.few in let b = taken.few in omega (arith, n, a, b);
-      outcome = record { leads = left_call.leads; lacks = λ before. ap (λ s. has_right s page) (append_assoc (back.after ++ back.puts) taken.steps before) ∙ back.lacks (taken.steps ++ before); broken = broken };
+      on = always_both (λ m before. IsOnPage page m.step) (λ m before. IsOnPage page m.step) (back.after ++ back.puts) takes (λ m before h. h) back.on take_on;
+      kinds = only_both taking_pages (back.after ++ back.puts) takes (only_within giving_back taking_pages (back.after ++ back.puts) refl back.kinds) (only_within (Taking ∷ []) taking_pages takes refl take_kinds);
+      few = let n = length-append (back.after ++ back.puts) takes in let a = back.few in omega (arith, n, a);
+      outcome = record { leads = left_call.leads; lacks = λ before. ap (λ s. has_right s page) (append_assoc (back.after ++ back.puts) takes before) ∙ back.lacks (takes ++ before); broken = broken };
     }
 
 -- ---- the right of a page of a run: a look at its deed word, and a claim or a deed
@@ -218,7 +231,7 @@ way_taken : (page : ℕ) (t got had : Bool) (w : Way) → had_after w had ≡ tr
 way_taken page true got had w gains e = ap (λ x. had_after (if x && true then w else Rests) had) (eq-eqb page page refl) ∙ gains ∙ ap (λ x. now (if x then Gained else Kept) had) e
 way_taken page false got had w gains e = ap (λ x. had_after (if x && false then w else Rests) had) (eq-eqb page page refl) ∙ ap (λ x. now (if x then Gained else Kept) had) e
 
-module _ {σ σ1 : Standing} (d : Directory) (page a : ℕ) (m : Made) (adds : Adds σ σ1 Anything (m ∷ deed_look page a ∷ [])) (on : IsOnPage page m.step) (kind : is_in getting (kind_of m.step) ≡ true) where
+module _ {σ σ1 : Standing} (deeds : Bool) (d : Directory) (page a : ℕ) (m : Made) (adds : Adds σ σ1 Anything (m ∷ deed_look page a ∷ [])) (on : IsOnPage page m.step) (kind : is_in getting (kind_of m.step) ≡ true) where
   abbrev pair : List Made
   pair = m ∷ deed_look page a ∷ []
 
@@ -234,7 +247,7 @@ module _ {σ σ1 : Standing} (d : Directory) (page a : ℕ) (m : Made) (adds : A
       does_as (right_of page r) does (λ x. inl refl) (λ q. refl) (λ q h. subst (λ t. ClearAfter t q v (pair ++ v)) (same_fate (page == q)) h)
 
   pair_outcome : (got : Bool) → ((v : View) → has_right (pair ++ v) page ≡ now (if got then Gained else Kept) (has_right v page)) → (got ≡ true → (v : View) → Agreed σ.seat.profile v pair → KnowsDeed page d (pair ++ v)) → (got ≡ true → GetsRight page m.step m.answer)
-      → (got ≡ false → (before : List Made) (v : View) → LeftAlone page before → ReadUsable d page before → Agreed σ.seat.profile v (pair ++ before) → LostHere d page m (deed_look page a ∷ before)) → MatchBool got (GetsRightOf σ.seat.profile d page pair) (LosesRightOf σ.seat.profile d page pair)
+      → (got ≡ false → (before : List Made) (v : View) → LeftAlone page before → ReadUsable d page before → Agreed σ.seat.profile v (pair ++ before) → LostHere d page m (deed_look page a ∷ before)) → MatchBool got (GetsRightOf σ.seat.profile d page pair) (LosesRightOf deeds σ.seat.profile d page pair)
   pair_outcome true right known gets lost = record {
     leads = record { from = λ v met agreed. let does = pair_does Gained v agreed (right v) in record { does = does; may = record { right = right v; deed = known refl v agreed; clear = does.clear page (met.clear.on page) } } };
     got = λ before alone. record { right = right before; got = inl (gets refl); none = λ g at. holds_same getting refl g pair before (kind, (refl, tt)) ∙ alone.none g at; newest = gets refl };
@@ -242,28 +255,29 @@ module _ {σ σ1 : Standing} (d : Directory) (page a : ℕ) (m : Made) (adds : A
   pair_outcome false right known gets lost = record {
     leads = record { from = λ v met agreed. does_as nothing (pair_does Kept v agreed (right v)) (λ x. inl refl) (λ q. same_fate (page == q)) (λ q h. h) };
     lacks = λ before none. right before ∙ none;
-    lost = λ before v alone usable agreed. inl (lost refl before v alone usable agreed);
+    lost = λ may before v alone usable agreed. inl (lost refl before v alone usable agreed);
   }
 
-  pair_gets : (got : Bool) → DeedsOn d page (m ∷ []) → OnlyDeedsShow σ.seat.profile pair → MatchBool got (GetsRightOf σ.seat.profile d page pair) (LosesRightOf σ.seat.profile d page pair) → GetsPage d page σ σ1 got
-  pair_gets got deeds shows outcome = record {
+  pair_gets : (got : Bool) → (deeds ≡ false → Only getting_old pair) → DeedsOn d page (m ∷ []) → OnlyDeedsShow σ.seat.profile pair → MatchBool got (GetsRightOf σ.seat.profile d page pair) (LosesRightOf deeds σ.seat.profile d page pair) → GetsPage deeds d page σ σ1 got
+  pair_gets got old made shows outcome = record {
     steps = pair;
     adds = adds;
     on = (on, (IsOnPage.Looks (Word.Deed page), tt));
     kinds = (kind, (refl, tt));
+    old = old;
     few = omega arith;
-    deeds = (deeds.0, (λ p e same z. cc, tt));
+    made = (made.0, (λ p e same z. cc, tt));
     shows = shows;
     outcome = outcome;
   }
 
 -- ---- the claim of a page whose deed word was read as the directory's
-pub claim_gets : {σ σ1 σ2 : Standing} (d : Directory) (page a : ℕ) → a ≡ deed_word_of d → Makes σ σ1 (Look (Word.Deed page)) a → (got : Bool) → Claims page d σ1 σ2 got → GetsPage d page σ σ2 got
-claim_gets {σ} {σ1} {σ2} d page a is look got h =
+pub claim_gets : {σ σ1 σ2 : Standing} (deeds : Bool) (d : Directory) (page a : ℕ) → a ≡ deed_word_of d → Makes σ σ1 (Look (Word.Deed page)) a → (got : Bool) → Claims page d σ1 σ2 got → GetsPage deeds d page σ σ2 got
+claim_gets {σ} {σ1} {σ2} deeds d page a is look got h =
     let m : Made = made (TakeRight page d) h.answer in let f : Profile = σ.seat.profile in let known = λ (v : View). read_here page a (known_deed v page) ∙ is in
     let adds : Adds σ σ2 Anything (m ∷ deed_look page a ∷ []) = adds_call {D = λ v l. KnowsDeed page d v} (adds_step adds_none look (λ v l stood met. tt)) h.calls.adds (λ v l stood met. known v) in
-    pair_gets d page a m adds (IsOnPage.Claims d) refl got ((λ p e same z. cc), tt) (λ k v agreed. let still = unknown_stays f (m ∷ deed_look page a ∷ []) v agreed in omega (arith, still))
-    (pair_outcome d page a m adds (IsOnPage.Claims d) refl got (λ v. way_taken page (has_bit h.answer (page % 64)) got (has_right v page) (FromOffer (number_of d)) refl (sym h.got_is))
+    pair_gets deeds d page a m adds (IsOnPage.Claims d) refl got (λ none. (refl, (refl, tt))) ((λ p e same z. cc), tt) (λ k v agreed. let still = unknown_stays f (m ∷ deed_look page a ∷ []) v agreed in omega (arith, still))
+    (pair_outcome deeds d page a m adds (IsOnPage.Claims d) refl got (λ v. way_taken page (has_bit h.answer (page % 64)) got (has_right v page) (FromOffer (number_of d)) refl (sym h.got_is))
     (λ e v agreed. knows_still f d page (m ∷ []) (deed_look page a ∷ v) (agreed.0, tt) (known v)) (λ e. GetsRight.Claims d h.answer (sym h.got_is ∙ e))
     (λ e before v alone usable agreed. inl (refl, sym h.got_is ∙ e, alone.right, inl ((λ e. cc), alone.parks))))
 
@@ -303,21 +317,47 @@ module _ {σ σ1 σ2 : Standing} (d : Directory) (page a b : ℕ) (is : IsPage �
         | inr some ↦ let none : length (events_by k v both) ≡ 0 = count false (ne_eqb b 0 some) in let still = unknown_stays σ.seat.profile both v agreed in omega (arith, none, still)
       ]
 
-  pub deed_gets : GetsPage d page σ σ2 (b == 0)
-  deed_gets = pair_gets d page a (made (Deed page d) b) deed_adds (IsOnPage.Deeds d) refl (b == 0) ((λ p e same z. (cc, cc)), tt) deed_shows
-      (pair_outcome d page a (made (Deed page d) b) deed_adds (IsOnPage.Deeds d) refl (b == 0) (λ v. way_taken page (b == 0) (b == 0) (has_right v page) ByDeed refl refl)
+  pub deed_gets : GetsPage true d page σ σ2 (b == 0)
+  deed_gets = pair_gets true d page a (made (Deed page d) b) deed_adds (IsOnPage.Deeds d) refl (b == 0) (λ none. absurd (true≢false none)) ((λ p e same z. (cc, cc)), tt) deed_shows
+      (pair_outcome true d page a (made (Deed page d) b) deed_adds (IsOnPage.Deeds d) refl (b == 0) (λ v. way_taken page (b == 0) (b == 0) (has_right v page) ByDeed refl refl)
       (λ e v agreed. deed_known page d b (deed_look page a ∷ v) (eqb-true b 0 e)) (λ e. GetsRight.Deeds d b (eqb-true b 0 e))
       (λ e before v alone usable agreed. inr (refl, eqb-false b 0 e, inr (other_known σ.seat.profile d page a before v ne usable agreed.1), ((λ x h z. cc), alone.deeds))))
 
+-- ---- no deed may be made: only its deed word was read
+pub look_gets : {σ σ1 : Standing} (d : Directory) (page a : ℕ) → Makes σ σ1 (Look (Word.Deed page)) a → GetsPage false d page σ σ1 false
+look_gets {σ} d page a look = record {
+  steps = deed_look page a ∷ [];
+  adds = adds_step adds_none look (λ v l stood met. tt);
+  on = (IsOnPage.Looks (Word.Deed page), tt);
+  kinds = (refl, tt);
+  old = λ none. (refl, tt);
+  few = omega arith;
+  made = ((λ p e same z. cc), tt);
+  shows = λ k v agreed. let still = unknown_stays σ.seat.profile (deed_look page a ∷ []) v agreed in omega (arith, still);
+  outcome = record {
+    leads = leads_idly σ.seat.profile (LookDeed ∷ []) refl (deed_look page a ∷ []) (refl, tt);
+    lacks = λ before none. none;
+    lost = λ may. absurd (true≢false (sym may));
+  };
+}
+
+-- what is known of a deed afterwards was known of it before, or nothing was
+pub knew_before : (f : Profile) (d : Directory) (p : ℕ) (xs : List Made) (v : View) → Agreed f v xs → (known_deed (xs ++ v) p ≡ 0) ⊎ KnowsDeed p d (xs ++ v) → (known_deed v p ≡ 0) ⊎ KnowsDeed p d v
+knew_before f d p xs v agreed after = elim (cases_eq (known_deed v p) 0) [
+  | inl none ↦ inl none
+  | inr some ↦ let same = deed_stays f xs v p agreed some in elim after [ inl none ↦ inl (sym same ∙ none) | inr knows ↦ inr (sym same ∙ knows) ]
+]
+
 -- ---- the claim of one page of a run: its right, and then its grains
-pub claim_lost : {σ σ1 : Standing} (d : Directory) (page : ℕ) → GetsPage d page σ σ1 false → ClaimsPage d page σ σ1 Claimed.Lost
-claim_lost d page get = record {
+pub claim_lost : {σ σ1 : Standing} (deeds : Bool) (d : Directory) (page : ℕ) → GetsPage deeds d page σ σ1 false → ClaimsPage deeds d page σ σ1 Claimed.Lost
+claim_lost deeds d page get = record {
   steps = get.steps;
   adds = adds_under get.adds (λ v l stood met. tt);
   on = get.on;
   kinds = only_within getting claiming get.steps refl get.kinds;
+  old = λ none. only_within getting_old claiming_old get.steps refl (get.old none);
   few = let few = get.few in omega (arith, few);
-  deeds = get.deeds;
+  made = get.made;
   shows = get.shows;
   outcome = record { still = leads_as get.outcome.leads (λ v met. tt) (λ v w met does. does); lacks = get.outcome.lacks; lost = get.outcome.lost };
 }
@@ -358,31 +398,37 @@ undone {v} grains rights apart lacks a b = record {
   ];
 }
 
-module _ (d : Directory) (page : ℕ) {σ σ1 : Standing} (get : GetsPage d page σ σ1 true) where
+module _ (deeds : Bool) (d : Directory) (page : ℕ) {σ σ1 : Standing} (get : GetsPage deeds d page σ σ1 true) where
   module _ {σ2 : Standing} {whole : Bool} (takes : TakesPage d page σ1 σ2 whole) where
     abbrev all : List Made
     all = takes.steps ++ get.steps
 
-    all_adds : Adds σ σ2 (λ v l. MayClaim page v) all
+    all_adds : Adds σ σ2 (λ v l. MayClaim d page v) all
     all_adds = adds_call {D = λ v l. MayServe page d v} (adds_under get.adds (λ v l stood met. tt)) takes.adds (λ v l stood met. (get.outcome.leads.from v met (get.adds.agreed v l stood tt)).may)
 
-    pub claims : (claimed : Claimed) → IsClaimed σ.seat.profile d page (takes.steps ++ get.steps) claimed → ClaimsPage d page σ σ2 claimed
+    pub claims : (claimed : Claimed) → IsClaimed deeds σ.seat.profile d page (takes.steps ++ get.steps) claimed → ClaimsPage deeds d page σ σ2 claimed
     claims claimed outcome = record {
       steps = all;
       adds = all_adds;
       on = always_both (λ m before. IsOnPage page m.step) (λ m before. IsOnPage page m.step) takes.steps get.steps (λ m before h. h) takes.on get.on;
       kinds = only_both claiming takes.steps get.steps (only_within taking_pages claiming takes.steps refl takes.kinds) (only_within getting claiming get.steps refl get.kinds);
+      old = λ none. only_both claiming_old takes.steps get.steps (only_within taking_pages claiming_old takes.steps refl takes.kinds) (only_within getting_old claiming_old get.steps refl (get.old none));
       few = let n = length-append takes.steps get.steps in let a = takes.few in let b = get.few in omega (arith, n, a, b);
-      deeds = always_both (MadeHere d page) (MadeHere d page) takes.steps get.steps (λ m before h. h) (no_deeds taking_pages d page takes.steps refl takes.kinds) get.deeds;
+      made = always_both (MadeHere d page) (MadeHere d page) takes.steps get.steps (λ m before h. h) (no_deeds taking_pages d page takes.steps refl takes.kinds) get.made;
       shows = shows_both σ.seat.profile takes.steps get.steps (shows_taking σ.seat.profile takes.steps takes.kinds) get.shows;
       outcome = outcome;
     }
 
   -- ---- all its grains were got
-  pub claim_whole : {σ2 : Standing} → TakesPage d page σ1 σ2 true → ClaimsPage d page σ σ2 Claimed.Whole
+  -- what was got wasn't had
+  got_lacked : (v : View) → MayClaim d page v → Agreed σ.seat.profile v get.steps → has_right v page ≡ false
+  got_lacked v met agreed = met.lacks (knew_before σ.seat.profile d page get.steps v agreed (inr (get.outcome.leads.from v met agreed).may.deed))
+
+  pub claim_whole : {σ2 : Standing} → TakesPage d page σ1 σ2 true → ClaimsPage deeds d page σ σ2 Claimed.Whole
   claim_whole takes =
       let took = leads_at {R = TookPage page} get.adds.seat_is takes.outcome.leads in
       claims takes Claimed.Whole (record {
+        few = let n = length-append takes.steps get.steps in let a = takes.outcome.few in let b = get.few in omega (arith, n, a, b);
         leads = record {
           from = λ v met agreed.
               let f = σ.seat.profile in let zs = takes.steps in
@@ -392,6 +438,7 @@ module _ (d : Directory) (page : ℕ) {σ σ1 : Standing} (get : GetsPage d page
               subst (GotPages (λ q. page == q) d v) (sym (append_assoc zs get.steps v)) (record {
                 does = does_as (of_pages (λ q. page == q) Gained) (does_then got.does took.does) (λ g. inl (kept_first (if page == g / 256 then Gained else Kept))) (λ q. refl) (λ q h. h);
                 apart = λ g at. sym (got.does.held g) ∙ took.apart g (eqb-true page (g / 256) at);
+                lacked = λ p at. subst (λ q. has_right v q ≡ false) (eqb-true page p at) (got_lacked v met (agreed_later f v zs get.steps agreed));
                 deeds = λ p at. subst (λ q. KnowsDeed q d (zs ++ (get.steps ++ v))) (eqb-true page p at) (knows_still f d page zs (get.steps ++ v) now got.may.deed);
               });
         };
@@ -400,7 +447,7 @@ module _ (d : Directory) (page : ℕ) {σ σ1 : Standing} (get : GetsPage d page
       })
 
   -- ---- some weren't free
-  pub claim_broken : {σ2 : Standing} → TakesPage d page σ1 σ2 false → ClaimsPage d page σ σ2 Claimed.Broken
+  pub claim_broken : {σ2 : Standing} → TakesPage d page σ1 σ2 false → ClaimsPage deeds d page σ σ2 Claimed.Broken
   claim_broken takes =
       let left = leads_at {R = Does (right_of page Lost)} get.adds.seat_is takes.outcome.leads in
       claims takes Claimed.Broken (record {
@@ -408,7 +455,7 @@ module _ (d : Directory) (page : ℕ) {σ σ1 : Standing} (get : GetsPage d page
           from = λ v met agreed.
               let f = σ.seat.profile in let zs = takes.steps in
               let got = get.outcome.leads.from v met (agreed_later f v zs get.steps agreed) in
-              subst (Does nothing v) (sym (append_assoc zs get.steps v)) (undone (λ g. false) (λ q. page == q) (λ g e. cc) (λ q e. subst (λ r. has_right v r ≡ false) (eqb-true page q e) met.lacks) got.does (left.from (get.steps ++ v) got.may (agreed_first f v zs get.steps agreed)));
+              subst (Does nothing v) (sym (append_assoc zs get.steps v)) (undone (λ g. false) (λ q. page == q) (λ g e. cc) (λ q e. subst (λ r. has_right v r ≡ false) (eqb-true page q e) (got_lacked v met (agreed_later f v zs get.steps agreed))) got.does (left.from (get.steps ++ v) got.may (agreed_first f v zs get.steps agreed)));
         };
         lacks = λ before none. ap (λ s. has_right s page) (append_assoc takes.steps get.steps before) ∙ takes.outcome.lacks (get.steps ++ before);
         broken = λ before alone. after_more (BrokenHere page) takes.steps get.steps before (takes.outcome.broken (get.steps ++ before) (get.outcome.got before alone));

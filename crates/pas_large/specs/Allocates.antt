@@ -1,5 +1,5 @@
 -- The allocation of a large block.
-use Rattle.std.specs.Prelude.{ℕ, ◌+◌, ◌*◌, ◌/◌, ◌^◌, ◌<◌, ◌≤◌, ◌≡◌, Bool, true, false, List, [], ◌∷◌, ◌++◌, length, Result, MatchResult}
+use Rattle.std.specs.Prelude.{ℕ, ◌+◌, ◌*◌, ◌/◌, ◌^◌, ◌<◌, ◌≤◌, ◌≡◌, Bool, true, false, List, [], ◌∷◌, ◌++◌, length, Option, None, Result, Ok, MatchResult, ◌⊎◌}
 use Rattle.pas_profile.specs.declared.directory.Directory.{Directory}
 use Rattle.pas_profile.specs.declared.event.NoRoom.{NoRoom}
 use Rattle.pas_profile.specs.declared.name.Block.{Block}
@@ -14,8 +14,11 @@ use Rattle.pas_steps.specs.Views.{View, holds, KnowsDeed}
 use Rattle.pas_steps.specs.declared.step.Made.{Made}
 use Rattle.pas_large.specs.Claims.{in_span}
 use Rattle.pas_large.specs.Finds.{MayFind, finding, FoundRun, FoundNone}
-use Rattle.pas_large.specs.Pages.{OnlyDeedsShow}
-use Rattle.pas_large.specs.Gives.{BacksIn, run_block, give_steps}
+use Rattle.pas_large.specs.Named.{HoldsNamed, MissesNamed}
+use Rattle.pas_large.specs.Pages.{OnlyDeedsShow, claiming_old}
+use Rattle.pas_large.specs.Gives.{BacksIn, BackStep, pages_from, run_block, give_steps}
+use Rattle.pas_rights.specs.Leaves.{LeaveSteps}
+use Rattle.pas_steps.specs.InTurn.{InTurn}
 use Rattle.pas_large.specs.Refusals.{IsReason}
 use Rattle.pas_large.specs.Telling.{IsToldLarge}
 
@@ -33,12 +36,14 @@ pub record IsAllocatedLarge (f : Profile) (d : Directory) (n : ℕ) (searched af
   pub backs : List Made
   pub back_kinds : Only (Backing ∷ []) backs
   pub back_pages : BacksIn first (first + n) backs
+  pub back_order : InTurn BackStep (pages_from first n) backs
   pub back_few : length backs ≤ n
   pub word : ℕ
   pub answer : ℕ
   pub block_is : block ≡ run_block d first n word
   pub left : List Made
   pub left_kinds : Only returning left
+  pub left_order : InTurn (λ page piece. LeaveSteps page d piece) (pages_from first n) left
   pub after_is : after ≡ left ++ (give_steps first block word answer ++ backs)
   pub few : length after ≤ 12 * n + 2
   pub gave : Leads f (MayFind d) (GaveLarge d first n block) (after ++ searched)
@@ -51,8 +56,10 @@ pub record IsRefusedLarge (f : Profile) (d : Directory) (n : ℕ) (searched afte
   pub reason : IsReason f d (after ++ searched) why
   pub still : Leads f (MayFind d) (Does nothing) (after ++ searched)
 
--- A request makes at most 56 steps for each page of the region, 12 for each page that is asked for, and 66 more.
-pub record AllocatesLarge (heap n : ℕ) (tells : Bool) (desk desk' : Standing) (answer : Result Block NoRoom) : Type 0 where
+-- ---- without the door
+-- The scan finds a run that is given, or the request is refused. At most 56 steps for each page of the region, 12 for each page that is asked for, and
+-- 66 more.
+pub record AllocatesByScan (heap n : ℕ) (tells : Bool) (desk desk' : Standing) (answer : Result Block NoRoom) : Type 0 where
   pub searched : List Made
   pub after : List Made
   pub adds : Adds desk desk' (λ v l. MayFind (large_directory heap) v) (after ++ searched)
@@ -61,3 +68,52 @@ pub record AllocatesLarge (heap n : ℕ) (tells : Bool) (desk desk' : Standing) 
   pub few : length (after ++ searched) ≤ 56 * desk.seat.profile.pages + 12 * n + 66
   pub outcome : MatchResult answer (IsAllocatedLarge desk.seat.profile (large_directory heap) n searched after) (IsRefusedLarge desk.seat.profile (large_directory heap) n searched after)
   pub told : tells ≡ true → (v : View) (l : Whole) → desk.stands v l → MayFind (large_directory heap) v → IsToldLarge desk.seat.profile (large_directory heap) n l (triples desk.seat.actor (after ++ searched) ++ l) answer
+
+-- ---- by the door
+-- The run that the door named was claimed without a deed, its pages were backed, the block of the whole run was given, and the pages were left. At most
+-- 18 steps for each page that is asked for, and two more.
+pub record IsAllocatedNamed (f : Profile) (d : Directory) (n : ℕ) (found : Option ℕ) (tried after : List Made) (block : Block) : Type 0 where
+  pub first : ℕ
+  pub holds_it : HoldsNamed f d n found tried first
+  pub backs : List Made
+  pub back_kinds : Only (Backing ∷ []) backs
+  pub back_pages : BacksIn first (first + n) backs
+  pub back_order : InTurn BackStep (pages_from first n) backs
+  pub back_few : length backs ≤ n
+  pub word : ℕ
+  pub answer : ℕ
+  pub block_is : block ≡ run_block d first n word
+  pub left : List Made
+  pub left_kinds : Only returning left
+  pub left_order : InTurn (λ page piece. LeaveSteps page d piece) (pages_from first n) left
+  pub after_is : after ≡ left ++ (give_steps first block word answer ++ backs)
+  pub few : length (after ++ tried) ≤ 18 * n + 2
+  pub gave : Leads f (MayFind d) (GaveLarge d first n block) (after ++ tried)
+
+-- so the request was served
+abbrev pub IsServedNamed : Profile → Directory → ℕ → Option ℕ → List Made → List Made → Result Block NoRoom → Type 0
+IsServedNamed f d n found tried after answer = (block : Block) × (answer ≡ Ok block) × IsAllocatedNamed f d n found tried after block
+
+-- ---- the whole request
+-- The door named nothing of use, whatever was tried with it is undone, and the scan followed.
+pub record IsScanned (f : Profile) (d : Directory) (n : ℕ) (tried rest : List Made) (answer : Result Block NoRoom) : Type 0 where
+  pub misses : MissesNamed f d n tried
+  pub searched : List Made
+  pub after : List Made
+  pub rest_is : rest ≡ after ++ searched
+  pub kinds : Only finding searched
+  pub shows : OnlyDeedsShow f searched
+  pub outcome : MatchResult answer (IsAllocatedLarge f d n searched after) (IsRefusedLarge f d n searched after)
+
+-- A request for n pages, where the door named a run or none. It is served from that run, or by the scan. At most 56 steps for each page of the region, 60
+-- for each page that is asked for, and 66 more. On a desk that tells the whole state, where no run was named, the block is on the lowest run that was
+-- usable at entry, and a refusal has no such run at entry and none at exit.
+pub record AllocatesLarge (heap n : ℕ) (found : Option ℕ) (tells : Bool) (desk desk' : Standing) (answer : Result Block NoRoom) : Type 0 where
+  pub tried : List Made
+  pub rest : List Made
+  pub adds : Adds desk desk' (λ v l. MayFind (large_directory heap) v) (rest ++ tried)
+  pub old : Only claiming_old tried
+  pub shows : OnlyDeedsShow desk.seat.profile tried
+  pub few : length (rest ++ tried) ≤ 56 * desk.seat.profile.pages + 60 * n + 66
+  pub told : found ≡ None → tells ≡ true → (v : View) (l : Whole) → desk.stands v l → MayFind (large_directory heap) v → IsToldLarge desk.seat.profile (large_directory heap) n l (triples desk.seat.actor (rest ++ tried) ++ l) answer
+  pub outcome : IsServedNamed desk.seat.profile (large_directory heap) n found tried rest answer ⊎ IsScanned desk.seat.profile (large_directory heap) n tried rest answer

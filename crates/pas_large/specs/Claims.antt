@@ -11,25 +11,25 @@ use Rattle.pas_steps.specs.Evidence.{KeptHere}
 use Rattle.pas_steps.specs.Kinds.{Only}
 use Rattle.pas_steps.specs.Past.{Always, Since}
 use Rattle.pas_steps.specs.Unknown.{unknown_pages}
-use Rattle.pas_steps.specs.Views.{View, holds, has_right, KnowsDeed}
+use Rattle.pas_steps.specs.Views.{View, Stays, grain_move, holds, has_right, known_deed, KnowsDeed}
 use Rattle.pas_steps.specs.declared.step.Made.{Made}
 use Rattle.pas_steps.specs.declared.step.Step.TheVariants.{Deed}
 use Rattle.pas_scan.specs.Usable.{ReadUsable, LeftAlone}
 use Rattle.pas_large.specs.Evidence.{LostHere, BrokenHere, TakenWholeHere}
-use Rattle.pas_large.specs.Pages.{OnceAfter, of_pages, GotPages, OnlyDeedsShow, claiming}
+use Rattle.pas_large.specs.Pages.{OnceAfter, of_pages, GotPages, OnlyDeedsShow, claiming, claiming_old}
 
 -- the page is one of those from `first` to below `end`
 abbrev pub in_span : ℕ → ℕ → ℕ → Bool
 in_span first end page = nat_le first page && nat_lt page end
 
--- the right of no page of the run is the actor's, who is clear
-pub record MayClaimPages (first end : ℕ) (v : View) : Type 0 where
-  pub lacks : (page : ℕ) → first ≤ page → page < end → has_right v page ≡ false
+-- the right of no page of the run is the actor's, unless the page is known to be of another directory; and the actor is clear
+pub record MayClaimPages (d : Directory) (first end : ℕ) (v : View) : Type 0 where
+  pub lacks : (page : ℕ) → first ≤ page → page < end → (known_deed v page ≡ 0) ⊎ KnowsDeed page d v → has_right v page ≡ false
   pub clear : IsClear v
 
 -- and there is room for the deeds that aren't known, and for n events more
-pub record HasRunRoom (f : Profile) (first end n spare : ℕ) (v : View) : Type 0 where
-  pub may : MayClaimPages first end v
+pub record HasRunRoom (f : Profile) (d : Directory) (first end n spare : ℕ) (v : View) : Type 0 where
+  pub may : MayClaimPages d first end v
   pub room : n + unknown_pages f v ≤ spare
 
 -- the steps before left each page from this one on alone
@@ -49,25 +49,32 @@ pub record HoldsSpan (first stop : ℕ) (steps : List Made) : Type 0 where
   pub right : (p : ℕ) → first ≤ p → p < stop → has_right steps p ≡ true
   pub whole : (p word : ℕ) → first ≤ p → p < stop → word < 4 → Since (TakenWholeHere p word) (KeptHere p) steps
 
+-- no step moves the grain
+abbrev pub StaysPut : ℕ → List Made → Type 0
+StaysPut g = Always (λ m before. grain_move m.step m.answer g ≡ Stays)
+
 -- the page was lost or broken by one of these steps
 abbrev pub FailsAt : Profile → Directory → ℕ → ℕ → List Made → Type 0
 FailsAt f d first page steps = (before : List Made) (v : View) → AloneFrom first before → ReadUsable d page before → Agreed f v (steps ++ before)
     → OnceAfter before (LostHere d page) steps ⊎ OnceAfter before (BrokenHere page) steps
 
--- The pages below `stop` are the actor's. Where that isn't the end, the page `stop` was lost or broken. At most 33 steps for each page that was tried.
-pub record ClaimsPages (d : Directory) (first end : ℕ) (desk desk' : Standing) (stop : ℕ) : Type 0 where
+-- The pages below `stop` are the actor's. Where that isn't the end, the page `stop` was lost or broken, or where no deeds may be made it has another
+-- deed or none. Six steps at most for each page that was got, and 21 for the one that wasn't.
+pub record ClaimsPages (deeds : Bool) (d : Directory) (first end : ℕ) (desk desk' : Standing) (stop : ℕ) : Type 0 where
   pub steps : List Made
-  pub adds : Adds desk desk' (λ v l. MayClaimPages first end v) steps
+  pub adds : Adds desk desk' (λ v l. MayClaimPages d first end v) steps
   pub kinds : Only claiming steps
-  pub few : length steps ≤ 33 * (min (stop + 1) end - first)
-  pub deeds : DeedsIn d first end steps
+  pub old : deeds ≡ false → Only claiming_old steps
+  pub few : length steps ≤ 6 * (stop - first) + 21 * (min (stop + 1) end - stop)
+  pub made : DeedsIn d first end steps
   pub shows : OnlyDeedsShow desk.seat.profile steps
   pub span : (first ≤ stop) × (stop ≤ end)
-  pub got : Leads desk.seat.profile (MayClaimPages first end) (GotPages (in_span first stop) d) steps
+  pub got : Leads desk.seat.profile (MayClaimPages d first end) (GotPages (in_span first stop) d) steps
   pub holding : (before : List Made) → AloneFrom first before → HoldsSpan first stop (steps ++ before)
   pub lacks : (before : List Made) → LacksAll before → (p : ℕ) → in_span first stop p ≡ false → has_right (steps ++ before) p ≡ false
-  pub alone : (before : List Made) → AloneFrom first before → AloneFrom (stop + 1) (steps ++ before)
-  pub failed : stop < end → FailsAt desk.seat.profile d first stop steps
+  pub alone : (before : List Made) → AloneFrom first before → AloneFrom (min (stop + 1) end) (steps ++ before)
+  pub steady : (g : ℕ) → in_span first end (g / 256) ≡ false → StaysPut g steps
+  pub failed : stop < end → deeds ≡ true → FailsAt desk.seat.profile d first stop steps
 
 -- ---- the pages are left
 -- the rights of these pages and all their grains are the actor's, who is clear
@@ -85,27 +92,34 @@ pub record Releases (d : Directory) (first end : ℕ) (desk desk' : Standing) : 
   pub few : length steps ≤ 15 * (end - first)
   pub lacks : (before : List Made) (p : ℕ) → (in_span first end p ≡ false → has_right before p ≡ false) → has_right (steps ++ before) p ≡ false
   pub alone : (before : List Made) (p : ℕ) → end ≤ p → LeftAlone p before → LeftAlone p (steps ++ before)
+  pub steady : (g : ℕ) → in_span first end (g / 256) ≡ false → StaysPut g steps
 
 -- ---- the claim of a run
--- the run is the actor's
+-- the run is the actor's, and the pages behind it were left alone
 pub record HoldsRun (f : Profile) (d : Directory) (first end : ℕ) (steps : List Made) : Type 0 where
-  pub got : Leads f (MayClaimPages first end) (GotPages (in_span first end) d) steps
+  pub few : length steps ≤ 6 * (end - first)
+  pub got : Leads f (MayClaimPages d first end) (GotPages (in_span first end) d) steps
   pub holding : (before : List Made) → AloneFrom first before → HoldsSpan first end (steps ++ before)
+  pub lacks : (before : List Made) → LacksAll before → (p : ℕ) → in_span first end p ≡ false → has_right (steps ++ before) p ≡ false
+  pub alone : (before : List Made) → AloneFrom first before → AloneFrom end (steps ++ before)
 
--- This page of the run was lost or broken, and all is as it was. The pages behind it were left alone.
-pub record FailsRun (f : Profile) (d : Directory) (first end page : ℕ) (steps : List Made) : Type 0 where
+-- This page of the run was lost or broken, or where no deeds may be made it has another deed or none, and all is as it was. The pages behind it were
+-- left alone.
+pub record FailsRun (deeds : Bool) (f : Profile) (d : Directory) (first end page : ℕ) (steps : List Made) : Type 0 where
   pub in_run : (first ≤ page) × (page < end)
-  pub still : Leads f (MayClaimPages first end) (Does nothing) steps
+  pub few : length steps + 48 * first ≤ 48 * (page + 1)
+  pub still : Leads f (MayClaimPages d first end) (Does nothing) steps
   pub lacks : (before : List Made) → LacksAll before → LacksAll (steps ++ before)
   pub alone : (before : List Made) → AloneFrom first before → AloneFrom (page + 1) (steps ++ before)
-  pub failed : FailsAt f d first page steps
+  pub failed : deeds ≡ true → FailsAt f d first page steps
 
--- At most 48 steps for each page that was tried.
-pub record ClaimsRun (d : Directory) (first end : ℕ) (desk desk' : Standing) (failed : Option ℕ) : Type 0 where
+-- Where `deeds` is false no deed is made.
+pub record ClaimsRun (deeds : Bool) (d : Directory) (first end : ℕ) (desk desk' : Standing) (failed : Option ℕ) : Type 0 where
   pub steps : List Made
-  pub adds : Adds desk desk' (λ v l. MayClaimPages first end v) steps
+  pub adds : Adds desk desk' (λ v l. MayClaimPages d first end v) steps
   pub kinds : Only claiming steps
-  pub few : MatchOption failed (length steps ≤ 48 * (end - first)) (λ page. length steps + 48 * first ≤ 48 * (page + 1))
-  pub deeds : DeedsIn d first end steps
+  pub old : deeds ≡ false → Only claiming_old steps
+  pub made : DeedsIn d first end steps
   pub shows : OnlyDeedsShow desk.seat.profile steps
-  pub outcome : MatchOption failed (HoldsRun desk.seat.profile d first end steps) (λ page. FailsRun desk.seat.profile d first end page steps)
+  pub steady : (g : ℕ) → in_span first end (g / 256) ≡ false → StaysPut g steps
+  pub outcome : MatchOption failed (HoldsRun desk.seat.profile d first end steps) (λ page. FailsRun deeds desk.seat.profile d first end page steps)

@@ -1,6 +1,26 @@
--- What a large request asks of an index of ranges of pages.
-use Rattle.std.specs.Prelude.{ℕ, Option}
+-- What a large request asks of an index of ranges of pages, and what indexes answer that nobody else asks meanwhile.
+use Rattle.std.specs.Prelude.{ℕ, List, [], Option, slice_index_or, slice_set}
+use Rattle.pas_profile.specs.declared.event.Range.{Range}
+use Rattle.pas_large_index.specs.declared.span.Span.{Span}
+use Rattle.pas_large_index.specs.Spans.{span_of, lowest_fit, cut_lowest, added}
 
 -- the index was asked once, and gave some answer
 abbrev pub WasAsked : (Option ℕ → Type 0) → Type 0
 WasAsked Answers = (found : Option ℕ) × Answers found
+
+-- ---- the indexes of the heaps, by their numbers
+-- the ranges of a heap: none where it has no index
+abbrev pub ranges_of : List (List Span) → ℕ → List Span
+ranges_of indexes heap = slice_index_or indexes heap []
+
+-- the first page of its lowest range that has so many pages
+abbrev pub found_in : List (List Span) → ℕ → ℕ → Option ℕ
+found_in indexes heap pages = lowest_fit pages (ranges_of indexes heap)
+
+-- the indexes without the first so many pages of that range
+abbrev pub cut_in : List (List Span) → ℕ → ℕ → List (List Span)
+cut_in indexes heap pages = slice_set indexes heap (cut_lowest pages (ranges_of indexes heap))
+
+-- .. with a range more of the heap, or without it where its index is full
+abbrev pub added_in : List (List Span) → ℕ → Range → List (List Span)
+added_in indexes heap range = slice_set indexes heap (added (span_of range) (ranges_of indexes heap))

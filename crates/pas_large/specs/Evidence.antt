@@ -1,15 +1,15 @@
 -- The evidence of a large request, over the steps of one call, the newest first.
-use Rattle.std.specs.Prelude.{ℕ, ◌+◌, ◌%◌, ◌<◌, ◌≤◌, ◌≡◌, ◌≢◌, ◌⊎◌, true, false, List}
+use Rattle.std.specs.Prelude.{ℕ, ◌+◌, ◌/◌, ◌%◌, ◌<◌, ◌≤◌, ◌≡◌, ◌≢◌, ◌⊎◌, true, false, List}
 use Rattle.pas_profile.specs.Classes.{has_bit}
 use Rattle.pas_profile.specs.Profiles.{IsPage}
 use Rattle.pas_profile.specs.declared.directory.Directory.{Directory}
 use Rattle.pas_profile.specs.declared.profile.Profile.{Profile}
-use Rattle.pas_steps.specs.Views.{has_right}
+use Rattle.pas_steps.specs.Views.{holds, has_right}
 use Rattle.pas_steps.specs.Past.{Once, Always, Since}
 use Rattle.pas_steps.specs.declared.step.Made.{Made}
 use Rattle.pas_steps.specs.declared.step.Step.TheVariants.{Deed, TakeRight}
 use Rattle.pas_steps.specs.Evidence.{Readings, NoDeedHere, KeptHere, UnfitHere}
-use Rattle.pas_scan.specs.Usable.{DeedReadHere, WholeHere, ReadUsable, IsFresh, UnusableHere, MakesNoDeedHere}
+use Rattle.pas_scan.specs.Usable.{DeedReadHere, OfHere, ParksNotHere, WholeHere, ReadUsable, IsFresh, UnusableHere, MakesNoDeedHere}
 use Rattle.pas_scan.specs.Runs.{IsInRun}
 
 -- ---- lost and broken
@@ -71,3 +71,12 @@ pub record IsTakenRun (d : Directory) (n first : ℕ) (before : List Made) : Typ
   pub usable : AllUsable d n first before
   pub right : (page : ℕ) → IsInRun first n page → has_right before page ≡ true
   pub whole : (page word : ℕ) → IsInRun first n page → word < 4 → Since (TakenWholeHere page word) (KeptHere page) before
+
+-- ---- what a claim that failed leaves
+-- These steps don't have the page's right, hold none of its grains, and didn't make its deed. They didn't park it either, or the page was read as of the
+-- directory and then broken.
+pub record LeftOrBroken (d : Directory) (page : ℕ) (xs : List Made) : Type 0 where
+  pub right : has_right xs page ≡ false
+  pub none : (g : ℕ) → g / 256 ≡ page → holds xs g ≡ false
+  pub deeds : Always (MakesNoDeedHere page) xs
+  pub parks : Always (ParksNotHere page) xs ⊎ (Once (OfHere d page) xs × Once (BrokenHere page) xs)

@@ -34,7 +34,6 @@ finding = LookEligible ∷ LookFree ∷ claiming
 pub record FoundRun (f : Profile) (d : Directory) (n : ℕ) (steps : List Made) (first : ℕ) : Type 0 where
   pub of_region : (1 ≤ first) × (first + n ≤ f.pages + 1)
   pub got : Leads f (MayFind d) (GotPages (in_span first (first + n)) d) steps
-  pub lacked : Leads f (MayFind d) (λ v w. (p : ℕ) → in_span first (first + n) p ≡ true → has_right v p ≡ false) steps
   pub taken : IsTakenRun d n first steps
   pub lower : (other : ℕ) → 1 ≤ other → other < first → HasBad d n other steps
   pub deeds : DeedsOf d n (λ other. (other ≡ first) ⊎ HasFailed d n other steps) steps

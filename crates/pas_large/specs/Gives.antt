@@ -1,11 +1,13 @@
 -- A run of pages is given as one block.
-use Rattle.std.specs.Prelude.{ℕ, ◌+◌, ◌-◌, ◌*◌, ◌/◌, ◌^◌, ◌<◌, ◌≤◌, ◌≡◌, true, if◌then◌else◌, List, [], ◌∷◌, ◌++◌, length}
+use Rattle.std.specs.Prelude.{ℕ, zero, suc, ◌+◌, ◌-◌, ◌*◌, ◌/◌, ◌^◌, ◌<◌, ◌≤◌, ◌≡◌, true, if◌then◌else◌, List, [], ◌∷◌, ◌++◌, length}
 use Rattle.pas_profile.specs.Lives.{turn_of}
 use Rattle.pas_profile.specs.declared.directory.Directory.{Directory}
 use Rattle.pas_profile.specs.declared.name.Block.{Block}
 use Rattle.pas_profile.specs.declared.word.Word.TheVariants as Word
 use Rattle.pas_steps.specs.Calls.{Calls, Effect, Kept, Lost, nothing, Does, Bears}
+use Rattle.pas_rights.specs.Leaves.{LeaveSteps}
 use Rattle.pas_steps.specs.Desks.{Standing, made}
+use Rattle.pas_steps.specs.InTurn.{InTurn}
 use Rattle.pas_steps.specs.Kinds.{Backing, Only, returning}
 use Rattle.pas_steps.specs.Past.{Always}
 use Rattle.pas_steps.specs.Views.{View, has_right, KnowsDeed}
@@ -18,6 +20,15 @@ use Rattle.pas_large.specs.Pages.{of_pages}
 abbrev pub BacksIn : ℕ → ℕ → List Made → Type 0
 BacksIn first end = Always (λ m before. (page : ℕ) → m.step ≡ Back page → (first ≤ page) × (page < end))
 
+-- so many pages from the first one on, the last one first
+abbrev pub pages_from : ℕ → ℕ → List ℕ
+pages_from first zero = []
+pages_from first (suc n) = (first + n) ∷ pages_from first n
+
+-- one back of the page
+abbrev pub BackStep : ℕ → List Made → Type 0
+BackStep page steps = (a : ℕ) × (steps ≡ made (Back page) a ∷ [])
+
 -- ---- of private functions: the pages are backed
 -- nothing changed but that they are known as backed
 pub record BackedRun (first end : ℕ) (v w : View) : Type 0 where
@@ -29,6 +40,7 @@ pub record BacksRun (d : Directory) (first end : ℕ) (desk desk' : Standing) : 
   pub calls : Calls desk desk' (HasPages d first end) (BackedRun first end) steps
   pub kinds : Only (Backing ∷ []) steps
   pub backs : BacksIn first end steps
+  pub order : InTurn BackStep (pages_from first (end - first)) steps
   pub few : length steps ≤ end - first
 
 -- ---- and the pages are left
@@ -47,6 +59,7 @@ pub record LeftRun (d : Directory) (first end : ℕ) (v w : View) : Type 0 where
 pub record LeavesRun (d : Directory) (first end : ℕ) (desk desk' : Standing) : Type 0 where
   pub steps : List Made
   pub calls : Calls desk desk' (MayLeaveRun d first end) (LeftRun d first end) steps
+  pub order : InTurn (λ page piece. LeaveSteps page d piece) (pages_from first (end - first)) steps
   pub kinds : Only returning steps
   pub few : length steps ≤ 11 * (end - first)
 
@@ -87,11 +100,13 @@ pub record GivesRun (d : Directory) (first n : ℕ) (block : Block) (desk desk' 
   pub backs : List Made
   pub back_kinds : Only (Backing ∷ []) backs
   pub back_pages : BacksIn first (first + n) backs
+  pub back_order : InTurn BackStep (pages_from first n) backs
   pub back_few : length backs ≤ n
   pub word : ℕ
   pub answer : ℕ
   pub block_is : block ≡ run_block d first n word
   pub left : List Made
   pub left_kinds : Only returning left
+  pub left_order : InTurn (λ page piece. LeaveSteps page d piece) (pages_from first n) left
   pub few : length (left ++ (give_steps first block word answer ++ backs)) ≤ 12 * n + 2
   pub calls : Calls desk desk' (HasPages d first (first + n)) (GaveRun d first n block) (left ++ (give_steps first block word answer ++ backs))

@@ -4,6 +4,7 @@ pub mod Pages
 pub mod Claims
 pub mod Gives
 pub mod Finds
+pub mod Named
 pub mod Allocates
 pub mod Doors
 pub mod Telling

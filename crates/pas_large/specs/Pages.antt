@@ -1,5 +1,5 @@
 -- The claim of one page of a run.
-use Rattle.std.specs.Prelude.{ℕ, ◌+◌, ◌/◌, ◌<◌, ◌≤◌, ◌≡◌, ◌==◌, Bool, true, false, if◌then◌else◌, MatchBool, List, ◌++◌, ◌∷◌, [], length}
+use Rattle.std.specs.Prelude.{ℕ, ◌+◌, ◌/◌, ◌<◌, ◌≤◌, ◌≡◌, ◌==◌, ◌⊎◌, Bool, true, false, if◌then◌else◌, MatchBool, List, ◌++◌, ◌∷◌, [], length}
 use Rattle.pas_profile.specs.declared.directory.Directory.{Directory}
 use Rattle.pas_profile.specs.declared.profile.Profile.{Profile}
 use Rattle.pas_bits.specs.declared.mask.Mask4.{Mask4}
@@ -15,7 +15,7 @@ use Rattle.pas_steps.specs.Frames.{OnlyOn, KeepsRight}
 use Rattle.pas_steps.specs.Kinds.{Kinds, LookDeed, Deeding, Claiming, Taking, Putting, Only}
 use Rattle.pas_steps.specs.Past.{Once, Always, Since}
 use Rattle.pas_steps.specs.Unknown.{unknown_pages}
-use Rattle.pas_steps.specs.Views.{View, holds, has_right, KnowsDeed}
+use Rattle.pas_steps.specs.Views.{View, holds, has_right, known_deed, KnowsDeed}
 use Rattle.pas_steps.specs.declared.step.Made.{Made}
 use Rattle.pas_steps.specs.declared.step.Step.TheVariants.{Deed}
 use Rattle.pas_scan.specs.Usable.{ReadUsable, LeftAlone}
@@ -24,9 +24,9 @@ use Rattle.pas_segregated.specs.Returns.{giving_back}
 use Rattle.pas_large.specs.Evidence.{LostHere, BrokenHere, TakenWholeHere}
 use Rattle.pas_large.specs.declared.claiming.Claimed.{Claimed}
 
--- the page's right isn't the actor's, who is clear
-pub record MayClaim (page : ℕ) (v : View) : Type 0 where
-  pub lacks : has_right v page ≡ false
+-- the page's right isn't the actor's, unless the page is known to be of another directory; and the actor is clear
+pub record MayClaim (d : Directory) (page : ℕ) (v : View) : Type 0 where
+  pub lacks : (known_deed v page ≡ 0) ⊎ KnowsDeed page d v → has_right v page ≡ false
   pub clear : IsClear v
 
 -- P holds at some of these steps, of it and of all steps before it, those that stood before these included
@@ -38,10 +38,11 @@ OnceAfter before P steps = Once (λ m b. P m (b ++ before)) steps
 abbrev pub of_pages : (ℕ → Bool) → Fate → Effect
 of_pages pages fate = record { grains = λ g. if pages (g / 256) then fate else Kept; rights = λ q. if pages q then fate else Kept; clears = λ q. Kept }
 
--- So they are the actor's: none of the grains was held before, and the deeds are known.
+-- So they are the actor's: none of the grains was held before and none of the rights was had, and the deeds are known.
 pub record GotPages (pages : ℕ → Bool) (d : Directory) (v w : View) : Type 0 where
   pub does : Does (of_pages pages Gained) v w
   pub apart : (g : ℕ) → pages (g / 256) ≡ true → holds v g ≡ false
+  pub lacked : (p : ℕ) → pages p ≡ true → has_right v p ≡ false
   pub deeds : (p : ℕ) → pages p ≡ true → KnowsDeed p d w
 
 -- ---- deeds
@@ -57,31 +58,36 @@ OnlyDeedsShow f steps = (k : ℕ) (v : View) → Agreed f v steps → length (ev
 abbrev pub getting : Kinds
 getting = LookDeed ∷ Deeding ∷ Claiming ∷ []
 
+-- .. of a page that has its deed already
+abbrev pub getting_old : Kinds
+getting_old = LookDeed ∷ Claiming ∷ []
+
 -- the right is the actor's, and the page may be served from
 pub record GotRight (page : ℕ) (d : Directory) (v w : View) : Type 0 where
   pub does : Does (right_of page Gained) v w
   pub may : MayServe page d w
 
 pub record GetsRightOf (f : Profile) (d : Directory) (page : ℕ) (steps : List Made) : Type 0 where
-  pub leads : Leads f (MayClaim page) (GotRight page d) steps
+  pub leads : Leads f (MayClaim d page) (GotRight page d) steps
   pub got : (before : List Made) → LeftAlone page before → GotBefore page (steps ++ before)
 
--- the page was lost, where the call had read it as usable before
-pub record LosesRightOf (f : Profile) (d : Directory) (page : ℕ) (steps : List Made) : Type 0 where
+-- the page was lost, where the call had read it as usable before and may make deeds
+pub record LosesRightOf (deeds : Bool) (f : Profile) (d : Directory) (page : ℕ) (steps : List Made) : Type 0 where
   pub leads : Leads f AnyView (Does nothing) steps
   pub lacks : (before : List Made) → has_right before page ≡ false → has_right (steps ++ before) page ≡ false
-  pub lost : (before : List Made) (v : View) → LeftAlone page before → ReadUsable d page before → Agreed f v (steps ++ before) → OnceAfter before (LostHere d page) steps
+  pub lost : deeds ≡ true → (before : List Made) (v : View) → LeftAlone page before → ReadUsable d page before → Agreed f v (steps ++ before) → OnceAfter before (LostHere d page) steps
 
--- a look at the deed word, and a claim or a deed
-pub record GetsPage (d : Directory) (page : ℕ) (desk desk' : Standing) (got : Bool) : Type 0 where
+-- a look at the deed word, and a claim, or where deeds may be made a deed
+pub record GetsPage (deeds : Bool) (d : Directory) (page : ℕ) (desk desk' : Standing) (got : Bool) : Type 0 where
   pub steps : List Made
   pub adds : Adds desk desk' Anything steps
   pub on : OnlyOn page steps
   pub kinds : Only getting steps
+  pub old : deeds ≡ false → Only getting_old steps
   pub few : length steps ≤ 2
-  pub deeds : DeedsOn d page steps
+  pub made : DeedsOn d page steps
   pub shows : OnlyDeedsShow desk.seat.profile steps
-  pub outcome : MatchBool got (GetsRightOf desk.seat.profile d page steps) (LosesRightOf desk.seat.profile d page steps)
+  pub outcome : MatchBool got (GetsRightOf desk.seat.profile d page steps) (LosesRightOf deeds desk.seat.profile d page steps)
 
 -- ---- grains are put back, and their page is left
 -- the page's right and these of its grains are the actor's
@@ -112,6 +118,7 @@ pub record TookPage (page : ℕ) (v w : View) : Type 0 where
   pub apart : (g : ℕ) → page ≡ g / 256 → holds v g ≡ false
 
 pub record KeepsAll (f : Profile) (d : Directory) (page : ℕ) (steps : List Made) : Type 0 where
+  pub few : length steps ≤ 4
   pub leads : Leads f (MayServe page d) (TookPage page) steps
   pub keeps : KeepsRight page steps
   pub whole : (before : List Made) → GotBefore page before → (word : ℕ) → word < 4 → Since (TakenWholeHere page word) (KeptHere page) (steps ++ before)
@@ -130,42 +137,48 @@ pub record TakesPage (d : Directory) (page : ℕ) (desk desk' : Standing) (whole
   pub adds : Adds desk desk' (λ v l. MayServe page d v) steps
   pub on : OnlyOn page steps
   pub kinds : Only taking_pages steps
-  pub few : length steps ≤ 31
+  pub few : length steps ≤ 19
   pub outcome : MatchBool whole (KeepsAll desk.seat.profile d page steps) (LeavesBroken desk.seat.profile d page steps)
 
 -- ---- the claim
 abbrev pub claiming : Kinds
 claiming = LookDeed ∷ Deeding ∷ Claiming ∷ taking_pages
 
--- another actor was first, and all is as it was
-pub record LosesPage (f : Profile) (d : Directory) (page : ℕ) (steps : List Made) : Type 0 where
-  pub still : Leads f (MayClaim page) (Does nothing) steps
+-- .. of a page that has its deed already
+abbrev pub claiming_old : Kinds
+claiming_old = LookDeed ∷ Claiming ∷ taking_pages
+
+-- another actor was first, or where no deeds may be made the page has another deed or none; and all is as it was
+pub record LosesPage (deeds : Bool) (f : Profile) (d : Directory) (page : ℕ) (steps : List Made) : Type 0 where
+  pub still : Leads f (MayClaim d page) (Does nothing) steps
   pub lacks : (before : List Made) → has_right before page ≡ false → has_right (steps ++ before) page ≡ false
-  pub lost : (before : List Made) (v : View) → LeftAlone page before → ReadUsable d page before → Agreed f v (steps ++ before) → OnceAfter before (LostHere d page) steps
+  pub lost : deeds ≡ true → (before : List Made) (v : View) → LeftAlone page before → ReadUsable d page before → Agreed f v (steps ++ before) → OnceAfter before (LostHere d page) steps
 
 -- not all its grains were free, and all is as it was
-pub record BreaksPage (f : Profile) (page : ℕ) (steps : List Made) : Type 0 where
-  pub still : Leads f (MayClaim page) (Does nothing) steps
+pub record BreaksPage (f : Profile) (d : Directory) (page : ℕ) (steps : List Made) : Type 0 where
+  pub still : Leads f (MayClaim d page) (Does nothing) steps
   pub lacks : (before : List Made) → has_right before page ≡ false → has_right (steps ++ before) page ≡ false
   pub broken : (before : List Made) → LeftAlone page before → OnceAfter before (BrokenHere page) steps
 
 -- the page's right and all its grains are the actor's
 pub record WinsPage (f : Profile) (d : Directory) (page : ℕ) (steps : List Made) : Type 0 where
-  pub leads : Leads f (MayClaim page) (GotPages (λ q. page == q) d) steps
+  pub few : length steps ≤ 6
+  pub leads : Leads f (MayClaim d page) (GotPages (λ q. page == q) d) steps
   pub right : (before : List Made) → LeftAlone page before → has_right (steps ++ before) page ≡ true
   pub whole : (before : List Made) → LeftAlone page before → (word : ℕ) → word < 4 → Since (TakenWholeHere page word) (KeptHere page) (steps ++ before)
 
-abbrev pub IsClaimed : Profile → Directory → ℕ → List Made → Claimed → Type 0
-IsClaimed f d page steps Claimed.Lost = LosesPage f d page steps
-IsClaimed f d page steps Claimed.Broken = BreaksPage f page steps
-IsClaimed f d page steps Claimed.Whole = WinsPage f d page steps
+abbrev pub IsClaimed : Bool → Profile → Directory → ℕ → List Made → Claimed → Type 0
+IsClaimed deeds f d page steps Claimed.Lost = LosesPage deeds f d page steps
+IsClaimed deeds f d page steps Claimed.Broken = BreaksPage f d page steps
+IsClaimed deeds f d page steps Claimed.Whole = WinsPage f d page steps
 
-pub record ClaimsPage (d : Directory) (page : ℕ) (desk desk' : Standing) (claimed : Claimed) : Type 0 where
+pub record ClaimsPage (deeds : Bool) (d : Directory) (page : ℕ) (desk desk' : Standing) (claimed : Claimed) : Type 0 where
   pub steps : List Made
-  pub adds : Adds desk desk' (λ v l. MayClaim page v) steps
+  pub adds : Adds desk desk' (λ v l. MayClaim d page v) steps
   pub on : OnlyOn page steps
   pub kinds : Only claiming steps
-  pub few : length steps ≤ 33
-  pub deeds : DeedsOn d page steps
+  pub old : deeds ≡ false → Only claiming_old steps
+  pub few : length steps ≤ 21
+  pub made : DeedsOn d page steps
   pub shows : OnlyDeedsShow desk.seat.profile steps
-  pub outcome : IsClaimed desk.seat.profile d page steps claimed
+  pub outcome : IsClaimed deeds desk.seat.profile d page steps claimed

@@ -12,7 +12,7 @@ use pas_steps::Desk;
 /// What came of a page.
 #[derive(Clone, Copy, Drop)]
 pub enum Claimed {
-    /// Another actor was first.
+    /// Another actor was first, or it has another deed or none.
     Lost,
     /// Not all its grains were free, and it was left.
     Broken,
@@ -20,16 +20,16 @@ pub enum Claimed {
     Whole,
 }
 
-/// Claims a page that was read as usable, with all its grains.
-pub fn claim_page<D: Desk>(desk: &mut D, page: u32, directory: Directory) -> Claimed
+/// Claims a page with all its grains. A deed is made of it only where `deeds` is true.
+pub fn claim_page<D: Desk>(desk: &mut D, page: u32, directory: Directory, deeds: bool) -> Claimed
     requires page { IsPage (D.standing desk.old).seat.profile page }
     requires directory { IsDirectoryOf (D.standing desk.old).seat.profile directory }
-    requires can { CanCall (D.standing desk.old) (λ v l. MayClaim page v) }
+    requires can { CanCall (D.standing desk.old) (λ v l. MayClaim directory page v) }
     requires room { 1 ≤ D.spare_of desk.old }
-    ensures claims { ClaimsPage directory page (D.standing desk.old) (D.standing desk.new) result }
+    ensures claims { ClaimsPage deeds directory page (D.standing desk.old) (D.standing desk.new) result }
     ensures home { D.home desk.new ≡ D.home desk.old }
 {
-    if !get_right(desk, page, directory) {
+    if !get_right(desk, page, directory, deeds) {
         return Claimed::Lost;
     }
     if take_whole(desk, page, directory) {

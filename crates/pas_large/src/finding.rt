@@ -28,7 +28,7 @@ pub fn find_run<D: Desk>(desk: &mut D, heap: u8, pages: u32) -> Option<u32>
     let mut from = 1;
     let mut next = 1;
     while let Some(first) = next_run(desk, heap, from, next, pages) {
-        match claim_run(desk, first, first + pages, directory) {
+        match claim_run(desk, first, first + pages, directory, true) {
             None => return Some(first),
             Some(page) => {
                 from = page + 1;

@@ -8,9 +8,17 @@ mod finding;
 mod getting;
 mod giving;
 mod leaving;
+mod naming;
+mod plain_door;
 mod refusing;
 mod running;
+mod shared_door;
 mod taking;
 
 pub use allocating::alloc;
 pub use door::{Door, NoIndex};
+pub use giving::give_run;
+pub use leaving::put_and_leave;
+pub use plain_door::PlainDoor;
+pub use running::{claim_run, release};
+pub use shared_door::SharedDoor;

@@ -11,18 +11,24 @@ use pas_profile::Directory;
 use pas_steps::Desk;
 
 /// Claims the pages from `first` to below `end`, from the lowest up, until one is lost or broken, and answers the page where it stopped:
-/// `end` where all were claimed. The pages below are held whole, with their rights.
-fn claim_pages<D: Desk>(desk: &mut D, first: u32, end: u32, directory: Directory) -> u32
+/// `end` where all were claimed. The pages below are held whole, with their rights. Deeds are made only where `deeds` is true.
+fn claim_pages<D: Desk>(
+    desk: &mut D,
+    first: u32,
+    end: u32,
+    directory: Directory,
+    deeds: bool,
+) -> u32
     requires first { 1 ≤ first }
     requires span { first ≤ end }
     requires region { end ≤ (D.standing desk.old).seat.profile.pages + 1 }
     requires directory { IsDirectoryOf (D.standing desk.old).seat.profile directory }
-    requires can { CanCall (D.standing desk.old) (λ v l. HasRunRoom (D.standing desk.old).seat.profile first end 1 (D.spare_of desk.old) v) }
-    ensures claims { ClaimsPages directory first end (D.standing desk.old) (D.standing desk.new) result }
+    requires can { CanCall (D.standing desk.old) (λ v l. HasRunRoom (D.standing desk.old).seat.profile directory first end 1 (D.spare_of desk.old) v) }
+    ensures claims { ClaimsPages deeds directory first end (D.standing desk.old) (D.standing desk.new) result }
     ensures home { D.home desk.new ≡ D.home desk.old }
 {
     for page in first..end {
-        match claim_page(desk, page, directory) {
+        match claim_page(desk, page, directory, deeds) {
             Claimed::Whole => {}
             Claimed::Lost => return page,
             Claimed::Broken => return page,
@@ -32,7 +38,7 @@ fn claim_pages<D: Desk>(desk: &mut D, first: u32, end: u32, directory: Directory
 }
 
 /// Puts all grains of the pages from `first` to below `end` back and leaves them, from the lowest up.
-fn release<D: Desk>(desk: &mut D, first: u32, end: u32, directory: Directory)
+pub fn release<D: Desk>(desk: &mut D, first: u32, end: u32, directory: Directory)
     requires first { 1 ≤ first }
     requires span { first ≤ end }
     requires region { end ≤ (D.standing desk.old).seat.profile.pages + 1 }
@@ -48,17 +54,24 @@ fn release<D: Desk>(desk: &mut D, first: u32, end: u32, directory: Directory)
 
 /// Claims the pages from `first` to below `end` whole, from the lowest up.
 ///
-/// None where all are held. Otherwise the page that was lost or broken: all that was got before is put back and left then.
-pub fn claim_run<D: Desk>(desk: &mut D, first: u32, end: u32, directory: Directory) -> Option<u32>
+/// None where all are held. Otherwise the page that was lost or broken: all that was got before is put back and left then. Deeds are made only where
+/// `deeds` is true; otherwise a page that has another deed or none is lost.
+pub fn claim_run<D: Desk>(
+    desk: &mut D,
+    first: u32,
+    end: u32,
+    directory: Directory,
+    deeds: bool,
+) -> Option<u32>
     requires first { 1 ≤ first }
     requires span { first ≤ end }
     requires region { end ≤ (D.standing desk.old).seat.profile.pages + 1 }
     requires directory { IsDirectoryOf (D.standing desk.old).seat.profile directory }
-    requires can { CanCall (D.standing desk.old) (λ v l. HasRunRoom (D.standing desk.old).seat.profile first end 1 (D.spare_of desk.old) v) }
-    ensures claims { ClaimsRun directory first end (D.standing desk.old) (D.standing desk.new) result }
+    requires can { CanCall (D.standing desk.old) (λ v l. HasRunRoom (D.standing desk.old).seat.profile directory first end 1 (D.spare_of desk.old) v) }
+    ensures claims { ClaimsRun deeds directory first end (D.standing desk.old) (D.standing desk.new) result }
     ensures home { D.home desk.new ≡ D.home desk.old }
 {
-    let stop = claim_pages(desk, first, end, directory);
+    let stop = claim_pages(desk, first, end, directory, deeds);
     if stop == end {
         return None;
     }

@@ -7,7 +7,7 @@ ghost use Rattle.pas_large.specs.Pages.{TakesPage};
 
 use crate::leaving::put_and_leave;
 use pas_profile::Directory;
-use pas_segregated::take_slots;
+use pas_segregated::take_usable;
 use pas_steps::Desk;
 
 /// The class whose slots are single grains.
@@ -21,7 +21,7 @@ pub fn take_whole<D: Desk>(desk: &mut D, page: u32, directory: Directory) -> boo
     ensures takes { TakesPage directory page (D.standing desk.old) (D.standing desk.new) result }
     ensures home { D.home desk.new ≡ D.home desk.old }
 {
-    let got = take_slots(desk, page, directory, GRAINS);
+    let got = take_usable(desk, page, GRAINS);
     match got.first_zero() {
         None => true,
         Some(_) => {

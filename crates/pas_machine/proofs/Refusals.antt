@@ -12,7 +12,7 @@ use Rattle.pas_profile.specs.Profiles.{IsPage}
 use Rattle.pas_profile.specs.Runs.{in_run, address_of, grain_of, length_of}
 use Rattle.pas_profile.proofs.Runs.{first_of_run}
 use Rattle.pas_machine.specs.State.{Live, deed_in, backed_in, live_in, gives_in, ends_in, epoch_in, touches}
-use Rattle.pas_machine.specs.Machine.{Run, Admits, MayGive, Bears, IsLive, IsReason, IsPlace}
+use Rattle.pas_machine.specs.Machine.{Run, Admits, MayGive, Bears, IsLive, HasOtherRoom, IsReason, IsPlace}
 use Rattle.pas_machine.specs.Reasons.{reason_number, Applies, IsFirst, IsOutside, IsNoPlace, IsNoRun, IsGrainOf, HasDeedOf}
 use Rattle.pas_machine.specs.declared.fault.Illegal.{Illegal}
 
@@ -92,9 +92,22 @@ live_or_not es name = by (live_in es (address_of name)) refl
 live_of : (es : List Event) (name : Name) → ((IsLive es name → ⊥) → ⊥) → IsLive es name
 live_of es name never = elim (live_or_not es name) [ inl h ↦ h | inr h ↦ absurd (never h) ]
 
+room_or_not : (es : List Event) (name : Name) (room : ℕ) → HasOtherRoom es name room ⊎ (HasOtherRoom es name room → ⊥)
+room_or_not es name room = elim (live_or_not es name) [
+  | inl live ↦ elim (eqb_tells live.0.block.room room) [
+    | inl h ↦ inr (λ has. has.differs (ap (λ (l : Live). l.block.room) (some_is (sym has.lives ∙ live.1)) ∙ h.1))
+    | inr h ↦ inl record { block = live.0; lives = live.1; turn_is = live.2; differs = h.1 }
+  ]
+  | inr dead ↦ inr (λ has. dead (has.block, has.lives, has.turn_is))
+]
+
 reason_of : (es : List Event) (name : Name) (why : Why) → ((IsReason es name why → ⊥) → ⊥) → IsReason es name why
 reason_of es name Why.Ended never = elim (leb_tells (ends_in es (address_of name)) name.turn) [ inl h ↦ absurd (never (λ r. let e : ends_in es (address_of name) ≤ name.turn = h.1 in omega arith)) | inr h ↦ h.1 ]
 reason_of es name Why.NoBlock never = (le_of (ends_in es (address_of name)) name.turn (λ h. never (λ r. let e : ends_in es (address_of name) ≤ name.turn = r.0 in omega arith)), λ live. never (λ r. r.1 live))
+reason_of es name (Why.SizeDiffers room) never = (
+  le_of (ends_in es (address_of name)) name.turn (λ h. never (λ r. let e : ends_in es (address_of name) ≤ name.turn = r.0 in omega arith)),
+  elim (room_or_not es name room) [ inl h ↦ h | inr h ↦ absurd (never (λ r. h r.1)) ],
+)
 
 -- ---- where no reason applies, the event may come next
 give_bears : (f : Profile) (es : List Event) (heap page : ℕ) → (IsOutside f page → ⊥) → ((HasDeedOf es heap page → ⊥) → ⊥) → (backed_in es page ≡ false → ⊥) → Bears f es heap page

@@ -43,10 +43,19 @@ pub record MayGive (f : Profile) (es : List Event) (block : Block) : Type 0 wher
   pub clear : IsClear es (grain_of block.name) (length_of block)
   pub turn : block.name.turn ≡ gives_in es (address_of block.name)
 
--- The true reason why a name can't end: more blocks ended at its address than its turn says, or else no live block has the name.
+-- a block of the name lives, and has another room than this
+pub record HasOtherRoom (es : List Event) (name : Name) (room : ℕ) : Type 0 where
+  pub block : Live
+  pub lives : live_in es (address_of name) ≡ Some block
+  pub turn_is : block.block.name.turn ≡ name.turn
+  pub differs : block.block.room ≢ room
+
+-- The true reason why a name can't end: more blocks ended at its address than its turn says, or else no live block has the name, or else its
+-- block has another room than the one that was named.
 abbrev pub IsReason : List Event → Name → Why → Type 0
 IsReason es name Why.Ended = name.turn < ends_in es (address_of name)
 IsReason es name Why.NoBlock = (ends_in es (address_of name) ≤ name.turn) × (IsLive es name → ⊥)
+IsReason es name (Why.SizeDiffers room) = (ends_in es (address_of name) ≤ name.turn) × HasOtherRoom es name room
 
 -- the event may come after those before it
 abbrev pub Admits : Profile → List Event → Event → Type 0

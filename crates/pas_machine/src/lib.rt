@@ -11,8 +11,6 @@ pub mod machine;
 mod places;
 mod reasons;
 mod stepping;
-#[cfg(test)]
-mod tests;
 
 pub use fault::{Illegal, StepFault};
 pub use machine::Machine;

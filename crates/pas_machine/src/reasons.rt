@@ -4,7 +4,7 @@ ghost use Rattle.pas_profile.specs.Profiles.{IsPage};
 ghost use Rattle.pas_profile.specs.Runs.{address_of, grain_of, length_of};
 ghost use Rattle.pas_profile.specs.declared.event.Event.{Event as TheEvent};
 ghost use Rattle.pas_machine.specs.State.{ends_in};
-ghost use Rattle.pas_machine.specs.Machine.{IsPlace, IsLive};
+ghost use Rattle.pas_machine.specs.Machine.{IsPlace, IsLive, HasOtherRoom};
 ghost use Rattle.pas_machine.specs.Reasons.{IsOutside, IsNoPlace, IsBroken, IsNoRun, IsVerdict, IsFirst};
 ghost use Rattle.pas_machine.specs.Places.{IsInside, IsWhole, IsWithin, IsLiveBlock, grains_of};
 ghost use Rattle.pas_machine.specs.Machines.{profile_of, StandsFor};
@@ -57,6 +57,17 @@ impl Machine {
         match self.places[name.address.grain() as usize].block {
             Some(block) if block.name.turn == name.turn => Some(block),
             _ => None,
+        }
+    }
+
+    /// Whether a block of exactly this name lives, with another room than this.
+    fn has_other_room(&self, name: &Name, room: u32) -> bool
+        requires { IsPlace (profile_of self.now) (address_of name.now) }
+        ensures { (es : List TheEvent) → StandsFor self.now es → MatchBool result (HasOtherRoom es name.now room) (HasOtherRoom es name.now room → ⊥) }
+    {
+        match self.live_block(name) {
+            Some(block) => block.room != room,
+            None => false,
         }
     }
 
@@ -181,6 +192,7 @@ impl Machine {
         let is_true = match why {
             Why::Ended => has_ended,
             Why::NoBlock => !has_ended && self.live_block(name).is_none(),
+            Why::SizeDiffers(room) => !has_ended && self.has_other_room(name, room),
         };
         if is_true {
             None

@@ -10,10 +10,6 @@ pub mod pass;
 pub mod region;
 pub mod session;
 pub mod storm;
-#[cfg(test)]
-mod storm_tests;
-#[cfg(test)]
-mod tests;
 
 pub use closed::Closed;
 pub use desk::PlainDesk;

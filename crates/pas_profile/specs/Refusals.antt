@@ -7,6 +7,7 @@ use Rattle.pas_profile.specs.declared.event.FreeFault.{FreeFault}
 abbrev pub why_number : Why → ℕ
 why_number Why.Ended = 1
 why_number Why.NoBlock = 2
+why_number (Why.SizeDiffers room) = 3
 
 abbrev pub no_room_number : NoRoom → ℕ
 no_room_number NoRoom.NoSpace = 1

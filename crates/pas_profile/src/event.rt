@@ -5,11 +5,12 @@ ghost use Rattle.pas_profile.specs.Refusals.{why_number, fault_number, no_room_n
 use crate::directory::Directory;
 use crate::name::{Block, Name};
 
-/// Why the end of a name was refused: its block had ended before, or no such block lives.
+/// Why the end of a name was refused: its block had ended before, no such block lives, or it lives with another room than the one that was named.
 #[derive(Clone, Copy, Debug, PartialEq, Eq, Drop)]
 pub enum Why {
-    Ended = 1,
-    NoBlock = 2,
+    Ended,
+    NoBlock,
+    SizeDiffers(u32),
 }
 
 /// An event of the machine. Actor 0 is the scavenger, the threads are the actors from 1 on.
@@ -83,11 +84,15 @@ pub struct Range {
 }
 
 impl Why {
-    /// The number of the reason: 1 for a block that ended, 2 for none.
+    /// The number of the reason: 1 for a block that ended, 2 for none, 3 for one with another room.
     pub fn number(&self) -> u8
         ensures { result ≡ why_number self.now }
     {
-        *self as u8
+        match self {
+            Why::Ended => 1,
+            Why::NoBlock => 2,
+            Why::SizeDiffers(_) => 3,
+        }
     }
 }
 

@@ -15,8 +15,6 @@ pub mod name;
 pub mod profile;
 pub mod room;
 pub mod routing;
-#[cfg(test)]
-mod tests;
 pub mod word;
 
 pub use classes::slot_mask;

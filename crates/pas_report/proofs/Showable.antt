@@ -1,15 +1,15 @@
 -- Each event of steps of the region can be shown.
-use Rattle.std.proofs.Common.{ℕ, ◌==◌, ◌&&◌, Bool, true, false, if◌then◌else◌, List, [], ◌∷◌, ◌++◌, reverse, Option, Some, None, sym, subst}
+use Rattle.std.proofs.Common.{ℕ, ◌==◌, ◌&&◌, Bool, true, false, if◌then◌else◌, List, [], ◌∷◌, ◌++◌, reverse, Option, Some, None, sym, subst, ◌/◌}
 use Rattle.std.proofs.lemmas.List.{reverse-append}
 use Rattle.pas_profile.specs.Lives.{live_word, is_live, turn_of}
 use Rattle.pas_profile.specs.declared.profile.Profile.{Profile}
 use Rattle.pas_profile.specs.declared.event.Event.{Event}
 use Rattle.pas_steps.specs.Allowed.{IsStepOf}
-use Rattle.pas_steps.specs.Events.{event_of, events_by, with_event, reason_of}
+use Rattle.pas_steps.specs.Events.{event_of, events_by, with_event, reason_of, sized_reason}
 use Rattle.pas_steps.specs.Views.{View, epoch_of}
 use Rattle.pas_steps.specs.declared.step.Made.{Made}
 use Rattle.pas_steps.specs.declared.step.Step.{Step}
-use Rattle.pas_steps.specs.declared.step.Step.TheVariants.{Deed, Back, End}
+use Rattle.pas_steps.specs.declared.step.Step.TheVariants.{Deed, Back, End, EndSized}
 use Rattle.pas_report.specs.Lines.{IsShowable}
 
 -- the steps are of the region
@@ -39,6 +39,7 @@ event_showable : (f : Profile) (k epoch : ℕ) (s : Step) (a : ℕ) → IsStepOf
 event_showable f k epoch (Deed page d) a of = if_shown (a == 0) (Event.Deed k page d) of.1.kind
 event_showable f k epoch (Back page) a of = if_shown (a == 0) (Event.Back k page) tt
 event_showable f k epoch (End name guess) a of = two_shown (a == live_word name.turn guess) (is_live a && (turn_of a == name.turn)) (Event.End k name epoch) (Event.Reject k name (reason_of name a)) tt tt
+event_showable f k epoch (EndSized name room) a of = two_shown (a == live_word name.turn (room / 16)) false (Event.End k name epoch) (Event.Reject k name (sized_reason name room a)) tt tt
 event_showable f k epoch s a of = tt
 
 with_showable : (o : Option Event) (es : List Event) → MayShow o → AreShowable es → AreShowable (with_event o es)

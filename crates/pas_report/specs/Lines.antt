@@ -54,6 +54,9 @@ ended_line k name = decimal k ++ (codes " ended" ++ (name_text name ++ codes "\n
 abbrev pub no_block_line : ℕ → Name → List ℕ
 no_block_line k name = decimal k ++ (codes " no-block" ++ (name_text name ++ codes "\n"))
 
+abbrev pub size_differs_line : ℕ → Name → ℕ → List ℕ
+size_differs_line k name room = decimal k ++ (codes " size-differs" ++ (name_text name ++ (codes " asked " ++ (decimal room ++ codes "\n"))))
+
 abbrev pub line_of_event : Event → List ℕ
 line_of_event (Event.Deed k page d) = deed_line k page d
 line_of_event (Event.Back k page) = back_line k page
@@ -62,6 +65,7 @@ line_of_event (Event.Give k block) = give_line k block
 line_of_event (Event.End k name epoch) = freed_line k name epoch
 line_of_event (Event.Reject k name Why.Ended) = ended_line k name
 line_of_event (Event.Reject k name Why.NoBlock) = no_block_line k name
+line_of_event (Event.Reject k name (Why.SizeDiffers room)) = size_differs_line k name room
 
 -- ---- answers that are no events
 -- actor k, these words, a number
@@ -80,6 +84,12 @@ young_line k page stamp = decimal k ++ (codes " young page " ++ (decimal page ++
 abbrev pub in_use_line : ℕ → ℕ → ℕ → ℕ → List ℕ
 in_use_line k page word value = decimal k ++ (codes " in-use page " ++ (decimal page ++ (codes " word " ++ (decimal word ++ (codes " value 0x" ++ (hex_digits 16 value ++ codes "\n"))))))
 
+abbrev pub guarded_line : ℕ → ℕ → ℕ → ℕ → List ℕ
+guarded_line k low high name = decimal k ++ (codes " guarded " ++ (decimal low ++ (codes " " ++ (decimal high ++ (codes " name " ++ (decimal name ++ codes "\n"))))))
+
+abbrev pub lowered_line : ℕ → ℕ → ℕ → List ℕ
+lowered_line k low high = decimal k ++ (codes " lowered " ++ (decimal low ++ (codes " " ++ (decimal high ++ codes "\n"))))
+
 abbrev pub line_of_answer : ℕ → Said → List ℕ
 line_of_answer k (Said.NoSpace name) = numbered_line k (codes " no-space name ") name
 line_of_answer k (Said.Held page name) = held_line k page name
@@ -93,6 +103,8 @@ line_of_answer k (Said.Young page stamp) = young_line k page stamp
 line_of_answer k (Said.InUse page word value) = in_use_line k page word value
 line_of_answer k (Said.NotOffered page) = numbered_line k (codes " not-offered page ") page
 line_of_answer k (Said.Stopped thread) = numbered_line k (codes " stopped ") thread
+line_of_answer k (Said.Guarded low high name) = guarded_line k low high name
+line_of_answer k (Said.Lowered low high) = lowered_line k low high
 
 -- ---- records
 abbrev pub line_of : Record → List ℕ

@@ -9,8 +9,6 @@ pub mod pages;
 pub mod record;
 pub mod records;
 pub mod reports;
-#[cfg(test)]
-mod tests;
 pub mod text;
 pub mod transcript;
 

@@ -10,13 +10,16 @@ ghost use Rattle.pas_report.specs.Lines.{
   deed_line as deed_text,
   freed_line as freed_text,
   give_line as give_text,
+  guarded_line as guarded_text,
   held_line as held_text,
   in_use_line as in_use_text,
   line_of,
   line_of_answer,
   line_of_event,
+  lowered_line as lowered_text,
   numbered_line as numbered_text,
   refused_line as refused_text,
+  size_differs_line as size_differs_text,
   unback_line as unback_text,
   young_line as young_text,
 };
@@ -100,6 +103,11 @@ fn push_event<const C: usize>(text: &mut ArrayString<C>, event: &Event)
             name,
             why: Why::NoBlock,
         } => push_refused(text, actor, " no-block", name),
+        Event::Reject {
+            actor,
+            name,
+            why: Why::SizeDiffers(room),
+        } => push_size_differs(text, actor, name, room),
     }
 }
 
@@ -122,6 +130,8 @@ fn push_said<const C: usize>(text: &mut ArrayString<C>, actor: u8, said: &Said)
         Said::InUse { page, word, value } => push_in_use(text, actor, page, word, value),
         Said::NotOffered(page) => push_numbered(text, actor, " not-offered page ", page as u64),
         Said::Stopped(thread) => push_numbered(text, actor, " stopped ", thread as u64),
+        Said::Guarded { low, high, name } => push_guarded(text, actor, low, high, name),
+        Said::Lowered { low, high } => push_lowered(text, actor, low, high),
     }
 }
 
@@ -213,6 +223,19 @@ fn push_refused<const C: usize>(text: &mut ArrayString<C>, actor: u8, cause: &st
     text.push_str("\n");
 }
 
+/// Adds the line of a block whose end named another room than it has.
+fn push_size_differs<const C: usize>(text: &mut ArrayString<C>, actor: u8, name: Name, room: u32)
+    requires { array_string_len text.old + 128 ≤ C }
+    ensures bytes { text.new.bytes ≡ text.old.bytes ++ size_differs_text actor name room }
+    ensures len { array_string_len text.new ≤ array_string_len text.old + 128 }
+{
+    push_number(text, actor);
+    text.push_str(" size-differs");
+    push_name(text, name);
+    push_field(text, " asked ", room);
+    text.push_str("\n");
+}
+
 /// Adds the line of words of at most 32 bytes and a number.
 fn push_numbered<const C: usize>(text: &mut ArrayString<C>, actor: u8, words: &str, number: u64)
     requires short { length words.now ≤ 32 }
@@ -234,6 +257,37 @@ fn push_held<const C: usize>(text: &mut ArrayString<C>, actor: u8, page: u32, na
     push_number(text, actor);
     push_field(text, " held ", page);
     push_field(text, " name ", name);
+    text.push_str("\n");
+}
+
+/// Adds the line of a guard that went up.
+fn push_guarded<const C: usize>(
+    text: &mut ArrayString<C>,
+    actor: u8,
+    low: u32,
+    high: u32,
+    name: u32,
+)
+    requires { array_string_len text.old + 128 ≤ C }
+    ensures bytes { text.new.bytes ≡ text.old.bytes ++ guarded_text actor low high name }
+    ensures len { array_string_len text.new ≤ array_string_len text.old + 128 }
+{
+    push_number(text, actor);
+    push_field(text, " guarded ", low);
+    push_field(text, " ", high);
+    push_field(text, " name ", name);
+    text.push_str("\n");
+}
+
+/// Adds the line of a guard that was lowered.
+fn push_lowered<const C: usize>(text: &mut ArrayString<C>, actor: u8, low: u32, high: u32)
+    requires { array_string_len text.old + 128 ≤ C }
+    ensures bytes { text.new.bytes ≡ text.old.bytes ++ lowered_text actor low high }
+    ensures len { array_string_len text.new ≤ array_string_len text.old + 128 }
+{
+    push_number(text, actor);
+    push_field(text, " lowered ", low);
+    push_field(text, " ", high);
     text.push_str("\n");
 }
 

@@ -29,6 +29,10 @@ pub enum Said {
     NotOffered(u32),
     /// The cache of an idle thread was stopped.
     Stopped(u8),
+    /// The block that was just given for this name stands between these two pages, which aren't backed as long as the guard is up.
+    Guarded { low: u32, high: u32, name: u32 },
+    /// The guard on these two pages was lowered.
+    Lowered { low: u32, high: u32 },
 }
 
 /// One line of a transcript.

@@ -8,7 +8,7 @@ use Rattle.pas_steps.specs.Frames.{OnlyOn}
 use Rattle.pas_steps.specs.Kinds.{Kinds, LookEpoch, LookFree, LookLife, LookDeed, LookBacked, LookStamp, LookParked, LookEmpty, LookEligible, Deeding, Backing, Taking, Putting, Claiming, Offering, Parking, Unparking, Hinting, Only}
 use Rattle.pas_steps.specs.declared.step.Step.{Step}
 use Rattle.pas_steps.specs.declared.step.Made.{Made}
-use Rattle.pas_steps.specs.declared.step.Step.TheVariants.{Look, Deed, Back, Take, Put, Give, End, TakeRight, Offer, Park, Unpark, Stamp, Hint, Tick, Unback, Unhint}
+use Rattle.pas_steps.specs.declared.step.Step.TheVariants.{Look, Deed, Back, Take, Put, Give, End, EndSized, TakeRight, Offer, Park, Unpark, Stamp, Hint, Tick, Unback, Unhint}
 
 -- ---- kinds
 -- what a back end may do on a page whose right was got: it makes no deed, claims nothing, stamps nothing, gives and ends no block
@@ -66,6 +66,7 @@ makes_deed (Take page word mask) a = false
 makes_deed (Put page word mask) a = false
 makes_deed (Give block) a = false
 makes_deed (End name guess) a = false
+makes_deed (EndSized name room) a = false
 makes_deed (TakeRight page directory) a = false
 makes_deed (Offer page directory) a = false
 makes_deed (Park page) a = false

@@ -15,7 +15,7 @@ use Rattle.pas_steps.specs.Kinds.{Kinds, Taking, Only}
 use Rattle.pas_steps.specs.Desks.{Standing, made}
 use Rattle.pas_steps.specs.declared.step.Made.{Made}
 use Rattle.pas_steps.specs.declared.step.Step.{Step}
-use Rattle.pas_steps.specs.declared.step.Step.TheVariants.{Look, Deed, Back, Take, Put, Give, End, TakeRight, Offer, Park, Unpark, Stamp, Hint, Tick, Unback, Unhint}
+use Rattle.pas_steps.specs.declared.step.Step.TheVariants.{Look, Deed, Back, Take, Put, Give, End, EndSized, TakeRight, Offer, Park, Unpark, Stamp, Hint, Tick, Unback, Unhint}
 use Rattle.pas_steps.specs.Evidence.{Readings, ShowsHere, KeptHere, IsAntitone}
 use Rattle.pas_search.specs.Serving.{Rule, MayServe, HoldsNone, IsJustGot, GotBefore, ReadsNoneHeld}
 use Rattle.pas_segregated.specs.Masks.{start_of}
@@ -82,6 +82,7 @@ takes_after page (Take q word mask) a before = if page == q then made (Take q wo
 takes_after page (Put q word mask) a before = before
 takes_after page (Give block) a before = before
 takes_after page (End name guess) a before = before
+takes_after page (EndSized name room) a before = before
 takes_after page (TakeRight q directory) a before = if (page == q) && has_bit a (page % 64) then [] else before
 takes_after page (Offer q directory) a before = before
 takes_after page (Park q) a before = before

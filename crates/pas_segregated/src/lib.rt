@@ -11,4 +11,4 @@ mod taking;
 pub use refilling::refill;
 pub use slots::{Slots, covered, whole_slots};
 pub use stopping::{stop, stop_on};
-pub use taking::take_slots;
+pub use taking::{take_slots, take_usable};

@@ -14,7 +14,7 @@ use pas_profile::{Directory, slot_mask};
 use pas_steps::Desk;
 
 /// Takes all usable grains of the page that are free, and answers which it got: one take for each free word.
-fn take_usable<D: Desk>(desk: &mut D, page: u32, class: u8) -> Mask4
+pub fn take_usable<D: Desk>(desk: &mut D, page: u32, class: u8) -> Mask4
     requires page { IsPage (D.standing desk.old).seat.profile page }
     requires class { IsClass class }
     requires can { CanCall (D.standing desk.old) (λ v l. has_right v page ≡ true) }

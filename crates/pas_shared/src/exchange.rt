@@ -77,6 +77,10 @@ pub(crate) fn exchange<C: Chosen>(
             let word = life_word(name.turn, guess, true);
             words.compare_exchange::<AddsStep<C>>(seat, at, word, name.turn + 1)
         }
+        Step::EndSized { name, room } => {
+            let live = life_word(name.turn, room / 16, true);
+            words.compare_exchange::<AddsStep<C>>(seat, at, live, name.turn + 1)
+        }
         Step::TakeRight { page, directory: _ } => {
             words.fetch_and::<AddsStep<C>>(seat, at, !page_mask(page))
         }

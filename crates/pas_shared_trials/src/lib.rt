@@ -7,6 +7,8 @@ mod racing_tests;
 #[cfg(test)]
 mod seating;
 #[cfg(test)]
+mod sizing_tests;
+#[cfg(test)]
 mod storm_tests;
 pub mod storming;
 #[cfg(test)]

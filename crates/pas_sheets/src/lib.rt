@@ -3,8 +3,6 @@
 
 mod filling;
 mod sheets;
-#[cfg(test)]
-mod tests;
 mod writing;
 
 pub use sheets::Sheets;

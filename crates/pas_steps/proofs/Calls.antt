@@ -15,7 +15,7 @@ use Rattle.pas_steps.specs.Effects.{in_mask}
 use Rattle.pas_steps.specs.Views.{View, Move, Stays, Puts, Ends, grain_move, held_after, holds, Way, ByDeed, way, had_after, right_after, has_right, known_deed, unstamped_after, is_unstamped, check_after, owes_check, all_ones, hint_after, owes_hint, examined_after, examines}
 use Rattle.pas_steps.specs.declared.step.Made.{Made}
 use Rattle.pas_steps.specs.declared.step.Step.{Step}
-use Rattle.pas_steps.specs.declared.step.Step.TheVariants.{Look, Back, Take, Put, End, Offer, Park, Unpark, Stamp, Hint, Tick, Unback, Unhint}
+use Rattle.pas_steps.specs.declared.step.Step.TheVariants.{Look, Back, Take, Put, End, EndSized, Offer, Park, Unpark, Stamp, Hint, Tick, Unback, Unhint}
 use Rattle.pas_steps.proofs.Adding.{agreed_first, agreed_later}
 use Rattle.pas_steps.proofs.Apart.{in_apart, holds_over, grain_same, holds_same}
 use Rattle.pas_steps.proofs.Flags.{ends_none, ap_if}
@@ -123,6 +123,7 @@ right_is s a p had = had_is (way s a p) had
 
 unstamped_shut : (s : Step) (a p : ℕ) (was : Bool) → opens s a p ≡ false → was ≡ false → unstamped_after s a p was ≡ false
 unstamped_shut (End n g) a p was shut h = cond-false ((a == live_word n.turn g) && meets_page (grain_of n) g p) true was shut ∙ h
+unstamped_shut (EndSized n room) a p was shut h = cond-false ((a == live_word n.turn (room / 16)) && meets_page (grain_of n) (room / 16) p) true was shut ∙ h
 unstamped_shut (Stamp q) a p was shut h = ends_none (q == p) was h
 unstamped_shut s a p was shut h = h
 
@@ -176,6 +177,7 @@ opening = Putting ∷ Ending ∷ Parking ∷ Unhinting ∷ []
 opens_none : (s : Step) (a p : ℕ) → is_in opening (kind_of s) ≡ false → opens s a p ≡ false
 opens_none (Put q u m) a p other = absurd (true≢false other)
 opens_none (End n g) a p other = absurd (true≢false other)
+opens_none (EndSized n room) a p other = absurd (true≢false other)
 opens_none (Park q) a p other = absurd (true≢false other)
 opens_none (Unhint q) a p other = absurd (true≢false other)
 opens_none s a p other = refl

@@ -1,11 +1,11 @@
 -- What steps leave as it was.
-use Rattle.std.proofs.Common.{◌≡◌, ℕ, ◌≤◌, Bool, true, false, ◌&&◌, List, [], ◌∷◌, ◌++◌, length, Option, Some, None, refl, ap, sym, ◌∙◌, subst, arith, append_assoc, ◌%◌, if◌then◌else◌, ◌==◌, true≢false, ◌+◌}
+use Rattle.std.proofs.Common.{◌≡◌, ℕ, ◌≤◌, Bool, true, false, ◌&&◌, List, [], ◌∷◌, ◌++◌, length, Option, Some, None, refl, ap, sym, ◌∙◌, subst, arith, append_assoc, ◌%◌, if◌then◌else◌, ◌==◌, true≢false, ◌+◌, ◌/◌}
 use Rattle.std.proofs.lemmas.Bool.{eqb-true}
 use Rattle.pas_profile.specs.Classes.{has_bit}
 use Rattle.pas_profile.specs.declared.event.Event.{Event}
 use Rattle.pas_steps.specs.declared.step.Made.{Made}
 use Rattle.pas_steps.specs.declared.step.Step.{Step}
-use Rattle.pas_steps.specs.declared.step.Step.TheVariants.{Deed, Back, Give, End, TakeRight, Offer, Park, Unpark, Unback}
+use Rattle.pas_steps.specs.declared.step.Step.TheVariants.{Deed, Back, Give, End, EndSized, TakeRight, Offer, Park, Unpark, Unback}
 use Rattle.pas_profile.specs.Directories.{number_of}
 use Rattle.pas_steps.specs.Views.{View, Way, way, Rests, ByDeed, FromOffer, FromParked, ToOffer, ToParked, had_after, right_after, has_right, epoch_of, given_after, given_count}
 use Rattle.pas_steps.specs.Events.{event_of, with_event, events_of, events_by}
@@ -42,6 +42,7 @@ given_step k e (Deed p d) a n es h = with_le (event_of k e (Deed p d) a) es n h
 given_step k e (Back p) a n es h = with_le (event_of k e (Back p) a) es n h
 given_step k e (Give b) a n es h = omega (arith, h)
 given_step k e (End name g) a n es h = with_le (event_of k e (End name g) a) es n h
+given_step k e (EndSized name room) a n es h = with_le (event_of k e (EndSized name room) a) es n h
 given_step k e (Unback p) a n es h = omega (arith, h)
 given_step k e s a n es h = h
 

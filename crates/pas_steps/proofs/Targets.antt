@@ -8,7 +8,7 @@ use Rattle.pas_steps.specs.Effects.{target}
 use Rattle.pas_steps.specs.Views.{View}
 use Rattle.pas_steps.specs.Allowed.{Allowed, IsStepOf}
 use Rattle.pas_steps.specs.declared.step.Step.{Step}
-use Rattle.pas_steps.specs.declared.step.Step.TheVariants.{Deed, Take, Put, Give, End, TakeRight, Offer, Park, Unpark, Hint, Tick, Unhint}
+use Rattle.pas_steps.specs.declared.step.Step.TheVariants.{Deed, Take, Put, Give, End, EndSized, TakeRight, Offer, Park, Unpark, Hint, Tick, Unhint}
 
 given_page : (first room pages : ℕ) → 4096 ≤ first → first + room ≤ 4096 * (pages + 1) → 0 < room → (1 ≤ first / 16 / 256) × (first / 16 / 256 ≤ pages) × (first / 16 % 256 < 256)
 given_page first room pages low high some = (omega arith, omega arith, omega arith)
@@ -27,6 +27,7 @@ target_of_region f v (Take page word mask) of allowed = (of.0.0, of.0.1, of.1)
 target_of_region f v (Put page word mask) of allowed = (of.0.0, of.0.1, of.1)
 target_of_region f v (Give block) of allowed = given_page (address_of block.name) block.room f.pages of.first of.last allowed.some
 target_of_region f v (End name guess) of allowed = ended_page (address_of name) f.pages of.0.0 of.0.1
+target_of_region f v (EndSized name room) of allowed = ended_page (address_of name) f.pages of.0.0.0 of.0.0.1
 target_of_region f v (TakeRight page directory) of allowed = (number_lt directory f.heaps of.1.heap of.1.kind, vector_has page f.pages of.0.1)
 target_of_region f v (Offer page directory) of allowed = (number_lt directory f.heaps of.1.heap of.1.kind, vector_has page f.pages of.0.1)
 target_of_region f v (Park page) of allowed = vector_has page f.pages of.1

@@ -14,7 +14,7 @@ use Rattle.pas_profile.specs.Runs.{in_run, grain_of}
 use Rattle.pas_steps.specs.Views.{View, holds, has_right, known_deed, known_free, knows_backed, known_life, epoch_of, known_stamp, ReadLive, ReadBacked, EndedOn, EndedOnBoth}
 use Rattle.pas_steps.specs.declared.step.Step.{Step}
 use Rattle.pas_steps.specs.declared.step.Made.{Made}
-use Rattle.pas_steps.specs.declared.step.Step.TheVariants.{Look, Deed, Back, Take, Put, Give, End, TakeRight, Offer, Park, Unpark, Stamp, Hint, Tick, Unback, Unhint}
+use Rattle.pas_steps.specs.declared.step.Step.TheVariants.{Look, Deed, Back, Take, Put, Give, End, EndSized, TakeRight, Offer, Park, Unpark, Stamp, Hint, Tick, Unback, Unhint}
 
 -- the word is no deed, or the deed of a directory of the profile
 abbrev pub IsDeedWord : Profile → ℕ → Type 0
@@ -106,6 +106,7 @@ Agrees f v (Take page word mask) a = AgreesFree v page word a
 Agrees f v (Put page word mask) a = AgreesFree v page word a
 Agrees f v (Give block) a = AgreesLife f v (grain_of block.name) a
 Agrees f v (End name guess) a = AgreesEnd f v name guess a
+Agrees f v (EndSized name room) a = AgreesEnd f v name (room / 16) a
 Agrees f v (TakeRight page directory) a = AgreesEligible f v (number_of directory) (page / 64) a
 Agrees f v (Offer page directory) a = AgreesEligible f v (number_of directory) (page / 64) a
 Agrees f v (Park page) a = AgreesParked f v (page / 64) a

@@ -5,11 +5,12 @@ use Rattle.pas_profile.specs.Profiles.{IsPage, IsDirectoryOf, IsWordOf}
 use Rattle.pas_profile.specs.declared.profile.Profile.{Profile}
 use Rattle.pas_profile.specs.declared.directory.Directory.{Directory}
 use Rattle.pas_profile.specs.declared.name.Block.{Block}
+use Rattle.pas_profile.specs.declared.name.Name.{Name}
 use Rattle.pas_profile.specs.Runs.{in_run, address_of, grain_of, length_of}
 use Rattle.pas_steps.specs.Effects.{in_mask}
 use Rattle.pas_steps.specs.Views.{View, holds, has_right, known_deed, KnowsDeed, knows_backed, known_life, known_epoch, epoch_of, known_stamp, is_unstamped, given_count}
 use Rattle.pas_steps.specs.declared.step.Step.{Step}
-use Rattle.pas_steps.specs.declared.step.Step.TheVariants.{Look, Deed, Back, Take, Put, Give, End, TakeRight, Offer, Park, Unpark, Stamp, Hint, Tick, Unback, Unhint}
+use Rattle.pas_steps.specs.declared.step.Step.TheVariants.{Look, Deed, Back, Take, Put, Give, End, EndSized, TakeRight, Offer, Park, Unpark, Stamp, Hint, Tick, Unback, Unhint}
 
 -- the operands are of the profile
 pub record IsBlockOf (f : Profile) (block : Block) : Type 0 where
@@ -18,6 +19,9 @@ pub record IsBlockOf (f : Profile) (block : Block) : Type 0 where
   pub heap : block.heap < f.heaps
   pub turn : block.name.turn < 2 ^ 40
 
+abbrev pub IsEndIn : Profile → Name → ℕ → Type 0
+IsEndIn f name grains = IsPage f (address_of name / 4096) × (address_of name % 16 ≡ 0) × (name.turn < 2 ^ 40 - 1) × (1 ≤ grains) × (grains ≤ 256 * f.pages)
+
 abbrev pub IsStepOf : Profile → Step → Type 0
 IsStepOf f (Look word) = IsWordOf f word
 IsStepOf f (Deed page directory) = IsPage f page × IsDirectoryOf f directory
@@ -25,7 +29,8 @@ IsStepOf f (Back page) = IsPage f page
 IsStepOf f (Take page word mask) = IsPage f page × (word < 4) × (mask < 2 ^ 64)
 IsStepOf f (Put page word mask) = IsPage f page × (word < 4) × (mask < 2 ^ 64)
 IsStepOf f (Give block) = IsBlockOf f block
-IsStepOf f (End name guess) = IsPage f (address_of name / 4096) × (address_of name % 16 ≡ 0) × (name.turn < 2 ^ 40 - 1) × (1 ≤ guess) × (guess ≤ 256 * f.pages)
+IsStepOf f (End name guess) = IsEndIn f name guess
+IsStepOf f (EndSized name room) = IsEndIn f name (room / 16) × (room % 16 ≡ 0)
 IsStepOf f (TakeRight page directory) = IsPage f page × IsDirectoryOf f directory
 IsStepOf f (Offer page directory) = IsPage f page × IsDirectoryOf f directory
 IsStepOf f (Park page) = IsPage f page
@@ -91,6 +96,7 @@ Allowed f v (Take page word mask) = has_right v page ≡ true
 Allowed f v (Put page word mask) = MayPutNow v page word mask
 Allowed f v (Give block) = MayGiveNow f v block
 Allowed f v (End name guess) = IsEpochKnown (known_epoch v)
+Allowed f v (EndSized name room) = IsEpochKnown (known_epoch v)
 Allowed f v (TakeRight page directory) = KnowsDeed page directory v
 Allowed f v (Offer page directory) = (has_right v page ≡ true) × KnowsDeed page directory v
 Allowed f v (Park page) = has_right v page ≡ true

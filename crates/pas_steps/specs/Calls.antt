@@ -8,7 +8,7 @@ use Rattle.pas_steps.specs.Desks.{Standing, Adds}
 use Rattle.pas_steps.specs.Views.{View, Move, Stays, Gets, Puts, Gives, Ends, grain_move, holds, Way, Rests, ByDeed, FromOffer, FromParked, ToOffer, ToParked, way, has_right, knows_backed}
 use Rattle.pas_steps.specs.declared.step.Step.{Step}
 use Rattle.pas_steps.specs.declared.step.Made.{Made}
-use Rattle.pas_steps.specs.declared.step.Step.TheVariants.{Look, Deed, Back, Take, Put, Give, End, TakeRight, Offer, Park, Unpark, Stamp, Hint, Tick, Unback, Unhint}
+use Rattle.pas_steps.specs.declared.step.Step.TheVariants.{Look, Deed, Back, Take, Put, Give, End, EndSized, TakeRight, Offer, Park, Unpark, Stamp, Hint, Tick, Unback, Unhint}
 use Rattle.pas_steps.specs.Effects.{succeeds}
 
 -- ---- calls
@@ -112,6 +112,7 @@ opens (Take q word mask) a page = false
 opens (Put q word mask) a page = q == page
 opens (Give block) a page = false
 opens (End name guess) a page = succeeds name guess a && meets_page (grain_of name) guess page
+opens (EndSized name room) a page = succeeds name (room / 16) a && meets_page (grain_of name) (room / 16) page
 opens (TakeRight q directory) a page = false
 opens (Offer q directory) a page = false
 opens (Park q) a page = q == page

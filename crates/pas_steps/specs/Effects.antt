@@ -9,7 +9,7 @@ use Rattle.pas_profile.specs.declared.word.Word.{Word}
 use Rattle.pas_profile.specs.Runs.{grain_of, length_of}
 use Rattle.pas_bits.specs.PageVectors.{page_mask}
 use Rattle.pas_steps.specs.declared.step.Step.{Step}
-use Rattle.pas_steps.specs.declared.step.Step.TheVariants.{Look, Deed, Back, Take, Put, Give, End, TakeRight, Offer, Park, Unpark, Stamp, Hint, Tick, Unback, Unhint}
+use Rattle.pas_steps.specs.declared.step.Step.TheVariants.{Look, Deed, Back, Take, Put, Give, End, EndSized, TakeRight, Offer, Park, Unpark, Stamp, Hint, Tick, Unback, Unhint}
 use Rattle.pas_profile.specs.declared.name.Name.{Name}
 
 -- ---- the words of a grain, which is a number of the region: `page * 256 + grain`
@@ -26,6 +26,10 @@ in_mask page word mask g = (word == g / 64 % 4) && (page == g / 256) && has_bit 
 -- the end of the name with this guess succeeds, where this is the life word that it reads
 abbrev pub succeeds : Name → ℕ → ℕ → Bool
 succeeds name guess a = a == live_word name.turn guess
+
+-- the life word after it
+abbrev pub ended_word : Name → ℕ → ℕ → ℕ
+ended_word name guess old = if succeeds name guess old then name.turn + 1 else old
 
 -- ---- the words of a page in the page vectors
 abbrev pub parked_word_at : ℕ → Word
@@ -46,6 +50,7 @@ target (Take page word mask) = Word.Free page word
 target (Put page word mask) = Word.Free page word
 target (Give block) = life_word_at (grain_of block.name)
 target (End name guess) = life_word_at (grain_of name)
+target (EndSized name room) = life_word_at (grain_of name)
 target (TakeRight page directory) = eligible_word_at directory page
 target (Offer page directory) = eligible_word_at directory page
 target (Park page) = parked_word_at page
@@ -64,7 +69,8 @@ new_value epoch (Back page) old = bit_or old 1
 new_value epoch (Take page word mask) old = bit_and old (bit_not w64 mask)
 new_value epoch (Put page word mask) old = bit_or old mask
 new_value epoch (Give block) old = live_word block.name.turn (length_of block)
-new_value epoch (End name guess) old = if succeeds name guess old then name.turn + 1 else old
+new_value epoch (End name guess) old = ended_word name guess old
+new_value epoch (EndSized name room) old = ended_word name (room / 16) old
 new_value epoch (TakeRight page directory) old = bit_and old (bit_not w64 (page_mask page))
 new_value epoch (Offer page directory) old = bit_or old (page_mask page)
 new_value epoch (Park page) old = bit_or old (page_mask page)

@@ -1,5 +1,5 @@
 -- The event of a step, and the events of a view.
-use Rattle.std.specs.Prelude.{ℕ, ◌==◌, nat_lt, ◌&&◌, if◌then◌else◌, List, [], ◌∷◌, ◌++◌, Option, None, Some}
+use Rattle.std.specs.Prelude.{ℕ, ◌/◌, ◌==◌, nat_lt, ◌&&◌, if◌then◌else◌, List, [], ◌∷◌, ◌++◌, Option, None, Some}
 use Rattle.pas_profile.specs.Lives.{is_live, turn_of}
 use Rattle.pas_profile.specs.declared.name.Name.{Name}
 use Rattle.pas_profile.specs.declared.event.Event.{Event}
@@ -7,7 +7,7 @@ use Rattle.pas_profile.specs.declared.event.Why.{Why}
 use Rattle.pas_steps.specs.Views.{View, epoch_of}
 use Rattle.pas_steps.specs.declared.step.Step.{Step}
 use Rattle.pas_steps.specs.declared.step.Made.{Made}
-use Rattle.pas_steps.specs.declared.step.Step.TheVariants.{Look, Deed, Back, Take, Put, Give, End, TakeRight, Offer, Park, Unpark, Stamp, Hint, Tick, Unback, Unhint}
+use Rattle.pas_steps.specs.declared.step.Step.TheVariants.{Look, Deed, Back, Take, Put, Give, End, EndSized, TakeRight, Offer, Park, Unpark, Stamp, Hint, Tick, Unback, Unhint}
 use Rattle.pas_steps.specs.Effects.{succeeds}
 
 -- why the end of a name is refused, from the life word that was read
@@ -20,6 +20,14 @@ abbrev pub end_event : ℕ → ℕ → Name → ℕ → ℕ → Option Event
 end_event k epoch name guess a = if succeeds name guess a then Some (Event.End k name epoch) else
     (if is_live a && (turn_of a == name.turn) then None else Some (Event.Reject k name (reason_of name a)))
 
+-- why the end of a name with this room is refused: a block of the name that lives has another room
+abbrev pub sized_reason : Name → ℕ → ℕ → Why
+sized_reason name room a = if is_live a && (turn_of a == name.turn) then Why.SizeDiffers room else reason_of name a
+
+-- an end with a room makes an event in each case
+abbrev pub sized_event : ℕ → ℕ → Name → ℕ → ℕ → Option Event
+sized_event k epoch name room a = if succeeds name (room / 16) a then Some (Event.End k name epoch) else Some (Event.Reject k name (sized_reason name room a))
+
 -- the event of a step of actor k that knows this epoch, with this answer
 abbrev pub event_of : ℕ → ℕ → Step → ℕ → Option Event
 event_of k epoch (Look word) a = None
@@ -29,6 +37,7 @@ event_of k epoch (Take page word mask) a = None
 event_of k epoch (Put page word mask) a = None
 event_of k epoch (Give block) a = Some (Event.Give k block)
 event_of k epoch (End name guess) a = end_event k epoch name guess a
+event_of k epoch (EndSized name room) a = sized_event k epoch name room a
 event_of k epoch (TakeRight page directory) a = None
 event_of k epoch (Offer page directory) a = None
 event_of k epoch (Park page) a = None
@@ -62,6 +71,7 @@ wants (Take page word mask) = 0
 wants (Put page word mask) = 0
 wants (Give block) = 1
 wants (End name guess) = 1
+wants (EndSized name room) = 1
 wants (TakeRight page directory) = 0
 wants (Offer page directory) = 0
 wants (Park page) = 0

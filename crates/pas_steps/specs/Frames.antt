@@ -5,7 +5,7 @@ use Rattle.pas_profile.specs.declared.word.Word.{Word}
 use Rattle.pas_steps.specs.Past.{Always}
 use Rattle.pas_steps.specs.declared.step.Step.{Step}
 use Rattle.pas_steps.specs.declared.step.Made.{Made}
-use Rattle.pas_steps.specs.declared.step.Step.TheVariants.{Look, Deed, Back, Take, Put, Give, End, TakeRight, Offer, Park, Unpark, Stamp, Hint, Tick, Unback, Unhint}
+use Rattle.pas_steps.specs.declared.step.Step.TheVariants.{Look, Deed, Back, Take, Put, Give, End, EndSized, TakeRight, Offer, Park, Unpark, Stamp, Hint, Tick, Unback, Unhint}
 
 abbrev pub IsLook : Step → Type 0
 IsLook (Look word) = Unit {0}
@@ -15,6 +15,7 @@ IsLook (Take page word mask) = ⊥
 IsLook (Put page word mask) = ⊥
 IsLook (Give block) = ⊥
 IsLook (End name guess) = ⊥
+IsLook (EndSized name room) = ⊥
 IsLook (TakeRight page directory) = ⊥
 IsLook (Offer page directory) = ⊥
 IsLook (Park page) = ⊥
@@ -34,6 +35,7 @@ unbacks (Take q word mask) page = false
 unbacks (Put q word mask) page = false
 unbacks (Give block) page = false
 unbacks (End name guess) page = false
+unbacks (EndSized name room) page = false
 unbacks (TakeRight q directory) page = false
 unbacks (Offer q directory) page = false
 unbacks (Park q) page = false

@@ -4,7 +4,7 @@ use Rattle.pas_profile.specs.declared.word.Word.{Word}
 use Rattle.pas_steps.specs.Past.{Always}
 use Rattle.pas_steps.specs.declared.step.Step.{Step}
 use Rattle.pas_steps.specs.declared.step.Made.{Made}
-use Rattle.pas_steps.specs.declared.step.Step.TheVariants.{Look, Deed, Back, Take, Put, Give, End, TakeRight, Offer, Park, Unpark, Stamp, Hint, Tick, Unback, Unhint}
+use Rattle.pas_steps.specs.declared.step.Step.TheVariants.{Look, Deed, Back, Take, Put, Give, End, EndSized, TakeRight, Offer, Park, Unpark, Stamp, Hint, Tick, Unback, Unhint}
 
 pub data StepKind : Type 0 where
   LookEpoch : StepKind
@@ -51,6 +51,7 @@ kind_of (Take page word mask) = Taking
 kind_of (Put page word mask) = Putting
 kind_of (Give block) = Giving
 kind_of (End name guess) = Ending
+kind_of (EndSized name room) = Ending
 kind_of (TakeRight page directory) = Claiming
 kind_of (Offer page directory) = Offering
 kind_of (Park page) = Parking

@@ -12,7 +12,7 @@ use Rattle.pas_steps.specs.Effects.{in_mask, succeeds}
 use Rattle.pas_steps.specs.Past.{Once}
 use Rattle.pas_steps.specs.declared.step.Step.{Step}
 use Rattle.pas_steps.specs.declared.step.Made.{Made}
-use Rattle.pas_steps.specs.declared.step.Step.TheVariants.{Look, Deed, Back, Take, Put, Give, End, TakeRight, Offer, Park, Unpark, Stamp, Hint, Tick, Unback, Unhint}
+use Rattle.pas_steps.specs.declared.step.Step.TheVariants.{Look, Deed, Back, Take, Put, Give, End, EndSized, TakeRight, Offer, Park, Unpark, Stamp, Hint, Tick, Unback, Unhint}
 
 abbrev pub View : Type 0
 View = List Made
@@ -34,6 +34,7 @@ grain_move (Take page word mask) a g = if in_mask page word mask g && has_bit a 
 grain_move (Put page word mask) a g = if in_mask page word mask g then Puts else Stays
 grain_move (Give block) a g = if in_run (grain_of block.name) (length_of block) g then Gives (grain_of block.name) else Stays
 grain_move (End name guess) a g = if succeeds name guess a && in_run (grain_of name) guess g then Ends (grain_of name) else Stays
+grain_move (EndSized name room) a g = if succeeds name (room / 16) a && in_run (grain_of name) (room / 16) g then Ends (grain_of name) else Stays
 grain_move (TakeRight page directory) a g = Stays
 grain_move (Offer page directory) a g = Stays
 grain_move (Park page) a g = Stays
@@ -91,6 +92,7 @@ way (Take q word mask) a page = Rests
 way (Put q word mask) a page = Rests
 way (Give block) a page = Rests
 way (End name guess) a page = Rests
+way (EndSized name room) a page = Rests
 way (TakeRight q directory) a page = if (q == page) && has_bit a (page % 64) then FromOffer (number_of directory) else Rests
 way (Offer q directory) a page = if q == page then ToOffer (number_of directory) else Rests
 way (Park q) a page = if q == page then ToParked else Rests
@@ -137,6 +139,7 @@ deed_after (Take q word mask) a page known = known
 deed_after (Put q word mask) a page known = known
 deed_after (Give block) a page known = known
 deed_after (End name guess) a page known = known
+deed_after (EndSized name room) a page known = known
 deed_after (TakeRight q directory) a page known = deed_after_look (Word.Eligible (number_of directory) (q / 64)) a page known
 deed_after (Offer q directory) a page known = deed_after_look (Word.Eligible (number_of directory) (q / 64)) a page known
 deed_after (Park q) a page known = known
@@ -176,6 +179,7 @@ free_after (Take q word mask) a g right known = if in_mask q word mask g then fa
 free_after (Put q word mask) a g right known = known
 free_after (Give block) a g right known = known
 free_after (End name guess) a g right known = known
+free_after (EndSized name room) a g right known = known
 free_after (TakeRight q directory) a g right known = known
 free_after (Offer q directory) a g right known = if q == g / 256 then false else known
 free_after (Park q) a g right known = if q == g / 256 then false else known
@@ -210,6 +214,7 @@ backed_after (Take q word mask) a page known = known
 backed_after (Put q word mask) a page known = known
 backed_after (Give block) a page known = known
 backed_after (End name guess) a page known = known
+backed_after (EndSized name room) a page known = known
 backed_after (TakeRight q directory) a page known = known
 backed_after (Offer q directory) a page known = known
 backed_after (Park q) a page known = known
@@ -241,6 +246,7 @@ looks_at_life (Take q word mask) g = false
 looks_at_life (Put q word mask) g = false
 looks_at_life (Give block) g = false
 looks_at_life (End name guess) g = false
+looks_at_life (EndSized name room) g = false
 looks_at_life (TakeRight q directory) g = false
 looks_at_life (Offer q directory) g = false
 looks_at_life (Park q) g = false
@@ -282,6 +288,7 @@ epoch_after (Take q word mask) a known = known
 epoch_after (Put q word mask) a known = known
 epoch_after (Give block) a known = known
 epoch_after (End name guess) a known = known
+epoch_after (EndSized name room) a known = known
 epoch_after (TakeRight q directory) a known = known
 epoch_after (Offer q directory) a known = known
 epoch_after (Park q) a known = known
@@ -325,6 +332,7 @@ stamp_after (Take q word mask) a page known = known
 stamp_after (Put q word mask) a page known = known
 stamp_after (Give block) a page known = known
 stamp_after (End name guess) a page known = known
+stamp_after (EndSized name room) a page known = known
 stamp_after (TakeRight q directory) a page known = known
 stamp_after (Offer q directory) a page known = known
 stamp_after (Park q) a page known = known
@@ -348,6 +356,7 @@ unstamped_after (Take q word mask) a page was = was
 unstamped_after (Put q word mask) a page was = was
 unstamped_after (Give block) a page was = was
 unstamped_after (End name guess) a page was = if succeeds name guess a && meets_page (grain_of name) guess page then true else was
+unstamped_after (EndSized name room) a page was = if succeeds name (room / 16) a && meets_page (grain_of name) (room / 16) page then true else was
 unstamped_after (TakeRight q directory) a page was = was
 unstamped_after (Offer q directory) a page was = was
 unstamped_after (Park q) a page was = was
@@ -372,6 +381,7 @@ reads_life (Take q word mask) g = false
 reads_life (Put q word mask) g = false
 reads_life (Give block) g = grain_of block.name == g
 reads_life (End name guess) g = grain_of name == g
+reads_life (EndSized name room) g = grain_of name == g
 reads_life (TakeRight q directory) g = false
 reads_life (Offer q directory) g = false
 reads_life (Park q) g = false
@@ -414,6 +424,7 @@ reads_backed (Take q word mask) page = false
 reads_backed (Put q word mask) page = false
 reads_backed (Give block) page = false
 reads_backed (End name guess) page = false
+reads_backed (EndSized name room) page = false
 reads_backed (TakeRight q directory) page = false
 reads_backed (Offer q directory) page = false
 reads_backed (Park q) page = false
@@ -438,6 +449,7 @@ ends_on (Take q word mask) a page = false
 ends_on (Put q word mask) a page = false
 ends_on (Give block) a page = false
 ends_on (End name guess) a page = succeeds name guess a && meets_page (grain_of name) guess page
+ends_on (EndSized name room) a page = succeeds name (room / 16) a && meets_page (grain_of name) (room / 16) page
 ends_on (TakeRight q directory) a page = false
 ends_on (Offer q directory) a page = false
 ends_on (Park q) a page = false
@@ -465,6 +477,7 @@ given_after (Take q word mask) n = n
 given_after (Put q word mask) n = n
 given_after (Give block) n = n + 1
 given_after (End name guess) n = n
+given_after (EndSized name room) n = n
 given_after (TakeRight q directory) n = n
 given_after (Offer q directory) n = n
 given_after (Park q) n = n
@@ -515,6 +528,7 @@ check_after (Take q w mask) a page word right deed owed = owed
 check_after (Put q w mask) a page word right deed owed = if (w == word) && (q == page) && not right then true else owed
 check_after (Give block) a page word right deed owed = owed
 check_after (End name guess) a page word right deed owed = owed
+check_after (EndSized name room) a page word right deed owed = owed
 check_after (TakeRight q directory) a page word right deed owed = owed
 check_after (Offer q directory) a page word right deed owed = if q == page then false else owed
 check_after (Park q) a page word right deed owed = if q == page then true else owed
@@ -553,6 +567,7 @@ hint_after (Take q w mask) a page owed = if (q == page) && (not (a == all_ones) 
 hint_after (Put q w mask) a page owed = if q == page then true else owed
 hint_after (Give block) a page owed = owed
 hint_after (End name guess) a page owed = owed
+hint_after (EndSized name room) a page owed = owed
 hint_after (TakeRight q directory) a page owed = owed
 hint_after (Offer q directory) a page owed = owed
 hint_after (Park q) a page owed = owed
@@ -577,6 +592,7 @@ examined_after (Take q word mask) a page was = hint_after (Take q word mask) a p
 examined_after (Put q word mask) a page was = was
 examined_after (Give block) a page was = was
 examined_after (End name guess) a page was = was
+examined_after (EndSized name room) a page was = was
 examined_after (TakeRight q directory) a page was = was
 examined_after (Offer q directory) a page was = was
 examined_after (Park q) a page was = was

@@ -134,6 +134,18 @@ pub trait Desk {
         self.make(Step::End { name, guess })
     }
 
+    /// Ends the block of this name where it lives with just this room, a multiple of 16. The actor has read the epoch. One event is made: where
+    /// the block lives with another room, the refusal with the room that was named.
+    #[inline]
+    fn end_sized(&mut self, name: Name, room: u32) -> u64
+        requires can { CanMake (standing self.old) (Step.EndSized name room) }
+        requires room { wants (Step.EndSized name room) ≤ spare_of self.old }
+        ensures makes { Makes (standing self.old) (standing self.new) (Step.EndSized name room) result }
+        ensures home { home self.new ≡ home self.old }
+    {
+        self.make(Step::EndSized { name, room })
+    }
+
     /// Raises the stamp of the page, of which the actor holds a grain, to the epoch that it read.
     #[inline]
     fn stamp(&mut self, page: u32) -> u64

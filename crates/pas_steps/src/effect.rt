@@ -1,9 +1,9 @@
 //! What a step does, as programs that a desk calls.
-ghost use Rattle.std.specs.Prelude.{◌≡◌, ◌<◌, ◌-◌, ◌^◌};
-ghost use Rattle.pas_steps.specs.Effects.{target as target_word, new_value as the_value, life_word_at as the_life_word_at};
+ghost use Rattle.std.specs.Prelude.{◌≡◌, ◌<◌, ◌-◌, ◌/◌, ◌^◌};
+ghost use Rattle.pas_steps.specs.Effects.{target as target_word, new_value as the_value, life_word_at as the_life_word_at, ended_word};
 ghost use Rattle.pas_profile.specs.Runs.{grain_of};
 ghost use Rattle.pas_steps.specs.Views.{epoch_after as the_epoch};
-ghost use Rattle.pas_steps.specs.Events.{event_of as the_event, end_event as the_end_event};
+ghost use Rattle.pas_steps.specs.Events.{event_of as the_event, end_event as the_end_event, sized_event as the_sized_event, reason_of};
 ghost use Rattle.pas_steps.specs.Ranges.{IsRanged};
 
 use crate::step::Step;
@@ -33,6 +33,7 @@ pub fn target(step: Step) -> Word
         } => Word::Free(page, word),
         Step::Give { block } => life_word_at(block.name),
         Step::End { name, guess: _ } => life_word_at(name),
+        Step::EndSized { name, room: _ } => life_word_at(name),
         Step::TakeRight { page, directory } => Word::Eligible(directory.number(), page / 64),
         Step::Offer { page, directory } => Word::Eligible(directory.number(), page / 64),
         Step::Park { page } => Word::Parked(page / 64),
@@ -52,6 +53,20 @@ fn life_word_at(name: Name) -> Word
 {
     let grain = name.address.grain();
     Word::Life(grain / PAGE_GRAINS, (grain % PAGE_GRAINS) as u8)
+}
+
+/// The life word after an end of the name with so many grains.
+#[inline(always)]
+fn ended(name: Name, grains: u32, old: u64) -> u64
+    requires turn { name.turn < 2 ^ 40 - 1 }
+    requires grains { grains < 2 ^ 23 }
+    ensures { result ≡ ended_word name grains old }
+{
+    if old == life_word(name.turn, grains, true) {
+        name.turn + 1
+    } else {
+        old
+    }
 }
 
 /// The word's new value, from the epoch that the actor knows and the old value.
@@ -75,13 +90,8 @@ pub fn new_value(epoch: u64, step: Step, old: u64) -> u64
             mask,
         } => old | mask,
         Step::Give { block } => life_word(block.name.turn, block.grains(), true),
-        Step::End { name, guess } => {
-            if old == life_word(name.turn, guess, true) {
-                name.turn + 1
-            } else {
-                old
-            }
-        }
+        Step::End { name, guess } => ended(name, guess, old),
+        Step::EndSized { name, room } => ended(name, room / 16, old),
         Step::TakeRight { page, directory: _ } => old & !page_mask(page),
         Step::Offer { page, directory: _ } => old | page_mask(page),
         Step::Park { page } => old | page_mask(page),
@@ -103,9 +113,22 @@ pub fn epoch_after(step: Step, answer: u64, known: Option<u64>) -> Option<u64>
         Step::Look { word: Word::Epoch } => Some(answer),
         Step::Tick { epoch } => Some(answer.max(epoch)),
         Step::Look { .. } | Step::Deed { .. } | Step::Back { .. } | Step::Take { .. } => known,
-        Step::Put { .. } | Step::Give { .. } | Step::End { .. } | Step::TakeRight { .. } => known,
-        Step::Offer { .. } | Step::Park { .. } | Step::Unpark { .. } | Step::Stamp { .. } => known,
-        Step::Hint { .. } | Step::Unback { .. } | Step::Unhint { .. } => known,
+        Step::Put { .. } | Step::Give { .. } | Step::End { .. } | Step::EndSized { .. } => known,
+        Step::TakeRight { .. } | Step::Offer { .. } | Step::Park { .. } | Step::Unpark { .. } =>
+            known,
+        Step::Stamp { .. } | Step::Hint { .. } | Step::Unback { .. } | Step::Unhint { .. } => known,
+    }
+}
+
+/// Why an end of the name with this answer is refused, where no block of the name lives.
+fn reason(name: Name, answer: u64) -> Why
+    ensures { result ≡ reason_of name answer }
+{
+    let (turn, _, _) = read_life(answer);
+    if name.turn < turn {
+        Why::Ended
+    } else {
+        Why::NoBlock
     }
 }
 
@@ -121,19 +144,31 @@ fn end_event(actor: u8, epoch: u64, name: Name, guess: u32, answer: u64) -> Opti
     let (turn, _, live) = read_life(answer);
     if live && turn == name.turn {
         None
-    } else if name.turn < turn {
-        Some(Event::Reject {
-            actor,
-            name,
-            why: Why::Ended,
-        })
     } else {
         Some(Event::Reject {
             actor,
             name,
-            why: Why::NoBlock,
+            why: reason(name, answer),
         })
     }
+}
+
+/// The event of an end with this room and this answer.
+fn sized_event(actor: u8, epoch: u64, name: Name, room: u32, answer: u64) -> Option<Event>
+    requires turn { name.turn < 2 ^ 40 - 1 }
+    requires room { room / 16 < 2 ^ 23 }
+    ensures { result ≡ the_sized_event actor epoch name room answer }
+{
+    if answer == life_word(name.turn, room / 16, true) {
+        return Some(Event::End { actor, name, epoch });
+    }
+    let (turn, _, live) = read_life(answer);
+    let why = if live && turn == name.turn {
+        Why::SizeDiffers(room)
+    } else {
+        reason(name, answer)
+    };
+    Some(Event::Reject { actor, name, why })
 }
 
 /// The event of a step with this answer, of an actor that knows this epoch.
@@ -151,6 +186,7 @@ pub fn event_of(actor: u8, epoch: u64, step: Step, answer: u64) -> Option<Event>
         Step::Back { page } if answer == 0 => Some(Event::Back { actor, page }),
         Step::Give { block } => Some(Event::Give { actor, block }),
         Step::End { name, guess } => end_event(actor, epoch, name, guess, answer),
+        Step::EndSized { name, room } => sized_event(actor, epoch, name, room, answer),
         Step::Unback { page } => Some(Event::Unback { actor, page, epoch }),
         Step::Deed { .. } | Step::Back { .. } | Step::Look { .. } | Step::Take { .. } => None,
         Step::Put { .. } | Step::TakeRight { .. } | Step::Offer { .. } | Step::Park { .. } => None,

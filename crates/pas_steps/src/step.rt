@@ -19,6 +19,8 @@ pub enum Step {
     Give { block: Block },
     /// Ends the block of this name where it lives with just so many grains, and then holds them.
     End { name: Name, guess: u32 },
+    /// Ends the block of this name where it lives with just this room, and then holds its grains.
+    EndSized { name: Name, room: u32 },
     /// Clears the page's bit in the eligible word of its directory. The actor has the right where the bit was set.
     TakeRight { page: u32, directory: Directory },
     /// Sets the page's bit in the eligible word of its directory. The right is the actor's no longer.

@@ -16,11 +16,7 @@ mod pieces;
 pub mod plan;
 mod reader;
 mod requests;
-#[cfg(test)]
-mod round_tests;
 mod rounds;
-#[cfg(test)]
-mod tests;
 mod words;
 
 pub use fault::{ReadFault, Reason, TraceFault};

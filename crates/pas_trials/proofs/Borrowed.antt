@@ -20,7 +20,7 @@ use Rattle.pas_free_log.specs.declared.log.Entry.{Entry}
 use Rattle.pas_free_log.specs.declared.noting.EndedRun.{EndedRun}
 use Rattle.pas_free_log.specs.Logs.{entry_of}
 use Rattle.pas_cache.specs.Changes.{EmptiesFull}
-use Rattle.pas_cache.specs.Calls.{Allocates, TakesName, RefusesName, Frees, StopsCache}
+use Rattle.pas_cache.specs.Calls.{Allocates, TakesEntry, RefusesName, Frees, StopsCache}
 use Rattle.pas_cache.proofs.Budget.{HasBudget}
 use Rattle.pas_steps.specs.Kinds.{Only}
 use Rattle.pas_cache.specs.Kinds.{releasing}
@@ -58,7 +58,7 @@ pub record LogsOne (c c' : Cached) (steps : List Made) : Type 0 where
   pub log : length c'.log ≤ 1
   pub no_steps : steps ≡ []
 
-logs_one : (f : Profile) (actor : ℕ) (c c' : Cached) (name : Name) (steps : List Made) (answer : Result (Unit {0}) FreeFault) → c.log ≡ [] → MatchResult answer (λ done. TakesName f actor c c' name steps) (RefusesName f c c' name steps) → LogsOne c c' steps
+logs_one : (f : Profile) (actor : ℕ) (c c' : Cached) (name : Name) (steps : List Made) (answer : Result (Unit {0}) FreeFault) → c.log ≡ [] → MatchResult answer (λ done. TakesEntry f actor c c' (entry_of name) steps) (RefusesName f c c' name steps) → LogsOne c c' steps
 logs_one f actor c c' name steps (Ok done) none h =
     let kept = empties_none (nat_le 64 (length c.log)) actor c.log h.logs.kept c.noted c'.noted steps refl none h.logs.emptied in
     let n : length c'.log ≡ length h.logs.kept + 1 = ap length h.logs.log_is ∙ length-append h.logs.kept (entry_of name ∷ []) in
@@ -68,15 +68,15 @@ logs_one f actor c c' name steps (Err fault) none h =
     let n : length c'.log ≡ 0 = ap (λ x. length x.log) h.cache ∙ ap length none in
     record { log = omega (arith, n); no_steps = h.no_steps }
 
-pub freed_one : {σ σ' : Standing} {c c' : Cached} {name : Name} {answer : Result (Unit {0}) FreeFault} → c.log ≡ [] → (h : Frees name c c' σ σ' answer) → LogsOne c c' h.steps
+pub freed_one : {σ σ' : Standing} {c c' : Cached} {name : Name} {answer : Result (Unit {0}) FreeFault} → c.log ≡ [] → (h : Frees (entry_of name) c c' σ σ' answer) → LogsOne c c' h.steps
 freed_one {σ} {σ'} {c} {c'} {name} {answer} none h = logs_one σ.seat.profile σ.seat.actor c c' name h.steps answer none h.outcome
 
-pub freed_call : {σ σ' : Standing} {c c' : Cached} {name : Name} {answer : Result (Unit {0}) FreeFault} → Frees name c c' σ σ' answer → CanCall σ (λ v l. AtRest σ.seat.profile c v) → CanCall σ' (λ v l. AtRest σ'.seat.profile c' v)
+pub freed_call : {σ σ' : Standing} {c c' : Cached} {name : Name} {answer : Result (Unit {0}) FreeFault} → Frees (entry_of name) c c' σ σ' answer → CanCall σ (λ v l. AtRest σ.seat.profile c v) → CanCall σ' (λ v l. AtRest σ'.seat.profile c' v)
 freed_call {σ} {σ'} {c} {c'} h can = can_call {C = λ v l. AtRest σ.seat.profile c v} {D = λ v l. AtRest σ'.seat.profile c' v} h.calls.adds can
     (λ v l stood met. subst (λ (s : Seat). AtRest s.profile c' (h.steps ++ v)) (sym h.calls.adds.seat_is) (h.calls.leads.from v met (h.calls.adds.agreed v l stood met)))
 
 -- so there is room for its event
-pub stop_room : {σ σ' : Standing} {c c' : Cached} {name : Name} {answer : Result (Unit {0}) FreeFault} {spare spare' : ℕ} → c.log ≡ [] → (h : Frees name c c' σ σ' answer) → CanCall σ (λ v l. HasBudget σ.seat.profile c 1 spare v)
+pub stop_room : {σ σ' : Standing} {c c' : Cached} {name : Name} {answer : Result (Unit {0}) FreeFault} {spare spare' : ℕ} → c.log ≡ [] → (h : Frees (entry_of name) c c' σ σ' answer) → CanCall σ (λ v l. HasBudget σ.seat.profile c 1 spare v)
     → ((v : View) (l : Whole) → σ.stands v l → spare + length (events_of σ.seat.actor v) ≡ σ.seat.room) → ((v : View) (l : Whole) → σ'.stands v l → spare' + length (events_of σ'.seat.actor v) ≡ σ'.seat.room)
     → length c'.log ≤ spare'
 stop_room {spare = spare} {spare' = spare'} none h can law law' =

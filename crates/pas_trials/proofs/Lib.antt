@@ -7,3 +7,4 @@ pub mod Ageing
 pub mod Intruding
 pub mod Borrowing
 pub mod Stormed
+pub mod ByRooms

@@ -17,6 +17,9 @@ pub mod seats;
 pub mod sharing;
 #[cfg(test)]
 mod sharing_tests;
+pub mod sizing;
+#[cfg(test)]
+mod sizing_tests;
 #[cfg(test)]
 mod slot_tests;
 #[cfg(test)]
@@ -32,5 +35,6 @@ pub use holding::{occupy, visit};
 pub use passing::age_and_pass;
 pub use seats::{change, close_both};
 pub use sharing::{Allocated, allocate, fill_shared};
+pub use sizing::{borrow_and_end, end_by_rooms};
 pub use storming::{Borrower, Flusher, borrow_many};
 pub use wanting::{Findings, ask, want};

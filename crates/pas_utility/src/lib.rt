@@ -6,8 +6,6 @@
 
 pub mod outcomes;
 pub mod seat;
-#[cfg(test)]
-mod tests;
 pub mod utility;
 
 pub use outcomes::Outcomes;

@@ -15,7 +15,7 @@ alloc-requires-clause-can g c = can_allocate (cached c.args.cache.now) c.args.si
 pub returns-then-size-gt-MOST_BITFIT-clause-serves : goal.returns-then-size-gt-MOST_BITFIT-clause-serves
 returns-then-size-gt-MOST_BITFIT-clause-serves g c =
     serves_pages (cached c.args.cache.now) (cached c.alloc_large.new.self) c.args.heap c.args.size c.args.align c.if-size-gt-MOST_BITFIT.true
-    (c.alloc_large.ensures.allocates c.args.align c.requires.admitted.aligned (is_large c.args.size c.args.align c.if-size-gt-MOST_BITFIT.true))
+    (c.alloc_large.ensures.allocates.2 c.args.align c.requires.admitted.aligned (is_large c.args.size c.args.align c.if-size-gt-MOST_BITFIT.true))
 
 pub returns-else-size-gt-MOST_BITFIT-clause-serves : goal.returns-else-size-gt-MOST_BITFIT-clause-serves
 returns-else-size-gt-MOST_BITFIT-clause-serves g c =

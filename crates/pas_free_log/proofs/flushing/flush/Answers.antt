@@ -51,8 +51,8 @@ loop-entry-preserved g c =
     let logged = c.as_slice-entries.result.now in
     let blank : Entry = entry_of (record { address = record { 0 = 0 }; turn = 0 }) in
     let entry : Settled = record { entry = get_or logged index blank; outcome = s.outcome; directory = s.directory } in
-    let event : (v : View) → events_by σ.seat.actor v s.steps ≡ event_for σ.seat.actor (epoch_of v) entry.entry.name s.outcome ∷ []
-    = subst (λ t. (v : View) → events_by t.actor v s.steps ≡ event_for t.actor (epoch_of v) entry.entry.name s.outcome ∷ []) i.calls.adds.seat_is s.event in
+    let event : (v : View) → events_by σ.seat.actor v s.steps ≡ event_for σ.seat.actor (epoch_of v) entry.entry s.outcome ∷ []
+    = subst (λ t. (v : View) → events_by t.actor v s.steps ≡ event_for t.actor (epoch_of v) entry.entry s.outcome ∷ []) i.calls.adds.seat_is s.event in
     let before = i.spare in let one = c.end_entry-run.ensures.spare in
     record {
       epoch = i.epoch;

@@ -4,24 +4,24 @@ use Rattle.pas_large.proofs.Claims.{pages_none, may_claim, page_call, room_after
 use Rattle.pas_large.proofs.running.claim_pages.Goals as goal
 
 pub loop-page-init : goal.loop-page-init
-loop-page-init g c = record { below = pages_none c.args.directory c.args.first; home = refl }
+loop-page-init g c = record { below = pages_none c.args.deeds c.args.directory c.args.first; home = refl }
 
 pub claim_page-requires-clause-can : goal.claim_page-requires-clause-can
-claim_page-requires-clause-can g c = let i = c.loop-page.invariant in page_call c.args.directory c.args.first c.args.end c.loop-page.page c.loop-page-test.true i.below (may_claim c.args.end (omega arith) c.requires.can)
+claim_page-requires-clause-can g c = let i = c.loop-page.invariant in page_call c.args.deeds c.args.directory c.args.first c.args.end c.loop-page.page c.loop-page-test.true i.below (may_claim c.args.end (omega arith) c.requires.can)
 
 pub claim_page-requires-clause-room : goal.claim_page-requires-clause-room
 claim_page-requires-clause-room g c = let i = c.loop-page.invariant in let test = c.loop-page-test.true in
     let room = room_after {spare = g.D.Desk.spare_of c.args.desk.now} 1 i.below.so_far.adds (may_claim c.loop-page.page (omega (arith, test)) c.requires.can) i.below.so_far.shows c.requires.can.met.room (g.met.D.Desk.spares c.args.desk.now) (g.met.D.Desk.spares c.loop-page.desk) in omega (arith, room)
 
 pub loop-page-preserved : goal.loop-page-preserved
-loop-page-preserved g c = let i = c.loop-page.invariant in record { below = won_turn c.args.directory c.args.first c.loop-page.page i.below c.in-Whole.ensures.claims; home = c.in-Whole.ensures.home ∙ i.home }
+loop-page-preserved g c = let i = c.loop-page.invariant in record { below = won_turn c.args.deeds c.args.directory c.args.first c.loop-page.page i.below c.in-Whole.ensures.claims; home = c.in-Whole.ensures.home ∙ i.home }
 
 pub returns-in-Lost-clause-claims : goal.returns-in-Lost-clause-claims
-returns-in-Lost-clause-claims g c = let h = c.in-Lost.ensures.claims in let i = c.loop-page.invariant in lost_turn c.args.directory c.args.first c.args.end c.loop-page.page c.loop-page-test.true i.below h h.outcome
+returns-in-Lost-clause-claims g c = let h = c.in-Lost.ensures.claims in let i = c.loop-page.invariant in lost_turn c.args.deeds c.args.directory c.args.first c.args.end c.loop-page.page c.loop-page-test.true i.below h h.outcome
 
 pub returns-in-Broken-clause-claims : goal.returns-in-Broken-clause-claims
-returns-in-Broken-clause-claims g c = let h = c.in-Broken.ensures.claims in let i = c.loop-page.invariant in broken_turn c.args.directory c.args.first c.args.end c.loop-page.page c.loop-page-test.true i.below h h.outcome
+returns-in-Broken-clause-claims g c = let h = c.in-Broken.ensures.claims in let i = c.loop-page.invariant in broken_turn c.args.deeds c.args.directory c.args.first c.args.end c.loop-page.page c.loop-page-test.true i.below h h.outcome
 
 pub returns-clause-claims : goal.returns-clause-claims
 returns-clause-claims g c = let past = c.loop-page-test.false in let most = c.loop-page.auto.page-end c.requires.span in
-    subst (λ p. ClaimsPages c.args.directory c.args.first p (g.D.Desk.standing c.args.desk.now) (g.D.Desk.standing c.loop-page.desk) p) (omega (arith, past, most)) c.loop-page.invariant.below.so_far
+    subst (λ p. ClaimsPages c.args.deeds c.args.directory c.args.first p (g.D.Desk.standing c.args.desk.now) (g.D.Desk.standing c.loop-page.desk) p) (omega (arith, past, most)) c.loop-page.invariant.below.so_far

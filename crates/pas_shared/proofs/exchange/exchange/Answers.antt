@@ -1,5 +1,5 @@
 -- each arm makes the step's new value of its word
-use Rattle.std.proofs.Common.{◌==◌, ◌+◌, bit_and, bit_or, refl, ap, sym, ◌∙◌}
+use Rattle.std.proofs.Common.{◌==◌, ◌+◌, ◌/◌, bit_and, bit_or, refl, ap, sym, ◌∙◌}
 use Rattle.std.specs.Int.{bit_not, w64}
 use prog.Atomic.{either}
 use Rattle.pas_profile.specs.Directories.{deed_word_of}
@@ -24,6 +24,9 @@ swap-requires g c = may_make c.requires.place c.requires.step c.requires.at c.in
 
 pub compare_exchange-requires-in-End : goal.compare_exchange-requires-in-End
 compare_exchange-requires-in-End g c = may_make c.requires.place c.requires.step c.requires.at c.in-End.is (λ n. either_if (n == live_word c.in-End.name.turn c.in-End.guess) (c.in-End.name.turn + 1) n ∙ ap (λ x. either (n == x) (c.in-End.name.turn + 1) n) (sym c.life_word-word-in-End.ensures))
+
+pub compare_exchange-requires-in-EndSized : goal.compare_exchange-requires-in-EndSized
+compare_exchange-requires-in-EndSized g c = may_make c.requires.place c.requires.step c.requires.at c.in-EndSized.is (λ n. either_if (n == live_word c.in-EndSized.name.turn (c.in-EndSized.room / 16)) (c.in-EndSized.name.turn + 1) n ∙ ap (λ x. either (n == x) (c.in-EndSized.name.turn + 1) n) (sym c.life_word-live.ensures))
 
 pub fetch_and-requires-in-TakeRight : goal.fetch_and-requires-in-TakeRight
 fetch_and-requires-in-TakeRight g c = may_make c.requires.place c.requires.step c.requires.at c.in-TakeRight.is (λ n. ap (λ x. bit_and n (bit_not w64 x)) (sym c.page_mask.ensures))

@@ -18,7 +18,7 @@ pub returns-in-Bitfit-clause-goes : goal.returns-in-Bitfit-clause-goes
 returns-in-Bitfit-clause-goes g c = slot_asked c.alloc-in-Bitfit.ensures.allocates
 
 pub returns-then-size-gt-MOST_BITFIT-clause-goes : goal.returns-then-size-gt-MOST_BITFIT-clause-goes
-returns-then-size-gt-MOST_BITFIT-clause-goes g c = pages_asked (c.alloc_large.ensures.allocates c.args.align c.requires.admitted.aligned (sym c.in-Large.ensures))
+returns-then-size-gt-MOST_BITFIT-clause-goes g c = pages_asked (c.alloc_large.ensures.allocates.2 c.args.align c.requires.admitted.aligned (sym c.in-Large.ensures))
 
 pub returns-else-size-gt-MOST_BITFIT-clause-goes : goal.returns-else-size-gt-MOST_BITFIT-clause-goes
 returns-else-size-gt-MOST_BITFIT-clause-goes g c = none_asked

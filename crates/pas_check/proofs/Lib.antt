@@ -1,0 +1,9 @@
+mod Digits
+mod Readings
+mod Cuts
+mod Verdicts
+mod Entries
+mod Ticks
+mod Takings
+mod Goings
+mod OneNext

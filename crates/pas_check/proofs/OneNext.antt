@@ -1,0 +1,183 @@
+-- A line that may come leads to one state, where it answers what is due.
+use Rattle.std.proofs.Common.{◌≡◌, ◌≢◌, ℕ, ◌+◌, ◌-◌, ◌*◌, ◌/◌, ◌%◌, ◌^◌, ◌<◌, ◌≤◌, ◌==◌, ◌⊎◌, nat_le, nat_lt, Bool, true, false, ◌&&◌, if◌then◌else◌, List, [], ◌∷◌, Option, Some, None, inl, inr, refl, ap, sym, subst, ◌∙◌, arith}
+use Rattle.std.proofs.lemmas.Bool.{eqb-true, le-leb, lt-ltb, and_from}
+use Rattle.std.proofs.lemmas.Option.{none-some}
+use Rattle.pas_profile.specs.Profiles.{IsPage, IsValid}
+use Rattle.pas_profile.specs.Runs.{in_run, address_of, grain_of, length_of}
+use Rattle.pas_profile.specs.declared.directory.Directory.{Directory}
+use Rattle.pas_profile.specs.declared.event.Event.{Event}
+use Rattle.pas_profile.specs.declared.event.Outcome.{Outcome}
+use Rattle.pas_profile.specs.declared.event.Outcome.TheVariants.{Unbacked, Bare, Young, InUse, NotOffered}
+use Rattle.pas_profile.specs.declared.name.Block.{Block}
+use Rattle.pas_profile.specs.declared.profile.Profile.{Profile}
+use Rattle.pas_machine.specs.Machine.{Run, Admits, MayGive}
+use Rattle.pas_machine.specs.State.{deed_in, backed_in}
+use Rattle.pas_report.specs.Lines.{line_of, line_of_event, line_of_answer}
+use Rattle.pas_report.specs.declared.record.Record.{Record}
+use Rattle.pas_report.specs.declared.record.Said.{Said}
+use Rattle.pas_check.specs.Bounds.{FitsRequest, FitsFirst, IsSmall}
+use Rattle.pas_check.specs.Names.{Request}
+use Rattle.pas_check.specs.Ranges.{FitsName, FitsBlock, FitsEvent, FitsSaid, Fits}
+use Rattle.pas_check.specs.States.{Due, Writes, Frees, Serves, Examines, Shows, Stand, with_due, with_one, with_name}
+use Rattle.pas_check.specs.Takes.{IsPreparing, IsFor, IsRefusal, directory_of, MayCome, line_of_outcome, after_outcome, TakesEntry, TakesPreparing, TakesGive, TakesRefusal, TakesRequest, TakesOutcome, TakesPage, TakesDue}
+use Rattle.pas_check.proofs.Entries.{one_event}
+use Rattle.pas_check.proofs.Readings.{one_line}
+
+same_record : (line : List ℕ) (r q : Record) → Fits r → Fits q → line ≡ line_of r → line ≡ line_of q → r ≡ q
+same_record line r q fits fits' a b = one_line r q fits fits' (sym a ∙ b)
+
+small_page : (f : Profile) (page : ℕ) → IsValid f → IsPage f page → page < 2 ^ 32
+small_page f page valid is = let last : page ≤ f.pages = is.1 in let most : f.pages ≤ 4096 = valid.pages in omega (arith, last, most)
+
+-- a page with a deed is one of the region
+deed_page : (f : Profile) (es : List Event) → Run f es → (page : ℕ) (d : Directory) → deed_in es page ≡ Some d → IsPage f page
+deed_page f [] run page d h = absurd (none-some d h)
+deed_page f (Event.Deed k p g ∷ es) run page d h = made (p == page) (deed_in es page) refl (deed_page f es run.1 page d) h
+  where
+    made : (t : Bool) (old : Option Directory) → (p == page) ≡ t → (old ≡ Some d → IsPage f page) → (if t then Some g else old) ≡ Some d → IsPage f page
+    made true old same before is = subst (IsPage f) (eqb-true p page same) run.0.0
+    made false old same before is = before is
+deed_page f (Event.Back k p ∷ es) run page d h = deed_page f es run.1 page d h
+deed_page f (Event.Unback k p e ∷ es) run page d h = deed_page f es run.1 page d h
+deed_page f (Event.Give k block ∷ es) run page d h = deed_page f es run.1 page d h
+deed_page f (Event.End k name e ∷ es) run page d h = deed_page f es run.1 page d h
+deed_page f (Event.Reject k name why ∷ es) run page d h = deed_page f es run.1 page d h
+
+-- ---- the lines of a request
+has_first : (g n : ℕ) → 0 < n → in_run g n g ≡ true
+has_first g n some = and_from (nat_le g g) (nat_lt g (g + n)) (le-leb g g (omega arith)) (lt-ltb g (g + n) (omega (arith, some)))
+
+module _ (f : Profile) (s : Stand) (small : IsSmall f s) (k : ℕ) (r : Request) (fits : FitsRequest f k r) where
+  prepares_fits : (e : Event) → IsPreparing k (directory_of f r) e → Admits f s.events e → FitsEvent e
+  prepares_fits e (inl is) admitted =
+      let here : IsPage f is.0 × ((directory_of f r).heap < f.heaps) × (deed_in s.events is.0 ≡ None) = subst (Admits f s.events) is.1 admitted in
+      subst FitsEvent (sym is.1) (fits.actor, small_page f is.0 small.valid here.0, fits.heap, fits.kind)
+  prepares_fits e (inr is) admitted =
+      let here : IsPage f is.0 × (deed_in s.events is.0 ≢ None) × (backed_in s.events is.0 ≡ false) = subst (Admits f s.events) is.1 admitted in
+      subst FitsEvent (sym is.1) (fits.actor, small_page f is.0 small.valid here.0)
+
+  gives_fits : (block : Block) → IsFor f s r block → Admits f s.events (Event.Give k block) → FitsEvent (Event.Give k block)
+  gives_fits block is may =
+      let some : 0 < block.room = may.some in
+      let whole : block.room % 16 ≡ 0 = may.whole in
+      let grains : 0 < length_of block = omega (arith, some, whole) in
+      let page : IsPage f (grain_of block.name / 256) = (may.bears (grain_of block.name) (has_first (grain_of block.name) (length_of block) grains)).exists in
+      let last : address_of block.name / 16 / 256 ≤ f.pages = page.1 in
+      let most : f.pages ≤ 4096 = small.valid.pages in
+      let few = small.gives (address_of block.name) in
+      let turn = may.turn in
+      let room : block.room ≡ _ = is.room in
+      let heap = is.heap in
+      let fit = fits.room in
+      let fewer = fits.heap in
+      (fits.actor, record { name = record { address = omega (arith, last, most); turn = omega (arith, few, turn) }; room = omega (arith, room, fit); heap = omega (arith, heap, fewer) })
+
+  refusal_fits : (said : Said) → IsRefusal f s r said → FitsSaid said
+  refusal_fits said (inl is) = subst FitsSaid (sym is) fits.name
+  refusal_fits said (inr is) = subst FitsSaid (sym is.2) (small_page f is.0 small.valid (deed_page f s.events small.run is.0 (directory_of f r) is.1), fits.name)
+
+  no_give : (e : Event) (block : Block) → IsPreparing k (directory_of f r) e → e ≡ Event.Give k block → ⊥
+  no_give e block (inl is) same = absurd (cc (is.1, same))
+  no_give e block (inr is) same = absurd (cc (is.1, same))
+
+  apart : (e : Event) (said : Said) → Record.Event e ≡ Record.Said k said → ⊥
+  apart e said same = cc
+
+  event_is : (e g : Event) → Record.Event e ≡ Record.Event g → e ≡ g
+  event_is e g same = cc
+
+  block_is : (b c : Block) → Record.Event (Event.Give k b) ≡ Record.Event (Event.Give k c) → b ≡ c
+  block_is b c same = cc
+
+  said_is : (a b : Said) → Record.Said k a ≡ Record.Said k b → a ≡ b
+  said_is a b same = cc
+
+  module _ (more : List Due) (line : List ℕ) (a b : Stand) where
+    one_request : TakesRequest f s k r more line a → TakesRequest f s k r more line b → a ≡ b
+    one_request (inl x) (inl y) =
+        x.next_is ∙ ap (with_one s) (event_is x.event y.event (same_record line (Record.Event x.event) (Record.Event y.event)
+        (prepares_fits x.event x.prepares x.admitted) (prepares_fits y.event y.prepares y.admitted) x.line_is y.line_is)) ∙ sym y.next_is
+    one_request (inl x) (inr (inl y)) =
+        absurd (no_give x.event y.block x.prepares (event_is x.event (Event.Give k y.block) (same_record line (Record.Event x.event) (Record.Event (Event.Give k y.block))
+        (prepares_fits x.event x.prepares x.admitted) (gives_fits y.block y.is_for y.admitted) x.line_is y.line_is)))
+    one_request (inl x) (inr (inr y)) =
+        absurd (apart x.event y.said (same_record line (Record.Event x.event) (Record.Said k y.said) (prepares_fits x.event x.prepares x.admitted) (fits.actor, refusal_fits y.said y.refuses) x.line_is y.line_is))
+    one_request (inr (inl x)) (inl y) =
+        absurd (no_give y.event x.block y.prepares (event_is y.event (Event.Give k x.block) (same_record line (Record.Event y.event) (Record.Event (Event.Give k x.block))
+        (prepares_fits y.event y.prepares y.admitted) (gives_fits x.block x.is_for x.admitted) y.line_is x.line_is)))
+    one_request (inr (inl x)) (inr (inl y)) =
+        x.next_is ∙ ap (λ (c : Block). with_due (with_name (with_one s (Event.Give k c)) r.name (Some c.name)) more)
+        (block_is x.block y.block (same_record line (Record.Event (Event.Give k x.block)) (Record.Event (Event.Give k y.block)) (gives_fits x.block x.is_for x.admitted) (gives_fits y.block y.is_for y.admitted) x.line_is y.line_is))
+        ∙ sym y.next_is
+    one_request (inr (inl x)) (inr (inr y)) =
+        absurd (apart (Event.Give k x.block) y.said (same_record line (Record.Event (Event.Give k x.block)) (Record.Said k y.said) (gives_fits x.block x.is_for x.admitted) (fits.actor, refusal_fits y.said y.refuses) x.line_is y.line_is))
+    one_request (inr (inr x)) (inl y) =
+        absurd (apart y.event x.said (same_record line (Record.Event y.event) (Record.Said k x.said) (prepares_fits y.event y.prepares y.admitted) (fits.actor, refusal_fits x.said x.refuses) y.line_is x.line_is))
+    one_request (inr (inr x)) (inr (inl y)) =
+        absurd (apart (Event.Give k y.block) x.said (same_record line (Record.Event (Event.Give k y.block)) (Record.Said k x.said) (gives_fits y.block y.is_for y.admitted) (fits.actor, refusal_fits x.said x.refuses) y.line_is x.line_is))
+    one_request (inr (inr x)) (inr (inr y)) = x.next_is ∙ sym y.next_is
+
+-- ---- an outcome of a pass
+abbrev record_of : ℕ → ℕ → Outcome → Record
+record_of epoch page Unbacked = Record.Event (Event.Unback 0 page epoch)
+record_of epoch page Bare = Record.Said 0 (Said.Bare page)
+record_of epoch page (Young stamp) = Record.Said 0 (Said.Young page stamp)
+record_of epoch page (InUse word value) = Record.Said 0 (Said.InUse page word value)
+record_of epoch page NotOffered = Record.Said 0 (Said.NotOffered page)
+
+line_is : (epoch page : ℕ) (o : Outcome) → line_of (record_of epoch page o) ≡ line_of_outcome epoch page o
+line_is epoch page Unbacked = refl
+line_is epoch page Bare = refl
+line_is epoch page (Young stamp) = refl
+line_is epoch page (InUse word value) = refl
+line_is epoch page NotOffered = refl
+
+same_outcome : (epoch p q : ℕ) (a b : Outcome) → record_of epoch p a ≡ record_of epoch q b → (p ≡ q) × (a ≡ b)
+same_outcome epoch p q Unbacked Unbacked e = (cc, refl)
+same_outcome epoch p q Bare Bare e = (cc, refl)
+same_outcome epoch p q (Young a) (Young b) e = (cc, cc)
+same_outcome epoch p q (InUse w a) (InUse x b) e = (cc, cc)
+same_outcome epoch p q NotOffered NotOffered e = (cc, refl)
+same_outcome epoch p q Unbacked Bare e = absurd (cc)
+same_outcome epoch p q Unbacked (Young b) e = absurd (cc)
+same_outcome epoch p q Unbacked (InUse x b) e = absurd (cc)
+same_outcome epoch p q Unbacked NotOffered e = absurd (cc)
+same_outcome epoch p q Bare Unbacked e = absurd (cc)
+same_outcome epoch p q Bare (Young b) e = absurd (cc)
+same_outcome epoch p q Bare (InUse x b) e = absurd (cc)
+same_outcome epoch p q Bare NotOffered e = absurd (cc)
+same_outcome epoch p q (Young a) Unbacked e = absurd (cc)
+same_outcome epoch p q (Young a) Bare e = absurd (cc)
+same_outcome epoch p q (Young a) (InUse x b) e = absurd (cc)
+same_outcome epoch p q (Young a) NotOffered e = absurd (cc)
+same_outcome epoch p q (InUse w a) Unbacked e = absurd (cc)
+same_outcome epoch p q (InUse w a) Bare e = absurd (cc)
+same_outcome epoch p q (InUse w a) (Young b) e = absurd (cc)
+same_outcome epoch p q (InUse w a) NotOffered e = absurd (cc)
+same_outcome epoch p q NotOffered Unbacked e = absurd (cc)
+same_outcome epoch p q NotOffered Bare e = absurd (cc)
+same_outcome epoch p q NotOffered (Young b) e = absurd (cc)
+same_outcome epoch p q NotOffered (InUse x b) e = absurd (cc)
+
+outcome_fits : (f : Profile) (s : Stand) → IsSmall f s → (page : ℕ) (o : Outcome) → IsPage f page → MayCome f s page o → Fits (record_of s.epoch page o)
+outcome_fits f s small page Unbacked of may = (omega arith, small_page f page small.valid of, small.epoch)
+outcome_fits f s small page Bare of may = (omega arith, small_page f page small.valid of)
+outcome_fits f s small page (Young stamp) of may = let few = small.ends page in let is = may.0 in (omega arith, (small_page f page small.valid of, omega (arith, few, is)))
+outcome_fits f s small page (InUse word value) of may = let few = may.0 in let less = may.1 in (omega arith, (small_page f page small.valid of, omega (arith, few), omega (arith, less)))
+outcome_fits f s small page NotOffered of may = (omega arith, small_page f page small.valid of)
+
+pub one_outcome : (f : Profile) (s : Stand) → IsSmall f s → (last : ℕ) (more : List Due) (line : List ℕ) (a b : Stand) → TakesOutcome f s last more line a → TakesOutcome f s last more line b → a ≡ b
+one_outcome f s small last more line a b x y =
+    let same = same_outcome s.epoch x.page y.page x.outcome y.outcome (same_record line (record_of s.epoch x.page x.outcome) (record_of s.epoch y.page y.outcome)
+    (outcome_fits f s small x.page x.outcome x.of_region x.may) (outcome_fits f s small y.page y.outcome y.of_region y.may)
+    (x.line_is ∙ sym (line_is s.epoch x.page x.outcome)) (y.line_is ∙ sym (line_is s.epoch y.page y.outcome))) in
+    x.next_is ∙ (λ i. with_due (after_outcome s (same.0 i) (same.1 i)) (Examines (same.0 i) ∷ more)) ∙ sym y.next_is
+
+-- ---- what is due
+pub one_next : (f : Profile) (s : Stand) → IsSmall f s → (due : List Due) → FitsFirst f due → (line : List ℕ) (a b : Stand) → TakesDue f s due line a → TakesDue f s due line b → a ≡ b
+one_next f s small [] fits line a b x y = absurd x
+one_next f s small (Writes text ∷ more) fits line a b x y = x.1 ∙ sym y.1
+one_next f s small (Frees k name ∷ more) fits line a b x y = x.next_is ∙ ap (λ e. with_due (with_one s e) more) (one_event s k name x.event y.event x.of_entry y.of_entry) ∙ sym y.next_is
+one_next f s small (Serves k r ∷ more) fits line a b x y = one_request f s small k r fits more line a b x y
+one_next f s small (Examines page ∷ more) fits line a b x y = one_outcome f s small page more line a b x y
+one_next f s small (Shows page d ∷ more) fits line a b x y = x.next_is ∙ sym y.next_is

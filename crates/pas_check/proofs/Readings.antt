@@ -1,0 +1,236 @@
+-- THE LINE of a record is read as that record. So no two records whose numbers fit have one line.
+use Rattle.std.proofs.Common.{◌≡◌, ℕ, zero, suc, ◌+◌, ◌-◌, ◌*◌, ◌/◌, ◌%◌, ◌^◌, ◌<◌, ◌≤◌, ◌==◌, Bool, true, false, if◌then◌else◌, List, [], ◌∷◌, ◌++◌, length, drop, get_or, codes, refl, ap, sym, ◌∙◌, arith}
+use Rattle.std.specs.Fmt.{decimal}
+use Rattle.pas_profile.specs.Classes.{class_size}
+use Rattle.pas_profile.specs.Requests.{kind_of_route}
+use Rattle.pas_profile.specs.Routes.{route_of}
+use Rattle.pas_profile.specs.Directories.{IsKind}
+use Rattle.std.proofs.lemmas.Bool.{and_parts}
+use Rattle.std.proofs.lemmas.Bool.Decides.{nat_tests}
+use Rattle.pas_trace.specs.Numbers.{is_digit, all_digits}
+use Rattle.pas_generated.proofs.Digits.{are-digits}
+use Rattle.pas_profile.specs.declared.directory.Kind.{Kind}
+use Rattle.pas_profile.specs.declared.directory.Directory.{Directory}
+use Rattle.pas_profile.specs.declared.name.Name.{Name}
+use Rattle.pas_profile.specs.declared.name.Block.{Block}
+use Rattle.pas_profile.specs.declared.event.Event.{Event}
+use Rattle.pas_profile.specs.declared.event.Why.TheVariants as Why
+use Rattle.pas_profile.specs.Runs.{address_of}
+use Rattle.pas_report.specs.declared.record.Said.{Said}
+use Rattle.pas_report.specs.declared.record.Record.{Record}
+use Rattle.pas_report.specs.Lines.{hex_digits, kind_text, name_text, deed_line, back_line, unback_line, give_line, freed_line, line_of, line_of_event, line_of_answer, CanShow}
+use Rattle.pas_check.specs.Ranges.{FitsName, FitsBlock, FitsEvent, FitsSaid, Fits}
+use Rattle.pas_check.specs.Readings.{number_at, past_digits, hex_after, byte_at, of_u8, of_u32, name_at, past_name, kind_at, directory_at, deed_at, back_at, unback_at, give_at, freed_at, held_at, in_use_at, young_at, size_differs_at, guarded_at, lowered_at, word_at, record_at}
+use Rattle.pas_check.proofs.Digits.{number_back, past_number, u8_back, u32_back, hex8_back, hex16_back}
+
+-- ---- names
+name_is : (name : Name) (end : ℕ) (rest : List ℕ) → FitsName name → is_digit end ≡ false → name_at (name_text name ++ end ∷ rest) ≡ name
+name_is name end rest fits stops i = record {
+  address = record { 0 = hex8_back (address_of name) (codes " turn " ++ (decimal name.turn ++ end ∷ rest)) fits.address i };
+  turn = number_back name.turn end rest fits.turn stops i;
+}
+
+past_is : (name : Name) (end : ℕ) (rest : List ℕ) → FitsName name → is_digit end ≡ false → past_name (name_text name ++ end ∷ rest) ≡ end ∷ rest
+past_is name end rest fits stops = past_number name.turn end rest fits.turn stops
+
+-- ---- kinds
+pub size_fits : (class : ℕ) → class < 16 → class_size class < 2 ^ 32
+size_fits zero h = omega arith
+size_fits (suc zero) h = omega arith
+size_fits (suc (suc zero)) h = omega arith
+size_fits (suc (suc (suc zero))) h = omega arith
+size_fits (suc (suc (suc (suc zero)))) h = omega arith
+size_fits (suc (suc (suc (suc (suc zero))))) h = omega arith
+size_fits (suc (suc (suc (suc (suc (suc zero)))))) h = omega arith
+size_fits (suc (suc (suc (suc (suc (suc (suc zero))))))) h = omega arith
+size_fits (suc (suc (suc (suc (suc (suc (suc (suc zero)))))))) h = omega arith
+size_fits (suc (suc (suc (suc (suc (suc (suc (suc (suc zero))))))))) h = omega arith
+size_fits (suc (suc (suc (suc (suc (suc (suc (suc (suc (suc zero)))))))))) h = omega arith
+size_fits (suc (suc (suc (suc (suc (suc (suc (suc (suc (suc (suc zero))))))))))) h = omega arith
+size_fits (suc (suc (suc (suc (suc (suc (suc (suc (suc (suc (suc (suc zero)))))))))))) h = omega arith
+size_fits (suc (suc (suc (suc (suc (suc (suc (suc (suc (suc (suc (suc (suc zero))))))))))))) h = omega arith
+size_fits (suc (suc (suc (suc (suc (suc (suc (suc (suc (suc (suc (suc (suc (suc zero)))))))))))))) h = omega arith
+size_fits (suc (suc (suc (suc (suc (suc (suc (suc (suc (suc (suc (suc (suc (suc (suc zero))))))))))))))) h = omega arith
+size_fits (suc (suc (suc (suc (suc (suc (suc (suc (suc (suc (suc (suc (suc (suc (suc (suc n)))))))))))))))) h = absurd (omega (arith, h))
+
+class_is : (class : ℕ) → class < 16 → kind_of_route false (route_of (class_size class) 16) ≡ Kind.Class class
+class_is zero h = refl
+class_is (suc zero) h = refl
+class_is (suc (suc zero)) h = refl
+class_is (suc (suc (suc zero))) h = refl
+class_is (suc (suc (suc (suc zero)))) h = refl
+class_is (suc (suc (suc (suc (suc zero))))) h = refl
+class_is (suc (suc (suc (suc (suc (suc zero)))))) h = refl
+class_is (suc (suc (suc (suc (suc (suc (suc zero))))))) h = refl
+class_is (suc (suc (suc (suc (suc (suc (suc (suc zero)))))))) h = refl
+class_is (suc (suc (suc (suc (suc (suc (suc (suc (suc zero))))))))) h = refl
+class_is (suc (suc (suc (suc (suc (suc (suc (suc (suc (suc zero)))))))))) h = refl
+class_is (suc (suc (suc (suc (suc (suc (suc (suc (suc (suc (suc zero))))))))))) h = refl
+class_is (suc (suc (suc (suc (suc (suc (suc (suc (suc (suc (suc (suc zero)))))))))))) h = refl
+class_is (suc (suc (suc (suc (suc (suc (suc (suc (suc (suc (suc (suc (suc zero))))))))))))) h = refl
+class_is (suc (suc (suc (suc (suc (suc (suc (suc (suc (suc (suc (suc (suc (suc zero)))))))))))))) h = refl
+class_is (suc (suc (suc (suc (suc (suc (suc (suc (suc (suc (suc (suc (suc (suc (suc zero))))))))))))))) h = refl
+class_is (suc (suc (suc (suc (suc (suc (suc (suc (suc (suc (suc (suc (suc (suc (suc (suc n)))))))))))))))) h = absurd (omega (arith, h))
+
+kind_is : (kind : Kind) → IsKind kind → kind_at (codes " " ++ (kind_text kind ++ codes "\n")) ≡ kind
+kind_is (Kind.Class class) h = ap (λ n. kind_of_route false (route_of n 16)) (u32_back (class_size class) 10 [] (size_fits class h) refl) ∙ class_is class h
+kind_is Kind.Bitfit h = refl
+kind_is Kind.Shared h = refl
+kind_is Kind.Large h = refl
+
+directory_is : (d : Directory) → d.heap < 2 ^ 8 → IsKind d.kind → directory_at (codes " heap " ++ (decimal d.heap ++ (codes " " ++ (kind_text d.kind ++ codes "\n")))) ≡ d
+directory_is d heap kind =
+    let rest : List ℕ = kind_text d.kind ++ codes "\n" in
+    (λ i. record { heap = u8_back d.heap 32 rest heap refl i; kind = kind_at (past_number d.heap 32 rest (omega (arith, heap)) refl i) }) ∙ ap (λ kd. record { heap = d.heap; kind = kd }) (kind_is d.kind kind)
+
+-- ---- events
+deed_is : (k page : ℕ) (d : Directory) → FitsEvent (Event.Deed k page d)
+    → deed_at k (codes " deed page " ++ (decimal page ++ (codes " heap " ++ (decimal d.heap ++ (codes " " ++ (kind_text d.kind ++ codes "\n")))))) ≡ Event.Deed k page d
+deed_is k page d fits =
+    let rest : List ℕ = codes "heap " ++ (decimal d.heap ++ (codes " " ++ (kind_text d.kind ++ codes "\n"))) in
+    (λ i. Event.Deed k (u32_back page 32 rest fits.1 refl i) (directory_at (past_number page 32 rest (omega (arith, fits.1)) refl i))) ∙ ap (Event.Deed k page) (directory_is d fits.2 fits.3)
+
+back_is : (k page : ℕ) → page < 2 ^ 32 → back_at k (codes " back page " ++ (decimal page ++ codes "\n")) ≡ Event.Back k page
+back_is k page fits = ap (Event.Back k) (u32_back page 10 [] fits refl)
+
+unback_is : (k page epoch : ℕ) → page < 2 ^ 32 → epoch < 2 ^ 64 → unback_at k (codes " unback page " ++ (decimal page ++ (codes " epoch " ++ (decimal epoch ++ codes "\n")))) ≡ Event.Unback k page epoch
+unback_is k page epoch fits small =
+    let rest : List ℕ = codes "epoch " ++ (decimal epoch ++ codes "\n") in
+    (λ i. Event.Unback k (u32_back page 32 rest fits refl i) (number_at (drop 7 (past_number page 32 rest (omega (arith, fits)) refl i)))) ∙ ap (Event.Unback k page) (number_back epoch 10 [] small refl)
+
+give_is : (k : ℕ) (block : Block) → FitsBlock block
+    → give_at k (codes " give" ++ (name_text block.name ++ (codes " room " ++ (decimal block.room ++ (codes " heap " ++ (decimal block.heap ++ codes "\n")))))) ≡ Event.Give k block
+give_is k block fits =
+    let last : List ℕ = codes "heap " ++ (decimal block.heap ++ codes "\n") in
+    let rest : List ℕ = codes "room " ++ (decimal block.room ++ 32 ∷ last) in
+    let past : past_name (name_text block.name ++ 32 ∷ rest) ≡ 32 ∷ rest = past_is block.name 32 rest fits.name refl in
+    let room : past_digits (decimal block.room ++ 32 ∷ last) ≡ 32 ∷ last = past_number block.room 32 last (omega (arith, fits.room)) refl in
+    (λ i. Event.Give k record { name = name_is block.name 32 rest fits.name refl i; room = of_u32 (drop 6 (past i)); heap = of_u8 (drop 6 (past_digits (drop 6 (past i)))) })
+    ∙ (λ i. Event.Give k record { name = block.name; room = u32_back block.room 32 last fits.room refl i; heap = of_u8 (drop 6 (room i)) })
+    ∙ ap (λ h. Event.Give k record { name = block.name; room = block.room; heap = h }) (u8_back block.heap 10 [] fits.heap refl)
+
+freed_is : (k : ℕ) (name : Name) (epoch : ℕ) → FitsName name → epoch < 2 ^ 64 → freed_at k (codes " freed" ++ (name_text name ++ (codes " epoch " ++ (decimal epoch ++ codes "\n")))) ≡ Event.End k name epoch
+freed_is k name epoch fits small =
+    let rest : List ℕ = codes "epoch " ++ (decimal epoch ++ codes "\n") in
+    let past : past_name (name_text name ++ 32 ∷ rest) ≡ 32 ∷ rest = past_is name 32 rest fits refl in
+    (λ i. Event.End k (name_is name 32 rest fits refl i) (number_at (drop 7 (past i)))) ∙ ap (Event.End k name) (number_back epoch 10 [] small refl)
+
+size_differs_is : (k : ℕ) (name : Name) (room : ℕ) → FitsName name → room < 2 ^ 32
+    → size_differs_at k (codes " size-differs" ++ (name_text name ++ (codes " asked " ++ (decimal room ++ codes "\n")))) ≡ Event.Reject k name (Why.SizeDiffers room)
+size_differs_is k name room fits small =
+    let rest : List ℕ = codes "asked " ++ (decimal room ++ codes "\n") in
+    let past : past_name (name_text name ++ 32 ∷ rest) ≡ 32 ∷ rest = past_is name 32 rest fits refl in
+    (λ i. Event.Reject k (name_is name 32 rest fits refl i) (Why.SizeDiffers (of_u32 (drop 7 (past i))))) ∙ ap (λ r. Event.Reject k name (Why.SizeDiffers r)) (u32_back room 10 [] small refl)
+
+-- ---- answers
+held_is : (page name : ℕ) → page < 2 ^ 32 → name < 2 ^ 32 → held_at (codes " held " ++ (decimal page ++ (codes " name " ++ (decimal name ++ codes "\n")))) ≡ Said.Held page name
+held_is page name fits small =
+    let rest : List ℕ = codes "name " ++ (decimal name ++ codes "\n") in
+    (λ i. Said.Held (u32_back page 32 rest fits refl i) (of_u32 (drop 6 (past_number page 32 rest (omega (arith, fits)) refl i)))) ∙ ap (Said.Held page) (u32_back name 10 [] small refl)
+
+young_is : (page stamp : ℕ) → page < 2 ^ 32 → stamp < 2 ^ 64 → young_at (codes " young page " ++ (decimal page ++ (codes " stamp " ++ (decimal stamp ++ codes "\n")))) ≡ Said.Young page stamp
+young_is page stamp fits small =
+    let rest : List ℕ = codes "stamp " ++ (decimal stamp ++ codes "\n") in
+    (λ i. Said.Young (u32_back page 32 rest fits refl i) (number_at (drop 7 (past_number page 32 rest (omega (arith, fits)) refl i)))) ∙ ap (Said.Young page) (number_back stamp 10 [] small refl)
+
+in_use_is : (page word value : ℕ) → page < 2 ^ 32 → word < 2 ^ 8 → value < 2 ^ 64
+    → in_use_at (codes " in-use page " ++ (decimal page ++ (codes " word " ++ (decimal word ++ (codes " value 0x" ++ (hex_digits 16 value ++ codes "\n")))))) ≡ Said.InUse page word value
+in_use_is page word value fits few small =
+    let last : List ℕ = codes "value 0x" ++ (hex_digits 16 value ++ codes "\n") in
+    let rest : List ℕ = codes "word " ++ (decimal word ++ 32 ∷ last) in
+    let past : past_digits (decimal page ++ 32 ∷ rest) ≡ 32 ∷ rest = past_number page 32 rest (omega (arith, fits)) refl in
+    let of_word : past_digits (decimal word ++ 32 ∷ last) ≡ 32 ∷ last = past_number word 32 last (omega (arith, few)) refl in
+    (λ i. Said.InUse (u32_back page 32 rest fits refl i) (of_u8 (drop 6 (past i))) (hex_after 16 0 (drop 9 (past_digits (drop 6 (past i))))))
+    ∙ (λ i. Said.InUse page (u8_back word 32 last few refl i) (hex_after 16 0 (drop 9 (of_word i))))
+    ∙ ap (Said.InUse page word) (hex16_back value (codes "\n") small)
+
+guarded_is : (low high name : ℕ) → low < 2 ^ 32 → high < 2 ^ 32 → name < 2 ^ 32
+    → guarded_at (codes " guarded " ++ (decimal low ++ (codes " " ++ (decimal high ++ (codes " name " ++ (decimal name ++ codes "\n")))))) ≡ Said.Guarded low high name
+guarded_is low high name fits few small =
+    let last : List ℕ = codes "name " ++ (decimal name ++ codes "\n") in
+    let rest : List ℕ = decimal high ++ 32 ∷ last in
+    let past : past_digits (decimal low ++ 32 ∷ rest) ≡ 32 ∷ rest = past_number low 32 rest (omega (arith, fits)) refl in
+    let of_high : past_digits (decimal high ++ 32 ∷ last) ≡ 32 ∷ last = past_number high 32 last (omega (arith, few)) refl in
+    (λ i. Said.Guarded (u32_back low 32 rest fits refl i) (of_u32 (drop 1 (past i))) (of_u32 (drop 6 (past_digits (drop 1 (past i))))))
+    ∙ (λ i. Said.Guarded low (u32_back high 32 last few refl i) (of_u32 (drop 6 (of_high i))))
+    ∙ ap (Said.Guarded low high) (u32_back name 10 [] small refl)
+
+lowered_is : (low high : ℕ) → low < 2 ^ 32 → high < 2 ^ 32 → lowered_at (codes " lowered " ++ (decimal low ++ (codes " " ++ (decimal high ++ codes "\n")))) ≡ Said.Lowered low high
+lowered_is low high fits small =
+    let rest : List ℕ = decimal high ++ codes "\n" in
+    (λ i. Said.Lowered (u32_back low 32 rest fits refl i) (of_u32 (drop 1 (past_number low 32 rest (omega (arith, fits)) refl i)))) ∙ ap (Said.Lowered low) (u32_back high 10 [] small refl)
+
+-- ---- a line whose actor is k, and the letter of its word
+-- the first byte of a decimal is a digit
+no_digit : (b c : ℕ) → is_digit b ≡ true → 57 < c → (b == c) ≡ false
+no_digit b c is large = grind (arith, nat_tests)
+
+head_of : (ds rest : List ℕ) (c : ℕ) → 0 < length ds → all_digits ds ≡ true → 57 < c → (byte_at 0 (ds ++ rest) == c) ≡ false
+head_of [] rest c some digits large = absurd (omega (arith, some))
+head_of (d ∷ ds) rest c some digits large = no_digit d c (and_parts (is_digit d) (all_digits ds) digits).0 large
+
+head_isnt : (k c : ℕ) (rest : List ℕ) → k < 2 ^ 8 → 57 < c → (byte_at 0 (decimal k ++ rest) == c) ≡ false
+head_isnt k c rest fits large = let h = are-digits k (omega (arith, fits)) in head_of (decimal k) rest c h.some h.digits large
+
+by_actor : (k : ℕ) (rest : List ℕ) → k < 2 ^ 8 → record_at (decimal k ++ 32 ∷ rest) ≡ word_at (byte_at 1 (32 ∷ rest)) k (32 ∷ rest)
+by_actor k rest fits =
+    let not_phase : (byte_at 0 (decimal k ++ 32 ∷ rest) == 112) ≡ false = head_isnt k 112 (32 ∷ rest) fits (omega arith) in
+    let not_close : (byte_at 0 (decimal k ++ 32 ∷ rest) == 99) ≡ false = head_isnt k 99 (32 ∷ rest) fits (omega arith) in
+    rw not_phase (rw not_close
+    ((λ i. word_at (byte_at 1 (past_number k 32 rest (omega (arith, fits)) refl i)) (u8_back k 32 rest fits refl i) (past_number k 32 rest (omega (arith, fits)) refl i))))
+
+read_event : (e : Event) → FitsEvent e → record_at (line_of_event e) ≡ Record.Event e
+read_event (Event.Deed k page d) fits = by_actor k (codes "deed page " ++ (decimal page ++ (codes " heap " ++ (decimal d.heap ++ (codes " " ++ (kind_text d.kind ++ codes "\n")))))) fits.0 ∙ ap Record.Event (deed_is k page d fits)
+read_event (Event.Back k page) fits = by_actor k (codes "back page " ++ (decimal page ++ codes "\n")) fits.0 ∙ ap Record.Event (back_is k page fits.1)
+read_event (Event.Unback k page epoch) fits = by_actor k (codes "unback page " ++ (decimal page ++ (codes " epoch " ++ (decimal epoch ++ codes "\n")))) fits.0 ∙ ap Record.Event (unback_is k page epoch fits.1 fits.2)
+read_event (Event.Give k block) fits = by_actor k (codes "give" ++ (name_text block.name ++ (codes " room " ++ (decimal block.room ++ (codes " heap " ++ (decimal block.heap ++ codes "\n")))))) fits.0 ∙ ap Record.Event (give_is k block fits.1)
+read_event (Event.End k name epoch) fits = by_actor k (codes "freed" ++ (name_text name ++ (codes " epoch " ++ (decimal epoch ++ codes "\n")))) fits.0 ∙ ap Record.Event (freed_is k name epoch fits.1 fits.2)
+read_event (Event.Reject k name Why.Ended) fits = by_actor k (codes "ended" ++ (name_text name ++ codes "\n")) fits.0 ∙ ap (λ n. Record.Event (Event.Reject k n Why.Ended)) (name_is name 10 [] fits.1 refl)
+read_event (Event.Reject k name Why.NoBlock) fits = by_actor k (codes "no-block" ++ (name_text name ++ codes "\n")) fits.0 ∙ ap (λ n. Record.Event (Event.Reject k n Why.NoBlock)) (name_is name 10 [] fits.1 refl)
+read_event (Event.Reject k name (Why.SizeDiffers room)) fits =
+    by_actor k (codes "size-differs" ++ (name_text name ++ (codes " asked " ++ (decimal room ++ codes "\n")))) fits.0 ∙ ap Record.Event (size_differs_is k name room fits.1 fits.2)
+
+read_said : (k : ℕ) (said : Said) → k < 2 ^ 8 → FitsSaid said → record_at (line_of_answer k said) ≡ Record.Said k said
+read_said k (Said.NoSpace name) few fits = by_actor k (codes "no-space name " ++ (decimal name ++ codes "\n")) few ∙ ap (λ n. Record.Said k (Said.NoSpace n)) (u32_back name 10 [] fits refl)
+read_said k (Said.Held page name) few fits = by_actor k (codes "held " ++ (decimal page ++ (codes " name " ++ (decimal name ++ codes "\n")))) few ∙ ap (Record.Said k) (held_is page name fits.0 fits.1)
+read_said k (Said.Outside block) few fits = by_actor k (codes "outside" ++ (name_text block ++ codes "\n")) few ∙ ap (λ n. Record.Said k (Said.Outside n)) (name_is block 10 [] fits refl)
+read_said k (Said.Unaligned block) few fits = by_actor k (codes "unaligned" ++ (name_text block ++ codes "\n")) few ∙ ap (λ n. Record.Said k (Said.Unaligned n)) (name_is block 10 [] fits refl)
+read_said k (Said.Skipped name) few fits = by_actor k (codes "skipped name " ++ (decimal name ++ codes "\n")) few ∙ ap (λ n. Record.Said k (Said.Skipped n)) (u32_back name 10 [] fits refl)
+read_said k (Said.Tick epoch) few fits = by_actor k (codes "tick " ++ (decimal epoch ++ codes "\n")) few ∙ ap (λ n. Record.Said k (Said.Tick n)) (number_back epoch 10 [] fits refl)
+read_said k (Said.Pass epoch) few fits = by_actor k (codes "pass " ++ (decimal epoch ++ codes "\n")) few ∙ ap (λ n. Record.Said k (Said.Pass n)) (number_back epoch 10 [] fits refl)
+read_said k (Said.Bare page) few fits = by_actor k (codes "bare page " ++ (decimal page ++ codes "\n")) few ∙ ap (λ n. Record.Said k (Said.Bare n)) (u32_back page 10 [] fits refl)
+read_said k (Said.Young page stamp) few fits = by_actor k (codes "young page " ++ (decimal page ++ (codes " stamp " ++ (decimal stamp ++ codes "\n")))) few ∙ ap (Record.Said k) (young_is page stamp fits.0 fits.1)
+read_said k (Said.InUse page word value) few fits =
+    by_actor k (codes "in-use page " ++ (decimal page ++ (codes " word " ++ (decimal word ++ (codes " value 0x" ++ (hex_digits 16 value ++ codes "\n")))))) few ∙ ap (Record.Said k) (in_use_is page word value fits.0 fits.1 fits.2)
+read_said k (Said.NotOffered page) few fits = by_actor k (codes "not-offered page " ++ (decimal page ++ codes "\n")) few ∙ ap (λ n. Record.Said k (Said.NotOffered n)) (u32_back page 10 [] fits refl)
+read_said k (Said.Stopped thread) few fits = by_actor k (codes "stopped " ++ (decimal thread ++ codes "\n")) few ∙ ap (λ n. Record.Said k (Said.Stopped n)) (u8_back thread 10 [] fits refl)
+read_said k (Said.Guarded low high name) few fits =
+    by_actor k (codes "guarded " ++ (decimal low ++ (codes " " ++ (decimal high ++ (codes " name " ++ (decimal name ++ codes "\n")))))) few ∙ ap (Record.Said k) (guarded_is low high name fits.0 fits.1 fits.2)
+read_said k (Said.Lowered low high) few fits = by_actor k (codes "lowered " ++ (decimal low ++ (codes " " ++ (decimal high ++ codes "\n")))) few ∙ ap (Record.Said k) (lowered_is low high fits.0 fits.1)
+
+-- THE LINE is read as its record
+pub read_back : (r : Record) → Fits r → record_at (line_of r) ≡ r
+read_back (Record.Event e) fits = read_event e fits
+read_back (Record.Said k said) fits = read_said k said fits.0 fits.1
+read_back (Record.Phase n) fits = ap Record.Phase (u32_back n 10 [] fits refl)
+read_back Record.Close fits = refl
+
+-- no two records have one line
+pub one_line : (r q : Record) → Fits r → Fits q → line_of r ≡ line_of q → r ≡ q
+one_line r q fits fits' same = sym (read_back r fits) ∙ ap record_at same ∙ read_back q fits'
+
+-- a record whose numbers fit can be shown
+pub fits_show : (r : Record) → Fits r → CanShow r
+fits_show (Record.Event (Event.Deed k page d)) fits = fits.3
+fits_show (Record.Event (Event.Back k page)) fits = tt
+fits_show (Record.Event (Event.Unback k page epoch)) fits = tt
+fits_show (Record.Event (Event.Give k block)) fits = tt
+fits_show (Record.Event (Event.End k name epoch)) fits = tt
+fits_show (Record.Event (Event.Reject k name why)) fits = tt
+fits_show (Record.Said k said) fits = tt
+fits_show (Record.Phase n) fits = tt
+fits_show Record.Close fits = tt
+
+-- the record that was found is the one of the line
+pub found_is : (line : List ℕ) (found r : Record) → found ≡ record_at line → Fits r → line ≡ line_of r → found ≡ r
+found_is line found r is fits same = is ∙ ap record_at same ∙ read_back r fits

@@ -1,0 +1,130 @@
+-- Lines that the machine judges, taken or not.
+use Rattle.std.proofs.Common.{◌≡◌, ◌≢◌, ℕ, ◌+◌, ◌^◌, ◌<◌, ◌≤◌, ◌⊎◌, Bool, true, false, List, [], ◌∷◌, Option, Some, None, inl, inr, refl, ap, sym, subst, ◌∙◌, arith}
+use Rattle.std.specs.Prelude.{Result, Ok, Err, IfOk, IfSome}
+use Rattle.std.proofs.lemmas.Option.{none-some, same_Some}
+use Rattle.pas_profile.specs.declared.profile.Profile.{Profile}
+use Rattle.pas_profile.specs.Directories.{IsKind}
+use Rattle.pas_profile.specs.Profiles.{IsPage, IsValid}
+use Rattle.pas_profile.specs.declared.directory.Directory.{Directory}
+use Rattle.pas_profile.specs.declared.name.Name.{Name}
+use Rattle.pas_profile.specs.declared.event.Event.{Event}
+use Rattle.pas_profile.specs.declared.event.Why.{Why}
+use Rattle.pas_profile.specs.Runs.{address_of}
+use Rattle.pas_machine.specs.Machine.{Run, Admits, IsReason}
+use Rattle.pas_machine.specs.Machines.{profile_of, StandsFor}
+use Rattle.pas_machine.specs.State.{deed_in, backed_in}
+use Rattle.pas_machine.specs.Reasons.{IsFirst}
+use Rattle.pas_machine.specs.declared.fault.Illegal.{Illegal}
+use Rattle.pas_machine.specs.declared.machine.Machine.{Machine}
+use Rattle.pas_machine.proofs.Refusals.{never_of}
+use Rattle.pas_report.specs.Lines.{line_of, line_of_event}
+use Rattle.pas_report.specs.declared.record.Record.{Record}
+use Rattle.pas_check.specs.Calls.{event_in, IsStepped, MayAnswer, EntryTaken, PreparingTaken}
+use Rattle.pas_check.specs.Ranges.{FitsEvent, FitsWhy}
+use Rattle.pas_check.specs.States.{Due, Stand, with_due, with_one}
+use Rattle.pas_check.specs.Takes.{NamesNoRoom, IsEventOf, IsPreparing, TakesEntry, TakesPreparing}
+use Rattle.pas_check.proofs.Entries.{end_is, reject_is}
+
+pub not_stepped : (machine : Machine) (e : Event) (reason : Illegal) → ((es : List Event) → StandsFor machine es → IsFirst (profile_of machine) es e reason)
+    → (es : List Event) → StandsFor machine es → Admits (profile_of machine) es e → ⊥
+not_stepped machine e reason first es stands admitted = never_of (profile_of machine) es stands.run e admitted reason (first es stands).applies
+
+-- ---- an entry
+event_is : (f : Profile) (s : Stand) (k : ℕ) (name : Name) (epoch : ℕ) (e : Event) → s.epoch ≡ epoch → Run f s.events → Admits f s.events e → MayAnswer k name epoch e → IsEventOf s k name e
+event_is f s k name epoch e same run admitted (inl is) =
+    let here : e ≡ Event.End k name s.epoch = is ∙ ap (Event.End k name) (sym same) in
+    subst (IsEventOf s k name) (sym here) (end_is f s k name run (subst (Admits f s.events) here admitted))
+event_is f s k name epoch e same run admitted (inr is) = subst (IsEventOf s k name) (sym is.2) (reject_is f s k name is.0 is.1 (subst (Admits f s.events) is.2 admitted))
+
+may_answer : (s : Stand) (k : ℕ) (name : Name) (epoch : ℕ) (e : Event) → s.epoch ≡ epoch → IsEventOf s k name e → MayAnswer k name epoch e
+may_answer s k name epoch e same (inl is) = inr (is.0, is.1, is.3)
+may_answer s k name epoch e same (inr is) = inl (is.1 ∙ ap (Event.End k name) same)
+
+plain_fits : (why : Why) → NamesNoRoom why → FitsWhy why
+plain_fits Why.Ended plain = tt
+plain_fits Why.NoBlock plain = tt
+plain_fits (Why.SizeDiffers room) plain = absurd plain
+
+fits_answer : (k : ℕ) (name : Name) (epoch : ℕ) (e : Event) → k < 2 ^ 8 → address_of name < 2 ^ 32 → name.turn < 2 ^ 64 → epoch < 2 ^ 64 → MayAnswer k name epoch e → FitsEvent e
+fits_answer k name epoch e few address turn small (inl is) = subst FitsEvent (sym is) (few, record { address = address; turn = turn }, small)
+fits_answer k name epoch e few address turn small (inr is) = subst FitsEvent (sym is.2) (few, record { address = address; turn = turn }, plain_fits is.0 is.1)
+
+module _ (k : ℕ) (name : Name) (epoch : ℕ) (few : k < 2 ^ 8) (address : address_of name < 2 ^ 32) (turn : name.turn < 2 ^ 64) (small : epoch < 2 ^ 64) (line : List ℕ) where
+  -- no event of the entry that has this line may come
+  pub entry_refused : (old new : Machine) → new ≡ old
+      → ((e : Event) → FitsEvent e → MayAnswer k name epoch e → line ≡ line_of_event e → (es : List Event) → StandsFor old es → Admits (profile_of old) es e → ⊥) → EntryTaken old new k name epoch line false
+  entry_refused old new kept none = (
+    kept,
+    λ s more next stands same takes.
+        let may = may_answer s k name epoch takes.event same takes.of_entry in
+        none takes.event (fits_answer k name epoch takes.event few address turn small may) may takes.line_is s.events stands takes.admitted,
+  )
+
+  -- the one event with this line that answers the entry was tried
+  pub entry_stepped : (old new : Machine) (e : Event) → line ≡ line_of_event e → ((g : Event) → FitsEvent g → line ≡ line_of_event g → e ≡ g) → MayAnswer k name epoch e
+      → (taken : Bool) → IsStepped old new e taken → EntryTaken old new k name epoch line taken
+  entry_stepped old new e is only may true stepped = λ s more stands same.
+      let taken = stepped s.events stands in
+      (e, record { event = e; of_entry = event_is (profile_of old) s k name epoch e same stands.run taken.0 may; admitted = taken.0; line_is = is; next_is = refl }, taken.1)
+  entry_stepped old new e is only may false stepped =
+      entry_refused old new stepped.0 (λ g fits other has es stands admitted. stepped.1 es stands (subst (Admits (profile_of old) es) (sym (only g fits has)) admitted))
+
+  -- another event has this line
+  pub entry_other : (old : Machine) (e : Event) → ((g : Event) → FitsEvent g → line ≡ line_of_event g → e ≡ g) → (MayAnswer k name epoch e → ⊥) → EntryTaken old old k name epoch line false
+  entry_other old e only other = entry_refused old old refl (λ g fits may has es stands admitted. other (subst (MayAnswer k name epoch) (sym (only g fits has)) may))
+
+  -- no event has it
+  pub entry_none : (old : Machine) → ((g : Event) → FitsEvent g → line ≡ line_of_event g → None ≡ Some g) → EntryTaken old old k name epoch line false
+  entry_none old none = entry_refused old old refl (λ g fits may has es stands admitted. none-some g (none g fits has))
+
+-- what is so of an answer for another reason
+pub if_ok : {A E : Type 0} (r : Result A E) (P Q : A → Type 0) → ((a : A) → P a → Q a) → IfOk r P → IfOk r Q
+if_ok (Ok a) P Q more h = more a h
+if_ok (Err e) P Q more h = tt
+
+-- ---- the event of a line
+pub event_some : (item : Record) (found : Option Event) (line : List ℕ) → found ≡ event_in item → line ≡ line_of item → IfSome found (λ e. line ≡ line_of_event e)
+event_some (Record.Event e) found line is has = subst (λ o. IfSome o (λ g. line ≡ line_of_event g)) (sym is) has
+event_some (Record.Said k said) found line is has = subst (λ o. IfSome o (λ g. line ≡ line_of_event g)) (sym is) tt
+event_some (Record.Phase n) found line is has = subst (λ o. IfSome o (λ g. line ≡ line_of_event g)) (sym is) tt
+event_some Record.Close found line is has = subst (λ o. IfSome o (λ g. line ≡ line_of_event g)) (sym is) tt
+
+pub event_only : (item : Record) (found : Option Event) (e : Event) → found ≡ event_in item → Some item ≡ Some (Record.Event e) → found ≡ Some e
+event_only item found e is same = is ∙ ap event_in (same_Some item (Record.Event e) same)
+
+-- ---- deeds and backs
+fits_preparing : (f : Profile) (es : List Event) (k : ℕ) (d : Directory) (e : Event) → IsValid f → k < 2 ^ 8 → d.heap < 2 ^ 8 → IsKind d.kind → IsPreparing k d e → Admits f es e → FitsEvent e
+fits_preparing f es k d e valid few heap kind (inl is) admitted =
+    let here : IsPage f is.0 × (d.heap < f.heaps) × (deed_in es is.0 ≡ None) = subst (Admits f es) is.1 admitted in
+    let last : is.0 ≤ f.pages = here.0.1 in
+    let most : f.pages ≤ 4096 = valid.pages in
+    subst FitsEvent (sym is.1) (few, omega (arith, last, most), heap, kind)
+fits_preparing f es k d e valid few heap kind (inr is) admitted =
+    let here : IsPage f is.0 × (deed_in es is.0 ≢ None) × (backed_in es is.0 ≡ false) = subst (Admits f es) is.1 admitted in
+    let last : is.0 ≤ f.pages = here.0.1 in
+    let most : f.pages ≤ 4096 = valid.pages in
+    subst FitsEvent (sym is.1) (few, omega (arith, last, most))
+
+module _ (k : ℕ) (d : Directory) (few : k < 2 ^ 8) (heap : d.heap < 2 ^ 8) (kind : IsKind d.kind) (line : List ℕ) (old : Machine) (valid : IsValid (profile_of old)) where
+  preparing_refused : (new : Machine) → new ≡ old
+      → ((e : Event) → FitsEvent e → IsPreparing k d e → line ≡ line_of_event e → (es : List Event) → StandsFor old es → Admits (profile_of old) es e → ⊥) → PreparingTaken old new k d line false
+  preparing_refused new kept none = (
+    kept,
+    λ s r next stands same takes.
+        let prepares : IsPreparing k d takes.event = subst (λ x. IsPreparing k x takes.event) same takes.prepares in
+        none takes.event (fits_preparing (profile_of old) s.events k d takes.event valid few heap kind prepares takes.admitted) prepares takes.line_is s.events stands takes.admitted,
+  )
+
+  pub preparing_stepped : (new : Machine) (e : Event) → line ≡ line_of_event e → ((g : Event) → FitsEvent g → line ≡ line_of_event g → e ≡ g) → IsPreparing k d e
+      → (taken : Bool) → IsStepped old new e taken → PreparingTaken old new k d line taken
+  preparing_stepped new e is only may true stepped = λ s r stands same.
+      let taken = stepped s.events stands in
+      (e, record { event = e; prepares = subst (λ x. IsPreparing k x e) (sym same) may; admitted = taken.0; line_is = is; next_is = refl }, taken.1)
+  preparing_stepped new e is only may false stepped =
+      preparing_refused new stepped.0 (λ g fits other has es stands admitted. stepped.1 es stands (subst (Admits (profile_of old) es) (sym (only g fits has)) admitted))
+
+  pub preparing_other : (e : Event) → ((g : Event) → FitsEvent g → line ≡ line_of_event g → e ≡ g) → (IsPreparing k d e → ⊥) → PreparingTaken old old k d line false
+  preparing_other e only other = preparing_refused old refl (λ g fits may has es stands admitted. other (subst (IsPreparing k d) (sym (only g fits has)) may))
+
+  pub preparing_none : ((g : Event) → FitsEvent g → line ≡ line_of_event g → None ≡ Some g) → PreparingTaken old old k d line false
+  preparing_none none = preparing_refused old refl (λ g fits may has es stands admitted. none-some g (none g fits has))

@@ -1,0 +1,33 @@
+-- Steps that aren't ticks leave the epoch as it is.
+use Rattle.std.proofs.Common.{◌≡◌, ℕ, Bool, true, false, if◌then◌else◌, List, [], ◌∷◌, ◌++◌, refl, ap, sym, ◌∙◌}
+use Rattle.std.proofs.lemmas.Bool.{true≢false}
+use Rattle.pas_profile.specs.Layouts.{same_word}
+use Rattle.pas_profile.specs.declared.word.Word.TheVariants as Word
+use Rattle.pas_steps.specs.Desks.{triples}
+use Rattle.pas_steps.specs.Effects.{target, new_value}
+use Rattle.pas_steps.specs.Kinds.{Kinds, Ticking, Only, kind_of, is_in, apart, place_of}
+use Rattle.pas_steps.specs.Lists.{Whole, part, word_after}
+use Rattle.pas_steps.specs.Views.{epoch_of}
+use Rattle.pas_steps.specs.declared.step.Made.{Made}
+use Rattle.pas_steps.specs.declared.step.Step.{Step}
+use Rattle.pas_steps.specs.declared.step.Step.TheVariants.{Look, Tick}
+use Rattle.pas_steps.proofs.Apart.{in_apart}
+
+same_both : (t : Bool) (x : ℕ) → (if t then x else x) ≡ x
+same_both true x = refl
+same_both false x = refl
+
+abbrev pub raising : Kinds
+raising = Ticking ∷ []
+
+epoch_stays : (e : ℕ) (s : Step) (old : ℕ) → is_in raising (kind_of s) ≡ false → (if same_word (target s) Word.Epoch then new_value e s old else old) ≡ old
+epoch_stays e (Look word) old h = same_both (same_word word Word.Epoch) old
+epoch_stays e (Tick raised) old h = absurd (true≢false h)
+epoch_stays e s old h = refl
+
+-- THE EPOCH after steps of these kinds of one actor
+pub epoch_kept : (ks : Kinds) → apart ks raising ≡ true → (k : ℕ) (steps : List Made) (l : Whole) → Only ks steps → word_after (triples k steps ++ l) Word.Epoch ≡ word_after l Word.Epoch
+epoch_kept ks w k [] l only = refl
+epoch_kept ks w k (m ∷ ms) l only =
+    epoch_stays (epoch_of (part k (triples k ms ++ l))) m.step (word_after (triples k ms ++ l) Word.Epoch) (in_apart ks raising (place_of (kind_of m.step)) w only.0)
+    ∙ epoch_kept ks w k ms l only.1

@@ -1,0 +1,83 @@
+-- What a replay in the order of the text does, one act after the other. At the start of a phase stands its mark, from the second phase on, and
+-- then each thread that has an operation in it reads the epoch. The operations follow in order. After the last phase stands a mark, and then each
+-- thread is stopped.
+use Rattle.std.specs.Prelude.{ℕ, zero, suc, ◌+◌, ◌==◌, Bool, false, ◌||◌, not, List, [], ◌∷◌, ◌++◌, map}
+use Rattle.std.specs.List.{filter, flat_map}
+use Rattle.pas_trace.specs.declared.plan.What.{What}
+use Rattle.pas_trace.specs.declared.plan.What.TheVariants.{Alloc, Free, Raw, Flush, Stop, Tick, Pass, Idle}
+use Rattle.pas_trace.specs.declared.plan.Op.{Op}
+
+-- `Operates`: a thread's operation, after which the runs of large blocks that its cache noted are handed on (`Settles`). `Ticks` and `MakesPass`: those of
+-- the scavenger. An idle operation is several acts: the scavenger reads the epoch, and then each thread that is idle in the phase is stopped, where it was
+-- idle for so many epochs. What such a stop noted is handed on after the thread's next operation.
+pub data Act : Type 0 where
+  Operates : Op → Act
+  Settles : ℕ → Act
+  Ticks : ℕ → Act
+  MakesPass : Act
+  ReadsEpoch : Act
+  StopsIdle : ℕ → ℕ → Act
+  MarksPhase : ℕ → Act
+  Wakes : ℕ → Act
+  MarksClose : Act
+  Ends : ℕ → Act
+
+-- the thread has an operation among these
+abbrev pub is_active : List Op → ℕ → Bool
+is_active [] k = false
+is_active (op ∷ ops) k = (op.actor == k) || is_active ops k
+
+-- so many numbers from this one on
+abbrev pub numbers_from : ℕ → ℕ → List ℕ
+numbers_from k zero = []
+numbers_from k (suc n) = k ∷ numbers_from (k + 1) n
+
+-- those of so many threads of which this is so, in order
+abbrev pub threads_where : (ℕ → Bool) → ℕ → List ℕ
+threads_where chosen threads = filter chosen (numbers_from 1 threads)
+
+-- those that have an operation in the phase, and those that are idle in it
+abbrev pub active_threads : ℕ → List Op → List ℕ
+active_threads threads ops = threads_where (is_active ops) threads
+
+abbrev pub idle_threads : ℕ → List Op → List ℕ
+idle_threads threads ops = threads_where (λ k. not (is_active ops k)) threads
+
+-- the stops of these threads, where they were idle for n epochs
+abbrev pub idle_stops : ℕ → List ℕ → List Act
+idle_stops n idle = map (λ k. StopsIdle k n) idle
+
+-- the acts of an operation, in a phase in which these threads are idle
+abbrev pub acts_of_what : List ℕ → Op → What → List Act
+acts_of_what idle op (Alloc name heap size align) = Operates op ∷ (Settles op.actor ∷ [])
+acts_of_what idle op (Free name) = Operates op ∷ (Settles op.actor ∷ [])
+acts_of_what idle op (Raw block) = Operates op ∷ (Settles op.actor ∷ [])
+acts_of_what idle op Flush = Operates op ∷ (Settles op.actor ∷ [])
+acts_of_what idle op Stop = Operates op ∷ (Settles op.actor ∷ [])
+acts_of_what idle op (Tick epoch) = Ticks epoch ∷ []
+acts_of_what idle op Pass = MakesPass ∷ []
+acts_of_what idle op (Idle n) = ReadsEpoch ∷ idle_stops n idle
+
+abbrev pub acts_of_op : List ℕ → Op → List Act
+acts_of_op idle op = acts_of_what idle op op.what
+
+abbrev pub acts_of_ops : List ℕ → List Op → List Act
+acts_of_ops idle ops = flat_map (acts_of_op idle) ops
+
+-- the acts of a phase of so many threads, after its mark
+abbrev pub phase_acts : ℕ → List Op → List Act
+phase_acts threads ops = map Wakes (active_threads threads ops) ++ acts_of_ops (idle_threads threads ops) ops
+
+-- the close: a mark, and the end of each thread
+abbrev pub close_acts : ℕ → List Act
+close_acts threads = MarksClose ∷ map Ends (numbers_from 1 threads)
+
+-- the acts of the phases that are left, the first of which has this number
+abbrev pub acts_from : ℕ → ℕ → List (List Op) → List Act
+acts_from threads n [] = close_acts threads
+acts_from threads n (phase ∷ phases) = MarksPhase n ∷ (phase_acts threads phase ++ acts_from threads (n + 1) phases)
+
+-- the acts of a plan of so many threads; its first phase begins without a mark
+abbrev pub acts_of : ℕ → List (List Op) → List Act
+acts_of threads [] = close_acts threads
+acts_of threads (phase ∷ phases) = phase_acts threads phase ++ acts_from threads 2 phases

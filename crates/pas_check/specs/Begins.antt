@@ -1,0 +1,131 @@
+-- How the acts of a plan are begun: what becomes due, and what changes without a line.
+use Rattle.std.specs.Prelude.{ℕ, zero, suc, ◌+◌, ◌/◌, ◌%◌, ◌==◌, nat_le, nat_lt, ◌&&◌, if◌then◌else◌, Bool, true, false, List, [], ◌∷◌, ◌++◌, length, map, max, Option, None, Some, codes}
+use Rattle.pas_profile.specs.declared.directory.Directory.{Directory}
+use Rattle.pas_profile.specs.declared.event.Event.{Event}
+use Rattle.pas_profile.specs.declared.name.Name.{Name}
+use Rattle.pas_profile.specs.declared.profile.Profile.{Profile}
+use Rattle.pas_profile.specs.Runs.{address_of}
+use Rattle.pas_machine.specs.State.{deed_in}
+use Rattle.pas_trace.specs.declared.plan.What.{What}
+use Rattle.pas_trace.specs.declared.plan.What.TheVariants.{Alloc, Free, Raw, Flush, Stop, Tick, Pass, Idle}
+use Rattle.pas_report.specs.Lines.{line_of, line_of_answer}
+use Rattle.pas_report.specs.Reports.{total_line}
+use Rattle.pas_report.specs.declared.record.Record.{Record}
+use Rattle.pas_report.specs.declared.record.Said.{Said}
+use Rattle.pas_check.specs.Acts.{Act, Operates, Settles, Ticks, MakesPass, ReadsEpoch, StopsIdle, MarksPhase, Wakes, MarksClose, Ends}
+use Rattle.pas_check.specs.Names.{standing_for}
+use Rattle.pas_check.specs.States.{Due, Writes, Frees, Serves, Examines, Shows, Task, Does, Reports, Stand, with_at, with_due}
+
+-- just this line is due
+abbrev pub says : Stand → List ℕ → Stand
+says s line = with_due s (Writes line ∷ [])
+
+-- actor k says this
+abbrev pub tells : Stand → ℕ → Said → Stand
+tells s k said = says s (line_of_answer k said)
+
+-- ---- logs
+abbrev pub entries_due : ℕ → List Name → List Due
+entries_due k log = map (λ name. Frees k name) log
+
+-- the entries of thread k's log are due, and then these; its log has these names from then on
+abbrev pub flushing : Stand → ℕ → List Name → List Due → Stand
+flushing s k log more = record s { due = entries_due k (s.logs k) ++ more; logs = with_at s.logs k log }
+
+-- Thread k frees this name: it is logged at the end, and a full log of 64 is flushed first.
+abbrev pub logging : Bool → Stand → ℕ → Name → Stand
+logging true s k name = flushing s k (name ∷ []) []
+logging false s k name = record s { logs = with_at s.logs k (s.logs k ++ name ∷ []) }
+
+abbrev pub is_page : Profile → ℕ → Bool
+is_page f page = nat_le 1 page && nat_le page f.pages
+
+abbrev pub is_aligned : Name → Bool
+is_aligned name = address_of name % 16 == 0
+
+-- a name whose page isn't one of the region, or else whose address is no multiple of 16, isn't logged: this is said
+abbrev pub freeing_at : Bool → Bool → Stand → ℕ → Name → Stand
+freeing_at false aligned s k name = tells s k (Said.Outside name)
+freeing_at true false s k name = tells s k (Said.Unaligned name)
+freeing_at true true s k name = logging (nat_le 64 (length (s.logs k))) s k name
+
+abbrev pub freeing : Profile → Stand → ℕ → Name → Stand
+freeing f s k name = freeing_at (is_page f (address_of name / 4096)) (is_aligned name) s k name
+
+-- a name of the trace whose request was refused is skipped
+abbrev pub freeing_named : Profile → Stand → ℕ → ℕ → Option (Option Name) → Stand
+freeing_named f s k name None = s
+freeing_named f s k name (Some None) = tells s k (Said.Skipped name)
+freeing_named f s k name (Some (Some block)) = freeing f s k block
+
+-- ---- acts
+abbrev pub begun_what : Profile → Stand → ℕ → What → Stand
+begun_what f s k (Alloc name heap size align) = with_due s (Serves k record { name = name; heap = heap; size = size; align = align } ∷ [])
+begun_what f s k (Free name) = freeing_named f s k name (standing_for s.names name)
+begun_what f s k (Raw block) = freeing f s k block
+begun_what f s k Flush = flushing s k [] []
+begun_what f s k Stop = flushing s k [] []
+begun_what f s k (Tick e) = s
+begun_what f s k Pass = s
+begun_what f s k (Idle n) = s
+
+-- an idle thread's cache is stopped where its thread read the epoch at least so long ago, which is said after its flush
+abbrev pub stopping : Bool → Stand → ℕ → Stand
+stopping true s k = flushing s k [] (Writes (line_of_answer 0 (Said.Stopped k)) ∷ [])
+stopping false s k = s
+
+abbrev pub begun_act : Profile → Stand → Act → Stand
+begun_act f s (Operates op) = begun_what f s op.actor op.what
+begun_act f s (Settles k) = s
+begun_act f s (Ticks e) = tells (record s { epoch = max s.epoch e }) 0 (Said.Tick (max s.epoch e))
+begun_act f s MakesPass = with_due s (Writes (line_of_answer 0 (Said.Pass s.epoch)) ∷ Examines 0 ∷ [])
+begun_act f s ReadsEpoch = s
+begun_act f s (StopsIdle k n) = stopping (nat_le (s.idle_since k + n) s.epoch) s k
+begun_act f s (MarksPhase n) = says s (line_of (Record.Phase n))
+begun_act f s (Wakes k) = record s { idle_since = with_at s.idle_since k s.epoch }
+begun_act f s MarksClose = says s (line_of Record.Close)
+begun_act f s (Ends k) = flushing s k [] []
+
+-- ---- the report
+abbrev pub page_due : ℕ → Option Directory → List Due
+page_due page None = []
+page_due page (Some d) = Shows page d ∷ []
+
+-- the pages 1 to n with a deed, in order
+abbrev pub pages_due : List Event → ℕ → List Due
+pages_due es zero = []
+pages_due es (suc n) = pages_due es n ++ page_due (suc n) (deed_in es (suc n))
+
+abbrev pub report_due : Profile → List Event → List Due
+report_due f es = Writes (codes "report\n") ∷ (pages_due es f.pages ++ Writes (total_line f es) ∷ [])
+
+abbrev pub begun : Profile → Stand → Task → Stand
+begun f s (Does act) = begun_act f s act
+begun f s Reports = with_due s (report_due f s.events)
+
+-- ---- what is due next
+-- where nothing is due, tasks are begun in order, up to the first after which something is
+abbrev pub settled_with : List Due → Stand → Stand → Stand
+settled_with [] due none = none
+settled_with (d ∷ ds) due none = due
+
+abbrev pub begun_from : Profile → Stand → List Task → Stand
+begun_from f s [] = record s { left = [] }
+begun_from f s (t ∷ ts) = settled_with (begun f s t).due (record (begun f s t) { left = ts }) (begun_from f (begun f s t) ts)
+
+abbrev pub ready_with : Profile → Stand → List Due → Stand
+ready_with f s [] = begun_from f (with_due s []) s.left
+ready_with f s (d ∷ ds) = with_due s (d ∷ ds)
+
+-- no more outcomes of a pass come
+abbrev pub past_outcomes : List Due → List Due
+past_outcomes [] = []
+past_outcomes (Writes line ∷ more) = Writes line ∷ more
+past_outcomes (Frees k name ∷ more) = Frees k name ∷ more
+past_outcomes (Serves k r ∷ more) = Serves k r ∷ more
+past_outcomes (Examines page ∷ more) = more
+past_outcomes (Shows page d ∷ more) = Shows page d ∷ more
+
+-- what the next line must answer, where it is no outcome of a pass
+abbrev pub ready : Profile → Stand → Stand
+ready f s = ready_with f s (past_outcomes s.due)

@@ -1,0 +1,35 @@
+-- States whose numbers fit, as those of each check do.
+use Rattle.std.specs.Prelude.{ℕ, ◌^◌, ◌<◌, List, [], ◌∷◌}
+use Rattle.pas_profile.specs.Directories.{IsKind}
+use Rattle.pas_profile.specs.Profiles.{IsValid}
+use Rattle.pas_profile.specs.Routes.{room_of}
+use Rattle.pas_profile.specs.declared.profile.Profile.{Profile}
+use Rattle.pas_machine.specs.Machine.{Run}
+use Rattle.pas_machine.specs.State.{gives_in, epoch_in}
+use Rattle.pas_check.specs.Names.{Request}
+use Rattle.pas_check.specs.States.{Due, Writes, Frees, Serves, Examines, Shows, Stand}
+use Rattle.pas_check.specs.Takes.{directory_of}
+
+pub record FitsRequest (f : Profile) (k : ℕ) (r : Request) : Type 0 where
+  pub actor : k < 2 ^ 8
+  pub name : r.name < 2 ^ 32
+  pub heap : r.heap < 2 ^ 8
+  pub kind : IsKind (directory_of f r).kind
+  pub room : room_of r.size r.align < 2 ^ 32
+
+-- what is due first
+abbrev pub FitsFirst : Profile → List Due → Type 0
+FitsFirst f [] = Unit {0}
+FitsFirst f (Writes text ∷ more) = Unit {0}
+FitsFirst f (Frees k name ∷ more) = Unit {0}
+FitsFirst f (Serves k r ∷ more) = FitsRequest f k r
+FitsFirst f (Examines page ∷ more) = Unit {0}
+FitsFirst f (Shows page d ∷ more) = Unit {0}
+
+-- the events so far are a run of few blocks, at small epochs
+pub record IsSmall (f : Profile) (s : Stand) : Type 0 where
+  pub valid : IsValid f
+  pub run : Run f s.events
+  pub gives : (address : ℕ) → gives_in s.events address < 2 ^ 64
+  pub ends : (page : ℕ) → epoch_in s.events page < 2 ^ 64
+  pub epoch : s.epoch < 2 ^ 64

@@ -1,0 +1,12 @@
+pub mod Acts
+pub mod Names
+pub mod Lines
+pub mod States
+pub mod Begins
+pub mod Takes
+pub mod Accepted
+pub mod Going
+pub mod Bounds
+pub mod Ranges
+pub mod Readings
+pub mod Calls

@@ -1,0 +1,61 @@
+-- What stands before a line of a transcript, as far as it matters for the line: no words of a region, no views, rights or cached slots.
+use Rattle.std.specs.Prelude.{ℕ, zero, suc, ◌+◌, ◌==◌, if◌then◌else◌, List, [], ◌∷◌, ◌++◌, map, Option, None, Some}
+use Rattle.pas_profile.specs.declared.directory.Directory.{Directory}
+use Rattle.pas_profile.specs.declared.event.Event.{Event}
+use Rattle.pas_profile.specs.declared.name.Name.{Name}
+use Rattle.pas_trace.specs.Plans.{ops_of}
+use Rattle.pas_trace.specs.declared.plan.Plan.{Plan}
+use Rattle.pas_check.specs.Acts.{Act, acts_of}
+use Rattle.pas_check.specs.Names.{Named, Request}
+
+-- ---- what is due
+-- What the next lines are to answer. `Writes`: just this line. `Frees`: the line of an entry of thread k's log. `Serves`: those of a request of thread k, which
+-- are deeds and backs, as many as there are, and then a give or a refusal. `Examines`: the outcomes of a pass on pages after this one, as many as there
+-- are. `Shows`: the line of a page of this directory in the report.
+pub data Due : Type 0 where
+  Writes : List ℕ → Due
+  Frees : ℕ → Name → Due
+  Serves : ℕ → Request → Due
+  Examines : ℕ → Due
+  Shows : ℕ → Directory → Due
+
+-- what is to be begun once nothing is due: an act of the plan, or the report
+pub data Task : Type 0 where
+  Does : Act → Task
+  Reports : Task
+
+-- ---- tables by thread
+abbrev pub with_at : {A : Type 0} → (ℕ → A) → ℕ → A → ℕ → A
+with_at table k value j = if j == k then value else table j
+
+-- ---- the state
+-- The events so far, the newest first; what the names of the trace stand for; the log of each thread, in order; the epoch that each thread read at the
+-- start of the last phase in which it had an operation; the greatest tick; what is due; and what is left of the plan.
+pub record Stand : Type 0 where
+  pub events : List Event
+  pub names : List Named
+  pub logs : ℕ → List Name
+  pub idle_since : ℕ → ℕ
+  pub epoch : ℕ
+  pub due : List Due
+  pub left : List Task
+
+-- .. with this due
+abbrev pub with_due : Stand → List Due → Stand
+with_due s due = record s { due = due }
+
+-- .. after an event, the newest
+abbrev pub with_one : Stand → Event → Stand
+with_one s e = record s { events = e ∷ s.events }
+
+-- .. after a request: its name stands for this block, or for nothing
+abbrev pub with_name : Stand → ℕ → Option Name → Stand
+with_name s name block = record s { names = record { name = name; block = block } ∷ s.names }
+
+-- the tasks of a plan: its acts in order, and then the report
+abbrev pub tasks_of : Plan → List Task
+tasks_of plan = map Does (acts_of plan.profile.threads (map ops_of plan.phases.phases.items)) ++ Reports ∷ []
+
+-- before the first line
+abbrev pub at_first : Plan → Stand
+at_first plan = record { events = []; names = []; logs = λ k. []; idle_since = λ k. 0; epoch = 0; due = []; left = tasks_of plan }

@@ -1,0 +1,163 @@
+-- Which line may come next, by what stands before it, and what follows from it.
+use Rattle.std.specs.Prelude.{ℕ, ◌+◌, ◌*◌, ◌-◌, ◌/◌, ◌%◌, ◌^◌, ◌<◌, ◌≤◌, ◌≡◌, ◌≢◌, ◌⊎◌, Bool, true, false, not, List, [], ◌∷◌, ◌++◌, Option, None, Some}
+use Rattle.pas_profile.specs.declared.directory.Directory.{Directory}
+use Rattle.pas_profile.specs.declared.event.Event.{Event}
+use Rattle.pas_profile.specs.declared.event.Outcome.{Outcome}
+use Rattle.pas_profile.specs.declared.event.Outcome.TheVariants.{Unbacked, Bare, Young, InUse, NotOffered}
+use Rattle.pas_profile.specs.declared.event.Why.{Why}
+use Rattle.pas_profile.specs.declared.name.Name.{Name}
+use Rattle.pas_profile.specs.declared.name.Block.{Block}
+use Rattle.pas_profile.specs.declared.profile.Profile.{Profile}
+use Rattle.pas_profile.specs.Profiles.{IsPage}
+use Rattle.pas_profile.specs.Requests.{directory_for}
+use Rattle.pas_profile.specs.Routes.{room_of}
+use Rattle.pas_profile.specs.Runs.{in_run, address_of, grain_of, length_of}
+use Rattle.pas_machine.specs.Machine.{Admits, IsReason}
+use Rattle.pas_machine.specs.State.{deed_in, backed_in, epoch_in}
+use Rattle.pas_steps.specs.Views.{usable_by_kind}
+use Rattle.pas_report.specs.Lines.{line_of_event, line_of_answer}
+use Rattle.pas_report.specs.Marks.{Marked}
+use Rattle.pas_report.specs.Reports.{is_covered, machine_page}
+use Rattle.pas_report.specs.declared.record.Said.{Said}
+use Rattle.pas_check.specs.Names.{Request}
+use Rattle.pas_check.specs.States.{Due, Writes, Frees, Serves, Examines, Shows, Stand, with_due, with_one, with_name}
+use Rattle.pas_check.specs.Begins.{ready}
+
+-- ---- an entry of a log
+-- a reason for which the end of a name is refused, where no room was named with it
+abbrev pub NamesNoRoom : Why → Type 0
+NamesNoRoom Why.Ended = Unit {0}
+NamesNoRoom Why.NoBlock = Unit {0}
+NamesNoRoom (Why.SizeDiffers room) = ⊥
+
+-- Its event is the refusal with the true reason, and where there is none the end with the greatest tick so far. The entry names no room.
+abbrev pub IsEventOf : Stand → ℕ → Name → Event → Type 0
+IsEventOf s k name e =
+    ((why : Why) × NamesNoRoom why × IsReason s.events name why × (e ≡ Event.Reject k name why))
+    ⊎ (((why : Why) → NamesNoRoom why → IsReason s.events name why → ⊥) × (e ≡ Event.End k name s.epoch))
+
+pub record TakesEntry (f : Profile) (s : Stand) (k : ℕ) (name : Name) (more : List Due) (line : List ℕ) (next : Stand) : Type 0 where
+  pub event : Event
+  pub of_entry : IsEventOf s k name event
+  pub admitted : Admits f s.events event
+  pub line_is : line ≡ line_of_event event
+  pub next_is : next ≡ with_due (with_one s event) more
+
+-- ---- a request
+-- the directory of its pages
+abbrev pub directory_of : Profile → Request → Directory
+directory_of f r = directory_for f r.heap r.size r.align
+
+-- a deed of this directory, or a back, by actor k
+abbrev pub IsPreparing : ℕ → Directory → Event → Type 0
+IsPreparing k d e = ((page : ℕ) × (e ≡ Event.Deed k page d)) ⊎ ((page : ℕ) × (e ≡ Event.Back k page))
+
+-- the request goes on
+pub record TakesPreparing (f : Profile) (s : Stand) (k : ℕ) (r : Request) (line : List ℕ) (next : Stand) : Type 0 where
+  pub event : Event
+  pub prepares : IsPreparing k (directory_of f r) event
+  pub admitted : Admits f s.events event
+  pub line_is : line ≡ line_of_event event
+  pub next_is : next ≡ with_one s event
+
+-- The block has the request's heap and room, stands at a multiple of its alignment, and each page of its run has a deed of the request's directory.
+pub record IsFor (f : Profile) (s : Stand) (r : Request) (block : Block) : Type 0 where
+  pub heap : block.heap ≡ r.heap
+  pub room : block.room ≡ room_of r.size r.align
+  pub aligned : address_of block.name % r.align ≡ 0
+  pub deeds : (x : ℕ) → in_run (grain_of block.name) (length_of block) x ≡ true → deed_in s.events (x / 256) ≡ Some (directory_of f r)
+
+-- it is given
+pub record TakesGive (f : Profile) (s : Stand) (k : ℕ) (r : Request) (more : List Due) (line : List ℕ) (next : Stand) : Type 0 where
+  pub block : Block
+  pub is_for : IsFor f s r block
+  pub admitted : Admits f s.events (Event.Give k block)
+  pub line_is : line ≡ line_of_event (Event.Give k block)
+  pub next_is : next ≡ with_due (with_name (with_one s (Event.Give k block)) r.name (Some block.name)) more
+
+-- it is refused: no page can serve it, or a page of its directory is in some actor's hands
+abbrev pub IsRefusal : Profile → Stand → Request → Said → Type 0
+IsRefusal f s r said =
+    (said ≡ Said.NoSpace r.name)
+    ⊎ ((page : ℕ) × (deed_in s.events page ≡ Some (directory_of f r)) × (said ≡ Said.Held page r.name))
+
+pub record TakesRefusal (f : Profile) (s : Stand) (k : ℕ) (r : Request) (more : List Due) (line : List ℕ) (next : Stand) : Type 0 where
+  pub said : Said
+  pub refuses : IsRefusal f s r said
+  pub line_is : line ≡ line_of_answer k said
+  pub next_is : next ≡ with_due (with_name s r.name None) more
+
+abbrev pub TakesRequest : Profile → Stand → ℕ → Request → List Due → List ℕ → Stand → Type 0
+TakesRequest f s k r more line next = TakesPreparing f s k r line next ⊎ TakesGive f s k r more line next ⊎ TakesRefusal f s k r more line next
+
+-- ---- an outcome of a pass
+-- what may come of a page of the region
+abbrev pub MayCome : Profile → Stand → ℕ → Outcome → Type 0
+MayCome f s page Unbacked = Admits f s.events (Event.Unback 0 page s.epoch)
+MayCome f s page Bare = backed_in s.events page ≡ false
+MayCome f s page (Young stamp) = (stamp ≡ epoch_in s.events page) × (s.epoch < stamp + f.age)
+MayCome f s page (InUse word value) = (word < 4) × (value < 2 ^ 64 - 1)
+MayCome f s page NotOffered = deed_in s.events page ≢ None
+
+-- its line, and what follows
+abbrev pub line_of_outcome : ℕ → ℕ → Outcome → List ℕ
+line_of_outcome epoch page Unbacked = line_of_event (Event.Unback 0 page epoch)
+line_of_outcome epoch page Bare = line_of_answer 0 (Said.Bare page)
+line_of_outcome epoch page (Young stamp) = line_of_answer 0 (Said.Young page stamp)
+line_of_outcome epoch page (InUse word value) = line_of_answer 0 (Said.InUse page word value)
+line_of_outcome epoch page NotOffered = line_of_answer 0 (Said.NotOffered page)
+
+abbrev pub after_outcome : Stand → ℕ → Outcome → Stand
+after_outcome s page Unbacked = with_one s (Event.Unback 0 page s.epoch)
+after_outcome s page Bare = s
+after_outcome s page (Young stamp) = s
+after_outcome s page (InUse word value) = s
+after_outcome s page NotOffered = s
+
+-- the outcomes of a pass have rising pages
+pub record TakesOutcome (f : Profile) (s : Stand) (last : ℕ) (more : List Due) (line : List ℕ) (next : Stand) : Type 0 where
+  pub page : ℕ
+  pub rises : last < page
+  pub of_region : IsPage f page
+  pub outcome : Outcome
+  pub may : MayCome f s page outcome
+  pub line_is : line ≡ line_of_outcome s.epoch page outcome
+  pub next_is : next ≡ with_due (after_outcome s page outcome) (Examines page ∷ more)
+
+-- ---- a page of the report
+-- The marks that the machine allows: `backed` exactly where it has the page backed; exactly one of `offered` and `parked`; `offered` wherever a usable
+-- grain isn't covered, and `hinted` wherever it is backed and no grain is covered.
+pub record AreAllowedMarks (s : Stand) (page : ℕ) (d : Directory) (m : Marked) : Type 0 where
+  pub backed : m.backed ≡ backed_in s.events page
+  pub offered_or_parked : m.parked ≡ not m.offered
+  pub offered : (b : ℕ) → b < 256 → usable_by_kind d.kind b ≡ true → is_covered s.events (256 * page + b) ≡ false → m.offered ≡ true
+  pub hinted : backed_in s.events page ≡ true → ((g : ℕ) → g / 256 ≡ page → is_covered s.events g ≡ false) → m.hinted ≡ true
+
+pub record TakesPage (s : Stand) (page : ℕ) (d : Directory) (more : List Due) (line : List ℕ) (next : Stand) : Type 0 where
+  pub marks : Marked
+  pub allowed : AreAllowedMarks s page d marks
+  pub line_is : line ≡ machine_page s.events page (Some d) marks
+  pub next_is : next ≡ with_due s more
+
+-- ---- any line
+-- the line answers what is due
+abbrev pub TakesDue : Profile → Stand → List Due → List ℕ → Stand → Type 0
+TakesDue f s [] line next = ⊥
+TakesDue f s (Writes text ∷ more) line next = (line ≡ text) × (next ≡ with_due s more)
+TakesDue f s (Frees k name ∷ more) line next = TakesEntry f s k name more line next
+TakesDue f s (Serves k r ∷ more) line next = TakesRequest f s k r more line next
+TakesDue f s (Examines page ∷ more) line next = TakesOutcome f s page more line next
+TakesDue f s (Shows page d ∷ more) line next = TakesPage s page d more line next
+
+-- it is an outcome of the pass, where one may come
+abbrev pub TakesFirst : Profile → Stand → List Due → List ℕ → Stand → Type 0
+TakesFirst f s [] line next = ⊥
+TakesFirst f s (Writes text ∷ more) line next = ⊥
+TakesFirst f s (Frees k name ∷ more) line next = ⊥
+TakesFirst f s (Serves k r ∷ more) line next = ⊥
+TakesFirst f s (Examines page ∷ more) line next = TakesOutcome f s page more line next
+TakesFirst f s (Shows page d ∷ more) line next = ⊥
+
+-- THE NEXT LINE, and what follows from it
+abbrev pub Takes : Profile → Stand → List ℕ → Stand → Type 0
+Takes f s line next = TakesFirst f s s.due line next ⊎ TakesDue f (ready f s) (ready f s).due line next

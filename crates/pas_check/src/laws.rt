@@ -1,0 +1,75 @@
+//! What the definitions of the checker promise. Each law is the contract of an empty function.
+ghost use Rattle.std.specs.Prelude.{List, ℕ, ◌≡◌, ◌+◌, ◌++◌, ◌∷◌, [], length, map, true};
+ghost use Rattle.pas_profile.specs.declared.event.Event.{Event};
+ghost use Rattle.pas_profile.specs.declared.event.Why.{Why};
+ghost use Rattle.pas_profile.specs.declared.name.Name.{Name};
+ghost use Rattle.pas_profile.specs.declared.profile.Profile.{Profile};
+ghost use Rattle.pas_profile.specs.declared.word.Word.TheVariants as Word;
+ghost use Rattle.pas_machine.specs.Machine.{Run, Admits};
+ghost use Rattle.pas_steps.specs.Desks.{triples};
+ghost use Rattle.pas_steps.specs.Kinds.{Kinds, Ticking, Only, apart};
+ghost use Rattle.pas_steps.specs.Lists.{Whole, word_after};
+ghost use Rattle.pas_steps.specs.declared.step.Made.{Made};
+ghost use Rattle.pas_check.specs.Lines.{lines_in};
+ghost use Rattle.pas_check.specs.States.{Due, Stand};
+ghost use Rattle.pas_check.specs.Takes.{NamesNoRoom, IsEventOf, Takes, TakesDue};
+ghost use Rattle.pas_trace.specs.declared.plan.Plan.{Plan};
+ghost use Rattle.pas_report.specs.Lines.{line_of, lines_of};
+ghost use Rattle.pas_report.specs.declared.record.Record.{Record};
+ghost use Rattle.pas_check.specs.Accepted.{IsDone, IsStopped, IsVerdict, IsWhole};
+ghost use Rattle.pas_check.specs.Bounds.{FitsFirst, IsSmall};
+ghost use Rattle.pas_check.specs.Going.{AreAlike, SoFar};
+ghost use Rattle.pas_check.specs.Ranges.{Fits, EachFits};
+ghost use Rattle.pas_check.specs.declared.verdict.Verdict.{Verdict};
+
+/// No two records whose numbers fit their places have one line. So a line of a transcript says one thing.
+#[tactic(auto, using(crate::proofs::Readings::one_line))]
+pub fn lines_are_apart()
+    ensures { (r q : Record) → Fits r → Fits q → line_of r ≡ line_of q → r ≡ q }
+{}
+
+/// A transcript of a plan has one verdict: it isn't both accepted and refused, and the first line that isn't allowed is one.
+#[tactic(auto, using(crate::proofs::Verdicts::one_verdict))]
+pub fn verdicts_are_one()
+    ensures { (plan : Plan) (text : List ℕ) (v w : Verdict) → IsVerdict plan text v → IsVerdict plan text w → v ≡ w }
+{}
+
+/// The lines of records are the lines of their text, one for each, whatever follows.
+#[tactic(auto, using(crate::proofs::Cuts::cut_records))]
+pub fn records_are_lines()
+    ensures { (rs : List Record) (rest : List ℕ) → EachFits rs → lines_in (lines_of rs ++ rest) ≡ map line_of rs ++ lines_in rest }
+{}
+
+/// The event of an entry of a log is one. In a run the end of the name, and each refusal of it that names no room, is that event.
+pub fn entries_have_one_event()
+    ensures one { (s : Stand) (k : ℕ) (name : Name) (e g : Event) → IsEventOf s k name e → IsEventOf s k name g → e ≡ g }
+    ensures end { (f : Profile) (s : Stand) (k : ℕ) (name : Name) → Run f s.events → Admits f s.events (Event.End k name s.epoch) → IsEventOf s k name (Event.End k name s.epoch) }
+    ensures reject { (f : Profile) (s : Stand) (k : ℕ) (name : Name) (why : Why) → NamesNoRoom why → Admits f s.events (Event.Reject k name why) → IsEventOf s k name (Event.Reject k name why) }
+{}
+
+/// Steps that aren't ticks leave the epoch as it is.
+#[tactic(auto, using(crate::proofs::Ticks::epoch_kept))]
+pub fn ticks_alone_raise()
+    ensures { (ks : Kinds) → apart ks (Ticking ∷ []) ≡ true → (k : ℕ) (steps : List Made) (l : Whole) → Only ks steps
+        → word_after (triples k steps ++ l) Word.Epoch ≡ word_after l Word.Epoch }
+{}
+
+/// How a check goes on and ends. Where a line may come and leads to one state, the check stands there; a state that no line tells from it will do as
+/// well. A line that can't be taken is the first that isn't allowed; and at the end of the lines the transcript is whole, or ends too early.
+pub fn checks_go_on()
+    ensures first { (f : Profile) (s : Stand) → SoFar f s [] s }
+    ensures line { (f : Profile) (s next : Stand) (line : List ℕ) → Takes f s line next → ((other : Stand) → Takes f s line other → other ≡ next)
+        → (start : Stand) (seen : List (List ℕ)) → SoFar f start seen s → SoFar f start (seen ++ line ∷ []) next }
+    ensures none { (f : Profile) (start s t : Stand) (seen : List (List ℕ)) → AreAlike f s t → SoFar f start seen s → SoFar f start seen t }
+    ensures refused { (f : Profile) (start s : Stand) (seen : List (List ℕ)) (line : List ℕ) (rest : List (List ℕ)) → SoFar f start seen s
+        → ((next : Stand) → Takes f s line next → ⊥) → IsStopped f start (seen ++ line ∷ rest) (length seen + 1) }
+    ensures whole { (f : Profile) (start s : Stand) (lines : List (List ℕ)) → SoFar f start lines s → IsDone f s → IsWhole f start lines }
+    ensures early { (f : Profile) (start s : Stand) (lines : List (List ℕ)) → SoFar f start lines s → (IsDone f s → ⊥) → IsStopped f start lines (length lines + 1) }
+{}
+
+/// A line that answers what is due leads to one state, where the events so far are a run of few blocks at small epochs, and the numbers of a request
+/// fit. So it is never open which of two answers a line gave.
+#[tactic(auto, using(crate::proofs::OneNext::one_next))]
+pub fn lines_lead_on()
+    ensures { (f : Profile) (s : Stand) → IsSmall f s → (due : List Due) → FitsFirst f due → (line : List ℕ) (a b : Stand) → TakesDue f s due line a → TakesDue f s due line b → a ≡ b }
+{}

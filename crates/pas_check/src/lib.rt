@@ -1,0 +1,14 @@
+//! The checker of transcripts: whether a transcript in the order of the text answers a plan, and the first line that doesn't.
+#![tactic(auto)]
+
+mod cutting;
+pub mod laws;
+mod numbers;
+pub mod reading;
+mod taking;
+#[cfg(test)]
+mod tests;
+pub mod verdict;
+
+pub use reading::read_record;
+pub use verdict::Verdict;

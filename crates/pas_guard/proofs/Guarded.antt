@@ -1,0 +1,158 @@
+-- A guard that is up stays as it is, step by step.
+use Rattle.std.proofs.Common.{◌≡◌, ◌≢◌, ℕ, ◌+◌, ◌/◌, ◌==◌, Bool, true, false, ◌&&◌, if◌then◌else◌, List, [], ◌∷◌, ◌++◌, refl, ap, sym, ◌∙◌, subst, true≢false, arith, inl, inr}
+use Rattle.std.proofs.lemmas.Bool.{cases_Bool, eqb-true}
+use Rattle.pas_profile.specs.Directories.{deed_word_of}
+use Rattle.pas_profile.specs.Layouts.{same_word}
+use Rattle.pas_profile.specs.Profiles.{IsValid}
+use Rattle.pas_profile.specs.Runs.{in_run, grain_of, length_of}
+use Rattle.pas_profile.specs.declared.directory.Directory.{Directory}
+use Rattle.pas_profile.specs.declared.profile.Profile.{Profile}
+use Rattle.pas_profile.specs.declared.word.Word.{Word}
+use Rattle.pas_profile.specs.declared.word.Word.TheVariants as Words
+use Rattle.pas_profile.proofs.Codecs.{deed_word_of-positive}
+use Rattle.pas_steps.specs.Allowed.{Allowed}
+use Rattle.pas_steps.specs.Effects.{target, new_value}
+use Rattle.pas_steps.specs.Lists.{Triple, Whole, part, word_after, IsNext, Legal}
+use Rattle.pas_steps.specs.Views.{View, Move, Stays, Gives, held_after, grain_move, holds, epoch_of, known_deed, KnowsDeed}
+use Rattle.pas_steps.specs.declared.step.Made.{Made}
+use Rattle.pas_steps.specs.declared.step.Step.{Step}
+use Rattle.pas_steps.specs.declared.step.Step.TheVariants.{Look, Back, Give, Unback}
+use Rattle.pas_core.proofs.DeedWords.{deed_kept, looked, known_is}
+use Rattle.pas_core.proofs.Grains.{one_holder}
+use Rattle.pas_large.specs.Claims.{StaysPut}
+use Rattle.pas_guard.specs.Raises.{BacksNot}
+use Rattle.pas_guard.specs.Evidence.{BackedReadHere}
+use Rattle.pas_guard.specs.Seeks.{LeftSince}
+use Rattle.pas_steps.specs.Past.{Since}
+use Rattle.pas_core.proofs.Knowledge.{deeds_known}
+use Rattle.pas_guard.specs.Guarded.{StandsGuard, LeavesGuard, KeepsGuard, GivesOn, IsUntouched, AreUntouched}
+
+-- only a back makes a page that isn't backed a backed one
+stays_bare : (e : ℕ) (s : Step) (page old : ℕ) → (s ≡ Back page → ⊥) → old ≡ 0 → (if same_word (target s) (Words.Backed page) then new_value e s old else old) ≡ 0
+stays_bare e (Look w) page old not zero = looked (same_word w (Words.Backed page)) old ∙ zero
+stays_bare e (Back q) page old not zero = elim (cases_Bool (q == page)) [
+  | inl is ↦ absurd (not (ap Back (eqb-true q page is)))
+  | inr other ↦ ap (λ t. if t then new_value e (Back q) old else old) other ∙ zero
+]
+stays_bare e (Unback q) page old not zero = elim (cases_Bool (q == page)) [
+  | inl is ↦ ap (λ t. if t then 0 else old) is
+  | inr other ↦ ap (λ t. if t then 0 else old) other ∙ zero
+]
+stays_bare e s page old not zero = zero
+
+-- ---- the steps of others
+module _ (f : Profile) (l : Whole) (keeper page : ℕ) (d : Directory) (valid : IsValid f) (legal : Legal f l) (stands : StandsGuard l keeper page d) where
+  alone : (k g : ℕ) → g / 256 ≡ page → holds (part k l) g ≡ true → (k == keeper) ≡ true
+  alone k g at held = one_holder f l valid legal k keeper g held (stands.held g at)
+
+  no_back : (k : ℕ) (s : Step) → (k == keeper) ≡ false → Allowed f (part k l) s → s ≡ Back page → ⊥
+  no_back k s other may e = let now = subst (Allowed f (part k l)) e may in let on = now.0 in true≢false (sym (alone k on.0 on.1 on.2) ∙ other)
+
+  no_give : (k : ℕ) (s : Step) → (k == keeper) ≡ false → Allowed f (part k l) s → GivesOn page s → ⊥
+  no_give k s other may on = let now = subst (Allowed f (part k l)) on.1 may in let g = on.2 in true≢false (sym (alone k g.0 g.1 (now.held g.0 g.2)) ∙ other)
+
+-- ---- the keeper's own
+moved : (b g : ℕ) → Gives b ≡ Stays → ⊥
+moved b g e = cc
+
+own_give : (page : ℕ) (m : Made) → LeavesGuard page m → GivesOn page m.step → ⊥
+own_give page m leaves on =
+    let b = on.0 in let g = on.2 in
+    let stays : grain_move (Give b) m.answer g.0 ≡ Stays = sym (ap (λ s. grain_move s m.answer g.0) on.1) ∙ leaves.stays g.0 g.1 in
+    moved (grain_of b.name) g.0 (sym (ap (λ t. if t then Gives (grain_of b.name) else Stays) g.2) ∙ stays)
+
+-- ---- one step more
+module _ (f : Profile) (l : Whole) (t : Triple) (keeper page : ℕ) (d : Directory) (valid : IsValid f) (legal : Legal f l) (next : IsNext f l t) (stands : StandsGuard l keeper page d) (keeps : (t.actor == keeper) ≡ true → LeavesGuard page t.made) where
+  pub untouched_next : IsUntouched page t.made.step
+  untouched_next = elim (cases_Bool (t.actor == keeper)) [
+    | inl own ↦ record { unbacked = (keeps own).unbacked; ungiven = own_give page t.made (keeps own) }
+    | inr other ↦ record { unbacked = no_back f l keeper page d valid legal stands t.actor t.made.step other next.allowed; ungiven = no_give f l keeper page d valid legal stands t.actor t.made.step other next.allowed }
+  ]
+
+  held_next : (own : Bool) → (t.actor == keeper) ≡ own → (g : ℕ) → g / 256 ≡ page → holds (if own then t.made ∷ part keeper l else part keeper l) g ≡ true
+  held_next true is g at = ap (λ m. held_after m (holds (part keeper l) g)) ((keeps is).stays g at) ∙ stands.held g at
+  held_next false is g at = stands.held g at
+
+  pub stands_next : StandsGuard (t ∷ l) keeper page d
+  stands_next = record {
+    held = held_next (t.actor == keeper) refl;
+    deed = deed_kept l t page (λ z. deed_word_of-positive d (sym stands.deed ∙ z)) ∙ stands.deed;
+    bare = stays_bare (epoch_of (part t.actor l)) t.made.step page (word_after l (Words.Backed page)) untouched_next.unbacked stands.bare;
+  }
+
+-- ---- all steps
+pub stands_on : (f : Profile) (older newer : Whole) (keeper page : ℕ) (d : Directory) → IsValid f → Legal f (newer ++ older) → StandsGuard older keeper page d → KeepsGuard keeper page newer → StandsGuard (newer ++ older) keeper page d
+stands_on f older [] keeper page d valid legal stands keeps = stands
+stands_on f older (t ∷ newer) keeper page d valid legal stands keeps = stands_next f (newer ++ older) t keeper page d valid legal.1 legal.0 (stands_on f older newer keeper page d valid legal.1 stands keeps.1) keeps.0
+
+pub untouched_on : (f : Profile) (older newer : Whole) (keeper page : ℕ) (d : Directory) → IsValid f → Legal f (newer ++ older) → StandsGuard older keeper page d → KeepsGuard keeper page newer → AreUntouched page newer
+untouched_on f older [] keeper page d valid legal stands keeps = tt
+untouched_on f older (t ∷ newer) keeper page d valid legal stands keeps =
+    let before = stands_on f older newer keeper page d valid legal.1 stands keeps.1 in (untouched_next f (newer ++ older) t keeper page d valid legal.1 legal.0 before keeps.0, untouched_on f older newer keeper page d valid legal.1 stands keeps.1)
+
+-- ---- the keeper's own steps, whatever others did between them
+pub record Leaves (keeper page : ℕ) (own : Bool) (m : Made) (rest : List Made) : Type 0 where
+  pub mine : own ≡ true → LeavesGuard page m
+  pub stays : (g : ℕ) → g / 256 ≡ page → StaysPut g rest
+  pub backs : BacksNot page rest
+
+one_leaves : (keeper page : ℕ) (own : Bool) (m : Made) (rest : List Made) → ((g : ℕ) → g / 256 ≡ page → StaysPut g (if own then m ∷ rest else rest)) → BacksNot page (if own then m ∷ rest else rest) → Leaves keeper page own m rest
+one_leaves keeper page true m rest stays backs = record { mine = λ own. record { stays = λ g at. (stays g at).0; unbacked = backs.0 }; stays = λ g at. (stays g at).1; backs = backs.1 }
+one_leaves keeper page false m rest stays backs = record { mine = λ own. absurd (true≢false (sym own)); stays = stays; backs = backs }
+
+pub own_keep : (keeper page : ℕ) (newer : Whole) → ((g : ℕ) → g / 256 ≡ page → StaysPut g (part keeper newer)) → BacksNot page (part keeper newer) → KeepsGuard keeper page newer
+own_keep keeper page [] stays backs = tt
+own_keep keeper page (t ∷ l) stays backs = let one = one_leaves keeper page (t.actor == keeper) t.made (part keeper l) stays backs in (one.mine, own_keep keeper page l one.stays one.backs)
+
+-- ---- where a guard begins
+pub record StandsBare (l : Whole) (keeper page : ℕ) : Type 0 where
+  pub held : (g : ℕ) → g / 256 ≡ page → holds (part keeper l) g ≡ true
+  pub bare : word_after l (Words.Backed page) ≡ 0
+
+looked_bare : (e : ℕ) (s : Step) (page old : ℕ) → s ≡ Look (Words.Backed page) → old ≡ 0 → (if same_word (target s) (Words.Backed page) then new_value e s old else old) ≡ 0
+looked_bare e s page old is zero = subst (λ x. (if same_word (target x) (Words.Backed page) then new_value e x old else old) ≡ 0) (sym is) (looked (same_word (Words.Backed page) (Words.Backed page)) old ∙ zero)
+
+-- the keeper's newest step is the look
+begins_here : (f : Profile) (l : Whole) (t : Triple) (keeper page : ℕ) (v : View) (before : List Made) → IsNext f l t → part keeper l ≡ before ++ v → (t.actor == keeper) ≡ true → BackedReadHere v page 0 t.made before → StandsBare (t ∷ l) keeper page
+begins_here f l t keeper page v before next is own read = record {
+  held = λ g at. ap (λ o. holds (if o then t.made ∷ part keeper l else part keeper l) g) own ∙ ap (λ s. held_after (grain_move s t.made.answer g) (holds (part keeper l) g)) read.0 ∙ ap (λ w. holds w g) is ∙ read.2 g at;
+  bare = looked_bare (epoch_of (part t.actor l)) t.made.step page (word_after l (Words.Backed page)) read.0 (sym (ap (λ s. word_after l (target s)) read.0) ∙ sym next.answer_is ∙ read.1);
+}
+
+goes_bare : (f : Profile) (l : Whole) (t : Triple) (keeper page : ℕ) → IsValid f → Legal f l → IsNext f l t → StandsBare l keeper page → ((t.actor == keeper) ≡ true → LeavesGuard page t.made) → StandsBare (t ∷ l) keeper page
+goes_bare f l t keeper page valid legal next stands keeps =
+    let no_back : t.made.step ≡ Back page → ⊥ = λ e. elim (cases_Bool (t.actor == keeper)) [
+      | inl own ↦ (keeps own).unbacked e
+      | inr other ↦ (let on = (subst (Allowed f (part t.actor l)) e next.allowed).0 in true≢false (sym (one_holder f l valid legal t.actor keeper on.0 on.2 (stands.held on.0 on.1)) ∙ other))
+    ] in record {
+      held = λ g at. elim (cases_Bool (t.actor == keeper)) [
+        | inl own ↦ ap (λ o. holds (if o then t.made ∷ part keeper l else part keeper l) g) own ∙ ap (λ m. held_after m (holds (part keeper l) g)) ((keeps own).stays g at) ∙ stands.held g at
+        | inr other ↦ ap (λ o. holds (if o then t.made ∷ part keeper l else part keeper l) g) other ∙ stands.held g at
+      ];
+      bare = stays_bare (epoch_of (part t.actor l)) t.made.step page (word_after l (Words.Backed page)) no_back stands.bare;
+    }
+
+-- the steps since, in the list of all actors
+begins_by : (f : Profile) (t : Triple) (l : Whole) (keeper page : ℕ) (v : View) (m : Made) (steps : List Made) → IsValid f → Legal f l → IsNext f l t → t.made ≡ m → part keeper l ≡ steps ++ v → (t.actor == keeper) ≡ true → Since (BackedReadHere v page 0) (LeftSince page) (m ∷ steps)
+    → (Since (BackedReadHere v page 0) (LeftSince page) steps → StandsBare l keeper page) → StandsBare (t ∷ l) keeper page
+begins_by f t l keeper page v m steps valid legal next same is own (inl read) more = begins_here f l t keeper page v steps next is own (subst (λ x. BackedReadHere v page 0 x steps) (sym same) read)
+begins_by f t l keeper page v m steps valid legal next same is own (inr later) more = goes_bare f l t keeper page valid legal next (more later.1) (λ mine. subst (LeavesGuard page) (sym same) later.0)
+
+head_same : (x y : Made) (xs ys : List Made) → x ∷ xs ≡ y ∷ ys → (x ≡ y) × (xs ≡ ys)
+head_same x y xs ys e = (cc, cc)
+
+pub begins : (f : Profile) (l : Whole) (keeper page : ℕ) (v : View) (steps : List Made) → IsValid f → Legal f l → part keeper l ≡ steps ++ v → Since (BackedReadHere v page 0) (LeftSince page) steps → StandsBare l keeper page
+begins f [] keeper page v [] valid legal is since = absurd since
+begins f [] keeper page v (m ∷ steps) valid legal is since = absurd (let e : [] ≡ m ∷ (steps ++ v) = is in cc)
+begins f (t ∷ l) keeper page v [] valid legal is since = absurd since
+begins f (t ∷ l) keeper page v (m ∷ steps) valid legal is since = elim (cases_Bool (t.actor == keeper)) [
+  | inl own ↦ (let both = head_same t.made m (part keeper l) (steps ++ v) (sym (ap (λ o. if o then t.made ∷ part keeper l else part keeper l) own) ∙ is) in
+      begins_by f t l keeper page v m steps valid legal.1 legal.0 both.0 both.1 own since (λ later. begins f l keeper page v steps valid legal.1 both.1 later))
+  | inr other ↦ (let same = sym (ap (λ o. if o then t.made ∷ part keeper l else part keeper l) other) ∙ is in
+      goes_bare f l t keeper page valid legal.1 legal.0 (begins f l keeper page v (m ∷ steps) valid legal.1 same since) (λ own. absurd (true≢false (sym own ∙ other))))
+]
+
+pub guard_begins : (f : Profile) (l : Whole) (keeper page : ℕ) (d : Directory) (v : View) (steps : List Made) → IsValid f → Legal f l → part keeper l ≡ steps ++ v → Since (BackedReadHere v page 0) (LeftSince page) steps → KnowsDeed page d (part keeper l) → StandsGuard l keeper page d
+guard_begins f l keeper page d v steps valid legal is since knows =
+    let stands = begins f l keeper page v steps valid legal is since in
+    record { held = stands.held; deed = sym (known_is (known_deed (part keeper l) page) (word_after l (Words.Deed page)) (deeds_known f l legal keeper page) (λ z. deed_word_of-positive d (sym knows ∙ z))) ∙ knows; bare = stands.bare }

@@ -1,0 +1,724 @@
+-- The search for a run whose outer pages aren't backed, one turn more.
+use Rattle.std.proofs.Common.{ℕ, ◌+◌, ◌-◌, ◌*◌, ◌/◌, ◌%◌, ◌<◌, ◌≤◌, ◌==◌, nat_le, nat_lt, Bool, true, false, ◌||◌, ◌&&◌, if◌then◌else◌, MatchBool, List, [], ◌∷◌, ◌++◌, refl, ◌∙◌, inl, inr, ◌⊎◌, arith, Option, ◌≡◌, ◌≢◌, Some, None, ap, sym, subst, append_assoc, true≢false, length, length-append}
+use Rattle.std.proofs.lemmas.Bool.{cases_lt, cases_eq, cases_Bool, eqb-true, eq-eqb, ne_eqb}
+use Rattle.std.proofs.lemmas.Bool.Decides.{nat_tests}
+use Rattle.std.proofs.lemmas.List.{append-nil}
+use Rattle.pas_profile.specs.Classes.{has_bit}
+use Rattle.pas_profile.specs.declared.directory.Directory.{Directory}
+use Rattle.pas_profile.specs.declared.profile.Profile.{Profile}
+use Rattle.pas_profile.specs.declared.word.Word.TheVariants as Word
+use Rattle.pas_rights.specs.Puts.{masked}
+use Rattle.pas_segregated.specs.Returns.{giving_back}
+use Rattle.pas_scan.specs.Runs.{page_looks, IsInRun, IsFirstRun, HasNoRun, HasUnusable, FindsRun}
+use Rattle.pas_scan.specs.Usable.{ReadUsable, UnusableHere, LeftAlone, ParksNotHere, MakesNoDeedHere, WholeHere}
+use Rattle.pas_scan.proofs.LeftPages.{usable_before, usable_later, unusable_before, left_alone_by, lacks_by, holds_own}
+use Rattle.pas_steps.specs.Agreement.{Agrees, Agreed}
+use Rattle.pas_steps.specs.Calls.{Calls, Leads, AnyView, Kept, Gained, Lost, now, nothing, Does}
+use Rattle.pas_steps.specs.Clear.{IsClear}
+use Rattle.pas_steps.specs.Desks.{Seat, Standing, Anything, Adds, CanCall, Makes, made}
+use Rattle.pas_steps.specs.Evidence.{ReadsFree}
+use Rattle.pas_steps.specs.declared.step.Step.{Step}
+use Rattle.pas_steps.specs.Kinds.{Kinds, Deeding, Only, kind_of, is_in, place_of, apart, moving}
+use Rattle.pas_steps.specs.Lists.{Whole}
+use Rattle.pas_steps.specs.Past.{Once, Since}
+use Rattle.pas_steps.specs.Unknown.{unknown_pages}
+use Rattle.pas_steps.specs.Views.{View, held_after, grain_move, holds, has_right, KnowsDeed}
+use Rattle.pas_steps.specs.declared.step.Made.{Made}
+use Rattle.pas_steps.specs.declared.step.Step.TheVariants.{Deed, Look}
+use Rattle.pas_steps.proofs.Adding.{adds_none, adds_step, adds_call, agreed_first, agreed_later}
+use Rattle.pas_steps.proofs.Apart.{in_apart, grain_same, no_events, only_both, only_within, holds_same}
+use Rattle.pas_steps.proofs.Called.{call_then, next_call}
+use Rattle.pas_steps.proofs.Calls.{does_as, does_then, does_none, does_idly, leads_none, leads_at}
+use Rattle.pas_steps.proofs.Frames.{right_own}
+use Rattle.pas_steps.proofs.Kept.{right_on, knows_still}
+use Rattle.pas_steps.proofs.Past.{once_later, once_earlier, once_map, always_both, always_map}
+use Rattle.pas_steps.proofs.SpareRoom.{Spares}
+use Rattle.pas_steps.proofs.Unknown.{unknown_stays}
+use Rattle.pas_large.specs.Claims.{StaysPut, in_span, MayClaimPages, HasRunRoom, AloneFrom, LacksAll, HasPages, Releases, ClaimsRun, HoldsRun, FailsRun}
+use Rattle.pas_large.specs.Evidence.{LostHere, BrokenHere, BadHere, HasBad, AllUsable, FailsHere, HasFailed, DeedsOf}
+use Rattle.pas_large.specs.Finds.{MayFind, FindRoom}
+use Rattle.pas_large.specs.Pages.{of_pages, OnceAfter, OnlyDeedsShow, GotPages, MayPutAndLeave, PutsAndLeaves, put_and_left, claiming}
+use Rattle.pas_large.proofs.Claims.{StaysHere, steady_on, steady_both, out_of, narrower, span_in, in_parts, span_past, span_none, span_wider, got_both, has_got, room_after, full, on_full, alone_on}
+use Rattle.pas_large.proofs.Finds.{DeedOf, unknown, bad_later, alone_looks, knew, deeds_map, may_find}
+use Rattle.pas_large.proofs.Pages.{undone, shows_both}
+use Rattle.pas_guard.specs.Evidence.{BackedReadHere, OuterBackedHere, IsBad, OuterFailsHere, HasFailedOnce}
+use Rattle.pas_guard.specs.Guarded.{LeavesGuard}
+use Rattle.pas_guard.specs.Seeks.{LeftSince, backed_looks, ZeroBackedHere, SomeBackedHere, LooksBacked, HoldsWhole, HasSpan, seeking, SoughtRun, SoughtNone, Seeks}
+
+-- ---- pages that are held
+pub span_of_none : {v w : View} (d : Directory) (a : ℕ) → Does nothing v w → HasSpan d a a v w
+span_of_none {v} d a does = record {
+  got = record {
+    does = does_as (of_pages (in_span a a) Gained) does (λ g. inl (ap (λ t. if t then Gained else Kept) (sym (span_none a (g / 256))))) (λ q. ap (λ t. if t then Gained else Kept) (sym (span_none a q))) (λ q h. h);
+    apart = λ g h. absurd (true≢false (sym h ∙ span_none a (g / 256)));
+    lacked = λ p h. absurd (true≢false (sym h ∙ span_none a p));
+    deeds = λ p h. absurd (true≢false (sym h ∙ span_none a p));
+  };
+  lacked = λ p h. absurd (true≢false (sym h ∙ span_none a p));
+}
+
+span_then : {v w u : View} (d : Directory) (a b : ℕ) → HasSpan d a b v w → Does nothing w u → ((p : ℕ) → KnowsDeed p d w → KnowsDeed p d u) → HasSpan d a b v u
+span_then d a b span still knows = record { got = record { does = does_then span.got.does still; apart = span.got.apart; lacked = span.got.lacked; deeds = λ p is. knows p (span.got.deeds p is) }; lacked = span.lacked }
+
+span_lost : {v w u : View} (d : Directory) (a b : ℕ) → HasSpan d a b v w → Does (of_pages (in_span a b) Lost) w u → Does nothing v u
+span_lost d a b span lost = undone (λ g. in_span a b (g / 256)) (in_span a b) span.got.apart span.lacked span.got.does lost
+
+joined : (a b c p : ℕ) → a ≤ b → b ≤ c → (in_span a b p || in_span b c p) ≡ in_span a c p
+joined a b c p low high = grind (arith, nat_tests)
+
+span_both : {v w u : View} (d : Directory) (a b c : ℕ) → a ≤ b → b ≤ c → HasSpan d a b v w → ((p : ℕ) → b ≤ p → p < c → has_right v p ≡ false) → GotPages (in_span b c) d w u → ((p : ℕ) → KnowsDeed p d w → KnowsDeed p d u) → HasSpan d a c v u
+span_both d a b c low high span lacked second knows = record {
+  got = got_both d (in_span a b) (in_span b c) (in_span a c) (λ p. joined a b c p low high) span.got second knows;
+  lacked = λ p is. let at = in_parts a c p is in elim (cases_lt p b) [ inl below ↦ span.lacked p (span_in a b p at.0 below) | inr above ↦ lacked p above at.1 ];
+}
+
+out_fewer : (a b c p : ℕ) → b ≤ c → in_span a c p ≡ false → in_span a b p ≡ false
+out_fewer a b c p le out = grind (arith, nat_tests)
+
+out_later : (a b c p : ℕ) → a ≤ b → in_span a c p ≡ false → in_span b c p ≡ false
+out_later a b c p le out = grind (arith, nat_tests)
+
+-- the first of them is left
+slid : (m t u had : Bool) → (m ≡ true → (u ≡ false) × (had ≡ false)) → (m ≡ false → t ≡ u) → now (if m then Lost else Kept) (now (if t then Gained else Kept) had) ≡ now (if u then Gained else Kept) had
+slid true t u had here there = sym (ap (λ x. now (if x then Gained else Kept) had) (here refl).0 ∙ (here refl).1)
+slid false t u had here there = ap (λ x. now (if x then Gained else Kept) had) (there refl)
+
+past_first : (a c p : ℕ) → p ≡ a → in_span (a + 1) c p ≡ false
+past_first a c p e = grind (arith, nat_tests)
+
+but_first : (a c p : ℕ) → p ≢ a → in_span a c p ≡ in_span (a + 1) c p
+but_first a c p ne = grind (arith, nat_tests)
+
+module _ {v w u : View} (d : Directory) (a c : ℕ) (some : a < c) (span : HasSpan d a c v w) (left : Does (put_and_left a (masked a full)) w u) where
+  here : (p : ℕ) → (a == p) ≡ true → p ≡ a
+  here p e = sym (eqb-true a p e)
+
+  there : (p : ℕ) → (a == p) ≡ false → p ≢ a
+  there p e same = true≢false (sym (eq-eqb a p (sym same)) ∙ e)
+
+  in_first : (p : ℕ) → p ≡ a → in_span a c p ≡ true
+  in_first p e = span_in a c p (omega (arith, e)) (omega (arith, e, some))
+
+  pub span_slid : ((p : ℕ) → KnowsDeed p d w → KnowsDeed p d u) → HasSpan d (a + 1) c v u
+  span_slid knows = record {
+    got = record {
+      does = record {
+        held = λ x. left.held x ∙ ap (λ m. now (if m then Lost else Kept) (holds w x)) (on_full a x) ∙ ap (now (if a == x / 256 then Lost else Kept)) (span.got.does.held x)
+            ∙ slid (a == x / 256) (in_span a c (x / 256)) (in_span (a + 1) c (x / 256)) (holds v x) (λ e. (past_first a c (x / 256) (here (x / 256) e), span.got.apart x (in_first (x / 256) (here (x / 256) e)))) (λ e. but_first a c (x / 256) (there (x / 256) e));
+        right = λ q. left.right q ∙ ap (now (if a == q then Lost else Kept)) (span.got.does.right q)
+            ∙ slid (a == q) (in_span a c q) (in_span (a + 1) c q) (has_right v q) (λ e. (past_first a c q (here q e), span.lacked q (in_first q (here q e)))) (λ e. but_first a c q (there q e));
+        clear = λ q is. left.clear q (span.got.does.clear q is);
+        backed = λ x kept bears. elim (cases_Bool (a == x / 256)) [
+          | inl e ↦ absurd (true≢false (sym bears.held ∙ span.got.apart x (in_first (x / 256) (here (x / 256) e))))
+          | inr e ↦ left.backed x (ap (λ m. if m then Lost else Kept) (on_full a x ∙ e)) (span.got.does.backed x (ap (λ t. if t then Gained else Kept) (but_first a c (x / 256) (there (x / 256) e)) ∙ kept) bears)
+        ];
+      };
+      apart = λ g is. let at = in_parts (a + 1) c (g / 256) is in let low = at.0 in span.got.apart g (span_in a c (g / 256) (omega (arith, low)) at.1);
+      lacked = λ p is. let at = in_parts (a + 1) c p is in let low = at.0 in span.lacked p (span_in a c p (omega (arith, low)) at.1);
+      deeds = λ p is. let at = in_parts (a + 1) c p is in let low = at.0 in knows p (span.got.deeds p (span_in a c p (omega (arith, low)) at.1));
+    };
+    lacked = λ p is. let at = in_parts (a + 1) c p is in let low = at.0 in span.lacked p (span_in a c p (omega (arith, low)) at.1);
+  }
+
+-- ---- evidence, and later steps
+bad_more : (v : View) (d : Directory) (k s : ℕ) (ys xs : List Made) → IsBad v d k s xs → IsBad v d k s (ys ++ xs)
+bad_more v d k s ys xs (inl h) = inl (bad_later d (k + 2) s ys xs h)
+bad_more v d k s ys xs (inr h) = inr (once_later (OuterBackedHere v k s) ys xs h)
+
+failed_more : (v : View) (d : Directory) (k s : ℕ) (ys xs : List Made) → HasFailedOnce v d k s xs → HasFailedOnce v d k s (ys ++ xs)
+failed_more v d k s ys xs (inl h) = inl (once_later (FailsHere d (k + 2) s) ys xs h)
+failed_more v d k s ys xs (inr h) = inr (once_later (OuterFailsHere v d k s) ys xs h)
+
+-- steps that make no deed
+deeds_none : (ks : Kinds) (d : Directory) (n : ℕ) (P : ℕ → Type 0) (ys xs : List Made) → is_in ks Deeding ≡ false → Only ks ys → DeedsOf d n P xs → DeedsOf d n P (ys ++ xs)
+deeds_none ks d n P ys xs none = always_both (λ m before. is_in ks (kind_of m.step) ≡ true) (DeedOf d n P) ys xs (λ m before is p e same z. absurd (true≢false (sym is ∙ ap (λ s. is_in ks (kind_of s)) same ∙ none)))
+
+-- an outer page that was looked at while the run was held
+some_is_one : (f : Profile) (v : View) (page : ℕ) (m : Made) → SomeBackedHere page m [] → Agrees f v m.step m.answer → m.answer ≡ 1
+some_is_one f v page m h agrees = let read = subst (λ s. Agrees f v s m.answer) h.0 agrees in let small = read.small in let some = h.1 in omega (arith, small, some)
+
+outer_some : (f : Profile) (v : View) (page : ℕ) (R : List Made → Type 0) (ls ss : List Made) → ((b : List Made) → R (b ++ ss)) → Only backed_looks ls → Agreed f v (ls ++ ss) → ((g : ℕ) → g / 256 ≡ page → holds (ss ++ v) g ≡ true) → Once (SomeBackedHere page) ls
+    → Once (λ m before. R before × BackedReadHere v page 1 m before) (ls ++ ss)
+outer_some f v page R [] ss had only agreed held h = absurd h
+outer_some f v page R (m ∷ ls) ss had only agreed held (inl h) = inl (had ls, (h.0, some_is_one f ((ls ++ ss) ++ v) page m h agreed.0, λ g at. ap (λ s. holds s g) (append_assoc ls ss v) ∙ holds_same backed_looks refl g ls (ss ++ v) only.1 ∙ held g at))
+outer_some f v page R (m ∷ ls) ss had only agreed held (inr h) = inr (outer_some f v page R ls ss had only.1 agreed.1 held h)
+
+-- a look at a backed word leaves each page alone
+look_leaves : (page : ℕ) (m : Made) → is_in backed_looks (kind_of m.step) ≡ true → LeavesGuard page m
+look_leaves page m is = record {
+  stays = λ g at. grain_same m.step m.answer g (in_apart backed_looks moving (place_of (kind_of m.step)) refl is);
+  unbacked = λ e. true≢false (sym is ∙ ap (λ s. is_in backed_looks (kind_of s)) e);
+}
+
+outer_zero : (v : View) (page : ℕ) (ls ss : List Made) → Only backed_looks ls → ((g : ℕ) → g / 256 ≡ page → holds (ss ++ v) g ≡ true) → Once (ZeroBackedHere page) ls → Since (BackedReadHere v page 0) (LeftSince page) (ls ++ ss)
+outer_zero v page [] ss only held h = absurd h
+outer_zero v page (m ∷ ls) ss only held (inl h) = inl (h.0, h.1, λ g at. ap (λ s. holds s g) (append_assoc ls ss v) ∙ holds_same backed_looks refl g ls (ss ++ v) only.1 ∙ held g at)
+outer_zero v page (m ∷ ls) ss only held (inr h) = inr (look_leaves page m only.0, outer_zero v page ls ss only.1 held h)
+
+-- looks at backed words leave each page alone
+alone_still : (p : ℕ) (ys xs : List Made) → Only backed_looks ys → LeftAlone p xs → LeftAlone p (ys ++ xs)
+alone_still p ys xs looks alone =
+    let own = left_alone_by backed_looks refl refl p ys looks in
+    record {
+      right = right_own p ys xs alone.right ∙ own.right;
+      none = λ g at. holds_own g ys xs (alone.none g at) ∙ own.none g at;
+      parks = always_both (ParksNotHere p) (ParksNotHere p) ys xs (λ m before h. h) own.parks alone.parks;
+      deeds = always_both (MakesNoDeedHere p) (MakesNoDeedHere p) ys xs (λ m before h. h) own.deeds alone.deeds;
+    }
+
+-- ---- pages that were held whole before
+pub steady_kinds : (ks : Kinds) → apart ks moving ≡ true → (g : ℕ) (ys : List Made) → Only ks ys → StaysPut g ys
+steady_kinds ks none g ys only = always_map (λ m before. is_in ks (kind_of m.step) ≡ true) (StaysHere g) ys (λ m before is. grain_same m.step m.answer g (in_apart ks moving (place_of (kind_of m.step)) none is)) only
+
+-- a grain that stays put is held still, and isn't got by the steps
+still_held : (g : ℕ) (ys : List Made) (v : View) → StaysPut g ys → holds (ys ++ v) g ≡ holds v g
+still_held g [] v stays = refl
+still_held g (m ∷ ys) v stays = ap (λ x. held_after x (holds (ys ++ v) g)) stays.0 ∙ still_held g ys v stays.1
+
+never_got : (g : ℕ) (ys : List Made) → StaysPut g ys → holds ys g ≡ false
+never_got g [] stays = refl
+never_got g (m ∷ ys) stays = ap (λ x. held_after x (holds ys g)) stays.0 ∙ never_got g ys stays.1
+
+-- the first grain of a page, where it is held, reads as used
+first_bit : (f : Profile) (v : View) (p : ℕ) (s : Step) (a : ℕ) → ReadsFree p 0 s → Agrees f v s a → holds v (p * 256 + 0) ≡ true → has_bit a 0 ≡ false
+first_bit f v p s a ReadsFree.Looks agrees held = let bit : (p * 256 + 0) % 64 ≡ 0 = omega arith in ap (has_bit a) (sym bit) ∙ agrees.held (p * 256 + 0) (omega arith) (omega arith) held
+first_bit f v p s a (ReadsFree.Takes mask) agrees held = let bit : (p * 256 + 0) % 64 ≡ 0 = omega arith in ap (has_bit a) (sym bit) ∙ agrees.held (p * 256 + 0) (omega arith) (omega arith) held
+
+either_false : {a b : Bool} → a ≡ false → b ≡ false → (a || b) ≡ false
+either_false {a} {b} x y = ap (λ t. t || b) x ∙ y
+
+used_here : (f : Profile) (v : View) (p : ℕ) (xs : List Made) → Agreed f v xs → Once (WholeHere p 0) xs → ((g : ℕ) → g / 256 ≡ p → holds v g ≡ true) → ((g : ℕ) → g / 256 ≡ p → StaysPut g xs) → ⊥
+used_here f v p [] agreed h held stays = h
+used_here f v p (m ∷ xs) agreed (inr h) held stays = used_here f v p xs agreed.1 h held (λ g at. (stays g at).1)
+used_here f v p (m ∷ xs) agreed (inl h) held stays =
+    let at : (p * 256 + 0) / 256 ≡ p = omega arith in
+    let own = never_got (p * 256 + 0) xs (stays (p * 256 + 0) at).1 in
+    let now_held = still_held (p * 256 + 0) xs v (stays (p * 256 + 0) at).1 ∙ held (p * 256 + 0) at in
+    true≢false (sym (h.1 0 (omega arith)) ∙ either_false (first_bit f (xs ++ v) p m.step m.answer h.0 agreed.0 now_held) own)
+
+-- it is read as not usable
+not_usable : (f : Profile) (d : Directory) (v : View) (p : ℕ) (xs : List Made) → Agreed f v xs → HoldsWhole p v → ((g : ℕ) → g / 256 ≡ p → StaysPut g xs) → ReadUsable d p xs → ⊥
+not_usable f d v p xs agreed whole stays (inl bare) = unknown f v p xs agreed bare whole.known
+not_usable f d v p xs agreed whole stays (inr offered) = used_here f v p xs agreed (offered.free 0 (omega arith)) whole.held stays
+
+-- ---- the search so far: each run that begins below page `from` can't be guarded, the pages from there to below `next` were read as usable, and those
+-- of them below `free` are held
+pub record Sought (d : Directory) (k from free next : ℕ) (desk desk' : Standing) : Type 0 where
+  pub steps : List Made
+  pub adds : Adds desk desk' (λ v l. MayFind d v) steps
+  pub got : Leads desk.seat.profile (MayFind d) (HasSpan d from free) steps
+  pub shows : OnlyDeedsShow desk.seat.profile steps
+  pub lacks : (p : ℕ) → in_span from free p ≡ false → has_right steps p ≡ false
+  pub kinds : Only seeking steps
+  pub low : 1 ≤ from
+  pub order : (from ≤ free) × (free ≤ next)
+  pub within : (next ≤ from + (k + 2)) × (next ≤ desk.seat.profile.pages + 1)
+  pub few : length steps + 71 ≤ 6 * next + 48 * free + 17 * from
+  pub usable : (page : ℕ) → from ≤ page → page < next → ReadUsable d page steps
+  pub alone : AloneFrom free steps
+  pub steady : (v : View) → MayFind d v → Agreed desk.seat.profile v steps → (page : ℕ) → HoldsWhole page v → (g : ℕ) → g / 256 ≡ page → StaysPut g steps
+  pub bad : (v : View) → MayFind d v → Agreed desk.seat.profile v steps → (s : ℕ) → 1 ≤ s → s < from → IsBad v d k s steps
+  pub deeds : (v : View) → MayFind d v → Agreed desk.seat.profile v steps → DeedsOf d (k + 2) (λ s. ((s ≡ from) × (free ≡ from + (k + 2))) ⊎ HasFailedOnce v d k s steps) steps
+
+pub sought_none : {σ : Standing} (d : Directory) (k : ℕ) → Sought d k 1 1 1 σ σ
+sought_none d k = record {
+  steps = [];
+  adds = adds_none;
+  got = leads_none (λ v met. span_of_none d 1 (does_none v));
+  shows = λ n v agreed. omega arith;
+  lacks = λ p out. refl;
+  kinds = tt;
+  low = omega arith;
+  order = (omega arith, omega arith);
+  within = (omega arith, omega arith);
+  few = omega arith;
+  usable = λ p ge lt. absurd (omega (arith, ge, lt));
+  alone = λ p ge. left_alone_by page_looks refl refl p [] tt;
+  steady = λ v met agreed p whole g at. tt;
+  bad = λ v met agreed s low lt. absurd (omega (arith, low, lt));
+  deeds = λ v met agreed. tt;
+}
+
+module _ {σ σ1 : Standing} (d : Directory) (k from free next : ℕ) (so : Sought d k from free next σ σ1) where
+  abbrev f : Profile
+  f = σ.seat.profile
+
+  abbrev xs : List Made
+  xs = so.steps
+
+  same : σ1.seat.profile ≡ f
+  same = ap (λ (s : Seat). s.profile) so.adds.seat_is
+
+  -- the pages that are held, and that the pages read after them may be claimed
+  so_call : Calls σ σ1 (MayFind d) (λ v w. HasSpan d from free v w × MayClaimPages d free next w) xs
+  so_call = record {
+    adds = so.adds;
+    leads = record {
+      from = λ v met agreed.
+          let span = so.got.from v met agreed in let at = so.order.0 in (
+            span,
+            record {
+              lacks = λ p low high knows. span.got.does.right p ∙ ap (λ t. now (if t then Gained else Kept) (has_right v p)) (span_past from free p low) ∙ met.lacks p (knew f d p xs v agreed (so.usable p (omega (arith, low, at)) high));
+              clear = record { on = λ q. span.got.does.clear q (met.clear.on q) };
+            },
+          );
+    };
+  }
+
+  abbrev Idle : View → View → Type 0
+  Idle w u = Does nothing w u × ((p : ℕ) → KnowsDeed p d w → KnowsDeed p d u)
+
+  -- a page that was held whole is none of those that were read as usable
+  held_apart : (v : View) → MayFind d v → Agreed f v xs → (p : ℕ) → HoldsWhole p v → (g : ℕ) → g / 256 ≡ p → in_span from next (g / 256) ≡ false
+  held_apart v met agreed p whole g at = elim (cases_Bool (in_span from next (g / 256))) [
+    | inl is ↦ (let there = in_parts from next p (ap (in_span from next) (sym at) ∙ is) in absurd (not_usable f d v p xs agreed whole (so.steady v met agreed p whole) (so.usable p there.0 there.1)))
+    | inr out ↦ out
+  ]
+
+  -- pages that are held are put back
+  module _ {σ2 : Standing} {ss : List Made} (held : Calls σ σ2 (MayFind d) (HasSpan d from free) ss) where
+    held_pages : (v : View) → MayFind d v → HasSpan d from free v (ss ++ v) → HasPages d from free (ss ++ v)
+    held_pages v met span = has_got d from free met.clear span.got
+
+    can_release : CanCall σ (λ v l. MayFind d v) → CanCall σ2 (λ v l. HasPages d from free v)
+    can_release can = next_call held can held_pages
+
+    released : {σ3 : Standing} (r : Releases d from free σ2 σ3) → Calls σ σ3 (MayFind d) (Does nothing) (r.steps ++ ss)
+    released r = call_then (Does nothing) held r.calls held_pages (λ v met span lost. span_lost d from free span lost)
+
+  -- ---- the next page is looked for
+  module _ {σ2 : Standing} {found : Option ℕ} (find : FindsRun d next next 1 σ1 σ2 found) where
+    abbrev ys : List Made
+    ys = find.steps
+
+    find_call : Calls σ1 σ2 AnyView Idle ys
+    find_call = record { adds = find.adds; leads = record { from = λ v met agreed. (does_idly σ1.seat.profile page_looks refl ys v find.kinds agreed, λ p knows. knows_still σ1.seat.profile d p ys v agreed knows) } }
+
+    looked : Calls σ σ2 (MayFind d) (HasSpan d from free) (ys ++ xs)
+    looked = call_then (HasSpan d from free) so_call find_call (λ v met has. tt) (λ v met has kept. span_then d from free has.0 kept.0 kept.1)
+
+    looked_kinds : Only seeking (ys ++ xs)
+    looked_kinds = only_both seeking ys xs (only_within page_looks seeking ys refl find.kinds) so.kinds
+
+    looked_shows : OnlyDeedsShow f (ys ++ xs)
+    looked_shows = shows_both f ys xs (λ n v agreed. let none = ap (λ es. length es) (no_events page_looks refl n v ys find.kinds) in let stays = unknown_stays f ys v agreed in omega (arith, none, stays)) so.shows
+
+    looked_lacks : (p : ℕ) → in_span from free p ≡ false → has_right (ys ++ xs) p ≡ false
+    looked_lacks p out = right_own p ys xs (so.lacks p out) ∙ lacks_by page_looks refl p ys find.kinds
+
+    looked_alone : AloneFrom free (ys ++ xs)
+    looked_alone p ge = alone_looks p ys xs find.kinds (so.alone p ge)
+
+    looked_usable : (p : ℕ) → from ≤ p → p < next → ReadUsable d p (ys ++ xs)
+    looked_usable p ge lt = usable_later d p ys xs (so.usable p ge lt)
+
+    looked_steady : (v : View) (met : MayFind d v) → Agreed f v (ys ++ xs) → (p : ℕ) → HoldsWhole p v → (g : ℕ) → g / 256 ≡ p → StaysPut g (ys ++ xs)
+    looked_steady v met agreed p whole g at = steady_both g ys xs (steady_kinds page_looks refl g ys find.kinds) (so.steady v met (agreed_later f v ys xs agreed) p whole g at)
+
+    put_steady : {σ3 : Standing} (r : Releases d from free σ2 σ3) (v : View) (met : MayFind d v) → Agreed f v (r.steps ++ (ys ++ xs)) → (p : ℕ) → HoldsWhole p v → (g : ℕ) → g / 256 ≡ p → StaysPut g (r.steps ++ (ys ++ xs))
+    put_steady r v met agreed p whole g at =
+        let before = agreed_later f v r.steps (ys ++ xs) agreed in
+        steady_both g r.steps (ys ++ xs) (r.steady g (narrower from free next (g / 256) so.order.1 (held_apart v met (agreed_later f v ys xs before) p whole g at))) (looked_steady v met before p whole g at)
+
+    -- a run with a page, `next` or a later one, that was read as not usable
+    bad_here : (v : View) (s other : ℕ) → next ≤ other → s ≤ other → other < s + (k + 2) → HasUnusable d 1 other ys → IsBad v d k s (ys ++ xs)
+    bad_here v s other past low high h =
+        let at = h.1 in let ge = at.0 in let lt = at.1 in let order = so.order.1 in
+        inl (h.0, (omega (arith, ge, low), omega (arith, lt, high)), once_map (UnusableHere d h.0) (BadHere d h.0) (ys ++ xs) (λ m b x. inl x) (unusable_before d h.0 ys xs (so.alone h.0 (omega (arith, ge, past, order))) h.2))
+
+    looked_bad : (v : View) (met : MayFind d v) → Agreed f v (ys ++ xs) → (s : ℕ) → 1 ≤ s → s < from → IsBad v d k s (ys ++ xs)
+    looked_bad v met agreed s low lt = bad_more v d k s ys xs (so.bad v met (agreed_later f v ys xs agreed) s low lt)
+
+    -- where not all pages of a run are held
+    looked_deeds : (rs : List Made) → free < from + (k + 2) → (v : View) (met : MayFind d v) → Agreed f v (ys ++ xs) → DeedsOf d (k + 2) (λ s. HasFailedOnce v d k s (rs ++ (ys ++ xs))) (ys ++ xs)
+    looked_deeds rs short v met agreed = deeds_none page_looks d (k + 2) (λ s. HasFailedOnce v d k s (rs ++ (ys ++ xs))) ys xs refl find.kinds
+        (deeds_map d (k + 2) (λ s. ((s ≡ from) × (free ≡ from + (k + 2))) ⊎ HasFailedOnce v d k s xs) (λ s. HasFailedOnce v d k s (rs ++ (ys ++ xs))) xs
+        (λ s h. elim h [ inl full ↦ (let e = full.1 in absurd (omega (arith, e, short))) | inr failed ↦ failed_more v d k s rs (ys ++ xs) (failed_more v d k s ys xs failed) ]) (so.deeds v met (agreed_later f v ys xs agreed)))
+
+  pub can_release_looked : {σ2 : Standing} {found : Option ℕ} → FindsRun d next next 1 σ1 σ2 found → CanCall σ (λ v l. MayFind d v) → CanCall σ2 (λ v l. HasPages d from free v)
+  can_release_looked find can = can_release (looked find) can
+
+  -- none is usable, and what is held is put back
+  pub seek_ends : {σ2 σ3 : Standing} → next < from + (k + 2) → FindsRun d next next 1 σ1 σ2 None → Releases d from free σ2 σ3 → Seeks d k σ σ3 None
+  seek_ends short find r =
+      let ys = find.steps in let rs = r.steps in let none = subst (λ x. HasNoRun x d next next 1 ys) same find.outcome in
+      let calls = released (looked find) r in let order = so.order.1 in let first = so.order.0 in let in_region = so.within.1 in record {
+        steps = rs ++ (ys ++ xs);
+        adds = calls.adds;
+        kinds = only_both seeking rs (ys ++ xs) (only_within giving_back seeking rs refl r.kinds) (looked_kinds find);
+        shows = shows_both f rs (ys ++ xs) (λ n v agreed. let none = ap (λ es. length es) (no_events giving_back refl n v rs r.kinds) in let stays = unknown_stays f rs v agreed in omega (arith, none, stays)) (looked_shows find);
+        few = (let i = length-append rs (ys ++ xs) in let j = length-append ys xs in let a = r.few in let b = find.few in let c = so.few in let e = ap (λ (x : Profile). x.pages) same in omega (arith, i, j, a, b, c, e, order, first, in_region));
+        steady = put_steady find r;
+        outcome = record {
+          still = calls.leads;
+          bad = λ v met agreed s low le. let before = agreed_later f v rs (ys ++ xs) agreed in bad_more v d k s rs (ys ++ xs) (elim (cases_lt s from) [
+            | inl below ↦ looked_bad find v met before s low below
+            | inr above ↦ elim (cases_lt s next) [
+              | inl lt ↦ bad_here find v s next (omega arith) (omega (arith, lt)) (omega (arith, short, above)) (none.runs next (omega arith) (omega (arith, short, above, le)))
+              | inr ge ↦ bad_here find v s s ge (omega arith) (omega arith) (none.runs s ge (omega (arith, le)))
+            ]
+          ]);
+          deeds = λ v met agreed. let before = agreed_later f v rs (ys ++ xs) agreed in
+              deeds_none giving_back d (k + 2) (λ s. HasFailedOnce v d k s (rs ++ (ys ++ xs))) rs (ys ++ xs) refl r.kinds (looked_deeds find rs (omega (arith, short, order)) v met before);
+          lacks = λ p. r.lacks (ys ++ xs) p (λ out. looked_lacks find p out);
+        };
+      }
+
+  -- the next page is usable
+  pub seek_more : {σ2 : Standing} (page : ℕ) → page ≡ next → next < from + (k + 2) → FindsRun d next next 1 σ1 σ2 (Some page) → Sought d k from free (page + 1) σ σ2
+  seek_more page at short find =
+      let ys = find.steps in let run = subst (λ x. IsFirstRun x d next next 1 ys page) same find.outcome in let order = so.order.1 in let region = run.of_region in record {
+        steps = ys ++ xs;
+        adds = (looked find).adds;
+        got = (looked find).leads;
+        shows = looked_shows find;
+        lacks = looked_lacks find;
+        kinds = looked_kinds find;
+        low = so.low;
+        order = (so.order.0, omega (arith, order, at));
+        within = (omega (arith, at, short), omega (arith, region));
+        few = (let j = length-append ys xs in let b = find.few in let c = so.few in omega (arith, j, b, c, at));
+        usable = λ p ge lt. elim (cases_lt p next) [
+          | inl old ↦ looked_usable find p ge old
+          | inr new ↦ usable_before d p ys xs (so.alone p (omega (arith, new, order))) (run.usable p (omega (arith, at, new), lt) new)
+        ];
+        alone = looked_alone find;
+        steady = looked_steady find;
+        bad = looked_bad find;
+        deeds = λ v met agreed. deeds_map d (k + 2) (λ s. HasFailedOnce v d k s ([] ++ (ys ++ xs))) (λ s. ((s ≡ from) × (free ≡ from + (k + 2))) ⊎ HasFailedOnce v d k s (ys ++ xs)) (ys ++ xs) (λ s h. inr h) (looked_deeds find [] (omega (arith, short, order)) v met agreed);
+      }
+
+  -- a later page is, and what is held is put back
+  pub seek_jump : {σ2 σ3 : Standing} (page : ℕ) → page ≢ next → next < from + (k + 2) → FindsRun d next next 1 σ1 σ2 (Some page) → Releases d from free σ2 σ3 → Sought d k page page (page + 1) σ σ3
+  seek_jump page other short find r =
+      let ys = find.steps in let rs = r.steps in let run = subst (λ x. IsFirstRun x d next next 1 ys page) same find.outcome in
+      let calls = released (looked find) r in let order = so.order.1 in let first = so.order.0 in let region = run.of_region in let past = run.from_there in let low = so.low in record {
+        steps = rs ++ (ys ++ xs);
+        adds = calls.adds;
+        got = record { from = λ v met agreed. span_of_none d page (calls.leads.from v met agreed) };
+        shows = shows_both f rs (ys ++ xs) (λ n v agreed. let none = ap (λ es. length es) (no_events giving_back refl n v rs r.kinds) in let stays = unknown_stays f rs v agreed in omega (arith, none, stays)) (looked_shows find);
+        lacks = λ p out. r.lacks (ys ++ xs) p (λ out. looked_lacks find p out);
+        kinds = only_both seeking rs (ys ++ xs) (only_within giving_back seeking rs refl r.kinds) (looked_kinds find);
+        low = omega (arith, low, first, order, past);
+        order = (omega arith, omega arith);
+        within = (omega arith, omega (arith, region));
+        few = (let i = length-append rs (ys ++ xs) in let j = length-append ys xs in let a = r.few in let b = find.few in let c = so.few in omega (arith, i, j, a, b, c, order, first, past));
+        usable = λ p ge lt. usable_later d p rs (ys ++ xs) (usable_before d p ys xs (so.alone p (omega (arith, ge, past, order))) (run.usable p (ge, lt) (omega (arith, ge, past))));
+        alone = λ p ge. r.alone (ys ++ xs) p (omega (arith, ge, past, order)) (looked_alone find p (omega (arith, ge, past, order)));
+        steady = put_steady find r;
+        bad = λ v met agreed s one lt. let before = agreed_later f v rs (ys ++ xs) agreed in bad_more v d k s rs (ys ++ xs) (elim (cases_lt s from) [
+          | inl below ↦ looked_bad find v met before s one below
+          | inr above ↦ elim (cases_lt s next) [
+            | inl less ↦ bad_here find v s next (omega arith) (omega (arith, less)) (omega (arith, short, above)) (run.lower next (omega arith) (omega (arith, past, other)))
+            | inr ge ↦ bad_here find v s s ge (omega arith) (omega arith) (run.lower s ge lt)
+          ]
+        ]);
+        deeds = λ v met agreed. let before = agreed_later f v rs (ys ++ xs) agreed in
+            deeds_map d (k + 2) (λ s. HasFailedOnce v d k s (rs ++ (ys ++ xs))) (λ s. ((s ≡ page) × (page ≡ page + (k + 2))) ⊎ HasFailedOnce v d k s (rs ++ (ys ++ xs))) (rs ++ (ys ++ xs)) (λ s h. inr h)
+            (deeds_none giving_back d (k + 2) (λ s. HasFailedOnce v d k s (rs ++ (ys ++ xs))) rs (ys ++ xs) refl r.kinds (looked_deeds find rs (omega (arith, short, order)) v met before));
+      }
+
+  -- ---- all pages of a run were read as usable, and those that aren't held are claimed
+  module _ (whole : next ≡ from + (k + 2)) where
+    all_usable : (b : List Made) → AllUsable d (k + 2) from (b ++ xs)
+    all_usable b p is = let lt = is.1 in usable_later d p b xs (so.usable p is.0 (omega (arith, lt, whole)))
+
+    pub can_claim : (spare spare1 : ℕ) → CanCall σ (λ v l. FindRoom f d 1 spare v) → Spares σ spare → Spares σ1 spare1 → CanCall σ1 (λ v l. HasRunRoom σ1.seat.profile d free next 1 spare1 v)
+    can_claim spare spare1 can law law1 =
+        let may = may_find can in let met = can.met.may in
+        let agreed = so.adds.agreed may.view may.whole may.stood met in record {
+          view = xs ++ can.view;
+          whole = _;
+          stood = so.adds.added may.view may.whole may.stood met;
+          met = record {
+            may = (so_call.leads.from can.view met agreed).1;
+            room = subst (λ x. 1 + unknown_pages x (xs ++ can.view) ≤ spare1) (sym same) (room_after {spare = spare} {spare' = spare1} 1 so.adds may so.shows can.met.room law law1);
+          };
+        }
+
+    module _ {σ2 : Standing} {failed : Option ℕ} (claim : ClaimsRun true d free next σ1 σ2 failed) where
+      abbrev zs : List Made
+      zs = claim.steps
+
+      claim_adds : Adds σ σ2 (λ v l. MayFind d v) (zs ++ xs)
+      claim_adds = adds_call so.adds claim.adds (λ v l stood met. (so_call.leads.from v met (so.adds.agreed v l stood met)).1)
+
+      claim_kinds : Only seeking (zs ++ xs)
+      claim_kinds = only_both seeking zs xs (only_within claiming seeking zs refl claim.kinds) so.kinds
+
+      claim_shows : OnlyDeedsShow f (zs ++ xs)
+      claim_shows = shows_both f zs xs (subst (λ x. OnlyDeedsShow x zs) same claim.shows) so.shows
+
+      claim_usable : (p : ℕ) → from ≤ p → p < next → ReadUsable d p (zs ++ xs)
+      claim_usable p ge lt = usable_later d p zs xs (so.usable p ge lt)
+
+      claim_bad : (v : View) (met : MayFind d v) → Agreed f v (zs ++ xs) → (s : ℕ) → 1 ≤ s → s < from → IsBad v d k s (zs ++ xs)
+      claim_bad v met agreed s low lt = bad_more v d k s zs xs (so.bad v met (agreed_later f v zs xs agreed) s low lt)
+
+      claim_steady : (v : View) (met : MayFind d v) → Agreed f v (zs ++ xs) → (p : ℕ) → HoldsWhole p v → (g : ℕ) → g / 256 ≡ p → StaysPut g (zs ++ xs)
+      claim_steady v met agreed p whole g at =
+          let before = agreed_later f v zs xs agreed in
+          steady_both g zs xs (claim.steady g (out_later from free next (g / 256) so.order.0 (held_apart v met before p whole g at))) (so.steady v met before p whole g at)
+
+      -- deeds of the claim are of the run, and those before of it or of one that failed
+      claim_deeds : (v : View) (met : MayFind d v) → Agreed f v (zs ++ xs) → (P : ℕ → Type 0) → P from → ((s : ℕ) → HasFailedOnce v d k s xs → P s) → DeedsOf d (k + 2) P (zs ++ xs)
+      claim_deeds v met agreed P its more = always_both (λ m before. (p : ℕ) (e : Directory) → m.step ≡ Deed p e → m.answer ≡ 0 → (e ≡ d) × (free ≤ p) × (p < next)) (DeedOf d (k + 2) P) zs xs
+          (λ m before h p e is z. let at = h p e is z in let ge = at.1 in let lt = at.2 in let first = so.order.0 in (at.0, (from, (omega (arith, ge, first), omega (arith, lt, whole)), all_usable before, its)))
+          claim.made (deeds_map d (k + 2) (λ s. ((s ≡ from) × (free ≡ from + (k + 2))) ⊎ HasFailedOnce v d k s xs) P xs (λ s h. elim h [ inl full ↦ subst P (sym full.0) its | inr failed ↦ more s failed ]) (so.deeds v met (agreed_later f v zs xs agreed)))
+
+    -- the claim failed, and what is held is put back
+    module _ {σ2 : Standing} (page : ℕ) (claim : ClaimsRun true d free next σ1 σ2 (Some page)) where
+      abbrev ws : List Made
+      ws = claim.steps
+
+      fails : FailsRun true f d free next page ws
+      fails = subst (λ x. FailsRun true x d free next page ws) same claim.outcome
+
+      pub lost_call : Calls σ σ2 (MayFind d) (HasSpan d from free) (ws ++ xs)
+      lost_call = record {
+        adds = claim_adds claim;
+        leads = record {
+          from = λ v met agreed.
+              let before = agreed_later f v ws xs agreed in let after = agreed_first f v ws xs agreed in let has = so_call.leads.from v met before in
+              subst (HasSpan d from free v) (sym (append_assoc ws xs v)) (span_then d from free has.0 (fails.still.from (xs ++ v) has.1 after) (λ p knows. knows_still f d p ws (xs ++ v) after knows));
+        };
+      }
+
+      pub can_release_lost : CanCall σ (λ v l. MayFind d v) → CanCall σ2 (λ v l. HasPages d from free v)
+      can_release_lost can = can_release lost_call can
+
+      lost_lacks : (p : ℕ) → in_span from free p ≡ false → has_right (ws ++ xs) p ≡ false
+      lost_lacks p out = right_own p ws xs (so.lacks p out) ∙ ap (λ s. has_right s p) (sym (append-nil ws)) ∙ fails.lacks [] (λ q. refl) p
+
+      module _ (v : View) (agreed : Agreed f v (ws ++ xs)) where
+        failing : OnceAfter xs (λ m b. LostHere d page m b ⊎ BrokenHere page m b) ws
+        failing = elim (fails.failed refl xs v so.alone (so.usable page (let a = so.order.0 in let b = fails.in_run.0 in omega (arith, a, b)) fails.in_run.1) agreed) [
+          | inl lost ↦ once_map (λ m b. LostHere d page m (b ++ xs)) (λ m b. LostHere d page m (b ++ xs) ⊎ BrokenHere page m (b ++ xs)) ws (λ m b x. inl x) lost
+          | inr broken ↦ once_map (λ m b. BrokenHere page m (b ++ xs)) (λ m b. LostHere d page m (b ++ xs) ⊎ BrokenHere page m (b ++ xs)) ws (λ m b x. inr x) broken
+        ]
+
+        page_bad : Once (BadHere d page) (ws ++ xs)
+        page_bad = once_earlier (λ m b. LostHere d page m (b ++ xs) ⊎ BrokenHere page m (b ++ xs)) (BadHere d page) ws xs (λ m b x. inr x) failing
+
+        run_failed : HasFailed d (k + 2) from (ws ++ xs)
+        run_failed = once_earlier (λ m b. LostHere d page m (b ++ xs) ⊎ BrokenHere page m (b ++ xs)) (FailsHere d (k + 2) from) ws xs
+            (λ m b x. (all_usable b, (page, (let a = so.order.0 in let c = fails.in_run.0 in omega (arith, a, c), let e = fails.in_run.1 in omega (arith, e, whole)), x))) failing
+
+      pub seek_lost : {σ3 : Standing} → Releases d from free σ2 σ3 → Sought d k (page + 1) (page + 1) next σ σ3
+      seek_lost r =
+          let rs = r.steps in let calls = released lost_call r in let low = so.low in let first = so.order.0 in let ge = fails.in_run.0 in let lt = fails.in_run.1 in record {
+            steps = rs ++ (ws ++ xs);
+            adds = calls.adds;
+            got = record { from = λ v met agreed. span_of_none d (page + 1) (calls.leads.from v met agreed) };
+            shows = shows_both f rs (ws ++ xs) (λ n v agreed. let none = ap (λ es. length es) (no_events giving_back refl n v rs r.kinds) in let stays = unknown_stays f rs v agreed in omega (arith, none, stays)) (claim_shows claim);
+            lacks = λ p out. r.lacks (ws ++ xs) p (λ out. lost_lacks p out);
+            kinds = only_both seeking rs (ws ++ xs) (only_within giving_back seeking rs refl r.kinds) (claim_kinds claim);
+            low = omega arith;
+            order = (omega arith, omega (arith, lt));
+            within = (omega (arith, whole, first, ge), so.within.1);
+            few = (let i = length-append rs (ws ++ xs) in let j = length-append ws xs in let a = r.few in let b = fails.few in let c = so.few in omega (arith, i, j, a, b, c, first, ge));
+            usable = λ p from_page below. usable_later d p rs (ws ++ xs) (claim_usable claim p (omega (arith, from_page, first, ge)) below);
+            alone = λ p from_page. r.alone (ws ++ xs) p (omega (arith, from_page, ge)) (fails.alone xs so.alone p from_page);
+            steady = λ v met agreed p kept_whole g at. let before = agreed_later f v rs (ws ++ xs) agreed in
+                steady_both g rs (ws ++ xs) (r.steady g (narrower from free next (g / 256) so.order.1 (held_apart v met (agreed_later f v ws xs before) p kept_whole g at))) (claim_steady claim v met before p kept_whole g at);
+            bad = λ v met agreed s one under. let before = agreed_later f v rs (ws ++ xs) agreed in bad_more v d k s rs (ws ++ xs) (elim (cases_lt s from) [
+              | inl below ↦ claim_bad claim v met before s one below
+              | inr above ↦ inl (page, (omega (arith, under), omega (arith, lt, whole, above)), page_bad v before)
+            ]);
+            deeds = λ v met agreed. let before = agreed_later f v rs (ws ++ xs) agreed in
+                deeds_map d (k + 2) (λ s. HasFailedOnce v d k s (rs ++ (ws ++ xs))) (λ s. ((s ≡ page + 1) × (page + 1 ≡ page + 1 + (k + 2))) ⊎ HasFailedOnce v d k s (rs ++ (ws ++ xs))) (rs ++ (ws ++ xs)) (λ s h. inr h)
+                (deeds_none giving_back d (k + 2) (λ s. HasFailedOnce v d k s (rs ++ (ws ++ xs))) rs (ws ++ xs) refl r.kinds
+                (claim_deeds claim v met before (λ s. HasFailedOnce v d k s (rs ++ (ws ++ xs))) (failed_more v d k from rs (ws ++ xs) (inl (run_failed v before))) (λ s h. failed_more v d k s rs (ws ++ xs) (failed_more v d k s ws xs h))));
+          }
+
+    -- the whole run is held
+    pub seek_claimed : {σ2 : Standing} → ClaimsRun true d free next σ1 σ2 None → Sought d k from next next σ σ2
+    seek_claimed claim =
+        let zs = claim.steps in let holds_it = subst (λ x. HoldsRun x d free next zs) same claim.outcome in let first = so.order.0 in let last = so.order.1 in record {
+          steps = zs ++ xs;
+          adds = claim_adds claim;
+          got = record {
+            from = λ v met agreed.
+                let before = agreed_later f v zs xs agreed in let after = agreed_first f v zs xs agreed in let has = so_call.leads.from v met before in
+                let new = holds_it.got.from (xs ++ v) has.1 after in
+                subst (HasSpan d from next v) (sym (append_assoc zs xs v)) (span_both d from free next first last has.0
+                (λ p ge lt. sym (ap (λ t. now (if t then Gained else Kept) (has_right v p)) (span_past from free p ge)) ∙ sym (has.0.got.does.right p) ∙ new.lacked p (span_in free next p ge lt))
+                new (λ p knows. knows_still f d p zs (xs ++ v) after knows));
+          };
+          shows = claim_shows claim;
+          lacks = λ p out. right_own p zs xs (so.lacks p (out_fewer from free next p last out)) ∙ ap (λ s. has_right s p) (sym (append-nil zs)) ∙ holds_it.lacks [] (λ q. refl) p (out_later from free next p first out);
+          kinds = claim_kinds claim;
+          low = so.low;
+          order = (omega (arith, first, last), omega arith);
+          within = so.within;
+          few = (let j = length-append zs xs in let b = holds_it.few in let c = so.few in omega (arith, j, b, c, last));
+          usable = claim_usable claim;
+          alone = holds_it.alone xs so.alone;
+          steady = claim_steady claim;
+          bad = claim_bad claim;
+          deeds = λ v met agreed. claim_deeds claim v met agreed (λ s. ((s ≡ from) × (next ≡ from + (k + 2))) ⊎ HasFailedOnce v d k s (zs ++ xs)) (inl (refl, whole)) (λ s h. inr (failed_more v d k s zs xs h));
+        }
+
+pub anything_goes : {σ σ1 : Standing} (d : Directory) (k from next : ℕ) → Sought d k from next next σ σ1 → CanCall σ (λ v l. MayFind d v) → CanCall σ1 Anything
+anything_goes d k from next so can = record { view = so.steps ++ can.view; whole = _; stood = so.adds.added can.view can.whole can.stood can.met; met = tt }
+
+-- ---- the whole run is held, and its outer pages are looked at
+module _ {σ σ1 σ2 : Standing} (d : Directory) (k from next high : ℕ) (whole : next ≡ from + (k + 2)) (last : high + 1 ≡ next) (so : Sought d k from next next σ σ1) {bare : Bool} (looks : LooksBacked from high σ1 σ2 bare) where
+  abbrev g_ : Profile
+  g_ = σ.seat.profile
+
+  abbrev us : List Made
+  us = so.steps
+
+  abbrev ls : List Made
+  ls = looks.steps
+
+  high_is : high ≡ from + k + 1
+  high_is = omega (arith, whole, last)
+
+  same_there : σ1.seat.profile ≡ g_
+  same_there = ap (λ (s : Seat). s.profile) so.adds.seat_is
+
+  held_page : (v : View) (met : MayFind d v) → Agreed g_ v us → (p : ℕ) → from ≤ p → p < next → (g : ℕ) → g / 256 ≡ p → holds (us ++ v) g ≡ true
+  held_page v met agreed p ge lt g at = (so.got.from v met agreed).got.does.held g ∙ ap (λ t. now (if t then Gained else Kept) (holds v g)) (ap (in_span from next) at ∙ span_in from next p ge lt)
+
+  look_call : Calls σ σ2 (MayFind d) (HasSpan d from next) (ls ++ us)
+  look_call = call_then {S = λ w u. Does nothing w u × ((p : ℕ) → KnowsDeed p d w → KnowsDeed p d u)} (HasSpan d from next) (record { adds = so.adds; leads = so.got })
+      (record { adds = looks.adds; leads = record { from = λ v met agreed. (does_idly σ1.seat.profile backed_looks refl ls v looks.kinds agreed, λ p knows. knows_still σ1.seat.profile d p ls v agreed knows) } })
+      (λ v met has. tt) (λ v met has kept. span_then d from next has kept.0 kept.1)
+
+  look_shows : OnlyDeedsShow g_ (ls ++ us)
+  look_shows = shows_both g_ ls us (λ n v agreed. let none = ap (λ es. length es) (no_events backed_looks refl n v ls looks.kinds) in let stays = unknown_stays g_ ls v agreed in omega (arith, none, stays)) so.shows
+
+  look_kinds : Only seeking (ls ++ us)
+  look_kinds = only_both seeking ls us (only_within backed_looks seeking ls refl looks.kinds) so.kinds
+
+  look_lacks : (p : ℕ) → in_span from next p ≡ false → has_right (ls ++ us) p ≡ false
+  look_lacks p out = right_own p ls us (so.lacks p out) ∙ lacks_by backed_looks refl p ls looks.kinds
+
+  usable_now : (b : List Made) → AllUsable d (k + 2) from (b ++ us)
+  usable_now b p is = let lt = is.1 in usable_later d p b us (so.usable p is.0 (omega (arith, lt, whole)))
+
+  look_steady : (v : View) (met : MayFind d v) → Agreed g_ v (ls ++ us) → (p : ℕ) → HoldsWhole p v → (g : ℕ) → g / 256 ≡ p → StaysPut g (ls ++ us)
+  look_steady v met agreed p kept_whole g at = steady_both g ls us (steady_kinds backed_looks refl g ls looks.kinds) (so.steady v met (agreed_later g_ v ls us agreed) p kept_whole g at)
+
+  look_bad : (v : View) (met : MayFind d v) → Agreed g_ v (ls ++ us) → (s : ℕ) → 1 ≤ s → s < from → IsBad v d k s (ls ++ us)
+  look_bad v met agreed s low lt = bad_more v d k s ls us (so.bad v met (agreed_later g_ v ls us agreed) s low lt)
+
+  look_deeds : (v : View) (met : MayFind d v) → Agreed g_ v (ls ++ us) → (P : ℕ → Type 0) → P from → ((s : ℕ) → HasFailedOnce v d k s us → P s) → DeedsOf d (k + 2) P (ls ++ us)
+  look_deeds v met agreed P its more = deeds_none backed_looks d (k + 2) P ls us refl looks.kinds
+      (deeds_map d (k + 2) (λ s. ((s ≡ from) × (next ≡ from + (k + 2))) ⊎ HasFailedOnce v d k s us) P us (λ s h. elim h [ inl run ↦ subst P (sym run.0) its | inr failed ↦ more s failed ]) (so.deeds v met (agreed_later g_ v ls us agreed)))
+
+module _ {σ σ1 σ2 : Standing} (d : Directory) (k from next high : ℕ) (whole : next ≡ from + (k + 2)) (last : high + 1 ≡ next) (so : Sought d k from next next σ σ1) where
+  -- neither is backed
+  pub seek_found : LooksBacked from high σ1 σ2 true → Seeks d k σ σ2 (Some from)
+  seek_found looks =
+      let f = σ.seat.profile in let ls = looks.steps in let us = so.steps in let call = look_call d k from next high whole last so looks in record {
+        steps = ls ++ us;
+        adds = call.adds;
+        kinds = look_kinds d k from next high whole last so looks;
+        shows = look_shows d k from next high whole last so looks;
+        few = (let j = length-append ls us in let a = looks.few in let c = so.few in let region = so.within.1 in let order = so.order.0 in omega (arith, j, a, c, region, order));
+        steady = look_steady d k from next high whole last so looks;
+        outcome = record {
+          of_region = (so.low, let region = so.within.1 in omega (arith, whole, region));
+          got = subst (λ x. Leads f (MayFind d) (HasSpan d from x) (ls ++ us)) whole call.leads;
+          usable = usable_now d k from next high whole last so looks ls;
+          bare = λ v met agreed.
+              let before = agreed_later f v ls us agreed in let region = so.order.0 in (
+                outer_zero v from ls us looks.kinds (held_page d k from next high whole last so looks v met before from (omega arith) (omega (arith, whole))) looks.outcome.0,
+                subst (λ p. Since (BackedReadHere v p 0) (LeftSince p) (ls ++ us)) (high_is d k from next high whole last so looks) (outer_zero v high ls us looks.kinds (held_page d k from next high whole last so looks v met before high (omega (arith, whole, last)) (omega (arith, last))) looks.outcome.1),
+              );
+          lower = look_bad d k from next high whole last so looks;
+          deeds = λ v met agreed. look_deeds d k from next high whole last so looks v met agreed (λ s. (s ≡ from) ⊎ HasFailedOnce v d k s (ls ++ us)) (inl refl) (λ s h. inr (failed_more v d k s ls us h));
+        };
+      }
+
+  -- one of them is, and the first page is left
+  module _ (looks : LooksBacked from high σ1 σ2 false) where
+    abbrev ls_ : List Made
+    ls_ = looks.steps
+
+    abbrev us_ : List Made
+    us_ = so.steps
+
+    outer : (v : View) (met : MayFind d v) → Agreed σ.seat.profile v (ls_ ++ us_) → Once (OuterFailsHere v d k from) (ls_ ++ us_)
+    outer v met agreed =
+        let f = σ.seat.profile in let before = agreed_later f v ls_ us_ agreed in let had = usable_now d k from next high whole last so looks in let R = AllUsable d (k + 2) from in elim looks.outcome [
+          | inl low ↦ once_map (λ m b. R b × BackedReadHere v from 1 m b) (OuterFailsHere v d k from) (ls_ ++ us_) (λ m b x. (x.0, inl x.1)) (outer_some f v from R ls_ us_ had looks.kinds agreed (held_page d k from next high whole last so looks v met before from (omega arith) (omega (arith, whole))) low)
+          | inr up ↦ once_map (λ m b. R b × BackedReadHere v high 1 m b) (OuterFailsHere v d k from) (ls_ ++ us_) (λ m b x. (x.0, inr (subst (λ p. BackedReadHere v p 1 m b) (high_is d k from next high whole last so looks) x.1)))
+              (outer_some f v high R ls_ us_ had looks.kinds agreed (held_page d k from next high whole last so looks v met before high (omega (arith, whole, last)) (omega (arith, last))) up)
+        ]
+
+    may_slide : (v : View) → MayFind d v → HasSpan d from next v (ls_ ++ (us_ ++ v)) → MayPutAndLeave from d (masked from full) (ls_ ++ (us_ ++ v))
+    may_slide v met span =
+        let is = span_in from next from (omega arith) (omega (arith, whole)) in record {
+          right = span.got.does.right from ∙ ap (λ t. now (if t then Gained else Kept) (has_right v from)) is;
+          deed = span.got.deeds from is;
+          held = λ g on.
+              let at : from ≡ g / 256 = eqb-true from (g / 256) (sym (on_full from g) ∙ on) in
+              span.got.does.held g ∙ ap (λ t. now (if t then Gained else Kept) (holds v g)) (ap (in_span from next) (sym at) ∙ is);
+          clear = span.got.does.clear from (met.clear.on from);
+        }
+
+    slide_may : (v : View) → MayFind d v → HasSpan d from next v ((ls_ ++ us_) ++ v) → MayPutAndLeave from d (masked from full) ((ls_ ++ us_) ++ v)
+    slide_may v met span = subst (MayPutAndLeave from d (masked from full)) (sym (append_assoc ls_ us_ v)) (may_slide v met (subst (HasSpan d from next v) (append_assoc ls_ us_ v) span))
+
+    pub can_slide : CanCall σ (λ v l. MayFind d v) → CanCall σ2 (λ v l. MayPutAndLeave from d (masked from full) v)
+    can_slide can = next_call (look_call d k from next high whole last so looks) can slide_may
+
+    pub seek_slide : {σ3 : Standing} → PutsAndLeaves from d full σ2 σ3 → Sought d k (from + 1) next next σ σ3
+    seek_slide h =
+        let f = σ.seat.profile in let ps = h.after ++ h.puts in let call = look_call d k from next high whole last so looks in let left = leads_at call.adds.seat_is h.calls.leads in record {
+          steps = ps ++ (ls_ ++ us_);
+          adds = adds_call call.adds h.calls.adds (λ v l stood met. slide_may v met (call.leads.from v met (call.adds.agreed v l stood met)));
+          got = record {
+            from = λ v met agreed.
+                let before = agreed_later f v ps (ls_ ++ us_) agreed in let after = agreed_first f v ps (ls_ ++ us_) agreed in let span = call.leads.from v met before in
+                subst (HasSpan d (from + 1) next v) (sym (append_assoc ps (ls_ ++ us_) v)) (span_slid d from next (omega (arith, whole)) span (left.from ((ls_ ++ us_) ++ v) (slide_may v met span) after) (λ p knows. knows_still f d p ps ((ls_ ++ us_) ++ v) after knows));
+          };
+          shows = shows_both f ps (ls_ ++ us_) (λ n v agreed. let none = ap (λ es. length es) (no_events giving_back refl n v ps h.kinds) in let stays = unknown_stays f ps v agreed in omega (arith, none, stays)) (look_shows d k from next high whole last so looks);
+          lacks = λ p out. elim (cases_eq p from) [
+            | inl e ↦ ap (has_right (ps ++ (ls_ ++ us_))) e ∙ h.lacks (ls_ ++ us_)
+            | inr ne ↦ right_on from p ps (ls_ ++ us_) h.on ne ∙ look_lacks d k from next high whole last so looks p (but_first from next p ne ∙ out)
+          ];
+          kinds = only_both seeking ps (ls_ ++ us_) (only_within giving_back seeking ps refl h.kinds) (look_kinds d k from next high whole last so looks);
+          low = omega arith;
+          order = (omega (arith, whole), omega arith);
+          within = (omega (arith, whole), so.within.1);
+          few = (let i = length-append ps (ls_ ++ us_) in let j = length-append ls_ us_ in let a = h.few in let b = looks.few in let c = so.few in omega (arith, i, j, a, b, c));
+          usable = λ p ge lt. usable_later d p ps (ls_ ++ us_) (usable_later d p ls_ us_ (so.usable p (omega (arith, ge)) lt));
+          alone = λ p ge. alone_on from p ps (ls_ ++ us_) h.on (λ e. absurd (omega (arith, e, ge, whole))) (alone_still p ls_ us_ looks.kinds (so.alone p ge));
+          steady = λ v met agreed p kept_whole g at. let before = agreed_later f v ps (ls_ ++ us_) agreed in
+              let out = held_apart d k from next next so v met (agreed_later f v ls_ us_ before) p kept_whole g at in
+              steady_both g ps (ls_ ++ us_) (steady_on from g ps h.on (out_of from next (g / 256) from out (omega arith) (omega (arith, whole)))) (look_steady d k from next high whole last so looks v met before p kept_whole g at);
+          bad = λ v met agreed s one under. let before = agreed_later f v ps (ls_ ++ us_) agreed in bad_more v d k s ps (ls_ ++ us_) (elim (cases_lt s from) [
+            | inl below ↦ look_bad d k from next high whole last so looks v met before s one below
+            | inr above ↦ (let e : from ≡ s = omega (arith, above, under) in inr (subst (λ x. Once (OuterBackedHere v k x) (ls_ ++ us_)) e (once_map (OuterFailsHere v d k from) (OuterBackedHere v k from) (ls_ ++ us_) (λ m b x. x.1) (outer v met before))))
+          ]);
+          deeds = λ v met agreed. let before = agreed_later f v ps (ls_ ++ us_) agreed in
+              deeds_none giving_back d (k + 2) (λ s. ((s ≡ from + 1) × (next ≡ from + 1 + (k + 2))) ⊎ HasFailedOnce v d k s (ps ++ (ls_ ++ us_))) ps (ls_ ++ us_) refl h.kinds
+              (look_deeds d k from next high whole last so looks v met before (λ s. ((s ≡ from + 1) × (next ≡ from + 1 + (k + 2))) ⊎ HasFailedOnce v d k s (ps ++ (ls_ ++ us_)))
+              (inr (failed_more v d k from ps (ls_ ++ us_) (inr (outer v met before)))) (λ s h. inr (failed_more v d k s ps (ls_ ++ us_) (failed_more v d k s ls_ us_ h))));
+        }
+
+-- ---- the looks at the outer pages
+abbrev look_at : ℕ → ℕ → Made
+look_at page a = made (Look (Word.Backed page)) a
+
+pub looks_low : {σ σ1 : Standing} (low high a : ℕ) → a ≢ 0 → Makes σ σ1 (Look (Word.Backed low)) a → LooksBacked low high σ σ1 false
+looks_low low high a some makes = record { steps = look_at low a ∷ []; adds = adds_step {step = Look (Word.Backed low)} adds_none makes (λ v l stood met. tt); kinds = (refl, tt); few = omega arith; outcome = inl (inl (refl, some)) }
+
+two_reads : (low high a b : ℕ) → a ≡ 0 → (bare : Bool) → (b == 0) ≡ bare
+    → MatchBool bare (Once (ZeroBackedHere low) (look_at high b ∷ look_at low a ∷ []) × Once (ZeroBackedHere high) (look_at high b ∷ look_at low a ∷ [])) (Once (SomeBackedHere low) (look_at high b ∷ look_at low a ∷ []) ⊎ Once (SomeBackedHere high) (look_at high b ∷ look_at low a ∷ []))
+two_reads low high a b zero true is = (inr (inl (refl, zero)), inl (refl, eqb-true b 0 is))
+two_reads low high a b zero false is = inr (inl (refl, λ e. true≢false (sym (eq-eqb b 0 e) ∙ is)))
+
+pub looks_both : {σ σ1 σ2 : Standing} (low high a b : ℕ) (bare : Bool) → a ≡ 0 → (b == 0) ≡ bare → Makes σ σ1 (Look (Word.Backed low)) a → Makes σ1 σ2 (Look (Word.Backed high)) b → LooksBacked low high σ σ2 bare
+looks_both low high a b bare zero is first second = record {
+  steps = look_at high b ∷ look_at low a ∷ [];
+  adds = adds_step {step = Look (Word.Backed high)} (adds_step {step = Look (Word.Backed low)} adds_none first (λ v l stood met. tt)) second (λ v l stood met. tt);
+  kinds = (refl, (refl, tt));
+  few = omega arith;
+  outcome = two_reads low high a b zero bare is;
+}

@@ -1,0 +1,5 @@
+use Rattle.pas_guard.proofs.Sweeps.{kept_steady}
+use Rattle.pas_guard.proofs.laws.sweeps_keep_guards.Goals as goal
+
+pub returns : goal.returns
+returns c = kept_steady

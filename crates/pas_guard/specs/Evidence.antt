@@ -1,0 +1,29 @@
+-- What shows that a run can't be guarded, over the steps of one call, the newest first, from the view v on. A run has an outer page at each end and k
+-- pages between them.
+use Rattle.std.specs.Prelude.{ℕ, ◌+◌, ◌/◌, ◌≡◌, ◌≢◌, ◌⊎◌, true, List, ◌++◌}
+use Rattle.pas_profile.specs.declared.directory.Directory.{Directory}
+use Rattle.pas_profile.specs.declared.word.Word.TheVariants as Word
+use Rattle.pas_steps.specs.Views.{View, holds}
+use Rattle.pas_steps.specs.Past.{Once}
+use Rattle.pas_steps.specs.declared.step.Made.{Made}
+use Rattle.pas_steps.specs.declared.step.Step.TheVariants.{Look}
+use Rattle.pas_large.specs.Evidence.{HasBad, AllUsable, HasFailed}
+
+-- the backed word of the page was read so while all grains of the page were the actor's
+abbrev pub BackedReadHere : View → ℕ → ℕ → Made → List Made → Type 0
+BackedReadHere v page answer m before = (m.step ≡ Look (Word.Backed page)) × (m.answer ≡ answer) × ((g : ℕ) → g / 256 ≡ page → holds (before ++ v) g ≡ true)
+
+-- .. as backed, of one of the two outer pages of the run
+abbrev pub OuterBackedHere : View → ℕ → ℕ → Made → List Made → Type 0
+OuterBackedHere v k first m before = BackedReadHere v first 1 m before ⊎ BackedReadHere v (first + k + 1) 1 m before
+
+-- the run has a page that was read as not usable, or was lost or broken, or an outer page that was read as backed
+abbrev pub IsBad : View → Directory → ℕ → ℕ → List Made → Type 0
+IsBad v d k first steps = HasBad d (k + 2) first steps ⊎ Once (OuterBackedHere v k first) steps
+
+-- All pages of the run had been read as usable. Then one of them was lost or broken, or an outer one was read as backed.
+abbrev pub OuterFailsHere : View → Directory → ℕ → ℕ → Made → List Made → Type 0
+OuterFailsHere v d k first m before = AllUsable d (k + 2) first before × OuterBackedHere v k first m before
+
+abbrev pub HasFailedOnce : View → Directory → ℕ → ℕ → List Made → Type 0
+HasFailedOnce v d k first steps = HasFailed d (k + 2) first steps ⊎ Once (OuterFailsHere v d k first) steps

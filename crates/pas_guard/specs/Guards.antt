@@ -1,0 +1,34 @@
+-- A run that is held is guarded: its inner pages are given as one block, and its outer pages are left whole.
+use Rattle.std.specs.Prelude.{ℕ, ◌+◌, ◌*◌, ◌/◌, ◌^◌, ◌<◌, ◌≤◌, ◌≡◌, true, if◌then◌else◌, List, [], ◌∷◌, ◌++◌, length}
+use Rattle.pas_profile.specs.declared.directory.Directory.{Directory}
+use Rattle.pas_profile.specs.declared.name.Block.{Block}
+use Rattle.pas_steps.specs.Calls.{Calls, Effect, Kept, Lost, Does}
+use Rattle.pas_steps.specs.Desks.{Standing}
+use Rattle.pas_steps.specs.Kinds.{Backing, Only, returning}
+use Rattle.pas_steps.specs.Views.{View, KnowsDeed}
+use Rattle.pas_steps.specs.declared.step.Made.{Made}
+use Rattle.pas_large.specs.Claims.{in_span, HasPages}
+use Rattle.pas_large.specs.Gives.{BacksIn, run_block, give_steps}
+
+-- the grains of the pages from `low` to below `high` are the actor's no longer, and neither are the rights of those from `first` to below `stop`
+abbrev pub given_and_left : ℕ → ℕ → ℕ → ℕ → Effect
+given_and_left low high first stop = record { grains = λ g. if in_span low high (g / 256) then Lost else Kept; rights = λ q. if in_span first stop q then Lost else Kept; clears = λ q. Kept }
+
+pub record GuardedRun (d : Directory) (first k : ℕ) (block : Block) (v w : View) : Type 0 where
+  pub does : Does (given_and_left (first + 1) (first + 1 + k) first (first + (k + 2))) v w
+  pub deeds : (p : ℕ) → in_span first (first + (k + 2)) p ≡ true → KnowsDeed p d w
+  pub turn : block.name.turn < 2 ^ 37
+
+-- At most k + 1 events, and 12 * k + 24 steps.
+pub record GuardsRun (d : Directory) (first k : ℕ) (block : Block) (desk desk' : Standing) : Type 0 where
+  pub backs : List Made
+  pub back_kinds : Only (Backing ∷ []) backs
+  pub back_pages : BacksIn (first + 1) (first + 1 + k) backs
+  pub back_few : length backs ≤ k
+  pub word : ℕ
+  pub answer : ℕ
+  pub block_is : block ≡ run_block d (first + 1) k word
+  pub left : List Made
+  pub left_kinds : Only returning left
+  pub few : length (left ++ (give_steps (first + 1) block word answer ++ backs)) ≤ 12 * k + 24
+  pub calls : Calls desk desk' (HasPages d first (first + (k + 2))) (GuardedRun d first k block) (left ++ (give_steps (first + 1) block word answer ++ backs))

@@ -1,0 +1,68 @@
+-- A guard goes up.
+use Rattle.std.specs.Prelude.{ℕ, ◌+◌, ◌*◌, ◌/◌, ◌≤◌, ◌≡◌, true, ◌∷◌, [], List, ◌++◌, length, Option, MatchOption}
+use Rattle.pas_profile.specs.declared.directory.Directory.{Directory}
+use Rattle.pas_profile.specs.declared.name.Block.{Block}
+use Rattle.pas_profile.specs.declared.profile.Profile.{Profile}
+use Rattle.pas_scan.specs.Runs.{large_directory}
+use Rattle.pas_steps.specs.Agreement.{Agreed}
+use Rattle.pas_steps.specs.Calls.{Calls}
+use Rattle.pas_steps.specs.Past.{Always}
+use Rattle.pas_steps.specs.declared.step.Step.TheVariants.{Back}
+use Rattle.pas_large.specs.Claims.{StaysPut}
+use Rattle.pas_steps.specs.Desks.{Standing}
+use Rattle.pas_steps.specs.Kinds.{Backing, Only, returning}
+use Rattle.pas_steps.specs.Unknown.{unknown_pages}
+use Rattle.pas_steps.specs.Views.{View}
+use Rattle.pas_steps.specs.declared.step.Made.{Made}
+use Rattle.pas_large.specs.Gives.{BacksIn, run_block, give_steps}
+use Rattle.pas_large.specs.Pages.{OnlyDeedsShow}
+use Rattle.pas_guard.specs.Books.{is_outer, FitsBook}
+use Rattle.pas_guard.specs.Seeks.{seeking, SoughtRun, SoughtNone}
+use Rattle.pas_guard.specs.declared.book.Guard.{Guard}
+
+-- the actor fits the book, and there is room for the deeds that aren't known, and for n events more
+pub record RaiseRoom (f : Profile) (guards : List Guard) (n spare : ℕ) (v : View) : Type 0 where
+  pub fits : FitsBook f guards v
+  pub room : n + unknown_pages f v ≤ spare
+
+-- the guard of the block of k pages that stands behind page `first`
+abbrev pub guard_of : ℕ → ℕ → Block → Guard
+guard_of first k block = record { low = first; high = first + k + 1; block = block }
+
+-- The search found the run. Then its inner pages were backed and given as one block, and all its pages were left. The guard is the last in the book.
+pub record IsRaised (f : Profile) (d : Directory) (k : ℕ) (guards guards' : List Guard) (searched after : List Made) (block : Block) : Type 0 where
+  pub first : ℕ
+  pub found : SoughtRun f d k searched first
+  pub backs : List Made
+  pub back_kinds : Only (Backing ∷ []) backs
+  pub back_pages : BacksIn (first + 1) (first + 1 + k) backs
+  pub back_few : length backs ≤ k
+  pub word : ℕ
+  pub answer : ℕ
+  pub block_is : block ≡ run_block d (first + 1) k word
+  pub left : List Made
+  pub left_kinds : Only returning left
+  pub after_is : after ≡ left ++ (give_steps (first + 1) block word answer ++ backs)
+  pub raised : guards' ≡ guards ++ guard_of first k block ∷ []
+
+-- the search found none, and the book is as it was
+pub record IsNotRaised (f : Profile) (d : Directory) (k : ℕ) (guards guards' : List Guard) (searched after : List Made) : Type 0 where
+  pub found : SoughtNone f d k searched
+  pub nothing : after ≡ []
+  pub same : guards' ≡ guards
+
+-- no step backs the page
+abbrev pub BacksNot : ℕ → List Made → Type 0
+BacksNot page = Always (λ m before. m.step ≡ Back page → ⊥)
+
+-- The actor fits the book before and afterwards. The outer pages of the guards that were up are left alone: no step moves a grain of theirs or backs one. At most 71 steps for each page of the region, 12 for each page that is asked for, and 26 more.
+pub record Raises (heap k : ℕ) (guards guards' : List Guard) (desk desk' : Standing) (answer : Option Block) : Type 0 where
+  pub searched : List Made
+  pub after : List Made
+  pub calls : Calls desk desk' (FitsBook desk.seat.profile guards) (λ v w. FitsBook desk.seat.profile guards' w) (after ++ searched)
+  pub kinds : Only seeking searched
+  pub shows : OnlyDeedsShow desk.seat.profile searched
+  pub few : length (after ++ searched) ≤ 71 * desk.seat.profile.pages + 12 * k + 26
+  pub steady : (v : View) → FitsBook desk.seat.profile guards v → Agreed desk.seat.profile v (after ++ searched) → (g : ℕ) → is_outer guards (g / 256) ≡ true → StaysPut g (after ++ searched)
+  pub unbacked : (v : View) → FitsBook desk.seat.profile guards v → Agreed desk.seat.profile v (after ++ searched) → (page : ℕ) → is_outer guards page ≡ true → BacksNot page (after ++ searched)
+  pub outcome : MatchOption answer (IsNotRaised desk.seat.profile (large_directory heap) k guards guards' searched after) (IsRaised desk.seat.profile (large_directory heap) k guards guards' searched after)

@@ -1,0 +1,13 @@
+//! Guarded large blocks: whole pages between two pages that are never backed while the guard is up.
+#![tactic(auto)]
+
+mod book;
+mod guarding;
+pub mod laws;
+mod looking;
+mod lowering;
+mod raising;
+mod seeking;
+mod sweeping;
+
+pub use book::{Guard, GuardBook};

@@ -1,0 +1,62 @@
+//! Guards whose blocks have ended are lowered.
+ghost use Rattle.std.specs.Prelude.{◌≡◌, ◌≤◌, ◌+◌, ◌/◌, ◌%◌, length};
+ghost use Rattle.pas_profile.specs.Profiles.{IsPage};
+ghost use Rattle.pas_profile.specs.Runs.{address_of};
+ghost use Rattle.pas_report.specs.Rooms.{records_in, room_of};
+ghost use Rattle.pas_steps.specs.Desks.{Anything, CanCall};
+ghost use Rattle.pas_guard.specs.Books.{guards_in, size_of_book, FitsBook};
+ghost use Rattle.pas_guard.specs.Sweeps.{LooksOver, Sweeps};
+
+use crate::book::{Guard, GuardBook};
+use crate::lowering::lower;
+use pas_profile::limits::{GRAIN_BYTES, PAGE_BYTES};
+use pas_profile::{Word, read_life};
+use pas_report::{Record, Records, Said};
+use pas_steps::Desk;
+
+/// Whether the guard goes down: its block has ended, by a look at the life word of its first grain, or all are to go.
+fn goes_down<D: Desk>(desk: &mut D, guard: Guard, all: bool) -> bool
+    requires page { IsPage (D.standing desk.old).seat.profile (address_of guard.block.name / 4096) }
+    requires can { CanCall (D.standing desk.old) Anything }
+    ensures looks { LooksOver all guard (D.standing desk.old) (D.standing desk.new) result }
+    ensures home { D.home desk.new ≡ D.home desk.old }
+{
+    let name = guard.block.name;
+    let grain = name.address.0 % PAGE_BYTES / GRAIN_BYTES;
+    let word = desk.look(Word::Life(name.address.0 / PAGE_BYTES, grain as u8));
+    let (turn, _, _) = read_life(word);
+    let over = name.turn < turn;
+    all || over
+}
+
+impl GuardBook {
+    /// Lowers each guard whose block has ended, by a look at its life word, or all of them: both pages are put back, the guard leaves the book, and this is
+    /// said. The others stay up, in their order. At most 25 steps for each guard, and no event.
+    pub fn sweep<D: Desk>(&mut self, desk: &mut D, all: bool, lowered: &mut Records)
+        requires room { length (records_in lowered.old) + length (guards_in self.old) ≤ room_of lowered.old }
+        requires can { CanCall (D.standing desk.old) (λ v l. FitsBook (D.standing desk.old).seat.profile (guards_in self.old) v) }
+        ensures sweeps { Sweeps all (guards_in self.old) (guards_in self.new) (records_in lowered.old) (records_in lowered.new) (D.standing desk.old) (D.standing desk.new) }
+        ensures size { size_of_book self.new ≡ size_of_book self.old }
+        ensures room { room_of lowered.new ≡ room_of lowered.old }
+        ensures home { D.home desk.new ≡ D.home desk.old }
+    {
+        let actor = desk.actor();
+        let mut place = 0;
+        while place < self.guards().len() {
+            let guard = self.guards()[place];
+            if goes_down(desk, guard, all) {
+                lower(desk, guard);
+                self.take_out(place);
+                lowered.push(Record::Said(
+                    actor,
+                    Said::Lowered {
+                        low: guard.low,
+                        high: guard.high,
+                    },
+                ));
+            } else {
+                place += 1;
+            }
+        }
+    }
+}

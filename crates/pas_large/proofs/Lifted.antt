@@ -1,0 +1,134 @@
+-- The evidence of a scan, where the claim of a run by the door failed before it: what is said of the scan's steps holds of all steps of the call.
+use Rattle.std.proofs.Common.{◌≡◌, ℕ, ◌+◌, ◌*◌, ◌/◌, ◌<◌, ◌≤◌, ◌≢◌, ◌⊎◌, Bool, true, false, ◌||◌, List, [], ◌∷◌, ◌++◌, inl, inr, refl, ap, sym, ◌∙◌, subst, arith, append_assoc}
+use Rattle.pas_profile.specs.Classes.{has_bit}
+use Rattle.pas_profile.specs.declared.directory.Directory.{Directory}
+use Rattle.pas_profile.specs.declared.profile.Profile.{Profile}
+use Rattle.pas_profile.proofs.Codecs.{deed_word_of-positive}
+use Rattle.pas_steps.specs.Agreement.{Agreed}
+use Rattle.pas_steps.specs.Evidence.{OneHere, NoDeedHere, ShowsHere, KeptHere, GetsHere}
+use Rattle.pas_steps.specs.Past.{Once, Always, Since}
+use Rattle.pas_steps.specs.Views.{View, holds, has_right, known_deed, KnowsDeed}
+use Rattle.pas_steps.specs.declared.step.Made.{Made}
+use Rattle.pas_steps.proofs.Adding.{agreed_first, agreed_later}
+use Rattle.pas_steps.proofs.Frames.{right_own}
+use Rattle.pas_steps.proofs.Past.{once_later, once_earlier, once_map, always_both}
+use Rattle.pas_scan.specs.Runs.{IsInRun}
+use Rattle.pas_scan.specs.Usable.{DeedReadHere, OfHere, IsAllFree, WholeHere, ReadUsable, ParksNotHere, IsFresh, UnusableHere, MakesNoDeedHere, LeftAlone}
+use Rattle.pas_scan.proofs.LeftPages.{holds_own, since_earlier, unusable_here, deed_before}
+use Rattle.pas_large.specs.Evidence.{LostHere, BrokenHere, BadHere, HasBad, IsVain, AllUsable, FailsHere, HasFailed, DeedsOf, TakenWholeHere, IsTakenRun, LeftOrBroken}
+use Rattle.pas_large.proofs.Finds.{unknown}
+use Rattle.pas_large.proofs.Pages.{known_of}
+
+-- ---- one page
+module _ (d : Directory) (p : ℕ) (xs : List Made) (left : LeftOrBroken d p xs) where
+  right_at : (b : List Made) → has_right (b ++ xs) p ≡ has_right b p
+  right_at b = right_own p b xs left.right
+
+  held_at : (b : List Made) (word i : ℕ) → word < 4 → i < 64 → holds (b ++ xs) (p * 256 + (64 * word + i)) ≡ holds b (p * 256 + (64 * word + i))
+  held_at b word i w lt = holds_own (p * 256 + (64 * word + i)) b xs (left.none (p * 256 + (64 * word + i)) (omega (arith, w, lt)))
+
+  whole_at : (word : ℕ) → word < 4 → (m : Made) (b : List Made) → WholeHere p word m b → WholeHere p word m (b ++ xs)
+  whole_at word w m b h = (h.0, λ i lt. ap (λ t. has_bit m.answer i || t) (held_at b word i w lt) ∙ h.1 i lt)
+
+  one_at : (m : Made) (b : List Made) → OneHere d p m b → OneHere d p m (b ++ xs)
+  one_at m b h = (h.0, h.1, right_at b ∙ h.2)
+
+  kept_at : (m : Made) (b : List Made) → KeptHere p m b → KeptHere p m (b ++ xs)
+  kept_at m b h = right_at b ∙ h
+
+  pub usable_at : (b : List Made) → ReadUsable d p b → ReadUsable d p (b ++ xs)
+  usable_at b (inl bare) = inl (once_earlier (NoDeedHere p) (NoDeedHere p) b xs (λ m c h. h) bare)
+  usable_at b (inr whole) = inr record {
+    of = once_earlier (OfHere d p) (OfHere d p) b xs (λ m c h. h) whole.of;
+    offered = once_earlier (OneHere d p) (OneHere d p) b xs one_at whole.offered;
+    free = λ word lt. once_earlier (WholeHere p word) (WholeHere p word) b xs (whole_at word lt) (whole.free word lt);
+  }
+
+  shows_at : (word : ℕ) → word < 4 → (r : ℕ → Bool) (m : Made) (b : List Made) → ShowsHere p word r m b → ShowsHere p word r m (b ++ xs)
+  shows_at word w r m b h = (h.0, right_at b ∙ h.1, λ i lt. h.2 i lt ∙ ap (λ t. has_bit m.answer i || t) (sym (held_at b word i w lt)))
+
+  broken_at : (m : Made) (b : List Made) → BrokenHere p m b → BrokenHere p m (b ++ xs)
+  broken_at m b h = record {
+    left = h.left;
+    kept = right_at b ∙ h.kept;
+    got = once_earlier (GetsHere p) (GetsHere p) b xs (λ m c h. h) h.got;
+    readings = h.readings;
+    none = h.none;
+    read = λ word lt. since_earlier (ShowsHere p word h.readings) (KeptHere p) (ShowsHere p word h.readings) (KeptHere p) b xs (shows_at word lt h.readings) kept_at (h.read word lt);
+  }
+
+  -- the page wasn't parked
+  module _ (parks : Always (ParksNotHere p) xs) where
+    alone : LeftAlone p xs
+    alone = record { right = left.right; none = left.none; parks = parks; deeds = left.deeds }
+
+    fresh_at : (b : List Made) → IsFresh d p b → IsFresh d p (b ++ xs)
+    fresh_at b (inl none) = inl (always_both (ParksNotHere p) (ParksNotHere p) b xs (λ m c h. h) none parks)
+    fresh_at b (inr since) = inr (since_earlier (OneHere d p) (ParksNotHere p) (OneHere d p) (ParksNotHere p) b xs one_at (λ m c h. h) since)
+
+    lost_at : (m : Made) (b : List Made) → LostHere d p m b → LostHere d p m (b ++ xs)
+    lost_at m b (inl h) = inl (h.0, h.1, right_at b ∙ h.2, fresh_at b h.3)
+    lost_at m b (inr h) = inr (h.0, h.1, once_earlier (NoDeedHere p) (NoDeedHere p) b xs (λ m c h. h) h.2, always_both (MakesNoDeedHere p) (MakesNoDeedHere p) b xs (λ m c h. h) h.3 left.deeds)
+
+    bad_at : (m : Made) (b : List Made) → BadHere d p m b → BadHere d p m (b ++ xs)
+    bad_at m b (inl h) = inl (unusable_here d p xs alone m b h)
+    bad_at m b (inr (inl h)) = inr (inl (lost_at m b h))
+    bad_at m b (inr (inr h)) = inr (inr (broken_at m b h))
+
+  pub bad_once : (ys : List Made) → Once (BadHere d p) ys → Once (BadHere d p) (ys ++ xs)
+  bad_once ys h = elim left.parks [
+    | inl parks ↦ once_earlier (BadHere d p) (BadHere d p) ys xs (bad_at parks) h
+    | inr broken ↦ once_later (BadHere d p) ys xs (once_map (BrokenHere p) (BadHere d p) xs (λ m b x. inr (inr x)) broken.1)
+  ]
+
+  -- ---- the page was parked, and read again
+  once_since : (P Q : Made → List Made → Type 0) (ys : List Made) → Once P ys → Always Q ys → Since P Q ys
+  once_since P Q [] h all = h
+  once_since P Q (m ∷ ys) (inl h) all = inl h
+  once_since P Q (m ∷ ys) (inr h) all = inr (all.0, once_since P Q ys h all.1)
+
+  -- it was read as of the directory, so it isn't read as without a deed
+  not_bare : (f : Profile) (v : View) (b : List Made) → Agreed f v (b ++ xs) → Once (OfHere d p) xs → Once (NoDeedHere p) b → ⊥
+  not_bare f v b agreed of bare =
+      let known : KnowsDeed p d (xs ++ v) = known_of f d p xs v (agreed_later f v b xs agreed) of in
+      unknown f (xs ++ v) p b (agreed_first f v b xs agreed) bare (λ none. deed_word_of-positive d (sym known ∙ none))
+
+  still_fresh : (b : List Made) → Once (OneHere d p) b → IsFresh d p b → Since (OneHere d p) (ParksNotHere p) b
+  still_fresh b read (inl none) = once_since (OneHere d p) (ParksNotHere p) b read none
+  still_fresh b read (inr since) = since
+
+  lost_again : (f : Profile) (v : View) (m : Made) (b : List Made) → Agreed f v (b ++ xs) → Once (OfHere d p) xs → ReadUsable d p b → LostHere d p m b → LostHere d p m (b ++ xs)
+  lost_again f v m b agreed of (inl bare) h = absurd (not_bare f v b agreed of bare)
+  lost_again f v m b agreed of (inr whole) (inr h) = absurd (not_bare f v b agreed of h.2)
+  lost_again f v m b agreed of (inr whole) (inl h) = inl (h.0, h.1, right_at b ∙ h.2, inr (since_earlier (OneHere d p) (ParksNotHere p) (OneHere d p) (ParksNotHere p) b xs one_at (λ m c h. h) (still_fresh b whole.offered h.3)))
+
+  pub failed_at : (f : Profile) (v : View) (m : Made) (b : List Made) → Agreed f v (b ++ xs) → ReadUsable d p b → LostHere d p m b ⊎ BrokenHere p m b → LostHere d p m (b ++ xs) ⊎ BrokenHere p m (b ++ xs)
+  failed_at f v m b agreed usable (inr broken) = inr (broken_at m b broken)
+  failed_at f v m b agreed usable (inl lost) = elim left.parks [ inl parks ↦ inl (lost_at parks m b lost) | inr broken ↦ inl (lost_again f v m b agreed broken.0 usable lost) ]
+
+-- ---- runs
+module _ (d : Directory) (n : ℕ) (xs : List Made) (left : (p : ℕ) → LeftOrBroken d p xs) where
+  all_usable : (first : ℕ) (b : List Made) → AllUsable d n first b → AllUsable d n first (b ++ xs)
+  all_usable first b usable p here = usable_at d p xs (left p) b (usable p here)
+
+  pub bad_run : (first : ℕ) (ys : List Made) → HasBad d n first ys → HasBad d n first (ys ++ xs)
+  bad_run first ys h = (h.0, h.1, bad_once d h.0 xs (left h.0) ys h.2)
+
+  pub vain_run : (f : Profile) (ys : List Made) → IsVain f d n ys → IsVain f d n (ys ++ xs)
+  vain_run f ys vain = record { deeds = λ p of. deed_before p ys xs (vain.deeds p of); runs = λ first low high. bad_run first ys (vain.runs first low high) }
+
+  once_agreed : (P R : Made → List Made → Type 0) (f : Profile) (v : View) (ys : List Made) → Agreed f v (ys ++ xs) → ((m : Made) (b : List Made) → Agreed f v (b ++ xs) → P m b → R m (b ++ xs)) → Once P ys → Once R (ys ++ xs)
+  once_agreed P R f v [] agreed lift h = absurd h
+  once_agreed P R f v (m ∷ ys) agreed lift (inl h) = inl (lift m ys agreed.1 h)
+  once_agreed P R f v (m ∷ ys) agreed lift (inr h) = inr (once_agreed P R f v ys agreed.1 lift h)
+
+  pub failed_run : (f : Profile) (v : View) (first : ℕ) (ys : List Made) → Agreed f v (ys ++ xs) → HasFailed d n first ys → HasFailed d n first (ys ++ xs)
+  failed_run f v first ys agreed h = once_agreed (FailsHere d n first) (FailsHere d n first) f v ys agreed (λ m b agrees fails. let at = fails.1 in
+      (all_usable first b fails.0, (at.0, at.1, failed_at d at.0 xs (left at.0) f v m b agrees (fails.0 at.0 at.1) at.2))) h
+
+  pub taken_run : (first : ℕ) (ys : List Made) → IsTakenRun d n first ys → IsTakenRun d n first (ys ++ xs)
+  taken_run first ys taken = record {
+    usable = all_usable first ys taken.usable;
+    right = λ p here. right_own p ys xs (left p).right ∙ taken.right p here;
+    whole = λ p word here lt. since_earlier (TakenWholeHere p word) (KeptHere p) (TakenWholeHere p word) (KeptHere p) ys xs (λ m b h. (whole_at d p xs (left p) word lt m b h.0, kept_at d p xs (left p) m b h.1)) (kept_at d p xs (left p)) (taken.whole p word here lt);
+  }

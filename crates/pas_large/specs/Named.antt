@@ -1,0 +1,35 @@
+-- The claim of the run that a door names.
+use Rattle.std.specs.Prelude.{ℕ, ◌+◌, ◌*◌, ◌≤◌, ◌≡◌, true, List, [], length, Option, None, Some, MatchOption}
+use Rattle.pas_profile.specs.declared.directory.Directory.{Directory}
+use Rattle.pas_profile.specs.declared.profile.Profile.{Profile}
+use Rattle.pas_steps.specs.Calls.{Leads, nothing, Does}
+use Rattle.pas_steps.specs.Desks.{Standing, Adds}
+use Rattle.pas_steps.specs.Kinds.{Only}
+use Rattle.pas_steps.specs.declared.step.Made.{Made}
+use Rattle.pas_large.specs.Claims.{in_span, LacksAll, HoldsSpan}
+use Rattle.pas_large.specs.Finds.{MayFind}
+use Rattle.pas_large.specs.Pages.{GotPages, OnlyDeedsShow, claiming_old}
+
+-- The run that was named is of the region, and it is the actor's: the right of each page was got, and each free word was taken whole since. At most
+-- six steps a page.
+pub record HoldsNamed (f : Profile) (d : Directory) (n : ℕ) (found : Option ℕ) (steps : List Made) (first : ℕ) : Type 0 where
+  pub named : found ≡ Some first
+  pub of_region : (1 ≤ first) × (first + n ≤ f.pages + 1)
+  pub got : Leads f (MayFind d) (GotPages (in_span first (first + n)) d) steps
+  pub holding : HoldsSpan first (first + n) steps
+  pub few : length steps ≤ 6 * n
+
+-- all is as it was
+pub record MissesNamed (f : Profile) (d : Directory) (n : ℕ) (steps : List Made) : Type 0 where
+  pub still : Leads f (MayFind d) (Does nothing) steps
+  pub lacks : LacksAll steps
+  pub few : length steps ≤ 48 * n
+
+-- No deed is made. Where no run is named no step is made.
+pub record ClaimsNamed (d : Directory) (n : ℕ) (found : Option ℕ) (desk desk' : Standing) (result : Option ℕ) : Type 0 where
+  pub steps : List Made
+  pub adds : Adds desk desk' (λ v l. MayFind d v) steps
+  pub old : Only claiming_old steps
+  pub unnamed : found ≡ None → steps ≡ []
+  pub shows : OnlyDeedsShow desk.seat.profile steps
+  pub outcome : MatchOption result (MissesNamed desk.seat.profile d n steps) (HoldsNamed desk.seat.profile d n found steps)

@@ -1,0 +1,4 @@
+pub mod Spans
+pub mod Fits
+pub mod Cuts
+pub mod Places

@@ -1,0 +1,14 @@
+//! Indexes of pages: ranges that neither overlap nor touch, and how they join.
+#![tactic(auto)]
+
+mod editing;
+mod index;
+mod laws;
+mod searching;
+mod span;
+#[cfg(test)]
+mod tests;
+
+pub use index::{Full, LargeIndex};
+pub use laws::one_list_of_ranges;
+pub use span::Span;

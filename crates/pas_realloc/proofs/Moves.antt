@@ -1,0 +1,107 @@
+-- A block gets another size.
+use Rattle.std.proofs.Common.{◌≡◌, ◌≢◌, ℕ, ◌+◌, ◌-◌, ◌/◌, ◌%◌, ◌^◌, ◌<◌, ◌≤◌, ◌==◌, ◌&&◌, ◌++◌, Bool, true, false, if◌then◌else◌, List, [], length, Result, Ok, Err, refl, ap, sym, ◌∙◌, subst, arith, true≢false, max}
+use Rattle.std.specs.Prelude.{nat_le}
+use Rattle.std.proofs.lemmas.Bool.{and_parts, and_from, leb-true, le-leb, eqb-true, eq-eqb}
+use Rattle.pas_profile.specs.Routes.{route_of}
+use Rattle.pas_profile.specs.Runs.{address_of}
+use Rattle.pas_profile.specs.declared.directory.Route.{Route}
+use Rattle.pas_profile.specs.declared.event.FreeFault.{FreeFault}
+use Rattle.pas_profile.specs.declared.event.FreeFault.TheVariants.{Outside, Unaligned}
+use Rattle.pas_profile.specs.declared.event.NoRoom.{NoRoom}
+use Rattle.pas_profile.specs.declared.name.Block.{Block}
+use Rattle.pas_profile.specs.declared.name.Name.{Name}
+use Rattle.pas_profile.specs.declared.profile.Profile.{Profile}
+use Rattle.pas_trace.specs.Reasons.{cost_of_route}
+use Rattle.pas_steps.specs.Desks.{Seat, Standing, CanCall}
+use Rattle.pas_steps.specs.Events.{events_by}
+use Rattle.pas_steps.specs.Views.{View}
+use Rattle.pas_steps.specs.declared.step.Made.{Made}
+use Rattle.pas_steps.proofs.Called.{call_none, call_then, next_call}
+use Rattle.pas_steps.proofs.SpareRoom.{Spares, spare_falls}
+use Rattle.pas_steps.proofs.Unknown.{has_room}
+use Rattle.pas_cache.specs.Caches.{Cached, AtRest}
+use Rattle.pas_cache.specs.Calls.{MayAllocate, MayAllocatePages, RefusesName, TakesEntry, Frees}
+use Rattle.pas_free_log.specs.Logs.{entry_of}
+use Rattle.pas_cache.specs.Names.{IsInRegion, IsFaultOf}
+use Rattle.pas_cache.specs.Serves.{Wanted}
+use Rattle.pas_cache.specs.declared.moving.Moved.TheVariants.{Kept, New}
+use Rattle.pas_answers.specs.Calls.{Serves}
+use Rattle.pas_answers.proofs.Routes.{small_cost, is_large}
+use Rattle.pas_realloc.specs.Moves.{Suits, flush_of_full, MayMove, MayPlace, Moves}
+
+-- ---- the request
+pub can_allocate : {σ : Standing} (c : Cached) (size align spare : ℕ) → size ≤ 2048 → CanCall σ (λ v l. MayPlace σ.seat.profile c (cost_of_route (route_of size align) size) spare v) → CanCall σ (λ v l. MayAllocate σ.seat.profile c spare v)
+can_allocate {σ} c size align spare small can =
+    let cost = small_cost size align small in let room = can.met.room in
+    record { view = can.view; whole = can.whole; stood = can.stood; met = record { rest = can.met.rest; room = has_room σ.seat.profile 2 spare can.view (omega (arith, cost, room)) } }
+
+pub can_allocate_pages : {σ : Standing} (c : Cached) (size align spare : ℕ) → 2048 < size → CanCall σ (λ v l. MayPlace σ.seat.profile c (cost_of_route (route_of size align) size) spare v)
+    → CanCall σ (λ v l. MayAllocatePages σ.seat.profile c ((size + 4096 - 1) / 4096) spare v)
+can_allocate_pages {σ} c size align spare large can =
+    let cost = ap (λ (r : Route). cost_of_route r size) (is_large size align large) in let room = can.met.room in
+    let pages : (size + 4095) / 4096 ≡ (size + 4096 - 1) / 4096 = omega arith in
+    record { view = can.view; whole = can.whole; stood = can.stood; met = record { rest = can.met.rest; room = omega (arith, room, cost, pages) } }
+
+pub can_place : {σ : Standing} (c : Cached) (cost spare : ℕ) → CanCall σ (λ v l. MayMove σ.seat.profile c cost spare v) → CanCall σ (λ v l. MayPlace σ.seat.profile c cost spare v)
+can_place c cost spare can = record { view = can.view; whole = can.whole; stood = can.stood; met = record { rest = can.met.rest; room = (let room = can.met.room in omega (arith, room)) } }
+
+-- ---- whether it suits
+pub suiting : (old : Block) (size align : ℕ) → (nat_le (max size 1) old.room && (address_of old.name % align == 0)) ≡ true → Suits old size align
+suiting old size align is = let parts = and_parts (nat_le (max size 1) old.room) (address_of old.name % align == 0) is in (leb-true (max size 1) old.room parts.0, eqb-true (address_of old.name % align) 0 parts.1)
+
+pub unsuiting : (old : Block) (size align : ℕ) → (nat_le (max size 1) old.room && (address_of old.name % align == 0)) ≡ false → Suits old size align → ⊥
+unsuiting old size align other suits = true≢false (sym (and_from (nat_le (max size 1) old.room) (address_of old.name % align == 0) (le-leb (max size 1) old.room suits.0) (eq-eqb (address_of old.name % align) 0 suits.1)) ∙ other)
+
+-- ---- what it comes to
+pub kept : {σ : Standing} (wanted : Wanted) (old : Block) (size align : ℕ) (c : Cached) → Suits old size align → Moves wanted old size align c c σ σ (Ok Kept)
+kept wanted old size align c suits = record { steps = []; calls = call_none (λ v met. met); moved = record { suits = suits; no_steps = refl; cache = refl } }
+
+pub refused : {σ σ1 : Standing} (cost : ℕ) (wanted : Wanted) (old : Block) (size align : ℕ) (c c1 : Cached) (room : NoRoom) → (Suits old size align → ⊥) → Serves cost wanted c c1 σ σ1 (Err room) → Moves wanted old size align c c1 σ σ1 (Err room)
+refused cost wanted old size align c c1 room unsuited s = record { steps = s.steps; calls = s.calls; moved = record { unsuited = unsuited; serves = s.change; kinds = s.kinds; ends = s.outcome; same_log = s.log_is } }
+
+full_log : (n : ℕ) → n ≡ 64 → nat_le 64 n ≡ true
+full_log n e = le-leb 64 n (omega (arith, e))
+
+pub room_to_free : {σ σ1 : Standing} (cost spare spare1 : ℕ) (wanted : Wanted) (c c1 : Cached) (block : Block) → Serves cost wanted c c1 σ σ1 (Ok block) → CanCall σ (λ v l. MayMove σ.seat.profile c cost spare v) → Spares σ spare → Spares σ1 spare1 → length c1.log ≡ 64 → 64 ≤ spare1
+room_to_free {σ} cost spare spare1 wanted c c1 block s can law law1 full =
+    let rest = can.met.rest in let agreed = s.calls.adds.agreed can.view can.whole can.stood rest in
+    let few = s.few σ.seat.actor can.view rest agreed in
+    let falls = spare_falls spare spare1 (length (events_by σ.seat.actor can.view s.steps)) s.calls.adds (record { view = can.view; whole = can.whole; stood = can.stood; met = rest }) law law1 refl in
+    let at : length c.log ≡ 64 = ap length (sym s.log_is) ∙ full in
+    let flush : flush_of_full c.log ≡ 64 = ap (λ t. if t then 64 else 0) (full_log (length c.log) at) in
+    let room = can.met.room in omega (arith, few, falls, flush, room)
+
+pub can_free : {σ σ1 : Standing} (cost spare : ℕ) (wanted : Wanted) (c c1 : Cached) (block : Block) → Serves cost wanted c c1 σ σ1 (Ok block) → CanCall σ (λ v l. MayMove σ.seat.profile c cost spare v) → CanCall σ1 (λ v l. AtRest σ1.seat.profile c1 v)
+can_free {σ} {σ1} cost spare wanted c c1 block s can =
+    subst (λ (t : Seat). CanCall σ1 (λ v l. AtRest t.profile c1 v)) (sym s.calls.adds.seat_is) (next_call s.calls (record { view = can.view; whole = can.whole; stood = can.stood; met = can.met.rest }) (λ v met rests. rests))
+
+-- the old name is on a page of the region, at a multiple of 16
+pub no_fault : (f : Profile) (name : Name) (fault : FreeFault) → IsInRegion f name → IsFaultOf f name fault → ⊥
+no_fault f name Outside region fault = fault region.page
+no_fault f name Unaligned region fault = fault.1 region.aligned
+
+pub replaced : {σ σ1 σ2 : Standing} (cost : ℕ) (wanted : Wanted) (old : Block) (size align : ℕ) (c c1 c2 : Cached) (block : Block) → (Suits old size align → ⊥) → (s : Serves cost wanted c c1 σ σ1 (Ok block)) → Frees (entry_of old.name) c1 c2 σ1 σ2 (Ok tt) → Moves wanted old size align c c2 σ σ2 (Ok (New block))
+replaced {σ} {σ1} {σ2} cost wanted old size align c c1 c2 block unsuited s free =
+    let f = σ.seat.profile in
+    let takes = subst (λ (t : Seat). TakesEntry t.profile t.actor c1 c2 (entry_of old.name) free.steps) s.calls.adds.seat_is free.outcome in
+    record {
+      steps = free.steps ++ s.steps;
+      calls = call_then (λ v w. AtRest f c2 w) s.calls free.calls (λ v met rests. subst (λ (t : Seat). AtRest t.profile c1 (s.steps ++ v)) (sym s.calls.adds.seat_is) rests)
+          (λ v met rests freed. subst (λ (t : Seat). AtRest t.profile c2 (free.steps ++ (s.steps ++ v))) s.calls.adds.seat_is freed);
+      moved = record {
+        unsuited = unsuited;
+        placed = s.steps;
+        freed = free.steps;
+        between = c1;
+        serves = s.change;
+        kinds = s.kinds;
+        block_for = s.outcome;
+        same_log = s.log_is;
+        logs = takes;
+        steps_are = refl;
+      };
+    }
+
+-- the region is the same after the request
+pub in_same : {σ σ1 : Standing} {cost : ℕ} {wanted : Wanted} {c c1 : Cached} {answer : Result Block NoRoom} → Serves cost wanted c c1 σ σ1 answer → (name : Name) → IsInRegion σ.seat.profile name → IsInRegion σ1.seat.profile name
+in_same s name region = subst (λ (t : Seat). IsInRegion t.profile name) (sym s.calls.adds.seat_is) region

@@ -1,0 +1,23 @@
+use Rattle.pas_cache.specs.Caches.{cached}
+use Rattle.pas_answers.proofs.Requests.{serves_small, serves_pages}
+use Rattle.pas_answers.proofs.Routes.{is_small, is_large}
+use Rattle.pas_realloc.proofs.Moves.{can_allocate, can_allocate_pages}
+use Rattle.pas_realloc.proofs.moving.place.Goals as goal
+
+pub alloc_large-requires-clause-can : goal.alloc_large-requires-clause-can
+alloc_large-requires-clause-can g c = can_allocate_pages (cached c.args.cache.now) c.args.size c.args.align (g.D.Desk.spare_of c.args.desk.now) c.if-size-gt-MOST_BITFIT.true c.requires.can
+
+pub alloc-requires-clause-route : goal.alloc-requires-clause-route
+alloc-requires-clause-route g c = is_small c.args.size c.args.align c.if-size-gt-MOST_BITFIT.false
+
+pub alloc-requires-clause-can : goal.alloc-requires-clause-can
+alloc-requires-clause-can g c = can_allocate (cached c.args.cache.now) c.args.size c.args.align (g.D.Desk.spare_of c.args.desk.now) c.if-size-gt-MOST_BITFIT.false c.requires.can
+
+pub returns-then-size-gt-MOST_BITFIT-clause-serves : goal.returns-then-size-gt-MOST_BITFIT-clause-serves
+returns-then-size-gt-MOST_BITFIT-clause-serves g c =
+    serves_pages (cached c.args.cache.now) (cached c.alloc_large.new.self) c.args.heap c.args.size c.args.align c.if-size-gt-MOST_BITFIT.true
+    (c.alloc_large.ensures.allocates.2 c.args.align c.requires.admitted.aligned (is_large c.args.size c.args.align c.if-size-gt-MOST_BITFIT.true))
+
+pub returns-else-size-gt-MOST_BITFIT-clause-serves : goal.returns-else-size-gt-MOST_BITFIT-clause-serves
+returns-else-size-gt-MOST_BITFIT-clause-serves g c =
+    serves_small (cached c.args.cache.now) (cached c.alloc.new.self) c.args.heap c.args.size c.args.align c.if-size-gt-MOST_BITFIT.false c.alloc.ensures.allocates

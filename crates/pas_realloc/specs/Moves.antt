@@ -1,0 +1,77 @@
+-- How a block gets another size.
+use Rattle.std.specs.Prelude.{ℕ, ◌+◌, ◌%◌, ◌≤◌, ◌≡◌, max, nat_le, if◌then◌else◌, List, [], ◌++◌, length, Result, Ok, Err, MatchResult}
+use Rattle.pas_profile.specs.Runs.{address_of}
+use Rattle.pas_profile.specs.declared.event.NoRoom.{NoRoom}
+use Rattle.pas_profile.specs.declared.name.Block.{Block}
+use Rattle.pas_profile.specs.declared.profile.Profile.{Profile}
+use Rattle.pas_steps.specs.Desks.{Standing}
+use Rattle.pas_steps.specs.Kinds.{Only}
+use Rattle.pas_steps.specs.Unknown.{unknown_pages}
+use Rattle.pas_steps.specs.Views.{View}
+use Rattle.pas_steps.specs.declared.step.Made.{Made}
+use Rattle.pas_cache.specs.Caches.{Cached, AtRest}
+use Rattle.pas_free_log.specs.Logs.{entry_of}
+use Rattle.pas_cache.specs.Calls.{Rests, TakesEntry}
+use Rattle.pas_cache.specs.Kinds.{allocating}
+use Rattle.pas_cache.specs.Serves.{Wanted, ServesRequest, IsBlockFor}
+use Rattle.pas_cache.specs.declared.moving.Moved.{Moved}
+use Rattle.pas_cache.specs.declared.moving.Moved.TheVariants.{Kept, New}
+use Rattle.pas_answers.specs.Answers.{RefusalEnds}
+use Rattle.pas_steps.specs.Events.{events_by}
+use Rattle.pas_free_log.specs.declared.log.Entry.{Entry}
+
+-- the block has room for so many bytes, where none count as one, and stands at a multiple of the alignment
+abbrev pub Suits : Block → ℕ → ℕ → Type 0
+Suits old size align = (max size 1 ≤ old.room) × (address_of old.name % align ≡ 0)
+
+-- how many events the flush of a full log makes
+abbrev pub flush_of_full : List Entry → ℕ
+flush_of_full log = if nat_le 64 (length log) then 64 else 0
+
+-- the actor is at rest, and there is room for the request, the deeds that aren't known, and the flush of a full log
+pub record MayMove (f : Profile) (c : Cached) (cost spare : ℕ) (v : View) : Type 0 where
+  pub rest : AtRest f c v
+  pub room : cost + unknown_pages f v + flush_of_full c.log ≤ spare
+
+-- .. for the request alone
+pub record MayPlace (f : Profile) (c : Cached) (cost spare : ℕ) (v : View) : Type 0 where
+  pub rest : AtRest f c v
+  pub room : cost + unknown_pages f v ≤ spare
+
+-- It suits as it is: nothing was done.
+pub record Keeps (old : Block) (size align : ℕ) (c c' : Cached) (steps : List Made) : Type 0 where
+  pub suits : Suits old size align
+  pub no_steps : steps ≡ []
+  pub cache : c' ≡ c
+
+-- It doesn't, and the request for another block in its heap was served. Then the old name was logged, and is the last that is.
+pub record Replaces (f : Profile) (actor : ℕ) (wanted : Wanted) (old : Block) (size align : ℕ) (c c' : Cached) (steps : List Made) (block : Block) : Type 0 where
+  pub unsuited : Suits old size align → ⊥
+  pub placed : List Made
+  pub freed : List Made
+  pub between : Cached
+  pub serves : ServesRequest f wanted c between placed (Ok block)
+  pub kinds : Only allocating placed
+  pub block_for : IsBlockFor f wanted (AtRest f c) placed block
+  pub same_log : between.log ≡ c.log
+  pub logs : TakesEntry f actor between c' (entry_of old.name) freed
+  pub steps_are : steps ≡ freed ++ placed
+
+-- .. or was refused, and nothing was logged
+pub record CannotMove (f : Profile) (wanted : Wanted) (old : Block) (size align : ℕ) (c c' : Cached) (steps : List Made) (room : NoRoom) : Type 0 where
+  pub unsuited : Suits old size align → ⊥
+  pub serves : ServesRequest f wanted c c' steps (Err room)
+  pub kinds : Only allocating steps
+  pub ends : (k : ℕ) (v : View) → RefusalEnds wanted.route wanted.directory (events_by k v steps)
+  pub same_log : c'.log ≡ c.log
+
+abbrev pub IsMoved : Profile → ℕ → Wanted → Block → ℕ → ℕ → Cached → Cached → List Made → Result Moved NoRoom → Type 0
+IsMoved f actor wanted old size align c c' steps (Ok Kept) = Keeps old size align c c' steps
+IsMoved f actor wanted old size align c c' steps (Ok (New block)) = Replaces f actor wanted old size align c c' steps block
+IsMoved f actor wanted old size align c c' steps (Err room) = CannotMove f wanted old size align c c' steps room
+
+-- the actor is at rest before and afterwards
+pub record Moves (wanted : Wanted) (old : Block) (size align : ℕ) (c c' : Cached) (desk desk' : Standing) (answer : Result Moved NoRoom) : Type 0 where
+  pub steps : List Made
+  pub calls : Rests c c' desk desk' steps
+  pub moved : IsMoved desk.seat.profile desk.seat.actor wanted old size align c c' steps answer

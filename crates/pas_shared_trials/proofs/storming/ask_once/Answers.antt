@@ -1,0 +1,5 @@
+use Rattle.pas_shared_trials.proofs.Working.{works_on}
+use Rattle.pas_shared_trials.proofs.storming.ask_once.Goals as goal
+
+pub returns-in-Ok-clause-working : goal.returns-in-Ok-clause-working
+returns-in-Ok-clause-working g c = works_on c.args.room c.requires.working c.alloc.ensures.allocates.calls

@@ -1,0 +1,20 @@
+use Rattle.std.proofs.Common.{arith}
+use Rattle.pas_trials.proofs.Borrowed.{admitted, budget_call}
+use Rattle.pas_cache.proofs.Budget.{may_allocate, budget_left}
+use Rattle.pas_trials.proofs.sizing.borrow_and_end.Goals as goal
+
+pub alloc-block-requires-clause-admitted : goal.alloc-block-requires-clause-admitted
+alloc-block-requires-clause-admitted g c = admitted _ (g.met.D.Desk.valid c.args.desk.now)
+
+pub alloc-block-requires-clause-can : goal.alloc-block-requires-clause-can
+alloc-block-requires-clause-can g c = may_allocate 5 (omega arith) (budget_call c.requires.can)
+
+pub end_by_rooms-requires-clause-can : goal.end_by_rooms-requires-clause-can
+end_by_rooms-requires-clause-can g c =
+    let left = budget_left 3 c.alloc-block.ensures.allocates (budget_call c.requires.can) (λ v l s. g.met.D.Desk.spares c.args.desk.now v l s) (λ v l s. g.met.D.Desk.spares c.alloc-block.new.desk v l s) in
+    record { view = left.view; whole = left.whole; stood = left.stood; met = tt }
+
+pub end_by_rooms-requires-clause-room : goal.end_by_rooms-requires-clause-room
+end_by_rooms-requires-clause-room g c =
+    let left = budget_left 3 c.alloc-block.ensures.allocates (budget_call c.requires.can) (λ v l s. g.met.D.Desk.spares c.args.desk.now v l s) (λ v l s. g.met.D.Desk.spares c.alloc-block.new.desk v l s) in
+    let wide = left.met.room in omega (arith, wide)
