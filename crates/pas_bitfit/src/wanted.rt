@@ -7,7 +7,7 @@ use pas_search::Serving;
 use pas_steps::Desk;
 
 /// The run of free grains that a request wants: so many, 1 to 256, of which the first is a multiple of the alignment, 1 to 256 grains.
-#[derive(Clone, Copy, Debug, PartialEq, Eq)]
+#[derive(Clone, Copy, PartialEq, Eq)]
 pub struct Wanted {
     pub grains: u16,
     pub align: u16,

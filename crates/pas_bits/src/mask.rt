@@ -3,7 +3,7 @@ ghost use Rattle.std.specs.Prelude.{◌≡◌, ℕ, ◌<◌, ◌==◌, ◌&&◌,
 ghost use Rattle.pas_bits.specs.Masks.{is_set, set_count};
 
 /// A set of grains of a page, as 256 bits: bit g is bit `g % 64` of word `g / 64`. The words, lowest first, are read and given as they are.
-#[derive(Clone, Copy, PartialEq, Eq, Debug)]
+#[derive(Clone, Copy, PartialEq, Eq)]
 pub struct Mask4(pub [u64; 4]);
 
 impl Mask4 {

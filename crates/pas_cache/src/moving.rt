@@ -3,7 +3,7 @@
 use pas_profile::Block;
 
 /// What a block became that was asked to have another size.
-#[derive(Clone, Copy, Debug, PartialEq, Eq, Drop)]
+#[derive(Clone, Copy, PartialEq, Eq, Drop)]
 pub enum Moved {
     /// It suits as it is.
     Kept,

@@ -1,11 +1,11 @@
 -- Numbers that stand in front of a text are read back.
-use Rattle.std.proofs.Common.{◌≡◌, ℕ, zero, suc, ◌+◌, ◌-◌, ◌*◌, ◌/◌, ◌%◌, ◌^◌, ◌<◌, ◌≤◌, nat_lt, nat_le, Bool, true, false, if◌then◌else◌, ◌⊎◌, inl, inr, List, [], ◌∷◌, ◌++◌, length, refl, ap, sym, ◌∙◌, arith}
+use Rattle.std.proofs.Common.{◌≡◌, ℕ, zero, suc, ◌+◌, ◌-◌, ◌*◌, ◌/◌, ◌%◌, ◌^◌, ◌<◌, ◌≤◌, nat_lt, Bool, true, false, if◌then◌else◌, ◌⊎◌, inl, inr, List, [], ◌∷◌, ◌++◌, refl, ap, sym, ◌∙◌, arith}
 use Rattle.std.specs.Fmt.{decimal}
 use Rattle.std.proofs.lemmas.Bool.{and_parts, lt-ltb, le-ltb}
 use Rattle.std.proofs.lemmas.Bool.Decides.{nat_tests}
 use Rattle.std.proofs.lemmas.Grind.{pow_more}
 use Rattle.std.proofs.Math.Nat.{pow-le-pow_right, pow-suc, div-add-mod, div-div-eq-div-mul, mul-add, mul_comm, mul_assoc, mul_left_comm}
-use Rattle.pas_trace.specs.Numbers.{is_digit, all_digits, value_from, is_hex, hex_value}
+use Rattle.pas_trace.specs.Numbers.{is_digit, all_digits, value_from, hex_value}
 use Rattle.pas_generated.proofs.Digits.{are-digits}
 use Rattle.pas_report.specs.Lines.{hex_digit, hex_digits}
 use Rattle.pas_check.specs.Readings.{digits_after, past_digits, number_at, hex_after, small, of_u8, of_u32}

@@ -1,11 +1,10 @@
 -- How a check goes on, line by line, and how it ends.
-use Rattle.std.proofs.Common.{◌≡◌, ℕ, zero, suc, ◌+◌, ◌<◌, ◌≤◌, ◌⊎◌, List, [], ◌∷◌, ◌++◌, length, take, inl, inr, refl, ap, sym, subst, ◌∙◌, arith, append_assoc, length-append}
-use Rattle.std.specs.Prelude.{◌↔◌}
+use Rattle.std.proofs.Common.{◌≡◌, ℕ, suc, ◌+◌, List, [], ◌∷◌, ◌++◌, length, take, inl, inr, refl, ap, sym, subst, ◌∙◌, arith, append_assoc, length-append}
 use Rattle.std.proofs.Math.Seq.{take-append_seam}
 use Rattle.pas_profile.specs.declared.profile.Profile.{Profile}
 use Rattle.pas_check.specs.States.{Stand}
 use Rattle.pas_check.specs.Takes.{Takes}
-use Rattle.pas_check.specs.Accepted.{Goes, IsDone, MayGo, IsWhole, IsStopped}
+use Rattle.pas_check.specs.Accepted.{IsDone, MayGo, IsWhole, IsStopped}
 use Rattle.pas_check.specs.Going.{SoFar, AreAlike}
 
 append_none : (xs : List (List ℕ)) → xs ++ [] ≡ xs

@@ -1,5 +1,5 @@
 -- A line that may come leads to one state, where it answers what is due.
-use Rattle.std.proofs.Common.{◌≡◌, ◌≢◌, ℕ, ◌+◌, ◌-◌, ◌*◌, ◌/◌, ◌%◌, ◌^◌, ◌<◌, ◌≤◌, ◌==◌, ◌⊎◌, nat_le, nat_lt, Bool, true, false, ◌&&◌, if◌then◌else◌, List, [], ◌∷◌, Option, Some, None, inl, inr, refl, ap, sym, subst, ◌∙◌, arith}
+use Rattle.std.proofs.Common.{◌≡◌, ◌≢◌, ℕ, ◌+◌, ◌-◌, ◌/◌, ◌%◌, ◌^◌, ◌<◌, ◌≤◌, ◌==◌, nat_le, nat_lt, Bool, true, false, if◌then◌else◌, List, [], ◌∷◌, Option, Some, None, inl, inr, refl, ap, sym, subst, ◌∙◌, arith}
 use Rattle.std.proofs.lemmas.Bool.{eqb-true, le-leb, lt-ltb, and_from}
 use Rattle.std.proofs.lemmas.Option.{none-some}
 use Rattle.pas_profile.specs.Profiles.{IsPage, IsValid}
@@ -10,16 +10,16 @@ use Rattle.pas_profile.specs.declared.event.Outcome.{Outcome}
 use Rattle.pas_profile.specs.declared.event.Outcome.TheVariants.{Unbacked, Bare, Young, InUse, NotOffered}
 use Rattle.pas_profile.specs.declared.name.Block.{Block}
 use Rattle.pas_profile.specs.declared.profile.Profile.{Profile}
-use Rattle.pas_machine.specs.Machine.{Run, Admits, MayGive}
+use Rattle.pas_machine.specs.Machine.{Run, Admits}
 use Rattle.pas_machine.specs.State.{deed_in, backed_in}
-use Rattle.pas_report.specs.Lines.{line_of, line_of_event, line_of_answer}
+use Rattle.pas_report.specs.Lines.{line_of}
 use Rattle.pas_report.specs.declared.record.Record.{Record}
 use Rattle.pas_report.specs.declared.record.Said.{Said}
 use Rattle.pas_check.specs.Bounds.{FitsRequest, FitsFirst, IsSmall}
 use Rattle.pas_check.specs.Names.{Request}
-use Rattle.pas_check.specs.Ranges.{FitsName, FitsBlock, FitsEvent, FitsSaid, Fits}
+use Rattle.pas_check.specs.Ranges.{FitsEvent, FitsSaid, Fits}
 use Rattle.pas_check.specs.States.{Due, Writes, Frees, Serves, Examines, Shows, Stand, with_due, with_one, with_name}
-use Rattle.pas_check.specs.Takes.{IsPreparing, IsFor, IsRefusal, directory_of, MayCome, line_of_outcome, after_outcome, TakesEntry, TakesPreparing, TakesGive, TakesRefusal, TakesRequest, TakesOutcome, TakesPage, TakesDue}
+use Rattle.pas_check.specs.Takes.{IsPreparing, IsFor, IsRefusal, directory_of, MayCome, line_of_outcome, after_outcome, TakesRequest, TakesOutcome, TakesDue}
 use Rattle.pas_check.proofs.Entries.{one_event}
 use Rattle.pas_check.proofs.Readings.{one_line}
 

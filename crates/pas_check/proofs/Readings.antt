@@ -1,5 +1,5 @@
 -- THE LINE of a record is read as that record. So no two records whose numbers fit have one line.
-use Rattle.std.proofs.Common.{◌≡◌, ℕ, zero, suc, ◌+◌, ◌-◌, ◌*◌, ◌/◌, ◌%◌, ◌^◌, ◌<◌, ◌≤◌, ◌==◌, Bool, true, false, if◌then◌else◌, List, [], ◌∷◌, ◌++◌, length, drop, get_or, codes, refl, ap, sym, ◌∙◌, arith}
+use Rattle.std.proofs.Common.{◌≡◌, ℕ, zero, suc, ◌+◌, ◌-◌, ◌^◌, ◌<◌, ◌==◌, true, false, List, [], ◌∷◌, ◌++◌, length, drop, codes, refl, ap, sym, ◌∙◌, arith}
 use Rattle.std.specs.Fmt.{decimal}
 use Rattle.pas_profile.specs.Classes.{class_size}
 use Rattle.pas_profile.specs.Requests.{kind_of_route}
@@ -18,7 +18,7 @@ use Rattle.pas_profile.specs.declared.event.Why.TheVariants as Why
 use Rattle.pas_profile.specs.Runs.{address_of}
 use Rattle.pas_report.specs.declared.record.Said.{Said}
 use Rattle.pas_report.specs.declared.record.Record.{Record}
-use Rattle.pas_report.specs.Lines.{hex_digits, kind_text, name_text, deed_line, back_line, unback_line, give_line, freed_line, line_of, line_of_event, line_of_answer, CanShow}
+use Rattle.pas_report.specs.Lines.{hex_digits, kind_text, name_text, line_of, line_of_event, line_of_answer, CanShow}
 use Rattle.pas_check.specs.Ranges.{FitsName, FitsBlock, FitsEvent, FitsSaid, Fits}
 use Rattle.pas_check.specs.Readings.{number_at, past_digits, hex_after, byte_at, of_u8, of_u32, name_at, past_name, kind_at, directory_at, deed_at, back_at, unback_at, give_at, freed_at, held_at, in_use_at, young_at, size_differs_at, guarded_at, lowered_at, word_at, record_at}
 use Rattle.pas_check.proofs.Digits.{number_back, past_number, u8_back, u32_back, hex8_back, hex16_back}

@@ -1,5 +1,5 @@
 -- Lines that the machine judges, taken or not.
-use Rattle.std.proofs.Common.{◌≡◌, ◌≢◌, ℕ, ◌+◌, ◌^◌, ◌<◌, ◌≤◌, ◌⊎◌, Bool, true, false, List, [], ◌∷◌, Option, Some, None, inl, inr, refl, ap, sym, subst, ◌∙◌, arith}
+use Rattle.std.proofs.Common.{◌≡◌, ◌≢◌, ℕ, ◌^◌, ◌<◌, ◌≤◌, Bool, true, false, List, Option, Some, None, inl, inr, refl, ap, sym, subst, ◌∙◌, arith}
 use Rattle.std.specs.Prelude.{Result, Ok, Err, IfOk, IfSome}
 use Rattle.std.proofs.lemmas.Option.{none-some, same_Some}
 use Rattle.pas_profile.specs.declared.profile.Profile.{Profile}
@@ -10,7 +10,7 @@ use Rattle.pas_profile.specs.declared.name.Name.{Name}
 use Rattle.pas_profile.specs.declared.event.Event.{Event}
 use Rattle.pas_profile.specs.declared.event.Why.{Why}
 use Rattle.pas_profile.specs.Runs.{address_of}
-use Rattle.pas_machine.specs.Machine.{Run, Admits, IsReason}
+use Rattle.pas_machine.specs.Machine.{Run, Admits}
 use Rattle.pas_machine.specs.Machines.{profile_of, StandsFor}
 use Rattle.pas_machine.specs.State.{deed_in, backed_in}
 use Rattle.pas_machine.specs.Reasons.{IsFirst}
@@ -21,8 +21,8 @@ use Rattle.pas_report.specs.Lines.{line_of, line_of_event}
 use Rattle.pas_report.specs.declared.record.Record.{Record}
 use Rattle.pas_check.specs.Calls.{event_in, IsStepped, MayAnswer, EntryTaken, PreparingTaken}
 use Rattle.pas_check.specs.Ranges.{FitsEvent, FitsWhy}
-use Rattle.pas_check.specs.States.{Due, Stand, with_due, with_one}
-use Rattle.pas_check.specs.Takes.{NamesNoRoom, IsEventOf, IsPreparing, TakesEntry, TakesPreparing}
+use Rattle.pas_check.specs.States.{Stand}
+use Rattle.pas_check.specs.Takes.{NamesNoRoom, IsEventOf, IsPreparing}
 use Rattle.pas_check.proofs.Entries.{end_is, reject_is}
 
 pub not_stepped : (machine : Machine) (e : Event) (reason : Illegal) → ((es : List Event) → StandsFor machine es → IsFirst (profile_of machine) es e reason)

@@ -1,12 +1,11 @@
 -- A transcript has one verdict.
-use Rattle.std.proofs.Common.{◌≡◌, ℕ, zero, suc, ◌+◌, ◌-◌, ◌<◌, ◌≤◌, ◌⊎◌, List, [], ◌∷◌, length, take, inl, inr, refl, ap, sym, subst, ◌∙◌, arith}
+use Rattle.std.proofs.Common.{◌≡◌, ℕ, zero, suc, ◌+◌, ◌-◌, ◌<◌, ◌≤◌, List, [], ◌∷◌, length, take, inl, inr, refl, ap, subst, arith}
 use Rattle.std.proofs.lemmas.Bool.{cases_lt}
 use Rattle.pas_profile.specs.declared.profile.Profile.{Profile}
 use Rattle.pas_trace.specs.declared.plan.Plan.{Plan}
 use Rattle.pas_check.specs.Lines.{lines_in}
 use Rattle.pas_check.specs.States.{Stand, at_first}
-use Rattle.pas_check.specs.Takes.{Takes}
-use Rattle.pas_check.specs.Accepted.{Goes, IsDone, MayGo, IsWhole, IsStopped, IsVerdict}
+use Rattle.pas_check.specs.Accepted.{MayGo, IsWhole, IsStopped, IsVerdict}
 use Rattle.pas_check.specs.declared.verdict.Verdict.{Verdict}
 use Rattle.pas_check.specs.declared.verdict.Verdict.TheVariants.{Yes, No}
 

@@ -1,5 +1,5 @@
 -- Records whose numbers fit their places.
-use Rattle.std.specs.Prelude.{ℕ, ◌^◌, ◌<◌, List, [], ◌∷◌}
+use Rattle.std.specs.Prelude.{◌^◌, ◌<◌, List, [], ◌∷◌}
 use Rattle.pas_profile.specs.Directories.{IsKind}
 use Rattle.pas_profile.specs.declared.name.Name.{Name}
 use Rattle.pas_profile.specs.declared.name.Block.{Block}

@@ -3,7 +3,6 @@ use Rattle.std.proofs.Common.{◌≡◌, ◌≢◌, ℕ, ◌/◌, ◌==◌, ◌&
 use Rattle.std.proofs.lemmas.Bool.{eq-eqb, ne_eqb}
 use Rattle.pas_profile.specs.Lives.{live_word, is_live, turn_of}
 use Rattle.pas_profile.specs.declared.event.Event.{Event}
-use Rattle.pas_profile.specs.declared.event.Why.{Why}
 use Rattle.pas_profile.specs.declared.name.Name.{Name}
 use Rattle.pas_profile.specs.declared.profile.Profile.{Profile}
 use Rattle.pas_profile.specs.Runs.{in_run, meets_page, grain_of}
@@ -14,12 +13,11 @@ use Rattle.pas_steps.specs.Desks.{made}
 use Rattle.pas_steps.specs.Effects.{succeeds}
 use Rattle.pas_steps.specs.Events.{event_of, reason_of, sized_reason}
 use Rattle.pas_steps.specs.Kinds.{Ending, kind_of}
-use Rattle.pas_steps.specs.Views.{View, Stays, Ends, grain_move, epoch_after, ends_on}
+use Rattle.pas_steps.specs.Views.{View, Stays, Ends, grain_move, ends_on}
 use Rattle.pas_steps.specs.declared.step.Step.{Step}
 use Rattle.pas_steps.specs.declared.step.Step.TheVariants.{End, EndSized}
 use Rattle.pas_steps.proofs.Calls.{does_step, end_effect, EndsBlock, end_fails, end_succeeds}
 use Rattle.pas_free_log.specs.Conditions.{KnowsEpoch}
-use Rattle.pas_free_log.specs.Logs.{is_sized}
 use Rattle.pas_free_log.specs.Stamps.{stamped_by}
 use Rattle.pas_free_log.specs.Endings.{is_of, last_step, IsRefusedBy, reason_by}
 use Rattle.pas_free_log.specs.declared.log.Entry.{Entry}

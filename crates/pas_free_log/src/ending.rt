@@ -14,7 +14,7 @@ use pas_profile::{Directory, Kind, Name, Word, life_word, read_deed, read_life};
 use pas_steps::Desk;
 
 /// What came of the end of a name.
-#[derive(Clone, Copy, Debug, PartialEq, Eq, Drop)]
+#[derive(Clone, Copy, PartialEq, Eq, Drop)]
 pub enum Outcome {
     /// A block of so many grains ended. The actor holds them.
     Ended { grains: u32 },

@@ -7,7 +7,7 @@ use pas_profile::Name;
 use pas_profile::limits::MOST_LOGGED;
 
 /// What a log holds of a free: the name of the block, and the room that it was freed with, or 0 where none was named.
-#[derive(Clone, Copy, Debug, Default, PartialEq, Eq, Drop)]
+#[derive(Clone, Copy, Default, PartialEq, Eq, Drop)]
 pub struct Entry {
     pub name: Name,
     pub room: u32,

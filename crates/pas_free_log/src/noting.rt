@@ -7,7 +7,7 @@ use pas_profile::limits::{MOST_LOGGED, PAGE_BYTES, PAGE_GRAINS};
 use pas_profile::{Directory, Kind, Name, Range};
 
 /// The pages of a large block that ended, and the heap that they are of.
-#[derive(Clone, Copy, Debug, PartialEq, Eq, Drop)]
+#[derive(Clone, Copy, PartialEq, Eq, Drop)]
 pub struct EndedRun {
     pub heap: u8,
     pub range: Range,

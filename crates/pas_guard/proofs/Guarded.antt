@@ -1,19 +1,18 @@
 -- A guard that is up stays as it is, step by step.
-use Rattle.std.proofs.Common.{◌≡◌, ◌≢◌, ℕ, ◌+◌, ◌/◌, ◌==◌, Bool, true, false, ◌&&◌, if◌then◌else◌, List, [], ◌∷◌, ◌++◌, refl, ap, sym, ◌∙◌, subst, true≢false, arith, inl, inr}
+use Rattle.std.proofs.Common.{◌≡◌, ◌≢◌, ℕ, ◌+◌, ◌/◌, ◌==◌, Bool, true, false, if◌then◌else◌, List, [], ◌∷◌, ◌++◌, refl, ap, sym, ◌∙◌, subst, true≢false, inl, inr}
 use Rattle.std.proofs.lemmas.Bool.{cases_Bool, eqb-true}
 use Rattle.pas_profile.specs.Directories.{deed_word_of}
 use Rattle.pas_profile.specs.Layouts.{same_word}
 use Rattle.pas_profile.specs.Profiles.{IsValid}
-use Rattle.pas_profile.specs.Runs.{in_run, grain_of, length_of}
+use Rattle.pas_profile.specs.Runs.{grain_of}
 use Rattle.pas_profile.specs.declared.directory.Directory.{Directory}
 use Rattle.pas_profile.specs.declared.profile.Profile.{Profile}
-use Rattle.pas_profile.specs.declared.word.Word.{Word}
 use Rattle.pas_profile.specs.declared.word.Word.TheVariants as Words
 use Rattle.pas_profile.proofs.Codecs.{deed_word_of-positive}
 use Rattle.pas_steps.specs.Allowed.{Allowed}
 use Rattle.pas_steps.specs.Effects.{target, new_value}
 use Rattle.pas_steps.specs.Lists.{Triple, Whole, part, word_after, IsNext, Legal}
-use Rattle.pas_steps.specs.Views.{View, Move, Stays, Gives, held_after, grain_move, holds, epoch_of, known_deed, KnowsDeed}
+use Rattle.pas_steps.specs.Views.{View, Stays, Gives, held_after, grain_move, holds, epoch_of, known_deed, KnowsDeed}
 use Rattle.pas_steps.specs.declared.step.Made.{Made}
 use Rattle.pas_steps.specs.declared.step.Step.{Step}
 use Rattle.pas_steps.specs.declared.step.Step.TheVariants.{Look, Back, Give, Unback}

@@ -1,13 +1,12 @@
 -- A run that is held is guarded.
-use Rattle.std.proofs.Common.{◌≡◌, ℕ, ◌+◌, ◌*◌, ◌/◌, ◌<◌, ◌≤◌, ◌^◌, ◌==◌, nat_le, nat_lt, Bool, true, false, ◌||◌, ◌&&◌, if◌then◌else◌, List, [], ◌∷◌, ◌++◌, length, inl, inr, refl, ap, sym, ◌∙◌, subst, arith, length-append, append_assoc}
+use Rattle.std.proofs.Common.{◌≡◌, ℕ, ◌+◌, ◌/◌, ◌<◌, ◌^◌, ◌==◌, Bool, true, false, ◌||◌, if◌then◌else◌, List, ◌++◌, length, inl, refl, ap, sym, ◌∙◌, subst, arith, length-append, append_assoc}
 use Rattle.std.proofs.lemmas.Bool.Decides.{nat_tests}
 use Rattle.pas_profile.specs.declared.directory.Directory.{Directory}
 use Rattle.pas_profile.specs.declared.name.Block.{Block}
 use Rattle.pas_rights.specs.Leaves.{MayLeave, Leaves}
-use Rattle.pas_rights.specs.Returns.{Settles}
-use Rattle.pas_steps.specs.Calls.{Calls, Kept, Lost, now, later, ClearAfter, Does, on_page, and_then}
+use Rattle.pas_steps.specs.Calls.{Calls, Kept, Lost, now, ClearAfter, Does, on_page}
 use Rattle.pas_steps.specs.Desks.{Standing, CanCall}
-use Rattle.pas_steps.specs.Kinds.{returning, Only}
+use Rattle.pas_steps.specs.Kinds.{returning}
 use Rattle.pas_steps.specs.Views.{View, has_right, KnowsDeed}
 use Rattle.pas_steps.specs.declared.step.Made.{Made}
 use Rattle.pas_steps.proofs.Apart.{only_both}
@@ -16,8 +15,7 @@ use Rattle.pas_steps.proofs.Calls.{does_as, does_then, returns_are}
 use Rattle.pas_steps.proofs.Sets.{both_fates, kept_kept}
 use Rattle.pas_large.specs.Claims.{in_span, HasPages}
 use Rattle.pas_large.specs.Gives.{GaveRun, GivesRun, give_steps}
-use Rattle.pas_large.specs.Pages.{of_pages}
-use Rattle.pas_large.proofs.Claims.{call_knowing, span_in, in_parts}
+use Rattle.pas_large.proofs.Claims.{call_knowing, span_in}
 use Rattle.pas_guard.specs.Guards.{given_and_left, GuardedRun, GuardsRun}
 
 inner_in : (first k p : ℕ) → in_span (first + 1) (first + 1 + k) p ≡ true → in_span first (first + (k + 2)) p ≡ true

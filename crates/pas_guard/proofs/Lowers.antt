@@ -1,17 +1,17 @@
 -- A guard is lowered.
-use Rattle.std.proofs.Common.{◌≡◌, ◌≢◌, ℕ, ◌+◌, ◌/◌, ◌≤◌, ◌==◌, Bool, true, false, ◌||◌, if◌then◌else◌, List, [], ◌∷◌, ◌++◌, length, inl, inr, refl, ap, sym, ◌∙◌, subst, arith, length-append, true≢false}
-use Rattle.std.proofs.lemmas.Bool.{cases_Bool, eqb-true, eq-eqb, ne_eqb}
+use Rattle.std.proofs.Common.{◌≡◌, ℕ, ◌+◌, ◌/◌, ◌==◌, Bool, true, false, ◌||◌, if◌then◌else◌, List, [], ◌∷◌, ◌++◌, length, inl, refl, ap, sym, ◌∙◌, subst, arith, length-append}
+use Rattle.std.proofs.lemmas.Bool.{eqb-true, eq-eqb, ne_eqb}
 use Rattle.pas_profile.specs.declared.directory.Directory.{Directory}
 use Rattle.pas_profile.specs.declared.profile.Profile.{Profile}
-use Rattle.pas_rights.specs.Puts.{masked, MayPut, PutsMask}
+use Rattle.pas_rights.specs.Puts.{masked, PutsMask}
 use Rattle.pas_rights.specs.Returns.{Returned, Settles}
 use Rattle.pas_scan.specs.Runs.{large_directory}
 use Rattle.pas_segregated.specs.Returns.{giving_back}
 use Rattle.pas_steps.specs.Calls.{Calls, Kept, Lost, now, later, ClearAfter, put, Does}
 use Rattle.pas_steps.specs.Clear.{IsClearOn}
-use Rattle.pas_steps.specs.Desks.{Seat, Standing, CanCall}
+use Rattle.pas_steps.specs.Desks.{Standing, CanCall}
 use Rattle.pas_steps.specs.Frames.{IsOnPage}
-use Rattle.pas_steps.specs.Kinds.{Putting, returning, Only}
+use Rattle.pas_steps.specs.Kinds.{Putting, returning}
 use Rattle.pas_steps.specs.Views.{View, holds, KnowsDeed}
 use Rattle.pas_steps.specs.declared.step.Made.{Made}
 use Rattle.pas_steps.proofs.Apart.{only_both, only_within, deeds_same, unstamped_same, examines_same}
@@ -21,7 +21,7 @@ use Rattle.pas_steps.proofs.Kept.{returns_on}
 use Rattle.pas_steps.proofs.Past.{always_both}
 use Rattle.pas_steps.proofs.Sets.{both_fates, kept_kept}
 use Rattle.pas_large.proofs.Claims.{full, on_full}
-use Rattle.pas_guard.specs.Books.{is_outer_of, IsGuardOf, KnowsGuard}
+use Rattle.pas_guard.specs.Books.{is_outer_of}
 use Rattle.pas_guard.specs.Lowers.{MayPutBack, put_back, PutsBack, MayLower, lowered, Lowers}
 use Rattle.pas_guard.specs.declared.book.Guard.{Guard}
 

@@ -1,17 +1,14 @@
 -- A guard goes up, and the actor fits the book still.
-use Rattle.std.proofs.Common.{◌≡◌, ◌≢◌, ℕ, ◌+◌, ◌*◌, ◌/◌, ◌<◌, ◌≤◌, ◌==◌, nat_le, nat_lt, Bool, true, false, ◌||◌, ◌&&◌, if◌then◌else◌, List, [], ◌∷◌, ◌++◌, length, inl, inr, refl, ap, sym, ◌∙◌, subst, arith, length-append, append_assoc, true≢false, Some, None}
-use Rattle.std.proofs.lemmas.Bool.{cases_Bool, cases_eq, eqb-true, eq-eqb, ne_eqb}
+use Rattle.std.proofs.Common.{◌≡◌, ◌≢◌, ℕ, ◌+◌, ◌*◌, ◌/◌, ◌<◌, ◌≤◌, ◌==◌, Bool, true, false, ◌||◌, if◌then◌else◌, List, [], ◌∷◌, ◌++◌, length, inl, inr, refl, ap, sym, ◌∙◌, subst, arith, length-append, append_assoc, true≢false, Some, None}
+use Rattle.std.proofs.lemmas.Bool.{cases_Bool, eqb-true, eq-eqb, ne_eqb}
 use Rattle.std.proofs.lemmas.Bool.Decides.{nat_tests}
-use Rattle.pas_profile.specs.Profiles.{IsPage}
 use Rattle.pas_profile.specs.Runs.{address_of, grain_of}
 use Rattle.pas_profile.specs.declared.directory.Directory.{Directory}
 use Rattle.pas_profile.specs.declared.name.Block.{Block}
 use Rattle.pas_profile.specs.declared.profile.Profile.{Profile}
 use Rattle.pas_scan.specs.Runs.{large_directory}
-use Rattle.pas_steps.specs.Agreement.{Agreed}
-use Rattle.pas_steps.specs.Calls.{Calls, Leads, Kept, Gained, Lost, now, nothing, Does}
-use Rattle.pas_steps.specs.Desks.{Seat, Standing, CanCall}
-use Rattle.pas_steps.specs.Unknown.{unknown_pages}
+use Rattle.pas_steps.specs.Calls.{Calls, Kept, Gained, Lost, now, nothing, Does}
+use Rattle.pas_steps.specs.Desks.{Standing, CanCall}
 use Rattle.pas_steps.specs.Kinds.{Kinds, Backing, Only, is_in, kind_of, returning}
 use Rattle.pas_steps.specs.declared.step.Step.TheVariants.{Back, Give}
 use Rattle.pas_steps.proofs.Past.{always_map, always_both}
@@ -21,7 +18,7 @@ use Rattle.pas_guard.proofs.Seeks.{steady_kinds}
 use Rattle.pas_steps.specs.Views.{View, Stays, Gives, grain_move, holds, has_right, known_deed, KnowsDeed}
 use Rattle.pas_steps.specs.declared.step.Made.{Made}
 use Rattle.pas_steps.proofs.Adding.{adds_under, agreed_first, agreed_later, adds_call}
-use Rattle.pas_steps.proofs.Called.{call_then, next_call}
+use Rattle.pas_steps.proofs.Called.{next_call}
 use Rattle.pas_steps.proofs.Calls.{leads_at}
 use Rattle.pas_steps.proofs.Kept.{knows_still}
 use Rattle.pas_steps.proofs.SpareRoom.{Spares}
@@ -31,8 +28,8 @@ use Rattle.pas_large.specs.Gives.{give_steps, run_block}
 use Rattle.pas_large.proofs.Claims.{has_got, room_after, span_in, steady_both}
 use Rattle.pas_guard.specs.Books.{is_outer_of, is_outer, AreApart, Each, IsGuardOf, KnowsGuard, FitsBook}
 use Rattle.pas_guard.specs.Guards.{GuardedRun, GuardsRun}
-use Rattle.pas_guard.specs.Raises.{BacksNot, RaiseRoom, guard_of, IsRaised, IsNotRaised, Raises}
-use Rattle.pas_guard.specs.Seeks.{seeking, HoldsWhole, HasSpan, SoughtRun, Seeks}
+use Rattle.pas_guard.specs.Raises.{BacksNot, RaiseRoom, guard_of, Raises}
+use Rattle.pas_guard.specs.Seeks.{seeking, HoldsWhole, HasSpan, Seeks}
 use Rattle.pas_guard.specs.declared.book.Guard.{Guard}
 
 -- ---- books with a guard more

@@ -1,5 +1,5 @@
 -- A sweep over the guards that are up, one guard more.
-use Rattle.std.proofs.Common.{◌≡◌, ◌≢◌, ℕ, zero, suc, ◌+◌, ◌/◌, ◌%◌, ◌<◌, ◌≤◌, ◌==◌, Bool, true, false, ◌||◌, if◌then◌else◌, MatchBool, ◌⊎◌, List, [], ◌∷◌, ◌++◌, length, inl, inr, refl, ap, sym, ◌∙◌, subst, arith, append_assoc, append-nil, length-append, true≢false}
+use Rattle.std.proofs.Common.{◌≡◌, ◌≢◌, ℕ, ◌+◌, ◌/◌, ◌<◌, ◌≤◌, ◌==◌, Bool, true, false, ◌||◌, if◌then◌else◌, ◌⊎◌, List, [], ◌∷◌, ◌++◌, length, inl, inr, refl, ap, sym, ◌∙◌, subst, arith, append_assoc, append-nil, length-append, true≢false}
 use Rattle.std.specs.Prelude.{remove, slice_index_or}
 use Rattle.std.proofs.lemmas.Bool.{cases_Bool, eqb-true, eq-eqb, ne_eqb}
 use Rattle.pas_profile.specs.Profiles.{IsPage}
@@ -7,21 +7,19 @@ use Rattle.pas_profile.specs.Runs.{address_of}
 use Rattle.pas_profile.specs.declared.profile.Profile.{Profile}
 use Rattle.pas_report.specs.declared.record.Record.{Record}
 use Rattle.pas_scan.specs.Runs.{large_directory}
-use Rattle.pas_steps.specs.Agreement.{Agreed}
-use Rattle.pas_steps.specs.Calls.{Calls, Leads, Kept, Lost, now, nothing, Does}
-use Rattle.pas_steps.specs.Desks.{Seat, Standing, Anything, Adds, CanCall, made}
-use Rattle.pas_steps.specs.Kinds.{Kinds, LookLife, Only}
-use Rattle.pas_steps.specs.Lists.{Whole}
-use Rattle.pas_steps.specs.Views.{View, holds, has_right, KnowsDeed}
+use Rattle.pas_steps.specs.Calls.{Calls, Leads, Kept, Lost, now, Does}
+use Rattle.pas_steps.specs.Desks.{Seat, Standing, Anything, CanCall}
+use Rattle.pas_steps.specs.Kinds.{LookLife}
+use Rattle.pas_steps.specs.Views.{View, has_right, KnowsDeed}
 use Rattle.pas_steps.specs.declared.step.Made.{Made}
-use Rattle.pas_steps.proofs.Adding.{adds_none, adds_call, agreed_first, agreed_later}
+use Rattle.pas_steps.proofs.Adding.{adds_call, agreed_first, agreed_later}
 use Rattle.pas_steps.proofs.Called.{call_none, next_call}
 use Rattle.pas_steps.proofs.Calls.{does_idly, leads_at}
 use Rattle.pas_steps.proofs.Kept.{knows_still}
 use Rattle.pas_large.specs.Claims.{StaysPut}
 use Rattle.pas_large.proofs.Claims.{steady_on, steady_both}
 use Rattle.pas_guard.specs.Books.{is_outer_of, is_outer, AreApart, Each, IsGuardOf, KnowsGuard, FitsBook}
-use Rattle.pas_guard.specs.Lowers.{LowerSteps, MayLower, lowered, Lowers}
+use Rattle.pas_guard.specs.Lowers.{MayLower, lowered, Lowers}
 use Rattle.pas_guard.specs.Sweeps.{is_over, life_look, LooksOver, lowered_record, SweptOne, Swept, Sweeps}
 use Rattle.pas_guard.specs.declared.book.Guard.{Guard}
 use Rattle.pas_guard.proofs.Raises.{each_map}

@@ -1,6 +1,6 @@
 -- What shows that a run can't be guarded, over the steps of one call, the newest first, from the view v on. A run has an outer page at each end and k
 -- pages between them.
-use Rattle.std.specs.Prelude.{ℕ, ◌+◌, ◌/◌, ◌≡◌, ◌≢◌, ◌⊎◌, true, List, ◌++◌}
+use Rattle.std.specs.Prelude.{ℕ, ◌+◌, ◌/◌, ◌≡◌, ◌⊎◌, true, List, ◌++◌}
 use Rattle.pas_profile.specs.declared.directory.Directory.{Directory}
 use Rattle.pas_profile.specs.declared.word.Word.TheVariants as Word
 use Rattle.pas_steps.specs.Views.{View, holds}

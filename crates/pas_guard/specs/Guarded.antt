@@ -1,12 +1,11 @@
 -- Pages that one actor holds whole, from one place of a legal list to a later one.
-use Rattle.std.specs.Prelude.{ℕ, ◌+◌, ◌/◌, ◌≡◌, ◌==◌, true, List, [], ◌∷◌, ◌++◌}
+use Rattle.std.specs.Prelude.{ℕ, ◌/◌, ◌≡◌, ◌==◌, true, [], ◌∷◌}
 use Rattle.pas_profile.specs.Directories.{deed_word_of}
 use Rattle.pas_profile.specs.Runs.{in_run, grain_of, length_of}
 use Rattle.pas_profile.specs.declared.directory.Directory.{Directory}
 use Rattle.pas_profile.specs.declared.name.Block.{Block}
-use Rattle.pas_profile.specs.declared.profile.Profile.{Profile}
 use Rattle.pas_profile.specs.declared.word.Word.TheVariants as Word
-use Rattle.pas_steps.specs.Lists.{Triple, Whole, part, word_after}
+use Rattle.pas_steps.specs.Lists.{Whole, part, word_after}
 use Rattle.pas_steps.specs.Views.{Stays, grain_move, holds}
 use Rattle.pas_steps.specs.declared.step.Made.{Made}
 use Rattle.pas_steps.specs.declared.step.Step.{Step}

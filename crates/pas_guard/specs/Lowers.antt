@@ -1,10 +1,8 @@
 -- A guard is lowered: its outer pages are put back.
-use Rattle.std.specs.Prelude.{ℕ, ◌+◌, ◌/◌, ◌≤◌, ◌≡◌, ◌==◌, true, ◌||◌, if◌then◌else◌, List, [], ◌∷◌, ◌++◌, length}
+use Rattle.std.specs.Prelude.{ℕ, ◌+◌, ◌/◌, ◌≤◌, ◌≡◌, ◌==◌, true, if◌then◌else◌, List, ◌++◌, length}
 use Rattle.pas_profile.specs.declared.directory.Directory.{Directory}
 use Rattle.pas_profile.specs.declared.profile.Profile.{Profile}
 use Rattle.pas_rights.specs.Returns.{ReturnSteps}
-use Rattle.pas_rights.specs.Puts.{PutsBelow}
-use Rattle.pas_scan.specs.Runs.{large_directory}
 use Rattle.pas_segregated.specs.Returns.{giving_back}
 use Rattle.pas_steps.specs.Calls.{Calls, Effect, Kept, Lost, Does}
 use Rattle.pas_steps.specs.Clear.{IsClearOn, IsClear}

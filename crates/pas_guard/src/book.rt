@@ -5,7 +5,7 @@ use pas_profile::{Block, NoMemory};
 use std::alloc::Global;
 
 /// A block that stands between two pages that aren't backed, which are held whole.
-#[derive(Clone, Copy, Debug, PartialEq, Eq, Drop)]
+#[derive(Clone, Copy, PartialEq, Eq, Drop)]
 pub struct Guard {
     pub low: u32,
     pub high: u32,

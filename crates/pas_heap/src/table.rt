@@ -7,7 +7,7 @@ ghost use Rattle.pas_heap.specs.Heaps.{marks_of, is_marked};
 use pas_profile::{Directory, Kind, Profile};
 
 /// Which heaps of a profile are served by shared pages. Heap 0 is the common primitive heap.
-#[derive(Clone, Copy, Debug, PartialEq, Eq, Drop)]
+#[derive(Clone, Copy, PartialEq, Eq, Drop)]
 pub struct HeapTable {
     /// Bit h is set where heap h is declared as shared.
     shared: u32,

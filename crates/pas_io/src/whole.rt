@@ -48,7 +48,7 @@ fn fill<S: Source>(source: &mut S, buffer: &mut [u8], start: usize) -> Result<us
 }
 
 /// What a source gave.
-#[derive(Debug, Drop)]
+#[derive(Drop)]
 pub enum Input {
     /// All its bytes, of which there are at most the limit.
     Whole(Vec<u8>),

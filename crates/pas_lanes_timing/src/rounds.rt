@@ -5,7 +5,7 @@ use crate::{MOST_WORDS, plain};
 use pas_lanes::{all_zero, any_and_not, count_ones, first_set};
 
 /// Which of the four calls.
-#[derive(Clone, Copy, PartialEq, Eq, Debug)]
+#[derive(Clone, Copy, PartialEq, Eq)]
 pub enum Call {
     FirstSet,
     CountOnes,
@@ -14,7 +14,7 @@ pub enum Call {
 }
 
 /// A job: the call, whether in lanes, and how often.
-#[derive(Clone, Copy, Debug)]
+#[derive(Clone, Copy)]
 pub struct Rounds {
     pub call: Call,
     pub in_lanes: bool,

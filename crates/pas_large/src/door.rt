@@ -29,7 +29,7 @@ pub trait Door {
 }
 
 /// No heap has an index.
-#[derive(Clone, Copy, Debug, PartialEq, Eq, Drop)]
+#[derive(Clone, Copy, PartialEq, Eq, Drop)]
 pub struct NoIndex;
 
 impl Door for NoIndex {

@@ -1,12 +1,12 @@
 -- The first pages of a range are taken out.
-use Rattle.std.proofs.Common.{◌≡◌, ℕ, ◌+◌, ◌-◌, ◌<◌, ◌≤◌, ◌⊎◌, ◌==◌, nat_lt, nat_le, Bool, true, false, not, ◌&&◌, ◌||◌, if◌then◌else◌, List, [], ◌∷◌, ◌++◌, Option, Some, None, inl, inr, refl, ap, sym, ◌∙◌, subst, arith, true≢false}
-use Rattle.std.proofs.lemmas.Bool.{cases_Bool, cases_lt, cases_eq, eqb-true, eqb-false, eq-eqb, ne_eqb, or_left, or_right}
+use Rattle.std.proofs.Common.{◌≡◌, ℕ, ◌+◌, ◌-◌, ◌<◌, ◌≤◌, nat_le, Bool, true, false, not, ◌&&◌, ◌||◌, if◌then◌else◌, List, [], ◌∷◌, ◌++◌, Some, None, inl, inr, refl, ap, sym, ◌∙◌, subst, arith, true≢false}
+use Rattle.std.proofs.lemmas.Bool.{cases_Bool, cases_lt, cases_eq, eq-eqb, ne_eqb}
 use Rattle.std.proofs.lemmas.Bool.Decides.{nat_tests}
 use Rattle.pas_large_index.specs.declared.span.Span.{Span}
-use Rattle.pas_large_index.specs.Spans.{in_span, has_page, AreApart, lowest_fit, left_of, cut_at, cut_lowest, IsPlaceOf}
+use Rattle.pas_large_index.specs.Spans.{in_span, has_page, AreApart, lowest_fit, left_of, cut_at, cut_lowest}
 use Rattle.pas_large_index.specs.Sets.{FitsAt, HasFewer}
-use Rattle.pas_large_index.proofs.Spans.{span_in, span_below, span_past, none_below, above_low, apart_from, lt_is, lt_isnt, le_is, le_isnt, is_lt, isnt_lt}
-use Rattle.pas_large_index.proofs.Fits.{fit_step, no_fit, fits_here, fits_later}
+use Rattle.pas_large_index.proofs.Spans.{span_below, span_past, above_low, apart_from, is_lt, isnt_lt}
+use Rattle.pas_large_index.proofs.Fits.{fit_step, fits_here, fits_later}
 
 -- so many pages from this one on
 abbrev pub from_to : ℕ → ℕ → Span

@@ -1,14 +1,14 @@
 -- Places in a list of ranges, and one range more that was looked at.
-use Rattle.std.proofs.Common.{◌≡◌, ◌≢◌, ℕ, ◌+◌, ◌-◌, ◌<◌, ◌≤◌, min, nat_le, nat_lt, true, false, if◌then◌else◌, List, [], ◌∷◌, ◌++◌, length, get_or, set, take, drop, Option, Some, None, inl, inr, refl, ap, sym, ◌∙◌, subst, arith, append_assoc, length-set, zero, suc}
-use Rattle.std.specs.List.{remove, insert, refill}
-use Rattle.std.proofs.lemmas.Bool.{cases_lt, cases_eq}
+use Rattle.std.proofs.Common.{◌≡◌, ◌≢◌, ℕ, ◌+◌, ◌-◌, ◌<◌, ◌≤◌, min, nat_le, true, false, List, [], ◌∷◌, ◌++◌, length, get_or, set, take, drop, Option, Some, inl, inr, refl, ap, sym, ◌∙◌, subst, arith, append_assoc, length-set, zero, suc}
+use Rattle.std.specs.List.{remove, refill}
+use Rattle.std.proofs.lemmas.Bool.{cases_lt}
 use Rattle.std.proofs.lemmas.Bool.Decides.{nat_tests}
-use Rattle.std.proofs.lemmas.List.{drop_more, drop_all, take_more, take_at, drop_at, set_split, drop-drop, length-take-le, append-nil, get_or_default}
+use Rattle.std.proofs.lemmas.List.{drop_more, drop_all, take_more, take_at, set_split, drop-drop, length-take-le}
 use Rattle.arrayvec.proofs.ArrayVecLemmas.{items-with_items}
 use Rattle.pas_large_index.specs.declared.span.Span.{Span}
 use Rattle.pas_large_index.specs.Spans.{has_page, AreApart, hull, joined, lowest_fit, left_of, cut_at, EndsFrom, IsPlaceOf}
 use Rattle.pas_large_index.specs.Sets.{FitsAt}
-use Rattle.pas_large_index.proofs.Spans.{apart_from, above_low, joins_later, joins_before, joins_into, is_lt, isnt_lt, le_is, le_isnt}
+use Rattle.pas_large_index.proofs.Spans.{apart_from, above_low, joins_later, joins_before, joins_into, is_lt, isnt_lt}
 use Rattle.pas_large_index.proofs.Fits.{fit_step, fits_here, fits_later, no_fit, IsFound, lowest_found}
 use Rattle.pas_large_index.proofs.Cuts.{cuts_here, cuts_later, leaves_some, leaves_none}
 

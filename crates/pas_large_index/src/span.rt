@@ -5,7 +5,7 @@ ghost use Rattle.pas_large_index.specs.Spans.{span_of, hull};
 use pas_profile::Range;
 
 /// Pages that follow each other: the first one, and the one behind the last.
-#[derive(Clone, Copy, Debug, Default, PartialEq, Eq, Drop)]
+#[derive(Clone, Copy, Default, PartialEq, Eq, Drop)]
 pub struct Span {
     pub first: u32,
     pub end: u32,

@@ -10,10 +10,8 @@ use Rattle.pas_bits.specs.Masks.{is_set, HasMember}
 use Rattle.pas_rights.specs.Leaves.{MayLeave, Leaves}
 use Rattle.pas_steps.specs.Calls.{Calls, Kept, Gained, now}
 use Rattle.pas_steps.specs.Desks.{Standing, CanCall}
-use Rattle.pas_steps.specs.Kinds.{returning}
 use Rattle.pas_steps.specs.Views.{View, holds, has_right, knows_backed}
 use Rattle.pas_steps.specs.declared.step.Made.{Made}
-use Rattle.pas_steps.proofs.Apart.{events_same}
 use Rattle.pas_steps.proofs.Called.{call_knows, call_then, next_call}
 use Rattle.pas_steps.proofs.Calls.{returns_are}
 use Rattle.pas_search.specs.Searches.{MaySearch, SearchRoom, Searches}

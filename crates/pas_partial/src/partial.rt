@@ -10,7 +10,7 @@ use pas_segregated::{covered, whole_slots};
 use pas_steps::Desk;
 
 /// Shared pages, as a class sees them.
-#[derive(Clone, Copy, Debug, PartialEq, Eq)]
+#[derive(Clone, Copy, PartialEq, Eq)]
 pub struct Partial {
     pub class: u8,
 }

@@ -3,7 +3,7 @@ ghost use Rattle.std.specs.Prelude.{◌≡◌, ◌<◌, ◌^◌};
 ghost use Rattle.pas_profile.specs.Directories.{IsDirectory, deed_word_of, directory_read};
 
 /// What a page serves: blocks of one class, bit-fit blocks of mixed sizes, partial views of several classes, or whole pages.
-#[derive(Clone, Copy, Debug, PartialEq, Eq, Drop)]
+#[derive(Clone, Copy, PartialEq, Eq, Drop)]
 pub enum Kind {
     Class(u8),
     Bitfit,
@@ -12,7 +12,7 @@ pub enum Kind {
 }
 
 /// How a request is served: by a page of a class, by a bit-fit page, or by whole pages.
-#[derive(Clone, Copy, Debug, PartialEq, Eq, Drop)]
+#[derive(Clone, Copy, PartialEq, Eq, Drop)]
 pub enum Route {
     Class(u8),
     Bitfit,
@@ -20,7 +20,7 @@ pub enum Route {
 }
 
 /// A heap and a kind. The deed of a page is its directory, written once and never changed.
-#[derive(Clone, Copy, Debug, PartialEq, Eq, Drop)]
+#[derive(Clone, Copy, PartialEq, Eq, Drop)]
 pub struct Directory {
     pub heap: u8,
     pub kind: Kind,

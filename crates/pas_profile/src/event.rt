@@ -6,7 +6,7 @@ use crate::directory::Directory;
 use crate::name::{Block, Name};
 
 /// Why the end of a name was refused: its block had ended before, no such block lives, or it lives with another room than the one that was named.
-#[derive(Clone, Copy, Debug, PartialEq, Eq, Drop)]
+#[derive(Clone, Copy, PartialEq, Eq, Drop)]
 pub enum Why {
     Ended,
     NoBlock,
@@ -14,7 +14,7 @@ pub enum Why {
 }
 
 /// An event of the machine. Actor 0 is the scavenger, the threads are the actors from 1 on.
-#[derive(Clone, Copy, Debug, PartialEq, Eq, Drop)]
+#[derive(Clone, Copy, PartialEq, Eq, Drop)]
 pub enum Event {
     /// The page has this directory from now on.
     Deed {
@@ -67,7 +67,7 @@ pub enum FreeFault {
 }
 
 /// What a scavenger's pass came to on one hinted page.
-#[derive(Clone, Copy, Debug, PartialEq, Eq, Drop)]
+#[derive(Clone, Copy, PartialEq, Eq, Drop)]
 pub enum Outcome {
     Unbacked,
     Bare,
@@ -77,7 +77,7 @@ pub enum Outcome {
 }
 
 /// Pages that follow each other, from the first on.
-#[derive(Clone, Copy, Debug, PartialEq, Eq, Drop)]
+#[derive(Clone, Copy, PartialEq, Eq, Drop)]
 pub struct Range {
     pub first: u32,
     pub pages: u32,

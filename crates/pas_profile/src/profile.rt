@@ -3,7 +3,7 @@
 use crate::limits::{GRAIN_BYTES, MOST_AGE, MOST_HEAPS, MOST_PAGES, MOST_THREADS, PAGE_BYTES};
 
 /// The numbers that a region is made from. Bit h of `shared` marks heap h as served by shared pages.
-#[derive(Clone, Copy, Debug, PartialEq, Eq, Drop)]
+#[derive(Clone, Copy, PartialEq, Eq, Drop)]
 pub struct Profile {
     pub pages: u32,
     pub threads: u8,

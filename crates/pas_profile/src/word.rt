@@ -5,7 +5,7 @@ ghost use Rattle.std.specs.Prelude.{◌≤◌, ◌≡◌, ◌+◌, ◌-◌, ◌*
 use crate::profile::Profile;
 
 /// A word of the region, each of 64 bits. Page p stands in bit `p % 64` of word `p / 64` of each page vector.
-#[derive(Clone, Copy, Debug, PartialEq, Eq, Drop)]
+#[derive(Clone, Copy, PartialEq, Eq, Drop)]
 pub enum Word {
     /// The epoch. It never falls.
     Epoch,
@@ -42,7 +42,7 @@ fn first_word(page: u32) -> usize
 }
 
 /// Where the words of a region of one profile stand.
-#[derive(Clone, Copy, Debug, PartialEq, Eq, Drop)]
+#[derive(Clone, Copy, PartialEq, Eq, Drop)]
 pub struct Layout {
     pub pages: u32,
     pub heaps: u8,

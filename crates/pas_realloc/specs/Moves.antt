@@ -1,5 +1,5 @@
 -- How a block gets another size.
-use Rattle.std.specs.Prelude.{ℕ, ◌+◌, ◌%◌, ◌≤◌, ◌≡◌, max, nat_le, if◌then◌else◌, List, [], ◌++◌, length, Result, Ok, Err, MatchResult}
+use Rattle.std.specs.Prelude.{ℕ, ◌+◌, ◌%◌, ◌≤◌, ◌≡◌, max, nat_le, if◌then◌else◌, List, [], ◌++◌, length, Result, Ok, Err}
 use Rattle.pas_profile.specs.Runs.{address_of}
 use Rattle.pas_profile.specs.declared.event.NoRoom.{NoRoom}
 use Rattle.pas_profile.specs.declared.name.Block.{Block}

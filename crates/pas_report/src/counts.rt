@@ -61,7 +61,7 @@ pub(crate) fn count_backed(state: &State) -> u32
 }
 
 /// How many blocks live in a region, and how many ended there.
-#[derive(Clone, Copy, Debug, PartialEq, Eq, Drop)]
+#[derive(Clone, Copy, PartialEq, Eq, Drop)]
 pub(crate) struct Blocks {
     pub(crate) live: u64,
     pub(crate) ended: u64,

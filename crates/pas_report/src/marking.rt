@@ -13,7 +13,7 @@ use pas_steps::State;
 
 /// What a page is marked as: backed by memory; offered to any actor, in its own directory; parked, since it was seen full; hinted to the
 /// scavenger.
-#[derive(Clone, Copy, PartialEq, Eq, Debug)]
+#[derive(Clone, Copy, PartialEq, Eq)]
 pub struct Marks(u8);
 
 bitflag_items! {

@@ -3,7 +3,7 @@
 use pas_profile::{Event, Name};
 
 /// An answer that is no event. Names are those of the trace, epochs below 2^40.
-#[derive(Clone, Copy, Debug, PartialEq, Eq, Drop)]
+#[derive(Clone, Copy, PartialEq, Eq, Drop)]
 pub enum Said {
     /// No page can serve the request of this name.
     NoSpace { name: u32 },
@@ -36,7 +36,7 @@ pub enum Said {
 }
 
 /// One line of a transcript.
-#[derive(Clone, Copy, Debug, PartialEq, Eq, Drop)]
+#[derive(Clone, Copy, PartialEq, Eq, Drop)]
 pub enum Record {
     Event(Event),
     /// An answer to this actor.

@@ -8,7 +8,7 @@ use pas_profile::Word;
 use pas_steps::Desk;
 
 /// A free word that was read as not all ones: its place on the page, 0 to 3, and its value.
-#[derive(Clone, Copy, Debug, PartialEq, Eq, Drop)]
+#[derive(Clone, Copy, PartialEq, Eq, Drop)]
 pub struct Used {
     pub word: u8,
     pub value: u64,

@@ -10,7 +10,7 @@ use pas_bits::Mask4;
 use pas_steps::Desk;
 
 /// What takes of a page's grains got, and the word that wasn't whole, if there was one.
-#[derive(Clone, Copy, Debug)]
+#[derive(Clone, Copy)]
 pub struct Taken {
     pub grains: Mask4,
     pub used: Option<Used>,

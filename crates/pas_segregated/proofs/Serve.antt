@@ -35,7 +35,7 @@ use Rattle.pas_steps.proofs.Past.{once_later, always_both, always_map, since_onc
 use Rattle.pas_search.specs.Kinds.{serving, IsQuiet, AreQuiet}
 use Rattle.pas_search.specs.Serving.{MayServe, right_of, Keeps, KeepsPage, ServesPage}
 use Rattle.pas_search.proofs.ForBackEnds.{unfit_left}
-use Rattle.pas_segregated.specs.Masks.{start_of, AreStarts}
+use Rattle.pas_segregated.specs.Masks.{start_of}
 use Rattle.pas_segregated.specs.Takes.{in_starts, slots_on, GetsGrains, NoSlot, taking_slots, TakesSlots, exclusive}
 use Rattle.pas_segregated.proofs.Starts.{start_at, start_below}
 use Rattle.pas_profile.specs.declared.event.NoRoom.{NoRoom}

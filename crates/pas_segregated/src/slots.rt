@@ -8,7 +8,7 @@ use pas_bits::Mask4;
 use pas_profile::classes::class_size;
 
 /// Slots of one page that an actor holds and that no block covers yet.
-#[derive(Clone, Copy, Debug, PartialEq, Eq, Drop)]
+#[derive(Clone, Copy, PartialEq, Eq, Drop)]
 pub struct Slots {
     pub page: u32,
     /// The heap and the class of the page.

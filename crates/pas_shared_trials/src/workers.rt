@@ -92,7 +92,7 @@ pub fn run_storm<R: Threads + Sync>(
 }
 
 /// What the threads of a storm did, all together.
-#[derive(Clone, Copy, Debug, PartialEq, Eq, Drop)]
+#[derive(Clone, Copy, PartialEq, Eq, Drop)]
 pub struct Total {
     pub steps: u64,
     pub served: u64,

@@ -1,5 +1,5 @@
 -- Steps that can be made at any time, and what a worker has before it is measured.
-use Rattle.std.specs.Prelude.{◌≡◌, ◌≤◌, ℕ, IfSome}
+use Rattle.std.specs.Prelude.{◌≡◌, ◌≤◌, IfSome}
 use Rattle.pas_profile.specs.declared.profile.Profile.{Profile}
 use Rattle.pas_steps.specs.Views.{View}
 use Rattle.pas_steps.specs.Allowed.{Allowed, IsStepOf}

@@ -3,7 +3,7 @@
 use pas_profile::{Block, Directory, Name, Word};
 
 /// One step of an actor: one load or one exchange on one word of the region.
-#[derive(Clone, Copy, Debug, PartialEq, Eq, Drop)]
+#[derive(Clone, Copy, PartialEq, Eq, Drop)]
 pub enum Step {
     /// A load of any word.
     Look { word: Word },
@@ -42,7 +42,7 @@ pub enum Step {
 }
 
 /// A step that was made, with its answer: the word's value before it.
-#[derive(Clone, Copy, Debug, PartialEq, Eq, Drop)]
+#[derive(Clone, Copy, PartialEq, Eq, Drop)]
 pub struct Made {
     pub step: Step,
     pub answer: u64,

@@ -22,7 +22,7 @@ use pas_utility::{CacheSeat, Outcomes};
 const MOST_PAGES: u32 = 30;
 
 /// What an actor does at one go.
-#[derive(Clone, Copy, Debug, PartialEq, Eq, Drop)]
+#[derive(Clone, Copy, PartialEq, Eq, Drop)]
 pub enum Errand {
     /// Asks its cache for so many bytes of the heap: slots, a bit-fit block, or whole pages above 2,048 bytes. It asks for nothing where the
     /// region doesn't admit the request.

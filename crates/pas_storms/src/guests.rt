@@ -14,14 +14,14 @@ use pas_steps::Desk;
 pub const MOST_MOMENTS: usize = 128;
 
 /// An errand before the own step of this number of the other actor.
-#[derive(Clone, Copy, Debug, PartialEq, Eq, Drop)]
+#[derive(Clone, Copy, PartialEq, Eq, Drop)]
 pub struct Visit {
     pub at: u64,
     pub errand: Errand,
 }
 
 /// A moment of a storm: before the own step of this number, an actor had shown so many events and made so many steps in all.
-#[derive(Clone, Copy, Debug, Default, PartialEq, Eq, Drop)]
+#[derive(Clone, Copy, Default, PartialEq, Eq, Drop)]
 pub struct Moment {
     pub at: u64,
     pub shown: usize,

@@ -15,7 +15,7 @@ use pas_profile::{Block, Directory, Kind, Word, read_deed, slot_mask};
 use pas_steps::State;
 
 /// What may be wrong with a region whose actors are at rest.
-#[derive(Clone, Copy, Debug, PartialEq, Eq, Drop)]
+#[derive(Clone, Copy, PartialEq, Eq, Drop)]
 pub enum Fault {
     /// The page has a free grain that blocks of its directory may cover, and isn't offered.
     Lost(u32),

@@ -11,7 +11,7 @@ pub trait Gate {
 }
 
 /// The gate that is always open.
-#[derive(Clone, Copy, Debug, Drop)]
+#[derive(Clone, Copy, Drop)]
 pub struct OpenGate;
 
 impl Gate for OpenGate {

@@ -1,7 +1,7 @@
 //! What the lines of a trace say.
 
 /// A request for so many bytes under the trace name, from the heap, at a multiple of the alignment.
-#[derive(Clone, Copy, Debug, PartialEq, Eq, Drop)]
+#[derive(Clone, Copy, PartialEq, Eq, Drop)]
 pub struct Request {
     pub name: u64,
     pub heap: u64,
@@ -10,7 +10,7 @@ pub struct Request {
 }
 
 /// What a line from the second on says.
-#[derive(Clone, Copy, Debug, PartialEq, Eq, Drop)]
+#[derive(Clone, Copy, PartialEq, Eq, Drop)]
 pub enum Item {
     /// A line without a word, or a comment.
     Blank,

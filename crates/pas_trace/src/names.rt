@@ -5,7 +5,7 @@ ghost use Rattle.pas_trace.specs.Told.{owner_in};
 use std::alloc::{AllocError, Global};
 
 /// The thread that allocated a name, and the number of the phase in which it did. Thread 0 stands for a name that is free.
-#[derive(Clone, Copy, Debug, PartialEq, Eq, Drop)]
+#[derive(Clone, Copy, PartialEq, Eq, Drop)]
 pub struct Owner {
     pub thread: u8,
     pub phase: u32,

@@ -4,7 +4,7 @@ use pas_profile::{Name, Profile};
 use std::mem::size_of;
 
 /// What an operation asks for, in 24 bytes. Names of allocations are the trace's own numbers, from 1 to 1,000,000; sizes and alignments are in bytes.
-#[derive(Clone, Copy, Debug, PartialEq, Eq, Drop)]
+#[derive(Clone, Copy, PartialEq, Eq, Drop)]
 pub enum What {
     Alloc {
         name: u32,
@@ -26,7 +26,7 @@ pub enum What {
 }
 
 /// An operation, in 32 bytes: its line, from 1, its actor (0 for ticks, passes and idle operations), and what it asks for.
-#[derive(Clone, Copy, Debug, PartialEq, Eq, Drop)]
+#[derive(Clone, Copy, PartialEq, Eq, Drop)]
 pub struct Op {
     pub line: u32,
     pub actor: u8,

@@ -12,7 +12,7 @@ use pas_segregated::{Slots, refill, stop};
 use pas_steps::Desk;
 
 /// Slots that a refill gave, how many steps the actor had made after the refill, and how many after their stop.
-#[derive(Clone, Copy, Debug, PartialEq, Eq)]
+#[derive(Clone, Copy, PartialEq, Eq)]
 pub struct Filled {
     pub slots: Slots,
     pub filled_at: u64,

@@ -18,7 +18,7 @@ use pas_segregated::Slots;
 use pas_steps::Desk;
 
 /// The answer of a request of a bit-fit block, and how many steps the actor had made after it.
-#[derive(Clone, Copy, Debug, PartialEq, Eq)]
+#[derive(Clone, Copy, PartialEq, Eq)]
 pub struct Allocated {
     pub block: Result<Block, NoRoom>,
     pub allocated_at: u64,

@@ -17,7 +17,7 @@ use pas_steps::Desk;
 use pas_utility::CacheSeat;
 
 /// Frees the block of this name before the own step of this number, by a log of its own, and does nothing before the others.
-#[derive(Clone, Copy, Debug, PartialEq, Eq)]
+#[derive(Clone, Copy, PartialEq, Eq)]
 pub struct Flusher {
     pub at: u64,
     pub name: Name,

@@ -11,7 +11,7 @@ use pas_scan::{Looked, first_offered, first_without_deed, verdict};
 use pas_steps::Desk;
 
 /// What an actor found that wanted a page of a directory.
-#[derive(Clone, Copy, Debug, PartialEq, Eq, Drop)]
+#[derive(Clone, Copy, PartialEq, Eq, Drop)]
 pub struct Findings {
     /// Whether it got the right of the page that it asked for. None where that page isn't of the directory.
     pub claimed: Option<bool>,

@@ -3,7 +3,7 @@ ghost use Rattle.std.specs.Prelude.{◌≡◌};
 ghost use Rattle.pas_utility.specs.Seats.{thread_of};
 
 /// The seat of a thread's cache. A `Utility` alone makes seats, one for each thread, and hands each out once, so a thread has one cache.
-#[derive(Debug, PartialEq, Eq, Drop)]
+#[derive(PartialEq, Eq, Drop)]
 pub struct CacheSeat {
     actor: u8,
 }

@@ -1,4 +1,4 @@
-use Rattle.std.proofs.Common.{◌/◌, ◌++◌, refl, sym, ◌∙◌, arith}
+use Rattle.std.proofs.Common.{◌/◌, ◌++◌, refl, sym, ◌∙◌}
 use Rattle.pas_steps.proofs.Adding.{can_step}
 use Rattle.pas_free_log.specs.declared.ending.Outcome.TheVariants.{Ended, Refused}
 use Rattle.pas_free_log.proofs.Tries.{looked, ended_run, first_look, ends_by_room, room_end, some_room, refused_by_room}

@@ -1,4 +1,4 @@
-use Rattle.std.proofs.Common.{refl, sym, ◌∙◌}
+use Rattle.std.proofs.Common.{refl}
 use Rattle.pas_guard.proofs.Seeks.{looks_low, looks_both}
 use Rattle.pas_guard.proofs.looking.are_bare.Goals as goal
 

@@ -1,4 +1,4 @@
-use Rattle.std.proofs.Common.{◌≤◌, ◌∙◌, ap, arith}
+use Rattle.std.proofs.Common.{◌∙◌, ap, arith}
 use Rattle.std.specs.List.{remove}
 use Rattle.pas_large_index.proofs.Places.{without_more}
 use Rattle.pas_large_index.proofs.editing.replace.Goals as goal

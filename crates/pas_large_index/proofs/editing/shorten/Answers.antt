@@ -1,4 +1,4 @@
-use Rattle.std.proofs.Common.{◌++◌, ◌+◌, take, drop, sym, ap, ◌∙◌, get_or, subst, length}
+use Rattle.std.proofs.Common.{◌++◌, ◌+◌, take, drop, ap, ◌∙◌, get_or}
 use Rattle.std.proofs.lemmas.List.{get_or_default}
 use Rattle.pas_large_index.specs.Spans.{left_of}
 use Rattle.pas_large_index.proofs.Places.{blank, shortened}

@@ -1,4 +1,4 @@
-use Rattle.std.proofs.Common.{◌≡◌, get_or, sym, subst}
+use Rattle.std.proofs.Common.{subst}
 use Rattle.std.proofs.lemmas.List.{get_or_default}
 use Rattle.pas_large_index.specs.Spans.{IsPlaceOf}
 use Rattle.pas_large_index.proofs.Places.{blank, looks_within, looks_more, looked}

@@ -1,8 +1,7 @@
-use Rattle.std.proofs.Common.{◌≡◌, sym, ◌∙◌, true, false}
+use Rattle.std.proofs.Common.{sym, ◌∙◌}
 use Rattle.pas_profile.specs.Routes.{route_of}
 use Rattle.pas_trace.specs.Reasons.{cost_of_route}
 use Rattle.pas_cache.specs.Caches.{cached}
-use Rattle.pas_cache.specs.Serves.{wanted_for}
 use Rattle.pas_realloc.proofs.Moves.{suiting, unsuiting, can_place, kept, refused, room_to_free, can_free, no_fault, replaced, in_same}
 use Rattle.pas_realloc.proofs.moving.reallocate.Goals as goal
 

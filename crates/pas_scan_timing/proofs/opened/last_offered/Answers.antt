@@ -1,6 +1,6 @@
 use Rattle.std.proofs.Common.{[], sym, subst}
 use Rattle.pas_profile.specs.declared.profile.Profile.{Profile}
-use Rattle.pas_plain.specs.Plain.{profile_of, PassStands}
+use Rattle.pas_plain.specs.Plain.{PassStands}
 use Rattle.pas_plain.specs.declared.pass.PlainPass.{PlainPass}
 use Rattle.pas_steps.proofs.Called.{next_call}
 use Rattle.pas_shared_trials.proofs.Pops.{last_is}

@@ -1,4 +1,3 @@
-use Rattle.std.proofs.Common.{◌≡◌}
 use Rattle.pas_steps.specs.Desks.{Anything, CanCall}
 use Rattle.pas_profile.specs.Profiles.{IsDirectoryOf}
 use Rattle.pas_scan_timing.proofs.searching.search_often.Given as goal

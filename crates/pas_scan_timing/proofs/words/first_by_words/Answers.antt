@@ -1,9 +1,7 @@
-use Rattle.std.proofs.Common.{◌≡◌, ◌∙◌, ◌∷◌, ap, subst}
-use Rattle.pas_profile.specs.Directories.{number_of}
+use Rattle.std.proofs.Common.{◌∙◌, ◌∷◌, ap}
 use Rattle.pas_profile.specs.declared.word.Word.TheVariants as Word
-use Rattle.pas_steps.specs.declared.step.Made.{Made}
 use Rattle.pas_steps.specs.declared.step.Step.TheVariants.{Look}
-use Rattle.pas_steps.specs.Desks.{Standing, Makes, Adds, Anything, CanCall, made}
+use Rattle.pas_steps.specs.Desks.{Anything, made}
 use Rattle.pas_steps.proofs.Adding.{adds_step, can_call}
 use Rattle.pas_scan_timing.proofs.words.first_by_words.Goals as goal
 

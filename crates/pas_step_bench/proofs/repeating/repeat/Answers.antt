@@ -1,4 +1,4 @@
-use Rattle.std.proofs.Common.{◌≡◌, ◌≤◌, ℕ, ◌∷◌, sym, subst, ◌∙◌}
+use Rattle.std.proofs.Common.{◌≤◌, ℕ, ◌∷◌, sym, subst, ◌∙◌}
 use Rattle.pas_steps.specs.Desks.{Seat, Standing, CanCall, CanMake, Makes, Anything, made, triple}
 use Rattle.pas_steps.specs.declared.step.Step.{Step}
 use Rattle.pas_step_bench.specs.Repeats.{IsFreeToMake}

@@ -1,4 +1,4 @@
-use Rattle.std.proofs.Common.{◌≡◌, ℕ, Bool, true, false, [], refl, sym}
+use Rattle.std.proofs.Common.{◌≡◌, ℕ, Bool, true, false, [], refl}
 use Rattle.std.proofs.lemmas.Bool.{false≢true}
 use Rattle.pas_profile.specs.declared.directory.Directory.{Directory}
 use Rattle.pas_rights.specs.Leaves.{MayLeave}

@@ -1,4 +1,4 @@
-use Rattle.std.proofs.Common.{◌++◌, ap, sym, ◌∙◌, subst}
+use Rattle.std.proofs.Common.{◌++◌, sym, subst}
 use Rattle.pas_profile.specs.Profiles.{IsDirectoryOf}
 use Rattle.pas_search.specs.Searches.{MaySearch}
 use Rattle.pas_segregated.specs.Stops.{class_directory, directory_of, MayStop}

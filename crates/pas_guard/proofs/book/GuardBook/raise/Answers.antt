@@ -1,5 +1,4 @@
-use Rattle.std.proofs.Common.{◌+◌, ◌++◌, ◌∷◌, [], ◌∙◌, sym, subst, arith, Some}
-use Rattle.pas_scan.specs.Runs.{large_directory}
+use Rattle.std.proofs.Common.{◌+◌, sym, subst, arith, Some}
 use Rattle.pas_guard.specs.Books.{guards_in}
 use Rattle.pas_guard.specs.Raises.{Raises}
 use Rattle.pas_guard.proofs.Raises.{can_seek, can_guard, room_to_guard, raised, not_raised}

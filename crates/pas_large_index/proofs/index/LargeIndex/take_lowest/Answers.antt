@@ -1,4 +1,4 @@
-use Rattle.std.proofs.Common.{◌∙◌, ap, sym, subst, Some, None}
+use Rattle.std.proofs.Common.{◌∙◌, ap, sym, subst, Some}
 use Rattle.pas_large_index.specs.Spans.{AreApart, lowest_fit}
 use Rattle.pas_large_index.proofs.Cuts.{none_cut, cut_is_lowest}
 use Rattle.pas_large_index.proofs.Places.{found_for}

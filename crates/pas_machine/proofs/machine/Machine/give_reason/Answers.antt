@@ -1,6 +1,6 @@
 use Rattle.std.proofs.Common.{◌∙◌, sym, arith}
 use Rattle.pas_profile.specs.Runs.{address_of}
-use Rattle.pas_machine.proofs.Verdicts.{inside_never, give_before, number_below, place_is, gives_are}
+use Rattle.pas_machine.proofs.Verdicts.{inside_never, give_before, number_below, gives_are}
 use Rattle.pas_machine.proofs.Verdicts as verdict
 use Rattle.pas_machine.proofs.machine.Machine.give_reason.Goals as goal
 
