@@ -20,7 +20,6 @@ pub mod WasRead
 pub mod EndedBlocks
 pub mod Agreement
 pub mod Nexts
-pub mod Running
 pub mod Checks
 pub mod Offers
 pub mod OneActorRights

@@ -5,6 +5,3 @@ pub mod knowledge_laws;
 pub mod laws;
 pub mod lone_laws;
 pub mod order_laws;
-pub mod run;
-
-pub use run::run_steps;

@@ -20,6 +20,8 @@ use Rattle.pas_answers.specs.Replays.{Shows}
 use Rattle.pas_answers.specs.Ways.{Way}
 use Rattle.pas_replay.proofs.PlanFacts.{plan_valid}
 use Rattle.pas_answers.proofs.Consequences.{can_be_shown}
+use Rattle.pas_words.specs.declared.manner.Manner.{Manner}
+use Rattle.pas_top.specs.Manners.{way_of}
 use Rattle.pas_top.specs.Outcomes.{IsOutcome, IsShown, IsWritable, outcome_status, outcome_text, shown_text}
 use Rattle.pas_top.specs.Outputs.{most_bytes, too_long_text, ComesTo, IsReplaying, IsOutput, IsReplayed}
 use Rattle.pas_top.specs.declared.outcome.Outcome.{Outcome}
@@ -79,19 +81,19 @@ status_not_two (Replayed records ending) two = omega (arith, two)
 status_not_two (Faulty fault) two = omega (arith, two)
 
 -- the output of a call whose input was read whole
-pub outcome_output : (words : List (List ℕ)) (told : Option (List ℕ)) (read : List ℕ) (way : Way) (outcome : Outcome) → IsReplaying way words
-    → ((bytes : List ℕ) → told ≡ Some bytes → (read ≡ bytes) × (length bytes ≤ most_bytes)) → IsOutcome way read outcome → IsOutput words told (outcome_status outcome) (outcome_text outcome)
-outcome_output words told read way outcome asked whole is = inr (inl (record {
-  way = way;
+pub outcome_output : (words : List (List ℕ)) (told : Option (List ℕ)) (read : List ℕ) (manner : Manner) (outcome : Outcome) → IsReplaying manner words
+    → ((bytes : List ℕ) → told ≡ Some bytes → (read ≡ bytes) × (length bytes ≤ most_bytes)) → IsOutcome (way_of manner) read outcome → IsOutput words told (outcome_status outcome) (outcome_text outcome)
+outcome_output words told read manner outcome asked whole is = inr (inl (record {
+  manner = manner;
   asked = asked;
   other = status_not_two outcome;
-  comes = λ bytes tells. let input = whole bytes tells in comes_to way bytes outcome input.1 (subst (λ (t : List ℕ). IsOutcome way t outcome) input.0 is);
+  comes = λ bytes tells. let input = whole bytes tells in comes_to (way_of manner) bytes outcome input.1 (subst (λ (t : List ℕ). IsOutcome (way_of manner) t outcome) input.0 is);
 }))
 
 -- the output of a call whose input was too long
-pub too_long_output : (words : List (List ℕ)) (told : Option (List ℕ)) (way : Way) → IsReplaying way words → ((bytes : List ℕ) → told ≡ Some bytes → most_bytes < length bytes) → IsOutput words told 6 too_long_text
-too_long_output words told way asked long = inr (inl (record {
-  way = way;
+pub too_long_output : (words : List (List ℕ)) (told : Option (List ℕ)) (manner : Manner) → IsReplaying manner words → ((bytes : List ℕ) → told ≡ Some bytes → most_bytes < length bytes) → IsOutput words told 6 too_long_text
+too_long_output words told manner asked long = inr (inl (record {
+  manner = manner;
   asked = asked;
   other = λ two. omega (arith, two);
   comes = λ bytes tells. inr (inr (refl, record { long = long bytes tells; text_is = refl }));

@@ -1,4 +1,3 @@
-pub mod Lists
 pub mod Statuses
 pub mod Headline
 pub mod Summing

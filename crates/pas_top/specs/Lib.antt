@@ -1,7 +1,5 @@
 pub mod Faults
-pub mod Words
 pub mod Manners
-pub mod Calls
 pub mod Summaries
 pub mod Generating
 pub mod Outputs

@@ -14,7 +14,9 @@ use Rattle.pas_io.specs.Inputs.{Takes}
 use Rattle.pas_io.specs.Told.{Rose, Writes, WritesFront}
 use Rattle.pas_top.specs.Faults.{fault_text}
 use Rattle.pas_top.specs.Generating.{IsSummarized}
-pub use Rattle.pas_top.specs.Words.{texts_of, IsReplaying, IsGen, IsAccepted}
+use Rattle.pas_top.specs.Manners.{way_of}
+use Rattle.pas_words.specs.declared.manner.Manner.{Manner}
+pub use Rattle.pas_words.specs.Words.{texts_of, IsReplaying, IsGen, IsAccepted}
 
 -- the most bytes of an input
 abbrev pub most_bytes : ℕ
@@ -68,12 +70,12 @@ pub record IsGenOutput (words : List (List ℕ)) (status : ℕ) (text : List ℕ
   pub asked : IsGen words seed ops threads pages
   pub comes : GenComesTo seed ops threads pages status text
 
--- the words ask for a replay of the input in a way, and the status isn't that of the usage; where the source tells the input, it comes to this
+-- the words ask for a replay of the input in a manner, and the status isn't that of the usage; where the source tells the input, it comes to this
 pub record IsReplayOutput (words : List (List ℕ)) (told : Option (List ℕ)) (status : ℕ) (text : List ℕ) : Type 0 where
-  pub way : Way
-  pub asked : IsReplaying way words
+  pub manner : Manner
+  pub asked : IsReplaying manner words
   pub other : status ≢ 2
-  pub comes : (bytes : List ℕ) → told ≡ Some bytes → ComesTo way bytes status text
+  pub comes : (bytes : List ℕ) → told ≡ Some bytes → ComesTo (way_of manner) bytes status text
 
 -- what a call with these words writes in full, with its status: the usage where the words are no accepted list; for `order` and `run` what the input comes
 -- to; for `gen` what the generated trace comes to

@@ -3,8 +3,6 @@ ghost use Rattle.std.specs.Prelude.{ℕ, ◌≡◌, ◌⊎◌};
 ghost use Rattle.pas_io.specs.Told.{Tells};
 ghost use Rattle.pas_top.specs.Generated.{Generates};
 
-use crate::job::Job;
-use crate::manner::Manner;
 use crate::outcome::{Outcome, outcome_of};
 use crate::summary::summary_of;
 use crate::telling::tell;
@@ -12,6 +10,7 @@ use pas_generate::trace_of;
 use pas_generated::laws::generated_texts_are_read;
 use pas_io::Sink;
 use pas_profile::NoMemory;
+use pas_words::{Job, Manner};
 use std::alloc::Global;
 use std::sync::Wait;
 use std::thread::Threads;

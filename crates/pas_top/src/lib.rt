@@ -2,11 +2,9 @@
 #![tactic(auto)]
 
 mod generating;
-mod job;
 #[cfg(test)]
 mod machine_tests;
 pub mod main_call;
-mod manner;
 mod opening;
 mod outcome;
 mod settling;
@@ -16,9 +14,9 @@ mod telling;
 mod tests;
 #[cfg(test)]
 mod way_tests;
-mod words;
 
 pub use main_call::pas_main;
+pub use pas_words::manner;
 
 const USAGE: &str = "usage: pas order | pas run | pas gen SEED OPS THREADS PAGES\n";
 

@@ -5,16 +5,16 @@ ghost use Rattle.pas_io.specs.Told.{Rose};
 ghost use Rattle.pas_trace.specs.Plans.{IsPlanOf, parsed};
 ghost use Rattle.pas_trace.specs.declared.plan.Plan.{Plan};
 ghost use Rattle.pas_trace.specs.declared.fault.TraceFault.{TraceFault};
-ghost use Rattle.pas_answers.specs.Ways.{Way};
+ghost use Rattle.pas_words.specs.declared.manner.Manner.{Manner};
 ghost use Rattle.pas_top.specs.Outputs.{most_bytes, texts_of, IsReplaying, IsGen, IsAccepted, IsStatus, IsWriting, IsWritten, HasFailed, IsCutOff};
 
 use crate::generating::generate;
 use crate::outcome::outcome_of;
 use crate::telling::{tell, tell_outcome};
-use crate::words::{Call, Misread, call_of};
 use crate::{MOST_BYTES, TOO_LONG, USAGE};
 use pas_io::whole::{Input, Stop, read_all};
 use pas_io::{Sink, Source};
+use pas_words::{Call, Misread, call_of};
 use std::alloc::Global;
 use std::sync::Wait;
 use std::thread::Threads;
@@ -53,11 +53,11 @@ pub fn pas_main<R: Threads + Wait + Sync, S: Source, K: Sink>(
     ensures memory { result ≡ 5 → sink.new ≡ sink.old }
 
     // Each cause brings its status, but for a fault of the source or the sink, and where the program is out of memory.
-    ensures too_long { (way : Way) → IsReplaying way (texts_of words.now) → (bytes : List ℕ) → S.rest source.old ≡ Some bytes → most_bytes < length bytes
+    ensures too_long { (manner : Manner) → IsReplaying manner (texts_of words.now) → (bytes : List ℕ) → S.rest source.old ≡ Some bytes → most_bytes < length bytes
         → (result ≡ 6) ⊎ (result ≡ 3) ⊎ (result ≡ 4) ⊎ (result ≡ 5) }
-    ensures faulty { (way : Way) → IsReplaying way (texts_of words.now) → (bytes : List ℕ) → S.rest source.old ≡ Some bytes → length bytes ≤ most_bytes
+    ensures faulty { (manner : Manner) → IsReplaying manner (texts_of words.now) → (bytes : List ℕ) → S.rest source.old ≡ Some bytes → length bytes ≤ most_bytes
         → (fault : TraceFault) → parsed bytes ≡ Err fault → (result ≡ 1) ⊎ (result ≡ 3) ⊎ (result ≡ 4) ⊎ (result ≡ 5) }
-    ensures complete { (way : Way) → IsReplaying way (texts_of words.now) → (bytes : List ℕ) → S.rest source.old ≡ Some bytes → length bytes ≤ most_bytes
+    ensures complete { (manner : Manner) → IsReplaying manner (texts_of words.now) → (bytes : List ℕ) → S.rest source.old ≡ Some bytes → length bytes ≤ most_bytes
         → (plan : Plan) → IsPlanOf bytes plan
         → (Rose (S.faults source.old) (S.faults source.new) → ⊥) → (Rose (K.faults sink.old) (K.faults sink.new) → ⊥)
         → (result ≡ 0) ⊎ (result ≡ 5) }

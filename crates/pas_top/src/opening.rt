@@ -4,10 +4,10 @@ ghost use Rattle.pas_profile.specs.Profiles.{IsValid};
 ghost use Rattle.pas_trace.specs.Plans.{IsPlanOf, IsReading};
 ghost use Rattle.pas_threads.specs.Kits.{IsKitOf};
 
-use crate::manner::Manner;
 use pas_profile::{NoMemory, Profile};
 use pas_threads::{Ahead, SharedKit};
 use pas_trace::{Plan, ReadFault, header_of_text, read_trace, read_trace_on};
+use pas_words::Manner;
 use std::alloc::Global;
 use std::thread::{Threads, join};
 

@@ -7,7 +7,6 @@ ghost use Rattle.pas_answers.specs.Ways.{OnThreads};
 ghost use Rattle.pas_top.specs.Manners.{way_of};
 ghost use Rattle.pas_top.specs.Outcomes.{IsOutcome};
 
-use crate::manner::Manner;
 use crate::opening::{kit_of, read_for};
 use pas_profile::NoMemory;
 use pas_replay::{PlainKit, by_one_thread, in_order, is_of_one_thread, records_for};
@@ -15,6 +14,7 @@ use pas_report::Records;
 use pas_steps::State;
 use pas_threads::{Ahead, OpenGate, Rooms, on_threads_with_rooms};
 use pas_trace::{Plan, ReadFault, TraceFault};
+use pas_words::Manner;
 use std::alloc::Global;
 use std::sync::Wait;
 use std::thread::Threads;

@@ -1,7 +1,7 @@
 use Rattle.std.proofs.Common.{rules, refl, subst, inl, arith}
 use Rattle.pas_io.specs.Inputs.{IsInput}
 use Rattle.pas_top.specs.Outcomes.{outcome_status, outcome_text}
-use Rattle.pas_top.specs.Calls.{IsCall, IsMisread}
+use Rattle.pas_words.specs.Calls.{IsCall, IsMisread}
 use Rattle.pas_top.specs.Manners.{way_of}
 use Rattle.pas_top.proofs.Summing.{gen_cut_off, gen_summed}
 use Rattle.pas_top.specs.Outputs.{IsReplaying, IsAccepted, most_bytes, texts_of, usage_text, too_long_text}
@@ -20,7 +20,7 @@ returns-in-Err-Usage-clause-sink_failed g c =
 
 pub returns-in-Ok-TooLong-clause-sink_failed : goal.returns-in-Ok-TooLong-clause-sink_failed
 returns-in-Ok-TooLong-clause-sink_failed g c =
-    let asked : IsReplaying (way_of c.in-Ok-Replay.manner) (texts_of c.args.words.now) = subst (IsCall (texts_of c.args.words.now)) c.in-Ok-Replay.field-0-is c.in-Ok-Replay.ensures.call in
+    let asked : IsReplaying c.in-Ok-Replay.manner (texts_of c.args.words.now) = subst (IsCall (texts_of c.args.words.now)) c.in-Ok-Replay.field-0-is c.in-Ok-Replay.ensures.call in
     cut_off _ _ _ _ _ _ too_long_text 6 c.tell-in-Ok-TooLong.result c.tell-in-Ok-TooLong.ensures
     (too_long_output _ _ _ asked (λ bytes told. let input = subst (IsInput most_bytes bytes) c.in-Ok-TooLong.field-0-is (c.in-Ok-TooLong.ensures.input bytes told) in input)) (λ e. omega (arith, e))
 
@@ -29,18 +29,18 @@ tell_outcome-requires g c = let can = can_write (way_of c.in-Ok-Replay.manner) c
 
 pub returns-in-Ok-clause-written : goal.returns-in-Ok-clause-written
 returns-in-Ok-clause-written g c = λ writing.
-    let asked : IsReplaying (way_of c.in-Ok-Replay.manner) (texts_of c.args.words.now) = subst (IsCall (texts_of c.args.words.now)) c.in-Ok-Replay.field-0-is c.in-Ok-Replay.ensures.call in
+    let asked : IsReplaying c.in-Ok-Replay.manner (texts_of c.args.words.now) = subst (IsCall (texts_of c.args.words.now)) c.in-Ok-Replay.field-0-is c.in-Ok-Replay.ensures.call in
     written _ _ _ _ _ _ (outcome_text c.in-Ok.outcome) (outcome_status c.in-Ok.outcome) c.tell_outcome.result c.tell_outcome.ensures
-    (outcome_output (texts_of c.args.words.now) (g.S.Source.rest c.args.source.now) c.in-Ok-Whole.bytes.items (way_of c.in-Ok-Replay.manner) c.in-Ok.outcome asked
+    (outcome_output (texts_of c.args.words.now) (g.S.Source.rest c.args.source.now) c.in-Ok-Whole.bytes.items c.in-Ok-Replay.manner c.in-Ok.outcome asked
     (λ bytes told. let input = subst (IsInput most_bytes bytes) c.in-Ok-Whole.field-0-is (c.in-Ok-Whole.ensures.input bytes told) in input)
     c.in-Ok.ensures)
     (not_four c.tell_outcome.result writing)
 
 pub returns-in-Ok-clause-sink_failed : goal.returns-in-Ok-clause-sink_failed
 returns-in-Ok-clause-sink_failed g c =
-    let asked : IsReplaying (way_of c.in-Ok-Replay.manner) (texts_of c.args.words.now) = subst (IsCall (texts_of c.args.words.now)) c.in-Ok-Replay.field-0-is c.in-Ok-Replay.ensures.call in
+    let asked : IsReplaying c.in-Ok-Replay.manner (texts_of c.args.words.now) = subst (IsCall (texts_of c.args.words.now)) c.in-Ok-Replay.field-0-is c.in-Ok-Replay.ensures.call in
     cut_off _ _ _ _ _ _ (outcome_text c.in-Ok.outcome) (outcome_status c.in-Ok.outcome) c.tell_outcome.result c.tell_outcome.ensures
-    (outcome_output (texts_of c.args.words.now) (g.S.Source.rest c.args.source.now) c.in-Ok-Whole.bytes.items (way_of c.in-Ok-Replay.manner) c.in-Ok.outcome asked
+    (outcome_output (texts_of c.args.words.now) (g.S.Source.rest c.args.source.now) c.in-Ok-Whole.bytes.items c.in-Ok-Replay.manner c.in-Ok.outcome asked
     (λ bytes told. let input = subst (IsInput most_bytes bytes) c.in-Ok-Whole.field-0-is (c.in-Ok-Whole.ensures.input bytes told) in input)
     c.in-Ok.ensures)
     (status_not_four c.in-Ok.outcome)

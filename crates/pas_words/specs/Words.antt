@@ -3,20 +3,20 @@ use Rattle.std.specs.Prelude.{ℕ, ◌≡◌, ◌⊎◌, List, [], ◌∷◌, So
 use denote.Ref.{Bor}
 use Rattle.pas_trace.specs.Numbers.{number_of}
 use Rattle.pas_generate.specs.Traces.{IsJob}
-use Rattle.pas_answers.specs.Ways.{Way, InOrder, OnThreads}
+use Rattle.pas_words.specs.declared.manner.Manner.{Manner}
 
 -- the texts of the words
 abbrev pub texts_of : List (Bor (List ℕ)) → List (List ℕ)
 texts_of words = map (λ w. w.now) words
 
--- the word for a replay in this way
-abbrev pub word_of : Way → List ℕ
-word_of InOrder = codes "order"
-word_of OnThreads = codes "run"
+-- the word for a replay in this manner
+abbrev pub word_of : Manner → List ℕ
+word_of Manner.InOrder = codes "order"
+word_of Manner.OnThreads = codes "run"
 
--- the words ask for a replay of the input in this way: they are its one word
-abbrev pub IsReplaying : Way → List (List ℕ) → Type 0
-IsReplaying way words = words ≡ word_of way ∷ []
+-- the words ask for a replay of the input in this manner: they are its one word
+abbrev pub IsReplaying : Manner → List (List ℕ) → Type 0
+IsReplaying manner words = words ≡ word_of manner ∷ []
 
 -- four words are these numbers, each within its range: decimals without a sign and without a leading zero
 pub record IsNumbers (s o t p : List ℕ) (seed ops threads pages : ℕ) : Type 0 where
@@ -36,4 +36,4 @@ pub record IsGen (words : List (List ℕ)) (seed ops threads pages : ℕ) : Type
   pub numbers : IsNumbers s o t p seed ops threads pages
 
 abbrev pub IsAccepted : List (List ℕ) → Type 0
-IsAccepted words = ((way : Way) × IsReplaying way words) ⊎ ((seed ops threads pages : ℕ) × IsGen words seed ops threads pages)
+IsAccepted words = ((manner : Manner) × IsReplaying manner words) ⊎ ((seed ops threads pages : ℕ) × IsGen words seed ops threads pages)

@@ -5,8 +5,8 @@ use Rattle.std.proofs.lemmas.Slice.Eq.{slice_eq-Decides}
 use Rattle.std.proofs.lemmas.Bool.Decides.{Decides-eqb}
 use Rattle.std.specs.Cmp.Lexicographic.{pointwise}
 use Rattle.pas_trace.specs.Numbers.{number_of}
-use Rattle.pas_answers.specs.Ways.{Way}
-use Rattle.pas_top.specs.Words.{texts_of, word_of, IsReplaying, IsGen, IsNumbers, IsAccepted}
+use Rattle.pas_words.specs.Words.{texts_of, word_of, IsReplaying, IsGen, IsNumbers, IsAccepted}
+use Rattle.pas_words.specs.declared.manner.Manner.{Manner}
 
 -- a word that is the text
 is_text : (word text : List ℕ) (r : Bool) → r ≡ pointwise nat_eq word text → IsTrue r → word ≡ text
@@ -18,8 +18,8 @@ one_word [] d some few = absurd (omega arith)
 one_word (word ∷ []) d some few = refl
 one_word (word ∷ other ∷ words) d some few = absurd (omega arith)
 
-pub way_words : (words : List (Bor (List ℕ))) (d : Bor (List ℕ)) → 1 ≤ length words → length words < 2 → (way : Way) → (get_or words 0 d).now ≡ word_of way → IsReplaying way (texts_of words)
-way_words words d some few way is = one_word words d some few ∙ ap (λ (x : List ℕ). x ∷ []) is
+pub manner_words : (words : List (Bor (List ℕ))) (d : Bor (List ℕ)) → 1 ≤ length words → length words < 2 → (manner : Manner) → (get_or words 0 d).now ≡ word_of manner → IsReplaying manner (texts_of words)
+manner_words words d some few manner is = one_word words d some few ∙ ap (λ (x : List ℕ). x ∷ []) is
 
 -- two lists of one word, and one of five
 not_one : (a b c d e x : List ℕ) → a ∷ b ∷ c ∷ d ∷ e ∷ [] ≡ x ∷ [] → ⊥
@@ -28,9 +28,9 @@ not_one a b c d e x h = cc
 same_word : (a b : List ℕ) → a ∷ [] ≡ b ∷ [] → a ≡ b
 same_word a b h = cc
 
-pub not_way : (words : List (Bor (List ℕ))) (d : Bor (List ℕ)) → 1 ≤ length words → length words < 2 → ((way : Way) → (get_or words 0 d).now ≡ word_of way → ⊥) → IsAccepted (texts_of words) → ⊥
-not_way words d some few never (inl (way, is)) = never way (same_word _ _ (sym (one_word words d some few) ∙ is))
-not_way words d some few never (inr (seed, ops, threads, pages, is)) = not_one _ _ _ _ _ _ (sym is.words_are ∙ one_word words d some few)
+pub not_manner : (words : List (Bor (List ℕ))) (d : Bor (List ℕ)) → 1 ≤ length words → length words < 2 → ((manner : Manner) → (get_or words 0 d).now ≡ word_of manner → ⊥) → IsAccepted (texts_of words) → ⊥
+not_manner words d some few never (inl (manner, is)) = never manner (same_word _ _ (sym (one_word words d some few) ∙ is))
+not_manner words d some few never (inr (seed, ops, threads, pages, is)) = not_one _ _ _ _ _ _ (sym is.words_are ∙ one_word words d some few)
 
 -- five words
 five_words : (words : List (Bor (List ℕ))) (d0 d1 d2 d3 d4 : Bor (List ℕ)) → 5 ≤ length words → length words < 6
@@ -61,7 +61,7 @@ same_words a b c d e a' b' c' d' e' h = (cc, cc, cc, cc)
 
 pub not_gen : (words : List (Bor (List ℕ))) (d1 d2 d3 d4 : Bor (List ℕ)) → 5 ≤ length words → length words < 6
     → ((seed ops threads pages : ℕ) → IsNumbers (get_or words 1 d1).now (get_or words 2 d2).now (get_or words 3 d3).now (get_or words 4 d4).now seed ops threads pages → ⊥) → IsAccepted (texts_of words) → ⊥
-not_gen words d1 d2 d3 d4 some few never (inl (way, is)) = not_one _ _ _ _ _ (word_of way) (sym (five_words words d1 d1 d2 d3 d4 some few) ∙ is)
+not_gen words d1 d2 d3 d4 some few never (inl (manner, is)) = not_one _ _ _ _ _ (word_of manner) (sym (five_words words d1 d1 d2 d3 d4 some few) ∙ is)
 not_gen words d1 d2 d3 d4 some few never (inr (seed, ops, threads, pages, is)) =
     let same = same_words _ _ _ _ _ (codes "gen") is.s is.o is.t is.p (sym (five_words words d1 d1 d2 d3 d4 some few) ∙ is.words_are) in
     never seed ops threads pages (record {

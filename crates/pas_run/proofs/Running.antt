@@ -16,7 +16,7 @@ use Rattle.pas_steps.specs.declared.state.State.{State}
 use Rattle.pas_steps.specs.declared.step.Step.{Step}
 use Rattle.pas_steps.proofs.Ranged.{is_ranged}
 use Rattle.pas_steps.proofs.Targets.{target_of_region}
-use Rattle.pas_core.specs.Runs.{in_order, CanRun, IsOpening, IsAfter, IsStepped}
+use Rattle.pas_run.specs.Runs.{in_order, CanRun, IsOpening, IsAfter, IsStepped}
 
 -- ---- lists in order
 abbrev Steps : Type 0

@@ -1,9 +1,8 @@
 //! What the words of a call ask for.
 ghost use Rattle.std.specs.Prelude.{ℕ, ◌≡◌, IfOk, IfErr, MatchOption};
-ghost use Rattle.pas_answers.specs.Ways.{Way};
-ghost use Rattle.pas_top.specs.Words.{texts_of, word_of, IsAccepted, IsNumbers};
-ghost use Rattle.pas_top.specs.Manners.{way_of};
-ghost use Rattle.pas_top.specs.Calls.{IsCall, IsMisread};
+ghost use Rattle.pas_words.specs.Words.{texts_of, word_of, IsAccepted, IsNumbers};
+ghost use Rattle.pas_words.specs.Calls.{IsCall, IsMisread};
+ghost use Rattle.pas_words.specs.declared.manner.Manner.{Manner};
 
 use crate::job::Job;
 use crate::manner::Manner;
@@ -13,7 +12,7 @@ use std::alloc::Global;
 
 /// What a call is to do.
 #[derive(Clone, Copy, Drop)]
-pub(crate) enum Call {
+pub enum Call {
     /// Replay the trace that the source gives.
     Replay(Manner),
     /// Replay a generated trace.
@@ -22,7 +21,7 @@ pub(crate) enum Call {
 
 /// Why a call does nothing.
 #[derive(Clone, Copy, Drop)]
-pub(crate) enum Misread {
+pub enum Misread {
     /// The words are no accepted list.
     Usage,
     /// Memory was wanting.
@@ -34,7 +33,7 @@ pub(crate) enum Misread {
 ///
 /// Usage exactly where the words are no accepted list. Memory where `clap` doesn't read an accepted list as what it is,
 /// which happens for want of memory alone.
-pub(crate) fn call_of(alloc: Global, words: &[&str]) -> Result<Call, Misread>
+pub fn call_of(alloc: Global, words: &[&str]) -> Result<Call, Misread>
     ensures call { IfOk result (IsCall (texts_of words.now)) }
     ensures misread { IfErr result (IsMisread (texts_of words.now)) }
 {
@@ -72,7 +71,7 @@ fn accepted(words: &[&str]) -> Option<Call>
 
 /// The manner that a word asks for. None exactly where it is the word of none.
 fn manner_of(word: &str) -> Option<Manner>
-    ensures { MatchOption result ((way : Way) → word.now ≡ word_of way → ⊥) (λ manner. word.now ≡ word_of (way_of manner)) }
+    ensures { MatchOption result ((manner : Manner) → word.now ≡ word_of manner → ⊥) (λ manner. word.now ≡ word_of manner) }
 {
     match word {
         "order" => Some(Manner::InOrder),

@@ -2,7 +2,7 @@
 
 /// The order in which the operations of a trace are performed.
 #[derive(Clone, Copy, Drop)]
-pub(crate) enum Manner {
+pub enum Manner {
     /// One after the other, in the order of the text.
     InOrder,
     /// Each thread's operations of a phase in a thread of their own.

@@ -6,8 +6,8 @@ use Rattle.pas_steps.specs.Effects.{target}
 use Rattle.pas_steps.specs.States.{profile_of}
 use Rattle.pas_steps.specs.declared.step.Step.{Step}
 use Rattle.pas_steps.specs.declared.step.Step.TheVariants.{Look}
-use Rattle.pas_core.proofs.Running.{step_at, at_actor, at_ranged, at_word, so_far_first, so_far_next, so_far_last}
-use Rattle.pas_core.proofs.run.run_steps.Goals as goal
+use Rattle.pas_run.proofs.Running.{step_at, at_actor, at_ranged, at_word, so_far_first, so_far_next, so_far_last}
+use Rattle.pas_run.proofs.run.run_steps.Goals as goal
 
 pub loop-actor-init : goal.loop-actor-init
 loop-actor-init c = so_far_first c.args.list.now c.args.state (replicate 17 None) c.requires.opening refl (λ k small. get_or-replicate 17 k None None small)

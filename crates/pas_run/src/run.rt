@@ -5,7 +5,7 @@ ghost use Rattle.pas_steps.specs.Effects.{target as target_word};
 ghost use Rattle.pas_steps.specs.Ranges.{IsRanged};
 ghost use Rattle.pas_steps.specs.States.{profile_of, word_in};
 ghost use Rattle.pas_steps.specs.Views.{epoch_after as the_epoch, or_zero};
-ghost use Rattle.pas_core.specs.Runs.{CanRun, IsOpening, IsAfter, IsStepped};
+ghost use Rattle.pas_run.specs.Runs.{CanRun, IsOpening, IsAfter, IsStepped};
 
 use pas_steps::effect::{epoch_after, new_value, target};
 use pas_steps::{State, Step};
