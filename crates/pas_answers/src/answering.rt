@@ -1,5 +1,5 @@
 //! One operation of a thread.
-ghost use Rattle.std.specs.Prelude.{◌≡◌, ◌+◌, ◌-◌, ◌^◌, ◌≤◌, ◌<◌, ◌++◌, true, false, ℕ, List, Option, length, map, drop};
+ghost use Rattle.std.specs.Prelude.{◌≡◌, ◌+◌, ◌-◌, ◌^◌, ◌≤◌, ◌<◌, ◌++◌, true, false, ℕ, List, Option, None, length, map, drop};
 ghost use Rattle.pas_trace.specs.declared.plan.What.TheVariants as TheWhat;
 ghost use Rattle.pas_report.specs.Rooms.{records_in, room_of};
 ghost use Rattle.pas_steps.specs.Desks.{CanCall};
@@ -58,7 +58,7 @@ fn serve<D: Desk>(
 ) -> Result<Block, NoRoom>
     requires admitted { IsAdmitted (D.standing desk.old).seat.profile size align heap }
     requires can { CanCall (D.standing desk.old) (λ v l. MayServe (D.standing desk.old).seat.profile (cached cache.old) (cost_of_route (route_of size align) size) (D.spare_of desk.old) v) }
-    ensures serves { Serves (cost_of_route (route_of size align) size) (wanted_for (D.standing desk.old).seat.profile heap size align) (cached cache.old) (cached cache.new) (D.standing desk.old) (D.standing desk.new) result }
+    ensures serves { Serves (cost_of_route (route_of size align) size) (wanted_for (D.standing desk.old).seat.profile heap size align) None (cached cache.old) (cached cache.new) (D.standing desk.old) (D.standing desk.new) result }
     ensures home { D.home desk.new ≡ D.home desk.old }
 {
     if size > MOST_BITFIT {
