@@ -1,5 +1,5 @@
 -- A request for whole pages, however its run was found: what its steps did.
-use Rattle.std.proofs.Common.{◌≡◌, ℕ, ◌+◌, ◌/◌, ◌≤◌, true, false, List, ◌++◌, ◌∷◌, [], length, Option, Result, MatchResult, Ok, Err, inl, inr, refl, ap, sym, ◌∙◌, subst, true≢false, append_assoc, ◌⊎◌}
+use Rattle.std.proofs.Common.{◌≡◌, ℕ, ◌+◌, ◌≤◌, true, false, List, ◌++◌, ◌∷◌, [], length, Option, Result, MatchResult, Ok, Err, inl, inr, refl, ap, sym, ◌∙◌, subst, true≢false, append_assoc, ◌⊎◌}
 use Rattle.pas_profile.specs.declared.directory.Directory.{Directory}
 use Rattle.pas_profile.specs.declared.event.NoRoom.{NoRoom}
 use Rattle.pas_profile.specs.declared.name.Block.{Block}
@@ -14,10 +14,9 @@ use Rattle.pas_steps.specs.declared.step.Made.{Made}
 use Rattle.pas_steps.specs.declared.step.Step.TheVariants.{Deed}
 use Rattle.pas_steps.proofs.Adding.{agreed_first, agreed_later}
 use Rattle.pas_steps.proofs.Apart.{only_both, only_within}
-use Rattle.pas_steps.proofs.Calls.{does_then, leads_idly}
+use Rattle.pas_steps.proofs.Calls.{does_then}
 use Rattle.pas_steps.proofs.Past.{always_map, always_both}
-use Rattle.pas_large.specs.Allocates.{GaveLarge, IsAllocatedLarge, IsRefusedLarge, IsAllocatedNamed, IsServedNamed, IsScanned, AllocatesLarge}
-use Rattle.pas_large.specs.Claims.{in_span}
+use Rattle.pas_large.specs.Allocates.{GaveLarge, IsAllocatedLarge, IsRefusedLarge, IsServedNamed, IsScanned}
 use Rattle.pas_large.specs.Evidence.{DeedsOf}
 use Rattle.pas_large.specs.Finds.{MayFind, finding}
 use Rattle.pas_large.specs.Gives.{run_block, give_steps}
@@ -98,7 +97,7 @@ module _ (f : Profile) (d : Directory) (n : ℕ) (tried : List Made) (old : Only
     steps_are = refl;
   }
 
-  module _ (misses : MissesNamed f d n tried) (searched after : List Made) where
+  module _ {found : Option ℕ} (misses : MissesNamed f d n found tried) (searched after : List Made) where
     -- after what was tried all is as it was, so the scan does what it does alone
     after_tried : {R : View → View → Type 0} → ((v u w : View) → Does nothing v u → R u w → R v w) → Leads f (MayFind d) R (after ++ searched) → Leads f (MayFind d) R (after ++ (searched ++ tried))
     after_tried {R} join scan = record {
@@ -133,7 +132,7 @@ module _ (f : Profile) (d : Directory) (n : ℕ) (tried : List Made) (old : Only
       still = after_tried {R = Does nothing} (λ v u w a b. does_then a b) is.still;
     }
 
-  scan_ended : (rest : List Made) (answer : Result Block NoRoom) → IsScanned f d n tried rest answer → HasEnded f d n (rest ++ tried) answer
+  scan_ended : {found : Option ℕ} (rest : List Made) (answer : Result Block NoRoom) → IsScanned f d n found tried rest answer → HasEnded f d n (rest ++ tried) answer
   scan_ended rest answer is = record {
     got = is.searched ++ tried;
     after = is.after;
@@ -143,5 +142,5 @@ module _ (f : Profile) (d : Directory) (n : ℕ) (tried : List Made) (old : Only
     steps_are = ap (λ xs. xs ++ tried) is.rest_is ∙ append_assoc is.after is.searched tried;
   }
 
-  pub ended : (found : Option ℕ) (rest : List Made) (answer : Result Block NoRoom) → IsServedNamed f d n found tried rest answer ⊎ IsScanned f d n tried rest answer → HasEnded f d n (rest ++ tried) answer
+  pub ended : (found : Option ℕ) (rest : List Made) (answer : Result Block NoRoom) → IsServedNamed f d n found tried rest answer ⊎ IsScanned f d n found tried rest answer → HasEnded f d n (rest ++ tried) answer
   ended found rest answer outcome = elim outcome [ inl served ↦ named_ended found rest answer served | inr scanned ↦ scan_ended rest answer scanned ]
