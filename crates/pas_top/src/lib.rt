@@ -3,8 +3,6 @@
 
 mod generating;
 mod job;
-#[cfg(test)]
-mod machine_tests;
 pub mod main_call;
 mod manner;
 mod opening;
@@ -12,10 +10,6 @@ mod outcome;
 mod settling;
 mod summary;
 mod telling;
-#[cfg(test)]
-mod tests;
-#[cfg(test)]
-mod way_tests;
 mod words;
 
 pub use main_call::pas_main;
