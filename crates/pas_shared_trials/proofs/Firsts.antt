@@ -1,5 +1,5 @@
 -- The passes of a region that nobody used yet, and the first call of an actor.
-use Rattle.std.proofs.Common.{◌≡◌, ℕ, ◌+◌, ◌-◌, ◌≤◌, List, [], ◌∷◌, All, length, reverse, inr, refl, ap, sym, ◌∙◌, subst, arith}
+use Rattle.std.proofs.Common.{◌≡◌, ℕ, ◌+◌, ◌-◌, List, [], ◌∷◌, All, length, reverse, inr, refl, ap, sym, ◌∙◌, subst, arith}
 use Rattle.std.proofs.lemmas.List.Elements.{All-cons, All-nil}
 use Rattle.pas_profile.specs.Rooms.{size_of_room}
 use Rattle.pas_profile.specs.declared.room.EventRoom.{EventRoom}
@@ -7,11 +7,7 @@ use Rattle.pas_profile.specs.Profiles.{IsDirectoryOf}
 use Rattle.pas_profile.specs.declared.directory.Directory.{Directory}
 use Rattle.pas_steps.specs.Events.{events_of}
 use Rattle.pas_steps.specs.Views.{View}
-use Rattle.pas_steps.specs.Clear.{HasNothing}
 use Rattle.pas_steps.specs.Desks.{CanCall}
-use Rattle.pas_steps.specs.Unknown.{unknown_below, unknown_pages}
-use Rattle.pas_cache.specs.Caches.{Cached, AtRest}
-use Rattle.pas_profile.specs.declared.profile.Profile.{Profile}
 use Rattle.pas_search.specs.Searches.{MaySearch, SearchRoom}
 use Rattle.pas_segregated.specs.Stops.{class_directory}
 use Rattle.pas_region.specs.Noted.{events_noted, room_of_notes}
@@ -35,25 +31,6 @@ can_search desk d none room =
     let shown : events_noted desk.pass.notes ≡ reverse (events_of k []) = desk.pass.noted.shown ∙ ap (λ (v : View). reverse (events_of k v)) none in
     let empty : length (events_noted desk.pass.notes) ≡ 0 = ap length shown in
     record { view = view; whole = []; stood = refl; met = record { may = may_search d view none; room = (omega (arith, empty, room), inr (omega (arith, empty, room))) } }
-
-nothing : HasNothing []
-nothing = record {
-  grains = λ g. refl;
-  rights = λ p. refl;
-  clear = record { on = λ p. record { stamped = refl; owes = record { checks = λ w lt. refl; hint = refl }; examined = refl } };
-}
-
--- a request may be made of an empty cache at a region of one page, with room for four events more
-pub can_borrow : (desk : SharedDesk) (c : Cached) → view_of desk.pass ≡ [] → (seat_of desk.pass).room ≡ 16 → (seat_of desk.pass).profile.pages ≡ 1 → ((f : Profile) (v : View) → HasNothing v → AtRest f c v)
-    → CanCall (standing_of desk) (λ v l. AtRest (seat_of desk.pass).profile c v × (5 + unknown_pages (seat_of desk.pass).profile v ≤ room_of_notes desk.pass.notes - length (events_noted desk.pass.notes)))
-can_borrow desk c none room pages rest =
-    let view = view_of desk.pass in
-    let k = (seat_of desk.pass).actor in
-    let f = (seat_of desk.pass).profile in
-    let shown : events_noted desk.pass.notes ≡ reverse (events_of k []) = desk.pass.noted.shown ∙ ap (λ (v : View). reverse (events_of k v)) none in
-    let empty : length (events_noted desk.pass.notes) ≡ 0 = ap length shown in
-    let unknown : unknown_below (seat_of desk.pass).profile.pages view ≡ 1 = ap (λ n. unknown_below n view) pages ∙ ap (unknown_below 1) none in
-    record { view = view; whole = []; stood = refl; met = (subst (λ (v : View). AtRest f c v) (sym none) (rest f [] nothing), omega (arith, empty, room, unknown)) }
 
 -- the passes of a region that nobody used yet
 pub fresh_passes : (region : SharedRegion) (events k : ℕ) (rooms : List EventRoom) (passes : List SharedPass) → AreFresh region.table.shared.table_id region.profile k rooms passes → All (λ room. size_of_room room ≡ events) rooms → All (IsFreshPass region events) passes

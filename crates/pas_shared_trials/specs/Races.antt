@@ -1,14 +1,9 @@
 -- What a worker has before and after a race.
 use Rattle.std.specs.Prelude.{◌≡◌, ℕ, [], IsSome, IfSome}
-use Rattle.pas_profile.specs.declared.profile.Profile.{Profile}
 use Rattle.pas_shared.specs.Passes.{IsPassOf, view_of, seat_of}
 use Rattle.pas_shared.specs.declared.region.SharedRegion.{SharedRegion}
 use Rattle.pas_shared.specs.declared.pass.SharedPass.{SharedPass}
 use Rattle.pas_shared_trials.specs.declared.racing.Worker.{Worker}
-
--- a region of so many pages and threads, and of one heap that isn't shared
-abbrev pub trial_profile : ℕ → ℕ → Profile
-trial_profile pages threads = record { pages = pages; threads = threads; age = 2; heaps = 1; shared = 0 }
 
 -- the pass is one of the region, its actor made no step, and its room is for so many events
 pub record IsFreshPass (region : SharedRegion) (events : ℕ) (pass : SharedPass) : Type 0 where

@@ -2,17 +2,7 @@
 #![tactic(auto)]
 
 pub mod racing;
-#[cfg(test)]
-mod racing_tests;
-#[cfg(test)]
-mod seating;
-#[cfg(test)]
-mod sizing_tests;
-#[cfg(test)]
-mod storm_tests;
 pub mod storming;
-#[cfg(test)]
-mod turn_tests;
 pub mod workers;
 
 pub use racing::{Worker, race, refill_first, rise, workers_of};

@@ -1,4 +1,3 @@
 pub mod Going
 pub mod Kept
-pub mod Riding
 pub mod Unfinished

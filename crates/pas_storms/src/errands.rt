@@ -161,6 +161,7 @@ fn scavenge<D: Desk>(desk: &mut D, cache: &mut ThreadCache, outcomes: &mut Outco
 }
 
 impl Hands {
+    ghost use Rattle.pas_cache.specs.Calls.{StopsCache};
     ghost use Rattle.pas_utility.specs.Seats.{thread_of};
     ghost use Rattle.pas_storms.specs.Storms.{cache_of};
 
@@ -174,6 +175,15 @@ impl Hands {
             outcomes,
             pages,
         }
+    }
+
+    /// Stops the cache, after which the actor has nothing.
+    pub fn stop<D: Desk>(&mut self, desk: &mut D)
+        requires can { CanCall (D.standing desk.old) (λ v l. AtRest (D.standing desk.old).seat.profile (cache_of self.old) v) }
+        ensures stops { StopsCache (cache_of self.old) (cache_of self.new) (D.standing desk.old) (D.standing desk.new) }
+        ensures home { D.home desk.new ≡ D.home desk.old }
+    {
+        self.cache.stop(desk);
     }
 
     /// Goes on the errand. The actor is at rest with its cache before and afterwards, and the log of its cache stays empty. A pass is made only

@@ -11,12 +11,12 @@ const SAMPLE_BYTES: usize = 1_024;
 
 /// How often each is likely to stand in a text.
 #[derive(Clone, Copy, Drop)]
-pub(crate) struct Estimate {
-    pub(crate) lines: usize,
+pub struct Estimate {
+    pub lines: usize,
     /// Lines that begin with an `a`, and so give a name.
-    pub(crate) names: usize,
+    pub names: usize,
     /// Requests and frees of each thread, by its number. None of number 0.
-    pub(crate) by_actor: [usize; MOST_THREADS as usize + 1],
+    pub by_actor: [usize; MOST_THREADS as usize + 1],
 }
 
 /// The value of a digit.
@@ -68,7 +68,7 @@ impl Estimate {
     }
 
     /// What is likely to stand in this text, by 1 KB in each of some 64 places. The lines of a text of at most 64 KB are all counted.
-    pub(crate) fn of(text: &[u8]) -> Estimate {
+    pub fn of(text: &[u8]) -> Estimate {
         let mut seen = Estimate {
             lines: 0,
             names: 0,

@@ -5,11 +5,7 @@ mod ahead;
 mod crew;
 mod dealing;
 mod estimate;
-#[cfg(test)]
-mod estimate_tests;
 pub mod gate;
-#[cfg(test)]
-mod gate_tests;
 mod hands;
 pub mod kit;
 pub mod laws;
@@ -23,5 +19,6 @@ mod turns;
 mod workers;
 
 pub use ahead::Ahead;
+pub use estimate::Estimate;
 pub use gate::{Gate, OpenGate};
 pub use kit::{Rooms, SharedKit, on_threads, on_threads_with_rooms};

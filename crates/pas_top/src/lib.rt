@@ -2,18 +2,12 @@
 #![tactic(auto)]
 
 mod generating;
-#[cfg(test)]
-mod machine_tests;
 pub mod main_call;
 mod opening;
 mod outcome;
 mod settling;
 mod summary;
 mod telling;
-#[cfg(test)]
-mod tests;
-#[cfg(test)]
-mod way_tests;
 
 pub use main_call::pas_main;
 pub use pas_words::manner;

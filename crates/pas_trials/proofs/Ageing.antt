@@ -12,10 +12,6 @@ use Rattle.pas_steps.proofs.Called.{next_call}
 use Rattle.pas_steps.proofs.Calls.{does_idly}
 use Rattle.std.specs.Prelude.{ℕ}
 
--- an actor that made no step has nothing
-pub has_nothing : HasNothing []
-has_nothing = record { grains = λ g. refl; rights = λ q. refl; clear = record { on = λ q. record { stamped = refl; owes = record { checks = λ w lt. refl; hint = refl }; examined = refl } } }
-
 module _ {σ σ1 σ2 : Standing} (page h epoch t : ℕ) (hint : Makes σ σ1 (Hint page) h) (tick : Makes σ1 σ2 (Tick epoch) t) where
   abbrev pub hint_and_tick : List Made
   hint_and_tick = made (Tick epoch) t ∷ made (Hint page) h ∷ []

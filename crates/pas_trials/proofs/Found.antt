@@ -7,9 +7,6 @@ use Rattle.pas_steps.specs.Desks.{Standing}
 use Rattle.pas_steps.specs.Past.{Once}
 use Rattle.pas_steps.specs.Evidence.{DeedHere}
 use Rattle.pas_scan.specs.Scan.{NoneOffered, IsFirstOffered, FindsOffered, IsFirstBare, FindsBare, IsVerdict, Judges}
-use Rattle.pas_steps.specs.Calls.{AnyView}
-use Rattle.pas_trials.specs.Trials.{Brings, Wants}
-use Rattle.pas_trials.specs.declared.wanting.Findings.{Findings}
 
 pub offered_found : {σ σ' : Standing} {d' : Directory} {n n' : ℕ} (o : Option ℕ) (f : Profile) (d : Directory) → σ.seat.profile ≡ f → d' ≡ d → n ≡ 1 → (h : FindsOffered d' n σ σ' n' o)
     → MatchOption o (NoneOffered f d 1 h.steps) (IsFirstOffered f d 1 h.steps)
@@ -25,7 +22,3 @@ bare_found {σ} {σ'} {from} {o} f ef h = subst (λ (x : Profile). MatchOption o
 pub verdict_found : {σ σ' : Standing} {marks : List ℕ} {d' : Directory} {answer : NoRoom} (f : Profile) (d : Directory) → σ.seat.profile ≡ f → d' ≡ d → (h : Judges marks d' σ σ' answer) → IsVerdict f marks d h.steps answer
 verdict_found {σ} {σ'} {marks} {d'} {answer} f d ef ed h =
     subst (λ (x : Directory). IsVerdict f marks x h.steps answer) ed (subst (λ (x : Profile). IsVerdict x marks d' h.steps answer) ef h.verdict)
-
--- the steps of all of them
-pub wants_bring : {σ σ' : Standing} {page : ℕ} {d : Directory} {found : Findings} → Wants page d σ σ' found → Brings σ σ' AnyView AnyView
-wants_bring w = record { steps = _; calls = record { adds = w.adds; leads = record { from = λ v m agreed. tt } } }

@@ -1,10 +1,8 @@
 pub mod Bringing
-pub mod Besides
 pub mod Found
 pub mod Fills
 pub mod Borrowed
 pub mod Ageing
 pub mod Intruding
 pub mod Borrowing
-pub mod Stormed
 pub mod ByRooms

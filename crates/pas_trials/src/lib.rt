@@ -1,32 +1,14 @@
 //! Trials of the calls on rights and of the searches: what two actors that sit at one plain region after each other do, and what they find.
 #![tactic(auto)]
 
-#[cfg(test)]
-mod cache_tests;
 pub mod caching;
 pub mod filling;
 pub mod holding;
-#[cfg(test)]
-mod log_tests;
-#[cfg(test)]
-mod pass_tests;
 pub mod passing;
-#[cfg(test)]
-mod seating;
 pub mod seats;
 pub mod sharing;
-#[cfg(test)]
-mod sharing_tests;
 pub mod sizing;
-#[cfg(test)]
-mod sizing_tests;
-#[cfg(test)]
-mod slot_tests;
-#[cfg(test)]
-mod storm_tests;
 pub mod storming;
-#[cfg(test)]
-mod tests;
 pub mod wanting;
 
 pub use caching::{borrow_two, words_of_first};

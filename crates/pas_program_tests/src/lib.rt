@@ -1,0 +1,17 @@
+//! Tests of the program's call, and of replays on threads.
+#![tactic(auto)]
+
+#[cfg(test)]
+mod calls;
+#[cfg(test)]
+mod estimate_tests;
+#[cfg(test)]
+mod gate_tests;
+#[cfg(test)]
+mod machine_tests;
+#[cfg(test)]
+mod order_tests;
+#[cfg(test)]
+mod run_tests;
+#[cfg(test)]
+mod traces;

@@ -1,0 +1,266 @@
+//! Replays in the order of the text, generated traces, and calls that do neither.
+ghost use Rattle.std.specs.Prelude.{◌≡◌, ◌≤◌, ◌⊎◌, length};
+
+use crate::calls::{ROOM, may_be_cut_off, outcome_of, stops_at_read, writes};
+use crate::traces::{TRACE, TRANSCRIPT, replayed};
+use pas_bitfit::end_bits;
+use pas_bits::Mask4;
+use pas_generate::trace_of;
+use pas_io::sure::{SureSink, SureSource};
+use pas_top::pas_main;
+use std::alloc::{AllocError, Global};
+use std::sync::Wait;
+use std::test::Fail;
+use std::thread::Threads;
+
+/// Neither a read nor a write can fail here, so the status is neither 3 nor 4.
+fn sure_status<R: AllocGlobal + Threads + Wait + Sync>(rt: &R, input: Vec<u8>) -> u8
+    ensures { (result ≡ 0) ⊎ (result ≡ 1) ⊎ (result ≡ 5) ⊎ (result ≡ 6) }
+{
+    pas_main(
+        rt,
+        rt.alloc(),
+        &["order"],
+        &mut SureSource::new(input),
+        &mut SureSink::new(),
+    )
+}
+
+#[test]
+fn replays_a_trace(rt: HostRuntime) -> Result<(), Fail> {
+    assert!(rt; writes(&rt, &["order"], TRACE, 0, TRANSCRIPT)?);
+    let input = Vec::from_slice(rt.alloc(), TRACE.as_bytes())?;
+    assert!(rt; sure_status(&rt, input) == 0);
+    Ok(())
+}
+
+const USAGE: &str = "usage: pas order | pas run | pas gen SEED OPS THREADS PAGES\n";
+
+/// Lists of words that aren't accepted.
+const OTHERS: [&[&str]; 20] = [
+    &[],
+    &["order", "--"],
+    &["order", "order"],
+    &["gen", "7"],
+    &["Order"],
+    &["order "],
+    &["run", "x"],
+    &["run", "--"],
+    &["run", "run"],
+    &["order", "run"],
+    &["Run"],
+    &["help"],
+    &["gen", "7", "12", "4", "1024", "1"],
+    &["gen", "07", "12", "4", "1024"],
+    &["gen", "-7", "12", "4", "1024"],
+    &["gen", "18446744073709551616", "12", "4", "1024"],
+    &["gen", "7", "200001", "4", "1024"],
+    &["gen", "7", "12", "17", "1024"],
+    &["gen", "7", "12", "0", "1024"],
+    &["gen", "7", "12", "4", "1"],
+];
+
+/// Whether the usage is written, though a read would fail.
+fn is_misread<R: AllocGlobal + Threads + Wait + Sync>(
+    rt: &R,
+    words: &[&str],
+) -> Result<bool, AllocError> {
+    let outcome = outcome_of(rt, words, TRACE.as_bytes(), &[1], &[], ROOM)?;
+    Ok(outcome.is(2, USAGE.as_bytes()))
+}
+
+#[test]
+fn other_words_read_nothing(rt: HostRuntime) -> Result<(), Fail> {
+    for at in 0..20 {
+        assert!(rt; is_misread(&rt, OTHERS[at])?);
+    }
+    assert!(rt; may_be_cut_off(&rt, &["gen", "7"], "", 2, USAGE.as_bytes())?);
+    Ok(())
+}
+
+#[test]
+fn failing_reads(rt: HostRuntime) -> Result<(), Fail> {
+    assert!(rt; stops_at_read(&rt, "order", 1)?);
+    assert!(rt; stops_at_read(&rt, "order", 2)?);
+    let after = outcome_of(&rt, &["order"], TRACE.as_bytes(), &[3], &[], ROOM)?;
+    assert!(rt; after.is(0, TRANSCRIPT.as_bytes()));
+    Ok(())
+}
+
+#[test]
+fn failing_writes(rt: HostRuntime) -> Result<(), Fail> {
+    assert!(rt; may_be_cut_off(&rt, &["order"], TRACE, 0, TRANSCRIPT.as_bytes())?);
+    let small = outcome_of(&rt, &["order"], TRACE.as_bytes(), &[], &[], 7)?;
+    assert!(rt; small.is(4, b"1 deed ".as_slice()));
+    Ok(())
+}
+
+/// Traces, and what each is replayed to.
+const TRACES: [&str; 12] = [
+    "pas 1 pages 4 threads 1 heaps 1 age 2",
+    "pas 1 pages 1 threads 1 heaps 1 age 2\na 1 1 0 16 16\na 1 2 0 32 16\nf 1 2\nf 1 1\nf 1 1\n",
+    "pas 1 pages 1 threads 1 heaps 2 age 2\na 1 1 0 16 16\nf 1 1\nstop 1\na 1 2 1 16 16\nf 1 2\n",
+    "pas 1 pages 1 threads 2 heaps 1 age 2\na 1 1 0 16 16\nf 1 1\nstop 1\na 2 2 0 16 16\nf 1 1\nflush 1\n",
+    "pas 1 pages 1 threads 1 heaps 1 age 2\na 1 1 0 32 16\nr 1 0x00001000 1\nr 1 0x00001010 0\nr 1 0x00000008 0\nr 1 0x00001008 0\nr 1 0x00002000 0\nr 1 0x00001000 0\n",
+    "pas 1 pages 1 threads 2 heaps 1 age 2\na 1 1 0 16 16\na 2 2 0 16 16\nf 2 2\n",
+    "pas 1 pages 4 threads 2 heaps 1 age 2\nflush 2\nphase\nstop 1\n",
+    "pas 1 pages 4 threads 1 heaps 1 age 2\na 1 1 0 2049 16\n",
+    "pas 1 pages 4 threads 1 heaps 1 age 2\na 1 1 0 16384 16\na 1 2 0 2049 16\n",
+    "pas 1 pages 4 threads 1 heaps 1 age 2\ntick 7\ntick 5\n",
+    "pas 1 pages 4 threads 1 heaps 1 age 2\npass\n",
+    "pas 1 pages 4 threads 3 heaps 1 age 2\nstop 2\ntick 2\nidle 2\nphase\nidle 3\nidle 0\n",
+];
+
+const TRANSCRIPTS: [&str; 12] = [
+    "close\nreport\ntotal deeds 0 backed 0 live 0 given 0 ended 0\n",
+    "1 deed page 1 heap 0 class 16\n1 back page 1\n1 give 0x00001000 turn 0 room 16 heap 0\n1 no-space name 2\n1 skipped name 2\nclose\n1 freed 0x00001000 turn 0 epoch 0\n1 ended 0x00001000 turn 0\nreport\npage 1 heap 0 class 16 live 0 free 256 stamp 0 marks backed+offered+hinted\ntotal deeds 1 backed 1 live 0 given 1 ended 1\n",
+    "1 deed page 1 heap 0 class 16\n1 back page 1\n1 give 0x00001000 turn 0 room 16 heap 0\n1 freed 0x00001000 turn 0 epoch 0\n1 no-space name 2\n1 skipped name 2\nclose\nreport\npage 1 heap 0 class 16 live 0 free 256 stamp 0 marks backed+offered+hinted\ntotal deeds 1 backed 1 live 0 given 1 ended 1\n",
+    "1 deed page 1 heap 0 class 16\n1 back page 1\n1 give 0x00001000 turn 0 room 16 heap 0\n1 freed 0x00001000 turn 0 epoch 0\n2 give 0x00001000 turn 1 room 16 heap 0\n1 ended 0x00001000 turn 0\nclose\nreport\npage 1 heap 0 class 16 live 1 free 255 stamp 0 marks backed+offered+hinted\ntotal deeds 1 backed 1 live 1 given 2 ended 1\n",
+    "1 deed page 1 heap 0 class 32\n1 back page 1\n1 give 0x00001000 turn 0 room 32 heap 0\n1 outside 0x00000008 turn 0\n1 unaligned 0x00001008 turn 0\n1 outside 0x00002000 turn 0\nclose\n1 no-block 0x00001000 turn 1\n1 no-block 0x00001010 turn 0\n1 freed 0x00001000 turn 0 epoch 0\nreport\npage 1 heap 0 class 32 live 0 free 256 stamp 0 marks backed+offered+hinted\ntotal deeds 1 backed 1 live 0 given 1 ended 1\n",
+    "1 deed page 1 heap 0 class 16\n1 back page 1\n1 give 0x00001000 turn 0 room 16 heap 0\n2 held 1 name 2\n2 skipped name 2\nclose\nreport\npage 1 heap 0 class 16 live 1 free 255 stamp 0 marks backed+offered\ntotal deeds 1 backed 1 live 1 given 1 ended 0\n",
+    "phase 2\nclose\nreport\ntotal deeds 0 backed 0 live 0 given 0 ended 0\n",
+    "1 deed page 1 heap 0 large\n1 back page 1\n1 give 0x00001000 turn 0 room 4096 heap 0\nclose\nreport\n\
+         page 1 heap 0 large live 1 free 0 stamp 0 marks backed+parked\ntotal deeds 1 backed 1 live 1 given 1 ended 0\n",
+    "1 deed page 1 heap 0 large\n1 deed page 2 heap 0 large\n1 deed page 3 heap 0 large\n1 deed page 4 heap 0 large\n\
+         1 back page 1\n1 back page 2\n1 back page 3\n1 back page 4\n1 give 0x00001000 turn 0 room 16384 heap 0\n\
+         1 no-space name 2\nclose\nreport\n\
+         page 1 heap 0 large live 1 free 0 stamp 0 marks backed+parked\n\
+         page 2 heap 0 large live 0 free 0 stamp 0 marks backed+parked\n\
+         page 3 heap 0 large live 0 free 0 stamp 0 marks backed+parked\n\
+         page 4 heap 0 large live 0 free 0 stamp 0 marks backed+parked\n\
+         total deeds 4 backed 4 live 1 given 1 ended 0\n",
+    "0 tick 7\n0 tick 7\nclose\nreport\ntotal deeds 0 backed 0 live 0 given 0 ended 0\n",
+    "0 pass 0\nclose\nreport\ntotal deeds 0 backed 0 live 0 given 0 ended 0\n",
+    "0 tick 2\n0 stopped 1\n0 stopped 3\nphase 2\n0 stopped 1\n0 stopped 2\n0 stopped 3\nclose\nreport\n\
+         total deeds 0 backed 0 live 0 given 0 ended 0\n",
+];
+
+/// Inputs that are no trace, and the first fault of each.
+const FAULTY: [&str; 6] = [
+    "",
+    "\n",
+    "pas 1 pages 4 threads 2 heaps 1 age 2\na 1 1 0 16 16\nf 2 1\n",
+    "pas 1 pages 4 threads 2 heaps 1 age 2\nalloc 1\nflush 9\n",
+    "pas 1 pages 4 threads 2 heaps 1 age 2\n#\n\nflush 3",
+    "pas 1 pages 4 threads 1 heaps 1 age 2\na 1 1 0 4097 16\nf 1 2\n",
+];
+
+const FAULTS: [&str; 6] = [
+    "line 1: BadHeader\n",
+    "line 1: BadHeader\n",
+    "line 3: TooEarly\n",
+    "line 2: BadWord\n",
+    "line 4: BadThread\n",
+    "line 3: NameUnknown\n",
+];
+
+#[test]
+fn inputs_have_outcomes(rt: HostRuntime) -> Result<(), Fail> {
+    for at in 0..12 {
+        assert!(rt; writes(&rt, &["order"], TRACES[at], 0, TRANSCRIPTS[at])?);
+    }
+    for at in 0..6 {
+        assert!(rt; writes(&rt, &["order"], FAULTY[at], 1, FAULTS[at])?);
+    }
+    assert!(rt; may_be_cut_off(&rt, &["order"], "", 1, b"line 1: BadHeader\n".as_slice())?);
+    Ok(())
+}
+
+/// Whether an input of so many newlines has the status, and writes just this text.
+fn newlines_write<R: AllocGlobal + Threads + Wait + Sync>(
+    rt: &R,
+    length: usize,
+    status: u8,
+    text: &str,
+) -> Result<bool, AllocError> {
+    let input = vec![in rt.alloc(); 10u8; length]?;
+    let outcome = outcome_of(rt, &["order"], &input, &[], &[], ROOM)?;
+    Ok(outcome.is(status, text.as_bytes()))
+}
+
+#[test]
+fn inputs_have_a_limit(rt: HostRuntime) -> Result<(), Fail> {
+    assert!(rt; newlines_write(&rt, 16_777_216, 1, "line 1: BadHeader\n")?);
+    assert!(rt; newlines_write(&rt, 16_777_217, 6, "input too long\n")?);
+    Ok(())
+}
+
+/// A trace with so many flushes.
+fn flushes(alloc: Global, count: u32) -> Result<Vec<u8>, AllocError> {
+    let mut text = b"pas 1 pages 4 threads 2 heaps 1 age 2\n"
+        .as_slice()
+        .to_vec(alloc)?;
+    for _ in 0..count {
+        text.extend_from_slice(b"flush 1\n")?;
+    }
+    Ok(text)
+}
+
+#[test]
+fn operations_have_a_limit(rt: HostRuntime) -> Result<(), Fail> {
+    let input = flushes(rt.alloc(), 1_000_001)?;
+    let outcome = outcome_of(&rt, &["order"], &input, &[], &[], ROOM)?;
+    assert!(rt; outcome.is(1, b"line 1000002: TooManyOps\n".as_slice()));
+    Ok(())
+}
+
+/// Bit-fit blocks of 33 and 34 grains: the second was freed and its place used anew, and freed again.
+const BITFIT_TRACE: &str =
+    "pas 1 pages 1 threads 1 heaps 1 age 2\na 1 1 0 528 16\na 1 2 0 528 16\na 1 3 0 528 16\nf 1 2\nflush 1\na 1 4 0 528 16\nf 1 4\nflush 1\na 1 5 0 529 16\n";
+
+/// Where the live blocks of page 1 end after the trace.
+fn ends_after(alloc: Global, trace: &str) -> Result<Mask4, Fail>
+    requires { length trace.now ≤ 16777216 }
+{
+    let (_, state) = replayed(alloc, trace.as_bytes())?;
+    if state.profile().pages < 1 {
+        return Err(Fail::new("the region has no page"));
+    }
+    Ok(end_bits(&state, 1))
+}
+
+#[test]
+fn bitfit_blocks_have_ends(rt: HostRuntime) -> Result<(), Fail> {
+    // grains 32, 98 and 132
+    let ends = Mask4([1 << 32, 1 << 34, 1 << 4, 0]);
+    assert!(rt; ends_after(rt.alloc(), BITFIT_TRACE)? == ends);
+    Ok(())
+}
+
+/// What a generated trace of twelve operations is summed up to: nine lines.
+const SUMMARY: &str =
+    "ops 12\ngive 9\nfreed 3\nended 0\nno-block 0\nno-space 0\nheld 0\nskipped 0\n";
+
+/// Whether the summary begins with these lines, and the line of totals after them ends the transcript, too.
+fn is_summary(summary: &[u8], lines: &[u8], transcript: &[u8]) -> bool {
+    if !summary.starts_with(lines) {
+        return false;
+    }
+    let totals = &summary[lines.len()..];
+    totals.starts_with(b"total deeds ".as_slice()) && transcript.ends_with(totals)
+}
+
+#[test]
+fn a_generated_trace_is_summed_up(rt: HostRuntime) -> Result<(), Fail> {
+    let words = ["gen", "7", "12", "4", "1024"];
+    let summary = outcome_of(&rt, &words, &[], &[1], &[], ROOM)?;
+    let text = trace_of(rt.alloc(), 7, 12, 4, 1024)?;
+    let order = outcome_of(&rt, &["order"], &text, &[], &[], ROOM)?;
+    assert!(rt; summary.status == 0 && order.status == 0);
+    assert!(rt; is_summary(&summary.taken, SUMMARY.as_bytes(), &order.taken));
+    assert!(rt; may_be_cut_off(&rt, &words, "", 0, &summary.taken)?);
+    Ok(())
+}
+
+/// What a long generated trace of 100,000 operations is summed up to: nine lines.
+const LONG_SUMMARY: &str =
+    "ops 100000\ngive 50096\nfreed 49704\nended 0\nno-block 0\nno-space 0\nheld 0\nskipped 0\n\
+                            total deeds 482 backed 337 live 392 given 50096 ended 49704\n";
+
+#[test]
+fn a_long_generated_trace_is_summed_up(rt: HostRuntime) -> Result<(), Fail> {
+    let words = ["gen", "7", "100000", "4", "4096"];
+    let summary = outcome_of(&rt, &words, &[], &[1], &[], ROOM)?;
+    assert!(rt; summary.is(0, LONG_SUMMARY.as_bytes()));
+    Ok(())
+}

@@ -1,0 +1,4 @@
+pub mod Besides
+pub mod Riding
+pub mod Sharing
+pub mod Stormed

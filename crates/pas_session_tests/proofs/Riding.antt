@@ -1,0 +1,77 @@
+-- An actor that goes on errands beside another one, and then in a storm.
+use Rattle.std.proofs.Common.{◌≡◌, ◌≢◌, ℕ, [], ◌++◌, refl, ap, sym, ◌∙◌, subst}
+use Rattle.pas_profile.specs.declared.profile.Profile.{Profile}
+use Rattle.pas_steps.specs.Clear.{HasNothing}
+use Rattle.pas_steps.specs.Desks.{Seat, Standing, CanCall, triples}
+use Rattle.pas_steps.specs.Lists.{Whole}
+use Rattle.pas_steps.specs.Views.{View}
+use Rattle.pas_steps.proofs.Called.{next_call}
+use Rattle.pas_steps.proofs.Parts.{part_of_others}
+use Rattle.pas_cache.specs.Caches.{Cached, AtRest}
+use Rattle.pas_cache.specs.Calls.{StopsCache}
+use Rattle.pas_cache.proofs.FlushesAndFrees.{rests_empty}
+use Rattle.pas_plain.specs.Plain.{profile_of, actor_of, PassStands}
+use Rattle.pas_plain.specs.Seats.{region_of, pass_of, DeskStands, standing_of}
+use Rattle.pas_plain.specs.Storms.{MayStorm, own_stands}
+use Rattle.pas_plain.specs.declared.desk.PlainDesk.{PlainDesk}
+use Rattle.pas_plain.specs.declared.pass.PlainPass.{PlainPass}
+use Rattle.pas_plain.specs.declared.region.PlainRegion.{PlainRegion}
+use Rattle.pas_plain.proofs.Passes.{pass_rests}
+use Rattle.pas_trials.specs.Borrowing.{Borrows}
+use Rattle.pas_session_tests.specs.Seated.{RestsBeside}
+use Rattle.pas_session_tests.specs.Seated.{Opens}
+use Rattle.pas_session_tests.proofs.Stormed.{nothing_yet}
+use Rattle.pas_session_tests.proofs.Stormed.{fresh, parted}
+
+-- ---- before the storm
+pub rests_first : {d : PlainDesk} {p : PlainPass} {room : ℕ} {c : Cached} → Opens d p room → c.locals ≡ [] → c.log ≡ [] → RestsBeside d p c
+rests_first {d} {p} {room} {c} opens locals log = record { view = []; whole = []; stands = fresh refl refl opens; rest = rests_empty (profile_of (region_of d)) c [] locals log nothing_yet }
+
+pub may_go_beside : {d : PlainDesk} {p : PlainPass} {c : Cached} → RestsBeside d p c → CanCall (standing_of d) (λ v l. AtRest (profile_of (region_of d)) c v)
+may_go_beside {d} {p} b = record { view = b.view; whole = b.whole; stood = own_stands d p b.view b.whole b.stands; met = b.rest }
+
+pub rests_then : {d d' : PlainDesk} {p : PlainPass} {c c' : Cached} → RestsBeside d p c → Borrows c c' (standing_of d) (standing_of d') → RestsBeside d' p c'
+rests_then {d} {d'} {p} {c} {c'} b goes =
+    let f : Profile = profile_of (region_of d) in
+    let k : ℕ = actor_of (pass_of d) in
+    let v : View = goes.steps ++ b.view in
+    let l : Whole = triples k goes.steps ++ b.whole in
+    let before : DeskStands d b.view b.whole = own_stands d p b.view b.whole b.stands in
+    let stood : DeskStands d' v l = goes.rests.adds.added b.view b.whole before b.rest in
+    let actor : actor_of (pass_of d') ≡ k = ap (λ (s : Seat). s.actor) goes.rests.adds.seat_is in
+    let profile : profile_of (region_of d') ≡ f = ap (λ (s : Seat). s.profile) goes.rests.adds.seat_is in
+    let other : k ≢ actor_of p = λ e. b.stands.other (sym e) in
+    record {
+      view = v;
+      whole = l;
+      stands = record {
+        region_stands = stood.region;
+        own_part = stood.pass;
+        foreign_part = subst (λ (g : Profile). PassStands g p l) (sym profile) (pass_rests f p k goes.steps b.whole other b.stands.foreign_part);
+        other = λ e. b.stands.other (e ∙ actor);
+        part_is = stood.part_is;
+        nothing = subst HasNothing (sym (part_of_others (actor_of p) k goes.steps b.whole other)) b.stands.nothing;
+      };
+      rest = subst (λ (g : Profile). AtRest g c' v) (sym profile) (goes.rests.leads.from b.view b.rest (goes.rests.adds.agreed b.view b.whole before b.rest));
+    }
+
+-- ---- in the storm
+pub may_storm : {d : PlainDesk} {p : PlainPass} {c : Cached} {r : PlainRegion} {own : PlainPass} → r ≡ region_of d → own ≡ pass_of d → RestsBeside d p c → MayStorm r own p
+may_storm region pass b = record { view = b.view; whole = b.whole; stands = parted region pass b }
+
+-- after an errand the cache may be stopped
+pub may_stop_then : {σ σ' : Standing} {c c' : Cached} → CanCall σ (λ v l. AtRest σ.seat.profile c v) → Borrows c c' σ σ' → CanCall σ' (λ v l. AtRest σ'.seat.profile c' v)
+may_stop_then {σ} {σ'} {c} {c'} can goes = next_call goes.rests can (λ v rest there. subst (λ (s : Seat). AtRest s.profile c' (goes.steps ++ v)) (sym goes.rests.adds.seat_is) there)
+
+-- what the desk stands for after an errand and a stop
+pub record StandsAfter (σ : Standing) : Type 0 where
+  pub view : View
+  pub whole : Whole
+  pub stood : σ.stands view whole
+
+pub stands_after : {σ σ1 σ2 : Standing} {c c1 c2 : Cached} → CanCall σ (λ v l. AtRest σ.seat.profile c v) → Borrows c c1 σ σ1 → StopsCache c1 c2 σ1 σ2 → StandsAfter σ2
+stands_after {σ1 = σ1} can goes stops = let then = may_stop_then can goes in record {
+  view = (stops.stopped ++ stops.flushed) ++ then.view;
+  whole = triples σ1.seat.actor (stops.stopped ++ stops.flushed) ++ then.whole;
+  stood = stops.calls.adds.added then.view then.whole then.stood then.met;
+}

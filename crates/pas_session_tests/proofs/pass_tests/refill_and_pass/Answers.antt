@@ -1,0 +1,16 @@
+use Rattle.std.proofs.Common.{[], refl}
+use Rattle.pas_segregated.specs.Stops.{class_directory}
+use Rattle.pas_session_tests.proofs.Stormed.{nothing_yet}
+use Rattle.pas_session_tests.proofs.Besides.{may_search, beside_then, waits_then, seated_then, rests_beside, others_then}
+use Rattle.pas_session_tests.proofs.pass_tests.refill_and_pass.Goals as goal
+
+pub change-desk-requires : goal.change-desk-requires
+change-desk-requires c = let o = c.in_ok-desk.ensures.opens in
+    beside_then c.fill.ensures.steps c.in_ok-desk.pass [] [] o.stood (may_search (class_directory 0 0)) o.rests o.other
+
+pub close_both-requires : goal.close_both-requires
+close_both-requires c =
+    let o = c.in_ok-desk.ensures.opens in let d = class_directory 0 0 in
+    let w = waits_then c.fill.ensures.steps c.in_ok-desk.pass [] [] o.stood (may_search d) o.rests o.other refl o.room_of o.room_of_other in
+    let next = c.change-desk.result.0 in let risen = c.change-desk.result.1 in let e = c.change-desk.ensures in
+    beside_then c.age_and_pass.ensures.steps risen [] w.whole (seated_then w next e.region e.seated) nothing_yet (rests_beside w next risen e.region e.risen) (others_then w next risen e.seated e.risen)

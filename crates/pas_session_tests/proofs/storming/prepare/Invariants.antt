@@ -1,0 +1,14 @@
+use Rattle.std.specs.Prelude.{◌≡◌}
+use Rattle.pas_plain.specs.Plain.{profile_of, room_of_pass}
+use Rattle.pas_plain.specs.Seats.{region_of, pass_of}
+use Rattle.pas_session_tests.specs.Seated.{RestsBeside}
+use Rattle.pas_storms.specs.Storms.{cache_of}
+use Rattle.pas_session_tests.proofs.storming.prepare.Given as goal
+
+-- the actor is at rest beside the other one after each errand
+abbrev pub invariant-loop-errand : goal.invariant-loop-errand
+invariant-loop-errand l = record {
+  rest : RestsBeside l.desk l.foreign (cache_of l.hands);
+  room : room_of_pass (pass_of l.desk) ≡ 1000;
+  profile : profile_of (region_of l.desk) ≡ profile_of (region_of l.initial.desk);
+}
