@@ -7,6 +7,7 @@ mod Checking
 mod Headers
 mod PassedChecks
 mod Telling
+mod Adding
 mod Reading
 mod Cutting
 mod LexedLines

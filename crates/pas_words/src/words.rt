@@ -8,7 +8,7 @@ use crate::job::Job;
 use crate::manner::Manner;
 use clap::{Arg, ArgAction, ArgMatches, Command, Error};
 use pas_trace::number;
-use std::alloc::Global;
+use std::alloc::{AllocError, Global};
 
 /// What a call is to do.
 #[derive(Clone, Copy, Drop)]
@@ -106,25 +106,46 @@ fn job_of(seed: &str, ops: &str, threads: &str, pages: &str) -> Option<Job>
     })
 }
 
-/// The words as `clap` reads them: one level of subcommands, without help and version.
-fn parsed<'a>(alloc: Global, words: &'a [String]) -> Result<ArgMatches<'a>, Error> {
-    let mut generate = Command::new(alloc, "gen").disable_help_flag(true);
+/// A command without help.
+fn command<'a>(alloc: Global, name: &'a str) -> Command<'a> {
+    Command::new(alloc, name).disable_help_flag(true)
+}
+
+/// The command `gen` with its four numbers.
+fn generating<'a>(alloc: Global) -> Result<Command<'a>, AllocError> {
+    let mut generate = command(alloc, "gen");
     for name in ["SEED", "OPS", "THREADS", "PAGES"] {
         let number = Arg::new(alloc, name).required(true).action(ArgAction::Set);
         generate = generate.arg(number)?;
     }
-    let order = Command::new(alloc, "order").disable_help_flag(true);
-    let run = Command::new(alloc, "run").disable_help_flag(true);
-    Command::new(alloc, "pas")
+    Ok(generate)
+}
+
+/// The program's command, which wants one of others below it.
+fn program<'a>(alloc: Global) -> Command<'a> {
+    command(alloc, "pas")
         .no_binary_name(true)
-        .disable_help_flag(true)
         .disable_help_subcommand(true)
         .disable_version_flag(true)
         .subcommand_required(true)
-        .subcommand(order)?
-        .subcommand(run)?
-        .subcommand(generate)?
-        .try_get_matches_from(words)
+}
+
+/// The program's command with those below it that replay an input.
+fn replaying<'a>(alloc: Global) -> Result<Command<'a>, AllocError> {
+    program(alloc)
+        .subcommand(command(alloc, "order"))?
+        .subcommand(command(alloc, "run"))
+}
+
+/// The program's command with all that are below it: one level of subcommands, without help and version.
+fn whole<'a>(alloc: Global) -> Result<Command<'a>, AllocError> {
+    let generate = generating(alloc)?;
+    replaying(alloc)?.subcommand(generate)
+}
+
+/// The words as `clap` reads them.
+fn parsed<'a>(alloc: Global, words: &'a [String]) -> Result<ArgMatches<'a>, Error> {
+    whole(alloc)?.try_get_matches_from(words)
 }
 
 /// Whether `clap` read the words as this call.
