@@ -20,7 +20,7 @@ use Rattle.pas_steps.proofs.Calls.{leads_then, leads_idly, does_then, still_clea
 use Rattle.pas_large.specs.Allocates.{GaveLarge, IsAllocatedLarge, IsRefusedLarge, AllocatesByScan, AllocatesLarge}
 use Rattle.pas_large.specs.Named.{ClaimsNamed}
 use Rattle.pas_large.specs.Telling.{IsToldLarge}
-use Rattle.pas_large.proofs.Named.{some_none}
+use Rattle.pas_large.proofs.Named.{some_none, named_steps}
 use Rattle.std.proofs.lemmas.List.{append-nil}
 use Rattle.pas_large.specs.Claims.{in_span, HasPages}
 use Rattle.pas_large.specs.Finds.{MayFind, FindRoom, Finds}
@@ -170,13 +170,14 @@ serves_named heap n first found tells claim block give =
     let calls = call_then (GaveLarge d first n block) (named_call d n first found claim) give.calls (named_pages d n first found claim)
     (λ v met got gave. record { does = undone (λ g. in_span first (first + n) (g / 256)) (in_span first (first + n)) got.apart got.lacked got.does gave.does; apart = got.apart; deeds = gave.deeds; turn = gave.turn }) in
     let k = length-append (give.left ++ (give_steps first block give.word give.answer ++ give.backs)) claim.steps in let a = give.few in let b = claim.outcome.few in
+    let most = named_steps n first found claim.outcome.named in
     record {
       tried = claim.steps;
       rest = _;
       adds = calls.adds;
       old = claim.old;
       shows = claim.shows;
-      few = omega (arith, k, a, b);
+      few = omega (arith, k, a, b, most);
       told = λ none. absurd (some_none first found claim.outcome.named none);
       outcome = inl (
         block,
@@ -215,7 +216,7 @@ scans_after {σ} {σ1} heap n found tells claim answer scan =
       shows = claim.shows;
       few = omega (arith, k, a, b, e);
       told = λ none t v l stood met.
-          let no_steps = claim.unnamed none in
+          let no_steps = claim.outcome.unnamed none in
           let stands = subst (λ xs. σ1.stands (xs ++ v) (triples σ.seat.actor xs ++ l)) no_steps (claim.adds.added v l stood met) in
           let told = scan.told t v l stands met in
           subst (λ xs. IsToldLarge σ.seat.profile d n l (triples σ.seat.actor ((scan.after ++ scan.searched) ++ xs) ++ l) answer) (sym no_steps)

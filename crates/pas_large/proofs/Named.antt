@@ -1,5 +1,5 @@
 -- The claim of the run that a door names.
-use Rattle.std.proofs.Common.{◌≡◌, ℕ, ◌+◌, ◌<◌, ◌≤◌, false, List, [], ◌++◌, Option, Some, None, refl, subst, sym, arith}
+use Rattle.std.proofs.Common.{◌≡◌, ℕ, ◌+◌, ◌*◌, ◌<◌, ◌≤◌, false, List, [], ◌++◌, Option, Some, None, refl, ap, subst, sym, arith}
 use Rattle.std.proofs.lemmas.List.{append-nil}
 use Rattle.pas_profile.specs.declared.directory.Directory.{Directory}
 use Rattle.pas_scan.specs.Runs.{page_looks}
@@ -10,7 +10,7 @@ use Rattle.pas_steps.proofs.Adding.{adds_under}
 use Rattle.pas_steps.proofs.Calls.{leads_as}
 use Rattle.pas_large.specs.Claims.{AloneFrom, ClaimsRun, HoldsSpan, LacksAll, MayClaimPages}
 use Rattle.pas_large.specs.Finds.{MayFind}
-use Rattle.pas_large.specs.Named.{ClaimsNamed}
+use Rattle.pas_large.specs.Named.{missed_steps, ClaimsNamed}
 
 -- whatever the door names may be claimed
 may_claim_named : (d : Directory) (first end : ℕ) (v : View) → MayFind d v → MayClaimPages d first end v
@@ -22,12 +22,15 @@ alone_at_first first p low = left_alone_by page_looks refl refl p [] tt
 pub some_none : (first : ℕ) (found : Option ℕ) → found ≡ Some first → found ≡ None → ⊥
 some_none first found named none = cc
 
+-- what may be spent with a run that was named
+pub named_steps : (n first : ℕ) (found : Option ℕ) → found ≡ Some first → missed_steps found n ≡ 48 * n
+named_steps n first found named = ap (λ o. missed_steps o n) named
+
 pub holds_named : {σ σ1 : Standing} (d : Directory) (n first : ℕ) (found : Option ℕ) → found ≡ Some first → (1 ≤ first) × (first + n ≤ σ.seat.profile.pages + 1) → ClaimsRun false d first (first + n) σ σ1 None → ClaimsNamed d n found σ σ1 (Some first)
 holds_named d n first found named region claim = record {
   steps = claim.steps;
   adds = adds_under claim.adds (λ v l stood met. may_claim_named d first (first + n) v met);
   old = claim.old refl;
-  unnamed = λ none. absurd (some_none first found named none);
   shows = claim.shows;
   outcome = record {
     named = named;
@@ -43,11 +46,11 @@ misses_named d n first page found named claim = record {
   steps = claim.steps;
   adds = adds_under claim.adds (λ v l stood met. may_claim_named d first (first + n) v met);
   old = claim.old refl;
-  unnamed = λ none. absurd (some_none first found named none);
   shows = claim.shows;
   outcome = record {
+    unnamed = λ none. absurd (some_none first found named none);
     still = leads_as claim.outcome.still (λ v met. may_claim_named d first (first + n) v met) (λ v w met does. does);
     lacks = subst LacksAll (append-nil claim.steps) (claim.outcome.lacks [] (λ p. refl));
-    few = (let few = claim.outcome.few in let lt = claim.outcome.in_run.1 in omega (arith, few, lt));
+    few = (let few = claim.outcome.few in let lt = claim.outcome.in_run.1 in let most = named_steps n first found named in omega (arith, few, lt, most));
   };
 }

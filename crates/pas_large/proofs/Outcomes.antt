@@ -98,7 +98,7 @@ module _ (f : Profile) (d : Directory) (n : ℕ) (tried : List Made) (old : Only
     steps_are = refl;
   }
 
-  module _ (misses : MissesNamed f d n tried) (searched after : List Made) where
+  module _ {found : Option ℕ} (misses : MissesNamed f d n found tried) (searched after : List Made) where
     -- after what was tried all is as it was, so the scan does what it does alone
     after_tried : {R : View → View → Type 0} → ((v u w : View) → Does nothing v u → R u w → R v w) → Leads f (MayFind d) R (after ++ searched) → Leads f (MayFind d) R (after ++ (searched ++ tried))
     after_tried {R} join scan = record {
@@ -133,7 +133,7 @@ module _ (f : Profile) (d : Directory) (n : ℕ) (tried : List Made) (old : Only
       still = after_tried {R = Does nothing} (λ v u w a b. does_then a b) is.still;
     }
 
-  scan_ended : (rest : List Made) (answer : Result Block NoRoom) → IsScanned f d n tried rest answer → HasEnded f d n (rest ++ tried) answer
+  scan_ended : {found : Option ℕ} (rest : List Made) (answer : Result Block NoRoom) → IsScanned f d n found tried rest answer → HasEnded f d n (rest ++ tried) answer
   scan_ended rest answer is = record {
     got = is.searched ++ tried;
     after = is.after;
@@ -143,5 +143,5 @@ module _ (f : Profile) (d : Directory) (n : ℕ) (tried : List Made) (old : Only
     steps_are = ap (λ xs. xs ++ tried) is.rest_is ∙ append_assoc is.after is.searched tried;
   }
 
-  pub ended : (found : Option ℕ) (rest : List Made) (answer : Result Block NoRoom) → IsServedNamed f d n found tried rest answer ⊎ IsScanned f d n tried rest answer → HasEnded f d n (rest ++ tried) answer
+  pub ended : (found : Option ℕ) (rest : List Made) (answer : Result Block NoRoom) → IsServedNamed f d n found tried rest answer ⊎ IsScanned f d n found tried rest answer → HasEnded f d n (rest ++ tried) answer
   ended found rest answer outcome = elim outcome [ inl served ↦ named_ended found rest answer served | inr scanned ↦ scan_ended rest answer scanned ]

@@ -14,7 +14,7 @@ use Rattle.pas_steps.specs.Views.{View, holds, KnowsDeed}
 use Rattle.pas_steps.specs.declared.step.Made.{Made}
 use Rattle.pas_large.specs.Claims.{in_span}
 use Rattle.pas_large.specs.Finds.{MayFind, finding, FoundRun, FoundNone}
-use Rattle.pas_large.specs.Named.{HoldsNamed, MissesNamed}
+use Rattle.pas_large.specs.Named.{HoldsNamed, MissesNamed, missed_steps}
 use Rattle.pas_large.specs.Pages.{OnlyDeedsShow, claiming_old}
 use Rattle.pas_large.specs.Gives.{BacksIn, BackStep, pages_from, run_block, give_steps}
 use Rattle.pas_rights.specs.Leaves.{LeaveSteps}
@@ -95,9 +95,9 @@ abbrev pub IsServedNamed : Profile → Directory → ℕ → Option ℕ → List
 IsServedNamed f d n found tried after answer = (block : Block) × (answer ≡ Ok block) × IsAllocatedNamed f d n found tried after block
 
 -- ---- the whole request
--- The door named nothing of use, whatever was tried with it is undone, and the scan followed.
-pub record IsScanned (f : Profile) (d : Directory) (n : ℕ) (tried rest : List Made) (answer : Result Block NoRoom) : Type 0 where
-  pub misses : MissesNamed f d n tried
+-- The door named nothing of use, and whatever was tried with it is undone: nothing was, where it named no run. The scan followed.
+pub record IsScanned (f : Profile) (d : Directory) (n : ℕ) (found : Option ℕ) (tried rest : List Made) (answer : Result Block NoRoom) : Type 0 where
+  pub misses : MissesNamed f d n found tried
   pub searched : List Made
   pub after : List Made
   pub rest_is : rest ≡ after ++ searched
@@ -105,15 +105,15 @@ pub record IsScanned (f : Profile) (d : Directory) (n : ℕ) (tried rest : List 
   pub shows : OnlyDeedsShow f searched
   pub outcome : MatchResult answer (IsAllocatedLarge f d n searched after) (IsRefusedLarge f d n searched after)
 
--- A request for n pages, where the door named a run or none. It is served from that run, or by the scan. At most 56 steps for each page of the region, 60
--- for each page that is asked for, and 66 more. On a desk that tells the whole state, where no run was named, the block is on the lowest run that was
--- usable at entry, and a refusal has no such run at entry and none at exit.
+-- A request for n pages, where the door named a run or none. It is served from that run, or by the scan. At most 56 steps for each page of the region, 12
+-- for each page that is asked for, and 66 more, and where a run was named 48 more for each page that is asked for. On a desk that tells the whole state,
+-- where no run was named, the block is on the lowest run that was usable at entry, and a refusal has no such run at entry and none at exit.
 pub record AllocatesLarge (heap n : ℕ) (found : Option ℕ) (tells : Bool) (desk desk' : Standing) (answer : Result Block NoRoom) : Type 0 where
   pub tried : List Made
   pub rest : List Made
   pub adds : Adds desk desk' (λ v l. MayFind (large_directory heap) v) (rest ++ tried)
   pub old : Only claiming_old tried
   pub shows : OnlyDeedsShow desk.seat.profile tried
-  pub few : length (rest ++ tried) ≤ 56 * desk.seat.profile.pages + 60 * n + 66
+  pub few : length (rest ++ tried) ≤ 56 * desk.seat.profile.pages + 12 * n + missed_steps found n + 66
   pub told : found ≡ None → tells ≡ true → (v : View) (l : Whole) → desk.stands v l → MayFind (large_directory heap) v → IsToldLarge desk.seat.profile (large_directory heap) n l (triples desk.seat.actor (rest ++ tried) ++ l) answer
-  pub outcome : IsServedNamed desk.seat.profile (large_directory heap) n found tried rest answer ⊎ IsScanned desk.seat.profile (large_directory heap) n tried rest answer
+  pub outcome : IsServedNamed desk.seat.profile (large_directory heap) n found tried rest answer ⊎ IsScanned desk.seat.profile (large_directory heap) n found tried rest answer

@@ -1,14 +1,9 @@
--- What a large request asks of an index of ranges of pages, and what indexes answer that nobody else asks meanwhile.
+-- What indexes of ranges of pages answer that nobody else asks meanwhile: those of the heaps, by their numbers.
 use Rattle.std.specs.Prelude.{ℕ, List, [], Option, slice_index_or, slice_set}
 use Rattle.pas_profile.specs.declared.event.Range.{Range}
 use Rattle.pas_large_index.specs.declared.span.Span.{Span}
 use Rattle.pas_large_index.specs.Spans.{span_of, lowest_fit, cut_lowest, added}
 
--- the index was asked once, and gave some answer
-abbrev pub WasAsked : (Option ℕ → Type 0) → Type 0
-WasAsked Answers = (found : Option ℕ) × Answers found
-
--- ---- the indexes of the heaps, by their numbers
 -- the ranges of a heap: none where it has no index
 abbrev pub ranges_of : List (List Span) → ℕ → List Span
 ranges_of indexes heap = slice_index_or indexes heap []

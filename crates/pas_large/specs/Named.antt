@@ -19,17 +19,22 @@ pub record HoldsNamed (f : Profile) (d : Directory) (n : ℕ) (found : Option �
   pub holding : HoldsSpan first (first + n) steps
   pub few : length steps ≤ 6 * n
 
--- all is as it was
-pub record MissesNamed (f : Profile) (d : Directory) (n : ℕ) (steps : List Made) : Type 0 where
+-- how many steps a request for n pages makes at most with a run that doesn't serve: none where none was named
+abbrev pub missed_steps : Option ℕ → ℕ → ℕ
+missed_steps None n = 0
+missed_steps (Some first) n = 48 * n
+
+-- All is as it was. Where no run was named no step was made.
+pub record MissesNamed (f : Profile) (d : Directory) (n : ℕ) (found : Option ℕ) (steps : List Made) : Type 0 where
+  pub unnamed : found ≡ None → steps ≡ []
   pub still : Leads f (MayFind d) (Does nothing) steps
   pub lacks : LacksAll steps
-  pub few : length steps ≤ 48 * n
+  pub few : length steps ≤ missed_steps found n
 
--- No deed is made. Where no run is named no step is made.
+-- No deed is made.
 pub record ClaimsNamed (d : Directory) (n : ℕ) (found : Option ℕ) (desk desk' : Standing) (result : Option ℕ) : Type 0 where
   pub steps : List Made
   pub adds : Adds desk desk' (λ v l. MayFind d v) steps
   pub old : Only claiming_old steps
-  pub unnamed : found ≡ None → steps ≡ []
   pub shows : OnlyDeedsShow desk.seat.profile steps
-  pub outcome : MatchOption result (MissesNamed desk.seat.profile d n steps) (HoldsNamed desk.seat.profile d n found steps)
+  pub outcome : MatchOption result (MissesNamed desk.seat.profile d n found steps) (HoldsNamed desk.seat.profile d n found steps)
