@@ -1,5 +1,5 @@
 -- For callers: the room of one request after another.
-use Rattle.std.proofs.Common.{◌≡◌, ℕ, ◌+◌, ◌≤◌, ◌++◌, length, ap, sym, ◌∙◌, subst, arith, length-append, Result, Bool, List}
+use Rattle.std.proofs.Common.{◌≡◌, ℕ, ◌+◌, ◌≤◌, ◌++◌, length, ap, sym, ◌∙◌, subst, arith, length-append, Option, Result, Bool, List}
 use Rattle.pas_profile.specs.declared.profile.Profile.{Profile}
 use Rattle.pas_cache.specs.Serves.{Wanted, ServesBy}
 use Rattle.pas_profile.specs.declared.directory.Route.{Route}
@@ -53,7 +53,7 @@ budget_left {σ} {σ'} {c} {c'} {spare = spare} {spare' = spare'} n h can law la
     }
 
 -- no request changes the log
-pub log_kept : (f : Profile) (wanted : Wanted) (c c' : Cached) (steps : List Made) (answer : Result Block NoRoom) (route : Route) → ServesBy route f wanted c c' steps answer → c'.log ≡ c.log
-log_kept f wanted c c' steps answer (Route.Class class) h = ap (λ x. x.log) h.cache
-log_kept f wanted c c' steps answer Route.Bitfit h = ap (λ x. x.log) h.cache
-log_kept f wanted c c' steps answer Route.Large h = ap (λ x. x.log) h.cache
+pub log_kept : (f : Profile) (wanted : Wanted) (found : Option ℕ) (c c' : Cached) (steps : List Made) (answer : Result Block NoRoom) (route : Route) → ServesBy route f wanted found c c' steps answer → c'.log ≡ c.log
+log_kept f wanted found c c' steps answer (Route.Class class) h = ap (λ x. x.log) h.cache
+log_kept f wanted found c c' steps answer Route.Bitfit h = ap (λ x. x.log) h.cache
+log_kept f wanted found c c' steps answer Route.Large h = ap (λ x. x.log) h.cache

@@ -40,6 +40,7 @@ use Rattle.pas_large.specs.Claims.{in_span}
 use Rattle.pas_large.specs.Finds.{MayFind, FindRoom, finding}
 use Rattle.pas_large.specs.Gives.{give_steps}
 use Rattle.pas_large.specs.Pages.{OnlyDeedsShow}
+use Rattle.pas_large.specs.Named.{missed_steps}
 use Rattle.pas_large.specs.Telling.{IsToldLarge}
 use Rattle.pas_large.proofs.Claims.{in_parts}
 use Rattle.pas_large.proofs.Gives.{run_is, back_events}
@@ -295,9 +296,9 @@ pages_allocates {σ} {σ'} size align heap n found tells c answer is some alignm
           };
         };
       };
-      change = record { cache = refl; found = found; tried = a.tried; rest = a.rest; old = a.old; outcome = subst (λ k. IsServedNamed f d k found a.tried a.rest answer ⊎ IsScanned f d k a.tried a.rest answer) (sym count) a.outcome; steps_are = refl };
+      change = record { cache = refl; tried = a.tried; rest = a.rest; old = a.old; outcome = subst (λ k. IsServedNamed f d k found a.tried a.rest answer ⊎ IsScanned f d k found a.tried a.rest answer) (sym count) a.outcome; steps_are = refl };
       kinds = subst (Only allocating) (sym same) (kinds f heap n e.got e.after answer e.outcome e.kinds);
-      short = (let short = a.few in omega (arith, short, count));
+      short = (let short = a.few in let missed = ap (missed_steps found) count in omega (arith, short, count, missed));
       few = λ k v met agreed.
           subst (λ m. length (events_by k v (a.rest ++ a.tried)) + unknown_pages f ((a.rest ++ a.tried) ++ v) ≤ most_events m answer + unknown_pages f v) (sym count)
           (subst (λ xs. length (events_by k v xs) + unknown_pages f (xs ++ v) ≤ most_events n answer + unknown_pages f v) (sym same) (few f heap n e.got e.after answer e.outcome e.shows k v (subst (Agreed f v) same agreed)));

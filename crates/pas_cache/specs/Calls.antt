@@ -13,6 +13,7 @@ use Rattle.pas_steps.specs.Calls.{Calls}
 use Rattle.pas_steps.specs.Desks.{Standing, triples, made}
 use Rattle.pas_steps.specs.declared.step.Made.{Made}
 use Rattle.pas_steps.specs.declared.step.Step.TheVariants.{Look}
+use Rattle.pas_large.specs.Named.{missed_steps}
 use Rattle.pas_large.specs.Telling.{IsToldLarge}
 use Rattle.pas_search.specs.Searches.{search_steps}
 use Rattle.pas_steps.specs.Unknown.{HasRoom, unknown_pages}
@@ -50,7 +51,7 @@ pub record MayAllocate (f : Profile) (c : Cached) (spare : ℕ) (v : View) : Typ
 pub record Allocates (wanted : Wanted) (tells : Bool) (c c' : Cached) (desk desk' : Standing) (answer : Result Block NoRoom) : Type 0 where
   pub steps : List Made
   pub calls : Rests c c' desk desk' steps
-  pub change : ServesRequest desk.seat.profile wanted c c' steps answer
+  pub change : ServesRequest desk.seat.profile wanted None c c' steps answer
   pub kinds : Only allocating steps
   pub short : length steps ≤ 59 + search_steps (turn_of wanted.directory.kind) desk.seat.profile.pages
   pub two : HasCached wanted.route wanted.directory.heap c.locals → length steps ≡ 2
@@ -69,16 +70,17 @@ abbrev pub most_events : ℕ → Result Block NoRoom → ℕ
 most_events n (Ok block) = n + 1
 most_events n (Err room) = 0
 
--- The run that the door named or the search for one serves the request, the cache is as it was, and its actor is at rest again. The events are deeds of the directory that weren't
--- known, and where the block is given backs after them, one for each page at most, and last the give. At most 56 steps for each
--- page of the region, 60 for each page that is asked for, and 66 more. On a desk that tells the whole state, where no run was named, the block is on the
--- lowest run of usable pages at entry, and a refusal comes only where there is none then and none at exit, with its true reason.
+-- The run that the door named or the search for one serves the request, the cache is as it was, and its actor is at rest again. The events are deeds of
+-- the directory that weren't known, and where the block is given backs after them, one for each page at most, and last the give. At most 56 steps for each
+-- page of the region, 12 for each page that is asked for, and 66 more, and where a run was named 48 more for each page that is asked for. On a desk that
+-- tells the whole state, where no run was named, the block is on the lowest run of usable pages at entry, and a refusal comes only where there is none
+-- then and none at exit, with its true reason.
 pub record AllocatesPages (wanted : Wanted) (found : Option ℕ) (tells : Bool) (c c' : Cached) (desk desk' : Standing) (answer : Result Block NoRoom) : Type 0 where
   pub steps : List Made
   pub calls : Rests c c' desk desk' steps
-  pub change : ServesRequest desk.seat.profile wanted c c' steps answer
+  pub change : ServesRequest desk.seat.profile wanted found c c' steps answer
   pub kinds : Only allocating steps
-  pub short : length steps ≤ 56 * desk.seat.profile.pages + 60 * pages_of wanted + 66
+  pub short : length steps ≤ 56 * desk.seat.profile.pages + 12 * pages_of wanted + missed_steps found (pages_of wanted) + 66
   pub few : MakesAtMost desk.seat.profile (AtRest desk.seat.profile c) (most_events (pages_of wanted) answer) steps
   pub outcome : MatchResult answer (IsBlockFor desk.seat.profile wanted (AtRest desk.seat.profile c) steps) (λ room. MakesDeedsOf wanted.directory steps)
   pub told : found ≡ None → tells ≡ true → (v : View) (l : Whole) → desk.stands v l → AtRest desk.seat.profile c v → IsToldLarge desk.seat.profile wanted.directory (pages_of wanted) l (triples desk.seat.actor steps ++ l) answer

@@ -79,15 +79,15 @@ pub record ServesBitfit (f : Profile) (wanted : Wanted) (c c' : Cached) (steps :
 abbrev pub pages_of : Wanted → ℕ
 pages_of wanted = wanted.room / 4096
 
--- The door named a run or none. The block was given on that run, without a deed, or what was tried with it was undone and the pages of the region were
--- searched for a run that could be claimed: the block was given on it and its pages left, or the search was refused. Nothing of the cache is changed.
-pub record ServesPages (f : Profile) (wanted : Wanted) (c c' : Cached) (steps : List Made) (answer : Result Block NoRoom) : Type 0 where
+-- The door named a run or none. The block was given on that run, without a deed, or what was tried with it was undone (nothing was, where none was named)
+-- and the pages of the region were searched for a run that could be claimed: the block was given on it and its pages left, or the search was refused.
+-- Nothing of the cache is changed.
+pub record ServesPages (f : Profile) (wanted : Wanted) (found : Option ℕ) (c c' : Cached) (steps : List Made) (answer : Result Block NoRoom) : Type 0 where
   pub cache : c' ≡ c
-  pub found : Option ℕ
   pub tried : List Made
   pub rest : List Made
   pub old : Only claiming_old tried
-  pub outcome : IsServedNamed f wanted.directory (pages_of wanted) found tried rest answer ⊎ IsScanned f wanted.directory (pages_of wanted) tried rest answer
+  pub outcome : IsServedNamed f wanted.directory (pages_of wanted) found tried rest answer ⊎ IsScanned f wanted.directory (pages_of wanted) found tried rest answer
   pub steps_are : steps ≡ rest ++ tried
 
 -- ---- slots are obtained
@@ -184,14 +184,14 @@ pub record ServesClass (fill : Filling) (f : Profile) (c c' : Cached) (steps : L
   pub locals : ServesLocals fill f c.locals c'.locals steps answer
   pub cache : c' ≡ record c { locals = c'.locals }
 
-abbrev pub ServesBy : Route → Profile → Wanted → Cached → Cached → List Made → Result Block NoRoom → Type 0
-ServesBy (Route.Class class) f wanted c c' steps answer = ServesClass (filling_in wanted.directory class) f c c' steps answer
-ServesBy Route.Bitfit f wanted c c' steps answer = ServesBitfit f wanted c c' steps answer
-ServesBy Route.Large f wanted c c' steps answer = ServesPages f wanted c c' steps answer
+abbrev pub ServesBy : Route → Profile → Wanted → Option ℕ → Cached → Cached → List Made → Result Block NoRoom → Type 0
+ServesBy (Route.Class class) f wanted found c c' steps answer = ServesClass (filling_in wanted.directory class) f c c' steps answer
+ServesBy Route.Bitfit f wanted found c c' steps answer = ServesBitfit f wanted c c' steps answer
+ServesBy Route.Large f wanted found c c' steps answer = ServesPages f wanted found c c' steps answer
 
--- HOW A REQUEST IS SERVED, by its route
-abbrev pub ServesRequest : Profile → Wanted → Cached → Cached → List Made → Result Block NoRoom → Type 0
-ServesRequest f wanted c c' steps answer = ServesBy wanted.route f wanted c c' steps answer
+-- HOW A REQUEST IS SERVED, by its route, and by the run that a door named for it or None
+abbrev pub ServesRequest : Profile → Wanted → Option ℕ → Cached → Cached → List Made → Result Block NoRoom → Type 0
+ServesRequest f wanted found c c' steps answer = ServesBy wanted.route f wanted found c c' steps answer
 
 -- ---- the block
 -- what may be shown before a give: deeds of the request's directory, and backs

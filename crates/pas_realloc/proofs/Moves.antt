@@ -1,5 +1,5 @@
 -- A block gets another size.
-use Rattle.std.proofs.Common.{◌≡◌, ◌≢◌, ℕ, ◌+◌, ◌-◌, ◌/◌, ◌%◌, ◌^◌, ◌<◌, ◌≤◌, ◌==◌, ◌&&◌, ◌++◌, Bool, true, false, if◌then◌else◌, List, [], length, Result, Ok, Err, refl, ap, sym, ◌∙◌, subst, arith, true≢false, max}
+use Rattle.std.proofs.Common.{◌≡◌, ◌≢◌, ℕ, ◌+◌, ◌-◌, ◌/◌, ◌%◌, ◌^◌, ◌<◌, ◌≤◌, ◌==◌, ◌&&◌, ◌++◌, Bool, true, false, if◌then◌else◌, List, [], length, Option, None, Result, Ok, Err, refl, ap, sym, ◌∙◌, subst, arith, true≢false, max}
 use Rattle.std.specs.Prelude.{nat_le}
 use Rattle.std.proofs.lemmas.Bool.{and_parts, and_from, leb-true, le-leb, eqb-true, eq-eqb}
 use Rattle.pas_profile.specs.Routes.{route_of}
@@ -23,11 +23,11 @@ use Rattle.pas_cache.specs.Caches.{Cached, AtRest}
 use Rattle.pas_cache.specs.Calls.{MayAllocate, MayAllocatePages, RefusesName, TakesEntry, Frees}
 use Rattle.pas_free_log.specs.Logs.{entry_of}
 use Rattle.pas_cache.specs.Names.{IsInRegion, IsFaultOf}
-use Rattle.pas_cache.specs.Serves.{Wanted}
+use Rattle.pas_cache.specs.Serves.{Wanted, IsSmallRoute}
 use Rattle.pas_cache.specs.declared.moving.Moved.TheVariants.{Kept, New}
 use Rattle.pas_answers.specs.Calls.{Serves}
 use Rattle.pas_answers.proofs.Routes.{small_cost, is_large}
-use Rattle.pas_realloc.specs.Moves.{Suits, flush_of_full, MayMove, MayPlace, Moves}
+use Rattle.pas_realloc.specs.Moves.{Suits, flush_of_full, MayMove, MayPlace, IsNamed, Moves}
 
 -- ---- the request
 pub can_allocate : {σ : Standing} (c : Cached) (size align spare : ℕ) → size ≤ 2048 → CanCall σ (λ v l. MayPlace σ.seat.profile c (cost_of_route (route_of size align) size) spare v) → CanCall σ (λ v l. MayAllocate σ.seat.profile c spare v)
@@ -52,18 +52,27 @@ suiting old size align is = let parts = and_parts (nat_le (max size 1) old.room)
 pub unsuiting : (old : Block) (size align : ℕ) → (nat_le (max size 1) old.room && (address_of old.name % align == 0)) ≡ false → Suits old size align → ⊥
 unsuiting old size align other suits = true≢false (sym (and_from (nat_le (max size 1) old.room) (address_of old.name % align == 0) (le-leb (max size 1) old.room suits.0) (eq-eqb (address_of old.name % align) 0 suits.1)) ∙ other)
 
--- ---- what it comes to
-pub kept : {σ : Standing} (wanted : Wanted) (old : Block) (size align : ℕ) (c : Cached) → Suits old size align → Moves wanted old size align c c σ σ (Ok Kept)
-kept wanted old size align c suits = record { steps = []; calls = call_none (λ v met. met); moved = record { suits = suits; no_steps = refl; cache = refl } }
+-- ---- the run that was named
+pub none_named : (Answers : Option ℕ → Type 0) (route : Route) → IsSmallRoute route → IsNamed route Answers None
+none_named Answers (Route.Class class) small = refl
+none_named Answers Route.Bitfit small = refl
+none_named Answers Route.Large small = absurd small
 
-pub refused : {σ σ1 : Standing} (cost : ℕ) (wanted : Wanted) (old : Block) (size align : ℕ) (c c1 : Cached) (room : NoRoom) → (Suits old size align → ⊥) → Serves cost wanted c c1 σ σ1 (Err room) → Moves wanted old size align c c1 σ σ1 (Err room)
-refused cost wanted old size align c c1 room unsuited s = record { steps = s.steps; calls = s.calls; moved = record { unsuited = unsuited; serves = s.change; kinds = s.kinds; ends = s.outcome; same_log = s.log_is } }
+pub door_named : (Answers : Option ℕ → Type 0) (route : Route) (found : Option ℕ) → route ≡ Route.Large → Answers found → IsNamed route Answers found
+door_named Answers route found large answers = subst (λ r. IsNamed r Answers found) (sym large) answers
+
+-- ---- what it comes to
+pub kept : {σ : Standing} (Answers : Option ℕ → Type 0) (wanted : Wanted) (old : Block) (size align : ℕ) (c : Cached) → Suits old size align → Moves Answers wanted old size align c c σ σ (Ok Kept)
+kept Answers wanted old size align c suits = record { steps = []; calls = call_none (λ v met. met); moved = record { suits = suits; no_steps = refl; cache = refl } }
+
+pub refused : {σ σ1 : Standing} (Answers : Option ℕ → Type 0) (cost : ℕ) (wanted : Wanted) (found : Option ℕ) (old : Block) (size align : ℕ) (c c1 : Cached) (room : NoRoom) → (Suits old size align → ⊥) → IsNamed wanted.route Answers found → Serves cost wanted found c c1 σ σ1 (Err room) → Moves Answers wanted old size align c c1 σ σ1 (Err room)
+refused Answers cost wanted found old size align c c1 room unsuited named s = record { steps = s.steps; calls = s.calls; moved = record { unsuited = unsuited; found = found; named = named; serves = s.change; kinds = s.kinds; ends = s.outcome; same_log = s.log_is } }
 
 full_log : (n : ℕ) → n ≡ 64 → nat_le 64 n ≡ true
 full_log n e = le-leb 64 n (omega (arith, e))
 
-pub room_to_free : {σ σ1 : Standing} (cost spare spare1 : ℕ) (wanted : Wanted) (c c1 : Cached) (block : Block) → Serves cost wanted c c1 σ σ1 (Ok block) → CanCall σ (λ v l. MayMove σ.seat.profile c cost spare v) → Spares σ spare → Spares σ1 spare1 → length c1.log ≡ 64 → 64 ≤ spare1
-room_to_free {σ} cost spare spare1 wanted c c1 block s can law law1 full =
+pub room_to_free : {σ σ1 : Standing} (cost spare spare1 : ℕ) (wanted : Wanted) (found : Option ℕ) (c c1 : Cached) (block : Block) → Serves cost wanted found c c1 σ σ1 (Ok block) → CanCall σ (λ v l. MayMove σ.seat.profile c cost spare v) → Spares σ spare → Spares σ1 spare1 → length c1.log ≡ 64 → 64 ≤ spare1
+room_to_free {σ} cost spare spare1 wanted found c c1 block s can law law1 full =
     let rest = can.met.rest in let agreed = s.calls.adds.agreed can.view can.whole can.stood rest in
     let few = s.few σ.seat.actor can.view rest agreed in
     let falls = spare_falls spare spare1 (length (events_by σ.seat.actor can.view s.steps)) s.calls.adds (record { view = can.view; whole = can.whole; stood = can.stood; met = rest }) law law1 refl in
@@ -71,8 +80,8 @@ room_to_free {σ} cost spare spare1 wanted c c1 block s can law law1 full =
     let flush : flush_of_full c.log ≡ 64 = ap (λ t. if t then 64 else 0) (full_log (length c.log) at) in
     let room = can.met.room in omega (arith, few, falls, flush, room)
 
-pub can_free : {σ σ1 : Standing} (cost spare : ℕ) (wanted : Wanted) (c c1 : Cached) (block : Block) → Serves cost wanted c c1 σ σ1 (Ok block) → CanCall σ (λ v l. MayMove σ.seat.profile c cost spare v) → CanCall σ1 (λ v l. AtRest σ1.seat.profile c1 v)
-can_free {σ} {σ1} cost spare wanted c c1 block s can =
+pub can_free : {σ σ1 : Standing} (cost spare : ℕ) (wanted : Wanted) (found : Option ℕ) (c c1 : Cached) (block : Block) → Serves cost wanted found c c1 σ σ1 (Ok block) → CanCall σ (λ v l. MayMove σ.seat.profile c cost spare v) → CanCall σ1 (λ v l. AtRest σ1.seat.profile c1 v)
+can_free {σ} {σ1} cost spare wanted found c c1 block s can =
     subst (λ (t : Seat). CanCall σ1 (λ v l. AtRest t.profile c1 v)) (sym s.calls.adds.seat_is) (next_call s.calls (record { view = can.view; whole = can.whole; stood = can.stood; met = can.met.rest }) (λ v met rests. rests))
 
 -- the old name is on a page of the region, at a multiple of 16
@@ -80,8 +89,8 @@ pub no_fault : (f : Profile) (name : Name) (fault : FreeFault) → IsInRegion f 
 no_fault f name Outside region fault = fault region.page
 no_fault f name Unaligned region fault = fault.1 region.aligned
 
-pub replaced : {σ σ1 σ2 : Standing} (cost : ℕ) (wanted : Wanted) (old : Block) (size align : ℕ) (c c1 c2 : Cached) (block : Block) → (Suits old size align → ⊥) → (s : Serves cost wanted c c1 σ σ1 (Ok block)) → Frees (entry_of old.name) c1 c2 σ1 σ2 (Ok tt) → Moves wanted old size align c c2 σ σ2 (Ok (New block))
-replaced {σ} {σ1} {σ2} cost wanted old size align c c1 c2 block unsuited s free =
+pub replaced : {σ σ1 σ2 : Standing} (Answers : Option ℕ → Type 0) (cost : ℕ) (wanted : Wanted) (found : Option ℕ) (old : Block) (size align : ℕ) (c c1 c2 : Cached) (block : Block) → (Suits old size align → ⊥) → IsNamed wanted.route Answers found → (s : Serves cost wanted found c c1 σ σ1 (Ok block)) → Frees (entry_of old.name) c1 c2 σ1 σ2 (Ok tt) → Moves Answers wanted old size align c c2 σ σ2 (Ok (New block))
+replaced {σ} {σ1} {σ2} Answers cost wanted found old size align c c1 c2 block unsuited named s free =
     let f = σ.seat.profile in
     let takes = subst (λ (t : Seat). TakesEntry t.profile t.actor c1 c2 (entry_of old.name) free.steps) s.calls.adds.seat_is free.outcome in
     record {
@@ -93,6 +102,8 @@ replaced {σ} {σ1} {σ2} cost wanted old size align c c1 c2 block unsuited s fr
         placed = s.steps;
         freed = free.steps;
         between = c1;
+        found = found;
+        named = named;
         serves = s.change;
         kinds = s.kinds;
         block_for = s.outcome;
@@ -103,5 +114,5 @@ replaced {σ} {σ1} {σ2} cost wanted old size align c c1 c2 block unsuited s fr
     }
 
 -- the region is the same after the request
-pub in_same : {σ σ1 : Standing} {cost : ℕ} {wanted : Wanted} {c c1 : Cached} {answer : Result Block NoRoom} → Serves cost wanted c c1 σ σ1 answer → (name : Name) → IsInRegion σ.seat.profile name → IsInRegion σ1.seat.profile name
+pub in_same : {σ σ1 : Standing} {cost : ℕ} {wanted : Wanted} {found : Option ℕ} {c c1 : Cached} {answer : Result Block NoRoom} → Serves cost wanted found c c1 σ σ1 answer → (name : Name) → IsInRegion σ.seat.profile name → IsInRegion σ1.seat.profile name
 in_same s name region = subst (λ (t : Seat). IsInRegion t.profile name) (sym s.calls.adds.seat_is) region

@@ -1,6 +1,7 @@
 -- How a block gets another size.
-use Rattle.std.specs.Prelude.{ℕ, ◌+◌, ◌%◌, ◌≤◌, ◌≡◌, max, nat_le, if◌then◌else◌, List, [], ◌++◌, length, Result, Ok, Err, MatchResult}
+use Rattle.std.specs.Prelude.{ℕ, ◌+◌, ◌%◌, ◌≤◌, ◌≡◌, max, nat_le, if◌then◌else◌, List, [], ◌++◌, length, Option, None, Result, Ok, Err, MatchResult}
 use Rattle.pas_profile.specs.Runs.{address_of}
+use Rattle.pas_profile.specs.declared.directory.Route.{Route}
 use Rattle.pas_profile.specs.declared.event.NoRoom.{NoRoom}
 use Rattle.pas_profile.specs.declared.name.Block.{Block}
 use Rattle.pas_profile.specs.declared.profile.Profile.{Profile}
@@ -38,6 +39,13 @@ pub record MayPlace (f : Profile) (c : Cached) (cost spare : ℕ) (v : View) : T
   pub rest : AtRest f c v
   pub room : cost + unknown_pages f v ≤ spare
 
+-- What is known of the run that was named for a request of this route: the door's answer where the request is for whole pages. For another request the
+-- door isn't asked.
+abbrev pub IsNamed : Route → (Option ℕ → Type 0) → Option ℕ → Type 0
+IsNamed (Route.Class class) Answers found = found ≡ None
+IsNamed Route.Bitfit Answers found = found ≡ None
+IsNamed Route.Large Answers found = Answers found
+
 -- It suits as it is: nothing was done.
 pub record Keeps (old : Block) (size align : ℕ) (c c' : Cached) (steps : List Made) : Type 0 where
   pub suits : Suits old size align
@@ -45,12 +53,14 @@ pub record Keeps (old : Block) (size align : ℕ) (c c' : Cached) (steps : List 
   pub cache : c' ≡ c
 
 -- It doesn't, and the request for another block in its heap was served. Then the old name was logged, and is the last that is.
-pub record Replaces (f : Profile) (actor : ℕ) (wanted : Wanted) (old : Block) (size align : ℕ) (c c' : Cached) (steps : List Made) (block : Block) : Type 0 where
+pub record Replaces (Answers : Option ℕ → Type 0) (f : Profile) (actor : ℕ) (wanted : Wanted) (old : Block) (size align : ℕ) (c c' : Cached) (steps : List Made) (block : Block) : Type 0 where
   pub unsuited : Suits old size align → ⊥
   pub placed : List Made
   pub freed : List Made
   pub between : Cached
-  pub serves : ServesRequest f wanted c between placed (Ok block)
+  pub found : Option ℕ
+  pub named : IsNamed wanted.route Answers found
+  pub serves : ServesRequest f wanted found c between placed (Ok block)
   pub kinds : Only allocating placed
   pub block_for : IsBlockFor f wanted (AtRest f c) placed block
   pub same_log : between.log ≡ c.log
@@ -58,20 +68,22 @@ pub record Replaces (f : Profile) (actor : ℕ) (wanted : Wanted) (old : Block) 
   pub steps_are : steps ≡ freed ++ placed
 
 -- .. or was refused, and nothing was logged
-pub record CannotMove (f : Profile) (wanted : Wanted) (old : Block) (size align : ℕ) (c c' : Cached) (steps : List Made) (room : NoRoom) : Type 0 where
+pub record CannotMove (Answers : Option ℕ → Type 0) (f : Profile) (wanted : Wanted) (old : Block) (size align : ℕ) (c c' : Cached) (steps : List Made) (room : NoRoom) : Type 0 where
   pub unsuited : Suits old size align → ⊥
-  pub serves : ServesRequest f wanted c c' steps (Err room)
+  pub found : Option ℕ
+  pub named : IsNamed wanted.route Answers found
+  pub serves : ServesRequest f wanted found c c' steps (Err room)
   pub kinds : Only allocating steps
   pub ends : (k : ℕ) (v : View) → RefusalEnds wanted.route wanted.directory (events_by k v steps)
   pub same_log : c'.log ≡ c.log
 
-abbrev pub IsMoved : Profile → ℕ → Wanted → Block → ℕ → ℕ → Cached → Cached → List Made → Result Moved NoRoom → Type 0
-IsMoved f actor wanted old size align c c' steps (Ok Kept) = Keeps old size align c c' steps
-IsMoved f actor wanted old size align c c' steps (Ok (New block)) = Replaces f actor wanted old size align c c' steps block
-IsMoved f actor wanted old size align c c' steps (Err room) = CannotMove f wanted old size align c c' steps room
+abbrev pub IsMoved : (Option ℕ → Type 0) → Profile → ℕ → Wanted → Block → ℕ → ℕ → Cached → Cached → List Made → Result Moved NoRoom → Type 0
+IsMoved Answers f actor wanted old size align c c' steps (Ok Kept) = Keeps old size align c c' steps
+IsMoved Answers f actor wanted old size align c c' steps (Ok (New block)) = Replaces Answers f actor wanted old size align c c' steps block
+IsMoved Answers f actor wanted old size align c c' steps (Err room) = CannotMove Answers f wanted old size align c c' steps room
 
 -- the actor is at rest before and afterwards
-pub record Moves (wanted : Wanted) (old : Block) (size align : ℕ) (c c' : Cached) (desk desk' : Standing) (answer : Result Moved NoRoom) : Type 0 where
+pub record Moves (Answers : Option ℕ → Type 0) (wanted : Wanted) (old : Block) (size align : ℕ) (c c' : Cached) (desk desk' : Standing) (answer : Result Moved NoRoom) : Type 0 where
   pub steps : List Made
   pub calls : Rests c c' desk desk' steps
-  pub moved : IsMoved desk.seat.profile desk.seat.actor wanted old size align c c' steps answer
+  pub moved : IsMoved Answers desk.seat.profile desk.seat.actor wanted old size align c c' steps answer

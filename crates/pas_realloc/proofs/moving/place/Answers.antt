@@ -1,7 +1,9 @@
+use Rattle.std.proofs.Common.{◌+◌, ◌-◌, ◌/◌, None}
+use Rattle.pas_profile.specs.Routes.{route_of}
 use Rattle.pas_cache.specs.Caches.{cached}
 use Rattle.pas_answers.proofs.Requests.{serves_small, serves_pages}
 use Rattle.pas_answers.proofs.Routes.{is_small, is_large}
-use Rattle.pas_realloc.proofs.Moves.{can_allocate, can_allocate_pages}
+use Rattle.pas_realloc.proofs.Moves.{can_allocate, can_allocate_pages, none_named, door_named}
 use Rattle.pas_realloc.proofs.moving.place.Goals as goal
 
 pub alloc_large-requires-clause-can : goal.alloc_large-requires-clause-can
@@ -15,9 +17,16 @@ alloc-requires-clause-can g c = can_allocate (cached c.args.cache.now) c.args.si
 
 pub returns-then-size-gt-MOST_BITFIT-clause-serves : goal.returns-then-size-gt-MOST_BITFIT-clause-serves
 returns-then-size-gt-MOST_BITFIT-clause-serves g c =
-    serves_pages (cached c.args.cache.now) (cached c.alloc_large.new.self) c.args.heap c.args.size c.args.align c.if-size-gt-MOST_BITFIT.true
-    (c.alloc_large.ensures.allocates.2 c.args.align c.requires.admitted.aligned (is_large c.args.size c.args.align c.if-size-gt-MOST_BITFIT.true))
+    let allocates = c.alloc_large.ensures.allocates in
+    let large = is_large c.args.size c.args.align c.if-size-gt-MOST_BITFIT.true in (
+      allocates.0,
+      door_named (g.O.Door.answers c.args.door.now c.alloc_large.new.door c.args.heap ((c.args.size + 4096 - 1) / 4096)) (route_of c.args.size c.args.align) allocates.0 large allocates.1,
+      serves_pages (cached c.args.cache.now) (cached c.alloc_large.new.self) c.args.heap c.args.size c.args.align c.if-size-gt-MOST_BITFIT.true (allocates.2 c.args.align c.requires.admitted.aligned large),
+    )
 
 pub returns-else-size-gt-MOST_BITFIT-clause-serves : goal.returns-else-size-gt-MOST_BITFIT-clause-serves
-returns-else-size-gt-MOST_BITFIT-clause-serves g c =
-    serves_small (cached c.args.cache.now) (cached c.alloc.new.self) c.args.heap c.args.size c.args.align c.if-size-gt-MOST_BITFIT.false c.alloc.ensures.allocates
+returns-else-size-gt-MOST_BITFIT-clause-serves g c = (
+  None,
+  none_named (g.O.Door.answers c.args.door.now c.args.door.now c.args.heap ((c.args.size + 4096 - 1) / 4096)) (route_of c.args.size c.args.align) (is_small c.args.size c.args.align c.if-size-gt-MOST_BITFIT.false),
+  serves_small (cached c.args.cache.now) (cached c.alloc.new.self) c.args.heap c.args.size c.args.align c.if-size-gt-MOST_BITFIT.false c.alloc.ensures.allocates,
+)
