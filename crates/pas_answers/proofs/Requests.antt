@@ -78,7 +78,7 @@ small_few f w Meets steps cost (Err room) two few silent = λ k v met agreed.
     omega (arith, none, unknown)
 
 pub serves_small : {σ σ' : Standing} {answer : Result Block NoRoom} {tells : Bool} (c c' : Cached) (heap size align : ℕ) → size ≤ 2048 → Allocates (wanted_for σ.seat.profile heap size align) tells c c' σ σ' answer
-    → Serves (cost_of_route (route_of size align) size) (wanted_for σ.seat.profile heap size align) c c' σ σ' answer
+    → Serves (cost_of_route (route_of size align) size) (wanted_for σ.seat.profile heap size align) None c c' σ σ' answer
 serves_small {σ} {σ'} {answer} c c' heap size align small call =
     let f = σ.seat.profile in
     let w = wanted_for f heap size align in
@@ -89,7 +89,7 @@ serves_small {σ} {σ'} {answer} c c' heap size align small call =
       kinds = call.kinds;
       few = small_few f w (AtRest f c) call.steps (cost_of_route (route_of size align) size) answer (small_cost size align small) call.few call.outcome;
       outcome = small_ends f w (AtRest f c) call.steps answer call.outcome;
-      log_is = log_kept f w c c' call.steps answer (route_of size align) call.change;
+      log_is = log_kept f w None c c' call.steps answer (route_of size align) call.change;
     }
 
 pages_ends : (f : Profile) (w : Wanted) (Meets : View → Type 0) (steps : List Made) (answer : Result Block NoRoom) → w.route ≡ Route.Large → MatchResult answer (IsBlockFor f w Meets steps) (λ room. MakesDeedsOf w.directory steps)
@@ -102,8 +102,8 @@ most_same n cost (Ok block) same = sym same
 most_same n cost (Err room) same = refl
 
 pub serves_pages : {σ σ' : Standing} {answer : Result Block NoRoom} {found : Option ℕ} {tells : Bool} (c c' : Cached) (heap size align : ℕ) → 2048 < size → AllocatesPages (wanted_for σ.seat.profile heap size align) found tells c c' σ σ' answer
-    → Serves (cost_of_route (route_of size align) size) (wanted_for σ.seat.profile heap size align) c c' σ σ' answer
-serves_pages {σ} {σ'} {answer} c c' heap size align large call =
+    → Serves (cost_of_route (route_of size align) size) (wanted_for σ.seat.profile heap size align) found c c' σ σ' answer
+serves_pages {σ} {σ'} {answer} {found} c c' heap size align large call =
     let f = σ.seat.profile in
     let w = wanted_for f heap size align in
     let route = is_large size align large in
@@ -118,8 +118,12 @@ serves_pages {σ} {σ'} {answer} c c' heap size align large call =
       kinds = call.kinds;
       few = subst (λ (n : ℕ). MakesAtMost f (AtRest f c) n call.steps) (most_same (pages_of w) (cost_of_route (route_of size align) size) answer same) call.few;
       outcome = pages_ends f w (AtRest f c) call.steps answer route call.outcome;
-      log_is = log_kept f w c c' call.steps answer (route_of size align) call.change;
+      log_is = log_kept f w found c c' call.steps answer (route_of size align) call.change;
     }
+
+-- where the door has no index it names no run
+pub unnamed : {σ σ' : Standing} {c c' : Cached} {cost : ℕ} {wanted : Wanted} {found : Option ℕ} {answer : Result Block NoRoom} → found ≡ None → Serves cost wanted found c c' σ σ' answer → Serves cost wanted None c c' σ σ' answer
+unnamed {σ} {σ'} {c} {c'} {cost} {wanted} {answer = answer} none serves = subst (λ o. Serves cost wanted o c c' σ σ' answer) none serves
 
 -- ---- the directory
 -- a deed word of a directory is of that one
@@ -151,7 +155,7 @@ refused_few f k cost c c' steps v some same few = let log = ap (λ names. length
 -- ---- the turn of its block
 -- the turn of a block that was given is far below the last one
 pub turn_given : {σ σ' : Standing} {answer : Result Block NoRoom} (c c' : Cached) (name heap size align spare : ℕ) (block : Block)
-    → CanCall σ (λ v l. MayPerform σ.seat.profile c (Alloc name heap size align) spare v) → Serves (cost_of_route (route_of size align) size) (wanted_for σ.seat.profile heap size align) c c' σ σ' answer → answer ≡ Ok block → HasTurn (Some block.name)
+    → CanCall σ (λ v l. MayPerform σ.seat.profile c (Alloc name heap size align) spare v) → Serves (cost_of_route (route_of size align) size) (wanted_for σ.seat.profile heap size align) None c c' σ σ' answer → answer ≡ Ok block → HasTurn (Some block.name)
 turn_given {σ} {σ'} {answer} c c' name heap size align spare block can call is =
     let of : IsBlockFor σ.seat.profile (wanted_for σ.seat.profile heap size align) (AtRest σ.seat.profile c) call.steps block
     = subst (λ a. MatchResult a (IsBlockFor σ.seat.profile (wanted_for σ.seat.profile heap size align) (AtRest σ.seat.profile c) call.steps) (λ room. (k : ℕ) (v : View) → RefusalEnds (route_of size align) (wanted_for σ.seat.profile heap size align).directory (events_by k v call.steps))) is call.outcome in
@@ -163,7 +167,7 @@ turn_refused = λ b same. absurd (none-some _ same)
 
 -- ---- a request
 pub performs_given : {σ σ' : Standing} {answer : Result Block NoRoom} (c c' : Cached) (name heap size align : ℕ) (block : Block)
-    → Serves (cost_of_route (route_of size align) size) (wanted_for σ.seat.profile heap size align) c c' σ σ' answer → answer ≡ Ok block → (meant : Option Name)
+    → Serves (cost_of_route (route_of size align) size) (wanted_for σ.seat.profile heap size align) None c c' σ σ' answer → answer ≡ Ok block → (meant : Option Name)
     → PerformsMeant (Alloc name heap size align) meant (Some block.name) c c' σ σ' None
 performs_given {σ} {σ'} {answer} c c' name heap size align block call is meant =
     let cost = cost_of_route (route_of size align) size in
@@ -175,7 +179,7 @@ performs_given {σ} {σ'} {answer} c c' name heap size align block call is meant
       few = λ v rest agreed. given_few σ.seat.profile σ.seat.actor cost c c' call.steps v call.log_is (subst (λ a. MakesAtMost σ.seat.profile (AtRest σ.seat.profile c) (events_for cost a) call.steps) is call.few σ.seat.actor v rest agreed);
       answered = λ v l stood rest names means known. record {
         answer = Ok block;
-        serves = subst (λ a. ServesRequest σ.seat.profile (wanted_for σ.seat.profile heap size align) c c' call.steps a) is call.change;
+        serves = subst (λ a. ServesRequest σ.seat.profile (wanted_for σ.seat.profile heap size align) None c c' call.steps a) is call.change;
         kinds = call.kinds;
         ends = record {
           of_heap = of.of_heap;
@@ -194,7 +198,7 @@ performs_given {σ} {σ'} {answer} c c' name heap size align block call is meant
     }
 
 pub performs_refused : {σ σ' : Standing} {answer : Result Block NoRoom} (c c' : Cached) (name heap size align : ℕ) (room : NoRoom)
-    → Serves (cost_of_route (route_of size align) size) (wanted_for σ.seat.profile heap size align) c c' σ σ' answer → answer ≡ Err room → (meant : Option Name)
+    → Serves (cost_of_route (route_of size align) size) (wanted_for σ.seat.profile heap size align) None c c' σ σ' answer → answer ≡ Err room → (meant : Option Name)
     → PerformsMeant (Alloc name heap size align) meant None c c' σ σ' (Some (said_of_room name room))
 performs_refused {σ} {σ'} {answer} c c' name heap size align room call is meant =
     let cost = cost_of_route (route_of size align) size in
@@ -206,7 +210,7 @@ performs_refused {σ} {σ'} {answer} c c' name heap size align room call is mean
       few = λ v rest agreed. refused_few σ.seat.profile σ.seat.actor cost c c' call.steps v (some_cost (route_of size align) size) call.log_is (subst (λ a. MakesAtMost σ.seat.profile (AtRest σ.seat.profile c) (events_for cost a) call.steps) is call.few σ.seat.actor v rest agreed);
       answered = λ v l stood rest names means known. record {
         answer = Err room;
-        serves = subst (λ a. ServesRequest σ.seat.profile (wanted_for σ.seat.profile heap size align) c c' call.steps a) is call.change;
+        serves = subst (λ a. ServesRequest σ.seat.profile (wanted_for σ.seat.profile heap size align) None c c' call.steps a) is call.change;
         kinds = call.kinds;
         ends = ends σ.seat.actor v;
         said_is = refl;

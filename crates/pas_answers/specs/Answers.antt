@@ -134,11 +134,11 @@ RefusalEnds Route.Large d es = AllByRecursion (IsDeedOf d) es
 abbrev pub RequestEnds : ℕ → Wanted → View → List Made → Result Block NoRoom → Type 0
 RequestEnds k wanted v steps served = MatchResult served (IsGiven k wanted v steps) (λ room. RefusalEnds wanted.route wanted.directory (events_by k v steps))
 
--- Actor k's cache serves the request, or refuses it with the evidence of its search. Only a flush stamps pages, and none is made. From then on the name
--- stands for the block, or for nothing.
+-- Actor k's cache serves the request, or refuses it with the evidence of its search. There is no index that names a run of pages for it. Only a flush
+-- stamps pages, and none is made. From then on the name stands for the block, or for nothing.
 pub record IsServed (f : Profile) (k : ℕ) (r : Request) (before : Having) (after : Answer) : Type 0 where
   pub answer : Result Block NoRoom
-  pub serves : ServesRequest f (wanted_by f r) before.cache after.cache after.steps answer
+  pub serves : ServesRequest f (wanted_by f r) None before.cache after.cache after.steps answer
   pub kinds : Only allocating after.steps
   pub ends : RequestEnds k (wanted_by f r) before.view after.steps answer
   pub said_is : after.said ≡ said_of_request r.name answer

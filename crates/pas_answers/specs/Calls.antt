@@ -143,11 +143,11 @@ abbrev pub events_for : ℕ → Result Block NoRoom → ℕ
 events_for cost (Ok block) = cost
 events_for cost (Err room) = 0
 
--- a request was served or refused, by its route
-pub record Serves (cost : ℕ) (wanted : Wanted) (c c' : Cached) (desk desk' : Standing) (answer : Result Block NoRoom) : Type 0 where
+-- a request was served or refused, by its route, and by the run that a door named for it or None
+pub record Serves (cost : ℕ) (wanted : Wanted) (found : Option ℕ) (c c' : Cached) (desk desk' : Standing) (answer : Result Block NoRoom) : Type 0 where
   pub steps : List Made
   pub calls : Rests c c' desk desk' steps
-  pub change : ServesRequest desk.seat.profile wanted c c' steps answer
+  pub change : ServesRequest desk.seat.profile wanted found c c' steps answer
   pub kinds : Only allocating steps
   pub few : MakesAtMost desk.seat.profile (AtRest desk.seat.profile c) (events_for cost answer) steps
   pub outcome : MatchResult answer (IsBlockFor desk.seat.profile wanted (AtRest desk.seat.profile c) steps) (λ room. (k : ℕ) (v : View) → RefusalEnds wanted.route wanted.directory (events_by k v steps))

@@ -1,5 +1,5 @@
 //! One operation of a thread.
-ghost use Rattle.std.specs.Prelude.{◌≡◌, ◌+◌, ◌-◌, ◌^◌, ◌≤◌, ◌<◌, ◌++◌, true, false, ℕ, List, Option, length, map, drop};
+ghost use Rattle.std.specs.Prelude.{◌≡◌, ◌+◌, ◌-◌, ◌^◌, ◌≤◌, ◌<◌, ◌++◌, true, false, ℕ, List, Option, None, length, map, drop};
 ghost use Rattle.pas_trace.specs.declared.plan.What.TheVariants as TheWhat;
 ghost use Rattle.pas_report.specs.Rooms.{records_in, room_of};
 ghost use Rattle.pas_steps.specs.Desks.{CanCall};
@@ -17,7 +17,7 @@ ghost use Rattle.pas_answers.specs.Calls.{works, Tells, HasTurns, HasTurn, named
 
 use crate::names::Names;
 use pas_cache::ThreadCache;
-use pas_large::Door;
+use pas_large::NoIndex;
 use pas_profile::limits::MOST_BITFIT;
 use pas_profile::{Block, Event, FreeFault, Name, NoRoom};
 use pas_report::{Record, Records, Said};
@@ -47,11 +47,10 @@ fn refusal(name: u32, room: NoRoom) -> Said
     }
 }
 
-/// A block of the heap for so many bytes, from the cache or in whole pages, for which the door is asked first.
+/// A block of the heap for so many bytes, from the cache or in whole pages.
 #[inline(always)]
-fn serve<D: Desk, O: Door>(
+fn serve<D: Desk>(
     desk: &mut D,
-    door: &mut O,
     cache: &mut ThreadCache,
     heap: u8,
     size: u32,
@@ -59,20 +58,19 @@ fn serve<D: Desk, O: Door>(
 ) -> Result<Block, NoRoom>
     requires admitted { IsAdmitted (D.standing desk.old).seat.profile size align heap }
     requires can { CanCall (D.standing desk.old) (λ v l. MayServe (D.standing desk.old).seat.profile (cached cache.old) (cost_of_route (route_of size align) size) (D.spare_of desk.old) v) }
-    ensures serves { Serves (cost_of_route (route_of size align) size) (wanted_for (D.standing desk.old).seat.profile heap size align) (cached cache.old) (cached cache.new) (D.standing desk.old) (D.standing desk.new) result }
+    ensures serves { Serves (cost_of_route (route_of size align) size) (wanted_for (D.standing desk.old).seat.profile heap size align) None (cached cache.old) (cached cache.new) (D.standing desk.old) (D.standing desk.new) result }
     ensures home { D.home desk.new ≡ D.home desk.old }
 {
     if size > MOST_BITFIT {
-        cache.alloc_large(desk, door, heap, size)
+        cache.alloc_large(desk, &mut NoIndex, heap, size)
     } else {
         cache.alloc(desk, heap, size, align)
     }
 }
 
 /// Serves a request: what its name stands for from then on, and what is said where it was refused.
-fn allocate<D: Desk, O: Door>(
+fn allocate<D: Desk>(
     desk: &mut D,
-    door: &mut O,
     cache: &mut ThreadCache,
     name: u32,
     heap: u8,
@@ -85,7 +83,7 @@ fn allocate<D: Desk, O: Door>(
     ensures turn { HasTurn result.0 }
     ensures home { D.home desk.new ≡ D.home desk.old }
 {
-    match serve(desk, door, cache, heap, size, align) {
+    match serve(desk, cache, heap, size, align) {
         Ok(block) => (Some(block.name), None),
         Err(room) => (None, Some(refusal(name, room))),
     }
@@ -107,9 +105,8 @@ fn free<D: Desk>(desk: &mut D, cache: &mut ThreadCache, block: Name) -> Option<S
 
 /// Performs the operation, of which the freed name stands for `meant`: what the asked name stands for from then on, and what is said besides its
 /// events.
-fn perform<D: Desk, O: Door>(
+fn perform<D: Desk>(
     desk: &mut D,
-    door: &mut O,
     cache: &mut ThreadCache,
     what: What,
     meant: Option<Name>,
@@ -127,7 +124,7 @@ fn perform<D: Desk, O: Door>(
             heap,
             size,
             align,
-        } => allocate(desk, door, cache, name, heap, size, align),
+        } => allocate(desk, cache, name, heap, size, align),
         What::Free { name } => match meant {
             Some(block) => (None, free(desk, cache, block)),
             None => (None, Some(Said::Skipped { name })),
@@ -147,9 +144,8 @@ fn perform<D: Desk, O: Door>(
 
 /// Performs a thread's operation, and adds its events and what is said to the records. `meant` is the block that the freed name of a `What::Free` stands
 /// for, if any, and the result the block that the asked name of a `What::Alloc` stands for from then on; None for every other operation.
-pub fn answer_meant<D: Desk, O: Door>(
+pub fn answer_meant<D: Desk>(
     desk: &mut D,
-    door: &mut O,
     cache: &mut ThreadCache,
     what: What,
     meant: Option<Name>,
@@ -163,7 +159,7 @@ pub fn answer_meant<D: Desk, O: Door>(
     ensures home { D.home desk.new ≡ D.home desk.old }
 {
     let before = desk.shown().len();
-    let (came, said) = perform(desk, door, cache, what, meant);
+    let (came, said) = perform(desk, cache, what, meant);
     push_events(desk.shown(), before, out);
     if let Some(said) = said {
         out.push(Record::Said(desk.actor(), said));
@@ -197,9 +193,8 @@ fn keep(names: &mut Names, what: What, came: Option<Name>)
 }
 
 /// Performs a thread's operation, and adds its events and what is said to the records.
-pub fn answer<D: Desk, O: Door>(
+pub fn answer<D: Desk>(
     desk: &mut D,
-    door: &mut O,
     cache: &mut ThreadCache,
     names: &mut Names,
     what: What,
@@ -213,6 +208,6 @@ pub fn answer<D: Desk, O: Door>(
     ensures home { D.home desk.new ≡ D.home desk.old }
 {
     let meant = freed(names, what);
-    let came = answer_meant(desk, door, cache, what, meant, out);
+    let came = answer_meant(desk, cache, what, meant, out);
     keep(names, what, came);
 }

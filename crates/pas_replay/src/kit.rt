@@ -17,7 +17,6 @@ use crate::order::replay;
 use crate::seats::Actors;
 use pas_answers::names::Names;
 use pas_cache::ThreadCache;
-use pas_large_index::LargeIndex;
 use pas_plain::{PlainPass, PlainRegion, close};
 use pas_profile::{EventRoom, NoMemory};
 use pas_report::Records;
@@ -116,17 +115,6 @@ pub fn outcomes_from(utility: &mut Utility) -> Outcomes
     outcomes
 }
 
-/// An empty index for each of so many heaps. NoMemory where memory was wanting.
-fn indexes_for(alloc: Global, heaps: u8) -> Result<Vec<LargeIndex>, NoMemory> {
-    let Ok(mut indexes) = Vec::with_capacity(alloc, heaps as usize) else {
-        return Err(NoMemory);
-    };
-    for heap in 0..heaps {
-        indexes.push_reserved(LargeIndex::new());
-    }
-    Ok(indexes)
-}
-
 impl PlainKit {
     /// The kit of a plan. NoMemory where memory was wanting. Costs one pass over the words of the region and over the plan.
     pub fn try_new(alloc: Global, plan: &Plan) -> Result<PlainKit, NoMemory>
@@ -143,7 +131,6 @@ impl PlainKit {
             passes: places,
             caches,
             outcomes: outcomes_from(&mut utility),
-            indexes: indexes_for(alloc, plan.profile.heaps)?,
         };
         Ok(PlainKit {
             region,

@@ -13,7 +13,7 @@ use crate::seats::{Actors, SCAVENGER, operate, pass, read_epoch, rise, sit, tick
 use pas_answers::names::Names;
 use pas_bits::Mask4;
 use pas_cache::ThreadCache;
-use pas_large::PlainDoor;
+use pas_large::NoIndex;
 use pas_plain::{PlainDesk, PlainRegion};
 use pas_report::{Record, Records, Said};
 use pas_steps::Desk;
@@ -136,8 +136,7 @@ fn perform(
         What::Idle(epochs) => stop_idle(desk, actors, names, awake, epochs, out),
         What::Alloc { .. } | What::Free { .. } | What::Raw { .. } | What::Flush | What::Stop => {
             operate(desk, actors, names, op.actor, op.what, out);
-            let mut door = PlainDoor::new(&mut actors.indexes);
-            actors.caches[op.actor as usize - 1].settle(&mut door);
+            actors.caches[op.actor as usize - 1].settle(&mut NoIndex);
         }
     }
 }

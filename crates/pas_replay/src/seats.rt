@@ -21,8 +21,6 @@ ghost use Rattle.pas_replay.specs.Sessions.{pass_in, hand_of, hand_at, IsTaken, 
 use pas_answers::answer;
 use pas_answers::names::Names;
 use pas_cache::ThreadCache;
-use pas_large::PlainDoor;
-use pas_large_index::LargeIndex;
 use pas_plain::{PlainDesk, PlainPass, PlainRegion};
 use pas_profile::Word;
 use pas_report::Records;
@@ -42,8 +40,6 @@ pub(crate) struct Actors {
     pub(crate) caches: Vec<ThreadCache>,
     /// The scavenger's list for what a pass comes to.
     pub(crate) outcomes: Outcomes,
-    /// By heap: pages where large blocks ended, which a large request is given first.
-    pub(crate) indexes: Vec<LargeIndex>,
 }
 
 /// The actor of this number sits down at the region's desk.
@@ -127,9 +123,8 @@ pub(crate) fn operate(
     ensures turns { HasTurns names.new }
 {
     take_seat(desk, &mut actors.passes, actor);
-    let mut door = PlainDoor::new(&mut actors.indexes);
     let cache = &mut actors.caches[actor as usize - 1];
-    answer(desk, &mut door, cache, names, what, out);
+    answer(desk, cache, names, what, out);
 }
 
 /// The scavenger raises the epoch to at least this.

@@ -12,10 +12,9 @@ use crate::gate::Gate;
 use crate::names::NameBook;
 use crate::scavenger::{Scavenger, keep_up};
 use crate::workers::{Worker, perform};
-use pas_large_index::LargeIndex;
 use pas_shared::SharedRegion;
 use pas_trace::Op;
-use std::sync::{Mutex, Wait};
+use std::sync::Wait;
 use std::thread::{Threads, for_each_mut};
 
 /// The most hands of a phase: those of 16 threads and the scavenger.
@@ -31,21 +30,13 @@ pub(crate) enum Hand {
 }
 
 /// The hand does its operations of the phase.
-fn act<R: Wait, G: Gate>(
-    rt: &R,
-    region: &SharedRegion,
-    indexes: &[Mutex<LargeIndex>],
-    book: &NameBook,
-    hand: &mut Hand,
-    ops: &[Op],
-    gate: &G,
-)
+fn act<G: Gate>(region: &SharedRegion, book: &NameBook, hand: &mut Hand, ops: &[Op], gate: &G)
     requires few { length ops.now < 2 ^ 32 }
     requires may { MayAct region.now book.now ops.now hand.old }
     ensures did { DidAct region.now book.now ops.now hand.old hand.new }
 {
     match hand {
-        Hand::Thread(worker) => perform(rt, region, indexes, book, worker, ops, gate),
+        Hand::Thread(worker) => perform(region, book, worker, ops, gate),
         Hand::Scavenger(scavenger) => keep_up(region, scavenger, ops, gate),
     }
 }
@@ -54,7 +45,6 @@ fn act<R: Wait, G: Gate>(
 fn act_all<R: Threads + Wait + Sync, G: Gate + Sync>(
     rt: &R,
     region: &SharedRegion,
-    indexes: &[Mutex<LargeIndex>],
     book: &NameBook,
     hands: &mut Vec<Hand>,
     ops: &[Op],
@@ -70,7 +60,7 @@ fn act_all<R: Threads + Wait + Sync, G: Gate + Sync>(
         rt,
         hands,
         MOST_HANDS,
-        &|_, hand| act(rt, region, indexes, book, hand, ops, gate),
+        &|_, hand| act(region, book, hand, ops, gate),
     );
 }
 
@@ -91,7 +81,6 @@ fn pop_scavenger(hands: &mut Vec<Hand>) -> Scavenger
 pub(crate) fn act_with<R: Threads + Wait + Sync, G: Gate + Sync>(
     rt: &R,
     region: &SharedRegion,
-    indexes: &[Mutex<LargeIndex>],
     book: &NameBook,
     hands: &mut Vec<Hand>,
     scavenger: Scavenger,
@@ -109,10 +98,10 @@ pub(crate) fn act_with<R: Threads + Wait + Sync, G: Gate + Sync>(
     ensures place { vec_capacity hands.new ≡ vec_capacity hands.old }
 {
     if !busy {
-        act_all(rt, region, indexes, book, hands, ops, gate);
+        act_all(rt, region, book, hands, ops, gate);
         return scavenger;
     }
     hands.push_reserved(Hand::Scavenger(scavenger));
-    act_all(rt, region, indexes, book, hands, ops, gate);
+    act_all(rt, region, book, hands, ops, gate);
     pop_scavenger(hands)
 }

@@ -24,7 +24,6 @@ use crate::phases::{Team, replay};
 use crate::scavenger::Scavenger;
 use crate::workers::Worker;
 use pas_cache::ThreadCache;
-use pas_large_index::LargeIndex;
 use pas_profile::{EventRoom, NoMemory};
 use pas_replay::kit::{caches_for, outcomes_from, rooms_of};
 use pas_replay::limits::names_limit;
@@ -35,15 +34,13 @@ use pas_steps::State;
 use pas_trace::{Op, Phase, Plan};
 use pas_utility::{Outcomes, Utility};
 use std::alloc::Global;
-use std::sync::{Mutex, Wait};
+use std::sync::Wait;
 use std::thread::Threads;
 
 /// All that a replay on threads needs: the region, the workers of all actors with their rooms, and the names. Once it is made nothing takes memory.
 #[derive(Drop)]
 pub struct SharedKit {
     region: SharedRegion,
-    /// By heap: pages where large blocks ended, which a large request is given first.
-    indexes: Vec<Mutex<LargeIndex>>,
     team: Team,
     /// None yet, with a place for that of each actor: with them the region is closed.
     passes: Vec<SharedPass>,
@@ -292,17 +289,6 @@ fn passes_of(team: &mut Team, mut passes: Vec<SharedPass>) -> Vec<SharedPass>
     passes
 }
 
-/// An empty index for each of so many heaps. NoMemory where memory was wanting.
-fn indexes_for(alloc: Global, heaps: u8) -> Result<Vec<Mutex<LargeIndex>>, NoMemory> {
-    let Ok(mut indexes) = Vec::with_capacity(alloc, heaps as usize) else {
-        return Err(NoMemory);
-    };
-    for heap in 0..heaps {
-        indexes.push_reserved(Mutex::new(LargeIndex::new()));
-    }
-    Ok(indexes)
-}
-
 impl SharedKit {
     /// The kit of a plan: its rooms are as large as the bounds of the plan's actors say, and the thread that speaks first has room for the records of all. NoMemory
     /// where memory was wanting. Costs two passes over the words of the region, one over the plan and one more over its first phase, and two over the numbers of
@@ -361,7 +347,6 @@ impl SharedKit {
         };
         Ok(SharedKit {
             region,
-            indexes: indexes_for(alloc, plan.profile.heaps)?,
             team,
             passes,
         })
@@ -385,19 +370,10 @@ pub fn on_threads_with_rooms<R: Threads + Wait + Sync, G: Gate + Sync>(
 {
     let SharedKit {
         region,
-        indexes,
         team,
         passes,
     } = kit;
-    let mut team = replay(
-        rt,
-        &region,
-        &indexes,
-        team,
-        plan.phases.as_slice(),
-        gate,
-        out,
-    );
+    let mut team = replay(rt, &region, team, plan.phases.as_slice(), gate, out);
     let passes = passes_of(&mut team, passes);
     (close(region, passes), Rooms { _team: team })
 }

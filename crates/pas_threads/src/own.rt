@@ -13,7 +13,7 @@ use crate::gate::Gate;
 use crate::names::{NameBook, Requests};
 use pas_answers::answer_meant;
 use pas_cache::ThreadCache;
-use pas_large::Door;
+use pas_large::NoIndex;
 use pas_profile::Name;
 use pas_report::Records;
 use pas_steps::Desk;
@@ -45,9 +45,8 @@ fn keep(requests: &mut Requests, what: What, came: Option<Name>)
 }
 
 /// Performs an operation of the desk's thread, and hands on the runs of large blocks that its cache noted.
-fn operate<D: Desk, O: Door>(
+fn operate<D: Desk>(
     desk: &mut D,
-    door: &mut O,
     book: &NameBook,
     cache: &mut ThreadCache,
     requests: &mut Requests,
@@ -60,15 +59,14 @@ fn operate<D: Desk, O: Door>(
     ensures home { D.home desk.new ≡ D.home desk.old }
 {
     let meant = freed(book, requests, op.what);
-    let came = answer_meant(desk, door, cache, op.what, meant, out);
+    let came = answer_meant(desk, cache, op.what, meant, out);
     keep(requests, op.what, came);
-    cache.settle(door);
+    cache.settle(&mut NoIndex);
 }
 
 /// Performs the operations of the desk's thread among those of a phase, in order, with the gate called round each.
-pub(crate) fn work<D: Desk, O: Door, G: Gate>(
+pub(crate) fn work<D: Desk, G: Gate>(
     desk: &mut D,
-    door: &mut O,
     book: &NameBook,
     cache: &mut ThreadCache,
     requests: &mut Requests,
@@ -90,7 +88,7 @@ pub(crate) fn work<D: Desk, O: Door, G: Gate>(
         if op.actor == actor {
             number += 1;
             gate.before(actor, number);
-            operate(desk, door, book, cache, requests, *op, out);
+            operate(desk, book, cache, requests, *op, out);
             gate.after(actor, number);
         }
     }

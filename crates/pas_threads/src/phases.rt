@@ -21,12 +21,11 @@ use crate::scavenging::SCAVENGER;
 use crate::turns::{gather, stop_all, wake_all};
 use crate::workers::{Worker, take_all};
 use pas_bits::Mask4;
-use pas_large_index::LargeIndex;
 use pas_replay::order::active;
 use pas_report::{Record, Records};
 use pas_shared::SharedRegion;
 use pas_trace::{Op, Phase};
-use std::sync::{Mutex, Wait};
+use std::sync::Wait;
 use std::thread::Threads;
 
 /// The number of the phase that begins without a mark.
@@ -48,7 +47,6 @@ pub(crate) struct Team {
 fn perform_all<R: Threads + Wait + Sync, G: Gate + Sync>(
     rt: &R,
     region: &SharedRegion,
-    indexes: &[Mutex<LargeIndex>],
     team: Team,
     awake: Mask4,
     ops: &[Op],
@@ -68,9 +66,7 @@ fn perform_all<R: Threads + Wait + Sync, G: Gate + Sync>(
     let count = threads.len() as u8;
     deal(&mut threads, awake, &mut hands, &mut scavenger.lent);
     let busy = awake.get(SCAVENGER);
-    let mut scavenger = act_with(
-        rt, region, indexes, &book, &mut hands, scavenger, busy, ops, gate,
-    );
+    let mut scavenger = act_with(rt, region, &book, &mut hands, scavenger, busy, ops, gate);
     take_back(&mut threads, count, awake, &mut hands, &mut scavenger.lent);
     Team {
         threads,
@@ -84,7 +80,6 @@ fn perform_all<R: Threads + Wait + Sync, G: Gate + Sync>(
 fn perform_phase<R: Threads + Wait + Sync, G: Gate + Sync>(
     rt: &R,
     region: &SharedRegion,
-    indexes: &[Mutex<LargeIndex>],
     team: Team,
     ops: &[Op],
     gate: &G,
@@ -97,7 +92,7 @@ fn perform_phase<R: Threads + Wait + Sync, G: Gate + Sync>(
     let mut team = team;
     wake_all(region, &mut team.threads, awake);
     team.book.note(ops);
-    let mut team = perform_all(rt, region, indexes, team, awake, ops, gate);
+    let mut team = perform_all(rt, region, team, awake, ops, gate);
     out.append(&mut team.scavenger.out);
     gather(&mut team.threads, out);
     take_all(&mut team.book, &mut team.threads);
@@ -121,7 +116,6 @@ fn finish(region: &SharedRegion, team: Team, out: &mut Records) -> Team
 pub(crate) fn replay<R: Threads + Wait + Sync, G: Gate + Sync>(
     rt: &R,
     region: &SharedRegion,
-    indexes: &[Mutex<LargeIndex>],
     team: Team,
     phases: &[Phase],
     gate: &G,
@@ -140,7 +134,7 @@ pub(crate) fn replay<R: Threads + Wait + Sync, G: Gate + Sync>(
         if number > UNMARKED {
             out.push(Record::Phase(number));
         }
-        team = perform_phase(rt, region, indexes, team, phase.as_slice(), gate, out);
+        team = perform_phase(rt, region, team, phase.as_slice(), gate, out);
     }
     out.push(Record::Close);
     finish(region, team, out)

@@ -14,7 +14,6 @@ ghost use Rattle.pas_threads.specs.Scavenges.{ScavengerAt, Scavenges, StopsThrea
 
 use pas_answers::answer_meant;
 use pas_cache::ThreadCache;
-use pas_large::NoIndex;
 use pas_profile::Word;
 use pas_replay::order::is_idle_for;
 use pas_report::{Record, Records, Said};
@@ -73,7 +72,7 @@ pub(crate) fn stop_if_idle<D: Desk>(
     ensures home { D.home desk.new ≡ D.home desk.old }
 {
     if is_idle_for(cache, epochs, epoch) {
-        answer_meant(desk, &mut NoIndex, cache, What::Stop, None, own);
+        answer_meant(desk, cache, What::Stop, None, own);
         out.push(Record::Said(SCAVENGER, Said::Stopped(desk.actor())));
     }
 }

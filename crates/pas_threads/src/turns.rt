@@ -11,7 +11,6 @@ ghost use Rattle.pas_threads.specs.declared.workers.Worker.{Worker as TheWorker}
 use crate::workers::Worker;
 use pas_answers::answer_meant;
 use pas_bits::Mask4;
-use pas_large::NoIndex;
 use pas_report::Records;
 use pas_shared::SharedRegion;
 use pas_trace::What;
@@ -54,7 +53,6 @@ fn stop(region: &SharedRegion, worker: &mut Worker)
     let mut desk = region.desk(pass);
     answer_meant(
         &mut desk,
-        &mut NoIndex,
         &mut worker.cache,
         What::Stop,
         None,

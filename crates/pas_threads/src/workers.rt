@@ -15,12 +15,9 @@ use crate::names::{NameBook, Requests};
 use crate::own::work;
 use crate::scavenging::stop_if_idle;
 use pas_cache::ThreadCache;
-use pas_large::SharedDoor;
-use pas_large_index::LargeIndex;
 use pas_report::Records;
 use pas_shared::{SharedPass, SharedRegion};
 use pas_trace::Op;
-use std::sync::{Mutex, Wait};
 
 /// A thread of the replay: its pass while it doesn't sit at the region, its cache, its requests of the phase, and its records.
 #[derive(Drop)]
@@ -32,10 +29,8 @@ pub(crate) struct Worker {
 }
 
 /// The thread sits down, performs its operations of a phase, and rises.
-pub(crate) fn perform<R: Wait, G: Gate>(
-    rt: &R,
+pub(crate) fn perform<G: Gate>(
     region: &SharedRegion,
-    indexes: &[Mutex<LargeIndex>],
     book: &NameBook,
     worker: &mut Worker,
     ops: &[Op],
@@ -49,10 +44,8 @@ pub(crate) fn perform<R: Wait, G: Gate>(
         unreachable!();
     };
     let mut desk = region.desk(pass);
-    let mut door = SharedDoor::new(rt, indexes);
     work(
         &mut desk,
-        &mut door,
         book,
         &mut worker.cache,
         &mut worker.requests,

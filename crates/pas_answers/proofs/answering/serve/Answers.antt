@@ -1,5 +1,5 @@
 use Rattle.pas_cache.specs.Caches.{cached}
-use Rattle.pas_answers.proofs.Requests.{can_allocate, can_allocate_pages, serves_small, serves_pages}
+use Rattle.pas_answers.proofs.Requests.{can_allocate, can_allocate_pages, serves_small, serves_pages, unnamed}
 use Rattle.pas_answers.proofs.Routes.{is_small, is_large}
 use Rattle.pas_answers.proofs.answering.serve.Goals as goal
 
@@ -14,8 +14,9 @@ alloc-requires-clause-can g c = can_allocate (cached c.args.cache.now) c.args.si
 
 pub returns-then-size-gt-MOST_BITFIT-clause-serves : goal.returns-then-size-gt-MOST_BITFIT-clause-serves
 returns-then-size-gt-MOST_BITFIT-clause-serves g c =
-    serves_pages (cached c.args.cache.now) (cached c.alloc_large.new.self) c.args.heap c.args.size c.args.align c.if-size-gt-MOST_BITFIT.true
-    (c.alloc_large.ensures.allocates.2 c.args.align c.requires.admitted.aligned (is_large c.args.size c.args.align c.if-size-gt-MOST_BITFIT.true))
+    let allocates = c.alloc_large.ensures.allocates in
+    unnamed allocates.1 (serves_pages (cached c.args.cache.now) (cached c.alloc_large.new.self) c.args.heap c.args.size c.args.align c.if-size-gt-MOST_BITFIT.true
+    (allocates.2 c.args.align c.requires.admitted.aligned (is_large c.args.size c.args.align c.if-size-gt-MOST_BITFIT.true)))
 
 pub returns-else-size-gt-MOST_BITFIT-clause-serves : goal.returns-else-size-gt-MOST_BITFIT-clause-serves
 returns-else-size-gt-MOST_BITFIT-clause-serves g c =
