@@ -1,5 +1,5 @@
 -- Errands of an actor that is at rest with its cache.
-use Rattle.std.proofs.Common.{◌≡◌, ℕ, zero, suc, ◌≤◌, List, [], ◌∷◌, ◌++◌, ◌==◌, Bool, true, false, if◌then◌else◌, Option, Result, refl, ap, sym, ◌∙◌, subst, arith}
+use Rattle.std.proofs.Common.{◌≡◌, ℕ, zero, suc, ◌≤◌, List, [], ◌∷◌, ◌++◌, ◌==◌, Bool, true, false, if◌then◌else◌, Option, None, Result, refl, ap, sym, ◌∙◌, subst, arith}
 use Rattle.pas_profile.specs.declared.event.NoRoom.{NoRoom}
 use Rattle.pas_profile.specs.declared.name.Block.{Block}
 use Rattle.pas_profile.specs.declared.profile.Profile.{Profile}
@@ -55,10 +55,10 @@ pub none_asked : {σ : Standing} {c : Cached} → Borrows c c σ σ
 none_asked = record { steps = []; rests = call_none (λ v rest. rest); log = refl }
 
 pub slot_asked : {σ σ' : Standing} {c c' : Cached} {wanted : Wanted} {tells : Bool} {answer : Result Block NoRoom} → Allocates wanted tells c c' σ σ' answer → Borrows c c' σ σ'
-slot_asked {σ} {σ'} {c} {c'} {wanted} {tells} {answer} h = record { steps = h.steps; rests = h.calls; log = log_kept σ.seat.profile wanted c c' h.steps answer wanted.route h.change }
+slot_asked {σ} {σ'} {c} {c'} {wanted} {tells} {answer} h = record { steps = h.steps; rests = h.calls; log = log_kept σ.seat.profile wanted None c c' h.steps answer wanted.route h.change }
 
 pub pages_asked : {σ σ' : Standing} {c c' : Cached} {wanted : Wanted} {found : Option ℕ} {tells : Bool} {answer : Result Block NoRoom} → AllocatesPages wanted found tells c c' σ σ' answer → Borrows c c' σ σ'
-pages_asked {σ} {σ'} {c} {c'} {wanted} {tells} {answer} h = record { steps = h.steps; rests = h.calls; log = log_kept σ.seat.profile wanted c c' h.steps answer wanted.route h.change }
+pages_asked {σ} {σ'} {c} {c'} {wanted} {found} {tells} {answer} h = record { steps = h.steps; rests = h.calls; log = log_kept σ.seat.profile wanted found c c' h.steps answer wanted.route h.change }
 
 -- ---- a flush of another log than that of the cache
 pub log_flushed : {σ σ' : Standing} {logged : List Entry} {ended ended' : List EndedRun} (c : Cached) → Flushes logged ended ended' σ σ' → Borrows c c σ σ'

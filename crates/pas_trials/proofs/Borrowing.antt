@@ -1,5 +1,5 @@
 -- Requests one after another, and how far they have come.
-use Rattle.std.proofs.Common.{◌≡◌, ℕ, ◌+◌, ◌≤◌, [], ◌++◌, length, Bool, Result, refl, sym, ◌∙◌, subst, arith}
+use Rattle.std.proofs.Common.{◌≡◌, ℕ, ◌+◌, ◌≤◌, [], ◌++◌, length, Bool, None, Result, refl, sym, ◌∙◌, subst, arith}
 use Rattle.pas_profile.specs.declared.name.Block.{Block}
 use Rattle.pas_profile.specs.declared.event.NoRoom.{NoRoom}
 use Rattle.pas_steps.specs.Desks.{Standing, Seat, CanCall}
@@ -34,7 +34,7 @@ one_more {σ0} {σ} {σ'} {c0} {c} {c'} {wanted} {answer = answer} {n} {m} {spar
         steps = h.steps ++ so.borrows.steps;
         rests = call_then (λ v w. AtRest σ0.seat.profile c' w) so.borrows.rests h.calls (λ v met rest. subst (λ (s : Seat). AtRest s.profile c (so.borrows.steps ++ v)) (sym same) rest)
             (λ v met rest next. subst (λ (s : Seat). AtRest s.profile c' (h.steps ++ (so.borrows.steps ++ v))) same next);
-        log = log_kept σ.seat.profile wanted c c' h.steps answer wanted.route h.change ∙ so.borrows.log;
+        log = log_kept σ.seat.profile wanted None c c' h.steps answer wanted.route h.change ∙ so.borrows.log;
       };
       room = budget_left m h (subst (λ x. CanCall σ (λ v l. HasBudget σ.seat.profile c x spare v)) two so.room) law law';
     }
