@@ -111,12 +111,21 @@ fn command<'a>(alloc: Global, name: &'a str) -> Command<'a> {
     Command::new(alloc, name).disable_help_flag(true)
 }
 
+/// The command with one more number that it needs.
+fn with_number<'a>(
+    alloc: Global,
+    command: Command<'a>,
+    name: &'a str,
+) -> Result<Command<'a>, AllocError> {
+    let number = Arg::new(alloc, name).required(true).action(ArgAction::Set);
+    command.arg(number)
+}
+
 /// The command `gen` with its four numbers.
 fn generating<'a>(alloc: Global) -> Result<Command<'a>, AllocError> {
     let mut generate = command(alloc, "gen");
     for name in ["SEED", "OPS", "THREADS", "PAGES"] {
-        let number = Arg::new(alloc, name).required(true).action(ArgAction::Set);
-        generate = generate.arg(number)?;
+        generate = with_number(alloc, generate, name)?;
     }
     Ok(generate)
 }
