@@ -37,7 +37,7 @@ def free_gigabytes() -> float:
 
 
 def loop_seconds() -> float:
-    """The seconds that one processor takes to pack a fixed megabyte: the least of three times, to compare machines by."""
+    """The seconds that a processor takes to pack a fixed megabyte: the least of three, to compare machines by."""
     text = b"".join(b"%d " % (number * number % 9973) for number in range(200_000))
     times = []
     for _ in range(3):

@@ -19,8 +19,8 @@ USUAL_SECONDS = 40.0
 
 @dataclass
 class Crate:
-    """A crate, all that it stands on, the seconds that one processor takes to prove it, and those of the longest chain of
-    crates that begins with it, each of which stands on the one before."""
+    """A crate, all that it stands on, the seconds that one processor takes to prove it, and those of the longest chain
+    of crates that begins with it, each of which stands on the one before."""
 
     name: str
     line: str
@@ -69,7 +69,7 @@ def read_crates(top: str) -> dict[str, Crate]:
 
 
 def set_seconds(crates: dict[str, Crate]) -> None:
-    """Gives each crate its time from the table in docs/GATE.md, as this machine would take it, and the length of its chain."""
+    """Gives each crate its time by the table in docs/GATE.md, as this machine would take it, and that of its chain."""
     text = (ROOT / "docs/GATE.md").read_text()
     text = text.partition("<!-- times by crate -->")[2].partition("<!-- end -->")[0]
     there = re.search(r"compares\s+machines\s+takes\s+([\d.]+)\s+seconds", text)
