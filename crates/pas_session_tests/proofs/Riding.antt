@@ -5,6 +5,7 @@ use Rattle.pas_steps.specs.Clear.{HasNothing}
 use Rattle.pas_steps.specs.Desks.{Seat, Standing, CanCall, triples}
 use Rattle.pas_steps.specs.Lists.{Whole}
 use Rattle.pas_steps.specs.Views.{View}
+use Rattle.pas_steps.proofs.Adding.{adds_call}
 use Rattle.pas_steps.proofs.Called.{next_call}
 use Rattle.pas_steps.proofs.Parts.{part_of_others}
 use Rattle.pas_cache.specs.Caches.{Cached, AtRest}
@@ -18,6 +19,7 @@ use Rattle.pas_plain.specs.declared.pass.PlainPass.{PlainPass}
 use Rattle.pas_plain.specs.declared.region.PlainRegion.{PlainRegion}
 use Rattle.pas_plain.proofs.Passes.{pass_rests}
 use Rattle.pas_trials.specs.Borrowing.{Borrows}
+use Rattle.pas_trials.specs.Filling.{Steps}
 use Rattle.pas_session_tests.specs.Seated.{RestsBeside}
 use Rattle.pas_session_tests.specs.Seated.{Opens}
 use Rattle.pas_session_tests.proofs.Stormed.{nothing_yet}
@@ -63,15 +65,10 @@ may_storm region pass b = record { view = b.view; whole = b.whole; stands = part
 pub may_stop_then : {σ σ' : Standing} {c c' : Cached} → CanCall σ (λ v l. AtRest σ.seat.profile c v) → Borrows c c' σ σ' → CanCall σ' (λ v l. AtRest σ'.seat.profile c' v)
 may_stop_then {σ} {σ'} {c} {c'} can goes = next_call goes.rests can (λ v rest there. subst (λ (s : Seat). AtRest s.profile c' (goes.steps ++ v)) (sym goes.rests.adds.seat_is) there)
 
--- what the desk stands for after an errand and a stop
-pub record StandsAfter (σ : Standing) : Type 0 where
-  pub view : View
-  pub whole : Whole
-  pub stood : σ.stands view whole
-
-pub stands_after : {σ σ1 σ2 : Standing} {c c1 c2 : Cached} → CanCall σ (λ v l. AtRest σ.seat.profile c v) → Borrows c c1 σ σ1 → StopsCache c1 c2 σ1 σ2 → StandsAfter σ2
-stands_after {σ1 = σ1} can goes stops = let then = may_stop_then can goes in record {
-  view = (stops.stopped ++ stops.flushed) ++ then.view;
-  whole = triples σ1.seat.actor (stops.stopped ++ stops.flushed) ++ then.whole;
-  stood = stops.calls.adds.added then.view then.whole then.stood then.met;
+-- the steps of an errand and of a stop
+pub gone_and_stopped : {σ σ1 σ2 : Standing} {c c1 c2 : Cached} → Borrows c c1 σ σ1 → StopsCache c1 c2 σ1 σ2 → Steps σ σ2 (AtRest σ.seat.profile c)
+gone_and_stopped {σ} {σ1} {c1 = c1} goes stops = record {
+  steps = (stops.stopped ++ stops.flushed) ++ goes.steps;
+  adds = adds_call goes.rests.adds stops.calls.adds
+      (λ v l stood rest. subst (λ (s : Seat). AtRest s.profile c1 (goes.steps ++ v)) (sym goes.rests.adds.seat_is) (goes.rests.leads.from v rest (goes.rests.adds.agreed v l stood rest)));
 }

@@ -1,11 +1,14 @@
 //! A storm: an errand of actor 1 among the visits of actor 2, and what is found afterwards.
 ghost use Rattle.std.specs.Prelude.{◌≡◌, ◌≤◌, [], true, length, IfOk};
+ghost use Rattle.pas_steps.specs.Desks.{CanCall};
 ghost use Rattle.pas_steps.specs.Lists.{Whole};
 ghost use Rattle.pas_steps.specs.States.{profile_of as the_profile_of};
 ghost use Rattle.pas_steps.specs.Views.{View};
+ghost use Rattle.pas_cache.specs.Caches.{AtRest};
 ghost use Rattle.pas_plain.specs.Plain.{profile_of, room_of_pass, events_shown};
 ghost use Rattle.pas_plain.specs.Seats.{region_of, pass_of};
 ghost use Rattle.pas_plain.specs.Storms.{StormStands};
+ghost use Rattle.pas_trials.specs.Filling.{Steps};
 ghost use Rattle.pas_storms.specs.Storms.{cache_of};
 ghost use Rattle.pas_session_tests.specs.Seated.{RestsBeside, stormy};
 
@@ -95,6 +98,17 @@ fn prepare(desk: &mut PlainDesk, foreign: &PlainPass, hands: &mut Hands, errands
     desk.shown().len() <= 900
 }
 
+/// The actor goes on the errand and stops its cache.
+fn go_and_stop<D: Desk>(desk: &mut D, hands: &mut Hands, errand: Errand)
+    requires can { CanCall (D.standing desk.old) (λ v l. AtRest (D.standing desk.old).seat.profile (cache_of hands.old) v) }
+    requires room { 70 ≤ D.spare_of desk.old }
+    ensures steps { Steps (D.standing desk.old) (D.standing desk.new) (AtRest (D.standing desk.old).seat.profile (cache_of hands.old)) }
+    ensures home { D.home desk.new ≡ D.home desk.old }
+{
+    hands.go(desk, errand);
+    hands.stop(desk);
+}
+
 /// Actor 1 goes on the errand and stops its cache, while the guest may act before each of its steps.
 fn ride(
     desk: PlainDesk,
@@ -112,8 +126,7 @@ fn ride(
     let begun = desk.count();
     let (region, own) = desk.into_parts();
     let mut storm = Watched::new(region.storm(own, foreign, guest));
-    hands.go(&mut storm, errand);
-    hands.stop(&mut storm);
+    go_and_stop(&mut storm, hands, errand);
     let (storm, counts) = storm.into_parts();
     let (region, own, foreign, guest) = storm.into_parts();
     Calm {

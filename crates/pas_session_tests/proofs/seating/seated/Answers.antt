@@ -6,7 +6,6 @@ use Rattle.pas_profile.specs.declared.room.EventRoom.{EventRoom}
 use Rattle.pas_plain.specs.Plain.{profile_of, actor_of, room_of_pass, PassStands, pass_for, passes_from}
 use Rattle.pas_plain.specs.declared.pass.PlainPass.{PlainPass}
 use Rattle.pas_plain.specs.declared.region.PlainRegion.{PlainRegion}
-use Rattle.pas_session_tests.specs.Seated.{two_threads}
 use Rattle.pas_session_tests.proofs.seating.seated.Goals as goal
 
 -- the last two of three
@@ -16,8 +15,8 @@ last_two a b c (r ∷ []) x y e = (cc, cc)
 last_two a b c (r ∷ s ∷ rest) x y e = absurd (omega (arith, simp length-append at (ap length e)))
 
 -- a pass of an actor that made no step
-fresh : (pages k : ℕ) (room : EventRoom) → k ≤ 2 → shown room ≡ [] → PassStands (two_threads pages) (pass_for k room) []
-fresh pages k room small empty = record { actor = small; shown = empty; count = refl; epoch = refl }
+fresh : (f : Profile) (k : ℕ) (room : EventRoom) → k ≤ f.threads → shown room ≡ [] → PassStands f (pass_for k room) []
+fresh f k room small empty = record { actor = small; shown = empty; count = refl; epoch = refl }
 
 pub returns-clause-opens : goal.returns-clause-opens
 returns-clause-opens c =
@@ -25,11 +24,12 @@ returns-clause-opens c =
     let one = ◌∙◌ {A = List EventRoom} c.in_ok-push.ensures.items (ap (λ (xs : List EventRoom). xs ++ r0 ∷ []) c.new-rooms.ensures.items) in let two_rooms = ◌∙◌ {A = List EventRoom} c.in_ok-push-2.ensures.items (ap (λ (xs : List EventRoom). xs ++ r1 ∷ []) one) in let rooms = ◌∙◌ {A = List EventRoom} c.in_ok-push-3.ensures.items (ap (λ (xs : List EventRoom). xs ++ r2 ∷ []) two_rooms) in
     let passes = sym (c.in_ok-region.ensures.passes ∙ ap (passes_from 0) rooms) ∙ c.in-Some.ensures.items ∙ ap (λ (xs : List PlainPass). xs ++ c.in-Some.second ∷ []) c.in-Some-pop.ensures.items in
     let two = last_two (pass_for 0 r0) (pass_for 1 r1) (pass_for 2 r2) _ c.in-Some-pop.first c.in-Some.second passes in
-    let of : profile_of c.in_ok-region.region ≡ two_threads c.args.pages = c.in_ok-region.ensures.profile in
+    let of : profile_of c.in_ok-region.region ≡ c.args.profile = c.in_ok-region.ensures.profile in
+    let threads = c.requires.threads in
     let first : PassStands (profile_of c.in_ok-region.region) c.in-Some-pop.first [] =
-    subst (λ (f : Profile). PassStands f c.in-Some-pop.first []) (sym of) (subst (λ (p : PlainPass). PassStands (two_threads c.args.pages) p []) (sym two.0) (fresh c.args.pages 1 r1 (omega arith) c.in_ok-try_new-2.ensures.empty)) in
+    subst (λ (f : Profile). PassStands f c.in-Some-pop.first []) (sym of) (subst (λ (p : PlainPass). PassStands c.args.profile p []) (sym two.0) (fresh c.args.profile 1 r1 (omega (arith, threads)) c.in_ok-try_new-2.ensures.empty)) in
     let second : PassStands (profile_of c.in_ok-region.region) c.in-Some.second [] =
-    subst (λ (f : Profile). PassStands f c.in-Some.second []) (sym of) (subst (λ (p : PlainPass). PassStands (two_threads c.args.pages) p []) (sym two.1) (fresh c.args.pages 2 r2 (omega arith) c.in_ok-try_new-3.ensures.empty)) in
+    subst (λ (f : Profile). PassStands f c.in-Some.second []) (sym of) (subst (λ (p : PlainPass). PassStands c.args.profile p []) (sym two.1) (fresh c.args.profile 2 r2 (omega (arith, threads)) c.in_ok-try_new-3.ensures.empty)) in
     record {
       stood = c.desk.ensures.stands [] c.in_ok-region.ensures.opening first;
       rests = subst (λ (r : PlainRegion). PassStands (profile_of r) c.in-Some.second []) (sym c.desk.ensures.region) second;
