@@ -6,8 +6,6 @@ pub mod laws;
 mod numbers;
 pub mod reading;
 mod taking;
-#[cfg(test)]
-mod tests;
 pub mod verdict;
 
 pub use reading::read_record;

@@ -6,8 +6,6 @@ mod flushing;
 mod log;
 mod noting;
 mod returning;
-#[cfg(test)]
-mod tests;
 
 pub use flushing::flush;
 pub use log::{Entry, FreeLog};

@@ -6,8 +6,6 @@ mod index;
 mod laws;
 mod searching;
 mod span;
-#[cfg(test)]
-mod tests;
 
 pub use index::{Full, LargeIndex};
 pub use laws::one_list_of_ranges;
