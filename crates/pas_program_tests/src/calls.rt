@@ -2,8 +2,9 @@
 
 use crate::traces::TRACE;
 use pas_io::memory::{MemorySink, MemorySource};
+use pas_io::{Sink, Source};
 use pas_top::pas_main;
-use std::alloc::AllocError;
+use std::alloc::{AllocError, Global};
 use std::sync::Wait;
 use std::thread::Threads;
 
@@ -24,7 +25,30 @@ impl Outcome {
     }
 }
 
-/// A call whose listed reads and writes fail, into so many bytes of room. The sink takes a byte a call.
+/// A source of these bytes whose listed reads fail.
+fn source_of(alloc: Global, input: &[u8], reads: &[u64]) -> Result<MemorySource, AllocError> {
+    let bytes = Vec::from_slice(alloc, input)?;
+    Ok(MemorySource::new(bytes, Vec::from_slice(alloc, reads)?))
+}
+
+/// A sink with so many bytes of room, which takes a byte a call, and whose listed writes fail.
+fn sink_of(alloc: Global, writes: &[u64], room: usize) -> Result<MemorySink, AllocError> {
+    let buffer = vec![in alloc; 0u8; room]?;
+    Ok(MemorySink::new(buffer, 1, Vec::from_slice(alloc, writes)?))
+}
+
+/// The status of the call. Its contract is left out, so that no test is proved with it.
+fn status_of<R: Threads + Wait + Sync, S: Source, K: Sink>(
+    rt: &R,
+    alloc: Global,
+    words: &[&str],
+    source: &mut S,
+    sink: &mut K,
+) -> u8 {
+    pas_main(rt, alloc, words, source, sink)
+}
+
+/// A call whose listed reads and writes fail, into so many bytes of room.
 pub fn outcome_of<R: AllocGlobal + Threads + Wait + Sync>(
     rt: &R,
     words: &[&str],
@@ -34,16 +58,9 @@ pub fn outcome_of<R: AllocGlobal + Threads + Wait + Sync>(
     room: usize,
 ) -> Result<Outcome, AllocError> {
     let alloc = rt.alloc();
-    let mut source = MemorySource::new(
-        Vec::from_slice(alloc, input)?,
-        Vec::from_slice(alloc, reads)?,
-    );
-    let mut sink = MemorySink::new(
-        vec![in alloc; 0u8; room]?,
-        1,
-        Vec::from_slice(alloc, writes)?,
-    );
-    let status = pas_main(rt, alloc, words, &mut source, &mut sink);
+    let mut source = source_of(alloc, input, reads)?;
+    let mut sink = sink_of(alloc, writes, room)?;
+    let status = status_of(rt, alloc, words, &mut source, &mut sink);
     let taken = Vec::from_slice(alloc, sink.held())?;
     Ok(Outcome { status, taken })
 }
