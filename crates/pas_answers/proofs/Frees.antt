@@ -21,7 +21,8 @@ use Rattle.pas_cache.specs.Caches.{Cached, AtRest}
 use Rattle.pas_cache.specs.Calls.{TakesEntry, RefusesName, Frees, FlushesLog, StopsCache}
 use Rattle.pas_answers.specs.Answers.{Named, standing_for, said_of_fault, IsFreedBy}
 use Rattle.pas_answers.specs.Calls.{block_behind, IsMeant, IsKnown, owed_events, PerformsMeant, FreesOne}
-use Rattle.pas_answers.proofs.OwedEvents.{emptied_events, full_events}
+use Rattle.pas_answers.proofs.OwedEvents.{full_events}
+use Rattle.pas_cache.proofs.Budget.{emptied_events}
 use Rattle.pas_steps.proofs.Unknown.{unknown_stays}
 
 -- ---- a free

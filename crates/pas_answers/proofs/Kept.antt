@@ -3,7 +3,7 @@ use Rattle.std.proofs.Common.{◌≡◌, ◌++◌, ℕ, List, Option, Some, None
 use Rattle.pas_profile.specs.declared.name.Name.{Name}
 use Rattle.pas_steps.specs.Desks.{Standing}
 use Rattle.pas_trace.specs.declared.plan.What.{What}
-use Rattle.pas_trace.specs.declared.plan.What.TheVariants.{Alloc, Free, Raw, Flush, Stop, Tick, Pass, Idle}
+use Rattle.pas_trace.specs.declared.plan.What.TheVariants.{Free}
 use Rattle.pas_report.specs.declared.records.Records.{Records}
 use Rattle.pas_cache.specs.Caches.{Cached}
 use Rattle.pas_answers.specs.Answers.{Named, standing_for}
@@ -14,13 +14,7 @@ use Rattle.pas_answers.specs.declared.names.Names.{Names}
 -- what is said of each name is said of the freed one
 pub meant_by : (block : ℕ → Option Name) (names : List Named) (what : What) → ((n : ℕ) → block n ≡ block_behind (standing_for names n)) → IsMeant names what (freed_by block what)
 meant_by block names (Free name) tells = sym (tells name)
-meant_by block names (Alloc name heap size align) tells = tt
-meant_by block names (Raw freed) tells = tt
-meant_by block names Flush tells = tt
-meant_by block names Stop tells = tt
-meant_by block names (Tick epoch) tells = tt
-meant_by block names Pass tells = tt
-meant_by block names (Idle n) tells = tt
+meant_by block names what tells = tt
 
 -- .. and its turn has a next one
 pub no_turn : HasTurn None
@@ -28,13 +22,7 @@ no_turn = λ b same. absurd (let bad : None ≡ Some b = same in cc)
 
 pub turn_meant : (block : ℕ → Option Name) (what : What) → ((n : ℕ) → HasTurn (block n)) → HasTurn (freed_by block what)
 turn_meant block (Free name) turns = turns name
-turn_meant block (Alloc name heap size align) turns = no_turn
-turn_meant block (Raw freed) turns = no_turn
-turn_meant block Flush turns = no_turn
-turn_meant block Stop turns = no_turn
-turn_meant block (Tick epoch) turns = no_turn
-turn_meant block Pass turns = no_turn
-turn_meant block (Idle n) turns = no_turn
+turn_meant block what turns = no_turn
 
 -- the table keeps what came of the operation
 pub kept : {σ σ' : Standing} {what : What} {meant came : Option Name} {c c' : Cached} {out out' : Records} (table table' : Names) → meant ≡ freed_by (block_named table) what → ((names : List Named) → Tells table names → Tells table' (named_by what came ++ names))

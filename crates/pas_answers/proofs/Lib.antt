@@ -1,12 +1,12 @@
-pub mod Routes
-pub mod OwedEvents
-pub mod Frees
+mod OwedEvents
+mod Frees
 pub mod Requests
 pub mod Kept
-pub mod Records
+mod Records
 pub mod OwnRecords
 pub mod KnownNames
-pub mod Parts
-pub mod Shown
-pub mod Tidy
+mod Parts
+mod Shown
+mod Tidy
 pub mod Consequences
+pub mod SingleActs

@@ -28,29 +28,29 @@ IsShown σ shown = (v : View) (l : Whole) → σ.stands v l → shown ≡ revers
 shown_parts : (k : ℕ) (steps : List Made) (v : View) (old new : List Event) → old ≡ reverse (events_of k v) → new ≡ reverse (events_of k (steps ++ v)) → new ≡ old ++ reverse (events_by k v steps)
 shown_parts k steps v old new before after = after ∙ ap reverse (events_split k steps v) ∙ reverse-append (events_by k v steps) (events_of k v) ∙ ap (λ es. es ++ reverse (events_by k v steps)) (sym before)
 
-shown_more : {σ σ' : Standing} {C : View → Whole → Type 0} {steps : List Made} → Adds σ σ' C steps → (old new : List Event) → IsShown σ old → IsShown σ' new → (v : View) (l : Whole) → σ.stands v l → C v l → new ≡ old ++ reverse (events_by σ.seat.actor v steps)
+shown_more : {σ σ' : Standing} {C : View → Type 0} {steps : List Made} → Adds σ σ' C steps → (old new : List Event) → IsShown σ old → IsShown σ' new → (v : View) (l : Whole) → σ.stands v l → C v → new ≡ old ++ reverse (events_by σ.seat.actor v steps)
 shown_more {σ} {σ'} {C} {steps} adds old new before after v l stood met =
     shown_parts σ.seat.actor steps v old new (before v l stood) (subst (λ s. new ≡ reverse (events_of s.actor (steps ++ v))) adds.seat_is (after (steps ++ v) (triples σ.seat.actor steps ++ l) (adds.added v l stood met)))
 
 -- the events of a call are those from the place on where the earlier ones ended
-pub shown_new : {σ σ' : Standing} {C : View → Whole → Type 0} {steps : List Made} → Adds σ σ' C steps → (old new : List Event) → IsShown σ old → IsShown σ' new → (v : View) (l : Whole) → σ.stands v l → C v l → drop (length old) new ≡ reverse (events_by σ.seat.actor v steps)
+shown_new : {σ σ' : Standing} {C : View → Type 0} {steps : List Made} → Adds σ σ' C steps → (old new : List Event) → IsShown σ old → IsShown σ' new → (v : View) (l : Whole) → σ.stands v l → C v → drop (length old) new ≡ reverse (events_by σ.seat.actor v steps)
 shown_new {σ} {σ'} {C} {steps} adds old new before after v l stood met = ap (drop (length old)) (shown_more adds old new before after v l stood met) ∙ drop-append_seam old (reverse (events_by σ.seat.actor v steps))
 
-pub shown_longer : {σ σ' : Standing} {C : View → Whole → Type 0} {steps : List Made} → Adds σ σ' C steps → (old new : List Event) → IsShown σ old → IsShown σ' new → CanCall σ C → length old ≤ length new
+pub shown_longer : {σ σ' : Standing} {C : View → Type 0} {steps : List Made} → Adds σ σ' C steps → (old new : List Event) → IsShown σ old → IsShown σ' new → CanCall σ C → length old ≤ length new
 shown_longer {σ} {σ'} {C} {steps} adds old new before after can =
     let n = ap (λ (es : List Event). length es) (shown_more adds old new before after can.view can.whole can.stood can.met) ∙ length-append old (reverse (events_by σ.seat.actor can.view steps)) in
     omega (arith, n)
 
-pub new_few : {σ σ' : Standing} {C : View → Whole → Type 0} {steps : List Made} → Adds σ σ' C steps → (old new : List Event) → IsShown σ old → IsShown σ' new → (can : CanCall σ C) → length (drop (length old) new) ≡ length (events_by σ.seat.actor can.view steps)
+new_few : {σ σ' : Standing} {C : View → Type 0} {steps : List Made} → Adds σ σ' C steps → (old new : List Event) → IsShown σ old → IsShown σ' new → (can : CanCall σ C) → length (drop (length old) new) ≡ length (events_by σ.seat.actor can.view steps)
 new_few {σ} {σ'} {C} {steps} adds old new before after can = ap (λ (es : List Event). length es) (shown_new adds old new before after can.view can.whole can.stood can.met) ∙ length-reverse (events_by σ.seat.actor can.view steps)
 
 -- ---- what an operation asks
-pub can_rest : {σ : Standing} (c : Cached) (what : What) (spare : ℕ) (out : Records) → CanCall σ (λ v l. MayAnswer σ.seat.profile c what spare out v) → CanCall σ (λ v l. AtRest σ.seat.profile c v)
+pub can_rest : {σ : Standing} (c : Cached) (what : What) (spare : ℕ) (out : Records) → CanCall σ (MayAnswer σ.seat.profile c what spare out) → CanCall σ (AtRest σ.seat.profile c)
 can_rest {σ} c what spare out can = record { view = can.view; whole = can.whole; stood = can.stood; met = can.met.may.rest }
 
 -- ---- the records
 -- there is room for the events, and for what is said besides
-pub records_fit : {σ σ' : Standing} {said : Option Said} {c' : Cached} (what : What) (meant came : Option Name) (c : Cached) (spare : ℕ) (out : Records) (old new : List Event) → (can : CanCall σ (λ v l. MayAnswer σ.seat.profile c what spare out v))
+pub records_fit : {σ σ' : Standing} {said : Option Said} {c' : Cached} (what : What) (meant came : Option Name) (c : Cached) (spare : ℕ) (out : Records) (old new : List Event) → (can : CanCall σ (MayAnswer σ.seat.profile c what spare out))
     → PerformsMeant what meant came c c' σ σ' said → IsShown σ old → IsShown σ' new → length (records_in out) + length (drop (length old) new) + length (said_by σ.seat.actor said) ≤ room_of out
 unfolding can_rest
 records_fit {σ} {σ'} {said} {c'} what meant came c spare out old new can performs before after =
@@ -61,7 +61,7 @@ records_fit {σ} {σ'} {said} {c'} what meant came c spare out old new can perfo
     omega (arith, events, few, room)
 
 -- the length of the records once the events are pushed
-pub pushed_length : (out pushed : Records) (events : List Event) → records_in pushed ≡ records_in out ++ map Record.Event events → length (records_in pushed) ≡ length (records_in out) + length events
+pushed_length : (out pushed : Records) (events : List Event) → records_in pushed ≡ records_in out ++ map Record.Event events → length (records_in pushed) ≡ length (records_in out) + length events
 pushed_length out pushed events added =
     ap (λ (rs : List Record). length rs) added ∙ length-append (records_in out) (map Record.Event events) ∙ ap (λ n. length (records_in out) + n) (length-map events Record.Event)
 

@@ -5,7 +5,7 @@ use Rattle.std.proofs.lemmas.List.Elements.{All-nil, All-push, All-append}
 use Rattle.pas_profile.specs.declared.profile.Profile.{Profile}
 use Rattle.pas_profile.specs.declared.event.Event.{Event}
 use Rattle.pas_profile.specs.declared.event.Outcome.{Outcome}
-use Rattle.pas_profile.specs.declared.event.Outcome.TheVariants.{Unbacked, Bare, Young, InUse, NotOffered}
+use Rattle.pas_profile.specs.declared.event.Outcome.TheVariants.{Unbacked}
 use Rattle.pas_steps.specs.Events.{events_by}
 use Rattle.pas_steps.specs.Views.{View}
 use Rattle.pas_steps.specs.declared.step.Made.{Made}
@@ -67,10 +67,7 @@ piece_shown f k steps said v of = each_both (records_of (events_by k v steps)) (
 -- ---- the records of a pass
 outcome_shown : (k epoch page : ℕ) (outcome : Outcome) → CanShow (record_of k epoch page outcome)
 outcome_shown k epoch page Unbacked = tt
-outcome_shown k epoch page Bare = tt
-outcome_shown k epoch page (Young stamp) = tt
-outcome_shown k epoch page (InUse word value) = tt
-outcome_shown k epoch page NotOffered = tt
+outcome_shown k epoch page outcome = tt
 
 outcomes_shown : (k epoch : ℕ) (found : List (ℕ × Outcome)) → EachShown (map (λ p. record_of k epoch p.0 p.1) found)
 outcomes_shown k epoch [] = tt

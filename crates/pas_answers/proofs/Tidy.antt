@@ -1,7 +1,7 @@
 -- What answers an operation leaves its actor's view tidy: no epoch is learned between an end and its stamps, a page is stamped only where it is unstamped,
 -- and at the end none is.
 use Rattle.std.proofs.Common.{◌≡◌, ◌≢◌, ℕ, zero, suc, ◌+◌, ◌-◌, ◌*◌, ◌/◌, ◌^◌, ◌<◌, ◌≤◌, ◌==◌, nat_le, Bool, true, false, ◌&&◌, if◌then◌else◌, List, [], ◌∷◌, ◌++◌, length, Option, Some, None, inl, inr, refl, ap, sym, ◌∙◌, subst, arith, append_assoc}
-use Rattle.std.proofs.lemmas.Bool.{true≢false, false≢true, eqb-false, eq-eqb, ne_eqb, false_from_ne_true}
+use Rattle.std.proofs.lemmas.Bool.{true≢false, false≢true, eqb-false, eq-eqb, ne_eqb, false_from_ne_true, cond-false, and_left}
 use Rattle.std.proofs.lemmas.Bool.Decides.{nat_tests}
 use Rattle.pas_profile.specs.Lives.{live_word}
 use Rattle.pas_profile.specs.Directories.{directory_read, deed_word_of}
@@ -30,15 +30,18 @@ use Rattle.pas_free_log.specs.declared.ending.Outcome.TheVariants.{Ended, Refuse
 use Rattle.pas_free_log.proofs.Tries.{not_live}
 use Rattle.pas_cache.specs.Caches.{Cached}
 use Rattle.pas_cache.specs.Changes.{EmptiesLog, EmptiesFull}
-use Rattle.pas_steps.specs.Kinds.{Kinds, Only, kind_of, look_kind, is_in, apart, LookEpoch, Putting, Ending, Stamping, Ticking, looking, returning}
+use Rattle.pas_steps.specs.Kinds.{Kinds, Only, kind_of, look_kind, is_in, apart, LookEpoch, Putting, Ending, Stamping, Ticking, looking, returning, place_of, unstamping}
 use Rattle.pas_cache.specs.Kinds.{releasing, allocating}
-use Rattle.pas_steps.proofs.Apart.{holds_over, only_both, only_within, unstamped_same}
+use Rattle.pas_steps.proofs.Apart.{holds_over, only_both, only_within, unstamped_same, unstamped_step_same, out_within}
 use Rattle.pas_steps.proofs.Calls.{returns_are}
 use Rattle.pas_trace.specs.declared.plan.What.{What}
 use Rattle.pas_report.specs.declared.record.Said.{Said}
 use Rattle.pas_answers.specs.Answers.{Having, Answer, standing_for, IsFreed, IsFreedBy, IsStopped, IsAnswered}
 use Rattle.pas_report.proofs.Showable.{AreOfRegion}
 use Rattle.pas_answers.proofs.Parts.{of_front, of_back}
+use Rattle.pas_profile.proofs.Runs.{to_meet, met_by}
+use Rattle.pas_free_log.proofs.Pages.{count_some}
+use Rattle.pas_free_log.proofs.OneEntry.{guess_is, not_ended}
 
 -- ---- tidy views: all steps kept to ends, and nothing is unstamped
 abbrev pub KeptPart : View → Type 0
@@ -72,15 +75,9 @@ keeps_tidy (Stamp q) v h stamped = absurd (true≢false h)
 keeps_tidy (Tick up) v h stamped = absurd (true≢false h)
 keeps_tidy s v h stamped = tt
 
-stamped_tidy : (s : Step) (a p : ℕ) (was : Bool) → is_in untidy (kind_of s) ≡ false → unstamped_after s a p was ≡ was
-stamped_tidy (End name guess) a p was h = absurd (true≢false h)
-stamped_tidy (EndSized name room) a p was h = absurd (true≢false h)
-stamped_tidy (Stamp q) a p was h = absurd (true≢false h)
-stamped_tidy s a p was h = refl
-
 pub tidy_over : (ks : Kinds) → apart ks untidy ≡ true → (steps : List Made) (v : View) → Only ks steps → Tidy v → Tidy (steps ++ v)
 tidy_over ks w = holds_over Tidy untidy ks
-    (λ m v h tidy. record { kept = (keeps_tidy m.step v h tidy.stamped, tidy.kept); stamped = λ p. stamped_tidy m.step m.answer p (is_unstamped v p) h ∙ tidy.stamped p }) w
+    (λ m v h tidy. record { kept = (keeps_tidy m.step v h tidy.stamped, tidy.kept); stamped = λ p. unstamped_step_same m.step m.answer p (is_unstamped v p) (out_within unstamping untidy (place_of (kind_of m.step)) refl h) ∙ tidy.stamped p }) w
 
 pub look_tidy : (word : Word) (a : ℕ) (v : View) → is_in looking (look_kind word) ≡ true → Tidy v → Tidy (made (Look word) a ∷ v)
 look_tidy word a v is = tidy_over looking refl (made (Look word) a ∷ []) v (is, tt)
@@ -121,18 +118,11 @@ record PagesDone (g n k : ℕ) (v : View) : Type 0 where
   kept : KeptPart v
   pending : IsPending g n k v
 
-meets_at : (g n p : ℕ) → g < 256 * p + 256 → 256 * p < g + n → meets_page g n p ≡ true
-meets_at g n p low high = grind (arith, nat_tests, low, high)
-
-meets_within : (g n p : ℕ) → meets_page g n p ≡ true → 256 * p < g + n
-meets_within g n p h = grind (arith, nat_tests, h)
-
 first_page : (g k : ℕ) → first_on g (g / 256 + k) / 256 ≡ g / 256 + k
 first_page g k = omega arith
 
 others_stay : (x was : Bool) → (if x then false else was) ≡ true → (x ≡ false) × (was ≡ true)
-others_stay true was h = absurd (false≢true h)
-others_stay false was h = (refl, h)
+others_stay x was h = grind arith
 
 other_stays : (x was : Bool) → x ≡ false → was ≡ true → (if x then false else was) ≡ true
 other_stays x was e h = ap (λ t. if t then false else was) e ∙ h
@@ -154,17 +144,14 @@ pages_done : (k g n : ℕ) (steps : List Made) (v : View) → 1 ≤ n → g / 25
 pages_done zero g n steps v some few was h = subst (λ ms. PagesDone g n 0 (ms ++ v)) (sym h) was
 pages_done (suc k) g n steps v some few was h =
     let before : PagesDone g n k (h.1 ++ v) = pages_done k g n h.1 v some (omega (arith, few)) was h.3 in
-    let meets : meets_page g n (g / 256 + k) ≡ true = meets_at g n (g / 256 + k) (omega arith) (omega (arith, few, some)) in
+    let meets : meets_page g n (g / 256 + k) ≡ true = to_meet g n (g / 256 + k) (omega arith) (omega (arith, few, some)) in
     let un : is_unstamped (h.1 ++ v) (first_on g (g / 256 + k) / 256) ≡ true = ap (is_unstamped (h.1 ++ v)) (first_page g k) ∙ before.pending.rest (g / 256 + k) meets (omega arith) in
     let page : PageDone (g / 256 + k) (h.1 ++ v) (h.0 ++ (h.1 ++ v))
     = subst (λ p. PageDone p (h.1 ++ v) (h.0 ++ (h.1 ++ v))) (first_page g k) (page_done (first_on g (g / 256 + k)) (count_on g n (g / 256 + k)) h.0 (h.1 ++ v) h.2 before.kept un) in
     subst (PagesDone g n (suc k)) (sym (ap (λ ms. ms ++ v) h.4 ∙ append_assoc h.0 h.1 v)) record { kept = page.kept; pending = next_pending g n k (h.1 ++ v) (h.0 ++ (h.1 ++ v)) before.pending page }
 
 all_pages : (g n : ℕ) → 1 ≤ n → g / 256 + page_count g n ≡ (g + n - 1) / 256 + 1
-all_pages g n some =
-    let ne : (n == 0) ≡ false = ne_eqb n 0 (λ e. absurd (omega (arith, some, e))) in
-    let count : page_count g n ≡ (g + n - 1) / 256 - g / 256 + 1 = ap (λ t. if t then 0 else (g + n - 1) / 256 - g / 256 + 1) ne in
-    omega (arith, count, some)
+all_pages g n some = let count = count_some g n some in omega (arith, count, some)
 
 run_tidy : (g n : ℕ) (steps : List Made) (v : View) → 1 ≤ n → PagesDone g n 0 v → PagesSteps (page_count g n) g n steps → Tidy (steps ++ v)
 run_tidy g n steps v some was h =
@@ -175,14 +162,13 @@ run_tidy g n steps v some was h =
       stamped = λ p. false_from_ne_true (is_unstamped (steps ++ v) p) (λ un.
           let on = at.pending.only p un in
           let past = on.1 in
-          let within = meets_within g n p on.0 in
+          let within = (met_by g n p on.0).1 in
           absurd (omega (arith, count, past, within)));
     }
 
 -- ---- an entry of the log
 misses : (z y was : Bool) → z ≡ false → (if z && y then true else was) ≡ was
-misses true y was h = absurd (false≢true (sym h))
-misses false y was h = refl
+misses z y was h = cond-false (z && y) true was (and_left z y h)
 
 tries_tidy : (name : Name) (first guess : ℕ) (before : List Made) (v : View) → Tries name first guess before → Tidy v → Tidy (before ++ v)
 tries_tidy name first guess before v (inl h) tidy = tidy_none before v h.1 tidy
@@ -192,11 +178,10 @@ tries_tidy name first guess before v (inr h) tidy = subst (λ ms. Tidy (ms ++ v)
 }
 
 if_met : (y was : Bool) → was ≡ false → (if y then true else was) ≡ y
-if_met true was h = refl
-if_met false was h = h
+if_met y was h = grind arith
 
 met_from : (g n p : ℕ) → meets_page g n p ≡ true → g / 256 + 0 ≤ p
-met_from g n p h = let low : g < 256 * p + 256 = grind (arith, nat_tests, h) in omega (arith, low)
+met_from g n p h = let low = (met_by g n p h).0 in omega (arith, low)
 
 ended_is : {x y : ℕ} → Ended x ≡ Ended y → x ≡ y
 ended_is h = cc
@@ -227,11 +212,6 @@ marks_by : (t : Bool) (entry : Entry) (n : ℕ) → (t ≡ true → n ≡ entry.
 marks_by true entry n is = subst (λ m. MarksEnds entry.name m (EndSized entry.name entry.room)) (sym (is refl)) (record { marks = λ a p u. refl; keeps = λ u. tt })
 marks_by false entry n is = record { marks = λ a p u. refl; keeps = λ u. tt }
 
--- the length of the last try is that of the room, where one was named
-length_is : (t : Bool) (entry : Entry) (first guess : ℕ) (before : List Made) → TriesBy t entry first guess before → t ≡ true → guess ≡ entry.room / 16
-length_is true entry first guess before tries e = tries.0
-length_is false entry first guess before tries e = absurd (true≢false (sym e))
-
 last_of : (f : Profile) (t : Bool) (entry : Entry) (n : ℕ) → (t ≡ true → n ≡ entry.room / 16) → IsStepOf f (last_step t entry n) → (entry.name.turn < 2 ^ 40 - 1) × (1 ≤ n)
 last_of f true entry n is of = (of.0.2, subst (λ m. 1 ≤ m) (sym (is refl)) of.0.3)
 last_of f false entry n is of = (of.2, of.3)
@@ -239,10 +219,6 @@ last_of f false entry n is of = (of.2, of.3)
 tries_by_tidy : (t : Bool) (entry : Entry) (first guess : ℕ) (before : List Made) (v : View) → TriesBy t entry first guess before → Tidy v → Tidy (before ++ v)
 tries_by_tidy true entry first guess before v h tidy = tidy_none before v h.1 tidy
 tries_by_tidy false entry first guess before v h tidy = tries_tidy entry.name first guess before v h tidy
-
-not_its : (t : Bool) (name : Name) (guess a : ℕ) → name.turn < 2 ^ 40 - 1 → IsRefusedBy t name guess a → a ≢ live_word name.turn guess
-not_its true name guess a turn h = h
-not_its false name guess a turn h = not_live name guess a turn h
 
 pending_now : (name : Name) (guess a : ℕ) (s : Step) (u : View) → MarksEnds name guess s → AllStamped u → a ≡ live_word name.turn guess → IsPending (grain_of name) guess 0 (made s a ∷ u)
 pending_now name guess a s u h stamped hit =
@@ -262,7 +238,7 @@ end_done t name (Refused read) guess a s u marks tidy turn some h = record {
   ended = λ n e. absurd (not_refused (sym e));
   refused = λ r e. record {
     kept = (marks.keeps u, tidy.kept);
-    stamped = λ p. marks.marks a p u ∙ misses (a == live_word name.turn guess) (meets_page (grain_of name) guess p) (is_unstamped u p) (ne_eqb a (live_word name.turn guess) (not_its t name guess a turn h.0)) ∙ tidy.stamped p;
+    stamped = λ p. marks.marks a p u ∙ misses (a == live_word name.turn guess) (meets_page (grain_of name) guess p) (is_unstamped u p) (ne_eqb a (live_word name.turn guess) (not_ended t name guess a turn h.0)) ∙ tidy.stamped p;
   };
 }
 
@@ -272,7 +248,7 @@ ends_done f entry outcome steps v of h tidy =
     let t : Bool = is_sized entry in
     let first : ℕ = guess_by (directory_read h.deed) in
     let look = made (Look (Word.Deed (address_of entry.name / 4096))) h.deed in
-    let is : t ≡ true → h.guess ≡ entry.room / 16 = length_is t entry first h.guess h.before h.tries in
+    let is : t ≡ true → h.guess ≡ entry.room / 16 = guess_is t entry first h.guess h.before h.tries in
     let step : IsStepOf f (last_step t entry h.guess) = (subst (AreOfRegion f) h.steps_are of).0 in
     let last : (entry.name.turn < 2 ^ 40 - 1) × (1 ≤ h.guess) = last_of f t entry h.guess is step in
     let tried : Tidy ((h.before ++ look ∷ []) ++ v) = tidy_both (h.before ++ look ∷ []) h.before (look ∷ []) v refl

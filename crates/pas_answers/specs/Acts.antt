@@ -1,7 +1,7 @@
 -- What a replay in the order of the text does, one act after the other. At the start of a phase stands its mark, from the second phase on, and
 -- then each thread that has an operation in it reads the epoch. The operations follow in order. After the last phase stands a mark, and then each
 -- thread is stopped.
-use Rattle.std.specs.Prelude.{ℕ, zero, suc, ◌+◌, ◌==◌, Bool, false, ◌||◌, not, List, [], ◌∷◌, ◌++◌, map}
+use Rattle.std.specs.Prelude.{ℕ, zero, suc, ◌+◌, ◌==◌, Bool, false, ◌||◌, not, if◌then◌else◌, List, [], ◌∷◌, ◌++◌, map}
 use Rattle.std.specs.List.{filter, flat_map}
 use Rattle.pas_trace.specs.declared.plan.What.{What}
 use Rattle.pas_trace.specs.declared.plan.What.TheVariants.{Alloc, Free, Raw, Flush, Stop, Tick, Pass, Idle}
@@ -63,6 +63,16 @@ acts_of_op idle op = acts_of_what idle op op.what
 
 abbrev pub acts_of_ops : List ℕ → List Op → List Act
 acts_of_ops idle ops = flat_map (acts_of_op idle) ops
+
+-- the acts of thread k's operations among those of a phase
+abbrev pub own_acts : ℕ → List Op → List Act
+own_acts k [] = []
+own_acts k (op ∷ ops) = if op.actor == k then Operates op ∷ (Settles op.actor ∷ own_acts k ops) else own_acts k ops
+
+-- the acts of the scavenger's operations among those of a phase in which these threads are idle
+abbrev pub scavenger_acts : List ℕ → List Op → List Act
+scavenger_acts idle [] = []
+scavenger_acts idle (op ∷ ops) = if op.actor == 0 then acts_of_op idle op ++ scavenger_acts idle ops else scavenger_acts idle ops
 
 -- the acts of a phase of so many threads, after its mark
 abbrev pub phase_acts : ℕ → List Op → List Act

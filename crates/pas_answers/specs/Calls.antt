@@ -1,5 +1,5 @@
 -- What one operation asks and promises.
-use Rattle.std.specs.Prelude.{ℕ, ◌+◌, ◌-◌, ◌^◌, ◌<◌, ◌≤◌, ◌≡◌, true, List, [], ◌∷◌, ◌++◌, length, Option, None, Some, Result, Ok, Err, MatchResult}
+use Rattle.std.specs.Prelude.{ℕ, ◌+◌, ◌-◌, ◌^◌, ◌<◌, ◌≤◌, ◌≡◌, true, false, List, [], ◌∷◌, ◌++◌, length, Option, None, Some, Result, Ok, Err, MatchResult}
 use Rattle.pas_profile.specs.declared.profile.Profile.{Profile}
 use Rattle.pas_profile.specs.declared.name.Name.{Name}
 use Rattle.pas_steps.specs.Views.{View}
@@ -48,6 +48,10 @@ HasTurn found = (block : Name) → found ≡ Some block → block.turn < 2 ^ 40 
 -- the names that were asked for stand for something
 abbrev pub AreKnown : List ℕ → List Named → Type 0
 AreKnown asked names = (n : ℕ) → is_asked asked n ≡ true → (block : Option Name) × (standing_for names n ≡ Some block)
+
+-- a name that wasn't asked for stands for nothing
+abbrev pub OnlyAsked : List ℕ → List Named → Type 0
+OnlyAsked asked names = (n : ℕ) → is_asked asked n ≡ false → standing_for names n ≡ None
 
 -- a name that is freed was asked for
 abbrev pub IsKnown : List Named → What → Type 0

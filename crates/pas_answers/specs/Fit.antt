@@ -1,14 +1,13 @@
 -- What the acts of a plan keep, one after the other, and how many events and records they may make.
 use Rattle.std.specs.Prelude.{ℕ, ◌+◌, ◌-◌, ◌^◌, ◌<◌, ◌≡◌, ◌==◌, true, false, if◌then◌else◌, List, [], ◌∷◌}
 use Rattle.pas_profile.specs.Profiles.{IsAdmitted}
-use Rattle.pas_profile.specs.Routes.{route_of}
 use Rattle.pas_profile.specs.declared.profile.Profile.{Profile}
 use Rattle.pas_trace.specs.EveryPlan.{is_asked, asked_after, IsThread}
 use Rattle.pas_trace.specs.declared.plan.What.{What}
 use Rattle.pas_trace.specs.declared.plan.What.TheVariants.{Alloc, Free, Raw, Flush, Stop, Tick, Pass, Idle}
 use Rattle.pas_trace.specs.declared.plan.Op.{Op}
 use Rattle.pas_answers.specs.Acts.{Act, Operates, Settles, Ticks, MakesPass, ReadsEpoch, StopsIdle, MarksPhase, Wakes, MarksClose, Ends}
-use Rattle.pas_trace.specs.Reasons.{cost_of_route}
+use Rattle.pas_trace.specs.Reasons.{cost_of_size}
 
 -- A thread's operation can be replayed after those that asked for these names. A request has a new name below the limit, a free has one of those that were
 -- asked for, and a turn has a next one.
@@ -44,7 +43,7 @@ sum_over cost (act ∷ acts) = cost act + sum_over cost acts
 
 -- how many events an operation of a thread may make in the end, beside a deed; a free makes its one at a flush
 abbrev pub cost_of_what : What → ℕ
-cost_of_what (Alloc name heap size align) = cost_of_route (route_of size align) size
+cost_of_what (Alloc name heap size align) = cost_of_size size
 cost_of_what (Free name) = 1
 cost_of_what (Raw block) = 1
 cost_of_what Flush = 0

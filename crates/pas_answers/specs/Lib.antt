@@ -5,3 +5,4 @@ pub mod Replays
 pub mod Fit
 pub mod Names
 pub mod Calls
+pub mod Reaching

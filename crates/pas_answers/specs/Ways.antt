@@ -4,6 +4,7 @@ use Rattle.std.specs.Prelude.{ℕ, zero, suc, ◌+◌, ◌≡◌, ◌==◌, Bool
 use Rattle.pas_profile.specs.declared.event.Event.{Event}
 use Rattle.pas_steps.specs.Lists.{Whole, part}
 use Rattle.pas_report.specs.declared.record.Record.{Record}
+use Rattle.pas_steps.specs.Events.{actor_of}
 
 pub data Way : Type 0 where
   InOrder : Way
@@ -18,12 +19,7 @@ IsOneOrder OnThreads told whole = (k : ℕ) → part k whole ≡ part k told
 
 -- ---- the order of the records
 abbrev pub is_event_of : ℕ → Event → Bool
-is_event_of k (Event.Deed j page directory) = j == k
-is_event_of k (Event.Back j page) = j == k
-is_event_of k (Event.Unback j page epoch) = j == k
-is_event_of k (Event.Give j block) = j == k
-is_event_of k (Event.End j name epoch) = j == k
-is_event_of k (Event.Reject j name why) = j == k
+is_event_of k e = actor_of e == k
 
 -- it is of actor k; a mark is of nobody
 abbrev pub is_of : ℕ → Record → Bool

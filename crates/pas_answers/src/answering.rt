@@ -10,8 +10,7 @@ ghost use Rattle.pas_answers.specs.Names.{block_named, names_held};
 ghost use Rattle.pas_profile.specs.Profiles.{IsAdmitted};
 ghost use Rattle.pas_profile.specs.declared.profile.Profile.{Profile as TheProfile};
 ghost use Rattle.pas_profile.specs.declared.name.Name.{Name as TheName};
-ghost use Rattle.pas_profile.specs.Routes.{route_of};
-ghost use Rattle.pas_trace.specs.Reasons.{cost_of_route};
+ghost use Rattle.pas_trace.specs.Reasons.{cost_of_size};
 ghost use Rattle.pas_cache.specs.Serves.{wanted_for};
 ghost use Rattle.pas_answers.specs.Calls.{works, Tells, HasTurns, HasTurn, named_by, freed_by, MayPerform, MayServe, Serves, PerformsMeant, FreesOne, MayAnswer, Answers, AnswersMeant};
 
@@ -57,8 +56,8 @@ fn serve<D: Desk>(
     align: u32,
 ) -> Result<Block, NoRoom>
     requires admitted { IsAdmitted (D.standing desk.old).seat.profile size align heap }
-    requires can { CanCall (D.standing desk.old) (λ v l. MayServe (D.standing desk.old).seat.profile (cached cache.old) (cost_of_route (route_of size align) size) (D.spare_of desk.old) v) }
-    ensures serves { Serves (cost_of_route (route_of size align) size) (wanted_for (D.standing desk.old).seat.profile heap size align) None (cached cache.old) (cached cache.new) (D.standing desk.old) (D.standing desk.new) result }
+    requires can { CanCall (D.standing desk.old) (MayServe (D.standing desk.old).seat.profile (cached cache.old) (cost_of_size size) (D.spare_of desk.old)) }
+    ensures serves { Serves (cost_of_size size) (wanted_for (D.standing desk.old).seat.profile heap size align) None (cached cache.old) (cached cache.new) (D.standing desk.old) (D.standing desk.new) result }
     ensures home { D.home desk.new ≡ D.home desk.old }
 {
     if size > MOST_BITFIT {
@@ -78,7 +77,7 @@ fn allocate<D: Desk>(
     align: u32,
 ) -> (Option<Name>, Option<Said>)
     requires admitted { IsAdmitted (D.standing desk.old).seat.profile size align heap }
-    requires can { CanCall (D.standing desk.old) (λ v l. MayPerform (D.standing desk.old).seat.profile (cached cache.old) (TheWhat.Alloc name heap size align) (D.spare_of desk.old) v) }
+    requires can { CanCall (D.standing desk.old) (MayPerform (D.standing desk.old).seat.profile (cached cache.old) (TheWhat.Alloc name heap size align) (D.spare_of desk.old)) }
     ensures performs { (meant : Option TheName) → PerformsMeant (TheWhat.Alloc name heap size align) meant result.0 (cached cache.old) (cached cache.new) (D.standing desk.old) (D.standing desk.new) result.1 }
     ensures turn { HasTurn result.0 }
     ensures home { D.home desk.new ≡ D.home desk.old }
@@ -92,7 +91,7 @@ fn allocate<D: Desk>(
 /// Frees the block of this name. What is said where no block can have the name.
 fn free<D: Desk>(desk: &mut D, cache: &mut ThreadCache, block: Name) -> Option<Said>
     requires turn { block.turn < 2 ^ 40 - 1 }
-    requires can { CanCall (D.standing desk.old) (λ v l. MayPerform (D.standing desk.old).seat.profile (cached cache.old) (TheWhat.Raw block) (D.spare_of desk.old) v) }
+    requires can { CanCall (D.standing desk.old) (MayPerform (D.standing desk.old).seat.profile (cached cache.old) (TheWhat.Raw block) (D.spare_of desk.old)) }
     ensures frees { FreesOne block (cached cache.old) (cached cache.new) (D.standing desk.old) (D.standing desk.new) result }
     ensures home { D.home desk.new ≡ D.home desk.old }
 {
@@ -113,7 +112,7 @@ fn perform<D: Desk>(
 ) -> (Option<Name>, Option<Said>)
     requires fit { (limit : ℕ) × (asked : List ℕ) × IsFitWhat (D.standing desk.old).seat.profile limit asked what }
     requires turn { HasTurn meant }
-    requires can { CanCall (D.standing desk.old) (λ v l. MayPerform (D.standing desk.old).seat.profile (cached cache.old) what (D.spare_of desk.old) v) }
+    requires can { CanCall (D.standing desk.old) (MayPerform (D.standing desk.old).seat.profile (cached cache.old) what (D.spare_of desk.old)) }
     ensures performs { PerformsMeant what meant result.0 (cached cache.old) (cached cache.new) (D.standing desk.old) (D.standing desk.new) result.1 }
     ensures turn { HasTurn result.0 }
     ensures home { D.home desk.new ≡ D.home desk.old }
@@ -153,7 +152,7 @@ pub fn answer_meant<D: Desk>(
 ) -> Option<Name>
     requires fit { (limit : ℕ) × (asked : List ℕ) × IsFitWhat (D.standing desk.old).seat.profile limit asked what }
     requires turn { HasTurn meant }
-    requires can { CanCall (D.standing desk.old) (λ v l. MayAnswer (D.standing desk.old).seat.profile (cached cache.old) what (D.spare_of desk.old) out.old v) }
+    requires can { CanCall (D.standing desk.old) (MayAnswer (D.standing desk.old).seat.profile (cached cache.old) what (D.spare_of desk.old) out.old) }
     ensures answers { AnswersMeant what meant result (cached cache.old) (cached cache.new) out.old out.new (D.standing desk.old) (D.standing desk.new) }
     ensures turn { HasTurn result }
     ensures home { D.home desk.new ≡ D.home desk.old }
@@ -202,7 +201,7 @@ pub fn answer<D: Desk>(
 )
     requires fit { (asked : List ℕ) × IsFitWhat (D.standing desk.old).seat.profile (names_held names.old) asked what }
     requires turns { HasTurns names.old }
-    requires can { CanCall (D.standing desk.old) (λ v l. MayAnswer (D.standing desk.old).seat.profile (cached cache.old) what (D.spare_of desk.old) out.old v) }
+    requires can { CanCall (D.standing desk.old) (MayAnswer (D.standing desk.old).seat.profile (cached cache.old) what (D.spare_of desk.old) out.old) }
     ensures answers { Answers what (works names.old (cached cache.old)) (works names.new (cached cache.new)) out.old out.new (D.standing desk.old) (D.standing desk.new) }
     ensures turns { HasTurns names.new }
     ensures home { D.home desk.new ≡ D.home desk.old }

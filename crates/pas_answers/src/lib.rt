@@ -2,6 +2,8 @@
 #![tactic(auto)]
 
 mod answering;
+mod idle;
 pub mod names;
 
 pub use answering::{answer, answer_meant};
+pub use idle::is_idle_for;

@@ -1,5 +1,4 @@
 pub mod Aligned
 pub mod EndBits
 pub mod Lowest
-pub mod GivenRun
-pub mod Allocated
+pub mod Asked

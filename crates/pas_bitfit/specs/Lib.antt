@@ -1,4 +1,3 @@
 pub mod Runs
-pub mod Gives
 pub mod Allocates
 pub mod Ends

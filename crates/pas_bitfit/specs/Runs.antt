@@ -1,11 +1,12 @@
 -- Runs of free grains of a page.
-use Rattle.std.specs.Prelude.{ℕ, ◌+◌, ◌%◌, ◌<◌, ◌≤◌, ◌≡◌}
+use Rattle.std.specs.Prelude.{ℕ, ◌+◌, ◌%◌, ◌<◌, ◌≤◌, ◌≡◌, refl}
 use Rattle.pas_profile.specs.Runs.{in_run}
 use Rattle.pas_profile.specs.declared.directory.Kind.TheVariants as Kind
-use Rattle.pas_steps.specs.Evidence.{Readings}
-use Rattle.pas_steps.specs.Evidence.{IsAntitone}
-use Rattle.pas_segregated.specs.Takes.{AllFree}
+use Rattle.pas_steps.specs.Evidence.{Readings, IsAntitone}
+use Rattle.pas_rights.specs.Looks.{AllFree}
+use Rattle.pas_choice.specs.Allocates.{IsRunOf}
 use Rattle.pas_choice.specs.Choices.{Choice}
+use Rattle.pas_choice.specs.declared.choosing.Run.{Run}
 use Rattle.pas_bitfit.specs.declared.wanted.Wanted.{Wanted}
 
 pub record IsWanted (wanted : Wanted) : Type 0 where
@@ -39,3 +40,10 @@ runs wanted = record {
   chosen = IsLowestFit wanted;
   kept = λ first. in_run first wanted.grains;
 }
+
+-- the run from this grain on
+abbrev pub run_at : Wanted → ℕ → Run
+run_at wanted first = record { first = first; grains = wanted.grains }
+
+pub is_run_at : (wanted : Wanted) (r : Readings) (first : ℕ) → IsWanted wanted → IsLowestFit wanted r first → IsRunOf (λ b. in_run first wanted.grains b) (run_at wanted first)
+is_run_at wanted r first is fit = record { some = is.grains.0; within = fit.this.within; are = λ b lt. refl }

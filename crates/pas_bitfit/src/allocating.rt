@@ -6,12 +6,10 @@ ghost use Rattle.pas_steps.specs.Desks.{CanCall};
 ghost use Rattle.pas_search.specs.Searches.{SearchRoom};
 ghost use Rattle.pas_bitfit.specs.Allocates.{bitfit_directory, Allocates};
 
-use crate::giving::give_run;
 use crate::wanted::Wanted;
+use pas_choice::ByChoice;
 use pas_profile::limits::GRAIN_BYTES;
 use pas_profile::{Block, Directory, Kind, NoRoom};
-use pas_rights::leave;
-use pas_search::find_page;
 use pas_steps::Desk;
 
 /// A block of so many bytes at a multiple of the alignment: at the lowest place of the lowest offered bit-fit page of the heap where it fits,
@@ -25,7 +23,7 @@ pub fn alloc<D: Desk>(desk: &mut D, heap: u8, room: u32, align: u32) -> Result<B
     requires directory { IsDirectoryOf (D.standing desk.old).seat.profile (bitfit_directory heap) }
     requires room { (16 ≤ room) × (room ≤ 2048) × (room % 16 ≡ 0) }
     requires align { IsAlignment align }
-    requires can { CanCall (D.standing desk.old) (λ v l. SearchRoom (D.standing desk.old).seat.profile (bitfit_directory heap) 2 (D.spare_of desk.old) v) }
+    requires can { CanCall (D.standing desk.old) (SearchRoom (D.standing desk.old).seat.profile (bitfit_directory heap) 2 (D.spare_of desk.old)) }
     ensures allocates { Allocates heap room align D.tells (D.standing desk.old) (D.standing desk.new) result }
     ensures home { D.home desk.new ≡ D.home desk.old }
 {
@@ -37,12 +35,5 @@ pub fn alloc<D: Desk>(desk: &mut D, heap: u8, room: u32, align: u32) -> Result<B
         grains: (room / GRAIN_BYTES) as u16,
         align: (align / GRAIN_BYTES) as u16,
     };
-    match find_page(&wanted, desk, directory) {
-        Ok(served) => {
-            let block = give_run(desk, served.page, directory, served.found, wanted.grains);
-            leave(desk, served.page, directory);
-            Ok(block)
-        }
-        Err(room) => Err(room),
-    }
+    pas_choice::alloc(&ByChoice(wanted), desk, directory)
 }

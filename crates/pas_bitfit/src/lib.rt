@@ -3,7 +3,6 @@
 
 mod allocating;
 mod ending;
-mod giving;
 mod wanted;
 
 pub use allocating::alloc;

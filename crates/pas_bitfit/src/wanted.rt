@@ -1,10 +1,7 @@
 //! The lowest run of free grains that fits.
 use pas_bits::Mask4;
-use pas_choice::{Choosing, Chosen, serve_chosen};
+use pas_choice::{Choosing, ChoosingRun, Chosen, Run};
 use pas_lanes::all_zero;
-use pas_profile::Directory;
-use pas_search::Serving;
-use pas_steps::Desk;
 
 /// The run of free grains that a request wants: so many, 1 to 256, of which the first is a multiple of the alignment, 1 to 256 grains.
 #[derive(Clone, Copy, PartialEq, Eq)]
@@ -14,7 +11,7 @@ pub struct Wanted {
 }
 
 impl Choosing for Wanted {
-    ghost use Rattle.pas_bitfit.specs.Runs.{runs};
+    ghost use Rattle.pas_bitfit.specs.Runs.{runs, fewer_runs};
 
     type Found = u8;
 
@@ -32,19 +29,21 @@ impl Choosing for Wanted {
             grains: Mask4::run(first, self.grains),
         })
     }
-}
-
-impl Serving for Wanted {
-    ghost use Rattle.pas_choice.specs.Choices.{choosing};
-    ghost use Rattle.pas_bitfit.specs.Runs.{runs, fewer_runs};
-
-    type Found = u8;
-
-    ghost rule = { λ wanted. choosing (runs wanted) };
-
-    fn serve<D: Desk>(&self, desk: &mut D, page: u32, directory: Directory) -> Option<u8> {
-        serve_chosen(self, desk, page, directory)
-    }
 
     ghost fewer = { λ wanted. fewer_runs wanted };
+}
+
+impl ChoosingRun for Wanted {
+    ghost use Rattle.pas_bitfit.specs.Runs.{run_at, is_run_at};
+
+    ghost run = { λ wanted. run_at wanted };
+
+    fn run(&self, first: u8) -> Run {
+        Run {
+            first,
+            grains: self.grains,
+        }
+    }
+
+    ghost is_run = { λ wanted. is_run_at wanted };
 }

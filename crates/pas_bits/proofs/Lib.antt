@@ -1,7 +1,7 @@
 pub mod Words
-pub mod Runs
-pub mod Counts
-pub mod Places
+mod Runs
+mod Counts
+mod Places
 pub mod MovedMasks
-pub mod LowestBits
+mod LowestBits
 pub mod PageVectors

@@ -8,7 +8,7 @@ use Rattle.pas_profile.specs.Classes.{has_bit}
 use Rattle.pas_bits.proofs.Words.{none_of_zero}
 
 -- bit b of the word is bit `b - low` of what is left after a shift by `low`
-pub shifted_bit : (n low b : ℕ) → low ≤ b → bit_at n b ≡ bit_at (n / 2 ^ low) (b - low)
+shifted_bit : (n low b : ℕ) → low ≤ b → bit_at n b ≡ bit_at (n / 2 ^ low) (b - low)
 shifted_bit n low b le = let whole : b ≡ low + (b - low) = omega (arith, le) in ap (λ (i : ℕ). n / 2 ^ i % 2) whole ∙ ap (λ (m : ℕ). m % 2) (sym (shr-shr n low (b - low)))
 
 -- where nothing is left, no bit is set from there on

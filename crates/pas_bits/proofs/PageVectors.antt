@@ -8,12 +8,14 @@ use Rattle.pas_profile.specs.Classes.{has_bit}
 use Rattle.pas_bits.specs.PageVectors.{page_mask, is_in_word, HasNoPage, IsLowestPage}
 use Rattle.pas_bits.proofs.LowestBits.{none_from, lowest_from}
 use Rattle.pas_bits.proofs.Words.{bit_of_or, bit_cleared}
+use Rattle.std.proofs.Math.Bool.{or_comm}
+use Rattle.std.proofs.lemmas.Bool.Decides.{nat_tests}
 
 -- ---- the bit of a page
 pub page_mask_lt : (q : ℕ) → page_mask q < 2 ^ 64
 page_mask_lt q = let lt : 2 ^ (q % 64) < 2 ^ 64 = pow_below (q % 64) 64 (omega arith) in omega (arith, lt)
 
-pub page_mask_bit : (q b : ℕ) → has_bit (page_mask q) b ≡ (q % 64 == b)
+page_mask_bit : (q b : ℕ) → has_bit (page_mask q) b ≡ (q % 64 == b)
 page_mask_bit q b =
     let lt : 2 ^ (q % 64) < 2 ^ 64 = pow_below (q % 64) 64 (omega arith) in
     ap (λ n. has_bit n b) (let is : page_mask q ≡ 2 ^ (q % 64) = omega (arith, lt) in is) ∙ elim (cases_eq (q % 64) b) [
@@ -25,38 +27,23 @@ pub same_page : (q p : ℕ) → q / 64 ≡ p / 64 → q % 64 ≡ p % 64 → q �
 same_page q p d r = omega arith
 
 -- two pages of one word are one exactly where their bits are
-pub same_bit : (q p : ℕ) → q / 64 ≡ p / 64 → (q % 64 == p % 64) ≡ (q == p)
-same_bit q p e = elim (cases_eq (q % 64) (p % 64)) [
-  | inl same ↦ eq-eqb (q % 64) (p % 64) same ∙ sym (eq-eqb q p (same_page q p e same))
-  | inr ne ↦ ne_eqb (q % 64) (p % 64) ne ∙ sym (ne_eqb q p (λ h. ne (ap (λ x. x % 64) h)))
-]
+same_bit : (q p : ℕ) → q / 64 ≡ p / 64 → (q % 64 == p % 64) ≡ (q == p)
+same_bit q p e = grind (arith, nat_tests, e)
 
 -- the bit of a page of the same word
-pub block_bit : (q p : ℕ) → (q / 64 == p / 64) ≡ true → is_in_word (page_mask q) p ≡ (q == p)
+block_bit : (q p : ℕ) → (q / 64 == p / 64) ≡ true → is_in_word (page_mask q) p ≡ (q == p)
 block_bit q p h = page_mask_bit q (p % 64) ∙ same_bit q p (eqb-true (q / 64) (p / 64) h)
 
 pub page_added : (word page p : ℕ) → p / 64 ≡ page / 64 → is_in_word (bit_or word (page_mask page)) p ≡ ((page == p) || is_in_word word p)
-page_added word page p same = bit_of_or word (page_mask page) (p % 64) ∙ swap_or (has_bit word (p % 64)) (is_in_word (page_mask page) p)
+page_added word page p same = bit_of_or word (page_mask page) (p % 64) ∙ or_comm (has_bit word (p % 64)) (is_in_word (page_mask page) p)
     ∙ ap (λ t. t || has_bit word (p % 64)) (page_mask_bit page (p % 64) ∙ same_bit page p (sym same))
-  where
-    swap_or : (x y : Bool) → (x || y) ≡ (y || x)
-    swap_or true true = refl
-    swap_or true false = refl
-    swap_or false true = refl
-    swap_or false false = refl
 
 -- ---- after a page's bit was cleared, or set
 clear_cases : (f y : Bool) → (f && not y) ≡ (if y then false else f)
-clear_cases true true = refl
-clear_cases true false = refl
-clear_cases false true = refl
-clear_cases false false = refl
+clear_cases f y = grind arith
 
 set_cases : (f y : Bool) → (f || y) ≡ (if y then true else f)
-set_cases true true = refl
-set_cases true false = refl
-set_cases false true = refl
-set_cases false false = refl
+set_cases f y = grind arith
 
 other_block : (q p : ℕ) → (q / 64 == p / 64) ≡ false → (q == p) ≡ false
 other_block q p h = ne_eqb q p (λ e. eqb-false (q / 64) (p / 64) h (ap (λ x. x / 64) e))

@@ -1,15 +1,15 @@
 -- The lowest bits of a mask, and the lowest places of a run of set bits.
-use Rattle.std.proofs.Common.{◌≡◌, ◌≢◌, ℕ, ◌+◌, ◌-◌, ◌*◌, ◌/◌, ◌%◌, ◌^◌, ◌<◌, ◌≤◌, not, min, Bool, true, false, refl, slice_index, Option, None, Some, MatchBool, MatchOption, inl, inr, ap, ◌∙◌, arith}
+use Rattle.std.proofs.Common.{◌≡◌, ◌≢◌, ℕ, ◌+◌, ◌-◌, ◌*◌, ◌/◌, ◌%◌, ◌^◌, ◌<◌, ◌≤◌, not, min, Bool, true, false, slice_index, Option, None, Some, MatchBool, MatchOption, inl, inr, ap, ◌∙◌, arith, sym}
 use Rattle.std.specs.Int.{w64, trailing_zeros}
 use Rattle.std.specs.Option.{is_some}
-use Rattle.std.proofs.lemmas.Bool.{cases_lt}
-use Rattle.std.proofs.lemmas.Nat.{div-add-mod', same_from_place, mod-mul-add}
+use Rattle.std.proofs.lemmas.Bool.{cases_lt, not-true, not-false}
+use Rattle.std.proofs.lemmas.Nat.{same_from_place, mod-mul-add}
 use Rattle.std.proofs.lemmas.Grind.{div_ceil_times}
 use Rattle.pas_bits.specs.declared.mask.Mask4.{Mask4}
 use Rattle.pas_bits.specs.Masks.{is_set, AllSetBelow, AreClear, IsLowestSet, IsLowestClear, IsEmpty, HasMember, IsRunEnd, IsPlace, HasNoPlace, IsLowestPlace}
 use Rattle.pas_bits.proofs.LowestBits.{none_from, lowest_from}
 use Rattle.pas_bits.proofs.Words.{by_word, at_word}
-use Rattle.pas_bits.proofs.Runs.{from_not}
+use Rattle.pas_profile.proofs.ClassFacts.{multiple}
 
 -- ---- the lowest set bit
 -- a word that is left as 0 has no set bit from there on
@@ -48,14 +48,10 @@ abbrev pub AreOthers : Mask4 → Mask4 → Type 0
 AreOthers mask others = (g : ℕ) → g < 256 → is_set others g ≡ not (is_set mask g)
 
 set_where : (mask others : Mask4) (x : ℕ) → AreOthers mask others → x < 256 → is_set others x ≡ false → is_set mask x ≡ true
-set_where mask others x other h none = from_not (is_set others x) (is_set mask x) (other x h) none
-
-when_set : (s t : Bool) → s ≡ not t → s ≡ true → t ≡ false
-when_set s false h e = refl
-when_set s true h e = cc
+set_where mask others x other h none = not-false (is_set mask x) (sym (other x h) ∙ none)
 
 clear_where : (mask others : Mask4) (x : ℕ) → AreOthers mask others → x < 256 → is_set others x ≡ true → is_set mask x ≡ false
-clear_where mask others x other h one = when_set (is_set others x) (is_set mask x) (other x h) one
+clear_where mask others x other h one = not-true (is_set mask x) (sym (other x h) ∙ one)
 
 pub lowest_clear : (mask others : Mask4) → AreOthers mask others → (r : Option ℕ) → MatchOption r (AreClear others 0 256) (λ g. IsLowestSet others 0 g) → MatchOption r (AllSetBelow mask 256) (λ g. IsLowestClear mask g)
 lowest_clear mask others other None bare = λ x h. set_where mask others x other h (bare x (omega arith) h)
@@ -66,11 +62,8 @@ lowest_clear mask others other (Some g) low = record {
 }
 
 -- ---- places
-multiple : (k g : ℕ) → g % k ≡ 0 → g ≡ g / k * k + 0
-multiple k g e = omega (arith, e, div-add-mod' g k)
-
 -- the next multiple is k away
-pub next_multiple : (k a b : ℕ) → a % k ≡ 0 → b % k ≡ 0 → a < b → a + k ≤ b
+next_multiple : (k a b : ℕ) → a % k ≡ 0 → b % k ≡ 0 → a < b → a + k ≤ b
 next_multiple k a b ea eb lt = elim (cases_lt b (a + k)) [
   | inl near ↦
       let s = same_from_place (b / k) 0 (a / k) (b - a) k (omega (arith, lt, near)) (omega (arith, lt, near)) (omega (arith, multiple k a ea, multiple k b eb, lt)) in
@@ -95,7 +88,7 @@ own : (mask : Mask4) (n align end h : ℕ) → 1 ≤ n → IsPlace mask n align 
 own mask n align end h some place = place.set h (omega arith) (omega (arith, some))
 
 -- none where no bit is set from `start` on
-pub none_to : (mask : Mask4) (n align end start stop : ℕ) → 1 ≤ n → NoPlaceBelow mask n align end start → AreClear mask start stop → NoPlaceBelow mask n align end stop
+none_to : (mask : Mask4) (n align end start stop : ℕ) → 1 ≤ n → NoPlaceBelow mask n align end start → AreClear mask start stop → NoPlaceBelow mask n align end stop
 none_to mask n align end start stop some before bare h lt place = elim (cases_lt h start) [
   | inl below ↦ before h below place
   | inr ge ↦ let one = own mask n align end h some place in let none = bare h ge lt in absurd (cc)

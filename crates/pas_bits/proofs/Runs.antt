@@ -1,8 +1,8 @@
 -- Runs as bits of words, and masks that share no bit.
-use Rattle.std.proofs.Common.{◌≡◌, ◌≢◌, ℕ, ◌+◌, ◌-◌, ◌*◌, ◌/◌, ◌%◌, ◌^◌, ◌<◌, ◌≤◌, ◌==◌, ◌⊎◌, ◌&&◌, ◌↔◌, IsTrue, not, min, Bool, true, false, length, slice_index, inl, inr, refl, ap, sym, ◌∙◌, arith, lit<, bit_and}
+use Rattle.std.proofs.Common.{◌≡◌, ◌≢◌, ℕ, ◌+◌, ◌-◌, ◌*◌, ◌/◌, ◌%◌, ◌^◌, ◌<◌, ◌≤◌, ◌==◌, ◌⊎◌, ◌&&◌, ◌↔◌, IsTrue, not, min, Bool, true, false, length, slice_index, inl, inr, ap, sym, ◌∙◌, arith, lit<, bit_and}
 use Rattle.std.specs.Int.{w64, trailing_zeros}
 use Rattle.std.proofs.Math.Nat.{pow-le-pow_right}
-use Rattle.std.proofs.lemmas.Bool.{cases_lt, and_parts}
+use Rattle.std.proofs.lemmas.Bool.{cases_lt, and_parts, not-false}
 use Rattle.std.proofs.lemmas.Bool.Decides.{nat_tests}
 use Rattle.std.proofs.lemmas.Nat.{pow_pos, and_le_l}
 use Rattle.std.proofs.lemmas.Nat.Bits.{bit_at-trailing_zeros, bit_at_mask_inside, bit_at_mask_below, bit_at_mask_above, ones_shr}
@@ -12,6 +12,7 @@ use Rattle.pas_profile.proofs.Runs.{run_of, to_run, run_below, run_above}
 use Rattle.pas_bits.specs.declared.mask.Mask4.{Mask4}
 use Rattle.pas_bits.specs.Masks.{is_set, AreSet, AreApart}
 use Rattle.pas_bits.proofs.Words.{is_one, none_of_zero, bit_of_and, by_word, at_word, set_within}
+use Rattle.std.proofs.Math.Bool.{and-true}
 
 -- ---- a run's bits in one word
 pub ones_are : (bits : ℕ) → bits ≤ 64 → 18446744073709551615 / 2 ^ (64 - bits) ≡ 2 ^ bits - 1
@@ -61,10 +62,6 @@ mask_is first grains base low high b m is is_high is_low h = ap (λ n. has_bit n
 abbrev pub ApartBelow : Mask4 → Mask4 → ℕ → Type 0
 ApartBelow a b end = (x : ℕ) → x < end → is_set b x ≡ true → is_set a x ≡ false
 
-not_both : (s t : Bool) → (s && t) ≡ false → t ≡ true → s ≡ false
-not_both true t h e = cc
-not_both false t h e = refl
-
 pub apart_more : (a b : Mask4) (word : ℕ) → bit_and (slice_index a.0 word) (slice_index b.0 word) ≡ 0 → ApartBelow a b (64 * word) → ApartBelow a b (64 * (word + 1))
 apart_more a b word shares before x lt set = elim (cases_lt x (64 * word)) [
   | inl below ↦ before x below set
@@ -72,7 +69,7 @@ apart_more a b word shares before x lt set = elim (cases_lt x (64 * word)) [
       let at : x / 64 ≡ word = omega (arith, ge, lt) in
       let none : (has_bit (slice_index a.0 word) (x % 64) && has_bit (slice_index b.0 word) (x % 64)) ≡ false
       = sym (bit_of_and (slice_index a.0 word) (slice_index b.0 word) (x % 64)) ∙ ap (λ n. has_bit n (x % 64)) shares ∙ none_of_zero (x % 64) in
-      by_word a word x at ∙ not_both (has_bit (slice_index a.0 word) (x % 64)) (has_bit (slice_index b.0 word) (x % 64)) none (sym (by_word b word x at) ∙ set)
+      by_word a word x at ∙ sym (and-true (has_bit (slice_index a.0 word) (x % 64))) ∙ ap (λ t. has_bit (slice_index a.0 word) (x % 64) && t) (sym (sym (by_word b word x at) ∙ set)) ∙ none
 ]
 
 pub not_apart : (a b : Mask4) (word : ℕ) → slice_index a.0 word < 2 ^ 64 → bit_and (slice_index a.0 word) (slice_index b.0 word) ≢ 0 → AreApart a b → ⊥
@@ -89,13 +86,9 @@ pub apart_whole : (a b : Mask4) → length b.0 ≡ 4 → ApartBelow a b 256 → 
 apart_whole a b long h x set = h x (set_within b x long set) set
 
 -- ---- a mask has a run where its other bits and the run share none
-pub from_not : (s t : Bool) → s ≡ not t → s ≡ false → t ≡ true
-from_not s true h e = refl
-from_not s false h e = cc
-
 pub has_run_where : (r : Bool) (mask others run : Mask4) (first grains : ℕ) → first + grains ≤ 256 → ((g : ℕ) → g < 256 → is_set others g ≡ not (is_set mask g)) → ((g : ℕ) → is_set run g ≡ in_run first grains g)
     → (IsTrue r ↔ AreApart others run) → IsTrue r ↔ AreSet mask first grains
 has_run_where r mask others run first grains within other is answer = (
-  λ holds x a b. from_not (is_set others x) (is_set mask x) (other x (omega (arith, b, within))) (answer.0 holds x (is x ∙ to_run first grains x a b)),
+  λ holds x a b. not-false (is_set mask x) (sym (other x (omega (arith, b, within))) ∙ answer.0 holds x (is x ∙ to_run first grains x a b)),
   λ set. answer.1 (λ x h. let at = run_of first grains x (sym (is x) ∙ h) in let lt = at.1 in other x (omega (arith, lt, within)) ∙ ap not (set x at.0 at.1)),
 )

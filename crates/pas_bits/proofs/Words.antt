@@ -1,10 +1,10 @@
 -- Bits of words, and the words of a mask.
-use Rattle.std.proofs.Common.{◌≡◌, ◌≢◌, ℕ, ◌+◌, ◌-◌, ◌*◌, ◌/◌, ◌%◌, ◌^◌, ◌<◌, ◌≤◌, ◌==◌, ◌&&◌, ◌||◌, not, min, max, Bool, true, false, List, [], ◌∷◌, length, slice_index, slice_set, inl, inr, refl, ap, sym, ◌∙◌, arith, bit_and, bit_or, get_or-set_same, get_or-set_other}
+use Rattle.std.proofs.Common.{◌≡◌, ◌≢◌, ℕ, ◌+◌, ◌-◌, ◌*◌, ◌/◌, ◌%◌, ◌^◌, ◌<◌, ◌≤◌, ◌==◌, ◌&&◌, ◌||◌, not, min, max, Bool, true, false, List, [], ◌∷◌, length, slice_index, slice_set, inl, inr, ap, sym, ◌∙◌, arith, bit_and, bit_or, get_or-set_same, get_or-set_other}
 use Rattle.std.specs.Int.{bit_at, bit_not, w64}
 use Rattle.std.proofs.lemmas.Bool.{eq-eqb, ne_eqb, cases_lt, cases_eq}
 use Rattle.std.proofs.lemmas.Bool.Decides.{nat_tests}
 use Rattle.std.proofs.lemmas.List.{get_or_past}
-use Rattle.std.proofs.lemmas.Nat.Bits.{bit_at-lt, bit_at-zero, bit_at_and, bit_at_or, bit_at_not, bit_at_ones, shr_and_one, bit_at_set_same, bit_at_set_other, bit_at_clear_same, bit_at_clear_other}
+use Rattle.std.proofs.lemmas.Nat.Bits.{bit_at-lt, bit_at-zero, bit_at_and, bit_at_or, bit_at_not, bit_at_ones, bit_at_set_same, bit_at_set_other, bit_at_clear_same, bit_at_clear_other}
 use Rattle.pas_profile.specs.Classes.{has_bit}
 use Rattle.pas_bits.specs.declared.mask.Mask4.{Mask4}
 use Rattle.pas_bits.specs.Masks.{is_set}
@@ -45,13 +45,6 @@ bit_of_or m n b = ap (λ x. x == 1) (bit_at_or m n b) ∙ max_test (bit_at m b) 
 pub bit_cleared : (n m b : ℕ) → m < 2 ^ 64 → b < 64 → has_bit (bit_and n (bit_not w64 m)) b ≡ (has_bit n b && not (has_bit m b))
 bit_cleared n m b fits h = bit_of_and n (bit_not w64 m) b ∙ ap (λ t. has_bit n b && t) (bit_of_not m b fits h)
 
--- a bit by the program's test
-pub bit_true : (n i : ℕ) → bit_and (n / 2 ^ i) 1 ≡ 1 → has_bit n i ≡ true
-bit_true n i h = eq-eqb (bit_at n i) 1 (sym (shr_and_one n i) ∙ h)
-
-pub bit_false : (n i : ℕ) → bit_and (n / 2 ^ i) 1 ≢ 1 → has_bit n i ≡ false
-bit_false n i h = ne_eqb (bit_at n i) 1 (λ e. h (shr_and_one n i ∙ e))
-
 -- every bit of the greatest word is set
 pub full_bit : (b : ℕ) → b < 64 → has_bit (2 ^ 64 - 1) b ≡ true
 full_bit b h = eq-eqb (bit_at (2 ^ 64 - 1) b) 1 (bit_at_ones 64 b h)
@@ -73,42 +66,20 @@ pub set_within : (mask : Mask4) (x : ℕ) → length mask.0 ≡ 4 → is_set mas
 set_within mask x long h = elim (cases_lt x 256) [ inl lt ↦ lt | inr ge ↦ let no_bit = none_past mask x long ge in absurd (cc) ]
 
 -- ---- the numbers of four words that are written out, word by word
+in_word : (words : List ℕ) (P : ℕ → Bool) (k g : ℕ) → ((x : ℕ) → x < 64 → has_bit (slice_index words k) x ≡ P (64 * k + x)) → g / 64 ≡ k → has_bit (slice_index words (g / 64)) (g % 64) ≡ P g
+in_word words P k g bits at = ap (λ w. has_bit (slice_index words w) (g % 64)) at ∙ bits (g % 64) (omega arith) ∙ ap P (omega (arith, at))
+
 pub four_words : (a b c d : ℕ) (P : ℕ → Bool) → ((x : ℕ) → x < 64 → has_bit a x ≡ P (0 + x)) → ((x : ℕ) → x < 64 → has_bit b x ≡ P (64 + x)) → ((x : ℕ) → x < 64 → has_bit c x ≡ P (128 + x))
     → ((x : ℕ) → x < 64 → has_bit d x ≡ P (192 + x)) → (g : ℕ) → g < 256 → has_bit (slice_index (a ∷ b ∷ c ∷ d ∷ []) (g / 64)) (g % 64) ≡ P g
-four_words a b c d P ha hb hc hd g h =
-    let bit : g % 64 < 64 = omega arith in
-    elim (cases_lt g 64) [
-      | inl lt ↦ let word : g / 64 ≡ 0 = omega (arith, lt) in let whole : 0 + g % 64 ≡ g = omega (arith, lt) in
-          ap (λ w. has_bit (slice_index (a ∷ b ∷ c ∷ d ∷ []) w) (g % 64)) word ∙ ha (g % 64) bit ∙ ap P whole
-      | inr ge ↦ elim (cases_lt g 128) [
-        | inl lt ↦ let word : g / 64 ≡ 1 = omega (arith, lt, ge) in let whole : 64 + g % 64 ≡ g = omega (arith, lt, ge) in
-            ap (λ w. has_bit (slice_index (a ∷ b ∷ c ∷ d ∷ []) w) (g % 64)) word ∙ hb (g % 64) bit ∙ ap P whole
-        | inr past ↦ elim (cases_lt g 192) [
-          | inl lt ↦ let word : g / 64 ≡ 2 = omega (arith, lt, past) in let whole : 128 + g % 64 ≡ g = omega (arith, lt, past) in
-              ap (λ w. has_bit (slice_index (a ∷ b ∷ c ∷ d ∷ []) w) (g % 64)) word ∙ hc (g % 64) bit ∙ ap P whole
-          | inr last ↦ let word : g / 64 ≡ 3 = omega (arith, h, last) in let whole : 192 + g % 64 ≡ g = omega (arith, h, last) in
-              ap (λ w. has_bit (slice_index (a ∷ b ∷ c ∷ d ∷ []) w) (g % 64)) word ∙ hd (g % 64) bit ∙ ap P whole
-        ]
-      ]
-    ]
+four_words a b c d P ha hb hc hd g h = let here = in_word (a ∷ b ∷ c ∷ d ∷ []) P in elim (cases_lt g 64) [
+  | inl lt ↦ here 0 g ha (omega (arith, lt))
+  | inr ge ↦ elim (cases_lt g 128) [
+    | inl lt ↦ here 1 g hb (omega (arith, lt, ge))
+    | inr past ↦ elim (cases_lt g 192) [ inl lt ↦ here 2 g hc (omega (arith, lt, past)) | inr last ↦ here 3 g hd (omega (arith, h, last)) ]
+  ]
+]
 
 -- ---- one bit set or cleared
-true_or : (s t : Bool) → s ≡ true → true ≡ (s || t)
-true_or true t h = refl
-true_or false t h = cc
-
-false_or : (s t : Bool) → s ≡ false → t ≡ (s || t)
-false_or false t h = refl
-false_or true t h = cc
-
-not_true_and : (s t : Bool) → s ≡ true → false ≡ (not s && t)
-not_true_and true t h = refl
-not_true_and false t h = cc
-
-not_false_and : (s t : Bool) → s ≡ false → t ≡ (not s && t)
-not_false_and false t h = refl
-not_false_and true t h = cc
-
 -- another number has another word or another place in its word
 other_place : (g h : ℕ) → g / 64 ≡ h / 64 → g % 64 ≢ h % 64 → (g == h) ≡ false
 other_place g h word place = ne_eqb g h (λ e. place (ap (λ n. n % 64) e))
@@ -138,11 +109,11 @@ after_set words grain long h g = elim (cases_eq (g / 64) (grain / 64)) [
   | inl word ↦ replaced_same words (grain / 64) (one_set (slice_index words (grain / 64)) (grain % 64)) (g / 64) (g % 64) (omega (arith, long, h)) word
       ∙ elim (cases_eq (g % 64) (grain % 64)) [
         | inl place ↦ ap (has_bit (one_set (slice_index words (grain / 64)) (grain % 64))) place ∙ is_one (one_set (slice_index words (grain / 64)) (grain % 64)) (grain % 64) (bit_at_set_same w64 (slice_index words (grain / 64)) (grain % 64) (omega arith))
-            ∙ true_or (g == grain) (has_bit (slice_index words (g / 64)) (g % 64)) (same_place g grain word place)
+            ∙ ap (λ t. t || has_bit (slice_index words (g / 64)) (g % 64)) (sym (same_place g grain word place))
         | inr place ↦ ap (λ x. x == 1) (bit_at_set_other w64 (slice_index words (grain / 64)) (grain % 64) (omega arith) (g % 64) place)
-            ∙ ap (λ w. has_bit (slice_index words w) (g % 64)) (sym word) ∙ false_or (g == grain) (has_bit (slice_index words (g / 64)) (g % 64)) (other_place g grain word place)
+            ∙ ap (λ w. has_bit (slice_index words w) (g % 64)) (sym word) ∙ ap (λ t. t || has_bit (slice_index words (g / 64)) (g % 64)) (sym (other_place g grain word place))
       ]
-  | inr word ↦ replaced_other words (grain / 64) (one_set (slice_index words (grain / 64)) (grain % 64)) (g / 64) (g % 64) word ∙ false_or (g == grain) (has_bit (slice_index words (g / 64)) (g % 64)) (other_word g grain word)
+  | inr word ↦ replaced_other words (grain / 64) (one_set (slice_index words (grain / 64)) (grain % 64)) (g / 64) (g % 64) word ∙ ap (λ t. t || has_bit (slice_index words (g / 64)) (g % 64)) (sym (other_word g grain word))
 ]
 
 pub after_clear : (words : List ℕ) (grain : ℕ) → length words ≡ 4 → grain < 256 → (g : ℕ)
@@ -151,11 +122,11 @@ after_clear words grain long h g = elim (cases_eq (g / 64) (grain / 64)) [
   | inl word ↦ replaced_same words (grain / 64) (one_cleared (slice_index words (grain / 64)) (grain % 64)) (g / 64) (g % 64) (omega (arith, long, h)) word
       ∙ elim (cases_eq (g % 64) (grain % 64)) [
         | inl place ↦ ap (has_bit (one_cleared (slice_index words (grain / 64)) (grain % 64))) place ∙ is_zero (one_cleared (slice_index words (grain / 64)) (grain % 64)) (grain % 64) (bit_at_clear_same w64 (slice_index words (grain / 64)) (grain % 64) (omega arith))
-            ∙ not_true_and (g == grain) (has_bit (slice_index words (g / 64)) (g % 64)) (same_place g grain word place)
+            ∙ ap (λ t. not t && has_bit (slice_index words (g / 64)) (g % 64)) (sym (same_place g grain word place))
         | inr place ↦ ap (λ x. x == 1) (bit_at_clear_other w64 (slice_index words (grain / 64)) (grain % 64) (omega arith) (g % 64) (omega arith) place)
-            ∙ ap (λ w. has_bit (slice_index words w) (g % 64)) (sym word) ∙ not_false_and (g == grain) (has_bit (slice_index words (g / 64)) (g % 64)) (other_place g grain word place)
+            ∙ ap (λ w. has_bit (slice_index words w) (g % 64)) (sym word) ∙ ap (λ t. not t && has_bit (slice_index words (g / 64)) (g % 64)) (sym (other_place g grain word place))
       ]
-  | inr word ↦ replaced_other words (grain / 64) (one_cleared (slice_index words (grain / 64)) (grain % 64)) (g / 64) (g % 64) word ∙ not_false_and (g == grain) (has_bit (slice_index words (g / 64)) (g % 64)) (other_word g grain word)
+  | inr word ↦ replaced_other words (grain / 64) (one_cleared (slice_index words (grain / 64)) (grain % 64)) (g / 64) (g % 64) word ∙ ap (λ t. not t && has_bit (slice_index words (g / 64)) (g % 64)) (sym (other_word g grain word))
 ]
 
 -- ---- all other bits

@@ -5,12 +5,13 @@ ghost use Rattle.pas_bits.specs.Masks.{is_set, AreSet, IsNear, bit_of_two};
 
 use crate::mask::Mask4;
 
-/// The 64 bits from bit `from` on, 1 to 63, of the 128 bits of two words.
+/// The 64 bits from bit `from` on, 0 to 63, of the 128 bits of two words.
 fn window(low: u64, high: u64, from: u8) -> u64
-    requires from { (1 ≤ from) × (from < 64) }
+    requires from { from < 64 }
     ensures { (b : ℕ) → b < 64 → has_bit result b ≡ bit_of_two low high (b + from) }
 {
-    low >> from | high << (64 - from)
+    // From bit 0 on, no bit of the higher word is left. A shift by 64 at once isn't allowed.
+    low >> from | high << 1 << (63 - from)
 }
 
 impl Mask4 {
@@ -28,9 +29,9 @@ impl Mask4 {
         ])
     }
 
-    /// The mask moved up by so many places, 1 to 63: bit g is what bit `g - by` was, and the lowest ones are clear.
+    /// The mask moved up by so many places, 1 to 64: bit g is what bit `g - by` was, and the lowest ones are clear.
     pub fn moved_up(&self, by: u8) -> Mask4
-        requires by { (1 ≤ by) × (by < 64) }
+        requires by { (1 ≤ by) × (by ≤ 64) }
         ensures { (g : ℕ) → g < 256 → is_set result g ≡ (nat_le by g && is_set self.now (g - by)) }
     {
         let [first, second, third, last] = self.0;

@@ -45,10 +45,10 @@ impl Mask4 {
     }
 
     /// The lowest slot of so many grains that ends within the usable grains and whose bits are all set, by its first grain: slots begin
-    /// at the multiples of `grains`. None exactly where there is none. `grains` is 1 to 32, `usable` at most 256. Looks at most
+    /// at the multiples of `grains`. None exactly where there is none. `grains` is 1 to 64, `usable` at most 256. Looks at most
     /// twice at the four words for each run of set bits.
     pub fn first_slot(&self, grains: u16, usable: u16) -> Option<u8>
-        requires grains { (1 ≤ grains) × (grains ≤ 32) }
+        requires grains { (1 ≤ grains) × (grains ≤ 64) }
         requires usable { usable ≤ 256 }
         ensures { MatchOption result (HasNoPlace self.now grains grains usable) (λ grain. IsLowestPlace self.now grains grains usable grain) }
     {

@@ -1,7 +1,14 @@
 -- For callers: the room of one request after another.
 use Rattle.std.proofs.Common.{◌≡◌, ℕ, ◌+◌, ◌≤◌, ◌++◌, length, ap, sym, ◌∙◌, subst, arith, length-append, Option, Result, Bool, List}
+use Rattle.std.specs.Prelude.{map}
+use Rattle.std.proofs.lemmas.List.{length-map, length-reverse}
 use Rattle.pas_profile.specs.declared.profile.Profile.{Profile}
 use Rattle.pas_cache.specs.Serves.{Wanted, ServesBy}
+use Rattle.pas_cache.specs.Changes.{EmptiesLog}
+use Rattle.pas_free_log.specs.Flushes.{shown_for}
+use Rattle.pas_free_log.specs.declared.log.Entry.{Entry}
+use Rattle.pas_free_log.specs.declared.noting.EndedRun.{EndedRun}
+use Rattle.pas_profile.specs.declared.event.Event.{Event}
 use Rattle.pas_profile.specs.declared.directory.Route.{Route}
 use Rattle.pas_profile.specs.declared.event.NoRoom.{NoRoom}
 use Rattle.pas_profile.specs.declared.name.Block.{Block}
@@ -22,7 +29,7 @@ pub record HasBudget (f : Profile) (c : Cached) (n spare : ℕ) (v : View) : Typ
   pub room : n + unknown_pages f v ≤ spare
 
 -- two of the n are enough for a request
-pub may_allocate : {σ : Standing} {c : Cached} {spare : ℕ} (n : ℕ) → 2 ≤ n → CanCall σ (λ v l. HasBudget σ.seat.profile c n spare v) → CanCall σ (λ v l. MayAllocate σ.seat.profile c spare v)
+pub may_allocate : {σ : Standing} {c : Cached} {spare : ℕ} (n : ℕ) → 2 ≤ n → CanCall σ (HasBudget σ.seat.profile c n spare) → CanCall σ (MayAllocate σ.seat.profile c spare)
 may_allocate {σ} {c} {spare} n two can = record {
   view = can.view;
   whole = can.whole;
@@ -31,9 +38,9 @@ may_allocate {σ} {c} {spare} n two can = record {
 }
 
 -- and the others are left after it
-pub budget_left : {σ σ' : Standing} {c c' : Cached} {answer : Result Block NoRoom} {wanted : Wanted} {spare spare' : ℕ} {tells : Bool} (n : ℕ) → (h : Allocates wanted tells c c' σ σ' answer) → CanCall σ (λ v l. HasBudget σ.seat.profile c (n + 2) spare v)
+pub budget_left : {σ σ' : Standing} {c c' : Cached} {answer : Result Block NoRoom} {wanted : Wanted} {spare spare' : ℕ} {tells : Bool} (n : ℕ) → (h : Allocates wanted tells c c' σ σ' answer) → CanCall σ (HasBudget σ.seat.profile c (n + 2) spare)
     → ((v : View) (l : Whole) → σ.stands v l → spare + length (events_of σ.seat.actor v) ≡ σ.seat.room) → ((v : View) (l : Whole) → σ'.stands v l → spare' + length (events_of σ'.seat.actor v) ≡ σ'.seat.room)
-    → CanCall σ' (λ v l. HasBudget σ'.seat.profile c' n spare' v)
+    → CanCall σ' (HasBudget σ'.seat.profile c' n spare')
 budget_left {σ} {σ'} {c} {c'} {spare = spare} {spare' = spare'} n h can law law' =
     let f : Profile = σ.seat.profile in
     let k : ℕ = σ.seat.actor in
@@ -55,5 +62,12 @@ budget_left {σ} {σ'} {c} {c'} {spare = spare} {spare' = spare'} n h can law la
 -- no request changes the log
 pub log_kept : (f : Profile) (wanted : Wanted) (found : Option ℕ) (c c' : Cached) (steps : List Made) (answer : Result Block NoRoom) (route : Route) → ServesBy route f wanted found c c' steps answer → c'.log ≡ c.log
 log_kept f wanted found c c' steps answer (Route.Class class) h = ap (λ x. x.log) h.cache
-log_kept f wanted found c c' steps answer Route.Bitfit h = ap (λ x. x.log) h.cache
-log_kept f wanted found c c' steps answer Route.Large h = ap (λ x. x.log) h.cache
+log_kept f wanted found c c' steps answer route h = ap (λ x. x.log) h.cache
+
+-- ---- a log is emptied
+-- each entry makes one event
+pub emptied_events : (k : ℕ) (logged : List Entry) (noted noted' : List EndedRun) (steps : List Made) (v : View) → EmptiesLog k logged noted noted' steps → length (events_by k v steps) ≡ length logged
+emptied_events k logged noted noted' steps v empties =
+    ap (λ (es : List Event). length es) (empties.events v) ∙ length-map empties.settled (shown_for k empties.epoch)
+    ∙ sym (length-map empties.settled (λ s. s.entry)) ∙ sym (length-reverse (map (λ s. s.entry) empties.settled))
+    ∙ ap (λ (es : List Entry). length es) empties.entries_are

@@ -1,7 +1,7 @@
 -- An epoch is read, a log is flushed, names are logged, and a cache is stopped.
 use Rattle.std.proofs.Common.{◌≡◌, ℕ, ◌+◌, ◌-◌, ◌*◌, ◌%◌, ◌^◌, ◌<◌, ◌≤◌, nat_le, Bool, true, false, List, [], ◌∷◌, ◌++◌, length, inl, inr, true≢false, refl, ap, sym, ◌∙◌, subst, arith, length-append}
 use Rattle.std.specs.Prelude.{All, Ok, Err}
-use Rattle.std.proofs.lemmas.Bool.{le-leb, lt-leb, cases_lt}
+use Rattle.std.proofs.lemmas.Bool.{le-leb, lt-leb, cases_lt, leb-false}
 use Rattle.std.proofs.lemmas.List.Elements.{All-nil, All-push, All-same}
 use Rattle.pas_profile.specs.declared.profile.Profile.{Profile}
 use Rattle.pas_profile.specs.declared.word.Word.TheVariants as Word
@@ -91,10 +91,10 @@ flushes_log {σ} {σ'} c c' noted is flush =
 
 -- ---- stop
 -- the conditions of the parts
-pub clear_call : {σ : Standing} {c : Cached} → CanCall σ (λ v l. AtRest σ.seat.profile c v) → CanCall σ (λ v l. IsClear v)
+pub clear_call : {σ : Standing} {c : Cached} → CanCall σ (AtRest σ.seat.profile c) → CanCall σ IsClear
 clear_call can = record { view = can.view; whole = can.whole; stood = can.stood; met = can.met.locals.clear }
 
-pub flushed_call : {σ σ1 : Standing} (c c' : Cached) → FlushesLog c c' σ σ1 → CanCall σ (λ v l. AtRest σ.seat.profile c v) → CanCall σ1 (λ v l. RestsWith σ1.seat.profile c'.locals v)
+pub flushed_call : {σ σ1 : Standing} (c c' : Cached) → FlushesLog c c' σ σ1 → CanCall σ (AtRest σ.seat.profile c) → CanCall σ1 (RestsWith σ1.seat.profile c'.locals)
 flushed_call {σ} {σ1} c c' flush can = next_call flush.calls can (λ v h here. subst (λ (s : Seat). RestsWith s.profile c'.locals (flush.steps ++ v)) (sym flush.calls.adds.seat_is) here.locals)
 
 pub stops_cache : {σ σ1 σ2 : Standing} (c c1 c' : Cached) → (flush : FlushesLog c c1 σ σ1) → (stops : Releases (StopsEach c1.locals) c1.locals [] σ1 σ2) → c1 ≡ record c { log = []; noted = c1.noted } → c' ≡ record c { locals = []; log = []; noted = c1.noted } → StopsCache c c' σ σ2
@@ -131,15 +131,9 @@ pub logs_into : {σ σ' : Standing} (log kept log' : List Entry) (noted noted' :
 logs_into log kept log' noted noted' entry emptied is = record { steps = emptied.steps; calls = emptied.calls; logs = record { kept = kept; emptied = emptied.empties; log_is = is }; ranges = emptied.ranges }
 
 -- the names of a log after one more
-not_full : (n : ℕ) → false ≡ nat_le 64 n → n < 64
-not_full n h = elim (cases_lt n 64) [
-  | inl lt ↦ lt
-  | inr ge ↦ absurd (true≢false (sym (le-leb 64 n ge) ∙ sym h))
-]
-
 kept_names : (f : Profile) (full : Bool) (k : ℕ) (log kept : List Entry) (noted noted' : List EndedRun) (steps : List Made) → full ≡ nat_le 64 (length log) → EmptiesFull full k log kept noted noted' steps → All (IsEntryOf f) log → All (IsEntryOf f) kept × (length kept < 64)
 kept_names f true k log kept noted noted' steps full h names = (All-same (IsEntryOf f) kept [] h.1 (All-nil (IsEntryOf f)), subst (λ xs. length xs < 64) (sym h.1) (omega arith))
-kept_names f false k log kept noted noted' steps full h names = (All-same (IsEntryOf f) kept log h.1 names, subst (λ xs. length xs < 64) (sym h.1) (not_full (length log) full))
+kept_names f false k log kept noted noted' steps full h names = (All-same (IsEntryOf f) kept log h.1 names, subst (λ xs. length xs < 64) (sym h.1) (leb-false 64 (length log) (sym full)))
 
 logged_names : (f : Profile) (k : ℕ) (log log' : List Entry) (noted noted' : List EndedRun) (entry : Entry) (steps : List Made) → LogsEntry k log log' noted noted' entry steps → IsEntryOf f entry → All (IsEntryOf f) log → All (IsEntryOf f) log' × (length log' ≤ 64)
 logged_names f k log log' noted noted' entry steps logs is names =
@@ -173,5 +167,5 @@ full_room n spare most room full =
     let some : 64 ≤ spare = room n64 in
     omega (arith, n64, some)
 
-pub flush_call : {σ : Standing} {c : Cached} → CanCall σ (λ v l. AtRest σ.seat.profile c v) → CanCall σ (λ v l. MayFlush σ.seat.profile c.log v)
+pub flush_call : {σ : Standing} {c : Cached} → CanCall σ (AtRest σ.seat.profile c) → CanCall σ (MayFlush σ.seat.profile c.log)
 flush_call can = record { view = can.view; whole = can.whole; stood = can.stood; met = record { clear = can.met.locals.clear; each = can.met.entries } }

@@ -27,16 +27,14 @@ use Rattle.pas_cache.specs.Changes.{GivesSlot}
 use Rattle.pas_cache.specs.Locals.{covers, keeps_right, any_covers, any_keeps, is_for, IsLocal, AreApart, RestsWith}
 use Rattle.pas_cache.proofs.Locals.{no_other, one_more}
 use Rattle.pas_cache.proofs.Lowest.{first_grain, grain_is, InSlot, in_slot, slot_covers}
-use Rattle.pas_cache.proofs.Resting.{here, local_after, no_other_grain, no_other_right, others_after, fewer_apart, rests_by}
+use Rattle.pas_cache.proofs.Resting.{here, local_after, no_other_grain, no_other_right, others_after, fewer_apart, rests_by, unless_covered}
+use Rattle.pas_steps.proofs.Sets.{given_fate}
+use Rattle.std.proofs.Math.Bool.{and-false}
 
 -- ---- what the two steps do
 -- the block's grains are held no longer
 abbrev given : Block → Effect
 given block = record { grains = λ g. if in_run (grain_of block.name) (length_of block) g then Lost else Kept; rights = λ page. Kept; clears = λ page. Kept }
-
-given_fate : (t : Bool) (g : ℕ) → later Kept (grain_fate (if t then Gives g else Stays)) ≡ (if t then Lost else Kept)
-given_fate true g = refl
-given_fate false g = refl
 
 give_does : (f : Profile) (slots rest : Slots) (block : Block) (steps : List Made) → GivesSlot slots rest block steps → (v : View) → Agreed f v steps → Does (given block) v (steps ++ v)
 give_does f slots rest block steps gives v agreed =
@@ -45,22 +43,11 @@ give_does f slots rest block steps gives v agreed =
     (does_as (given block) (does_then (does_step f (Look (Word.Life slots.page gives.start)) gives.word v refl ok.1.0) (does_step f (Give block) gives.answer (made (Look (Word.Life slots.page gives.start)) gives.word ∷ v) refl ok.0))
     (λ g. inl (given_fate (in_run (grain_of block.name) (length_of block) g) (grain_of block.name))) (λ page. refl) (λ page h. h))
 
-and_no : (a : Bool) → (a && false) ≡ false
-and_no true = refl
-and_no false = refl
-
 unless_start : (page at set : Bool) → (page ≡ true → at ≡ true → ⊥) → (page && (not at && set)) ≡ (page && set)
-unless_start false at set no_start = refl
-unless_start true false set no_start = refl
-unless_start true true set no_start = absurd (no_start refl refl)
+unless_start page at set h = grind arith
 
 by_run : (inside had left rest : Bool) → (inside ≡ true → (left || rest) ≡ false) → (inside ≡ false → left ≡ had) → now (if inside then Lost else Kept) (had || rest) ≡ (left || rest)
-by_run true had left rest gone same = sym (gone refl)
-by_run false had left rest gone same = ap (λ t. t || rest) (sym (same refl))
-
-kept_unless : (t : Bool) → (t ≡ true → ⊥) → (if t then Lost else Kept) ≡ Kept
-kept_unless true isnt = absurd (isnt refl)
-kept_unless false isnt = refl
+by_run inside had left rest gone same = grind arith
 
 module _ (f : Profile) (locals : List Slots) (slots rest : Slots) (block : Block) (steps : List Made) (gives : GivesSlot slots rest block steps) (v : View) (h : RestsWith f (slots ∷ locals) v) where
   local : IsLocal f v slots
@@ -104,7 +91,7 @@ module _ (f : Profile) (locals : List Slots) (slots rest : Slots) (block : Block
   inside_gone g inside =
       let at : InSlot slots start g = in_slot slots start g local.class slot (sym (run_is g) ∙ inside) in
       let same : (start_here g == start) ≡ true = eq-eqb (start_here g) start (start_at slots.class start (g % 256) slot at.low at.high) in
-      let gone : covers rest g ≡ false = covers_rest g ∙ (ap (λ t. (slots.page == g / 256) && (not t && is_set slots.starts (start_here g))) same ∙ and_no (slots.page == g / 256)) in
+      let gone : covers rest g ≡ false = covers_rest g ∙ (ap (λ t. (slots.page == g / 256) && (not t && is_set slots.starts (start_here g))) same ∙ and-false (slots.page == g / 256)) in
       ap (λ t. t || any_covers locals g) gone ∙ no_other_grain f slots locals v h g (inside_covered g inside)
 
   outside_same : (g : ℕ) → in_run (grain_of block.name) (length_of block) g ≡ false → covers rest g ≡ covers slots g
@@ -117,10 +104,10 @@ module _ (f : Profile) (locals : List Slots) (slots rest : Slots) (block : Block
       true≢false (sym (to_run (first_grain slots start) (class_grains slots.class) g (omega (arith, low, p, s)) (omega (arith, high, p, s))) ∙ (sym (run_is g) ∙ outside)))
 
   uncovered_kept : (g : ℕ) → covers slots g ≡ false → (if in_run (grain_of block.name) (length_of block) g then Lost else Kept) ≡ Kept
-  uncovered_kept g outside = kept_unless (in_run (grain_of block.name) (length_of block) g) (λ inside. true≢false (sym (inside_covered g inside) ∙ outside))
+  uncovered_kept g outside = unless_covered (in_run (grain_of block.name) (length_of block) g) Lost (λ inside. true≢false (sym (inside_covered g inside) ∙ outside))
 
   rest_kept : (g : ℕ) → covers rest g ≡ true → (if in_run (grain_of block.name) (length_of block) g then Lost else Kept) ≡ Kept
-  rest_kept g of_rest = kept_unless (in_run (grain_of block.name) (length_of block) g) (λ inside. true≢false (sym (ap (λ t. t || any_covers locals g) of_rest) ∙ inside_gone g inside))
+  rest_kept g of_rest = unless_covered (in_run (grain_of block.name) (length_of block) g) Lost (λ inside. true≢false (sym (ap (λ t. t || any_covers locals g) of_rest) ∙ inside_gone g inside))
 
   same_home : home_of rest ≡ home_of slots
   same_home = ap (λ h. home_by h rest.class rest.right) gives.rest.heap ∙ (ap (λ c. home_by slots.heap c rest.right) gives.rest.class ∙ ap (home_by slots.heap slots.class) gives.rest.right)

@@ -1,15 +1,16 @@
-pub mod Lowest
-pub mod Locals
+mod Lowest
+mod Locals
+pub mod Routes
 pub mod Resting
 pub mod Stops
 pub mod FlushesAndFrees
-pub mod Refills
-pub mod RefillEvents
-pub mod FitsBefore
-pub mod Obtained
-pub mod GivingSlots
-pub mod Served
+mod Refills
+mod RefillEvents
+mod FitsBefore
+mod Obtained
+mod GivingSlots
+mod Served
 pub mod Budget
-pub mod BitfitRoute
-pub mod PagesRoute
-pub mod Settled
+mod BitfitRoute
+mod PagesRoute
+mod Settled

@@ -29,10 +29,10 @@ module _ {X : Type 0} (test : X → Bool) where
   pub counted : (x : X) (xs : List X) → count_by test (x ∷ xs) ≡ cond (test x) 1 0 + count_by test xs
   counted x xs = sum_by-cons (λ y. cond (test y) 1 0) x xs
 
-  pub counted_is : (x : X) (xs : List X) → test x ≡ true → count_by test (x ∷ xs) ≡ 1 + count_by test xs
+  counted_is : (x : X) (xs : List X) → test x ≡ true → count_by test (x ∷ xs) ≡ 1 + count_by test xs
   counted_is x xs is = counted x xs ∙ ap (λ t. cond t 1 0 + count_by test xs) is
 
-  pub counted_not : (x : X) (xs : List X) → test x ≡ false → count_by test (x ∷ xs) ≡ count_by test xs
+  counted_not : (x : X) (xs : List X) → test x ≡ false → count_by test (x ∷ xs) ≡ count_by test xs
   counted_not x xs isnt = let n = counted x xs in let none = ap one_if isnt in omega (arith, n, none)
 
   none_passes : (x : X) (xs : List X) → test x ≡ false → NonePasses xs → NonePasses (x ∷ xs)
@@ -87,7 +87,7 @@ module _ {X : Type 0} (test : X → Bool) where
   pub none_any : (xs : List X) → list_any test xs ≡ false → NonePasses xs
   none_any xs h = elim (passing xs) [ inl none ↦ none | inr some ↦ absurd (true≢false (sym some.1.any ∙ h)) ]
 
-  pub none_count : (xs : List X) → count_by test xs ≡ 0 → NonePasses xs
+  none_count : (xs : List X) → count_by test xs ≡ 0 → NonePasses xs
   none_count xs h = elim (passing xs) [ inl none ↦ none | inr some ↦ let n = some.1.count in absurd (omega (arith, n, h)) ]
 
   pub found_passes : (xs : List X) (x : X) → find test xs ≡ Some x → Passes xs x

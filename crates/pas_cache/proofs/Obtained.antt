@@ -5,6 +5,7 @@ use Rattle.std.specs.List.Sorted.{IsPermutation}
 use Rattle.std.specs.Result.{result_ok}
 use Rattle.std.proofs.lemmas.Bool.{and_parts, cases_Bool, eqb-true}
 use Rattle.std.proofs.lemmas.List.Sorted.{length_permutation}
+use Rattle.pas_profile.specs.Classes.{IsClass}
 use Rattle.pas_profile.specs.declared.event.NoRoom.{NoRoom}
 use Rattle.pas_profile.specs.declared.profile.Profile.{Profile}
 use Rattle.pas_bits.specs.Masks.{is_set, IsEmpty, HasMember}
@@ -19,7 +20,7 @@ use Rattle.pas_steps.proofs.Unknown.{room_after}
 use Rattle.pas_search.specs.Telling.{HasNoFit, IsTold}
 use Rattle.pas_segregated.specs.Masks.{start_of}
 use Rattle.pas_segregated.specs.Refills.{Filling, Refills}
-use Rattle.pas_segregated.specs.Returns.{BackSteps}
+use Rattle.pas_rights.specs.PutsBack.{BackSteps}
 use Rattle.pas_segregated.specs.Stops.{home_of, LeavesWhere, StopStepsAt}
 use Rattle.pas_segregated.specs.declared.slots.Slots.{Slots}
 use Rattle.pas_segregated.proofs.Starts.{start_below}
@@ -54,28 +55,28 @@ none_empty : (slots : Slots) → (HasMember slots.starts → ⊥) → IsEmpty sl
 none_empty slots none g lt = elim (cases_Bool (is_set slots.starts g)) [ inl set ↦ absurd (none (g, lt, set)) | inr clear ↦ clear ]
 
 -- ---- one without a slot is left
-no_set : (slots : Slots) (g : ℕ) → slots.class < 16 → IsEmpty slots.starts → g < 256 → is_set slots.starts (start_of slots.class g) ≡ true → ⊥
+no_set : (slots : Slots) (g : ℕ) → IsClass slots.class → IsEmpty slots.starts → g < 256 → is_set slots.starts (start_of slots.class g) ≡ true → ⊥
 no_set slots g is empty lt set =
     let below = (start_below slots.class g is).0 in
     true≢false (sym set ∙ empty (start_of slots.class g) (omega (arith, below, lt)))
 
-nothing_back : (slots : Slots) (steps : List Made) → slots.class < 16 → IsEmpty slots.starts → (h : StopStepsAt (home_of slots) slots steps) → BackSteps slots.page (home_of slots) h.mask h.back → h.back ≡ []
+nothing_back : (slots : Slots) (steps : List Made) → IsClass slots.class → IsEmpty slots.starts → (h : StopStepsAt (home_of slots) slots steps) → BackSteps slots.page (home_of slots) h.mask h.back → h.back ≡ []
 nothing_back slots steps is empty h (inl none) = none.1
 nothing_back slots steps is empty h (inr some) = absurd (no_set slots some.0.0 is empty some.0.1 (sym (h.grains some.0.0 some.0.1) ∙ some.0.2))
 
-spent_leaves : (slots : Slots) (steps : List Made) → slots.class < 16 → IsEmpty slots.starts → StopStepsAt (home_of slots) slots steps → LeavesWhere slots.right slots.page (home_of slots) steps
+spent_leaves : (slots : Slots) (steps : List Made) → IsClass slots.class → IsEmpty slots.starts → StopStepsAt (home_of slots) slots steps → LeavesWhere slots.right slots.page (home_of slots) steps
 spent_leaves slots steps is empty h =
     let none : h.back ≡ [] = nothing_back slots steps is empty h h.puts in
     let left : steps ≡ h.left = h.steps_are ∙ (ap (λ xs. h.left ++ xs) none ∙ append-nil h.left) in
     subst (LeavesWhere slots.right slots.page (home_of slots)) (sym left) h.leaves
 
-pub leaves_spent : {σ σ1 : Standing} (heap class : ℕ) {locals others : List Slots} {place : ℕ} → IsPlaceOf heap class locals place → HasNoneCached heap class locals → CanCall σ (λ v l. RestsWith σ.seat.profile locals v) → StopsPlace place locals others σ σ1
+pub leaves_spent : {σ σ1 : Standing} (heap class : ℕ) {locals others : List Slots} {place : ℕ} → IsPlaceOf heap class locals place → HasNoneCached heap class locals → CanCall σ (RestsWith σ.seat.profile locals) → StopsPlace place locals others σ σ1
     → Releases (IsTakenOut heap class locals others) locals others σ σ1
 leaves_spent heap class {locals} {others} {place} at none can h =
     let slots : Slots = h.slots in
     let p = placed slots can.met.apart.one_each at in
     let found : local_for heap class locals ≡ Some slots = p.0 ∙ ap (λ s. Some s) (sym h.at) in
-    let small : slots.class < 16 = subst (λ (s : Slots). s.class < 16) (sym h.at) (can.met.known place slots at.within).class in
+    let small : IsClass slots.class = subst (λ (s : Slots). IsClass s.class) (sym h.at) (can.met.known place slots at.within).class in
     let empty : IsEmpty slots.starts = none_empty slots (none slots found) in
     releases_as h.stops (λ steps one. record { left = subst (λ o. LeavesSpent o steps) (sym found) (empty, spent_leaves slots steps small empty one.order); others = h.fewer ∙ sym p.1; few = one.few })
 
@@ -111,11 +112,11 @@ makes_place heap class locals others fewer one two =
     releases_then locals others one (MakesPlace heap class locals fewer) fewer two (record { spent = one.steps; kept = others; taken = one.change; stopped = two.steps; shortened = two.change; steps_are = refl; few = omega (arith, n, first, second) })
 
 -- ---- the slots that serve the request
-abbrev pub obtain_rests : {σ : Standing} {n spare : ℕ} {locals : List Slots} → CanCall σ (λ v l. MayObtain σ.seat.profile n spare locals v) → CanCall σ (λ v l. RestsWith σ.seat.profile locals v)
+abbrev pub obtain_rests : {σ : Standing} {n spare : ℕ} {locals : List Slots} → CanCall σ (MayObtain σ.seat.profile n spare locals) → CanCall σ (RestsWith σ.seat.profile locals)
 obtain_rests can = record { view = can.view; whole = can.whole; stood = can.stood; met = can.met.rest }
 
 -- the same room after place was made
-pub obtain_after : {σ σ1 : Standing} {n spare spare1 : ℕ} {Change : List Made → Type 0} (locals fewer : List Slots) → Releases Change locals fewer σ σ1 → spare1 ≡ spare → CanCall σ (λ v l. MayObtain σ.seat.profile n spare locals v) → CanCall σ1 (λ v l. MayObtain σ1.seat.profile n spare1 fewer v)
+pub obtain_after : {σ σ1 : Standing} {n spare spare1 : ℕ} {Change : List Made → Type 0} (locals fewer : List Slots) → Releases Change locals fewer σ σ1 → spare1 ≡ spare → CanCall σ (MayObtain σ.seat.profile n spare locals) → CanCall σ1 (MayObtain σ1.seat.profile n spare1 fewer)
 obtain_after {σ} {σ1} {n} {spare} {spare1} locals fewer one same can =
     let f : Profile = σ.seat.profile in
     let ok : Agreed f can.view one.steps = one.calls.adds.agreed can.view can.whole can.stood can.met.rest in
@@ -132,7 +133,7 @@ pub filling_then : {σ σ1 : Standing} {fill : Filling} {First : List Made → T
 filling_then {fill = fill} one is = subst (λ (s : Seat). IsFilling s.profile fill) (sym one.calls.adds.seat_is) is
 
 -- a cached one that was brought to the end
-pub obtains_cached : {σ : Standing} (fill : Filling) (tells : Bool) (locals locals' : List Slots) → IsFilling σ.seat.profile fill → CanCall σ (λ v l. RestsWith σ.seat.profile locals v) → length locals ≤ 32 → BringsCached fill.directory.heap fill.class locals locals' → StandsLast fill tells locals locals' σ σ
+pub obtains_cached : {σ : Standing} (fill : Filling) (tells : Bool) (locals locals' : List Slots) → IsFilling σ.seat.profile fill → CanCall σ (RestsWith σ.seat.profile locals) → length locals ≤ 32 → BringsCached fill.directory.heap fill.class locals locals' → StandsLast fill tells locals locals' σ σ
 obtains_cached {σ} fill tells locals locals' is can fits cached =
     let heap : ℕ = fill.directory.heap in
     let class : ℕ = fill.class in

@@ -1,14 +1,14 @@
 -- A request for whole pages: the actor is at rest with the cache as it was.
 use Rattle.std.proofs.Common.{◌≡◌, ℕ, ◌+◌, ◌-◌, ◌*◌, ◌/◌, ◌%◌, ◌<◌, ◌≤◌, ◌==◌, ◌||◌, Bool, true, false, if◌then◌else◌, List, [], ◌∷◌, ◌++◌, length, Option, None, Some, Ok, Err, Result, ◌⊎◌, inl, inr, refl, ap, sym, ◌∙◌, subst, arith, length-append, append_assoc, true≢false}
-use Rattle.std.specs.Prelude.{All, MatchResult, min, max, nat_le, not}
+use Rattle.std.specs.Prelude.{All, MatchResult, min, max, not}
 use Rattle.std.specs.List.{AllByRecursion, list_any}
-use Rattle.std.proofs.lemmas.Bool.{eqb-true, cases_Bool, and_parts, leb-false}
+use Rattle.std.proofs.lemmas.Bool.{eqb-true, cases_Bool, and_parts, leb-false, false_from_ne_true}
 use Rattle.std.proofs.lemmas.List.Elements.{All-head, All-tail}
 use Rattle.std.proofs.Math.Nat.{zero-mod}
-use Rattle.pas_profile.specs.Classes.{IsAlignment, class_sizes}
+use Rattle.pas_profile.specs.Classes.{IsAlignment}
 use Rattle.pas_profile.specs.Profiles.{IsPage}
-use Rattle.pas_profile.specs.Requests.{is_shared, kind_of_class, kind_of_route}
-use Rattle.pas_profile.specs.Routes.{first_class, route_with, route_of, room_by, room_of}
+use Rattle.pas_profile.specs.Requests.{is_shared, kind_of_class, kind_of_route, route_in, room_in}
+use Rattle.pas_profile.specs.Routes.{room_by}
 use Rattle.pas_profile.specs.Runs.{in_run, address_of, grain_of, length_of}
 use Rattle.pas_profile.specs.declared.directory.Directory.{Directory}
 use Rattle.pas_profile.specs.declared.directory.Kind.TheVariants as Kind
@@ -21,24 +21,24 @@ use Rattle.pas_profile.proofs.Codecs.{deed_word_of-positive}
 use Rattle.pas_bitfit.proofs.Aligned.{stands_aligned}
 use Rattle.pas_steps.specs.Agreement.{Agreed}
 use Rattle.pas_steps.specs.Desks.{Standing, CanCall, triples}
-use Rattle.pas_steps.specs.Events.{event_of, with_event, events_by}
+use Rattle.pas_steps.specs.Events.{events_by}
 use Rattle.pas_steps.specs.Frames.{IsScan}
 use Rattle.pas_steps.specs.Kinds.{Backing, returning, looking, kind_of, is_in, Only}
 use Rattle.pas_steps.specs.Unknown.{unknown_pages}
 use Rattle.pas_steps.specs.Views.{View, known_deed, epoch_of}
 use Rattle.pas_steps.specs.declared.step.Made.{Made}
 use Rattle.pas_steps.specs.declared.step.Step.{Step}
-use Rattle.pas_steps.specs.declared.step.Step.TheVariants.{Deed, Back, Give, End, EndSized, Unback}
+use Rattle.pas_steps.specs.declared.step.Step.TheVariants.{Deed}
 use Rattle.pas_steps.proofs.Adding.{agreed_first, agreed_later, adds_under}
 use Rattle.pas_steps.proofs.Apart.{only_both, only_within, events_same}
 use Rattle.pas_steps.proofs.Frames.{events_append}
-use Rattle.pas_steps.proofs.Past.{always_map}
+use Rattle.pas_steps.proofs.Past.{always_map, always_pair}
 use Rattle.pas_steps.proofs.Unknown.{unknown_stays}
 use Rattle.pas_large.specs.Allocates.{GaveLarge, IsServedNamed, IsScanned, AllocatesLarge}
 use Rattle.pas_large.proofs.Outcomes.{MadeOf, IsGivenRun, IsRefusedRun, HasEnded, ended}
 use Rattle.pas_large.specs.Claims.{in_span}
 use Rattle.pas_large.specs.Finds.{MayFind, FindRoom, finding}
-use Rattle.pas_large.specs.Gives.{give_steps}
+use Rattle.pas_rights.specs.Gives.{give_steps}
 use Rattle.pas_large.specs.Pages.{OnlyDeedsShow}
 use Rattle.pas_large.specs.Named.{missed_steps}
 use Rattle.pas_large.specs.Telling.{IsToldLarge}
@@ -52,20 +52,16 @@ use Rattle.pas_cache.specs.Calls.{MayAllocatePages, AllocatesPages, most_events}
 use Rattle.pas_cache.specs.Kinds.{allocating}
 use Rattle.pas_cache.specs.Locals.{keeps_right, any_keeps, IsLocal, RestsWith}
 use Rattle.pas_cache.specs.Serves.{Wanted, wanted_for, IsBlockFor, IsPreparing, IsDeedOf, MakesDeedsOf}
-use Rattle.pas_cache.proofs.Refills.{no_right_in}
+use Rattle.pas_cache.proofs.Refills.{no_right_of}
 use Rattle.pas_cache.proofs.Resting.{rests_kept}
+use Rattle.pas_profile.proofs.Lists.{all_both, all_map}
+use Rattle.pas_steps.proofs.Events.{ComesOf, comes_of, each_event}
+use Rattle.pas_large.proofs.Allocates.{scans_only}
 
 -- ---- no local allocator has a right of a large page, nor of a page whose deed isn't known
-none_of : (locals : List Slots) → list_any (λ (s : Slots). false) locals ≡ false
-none_of [] = refl
-none_of (s ∷ rest) = none_of rest
-
 not_large : (shared : Bool) (class : ℕ) → kind_of_class shared class ≡ Kind.Large → ⊥
 not_large true class same = cc
 not_large false class same = cc
-
-never : (heap : ℕ) (slots : Slots) → slots.right ≡ true → home_of slots ≡ large_directory heap → false ≡ true
-never heap slots right home = absurd (not_large (not slots.right) slots.class (ap (λ (d : Directory). d.kind) home))
 
 known_of_local : (f : Profile) (v : View) (p : ℕ) (locals : List Slots) → All (IsLocal f v) locals → any_keeps locals p ≡ true → known_deed v p ≡ 0 → ⊥
 known_of_local f v p [] all keeps none = true≢false (sym keeps)
@@ -78,62 +74,36 @@ known_of_local f v p (first ∷ rest) all keeps none = elim (cases_Bool (keeps_r
 ]
 
 lacks_known : (f : Profile) (v : View) (locals : List Slots) (p : ℕ) → All (IsLocal f v) locals → known_deed v p ≡ 0 → any_keeps locals p ≡ false
-lacks_known f v locals p all none = elim (cases_Bool (any_keeps locals p)) [ inl keeps ↦ absurd (known_of_local f v p locals all keeps none) | inr lacks ↦ lacks ]
+lacks_known f v locals p all none = false_from_ne_true (any_keeps locals p) (λ keeps. known_of_local f v p locals all keeps none)
 
 pub may_find : (f : Profile) (v : View) (heap : ℕ) (locals : List Slots) → RestsWith f locals v → MayFind (large_directory heap) v
 may_find f v heap locals h = record {
   lacks = λ p of. h.rights p ∙ elim of [
     | inl none ↦ lacks_known f v locals p h.known none
-    | inr knows ↦ no_right_in f v (large_directory heap) (λ s. false) tt (never heap) locals h.known (none_of locals) p knows
+    | inr knows ↦ no_right_of f v (large_directory heap) tt not_large locals h.known p knows
   ];
   clear = h.clear;
 }
 
 -- ---- which events
-deed_more : (d : Directory) (t : Bool) (k p : ℕ) (x : Directory) (es : List Event) → (t ≡ true → x ≡ d) → AllByRecursion (IsDeedOf d) es → AllByRecursion (IsDeedOf d) (with_event (if t then Some (Event.Deed k p x) else None) es)
-deed_more d true k p x es is all = (subst (λ y. IsDeedOf d (Event.Deed k p y)) (sym (is refl)) (IsDeedOf.Deeds k p), all)
-deed_more d false k p x es is all = all
+deed_made : (d : Directory) (k : ℕ) (s : Step) (a : ℕ) (e : Event) → is_in finding (kind_of s) ≡ true → ((p : ℕ) (x : Directory) → s ≡ Deed p x → a ≡ 0 → x ≡ d) → ComesOf k s a e → IsDeedOf d e
+deed_made d k s a (Event.Deed j p x) is made comes = subst (λ y. IsDeedOf d (Event.Deed j p y)) (sym (made p x comes.step.0 comes.step.1)) (IsDeedOf.Deeds j p)
+deed_made d k s a e is made comes = absurd (true≢false (sym is ∙ ap (is_in finding) comes.kind))
 
-one_more : (d : Directory) (k e : ℕ) (s : Step) (a : ℕ) (es : List Event) → is_in finding (kind_of s) ≡ true → ((p : ℕ) (x : Directory) → s ≡ Deed p x → a ≡ 0 → x ≡ d) → AllByRecursion (IsDeedOf d) es → AllByRecursion (IsDeedOf d) (with_event (event_of k e s a) es)
-one_more d k e (Deed p x) a es is made all = deed_more d (a == 0) k p x es (λ t. made p x refl (eqb-true a 0 t)) all
-one_more d k e (Back p) a es is made all = absurd (true≢false (sym is))
-one_more d k e (Give block) a es is made all = absurd (true≢false (sym is))
-one_more d k e (End name guess) a es is made all = absurd (true≢false (sym is))
-one_more d k e (EndSized name room) a es is made all = absurd (true≢false (sym is))
-one_more d k e (Unback p) a es is made all = absurd (true≢false (sym is))
-one_more d k e s a es is made all = all
+deeds_only : (d : Directory) (steps : List Made) → Only finding steps → MadeOf d steps → (k : ℕ) (v : View) → AllByRecursion (IsDeedOf d) (events_by k v steps)
+deeds_only d steps kinds deeds k v = each_event (IsDeedOf d) (λ m before. (is_in finding (kind_of m.step) ≡ true) × ((p : ℕ) (x : Directory) → m.step ≡ Deed p x → m.answer ≡ 0 → x ≡ d)) k v
+    (λ m before epoch e h is. deed_made d k m.step m.answer e h.0 h.1 (comes_of k epoch m.step m.answer e is)) steps
+    (always_pair (λ m before. is_in finding (kind_of m.step) ≡ true) (λ m before. (p : ℕ) (x : Directory) → m.step ≡ Deed p x → m.answer ≡ 0 → x ≡ d) steps kinds deeds)
 
-pub deeds_only : (d : Directory) (steps : List Made) → Only finding steps → MadeOf d steps → (k : ℕ) (v : View) → AllByRecursion (IsDeedOf d) (events_by k v steps)
-deeds_only d [] kinds deeds k v = tt
-deeds_only d (m ∷ more) kinds deeds k v = one_more d k (epoch_of (more ++ v)) m.step m.answer (events_by k v more) kinds.0 (λ p x is z. deeds.0 p x is z) (deeds_only d more kinds.1 deeds.1 k v)
-
-back_more : (d : Directory) (t : Bool) (k p : ℕ) (es : List Event) → AllByRecursion (IsPreparing d) es → AllByRecursion (IsPreparing d) (with_event (if t then Some (Event.Back k p) else None) es)
-back_more d true k p es all = (IsPreparing.Backs k p, all)
-back_more d false k p es all = all
-
-one_back : (d : Directory) (k e : ℕ) (s : Step) (a : ℕ) (es : List Event) → is_in (Backing ∷ []) (kind_of s) ≡ true → AllByRecursion (IsPreparing d) es → AllByRecursion (IsPreparing d) (with_event (event_of k e s a) es)
-one_back d k e (Back p) a es is all = back_more d (a == 0) k p es all
-one_back d k e (Deed p x) a es is all = absurd (true≢false (sym is))
-one_back d k e (Give block) a es is all = absurd (true≢false (sym is))
-one_back d k e (End name guess) a es is all = absurd (true≢false (sym is))
-one_back d k e (EndSized name room) a es is all = absurd (true≢false (sym is))
-one_back d k e (Unback p) a es is all = absurd (true≢false (sym is))
-one_back d k e s a es is all = all
+back_made : (d : Directory) (k : ℕ) (s : Step) (a : ℕ) (e : Event) → is_in (Backing ∷ []) (kind_of s) ≡ true → ComesOf k s a e → IsPreparing d e
+back_made d k s a (Event.Back j p) is comes = IsPreparing.Backs j p
+back_made d k s a e is comes = absurd (true≢false (sym is ∙ ap (is_in (Backing ∷ [])) comes.kind))
 
 backs_only : (d : Directory) (steps : List Made) → Only (Backing ∷ []) steps → (k : ℕ) (v : View) → AllByRecursion (IsPreparing d) (events_by k v steps)
-backs_only d [] kinds k v = tt
-backs_only d (m ∷ more) kinds k v = one_back d k (epoch_of (more ++ v)) m.step m.answer (events_by k v more) kinds.0 (backs_only d more kinds.1 k v)
-
-all_both : {A : Type 0} (P : A → Type 0) (xs ys : List A) → AllByRecursion P xs → AllByRecursion P ys → AllByRecursion P (xs ++ ys)
-all_both P [] ys first second = second
-all_both P (x ∷ xs) ys first second = (first.0, all_both P xs ys first.1 second)
+backs_only d steps kinds k v = each_event (IsPreparing d) (λ m before. is_in (Backing ∷ []) (kind_of m.step) ≡ true) k v (λ m before epoch e h is. back_made d k m.step m.answer e h (comes_of k epoch m.step m.answer e is)) steps kinds
 
 deed_prepares : (d : Directory) (e : Event) → IsDeedOf d e → IsPreparing d e
 deed_prepares d e (IsDeedOf.Deeds k page) = IsPreparing.Deeds k page
-
-all_prepare : (d : Directory) (es : List Event) → AllByRecursion (IsDeedOf d) es → AllByRecursion (IsPreparing d) es
-all_prepare d [] all = tt
-all_prepare d (e ∷ es) all = (deed_prepares d e all.0, all_prepare d es all.1)
 
 -- ---- a block is given
 module _ (f : Profile) (heap n : ℕ) (searched after : List Made) (block : Block) (is : IsGivenRun f (large_directory heap) n searched after block) where
@@ -147,7 +117,7 @@ module _ (f : Profile) (heap n : ℕ) (searched after : List Made) (block : Bloc
   pages = in_span is.first (is.first + n)
 
   abbrev gs : List Made
-  gs = give_steps is.first block is.word is.answer
+  gs = give_steps is.first 0 block is.word is.answer
 
   gave : (locals : List Slots) (v : View) → RestsWith f locals v → Agreed f v steps → GaveLarge d is.first n block v (steps ++ v)
   gave locals v h agreed = is.gave.from v (may_find f v heap locals h) agreed
@@ -185,7 +155,7 @@ module _ (f : Profile) (heap n : ℕ) (searched after : List Made) (block : Bloc
       events_by k (searched ++ v) is.backs ++ events_by k v searched,
       events_are k v,
       all_both (IsPreparing d) (events_by k (searched ++ v) is.backs) (events_by k v searched) (backs_only d is.backs is.back_kinds k (searched ++ v))
-          (all_prepare d (events_by k v searched) (deeds_only d searched kinds is.made k v)),
+          (all_map (IsDeedOf d) (IsPreparing d) (events_by k v searched) (deed_prepares d) (deeds_only d searched kinds is.made k v)),
     );
   }
 
@@ -206,19 +176,14 @@ module _ (f : Profile) (heap n : ℕ) (searched after : List Made) (block : Bloc
       (only_within finding allocating searched refl kinds)
 
 -- ---- a request is refused
-scan_kind : (s : Step) → IsScan s → is_in looking (kind_of s) ≡ true
-scan_kind s (IsScan.LooksEligible d j) = refl
-scan_kind s (IsScan.LooksDeed page) = refl
-scan_kind s (IsScan.LooksParked j) = refl
-
 module _ (f : Profile) (heap n : ℕ) (searched after : List Made) (is : IsRefusedRun f (large_directory heap) searched after) where
   looks : Only looking after
-  looks = always_map (λ m before. IsScan m.step) (λ m before. is_in looking (kind_of m.step) ≡ true) after (λ m before s. scan_kind m.step s) is.scans
+  looks = scans_only after is.scans
 
   silent : (k : ℕ) (v : View) → events_by k v (after ++ searched) ≡ events_by k v searched
   silent k v = events_same looking refl k v after searched looks
 
-  pub refused_deeds : Only finding searched → MakesDeedsOf (large_directory heap) (after ++ searched)
+  refused_deeds : Only finding searched → MakesDeedsOf (large_directory heap) (after ++ searched)
   refused_deeds kinds k v = subst (AllByRecursion (IsDeedOf (large_directory heap))) (sym (silent k v)) (deeds_only (large_directory heap) searched kinds is.made k v)
 
   pub refused_few : OnlyDeedsShow f searched → (k : ℕ) (v : View) → Agreed f v (after ++ searched) → length (events_by k v (after ++ searched)) + unknown_pages f ((after ++ searched) ++ v) ≤ 0 + unknown_pages f v
@@ -229,10 +194,10 @@ module _ (f : Profile) (heap n : ℕ) (searched after : List Made) (is : IsRefus
       let same : unknown_pages f ((after ++ searched) ++ v) ≡ unknown_pages f (after ++ (searched ++ v)) = ap (unknown_pages f) (append_assoc after searched v) in
       omega (arith, all, here, stays, same)
 
-  pub refused_rests : (locals : List Slots) (v : View) → RestsWith f locals v → Agreed f v (after ++ searched) → RestsWith f locals ((after ++ searched) ++ v)
+  refused_rests : (locals : List Slots) (v : View) → RestsWith f locals v → Agreed f v (after ++ searched) → RestsWith f locals ((after ++ searched) ++ v)
   refused_rests locals v h agreed = rests_kept f locals (after ++ searched) v (is.still.from v (may_find f v heap locals h) agreed) agreed h
 
-  pub refused_kinds : Only finding searched → Only allocating (after ++ searched)
+  refused_kinds : Only finding searched → Only allocating (after ++ searched)
   refused_kinds kinds = only_both allocating after searched (only_within looking allocating after refl looks) (only_within finding allocating searched refl kinds)
 
 -- ---- the call
@@ -258,17 +223,17 @@ module _ (f : Profile) (heap n : ℕ) (searched after : List Made) where
   ends align locals alignment only met (Err why) h = refused_deeds f heap n searched after h only
 
 -- ---- what is asked for
-pages_wanted : (f : Profile) (heap size align n : ℕ) → n ≡ (size + 4096 - 1) / 4096 → 1 ≤ size → route_of size align ≡ Route.Large → record { directory = large_directory heap; route = Route.Large; room = n * 4096; align = align } ≡ wanted_for f heap size align
+pages_wanted : (f : Profile) (heap size align n : ℕ) → n ≡ (size + 4096 - 1) / 4096 → 1 ≤ size → route_in f size align ≡ Route.Large → record { directory = large_directory heap; route = Route.Large; room = n * 4096; align = align } ≡ wanted_for f heap size align
 pages_wanted f heap size align n is some route =
     let whole : max size 1 ≡ size = omega (arith, some) in
-    let room : n * 4096 ≡ room_of size align = ap (λ x. x * 4096) (is ∙ ap (λ x. (x + 4096 - 1) / 4096) (sym whole)) ∙ ap (λ (r : Route). room_by r (max size 1)) (sym route) in
+    let room : n * 4096 ≡ room_in f size align = ap (λ x. x * 4096) (is ∙ ap (λ x. (x + 4096 - 1) / 4096) (sym whole)) ∙ ap (λ (r : Route). room_by r (max size 1)) (sym route) in
     ap (λ (r : Route). record { directory = record { heap = heap; kind = kind_of_route (is_shared f heap) r }; route = r; room = n * 4096; align = align }) (sym route)
-    ∙ ap (λ x. record { directory = record { heap = heap; kind = kind_of_route (is_shared f heap) (route_of size align) }; route = route_of size align; room = x; align = align }) room
+    ∙ ap (λ x. record { directory = record { heap = heap; kind = kind_of_route (is_shared f heap) (route_in f size align) }; route = route_in f size align; room = x; align = align }) room
 
 pub whole_pages : (size : ℕ) → size / 4096 + min 1 (size % 4096) ≡ (size + 4096 - 1) / 4096
 whole_pages size = omega arith
 
-pub pages_call : {σ : Standing} {c : Cached} {spare n m : ℕ} (heap : ℕ) → m ≡ n → CanCall σ (λ v l. MayAllocatePages σ.seat.profile c n spare v) → CanCall σ (λ v l. FindRoom σ.seat.profile (large_directory heap) (m + 1) spare v)
+pub pages_call : {σ : Standing} {c : Cached} {spare n m : ℕ} (heap : ℕ) → m ≡ n → CanCall σ (MayAllocatePages σ.seat.profile c n spare) → CanCall σ (FindRoom σ.seat.profile (large_directory heap) (m + 1) spare)
 pages_call {σ} {c} {spare} {n} {m} heap same can = record {
   view = can.view;
   whole = can.whole;
@@ -276,7 +241,7 @@ pages_call {σ} {c} {spare} {n} {m} heap same can = record {
   met = record { may = may_find σ.seat.profile can.view heap c.locals can.met.rest.locals; room = (let room = can.met.room in omega (arith, room, same)) };
 }
 
-pub pages_allocates : {σ σ' : Standing} (size align heap n : ℕ) (found : Option ℕ) (tells : Bool) (c : Cached) (answer : Result Block NoRoom) → n ≡ (size + 4096 - 1) / 4096 → 2048 < size → IsAlignment align → route_of size align ≡ Route.Large → AllocatesLarge heap n found tells σ σ' answer → AllocatesPages (wanted_for σ.seat.profile heap size align) found tells c c σ σ' answer
+pub pages_allocates : {σ σ' : Standing} (size align heap n : ℕ) (found : Option ℕ) (tells : Bool) (c : Cached) (answer : Result Block NoRoom) → n ≡ (size + 4096 - 1) / 4096 → 2048 < size → IsAlignment align → route_in σ.seat.profile size align ≡ Route.Large → AllocatesLarge heap n found tells σ σ' answer → AllocatesPages (wanted_for σ.seat.profile heap size align) found tells c c σ σ' answer
 pages_allocates {σ} {σ'} size align heap n found tells c answer is some alignment route a =
     let f : Profile = σ.seat.profile in
     let d : Directory = large_directory heap in
@@ -306,16 +271,3 @@ pages_allocates {σ} {σ'} size align heap n found tells c answer is some alignm
           (ends f heap n e.got e.after {Meets = AtRest f c} align c.locals alignment e.kinds (λ v met. met.locals) answer e.outcome);
       told = λ none t v l stood met. subst (λ k. IsToldLarge f (large_directory heap) k l (triples σ.seat.actor (a.rest ++ a.tried) ++ l) answer) (sym count) (a.told none t v l stood (may_find f v heap c.locals met.locals));
     })
-
--- ---- the size of a request with this route
-large_at : (t : Bool) (n : ℕ) → (if t then Route.Bitfit else Route.Large) ≡ Route.Large → nat_le n 2048 ≡ t → 2048 < n
-large_at true n route is = cc
-large_at false n route is = leb-false n 2048 is
-
-large_with : (o : Option ℕ) (n : ℕ) → route_with o n ≡ Route.Large → 2048 < n
-large_with None n route = large_at (nat_le n 2048) n route refl
-large_with (Some class) n route = cc
-
--- for callers
-pub large_size : (size align : ℕ) → route_of size align ≡ Route.Large → 2048 < size
-large_size size align route = let big = large_with (first_class class_sizes 0 (max size 1) align) (max size 1) route in omega (arith, big)

@@ -9,8 +9,8 @@ use Rattle.pas_profile.specs.declared.directory.Directory.{Directory}
 use Rattle.pas_profile.specs.declared.event.Event.{Event}
 use Rattle.pas_profile.specs.declared.event.NoRoom.{NoRoom}
 use Rattle.pas_profile.proofs.Codecs.{deed_word_of-positive}
-use Rattle.pas_steps.specs.Views.{View, known_deed, KnowsDeed, epoch_of}
-use Rattle.pas_steps.specs.Events.{event_of, with_event, events_by}
+use Rattle.pas_steps.specs.Views.{View, known_deed, KnowsDeed}
+use Rattle.pas_steps.specs.Events.{event_of, events_by}
 use Rattle.pas_steps.specs.Agreement.{Agrees, Agreed}
 use Rattle.pas_steps.specs.Past.{Once}
 use Rattle.pas_steps.specs.declared.step.Made.{Made}
@@ -19,7 +19,7 @@ use Rattle.pas_steps.specs.declared.step.Step.TheVariants.{Deed}
 use Rattle.pas_steps.proofs.Adding.{agreed_first, agreed_later}
 use Rattle.pas_steps.proofs.Frames.{events_append}
 use Rattle.pas_steps.proofs.Kept.{deed_stays}
-use Rattle.pas_search.specs.Kinds.{AreQuiet, IsDeedOrBack, EventsAt}
+use Rattle.pas_search.specs.Kinds.{AreQuiet, IsDeedOrBack, EventsAt, IsQuiet}
 use Rattle.pas_steps.specs.Evidence.{Readings}
 use Rattle.pas_search.specs.Searches.{MaySearch, DeedMadeHere, FromOffered, ByDeed, FewEvents}
 use Rattle.pas_segregated.specs.Refills.{Filling}
@@ -33,6 +33,8 @@ use Rattle.pas_steps.specs.Kinds.{returning}
 use Rattle.pas_profile.specs.Profiles.{IsPage}
 use Rattle.pas_cache.proofs.Refills.{refill_leads, refusal}
 use Rattle.pas_cache.specs.Kinds.{releasing}
+use Rattle.std.proofs.lemmas.Option.{cond_some, none-some}
+use Rattle.pas_steps.proofs.Events.{each_event}
 
 -- ---- a deed that was made wasn't known before
 made_unknown : (no_fit : Readings → Type 0) (f : Profile) (d : Directory) (page : ℕ) (steps : List Made) (v : View) → Agreed f v steps → Once (DeedMadeHere no_fit f d page) steps → known_deed v page ≢ 0 → ⊥
@@ -95,17 +97,10 @@ refill_few fill f ys xs found refill kinds k v may agreed =
     record { paid = omega (arith, a, before, split, none, same); most = omega (arith, b, split, none) }
 
 -- ---- which events
-with_some : (d : Directory) (t : Bool) (e : Event) (es : List Event) → IsPreparing d e → AllByRecursion (IsPreparing d) es → AllByRecursion (IsPreparing d) (with_event (if t then Some e else None) es)
-with_some d true e es is all = (is, all)
-with_some d false e es is all = all
-
-with_prepared : (d : Directory) (k page e : ℕ) (s : Step) (a : ℕ) (es : List Event) → IsDeedOrBack d page s → AllByRecursion (IsPreparing d) es → AllByRecursion (IsPreparing d) (with_event (event_of k e s a) es)
-with_prepared d k page e s a es IsDeedOrBack.Deeds all = with_some d (a == 0) (Event.Deed k page d) es (IsPreparing.Deeds k page) all
-with_prepared d k page e s a es IsDeedOrBack.Backs all = with_some d (a == 0) (Event.Back k page) es (IsPreparing.Backs k page) all
+one_prepared : (d : Directory) (k page epoch : ℕ) (s : Step) (a : ℕ) (e : Event) → IsDeedOrBack d page s → event_of k epoch s a ≡ Some e → IsPreparing d e
+one_prepared d k page epoch s a e IsDeedOrBack.Deeds is = subst (IsPreparing d) (cond_some (a == 0) (Event.Deed k page d) e is).1 (IsPreparing.Deeds k page)
+one_prepared d k page epoch s a e IsDeedOrBack.Backs is = subst (IsPreparing d) (cond_some (a == 0) (Event.Back k page) e is).1 (IsPreparing.Backs k page)
 
 pub prepared : (d : Directory) (page : ℕ) (steps : List Made) → EventsAt d page steps → (k : ℕ) (v : View) → AllByRecursion (IsPreparing d) (events_by k v steps)
-prepared d page [] at k v = tt
-prepared d page (m ∷ more) at k v = elim at.0 [
-  | inl quiet ↦ subst (λ o. AllByRecursion (IsPreparing d) (with_event o (events_by k v more))) (sym (quiet k (epoch_of (more ++ v)))) (prepared d page more at.1 k v)
-  | inr some ↦ with_prepared d k page (epoch_of (more ++ v)) m.step m.answer (events_by k v more) some (prepared d page more at.1 k v)
-]
+prepared d page steps at k v = each_event (IsPreparing d) (λ m before. IsQuiet m ⊎ IsDeedOrBack d page m.step) k v
+    (λ m before epoch e which is. elim which [ inl quiet ↦ absurd (none-some e (sym (quiet k epoch) ∙ is)) | inr some ↦ one_prepared d k page epoch m.step m.answer e some is ]) steps at

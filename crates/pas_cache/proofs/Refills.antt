@@ -3,7 +3,7 @@ use Rattle.std.proofs.Common.{◌≡◌, Bool, ℕ, ◌+◌, ◌*◌, ◌<◌, �
 use Rattle.std.specs.Prelude.{All, MatchResult, not}
 use Rattle.std.specs.List.{cons_option, list_any}
 use Rattle.std.specs.Result.{result_ok}
-use Rattle.std.proofs.lemmas.Bool.{eq-eqb, eqb-true, and_parts, and_from}
+use Rattle.std.proofs.lemmas.Bool.{eq-eqb, eqb-true, and_parts, and_from, or_parts, or_from, false_from_ne_true}
 use Rattle.std.proofs.lemmas.List.Elements.{All-head, All-tail}
 use Rattle.pas_profile.specs.Classes.{IsClass}
 use Rattle.pas_profile.specs.Directories.{IsKind, kind_number, deed_word_of}
@@ -12,7 +12,6 @@ use Rattle.pas_profile.specs.Profiles.{IsDirectoryOf}
 use Rattle.pas_profile.specs.declared.directory.Directory.{Directory}
 use Rattle.pas_profile.specs.declared.directory.Kind.{Kind as TheKind}
 use Rattle.pas_profile.specs.declared.directory.Kind.TheVariants as Kind
-use Rattle.pas_profile.proofs.Codecs.{kind_number_lt, same_kind}
 use Rattle.pas_profile.specs.declared.event.NoRoom.{NoRoom}
 use Rattle.pas_profile.specs.declared.profile.Profile.{Profile}
 use Rattle.pas_steps.specs.Agreement.{Agreed}
@@ -29,6 +28,8 @@ use Rattle.pas_cache.specs.Parts.{MayObtain, IsFoundFor}
 use Rattle.pas_cache.specs.Serves.{IsFilling, IsRefill}
 use Rattle.pas_cache.proofs.Locals.{none_found}
 use Rattle.pas_cache.proofs.Resting.{rests_gained, rests_kept}
+use Rattle.pas_profile.proofs.Codecs.{same_from_deed_word, same_parts}
+use Rattle.std.proofs.Math.Bool.{not-not}
 
 -- ---- homes
 unshared : (shared : Bool) (a b : ℕ) → Kind.Class a ≡ kind_of_class shared b → a ≡ b
@@ -41,15 +42,6 @@ kept_by false true a b h = refl
 kept_by true true a b h = absurd (let none = h in cc)
 kept_by false false a b h = absurd (let none = h in cc)
 
-same_words : (h c h' c' : ℕ) → c < 23 → c' < 23 → 65536 + h * 256 + c ≡ 65536 + h' * 256 + c' → (h ≡ h') × (c ≡ c')
-same_words h c h' c' a b same = (omega arith, omega arith)
-
-same_deed : (a b : Directory) → IsKind a.kind → IsKind b.kind → deed_word_of a ≡ deed_word_of b → a ≡ b
-same_deed a b is is' same =
-    let both = same_words a.heap (kind_number a.kind) b.heap (kind_number b.kind) (kind_number_lt a.kind is) (kind_number_lt b.kind is') same in
-    let kinds = same_kind a.kind b.kind is is' both.1 in
-    ap (λ (h : ℕ). record { heap = h; kind = a.kind }) both.0 ∙ ap (λ (k : TheKind). record { heap = b.heap; kind = k }) kinds
-
 -- slots that keep their page's right and are at home in the directory are those for its heap and the class
 is_one : (f : Profile) (fill : Filling) → IsFilling f fill → (slots : Slots) → slots.right ≡ true → home_of slots ≡ fill.directory → is_for fill.directory.heap fill.class slots ≡ true
 is_one f fill is slots right home =
@@ -57,33 +49,33 @@ is_one f fill is slots right home =
     (eq-eqb slots.class fill.class (unshared (is_shared f fill.directory.heap) slots.class fill.class (ap (λ t. kind_of_class (not t) slots.class) (sym right) ∙ (ap (λ d. d.kind) home ∙ is.home))))
 
 -- ---- an actor whose local allocators are all of other directories has no right of a page of this one
-none_of_two : (a b : Bool) → (a || b) ≡ false → (a ≡ false) × (b ≡ false)
-none_of_two false b h = (refl, h)
-none_of_two true b h = absurd (true≢false h)
-
-either_not : (a b : Bool) → (a ≡ true → ⊥) → b ≡ false → (a || b) ≡ false
-either_not true b isnt h = absurd (isnt refl)
-either_not false b isnt h = h
-
 pub no_right_in : (f : Profile) (v : View) (d : Directory) (test : Slots → Bool) → IsKind d.kind → ((slots : Slots) → slots.right ≡ true → home_of slots ≡ d → test slots ≡ true) → (locals : List Slots) → All (IsLocal f v) locals → list_any test locals ≡ false
     → (p : ℕ) → KnowsDeed p d v → any_keeps locals p ≡ false
 no_right_in f v d test is all_there [] all none p of = refl
 no_right_in f v d test is all_there (first ∷ rest) all none p of =
-    let others = none_of_two (test first) (list_any test rest) none in
+    let others = or_parts (test first) (list_any test rest) none in
     let at : IsLocal f v first = All-head (IsLocal f v) first rest all in
-    either_not (keeps_right first p) (any_keeps rest p)
-    (λ keeps.
+    or_from (keeps_right first p) (any_keeps rest p)
+    (false_from_ne_true (keeps_right first p) (λ keeps.
     let both = and_parts first.right (first.page == p) keeps in
-    true≢false (sym (all_there first both.0 (same_deed (home_of first) d at.directory.kind is (sym at.deed ∙ (ap (known_deed v) (eqb-true first.page p both.1) ∙ of)))) ∙ others.0))
+    true≢false (sym (all_there first both.0 (same_from_deed_word (home_of first) d at.directory.kind is (sym at.deed ∙ (ap (known_deed v) (eqb-true first.page p both.1) ∙ of)))) ∙ others.0)))
     (no_right_in f v d test is all_there rest (All-tail (IsLocal f v) first rest all) others.1 p of)
 
-pub may_search_in : (f : Profile) (v : View) (d : Directory) (test : Slots → Bool) → IsKind d.kind → ((slots : Slots) → slots.right ≡ true → home_of slots ≡ d → test slots ≡ true) → (locals : List Slots) → list_any test locals ≡ false → RestsWith f locals v → MaySearch d v
-may_search_in f v d test is all_there locals none h = record { rights = λ p of. h.rights p ∙ no_right_in f v d test is all_there locals h.known none p of; clear = h.clear }
+-- nor of a page of a kind that no class has
+no_test : (locals : List Slots) → list_any (λ (s : Slots). false) locals ≡ false
+no_test [] = refl
+no_test (s ∷ rest) = no_test rest
+
+pub no_right_of : (f : Profile) (v : View) (d : Directory) → IsKind d.kind → ((shared : Bool) (class : ℕ) → kind_of_class shared class ≡ d.kind → ⊥) → (locals : List Slots) → All (IsLocal f v) locals → (p : ℕ) → KnowsDeed p d v → any_keeps locals p ≡ false
+no_right_of f v d is no_class locals known p of = no_right_in f v d (λ s. false) is (λ slots right home. absurd (no_class (not slots.right) slots.class (ap (λ (h : Directory). h.kind) home))) locals known (no_test locals) p of
 
 pub may_search : (f : Profile) (v : View) (fill : Filling) (locals : List Slots) → IsFilling f fill → local_for fill.directory.heap fill.class locals ≡ None → RestsWith f locals v → MaySearch fill.directory v
-may_search f v fill locals is none = may_search_in f v fill.directory (is_for fill.directory.heap fill.class) is.directory.kind (is_one f fill is) locals (none_found (is_for fill.directory.heap fill.class) locals none).any
+may_search f v fill locals is none h = record {
+  rights = λ p of. h.rights p ∙ no_right_in f v fill.directory (is_for fill.directory.heap fill.class) is.directory.kind (is_one f fill is) locals h.known (none_found (is_for fill.directory.heap fill.class) locals none).any p of;
+  clear = h.clear;
+}
 
-pub search_call : {σ : Standing} {n spare : ℕ} (fill : Filling) (locals : List Slots) → IsFilling σ.seat.profile fill → local_for fill.directory.heap fill.class locals ≡ None → CanCall σ (λ v l. MayObtain σ.seat.profile n spare locals v) → CanCall σ (λ v l. SearchRoom σ.seat.profile fill.directory n spare v)
+pub search_call : {σ : Standing} {n spare : ℕ} (fill : Filling) (locals : List Slots) → IsFilling σ.seat.profile fill → local_for fill.directory.heap fill.class locals ≡ None → CanCall σ (MayObtain σ.seat.profile n spare locals) → CanCall σ (SearchRoom σ.seat.profile fill.directory n spare)
 search_call {σ} fill locals is none can = record {
   view = can.view;
   whole = can.whole;
@@ -100,17 +92,13 @@ found_by fill f steps (Ok slots) refill = record { home = refill.outcome.home; c
 found_by fill f steps (Err room) refill = tt
 
 -- the one that is cached for the heap and the class is at home in its directory
-not_not : (t : Bool) → not (not t) ≡ t
-not_not true = refl
-not_not false = refl
-
 pub cached_home : (f : Profile) (v : View) (fill : Filling) → IsFilling f fill → (slots : Slots) → IsLocal f v slots → is_for fill.directory.heap fill.class slots ≡ true → home_of slots ≡ fill.directory
 cached_home f v fill is slots at for =
     let pair = and_parts (slots.heap == fill.directory.heap) (slots.class == fill.class) for in
     let heap : slots.heap ≡ fill.directory.heap = eqb-true slots.heap fill.directory.heap pair.0 in
-    let kind : kind_of_class (not slots.right) slots.class ≡ fill.directory.kind = ap (λ t. kind_of_class (not t) slots.class) at.kept ∙ (ap (λ t. kind_of_class t slots.class) (not_not (is_shared f slots.heap))
+    let kind : kind_of_class (not slots.right) slots.class ≡ fill.directory.kind = ap (λ t. kind_of_class (not t) slots.class) at.kept ∙ (ap (λ t. kind_of_class t slots.class) (not-not (is_shared f slots.heap))
     ∙ (ap (λ h. kind_of_class (is_shared f h) slots.class) heap ∙ (ap (kind_of_class (is_shared f fill.directory.heap)) (eqb-true slots.class fill.class pair.1) ∙ sym is.home))) in
-    ap (λ (h : ℕ). record { heap = h; kind = kind_of_class (not slots.right) slots.class }) heap ∙ ap (λ (k : TheKind). record { heap = fill.directory.heap; kind = k }) kind
+    same_parts (home_of slots) fill.directory heap kind
 
 -- ---- what it does to what the actor holds and has
 pub refill_leads : {fill : Filling} {f : Profile} {steps : List Made} {slots : Slots} → IsRefill fill f steps (Ok slots) → Leads f (MaySearch fill.directory) (GetsSlots fill.directory slots) steps

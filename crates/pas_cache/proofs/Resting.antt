@@ -3,7 +3,7 @@ use Rattle.std.proofs.Common.{◌≡◌, ℕ, ◌/◌, ◌<◌, ◌≤◌, ◌==
 use Rattle.std.specs.Prelude.{All}
 use Rattle.std.specs.List.{list_any, count_by}
 use Rattle.std.specs.List.Sorted.{IsPermutation}
-use Rattle.std.proofs.lemmas.Bool.{eq-eqb, eqb-true, and_from, and_parts}
+use Rattle.std.proofs.lemmas.Bool.{eq-eqb, eqb-true, and_from, and_parts, or_right, false_from_ne_true, cond-false}
 use Rattle.std.proofs.lemmas.List.Elements.{All-head, All-tail, All-cons}
 use Rattle.std.proofs.lemmas.List.Recursion.{or_at}
 use Rattle.std.proofs.lemmas.List.Sorted.{All-permutation, sum_by-IsPermutation, list_any-IsPermutation}
@@ -85,25 +85,14 @@ rests_by f e steps v xs ys does grains rights clears h known apart = record {
 pub rests_kept : (f : Profile) (locals : List Slots) (steps : List Made) (v : View) → Does nothing v (steps ++ v) → Agreed f v steps → RestsWith f locals v → RestsWith f locals (steps ++ v)
 rests_kept f locals steps v does agreed h = rests_by f nothing steps v locals locals does (λ g. refl) (λ page. refl) (λ page. refl) h (locals_after f nothing steps v locals does agreed (λ g here. (h.grains g ∙ here, refl)) h.known) h.apart
 
-unless_covered : (t : Bool) (fate : Fate) → (t ≡ true → ⊥) → (if t then fate else Kept) ≡ Kept
-unless_covered true fate isnt = absurd (isnt refl)
-unless_covered false fate isnt = refl
-
-or_second : (a b : Bool) → b ≡ true → (a || b) ≡ true
-or_second true b h = refl
-or_second false b h = h
-
-apart_from : (t : Bool) → (t ≡ true → ⊥) → t ≡ false
-apart_from true isnt = absurd (isnt refl)
-apart_from false isnt = refl
+pub unless_covered : (t : Bool) (fate : Fate) → (t ≡ true → ⊥) → (if t then fate else Kept) ≡ Kept
+unless_covered t fate isnt = cond-false t fate Kept (false_from_ne_true t isnt)
 
 less : (c r : Bool) → (c ≡ true → r ≡ false) → now (if c then Lost else Kept) (c || r) ≡ r
-less true r away = sym (away refl)
-less false r away = refl
+less c r away = grind arith
 
 more : (c r : Bool) → now (if c then Gained else Kept) r ≡ (c || r)
-more true r = refl
-more false r = refl
+more c r = grind arith
 
 -- ---- the first of them
 module _ (f : Profile) (slots : Slots) (rest : List Slots) (v : View) (h : RestsWith f (slots ∷ rest) v) where
@@ -135,7 +124,7 @@ module _ (f : Profile) (slots : Slots) (rest : List Slots) (v : View) (h : Rests
 
   -- the others after a call that keeps what this one doesn't cover
   pub others_after : (e : Effect) (steps : List Made) → Does e v (steps ++ v) → Agreed f v steps → ((g : ℕ) → covers slots g ≡ false → e.grains g ≡ Kept) → All (IsLocal f (steps ++ v)) rest
-  others_after e steps does agreed kept = locals_after f e steps v rest does agreed (λ g there. (h.grains g ∙ or_second (covers slots g) (any_covers rest g) there, kept g (apart_from (covers slots g) (λ mine. true≢false (sym there ∙ no_other_grain g mine))))) others
+  others_after e steps does agreed kept = locals_after f e steps v rest does agreed (λ g there. (h.grains g ∙ or_right (covers slots g) (any_covers rest g) there, kept g (false_from_ne_true (covers slots g) (λ mine. true≢false (sym there ∙ no_other_grain g mine))))) others
 
   pub fewer_apart : AreApart rest
   fewer_apart = record {
@@ -152,10 +141,7 @@ module _ (f : Profile) (slots : Slots) (rest : List Slots) (v : View) (h : Rests
 
 -- one comes
 by_page : (t right kept : Bool) → (t ≡ true → kept ≡ false) → now (if t then (if right then Gained else Lost) else Kept) kept ≡ ((right && t) || kept)
-by_page true true kept none = refl
-by_page true false kept none = sym (none refl)
-by_page false true kept none = refl
-by_page false false kept none = refl
+by_page t right kept none = grind arith
 
 pub rests_gained : (f : Profile) (d : Directory) (slots : Slots) (rest : List Slots) (steps : List Made) (v : View) → RestsWith f rest v → GetsSlots d slots v (steps ++ v) → Agreed f v steps → IsLocal f (steps ++ v) slots
     → local_for slots.heap slots.class rest ≡ None → (All (IsLocal f (steps ++ v)) rest → (page : ℕ) → (slots.page == page) ≡ true → any_keeps rest page ≡ false) → RestsWith f (slots ∷ rest) (steps ++ v)

@@ -6,19 +6,19 @@ use Rattle.std.proofs.lemmas.List.Sorted.{IsPermutation-sym, IsPermutation-to_fr
 use Rattle.pas_steps.specs.Calls.{Calls}
 use Rattle.pas_steps.proofs.Called.{call_as, next_call}
 use Rattle.pas_steps.proofs.Calls.{leads_as, leads_at}
-use Rattle.pas_profile.specs.Profiles.{IsAdmitted, IsPage}
-use Rattle.pas_profile.specs.Routes.{route_of, room_by}
-use Rattle.pas_profile.specs.Requests.{is_shared, kind_of_class, kind_of_route, class_home}
+use Rattle.pas_profile.specs.Profiles.{IsAdmitted, IsDirectoryOf, IsPage}
+use Rattle.pas_profile.specs.Routes.{room_by}
+use Rattle.pas_profile.specs.Requests.{is_shared, kind_of_class, kind_of_route, route_in, room_in, class_home}
 use Rattle.pas_profile.specs.declared.directory.Kind.{Kind as TheKind}
 use Rattle.pas_heap.specs.Heaps.{marks_of, is_marked}
 use Rattle.pas_heap.specs.declared.table.HeapTable.{HeapTable}
 use Rattle.pas_profile.specs.declared.directory.Route.{Route}
-use Rattle.pas_profile.proofs.ClassFacts.{class_suits, routed_slot_aligned}
+use Rattle.pas_profile.proofs.ClassFacts.{class_suits, class_known, routed_slot_aligned}
 use Rattle.pas_cache.specs.Caches.{Cached, AtRest}
 use Rattle.pas_cache.specs.Calls.{MayAllocate, Allocates}
 use Rattle.std.specs.List.{AllByRecursion}
 use Rattle.pas_profile.specs.Classes.{IsClass, class_size, IsSlotStart, has_bit}
-use Rattle.pas_profile.specs.Directories.{IsKind, deed_word_of}
+use Rattle.pas_profile.specs.Directories.{IsKind, IsKindAmong, deed_word_of}
 use Rattle.pas_profile.specs.declared.profile.Profile.{Profile}
 use Rattle.pas_profile.specs.declared.directory.Directory.{Directory}
 use Rattle.pas_profile.specs.declared.event.Event.{Event}
@@ -57,7 +57,7 @@ use Rattle.pas_cache.proofs.Refills.{refused_steps, refusal}
 use Rattle.pas_steps.proofs.Unknown.{unknown_stays, none_unknown}
 
 -- ---- room
-pub fewer_room : {σ : Standing} {spare : ℕ} {locals : List Slots} → CanCall σ (λ v l. MayObtain σ.seat.profile 2 spare locals v) → CanCall σ (λ v l. MayObtain σ.seat.profile 1 spare locals v)
+pub fewer_room : {σ : Standing} {spare : ℕ} {locals : List Slots} → CanCall σ (MayObtain σ.seat.profile 2 spare locals) → CanCall σ (MayObtain σ.seat.profile 1 spare locals)
 fewer_room {σ} {spare} can =
     let two : 2 ≤ spare = can.met.room.0 in
     record {
@@ -67,7 +67,7 @@ fewer_room {σ} {spare} can =
       met = record { rest = can.met.rest; room = (omega (arith, two), inr (omega (arith, two))) };
     }
 
-pub room_to_give : {σ σ1 : Standing} {spare spare1 : ℕ} {locals fewer : List Slots} {answer : Result Slots NoRoom} (fill : Filling) (tells : Bool) → Obtains fill tells locals fewer σ σ1 answer → CanCall σ (λ v l. MayObtain σ.seat.profile 2 spare locals v)
+pub room_to_give : {σ σ1 : Standing} {spare spare1 : ℕ} {locals fewer : List Slots} {answer : Result Slots NoRoom} (fill : Filling) (tells : Bool) → Obtains fill tells locals fewer σ σ1 answer → CanCall σ (MayObtain σ.seat.profile 2 spare locals)
     → ((v : View) (l : Whole) → σ.stands v l → spare + length (events_of σ.seat.actor v) ≡ σ.seat.room) → ((v : View) (l : Whole) → σ1.stands v l → spare1 + length (events_of σ1.seat.actor v) ≡ σ1.seat.room) → 1 ≤ spare1
 room_to_give {σ} {σ1} {spare} {spare1} {locals} fill tells one can law law' =
     let f : Profile = σ.seat.profile in
@@ -87,8 +87,8 @@ room_to_give {σ} {σ1} {spare} {spare1} {locals} fill tells one can law law' =
     room_left {spare = spare1} 1 one.calls.adds (obtain_rests can) law' (omega (arith, now, split, made))
 
 -- ---- the slots that were obtained may give
-pub give_call : {σ σ1 : Standing} {spare : ℕ} (fill : Filling) (tells : Bool) (locals fewer : List Slots) (slots : Slots) → Obtains fill tells locals fewer σ σ1 (Ok slots) → CanCall σ (λ v l. MayObtain σ.seat.profile 2 spare locals v)
-    → CanCall σ1 (λ v l. MayGiveSlot σ1.seat.profile slots v)
+pub give_call : {σ σ1 : Standing} {spare : ℕ} (fill : Filling) (tells : Bool) (locals fewer : List Slots) (slots : Slots) → Obtains fill tells locals fewer σ σ1 (Ok slots) → CanCall σ (MayObtain σ.seat.profile 2 spare locals)
+    → CanCall σ1 (MayGiveSlot σ1.seat.profile slots)
 give_call {σ} {σ1} fill tells locals fewer slots one can =
     next_call one.calls (obtain_rests can) (λ v met here. subst (λ (s : Seat). MayGiveSlot s.profile slots (one.steps ++ v)) (sym one.calls.adds.seat_is) (may_give_slot σ.seat.profile slots fewer (one.steps ++ v) here))
 
@@ -119,7 +119,7 @@ silent_before steps room (inr h) = subst IsSilent (sym h.steps_are) (λ k v. eve
 give_event : (slots rest : Slots) (block : Block) (steps : List Made) → GivesSlot slots rest block steps → (k : ℕ) (v : View) → events_by k v steps ≡ Event.Give k block ∷ []
 give_event slots rest block steps gives k v = ap (events_by k v) gives.steps_are
 
-pub serves_given : {σ σ1 σ2 : Standing} (fill : Filling) (tells : Bool) (locals fewer after : List Slots) (slots rest : Slots) (block : Block) → CanCall σ (λ v l. RestsWith σ.seat.profile locals v) → (one : Obtains fill tells locals fewer σ σ1 (Ok slots))
+pub serves_given : {σ σ1 σ2 : Standing} (fill : Filling) (tells : Bool) (locals fewer after : List Slots) (slots rest : Slots) (block : Block) → CanCall σ (RestsWith σ.seat.profile locals) → (one : Obtains fill tells locals fewer σ σ1 (Ok slots))
     → GivesLowest slots rest block σ1 σ2 → after ≡ fewer ++ rest ∷ [] → ServesFrom fill tells locals after σ σ2 (Ok block)
 serves_given {σ} {σ1} {σ2} fill tells locals fewer after slots rest block can one two list =
     let f : Profile = σ.seat.profile in
@@ -135,7 +135,7 @@ serves_given {σ} {σ1} {σ2} fill tells locals fewer after slots rest block can
     record {
       steps = ys ++ xs;
       calls = record {
-        adds = adds_call {C = λ v l. RestsWith f locals v} {D = λ v l. MayGiveSlot f slots v} one.calls.adds give.adds (λ v l stood met. may (xs ++ v) (one.calls.leads.from v met (one.calls.adds.agreed v l stood met)));
+        adds = adds_call {C = RestsWith f locals} {D = MayGiveSlot f slots} one.calls.adds give.adds (λ v l stood met. may (xs ++ v) (one.calls.leads.from v met (one.calls.adds.agreed v l stood met)));
         leads = record {
           from = λ v h agreed. subst (λ zs. RestsWith f zs ((ys ++ xs) ++ v)) (sym list)
               (rests_reordered f (rest ∷ fewer) (fewer ++ rest ∷ []) (IsPermutation-sym (fewer ++ rest ∷ []) (rest ∷ fewer) (IsPermutation-to_front fewer rest)) ((ys ++ xs) ++ v)
@@ -236,13 +236,13 @@ serves_short {locals' = locals'} {answer = answer} h =
     ]
 
 -- ---- of a cache
-for_cache : (f : Profile) (c : Cached) (d : Directory) (class size align : ℕ) (steps : List Made) (answer : Result Block NoRoom) → 4096 % align ≡ 0 → route_of size align ≡ Route.Class class → MatchResult answer (IsBlockFor f (class_wanted d class 1) (RestsWith f c.locals) steps) (λ room. IsSilent steps)
+for_cache : (f : Profile) (c : Cached) (d : Directory) (class size align : ℕ) (steps : List Made) (answer : Result Block NoRoom) → 4096 % align ≡ 0 → route_in f size align ≡ Route.Class class → MatchResult answer (IsBlockFor f (class_wanted d class 1) (RestsWith f c.locals) steps) (λ room. IsSilent steps)
     → MatchResult answer (IsBlockFor f (class_wanted d class align) (AtRest f c) steps) (λ room. IsSilent steps)
 for_cache f c d class size align steps (Ok block) whole route h = record {
   of_heap = h.of_heap;
   room = h.room;
   placed = h.placed;
-  aligned = ap (λ a. a % align) h.placed.address ∙ routed_slot_aligned size align class h.placed.start h.placed.page whole route h.placed.is_start;
+  aligned = ap (λ a. a % align) h.placed.address ∙ routed_slot_aligned f.classes size align class h.placed.start h.placed.page whole route h.placed.is_start;
   of_region = h.of_region;
   turn = leads_as h.turn (λ v rest. rest.locals) (λ v w rest is. is);
   deeds = leads_as h.deeds (λ v rest. rest.locals) (λ v w rest is. is);
@@ -254,14 +254,28 @@ kind_known : (shared : Bool) (class : ℕ) → IsClass class → IsKind (kind_of
 kind_known true class is = tt
 kind_known false class is = is
 
+kind_among : (shared : Bool) (classes class : ℕ) → class < classes → IsKindAmong classes (kind_of_class shared class)
+kind_among true classes class is = tt
+kind_among false classes class is = is
+
+-- the route by the profile that a desk tells is that in its region
+pub routed : (f told : Profile) (size align : ℕ) (route way : Route) → told ≡ f → route ≡ route_in told size align → route ≡ way → route_in f size align ≡ way
+routed f told size align route way same is at = ap (λ (h : Profile). route_in h size align) (sym same) ∙ sym is ∙ at
+
+-- and so is the room
+pub roomed : (f told : Profile) (size align room : ℕ) → told ≡ f → room ≡ room_in told size align → room_in f size align ≡ room
+roomed f told size align room same is = ap (λ (h : Profile). room_in h size align) (sym same) ∙ sym is
+
 -- the class of a request has its home in the heap
-pub filling_for : (f : Profile) (size align heap class : ℕ) → IsAdmitted f size align heap → route_of size align ≡ Route.Class class → IsFilling f (filling_in (class_home f heap class) class)
+pub filling_for : (f : Profile) (size align heap class : ℕ) → IsAdmitted f size align heap → route_in f size align ≡ Route.Class class → IsFilling f (filling_in (class_home f heap class) class)
 filling_for f size align heap class admitted route =
-    let known : IsClass class = (class_suits size align class route).known in
-    record { directory = record { heap = admitted.of_profile; kind = kind_known (is_shared f heap) class known }; class = known; home = refl; fewer = fewer_slots class }
+    let smallest = class_suits f.classes size align class route in
+    let known : IsClass class = class_known f.classes size align class smallest in
+    let directory : IsDirectoryOf f (class_home f heap class) = record { heap = admitted.of_profile; kind = kind_known (is_shared f heap) class known; class = kind_among (is_shared f heap) f.classes class smallest.known } in
+    record { directory = directory; class = known; home = refl; fewer = fewer_slots class }
 
 -- a request of a class wants pages of the class's home
-wanted_is : (f : Profile) (heap class size align : ℕ) → route_of size align ≡ Route.Class class → class_wanted (class_home f heap class) class align ≡ wanted_for f heap size align
+wanted_is : (f : Profile) (heap class size align : ℕ) → route_in f size align ≡ Route.Class class → class_wanted (class_home f heap class) class align ≡ wanted_for f heap size align
 wanted_is f heap class size align route = ap (λ (r : Route). record { directory = record { heap = heap; kind = kind_of_route (is_shared f heap) r }; route = r; room = room_by r (max size 1); align = align }) (sym route)
 
 -- the directory that the table of heaps tells is that home
@@ -272,7 +286,7 @@ true_refusal : (f : Profile) (d : Directory) (class align : ℕ) (locals : List 
 true_refusal f d class align locals entry exit (Ok block) told = tt
 true_refusal f d class align locals entry exit (Err room) told = record { cached = λ h. told.cached h.0 h.1 h.2; entry_fit = told.entry_fit; exit_fit = told.exit_fit; reason = told.reason }
 
-pub allocates : {σ σ' : Standing} (size align heap class : ℕ) (tells : Bool) (c c' : Cached) (answer : Result Block NoRoom) → IsAdmitted σ.seat.profile size align heap → route_of size align ≡ Route.Class class → c' ≡ record c { locals = c'.locals }
+pub allocates : {σ σ' : Standing} (size align heap class : ℕ) (tells : Bool) (c c' : Cached) (answer : Result Block NoRoom) → IsAdmitted σ.seat.profile size align heap → route_in σ.seat.profile size align ≡ Route.Class class → c' ≡ record c { locals = c'.locals }
     → ServesFrom (filling_in (class_home σ.seat.profile heap class) class) tells c.locals c'.locals σ σ' answer → Allocates (wanted_for σ.seat.profile heap size align) tells c c' σ σ' answer
 allocates {σ} {σ'} size align heap class tells c c' answer admitted route is h =
     let f : Profile = σ.seat.profile in
@@ -288,12 +302,12 @@ allocates {σ} {σ'} size align heap class tells c c' answer admitted route is h
       told = λ t v l stood rest. true_refusal f (class_home f heap class) class align c.locals l _ answer (h.told t v l stood rest.locals);
     })
 
-pub serve_call : {σ : Standing} {c : Cached} {spare : ℕ} → CanCall σ (λ v l. MayAllocate σ.seat.profile c spare v) → CanCall σ (λ v l. MayObtain σ.seat.profile 2 spare c.locals v)
+pub serve_call : {σ : Standing} {c : Cached} {spare : ℕ} → CanCall σ (MayAllocate σ.seat.profile c spare) → CanCall σ (MayObtain σ.seat.profile 2 spare c.locals)
 serve_call can = record { view = can.view; whole = can.whole; stood = can.stood; met = record { rest = can.met.rest.locals; room = can.met.room } }
 
 -- the local allocators of an actor at rest are well formed
 pub formed : (f : Profile) (v : View) (locals : List Slots) → RestsWith f locals v → All IsFormed locals
 formed f v locals h = All-weaker (IsLocal f v) IsFormed (λ t at. record { class = at.class; starts = at.starts }) locals h.known
 
-pub rests_after : {σ σ' : Standing} (fill : Filling) (tells : Bool) (locals locals' : List Slots) (answer : Result Block NoRoom) → (h : ServesFrom fill tells locals locals' σ σ' answer) → (can : CanCall σ (λ v l. RestsWith σ.seat.profile locals v)) → RestsWith σ.seat.profile locals' (h.steps ++ can.view)
+pub rests_after : {σ σ' : Standing} (fill : Filling) (tells : Bool) (locals locals' : List Slots) (answer : Result Block NoRoom) → (h : ServesFrom fill tells locals locals' σ σ' answer) → (can : CanCall σ (RestsWith σ.seat.profile locals)) → RestsWith σ.seat.profile locals' (h.steps ++ can.view)
 rests_after fill tells locals locals' answer h can = h.calls.leads.from can.view can.met (h.calls.adds.agreed can.view can.whole can.stood can.met)

@@ -15,7 +15,7 @@ use Rattle.pas_steps.proofs.Adding.{adds_under}
 use Rattle.pas_steps.proofs.Apart.{only_both, only_within, no_events}
 use Rattle.pas_steps.proofs.Called.{call_none, call_then, next_call}
 use Rattle.pas_steps.proofs.Frames.{events_split}
-use Rattle.pas_segregated.specs.Returns.{giving_back}
+use Rattle.pas_rights.specs.PutsBack.{giving_back}
 use Rattle.pas_segregated.specs.Stops.{home_of, StopStepsAt, MayStopAt, StopsAt}
 use Rattle.pas_segregated.specs.declared.slots.Slots.{Slots}
 use Rattle.pas_cache.specs.Changes.{StopsFirst, StopsEach, IsShortened}
@@ -26,7 +26,7 @@ use Rattle.pas_cache.proofs.Locals.{at_end}
 use Rattle.pas_cache.proofs.Resting.{here, may_stop, rests_stopped, rests_reordered}
 
 -- ---- the one at a place is stopped
-module _ {σ : Standing} {locals : List Slots} {place : ℕ} {slots : Slots} {rest : List Slots} (lt : place < length locals) (at : slots ≡ slice_index_or locals place slots) (is : rest ≡ remove locals place) (can : CanCall σ (λ v l. RestsWith σ.seat.profile locals v)) where
+module _ {σ : Standing} {locals : List Slots} {place : ℕ} {slots : Slots} {rest : List Slots} (lt : place < length locals) (at : slots ≡ slice_index_or locals place slots) (is : rest ≡ remove locals place) (can : CanCall σ (RestsWith σ.seat.profile locals)) where
   first : (v : View) → RestsWith σ.seat.profile locals v → RestsWith σ.seat.profile (slots ∷ rest) v
   first v = rests_reordered σ.seat.profile locals (slots ∷ rest) (subst (λ ys. IsPermutation locals (slots ∷ ys)) (sym is) (IsPermutation-remove locals place slots lt at)) v
 
@@ -36,7 +36,7 @@ module _ {σ : Standing} {locals : List Slots} {place : ℕ} {slots : Slots} {re
   may : (v : View) → RestsWith σ.seat.profile locals v → MayStopAt (home_of slots) slots v
   may v h = may_stop σ.seat.profile slots rest v (first v h)
 
-  pub may_call : CanCall σ (λ v l. MayStopAt (home_of slots) slots v)
+  pub may_call : CanCall σ (MayStopAt (home_of slots) slots)
   may_call = record { view = can.view; whole = can.whole; stood = can.stood; met = may can.view can.met }
 
   pub stops_place : {σ' : Standing} → StopsAt (home_of slots) slots σ σ' → StopsPlace place locals rest σ σ'
@@ -62,7 +62,7 @@ abbrev pub releases_none : {σ : Standing} (Change : List Made → Type 0) (loca
 releases_none Change locals change = record { steps = []; calls = call_none (λ v h. h); change = change; kinds = tt }
 
 -- ---- steps without events leave the room
-pub spare_kept : {σ σ' : Standing} {C : View → Whole → Type 0} {xs : List Made} {spare spare' : ℕ} → Adds σ σ' C xs → CanCall σ C → Only releasing xs
+pub spare_kept : {σ σ' : Standing} {C : View → Type 0} {xs : List Made} {spare spare' : ℕ} → Adds σ σ' C xs → CanCall σ C → Only releasing xs
     → ((v : View) (l : Whole) → σ.stands v l → spare + length (events_of σ.seat.actor v) ≡ σ.seat.room) → ((v : View) (l : Whole) → σ'.stands v l → spare' + length (events_of σ'.seat.actor v) ≡ σ'.seat.room)
     → spare' ≡ spare
 spare_kept {σ} {σ'} {C} {xs} {spare} {spare'} adds can kinds law law' =
@@ -91,7 +91,7 @@ shortens_none (first ∷ rest) other le =
 
 -- ---- one call after another
 module _ {σ σ1 : Standing} {First : List Made → Type 0} (locals kept : List Slots) (one : Releases First locals kept σ σ1) where
-  pub rests_call : CanCall σ (λ v l. RestsWith σ.seat.profile locals v) → CanCall σ1 (λ v l. RestsWith σ1.seat.profile kept v)
+  pub rests_call : CanCall σ (RestsWith σ.seat.profile locals) → CanCall σ1 (RestsWith σ1.seat.profile kept)
   rests_call can = next_call one.calls can (λ v h here. subst (λ (s : Seat). RestsWith s.profile kept (one.steps ++ v)) (sym one.calls.adds.seat_is) here)
 
   pub rests_then : {σ2 : Standing} (rest : List Slots) (ys : List Made) → Rests kept rest σ1 σ2 ys → Rests locals rest σ σ2 (ys ++ one.steps)

@@ -2,8 +2,7 @@
 use Rattle.std.specs.Prelude.{ℕ, ◌+◌, ◌*◌, ◌/◌, ◌^◌, ◌<◌, ◌≤◌, ◌%◌, ◌≡◌, true, ◌⊎◌, List, [], ◌∷◌, ◌++◌, length, Option, Some, Result, Ok, Err, MatchResult}
 use Rattle.std.specs.List.{AllByRecursion}
 use Rattle.pas_profile.specs.Profiles.{IsPage, IsDirectoryOf}
-use Rattle.pas_profile.specs.Requests.{directory_for, is_shared, kind_of_class}
-use Rattle.pas_profile.specs.Routes.{route_of, room_of}
+use Rattle.pas_profile.specs.Requests.{directory_for, is_shared, kind_of_class, route_in, room_in}
 use Rattle.pas_profile.specs.Classes.{IsClass, IsSlotStart, class_size}
 use Rattle.pas_profile.specs.declared.directory.Directory.{Directory}
 use Rattle.pas_profile.specs.declared.directory.Kind.{Kind as TheKind}
@@ -58,7 +57,7 @@ pub record Wanted : Type 0 where
   pub align : ℕ
 
 abbrev pub wanted_for : Profile → ℕ → ℕ → ℕ → Wanted
-wanted_for f heap size align = record { directory = directory_for f heap size align; route = route_of size align; room = room_of size align; align = align }
+wanted_for f heap size align = record { directory = directory_for f heap size align; route = route_in f size align; room = room_in f size align; align = align }
 
 -- that of a class, in pages of this directory
 abbrev pub class_wanted : Directory → ℕ → ℕ → Wanted

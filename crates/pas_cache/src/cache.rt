@@ -80,7 +80,7 @@ impl ThreadCache {
 
     /// Reads the epoch, from which on the thread counts as idle until it begins again. One step.
     pub fn begin<D: Desk>(&mut self, desk: &mut D)
-        requires can { CanCall (D.standing desk.old) (λ v l. AtRest (D.standing desk.old).seat.profile (cached self.old) v) }
+        requires can { CanCall (D.standing desk.old) (AtRest (D.standing desk.old).seat.profile (cached self.old)) }
         ensures begins { Begins (cached self.old) (cached self.new) (D.standing desk.old) (D.standing desk.new) }
         ensures actor { seat_of self.new ≡ seat_of self.old }
         ensures home { D.home desk.new ≡ D.home desk.old }

@@ -29,7 +29,7 @@ fn check(profile: &Profile, name: Name) -> Result<(), FreeFault>
 /// Flushes the log where it is full.
 fn make_room<D: Desk>(desk: &mut D, log: &mut FreeLog, noted: &mut ArrayVec<EndedRun, MOST_LOGGED>)
     requires room { 64 ≤ length (entries_in log.old) → length (entries_in log.old) ≤ D.spare_of desk.old }
-    requires can { CanCall (D.standing desk.old) (λ v l. MayFlush (D.standing desk.old).seat.profile (entries_in log.old) v) }
+    requires can { CanCall (D.standing desk.old) (MayFlush (D.standing desk.old).seat.profile (entries_in log.old)) }
     ensures empties { EmptiesWhere (nat_le 64 (length (entries_in log.old))) (entries_in log.old) (entries_in log.new) noted.old.items noted.new.items (D.standing desk.old) (D.standing desk.new) }
     ensures left { length (entries_in log.new) < 64 }
     ensures home { D.home desk.new ≡ D.home desk.old }
@@ -47,7 +47,7 @@ fn log_entry<D: Desk>(
     entry: Entry,
 )
     requires room { 64 ≤ length (entries_in log.old) → length (entries_in log.old) ≤ D.spare_of desk.old }
-    requires can { CanCall (D.standing desk.old) (λ v l. MayFlush (D.standing desk.old).seat.profile (entries_in log.old) v) }
+    requires can { CanCall (D.standing desk.old) (MayFlush (D.standing desk.old).seat.profile (entries_in log.old)) }
     ensures logs { LogsInto (entries_in log.old) (entries_in log.new) noted.old.items noted.new.items entry (D.standing desk.old) (D.standing desk.new) }
     ensures home { D.home desk.new ≡ D.home desk.old }
 {
@@ -70,7 +70,7 @@ impl ThreadCache {
     pub fn free<D: Desk>(&mut self, desk: &mut D, name: Name) -> Result<(), FreeFault>
         requires turn { name.turn < 2 ^ 40 - 1 }
         requires room { length (cached self.old).log ≡ 64 → 64 ≤ D.spare_of desk.old }
-        requires can { CanCall (D.standing desk.old) (λ v l. AtRest (D.standing desk.old).seat.profile (cached self.old) v) }
+        requires can { CanCall (D.standing desk.old) (AtRest (D.standing desk.old).seat.profile (cached self.old)) }
         ensures frees { Frees (entry_of name) (cached self.old) (cached self.new) (D.standing desk.old) (D.standing desk.new) result }
         ensures actor { seat_of self.new ≡ seat_of self.old }
         ensures home { D.home desk.new ≡ D.home desk.old }
@@ -88,7 +88,7 @@ impl ThreadCache {
         requires turn { name.turn < 2 ^ 40 - 1 }
         requires size { (room % 16 ≡ 0) × (16 ≤ room) × (room ≤ 4096 * (D.standing desk.old).seat.profile.pages) }
         requires room { length (cached self.old).log ≡ 64 → 64 ≤ D.spare_of desk.old }
-        requires can { CanCall (D.standing desk.old) (λ v l. AtRest (D.standing desk.old).seat.profile (cached self.old) v) }
+        requires can { CanCall (D.standing desk.old) (AtRest (D.standing desk.old).seat.profile (cached self.old)) }
         ensures frees { Frees (sized_entry name room) (cached self.old) (cached self.new) (D.standing desk.old) (D.standing desk.new) result }
         ensures actor { seat_of self.new ≡ seat_of self.old }
         ensures home { D.home desk.new ≡ D.home desk.old }
@@ -100,7 +100,7 @@ impl ThreadCache {
         requires turn { entry.name.turn < 2 ^ 40 - 1 }
         requires size { (entry.room % 16 ≡ 0) × (entry.room ≤ 4096 * (D.standing desk.old).seat.profile.pages) }
         requires room { length (cached self.old).log ≡ 64 → 64 ≤ D.spare_of desk.old }
-        requires can { CanCall (D.standing desk.old) (λ v l. AtRest (D.standing desk.old).seat.profile (cached self.old) v) }
+        requires can { CanCall (D.standing desk.old) (AtRest (D.standing desk.old).seat.profile (cached self.old)) }
         ensures frees { Frees entry (cached self.old) (cached self.new) (D.standing desk.old) (D.standing desk.new) result }
         ensures actor { seat_of self.new ≡ seat_of self.old }
         ensures home { D.home desk.new ≡ D.home desk.old }
@@ -119,7 +119,7 @@ impl ThreadCache {
     /// step, and at most three for each name and fourteen for each page of its block.
     pub fn flush<D: Desk>(&mut self, desk: &mut D)
         requires room { length (cached self.old).log ≤ D.spare_of desk.old }
-        requires can { CanCall (D.standing desk.old) (λ v l. AtRest (D.standing desk.old).seat.profile (cached self.old) v) }
+        requires can { CanCall (D.standing desk.old) (AtRest (D.standing desk.old).seat.profile (cached self.old)) }
         ensures flushes { FlushesLog (cached self.old) (cached self.new) (D.standing desk.old) (D.standing desk.new) }
         ensures spare { D.spare_of desk.new + length (cached self.old).log ≡ D.spare_of desk.old }
         ensures actor { seat_of self.new ≡ seat_of self.old }

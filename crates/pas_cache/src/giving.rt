@@ -4,9 +4,10 @@ ghost use Rattle.pas_steps.specs.Desks.{CanCall};
 ghost use Rattle.pas_bits.specs.Masks.{HasMember};
 ghost use Rattle.pas_cache.specs.Parts.{MayGiveSlot, GivesLowest};
 
+use pas_profile::Block;
 use pas_profile::classes::class_size;
-use pas_profile::limits::{GRAIN_BYTES, PAGE_BYTES};
-use pas_profile::{Address, Block, Name, Word, read_life};
+use pas_profile::limits::GRAIN_BYTES;
+use pas_rights::give;
 use pas_segregated::Slots;
 use pas_steps::Desk;
 
@@ -14,7 +15,7 @@ use pas_steps::Desk;
 #[inline(always)]
 pub fn give_lowest<D: Desk>(desk: &mut D, slots: &mut Slots) -> Block
     requires some { HasMember slots.old.starts }
-    requires can { CanCall (D.standing desk.old) (λ v l. MayGiveSlot (D.standing desk.old).seat.profile slots.old v) }
+    requires can { CanCall (D.standing desk.old) (MayGiveSlot (D.standing desk.old).seat.profile slots.old) }
     requires room { 1 ≤ D.spare_of desk.old }
     ensures gives { GivesLowest slots.old slots.new result (D.standing desk.old) (D.standing desk.new) }
     ensures home { D.home desk.new ≡ D.home desk.old }
@@ -22,16 +23,8 @@ pub fn give_lowest<D: Desk>(desk: &mut D, slots: &mut Slots) -> Block
     let Some(start) = slots.starts.first_set_from(0) else {
         unreachable!();
     };
-    let (turn, _, _) = read_life(desk.look(Word::Life(slots.page, start)));
-    let block = Block {
-        name: Name {
-            address: Address(slots.page * PAGE_BYTES + start as u32 * GRAIN_BYTES),
-            turn,
-        },
-        room: class_size(slots.class),
-        heap: slots.heap,
-    };
-    desk.give(block);
+    let grains = class_size(slots.class) / GRAIN_BYTES;
+    let block = give(desk, slots.heap, slots.page, start, grains);
     slots.starts.clear(start);
     block
 }

@@ -31,7 +31,7 @@ pub fn give_up<D: Desk>(desk: &mut D, slots: Slots)
     requires directory { IsDirectoryOf (D.standing desk.old).seat.profile (home_of slots) }
     requires class { IsClass slots.class }
     requires starts { AreStarts slots.class slots.starts }
-    requires can { CanCall (D.standing desk.old) (λ v l. MayStopAt (home_of slots) slots v) }
+    requires can { CanCall (D.standing desk.old) (MayStopAt (home_of slots) slots) }
     ensures stops { StopsAt (home_of slots) slots (D.standing desk.old) (D.standing desk.new) }
     ensures home { D.home desk.new ≡ D.home desk.old }
 {

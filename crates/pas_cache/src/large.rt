@@ -10,7 +10,7 @@ use pas_steps::Desk;
 impl ThreadCache {
     ghost use Rattle.std.specs.Prelude.{◌≡◌, ◌<◌, ◌+◌, ◌-◌, ◌/◌, ℕ, Option, []};
     ghost use Rattle.pas_profile.specs.Classes.{IsAlignment};
-    ghost use Rattle.pas_profile.specs.Routes.{route_of};
+    ghost use Rattle.pas_profile.specs.Requests.{route_in};
     ghost use Rattle.pas_profile.specs.declared.directory.Route.TheVariants as TheRoute;
     ghost use Rattle.pas_steps.specs.Desks.{CanCall};
     ghost use Rattle.pas_cache.specs.Serves.{wanted_for};
@@ -33,9 +33,9 @@ impl ThreadCache {
     ) -> Result<Block, NoRoom>
         requires heap { heap < (D.standing desk.old).seat.profile.heaps }
         requires size { 2048 < size }
-        requires can { CanCall (D.standing desk.old) (λ v l. MayAllocatePages (D.standing desk.old).seat.profile (cached self.old) ((size + 4096 - 1) / 4096) (D.spare_of desk.old) v) }
+        requires can { CanCall (D.standing desk.old) (MayAllocatePages (D.standing desk.old).seat.profile (cached self.old) ((size + 4096 - 1) / 4096) (D.spare_of desk.old)) }
         ensures allocates { (found : Option ℕ) × O.answers door.old door.new heap ((size + 4096 - 1) / 4096) found
-            × ((align : ℕ) → IsAlignment align → route_of size align ≡ TheRoute.Large → AllocatesPages (wanted_for (D.standing desk.old).seat.profile heap size align) found D.tells (cached self.old) (cached self.new) (D.standing desk.old) (D.standing desk.new) result) }
+            × ((align : ℕ) → IsAlignment align → route_in (D.standing desk.old).seat.profile size align ≡ TheRoute.Large → AllocatesPages (wanted_for (D.standing desk.old).seat.profile heap size align) found D.tells (cached self.old) (cached self.new) (D.standing desk.old) (D.standing desk.new) result) }
         ensures actor { seat_of self.new ≡ seat_of self.old }
         ensures home { D.home desk.new ≡ D.home desk.old }
     {

@@ -17,7 +17,7 @@ use pas_steps::Desk;
 
 /// Stops the local allocator that was used longest ago where 32 are there. At most 23 steps, and no event.
 fn shorten<D: Desk>(desk: &mut D, locals: &mut ArrayVec<Slots, MOST_LOCALS>)
-    requires can { CanCall (D.standing desk.old) (λ v l. RestsWith (D.standing desk.old).seat.profile locals.old.items v) }
+    requires can { CanCall (D.standing desk.old) (RestsWith (D.standing desk.old).seat.profile locals.old.items) }
     ensures shortens { Releases (IsShortened locals.old.items locals.new.items) locals.old.items locals.new.items (D.standing desk.old) (D.standing desk.new) }
     ensures few { length locals.new.items < 32 }
     ensures spare { D.spare_of desk.new ≡ D.spare_of desk.old }
@@ -36,7 +36,7 @@ fn leave_spent<D: Desk>(
     class: u8,
 )
     requires none { HasNoneCached heap class locals.old.items }
-    requires can { CanCall (D.standing desk.old) (λ v l. RestsWith (D.standing desk.old).seat.profile locals.old.items v) }
+    requires can { CanCall (D.standing desk.old) (RestsWith (D.standing desk.old).seat.profile locals.old.items) }
     ensures leaves { Releases (IsTakenOut heap class locals.old.items locals.new.items) locals.old.items locals.new.items (D.standing desk.old) (D.standing desk.new) }
     ensures spare { D.spare_of desk.new ≡ D.spare_of desk.old }
     ensures home { D.home desk.new ≡ D.home desk.old }
@@ -50,7 +50,7 @@ fn leave_spent<D: Desk>(
 /// ago is stopped where 32 are there. At most 46 steps, and no event.
 fn make_place<D: Desk>(desk: &mut D, locals: &mut ArrayVec<Slots, MOST_LOCALS>, heap: u8, class: u8)
     requires none { HasNoneCached heap class locals.old.items }
-    requires can { CanCall (D.standing desk.old) (λ v l. RestsWith (D.standing desk.old).seat.profile locals.old.items v) }
+    requires can { CanCall (D.standing desk.old) (RestsWith (D.standing desk.old).seat.profile locals.old.items) }
     ensures makes { Releases (MakesPlace heap class locals.old.items locals.new.items) locals.old.items locals.new.items (D.standing desk.old) (D.standing desk.new) }
     ensures none { local_for heap class locals.new.items ≡ None }
     ensures few { length locals.new.items < 32 }
@@ -71,7 +71,7 @@ fn fetch<D: Desk>(
 ) -> Result<(), NoRoom>
     requires filling { IsFilling (D.standing desk.old).seat.profile (filling_in home class) }
     requires none { HasNoneCached home.heap class locals.old.items }
-    requires can { CanCall (D.standing desk.old) (λ v l. MayObtain (D.standing desk.old).seat.profile 1 (D.spare_of desk.old) locals.old.items v) }
+    requires can { CanCall (D.standing desk.old) (MayObtain (D.standing desk.old).seat.profile 1 (D.spare_of desk.old) locals.old.items) }
     ensures obtains { MatchResult result
         (λ done. StandsLast (filling_in home class) D.tells locals.old.items locals.new.items (D.standing desk.old) (D.standing desk.new))
         (λ room. Obtains (filling_in home class) D.tells locals.old.items locals.new.items (D.standing desk.old) (D.standing desk.new) (Err room)) }
@@ -96,7 +96,7 @@ pub fn obtain<D: Desk>(
     class: u8,
 ) -> Result<(), NoRoom>
     requires filling { IsFilling (D.standing desk.old).seat.profile (filling_in home class) }
-    requires can { CanCall (D.standing desk.old) (λ v l. MayObtain (D.standing desk.old).seat.profile 1 (D.spare_of desk.old) locals.old.items v) }
+    requires can { CanCall (D.standing desk.old) (MayObtain (D.standing desk.old).seat.profile 1 (D.spare_of desk.old) locals.old.items) }
     ensures obtains { MatchResult result
         (λ done. StandsLast (filling_in home class) D.tells locals.old.items locals.new.items (D.standing desk.old) (D.standing desk.new))
         (λ room. Obtains (filling_in home class) D.tells locals.old.items locals.new.items (D.standing desk.old) (D.standing desk.new) (Err room)) }

@@ -13,7 +13,7 @@ use pas_steps::Desk;
 /// page. At most one event where the deed of each page is known, and two otherwise.
 pub fn refill<D: Desk>(desk: &mut D, home: Directory, class: u8) -> Result<Slots, NoRoom>
     requires filling { IsFilling (D.standing desk.old).seat.profile (filling_in home class) }
-    requires can { CanCall (D.standing desk.old) (λ v l. SearchRoom (D.standing desk.old).seat.profile home 1 (D.spare_of desk.old) v) }
+    requires can { CanCall (D.standing desk.old) (SearchRoom (D.standing desk.old).seat.profile home 1 (D.spare_of desk.old)) }
     ensures refills { Refills (filling_in home class) D.tells (D.standing desk.old) (D.standing desk.new) result }
     ensures home { D.home desk.new ≡ D.home desk.old }
 {

@@ -10,7 +10,7 @@ use crate::obtaining::obtain;
 use arrayvec::ArrayVec;
 use pas_heap::HeapTable;
 use pas_profile::limits::MOST_LOCALS;
-use pas_profile::{Block, Directory, NoRoom, Route, room_for, route};
+use pas_profile::{Block, Directory, NoRoom, Route};
 use pas_segregated::Slots;
 use pas_steps::Desk;
 
@@ -23,7 +23,7 @@ fn serve<D: Desk>(
     class: u8,
 ) -> Result<Block, NoRoom>
     requires filling { IsFilling (D.standing desk.old).seat.profile (filling_in home class) }
-    requires can { CanCall (D.standing desk.old) (λ v l. MayObtain (D.standing desk.old).seat.profile 2 (D.spare_of desk.old) locals.old.items v) }
+    requires can { CanCall (D.standing desk.old) (MayObtain (D.standing desk.old).seat.profile 2 (D.spare_of desk.old) locals.old.items) }
     ensures serves { ServesFrom (filling_in home class) D.tells locals.old.items locals.new.items (D.standing desk.old) (D.standing desk.new) result }
     ensures home { D.home desk.new ≡ D.home desk.old }
 {
@@ -39,7 +39,7 @@ fn serve<D: Desk>(
 impl ThreadCache {
     ghost use Rattle.std.specs.Prelude.{◌≡◌};
     ghost use Rattle.pas_profile.specs.Profiles.{IsAdmitted};
-    ghost use Rattle.pas_profile.specs.Routes.{route_of};
+    ghost use Rattle.pas_profile.specs.Requests.{route_in};
     ghost use Rattle.pas_cache.specs.Serves.{IsSmallRoute, wanted_for};
     ghost use Rattle.pas_cache.specs.Caches.{cached, seat_of};
     ghost use Rattle.pas_cache.specs.Calls.{MayAllocate, Allocates};
@@ -63,18 +63,21 @@ impl ThreadCache {
         align: u32,
     ) -> Result<Block, NoRoom>
         requires admitted { IsAdmitted (D.standing desk.old).seat.profile size align heap }
-        requires route { IsSmallRoute (route_of size align) }
-        requires can { CanCall (D.standing desk.old) (λ v l. MayAllocate (D.standing desk.old).seat.profile (cached self.old) (D.spare_of desk.old) v) }
+        requires route { IsSmallRoute (route_in (D.standing desk.old).seat.profile size align) }
+        requires can { CanCall (D.standing desk.old) (MayAllocate (D.standing desk.old).seat.profile (cached self.old) (D.spare_of desk.old)) }
         ensures allocates { Allocates (wanted_for (D.standing desk.old).seat.profile heap size align) D.tells (cached self.old) (cached self.new) (D.standing desk.old) (D.standing desk.new) result }
         ensures actor { seat_of self.new ≡ seat_of self.old }
         ensures home { D.home desk.new ≡ D.home desk.old }
     {
-        match route(size, align) {
+        match desk.profile().route(size, align) {
             Route::Class(class) => {
                 let kind = HeapTable::new(desk.profile()).kind_for(heap, class);
                 serve(desk, &mut self.locals, Directory { heap, kind }, class)
             }
-            Route::Bitfit => pas_bitfit::alloc(desk, heap, room_for(size, align), align),
+            Route::Bitfit => {
+                let room = desk.profile().room_for(size, align);
+                pas_bitfit::alloc(desk, heap, room, align)
+            }
             Route::Large => unreachable!(),
         }
     }

@@ -72,7 +72,7 @@ name_first : (name : Name) (rest : List ℕ) → FitsName name → is_line (name
 name_first name rest fits = hex_first 8 (address_of name) (codes " turn " ++ (decimal name.turn ++ rest)) ∙ number_first name.turn rest fits.turn
 
 kind_first : (kind : Kind) → IsKind kind → is_line (kind_text kind ++ codes "\n") ≡ true
-kind_first (Kind.Class class) h = let small = size_fits class h in number_first (class_size class) (codes "\n") (omega (arith, small))
+kind_first (Kind.Class class) h = let small = size_fits class in number_first (class_size class) (codes "\n") (omega (arith, small))
 kind_first Kind.Bitfit h = refl
 kind_first Kind.Shared h = refl
 kind_first Kind.Large h = refl

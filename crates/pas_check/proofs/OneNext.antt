@@ -27,7 +27,7 @@ same_record : (line : List ℕ) (r q : Record) → Fits r → Fits q → line �
 same_record line r q fits fits' a b = one_line r q fits fits' (sym a ∙ b)
 
 small_page : (f : Profile) (page : ℕ) → IsValid f → IsPage f page → page < 2 ^ 32
-small_page f page valid is = let last : page ≤ f.pages = is.1 in let most : f.pages ≤ 4096 = valid.pages in omega (arith, last, most)
+small_page f page valid is = let last : page ≤ f.pages = is.1 in let most : f.pages ≤ 16384 = valid.pages in omega (arith, last, most)
 
 -- a page with a deed is one of the region
 deed_page : (f : Profile) (es : List Event) → Run f es → (page : ℕ) (d : Directory) → deed_in es page ≡ Some d → IsPage f page
@@ -63,7 +63,7 @@ module _ (f : Profile) (s : Stand) (small : IsSmall f s) (k : ℕ) (r : Request)
       let grains : 0 < length_of block = omega (arith, some, whole) in
       let page : IsPage f (grain_of block.name / 256) = (may.bears (grain_of block.name) (has_first (grain_of block.name) (length_of block) grains)).exists in
       let last : address_of block.name / 16 / 256 ≤ f.pages = page.1 in
-      let most : f.pages ≤ 4096 = small.valid.pages in
+      let most : f.pages ≤ 16384 = small.valid.pages in
       let few = small.gives (address_of block.name) in
       let turn = may.turn in
       let room : block.room ≡ _ = is.room in

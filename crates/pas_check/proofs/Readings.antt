@@ -1,11 +1,12 @@
 -- THE LINE of a record is read as that record. So no two records whose numbers fit have one line.
-use Rattle.std.proofs.Common.{◌≡◌, ℕ, zero, suc, ◌+◌, ◌-◌, ◌^◌, ◌<◌, ◌==◌, true, false, List, [], ◌∷◌, ◌++◌, length, drop, codes, refl, ap, sym, ◌∙◌, arith}
+use Rattle.std.proofs.Common.{◌≡◌, ℕ, zero, suc, ◌+◌, ◌-◌, ◌^◌, ◌<◌, ◌==◌, Bool, true, false, List, [], ◌∷◌, ◌++◌, length, drop, codes, refl, ap, sym, ◌∙◌, arith}
 use Rattle.std.specs.Fmt.{decimal}
-use Rattle.pas_profile.specs.Classes.{class_size}
+use Rattle.pas_profile.specs.Classes.{IsClass, class_size}
 use Rattle.pas_profile.specs.Requests.{kind_of_route}
 use Rattle.pas_profile.specs.Routes.{route_of}
+use Rattle.pas_profile.proofs.Sizes.{class_passes, class_size_le}
 use Rattle.pas_profile.specs.Directories.{IsKind}
-use Rattle.std.proofs.lemmas.Bool.{and_parts}
+use Rattle.std.proofs.lemmas.Bool.{and_parts, eqb-true, false≢true}
 use Rattle.std.proofs.lemmas.Bool.Decides.{nat_tests}
 use Rattle.pas_trace.specs.Numbers.{is_digit, all_digits}
 use Rattle.pas_generated.proofs.Digits.{are-digits}
@@ -34,46 +35,27 @@ past_is : (name : Name) (end : ℕ) (rest : List ℕ) → FitsName name → is_d
 past_is name end rest fits stops = past_number name.turn end rest fits.turn stops
 
 -- ---- kinds
-pub size_fits : (class : ℕ) → class < 16 → class_size class < 2 ^ 32
-size_fits zero h = omega arith
-size_fits (suc zero) h = omega arith
-size_fits (suc (suc zero)) h = omega arith
-size_fits (suc (suc (suc zero))) h = omega arith
-size_fits (suc (suc (suc (suc zero)))) h = omega arith
-size_fits (suc (suc (suc (suc (suc zero))))) h = omega arith
-size_fits (suc (suc (suc (suc (suc (suc zero)))))) h = omega arith
-size_fits (suc (suc (suc (suc (suc (suc (suc zero))))))) h = omega arith
-size_fits (suc (suc (suc (suc (suc (suc (suc (suc zero)))))))) h = omega arith
-size_fits (suc (suc (suc (suc (suc (suc (suc (suc (suc zero))))))))) h = omega arith
-size_fits (suc (suc (suc (suc (suc (suc (suc (suc (suc (suc zero)))))))))) h = omega arith
-size_fits (suc (suc (suc (suc (suc (suc (suc (suc (suc (suc (suc zero))))))))))) h = omega arith
-size_fits (suc (suc (suc (suc (suc (suc (suc (suc (suc (suc (suc (suc zero)))))))))))) h = omega arith
-size_fits (suc (suc (suc (suc (suc (suc (suc (suc (suc (suc (suc (suc (suc zero))))))))))))) h = omega arith
-size_fits (suc (suc (suc (suc (suc (suc (suc (suc (suc (suc (suc (suc (suc (suc zero)))))))))))))) h = omega arith
-size_fits (suc (suc (suc (suc (suc (suc (suc (suc (suc (suc (suc (suc (suc (suc (suc zero))))))))))))))) h = omega arith
-size_fits (suc (suc (suc (suc (suc (suc (suc (suc (suc (suc (suc (suc (suc (suc (suc (suc n)))))))))))))))) h = absurd (omega (arith, h))
+pub size_fits : (class : ℕ) → class_size class < 2 ^ 32
+size_fits class = omega (arith, class_size_le class)
 
-class_is : (class : ℕ) → class < 16 → kind_of_route false (route_of (class_size class) 16) ≡ Kind.Class class
-class_is zero h = refl
-class_is (suc zero) h = refl
-class_is (suc (suc zero)) h = refl
-class_is (suc (suc (suc zero))) h = refl
-class_is (suc (suc (suc (suc zero)))) h = refl
-class_is (suc (suc (suc (suc (suc zero))))) h = refl
-class_is (suc (suc (suc (suc (suc (suc zero)))))) h = refl
-class_is (suc (suc (suc (suc (suc (suc (suc zero))))))) h = refl
-class_is (suc (suc (suc (suc (suc (suc (suc (suc zero)))))))) h = refl
-class_is (suc (suc (suc (suc (suc (suc (suc (suc (suc zero))))))))) h = refl
-class_is (suc (suc (suc (suc (suc (suc (suc (suc (suc (suc zero)))))))))) h = refl
-class_is (suc (suc (suc (suc (suc (suc (suc (suc (suc (suc (suc zero))))))))))) h = refl
-class_is (suc (suc (suc (suc (suc (suc (suc (suc (suc (suc (suc (suc zero)))))))))))) h = refl
-class_is (suc (suc (suc (suc (suc (suc (suc (suc (suc (suc (suc (suc (suc zero))))))))))))) h = refl
-class_is (suc (suc (suc (suc (suc (suc (suc (suc (suc (suc (suc (suc (suc (suc zero)))))))))))))) h = refl
-class_is (suc (suc (suc (suc (suc (suc (suc (suc (suc (suc (suc (suc (suc (suc (suc zero))))))))))))))) h = refl
-class_is (suc (suc (suc (suc (suc (suc (suc (suc (suc (suc (suc (suc (suc (suc (suc (suc n)))))))))))))))) h = absurd (omega (arith, h))
+abbrev is_of_class : Kind → ℕ → Bool
+is_of_class (Kind.Class c) class = c == class
+is_of_class Kind.Bitfit class = false
+is_of_class Kind.Shared class = false
+is_of_class Kind.Large class = false
+
+of_class : (kind : Kind) (class : ℕ) → is_of_class kind class ≡ true → kind ≡ Kind.Class class
+of_class (Kind.Class c) class e = ap (λ n. Kind.Class n) (eqb-true c class e)
+of_class Kind.Bitfit class e = absurd (false≢true e)
+of_class Kind.Shared class e = absurd (false≢true e)
+of_class Kind.Large class e = absurd (false≢true e)
+
+-- the size of a class names it
+class_is : (class : ℕ) → IsClass class → kind_of_route false (route_of 20 (class_size class) 16) ≡ Kind.Class class
+class_is class is = of_class _ class (class_passes (λ c. is_of_class (kind_of_route false (route_of 20 (class_size c) 16)) c) refl class is)
 
 kind_is : (kind : Kind) → IsKind kind → kind_at (codes " " ++ (kind_text kind ++ codes "\n")) ≡ kind
-kind_is (Kind.Class class) h = ap (λ n. kind_of_route false (route_of n 16)) (u32_back (class_size class) 10 [] (size_fits class h) refl) ∙ class_is class h
+kind_is (Kind.Class class) h = ap (λ n. kind_of_route false (route_of 20 n 16)) (u32_back (class_size class) 10 [] (size_fits class) refl) ∙ class_is class h
 kind_is Kind.Bitfit h = refl
 kind_is Kind.Shared h = refl
 kind_is Kind.Large h = refl

@@ -97,12 +97,12 @@ fits_preparing : (f : Profile) (es : List Event) (k : ℕ) (d : Directory) (e : 
 fits_preparing f es k d e valid few heap kind (inl is) admitted =
     let here : IsPage f is.0 × (d.heap < f.heaps) × (deed_in es is.0 ≡ None) = subst (Admits f es) is.1 admitted in
     let last : is.0 ≤ f.pages = here.0.1 in
-    let most : f.pages ≤ 4096 = valid.pages in
+    let most : f.pages ≤ 16384 = valid.pages in
     subst FitsEvent (sym is.1) (few, omega (arith, last, most), heap, kind)
 fits_preparing f es k d e valid few heap kind (inr is) admitted =
     let here : IsPage f is.0 × (deed_in es is.0 ≢ None) × (backed_in es is.0 ≡ false) = subst (Admits f es) is.1 admitted in
     let last : is.0 ≤ f.pages = here.0.1 in
-    let most : f.pages ≤ 4096 = valid.pages in
+    let most : f.pages ≤ 16384 = valid.pages in
     subst FitsEvent (sym is.1) (few, omega (arith, last, most))
 
 module _ (k : ℕ) (d : Directory) (few : k < 2 ^ 8) (heap : d.heap < 2 ^ 8) (kind : IsKind d.kind) (line : List ℕ) (old : Machine) (valid : IsValid (profile_of old)) where

@@ -2,7 +2,7 @@
 use Rattle.std.specs.Prelude.{ℕ, ◌^◌, ◌<◌, List, [], ◌∷◌}
 use Rattle.pas_profile.specs.Directories.{IsKind}
 use Rattle.pas_profile.specs.Profiles.{IsValid}
-use Rattle.pas_profile.specs.Routes.{room_of}
+use Rattle.pas_profile.specs.Requests.{room_in}
 use Rattle.pas_profile.specs.declared.profile.Profile.{Profile}
 use Rattle.pas_machine.specs.Machine.{Run}
 use Rattle.pas_machine.specs.State.{gives_in, epoch_in}
@@ -15,7 +15,7 @@ pub record FitsRequest (f : Profile) (k : ℕ) (r : Request) : Type 0 where
   pub name : r.name < 2 ^ 32
   pub heap : r.heap < 2 ^ 8
   pub kind : IsKind (directory_of f r).kind
-  pub room : room_of r.size r.align < 2 ^ 32
+  pub room : room_in f r.size r.align < 2 ^ 32
 
 -- what is due first
 abbrev pub FitsFirst : Profile → List Due → Type 0

@@ -52,9 +52,9 @@ name_at bs = record { address = record { 0 = hex_after 8 0 (drop 3 bs) }; turn =
 abbrev pub past_name : List ℕ → List ℕ
 past_name bs = past_digits (drop 17 bs)
 
--- ` class 32`, or the first letter of another kind
+-- ` class 32`, of any class, or the first letter of another kind
 abbrev pub kind_at : List ℕ → Kind
-kind_at bs = if byte_at 1 bs == 99 then kind_of_route false (route_of (of_u32 (drop 7 bs)) 16)
+kind_at bs = if byte_at 1 bs == 99 then kind_of_route false (route_of 20 (of_u32 (drop 7 bs)) 16)
     else (if byte_at 1 bs == 98 then Kind.Bitfit else (if byte_at 1 bs == 115 then Kind.Shared else Kind.Large))
 
 -- ---- records, by what stands behind the actor

@@ -9,8 +9,7 @@ use Rattle.pas_profile.specs.declared.name.Name.{Name}
 use Rattle.pas_profile.specs.declared.name.Block.{Block}
 use Rattle.pas_profile.specs.declared.profile.Profile.{Profile}
 use Rattle.pas_profile.specs.Profiles.{IsPage}
-use Rattle.pas_profile.specs.Requests.{directory_for}
-use Rattle.pas_profile.specs.Routes.{room_of}
+use Rattle.pas_profile.specs.Requests.{room_in, directory_for}
 use Rattle.pas_profile.specs.Runs.{in_run, address_of, grain_of, length_of}
 use Rattle.pas_machine.specs.Machine.{Admits, IsReason}
 use Rattle.pas_machine.specs.State.{deed_in, backed_in, epoch_in}
@@ -63,7 +62,7 @@ pub record TakesPreparing (f : Profile) (s : Stand) (k : ℕ) (r : Request) (lin
 -- The block has the request's heap and room, stands at a multiple of its alignment, and each page of its run has a deed of the request's directory.
 pub record IsFor (f : Profile) (s : Stand) (r : Request) (block : Block) : Type 0 where
   pub heap : block.heap ≡ r.heap
-  pub room : block.room ≡ room_of r.size r.align
+  pub room : block.room ≡ room_in f r.size r.align
   pub aligned : address_of block.name % r.align ≡ 0
   pub deeds : (x : ℕ) → in_run (grain_of block.name) (length_of block) x ≡ true → deed_in s.events (x / 256) ≡ Some (directory_of f r)
 

@@ -34,6 +34,7 @@ ghost use Rattle.pas_check.specs.Readings.{
 };
 
 use crate::numbers::{byte, hex8, hex16, number, number8, number32, past_digits, skip};
+use pas_profile::limits::MOST_CLASSES;
 use pas_profile::{Address, Block, Directory, Event, Kind, Name, Route, Why, route};
 use pas_report::{Record, Said, record_line};
 
@@ -56,9 +57,9 @@ fn past_name(text: &[u8]) -> &[u8]
 
 /// The kind whose number of bytes is that of a class.
 fn kind_of_size(size: u32) -> Kind
-    ensures { result ≡ kind_of_route false (route_of size 16) }
+    ensures { result ≡ kind_of_route false (route_of 20 size 16) }
 {
-    match route(size, 16) {
+    match route(MOST_CLASSES, size, 16) {
         Route::Class(class) => Kind::Class(class),
         Route::Bitfit => Kind::Bitfit,
         Route::Large => Kind::Large,
@@ -335,7 +336,7 @@ fn can_show(item: &Record) -> bool
 {
     match *item {
         Record::Event(Event::Deed { directory, .. }) => match directory.kind {
-            Kind::Class(class) => class < 16,
+            Kind::Class(class) => class < MOST_CLASSES,
             _ => true,
         },
         _ => true,

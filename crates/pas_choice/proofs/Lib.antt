@@ -1,4 +1,2 @@
-pub mod FourLooks
-pub mod WordTakes
 pub mod Parts
-pub mod Found
+pub mod Allocated

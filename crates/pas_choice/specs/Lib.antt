@@ -1,3 +1,2 @@
 pub mod Choices
-pub mod Reads
-pub mod Takes
+pub mod Allocates

@@ -6,10 +6,9 @@ ghost use Rattle.pas_search.specs.Serving.{MayServe, ServesPage};
 ghost use Rattle.pas_choice.specs.Choices.{choosing};
 
 use crate::choosing::Choosing;
-use crate::reading::read_page;
-use crate::taking::take_mask;
 use pas_profile::Directory;
-use pas_rights::leave;
+use pas_rights::{leave, read, take};
+use pas_search::Serving;
 use pas_steps::Desk;
 
 /// Serves a request from a page whose right the actor just got, if something of its free grains fits: the body of a back end's `serve`.
@@ -25,17 +24,35 @@ pub fn serve_chosen<C: Choosing, D: Desk>(
     requires page { IsPage (D.standing desk.old).seat.profile page }
     requires directory { IsDirectoryOf (D.standing desk.old).seat.profile directory }
     requires suits { (choosing (C.choice choice.now)).suits directory }
-    requires can { CanCall (D.standing desk.old) (λ v l. MayServe page directory v) }
+    requires can { CanCall (D.standing desk.old) (MayServe page directory) }
     requires room { 1 ≤ D.spare_of desk.old }
     ensures serves { ServesPage (choosing (C.choice choice.now)) page directory (D.standing desk.old) (D.standing desk.new) result }
     ensures home { D.home desk.new ≡ D.home desk.old }
 {
-    let free = read_page(desk, page);
+    let free = read(desk, page);
     let Some(chosen) = choice.choose(&free) else {
         leave(desk, page, directory);
         return None;
     };
-    take_mask(desk, page, &chosen.grains);
+    take(desk, page, &chosen.grains);
     desk.back(page);
     Some(chosen.found)
+}
+
+/// Pages that serve by this choice.
+#[derive(Clone, Copy)]
+pub struct ByChoice<C>(pub C);
+
+impl<C: Choosing> Serving for ByChoice<C> {
+    ghost use Rattle.pas_choice.specs.Choices.{choosing};
+
+    type Found = C::Found;
+
+    ghost rule = { λ s. choosing (C.choice s.0) };
+
+    fn serve<D: Desk>(&self, desk: &mut D, page: u32, directory: Directory) -> Option<C::Found> {
+        serve_chosen(&self.0, desk, page, directory)
+    }
+
+    ghost fewer = { λ s. C.fewer s.0 };
 }

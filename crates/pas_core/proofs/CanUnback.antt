@@ -85,7 +85,7 @@ may_unback f = record { held = all_taken; stamped = refl; backed = backed_is_kno
 pub can_unback : (f : Profile) → IsValid f → (l : Whole) × Legal f l × (more : List Event) × (visible l ≡ Event.Unback 0 1 f.age ∷ more)
 can_unback f valid =
     let pages = valid.some_page in let heaps = valid.some_heap in let age = valid.age in
-    let deed : IsNext f (triples 0 ([])) (triple 0 (made (Deed 1 large) 0)) = record { actor = omega arith; of_region = ((omega arith, omega (arith, pages)), record { heap = omega (arith, heaps); kind = tt }); allowed = tt; answer_is = refl } in
+    let deed : IsNext f (triples 0 ([])) (triple 0 (made (Deed 1 large) 0)) = record { actor = omega arith; of_region = ((omega arith, omega (arith, pages)), record { heap = omega (arith, heaps); kind = tt; class = tt }); allowed = tt; answer_is = refl } in
     let first : IsNext f (triples 0 (made (Deed 1 large) 0 ∷ [])) (triple 0 (made (Take 1 0 all_ones) all_ones)) = record { actor = omega arith; of_region = ((omega arith, omega (arith, pages)), omega arith, omega arith); allowed = refl; answer_is = refl } in
     let second : IsNext f (triples 0 (made (Take 1 0 all_ones) all_ones ∷ made (Deed 1 large) 0 ∷ [])) (triple 0 (made (Take 1 1 all_ones) all_ones)) = record { actor = omega arith; of_region = ((omega arith, omega (arith, pages)), omega arith, omega arith); allowed = refl; answer_is = refl } in
     let third : IsNext f (triples 0 (made (Take 1 1 all_ones) all_ones ∷ made (Take 1 0 all_ones) all_ones ∷ made (Deed 1 large) 0 ∷ [])) (triple 0 (made (Take 1 2 all_ones) all_ones)) = record { actor = omega arith; of_region = ((omega arith, omega (arith, pages)), omega arith, omega arith); allowed = refl; answer_is = refl } in

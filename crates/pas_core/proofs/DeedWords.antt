@@ -22,8 +22,7 @@ next_value e s w old = if same_word (target s) w then new_value e s old else old
 
 -- a look leaves the word
 pub looked : {A : Type 0} (t : Bool) (x : A) → (if t then x else x) ≡ x
-looked true x = refl
-looked false x = refl
+looked t x = grind arith
 
 -- ---- deeds
 -- of the word nothing is known, or just the word
@@ -102,10 +101,6 @@ deed_has_page f (t ∷ l) legal p ne =
 -- ---- the numbers of directories
 pub numbered_ne : (n : ℕ) → deed_word_numbered n ≢ 0
 numbered_ne n z = absurd (omega (arith, z))
-
--- a directory's number tells its deed word
-pub numbered : (d : Directory) → IsKind d.kind → deed_word_numbered (number_of d) ≡ deed_word_of d
-numbered d kind = let small = kind_number_lt d.kind kind in omega (arith, small)
 
 -- a deed word tells the directory's number
 pub number_told : (d : Directory) (n : ℕ) → IsKind d.kind → deed_word_of d ≡ deed_word_numbered n → number_of d ≡ n

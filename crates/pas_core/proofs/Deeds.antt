@@ -1,6 +1,6 @@
 -- The deed words and the backed words are those of the machine.
 use Rattle.std.proofs.Common.{◌≡◌, ℕ, ◌==◌, Bool, true, false, not, ◌&&◌, if◌then◌else◌, List, [], ◌∷◌, Option, Some, None, refl, ap, sym, ◌∙◌, subst, arith, bit_or, ◌/◌}
-use Rattle.std.proofs.lemmas.Bool.{eqb-true, eqb-false, cond_both}
+use Rattle.std.proofs.lemmas.Bool.{eqb-true, cond_both}
 use Rattle.pas_profile.specs.Layouts.{same_word}
 use Rattle.pas_profile.specs.Directories.{deed_word_of}
 use Rattle.pas_profile.specs.Lives.{live_word, is_live, turn_of}
@@ -20,6 +20,7 @@ use Rattle.pas_steps.specs.declared.step.Step.TheVariants.{Look, Deed, Back, End
 use Rattle.pas_core.specs.Good.{word_of_deed, word_of_backed}
 use Rattle.std.proofs.lemmas.Option.{same_Some}
 use Rattle.pas_core.proofs.DeedWords.{looked}
+use Rattle.std.proofs.lemmas.Bool.Decides.{nat_tests}
 
 -- ---- steps that may make an event: what holds with it and without it holds after them
 pub event_if : (P : List Event → Type 0) (z : Bool) (e : Event) (es : List Event) → P (e ∷ es) → P es → P (with_event (if z then Some e else None) es)
@@ -80,10 +81,7 @@ or_one true old h = ap (λ n. bit_or n 1) h
 or_one false old h = ap (λ n. bit_or n 1) h
 
 pub is_backed : (z : Bool) (b : Bool) (n : ℕ) → n ≡ word_of_backed b → (n == 0) ≡ z → b ≡ not z
-is_backed true true n h e = absurd (omega (arith, h, eqb-true n 0 e))
-is_backed true false n h e = refl
-is_backed false true n h e = refl
-is_backed false false n h e = absurd (eqb-false n 0 e h)
+is_backed z b n h e = grind (arith, nat_tests)
 
 back_agrees : (x z : Bool) (k q p old a : ℕ) (es : List Event) → (q == p) ≡ x → (x ≡ true → a ≡ old) → (a == 0) ≡ z → old ≡ word_of_backed (backed_in es p)
     → (if x then bit_or old 1 else old) ≡ word_of_backed (backed_in (with_event (if z then Some (Event.Back k q) else None) es) p)
@@ -93,8 +91,7 @@ back_agrees false true k q p old a es xe is ze h = h ∙ ap (λ b. word_of_backe
 back_agrees false false k q p old a es xe is ze h = h
 
 unback_agrees : (x : Bool) (old : ℕ) (was : Bool) → old ≡ word_of_backed was → (if x then 0 else old) ≡ word_of_backed (if x then false else was)
-unback_agrees true old was h = refl
-unback_agrees false old was h = h
+unback_agrees x old was h = grind arith
 
 back_step : (l : Whole) (k e : ℕ) (s : Step) (a p : ℕ) → a ≡ word_after l (target s) → word_after l (Word.Backed p) ≡ word_of_backed (backed_in (visible l) p)
     → (if same_word (target s) (Word.Backed p) then new_value e s (word_after l (Word.Backed p)) else word_after l (Word.Backed p)) ≡ word_of_backed (backed_in (with_event (event_of k e s a) (visible l)) p)

@@ -22,9 +22,10 @@ use Rattle.pas_steps.specs.declared.step.Step.TheVariants.{End, EndSized}
 use Rattle.pas_core.specs.Good.{word_of_deed}
 use Rattle.pas_core.proofs.DeedWords.{deed_kept}
 use Rattle.pas_core.proofs.Deeds.{deed_of, directory_is_of}
-use Rattle.pas_core.proofs.Ends.{IsMet, met, IsFound, end_finds}
+use Rattle.pas_core.proofs.Ends.{IsFound, end_finds}
 use Rattle.pas_core.proofs.Placed.{lists_borne}
 use Rattle.pas_core.proofs.Onces.{since_once}
+use Rattle.pas_profile.proofs.Runs.{IsMet, met}
 
 -- ---- where it lay
 -- a block that ends lies in the region

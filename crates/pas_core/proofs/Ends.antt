@@ -1,12 +1,10 @@
--- The pages of a run, and the block that an end finds.
-use Rattle.std.proofs.Common.{◌≡◌, ℕ, ◌+◌, ◌*◌, ◌/◌, ◌^◌, ◌<◌, ◌≤◌, true, Option, Some, None, refl, sym, ◌∙◌, arith, inl, inr}
-use Rattle.std.proofs.lemmas.Bool.{cases_lt}
-use Rattle.std.proofs.lemmas.Bool.Decides.{nat_tests}
+-- The block that an end finds.
+use Rattle.std.proofs.Common.{◌≡◌, ℕ, ◌+◌, ◌*◌, ◌^◌, ◌<◌, ◌≤◌, Option, Some, None, refl, sym, ◌∙◌, arith}
 use Rattle.pas_profile.specs.Lives.{live_word}
 use Rattle.pas_profile.specs.Profiles.{IsValid}
 use Rattle.pas_profile.specs.declared.profile.Profile.{Profile}
 use Rattle.pas_profile.specs.declared.name.Name.{Name}
-use Rattle.pas_profile.specs.Runs.{in_run, meets_page, address_of, grain_of, length_of}
+use Rattle.pas_profile.specs.Runs.{address_of, grain_of, length_of}
 use Rattle.pas_machine.specs.State.{Live, live_in, gives_in, ends_in}
 use Rattle.pas_steps.specs.Effects.{life_word_at}
 use Rattle.pas_steps.specs.Allowed.{IsStepOf}
@@ -15,25 +13,6 @@ use Rattle.pas_steps.specs.declared.step.Step.TheVariants.{End}
 use Rattle.pas_core.specs.Good.{IsLifeOf}
 use Rattle.pas_core.proofs.Lives.{life_at}
 use Rattle.pas_steps.proofs.Ranged.{guess_fits}
-
--- ---- pages and runs
--- a grain that the run has on the page that it meets
-pub record IsMet (g n page : ℕ) : Type 0 where
-  pub grain : ℕ
-  pub of_run : in_run g n grain ≡ true
-  pub of_page : grain / 256 ≡ page
-
-met_at : (g n page : ℕ) → 0 < n → g < 256 * page + 256 → 256 * page < g + n → IsMet g n page
-met_at g n page some low high = elim (cases_lt (256 * page) g) [
-  | inl gt ↦ record { grain = g; of_run = grind (arith, nat_tests, some); of_page = omega (arith, gt, low) }
-  | inr le ↦ record { grain = 256 * page; of_run = grind (arith, nat_tests, le, high); of_page = omega arith }
-]
-
-meets-true : (g n page : ℕ) → meets_page g n page ≡ true → (g < 256 * page + 256) × (256 * page < g + n)
-meets-true g n page h = (grind (arith, nat_tests, h), grind (arith, nat_tests, h))
-
-pub met : (g n page : ℕ) → 0 < n → meets_page g n page ≡ true → IsMet g n page
-met g n page some h = let both = meets-true g n page h in met_at g n page some both.0 both.1
 
 -- ---- the block that an end found
 pub record IsFound (f : Profile) (l : Whole) (name : Name) (guess : ℕ) : Type 0 where

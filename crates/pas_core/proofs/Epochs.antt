@@ -29,7 +29,7 @@ epoch_next : (e : ℕ) (s : Step) (old : ℕ) → old ≤ next_value e s Word.Ep
 epoch_next e (Look word) old = omega (arith, looked (same_word word Word.Epoch) old)
 epoch_next e s old = omega arith
 
-pub epoch_grows : (l : Whole) (t : Triple) → word_after l Word.Epoch ≤ word_after (t ∷ l) Word.Epoch
+epoch_grows : (l : Whole) (t : Triple) → word_after l Word.Epoch ≤ word_after (t ∷ l) Word.Epoch
 epoch_grows l t = epoch_next (epoch_of (part t.actor l)) t.made.step (word_after l Word.Epoch)
 
 -- an actor learns no epoch but that of the word, and its tick the one that it makes

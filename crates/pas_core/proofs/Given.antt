@@ -65,19 +65,15 @@ count_gives (e ∷ es) = gives_counted e (count_gives es)
 -- the gives at one address are some of all
 pub gives_few : (es : List Event) (address : ℕ) → gives_in es address ≤ count_gives es
 gives_few [] address = omega arith
-gives_few (Event.Deed k p d ∷ es) address = gives_few es address
-gives_few (Event.Back k p ∷ es) address = gives_few es address
-gives_few (Event.Unback k p e ∷ es) address = gives_few es address
 gives_few (Event.Give k block ∷ es) address = cond_both (address_of block.name == address) (gives_in es address + 1) (gives_in es address) (λ n. n ≤ (count_gives es) + 1) (λ here. omega (arith, gives_few es address)) (λ other. omega (arith, gives_few es address))
-gives_few (Event.End k name e ∷ es) address = gives_few es address
-gives_few (Event.Reject k name why ∷ es) address = gives_few es address
+gives_few (e ∷ es) address = gives_few es address
 
 -- each give is an event
 counted_few : (e : Event) (n m : ℕ) → n ≤ m → gives_counted e n ≤ m + 1
 counted_few (Event.Deed k p d) n m h = omega (arith, h)
 counted_few s n m h = omega (arith, h)
 
-pub counts_few : (es : List Event) → count_gives es ≤ length es
+counts_few : (es : List Event) → count_gives es ≤ length es
 counts_few [] = omega arith
 counts_few (e ∷ es) = let rest = counted_few e (count_gives es) (length es) (counts_few es) in omega (arith, rest)
 

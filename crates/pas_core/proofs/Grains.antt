@@ -2,7 +2,7 @@
 use Rattle.std.proofs.Common.{◌≡◌, ℕ, ◌+◌, ◌-◌, ◌*◌, ◌/◌, ◌%◌, ◌^◌, ◌<◌, ◌≤◌, ◌==◌, nat_lt, nat_le, Bool, true, false, not, ◌&&◌, ◌||◌, if◌then◌else◌, [], ◌∷◌, refl, ap, sym, ◌∙◌, arith, bit_and, bit_or}
 use Rattle.std.specs.Int.{bit_not, w64}
 use Rattle.std.proofs.lemmas.Nat.Bits.{bit_at_ones}
-use Rattle.std.proofs.lemmas.Bool.{eqb-true, eqb-false, and_parts, le-leb, lt-leb, cond_both}
+use Rattle.std.proofs.lemmas.Bool.{eqb-true, and_parts, le-leb, lt-leb, cond_both}
 use Rattle.std.proofs.lemmas.Bool.Decides.{nat_tests}
 use Rattle.pas_profile.specs.Classes.{has_bit}
 use Rattle.pas_profile.specs.Layouts.{same_word}
@@ -25,17 +25,9 @@ use Rattle.pas_core.proofs.DeedWords.{looked}
 use Rattle.pas_steps.proofs.Ranged.{guess_fits}
 
 -- ---- words of grains: one for each grain
-split_same : (c b : ℕ) (x y z : Bool) → (c % 256 == b % 256) ≡ x → (c / 256 == b / 256) ≡ y → (c == b) ≡ z → (x && y) ≡ z
-split_same c b true true true ex ey ez = refl
-split_same c b true true false ex ey ez = let m = eqb-true (c % 256) (b % 256) ex in let d = eqb-true (c / 256) (b / 256) ey in let ne = eqb-false c b ez in absurd (omega (arith, m, d, ne))
-split_same c b true false true ex ey ez = let ne = eqb-false (c / 256) (b / 256) ey in absurd (ne (ap (λ n. n / 256) (eqb-true c b ez)))
-split_same c b true false false ex ey ez = refl
-split_same c b false y true ex ey ez = let ne = eqb-false (c % 256) (b % 256) ex in absurd (ne (ap (λ n. n % 256) (eqb-true c b ez)))
-split_same c b false y false ex ey ez = refl
-
 -- two grains have the same life word where they are the same
 pub life_same : (c b : ℕ) → same_word (life_word_at c) (life_word_at b) ≡ (c == b)
-life_same c b = split_same c b (c % 256 == b % 256) (c / 256 == b / 256) (c == b) refl refl refl
+life_same c b = grind (arith, nat_tests)
 
 -- the free word of a page that a grain stands in
 pub free_same : (l : Whole) (page word g : ℕ) → ((word == g / 64 % 4) && (page == g / 256)) ≡ true → word_after l (Word.Free page word) ≡ word_after l (free_word_at g)
@@ -102,12 +94,10 @@ covered_moved (Ends a) b was = if a == b then false else was
 covered_moved s b was = was
 
 pub if_true : (t : Bool) → (if t then true else false) ≡ t
-if_true true = refl
-if_true false = refl
+if_true t = grind arith
 
 pub if_false : (t : Bool) → (if t then false else t) ≡ false
-if_false true = refl
-if_false false = refl
+if_false t = grind arith
 
 covered_next : (j : ℕ) (m : Move) (b : ℕ) (o : Place) → Fits j m o → covered_moved m b (is_covered_by b o) ≡ is_covered_by b (place_after j m o)
 covered_next j Stays b o h = refl
@@ -117,16 +107,10 @@ covered_next j s b o h = ap (is_covered_by b) h
 
 -- ---- the free words
 take_cases : (x y : Bool) → (x && not y) ≡ free_moved (if y && x then Gets else Stays) x
-take_cases true true = refl
-take_cases true false = refl
-take_cases false true = refl
-take_cases false false = refl
+take_cases x y = grind arith
 
 put_cases : (x y : Bool) → (x || y) ≡ free_moved (if y then Puts else Stays) x
-put_cases true true = refl
-put_cases true false = refl
-put_cases false true = refl
-put_cases false false = refl
+put_cases x y = grind arith
 
 take_free : (t : Bool) (old a mask b : ℕ) → (t ≡ true → a ≡ old) → mask < 2 ^ 64 → b < 64
     → has_bit (if t then bit_and old (bit_not w64 mask) else old) b ≡ free_moved (if (t && has_bit mask b) && has_bit a b then Gets else Stays) (has_bit old b)

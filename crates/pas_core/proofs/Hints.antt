@@ -1,9 +1,8 @@
 -- A backed page whose grains are all free isn't forgotten: its empty bit is set, or some actor owes its hint, or some actor examines it.
-use Rattle.std.proofs.Common.{◌≡◌, ℕ, ◌+◌, ◌-◌, ◌*◌, ◌/◌, ◌%◌, ◌^◌, ◌<◌, ◌==◌, Bool, true, false, not, ◌&&◌, ◌||◌, if◌then◌else◌, [], ◌∷◌, refl, ap, sym, ◌∙◌, arith, bit_and, bit_or, inl, inr}
-use Rattle.std.specs.Int.{bit_at, bit_not, w64}
+use Rattle.std.proofs.Common.{◌≡◌, ℕ, ◌+◌, ◌*◌, ◌/◌, ◌%◌, ◌^◌, ◌<◌, ◌==◌, Bool, true, false, not, ◌&&◌, ◌||◌, if◌then◌else◌, [], ◌∷◌, refl, ap, sym, ◌∙◌, arith, bit_and, bit_or, inl, inr}
+use Rattle.std.specs.Int.{bit_not, w64}
 use Rattle.std.proofs.lemmas.Bool.{false≢true, eqb-true, eq-eqb, and_parts, cases_Bool, false_from_ne_true, cond_both, cond-false, cond-true, not-true, or_from}
 use Rattle.std.proofs.lemmas.Nat.{and_le_r}
-use Rattle.std.proofs.lemmas.Nat.Bits.{same_from_bits_below, bit_at_ones}
 use Rattle.pas_profile.specs.Classes.{has_bit}
 use Rattle.pas_profile.specs.Layouts.{same_word}
 use Rattle.pas_profile.specs.Profiles.{IsValid}
@@ -25,11 +24,7 @@ use Rattle.pas_core.proofs.DeedWords.{next_value, looked}
 use Rattle.pas_core.proofs.Grains.{is_held_by-true, placed_once}
 use Rattle.pas_core.proofs.Epochs.{words_fit}
 use Rattle.pas_steps.proofs.Flags.{stays_set}
-use Rattle.pas_steps.proofs.Bits.{none_set}
-
--- ---- words by their bits
-pub all_set : (n : ℕ) → n < 2 ^ 64 → ((b : ℕ) → b < 64 → has_bit n b ≡ true) → n ≡ all_ones
-all_set n lt h = same_from_bits_below 64 n (2 ^ 64 - 1) lt (omega arith) (λ i small. eqb-true (bit_at n i) 1 (h i small) ∙ sym (bit_at_ones 64 i small))
+use Rattle.pas_steps.proofs.Bits.{none_set, all_set}
 
 -- a bit of a free word is that of a grain
 grain_bit : (l : Whole) (p w b : ℕ) → w < 4 → b < 64 → has_bit (word_after l (Word.Free p w)) b ≡ has_bit (word_after l (free_word_at (p * 256 + w * 64 + b))) ((p * 256 + w * 64 + b) % 64)
@@ -60,8 +55,7 @@ back_was true old never h = absurd (never refl)
 back_was false old never h = h
 
 unback_was : (x : Bool) (old : ℕ) → (if x then 0 else old) ≡ 1 → old ≡ 1
-unback_was true old h = absurd (omega (arith, h))
-unback_was false old h = h
+unback_was x old h = grind arith
 
 put_misses : (q w p g : ℕ) → (q == p) ≡ false → g / 256 ≡ p → ((w == g / 64 % 4) && (q == g / 256)) ≡ false
 put_misses q w p g other e = false_from_ne_true ((w == g / 64 % 4) && (q == g / 256)) (λ h.

@@ -1,5 +1,5 @@
 -- What views know of deeds and of backed pages is true.
-use Rattle.std.proofs.Common.{◌≡◌, ℕ, ◌+◌, ◌*◌, ◌/◌, ◌≤◌, ◌==◌, Bool, true, false, if◌then◌else◌, [], ◌∷◌, refl, ap, sym, ◌∙◌, arith, bit_or, inl, inr}
+use Rattle.std.proofs.Common.{◌≡◌, ℕ, ◌+◌, ◌*◌, ◌/◌, ◌≤◌, ◌==◌, Bool, true, false, if◌then◌else◌, [], ◌∷◌, ap, sym, ◌∙◌, arith, bit_or, inl, inr}
 use Rattle.std.proofs.lemmas.Bool.{false≢true, eqb-true, and_parts, cases_eq, false_from_ne_true, cond_both}
 use Rattle.pas_profile.specs.Layouts.{same_word}
 use Rattle.pas_profile.specs.Profiles.{IsValid}
@@ -16,6 +16,7 @@ use Rattle.pas_steps.specs.declared.step.Step.TheVariants.{Look, Back, Unback}
 use Rattle.pas_core.proofs.Grains.{one_holder}
 use Rattle.pas_core.proofs.DeedWords.{next_value, looked, IsKnown}
 use Rattle.pas_core.proofs.Spots.{IsSpotted, spotted}
+use Rattle.std.proofs.lemmas.Bool.Decides.{nat_tests}
 
 -- what a view knows of a deed word is the word
 pub deeds_known : (f : Profile) (l : Whole) → Legal f l → (k p : ℕ) → IsKnown (known_deed (part k l) p) (word_after l (Word.Deed p))
@@ -48,12 +49,10 @@ back_tells true known old small was told = or_one old small
 back_tells false known old small was told = was told
 
 unback_tells : (x known : Bool) (old : ℕ) → (known ≡ true → old ≡ 1) → (if x then false else known) ≡ true → (if x then 0 else old) ≡ 1
-unback_tells true known old was told = absurd (false≢true told)
-unback_tells false known old was told = was told
+unback_tells x known old h e = grind arith
 
 look_backed : (x known : Bool) (old a : ℕ) → (x ≡ true → a ≡ old) → (known ≡ true → old ≡ 1) → (if x then a == 1 else known) ≡ true → (if x then old else old) ≡ 1
-look_backed true known old a is was told = sym (is refl) ∙ eqb-true a 1 told
-look_backed false known old a is was told = was told
+look_backed x known old a h e k = grind (arith, nat_tests)
 
 -- an actor's own step tells it that the page is backed only where it is
 backed_learns : (l : Whole) (e : ℕ) (s : Step) (a p : ℕ) (known : Bool) → a ≡ word_after l (target s) → word_after l (Word.Backed p) ≤ 1 → (known ≡ true → word_after l (Word.Backed p) ≡ 1) → backed_after s a p known ≡ true

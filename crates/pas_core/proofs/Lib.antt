@@ -1,30 +1,30 @@
 pub mod Grains
 pub mod Deeds
 pub mod Lives
-pub mod Ends
+mod Ends
 pub mod Stamps
 pub mod StampedEnds
-pub mod CanUnback
+mod CanUnback
 pub mod Hints
 pub mod MachineRuns
-pub mod Given
+mod Given
 pub mod Placed
 pub mod DeedWords
 pub mod Spots
 pub mod Knowledge
 pub mod Rights
 pub mod Epochs
-pub mod Onces
-pub mod Turns
-pub mod WasRead
-pub mod EndedBlocks
-pub mod Agreement
+mod Onces
+mod Turns
+mod WasRead
+mod EndedBlocks
+mod Agreement
 pub mod Nexts
 pub mod Checks
 pub mod Offers
 pub mod OneActorRights
 pub mod OneActorGrains
 pub mod OneActorWords
-pub mod Alone
+mod Alone
 pub mod Ordered
 pub mod WordLists

@@ -1,6 +1,6 @@
 -- The life words are those of the machine, and what actors know of them is true.
 use Rattle.std.proofs.Common.{◌≡◌, ◌≢◌, ℕ, ◌+◌, ◌-◌, ◌*◌, ◌/◌, ◌%◌, ◌^◌, ◌<◌, ◌≤◌, ◌==◌, Bool, true, false, ◌&&◌, if◌then◌else◌, List, [], ◌∷◌, Option, Some, None, refl, ap, sym, ◌∙◌, subst, arith, inl, inr}
-use Rattle.std.proofs.lemmas.Bool.{false≢true, eqb-true, eqb-false, eq-eqb, cases_eq, and_parts, le-leb, cond_both}
+use Rattle.std.proofs.lemmas.Bool.{false≢true, eqb-true, eq-eqb, cases_eq, and_parts, le-leb, cond_both}
 use Rattle.pas_profile.specs.Layouts.{same_word}
 use Rattle.pas_profile.specs.Lives.{live_word, is_live, turn_of}
 use Rattle.pas_profile.specs.Profiles.{IsValid}
@@ -25,6 +25,7 @@ use Rattle.std.proofs.lemmas.Option.{same_Some, none-some}
 use Rattle.pas_core.proofs.Deeds.{event_if, end_if}
 use Rattle.pas_core.proofs.DeedWords.{looked}
 use Rattle.pas_profile.proofs.Runs.{first_of_run}
+use Rattle.std.proofs.lemmas.Bool.Decides.{nat_tests}
 
 -- a test told in another way
 as_test : {A : Type 0} (y x : Bool) (P : A → Type 0) (new old : A) → y ≡ x → P (if x then new else old) → P (if y then new else old)
@@ -83,7 +84,7 @@ own_life s looks held a word word' known w rests is old h = cc
 same_holder : (j k : ℕ) (o : Place) → o ≡ Held j → o ≡ Held k → (j == k) ≡ true
 same_holder j k o f h = ap (is_held_by k) (sym f) ∙ ap (is_held_by k) h ∙ eq-eqb k k refl
 
-pub no_move : (j k : ℕ) (m : Move) (o : Place) → Fits j m o → o ≡ Held k → (j == k) ≡ false → is_still m ≡ true
+no_move : (j k : ℕ) (m : Move) (o : Place) → Fits j m o → o ≡ Held k → (j == k) ≡ false → is_still m ≡ true
 no_move j k Stays o fits h ne = refl
 no_move j k Gets o fits h ne = let e : IsFree ≡ Held k = sym fits ∙ h in absurd cc
 no_move j k (Ends b) o fits h ne = let e : Covered b ≡ Held k = sym fits ∙ h in absurd cc
@@ -120,15 +121,9 @@ turn_is f g word (Some b) gives ends h = let few = h.few in ap turn_of h.word_is
 pub live_is_live : (f : Profile) (g word : ℕ) (b : Live) (gives ends : ℕ) → IsLifeOfLive f g word b gives ends → is_live word ≡ true
 live_is_live f g word b gives ends h = let w = h.word_is in let big : 2 ^ 63 ≤ word = omega (arith, w) in le-leb (2 ^ 63) word big
 
-same_tests : (x y : Bool) (address g : ℕ) → address % 16 ≡ 0 → (address == 16 * g) ≡ x → (address / 16 == g) ≡ y → x ≡ y
-same_tests true true address g aligned xe ye = refl
-same_tests false false address g aligned xe ye = refl
-same_tests true false address g aligned xe ye = let a = eqb-true address (16 * g) xe in let ne = eqb-false (address / 16) g ye in absurd (omega (arith, a, ne))
-same_tests false true address g aligned xe ye = let ne = eqb-false address (16 * g) xe in let a = eqb-true (address / 16) g ye in absurd (omega (arith, a, ne, aligned))
-
 -- the grain of an address
-pub address_same : (address g : ℕ) → address % 16 ≡ 0 → (address == 16 * g) ≡ (address / 16 == g)
-address_same address g aligned = same_tests (address == 16 * g) (address / 16 == g) address g aligned refl refl
+address_same : (address g : ℕ) → address % 16 ≡ 0 → (address == 16 * g) ≡ (address / 16 == g)
+address_same address g aligned = grind (arith, nat_tests, aligned)
 
 -- the facts of a block that may be given at the grain
 record IsNewAt (f : Profile) (g : ℕ) (block : Block) (ends : ℕ) : Type 0 where
@@ -261,8 +256,7 @@ abbrev BareIn : List Event → ℕ → Type 0
 BareIn es address = IsBare address (live_in es address) (gives_in es address) (ends_in es address)
 
 other_address : (b address : ℕ) → b % 16 ≡ 0 → address % 16 ≢ 0 → (x : Bool) → (b == address) ≡ x → x ≡ false
-other_address b address aligned un true e = absurd (un (ap (λ n. n % 16) (sym (eqb-true b address e)) ∙ aligned))
-other_address b address aligned un false e = refl
+other_address b address h e x k = grind (arith, nat_tests)
 
 bare_give : (x : Bool) (k : ℕ) (block : Block) (address : ℕ) (live : Option Live) (gives ends : ℕ) → x ≡ false → IsBare address live gives ends → IsBare address (if x then Some record { actor = k; block = block } else live) (if x then gives + 1 else gives) ends
 bare_give true k block address live gives ends e h = absurd (false≢true (sym e))

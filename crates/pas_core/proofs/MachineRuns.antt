@@ -28,10 +28,9 @@ use Rattle.pas_core.proofs.DeedWords.{known_is}
 use Rattle.pas_core.proofs.Knowledge.{deeds_known, backed_known}
 use Rattle.pas_core.proofs.Deeds.{deed_of, backed_of, directory_is_of, is_backed}
 use Rattle.pas_core.proofs.Lives.{life_is_known, block_of_word, turn_is, live_is_live, no_block, dead_while_held, life_of, life_at, bare_of, live_of}
-use Rattle.pas_core.proofs.Ends.{IsMet, met}
 use Rattle.pas_core.proofs.Stamps.{stamp_known, ends_before}
 use Rattle.pas_profile.proofs.Codecs.{kind_number_lt}
-use Rattle.pas_profile.proofs.Runs.{run_of, first_of_run}
+use Rattle.pas_profile.proofs.Runs.{run_of, first_of_run, IsMet, met}
 
 -- the machine that the visible events reach agrees with the words
 pub agrees : (f : Profile) (l : Whole) → IsValid f → Legal f l → AgreesWithWords f l
@@ -45,8 +44,7 @@ page_of_run f address room x low high aligned run =
 
 -- ---- deeds and backed pages that are known are the machine's
 pub one_backed : (b : Bool) → 1 ≡ word_of_backed b → b ≡ true
-one_backed true h = refl
-one_backed false h = absurd (omega (arith, h))
+one_backed b h = grind arith
 
 no_deed : (o : Option Directory) → 0 ≡ word_of_deed o → o ≡ None
 no_deed None h = refl

@@ -12,7 +12,7 @@ use Rattle.pas_steps.specs.declared.step.Step.{Step}
 use Rattle.pas_core.proofs.Agreement.{answer_agrees_at}
 
 -- the step, with this answer, may come next
-pub is_next : (f : Profile) (l : Whole) (k : ℕ) (v : View) (s : Step) (a : ℕ) → k ≤ f.threads → part k l ≡ v → IsStepOf f s → Allowed f v s → a ≡ word_after l (target s) → IsNext f l (triple k (made s a))
+is_next : (f : Profile) (l : Whole) (k : ℕ) (v : View) (s : Step) (a : ℕ) → k ≤ f.threads → part k l ≡ v → IsStepOf f s → Allowed f v s → a ≡ word_after l (target s) → IsNext f l (triple k (made s a))
 is_next f l k v s a actor part_is of allowed is = record { actor = actor; of_region = of; allowed = subst (λ x. Allowed f x s) (sym part_is) allowed; answer_is = is }
 
 -- so that the list with it is legal again

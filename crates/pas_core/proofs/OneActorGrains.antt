@@ -201,12 +201,10 @@ abbrev pub MakesNoEvent : List Made → Type 0
 MakesNoEvent = Always (λ m before. (k epoch : ℕ) → event_of k epoch m.step m.answer ≡ None)
 
 pub no_deed_event : (t : Bool) (e : Event) → (if t then Some e else None) ≡ None → t ≡ false
-no_deed_event true e h = cc
-no_deed_event false e h = refl
+no_deed_event t e h = grind arith
 
 no_deed_written : (t z : Bool) (word old : ℕ) → (t ≡ true → z ≡ false) → (if t then (if z then word else old) else old) ≡ old
-no_deed_written true z word old h = ap (λ x. if x then word else old) (h refl)
-no_deed_written false z word old h = refl
+no_deed_written t z word old h = grind arith
 
 deed_step : (w : Whole) (e : ℕ) (s : Step) (a p : ℕ) → a ≡ word_after w (target s) → ((k epoch : ℕ) → event_of k epoch s a ≡ None)
     → (if same_word (target s) (Word.Deed p) then new_value e s (word_after w (Word.Deed p)) else word_after w (Word.Deed p)) ≡ word_after w (Word.Deed p)

@@ -7,7 +7,7 @@ use Rattle.pas_profile.specs.Profiles.{IsValid, IsDirectoryOf}
 use Rattle.pas_profile.specs.declared.directory.Directory.{Directory}
 use Rattle.pas_profile.specs.declared.profile.Profile.{Profile}
 use Rattle.pas_profile.specs.declared.word.Word.TheVariants as Word
-use Rattle.pas_profile.proofs.Codecs.{deed_word_of-positive}
+use Rattle.pas_profile.proofs.Codecs.{deed_word_of-positive, numbered}
 use Rattle.pas_steps.specs.Effects.{target}
 use Rattle.pas_steps.specs.Views.{View, Way, Rests, ByDeed, FromOffer, FromParked, ToOffer, ToParked, way, had_after, has_right, deed_after, known_deed, KnowsDeed}
 use Rattle.pas_steps.specs.Allowed.{Allowed}
@@ -22,7 +22,7 @@ use Rattle.pas_steps.proofs.Frames.{right_own, right_of_own, lacks_now}
 use Rattle.pas_steps.proofs.Kept.{deed_stays}
 use Rattle.pas_steps.proofs.Parts.{part_of_own, part_of_others}
 use Rattle.pas_core.specs.Rights.{eligible_bit, parked_bit}
-use Rattle.pas_core.proofs.DeedWords.{known_is, deed_kept, numbered, numbered_ne}
+use Rattle.pas_core.proofs.DeedWords.{known_is, deed_kept, numbered_ne}
 use Rattle.pas_core.proofs.Spots.{Spot, Nowhere, With, Offered, InParked, is_with, is_offered, is_parked, spot_after, spot_of, Suits, DeedFits, IsSpotted, step_suits, spotted}
 use Rattle.pas_core.proofs.Rights.{one_has_right, offered_has_deed, offered_spot, own_eligible, is_on_offer}
 use Rattle.pas_core.proofs.Nexts.{agrees_next}
@@ -85,7 +85,7 @@ parked_told f k l p set (m ∷ xs) legal none lacks (inl z) =
     ∙ ap (λ n. has_bit n (p % 64)) (sym (parked_read p m.step w z.0) ∙ sym legal.0.answer_is) ∙ z.1
 
 -- ---- the deed word stays, once it is there
-pub deed_later : (k : ℕ) (l : Whole) (p : ℕ) (xs : List Made) → word_after l (Word.Deed p) ≢ 0 → word_after (triples k xs ++ l) (Word.Deed p) ≡ word_after l (Word.Deed p)
+deed_later : (k : ℕ) (l : Whole) (p : ℕ) (xs : List Made) → word_after l (Word.Deed p) ≢ 0 → word_after (triples k xs ++ l) (Word.Deed p) ≡ word_after l (Word.Deed p)
 deed_later k l p [] some = refl
 deed_later k l p (m ∷ xs) some = let e = deed_later k l p xs some in deed_kept (triples k xs ++ l) (triple k m) p (λ z. some (sym e ∙ z)) ∙ e
 
@@ -113,7 +113,7 @@ own_known : (f : Profile) (v : View) (m : Made) (p : ℕ) → Allowed f v m.step
 own_known f v m p allowed agrees known true e h = λ z. known e (sym (deed_stays f (m ∷ []) v p (agrees, tt) (known e)) ∙ z)
 own_known f v m p allowed agrees known false e h = gains_known f v m.step m.answer p allowed h
 
-pub right_known : (f : Profile) (l : Whole) → IsValid f → Legal f l → (k p : ℕ) → has_right (part k l) p ≡ true → known_deed (part k l) p ≢ 0
+right_known : (f : Profile) (l : Whole) → IsValid f → Legal f l → (k p : ℕ) → has_right (part k l) p ≡ true → known_deed (part k l) p ≢ 0
 right_known f [] valid legal k p h = absurd (false≢true h)
 right_known f (t ∷ l) valid legal k p h =
     cond_both (t.actor == k) (t.made ∷ part k l) (part k l) (λ v. has_right v p ≡ true → known_deed v p ≢ 0) (λ mine has.

@@ -33,7 +33,7 @@ one_has_right f l legal j k p hj hk =
     eqb-true j k (sym (ap (is_with k) there) ∙ sym (at.has k) ∙ hk)
 
 -- the spot of a right that an actor has, that is offered, or that is parked
-pub with_spot : (l : Whole) (k p : ℕ) → IsSpotted l p → has_right (part k l) p ≡ true → spot_of l p ≡ With k
+with_spot : (l : Whole) (k p : ℕ) → IsSpotted l p → has_right (part k l) p ≡ true → spot_of l p ≡ With k
 with_spot l k p at h = is_with-true k (spot_of l p) (sym (at.has k) ∙ h)
 
 pub offered_spot : (l : Whole) (n p : ℕ) → IsSpotted l p → eligible_bit l n p ≡ true → spot_of l p ≡ Offered n
@@ -54,7 +54,7 @@ pub offered_has_deed : (f : Profile) (l : Whole) → Legal f l → (n p : ℕ) �
 offered_has_deed f l legal n p h = let at : IsSpotted l p = spotted f l legal p in deed_at_spot l p (Offered n) at (offered_spot l n p at h)
 
 -- a page that is parked has a deed
-pub parked_has_deed : (f : Profile) (l : Whole) → Legal f l → (p : ℕ) → parked_bit l p ≡ true → word_after l (Word.Deed p) ≢ 0
+parked_has_deed : (f : Profile) (l : Whole) → Legal f l → (p : ℕ) → parked_bit l p ≡ true → word_after l (Word.Deed p) ≢ 0
 parked_has_deed f l legal p h = let at : IsSpotted l p = spotted f l legal p in deed_at_spot l p InParked at (parked_spot l p at h)
 
 -- whoever has a right sees it neither offered nor parked
@@ -202,16 +202,13 @@ tells_free (Deed q d) a g right = (q == g / 256) && (a == 0)
 tells_free s a g right = false
 
 tells_or : (x known : Bool) → (if x then true else known) ≡ (x || (not false && not false && known))
-tells_or true known = refl
-tells_or false known = refl
+tells_or x known = grind arith
 
 takes_or : (x known : Bool) → (if x then false else known) ≡ (false || (not x && not false && known))
-takes_or true known = refl
-takes_or false known = refl
+takes_or x known = grind arith
 
 leaves_or : (x known : Bool) → (if x then false else known) ≡ (false || (not false && not x && known))
-leaves_or true known = refl
-leaves_or false known = refl
+leaves_or x known = grind arith
 
 -- a grain is known as free if the step tells so, or if it was, and the step neither takes it nor gives the right away
 free_after-is : (s : Step) (a g : ℕ) (right known : Bool) → free_after s a g right known ≡ (tells_free s a g right || (not (takes s g) && not (leaves s (g / 256)) && known))
@@ -223,9 +220,7 @@ free_after-is (Park q) a g right known = leaves_or (q == g / 256) known
 free_after-is s a g right known = refl
 
 not_from : (x z y : Bool) → (not x && not z && y) ≡ true → (x ≡ false) × (z ≡ false) × (y ≡ true)
-not_from true z y h = absurd (false≢true h)
-not_from false true y h = absurd (false≢true h)
-not_from false false y h = (refl, refl, h)
+not_from x z y h = grind arith
 
 -- the step tells it, and it is so
 told_free : (f : Profile) (l : Whole) (j e : ℕ) (s : Step) (a g : ℕ) → IsSpotted l (g / 256) → IsClear l g → Allowed f (part j l) s → a ≡ word_after l (target s) → tells_free s a g (has_right (part j l) (g / 256)) ≡ true

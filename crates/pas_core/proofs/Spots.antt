@@ -1,7 +1,7 @@
 -- The right of each page is at one spot after a legal list, and what views know of deeds is true. Each needs the other, so one induction
 -- proves both: an offer goes into the vector of the directory that its actor knows, and a set bit of that vector tells the directory.
-use Rattle.std.proofs.Common.{◌≡◌, ◌≢◌, ℕ, ◌/◌, ◌%◌, ◌==◌, Bool, true, false, ◌&&◌, if◌then◌else◌, [], ◌∷◌, refl, ap, sym, ◌∙◌, subst, inl, inr}
-use Rattle.std.proofs.lemmas.Bool.{false≢true, eqb-true, eqb-false, and_parts, cond_both}
+use Rattle.std.proofs.Common.{◌≡◌, ◌≢◌, ℕ, ◌/◌, ◌%◌, ◌==◌, Bool, true, false, ◌&&◌, if◌then◌else◌, [], ◌∷◌, refl, ap, sym, ◌∙◌, subst, inl, inr, arith}
+use Rattle.std.proofs.lemmas.Bool.{false≢true, eqb-true, and_parts, cond_both}
 use Rattle.pas_profile.specs.Classes.{has_bit}
 use Rattle.pas_profile.specs.Directories.{number_of, deed_word_of, deed_word_numbered}
 use Rattle.pas_profile.specs.Layouts.{same_word}
@@ -17,9 +17,10 @@ use Rattle.pas_steps.specs.declared.step.Step.TheVariants.{Look, Deed, TakeRight
 use Rattle.pas_core.specs.Rights.{parked_bit, eligible_bit}
 use Rattle.pas_bits.proofs.Words.{none_of_zero}
 use Rattle.pas_bits.proofs.PageVectors.{page_bit-clear, page_bit-set}
-use Rattle.pas_core.proofs.DeedWords.{next_value, looked, IsKnown, known_is, word_stays, deed_tells, look_tells, deed_at, numbered, numbered_ne}
+use Rattle.pas_core.proofs.DeedWords.{next_value, looked, IsKnown, known_is, word_stays, deed_tells, look_tells, deed_at, numbered_ne}
 use Rattle.pas_core.proofs.Grains.{if_true, if_false}
-use Rattle.pas_profile.proofs.Codecs.{deed_word_of-positive}
+use Rattle.pas_profile.proofs.Codecs.{deed_word_of-positive, numbered}
+use Rattle.std.proofs.lemmas.Bool.Decides.{nat_tests}
 
 -- ---- where the right of a page is
 pub data Spot : Type 0 where
@@ -97,7 +98,7 @@ no_deed (Offered n) h = absurd (numbered_ne n (sym h))
 no_deed s h = absurd (h refl)
 
 -- where there is a right there is a deed
-pub somewhere : (o : Spot) (word : ℕ) → DeedFits o word → is_nowhere o ≡ false → word ≢ 0
+somewhere : (o : Spot) (word : ℕ) → DeedFits o word → is_nowhere o ≡ false → word ≢ 0
 somewhere Nowhere word h e = absurd (false≢true (sym e))
 somewhere (Offered n) word h e = λ z. numbered_ne n (sym h ∙ z)
 somewhere s word h e = h
@@ -139,13 +140,10 @@ offered_next j s n o h = ap (is_offered n) h
 
 -- ---- the parked words
 unpark_cases : (y g was : Bool) → (y ≡ true → g ≡ was) → (if y then false else was) ≡ parked_moved (if y && g then FromParked else Rests) was
-unpark_cases true true was h = refl
-unpark_cases true false was h = h refl
-unpark_cases false g was h = refl
+unpark_cases y g was h = grind arith
 
 park_cases : (y was : Bool) → (if y then true else was) ≡ parked_moved (if y then ToParked else Rests) was
-park_cases true was = refl
-park_cases false was = refl
+park_cases y was = grind arith
 
 parked_rests : (y was : Bool) (m : Way) → ((b : Bool) → parked_moved m b ≡ b) → was ≡ parked_moved (if y then m else Rests) was
 parked_rests y was m h = cond_both y m Rests (λ x. was ≡ parked_moved x was) (λ here. sym (h was)) (λ other. refl)
@@ -163,18 +161,10 @@ parked_step l e s a p is = refl
 
 -- ---- the eligible words
 take_right_cases : (x y g was : Bool) (m n : ℕ) → (m == n) ≡ x → (x ≡ true → y ≡ true → g ≡ was) → (if x && y then false else was) ≡ offered_moved (if y && g then FromOffer m else Rests) n was
-take_right_cases true true true was m n e h = ap (λ x. if x then false else was) (sym e)
-take_right_cases true true false was m n e h = h refl refl
-take_right_cases false true true was m n e h = ap (λ x. if x then false else was) (sym e)
-take_right_cases false true false was m n e h = refl
-take_right_cases true false g was m n e h = refl
-take_right_cases false false g was m n e h = refl
+take_right_cases x y g was m n e h = grind arith
 
 offer_cases : (x y was : Bool) (m n : ℕ) → (m == n) ≡ x → (if x && y then true else was) ≡ offered_moved (if y then ToOffer m else Rests) n was
-offer_cases true true was m n e = ap (λ x. if x then true else was) (sym e)
-offer_cases false true was m n e = ap (λ x. if x then true else was) (sym e)
-offer_cases true false was m n e = refl
-offer_cases false false was m n e = refl
+offer_cases x y was m n e = grind arith
 
 offered_rests : (y was : Bool) (n : ℕ) (m : Way) → ((b : Bool) → offered_moved m n b ≡ b) → was ≡ offered_moved (if y then m else Rests) n was
 offered_rests y was n m h = cond_both y m Rests (λ x. was ≡ offered_moved x n was) (λ here. sym (h was)) (λ other. refl)
@@ -223,8 +213,7 @@ suits_then j m o t e h = subst (λ b. Suits j (if b then m else Rests) o) e h
 
 -- ---- the deed word at each spot
 deed_ne : (n m : ℕ) → m ≢ 0 → (t : Bool) → (n == 0) ≡ t → (if t then m else n) ≢ 0
-deed_ne n m ne true h = ne
-deed_ne n m ne false h = eqb-false n 0 h
+deed_ne n m h t e = grind (arith, nat_tests)
 
 deed_fits : (y z : Bool) (d : Directory) (n j : ℕ) (o : Spot) → (y ≡ true → (n == 0) ≡ z) → DeedFits o n
     → DeedFits (spot_after j (if y && z then ByDeed else Rests) o) (if y then (if n == 0 then deed_word_of d else n) else n)

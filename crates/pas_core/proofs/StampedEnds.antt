@@ -71,8 +71,7 @@ same_epoch v (Tick raised) a p keeps h = absurd (false≢true (sym (keeps p) ∙
 same_epoch v s a p keeps h = refl
 
 ended_or : (x was : Bool) → (if x then true else was) ≡ true → (was ≡ true) ⊎ (x ≡ true)
-ended_or true was h = inr refl
-ended_or false was h = inl h
+ended_or x was h = grind arith
 
 was_or_ends : (s : Step) (a p : ℕ) (was : Bool) → unstamped_after s a p was ≡ true → (was ≡ true) ⊎ (ends_on s a p ≡ true)
 was_or_ends (End name guess) a p was h = ended_or ((a == live_word name.turn guess) && meets_page (grain_of name) guess p) was h

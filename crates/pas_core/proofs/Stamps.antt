@@ -20,16 +20,16 @@ use Rattle.pas_steps.specs.Allowed.{Allowed, IsStepOf, HoldsOn, MayPutNow, MayGi
 use Rattle.pas_steps.specs.Lists.{Triple, Whole, part, word_after, visible, IsNext, Legal}
 use Rattle.pas_steps.specs.Desks.{made}
 use Rattle.pas_steps.specs.declared.step.Step.{Step}
-use Rattle.pas_steps.specs.declared.step.Step.TheVariants.{Look, Deed, Back, Take, Put, Give, End, EndSized, TakeRight, Offer, Park, Unpark, Stamp, Hint, Tick, Unback, Unhint}
+use Rattle.pas_steps.specs.declared.step.Step.TheVariants.{Look, Deed, Back, Take, Put, Give, End, EndSized, Stamp, Tick, Unback}
 use Rattle.pas_core.specs.Stamps.{IsSoAtEnd, EachEnd, IsStampedOr}
 use Rattle.pas_steps.proofs.Bits.{all_below-at}
 use Rattle.pas_core.proofs.DeedWords.{next_value, looked}
 use Rattle.pas_core.proofs.Grains.{one_holder}
-use Rattle.pas_core.proofs.Ends.{IsMet, met, IsFound, end_finds}
+use Rattle.pas_core.proofs.Ends.{IsFound, end_finds}
 use Rattle.pas_core.proofs.Epochs.{epoch_known}
 use Rattle.pas_steps.proofs.Flags.{stays_set, was_set}
-use Rattle.std.proofs.lemmas.Option.{same_Some}
 use Rattle.pas_core.proofs.Deeds.{event_if, end_if}
+use Rattle.pas_profile.proofs.Runs.{IsMet, met}
 
 -- ---- stamps that are known
 abbrev pub stamps : Step → ℕ → Bool
@@ -47,8 +47,7 @@ stamps_held f v (Stamp q) p allowed h = subst (HoldsOn v) (eqb-true q p h) allow
 stamps_held f v s p allowed h = absurd (false≢true h)
 
 all_if : (t : Bool) (o : Option ℕ) (s : ℕ) → (if t then o else None) ≡ Some s → (t ≡ true) × (o ≡ Some s)
-all_if true o s h = (refl, h)
-all_if false o s h = cc
+all_if t o s h = grind arith
 
 -- while a stamp is known each grain of the page is held
 known_all : (v : View) (p s : ℕ) → known_stamp v p ≡ Some s → holds_all v p ≡ true
@@ -61,12 +60,10 @@ all_held v p g all e =
     subst (λ x. holds v x ≡ true) is (all_below-at 256 (g % 256) (λ b. holds v (p * 256 + b)) all (omega arith))
 
 look_stamp : (x : Bool) (a word : ℕ) (known : Option ℕ) (s : ℕ) → (x ≡ true → a ≡ word) → ((s : ℕ) → known ≡ Some s → word ≡ s) → (if x then Some a else known) ≡ Some s → word ≡ s
-look_stamp true a word known s is old h = sym (is refl) ∙ same_Some a s h
-look_stamp false a word known s is old h = old s h
+look_stamp x a word known s h e k = grind arith
 
 own_stamp : (x : Bool) (e word : ℕ) (known : Option ℕ) (s : ℕ) → ((s : ℕ) → known ≡ Some s → word ≡ s) → (if x then None else known) ≡ Some s → (if x then max word e else word) ≡ s
-own_stamp true e word known s old h = cc
-own_stamp false e word known s old h = old s h
+own_stamp x e word known s h k = grind arith
 
 -- an actor's own step tells it the stamp
 stamp_learns : (l : Whole) (e : ℕ) (t : Step) (a p : ℕ) (known : Option ℕ) (s : ℕ) → a ≡ word_after l (target t) → ((s : ℕ) → known ≡ Some s → word_after l (Word.Stamp p) ≡ s) → stamp_after t a p known ≡ Some s
@@ -135,12 +132,8 @@ unstamped_is_held f (t ∷ l) legal k p h =
 
 -- ---- the epoch of each end on a page
 so_map : (P Q : ℕ → ℕ → Type 0) (e : Event) (es : List Event) (p : ℕ) → ((k e : ℕ) → P k e → Q k e) → IsSoAtEnd P e es p → IsSoAtEnd Q e es p
-so_map P Q (Event.Deed k q d) es p f h = tt
-so_map P Q (Event.Back k q) es p f h = tt
-so_map P Q (Event.Unback k q e) es p f h = tt
-so_map P Q (Event.Give k block) es p f h = tt
 so_map P Q (Event.End k name e) es p f h = λ on. f k e (h on)
-so_map P Q (Event.Reject k name why) es p f h = tt
+so_map P Q e es p f h = tt
 
 pub ends_map : (P Q : ℕ → ℕ → Type 0) (es : List Event) (p : ℕ) → ((k e : ℕ) → P k e → Q k e) → EachEnd P es p → EachEnd Q es p
 ends_map P Q [] p f h = tt
@@ -159,25 +152,15 @@ end_touches f l valid legal name guess a p of is hit on =
 -- the ends so far and the one that the step may make
 ends_step : (f : Profile) (l : Whole) → IsValid f → Legal f l → (P : ℕ → ℕ → Type 0) (k e : ℕ) (s : Step) (a p : ℕ) → IsStepOf f s → a ≡ word_after l (target s) → (ends_on s a p ≡ true → P k e) → EachEnd P (visible l) p
     → EachEnd P (with_event (event_of k e s a) (visible l)) p
-ends_step f l valid legal P k e (Look word) a p of is new h = h
 ends_step f l valid legal P k e (Deed q d) a p of is new h = event_if (λ x. EachEnd P x p) (a == 0) (Event.Deed k q d) (visible l) (tt, h) h
 ends_step f l valid legal P k e (Back q) a p of is new h = event_if (λ x. EachEnd P x p) (a == 0) (Event.Back k q) (visible l) (tt, h) h
-ends_step f l valid legal P k e (Take q w mask) a p of is new h = h
-ends_step f l valid legal P k e (Put q w mask) a p of is new h = h
 ends_step f l valid legal P k e (Give block) a p of is new h = (tt, h)
 ends_step f l valid legal P k e (End name guess) a p of is new h = end_if (λ x. EachEnd P x p) (a == live_word name.turn guess) (is_live a && (turn_of a == name.turn)) (Event.End k name e) (Event.Reject k name (reason_of name a)) (visible l)
     (λ hit. (λ on. new (end_touches f l valid legal name guess a p of is hit on), h)) (tt, h) h
 ends_step f l valid legal P k e (EndSized name room) a p of is new h = end_if (λ x. EachEnd P x p) (a == live_word name.turn (room / 16)) false (Event.End k name e) (Event.Reject k name (sized_reason name room a)) (visible l)
     (λ hit. (λ on. new (end_touches f l valid legal name (room / 16) a p of.0 is hit on), h)) (tt, h) h
-ends_step f l valid legal P k e (TakeRight q d) a p of is new h = h
-ends_step f l valid legal P k e (Offer q d) a p of is new h = h
-ends_step f l valid legal P k e (Park q) a p of is new h = h
-ends_step f l valid legal P k e (Unpark q) a p of is new h = h
-ends_step f l valid legal P k e (Stamp q) a p of is new h = h
-ends_step f l valid legal P k e (Hint q) a p of is new h = h
-ends_step f l valid legal P k e (Tick raised) a p of is new h = h
 ends_step f l valid legal P k e (Unback q) a p of is new h = (tt, h)
-ends_step f l valid legal P k e (Unhint q) a p of is new h = h
+ends_step f l valid legal P k e s a p of is new h = h
 
 -- no step lowers a stamp
 stamp_next : (e : ℕ) (s : Step) (p old : ℕ) → old ≤ next_value e s (Word.Stamp p) old
@@ -193,8 +176,7 @@ epoch_rises l s a known is h = omega arith
 
 -- what an own step leaves: the page is unstamped still, or is stamped now
 stamped_now : (x was : Bool) (e n old : ℕ) → was ≡ true → n ≤ e → ((if x then false else was) ≡ true) ⊎ (n ≤ (if x then max old e else old))
-stamped_now true was e n old h le = inr (omega (arith, le))
-stamped_now false was e n old h le = inl h
+stamped_now x was e n old h k = grind arith
 
 own_late : (e : ℕ) (s : Step) (a p : ℕ) (was : Bool) (n old : ℕ) → was ≡ true → n ≤ e → (unstamped_after s a p was ≡ true) ⊎ (n ≤ next_value e s (Word.Stamp p) old)
 own_late e (End name guess) a p was n old h le = inl (stays_set ((a == live_word name.turn guess) && meets_page (grain_of name) guess p) was h)
@@ -241,12 +223,8 @@ ends_stamped f (t ∷ l) valid legal p =
 -- ---- the machine's epoch of a page
 pub ends_bound : (es : List Event) (p n : ℕ) → EachEnd (λ k e. e ≤ n) es p → epoch_in es p ≤ n
 ends_bound [] p n h = omega arith
-ends_bound (Event.Deed k q d ∷ es) p n h = ends_bound es p n h.1
-ends_bound (Event.Back k q ∷ es) p n h = ends_bound es p n h.1
-ends_bound (Event.Unback k q e ∷ es) p n h = ends_bound es p n h.1
-ends_bound (Event.Give k block ∷ es) p n h = ends_bound es p n h.1
 ends_bound (Event.End k name e ∷ es) p n h = cond_both (touches (live_in es (address_of name)) p) (max (epoch_in es p) e) (epoch_in es p) (λ m. m ≤ n) (λ on. omega (arith, h.0 on, ends_bound es p n h.1)) (λ off. ends_bound es p n h.1)
-ends_bound (Event.Reject k name why ∷ es) p n h = ends_bound es p n h.1
+ends_bound (e ∷ es) p n h = ends_bound es p n h.1
 
 -- where an actor holds each grain of a page that isn't unstamped for it, the stamp is at least the epoch of each end on the page
 pub ends_before : (f : Profile) (l : Whole) → IsValid f → Legal f l → (k p : ℕ) → ((g : ℕ) → g / 256 ≡ p → holds (part k l) g ≡ true) → is_unstamped (part k l) p ≡ false → epoch_in (visible l) p ≤ word_after l (Word.Stamp p)

@@ -21,7 +21,7 @@ few_next : (f : Profile) (v : View) (s : Step) → Allowed f v s → given_count
 few_next f v (Give block) allowed h = let few = allowed.few in omega (arith, few)
 few_next f v s allowed h = h
 
-pub given_small : (f : Profile) (l : Whole) → Legal f l → (k : ℕ) → given_count (part k l) ≤ 2 ^ 32
+given_small : (f : Profile) (l : Whole) → Legal f l → (k : ℕ) → given_count (part k l) ≤ 2 ^ 32
 given_small f [] legal k = omega arith
 given_small f (t ∷ l) legal k =
     let next : IsNext f l t = legal.0 in
@@ -55,7 +55,7 @@ sum_small zero v h = omega arith
 sum_small (suc n) v h = omega (arith, sum_small n v h, h n)
 
 -- the visible gives are at most those of all actors
-pub all_gives : (f : Profile) (l : Whole) → Legal f l → count_gives (visible l) ≤ sum_below (f.threads + 1) (λ k. given_count (part k l))
+all_gives : (f : Profile) (l : Whole) → Legal f l → count_gives (visible l) ≤ sum_below (f.threads + 1) (λ k. given_count (part k l))
 all_gives f [] legal = omega arith
 all_gives f (t ∷ l) legal =
     let next : IsNext f l t = legal.0 in
@@ -69,7 +69,7 @@ all_gives f (t ∷ l) legal =
 
 -- ---- turns
 -- no address was given more often than all actors give
-pub gives_small : (f : Profile) (l : Whole) → IsValid f → Legal f l → (address : ℕ) → gives_in (visible l) address < 2 ^ 37
+gives_small : (f : Profile) (l : Whole) → IsValid f → Legal f l → (address : ℕ) → gives_in (visible l) address < 2 ^ 37
 gives_small f l valid legal address =
     let threads = valid.threads in
     let all : sum_below (f.threads + 1) (λ k. given_count (part k l)) ≤ (f.threads + 1) * 2 ^ 32 = sum_small (f.threads + 1) (λ k. given_count (part k l)) (given_small f l legal) in

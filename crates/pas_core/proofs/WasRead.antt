@@ -31,8 +31,7 @@ use Rattle.pas_profile.proofs.Codecs.{deed_word_of-positive}
 
 -- ---- a backed page has a deed
 deed_more : (x : Bool) (d : Directory) (old : Option Directory) → old ≢ None → (if x then Some d else old) ≢ None
-deed_more true d old h = λ e. cc
-deed_more false d old h = h
+deed_more x d old h = grind arith
 
 back_has : (x : Bool) (q p : ℕ) (es : List Event) (old : Bool) → (q == p) ≡ x → deed_in es q ≢ None → (old ≡ true → deed_in es p ≢ None) → (if x then true else old) ≡ true → deed_in es p ≢ None
 back_has true q p es old e here before h = subst (λ n. deed_in es n ≢ None) (eqb-true q p e) here
@@ -43,16 +42,14 @@ backed_deed f [] run p h = absurd (false≢true h)
 backed_deed f (Event.Deed k q d ∷ es) run p h = deed_more (q == p) d (deed_in es p) (backed_deed f es run.1 p h)
 backed_deed f (Event.Back k q ∷ es) run p h = back_has (q == p) q p es (backed_in es p) refl run.0.1 (backed_deed f es run.1 p) h
 backed_deed f (Event.Unback k q e ∷ es) run p h = backed_deed f es run.1 p (was_set (q == p) (backed_in es p) h)
-backed_deed f (Event.Give k block ∷ es) run p h = backed_deed f es run.1 p h
-backed_deed f (Event.End k name e ∷ es) run p h = backed_deed f es run.1 p h
-backed_deed f (Event.Reject k name why ∷ es) run p h = backed_deed f es run.1 p h
+backed_deed f (e ∷ es) run p h = backed_deed f es run.1 p h
 
 pub some_deed : (o : Option Directory) → o ≢ None → word_of_deed o ≢ 0
 some_deed None h = absurd (h refl)
 some_deed (Some d) h = deed_word_of-positive d
 
 -- the deed word of a page whose backed word is 1
-pub backed_has_deed : (f : Profile) (l : Whole) → IsValid f → Legal f l → (p : ℕ) → word_after l (Word.Backed p) ≡ 1 → word_after l (Word.Deed p) ≢ 0
+backed_has_deed : (f : Profile) (l : Whole) → IsValid f → Legal f l → (p : ℕ) → word_after l (Word.Backed p) ≡ 1 → word_after l (Word.Deed p) ≢ 0
 backed_has_deed f l valid legal p h =
     let some : word_of_deed (deed_in (visible l) p) ≢ 0 = some_deed (deed_in (visible l) p) (backed_deed f (visible l) (runs f l valid legal) p (one_backed (backed_in (visible l) p) (sym h ∙ backed_of f l legal p))) in
     λ z. some (sym (deed_of f l legal p) ∙ z)

@@ -7,7 +7,7 @@ use Rattle.pas_profile.specs.declared.word.Word.{Word}
 use Rattle.pas_steps.specs.Views.{View, is_unstamped, epoch_of}
 use Rattle.pas_steps.specs.declared.step.Step.{Step}
 use Rattle.pas_steps.specs.declared.step.Made.{Made}
-use Rattle.pas_steps.specs.declared.step.Step.TheVariants.{Look, Deed, Back, Take, Put, Give, End, EndSized, TakeRight, Offer, Park, Unpark, Stamp, Hint, Tick, Unback, Unhint}
+use Rattle.pas_steps.specs.declared.step.Step.TheVariants.{Look, Stamp, Tick}
 use Rattle.pas_steps.specs.Lists.{Whole, part, word_after}
 
 -- if the event, after these, is an end of a block that touches the page, its actor and its epoch are so
@@ -34,36 +34,12 @@ IsStampedOr l page k e = (e ≤ word_after l (Word.Stamp page)) ⊎ ((is_unstamp
 abbrev pub AllStamped : View → Type 0
 AllStamped v = (page : ℕ) → is_unstamped v page ≡ false
 
-abbrev pub KeepsToEndsAt : View → Word → Type 0
-KeepsToEndsAt v Word.Epoch = AllStamped v
-KeepsToEndsAt v (Word.Free q w) = Unit {0}
-KeepsToEndsAt v (Word.Life q g) = Unit {0}
-KeepsToEndsAt v (Word.Deed q) = Unit {0}
-KeepsToEndsAt v (Word.Backed q) = Unit {0}
-KeepsToEndsAt v (Word.Stamp q) = Unit {0}
-KeepsToEndsAt v (Word.Parked i) = Unit {0}
-KeepsToEndsAt v (Word.Empty i) = Unit {0}
-KeepsToEndsAt v (Word.Eligible n i) = Unit {0}
-
 -- The step keeps the stamps to the epochs of ends: the actor learns no epoch while a page is unstamped for it, and stamps only such a page.
 abbrev pub KeepsToEnds : View → Step → Type 0
-KeepsToEnds v (Look word) = KeepsToEndsAt v word
-KeepsToEnds v (Deed q d) = Unit {0}
-KeepsToEnds v (Back q) = Unit {0}
-KeepsToEnds v (Take q w mask) = Unit {0}
-KeepsToEnds v (Put q w mask) = Unit {0}
-KeepsToEnds v (Give block) = Unit {0}
-KeepsToEnds v (End name guess) = Unit {0}
-KeepsToEnds v (EndSized name room) = Unit {0}
-KeepsToEnds v (TakeRight q d) = Unit {0}
-KeepsToEnds v (Offer q d) = Unit {0}
-KeepsToEnds v (Park q) = Unit {0}
-KeepsToEnds v (Unpark q) = Unit {0}
-KeepsToEnds v (Stamp q) = is_unstamped v q ≡ true
-KeepsToEnds v (Hint q) = Unit {0}
+KeepsToEnds v (Look Word.Epoch) = AllStamped v
 KeepsToEnds v (Tick raised) = AllStamped v
-KeepsToEnds v (Unback q) = Unit {0}
-KeepsToEnds v (Unhint q) = Unit {0}
+KeepsToEnds v (Stamp q) = is_unstamped v q ≡ true
+KeepsToEnds v step = Unit {0}
 
 abbrev pub AllKeepToEnds : Whole → Type 0
 AllKeepToEnds [] = Unit {0}

@@ -84,7 +84,7 @@ pub ranges_more : (noted noted' runs : List EndedRun) → noted' ≡ noted ++ ta
 ranges_more noted noted' runs is more before = subst AreRanges (sym is) (All-append (λ run. IsRange run.range) noted (take (64 - length noted) runs) before (All-take (λ run. IsRange run.range) (64 - length noted) runs more))
 
 -- ---- the whole flush
-pub epoch_after_entries : (epoch : ℕ) (entries : List Made) (v : View) → Only ending entries → known_epoch ((entries ++ made (Look Word.Epoch) epoch ∷ []) ++ v) ≡ Some epoch
+epoch_after_entries : (epoch : ℕ) (entries : List Made) (v : View) → Only ending entries → known_epoch ((entries ++ made (Look Word.Epoch) epoch ∷ []) ++ v) ≡ Some epoch
 epoch_after_entries epoch entries v kinds = ap known_epoch (append_assoc entries (made (Look Word.Epoch) epoch ∷ []) v) ∙ epoch_same ending refl entries (made (Look Word.Epoch) epoch ∷ v) kinds
 
 -- the next entry may be ended

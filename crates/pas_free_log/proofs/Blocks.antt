@@ -1,7 +1,7 @@
 -- The pages of a block, put back one after the other.
 use Rattle.std.proofs.Common.{◌≡◌, ℕ, suc, ◌+◌, ◌-◌, ◌*◌, ◌/◌, ◌%◌, ◌<◌, ◌≤◌, ◌⊎◌, ◌||◌, min, true, false, if◌then◌else◌, List, [], ◌∷◌, ◌++◌, inl, inr, refl, ap, sym, ◌∙◌, subst, arith}
 use Rattle.std.proofs.lemmas.List.{map-append}
-use Rattle.std.proofs.lemmas.Bool.{cases_lt, cases_eq, ne_eqb}
+use Rattle.std.proofs.lemmas.Bool.{cases_lt, cases_eq}
 use Rattle.std.proofs.lemmas.Bool.Decides.{nat_tests}
 use Rattle.pas_profile.specs.declared.profile.Profile.{Profile}
 use Rattle.pas_profile.specs.Runs.{in_run, meets_page}
@@ -19,7 +19,7 @@ use Rattle.pas_free_log.specs.Stamps.{stamps_by, page_count, pages_from, pages_m
 use Rattle.pas_free_log.specs.Frames.{putting_back, run_freed, PutsBack}
 use Rattle.pas_free_log.specs.Returns.{MayReturn, PageSteps, PagesSteps, first_on, count_on}
 use Rattle.pas_free_log.proofs.Stamped.{stamps_append}
-use Rattle.pas_free_log.proofs.Pages.{count_one, pages_one}
+use Rattle.pas_free_log.proofs.Pages.{count_one, pages_one, count_some}
 
 -- ---- two runs that follow each other
 -- the one run and the next are the whole
@@ -46,9 +46,6 @@ IsBorder g n from = (from ≡ g) ⊎ ((from % 256 ≡ 0) ⊎ (from ≡ g + n))
 count_none : (g n : ℕ) → n ≡ 0 → page_count g n ≡ 0
 count_none g n z = ap (λ k. page_count g k) z
 
-pub count_some : (g n : ℕ) → 1 ≤ n → page_count g n ≡ (g + n - 1) / 256 - g / 256 + 1
-count_some g n some = ap (λ t. if t then 0 else (g + n - 1) / 256 - g / 256 + 1) (ne_eqb n 0 (λ z. omega (arith, z, some)))
-
 count_at_page : (g from : ℕ) → g ≤ from → from % 256 ≡ 0 → g / 256 + page_count g (from - g) ≡ from / 256
 count_at_page g from low page = elim (cases_eq from g) [
   | inl start ↦ let c = count_none g (from - g) (omega (arith, start)) in omega (arith, c, start)
@@ -56,7 +53,7 @@ count_at_page g from low page = elim (cases_eq from g) [
 ]
 
 -- how many pages are done, and which is the next one
-pub count_so_far : (g n from : ℕ) → g ≤ from → from < g + n → IsBorder g n from → g / 256 + page_count g (from - g) ≡ from / 256
+count_so_far : (g n from : ℕ) → g ≤ from → from < g + n → IsBorder g n from → g / 256 + page_count g (from - g) ≡ from / 256
 count_so_far g n from low high (inl start) = let c = count_none g (from - g) (omega (arith, start)) in omega (arith, c, start)
 count_so_far g n from low high (inr (inl page)) = count_at_page g from low page
 count_so_far g n from low high (inr (inr done)) = absurd (omega (arith, high, done))

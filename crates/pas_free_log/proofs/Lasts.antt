@@ -8,8 +8,8 @@ use Rattle.pas_profile.specs.declared.profile.Profile.{Profile}
 use Rattle.pas_profile.specs.Runs.{in_run, meets_page, grain_of}
 use Rattle.pas_steps.specs.Agreement.{Agrees, AgreesEnd}
 use Rattle.pas_steps.specs.Allowed.{Allowed}
-use Rattle.pas_steps.specs.Calls.{Leads, AnyView, nothing, Does}
-use Rattle.pas_steps.specs.Desks.{made}
+use Rattle.pas_steps.specs.Calls.{Leads, nothing, Does}
+use Rattle.pas_steps.specs.Desks.{made, AnyView}
 use Rattle.pas_steps.specs.Effects.{succeeds}
 use Rattle.pas_steps.specs.Events.{event_of, reason_of, sized_reason}
 use Rattle.pas_steps.specs.Kinds.{Ending, kind_of}
@@ -53,7 +53,7 @@ by_length name n = record {
 sized_does : (f : Profile) (name : Name) (room a : ℕ) (t : Bool) (v : View) → (a == live_word name.turn (room / 16)) ≡ t → Agrees f v (EndSized name room) a → Does (end_effect t (grain_of name) (room / 16)) v (made (EndSized name room) a ∷ v)
 sized_does f name room a t v e agrees = subst (λ x. Does (end_effect x (grain_of name) (room / 16)) v (made (EndSized name room) a ∷ v)) e (does_step f (EndSized name room) a v refl agrees)
 
-pub by_room : (name : Name) (room : ℕ) → EndsWith name (room / 16) (EndSized name room)
+by_room : (name : Name) (room : ℕ) → EndsWith name (room / 16) (EndSized name room)
 by_room name room = record {
   kind = refl;
   moves = λ a x. refl;

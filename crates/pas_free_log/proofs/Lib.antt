@@ -1,8 +1,8 @@
-pub mod Stamped
+mod Stamped
 pub mod Tries
-pub mod Lasts
+mod Lasts
 pub mod Pages
-pub mod Blocks
+mod Blocks
 pub mod OneEntry
-pub mod StepCounts
-pub mod AllEntries
+mod StepCounts
+mod AllEntries

@@ -1,10 +1,9 @@
 -- One entry of a log.
-use Rattle.std.proofs.Common.{◌≡◌, ℕ, ◌+◌, ◌*◌, ◌/◌, ◌<◌, ◌≤◌, ◌==◌, ◌&&◌, Bool, true, false, if◌then◌else◌, List, [], ◌∷◌, ◌++◌, Option, Some, None, inl, inr, refl, ap, sym, ◌∙◌, subst, arith, ◌%◌, ◌-◌, ◌^◌, ◌≢◌, true≢false}
+use Rattle.std.proofs.Common.{◌≡◌, ℕ, ◌/◌, ◌<◌, ◌≤◌, ◌==◌, ◌&&◌, Bool, true, false, if◌then◌else◌, List, [], ◌∷◌, ◌++◌, Option, Some, None, inl, inr, refl, ap, sym, ◌∙◌, subst, arith, ◌%◌, ◌-◌, ◌^◌, ◌≢◌, true≢false}
 use Rattle.std.specs.Prelude.{option_to_list}
 use Rattle.std.proofs.lemmas.List.Elements.{All-nil, All-cons}
 use Rattle.std.proofs.lemmas.List.{append-nil}
 use Rattle.std.proofs.lemmas.Bool.{cases_Bool, eq-eqb, eqb-true, and_from, and_parts}
-use Rattle.std.proofs.lemmas.Bool.Decides.{nat_tests}
 use Rattle.pas_profile.specs.Directories.{directory_read}
 use Rattle.pas_profile.specs.Lives.{live_word}
 use Rattle.pas_profile.specs.Profiles.{IsValid}
@@ -15,14 +14,14 @@ use Rattle.pas_profile.specs.declared.name.Name.{Name}
 use Rattle.pas_profile.specs.declared.profile.Profile.{Profile}
 use Rattle.pas_profile.specs.declared.event.Event.{Event}
 use Rattle.pas_profile.specs.Runs.{in_run, meets_page, address_of, grain_of}
-use Rattle.pas_profile.proofs.Runs.{to_run}
+use Rattle.pas_profile.proofs.Runs.{to_run, met_by}
 use Rattle.pas_steps.specs.declared.step.Made.{Made}
 use Rattle.pas_steps.specs.Views.{View, Stays, Ends, held_after, holds, epoch_of, or_zero}
 use Rattle.pas_steps.specs.Allowed.{IsEpochKnown}
-use Rattle.pas_steps.specs.Calls.{Leads, AnyView, nothing, Does, Calls}
+use Rattle.pas_steps.specs.Calls.{Leads, nothing, Does, Calls}
 use Rattle.pas_steps.specs.Kinds.{Kinds, Ending, kind_of, is_in, Only}
 use Rattle.pas_steps.specs.Events.{events_by, with_event}
-use Rattle.pas_steps.specs.Desks.{Standing, made, Adds}
+use Rattle.pas_steps.specs.Desks.{Standing, made, Adds, AnyView}
 use Rattle.pas_steps.proofs.Apart.{only_within, only_both, epoch_same, events_same}
 use Rattle.pas_steps.proofs.Adding.{adds_under}
 use Rattle.pas_steps.proofs.Called.{call_then}
@@ -40,9 +39,9 @@ use Rattle.pas_free_log.specs.Flushes.{event_for, EndsEntry}
 use Rattle.pas_free_log.specs.Noted.{IsRange, AreRanges, is_whole, range_of, run_of_kind, run_in, large_run}
 use Rattle.pas_free_log.specs.declared.ending.Outcome.{Outcome}
 use Rattle.pas_free_log.specs.declared.ending.Outcome.TheVariants.{Ended, Refused}
-use Rattle.pas_free_log.proofs.Blocks.{count_some}
 use Rattle.pas_free_log.proofs.Stamped.{stamps_append, no_stamps}
 use Rattle.pas_free_log.proofs.Tries.{first_look, AreIdle, trying, not_live, idle_look, tries_idle}
+use Rattle.pas_free_log.proofs.Pages.{count_some}
 
 -- the steps of an end: idle ones, and the last try
 abbrev pub ending_steps : Entry → ℕ → ℕ → List Made → List Made
@@ -52,7 +51,7 @@ abbrev Last : Entry → ℕ → Type 0
 Last entry guess = EndsWith entry.name guess (last_step (is_sized entry) entry guess)
 
 -- the tries before the last one change nothing, and the length is that of the room, where one was named
-guess_is : (t : Bool) (entry : Entry) (first guess : ℕ) (before : List Made) → TriesBy t entry first guess before → t ≡ true → guess ≡ entry.room / 16
+pub guess_is : (t : Bool) (entry : Entry) (first guess : ℕ) (before : List Made) → TriesBy t entry first guess before → t ≡ true → guess ≡ entry.room / 16
 guess_is true entry first guess before tries e = tries.0
 guess_is false entry first guess before tries e = absurd (true≢false (sym e))
 
@@ -67,7 +66,7 @@ last_kind : (entry : Entry) (guess : ℕ) (ks : Kinds) → Last entry guess → 
 last_kind entry guess ks last is = ap (is_in ks) last.kind ∙ is
 
 -- ---- a name that was refused
-not_ended : (t : Bool) (name : Name) (guess a : ℕ) → name.turn < 2 ^ 40 - 1 → IsRefusedBy t name guess a → a ≢ live_word name.turn guess
+pub not_ended : (t : Bool) (name : Name) (guess a : ℕ) → name.turn < 2 ^ 40 - 1 → IsRefusedBy t name guess a → a ≢ live_word name.turn guess
 not_ended true name guess a turn refused = refused
 not_ended false name guess a turn refused = not_live name guess a turn refused
 
@@ -95,7 +94,7 @@ entry_refused {σ} {σ1} entry read directory named e =
       run_is = refl;
       range = All-nil (λ run. IsRange run.range);
       steps = steps;
-      calls = record { adds = adds_under (subst (λ s. Adds σ σ1 (λ v l. KnowsEpoch v) s) o.steps_are e.adds) (λ v l stood met. met.epoch); leads = leads_as (nothing_then (idle.does σ.seat.profile) (last.fails σ.seat.profile o.answer ne)) (λ v met. tt) (λ v w met d. d) };
+      calls = record { adds = adds_under (subst (λ s. Adds σ σ1 KnowsEpoch s) o.steps_are e.adds) (λ v l stood met. met.epoch); leads = leads_as (nothing_then (idle.does σ.seat.profile) (last.fails σ.seat.profile o.answer ne)) (λ v met. tt) (λ v w met d. d) };
       kinds = (last_kind entry o.guess ending last refl, only_within trying ending pre refl idle.kinds);
       order = record { ends = steps; order = record { deed = o.deed; before = o.before; guess = o.guess; answer = o.answer; tries = o.tries; comes_to = o.comes_to; steps_are = refl }; directory = e.tells; after = []; returns = refl; steps_are = refl };
       event = λ v. refused_event σ.seat.actor entry o.guess o.answer read pre v idle (guess_is (is_sized entry) entry (guess_by (directory_read o.deed)) o.guess o.before o.tries) ne o.comes_to.0 o.comes_to.1;
@@ -123,8 +122,7 @@ ends_block f entry guess a pre idle last live = leads_then (EndsBlock (grain_of 
 -- each page that the run meets is one of its pages
 page_of_run : (g n page : ℕ) → 1 ≤ n → meets_page g n page ≡ true → in_run (g / 256) (page_count g n) page ≡ true
 page_of_run g n page some meets =
-    let low : g < 256 * page + 256 = grind (arith, nat_tests, meets) in
-    let high : 256 * page < g + n = grind (arith, nat_tests, meets) in
+    let at = met_by g n page meets in let low = at.0 in let high = at.1 in
     let c = count_some g n some in
     to_run (g / 256) (page_count g n) page (omega (arith, low)) (omega (arith, c, low, high))
 
@@ -175,7 +173,7 @@ is_ended {σ} {σ1} entry grains directory e =
       length_is = o.comes_to.1;
       some = subst (λ n. 1 ≤ n) o.comes_to.1 e.of_region.some;
       calls = record {
-        adds = adds_under (subst (λ s. Adds σ σ1 (λ v l. KnowsEpoch v) s) o.steps_are e.adds) (λ v l stood met. met.epoch);
+        adds = adds_under (subst (λ s. Adds σ σ1 KnowsEpoch s) o.steps_are e.adds) (λ v l stood met. met.epoch);
         leads = record {
           from = λ v met agreed. subst (λ n. EndsBlock (grain_of name) n v (ending_steps entry o.guess o.answer pre ++ v) × MayReturn (grain_of name) n (ending_steps entry o.guess o.answer pre ++ v)) (sym o.comes_to.1)
               ((ends_block σ.seat.profile entry o.guess o.answer pre idle last o.comes_to.0).from v tt agreed, may_return entry o.guess o.answer pre v idle last o.comes_to.0 met);

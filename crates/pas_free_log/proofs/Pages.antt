@@ -53,7 +53,7 @@ read_here f v g n deed some met agrees = agrees.a_deed (agrees.ended (met.ended 
 stamp_held : (g n deed : ℕ) (v : View) → 1 ≤ n → MayReturn g n v → HoldsOn (made (Look (Word.Deed (g / 256))) deed ∷ v) (g / 256)
 stamp_held g n deed v some met = (g, refl, met.held g (to_run g n g (omega arith) (omega (arith, some))))
 
-pub may_stamp : (g n deed : ℕ) (v : View) → 1 ≤ n → MayReturn g n v → HoldsOn (made (Look (Word.Deed (g / 256))) deed ∷ v) (g / 256) × IsEpochKnown (known_epoch (made (Look (Word.Deed (g / 256))) deed ∷ v))
+may_stamp : (g n deed : ℕ) (v : View) → 1 ≤ n → MayReturn g n v → HoldsOn (made (Look (Word.Deed (g / 256))) deed ∷ v) (g / 256) × IsEpochKnown (known_epoch (made (Look (Word.Deed (g / 256))) deed ∷ v))
 may_stamp g n deed v some met = (stamp_held g n deed v some met, met.epoch)
 
 -- the grains of the mask on the page are the run's
@@ -64,8 +64,11 @@ may_put_now : (g n deed stamped : ℕ) (mask : Mask4) (v : View) → ((x : ℕ) 
 may_put_now g n deed stamped mask v grains met = record { held = λ x inside. met.held x (sym (grains x) ∙ inside); stamped = ends (g / 256) (is_unstamped v (g / 256)) }
 
 -- ---- what the steps leave
+pub count_some : (g n : ℕ) → 1 ≤ n → page_count g n ≡ (g + n - 1) / 256 - g / 256 + 1
+count_some g n some = ap (λ t. if t then 0 else (g + n - 1) / 256 - g / 256 + 1) (ne_eqb n 0 (λ z. omega (arith, z, some)))
+
 pub count_one : (g n : ℕ) → 1 ≤ n → g % 256 + n ≤ 256 → page_count g n ≡ 1
-count_one g n some within = ap (λ t. if t then 0 else (g + n - 1) / 256 - g / 256 + 1) (ne_eqb n 0 (λ z. omega (arith, z, some))) ∙ omega (arith, some, within)
+count_one g n some within = count_some g n some ∙ omega (arith, some, within)
 
 pub pages_one : (g n : ℕ) → 1 ≤ n → g % 256 + n ≤ 256 → pages_met g n ≡ g / 256 ∷ []
 pages_one g n some within = ap (λ c. pages_from (g / 256) c) (count_one g n some within) ∙ ap (λ p. p ∷ []) (omega arith)
@@ -85,7 +88,7 @@ page_back g n deed stamped puts after some within kinds returns =
 
 -- ---- the call
 -- the directory of a page on which the actor ended a block
-pub page_directory : {σ σ1 : Standing} (g n deed : ℕ) (r : Option Directory) → IsValid σ.seat.profile → 1 ≤ n → CanCall σ (λ v l. MayReturn g n v) → Makes σ σ1 (Look (Word.Deed (g / 256))) deed → r ≡ directory_read deed
+pub page_directory : {σ σ1 : Standing} (g n deed : ℕ) (r : Option Directory) → IsValid σ.seat.profile → 1 ≤ n → CanCall σ (MayReturn g n) → Makes σ σ1 (Look (Word.Deed (g / 256))) deed → r ≡ directory_read deed
     → (d : Directory) × (r ≡ Some d) × (deed ≡ deed_word_of d) × IsDirectoryOf σ.seat.profile d
 page_directory {σ} {σ1} g n deed r valid some can look read =
     directory_told σ.seat.profile deed r valid read (read_here σ.seat.profile can.view g n deed some can.met (look.agrees can.view can.whole can.stood tt))

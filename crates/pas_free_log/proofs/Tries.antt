@@ -17,7 +17,7 @@ use Rattle.pas_steps.specs.declared.step.Step.TheVariants.{Look, End, EndSized}
 use Rattle.pas_steps.specs.Views.{View, known_epoch, or_zero}
 use Rattle.pas_steps.specs.Allowed.{IsEpochKnown, IsStepOf}
 use Rattle.pas_steps.specs.Agreement.{AgreesLife, AgreesEnd}
-use Rattle.pas_steps.specs.Desks.{Standing, made, Makes, CanCall, Adds}
+use Rattle.pas_steps.specs.Desks.{Standing, made, Makes, CanCall, Adds, AnyView}
 use Rattle.pas_steps.proofs.Adding.{adds_none, adds_step}
 use Rattle.pas_free_log.specs.Conditions.{IsNameOf, IsEntryOf, KnowsEpoch, IsRun}
 use Rattle.pas_free_log.specs.Endings.{guess_by, guess_by_kind, is_of, Tries, TriesBy, IsRefusedBy, last_step, IsEndOf, IsOfRegion, EndsOne}
@@ -26,7 +26,7 @@ use Rattle.pas_free_log.specs.declared.ending.Outcome.TheVariants.{Refused}
 use Rattle.pas_free_log.specs.declared.log.Entry.{Entry}
 use Rattle.pas_free_log.specs.Logs.{entry_of, is_sized}
 use Rattle.pas_profile.specs.declared.event.Event.{Event}
-use Rattle.pas_steps.specs.Calls.{Leads, AnyView, nothing, Does}
+use Rattle.pas_steps.specs.Calls.{Leads, nothing, Does}
 use Rattle.pas_steps.specs.Kinds.{Kinds, LookDeed, Ending, Only}
 use Rattle.pas_steps.specs.Events.{events_by, with_event, end_event, reason_of}
 use Rattle.pas_steps.proofs.Calls.{leads_idly, nothing_then, end_fails}
@@ -65,18 +65,18 @@ epoch_before name deed first guess before v (inr t) = ap (λ s. known_epoch (s +
 pub may_end : (name : Name) (deed first guess : ℕ) (before : List Made) (v : View) → Tries name first guess before → KnowsEpoch v → KnowsEpoch (before ++ first_look name deed ++ v)
 may_end name deed first guess before v tries knows = subst (λ o. IsEpochKnown o) (sym (epoch_before name deed first guess before v tries)) knows
 
-pub looked : {σ σ1 : Standing} (name : Name) (deed : ℕ) → Makes σ σ1 (Look (Word.Deed (address_of name / 4096))) deed → Adds σ σ1 (λ v l. KnowsEpoch v) (first_look name deed)
+pub looked : {σ σ1 : Standing} (name : Name) (deed : ℕ) → Makes σ σ1 (Look (Word.Deed (address_of name / 4096))) deed → Adds σ σ1 KnowsEpoch (first_look name deed)
 looked name deed makes = adds_step adds_none makes (λ v l stood met. tt)
 
-pub tried : {σ σ1 σ2 : Standing} (name : Name) (deed first guess a : ℕ) (before : List Made) → Tries name first guess before → Adds σ σ1 (λ v l. KnowsEpoch v) (before ++ first_look name deed) → Makes σ1 σ2 (End name guess) a
-    → Adds σ σ2 (λ v l. KnowsEpoch v) (made (End name guess) a ∷ before ++ first_look name deed)
+pub tried : {σ σ1 σ2 : Standing} (name : Name) (deed first guess a : ℕ) (before : List Made) → Tries name first guess before → Adds σ σ1 KnowsEpoch (before ++ first_look name deed) → Makes σ1 σ2 (End name guess) a
+    → Adds σ σ2 KnowsEpoch (made (End name guess) a ∷ before ++ first_look name deed)
 tried name deed first guess a before tries adds makes = adds_step adds makes (λ v l stood met. may_end name deed first guess before v tries met)
 
 -- what the last try came to, by what its answer agrees with
-pub ends_by : {σ σ1 σ2 : Standing} (name : Name) (outcome : Outcome) (directory : Option Directory) (deed guess a : ℕ) (before : List Made) → directory ≡ directory_read deed → Tries name (guess_by (directory_read deed)) guess before → Adds σ σ1 (λ v l. KnowsEpoch v) (before ++ first_look name deed) → Makes σ1 σ2 (End name guess) a
-    → CanCall σ (λ v l. KnowsEpoch v) → ((v : View) → AgreesEnd σ.seat.profile (before ++ first_look name deed ++ v) name guess a → IsEndOf (entry_of name) guess a outcome × IsOfRegion σ.seat.profile name outcome) → EndsOne (entry_of name) σ σ2 outcome directory
+pub ends_by : {σ σ1 σ2 : Standing} (name : Name) (outcome : Outcome) (directory : Option Directory) (deed guess a : ℕ) (before : List Made) → directory ≡ directory_read deed → Tries name (guess_by (directory_read deed)) guess before → Adds σ σ1 KnowsEpoch (before ++ first_look name deed) → Makes σ1 σ2 (End name guess) a
+    → CanCall σ KnowsEpoch → ((v : View) → AgreesEnd σ.seat.profile (before ++ first_look name deed ++ v) name guess a → IsEndOf (entry_of name) guess a outcome × IsOfRegion σ.seat.profile name outcome) → EndsOne (entry_of name) σ σ2 outcome directory
 ends_by {σ} {σ1} {σ2} name outcome directory deed guess a before tells tries adds makes can told =
-    let all : Adds σ σ2 (λ v l. KnowsEpoch v) (made (End name guess) a ∷ before ++ first_look name deed) = tried name deed (guess_by (directory_read deed)) guess a before tries adds makes in
+    let all : Adds σ σ2 KnowsEpoch (made (End name guess) a ∷ before ++ first_look name deed) = tried name deed (guess_by (directory_read deed)) guess a before tries adds makes in
     let came = told can.view (all.agreed can.view can.whole can.stood can.met).0 in
     record {
       steps = made (End name guess) a ∷ before ++ first_look name deed;
@@ -88,13 +88,13 @@ ends_by {σ} {σ1} {σ2} name outcome directory deed guess a before tells tries 
 
 -- ---- an entry with a room
 -- the one try
-pub tried_by_room : {σ σ1 σ2 : Standing} (name : Name) (deed room a : ℕ) → Adds σ σ1 (λ v l. KnowsEpoch v) (first_look name deed) → Makes σ1 σ2 (EndSized name room) a → Adds σ σ2 (λ v l. KnowsEpoch v) (made (EndSized name room) a ∷ first_look name deed)
+tried_by_room : {σ σ1 σ2 : Standing} (name : Name) (deed room a : ℕ) → Adds σ σ1 KnowsEpoch (first_look name deed) → Makes σ1 σ2 (EndSized name room) a → Adds σ σ2 KnowsEpoch (made (EndSized name room) a ∷ first_look name deed)
 tried_by_room name deed room a adds makes = adds_step adds makes (λ v l stood met. met)
 
-pub ends_by_room : {σ σ1 σ2 : Standing} (entry : Entry) (outcome : Outcome) (directory : Option Directory) (deed a : ℕ) → is_sized entry ≡ true → directory ≡ directory_read deed → Adds σ σ1 (λ v l. KnowsEpoch v) (first_look entry.name deed) → Makes σ1 σ2 (EndSized entry.name entry.room) a
-    → CanCall σ (λ v l. KnowsEpoch v) → ((v : View) → AgreesEnd σ.seat.profile (first_look entry.name deed ++ v) entry.name (entry.room / 16) a → IsEndOf entry (entry.room / 16) a outcome × IsOfRegion σ.seat.profile entry.name outcome) → EndsOne entry σ σ2 outcome directory
+pub ends_by_room : {σ σ1 σ2 : Standing} (entry : Entry) (outcome : Outcome) (directory : Option Directory) (deed a : ℕ) → is_sized entry ≡ true → directory ≡ directory_read deed → Adds σ σ1 KnowsEpoch (first_look entry.name deed) → Makes σ1 σ2 (EndSized entry.name entry.room) a
+    → CanCall σ KnowsEpoch → ((v : View) → AgreesEnd σ.seat.profile (first_look entry.name deed ++ v) entry.name (entry.room / 16) a → IsEndOf entry (entry.room / 16) a outcome × IsOfRegion σ.seat.profile entry.name outcome) → EndsOne entry σ σ2 outcome directory
 ends_by_room {σ} {σ1} {σ2} entry outcome directory deed a sized tells adds makes can told =
-    let all : Adds σ σ2 (λ v l. KnowsEpoch v) (made (EndSized entry.name entry.room) a ∷ first_look entry.name deed) = tried_by_room entry.name deed entry.room a adds makes in
+    let all : Adds σ σ2 KnowsEpoch (made (EndSized entry.name entry.room) a ∷ first_look entry.name deed) = tried_by_room entry.name deed entry.room a adds makes in
     let came = told can.view (all.agreed can.view can.whole can.stood can.met).0 in
     record {
       steps = made (EndSized entry.name entry.room) a ∷ first_look entry.name deed;
@@ -128,7 +128,7 @@ refused_by_room entry a sized ne = (subst (λ t. IsRefusedBy t entry.name (entry
 pub ended_run : (f : Profile) (v : View) (name : Name) (guess a : ℕ) → 1 ≤ guess → a ≡ live_word name.turn guess → AgreesEnd f v name guess a → IsRun f (grain_of name) guess
 ended_run f v name guess a some live agrees = let w = agrees.within live in record { some = some; first = w.0; last = w.1 }
 
-pub is_of_name : (name : Name) (a : ℕ) → is_live a ≡ true → turn_of a ≡ name.turn → is_of name a ≡ true
+is_of_name : (name : Name) (a : ℕ) → is_live a ≡ true → turn_of a ≡ name.turn → is_of name a ≡ true
 is_of_name name a live turn = and_from (is_live a) (turn_of a == name.turn) live (eq-eqb (turn_of a) name.turn turn)
 
 -- a block that was read as live with the name's turn, and still lives, has the length that it had

@@ -92,7 +92,7 @@ IsOfRegion f name (Refused read) = Unit {0}
 -- the directory is what the deed word of the name's page told
 pub record EndsOne (entry : Entry) (desk desk' : Standing) (outcome : Outcome) (directory : Option Directory) : Type 0 where
   pub steps : List Made
-  pub adds : Adds desk desk' (λ v l. KnowsEpoch v) steps
+  pub adds : Adds desk desk' KnowsEpoch steps
   pub order : EndSteps entry outcome steps
   pub of_region : IsOfRegion desk.seat.profile entry.name outcome
   pub tells : directory ≡ directory_read order.deed

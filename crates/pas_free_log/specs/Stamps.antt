@@ -3,26 +3,12 @@ use Rattle.std.specs.Prelude.{ℕ, zero, suc, ◌+◌, ◌-◌, ◌/◌, ◌==�
 use Rattle.pas_steps.specs.Views.{View, epoch_of}
 use Rattle.pas_steps.specs.declared.step.Made.{Made}
 use Rattle.pas_steps.specs.declared.step.Step.{Step}
-use Rattle.pas_steps.specs.declared.step.Step.TheVariants.{Look, Deed, Back, Take, Put, Give, End, EndSized, TakeRight, Offer, Park, Unpark, Stamp, Hint, Tick, Unback, Unhint}
+use Rattle.pas_steps.specs.declared.step.Step.TheVariants.{Stamp}
 
+-- these stamps and the one that the step, made with this epoch, puts; no other step than a stamp puts one
 abbrev pub stamped_by : Step → ℕ → List (ℕ × ℕ) → List (ℕ × ℕ)
-stamped_by (Look word) epoch stamps = stamps
-stamped_by (Deed page directory) epoch stamps = stamps
-stamped_by (Back page) epoch stamps = stamps
-stamped_by (Take page word mask) epoch stamps = stamps
-stamped_by (Put page word mask) epoch stamps = stamps
-stamped_by (Give block) epoch stamps = stamps
-stamped_by (End name guess) epoch stamps = stamps
-stamped_by (EndSized name room) epoch stamps = stamps
-stamped_by (TakeRight page directory) epoch stamps = stamps
-stamped_by (Offer page directory) epoch stamps = stamps
-stamped_by (Park page) epoch stamps = stamps
-stamped_by (Unpark page) epoch stamps = stamps
 stamped_by (Stamp page) epoch stamps = (page, epoch) ∷ stamps
-stamped_by (Hint page) epoch stamps = stamps
-stamped_by (Tick raised) epoch stamps = stamps
-stamped_by (Unback page) epoch stamps = stamps
-stamped_by (Unhint page) epoch stamps = stamps
+stamped_by step epoch stamps = stamps
 
 -- the pages that these steps stamp, which were made from this view on, each with the epoch of its step; the newest first
 abbrev pub stamps_by : View → List Made → List (ℕ × ℕ)

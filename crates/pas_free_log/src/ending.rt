@@ -58,7 +58,7 @@ fn length_in(name: Name, read: u64) -> Option<u32>
 fn end_named<D: Desk>(desk: &mut D, name: Name) -> (Outcome, Option<Directory>)
     requires name { IsNameOf (D.standing desk.old).seat.profile name }
     requires room { 1 ≤ D.spare_of desk.old }
-    requires can { CanCall (D.standing desk.old) (λ v l. KnowsEpoch v) }
+    requires can { CanCall (D.standing desk.old) KnowsEpoch }
     ensures ends { EndsOne (entry_of name) (D.standing desk.old) (D.standing desk.new) result.0 result.1 }
     ensures home { D.home desk.new ≡ D.home desk.old }
 {
@@ -86,7 +86,7 @@ fn end_by_room<D: Desk>(desk: &mut D, entry: Entry) -> (Outcome, Option<Director
     requires entry { IsEntryOf (D.standing desk.old).seat.profile entry }
     requires sized { is_sized entry ≡ true }
     requires room { 1 ≤ D.spare_of desk.old }
-    requires can { CanCall (D.standing desk.old) (λ v l. KnowsEpoch v) }
+    requires can { CanCall (D.standing desk.old) KnowsEpoch }
     ensures ends { EndsOne entry (D.standing desk.old) (D.standing desk.new) result.0 result.1 }
     ensures home { D.home desk.new ≡ D.home desk.old }
 {
@@ -105,7 +105,7 @@ fn end_by_room<D: Desk>(desk: &mut D, entry: Entry) -> (Outcome, Option<Director
 pub fn end_logged<D: Desk>(desk: &mut D, entry: Entry) -> (Outcome, Option<Directory>)
     requires entry { IsEntryOf (D.standing desk.old).seat.profile entry }
     requires room { 1 ≤ D.spare_of desk.old }
-    requires can { CanCall (D.standing desk.old) (λ v l. KnowsEpoch v) }
+    requires can { CanCall (D.standing desk.old) KnowsEpoch }
     ensures ends { EndsOne entry (D.standing desk.old) (D.standing desk.new) result.0 result.1 }
     ensures home { D.home desk.new ≡ D.home desk.old }
 {

@@ -20,7 +20,7 @@ use pas_steps::Desk;
 fn end_entry<D: Desk>(desk: &mut D, entry: Entry) -> Option<EndedRun>
     requires entry { IsEntryOf (D.standing desk.old).seat.profile entry }
     requires room { 1 ≤ D.spare_of desk.old }
-    requires can { CanCall (D.standing desk.old) (λ v l. MayEnd v) }
+    requires can { CanCall (D.standing desk.old) MayEnd }
     ensures ends { EndsEntry entry (D.standing desk.old) (D.standing desk.new) result }
     ensures spare { D.spare_of desk.new + 1 ≡ D.spare_of desk.old }
     ensures home { D.home desk.new ≡ D.home desk.old }
@@ -44,7 +44,7 @@ fn end_entry<D: Desk>(desk: &mut D, entry: Entry) -> Option<EndedRun>
 pub fn flush<D: Desk>(desk: &mut D, log: &mut FreeLog, ended: &mut ArrayVec<EndedRun, MOST_LOGGED>)
     requires entries { All (IsEntryOf (D.standing desk.old).seat.profile) (entries_in log.old) }
     requires room { length (entries_in log.old) ≤ D.spare_of desk.old }
-    requires can { CanCall (D.standing desk.old) (λ v l. IsClear v) }
+    requires can { CanCall (D.standing desk.old) IsClear }
     ensures flushes { Flushes (entries_in log.old) ended.old.items ended.new.items (D.standing desk.old) (D.standing desk.new) }
     ensures empty { entries_in log.new ≡ [] }
     ensures spare { D.spare_of desk.new + length (entries_in log.old) ≡ D.spare_of desk.old }

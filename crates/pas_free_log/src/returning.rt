@@ -7,7 +7,7 @@ ghost use Rattle.pas_free_log.specs.Returns.{MayReturn, ReturnsPage, ReturnsRun}
 use pas_bits::Mask4;
 use pas_profile::limits::PAGE_GRAINS;
 use pas_profile::{Word, read_deed};
-use pas_rights::{put_mask, returned};
+use pas_rights::{put, returned};
 use pas_steps::Desk;
 
 /// Stamps the page of the run, puts the run's grains back, and ends what is owed on the page. At most fourteen steps.
@@ -15,7 +15,7 @@ use pas_steps::Desk;
 /// The page is stamped before its grains are free: whoever finds all its grains free reads the stamp of each end on it.
 fn return_page<D: Desk>(desk: &mut D, grain: u32, grains: u32)
     requires run { IsRunOnPage (D.standing desk.old).seat.profile grain grains }
-    requires can { CanCall (D.standing desk.old) (λ v l. MayReturn grain grains v) }
+    requires can { CanCall (D.standing desk.old) (MayReturn grain grains) }
     ensures returns { ReturnsPage grain grains (D.standing desk.old) (D.standing desk.new) }
     ensures home { D.home desk.new ≡ D.home desk.old }
 {
@@ -25,14 +25,14 @@ fn return_page<D: Desk>(desk: &mut D, grain: u32, grains: u32)
     };
     desk.stamp(page);
     let first = (grain % PAGE_GRAINS) as u8;
-    put_mask(desk, page, &Mask4::run(first, grains as u16));
+    put(desk, page, &Mask4::run(first, grains as u16));
     returned(desk, page, directory);
 }
 
 /// Stamps and puts back the run of a block that ended, page by page from the lowest one. At most fourteen steps a page.
 pub fn return_run<D: Desk>(desk: &mut D, grain: u32, grains: u32)
     requires run { IsRun (D.standing desk.old).seat.profile grain grains }
-    requires can { CanCall (D.standing desk.old) (λ v l. MayReturn grain grains v) }
+    requires can { CanCall (D.standing desk.old) (MayReturn grain grains) }
     ensures returns { ReturnsRun grain grains (D.standing desk.old) (D.standing desk.new) }
     ensures home { D.home desk.new ≡ D.home desk.old }
 {

@@ -1,11 +1,10 @@
 -- The checks of generated items hold.
 use Rattle.std.proofs.Common.{◌≡◌, ◌⊎◌, ℕ, ◌+◌, ◌*◌, ◌/◌, ◌<◌, ◌≤◌, ◌==◌, nat_le, Bool, true, false, not, ◌||◌, if◌then◌else◌, List, [], ◌∷◌, length, None, Some, inl, inr, refl, ap, ◌∙◌, arith}
 use Rattle.std.proofs.Math.Nat.{mul-le-mul}
-use Rattle.std.proofs.lemmas.Bool.{le-leb, lt-ltb, and_from}
-use Rattle.pas_profile.specs.declared.directory.Route.{Route}
-use Rattle.pas_profile.specs.Routes.{route_of}
-use Rattle.pas_trace.specs.Reasons.{first_failed, is_thread, is_alignment, is_named, is_named_now, thread_of, operations_in, cost_of_route, cost_of, costs_of, record_bound, few_enough, checks_of, reason_of}
+use Rattle.std.proofs.lemmas.Bool.{le-leb, lt-ltb, and_from, cases_lt}
+use Rattle.pas_trace.specs.Reasons.{first_failed, is_thread, is_alignment, is_named, is_named_now, thread_of, operations_in, cost_of_size, cost_of, costs_of, record_bound, few_enough, checks_of, reason_of}
 use Rattle.pas_trace.specs.declared.fault.Reason.{Reason}
+use Rattle.pas_trace.proofs.Costs.{small_cost, large_cost}
 use Rattle.pas_trace.specs.declared.item.Item.{Item}
 use Rattle.pas_trace.specs.declared.item.Item.TheVariants.{Allocates, Frees, Ticks, Passes}
 use Rattle.pas_generate.specs.Traces.{IsJob}
@@ -28,10 +27,11 @@ pub record Counted (pages threads n : ℕ) (items : List Item) : Type 0 where
   pub costs : costs_of (region pages threads) items ≤ 3 * n + 4096 * (n / 1000)
   pub lines : length items ≤ 2 * n + 1
 
-pub route-cost : (r : Route) (size : ℕ) → size ≤ 8192 → cost_of_route r size ≤ 3
-route-cost (Route.Class c) size within = omega arith
-route-cost Route.Bitfit size within = omega arith
-route-cost Route.Large size within = omega arith
+pub request-cost : (size : ℕ) → size ≤ 8192 → cost_of_size size ≤ 3
+request-cost size within = elim (cases_lt 2048 size) [
+  | inl beyond ↦ let cost = large_cost size beyond in omega (arith, cost, within)
+  | inr few ↦ let cost = small_cost size few in omega (arith, cost)
+]
 
 few : (ops threads pages n : ℕ) (items : List Item) (i : Item) → IsJob ops threads pages → n < ops → Counted pages threads n items → cost_of (region pages threads) i ≤ 4097
     → AreHeld (few_enough (region pages threads) items i)
@@ -72,7 +72,7 @@ pub record IsRequested (threads t name heap size align : ℕ) (items : List Item
 pub allocation-fine : (ops threads pages n : ℕ) (items : List Item) (t name heap size align : ℕ) → IsJob ops threads pages → n < ops → Counted pages threads n items → IsRequested threads t name heap size align items
     → reason_of (region pages threads) items (Allocates t record { name = name; heap = heap; size = size; align = align }) ≡ None
 allocation-fine ops threads pages n items t name heap size align job more counted r =
-    let cost : cost_of_route (route_of size align) size ≤ 3 = route-cost (route_of size align) size r.small in
+    let cost : cost_of_size size ≤ 3 = request-cost size r.small in
     let within : size ≤ 4096 * pages = let most : size ≤ 8192 = r.small in let some : 2 ≤ pages = job.two_pages in omega arith in
     none-failed (checks_of (region pages threads) items (Allocates t record { name = name; heap = heap; size = size; align = align })) (
       thread-fine pages threads t r.some_thread r.thread_within,

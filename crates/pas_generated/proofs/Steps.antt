@@ -2,8 +2,7 @@
 use Rattle.std.proofs.Common.{◌≡◌, ◌⊎◌, ℕ, zero, suc, ◌+◌, ◌*◌, ◌/◌, ◌%◌, ◌^◌, ◌<◌, ◌≤◌, nat_eq, nat_lt, Bool, true, false, ◌||◌, List, ◌∷◌, length, codes, inl, inr, refl, ap, ◌∙◌, arith}
 use Rattle.std.proofs.Math.Nat.{mod-lt}
 use Rattle.std.proofs.lemmas.Bool.{ne_eqb}
-use Rattle.pas_profile.specs.Routes.{route_of}
-use Rattle.pas_trace.specs.Reasons.{is_named, cost_of_route, operations_in, cost_of, costs_of, kept}
+use Rattle.pas_trace.specs.Reasons.{is_named, operations_in, cost_of, costs_of, kept}
 use Rattle.pas_trace.specs.declared.item.Item.{Item}
 use Rattle.pas_trace.specs.declared.item.Item.TheVariants.{Allocates, Frees, Ticks, Passes, NextPhase}
 use Rattle.pas_generate.specs.Draws.{drawn, draw, moved_by}
@@ -16,7 +15,7 @@ use Rattle.pas_generated.specs.Meant.{region, with_allocation, with_free, with_d
 use Rattle.pas_generated.proofs.Splits.{lacks-by}
 use Rattle.pas_generated.proofs.Says.{IsWritten, allocation-says, free-says, tick-says}
 use Rattle.pas_generated.proofs.Reading.{Reads, reads-both, reads-line, reads-said}
-use Rattle.pas_generated.proofs.Checks.{Counted, route-cost, tick-fine, pass-fine, IsRequested, allocation-fine, free-fine}
+use Rattle.pas_generated.proofs.Checks.{Counted, request-cost, tick-fine, pass-fine, IsRequested, allocation-fine, free-fine}
 use Rattle.pas_generated.proofs.Listed.{IsListed, listed-past, listed-next, listed-new, IsFreer, freer, Each, each-left, each-more, each-weaker}
 
 -- The names were given in order, the allocations that no line has freed were asked for, and there are so many operations and records.
@@ -86,9 +85,6 @@ aligned-small a (inl e) = omega arith
 aligned-small a (inr (inl e)) = omega arith
 aligned-small a (inr (inr e)) = omega arith
 
-allocation-cost : (size align : ℕ) → size ≤ 8192 → cost_of_route (route_of size align) size ≤ 3
-allocation-cost size align small = route-cost (route_of size align) size small
-
 pub allocation-step : (ops threads pages n t : ℕ) (s : State) (items : List Item) → IsJob ops threads pages → n < ops → 1 ≤ t → t ≤ threads → Follows pages threads n s items
     → Step pages threads n items (line_of (allocation t s)) (after_allocation t s) (with_allocation t s items)
 allocation-step ops threads pages n t s items job more lo hi h =
@@ -131,7 +127,7 @@ allocation-step ops threads pages n t s items job more lo hi h =
             (listed-new threads s.phase name items t record { name = name; heap = heap; size = size; align = align } refl h.some_name lo hi);
         counted = record {
           operations = one-more pages threads n items h.counted.operations;
-          costs = let costs : costs_of f items ≤ 3 * n + 4096 * (n / 1000) = h.counted.costs in let cost : cost_of f i ≤ 3 = allocation-cost size align small in omega arith;
+          costs = let costs : costs_of f items ≤ 3 * n + 4096 * (n / 1000) = h.counted.costs in let cost : cost_of f i ≤ 3 = request-cost size small in omega arith;
           lines = let lines : length items ≤ 2 * n + 1 = h.counted.lines in omega arith;
         };
       };

@@ -10,7 +10,7 @@ use Rattle.pas_generate.specs.Traces.{state_after}
 
 -- the region: six heaps, none of them shared as yet, and an age of 2
 abbrev pub region : ℕ → ℕ → Profile
-region pages threads = record { pages = pages; threads = threads; age = 2; heaps = 6; shared = 0 }
+region pages threads = record { pages = pages; threads = threads; age = 2; heaps = 6; shared = 0; classes = 16 }
 
 -- ---- the items after an operation, the newest first
 -- an allocation by a thread, by its state

@@ -14,7 +14,8 @@ use Rattle.pas_steps.proofs.Called.{call_then, next_call, call_as}
 use Rattle.pas_steps.proofs.Calls.{does_as, does_then, returns_are}
 use Rattle.pas_steps.proofs.Sets.{both_fates, kept_kept}
 use Rattle.pas_large.specs.Claims.{in_span, HasPages}
-use Rattle.pas_large.specs.Gives.{GaveRun, GivesRun, give_steps}
+use Rattle.pas_rights.specs.Gives.{give_steps}
+use Rattle.pas_large.specs.Gives.{GaveRun, GivesRun}
 use Rattle.pas_large.proofs.Claims.{call_knowing, span_in}
 use Rattle.pas_guard.specs.Guards.{given_and_left, GuardedRun, GuardsRun}
 
@@ -35,7 +36,7 @@ inner_pages d first k v met = record {
   clear = met.clear;
 }
 
-pub can_give_inner : {σ : Standing} (d : Directory) (first k : ℕ) → CanCall σ (λ v l. HasPages d first (first + (k + 2)) v) → CanCall σ (λ v l. HasPages d (first + 1) (first + 1 + k) v)
+pub can_give_inner : {σ : Standing} (d : Directory) (first k : ℕ) → CanCall σ (HasPages d first (first + (k + 2))) → CanCall σ (HasPages d (first + 1) (first + 1 + k))
 can_give_inner d first k can = record { view = can.view; whole = can.whole; stood = can.stood; met = inner_pages d first k can.view can.met }
 
 -- one page more is left
@@ -76,7 +77,7 @@ module _ (d : Directory) (first k : ℕ) (block : Block) where
 
   module _ {σ σ1 : Standing} (give : GivesRun d (first + 1) k block σ σ1) where
     abbrev gs : List Made
-    gs = give.left ++ (give_steps (first + 1) block give.word give.answer ++ give.backs)
+    gs = give.left ++ (give_steps (first + 1) 0 block give.word give.answer ++ give.backs)
 
     gave : Calls σ σ1 (HasPages d first (first + (k + 2))) Gave gs
     gave = call_knowing d run (call_as (GaveRun d (first + 1) k block) give.calls (inner_pages d first k) (λ v w met r. r)) (λ v met. met.deeds)
@@ -84,7 +85,7 @@ module _ (d : Directory) (first k : ℕ) (block : Block) where
     may_low : (v : View) → HasPages d first (first + (k + 2)) v → Gave v (gs ++ v) → MayLeave first d (gs ++ v)
     may_low v met gaves = record { right = gaves.0.does.right first ∙ ap (λ t. now (if t then Lost else Kept) (has_right v first)) low_out ∙ met.right first low_in; deed = gaves.1 first low_in }
 
-    pub can_leave_low : CanCall σ (λ v l. HasPages d first (first + (k + 2)) v) → CanCall σ1 (λ v l. MayLeave first d v)
+    pub can_leave_low : CanCall σ (HasPages d first (first + (k + 2))) → CanCall σ1 (MayLeave first d)
     can_leave_low can = next_call gave can may_low
 
     module _ {σ2 : Standing} (low : Leaves first d σ1 σ2) where
@@ -95,14 +96,14 @@ module _ (d : Directory) (first k : ℕ) (block : Block) where
       may_high : (v : View) → HasPages d first (first + (k + 2)) v → LeftLow v ((low.steps ++ gs) ++ v) × Knows ((low.steps ++ gs) ++ v) → MayLeave (first + k + 1) d ((low.steps ++ gs) ++ v)
       may_high v met left = record { right = left.0.does.right (first + k + 1) ∙ ap (λ t. now (if t then Lost else Kept) (has_right v (first + k + 1))) high_out ∙ met.right (first + k + 1) high_in; deed = left.1 (first + k + 1) high_in }
 
-      pub can_leave_high : CanCall σ (λ v l. HasPages d first (first + (k + 2)) v) → CanCall σ2 (λ v l. MayLeave (first + k + 1) d v)
+      pub can_leave_high : CanCall σ (HasPages d first (first + (k + 2))) → CanCall σ2 (MayLeave (first + k + 1) d)
       can_leave_high can = next_call left_low can may_high
 
       pub guards : {σ3 : Standing} → Leaves (first + k + 1) d σ2 σ3 → GuardsRun d first k block σ σ3
       guards {σ3} high =
           let done : Calls σ σ3 (HasPages d first (first + (k + 2))) (λ v w. LeftAll v w × Knows w) (high.steps ++ (low.steps ++ gs)) = call_knowing d run (call_then LeftAll left_low high.calls may_high
           (λ v met left last. record { does = leave_one (first + 1) (first + 1 + k) first (first + 1 + k) first (first + (k + 2)) (first + k + 1) (with_high first k) left.0.does last.does; turn = left.0.turn })) (λ v met. met.deeds) in
-          let left = high.steps ++ (low.steps ++ give.left) in let rest = give_steps (first + 1) block give.word give.answer ++ give.backs in
+          let left = high.steps ++ (low.steps ++ give.left) in let rest = give_steps (first + 1) 0 block give.word give.answer ++ give.backs in
           let same : left ++ rest ≡ high.steps ++ (low.steps ++ gs) = append_assoc high.steps (low.steps ++ give.left) rest ∙ ap (λ s. high.steps ++ s) (append_assoc low.steps give.left rest) in record {
             backs = give.backs;
             back_kinds = give.back_kinds;

@@ -24,7 +24,8 @@ use Rattle.pas_steps.proofs.Kept.{knows_still}
 use Rattle.pas_steps.proofs.SpareRoom.{Spares}
 use Rattle.pas_large.specs.Claims.{in_span, HasPages}
 use Rattle.pas_large.specs.Finds.{MayFind, FindRoom}
-use Rattle.pas_large.specs.Gives.{give_steps, run_block}
+use Rattle.pas_rights.specs.Gives.{give_steps}
+use Rattle.pas_large.specs.Gives.{run_block}
 use Rattle.pas_large.proofs.Claims.{has_got, room_after, span_in, steady_both}
 use Rattle.pas_guard.specs.Books.{is_outer_of, is_outer, AreApart, Each, IsGuardOf, KnowsGuard, FitsBook}
 use Rattle.pas_guard.specs.Guards.{GuardedRun, GuardsRun}
@@ -195,7 +196,7 @@ give_stays d first k word answer g block is out = subst (λ b. grain_move (Give 
 pub fits_find : (f : Profile) (d : Directory) (gs : List Guard) (v : View) → FitsBook f gs v → MayFind d v
 fits_find f d gs v fits = record { lacks = λ p h. fits.rights p; clear = fits.clear }
 
-pub can_seek : {σ : Standing} (heap n spare : ℕ) (gs : List Guard) → 1 ≤ n → CanCall σ (λ v l. RaiseRoom σ.seat.profile gs n spare v) → CanCall σ (λ v l. FindRoom σ.seat.profile (large_directory heap) 1 spare v)
+pub can_seek : {σ : Standing} (heap n spare : ℕ) (gs : List Guard) → 1 ≤ n → CanCall σ (RaiseRoom σ.seat.profile gs n spare) → CanCall σ (FindRoom σ.seat.profile (large_directory heap) 1 spare)
 can_seek {σ} heap n spare gs some can = record { view = can.view; whole = can.whole; stood = can.stood; met = record { may = fits_find σ.seat.profile (large_directory heap) gs can.view can.met.fits; room = (let room = can.met.room in omega (arith, room, some)) } }
 
 -- ---- after it
@@ -239,18 +240,18 @@ module _ {σ σ1 : Standing} (heap k first : ℕ) (gs : List Guard) (seek : Seek
   sought_pages : (v : View) → FitsBook f_ gs v → HasSpan d_ first (first + (k + 2)) v (seek.steps ++ v) → HasPages d_ first (first + (k + 2)) (seek.steps ++ v)
   sought_pages v met span = has_got d_ first (first + (k + 2)) met.clear span.got
 
-  abbrev may_fit : (n spare : ℕ) → CanCall σ (λ v l. RaiseRoom f_ gs n spare v) → CanCall σ (λ v l. FitsBook f_ gs v)
+  abbrev may_fit : (n spare : ℕ) → CanCall σ (RaiseRoom f_ gs n spare) → CanCall σ (FitsBook f_ gs)
   may_fit n spare can = record { view = can.view; whole = can.whole; stood = can.stood; met = can.met.fits }
 
-  pub can_guard : (n spare : ℕ) → CanCall σ (λ v l. RaiseRoom f_ gs n spare v) → CanCall σ1 (λ v l. HasPages d_ first (first + (k + 2)) v)
+  pub can_guard : (n spare : ℕ) → CanCall σ (RaiseRoom f_ gs n spare) → CanCall σ1 (HasPages d_ first (first + (k + 2)))
   can_guard n spare can = next_call sought (may_fit n spare can) sought_pages
 
-  pub room_to_guard : (n spare spare1 : ℕ) → CanCall σ (λ v l. RaiseRoom f_ gs n spare v) → Spares σ spare → Spares σ1 spare1 → n ≤ spare1
+  pub room_to_guard : (n spare spare1 : ℕ) → CanCall σ (RaiseRoom f_ gs n spare) → Spares σ spare → Spares σ1 spare1 → n ≤ spare1
   room_to_guard n spare spare1 can law law1 = let room = room_after {spare = spare} {spare' = spare1} n sought.adds (may_fit n spare can) seek.shows can.met.room law law1 in omega (arith, room)
 
   pub raised : {σ2 : Standing} (block : Block) → 1 ≤ k → heap < f_.heaps → GuardsRun d_ first k block σ1 σ2 → Raises heap k gs (gs ++ guard_of first k block ∷ []) σ σ2 (Some block)
   raised block some of g =
-      let after = g.left ++ (give_steps (first + 1) block g.word g.answer ++ g.backs) in
+      let after = g.left ++ (give_steps (first + 1) 0 block g.word g.answer ++ g.backs) in
       let later = leads_at sought.adds.seat_is g.calls.leads in
       record {
         searched = seek.steps;
@@ -272,12 +273,12 @@ module _ {σ σ1 : Standing} (heap k first : ℕ) (gs : List Guard) (seek : Seek
         steady = λ v met agreed x is.
             let before = agreed_later f_ v after seek.steps agreed in let out = run_out f_ d_ gs first (first + (k + 2)) v (seek.steps ++ v) met (sought.leads.from v met before) (x / 256) is in
             steady_both x after seek.steps
-            (steady_both x g.left (give_steps (first + 1) block g.word g.answer ++ g.backs) (steady_kinds returning refl x g.left g.left_kinds) (give_stays d_ first k g.word g.answer x block g.block_is out, (refl, steady_kinds (Backing ∷ []) refl x g.backs g.back_kinds)))
+            (steady_both x g.left (give_steps (first + 1) 0 block g.word g.answer ++ g.backs) (steady_kinds returning refl x g.left g.left_kinds) (give_stays d_ first k g.word g.answer x block g.block_is out, (refl, steady_kinds (Backing ∷ []) refl x g.backs g.back_kinds)))
             (seek.steady v (fits_find f_ d_ gs v met) before (x / 256) (whole_outer f_ gs v met (x / 256) is) x refl);
         unbacked = λ v met agreed p is.
             let before = agreed_later f_ v after seek.steps agreed in let out = run_out f_ d_ gs first (first + (k + 2)) v (seek.steps ++ v) met (sought.leads.from v met before) p is in
             backs_both p after seek.steps
-            (backs_both p g.left (give_steps (first + 1) block g.word g.answer ++ g.backs) (no_backs returning p g.left refl g.left_kinds) (
+            (backs_both p g.left (give_steps (first + 1) 0 block g.word g.answer ++ g.backs) (no_backs returning p g.left refl g.left_kinds) (
               (λ e. cc),
               (
                 (λ e. cc),

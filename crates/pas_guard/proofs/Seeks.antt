@@ -8,13 +8,15 @@ use Rattle.pas_profile.specs.declared.directory.Directory.{Directory}
 use Rattle.pas_profile.specs.declared.profile.Profile.{Profile}
 use Rattle.pas_profile.specs.declared.word.Word.TheVariants as Word
 use Rattle.pas_rights.specs.Puts.{masked}
-use Rattle.pas_segregated.specs.Returns.{giving_back}
+use Rattle.pas_rights.specs.PutsBack.{giving_back, MayPutAndLeave, PutsAndLeaves, put_and_left}
+use Rattle.pas_rights.specs.Words.{full}
+use Rattle.pas_rights.proofs.Looks.{on_full}
 use Rattle.pas_scan.specs.Runs.{page_looks, IsFirstRun, HasNoRun, HasUnusable, FindsRun}
 use Rattle.pas_scan.specs.Usable.{ReadUsable, UnusableHere, LeftAlone, ParksNotHere, MakesNoDeedHere, WholeHere}
 use Rattle.pas_scan.proofs.LeftPages.{usable_before, usable_later, unusable_before, left_alone_by, lacks_by, holds_own}
 use Rattle.pas_steps.specs.Agreement.{Agrees, Agreed}
-use Rattle.pas_steps.specs.Calls.{Calls, Leads, AnyView, Kept, Gained, Lost, now, nothing, Does}
-use Rattle.pas_steps.specs.Desks.{Seat, Standing, Anything, Adds, CanCall, Makes, made}
+use Rattle.pas_steps.specs.Calls.{Calls, Leads, Kept, Gained, Lost, now, nothing, Does}
+use Rattle.pas_steps.specs.Desks.{Seat, Standing, AnyView, Adds, CanCall, Makes, made}
 use Rattle.pas_steps.specs.Evidence.{ReadsFree}
 use Rattle.pas_steps.specs.declared.step.Step.{Step}
 use Rattle.pas_steps.specs.Kinds.{Kinds, Deeding, Only, kind_of, is_in, place_of, apart, moving}
@@ -35,13 +37,14 @@ use Rattle.pas_steps.proofs.Unknown.{unknown_stays}
 use Rattle.pas_large.specs.Claims.{StaysPut, in_span, MayClaimPages, HasRunRoom, AloneFrom, HasPages, Releases, ClaimsRun, HoldsRun, FailsRun}
 use Rattle.pas_large.specs.Evidence.{LostHere, BrokenHere, BadHere, AllUsable, FailsHere, HasFailed, DeedsOf}
 use Rattle.pas_large.specs.Finds.{MayFind, FindRoom}
-use Rattle.pas_large.specs.Pages.{of_pages, OnceAfter, OnlyDeedsShow, GotPages, MayPutAndLeave, PutsAndLeaves, put_and_left, claiming}
-use Rattle.pas_large.proofs.Claims.{StaysHere, steady_on, steady_both, out_of, narrower, span_in, in_parts, span_past, span_none, got_both, has_got, room_after, full, on_full, alone_on}
-use Rattle.pas_large.proofs.Finds.{DeedOf, unknown, bad_later, alone_looks, knew, deeds_map, may_find}
+use Rattle.pas_large.specs.Pages.{of_pages, OnceAfter, OnlyDeedsShow, GotPages, claiming}
+use Rattle.pas_large.proofs.Claims.{StaysHere, steady_on, steady_both, out_of, narrower, span_in, in_parts, span_past, span_none, got_both, has_got, room_after, alone_on}
+use Rattle.pas_large.proofs.Finds.{DeedOf, bad_later, alone_looks, knew, deeds_map, may_find}
 use Rattle.pas_large.proofs.Pages.{undone, shows_both}
 use Rattle.pas_guard.specs.Evidence.{BackedReadHere, OuterBackedHere, IsBad, OuterFailsHere, HasFailedOnce}
 use Rattle.pas_guard.specs.Guarded.{LeavesGuard}
 use Rattle.pas_guard.specs.Seeks.{LeftSince, backed_looks, ZeroBackedHere, SomeBackedHere, LooksBacked, HoldsWhole, HasSpan, seeking, Seeks}
+use Rattle.pas_steps.proofs.Evidence.{unknown}
 
 -- ---- pages that are held
 pub span_of_none : {v w : View} (d : Directory) (a : ℕ) → Does nothing v w → HasSpan d a a v w
@@ -203,7 +206,7 @@ not_usable f d v p xs agreed whole stays (inr offered) = used_here f v p xs agre
 -- of them below `free` are held
 pub record Sought (d : Directory) (k from free next : ℕ) (desk desk' : Standing) : Type 0 where
   pub steps : List Made
-  pub adds : Adds desk desk' (λ v l. MayFind d v) steps
+  pub adds : Adds desk desk' (MayFind d) steps
   pub got : Leads desk.seat.profile (MayFind d) (HasSpan d from free) steps
   pub shows : OnlyDeedsShow desk.seat.profile steps
   pub lacks : (p : ℕ) → in_span from free p ≡ false → has_right steps p ≡ false
@@ -278,7 +281,7 @@ module _ {σ σ1 : Standing} (d : Directory) (k from free next : ℕ) (so : Soug
     held_pages : (v : View) → MayFind d v → HasSpan d from free v (ss ++ v) → HasPages d from free (ss ++ v)
     held_pages v met span = has_got d from free met.clear span.got
 
-    can_release : CanCall σ (λ v l. MayFind d v) → CanCall σ2 (λ v l. HasPages d from free v)
+    can_release : CanCall σ (MayFind d) → CanCall σ2 (HasPages d from free)
     can_release can = next_call held can held_pages
 
     released : {σ3 : Standing} (r : Releases d from free σ2 σ3) → Calls σ σ3 (MayFind d) (Does nothing) (r.steps ++ ss)
@@ -333,7 +336,7 @@ module _ {σ σ1 : Standing} (d : Directory) (k from free next : ℕ) (so : Soug
         (deeds_map d (k + 2) (λ s. ((s ≡ from) × (free ≡ from + (k + 2))) ⊎ HasFailedOnce v d k s xs) (λ s. HasFailedOnce v d k s (rs ++ (ys ++ xs))) xs
         (λ s h. elim h [ inl full ↦ (let e = full.1 in absurd (omega (arith, e, short))) | inr failed ↦ failed_more v d k s rs (ys ++ xs) (failed_more v d k s ys xs failed) ]) (so.deeds v met (agreed_later f v ys xs agreed)))
 
-  pub can_release_looked : {σ2 : Standing} {found : Option ℕ} → FindsRun d next next 1 σ1 σ2 found → CanCall σ (λ v l. MayFind d v) → CanCall σ2 (λ v l. HasPages d from free v)
+  pub can_release_looked : {σ2 : Standing} {found : Option ℕ} → FindsRun d next next 1 σ1 σ2 found → CanCall σ (MayFind d) → CanCall σ2 (HasPages d from free)
   can_release_looked find can = can_release (looked find) can
 
   -- none is usable, and what is held is put back
@@ -421,7 +424,7 @@ module _ {σ σ1 : Standing} (d : Directory) (k from free next : ℕ) (so : Soug
     all_usable : (b : List Made) → AllUsable d (k + 2) from (b ++ xs)
     all_usable b p is = let lt = is.1 in usable_later d p b xs (so.usable p is.0 (omega (arith, lt, whole)))
 
-    pub can_claim : (spare spare1 : ℕ) → CanCall σ (λ v l. FindRoom f d 1 spare v) → Spares σ spare → Spares σ1 spare1 → CanCall σ1 (λ v l. HasRunRoom σ1.seat.profile d free next 1 spare1 v)
+    pub can_claim : (spare spare1 : ℕ) → CanCall σ (FindRoom f d 1 spare) → Spares σ spare → Spares σ1 spare1 → CanCall σ1 (HasRunRoom σ1.seat.profile d free next 1 spare1)
     can_claim spare spare1 can law law1 =
         let may = may_find can in let met = can.met.may in
         let agreed = so.adds.agreed may.view may.whole may.stood met in record {
@@ -438,7 +441,7 @@ module _ {σ σ1 : Standing} (d : Directory) (k from free next : ℕ) (so : Soug
       abbrev zs : List Made
       zs = claim.steps
 
-      claim_adds : Adds σ σ2 (λ v l. MayFind d v) (zs ++ xs)
+      claim_adds : Adds σ σ2 (MayFind d) (zs ++ xs)
       claim_adds = adds_call so.adds claim.adds (λ v l stood met. (so_call.leads.from v met (so.adds.agreed v l stood met)).1)
 
       claim_kinds : Only seeking (zs ++ xs)
@@ -482,7 +485,7 @@ module _ {σ σ1 : Standing} (d : Directory) (k from free next : ℕ) (so : Soug
         };
       }
 
-      pub can_release_lost : CanCall σ (λ v l. MayFind d v) → CanCall σ2 (λ v l. HasPages d from free v)
+      pub can_release_lost : CanCall σ (MayFind d) → CanCall σ2 (HasPages d from free)
       can_release_lost can = can_release lost_call can
 
       lost_lacks : (p : ℕ) → in_span from free p ≡ false → has_right (ws ++ xs) p ≡ false
@@ -557,7 +560,7 @@ module _ {σ σ1 : Standing} (d : Directory) (k from free next : ℕ) (so : Soug
           deeds = λ v met agreed. claim_deeds claim v met agreed (λ s. ((s ≡ from) × (next ≡ from + (k + 2))) ⊎ HasFailedOnce v d k s (zs ++ xs)) (inl (refl, whole)) (λ s h. inr (failed_more v d k s zs xs h));
         }
 
-pub anything_goes : {σ σ1 : Standing} (d : Directory) (k from next : ℕ) → Sought d k from next next σ σ1 → CanCall σ (λ v l. MayFind d v) → CanCall σ1 Anything
+pub anything_goes : {σ σ1 : Standing} (d : Directory) (k from next : ℕ) → Sought d k from next next σ σ1 → CanCall σ (MayFind d) → CanCall σ1 AnyView
 anything_goes d k from next so can = record { view = so.steps ++ can.view; whole = _; stood = so.adds.added can.view can.whole can.stood can.met; met = tt }
 
 -- ---- the whole run is held, and its outer pages are looked at
@@ -662,7 +665,7 @@ module _ {σ σ1 σ2 : Standing} (d : Directory) (k from next high : ℕ) (whole
     slide_may : (v : View) → MayFind d v → HasSpan d from next v ((ls_ ++ us_) ++ v) → MayPutAndLeave from d (masked from full) ((ls_ ++ us_) ++ v)
     slide_may v met span = subst (MayPutAndLeave from d (masked from full)) (sym (append_assoc ls_ us_ v)) (may_slide v met (subst (HasSpan d from next v) (append_assoc ls_ us_ v) span))
 
-    pub can_slide : CanCall σ (λ v l. MayFind d v) → CanCall σ2 (λ v l. MayPutAndLeave from d (masked from full) v)
+    pub can_slide : CanCall σ (MayFind d) → CanCall σ2 (MayPutAndLeave from d (masked from full))
     can_slide can = next_call (look_call d k from next high whole last so looks) can slide_may
 
     pub seek_slide : {σ3 : Standing} → PutsAndLeaves from d full σ2 σ3 → Sought d k (from + 1) next next σ σ3

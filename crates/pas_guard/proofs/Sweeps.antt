@@ -8,7 +8,7 @@ use Rattle.pas_profile.specs.declared.profile.Profile.{Profile}
 use Rattle.pas_report.specs.declared.record.Record.{Record}
 use Rattle.pas_scan.specs.Runs.{large_directory}
 use Rattle.pas_steps.specs.Calls.{Calls, Leads, Kept, Lost, now, Does}
-use Rattle.pas_steps.specs.Desks.{Seat, Standing, Anything, CanCall}
+use Rattle.pas_steps.specs.Desks.{Seat, Standing, AnyView, CanCall}
 use Rattle.pas_steps.specs.Kinds.{LookLife}
 use Rattle.pas_steps.specs.Views.{View, has_right, KnowsDeed}
 use Rattle.pas_steps.specs.declared.step.Made.{Made}
@@ -212,8 +212,8 @@ module _ {σ σ1 : Standing} (all : Bool) (guards up : List Guard) (place : ℕ)
       };
     }
 
-    can_lower : CanCall σ (λ v l. FitsBook f guards v) → CanCall σ2 (λ v l. MayLower σ2.seat.profile guard v)
-    can_lower can = subst (λ (s : Seat). CanCall σ2 (λ v l. MayLower s.profile guard v)) (sym looked.adds.seat_is) (next_call looked can (λ v met fits. may_lower f so.kept later guard ((ls ++ so.steps) ++ v) (fits_split ((ls ++ so.steps) ++ v) fits)))
+    can_lower : CanCall σ (FitsBook f guards) → CanCall σ2 (MayLower σ2.seat.profile guard)
+    can_lower can = subst (λ (s : Seat). CanCall σ2 (MayLower s.profile guard)) (sym looked.adds.seat_is) (next_call looked can (λ v met fits. may_lower f so.kept later guard ((ls ++ so.steps) ++ v) (fits_split ((ls ++ so.steps) ++ v) fits)))
 
     -- it stays up
     stays_up : down ≡ false → SweptSoFar all guards up (place + 1) said said' σ σ2
@@ -277,17 +277,17 @@ module _ {σ σ1 : Standing} (all : Bool) (guards up : List Guard) (place : ℕ)
   next = subst (NextGuard up so.kept so.rest) (sym read) (next_guard so.kept so.rest up place d so.up so.at lt)
 
   -- its block stands in the region
-  pub its_page : CanCall σ (λ v l. FitsBook σ.seat.profile guards v) → IsPage σ1.seat.profile (address_of guard.block.name / 4096)
+  pub its_page : CanCall σ (FitsBook σ.seat.profile guards) → IsPage σ1.seat.profile (address_of guard.block.name / 4096)
   its_page can =
       let fits = so.calls.leads.from can.view can.met (so.calls.adds.agreed can.view can.whole can.stood can.met) in
       let its = each_split (IsGuardOf σ.seat.profile) so.kept next.later guard (fits_split all guards up place said said' so guard next.later next.rest_is (so.steps ++ can.view) fits).of_region in
       subst (λ (s : Seat). IsPage s.profile (address_of guard.block.name / 4096)) (sym so.calls.adds.seat_is) its.0.block
 
-  pub may_look : CanCall σ (λ v l. FitsBook σ.seat.profile guards v) → CanCall σ1 Anything
+  pub may_look : CanCall σ (FitsBook σ.seat.profile guards) → CanCall σ1 AnyView
   may_look can = record { view = so.steps ++ can.view; whole = _; stood = so.calls.adds.added can.view can.whole can.stood can.met; met = tt }
 
   module _ {σ2 : Standing} {down : Bool} (look : LooksOver all guard σ1 σ2 down) where
-    pub can_lower_it : CanCall σ (λ v l. FitsBook σ.seat.profile guards v) → CanCall σ2 (λ v l. MayLower σ2.seat.profile guard v)
+    pub can_lower_it : CanCall σ (FitsBook σ.seat.profile guards) → CanCall σ2 (MayLower σ2.seat.profile guard)
     can_lower_it can = can_lower all guards up place said said' so guard next.later next.rest_is look can
 
     pub it_stays : down ≡ false → SweptSoFar all guards up (place + 1) said said' σ σ2

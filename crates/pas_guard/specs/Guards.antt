@@ -8,7 +8,8 @@ use Rattle.pas_steps.specs.Kinds.{Backing, Only, returning}
 use Rattle.pas_steps.specs.Views.{View, KnowsDeed}
 use Rattle.pas_steps.specs.declared.step.Made.{Made}
 use Rattle.pas_large.specs.Claims.{in_span, HasPages}
-use Rattle.pas_large.specs.Gives.{BacksIn, run_block, give_steps}
+use Rattle.pas_rights.specs.Gives.{give_steps}
+use Rattle.pas_large.specs.Gives.{BacksIn, run_block}
 
 -- the grains of the pages from `low` to below `high` are the actor's no longer, and neither are the rights of those from `first` to below `stop`
 abbrev pub given_and_left : ℕ → ℕ → ℕ → ℕ → Effect
@@ -30,5 +31,5 @@ pub record GuardsRun (d : Directory) (first k : ℕ) (block : Block) (desk desk'
   pub block_is : block ≡ run_block d (first + 1) k word
   pub left : List Made
   pub left_kinds : Only returning left
-  pub few : length (left ++ (give_steps (first + 1) block word answer ++ backs)) ≤ 12 * k + 24
-  pub calls : Calls desk desk' (HasPages d first (first + (k + 2))) (GuardedRun d first k block) (left ++ (give_steps (first + 1) block word answer ++ backs))
+  pub few : length (left ++ (give_steps (first + 1) 0 block word answer ++ backs)) ≤ 12 * k + 24
+  pub calls : Calls desk desk' (HasPages d first (first + (k + 2))) (GuardedRun d first k block) (left ++ (give_steps (first + 1) 0 block word answer ++ backs))

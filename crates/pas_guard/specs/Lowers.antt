@@ -1,39 +1,17 @@
 -- A guard is lowered: its outer pages are put back.
-use Rattle.std.specs.Prelude.{ℕ, ◌+◌, ◌/◌, ◌≤◌, ◌≡◌, ◌==◌, true, if◌then◌else◌, List, ◌++◌, length}
-use Rattle.pas_profile.specs.declared.directory.Directory.{Directory}
+use Rattle.std.specs.Prelude.{ℕ, ◌+◌, ◌/◌, ◌≤◌, ◌≡◌, true, if◌then◌else◌, List, ◌++◌, length}
 use Rattle.pas_profile.specs.declared.profile.Profile.{Profile}
-use Rattle.pas_rights.specs.Returns.{ReturnSteps}
-use Rattle.pas_segregated.specs.Returns.{giving_back}
+use Rattle.pas_rights.specs.PutsBack.{giving_back}
 use Rattle.pas_steps.specs.Calls.{Calls, Effect, Kept, Lost, Does}
-use Rattle.pas_steps.specs.Clear.{IsClearOn, IsClear}
+use Rattle.pas_steps.specs.Clear.{IsClear}
 use Rattle.pas_steps.specs.Desks.{Standing}
 use Rattle.pas_steps.specs.Frames.{OnlyOn}
 use Rattle.pas_steps.specs.Kinds.{Only}
-use Rattle.pas_steps.specs.Views.{View, holds, KnowsDeed}
+use Rattle.pas_steps.specs.Views.{View, holds}
 use Rattle.pas_steps.specs.declared.step.Made.{Made}
 use Rattle.pas_guard.specs.Books.{is_outer_of, IsGuardOf, KnowsGuard}
 use Rattle.pas_guard.specs.declared.book.Guard.{Guard}
 
--- all grains of the page are held, its deed is known, and it is clear
-pub record MayPutBack (page : ℕ) (d : Directory) (v : View) : Type 0 where
-  pub held : (g : ℕ) → g / 256 ≡ page → holds v g ≡ true
-  pub deed : KnowsDeed page d v
-  pub clear : IsClearOn page v
-
-abbrev pub put_back : ℕ → Effect
-put_back page = record { grains = λ g. if page == g / 256 then Lost else Kept; rights = λ q. Kept; clears = λ q. Kept }
-
--- a put for each free word, and what follows a return
-pub record PutsBack (page : ℕ) (d : Directory) (desk desk' : Standing) : Type 0 where
-  pub puts : List Made
-  pub after : List Made
-  pub calls : Calls desk desk' (MayPutBack page d) (Does (put_back page)) (after ++ puts)
-  pub order : ReturnSteps page d after
-  pub kinds : Only giving_back (after ++ puts)
-  pub on : OnlyOn page (after ++ puts)
-  pub few : length (after ++ puts) ≤ 12
-
--- ---- both pages of a guard
 pub record MayLower (f : Profile) (guard : Guard) (v : View) : Type 0 where
   pub of : IsGuardOf f guard
   pub knows : KnowsGuard v guard

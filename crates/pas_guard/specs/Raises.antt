@@ -14,7 +14,8 @@ use Rattle.pas_steps.specs.Kinds.{Backing, Only, returning}
 use Rattle.pas_steps.specs.Unknown.{unknown_pages}
 use Rattle.pas_steps.specs.Views.{View}
 use Rattle.pas_steps.specs.declared.step.Made.{Made}
-use Rattle.pas_large.specs.Gives.{BacksIn, run_block, give_steps}
+use Rattle.pas_rights.specs.Gives.{give_steps}
+use Rattle.pas_large.specs.Gives.{BacksIn, run_block}
 use Rattle.pas_large.specs.Pages.{OnlyDeedsShow}
 use Rattle.pas_guard.specs.Books.{is_outer, FitsBook}
 use Rattle.pas_guard.specs.Seeks.{seeking, SoughtRun, SoughtNone}
@@ -42,7 +43,7 @@ pub record IsRaised (f : Profile) (d : Directory) (k : ℕ) (guards guards' : Li
   pub block_is : block ≡ run_block d (first + 1) k word
   pub left : List Made
   pub left_kinds : Only returning left
-  pub after_is : after ≡ left ++ (give_steps (first + 1) block word answer ++ backs)
+  pub after_is : after ≡ left ++ (give_steps (first + 1) 0 block word answer ++ backs)
   pub raised : guards' ≡ guards ++ guard_of first k block ∷ []
 
 -- the search found none, and the book is as it was

@@ -5,7 +5,7 @@ use Rattle.pas_profile.specs.declared.profile.Profile.{Profile}
 use Rattle.pas_profile.specs.declared.word.Word.TheVariants as Word
 use Rattle.pas_steps.specs.Agreement.{Agreed}
 use Rattle.pas_steps.specs.Calls.{Leads, nothing, Does}
-use Rattle.pas_steps.specs.Desks.{Standing, Anything, Adds}
+use Rattle.pas_steps.specs.Desks.{Standing, AnyView, Adds}
 use Rattle.pas_steps.specs.Kinds.{Kinds, LookBacked, Only}
 use Rattle.pas_steps.specs.Past.{Once, Since}
 use Rattle.pas_steps.specs.Views.{View, holds, has_right, known_deed}
@@ -31,7 +31,7 @@ SomeBackedHere page m before = (m.step ≡ Look (Word.Backed page)) × (m.answer
 -- both pages were read as not backed, or one of them wasn't
 pub record LooksBacked (low high : ℕ) (desk desk' : Standing) (bare : Bool) : Type 0 where
   pub steps : List Made
-  pub adds : Adds desk desk' Anything steps
+  pub adds : Adds desk desk' AnyView steps
   pub kinds : Only backed_looks steps
   pub few : length steps ≤ 2
   pub outcome : MatchBool bare (Once (ZeroBackedHere low) steps × Once (ZeroBackedHere high) steps) (Once (SomeBackedHere low) steps ⊎ Once (SomeBackedHere high) steps)
@@ -74,7 +74,7 @@ pub record SoughtNone (f : Profile) (d : Directory) (k : ℕ) (steps : List Made
 -- At most 71 steps for each page of the region, and two more. No step moves a grain of a page that was held whole before.
 pub record Seeks (d : Directory) (k : ℕ) (desk desk' : Standing) (found : Option ℕ) : Type 0 where
   pub steps : List Made
-  pub adds : Adds desk desk' (λ v l. MayFind d v) steps
+  pub adds : Adds desk desk' (MayFind d) steps
   pub kinds : Only seeking steps
   pub shows : OnlyDeedsShow desk.seat.profile steps
   pub few : length steps ≤ 71 * desk.seat.profile.pages + 2

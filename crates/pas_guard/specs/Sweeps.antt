@@ -7,7 +7,7 @@ use Rattle.pas_profile.specs.declared.word.Word.TheVariants as Word
 use Rattle.pas_report.specs.declared.record.Record.{Record}
 use Rattle.pas_report.specs.declared.record.Said.{Said}
 use Rattle.pas_steps.specs.Calls.{Calls}
-use Rattle.pas_steps.specs.Desks.{Standing, Anything, Adds, made}
+use Rattle.pas_steps.specs.Desks.{Standing, AnyView, Adds, made}
 use Rattle.pas_steps.specs.declared.step.Made.{Made}
 use Rattle.pas_steps.specs.declared.step.Step.TheVariants.{Look}
 use Rattle.pas_guard.specs.Books.{FitsBook}
@@ -29,7 +29,7 @@ life_look guard word = made (Look (life_word_of guard)) word ∷ []
 -- whether the guard goes down: its block has ended, or all are to
 pub record LooksOver (all : Bool) (guard : Guard) (desk desk' : Standing) (down : Bool) : Type 0 where
   pub word : ℕ
-  pub adds : Adds desk desk' Anything (life_look guard word)
+  pub adds : Adds desk desk' AnyView (life_look guard word)
   pub down_is : down ≡ (all || is_over guard word)
 
 abbrev pub lowered_record : ℕ → Guard → Record

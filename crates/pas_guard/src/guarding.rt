@@ -17,7 +17,7 @@ pub fn guard_run<D: Desk>(desk: &mut D, first: u32, pages: u32, directory: Direc
     requires pages { 1 ≤ pages }
     requires region { first + (pages + 2) ≤ (D.standing desk.old).seat.profile.pages + 1 }
     requires directory { IsDirectoryOf (D.standing desk.old).seat.profile directory }
-    requires can { CanCall (D.standing desk.old) (λ v l. HasPages directory first (first + (pages + 2)) v) }
+    requires can { CanCall (D.standing desk.old) (HasPages directory first (first + (pages + 2))) }
     requires room { pages + 1 ≤ D.spare_of desk.old }
     ensures guards { GuardsRun directory first pages result (D.standing desk.old) (D.standing desk.new) }
     ensures home { D.home desk.new ≡ D.home desk.old }

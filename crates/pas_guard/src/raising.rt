@@ -21,7 +21,7 @@ impl GuardBook {
         requires heap { heap < (D.standing desk.old).seat.profile.heaps }
         requires some { 1 ≤ pages }
         requires pages { pages ≤ (D.standing desk.old).seat.profile.pages }
-        requires can { CanCall (D.standing desk.old) (λ v l. RaiseRoom (D.standing desk.old).seat.profile (guards_in self.old) (pages + 1) (D.spare_of desk.old) v) }
+        requires can { CanCall (D.standing desk.old) (RaiseRoom (D.standing desk.old).seat.profile (guards_in self.old) (pages + 1) (D.spare_of desk.old)) }
         ensures raises { Raises heap pages (guards_in self.old) (guards_in self.new) (D.standing desk.old) (D.standing desk.new) result }
         ensures size { size_of_book self.new ≡ size_of_book self.old }
         ensures home { D.home desk.new ≡ D.home desk.old }

@@ -7,8 +7,9 @@ ghost use Rattle.pas_guard.specs.Seeks.{Seeks};
 
 use crate::looking::are_bare;
 use pas_bits::Mask4;
-use pas_large::{claim_run, put_and_leave, release};
+use pas_large::{claim_run, release};
 use pas_profile::{Directory, Kind};
+use pas_rights::put_and_leave;
 use pas_scan::run_of_pages;
 use pas_steps::Desk;
 
@@ -21,7 +22,7 @@ use pas_steps::Desk;
 pub fn seek_run<D: Desk>(desk: &mut D, heap: u8, pages: u32) -> Option<u32>
     requires heap { heap < (D.standing desk.old).seat.profile.heaps }
     requires pages { pages ≤ (D.standing desk.old).seat.profile.pages }
-    requires can { CanCall (D.standing desk.old) (λ v l. FindRoom (D.standing desk.old).seat.profile (large_directory heap) 1 (D.spare_of desk.old) v) }
+    requires can { CanCall (D.standing desk.old) (FindRoom (D.standing desk.old).seat.profile (large_directory heap) 1 (D.spare_of desk.old)) }
     ensures seeks { Seeks (large_directory heap) pages (D.standing desk.old) (D.standing desk.new) result }
     ensures home { D.home desk.new ≡ D.home desk.old }
 {

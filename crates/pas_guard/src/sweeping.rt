@@ -3,7 +3,7 @@ ghost use Rattle.std.specs.Prelude.{◌≡◌, ◌≤◌, ◌+◌, ◌/◌, ◌%
 ghost use Rattle.pas_profile.specs.Profiles.{IsPage};
 ghost use Rattle.pas_profile.specs.Runs.{address_of};
 ghost use Rattle.pas_report.specs.Rooms.{records_in, room_of};
-ghost use Rattle.pas_steps.specs.Desks.{Anything, CanCall};
+ghost use Rattle.pas_steps.specs.Desks.{AnyView, CanCall};
 ghost use Rattle.pas_guard.specs.Books.{guards_in, size_of_book, FitsBook};
 ghost use Rattle.pas_guard.specs.Sweeps.{LooksOver, Sweeps};
 
@@ -17,7 +17,7 @@ use pas_steps::Desk;
 /// Whether the guard goes down: its block has ended, by a look at the life word of its first grain, or all are to go.
 fn goes_down<D: Desk>(desk: &mut D, guard: Guard, all: bool) -> bool
     requires page { IsPage (D.standing desk.old).seat.profile (address_of guard.block.name / 4096) }
-    requires can { CanCall (D.standing desk.old) Anything }
+    requires can { CanCall (D.standing desk.old) AnyView }
     ensures looks { LooksOver all guard (D.standing desk.old) (D.standing desk.new) result }
     ensures home { D.home desk.new ≡ D.home desk.old }
 {
@@ -34,7 +34,7 @@ impl GuardBook {
     /// said. The others stay up, in their order. At most 25 steps for each guard, and no event.
     pub fn sweep<D: Desk>(&mut self, desk: &mut D, all: bool, lowered: &mut Records)
         requires room { length (records_in lowered.old) + length (guards_in self.old) ≤ room_of lowered.old }
-        requires can { CanCall (D.standing desk.old) (λ v l. FitsBook (D.standing desk.old).seat.profile (guards_in self.old) v) }
+        requires can { CanCall (D.standing desk.old) (FitsBook (D.standing desk.old).seat.profile (guards_in self.old)) }
         ensures sweeps { Sweeps all (guards_in self.old) (guards_in self.new) (records_in lowered.old) (records_in lowered.new) (D.standing desk.old) (D.standing desk.new) }
         ensures size { size_of_book self.new ≡ size_of_book self.old }
         ensures room { room_of lowered.new ≡ room_of lowered.old }

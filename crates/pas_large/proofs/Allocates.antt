@@ -6,8 +6,8 @@ use Rattle.pas_profile.specs.declared.event.NoRoom.{NoRoom}
 use Rattle.pas_profile.specs.declared.name.Block.{Block}
 use Rattle.pas_profile.specs.declared.profile.Profile.{Profile}
 use Rattle.pas_scan.specs.Runs.{large_directory}
-use Rattle.pas_steps.specs.Calls.{Leads, Calls, AnyView, nothing, Does}
-use Rattle.pas_steps.specs.Desks.{Seat, Standing, CanCall, triples}
+use Rattle.pas_steps.specs.Calls.{Leads, Calls, nothing, Does}
+use Rattle.pas_steps.specs.Desks.{Seat, Standing, CanCall, triples, AnyView}
 use Rattle.pas_steps.specs.Kinds.{looking, kind_of, is_in, Only}
 use Rattle.pas_steps.specs.Frames.{IsScan, OnlyScans}
 use Rattle.pas_steps.specs.declared.step.Step.{Step}
@@ -24,7 +24,8 @@ use Rattle.pas_large.proofs.Named.{some_none, named_steps}
 use Rattle.std.proofs.lemmas.List.{append-nil}
 use Rattle.pas_large.specs.Claims.{in_span, HasPages}
 use Rattle.pas_large.specs.Finds.{MayFind, FindRoom, Finds}
-use Rattle.pas_large.specs.Gives.{give_steps, GivesRun}
+use Rattle.pas_rights.specs.Gives.{give_steps}
+use Rattle.pas_large.specs.Gives.{GivesRun}
 use Rattle.pas_large.specs.Pages.{GotPages, OnlyDeedsShow}
 use Rattle.pas_large.specs.Refusals.{IsReason, Refuses}
 use Rattle.pas_large.proofs.Claims.{has_got, room_after}
@@ -45,19 +46,18 @@ module _ {σ σ1 : Standing} (d : Directory) (n first : ℕ) (tells : Bool) (fin
   has_pages : (v : View) → MayFind d v → GotPages (in_span first (first + n)) d v (find.steps ++ v) → HasPages d first (first + n) (find.steps ++ v)
   has_pages v met got = has_got d first (first + n) met.clear got
 
-  pub can_give_run : CanCall σ (λ v l. MayFind d v) → CanCall σ1 (λ v l. HasPages d first (first + n) v)
+  pub can_give_run : CanCall σ (MayFind d) → CanCall σ1 (HasPages d first (first + n))
   can_give_run can = next_call found_call can has_pages
 
-  pub room_to_give_run : (spare spare1 : ℕ) → CanCall σ (λ v l. FindRoom σ.seat.profile d (n + 1) spare v) → Spares σ spare → Spares σ1 spare1 → n + 1 ≤ spare1
+  pub room_to_give_run : (spare spare1 : ℕ) → CanCall σ (FindRoom σ.seat.profile d (n + 1) spare) → Spares σ spare → Spares σ1 spare1 → n + 1 ≤ spare1
   room_to_give_run spare spare1 can law law1 = let room = room_after {spare = spare} {spare' = spare1} (n + 1) find.adds (may_find can) find.shows can.met.room law law1 in omega (arith, room)
 
 -- the looks of a refusal change nothing
 scan_kind : (s : Step) → IsScan s → is_in looking (kind_of s) ≡ true
 scan_kind s (IsScan.LooksEligible d j) = refl
-scan_kind s (IsScan.LooksDeed page) = refl
-scan_kind s (IsScan.LooksParked j) = refl
+scan_kind s scans = refl
 
-scans_only : (steps : List Made) → OnlyScans steps → Only looking steps
+pub scans_only : (steps : List Made) → OnlyScans steps → Only looking steps
 scans_only steps scans = always_map (λ m before. IsScan m.step) (λ m before. is_in looking (kind_of m.step) ≡ true) steps (λ m before is. scan_kind m.step is) scans
 
 scans_lead : (f : Profile) (steps : List Made) → OnlyScans steps → Leads f AnyView (Does nothing) steps
@@ -75,7 +75,7 @@ allocates heap n first tells find block give =
       told = λ t v l stood met. (first, find.told t v l stood met, ap (λ (b : Block). address_of b.name) give.block_is);
       kinds = find.kinds;
       shows = find.shows;
-      few = (let k = length-append (give.left ++ (give_steps first block give.word give.answer ++ give.backs)) find.steps in let a = give.few in let b = find.few in omega (arith, k, a, b));
+      few = (let k = length-append (give.left ++ (give_steps first 0 block give.word give.answer ++ give.backs)) find.steps in let a = give.few in let b = find.few in omega (arith, k, a, b));
       outcome = record {
         first = first;
         found = find.outcome;
@@ -136,21 +136,21 @@ module _ {σ σ1 : Standing} (d : Directory) (n first : ℕ) (found : Option ℕ
   named_pages : (v : View) → MayFind d v → GotPages (in_span first (first + n)) d v (claim.steps ++ v) → HasPages d first (first + n) (claim.steps ++ v)
   named_pages v met got = has_got d first (first + n) met.clear got
 
-  pub can_give_named : CanCall σ (λ v l. MayFind d v) → CanCall σ1 (λ v l. HasPages d first (first + n) v)
+  pub can_give_named : CanCall σ (MayFind d) → CanCall σ1 (HasPages d first (first + n))
   can_give_named can = next_call named_call can named_pages
 
 pub region_named : {σ σ1 : Standing} (d : Directory) (n first : ℕ) (found : Option ℕ) → ClaimsNamed d n found σ σ1 (Some first) → first + n ≤ σ1.seat.profile.pages + 1
 region_named d n first found claim = subst (λ (s : Seat). first + n ≤ s.profile.pages + 1) (sym claim.adds.seat_is) claim.outcome.of_region.1
 
 -- room for so many events is left
-pub room_named : {σ σ1 : Standing} (d : Directory) (n k : ℕ) {found result : Option ℕ} (claim : ClaimsNamed d n found σ σ1 result) (spare spare1 : ℕ) → CanCall σ (λ v l. FindRoom σ.seat.profile d k spare v) → Spares σ spare → Spares σ1 spare1 → k ≤ spare1
+pub room_named : {σ σ1 : Standing} (d : Directory) (n k : ℕ) {found result : Option ℕ} (claim : ClaimsNamed d n found σ σ1 result) (spare spare1 : ℕ) → CanCall σ (FindRoom σ.seat.profile d k spare) → Spares σ spare → Spares σ1 spare1 → k ≤ spare1
 room_named d n k claim spare spare1 can law law1 = let room = room_after {spare = spare} {spare' = spare1} k claim.adds (may_find can) claim.shows can.met.room law law1 in omega (arith, room)
 
 -- the actor may find a run again
 pub find_again : (f : Profile) (d : Directory) (v : View) (xs : List Made) → MayFind d v → Agreed f v xs → Does nothing v (xs ++ v) → MayFind d (xs ++ v)
 find_again f d v xs met agreed does = record { lacks = λ p knows. does.right p ∙ met.lacks p (knew_before f d p xs v agreed knows); clear = still_clear does met.clear }
 
-pub can_scan : {σ σ1 : Standing} (d : Directory) (n k : ℕ) {found : Option ℕ} (claim : ClaimsNamed d n found σ σ1 None) (spare spare1 : ℕ) → CanCall σ (λ v l. FindRoom σ.seat.profile d k spare v) → Spares σ spare → Spares σ1 spare1 → CanCall σ1 (λ v l. FindRoom σ1.seat.profile d k spare1 v)
+pub can_scan : {σ σ1 : Standing} (d : Directory) (n k : ℕ) {found : Option ℕ} (claim : ClaimsNamed d n found σ σ1 None) (spare spare1 : ℕ) → CanCall σ (FindRoom σ.seat.profile d k spare) → Spares σ spare → Spares σ1 spare1 → CanCall σ1 (FindRoom σ1.seat.profile d k spare1)
 can_scan {σ} {σ1} d n k claim spare spare1 can law law1 =
     let xs = claim.steps in let met = can.met.may in
     let agreed = claim.adds.agreed can.view can.whole can.stood met in
@@ -169,7 +169,7 @@ serves_named heap n first found tells claim block give =
     let d = large_directory heap in
     let calls = call_then (GaveLarge d first n block) (named_call d n first found claim) give.calls (named_pages d n first found claim)
     (λ v met got gave. record { does = undone (λ g. in_span first (first + n) (g / 256)) (in_span first (first + n)) got.apart got.lacked got.does gave.does; apart = got.apart; deeds = gave.deeds; turn = gave.turn }) in
-    let k = length-append (give.left ++ (give_steps first block give.word give.answer ++ give.backs)) claim.steps in let a = give.few in let b = claim.outcome.few in
+    let k = length-append (give.left ++ (give_steps first 0 block give.word give.answer ++ give.backs)) claim.steps in let a = give.few in let b = claim.outcome.few in
     let most = named_steps n first found claim.outcome.named in
     record {
       tried = claim.steps;

@@ -7,7 +7,6 @@ use Rattle.std.proofs.lemmas.Bool.Decides.{nat_tests}
 use Rattle.pas_profile.specs.declared.directory.Directory.{Directory}
 use Rattle.pas_bits.specs.declared.mask.Mask4.{Mask4}
 use Rattle.pas_bits.specs.Masks.{is_set}
-use Rattle.pas_bits.proofs.Words.{full_bit, four_words}
 use Rattle.pas_steps.specs.Calls.{Kept, Gained, Lost, now, nothing, Does, Calls, Leads}
 use Rattle.pas_steps.specs.Frames.{IsOnPage, OnlyOn}
 use Rattle.pas_steps.specs.Past.{Since}
@@ -21,13 +20,15 @@ use Rattle.pas_steps.proofs.Kept.{right_on, on_grain, holds_on_page, knows_still
 use Rattle.pas_steps.proofs.Past.{always_both, always_map, once_later}
 use Rattle.pas_steps.proofs.Sets.{both_fates}
 use Rattle.pas_scan.specs.Usable.{ParksNotHere, MakesNoDeedHere, LeftAlone}
-use Rattle.pas_large.specs.Pages.{of_pages, GotPages, MayClaim, MayPutAndLeave, PutsAndLeaves, DeedsOn, OnlyDeedsShow, taking_pages, claiming, claiming_old, LosesPage, BreaksPage, WinsPage, ClaimsPage}
+use Rattle.pas_large.specs.Pages.{of_pages, GotPages, MayClaim, DeedsOn, OnlyDeedsShow, claiming, claiming_old, LosesPage, BreaksPage, WinsPage, ClaimsPage}
 use Rattle.pas_large.specs.Claims.{in_span, MayClaimPages, HasRunRoom, AloneFrom, DeedsIn, HoldsSpan, FailsAt, ClaimsPages, HasPages, Releases, ClaimsRun, LacksAll, StaysPut}
-use Rattle.pas_large.proofs.Pages.{MadeHere, and_true, since_more, undone, no_deeds, knew_before, shows_both, shows_taking, after_more}
+use Rattle.pas_large.proofs.Pages.{MadeHere, since_more, undone, no_deeds, knew_before, shows_both, shows_taking, after_more}
 use Rattle.pas_profile.specs.Profiles.{IsPage}
 use Rattle.pas_profile.specs.declared.profile.Profile.{Profile}
 use Rattle.pas_rights.specs.Puts.{masked}
-use Rattle.pas_segregated.specs.Returns.{giving_back}
+use Rattle.pas_rights.specs.PutsBack.{giving_back, taking_grains, MayPutAndLeave, PutsAndLeaves}
+use Rattle.pas_rights.specs.Words.{full}
+use Rattle.pas_rights.proofs.Looks.{on_full}
 use Rattle.pas_steps.specs.Agreement.{Agreed}
 use Rattle.pas_steps.specs.Desks.{Seat, Standing, CanCall, Adds}
 use Rattle.pas_steps.specs.Events.{events_by}
@@ -39,6 +40,7 @@ use Rattle.pas_steps.proofs.Called.{call_none, call_then, next_call, call_as}
 use Rattle.pas_scan.proofs.LeftPages.{usable_later}
 use Rattle.pas_large.specs.Evidence.{LostHere, BrokenHere, TakenWholeHere}
 use Rattle.pas_large.specs.declared.claiming.Claimed.{Claimed}
+use Rattle.std.proofs.Math.Bool.{and-true}
 
 -- ---- pages from one to below another, one page more, and what becomes of them
 pub span_in : (first stop p : ℕ) → first ≤ p → p < stop → in_span first stop p ≡ true
@@ -94,10 +96,6 @@ got_still d a first second knows = record { does = does_then first.does second; 
 pub got_after : {v w u : View} (a : ℕ → Bool) (d : Directory) → Does nothing v w → GotPages a d w u → GotPages a d v u
 got_after a d first second = record { does = does_after_nothing (of_pages a Gained) first second.does; apart = λ g h. sym (first.held g) ∙ second.apart g h; lacked = λ p h. sym (first.right p) ∙ second.lacked p h; deeds = second.deeds }
 
--- ---- all grains of a page
-abbrev pub full : Mask4
-full = record { 0 = (2 ^ 64 - 1) ∷ (2 ^ 64 - 1) ∷ (2 ^ 64 - 1) ∷ (2 ^ 64 - 1) ∷ [] }
-
 -- ---- grains of pages that aren't of the span stay put
 abbrev pub StaysHere : ℕ → Made → List Made → Type 0
 StaysHere g m before = grain_move m.step m.answer g ≡ Stays
@@ -131,9 +129,6 @@ alone_on q p ys xs on ne alone = record {
   deeds = always_both (λ m before. IsOnPage q m.step) (MakesNoDeedHere p) ys xs (λ m before h x e z. not_deeded q p m.step x ne h e) on alone.deeds;
 }
 
-full_set : (g : ℕ) → g < 256 → is_set full g ≡ true
-full_set g lt = four_words (2 ^ 64 - 1) (2 ^ 64 - 1) (2 ^ 64 - 1) (2 ^ 64 - 1) (λ x. true) (λ x h. full_bit x h) (λ x h. full_bit x h) (λ x h. full_bit x h) (λ x h. full_bit x h) g lt
-
 -- ---- the claim of the pages of a run, one page more
 pub run_page : (f : Profile) (first end page : ℕ) → 1 ≤ first → end ≤ f.pages + 1 → first ≤ page → page < end → IsPage f page
 run_page f first end page some region low high = (omega (arith, some, low), omega (arith, region, high))
@@ -141,11 +136,11 @@ run_page f first end page some region low high = (omega (arith, some, low), omeg
 pub claims_fewer : (d : Directory) (first stop end : ℕ) → stop ≤ end → (v : View) → MayClaimPages d first end v → MayClaimPages d first stop v
 claims_fewer d first stop end le v met = record { lacks = λ p low high. met.lacks p low (omega (arith, high, le)); clear = met.clear }
 
-abbrev pub may_claim : {σ : Standing} {f : Profile} {d : Directory} {first end n spare : ℕ} (stop : ℕ) → stop ≤ end → CanCall σ (λ v l. HasRunRoom f d first end n spare v) → CanCall σ (λ v l. MayClaimPages d first stop v)
+abbrev pub may_claim : {σ : Standing} {f : Profile} {d : Directory} {first end n spare : ℕ} (stop : ℕ) → stop ≤ end → CanCall σ (HasRunRoom f d first end n spare) → CanCall σ (MayClaimPages d first stop)
 may_claim {d = d} {first = first} {end = end} stop le can = record { view = can.view; whole = can.whole; stood = can.stood; met = claims_fewer d first stop end le can.view can.met.may }
 
 -- the room for unknown deeds is kept, and the room for n events besides
-pub room_after : {σ σ' : Standing} {C : View → Whole → Type 0} {xs : List Made} {spare spare' : ℕ} (n : ℕ) → Adds σ σ' C xs → (can : CanCall σ C) → OnlyDeedsShow σ.seat.profile xs → n + unknown_pages σ.seat.profile can.view ≤ spare → Spares σ spare → Spares σ' spare'
+pub room_after : {σ σ' : Standing} {C : View → Type 0} {xs : List Made} {spare spare' : ℕ} (n : ℕ) → Adds σ σ' C xs → (can : CanCall σ C) → OnlyDeedsShow σ.seat.profile xs → n + unknown_pages σ.seat.profile can.view ≤ spare → Spares σ spare → Spares σ' spare'
     → n + unknown_pages σ.seat.profile (xs ++ can.view) ≤ spare'
 room_after {σ} {xs = xs} {spare = spare} {spare' = spare'} n adds can shows room law law' =
     let falls = spare_falls spare spare' (length (events_by σ.seat.actor can.view xs)) adds can law law' refl in let shown = shows σ.seat.actor can.view (adds.agreed can.view can.whole can.stood can.met) in omega (arith, falls, shown, room)
@@ -190,7 +185,7 @@ module _ {σ σ1 : Standing} (deeds : Bool) (d : Directory) (first end page : �
   abbrev xs : List Made
   xs = so_far.steps
 
-  so_adds : Adds σ σ1 (λ v l. MayClaimPages d first end v) xs
+  so_adds : Adds σ σ1 (MayClaimPages d first end) xs
   so_adds = adds_under so_far.adds (λ v l stood met. claims_fewer d first page end (omega (arith, high)) v met)
 
   so_got : (v : View) → MayClaimPages d first end v → Agreed σ.seat.profile v xs → GotPages (in_span first page) d v (xs ++ v)
@@ -203,7 +198,7 @@ module _ {σ σ1 : Standing} (deeds : Bool) (d : Directory) (first end page : �
     clear = record { on = λ q. got.does.clear q (met.clear.on q) };
   }
 
-  pub page_call : CanCall σ (λ v l. MayClaimPages d first end v) → CanCall σ1 (λ v l. MayClaim d page v)
+  pub page_call : CanCall σ (MayClaimPages d first end) → CanCall σ1 (MayClaim d page)
   page_call can = can_call so_adds can (λ v l stood met. page_may v met (so_adds.agreed v l stood met))
 
   module _ {σ2 : Standing} {claimed : Claimed} (h : ClaimsPage deeds d page σ1 σ2 claimed) where
@@ -220,7 +215,7 @@ module _ {σ σ1 : Standing} (deeds : Bool) (d : Directory) (first end page : �
         → ((before : List Made) → LacksAll before → (p : ℕ) → in_span first stop p ≡ false → has_right ((ys ++ xs) ++ before) p ≡ false) → (stop < end → deeds ≡ true → FailsAt σ.seat.profile d first stop (ys ++ xs)) → length ys ≤ 6 * (stop - page) + 21 * (min (stop + 1) end - stop) → ClaimsPages deeds d first end σ σ2 stop
     turned stop at got holding lacks failed few = let low = so_far.span.0 in let above = at.0 in record {
       steps = ys ++ xs;
-      adds = adds_call {D = λ v l. MayClaim d page v} so_adds h.adds (λ v l stood met. page_may v met (so_adds.agreed v l stood met));
+      adds = adds_call {D = MayClaim d page} so_adds h.adds (λ v l stood met. page_may v met (so_adds.agreed v l stood met));
       kinds = only_both claiming ys xs h.kinds so_far.kinds;
       old = λ none. only_both claiming_old ys xs (h.old none) (so_far.old none);
       few = let n = length-append ys xs in let b = so_far.few in omega (arith, n, few, b, low, high, above);
@@ -305,7 +300,7 @@ has_got {v} d first stop clear got = record {
   clear = record { on = λ q. got.does.clear q (clear.on q) };
 }
 
-pub pages_fewer : (d : Directory) (first stop end : ℕ) → stop ≤ end → (v : View) → HasPages d first end v → HasPages d first stop v
+pages_fewer : (d : Directory) (first stop end : ℕ) → stop ≤ end → (v : View) → HasPages d first end v → HasPages d first stop v
 pages_fewer d first stop end le v met = record {
   right = λ p is. met.right p (span_wider first stop end p le is);
   held = λ g is. met.held g (span_wider first stop end (g / 256) le is);
@@ -332,9 +327,6 @@ left_none d first = record {
   steady = λ g out. tt;
 }
 
-pub on_full : (page g : ℕ) → masked page full g ≡ (page == g / 256)
-on_full page g = ap (λ t. (page == g / 256) && t) (full_set (g % 256) (omega arith)) ∙ and_true (page == g / 256)
-
 module _ {σ σ1 : Standing} (d : Directory) (first end page : ℕ) (low : first ≤ page) (high : page < end) (so_far : Releases d first page σ σ1) where
   known : Calls σ σ1 (HasPages d first end) (λ v w. Does (of_pages (in_span first page) Lost) v w × ((p : ℕ) → in_span first end p ≡ true → KnowsDeed p d w)) so_far.steps
   known = call_knowing d (in_span first end) (pages_call d first page end (omega (arith, high)) so_far.calls) (λ v met. met.deeds)
@@ -351,7 +343,7 @@ module _ {σ σ1 : Standing} (d : Directory) (first end page : ℕ) (low : first
         clear = left.0.clear page (met.clear.on page);
       }
 
-  pub leave_call : CanCall σ (λ v l. HasPages d first end v) → CanCall σ1 (λ v l. MayPutAndLeave page d (masked page full) v)
+  pub leave_call : CanCall σ (HasPages d first end) → CanCall σ1 (MayPutAndLeave page d (masked page full))
   leave_call can = next_call known can leave_may
 
 pub left_more : {σ σ1 σ2 : Standing} (d : Directory) (first page : ℕ) → first ≤ page → Releases d first page σ σ1 → PutsAndLeaves page d full σ1 σ2 → Releases d first (page + 1) σ σ2
@@ -398,7 +390,7 @@ module _ {σ σ1 : Standing} (deeds : Bool) (d : Directory) (first end stop : �
   got_call : Calls σ σ1 (MayClaimPages d first end) (GotPages (in_span first stop) d) h.steps
   got_call = record { adds = h.adds; leads = h.got }
 
-  pub release_call : CanCall σ (λ v l. MayClaimPages d first end v) → CanCall σ1 (λ v l. HasPages d first stop v)
+  pub release_call : CanCall σ (MayClaimPages d first end) → CanCall σ1 (HasPages d first stop)
   release_call can = next_call got_call can may_release
 
   pub run_failed : {σ2 : Standing} → Releases d first stop σ1 σ2 → ClaimsRun deeds d first end σ σ2 (Some stop)
@@ -411,7 +403,7 @@ module _ {σ σ1 : Standing} (deeds : Bool) (d : Directory) (first end stop : �
         kinds = only_both claiming r.steps h.steps (only_within giving_back claiming r.steps refl r.kinds) h.kinds;
         old = λ none. only_both claiming_old r.steps h.steps (only_within giving_back claiming_old r.steps refl r.kinds) (h.old none);
         made = deeds_join d first end end stop r.steps h.steps h.span.0 before_end (omega arith) (no_deeds giving_back d stop r.steps refl r.kinds) h.made;
-        shows = shows_both σ.seat.profile r.steps h.steps (shows_taking σ.seat.profile r.steps (only_within giving_back taking_pages r.steps refl r.kinds)) h.shows;
+        shows = shows_both σ.seat.profile r.steps h.steps (shows_taking σ.seat.profile r.steps (only_within giving_back taking_grains r.steps refl r.kinds)) h.shows;
         steady = λ g out. steady_both g r.steps h.steps (r.steady g (narrower first stop end (g / 256) h.span.1 out)) (h.steady g out);
         outcome = record {
           in_run = (h.span.0, before_end);

@@ -39,6 +39,7 @@ use Rattle.pas_large.proofs.Told.{usable_told, has_unusable, fails_told}
 use Rattle.pas_large.specs.Finds.{MayFind, FindRoom, finding, Finds}
 use Rattle.pas_large.proofs.Pages.{shows_both, known_of}
 use Rattle.pas_large.proofs.Claims.{room_after, got_after}
+use Rattle.pas_steps.proofs.Evidence.{unknown}
 
 -- ---- the search of runs so far: each run that begins below page `from` can't serve, and the pages from there to below `next` were read as usable
 pub record VainSoFar (d : Directory) (n from next : ℕ) (steps : List Made) : Type 0 where
@@ -52,7 +53,7 @@ pub bad_later : (d : Directory) (n first : ℕ) (ys xs : List Made) → HasBad d
 bad_later d n first ys xs h = (h.0, h.1, once_later (BadHere d h.0) ys xs h.2)
 
 -- a page that was read as not usable, on pages that the steps before left alone
-pub unusable_bad : (d : Directory) (n from first : ℕ) (ys xs : List Made) → AloneFrom from xs → from ≤ first → HasUnusable d n first ys → HasBad d n first (ys ++ xs)
+unusable_bad : (d : Directory) (n from first : ℕ) (ys xs : List Made) → AloneFrom from xs → from ≤ first → HasUnusable d n first ys → HasBad d n first (ys ++ xs)
 unusable_bad d n from first ys xs alone ge h =
     let low = h.1.0 in
     (h.0, h.1, once_map (UnusableHere d h.0) (BadHere d h.0) (ys ++ xs) (λ m b x. inl x) (unusable_before d h.0 ys xs (alone h.0 (omega (arith, ge, low))) h.2))
@@ -132,16 +133,6 @@ module _ (f : Profile) (d : Directory) (n from next first : ℕ) (some : 1 ≤ f
     run_has_failed = once_earlier (λ m b. LostHere d page m (b ++ before) ⊎ BrokenHere page m (b ++ before)) (FailsHere d n first) zs before (λ m b x. (usable_still b, (page, (fails.in_run.0, fails.in_run.1), x))) failed
 
 -- ---- the search for a run that can be claimed, one run more
--- a page that was read as having no deed isn't known to have one
-read_unknown : (f : Profile) (v : View) (p : ℕ) (s : Step) (a : ℕ) → ReadsDeed p s → Agrees f v s a → a ≡ 0 → known_deed v p ≢ 0 → ⊥
-read_unknown f v p s a ReadsDeed.Looks agrees z known = known (sym (agrees.known known) ∙ z)
-read_unknown f v p s a (ReadsDeed.Deeds d) agrees z known = known (sym (agrees.known known) ∙ z)
-
-pub unknown : (f : Profile) (v : View) (p : ℕ) (xs : List Made) → Agreed f v xs → Once (NoDeedHere p) xs → known_deed v p ≢ 0 → ⊥
-unknown f v p [] agreed h known = h
-unknown f v p (m ∷ more) agreed (inr h) known = unknown f v p more agreed.1 h known
-unknown f v p (m ∷ more) agreed (inl h) known = read_unknown f (more ++ v) p m.step m.answer h.0 agreed.0 h.1 (λ z. known (sym (deed_stays f more v p agreed.1 known) ∙ z))
-
 -- of a page that was read as usable the deed wasn't known, or as the directory's
 pub knew : (f : Profile) (d : Directory) (p : ℕ) (xs : List Made) (v : View) → Agreed f v xs → ReadUsable d p xs → (known_deed v p ≡ 0) ⊎ KnowsDeed p d v
 knew f d p xs v agreed usable = elim (cases_eq (known_deed v p) 0) [
@@ -156,13 +147,13 @@ DeedOf d n Chosen m before = (page : ℕ) (e : Directory) → m.step ≡ Deed pa
 pub deeds_map : (d : Directory) (n : ℕ) (P Q : ℕ → Type 0) (steps : List Made) → ((s : ℕ) → P s → Q s) → DeedsOf d n P steps → DeedsOf d n Q steps
 deeds_map d n P Q steps more = always_map (DeedOf d n P) (DeedOf d n Q) steps (λ m before h p e same z. let its = h p e same z in (its.0, (its.1.0, its.1.1, its.1.2, more its.1.0 its.1.3)))
 
-pub deeds_looks : (d : Directory) (n : ℕ) (P : ℕ → Type 0) (ys xs : List Made) → Only page_looks ys → DeedsOf d n P xs → DeedsOf d n P (ys ++ xs)
+deeds_looks : (d : Directory) (n : ℕ) (P : ℕ → Type 0) (ys xs : List Made) → Only page_looks ys → DeedsOf d n P xs → DeedsOf d n P (ys ++ xs)
 deeds_looks d n P ys xs looks = always_both (λ m before. is_in page_looks (kind_of m.step) ≡ true) (DeedOf d n P) ys xs (λ m before is p e same z. absurd (true≢false (sym is ∙ ap (λ s. is_in page_looks (kind_of s)) same))) looks
 
 -- ---- the search so far
 pub record SearchedRuns (d : Directory) (n from next : ℕ) (desk desk' : Standing) : Type 0 where
   pub steps : List Made
-  pub adds : Adds desk desk' (λ v l. MayFind d v) steps
+  pub adds : Adds desk desk' (MayFind d) steps
   pub still : Leads desk.seat.profile (MayFind d) (Does nothing) steps
   pub shows : OnlyDeedsShow desk.seat.profile steps
   pub lacks : LacksAll steps
@@ -190,7 +181,7 @@ pub none_searched : (σ : Standing) (d : Directory) (n : ℕ) (some : 1 ≤ n) �
 unfolding searched_none
 none_searched σ d n some = refl
 
-abbrev pub may_find : {σ : Standing} {f : Profile} {d : Directory} {n spare : ℕ} → CanCall σ (λ v l. FindRoom f d n spare v) → CanCall σ (λ v l. MayFind d v)
+abbrev pub may_find : {σ : Standing} {f : Profile} {d : Directory} {n spare : ℕ} → CanCall σ (FindRoom f d n spare) → CanCall σ (MayFind d)
 may_find can = record { view = can.view; whole = can.whole; stood = can.stood; met = can.met.may }
 
 module _ {σ σ1 : Standing} (d : Directory) (n from next : ℕ) (low : 1 ≤ from) (so_far : SearchedRuns d n from next σ σ1) where
@@ -204,7 +195,7 @@ module _ {σ σ1 : Standing} (d : Directory) (n from next : ℕ) (low : 1 ≤ fr
     abbrev ys : List Made
     ys = find.steps
 
-    pub look_adds : Adds σ σ2 (λ v l. MayFind d v) (ys ++ xs)
+    pub look_adds : Adds σ σ2 (MayFind d) (ys ++ xs)
     look_adds = adds_call so_far.adds find.adds (λ v l stood met. tt)
 
     look_still : Leads f (MayFind d) (Does nothing) (ys ++ xs)
@@ -259,7 +250,7 @@ module _ {σ σ1 : Standing} (d : Directory) (n from next : ℕ) (low : 1 ≤ fr
     abbrev ls : List Made
     ls = find.steps ++ xs
 
-    pub run_at : IsFirstRun σ.seat.profile d from next n find.steps first
+    run_at : IsFirstRun σ.seat.profile d from next n find.steps first
     run_at = subst (λ x. IsFirstRun x d from next n find.steps first) (same find) find.outcome
 
     usable : AllUsable d n first (find.steps ++ xs)
@@ -270,7 +261,7 @@ module _ {σ σ1 : Standing} (d : Directory) (n from next : ℕ) (low : 1 ≤ fr
         let does = (look_still find).from v met agreed in
         record { lacks = λ p ge lt knows. does.right p ∙ met.lacks p (knew f d p ls v agreed (usable p (ge, lt))); clear = still_clear does met.clear }
 
-    pub can_claim_run : (spare spare2 : ℕ) → CanCall σ (λ v l. FindRoom σ.seat.profile d 1 spare v) → Spares σ spare → Spares σ2 spare2 → CanCall σ2 (λ v l. HasRunRoom σ2.seat.profile d first (first + n) 1 spare2 v)
+    pub can_claim_run : (spare spare2 : ℕ) → CanCall σ (FindRoom σ.seat.profile d 1 spare) → Spares σ spare → Spares σ2 spare2 → CanCall σ2 (HasRunRoom σ2.seat.profile d first (first + n) 1 spare2)
     can_claim_run spare spare2 can law law2 =
         let adds = look_adds find in let met = can.met.may in
         record {
@@ -290,8 +281,8 @@ module _ {σ σ1 : Standing} (d : Directory) (n from next : ℕ) (low : 1 ≤ fr
       same2 : σ2.seat.profile ≡ f
       same2 = ap (λ (s : Seat). s.profile) (look_adds find).seat_is
 
-      claim_adds : Adds σ σ3 (λ v l. MayFind d v) (zs ++ ls)
-      claim_adds = let adds = look_adds find in adds_call {D = λ v l. MayClaimPages d first (first + n) v} adds claim.adds (λ v l stood met. run_may v met (adds.agreed v l stood met))
+      claim_adds : Adds σ σ3 (MayFind d) (zs ++ ls)
+      claim_adds = let adds = look_adds find in adds_call {D = MayClaimPages d first (first + n)} adds claim.adds (λ v l stood met. run_may v met (adds.agreed v l stood met))
 
       claim_kinds : Only finding (zs ++ ls)
       claim_kinds = only_both finding zs ls (only_within claiming finding zs refl claim.kinds) (look_kinds find)
@@ -318,7 +309,7 @@ module _ {σ σ1 : Standing} (d : Directory) (n from next : ℕ) (low : 1 ≤ fr
     }
 
     -- and its claim doesn't fail
-    pub never_fails : {σ3 : Standing} → IsKind d.kind → Tells σ2 → Tells σ3 → (page : ℕ) → (claim : ClaimsRun true d first (first + n) σ2 σ3 (Some page)) → (from ≡ 1) × (next ≡ 1) × (xs ≡ []) → (can : CanCall σ (λ v l. MayFind d v)) → part σ.seat.actor can.whole ≡ can.view → ⊥
+    pub never_fails : {σ3 : Standing} → IsKind d.kind → Tells σ2 → Tells σ3 → (page : ℕ) → (claim : ClaimsRun true d first (first + n) σ2 σ3 (Some page)) → (from ≡ 1) × (next ≡ 1) × (xs ≡ []) → (can : CanCall σ (MayFind d)) → part σ.seat.actor can.whole ≡ can.view → ⊥
     never_fails kind tells2 tells3 page claim at can own =
         let adds = claim_adds claim in
         let agreed = adds.agreed can.view can.whole can.stood can.met in
@@ -330,7 +321,7 @@ module _ {σ σ1 : Standing} (d : Directory) (n from next : ℕ) (low : 1 ≤ fr
         (run_has_failed f d n from next first low find.steps xs so_far.vain find.kinds run_at page claim.steps fails can.view agreed)
 
     -- its claim failed
-    pub goes_on : {σ3 : Standing} → CanCall σ (λ v l. MayFind d v) → (page : ℕ) → ClaimsRun true d first (first + n) σ2 σ3 (Some page) → SearchedRuns d n (page + 1) (first + n) σ σ3
+    pub goes_on : {σ3 : Standing} → CanCall σ (MayFind d) → (page : ℕ) → ClaimsRun true d first (first + n) σ2 σ3 (Some page) → SearchedRuns d n (page + 1) (first + n) σ σ3
     goes_on can page claim =
         let fails = subst (λ x. FailsRun true x d first (first + n) page claim.steps) (same2 claim) claim.outcome in
         let adds = claim_adds claim in

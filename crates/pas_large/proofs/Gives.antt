@@ -1,6 +1,5 @@
 -- The pages of a run are backed, its block is given, and they are left.
 use Rattle.pas_steps.proofs.Past.{always_map}
-use Rattle.pas_steps.proofs.SpareRoom.{Spares}
 use Rattle.std.proofs.Common.{◌≡◌, ℕ, zero, suc, ◌+◌, ◌-◌, ◌*◌, ◌/◌, ◌<◌, ◌≤◌, ◌==◌, Bool, true, false, if◌then◌else◌, List, [], ◌∷◌, ◌++◌, length, inl, inr, refl, ap, sym, ◌∙◌, subst, arith, length-append, true≢false, ◌%◌, ◌^◌, ◌&&◌, Some}
 use Rattle.std.proofs.lemmas.Bool.{cases_eq, eq-eqb, and_from}
 use Rattle.pas_profile.specs.Profiles.{IsPage, IsDirectoryOf}
@@ -8,33 +7,31 @@ use Rattle.pas_profile.specs.declared.directory.Directory.{Directory}
 use Rattle.pas_profile.proofs.Codecs.{deed_word_of-positive}
 use Rattle.pas_rights.specs.Leaves.{MayLeave, Leaves}
 use Rattle.pas_steps.specs.Agreement.{Agrees, Agreed}
-use Rattle.pas_steps.specs.Allowed.{Allowed, MayGiveNow}
-use Rattle.pas_steps.specs.Calls.{Calls, Kept, Lost, now, nothing, Does, ClearAfter, later, grain_fate}
-use Rattle.pas_steps.specs.Desks.{Standing, CanCall, CanMake, Makes, made, Adds}
+use Rattle.pas_steps.specs.Allowed.{Allowed}
+use Rattle.pas_steps.specs.Calls.{Calls, Kept, Lost, now, nothing, Does, ClearAfter}
+use Rattle.pas_steps.specs.Desks.{Standing, CanCall, CanMake, Makes, made}
 use Rattle.pas_steps.specs.Events.{events_by, event_of}
 use Rattle.pas_steps.specs.Kinds.{Backing, returning, Giving, LookLife}
-use Rattle.pas_steps.specs.Views.{View, holds, holds_on, has_right, knows_backed, KnowsDeed, epoch_of, Gives, Stays, known_life}
+use Rattle.pas_steps.specs.Views.{View, holds, holds_on, has_right, knows_backed, KnowsDeed, epoch_of}
 use Rattle.pas_steps.specs.declared.step.Made.{Made}
-use Rattle.pas_steps.specs.declared.step.Step.TheVariants.{Back, Look, Give}
+use Rattle.pas_steps.specs.declared.step.Step.TheVariants.{Back}
 use Rattle.pas_steps.proofs.Apart.{only_both, deeds_same}
-use Rattle.pas_steps.proofs.Backed.{any_from, backed_holds}
+use Rattle.pas_steps.proofs.Backed.{any_from}
 use Rattle.pas_steps.proofs.Called.{call_none, call_step, call_then, next_step, next_call, call_as}
-use Rattle.pas_steps.proofs.Calls.{does_as, does_then, does_none, does_idly, returns_are, does_step, does_after_nothing, kept_first}
+use Rattle.pas_steps.proofs.Calls.{does_as, does_then, does_none, does_idly, returns_are, does_after_nothing, kept_first}
 use Rattle.pas_steps.proofs.Sets.{both_fates, same_truth, kept_kept}
-use Rattle.pas_steps.proofs.Frames.{with_few, given_le}
-use Rattle.pas_steps.proofs.Adding.{adds_none, adds_step, can_step}
+use Rattle.pas_steps.proofs.Frames.{with_few}
 use Rattle.pas_large.proofs.Claims.{pages_call, call_knowing, span_wider, span_in, in_parts, span_past, span_none, span_more}
 use Rattle.pas_large.specs.Claims.{in_span, HasPages}
 use Rattle.pas_rights.specs.Leaves.{LeaveSteps}
 use Rattle.pas_steps.specs.InTurn.{InTurn}
-use Rattle.pas_large.specs.Gives.{BackStep, pages_from, BackedRun, BacksRun, MayLeaveRun, left_run, LeavesRun, MayGiveBlock, run_block, give_steps, given_run, GaveBlock, GivesBlock, GaveRun, GivesRun, LeftRun}
+use Rattle.pas_large.specs.Gives.{BackStep, pages_from, BackedRun, BacksRun, MayLeaveRun, left_run, LeavesRun, run_block, given_run, GaveRun, GivesRun, LeftRun}
+use Rattle.pas_rights.specs.Gives.{MayGive, block_of, give_steps, GivesRun as GivesBlock}
+use Rattle.pas_rights.proofs.Gives.{bears_by}
 use Rattle.pas_profile.specs.Lives.{turn_of}
 use Rattle.pas_profile.specs.Runs.{in_run, grain_of, length_of}
 use Rattle.pas_profile.specs.declared.name.Block.{Block}
-use Rattle.pas_profile.specs.declared.profile.Profile.{Profile}
-use Rattle.pas_profile.specs.declared.word.Word.TheVariants as Word
 use Rattle.pas_profile.proofs.Runs.{run_of, to_run}
-use Rattle.pas_steps.specs.Lists.{Whole}
 use Rattle.pas_large.specs.Pages.{of_pages}
 
 -- ---- pages in turn
@@ -77,7 +74,7 @@ module _ {σ σ1 : Standing} (d : Directory) (first end page : ℕ) (low : first
     λ z. deed_word_of-positive d (sym (met.deeds page (span_in first end page low high)) ∙ sym (deeds_same (Backing ∷ []) refl page xs v so_far.kinds) ∙ z),
   )
 
-  pub can_back : CanCall σ (λ v l. HasPages d first end v) → IsPage σ.seat.profile page → CanMake σ1 (Back page)
+  pub can_back : CanCall σ (HasPages d first end) → IsPage σ.seat.profile page → CanMake σ1 (Back page)
   can_back can is = next_step so_calls can is may_back
 
   now_backed : (a : ℕ) (v : View) → HasPages d first end v → BackedRun first page v (xs ++ v) → Agrees σ.seat.profile (xs ++ v) (Back page) a → BackedRun first (page + 1) v (made (Back page) a ∷ (xs ++ v))
@@ -132,7 +129,7 @@ module _ {σ σ1 : Standing} (d : Directory) (first end page : ℕ) (low : first
     deed = left.1 page (span_in first end page low high);
   }
 
-  pub can_leave_next : CanCall σ (λ v l. MayLeaveRun d first end v) → CanCall σ1 (λ v l. MayLeave page d v)
+  pub can_leave_next : CanCall σ (MayLeaveRun d first end) → CanCall σ1 (MayLeave page d)
   can_leave_next can = next_call so_left can may_leave
 
 pub left_run_more : {σ σ1 σ2 : Standing} (d : Directory) (first page : ℕ) → first ≤ page → LeavesRun d first page σ σ1 → Leaves page d σ1 σ2 → LeavesRun d first (page + 1) σ σ2
@@ -154,126 +151,60 @@ back_events k v [] = omega arith
 back_events k v (m ∷ more) = let rest = back_events k v more in let one = with_few (event_of k (epoch_of (more ++ v)) m.step m.answer) (events_by k v more) in omega (arith, rest, one)
 
 -- ---- the block of a run is given
-given_fate : (t : Bool) (g : ℕ) → later Kept (grain_fate (if t then Gives g else Stays)) ≡ (if t then Lost else Kept)
-given_fate true g = refl
-given_fate false g = refl
-
 -- the grains of a run of pages
-run_span : (first n g : ℕ) → in_run (first * 256) (n * 256) g ≡ in_span first (first + n) (g / 256)
-run_span first n g = same_truth (in_run (first * 256) (n * 256) g) (in_span first (first + n) (g / 256))
-    (λ h. let at = run_of (first * 256) (n * 256) g h in let a = at.0 in let b = at.1 in span_in first (first + n) (g / 256) (omega (arith, a)) (omega (arith, b)))
-    (λ h. let at = in_parts first (first + n) (g / 256) h in let a = at.0 in let b = at.1 in to_run (first * 256) (n * 256) g (omega (arith, a)) (omega (arith, b)))
+run_span : (first n g : ℕ) → in_run (first * 256 + 0) (n * 256) g ≡ in_span first (first + n) (g / 256)
+run_span first n g = same_truth (in_run (first * 256 + 0) (n * 256) g) (in_span first (first + n) (g / 256))
+    (λ h. let at = run_of (first * 256 + 0) (n * 256) g h in let a = at.0 in let b = at.1 in span_in first (first + n) (g / 256) (omega (arith, a)) (omega (arith, b)))
+    (λ h. let at = in_parts first (first + n) (g / 256) h in let a = at.0 in let b = at.1 in to_run (first * 256 + 0) (n * 256) g (omega (arith, a)) (omega (arith, b)))
 
-module _ (d : Directory) (first n word : ℕ) where
-  pub block_is : (turn : ℕ) → turn ≡ turn_of word → record { name = record { address = record { 0 = first * 4096 }; turn = turn }; room = n * 4096; heap = d.heap } ≡ run_block d first n word
-  block_is turn t = ap (λ x. record { name = record { address = record { 0 = first * 4096 }; turn = x }; room = n * 4096; heap = d.heap }) t
+pub run_is : (d : Directory) (first n word g : ℕ) → in_run (grain_of (run_block d first n word).name) (length_of (run_block d first n word)) g ≡ in_span first (first + n) (g / 256)
+run_is d first n word g =
+    let at : first * 4096 / 16 ≡ first * 256 + 0 = omega arith in let long : n * 4096 / 16 ≡ n * 256 = omega arith in
+    ap (λ x. in_run x (n * 4096 / 16) g) at ∙ ap (λ x. in_run (first * 256 + 0) x g) long ∙ run_span first n g
 
-  abbrev block : Block
-  block = run_block d first n word
-
-  pub run_is : (g : ℕ) → in_run (grain_of (run_block d first n word).name) (length_of (run_block d first n word)) g ≡ in_span first (first + n) (g / 256)
-  run_is g =
-      let at : first * 4096 / 16 ≡ first * 256 = omega arith in let long : n * 4096 / 16 ≡ n * 256 = omega arith in
-      ap (λ x. in_run x (n * 4096 / 16) g) at ∙ ap (λ x. in_run (first * 256) x g) long ∙ run_span first n g
-
-  module _ {σ σ1 : Standing} (spare : ℕ) (low : 1 ≤ first) (some : 1 ≤ n) (region : first + n ≤ σ.seat.profile.pages + 1) (of_profile : IsDirectoryOf σ.seat.profile d)
-      (spares : Spares σ spare) (limit : σ.seat.room < 2 ^ 32) (look : Makes σ σ1 (Look (Word.Life first 0)) word) where
-    abbrev f : Profile
-    f = σ.seat.profile
-
-    module _ (v : View) (may : MayGiveBlock d first n v) where
-      abbrev looked : View
-      looked = made (Look (Word.Life first 0)) word ∷ v
-
-      first_held : holds v (first * 256) ≡ true
-      first_held = may.has.held (first * 256) (span_in first (first + n) (first * 256 / 256) (omega arith) (omega (arith, some)))
-
-      life_read : known_life looked (first * 256) ≡ Some word
-      life_read =
-          let at : 0 ≡ first * 256 % 256 = omega arith in let here : first ≡ first * 256 / 256 = omega arith in
-          ap (λ t. if t then Some word else known_life v (first * 256))
-          (and_from ((0 == first * 256 % 256) && (first == first * 256 / 256)) (holds v (first * 256))
-          (and_from (0 == first * 256 % 256) (first == first * 256 / 256) (eq-eqb 0 (first * 256 % 256) at) (eq-eqb first (first * 256 / 256) here)) first_held)
-
-      may_give_now : (l : Whole) → σ.stands v l → MayGiveNow f looked block
-      may_give_now l stood = record {
-        aligned = omega arith;
-        whole = omega arith;
-        some = omega (arith, some);
-        held = λ g inside. may.has.held g (sym (run_is g) ∙ inside);
-        bears = λ g inside.
-            let here = sym (run_is g) ∙ inside in let b = may.bears g here in
-            record {
-              backed = and_from (knows_backed v (g / 256)) (holds_on v (g / 256)) b.backed (backed_holds v (g / 256) b.backed);
-              directory = d;
-              of_profile = of_profile;
-              deed = may.has.deeds (g / 256) here;
-              of_heap = refl;
-              stamped = (may.has.clear.on (g / 256)).stamped;
-            };
-        word = word;
-        known = ap (known_life looked) (omega arith) ∙ life_read;
-        turn_is = refl;
-        few = let room = spares v l stood in let le = given_le σ.seat.actor v in omega (arith, room, le, limit);
-      }
-
-    look_adds : Adds σ σ1 (λ v l. MayGiveBlock d first n v) (made (Look (Word.Life first 0)) word ∷ [])
-    look_adds = adds_step {step = Look (Word.Life first 0)} adds_none look (λ v l stood met. tt)
-
-    pub can_give : (given : Block) → given ≡ run_block d first n word → CanCall σ (λ v l. MayGiveBlock d first n v) → CanMake σ1 (Give given)
-    can_give given is can = subst (λ b. CanMake σ1 (Give b)) (sym is) (can_step {step = Give block} look_adds can (record { first = omega (arith, low); last = omega (arith, region); heap = of_profile.heap; turn = omega arith }) (λ v l stood met. may_give_now v met l stood))
-
-    gave : (answer : ℕ) (v : View) → Agreed f v (give_steps first block word answer) → GaveBlock first n block v (made (Give block) answer ∷ made (Look (Word.Life first 0)) word ∷ v)
-    gave answer v agreed = record {
-      does = does_as (given_run first (first + n))
-          (does_then (does_step f (Look (Word.Life first 0)) word v refl agreed.1.0) (does_step f (Give block) answer (made (Look (Word.Life first 0)) word ∷ v) refl agreed.0))
-          (λ g. inl (given_fate (in_run (grain_of block.name) (length_of block) g) (grain_of block.name) ∙ ap (λ t. if t then Lost else Kept) (run_is g))) (λ q. refl) (λ q h. h);
-      turn = agreed.1.0.turn;
-    }
-
-    pub gives_block : {σ2 : Standing} (answer : ℕ) (given : Block) → given ≡ run_block d first n word → Makes σ1 σ2 (Give given) answer → GivesBlock d first n given σ σ2
-    gives_block {σ2} answer given is give = subst (λ b. GivesBlock d first n b σ σ2) (sym is) (record {
-      word = word;
-      answer = answer;
-      block_is = refl;
-      calls = record {
-        adds = adds_step {step = Give block} look_adds (subst (λ b. Makes σ1 σ2 (Give b) answer) is give) (λ v l stood met. may_give_now v met l stood);
-        leads = record { from = λ v met agreed. gave answer v agreed };
-      };
-    })
+is_run_block : (d : Directory) (first n word : ℕ) (block : Block) → block ≡ block_of d.heap first 0 (n * 256) word → block ≡ run_block d first n word
+is_run_block d first n word block is =
+    is ∙ ap (λ x. record { name = record { address = record { 0 = x }; turn = turn_of word }; room = n * 256 * 16; heap = d.heap }) (omega arith)
+    ∙ ap (λ x. record { name = record { address = record { 0 = first * 4096 }; turn = turn_of word }; room = x; heap = d.heap }) (omega arith)
 
 -- ---- a run is given: its pages are backed, the block is given, and the pages are left
 module _ {σ σ1 : Standing} (d : Directory) (first n : ℕ) (backs : BacksRun d first (first + n) σ σ1) where
-  may_give_block : (v : View) → HasPages d first (first + n) v → BackedRun first (first + n) v (backs.steps ++ v) → MayGiveBlock d first n (backs.steps ++ v)
-  may_give_block v met back = record {
-    has = record {
-      right = λ p is. back.does.right p ∙ met.right p is;
-      held = λ g is. back.does.held g ∙ met.held g is;
-      deeds = λ p is. deeds_same (Backing ∷ []) refl p backs.steps v backs.kinds ∙ met.deeds p is;
-      clear = record { on = λ q. back.does.clear q (met.clear.on q) };
-    };
-    bears = back.bears;
+  may_give : IsDirectoryOf σ.seat.profile d → (v : View) → HasPages d first (first + n) v → BackedRun first (first + n) v (backs.steps ++ v) → MayGive σ1.seat.profile d.heap first 0 (n * 256) (backs.steps ++ v)
+  may_give of_profile v met back = record {
+    held = λ g inside. back.does.held g ∙ met.held g (sym (run_span first n g) ∙ inside);
+    bears = λ g inside.
+        let is = sym (run_span first n g) ∙ inside in let b = back.bears g is in let p = g / 256 in let clear = back.does.clear p (met.clear.on p) in
+        bears_by d p (subst (λ s. IsDirectoryOf s.profile d) (sym backs.calls.adds.seat_is) of_profile) (deeds_same (Backing ∷ []) refl p backs.steps v backs.kinds ∙ met.deeds p is) b.backed clear.stamped;
   }
 
-  pub can_give_block : CanCall σ (λ v l. HasPages d first (first + n) v) → CanCall σ1 (λ v l. MayGiveBlock d first n v)
-  can_give_block can = next_call backs.calls can may_give_block
+  pub can_give : IsDirectoryOf σ.seat.profile d → CanCall σ (HasPages d first (first + n)) → CanCall σ1 (MayGive σ1.seat.profile d.heap first 0 (n * 256))
+  can_give of_profile can = next_call backs.calls can (may_give of_profile)
 
-  module _ {σ2 : Standing} (block : Block) (give : GivesBlock d first n block σ1 σ2) where
+  pub gives_within : first + n ≤ σ.seat.profile.pages + 1 → first * 256 + 0 + n * 256 ≤ 256 * (σ1.seat.profile.pages + 1)
+  gives_within region = let high : first + n ≤ σ1.seat.profile.pages + 1 = subst (λ s. first + n ≤ s.profile.pages + 1) (sym backs.calls.adds.seat_is) region in omega (arith, high)
+
+  module _ {σ2 : Standing} (of_profile : IsDirectoryOf σ.seat.profile d) (block : Block) (give : GivesBlock d.heap first 0 (n * 256) block σ1 σ2) where
     abbrev gs : List Made
-    gs = give_steps first block give.word give.answer
+    gs = give_steps first 0 block give.word give.answer
 
-    given_call : Calls σ σ2 (HasPages d first (first + n)) (λ v w. GaveBlock first n block v w × MayLeaveRun d first (first + n) w) (gs ++ backs.steps)
-    given_call = call_then (λ v w. GaveBlock first n block v w × MayLeaveRun d first (first + n) w) backs.calls give.calls may_give_block
-        (λ v met back gave. (
-          record { does = does_after_nothing (given_run first (first + n)) back.does gave.does; turn = gave.turn },
-          record {
+    record Given (v w : View) : Type 0 where
+      does : Does (given_run first (first + n)) v w
+      turn : block.name.turn < 2 ^ 37
+      leave : MayLeaveRun d first (first + n) w
+
+    given_call : Calls σ σ2 (HasPages d first (first + n)) Given (gs ++ backs.steps)
+    given_call = call_then Given backs.calls give.calls (may_give of_profile)
+        (λ v met back gave. let does = does_as (given_run first (first + n)) gave.does (λ g. inl (ap (λ t. if t then Lost else Kept) (run_span first n g))) (λ q. refl) (λ q h. h) in record {
+          does = does_after_nothing (given_run first (first + n)) back.does does;
+          turn = gave.turn;
+          leave = record {
             right = λ p is. gave.does.right p ∙ back.does.right p ∙ met.right p is;
             deeds = λ p is. deeds_same (Giving ∷ LookLife ∷ []) refl p gs (backs.steps ++ v) (refl, (refl, tt)) ∙ deeds_same (Backing ∷ []) refl p backs.steps v backs.kinds ∙ met.deeds p is;
-          },
-        ))
+          };
+        })
 
-    pub can_leave_run : CanCall σ (λ v l. HasPages d first (first + n) v) → CanCall σ2 (λ v l. MayLeaveRun d first (first + n) v)
-    can_leave_run can = next_call given_call can (λ v met given. given.1)
+    pub can_leave_run : CanCall σ (HasPages d first (first + n)) → CanCall σ2 (MayLeaveRun d first (first + n))
+    can_leave_run can = next_call given_call can (λ v met given. given.leave)
 
     pub gives_run : {σ3 : Standing} → LeavesRun d first (first + n) σ2 σ3 → GivesRun d first n block σ σ3
     gives_run left = record {
@@ -284,15 +215,15 @@ module _ {σ σ1 : Standing} (d : Directory) (first n : ℕ) (backs : BacksRun d
       back_few = (let few = backs.few in omega (arith, few));
       word = give.word;
       answer = give.answer;
-      block_is = give.block_is;
+      block_is = is_run_block d first n give.word block give.block_is;
       left = left.steps;
       left_kinds = left.kinds;
       left_order = run_in_turn (λ page piece. LeaveSteps page d piece) first n left.steps left.order;
       few = let a = length-append left.steps (gs ++ backs.steps) in let b = backs.few in let c = left.few in omega (arith, a, b, c);
-      calls = call_then (GaveRun d first n block) given_call left.calls (λ v met given. given.1)
+      calls = call_then (GaveRun d first n block) given_call left.calls (λ v met given. given.leave)
           (λ v met given left. record {
-            does = does_as (of_pages (in_span first (first + n)) Lost) (does_then given.0.does left.does) (λ g. inl refl) (λ q. kept_first (if in_span first (first + n) q then Lost else Kept)) (λ q h. h);
+            does = does_as (of_pages (in_span first (first + n)) Lost) (does_then given.does left.does) (λ g. inl refl) (λ q. kept_first (if in_span first (first + n) q then Lost else Kept)) (λ q h. h);
             deeds = left.deeds;
-            turn = given.0.turn;
+            turn = given.turn;
           });
     }

@@ -1,11 +1,11 @@
 pub mod Pages
 pub mod Claims
-pub mod Refusals
+mod Refusals
 pub mod Gives
 pub mod Finds
-pub mod Named
+mod Named
 pub mod Allocates
 pub mod Outcomes
-pub mod Told
-pub mod ToldReasons
-pub mod Lifted
+mod Told
+mod ToldReasons
+mod Lifted

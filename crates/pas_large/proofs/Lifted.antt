@@ -15,8 +15,8 @@ use Rattle.pas_steps.proofs.Past.{once_later, once_earlier, once_map, always_bot
 use Rattle.pas_scan.specs.Usable.{OfHere, WholeHere, ReadUsable, ParksNotHere, IsFresh, MakesNoDeedHere, LeftAlone}
 use Rattle.pas_scan.proofs.LeftPages.{holds_own, since_earlier, unusable_here, deed_before}
 use Rattle.pas_large.specs.Evidence.{LostHere, BrokenHere, BadHere, HasBad, IsVain, AllUsable, FailsHere, HasFailed, TakenWholeHere, IsTakenRun, LeftOrBroken}
-use Rattle.pas_large.proofs.Finds.{unknown}
 use Rattle.pas_large.proofs.Pages.{known_of}
+use Rattle.pas_steps.proofs.Evidence.{unknown}
 
 -- ---- one page
 module _ (d : Directory) (p : ℕ) (xs : List Made) (left : LeftOrBroken d p xs) where
@@ -35,7 +35,7 @@ module _ (d : Directory) (p : ℕ) (xs : List Made) (left : LeftOrBroken d p xs)
   kept_at : (m : Made) (b : List Made) → KeptHere p m b → KeptHere p m (b ++ xs)
   kept_at m b h = right_at b ∙ h
 
-  pub usable_at : (b : List Made) → ReadUsable d p b → ReadUsable d p (b ++ xs)
+  usable_at : (b : List Made) → ReadUsable d p b → ReadUsable d p (b ++ xs)
   usable_at b (inl bare) = inl (once_earlier (NoDeedHere p) (NoDeedHere p) b xs (λ m c h. h) bare)
   usable_at b (inr whole) = inr record {
     of = once_earlier (OfHere d p) (OfHere d p) b xs (λ m c h. h) whole.of;
@@ -74,7 +74,7 @@ module _ (d : Directory) (p : ℕ) (xs : List Made) (left : LeftOrBroken d p xs)
     bad_at m b (inr (inl h)) = inr (inl (lost_at m b h))
     bad_at m b (inr (inr h)) = inr (inr (broken_at m b h))
 
-  pub bad_once : (ys : List Made) → Once (BadHere d p) ys → Once (BadHere d p) (ys ++ xs)
+  bad_once : (ys : List Made) → Once (BadHere d p) ys → Once (BadHere d p) (ys ++ xs)
   bad_once ys h = elim left.parks [
     | inl parks ↦ once_earlier (BadHere d p) (BadHere d p) ys xs (bad_at parks) h
     | inr broken ↦ once_later (BadHere d p) ys xs (once_map (BrokenHere p) (BadHere d p) xs (λ m b x. inr (inr x)) broken.1)
@@ -101,7 +101,7 @@ module _ (d : Directory) (p : ℕ) (xs : List Made) (left : LeftOrBroken d p xs)
   lost_again f v m b agreed of (inr whole) (inr h) = absurd (not_bare f v b agreed of h.2)
   lost_again f v m b agreed of (inr whole) (inl h) = inl (h.0, h.1, right_at b ∙ h.2, inr (since_earlier (OneHere d p) (ParksNotHere p) (OneHere d p) (ParksNotHere p) b xs one_at (λ m c h. h) (still_fresh b whole.offered h.3)))
 
-  pub failed_at : (f : Profile) (v : View) (m : Made) (b : List Made) → Agreed f v (b ++ xs) → ReadUsable d p b → LostHere d p m b ⊎ BrokenHere p m b → LostHere d p m (b ++ xs) ⊎ BrokenHere p m (b ++ xs)
+  failed_at : (f : Profile) (v : View) (m : Made) (b : List Made) → Agreed f v (b ++ xs) → ReadUsable d p b → LostHere d p m b ⊎ BrokenHere p m b → LostHere d p m (b ++ xs) ⊎ BrokenHere p m (b ++ xs)
   failed_at f v m b agreed usable (inr broken) = inr (broken_at m b broken)
   failed_at f v m b agreed usable (inl lost) = elim left.parks [ inl parks ↦ inl (lost_at parks m b lost) | inr broken ↦ inl (lost_again f v m b agreed broken.0 usable lost) ]
 
@@ -110,10 +110,10 @@ module _ (d : Directory) (n : ℕ) (xs : List Made) (left : (p : ℕ) → LeftOr
   all_usable : (first : ℕ) (b : List Made) → AllUsable d n first b → AllUsable d n first (b ++ xs)
   all_usable first b usable p here = usable_at d p xs (left p) b (usable p here)
 
-  pub bad_run : (first : ℕ) (ys : List Made) → HasBad d n first ys → HasBad d n first (ys ++ xs)
+  bad_run : (first : ℕ) (ys : List Made) → HasBad d n first ys → HasBad d n first (ys ++ xs)
   bad_run first ys h = (h.0, h.1, bad_once d h.0 xs (left h.0) ys h.2)
 
-  pub vain_run : (f : Profile) (ys : List Made) → IsVain f d n ys → IsVain f d n (ys ++ xs)
+  vain_run : (f : Profile) (ys : List Made) → IsVain f d n ys → IsVain f d n (ys ++ xs)
   vain_run f ys vain = record { deeds = λ p of. deed_before p ys xs (vain.deeds p of); runs = λ first low high. bad_run first ys (vain.runs first low high) }
 
   once_agreed : (P R : Made → List Made → Type 0) (f : Profile) (v : View) (ys : List Made) → Agreed f v (ys ++ xs) → ((m : Made) (b : List Made) → Agreed f v (b ++ xs) → P m b → R m (b ++ xs)) → Once P ys → Once R (ys ++ xs)
@@ -121,11 +121,11 @@ module _ (d : Directory) (n : ℕ) (xs : List Made) (left : (p : ℕ) → LeftOr
   once_agreed P R f v (m ∷ ys) agreed lift (inl h) = inl (lift m ys agreed.1 h)
   once_agreed P R f v (m ∷ ys) agreed lift (inr h) = inr (once_agreed P R f v ys agreed.1 lift h)
 
-  pub failed_run : (f : Profile) (v : View) (first : ℕ) (ys : List Made) → Agreed f v (ys ++ xs) → HasFailed d n first ys → HasFailed d n first (ys ++ xs)
+  failed_run : (f : Profile) (v : View) (first : ℕ) (ys : List Made) → Agreed f v (ys ++ xs) → HasFailed d n first ys → HasFailed d n first (ys ++ xs)
   failed_run f v first ys agreed h = once_agreed (FailsHere d n first) (FailsHere d n first) f v ys agreed (λ m b agrees fails. let at = fails.1 in
       (all_usable first b fails.0, (at.0, at.1, failed_at d at.0 xs (left at.0) f v m b agrees (fails.0 at.0 at.1) at.2))) h
 
-  pub taken_run : (first : ℕ) (ys : List Made) → IsTakenRun d n first ys → IsTakenRun d n first (ys ++ xs)
+  taken_run : (first : ℕ) (ys : List Made) → IsTakenRun d n first ys → IsTakenRun d n first (ys ++ xs)
   taken_run first ys taken = record {
     usable = all_usable first ys taken.usable;
     right = λ p here. right_own p ys xs (left p).right ∙ taken.right p here;

@@ -19,7 +19,8 @@ use Rattle.pas_steps.proofs.Past.{always_map, always_both}
 use Rattle.pas_large.specs.Allocates.{GaveLarge, IsAllocatedLarge, IsRefusedLarge, IsServedNamed, IsScanned}
 use Rattle.pas_large.specs.Evidence.{DeedsOf}
 use Rattle.pas_large.specs.Finds.{MayFind, finding}
-use Rattle.pas_large.specs.Gives.{run_block, give_steps}
+use Rattle.pas_rights.specs.Gives.{give_steps}
+use Rattle.pas_large.specs.Gives.{run_block}
 use Rattle.pas_large.specs.Named.{MissesNamed}
 use Rattle.pas_large.specs.Pages.{OnlyDeedsShow, claiming_old}
 use Rattle.pas_large.proofs.Allocates.{find_again}
@@ -42,7 +43,7 @@ pub record IsGivenRun (f : Profile) (d : Directory) (n : ℕ) (got after : List 
   pub block_is : block ≡ run_block d first n word
   pub left : List Made
   pub left_kinds : Only returning left
-  pub after_is : after ≡ left ++ (give_steps first block word answer ++ backs)
+  pub after_is : after ≡ left ++ (give_steps first 0 block word answer ++ backs)
   pub gave : Leads f (MayFind d) (GaveLarge d first n block) (after ++ got)
 
 -- nothing was got, and looks followed

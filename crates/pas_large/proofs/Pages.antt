@@ -1,16 +1,19 @@
 -- The claim of one page: its right and its grains, and how it is left.
 use Rattle.std.proofs.Common.{◌≡◌, ℕ, ◌==◌, Bool, true, false, if◌then◌else◌, [], ◌∷◌, ◌++◌, inl, refl, ◌∙◌, subst, arith, length-append, ap, append_assoc, ◌⊎◌, ◌+◌, ◌*◌, ◌/◌, ◌%◌, ◌<◌, ◌&&◌, List, inr, sym, true≢false, ◌≢◌, length, Some, None, MatchBool}
-use Rattle.std.proofs.lemmas.Bool.{eqb-true, eq-eqb, ne_eqb, eqb-false, cases_eq, cases_Bool, and_parts, and_from, lt-ltb}
+use Rattle.std.proofs.lemmas.Bool.{eqb-true, eq-eqb, ne_eqb, eqb-false, cases_eq, cases_Bool, and_parts, and_from}
 use Rattle.pas_profile.specs.declared.directory.Directory.{Directory}
 use Rattle.pas_bits.specs.declared.mask.Mask4.{Mask4}
-use Rattle.pas_rights.specs.Leaves.{MayLeave, Leaves, LosesHere}
-use Rattle.pas_rights.specs.Puts.{masked, PutsMask}
-use Rattle.pas_rights.specs.Returns.{Settles}
-use Rattle.pas_segregated.specs.Returns.{giving_back}
-use Rattle.pas_rights.proofs.Debts.{leave_lacks}
-use Rattle.pas_steps.specs.Calls.{Calls, Kept, Lost, later, put, Does, ClearAfter, Gained, now, Fate, nothing}
-use Rattle.pas_steps.specs.Clear.{IsClearOn}
-use Rattle.pas_steps.specs.Desks.{Standing, CanCall, Anything, Makes, Adds, made}
+use Rattle.pas_bits.proofs.Words.{at_word}
+use Rattle.pas_rights.specs.Leaves.{LosesHere}
+use Rattle.pas_rights.specs.Puts.{masked}
+use Rattle.pas_rights.specs.PutsBack.{giving_back, taking_grains, MayPutAndLeave, PutsAndLeaves}
+use Rattle.pas_rights.specs.Takes.{GetsGrains, TakesMask, takes}
+use Rattle.pas_rights.specs.Words.{words, full}
+use Rattle.pas_rights.proofs.Looks.{full_set, full_word}
+use Rattle.pas_rights.proofs.Takes.{takes_only, takes_on, takes_keep, takes_few, takes_right, takes_read}
+use Rattle.pas_rights.proofs.Words.{keeps_by}
+use Rattle.pas_steps.specs.Calls.{Calls, Kept, Lost, later, Does, ClearAfter, Gained, now, Fate, nothing}
+use Rattle.pas_steps.specs.Desks.{Standing, CanCall, AnyView, Makes, Adds, made}
 use Rattle.pas_steps.specs.Frames.{IsOnPage, OnlyOn, KeepsRight, IsRead, GivesUp}
 use Rattle.pas_steps.specs.Kinds.{Putting, Taking, returning, kind_of, is_in, Kinds, LookDeed, Deeding, Only}
 use Rattle.pas_steps.specs.Views.{View, has_right, holds, KnowsDeed, Way, Rests, ByDeed, FromOffer, had_after, deed_after, known_deed}
@@ -19,7 +22,7 @@ use Rattle.pas_steps.proofs.Called.{call_as, call_then, next_call, call_knows}
 use Rattle.pas_steps.proofs.Calls.{does_as, does_then, kept_first, returns_are, does_on_page, leads_as, leads_at, leads_idly, owes_over, unexamined_over}
 use Rattle.pas_steps.proofs.Kept.{returns_on, looks_read, right_reads, deed_stays, knows_still}
 use Rattle.pas_steps.proofs.Past.{always_both, once_later, once_earlier, always_map, once_map}
-use Rattle.pas_large.specs.Pages.{MayPutAndLeave, put_and_left, PutsAndLeaves, OnceAfter, TookPage, TakesPage, taking_pages, getting, DeedsOn, OnlyDeedsShow, GetsPage, MayClaim, of_pages, GotPages, getting_old, claiming, claiming_old, IsClaimed, ClaimsPage, GetsRightOf, LosesRightOf}
+use Rattle.pas_large.specs.Pages.{OnceAfter, TookPage, TakesPage, getting, DeedsOn, OnlyDeedsShow, GetsPage, MayClaim, of_pages, GotPages, getting_old, claiming, claiming_old, IsClaimed, ClaimsPage, GetsRightOf, LosesRightOf}
 use Rattle.pas_profile.specs.Classes.{has_bit}
 use Rattle.pas_profile.specs.declared.profile.Profile.{Profile}
 use Rattle.pas_bits.specs.Masks.{is_set, AllSetBelow, IsLowestClear}
@@ -28,9 +31,6 @@ use Rattle.pas_steps.specs.Past.{Once, Since, Always}
 use Rattle.pas_steps.specs.declared.step.Made.{Made}
 use Rattle.pas_steps.proofs.Frames.{rights_stay, events_append}
 use Rattle.pas_search.specs.Serving.{MayServe, GotBefore, right_of}
-use Rattle.pas_segregated.proofs.GiveBack.{keeps_by}
-use Rattle.pas_segregated.specs.Takes.{four_takes, GetsGrains, TakesUsable}
-use Rattle.pas_segregated.proofs.FourTakes.{takes_read}
 use Rattle.pas_large.specs.Evidence.{BrokenHere, TakenWholeHere, LostHere}
 use Rattle.pas_profile.specs.Directories.{number_of, deed_word_of}
 use Rattle.pas_profile.specs.Profiles.{IsPage}
@@ -47,40 +47,10 @@ use Rattle.pas_rights.specs.Claims.{Claims}
 use Rattle.pas_scan.specs.Usable.{OfHere, ReadUsable, LeftAlone}
 use Rattle.pas_steps.specs.Unknown.{unknown_pages}
 use Rattle.pas_large.specs.declared.claiming.Claimed.{Claimed}
-
--- ---- grains are put back, and their page is left
-clear_again : (t : Bool) (q : ℕ) (v u : View) → (t ≡ true → IsClearOn q v → IsClearOn q u) → ClearAfter (later (if t then Lost else Kept) (if t then Kept else Kept)) q v u → IsClearOn q v → IsClearOn q u
-clear_again true q v u again h = again refl
-clear_again false q v u again h = h
-
-module _ {σ σ1 : Standing} (page : ℕ) (d : Directory) (mask : Mask4) (puts : PutsMask page mask σ σ1) where
-  put_call : Calls σ σ1 (MayPutAndLeave page d (masked page mask)) (Does (put (masked page mask) page)) puts.steps
-  put_call = call_as (Does (put (masked page mask) page)) puts.calls (λ v met. record { held = met.held; stamped = met.clear.stamped }) (λ v w met does. does)
-
-  may_leave : (v : View) → MayPutAndLeave page d (masked page mask) v → Does (put (masked page mask) page) v (puts.steps ++ v) → MayLeave page d (puts.steps ++ v)
-  may_leave v met does = record { right = does.right page ∙ met.right; deed = deeds_same (Putting ∷ []) refl page puts.steps v puts.kinds ∙ met.deed }
-
-  pub can_leave : CanCall σ (λ v l. MayPutAndLeave page d (masked page mask) v) → CanCall σ1 (λ v l. MayLeave page d v)
-  can_leave can = next_call put_call can may_leave
-
-  settled : (v w : View) → Settles page Lost (puts.steps ++ v) w → IsClearOn page v → IsClearOn page w
-  settled v w settles clear =
-      settles.clear (unstamped_same (Putting ∷ []) refl page puts.steps v puts.kinds ∙ clear.stamped) (examines_same (Putting ∷ []) refl page puts.steps v puts.kinds ∙ clear.examined)
-
-  pub puts_and_leaves : {σ2 : Standing} → Leaves page d σ1 σ2 → PutsAndLeaves page d mask σ σ2
-  puts_and_leaves left = record {
-    puts = puts.steps;
-    after = left.steps;
-    calls = call_then (Does (put_and_left page (masked page mask))) put_call left.calls may_leave
-        (λ v met a b. does_as (put_and_left page (masked page mask)) (does_then a b.does) (λ g. inl refl) (λ q. kept_first (if page == q then Lost else Kept))
-        (λ q. clear_again (page == q) q v (left.steps ++ (puts.steps ++ v)) (λ e. subst (λ p. IsClearOn p v → IsClearOn p (left.steps ++ (puts.steps ++ v))) (eqb-true page q e) (settled v (left.steps ++ (puts.steps ++ v)) b))));
-    on = always_both (λ m before. IsOnPage page m.step) (λ m before. IsOnPage page m.step) left.steps puts.steps (λ m before h. h) (returns_on page left.steps left.returns) puts.on;
-    kinds = only_both giving_back left.steps puts.steps (only_within returning giving_back left.steps refl (returns_are page left.steps left.returns)) (only_within (Putting ∷ []) giving_back puts.steps refl puts.kinds);
-    few = let all = length-append left.steps puts.steps in let a = left.few in let b = puts.few in omega (arith, all, a, b);
-    only_puts = puts.kinds;
-    left = left.left;
-    lacks = λ before. ap (λ s. has_right s page) (append_assoc left.steps puts.steps before) ∙ leave_lacks page d left.steps (puts.steps ++ before) left.order;
-  }
+use Rattle.pas_steps.proofs.Evidence.{deed_known}
+use Rattle.pas_steps.proofs.Sets.{got_lost}
+use Rattle.std.proofs.Math.Bool.{and-true}
+use Rattle.pas_core.proofs.DeedWords.{looked}
 
 -- ---- all grains of a page of a run: four takes, and where some grain wasn't free, what was got is put back and the page is left
 since_map : (P P' Q : Made → List Made → Type 0) (xs : List Made) → ((m : Made) (before : List Made) → P m before → P' m before) → Since P Q xs → Since P' Q xs
@@ -96,37 +66,30 @@ since_more P Q R (m ∷ ys) xs f all h = inr (f m ys all.0 all.1, since_more P Q
 pub after_more : (P : Made → List Made → Type 0) (ys zs xs : List Made) → OnceAfter (zs ++ xs) P ys → OnceAfter xs P (ys ++ zs)
 after_more P ys zs xs h = once_earlier (λ m b. P m (b ++ (zs ++ xs))) (λ m b. P m (b ++ xs)) ys zs (λ m b x. subst (P m) (sym (append_assoc b zs xs)) x) h
 
-pub and_true : (t : Bool) → (t && true) ≡ t
-and_true true = refl
-and_true false = refl
-
 -- ---- all grains that were free were got, by four takes
-module _ (d : Directory) (page : ℕ) (got : Mask4) {σ σ1 : Standing} (taken : TakesUsable page 0 σ σ1 got) where
-  abbrev takes : List Made
-  takes = four_takes page taken.usable taken.answers
+module _ (d : Directory) (page : ℕ) (got : Mask4) {σ σ1 : Standing} (taken : TakesMask page full σ σ1 got) where
+  abbrev answers : ℕ → ℕ
+  answers = words taken.answers
 
-  take_kinds : Only (Taking ∷ []) takes
-  take_kinds = (refl, (refl, (refl, (refl, tt))))
+  abbrev ts : List Made
+  ts = takes page (words full) (words taken.answers) 4
 
-  take_on : OnlyOn page takes
-  take_on = (IsOnPage.Takes 3 _, (IsOnPage.Takes 2 _, (IsOnPage.Takes 1 _, (IsOnPage.Takes 0 _, tt))))
+  ts_read : (before : List Made) → GotBefore page before → (word : ℕ) → word < 4 → Since (ShowsHere page word (is_set taken.answers)) (KeptHere page) (ts ++ before)
+  ts_read before met word lt = takes_read page (words full) answers (is_set taken.answers) (λ w b small. at_word taken.answers w b small) before met.right met.none 4 word lt lt (full_word word lt)
 
-  takes_keep : KeepsRight page takes
-  takes_keep = keeps_by page (Taking ∷ []) takes refl take_kinds
-
-  take_call : Calls σ σ1 (MayServe page d) (GetsGrains (masked page got)) takes
+  take_call : Calls σ σ1 (MayServe page d) (GetsGrains (masked page got)) ts
   take_call = call_as (GetsGrains (masked page got)) taken.calls (λ v met. met.right) (λ v w met gets. gets)
 
   set_read : (x : ℕ) → is_set got x ≡ true → is_set taken.answers x ≡ true
-  set_read x h = (and_parts (is_set taken.answers x) (is_set taken.usable x) (sym (taken.got_is x) ∙ h)).0
+  set_read x h = (and_parts (is_set taken.answers x) (is_set full x) (sym (taken.got_is x) ∙ h)).0
 
   read_set : (x : ℕ) → x < 256 → is_set taken.answers x ≡ true → is_set got x ≡ true
-  read_set x lt h = taken.got_is x ∙ and_from (is_set taken.answers x) (is_set taken.usable x) h (taken.usable_are x lt ∙ lt-ltb x 256 lt)
+  read_set x lt h = taken.got_is x ∙ and_from (is_set taken.answers x) (is_set full x) h (full_set x lt)
 
   -- ---- all grains of the page were
   module _ (all : AllSetBelow got 256) where
     on_page : (g : ℕ) → masked page got g ≡ (page == g / 256)
-    on_page g = ap (λ t. (page == g / 256) && t) (all (g % 256) (omega arith)) ∙ and_true (page == g / 256)
+    on_page g = ap (λ t. (page == g / 256) && t) (all (g % 256) (omega arith)) ∙ and-true (page == g / 256)
 
     whole_here : (word : ℕ) → word < 4 → (m : Made) (before : List Made) → ShowsHere page word (is_set taken.answers) m before → TakenWholeHere page word m before
     whole_here word small m before h = ((h.0, λ b lt. sym (h.2 b lt) ∙ set_read (64 * word + b) (all (64 * word + b) (omega (arith, small, lt)))), h.1)
@@ -139,24 +102,24 @@ module _ (d : Directory) (page : ℕ) (got : Mask4) {σ σ1 : Standing} (taken :
 
     pub keeps_all : TakesPage d page σ σ1 true
     keeps_all = record {
-      steps = takes;
+      steps = ts;
       adds = take_call.adds;
-      on = take_on;
-      kinds = only_within (Taking ∷ []) taking_pages takes refl take_kinds;
-      few = omega arith;
+      on = takes_on page (words full) answers 4;
+      kinds = only_within (Taking ∷ []) taking_grains ts refl (takes_only page (words full) answers 4);
+      few = let few = takes_few page (words full) answers 4 in omega (arith, few);
       outcome = record {
-        few = omega arith;
-        leads = record { from = λ v met agreed. took v (takes ++ v) (take_call.leads.from v met agreed) };
-        keeps = takes_keep;
-        whole = λ before met word lt. since_map (ShowsHere page word (is_set taken.answers)) (TakenWholeHere page word) (KeptHere page) (takes ++ before) (whole_here word lt) (takes_read page taken.usable taken.answers before met.right met.none word lt);
+        few = takes_few page (words full) answers 4;
+        leads = record { from = λ v met agreed. took v (ts ++ v) (take_call.leads.from v met agreed) };
+        keeps = takes_keep page (words full) answers 4;
+        whole = λ before met word lt. since_map (ShowsHere page word (is_set taken.answers)) (TakenWholeHere page word) (KeptHere page) (ts ++ before) (whole_here word lt) (ts_read before met word lt);
       };
     }
 
   -- ---- some grain wasn't
-  took_call : Calls σ σ1 (MayServe page d) (λ v w. GetsGrains (masked page got) v w × KnowsDeed page d w) takes
+  took_call : Calls σ σ1 (MayServe page d) (λ v w. GetsGrains (masked page got) v w × KnowsDeed page d w) ts
   took_call = call_knows page d take_call (λ v met. met.deed)
 
-  may_put_back : (v : View) → MayServe page d v → GetsGrains (masked page got) v (takes ++ v) × KnowsDeed page d (takes ++ v) → MayPutAndLeave page d (masked page got) (takes ++ v)
+  may_put_back : (v : View) → MayServe page d v → GetsGrains (masked page got) v (ts ++ v) × KnowsDeed page d (ts ++ v) → MayPutAndLeave page d (masked page got) (ts ++ v)
   may_put_back v met gets = record {
     right = gets.0.does.right page ∙ met.right;
     deed = gets.1;
@@ -164,45 +127,44 @@ module _ (d : Directory) (page : ℕ) (got : Mask4) {σ σ1 : Standing} (taken :
     clear = gets.0.does.clear page met.clear;
   }
 
-  pub can_put : CanCall σ (λ v l. MayServe page d v) → CanCall σ1 (λ v l. MayPutAndLeave page d (masked page got) v)
+  pub can_put : CanCall σ (MayServe page d) → CanCall σ1 (MayPutAndLeave page d (masked page got))
   can_put can = next_call took_call can may_put_back
 
   module _ {σ2 : Standing} (back : PutsAndLeaves page d got σ1 σ2) (x : ℕ) (clear : IsLowestClear got x) where
     -- what was got is lost again
     again : (t had : Bool) → (t ≡ true → had ≡ false) → (later (if t then Gained else Kept) (if t then Lost else Kept) ≡ Kept) ⊎ ((had ≡ false) × (now (later (if t then Gained else Kept) (if t then Lost else Kept)) false ≡ false))
-    again true had none = inr (none refl, refl)
-    again false had none = inl refl
+    again t had none = grind arith
 
-    left_call : Calls σ σ2 (MayServe page d) (Does (right_of page Lost)) ((back.after ++ back.puts) ++ takes)
+    left_call : Calls σ σ2 (MayServe page d) (Does (right_of page Lost)) ((back.after ++ back.puts) ++ ts)
     left_call = call_then (Does (right_of page Lost)) took_call back.calls may_put_back
         (λ v met gets back. does_as (right_of page Lost) (does_then gets.0.does back) (λ g. again (masked page got g) (holds v g) (gets.0.apart g)) (λ q. kept_first (if page == q then Lost else Kept)) (λ q h. h))
 
     puts_keep : KeepsRight page back.puts
     puts_keep = keeps_by page (Putting ∷ []) back.puts refl back.only_puts
 
-    broken : (before : List Made) → GotBefore page before → OnceAfter before (BrokenHere page) ((back.after ++ back.puts) ++ takes)
+    broken : (before : List Made) → GotBefore page before → OnceAfter before (BrokenHere page) ((back.after ++ back.puts) ++ ts)
     broken before met =
-        let xs = takes ++ before in let right = rights_stay takes before page takes_keep met.right in let kept = rights_stay back.puts xs page puts_keep right in
-        after_more (BrokenHere page) (back.after ++ back.puts) takes before (after_more (BrokenHere page) back.after back.puts xs
+        let xs = ts ++ before in let right = takes_right page (words full) answers 4 before met.right in let kept = rights_stay back.puts xs page puts_keep right in
+        after_more (BrokenHere page) (back.after ++ back.puts) ts before (after_more (BrokenHere page) back.after back.puts xs
         (once_map (LosesHere page) (λ m b. BrokenHere page m (b ++ (back.puts ++ xs))) back.after (λ m b h. record {
           left = h.0;
           kept = right_reads page b (back.puts ++ xs) (looks_read b h.1) ∙ kept;
-          got = once_later (GetsHere page) b (back.puts ++ xs) (once_later (GetsHere page) back.puts xs (once_later (GetsHere page) takes before met.got));
+          got = once_later (GetsHere page) b (back.puts ++ xs) (once_later (GetsHere page) back.puts xs (once_later (GetsHere page) ts before met.got));
           readings = is_set taken.answers;
           none = λ all. true≢false (sym (read_set x clear.within (all x clear.within)) ∙ clear.clear);
           read = λ word lt. let shows = ShowsHere page word (is_set taken.answers) in
               since_more shows (KeptHere page) (λ m c. IsRead m.step m.answer) b (back.puts ++ xs) (λ m c is reads. right_reads page c (back.puts ++ xs) reads ∙ kept) (looks_read b h.1)
-              (since_more shows (KeptHere page) (λ m c. GivesUp page m.step → ⊥) back.puts xs (λ m c is keeps. rights_stay c xs page keeps right) puts_keep (takes_read page taken.usable taken.answers before met.right met.none word lt));
+              (since_more shows (KeptHere page) (λ m c. GivesUp page m.step → ⊥) back.puts xs (λ m c is keeps. rights_stay c xs page keeps right) puts_keep (ts_read before met word lt));
         }) back.left))
 
     pub leaves_broken : TakesPage d page σ σ2 false
     leaves_broken = record {
-      steps = (back.after ++ back.puts) ++ takes;
+      steps = (back.after ++ back.puts) ++ ts;
       adds = left_call.adds;
-      on = always_both (λ m before. IsOnPage page m.step) (λ m before. IsOnPage page m.step) (back.after ++ back.puts) takes (λ m before h. h) back.on take_on;
-      kinds = only_both taking_pages (back.after ++ back.puts) takes (only_within giving_back taking_pages (back.after ++ back.puts) refl back.kinds) (only_within (Taking ∷ []) taking_pages takes refl take_kinds);
-      few = let n = length-append (back.after ++ back.puts) takes in let a = back.few in omega (arith, n, a);
-      outcome = record { leads = left_call.leads; lacks = λ before. ap (λ s. has_right s page) (append_assoc (back.after ++ back.puts) takes before) ∙ back.lacks (takes ++ before); broken = broken };
+      on = always_both (λ m before. IsOnPage page m.step) (λ m before. IsOnPage page m.step) (back.after ++ back.puts) ts (λ m before h. h) back.on (takes_on page (words full) answers 4);
+      kinds = only_both taking_grains (back.after ++ back.puts) ts (only_within giving_back taking_grains (back.after ++ back.puts) refl back.kinds) (only_within (Taking ∷ []) taking_grains ts refl (takes_only page (words full) answers 4));
+      few = let n = length-append (back.after ++ back.puts) ts in let a = back.few in let b = takes_few page (words full) answers 4 in omega (arith, n, a, b);
+      outcome = record { leads = left_call.leads; lacks = λ before. ap (λ s. has_right s page) (append_assoc (back.after ++ back.puts) ts before) ∙ back.lacks (ts ++ before); broken = broken };
     }
 
 -- ---- the right of a page of a run: a look at its deed word, and a claim or a deed
@@ -223,15 +185,11 @@ abbrev pub deed_look : ℕ → ℕ → Made
 deed_look page a = made (Look (Word.Deed page)) a
 
 -- ---- both steps
-same_fate : (t : Bool) → (if t then Kept else Kept) ≡ Kept
-same_fate true = refl
-same_fate false = refl
-
 way_taken : (page : ℕ) (t got had : Bool) (w : Way) → had_after w had ≡ true → t ≡ got → had_after (if (page == page) && t then w else Rests) had ≡ now (if got then Gained else Kept) had
 way_taken page true got had w gains e = ap (λ x. had_after (if x && true then w else Rests) had) (eq-eqb page page refl) ∙ gains ∙ ap (λ x. now (if x then Gained else Kept) had) e
 way_taken page false got had w gains e = ap (λ x. had_after (if x && false then w else Rests) had) (eq-eqb page page refl) ∙ ap (λ x. now (if x then Gained else Kept) had) e
 
-module _ {σ σ1 : Standing} (deeds : Bool) (d : Directory) (page a : ℕ) (m : Made) (adds : Adds σ σ1 Anything (m ∷ deed_look page a ∷ [])) (on : IsOnPage page m.step) (kind : is_in getting (kind_of m.step) ≡ true) where
+module _ {σ σ1 : Standing} (deeds : Bool) (d : Directory) (page a : ℕ) (m : Made) (adds : Adds σ σ1 AnyView (m ∷ deed_look page a ∷ [])) (on : IsOnPage page m.step) (kind : is_in getting (kind_of m.step) ≡ true) where
   abbrev pair : List Made
   pair = m ∷ deed_look page a ∷ []
 
@@ -244,7 +202,7 @@ module _ {σ σ1 : Standing} (deeds : Bool) (d : Directory) (page a : ℕ) (m : 
         owes = owes_over getting refl page pair v kinds is.owes;
         examined = unexamined_over getting refl page pair v kinds is.examined;
       }) in
-      does_as (right_of page r) does (λ x. inl refl) (λ q. refl) (λ q h. subst (λ t. ClearAfter t q v (pair ++ v)) (same_fate (page == q)) h)
+      does_as (right_of page r) does (λ x. inl refl) (λ q. refl) (λ q h. subst (λ t. ClearAfter t q v (pair ++ v)) (looked (page == q) Kept) h)
 
   pair_outcome : (got : Bool) → ((v : View) → has_right (pair ++ v) page ≡ now (if got then Gained else Kept) (has_right v page)) → (got ≡ true → (v : View) → Agreed σ.seat.profile v pair → KnowsDeed page d (pair ++ v)) → (got ≡ true → GetsRight page m.step m.answer)
       → (got ≡ false → (before : List Made) (v : View) → LeftAlone page before → ReadUsable d page before → Agreed σ.seat.profile v (pair ++ before) → LostHere d page m (deed_look page a ∷ before)) → MatchBool got (GetsRightOf σ.seat.profile d page pair) (LosesRightOf deeds σ.seat.profile d page pair)
@@ -253,7 +211,7 @@ module _ {σ σ1 : Standing} (deeds : Bool) (d : Directory) (page a : ℕ) (m : 
     got = λ before alone. record { right = right before; got = inl (gets refl); none = λ g at. holds_same getting refl g pair before (kind, (refl, tt)) ∙ alone.none g at; newest = gets refl };
   }
   pair_outcome false right known gets lost = record {
-    leads = record { from = λ v met agreed. does_as nothing (pair_does Kept v agreed (right v)) (λ x. inl refl) (λ q. same_fate (page == q)) (λ q h. h) };
+    leads = record { from = λ v met agreed. does_as nothing (pair_does Kept v agreed (right v)) (λ x. inl refl) (λ q. looked (page == q) Kept) (λ q h. h) };
     lacks = λ before none. right before ∙ none;
     lost = λ may before v alone usable agreed. inl (lost refl before v alone usable agreed);
   }
@@ -275,7 +233,7 @@ module _ {σ σ1 : Standing} (deeds : Bool) (d : Directory) (page a : ℕ) (m : 
 pub claim_gets : {σ σ1 σ2 : Standing} (deeds : Bool) (d : Directory) (page a : ℕ) → a ≡ deed_word_of d → Makes σ σ1 (Look (Word.Deed page)) a → (got : Bool) → Claims page d σ1 σ2 got → GetsPage deeds d page σ σ2 got
 claim_gets {σ} {σ1} {σ2} deeds d page a is look got h =
     let m : Made = made (TakeRight page d) h.answer in let f : Profile = σ.seat.profile in let known = λ (v : View). read_here page a (known_deed v page) ∙ is in
-    let adds : Adds σ σ2 Anything (m ∷ deed_look page a ∷ []) = adds_call {D = λ v l. KnowsDeed page d v} (adds_step adds_none look (λ v l stood met. tt)) h.calls.adds (λ v l stood met. known v) in
+    let adds : Adds σ σ2 AnyView (m ∷ deed_look page a ∷ []) = adds_call {D = KnowsDeed page d} (adds_step adds_none look (λ v l stood met. tt)) h.calls.adds (λ v l stood met. known v) in
     pair_gets deeds d page a m adds (IsOnPage.Claims d) refl got (λ none. (refl, (refl, tt))) ((λ p e same z. cc), tt) (λ k v agreed. let still = unknown_stays f (m ∷ deed_look page a ∷ []) v agreed in omega (arith, still))
     (pair_outcome deeds d page a m adds (IsOnPage.Claims d) refl got (λ v. way_taken page (has_bit h.answer (page % 64)) got (has_right v page) (FromOffer (number_of d)) refl (sym h.got_is))
     (λ e v agreed. knows_still f d page (m ∷ []) (deed_look page a ∷ v) (agreed.0, tt) (known v)) (λ e. GetsRight.Claims d h.answer (sym h.got_is ∙ e))
@@ -288,15 +246,11 @@ other_known f d page a before v ne (inr whole) agreed =
     let known : KnowsDeed page d (before ++ v) = known_of f d page before v agreed.1 whole.of in
     absurd (ne (agreed.0.known (λ z. deed_word_of-positive d (sym known ∙ z)) ∙ known))
 
--- the deed was made
-deed_known : (p : ℕ) (d : Directory) (a : ℕ) (v : View) → a ≡ 0 → KnowsDeed p d (made (Deed p d) a ∷ v)
-deed_known p d a v e = ap (λ t. if t then (if a == 0 then deed_word_of d else a) else known_deed v p) (eq-eqb p p refl) ∙ ap (λ t. if t then deed_word_of d else a) (eq-eqb a 0 e)
-
 module _ {σ σ1 σ2 : Standing} (d : Directory) (page a b : ℕ) (is : IsPage σ.seat.profile page) (ne : a ≢ deed_word_of d) (look : Makes σ σ1 (Look (Word.Deed page)) a) (deed : Makes σ1 σ2 (Deed page d) b) where
   abbrev both : List Made
   both = made (Deed page d) b ∷ deed_look page a ∷ []
 
-  deed_adds : Adds σ σ2 Anything both
+  deed_adds : Adds σ σ2 AnyView both
   deed_adds = adds_step (adds_step adds_none look (λ v l stood met. tt)) deed (λ v l stood met. tt)
 
   knew_none : (v : View) → Agreed σ.seat.profile v both → b ≡ 0 → known_deed v page ≡ 0
@@ -376,14 +330,10 @@ shows_both f ys xs later first k v agreed =
     let same : unknown_pages f ((ys ++ xs) ++ v) ≡ unknown_pages f (ys ++ (xs ++ v)) = ap (unknown_pages f) (append_assoc ys xs v) in
     omega (arith, a, b, n, same)
 
-pub shows_taking : (f : Profile) (steps : List Made) → Only taking_pages steps → OnlyDeedsShow f steps
-shows_taking f steps only k v agreed = let none = ap length (no_events taking_pages refl k v steps only) in let still = unknown_stays f steps v agreed in omega (arith, none, still)
+pub shows_taking : (f : Profile) (steps : List Made) → Only taking_grains steps → OnlyDeedsShow f steps
+shows_taking f steps only k v agreed = let none = ap length (no_events taking_grains refl k v steps only) in let still = unknown_stays f steps v agreed in omega (arith, none, still)
 
 -- ---- effects
-got_lost : (t had : Bool) → (t ≡ true → had ≡ false) → now (if t then Lost else Kept) (now (if t then Gained else Kept) had) ≡ had
-got_lost true had lacked = sym (lacked refl)
-got_lost false had lacked = refl
-
 -- what was got is lost again
 pub undone : {v w u : View} (grains rights : ℕ → Bool) → ((g : ℕ) → grains g ≡ true → holds v g ≡ false) → ((p : ℕ) → rights p ≡ true → has_right v p ≡ false)
     → Does (record { grains = λ g. if grains g then Gained else Kept; rights = λ q. if rights q then Gained else Kept; clears = λ q. Kept }) v w
@@ -403,18 +353,18 @@ module _ (deeds : Bool) (d : Directory) (page : ℕ) {σ σ1 : Standing} (get : 
     abbrev all : List Made
     all = takes.steps ++ get.steps
 
-    all_adds : Adds σ σ2 (λ v l. MayClaim d page v) all
-    all_adds = adds_call {D = λ v l. MayServe page d v} (adds_under get.adds (λ v l stood met. tt)) takes.adds (λ v l stood met. (get.outcome.leads.from v met (get.adds.agreed v l stood tt)).may)
+    all_adds : Adds σ σ2 (MayClaim d page) all
+    all_adds = adds_call {D = MayServe page d} (adds_under get.adds (λ v l stood met. tt)) takes.adds (λ v l stood met. (get.outcome.leads.from v met (get.adds.agreed v l stood tt)).may)
 
     pub claims : (claimed : Claimed) → IsClaimed deeds σ.seat.profile d page (takes.steps ++ get.steps) claimed → ClaimsPage deeds d page σ σ2 claimed
     claims claimed outcome = record {
       steps = all;
       adds = all_adds;
       on = always_both (λ m before. IsOnPage page m.step) (λ m before. IsOnPage page m.step) takes.steps get.steps (λ m before h. h) takes.on get.on;
-      kinds = only_both claiming takes.steps get.steps (only_within taking_pages claiming takes.steps refl takes.kinds) (only_within getting claiming get.steps refl get.kinds);
-      old = λ none. only_both claiming_old takes.steps get.steps (only_within taking_pages claiming_old takes.steps refl takes.kinds) (only_within getting_old claiming_old get.steps refl (get.old none));
+      kinds = only_both claiming takes.steps get.steps (only_within taking_grains claiming takes.steps refl takes.kinds) (only_within getting claiming get.steps refl get.kinds);
+      old = λ none. only_both claiming_old takes.steps get.steps (only_within taking_grains claiming_old takes.steps refl takes.kinds) (only_within getting_old claiming_old get.steps refl (get.old none));
       few = let n = length-append takes.steps get.steps in let a = takes.few in let b = get.few in omega (arith, n, a, b);
-      made = always_both (MadeHere d page) (MadeHere d page) takes.steps get.steps (λ m before h. h) (no_deeds taking_pages d page takes.steps refl takes.kinds) get.made;
+      made = always_both (MadeHere d page) (MadeHere d page) takes.steps get.steps (λ m before h. h) (no_deeds taking_grains d page takes.steps refl takes.kinds) get.made;
       shows = shows_both σ.seat.profile takes.steps get.steps (shows_taking σ.seat.profile takes.steps takes.kinds) get.shows;
       outcome = outcome;
     }

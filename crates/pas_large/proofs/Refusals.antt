@@ -30,6 +30,7 @@ use Rattle.pas_scan.proofs.LeftPages.{since_earlier}
 use Rattle.pas_scan.specs.Scan.{AllParked, IsVerdict, Judges, judging, last_block}
 use Rattle.pas_scan.proofs.Judging.{scans_append}
 use Rattle.pas_steps.proofs.Frames.{right_own}
+use Rattle.pas_steps.proofs.Evidence.{zero_before}
 
 -- ---- the offered pages are marked: one eligible word more
 -- what is marked below a block, and what was read of it
@@ -86,9 +87,6 @@ held_from : (d : Directory) (p : ℕ) (ys xs : List Made) → OnlyScans ys → h
 held_from d p [] xs scans none since h = absurd h
 held_from d p (m ∷ ys) xs scans none since (inl z) = inl ((z.0, z.1, right_own p ys xs none ∙ z.2), since_more (MissingHere d p) (LacksAfter p) (λ k c. IsScan k.step) ys xs (λ k c is more. right_scans (k ∷ c) xs p (is, more) ∙ none) scans.1 since)
 held_from d p (m ∷ ys) xs scans none since (inr h) = inr (held_from d p ys xs scans.1 none since h)
-
-zero_before : (d : Directory) (p : ℕ) (ys xs : List Made) → has_right xs p ≡ false → Once (ZeroHere d p) ys → Once (ZeroHere d p) (ys ++ xs)
-zero_before d p ys xs none = once_earlier (ZeroHere d p) (ZeroHere d p) ys xs (λ m before z. (z.0, z.1, right_own p before xs none ∙ z.2))
 
 module _ (d : Directory) (marks : List ℕ) {σ σ1 σ2 : Standing} (offers : MarksOffered d marks σ σ1) (room : NoRoom) (judges : Judges marks d σ1 σ2 room) where
   abbrev f : Profile

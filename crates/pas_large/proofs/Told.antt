@@ -30,6 +30,8 @@ use Rattle.pas_scan.specs.Runs.{IsInRun, HasUnusable}
 use Rattle.pas_scan.proofs.LeftPages.{holds_none_by}
 use Rattle.pas_large.specs.Evidence.{LostRightHere, LostDeedHere, NotAll, FailsHere}
 use Rattle.pas_large.specs.Telling.{IsWholePage, IsUsablePage, IsUsableRun}
+use Rattle.pas_core.proofs.OneActorRights.{legal_before}
+use Rattle.std.proofs.Math.Bool.{or-false}
 
 -- ---- looks change no word
 look_keeps : (s : Step) (e v : ℕ) (w : Word) → is_in looking (kind_of s) ≡ true → (if same_word (target s) w then new_value e s v else v) ≡ v
@@ -66,10 +68,6 @@ free_told l p word s a ReadsFree.Looks is = is
 free_told l p word s a (ReadsFree.Takes mask) is = is
 
 -- ---- usable pages
-or_none : (x y : Bool) → y ≡ false → (x || y) ≡ x
-or_none true y h = refl
-or_none false y h = h
-
 -- the bit of a grain in its free word
 grain_bit : (l : Whole) (p word b : ℕ) → word < 4 → b < 64 → has_bit (word_after l (Word.Free p word)) b ≡ free_of_page l p (64 * word + b)
 grain_bit l p word b small lt =
@@ -81,10 +79,10 @@ grain_bit l p word b small lt =
     ∙ ap (has_bit (word_after l (free_word_at (p * 256 + (64 * word + b))))) (sym bit)
 
 module _ (f : Profile) (k : ℕ) (l : Whole) (d : Directory) (p : ℕ) (steps : List Made) (legal : Legal f (triples k steps ++ l)) (only : Only looking steps) where
-  pub of_told : Once (OfHere d p) steps → word_after l (Word.Deed p) ≡ deed_word_of d
+  of_told : Once (OfHere d p) steps → word_after l (Word.Deed p) ≡ deed_word_of d
   of_told = once_of (OfHere d p) f k l (word_after l (Word.Deed p) ≡ deed_word_of d) steps legal only (λ m before t ok looks x. sym (deed_told l p m.step m.answer x.0 t.is) ∙ x.1)
 
-  pub none_told : Once (NoDeedHere p) steps → word_after l (Word.Deed p) ≡ 0
+  none_told : Once (NoDeedHere p) steps → word_after l (Word.Deed p) ≡ 0
   none_told = once_of (NoDeedHere p) f k l (word_after l (Word.Deed p) ≡ 0) steps legal only (λ m before t ok looks x. sym (deed_told l p m.step m.answer x.0 t.is) ∙ x.1)
 
   pub one_told : Once (OneHere d p) steps → eligible_bit l (number_of d) p ≡ true
@@ -93,7 +91,7 @@ module _ (f : Profile) (k : ℕ) (l : Whole) (d : Directory) (p : ℕ) (steps : 
   whole_told : (word b : ℕ) → word < 4 → b < 64 → Once (WholeHere p word) steps → free_of_page l p (64 * word + b) ≡ true
   whole_told word b small lt = once_of (WholeHere p word) f k l (free_of_page l p (64 * word + b) ≡ true) steps legal only
       (λ m before t ok looks x. sym (grain_bit l p word b small lt) ∙ ap (λ n. has_bit n b) (sym (free_told l p word m.step m.answer x.0 t.is))
-      ∙ sym (or_none (has_bit m.answer b) (holds before (p * 256 + (64 * word + b))) (holds_none_by looking refl (p * 256 + (64 * word + b)) before looks)) ∙ x.1 b lt)
+      ∙ sym (ap (λ t. has_bit m.answer b || t) (holds_none_by looking refl (p * 256 + (64 * word + b)) before looks) ∙ or-false (has_bit m.answer b)) ∙ x.1 b lt)
 
   pub usable_told : ReadUsable d p steps → IsUsablePage d l p
   usable_told (inl bare) = inl (none_told bare)
@@ -115,10 +113,6 @@ deed_of_usable : (d : Directory) (l : Whole) (p : ℕ) → IsUsablePage d l p �
 deed_of_usable d l p (inl none) some = absurd (some none)
 deed_of_usable d l p (inr whole) some = whole
 
-legal_part : (f : Profile) (k : ℕ) (steps : List Made) (l : Whole) → Legal f (triples k steps ++ l) → Legal f l
-legal_part f k [] l legal = legal
-legal_part f k (m ∷ more) l legal = legal_part f k more l legal.1
-
 unusable_here : (f : Profile) (k : ℕ) (l : Whole) (d : Directory) (p : ℕ) → IsUsablePage d l p → (m : Made) (before : List Made) → IsToldLook l m → Legal f (triples k before ++ l) → Only looking before → UnusableHere d p m before → ⊥
 unusable_here f k l d p usable m before t ok looks (inl other) =
     let same = deed_told l p m.step m.answer other.0 t.is in
@@ -129,9 +123,9 @@ unusable_here f k l d p usable m before t ok looks (inr (inl none)) =
     true≢false (sym whole.offered ∙ sym (eligible_told l d p m.step m.answer none.0.0.0 t.is) ∙ none.0.0.1)
 unusable_here f k l d p usable m before t ok looks (inr (inr used)) =
     let same = free_told l p used.0 m.step m.answer used.2 t.is in
-    used.3 (λ b lt. ap (λ x. x || holds before (p * 256 + (64 * used.0 + b))) (ap (λ n. has_bit n b) same ∙ (let small = used.1 in grain_bit l p used.0 b used.1 lt ∙ usable_free f d l p (legal_part f k before l ok) usable (64 * used.0 + b) (omega (arith, small, lt)))))
+    used.3 (λ b lt. ap (λ x. x || holds before (p * 256 + (64 * used.0 + b))) (ap (λ n. has_bit n b) same ∙ (let small = used.1 in grain_bit l p used.0 b used.1 lt ∙ usable_free f d l p (legal_before f k before l ok) usable (64 * used.0 + b) (omega (arith, small, lt)))))
 
-pub unusable_told : (f : Profile) (k : ℕ) (l : Whole) (d : Directory) (p : ℕ) (steps : List Made) → Legal f (triples k steps ++ l) → Only looking steps → Once (UnusableHere d p) steps → IsUsablePage d l p → ⊥
+unusable_told : (f : Profile) (k : ℕ) (l : Whole) (d : Directory) (p : ℕ) (steps : List Made) → Legal f (triples k steps ++ l) → Only looking steps → Once (UnusableHere d p) steps → IsUsablePage d l p → ⊥
 unusable_told f k l d p steps legal only h usable = once_of (UnusableHere d p) f k l ⊥ steps legal only (unusable_here f k l d p usable) h
 
 pub has_unusable : (f : Profile) (k : ℕ) (l : Whole) (d : Directory) (n first : ℕ) (steps : List Made) → Legal f (triples k steps ++ l) → Only looking steps → HasUnusable d n first steps → IsUsableRun d n l first → ⊥
@@ -204,7 +198,7 @@ lost_right f k l d p m before is legal none usable lost =
     let view : has_right (part k w) p ≡ false = ap (λ v. has_right v p) (part_of_own k before l) ∙ right_own p before (part k l) none ∙ lost.2 in
     let knows : KnowsDeed p d (part k w) = subst (λ s. Rattle.pas_steps.specs.Allowed.Allowed f (part k w) s) lost.0 legal.0.allowed in
     nowhere_else k d (spot_of w p) (word_after w (Word.Deed p)) is
-    (clean_fresh f k l d p before legal.1 (usable_clean f k l d p (legal_part f k before l legal.1) usable) lost.3)
+    (clean_fresh f k l d p before legal.1 (usable_clean f k l d p (legal_before f k before l legal.1) usable) lost.3)
     (sym (at.has k) ∙ view)
     (sym (at.eligible (number_of d)) ∙ sym (eligible_told w d p (TakeRight p d) m.answer ReadsEligible.Claims step) ∙ lost.1)
     at.deed
@@ -212,9 +206,7 @@ lost_right f k l d p m before is legal none usable lost =
 
 -- a page without a deed has none where the actor made none
 no_deed_made : (t z : Bool) (word old : ℕ) → (t ≡ true → z ≡ true → ⊥) → old ≡ 0 → (if t then (if z then word else old) else old) ≡ 0
-no_deed_made true true word old ne none = absurd (ne refl refl)
-no_deed_made true false word old ne none = none
-no_deed_made false z word old ne none = none
+no_deed_made t z word old h e = grind arith
 
 still_none : (w : Whole) (e : ℕ) (s : Step) (a p : ℕ) → a ≡ word_after w (target s) → ((d : Directory) → s ≡ Deed p d → a ≡ 0 → ⊥) → word_after w (Word.Deed p) ≡ 0
     → (if same_word (target s) (Word.Deed p) then new_value e s (word_after w (Word.Deed p)) else word_after w (Word.Deed p)) ≡ 0
@@ -252,5 +244,5 @@ fails_told f k l d n first (m ∷ more) is legal lends usable lacks (inl h) =
         | inl right ↦ lost_right f k l d page m more is legal (lacks page h.1.1) (usable page h.1.1) right
         | inr deed ↦ lost_deed f k l d page m more legal deed
       ]
-      | inr broken ↦ unfit_entry NotAll f k l page (m ∷ more) fewer_not_all legal lends (inl broken) (usable_free f d l page (legal_part f k more l legal.1) (usable page h.1.1))
+      | inr broken ↦ unfit_entry NotAll f k l page (m ∷ more) fewer_not_all legal lends (inl broken) (usable_free f d l page (legal_before f k more l legal.1) (usable page h.1.1))
     ]

@@ -29,11 +29,7 @@ use Rattle.pas_large.specs.Refusals.{NotReadHere, IsAccounted, IsHeldLarge, IsRe
 use Rattle.pas_large.specs.Telling.{IsUsablePage, HasNoUsableRun}
 use Rattle.pas_large.proofs.Pages.{known_of}
 use Rattle.pas_large.proofs.Told.{looks_same, once_of, deed_told, eligible_told, parked_bit_told}
-
-since_once : (P Q : Made → List Made → Type 0) (xs : List Made) → Since P Q xs → Once P xs
-since_once P Q [] h = h
-since_once P Q (m ∷ more) (inl h) = inl h
-since_once P Q (m ∷ more) (inr h) = inr (since_once P Q more h.1)
+use Rattle.pas_steps.proofs.Past.{since_once}
 
 -- ---- no run at exit
 usable_before : (k : ℕ) (l : Whole) (d : Directory) (steps : List Made) → Only looking steps → (p : ℕ) → IsUsablePage d (triples k steps ++ l) p → IsUsablePage d l p

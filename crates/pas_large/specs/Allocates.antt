@@ -16,7 +16,8 @@ use Rattle.pas_large.specs.Claims.{in_span}
 use Rattle.pas_large.specs.Finds.{MayFind, finding, FoundRun, FoundNone}
 use Rattle.pas_large.specs.Named.{HoldsNamed, MissesNamed, missed_steps}
 use Rattle.pas_large.specs.Pages.{OnlyDeedsShow, claiming_old}
-use Rattle.pas_large.specs.Gives.{BacksIn, BackStep, pages_from, run_block, give_steps}
+use Rattle.pas_large.specs.Gives.{BacksIn, BackStep, pages_from, run_block}
+use Rattle.pas_rights.specs.Gives.{give_steps}
 use Rattle.pas_rights.specs.Leaves.{LeaveSteps}
 use Rattle.pas_steps.specs.InTurn.{InTurn}
 use Rattle.pas_large.specs.Refusals.{IsReason}
@@ -44,7 +45,7 @@ pub record IsAllocatedLarge (f : Profile) (d : Directory) (n : ℕ) (searched af
   pub left : List Made
   pub left_kinds : Only returning left
   pub left_order : InTurn (λ page piece. LeaveSteps page d piece) (pages_from first n) left
-  pub after_is : after ≡ left ++ (give_steps first block word answer ++ backs)
+  pub after_is : after ≡ left ++ (give_steps first 0 block word answer ++ backs)
   pub few : length after ≤ 12 * n + 2
   pub gave : Leads f (MayFind d) (GaveLarge d first n block) (after ++ searched)
 
@@ -62,7 +63,7 @@ pub record IsRefusedLarge (f : Profile) (d : Directory) (n : ℕ) (searched afte
 pub record AllocatesByScan (heap n : ℕ) (tells : Bool) (desk desk' : Standing) (answer : Result Block NoRoom) : Type 0 where
   pub searched : List Made
   pub after : List Made
-  pub adds : Adds desk desk' (λ v l. MayFind (large_directory heap) v) (after ++ searched)
+  pub adds : Adds desk desk' (MayFind (large_directory heap)) (after ++ searched)
   pub kinds : Only finding searched
   pub shows : OnlyDeedsShow desk.seat.profile searched
   pub few : length (after ++ searched) ≤ 56 * desk.seat.profile.pages + 12 * n + 66
@@ -86,7 +87,7 @@ pub record IsAllocatedNamed (f : Profile) (d : Directory) (n : ℕ) (found : Opt
   pub left : List Made
   pub left_kinds : Only returning left
   pub left_order : InTurn (λ page piece. LeaveSteps page d piece) (pages_from first n) left
-  pub after_is : after ≡ left ++ (give_steps first block word answer ++ backs)
+  pub after_is : after ≡ left ++ (give_steps first 0 block word answer ++ backs)
   pub few : length (after ++ tried) ≤ 18 * n + 2
   pub gave : Leads f (MayFind d) (GaveLarge d first n block) (after ++ tried)
 
@@ -111,7 +112,7 @@ pub record IsScanned (f : Profile) (d : Directory) (n : ℕ) (found : Option ℕ
 pub record AllocatesLarge (heap n : ℕ) (found : Option ℕ) (tells : Bool) (desk desk' : Standing) (answer : Result Block NoRoom) : Type 0 where
   pub tried : List Made
   pub rest : List Made
-  pub adds : Adds desk desk' (λ v l. MayFind (large_directory heap) v) (rest ++ tried)
+  pub adds : Adds desk desk' (MayFind (large_directory heap)) (rest ++ tried)
   pub old : Only claiming_old tried
   pub shows : OnlyDeedsShow desk.seat.profile tried
   pub few : length (rest ++ tried) ≤ 56 * desk.seat.profile.pages + 12 * n + missed_steps found n + 66

@@ -2,7 +2,7 @@
 use Rattle.std.specs.Prelude.{ℕ, ◌+◌, ◌-◌, ◌*◌, ◌/◌, ◌<◌, ◌≤◌, ◌≡◌, ◌⊎◌, min, nat_le, nat_lt, Bool, true, false, ◌&&◌, List, ◌++◌, length, Option, MatchOption}
 use Rattle.pas_profile.specs.declared.directory.Directory.{Directory}
 use Rattle.pas_profile.specs.declared.profile.Profile.{Profile}
-use Rattle.pas_segregated.specs.Returns.{giving_back}
+use Rattle.pas_rights.specs.PutsBack.{giving_back}
 use Rattle.pas_steps.specs.Agreement.{Agreed}
 use Rattle.pas_steps.specs.Calls.{Calls, Leads, Lost, nothing, Does}
 use Rattle.pas_steps.specs.Clear.{IsClear}
@@ -62,7 +62,7 @@ FailsAt f d first page steps = (before : List Made) (v : View) → AloneFrom fir
 -- deed or none. Six steps at most for each page that was got, and 21 for the one that wasn't.
 pub record ClaimsPages (deeds : Bool) (d : Directory) (first end : ℕ) (desk desk' : Standing) (stop : ℕ) : Type 0 where
   pub steps : List Made
-  pub adds : Adds desk desk' (λ v l. MayClaimPages d first end v) steps
+  pub adds : Adds desk desk' (MayClaimPages d first end) steps
   pub kinds : Only claiming steps
   pub old : deeds ≡ false → Only claiming_old steps
   pub few : length steps ≤ 6 * (stop - first) + 21 * (min (stop + 1) end - stop)
@@ -116,7 +116,7 @@ pub record FailsRun (deeds : Bool) (f : Profile) (d : Directory) (first end page
 -- Where `deeds` is false no deed is made.
 pub record ClaimsRun (deeds : Bool) (d : Directory) (first end : ℕ) (desk desk' : Standing) (failed : Option ℕ) : Type 0 where
   pub steps : List Made
-  pub adds : Adds desk desk' (λ v l. MayClaimPages d first end v) steps
+  pub adds : Adds desk desk' (MayClaimPages d first end) steps
   pub kinds : Only claiming steps
   pub old : deeds ≡ false → Only claiming_old steps
   pub made : DeedsIn d first end steps

@@ -52,7 +52,7 @@ IsToldFind f d n l steps found = MatchOption found (HasNoUsableRun f d n l × On
 -- At most six looks at each page, and 48 steps for the claim of each.
 pub record Finds (d : Directory) (n : ℕ) (tells : Bool) (desk desk' : Standing) (found : Option ℕ) : Type 0 where
   pub steps : List Made
-  pub adds : Adds desk desk' (λ v l. MayFind d v) steps
+  pub adds : Adds desk desk' (MayFind d) steps
   pub kinds : Only finding steps
   pub shows : OnlyDeedsShow desk.seat.profile steps
   pub few : length steps ≤ 54 * desk.seat.profile.pages

@@ -3,8 +3,8 @@ use Rattle.std.specs.Prelude.{ℕ, zero, suc, ◌+◌, ◌-◌, ◌*◌, ◌/◌
 use Rattle.pas_profile.specs.Lives.{turn_of}
 use Rattle.pas_profile.specs.declared.directory.Directory.{Directory}
 use Rattle.pas_profile.specs.declared.name.Block.{Block}
-use Rattle.pas_profile.specs.declared.word.Word.TheVariants as Word
 use Rattle.pas_steps.specs.Calls.{Calls, Effect, Kept, Lost, nothing, Does, Bears}
+use Rattle.pas_rights.specs.Gives.{give_steps}
 use Rattle.pas_rights.specs.Leaves.{LeaveSteps}
 use Rattle.pas_steps.specs.Desks.{Standing, made}
 use Rattle.pas_steps.specs.InTurn.{InTurn}
@@ -12,7 +12,7 @@ use Rattle.pas_steps.specs.Kinds.{Backing, Only, returning}
 use Rattle.pas_steps.specs.Past.{Always}
 use Rattle.pas_steps.specs.Views.{View, has_right, KnowsDeed}
 use Rattle.pas_steps.specs.declared.step.Made.{Made}
-use Rattle.pas_steps.specs.declared.step.Step.TheVariants.{Look, Back, Give}
+use Rattle.pas_steps.specs.declared.step.Step.TheVariants.{Back}
 use Rattle.pas_large.specs.Claims.{in_span, HasPages}
 use Rattle.pas_large.specs.Pages.{of_pages}
 
@@ -64,30 +64,13 @@ pub record LeavesRun (d : Directory) (first end : ℕ) (desk desk' : Standing) :
   pub few : length steps ≤ 11 * (end - first)
 
 -- ---- and given
-pub record MayGiveBlock (d : Directory) (first n : ℕ) (v : View) : Type 0 where
-  pub has : HasPages d first (first + n) v
-  pub bears : (g : ℕ) → in_span first (first + n) (g / 256) ≡ true → Bears v g
-
 -- the block of the run, with the turn of the life word that was read
 abbrev pub run_block : Directory → ℕ → ℕ → ℕ → Block
 run_block d first n word = record { name = record { address = record { 0 = first * 4096 }; turn = turn_of word }; room = n * 4096; heap = d.heap }
 
--- a look at the life word of the first grain, and the give
-abbrev pub give_steps : ℕ → Block → ℕ → ℕ → List Made
-give_steps first block word answer = made (Give block) answer ∷ made (Look (Word.Life first 0)) word ∷ []
-
+-- all its grains are
 abbrev pub given_run : ℕ → ℕ → Effect
 given_run first end = record { grains = λ g. if in_span first end (g / 256) then Lost else Kept; rights = λ q. Kept; clears = λ q. Kept }
-
-pub record GaveBlock (first n : ℕ) (block : Block) (v w : View) : Type 0 where
-  pub does : Does (given_run first (first + n)) v w
-  pub turn : block.name.turn < 2 ^ 37
-
-pub record GivesBlock (d : Directory) (first n : ℕ) (block : Block) (desk desk' : Standing) : Type 0 where
-  pub word : ℕ
-  pub answer : ℕ
-  pub block_is : block ≡ run_block d first n word
-  pub calls : Calls desk desk' (MayGiveBlock d first n) (GaveBlock first n block) (give_steps first block word answer)
 
 -- The run is given: its pages are backed, the block is given, and the pages are left. Nothing of it is the actor's then. At most n + 1 events, and
 -- 12 * n + 2 steps.
@@ -108,5 +91,5 @@ pub record GivesRun (d : Directory) (first n : ℕ) (block : Block) (desk desk' 
   pub left : List Made
   pub left_kinds : Only returning left
   pub left_order : InTurn (λ page piece. LeaveSteps page d piece) (pages_from first n) left
-  pub few : length (left ++ (give_steps first block word answer ++ backs)) ≤ 12 * n + 2
-  pub calls : Calls desk desk' (HasPages d first (first + n)) (GaveRun d first n block) (left ++ (give_steps first block word answer ++ backs))
+  pub few : length (left ++ (give_steps first 0 block word answer ++ backs)) ≤ 12 * n + 2
+  pub calls : Calls desk desk' (HasPages d first (first + n)) (GaveRun d first n block) (left ++ (give_steps first 0 block word answer ++ backs))

@@ -34,7 +34,7 @@ pub record MissesNamed (f : Profile) (d : Directory) (n : ℕ) (found : Option �
 -- No deed is made.
 pub record ClaimsNamed (d : Directory) (n : ℕ) (found : Option ℕ) (desk desk' : Standing) (result : Option ℕ) : Type 0 where
   pub steps : List Made
-  pub adds : Adds desk desk' (λ v l. MayFind d v) steps
+  pub adds : Adds desk desk' (MayFind d) steps
   pub old : Only claiming_old steps
   pub shows : OnlyDeedsShow desk.seat.profile steps
   pub outcome : MatchOption result (MissesNamed desk.seat.profile d n found steps) (HoldsNamed desk.seat.profile d n found steps)

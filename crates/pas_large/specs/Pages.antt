@@ -2,17 +2,15 @@
 use Rattle.std.specs.Prelude.{ℕ, ◌+◌, ◌/◌, ◌<◌, ◌≤◌, ◌≡◌, ◌==◌, ◌⊎◌, Bool, true, false, if◌then◌else◌, MatchBool, List, ◌++◌, ◌∷◌, [], length}
 use Rattle.pas_profile.specs.declared.directory.Directory.{Directory}
 use Rattle.pas_profile.specs.declared.profile.Profile.{Profile}
-use Rattle.pas_bits.specs.declared.mask.Mask4.{Mask4}
-use Rattle.pas_rights.specs.Leaves.{LosesHere}
-use Rattle.pas_rights.specs.Puts.{masked}
+use Rattle.pas_rights.specs.PutsBack.{taking_grains}
 use Rattle.pas_steps.specs.Agreement.{Agreed}
-use Rattle.pas_steps.specs.Calls.{Calls, Leads, AnyView, Fate, Kept, Gained, Lost, Effect, nothing, Does}
-use Rattle.pas_steps.specs.Clear.{IsClear, IsClearOn}
-use Rattle.pas_steps.specs.Desks.{Standing, Anything, Adds}
+use Rattle.pas_steps.specs.Calls.{Leads, Fate, Kept, Gained, Lost, Effect, nothing, Does}
+use Rattle.pas_steps.specs.Clear.{IsClear}
+use Rattle.pas_steps.specs.Desks.{Standing, AnyView, Adds}
 use Rattle.pas_steps.specs.Events.{events_by}
 use Rattle.pas_steps.specs.Evidence.{KeptHere}
 use Rattle.pas_steps.specs.Frames.{OnlyOn, KeepsRight}
-use Rattle.pas_steps.specs.Kinds.{Kinds, LookDeed, Deeding, Claiming, Taking, Putting, Only}
+use Rattle.pas_steps.specs.Kinds.{Kinds, LookDeed, Deeding, Claiming, Only}
 use Rattle.pas_steps.specs.Past.{Once, Always, Since}
 use Rattle.pas_steps.specs.Unknown.{unknown_pages}
 use Rattle.pas_steps.specs.Views.{View, holds, has_right, known_deed, KnowsDeed}
@@ -20,7 +18,6 @@ use Rattle.pas_steps.specs.declared.step.Made.{Made}
 use Rattle.pas_steps.specs.declared.step.Step.TheVariants.{Deed}
 use Rattle.pas_scan.specs.Usable.{ReadUsable, LeftAlone}
 use Rattle.pas_search.specs.Serving.{MayServe, GotBefore, right_of}
-use Rattle.pas_segregated.specs.Returns.{giving_back}
 use Rattle.pas_large.specs.Evidence.{LostHere, BrokenHere, TakenWholeHere}
 use Rattle.pas_large.specs.declared.claiming.Claimed.{Claimed}
 
@@ -80,7 +77,7 @@ pub record LosesRightOf (deeds : Bool) (f : Profile) (d : Directory) (page : ℕ
 -- a look at the deed word, and a claim, or where deeds may be made a deed
 pub record GetsPage (deeds : Bool) (d : Directory) (page : ℕ) (desk desk' : Standing) (got : Bool) : Type 0 where
   pub steps : List Made
-  pub adds : Adds desk desk' Anything steps
+  pub adds : Adds desk desk' AnyView steps
   pub on : OnlyOn page steps
   pub kinds : Only getting steps
   pub old : deeds ≡ false → Only getting_old steps
@@ -88,28 +85,6 @@ pub record GetsPage (deeds : Bool) (d : Directory) (page : ℕ) (desk desk' : St
   pub made : DeedsOn d page steps
   pub shows : OnlyDeedsShow desk.seat.profile steps
   pub outcome : MatchBool got (GetsRightOf desk.seat.profile d page steps) (LosesRightOf deeds desk.seat.profile d page steps)
-
--- ---- grains are put back, and their page is left
--- the page's right and these of its grains are the actor's
-pub record MayPutAndLeave (page : ℕ) (d : Directory) (grains : ℕ → Bool) (v : View) : Type 0 where
-  pub right : has_right v page ≡ true
-  pub deed : KnowsDeed page d v
-  pub held : (g : ℕ) → grains g ≡ true → holds v g ≡ true
-  pub clear : IsClearOn page v
-
-abbrev pub put_and_left : ℕ → (ℕ → Bool) → Effect
-put_and_left page grains = record { grains = λ g. if grains g then Lost else Kept; rights = λ q. if page == q then Lost else Kept; clears = λ q. Kept }
-
-pub record PutsAndLeaves (page : ℕ) (d : Directory) (mask : Mask4) (desk desk' : Standing) : Type 0 where
-  pub puts : List Made
-  pub after : List Made
-  pub calls : Calls desk desk' (MayPutAndLeave page d (masked page mask)) (Does (put_and_left page (masked page mask))) (after ++ puts)
-  pub on : OnlyOn page (after ++ puts)
-  pub kinds : Only giving_back (after ++ puts)
-  pub few : length (after ++ puts) ≤ 15
-  pub only_puts : Only (Putting ∷ []) puts
-  pub left : Once (LosesHere page) after
-  pub lacks : (before : List Made) → has_right ((after ++ puts) ++ before) page ≡ false
 
 -- ---- the grains of a page
 -- all its grains are got, none of which was held before
@@ -129,24 +104,21 @@ pub record LeavesBroken (f : Profile) (d : Directory) (page : ℕ) (steps : List
   pub lacks : (before : List Made) → has_right (steps ++ before) page ≡ false
   pub broken : (before : List Made) → GotBefore page before → OnceAfter before (BrokenHere page) steps
 
-abbrev pub taking_pages : Kinds
-taking_pages = Taking ∷ giving_back
-
 pub record TakesPage (d : Directory) (page : ℕ) (desk desk' : Standing) (whole : Bool) : Type 0 where
   pub steps : List Made
-  pub adds : Adds desk desk' (λ v l. MayServe page d v) steps
+  pub adds : Adds desk desk' (MayServe page d) steps
   pub on : OnlyOn page steps
-  pub kinds : Only taking_pages steps
+  pub kinds : Only taking_grains steps
   pub few : length steps ≤ 19
   pub outcome : MatchBool whole (KeepsAll desk.seat.profile d page steps) (LeavesBroken desk.seat.profile d page steps)
 
 -- ---- the claim
 abbrev pub claiming : Kinds
-claiming = LookDeed ∷ Deeding ∷ Claiming ∷ taking_pages
+claiming = LookDeed ∷ Deeding ∷ Claiming ∷ taking_grains
 
 -- .. of a page that has its deed already
 abbrev pub claiming_old : Kinds
-claiming_old = LookDeed ∷ Claiming ∷ taking_pages
+claiming_old = LookDeed ∷ Claiming ∷ taking_grains
 
 -- another actor was first, or where no deeds may be made the page has another deed or none; and all is as it was
 pub record LosesPage (deeds : Bool) (f : Profile) (d : Directory) (page : ℕ) (steps : List Made) : Type 0 where
@@ -174,7 +146,7 @@ IsClaimed deeds f d page steps Claimed.Whole = WinsPage f d page steps
 
 pub record ClaimsPage (deeds : Bool) (d : Directory) (page : ℕ) (desk desk' : Standing) (claimed : Claimed) : Type 0 where
   pub steps : List Made
-  pub adds : Adds desk desk' (λ v l. MayClaim d page v) steps
+  pub adds : Adds desk desk' (MayClaim d page) steps
   pub on : OnlyOn page steps
   pub kinds : Only claiming steps
   pub old : deeds ≡ false → Only claiming_old steps

@@ -7,7 +7,7 @@ use Rattle.pas_profile.specs.declared.event.NoRoom.{NoRoom}
 use Rattle.pas_profile.specs.declared.event.NoRoom.TheVariants.{NoSpace, Held}
 use Rattle.pas_steps.specs.Views.{View, has_right, KnowsDeed}
 use Rattle.pas_steps.specs.Agreement.{Agreed}
-use Rattle.pas_steps.specs.Desks.{Standing, Anything, Adds}
+use Rattle.pas_steps.specs.Desks.{Standing, AnyView, Adds}
 use Rattle.pas_steps.specs.Past.{Once, Since}
 use Rattle.pas_steps.specs.Frames.{OnlyScans}
 use Rattle.pas_steps.specs.declared.step.Made.{Made}
@@ -42,7 +42,7 @@ IsReason f d steps (Held page) = IsHeldLarge f d steps page
 -- exactly the pages are marked that were read as offered, and each last so
 pub record MarksOffered (d : Directory) (marks : List ℕ) (desk desk' : Standing) : Type 0 where
   pub steps : List Made
-  pub adds : Adds desk desk' Anything steps
+  pub adds : Adds desk desk' AnyView steps
   pub scans : OnlyScans steps
   pub few : length steps ≤ desk.seat.profile.pages / 64 + 1
   pub offered : (p : ℕ) → p ≤ desk.seat.profile.pages → MatchBool (is_marked marks p) (LastOffered d p steps) (Once (ZeroHere d p) steps)
@@ -50,7 +50,7 @@ pub record MarksOffered (d : Directory) (marks : List ℕ) (desk desk' : Standin
 -- The answer has its reason, whatever steps of the call stood before that have no right any more. At most 66 looks for 64 pages.
 pub record Refuses (d : Directory) (desk desk' : Standing) (answer : NoRoom) : Type 0 where
   pub steps : List Made
-  pub adds : Adds desk desk' Anything steps
+  pub adds : Adds desk desk' AnyView steps
   pub scans : OnlyScans steps
   pub few : length steps ≤ 66 * (desk.seat.profile.pages / 64 + 1)
   pub reason : (before : List Made) → ((p : ℕ) → has_right before p ≡ false) → IsReason desk.seat.profile d (steps ++ before) answer

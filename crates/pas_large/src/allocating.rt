@@ -17,7 +17,7 @@ use pas_steps::Desk;
 fn alloc_by_scan<D: Desk>(desk: &mut D, heap: u8, pages: u32) -> Result<Block, NoRoom>
     requires heap { heap < (D.standing desk.old).seat.profile.heaps }
     requires pages { 1 ≤ pages }
-    requires can { CanCall (D.standing desk.old) (λ v l. FindRoom (D.standing desk.old).seat.profile (large_directory heap) (pages + 1) (D.spare_of desk.old) v) }
+    requires can { CanCall (D.standing desk.old) (FindRoom (D.standing desk.old).seat.profile (large_directory heap) (pages + 1) (D.spare_of desk.old)) }
     ensures allocates { AllocatesByScan heap pages D.tells (D.standing desk.old) (D.standing desk.new) result }
     ensures home { D.home desk.new ≡ D.home desk.old }
 {
@@ -46,7 +46,7 @@ pub fn alloc<D: Desk, O: Door>(
 ) -> Result<Block, NoRoom>
     requires heap { heap < (D.standing desk.old).seat.profile.heaps }
     requires pages { 1 ≤ pages }
-    requires can { CanCall (D.standing desk.old) (λ v l. FindRoom (D.standing desk.old).seat.profile (large_directory heap) (pages + 1) (D.spare_of desk.old) v) }
+    requires can { CanCall (D.standing desk.old) (FindRoom (D.standing desk.old).seat.profile (large_directory heap) (pages + 1) (D.spare_of desk.old)) }
     ensures allocates { (found : Option ℕ) × O.answers door.old door.new heap pages found × AllocatesLarge heap pages found D.tells (D.standing desk.old) (D.standing desk.new) result }
     ensures home { D.home desk.new ≡ D.home desk.old }
 {

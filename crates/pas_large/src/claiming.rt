@@ -24,7 +24,7 @@ pub enum Claimed {
 pub fn claim_page<D: Desk>(desk: &mut D, page: u32, directory: Directory, deeds: bool) -> Claimed
     requires page { IsPage (D.standing desk.old).seat.profile page }
     requires directory { IsDirectoryOf (D.standing desk.old).seat.profile directory }
-    requires can { CanCall (D.standing desk.old) (λ v l. MayClaim directory page v) }
+    requires can { CanCall (D.standing desk.old) (MayClaim directory page) }
     requires room { 1 ≤ D.spare_of desk.old }
     ensures claims { ClaimsPage deeds directory page (D.standing desk.old) (D.standing desk.new) result }
     ensures home { D.home desk.new ≡ D.home desk.old }

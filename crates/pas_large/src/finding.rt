@@ -17,7 +17,7 @@ use pas_steps::Desk;
 pub fn find_run<D: Desk>(desk: &mut D, heap: u8, pages: u32) -> Option<u32>
     requires heap { heap < (D.standing desk.old).seat.profile.heaps }
     requires pages { 1 ≤ pages }
-    requires can { CanCall (D.standing desk.old) (λ v l. FindRoom (D.standing desk.old).seat.profile (large_directory heap) 1 (D.spare_of desk.old) v) }
+    requires can { CanCall (D.standing desk.old) (FindRoom (D.standing desk.old).seat.profile (large_directory heap) 1 (D.spare_of desk.old)) }
     ensures finds { Finds (large_directory heap) pages D.tells (D.standing desk.old) (D.standing desk.new) result }
     ensures home { D.home desk.new ≡ D.home desk.old }
 {

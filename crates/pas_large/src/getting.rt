@@ -1,7 +1,7 @@
 //! The right of a page of a run.
 ghost use Rattle.std.specs.Prelude.{◌≡◌, ◌≤◌};
 ghost use Rattle.pas_profile.specs.Profiles.{IsPage, IsDirectoryOf};
-ghost use Rattle.pas_steps.specs.Desks.{Anything, CanCall};
+ghost use Rattle.pas_steps.specs.Desks.{AnyView, CanCall};
 ghost use Rattle.pas_large.specs.Pages.{GetsPage};
 
 use pas_profile::{Directory, Word, deed_word};
@@ -14,7 +14,7 @@ use pas_steps::Desk;
 pub fn get_right<D: Desk>(desk: &mut D, page: u32, directory: Directory, deeds: bool) -> bool
     requires page { IsPage (D.standing desk.old).seat.profile page }
     requires directory { IsDirectoryOf (D.standing desk.old).seat.profile directory }
-    requires can { CanCall (D.standing desk.old) Anything }
+    requires can { CanCall (D.standing desk.old) AnyView }
     requires room { 1 ≤ D.spare_of desk.old }
     ensures gets { GetsPage deeds directory page (D.standing desk.old) (D.standing desk.new) result }
     ensures home { D.home desk.new ≡ D.home desk.old }

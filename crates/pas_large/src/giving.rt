@@ -3,11 +3,11 @@ ghost use Rattle.std.specs.Prelude.{◌≡◌, ◌≤◌, ◌+◌};
 ghost use Rattle.pas_profile.specs.Profiles.{IsDirectoryOf};
 ghost use Rattle.pas_steps.specs.Desks.{CanCall};
 ghost use Rattle.pas_large.specs.Claims.{HasPages};
-ghost use Rattle.pas_large.specs.Gives.{BacksRun, MayLeaveRun, LeavesRun, MayGiveBlock, GivesBlock, GivesRun};
+ghost use Rattle.pas_large.specs.Gives.{BacksRun, MayLeaveRun, LeavesRun, GivesRun};
 
-use pas_profile::limits::PAGE_BYTES;
-use pas_profile::{Address, Block, Directory, Name, Word, read_life};
-use pas_rights::leave;
+use pas_profile::limits::PAGE_GRAINS;
+use pas_profile::{Block, Directory};
+use pas_rights::{give, leave};
 use pas_steps::Desk;
 
 /// Backs the pages from `first` to below `end`, from the lowest up. One step and at most one event a page.
@@ -16,7 +16,7 @@ fn back_run<D: Desk>(desk: &mut D, first: u32, end: u32, directory: Directory)
     requires span { first ≤ end }
     requires region { end ≤ (D.standing desk.old).seat.profile.pages + 1 }
     requires directory { IsDirectoryOf (D.standing desk.old).seat.profile directory }
-    requires can { CanCall (D.standing desk.old) (λ v l. HasPages directory first end v) }
+    requires can { CanCall (D.standing desk.old) (HasPages directory first end) }
     requires room { end ≤ first + D.spare_of desk.old }
     ensures backs { BacksRun directory first end (D.standing desk.old) (D.standing desk.new) }
     ensures home { D.home desk.new ≡ D.home desk.old }
@@ -32,37 +32,13 @@ fn leave_run<D: Desk>(desk: &mut D, first: u32, end: u32, directory: Directory)
     requires span { first ≤ end }
     requires region { end ≤ (D.standing desk.old).seat.profile.pages + 1 }
     requires directory { IsDirectoryOf (D.standing desk.old).seat.profile directory }
-    requires can { CanCall (D.standing desk.old) (λ v l. MayLeaveRun directory first end v) }
+    requires can { CanCall (D.standing desk.old) (MayLeaveRun directory first end) }
     ensures leaves { LeavesRun directory first end (D.standing desk.old) (D.standing desk.new) }
     ensures home { D.home desk.new ≡ D.home desk.old }
 {
     for page in first..end {
         leave(desk, page, directory);
     }
-}
-
-/// Gives the block of so many pages from `first` on, which are held and backed. Two steps and one event.
-fn give_block<D: Desk>(desk: &mut D, first: u32, pages: u32, directory: Directory) -> Block
-    requires first { 1 ≤ first }
-    requires pages { 1 ≤ pages }
-    requires region { first + pages ≤ (D.standing desk.old).seat.profile.pages + 1 }
-    requires directory { IsDirectoryOf (D.standing desk.old).seat.profile directory }
-    requires can { CanCall (D.standing desk.old) (λ v l. MayGiveBlock directory first pages v) }
-    requires room { 1 ≤ D.spare_of desk.old }
-    ensures gives { GivesBlock directory first pages result (D.standing desk.old) (D.standing desk.new) }
-    ensures home { D.home desk.new ≡ D.home desk.old }
-{
-    let (turn, _, _) = read_life(desk.look(Word::Life(first, 0)));
-    let block = Block {
-        name: Name {
-            address: Address(first * PAGE_BYTES),
-            turn,
-        },
-        room: pages * PAGE_BYTES,
-        heap: directory.heap,
-    };
-    desk.give(block);
-    block
 }
 
 /// Gives the run of so many pages from `first` on, which are held, as one block: the pages are backed from the lowest up, the block is given,
@@ -72,14 +48,14 @@ pub fn give_run<D: Desk>(desk: &mut D, first: u32, pages: u32, directory: Direct
     requires pages { 1 ≤ pages }
     requires region { first + pages ≤ (D.standing desk.old).seat.profile.pages + 1 }
     requires directory { IsDirectoryOf (D.standing desk.old).seat.profile directory }
-    requires can { CanCall (D.standing desk.old) (λ v l. HasPages directory first (first + pages) v) }
+    requires can { CanCall (D.standing desk.old) (HasPages directory first (first + pages)) }
     requires room { pages + 1 ≤ D.spare_of desk.old }
     ensures gives { GivesRun directory first pages result (D.standing desk.old) (D.standing desk.new) }
     ensures home { D.home desk.new ≡ D.home desk.old }
 {
     let end = first + pages;
     back_run(desk, first, end, directory);
-    let block = give_block(desk, first, pages, directory);
+    let block = give(desk, directory.heap, first, 0, pages * PAGE_GRAINS);
     leave_run(desk, first, end, directory);
     block
 }

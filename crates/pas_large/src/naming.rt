@@ -30,7 +30,7 @@ pub fn claim_named<D: Desk, O: Door>(
 ) -> Option<u32>
     requires heap { heap < (D.standing desk.old).seat.profile.heaps }
     requires pages { 1 ≤ pages }
-    requires can { CanCall (D.standing desk.old) (λ v l. FindRoom (D.standing desk.old).seat.profile (large_directory heap) 1 (D.spare_of desk.old) v) }
+    requires can { CanCall (D.standing desk.old) (FindRoom (D.standing desk.old).seat.profile (large_directory heap) 1 (D.spare_of desk.old)) }
     ensures names { (found : Option ℕ) × O.answers door.old door.new heap pages found × ClaimsNamed (large_directory heap) pages found (D.standing desk.old) (D.standing desk.new) result }
     ensures home { D.home desk.new ≡ D.home desk.old }
 {

@@ -1,7 +1,7 @@
 //! Why a large request finds no room.
 ghost use Rattle.std.specs.Prelude.{◌≡◌};
 ghost use Rattle.pas_profile.specs.Profiles.{IsDirectoryOf};
-ghost use Rattle.pas_steps.specs.Desks.{Anything, CanCall};
+ghost use Rattle.pas_steps.specs.Desks.{AnyView, CanCall};
 ghost use Rattle.pas_large.specs.Refusals.{MarksOffered, Refuses};
 
 use pas_profile::{Directory, NoRoom, Word};
@@ -11,7 +11,7 @@ use pas_steps::Desk;
 /// Marks the pages of the directory that are offered, and no others: each eligible word is read, and none twice.
 fn mark_offered<D: Desk>(desk: &mut D, looked: &mut Looked)
     requires directory { IsDirectoryOf (D.standing desk.old).seat.profile looked.old.directory }
-    requires can { CanCall (D.standing desk.old) Anything }
+    requires can { CanCall (D.standing desk.old) AnyView }
     ensures directory { looked.new.directory ≡ looked.old.directory }
     ensures marks { MarksOffered looked.old.directory looked.new.unfit (D.standing desk.old) (D.standing desk.new) }
     ensures home { D.home desk.new ≡ D.home desk.old }
@@ -28,7 +28,7 @@ fn mark_offered<D: Desk>(desk: &mut D, looked: &mut Looked)
 /// that weren't read as offered. `Held` has the lowest one whose parked bit is 0, and `NoSpace` comes where there is none.
 pub fn refuse<D: Desk>(desk: &mut D, directory: Directory) -> NoRoom
     requires directory { IsDirectoryOf (D.standing desk.old).seat.profile directory }
-    requires can { CanCall (D.standing desk.old) Anything }
+    requires can { CanCall (D.standing desk.old) AnyView }
     ensures refuses { Refuses directory (D.standing desk.old) (D.standing desk.new) result }
     ensures home { D.home desk.new ≡ D.home desk.old }
 {

@@ -5,9 +5,9 @@ ghost use Rattle.pas_steps.specs.Desks.{CanCall};
 ghost use Rattle.pas_large.specs.Claims.{HasRunRoom, ClaimsPages, ClaimsRun, HasPages, Releases};
 
 use crate::claiming::{Claimed, claim_page};
-use crate::leaving::put_and_leave;
 use pas_bits::Mask4;
 use pas_profile::Directory;
+use pas_rights::put_and_leave;
 use pas_steps::Desk;
 
 /// Claims the pages from `first` to below `end`, from the lowest up, until one is lost or broken, and answers the page where it stopped:
@@ -23,7 +23,7 @@ fn claim_pages<D: Desk>(
     requires span { first ≤ end }
     requires region { end ≤ (D.standing desk.old).seat.profile.pages + 1 }
     requires directory { IsDirectoryOf (D.standing desk.old).seat.profile directory }
-    requires can { CanCall (D.standing desk.old) (λ v l. HasRunRoom (D.standing desk.old).seat.profile directory first end 1 (D.spare_of desk.old) v) }
+    requires can { CanCall (D.standing desk.old) (HasRunRoom (D.standing desk.old).seat.profile directory first end 1 (D.spare_of desk.old)) }
     ensures claims { ClaimsPages deeds directory first end (D.standing desk.old) (D.standing desk.new) result }
     ensures home { D.home desk.new ≡ D.home desk.old }
 {
@@ -43,7 +43,7 @@ pub fn release<D: Desk>(desk: &mut D, first: u32, end: u32, directory: Directory
     requires span { first ≤ end }
     requires region { end ≤ (D.standing desk.old).seat.profile.pages + 1 }
     requires directory { IsDirectoryOf (D.standing desk.old).seat.profile directory }
-    requires can { CanCall (D.standing desk.old) (λ v l. HasPages directory first end v) }
+    requires can { CanCall (D.standing desk.old) (HasPages directory first end) }
     ensures releases { Releases directory first end (D.standing desk.old) (D.standing desk.new) }
     ensures home { D.home desk.new ≡ D.home desk.old }
 {
@@ -67,7 +67,7 @@ pub fn claim_run<D: Desk>(
     requires span { first ≤ end }
     requires region { end ≤ (D.standing desk.old).seat.profile.pages + 1 }
     requires directory { IsDirectoryOf (D.standing desk.old).seat.profile directory }
-    requires can { CanCall (D.standing desk.old) (λ v l. HasRunRoom (D.standing desk.old).seat.profile directory first end 1 (D.spare_of desk.old) v) }
+    requires can { CanCall (D.standing desk.old) (HasRunRoom (D.standing desk.old).seat.profile directory first end 1 (D.spare_of desk.old)) }
     ensures claims { ClaimsRun deeds directory first end (D.standing desk.old) (D.standing desk.new) result }
     ensures home { D.home desk.new ≡ D.home desk.old }
 {

@@ -5,23 +5,20 @@ ghost use Rattle.pas_steps.specs.Desks.{CanCall};
 ghost use Rattle.pas_search.specs.Serving.{MayServe};
 ghost use Rattle.pas_large.specs.Pages.{TakesPage};
 
-use crate::leaving::put_and_leave;
+use pas_bits::Mask4;
 use pas_profile::Directory;
-use pas_segregated::take_usable;
+use pas_rights::{put_and_leave, take};
 use pas_steps::Desk;
-
-/// The class whose slots are single grains.
-const GRAINS: u8 = 0;
 
 /// Takes all grains of the page, by four takes. False where some weren't free: those that were got are put back then, and the page is left.
 pub fn take_whole<D: Desk>(desk: &mut D, page: u32, directory: Directory) -> bool
     requires page { IsPage (D.standing desk.old).seat.profile page }
     requires directory { IsDirectoryOf (D.standing desk.old).seat.profile directory }
-    requires can { CanCall (D.standing desk.old) (λ v l. MayServe page directory v) }
+    requires can { CanCall (D.standing desk.old) (MayServe page directory) }
     ensures takes { TakesPage directory page (D.standing desk.old) (D.standing desk.new) result }
     ensures home { D.home desk.new ≡ D.home desk.old }
 {
-    let got = take_usable(desk, page, GRAINS);
+    let got = take(desk, page, &Mask4([u64::MAX; 4]));
     match got.first_zero() {
         None => true,
         Some(_) => {

@@ -1,6 +1,6 @@
 pub mod LiveBlocks
-pub mod Moves
-pub mod Openings
-pub mod Ranges
+mod Moves
+mod Openings
+mod Ranges
 pub mod Refusals
-pub mod Verdicts
+mod Verdicts

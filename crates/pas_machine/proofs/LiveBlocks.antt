@@ -10,31 +10,31 @@ use Rattle.pas_profile.proofs.Runs.{first_of_run, run_meets}
 use Rattle.pas_machine.specs.State.{Live, live_in, gives_in, ends_in, deed_in, backed_in, touches}
 use Rattle.pas_machine.specs.Machine.{Run, MayGive, Bears}
 use Rattle.pas_machine.specs.Laws.{AreApart, IsWhere, IsCounted, AreCounted, AreBorne}
+use Rattle.std.proofs.lemmas.Option.{none-some, same_Some}
 
-none_is : {A : Type 0} {x : A} → None ≡ Some x → ⊥
-none_is h = cc
+-- ---- what holds of each block that is given holds of each live block
+given_if : (P : ℕ → Live → Type 0) (t : Bool) (a k : ℕ) (block : Block) (old : Option Live) (b : Live) → (address_of block.name == a) ≡ t → P (address_of block.name) (record { actor = k; block = block }) → ((b : Live) → old ≡ Some b → P a b)
+    → (if t then Some (record { actor = k; block = block }) else old) ≡ Some b → P a b
+given_if P true a k block old b e new before h = subst (P a) (same_Some _ _ h) (subst (λ n. P n (record { actor = k; block = block })) (eqb-true (address_of block.name) a e) new)
+given_if P false a k block old b e new before h = before b h
 
-some_is : {A : Type 0} {x y : A} → Some x ≡ Some y → x ≡ y
-some_is h = cc
+ended_if : (P : Live → Type 0) (t : Bool) (old : Option Live) (b : Live) → ((b : Live) → old ≡ Some b → P b) → (if t then None else old) ≡ Some b → P b
+ended_if P true old b before h = absurd (none-some _ h)
+ended_if P false old b before h = before b h
 
--- ---- a block lives at its own address
-where_if : (t : Bool) (a k : ℕ) (block : Block) (old : Option Live) (b : Live) → (address_of block.name == a) ≡ t → ((b : Live) → old ≡ Some b → address_of b.block.name ≡ a)
-    → (if t then Some (record { actor = k; block = block }) else old) ≡ Some b → address_of b.block.name ≡ a
-where_if true a k block old b e before h = ap (λ (l : Live). address_of l.block.name) (sym (some_is h)) ∙ eqb-true (address_of block.name) a e
-where_if false a k block old b e before h = before b h
+each_live : (f : Profile) (P : ℕ → Live → Type 0) → ((es : List Event) (k : ℕ) (block : Block) → MayGive f es block → P (address_of block.name) (record { actor = k; block = block }))
+    → (es : List Event) → Run f es → (a : ℕ) (b : Live) → live_in es a ≡ Some b → P a b
+each_live f P new [] run a b h = absurd (none-some _ h)
+each_live f P new (Event.Give k block ∷ es) run a b h = given_if P (address_of block.name == a) a k block (live_in es a) b refl (new es k block run.0) (each_live f P new es run.1 a) h
+each_live f P new (Event.End k name e ∷ es) run a b h = ended_if (P a) (address_of name == a) (live_in es a) b (each_live f P new es run.1 a) h
+each_live f P new (e ∷ es) run a b h = each_live f P new es run.1 a b h
 
-gone_if : {P : Live → Type 0} (t : Bool) (old : Option Live) (b : Live) → ((b : Live) → old ≡ Some b → P b) → (if t then None else old) ≡ Some b → P b
-gone_if true old b before h = absurd (none_is h)
-gone_if false old b before h = before b h
-
+-- it lives at its own address, and has a grain
 pub lives_where : (f : Profile) (es : List Event) → Run f es → IsWhere es
-lives_where f [] run a b h = absurd (none_is h)
-lives_where f (Event.Deed k p d ∷ es) run a b h = lives_where f es run.1 a b h
-lives_where f (Event.Back k p ∷ es) run a b h = lives_where f es run.1 a b h
-lives_where f (Event.Unback k p e ∷ es) run a b h = lives_where f es run.1 a b h
-lives_where f (Event.Give k block ∷ es) run a b h = where_if (address_of block.name == a) a k block (live_in es a) b refl (lives_where f es run.1 a) h
-lives_where f (Event.End k name e ∷ es) run a b h = gone_if {P = λ (l : Live). address_of l.block.name ≡ a} (address_of name == a) (live_in es a) b (lives_where f es run.1 a) h
-lives_where f (Event.Reject k name why ∷ es) run a b h = lives_where f es run.1 a b h
+lives_where f es run a b h = each_live f (λ a b. address_of b.block.name ≡ a) (λ es k block may. refl) es run a b h
+
+pub live_long : (f : Profile) (es : List Event) → Run f es → (a : ℕ) (b : Live) → live_in es a ≡ Some b → 0 < length_of b.block
+live_long f = each_live f (λ a b. 0 < length_of b.block) (λ es k block may. let room : 0 < block.room = may.some in let whole : block.room % 16 ≡ 0 = may.whole in omega (arith, room, whole))
 
 -- ---- live blocks are apart
 -- the run of a block that was just given is clear of an old one, and the other way round
@@ -54,41 +54,38 @@ apart_give : (t u : Bool) (a c k : ℕ) (block : Block) (old old' : Option Live)
 apart_give true true a c k block old old' b d e e' first second before h h' ne x = absurd (ne (sym (eqb-true (address_of block.name) a e) ∙ eqb-true (address_of block.name) c e'))
 apart_give true false a c k block old old' b d e e' first second before h h' ne x =
     let same : grain_of block.name ≡ a / 16 = ap (λ n. n / 16) (eqb-true (address_of block.name) a e) in
-    let is : length_of block ≡ length_of b.block = ap (λ (l : Live). length_of l.block) (some_is h) in
+    let is : length_of block ≡ length_of b.block = ap (λ (l : Live). length_of l.block) (same_Some _ _ h) in
     clear_other (a / 16) (length_of b.block) (c / 16) (length_of d.block) (λ y r. sym (ap (λ n. in_run n (length_of block) y) same ∙ ap (λ n. in_run (a / 16) n y) is) ∙ second d h' y r) x
 apart_give false true a c k block old old' b d e e' first second before h h' ne x = λ r.
     let same : grain_of block.name ≡ c / 16 = ap (λ n. n / 16) (eqb-true (address_of block.name) c e') in
-    let is : length_of block ≡ length_of d.block = ap (λ (l : Live). length_of l.block) (some_is h') in
+    let is : length_of block ≡ length_of d.block = ap (λ (l : Live). length_of l.block) (same_Some _ _ h') in
     sym (ap (λ n. in_run n (length_of block) x) same ∙ ap (λ n. in_run (c / 16) n x) is) ∙ first b h x r
 apart_give false false a c k block old old' b d e e' first second before h h' ne x = before b d h h' x
 
 apart_end : (t u : Bool) (a c : ℕ) (old old' : Option Live) (b d : Live)
     → ((b d : Live) → old ≡ Some b → old' ≡ Some d → (x : ℕ) → in_run (a / 16) (length_of b.block) x ≡ true → in_run (c / 16) (length_of d.block) x ≡ false)
     → (if t then None else old) ≡ Some b → (if u then None else old') ≡ Some d → (x : ℕ) → in_run (a / 16) (length_of b.block) x ≡ true → in_run (c / 16) (length_of d.block) x ≡ false
-apart_end true u a c old old' b d before h h' = absurd (none_is h)
-apart_end false true a c old old' b d before h h' = absurd (none_is h')
+apart_end true u a c old old' b d before h h' = absurd (none-some _ h)
+apart_end false true a c old old' b d before h h' = absurd (none-some _ h')
 apart_end false false a c old old' b d before h h' = before b d h h'
 
 pub live_apart : (f : Profile) (es : List Event) → Run f es → AreApart es
-live_apart f [] run a c b d h h' ne = absurd (none_is h)
-live_apart f (Event.Deed k p d' ∷ es) run a c b d h h' ne = live_apart f es run.1 a c b d h h' ne
-live_apart f (Event.Back k p ∷ es) run a c b d h h' ne = live_apart f es run.1 a c b d h h' ne
-live_apart f (Event.Unback k p e ∷ es) run a c b d h h' ne = live_apart f es run.1 a c b d h h' ne
+live_apart f [] run a c b d h h' ne = absurd (none-some _ h)
 live_apart f (Event.Give k block ∷ es) run a c b d h h' ne = apart_give (address_of block.name == a) (address_of block.name == c) a c k block (live_in es a) (live_in es c) b d refl refl
     (λ l o. run.0.clear a l o) (λ l o. run.0.clear c l o) (λ l l' o o'. live_apart f es run.1 a c l l' o o' ne) h h' ne
 live_apart f (Event.End k name e ∷ es) run a c b d h h' ne = apart_end (address_of name == a) (address_of name == c) a c (live_in es a) (live_in es c) b d (λ l l' o o'. live_apart f es run.1 a c l l' o o' ne) h h'
-live_apart f (Event.Reject k name why ∷ es) run a c b d h h' ne = live_apart f es run.1 a c b d h h' ne
+live_apart f (e ∷ es) run a c b d h h' ne = live_apart f es run.1 a c b d h h' ne
 
 -- ---- gives, ends and turns
 counted_give : (t : Bool) (a k : ℕ) (block : Block) (old : Option Live) (gives ends : ℕ) → (t ≡ true → old ≡ None) → (t ≡ true → block.name.turn ≡ gives) → IsCounted old gives ends
     → IsCounted (if t then Some (record { actor = k; block = block }) else old) (if t then gives + 1 else gives) ends
 counted_give true a k block None gives ends none turn before = (ap (λ n. n + 1) before, turn refl ∙ before)
-counted_give true a k block (Some b) gives ends none turn before = absurd (none_is (sym (none refl)))
+counted_give true a k block (Some b) gives ends none turn before = absurd (none-some _ (sym (none refl)))
 counted_give false a k block old gives ends none turn before = before
 
 counted_end : (t : Bool) (old : Option Live) (gives ends : ℕ) → (t ≡ true → (b : Live) × (old ≡ Some b)) → IsCounted old gives ends
     → IsCounted (if t then None else old) gives (if t then ends + 1 else ends)
-counted_end true None gives ends some before = absurd (none_is (some refl).1)
+counted_end true None gives ends some before = absurd (none-some _ (some refl).1)
 counted_end true (Some b) gives ends some before = before.0
 counted_end false old gives ends some before = before
 
@@ -105,62 +102,39 @@ no_block f es block a (Some b) is may e some =
     let here : in_run (grain_of block.name) (length_of block) (a / 16) ≡ true = ap (λ n. in_run (n / 16) (length_of block) (a / 16)) e ∙ first_of_run (a / 16) (length_of block) long in
     absurd (false≢true (sym (may.clear a b is (a / 16) own) ∙ here))
 
--- each live block has a grain
-long_if : (t : Bool) (k : ℕ) (block : Block) (old : Option Live) (b : Live) → 0 < length_of block → ((b : Live) → old ≡ Some b → 0 < length_of b.block)
-    → (if t then Some (record { actor = k; block = block }) else old) ≡ Some b → 0 < length_of b.block
-long_if true k block old b long before h = subst (λ (l : Live). 0 < length_of l.block) (some_is h) long
-long_if false k block old b long before h = before b h
-
-pub live_long : (f : Profile) (es : List Event) → Run f es → (a : ℕ) (b : Live) → live_in es a ≡ Some b → 0 < length_of b.block
-live_long f [] run a b h = absurd (none_is h)
-live_long f (Event.Deed k p d ∷ es) run a b h = live_long f es run.1 a b h
-live_long f (Event.Back k p ∷ es) run a b h = live_long f es run.1 a b h
-live_long f (Event.Unback k p e ∷ es) run a b h = live_long f es run.1 a b h
-live_long f (Event.Give k block ∷ es) run a b h =
-    let room : 0 < block.room = run.0.some in
-    let whole : block.room % 16 ≡ 0 = run.0.whole in
-    long_if (address_of block.name == a) k block (live_in es a) b (omega (arith, room, whole)) (live_long f es run.1 a) h
-live_long f (Event.End k name e ∷ es) run a b h = gone_if {P = λ (l : Live). 0 < length_of l.block} (address_of name == a) (live_in es a) b (live_long f es run.1 a) h
-live_long f (Event.Reject k name why ∷ es) run a b h = live_long f es run.1 a b h
-
 pub all_counted : (f : Profile) (es : List Event) → Run f es → AreCounted es
 all_counted f [] run a = refl
-all_counted f (Event.Deed k p d ∷ es) run a = all_counted f es run.1 a
-all_counted f (Event.Back k p ∷ es) run a = all_counted f es run.1 a
-all_counted f (Event.Unback k p e ∷ es) run a = all_counted f es run.1 a
 all_counted f (Event.Give k block ∷ es) run a = counted_give (address_of block.name == a) a k block (live_in es a) (gives_in es a) (ends_in es a)
     (λ t. no_block f es block a (live_in es a) refl run.0 (eqb-true (address_of block.name) a t) (live_long f es run.1 a))
     (λ t. run.0.turn ∙ ap (gives_in es) (eqb-true (address_of block.name) a t)) (all_counted f es run.1 a)
 all_counted f (Event.End k name e ∷ es) run a = counted_end (address_of name == a) (live_in es a) (gives_in es a) (ends_in es a)
     (λ t. (run.0.1.0, ap (live_in es) (sym (eqb-true (address_of name) a t)) ∙ run.0.1.1)) (all_counted f es run.1 a)
-all_counted f (Event.Reject k name why ∷ es) run a = all_counted f es run.1 a
+all_counted f (e ∷ es) run a = all_counted f es run.1 a
 
 -- ---- the pages under a live block
 -- what bears goes on bearing where the page's deed and backing stay
 same_deed : (t : Bool) (d d' : Directory) (old : Option Directory) → (t ≡ true → old ≡ None) → old ≡ Some d' → (if t then Some d else old) ≡ Some d'
-same_deed true d d' old none is = absurd (none_is (sym (none refl) ∙ is))
+same_deed true d d' old none is = absurd (none-some _ (sym (none refl) ∙ is))
 same_deed false d d' old none is = is
 
 stays_backed : (t old : Bool) → old ≡ true → (if t then true else old) ≡ true
-stays_backed true old h = refl
-stays_backed false old h = h
+stays_backed t old h = grind arith
 
 not_unbacked : (t old : Bool) → (t ≡ true → ⊥) → old ≡ true → (if t then false else old) ≡ true
-not_unbacked true old other h = absurd (other refl)
-not_unbacked false old other h = h
+not_unbacked t old h e = grind arith
 
 borne_if : (f : Profile) (es es' : List Event) (t : Bool) (a k : ℕ) (block : Block) (old : Option Live) (b : Live) → (address_of block.name == a) ≡ t
     → ((x : ℕ) → in_run (grain_of block.name) (length_of block) x ≡ true → Bears f es' block.heap (x / 256))
     → ((b : Live) → old ≡ Some b → (x : ℕ) → in_run (a / 16) (length_of b.block) x ≡ true → Bears f es' b.block.heap (x / 256))
     → (if t then Some (record { actor = k; block = block }) else old) ≡ Some b → (x : ℕ) → in_run (a / 16) (length_of b.block) x ≡ true → Bears f es' b.block.heap (x / 256)
 borne_if f es es' true a k block old b e new before h x r =
-    let is : block ≡ b.block = ap (λ (l : Live). l.block) (some_is h) in
+    let is : block ≡ b.block = ap (λ (l : Live). l.block) (same_Some _ _ h) in
     let here : in_run (grain_of block.name) (length_of block) x ≡ true = ap (λ n. in_run (n / 16) (length_of block) x) (eqb-true (address_of block.name) a e) ∙ ap (λ (l : Block). in_run (a / 16) (length_of l) x) is ∙ r in
     subst (λ (l : Block). Bears f es' l.heap (x / 256)) is (new x here)
 borne_if f es es' false a k block old b e new before h x r = before b h x r
 
 pub all_borne : (f : Profile) (es : List Event) → Run f es → AreBorne f es
-all_borne f [] run a b h x r = absurd (none_is h)
+all_borne f [] run a b h x r = absurd (none-some _ h)
 all_borne f (Event.Deed k p d ∷ es) run a b h x r =
     let old : Bears f es b.block.heap (x / 256) = all_borne f es run.1 a b h x r in
     record { exists = old.exists; directory = old.directory; deed = same_deed (p == x / 256) d old.directory (deed_in es (x / 256)) (λ t. ap (deed_in es) (sym (eqb-true p (x / 256) t)) ∙ run.0.2) old.deed; of_heap = old.of_heap; backed = old.backed }
@@ -184,7 +158,7 @@ all_borne f (Event.Give k block ∷ es) run a b h x r = borne_if f es (Event.Giv
     give_bears : (f : Profile) (es : List Event) (e : Event) (k : ℕ) (block : Block) (heap page : ℕ) → Bears f es heap page → Bears f (Event.Give k block ∷ es) heap page
     give_bears f es e k block heap page old = record { exists = old.exists; directory = old.directory; deed = old.deed; of_heap = old.of_heap; backed = old.backed }
 all_borne f (Event.End k name e ∷ es) run a b h x r =
-    let old : Bears f es b.block.heap (x / 256) = gone_if {P = λ (l : Live). in_run (a / 16) (length_of l.block) x ≡ true → Bears f es l.block.heap (x / 256)} (address_of name == a) (live_in es a) b (λ l o q. all_borne f es run.1 a l o x q) h r in
+    let old : Bears f es b.block.heap (x / 256) = ended_if (λ (l : Live). in_run (a / 16) (length_of l.block) x ≡ true → Bears f es l.block.heap (x / 256)) (address_of name == a) (live_in es a) b (λ l o q. all_borne f es run.1 a l o x q) h r in
     record { exists = old.exists; directory = old.directory; deed = old.deed; of_heap = old.of_heap; backed = old.backed }
 all_borne f (Event.Reject k name why ∷ es) run a b h x r =
     let old : Bears f es b.block.heap (x / 256) = all_borne f es run.1 a b h x r in

@@ -1,6 +1,6 @@
 -- What a machine keeps after an event that may come next is what the events lead to.
 use Rattle.std.proofs.Common.{◌≡◌, ◌≢◌, ℕ, ◌+◌, ◌*◌, ◌/◌, ◌%◌, ◌<◌, ◌≤◌, ◌==◌, Bool, true, false, if◌then◌else◌, List, ◌∷◌, Some, None, length, get_or, set, max, refl, ap, sym, ◌∙◌, subst, arith, inl, inr, get_or-set_same, get_or-set_other}
-use Rattle.std.proofs.lemmas.Bool.{false≢true, eqb-true, eq-eqb}
+use Rattle.std.proofs.lemmas.Bool.{false≢true, eqb-true, eq-eqb, ne_eqb}
 use Rattle.std.proofs.Math.Logic.{∥∥₁_map}
 use Rattle.std.proofs.lemmas.Bool.Decides.{eqb_tells, leb_tells, nat_tests}
 use Rattle.pas_profile.specs.declared.profile.Profile.{Profile}
@@ -10,7 +10,7 @@ use Rattle.pas_profile.specs.declared.name.Block.{Block}
 use Rattle.pas_profile.specs.declared.event.Event.{Event}
 use Rattle.pas_profile.specs.declared.event.Why.{Why}
 use Rattle.pas_profile.specs.Runs.{in_run, meets_page, address_of, grain_of, length_of}
-use Rattle.pas_profile.proofs.Runs.{run_of, to_run}
+use Rattle.pas_profile.proofs.Runs.{run_of, to_run, at_place, to_meet}
 use Rattle.pas_machine.specs.State.{Live, deed_in, backed_in, live_in, gives_in, epoch_in, touches}
 use Rattle.pas_machine.specs.Machine.{Run, Admits, MayGive, IsPlace}
 use Rattle.pas_machine.specs.Reasons.{Covers}
@@ -18,18 +18,7 @@ use Rattle.pas_machine.specs.Places.{Shows, IsCovered, IsEach, IsLiveBlock, blan
 use Rattle.pas_machine.specs.declared.places.Page.{Page}
 use Rattle.pas_machine.specs.declared.places.Place.{Place}
 use Rattle.pas_machine.proofs.LiveBlocks.{lives_where, live_long, live_apart, no_block}
-
-none_is : {A : Type 0} {x : A} → None ≡ Some x → ⊥
-none_is h = cc
-
-some_is : {A : Type 0} {x y : A} → Some x ≡ Some y → x ≡ y
-some_is h = cc
-
-same_test : (a : ℕ) → (a == a) ≡ true
-same_test a = eq-eqb a a refl
-
-other_test : (a b : ℕ) → a ≢ b → (a == b) ≡ false
-other_test a b ne = elim (eqb_tells a b) [ inl h ↦ absurd (ne h.1) | inr h ↦ h.0 ]
+use Rattle.std.proofs.lemmas.Option.{none-some, same_Some}
 
 -- ---- one element is written
 pub written : {X : Type 0} (xs : List X) (d : X) (i most : ℕ) (x : X) (old new : ℕ → X) → i < length xs → ((j : ℕ) → j < most → get_or xs j d ≡ old j) → x ≡ new i → ((j : ℕ) → i ≢ j → old j ≡ new j)
@@ -53,8 +42,8 @@ pub deed_shows : (f : Profile) (pages : List Page) (places : List Place) (covere
 deed_shows f pages places covered es shows k page d may p is low = record {
   run = (may, shows.run);
   pages_are = λ q h. written pages blank_page page (f.pages + 1) (record p { directory = Some d }) (page_in es) (page_in (Event.Deed k page d ∷ es)) low (λ j l. shows.pages_are j (omega (arith, l)))
-      (ap (λ (r : Page). record r { directory = Some d }) is ∙ ap (λ t. record { directory = if t then Some d else deed_in es page; backed = backed_in es page; epoch = epoch_in es page }) (sym (same_test page)))
-      (λ j ne. ap (λ t. record { directory = if t then Some d else deed_in es j; backed = backed_in es j; epoch = epoch_in es j }) (sym (other_test page j ne))) q (omega (arith, h));
+      (ap (λ (r : Page). record r { directory = Some d }) is ∙ ap (λ t. record { directory = if t then Some d else deed_in es page; backed = backed_in es page; epoch = epoch_in es page }) (sym (eq-eqb page page refl)))
+      (λ j ne. ap (λ t. record { directory = if t then Some d else deed_in es j; backed = backed_in es j; epoch = epoch_in es j }) (sym (ne_eqb page j ne))) q (omega (arith, h));
   places_are = shows.places_are;
   covered_are = λ x h. same_covered es (Event.Deed k page d ∷ es) x (get_or covered x false) (λ a. refl) (shows.covered_are x h);
 }
@@ -64,8 +53,8 @@ pub back_shows : (f : Profile) (pages : List Page) (places : List Place) (covere
 back_shows f pages places covered es shows k page may p is low = record {
   run = (may, shows.run);
   pages_are = λ q h. written pages blank_page page (f.pages + 1) (record p { backed = true }) (page_in es) (page_in (Event.Back k page ∷ es)) low (λ j l. shows.pages_are j (omega (arith, l)))
-      (ap (λ (r : Page). record r { backed = true }) is ∙ ap (λ t. record { directory = deed_in es page; backed = if t then true else backed_in es page; epoch = epoch_in es page }) (sym (same_test page)))
-      (λ j ne. ap (λ t. record { directory = deed_in es j; backed = if t then true else backed_in es j; epoch = epoch_in es j }) (sym (other_test page j ne))) q (omega (arith, h));
+      (ap (λ (r : Page). record r { backed = true }) is ∙ ap (λ t. record { directory = deed_in es page; backed = if t then true else backed_in es page; epoch = epoch_in es page }) (sym (eq-eqb page page refl)))
+      (λ j ne. ap (λ t. record { directory = deed_in es j; backed = if t then true else backed_in es j; epoch = epoch_in es j }) (sym (ne_eqb page j ne))) q (omega (arith, h));
   places_are = shows.places_are;
   covered_are = λ x h. same_covered es (Event.Back k page ∷ es) x (get_or covered x false) (λ a. refl) (shows.covered_are x h);
 }
@@ -75,8 +64,8 @@ pub unback_shows : (f : Profile) (pages : List Page) (places : List Place) (cove
 unback_shows f pages places covered es shows k page epoch may p is low = record {
   run = (may, shows.run);
   pages_are = λ q h. written pages blank_page page (f.pages + 1) (record p { backed = false }) (page_in es) (page_in (Event.Unback k page epoch ∷ es)) low (λ j l. shows.pages_are j (omega (arith, l)))
-      (ap (λ (r : Page). record r { backed = false }) is ∙ ap (λ t. record { directory = deed_in es page; backed = if t then false else backed_in es page; epoch = epoch_in es page }) (sym (same_test page)))
-      (λ j ne. ap (λ t. record { directory = deed_in es j; backed = if t then false else backed_in es j; epoch = epoch_in es j }) (sym (other_test page j ne))) q (omega (arith, h));
+      (ap (λ (r : Page). record r { backed = false }) is ∙ ap (λ t. record { directory = deed_in es page; backed = if t then false else backed_in es page; epoch = epoch_in es page }) (sym (eq-eqb page page refl)))
+      (λ j ne. ap (λ t. record { directory = deed_in es j; backed = if t then false else backed_in es j; epoch = epoch_in es j }) (sym (ne_eqb page j ne))) q (omega (arith, h));
   places_are = shows.places_are;
   covered_are = λ x h. same_covered es (Event.Unback k page epoch ∷ es) x (get_or covered x false) (λ a. refl) (shows.covered_are x h);
 }
@@ -91,9 +80,6 @@ reject_shows f pages places covered es shows k name why may = record {
 }
 
 -- ---- gives
-at_place : (a : ℕ) → a % 16 ≡ 0 → 16 * (a / 16) ≡ a
-at_place a h = omega (arith, h)
-
 off_place : (a g : ℕ) → a % 16 ≡ 0 → a / 16 ≢ g → a ≢ 16 * g
 off_place a g h ne e = ne (omega (arith, h, e))
 
@@ -108,15 +94,15 @@ unmarked covered covered' g n x below above out = elim (leb_tells (g + n) x) [ i
 
 give_covered : (f : Profile) (es : List Event) → Run f es → (k : ℕ) (block : Block) → MayGive f es block → (x : ℕ) (t : Bool) → (in_run (grain_of block.name) (length_of block) x ≡ true → ⊥) → IsCovered es x t
     → IsCovered (Event.Give k block ∷ es) x t
-give_covered f es run k block may x true out c = record { address = c.address; live = c.live; lives = ap (λ t. if t then Some record { actor = k; block = block } else live_in es c.address) (other_test (address_of block.name) c.address other) ∙ c.lives; has = c.has }
+give_covered f es run k block may x true out c = record { address = c.address; live = c.live; lives = ap (λ t. if t then Some record { actor = k; block = block } else live_in es c.address) (ne_eqb (address_of block.name) c.address other) ∙ c.lives; has = c.has }
   where
     other : address_of block.name ≢ c.address
-    other e = none_is (sym (no_block f es block c.address (live_in es c.address) refl may e (λ b h. live_long f es run c.address b h)) ∙ c.lives)
+    other e = none-some _ (sym (no_block f es block c.address (live_in es c.address) refl may e (λ b h. live_long f es run c.address b h)) ∙ c.lives)
 give_covered f es run k block may x false out never = λ c. by c (address_of block.name == c.address) refl c.lives
   where
     by : (c : Covers (Event.Give k block ∷ es) x) (t : Bool) → (address_of block.name == c.address) ≡ t → (if t then Some record { actor = k; block = block } else live_in es c.address) ≡ Some c.live → ⊥
     by c true e is =
-        let same : block ≡ c.live.block = ap (λ (l : Live). l.block) (some_is is) in
+        let same : block ≡ c.live.block = ap (λ (l : Live). l.block) (same_Some _ _ is) in
         out (ap (λ n. in_run (n / 16) (length_of block) x) (eqb-true (address_of block.name) c.address e) ∙ (ap (λ (b : Block). in_run (c.address / 16) (length_of b) x) same ∙ c.has))
     by c false e is = never (record { address = c.address; live = c.live; lives = is; has = c.has })
 
@@ -124,7 +110,7 @@ new_cover : (es : List Event) (k : ℕ) (block : Block) (x : ℕ) → in_run (gr
 new_cover es k block x has = record {
   address = address_of block.name;
   live = record { actor = k; block = block };
-  lives = ap (λ t. if t then Some record { actor = k; block = block } else live_in es (address_of block.name)) (same_test (address_of block.name));
+  lives = ap (λ t. if t then Some record { actor = k; block = block } else live_in es (address_of block.name)) (eq-eqb (address_of block.name) (address_of block.name) refl);
   has = has;
 }
 
@@ -157,7 +143,7 @@ give_shows f pages places covered covered' es shows k block may gives is low set
 
     others : (g : ℕ) → grain_of block.name ≢ g → place_in es g ≡ place_in (Event.Give k block ∷ es) g
     others g ne =
-        let t : (address_of block.name == 16 * g) ≡ false = other_test (address_of block.name) (16 * g) (off_place (address_of block.name) g may.aligned ne) in
+        let t : (address_of block.name == 16 * g) ≡ false = ne_eqb (address_of block.name) (16 * g) (off_place (address_of block.name) g may.aligned ne) in
         ap (λ t. record { block = block_of (if t then Some record { actor = k; block = block } else live_in es (16 * g)); gives = if t then gives_in es (16 * g) + 1 else gives_in es (16 * g) }) (sym t)
 
     by : (x : ℕ) → x < grains_of f → (t : Bool) → in_run (grain_of block.name) (length_of block) x ≡ t → IsCovered (Event.Give k block ∷ es) x (get_or covered' x false)
@@ -172,10 +158,7 @@ give_shows f pages places covered covered' es shows k block may gives is low set
 -- ---- ends
 -- a page is met by the run exactly where it is in the range of its pages
 met_of : (g n p : ℕ) → g / 256 ≤ p → p < (g + n + 255) / 256 → meets_page g n p ≡ true
-met_of g n p low high =
-    let first : g < 256 * p + 256 = omega (arith, low) in
-    let last : 256 * p < g + n = omega (arith, high) in
-    grind (arith, nat_tests, first, last)
+met_of g n p low high = to_meet g n p (omega (arith, low)) (omega (arith, high))
 
 under_of : (g n p : ℕ) → p < g / 256 → meets_page g n p ≡ false
 under_of g n p low = let first : 256 * p + 256 ≤ g = omega (arith, low) in grind (arith, nat_tests, first)
@@ -195,18 +178,18 @@ apart_from : (f : Profile) (es : List Event) → Run f es → (k : ℕ) (name : 
 apart_from f es run k name epoch block live x c = by (address_of name == c.address) refl c.lives
   where
     by : (t : Bool) → (address_of name == c.address) ≡ t → (if t then None else live_in es c.address) ≡ Some c.live → (in_run (grain_of name) (length_of block) x ≡ true → ⊥) × Covers es x
-    by true e is = absurd (none_is is)
+    by true e is = absurd (none-some _ is)
     by false e is = (
       (λ i. false≢true (sym (live_apart f es run c.address (address_of name) c.live live.0 is live.1 (λ same. false≢true (sym e ∙ eq-eqb (address_of name) c.address (sym same))) x c.has) ∙ (ap (λ (b : Block). in_run (grain_of name) (length_of b) x) live.2 ∙ i))),
       record { address = c.address; live = c.live; lives = is; has = c.has },
     )
 
 still_covers : (es : List Event) (k : ℕ) (name : Name) (epoch : ℕ) (block : Block) → IsLiveBlock es name block → (x : ℕ) → (in_run (grain_of name) (length_of block) x ≡ true → ⊥) → Covers es x → Covers (Event.End k name epoch ∷ es) x
-still_covers es k name epoch block live x out c = record { address = c.address; live = c.live; lives = ap (λ t. if t then None else live_in es c.address) (other_test (address_of name) c.address other) ∙ c.lives; has = c.has }
+still_covers es k name epoch block live x out c = record { address = c.address; live = c.live; lives = ap (λ t. if t then None else live_in es c.address) (ne_eqb (address_of name) c.address other) ∙ c.lives; has = c.has }
   where
     other : address_of name ≢ c.address
     other e =
-        let same : live.0 ≡ c.live = some_is (sym live.1 ∙ (ap (live_in es) e ∙ c.lives)) in
+        let same : live.0 ≡ c.live = same_Some _ _ (sym live.1 ∙ (ap (live_in es) e ∙ c.lives)) in
         out (ap (λ n. in_run (n / 16) (length_of block) x) e ∙ (ap (λ (b : Block). in_run (c.address / 16) (length_of b) x) (sym live.2 ∙ ap (λ (l : Live). l.block) same) ∙ c.has))
 
 end_covered : (f : Profile) (es : List Event) → Run f es → (k : ℕ) (name : Name) (epoch : ℕ) (block : Block) → IsLiveBlock es name block → (x : ℕ) (t : Bool) → (in_run (grain_of name) (length_of block) x ≡ true → ⊥) → IsCovered es x t
@@ -251,7 +234,7 @@ end_shows f pages pages' places covered covered' es shows k name epoch place blo
 
     others : (g : ℕ) → grain_of name ≢ g → place_in es g ≡ place_in (Event.End k name epoch ∷ es) g
     others g ne =
-        let t : (address_of name == 16 * g) ≡ false = other_test (address_of name) (16 * g) (off_place (address_of name) g place.1 ne) in
+        let t : (address_of name == 16 * g) ≡ false = ne_eqb (address_of name) (16 * g) (off_place (address_of name) g place.1 ne) in
         ap (λ t. record { block = block_of (if t then None else live_in es (16 * g)); gives = gives_in es (16 * g) }) (sym t)
 
     by : (x : ℕ) → x < grains_of f → (t : Bool) → in_run (grain_of name) (length_of block) x ≡ t → IsCovered (Event.End k name epoch ∷ es) x (get_or covered' x false)

@@ -1,6 +1,6 @@
 -- That a reason applies exactly where an event may not come next, and that there is one first reason.
 use Rattle.std.proofs.Common.{◌≡◌, ◌≢◌, ℕ, ◌+◌, ◌/◌, ◌%◌, ◌<◌, ◌≤◌, ◌⊎◌, ◌==◌, Bool, true, false, if◌then◌else◌, List, [], ◌∷◌, Option, Some, None, refl, ap, sym, ◌∙◌, subst, arith, inl, inr}
-use Rattle.std.proofs.lemmas.Bool.{false≢true}
+use Rattle.std.proofs.lemmas.Bool.{false≢true, true_from_ne_false, false_from_ne_true}
 use Rattle.std.proofs.lemmas.Bool.Decides.{eqb_tells, leb_tells}
 use Rattle.pas_profile.specs.declared.profile.Profile.{Profile}
 use Rattle.pas_profile.specs.declared.directory.Directory.{Directory}
@@ -15,6 +15,7 @@ use Rattle.pas_machine.specs.State.{Live, deed_in, backed_in, live_in, gives_in,
 use Rattle.pas_machine.specs.Machine.{Run, Admits, MayGive, Bears, IsLive, HasOtherRoom, IsReason, IsPlace}
 use Rattle.pas_machine.specs.Reasons.{reason_number, Applies, IsFirst, IsOutside, IsNoPlace, IsNoRun, IsGrainOf, HasDeedOf}
 use Rattle.pas_machine.specs.declared.fault.Illegal.{Illegal}
+use Rattle.std.proofs.lemmas.Option.{none-some, same_Some}
 
 -- ---- what isn't otherwise
 equal_of : (a b : ℕ) → (a ≢ b → ⊥) → a ≡ b
@@ -30,20 +31,6 @@ none_of : {A : Type 0} (o : Option A) → (o ≢ None → ⊥) → o ≡ None
 none_of None never = refl
 none_of (Some x) never = absurd (never (λ h. cc))
 
-true_of : (b : Bool) → (b ≡ false → ⊥) → b ≡ true
-true_of true never = refl
-true_of false never = absurd (never refl)
-
-pub false_of : (b : Bool) → (b ≡ true → ⊥) → b ≡ false
-false_of true never = absurd (never refl)
-false_of false never = refl
-
-none_is : {A : Type 0} {x : A} → None ≡ Some x → ⊥
-none_is h = cc
-
-some_is : {A : Type 0} {x y : A} → Some x ≡ Some y → x ≡ y
-some_is h = cc
-
 -- ---- pages and places
 pub page_of : (f : Profile) (page : ℕ) → (IsOutside f page → ⊥) → IsPage f page
 page_of f page never = (le_of 1 page (λ h. never (inl h)), le_of page f.pages (λ h. never (inr h)))
@@ -55,39 +42,35 @@ not_outside f page is (inr h) = let high : page ≤ f.pages = is.1 in omega arit
 pub place_of : (f : Profile) (address : ℕ) → (IsNoPlace f address → ⊥) → IsPlace f address
 place_of f address never = (page_of f (address / 4096) (λ h. never (inl h)), equal_of (address % 16) 0 (λ h. never (inr h)))
 
-pub not_no_place : (f : Profile) (address : ℕ) → IsPlace f address → IsNoPlace f address → ⊥
+not_no_place : (f : Profile) (address : ℕ) → IsPlace f address → IsNoPlace f address → ⊥
 not_no_place f address is (inl h) = not_outside f (address / 4096) is.0 h
 not_no_place f address is (inr h) = h is.1
 
 -- ---- deeds
 -- each deed of a run is of a heap of the profile
-pub deed_heaps : (f : Profile) (es : List Event) → Run f es → (page : ℕ) (d : Directory) → deed_in es page ≡ Some d → d.heap < f.heaps
-deed_heaps f [] run page d h = absurd (none_is h)
+deed_heaps : (f : Profile) (es : List Event) → Run f es → (page : ℕ) (d : Directory) → deed_in es page ≡ Some d → d.heap < f.heaps
+deed_heaps f [] run page d h = absurd (none-some _ h)
 deed_heaps f (Event.Deed k p d' ∷ es) run page d h = new (p == page) (deed_in es page) (deed_heaps f es run.1 page) h
   where
     new : (t : Bool) (old : Option Directory) → ((d : Directory) → old ≡ Some d → d.heap < f.heaps) → (if t then Some d' else old) ≡ Some d → d.heap < f.heaps
-    new true old before is = subst (λ (d : Directory). d.heap < f.heaps) (some_is is) run.0.1
+    new true old before is = subst (λ (d : Directory). d.heap < f.heaps) (same_Some _ _ is) run.0.1
     new false old before is = before d is
-deed_heaps f (Event.Back k p ∷ es) run page d h = deed_heaps f es run.1 page d h
-deed_heaps f (Event.Unback k p e ∷ es) run page d h = deed_heaps f es run.1 page d h
-deed_heaps f (Event.Give k block ∷ es) run page d h = deed_heaps f es run.1 page d h
-deed_heaps f (Event.End k name e ∷ es) run page d h = deed_heaps f es run.1 page d h
-deed_heaps f (Event.Reject k name why ∷ es) run page d h = deed_heaps f es run.1 page d h
+deed_heaps f (e ∷ es) run page d h = deed_heaps f es run.1 page d h
 
 deed_or_not : (es : List Event) (heap page : ℕ) → HasDeedOf es heap page ⊎ (HasDeedOf es heap page → ⊥)
 deed_or_not es heap page = by (deed_in es page) refl
   where
     by : (o : Option Directory) → deed_in es page ≡ o → HasDeedOf es heap page ⊎ (HasDeedOf es heap page → ⊥)
-    by None is = inr (λ h. none_is (sym is ∙ h.1))
-    by (Some d) is = elim (eqb_tells d.heap heap) [ inl h ↦ inl (d, is, h.1) | inr h ↦ inr (λ has. h.1 (ap (λ (d : Directory). d.heap) (some_is (sym is ∙ has.1)) ∙ has.2)) ]
+    by None is = inr (λ h. none-some _ (sym is ∙ h.1))
+    by (Some d) is = elim (eqb_tells d.heap heap) [ inl h ↦ inl (d, is, h.1) | inr h ↦ inr (λ has. h.1 (ap (λ (d : Directory). d.heap) (same_Some _ _ (sym is ∙ has.1)) ∙ has.2)) ]
 
 -- ---- live names
-pub live_or_not : (es : List Event) (name : Name) → IsLive es name ⊎ (IsLive es name → ⊥)
+live_or_not : (es : List Event) (name : Name) → IsLive es name ⊎ (IsLive es name → ⊥)
 live_or_not es name = by (live_in es (address_of name)) refl
   where
     by : (o : Option Live) → live_in es (address_of name) ≡ o → IsLive es name ⊎ (IsLive es name → ⊥)
-    by None is = inr (λ h. none_is (sym is ∙ h.1))
-    by (Some b) is = elim (eqb_tells b.block.name.turn name.turn) [ inl h ↦ inl (b, is, h.1) | inr h ↦ inr (λ has. h.1 (ap (λ (l : Live). l.block.name.turn) (some_is (sym is ∙ has.1)) ∙ has.2)) ]
+    by None is = inr (λ h. none-some _ (sym is ∙ h.1))
+    by (Some b) is = elim (eqb_tells b.block.name.turn name.turn) [ inl h ↦ inl (b, is, h.1) | inr h ↦ inr (λ has. h.1 (ap (λ (l : Live). l.block.name.turn) (same_Some _ _ (sym is ∙ has.1)) ∙ has.2)) ]
 
 live_of : (es : List Event) (name : Name) → ((IsLive es name → ⊥) → ⊥) → IsLive es name
 live_of es name never = elim (live_or_not es name) [ inl h ↦ h | inr h ↦ absurd (never h) ]
@@ -95,7 +78,7 @@ live_of es name never = elim (live_or_not es name) [ inl h ↦ h | inr h ↦ abs
 room_or_not : (es : List Event) (name : Name) (room : ℕ) → HasOtherRoom es name room ⊎ (HasOtherRoom es name room → ⊥)
 room_or_not es name room = elim (live_or_not es name) [
   | inl live ↦ elim (eqb_tells live.0.block.room room) [
-    | inl h ↦ inr (λ has. has.differs (ap (λ (l : Live). l.block.room) (some_is (sym has.lives ∙ live.1)) ∙ h.1))
+    | inl h ↦ inr (λ has. has.differs (ap (λ (l : Live). l.block.room) (same_Some _ _ (sym has.lives ∙ live.1)) ∙ h.1))
     | inr h ↦ inl record { block = live.0; lives = live.1; turn_is = live.2; differs = h.1 }
   ]
   | inr dead ↦ inr (λ has. dead (has.block, has.lives, has.turn_is))
@@ -113,26 +96,23 @@ reason_of es name (Why.SizeDiffers room) never = (
 give_bears : (f : Profile) (es : List Event) (heap page : ℕ) → (IsOutside f page → ⊥) → ((HasDeedOf es heap page → ⊥) → ⊥) → (backed_in es page ≡ false → ⊥) → Bears f es heap page
 give_bears f es heap page outside deed backed =
     let has : HasDeedOf es heap page = elim (deed_or_not es heap page) [ inl h ↦ h | inr h ↦ absurd (deed h) ] in
-    record { exists = page_of f page outside; directory = has.0; deed = has.1; of_heap = has.2; backed = true_of (backed_in es page) backed }
-
-long_of : (room : ℕ) → (room ≡ 0 → ⊥) → 0 < room
-long_of room never = elim (eqb_tells room 0) [ inl h ↦ absurd (never h.1) | inr h ↦ let other : room ≢ 0 = h.1 in omega arith ]
+    record { exists = page_of f page outside; directory = has.0; deed = has.1; of_heap = has.2; backed = true_from_ne_false (backed_in es page) backed }
 
 pub admits_of : (f : Profile) (es : List Event) (e : Event) → ((reason : Illegal) → Applies f es e reason → ⊥) → Admits f es e
 admits_of f es (Event.Deed k page d) never = (page_of f page (never Illegal.BadPage), lt_of d.heap f.heaps (never Illegal.BadHeap), none_of (deed_in es page) (never Illegal.DeedTwice))
-admits_of f es (Event.Back k page) never = (page_of f page (never Illegal.BadPage), never Illegal.NoDeed, false_of (backed_in es page) (never Illegal.BackedTwice))
+admits_of f es (Event.Back k page) never = (page_of f page (never Illegal.BadPage), never Illegal.NoDeed, false_from_ne_true (backed_in es page) (never Illegal.BackedTwice))
 admits_of f es (Event.Unback k page epoch) never = (
   page_of f page (never Illegal.BadPage),
-  true_of (backed_in es page) (never Illegal.NotBacked),
-  (λ a. false_of (touches (live_in es a) page) (λ h. never Illegal.LivesThere (a, h))),
+  true_from_ne_false (backed_in es page) (never Illegal.NotBacked),
+  (λ a. false_from_ne_true (touches (live_in es a) page) (λ h. never Illegal.LivesThere (a, h))),
   le_of (epoch_in es page + f.age) epoch (never Illegal.TooYoung),
 )
 admits_of f es (Event.Give k block) never = record {
   aligned = equal_of (address_of block.name % 16) 0 (λ h. never Illegal.BadPage (inl (inl h)));
   whole = equal_of (block.room % 16) 0 (λ h. never Illegal.BadPage (inl (inr (inr h))));
-  some = long_of block.room (λ h. never Illegal.BadPage (inl (inr (inl h))));
+  some = lt_of 0 block.room (λ h. never Illegal.BadPage (inl (inr (inl (omega (arith, h))))));
   bears = λ x has. give_bears f es block.heap (x / 256) (λ h. never Illegal.BadPage (inr (x, has, h))) (λ h. never Illegal.NoDeed (x, has, h)) (λ h. never Illegal.NotBacked (x, has, h));
-  clear = λ a b lives x has. false_of (in_run (grain_of block.name) (length_of block) x) (λ h. never Illegal.LivesThere (x, h, record { address = a; live = b; lives = lives; has = has }));
+  clear = λ a b lives x has. false_from_ne_true (in_run (grain_of block.name) (length_of block) x) (λ h. never Illegal.LivesThere (x, h, record { address = a; live = b; lives = lives; has = has }));
   turn = equal_of block.name.turn (gives_in es (address_of block.name)) (never Illegal.WrongTurn);
 }
 admits_of f es (Event.End k name epoch) never = (place_of f (address_of name) (never Illegal.BadPage), live_of es name (never Illegal.NotLive))
@@ -208,16 +188,7 @@ numbered n = if n == 1 then Illegal.BadPage else if n == 2 then Illegal.BadHeap 
 
 numbers_tell : (reason : Illegal) → numbered (reason_number reason) ≡ reason
 numbers_tell Illegal.BadPage = refl
-numbers_tell Illegal.BadHeap = refl
-numbers_tell Illegal.DeedTwice = refl
-numbers_tell Illegal.NoDeed = refl
-numbers_tell Illegal.BackedTwice = refl
-numbers_tell Illegal.NotBacked = refl
-numbers_tell Illegal.LivesThere = refl
-numbers_tell Illegal.TooYoung = refl
-numbers_tell Illegal.WrongTurn = refl
-numbers_tell Illegal.NotLive = refl
-numbers_tell Illegal.WrongReason = refl
+numbers_tell reason = refl
 
 pub one_first : (f : Profile) (es : List Event) (e : Event) (reason other : Illegal) → IsFirst f es e reason → IsFirst f es e other → reason ≡ other
 one_first f es e reason other first first' = sym (numbers_tell reason) ∙ (ap numbered same ∙ numbers_tell other)

@@ -1,18 +1,17 @@
 -- The first reason of an event, by what a machine keeps.
 use Rattle.std.proofs.Common.{◌≡◌, ℕ, ◌+◌, ◌-◌, ◌*◌, ◌/◌, ◌%◌, ◌<◌, ◌≤◌, Bool, true, false, List, Option, Some, None, length, get_or, refl, ap, sym, ◌∙◌, subst, arith, inl, inr}
 use Rattle.std.specs.Prelude.{nat_lt, MatchBool}
-use Rattle.std.proofs.lemmas.Bool.{false≢true}
+use Rattle.std.proofs.lemmas.Bool.{false≢true, ltb-true, ltb-false}
 use Rattle.std.proofs.Math.Logic.{∥∥₁_elim}
 use Rattle.std.specs.Coded.{le_prop}
 use Rattle.std.proofs.lemmas.List.{get_or_default}
-use Rattle.std.proofs.lemmas.Bool.Decides.{leb_tells, nat_tests}
 use Rattle.pas_profile.specs.declared.profile.Profile.{Profile}
 use Rattle.pas_profile.specs.declared.name.Name.{Name}
 use Rattle.pas_profile.specs.declared.name.Block.{Block}
 use Rattle.pas_profile.specs.declared.event.Event.{Event}
 use Rattle.pas_profile.specs.Profiles.{IsPage}
 use Rattle.pas_profile.specs.Runs.{in_run, meets_page, address_of, grain_of, length_of}
-use Rattle.pas_profile.proofs.Runs.{run_of, to_run, run_meets}
+use Rattle.pas_profile.proofs.Runs.{run_of, to_run, run_meets, met, to_meet, at_place, IsMet}
 use Rattle.pas_machine.specs.State.{Live, backed_in, live_in, gives_in, ends_in, epoch_in, touches}
 use Rattle.pas_machine.specs.Laws.{IsCounted}
 use Rattle.pas_machine.specs.Machine.{Run}
@@ -23,35 +22,27 @@ use Rattle.pas_machine.specs.declared.places.Page.{Page}
 use Rattle.pas_machine.specs.declared.places.Place.{Place}
 use Rattle.pas_machine.proofs.LiveBlocks.{lives_where, live_long, all_counted, all_borne}
 use Rattle.pas_machine.proofs.Refusals.{not_outside}
-
-none_is : {A : Type 0} {x : A} → None ≡ Some x → ⊥
-none_is h = cc
-
-nat_lt-true : (a b : ℕ) → nat_lt a b ≡ true → a < b
-nat_lt-true a b h = grind (arith, nat_tests, h)
-
-nat_lt-false : (a b : ℕ) → nat_lt a b ≡ false → b ≤ a
-nat_lt-false a b h = grind (arith, nat_tests, h)
+use Rattle.std.proofs.lemmas.Option.{none-some}
 
 -- ---- runs
 -- a block of whole grains has its first and its last grain
 long_of : (block : Block) → IsWhole block → 0 < length_of block
 long_of block is = let some : 0 < block.room = is.some in let whole : block.room % 16 ≡ 0 = is.whole in omega (arith, some, whole)
 
-pub starts_outside : (f : Profile) (block : Block) → IsWhole block → grain_of block.name < 256 → IsNoRun f block
+starts_outside : (f : Profile) (block : Block) → IsWhole block → grain_of block.name < 256 → IsNoRun f block
 starts_outside f block is low =
     let long : 0 < length_of block = long_of block is in
     inr (grain_of block.name, to_run (grain_of block.name) (length_of block) (grain_of block.name) (omega arith) (omega (arith, long)), inl (omega (arith, low)))
 
-pub ends_outside : (f : Profile) (block : Block) → IsWhole block → grains_of f < grain_of block.name + length_of block → IsNoRun f block
+ends_outside : (f : Profile) (block : Block) → IsWhole block → grains_of f < grain_of block.name + length_of block → IsNoRun f block
 ends_outside f block is high =
     let long : 0 < length_of block = long_of block is in
     let last : ℕ = grain_of block.name + length_of block - 1 in
     inr (grain_of block.name + length_of block - 1, to_run (grain_of block.name) (length_of block) (grain_of block.name + length_of block - 1) (omega (arith, long)) (omega (arith, long)), inr (omega (arith, high)))
 
 pub ends_by_test : (f : Profile) (block : Block) (t : Bool) → IsWhole block → 256 ≤ grain_of block.name → nat_lt (256 * f.pages + 256) (grain_of block.name + length_of block) ≡ t → MatchBool t (IsNoRun f block) (IsWithin f block)
-ends_by_test f block true is low e = ends_outside f block is (nat_lt-true (grains_of f) (grain_of block.name + length_of block) e)
-ends_by_test f block false is low e = (low, nat_lt-false (grains_of f) (grain_of block.name + length_of block) e)
+ends_by_test f block true is low e = ends_outside f block is (ltb-true (grains_of f) (grain_of block.name + length_of block) e)
+ends_by_test f block false is low e = (low, ltb-false (grains_of f) (grain_of block.name + length_of block) e)
 
 pub inside_never : (f : Profile) (block : Block) → IsInside f block → IsNoRun f block → ⊥
 inside_never f block is (inl (inl h)) = h is.whole.aligned
@@ -66,12 +57,9 @@ inside_never f block is (inr h) = outside h.2
     outside (inl low) = let from = at.0 in let first = is.within.0 in omega (arith, low, from, first)
     outside (inr high) = let until = at.1 in let last = is.within.1 in omega (arith, high, until, last)
 
--- a page that a run meets has a grain of it
-grain_on : (g n p : ℕ) → 0 < n → g / 256 ≤ p → p < (g + n + 255) / 256 → (x : ℕ) × (in_run g n x ≡ true) × (x / 256 ≡ p)
-grain_on g n p some low high = elim (leb_tells g (256 * p)) [
-  | inl h ↦ (256 * p, to_run g n (256 * p) h.1 (let from : g ≤ 256 * p = h.1 in omega (arith, high)), omega arith)
-  | inr h ↦ (g, to_run g n g (omega arith) (omega (arith, some)), (let under : 256 * p < g = h.1 in omega (arith, low)))
-]
+-- a page in the range of a run's pages has a grain of it
+grain_on : (g n p : ℕ) → 0 < n → g / 256 ≤ p → p < (g + n + 255) / 256 → IsMet g n p
+grain_on g n p some low high = met g n p some (to_meet g n p (omega (arith, low)) (omega (arith, high)))
 
 page_on : (g n x : ℕ) → in_run g n x ≡ true → (g / 256 ≤ x / 256) × (x / 256 < (g + n + 255) / 256)
 page_on g n x h = let at = run_of g n x h in let low = at.0 in let high = at.1 in (omega (arith, low), omega (arith, high))
@@ -89,11 +77,8 @@ place_is f pages places covered es shows g within len same sized p is =
 
 -- ---- ends
 ends_by : (o : Option Live) (gives ends : ℕ) → IsCounted o gives ends → ((b : Block) → block_of o ≡ Some b → gives - 1 ≡ ends) × (block_of o ≡ None → gives ≡ ends)
-ends_by None gives ends counted = ((λ b h. absurd (none_is h)), (λ h. counted))
-ends_by (Some b) gives ends counted = ((λ b' h. let more : gives ≡ ends + 1 = counted.0 in omega arith), (λ h. absurd (none_is (sym h))))
-
-at_place : (a : ℕ) → a % 16 ≡ 0 → 16 * (a / 16) ≡ a
-at_place a h = omega (arith, h)
+ends_by None gives ends counted = ((λ b h. absurd (none-some _ h)), (λ h. counted))
+ends_by (Some b) gives ends counted = ((λ b' h. let more : gives ≡ ends + 1 = counted.0 in omega arith), (λ h. absurd (none-some _ (sym h))))
 
 pub ends_some : (f : Profile) (es : List Event) → Run f es → (a : ℕ) → a % 16 ≡ 0 → (p : Place) → p ≡ place_in es (a / 16) → (b : Block) → p.block ≡ Some b → p.gives - 1 ≡ ends_in es a
 ends_some f es run a aligned p is b some =
@@ -116,24 +101,16 @@ touches_by f es run page x on c = (
       ∙ (ap (meets_page (c.address / 16) (length_of c.live.block)) (sym on) ∙ run_meets (c.address / 16) (length_of c.live.block) x c.has)),
 )
 
-grain_met : (g n page : ℕ) → 0 < n → meets_page g n page ≡ true → (x : ℕ) × (in_run g n x ≡ true) × (256 * page ≤ x) × (x < 256 * page + 256)
-grain_met g n page some h =
-    let low : g < 256 * page + 256 = grind (arith, nat_tests, h) in
-    let high : 256 * page < g + n = grind (arith, nat_tests, h) in
-    elim (leb_tells g (256 * page)) [
-      | inl is ↦ (256 * page, to_run g n (256 * page) is.1 high, omega arith, omega arith)
-      | inr is ↦ (g, to_run g n g (omega arith) (omega (arith, some)), (let under : 256 * page < g = is.1 in omega arith), low)
-    ]
-
 touched_by : (f : Profile) (es : List Event) → Run f es → (page : ℕ) → ((x : ℕ) → 256 * page ≤ x → x < 256 * page + 256 → Covers es x → ⊥) → (address : ℕ) → touches (live_in es address) page ≡ true → ⊥
 touched_by f es run page never address h = by (live_in es address) refl h
   where
     by : (o : Option Live) → live_in es address ≡ o → touches o page ≡ true → ⊥
     by None is t = false≢true t
     by (Some b) is t =
-        let met : meets_page (address / 16) (length_of b.block) page ≡ true = ap (λ n. meets_page (n / 16) (length_of b.block) page) (sym (lives_where f es run address b is)) ∙ t in
-        let x = grain_met (address / 16) (length_of b.block) page (live_long f es run address b is) met in
-        never x.0 x.2 x.3 (record { address = address; live = b; lives = is; has = x.1 })
+        let meets : meets_page (address / 16) (length_of b.block) page ≡ true = ap (λ n. meets_page (n / 16) (length_of b.block) page) (sym (lives_where f es run address b is)) ∙ t in
+        let x = met (address / 16) (length_of b.block) page (live_long f es run address b is) meets in
+        let on = x.of_page in
+        never x.grain (omega (arith, on)) (omega (arith, on)) (record { address = address; live = b; lives = is; has = x.of_run })
 
 unback_before : (f : Profile) (es : List Event) (k page epoch n : ℕ) → (1 < n → IsOutside f page → ⊥) → (6 < n → backed_in es page ≡ false → ⊥) → (7 < n → (a : ℕ) → touches (live_in es a) page ≡ true → ⊥)
     → (8 < n → epoch < epoch_in es page + f.age → ⊥) → (reason : Illegal) → reason_number reason < n → Applies f es (Event.Unback k page epoch) reason → ⊥
@@ -145,16 +122,7 @@ unback_before f es k page epoch n a b c d _ lt h = h
 
 pub number_below : (reason : Illegal) → reason_number reason < 12
 number_below Illegal.BadPage = omega arith
-number_below Illegal.BadHeap = omega arith
-number_below Illegal.DeedTwice = omega arith
-number_below Illegal.NoDeed = omega arith
-number_below Illegal.BackedTwice = omega arith
-number_below Illegal.NotBacked = omega arith
-number_below Illegal.LivesThere = omega arith
-number_below Illegal.TooYoung = omega arith
-number_below Illegal.WrongTurn = omega arith
-number_below Illegal.NotLive = omega arith
-number_below Illegal.WrongReason = omega arith
+number_below reason = omega arith
 
 -- where the page was read, and is of the region
 backed_now : (es : List Event) (page : ℕ) (p : Page) → p ≡ page_in es page → p.backed ≡ true → backed_in es page ≡ false → ⊥
@@ -225,7 +193,7 @@ pub lacks_deed : (f : Profile) (pages : List Page) (places : List Place) (covere
     → IsSome (first_page block) (until_page block) (λ page. IsOfHeap block.heap (get_or pages page blank_page).directory → ⊥) → Applies f es (Event.Give k block) Illegal.NoDeed
 lacks_deed f pages places covered es shows k block is some =
     let x = grain_on (grain_of block.name) (length_of block) some.0 (long_of block is.whole) some.1 some.2 in
-    (x.0, x.1, (λ has. some.3 (subst (λ (p : Page). IsOfHeap block.heap p.directory) (ap (page_in es) x.2 ∙ sym (shows.pages_are some.0 (subst (λ n. n ≤ f.pages) x.2 (page_within f block is.within x.0 x.1).0))) has)))
+    (x.grain, x.of_run, (λ has. some.3 (subst (λ (p : Page). IsOfHeap block.heap p.directory) (ap (page_in es) x.of_page ∙ sym (shows.pages_are some.0 (subst (λ n. n ≤ f.pages) x.of_page (page_within f block is.within x.grain x.of_run).0))) has)))
 
 pub has_deeds : (f : Profile) (pages : List Page) (places : List Place) (covered : List Bool) (es : List Event) → Shows f pages places covered es → (k : ℕ) (block : Block) → IsInside f block
     → IsEach (first_page block) (until_page block) (λ page. IsOfHeap block.heap (get_or pages page blank_page).directory) → Applies f es (Event.Give k block) Illegal.NoDeed → ⊥
@@ -237,7 +205,7 @@ pub lacks_backing : (f : Profile) (pages : List Page) (places : List Place) (cov
     → IsSome (first_page block) (until_page block) (λ page. (get_or pages page blank_page).backed ≡ false) → Applies f es (Event.Give k block) Illegal.NotBacked
 lacks_backing f pages places covered es shows k block is some =
     let x = grain_on (grain_of block.name) (length_of block) some.0 (long_of block is.whole) some.1 some.2 in
-    (x.0, x.1, subst (λ (p : Page). p.backed ≡ false) (shows.pages_are some.0 (subst (λ n. n ≤ f.pages) x.2 (page_within f block is.within x.0 x.1).0) ∙ ap (page_in es) (sym x.2)) some.3)
+    (x.grain, x.of_run, subst (λ (p : Page). p.backed ≡ false) (shows.pages_are some.0 (subst (λ n. n ≤ f.pages) x.of_page (page_within f block is.within x.grain x.of_run).0) ∙ ap (page_in es) (sym x.of_page)) some.3)
 
 pub has_backing : (f : Profile) (pages : List Page) (places : List Place) (covered : List Bool) (es : List Event) → Shows f pages places covered es → (k : ℕ) (block : Block) → IsInside f block
     → IsEach (first_page block) (until_page block) (λ page. (get_or pages page blank_page).backed ≡ true) → Applies f es (Event.Give k block) Illegal.NotBacked → ⊥
@@ -269,7 +237,7 @@ place_at f pages places covered es shows block is =
     place_is f pages places covered es shows (grain_of block.name) (omega (arith, high, long))
 
 -- a live block ends within the region
-pub live_within : (f : Profile) (es : List Event) → Run f es → (a : ℕ) (b : Live) → live_in es a ≡ Some b → a / 16 + length_of b.block ≤ grains_of f
+live_within : (f : Profile) (es : List Event) → Run f es → (a : ℕ) (b : Live) → live_in es a ≡ Some b → a / 16 + length_of b.block ≤ grains_of f
 live_within f es run a b is =
     let long : 0 < length_of b.block = live_long f es run a b is in
     let last : in_run (a / 16) (length_of b.block) (a / 16 + length_of b.block - 1) ≡ true = to_run (a / 16) (length_of b.block) (a / 16 + length_of b.block - 1) (omega (arith, long)) (omega (arith, long)) in

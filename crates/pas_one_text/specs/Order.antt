@@ -4,8 +4,7 @@ use Rattle.std.specs.Prelude.{ℕ, zero, suc, ◌+◌, ◌-◌, ◌*◌, ◌/◌
 use Rattle.std.specs.List.{list_any, find, filter}
 use Rattle.pas_profile.specs.Classes.{class_size, class_grains, slots_of}
 use Rattle.pas_profile.specs.Directories.{number_of}
-use Rattle.pas_profile.specs.Requests.{directory_for, is_shared}
-use Rattle.pas_profile.specs.Routes.{route_of, room_of}
+use Rattle.pas_profile.specs.Requests.{directory_for, is_shared, route_in, room_in}
 use Rattle.pas_profile.specs.Runs.{in_run, meets_page, address_of, grain_of, length_of}
 use Rattle.pas_profile.specs.declared.directory.Directory.{Directory}
 use Rattle.pas_profile.specs.declared.directory.Kind.{Kind}
@@ -436,7 +435,7 @@ settles k w = record (set_cache k (record (cache_at w.caches k) { noted = [] }) 
 
 -- ---- the acts
 abbrev pub operates : Profile → ℕ → What → World → World
-operates f k (What.Alloc name heap size align) w = serves f k name (directory_for f heap size align) (route_of size align) (room_of size align) align w
+operates f k (What.Alloc name heap size align) w = serves f k name (directory_for f heap size align) (route_in f size align) (room_in f size align) align w
 operates f k (What.Free name) w = frees_named f k name (standing_for w.names name) w
 operates f k (What.Raw block) w = frees_block f k block w
 operates f k What.Flush w = flushes f k w

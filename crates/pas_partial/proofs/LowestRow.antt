@@ -5,7 +5,7 @@ use Rattle.pas_profile.proofs.ClassFacts.{class_grains_positive, first_slot, slo
 use Rattle.pas_bits.specs.declared.mask.Mask4.{Mask4}
 use Rattle.pas_bits.specs.Masks.{is_set, AreSet, AreClear, IsLowestSet}
 use Rattle.pas_segregated.specs.Masks.{start_of, AreStarts}
-use Rattle.pas_segregated.specs.Takes.{AllFree}
+use Rattle.pas_rights.specs.Looks.{AllFree}
 use Rattle.pas_segregated.proofs.Starts.{start_at, start_below}
 use Rattle.pas_choice.specs.Choices.{IsUnfit, IsChosen}
 use Rattle.pas_partial.specs.Rows.{IsFreeSlot, rows}

@@ -20,7 +20,7 @@ use Rattle.pas_segregated.specs.Refills.{GetsSlots, Refills}
 use Rattle.pas_segregated.specs.Stops.{in_slots}
 use Rattle.pas_segregated.specs.declared.slots.Slots.{Slots}
 use Rattle.pas_segregated.proofs.Starts.{start_at}
-use Rattle.pas_choice.proofs.Found.{KeepsNew, found_call, left_after}
+use Rattle.pas_search.proofs.Found.{KeepsNew, found_call, left_after}
 use Rattle.pas_partial.specs.Refills.{shared_directory, shared_slots}
 use Rattle.pas_partial.specs.Rows.{IsFreeSlot, IsLowestRow, partial}
 use Rattle.pas_partial.proofs.InRows.{row_last, row_first}
@@ -50,7 +50,7 @@ module _ (heap class : ℕ) (is : IsClass class) {tells : Bool} {σ σ1 : Standi
   may_leave : (v : View) → MaySearch d v → Found v (xs ++ v) → MayLeave page d (xs ++ v)
   may_leave v met kept = record { right = kept.found.keeps.does.right page ∙ ap (λ t. now (if t then Gained else Kept) (has_right v page)) (eq-eqb page page refl); deed = kept.found.deed }
 
-  pub can_leave : {spare : ℕ} → CanCall σ (λ v l. SearchRoom σ.seat.profile (shared_directory heap) 1 spare v) → CanCall σ1 (λ v l. MayLeave served.page (shared_directory heap) v)
+  pub can_leave : {spare : ℕ} → CanCall σ (SearchRoom σ.seat.profile (shared_directory heap) 1 spare) → CanCall σ1 (MayLeave served.page (shared_directory heap))
   can_leave can = next_call new_call (record { view = can.view; whole = can.whole; stood = can.stood; met = can.met.may }) may_leave
 
   first_set : is_set served.found row.first ≡ true

@@ -1,13 +1,10 @@
-//! Shared pages serve a search.
+//! What a request chooses of a shared page.
 use crate::row::row_from;
 use pas_bits::Mask4;
-use pas_choice::{Choosing, Chosen, serve_chosen};
-use pas_profile::Directory;
+use pas_choice::{Choosing, Chosen};
 use pas_profile::classes::class_size;
 use pas_profile::limits::GRAIN_BYTES;
-use pas_search::Serving;
 use pas_segregated::{covered, whole_slots};
-use pas_steps::Desk;
 
 /// Shared pages, as a class sees them.
 #[derive(Clone, Copy, PartialEq, Eq)]
@@ -16,6 +13,7 @@ pub struct Partial {
 }
 
 impl Choosing for Partial {
+    ghost use Rattle.pas_segregated.specs.Takes.{fewer_slots};
     ghost use Rattle.pas_partial.specs.Rows.{rows};
 
     type Found = Mask4;
@@ -34,19 +32,6 @@ impl Choosing for Partial {
             grains: covered(&starts, self.class),
         })
     }
-}
 
-impl Serving for Partial {
-    ghost use Rattle.pas_segregated.specs.Takes.{fewer_slots};
-    ghost use Rattle.pas_partial.specs.Rows.{partial};
-
-    type Found = Mask4;
-
-    ghost rule = { λ serving. partial serving.class };
-
-    fn serve<D: Desk>(&self, desk: &mut D, page: u32, directory: Directory) -> Option<Mask4> {
-        serve_chosen(self, desk, page, directory)
-    }
-
-    ghost fewer = { λ serving. fewer_slots serving.class };
+    ghost fewer = { λ partial. fewer_slots partial.class };
 }

@@ -8,6 +8,7 @@ ghost use Rattle.pas_segregated.specs.Refills.{Refills};
 ghost use Rattle.pas_partial.specs.Refills.{shared_directory, shared_slots};
 
 use crate::partial::Partial;
+use pas_choice::ByChoice;
 use pas_profile::{Directory, Kind, NoRoom};
 use pas_rights::leave;
 use pas_search::find_page;
@@ -23,7 +24,7 @@ use pas_steps::Desk;
 pub fn refill<D: Desk>(desk: &mut D, heap: u8, class: u8) -> Result<Slots, NoRoom>
     requires class { IsClass class }
     requires directory { IsDirectoryOf (D.standing desk.old).seat.profile (shared_directory heap) }
-    requires can { CanCall (D.standing desk.old) (λ v l. SearchRoom (D.standing desk.old).seat.profile (shared_directory heap) 1 (D.spare_of desk.old) v) }
+    requires can { CanCall (D.standing desk.old) (SearchRoom (D.standing desk.old).seat.profile (shared_directory heap) 1 (D.spare_of desk.old)) }
     ensures refills { Refills (shared_slots heap class) D.tells (D.standing desk.old) (D.standing desk.new) result }
     ensures home { D.home desk.new ≡ D.home desk.old }
 {
@@ -31,7 +32,7 @@ pub fn refill<D: Desk>(desk: &mut D, heap: u8, class: u8) -> Result<Slots, NoRoo
         heap,
         kind: Kind::Shared,
     };
-    match find_page(&Partial { class }, desk, directory) {
+    match find_page(&ByChoice(Partial { class }), desk, directory) {
         Ok(served) => {
             leave(desk, served.page, directory);
             Ok(Slots {

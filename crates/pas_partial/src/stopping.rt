@@ -17,7 +17,7 @@ pub fn stop<D: Desk>(desk: &mut D, slots: Slots)
     requires directory { IsDirectoryOf (D.standing desk.old).seat.profile (shared_directory slots.heap) }
     requires class { IsClass slots.class }
     requires starts { AreStarts slots.class slots.starts }
-    requires can { CanCall (D.standing desk.old) (λ v l. MayStopAt (shared_directory slots.heap) slots v) }
+    requires can { CanCall (D.standing desk.old) (MayStopAt (shared_directory slots.heap) slots) }
     ensures stops { StopsAt (shared_directory slots.heap) slots (D.standing desk.old) (D.standing desk.new) }
     ensures home { D.home desk.new ≡ D.home desk.old }
 {

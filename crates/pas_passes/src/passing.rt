@@ -41,7 +41,7 @@ fn push_outcomes(found: &[(u32, Outcome)], actor: u8, epoch: u64, out: &mut Reco
 ///
 /// Costs the steps of the pass, and one record for it and for each outcome.
 pub fn pass<D: Desk>(desk: &mut D, outcomes: &mut Outcomes, out: &mut Records)
-    requires can { CanCall (D.standing desk.old) (λ v l. HasNothing v) }
+    requires can { CanCall (D.standing desk.old) HasNothing }
     requires room { (D.standing desk.old).seat.profile.pages ≤ D.spare_of desk.old }
     requires places { places_of outcomes.old ≡ (D.standing desk.old).seat.profile.pages }
     requires records { length (records_in out.old) + (1 + (D.standing desk.old).seat.profile.pages) ≤ room_of out.old }

@@ -13,7 +13,7 @@ use pas_steps::Desk;
 /// It never falls: where it was higher before it stays, and that one is said.
 pub fn tick<D: Desk>(desk: &mut D, epoch: u64, out: &mut Records)
     requires epoch { epoch < 2 ^ 40 }
-    requires can { CanCall (D.standing desk.old) (λ v l. HasNothing v) }
+    requires can { CanCall (D.standing desk.old) HasNothing }
     requires record { length (records_in out.old) < room_of out.old }
     ensures ticks { AnswersTick epoch (D.standing desk.old) (D.standing desk.new) (records_in out.old) (records_in out.new) }
     ensures spare { D.spare_of desk.new ≡ D.spare_of desk.old }

@@ -50,7 +50,7 @@ acted old new own acts v l stood =
     )
 
 -- ---- the two passes were exchanged, the foreign actor acted, and they were exchanged again
-pub may_act : (old seated : PlainDesk) (foreign : PlainPass) → region_of seated ≡ region_of old → pass_of seated ≡ foreign → MayStorm (region_of old) (pass_of old) foreign → CanCall (standing_of seated) (λ v l. HasNothing v)
+pub may_act : (old seated : PlainDesk) (foreign : PlainPass) → region_of seated ≡ region_of old → pass_of seated ≡ foreign → MayStorm (region_of old) (pass_of old) foreign → CanCall (standing_of seated) HasNothing
 may_act old seated foreign region pass may =
     let stood : StormStands (region_of seated) (pass_of old) (pass_of seated) may.view may.whole =
     subst (λ (r : PlainRegion). StormStands r (pass_of old) (pass_of seated) may.view may.whole) (sym region) (subst (λ (p : PlainPass). StormStands (region_of old) (pass_of old) p may.view may.whole) (sym pass) may.stands) in

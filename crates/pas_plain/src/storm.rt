@@ -25,7 +25,7 @@ pub trait Intruder {
     /// Acts before the own step of this number, from 1 on. The desk's actor has nothing and is clear, and is so again afterwards. There
     /// is room for at least 70 events.
     fn act<D: Desk>(&mut self, desk: &mut D, number: u64)
-        requires nothing { CanCall (D.standing desk.old) (λ v l. HasNothing v) }
+        requires nothing { CanCall (D.standing desk.old) HasNothing }
         requires room { 70 ≤ D.spare_of desk.old }
         ensures acts { Acts (D.standing desk.old) (D.standing desk.new) }
         ensures home { D.home desk.new ≡ D.home desk.old };

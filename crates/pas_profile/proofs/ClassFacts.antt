@@ -1,34 +1,36 @@
 -- Sizes of classes, the slots of their pages, and what a route says.
-use Rattle.std.proofs.Common.{◌≡◌, ℕ, zero, suc, ◌+◌, ◌-◌, ◌*◌, ◌/◌, ◌%◌, ◌<◌, ◌≤◌, max, Bool, true, false, ◌&&◌, leb, eqb, if◌then◌else◌, List, [], ◌∷◌, length, get_or, Option, None, Some, refl, ap, sym, ◌∙◌, subst, arith, inl, inr}
+use Rattle.std.proofs.Common.{◌≡◌, ℕ, zero, suc, ◌+◌, ◌*◌, ◌/◌, ◌%◌, ◌<◌, ◌≤◌, max, Bool, true, false, leb, eqb, if◌then◌else◌, List, [], ◌∷◌, length, get_or, Option, None, Some, refl, ap, sym, ◌∙◌, subst, arith, inl, inr}
 use Rattle.std.proofs.Math.Nat.{dvd-add, dvd-mul_left_of_dvd}
 use Rattle.std.specs.Int.{◌∣◌}
-use Rattle.std.proofs.lemmas.Nat.{same_from_place, div-add-mod'}
+use Rattle.std.proofs.lemmas.Nat.{div-add-mod'}
+use Rattle.std.proofs.lemmas.List.{get_or_past}
 use Rattle.std.proofs.lemmas.Nat.Gcd.{dvd_of_mod-eq-zero, mod-eq-zero_of_dvd}
 use Rattle.std.proofs.lemmas.Bool.{leb-true, eqb-true, le-leb, eq-eqb, and_parts, and_from, cases_Bool, cases_lt, lt-leb, false≢true}
-use Rattle.pas_profile.specs.Classes.{class_sizes, IsClass, class_size, class_grains, usable_grains, IsSlotStart}
+use Rattle.pas_profile.specs.Classes.{IsClass, class_size, sizes_of, class_grains, usable_grains, IsSlotStart}
 use Rattle.pas_profile.specs.Routes.{first_class, route_of, route_with, route_without_class, Suits, IsSmallest, NoneSuits, IsRouteOf}
 use Rattle.pas_profile.specs.declared.directory.Route.TheVariants.{Class, Bitfit, Large}
-use Rattle.pas_profile.proofs.Tables.{passes_at}
+use Rattle.pas_profile.proofs.Searches.{suits}
+use Rattle.pas_profile.proofs.Sizes.{class_passes, class_from_size, sizes_le, size_at}
 
--- Sizes are whole grains, of which a block has 1 to 32, and the slots cover 240 to 256 grains of a page.
+-- Sizes are whole grains, of which a block has 1 to 64, and the slots cover 224 to 256 grains of a page.
 
 pub class_size-grains : (class : ℕ) → IsClass class → class_size class ≡ 16 * class_grains class
-class_size-grains class h = eqb-true _ _ (passes_at (λ c. eqb (class_size c) (16 * class_grains c)) 16 class refl h)
+class_size-grains class h = eqb-true _ _ (class_passes (λ c. eqb (class_size c) (16 * class_grains c)) refl class h)
 
 pub class_size_whole : (class : ℕ) → IsClass class → class_size class % 16 ≡ 0
-class_size_whole class h = eqb-true _ _ (passes_at (λ c. eqb (class_size c % 16) 0) 16 class refl h)
+class_size_whole class h = eqb-true _ _ (class_passes (λ c. eqb (class_size c % 16) 0) refl class h)
 
 pub class_grains_positive : (class : ℕ) → IsClass class → 1 ≤ class_grains class
-class_grains_positive class h = leb-true _ _ (passes_at (λ c. leb 1 (class_grains c)) 16 class refl h)
+class_grains_positive class h = leb-true _ _ (class_passes (λ c. leb 1 (class_grains c)) refl class h)
 
-pub class_grains_le : (class : ℕ) → IsClass class → class_grains class ≤ 32
-class_grains_le class h = leb-true _ _ (passes_at (λ c. leb (class_grains c) 32) 16 class refl h)
+pub class_grains_le : (class : ℕ) → IsClass class → class_grains class ≤ 64
+class_grains_le class h = leb-true _ _ (class_passes (λ c. leb (class_grains c) 64) refl class h)
 
 pub usable_grains_le : (class : ℕ) → IsClass class → usable_grains class ≤ 256
-usable_grains_le class h = leb-true _ _ (passes_at (λ c. leb (usable_grains c) 256) 16 class refl h)
+usable_grains_le class h = leb-true _ _ (class_passes (λ c. leb (usable_grains c) 256) refl class h)
 
-pub usable_grains_ge : (class : ℕ) → IsClass class → 240 ≤ usable_grains class
-usable_grains_ge class h = leb-true _ _ (passes_at (λ c. leb 240 (usable_grains c)) 16 class refl h)
+pub usable_grains_ge : (class : ℕ) → IsClass class → 224 ≤ usable_grains class
+usable_grains_ge class h = leb-true _ _ (class_passes (λ c. leb 224 (usable_grains c)) refl class h)
 
 -- A slot lies within its page, and the page's first grain begins one.
 
@@ -44,24 +46,12 @@ slot_end class grain h s =
 
 pub first_slot : (class : ℕ) → IsClass class → IsSlotStart class 0
 first_slot class h = record {
-  aligned = eqb-true _ _ (passes_at (λ c. eqb (0 % class_grains c) 0) 16 class refl h);
+  aligned = eqb-true _ _ (class_passes (λ c. eqb (0 % class_grains c) 0) refl class h);
   within = omega (arith, class_grains_le class h, usable_grains_ge class h);
 }
 
-multiple : (k g : ℕ) → g % k ≡ 0 → g ≡ g / k * k + 0
+pub multiple : (k g : ℕ) → g % k ≡ 0 → g ≡ g / k * k + 0
 multiple k g e = omega (arith, e, div-add-mod' g k)
-
-ordered : (k a b : ℕ) → a % k ≡ 0 → b % k ≡ 0 → a ≤ b → b < a + k → a ≡ b
-ordered k a b ea eb le lt =
-    let s = same_from_place (a / k) (b - a) (b / k) 0 k (omega (arith, le, lt)) (omega (arith, le, lt)) (omega (arith, multiple k a ea, multiple k b eb, le)) in
-    omega (arith, s.1, le)
-
--- two slots that share a grain are one
-pub same_slot : (class a b : ℕ) → IsSlotStart class a → IsSlotStart class b → a < b + class_grains class → b < a + class_grains class → a ≡ b
-same_slot class a b ha hb p q = elim (cases_lt a b) [
-  | inl lt ↦ ordered (class_grains class) a b ha.aligned hb.aligned (omega (arith, lt)) q
-  | inr ge ↦ sym (ordered (class_grains class) b a hb.aligned ha.aligned ge p)
-]
 
 scaled : (k g : ℕ) → g % k ≡ 0 → g / k * (16 * k) ≡ g * 16
 scaled k g e = omega (arith, multiple k g e)
@@ -77,26 +67,23 @@ slot_aligned class grain page align h s whole fits =
 
 -- What the search of the class list found, or that it found none.
 
-abbrev passes : ℕ → ℕ → ℕ → Bool
-passes c size align = leb size c && eqb (c % align) 0
-
 abbrev Found : List ℕ → ℕ → ℕ → ℕ → ℕ → Type 0
-Found cs n size align c = (i : ℕ) × (c ≡ n + i) × (i < length cs) × (passes (get_or cs i 0) size align ≡ true) × ((k : ℕ) → k < i → passes (get_or cs k 0) size align ≡ false)
+Found cs n size align c = (i : ℕ) × (c ≡ n + i) × (i < length cs) × (suits (get_or cs i 0) size align ≡ true) × ((k : ℕ) → k < i → suits (get_or cs k 0) size align ≡ false)
 
 abbrev Missing : List ℕ → ℕ → ℕ → Type 0
-Missing cs size align = (k : ℕ) → k < length cs → passes (get_or cs k 0) size align ≡ false
+Missing cs size align = (k : ℕ) → k < length cs → suits (get_or cs k 0) size align ≡ false
 
-found_later : (c : ℕ) (cs : List ℕ) (n size align class : ℕ) → passes c size align ≡ false → Found cs (n + 1) size align class → Found (c ∷ cs) n size align class
+found_later : (c : ℕ) (cs : List ℕ) (n size align class : ℕ) → suits c size align ≡ false → Found cs (n + 1) size align class → Found (c ∷ cs) n size align class
 found_later c cs n size align class e f =
-    (suc f.0, omega (arith, f.1), omega (arith, f.2), f.3, λ k. elim k as (λ k. k < suc f.0 → passes (get_or (c ∷ cs) k 0) size align ≡ false) [ zero ↦ λ lt. e | suc k ↦ λ lt. f.4 k (omega (arith, lt)) ])
+    (suc f.0, omega (arith, f.1), omega (arith, f.2), f.3, λ k. elim k as (λ k. k < suc f.0 → suits (get_or (c ∷ cs) k 0) size align ≡ false) [ zero ↦ λ lt. e | suc k ↦ λ lt. f.4 k (omega (arith, lt)) ])
 
-missing_later : (c : ℕ) (cs : List ℕ) (size align : ℕ) → passes c size align ≡ false → Missing cs size align → Missing (c ∷ cs) size align
+missing_later : (c : ℕ) (cs : List ℕ) (size align : ℕ) → suits c size align ≡ false → Missing cs size align → Missing (c ∷ cs) size align
 missing_later c cs size align e f zero lt = e
 missing_later c cs size align e f (suc k) lt = f k (omega (arith, lt))
 
 found : (cs : List ℕ) (n size align class : ℕ) → first_class cs n size align ≡ Some class → Found cs n size align class
 found [] n size align class e = absurd (cc)
-found (c ∷ cs) n size align class e = elim (cases_Bool (passes c size align)) [
+found (c ∷ cs) n size align class e = elim (cases_Bool (suits c size align)) [
   | inl good ↦
       let here : Some n ≡ Some class = ap (λ b. if b then Some n else first_class cs (n + 1) size align) (sym good) ∙ e in
       let same : n ≡ class = cc in
@@ -106,58 +93,73 @@ found (c ∷ cs) n size align class e = elim (cases_Bool (passes c size align)) 
 
 missing : (cs : List ℕ) (n size align : ℕ) → first_class cs n size align ≡ None → Missing cs size align
 missing [] n size align e = λ k lt. absurd (omega (arith, lt))
-missing (c ∷ cs) n size align e = elim (cases_Bool (passes c size align)) [
+missing (c ∷ cs) n size align e = elim (cases_Bool (suits c size align)) [
   | inl good ↦ let here : Some n ≡ None = ap (λ b. if b then Some n else first_class cs (n + 1) size align) (sym good) ∙ e in absurd (cc)
   | inr bad ↦ missing_later c cs size align bad (missing cs (n + 1) size align (ap (λ b. if b then Some n else first_class cs (n + 1) size align) (sym bad) ∙ e))
 ]
 
-suits_from : (size align class : ℕ) → passes (class_size class) (max size 1) align ≡ true → Suits size align class
+suits_from : (size align class : ℕ) → suits (class_size class) (max size 1) align ≡ true → Suits size align class
 suits_from size align class e =
     let b = and_parts (leb (max size 1) (class_size class)) (eqb (class_size class % align) 0) e in
     record { room = leb-true _ _ b.0; aligned = eqb-true _ _ b.1 }
 
-not_from : (size align class : ℕ) → passes (class_size class) (max size 1) align ≡ false → Suits size align class → ⊥
+not_from : (size align class : ℕ) → suits (class_size class) (max size 1) align ≡ false → Suits size align class → ⊥
 not_from size align class e s =
-    let t : passes (class_size class) (max size 1) align ≡ true = and_from (leb (max size 1) (class_size class)) (eqb (class_size class % align) 0) (le-leb _ _ s.room) (eq-eqb _ _ s.aligned) in
+    let t : suits (class_size class) (max size 1) align ≡ true = and_from (leb (max size 1) (class_size class)) (eqb (class_size class % align) 0) (le-leb _ _ s.room) (eq-eqb _ _ s.aligned) in
     false≢true (sym e ∙ t)
 
-smallest_from : (size align class : ℕ) → Found class_sizes 0 (max size 1) align class → IsSmallest size align class
-smallest_from size align class f =
+-- the size of a class of the region, where the search reads it
+read_size : (classes class size align : ℕ) (b : Bool) → class < classes → suits (get_or (sizes_of classes) class 0) size align ≡ b → suits (class_size class) size align ≡ b
+read_size classes class size align b lt e = ap (λ c. suits c size align) (sym (size_at classes class lt)) ∙ e
+
+smallest_from : (classes size align class : ℕ) → Found (sizes_of classes) 0 (max size 1) align class → IsSmallest classes size align class
+smallest_from classes size align class f =
     let same : f.0 ≡ class = omega (arith, f.1) in
+    let within : class < classes = omega (arith, f.2, same, sizes_le classes) in
     record {
-      known = omega (arith, f.2, same);
-      suits = suits_from size align class (subst (λ i. passes (get_or class_sizes i 0) (max size 1) align ≡ true) same f.3);
-      smallest = λ k lt. not_from size align k (f.4 k (omega (arith, lt, same)));
+      known = within;
+      suits = suits_from size align class (read_size classes class (max size 1) align true within (subst (λ i. suits (get_or (sizes_of classes) i 0) (max size 1) align ≡ true) same f.3));
+      smallest = λ k lt. not_from size align k (read_size classes k (max size 1) align false (omega (arith, lt, within)) (f.4 k (omega (arith, lt, same))));
     }
 
-without_class : (size align : ℕ) → NoneSuits size align → IsRouteOf size align (route_without_class (max size 1))
-without_class size align none = elim (cases_lt 2048 size) [
-  | inl large ↦ subst (λ b. IsRouteOf size align (if b then Bitfit else Large)) (sym (lt-leb (max size 1) 2048 (omega (arith, large)))) (large, none)
-  | inr small ↦ subst (λ b. IsRouteOf size align (if b then Bitfit else Large)) (sym (le-leb (max size 1) 2048 (omega (arith, small)))) (small, none)
+none_from : (classes size align : ℕ) → Missing (sizes_of classes) (max size 1) align → NoneSuits classes size align
+none_from classes size align none k lt s = elim (cases_lt k (length (sizes_of classes))) [
+  | inl within ↦ not_from size align k (read_size classes k (max size 1) align false lt (none k within)) s
+  | inr beyond ↦ let past = get_or_past (sizes_of classes) k 0 beyond in let size_is = size_at classes k lt in let room = s.room in omega (arith, past, size_is, room)
 ]
 
-answered : (size align : ℕ) (o : Option ℕ) → first_class class_sizes 0 (max size 1) align ≡ o → IsRouteOf size align (route_with o (max size 1))
-answered size align None e = without_class size align (λ k lt. not_from size align k (missing class_sizes 0 (max size 1) align e k lt))
-answered size align (Some class) e = smallest_from size align class (found class_sizes 0 (max size 1) align class e)
+without_class : (classes size align : ℕ) → NoneSuits classes size align → IsRouteOf classes size align (route_without_class (max size 1))
+without_class classes size align none = elim (cases_lt 2048 size) [
+  | inl large ↦ subst (λ b. IsRouteOf classes size align (if b then Bitfit else Large)) (sym (lt-leb (max size 1) 2048 (omega (arith, large)))) (large, none)
+  | inr small ↦ subst (λ b. IsRouteOf classes size align (if b then Bitfit else Large)) (sym (le-leb (max size 1) 2048 (omega (arith, small)))) (small, none)
+]
+
+answered : (classes size align : ℕ) (o : Option ℕ) → first_class (sizes_of classes) 0 (max size 1) align ≡ o → IsRouteOf classes size align (route_with o (max size 1))
+answered classes size align None e = without_class classes size align (none_from classes size align (missing (sizes_of classes) 0 (max size 1) align e))
+answered classes size align (Some class) e = smallest_from classes size align class (found (sizes_of classes) 0 (max size 1) align class e)
 
 -- the route is the smallest class that suits, and where none does a bit-fit page or whole pages
-pub route_is : (size align : ℕ) → IsRouteOf size align (route_of size align)
-route_is size align = answered size align (first_class class_sizes 0 (max size 1) align) refl
+pub route_is : (classes size align : ℕ) → IsRouteOf classes size align (route_of classes size align)
+route_is classes size align = answered classes size align (first_class (sizes_of classes) 0 (max size 1) align) refl
 
 -- a route to a class
-pub class_suits : (size align class : ℕ) → route_of size align ≡ Class class → IsSmallest size align class
-class_suits size align class e = subst (IsRouteOf size align) e (route_is size align)
+pub class_suits : (classes size align class : ℕ) → route_of classes size align ≡ Class class → IsSmallest classes size align class
+class_suits classes size align class e = subst (IsRouteOf classes size align) e (route_is classes size align)
+
+-- what suits a request is a class
+pub class_known : (classes size align class : ℕ) → IsSmallest classes size align class → IsClass class
+class_known classes size align class is = let room = is.suits.room in class_from_size class (omega (arith, room))
 
 -- a route to a bit-fit page
-pub bitfit_suits : (size align : ℕ) → route_of size align ≡ Bitfit → (size ≤ 2048) × NoneSuits size align
-bitfit_suits size align e = subst (IsRouteOf size align) e (route_is size align)
+pub bitfit_suits : (classes size align : ℕ) → route_of classes size align ≡ Bitfit → (size ≤ 2048) × NoneSuits classes size align
+bitfit_suits classes size align e = subst (IsRouteOf classes size align) e (route_is classes size align)
 
 -- a route to whole pages
-pub large_suits : (size align : ℕ) → route_of size align ≡ Large → (2048 < size) × NoneSuits size align
-large_suits size align e = subst (IsRouteOf size align) e (route_is size align)
+pub large_suits : (classes size align : ℕ) → route_of classes size align ≡ Large → (2048 < size) × NoneSuits classes size align
+large_suits classes size align e = subst (IsRouteOf classes size align) e (route_is classes size align)
 
 -- a slot of the class to which a request goes begins at a multiple of the alignment
-pub routed_slot_aligned : (size align class grain page : ℕ) → 4096 % align ≡ 0 → route_of size align ≡ Class class → IsSlotStart class grain → (page * 4096 + grain * 16) % align ≡ 0
-routed_slot_aligned size align class grain page whole e s =
-    let m = class_suits size align class e in
-    slot_aligned class grain page align m.known s whole m.suits.aligned
+pub routed_slot_aligned : (classes size align class grain page : ℕ) → 4096 % align ≡ 0 → route_of classes size align ≡ Class class → IsSlotStart class grain → (page * 4096 + grain * 16) % align ≡ 0
+routed_slot_aligned classes size align class grain page whole e s =
+    let m = class_suits classes size align class e in
+    slot_aligned class grain page align (class_known classes size align class m) s whole m.suits.aligned

@@ -1,11 +1,11 @@
 -- The words of deeds and of lives say what they were made from, and nothing else.
 use Rattle.std.proofs.Common.{◌≡◌, ◌≢◌, ℕ, ◌-◌, ◌*◌, ◌/◌, ◌%◌, ◌^◌, ◌<◌, ◌≤◌, Bool, true, false, ltb, eqb, if◌then◌else◌, Option, None, Some, refl, ap, sym, ◌∙◌, subst, arith}
-use Rattle.std.proofs.lemmas.Bool.{ltb-true, ltb-false, lt-ltb, le-ltb, eqb-true, le-leb, lt-leb}
-use Rattle.std.proofs.lemmas.Nat.{mul-add-lt, same_from_place}
-use Rattle.pas_profile.specs.Directories.{IsKind, kind_number, IsDirectory, number_of, deed_word_of, kind_of, with_kind, directory_read}
+use Rattle.std.proofs.lemmas.Bool.{ltb-true, ltb-false, lt-ltb, le-ltb, eqb-true, le-leb}
+use Rattle.std.proofs.lemmas.Nat.{mul-add-lt}
+use Rattle.pas_profile.specs.Directories.{IsKind, kind_number, IsDirectory, number_of, deed_word_of, kind_of, with_kind, directory_read, deed_word_numbered}
 use Rattle.pas_profile.specs.Profiles.{IsValid, IsDirectoryOf}
 use Rattle.pas_profile.specs.declared.profile.Profile.{Profile}
-use Rattle.pas_profile.specs.Lives.{life_word_of, live_word, turn_of, grains_of, is_live}
+use Rattle.pas_profile.specs.Lives.{live_word, turn_of, grains_of, is_live}
 use Rattle.pas_profile.specs.declared.directory.Directory.{Directory}
 use Rattle.pas_profile.specs.declared.directory.Kind.{Kind}
 use Rattle.pas_profile.specs.declared.directory.Kind.TheVariants.{Class, Bitfit, Shared, Large}
@@ -18,8 +18,8 @@ kind_number_lt Bitfit h = omega arith
 kind_number_lt Shared h = omega arith
 kind_number_lt Large h = omega arith
 
-pub kind_of-kind_number : (k : Kind) → IsKind k → kind_of (kind_number k) ≡ Some k
-kind_of-kind_number (Class c) h = ap (λ b. if b then Some (Class c) else (if eqb c 20 then Some Bitfit else (if eqb c 21 then Some Shared else (if eqb c 22 then Some Large else None)))) (lt-ltb c 16 h)
+kind_of-kind_number : (k : Kind) → IsKind k → kind_of (kind_number k) ≡ Some k
+kind_of-kind_number (Class c) h = ap (λ b. if b then Some (Class c) else (if eqb c 20 then Some Bitfit else (if eqb c 21 then Some Shared else (if eqb c 22 then Some Large else None)))) (lt-ltb c 20 h)
 kind_of-kind_number Bitfit h = refl
 kind_of-kind_number Shared h = refl
 kind_of-kind_number Large h = refl
@@ -27,7 +27,7 @@ kind_of-kind_number Large h = refl
 abbrev Names : ℕ → Kind → Type 0
 Names n k = IsKind k × (kind_number k ≡ n)
 
-named : (small bitfit shared large : Bool) (n : ℕ) (k : Kind) → (small ≡ true → n < 16) → (bitfit ≡ true → n ≡ 20) → (shared ≡ true → n ≡ 21) → (large ≡ true → n ≡ 22) →
+named : (small bitfit shared large : Bool) (n : ℕ) (k : Kind) → (small ≡ true → n < 20) → (bitfit ≡ true → n ≡ 20) → (shared ≡ true → n ≡ 21) → (large ≡ true → n ≡ 22) →
     (if small then Some (Class n) else (if bitfit then Some Bitfit else (if shared then Some Shared else (if large then Some Large else None)))) ≡ Some k → Names n k
 named true b c d n k p q r s e = let same : Class n ≡ k = cc in subst (Names n) same (p refl, refl)
 named false true c d n k p q r s e = let same : Bitfit ≡ k = cc in subst (Names n) same (tt, sym (q refl))
@@ -35,10 +35,10 @@ named false false true d n k p q r s e = let same : Shared ≡ k = cc in subst (
 named false false false true n k p q r s e = let same : Large ≡ k = cc in subst (Names n) same (tt, sym (s refl))
 named false false false false n k p q r s e = absurd (cc)
 
-pub kind_named : (n : ℕ) (k : Kind) → kind_of n ≡ Some k → Names n k
-kind_named n k e = named (ltb n 16) (eqb n 20) (eqb n 21) (eqb n 22) n k (ltb-true n 16) (eqb-true n 20) (eqb-true n 21) (eqb-true n 22) e
+kind_named : (n : ℕ) (k : Kind) → kind_of n ≡ Some k → Names n k
+kind_named n k e = named (ltb n 20) (eqb n 20) (eqb n 21) (eqb n 22) n k (ltb-true n 20) (eqb-true n 20) (eqb-true n 21) (eqb-true n 22) e
 
-pub same_kind : (a b : Kind) → IsKind a → IsKind b → kind_number a ≡ kind_number b → a ≡ b
+same_kind : (a b : Kind) → IsKind a → IsKind b → kind_number a ≡ kind_number b → a ≡ b
 same_kind a b ha hb e =
     let both : Some a ≡ Some b = sym (kind_of-kind_number a ha) ∙ ap kind_of e ∙ kind_of-kind_number b hb in cc
 
@@ -57,16 +57,12 @@ directory_from_profile f d v h =
     let low : d.heap < f.heaps = h.heap in
     record { heap = omega (arith, most, low); kind = h.kind }
 
-same_parts : (a b : Directory) → a.heap ≡ b.heap → a.kind ≡ b.kind → a ≡ b
-same_parts a b h k =
-    let first : a ≡ record { heap = b.heap; kind = a.kind } = ap (λ (n : ℕ). record { heap = n; kind = a.kind }) h in
-    let second : record { heap = b.heap; kind = a.kind } ≡ b = ap (λ (n : Kind). record { heap = b.heap; kind = n }) k in
-    first ∙ second
+-- a directory's number tells its deed word
+pub numbered : (d : Directory) → IsKind d.kind → deed_word_numbered (number_of d) ≡ deed_word_of d
+numbered d kind = let small = kind_number_lt d.kind kind in omega (arith, small)
 
-pub same_from_number : (a b : Directory) → IsDirectory a → IsDirectory b → number_of a ≡ number_of b → a ≡ b
-same_from_number a b ha hb e =
-    let s = same_from_place a.heap (kind_number a.kind) b.heap (kind_number b.kind) 23 (kind_number_lt a.kind ha.kind) (kind_number_lt b.kind hb.kind) e in
-    same_parts a b s.0 (same_kind a.kind b.kind ha.kind hb.kind s.1)
+pub same_parts : (a b : Directory) → a.heap ≡ b.heap → a.kind ≡ b.kind → a ≡ b
+same_parts a b h k = ap (λ (n : ℕ). record { heap = n; kind = a.kind }) h ∙ ap (λ (n : Kind). record { heap = b.heap; kind = n }) k
 
 -- A deed word is not 0 and fits its word.
 
@@ -129,11 +125,12 @@ pub read_none : (w : ℕ) → ((d : Directory) → IsDirectory d → w ≢ deed_
 read_none w h = not_read w (directory_read w) refl h
 
 -- distinct directories have distinct deed words
-pub same_from_deed_word : (a b : Directory) → IsDirectory a → IsDirectory b → deed_word_of a ≡ deed_word_of b → a ≡ b
+pub same_from_deed_word : (a b : Directory) → IsKind a.kind → IsKind b.kind → deed_word_of a ≡ deed_word_of b → a ≡ b
 same_from_deed_word a b ha hb e =
-    let both : Some a ≡ Some b = sym (read-deed_word_of a ha) ∙ ap directory_read e ∙ read-deed_word_of b hb in cc
+    let x = kind_number_lt a.kind ha in let y = kind_number_lt b.kind hb in
+    same_parts a b (omega (arith, x, y, e)) (same_kind a.kind b.kind ha hb (omega (arith, x, y, e)))
 
--- A live block's word is read as its turn and its grains, and a turn alone as a turn with no live block.
+-- A live block's word is read as its turn and its grains.
 
 pub turn_of-live_word : (turn grains : ℕ) → turn < 2 ^ 40 → turn_of (live_word turn grains) ≡ turn
 turn_of-live_word turn grains h = omega (arith, h)
@@ -143,15 +140,3 @@ grains_of-live_word turn grains h k = omega (arith, h, k)
 
 pub is_live-live_word : (turn grains : ℕ) → is_live (live_word turn grains) ≡ true
 is_live-live_word turn grains = le-leb (2 ^ 63) _ (omega arith)
-
-pub turn_of-turn : (turn : ℕ) → turn < 2 ^ 40 → turn_of turn ≡ turn
-turn_of-turn turn h = omega (arith, h)
-
-pub grains_of-turn : (turn : ℕ) → turn < 2 ^ 40 → grains_of turn ≡ 0
-grains_of-turn turn h = omega (arith, h)
-
-pub is_live-turn : (turn : ℕ) → turn < 2 ^ 40 → is_live turn ≡ false
-is_live-turn turn h = lt-leb (2 ^ 63) turn (omega (arith, h))
-
-pub life_word_of-ended : (turn : ℕ) → life_word_of turn 0 false ≡ turn
-life_word_of-ended turn = omega arith

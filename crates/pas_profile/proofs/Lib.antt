@@ -1,8 +1,10 @@
 pub mod Tables
+pub mod Sizes
 pub mod Searches
 pub mod Places
 pub mod Codecs
 pub mod ClassFacts
-pub mod Requests
+mod Requests
 pub mod Runs
 pub mod Counts
+pub mod Lists

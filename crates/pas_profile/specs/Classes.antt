@@ -1,5 +1,5 @@
 -- Classes of small blocks, their slots, and grains. Numbers of grains, where masks are only how the code holds them.
-use Rattle.std.specs.Prelude.{ℕ, ◌+◌, ◌*◌, ◌/◌, ◌%◌, ◌<◌, ◌≤◌, ◌≡◌, ◌==◌, nat_lt, Bool, List, [], ◌∷◌, slice_index}
+use Rattle.std.specs.Prelude.{ℕ, ◌+◌, ◌*◌, ◌/◌, ◌%◌, ◌<◌, ◌≤◌, ◌≡◌, ◌==◌, nat_lt, Bool, ◌||◌, IsTrue, List, [], ◌∷◌, take, slice_index}
 use Rattle.std.specs.Int.{bit_at}
 
 -- bit b of the number is set
@@ -8,10 +8,18 @@ has_bit n b = bit_at n b == 1
 
 -- the sizes of the classes, in bytes
 abbrev pub class_sizes : List ℕ
-class_sizes = 16 ∷ 32 ∷ 48 ∷ 64 ∷ 80 ∷ 96 ∷ 112 ∷ 128 ∷ 160 ∷ 192 ∷ 224 ∷ 256 ∷ 320 ∷ 384 ∷ 448 ∷ 512 ∷ []
+class_sizes = 16 ∷ 32 ∷ 48 ∷ 64 ∷ 80 ∷ 96 ∷ 112 ∷ 128 ∷ 160 ∷ 192 ∷ 224 ∷ 256 ∷ 320 ∷ 384 ∷ 448 ∷ 512 ∷ 640 ∷ 768 ∷ 896 ∷ 1024 ∷ []
 
 abbrev pub IsClass : ℕ → Type 0
-IsClass class = class < 16
+IsClass class = class < 20
+
+-- a region has the first sixteen classes, or all twenty
+abbrev pub IsClassCount : ℕ → Type 0
+IsClassCount classes = IsTrue ((classes == 16) || (classes == 20))
+
+-- the sizes of the classes of a region that has so many
+abbrev pub sizes_of : ℕ → List ℕ
+sizes_of classes = take classes class_sizes
 
 -- bytes of a block of the class
 abbrev pub class_size : ℕ → ℕ

@@ -1,15 +1,23 @@
 -- Directories, their numbers, and the deed words that record them.
 use Rattle.std.specs.Prelude.{ℕ, ◌+◌, ◌-◌, ◌*◌, ◌/◌, ◌%◌, ◌<◌, ◌==◌, nat_lt, if◌then◌else◌, Option, None, Some}
+use Rattle.pas_profile.specs.Classes.{IsClass}
 use Rattle.pas_profile.specs.declared.directory.Directory.{Directory}
 use Rattle.pas_profile.specs.declared.directory.Kind.{Kind}
 use Rattle.pas_profile.specs.declared.directory.Kind.TheVariants.{Class, Bitfit, Shared, Large}
 
 -- a class number names a class
 abbrev pub IsKind : Kind → Type 0
-IsKind (Class class) = class < 16
+IsKind (Class class) = IsClass class
 IsKind Bitfit = Unit {0}
 IsKind Shared = Unit {0}
 IsKind Large = Unit {0}
+
+-- a class number names one of the first so many classes
+abbrev pub IsKindAmong : ℕ → Kind → Type 0
+IsKindAmong classes (Class class) = class < classes
+IsKindAmong classes Bitfit = Unit {0}
+IsKindAmong classes Shared = Unit {0}
+IsKindAmong classes Large = Unit {0}
 
 abbrev pub kind_number : Kind → ℕ
 kind_number (Class class) = class
@@ -33,9 +41,9 @@ deed_word_of d = 65536 + d.heap * 256 + kind_number d.kind
 abbrev pub deed_word_numbered : ℕ → ℕ
 deed_word_numbered n = 65536 + n / 23 * 256 + n % 23
 
--- the kind of this number: 0 to 15 are the classes, 16 to 19 and those from 23 on are none
+-- the kind of this number: 0 to 19 are the classes, and those from 23 on are none
 abbrev pub kind_of : ℕ → Option Kind
-kind_of n = if nat_lt n 16 then Some (Class n) else (if n == 20 then Some Bitfit else (if n == 21 then Some Shared else (if n == 22 then Some Large else None)))
+kind_of n = if nat_lt n 20 then Some (Class n) else (if n == 20 then Some Bitfit else (if n == 21 then Some Shared else (if n == 22 then Some Large else None)))
 
 abbrev pub with_kind : ℕ → Option Kind → Option Directory
 with_kind heap None = None

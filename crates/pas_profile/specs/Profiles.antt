@@ -1,14 +1,19 @@
 -- The profile's limits, and which requests, pages, directories and words are of a profile.
-use Rattle.std.specs.Prelude.{ℕ, ◌+◌, ◌*◌, ◌/◌, ◌<◌, ◌≤◌}
+use Rattle.std.specs.Prelude.{ℕ, ◌+◌, ◌*◌, ◌/◌, ◌<◌, ◌≤◌, ◌==◌, nat_le, ◌&&◌, ◌||◌, IsTrue}
 use Rattle.pas_profile.specs.declared.profile.Profile.{Profile}
 use Rattle.pas_profile.specs.declared.directory.Directory.{Directory}
 use Rattle.pas_profile.specs.declared.word.Word.{Word}
 use Rattle.pas_profile.specs.Classes.{IsAlignment}
-use Rattle.pas_profile.specs.Directories.{IsKind}
+use Rattle.pas_profile.specs.Directories.{IsKind, IsKindAmong}
+
+-- a region of so many pages may have so many classes: twenty, or sixteen where it has at most 4,096 pages
+abbrev pub AreClassesFor : ℕ → ℕ → Type 0
+AreClassesFor pages classes = IsTrue ((classes == 20) || ((classes == 16) && nat_le pages 4096))
 
 pub record IsValid (f : Profile) : Type 0 where
   pub some_page : 1 ≤ f.pages
-  pub pages : f.pages ≤ 4096
+  pub pages : f.pages ≤ 16384
+  pub classes : AreClassesFor f.pages f.classes
   pub some_thread : 1 ≤ f.threads
   pub threads : f.threads ≤ 16
   pub some_age : 1 ≤ f.age
@@ -25,10 +30,11 @@ pub record IsAdmitted (f : Profile) (size align heap : ℕ) : Type 0 where
 abbrev pub IsPage : Profile → ℕ → Type 0
 IsPage f page = (1 ≤ page) × (page ≤ f.pages)
 
--- the directory is of the profile
+-- the directory is of the profile: of one of its heaps, and where it is of a class, of one of its classes
 pub record IsDirectoryOf (f : Profile) (d : Directory) : Type 0 where
   pub heap : d.heap < f.heaps
   pub kind : IsKind d.kind
+  pub class : IsKindAmong f.classes d.kind
 
 -- words of a page vector: one bit a page, from bit 0, which is of no page, on
 abbrev pub vector_words : ℕ → ℕ

@@ -1,11 +1,19 @@
 -- The directory of a request: of which kind the pages are that serve it.
 use Rattle.std.specs.Prelude.{ℕ, Bool, true, false}
 use Rattle.pas_profile.specs.Classes.{has_bit}
-use Rattle.pas_profile.specs.Routes.{route_of}
+use Rattle.pas_profile.specs.Routes.{route_of, room_of}
 use Rattle.pas_profile.specs.declared.directory.Directory.{Directory}
 use Rattle.pas_profile.specs.declared.directory.Kind.{Kind}
 use Rattle.pas_profile.specs.declared.directory.Route.{Route}
 use Rattle.pas_profile.specs.declared.profile.Profile.{Profile}
+
+-- the route of a request in a region of the profile
+abbrev pub route_in : Profile → ℕ → ℕ → Route
+route_in f size align = route_of f.classes size align
+
+-- the room of the block that it gets there
+abbrev pub room_in : Profile → ℕ → ℕ → ℕ
+room_in f size align = room_of f.classes size align
 
 -- the heap is declared as shared
 abbrev pub is_shared : Profile → ℕ → Bool
@@ -28,4 +36,4 @@ class_home f heap class = record { heap = heap; kind = kind_of_class (is_shared 
 
 -- THE DIRECTORY of a request: its heap, with the kind that its size and alignment get there
 abbrev pub directory_for : Profile → ℕ → ℕ → ℕ → Directory
-directory_for f heap size align = record { heap = heap; kind = kind_of_route (is_shared f heap) (route_of size align) }
+directory_for f heap size align = record { heap = heap; kind = kind_of_route (is_shared f heap) (route_in f size align) }

@@ -1,6 +1,6 @@
 -- How a request is served.
 use Rattle.std.specs.Prelude.{ℕ, ◌+◌, ◌-◌, ◌*◌, ◌/◌, ◌%◌, ◌<◌, ◌≤◌, ◌≡◌, ◌==◌, nat_le, max, ◌&&◌, if◌then◌else◌, List, [], ◌∷◌, Option, None, Some}
-use Rattle.pas_profile.specs.Classes.{IsClass, class_size, class_sizes}
+use Rattle.pas_profile.specs.Classes.{class_size, sizes_of}
 use Rattle.pas_profile.specs.declared.directory.Route.{Route}
 use Rattle.pas_profile.specs.declared.directory.Route.TheVariants.{Class, Bitfit, Large}
 
@@ -16,10 +16,10 @@ abbrev pub route_with : Option ℕ → ℕ → Route
 route_with None size = route_without_class size
 route_with (Some class) size = Class class
 
--- The smallest class that is at least the size and a multiple of the alignment; where there is none, a bit-fit page for a size of
--- at most 2,048 bytes, else whole pages. Size 0 counts as 1.
-abbrev pub route_of : ℕ → ℕ → Route
-route_of size align = route_with (first_class class_sizes 0 (max size 1) align) (max size 1)
+-- In a region of so many classes: the smallest class that is at least the size and a multiple of the alignment; where there is none, a
+-- bit-fit page for a size of at most 2,048 bytes, else whole pages. Size 0 counts as 1.
+abbrev pub route_of : ℕ → ℕ → ℕ → Route
+route_of classes size align = route_with (first_class (sizes_of classes) 0 (max size 1) align) (max size 1)
 
 -- the least multiple of the step that is at least the size
 abbrev pub rounded_up : ℕ → ℕ → ℕ
@@ -31,29 +31,29 @@ room_by (Class class) size = class_size class
 room_by Bitfit size = rounded_up 16 size
 room_by Large size = rounded_up 4096 size
 
--- the room of the block that a request gets
-abbrev pub room_of : ℕ → ℕ → ℕ
-room_of size align = room_by (route_of size align) (max size 1)
+-- the room of the block that a request gets in a region of so many classes
+abbrev pub room_of : ℕ → ℕ → ℕ → ℕ
+room_of classes size align = room_by (route_of classes size align) (max size 1)
 
 -- blocks of the class are large enough for the request and stand at multiples of the alignment
 pub record Suits (size align class : ℕ) : Type 0 where
   pub room : max size 1 ≤ class_size class
   pub aligned : class_size class % align ≡ 0
 
--- The class is the smallest one that suits.
-pub record IsSmallest (size align class : ℕ) : Type 0 where
-  pub known : IsClass class
+-- The class is the smallest one of so many that suits.
+pub record IsSmallest (classes size align class : ℕ) : Type 0 where
+  pub known : class < classes
   pub suits : Suits size align class
   pub smallest : (smaller : ℕ) → smaller < class → ¬ Suits size align smaller
 
-abbrev pub NoneSuits : ℕ → ℕ → Type 0
-NoneSuits size align = (class : ℕ) → IsClass class → ¬ Suits size align class
+abbrev pub NoneSuits : ℕ → ℕ → ℕ → Type 0
+NoneSuits classes size align = (class : ℕ) → class < classes → ¬ Suits size align class
 
--- The route that a request should have, with no word of how it is searched for.
-abbrev pub IsRouteOf : ℕ → ℕ → Route → Type 0
-IsRouteOf size align (Class class) = IsSmallest size align class
-IsRouteOf size align Bitfit = (size ≤ 2048) × NoneSuits size align
-IsRouteOf size align Large = (2048 < size) × NoneSuits size align
+-- The route that a request should have in a region of so many classes, with no word of how it is searched for.
+abbrev pub IsRouteOf : ℕ → ℕ → ℕ → Route → Type 0
+IsRouteOf classes size align (Class class) = IsSmallest classes size align class
+IsRouteOf classes size align Bitfit = (size ≤ 2048) × NoneSuits classes size align
+IsRouteOf classes size align Large = (2048 < size) × NoneSuits classes size align
 
 -- the room is large enough for the size, and of whole grains
 pub record IsRoomFor (size room : ℕ) : Type 0 where

@@ -4,9 +4,9 @@ ghost use Rattle.pas_profile.specs.Classes.{IsClass, class_size as size_of_class
 
 use crate::limits::{GRAIN_BYTES, PAGE_BYTES, PAGE_GRAINS};
 
-/// The size of each class, in bytes.
-pub const CLASS_SIZES: [u32; 16] = [
-    16, 32, 48, 64, 80, 96, 112, 128, 160, 192, 224, 256, 320, 384, 448, 512,
+/// The size of each class, in bytes. A region has the first sixteen, or all.
+pub const CLASS_SIZES: [u32; 20] = [
+    16, 32, 48, 64, 80, 96, 112, 128, 160, 192, 224, 256, 320, 384, 448, 512, 640, 768, 896, 1024,
 ];
 
 /// Bytes of a block of the class.

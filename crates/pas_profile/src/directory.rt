@@ -2,6 +2,8 @@
 ghost use Rattle.std.specs.Prelude.{◌≡◌, ◌<◌, ◌^◌};
 ghost use Rattle.pas_profile.specs.Directories.{IsDirectory, deed_word_of, directory_read};
 
+use crate::limits::MOST_CLASSES;
+
 /// What a page serves: blocks of one class, bit-fit blocks of mixed sizes, partial views of several classes, or whole pages.
 #[derive(Clone, Copy, PartialEq, Eq, Drop)]
 pub enum Kind {
@@ -73,7 +75,7 @@ pub fn read_deed(word: u64) -> Option<Directory>
         20 => Kind::Bitfit,
         21 => Kind::Shared,
         22 => Kind::Large,
-        class if class < 16 => Kind::Class(class),
+        class if class < MOST_CLASSES => Kind::Class(class),
         _ => return None,
     };
     Some(Directory { heap, kind })

@@ -59,17 +59,17 @@ pub fn turns_are_read(turn: u64)
     ensures ended { is_live turn ≡ false }
 {}
 
-/// The route is the smallest class that is large enough and a multiple of the alignment. Where there is none it is a bit-fit
-/// page up to 2,048 bytes, and whole pages above.
-pub fn routes_are_smallest(size: u32, align: u32)
+/// The route is the smallest class of the region that is large enough and a multiple of the alignment. Where there is none it is a
+/// bit-fit page up to 2,048 bytes, and whole pages above.
+pub fn routes_are_smallest(classes: u8, size: u32, align: u32)
     requires { IsAlignment align }
-    ensures { IsRouteOf size align (route_of size align) }
+    ensures { IsRouteOf classes size align (route_of classes size align) }
 {}
 
 /// The room of a request is large enough for it, and of whole grains.
-pub fn rooms_are_large_enough(size: u32, align: u32)
+pub fn rooms_are_large_enough(classes: u8, size: u32, align: u32)
     requires { IsAlignment align }
-    ensures { IsRoomFor size (room_of size align) }
+    ensures { IsRoomFor size (room_of classes size align) }
 {}
 
 /// The directory of an admitted request is one of the profile.

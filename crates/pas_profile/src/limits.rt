@@ -9,8 +9,17 @@ pub const GRAIN_BYTES: u32 = 16;
 /// Grains of a page.
 pub const PAGE_GRAINS: u32 = 256;
 
-/// The most pages that a region has.
-pub const MOST_PAGES: u32 = 4096;
+/// The classes of a region that has the fewer ones: the first so many.
+pub const FEW_CLASSES: u8 = 16;
+
+/// The most classes of a region: all that there are.
+pub const MOST_CLASSES: u8 = 20;
+
+/// The most pages of a region with `FEW_CLASSES`.
+pub const FEW_PAGES: u32 = 4096;
+
+/// The most pages of a region, which has `MOST_CLASSES` then.
+pub const MOST_PAGES: u32 = 16_384;
 
 /// The most threads.
 pub const MOST_THREADS: u8 = 16;

@@ -1,8 +1,14 @@
 //! The profile of a region.
 
-use crate::limits::{GRAIN_BYTES, MOST_AGE, MOST_HEAPS, MOST_PAGES, MOST_THREADS, PAGE_BYTES};
+use crate::directory::Route;
+use crate::limits::{
+    FEW_CLASSES, FEW_PAGES, GRAIN_BYTES, MOST_AGE, MOST_CLASSES, MOST_HEAPS, MOST_PAGES,
+    MOST_THREADS, PAGE_BYTES,
+};
+use crate::routing;
 
-/// The numbers that a region is made from. Bit h of `shared` marks heap h as served by shared pages.
+/// The numbers that a region is made from. Bit h of `shared` marks heap h as served by shared pages. Of the classes the region has the
+/// first so many: sixteen, or all twenty.
 #[derive(Clone, Copy, PartialEq, Eq, Drop)]
 pub struct Profile {
     pub pages: u32,
@@ -10,17 +16,29 @@ pub struct Profile {
     pub age: u64,
     pub heaps: u8,
     pub shared: u32,
+    pub classes: u8,
 }
 
 impl Profile {
-    ghost use Rattle.std.specs.Prelude.{◌↔◌, IsTrue};
-    ghost use Rattle.pas_profile.specs.Profiles.{IsValid, IsAdmitted};
+    ghost use Rattle.std.specs.Prelude.{◌↔◌, ◌≡◌, ◌*◌, ◌≤◌, IsTrue};
+    ghost use Rattle.pas_profile.specs.Classes.{IsAlignment};
+    ghost use Rattle.pas_profile.specs.Profiles.{IsValid, IsAdmitted, AreClassesFor};
+    ghost use Rattle.pas_profile.specs.Requests.{route_in, room_in};
 
-    /// Whether the numbers are within the limits: 1 to 4,096 pages, 1 to 16 threads, an age from 1 to 1,000,000, and 1 to 32 heaps.
+    /// Whether the region has twenty classes, or sixteen and at most 4,096 pages.
+    fn has_classes(&self) -> bool
+        ensures { IsTrue result ↔ AreClassesFor self.now.pages self.now.classes }
+    {
+        self.classes == MOST_CLASSES || self.classes == FEW_CLASSES && self.pages <= FEW_PAGES
+    }
+
+    /// Whether the numbers are within the limits: 1 to 4,096 pages with sixteen classes, or 1 to 16,384 pages with twenty, 1 to 16 threads, an
+    /// age from 1 to 1,000,000, and 1 to 32 heaps.
     pub fn is_valid(&self) -> bool
         ensures { IsTrue result ↔ IsValid self.now }
     {
         (1..=MOST_PAGES).contains(&self.pages)
+            && self.has_classes()
             && (1..=MOST_THREADS).contains(&self.threads)
             && (1..=MOST_AGE).contains(&self.age)
             && (1..=MOST_HEAPS).contains(&self.heaps)
@@ -36,5 +54,24 @@ impl Profile {
             && align >= GRAIN_BYTES
             && PAGE_BYTES % align == 0
             && heap < self.heaps
+    }
+
+    /// The route of a request of the region, by its classes. At most 20 steps.
+    pub fn route(&self, size: u32, align: u32) -> Route
+        requires valid { IsValid self.now }
+        requires align { IsAlignment align }
+        ensures { result ≡ route_in self.now size align }
+    {
+        routing::route(self.classes, size, align)
+    }
+
+    /// The room of the block for such a request.
+    pub fn room_for(&self, size: u32, align: u32) -> u32
+        requires valid { IsValid self.now }
+        requires size { size ≤ self.now.pages * 4096 }
+        requires align { IsAlignment align }
+        ensures { result ≡ room_in self.now size align }
+    {
+        routing::room_for(self.classes, size, align)
     }
 }

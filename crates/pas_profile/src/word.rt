@@ -46,7 +46,7 @@ fn first_word(page: u32) -> usize
 pub struct Layout {
     pub pages: u32,
     pub heaps: u8,
-    ghost page_limit: { pages ≤ 4096 },
+    ghost page_limit: { pages ≤ 16384 },
     ghost heap_limit: { heaps ≤ 32 },
 }
 

@@ -2,7 +2,6 @@
 use Rattle.std.proofs.Common.{◌≡◌, ◌≢◌, ℕ, ◌+◌, ◌-◌, ◌/◌, ◌%◌, ◌<◌, ◌≤◌, ◌==◌, ◌&&◌, ◌++◌, true, false, if◌then◌else◌, [], length, Option, None, Result, Ok, Err, refl, ap, sym, ◌∙◌, subst, arith, true≢false, max}
 use Rattle.std.specs.Prelude.{nat_le}
 use Rattle.std.proofs.lemmas.Bool.{and_parts, and_from, leb-true, le-leb, eqb-true, eq-eqb}
-use Rattle.pas_profile.specs.Routes.{route_of}
 use Rattle.pas_profile.specs.Runs.{address_of}
 use Rattle.pas_profile.specs.declared.directory.Route.{Route}
 use Rattle.pas_profile.specs.declared.event.FreeFault.{FreeFault}
@@ -11,7 +10,8 @@ use Rattle.pas_profile.specs.declared.event.NoRoom.{NoRoom}
 use Rattle.pas_profile.specs.declared.name.Block.{Block}
 use Rattle.pas_profile.specs.declared.name.Name.{Name}
 use Rattle.pas_profile.specs.declared.profile.Profile.{Profile}
-use Rattle.pas_trace.specs.Reasons.{cost_of_route}
+use Rattle.pas_trace.specs.Reasons.{cost_of_size}
+use Rattle.pas_trace.proofs.Costs.{small_cost, large_cost}
 use Rattle.pas_steps.specs.Desks.{Seat, Standing, CanCall}
 use Rattle.pas_steps.specs.Events.{events_by}
 use Rattle.pas_steps.proofs.Called.{call_none, call_then, next_call}
@@ -24,23 +24,22 @@ use Rattle.pas_cache.specs.Names.{IsInRegion, IsFaultOf}
 use Rattle.pas_cache.specs.Serves.{Wanted, IsSmallRoute}
 use Rattle.pas_cache.specs.declared.moving.Moved.TheVariants.{Kept, New}
 use Rattle.pas_answers.specs.Calls.{Serves}
-use Rattle.pas_answers.proofs.Routes.{small_cost, is_large}
 use Rattle.pas_realloc.specs.Moves.{Suits, flush_of_full, MayMove, MayPlace, IsNamed, Moves}
 
 -- ---- the request
-pub can_allocate : {σ : Standing} (c : Cached) (size align spare : ℕ) → size ≤ 2048 → CanCall σ (λ v l. MayPlace σ.seat.profile c (cost_of_route (route_of size align) size) spare v) → CanCall σ (λ v l. MayAllocate σ.seat.profile c spare v)
-can_allocate {σ} c size align spare small can =
-    let cost = small_cost size align small in let room = can.met.room in
+pub can_allocate : {σ : Standing} (c : Cached) (size spare : ℕ) → size ≤ 2048 → CanCall σ (MayPlace σ.seat.profile c (cost_of_size size) spare) → CanCall σ (MayAllocate σ.seat.profile c spare)
+can_allocate {σ} c size spare small can =
+    let cost = small_cost size small in let room = can.met.room in
     record { view = can.view; whole = can.whole; stood = can.stood; met = record { rest = can.met.rest; room = has_room σ.seat.profile 2 spare can.view (omega (arith, cost, room)) } }
 
-pub can_allocate_pages : {σ : Standing} (c : Cached) (size align spare : ℕ) → 2048 < size → CanCall σ (λ v l. MayPlace σ.seat.profile c (cost_of_route (route_of size align) size) spare v)
-    → CanCall σ (λ v l. MayAllocatePages σ.seat.profile c ((size + 4096 - 1) / 4096) spare v)
-can_allocate_pages {σ} c size align spare large can =
-    let cost = ap (λ (r : Route). cost_of_route r size) (is_large size align large) in let room = can.met.room in
+pub can_allocate_pages : {σ : Standing} (c : Cached) (size spare : ℕ) → 2048 < size → CanCall σ (MayPlace σ.seat.profile c (cost_of_size size) spare)
+    → CanCall σ (MayAllocatePages σ.seat.profile c ((size + 4096 - 1) / 4096) spare)
+can_allocate_pages {σ} c size spare large can =
+    let cost = large_cost size large in let room = can.met.room in
     let pages : (size + 4095) / 4096 ≡ (size + 4096 - 1) / 4096 = omega arith in
     record { view = can.view; whole = can.whole; stood = can.stood; met = record { rest = can.met.rest; room = omega (arith, room, cost, pages) } }
 
-pub can_place : {σ : Standing} (c : Cached) (cost spare : ℕ) → CanCall σ (λ v l. MayMove σ.seat.profile c cost spare v) → CanCall σ (λ v l. MayPlace σ.seat.profile c cost spare v)
+pub can_place : {σ : Standing} (c : Cached) (cost spare : ℕ) → CanCall σ (MayMove σ.seat.profile c cost spare) → CanCall σ (MayPlace σ.seat.profile c cost spare)
 can_place c cost spare can = record { view = can.view; whole = can.whole; stood = can.stood; met = record { rest = can.met.rest; room = (let room = can.met.room in omega (arith, room)) } }
 
 -- ---- whether it suits
@@ -69,7 +68,7 @@ refused Answers cost wanted found old size align c c1 room unsuited named s = re
 full_log : (n : ℕ) → n ≡ 64 → nat_le 64 n ≡ true
 full_log n e = le-leb 64 n (omega (arith, e))
 
-pub room_to_free : {σ σ1 : Standing} (cost spare spare1 : ℕ) (wanted : Wanted) (found : Option ℕ) (c c1 : Cached) (block : Block) → Serves cost wanted found c c1 σ σ1 (Ok block) → CanCall σ (λ v l. MayMove σ.seat.profile c cost spare v) → Spares σ spare → Spares σ1 spare1 → length c1.log ≡ 64 → 64 ≤ spare1
+pub room_to_free : {σ σ1 : Standing} (cost spare spare1 : ℕ) (wanted : Wanted) (found : Option ℕ) (c c1 : Cached) (block : Block) → Serves cost wanted found c c1 σ σ1 (Ok block) → CanCall σ (MayMove σ.seat.profile c cost spare) → Spares σ spare → Spares σ1 spare1 → length c1.log ≡ 64 → 64 ≤ spare1
 room_to_free {σ} cost spare spare1 wanted found c c1 block s can law law1 full =
     let rest = can.met.rest in let agreed = s.calls.adds.agreed can.view can.whole can.stood rest in
     let few = s.few σ.seat.actor can.view rest agreed in
@@ -78,9 +77,9 @@ room_to_free {σ} cost spare spare1 wanted found c c1 block s can law law1 full 
     let flush : flush_of_full c.log ≡ 64 = ap (λ t. if t then 64 else 0) (full_log (length c.log) at) in
     let room = can.met.room in omega (arith, few, falls, flush, room)
 
-pub can_free : {σ σ1 : Standing} (cost spare : ℕ) (wanted : Wanted) (found : Option ℕ) (c c1 : Cached) (block : Block) → Serves cost wanted found c c1 σ σ1 (Ok block) → CanCall σ (λ v l. MayMove σ.seat.profile c cost spare v) → CanCall σ1 (λ v l. AtRest σ1.seat.profile c1 v)
+pub can_free : {σ σ1 : Standing} (cost spare : ℕ) (wanted : Wanted) (found : Option ℕ) (c c1 : Cached) (block : Block) → Serves cost wanted found c c1 σ σ1 (Ok block) → CanCall σ (MayMove σ.seat.profile c cost spare) → CanCall σ1 (AtRest σ1.seat.profile c1)
 can_free {σ} {σ1} cost spare wanted found c c1 block s can =
-    subst (λ (t : Seat). CanCall σ1 (λ v l. AtRest t.profile c1 v)) (sym s.calls.adds.seat_is) (next_call s.calls (record { view = can.view; whole = can.whole; stood = can.stood; met = can.met.rest }) (λ v met rests. rests))
+    subst (λ (t : Seat). CanCall σ1 (AtRest t.profile c1)) (sym s.calls.adds.seat_is) (next_call s.calls (record { view = can.view; whole = can.whole; stood = can.stood; met = can.met.rest }) (λ v met rests. rests))
 
 -- the old name is on a page of the region, at a multiple of 16
 pub no_fault : (f : Profile) (name : Name) (fault : FreeFault) → IsInRegion f name → IsFaultOf f name fault → ⊥

@@ -1,9 +1,9 @@
 //! A block gets another size.
 ghost use Rattle.std.specs.Prelude.{◌≡◌, ◌<◌, ◌+◌, ◌-◌, ◌/◌, ◌^◌, ◌%◌, ℕ, Option, true, max, nat_le, ◌&&◌, ◌==◌};
 ghost use Rattle.pas_profile.specs.Profiles.{IsAdmitted};
-ghost use Rattle.pas_profile.specs.Routes.{route_of};
+ghost use Rattle.pas_profile.specs.Requests.{route_in};
 ghost use Rattle.pas_profile.specs.Runs.{address_of};
-ghost use Rattle.pas_trace.specs.Reasons.{cost_of_route};
+ghost use Rattle.pas_trace.specs.Reasons.{cost_of_size};
 ghost use Rattle.pas_steps.specs.Desks.{CanCall};
 ghost use Rattle.pas_cache.specs.Caches.{cached};
 ghost use Rattle.pas_cache.specs.Names.{IsInRegion};
@@ -27,9 +27,9 @@ fn place<D: Desk, O: Door>(
     align: u32,
 ) -> Result<Block, NoRoom>
     requires admitted { IsAdmitted (D.standing desk.old).seat.profile size align heap }
-    requires can { CanCall (D.standing desk.old) (λ v l. MayPlace (D.standing desk.old).seat.profile (cached cache.old) (cost_of_route (route_of size align) size) (D.spare_of desk.old) v) }
-    ensures serves { (found : Option ℕ) × IsNamed (route_of size align) (O.answers door.old door.new heap ((size + 4096 - 1) / 4096)) found
-        × Serves (cost_of_route (route_of size align) size) (wanted_for (D.standing desk.old).seat.profile heap size align) found (cached cache.old) (cached cache.new) (D.standing desk.old) (D.standing desk.new) result }
+    requires can { CanCall (D.standing desk.old) (MayPlace (D.standing desk.old).seat.profile (cached cache.old) (cost_of_size size) (D.spare_of desk.old)) }
+    ensures serves { (found : Option ℕ) × IsNamed (route_in (D.standing desk.old).seat.profile size align) (O.answers door.old door.new heap ((size + 4096 - 1) / 4096)) found
+        × Serves (cost_of_size size) (wanted_for (D.standing desk.old).seat.profile heap size align) found (cached cache.old) (cached cache.new) (D.standing desk.old) (D.standing desk.new) result }
     ensures home { D.home desk.new ≡ D.home desk.old }
 {
     if size > MOST_BITFIT {
@@ -63,7 +63,7 @@ pub fn reallocate<D: Desk, O: Door>(
     requires admitted { IsAdmitted (D.standing desk.old).seat.profile size align old.heap }
     requires region { IsInRegion (D.standing desk.old).seat.profile old.name }
     requires turn { old.name.turn < 2 ^ 40 - 1 }
-    requires can { CanCall (D.standing desk.old) (λ v l. MayMove (D.standing desk.old).seat.profile (cached cache.old) (cost_of_route (route_of size align) size) (D.spare_of desk.old) v) }
+    requires can { CanCall (D.standing desk.old) (MayMove (D.standing desk.old).seat.profile (cached cache.old) (cost_of_size size) (D.spare_of desk.old)) }
     ensures moves { Moves (O.answers door.old door.new old.heap ((size + 4096 - 1) / 4096)) (wanted_for (D.standing desk.old).seat.profile old.heap size align) old size align (cached cache.old) (cached cache.new) (D.standing desk.old) (D.standing desk.new) result }
     ensures home { D.home desk.new ≡ D.home desk.old }
 {

@@ -123,12 +123,14 @@ fn masks_are_moved(rt: HostRuntime) {
     let made = [
         run.moved_down(60),
         run.moved_up(63),
+        run.moved_up(64),
         Mask4::run(0, 2).moved_down(1),
         Mask4::run(254, 2).moved_up(1),
     ];
     let wanted = [
         Mask4::run(2, 4),
         Mask4::run(125, 4),
+        Mask4::run(126, 4),
         Mask4::run(0, 1),
         Mask4::run(255, 1),
     ];

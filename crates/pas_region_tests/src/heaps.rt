@@ -9,6 +9,7 @@ fn a_shared_heap_and_another(rt: HostRuntime) {
         age: 2,
         heaps: 3,
         shared: 2,
+        classes: 16,
     });
     assert!(rt; table.kind_for(0, 5) == Kind::Class(5) && table.kind_for(1, 5) == Kind::Shared);
     assert!(rt; table.directory(2, Kind::Bitfit) == 66);

@@ -8,6 +8,7 @@ const PROFILE: Profile = Profile {
     age: 2,
     heaps: 2,
     shared: 0,
+    classes: 16,
 };
 
 const fn deed(page: u32, heap: u8) -> Event {

@@ -18,6 +18,7 @@ pub(crate) const PROFILE: Profile = Profile {
     age: 1,
     heaps: 1,
     shared: 0,
+    classes: 16,
 };
 
 const DIRECTORY: Directory = Directory {

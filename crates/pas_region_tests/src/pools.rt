@@ -18,6 +18,7 @@ fn utility(alloc: Global) -> Result<Utility, NoMemory>
         age: 2,
         heaps: 1,
         shared: 0,
+        classes: 16,
     };
     Utility::try_new(alloc, &profile, &[3, 5, 7])
 }

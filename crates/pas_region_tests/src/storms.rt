@@ -14,6 +14,7 @@ const PROFILE: Profile = Profile {
     age: 1,
     heaps: 1,
     shared: 0,
+    classes: 16,
 };
 
 /// The epoch that the intruder asks for.

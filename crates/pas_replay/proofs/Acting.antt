@@ -26,7 +26,8 @@ use Rattle.pas_answers.specs.Calls.{owed_events}
 use Rattle.pas_answers.specs.Fit.{cost_of_act, own_cost_of_act, own_costs_of, unbacks_of_act, unbacks_of}
 use Rattle.pas_replay.specs.Sessions.{pass_in, IsSeated, Hand, HasNames, IsAt, SeatStands, ThreadStands}
 use Rattle.pas_replay.proofs.Turns.{put_there, put_elsewhere}
-use Rattle.pas_replay.proofs.Threads.{stands_at, its_cache, other_cache, set_stands, keep_stands, set_caches, owed_kept, owed_moves}
+use Rattle.pas_replay.proofs.Threads.{stands_at, set_stands, keep_stands, set_caches, owed_kept, owed_moves}
+use Rattle.pas_answers.proofs.SingleActs.{its_cache, other_cache}
 use Rattle.pas_replay.proofs.Sittings.{Sits, sits, rises, other_stands}
 
 -- ---- before

@@ -1,6 +1,3 @@
-pub mod ActsOfPlan
-pub mod NameLimits
-pub mod PlanFacts
 pub mod Threads
 pub mod Turns
 pub mod Sittings

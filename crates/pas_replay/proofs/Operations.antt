@@ -37,7 +37,8 @@ use Rattle.pas_replay.specs.Sessions.{Slots, pass_in, risen, IsSeated, IsTaken, 
 use Rattle.pas_answers.specs.declared.names.Names.{Names}
 use Rattle.pas_replay.specs.declared.seats.Actors.{Actors}
 use Rattle.pas_replay.proofs.Turns.{risen_length}
-use Rattle.pas_replay.proofs.Threads.{stands_at, cache_at, owed_at, owed_moves, its_cache, other_cache, set_caches}
+use Rattle.pas_replay.proofs.Threads.{stands_at, cache_at, owed_at, owed_moves, set_caches}
+use Rattle.pas_answers.proofs.SingleActs.{its_cache, other_cache, if_same, known_if, records_count}
 use Rattle.pas_replay.proofs.Sittings.{Sits, may_sit, spare_is}
 use Rattle.pas_replay.proofs.Acting.{thread_sits, hand_after, progress_after, thread_acts}
 
@@ -61,10 +62,6 @@ pub record IsActOf (f : Profile) (act : Act) (k : ℕ) (what : What) (besides : 
   pub fit : (more : List Act) (limit : ℕ) (asked : List ℕ) → AreFit f limit asked (act ∷ more) → AreFit f limit (asked_after what asked) more
   pub follows : (more : List Act) (l : Whole) (rs : List Record) (a : Answer) → IsAnswered f k what (having p.names (part k p.list) (p.caches k)) a
       → Follows f more (progress_after p k a.steps a.cache a.names ((records_of (events_by k (part k p.list) a.steps) ++ said_by k a.said) ++ besides)) l rs → Follows f (act ∷ more) p l rs
-
-pub if_same : (t : Bool) (c : ℕ) → t ≡ true → (if t then c else 0) ≡ c
-if_same true c is = refl
-if_same false c is = absurd (let bad : false ≡ true = is in cc)
 
 if_other : (t : Bool) (c : ℕ) → t ≡ false → (if t then c else 0) ≡ 0
 if_other true c is = absurd (let bad : true ≡ false = is in cc)
@@ -134,10 +131,6 @@ acts_of_thread idle op what of = elim of [
 pub fit_now : {f : Profile} {all more : List Act} {op : Op} {h : Hand} {p : Progress} → IsAt f all (Operates op ∷ more) h p → (asked : List ℕ) × IsFitWhat (profile_of h.region) (names_held h.table) asked op.what
 fit_now {f} {all} {more} {op} {h} {p} at = (at.names.asked, subst (λ (g : Profile). IsFitWhat g (names_held h.table) at.names.asked op.what) (sym at.profile_is) at.names.fit.1)
 
-pub known_if : (f : Profile) (limit : ℕ) (asked : List ℕ) (names : List Named) (what : What) → IsFitWhat f limit asked what → AreKnown asked names → IsKnown names what
-known_if f limit asked names (Free name) fit known = known name fit
-known_if f limit asked names s fit known = tt
-
 pub known_now : {f : Profile} {all more : List Act} {op : Op} {h : Hand} {p : Progress} → IsAt f all (Operates op ∷ more) h p → IsKnown p.names op.what
 known_now {f} {all} {more} {op} {h} {p} at = known_if f (names_held h.table) at.names.asked p.names op.what at.names.fit.1 at.names.known
 
@@ -158,7 +151,7 @@ module _ {f : Profile} {all acts : List Act} {table : Names} {out : Records} {p 
 
 pub may_operate : {f : Profile} {all more : List Act} {act : Act} {what : What} {besides : List Record} {table : Names} {out : Records} {p : Progress} (desk : PlainDesk) (actors : Actors) (k : ℕ) → 1 ≤ k → k ≤ f.threads
     → IsActOf f act k what besides p → (at : IsAt f all (act ∷ more) (hand_at desk actors table out) p) → IsTaken desk actors.passes.items
-    → (c : Cached) × HasCache actors.caches.items k c × MayTakeTurn desk actors.passes.items k (λ own. CanCall (standing_of own) (λ v l. MayAnswer (profile_of (region_of desk)) c what (spare_at own) out v))
+    → (c : Cached) × HasCache actors.caches.items k c × MayTakeTurn desk actors.passes.items k (λ own. CanCall (standing_of own) (MayAnswer (profile_of (region_of desk)) c what (spare_at own) out))
 may_operate {f} {all} {more} {act} {what} {besides} {table} {out} {p} desk actors k some most of at taken =
     let c = p.caches k in (
       c,
@@ -188,9 +181,6 @@ may_operate {f} {all} {more} {act} {what} {besides} {table} {out} {p} desk actor
 -- the seat of a thread's desk
 at_seat : {f : Profile} {k : ℕ} {Rest : View → Type 0} {desk : PlainDesk} {l : Whole} {need : ℕ} → Sits f k Rest desk l need → (P : ℕ → Profile → Type 0) → P (actor_of (pass_of desk)) (profile_of (region_of desk)) → P k f
 at_seat {f} {k} {Rest} {desk} s P p = subst (λ (g : Profile). P k g) s.profile (subst (λ (m : ℕ). P m (profile_of (region_of desk))) s.actor p)
-
-pub records_count : (es : List Event) → length (records_of es) ≡ length es
-records_count es = length-map (reverse es) Record.Event ∙ length-reverse es
 
 module _ {f : Profile} {all more : List Act} {act : Act} {what : What} {besides : List Record} {h : Hand} {p : Progress} (k : ℕ) (own desk' : PlainDesk) (cache : ThreadCache) (table' : Names) (out1 : Records)
     (some : 1 ≤ k) (most : k ≤ f.threads) (of : IsActOf f act k what besides p) (at : IsAt f all (act ∷ more) h p) (known : IsKnown p.names what) (seated : IsSeated h.region (pass_in h.passes k) own)
@@ -305,7 +295,7 @@ empty_next caches caches' i cache is lt before this j d less = elim (cases_eq i 
 
 -- ---- a thread reads the epoch
 pub may_wake : {f : Profile} {all more : List Act} {table : Names} {out : Records} {p : Progress} (desk : PlainDesk) (actors : Actors) (k : ℕ) → 1 ≤ k → k ≤ f.threads → (at : IsAt f all (Wakes k ∷ more) (hand_at desk actors table out) p) → IsTaken desk actors.passes.items
-    → (c : Cached) × HasCache actors.caches.items k c × MayTakeTurn desk actors.passes.items k (λ own. CanCall (standing_of own) (λ v l. AtRest (profile_of (region_of desk)) c v))
+    → (c : Cached) × HasCache actors.caches.items k c × MayTakeTurn desk actors.passes.items k (λ own. CanCall (standing_of own) (AtRest (profile_of (region_of desk)) c))
 may_wake {f} {p = p} desk actors k some most at taken = (
   p.caches k,
   has_cache desk actors at taken k some most,

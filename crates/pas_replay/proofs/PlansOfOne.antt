@@ -14,8 +14,8 @@ use Rattle.pas_trace.proofs.EveryPlan.{every_plan}
 use Rattle.pas_answers.specs.Acts.{Act, Operates, Settles, Ticks, MakesPass, ReadsEpoch, StopsIdle, MarksPhase, Wakes, MarksClose, Ends, active_threads, idle_threads, acts_of_what, acts_of_op, acts_of_ops, phase_acts, acts_from, acts_of}
 use Rattle.pas_answers.specs.Replays.{phases_of}
 use Rattle.pas_replay.specs.OneThread.{IsOfOneThread}
-use Rattle.pas_replay.proofs.ActsOfPlan.{ArePlanned}
-use Rattle.pas_replay.proofs.PlanFacts.{plan_planned}
+use Rattle.pas_plans.proofs.ActsOfPlan.{ArePlanned}
+use Rattle.pas_plans.proofs.PlanFacts.{plan_planned}
 
 -- ---- elements of two lists
 pub all_both : {A : Type 0} (P : A → Type 0) (xs ys : List A) → AllByRecursion P xs → AllByRecursion P ys → AllByRecursion P (xs ++ ys)

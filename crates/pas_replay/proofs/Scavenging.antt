@@ -40,11 +40,12 @@ use Rattle.pas_replay.proofs.Turns.{has_at}
 use Rattle.pas_replay.proofs.Sittings.{spare_is}
 use Rattle.pas_replay.proofs.Acting.{scavenger_sits, progress_scavenged, scavenger_acts, idly}
 use Rattle.pas_replay.proofs.Operations.{scavenger_may_sit, same_hand}
+use Rattle.pas_answers.proofs.SingleActs.{few_unbacks, reads}
 
 -- ---- before
 -- it may sit down, and has nothing then
 pub may_scavenge : {f : Profile} {all acts : List Act} {table : Names} {out : Records} {p : Progress} (desk : PlainDesk) (actors : Actors) → IsAt f all acts (hand_at desk actors table out) p → IsTaken desk actors.passes.items
-    → MayTakeTurn desk actors.passes.items 0 (λ own. CanCall (standing_of own) (λ v l. HasNothing v))
+    → MayTakeTurn desk actors.passes.items 0 (λ own. CanCall (standing_of own) HasNothing)
 may_scavenge {p = p} desk actors at taken = record {
   seat = scavenger_may_sit desk actors at taken;
   may = λ own seated. let s = scavenger_sits at own seated in record { view = part 0 p.list; whole = p.list; stood = s.stood; met = s.rest };
@@ -52,7 +53,7 @@ may_scavenge {p = p} desk actors at taken = record {
 
 -- .. with room for a pass
 pub may_pass : {f : Profile} {all more : List Act} {table : Names} {out : Records} {p : Progress} (desk : PlainDesk) (actors : Actors) → IsAt f all (MakesPass ∷ more) (hand_at desk actors table out) p → IsTaken desk actors.passes.items
-    → MayTakeTurn desk actors.passes.items 0 (λ own. CanCall (standing_of own) (λ v l. HasNothing v) × ((profile_of (region_of desk)).pages ≤ spare_at own))
+    → MayTakeTurn desk actors.passes.items 0 (λ own. CanCall (standing_of own) HasNothing × ((profile_of (region_of desk)).pages ≤ spare_at own))
 may_pass {f} {p = p} desk actors at taken = record {
   seat = scavenger_may_sit desk actors at taken;
   may = λ own seated.
@@ -88,22 +89,6 @@ has_ticked {f} {all} {more} {table} {out} {out'} {p} epoch desk desk' actors act
       }),
     )
 
--- ---- a pass
-one_unback : (k epoch page : ℕ) (o : Outcome) → length (unback_of k epoch page o) ≤ 1
-one_unback k epoch page Unbacked = omega arith
-one_unback k epoch page Bare = omega arith
-one_unback k epoch page (Young stamp) = omega arith
-one_unback k epoch page (InUse word value) = omega arith
-one_unback k epoch page NotOffered = omega arith
-
-pub few_unbacks : (k epoch : ℕ) (pairs : List (ℕ × Outcome)) → length (unbacks_in k epoch pairs) ≤ length pairs
-few_unbacks k epoch [] = omega arith
-few_unbacks k epoch (x ∷ pairs) =
-    let one = one_unback k epoch x.0 x.1 in
-    let rest = few_unbacks k epoch pairs in
-    let both = length-append (unback_of k epoch x.0 x.1) (unbacks_in k epoch pairs) in
-    omega (arith, one, rest, both)
-
 pub has_passed : {f : Profile} {all more : List Act} {table : Names} {out out' : Records} {p : Progress} (desk desk' : PlainDesk) (actors actors' : Actors) → IsAt f all (MakesPass ∷ more) (hand_at desk actors table out) p
     → Scavenges desk desk' actors actors' (MadePass (profile_of (region_of desk)).pages (records_in out) (records_in out')) → room_of out' ≡ room_of out → (q : Progress) × IsAt f all more (hand_at desk' actors' table out') q
 has_passed {f} {all} {more} {table} {out} {out'} {p} desk desk' actors actors' at did room =
@@ -136,10 +121,6 @@ has_passed {f} {all} {more} {table} {out} {out'} {p} desk desk' actors actors' a
 -- ---- the epoch is read for an idle operation
 reading : Kinds
 reading = LookEpoch ∷ []
-
-pub reads : {σ σ' : Standing} (epoch : ℕ) → Makes σ σ' (Look Word.Epoch) epoch → Calls σ σ' HasNothing (λ v w. HasNothing w) (epoch_look epoch)
-reads {σ} {σ'} epoch makes = call_step (λ v w. HasNothing w) (call_none {R = λ v w. HasNothing w} (λ v met. met)) makes (λ v met is. tt)
-    (λ v met is agrees. nothing_still (does_idly σ.seat.profile (LookEpoch ∷ []) refl (epoch_look epoch) v (refl, tt) (agrees, tt)) met)
 
 pub has_read : {f : Profile} {all more : List Act} {table : Names} {out : Records} {p : Progress} (epoch : ℕ) (desk desk' : PlainDesk) (actors actors' : Actors) → IsAt f all (ReadsEpoch ∷ more) (hand_at desk actors table out) p
     → Scavenges desk desk' actors actors' (λ σ σ'. Makes σ σ' (Look Word.Epoch) epoch) → (q : Progress) × IsAt f all more (hand_at desk' actors' table out) q × (q.epoch ≡ epoch)

@@ -37,19 +37,9 @@ use Rattle.pas_replay.specs.Kits.{IsFresh, IsKitOf}
 use Rattle.pas_replay.specs.Sessions.{pass_in, SeatStands, AreEmpty, Hand, hand_of, SoFar, owed_by}
 use Rattle.pas_replay.specs.declared.kit.PlainKit.{PlainKit}
 use Rattle.pas_replay.specs.declared.seats.Actors.{Actors}
-use Rattle.pas_replay.proofs.PlanFacts.{plan_fit, plan_own, plan_scavenger, plan_total}
+use Rattle.pas_plans.proofs.PlanFacts.{plan_fit, plan_own, plan_scavenger, plan_total}
 use Rattle.pas_replay.proofs.Threads.{stands_at, cache_at}
-
--- ---- the start
-unknown_all : (n : ℕ) → unknown_below n [] ≡ n
-unknown_all zero = refl
-unknown_all (suc n) = let rest = unknown_all n in omega (arith, rest)
-
-pub nothing_owed : (f : Profile) → owed_events f empty_cache [] ≡ f.pages
-nothing_owed f = let all = unknown_all f.pages in omega (arith, all)
-
-pub nothing : HasNothing []
-nothing = record { grains = λ g. refl; rights = λ page. refl; clear = record { on = λ page. record { stamped = refl; owes = record { checks = λ word lt. refl; hint = refl }; examined = refl } } }
+use Rattle.pas_plans.proofs.Nothing.{nothing_owed, nothing, no_slots}
 
 -- an actor that made no step, which rests
 starts_at : (plan : Plan) (k need : ℕ) (slot : Option PlainPass) (Rest : View → Type 0) → Rest [] → need ≤ slice_index (bounds_of plan.bounds) k → IsFresh plan k slot → SeatStands plan.profile k Rest slot [] need
@@ -99,10 +89,6 @@ start {text} {plan} {kit} {out} read made empty room =
         answers = λ l rs follows. follows;
       },
     )
-
--- ---- the end
-pub no_slots : (locals : List Slots) → locals ≡ [] → (g : ℕ) → (any_covers locals g ≡ false) × (any_keeps locals g ≡ false)
-no_slots locals is g = (ap (λ (xs : List Slots). any_covers xs g) is, ap (λ (xs : List Slots). any_keeps xs g) is)
 
 some_cache : (caches : List ThreadCache) → 1 ≤ length caches → ThreadCache
 some_cache [] bad = absurd (omega (arith, bad))

@@ -15,6 +15,7 @@ use Rattle.pas_answers.specs.Calls.{owed_events}
 use Rattle.pas_answers.specs.Fit.{own_costs_of}
 use Rattle.pas_replay.specs.Sessions.{Slots, pass_in, HasCache, ThreadStands, AllStand, AreCaches, owed_by}
 use Rattle.pas_replay.proofs.Turns.{put_there, put_elsewhere}
+use Rattle.pas_answers.proofs.SingleActs.{its_cache, other_cache}
 
 -- ---- thread k
 pub stands_at : {f : Profile} {l : Whole} (caches : Caches) (passes : Slots) (acts : List Act) (k : ℕ) → 1 ≤ k → k ≤ f.threads → AllStand f l acts caches passes → ThreadStands f k (caches k) (pass_in passes k) l (own_costs_of k acts)
@@ -25,13 +26,6 @@ stands_at caches passes acts (suc i) some most all = all i (omega (arith, most))
 pub cache_at : (caches : Caches) (list : List ThreadCache) (k : ℕ) → 1 ≤ k → k ≤ length list → AreCaches caches list → HasCache list k (caches k)
 cache_at caches list zero some most all = absurd (omega (arith, some))
 cache_at caches list (suc i) some most all = record { some = some; within = most; holds = λ d. let at : i ≡ suc i - 1 = omega arith in subst (λ (j : ℕ). caches (suc i) ≡ cached (get_or list j d)) at (all i d (omega (arith, most))) }
-
--- ---- caches of which that of thread k became another
-pub its_cache : (caches : Caches) (k : ℕ) (c : Cached) → with_cache caches k c k ≡ c
-its_cache caches k c = ap (λ (b : Bool). if b then c else caches k) (eq-eqb k k refl)
-
-pub other_cache : (caches : Caches) (k j : ℕ) (c : Cached) → j ≢ k → with_cache caches k c j ≡ caches j
-other_cache caches k j c ne = ap (λ (b : Bool). if b then c else caches j) (ne_eqb j k ne)
 
 -- all threads but this one stand as before
 abbrev pub OthersStand : Profile → Whole → Whole → List Act → List Act → Caches → ℕ → Type 0

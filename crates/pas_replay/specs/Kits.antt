@@ -14,18 +14,7 @@ use Rattle.pas_replay.specs.declared.kit.PlainKit.{PlainKit}
 use Rattle.pas_utility.specs.Outcomes.{places_of}
 use Rattle.pas_cache.specs.declared.cache.ThreadCache.{ThreadCache}
 use Rattle.pas_replay.specs.Sessions.{pass_in}
-
--- ---- the parts of a kit
--- a room for each of so many actors, from actor 0 on, of the size that was left for it, with no event
-pub record AreRooms (sizes : ℕ → Option ℕ) (count : ℕ) (rooms : List EventRoom) : Type 0 where
-  pub many : length rooms ≡ count
-  pub each : (k : ℕ) (d : EventRoom) → k < count → sizes k ≡ Some (size_of_room (slice_index_or rooms k d))
-  pub empty : All (λ room. shown room ≡ []) rooms
-
--- so many caches that nobody used
-pub record AreUnused (count : ℕ) (caches : List ThreadCache) : Type 0 where
-  pub many : length caches ≡ count
-  pub each : (i : ℕ) (d : ThreadCache) → i < count → cached (slice_index_or caches i d) ≡ empty_cache
+use Rattle.pas_plans.specs.Parts.{AreUnused}
 
 -- an actor that did nothing yet: its pass has room for its bound
 pub record IsFresh (plan : Plan) (k : ℕ) (slot : Option PlainPass) : Type 0 where

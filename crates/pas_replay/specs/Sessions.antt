@@ -151,14 +151,6 @@ AreCaches caches list = (i : ℕ) (d : ThreadCache) → i < length list → cach
 abbrev pub AreEmpty : List ThreadCache → Type 0
 AreEmpty list = (i : ℕ) (d : ThreadCache) → i < length list → (cached (slice_index_or list i d)).locals ≡ []
 
--- ---- the threads of a phase
--- of so many, those of the mask, which are awake, and the others, which are idle
-abbrev pub awake_in : Mask4 → ℕ → List ℕ
-awake_in awake threads = threads_where (is_set awake) threads
-
-abbrev pub idle_in : Mask4 → ℕ → List ℕ
-idle_in awake threads = threads_where (λ k. not (is_set awake k)) threads
-
 -- ---- the replay goes on
 -- what a replay has in hand between two acts
 pub record Hand : Type 0 where

@@ -1,28 +1,22 @@
 //! All that a replay needs, and the replay.
 
-ghost use Rattle.std.specs.Prelude.{◌≡◌, ◌≤◌, ◌<◌, ◌+◌, ◌^◌, ℕ, List, IfOk, All, true, Some, [], length, map, slice_index, slice_index_or, vec_len};
-ghost use Rattle.pas_profile.specs.Rooms.{shown, size_of_room};
-ghost use Rattle.pas_profile.specs.declared.room.EventRoom.{EventRoom as TheRoom};
+ghost use Rattle.std.specs.Prelude.{◌≡◌, ◌≤◌, ◌<◌, ◌+◌, ℕ, List, IfOk, Some, [], length, map};
 ghost use Rattle.pas_trace.specs.Plans.{IsPlanOf};
-ghost use Rattle.pas_utility.specs.Outcomes.{places_of};
-ghost use Rattle.pas_utility.specs.Pools.{threads_of, room_of as room_for, has_seat, outcomes_of};
-ghost use Rattle.pas_plain.specs.Plain.{passes_from};
 ghost use Rattle.pas_report.specs.Rooms.{records_in, room_of};
 ghost use Rattle.pas_answers.specs.Replays.{phases_of, Shows};
 ghost use Rattle.pas_answers.specs.Ways.{InOrder};
-ghost use Rattle.pas_replay.specs.Kits.{AreRooms, AreUnused, IsKitOf};
+ghost use Rattle.pas_replay.specs.Kits.{IsKitOf};
 
-use crate::limits::names_limit;
 use crate::order::replay;
 use crate::seats::Actors;
 use pas_answers::names::Names;
-use pas_cache::ThreadCache;
 use pas_plain::{PlainPass, PlainRegion, close};
-use pas_profile::{EventRoom, NoMemory};
+use pas_plans::{caches_for, names_limit, outcomes_from, rooms_of};
+use pas_profile::NoMemory;
 use pas_report::Records;
 use pas_steps::State;
 use pas_trace::Plan;
-use pas_utility::{Outcomes, Utility};
+use pas_utility::Utility;
 use std::alloc::Global;
 
 /// All that a replay needs: the region, the actors with their passes and caches, and the table of names. Once it is made nothing takes
@@ -34,32 +28,6 @@ pub struct PlainKit {
     names: Names,
     /// None is left: with it the region is closed.
     passes: Vec<PlainPass>,
-}
-
-/// The room of each actor, from the scavenger on. NoMemory where memory was wanting.
-pub fn rooms_of(
-    alloc: Global,
-    utility: &mut Utility,
-    threads: u8,
-) -> Result<Vec<EventRoom>, NoMemory>
-    requires threads { threads ≤ threads_of utility.old }
-    requires few { threads ≤ 16 }
-    requires left { (k : ℕ) → k ≤ threads → (size : ℕ) × (room_for utility.old k ≡ Some size) }
-    ensures rooms { IfOk result (λ rooms. AreRooms (room_for utility.old) (threads + 1) rooms.items) }
-    ensures seats { (k : ℕ) → has_seat utility.new k ≡ has_seat utility.old k }
-    ensures outcomes { outcomes_of utility.new ≡ outcomes_of utility.old }
-    ensures threads { threads_of utility.new ≡ threads_of utility.old }
-{
-    let Ok(mut rooms) = Vec::with_capacity(alloc, threads as usize + 1) else {
-        return Err(NoMemory);
-    };
-    for actor in 0..threads + 1 {
-        let Some(room) = utility.event_room(actor) else {
-            unreachable!();
-        };
-        rooms.push_reserved(room);
-    }
-    Ok(rooms)
 }
 
 /// The passes at the places of their actors. They are taken out of the list.
@@ -78,41 +46,6 @@ fn places_for(
         places.push_reserved(Some(pass));
     }
     Ok(places)
-}
-
-/// An empty cache for each of so many threads, from thread 1 on. NoMemory where memory was wanting.
-pub fn caches_for(
-    alloc: Global,
-    utility: &mut Utility,
-    threads: u8,
-) -> Result<Vec<ThreadCache>, NoMemory>
-    requires few { threads ≤ 16 }
-    requires threads { threads ≤ threads_of utility.old }
-    requires left { (k : ℕ) → 1 ≤ k → k ≤ threads → has_seat utility.old k ≡ true }
-    ensures caches { IfOk result (λ caches. AreUnused threads caches.items) }
-    ensures outcomes { outcomes_of utility.new ≡ outcomes_of utility.old }
-{
-    let Ok(mut caches) = Vec::with_capacity(alloc, threads as usize) else {
-        return Err(NoMemory);
-    };
-    for below in 0..threads {
-        let Some(seat) = utility.cache_seat(below + 1) else {
-            unreachable!();
-        };
-        caches.push_reserved(ThreadCache::new(seat));
-    }
-    Ok(caches)
-}
-
-/// The list for the outcomes of a pass.
-pub fn outcomes_from(utility: &mut Utility) -> Outcomes
-    requires { (places : ℕ) × (outcomes_of utility.old ≡ Some places) }
-    ensures { outcomes_of utility.old ≡ Some (places_of result) }
-{
-    let Some(outcomes) = utility.outcomes() else {
-        unreachable!();
-    };
-    outcomes
 }
 
 impl PlainKit {

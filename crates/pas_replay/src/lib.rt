@@ -3,10 +3,9 @@
 
 pub mod alone;
 pub mod kit;
-pub mod limits;
-pub mod order;
+mod order;
 mod seats;
 
 pub use alone::{by_one_thread, is_of_one_thread};
 pub use kit::{PlainKit, in_order};
-pub use limits::records_for;
+pub use pas_plans::records_for;

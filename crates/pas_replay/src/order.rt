@@ -1,39 +1,26 @@
 //! The phases of a plan in order, and the close.
-ghost use Rattle.std.specs.Prelude.{◌≡◌, ◌↔◌, ◌+◌, ◌<◌, ◌≤◌, ◌^◌, ℕ, map, length, [], ◌∷◌, IsTrue};
-ghost use Rattle.pas_bits.specs.Masks.{is_set};
+ghost use Rattle.std.specs.Prelude.{◌≡◌, ◌+◌, ◌<◌, ◌≤◌, ◌^◌, map, length, [], ◌∷◌};
 ghost use Rattle.pas_trace.specs.Plans.{ops_of};
-ghost use Rattle.pas_cache.specs.Caches.{cached};
-ghost use Rattle.pas_answers.specs.Acts.{Wakes, ReadsEpoch, StopsIdle, Ends, is_active, numbers_from, idle_stops, acts_of_op, acts_of_ops, acts_of};
-ghost use Rattle.pas_replay.specs.Sessions.{SoFar, AreEmpty, MayGoOn, GoesOn, MayGoOnAt, GoesOnAt, Replays, awake_in, idle_in, hand_at, hand_of, IsTaken};
+ghost use Rattle.pas_answers.specs.Acts.{Wakes, ReadsEpoch, StopsIdle, Ends, numbers_from, idle_stops, acts_of_op, acts_of_ops, acts_of};
+ghost use Rattle.pas_replay.specs.Sessions.{SoFar, AreEmpty, MayGoOn, GoesOn, MayGoOnAt, GoesOnAt, Replays, hand_at, hand_of, IsTaken};
+ghost use Rattle.pas_plans.specs.Awake.{awake_in, idle_in};
 ghost use Rattle.pas_profile.specs.declared.profile.Profile.{Profile as TheProfile};
 ghost use Rattle.pas_report.specs.declared.records.Records.{Records as TheRecords};
 ghost use Rattle.pas_answers.specs.declared.names.Names.{Names as TheNames};
 
 use crate::seats::{Actors, SCAVENGER, operate, pass, read_epoch, rise, sit, tick, wake};
+use pas_answers::is_idle_for;
 use pas_answers::names::Names;
 use pas_bits::Mask4;
-use pas_cache::ThreadCache;
 use pas_large::NoIndex;
 use pas_plain::{PlainDesk, PlainRegion};
+use pas_plans::active;
 use pas_report::{Record, Records, Said};
 use pas_steps::Desk;
 use pas_trace::{Op, Phase, What};
 
 /// The number of the phase that begins without a mark.
 const UNMARKED: u32 = 1;
-
-/// The threads that have an operation among these, by their numbers.
-pub fn active(ops: &[Op]) -> Mask4
-    ensures { (k : ℕ) → is_set result k ≡ is_active ops.now k }
-{
-    let mut threads = Mask4([0; 4]);
-    for op in ops {
-        if !threads.get(op.actor) {
-            threads.set(op.actor);
-        }
-    }
-    threads
-}
 
 /// Each thread that has an operation in the phase reads the epoch.
 fn wake_all(desk: &mut PlainDesk, actors: &mut Actors, awake: Mask4)
@@ -51,15 +38,6 @@ fn wake_all(desk: &mut PlainDesk, actors: &mut Actors, awake: Mask4)
             wake(desk, actors, actor);
         }
     }
-}
-
-/// Whether the thread of this cache was idle for so many epochs, now that it is this one: the epoch that the cache read last stands at least so many
-/// before this one. Any numbers may be asked of. No step.
-pub fn is_idle_for(cache: &ThreadCache, epochs: u64, epoch: u64) -> bool
-    ensures { IsTrue result ↔ ((cached cache.now).idle_since + epochs ≤ epoch) }
-{
-    let since = cache.idle_since();
-    since <= epoch && epochs <= epoch - since
 }
 
 /// Stops the thread, where it was idle for so many epochs, now that it is this one, and says so.

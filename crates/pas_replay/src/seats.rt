@@ -97,7 +97,7 @@ fn change_seats(desk: &mut PlainDesk, passes: &mut Vec<Option<PlainPass>>, actor
 /// The thread of this number reads the epoch, as a phase begins in which it has an operation.
 pub(crate) fn wake(desk: &mut PlainDesk, actors: &mut Actors, actor: u8)
     requires can { (c : Cached) × HasCache actors.old.caches.items actor c
-        × MayTakeTurn desk.old actors.old.passes.items actor (λ own. CanCall (standing_of own) (λ v l. AtRest (profile_of (region_of desk.old)) c v)) }
+        × MayTakeTurn desk.old actors.old.passes.items actor (λ own. CanCall (standing_of own) (AtRest (profile_of (region_of desk.old)) c)) }
     ensures { (c : Cached) → HasCache actors.old.caches.items actor c → TakesThreadTurn desk.old desk.new actors.old actors.new actor (Begins c) }
 {
     take_seat(desk, &mut actors.passes, actor);
@@ -117,7 +117,7 @@ pub(crate) fn operate(
     requires fit { (asked : List ℕ) × IsFitWhat (profile_of (region_of desk.old)) (names_held names.old) asked what }
     requires turns { HasTurns names.old }
     requires can { (c : Cached) × HasCache actors.old.caches.items actor c
-        × MayTakeTurn desk.old actors.old.passes.items actor (λ own. CanCall (standing_of own) (λ v l. MayAnswer (profile_of (region_of desk.old)) c what (spare_at own) out.old v)) }
+        × MayTakeTurn desk.old actors.old.passes.items actor (λ own. CanCall (standing_of own) (MayAnswer (profile_of (region_of desk.old)) c what (spare_at own) out.old)) }
     ensures turn { (c : Cached) → HasCache actors.old.caches.items actor c
         → TakesThreadTurn desk.old desk.new actors.old actors.new actor (λ c'. Answers what (works names.old c) (works names.new c') out.old out.new) }
     ensures turns { HasTurns names.new }
@@ -130,7 +130,7 @@ pub(crate) fn operate(
 /// The scavenger raises the epoch to at least this.
 pub(crate) fn tick(desk: &mut PlainDesk, actors: &mut Actors, epoch: u64, out: &mut Records)
     requires epoch { epoch < 2 ^ 40 }
-    requires can { MayTakeTurn desk.old actors.old.passes.items 0 (λ own. CanCall (standing_of own) (λ v l. HasNothing v)) }
+    requires can { MayTakeTurn desk.old actors.old.passes.items 0 (λ own. CanCall (standing_of own) HasNothing) }
     requires record { length (records_in out.old) < room_of out.old }
     ensures ticks { Scavenges desk.old desk.new actors.old actors.new (λ σ σ'. AnswersTick epoch σ σ' (records_in out.old) (records_in out.new)) }
     ensures room { room_of out.new ≡ room_of out.old }
@@ -141,7 +141,7 @@ pub(crate) fn tick(desk: &mut PlainDesk, actors: &mut Actors, epoch: u64, out: &
 
 /// The scavenger makes a pass.
 pub(crate) fn pass(desk: &mut PlainDesk, actors: &mut Actors, out: &mut Records)
-    requires can { MayTakeTurn desk.old actors.old.passes.items 0 (λ own. CanCall (standing_of own) (λ v l. HasNothing v) × ((profile_of (region_of desk.old)).pages ≤ spare_at own)) }
+    requires can { MayTakeTurn desk.old actors.old.passes.items 0 (λ own. CanCall (standing_of own) HasNothing × ((profile_of (region_of desk.old)).pages ≤ spare_at own)) }
     requires places { places_of actors.old.outcomes ≡ (profile_of (region_of desk.old)).pages }
     requires records { length (records_in out.old) + (1 + (profile_of (region_of desk.old)).pages) ≤ room_of out.old }
     ensures passes { Scavenges desk.old desk.new actors.old actors.new (MadePass (profile_of (region_of desk.old)).pages (records_in out.old) (records_in out.new)) }
@@ -153,7 +153,7 @@ pub(crate) fn pass(desk: &mut PlainDesk, actors: &mut Actors, out: &mut Records)
 
 /// The scavenger reads the epoch.
 pub(crate) fn read_epoch(desk: &mut PlainDesk, actors: &mut Actors) -> u64
-    requires { MayTakeTurn desk.old actors.old.passes.items 0 (λ own. CanCall (standing_of own) (λ v l. HasNothing v)) }
+    requires { MayTakeTurn desk.old actors.old.passes.items 0 (λ own. CanCall (standing_of own) HasNothing) }
     ensures { Scavenges desk.old desk.new actors.old actors.new (λ σ σ'. Makes σ σ' (Look TheWord.Epoch) result) }
 {
     take_seat(desk, &mut actors.passes, SCAVENGER);

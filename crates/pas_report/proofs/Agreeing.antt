@@ -45,7 +45,7 @@ module _ (state : State) (l : Whole) (has : HasWords state l) (agree : AgreesWit
       (subst (λ w. IsLifeWord w (has_block (live_in (visible l) (16 * (256 + i)))) (gives_in (visible l) (16 * (256 + i))) (ends_in (visible l) (16 * (256 + i)))) word
       (life_agrees (profile_of state) (256 + i) (word_after l (life_word_at (256 + i))) (live_in (visible l) (16 * (256 + i))) (gives_in (visible l) (16 * (256 + i))) (ends_in (visible l) (16 * (256 + i))) (agree.life (256 + i))))
 
-  pub are_totalled : AreTotalled state (visible l)
+  are_totalled : AreTotalled state (visible l)
   are_totalled = record {
     deed = λ i h. deed_agrees (deed_in (visible l) (page_at i)) (word_in state (Word.Deed (page_at i))) (has.words (Word.Deed (page_at i)) (omega arith, omega arith) ∙ agree.deed (page_at i));
     backed = λ i h. backed_agrees (backed_in (visible l) (page_at i)) (word_in state (Word.Backed (page_at i))) (has.words (Word.Backed (page_at i)) (omega arith, omega arith) ∙ agree.backed (page_at i));

@@ -1,8 +1,8 @@
-pub mod Texts
-pub mod Decimals
-pub mod Counting
-pub mod MarkBits
-pub mod Totals
+mod Texts
+mod Decimals
+mod Counting
+mod MarkBits
+mod Totals
 pub mod Agreeing
 pub mod Pieces
 pub mod ReportOfWords

@@ -1,5 +1,5 @@
 -- The marks of a page as bits of a number.
-use Rattle.std.proofs.Common.{◌≡◌, ℕ, Bool, true, false, if◌then◌else◌, refl, ap, ◌∙◌, bit_or}
+use Rattle.std.proofs.Common.{◌≡◌, ℕ, Bool, true, false, if◌then◌else◌, refl, ap, ◌∙◌, bit_or, arith}
 use Rattle.bitflags.specs.Sets.{without}
 use Rattle.pas_report.specs.Marks.{Marked, bits_of, marks_of}
 
@@ -9,44 +9,14 @@ with_bit set bit n = if set then bit_or n bit else without 8 n bit
 
 -- the bits after each was set or cleared in turn
 all_bits : (a b c d : Bool) → with_bit d 8 (with_bit c 4 (with_bit b 2 (with_bit a 1 0))) ≡ bits_of (record { backed = a; offered = b; parked = c; hinted = d })
-all_bits true true true true = refl
-all_bits true true true false = refl
-all_bits true true false true = refl
-all_bits true true false false = refl
-all_bits true false true true = refl
-all_bits true false true false = refl
-all_bits true false false true = refl
-all_bits true false false false = refl
-all_bits false true true true = refl
-all_bits false true true false = refl
-all_bits false true false true = refl
-all_bits false true false false = refl
-all_bits false false true true = refl
-all_bits false false true false = refl
-all_bits false false false true = refl
-all_bits false false false false = refl
+all_bits a b c d = grind arith
 
 pub bits_set : (a b c d : Bool) (x y z w : ℕ) → x ≡ with_bit a 1 0 → y ≡ with_bit b 2 x → z ≡ with_bit c 4 y → w ≡ with_bit d 8 z → w ≡ bits_of (record { backed = a; offered = b; parked = c; hinted = d })
 bits_set a b c d x y z w first second third fourth = fourth ∙ ap (with_bit d 8) (third ∙ ap (with_bit c 4) (second ∙ ap (with_bit b 2) first)) ∙ all_bits a b c d
 
 -- the marks are those whose bits are set
 marks_back : (a b c d : Bool) → marks_of (bits_of (record { backed = a; offered = b; parked = c; hinted = d })) ≡ record { backed = a; offered = b; parked = c; hinted = d }
-marks_back true true true true = refl
-marks_back true true true false = refl
-marks_back true true false true = refl
-marks_back true true false false = refl
-marks_back true false true true = refl
-marks_back true false true false = refl
-marks_back true false false true = refl
-marks_back true false false false = refl
-marks_back false true true true = refl
-marks_back false true true false = refl
-marks_back false true false true = refl
-marks_back false true false false = refl
-marks_back false false true true = refl
-marks_back false false true false = refl
-marks_back false false false true = refl
-marks_back false false false false = refl
+marks_back a b c d = grind arith
 
 pub marks_are : (m : Marked) → marks_of (bits_of m) ≡ m
 marks_are m = marks_back m.backed m.offered m.parked m.hinted

@@ -1,6 +1,6 @@
 -- The report by the words of a region at rest is that of the machine.
 use Rattle.std.proofs.Common.{◌≡◌, ℕ, zero, suc, ◌+◌, ◌*◌, ◌/◌, ◌%◌, ◌<◌, ◌≤◌, ◌==◌, nat_le, nat_lt, Bool, true, false, not, ◌++◌, Option, None, Some, codes, refl, ap, sym, ◌∙◌, inl, inr, arith}
-use Rattle.std.proofs.lemmas.Bool.{false≢true, cases_eq, eq-eqb, and_parts, leb-true, or_from, or_left, or_right}
+use Rattle.std.proofs.lemmas.Bool.{false≢true, cases_eq, eq-eqb, and_parts, leb-true, or_from, or_left, or_right, false_from_ne_true}
 use Rattle.pas_profile.specs.Classes.{has_bit}
 use Rattle.pas_profile.specs.Directories.{number_of, directory_read, IsDirectory}
 use Rattle.pas_profile.specs.Lives.{is_live}
@@ -38,13 +38,9 @@ none_of zero p fails = refl
 none_of (suc n) p fails = or_from (p n) (some_below n p) (fails n (omega arith)) (none_of n p (λ x h. fails x (omega arith)))
 
 -- ---- a grain that nobody holds is free, or a live block covers it
-untrue : (t : Bool) → (t ≡ true → ⊥) → t ≡ false
-untrue true h = absurd (h refl)
-untrue false h = refl
-
 not_covering : (o : Option Live) (address g : ℕ) → ((b : Live) → o ≡ Some b → in_run (address / 16) (length_of b.block) g ≡ true → ⊥) → covers o address g ≡ false
 not_covering None address g apart = refl
-not_covering (Some b) address g apart = untrue (in_run (address / 16) (length_of b.block) g) (apart b refl)
+not_covering (Some b) address g apart = false_from_ne_true (in_run (address / 16) (length_of b.block) g) (apart b refl)
 
 free_grain : (l : Whole) (g : ℕ) → IsFreeGrain l g → has_bit (word_after l (free_word_at g)) (g % 64) ≡ not (is_covered (visible l) g)
 free_grain l g at = at.free ∙ sym (ap (λ b. not b) (none_of (g + 1) (λ x. covers (live_in (visible l) (16 * x)) (16 * x) g) (λ x h. not_covering (live_in (visible l) (16 * x)) (16 * x) g (at.no_block (16 * x)))))

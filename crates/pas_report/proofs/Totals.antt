@@ -26,19 +26,19 @@ pub record AreTotalled (state : State) (es : List Event) : Type 0 where
   pub life : (i : ℕ) → i < grains_in state → IsLifeWord (life_of_grain state i) (has_block (live_in es (address_at i))) (gives_in es (address_at i)) (ends_in es (address_at i))
 
 -- ---- the totals
-pub deeds_totalled : (state : State) (es : List Event) → AreTotalled state es → deeds_counted state ≡ deeds_total (profile_of state) es
+deeds_totalled : (state : State) (es : List Event) → AreTotalled state es → deeds_counted state ≡ deeds_total (profile_of state) es
 deeds_totalled state es agree = count_same (pages_of state) _ _ agree.deed
 
-pub backed_totalled : (state : State) (es : List Event) → AreTotalled state es → backed_counted state ≡ backed_total (profile_of state) es
+backed_totalled : (state : State) (es : List Event) → AreTotalled state es → backed_counted state ≡ backed_total (profile_of state) es
 backed_totalled state es agree = count_same (pages_of state) _ _ agree.backed
 
-pub live_totalled : (state : State) (es : List Event) → AreTotalled state es → live_counted state ≡ live_total (profile_of state) es
+live_totalled : (state : State) (es : List Event) → AreTotalled state es → live_counted state ≡ live_total (profile_of state) es
 live_totalled state es agree = count_same (grains_in state) _ _ (λ i h. (agree.life i h).live)
 
-pub ended_totalled : (state : State) (es : List Event) → AreTotalled state es → ended_counted state ≡ ended_total (profile_of state) es
+ended_totalled : (state : State) (es : List Event) → AreTotalled state es → ended_counted state ≡ ended_total (profile_of state) es
 ended_totalled state es agree = sum_same (grains_in state) _ _ (λ i h. (agree.life i h).turn)
 
-pub given_totalled : (state : State) (es : List Event) → AreTotalled state es → given_counted state ≡ given_total (profile_of state) es
+given_totalled : (state : State) (es : List Event) → AreTotalled state es → given_counted state ≡ given_total (profile_of state) es
 given_totalled state es agree =
     (λ t. ended_totalled state es agree t + live_totalled state es agree t)
     ∙ sym (sum_and_count (grains_in state) (λ i. ends_in es (address_at i)) (λ i. has_block (live_in es (address_at i))))

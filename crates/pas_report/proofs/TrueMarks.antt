@@ -7,7 +7,7 @@ use Rattle.pas_profile.specs.Profiles.{IsValid, IsPage, IsDirectoryOf}
 use Rattle.pas_profile.specs.declared.profile.Profile.{Profile}
 use Rattle.pas_profile.specs.declared.directory.Directory.{Directory}
 use Rattle.pas_profile.specs.declared.word.Word.TheVariants as Word
-use Rattle.pas_profile.proofs.Codecs.{deed_word_of-positive, same_from_deed_word, directory_from_profile}
+use Rattle.pas_profile.proofs.Codecs.{deed_word_of-positive, same_from_deed_word}
 use Rattle.pas_machine.specs.State.{deed_in, backed_in}
 use Rattle.pas_steps.specs.Clear.{HasNothing}
 use Rattle.pas_steps.specs.Lists.{Whole, part, word_after, visible, Legal}
@@ -38,7 +38,7 @@ module _ (f : Profile) (l : Whole) (valid : IsValid f) (legal : Legal f l) where
   word_is page d is = deed_of f l legal page ∙ ap word_of_deed is
 
   same_directory : (page : ℕ) (d other : Directory) → deed_in (visible l) page ≡ Some d → IsDirectoryOf f other → word_after l (Word.Deed page) ≡ deed_word_of other → other ≡ d
-  same_directory page d other is of word = same_from_deed_word other d (directory_from_profile f other valid of) (directory_from_profile f d valid (directory_is_of f l legal page d is)) (sym word ∙ word_is page d is)
+  same_directory page d other is of word = same_from_deed_word other d of.kind (directory_is_of f l legal page d is).kind (sym word ∙ word_is page d is)
 
   -- a page whose right is offered is marked so
   marked_offered : (page : ℕ) (d : Directory) → deed_in (visible l) page ≡ Some d → IsRightOffered f l page → (marks_after l page).offered ≡ true

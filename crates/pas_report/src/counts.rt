@@ -91,7 +91,7 @@ fn with_page(state: &State, before: u32, blocks: Blocks) -> Blocks
 pub(crate) fn count_blocks(state: &State) -> Blocks
     ensures live { result.live ≡ live_counted state.now }
     ensures ended { result.ended ≡ ended_counted state.now }
-    ensures fit { result.ended + result.live < 2 ^ 61 }
+    ensures fit { result.ended + result.live < 2 ^ 63 }
 {
     let mut blocks = Blocks { live: 0, ended: 0 };
     for before in 0..state.profile().pages {

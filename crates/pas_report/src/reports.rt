@@ -1,7 +1,7 @@
 //! The report of a state, written to a sink.
 ghost use Rattle.std.specs.Prelude.{◌≡◌, ◌≤◌, ◌+◌, ◌↔◌, ℕ, List, Option, IsTrue, OnOk, OnErr};
 ghost use Rattle.arrayvec.specs.ArrayString.{array_string_len};
-ghost use Rattle.pas_profile.specs.Profiles.{IsValid};
+ghost use Rattle.pas_profile.specs.Profiles.{IsValid, IsDirectoryOf};
 ghost use Rattle.pas_io.specs.Told.{Rose, Writes, WritesFront};
 ghost use Rattle.pas_report.specs.Counts.{AreDeedWords, IsDeedWord, report_by_words};
 ghost use Rattle.pas_report.specs.Pieces.{IsPutOut};
@@ -10,8 +10,20 @@ use crate::pages::{push_page, push_totals};
 use crate::text::{LINE_BYTES, Lines};
 use pas_io::whole::write_all;
 use pas_io::{Failed, Sink};
-use pas_profile::{Profile, Word, read_deed};
+use pas_profile::{Directory, Kind, Profile, Word, read_deed};
 use pas_steps::State;
+
+/// Whether the directory is of the profile: of one of its heaps, and where it is of a class, of one of its classes.
+fn is_of_profile(profile: &Profile, directory: Directory) -> bool
+    requires { IsValid profile.now }
+    ensures { IsTrue result ↔ IsDirectoryOf profile.now directory }
+{
+    let has_class = match directory.kind {
+        Kind::Class(class) => class < profile.classes,
+        _ => true,
+    };
+    directory.heap < profile.heaps && has_class
+}
 
 /// Whether a word is 0 or records a directory of the profile.
 fn is_deed_word(profile: &Profile, word: u64) -> bool
@@ -19,7 +31,7 @@ fn is_deed_word(profile: &Profile, word: u64) -> bool
     ensures { IsTrue result ↔ IsDeedWord profile.now word }
 {
     match read_deed(word) {
-        Some(directory) => directory.heap < profile.heaps,
+        Some(directory) => is_of_profile(profile, directory),
         None => word == 0,
     }
 }

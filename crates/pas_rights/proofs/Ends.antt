@@ -1,15 +1,18 @@
 -- The promises of the calls, put together from those of their parts.
-use Rattle.std.proofs.Common.{ℕ, Bool, List, [], ◌∷◌, ◌++◌, refl, ap, ◌∙◌, subst, append_assoc, ◌≡◌, ◌==◌, true, false, if◌then◌else◌, inl}
+use Rattle.std.proofs.Common.{ℕ, Bool, List, [], ◌∷◌, ◌++◌, refl, ap, ◌∙◌, subst, append_assoc, ◌≡◌, ◌==◌, true, false, if◌then◌else◌, inl, MatchBool, Option}
 use Rattle.pas_profile.specs.Directories.{IsDirectory}
 use Rattle.pas_profile.specs.declared.directory.Directory.{Directory}
 use Rattle.pas_steps.specs.Views.{View, known_deed, KnowsDeed, has_right, is_unstamped, examines}
-use Rattle.pas_steps.specs.Desks.{Anything, Standing, Adds, made}
+use Rattle.pas_steps.specs.Desks.{AnyView, Standing, Adds, made}
 use Rattle.pas_steps.specs.declared.step.Made.{Made}
 use Rattle.pas_steps.specs.declared.step.Step.TheVariants.{Park}
 use Rattle.pas_steps.proofs.Adding.{adds_call, adds_under}
 use Rattle.pas_rights.specs.Leaves.{MayLeave, EndsLeave, LeaveSteps, Leaves}
 use Rattle.pas_rights.specs.Returns.{ReoffersPage, ReturnSteps, Returned, Settles}
-use Rattle.pas_rights.specs.Looks.{looks, any_usable, are_all_ones, Sees, SeesUntilUsed, HintsWhere}
+use Rattle.pas_bits.specs.declared.mask.Mask4.{Mask4}
+use Rattle.pas_rights.specs.Looks.{looks, looks_until, HasUsable, HasNoUsable, IsAllFree, HasUsed, ReadsPage, ReadsUntilUsed, is_free, HintsWhere}
+use Rattle.pas_rights.specs.Words.{words}
+use Rattle.pas_rights.specs.declared.reading.Used.{Used}
 use Rattle.pas_rights.proofs.Orders.{right_looks, deed_looks, leave_returns, leave_loses, return_returns, leave_few, return_few}
 use Rattle.pas_rights.proofs.Debts.{leave_owes, leave_lacks, return_owes, return_right}
 use Rattle.std.proofs.lemmas.Bool.{eqb-true}
@@ -24,8 +27,8 @@ use Rattle.pas_steps.proofs.Calls.{does_as, does_returns, returns_are}
 use Rattle.pas_steps.proofs.Kept.{examined_on, returns_on}
 
 -- after looks the page may still be left
-pub may_still : (p : ℕ) (d : Directory) (answers : List ℕ) (v : View) → MayLeave p d v → MayLeave p d (looks p answers ++ v)
-may_still p d answers v met = record { right = right_looks p p answers v ∙ met.right; deed = deed_looks p p answers v ∙ met.deed }
+pub may_still : (p : ℕ) (d : Directory) (free : Mask4) (v : View) → MayLeave p d v → MayLeave p d (looks p (words free) 4 ++ v)
+may_still p d free v met = record { right = right_looks p p (words free) 4 v ∙ met.right; deed = deed_looks p p (words free) 4 v ∙ met.deed }
 
 -- steps of a return or a leave, with what they come to
 settles : (f : Profile) (p : ℕ) (r : Fate) (steps : List Made) (v : View) → OnlyReturns p steps → Agreed f v steps → has_right (steps ++ v) p ≡ now r (has_right v p) → OwesNothing p (steps ++ v) → Settles p r v (steps ++ v)
@@ -45,7 +48,7 @@ clear_at p q false v w e here h = h
 pub settled_clear : {v w : View} (p : ℕ) (r : Fate) → Settles p r v w → is_unstamped v p ≡ false → examines v p ≡ false → Does (on_page p r Gained) v w
 settled_clear {v} {w} p r s stamped examined = does_as (on_page p r Gained) s.does (λ x. inl refl) (λ q. refl) (λ q. clear_at p q (p == q) v w refl (s.clear stamped examined))
 
-leaves : {σ σ' : Standing} (p : ℕ) (d : Directory) (steps : List Made) → IsDirectory d → Adds σ σ' (λ v l. MayLeave p d v) steps → LeaveSteps p d steps → Leaves p d σ σ'
+leaves : {σ σ' : Standing} (p : ℕ) (d : Directory) (steps : List Made) → IsDirectory d → Adds σ σ' (MayLeave p d) steps → LeaveSteps p d steps → Leaves p d σ σ'
 leaves {σ} {σ'} p d steps is adds order = record {
   steps = steps;
   calls = record {
@@ -61,23 +64,22 @@ leaves {σ} {σ'} p d steps is adds order = record {
 }
 
 -- the looks, and the end that they call for
-pub leaves_by : {σ σ1 σ2 : Standing} {usable all_free : Bool} (p : ℕ) (d : Directory) → IsDirectory d → (s : Sees p d σ σ1 usable all_free) → (after : List Made) → Adds σ1 σ2 (λ v l. MayLeave p d v) after → EndsLeave usable p d all_free after → Leaves p d σ σ2
-leaves_by {σ} {σ1} {σ2} {usable} {all_free} p d is s after adds ends =
-    let one : EndsLeave (any_usable d s.answers) p d all_free after = subst (λ t. EndsLeave t p d all_free after) s.usable_is ends in
-    let both : EndsLeave (any_usable d s.answers) p d (are_all_ones s.answers) after = subst (λ t. EndsLeave (any_usable d s.answers) p d t after) s.all_free_is one in
-    let first : Adds σ σ1 (λ v l. MayLeave p d v) (looks p s.answers) = adds_under s.adds (λ v l stood met. tt) in
-    leaves p d (after ++ looks p s.answers) is (adds_call first adds (λ v l stood met. may_still p d s.answers v met))
-    record { answers = s.answers; four = s.four; after = after; ends = both; steps_are = refl }
+pub leaves_by : {σ σ1 σ2 : Standing} (usable all_free : Bool) (p : ℕ) (d : Directory) (free : Mask4) → IsDirectory d → ReadsPage p σ σ1 free → MatchBool usable (HasUsable d free) (HasNoUsable d free) → MatchBool all_free (IsAllFree free) (HasUsed free)
+    → (after : List Made) → Adds σ1 σ2 (MayLeave p d) after → EndsLeave usable p d all_free after → Leaves p d σ σ2
+leaves_by {σ} {σ1} {σ2} usable all_free p d free is reads usable_is all_free_is after adds ends =
+    let first : Adds σ σ1 (MayLeave p d) (looks p (words free) 4) = adds_under reads (λ v l stood met. tt) in
+    leaves p d (after ++ looks p (words free) 4) is (adds_call first adds (λ v l stood met. may_still p d free v met))
+    record { free = free; usable = usable; usable_is = usable_is; all_free = all_free; all_free_is = all_free_is; after = after; ends = ends; steps_are = refl }
 
 -- the deed is known after the parking and the later looks
-pub knows_parked : (p : ℕ) (d : Directory) (k : ℕ) (later : List ℕ) (v : View) → KnowsDeed p d v → KnowsDeed p d (looks p later ++ (made (Park p) k ∷ []) ++ v)
-knows_parked p d k later v knows = ap (λ s. known_deed s p) (append_assoc (looks p later) (made (Park p) k ∷ []) v) ∙ deed_looks p p later (made (Park p) k ∷ v) ∙ knows
+pub knows_parked : (p : ℕ) (d : Directory) (k : ℕ) (later : Mask4) (v : View) → KnowsDeed p d v → KnowsDeed p d (looks p (words later) 4 ++ (made (Park p) k ∷ []) ++ v)
+knows_parked p d k later v knows = ap (λ s. known_deed s p) (append_assoc (looks p (words later) 4) (made (Park p) k ∷ []) v) ∙ deed_looks p p (words later) 4 (made (Park p) k ∷ v) ∙ knows
 
 -- the steps after grains were put back
-pub returned_by : {σ σ1 σ2 σ3 : Standing} {all_free : Bool} (p : ℕ) (d : Directory) → (r : ReoffersPage p d σ σ1) → (s : SeesUntilUsed p σ1 σ2 all_free) → (after : List Made) → Adds σ2 σ3 Anything after → HintsWhere all_free p after → Returned p d σ σ3
-returned_by {σ} {σ1} {σ2} {σ3} {all_free} p d r s after adds hints =
-    let steps = after ++ (looks p s.answers ++ r.steps) in
-    let order : ReturnSteps p d steps = record { first = r.steps; reoffers = r.order; answers = s.answers; all_free = all_free; looked = s.looked; after = after; hints = hints; steps_are = refl } in
+pub returned_by : {σ σ1 σ2 σ3 : Standing} (p : ℕ) (d : Directory) (used : Option Used) → (r : ReoffersPage p d σ σ1) → (s : ReadsUntilUsed p σ1 σ2 used) → (after : List Made) → Adds σ2 σ3 AnyView after → HintsWhere (is_free used) p after → Returned p d σ σ3
+returned_by {σ} {σ1} {σ2} {σ3} p d used r s after adds hints =
+    let steps = after ++ (looks_until p used ++ r.steps) in
+    let order : ReturnSteps p d steps = record { first = r.steps; reoffers = r.order; used = used; are = s.are; after = after; hints = hints; steps_are = refl } in
     record {
       steps = steps;
       calls = record {

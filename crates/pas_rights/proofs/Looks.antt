@@ -1,42 +1,101 @@
--- Looks at the free words of a page, and the tests of what they show.
-use Rattle.std.proofs.Common.{◌≡◌, ℕ, ◌+◌, ◌-◌, ◌*◌, ◌/◌, ◌%◌, ◌^◌, ◌<◌, ◌==◌, suc, Bool, true, false, not, ◌||◌, ◌&&◌, List, [], ◌∷◌, length, refl, ap, sym, ◌∙◌, subst, arith, bit_and, inl, inr, ◌⊎◌, true≢false, slice_index}
-use Rattle.std.proofs.lemmas.Bool.{eq-eqb, ne_eqb, cases_Bool, not-true, not_from_false}
-use Rattle.pas_profile.specs.Classes.{has_bit}
-use Rattle.pas_profile.specs.Directories.{IsDirectory, deed_word_of}
+-- Looks at the free words of a page, and what they show.
+use Rattle.std.proofs.Common.{◌≡◌, ◌≢◌, ℕ, zero, suc, ◌+◌, ◌-◌, ◌*◌, ◌/◌, ◌%◌, ◌^◌, ◌<◌, ◌≤◌, ◌==◌, Bool, true, false, not, ◌&&◌, if◌then◌else◌, List, [], ◌∷◌, ◌++◌, length, refl, ap, sym, ◌∙◌, subst, arith, inl, inr, ◌⊎◌, slice_index, MatchBool}
+use Rattle.std.proofs.lemmas.Bool.{cases_eq, eq-eqb, and_from, and_parts, not_from_false, true≢false, false_from_ne_true, lt-ltb}
+use Rattle.pas_profile.specs.Classes.{has_bit, usable_grains}
+use Rattle.pas_profile.specs.Directories.{IsKind, IsDirectory, deed_word_of, directory_read}
 use Rattle.pas_profile.specs.declared.directory.Directory.{Directory}
 use Rattle.pas_profile.specs.declared.directory.Kind.{Kind}
+use Rattle.pas_profile.specs.declared.profile.Profile.{Profile}
 use Rattle.pas_profile.specs.declared.word.Word.TheVariants as Word
+use Rattle.pas_profile.proofs.ClassFacts.{usable_grains_ge}
 use Rattle.pas_profile.proofs.Codecs.{read-deed_word_of}
-use Rattle.pas_bits.proofs.Words.{none_of_zero, bit_of_and, full_bit}
-use Rattle.pas_steps.specs.Views.{all_ones, usable_by, usable_by_kind, all_below, no_usable}
-use Rattle.pas_steps.specs.Desks.{Anything, Standing, Makes, Adds}
+use Rattle.pas_bits.specs.declared.mask.Mask4.{Mask4}
+use Rattle.pas_bits.specs.Masks.{is_set, IsEmpty, HasMember}
+use Rattle.pas_bits.proofs.Words.{at_word, full_bit}
+use Rattle.pas_steps.specs.Agreement.{Agreed}
+use Rattle.pas_steps.specs.Desks.{AnyView, Standing, Makes, Adds, made}
+use Rattle.pas_steps.specs.Evidence.{Readings, ReadsFree, ShowsHere, KeptHere}
+use Rattle.pas_steps.specs.Frames.{AreLooks, OnlyOn, IsOnPage}
+use Rattle.pas_steps.specs.Kinds.{LookFree, Only, kind_of, is_in}
+use Rattle.pas_steps.specs.Past.{Since}
+use Rattle.pas_steps.specs.Views.{View, all_ones, usable_by, usable_by_kind, no_usable, holds, has_right, known_free}
+use Rattle.pas_steps.specs.declared.step.Made.{Made}
 use Rattle.pas_steps.specs.declared.step.Step.TheVariants.{Look}
 use Rattle.pas_steps.proofs.Adding.{adds_step}
-use Rattle.pas_rights.specs.Looks.{looks, any_usable, are_all_ones}
-use Rattle.pas_steps.proofs.Bits.{all_below-at, all_below-from, none_set}
-use Rattle.std.proofs.Math.Bool.{or_comm, and_comm}
+use Rattle.pas_steps.proofs.Apart.{holds_same, rights_same}
+use Rattle.pas_steps.proofs.Bits.{all_below-from}
+use Rattle.pas_steps.proofs.Flags.{stays_set}
+use Rattle.pas_rights.specs.Looks.{looks, HasUsable, HasNoUsable, IsAllFree, HasUsed}
+use Rattle.pas_rights.specs.Puts.{masked}
+use Rattle.pas_rights.specs.Words.{words, full}
+use Rattle.pas_rights.proofs.Words.{each_always, each_few, each_agreed, keeps_by, words_read, or_none}
+
+-- ---- the steps
+abbrev word_look : ℕ → (ℕ → ℕ) → ℕ → List Made
+word_look page answers word = made (Look (Word.Free page word)) (answers word) ∷ []
+
+pub looks_only : (page : ℕ) (answers : ℕ → ℕ) (n : ℕ) → Only (LookFree ∷ []) (looks page answers n)
+looks_only page answers = each_always (λ m. is_in (LookFree ∷ []) (kind_of m.step) ≡ true) (word_look page answers) (λ word. (refl, tt))
+
+pub looks_on : (page : ℕ) (answers : ℕ → ℕ) (n : ℕ) → OnlyOn page (looks page answers n)
+looks_on page answers = each_always (λ m. IsOnPage page m.step) (word_look page answers) (λ word. (IsOnPage.Looks _, tt))
+
+pub looks_are : (page : ℕ) (answers : ℕ → ℕ) (n : ℕ) → AreLooks (looks page answers n)
+looks_are page answers zero = tt
+looks_are page answers (suc n) = (tt, looks_are page answers n)
+
+pub looks_few : (page : ℕ) (answers : ℕ → ℕ) (n : ℕ) → length (looks page answers n) ≤ n
+looks_few page answers = each_few (word_look page answers) (λ word. omega arith)
 
 -- one look more
-pub more_looks : {σ σ' σ'' : Standing} (page : ℕ) (answers : List ℕ) (a w : ℕ) → length answers ≡ w
-    → Adds σ σ' Anything (looks page answers) → Makes σ' σ'' (Look (Word.Free page w)) a → Adds σ σ'' Anything (looks page (a ∷ answers))
-more_looks {σ} {σ'} {σ''} page answers a w e before makes =
-    adds_step before (subst (λ n. Makes σ' σ'' (Look (Word.Free page n)) a) (sym e) makes) (λ v l stood met. tt)
+pub more_looks : {σ σ' σ'' : Standing} (page : ℕ) (answers : ℕ → ℕ) (n a : ℕ) → a ≡ answers n → Adds σ σ' AnyView (looks page answers n) → Makes σ' σ'' (Look (Word.Free page n)) a → Adds σ σ'' AnyView (looks page answers (suc n))
+more_looks {σ} {σ'} {σ''} page answers n a e before makes = adds_step before (subst (λ b. Makes σ' σ'' (Look (Word.Free page n)) b) e makes) (λ v l stood met. tt)
 
--- ---- the grains of a mask in a word
--- the test of a mask whose bits say which grains of the word pass
-mask_test : (a m : ℕ) (u : ℕ → Bool) → bit_and a m < 2 ^ 64 → ((b : ℕ) → b < 64 → has_bit m b ≡ u b) → (bit_and a m == 0) ≡ all_below 64 (λ b. not (has_bit a b && u b))
-mask_test a m u small bits =
-    let both : (b : ℕ) → b < 64 → has_bit (bit_and a m) b ≡ (has_bit a b && u b) = λ b lt. bit_of_and a m b ∙ ap (λ x. has_bit a b && x) (bits b lt) in
-    elim (cases_Bool (all_below 64 (λ b. not (has_bit a b && u b)))) [
-      | inl all ↦ eq-eqb (bit_and a m) 0 (none_set (bit_and a m) small (λ b lt. both b lt ∙ not-true (has_bit a b && u b) (all_below-at 64 b (λ i. not (has_bit a i && u i)) all lt))) ∙ sym all
-      | inr some ↦ ne_eqb (bit_and a m) 0 (λ z. true≢false (sym (all_below-from 64 (λ b. not (has_bit a b && u b)) (λ b lt. not_from_false (has_bit a b && u b) (sym (both b lt) ∙ ap (λ n. has_bit n b) z ∙ none_of_zero b))) ∙ some)) ∙ sym some
-    ]
+-- ---- on a view
+module _ (page : ℕ) (answers : ℕ → ℕ) where
+  -- a grain that is held was read as not free, and one that is known as free as free
+  pub looks_held : (f : Profile) (n : ℕ) (v : View) → Agreed f v (looks page answers n) → (g : ℕ) → g / 256 ≡ page → g / 64 % 4 < n → holds v g ≡ true → has_bit (answers (g / 64 % 4)) (g % 64) ≡ false
+  looks_held f n v agreed g at lt held = let w = g / 64 % 4 in
+      (each_agreed f (word_look page answers) n w v lt agreed).0.held g at refl (holds_same (LookFree ∷ []) refl g (looks page answers w) v (looks_only page answers w) ∙ held)
 
--- the test of the usable grains of a directory's page
-pub usable_test : (d : Directory) (a m w : ℕ) → IsDirectory d → bit_and a m < 2 ^ 64 → ((b : ℕ) → b < 64 → has_bit m b ≡ usable_by_kind d.kind (64 * w + b)) → (bit_and a m == 0) ≡ no_usable (deed_word_of d) w a
-usable_test d a m w is small bits =
-    mask_test a m (λ b. usable_by_kind d.kind (64 * w + b)) small bits
-    ∙ ap (λ o. all_below 64 (λ b. not (has_bit a b && usable_by o (64 * w + b)))) (sym (read-deed_word_of d is))
+  pub looks_keep_known : (n : ℕ) (v : View) (g : ℕ) → known_free v g ≡ true → known_free (looks page answers n ++ v) g ≡ true
+  looks_keep_known zero v g known = known
+  looks_keep_known (suc n) v g known =
+      stays_set ((n == g / 64 % 4) && (page == g / 256) && has_right (looks page answers n ++ v) (g / 256) && has_bit (answers n) (g % 64)) (known_free (looks page answers n ++ v) g) (looks_keep_known n v g known)
+
+  pub looks_free : (f : Profile) (n : ℕ) (v : View) → Agreed f v (looks page answers n) → (g : ℕ) → g / 256 ≡ page → g / 64 % 4 < n → known_free v g ≡ true → has_bit (answers (g / 64 % 4)) (g % 64) ≡ true
+  looks_free f n v agreed g at lt known = let w = g / 64 % 4 in (each_agreed f (word_look page answers) n w v lt agreed).0.free g at refl (looks_keep_known w v g known)
+
+  -- what was read as free with the right is known as free
+  pub looks_know : (n : ℕ) (v : View) (g : ℕ) → (page == g / 256) ≡ true → has_right v (g / 256) ≡ true → g / 64 % 4 < n → has_bit (answers (g / 64 % 4)) (g % 64) ≡ true → known_free (looks page answers n ++ v) g ≡ true
+  looks_know zero v g at right lt bit = absurd (omega (arith, lt))
+  looks_know (suc n) v g at right lt bit =
+      let seen = (n == g / 64 % 4) && (page == g / 256) && has_right (looks page answers n ++ v) (g / 256) && has_bit (answers n) (g % 64) in let before = known_free (looks page answers n ++ v) g in
+      elim (cases_eq n (g / 64 % 4)) [
+        | inl e ↦ ap (λ t. if t then true else before)
+            (and_from ((n == g / 64 % 4) && (page == g / 256) && has_right (looks page answers n ++ v) (g / 256)) (has_bit (answers n) (g % 64))
+            (and_from ((n == g / 64 % 4) && (page == g / 256)) (has_right (looks page answers n ++ v) (g / 256)) (and_from (n == g / 64 % 4) (page == g / 256) (eq-eqb n (g / 64 % 4) e) at)
+            (rights_same (LookFree ∷ []) refl (g / 256) (looks page answers n) v (looks_only page answers n) ∙ right)) (ap (λ w. has_bit (answers w) (g % 64)) e ∙ bit))
+        | inr ne ↦ stays_set seen before (looks_know n v g at right (omega (arith, lt, ne)) bit)
+      ]
+
+  -- what they show, after steps that have the right of the page and hold none of its grains
+  pub looks_read : (r : Readings) → ((word b : ℕ) → b < 64 → r (64 * word + b) ≡ has_bit (answers word) b) → (before : List Made) → has_right before page ≡ true → ((g : ℕ) → g / 256 ≡ page → holds before g ≡ false)
+      → (n word : ℕ) → word < n → word < 4 → Since (ShowsHere page word r) (KeptHere page) (looks page answers n ++ before)
+  looks_read r bits before right none n word lt small =
+      words_read (ShowsHere page word r) page (word_look page answers) (λ w. keeps_by page (LookFree ∷ []) (word_look page answers w) refl (refl, tt)) before right n word lt
+      (inl (
+        ReadsFree.Looks,
+        rights_same (LookFree ∷ []) refl page (looks page answers word) before (looks_only page answers word) ∙ right,
+        λ b hb.
+            let g = page * 256 + (64 * word + b) in
+            bits word b hb ∙ or_none (has_bit (answers word) b) (holds (looks page answers word ++ before) g) (holds_same (LookFree ∷ []) refl g (looks page answers word) before (looks_only page answers word) ∙ none g (omega (arith, small, hb))),
+      ))
+
+-- ---- the grains that blocks of a directory may cover
+and_true : (t : Bool) → (t && true) ≡ t
+and_true true = refl
+and_true false = refl
 
 four_full : (i : ℕ) → i < 4 → slice_index ((2 ^ 64 - 1) ∷ (2 ^ 64 - 1) ∷ (2 ^ 64 - 1) ∷ (2 ^ 64 - 1) ∷ []) i ≡ 2 ^ 64 - 1
 four_full (suc (suc (suc (suc i)))) h = absurd (omega (arith, h))
@@ -51,16 +110,48 @@ any_kind k g (inr (inr e)) = ap (λ x. usable_by_kind x g) e
 pub full_mask : (k : Kind) (g : ℕ) → g < 256 → (k ≡ Kind.Bitfit) ⊎ ((k ≡ Kind.Shared) ⊎ (k ≡ Kind.Large)) → has_bit (slice_index ((2 ^ 64 - 1) ∷ (2 ^ 64 - 1) ∷ (2 ^ 64 - 1) ∷ (2 ^ 64 - 1) ∷ []) (g / 64)) (g % 64) ≡ usable_by_kind k g
 full_mask k g h is = ap (λ n. has_bit n (g % 64)) (four_full (g / 64) (omega arith)) ∙ full_bit (g % 64) (omega arith) ∙ sym (any_kind k g is)
 
--- ---- what one look more shows
-pub usable_more : (d : Directory) (usable : Bool) (a m : ℕ) (answers : List ℕ) → (bit_and a m == 0) ≡ no_usable (deed_word_of d) (length answers) a → usable ≡ any_usable d answers → (usable || not (bit_and a m == 0)) ≡ any_usable d (a ∷ answers)
-usable_more d usable a m answers e h = ap (λ x. usable || not x) e ∙ ap (λ x. x || not (no_usable (deed_word_of d) (length answers) a)) h ∙ or_comm (any_usable d answers) (not (no_usable (deed_word_of d) (length answers) a))
+pub full_set : (g : ℕ) → g < 256 → is_set full g ≡ true
+full_set g lt = ap (λ n. has_bit n (g % 64)) (four_full (g / 64) (omega (arith, lt))) ∙ full_bit (g % 64) (omega arith)
 
-pub free_more : (all_free : Bool) (a : ℕ) (answers : List ℕ) → all_free ≡ are_all_ones answers → (all_free && (a == all_ones)) ≡ are_all_ones (a ∷ answers)
-free_more all_free a answers h = ap (λ x. x && (a == all_ones)) h ∙ and_comm (are_all_ones answers) (a == all_ones)
+pub full_word : (w : ℕ) → w < 4 → words full w ≢ 0
+full_word w lt z = let all = four_full w lt in omega (arith, all, z)
 
--- the bits of one word of the mask of usable grains
-pub word_bits : (d : Directory) (mask : List ℕ) (word n : ℕ) → n ≡ word → word < 4 → ((g : ℕ) → g < 256 → has_bit (slice_index mask (g / 64)) (g % 64) ≡ usable_by_kind d.kind g) → (b : ℕ) → b < 64 → has_bit (slice_index mask word) b ≡ usable_by_kind d.kind (64 * n + b)
-word_bits d mask word n same small bits b lt =
-    let at : (64 * n + b) / 64 ≡ word = omega (arith, same) in
-    let rest : (64 * n + b) % 64 ≡ b = omega arith in
-    ap (λ i. has_bit (slice_index mask i) b) (sym at) ∙ ap (λ i. has_bit (slice_index mask ((64 * n + b) / 64)) i) (sym rest) ∙ bits (64 * n + b) (omega (arith, same, small))
+pub on_full : (page g : ℕ) → masked page full g ≡ (page == g / 256)
+on_full page g = ap (λ t. (page == g / 256) && t) (full_set (g % 256) (omega arith)) ∙ and_true (page == g / 256)
+
+-- some grain of the mask is usable, or none is
+module _ (d : Directory) (free usable both : Mask4) (are : (g : ℕ) → g < 256 → is_set usable g ≡ usable_by_kind d.kind g) (both_are : (g : ℕ) → is_set both g ≡ (is_set free g && is_set usable g)) where
+  pub usable_some : HasMember both → HasUsable d free
+  usable_some some = let parts = and_parts (is_set free some.0) (is_set usable some.0) (sym (both_are some.0) ∙ some.2) in (some.0, some.1, parts.0, sym (are some.0 some.1) ∙ parts.1)
+
+  pub usable_none : IsEmpty both → HasNoUsable d free
+  usable_none empty g lt set = false_from_ne_true (usable_by_kind d.kind g) (λ is. true≢false (sym (and_from (is_set free g) (is_set usable g) set (are g lt ∙ is)) ∙ sym (both_are g) ∙ empty g lt))
+
+both_false : (x y : Bool) → (x ≡ true → y ≡ false) → (x && y) ≡ false
+both_false true y h = h refl
+both_false false y h = refl
+
+pub no_usable_word : (d : Directory) (free : Mask4) → IsDirectory d → HasNoUsable d free → (w : ℕ) → w < 4 → no_usable (deed_word_of d) w (words free w) ≡ true
+no_usable_word d free is none w small = all_below-from 64 (λ b. not (has_bit (words free w) b && usable_by (directory_read (deed_word_of d)) (64 * w + b))) (λ b lt. not_from_false _
+    (ap (λ o. has_bit (words free w) b && usable_by o (64 * w + b)) (read-deed_word_of d is) ∙ both_false (has_bit (words free w) b) (usable_by_kind d.kind (64 * w + b)) (λ set. none (64 * w + b) (omega (arith, small, lt)) (at_word free w b lt ∙ set))))
+
+-- the first grain of a page is usable
+first_usable : (k : Kind) → IsKind k → usable_by_kind k 0 ≡ true
+first_usable (Kind.Class class) is = let most : 224 ≤ usable_grains class = usable_grains_ge class is in lt-ltb 0 (usable_grains class) (omega (arith, most))
+first_usable s is = refl
+
+-- so some grain isn't free where no usable one is
+pub none_used : (d : Directory) (free : Mask4) → IsDirectory d → HasNoUsable d free → HasUsed free
+none_used d free is none = (0, omega arith, false_from_ne_true (is_set free 0) (λ set. true≢false (sym (first_usable d.kind is.kind) ∙ none 0 (omega arith) set)))
+
+pub unusable_used : (d : Directory) (free : Mask4) (all_free : Bool) → IsDirectory d → HasNoUsable d free → MatchBool all_free (IsAllFree free) (HasUsed free) → all_free ≡ false
+unusable_used d free true is none all = let used = none_used d free is none in absurd (true≢false (sym (all used.0 used.1) ∙ used.2))
+unusable_used d free false is none all = refl
+
+pub match_not : (P Q R S : Type 0) (b : Bool) → MatchBool b P Q → (P → S) → (Q → R) → MatchBool (not b) R S
+match_not P Q R S true h f g = f h
+match_not P Q R S false h f g = g h
+
+-- a word that isn't all ones
+pub used_word : (free : Mask4) → HasUsed free → (w : ℕ) × (w < 4) × (words free w ≢ all_ones)
+used_word free used = let g = used.0 in let lt = used.1 in (g / 64, omega (arith, lt), λ e. true≢false (sym (ap (λ n. has_bit n (g % 64)) e ∙ full_bit (g % 64) (omega arith)) ∙ used.2))

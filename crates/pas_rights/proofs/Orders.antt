@@ -1,28 +1,40 @@
 -- What each step of these calls asks, and how their steps stand in order.
-use Rattle.std.proofs.Common.{◌≡◌, ◌≢◌, ℕ, ◌%◌, ◌==◌, Bool, true, false, ◌&&◌, if◌then◌else◌, inl, inr, List, [], ◌∷◌, ◌++◌, length, refl, ap, sym, ◌∙◌, subst, append_assoc, suc, ◌+◌, ◌≤◌, length-append, arith}
+use Rattle.std.proofs.Common.{◌≡◌, ◌≢◌, ℕ, ◌%◌, ◌==◌, Bool, true, false, ◌&&◌, if◌then◌else◌, inl, inr, List, [], ◌∷◌, ◌++◌, Option, None, Some, length, refl, ap, sym, ◌∙◌, subst, append_assoc, ◌+◌, ◌≤◌, length-append, arith}
 use Rattle.std.proofs.lemmas.Bool.{eq-eqb}
 use Rattle.pas_profile.specs.Classes.{has_bit}
 use Rattle.pas_profile.specs.declared.directory.Directory.{Directory}
+use Rattle.pas_profile.specs.declared.word.Word.TheVariants as Word
 use Rattle.pas_profile.proofs.Codecs.{deed_word_of-positive}
 use Rattle.pas_steps.specs.Views.{Way, Rests, had_after, View, has_right, known_deed, KnowsDeed}
 use Rattle.pas_steps.specs.Past.{Once}
 use Rattle.pas_steps.specs.Frames.{IsReturn, GivesUp, AreLooks, OnlyReturns}
 use Rattle.pas_steps.specs.Desks.{made}
 use Rattle.pas_steps.specs.declared.step.Made.{Made}
-use Rattle.pas_steps.specs.declared.step.Step.TheVariants.{Offer, Park}
+use Rattle.pas_steps.specs.Kinds.{LookFree, Only}
+use Rattle.pas_steps.specs.declared.step.Step.TheVariants.{Look, Offer, Park}
+use Rattle.pas_steps.proofs.Apart.{rights_same, deeds_same}
 use Rattle.pas_steps.proofs.Past.{once_later, always_both}
 use Rattle.pas_rights.specs.Leaves.{ReoffersWhere, OfferSteps, ParkSteps, EndsLeave, LeaveSteps, LosesHere}
 use Rattle.pas_rights.specs.Returns.{ReofferSteps, ReturnSteps}
-use Rattle.pas_rights.specs.Looks.{looks, any_usable, are_all_ones, HintsWhere, LookedUntilUsed}
+use Rattle.pas_rights.specs.Looks.{looks, looks_until, AreUsed, is_free, HintsWhere}
+use Rattle.pas_rights.specs.Words.{words, ones}
+use Rattle.pas_rights.specs.declared.reading.Used.{Used}
+use Rattle.pas_rights.proofs.Looks.{looks_are, looks_few, looks_only}
+use Rattle.pas_rights.proofs.Words.{each_always}
 
 -- ---- what looks at the free words keep
-pub right_looks : (p q : ℕ) (answers : List ℕ) (v : View) → has_right (looks p answers ++ v) q ≡ has_right v q
-right_looks p q [] v = refl
-right_looks p q (a ∷ more) v = right_looks p q more v
+pub until_only : (p : ℕ) (used : Option Used) → Only (LookFree ∷ []) (looks_until p used)
+until_only p None = looks_only p ones 4
+until_only p (Some used) = (refl, looks_only p ones used.word)
 
-pub deed_looks : (p q : ℕ) (answers : List ℕ) (v : View) → known_deed (looks p answers ++ v) q ≡ known_deed v q
-deed_looks p q [] v = refl
-deed_looks p q (a ∷ more) v = deed_looks p q more v
+pub right_until : (p q : ℕ) (used : Option Used) (v : View) → has_right (looks_until p used ++ v) q ≡ has_right v q
+right_until p q used v = rights_same (LookFree ∷ []) refl q (looks_until p used) v (until_only p used)
+
+pub right_looks : (p q : ℕ) (answers : ℕ → ℕ) (n : ℕ) (v : View) → has_right (looks p answers n ++ v) q ≡ has_right v q
+right_looks p q answers n v = rights_same (LookFree ∷ []) refl q (looks p answers n) v (looks_only p answers n)
+
+pub deed_looks : (p q : ℕ) (answers : ℕ → ℕ) (n : ℕ) (v : View) → known_deed (looks p answers n ++ v) q ≡ known_deed v q
+deed_looks p q answers n v = deeds_same (LookFree ∷ []) refl q (looks p answers n) v (looks_only p answers n)
 
 -- ---- rights
 pub same_page : (p : ℕ) → (p == p) ≡ true
@@ -48,9 +60,12 @@ knows_some p d v knows z = deed_word_of-positive d (sym knows ∙ z)
 pub returns_append : (p : ℕ) (ys xs : List Made) → OnlyReturns p ys → OnlyReturns p xs → OnlyReturns p (ys ++ xs)
 returns_append p ys xs a b = always_both (λ m before. IsReturn p m.step) (λ m before. IsReturn p m.step) ys xs (λ m before h. h) a b
 
-looks_return : (p : ℕ) (answers : List ℕ) → OnlyReturns p (looks p answers)
-looks_return p [] = tt
-looks_return p (a ∷ more) = (IsReturn.LooksFree (length more), looks_return p more)
+looks_return : (p : ℕ) (answers : ℕ → ℕ) (n : ℕ) → OnlyReturns p (looks p answers n)
+looks_return p answers = each_always (λ m. IsReturn p m.step) (λ word. made (Look (Word.Free p word)) (answers word) ∷ []) (λ word. (IsReturn.LooksFree word, tt))
+
+until_return : (p : ℕ) (used : Option Used) → OnlyReturns p (looks_until p used)
+until_return p None = looks_return p ones 4
+until_return p (Some used) = (IsReturn.LooksFree used.word, looks_return p ones used.word)
 
 hints_return : (p : ℕ) (all_free : Bool) (steps : List Made) → HintsWhere all_free p steps → OnlyReturns p steps
 hints_return p true steps (inl h) = subst (OnlyReturns p) (sym h.2) (IsReturn.LooksBacked, tt)
@@ -69,50 +84,42 @@ end_returns : (p : ℕ) (d : Directory) (usable all_free : Bool) (steps : List M
 end_returns p d true all_free steps h = subst (OnlyReturns p) (sym h.steps_are)
     (returns_append p h.after (made (Offer p d) h.offered ∷ []) (hints_return p all_free h.after h.hints) (IsReturn.Offers d, tt))
 end_returns p d false all_free steps h = subst (OnlyReturns p) (sym h.steps_are)
-    (returns_append p h.after (looks p h.later ++ (made (Park p) h.parked ∷ [])) (reoffers_return p d (any_usable d h.later) h.after h.reoffers)
-    (returns_append p (looks p h.later) (made (Park p) h.parked ∷ []) (looks_return p h.later) (IsReturn.Parks, tt)))
+    (returns_append p h.after (looks p (words h.later) 4 ++ (made (Park p) h.parked ∷ [])) (reoffers_return p d h.usable h.after h.reoffers)
+    (returns_append p (looks p (words h.later) 4) (made (Park p) h.parked ∷ []) (looks_return p (words h.later) 4) (IsReturn.Parks, tt)))
 
 pub leave_returns : (p : ℕ) (d : Directory) (steps : List Made) → LeaveSteps p d steps → OnlyReturns p steps
 leave_returns p d steps h = subst (OnlyReturns p) (sym h.steps_are)
-    (returns_append p h.after (looks p h.answers) (end_returns p d (any_usable d h.answers) (are_all_ones h.answers) h.after h.ends) (looks_return p h.answers))
+    (returns_append p h.after (looks p (words h.free) 4) (end_returns p d h.usable h.all_free h.after h.ends) (looks_return p (words h.free) 4))
 
 pub return_returns : (p : ℕ) (d : Directory) (steps : List Made) → ReturnSteps p d steps → OnlyReturns p steps
 return_returns p d steps h = subst (OnlyReturns p) (sym h.steps_are)
-    (returns_append p h.after (looks p h.answers ++ h.first) (hints_return p h.all_free h.after h.hints)
-    (returns_append p (looks p h.answers) h.first (looks_return p h.answers) (reoffer_returns p d h.first h.reoffers)))
+    (returns_append p h.after (looks_until p h.used ++ h.first) (hints_return p (is_free h.used) h.after h.hints)
+    (returns_append p (looks_until p h.used) h.first (until_return p h.used) (reoffer_returns p d h.first h.reoffers)))
 
 -- ---- the steps of a leave, on a view or on a list before them
-looks_are : (p : ℕ) (answers : List ℕ) → AreLooks (looks p answers)
-looks_are p [] = tt
-looks_are p (a ∷ more) = (tt, looks_are p more)
-
 pub offered_on : (p : ℕ) (d : Directory) (all_free : Bool) (steps : List Made) (v : View) (h : OfferSteps p d all_free steps) → steps ++ v ≡ h.after ++ (made (Offer p d) h.offered ∷ v)
 offered_on p d all_free steps v h = ap (λ s. s ++ v) h.steps_are ∙ append_assoc h.after (made (Offer p d) h.offered ∷ []) v
 
-pub parked_on : (p : ℕ) (d : Directory) (steps : List Made) (v : View) (h : ParkSteps p d steps) → steps ++ v ≡ h.after ++ (looks p h.later ++ (made (Park p) h.parked ∷ v))
-parked_on p d steps v h = ap (λ s. s ++ v) h.steps_are ∙ append_assoc h.after (looks p h.later ++ (made (Park p) h.parked ∷ [])) v ∙ ap (λ s. h.after ++ s) (append_assoc (looks p h.later) (made (Park p) h.parked ∷ []) v)
+pub parked_on : (p : ℕ) (d : Directory) (steps : List Made) (v : View) (h : ParkSteps p d steps) → steps ++ v ≡ h.after ++ (looks p (words h.later) 4 ++ (made (Park p) h.parked ∷ v))
+parked_on p d steps v h = ap (λ s. s ++ v) h.steps_are ∙ append_assoc h.after (looks p (words h.later) 4 ++ (made (Park p) h.parked ∷ [])) v ∙ ap (λ s. h.after ++ s) (append_assoc (looks p (words h.later) 4) (made (Park p) h.parked ∷ []) v)
 
-pub left_on : (p : ℕ) (d : Directory) (steps : List Made) (v : View) (h : LeaveSteps p d steps) → steps ++ v ≡ h.after ++ (looks p h.answers ++ v)
-left_on p d steps v h = ap (λ s. s ++ v) h.steps_are ∙ append_assoc h.after (looks p h.answers) v
+pub left_on : (p : ℕ) (d : Directory) (steps : List Made) (v : View) (h : LeaveSteps p d steps) → steps ++ v ≡ h.after ++ (looks p (words h.free) 4 ++ v)
+left_on p d steps v h = ap (λ s. s ++ v) h.steps_are ∙ append_assoc h.after (looks p (words h.free) 4) v
 
-pub returned_on : (p : ℕ) (d : Directory) (steps : List Made) (v : View) (h : ReturnSteps p d steps) → steps ++ v ≡ h.after ++ (looks p h.answers ++ (h.first ++ v))
-returned_on p d steps v h = ap (λ s. s ++ v) h.steps_are ∙ append_assoc h.after (looks p h.answers ++ h.first) v ∙ ap (λ s. h.after ++ s) (append_assoc (looks p h.answers) h.first v)
+pub returned_on : (p : ℕ) (d : Directory) (steps : List Made) (v : View) (h : ReturnSteps p d steps) → steps ++ v ≡ h.after ++ (looks_until p h.used ++ (h.first ++ v))
+returned_on p d steps v h = ap (λ s. s ++ v) h.steps_are ∙ append_assoc h.after (looks_until p h.used ++ h.first) v ∙ ap (λ s. h.after ++ s) (append_assoc (looks_until p h.used) h.first v)
 
 end_loses : (p : ℕ) (d : Directory) (usable all_free : Bool) (steps before : List Made) → AreLooks before → EndsLeave usable p d all_free steps → Once (LosesHere p) (steps ++ before)
 end_loses p d true all_free steps before are h = subst (Once (LosesHere p)) (sym (offered_on p d all_free steps before h))
     (once_later (LosesHere p) h.after (made (Offer p d) h.offered ∷ before) (inl (GivesUp.Offers d, are)))
 end_loses p d false all_free steps before are h = subst (Once (LosesHere p)) (sym (parked_on p d steps before h))
-    (once_later (LosesHere p) h.after (looks p h.later ++ (made (Park p) h.parked ∷ before)) (once_later (LosesHere p) (looks p h.later) (made (Park p) h.parked ∷ before) (inl (GivesUp.Parks, are))))
+    (once_later (LosesHere p) h.after (looks p (words h.later) 4 ++ (made (Park p) h.parked ∷ before)) (once_later (LosesHere p) (looks p (words h.later) 4) (made (Park p) h.parked ∷ before) (inl (GivesUp.Parks, are))))
 
 -- the right is given up after looks alone
 pub leave_loses : (p : ℕ) (d : Directory) (steps : List Made) → LeaveSteps p d steps → Once (LosesHere p) steps
-leave_loses p d steps h = subst (Once (LosesHere p)) (sym h.steps_are) (end_loses p d (any_usable d h.answers) (are_all_ones h.answers) h.after (looks p h.answers) (looks_are p h.answers) h.ends)
+leave_loses p d steps h = subst (Once (LosesHere p)) (sym h.steps_are) (end_loses p d h.usable h.all_free h.after (looks p (words h.free) 4) (looks_are p (words h.free) 4) h.ends)
 
 -- ---- how many steps they are
-pub looks_count : (p : ℕ) (answers : List ℕ) → length (looks p answers) ≡ length answers
-looks_count p [] = refl
-looks_count p (a ∷ more) = ap (λ n. suc n) (looks_count p more)
-
 hints_few : (p : ℕ) (all_free : Bool) (steps : List Made) → HintsWhere all_free p steps → length steps ≤ 2
 hints_few p true steps (inl h) = let n : length steps ≡ 1 = ap length h.2 in omega (arith, n)
 hints_few p true steps (inr h) = let n : length steps ≡ 2 = ap length h.1 in omega (arith, n)
@@ -133,28 +140,25 @@ end_few p d true all_free steps h =
     omega (arith, n, few)
 end_few p d false all_free steps h =
     let looked = made (Park p) h.parked ∷ [] in
-    let n : length steps ≡ length h.after + (length (looks p h.later) + 1) = ap length h.steps_are ∙ length-append h.after (looks p h.later ++ looked) ∙ ap (λ k. length h.after + k) (length-append (looks p h.later) looked) in
-    let few = reoffers_few p d (any_usable d h.later) h.after h.reoffers in
-    let four : length (looks p h.later) ≡ 4 = looks_count p h.later ∙ h.four in
-    omega (arith, n, few, four)
+    let n : length steps ≡ length h.after + 5 = ap length h.steps_are ∙ length-append h.after (looks p (words h.later) 4 ++ looked) ∙ ap (λ k. length h.after + k) (length-append (looks p (words h.later) 4) looked) in
+    let few = reoffers_few p d h.usable h.after h.reoffers in
+    omega (arith, n, few)
 
 pub leave_few : (p : ℕ) (d : Directory) (steps : List Made) → LeaveSteps p d steps → length steps ≤ 11
 leave_few p d steps h =
-    let n : length steps ≡ length h.after + length (looks p h.answers) = ap length h.steps_are ∙ length-append h.after (looks p h.answers) in
-    let few = end_few p d (any_usable d h.answers) (are_all_ones h.answers) h.after h.ends in
-    let four : length (looks p h.answers) ≡ 4 = looks_count p h.answers ∙ h.four in
-    omega (arith, n, few, four)
+    let n : length steps ≡ length h.after + 4 = ap length h.steps_are ∙ length-append h.after (looks p (words h.free) 4) in
+    let few = end_few p d h.usable h.all_free h.after h.ends in
+    omega (arith, n, few)
 
-looked_few : (all_free : Bool) (answers : List ℕ) → LookedUntilUsed answers all_free → length answers ≤ 4
-looked_few true answers h = let four = h.0 in omega (arith, four)
-looked_few false [] h = absurd h
-looked_few false (a ∷ more) h = let lt = h.2 in omega (arith, lt)
+pub until_few : (p : ℕ) (used : Option Used) → AreUsed used → length (looks_until p used) ≤ 4
+until_few p None are = omega arith
+until_few p (Some used) are = let lt = are.within in let n = looks_few p ones used.word in omega (arith, lt, n)
 
 pub return_few : (p : ℕ) (d : Directory) (steps : List Made) → ReturnSteps p d steps → length steps ≤ 8
 return_few p d steps h =
-    let n : length steps ≡ length h.after + (length (looks p h.answers) + length h.first)
-    = ap length h.steps_are ∙ length-append h.after (looks p h.answers ++ h.first) ∙ ap (λ k. length h.after + k) (length-append (looks p h.answers) h.first) in
-    let hints = hints_few p h.all_free h.after h.hints in
-    let looked : length (looks p h.answers) ≤ 4 = let e = looks_count p h.answers in let few = looked_few h.all_free h.answers h.looked in omega (arith, e, few) in
+    let n : length steps ≡ length h.after + (length (looks_until p h.used) + length h.first)
+    = ap length h.steps_are ∙ length-append h.after (looks_until p h.used ++ h.first) ∙ ap (λ k. length h.after + k) (length-append (looks_until p h.used) h.first) in
+    let hints = hints_few p (is_free h.used) h.after h.hints in
+    let looked = until_few p h.used h.are in
     let first = reoffer_few p d h.first h.reoffers in
     omega (arith, n, hints, looked, first)

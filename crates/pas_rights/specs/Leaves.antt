@@ -1,5 +1,6 @@
 -- An actor gives the right of a page back. `Leaves` is what `leave` promises.
-use Rattle.std.specs.Prelude.{ℕ, ◌≤◌, ◌≡◌, Bool, true, false, List, [], ◌∷◌, ◌++◌, length}
+use Rattle.std.specs.Prelude.{ℕ, ◌≤◌, ◌≡◌, Bool, true, false, List, [], ◌∷◌, ◌++◌, length, MatchBool}
+use Rattle.pas_bits.specs.declared.mask.Mask4.{Mask4}
 use Rattle.pas_profile.specs.declared.directory.Directory.{Directory}
 use Rattle.pas_steps.specs.Calls.{Calls, Lost}
 use Rattle.pas_steps.specs.Desks.{Standing, Adds, made}
@@ -8,8 +9,9 @@ use Rattle.pas_steps.specs.Past.{Once}
 use Rattle.pas_steps.specs.Views.{View, has_right, KnowsDeed}
 use Rattle.pas_steps.specs.declared.step.Made.{Made}
 use Rattle.pas_steps.specs.declared.step.Step.TheVariants.{Offer, Park}
-use Rattle.pas_rights.specs.Looks.{looks, any_usable, are_all_ones, HintsWhere}
+use Rattle.pas_rights.specs.Looks.{looks, HasUsable, HasNoUsable, IsAllFree, HasUsed, HintsWhere}
 use Rattle.pas_rights.specs.Returns.{ReofferSteps, Settles}
+use Rattle.pas_rights.specs.Words.{words}
 
 -- the page's deed is known, and the right is the actor's
 pub record MayLeave (page : ℕ) (directory : Directory) (v : View) : Type 0 where
@@ -32,11 +34,12 @@ ReoffersWhere false page directory steps = steps ≡ []
 -- the parking, four looks, and what they call for
 pub record ParkSteps (page : ℕ) (directory : Directory) (steps : List Made) : Type 0 where
   pub parked : ℕ
-  pub later : List ℕ
-  pub four : length later ≡ 4
+  pub later : Mask4
+  pub usable : Bool
+  pub usable_is : MatchBool usable (HasUsable directory later) (HasNoUsable directory later)
   pub after : List Made
-  pub reoffers : ReoffersWhere (any_usable directory later) page directory after
-  pub steps_are : steps ≡ after ++ (looks page later ++ (made (Park page) parked ∷ []))
+  pub reoffers : ReoffersWhere usable page directory after
+  pub steps_are : steps ≡ after ++ (looks page (words later) 4 ++ (made (Park page) parked ∷ []))
 
 -- where the looks showed a usable grain the page is offered, otherwise it is parked
 abbrev pub EndsLeave : Bool → ℕ → Directory → Bool → List Made → Type 0
@@ -45,11 +48,14 @@ EndsLeave false page directory all_free steps = ParkSteps page directory steps
 
 -- four looks, and what they call for
 pub record LeaveSteps (page : ℕ) (directory : Directory) (steps : List Made) : Type 0 where
-  pub answers : List ℕ
-  pub four : length answers ≡ 4
+  pub free : Mask4
+  pub usable : Bool
+  pub usable_is : MatchBool usable (HasUsable directory free) (HasNoUsable directory free)
+  pub all_free : Bool
+  pub all_free_is : MatchBool all_free (IsAllFree free) (HasUsed free)
   pub after : List Made
-  pub ends : EndsLeave (any_usable directory answers) page directory (are_all_ones answers) after
-  pub steps_are : steps ≡ after ++ looks page answers
+  pub ends : EndsLeave usable page directory all_free after
+  pub steps_are : steps ≡ after ++ looks page (words free) 4
 
 -- this step gives the right up, and only looks stand before it
 abbrev pub LosesHere : ℕ → Made → List Made → Type 0
@@ -68,9 +74,9 @@ pub record Leaves (page : ℕ) (directory : Directory) (desk desk' : Standing) :
 pub record OffersPage (page : ℕ) (directory : Directory) (all_free : Bool) (desk desk' : Standing) : Type 0 where
   pub steps : List Made
   pub order : OfferSteps page directory all_free steps
-  pub adds : Adds desk desk' (λ v l. MayLeave page directory v) steps
+  pub adds : Adds desk desk' (MayLeave page directory) steps
 
 pub record ParksPage (page : ℕ) (directory : Directory) (desk desk' : Standing) : Type 0 where
   pub steps : List Made
   pub order : ParkSteps page directory steps
-  pub adds : Adds desk desk' (λ v l. MayLeave page directory v) steps
+  pub adds : Adds desk desk' (MayLeave page directory) steps

@@ -1,38 +1,61 @@
 -- Looks at the free words of a page, and what they show; and the hint of a page that may be empty.
-use Rattle.std.specs.Prelude.{ℕ, ◌<◌, ◌≡◌, ◌≢◌, ◌==◌, Bool, true, false, not, ◌&&◌, ◌||◌, ◌⊎◌, List, [], ◌∷◌, length}
-use Rattle.pas_profile.specs.Directories.{deed_word_of}
+use Rattle.std.specs.Prelude.{ℕ, ◌<◌, ◌≤◌, ◌+◌, ◌≡◌, ◌≢◌, Bool, true, false, ◌⊎◌, List, [], ◌∷◌, Option, None, Some, MatchOption}
+use Rattle.pas_bits.specs.declared.mask.Mask4.{Mask4}
+use Rattle.pas_bits.specs.Masks.{is_set, AllSetBelow}
 use Rattle.pas_profile.specs.declared.directory.Directory.{Directory}
 use Rattle.pas_profile.specs.declared.word.Word.TheVariants as Word
-use Rattle.pas_steps.specs.Desks.{Standing, Anything, Adds, made}
-use Rattle.pas_steps.specs.Views.{no_usable, all_ones}
+use Rattle.pas_steps.specs.Desks.{Standing, AnyView, Adds, made}
+use Rattle.pas_steps.specs.Evidence.{Readings}
+use Rattle.pas_steps.specs.Views.{usable_by_kind, all_ones}
 use Rattle.pas_steps.specs.declared.step.Made.{Made}
 use Rattle.pas_steps.specs.declared.step.Step.TheVariants.{Look, Hint}
+use Rattle.pas_rights.specs.Words.{each_word, words, ones}
+use Rattle.pas_rights.specs.declared.reading.Used.{Used}
 
 -- ---- looks
--- looks at the free words 0, 1, .. of the page in order, with these answers, the newest first
-abbrev pub looks : ℕ → List ℕ → List Made
-looks page [] = []
-looks page (a ∷ more) = made (Look (Word.Free page (length more))) a ∷ looks page more
+-- a look at each free word below n of the page, with these answers
+abbrev pub looks : ℕ → (ℕ → ℕ) → ℕ → List Made
+looks page answers n = each_word (λ word. made (Look (Word.Free page word)) (answers word) ∷ []) n
 
--- one of the answers shows a free grain that blocks of the directory may cover
-abbrev pub any_usable : Directory → List ℕ → Bool
-any_usable directory [] = false
-any_usable directory (a ∷ more) = not (no_usable (deed_word_of directory) (length more) a) || any_usable directory more
+-- four looks, whose answers are this mask: the grains that were read as free
+abbrev pub ReadsPage : ℕ → Standing → Standing → Mask4 → Type 0
+ReadsPage page desk desk' free = Adds desk desk' AnyView (looks page (words free) 4)
 
--- each answer shows all its grains as free
-abbrev pub are_all_ones : List ℕ → Bool
-are_all_ones [] = true
-are_all_ones (a ∷ more) = (a == all_ones) && are_all_ones more
+-- ---- what they show
+-- each grain of the page, 0 to 255, that is one of the n from s on was read as free
+abbrev pub AllFree : Readings → ℕ → ℕ → Type 0
+AllFree r s n = (g : ℕ) → g < 256 → s ≤ g → g < s + n → r g ≡ true
 
--- the newest look shows a grain that isn't free, and those before it none
-abbrev pub ShowsUsed : List ℕ → Type 0
-ShowsUsed [] = ⊥
-ShowsUsed (a ∷ more) = (a ≢ all_ones) × (are_all_ones more ≡ true) × (length more < 4)
+-- a grain was read as free that blocks of the directory may cover; none was
+abbrev pub HasUsable : Directory → Mask4 → Type 0
+HasUsable directory free = (g : ℕ) × (g < 256) × (is_set free g ≡ true) × (usable_by_kind directory.kind g ≡ true)
 
--- the looks end at the first word that isn't all ones, or with the fourth
-abbrev pub LookedUntilUsed : List ℕ → Bool → Type 0
-LookedUntilUsed answers true = (length answers ≡ 4) × (are_all_ones answers ≡ true)
-LookedUntilUsed answers false = ShowsUsed answers
+abbrev pub HasNoUsable : Directory → Mask4 → Type 0
+HasNoUsable directory free = (g : ℕ) → g < 256 → is_set free g ≡ true → usable_by_kind directory.kind g ≡ false
+
+-- each grain was read as free; some grain wasn't
+abbrev pub IsAllFree : Mask4 → Type 0
+IsAllFree free = AllSetBelow free 256
+
+abbrev pub HasUsed : Mask4 → Type 0
+HasUsed free = (g : ℕ) × (g < 256) × (is_set free g ≡ false)
+
+-- ---- looks up to the first word that isn't all ones
+pub record IsUsed (used : Used) : Type 0 where
+  pub within : used.word < 4
+  pub some : used.value ≢ all_ones
+
+-- the words before it are all ones; where there is none, all four are
+abbrev pub looks_until : ℕ → Option Used → List Made
+looks_until page None = looks page ones 4
+looks_until page (Some used) = made (Look (Word.Free page used.word)) used.value ∷ looks page ones used.word
+
+abbrev pub AreUsed : Option Used → Type 0
+AreUsed used = MatchOption used (Unit {0}) IsUsed
+
+pub record ReadsUntilUsed (page : ℕ) (desk desk' : Standing) (used : Option Used) : Type 0 where
+  pub are : AreUsed used
+  pub adds : Adds desk desk' AnyView (looks_until page used)
 
 -- ---- hints
 -- a look at the backed word, and the hint where it is 1
@@ -46,21 +69,12 @@ abbrev pub HintsWhere : Bool → ℕ → List Made → Type 0
 HintsWhere true page steps = HintSteps page steps
 HintsWhere false page steps = steps ≡ []
 
+abbrev pub is_free : Option Used → Bool
+is_free None = true
+is_free (Some used) = false
+
 -- ---- of private functions
--- four looks, and what they show
-pub record Sees (page : ℕ) (directory : Directory) (desk desk' : Standing) (usable all_free : Bool) : Type 0 where
-  pub answers : List ℕ
-  pub four : length answers ≡ 4
-  pub adds : Adds desk desk' Anything (looks page answers)
-  pub usable_is : usable ≡ any_usable directory answers
-  pub all_free_is : all_free ≡ are_all_ones answers
-
-pub record SeesUntilUsed (page : ℕ) (desk desk' : Standing) (all_free : Bool) : Type 0 where
-  pub answers : List ℕ
-  pub looked : LookedUntilUsed answers all_free
-  pub adds : Adds desk desk' Anything (looks page answers)
-
 pub record Hinted (page : ℕ) (desk desk' : Standing) : Type 0 where
   pub steps : List Made
   pub order : HintSteps page steps
-  pub adds : Adds desk desk' Anything steps
+  pub adds : Adds desk desk' AnyView steps

@@ -1,5 +1,5 @@
 -- What an actor does after it put grains back. `Returned` is what `returned` promises.
-use Rattle.std.specs.Prelude.{ℕ, ◌%◌, ◌≤◌, ◌≡◌, Bool, true, false, ◌⊎◌, List, [], ◌∷◌, ◌++◌, length}
+use Rattle.std.specs.Prelude.{ℕ, ◌%◌, ◌≤◌, ◌≡◌, true, false, ◌⊎◌, List, [], ◌∷◌, ◌++◌, Option, length}
 use Rattle.pas_profile.specs.Classes.{has_bit}
 use Rattle.pas_profile.specs.declared.directory.Directory.{Directory}
 use Rattle.pas_steps.specs.Calls.{Calls, Does, Fate, Kept, on_page}
@@ -9,7 +9,8 @@ use Rattle.pas_steps.specs.Frames.{OnlyReturns}
 use Rattle.pas_steps.specs.Views.{View, KnowsDeed, is_unstamped, examines}
 use Rattle.pas_steps.specs.declared.step.Made.{Made}
 use Rattle.pas_steps.specs.declared.step.Step.TheVariants.{Offer, Unpark}
-use Rattle.pas_rights.specs.Looks.{looks, LookedUntilUsed, HintsWhere}
+use Rattle.pas_rights.specs.Looks.{looks_until, AreUsed, is_free, HintsWhere}
+use Rattle.pas_rights.specs.declared.reading.Used.{Used}
 
 -- The right of the page has this fate, and nothing is owed on the page. All else is as it was: a page that was unstamped or examined still is, so
 -- the page is clear where it was neither.
@@ -25,16 +26,15 @@ ReofferSteps page directory steps =
     ((u : ℕ) × (has_bit u (page % 64) ≡ false) × (steps ≡ made (Unpark page) u ∷ []))
     ⊎ ((u : ℕ) × (o : ℕ) × (has_bit u (page % 64) ≡ true) × (steps ≡ made (Offer page directory) o ∷ made (Unpark page) u ∷ []))
 
--- the page is taken back if it is parked, the free words are looked at, and the page is hinted where each grain was read as free
+-- the page is taken back if it is parked, the free words are looked at up to a used grain, and the page is hinted where each was read as free
 pub record ReturnSteps (page : ℕ) (directory : Directory) (steps : List Made) : Type 0 where
   pub first : List Made
   pub reoffers : ReofferSteps page directory first
-  pub answers : List ℕ
-  pub all_free : Bool
-  pub looked : LookedUntilUsed answers all_free
+  pub used : Option Used
+  pub are : AreUsed used
   pub after : List Made
-  pub hints : HintsWhere all_free page after
-  pub steps_are : steps ≡ after ++ (looks page answers ++ first)
+  pub hints : HintsWhere (is_free used) page after
+  pub steps_are : steps ≡ after ++ (looks_until page used ++ first)
 
 -- After grains were put back the actor owes nothing on the page, and has its right exactly where it had it.
 pub record Returned (page : ℕ) (directory : Directory) (desk desk' : Standing) : Type 0 where
@@ -48,4 +48,4 @@ pub record Returned (page : ℕ) (directory : Directory) (desk desk' : Standing)
 pub record ReoffersPage (page : ℕ) (directory : Directory) (desk desk' : Standing) : Type 0 where
   pub steps : List Made
   pub order : ReofferSteps page directory steps
-  pub adds : Adds desk desk' (λ v l. KnowsDeed page directory v) steps
+  pub adds : Adds desk desk' (KnowsDeed page directory) steps

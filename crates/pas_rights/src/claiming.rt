@@ -15,7 +15,7 @@ use pas_steps::Desk;
 pub fn claim<D: Desk>(desk: &mut D, page: u32, directory: Directory) -> bool
     requires page { IsPage (D.standing desk.old).seat.profile page }
     requires directory { IsDirectoryOf (D.standing desk.old).seat.profile directory }
-    requires can { CanCall (D.standing desk.old) (λ v l. KnowsDeed page directory v) }
+    requires can { CanCall (D.standing desk.old) (KnowsDeed page directory) }
     ensures claims { Claims page directory (D.standing desk.old) (D.standing desk.new) result }
     ensures home { D.home desk.new ≡ D.home desk.old }
 {

@@ -4,7 +4,8 @@ ghost use Rattle.pas_profile.specs.Profiles.{IsPage, IsDirectoryOf};
 ghost use Rattle.pas_steps.specs.Desks.{CanCall};
 ghost use Rattle.pas_rights.specs.Leaves.{MayLeave, Leaves, OffersPage, ParksPage};
 
-use crate::looking::{hint_backed, look_free};
+use crate::looking::{has_usable, hint_backed, is_all_free};
+use crate::reading::read;
 use crate::returning::reoffer;
 use pas_profile::Directory;
 use pas_steps::Desk;
@@ -17,13 +18,13 @@ use pas_steps::Desk;
 pub fn leave<D: Desk>(desk: &mut D, page: u32, directory: Directory)
     requires page { IsPage (D.standing desk.old).seat.profile page }
     requires directory { IsDirectoryOf (D.standing desk.old).seat.profile directory }
-    requires can { CanCall (D.standing desk.old) (λ v l. MayLeave page directory v) }
+    requires can { CanCall (D.standing desk.old) (MayLeave page directory) }
     ensures leaves { Leaves page directory (D.standing desk.old) (D.standing desk.new) }
     ensures home { D.home desk.new ≡ D.home desk.old }
 {
-    let seen = look_free(desk, page, directory);
-    if seen.usable {
-        offer(desk, page, directory, seen.all_free)
+    let free = read(desk, page);
+    if has_usable(&free, directory) {
+        offer(desk, page, directory, is_all_free(&free))
     } else {
         park(desk, page, directory)
     }
@@ -33,7 +34,7 @@ pub fn leave<D: Desk>(desk: &mut D, page: u32, directory: Directory)
 fn offer<D: Desk>(desk: &mut D, page: u32, directory: Directory, all_free: bool)
     requires page { IsPage (D.standing desk.old).seat.profile page }
     requires directory { IsDirectoryOf (D.standing desk.old).seat.profile directory }
-    requires can { CanCall (D.standing desk.old) (λ v l. MayLeave page directory v) }
+    requires can { CanCall (D.standing desk.old) (MayLeave page directory) }
     ensures offers { OffersPage page directory all_free (D.standing desk.old) (D.standing desk.new) }
     ensures home { D.home desk.new ≡ D.home desk.old }
 {
@@ -48,12 +49,13 @@ fn offer<D: Desk>(desk: &mut D, page: u32, directory: Directory, all_free: bool)
 fn park<D: Desk>(desk: &mut D, page: u32, directory: Directory)
     requires page { IsPage (D.standing desk.old).seat.profile page }
     requires directory { IsDirectoryOf (D.standing desk.old).seat.profile directory }
-    requires can { CanCall (D.standing desk.old) (λ v l. MayLeave page directory v) }
+    requires can { CanCall (D.standing desk.old) (MayLeave page directory) }
     ensures parks { ParksPage page directory (D.standing desk.old) (D.standing desk.new) }
     ensures home { D.home desk.new ≡ D.home desk.old }
 {
     desk.park(page);
-    if look_free(desk, page, directory).usable {
+    let later = read(desk, page);
+    if has_usable(&later, directory) {
         reoffer(desk, page, directory);
     }
 }

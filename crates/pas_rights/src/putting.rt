@@ -1,16 +1,20 @@
 //! Grains of one page are put back.
 ghost use Rattle.std.specs.Prelude.{◌≡◌, ◌<◌};
-ghost use Rattle.pas_profile.specs.Profiles.{IsPage};
+ghost use Rattle.pas_profile.specs.Profiles.{IsPage, IsDirectoryOf};
 ghost use Rattle.pas_steps.specs.Desks.{CanCall};
-ghost use Rattle.pas_rights.specs.Puts.{MayPut, PutsMask, MayPutWord, PutsWord};
+ghost use Rattle.pas_rights.specs.Puts.{masked, MayPut, PutsMask, MayPutWord, PutsWord};
+ghost use Rattle.pas_rights.specs.PutsBack.{MayPutAndReturn, PutsAndReturns, MayPutAndLeave, PutsAndLeaves};
 
+use crate::leaving::leave;
+use crate::returning::returned;
 use pas_bits::Mask4;
+use pas_profile::Directory;
 use pas_steps::Desk;
 
 /// Puts the mask's grains of the page back: one put for each free word that has any, so at most four.
-pub fn put_mask<D: Desk>(desk: &mut D, page: u32, mask: &Mask4)
+pub fn put<D: Desk>(desk: &mut D, page: u32, mask: &Mask4)
     requires page { IsPage (D.standing desk.old).seat.profile page }
-    requires can { CanCall (D.standing desk.old) (λ v l. MayPut page mask.now v) }
+    requires can { CanCall (D.standing desk.old) (MayPut page mask.now) }
     ensures puts { PutsMask page mask.now (D.standing desk.old) (D.standing desk.new) }
     ensures home { D.home desk.new ≡ D.home desk.old }
 {
@@ -23,11 +27,40 @@ pub fn put_mask<D: Desk>(desk: &mut D, page: u32, mask: &Mask4)
 fn put_word<D: Desk>(desk: &mut D, page: u32, word: u8, mask: u64)
     requires page { IsPage (D.standing desk.old).seat.profile page }
     requires word { word < 4 }
-    requires can { CanCall (D.standing desk.old) (λ v l. MayPutWord page word mask v) }
+    requires can { CanCall (D.standing desk.old) (MayPutWord page word mask) }
     ensures puts { PutsWord page word mask (D.standing desk.old) (D.standing desk.new) }
     ensures home { D.home desk.new ≡ D.home desk.old }
 {
     if mask != 0 {
         desk.put(page, word, mask);
     }
+}
+
+/// Puts the mask's grains of a page back, whose deed is known as the directory, and then does what `returned` does.
+///
+/// Where the mask is empty no step is made. At most four puts and eight steps more.
+pub fn put_and_return<D: Desk>(desk: &mut D, page: u32, directory: Directory, mask: &Mask4)
+    requires page { IsPage (D.standing desk.old).seat.profile page }
+    requires directory { IsDirectoryOf (D.standing desk.old).seat.profile directory }
+    requires can { CanCall (D.standing desk.old) (MayPutAndReturn page directory mask.now) }
+    ensures puts { PutsAndReturns page directory mask.now (D.standing desk.old) (D.standing desk.new) }
+    ensures home { D.home desk.new ≡ D.home desk.old }
+{
+    if mask.is_empty() {
+        return;
+    }
+    put(desk, page, mask);
+    returned(desk, page, directory);
+}
+
+/// Puts the mask's grains of the page back and leaves the page. At most 15 steps, and no event.
+pub fn put_and_leave<D: Desk>(desk: &mut D, page: u32, directory: Directory, mask: &Mask4)
+    requires page { IsPage (D.standing desk.old).seat.profile page }
+    requires directory { IsDirectoryOf (D.standing desk.old).seat.profile directory }
+    requires can { CanCall (D.standing desk.old) (MayPutAndLeave page directory (masked page mask.now)) }
+    ensures puts { PutsAndLeaves page directory mask.now (D.standing desk.old) (D.standing desk.new) }
+    ensures home { D.home desk.new ≡ D.home desk.old }
+{
+    put(desk, page, mask);
+    leave(desk, page, directory);
 }

@@ -5,7 +5,8 @@ ghost use Rattle.pas_steps.specs.Desks.{CanCall};
 ghost use Rattle.pas_rights.specs.Returns.{Returned, ReoffersPage};
 ghost use Rattle.pas_steps.specs.Views.{KnowsDeed};
 
-use crate::looking::{all_free, hint_backed};
+use crate::looking::hint_backed;
+use crate::reading::first_used;
 use pas_bits::page_vector::has_page;
 use pas_profile::Directory;
 use pas_steps::Desk;
@@ -14,7 +15,7 @@ use pas_steps::Desk;
 pub fn reoffer<D: Desk>(desk: &mut D, page: u32, directory: Directory)
     requires page { IsPage (D.standing desk.old).seat.profile page }
     requires directory { IsDirectoryOf (D.standing desk.old).seat.profile directory }
-    requires can { CanCall (D.standing desk.old) (λ v l. KnowsDeed page directory v) }
+    requires can { CanCall (D.standing desk.old) (KnowsDeed page directory) }
     ensures reoffers { ReoffersPage page directory (D.standing desk.old) (D.standing desk.new) }
     ensures home { D.home desk.new ≡ D.home desk.old }
 {
@@ -32,12 +33,13 @@ pub fn reoffer<D: Desk>(desk: &mut D, page: u32, directory: Directory)
 pub fn returned<D: Desk>(desk: &mut D, page: u32, directory: Directory)
     requires page { IsPage (D.standing desk.old).seat.profile page }
     requires directory { IsDirectoryOf (D.standing desk.old).seat.profile directory }
-    requires can { CanCall (D.standing desk.old) (λ v l. KnowsDeed page directory v) }
+    requires can { CanCall (D.standing desk.old) (KnowsDeed page directory) }
     ensures returns { Returned page directory (D.standing desk.old) (D.standing desk.new) }
     ensures home { D.home desk.new ≡ D.home desk.old }
 {
     reoffer(desk, page, directory);
-    if all_free(desk, page) {
-        hint_backed(desk, page);
+    match first_used(desk, page) {
+        None => hint_backed(desk, page),
+        Some(_) => {}
     }
 }

@@ -4,12 +4,12 @@ use Rattle.std.proofs.lemmas.Bool.{cases_lt, cases_Bool, eq-eqb}
 use Rattle.std.proofs.lemmas.List.{get_or_past, get_or-replicate}
 use Rattle.pas_bits.proofs.Words.{none_of_zero}
 use Rattle.pas_profile.specs.Classes.{has_bit}
-use Rattle.pas_profile.specs.Directories.{IsKind, number_of, deed_word_of, deed_word_numbered}
+use Rattle.pas_profile.specs.Directories.{IsKind, number_of, deed_word_numbered}
 use Rattle.pas_profile.specs.Profiles.{IsPage}
 use Rattle.pas_profile.specs.declared.directory.Directory.{Directory}
 use Rattle.pas_profile.specs.declared.profile.Profile.{Profile}
 use Rattle.pas_profile.specs.declared.word.Word.TheVariants as Word
-use Rattle.pas_profile.proofs.Codecs.{kind_number_lt}
+use Rattle.pas_profile.proofs.Codecs.{numbered}
 use Rattle.pas_steps.specs.Views.{View, has_right, known_deed, deed_after}
 use Rattle.pas_steps.specs.Agreement.{Agreed, Agrees, AgreesEligible}
 use Rattle.pas_steps.specs.Past.{Once}
@@ -72,7 +72,7 @@ pub rest_more : (block word a : ℕ) (row : List ℕ) → block ≤ word → ((b
 rest_more block word a row from rest b low = get_or-set_other row (word - block) (b - block) a 0 (λ e. absurd (omega (arith, e, low, from))) ∙ rest b (omega (arith, low))
 
 -- ---- what a reading of a word shows of its pages
-pub shown_as : (bit : Bool) (d : Directory) (p a : ℕ) (steps : List Made) → OnlyScans steps → Once (WordReadHere (number_of d) (p / 64) a) steps → has_bit a (p % 64) ≡ bit
+shown_as : (bit : Bool) (d : Directory) (p a : ℕ) (steps : List Made) → OnlyScans steps → Once (WordReadHere (number_of d) (p / 64) a) steps → has_bit a (p % 64) ≡ bit
     → Once (λ m before. ReadsEligible d p m.step × (has_bit m.answer (p % 64) ≡ bit) × (has_right before p ≡ false)) steps
 shown_as bit d p a [] scans h is = absurd h
 shown_as bit d p a (m ∷ before) scans (inl h) is = inl (subst (λ s. ReadsEligible d p s) (sym h.0) (ReadsEligible.Looks (number_of d) (p / 64) refl refl), ap (λ n. has_bit n (p % 64)) h.1 ∙ is, scans_lack before p scans.1)
@@ -101,8 +101,7 @@ one_lacks f v number page a (m ∷ before) scans agreed (inr h) bit = one_lacks 
 
 -- a deed that is known stays so over a look at a word of its directory
 stays_so : (t : Bool) (deed known : ℕ) → known ≡ deed → (if t then deed else known) ≡ deed
-stays_so true deed known is = refl
-stays_so false deed known is = is
+stays_so t deed known h = grind arith
 
 one_deed : (number page a from : ℕ) (answers : List ℕ) (v : View) → Once (WordReadHere number (page / 64) a) (eligible_looks number from answers) → has_bit a (page % 64) ≡ true → known_deed (eligible_looks number from answers ++ v) page ≡ deed_word_numbered number
 one_deed number page a from [] v h bit = absurd h
@@ -113,11 +112,8 @@ one_deed number page a from (b ∷ more) v (inl h) bit =
 one_deed number page a from (b ∷ more) v (inr h) bit =
     stays_so ((from + length more == page / 64) && has_bit b (page % 64)) (deed_word_numbered number) (known_deed (eligible_looks number from more ++ v) page) (one_deed number page a from more v h bit)
 
-deed_from_number : (d : Directory) → IsKind d.kind → deed_word_numbered (number_of d) ≡ deed_word_of d
-deed_from_number d is = omega (arith, kind_number_lt d.kind is)
-
 -- ---- the pages of a row
-pub shown_bit : (row : List ℕ) (block p : ℕ) → 64 * block ≤ p → shows_page row block p ≡ has_bit (slice_index row (p / 64 - block)) (p % 64)
+shown_bit : (row : List ℕ) (block p : ℕ) → 64 * block ≤ p → shows_page row block p ≡ has_bit (slice_index row (p / 64 - block)) (p % 64)
 shown_bit row block p low =
     let word : (p - 64 * block) / 64 ≡ p / 64 - block = omega (arith, low) in
     let bit : (p - 64 * block) % 64 ≡ p % 64 = omega (arith, low) in
@@ -153,7 +149,7 @@ row_one f d next from block end page row answers steps v is agreed order before 
       of_region = one_page f v (number_of d) page a steps agreed read bit;
       one = shown_as true d page a steps scans read bit;
       lower = row_zeros d next block end page row steps scans before words lowest.lower (omega (arith, within));
-      deed = λ w. ap (λ s. known_deed (s ++ w) page) order ∙ one_deed (number_of d) page a from answers w (subst (λ s. Once (WordReadHere (number_of d) (page / 64) a) s) order read) bit ∙ deed_from_number d is;
+      deed = λ w. ap (λ s. known_deed (s ++ w) page) order ∙ one_deed (number_of d) page a from answers w (subst (λ s. Once (WordReadHere (number_of d) (page / 64) a) s) order read) bit ∙ numbered d is;
       lacks = λ w agreed'. one_lacks f w (number_of d) page a steps scans agreed' read bit;
     }
 

@@ -29,10 +29,10 @@ use Rattle.pas_scan.proofs.Reading.{scans_lack}
 pub block_scans : (block : ℕ) (steps : List Made) → InBlock block steps → OnlyScans steps
 block_scans block steps = always_map (λ m before. (page : ℕ) × (m.step ≡ Look (Word.Deed page)) × (page / 64 ≡ block)) (λ m before. IsScan m.step) steps (λ m before h. subst IsScan (sym h.1) (IsScan.LooksDeed h.0))
 
-pub block_from : (block : ℕ) (steps : List Made) → InBlock block steps → From (65 * block) steps
+block_from : (block : ℕ) (steps : List Made) → InBlock block steps → From (65 * block) steps
 block_from block steps = always_map (λ m before. (page : ℕ) × (m.step ≡ Look (Word.Deed page)) × (page / 64 ≡ block)) (λ m before. 65 * block ≤ place_of m.step) steps (λ m before h. let e = ap place_of h.1 in let at = h.2 in omega (arith, e, at))
 
-pub block_below : (block : ℕ) (steps : List Made) → InBlock block steps → Below (65 * block + 64) steps
+block_below : (block : ℕ) (steps : List Made) → InBlock block steps → Below (65 * block + 64) steps
 block_below block steps = always_map (λ m before. (page : ℕ) × (m.step ≡ Look (Word.Deed page)) × (page / 64 ≡ block)) (λ m before. place_of m.step < 65 * block + 64) steps (λ m before h. let e = ap place_of h.1 in let at = h.2 in omega (arith, e, at))
 
 other_page : (q p block a known : ℕ) → q / 64 ≡ block → p / 64 ≢ block → (if q == p then a else known) ≡ known

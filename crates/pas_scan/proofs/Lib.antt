@@ -1,9 +1,9 @@
-pub mod Marking
+mod Marking
 pub mod Singles
 pub mod Reading
-pub mod EligibleRows
-pub mod OpenPages
+mod EligibleRows
+mod OpenPages
 pub mod Judging
 pub mod LeftPages
-pub mod PageLooks
-pub mod RunsSoFar
+mod PageLooks
+mod RunsSoFar

@@ -1,6 +1,6 @@
 -- The pages from the next one on that a row shows: the bits of the pages below it, and the row without them.
-use Rattle.std.proofs.Common.{◌≡◌, ℕ, ◌+◌, ◌-◌, ◌*◌, ◌/◌, ◌%◌, ◌^◌, ◌<◌, ◌≤◌, ◌&&◌, nat_lt, Bool, true, false, not, List, length, slice_index, slice_set, replicate, refl, ap, sym, ◌∙◌, arith, inl, inr, true≢false, bit_and, get_or-set_same, get_or-set_other}
-use Rattle.std.proofs.lemmas.Bool.{cases_lt, cases_Bool, lt-ltb, le-ltb, ltb-true, ltb-false}
+use Rattle.std.proofs.Common.{◌≡◌, ℕ, ◌+◌, ◌-◌, ◌*◌, ◌/◌, ◌%◌, ◌^◌, ◌<◌, ◌≤◌, ◌&&◌, nat_lt, false, not, List, length, slice_index, slice_set, replicate, ap, sym, ◌∙◌, arith, inl, inr, true≢false, bit_and, get_or-set_same, get_or-set_other}
+use Rattle.std.proofs.lemmas.Bool.{cases_lt, cases_Bool, lt-ltb, le-ltb, ltb-true, ltb-false, and_parts, not-true}
 use Rattle.std.proofs.Math.Pow.{pow-lt}
 use Rattle.std.proofs.lemmas.Nat.{pow_pos}
 use Rattle.std.proofs.lemmas.Nat.Bits.{bit_at_ones, bit_at_above}
@@ -10,6 +10,7 @@ use Rattle.pas_lanes.proofs.Rows.{none_past}
 use Rattle.pas_profile.specs.Classes.{has_bit}
 use Rattle.pas_scan.specs.Rows.{shows_page, ShowsNone, IsLowestShown}
 use Rattle.pas_scan.proofs.EligibleRows.{zero_row}
+use Rattle.std.proofs.Math.Bool.{and-true}
 
 -- ---- the bits of the pages below the next one
 pub low_bits : (block next low ones b : ℕ) → ones ≡ 2 ^ low - 1 → low ≡ next - 64 * block → b < 64 → has_bit ones b ≡ nat_lt (64 * block + b) next
@@ -20,15 +21,6 @@ low_bits block next low ones b is at h = elim (cases_lt b low) [
 
 pub ones_below : (low : ℕ) → low < 64 → 1 * 2 ^ low % 2 ^ 64 - 1 ≡ 2 ^ low - 1
 ones_below low h = let small : 2 ^ low < 2 ^ 64 = pow-lt h in let same : 1 * 2 ^ low % 2 ^ 64 ≡ 2 ^ low = omega (arith, small) in ap (λ n. n - 1) same
-
-and_true : (t : Bool) → (t && not false) ≡ t
-and_true true = refl
-and_true false = refl
-
-both_of : (s t : Bool) → (s && not t) ≡ true → (s ≡ true) × (t ≡ false)
-both_of true false h = (refl, refl)
-both_of true true h = absurd (true≢false (sym h))
-both_of false t h = absurd (true≢false (sym h))
 
 module _ (row : List ℕ) (block next below : ℕ) (long : length row ≡ 8) (from : next / 64 ≤ block) (fits : below < 2 ^ 64) (bits : (b : ℕ) → b < 64 → has_bit below b ≡ nat_lt (64 * block + b) next) where
   -- the row of these bits
@@ -56,7 +48,7 @@ module _ (row : List ℕ) (block next below : ℕ) (long : length row ≡ 8) (fr
         ∙ ap (λ t. is_set row n && not t) (ap (has_bit below) bit ∙ bits n lt)
     | inr ge ↦
         ap (λ m. has_bit m (n % 64)) (get_or-set_other row 0 (n / 64) (bit_and (slice_index row 0) (2 ^ 64 - 1 - below)) 0 (λ e. absurd (omega (arith, e, ge))))
-        ∙ sym (ap (λ t. is_set row n && not t) (le-ltb (64 * block + n) next (omega (arith, from, ge))) ∙ and_true (is_set row n))
+        ∙ sym (ap (λ t. is_set row n && not t) (le-ltb (64 * block + n) next (omega (arith, from, ge))) ∙ and-true (is_set row n))
   ]
 
   -- a row all of whose bits are of pages below the next one
@@ -70,17 +62,17 @@ module _ (row : List ℕ) (block next below : ℕ) (long : length row ≡ 8) (fr
   unshown : (p : ℕ) → next ≤ p → 64 * block ≤ p → is_set open_row (p - 64 * block) ≡ false → shows_page row block p ≡ false
   unshown p low here none =
       let past : nat_lt (64 * block + (p - 64 * block)) next ≡ false = le-ltb (64 * block + (p - 64 * block)) next (omega (arith, low, here)) in
-      sym (and_true (shows_page row block p)) ∙ ap (λ t. shows_page row block p && not t) (sym past) ∙ sym (open_bit (p - 64 * block)) ∙ none
+      sym (and-true (shows_page row block p)) ∙ ap (λ t. shows_page row block p && not t) (sym past) ∙ sym (open_bit (p - 64 * block)) ∙ none
 
   pub empty_none : IsEmpty open_row → ShowsNone row block next
   empty_none empty p low here = unshown p low here (empty (p - 64 * block))
 
   pub lowest_shown : (n : ℕ) → IsLowestSet open_row n → IsLowestShown row block next (64 * block + n)
   lowest_shown n lowest =
-      let both = both_of (is_set row n) (nat_lt (64 * block + n) next) (sym (open_bit n) ∙ lowest.set) in
+      let both = and_parts (is_set row n) (not (nat_lt (64 * block + n) next)) (sym (open_bit n) ∙ lowest.set) in
       let place : 64 * block + n - 64 * block ≡ n = omega arith in
       record {
-        from_next = ltb-false (64 * block + n) next both.1;
+        from_next = ltb-false (64 * block + n) next (not-true (nat_lt (64 * block + n) next) both.1);
         from_block = omega arith;
         within = elim (cases_lt n 512) [
           | inl lt ↦ omega (arith, lt)

@@ -1,8 +1,6 @@
 -- The looks at one page, and what they show.
 use Rattle.std.proofs.Common.{◌≡◌, ◌≢◌, ℕ, ◌+◌, ◌*◌, ◌/◌, ◌%◌, ◌^◌, ◌<◌, Bool, true, false, ◌||◌, List, [], ◌∷◌, ◌++◌, inl, inr, refl, ap, sym, ◌∙◌, subst, arith, length-append}
-use Rattle.std.proofs.lemmas.Nat.Bits.{same_from_bits_below}
-use Rattle.std.proofs.lemmas.Bool.{eqb-true, cases_lt}
-use Rattle.std.specs.Int.{bit_at}
+use Rattle.std.proofs.lemmas.Bool.{cases_lt}
 use Rattle.pas_profile.specs.Classes.{has_bit}
 use Rattle.pas_profile.specs.Directories.{number_of, deed_word_of}
 use Rattle.pas_profile.specs.declared.directory.Directory.{Directory}
@@ -11,7 +9,7 @@ use Rattle.pas_steps.specs.Views.{holds, all_ones}
 use Rattle.pas_steps.specs.Past.{Once}
 use Rattle.pas_steps.specs.Kinds.{Only}
 use Rattle.pas_steps.proofs.Apart.{only_both}
-use Rattle.pas_steps.specs.Desks.{Standing, Anything, Adds, made}
+use Rattle.pas_steps.specs.Desks.{Standing, AnyView, Adds, made}
 use Rattle.pas_steps.proofs.Adding.{adds_call}
 use Rattle.pas_steps.specs.declared.step.Step.TheVariants.{Look}
 use Rattle.pas_steps.specs.declared.step.Made.{Made}
@@ -21,16 +19,10 @@ use Rattle.pas_steps.specs.Evidence.{ReadsEligible, ReadsDeed, ReadsFree, OneHer
 use Rattle.pas_scan.specs.Usable.{DeedReadHere, OfHere, IsAllFree, WholeHere, UsedHere, ReadUsable, UnusableHere}
 use Rattle.pas_scan.specs.Runs.{page_looks, FreeLookHere, UsedLookHere, LooksFree, ReadsUsable}
 use Rattle.pas_scan.proofs.LeftPages.{holds_none_by}
+use Rattle.pas_steps.proofs.Bits.{all_set}
+use Rattle.std.proofs.Math.Bool.{or-false}
 
 -- ---- free words
--- a word all of whose bits are set is all ones
-ones_from : (a : ℕ) → a < 2 ^ 64 → ((b : ℕ) → b < 64 → has_bit a b ≡ true) → a ≡ all_ones
-ones_from a small h = same_from_bits_below 64 a all_ones small (omega arith) (λ b lt. eqb-true (bit_at a b) 1 (h b lt) ∙ sym (eqb-true (bit_at all_ones b) 1 (full_bit b lt)))
-
-or_none : (x y : Bool) → y ≡ false → (x || y) ≡ x
-or_none true y h = refl
-or_none false y h = h
-
 -- looks at free words, by steps that hold nothing
 free_here : (page word : ℕ) (m : Made) (before : List Made) → FreeLookHere page word m before → WholeHere page word m before
 free_here page word m before h = (
@@ -39,7 +31,7 @@ free_here page word m before h = (
 )
 
 used_not_free : (page word a : ℕ) (before : List Made) → a < 2 ^ 64 → a ≢ all_ones → ((b : ℕ) → b < 64 → holds before (page * 256 + (64 * word + b)) ≡ false) → IsAllFree page word a before → ⊥
-used_not_free page word a before small ne none free = ne (ones_from a small (λ b lt. sym (or_none (has_bit a b) (holds before (page * 256 + (64 * word + b))) (none b lt)) ∙ free b lt))
+used_not_free page word a before small ne none free = ne (all_set a small (λ b lt. sym (or-false (has_bit a b)) ∙ ap (λ t. has_bit a b || t) (sym (none b lt)) ∙ free b lt))
 
 used_once : (page : ℕ) (ys : List Made) → Only page_looks ys → Once (UsedLookHere page) ys → Once (UsedHere page) ys
 used_once page [] are h = absurd h
@@ -98,7 +90,7 @@ free_more page word a ys e before w lt = elim (cases_lt w word) [
 ]
 
 -- ---- all looks at a page that is of the directory and offered
-pub reads_by : {σ σ1 σ2 : Standing} (d : Directory) (page a e : ℕ) (free : Bool) → Adds σ σ1 Anything (two_looks d page a e) → a ≡ deed_word_of d → has_bit e (page % 64) ≡ true → LooksFree page σ1 σ2 free → ReadsUsable d page σ σ2 free
+pub reads_by : {σ σ1 σ2 : Standing} (d : Directory) (page a e : ℕ) (free : Bool) → Adds σ σ1 AnyView (two_looks d page a e) → a ≡ deed_word_of d → has_bit e (page % 64) ≡ true → LooksFree page σ1 σ2 free → ReadsUsable d page σ σ2 free
 reads_by d page a e true adds is bit h = record {
   steps = h.steps ++ two_looks d page a e;
   adds = adds_call adds h.adds (λ v l stood met. tt);

@@ -6,7 +6,7 @@ use Rattle.pas_profile.specs.Directories.{number_of}
 use Rattle.pas_profile.specs.declared.directory.Directory.{Directory}
 use Rattle.pas_profile.specs.declared.profile.Profile.{Profile}
 use Rattle.pas_profile.specs.declared.word.Word.TheVariants as Word
-use Rattle.pas_steps.specs.Desks.{Standing, Anything, Adds, made}
+use Rattle.pas_steps.specs.Desks.{Standing, AnyView, Adds, made}
 use Rattle.pas_steps.specs.Past.{Once}
 use Rattle.pas_steps.specs.declared.step.Made.{Made}
 use Rattle.pas_steps.specs.declared.step.Step.TheVariants.{Look}
@@ -40,7 +40,7 @@ WordReadHere number block a m before = (m.step ≡ Look (Word.Eligible number bl
 -- the words from that of `block` on to below `end` were read, each once and the lowest first; zeros stand behind them
 pub record ReadsRow (d : Directory) (block end : ℕ) (desk desk' : Standing) (row : List ℕ) : Type 0 where
   pub steps : List Made
-  pub adds : Adds desk desk' Anything steps
+  pub adds : Adds desk desk' AnyView steps
   pub answers : List ℕ
   pub order : steps ≡ eligible_looks (number_of d) block answers
   pub count : block + length answers ≡ end

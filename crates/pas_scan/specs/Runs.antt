@@ -5,7 +5,7 @@ use Rattle.pas_profile.specs.declared.directory.Kind.TheVariants as Kind
 use Rattle.pas_profile.specs.declared.profile.Profile.{Profile}
 use Rattle.pas_profile.specs.declared.word.Word.TheVariants as Word
 use Rattle.pas_steps.specs.Views.{all_ones}
-use Rattle.pas_steps.specs.Desks.{Standing, Anything, Adds}
+use Rattle.pas_steps.specs.Desks.{Standing, AnyView, Adds}
 use Rattle.pas_steps.specs.Past.{Once}
 use Rattle.pas_steps.specs.Kinds.{Kinds, LookFree, LookDeed, LookEligible, Only}
 use Rattle.pas_steps.specs.declared.step.Made.{Made}
@@ -30,7 +30,7 @@ UsedLookHere page m before = (word : ℕ) × (word < 4) × (m.step ≡ Look (Wor
 
 pub record LooksFree (page : ℕ) (desk desk' : Standing) (free : Bool) : Type 0 where
   pub steps : List Made
-  pub adds : Adds desk desk' Anything steps
+  pub adds : Adds desk desk' AnyView steps
   pub kinds : Only page_looks steps
   pub few : length steps ≤ 4
   pub outcome : MatchBool free ((word : ℕ) → word < 4 → Once (FreeLookHere page word) steps) (Once (UsedLookHere page) steps)
@@ -38,7 +38,7 @@ pub record LooksFree (page : ℕ) (desk desk' : Standing) (free : Bool) : Type 0
 -- the page was read as usable, or as not usable, and its deed word in any case
 pub record ReadsUsable (d : Directory) (page : ℕ) (desk desk' : Standing) (usable : Bool) : Type 0 where
   pub steps : List Made
-  pub adds : Adds desk desk' Anything steps
+  pub adds : Adds desk desk' AnyView steps
   pub kinds : Only page_looks steps
   pub few : length steps ≤ 6
   pub deed : Once (DeedReadHere page) steps
@@ -70,7 +70,7 @@ pub record HasNoRun (f : Profile) (d : Directory) (from next n : ℕ) (steps : L
 -- At most six looks at each page from `next` on that was read.
 pub record FindsRun (d : Directory) (from next n : ℕ) (desk desk' : Standing) (found : Option ℕ) : Type 0 where
   pub steps : List Made
-  pub adds : Adds desk desk' Anything steps
+  pub adds : Adds desk desk' AnyView steps
   pub kinds : Only page_looks steps
   pub few : MatchOption found (length steps ≤ 6 * (desk.seat.profile.pages + 1 - next)) (λ first. length steps + 6 * next ≤ 6 * (first + n))
   pub outcome : MatchOption found (HasNoRun desk.seat.profile d from next n steps) (IsFirstRun desk.seat.profile d from next n steps)

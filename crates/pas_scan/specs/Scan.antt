@@ -9,7 +9,7 @@ use Rattle.pas_profile.specs.declared.event.NoRoom.{NoRoom}
 use Rattle.pas_profile.specs.declared.event.NoRoom.TheVariants.{NoSpace, Held}
 use Rattle.pas_steps.specs.Views.{View, has_right, KnowsDeed}
 use Rattle.pas_steps.specs.Agreement.{Agreed}
-use Rattle.pas_steps.specs.Desks.{Standing, Anything, Adds, made}
+use Rattle.pas_steps.specs.Desks.{Standing, AnyView, Adds, made}
 use Rattle.pas_steps.specs.Past.{Once, Always}
 use Rattle.pas_steps.specs.Frames.{OnlyScans}
 use Rattle.pas_steps.specs.Kinds.{Kinds, LookDeed, LookParked, Only}
@@ -38,7 +38,7 @@ pub record IsFirstOffered (f : Profile) (d : Directory) (next : ℕ) (steps : Li
 -- them; and nothing else. `next'` is where the search goes on.
 pub record FindsOffered (d : Directory) (next : ℕ) (desk desk' : Standing) (next' : ℕ) (found : Option ℕ) : Type 0 where
   pub steps : List Made
-  pub adds : Adds desk desk' Anything steps
+  pub adds : Adds desk desk' AnyView steps
   pub scans : OnlyScans steps
   pub single : IsSingle steps
   pub answers : List ℕ
@@ -64,7 +64,7 @@ deed_looks from (a ∷ more) = made (Look (Word.Deed (from + length more))) a �
 -- and nothing else.
 pub record FindsBare (from : ℕ) (desk desk' : Standing) (found : Option ℕ) : Type 0 where
   pub steps : List Made
-  pub adds : Adds desk desk' Anything steps
+  pub adds : Adds desk desk' AnyView steps
   pub scans : OnlyScans steps
   pub single : IsSingle steps
   pub answers : List ℕ
@@ -102,7 +102,7 @@ judging = LookDeed ∷ LookParked ∷ []
 -- no word is read twice, so no parked bit is read both as 1 and as 0; and no eligible word is read
 pub record Judges (marks : List ℕ) (d : Directory) (desk desk' : Standing) (answer : NoRoom) : Type 0 where
   pub steps : List Made
-  pub adds : Adds desk desk' Anything steps
+  pub adds : Adds desk desk' AnyView steps
   pub scans : OnlyScans steps
   pub single : IsSingle steps
   pub kinds : Only judging steps
@@ -117,7 +117,7 @@ InBlock block = Always (λ m before. (page : ℕ) × (m.step ≡ Look (Word.Deed
 -- The bits of the answer are those of the members of this block, after looks at the deed words of its pages, from the lowest up.
 pub record FindsMembers (marks : List ℕ) (d : Directory) (block : ℕ) (desk desk' : Standing) (answer : ℕ) : Type 0 where
   pub steps : List Made
-  pub adds : Adds desk desk' Anything steps
+  pub adds : Adds desk desk' AnyView steps
   pub deeds : InBlock block steps
   pub single : IsSingle steps
   pub few : length steps ≤ 64

@@ -1,6 +1,6 @@
 //! The search for a page without a deed.
 ghost use Rattle.std.specs.Prelude.{◌≡◌, ◌≤◌};
-ghost use Rattle.pas_steps.specs.Desks.{Anything, CanCall};
+ghost use Rattle.pas_steps.specs.Desks.{AnyView, CanCall};
 ghost use Rattle.pas_scan.specs.Scan.{FindsBare};
 
 use pas_profile::Word;
@@ -11,7 +11,7 @@ use pas_steps::Desk;
 /// None exactly where each deed word from that of `from` on was read, once, as not 0.
 pub fn first_without_deed<D: Desk>(desk: &mut D, from: u32) -> Option<u32>
     requires from { 1 ≤ from }
-    requires can { CanCall (D.standing desk.old) Anything }
+    requires can { CanCall (D.standing desk.old) AnyView }
     ensures found { FindsBare from (D.standing desk.old) (D.standing desk.new) result }
     ensures home { D.home desk.new ≡ D.home desk.old }
 {

@@ -1,7 +1,7 @@
 //! The search for an offered page.
 ghost use Rattle.std.specs.Prelude.{◌≡◌, ◌≤◌};
 ghost use Rattle.pas_profile.specs.Profiles.{IsDirectoryOf};
-ghost use Rattle.pas_steps.specs.Desks.{Anything, CanCall};
+ghost use Rattle.pas_steps.specs.Desks.{AnyView, CanCall};
 ghost use Rattle.pas_scan.specs.Scan.{FindsOffered};
 
 use crate::looked::Looked;
@@ -16,7 +16,7 @@ use pas_steps::Desk;
 pub fn first_offered<D: Desk>(desk: &mut D, looked: &mut Looked) -> Option<u32>
     requires directory { IsDirectoryOf (D.standing desk.old).seat.profile looked.old.directory }
     requires next { 1 ≤ looked.old.next }
-    requires can { CanCall (D.standing desk.old) Anything }
+    requires can { CanCall (D.standing desk.old) AnyView }
     ensures directory { looked.new.directory ≡ looked.old.directory }
     ensures unfit { looked.new.unfit ≡ looked.old.unfit }
     ensures found { FindsOffered looked.old.directory looked.old.next (D.standing desk.old) (D.standing desk.new) looked.new.next result }

@@ -1,7 +1,7 @@
 //! Why a search found no page.
 ghost use Rattle.std.specs.Prelude.{ℕ, ◌≡◌, ◌≤◌, ◌<◌, ◌/◌, ◌+◌, ◌*◌};
 ghost use Rattle.pas_profile.specs.Profiles.{IsDirectoryOf};
-ghost use Rattle.pas_steps.specs.Desks.{Anything, CanCall};
+ghost use Rattle.pas_steps.specs.Desks.{AnyView, CanCall};
 ghost use Rattle.pas_scan.specs.Scan.{FindsMembers, Judges};
 
 use crate::looked::Looked;
@@ -14,7 +14,7 @@ use pas_steps::Desk;
 fn members<D: Desk>(desk: &mut D, looked: &Looked, block: u32) -> u64
     requires directory { IsDirectoryOf (D.standing desk.old).seat.profile looked.now.directory }
     requires block { block ≤ (D.standing desk.old).seat.profile.pages / 64 }
-    requires can { CanCall (D.standing desk.old) Anything }
+    requires can { CanCall (D.standing desk.old) AnyView }
     ensures members { FindsMembers looked.now.unfit looked.now.directory block (D.standing desk.old) (D.standing desk.new) result }
     ensures home { D.home desk.new ≡ D.home desk.old }
 {
@@ -36,7 +36,7 @@ fn members<D: Desk>(desk: &mut D, looked: &Looked, block: u32) -> u64
 /// one was read as 0, with the lowest such page. `NoSpace` exactly where each was read as 1.
 pub fn verdict<D: Desk>(desk: &mut D, looked: &Looked) -> NoRoom
     requires directory { IsDirectoryOf (D.standing desk.old).seat.profile looked.now.directory }
-    requires can { CanCall (D.standing desk.old) Anything }
+    requires can { CanCall (D.standing desk.old) AnyView }
     ensures judges { Judges looked.now.unfit looked.now.directory (D.standing desk.old) (D.standing desk.new) result }
     ensures home { D.home desk.new ≡ D.home desk.old }
 {

@@ -2,7 +2,7 @@
 ghost use Rattle.std.specs.Prelude.{ℕ, ◌≡◌, ◌≤◌, ◌<◌, ◌+◌, ◌*◌, ◌/◌, ◌^◌, nat_lt, MatchOption};
 ghost use Rattle.pas_profile.specs.Classes.{has_bit};
 ghost use Rattle.pas_profile.specs.Profiles.{IsDirectoryOf};
-ghost use Rattle.pas_steps.specs.Desks.{Anything, CanCall};
+ghost use Rattle.pas_steps.specs.Desks.{AnyView, CanCall};
 ghost use Rattle.pas_scan.specs.Rows.{ReadsRow, ShowsNone, IsLowestShown};
 
 use pas_lanes::{LANES, any_and_not, first_set};
@@ -20,7 +20,7 @@ pub(crate) fn read_row<D: Desk>(
     requires some { block ≤ end }
     requires few { end ≤ block + 8 }
     requires within { end ≤ (D.standing desk.old).seat.profile.pages / 64 + 1 }
-    requires can { CanCall (D.standing desk.old) Anything }
+    requires can { CanCall (D.standing desk.old) AnyView }
     ensures reads { ReadsRow directory block end (D.standing desk.old) (D.standing desk.new) result }
     ensures home { D.home desk.new ≡ D.home desk.old }
 {

@@ -1,6 +1,6 @@
 //! The search for a run of usable pages.
 ghost use Rattle.std.specs.Prelude.{◌≡◌, ◌≤◌, ◌<◌, ◌+◌, ◌-◌, ◌^◌, if◌then◌else◌};
-ghost use Rattle.pas_steps.specs.Desks.{Anything, CanCall};
+ghost use Rattle.pas_steps.specs.Desks.{AnyView, CanCall};
 ghost use Rattle.pas_scan.specs.Runs.{large_directory, FindsRun};
 
 use crate::usable::is_usable;
@@ -26,7 +26,7 @@ pub fn next_run<D: Desk>(desk: &mut D, heap: u8, from: u32, next: u32, pages: u3
     requires from { 1 ≤ from }
     requires read { from ≤ next }
     requires short { next < from + pages }
-    requires can { CanCall (D.standing desk.old) Anything }
+    requires can { CanCall (D.standing desk.old) AnyView }
     ensures found { FindsRun (large_directory heap) from next pages (D.standing desk.old) (D.standing desk.new) result }
     ensures home { D.home desk.new ≡ D.home desk.old }
 {
@@ -54,7 +54,7 @@ pub fn run_of_pages<D: Desk>(desk: &mut D, heap: u8, from: u32, pages: u32) -> O
     requires heap { heap < (D.standing desk.old).seat.profile.heaps }
     requires from { 1 ≤ from }
     requires pages { 1 ≤ pages }
-    requires can { CanCall (D.standing desk.old) Anything }
+    requires can { CanCall (D.standing desk.old) AnyView }
     ensures found { FindsRun (large_directory heap) from from pages (D.standing desk.old) (D.standing desk.new) result }
     ensures home { D.home desk.new ≡ D.home desk.old }
 {

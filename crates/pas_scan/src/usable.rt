@@ -1,7 +1,7 @@
 //! Whether a page may belong to a run.
 ghost use Rattle.std.specs.Prelude.{◌≡◌};
 ghost use Rattle.pas_profile.specs.Profiles.{IsPage, IsDirectoryOf};
-ghost use Rattle.pas_steps.specs.Desks.{Anything, CanCall};
+ghost use Rattle.pas_steps.specs.Desks.{AnyView, CanCall};
 ghost use Rattle.pas_scan.specs.Runs.{LooksFree, ReadsUsable};
 
 use pas_bits::page_vector::has_page;
@@ -11,7 +11,7 @@ use pas_steps::Desk;
 /// Whether each free word of the page is read as all ones: a look at each, the lowest first, up to the first that isn't.
 fn are_free<D: Desk>(desk: &mut D, page: u32) -> bool
     requires page { IsPage (D.standing desk.old).seat.profile page }
-    requires can { CanCall (D.standing desk.old) Anything }
+    requires can { CanCall (D.standing desk.old) AnyView }
     ensures looks { LooksFree page (D.standing desk.old) (D.standing desk.new) result }
     ensures home { D.home desk.new ≡ D.home desk.old }
 {
@@ -29,7 +29,7 @@ fn are_free<D: Desk>(desk: &mut D, page: u32) -> bool
 pub fn is_usable<D: Desk>(desk: &mut D, page: u32, directory: Directory) -> bool
     requires page { IsPage (D.standing desk.old).seat.profile page }
     requires directory { IsDirectoryOf (D.standing desk.old).seat.profile directory }
-    requires can { CanCall (D.standing desk.old) Anything }
+    requires can { CanCall (D.standing desk.old) AnyView }
     ensures reads { ReadsUsable directory page (D.standing desk.old) (D.standing desk.new) result }
     ensures home { D.home desk.new ≡ D.home desk.old }
 {

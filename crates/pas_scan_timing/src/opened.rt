@@ -1,7 +1,7 @@
 //! A region of which the last page alone is offered.
 ghost use Rattle.std.specs.Prelude.{IfOk};
 ghost use Rattle.pas_profile.specs.Profiles.{IsDirectoryOf};
-ghost use Rattle.pas_steps.specs.Desks.{Anything, CanCall};
+ghost use Rattle.pas_steps.specs.Desks.{AnyView, CanCall};
 ghost use Rattle.pas_plain.specs.Seats.{standing_of};
 
 use pas_plain::{PlainDesk, PlainRegion};
@@ -24,11 +24,12 @@ const PROFILE: Profile = Profile {
     age: 2,
     heaps: 1,
     shared: 0,
+    classes: 16,
 };
 
 /// A desk at such a region.
 pub fn last_offered(alloc: Global) -> Result<PlainDesk, NoMemory>
-    ensures can { IfOk result (λ desk. CanCall (standing_of desk) Anything) }
+    ensures can { IfOk result (λ desk. CanCall (standing_of desk) AnyView) }
     ensures directory { IfOk result (λ desk. IsDirectoryOf (standing_of desk).seat.profile DIRECTORY) }
 {
     let Ok(mut rooms) = Vec::with_capacity(alloc, 2) else {

@@ -1,7 +1,7 @@
 //! One search after another.
 ghost use Rattle.std.specs.Prelude.{◌≡◌};
 ghost use Rattle.pas_profile.specs.Profiles.{IsDirectoryOf};
-ghost use Rattle.pas_steps.specs.Desks.{Anything, CanCall};
+ghost use Rattle.pas_steps.specs.Desks.{AnyView, CanCall};
 
 use crate::opened::DIRECTORY;
 use crate::words::first_by_words;
@@ -11,10 +11,10 @@ use pas_steps::Desk;
 /// The first offered page of the directory, by rows or word by word.
 fn search<D: Desk>(desk: &mut D, looked: &mut Looked, by_rows: bool) -> Option<u32>
     requires directory { IsDirectoryOf (D.standing desk.old).seat.profile looked.old.directory }
-    requires can { CanCall (D.standing desk.old) Anything }
+    requires can { CanCall (D.standing desk.old) AnyView }
     ensures directory { looked.new.directory ≡ looked.old.directory }
     ensures seat { (D.standing desk.new).seat ≡ (D.standing desk.old).seat }
-    ensures can { CanCall (D.standing desk.new) Anything }
+    ensures can { CanCall (D.standing desk.new) AnyView }
 {
     looked.next = 1;
     if by_rows {
@@ -26,7 +26,7 @@ fn search<D: Desk>(desk: &mut D, looked: &mut Looked, by_rows: bool) -> Option<u
 /// The sum of the pages that so many searches find.
 pub fn search_often<D: Desk>(desk: &mut D, by_rows: bool, times: u32) -> u64
     requires directory { IsDirectoryOf (D.standing desk.old).seat.profile DIRECTORY }
-    requires can { CanCall (D.standing desk.old) Anything }
+    requires can { CanCall (D.standing desk.old) AnyView }
 {
     let mut looked = Looked::begin(DIRECTORY);
     let mut sum = 0u64;

@@ -1,59 +1,41 @@
 -- One page whose empty bit was cleared, up to its outcome, and what the steps show of it.
-use Rattle.std.proofs.Common.{◌≡◌, ℕ, ◌/◌, ◌%◌, ◌<◌, ◌==◌, Bool, true, false, ◌&&◌, ◌||◌, List, [], ◌∷◌, ◌++◌, Some, length, refl, ap, sym, ◌∙◌, subst, arith, inl, inr, ◌≢◌, not, if◌then◌else◌, None}
-use Rattle.std.proofs.lemmas.Bool.{and_from, and_parts, eq-eqb, eqb-true, cases_eq, ne_eqb}
-use Rattle.pas_bits.proofs.Words.{full_bit}
+use Rattle.std.proofs.Common.{◌≡◌, ℕ, ◌/◌, ◌%◌, ◌<◌, ◌==◌, nat_lt, Bool, true, false, ◌&&◌, List, [], ◌∷◌, ◌++◌, Option, Some, None, refl, ap, sym, ◌∙◌, subst, arith, inl, inr, ◌≢◌, not, if◌then◌else◌}
+use Rattle.std.proofs.lemmas.Bool.{and_from, and_right, eq-eqb, ne_eqb, lt-ltb, le-ltb}
 use Rattle.pas_bits.specs.declared.mask.Mask4.{Mask4}
 use Rattle.pas_bits.specs.Masks.{is_set}
-use Rattle.pas_profile.specs.Classes.{has_bit}
+use Rattle.pas_profile.specs.Directories.{deed_word_of}
 use Rattle.pas_profile.specs.declared.directory.Directory.{Directory}
 use Rattle.pas_profile.specs.declared.event.Outcome.{Outcome}
-use Rattle.pas_rights.specs.Looks.{are_all_ones, looks}
+use Rattle.pas_profile.specs.declared.event.Outcome.TheVariants.{Bare, InUse, NotOffered, Unbacked}
+use Rattle.pas_profile.specs.declared.word.Word.TheVariants as Word
+use Rattle.pas_rights.specs.Claims.{Claims}
+use Rattle.pas_rights.specs.Looks.{looks, looks_until, IsUsed, AreUsed, ReadsUntilUsed}
 use Rattle.pas_rights.specs.Puts.{masked}
-use Rattle.pas_rights.proofs.Orders.{same_page, ends}
+use Rattle.pas_rights.specs.Words.{ones}
+use Rattle.pas_rights.specs.declared.reading.Used.{Used}
+use Rattle.pas_rights.proofs.Looks.{looks_only}
+use Rattle.pas_rights.proofs.Orders.{same_page, ends, until_only}
 use Rattle.pas_steps.specs.Calls.{Calls}
 use Rattle.pas_steps.specs.Clear.{HasNothing}
 use Rattle.pas_steps.specs.Desks.{Standing, CanCall, Makes, made}
+use Rattle.pas_steps.specs.Evidence.{ReadsFree}
 use Rattle.pas_steps.specs.Kinds.{Taking, Only, LookFree}
+use Rattle.pas_steps.specs.Past.{Once}
 use Rattle.pas_steps.specs.Views.{View, all_ones, examines, known_epoch, KnowsDeed, known_deed, ReadBacked, holds}
-use Rattle.pas_steps.proofs.Adding.{adds_under}
-use Rattle.pas_steps.proofs.Apart.{epoch_same, only_within}
-use Rattle.pas_steps.proofs.Called.{call_as, call_then, call_knows, next_call, call_none, call_step}
-use Rattle.pas_steps.proofs.Calls.{unexamined_over}
-use Rattle.pas_scavenger.specs.Readings.{AreFree, ReadUntilUsed, was_free, takes, TakesUntilUsed, IsFirstUsed, LooksUntilUsed}
-use Rattle.pas_scavenger.specs.Judgements.{Judged, MayJudge, JudgesPage, used_at}
-use Rattle.pas_scavenger.specs.Puttings.{IsAt, MayPutBack, PutsBack, none}
-use Rattle.pas_scavenger.specs.Pages.{MayTake, TakesPage, first_looks, AsksSteps, TakesSteps, ExamineSteps, MayExamine, ReadsDirectory, ExaminesPage}
-use Rattle.pas_scavenger.specs.declared.taking.Taken.{Taken}
-use Rattle.pas_scavenger.proofs.Shapes.{judged_sized, examine_sized, examine_event, taken_on}
-use Rattle.pas_scavenger.proofs.States.{idle, at_idle, at_takes, at_as, takes_are, takes_examined, at_claim, rests, looks_are, fresh, and_none, takes_hold}
-use Rattle.pas_profile.specs.Directories.{deed_word_of}
-use Rattle.pas_profile.specs.declared.event.Outcome.TheVariants.{Bare, InUse, NotOffered, Unbacked}
-use Rattle.pas_rights.specs.Claims.{Claims}
 use Rattle.pas_steps.specs.declared.step.Made.{Made}
 use Rattle.pas_steps.specs.declared.step.Step.TheVariants.{Look, TakeRight, Hint, Take}
+use Rattle.pas_steps.proofs.Adding.{adds_under}
+use Rattle.pas_steps.proofs.Apart.{epoch_same, holds_same, only_within}
+use Rattle.pas_steps.proofs.Called.{call_as, call_then, call_knows, next_call, call_none, call_step}
+use Rattle.pas_steps.proofs.Calls.{unexamined_over}
 use Rattle.pas_steps.proofs.Past.{once_later}
-use Rattle.pas_scavenger.specs.declared.reading.Used.{Used}
-use Rattle.pas_steps.specs.Evidence.{ReadsFree}
-use Rattle.pas_steps.specs.Past.{Once}
 use Rattle.pas_scavenger.specs.Evidence.{UsedByOthers, UnbackedHere}
-use Rattle.pas_profile.specs.declared.word.Word.TheVariants as Word
-
--- ---- words that were all free
-or_second : (x y : Bool) → y ≡ true → (x || y) ≡ true
-or_second true y h = refl
-or_second false y h = h
-
-free_below : (answers : List ℕ) (g : ℕ) → are_all_ones answers ≡ true → g / 64 < length answers → was_free answers g ≡ true
-free_below [] g free lt = absurd (omega (arith, lt))
-free_below (a ∷ more) g free lt =
-    let parts = and_parts (a == all_ones) (are_all_ones more) free in
-    elim (cases_eq (length more) (g / 64)) [
-      | inl e ↦ ap (λ t. t || was_free more g) (and_from (length more == g / 64) (has_bit a (g % 64)) (eq-eqb (length more) (g / 64) e) (ap (λ n. has_bit n (g % 64)) (eqb-true a all_ones parts.0) ∙ full_bit (g % 64) (omega arith)))
-      | inr ne ↦ or_second ((length more == g / 64) && has_bit a (g % 64)) (was_free more g) (free_below more g parts.1 (omega (arith, lt, ne)))
-    ]
-
-pub all_free : (answers : List ℕ) (g : ℕ) → AreFree answers → g < 256 → was_free answers g ≡ true
-all_free answers g are lt = let four = are.four in free_below answers g are.free (omega (arith, four, lt))
+use Rattle.pas_scavenger.specs.Judgements.{Judged, MayJudge, JudgesPage, used_at}
+use Rattle.pas_scavenger.specs.Pages.{MayTake, TakesPage, first_looks, AsksSteps, TakesSteps, ExamineSteps, MayExamine, ReadsDirectory, ExaminesPage}
+use Rattle.pas_scavenger.specs.Puttings.{IsAt, MayPutBack, PutsBack, none}
+use Rattle.pas_scavenger.specs.Readings.{was_free, takes_until, TakesUntilUsed}
+use Rattle.pas_scavenger.proofs.Shapes.{judged_sized, examine_sized, examine_event, taken_on}
+use Rattle.pas_scavenger.proofs.States.{idle, at_idle, at_takes, at_as, takes_are, takes_examined, at_claim, rests, takes_hold, until_holds}
 
 -- ---- the calls
 -- these grains were taken, and the page is no longer examined
@@ -62,56 +44,54 @@ pub record IsTaken (page epoch : ℕ) (grains : Mask4) (v : View) : Type 0 where
   pub ended : examines v page ≡ false
   pub epoch_is : known_epoch v ≡ Some epoch
 
-module _ {σ σ1 : Standing} (page : ℕ) (d : Directory) (epoch : ℕ) (taken : Taken) (t : TakesUntilUsed page σ σ1 taken) where
-  is_taken : (v : View) → MayTake page d epoch v → IsTaken page epoch taken.grains (takes page t.answers ++ v)
+module _ {σ σ1 : Standing} (page : ℕ) (d : Directory) (epoch : ℕ) (used : Option Used) (grains : Mask4) (got : (g : ℕ) → is_set grains g ≡ was_free used g) (t : TakesUntilUsed page σ σ1 used) where
+  is_taken : (v : View) → MayTake page d epoch v → IsTaken page epoch grains (takes_until page used ++ v)
   is_taken v met = record {
-    at = at_as (masked page taken.grains) (at_takes page t.answers v met.at) (λ g. ap (λ x. (page == g / 256) && x) (sym (t.got (g % 256))));
-    ended = takes_examined page t.answers v taken.used t.read;
-    epoch_is = epoch_same (Taking ∷ []) refl (takes page t.answers) v (takes_are page t.answers) ∙ met.epoch_is;
+    at = at_as (masked page grains) (at_takes page used v met.at) (λ g. ap (λ x. (page == g / 256) && x) (sym (got (g % 256))));
+    ended = takes_examined page used v;
+    epoch_is = epoch_same (Taking ∷ []) refl (takes_until page used) v (takes_are page used) ∙ met.epoch_is;
   }
 
-  pub took : Calls σ σ1 (MayTake page d epoch) (λ v w. IsTaken page epoch taken.grains w) (takes page t.answers)
+  pub took : Calls σ σ1 (MayTake page d epoch) (λ v w. IsTaken page epoch grains w) (takes_until page used)
   took = record { adds = adds_under t.adds (λ v l stood met. met.at.rights page ∙ same_page page); leads = record { from = λ v met agreed. is_taken v met } }
 
-  may_judge : (v : View) → IsTaken page epoch taken.grains v → MayJudge page epoch taken.used v
+  may_judge : (v : View) → IsTaken page epoch grains v → MayJudge page epoch used v
   may_judge v is = record {
-    held = λ whole g here. is.at.held g ∙ and_from (page == g / 256) (is_set taken.grains (g % 256)) (eq-eqb page (g / 256) (sym here))
-        (t.got (g % 256) ∙ all_free t.answers (g % 256) (subst (ReadUntilUsed t.answers) whole t.read) (omega arith));
+    held = λ whole g here. is.at.held g ∙ and_from (page == g / 256) (is_set grains (g % 256)) (eq-eqb page (g / 256) (sym here)) (got (g % 256) ∙ ap (λ u. was_free u (g % 256)) whole ∙ lt-ltb (g % 256 / 64) 4 (omega arith));
     stamped = is.at.stamped page;
     epoch_is = is.epoch_is;
   }
 
-  pub can_judge : CanCall σ (λ v l. MayTake page d epoch v) → CanCall σ1 (λ v l. MayJudge page epoch taken.used v)
-  can_judge can = next_call took can (λ v met is. may_judge (takes page t.answers ++ v) is)
+  pub can_judge : CanCall σ (MayTake page d epoch) → CanCall σ1 (MayJudge page epoch used)
+  can_judge can = next_call took can (λ v met is. may_judge (takes_until page used ++ v) is)
 
-  module _ {σ2 : Standing} {outcome : Outcome} (j : JudgesPage page epoch taken.used σ1 σ2 outcome) where
+  module _ {σ2 : Standing} {outcome : Outcome} (j : JudgesPage page epoch used σ1 σ2 outcome) where
     only_idle : Only idle j.steps
-    only_idle = (judged_sized σ1.seat.profile.age epoch page taken.used outcome j.steps j.judged).only
+    only_idle = (judged_sized σ1.seat.profile.age epoch page used outcome j.steps j.judged).only
 
-    judged_call : Calls σ σ2 (MayTake page d epoch) (λ v w. MayPutBack page d taken.grains w) (j.steps ++ takes page t.answers)
+    judged_call : Calls σ σ2 (MayTake page d epoch) (λ v w. MayPutBack page d grains w) (j.steps ++ takes_until page used)
     judged_call =
-        let c : Calls σ1 σ2 (IsTaken page epoch taken.grains) (λ v w. IsAt page (masked page taken.grains) true w × (examines w page ≡ false)) j.steps = record {
+        let c : Calls σ1 σ2 (IsTaken page epoch grains) (λ v w. IsAt page (masked page grains) true w × (examines w page ≡ false)) j.steps = record {
           adds = adds_under j.adds (λ v l stood is. may_judge v is);
           leads = record { from = λ v is agreed. (at_idle j.steps v only_idle is.at, unexamined_over idle refl page j.steps v only_idle is.ended) };
         } in
-        let both = call_then (λ v w. IsAt page (masked page taken.grains) true w × (examines w page ≡ false)) took c (λ v met is. is) (λ v met is after. after) in
-        call_as (λ v w. MayPutBack page d taken.grains w) (call_knows page d both (λ v met. met.deed)) (λ v met. met) (λ v w met h. record { at = h.0.0; ended = h.0.1; deed = h.1 })
+        let both = call_then (λ v w. IsAt page (masked page grains) true w × (examines w page ≡ false)) took c (λ v met is. is) (λ v met is after. after) in
+        call_as (λ v w. MayPutBack page d grains w) (call_knows page d both (λ v met. met.deed)) (λ v met. met) (λ v w met h. record { at = h.0.0; ended = h.0.1; deed = h.1 })
 
-    pub can_put : CanCall σ (λ v l. MayTake page d epoch v) → CanCall σ2 (λ v l. MayPutBack page d taken.grains v)
+    pub can_put : CanCall σ (MayTake page d epoch) → CanCall σ2 (MayPutBack page d grains)
     can_put can = next_call judged_call can (λ v met may. may)
 
-    pub takes_page : {σ3 : Standing} → PutsBack page d taken.grains σ2 σ3 → TakesPage page d epoch σ σ3 outcome
+    pub takes_page : {σ3 : Standing} → PutsBack page d grains σ2 σ3 → TakesPage page d epoch σ σ3 outcome
     takes_page p = record {
-      steps = p.steps ++ (j.steps ++ takes page t.answers);
+      steps = p.steps ++ (j.steps ++ takes_until page used);
       calls = call_then (λ v w. HasNothing w) judged_call p.calls (λ v met may. may) (λ v met may rests. rests);
       order = record {
-        answers = t.answers;
-        used = taken.used;
-        read = t.read;
+        used = used;
+        are = t.are;
         after = j.steps;
-        judged = subst (λ s. Judged s.profile.age epoch page taken.used outcome j.steps) t.adds.seat_is j.judged;
-        grains = taken.grains;
-        got = t.got;
+        judged = subst (λ s. Judged s.profile.age epoch page used outcome j.steps) t.adds.seat_is j.judged;
+        grains = grains;
+        got = got;
         back = p.steps;
         puts = p.order;
         steps_are = refl;
@@ -131,18 +111,17 @@ examined {σ} page epoch outcome steps calls order = let age = σ.seat.profile.a
 still : (page epoch : ℕ) (steps : List Made) (v : View) → Only idle steps → MayExamine page epoch v → MayExamine page epoch (steps ++ v)
 still page epoch steps v only met = record { at = at_idle steps v only met.at; epoch_is = epoch_same idle refl steps v only ∙ met.epoch_is }
 
-looks_idle : (page : ℕ) (answers : List ℕ) → Only idle (looks page answers)
-looks_idle page answers = only_within (LookFree ∷ []) idle (looks page answers) refl (looks_are page answers)
+looks_idle : (page : ℕ) (used : Option Used) → Only idle (looks_until page used)
+looks_idle page used = only_within (LookFree ∷ []) idle (looks_until page used) refl (until_only page used)
 
 -- ---- the examination ends at a backed word that is 0, and at a free word that isn't all ones
 bare_ends : (page b : ℕ) (was : Bool) → b ≡ 0 → (if (page == page) && (b == 0) then false else was) ≡ false
 bare_ends page b was zero = ap (λ t. if t && (b == 0) then false else was) (same_page page) ∙ ap (λ t. if t then false else was) (eq-eqb b 0 zero)
 
-used_ends : (page : ℕ) (answers : List ℕ) (used : Used) (v : View) → IsFirstUsed answers used → examines (looks page answers ++ v) page ≡ false
-used_ends page [] used v is = let are = is.answers_are in cc
-used_ends page (a ∷ more) used v is =
-    let are = is.answers_are in let same : a ≡ used.value = cc in let was = examines (looks page more ++ v) page in
-    ap (λ t. if t && not (a == all_ones) then false else was) (same_page page) ∙ ap (λ t. if not t then false else was) (ne_eqb a all_ones (λ e. is.some (sym same ∙ e)))
+used_ends : (page : ℕ) (used : Used) (v : View) → IsUsed used → examines (looks_until page (Some used) ++ v) page ≡ false
+used_ends page used v is =
+    let a = used.value in let was = examines (looks page ones used.word ++ v) page in
+    ap (λ t. if t && not (a == all_ones) then false else was) (same_page page) ∙ ap (λ t. if not t then false else was) (ne_eqb a all_ones is.some)
 
 pub bare_page : {σ σ1 : Standing} (page epoch b : ℕ) → Makes σ σ1 (Look (Word.Backed page)) b → b ≡ 0 → ExaminesPage page epoch σ σ1 Bare
 bare_page page epoch b makes zero = examined page epoch Bare (made (Look (Word.Backed page)) b ∷ [])
@@ -158,29 +137,29 @@ module _ {σ σ1 : Standing} (page epoch b : ℕ) (some : b ≢ 0) (first : Make
   backed = call_step (λ v w. IsSeen page epoch w) (call_none {R = λ v w. MayExamine page epoch w} (λ v met. met)) first (λ v met is. tt)
       (λ v met is agrees. let small = agrees.small in (still page epoch (made (Look (Word.Backed page)) b ∷ []) v (refl, tt) met, inl (same_page page, omega (arith, small, some))))
 
-  pub used_page : {σ2 : Standing} (used : Used) → LooksUntilUsed page σ1 σ2 (Some used) → ExaminesPage page epoch σ σ2 (InUse used.word used.value)
+  pub used_page : {σ2 : Standing} (used : Used) → ReadsUntilUsed page σ1 σ2 (Some used) → ExaminesPage page epoch σ σ2 (InUse used.word used.value)
   used_page {σ2} used l =
-      let c : Calls σ1 σ2 (IsSeen page epoch) (λ v w. HasNothing w) (looks page l.answers) = record {
+      let c : Calls σ1 σ2 (IsSeen page epoch) (λ v w. HasNothing w) (looks_until page (Some used)) = record {
         adds = adds_under l.adds (λ v l stood met. tt);
-        leads = record { from = λ v is agreed. rests (at_idle (looks page l.answers) v (looks_idle page l.answers) is.0.at) (used_ends page l.answers used v l.read) };
+        leads = record { from = λ v is agreed. rests (at_idle (looks_until page (Some used)) v (looks_idle page (Some used)) is.0.at) (used_ends page used v l.are) };
       } in
-      examined page epoch (InUse used.word used.value) (first_looks page b l.answers) (call_then (λ v w. HasNothing w) backed c (λ v met is. is) (λ v met is r. r)) (inl (b, l.answers, some, l.read, refl))
+      examined page epoch (InUse used.word used.value) (first_looks page b (Some used)) (call_then (λ v w. HasNothing w) backed c (λ v met is. is) (λ v met is r. r)) (inl (b, some, l.are, refl))
 
   -- each free word is all ones
-  module _ {σ2 : Standing} (l : LooksUntilUsed page σ1 σ2 None) where
-    seen : Calls σ σ2 (MayExamine page epoch) (λ v w. IsSeen page epoch w) (first_looks page b l.answers)
+  module _ {σ2 : Standing} (l : ReadsUntilUsed page σ1 σ2 None) where
+    seen : Calls σ σ2 (MayExamine page epoch) (λ v w. IsSeen page epoch w) (first_looks page b None)
     seen =
-        let c : Calls σ1 σ2 (IsSeen page epoch) (λ v w. IsSeen page epoch w) (looks page l.answers) = record {
+        let c : Calls σ1 σ2 (IsSeen page epoch) (λ v w. IsSeen page epoch w) (looks_until page None) = record {
           adds = adds_under l.adds (λ v l stood met. tt);
-          leads = record { from = λ v is agreed. (still page epoch (looks page l.answers) v (looks_idle page l.answers) is.0, once_later _ (looks page l.answers) v is.1) };
+          leads = record { from = λ v is agreed. (still page epoch (looks_until page None) v (looks_idle page None) is.0, once_later _ (looks_until page None) v is.1) };
         } in
         call_then (λ v w. IsSeen page epoch w) backed c (λ v met is. is) (λ v met is r. r)
 
-    pub can_read : CanCall σ (λ v l. MayExamine page epoch v) → CanCall σ2 (λ v l. ReadBacked v page)
+    pub can_read : CanCall σ (MayExamine page epoch) → CanCall σ2 (λ v. ReadBacked v page)
     can_read can = next_call seen can (λ v met is. is.1)
 
     module _ {σ3 : Standing} (d : Directory) (r : ReadsDirectory page σ2 σ3 d) where
-      known : Calls σ σ3 (MayExamine page epoch) (λ v w. MayExamine page epoch w × KnowsDeed page d w) (made (Look (Word.Deed page)) (deed_word_of d) ∷ first_looks page b l.answers)
+      known : Calls σ σ3 (MayExamine page epoch) (λ v w. MayExamine page epoch w × KnowsDeed page d w) (made (Look (Word.Deed page)) (deed_word_of d) ∷ first_looks page b None)
       known =
           let look = made (Look (Word.Deed page)) (deed_word_of d) ∷ [] in
           let c : Calls σ2 σ3 (IsSeen page epoch) (λ v w. MayExamine page epoch w × KnowsDeed page d w) look = record {
@@ -189,21 +168,21 @@ module _ {σ σ1 : Standing} (page epoch b : ℕ) (some : b ≢ 0) (first : Make
           } in
           call_then (λ v w. MayExamine page epoch w × KnowsDeed page d w) seen c (λ v met is. is) (λ v met is r. r)
 
-      pub can_claim : CanCall σ (λ v l. MayExamine page epoch v) → CanCall σ3 (λ v l. KnowsDeed page d v)
+      pub can_claim : CanCall σ (MayExamine page epoch) → CanCall σ3 (KnowsDeed page d)
       can_claim can = next_call known can (λ v met is. is.1)
 
       module _ {σ4 : Standing} (got : Bool) (cl : Claims page d σ3 σ4 got) where
         pub asking : List Made
-        asking = made (TakeRight page d) cl.answer ∷ made (Look (Word.Deed page)) (deed_word_of d) ∷ first_looks page b l.answers
+        asking = made (TakeRight page d) cl.answer ∷ made (Look (Word.Deed page)) (deed_word_of d) ∷ first_looks page b None
 
         pub asked : Calls σ σ4 (MayExamine page epoch) (λ v w. IsAt page none got w × (known_epoch w ≡ Some epoch) × KnowsDeed page d w) asking
         unfolding asking
         asked = call_then (λ v w. IsAt page none got w × (known_epoch w ≡ Some epoch) × KnowsDeed page d w) known (call_knows page d cl.calls (λ v met. met)) (λ v met is. is.1)
-            (λ v met is r. (at_claim page d cl.answer got (made (Look (Word.Deed page)) (deed_word_of d) ∷ (first_looks page b l.answers ++ v)) r.0 is.0.at, is.0.epoch_is, r.1))
+            (λ v met is r. (at_claim page d cl.answer got (made (Look (Word.Deed page)) (deed_word_of d) ∷ (first_looks page b None ++ v)) r.0 is.0.at, is.0.epoch_is, r.1))
 
         pub asks : AsksSteps page d got asking
         unfolding asking
-        asks = record { backed = b; some = some; answers = l.answers; free = l.read; answer = cl.answer; got_is = cl.got_is; steps_are = refl }
+        asks = record { backed = b; some = some; answer = cl.answer; got_is = cl.got_is; steps_are = refl }
 
       pub page_not_offered : {σ4 σ5 : Standing} (cl : Claims page d σ3 σ4 false) (h : ℕ) → Makes σ4 σ5 (Hint page) h → ExaminesPage page epoch σ σ5 NotOffered
       page_not_offered cl h makes = examined page epoch NotOffered (made (Hint page) h ∷ asking false cl)
@@ -214,39 +193,35 @@ module _ {σ σ1 : Standing} (page epoch b : ℕ) (some : b ≢ 0) (first : Make
         may_take : {v : View} → IsAt page none true v × (known_epoch v ≡ Some epoch) × KnowsDeed page d v → MayTake page d epoch v
         may_take is = record { at = is.0; epoch_is = is.1; deed = is.2 }
 
-        pub can_take : CanCall σ (λ v l. MayExamine page epoch v) → CanCall σ4 (λ v l. MayTake page d epoch v)
+        pub can_take : CanCall σ (MayExamine page epoch) → CanCall σ4 (MayTake page d epoch)
         can_take can = next_call (asked true cl) can (λ v met is. may_take is)
 
         pub page_taken : {σ5 : Standing} {outcome : Outcome} → TakesPage page d epoch σ4 σ5 outcome → ExaminesPage page epoch σ σ5 outcome
         page_taken {outcome = outcome} t = examined page epoch outcome (t.steps ++ asking true cl) (call_then (λ v w. HasNothing w) (asked true cl) t.calls (λ v met is. may_take is) (λ v met is r. r))
             (inr record { directory = d; asked = asking true cl; asks = asks true cl; after = t.steps; takes = subst (λ s. TakesSteps s.profile.age epoch page d outcome t.steps) (asked true cl).adds.seat_is t.order; steps_are = refl })
 
-looks_hold : (page g : ℕ) (answers : List ℕ) (v : View) → holds (looks page answers ++ v) g ≡ holds v g
-looks_hold page g [] v = refl
-looks_hold page g (a ∷ more) v = looks_hold page g more v
+looks_hold : (page g : ℕ) (used : Option Used) (v : View) → holds (looks_until page used ++ v) g ≡ holds v g
+looks_hold page g used v = holds_same (LookFree ∷ []) refl g (looks_until page used) v (until_only page used)
 
 asks_none : (page : ℕ) (d : Directory) (steps : List Made) → AsksSteps page d true steps → (g : ℕ) → holds steps g ≡ false
-asks_none page d steps h g = ap (λ s. holds s g) h.steps_are ∙ looks_hold page g h.answers (made (Look (Word.Backed page)) h.backed ∷ [])
+asks_none page d steps h g = ap (λ s. holds s g) h.steps_are ∙ looks_hold page g None (made (Look (Word.Backed page)) h.backed ∷ [])
 
 pub used_by_others : (age epoch page word value : ℕ) (steps : List Made) → ExamineSteps age epoch page (InUse word value) steps → (value ≢ all_ones) × Once (UsedByOthers page word value) steps
-used_by_others age epoch page word value steps (inl h) =
-    let first = h.3 in let b = made (Look (Word.Backed page)) h.0 ∷ [] in (
-      first.some,
-      subst (Once (UsedByOthers page word value)) (sym (h.4 ∙ ap (first_looks page h.0) first.answers_are))
-          (inl (subst (λ n. ReadsFree page n (Look (Word.Free page (length first.earlier)))) (sym first.word_is) ReadsFree.Looks, refl, λ g at here. looks_hold page g first.earlier b)),
-    )
+used_by_others age epoch page word value steps (inl h) = let b = made (Look (Word.Backed page)) h.0 ∷ [] in (
+  h.2.some,
+  subst (Once (UsedByOthers page word value)) (sym h.3)
+      (inl (ReadsFree.Looks, refl, λ g at here. holds_same (LookFree ∷ []) refl g (looks page ones word) b (looks_only page ones word))),
+)
 used_by_others age epoch page word value steps (inr h) =
     let t = h.takes in
-    let first : IsFirstUsed t.answers (used_at word value) = subst (ReadUntilUsed t.answers) t.judged.0 t.read in
-    let are = taken_on age epoch page (InUse word value) steps h ∙ ap (λ s. t.back ++ (s ++ (takes page t.answers ++ h.asked))) t.judged.1 ∙ ap (λ xs. t.back ++ (takes page xs ++ h.asked)) first.answers_are in (
-      first.some,
-      subst (Once (UsedByOthers page word value)) (sym are) (once_later (UsedByOthers page word value) t.back (takes page (value ∷ first.earlier) ++ h.asked)
+    let used : IsUsed (used_at word value) = subst AreUsed t.judged.0 t.are in
+    let are = taken_on age epoch page (InUse word value) steps h ∙ ap (λ s. t.back ++ (s ++ (takes_until page t.used ++ h.asked))) t.judged.1 ∙ ap (λ u. t.back ++ (takes_until page u ++ h.asked)) t.judged.0 in (
+      used.some,
+      subst (Once (UsedByOthers page word value)) (sym are) (once_later (UsedByOthers page word value) t.back (takes_until page (Some (used_at word value)) ++ h.asked)
           (inl (
-            subst (λ n. ReadsFree page n (Take page (length first.earlier) all_ones)) (sym first.word_is) (ReadsFree.Takes all_ones),
+            ReadsFree.Takes all_ones,
             refl,
-            λ g at here.
-                let word_is = first.word_is in
-                takes_hold page first.earlier h.asked (asks_none page h.directory h.asked h.asks) g ∙ ap (λ x. (page == g / 256) && x) (fresh first.earlier (g % 256) (omega (arith, word_is, here))) ∙ and_none (page == g / 256),
+            λ g at here. takes_hold page word g h.asked (asks_none page h.directory h.asked h.asks g) ∙ and_right (page == g / 256) (nat_lt (g % 256 / 64) word) (le-ltb (g % 256 / 64) word (omega (arith, here))),
           ))),
     )
 
@@ -254,11 +229,11 @@ pub unbacked_when_old : (age epoch page : ℕ) (steps : List Made) → ExamineSt
 unbacked_when_old age epoch page steps (inl h) = absurd h
 unbacked_when_old age epoch page steps (inr h) =
     let t = h.takes in let j = t.judged in
-    let are = taken_on age epoch page Unbacked steps h ∙ ap (λ s. t.back ++ (s ++ (takes page t.answers ++ h.asked))) j.6 in
+    let are = taken_on age epoch page Unbacked steps h ∙ ap (λ s. t.back ++ (s ++ (takes_until page t.used ++ h.asked))) j.6 in
     subst (Once (UnbackedHere age epoch page)) (sym are) (once_later (UnbackedHere age epoch page) t.back _ (inl (
       refl,
       λ g at.
-          takes_hold page t.answers h.asked (asks_none page h.directory h.asked h.asks) g
-          ∙ and_from (page == g / 256) (was_free t.answers (g % 256)) (eq-eqb page (g / 256) (sym at)) (all_free t.answers (g % 256) (subst (ReadUntilUsed t.answers) j.3 t.read) (omega arith)),
+          until_holds page t.used g h.asked (asks_none page h.directory h.asked h.asks g)
+          ∙ and_from (page == g / 256) (was_free t.used (g % 256)) (eq-eqb page (g / 256) (sym at)) (ap (λ u. was_free u (g % 256)) j.3 ∙ lt-ltb (g % 256 / 64) 4 (omega arith)),
       inl (refl, j.5),
     )))

@@ -14,7 +14,7 @@ use Rattle.pas_steps.proofs.Backed.{any_from}
 use Rattle.pas_steps.proofs.Bits.{all_below-from}
 use Rattle.pas_rights.proofs.Orders.{same_page}
 use Rattle.pas_scavenger.specs.Judgements.{MayJudge}
-use Rattle.pas_scavenger.specs.declared.reading.Used.{Used}
+use Rattle.pas_rights.specs.declared.reading.Used.{Used}
 
 abbrev pub two_looks : ℕ → ℕ → ℕ → List Made
 two_looks page b stamp = made (Look (Word.Stamp page)) stamp ∷ made (Look (Word.Backed page)) b ∷ []
@@ -41,7 +41,7 @@ may_unback f page epoch b stamp used v whole some old met agreed =
     }
 
 module _ {σ σ1 σ2 : Standing} (page epoch b stamp : ℕ) (used : Option Used) (backed : Makes σ σ1 (Look (Word.Backed page)) b) (stamped : Makes σ1 σ2 (Look (Word.Stamp page)) stamp) where
-  pub looked : Adds σ σ2 (λ v l. MayJudge page epoch used v) (two_looks page b stamp)
+  pub looked : Adds σ σ2 (MayJudge page epoch used) (two_looks page b stamp)
   looked = adds_step (adds_step adds_none backed (λ v l stood met. tt)) stamped (λ v l stood met. tt)
 
   pub age_is : (f : Profile) → f ≡ σ2.seat.profile → f.age ≡ σ.seat.profile.age

@@ -1,4 +1,5 @@
 pub mod States
+pub mod Grains
 pub mod Judgings
 pub mod PuttingBack
 pub mod Shapes

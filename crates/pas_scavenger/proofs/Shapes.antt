@@ -1,12 +1,16 @@
 -- The steps for one page: their kinds, their number and their event.
-use Rattle.std.proofs.Common.{◌≡◌, ℕ, ◌+◌, true, false, suc, ◌≤◌, Bool, List, [], ◌∷◌, ◌++◌, Option, None, Some, length, refl, ap, sym, ◌∙◌, subst, arith, inl, inr, append_assoc, length-append}
+use Rattle.std.proofs.Common.{◌≡◌, ℕ, ◌+◌, true, false, ◌≤◌, Bool, List, [], ◌∷◌, ◌++◌, Option, None, Some, length, refl, ap, sym, ◌∙◌, subst, arith, inl, inr, append_assoc, length-append}
 use Rattle.pas_bits.specs.declared.mask.Mask4.{Mask4}
 use Rattle.pas_profile.specs.declared.directory.Directory.{Directory}
 use Rattle.pas_profile.specs.declared.event.Event.{Event}
 use Rattle.pas_profile.specs.declared.event.Outcome.{Outcome}
 use Rattle.pas_profile.specs.declared.event.Outcome.TheVariants.{Unbacked, Bare, Young, InUse, NotOffered}
 use Rattle.pas_profile.specs.declared.word.Word.TheVariants as Word
-use Rattle.pas_rights.proofs.Orders.{looks_count, leave_few, return_few, leave_returns, return_returns}
+use Rattle.pas_rights.specs.Looks.{AreUsed}
+use Rattle.pas_rights.specs.Words.{ones}
+use Rattle.pas_rights.specs.declared.reading.Used.{Used}
+use Rattle.pas_rights.proofs.Orders.{until_only, until_few, leave_few, return_few, leave_returns, return_returns}
+use Rattle.pas_rights.proofs.Takes.{takes_few as grains_few}
 use Rattle.pas_rights.proofs.Puts.{puts_kinds, puts_few}
 use Rattle.pas_steps.specs.Desks.{made}
 use Rattle.pas_steps.specs.Events.{events_by}
@@ -16,13 +20,12 @@ use Rattle.pas_steps.specs.declared.step.Made.{Made}
 use Rattle.pas_steps.specs.declared.step.Step.TheVariants.{Look}
 use Rattle.pas_steps.proofs.Apart.{only_within, only_both, epoch_same, events_same, no_events}
 use Rattle.pas_steps.proofs.Calls.{returns_are}
-use Rattle.pas_scavenger.specs.Readings.{ReadUntilUsed, takes}
+use Rattle.pas_scavenger.specs.Readings.{takes_until}
 use Rattle.pas_scavenger.specs.Judgements.{used_at, Judged}
 use Rattle.pas_scavenger.specs.Puttings.{BackSteps}
 use Rattle.pas_scavenger.specs.Pages.{first_looks, AsksSteps, EndsWithout, EndsWith, ExamineSteps, unback_of, quiet, examining}
-use Rattle.pas_scavenger.specs.declared.reading.Used.{Used}
 use Rattle.pas_scavenger.proofs.Judgings.{two_looks}
-use Rattle.pas_scavenger.proofs.States.{idle, looks_are, takes_are}
+use Rattle.pas_scavenger.proofs.States.{idle, takes_are}
 
 -- ---- kinds, and how many they are
 -- steps of these kinds, at most so many
@@ -42,21 +45,15 @@ sized_as {ks} {steps = steps} ls w a = record { only = only_within ks ls steps w
 sized_at : {ks : Kinds} {n : ℕ} {xs steps : List Made} → steps ≡ xs → Sized ks n xs → Sized ks n steps
 sized_at {ks} {n} e a = subst (Sized ks n) (sym e) a
 
-read_few : (answers : List ℕ) (used : Option Used) → ReadUntilUsed answers used → length answers ≤ 4
-read_few answers None read = let four = read.four in omega (arith, four)
-read_few answers (Some used) read = let n = ap (λ (xs : List ℕ). length xs) read.answers_are in let word = read.word_is in let lt = read.within in omega (arith, n, word, lt)
-
-first_sized : (page b : ℕ) (answers : List ℕ) (used : Option Used) → ReadUntilUsed answers used → Sized quiet 5 (first_looks page b answers)
-first_sized page b answers used read =
-    let n = looks_count page answers in let few = read_few answers used read in
-    sized_both {m = 4} {n = 1} (sized_as quiet refl (sized (LookFree ∷ []) 4 (looks_are page answers) (omega (arith, n, few)))) (sized quiet 1 (refl, tt) (omega arith))
+first_sized : (page b : ℕ) (used : Option Used) → AreUsed used → Sized quiet 5 (first_looks page b used)
+first_sized page b used are = sized_both {m = 4} {n = 1} (sized_as quiet refl (sized (LookFree ∷ []) 4 (until_only page used) (until_few page used are))) (sized quiet 1 (refl, tt) (omega arith))
 
 pub asks_sized : (page : ℕ) (d : Directory) (got : Bool) (steps : List Made) → AsksSteps page d got steps → Sized quiet 7 steps
-asks_sized page d got steps h = let first = first_sized page h.backed h.answers None h.free in let few = first.few in sized_at h.steps_are (sized quiet 7 (refl, (refl, first.only)) (omega (arith, few)))
+asks_sized page d got steps h = let first = first_sized page h.backed None tt in let few = first.few in sized_at h.steps_are (sized quiet 7 (refl, (refl, first.only)) (omega (arith, few)))
 
 without_sized : (page : ℕ) (outcome : Outcome) (steps : List Made) → EndsWithout page outcome steps → Sized quiet 8 steps
 without_sized page Bare steps h = sized_at h (sized quiet 8 (refl, tt) (omega arith))
-without_sized page (InUse w v) steps h = let first = first_sized page h.0 h.1 (Some (used_at w v)) h.3 in let few = first.few in sized_at h.4 (sized quiet 8 first.only (omega (arith, few)))
+without_sized page (InUse w v) steps h = let first = first_sized page h.0 (Some (used_at w v)) h.2 in let few = first.few in sized_at h.3 (sized quiet 8 first.only (omega (arith, few)))
 without_sized page NotOffered steps h = let asked = asks_sized page h.0 false h.2 h.3 in let few = asked.few in sized_at h.4 (sized quiet 8 (refl, asked.only) (omega (arith, few)))
 without_sized page (Young s) steps h = absurd h
 without_sized page Unbacked steps h = absurd h
@@ -67,12 +64,12 @@ back_sized page d grains steps h = sized_at h.steps_are
     (sized_both {m = 8} {n = 4} (sized_as quiet refl (sized returning 8 (returns_are page h.after (return_returns page d h.after h.returns)) (return_few page d h.after h.returns)))
     (sized_as quiet refl (sized (Putting ∷ []) 4 (puts_kinds page grains 4 h.puts h.order) (puts_few page grains h.puts h.order)))))
 
-takes_count : (page : ℕ) (answers : List ℕ) → length (takes page answers) ≡ length answers
-takes_count page [] = refl
-takes_count page (a ∷ more) = ap (λ n. suc n) (takes_count page more)
+takes_few : (page : ℕ) (used : Option Used) → AreUsed used → length (takes_until page used) ≤ 4
+takes_few page None are = grains_few page ones ones 4
+takes_few page (Some used) are = let lt = are.within in let n = grains_few page ones ones used.word in omega (arith, lt, n)
 
-takes_sized : (page : ℕ) (answers : List ℕ) (used : Option Used) → ReadUntilUsed answers used → Sized quiet 4 (takes page answers)
-takes_sized page answers used read = let n = takes_count page answers in let few = read_few answers used read in sized_as quiet refl (sized (Taking ∷ []) 4 (takes_are page answers) (omega (arith, n, few)))
+takes_sized : (page : ℕ) (used : Option Used) → AreUsed used → Sized quiet 4 (takes_until page used)
+takes_sized page used are = sized_as quiet refl (sized (Taking ∷ []) 4 (takes_are page used) (takes_few page used are))
 
 pub judged_sized : (age epoch page : ℕ) (used : Option Used) (outcome : Outcome) (steps : List Made) → Judged age epoch page used outcome steps → Sized idle 3 steps
 judged_sized age epoch page used (InUse w v) steps h = sized_at h.1 (sized idle 3 tt (omega arith))
@@ -86,7 +83,7 @@ examine_sized age epoch page outcome steps (inl h) = let w = without_sized page 
 examine_sized age epoch page outcome steps (inr h) = let t = h.takes in
     sized_at (h.steps_are ∙ ap (λ s. s ++ h.asked) t.steps_are)
     (sized_both {m = 30} {n = 7} (sized_both {m = 23} {n = 7} (sized_as examining refl (back_sized page h.directory t.grains t.back t.puts))
-    (sized_both {m = 3} {n = 4} (sized_as examining refl (judged_sized age epoch page t.used outcome t.after t.judged)) (sized_as examining refl (takes_sized page t.answers t.used t.read))))
+    (sized_both {m = 3} {n = 4} (sized_as examining refl (judged_sized age epoch page t.used outcome t.after t.judged)) (sized_as examining refl (takes_sized page t.used t.are))))
     (sized_as examining refl (asks_sized page h.directory true h.asked h.asks)))
 
 -- ---- the event
@@ -108,15 +105,15 @@ without_none k epoch page (InUse w v) steps h = refl
 without_none k epoch page NotOffered steps h = refl
 
 -- the steps of an examination with the right, in order
-pub taken_on : (age epoch page : ℕ) (outcome : Outcome) (steps : List Made) (h : EndsWith age epoch page outcome steps) → steps ≡ h.takes.back ++ (h.takes.after ++ (takes page h.takes.answers ++ h.asked))
+pub taken_on : (age epoch page : ℕ) (outcome : Outcome) (steps : List Made) (h : EndsWith age epoch page outcome steps) → steps ≡ h.takes.back ++ (h.takes.after ++ (takes_until page h.takes.used ++ h.asked))
 taken_on age epoch page outcome steps h = let t = h.takes in
-    h.steps_are ∙ ap (λ s. s ++ h.asked) t.steps_are ∙ append_assoc t.back (t.after ++ takes page t.answers) h.asked ∙ ap (λ s. t.back ++ s) (append_assoc t.after (takes page t.answers) h.asked)
+    h.steps_are ∙ ap (λ s. s ++ h.asked) t.steps_are ∙ append_assoc t.back (t.after ++ takes_until page t.used) h.asked ∙ ap (λ s. t.back ++ s) (append_assoc t.after (takes_until page t.used) h.asked)
 
 pub examine_event : (k age epoch page : ℕ) (outcome : Outcome) (steps : List Made) (v : View) → ExamineSteps age epoch page outcome steps → known_epoch v ≡ Some epoch → events_by k v steps ≡ unback_of k epoch page outcome
 examine_event k age epoch page outcome steps v (inl h) known = no_events quiet refl k v steps (without_sized page outcome steps h).only ∙ sym (without_none k epoch page outcome steps h)
 examine_event k age epoch page outcome steps v (inr h) known =
-    let t = h.takes in let rest = takes page t.answers ++ h.asked in
-    let quiet_rest : Only quiet rest = only_both quiet (takes page t.answers) h.asked (takes_sized page t.answers t.used t.read).only (asks_sized page h.directory true h.asked h.asks).only in
+    let t = h.takes in let rest = takes_until page t.used ++ h.asked in
+    let quiet_rest : Only quiet rest = only_both quiet (takes_until page t.used) h.asked (takes_sized page t.used t.are).only (asks_sized page h.directory true h.asked h.asks).only in
     ap (events_by k v) (taken_on age epoch page outcome steps h)
     ∙ events_same quiet refl k v t.back (t.after ++ rest) (back_sized page h.directory t.grains t.back t.puts).only
     ∙ judged_event k age epoch page t.used outcome t.after rest v t.judged quiet_rest known

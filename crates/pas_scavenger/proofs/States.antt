@@ -1,94 +1,70 @@
 -- Takes of the grains of a page, and what the actor holds and has on the way through one page.
-use Rattle.std.proofs.Common.{◌≡◌, ℕ, zero, suc, ◌/◌, ◌%◌, ◌<◌, ◌≤◌, ◌==◌, Bool, true, false, not, ◌&&◌, ◌||◌, if◌then◌else◌, List, [], ◌∷◌, ◌++◌, Option, None, Some, length, slice_index, slice_set, refl, ap, sym, ◌∙◌, subst, arith, inl, inr, true≢false, bit_and, get_or-set_same, get_or-set_other}
-use Rattle.std.proofs.lemmas.Bool.{eq-eqb, ne_eqb, eqb-true, cases_eq, cases_Bool}
+use Rattle.std.proofs.Common.{◌≡◌, ℕ, ◌/◌, ◌%◌, ◌==◌, nat_lt, Bool, true, false, not, ◌&&◌, ◌||◌, if◌then◌else◌, List, [], ◌∷◌, ◌++◌, Option, None, Some, refl, ap, sym, ◌∙◌, subst, arith, inl, inr, true≢false, bit_and}
+use Rattle.std.proofs.lemmas.Bool.{ne_eqb, eqb-true, cases_eq, cases_Bool}
 use Rattle.pas_profile.specs.Classes.{has_bit}
-use Rattle.pas_bits.proofs.Words.{none_of_zero, full_bit}
-use Rattle.pas_steps.specs.Desks.{Standing, Makes, Adds, made}
-use Rattle.pas_steps.specs.Kinds.{LookFree, Taking, Only, Kinds, LookDeed, LookBacked, LookStamp, Claiming, Hinting, Unbacking, Unhinting, apart, unstamping}
-use Rattle.pas_steps.specs.Views.{View, Gets, Stays, held_after, holds, has_right, all_ones, examines}
-use Rattle.pas_steps.specs.declared.step.Step.TheVariants.{Take, TakeRight, Unhint}
-use Rattle.pas_steps.proofs.Adding.{adds_step}
-use Rattle.pas_rights.specs.Looks.{looks}
-use Rattle.pas_rights.proofs.Orders.{same_page}
-use Rattle.pas_scavenger.specs.Readings.{ReadUntilUsed, was_free, takes}
 use Rattle.pas_profile.specs.declared.directory.Directory.{Directory}
+use Rattle.pas_bits.proofs.Words.{full_bit}
 use Rattle.pas_steps.specs.Calls.{Kept, Gained, now, on_page, Does}
 use Rattle.pas_steps.specs.Clear.{IsClear, HasNothing}
+use Rattle.pas_steps.specs.Desks.{made}
+use Rattle.pas_steps.specs.Kinds.{LookFree, Taking, Only, Kinds, LookDeed, LookBacked, LookStamp, Claiming, Hinting, Unbacking, Unhinting, apart, unstamping}
+use Rattle.pas_steps.specs.Views.{View, Gets, Stays, held_after, holds, has_right, all_ones, examines}
 use Rattle.pas_steps.specs.declared.step.Made.{Made}
+use Rattle.pas_steps.specs.declared.step.Step.TheVariants.{TakeRight, Unhint}
 use Rattle.pas_steps.proofs.Apart.{holds_same, rights_same, unstamped_same}
 use Rattle.pas_steps.proofs.Calls.{opening, owes_over, unexamined_over}
+use Rattle.pas_rights.specs.Takes.{takes}
+use Rattle.pas_rights.specs.Words.{ones}
+use Rattle.pas_rights.specs.declared.reading.Used.{Used}
+use Rattle.pas_rights.proofs.Orders.{same_page}
+use Rattle.pas_rights.proofs.Takes.{takes_only, got_below, takes_hold as grains_held}
 use Rattle.pas_scavenger.specs.Puttings.{IsAt, none}
+use Rattle.pas_scavenger.specs.Readings.{was_free, takes_until}
 
--- ---- what was got
--- no grain of a word that wasn't read
-pub fresh : (answers : List ℕ) (g : ℕ) → length answers ≤ g / 64 → was_free answers g ≡ false
-fresh [] g h = refl
-fresh (a ∷ more) g h = ap (λ t. (t && has_bit a (g % 64)) || was_free more g) (ne_eqb (length more) (g / 64) (omega (arith, h))) ∙ fresh more g (omega (arith, h))
+-- ---- the steps
+pub takes_are : (page : ℕ) (used : Option Used) → Only (Taking ∷ []) (takes_until page used)
+takes_are page None = takes_only page ones ones 4
+takes_are page (Some used) = (refl, takes_only page ones ones used.word)
+
+-- ---- what is held then
+both_order : (x p : Bool) → (x && (p && true)) ≡ (p && x)
+both_order true true = refl
+both_order true false = refl
+both_order false true = refl
+both_order false false = refl
+
+-- all grains of the words below n are got
+below : (page n g : ℕ) → got_below page ones ones n g ≡ ((page == g / 256) && nat_lt (g % 256 / 64) n)
+below page n g =
+    let p = page == g / 256 in let word : g / 64 % 4 ≡ g % 256 / 64 = omega arith in
+    ap (λ b. nat_lt (g / 64 % 4) n && (p && (b && b))) (full_bit (g % 64) (omega arith)) ∙ both_order (nat_lt (g / 64 % 4) n) p ∙ ap (λ w. p && nat_lt w n) word
+
+one_take : (s p u b r : Bool) → u ≡ true → held_after (if ((s && p) && u) && b then Gets else Stays) (p && r) ≡ (p && (r || (s && b)))
+one_take s p false b r e = absurd (true≢false (sym e))
+one_take true true true true true e = refl
+one_take true true true true false e = refl
+one_take true true true false true e = refl
+one_take true true true false false e = refl
+one_take true false true b r e = refl
+one_take false true true b true e = refl
+one_take false true true b false e = refl
+one_take false false true b r e = refl
 
 or_none : (x y : Bool) → y ≡ false → (x || y) ≡ x
 or_none true y h = refl
 or_none false y h = h
 
-pub got_none : (n b : ℕ) → has_bit (slice_index (0 ∷ 0 ∷ 0 ∷ 0 ∷ []) n) b ≡ false
-got_none zero b = none_of_zero b
-got_none (suc zero) b = none_of_zero b
-got_none (suc (suc zero)) b = none_of_zero b
-got_none (suc (suc (suc zero))) b = none_of_zero b
-got_none (suc (suc (suc (suc n)))) b = none_of_zero b
+pub takes_hold : (page n g : ℕ) (v : View) → holds v g ≡ false → holds (takes page ones ones n ++ v) g ≡ ((page == g / 256) && nat_lt (g % 256 / 64) n)
+takes_hold page n g v none = grains_held page ones ones n g v ∙ or_none (got_below page ones ones n g) (holds v g) none ∙ below page n g
 
-pub got_more : (grains answers : List ℕ) (a w : ℕ) → length answers ≡ w → w < length grains → ((g : ℕ) → has_bit (slice_index grains (g / 64)) (g % 64) ≡ was_free answers g)
-    → (g : ℕ) → has_bit (slice_index (slice_set grains w a) (g / 64)) (g % 64) ≡ was_free (a ∷ answers) g
-got_more grains answers a w so_far lt got g = elim (cases_eq w (g / 64)) [
-  | inl e ↦
-      ap (λ n. has_bit (slice_index (slice_set grains w a) n) (g % 64)) (sym e) ∙ ap (λ n. has_bit n (g % 64)) (rw get_or-set_same refl)
-      ∙ sym (ap (λ t. (t && has_bit a (g % 64)) || was_free answers g) (eq-eqb (length answers) (g / 64) (so_far ∙ e)) ∙ or_none (has_bit a (g % 64)) (was_free answers g) (fresh answers g (omega (arith, so_far, e))))
-  | inr ne ↦
-      let other : (g / 64 ≡ w → ⊥) = λ e. ne (sym e) in
-      ap (λ n. has_bit n (g % 64)) (rw get_or-set_other refl) ∙ got g
-      ∙ sym (ap (λ t. (t && has_bit a (g % 64)) || was_free answers g) (ne_eqb (length answers) (g / 64) (λ e. ne (sym so_far ∙ e))))
-]
-
--- ---- the steps
-pub looks_are : (page : ℕ) (answers : List ℕ) → Only (LookFree ∷ []) (looks page answers)
-looks_are page [] = tt
-looks_are page (a ∷ more) = (refl, looks_are page more)
-
-pub takes_are : (page : ℕ) (answers : List ℕ) → Only (Taking ∷ []) (takes page answers)
-takes_are page [] = tt
-takes_are page (a ∷ more) = (refl, takes_are page more)
-
-right_takes : (page : ℕ) (answers : List ℕ) (v : View) → has_right (takes page answers ++ v) page ≡ has_right v page
-right_takes page [] v = refl
-right_takes page (a ∷ more) v = right_takes page more v
-
-pub may_take : (page : ℕ) (answers : List ℕ) (v : View) → has_right v page ≡ true → has_right (takes page answers ++ v) page ≡ true
-may_take page answers v right = right_takes page answers v ∙ right
-
-pub more_takes : {σ σ' σ'' : Standing} (page : ℕ) (answers : List ℕ) (a w : ℕ) → length answers ≡ w
-    → Adds σ σ' (λ v l. has_right v page ≡ true) (takes page answers) → Makes σ' σ'' (Take page w all_ones) a → Adds σ σ'' (λ v l. has_right v page ≡ true) (takes page (a ∷ answers))
-more_takes {σ' = σ'} {σ'' = σ''} page answers a w e before makes =
-    adds_step before (subst (λ n. Makes σ' σ'' (Take page n all_ones) a) (sym e) makes) (λ v l stood right. may_take page answers v right)
-
--- ---- what is held then
-pub and_none : (t : Bool) → (t && false) ≡ false
-and_none true = refl
-and_none false = refl
-
-one_take : (s p u b r : Bool) → u ≡ true → held_after (if ((s && p) && u) && b then Gets else Stays) (p && r) ≡ (p && ((s && b) || r))
-one_take s p false b r e = absurd (true≢false (sym e))
-one_take true true true true r e = refl
-one_take true true true false r e = refl
-one_take true false true b r e = refl
-one_take false p true b r e = refl
-
-pub takes_hold : (page : ℕ) (answers : List ℕ) (v : View) → ((g : ℕ) → holds v g ≡ false) → (g : ℕ) → holds (takes page answers ++ v) g ≡ ((page == g / 256) && was_free answers (g % 256))
-takes_hold page [] v none g = none g ∙ sym (and_none (page == g / 256))
-takes_hold page (a ∷ more) v none g =
-    let p = page == g / 256 in let w = length more in let r = was_free more (g % 256) in
+pub until_holds : (page : ℕ) (used : Option Used) (g : ℕ) (v : View) → holds v g ≡ false → holds (takes_until page used ++ v) g ≡ ((page == g / 256) && was_free used (g % 256))
+until_holds page None g v none = takes_hold page 4 g v none
+until_holds page (Some used) g v none =
+    let p = page == g / 256 in let w = used.word in let a = used.value in let r = nat_lt (g % 256 / 64) w in
     let word : g / 64 % 4 ≡ g % 256 / 64 = omega arith in let bit : g % 64 ≡ g % 256 % 64 = omega arith in
-    ap (held_after (if (((w == g / 64 % 4) && p) && has_bit all_ones (g % 64)) && has_bit a (g % 64) then Gets else Stays)) (takes_hold page more v none g)
+    ap (held_after (if (((w == g / 64 % 4) && p) && has_bit all_ones (g % 64)) && has_bit a (g % 64) then Gets else Stays)) (takes_hold page w g v none)
     ∙ one_take (w == g / 64 % 4) p (has_bit all_ones (g % 64)) (has_bit a (g % 64)) r (full_bit (g % 64) (omega arith))
-    ∙ ap (λ n. p && (((w == n) && has_bit a (g % 64)) || r)) word ∙ ap (λ n. p && (((w == g % 256 / 64) && has_bit a n) || r)) bit
+    ∙ ap (λ n. p && (r || ((w == n) && has_bit a (g % 64)))) word ∙ ap (λ n. p && (r || ((w == g % 256 / 64) && has_bit a n))) bit
 
 -- a take of all grains of a word ends the examination, whatever it read
 ends_it : (a : ℕ) → (not (a == all_ones) || not (bit_and a all_ones == 0)) ≡ true
@@ -97,12 +73,12 @@ ends_it a = elim (cases_Bool (a == all_ones)) [
   | inr e ↦ ap (λ t. not t || not (bit_and a all_ones == 0)) e
 ]
 
-pub takes_examined : (page : ℕ) (answers : List ℕ) (v : View) (used : Option _) → ReadUntilUsed answers used → examines (takes page answers ++ v) page ≡ false
-takes_examined page [] v None read = let four = read.four in absurd (omega (arith, four))
-takes_examined page [] v (Some used) read = let are = read.answers_are in cc
-takes_examined page (a ∷ more) v used read =
-    let was = examines (takes page more ++ v) page in
-    ap (λ t. if t && (not (a == all_ones) || not (bit_and a all_ones == 0)) then false else was) (same_page page) ∙ ap (λ t. if t then false else was) (ends_it a)
+ends_at : (page a : ℕ) (was : Bool) → (if (page == page) && (not (a == all_ones) || not (bit_and a all_ones == 0)) then false else was) ≡ false
+ends_at page a was = ap (λ t. if t && (not (a == all_ones) || not (bit_and a all_ones == 0)) then false else was) (same_page page) ∙ ap (λ t. if t then false else was) (ends_it a)
+
+pub takes_examined : (page : ℕ) (used : Option Used) (v : View) → examines (takes_until page used ++ v) page ≡ false
+takes_examined page None v = ends_at page all_ones (examines (takes page ones ones 3 ++ v) page)
+takes_examined page (Some used) v = ends_at page used.value (examines (takes page ones ones used.word ++ v) page)
 
 -- ---- from one state to the next
 at_over : {page : ℕ} {grains grains' : ℕ → Bool} {right right' : Bool} (ks : Kinds) → apart ks unstamping ≡ true → apart ks opening ≡ true → apart ks (Unhinting ∷ []) ≡ true → (steps : List Made) (v : View) → Only ks steps
@@ -132,12 +108,12 @@ pub at_claim : (page : ℕ) (d : Directory) (a : ℕ) (got : Bool) (v : View) �
 at_claim page d a got v does at = at_over (Claiming ∷ []) refl refl refl (made (TakeRight page d) a ∷ []) v (refl, tt) at (λ g. does.held g ∙ at.held g)
     (λ q. does.right q ∙ ap (now (if page == q then (if got then Gained else Kept) else Kept)) (at.rights q) ∙ got_right got (page == q))
 
-abbrev pub got_on : ℕ → List ℕ → ℕ → Bool
-got_on page answers g = (page == g / 256) && was_free answers (g % 256)
+abbrev pub got_on : ℕ → Option Used → ℕ → Bool
+got_on page used g = (page == g / 256) && was_free used (g % 256)
 
-pub at_takes : (page : ℕ) (answers : List ℕ) (v : View) → IsAt page none true v → IsAt page (got_on page answers) true (takes page answers ++ v)
-at_takes page answers v at = at_over (Taking ∷ []) refl refl refl (takes page answers) v (takes_are page answers) at (takes_hold page answers v at.held)
-    (λ q. rights_same (Taking ∷ []) refl q (takes page answers) v (takes_are page answers) ∙ at.rights q)
+pub at_takes : (page : ℕ) (used : Option Used) (v : View) → IsAt page none true v → IsAt page (got_on page used) true (takes_until page used ++ v)
+at_takes page used v at = at_over (Taking ∷ []) refl refl refl (takes_until page used) v (takes_are page used) at (λ g. until_holds page used g v (at.held g))
+    (λ q. rights_same (Taking ∷ []) refl q (takes_until page used) v (takes_are page used) ∙ at.rights q)
 
 -- ---- at the beginning and at the end
 pub at_unhint : (page a : ℕ) (v : View) → HasNothing v → IsAt page none false (made (Unhint page) a ∷ v)

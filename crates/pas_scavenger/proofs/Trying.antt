@@ -32,9 +32,9 @@ use Rattle.pas_scavenger.proofs.States.{at_unhint, rests}
 use Rattle.pas_steps.specs.InTurn.{InTurn, numbers_below}
 use Rattle.pas_profile.specs.declared.word.Word.TheVariants as Word
 
-pub same_room : {σ σ' : Standing} {B : View → Type 0} {R : View → View → Type 0} {xs : List Made} (ks : Kinds) → apart ks showing ≡ true → (spare spare' : ℕ) → Calls σ σ' B R xs → (can : CanCall σ (λ v l. B v)) → Only ks xs → Spares σ spare → Spares σ' spare' → spare' ≡ spare
+pub same_room : {σ σ' : Standing} {B : View → Type 0} {R : View → View → Type 0} {xs : List Made} (ks : Kinds) → apart ks showing ≡ true → (spare spare' : ℕ) → Calls σ σ' B R xs → (can : CanCall σ B) → Only ks xs → Spares σ spare → Spares σ' spare' → spare' ≡ spare
 same_room {σ} {B = B} {xs = xs} ks w spare spare' c can only old new =
-    let e = spare_falls {C = λ v l. B v} spare spare' 0 c.adds can old new (ap (λ (es : List Event). length es) (no_events ks w σ.seat.actor can.view xs only)) in omega (arith, e)
+    let e = spare_falls {C = B} spare spare' 0 c.adds can old new (ap (λ (es : List Event). length es) (no_events ks w σ.seat.actor can.view xs only)) in omega (arith, e)
 
 -- ---- outcomes and events of some pages and of more
 with_append : (page : ℕ) (o : Option Outcome) (xs ys : List (ℕ × Outcome)) → with_outcome page o (xs ++ ys) ≡ with_outcome page o xs ++ ys
@@ -86,10 +86,10 @@ tries_then {σ} {epoch = epoch} {earlier} {later} {before} {middle} {after} {xs}
       ∙ sym (unbacks_append k epoch (outcomes_in later) (outcomes_in earlier)) ∙ ap (unbacks_in k epoch) (sym (outcomes_append later earlier));
 }
 
-pub spare_by : {σ σ' : Standing} {epoch : ℕ} {tried : List Tried} {before after : List (ℕ × Outcome)} {steps : List Made} (spare spare' : ℕ) → Tries epoch tried σ σ' before after steps → CanCall σ (λ v l. IsReady epoch v) → Spares σ spare → Spares σ' spare' → spare' + length (unbacks_in σ.seat.actor epoch (outcomes_in tried)) ≡ spare
-spare_by {σ} {epoch = epoch} {tried} spare spare' t can old new = spare_falls {C = λ v l. IsReady epoch v} spare spare' (length (unbacks_in σ.seat.actor epoch (outcomes_in tried))) t.calls.adds can old new (ap (λ (es : List Event). length es) (t.events can.view can.met.epoch_is))
+pub spare_by : {σ σ' : Standing} {epoch : ℕ} {tried : List Tried} {before after : List (ℕ × Outcome)} {steps : List Made} (spare spare' : ℕ) → Tries epoch tried σ σ' before after steps → CanCall σ (IsReady epoch) → Spares σ spare → Spares σ' spare' → spare' + length (unbacks_in σ.seat.actor epoch (outcomes_in tried)) ≡ spare
+spare_by {σ} {epoch = epoch} {tried} spare spare' t can old new = spare_falls {C = IsReady epoch} spare spare' (length (unbacks_in σ.seat.actor epoch (outcomes_in tried))) t.calls.adds can old new (ap (λ (es : List Event). length es) (t.events can.view can.met.epoch_is))
 
-pub spare_page : {σ σ' : Standing} {page epoch : ℕ} {before after : List (ℕ × Outcome)} (spare spare' : ℕ) → TriesPage page epoch σ σ' before after → CanCall σ (λ v l. IsReady epoch v) → Spares σ spare → Spares σ' spare' → spare ≤ spare' + 1
+pub spare_page : {σ σ' : Standing} {page epoch : ℕ} {before after : List (ℕ × Outcome)} (spare spare' : ℕ) → TriesPage page epoch σ σ' before after → CanCall σ (IsReady epoch) → Spares σ spare → Spares σ' spare' → spare ≤ spare' + 1
 spare_page {σ} {page = page} {epoch} spare spare' t can old new = let e = spare_by spare spare' t.tries can old new in let few = few_unbacks σ.seat.actor epoch page t.outcome in omega (arith, e, few)
 
 one_more : (page : ℕ) (o : Option Outcome) → length (with_outcome page o []) ≤ 1
@@ -111,7 +111,7 @@ module _ {σ σ1 : Standing} (page epoch a : ℕ) (makes : Makes σ σ1 (Unhint 
   unhinted = call_step (λ v w. MayExamine page epoch w) (call_none {R = λ v w. IsReady epoch w} (λ v met. met)) makes (λ v met is. tt)
       (λ v met is agrees. record { at = at_unhint page a v met.nothing; epoch_is = met.epoch_is })
 
-  pub can_examine : CanCall σ (λ v l. IsReady epoch v) → CanCall σ1 (λ v l. MayExamine page epoch v)
+  pub can_examine : CanCall σ (IsReady epoch) → CanCall σ1 (MayExamine page epoch)
   can_examine can = next_call unhinted can (λ v met may. may)
 
   pub tries_none : (before : List (ℕ × Outcome)) → has_bit a (page % 64) ≡ false → TriesPage page epoch σ σ1 before before
@@ -194,11 +194,11 @@ module _ {σ σ1 : Standing} (epoch : ℕ) (makes : Makes σ σ1 (Look Word.Epoc
   read_epoch = call_step (λ v w. IsReady epoch w) (call_none {R = λ v w. HasNothing w} (λ v met. met)) makes (λ v met is. tt)
       (λ v met is agrees. record { nothing = nothing_still (does_idly σ.seat.profile (LookEpoch ∷ []) refl look v (refl, tt) (agrees, tt)) met; epoch_is = refl })
 
-  pub is_ready : CanCall σ (λ v l. HasNothing v) → CanCall σ1 (λ v l. IsReady epoch v)
+  pub is_ready : CanCall σ HasNothing → CanCall σ1 (IsReady epoch)
   is_ready can = next_call read_epoch can (λ v met is. is)
 
-  pub first_room : (spare spare' : ℕ) → CanCall σ (λ v l. HasNothing v) → Spares σ spare → Spares σ1 spare' → spare' ≡ spare
-  first_room spare spare' can old new = let e = spare_falls {C = λ v l. HasNothing v} spare spare' 0 read_epoch.adds can old new refl in omega (arith, e)
+  pub first_room : (spare spare' : ℕ) → CanCall σ HasNothing → Spares σ spare → Spares σ1 spare' → spare' ≡ spare
+  first_room spare spare' can old new = let e = spare_falls {C = HasNothing} spare spare' 0 read_epoch.adds can old new refl in omega (arith, e)
 
   pub passed : {σ2 : Standing} (words : List WordRead) (read : List Made) (found : List (ℕ × Outcome)) → map (λ w. w.number) words ≡ numbers_below (vector_words σ1.seat.profile.pages) → InTurn (WordSteps σ1.seat.profile.age epoch) words read
       → Tries epoch (all_tried words) σ1 σ2 [] found read → length read ≤ vector_words σ1.seat.profile.pages + 38 * length (all_tried words) → Passes σ σ2 epoch found
@@ -222,5 +222,5 @@ module _ {σ σ1 : Standing} (epoch : ℕ) (makes : Makes σ σ1 (Look Word.Epoc
         calls = call_then (λ v w. HasNothing w) read_epoch tries.calls (λ v met is. is) (λ v met is r. r.nothing);
       }
 
-pub spare_pass : {σ σ' : Standing} {epoch : ℕ} {found : List (ℕ × Outcome)} (spare spare' : ℕ) → Passes σ σ' epoch found → CanCall σ (λ v l. HasNothing v) → Spares σ spare → Spares σ' spare' → spare' + length (unbacks_in σ.seat.actor epoch (reverse found)) ≡ spare
-spare_pass {σ} {epoch = epoch} {found} spare spare' p can old new = spare_falls {C = λ v l. HasNothing v} spare spare' (length (unbacks_in σ.seat.actor epoch (reverse found))) p.calls.adds can old new (ap (λ (es : List Event). length es) (p.order.events can.view))
+pub spare_pass : {σ σ' : Standing} {epoch : ℕ} {found : List (ℕ × Outcome)} (spare spare' : ℕ) → Passes σ σ' epoch found → CanCall σ HasNothing → Spares σ spare → Spares σ' spare' → spare' + length (unbacks_in σ.seat.actor epoch (reverse found)) ≡ spare
+spare_pass {σ} {epoch = epoch} {found} spare spare' p can old new = spare_falls {C = HasNothing} spare spare' (length (unbacks_in σ.seat.actor epoch (reverse found))) p.calls.adds can old new (ap (λ (es : List Event). length es) (p.order.events can.view))

@@ -7,7 +7,7 @@ use Rattle.pas_steps.specs.Desks.{Standing, Adds, made}
 use Rattle.pas_steps.specs.Views.{View, holds, is_unstamped, known_epoch}
 use Rattle.pas_steps.specs.declared.step.Made.{Made}
 use Rattle.pas_steps.specs.declared.step.Step.TheVariants.{Look, Unback}
-use Rattle.pas_scavenger.specs.declared.reading.Used.{Used}
+use Rattle.pas_rights.specs.declared.reading.Used.{Used}
 
 abbrev pub used_at : ℕ → ℕ → Used
 used_at word value = record { word = word; value = value }
@@ -32,5 +32,5 @@ pub record MayJudge (page epoch : ℕ) (used : Option Used) (v : View) : Type 0 
 
 pub record JudgesPage (page epoch : ℕ) (used : Option Used) (desk desk' : Standing) (outcome : Outcome) : Type 0 where
   pub steps : List Made
-  pub adds : Adds desk desk' (λ v l. MayJudge page epoch used v) steps
+  pub adds : Adds desk desk' (MayJudge page epoch used) steps
   pub judged : Judged desk.seat.profile.age epoch page used outcome steps

@@ -1,5 +1,5 @@
 -- What comes of one page whose empty bit was cleared: the first outcome that applies, by what was read.
-use Rattle.std.specs.Prelude.{ℕ, ◌%◌, ◌≤◌, ◌≡◌, ◌≢◌, ◌⊎◌, Bool, true, false, List, [], ◌∷◌, ◌++◌, Option, Some, length}
+use Rattle.std.specs.Prelude.{ℕ, ◌%◌, ◌≤◌, ◌≡◌, ◌≢◌, ◌⊎◌, Bool, true, false, List, [], ◌∷◌, ◌++◌, Option, None, Some, length}
 use Rattle.pas_bits.specs.declared.mask.Mask4.{Mask4}
 use Rattle.pas_bits.specs.Masks.{is_set}
 use Rattle.pas_profile.specs.Classes.{has_bit}
@@ -9,53 +9,50 @@ use Rattle.pas_profile.specs.declared.event.Event.{Event}
 use Rattle.pas_profile.specs.declared.event.Outcome.{Outcome}
 use Rattle.pas_profile.specs.declared.event.Outcome.TheVariants.{Unbacked, Bare, Young, InUse, NotOffered}
 use Rattle.pas_profile.specs.declared.word.Word.TheVariants as Word
-use Rattle.pas_rights.specs.Looks.{looks}
+use Rattle.pas_rights.specs.Looks.{looks_until, IsUsed, AreUsed}
 use Rattle.pas_steps.specs.Calls.{Calls}
 use Rattle.pas_profile.specs.Profiles.{IsDirectoryOf}
 use Rattle.pas_steps.specs.Clear.{HasNothing}
-use Rattle.pas_steps.specs.Desks.{Standing, Anything, Adds, made}
+use Rattle.pas_steps.specs.Desks.{Standing, AnyView, Adds, made}
 use Rattle.pas_steps.specs.Events.{events_by}
 use Rattle.pas_steps.specs.Kinds.{Kinds, LookFree, LookDeed, LookBacked, LookStamp, Taking, Putting, Claiming, Offering, Parking, Unparking, Hinting, Unbacking, Only}
 use Rattle.pas_steps.specs.Views.{View, KnowsDeed, known_epoch}
 use Rattle.pas_steps.specs.declared.step.Made.{Made}
 use Rattle.pas_steps.specs.declared.step.Step.TheVariants.{Look, TakeRight, Hint}
-use Rattle.pas_scavenger.specs.Readings.{IsFirstUsed, AreFree, ReadUntilUsed, was_free, takes}
+use Rattle.pas_scavenger.specs.Readings.{was_free, takes_until}
 use Rattle.pas_scavenger.specs.Judgements.{used_at, Judged}
 use Rattle.pas_scavenger.specs.Puttings.{none, IsAt, BackSteps}
-use Rattle.pas_scavenger.specs.declared.reading.Used.{Used}
+use Rattle.pas_rights.specs.declared.reading.Used.{Used}
 
 -- ---- the steps
--- the backed word is read, and then free words
-abbrev pub first_looks : ℕ → ℕ → List ℕ → List Made
-first_looks page b answers = looks page answers ++ (made (Look (Word.Backed page)) b ∷ [])
+-- the backed word is read, and then free words up to a used one
+abbrev pub first_looks : ℕ → ℕ → Option Used → List Made
+first_looks page b used = looks_until page used ++ (made (Look (Word.Backed page)) b ∷ [])
 
 -- the page was read as backed and each of its grains as free, and then its right is asked for, by its deed
 pub record AsksSteps (page : ℕ) (d : Directory) (got : Bool) (steps : List Made) : Type 0 where
   pub backed : ℕ
   pub some : backed ≢ 0
-  pub answers : List ℕ
-  pub free : AreFree answers
   pub answer : ℕ
   pub got_is : got ≡ has_bit answer (page % 64)
-  pub steps_are : steps ≡ made (TakeRight page d) answer ∷ made (Look (Word.Deed page)) (deed_word_of d) ∷ first_looks page backed answers
+  pub steps_are : steps ≡ made (TakeRight page d) answer ∷ made (Look (Word.Deed page)) (deed_word_of d) ∷ first_looks page backed None
 
 -- With the right the grains are taken word by word until a word isn't whole, the page is judged, and all that was got is put back and left.
 pub record TakesSteps (age epoch page : ℕ) (d : Directory) (outcome : Outcome) (steps : List Made) : Type 0 where
-  pub answers : List ℕ
   pub used : Option Used
-  pub read : ReadUntilUsed answers used
+  pub are : AreUsed used
   pub after : List Made
   pub judged : Judged age epoch page used outcome after
   pub grains : Mask4
-  pub got : (g : ℕ) → is_set grains g ≡ was_free answers g
+  pub got : (g : ℕ) → is_set grains g ≡ was_free used g
   pub back : List Made
   pub puts : BackSteps page d grains back
-  pub steps_are : steps ≡ back ++ (after ++ takes page answers)
+  pub steps_are : steps ≡ back ++ (after ++ takes_until page used)
 
 -- Without the right: the page isn't backed, a free word is in use, or the page isn't offered. It is hinted again then.
 abbrev pub EndsWithout : ℕ → Outcome → List Made → Type 0
 EndsWithout page Bare steps = steps ≡ made (Look (Word.Backed page)) 0 ∷ []
-EndsWithout page (InUse word value) steps = (b : ℕ) × (answers : List ℕ) × (b ≢ 0) × IsFirstUsed answers (used_at word value) × (steps ≡ first_looks page b answers)
+EndsWithout page (InUse word value) steps = (b : ℕ) × (b ≢ 0) × IsUsed (used_at word value) × (steps ≡ first_looks page b (Some (used_at word value)))
 EndsWithout page NotOffered steps = (d : Directory) × (h : ℕ) × (asked : List Made) × AsksSteps page d false asked × (steps ≡ made (Hint page) h ∷ asked)
 EndsWithout page (Young stamp) steps = ⊥
 EndsWithout page Unbacked steps = ⊥
@@ -100,7 +97,7 @@ pub record MayTake (page : ℕ) (d : Directory) (epoch : ℕ) (v : View) : Type 
 
 pub record ReadsDirectory (page : ℕ) (desk desk' : Standing) (d : Directory) : Type 0 where
   pub of_profile : IsDirectoryOf desk.seat.profile d
-  pub adds : Adds desk desk' Anything (made (Look (Word.Deed page)) (deed_word_of d) ∷ [])
+  pub adds : Adds desk desk' AnyView (made (Look (Word.Deed page)) (deed_word_of d) ∷ [])
 
 pub record TakesPage (page : ℕ) (d : Directory) (epoch : ℕ) (desk desk' : Standing) (outcome : Outcome) : Type 0 where
   pub steps : List Made

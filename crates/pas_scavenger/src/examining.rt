@@ -7,16 +7,15 @@ ghost use Rattle.pas_scavenger.specs.Pages.{MayExamine, MayTake, ReadsDirectory,
 
 use crate::judging::judge;
 use crate::putting::put_back;
-use crate::reading::first_used;
-use crate::taking::take_grains;
+use crate::taking::{grains_of, take_grains};
 use pas_profile::{Directory, Outcome, Word, read_deed};
-use pas_rights::claim;
+use pas_rights::{claim, first_used};
 use pas_steps::Desk;
 
 /// The directory of a page that was once read as backed, so that it has a deed.
 fn read_directory<D: Desk>(desk: &mut D, page: u32) -> Directory
     requires page { IsPage (D.standing desk.old).seat.profile page }
-    requires can { CanCall (D.standing desk.old) (λ v l. ReadBacked v page) }
+    requires can { CanCall (D.standing desk.old) (λ v. ReadBacked v page) }
     ensures reads { ReadsDirectory page (D.standing desk.old) (D.standing desk.new) result }
     ensures home { D.home desk.new ≡ D.home desk.old }
 {
@@ -31,7 +30,7 @@ fn read_directory<D: Desk>(desk: &mut D, page: u32) -> Directory
 /// Its outcome is the first that applies. Whatever it is, all that was got is put back, and the page is left where its right was got.
 pub fn examine<D: Desk>(desk: &mut D, page: u32, epoch: u64) -> Outcome
     requires page { IsPage (D.standing desk.old).seat.profile page }
-    requires can { CanCall (D.standing desk.old) (λ v l. MayExamine page epoch v) }
+    requires can { CanCall (D.standing desk.old) (MayExamine page epoch) }
     requires room { 1 ≤ D.spare_of desk.old }
     ensures examines { ExaminesPage page epoch (D.standing desk.old) (D.standing desk.new) result }
     ensures home { D.home desk.new ≡ D.home desk.old }
@@ -54,13 +53,14 @@ pub fn examine<D: Desk>(desk: &mut D, page: u32, epoch: u64) -> Outcome
 fn take_page<D: Desk>(desk: &mut D, page: u32, directory: Directory, epoch: u64) -> Outcome
     requires page { IsPage (D.standing desk.old).seat.profile page }
     requires directory { IsDirectoryOf (D.standing desk.old).seat.profile directory }
-    requires can { CanCall (D.standing desk.old) (λ v l. MayTake page directory epoch v) }
+    requires can { CanCall (D.standing desk.old) (MayTake page directory epoch) }
     requires room { 1 ≤ D.spare_of desk.old }
     ensures takes { TakesPage page directory epoch (D.standing desk.old) (D.standing desk.new) result }
     ensures home { D.home desk.new ≡ D.home desk.old }
 {
-    let taken = take_grains(desk, page);
-    let outcome = judge(desk, page, epoch, taken.used);
-    put_back(desk, page, directory, &taken.grains);
+    let used = take_grains(desk, page);
+    let grains = grains_of(used);
+    let outcome = judge(desk, page, epoch, used);
+    put_back(desk, page, directory, &grains);
     outcome
 }

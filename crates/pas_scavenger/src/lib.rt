@@ -6,7 +6,6 @@ mod judging;
 pub mod laws;
 mod passing;
 mod putting;
-mod reading;
 mod taking;
 
 pub use pas_profile::Outcome;

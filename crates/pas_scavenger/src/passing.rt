@@ -16,7 +16,7 @@ use pas_utility::Outcomes;
 /// Clears the page's empty bit, and examines the page where it was still set. At most 38 steps, and one event.
 fn try_page<D: Desk>(desk: &mut D, page: u32, epoch: u64, out: &mut Outcomes)
     requires page { IsPage (D.standing desk.old).seat.profile page }
-    requires can { CanCall (D.standing desk.old) (λ v l. IsReady epoch v) }
+    requires can { CanCall (D.standing desk.old) (IsReady epoch) }
     requires room { 1 ≤ D.spare_of desk.old }
     requires place { length (pairs_in out.old) < places_of out.old }
     ensures tries { TriesPage page epoch (D.standing desk.old) (D.standing desk.new) (pairs_in out.old) (pairs_in out.new) }
@@ -33,7 +33,7 @@ fn try_page<D: Desk>(desk: &mut D, page: u32, epoch: u64, out: &mut Outcomes)
 /// Reads one empty word, and tries each page whose bit is set there, the lowest first.
 fn read_word<D: Desk>(desk: &mut D, block: u32, epoch: u64, out: &mut Outcomes)
     requires block { block < vector_words (D.standing desk.old).seat.profile.pages }
-    requires can { CanCall (D.standing desk.old) (λ v l. IsReady epoch v) }
+    requires can { CanCall (D.standing desk.old) (IsReady epoch) }
     requires room { (D.standing desk.old).seat.profile.pages ≤ D.spare_of desk.old + (64 * block - 1) }
     requires few { length (pairs_in out.old) ≤ 64 * block - 1 }
     requires places { places_of out.old ≡ (D.standing desk.old).seat.profile.pages }
@@ -57,7 +57,7 @@ fn read_word<D: Desk>(desk: &mut D, block: u32, epoch: u64, out: &mut Outcomes)
 /// set the page has one outcome in `out`. One step, one for each empty word, and at most 38 for each page that was read as hinted. Each
 /// page that is unbacked makes one event.
 pub fn pass<D: Desk>(desk: &mut D, out: &mut Outcomes) -> u64
-    requires can { CanCall (D.standing desk.old) (λ v l. HasNothing v) }
+    requires can { CanCall (D.standing desk.old) HasNothing }
     requires room { (D.standing desk.old).seat.profile.pages ≤ D.spare_of desk.old }
     requires places { places_of out.old ≡ (D.standing desk.old).seat.profile.pages }
     ensures passes { Passes (D.standing desk.old) (D.standing desk.new) result (pairs_in out.new) }

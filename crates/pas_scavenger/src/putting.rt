@@ -6,18 +6,18 @@ ghost use Rattle.pas_scavenger.specs.Puttings.{MayPutBack, PutsBack};
 
 use pas_bits::Mask4;
 use pas_profile::Directory;
-use pas_rights::{leave, put_mask, returned};
+use pas_rights::{leave, put, returned};
 use pas_steps::Desk;
 
 /// Puts all grains that are held back, ends what is owed on their page, and leaves it. At most 23 steps.
 pub fn put_back<D: Desk>(desk: &mut D, page: u32, directory: Directory, grains: &Mask4)
     requires page { IsPage (D.standing desk.old).seat.profile page }
     requires directory { IsDirectoryOf (D.standing desk.old).seat.profile directory }
-    requires can { CanCall (D.standing desk.old) (λ v l. MayPutBack page directory grains.now v) }
+    requires can { CanCall (D.standing desk.old) (MayPutBack page directory grains.now) }
     ensures puts { PutsBack page directory grains.now (D.standing desk.old) (D.standing desk.new) }
     ensures home { D.home desk.new ≡ D.home desk.old }
 {
-    put_mask(desk, page, grains);
+    put(desk, page, grains);
     returned(desk, page, directory);
     leave(desk, page, directory);
 }

@@ -16,7 +16,7 @@ use Rattle.pas_scan.specs.Marks.{is_marked}
 use Rattle.pas_scan.specs.Scan.{IsMember, AllParked, IsVerdict, last_block, Judges}
 use Rattle.pas_search.specs.Serving.{Rule}
 use Rattle.pas_search.specs.Searches.{search_steps, Searching, AllAccounted, IsRefusal, IsRefused, MaySearch, DeedMadeHere, IsHeld, IsServed, SearchRoom, BareRoom, FromOffered, ByDeed, SearchesOffered, ServesBare, SearchesBare, Searches}
-use Rattle.pas_search.proofs.PagesThatServe.{no_deeds, served_search, deeds_serves, AreVain, reads_vain, vain_lacks, vain_search, searched, vain_searching, ready, got_search, finds, deed_before, unknown, deed_known}
+use Rattle.pas_search.proofs.PagesThatServe.{no_deeds, served_search, deeds_serves, AreVain, reads_vain, vain_lacks, vain_search, searched, vain_searching, ready, got_search, finds}
 use Rattle.pas_search.proofs.ForBackEnds.{events_quiet, room_kept}
 use Rattle.pas_steps.proofs.Frames.{right_own, events_append, lacks_now}
 use Rattle.pas_profile.specs.Directories.{deed_word_of, number_of}
@@ -26,7 +26,7 @@ use Rattle.pas_profile.proofs.Codecs.{deed_word_of-positive}
 use Rattle.pas_steps.specs.Effects.{target}
 use Rattle.pas_steps.specs.Agreement.{Agreed}
 use Rattle.pas_steps.specs.Lists.{Whole, part, word_after, Legal}
-use Rattle.pas_steps.specs.Desks.{triples, Seat, Standing, Anything, made, Adds, CanCall}
+use Rattle.pas_steps.specs.Desks.{triples, Seat, Standing, AnyView, made, Adds, CanCall}
 use Rattle.pas_steps.specs.declared.step.Step.{Step}
 use Rattle.pas_steps.proofs.Parts.{part_of_own}
 use Rattle.pas_core.proofs.DeedWords.{known_is}
@@ -43,6 +43,7 @@ use Rattle.pas_steps.proofs.Unknown.{all_known}
 use Rattle.pas_steps.specs.declared.step.Step.TheVariants.{Deed}
 use Rattle.pas_steps.proofs.Adding.{adds_call, can_call, legal_after, adds_under}
 use Rattle.pas_steps.proofs.Calls.{still_clear}
+use Rattle.pas_steps.proofs.Evidence.{deed_before, unknown, deed_known}
 
 -- the call had the right of a page that didn't fit
 pub unfit_lacks : {F : Type 0} (rule : Rule F) (p : ℕ) (xs : List Made) → Once (UnfitHere rule.no_fit p) xs → Always (LacksAfter p) xs → ⊥
@@ -216,7 +217,7 @@ module _ {F : Type 0} (rule : Rule F) (f : Profile) (k : ℕ) (l : Whole) (d : D
   reason NoSpace is = λ page hands. accounted_out NoSpace is page (is.answer (part k l) agreed page hands.of_region.0 (let high = hands.of_region.1 in omega (arith, high))) hands
   reason (Held p) is = (held_in_hands (Held p) is p is.answer, λ other lt hands. accounted_out (Held p) is other (is.answer.lower (part k l) agreed other hands.of_region.0 lt) hands)
 
-  pub all_told : (answer : Result (Served F) NoRoom) → MatchResult answer (IsServed rule f d xs) (IsRefused rule.no_fit f d xs) → IsTold (λ (s : Served F). s.page) rule.no_fit f d l w answer
+  all_told : (answer : Result (Served F) NoRoom) → MatchResult answer (IsServed rule f d xs) (IsRefused rule.no_fit f d xs) → IsTold (λ (s : Served F). s.page) rule.no_fit f d l w answer
   all_told (Ok served) h = served_told served h
   all_told (Err room) h = (entry_none room h, exit_none room h, reason room h)
 
@@ -224,7 +225,7 @@ module _ {F : Type 0} (rule : Rule F) (f : Profile) (k : ℕ) (l : Whole) (d : D
 -- what a search promises of its steps
 pub record Ends {F : Type 0} (rule : Rule F) (d : Directory) (desk desk' : Standing) (answer : Result (Served F) NoRoom) : Type 0 where
   pub steps : List Made
-  pub adds : Adds desk desk' (λ v l. MaySearch d v) steps
+  pub adds : Adds desk desk' (MaySearch d) steps
   pub searches : AreSearch steps
   pub few : length steps ≤ search_steps rule.steps desk.seat.profile.pages
   pub outcome : MatchResult answer (IsServed rule desk.seat.profile d steps) (IsRefused rule.no_fit desk.seat.profile d steps)
@@ -260,10 +261,10 @@ module _ {F : Type 0} (rule : Rule F) (f : Profile) (d : Directory) (marks : Lis
     one_deed = one_deed;
   }
 
-  pub deed_search : AreSearch (steps ++ os)
+  deed_search : AreSearch (steps ++ os)
   deed_search = subst AreSearch (sym all_steps) (served_search served.page bare.serve (m ∷ ws) bare.serves.only (inl (GetsRight.Deeds d 0 refl)) (got_search f d served.page m ws (GetsRight.Deeds d 0 refl) now.searches))
 
-  pub deed_serves : IsServed rule f d (steps ++ os) served
+  deed_serves : IsServed rule f d (steps ++ os) served
   deed_serves = subst (λ call. IsServed rule f d call served) (sym all_steps)
       (finds f d served.page m ws (GetsRight.Deeds d 0 refl) rule bare.serve (ready f d served.page m ws (GetsRight.Deeds d 0 refl) (λ v met. met.clear) now.still (λ v agreed. deed_known served.page d 0 (ws ++ v) refl)) (now.untouched served.page)
       served.found (λ call. FromOffered rule.no_fit d served.page call ⊎ ByDeed rule.no_fit f d served.page call) bare.serves bare.page (inr deed_made)
@@ -276,10 +277,10 @@ module _ {F : Type 0} (rule : Rule F) (f : Profile) (d : Directory) (marks : Lis
       (inr IsDeedOrBack.Deeds) now.quiet)
 
 -- what the search of offered pages asks
-pub may_can : {σ : Standing} {f : Profile} {d : Directory} {n spare : ℕ} → CanCall σ (λ v l. SearchRoom f d n spare v) → CanCall σ (λ v l. MaySearch d v)
+pub may_can : {σ : Standing} {f : Profile} {d : Directory} {n spare : ℕ} → CanCall σ (SearchRoom f d n spare) → CanCall σ (MaySearch d)
 may_can can = record { view = can.view; whole = can.whole; stood = can.stood; met = can.met.may }
 
-profile_kept : {σ σ' : Standing} {C : View → Whole → Type 0} {xs : List Made} → Adds σ σ' C xs → σ'.seat.profile ≡ σ.seat.profile
+profile_kept : {σ σ' : Standing} {C : View → Type 0} {xs : List Made} → Adds σ σ' C xs → σ'.seat.profile ≡ σ.seat.profile
 profile_kept adds = ap (λ (s : Seat). s.profile) adds.seat_is
 
 module _ {F : Type 0} {rule : Rule F} {σ σ1 : Standing} {d' : Directory} (d : Directory) (same : d' ≡ d) {marks : List ℕ} (found : SearchesOffered rule d' σ σ1 marks None) where
@@ -292,8 +293,8 @@ module _ {F : Type 0} {rule : Rule F} {σ σ1 : Standing} {d' : Directory} (d : 
   clear_then : (v : View) → MaySearch d v → Agreed σ.seat.profile v offered.steps → IsClear (offered.steps ++ v)
   clear_then v met agreed = still_clear (offered.outcome.still.from v met agreed) met.clear
 
-  bare_adds : {σ2 : Standing} {ys : List Made} → Adds σ1 σ2 (λ v l. IsClear v) ys → Adds σ σ2 (λ v l. MaySearch d v) (ys ++ offered.steps)
-  bare_adds adds = adds_call {D = λ v l. IsClear v} offered.adds adds (λ v l stood met. clear_then v met (offered.adds.agreed v l stood met))
+  bare_adds : {σ2 : Standing} {ys : List Made} → Adds σ1 σ2 IsClear ys → Adds σ σ2 (MaySearch d) (ys ++ offered.steps)
+  bare_adds adds = adds_call {D = IsClear} offered.adds adds (λ v l stood met. clear_then v met (offered.adds.agreed v l stood met))
 
   pages_kept : σ1.seat.profile.pages ≡ f.pages
   pages_kept = ap (λ (x : Profile). x.pages) (profile_kept offered.adds)
@@ -321,7 +322,7 @@ module _ {F : Type 0} {rule : Rule F} {σ σ1 : Standing} {d' : Directory} (d : 
       let deeds : AllDeeds (f.pages + 1) xs = λ p low high. deed_before p bare.steps offered.steps (bare.outcome.1 p low (omega (arith, high, pages))) in
       record {
         steps = judged.steps ++ xs;
-        adds = adds_call {D = Anything} (bare_adds bare.adds) judged.adds (λ v l stood met. tt);
+        adds = adds_call {D = AnyView} (bare_adds bare.adds) judged.adds (λ v l stood met. tt);
         few =
             let last : last_block f room ≤ f.pages / 64 = last_within f judged.steps room verdict in
             let short : length judged.steps ≤ 65 * (last_block f room + 1) = subst (λ x. length judged.steps ≤ 65 * (last_block x room + 1)) (profile_kept (bare_adds bare.adds)) judged.few in
@@ -330,16 +331,16 @@ module _ {F : Type 0} {rule : Rule F} {σ σ1 : Standing} {d' : Directory} (d : 
         outcome = refused rule f d marks judged.steps xs judged.scans s room verdict deeds;
       }
 
-  pub verdict_can : {σ2 : Standing} → SearchesBare rule d σ1 σ2 None → CanCall σ (λ v l. MaySearch d v) → CanCall σ2 Anything
-  verdict_can bare can = can_call {C = λ v l. MaySearch d v} (bare_adds bare.adds) can (λ v l stood met. tt)
+  pub verdict_can : {σ2 : Standing} → SearchesBare rule d σ1 σ2 None → CanCall σ (MaySearch d) → CanCall σ2 AnyView
+  verdict_can bare can = can_call {C = MaySearch d} (bare_adds bare.adds) can (λ v l stood met. tt)
 
   -- what the search of pages without a deed asks: what was known of deeds is known still, and no event was made
-  pub bare_can : {spare spare' : ℕ} → CanCall σ (λ v l. SearchRoom σ.seat.profile d rule.events spare v)
+  pub bare_can : {spare spare' : ℕ} → CanCall σ (SearchRoom σ.seat.profile d rule.events spare)
       → ((v : View) (l : Whole) → σ.stands v l → spare + length (events_of σ.seat.actor v) ≡ σ.seat.room) → ((v : View) (l : Whole) → σ1.stands v l → spare' + length (events_of σ1.seat.actor v) ≡ σ1.seat.room)
-      → CanCall σ1 (λ v l. BareRoom σ1.seat.profile rule.events spare' v)
+      → CanCall σ1 (BareRoom σ1.seat.profile rule.events spare')
   bare_can {spare} {spare'} can law law' =
-      let keep = λ (n : ℕ) (fits : n ≤ spare). room_kept {C = λ v l. MaySearch d v} n offered.adds (may_can can) offered.outcome.quiet law law' fits in
-      can_call {C = λ v l. SearchRoom f d rule.events spare v} (adds_under offered.adds (λ v l stood met. met.may)) can (λ v l stood met. let agreed = offered.adds.agreed v l stood met.may in record {
+      let keep = λ (n : ℕ) (fits : n ≤ spare). room_kept {C = MaySearch d} n offered.adds (may_can can) offered.outcome.quiet law law' fits in
+      can_call {C = SearchRoom f d rule.events spare} (adds_under offered.adds (λ v l stood met. met.may)) can (λ v l stood met. let agreed = offered.adds.agreed v l stood met.may in record {
         clear = clear_then v met.may agreed;
         room = subst (λ x. HasRoom x rule.events spare' (offered.steps ++ v)) (sym (profile_kept offered.adds)) (keep rule.events met.room.0, elim met.room.1 [ inl all ↦ inl (all_known f offered.steps v agreed all) | inr wide ↦ inr (keep (rule.events + 1) wide) ]);
       })

@@ -33,7 +33,7 @@ events_quiet k v [] h = refl
 events_quiet k v (m ∷ more) h = ap (λ o. with_event o (events_by k v more)) (h.0 k (epoch_of (more ++ v))) ∙ events_quiet k v more h.1
 
 -- a desk that has room for these steps' events and n more keeps it for those n
-pub room_after : {σ σ' : Standing} {C : View → Whole → Type 0} {xs : List Made} {spare spare' : ℕ} (n some : ℕ) → Adds σ σ' C xs → CanCall σ C → ((k : ℕ) (v : View) → length (events_by k v xs) ≤ some)
+pub room_after : {σ σ' : Standing} {C : View → Type 0} {xs : List Made} {spare spare' : ℕ} (n some : ℕ) → Adds σ σ' C xs → CanCall σ C → ((k : ℕ) (v : View) → length (events_by k v xs) ≤ some)
     → ((v : View) (l : Whole) → σ.stands v l → spare + length (events_of σ.seat.actor v) ≡ σ.seat.room) → ((v : View) (l : Whole) → σ'.stands v l → spare' + length (events_of σ'.seat.actor v) ≡ σ'.seat.room)
     → n + some ≤ spare → n ≤ spare'
 room_after {σ} {xs = xs} {spare = spare} n some adds can few law law' fits =
@@ -42,7 +42,7 @@ room_after {σ} {xs = xs} {spare = spare} n some adds can few law law' fits =
     let count : length (events_of k (xs ++ can.view)) ≡ length (events_by k can.view xs) + length (events_of k can.view) = ap length (events_split k xs can.view) ∙ length-append (events_by k can.view xs) (events_of k can.view) in
     room_left n adds can law' (omega (arith, now, count, few k can.view, fits))
 
-pub room_kept : {σ σ' : Standing} {C : View → Whole → Type 0} {xs : List Made} {spare spare' : ℕ} (n : ℕ) → Adds σ σ' C xs → CanCall σ C → AreQuiet xs
+pub room_kept : {σ σ' : Standing} {C : View → Type 0} {xs : List Made} {spare spare' : ℕ} (n : ℕ) → Adds σ σ' C xs → CanCall σ C → AreQuiet xs
     → ((v : View) (l : Whole) → σ.stands v l → spare + length (events_of σ.seat.actor v) ≡ σ.seat.room) → ((v : View) (l : Whole) → σ'.stands v l → spare' + length (events_of σ'.seat.actor v) ≡ σ'.seat.room)
     → n ≤ spare → n ≤ spare'
 room_kept {xs = xs} n adds can quiet law law' fits = room_after n 0 adds can (λ k v. let none = ap length (events_quiet k v xs quiet) in omega (arith, none)) law law' (omega (arith, fits))

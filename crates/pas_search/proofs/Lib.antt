@@ -1,3 +1,5 @@
 pub mod ForBackEnds
+pub mod Pages
+pub mod Found
 mod PagesThatServe
 mod FindingAPage

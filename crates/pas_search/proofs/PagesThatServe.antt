@@ -5,13 +5,13 @@ use Rattle.pas_profile.specs.declared.event.Event.{Event}
 use Rattle.pas_steps.specs.declared.step.Made.{Made}
 use Rattle.pas_steps.specs.declared.step.Step.{Step}
 use Rattle.pas_steps.specs.declared.step.Step.TheVariants.{Deed, Look, TakeRight}
-use Rattle.pas_steps.specs.Views.{View, has_right, Way, Stays, grain_move, held_after, holds, KnowsDeed, known_deed, known_free, epoch_of}
+use Rattle.pas_steps.specs.Views.{View, has_right, Way, Stays, grain_move, held_after, holds, KnowsDeed, known_free, epoch_of}
 use Rattle.pas_steps.specs.Events.{events_by, event_of, events_of}
 use Rattle.pas_steps.specs.Evidence.{GetsHere, GetsRight, LacksAfter, ZeroHere, OneHere, UnfitHere, Searched, ReadsEligible, ReadsDeed, DeedHere, NoDeedHere, AllDeeds}
 use Rattle.pas_steps.specs.Past.{Once, Always}
 use Rattle.pas_steps.specs.Frames.{IsOnPage, OnlyOn, IsRead, OnlyReads}
 use Rattle.pas_steps.specs.Kinds.{kind_of, is_in, Only, look_kind, place_of, unbacking, Deeding}
-use Rattle.pas_steps.specs.Desks.{made, Seat, Standing, Anything, Adds, CanCall, Makes}
+use Rattle.pas_steps.specs.Desks.{made, Seat, Standing, AnyView, Adds, CanCall, Makes}
 use Rattle.pas_steps.proofs.Apart.{only_within, only_both, in_apart, same_over}
 use Rattle.pas_steps.proofs.Calls.{does_none, does_then, does_as, does_step, right_is, leads_then, does_after_nothing, kept_first, leads_as}
 use Rattle.pas_steps.proofs.Frames.{events_append, right_own, with_few}
@@ -23,8 +23,8 @@ use Rattle.pas_profile.specs.Classes.{has_bit}
 use Rattle.pas_profile.specs.declared.profile.Profile.{Profile}
 use Rattle.pas_profile.specs.declared.word.Word.{Word}
 use Rattle.pas_steps.specs.Agreement.{Agrees, Agreed}
-use Rattle.pas_profile.specs.Directories.{number_of, deed_word_of}
-use Rattle.pas_steps.specs.Calls.{Leads, AnyView, Fate, Kept, Gained, Lost, now, nothing, ClearAfter, Does, grain_fate, way_fate, right_fate, opens, later}
+use Rattle.pas_profile.specs.Directories.{number_of}
+use Rattle.pas_steps.specs.Calls.{Leads, Fate, Kept, Gained, Lost, now, nothing, ClearAfter, Does, grain_fate, way_fate, right_fate, opens, later}
 use Rattle.pas_search.specs.Serving.{righted, IsUntouched, Rule, MayServe, GotBefore, right_of, served, Keeps, ReadsNoneHeld, ServeSteps, ServesPage}
 use Rattle.pas_scan.specs.Marks.{is_marked}
 use Rattle.pas_scan.specs.Rows.{row_end, row_words, words_to}
@@ -32,11 +32,13 @@ use Rattle.pas_search.specs.Searches.{offered_steps, OfferedHere, Searching, May
 use Rattle.pas_search.proofs.ForBackEnds.{events_quiet, room_after, room_kept}
 use Rattle.pas_profile.specs.Profiles.{IsPage}
 use Rattle.pas_steps.specs.Clear.{IsClear}
-use Rattle.pas_steps.proofs.Kept.{right_on, holds_on_page, knows_still, scans_look, looks_read, deed_stays}
+use Rattle.pas_steps.proofs.Kept.{right_on, holds_on_page, knows_still, scans_look, looks_read}
 use Rattle.pas_steps.proofs.Adding.{adds_call, can_call, agreed_first, agreed_later, adds_step}
 use Rattle.pas_scan.specs.Scan.{IsFirstOffered, FindsOffered, FindsBare}
 use Rattle.pas_steps.specs.Lists.{Whole}
 use Rattle.pas_core.proofs.OneActorGrains.{no_deed_event}
+use Rattle.pas_steps.proofs.Evidence.{zero_before, deed_known, deed_before, unknown}
+use Rattle.pas_steps.proofs.Sets.{got_lost}
 
 -- ---- kinds
 -- a back end returns its own page alone
@@ -56,7 +58,7 @@ served_search p ys xs only got are = record { kinds = only_both searching ys xs 
 
 -- ---- events
 -- the events of steps, where those before made none
-pub events_after_quiet : (k : ℕ) (v : View) (ys xs : List Made) → AreQuiet xs → events_by k v (ys ++ xs) ≡ events_by k (xs ++ v) ys
+events_after_quiet : (k : ℕ) (v : View) (ys xs : List Made) → AreQuiet xs → events_by k v (ys ++ xs) ≡ events_by k (xs ++ v) ys
 events_after_quiet k v ys xs quiet = events_append k ys xs v ∙ ap (λ es. events_by k (xs ++ v) ys ++ es) (events_quiet k v xs quiet) ∙ append-nil (events_by k (xs ++ v) ys)
 
 serve_event : (d : Directory) (p : ℕ) (s : Step) (a : ℕ) → is_in serving (kind_of s) ≡ true → IsOnPage p s → IsQuiet (made s a) ⊎ IsDeedOrBack d p s
@@ -65,12 +67,12 @@ serve_event d p s a kind IsOnPage.Backs = inr IsDeedOrBack.Backs
 serve_event d p s a kind on = inl (λ k e. refl)
 
 -- the events of a back end's steps, and of those before
-pub serves_events : (d : Directory) (p : ℕ) (ys xs : List Made) → OnlyServes p ys → EventsAt d p xs → EventsAt d p (ys ++ xs)
+serves_events : (d : Directory) (p : ℕ) (ys xs : List Made) → OnlyServes p ys → EventsAt d p xs → EventsAt d p (ys ++ xs)
 serves_events d p [] xs only rest = rest
 serves_events d p (m ∷ ys) xs only rest = (serve_event d p m.step m.answer only.kinds.0 only.on.0, serves_events d p ys xs (record { kinds = only.kinds.1; on = only.on.1 }) rest)
 
 -- ---- deeds
-pub quiet_deed : (s : Step) (a : ℕ) → IsQuiet (made s a) → makes_deed s a ≡ false
+quiet_deed : (s : Step) (a : ℕ) → IsQuiet (made s a) → makes_deed s a ≡ false
 quiet_deed (Deed q d) a h = no_deed_event (a == 0) (Event.Deed 0 q d) (h 0 0)
 quiet_deed s a h = refl
 
@@ -94,13 +96,13 @@ pub record Rights (fates : ℕ → Fate) (m : Made) : Type 0 where
   pub kind : is_in searching (kind_of m.step) ≡ true
   pub returns : (q : ℕ) → IsReturnOf q m.step → ⊥
 
-pub right_then : (fates : ℕ → Fate) (m : Made) (v : View) (q : ℕ) → Rights fates m → has_right (m ∷ v) q ≡ now (fates q) (has_right v q)
+right_then : (fates : ℕ → Fate) (m : Made) (v : View) (q : ℕ) → Rights fates m → has_right (m ∷ v) q ≡ now (fates q) (has_right v q)
 right_then fates m v q h = right_is m.step m.answer q (has_right v q) ∙ ap (λ t. now t (has_right v q)) (h.rights q)
 
-pub holds_then : (fates : ℕ → Fate) (m : Made) (v : View) (x : ℕ) → Rights fates m → holds (m ∷ v) x ≡ holds v x
+holds_then : (fates : ℕ → Fate) (m : Made) (v : View) (x : ℕ) → Rights fates m → holds (m ∷ v) x ≡ holds v x
 holds_then fates m v x h = ap (λ t. held_after t (holds v x)) (h.grains x)
 
-pub does_rights : (f : Profile) (fates : ℕ → Fate) (m : Made) (v : View) → Rights fates m → Agrees f v m.step m.answer → Does (righted fates) v (m ∷ v)
+does_rights : (f : Profile) (fates : ℕ → Fate) (m : Made) (v : View) → Rights fates m → Agrees f v m.step m.answer → Does (righted fates) v (m ∷ v)
 does_rights f fates m v h agrees = does_as (righted fates) (does_step f m.step m.answer v (in_apart searching unbacking (place_of (kind_of m.step)) refl h.kind) agrees)
     (λ x. inl (ap grain_fate (h.grains x))) h.rights (λ q c. subst (λ t. ClearAfter (if t then Lost else Kept) q v (m ∷ v)) (h.opens q) c)
 
@@ -116,10 +118,7 @@ abbrev pub gained : Bool → ℕ → ℕ → Fate
 gained got p q = if got && (p == q) then Gained else Kept
 
 gets_way : (here bit got : Bool) (w : Way) → way_fate w ≡ Gained → (here ≡ true → bit ≡ got) → way_fate (if here && bit then w else Way.Rests) ≡ (if got && here then Gained else Kept)
-gets_way true true got w h same = h ∙ ap (λ z. if z && true then Gained else Kept) (same refl)
-gets_way true false got w h same = ap (λ z. if z && true then Gained else Kept) (same refl)
-gets_way false bit true w h same = refl
-gets_way false bit false w h same = refl
+gets_way here bit got w h same = grind arith
 
 deed_rights : (p : ℕ) (d : Directory) (a : ℕ) (got : Bool) → (a == 0) ≡ got → Rights (gained got p) (made (Deed p d) a)
 deed_rights p d a got e = record { grains = λ x. refl; rights = λ q. gets_way (p == q) (a == 0) got Way.ByDeed refl (λ is. e); opens = λ q. refl; kind = refl; returns = λ q h. elim h [ ] }
@@ -128,7 +127,7 @@ claim_rights : (p : ℕ) (d : Directory) (a : ℕ) (got : Bool) → has_bit a (p
 claim_rights p d a got e = record { grains = λ x. refl; rights = λ q. gets_way (p == q) (has_bit a (q % 64)) got (Way.FromOffer (number_of d)) refl (λ is. ap (λ x. has_bit a (x % 64)) (sym (eqb-true p q is)) ∙ e); opens = λ q. refl; kind = refl; returns = λ q h. elim h [ ] }
 
 -- the right was got
-pub gets_rights : (p : ℕ) (s : Step) (a : ℕ) → GetsRight p s a → Rights (gained true p) (made s a)
+gets_rights : (p : ℕ) (s : Step) (a : ℕ) → GetsRight p s a → Rights (gained true p) (made s a)
 gets_rights p s a (GetsRight.Claims d b bit) = claim_rights p d a true bit
 gets_rights p s a (GetsRight.Deeds d b made_it) = deed_rights p d a true (eq-eqb a 0 made_it)
 
@@ -147,11 +146,11 @@ read_vain s a (IsRead.Reads p d b ne) = record { rights = deed_rights p d a fals
 pub reads_vain : (steps : List Made) → OnlyReads steps → AreVain steps
 reads_vain steps = always_map (λ m before. IsRead m.step m.answer) (λ m before. IsVain m) steps (λ m before is. read_vain m.step m.answer is)
 
-pub vain_leads : (f : Profile) (steps : List Made) → AreVain steps → Leads f AnyView (Does nothing) steps
+vain_leads : (f : Profile) (steps : List Made) → AreVain steps → Leads f AnyView (Does nothing) steps
 vain_leads f [] vain = record { from = λ v met agreed. does_none v }
 vain_leads f (m ∷ more) vain = record { from = λ v met agreed. does_then ((vain_leads f more vain.1).from v tt agreed.1) (does_rights f (λ q. Kept) m (more ++ v) vain.0.rights agreed.0) }
 
-pub vain_right : (q : ℕ) (steps : List Made) (v : View) → AreVain steps → has_right (steps ++ v) q ≡ has_right v q
+vain_right : (q : ℕ) (steps : List Made) (v : View) → AreVain steps → has_right (steps ++ v) q ≡ has_right v q
 vain_right q [] v vain = refl
 vain_right q (m ∷ more) v vain = right_then (λ q. Kept) m (more ++ v) q vain.0.rights ∙ vain_right q more v vain.1
 
@@ -159,14 +158,14 @@ vain_holds : (x : ℕ) (steps : List Made) (v : View) → AreVain steps → hold
 vain_holds x [] v vain = refl
 vain_holds x (m ∷ more) v vain = holds_then (λ q. Kept) m (more ++ v) x vain.0.rights ∙ vain_holds x more v vain.1
 
-pub vain_untouched : (p : ℕ) (ys xs : List Made) → AreVain ys → IsUntouched p xs → IsUntouched p (ys ++ xs)
+vain_untouched : (p : ℕ) (ys xs : List Made) → AreVain ys → IsUntouched p xs → IsUntouched p (ys ++ xs)
 vain_untouched p ys xs vain h = record { right = vain_right p ys xs vain ∙ h.right; none = λ g at. vain_holds g ys xs vain ∙ h.none g at }
 
 pub vain_lacks : (p : ℕ) (ys xs : List Made) → AreVain ys → has_right xs p ≡ false → Always (LacksAfter p) xs → Always (LacksAfter p) (ys ++ xs)
 vain_lacks p [] xs vain none all = all
 vain_lacks p (m ∷ more) xs vain none all = (vain_right p (m ∷ more) xs vain ∙ none, vain_lacks p more xs vain.1 none all)
 
-pub vain_quiet : (steps : List Made) → AreVain steps → AreQuiet steps
+vain_quiet : (steps : List Made) → AreVain steps → AreQuiet steps
 vain_quiet steps = always_map (λ m before. IsVain m) (λ m before. IsQuiet m) steps (λ m before h. h.quiet)
 
 pub vain_search : (ys xs : List Made) → AreVain ys → AreSearch xs → AreSearch (ys ++ xs)
@@ -175,11 +174,7 @@ vain_search ys xs vain are = record {
   returns = always_both (λ m before. IsVain m) ReturnsGot ys xs (λ m before h q is. absurd (h.rights.returns q is)) vain are.returns;
 }
 
--- readings without the right, with what stood before
-pub zero_before : (d : Directory) (p : ℕ) (ys xs : List Made) → has_right xs p ≡ false → Once (ZeroHere d p) ys → Once (ZeroHere d p) (ys ++ xs)
-zero_before d p ys xs h = once_earlier (ZeroHere d p) (ZeroHere d p) ys xs (λ m before z. (z.0, z.1, right_own p before xs h ∙ z.2))
-
-pub offered_before : (d : Directory) (p : ℕ) (ys xs : List Made) → AreVain ys → has_right xs p ≡ false → Always (LacksAfter p) xs → Once (OneHere d p) ys → Once (OfferedHere d p) (ys ++ xs)
+offered_before : (d : Directory) (p : ℕ) (ys xs : List Made) → AreVain ys → has_right xs p ≡ false → Always (LacksAfter p) xs → Once (OneHere d p) ys → Once (OfferedHere d p) (ys ++ xs)
 offered_before d p [] xs vain none lacks h = absurd h
 offered_before d p (m ∷ more) xs vain none lacks (inl z) = inl ((z.0, z.1, right_own p more xs none ∙ z.2), vain_lacks p more xs vain.1 none lacks)
 offered_before d p (m ∷ more) xs vain none lacks (inr h) = inr (offered_before d p more xs vain.1 none lacks h)
@@ -192,7 +187,7 @@ module _ {F : Type 0} (rule : Rule F) (f : Profile) (d : Directory) (next : ℕ)
   ]
 
   -- steps that changed nothing, where the pages from `next` to below `end` were read as 0
-  pub zeros_searching : (end : ℕ) (ys xs : List Made) → AreVain ys → Searching rule.no_fit f d next marks xs → ((p : ℕ) → next ≤ p → p < end → Once (ZeroHere d p) (ys ++ xs)) → Searching rule.no_fit f d end marks (ys ++ xs)
+  zeros_searching : (end : ℕ) (ys xs : List Made) → AreVain ys → Searching rule.no_fit f d next marks xs → ((p : ℕ) → next ≤ p → p < end → Once (ZeroHere d p) (ys ++ xs)) → Searching rule.no_fit f d end marks (ys ++ xs)
   zeros_searching end ys xs vain s zeros = record {
     still = leads_then (Does nothing) s.still (vain_leads f ys vain) (λ v w met a. tt) (λ v w u a b. does_then a b);
     searches = vain_search ys xs vain s.searches;
@@ -208,15 +203,10 @@ module _ {F : Type 0} (rule : Rule F) (f : Profile) (d : Directory) (next : ℕ)
 
 -- ---- effects, one after the other
 got_first : (t keeps : Bool) → later (if t then Gained else Kept) (if t then (if keeps then Gained else Lost) else Kept) ≡ (if t then (if keeps then Gained else Lost) else Kept)
-got_first true true = refl
-got_first t keeps = refl
+got_first t keeps = grind arith
 
 got_served : {F : Type 0} (rule : Rule F) (page : ℕ) (found : F) {v w u : View} → Does (right_of page Gained) v w → Does (served rule page found) w u → Does (served rule page found) v u
 got_served rule page found a b = does_as (served rule page found) (does_then a b) (λ x. inl (kept_first ((served rule page found).grains x))) (λ q. got_first (page == q) (rule.keeps_right found)) (λ q h. h)
-
-got_lost : (t had : Bool) → (t ≡ true → had ≡ false) → now (if t then Lost else Kept) (now (if t then Gained else Kept) had) ≡ had
-got_lost true had lacked = sym (lacked refl)
-got_lost false had lacked = refl
 
 got_left : (page : ℕ) {v w u : View} → has_right v page ≡ false → Does (right_of page Gained) v w → Does (right_of page Lost) w u → Does nothing v u
 got_left page {v} lacked a b = record {
@@ -242,7 +232,7 @@ module _ (f : Profile) (d : Directory) (page : ℕ) (m : Made) (ws : List Made) 
   pub got_right : (v : View) → has_right (m ∷ v) page ≡ true
   got_right v = right_then (λ q. if page == q then Gained else Kept) m v page turns ∙ ap (λ t. now (if t then Gained else Kept) (has_right v page)) (eq-eqb page page refl)
 
-  pub got_before : IsUntouched page ws → GotBefore page (m ∷ ws)
+  got_before : IsUntouched page ws → GotBefore page (m ∷ ws)
   got_before h = record { right = got_right ws; got = inl gets; none = λ g at. holds_then (λ q. if page == q then Gained else Kept) m ws g turns ∙ h.none g at; newest = gets }
 
   pub got_search : AreSearch ws → AreSearch (m ∷ ws)
@@ -311,7 +301,7 @@ module _ {F : Type 0} (rule : Rule F) (f : Profile) (d : Directory) (page : ℕ)
   }
 
   -- it serves
-  pub from_offered : (found : F) → ServeSteps rule f page d zs (Some found) → IsPage f page → Once (OfferedHere d page) ws → Finds rule f d (FromOffered rule.no_fit d page) (zs ++ (m ∷ ws)) (record { page = page; found = found })
+  from_offered : (found : F) → ServeSteps rule f page d zs (Some found) → IsPage f page → Once (OfferedHere d page) ws → Finds rule f d (FromOffered rule.no_fit d page) (zs ++ (m ∷ ws)) (record { page = page; found = found })
   from_offered found serve is offered = finds f d page m ws gets rule zs ready (s.untouched page) found (FromOffered rule.no_fit d page) serve is
       (record {
         offered = once_later (OfferedHere d page) zs (m ∷ ws) (inr offered);
@@ -357,7 +347,7 @@ module _ {F : Type 0} (rule : Rule F) (f : Profile) (d : Directory) (page : ℕ)
 -- the search of offered pages, so far
 pub record TriesPages {F : Type 0} (rule : Rule F) (d : Directory) (next : ℕ) (marks : List ℕ) (desk desk' : Standing) : Type 0 where
   pub steps : List Made
-  pub adds : Adds desk desk' (λ v l. MaySearch d v) steps
+  pub adds : Adds desk desk' (MaySearch d) steps
   pub goes : GoesOn rule desk.seat.profile d next marks steps
 
 module _ {F : Type 0} {rule : Rule F} {σ0 σ : Standing} {d : Directory} {next : ℕ} {marks : List ℕ} (tries : TriesPages rule d next marks σ0 σ) where
@@ -379,7 +369,7 @@ module _ {F : Type 0} {rule : Rule F} {σ0 σ : Standing} {d : Directory} {next 
       let pages : σ.seat.profile.pages ≡ f.pages = ap (λ (s : Seat). s.profile.pages) tries.adds.seat_is in
       let s : Searching rule.no_fit f d (f.pages + 1) marks (find.steps ++ earlier) = zeros_searching rule f d next marks (f.pages + 1) find.steps earlier (reads_vain find.steps (looks_read find.steps (scans_look find.steps find.scans))) tries.goes.searching
       (λ p low high. zero_before d p find.steps earlier (tries.goes.searching.untouched p).right (find.outcome.1 p low (omega (arith, high, pages)))) in
-      record { steps = find.steps ++ earlier; adds = adds_call {D = Anything} tries.adds find.adds (λ v l stood met. tt); searches = s.searches; few = let all = offered_further rule.steps (row_words f.pages) {end = f.pages / 64 + 1} (omega (arith, some, low)) low (omega arith) in omega (arith, tries.goes.few, find.count, pages, all, length-append find.steps earlier); outcome = s }
+      record { steps = find.steps ++ earlier; adds = adds_call {D = AnyView} tries.adds find.adds (λ v l stood met. tt); searches = s.searches; few = let all = offered_further rule.steps (row_words f.pages) {end = f.pages / 64 + 1} (omega (arith, some, low)) low (omega arith) in omega (arith, tries.goes.few, find.count, pages, all, length-append find.steps earlier); outcome = s }
 
   module _ {σ1 : Standing} {d' : Directory} (same : d' ≡ d) {next' page : ℕ} (found : FindsOffered d' next σ σ1 next' (Some page)) where
     pub find : FindsOffered d next σ σ1 next' (Some page)
@@ -409,10 +399,10 @@ module _ {F : Type 0} {rule : Rule F} {σ0 σ : Standing} {d : Directory} {next 
     lacked : (v : View) → MaySearch d v → Agreed f v looked → has_right v page ≡ false
     lacked v met agreed = sym ((tries.goes.searching.still.from v met (agreed_later f v find.steps earlier agreed)).right page) ∙ first.lacks (earlier ++ v) (agreed_first f v find.steps earlier agreed)
 
-    pub claim_can : CanCall σ0 (λ v l. MaySearch d v) → CanCall σ1 (λ v l. KnowsDeed page d v)
-    claim_can can = can_call {C = λ v l. MaySearch d v} (adds_call {D = Anything} tries.adds find.adds (λ v l stood met. tt)) can (λ v l stood met. deed_at v)
+    pub claim_can : CanCall σ0 (MaySearch d) → CanCall σ1 (KnowsDeed page d)
+    claim_can can = can_call {C = MaySearch d} (adds_call {D = AnyView} tries.adds find.adds (λ v l stood met. tt)) can (λ v l stood met. deed_at v)
 
-    module _ {σ2 : Standing} {a : ℕ} (claim : Adds σ1 σ2 (λ v l. KnowsDeed page d v) (made (TakeRight page d) a ∷ [])) where
+    module _ {σ2 : Standing} {a : ℕ} (claim : Adds σ1 σ2 (KnowsDeed page d) (made (TakeRight page d) a ∷ [])) where
       abbrev pub claimed : List Made
       claimed = made (TakeRight page d) a ∷ looked
 
@@ -423,8 +413,8 @@ module _ {F : Type 0} {rule : Rule F} {σ0 σ : Standing} {d : Directory} {next 
           let further = offered_further rule.steps (row_words f.pages) {end = row_end f page} first.of_region.0 first.from_next (row_within f page first.of_region.1) in
           omega (arith, tries.goes.few, counted, further, short, length-append ys claimed, length-append find.steps earlier)
 
-      pub claim_adds : Adds σ0 σ2 (λ v l. MaySearch d v) claimed
-      claim_adds = adds_call {D = λ v l. KnowsDeed page d v} (adds_call {D = Anything} tries.adds find.adds (λ v l stood met. tt)) claim (λ v l stood met. deed_at v)
+      pub claim_adds : Adds σ0 σ2 (MaySearch d) claimed
+      claim_adds = adds_call {D = KnowsDeed page d} (adds_call {D = AnyView} tries.adds find.adds (λ v l stood met. tt)) claim (λ v l stood met. deed_at v)
 
       pub claim_quiet : AreQuiet claimed
       claim_quiet = (λ k e. refl, at_page.quiet)
@@ -447,15 +437,15 @@ module _ {F : Type 0} {rule : Rule F} {σ0 σ : Standing} {d : Directory} {next 
         got : Leads f (MaySearch d) (IsReady page d) claimed
         got = ready f d page (made (TakeRight page d) a) looked (GetsRight.Claims d a bit) (λ v met. met.clear) at_page.still (λ v agreed. knows_still f d page (made (TakeRight page d) a ∷ []) (looked ++ v) (agreed.0, tt) (deed_at v))
 
-        pub serve_can : CanCall σ0 (λ v l. MaySearch d v) → CanCall σ2 (λ v l. MayServe page d v)
-        serve_can can = can_call {C = λ v l. MaySearch d v} claim_adds can (λ v l stood met. (got.from v met (claim_adds.agreed v l stood met)).may)
+        pub serve_can : CanCall σ0 (MaySearch d) → CanCall σ2 (MayServe page d)
+        serve_can can = can_call {C = MaySearch d} claim_adds can (λ v l stood met. (got.from v met (claim_adds.agreed v l stood met)).may)
 
         module _ {σ3 : Standing} where
           serve_at : (answer : Option F) (serve : ServesPage rule page d σ2 σ3 answer) → ServeSteps rule f page d serve.steps answer
           serve_at answer serve = subst (λ (s : Seat). ServeSteps rule s.profile page d serve.steps answer) claim_adds.seat_is serve.serves
 
-          pub serve_adds : (answer : Option F) (serve : ServesPage rule page d σ2 σ3 answer) → Adds σ0 σ3 (λ v l. MaySearch d v) (serve.steps ++ claimed)
-          serve_adds answer serve = adds_call {D = λ v l. MayServe page d v} claim_adds serve.adds (λ v l stood met. (got.from v met (claim_adds.agreed v l stood met)).may)
+          serve_adds : (answer : Option F) (serve : ServesPage rule page d σ2 σ3 answer) → Adds σ0 σ3 (MaySearch d) (serve.steps ++ claimed)
+          serve_adds answer serve = adds_call {D = MayServe page d} claim_adds serve.adds (λ v l stood met. (got.from v met (claim_adds.agreed v l stood met)).may)
 
           pub found_there : (marks' : List ℕ) {found : F} → ServesPage rule page d σ2 σ3 (Some found) → SearchesOffered rule d σ0 σ3 marks' (Some (record { page = page; found = found }))
           found_there marks' {found} serve = let s = at_page in record {
@@ -470,33 +460,17 @@ module _ {F : Type 0} {rule : Rule F} {σ0 σ : Standing} {d : Directory} {next 
           pub left_tries : {k : ℕ} → k ≡ page + 1 → (marks' : List ℕ) → ((p : ℕ) → is_marked marks' p ≡ ((page == p) || is_marked marks p)) → (serve : ServesPage rule page d σ2 σ3 None) → TriesPages rule d k marks' σ0 σ3
           left_tries is marks' more serve = record { steps = serve.steps ++ claimed; adds = serve_adds None serve; goes = subst (λ j. GoesOn rule f d j marks' (serve.steps ++ claimed)) (sym is) (goes_on rule f d page marks (made (TakeRight page d) a) looked serve.steps (GetsRight.Claims d a bit) (λ k e. refl) (IsOnPage.Claims d, tt) serve.serves.only.on got at_page marks' more (serve_at None serve) lacked rest_at first.of_region.1 (few_after serve.steps serve.serves.short)) }
 
-pub deed_before : (p : ℕ) (ys xs : List Made) → Once (DeedHere p) ys → Once (DeedHere p) (ys ++ xs)
-deed_before p ys xs h = once_earlier (DeedHere p) (DeedHere p) ys xs (λ m before z. z) h
-
--- ---- a page that was read as having no deed isn't known to have one
-read_unknown : (f : Profile) (v : View) (p : ℕ) (s : Step) (a : ℕ) → ReadsDeed p s → Agrees f v s a → a ≡ 0 → known_deed v p ≢ 0 → ⊥
-read_unknown f v p s a ReadsDeed.Looks agrees z known = known (sym (agrees.known known) ∙ z)
-read_unknown f v p s a (ReadsDeed.Deeds d) agrees z known = known (sym (agrees.known known) ∙ z)
-
-pub unknown : (f : Profile) (v : View) (p : ℕ) (xs : List Made) → Agreed f v xs → Once (NoDeedHere p) xs → known_deed v p ≢ 0 → ⊥
-unknown f v p [] agreed h known = h
-unknown f v p (m ∷ more) agreed (inr h) known = unknown f v p more agreed.1 h known
-unknown f v p (m ∷ more) agreed (inl h) known = read_unknown f (more ++ v) p m.step m.answer h.0 agreed.0 h.1 (λ z. known (sym (deed_stays f more v p agreed.1 known) ∙ z))
-
 -- ---- a deed that was made
-pub deed_known : (p : ℕ) (d : Directory) (a : ℕ) (v : View) → a ≡ 0 → KnowsDeed p d (made (Deed p d) a ∷ v)
-deed_known p d a v e = ap (λ t. if t then (if a == 0 then deed_word_of d else a) else known_deed v p) (eq-eqb p p refl) ∙ ap (λ t. if t then deed_word_of d else a) (eq-eqb a 0 e)
-
 deed_frees : (p : ℕ) (d : Directory) (a : ℕ) (v : View) (g : ℕ) → a ≡ 0 → g / 256 ≡ p → known_free (made (Deed p d) a ∷ v) g ≡ true
 deed_frees p d a v g e at = ap (λ t. if t && (a == 0) then true else known_free v g) (eq-eqb p (g / 256) (sym at)) ∙ ap (λ t. if t then true else known_free v g) (eq-eqb a 0 e)
 
-pub clear_can : {σ : Standing} {f : Profile} {n spare : ℕ} → CanCall σ (λ v l. BareRoom f n spare v) → CanCall σ (λ v l. IsClear v)
+pub clear_can : {σ : Standing} {f : Profile} {n spare : ℕ} → CanCall σ (BareRoom f n spare) → CanCall σ IsClear
 clear_can can = record { view = can.view; whole = can.whole; stood = can.stood; met = can.met.clear }
 
 -- the search of pages without a deed, so far: each deed word below that of page `from` was read as not 0
 pub record PassesDeeds (from : ℕ) (desk desk' : Standing) : Type 0 where
   pub steps : List Made
-  pub adds : Adds desk desk' (λ v l. IsClear v) steps
+  pub adds : Adds desk desk' IsClear steps
   pub reads : OnlyReads steps
   pub deeds : AllDeeds from steps
   pub within : from ≤ desk.seat.profile.pages + 1
@@ -522,7 +496,7 @@ module _ {σ0 σ : Standing} (d : Directory) {from : ℕ} (passes : PassesDeeds 
   pub none_bare : {F : Type 0} {rule : Rule F} {σ1 : Standing} → FindsBare from σ σ1 None → SearchesBare rule d σ0 σ1 None
   none_bare find =
       let pages : σ.seat.profile.pages ≡ region.pages = ap (λ (s : Seat). s.profile.pages) passes.adds.seat_is in let deeds = more_deeds (region.pages + 1) find.steps (λ p low high. find.outcome p low (omega (arith, high, pages))) in
-      record { steps = find.steps ++ xs; adds = adds_call {D = Anything} passes.adds find.adds (λ v l stood met. tt); few = omega (arith, passes.few, passes.within, find.count, pages, length-append find.steps xs); outcome = (more_reads find.steps (looks_read find.steps (scans_look find.steps find.scans)), deeds) }
+      record { steps = find.steps ++ xs; adds = adds_call {D = AnyView} passes.adds find.adds (λ v l stood met. tt); few = omega (arith, passes.few, passes.within, find.count, pages, length-append find.steps xs); outcome = (more_reads find.steps (looks_read find.steps (scans_look find.steps find.scans)), deeds) }
 
   module _ {σ1 : Standing} {page : ℕ} (find : FindsBare from σ σ1 (Some page)) where
     abbrev pub read : List Made
@@ -537,14 +511,14 @@ module _ {σ0 σ : Standing} (d : Directory) {from : ℕ} (passes : PassesDeeds 
     found_deeds : AllDeeds page read
     found_deeds = more_deeds page find.steps find.outcome.lower
 
-    reads_adds : Adds σ0 σ1 (λ v l. IsClear v) read
-    reads_adds = adds_call {D = Anything} passes.adds find.adds (λ v l stood met. tt)
+    reads_adds : Adds σ0 σ1 IsClear read
+    reads_adds = adds_call {D = AnyView} passes.adds find.adds (λ v l stood met. tt)
 
     of_region : IsPage region page
     of_region = subst (λ (s : Seat). IsPage s.profile page) passes.adds.seat_is find.outcome.of_region
 
     -- there is room for the event of its deed
-    module _ {n spare : ℕ} (can : CanCall σ0 (λ v l. BareRoom region n spare v)) (law : (v : View) (l : Whole) → σ0.stands v l → spare + length (events_of σ0.seat.actor v) ≡ σ0.seat.room) where
+    module _ {n spare : ℕ} (can : CanCall σ0 (BareRoom region n spare)) (law : (v : View) (l : Whole) → σ0.stands v l → spare + length (events_of σ0.seat.actor v) ≡ σ0.seat.room) where
       wide : n + 1 ≤ spare
       wide = elim can.met.room.1 [
         | inl known ↦ absurd (unknown region can.view page read (reads_adds.agreed can.view can.whole can.stood can.met.clear) (once_earlier (NoDeedHere page) (NoDeedHere page) find.steps xs (λ m before z. z) find.outcome.none) (known page of_region))
@@ -552,16 +526,16 @@ module _ {σ0 σ : Standing} (d : Directory) {from : ℕ} (passes : PassesDeeds 
       ]
 
       pub deed_room : {spare' : ℕ} → ((v : View) (l : Whole) → σ1.stands v l → spare' + length (events_of σ1.seat.actor v) ≡ σ1.seat.room) → 1 ≤ spare'
-      deed_room law' = let most = wide in room_kept {C = λ v l. IsClear v} 1 reads_adds (clear_can can) (vain_quiet read (reads_vain read found_reads)) law law' (omega (arith, most))
+      deed_room law' = let most = wide in room_kept {C = IsClear} 1 reads_adds (clear_can can) (vain_quiet read (reads_vain read found_reads)) law law' (omega (arith, most))
 
       -- and for those of the back end
-      pub serve_room : {σ2 : Standing} {spare' : ℕ} {a : ℕ} → Adds σ0 σ2 (λ v l. IsClear v) (tried a) → ((v : View) (l : Whole) → σ2.stands v l → spare' + length (events_of σ2.seat.actor v) ≡ σ2.seat.room) → n ≤ spare'
-      serve_room {a = a} deed_adds law' = room_after {C = λ v l. IsClear v} n 1 deed_adds (clear_can can) (λ k v.
+      pub serve_room : {σ2 : Standing} {spare' : ℕ} {a : ℕ} → Adds σ0 σ2 IsClear (tried a) → ((v : View) (l : Whole) → σ2.stands v l → spare' + length (events_of σ2.seat.actor v) ≡ σ2.seat.room) → n ≤ spare'
+      serve_room {a = a} deed_adds law' = room_after {C = IsClear} n 1 deed_adds (clear_can can) (λ k v.
           let none = ap length (events_quiet k v read (vain_quiet read (reads_vain read found_reads))) in let more = with_few (event_of k (epoch_of (read ++ v)) (Deed page d) a) (events_by k v read) in omega (arith, none, more)) law law' wide
 
     module _ {σ2 : Standing} {a : ℕ} (makes : Makes σ1 σ2 (Deed page d) a) where
-      pub deed_adds : Adds σ0 σ2 (λ v l. IsClear v) (tried a)
-      deed_adds = adds_step {C = λ v l. IsClear v} {step = Deed page d} reads_adds makes (λ v l stood met. tt)
+      pub deed_adds : Adds σ0 σ2 IsClear (tried a)
+      deed_adds = adds_step {C = IsClear} {step = Deed page d} reads_adds makes (λ v l stood met. tt)
 
       -- another actor was first
       lost_reads : a ≢ 0 → OnlyReads (tried a)
@@ -584,12 +558,12 @@ module _ {σ0 σ : Standing} (d : Directory) {from : ℕ} (passes : PassesDeeds 
         deed_got : Leads region IsClear (IsReady page d) (tried a)
         deed_got = ready region d page (made (Deed page d) a) read (GetsRight.Deeds d a made_it) (λ v clear. clear) (leads_as (vain_leads region read (reads_vain read found_reads)) (λ v clear. tt) (λ v w clear does. does)) (λ v agreed. deed_known page d a (read ++ v) made_it)
 
-        pub deed_can : CanCall σ0 (λ v l. IsClear v) → CanCall σ2 (λ v l. MayServe page d v)
-        deed_can can = can_call {C = λ v l. IsClear v} deed_adds can (λ v l stood met. (deed_got.from v met (deed_adds.agreed v l stood met)).may)
+        pub deed_can : CanCall σ0 IsClear → CanCall σ2 (MayServe page d)
+        deed_can can = can_call {C = IsClear} deed_adds can (λ v l stood met. (deed_got.from v met (deed_adds.agreed v l stood met)).may)
 
         module _ {F : Type 0} {rule : Rule F} {σ3 : Standing} where
           -- all grains of the page are known as free, so it isn't left
-          pub not_left : CanCall σ0 (λ v l. IsClear v) → ServesPage rule page d σ2 σ3 None → ⊥
+          pub not_left : CanCall σ0 IsClear → ServesPage rule page d σ2 σ3 None → ⊥
           not_left can serve =
               let v : View = made (Deed page d) a ∷ (read ++ can.view) in
               let may : MayServe page d v = (deed_got.from can.view can.met (deed_adds.agreed can.view can.whole can.stood can.met)).may in
@@ -598,7 +572,7 @@ module _ {σ0 σ : Standing} (d : Directory) {from : ℕ} (passes : PassesDeeds 
           pub served_bare : {found : F} → ServesPage rule page d σ2 σ3 (Some found) → SearchesBare rule d σ0 σ3 (Some (record { page = page; found = found }))
           served_bare {found} serve = record {
             steps = serve.steps ++ (tried a);
-            adds = adds_call {D = λ v l. MayServe page d v} deed_adds serve.adds (λ v l stood met. (deed_got.from v met (deed_adds.agreed v l stood met)).may);
+            adds = adds_call {D = MayServe page d} deed_adds serve.adds (λ v l stood met. (deed_got.from v met (deed_adds.agreed v l stood met)).may);
             few = let most = few_tried serve.steps in let high = of_region.1 in omega (arith, most, high, serve.serves.short);
             outcome = record {
               page = of_region;

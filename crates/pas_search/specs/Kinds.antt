@@ -8,7 +8,7 @@ use Rattle.pas_steps.specs.Frames.{OnlyOn}
 use Rattle.pas_steps.specs.Kinds.{Kinds, LookEpoch, LookFree, LookLife, LookDeed, LookBacked, LookStamp, LookParked, LookEmpty, LookEligible, Deeding, Backing, Taking, Putting, Claiming, Offering, Parking, Unparking, Hinting, Only}
 use Rattle.pas_steps.specs.declared.step.Step.{Step}
 use Rattle.pas_steps.specs.declared.step.Made.{Made}
-use Rattle.pas_steps.specs.declared.step.Step.TheVariants.{Look, Deed, Back, Take, Put, Give, End, EndSized, TakeRight, Offer, Park, Unpark, Stamp, Hint, Tick, Unback, Unhint}
+use Rattle.pas_steps.specs.declared.step.Step.TheVariants.{Deed, Back, Offer, Park, Unpark, Hint}
 
 -- ---- kinds
 -- what a back end may do on a page whose right was got: it makes no deed, claims nothing, stamps nothing, gives and ends no block
@@ -57,25 +57,10 @@ abbrev pub EventsAt : Directory → ℕ → List Made → Type 0
 EventsAt d page = Always (λ m before. IsQuiet m ⊎ IsDeedOrBack d page m.step)
 
 -- ---- deeds
--- the step, with this answer, made a deed
+-- the step, with this answer, made a deed; no other step does
 abbrev pub makes_deed : Step → ℕ → Bool
-makes_deed (Look word) a = false
 makes_deed (Deed page directory) a = a == 0
-makes_deed (Back page) a = false
-makes_deed (Take page word mask) a = false
-makes_deed (Put page word mask) a = false
-makes_deed (Give block) a = false
-makes_deed (End name guess) a = false
-makes_deed (EndSized name room) a = false
-makes_deed (TakeRight page directory) a = false
-makes_deed (Offer page directory) a = false
-makes_deed (Park page) a = false
-makes_deed (Unpark page) a = false
-makes_deed (Stamp page) a = false
-makes_deed (Hint page) a = false
-makes_deed (Tick raised) a = false
-makes_deed (Unback page) a = false
-makes_deed (Unhint page) a = false
+makes_deed step a = false
 
 -- how many deeds were made
 abbrev pub deeds_made : List Made → ℕ

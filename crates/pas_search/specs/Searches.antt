@@ -133,7 +133,7 @@ pub record IsRefused (no_fit : Readings → Type 0) (f : Profile) (d : Directory
 -- The answer has its reasons in the steps of the call, and is true of the states at entry and at exit where the desk tells them.
 pub record Searches {F : Type 0} (rule : Rule F) (tells : Bool) (d : Directory) (desk desk' : Standing) (answer : Result (Served F) NoRoom) : Type 0 where
   pub steps : List Made
-  pub adds : Adds desk desk' (λ v l. MaySearch d v) steps
+  pub adds : Adds desk desk' (MaySearch d) steps
   pub searches : AreSearch steps
   pub few : length steps ≤ search_steps rule.steps desk.seat.profile.pages
   pub outcome : MatchResult answer (IsServed rule desk.seat.profile d steps) (IsRefused rule.no_fit desk.seat.profile d steps)
@@ -160,7 +160,7 @@ pub record GoesOn {F : Type 0} (rule : Rule F) (f : Profile) (d : Directory) (ne
 
 pub record SearchesOffered {F : Type 0} (rule : Rule F) (d : Directory) (desk desk' : Standing) (marks : List ℕ) (found : Option (Served F)) : Type 0 where
   pub steps : List Made
-  pub adds : Adds desk desk' (λ v l. MaySearch d v) steps
+  pub adds : Adds desk desk' (MaySearch d) steps
   pub searches : AreSearch steps
   pub few : length steps ≤ offered_steps rule.steps (row_words desk.seat.profile.pages) desk.seat.profile.pages
   pub outcome : MatchOption found
@@ -180,7 +180,7 @@ pub record ServesBare {F : Type 0} (rule : Rule F) (f : Profile) (d : Directory)
 
 pub record SearchesBare {F : Type 0} (rule : Rule F) (d : Directory) (desk desk' : Standing) (found : Option (Served F)) : Type 0 where
   pub steps : List Made
-  pub adds : Adds desk desk' (λ v l. IsClear v) steps
+  pub adds : Adds desk desk' IsClear steps
   pub few : length steps ≤ bare_steps rule.steps desk.seat.profile.pages
   pub outcome : MatchOption found
       (OnlyReads steps × AllDeeds (desk.seat.profile.pages + 1) steps)

@@ -111,5 +111,5 @@ pub record ServeSteps {Found : Type 0} (rule : Rule Found) (f : Profile) (page :
 
 pub record ServesPage {Found : Type 0} (rule : Rule Found) (page : ℕ) (d : Directory) (desk desk' : Standing) (answer : Option Found) : Type 0 where
   pub steps : List Made
-  pub adds : Adds desk desk' (λ v l. MayServe page d v) steps
+  pub adds : Adds desk desk' (MayServe page d) steps
   pub serves : ServeSteps rule desk.seat.profile page d steps answer

@@ -19,7 +19,7 @@ pub fn search_bare<S: Serving, D: Desk>(
 ) -> Option<Served<S::Found>>
     requires directory { IsDirectoryOf (D.standing desk.old).seat.profile directory }
     requires suits { (S.rule serving.now).suits directory }
-    requires can { CanCall (D.standing desk.old) (λ v l. BareRoom (D.standing desk.old).seat.profile (S.rule serving.now).events (D.spare_of desk.old) v) }
+    requires can { CanCall (D.standing desk.old) (BareRoom (D.standing desk.old).seat.profile (S.rule serving.now).events (D.spare_of desk.old)) }
     ensures found { SearchesBare (S.rule serving.now) directory (D.standing desk.old) (D.standing desk.new) result }
     ensures home { D.home desk.new ≡ D.home desk.old }
 {

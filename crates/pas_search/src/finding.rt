@@ -28,7 +28,7 @@ pub fn find_page<S: Serving, D: Desk>(
 ) -> Result<Served<S::Found>, NoRoom>
     requires directory { IsDirectoryOf (D.standing desk.old).seat.profile directory }
     requires suits { (S.rule serving.now).suits directory }
-    requires can { CanCall (D.standing desk.old) (λ v l. SearchRoom (D.standing desk.old).seat.profile directory (S.rule serving.now).events (D.spare_of desk.old) v) }
+    requires can { CanCall (D.standing desk.old) (SearchRoom (D.standing desk.old).seat.profile directory (S.rule serving.now).events (D.spare_of desk.old)) }
     ensures searches { Searches (S.rule serving.now) D.tells directory (D.standing desk.old) (D.standing desk.new) result }
     ensures home { D.home desk.new ≡ D.home desk.old }
 {

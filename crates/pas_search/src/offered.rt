@@ -22,7 +22,7 @@ pub fn search_offered<S: Serving, D: Desk>(
     requires unfit { (p : ℕ) → is_marked looked.old.unfit p ≡ false }
     requires directory { IsDirectoryOf (D.standing desk.old).seat.profile looked.old.directory }
     requires suits { (S.rule serving.now).suits looked.old.directory }
-    requires can { CanCall (D.standing desk.old) (λ v l. MaySearch looked.old.directory v) }
+    requires can { CanCall (D.standing desk.old) (MaySearch looked.old.directory) }
     requires room { (S.rule serving.now).events ≤ D.spare_of desk.old }
     ensures directory { looked.new.directory ≡ looked.old.directory }
     ensures found { SearchesOffered (S.rule serving.now) looked.old.directory (D.standing desk.old) (D.standing desk.new) looked.new.unfit result }

@@ -25,7 +25,7 @@ pub trait Serving {
         requires page { IsPage (D.standing desk.old).seat.profile page }
         requires directory { IsDirectoryOf (D.standing desk.old).seat.profile directory }
         requires suits { (rule self.now).suits directory }
-        requires can { CanCall (D.standing desk.old) (λ v l. MayServe page directory v) }
+        requires can { CanCall (D.standing desk.old) (MayServe page directory) }
         requires room { (rule self.now).events ≤ D.spare_of desk.old }
         ensures serves { ServesPage (rule self.now) page directory (D.standing desk.old) (D.standing desk.new) result }
         ensures home { D.home desk.new ≡ D.home desk.old };

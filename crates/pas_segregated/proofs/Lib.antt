@@ -1,5 +1,4 @@
 pub mod Starts
-pub mod GiveBack
-pub mod FourTakes
+pub mod GivenUp
 mod WholeSlots
 pub mod Serve

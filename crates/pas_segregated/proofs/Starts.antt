@@ -4,7 +4,7 @@ use Rattle.std.proofs.lemmas.Bool.{agree_below, agree_below_at, and_parts, and_f
 use Rattle.std.proofs.lemmas.Nat.{div-add-mod', same_from_place}
 use Rattle.std.proofs.Math.Nat.{mod-lt}
 use Rattle.pas_profile.specs.Classes.{has_bit, IsClass, class_grains, usable_grains, IsSlotStart}
-use Rattle.pas_profile.proofs.Tables.{passes_below, passes_at}
+use Rattle.pas_profile.proofs.Sizes.{of_each_class, class_passes}
 use Rattle.pas_profile.proofs.ClassFacts.{class_grains_positive, usable_grains_le, slot_end}
 use Rattle.pas_bits.specs.declared.mask.Mask4.{Mask4}
 use Rattle.pas_bits.specs.Masks.{is_set, AreSet, IsNear}
@@ -32,11 +32,11 @@ agrees table default class = agree_below (λ g. has_bit (slice_index (get_or tab
 abbrev pub row : List (List ℕ) → List ℕ → ℕ → Mask4
 row table default class = record { 0 = get_or table class default }
 
-pub table_bits : (table : List (List ℕ)) (default : List ℕ) → passes_below (agrees table default) 16 ≡ true → passes_below (λ class. length (get_or table class default) == 4) 16 ≡ true
+pub table_bits : (table : List (List ℕ)) (default : List ℕ) → of_each_class (agrees table default) ≡ true → of_each_class (λ class. length (get_or table class default) == 4) ≡ true
     → (class : ℕ) → IsClass class → (g : ℕ) → is_set (row table default class) g ≡ is_start class g
 table_bits table default computed sized class is g = elim (cases_lt g 256) [
-  | inl lt ↦ agree_below_at (λ g. has_bit (slice_index (get_or table class default) (g / 64)) (g % 64)) (is_start class) 256 g (passes_at (agrees table default) 16 class computed is) lt
-  | inr ge ↦ none_past (row table default class) g (eqb-true (length (get_or table class default)) 4 (passes_at (λ class. length (get_or table class default) == 4) 16 class sized is)) ge ∙ sym (none_begins class g is ge)
+  | inl lt ↦ agree_below_at (λ g. has_bit (slice_index (get_or table class default) (g / 64)) (g % 64)) (is_start class) 256 g (class_passes (agrees table default) computed class is) lt
+  | inr ge ↦ none_past (row table default class) g (eqb-true (length (get_or table class default)) 4 (class_passes (λ class. length (get_or table class default) == 4) sized class is)) ge ∙ sym (none_begins class g is ge)
 ]
 
 -- ---- whole slots

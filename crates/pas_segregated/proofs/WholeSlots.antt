@@ -1,18 +1,24 @@
 -- The slots that the takes of a page got whole, and the grains that are put back.
-use Rattle.std.proofs.Common.{◌≡◌, ℕ, ◌+◌, ◌/◌, ◌%◌, ◌<◌, ◌==◌, ◌↔◌, IsTrue, Bool, true, false, not, ◌&&◌, if◌then◌else◌, List, [], ◌∷◌, ◌++◌, refl, ap, sym, ◌∙◌, subst, arith, inl, inr, append_assoc, length-append}
+use Rattle.std.proofs.Common.{◌≡◌, ◌≢◌, ℕ, ◌+◌, ◌*◌, ◌/◌, ◌%◌, ◌<◌, ◌==◌, ◌↔◌, IsTrue, Bool, true, false, not, ◌&&◌, if◌then◌else◌, List, [], ◌∷◌, ◌++◌, refl, ap, sym, ◌∙◌, subst, arith, inl, inr, append_assoc, length-append, true≢false}
 use Rattle.std.proofs.lemmas.Bool.{cases_Bool, and_parts, and_from, and_right, lt-ltb}
-use Rattle.pas_profile.specs.Classes.{IsClass, class_grains, usable_grains, is_usable, IsSlotStart}
+use Rattle.pas_profile.specs.Classes.{has_bit, IsClass, class_grains, usable_grains, is_usable, IsSlotStart}
 use Rattle.pas_profile.specs.declared.directory.Directory.{Directory}
-use Rattle.pas_profile.proofs.ClassFacts.{class_grains_le, usable_grains_le, first_slot}
+use Rattle.pas_profile.proofs.ClassFacts.{class_grains_le, usable_grains_le, usable_grains_ge, first_slot}
 use Rattle.pas_bits.specs.declared.mask.Mask4.{Mask4}
 use Rattle.pas_bits.specs.Masks.{is_set, AreSet, IsEmpty}
+use Rattle.pas_bits.proofs.Words.{at_word, none_of_zero}
 use Rattle.pas_rights.specs.Puts.{masked}
+use Rattle.pas_rights.specs.PutsBack.{MayPutAndReturn, giving_back, PutsAndReturns, taking_grains}
+use Rattle.pas_rights.specs.Takes.{GetsGrains, taken, TakesMask, takes}
+use Rattle.pas_rights.specs.Words.{words}
+use Rattle.pas_rights.proofs.Takes.{takes_only, takes_on, takes_keep, takes_few, takes_right, takes_leave, takes_held, takes_free, takes_read}
+use Rattle.pas_rights.proofs.Words.{bit_of, bit_on, since_kept}
 use Rattle.pas_steps.specs.Views.{View, holds, has_right}
 use Rattle.pas_steps.specs.Agreement.{Agreed}
 use Rattle.pas_steps.specs.Calls.{Calls, Kept, Gained, Lost, later, now}
 use Rattle.pas_steps.specs.Past.{Since}
-use Rattle.pas_steps.specs.Frames.{IsOnPage, GivesUp, OnlyOn, KeepsRight}
-use Rattle.pas_steps.specs.Kinds.{Taking, Only}
+use Rattle.pas_steps.specs.Frames.{IsOnPage, GivesUp, KeepsRight}
+use Rattle.pas_steps.specs.Kinds.{Taking}
 use Rattle.pas_steps.specs.Desks.{Seat, Standing, CanCall}
 use Rattle.pas_steps.specs.Evidence.{ShowsHere, KeptHere}
 use Rattle.pas_steps.specs.declared.step.Made.{Made}
@@ -20,15 +26,12 @@ use Rattle.pas_steps.proofs.Adding.{agreed_first, agreed_later}
 use Rattle.pas_steps.proofs.Apart.{only_within, only_both, deeds_same}
 use Rattle.pas_steps.proofs.Calls.{SameGrain, does_then, does_as}
 use Rattle.pas_steps.proofs.Called.{call_as, call_then, next_call}
-use Rattle.pas_steps.proofs.Frames.{rights_stay}
 use Rattle.pas_steps.proofs.Past.{always_both}
 use Rattle.pas_search.specs.Serving.{MayServe, HoldsNone}
 use Rattle.pas_segregated.specs.Masks.{start_of}
-use Rattle.pas_segregated.specs.Returns.{MayGiveBack, giving_back, GivesBack}
-use Rattle.pas_segregated.specs.Takes.{four_takes, GetsGrains, taken, TakesUsable, AreFreeSlots, in_starts, slots_on, takes_since, taking_slots, TakesSlots}
+use Rattle.pas_segregated.specs.Takes.{AreUsable, AreFreeSlots, in_starts, slots_on, takes_since, TakesSlots}
 use Rattle.pas_segregated.proofs.Starts.{start_below}
-use Rattle.pas_segregated.proofs.FourTakes.{takes_leave, held_unread, first_free, takes_read, takes_count}
-use Rattle.pas_segregated.proofs.GiveBack.{back_count, none_yet, back_holds, same_after, keeps_by}
+use Rattle.pas_segregated.proofs.GivenUp.{back_count, takes_count, none_yet, back_holds, same_after}
 
 -- the starts are those of the slots all of whose grains are in the mask
 abbrev pub AreWhole : ℕ → Mask4 → Mask4 → Type 0
@@ -57,24 +60,18 @@ slot_usable class s g slot lt = let within = slot.within in lt-ltb g (usable_gra
 slot_in : (class s g : ℕ) → IsClass class → IsSlotStart class s → g < s + class_grains class → g < 256
 slot_in class s g is slot lt = let within = slot.within in let most = usable_grains_le class is in omega (arith, within, lt, most)
 
--- a reading stands while the right is kept
-since_kept : (P : Made → List Made → Type 0) (page : ℕ) (ys xs : List Made) → KeepsRight page ys → has_right xs page ≡ true → Since P (KeptHere page) xs → Since P (KeptHere page) (ys ++ xs)
-since_kept P page [] xs keeps right h = h
-since_kept P page (y ∷ ys) xs keeps right h = inr (rights_stay ys xs page keeps.1 right, since_kept P page ys xs keeps.1 right h)
-
 -- ---- the whole call
-module _ (class page : ℕ) (d : Directory) (is : IsClass class) {σ σ1 : Standing} (starts got rest : Mask4) (took : TakesUsable page class σ σ1 got) (whole : AreWhole class got starts) (rests : IsRest class got starts rest) where
+module _ (class page : ℕ) (d : Directory) (is : IsClass class) {σ σ1 : Standing} (usable starts got rest : Mask4) (usable_are : AreUsable class usable) (took : TakesMask page usable σ σ1 got) (whole : AreWhole class got starts) (rests : IsRest class got starts rest) where
   abbrev first : List Made
-  first = four_takes page took.usable took.answers
+  first = takes page (words usable) (words took.answers) 4
 
-  first_kinds : Only (Taking ∷ []) first
-  first_kinds = (refl, (refl, (refl, (refl, tt))))
-
-  first_on : OnlyOn page first
-  first_on = (IsOnPage.Takes 3 _, (IsOnPage.Takes 2 _, (IsOnPage.Takes 1 _, (IsOnPage.Takes 0 _, tt))))
+  -- each word has some usable grains
+  some_word : (w : ℕ) → w < 4 → words usable w ≢ 0
+  some_word w lt z = let most = usable_grains_ge class is in
+      true≢false (sym (lt-ltb (64 * w + 0) (usable_grains class) (omega (arith, lt, most))) ∙ sym (usable_are (64 * w + 0) (omega (arith, lt))) ∙ at_word usable w 0 (omega arith) ∙ ap (λ m. has_bit m 0) z ∙ none_of_zero 0)
 
   read_of : (g : ℕ) → g < 256 → is_set got g ≡ (is_set took.answers g && is_usable class g)
-  read_of g lt = took.got_is g ∙ ap (λ u. is_set took.answers g && u) (took.usable_are g lt)
+  read_of g lt = took.got_is g ∙ ap (λ u. is_set took.answers g && u) (usable_are g lt)
 
   free_slots : AreFreeSlots class (is_set took.answers) starts
   free_slots s = (
@@ -98,21 +95,21 @@ module _ (class page : ℕ) (d : Directory) (is : IsClass class) {σ σ1 : Stand
   first_call : Calls σ σ1 (MayServe page d) (GetsGrains (masked page got)) first
   first_call = call_as (GetsGrains (masked page got)) took.calls (λ v met. met.right) (λ v w met gets. gets)
 
-  may_give_back : (v : View) → MayServe page d v → GetsGrains (masked page got) v (first ++ v) → MayGiveBack page d rest (first ++ v)
-  may_give_back v met gets = let clear = gets.does.clear page met.clear in record {
-    deed = deeds_same (Taking ∷ []) refl page first v first_kinds ∙ met.deed;
+  may_put_back : (v : View) → MayServe page d v → GetsGrains (masked page got) v (first ++ v) → MayPutAndReturn page d rest (first ++ v)
+  may_put_back v met gets = let clear = gets.does.clear page met.clear in record {
+    deed = deeds_same (Taking ∷ []) refl page first v (takes_only page (words usable) (words took.answers) 4) ∙ met.deed;
     puts = record {
       held = λ g here. gets.does.held g ∙ ap (λ t. now (if t then Gained else Kept) (holds v g)) (and_parts (masked page got g) (not (slots_on page class starts g)) (sym (rest_is_other g) ∙ here)).0;
       stamped = clear.stamped;
     };
   }
 
-  pub can_give_back : CanCall σ (λ v l. MayServe page d v) → CanCall σ1 (λ v l. MayGiveBack page d rest v)
-  can_give_back can = next_call first_call can may_give_back
+  pub can_put_back : CanCall σ (MayServe page d) → CanCall σ1 (MayPutAndReturn page d rest)
+  can_put_back can = next_call first_call can may_put_back
 
-  module _ {σ2 : Standing} (back : GivesBack page d rest σ1 σ2) (can : CanCall σ (λ v l. MayServe page d v)) where
+  module _ {σ2 : Standing} (back : PutsAndReturns page d rest σ1 σ2) (can : CanCall σ (MayServe page d)) where
     all_call : Calls σ σ2 (MayServe page d) (GetsGrains (slots_on page class starts)) (back.steps ++ first)
-    all_call = call_then (GetsGrains (slots_on page class starts)) first_call back.calls may_give_back (λ v met a b. record {
+    all_call = call_then (GetsGrains (slots_on page class starts)) first_call back.calls may_put_back (λ v met a b. record {
       does = does_as (taken (slots_on page class starts)) (does_then a.does b)
           (λ g. kept_fate (masked page got g) (slots_on page class starts g) (masked page rest g) (holds v g) (a.apart g) (kept_got g) (rest_is_other g)) (λ q. refl) (λ q h. h);
       apart = λ g here. a.apart g (kept_got g here);
@@ -122,23 +119,20 @@ module _ (class page : ℕ) (d : Directory) (is : IsClass class) {σ σ1 : Stand
     at_view : Agreed σ.seat.profile can.view (back.steps ++ first)
     at_view = all_call.adds.agreed can.view can.whole can.stood can.met
 
-    at_first : Agreed σ.seat.profile can.view first
-    at_first = agreed_later σ.seat.profile can.view back.steps first at_view
-
     at_back : Agreed σ1.seat.profile (first ++ can.view) back.steps
     at_back = subst (λ (s : Seat). Agreed s.profile (first ++ can.view) back.steps) (sym first_call.adds.seat_is) (agreed_first σ.seat.profile can.view back.steps first at_view)
 
     back_keeps : KeepsRight page back.steps
-    back_keeps = back.keeps (first ++ can.view) at_back can.met.right
+    back_keeps = back.keeps (first ++ can.view) at_back (takes_right page (words usable) (words took.answers) 4 can.view can.met.right)
 
     -- where no slot is whole all that was got is put back
     all_back : (before : List Made) → HoldsNone page before → IsEmpty starts → (g : ℕ) → g / 256 ≡ page → holds (back.steps ++ (first ++ before)) g ≡ false
     all_back before none empty g at = elim (cases_Bool (masked page got g)) [
-      | inr other ↦ back_holds g back.steps (first ++ before) back.kinds (takes_leave page took.usable took.answers got took.got_is g other before ∙ none g at)
+      | inr other ↦ back_holds g back.steps (first ++ before) back.kinds (takes_leave page usable took.answers got took.got_is g before other ∙ none g at)
       | inl here ↦ elim (cases_Bool (holds (first ++ before) g)) [
         | inr lost ↦ back_holds g back.steps (first ++ before) back.kinds lost
         | inl held ↦
-            let gets = first_call.leads.from can.view can.met at_first in let gone = (back.calls.leads.from (first ++ can.view) (may_give_back can.view can.met gets) at_back).held g in
+            let gets = first_call.leads.from can.view can.met (agreed_later σ.seat.profile can.view back.steps first at_view) in let gone = (back.calls.leads.from (first ++ can.view) (may_put_back can.view can.met gets) at_back).held g in
             same_after g back.steps (first ++ before) (first ++ can.view) (held ∙ sym (gets.does.held g ∙ ap (λ t. now (if t then Gained else Kept) (holds can.view g)) here))
             ∙ gone ∙ ap (λ t. now (if t then Lost else Kept) (holds (first ++ can.view) g)) (rest_is_other g ∙ ap (λ t. t && not (slots_on page class starts g)) here ∙ ap not (and_right (page == g / 256) (in_starts class starts (g % 256)) (empty (start_of class (g % 256)) (let at = start_below class (g % 256) is in let low = at.0 in omega (arith, low)))))
       ]
@@ -148,26 +142,31 @@ module _ (class page : ℕ) (d : Directory) (is : IsClass class) {σ σ1 : Stand
     takes_slots = record {
       steps = back.steps ++ first;
       calls = all_call;
-      kinds = only_both taking_slots back.steps first (only_within giving_back taking_slots back.steps refl back.kinds) (only_within (Taking ∷ []) taking_slots first refl first_kinds);
-      on = always_both (λ m before. IsOnPage page m.step) (λ m before. IsOnPage page m.step) back.steps first (λ m before h. h) back.on first_on;
-      few = let all = length-append back.steps first in let a = back.few in omega (arith, all, a);
-      usable = took.usable;
-      usable_are = took.usable_are;
+      kinds = only_both taking_grains back.steps first (only_within giving_back taking_grains back.steps refl back.kinds) (only_within (Taking ∷ []) taking_grains first refl (takes_only page (words usable) (words took.answers) 4));
+      on = always_both (λ m before. IsOnPage page m.step) (λ m before. IsOnPage page m.step) back.steps first (λ m before h. h) back.on (takes_on page (words usable) (words took.answers) 4);
+      few = let all = length-append back.steps first in let a = back.few in let b = takes_few page (words usable) (words took.answers) 4 in omega (arith, all, a, b);
+      usable = usable;
+      usable_are = usable_are;
       answers = took.answers;
       are = free_slots;
-      held = record { from = λ v met agreed. held_unread page took.usable took.answers got took.got_is σ.seat.profile v (agreed_later σ.seat.profile v back.steps first agreed) };
+      held = record {
+        from = λ v met agreed g at held. sym (bit_of took.answers (g / 64 % 4) g refl)
+            ∙ takes_held page (words usable) (words took.answers) σ.seat.profile 4 v (agreed_later σ.seat.profile v back.steps first agreed) g at (omega arith) (some_word (g / 64 % 4) (omega arith)) held;
+      };
       all_free = λ v agreed free. (
         0,
         omega arith,
         (free_slots 0).1 (
           first_slot class is,
-          λ g lt low high.
-              first_free σ.seat.profile page took.usable took.answers v (agreed_later σ.seat.profile v back.steps first agreed) free g (let few = class_grains_le class is in omega (arith, high, few)),
+          λ b lt low high. let g = page * 256 + b in let at : g / 256 ≡ page = omega (arith, lt) in
+              sym (bit_on took.answers page b lt)
+              ∙ takes_free page (words usable) (words took.answers) σ.seat.profile 4 v (agreed_later σ.seat.profile v back.steps first agreed) g at (omega arith) (some_word (g / 64 % 4) (omega arith)) (free g at),
         ),
       );
-      keeps = always_both (λ m before. GivesUp page m.step → ⊥) (λ m before. GivesUp page m.step → ⊥) back.steps first (λ m before h. h) back_keeps (keeps_by page (Taking ∷ []) first refl first_kinds);
-      takes = λ before newest. ap (takes_since page) (append_assoc back.steps first before) ∙ back_count page back.steps (first ++ before) back.kinds ∙ takes_count page took.usable took.answers before (none_yet page before newest);
+      keeps = always_both (λ m before. GivesUp page m.step → ⊥) (λ m before. GivesUp page m.step → ⊥) back.steps first (λ m before h. h) back_keeps (takes_keep page (words usable) (words took.answers) 4);
+      takes = λ before newest. ap (takes_since page) (append_assoc back.steps first before) ∙ back_count page back.steps (first ++ before) back.kinds ∙ takes_count page (words usable) (words took.answers) 4 before (none_yet page before newest);
       read = λ before met w lt. subst (Since (ShowsHere page w (is_set took.answers)) (KeptHere page)) (sym (append_assoc back.steps first before))
-          (since_kept (ShowsHere page w (is_set took.answers)) page back.steps (first ++ before) back_keeps met.right (takes_read page took.usable took.answers before met.right met.none w lt));
+          (since_kept (ShowsHere page w (is_set took.answers)) page back.steps (first ++ before) back_keeps (takes_right page (words usable) (words took.answers) 4 before met.right)
+          (takes_read page (words usable) (words took.answers) (is_set took.answers) (λ word b small. at_word took.answers word b small) before met.right met.none 4 w lt lt (some_word w lt)));
       none = λ before none empty g at. ap (λ s. holds s g) (append_assoc back.steps first before) ∙ all_back before none empty g at;
     }

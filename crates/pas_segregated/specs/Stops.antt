@@ -13,8 +13,8 @@ use Rattle.pas_steps.specs.Views.{View, holds, has_right, KnowsDeed}
 use Rattle.pas_steps.specs.Desks.{Standing}
 use Rattle.pas_steps.specs.declared.step.Made.{Made}
 use Rattle.pas_rights.specs.Leaves.{LeaveSteps}
+use Rattle.pas_rights.specs.PutsBack.{BackSteps, giving_back}
 use Rattle.pas_segregated.specs.Masks.{start_of}
-use Rattle.pas_segregated.specs.Returns.{BackSteps, giving_back}
 use Rattle.pas_segregated.specs.declared.slots.Slots.{Slots}
 
 -- the pages of one class of a heap

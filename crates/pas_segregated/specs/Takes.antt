@@ -1,17 +1,20 @@
 -- The slots of a page that are taken.
-use Rattle.std.specs.Prelude.{ℕ, ◌+◌, ◌/◌, ◌%◌, ◌<◌, ◌≤◌, ◌≡◌, ◌==◌, ◌↔◌, IsTrue, Bool, true, false, ◌&&◌, if◌then◌else◌, List, [], ◌∷◌, ◌++◌, length, slice_index}
+use Rattle.std.specs.Prelude.{ℕ, ◌+◌, ◌/◌, ◌%◌, ◌<◌, ◌≤◌, ◌≡◌, ◌==◌, ◌↔◌, IsTrue, Bool, true, false, ◌&&◌, if◌then◌else◌, List, [], ◌∷◌, ◌++◌, length}
 use Rattle.pas_profile.specs.Classes.{has_bit, is_usable, class_grains, IsSlotStart}
 use Rattle.pas_profile.specs.declared.directory.Directory.{Directory}
 use Rattle.pas_profile.specs.declared.directory.Kind.TheVariants as Kind
 use Rattle.pas_bits.specs.declared.mask.Mask4.{Mask4}
 use Rattle.pas_bits.specs.Masks.{is_set, IsEmpty, HasMember}
-use Rattle.pas_rights.specs.Puts.{masked}
-use Rattle.pas_steps.specs.Views.{View, holds, has_right, known_free}
+use Rattle.pas_rights.specs.Looks.{AllFree}
+use Rattle.pas_rights.specs.PutsBack.{taking_grains}
+use Rattle.pas_rights.specs.Takes.{GetsGrains, takes}
+use Rattle.pas_rights.specs.Words.{words}
+use Rattle.pas_steps.specs.Views.{View, known_free}
 use Rattle.pas_steps.specs.Agreement.{Agreed}
-use Rattle.pas_steps.specs.Calls.{Calls, Leads, Effect, Kept, Gained, Does}
+use Rattle.pas_steps.specs.Calls.{Calls, Leads}
 use Rattle.pas_steps.specs.Past.{Since}
 use Rattle.pas_steps.specs.Frames.{OnlyOn, KeepsRight}
-use Rattle.pas_steps.specs.Kinds.{Kinds, Taking, Only}
+use Rattle.pas_steps.specs.Kinds.{Only}
 use Rattle.pas_steps.specs.Desks.{Standing, made}
 use Rattle.pas_steps.specs.declared.step.Made.{Made}
 use Rattle.pas_steps.specs.declared.step.Step.{Step}
@@ -19,42 +22,11 @@ use Rattle.pas_steps.specs.declared.step.Step.TheVariants.{Look, Deed, Back, Tak
 use Rattle.pas_steps.specs.Evidence.{Readings, ShowsHere, KeptHere, IsAntitone}
 use Rattle.pas_search.specs.Serving.{Rule, MayServe, HoldsNone, IsJustGot, GotBefore, ReadsNoneHeld}
 use Rattle.pas_segregated.specs.Masks.{start_of}
-use Rattle.pas_segregated.specs.Returns.{giving_back}
 
--- ---- four takes
--- the take of a free word of the page, with its mask and its answer
-abbrev pub word_take : ℕ → Mask4 → Mask4 → ℕ → Made
-word_take page masks answers word = made (Take page word (slice_index masks.0 word)) (slice_index answers.0 word)
-
--- one of each free word
-abbrev pub four_takes : ℕ → Mask4 → Mask4 → List Made
-four_takes page masks answers = word_take page masks answers 3 ∷ word_take page masks answers 2 ∷ word_take page masks answers 1 ∷ word_take page masks answers 0 ∷ []
-
+-- ---- slots
 -- the mask has all usable grains of the class, and no others
 abbrev pub AreUsable : ℕ → Mask4 → Type 0
 AreUsable class usable = (g : ℕ) → g < 256 → is_set usable g ≡ is_usable class g
-
--- these grains are got
-abbrev pub taken : (ℕ → Bool) → Effect
-taken grains = record { grains = λ g. if grains g then Gained else Kept; rights = λ page. Kept; clears = λ page. Kept }
-
--- none of which was held
-pub record GetsGrains (grains : ℕ → Bool) (v w : View) : Type 0 where
-  pub does : Does (taken grains) v w
-  pub apart : (g : ℕ) → grains g ≡ true → holds v g ≡ false
-
--- Four takes with all usable grains. What they got are those that were read as free; none that was held was.
-pub record TakesUsable (page class : ℕ) (desk desk' : Standing) (got : Mask4) : Type 0 where
-  pub usable : Mask4
-  pub usable_are : AreUsable class usable
-  pub answers : Mask4
-  pub got_is : (g : ℕ) → is_set got g ≡ (is_set answers g && is_set usable g)
-  pub calls : Calls desk desk' (λ v. has_right v page ≡ true) (GetsGrains (masked page got)) (four_takes page usable answers)
-
--- ---- slots
--- each grain of the page, 0 to 255, that is one of the n from s on was read as free
-abbrev pub AllFree : Readings → ℕ → ℕ → Type 0
-AllFree r s n = (g : ℕ) → g < 256 → s ≤ g → g < s + n → r g ≡ true
 
 -- no slot of the class was read as free with all its grains
 abbrev pub NoSlot : ℕ → Readings → Type 0
@@ -97,25 +69,22 @@ abbrev pub takes_since : ℕ → List Made → List Made
 takes_since page [] = []
 takes_since page (m ∷ before) = takes_after page m.step m.answer (takes_since page before)
 
--- The takes of the page since its right was got are those of its four free words, each with all usable grains as its mask. The slots are
--- those all of whose grains they read as free, and there are some.
+-- The takes of the page since its right was got are those of its free words with all usable grains, of which each word has some: four takes. The
+-- slots are those all of whose grains they read as free, and there are some.
 pub record TookSlots (class page : ℕ) (steps : List Made) (starts : Mask4) : Type 0 where
   pub usable : Mask4
   pub usable_are : AreUsable class usable
   pub answers : Mask4
-  pub takes : takes_since page steps ≡ four_takes page usable answers
+  pub takes : takes_since page steps ≡ takes page (words usable) (words answers) 4
   pub are : AreFreeSlots class (is_set answers) starts
   pub some : HasMember starts
-
-abbrev pub taking_slots : Kinds
-taking_slots = Taking ∷ giving_back
 
 -- Four takes; the grains of incomplete slots are put back, so those of the slots are got, and the right is kept. On a page all of whose grains
 -- are known as free there is a slot. Whatever stood before, the words were read with the right; where there is no slot nothing is held.
 pub record TakesSlots (class page : ℕ) (d : Directory) (desk desk' : Standing) (starts : Mask4) : Type 0 where
   pub steps : List Made
   pub calls : Calls desk desk' (MayServe page d) (GetsGrains (slots_on page class starts)) steps
-  pub kinds : Only taking_slots steps
+  pub kinds : Only taking_grains steps
   pub on : OnlyOn page steps
   pub few : length steps ≤ 16
   pub usable : Mask4
@@ -125,7 +94,7 @@ pub record TakesSlots (class page : ℕ) (d : Directory) (desk desk' : Standing)
   pub held : Leads desk.seat.profile (MayServe page d) (ReadsNoneHeld page (is_set answers)) steps
   pub all_free : (v : View) → Agreed desk.seat.profile v steps → ((g : ℕ) → g / 256 ≡ page → known_free v g ≡ true) → HasMember starts
   pub keeps : KeepsRight page steps
-  pub takes : (before : List Made) → IsJustGot page before → takes_since page (steps ++ before) ≡ four_takes page usable answers
+  pub takes : (before : List Made) → IsJustGot page before → takes_since page (steps ++ before) ≡ takes page (words usable) (words answers) 4
   pub read : (before : List Made) → GotBefore page before → (word : ℕ) → word < 4 → Since (ShowsHere page word (is_set answers)) (KeptHere page) (steps ++ before)
   pub none : (before : List Made) → HoldsNone page before → IsEmpty starts → HoldsNone page (steps ++ before)
 

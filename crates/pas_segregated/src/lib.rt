@@ -1,7 +1,6 @@
 //! Exclusive pages: pages of one class, of which one actor at a time takes all free slots.
 #![tactic(auto)]
 
-mod putting;
 mod refilling;
 mod serving;
 mod slots;
@@ -11,4 +10,4 @@ mod taking;
 pub use refilling::refill;
 pub use slots::{Slots, covered, whole_slots};
 pub use stopping::{stop, stop_on};
-pub use taking::{take_slots, take_usable};
+pub use taking::take_slots;

@@ -19,7 +19,7 @@ use pas_steps::Desk;
 /// is the lesser of 8 and `n / 64 + 1`.
 pub fn refill<D: Desk>(desk: &mut D, heap: u8, class: u8) -> Result<Slots, NoRoom>
     requires directory { IsDirectoryOf (D.standing desk.old).seat.profile (class_directory heap class) }
-    requires can { CanCall (D.standing desk.old) (λ v l. SearchRoom (D.standing desk.old).seat.profile (class_directory heap class) 1 (D.spare_of desk.old) v) }
+    requires can { CanCall (D.standing desk.old) (SearchRoom (D.standing desk.old).seat.profile (class_directory heap class) 1 (D.spare_of desk.old)) }
     ensures refills { Refills (exclusive_slots heap class) D.tells (D.standing desk.old) (D.standing desk.new) result }
     ensures home { D.home desk.new ≡ D.home desk.old }
 {

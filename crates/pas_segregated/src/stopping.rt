@@ -6,10 +6,9 @@ ghost use Rattle.pas_steps.specs.Desks.{CanCall};
 ghost use Rattle.pas_segregated.specs.Masks.{AreStarts};
 ghost use Rattle.pas_segregated.specs.Stops.{directory_of, MayStop, MayStopAt, Stops, StopsAt};
 
-use crate::putting::give_back;
 use crate::slots::{Slots, covered};
 use pas_profile::{Directory, Kind};
-use pas_rights::leave;
+use pas_rights::{leave, put_and_return};
 use pas_steps::Desk;
 
 /// Puts the grains of the slots back, and leaves their page where its right came with them.
@@ -19,7 +18,7 @@ pub fn stop<D: Desk>(desk: &mut D, slots: Slots)
     requires page { IsPage (D.standing desk.old).seat.profile slots.page }
     requires directory { IsDirectoryOf (D.standing desk.old).seat.profile (directory_of slots) }
     requires starts { AreStarts slots.class slots.starts }
-    requires can { CanCall (D.standing desk.old) (λ v l. MayStop slots v) }
+    requires can { CanCall (D.standing desk.old) (MayStop slots) }
     ensures stops { Stops slots (D.standing desk.old) (D.standing desk.new) }
     ensures home { D.home desk.new ≡ D.home desk.old }
 {
@@ -36,12 +35,12 @@ pub fn stop_on<D: Desk>(desk: &mut D, slots: Slots, directory: Directory)
     requires directory { IsDirectoryOf (D.standing desk.old).seat.profile directory }
     requires class { IsClass slots.class }
     requires starts { AreStarts slots.class slots.starts }
-    requires can { CanCall (D.standing desk.old) (λ v l. MayStopAt directory slots v) }
+    requires can { CanCall (D.standing desk.old) (MayStopAt directory slots) }
     ensures stops { StopsAt directory slots (D.standing desk.old) (D.standing desk.new) }
     ensures home { D.home desk.new ≡ D.home desk.old }
 {
     let grains = covered(&slots.starts, slots.class);
-    give_back(desk, slots.page, directory, &grains);
+    put_and_return(desk, slots.page, directory, &grains);
     if slots.right {
         leave(desk, slots.page, directory);
     }

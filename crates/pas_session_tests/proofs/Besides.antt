@@ -2,8 +2,7 @@
 use Rattle.std.proofs.Common.{◌≡◌, ◌≢◌, ℕ, [], ◌++◌, refl, ap, sym, ◌∙◌, subst}
 use Rattle.pas_profile.specs.declared.directory.Directory.{Directory}
 use Rattle.pas_profile.specs.declared.profile.Profile.{Profile}
-use Rattle.pas_steps.specs.Calls.{AnyView}
-use Rattle.pas_steps.specs.Desks.{Seat, Standing, triples}
+use Rattle.pas_steps.specs.Desks.{Seat, Standing, triples, AnyView}
 use Rattle.pas_steps.specs.Lists.{Whole, part}
 use Rattle.pas_steps.specs.Views.{View}
 use Rattle.pas_steps.proofs.Parts.{part_of_others}

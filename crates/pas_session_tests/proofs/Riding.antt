@@ -29,7 +29,7 @@ use Rattle.pas_session_tests.proofs.Stormed.{fresh, parted}
 pub rests_first : {d : PlainDesk} {p : PlainPass} {room : ℕ} {c : Cached} → Opens d p room → c.locals ≡ [] → c.log ≡ [] → RestsBeside d p c
 rests_first {d} {p} {room} {c} opens locals log = record { view = []; whole = []; stands = fresh refl refl opens; rest = rests_empty (profile_of (region_of d)) c [] locals log nothing_yet }
 
-pub may_go_beside : {d : PlainDesk} {p : PlainPass} {c : Cached} → RestsBeside d p c → CanCall (standing_of d) (λ v l. AtRest (profile_of (region_of d)) c v)
+pub may_go_beside : {d : PlainDesk} {p : PlainPass} {c : Cached} → RestsBeside d p c → CanCall (standing_of d) (AtRest (profile_of (region_of d)) c)
 may_go_beside {d} {p} b = record { view = b.view; whole = b.whole; stood = own_stands d p b.view b.whole b.stands; met = b.rest }
 
 pub rests_then : {d d' : PlainDesk} {p : PlainPass} {c c' : Cached} → RestsBeside d p c → Borrows c c' (standing_of d) (standing_of d') → RestsBeside d' p c'
@@ -62,7 +62,7 @@ pub may_storm : {d : PlainDesk} {p : PlainPass} {c : Cached} {r : PlainRegion} {
 may_storm region pass b = record { view = b.view; whole = b.whole; stands = parted region pass b }
 
 -- after an errand the cache may be stopped
-pub may_stop_then : {σ σ' : Standing} {c c' : Cached} → CanCall σ (λ v l. AtRest σ.seat.profile c v) → Borrows c c' σ σ' → CanCall σ' (λ v l. AtRest σ'.seat.profile c' v)
+pub may_stop_then : {σ σ' : Standing} {c c' : Cached} → CanCall σ (AtRest σ.seat.profile c) → Borrows c c' σ σ' → CanCall σ' (AtRest σ'.seat.profile c')
 may_stop_then {σ} {σ'} {c} {c'} can goes = next_call goes.rests can (λ v rest there. subst (λ (s : Seat). AtRest s.profile c' (goes.steps ++ v)) (sym goes.rests.adds.seat_is) there)
 
 -- the steps of an errand and of a stop

@@ -17,6 +17,7 @@ use Rattle.pas_plain.specs.declared.pass.PlainPass.{PlainPass}
 use Rattle.pas_plain.specs.declared.region.PlainRegion.{PlainRegion}
 use Rattle.pas_plain.proofs.Passes.{pass_rests}
 use Rattle.pas_search.specs.Searches.{SearchRoom}
+use Rattle.pas_storms.proofs.Going.{few_below}
 use Rattle.pas_segregated.specs.Stops.{class_directory}
 use Rattle.pas_session_tests.proofs.Besides.{may_search}
 use Rattle.pas_trials.specs.Borrowing.{Borrows}
@@ -28,11 +29,16 @@ pub nothing_yet : HasNothing []
 nothing_yet = record { grains = λ g. refl; rights = λ page. refl; clear = record { on = λ page. record { stamped = refl; owes = record { checks = λ word small. refl; hint = refl }; examined = refl } } }
 
 -- an actor that made no step may make requests
-pub may_begin : {d : PlainDesk} {p : PlainPass} {room : ℕ} {c : Cached} (n spare : ℕ) → Opens d p room → profile_of (region_of d) ≡ two_threads 1 → ((f : Profile) (v : View) → HasNothing v → AtRest f c v) → n + 1 ≤ spare
-    → CanCall (standing_of d) (λ v l. AtRest (profile_of (region_of d)) c v × (n + unknown_pages (profile_of (region_of d)) v ≤ spare))
-may_begin {d} n spare opens of rests room =
-    let one : unknown_pages (profile_of (region_of d)) [] ≡ 1 = ap (λ (f : Profile). unknown_pages f []) of in
-    record { view = []; whole = []; stood = opens.stood; met = (rests (profile_of (region_of d)) [] nothing_yet, omega (arith, one, room)) }
+pub may_begin : {d : PlainDesk} {p : PlainPass} {room : ℕ} {c : Cached} (n spare : ℕ) → Opens d p room → ((f : Profile) (v : View) → HasNothing v → AtRest f c v) → n + (profile_of (region_of d)).pages ≤ spare
+    → CanCall (standing_of d) (λ v. AtRest (profile_of (region_of d)) c v × (n + unknown_pages (profile_of (region_of d)) v ≤ spare))
+may_begin {d} n spare opens rests room =
+    let f : Profile = profile_of (region_of d) in
+    let few : unknown_pages f [] ≤ f.pages = few_below f.pages [] in
+    record { view = []; whole = []; stood = opens.stood; met = (rests f [] nothing_yet, omega (arith, few, room)) }
+
+-- where there is room for so many events more, there is for fewer
+pub fewer : {σ : Standing} {c : Cached} {n spare : ℕ} (m : ℕ) → m ≤ n → CanCall σ (λ v. AtRest σ.seat.profile c v × (n + unknown_pages σ.seat.profile v ≤ spare)) → CanCall σ (λ v. AtRest σ.seat.profile c v × (m + unknown_pages σ.seat.profile v ≤ spare))
+fewer m less can = let room = can.met.1 in record { view = can.view; whole = can.whole; stood = can.stood; met = (can.met.0, omega (arith, room, less)) }
 
 -- once it made them it rests beside the other one
 pub rests_beside : {d d' : PlainDesk} {p : PlainPass} {room : ℕ} {c c' : Cached} → Opens d p room → ((f : Profile) (v : View) → HasNothing v → AtRest f c v) → Borrows c c' (standing_of d) (standing_of d') → RestsBeside d' p c'
@@ -66,7 +72,7 @@ parted {d} {p} {c} {r} {own} region pass b =
 
 -- the storm's desk may stop the cache
 pub may_stop : {σ : Standing} {d : PlainDesk} {p : PlainPass} {c : Cached} {r : PlainRegion} {own : PlainPass} → r ≡ region_of d → own ≡ pass_of d → (b : RestsBeside d p c) → σ.seat ≡ seat_for r own
-    → ((v : View) (w l : Whole) → StormStands r own p v w → σ.stands v l) → CanCall σ (λ v l. AtRest σ.seat.profile c v)
+    → ((v : View) (w l : Whole) → StormStands r own p v w → σ.stands v l) → CanCall σ (AtRest σ.seat.profile c)
 may_stop {c = c} region pass b seat stands = record {
   view = b.view;
   whole = b.whole;
@@ -82,11 +88,11 @@ fresh {d} {p} {r = r} {own} region pass opens =
 
 -- a desk of two threads has the directories of heap 0
 pub of_heap : (f : Profile) (class : ℕ) → class < 16 → f ≡ two_threads 1 → IsDirectoryOf f (class_directory 0 class)
-of_heap f class small of = let heaps : f.heaps ≡ 1 = ap (λ (g : Profile). g.heaps) of in record { heap = omega (arith, heaps); kind = small }
+of_heap f class small of = let heaps : f.heaps ≡ 1 = ap (λ (g : Profile). g.heaps) of in let classes : f.classes ≡ 16 = ap (λ (g : Profile). g.classes) of in record { heap = omega (arith, heaps); kind = omega (arith, small); class = omega (arith, classes, small) }
 
 -- and may refill a class
 pub may_refill : {σ : Standing} {d : PlainDesk} {p : PlainPass} {room : ℕ} {r : PlainRegion} {own : PlainPass} (class spare : ℕ) → r ≡ region_of d → own ≡ pass_of d → Opens d p room → 2 ≤ spare
-    → ((v : View) (w l : Whole) → StormStands r own p v w → σ.stands v l) → CanCall σ (λ v l. SearchRoom σ.seat.profile (class_directory 0 class) 1 spare v)
+    → ((v : View) (w l : Whole) → StormStands r own p v w → σ.stands v l) → CanCall σ (SearchRoom σ.seat.profile (class_directory 0 class) 1 spare)
 may_refill class spare region pass opens two stands =
     record { view = []; whole = []; stood = stands [] [] [] (fresh region pass opens); met = record { may = may_search (class_directory 0 class); room = (omega (arith, two), inr (omega (arith, two))) } }
 

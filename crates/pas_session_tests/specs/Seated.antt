@@ -13,15 +13,19 @@ use Rattle.pas_plain.specs.declared.pass.PlainPass.{PlainPass}
 -- ---- profiles
 -- a region of so many pages, two threads and one heap
 abbrev pub two_threads : ℕ → Profile
-two_threads pages = record { pages = pages; threads = 2; age = 2; heaps = 1; shared = 0 }
+two_threads pages = record { pages = pages; threads = 2; age = 2; heaps = 1; shared = 0; classes = 16 }
 
 -- the same with two heaps, of which the second has shared pages
 abbrev pub stormy : ℕ → Profile
-stormy pages = record { pages = pages; threads = 2; age = 2; heaps = 2; shared = 2 }
+stormy pages = record { pages = pages; threads = 2; age = 2; heaps = 2; shared = 2; classes = 16 }
+
+-- the largest region of twenty classes, of two threads and one heap
+abbrev pub large_region : Profile
+large_region = record { pages = 16384; threads = 2; age = 2; heaps = 1; shared = 0; classes = 20 }
 
 -- a region of so many pages and threads, and of one heap
 abbrev pub shared_profile : ℕ → ℕ → Profile
-shared_profile pages threads = record { pages = pages; threads = threads; age = 2; heaps = 1; shared = 0 }
+shared_profile pages threads = record { pages = pages; threads = threads; age = 2; heaps = 1; shared = 0; classes = 16 }
 
 -- ---- two actors at one plain region
 -- nobody made a step yet. Each has room for so many events in all

@@ -23,6 +23,7 @@ const PROFILE: Profile = Profile {
     age: 1,
     heaps: 1,
     shared: 0,
+    classes: 16,
 };
 
 const DIRECTORY: Directory = Directory {
@@ -69,7 +70,7 @@ fn give(desk: &mut PlainDesk)
     requires fresh { DeskStands desk.old [] [] }
     requires profile { profile_of (region_of desk.old) ≡ PROFILE }
     requires room { room_of_pass (pass_of desk.old) ≡ 16 }
-    ensures clear { CanCall (standing_of desk.new) (λ v l. IsClear v) }
+    ensures clear { CanCall (standing_of desk.new) IsClear }
     ensures profile { profile_of (region_of desk.new) ≡ PROFILE }
     ensures room { 3 ≤ room_of_pass (pass_of desk.new) - length (events_shown (pass_of desk.new)) }
 {

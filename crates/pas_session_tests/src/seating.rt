@@ -3,7 +3,7 @@ ghost use Rattle.std.specs.Prelude.{◌≡◌, ◌-◌, IfOk, length};
 ghost use Rattle.pas_profile.specs.Profiles.{IsValid};
 ghost use Rattle.pas_plain.specs.Plain.{profile_of, events_shown, room_of_pass};
 ghost use Rattle.pas_plain.specs.Seats.{region_of, pass_of};
-ghost use Rattle.pas_session_tests.specs.Seated.{Opens, two_threads, stormy};
+ghost use Rattle.pas_session_tests.specs.Seated.{Opens, two_threads, stormy, large_region};
 
 use pas_plain::{PlainDesk, PlainPass, PlainRegion};
 use pas_profile::{EventRoom, NoMemory, Profile};
@@ -20,6 +20,7 @@ pub fn plain_profile(pages: u32) -> Profile
         age: 2,
         heaps: 1,
         shared: 0,
+        classes: 16,
     }
 }
 
@@ -33,6 +34,21 @@ pub fn stormy_profile(pages: u32) -> Profile
         age: 2,
         heaps: 2,
         shared: 2,
+        classes: 16,
+    }
+}
+
+/// The largest region of twenty classes, of two threads and one heap.
+pub fn large_profile() -> Profile
+    ensures { result ≡ large_region }
+{
+    Profile {
+        pages: 16_384,
+        threads: 2,
+        age: 2,
+        heaps: 1,
+        shared: 0,
+        classes: 20,
     }
 }
 

@@ -42,6 +42,7 @@ pub fn opened(
         age: 2,
         heaps: 1,
         shared: 0,
+        classes: 16,
     };
     Ok(SharedRegion::try_new(alloc, profile, rooms)?)
 }

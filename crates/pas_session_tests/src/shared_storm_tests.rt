@@ -25,6 +25,7 @@ const PROFILE: Profile = Profile {
     age: 2,
     heaps: 1,
     shared: 0,
+    classes: 16,
 };
 
 /// The events for which each thread has room.

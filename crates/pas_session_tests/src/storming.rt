@@ -100,7 +100,7 @@ fn prepare(desk: &mut PlainDesk, foreign: &PlainPass, hands: &mut Hands, errands
 
 /// The actor goes on the errand and stops its cache.
 fn go_and_stop<D: Desk>(desk: &mut D, hands: &mut Hands, errand: Errand)
-    requires can { CanCall (D.standing desk.old) (λ v l. AtRest (D.standing desk.old).seat.profile (cache_of hands.old) v) }
+    requires can { CanCall (D.standing desk.old) (AtRest (D.standing desk.old).seat.profile (cache_of hands.old)) }
     requires room { 70 ≤ D.spare_of desk.old }
     ensures steps { Steps (D.standing desk.old) (D.standing desk.new) (AtRest (D.standing desk.old).seat.profile (cache_of hands.old)) }
     ensures home { D.home desk.new ≡ D.home desk.old }

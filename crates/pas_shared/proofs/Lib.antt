@@ -2,3 +2,4 @@ pub mod Ruling
 pub mod Opened
 pub mod Closed
 pub mod Kept
+pub mod Pops

@@ -54,7 +54,7 @@ impl Chosen for Brand {
     ghost use Rattle.std.specs.Prelude.{[]};
     ghost use Rattle.pas_steps.specs.declared.step.Step.TheVariants.{Tick};
 
-    ghost profile = { record { pages = 0; threads = 0; age = 0; heaps = 0; shared = 0 } };
+    ghost profile = { record { pages = 0; threads = 0; age = 0; heaps = 0; shared = 0; classes = 0 } };
 
     ghost actor = { 0 };
 

@@ -5,6 +5,7 @@ use Rattle.pas_profile.specs.Rooms.{size_of_room}
 use Rattle.pas_profile.specs.declared.room.EventRoom.{EventRoom}
 use Rattle.pas_profile.specs.Profiles.{IsDirectoryOf}
 use Rattle.pas_profile.specs.declared.directory.Directory.{Directory}
+use Rattle.pas_profile.proofs.Sizes.{count_ge}
 use Rattle.pas_steps.specs.Events.{events_of}
 use Rattle.pas_steps.specs.Views.{View}
 use Rattle.pas_steps.specs.Desks.{CanCall}
@@ -16,15 +17,15 @@ use Rattle.pas_shared.specs.declared.region.SharedRegion.{SharedRegion}
 use Rattle.pas_shared.specs.declared.pass.SharedPass.{SharedPass}
 use Rattle.pas_shared.specs.declared.desk.SharedDesk.{SharedDesk}
 use Rattle.pas_shared_trials.specs.Races.{IsFreshPass}
-use Rattle.pas_shared_trials.proofs.Pops.{first_is, others_are}
+use Rattle.pas_shared.proofs.Pops.{first_is, others_are}
 
 pub of_profile : (pass : SharedPass) → IsDirectoryOf (seat_of pass).profile (class_directory 0 0)
-of_profile pass = record { heap = pass.valid.some_heap; kind = omega arith }
+of_profile pass = record { heap = pass.valid.some_heap; kind = omega arith; class = (let f = (seat_of pass).profile in let many = count_ge f.pages f.classes pass.valid.classes in omega (arith, many)) }
 
 may_search : (d : Directory) (v : View) → v ≡ [] → MaySearch d v
 may_search d v is = subst (λ (w : View). MaySearch d w) (sym is) record { rights = λ p of. refl; clear = record { on = λ p. record { stamped = refl; owes = record { checks = λ w lt. refl; hint = refl }; examined = refl } } }
 
-pub can_search : (desk : SharedDesk) (d : Directory) → view_of desk.pass ≡ [] → (seat_of desk.pass).room ≡ 2 → CanCall (standing_of desk) (λ v l. SearchRoom (seat_of desk.pass).profile d 1 (room_of_notes desk.pass.notes - length (events_noted desk.pass.notes)) v)
+pub can_search : (desk : SharedDesk) (d : Directory) → view_of desk.pass ≡ [] → (seat_of desk.pass).room ≡ 2 → CanCall (standing_of desk) (SearchRoom (seat_of desk.pass).profile d 1 (room_of_notes desk.pass.notes - length (events_noted desk.pass.notes)))
 can_search desk d none room =
     let view = view_of desk.pass in
     let k = (seat_of desk.pass).actor in

@@ -10,5 +10,5 @@ use Rattle.pas_shared_trials.specs.Storms.{IsWorking}
 pub works_on : {σ σ' : Standing} {c c' : Cached} {steps : List Made} (room : ℕ) → IsWorking σ c room → Rests c c' σ σ' steps → IsWorking σ' c' room
 works_on {σ} {σ'} {c} {c'} room working calls = record {
   room_is = ap (λ (s : Seat). s.room) calls.adds.seat_is ∙ working.room_is;
-  rest = subst (λ (s : Seat). CanCall σ' (λ v l. AtRest s.profile c' v)) (sym calls.adds.seat_is) (next_call calls working.rest (λ v met rests. rests));
+  rest = subst (λ (s : Seat). CanCall σ' (AtRest s.profile c')) (sym calls.adds.seat_is) (next_call calls working.rest (λ v met rests. rests));
 }

@@ -13,7 +13,7 @@ use Rattle.pas_shared_trials.specs.declared.workers.StormWorker.{StormWorker}
 -- the actor's room is for so many events in all, and the actor is at rest with the cache
 pub record IsWorking (desk : Standing) (c : Cached) (room : ℕ) : Type 0 where
   pub room_is : desk.seat.room ≡ room
-  pub rest : CanCall desk (λ v l. AtRest desk.seat.profile c v)
+  pub rest : CanCall desk (AtRest desk.seat.profile c)
 
 -- the thread has a fresh pass of the region, and a cache with which an actor that has nothing is at rest
 pub record IsReadyForStorm (region : SharedRegion) (events : ℕ) (worker : StormWorker) : Type 0 where

@@ -17,7 +17,7 @@ pub record IsFreeToMake (f : Profile) (step : Step) : Type 0 where
 
 -- the profile of the regions that are measured
 abbrev pub bench_profile : Profile
-bench_profile = record { pages = 64; threads = 4; age = 2; heaps = 1; shared = 0 }
+bench_profile = record { pages = 64; threads = 4; age = 2; heaps = 1; shared = 0; classes = 16 }
 
 -- the worker has a pass whose actor made no step, with room for one event, and a page of the region
 abbrev pub IsReady : SharedRegion → Worker → Type 0

@@ -1,7 +1,7 @@
 //! Regions that nobody used yet, of one heap and four threads.
 ghost use Rattle.std.specs.Prelude.{◌≡◌, ◌≤◌, [], All, IfOk, vec_len};
 ghost use Rattle.pas_profile.specs.Rooms.{shown, size_of_room};
-ghost use Rattle.pas_steps.specs.Desks.{Anything, CanCall};
+ghost use Rattle.pas_steps.specs.Desks.{AnyView, CanCall};
 ghost use Rattle.pas_plain.specs.Seats.{standing_of, region_of};
 ghost use Rattle.pas_plain.specs.Plain.{profile_of};
 ghost use Rattle.pas_shared.specs.Passes.{profile_of as the_profile_of};
@@ -23,6 +23,7 @@ const PROFILE: Profile = Profile {
     age: 2,
     heaps: 1,
     shared: 0,
+    classes: 16,
 };
 
 /// A room for so many events for each actor.
@@ -42,7 +43,7 @@ fn rooms(alloc: Global, events: u32) -> Result<Vec<EventRoom>, NoMemory>
 
 /// The last thread at the desk of a plain region.
 pub fn plain(alloc: Global) -> Result<PlainDesk, NoMemory>
-    ensures can { IfOk result (λ desk. CanCall (standing_of desk) Anything) }
+    ensures can { IfOk result (λ desk. CanCall (standing_of desk) AnyView) }
     ensures profile { IfOk result (λ desk. profile_of (region_of desk) ≡ bench_profile) }
 {
     let (region, mut passes) = PlainRegion::try_new(alloc, PROFILE, rooms(alloc, 1)?)?;

@@ -1,7 +1,7 @@
 //! Steps that any view allows, made over and over.
 ghost use Rattle.std.specs.Prelude.{◌≡◌, ◌≤◌};
 ghost use Rattle.pas_profile.specs.declared.profile.Profile.{Profile};
-ghost use Rattle.pas_steps.specs.Desks.{Anything, CanCall};
+ghost use Rattle.pas_steps.specs.Desks.{AnyView, CanCall};
 ghost use Rattle.pas_step_bench.specs.Repeats.{IsFreeToMake};
 
 use pas_profile::Word;
@@ -45,9 +45,9 @@ fn step_of(kind: Kind, round: u64) -> Step
 #[inline(always)]
 pub fn repeat<D: Desk>(desk: &mut D, kind: Kind, rounds: u64) -> u64
     requires pages { 64 ≤ (D.standing desk.old).seat.profile.pages }
-    requires can { CanCall (D.standing desk.old) Anything }
+    requires can { CanCall (D.standing desk.old) AnyView }
     ensures seat { (D.standing desk.new).seat ≡ (D.standing desk.old).seat }
-    ensures can { CanCall (D.standing desk.new) Anything }
+    ensures can { CanCall (D.standing desk.new) AnyView }
     ensures home { D.home desk.new ≡ D.home desk.old }
 {
     let mut sum = 0u64;

@@ -28,7 +28,7 @@ pub struct Worker {
 /// Takes one grain of a page over and over, whose right is the actor's: an atomic and of its first free word.
 fn take_often<D: Desk>(desk: &mut D, page: u32, directory: Directory, rounds: u64)
     requires page { IsPage (D.standing desk.old).seat.profile page }
-    requires can { CanCall (D.standing desk.old) (λ v l. MayLeave page directory v) }
+    requires can { CanCall (D.standing desk.old) (MayLeave page directory) }
     ensures brings { Brings (D.standing desk.old) (D.standing desk.new) (MayLeave page directory) (MayLeave page directory) }
     ensures home { D.home desk.new ≡ D.home desk.old }
 {

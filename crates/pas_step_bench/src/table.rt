@@ -1,6 +1,6 @@
 //! The table of what was measured: processor time, since the clock on the wall also counts what others do on the machine.
 ghost use Rattle.std.specs.Prelude.{◌≡◌, ◌≤◌, ◌<◌, All, IfOk};
-ghost use Rattle.pas_steps.specs.Desks.{Anything, CanCall};
+ghost use Rattle.pas_steps.specs.Desks.{AnyView, CanCall};
 ghost use Rattle.pas_shared_trials.specs.Races.{IsFreshPass};
 ghost use Rattle.pas_step_bench.specs.Repeats.{IsReady};
 
@@ -49,9 +49,9 @@ fn since<R: CpuClock>(rt: &R, start: Duration, rounds: u64, sum: u64) -> io::Res
 fn of_kind<R: CpuClock, D: Desk>(rt: &R, desk: &mut D, kind: Kind, rounds: u64) -> io::Result<Time>
     requires rounds { 1 ≤ rounds }
     requires pages { 64 ≤ (D.standing desk.old).seat.profile.pages }
-    requires can { CanCall (D.standing desk.old) Anything }
+    requires can { CanCall (D.standing desk.old) AnyView }
     ensures seat { (D.standing desk.new).seat ≡ (D.standing desk.old).seat }
-    ensures can { CanCall (D.standing desk.new) Anything }
+    ensures can { CanCall (D.standing desk.new) AnyView }
 {
     let start = rt.process_cpu_time()?;
     let sum = repeat(desk, kind, rounds);
@@ -62,7 +62,7 @@ fn of_kind<R: CpuClock, D: Desk>(rt: &R, desk: &mut D, kind: Kind, rounds: u64) 
 fn of_desk<R: CpuClock, D: Desk>(rt: &R, desk: &mut D, rounds: u64) -> io::Result<[Time; 4]>
     requires rounds { 1 ≤ rounds }
     requires pages { 64 ≤ (D.standing desk.old).seat.profile.pages }
-    requires can { CanCall (D.standing desk.old) Anything }
+    requires can { CanCall (D.standing desk.old) AnyView }
 {
     let look = of_kind(rt, desk, Kind::Look, rounds)?;
     let hint = of_kind(rt, desk, Kind::Hint, rounds)?;

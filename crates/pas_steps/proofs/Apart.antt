@@ -1,7 +1,7 @@
 -- What steps of some kinds leave as it was: for each thing of a view the kinds that may change it, and that all others leave it. A set of kinds
 -- that is apart from those leaves it, and that it is apart is found by computing.
 use Rattle.std.proofs.Common.{◌≡◌, ℕ, ◌==◌, Bool, true, false, not, List, [], ◌∷◌, ◌++◌, Option, None, inl, inr, refl, ap, sym, ◌∙◌, subst, true≢false}
-use Rattle.std.proofs.lemmas.Bool.{eqb-true, and_parts, not-true, or_cases}
+use Rattle.std.proofs.lemmas.Bool.{eqb-true, and_parts, not-true, or_cases, false_from_ne_true}
 use Rattle.pas_profile.specs.declared.word.Word.{Word}
 use Rattle.pas_steps.specs.declared.step.Made.{Made}
 use Rattle.pas_steps.specs.declared.step.Step.{Step}
@@ -12,7 +12,7 @@ use Rattle.pas_steps.specs.Events.{event_of, with_event, events_by}
 use Rattle.pas_steps.proofs.Past.{always_map, always_both}
 
 -- ---- sets
-pub in_within : (ks ls : Kinds) (n : ℕ) → within ks ls ≡ true → has_place ks n ≡ true → has_place ls n ≡ true
+in_within : (ks ls : Kinds) (n : ℕ) → within ks ls ≡ true → has_place ks n ≡ true → has_place ls n ≡ true
 in_within [] ls n w h = absurd (true≢false (sym h))
 in_within (k ∷ ks) ls n w h = let p = and_parts (is_in ls k) (within ks ls) w in elim (or_cases (place_of k == n) (has_place ks n) h) [
   | inl here ↦ subst (λ m. has_place ls m ≡ true) (eqb-true (place_of k) n here) p.0
@@ -25,6 +25,9 @@ in_apart (k ∷ ks) ls n w h = let p = and_parts (not (is_in ls k)) (apart ks ls
   | inl here ↦ subst (λ m. has_place ls m ≡ false) (eqb-true (place_of k) n here) (not-true (is_in ls k) p.0)
   | inr later ↦ in_apart ks ls n p.1 later
 ]
+
+pub out_within : (ks ls : Kinds) (n : ℕ) → within ks ls ≡ true → has_place ls n ≡ false → has_place ks n ≡ false
+out_within ks ls n w out = false_from_ne_true (has_place ks n) (λ h. true≢false (sym (in_within ks ls n w h) ∙ out))
 
 -- steps of some kinds are steps of more, and of none that is apart
 pub only_within : (ks ls : Kinds) (steps : List Made) → within ks ls ≡ true → Only ks steps → Only ls steps
@@ -74,7 +77,7 @@ pub epoch_same : (ks : Kinds) → apart ks epoch_telling ≡ true → (steps : L
 epoch_same ks w = same_over known_epoch epoch_telling ks (λ m v h. epoch_step_same m.step m.answer (known_epoch v) h) w
 
 -- ---- what is owed
-unstamped_step_same : (s : Step) (a p : ℕ) (was : Bool) → is_in unstamping (kind_of s) ≡ false → unstamped_after s a p was ≡ was
+pub unstamped_step_same : (s : Step) (a p : ℕ) (was : Bool) → is_in unstamping (kind_of s) ≡ false → unstamped_after s a p was ≡ was
 unstamped_step_same (Look w) a p was h = refl
 unstamped_step_same s a p was h = cc
 

@@ -1,6 +1,6 @@
 -- A page that is known as backed stays so while a grain of it that is held isn't moved, whatever the steps.
-use Rattle.std.proofs.Common.{◌≡◌, ℕ, suc, zero, ◌+◌, ◌*◌, ◌<◌, ◌==◌, Bool, true, false, if◌then◌else◌, List, [], ◌∷◌, ◌++◌, refl, ap, sym, ◌∙◌, subst, arith, inl, inr, true≢false}
-use Rattle.std.proofs.lemmas.Bool.{cases_eq, eqb-true, and_parts, and_from, or_cases, or_left, or_right}
+use Rattle.std.proofs.Common.{◌≡◌, ℕ, ◌+◌, ◌*◌, ◌<◌, ◌==◌, Bool, true, false, if◌then◌else◌, List, [], ◌∷◌, ◌++◌, refl, ap, sym, ◌∙◌, subst, true≢false, arith}
+use Rattle.std.proofs.lemmas.Bool.{eqb-true, and_parts, and_from}
 use Rattle.pas_profile.specs.declared.profile.Profile.{Profile}
 use Rattle.pas_profile.specs.declared.word.Word.{Word}
 use Rattle.pas_steps.specs.declared.step.Made.{Made}
@@ -11,28 +11,23 @@ use Rattle.pas_steps.specs.Agreement.{Agrees, Agreed}
 use Rattle.pas_steps.specs.Past.{Always}
 use Rattle.pas_steps.specs.Frames.{unbacks}
 use Rattle.pas_steps.proofs.Flags.{stays_set}
+use Rattle.std.specs.Bool.{Decides}
+use Rattle.std.proofs.lemmas.Bool.Decides.{Decides-below_or, nat_tests}
 
 -- ---- some number below a bound
-pub any_one : (n : ℕ) (p : ℕ → Bool) → any_below n p ≡ true → (i : ℕ) × (i < n) × (p i ≡ true)
+any_decides : (n : ℕ) (p : ℕ → Bool) → Decides (any_below n p) ((i : ℕ) × (i < n) × (p i ≡ true))
 unfolding any_below
-any_one zero p h = absurd (true≢false (sym h))
-any_one (suc n) p h = elim (or_cases (p n) (any_below n p) h) [
-  | inl here ↦ (n, omega arith, here)
-  | inr below ↦ let some = any_one n p below in let lt = some.1 in (some.0, omega (arith, lt), some.2)
-]
+any_decides n p = Decides-below_or p (λ i. p i ≡ true) (λ n. any_below n p) (λ i. (λ h. h, λ h. h)) refl (λ n. refl) n
+
+pub any_one : (n : ℕ) (p : ℕ → Bool) → any_below n p ≡ true → (i : ℕ) × (i < n) × (p i ≡ true)
+any_one n p h = (any_decides n p).0 h
 
 pub any_from : (n : ℕ) (p : ℕ → Bool) (i : ℕ) → i < n → p i ≡ true → any_below n p ≡ true
-unfolding any_below
-any_from zero p i lt h = absurd (omega (arith, lt))
-any_from (suc n) p i lt h = elim (cases_eq i n) [
-  | inl e ↦ or_left (p n) (any_below n p) (subst (λ j. p j ≡ true) e h)
-  | inr ne ↦ or_right (p n) (any_below n p) (any_from n p i (omega (arith, lt, ne)) h)
-]
+any_from n p i lt h = (any_decides n p).1 (i, lt, h)
 
 -- ---- one step
 one_read : (a : ℕ) (t known : Bool) → (t ≡ true → a ≡ 1) → known ≡ true → (if t then a == 1 else known) ≡ true
-one_read a true known one h = ap (λ x. x == 1) (one refl)
-one_read a false known one h = h
+one_read a t known h e = grind (arith, nat_tests)
 
 look_backed : (f : Profile) (v : View) (w : Word) (a q : ℕ) → Agrees f v (Look w) a → knows_backed v q ≡ true → backed_after_look w a q (knows_backed v q) ≡ true
 look_backed f v (Word.Backed p) a q agrees h = one_read a (p == q) (knows_backed v q) (λ e. agrees.known (subst (λ x. knows_backed v x ≡ true) (sym (eqb-true p q e)) h)) h

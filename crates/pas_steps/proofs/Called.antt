@@ -44,11 +44,11 @@ call_as S c under more = record { adds = adds_under c.adds (λ v l stood met. un
 pub call_knows : {σ σ' : Standing} {B : View → Type 0} {R : View → View → Type 0} {xs : List Made} (page : ℕ) (d : Directory) → Calls σ σ' B R xs → ((v : View) → B v → KnowsDeed page d v) → Calls σ σ' B (λ v w. R v w × KnowsDeed page d w) xs
 call_knows {σ} {xs = xs} page d c knows = record { adds = c.adds; leads = record { from = λ v met agreed. (c.leads.from v met agreed, knows_still σ.seat.profile d page xs v agreed (knows v met)) } }
 
-pub next_step : {σ σ1 : Standing} {B : View → Type 0} {R : View → View → Type 0} {xs : List Made} {s : Step} → Calls σ σ1 B R xs → CanCall σ (λ v l. B v) → IsStepOf σ.seat.profile s → ((v : View) → B v → R v (xs ++ v) → Allowed σ.seat.profile (xs ++ v) s) → CanMake σ1 s
-next_step {B = B} {xs = xs} c can of allowed = can_step {C = λ v l. B v} c.adds can of (λ v l stood met. allowed v met (c.leads.from v met (c.adds.agreed v l stood met)))
+pub next_step : {σ σ1 : Standing} {B : View → Type 0} {R : View → View → Type 0} {xs : List Made} {s : Step} → Calls σ σ1 B R xs → CanCall σ B → IsStepOf σ.seat.profile s → ((v : View) → B v → R v (xs ++ v) → Allowed σ.seat.profile (xs ++ v) s) → CanMake σ1 s
+next_step {B = B} {xs = xs} c can of allowed = can_step {C = B} c.adds can of (λ v l stood met. allowed v met (c.leads.from v met (c.adds.agreed v l stood met)))
 
-pub next_call : {σ σ1 : Standing} {B C : View → Type 0} {R : View → View → Type 0} {xs : List Made} → Calls σ σ1 B R xs → CanCall σ (λ v l. B v) → ((v : View) → B v → R v (xs ++ v) → C (xs ++ v)) → CanCall σ1 (λ v l. C v)
-next_call {B = B} {xs = xs} c can meets = can_call {C = λ v l. B v} c.adds can (λ v l stood met. meets v met (c.leads.from v met (c.adds.agreed v l stood met)))
+pub next_call : {σ σ1 : Standing} {B C : View → Type 0} {R : View → View → Type 0} {xs : List Made} → Calls σ σ1 B R xs → CanCall σ B → ((v : View) → B v → R v (xs ++ v) → C (xs ++ v)) → CanCall σ1 C
+next_call {B = B} {xs = xs} c can meets = can_call {C = B} c.adds can (λ v l stood met. meets v met (c.leads.from v met (c.adds.agreed v l stood met)))
 
 -- one more step of a kind that changes nothing
 pub call_idly : {σ σ1 σ2 : Standing} {B : View → Type 0} {e : Effect} {xs : List Made} {s : Step} {a : ℕ} (ks : Kinds) → apart ks changing ≡ true → Calls σ σ1 B (Does e) xs → Makes σ1 σ2 s a → is_in ks (kind_of s) ≡ true

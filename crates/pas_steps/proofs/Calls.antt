@@ -8,9 +8,9 @@ use Rattle.pas_profile.specs.declared.profile.Profile.{Profile}
 use Rattle.pas_profile.specs.declared.word.Word.{Word}
 use Rattle.pas_profile.specs.Runs.{in_run, meets_page, grain_of}
 use Rattle.pas_steps.specs.Agreement.{Agrees, Agreed}
-use Rattle.pas_steps.specs.Calls.{Leads, AnyView, Fate, Kept, Gained, Lost, now, later, Effect, nothing, put, freed, on_page, and_then, ClearAfter, Bears, Does, grain_fate, way_fate, right_fate, opens, step_effect}
+use Rattle.pas_steps.specs.Calls.{Leads, Fate, Kept, Gained, Lost, now, later, Effect, nothing, put, freed, on_page, and_then, ClearAfter, Bears, Does, grain_fate, way_fate, right_fate, opens, step_effect}
 use Rattle.pas_steps.specs.Clear.{OwesNothing, IsClearOn, IsClear}
-use Rattle.pas_steps.specs.Desks.{Seat, made}
+use Rattle.pas_steps.specs.Desks.{Seat, made, AnyView}
 use Rattle.pas_steps.specs.Effects.{in_mask}
 use Rattle.pas_steps.specs.Views.{View, Move, Stays, Puts, Ends, grain_move, held_after, holds, Way, ByDeed, way, had_after, right_after, has_right, known_deed, unstamped_after, is_unstamped, check_after, owes_check, all_ones, hint_after, owes_hint, examined_after, examines}
 use Rattle.pas_steps.specs.declared.step.Made.{Made}
@@ -19,9 +19,9 @@ use Rattle.pas_steps.specs.declared.step.Step.TheVariants.{Look, Back, Take, Put
 use Rattle.pas_steps.proofs.Adding.{agreed_first, agreed_later}
 use Rattle.pas_steps.proofs.Apart.{in_apart, holds_over, grain_same, holds_same}
 use Rattle.pas_steps.proofs.Flags.{ends_none, ap_if}
-use Rattle.pas_steps.proofs.Kept.{look_check, look_hint, right_on, check_on, hint_on, examined_on, unstamped_on, returns_on}
+use Rattle.pas_steps.proofs.Kept.{look_check, look_hint, right_on, returns_on}
 use Rattle.pas_steps.proofs.Past.{always_map}
-use Rattle.pas_steps.specs.Frames.{IsReturn, OnlyOn, OnlyReturns, unbacks}
+use Rattle.pas_steps.specs.Frames.{IsReturn, OnlyOn, OnlyReturns, unbacks, IsOnPage}
 use Rattle.pas_steps.specs.Kinds.{Kinds, kind_of, look_kind, place_of, is_in, apart, Only, Unhinting, moving, unbacking, changing, returning, Putting, Ending, Parking}
 use Rattle.pas_steps.proofs.Backed.{backed_with}
 
@@ -110,7 +110,7 @@ pub still_clear : {v w : View} → Does nothing v w → IsClear v → IsClear w
 still_clear does clear = record { on = λ page. does.clear page (clear.on page) }
 
 -- ---- one step
-pub fate_is : (m : Move) (had : Bool) → held_after m had ≡ now (grain_fate m) had
+fate_is : (m : Move) (had : Bool) → held_after m had ≡ now (grain_fate m) had
 fate_is (Ends b) had = refl
 fate_is s had = refl
 
@@ -201,7 +201,7 @@ no_unback : (s : Step) (page : ℕ) → is_in unbacking (kind_of s) ≡ false �
 no_unback (Unback q) page h = absurd (true≢false h)
 no_unback s page h = refl
 
-pub bears_step : (f : Profile) (s : Step) (a x : ℕ) (v : View) → Agrees f v s a → is_in unbacking (kind_of s) ≡ false → grain_move s a x ≡ Stays → Bears v x → Bears (made s a ∷ v) x
+bears_step : (f : Profile) (s : Step) (a x : ℕ) (v : View) → Agrees f v s a → is_in unbacking (kind_of s) ≡ false → grain_move s a x ≡ Stays → Bears v x → Bears (made s a ∷ v) x
 bears_step f s a x v agrees keeps stays bears =
     let at : x / 256 * 256 + x % 256 ≡ x = omega arith in
     record {
@@ -252,17 +252,23 @@ clear_at : (p q : ℕ) (t : Bool) (c : Fate) (v w : View) → (p == q) ≡ t →
 clear_at p q true c v w e here there = let at : q ≡ p = sym (eqb-true p q e) in subst (λ x. ClearAfter c x v w) (sym at) here
 clear_at p q false c v w e here there = there (λ at. true≢false (sym (eq-eqb p q (sym at)) ∙ e))
 
+-- steps on one page open no other
+on_opens : (p q : ℕ) (s : Step) (a : ℕ) → IsOnPage p s → q ≢ p → opens s a q ≡ false
+on_opens p q s a (IsOnPage.Puts word mask) ne = ne_eqb p q (λ e. ne (sym e))
+on_opens p q s a IsOnPage.Parks ne = ne_eqb p q (λ e. ne (sym e))
+on_opens p q s a is ne = refl
+
+clear_over : (p q : ℕ) (steps : List Made) (v : View) → OnlyOn p steps → q ≢ p → IsClearOn q v → IsClearOn q (steps ++ v)
+clear_over p q [] v on ne is = is
+clear_over p q (m ∷ more) v on ne is = clear_shut m.step m.answer q (more ++ v) (on_opens p q m.step m.answer on.0 ne) (clear_over p q more v on.1 ne is)
+
 pub does_on_page : (f : Profile) (p : ℕ) (r c : Fate) (ks : Kinds) → apart ks moving ≡ true → apart ks unbacking ≡ true → (steps : List Made) (v : View) → Only ks steps → OnlyOn p steps → Agreed f v steps → has_right (steps ++ v) p ≡ now r (has_right v p) → ClearAfter c p v (steps ++ v)
     → Does (on_page p r c) v (steps ++ v)
 does_on_page f p r c ks w k steps v only on agreed right clear =
     record {
       held = λ x. holds_same ks w x steps v only;
       right = λ q. right_at p q (p == q) r v (steps ++ v) refl right (λ ne. right_on p q steps v on ne);
-      clear = λ q. clear_at p q (p == q) c v (steps ++ v) refl clear (λ ne is. record {
-        stamped = unstamped_on p q steps v on is.stamped;
-        owes = record { checks = λ u lt. check_on p q u steps v on ne (is.owes.checks u lt); hint = hint_on p q steps v on ne is.owes.hint };
-        examined = examined_on p q steps v on is.examined;
-      });
+      clear = λ q. clear_at p q (p == q) c v (steps ++ v) refl clear (clear_over p q steps v on);
       backed = λ x kept bears. bears_over f x ks w k steps v only agreed bears;
     }
 

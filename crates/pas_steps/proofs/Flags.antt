@@ -1,19 +1,14 @@
 -- A value that a test chooses, and a flag after a step that sets it, or ends it, where a test says so.
-use Rattle.std.proofs.Common.{◌≡◌, Bool, true, false, if◌then◌else◌, refl, sym}
-use Rattle.std.proofs.lemmas.Bool.{true≢false}
+use Rattle.std.proofs.Common.{◌≡◌, Bool, true, false, if◌then◌else◌, arith}
 
 pub ends_none : (t was : Bool) → was ≡ false → (if t then false else was) ≡ false
-ends_none true was h = refl
-ends_none false was h = h
+ends_none t was h = grind arith
 
 pub stays_set : (t was : Bool) → was ≡ true → (if t then true else was) ≡ true
-stays_set true was h = refl
-stays_set false was h = h
+stays_set t was h = grind arith
 
 pub was_set : (t was : Bool) → (if t then false else was) ≡ true → was ≡ true
-was_set true was h = absurd (true≢false (sym h))
-was_set false was h = h
+was_set t was h = grind arith
 
 pub ap_if : {A B : Type 0} (f : A → B) (t : Bool) (x y : A) → f (if t then x else y) ≡ (if t then f x else f y)
-ap_if f true x y = refl
-ap_if f false x y = refl
+ap_if f t x y = grind arith

@@ -60,7 +60,7 @@ gone : (q p : ℕ) (t had : Bool) (w : Way) → (q == p) ≡ t → (q ≡ p → 
 gone q p true had w e ne h = absurd (ne (eqb-true q p e))
 gone q p false had w e ne h = h
 
-pub right_stays : (s : Step) (a p : ℕ) (had : Bool) → (GivesUp p s → ⊥) → had ≡ true → right_after s a p had ≡ true
+right_stays : (s : Step) (a p : ℕ) (had : Bool) → (GivesUp p s → ⊥) → had ≡ true → right_after s a p had ≡ true
 right_stays (Deed q d) a p had keeps h = moves_to ((q == p) && (a == 0)) had ByDeed refl h
 right_stays (TakeRight q d) a p had keeps h = moves_to ((q == p) && has_bit a (p % 64)) had (FromOffer (number_of d)) refl h
 right_stays (Offer q d) a p had keeps h = gone q p (q == p) had (ToOffer (number_of d)) refl (λ e. keeps (subst (λ x. GivesUp p (Offer x d)) (sym e) (GivesUp.Offers d))) h

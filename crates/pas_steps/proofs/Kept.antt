@@ -12,9 +12,11 @@ use Rattle.pas_steps.proofs.Flags.{ends_none}
 use Rattle.pas_steps.specs.declared.step.Step.{Step}
 use Rattle.pas_steps.specs.declared.step.Step.TheVariants.{Look, Deed, TakeRight, Offer}
 use Rattle.pas_steps.specs.Effects.{in_mask}
-use Rattle.pas_steps.specs.Views.{View, Stays, Gets, Puts, grain_move, held_after, holds, Rests, ByDeed, FromOffer, FromParked, ToOffer, ToParked, way, had_after, has_right, deed_after, deed_after_look, known_deed, KnowsDeed, unstamped_after, is_unstamped, no_usable, check_after, owes_check, all_ones, hint_after, owes_hint, examined_after, examines}
+use Rattle.pas_steps.specs.Views.{View, Stays, Gets, Puts, grain_move, held_after, holds, Rests, ByDeed, FromOffer, FromParked, ToOffer, ToParked, way, had_after, has_right, deed_after, deed_after_look, known_deed, KnowsDeed, no_usable, check_after, all_ones, hint_after, examined_after, examines}
 use Rattle.pas_steps.specs.Agreement.{Agrees, Agreed}
 use Rattle.pas_steps.specs.Frames.{IsOnPage, IsReturn, IsRead, IsScan, OnlyOn, OnlyReturns, OnlyReads, OnlyScans, IsLook, AreLooks}
+use Rattle.pas_steps.proofs.Past.{always_map}
+use Rattle.std.proofs.lemmas.Bool.Decides.{nat_tests}
 
 -- ---- tests of another page
 other : (p q : ℕ) → q ≢ p → (p == q) ≡ false
@@ -58,30 +60,6 @@ look_hint (Word.Free x u) a q owed h = ends_none ((x == q) && not (a == all_ones
 look_hint (Word.Backed x) a q owed h = ends_none ((x == q) && (a == 0)) owed h
 look_hint s a q owed h = h
 
-on_check : (p q : ℕ) (s : Step) (a w deed : ℕ) (right owed : Bool) → IsOnPage p s → q ≢ p → owed ≡ false → check_after s a q w right deed owed ≡ false
-on_check p q s a w deed right owed (IsOnPage.Looks word) ne h = look_check word a q w deed right owed h
-on_check p q s a w deed right owed (IsOnPage.Puts word mask) ne h = ap (λ t. if (word == w) && t && not right then true else owed) (other p q ne) ∙ ap (λ t. if t && not right then true else owed) (and_right (word == w) false refl) ∙ h
-on_check p q s a w deed right owed (IsOnPage.Offers d) ne h = ends_none (p == q) owed h
-on_check p q s a w deed right owed IsOnPage.Parks ne h = cond-false (p == q) true owed (other p q ne) ∙ h
-on_check p q s a w deed right owed IsOnPage.Unparks ne h = ends_none (p == q) owed h
-on_check p q s a w deed right owed step ne h = h
-
--- no check of another page is added, and no hint
-pub check_on : (p q w : ℕ) (steps : List Made) (v : View) → OnlyOn p steps → q ≢ p → owes_check v q w ≡ false → owes_check (steps ++ v) q w ≡ false
-check_on p q w [] v h ne e = e
-check_on p q w (m ∷ more) v h ne e = on_check p q m.step m.answer w (known_deed (more ++ v) q) (has_right (more ++ v) q) (owes_check (more ++ v) q w) h.0 ne (check_on p q w more v h.1 ne e)
-
-on_hint : (p q : ℕ) (s : Step) (a : ℕ) (owed : Bool) → IsOnPage p s → q ≢ p → owed ≡ false → hint_after s a q owed ≡ false
-on_hint p q s a owed (IsOnPage.Looks word) ne h = look_hint word a q owed h
-on_hint p q s a owed (IsOnPage.Takes word mask) ne h = ends_none ((p == q) && (not (a == all_ones) || not (bit_and a mask == 0))) owed h
-on_hint p q s a owed (IsOnPage.Puts word mask) ne h = cond-false (p == q) true owed (other p q ne) ∙ h
-on_hint p q s a owed IsOnPage.Hints ne h = ends_none (p == q) owed h
-on_hint p q s a owed step ne h = h
-
-pub hint_on : (p q : ℕ) (steps : List Made) (v : View) → OnlyOn p steps → q ≢ p → owes_hint v q ≡ false → owes_hint (steps ++ v) q ≡ false
-hint_on p q [] v h ne e = e
-hint_on p q (m ∷ more) v h ne e = on_hint p q m.step m.answer (owes_hint (more ++ v) q) h.0 ne (hint_on p q more v h.1 ne e)
-
 on_examined : (p : ℕ) (s : Step) (a q : ℕ) (was : Bool) → IsOnPage p s → was ≡ false → examined_after s a q was ≡ false
 on_examined p s a q was (IsOnPage.Looks word) h = look_hint word a q was h
 on_examined p s a q was (IsOnPage.Takes word mask) h = ends_none ((p == q) && (not (a == all_ones) || not (bit_and a mask == 0))) was h
@@ -93,24 +71,12 @@ pub examined_on : (p q : ℕ) (steps : List Made) (v : View) → OnlyOn p steps 
 examined_on p q [] v h e = e
 examined_on p q (m ∷ more) v h e = on_examined p m.step m.answer q (examines (more ++ v) q) h.0 (examined_on p q more v h.1 e)
 
-on_unstamped : (p : ℕ) (s : Step) (a q : ℕ) (was : Bool) → IsOnPage p s → was ≡ false → unstamped_after s a q was ≡ false
-on_unstamped p s a q was IsOnPage.Stamps h = ends_none (p == q) was h
-on_unstamped p s a q was step h = h
-
--- no page becomes unstamped
-pub unstamped_on : (p q : ℕ) (steps : List Made) (v : View) → OnlyOn p steps → is_unstamped v q ≡ false → is_unstamped (steps ++ v) q ≡ false
-unstamped_on p q [] v h e = e
-unstamped_on p q (m ∷ more) v h e = on_unstamped p m.step m.answer q (is_unstamped (more ++ v) q) h.0 (unstamped_on p q more v h.1 e)
-
 -- ---- a deed stays known, whatever the steps
 told_here : (known a word : ℕ) (t z : Bool) → (a == 0) ≡ z → (t ≡ true → a ≡ known) → known ≢ 0 → (if t then (if z then word else a) else known) ≡ known
-told_here known a word true true e same ne = absurd (ne (sym (same refl) ∙ eqb-true a 0 e))
-told_here known a word true false e same ne = same refl
-told_here known a word false z e same ne = refl
+told_here known a word t z h e k = grind (arith, nat_tests)
 
 told_bit : {A : Type 0} (known word : A) (t : Bool) → (t ≡ true → word ≡ known) → (if t then word else known) ≡ known
-told_bit known word true e = e refl
-told_bit known word false e = refl
+told_bit known word t h = grind arith
 
 look_deed : (f : Profile) (v : View) (word : Word) (a p : ℕ) → Agrees f v (Look word) a → known_deed v p ≢ 0 → deed_after_look word a p (known_deed v p) ≡ known_deed v p
 look_deed f v (Word.Deed q) a p agrees ne = told_bit (known_deed v p) a (q == p) (λ h. let e : q ≡ p = eqb-true q p h in subst (λ x. known_deed v x ≢ 0 → a ≡ known_deed v x) e agrees.known ne)
@@ -148,8 +114,7 @@ return_on p s IsReturn.Unparks = IsOnPage.Unparks
 return_on p s IsReturn.Hints = IsOnPage.Hints
 
 pub returns_on : (p : ℕ) (steps : List Made) → OnlyReturns p steps → OnlyOn p steps
-returns_on p [] h = tt
-returns_on p (m ∷ more) h = (return_on p m.step h.0, returns_on p more h.1)
+returns_on p steps = always_map (λ m before. IsReturn p m.step) (λ m before. IsOnPage p m.step) steps (λ m before. return_on p m.step)
 
 scan_look : (s : Step) → IsScan s → IsLook s
 scan_look s (IsScan.LooksEligible d j) = tt
@@ -160,7 +125,7 @@ scans_look [] h = tt
 scans_look (m ∷ more) h = (scan_look m.step h.0, scans_look more h.1)
 
 -- ---- steps that changed nothing
-pub look_read : (s : Step) (a : ℕ) → IsLook s → IsRead s a
+look_read : (s : Step) (a : ℕ) → IsLook s → IsRead s a
 look_read (Look word) a h = IsRead.Looks word a
 look_read s a h = absurd h
 

@@ -12,8 +12,10 @@ pub mod Backed
 pub mod Bits
 pub mod Apart
 pub mod Calls
+pub mod Events
 pub mod Called
 pub mod Sets
 pub mod Unknown
 pub mod SpareRoom
 pub mod ReadDeeds
+pub mod Evidence

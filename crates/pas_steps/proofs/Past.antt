@@ -23,6 +23,10 @@ pub always_map : (P Q : Made → List Made → Type 0) (ys : List Made) → ((m 
 always_map P Q [] f h = tt
 always_map P Q (y ∷ ys) f h = (f y ys h.0, always_map P Q ys f h.1)
 
+pub always_pair : (P Q : Made → List Made → Type 0) (xs : List Made) → Always P xs → Always Q xs → Always (λ m before. P m before × Q m before) xs
+always_pair P Q [] a b = tt
+always_pair P Q (x ∷ xs) a b = ((a.0, b.0), always_pair P Q xs a.1 b.1)
+
 pub always_both : (P Q : Made → List Made → Type 0) (ys xs : List Made) → ((m : Made) (before : List Made) → P m before → Q m (before ++ xs)) → Always P ys → Always Q xs → Always Q (ys ++ xs)
 always_both P Q [] xs f a b = b
 always_both P Q (y ∷ ys) xs f a b = (f y ys a.0, always_both P Q ys xs f a.1 b)

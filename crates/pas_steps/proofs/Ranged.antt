@@ -8,10 +8,10 @@ use Rattle.pas_steps.specs.Ranges.{IsRanged}
 use Rattle.pas_steps.specs.declared.step.Step.{Step}
 use Rattle.pas_steps.specs.declared.step.Step.TheVariants.{Deed, Give, End, EndSized, TakeRight, Offer}
 
-grains_fit : (first room pages : ℕ) → pages ≤ 4096 → 4096 ≤ first → first + room ≤ 4096 * (pages + 1) → room / 16 < 2 ^ 23
+grains_fit : (first room pages : ℕ) → pages ≤ 16384 → 4096 ≤ first → first + room ≤ 4096 * (pages + 1) → room / 16 < 2 ^ 23
 grains_fit first room pages few low high = omega arith
 
-pub guess_fits : (guess pages : ℕ) → pages ≤ 4096 → guess ≤ 256 * pages → guess < 2 ^ 23
+pub guess_fits : (guess pages : ℕ) → pages ≤ 16384 → guess ≤ 256 * pages → guess < 2 ^ 23
 guess_fits guess pages few high = omega arith
 
 heap_fits : (heap heaps : ℕ) → heaps ≤ 32 → heap < heaps → heap < 32

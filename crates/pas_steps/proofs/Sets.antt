@@ -1,39 +1,29 @@
 -- Effects on sets of grains and of pages, one after the other.
-use Rattle.std.proofs.Common.{◌≡◌, ℕ, Bool, true, false, ◌||◌, ◌==◌, if◌then◌else◌, inl, refl, ap, sym, ◌∙◌, subst}
-use Rattle.pas_steps.specs.Calls.{Fate, Kept, Gained, Lost, later, nothing, put, freed, on_page, ClearAfter, Does}
+use Rattle.std.proofs.Common.{◌≡◌, ℕ, Bool, true, false, ◌||◌, ◌==◌, if◌then◌else◌, inl, refl, ap, sym, subst, arith}
+use Rattle.pas_steps.specs.Calls.{Fate, Kept, Gained, Lost, later, nothing, put, freed, on_page, ClearAfter, Does, now, grain_fate}
 use Rattle.pas_steps.specs.Clear.{IsClearOn}
-use Rattle.pas_steps.specs.Views.{View}
-use Rattle.pas_steps.proofs.Calls.{does_then, does_as, kept_first}
+use Rattle.pas_steps.specs.Views.{View, Gives, Stays}
+use Rattle.pas_steps.proofs.Calls.{does_then, does_as}
+use Rattle.std.proofs.Math.Bool.{or_self}
 
 pub same_truth : (a b : Bool) → (a ≡ true → b ≡ true) → (b ≡ true → a ≡ true) → a ≡ b
-same_truth true b f g = sym (f refl)
-same_truth false true f g = g refl
-same_truth false false f g = refl
+same_truth a b h e = grind arith
 
 -- one fate on two sets
 pub both_fates : (fate : Fate) (s t c : Bool) → later fate fate ≡ fate → (s || t) ≡ c → later (if s then fate else Kept) (if t then fate else Kept) ≡ (if c then fate else Kept)
-both_fates fate true true c twice e = twice ∙ ap (λ x. if x then fate else Kept) e
-both_fates fate true false c twice e = ap (λ x. if x then fate else Kept) e
-both_fates fate false true c twice e = kept_first fate ∙ ap (λ x. if x then fate else Kept) e
-both_fates fate false false c twice e = ap (λ x. if x then fate else Kept) e
-
-same : (t : Bool) → (t || t) ≡ t
-same true = refl
-same false = refl
+both_fates fate s t c twice e = grind arith
 
 -- the page is clear only afterwards
 open_first : (t u : Bool) → t ≡ u → later (if t then Lost else Kept) (if t then Gained else Kept) ≡ (if u then Gained else Kept)
-open_first true u e = ap (λ x. if x then Gained else Kept) e
-open_first false u e = ap (λ x. if x then Gained else Kept) e
+open_first t u e = grind arith
 
 pub kept_kept : (t : Bool) → later Kept (if t then Kept else Kept) ≡ Kept
-kept_kept true = refl
-kept_kept false = refl
+kept_kept t = grind arith
 
 -- ---- more grains of one page, the same grains in other words
 pub put_both : {v w u : View} (a b c : ℕ → Bool) (page : ℕ) → Does (put a page) v w → Does (put b page) w u → ((x : ℕ) → (a x || b x) ≡ c x) → Does (put c page) v u
 put_both {v} {w} {u} a b c page d e grains = does_as (put c page) (does_then d e) (λ x. inl (both_fates Lost (a x) (b x) (c x) refl (grains x))) (λ q. refl)
-    (λ q h. subst (λ t. ClearAfter t q v u) (both_fates Lost (page == q) (page == q) (page == q) refl (same (page == q))) h)
+    (λ q h. subst (λ t. ClearAfter t q v u) (both_fates Lost (page == q) (page == q) (page == q) refl (or_self (page == q))) h)
 
 pub put_as : {v w : View} (a b : ℕ → Bool) (page : ℕ) → Does (put a page) v w → ((x : ℕ) → a x ≡ b x) → Does (put b page) v w
 put_as a b page d same = does_as (put b page) d (λ x. inl (ap (λ t. if t then Lost else Kept) (same x))) (λ q. refl) (λ q h. h)
@@ -55,3 +45,10 @@ freed_both {v} {w} {u} a p b q c r d e grains pages = does_as (freed c r) (does_
 
 pub freed_nothing : {v w : View} (a p : ℕ → Bool) → Does nothing v w → ((x : ℕ) → a x ≡ false) → ((x : ℕ) → p x ≡ false) → Does (freed a p) v w
 freed_nothing {v} {w} a p d none no_page = does_as (freed a p) d (λ x. inl (ap (λ t. if t then Lost else Kept) (sym (none x)))) (λ q. refl) (λ q h. subst (λ t. ClearAfter (if t then Gained else Kept) q v w) (sym (no_page q)) h)
+
+-- ---- one thing that is given, or got and lost again
+pub given_fate : (t : Bool) (g : ℕ) → later Kept (grain_fate (if t then Gives g else Stays)) ≡ (if t then Lost else Kept)
+given_fate t g = grind arith
+
+pub got_lost : (t had : Bool) → (t ≡ true → had ≡ false) → now (if t then Lost else Kept) (now (if t then Gained else Kept) had) ≡ had
+got_lost t had lacked = grind arith

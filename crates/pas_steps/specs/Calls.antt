@@ -16,12 +16,9 @@ use Rattle.pas_steps.specs.Effects.{succeeds}
 pub record Leads (f : Profile) (Before : View → Type 0) (Change : View → View → Type 0) (steps : List Made) : Type 0 where
   pub from : (v : View) → Before v → Agreed f v steps → Change v (steps ++ v)
 
-abbrev pub AnyView : View → Type 0
-AnyView v = Unit {0}
-
 -- a call made these steps: they were added to each view that meets Before, and lead to one to which it stands in the relation Change
 pub record Calls (desk desk' : Standing) (Before : View → Type 0) (Change : View → View → Type 0) (steps : List Made) : Type 0 where
-  pub adds : Adds desk desk' (λ v l. Before v) steps
+  pub adds : Adds desk desk' Before steps
   pub leads : Leads desk.seat.profile Before Change steps
 
 -- ---- fates: what becomes of one thing that the actor has or hasn't

@@ -47,19 +47,19 @@ pub record Makes (desk desk' : Standing) (step : Step) (answer : ℕ) : Type 0 w
   pub agrees : (v : View) (l : Whole) → desk.stands v l → Allowed desk.seat.profile v step → Agrees desk.seat.profile v step answer
 
 -- the condition of a call that asks nothing of the view
-abbrev pub Anything : View → Whole → Type 0
-Anything v l = Unit {0}
+abbrev pub AnyView : View → Type 0
+AnyView v = Unit {0}
 
 -- a condition of a call: some view that the desk stands for meets it
-pub record CanCall (desk : Standing) (Meets : View → Whole → Type 0) : Type 0 where
+pub record CanCall (desk : Standing) (Meets : View → Type 0) : Type 0 where
   pub view : View
   pub whole : Whole
   pub stood : desk.stands view whole
-  pub met : Meets view whole
+  pub met : Meets view
 
 -- a call made these steps: for every view that the desk stood for and that meets the condition, they were added to it, and each answer
 -- agrees with the view of its moment
-pub record Adds (desk desk' : Standing) (Meets : View → Whole → Type 0) (steps : List Made) : Type 0 where
+pub record Adds (desk desk' : Standing) (Meets : View → Type 0) (steps : List Made) : Type 0 where
   pub seat_is : desk'.seat ≡ desk.seat
-  pub added : (v : View) (l : Whole) → desk.stands v l → Meets v l → desk'.stands (steps ++ v) (triples desk.seat.actor steps ++ l)
-  pub agreed : (v : View) (l : Whole) → desk.stands v l → Meets v l → Agreed desk.seat.profile v steps
+  pub added : (v : View) (l : Whole) → desk.stands v l → Meets v → desk'.stands (steps ++ v) (triples desk.seat.actor steps ++ l)
+  pub agreed : (v : View) (l : Whole) → desk.stands v l → Meets v → Agreed desk.seat.profile v steps

@@ -48,6 +48,15 @@ event_of k epoch (Tick raised) a = None
 event_of k epoch (Unback page) a = Some (Event.Unback k page epoch)
 event_of k epoch (Unhint page) a = None
 
+-- whose event it is
+abbrev pub actor_of : Event → ℕ
+actor_of (Event.Deed k page directory) = k
+actor_of (Event.Back k page) = k
+actor_of (Event.Unback k page epoch) = k
+actor_of (Event.Give k block) = k
+actor_of (Event.End k name epoch) = k
+actor_of (Event.Reject k name why) = k
+
 abbrev pub with_event : Option Event → List Event → List Event
 with_event None es = es
 with_event (Some e) es = e ∷ es

@@ -36,24 +36,21 @@ at_most_one false = omega arith
 few_here : (deed : ℕ) → unknown_here deed ≤ 1
 few_here deed = at_most_one (deed == 0)
 
-few_below : (n : ℕ) (v : View) → unknown_below n v ≤ n
+pub few_below : (n : ℕ) (v : View) → unknown_below n v ≤ n
 few_below zero v = omega arith
 few_below (suc n) v = let here = few_here (known_deed v (suc n)) in let below = few_below n v in omega (arith, here, below)
 
-pub room_for_slot : {σ : Standing} {c : Cached} {spare : ℕ} → 70 ≤ spare → σ.seat.profile.pages ≤ 30 → CanCall σ (λ v l. AtRest σ.seat.profile c v) → CanCall σ (λ v l. MayAllocate σ.seat.profile c spare v)
+pub room_for_slot : {σ : Standing} {c : Cached} {spare : ℕ} → 70 ≤ spare → σ.seat.profile.pages ≤ 30 → CanCall σ (AtRest σ.seat.profile c) → CanCall σ (MayAllocate σ.seat.profile c spare)
 room_for_slot {σ} {c} {spare} room few can =
     let unknown = few_below σ.seat.profile.pages can.view in
     record { view = can.view; whole = can.whole; stood = can.stood; met = record { rest = can.met; room = has_room σ.seat.profile 2 spare can.view (omega (arith, unknown, few, room)) } }
 
-pub room_for_pages : {σ : Standing} {c : Cached} {spare : ℕ} (n : ℕ) → 70 ≤ spare → σ.seat.profile.pages ≤ 30 → n ≤ σ.seat.profile.pages → CanCall σ (λ v l. AtRest σ.seat.profile c v) → CanCall σ (λ v l. MayAllocatePages σ.seat.profile c n spare v)
+pub room_for_pages : {σ : Standing} {c : Cached} {spare : ℕ} (n : ℕ) → 70 ≤ spare → σ.seat.profile.pages ≤ 30 → n ≤ σ.seat.profile.pages → CanCall σ (AtRest σ.seat.profile c) → CanCall σ (MayAllocatePages σ.seat.profile c n spare)
 room_for_pages {σ} {c} {spare} n room few within can =
     let unknown = few_below σ.seat.profile.pages can.view in
     record { view = can.view; whole = can.whole; stood = can.stood; met = record { rest = can.met; room = omega (arith, unknown, few, room, within) } }
 
 -- ---- requests
-pub none_asked : {σ : Standing} {c : Cached} → Borrows c c σ σ
-none_asked = record { steps = []; rests = call_none (λ v rest. rest); log = refl }
-
 pub slot_asked : {σ σ' : Standing} {c c' : Cached} {wanted : Wanted} {tells : Bool} {answer : Result Block NoRoom} → Allocates wanted tells c c' σ σ' answer → Borrows c c' σ σ'
 slot_asked {σ} {σ'} {c} {c'} {wanted} {tells} {answer} h = record { steps = h.steps; rests = h.calls; log = log_kept σ.seat.profile wanted None c c' h.steps answer wanted.route h.change }
 
@@ -86,7 +83,7 @@ cache_stopped {σ} {σ'} {c} {c'} log h = record {
   log = ap (λ (x : Cached). x.log) h.cache ∙ sym log;
 }
 
-pub nothing_after : {σ σ' : Standing} {c c' : Cached} → StopsCache c c' σ σ' → CanCall σ (λ v l. AtRest σ.seat.profile c v) → CanCall σ' (λ v l. HasNothing v)
+pub nothing_after : {σ σ' : Standing} {c c' : Cached} → StopsCache c c' σ σ' → CanCall σ (AtRest σ.seat.profile c) → CanCall σ' HasNothing
 nothing_after h can = next_call h.calls can (λ v rest done. done.1)
 
 pub stopped_then : {σ σ1 σ2 : Standing} {c c' : Cached} {steps : List Made} → c.log ≡ [] → StopsCache c c' σ σ1 → Calls σ1 σ2 HasNothing (λ v w. HasNothing w) steps → Borrows c c' σ σ2
@@ -109,7 +106,7 @@ module _ {σ σ1 : Standing} {c c1 : Cached} (locals : c.locals ≡ []) (log : c
   rests_then : (v : View) → AtRest σ.seat.profile c1 v → AtRest σ1.seat.profile c1 v
   rests_then v rest = subst (λ (s : Seat). AtRest s.profile c1 v) (sym goes.rests.adds.seat_is) rest
 
-  pub may_stop : CanCall σ (λ v l. HasNothing v) → CanCall σ1 (λ v l. AtRest σ1.seat.profile c1 v)
+  pub may_stop : CanCall σ HasNothing → CanCall σ1 (AtRest σ1.seat.profile c1)
   may_stop can = next_call from_nothing can (λ v none rest. rests_then (goes.steps ++ v) rest)
 
   pub visited : {σ2 : Standing} {c2 : Cached} → StopsCache c1 c2 σ1 σ2 → Acts σ σ2
@@ -118,5 +115,5 @@ module _ {σ σ1 : Standing} {c c1 : Cached} (locals : c.locals ≡ []) (log : c
     calls = call_then (λ v w. HasNothing w) from_nothing stops.calls (λ v none rest. rests_then (goes.steps ++ v) rest) (λ v none rest done. done.1);
   }
 
-pub may_go : {σ : Standing} {c : Cached} → c.locals ≡ [] → c.log ≡ [] → CanCall σ (λ v l. HasNothing v) → CanCall σ (λ v l. AtRest σ.seat.profile c v)
+pub may_go : {σ : Standing} {c : Cached} → c.locals ≡ [] → c.log ≡ [] → CanCall σ HasNothing → CanCall σ (AtRest σ.seat.profile c)
 may_go {σ} {c} locals log can = record { view = can.view; whole = can.whole; stood = can.stood; met = rests_empty σ.seat.profile c can.view locals log can.met }

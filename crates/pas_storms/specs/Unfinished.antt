@@ -6,20 +6,21 @@ use Rattle.pas_steps.specs.Desks.{made}
 use Rattle.pas_steps.specs.Views.{View, owes_hint}
 use Rattle.pas_steps.specs.declared.step.Made.{Made}
 use Rattle.pas_steps.specs.declared.step.Step.TheVariants.{Look, Park}
-use Rattle.pas_rights.specs.Looks.{looks, are_all_ones}
+use Rattle.pas_rights.specs.Looks.{looks}
+use Rattle.pas_rights.specs.Words.{ones}
 
 -- the looks of a leave at a page without room, and the parking, but no look after it
-abbrev pub parks_only : ℕ → List ℕ → ℕ → List Made
-parks_only page answers a = made (Park page) a ∷ looks page answers
+abbrev pub parks_only : ℕ → (ℕ → ℕ) → ℕ → ℕ → List Made
+parks_only page answers n a = made (Park page) a ∷ looks page answers n
 
--- the looks at a page whose grains were put back, and at its backed word, which is 1, but no hint
-abbrev pub looks_only : ℕ → List ℕ → List Made
-looks_only page answers = made (Look (Word.Backed page)) 1 ∷ looks page answers
+-- the looks at a page whose grains were put back, each of which shows all ones, and at its backed word, which is 1, but no hint
+abbrev pub looks_only : ℕ → ℕ → List Made
+looks_only page n = made (Look (Word.Backed page)) 1 ∷ looks page ones n
 
 -- whatever the actor did before: once it parked a page and made no step since, it owes a look there
 abbrev pub ParkingOwes : Type 0
-ParkingOwes = (page a : ℕ) (answers : List ℕ) (v : View) → OwesNothing page (parks_only page answers a ++ v) → ⊥
+ParkingOwes = (page n a : ℕ) (answers : ℕ → ℕ) (v : View) → OwesNothing page (parks_only page answers n a ++ v) → ⊥
 
 -- whatever the actor did before: where it owed the hint of a page, it still does after looks that showed each grain as free and the page as backed
 abbrev pub LookingOwes : Type 0
-LookingOwes = (page : ℕ) (answers : List ℕ) (v : View) → owes_hint v page ≡ true → are_all_ones answers ≡ true → OwesNothing page (looks_only page answers ++ v) → ⊥
+LookingOwes = (page n : ℕ) (v : View) → owes_hint v page ≡ true → OwesNothing page (looks_only page n ++ v) → ⊥

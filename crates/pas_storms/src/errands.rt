@@ -13,7 +13,7 @@ use pas_cache::ThreadCache;
 use pas_free_log::{FreeLog, flush};
 use pas_large::NoIndex;
 use pas_profile::limits::MOST_BITFIT;
-use pas_profile::{Address, Name, Profile, Route, route};
+use pas_profile::{Address, Name, Profile};
 use pas_scavenger::pass;
 use pas_steps::Desk;
 use pas_utility::{CacheSeat, Outcomes};
@@ -76,7 +76,7 @@ fn logged(profile: &Profile, first: u32, gap: u32, blocks: u8) -> FreeLog
 
 /// Flushes a log of these names.
 fn free<D: Desk>(desk: &mut D, cache: &ThreadCache, first: u32, gap: u32, blocks: u8)
-    requires can { CanCall (D.standing desk.old) (λ v l. AtRest (D.standing desk.old).seat.profile (cached cache.now) v) }
+    requires can { CanCall (D.standing desk.old) (AtRest (D.standing desk.old).seat.profile (cached cache.now)) }
     requires room { 70 ≤ D.spare_of desk.old }
     ensures goes { Borrows (cached cache.now) (cached cache.now) (D.standing desk.old) (D.standing desk.new) }
     ensures home { D.home desk.new ≡ D.home desk.old }
@@ -90,29 +90,21 @@ fn free<D: Desk>(desk: &mut D, cache: &ThreadCache, first: u32, gap: u32, blocks
 fn serve<D: Desk>(desk: &mut D, cache: &mut ThreadCache, heap: u8, size: u32, align: u32)
     requires admitted { IsAdmitted (D.standing desk.old).seat.profile size align heap }
     requires pages { (D.standing desk.old).seat.profile.pages ≤ 30 }
-    requires can { CanCall (D.standing desk.old) (λ v l. AtRest (D.standing desk.old).seat.profile (cached cache.old) v) }
+    requires can { CanCall (D.standing desk.old) (AtRest (D.standing desk.old).seat.profile (cached cache.old)) }
     requires room { 70 ≤ D.spare_of desk.old }
     ensures goes { Borrows (cached cache.old) (cached cache.new) (D.standing desk.old) (D.standing desk.new) }
     ensures home { D.home desk.new ≡ D.home desk.old }
 {
-    match route(size, align) {
-        Route::Class(_) => {
-            let _ = cache.alloc(desk, heap, size, align);
-        }
-        Route::Bitfit => {
-            let _ = cache.alloc(desk, heap, size, align);
-        }
-        Route::Large => {
-            if size > MOST_BITFIT {
-                let _ = cache.alloc_large(desk, &mut NoIndex, heap, size);
-            }
-        }
+    if size > MOST_BITFIT {
+        let _ = cache.alloc_large(desk, &mut NoIndex, heap, size);
+    } else {
+        let _ = cache.alloc(desk, heap, size, align);
     }
 }
 
 /// Asks the cache for a block, where the region admits the request and has few pages.
 fn ask<D: Desk>(desk: &mut D, cache: &mut ThreadCache, heap: u8, size: u32, align: u32)
-    requires can { CanCall (D.standing desk.old) (λ v l. AtRest (D.standing desk.old).seat.profile (cached cache.old) v) }
+    requires can { CanCall (D.standing desk.old) (AtRest (D.standing desk.old).seat.profile (cached cache.old)) }
     requires room { 70 ≤ D.spare_of desk.old }
     ensures goes { Borrows (cached cache.old) (cached cache.new) (D.standing desk.old) (D.standing desk.new) }
     ensures home { D.home desk.new ≡ D.home desk.old }
@@ -126,7 +118,7 @@ fn ask<D: Desk>(desk: &mut D, cache: &mut ThreadCache, heap: u8, size: u32, alig
 /// Stops the cache.
 fn stop<D: Desk>(desk: &mut D, cache: &mut ThreadCache)
     requires log { (cached cache.old).log ≡ [] }
-    requires can { CanCall (D.standing desk.old) (λ v l. AtRest (D.standing desk.old).seat.profile (cached cache.old) v) }
+    requires can { CanCall (D.standing desk.old) (AtRest (D.standing desk.old).seat.profile (cached cache.old)) }
     ensures goes { Borrows (cached cache.old) (cached cache.new) (D.standing desk.old) (D.standing desk.new) }
     ensures home { D.home desk.new ≡ D.home desk.old }
 {
@@ -137,7 +129,7 @@ fn stop<D: Desk>(desk: &mut D, cache: &mut ThreadCache)
 fn age<D: Desk>(desk: &mut D, cache: &mut ThreadCache, epoch: u64)
     requires log { (cached cache.old).log ≡ [] }
     requires epoch { epoch < 2 ^ 40 }
-    requires can { CanCall (D.standing desk.old) (λ v l. AtRest (D.standing desk.old).seat.profile (cached cache.old) v) }
+    requires can { CanCall (D.standing desk.old) (AtRest (D.standing desk.old).seat.profile (cached cache.old)) }
     ensures goes { Borrows (cached cache.old) (cached cache.new) (D.standing desk.old) (D.standing desk.new) }
     ensures home { D.home desk.new ≡ D.home desk.old }
 {
@@ -150,7 +142,7 @@ fn scavenge<D: Desk>(desk: &mut D, cache: &mut ThreadCache, outcomes: &mut Outco
     requires log { (cached cache.old).log ≡ [] }
     requires places { places_of outcomes.old ≡ (D.standing desk.old).seat.profile.pages }
     requires pages { (D.standing desk.old).seat.profile.pages ≤ 30 }
-    requires can { CanCall (D.standing desk.old) (λ v l. AtRest (D.standing desk.old).seat.profile (cached cache.old) v) }
+    requires can { CanCall (D.standing desk.old) (AtRest (D.standing desk.old).seat.profile (cached cache.old)) }
     requires room { 70 ≤ D.spare_of desk.old }
     ensures goes { Borrows (cached cache.old) (cached cache.new) (D.standing desk.old) (D.standing desk.new) }
     ensures places { places_of outcomes.new ≡ places_of outcomes.old }
@@ -179,7 +171,7 @@ impl Hands {
 
     /// Stops the cache, after which the actor has nothing.
     pub fn stop<D: Desk>(&mut self, desk: &mut D)
-        requires can { CanCall (D.standing desk.old) (λ v l. AtRest (D.standing desk.old).seat.profile (cache_of self.old) v) }
+        requires can { CanCall (D.standing desk.old) (AtRest (D.standing desk.old).seat.profile (cache_of self.old)) }
         ensures stops { StopsCache (cache_of self.old) (cache_of self.new) (D.standing desk.old) (D.standing desk.new) }
         ensures home { D.home desk.new ≡ D.home desk.old }
     {
@@ -189,7 +181,7 @@ impl Hands {
     /// Goes on the errand. The actor is at rest with its cache before and afterwards, and the log of its cache stays empty. A pass is made only
     /// where the outcomes are for just this region, of at most 30 pages.
     pub fn go<D: Desk>(&mut self, desk: &mut D, errand: Errand)
-        requires can { CanCall (D.standing desk.old) (λ v l. AtRest (D.standing desk.old).seat.profile (cache_of self.old) v) }
+        requires can { CanCall (D.standing desk.old) (AtRest (D.standing desk.old).seat.profile (cache_of self.old)) }
         requires room { 70 ≤ D.spare_of desk.old }
         ensures goes { Borrows (cache_of self.old) (cache_of self.new) (D.standing desk.old) (D.standing desk.new) }
         ensures home { D.home desk.new ≡ D.home desk.old }

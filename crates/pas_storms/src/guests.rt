@@ -58,7 +58,7 @@ impl Hands {
     /// Goes on the errand with an empty cache, and stops the cache.
     fn visit<D: Desk>(&mut self, desk: &mut D, errand: Errand)
         requires locals { (cache_of self.old).locals ≡ [] }
-        requires can { CanCall (D.standing desk.old) (λ v l. HasNothing v) }
+        requires can { CanCall (D.standing desk.old) HasNothing }
         requires room { 70 ≤ D.spare_of desk.old }
         ensures acts { Acts (D.standing desk.old) (D.standing desk.new) }
         ensures locals { (cache_of self.new).locals ≡ [] }

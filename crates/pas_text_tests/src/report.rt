@@ -191,6 +191,7 @@ fn small_state(alloc: Global) -> Result<State, AllocError> {
         age: 1,
         heaps: 1,
         shared: 0,
+        classes: 16,
     };
     let mut words = vec![in alloc; 0u64; 552]?;
     words[1..5].fill(u64::MAX);

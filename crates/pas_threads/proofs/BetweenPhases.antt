@@ -13,10 +13,10 @@ use Rattle.pas_shared.specs.declared.region.SharedRegion.{SharedRegion}
 use Rattle.pas_answers.specs.Acts.{Act, Ends, numbers_from, phase_acts, acts_of}
 use Rattle.pas_answers.specs.Replays.{at_start}
 use Rattle.pas_answers.specs.Answers.{Progress, with_records, Follows}
-use Rattle.pas_replay.proofs.ActsInOrder.{acts_left, close_left, first_phase, other_phase}
+use Rattle.pas_plans.proofs.ActsLeft.{acts_left, close_left, first_phase, other_phase}
 use Rattle.pas_threads.specs.Sessions.{TeamAt, AreMarked, AreWritten, HasRoom, PhaseAt, PhaseDone, CloseDone, HasReplayed}
 use Rattle.pas_threads.specs.declared.phases.Team.{Team}
-use Rattle.pas_threads.proofs.Weaving.{joined}
+use Rattle.pas_shares.proofs.Weaving.{joined}
 use Rattle.pas_threads.proofs.Marking.{are_none, none_written, phase_marked, close_marked, as_marked, written_whole}
 use Rattle.pas_threads.proofs.Staying.{team_at_records, room_after_mark, room_without_mark}
 

@@ -12,20 +12,19 @@ use Rattle.pas_report.specs.Rooms.{records_in}
 use Rattle.pas_report.specs.declared.record.Record.{Record}
 use Rattle.pas_report.specs.declared.records.Records.{Records}
 use Rattle.pas_shared.specs.declared.region.SharedRegion.{SharedRegion}
-use Rattle.pas_answers.specs.Acts.{Act, ReadsEpoch, idle_stops, acts_of_op}
+use Rattle.pas_answers.specs.Acts.{Act, ReadsEpoch, idle_stops, acts_of_op, scavenger_acts}
 use Rattle.pas_answers.specs.Answers.{Progress, Caches}
 use Rattle.pas_answers.specs.Fit.{costs_of}
 use Rattle.pas_answers.specs.Ways.{records_by}
 use Rattle.pas_answers.proofs.OwnRecords.{none_by, all_by}
-use Rattle.pas_threads.specs.declared.names.NameBook.{NameBook}
-use Rattle.pas_threads.specs.Works.{Later, Sits}
-use Rattle.pas_threads.specs.Scavenges.{Scavenges}
+use Rattle.pas_acts.specs.declared.names.NameBook.{NameBook}
+use Rattle.pas_acts.specs.Works.{Later, Sits}
+use Rattle.pas_acts.specs.Scavenges.{Scavenges}
 use Rattle.pas_threads.specs.Lent.{AreDistinct, AreLent, DidWithLent}
-use Rattle.pas_threads.specs.Shares.{scavenger_acts}
 use Rattle.pas_threads.specs.Crews.{Crew, crew, CrewAt, CrewDid, IsScavengers}
 use Rattle.pas_threads.specs.declared.workers.Worker.{Worker}
-use Rattle.pas_threads.proofs.Working.{reach_both}
-use Rattle.pas_threads.proofs.ByScavenger.{same_stands}
+use Rattle.pas_acts.proofs.Working.{reach_both}
+use Rattle.pas_acts.proofs.ByScavenger.{same_stands}
 use Rattle.pas_threads.proofs.ByLent.{more_by}
 
 -- ---- the scavenger's own act leaves the lent threads where they are

@@ -12,14 +12,14 @@ use Rattle.pas_answers.specs.Acts.{Act, StopsIdle, idle_stops}
 use Rattle.pas_answers.specs.Answers.{Progress}
 use Rattle.pas_answers.specs.Ways.{EachOf, records_by}
 use Rattle.pas_answers.proofs.OwnRecords.{records_both, none_by, all_by}
-use Rattle.pas_threads.specs.declared.names.NameBook.{NameBook}
-use Rattle.pas_threads.specs.Works.{Later}
-use Rattle.pas_threads.specs.Scavenges.{StopsThread}
+use Rattle.pas_acts.specs.declared.names.NameBook.{NameBook}
+use Rattle.pas_acts.specs.Works.{Later}
+use Rattle.pas_acts.specs.Scavenges.{StopsThread}
 use Rattle.pas_threads.specs.Hands.{kept_by, WorkerAt, Did}
 use Rattle.pas_threads.specs.Lent.{AreDistinct, AreLent, KeepsRooms, DidWithLent}
 use Rattle.pas_threads.specs.declared.workers.Worker.{Worker}
-use Rattle.pas_threads.proofs.Working.{reach_both}
-use Rattle.pas_threads.proofs.ByScavenger.{same_stands}
+use Rattle.pas_acts.proofs.Working.{reach_both}
+use Rattle.pas_acts.proofs.ByScavenger.{same_stands}
 
 -- those of thread k and then of the scavenger, by actor
 by_own : (k : ℕ) (mine told : List Record) → EachOf k mine → EachOf 0 told → 0 ≢ k → records_by k (mine ++ told) ≡ mine

@@ -21,7 +21,7 @@ use Rattle.pas_answers.specs.Answers.{Progress}
 use Rattle.pas_answers.specs.Replays.{phases_of, Shows}
 use Rattle.pas_answers.specs.Ways.{OnThreads}
 use Rattle.pas_answers.proofs.Consequences.{replays}
-use Rattle.pas_replay.proofs.StartAndEnd.{nothing, no_slots}
+use Rattle.pas_plans.proofs.Nothing.{nothing, no_slots}
 use Rattle.pas_threads.specs.Hands.{HasPass}
 use Rattle.pas_threads.specs.Sessions.{TeamAt, HasReplayed}
 use Rattle.pas_threads.specs.Kits.{slots_of, AreAllBack}

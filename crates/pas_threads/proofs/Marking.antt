@@ -3,7 +3,7 @@ use Rattle.std.proofs.Common.{◌≡◌, ℕ, zero, suc, ◌+◌, List, [], ◌�
 use Rattle.pas_report.specs.declared.record.Record.{Record}
 use Rattle.pas_answers.specs.Ways.{OnThreads, AreSpoken, by_actors, arranged}
 use Rattle.pas_threads.specs.Sessions.{AreMarked, AreWritten}
-use Rattle.pas_threads.proofs.Arranging.{are_arranged}
+use Rattle.pas_shares.proofs.Arranging.{are_arranged}
 
 -- ---- no records
 none_by_actors : (k n : ℕ) → by_actors k n [] ≡ []

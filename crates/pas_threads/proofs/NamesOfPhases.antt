@@ -7,24 +7,24 @@ use Rattle.pas_trace.specs.EveryPlan.{is_asked, asked_after, asked_by, AreSound,
 use Rattle.pas_trace.specs.declared.plan.What.{What}
 use Rattle.pas_trace.specs.declared.plan.What.TheVariants.{Alloc, Free, Raw, Flush, Stop, Tick, Pass, Idle}
 use Rattle.pas_trace.specs.declared.plan.Op.{Op}
-use Rattle.pas_answers.specs.Acts.{Act, Operates, Settles, Ticks, MakesPass, ReadsEpoch, StopsIdle, MarksPhase, Wakes, MarksClose, Ends, is_active, idle_threads, idle_stops, acts_of_what, acts_of_op, acts_of_ops}
+use Rattle.pas_answers.specs.Acts.{Act, Operates, Settles, Ticks, MakesPass, ReadsEpoch, StopsIdle, MarksPhase, Wakes, MarksClose, Ends, is_active, idle_threads, idle_stops, acts_of_what, acts_of_op, acts_of_ops, own_acts}
 use Rattle.pas_answers.specs.Answers.{Named, standing_for, Progress}
-use Rattle.pas_answers.specs.Calls.{block_behind, HasTurn, AreKnown}
+use Rattle.pas_answers.specs.Calls.{block_behind, HasTurn, AreKnown, OnlyAsked}
 use Rattle.pas_answers.specs.Fit.{IsBelow, AreBelow}
 use Rattle.pas_answers.specs.Names.{block_named, names_held}
 use Rattle.pas_answers.specs.declared.names.Names.{Names}
-use Rattle.pas_replay.proofs.ActsOfPlan.{back_below}
-use Rattle.pas_threads.specs.Shares.{own_acts, owner_in, IsWoven, AreAmong, IsRequestOf, NoneAsks, asked_after_act, asked_after_acts, OnlyAsked}
-use Rattle.pas_threads.specs.NameBooks.{requests_in, name_asked, name_asked_by, names_asked, names_of, AreWithin, NamesAt}
+use Rattle.pas_plans.proofs.ActsOfPlan.{back_below}
+use Rattle.pas_shares.specs.Shares.{owner_in, IsWoven, AreAmong, IsRequestOf, NoneAsks, asked_after_act, asked_after_acts}
+use Rattle.pas_acts.specs.NameBooks.{requests_in, name_asked, name_asked_by, names_asked, names_of, AreWithin, NamesAt}
 use Rattle.pas_threads.specs.Taken.{HasRequest, HasTaken, HandsOver}
-use Rattle.pas_threads.specs.Works.{Later, Works}
+use Rattle.pas_acts.specs.Works.{Later, Works}
 use Rattle.pas_threads.specs.Hands.{kept_by}
-use Rattle.pas_threads.specs.declared.names.NameBook.{NameBook}
+use Rattle.pas_acts.specs.declared.names.NameBook.{NameBook}
 use Rattle.pas_threads.specs.declared.workers.Worker.{Worker}
-use Rattle.pas_threads.proofs.KnownAfter.{are_known}
-use Rattle.pas_threads.proofs.Noting.{asks, asks_more}
-use Rattle.pas_threads.proofs.NamesBefore.{sound_front, sound_back}
-use Rattle.pas_threads.proofs.PhaseActs.{or_right}
+use Rattle.pas_shares.proofs.KnownAfter.{are_known}
+use Rattle.pas_acts.proofs.Noting.{asks, asks_more}
+use Rattle.pas_acts.proofs.NamesBefore.{sound_front, sound_back}
+use Rattle.pas_shares.proofs.PhaseActs.{or_right}
 use Rattle.pas_threads.proofs.Ranks.{some_worker}
 
 -- ---- what acts ask for

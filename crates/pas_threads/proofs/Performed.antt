@@ -3,7 +3,7 @@ use Rattle.std.proofs.Common.{◌≡◌, ◌≢◌, ℕ, zero, suc, ◌+◌, ◌
 use Rattle.std.specs.Prelude.{vec_capacity}
 use Rattle.std.specs.List.{filter}
 use Rattle.std.proofs.lemmas.List.{append-nil}
-use Rattle.std.proofs.lemmas.Bool.{true≢false}
+use Rattle.std.proofs.lemmas.Bool.{true≢false, or_parts}
 use Rattle.pas_bits.specs.Masks.{is_set}
 use Rattle.pas_bits.specs.declared.mask.Mask4.{Mask4}
 use Rattle.pas_profile.specs.declared.profile.Profile.{Profile}
@@ -15,26 +15,27 @@ use Rattle.pas_report.specs.declared.records.Records.{Records}
 use Rattle.pas_utility.specs.Outcomes.{places_of}
 use Rattle.pas_utility.specs.declared.outcomes.Outcomes.{Outcomes}
 use Rattle.pas_shared.specs.declared.region.SharedRegion.{SharedRegion}
-use Rattle.pas_answers.specs.Acts.{Act, is_active, numbers_from, idle_threads, acts_of_op, acts_of_ops}
+use Rattle.pas_answers.specs.Acts.{Act, is_active, numbers_from, idle_threads, acts_of_op, acts_of_ops, own_acts, scavenger_acts}
 use Rattle.pas_answers.specs.Answers.{Progress}
 use Rattle.pas_answers.specs.Ways.{records_by}
 use Rattle.pas_answers.proofs.OwnRecords.{records_both, all_by}
-use Rattle.pas_threads.specs.Shares.{Reaches, owner_in, acts_by, own_acts, scavenger_acts, ActsAreShared}
-use Rattle.pas_threads.specs.NameBooks.{requests_in, room_for, names_of, names_asked}
-use Rattle.pas_threads.specs.Works.{Later}
+use Rattle.pas_answers.specs.Reaching.{Reaches}
+use Rattle.pas_shares.specs.Shares.{owner_in, acts_by, ActsAreShared}
+use Rattle.pas_acts.specs.NameBooks.{requests_in, room_for, names_of, names_asked}
+use Rattle.pas_acts.specs.Works.{Later}
 use Rattle.pas_threads.specs.Hands.{standing_of_pass, WorkerAt, Did, MayDoPhase, DidPhase}
 use Rattle.pas_threads.specs.Lent.{AreDistinct, AreLent}
 use Rattle.pas_threads.specs.Crews.{Crew, CrewDid}
 use Rattle.pas_threads.specs.Scavengers.{crew_of, ScavengerStands, DidScavenge}
-use Rattle.pas_threads.specs.Scavenges.{ScavengerAt}
+use Rattle.pas_acts.specs.Scavenges.{ScavengerAt}
 use Rattle.pas_threads.specs.Dealing.{AreDealt}
 use Rattle.pas_threads.specs.Performing.{IsReady, ThreadDone, ScavengerDone}
-use Rattle.pas_threads.specs.declared.names.NameBook.{NameBook}
-use Rattle.pas_threads.specs.declared.names.Requests.{Requests}
+use Rattle.pas_acts.specs.declared.names.NameBook.{NameBook}
+use Rattle.pas_acts.specs.declared.names.Requests.{Requests}
 use Rattle.pas_threads.specs.declared.workers.Worker.{Worker}
 use Rattle.pas_threads.specs.declared.scavenger.Scavenger.{Scavenger}
 use Rattle.pas_threads.specs.declared.phases.Team.{Team}
-use Rattle.pas_threads.proofs.PhaseActs.{active_within, or_none, none_own, acts_are_shared}
+use Rattle.pas_shares.proofs.PhaseActs.{active_within, none_own, acts_are_shared}
 use Rattle.pas_threads.proofs.NamesOfPhases.{hands_over, hands_nothing}
 use Rattle.pas_threads.proofs.Dealt.{true_or_false}
 use Rattle.pas_threads.proofs.Ranks.{PlaceIn, own_from, place_in, place_out, lent_many, lent_number, same_get, some_worker}
@@ -161,7 +162,7 @@ idle_distinct threads ops =
 none_scavenged : (idle : List ℕ) (ops : List Op) → is_active ops 0 ≡ false → scavenger_acts idle ops ≡ []
 none_scavenged idle [] off = refl
 none_scavenged idle (op ∷ ops) off =
-    let both = or_none (op.actor == 0) (is_active ops 0) off in
+    let both = or_parts (op.actor == 0) (is_active ops 0) off in
     ap (λ (t : Bool). if t then acts_of_op idle op ++ scavenger_acts idle ops else scavenger_acts idle ops) both.0 ∙ none_scavenged idle ops both.1
 
 -- ---- all hands together

@@ -13,31 +13,32 @@ use Rattle.pas_report.specs.declared.record.Record.{Record}
 use Rattle.pas_utility.specs.Outcomes.{places_of}
 use Rattle.pas_cache.specs.Caches.{Cached, cached, AtRest}
 use Rattle.pas_shared.specs.declared.region.SharedRegion.{SharedRegion}
-use Rattle.pas_answers.specs.Acts.{acts_of_ops, idle_threads}
+use Rattle.pas_answers.specs.Acts.{acts_of_ops, idle_threads, own_acts, scavenger_acts}
 use Rattle.pas_answers.specs.Answers.{Named, Progress}
-use Rattle.pas_answers.specs.Calls.{owed_events}
+use Rattle.pas_answers.specs.Calls.{owed_events, OnlyAsked}
 use Rattle.pas_answers.specs.Fit.{AreFit, costs_of, own_costs_of}
 use Rattle.pas_answers.specs.Names.{names_held}
 use Rattle.pas_answers.specs.Ways.{records_by}
 use Rattle.pas_answers.proofs.OwnRecords.{records_both}
-use Rattle.pas_replay.proofs.ActsOfPlan.{ops_fit, idle_few}
-use Rattle.pas_threads.specs.Shares.{Reaches, Owners, acts_by, owner_in, own_acts, scavenger_acts, IsShareOf, IsWoven, OnlyAsked}
-use Rattle.pas_threads.specs.NameBooks.{NamesAt, requests_in, room_for, names_of, known_in}
+use Rattle.pas_plans.proofs.ActsOfPlan.{ops_fit, idle_few}
+use Rattle.pas_answers.specs.Reaching.{Reaches}
+use Rattle.pas_shares.specs.Shares.{Owners, acts_by, owner_in, IsShareOf, IsWoven}
+use Rattle.pas_acts.specs.NameBooks.{NamesAt, requests_in, room_for, names_of, known_in}
 use Rattle.pas_threads.specs.Taken.{HandsOver, IsEmptied}
-use Rattle.pas_threads.specs.Works.{Later, Sits}
+use Rattle.pas_acts.specs.Works.{Later, Sits}
 use Rattle.pas_threads.specs.Hands.{standing_of_pass}
 use Rattle.pas_threads.specs.Sessions.{WorkerRests, ScavengerRests}
 use Rattle.pas_threads.specs.Turns.{owed_at, IsGathered}
 use Rattle.pas_threads.specs.Performing.{ThreadDone, ScavengerDone}
-use Rattle.pas_threads.specs.declared.names.NameBook.{NameBook}
-use Rattle.pas_threads.specs.declared.names.Requests.{Requests}
+use Rattle.pas_acts.specs.declared.names.NameBook.{NameBook}
+use Rattle.pas_acts.specs.declared.names.Requests.{Requests}
 use Rattle.pas_threads.specs.declared.scavenger.Scavenger.{Scavenger}
 use Rattle.pas_threads.specs.declared.workers.Worker.{Worker}
-use Rattle.pas_threads.proofs.NamesBefore.{sound_front}
-use Rattle.pas_threads.proofs.PhaseActs.{acts_are_shared}
+use Rattle.pas_acts.proofs.NamesBefore.{sound_front}
+use Rattle.pas_shares.proofs.PhaseActs.{acts_are_shared}
 use Rattle.pas_threads.proofs.PhaseRooms.{own_costs, scavenger_costs}
 use Rattle.pas_threads.proofs.PhaseStarts.{sits_less}
-use Rattle.pas_threads.proofs.Weaving.{weave}
+use Rattle.pas_shares.proofs.Weaving.{weave}
 
 -- ---- the whole phase
 whole_share : (owner : Owners) (w : ℕ) (p : Progress) → IsShareOf owner w p p

@@ -8,12 +8,11 @@ use Rattle.pas_trace.specs.declared.plan.What.TheVariants.{Alloc, Free, Raw, Flu
 use Rattle.pas_trace.specs.declared.plan.Op.{Op}
 use Rattle.pas_report.specs.Rooms.{records_in}
 use Rattle.pas_report.specs.declared.record.Record.{Record}
-use Rattle.pas_answers.specs.Acts.{Act, Operates, Settles, acts_of_op}
+use Rattle.pas_answers.specs.Acts.{Act, Operates, Settles, acts_of_op, own_acts, scavenger_acts}
 use Rattle.pas_answers.specs.Answers.{Progress}
 use Rattle.pas_answers.specs.Fit.{cost_of_what, cost_of_act, costs_of, own_costs_of}
 use Rattle.pas_answers.specs.Ways.{records_by, by_actors}
-use Rattle.pas_replay.proofs.ActsOfPlan.{sum_both, what_costs}
-use Rattle.pas_threads.specs.Shares.{own_acts, scavenger_acts}
+use Rattle.pas_plans.proofs.ActsOfPlan.{sum_both, what_costs}
 use Rattle.pas_threads.specs.Sessions.{owed_by}
 use Rattle.pas_threads.specs.Turns.{owed_at, said_by_all}
 use Rattle.pas_threads.specs.declared.workers.Worker.{Worker}

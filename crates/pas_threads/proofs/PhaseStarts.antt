@@ -16,23 +16,22 @@ use Rattle.pas_report.specs.Rooms.{room_of}
 use Rattle.pas_report.specs.declared.record.Record.{Record}
 use Rattle.pas_cache.specs.Caches.{Cached, cached}
 use Rattle.pas_shared.specs.declared.region.SharedRegion.{SharedRegion}
-use Rattle.pas_answers.specs.Acts.{idle_threads}
+use Rattle.pas_answers.specs.Acts.{idle_threads, own_acts, scavenger_acts}
 use Rattle.pas_answers.specs.Answers.{Progress}
 use Rattle.pas_answers.specs.Calls.{owed_events}
 use Rattle.pas_answers.specs.Fit.{costs_of, own_costs_of}
-use Rattle.pas_replay.proofs.ActsOfPlan.{idle_few}
-use Rattle.pas_threads.specs.Shares.{own_acts, scavenger_acts}
-use Rattle.pas_threads.specs.NameBooks.{NamesAt, ArePlaced, names_asked}
-use Rattle.pas_threads.specs.Works.{Later, Sits}
+use Rattle.pas_plans.proofs.ActsOfPlan.{idle_few}
+use Rattle.pas_acts.specs.NameBooks.{NamesAt, ArePlaced, names_asked}
+use Rattle.pas_acts.specs.Works.{Later, Sits}
 use Rattle.pas_threads.specs.Hands.{standing_of_pass, WorkerAt}
 use Rattle.pas_threads.specs.Sessions.{WorkerRests, AreResting, ScavengerRests, HasPlaces, TeamAt}
 use Rattle.pas_threads.specs.Turns.{owed_at, WokeAll}
 use Rattle.pas_threads.specs.Performing.{ScavengerHas, IsReady}
-use Rattle.pas_threads.specs.declared.names.NameBook.{NameBook}
+use Rattle.pas_acts.specs.declared.names.NameBook.{NameBook}
 use Rattle.pas_threads.specs.declared.phases.Team.{Team}
 use Rattle.pas_threads.specs.declared.scavenger.Scavenger.{Scavenger}
 use Rattle.pas_threads.specs.declared.workers.Worker.{Worker}
-use Rattle.pas_threads.proofs.NamesBefore.{names_before, sound_front}
+use Rattle.pas_acts.proofs.NamesBefore.{names_before, sound_front}
 use Rattle.pas_threads.proofs.PhaseRooms.{own_costs, scavenger_costs}
 
 -- ---- rooms

@@ -12,32 +12,33 @@ use Rattle.pas_report.specs.Rooms.{records_in, room_of}
 use Rattle.pas_report.specs.declared.record.Record.{Record}
 use Rattle.pas_report.specs.declared.records.Records.{Records}
 use Rattle.pas_shared.specs.declared.region.SharedRegion.{SharedRegion}
-use Rattle.pas_answers.specs.Acts.{Wakes, is_active, numbers_from, idle_threads, active_threads, acts_of_ops, phase_acts}
+use Rattle.pas_answers.specs.Acts.{Wakes, is_active, numbers_from, idle_threads, active_threads, acts_of_ops, phase_acts, own_acts}
 use Rattle.pas_answers.specs.Answers.{Progress}
 use Rattle.pas_answers.specs.Fit.{own_costs_of}
 use Rattle.pas_answers.specs.Names.{names_held}
 use Rattle.pas_answers.specs.Ways.{records_by, by_actors}
-use Rattle.pas_replay.specs.Sessions.{awake_in}
-use Rattle.pas_replay.proofs.ActsInOrder.{threads_alike}
-use Rattle.pas_threads.specs.Shares.{Reaches, own_acts, owner_in, IsWoven}
-use Rattle.pas_threads.specs.NameBooks.{AreWithin, requests_in, names_of}
+use Rattle.pas_plans.specs.Awake.{awake_in}
+use Rattle.pas_plans.proofs.ActsLeft.{threads_alike}
+use Rattle.pas_answers.specs.Reaching.{Reaches}
+use Rattle.pas_shares.specs.Shares.{owner_in, IsWoven}
+use Rattle.pas_acts.specs.NameBooks.{AreWithin, requests_in, names_of}
 use Rattle.pas_threads.specs.Taken.{HasTaken, HandsOver, IsWithin, IsEmptied}
 use Rattle.pas_threads.specs.Sessions.{ScavengerRests, HasPlaces, TeamAt, AreMarked, AreWritten, HasRoom, owed_by, PhaseAt, PhaseDone}
 use Rattle.pas_threads.specs.Turns.{owed_at, IsGathered, said_by_all}
 use Rattle.pas_threads.specs.Performing.{IsDone}
-use Rattle.pas_threads.specs.declared.names.NameBook.{NameBook}
+use Rattle.pas_acts.specs.declared.names.NameBook.{NameBook}
 use Rattle.pas_threads.specs.declared.phases.Team.{Team}
 use Rattle.pas_threads.specs.declared.scavenger.Scavenger.{Scavenger}
 use Rattle.pas_threads.specs.declared.workers.Worker.{Worker}
-use Rattle.pas_threads.proofs.Beyond.{part_stays, apart_beyond}
-use Rattle.pas_threads.proofs.NamesBefore.{sound_front, below_front}
+use Rattle.pas_shares.proofs.Beyond.{part_stays, apart_beyond}
+use Rattle.pas_acts.proofs.NamesBefore.{sound_front, below_front}
 use Rattle.pas_threads.proofs.NamesOfPhases.{names_then, names_within}
-use Rattle.pas_threads.proofs.PhaseActs.{active_within, zero_own}
+use Rattle.pas_shares.proofs.PhaseActs.{active_within, zero_own}
 use Rattle.pas_threads.proofs.PhaseEnds.{phase_woven, has_said, has_paid, rests_after, handed, scavenger_said, scavenger_paid, scavenger_rests}
 use Rattle.pas_threads.proofs.PhaseRooms.{own_all, all_paid, owed_alike, said_in_order, by_first}
 use Rattle.pas_threads.proofs.Ranks.{some_worker}
 use Rattle.pas_threads.proofs.PhaseStarts.{room_is, later_beside, HasBegun}
-use Rattle.pas_threads.proofs.Working.{reach_both}
+use Rattle.pas_acts.proofs.Working.{reach_both}
 
 -- ---- the threads of a phase
 number_at : (k n i : ℕ) → i < n → get_or (numbers_from k n) i 0 ≡ k + i

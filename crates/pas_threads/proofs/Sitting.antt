@@ -6,11 +6,10 @@ use Rattle.pas_trace.specs.declared.plan.Op.{Op}
 use Rattle.pas_shared.specs.Passes.{seat_of, IsPassOf}
 use Rattle.pas_shared.specs.declared.region.SharedRegion.{SharedRegion}
 use Rattle.pas_shared.specs.declared.pass.SharedPass.{SharedPass}
-use Rattle.pas_answers.specs.Acts.{Act}
+use Rattle.pas_answers.specs.Acts.{Act, own_acts}
 use Rattle.pas_answers.specs.Answers.{Progress}
-use Rattle.pas_threads.specs.declared.names.NameBook.{NameBook}
-use Rattle.pas_threads.specs.Shares.{own_acts}
-use Rattle.pas_threads.specs.Works.{Later, Keeps, ThreadAt, Works}
+use Rattle.pas_acts.specs.declared.names.NameBook.{NameBook}
+use Rattle.pas_acts.specs.Works.{Later, Keeps, ThreadAt, Works}
 use Rattle.pas_threads.specs.Hands.{standing_of_pass, kept_by, HasPass, WorkerAt, Did}
 use Rattle.pas_threads.specs.declared.workers.Worker.{Worker}
 use Rattle.pas_threads.specs.Crews.{CrewAt}

@@ -24,15 +24,15 @@ use Rattle.pas_shared.specs.declared.pass.SharedPass.{SharedPass}
 use Rattle.pas_answers.specs.Calls.{owed_events}
 use Rattle.pas_answers.specs.Names.{names_held}
 use Rattle.pas_answers.specs.Replays.{at_start, phases_of}
-use Rattle.pas_replay.proofs.NameLimits.{below_all}
-use Rattle.pas_replay.proofs.StartAndEnd.{nothing, nothing_owed}
+use Rattle.pas_plans.proofs.NameLimits.{below_all}
+use Rattle.pas_plans.proofs.Nothing.{nothing, nothing_owed}
 use Rattle.pas_threads.specs.Sessions.{WorkerRests, ScavengerRests, TeamAt, HasRoom, owed_by}
 use Rattle.pas_threads.specs.Kits.{IsNew, AreNew, IsEquipped, AreEquipped, IsSupplied, IsKitOf}
 use Rattle.pas_threads.specs.declared.kit.SharedKit.{SharedKit}
 use Rattle.pas_threads.specs.declared.scavenger.Scavenger.{Scavenger}
 use Rattle.pas_threads.specs.declared.workers.Worker.{Worker}
 use Rattle.pas_threads.proofs.Equipping.{equipped_many}
-use Rattle.pas_threads.proofs.NamesBefore.{names_at_start}
+use Rattle.pas_acts.proofs.NamesBefore.{names_at_start}
 
 -- ---- the kit
 -- the passes of a region that was just opened are new

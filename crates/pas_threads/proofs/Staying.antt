@@ -10,14 +10,13 @@ use Rattle.pas_report.specs.declared.record.Record.{Record}
 use Rattle.pas_report.specs.declared.records.Records.{Records}
 use Rattle.pas_shared.specs.declared.region.SharedRegion.{SharedRegion}
 use Rattle.pas_answers.specs.Answers.{Named, Progress, with_records}
-use Rattle.pas_answers.specs.Calls.{Tells, AreKnown}
-use Rattle.pas_threads.specs.Shares.{OnlyAsked}
-use Rattle.pas_threads.specs.Works.{Sits}
+use Rattle.pas_answers.specs.Calls.{Tells, AreKnown, OnlyAsked}
+use Rattle.pas_acts.specs.Works.{Sits}
 use Rattle.pas_threads.specs.Hands.{standing_of_pass}
-use Rattle.pas_threads.specs.NameBooks.{NamesAt}
+use Rattle.pas_acts.specs.NameBooks.{NamesAt}
 use Rattle.pas_threads.specs.Sessions.{ScavengerRests, TeamAt, HasRoom}
 use Rattle.pas_threads.proofs.PhaseRooms.{owed_alike}
-use Rattle.pas_threads.specs.declared.names.NameBook.{NameBook}
+use Rattle.pas_acts.specs.declared.names.NameBook.{NameBook}
 use Rattle.pas_threads.specs.declared.scavenger.Scavenger.{Scavenger}
 use Rattle.pas_threads.specs.declared.phases.Team.{Team}
 use Rattle.pas_threads.proofs.Waking.{same_rests}

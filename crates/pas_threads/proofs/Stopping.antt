@@ -6,7 +6,7 @@ use Rattle.std.proofs.lemmas.Bool.{cases_eq, eqb-true, false≢true}
 use Rattle.pas_profile.specs.declared.profile.Profile.{Profile}
 use Rattle.pas_profile.specs.declared.event.Event.{Event}
 use Rattle.pas_profile.specs.declared.name.Name.{Name}
-use Rattle.pas_steps.specs.Events.{events_by}
+use Rattle.pas_steps.specs.Events.{events_by, actor_of}
 use Rattle.pas_steps.specs.Lists.{part}
 use Rattle.pas_steps.specs.Views.{View}
 use Rattle.pas_steps.specs.declared.step.Made.{Made}
@@ -26,15 +26,15 @@ use Rattle.pas_answers.specs.Answers.{having, answer_of, Progress, IsAnswered, I
 use Rattle.pas_answers.specs.Calls.{named_by, owed_events, AnswersMeant}
 use Rattle.pas_answers.specs.Ways.{EachOf, is_event_of, is_of, records_by}
 use Rattle.pas_answers.proofs.OwnRecords.{events_of_piece, spoken_piece, spoken_both, records_both, none_by, all_by}
-use Rattle.pas_replay.proofs.ActsInOrder.{number_next, number_last}
-use Rattle.pas_replay.proofs.Threads.{its_cache, other_cache}
-use Rattle.pas_threads.specs.Shares.{Reaches}
-use Rattle.pas_threads.specs.Works.{Sits}
+use Rattle.pas_plans.proofs.ActsLeft.{number_next, number_last}
+use Rattle.pas_answers.proofs.SingleActs.{its_cache, other_cache}
+use Rattle.pas_answers.specs.Reaching.{Reaches}
+use Rattle.pas_acts.specs.Works.{Sits}
 use Rattle.pas_threads.specs.Hands.{standing_of_pass}
 use Rattle.pas_threads.specs.Sessions.{WorkerRests, AreResting}
 use Rattle.pas_threads.specs.Turns.{LeavesOthers, owed_at, Spoke, WorkerSaid, Stopped, StoppedAll}
 use Rattle.pas_threads.specs.declared.workers.Worker.{Worker}
-use Rattle.pas_threads.proofs.Working.{reach_both}
+use Rattle.pas_acts.proofs.Working.{reach_both}
 use Rattle.pas_threads.proofs.Waking.{sits_at, sits_more, same_rests, same_owed}
 
 -- ---- one thread
@@ -148,12 +148,7 @@ module _ {region : SharedRegion} {f : Profile} {k later : ℕ} {worker : Worker}
 
 -- ---- records that are all of one actor
 its_event : (k : ℕ) (e : Event) → is_event_of k e ≡ true → (j : ℕ) → is_event_of j e ≡ (k == j)
-its_event k (Event.Deed i page directory) is = λ j. ap (λ (m : ℕ). m == j) (eqb-true i k is)
-its_event k (Event.Back i page) is = λ j. ap (λ (m : ℕ). m == j) (eqb-true i k is)
-its_event k (Event.Unback i page epoch) is = λ j. ap (λ (m : ℕ). m == j) (eqb-true i k is)
-its_event k (Event.Give i block) is = λ j. ap (λ (m : ℕ). m == j) (eqb-true i k is)
-its_event k (Event.End i name epoch) is = λ j. ap (λ (m : ℕ). m == j) (eqb-true i k is)
-its_event k (Event.Reject i name why) is = λ j. ap (λ (m : ℕ). m == j) (eqb-true i k is)
+its_event k e is = λ j. ap (λ (m : ℕ). m == j) (eqb-true (actor_of e) k is)
 
 its_record : (k : ℕ) (r : Record) → is_of k r ≡ true → (j : ℕ) → is_of j r ≡ (k == j)
 its_record k (Record.Event e) is = its_event k e is

@@ -1,4 +1,4 @@
--- A thread's requests are taken over, from the last to the first.
+-- The requests of all workers are taken over, one worker after the other.
 use Rattle.std.proofs.Common.{◌≡◌, ℕ, zero, suc, ◌+◌, ◌<◌, ◌==◌, ◌||◌, ◌⊎◌, inl, inr, Bool, true, false, if◌then◌else◌, List, [], ◌∷◌, map, drop, set, length, get_or, Option, Some, None, refl, ap, sym, ◌∙◌, subst, arith}
 use Rattle.std.proofs.lemmas.List.{drop_more, get_or_default, get_or-set_other}
 use Rattle.std.proofs.lemmas.Grind.{get_or-set_at}
@@ -7,27 +7,12 @@ use Rattle.pas_profile.specs.declared.name.Name.{Name}
 use Rattle.pas_trace.specs.EveryPlan.{is_asked}
 use Rattle.pas_answers.specs.Answers.{Named, standing_for}
 use Rattle.pas_answers.specs.Names.{name_in, block_named}
-use Rattle.pas_threads.specs.NameBooks.{requests_in, room_for, named_of, names_of, AreWithin, came_to, known_in}
-use Rattle.pas_threads.specs.declared.names.Request.{Request}
-use Rattle.pas_threads.specs.declared.names.NameBook.{NameBook}
-use Rattle.pas_threads.specs.declared.names.Requests.{Requests}
+use Rattle.pas_acts.specs.NameBooks.{requests_in, room_for, named_of, names_of, AreWithin, came_to, known_in}
+use Rattle.pas_acts.specs.declared.names.Request.{Request}
+use Rattle.pas_acts.specs.declared.names.NameBook.{NameBook}
+use Rattle.pas_acts.specs.declared.names.Requests.{Requests}
 use Rattle.pas_threads.specs.declared.workers.Worker.{Worker}
 use Rattle.pas_threads.specs.Taken.{HasRequest, IsEmptied}
-
-pub within_at : (limit : ℕ) (items : List Request) (i : ℕ) (d : Request) → AreWithin limit (names_of (map named_of items)) → i < length items → (get_or items i d).name < limit
-within_at limit [] i d within lt = absurd (let bad : i < 0 = lt in omega (arith, bad))
-within_at limit (r ∷ items) zero d within lt = within.0
-within_at limit (r ∷ items) (suc i) d within lt = within_at limit items i d within.1 (omega (arith, lt))
-
-take_one : (t : Bool) (block old base : Option Name) (o : Option (Option Name)) → old ≡ came_to o base → (if t then block else old) ≡ came_to (if t then Some block else o) base
-take_one true block old base o is = refl
-take_one false block old base o is = is
-
-pub took_one : (items : List Request) (i n : ℕ) (r : Request) (old new base : Option Name) → i < length items → r ≡ get_or items i r → old ≡ came_to (standing_for (map named_of (drop (i + 1) items)) n) base
-    → new ≡ (if r.name == n then name_in r.meaning else old) → new ≡ came_to (standing_for (map named_of (drop i items)) n) base
-took_one items i n r old new base lt is was sets =
-    sets ∙ take_one (r.name == n) (name_in r.meaning) old base (standing_for (map named_of (drop (i + 1) items)) n) was
-    ∙ ap (λ (x : Request). came_to (standing_for (map named_of (x ∷ drop (i + 1) items)) n) base) is ∙ ap (λ (xs : List Request). came_to (standing_for (map named_of xs) n) base) (sym (drop_more items i r lt))
 
 -- ---- all workers, one after the other
 -- a request of these has the name, and what it came to is the same whatever else is said; or none has it

@@ -26,16 +26,16 @@ use Rattle.pas_shared.specs.declared.pass.SharedPass.{SharedPass}
 use Rattle.pas_answers.specs.Acts.{Act, Wakes, numbers_from}
 use Rattle.pas_answers.specs.Answers.{Progress, begun, epoch_look, after_wake}
 use Rattle.pas_answers.specs.Calls.{owed_events}
-use Rattle.pas_replay.specs.Sessions.{awake_in}
-use Rattle.pas_replay.proofs.ActsInOrder.{acts_there, next_chosen, next_passed, none_left}
-use Rattle.pas_replay.proofs.Threads.{its_cache, other_cache}
-use Rattle.pas_threads.specs.Shares.{Reaches}
-use Rattle.pas_threads.specs.Works.{Sits}
+use Rattle.pas_plans.specs.Awake.{awake_in}
+use Rattle.pas_plans.proofs.ActsLeft.{acts_there, next_chosen, next_passed, none_left}
+use Rattle.pas_answers.proofs.SingleActs.{its_cache, other_cache}
+use Rattle.pas_answers.specs.Reaching.{Reaches}
+use Rattle.pas_acts.specs.Works.{Sits}
 use Rattle.pas_threads.specs.Hands.{standing_of_pass, HasPass}
 use Rattle.pas_threads.specs.Sessions.{WorkerRests, AreResting}
 use Rattle.pas_threads.specs.Turns.{LeavesOthers, owed_at, Woke, WokeAll}
 use Rattle.pas_threads.specs.declared.workers.Worker.{Worker}
-use Rattle.pas_threads.proofs.Working.{reach_both}
+use Rattle.pas_acts.proofs.Working.{reach_both}
 
 -- ---- a worker at rest
 -- its pass is the one that it sits with

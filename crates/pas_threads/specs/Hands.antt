@@ -7,12 +7,11 @@ use Rattle.pas_cache.specs.Caches.{cached}
 use Rattle.pas_shared.specs.Passes.{seat_of, view_of, IsPassOf}
 use Rattle.pas_shared.specs.declared.region.SharedRegion.{SharedRegion}
 use Rattle.pas_shared.specs.declared.pass.SharedPass.{SharedPass}
-use Rattle.pas_answers.specs.Acts.{Act}
+use Rattle.pas_answers.specs.Acts.{Act, own_acts}
 use Rattle.pas_answers.specs.Answers.{Progress}
-use Rattle.pas_threads.specs.Shares.{own_acts}
-use Rattle.pas_threads.specs.NameBooks.{table}
-use Rattle.pas_threads.specs.Works.{Keeps, keeps, Later, ThreadAt, Works}
-use Rattle.pas_threads.specs.declared.names.NameBook.{NameBook}
+use Rattle.pas_acts.specs.NameBooks.{table}
+use Rattle.pas_acts.specs.Works.{Keeps, keeps, Later, ThreadAt, Works}
+use Rattle.pas_acts.specs.declared.names.NameBook.{NameBook}
 use Rattle.pas_threads.specs.declared.workers.Worker.{Worker}
 
 -- a pass stands for the view of its actor, and for no other, beside any list

@@ -12,9 +12,9 @@ use Rattle.pas_shared.specs.declared.pass.SharedPass.{SharedPass}
 use Rattle.pas_answers.specs.Fit.{AllBelow}
 use Rattle.pas_answers.specs.Names.{block_named, names_held}
 use Rattle.pas_answers.specs.Replays.{phases_of, empty_cache}
-use Rattle.pas_threads.specs.NameBooks.{requests_in, room_for}
+use Rattle.pas_acts.specs.NameBooks.{requests_in, room_for}
 use Rattle.pas_threads.specs.Sessions.{HasPlaces}
-use Rattle.pas_threads.specs.declared.names.NameBook.{NameBook}
+use Rattle.pas_acts.specs.declared.names.NameBook.{NameBook}
 use Rattle.pas_threads.specs.declared.workers.Worker.{Worker}
 use Rattle.pas_threads.specs.declared.scavenger.Scavenger.{Scavenger}
 use Rattle.pas_threads.specs.declared.phases.Team.{Team}

@@ -9,10 +9,10 @@ use Rattle.pas_shared.specs.declared.region.SharedRegion.{SharedRegion}
 use Rattle.pas_answers.specs.Acts.{Act}
 use Rattle.pas_answers.specs.Answers.{Progress}
 use Rattle.pas_answers.specs.Ways.{records_by}
-use Rattle.pas_threads.specs.Shares.{Reaches}
-use Rattle.pas_threads.specs.Works.{Later}
+use Rattle.pas_answers.specs.Reaching.{Reaches}
+use Rattle.pas_acts.specs.Works.{Later}
 use Rattle.pas_threads.specs.Hands.{WorkerAt}
-use Rattle.pas_threads.specs.declared.names.NameBook.{NameBook}
+use Rattle.pas_acts.specs.declared.names.NameBook.{NameBook}
 use Rattle.pas_threads.specs.declared.workers.Worker.{Worker}
 
 -- these are numbers of threads, and each comes once

@@ -1,8 +1,4 @@
-pub mod Shares
-pub mod NameBooks
 pub mod Taken
-pub mod Works
-pub mod Scavenges
 pub mod Hands
 pub mod Lent
 pub mod Crews

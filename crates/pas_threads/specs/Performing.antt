@@ -7,17 +7,18 @@ use Rattle.pas_report.specs.Rooms.{records_in, room_of}
 use Rattle.pas_report.specs.declared.record.Record.{Record}
 use Rattle.pas_utility.specs.Outcomes.{places_of}
 use Rattle.pas_shared.specs.declared.region.SharedRegion.{SharedRegion}
-use Rattle.pas_answers.specs.Acts.{acts_of_ops, idle_threads}
+use Rattle.pas_answers.specs.Acts.{acts_of_ops, idle_threads, own_acts, scavenger_acts}
 use Rattle.pas_answers.specs.Answers.{Named, Progress}
 use Rattle.pas_answers.specs.Ways.{records_by}
-use Rattle.pas_threads.specs.Shares.{AreAmong, Reaches, owner_in, acts_by, own_acts, scavenger_acts}
-use Rattle.pas_threads.specs.NameBooks.{requests_in, room_for, names_of, names_asked}
+use Rattle.pas_shares.specs.Shares.{AreAmong, owner_in, acts_by}
+use Rattle.pas_answers.specs.Reaching.{Reaches}
+use Rattle.pas_acts.specs.NameBooks.{requests_in, room_for, names_of, names_asked}
 use Rattle.pas_threads.specs.Taken.{HandsOver}
-use Rattle.pas_threads.specs.Works.{Later}
-use Rattle.pas_threads.specs.Scavenges.{ScavengerAt}
+use Rattle.pas_acts.specs.Works.{Later}
+use Rattle.pas_acts.specs.Scavenges.{ScavengerAt}
 use Rattle.pas_threads.specs.Hands.{standing_of_pass, HasPass, WorkerAt}
 use Rattle.pas_threads.specs.Sessions.{HasPlaces}
-use Rattle.pas_threads.specs.declared.names.NameBook.{NameBook}
+use Rattle.pas_acts.specs.declared.names.NameBook.{NameBook}
 use Rattle.pas_threads.specs.declared.workers.Worker.{Worker}
 use Rattle.pas_threads.specs.declared.scavenger.Scavenger.{Scavenger}
 use Rattle.pas_threads.specs.declared.phases.Team.{Team}

@@ -5,14 +5,13 @@ use Rattle.pas_trace.specs.EveryPlan.{AreSound}
 use Rattle.pas_trace.specs.declared.plan.Op.{Op}
 use Rattle.pas_utility.specs.Outcomes.{places_of}
 use Rattle.pas_shared.specs.declared.region.SharedRegion.{SharedRegion}
-use Rattle.pas_answers.specs.Acts.{Act}
+use Rattle.pas_answers.specs.Acts.{Act, scavenger_acts}
 use Rattle.pas_answers.specs.Answers.{Progress}
-use Rattle.pas_threads.specs.Shares.{scavenger_acts}
-use Rattle.pas_threads.specs.Works.{Later}
+use Rattle.pas_acts.specs.Works.{Later}
 use Rattle.pas_threads.specs.Hands.{standing_of_pass, HasPass, Did}
 use Rattle.pas_threads.specs.Lent.{AreDistinct}
 use Rattle.pas_threads.specs.Crews.{Crew, crew, CrewAt, CrewDid}
-use Rattle.pas_threads.specs.declared.names.NameBook.{NameBook}
+use Rattle.pas_acts.specs.declared.names.NameBook.{NameBook}
 use Rattle.pas_threads.specs.declared.scavenger.Scavenger.{Scavenger}
 
 -- what it works with beside its pass

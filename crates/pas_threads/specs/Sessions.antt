@@ -16,11 +16,11 @@ use Rattle.pas_answers.specs.Replays.{at_start}
 use Rattle.pas_answers.specs.Answers.{Progress, Follows}
 use Rattle.pas_answers.specs.Calls.{owed_events}
 use Rattle.pas_answers.specs.Ways.{OnThreads, arranged, by_actors, AreSpoken}
-use Rattle.pas_threads.specs.Shares.{Reaches}
-use Rattle.pas_threads.specs.Works.{Sits}
-use Rattle.pas_threads.specs.Scavenges.{ScavengerAt}
+use Rattle.pas_answers.specs.Reaching.{Reaches}
+use Rattle.pas_acts.specs.Works.{Sits}
+use Rattle.pas_acts.specs.Scavenges.{ScavengerAt}
 use Rattle.pas_threads.specs.Hands.{standing_of_pass, HasPass}
-use Rattle.pas_threads.specs.NameBooks.{NamesAt, requests_in, room_for}
+use Rattle.pas_acts.specs.NameBooks.{NamesAt, requests_in, room_for}
 use Rattle.pas_threads.specs.declared.workers.Worker.{Worker}
 use Rattle.pas_threads.specs.declared.scavenger.Scavenger.{Scavenger}
 use Rattle.pas_threads.specs.declared.phases.Team.{Team}

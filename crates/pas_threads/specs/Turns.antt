@@ -12,9 +12,9 @@ use Rattle.pas_answers.specs.Acts.{Wakes, Ends, numbers_from}
 use Rattle.pas_answers.specs.Answers.{Progress, after_wake}
 use Rattle.pas_answers.specs.Calls.{owed_events}
 use Rattle.pas_answers.specs.Ways.{AreSpoken, records_by}
-use Rattle.pas_replay.specs.Sessions.{awake_in}
-use Rattle.pas_threads.specs.Shares.{Reaches}
-use Rattle.pas_threads.specs.Works.{Sits}
+use Rattle.pas_plans.specs.Awake.{awake_in}
+use Rattle.pas_answers.specs.Reaching.{Reaches}
+use Rattle.pas_acts.specs.Works.{Sits}
 use Rattle.pas_threads.specs.Hands.{standing_of_pass, HasPass}
 use Rattle.pas_threads.specs.Sessions.{WorkerRests, AreResting}
 use Rattle.pas_threads.specs.declared.workers.Worker.{Worker}

@@ -5,7 +5,7 @@ ghost use Rattle.pas_answers.specs.Names.{block_named};
 ghost use Rattle.pas_shared.specs.Passes.{profile_of_opening};
 
 use crate::estimate::Estimate;
-use crate::names::{NameBook, Requests};
+use pas_acts::names::{NameBook, Requests};
 use pas_profile::{EventRoom, NoMemory, Profile};
 use pas_report::Records;
 use pas_shared::Opening;

@@ -3,18 +3,17 @@ ghost use Rattle.std.specs.Prelude.{◌≡◌, ◌<◌, ◌^◌, ◌++◌, ℕ, 
 ghost use Rattle.pas_profile.specs.declared.profile.Profile.{Profile as TheProfile};
 ghost use Rattle.pas_utility.specs.Outcomes.{places_of};
 ghost use Rattle.pas_trace.specs.EveryPlan.{AreSound};
-ghost use Rattle.pas_answers.specs.Acts.{Act, acts_of_op};
+ghost use Rattle.pas_answers.specs.Acts.{Act, acts_of_op, scavenger_acts};
 ghost use Rattle.pas_answers.specs.Answers.{Progress};
-ghost use Rattle.pas_threads.specs.declared.names.NameBook.{NameBook as TheBook};
-ghost use Rattle.pas_threads.specs.Works.{Later};
+ghost use Rattle.pas_acts.specs.declared.names.NameBook.{NameBook as TheBook};
+ghost use Rattle.pas_acts.specs.Works.{Later};
 ghost use Rattle.pas_threads.specs.Lent.{AreDistinct};
-ghost use Rattle.pas_threads.specs.Shares.{scavenger_acts};
 ghost use Rattle.pas_threads.specs.Crews.{crew, CrewAt, CrewDid, IsScavengers};
 
-use crate::gate::Gate;
 use crate::lending::stop_idle;
-use crate::scavenging::{SCAVENGER, pass, read_epoch, tick};
 use crate::workers::Worker;
+use pas_acts::gate::Gate;
+use pas_acts::scavenging::{SCAVENGER, pass, read_epoch, tick};
 use pas_report::Records;
 use pas_shared::SharedRegion;
 use pas_steps::Desk;

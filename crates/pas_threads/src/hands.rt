@@ -8,10 +8,10 @@ ghost use Rattle.pas_threads.specs.declared.scavenger.Scavenger.{Scavenger as Th
 ghost use Rattle.pas_threads.specs.declared.hands.Hand.{Hand as AnyHand};
 ghost use Rattle.pas_threads.specs.declared.hands.Hand.TheVariants as TheHand;
 
-use crate::gate::Gate;
-use crate::names::NameBook;
 use crate::scavenger::{Scavenger, keep_up};
 use crate::workers::{Worker, perform};
+use pas_acts::gate::Gate;
+use pas_acts::names::NameBook;
 use pas_shared::SharedRegion;
 use pas_trace::Op;
 use std::sync::Wait;

@@ -4,8 +4,8 @@ ghost use Rattle.pas_profile.specs.declared.profile.Profile.{Profile as TheProfi
 ghost use Rattle.pas_report.specs.Rooms.{records_in, room_of};
 ghost use Rattle.pas_answers.specs.Acts.{idle_stops};
 ghost use Rattle.pas_answers.specs.Answers.{Progress};
-ghost use Rattle.pas_threads.specs.declared.names.NameBook.{NameBook as TheBook};
-ghost use Rattle.pas_threads.specs.Works.{Later};
+ghost use Rattle.pas_acts.specs.declared.names.NameBook.{NameBook as TheBook};
+ghost use Rattle.pas_acts.specs.Works.{Later};
 ghost use Rattle.pas_threads.specs.Lent.{AreDistinct, AreLent, DidWithLent};
 
 use crate::workers::{Worker, stop_lent};

@@ -3,8 +3,8 @@ ghost use Rattle.std.specs.Prelude.{◌<◌, ◌^◌, length};
 ghost use Rattle.pas_threads.specs.Scavengers.{MayScavenge, DidScavenge};
 
 use crate::crew::scavenge;
-use crate::gate::Gate;
 use crate::workers::Worker;
+use pas_acts::gate::Gate;
 use pas_report::Records;
 use pas_shared::{SharedPass, SharedRegion};
 use pas_trace::Op;

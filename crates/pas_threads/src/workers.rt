@@ -1,19 +1,19 @@
 //! The workers of the threads at a shared region.
-ghost use Rattle.std.specs.Prelude.{◌≡◌, ◌<◌, ◌^◌, ◌≤◌, ℕ, List, [], All, length, get_or};
+ghost use Rattle.std.specs.Prelude.{◌≡◌, ◌<◌, ◌^◌, ℕ, [], All, length, get_or};
 ghost use Rattle.pas_profile.specs.declared.profile.Profile.{Profile as TheProfile};
 ghost use Rattle.pas_answers.specs.Answers.{Progress};
 ghost use Rattle.pas_report.specs.Rooms.{records_in, room_of};
-ghost use Rattle.pas_threads.specs.declared.names.NameBook.{NameBook as TheBook};
-ghost use Rattle.pas_threads.specs.Works.{Later};
+ghost use Rattle.pas_acts.specs.declared.names.NameBook.{NameBook as TheBook};
+ghost use Rattle.pas_acts.specs.Works.{Later};
 ghost use Rattle.pas_threads.specs.Hands.{WorkerAt, Did, kept_by, MayDoPhase, DidPhase};
 ghost use Rattle.pas_answers.specs.Names.{names_held};
 ghost use Rattle.pas_threads.specs.Taken.{HasTaken, IsWithin, IsEmptied};
-ghost use Rattle.pas_threads.specs.Scavenges.{StopsThread};
+ghost use Rattle.pas_acts.specs.Scavenges.{StopsThread};
 
-use crate::gate::Gate;
-use crate::names::{NameBook, Requests};
-use crate::own::work;
-use crate::scavenging::stop_if_idle;
+use pas_acts::gate::Gate;
+use pas_acts::names::{NameBook, Requests};
+use pas_acts::own::work;
+use pas_acts::scavenging::stop_if_idle;
 use pas_cache::ThreadCache;
 use pas_report::Records;
 use pas_shared::{SharedPass, SharedRegion};

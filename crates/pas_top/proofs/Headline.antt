@@ -18,14 +18,15 @@ use Rattle.pas_report.proofs.Agreeing.{line_agrees}
 use Rattle.pas_report.proofs.ReportOfWords.{are_deed_words, nobody_holds, report_agrees}
 use Rattle.pas_answers.specs.Replays.{Shows}
 use Rattle.pas_answers.specs.Ways.{Way}
-use Rattle.pas_replay.proofs.PlanFacts.{plan_valid}
+use Rattle.pas_plans.proofs.PlanFacts.{plan_valid}
 use Rattle.pas_answers.proofs.Consequences.{can_be_shown}
 use Rattle.pas_words.specs.declared.manner.Manner.{Manner}
 use Rattle.pas_top.specs.Manners.{way_of}
-use Rattle.pas_top.specs.Outcomes.{IsOutcome, IsShown, IsWritable, outcome_status, outcome_text, shown_text}
+use Rattle.pas_top.specs.Outcomes.{IsOutcome}
+use Rattle.pas_telling.specs.Outcomes.{IsShown, IsWritable, outcome_status, outcome_text, shown_text}
 use Rattle.pas_top.specs.Outputs.{most_bytes, too_long_text, ComesTo, IsReplaying, IsOutput, IsReplayed}
-use Rattle.pas_top.specs.declared.outcome.Outcome.{Outcome}
-use Rattle.pas_top.specs.declared.outcome.Outcome.TheVariants.{Replayed, Faulty}
+use Rattle.pas_telling.specs.declared.outcome.Outcome.{Outcome}
+use Rattle.pas_telling.specs.declared.outcome.Outcome.TheVariants.{Replayed, Faulty}
 
 -- ---- the state after a replay is a region at rest
 module _ {bytes : List ℕ} {way : Way} {plan : Plan} {records : List Record} {state : State} (read : IsPlanOf bytes plan) (shows : Shows way plan records state) where
@@ -65,19 +66,19 @@ module _ {bytes : List ℕ} {way : Way} {plan : Plan} {records : List Record} {s
 
 -- ---- what an input comes to
 pub can_write : (way : Way) (bytes : List ℕ) (outcome : Outcome) → IsOutcome way bytes outcome → IsWritable outcome
-can_write way bytes (Replayed records ending) replay = can_show replay.read replay.shows
+can_write way bytes (Replayed records state) replay = can_show replay.read replay.shows
 can_write way bytes (Faulty fault) first = tt
 
 pub comes_to : (way : Way) (bytes : List ℕ) (outcome : Outcome) → length bytes ≤ most_bytes → IsOutcome way bytes outcome → ComesTo way bytes (outcome_status outcome) (outcome_text outcome)
-comes_to way bytes (Replayed records ending) short replay = inl (refl, record { short = short; replayed = shown_replayed replay.read replay.shows })
+comes_to way bytes (Replayed records state) short replay = inl (refl, record { short = short; replayed = shown_replayed replay.read replay.shows })
 comes_to way bytes (Faulty fault) short first = inr (inl (refl, record { short = short; fault = fault; first = first; text_is = refl }))
 
 pub status_not_four : (outcome : Outcome) → outcome_status outcome ≡ 4 → ⊥
-status_not_four (Replayed records ending) four = omega (arith, four)
+status_not_four (Replayed records state) four = omega (arith, four)
 status_not_four (Faulty fault) four = omega (arith, four)
 
 pub status_not_two : (outcome : Outcome) → outcome_status outcome ≡ 2 → ⊥
-status_not_two (Replayed records ending) two = omega (arith, two)
+status_not_two (Replayed records state) two = omega (arith, two)
 status_not_two (Faulty fault) two = omega (arith, two)
 
 -- the output of a call whose input was read whole

@@ -6,7 +6,7 @@ use Rattle.pas_generate.specs.Traces.{trace_text}
 use Rattle.pas_report.specs.Counts.{totals_by_words}
 use Rattle.pas_report.specs.declared.record.Record.{Record}
 use Rattle.pas_io.specs.Told.{Rose}
-use Rattle.pas_top.specs.Summaries.{line_text, summary_text}
+use Rattle.pas_telling.specs.Summaries.{line_text, summary_text}
 use Rattle.pas_top.specs.Generating.{IsSummarized}
 use Rattle.pas_top.specs.Generated.{Generates}
 use Rattle.pas_top.specs.Outcomes.{IsShowing}
@@ -14,13 +14,6 @@ use Rattle.pas_answers.specs.Ways.{InOrder}
 use Rattle.pas_top.specs.Outputs.{GenComesTo, IsGen, IsCutOff}
 use Rattle.pas_top.proofs.Headline.{totals_are}
 use Rattle.pas_top.proofs.Statuses.{cut_off}
-
--- ---- lines that were added one after the other
-pub one_more : (b b' l r x : List ℕ) → b' ≡ b ++ l → x ≡ b' ++ r → x ≡ b ++ (l ++ r)
-one_more b b' l r x e h = h ∙ (ap (λ (s : List ℕ). s ++ r) e ∙ append_assoc b l r)
-
-pub counted : (b b' words r x : List ℕ) (n m : ℕ) → b' ≡ b ++ line_text words n → n ≡ m → x ≡ b' ++ r → x ≡ b ++ (line_text words m ++ r)
-counted b b' words r x n m e same h = one_more b b' (line_text words m) r x (e ∙ ap (λ k. b ++ line_text words k) same) h
 
 -- ---- the summary
 pub summarized : (seed ops threads pages : ℕ) (bytes : List ℕ) (records : List Record) (state : State) (text : List ℕ) → IsShowing InOrder bytes records state → bytes ≡ trace_text seed ops threads pages

@@ -1,6 +1,4 @@
-pub mod Faults
 pub mod Manners
-pub mod Summaries
 pub mod Generating
 pub mod Outputs
 pub mod Generated

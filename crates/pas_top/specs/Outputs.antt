@@ -12,7 +12,7 @@ use Rattle.pas_answers.specs.Replays.{IsReplay}
 use Rattle.pas_answers.specs.Ways.{Way}
 use Rattle.pas_io.specs.Inputs.{Takes}
 use Rattle.pas_io.specs.Told.{Rose, Writes, WritesFront}
-use Rattle.pas_top.specs.Faults.{fault_text}
+use Rattle.pas_telling.specs.Faults.{fault_text}
 use Rattle.pas_top.specs.Generating.{IsSummarized}
 use Rattle.pas_top.specs.Manners.{way_of}
 use Rattle.pas_words.specs.declared.manner.Manner.{Manner}

@@ -1,16 +1,14 @@
 //! The replay of a generated trace, and its summary.
-ghost use Rattle.std.specs.Prelude.{ℕ, ◌≡◌, ◌⊎◌};
-ghost use Rattle.pas_io.specs.Told.{Tells};
+ghost use Rattle.std.specs.Prelude.{◌≡◌};
 ghost use Rattle.pas_top.specs.Generated.{Generates};
 
-use crate::outcome::{Outcome, outcome_of};
-use crate::summary::summary_of;
-use crate::telling::tell;
+use crate::outcome::outcome_in_order;
 use pas_generate::trace_of;
 use pas_generated::laws::generated_texts_are_read;
 use pas_io::Sink;
 use pas_profile::NoMemory;
-use pas_words::{Job, Manner};
+use pas_telling::{Outcome, summary_of, tell};
+use pas_words::Job;
 use std::alloc::Global;
 use std::sync::Wait;
 use std::thread::Threads;
@@ -30,9 +28,9 @@ pub(crate) fn generate<R: Threads + Wait + Sync, K: Sink>(
         return 5;
     };
     generated_texts_are_read();
-    match outcome_of(rt, alloc, Manner::InOrder, text) {
-        Ok(Outcome::Replayed(records, ending)) => {
-            let summary = summary_of(job.ops, records.as_slice(), &ending.state);
+    match outcome_in_order(rt, alloc, text) {
+        Ok(Outcome::Replayed(records, state)) => {
+            let summary = summary_of(job.ops, records.as_slice(), &state);
             tell(sink, summary.as_str(), 0)
         }
         Ok(Outcome::Faulty(_)) => unreachable!(),

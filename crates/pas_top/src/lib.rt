@@ -5,9 +5,6 @@ mod generating;
 pub mod main_call;
 mod opening;
 mod outcome;
-mod settling;
-mod summary;
-mod telling;
 
 pub use main_call::pas_main;
 pub use pas_words::manner;

@@ -1,5 +1,5 @@
 //! The call that the program makes.
-ghost use Rattle.std.specs.Prelude.{◌≡◌, ◌+◌, ◌<◌, ◌≤◌, ◌⊎◌, ◌↔◌, ℕ, List, Some, Ok, Err, IsTrue, length};
+ghost use Rattle.std.specs.Prelude.{◌≡◌, ◌+◌, ◌<◌, ◌≤◌, ◌⊎◌, ℕ, List, Some, Ok, Err, length};
 ghost use Rattle.pas_io.specs.Inputs.{Takes};
 ghost use Rattle.pas_io.specs.Told.{Rose};
 ghost use Rattle.pas_trace.specs.Plans.{IsPlanOf, parsed};
@@ -9,11 +9,11 @@ ghost use Rattle.pas_words.specs.declared.manner.Manner.{Manner};
 ghost use Rattle.pas_top.specs.Outputs.{most_bytes, texts_of, IsReplaying, IsGen, IsAccepted, IsStatus, IsWriting, IsWritten, HasFailed, IsCutOff};
 
 use crate::generating::generate;
-use crate::outcome::outcome_of;
-use crate::telling::{tell, tell_outcome};
+use crate::outcome::{outcome_of, tell_outcome};
 use crate::{MOST_BYTES, TOO_LONG, USAGE};
 use pas_io::whole::{Input, Stop, read_all};
 use pas_io::{Sink, Source};
+use pas_telling::tell;
 use pas_words::{Call, Misread, call_of};
 use std::alloc::Global;
 use std::sync::Wait;
@@ -75,7 +75,7 @@ pub fn pas_main<R: Threads + Wait + Sync, S: Source, K: Sink>(
         Err(Stop::Memory) => return 5,
     };
     match outcome_of(rt, alloc, manner, bytes) {
-        Ok(outcome) => tell_outcome(rt, alloc, manner, sink, outcome),
+        Ok((outcome, spent)) => tell_outcome(rt, alloc, manner, sink, outcome, spent),
         Err(_) => 5,
     }
 }

@@ -3,30 +3,25 @@ ghost use Rattle.std.specs.Prelude.{◌≡◌, ◌≤◌, ◌+◌, ℕ, List, []
 ghost use Rattle.pas_trace.specs.Plans.{IsPlanOf};
 ghost use Rattle.pas_report.specs.Rooms.{records_in, room_of};
 ghost use Rattle.pas_answers.specs.Replays.{phases_of, Shows};
-ghost use Rattle.pas_answers.specs.Ways.{OnThreads};
+ghost use Rattle.pas_answers.specs.Ways.{InOrder, OnThreads};
+ghost use Rattle.pas_io.specs.Told.{Tells};
+ghost use Rattle.pas_telling.specs.Outcomes.{IsWritable, outcome_text, outcome_status};
 ghost use Rattle.pas_top.specs.Manners.{way_of};
 ghost use Rattle.pas_top.specs.Outcomes.{IsOutcome};
 
 use crate::opening::{kit_of, read_for};
+use pas_io::Sink;
 use pas_profile::NoMemory;
 use pas_replay::{PlainKit, by_one_thread, in_order, is_of_one_thread, records_for};
 use pas_report::Records;
 use pas_steps::State;
+use pas_telling::Outcome;
 use pas_threads::{Ahead, OpenGate, Rooms, on_threads_with_rooms};
-use pas_trace::{Plan, ReadFault, TraceFault};
+use pas_trace::{Plan, ReadFault};
 use pas_words::Manner;
 use std::alloc::Global;
 use std::sync::Wait;
 use std::thread::Threads;
-
-/// What a replay leaves beside its records.
-#[derive(Drop)]
-pub(crate) struct Ending {
-    /// The region's state.
-    pub(crate) state: State,
-    /// What nobody needs any more.
-    pub(crate) spent: Spent,
-}
 
 /// The plan of a replay that is over, and the rooms of its threads, where it was on threads. On threads they are let go while the lines are written.
 #[derive(Drop)]
@@ -35,31 +30,22 @@ pub(crate) struct Spent {
     _rooms: Option<Rooms>,
 }
 
-/// What an input comes to.
-#[derive(Drop)]
-pub(crate) enum Outcome {
-    /// A trace that was replayed: the records of its replay, and what else it left.
-    Replayed(Records, Ending),
-    /// No trace: its first fault.
-    Faulty(TraceFault),
-}
-
 /// Reads the bytes, lets them go, and replays the trace that they are in this manner. On threads what the replay needs is made while the
-/// bytes are read. NoMemory comes before the replay begins, or not at all.
+/// bytes are read. What the replay leaves comes beside its outcome. NoMemory comes before the replay begins, or not at all.
 pub(crate) fn outcome_of<R: Threads + Wait + Sync>(
     rt: &R,
     alloc: Global,
     manner: Manner,
     bytes: Vec<u8>,
-) -> Result<Outcome, NoMemory>
+) -> Result<(Outcome, Option<Spent>), NoMemory>
     requires { length bytes.items ≤ 16777216 }
-    ensures { IfOk result (IsOutcome (way_of manner) bytes.items) }
+    ensures { IfOk result (λ told. IsOutcome (way_of manner) bytes.items told.0) }
 {
     let (read, ahead) = read_for(rt, alloc, manner, &bytes);
     drop(bytes);
     let plan = match read {
         Ok(plan) => plan,
-        Err(ReadFault::Trace(fault)) => return Ok(Outcome::Faulty(fault)),
+        Err(ReadFault::Trace(fault)) => return Ok((Outcome::Faulty(fault), None)),
         Err(ReadFault::NoMemory) => return Err(NoMemory),
     };
     let mut records = records_for(alloc, &plan)?;
@@ -68,7 +54,40 @@ pub(crate) fn outcome_of<R: Threads + Wait + Sync>(
         _plan: plan,
         _rooms: rooms,
     };
-    Ok(Outcome::Replayed(records, Ending { state, spent }))
+    Ok((Outcome::Replayed(records, state), Some(spent)))
+}
+
+/// What the bytes come to in the order of their text, as `outcome_of` says it. What the replay leaves beside it is let go.
+pub(crate) fn outcome_in_order<R: Threads + Wait + Sync>(
+    rt: &R,
+    alloc: Global,
+    bytes: Vec<u8>,
+) -> Result<Outcome, NoMemory>
+    requires { length bytes.items ≤ 16777216 }
+    ensures { IfOk result (IsOutcome InOrder bytes.items) }
+{
+    match outcome_of(rt, alloc, Manner::InOrder, bytes) {
+        Ok((outcome, spent)) => {
+            drop(spent);
+            Ok(outcome)
+        }
+        Err(NoMemory) => Err(NoMemory),
+    }
+}
+
+/// Writes what an input comes to, as `pas_telling` does. What its replay left is let go meanwhile.
+pub(crate) fn tell_outcome<R: Threads + Sync, K: Sink>(
+    rt: &R,
+    alloc: Global,
+    manner: Manner,
+    sink: &mut K,
+    outcome: Outcome,
+    spent: Option<Spent>,
+) -> u8
+    requires { IsWritable outcome }
+    ensures { Tells (K.held sink.old) (K.held sink.new) (K.faults sink.old) (K.faults sink.new) (outcome_text outcome) (outcome_status outcome) result }
+{
+    pas_telling::tell_outcome(rt, alloc, manner, sink, outcome, spent)
 }
 
 /// Replays the plan on threads, with what was made ahead for it, if that was. A plan of one thread has nothing that could be at once, and is

@@ -37,7 +37,7 @@ module _ (r : Reader) (items : List Item) (i : Item) (tells : Tells r items) (pa
 pub record IsSmall (q : Request) : Type 0 where
   pub name : q.name ≤ 1000000
   pub heap : q.heap < 32
-  pub size : q.size ≤ 16777216
+  pub size : q.size ≤ 67108864
   pub align : q.align ≤ 4096
 
 pub small_request : (r : Reader) (items : List Item) (i : Item) (t : ℕ) (q : Request) → Tells r items → reason_of r.header items i ≡ None → IsRanged i → i ≡ Allocates t q → IsSmall q
@@ -45,7 +45,7 @@ small_request r items i t q tells passed ranged is =
     let held = passes r.header items (Allocates t q) (subst (λ (j : Item). reason_of r.header items j ≡ None) is passed) in
     let header = tells.header in
     let heaps : r.header.heaps ≤ 32 = header.heaps in
-    let pages : r.header.pages ≤ 4096 = header.pages in
+    let pages : r.header.pages ≤ 16384 = header.pages in
     let heap : q.heap < r.header.heaps = ltb-true _ _ held.1.0 in
     let size : q.size ≤ 4096 * r.header.pages = leb-true _ _ held.1.1.0 in
     let align = aligns q.align held.1.1.1.0 in

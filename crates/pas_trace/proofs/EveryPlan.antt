@@ -46,6 +46,7 @@ every_plan {text} {plan} is =
       valid = subst IsValid (sym is.profile) (record {
         some_page = valid.some_page;
         pages = valid.pages;
+        classes = valid.classes;
         some_thread = valid.some_thread;
         threads = valid.threads;
         some_age = valid.some_age;

@@ -1,7 +1,7 @@
 -- A header has ten words, and its numbers are within the limits.
 use Rattle.std.proofs.Common.{◌≡◌, ℕ, ◌<◌, ◌≤◌, ◌&&◌, nat_le, Bool, true, false, if◌then◌else◌, List, [], ◌∷◌, length, Option, None, Some, refl, sym, subst, arith}
 use Rattle.std.specs.Prelude.{codes, IfSome}
-use Rattle.std.proofs.lemmas.Bool.{leb-true, and_parts}
+use Rattle.std.proofs.lemmas.Bool.{leb-true, le-leb, and_parts}
 use Rattle.pas_profile.specs.Profiles.{IsValid}
 use Rattle.pas_profile.specs.declared.profile.Profile.{Profile}
 use Rattle.pas_trace.specs.Texts.{words_of}
@@ -50,8 +50,8 @@ numbers_valid (Some p) (Some t) None a f ps ts hs es e = absurd (cc)
 numbers_valid (Some p) (Some t) (Some h) None f ps ts hs es e = absurd (cc)
 numbers_valid (Some p) (Some t) (Some h) (Some a) f ps ts hs es e =
     let page = ps p refl in let thread = ts t refl in let heap = hs h refl in let age = es a refl in
-    let is : record { pages = p; threads = t; age = a; heaps = h; shared = 0 } ≡ f = cc in
-    subst IsValid is (record { some_page = page.0; pages = page.1; some_thread = thread.0; threads = thread.1; some_age = age.0; age = age.1; some_heap = heap.0; heaps = heap.1 })
+    let is : record { pages = p; threads = t; age = a; heaps = h; shared = 0; classes = 16 } ≡ f = cc in
+    subst IsValid is (record { some_page = page.0; pages = let few = page.1 in omega (arith, few); classes = le-leb p 4096 page.1; some_thread = thread.0; threads = thread.1; some_age = age.0; age = age.1; some_heap = heap.0; heaps = heap.1 })
 
 no_header : {A : Type 0} (f : Profile) → None ≡ Some f → A
 no_header f bad = absurd (cc)

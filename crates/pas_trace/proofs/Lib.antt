@@ -2,7 +2,7 @@ mod Splits
 mod FrontLines
 mod Digits
 mod Gathering
-mod Costs
+pub mod Costs
 mod Checking
 mod Headers
 mod PassedChecks

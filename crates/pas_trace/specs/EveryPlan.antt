@@ -1,9 +1,8 @@
 -- What the plan of every text keeps.
 use Rattle.std.specs.Prelude.{ℕ, ◌+◌, ◌-◌, ◌*◌, ◌^◌, ◌<◌, ◌≤◌, ◌≡◌, ◌==◌, ◌||◌, Bool, true, false, if◌then◌else◌, List, [], ◌∷◌, ◌++◌, map, length, slice_index}
 use Rattle.pas_profile.specs.Profiles.{IsValid, IsAdmitted}
-use Rattle.pas_profile.specs.Routes.{route_of}
 use Rattle.pas_profile.specs.declared.profile.Profile.{Profile}
-use Rattle.pas_trace.specs.Reasons.{cost_of_route}
+use Rattle.pas_trace.specs.Reasons.{cost_of_size}
 use Rattle.pas_trace.specs.Plans.{ops_of, phases_of, bounds_of}
 use Rattle.pas_trace.specs.declared.plan.What.{What}
 use Rattle.pas_trace.specs.declared.plan.What.TheVariants.{Alloc, Free, Raw, Flush, Stop, Tick, Pass, Idle}
@@ -73,7 +72,7 @@ AreSound f asked (op ∷ ops) = IsActorOf f op.what op.actor × IsSoundWhat f as
 
 -- ---- how many records operations may make, beside a deed for each thread and page
 abbrev pub records_of_what : Profile → What → ℕ
-records_of_what f (Alloc name heap size align) = cost_of_route (route_of size align) size
+records_of_what f (Alloc name heap size align) = cost_of_size size
 records_of_what f (Free name) = 1
 records_of_what f (Raw block) = 1
 records_of_what f Flush = 0

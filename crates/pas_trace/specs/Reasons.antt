@@ -1,8 +1,6 @@
 -- The faults of a text: on each line the first reason that applies, each check asking about the lines before.
 use Rattle.std.specs.Prelude.{ℕ, ◌+◌, ◌*◌, ◌/◌, ◌%◌, ◌==◌, nat_lt, nat_le, Bool, true, false, not, ◌&&◌, ◌||◌, if◌then◌else◌, List, [], ◌∷◌, Option, None, Some, codes, Result, Ok, Err}
 use Rattle.pas_profile.specs.declared.profile.Profile.{Profile}
-use Rattle.pas_profile.specs.declared.directory.Route.{Route}
-use Rattle.pas_profile.specs.Routes.{route_of}
 use Rattle.pas_trace.specs.Texts.{words_of}
 use Rattle.pas_trace.specs.Numbers.{number_of}
 use Rattle.pas_trace.specs.declared.item.Item.{Item}
@@ -20,7 +18,7 @@ profile_with None t h a = None
 profile_with (Some p) None h a = None
 profile_with (Some p) (Some t) None a = None
 profile_with (Some p) (Some t) (Some h) None = None
-profile_with (Some p) (Some t) (Some h) (Some a) = Some record { pages = p; threads = t; age = a; heaps = h; shared = 0 }
+profile_with (Some p) (Some t) (Some h) (Some a) = Some record { pages = p; threads = t; age = a; heaps = h; shared = 0; classes = 16 }
 
 abbrev pub header_of_words : List (List ℕ) → Option Profile
 header_of_words (w1 ∷ w2 ∷ w3 ∷ p ∷ w5 ∷ t ∷ w7 ∷ h ∷ w9 ∷ a ∷ []) =
@@ -116,16 +114,15 @@ thread_of (i ∷ earlier) name = if allocates i name then actor_of i else thread
 abbrev pub pages_for : ℕ → ℕ
 pages_for size = (size + 4095) / 4096
 
-abbrev pub cost_of_route : Route → ℕ → ℕ
-cost_of_route (Route.Class c) size = 2
-cost_of_route Route.Bitfit size = 2
-cost_of_route Route.Large size = 1 + pages_for size
+-- of a request: 2 up to 2,048 bytes, which a class or a bit-fit page serves, and above that one, and one for each page
+abbrev pub cost_of_size : ℕ → ℕ
+cost_of_size size = if nat_le size 2048 then 2 else 1 + pages_for size
 
 abbrev pub cost_of : Profile → Item → ℕ
 cost_of f Blank = 0
 cost_of f (Shares h) = 0
 cost_of f NextPhase = 0
-cost_of f (Allocates t q) = cost_of_route (route_of q.size q.align) q.size
+cost_of f (Allocates t q) = cost_of_size q.size
 cost_of f (Frees t n) = 1
 cost_of f (FreesRaw t a n) = 1
 cost_of f (Flushes t) = 0

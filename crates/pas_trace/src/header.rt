@@ -10,7 +10,7 @@ use crate::lines::next_line;
 use crate::numbers::number;
 use crate::words::{is_word, next_word};
 use pas_profile::Profile;
-use pas_profile::limits::{MOST_AGE, MOST_HEAPS, MOST_PAGES, MOST_THREADS};
+use pas_profile::limits::{FEW_CLASSES, FEW_PAGES, MOST_AGE, MOST_HEAPS, MOST_THREADS};
 
 /// The first two words of a line, and the bytes after them. None where there are fewer.
 fn word_pair(line: &[u8]) -> Option<(&[u8], &[u8], &[u8])>
@@ -34,11 +34,11 @@ fn number_within(least: u64, most: u64, word: &[u8]) -> Option<u64>
 }
 
 /// The region of the numbers in a header, if each is within its limits: 1 to 4,096 pages, 1 to 16 threads, 1 to 32 heaps, and an
-/// age from 1 to 1,000,000. No heap is shared.
+/// age from 1 to 1,000,000. It has sixteen classes, and no heap is shared.
 fn header_with(pages: &[u8], threads: &[u8], heaps: &[u8], age: &[u8]) -> Option<Profile>
     ensures { result ≡ profile_with (within 1 4096 (number_of pages.now)) (within 1 16 (number_of threads.now)) (within 1 32 (number_of heaps.now)) (within 1 1000000 (number_of age.now)) }
 {
-    let pages = number_within(1, MOST_PAGES as u64, pages)?;
+    let pages = number_within(1, FEW_PAGES as u64, pages)?;
     let threads = number_within(1, MOST_THREADS as u64, threads)?;
     let heaps = number_within(1, MOST_HEAPS as u64, heaps)?;
     let age = number_within(1, MOST_AGE, age)?;
@@ -48,6 +48,7 @@ fn header_with(pages: &[u8], threads: &[u8], heaps: &[u8], age: &[u8]) -> Option
         age,
         heaps: heaps as u8,
         shared: 0,
+        classes: FEW_CLASSES,
     })
 }
 

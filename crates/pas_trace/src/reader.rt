@@ -116,7 +116,7 @@ impl Reader {
         if self.names.owner(request.name).thread != 0 {
             return Err(Reason::NameTaken);
         }
-        self.check_counts(cost_of_allocation(request.size as u32, request.align as u32))
+        self.check_counts(cost_of_allocation(request.size as u32))
     }
 
     /// The checks of a free by trace name. A free by another thread than the one that allocated waits for a later phase.

@@ -1,7 +1,6 @@
 //! Alignments of requests, and how many records a request may make.
 ghost use Rattle.std.specs.Prelude.{◌≡◌, ◌≤◌, ◌^◌};
-ghost use Rattle.pas_profile.specs.Routes.{route_of};
-ghost use Rattle.pas_trace.specs.Reasons.{cost_of_route, is_alignment};
+ghost use Rattle.pas_trace.specs.Reasons.{cost_of_size, is_alignment};
 
 use pas_profile::limits::{GRAIN_BYTES, MOST_BITFIT, PAGE_BYTES};
 
@@ -13,11 +12,11 @@ pub fn is_aligning(align: u64) -> bool
     align >= GRAIN_BYTES as u64 && align <= PAGE_BYTES as u64 && PAGE_BYTES % align as u32 == 0
 }
 
-/// How many records an allocation may make: 2, or one and one for each whole page.
+/// How many records an allocation of so many bytes may make, in a region of whatever classes: 2, or one and one for each whole page.
 #[inline(always)]
-pub fn cost_of_allocation(size: u32, align: u32) -> u32
-    requires { size ≤ 2 ^ 24 }
-    ensures { result ≡ cost_of_route (route_of size align) size }
+pub fn cost_of_allocation(size: u32) -> u32
+    requires { size ≤ 2 ^ 26 }
+    ensures { result ≡ cost_of_size size }
 {
     if size <= MOST_BITFIT {
         2

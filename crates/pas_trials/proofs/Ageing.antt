@@ -22,5 +22,5 @@ module _ {σ σ1 σ2 : Standing} (page h epoch t : ℕ) (hint : Makes σ σ1 (Hi
     leads = record { from = λ v met agreed. nothing_still (does_idly σ.seat.profile (Hinting ∷ Ticking ∷ []) refl hint_and_tick v (refl, (refl, tt)) agreed) met };
   }
 
-  pub may_pass : CanCall σ (λ v l. HasNothing v) → CanCall σ2 (λ v l. HasNothing v)
+  pub may_pass : CanCall σ HasNothing → CanCall σ2 HasNothing
   may_pass can = next_call aged can (λ v met rests. rests)

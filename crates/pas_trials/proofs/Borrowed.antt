@@ -1,5 +1,5 @@
 -- Two requests, a free and a stop, over any desk.
-use Rattle.std.proofs.Common.{◌≡◌, ℕ, ◌+◌, ◌^◌, ◌<◌, ◌≤◌, nat_le, Bool, true, false, List, [], ◌∷◌, ◌++◌, length, Ok, Err, Result, true≢false, refl, ap, sym, ◌∙◌, subst, arith, length-append}
+use Rattle.std.proofs.Common.{◌≡◌, ℕ, ◌+◌, ◌^◌, ◌<◌, ◌≤◌, nat_le, Bool, true, false, List, [], ◌∷◌, ◌++◌, length, None, Ok, Err, Result, true≢false, refl, ap, sym, ◌∙◌, subst, arith, length-append}
 use Rattle.std.specs.Prelude.{MatchResult}
 use Rattle.pas_profile.specs.Profiles.{IsValid, IsAdmitted}
 use Rattle.pas_profile.specs.declared.profile.Profile.{Profile}
@@ -9,11 +9,14 @@ use Rattle.pas_cache.specs.Serves.{Wanted}
 use Rattle.pas_profile.specs.declared.name.Name.{Name}
 use Rattle.pas_profile.specs.declared.name.Block.{Block}
 use Rattle.pas_steps.specs.Views.{View}
-use Rattle.pas_steps.specs.Events.{events_of}
+use Rattle.pas_steps.specs.Events.{events_of, events_by}
+use Rattle.pas_profile.specs.declared.event.Event.{Event}
 use Rattle.pas_steps.specs.Lists.{Whole}
-use Rattle.pas_steps.specs.Desks.{Standing, Seat, CanCall}
+use Rattle.pas_steps.specs.Desks.{Standing, Seat, CanCall, triples}
 use Rattle.pas_steps.specs.declared.step.Made.{Made}
 use Rattle.pas_steps.proofs.Adding.{can_call}
+use Rattle.pas_steps.proofs.Frames.{events_split, events_append}
+use Rattle.pas_steps.proofs.Unknown.{unknown_stays}
 use Rattle.pas_steps.specs.Unknown.{unknown_pages}
 use Rattle.pas_cache.specs.Caches.{Cached, AtRest}
 use Rattle.pas_free_log.specs.declared.log.Entry.{Entry}
@@ -21,30 +24,41 @@ use Rattle.pas_free_log.specs.declared.noting.EndedRun.{EndedRun}
 use Rattle.pas_free_log.specs.Logs.{entry_of}
 use Rattle.pas_cache.specs.Changes.{EmptiesFull}
 use Rattle.pas_cache.specs.Calls.{Allocates, TakesEntry, RefusesName, Frees, StopsCache}
-use Rattle.pas_cache.proofs.Budget.{HasBudget}
+use Rattle.pas_cache.proofs.Budget.{HasBudget, log_kept, emptied_events}
 use Rattle.pas_steps.specs.Kinds.{Only}
 use Rattle.pas_cache.specs.Kinds.{releasing}
 use Rattle.pas_cache.proofs.Stops.{spare_kept}
 
 -- the request is one that every profile admits
-pub admitted : (f : Profile) → IsValid f → IsAdmitted f 24 16 0
-admitted f valid =
+pub admitted : (f : Profile) (size : ℕ) → size ≤ 2048 → IsValid f → IsAdmitted f size 16 0
+admitted f size small valid =
     let pages = valid.some_page in
     let heaps = valid.some_heap in
-    record { within = omega (arith, pages); aligned = (omega arith, omega arith, refl); of_profile = omega (arith, heaps) }
+    record { within = omega (arith, pages, small); aligned = (omega arith, omega arith, refl); of_profile = omega (arith, heaps) }
 
-pub budget_call : {σ : Standing} {c : Cached} {n spare : ℕ} → CanCall σ (λ v l. AtRest σ.seat.profile c v × (n + unknown_pages σ.seat.profile v ≤ spare)) → CanCall σ (λ v l. HasBudget σ.seat.profile c n spare v)
+pub budget_call : {σ : Standing} {c : Cached} {n spare : ℕ} → CanCall σ (λ v. AtRest σ.seat.profile c v × (n + unknown_pages σ.seat.profile v ≤ spare)) → CanCall σ (HasBudget σ.seat.profile c n spare)
 budget_call can = record { view = can.view; whole = can.whole; stood = can.stood; met = record { rest = can.met.0; room = can.met.1 } }
 
-pub rest_call : {σ : Standing} {c : Cached} {n spare : ℕ} → CanCall σ (λ v l. HasBudget σ.seat.profile c n spare v) → CanCall σ (λ v l. AtRest σ.seat.profile c v)
+-- the same the other way round
+pub call_budget : {σ : Standing} {c : Cached} {n spare : ℕ} → CanCall σ (HasBudget σ.seat.profile c n spare) → CanCall σ (λ v. AtRest σ.seat.profile c v × (n + unknown_pages σ.seat.profile v ≤ spare))
+call_budget can = record { view = can.view; whole = can.whole; stood = can.stood; met = (can.met.rest, can.met.room) }
+
+pub budget_as : {σ : Standing} {c : Cached} {n spare : ℕ} (m : ℕ) → m ≡ n → CanCall σ (HasBudget σ.seat.profile c n spare) → CanCall σ (HasBudget σ.seat.profile c m spare)
+budget_as {σ} {c} {n} {spare} m same can = subst (λ x. CanCall σ (HasBudget σ.seat.profile c x spare)) (sym same) can
+
+pub rest_call : {σ : Standing} {c : Cached} {n spare : ℕ} → CanCall σ (HasBudget σ.seat.profile c n spare) → CanCall σ (AtRest σ.seat.profile c)
 rest_call can = record { view = can.view; whole = can.whole; stood = can.stood; met = can.met.rest }
 
-small_answer : {σ σ' : Standing} {c c' : Cached} {wanted : Wanted} {tells : Bool} (answer : Result Block NoRoom) → Allocates wanted tells c c' σ σ' answer → CanCall σ (λ v l. AtRest σ.seat.profile c v) → MatchResult answer (λ block. block.name.turn < 2 ^ 37) (λ room. Unit {0})
+small_answer : {σ σ' : Standing} {c c' : Cached} {wanted : Wanted} {tells : Bool} (answer : Result Block NoRoom) → Allocates wanted tells c c' σ σ' answer → CanCall σ (AtRest σ.seat.profile c) → MatchResult answer (λ block. block.name.turn < 2 ^ 37) (λ room. Unit {0})
 small_answer (Ok block) h can = h.outcome.turn.from can.view can.met (h.calls.adds.agreed can.view can.whole can.stood can.met)
 small_answer (Err room) h can = tt
 
-pub small_turn : {σ σ' : Standing} {c c' : Cached} {wanted : Wanted} {tells : Bool} {answer : Result Block NoRoom} → Allocates wanted tells c c' σ σ' answer → CanCall σ (λ v l. AtRest σ.seat.profile c v) → MatchResult answer (λ block. block.name.turn < 2 ^ 37) (λ room. Unit {0})
+pub small_turn : {σ σ' : Standing} {c c' : Cached} {wanted : Wanted} {tells : Bool} {answer : Result Block NoRoom} → Allocates wanted tells c c' σ σ' answer → CanCall σ (AtRest σ.seat.profile c) → MatchResult answer (λ block. block.name.turn < 2 ^ 37) (λ room. Unit {0})
 small_turn {answer = answer} h can = small_answer answer h can
+
+-- a request leaves the log as it is
+pub log_after : {σ σ' : Standing} {c c' : Cached} {wanted : Wanted} {tells : Bool} {answer : Result Block NoRoom} → Allocates wanted tells c c' σ σ' answer → c'.log ≡ c.log
+log_after {σ} {σ'} {c} {c'} {wanted} {tells} {answer} h = log_kept σ.seat.profile wanted None c c' h.steps answer wanted.route h.change
 
 -- ---- the free of a name into an empty log
 impossible : true ≡ nat_le 64 (length {A = Name} []) → ⊥
@@ -71,12 +85,12 @@ logs_one f actor c c' name steps (Err fault) none h =
 pub freed_one : {σ σ' : Standing} {c c' : Cached} {name : Name} {answer : Result (Unit {0}) FreeFault} → c.log ≡ [] → (h : Frees (entry_of name) c c' σ σ' answer) → LogsOne c c' h.steps
 freed_one {σ} {σ'} {c} {c'} {name} {answer} none h = logs_one σ.seat.profile σ.seat.actor c c' name h.steps answer none h.outcome
 
-pub freed_call : {σ σ' : Standing} {c c' : Cached} {name : Name} {answer : Result (Unit {0}) FreeFault} → Frees (entry_of name) c c' σ σ' answer → CanCall σ (λ v l. AtRest σ.seat.profile c v) → CanCall σ' (λ v l. AtRest σ'.seat.profile c' v)
-freed_call {σ} {σ'} {c} {c'} h can = can_call {C = λ v l. AtRest σ.seat.profile c v} {D = λ v l. AtRest σ'.seat.profile c' v} h.calls.adds can
+pub freed_call : {σ σ' : Standing} {c c' : Cached} {name : Name} {answer : Result (Unit {0}) FreeFault} → Frees (entry_of name) c c' σ σ' answer → CanCall σ (AtRest σ.seat.profile c) → CanCall σ' (AtRest σ'.seat.profile c')
+freed_call {σ} {σ'} {c} {c'} h can = can_call {C = AtRest σ.seat.profile c} {D = AtRest σ'.seat.profile c'} h.calls.adds can
     (λ v l stood met. subst (λ (s : Seat). AtRest s.profile c' (h.steps ++ v)) (sym h.calls.adds.seat_is) (h.calls.leads.from v met (h.calls.adds.agreed v l stood met)))
 
 -- so there is room for its event
-pub stop_room : {σ σ' : Standing} {c c' : Cached} {name : Name} {answer : Result (Unit {0}) FreeFault} {spare spare' : ℕ} → c.log ≡ [] → (h : Frees (entry_of name) c c' σ σ' answer) → CanCall σ (λ v l. HasBudget σ.seat.profile c 1 spare v)
+pub stop_room : {σ σ' : Standing} {c c' : Cached} {name : Name} {answer : Result (Unit {0}) FreeFault} {spare spare' : ℕ} → c.log ≡ [] → (h : Frees (entry_of name) c c' σ σ' answer) → CanCall σ (HasBudget σ.seat.profile c 1 spare)
     → ((v : View) (l : Whole) → σ.stands v l → spare + length (events_of σ.seat.actor v) ≡ σ.seat.room) → ((v : View) (l : Whole) → σ'.stands v l → spare' + length (events_of σ'.seat.actor v) ≡ σ'.seat.room)
     → length c'.log ≤ spare'
 stop_room {spare = spare} {spare' = spare'} none h can law law' =
@@ -86,8 +100,54 @@ stop_room {spare = spare} {spare' = spare'} none h can law law' =
     let room = can.met.room in
     omega (arith, same, few, room)
 
-pub stopped_call : {σ σ' : Standing} {c c' : Cached} → StopsCache c c' σ σ' → CanCall σ (λ v l. AtRest σ.seat.profile c v) → CanCall σ' (λ v l. AtRest σ'.seat.profile c' v)
-stopped_call {σ} {σ'} {c} {c'} h can = can_call {C = λ v l. AtRest σ.seat.profile c v} {D = λ v l. AtRest σ'.seat.profile c' v} h.calls.adds can
+-- a free into an empty log leaves the room that there was
+pub freed_budget : {σ σ' : Standing} {c c' : Cached} {name : Name} {answer : Result (Unit {0}) FreeFault} {n spare spare' : ℕ} → c.log ≡ [] → (h : Frees (entry_of name) c c' σ σ' answer) → CanCall σ (HasBudget σ.seat.profile c n spare)
+    → ((v : View) (l : Whole) → σ.stands v l → spare + length (events_of σ.seat.actor v) ≡ σ.seat.room) → ((v : View) (l : Whole) → σ'.stands v l → spare' + length (events_of σ'.seat.actor v) ≡ σ'.seat.room)
+    → CanCall σ' (HasBudget σ'.seat.profile c' n spare')
+freed_budget {σ} {σ'} {c} {c'} {n = n} {spare = spare} {spare' = spare'} none h can law law' =
+    let f : Profile = σ.seat.profile in
+    let v : View = can.view in
+    let same : spare' ≡ spare = spare_kept h.calls.adds (rest_call can) (subst (Only releasing) (sym (freed_one none h).no_steps) tt) law law' in
+    let ok = h.calls.adds.agreed v can.whole can.stood can.met.rest in
+    let unknown = unknown_stays f h.steps v ok in
+    let room = can.met.room in
+    record {
+      view = h.steps ++ v;
+      whole = triples σ.seat.actor h.steps ++ can.whole;
+      stood = h.calls.adds.added v can.whole can.stood can.met.rest;
+      met = subst (λ (s : Seat). HasBudget s.profile c' n spare' (h.steps ++ v)) (sym h.calls.adds.seat_is) (record { rest = h.calls.leads.from v can.met.rest ok; room = omega (arith, same, unknown, room) });
+    }
+
+-- a stop takes of it what the log's one name asks for
+pub stopped_budget : {σ σ' : Standing} {c c' : Cached} {n spare spare' : ℕ} → length c.log ≤ 1 → (h : StopsCache c c' σ σ') → CanCall σ (HasBudget σ.seat.profile c (n + 1) spare)
+    → ((v : View) (l : Whole) → σ.stands v l → spare + length (events_of σ.seat.actor v) ≡ σ.seat.room) → ((v : View) (l : Whole) → σ'.stands v l → spare' + length (events_of σ'.seat.actor v) ≡ σ'.seat.room)
+    → CanCall σ' (HasBudget σ'.seat.profile c' n spare')
+stopped_budget {σ} {σ'} {c} {c'} {n} {spare} {spare'} one h can law law' =
+    let f : Profile = σ.seat.profile in
+    let k : ℕ = σ.seat.actor in
+    let v : View = can.view in
+    let steps : List Made = h.stopped ++ h.flushed in
+    let ok = h.calls.adds.agreed v can.whole can.stood can.met.rest in
+    let added = h.calls.adds.added v can.whole can.stood can.met.rest in
+    let before : spare + length (events_of k v) ≡ σ.seat.room = law v can.whole can.stood in
+    let after : spare' + length (events_of k (steps ++ v)) ≡ σ.seat.room
+    = subst (λ (s : Seat). spare' + length (events_of s.actor (steps ++ v)) ≡ s.room) h.calls.adds.seat_is (law' (steps ++ v) (triples k steps ++ can.whole) added) in
+    let split : length (events_of k (steps ++ v)) ≡ length (events_by k v steps) + length (events_of k v) = ap length (events_split k steps v) ∙ length-append (events_by k v steps) (events_of k v) in
+    let flushed : length (events_by k v steps) ≡ length (events_by k v h.flushed)
+    = ap length (events_append k h.stopped h.flushed v ∙ ap (λ (es : List Event). es ++ events_by k v h.flushed) (h.silent k (h.flushed ++ v))) in
+    let ended = emptied_events k c.log c.noted c'.noted h.flushed v h.empties in
+    let unknown = unknown_stays f steps v ok in
+    let room = can.met.room in
+    record {
+      view = steps ++ v;
+      whole = triples k steps ++ can.whole;
+      stood = added;
+      met = subst (λ (s : Seat). HasBudget s.profile c' n spare' (steps ++ v)) (sym h.calls.adds.seat_is)
+          (record { rest = (h.calls.leads.from v can.met.rest ok).0; room = omega (arith, before, after, split, flushed, ended, one, unknown, room) });
+    }
+
+pub stopped_call : {σ σ' : Standing} {c c' : Cached} → StopsCache c c' σ σ' → CanCall σ (AtRest σ.seat.profile c) → CanCall σ' (AtRest σ'.seat.profile c')
+stopped_call {σ} {σ'} {c} {c'} h can = can_call {C = AtRest σ.seat.profile c} {D = AtRest σ'.seat.profile c'} h.calls.adds can
     (λ v l stood met. subst (λ (s : Seat). AtRest s.profile c' ((h.stopped ++ h.flushed) ++ v)) (sym h.calls.adds.seat_is) (h.calls.leads.from v met (h.calls.adds.agreed v l stood met)).0)
 
 pub not_full : (c : Cached) (P : Type 0) → c.log ≡ [] → length c.log ≡ 64 → P

@@ -17,9 +17,9 @@ use Rattle.pas_trials.specs.Borrowing.{Borrows}
 -- so many requests were made, and there is room for n events more
 pub record BorrowsSoFar (c0 c : Cached) (σ0 σ : Standing) (n spare : ℕ) : Type 0 where
   pub borrows : Borrows c0 c σ0 σ
-  pub room : CanCall σ (λ v l. HasBudget σ.seat.profile c n spare v)
+  pub room : CanCall σ (HasBudget σ.seat.profile c n spare)
 
-pub none_yet : {σ : Standing} {c : Cached} {n m spare : ℕ} → m ≡ n → CanCall σ (λ v l. AtRest σ.seat.profile c v × (n + unknown_pages σ.seat.profile v ≤ spare)) → BorrowsSoFar c c σ σ m spare
+pub none_yet : {σ : Standing} {c : Cached} {n m spare : ℕ} → m ≡ n → CanCall σ (λ v. AtRest σ.seat.profile c v × (n + unknown_pages σ.seat.profile v ≤ spare)) → BorrowsSoFar c c σ σ m spare
 none_yet same can = let room = can.met.1 in record {
   borrows = record { steps = []; rests = call_none (λ v rest. rest); log = refl };
   room = record { view = can.view; whole = can.whole; stood = can.stood; met = record { rest = can.met.0; room = omega (arith, same, room) } };
@@ -36,5 +36,5 @@ one_more {σ0} {σ} {σ'} {c0} {c} {c'} {wanted} {answer = answer} {n} {m} {spar
             (λ v met rest next. subst (λ (s : Seat). AtRest s.profile c' (h.steps ++ (so.borrows.steps ++ v))) same next);
         log = log_kept σ.seat.profile wanted None c c' h.steps answer wanted.route h.change ∙ so.borrows.log;
       };
-      room = budget_left m h (subst (λ x. CanCall σ (λ v l. HasBudget σ.seat.profile c x spare v)) two so.room) law law';
+      room = budget_left m h (subst (λ x. CanCall σ (HasBudget σ.seat.profile c x spare)) two so.room) law law';
     }

@@ -5,7 +5,7 @@ use Rattle.pas_profile.specs.declared.name.Name.{Name}
 use Rattle.pas_profile.specs.declared.profile.Profile.{Profile}
 use Rattle.pas_profile.specs.declared.word.Word.TheVariants as Word
 use Rattle.pas_steps.specs.Allowed.{IsStepOf, IsEpochKnown}
-use Rattle.pas_steps.specs.Desks.{Standing, made, Makes, CanMake, CanCall, Anything, Adds}
+use Rattle.pas_steps.specs.Desks.{Standing, made, Makes, CanMake, CanCall, AnyView, Adds}
 use Rattle.pas_steps.specs.Events.{event_of, events_by}
 use Rattle.pas_steps.specs.Views.{View, known_epoch, epoch_of}
 use Rattle.pas_steps.specs.declared.step.Made.{Made}
@@ -20,7 +20,7 @@ name = record { address = record { 0 = 4096 }; turn = 0 }
 -- steps were made, with at most so many events, after which the epoch is known
 pub record ReadsOn (desk desk' : Standing) (n : ℕ) : Type 0 where
   pub steps : List Made
-  pub adds : Adds desk desk' Anything steps
+  pub adds : Adds desk desk' AnyView steps
   pub knows : (v : View) → IsEpochKnown (known_epoch (steps ++ v))
   pub few : (k : ℕ) (v : View) → length (events_by k v steps) ≤ n
 
@@ -38,10 +38,10 @@ ends {room = room} {a = a} r makes = record {
 pub of_region : (f : Profile) (room : ℕ) → IsValid f → 16 ≤ room → room ≤ 4096 → room % 16 ≡ 0 → IsStepOf f (EndSized name room)
 of_region f room valid low high whole = let pages = valid.some_page in (((omega arith, omega (arith, pages)), refl, omega arith, omega (arith, low), omega (arith, high, pages)), whole)
 
-pub may_end : {σ σ1 : Standing} {n room : ℕ} → ReadsOn σ σ1 n → CanCall σ Anything → IsStepOf σ.seat.profile (EndSized name room) → CanMake σ1 (EndSized name room)
+pub may_end : {σ σ1 : Standing} {n room : ℕ} → ReadsOn σ σ1 n → CanCall σ AnyView → IsStepOf σ.seat.profile (EndSized name room) → CanMake σ1 (EndSized name room)
 may_end r call of = can_step r.adds call of (λ v l stood met. r.knows v)
 
-pub has_room : {σ σ1 : Standing} {n : ℕ} → ReadsOn σ σ1 n → CanCall σ Anything → (spare spare' : ℕ) → Spares σ spare → Spares σ1 spare' → n + 1 ≤ spare → 1 ≤ spare'
+pub has_room : {σ σ1 : Standing} {n : ℕ} → ReadsOn σ σ1 n → CanCall σ AnyView → (spare spare' : ℕ) → Spares σ spare → Spares σ1 spare' → n + 1 ≤ spare → 1 ≤ spare'
 has_room {σ} r call spare spare' law law' wide =
     let falls = spare_falls spare spare' (length (events_by σ.seat.actor call.view r.steps)) r.adds call law law' refl in
     let few = r.few σ.seat.actor call.view in

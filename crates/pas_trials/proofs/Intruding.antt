@@ -14,7 +14,7 @@ use Rattle.pas_cache.proofs.FlushesAndFrees.{rests_empty}
 use Rattle.pas_plain.specs.Storms.{Acts}
 
 -- with an empty cache and this much room it may ask for a block
-pub may_borrow : {σ : Standing} {c : Cached} {spare : ℕ} → c.locals ≡ [] → c.log ≡ [] → 70 ≤ spare → CanCall σ (λ v l. HasNothing v) → CanCall σ (λ v l. MayAllocate σ.seat.profile c spare v)
+pub may_borrow : {σ : Standing} {c : Cached} {spare : ℕ} → c.locals ≡ [] → c.log ≡ [] → 70 ≤ spare → CanCall σ HasNothing → CanCall σ (MayAllocate σ.seat.profile c spare)
 may_borrow {σ} {c} {spare} locals log room can = record {
   view = can.view;
   whole = can.whole;
@@ -30,7 +30,7 @@ module _ {σ σ1 : Standing} {c c1 : Cached} {wanted : Wanted} {tells : Bool} {a
   rests_then v rest = subst (λ (s : Seat). AtRest s.profile c1 v) (sym borrows.calls.adds.seat_is) rest
 
   -- .. and stop it
-  pub may_stop : CanCall σ (λ v l. HasNothing v) → CanCall σ1 (λ v l. AtRest σ1.seat.profile c1 v)
+  pub may_stop : CanCall σ HasNothing → CanCall σ1 (AtRest σ1.seat.profile c1)
   may_stop can = next_call from_nothing can (λ v none rest. rests_then (borrows.steps ++ v) rest)
 
   -- a request, and the stop of the cache

@@ -7,4 +7,4 @@ use Rattle.pas_steps.specs.declared.step.Made.{Made}
 -- a call made some steps
 pub record Steps (desk desk' : Standing) (Before : View → Type 0) : Type 0 where
   pub steps : List Made
-  pub adds : Adds desk desk' (λ v l. Before v) steps
+  pub adds : Adds desk desk' Before steps

@@ -3,8 +3,8 @@ use Rattle.std.specs.Prelude.{ℕ, ◌<◌, ◌≤◌, ◌≡◌, ◌≢◌, Boo
 use Rattle.pas_profile.specs.declared.directory.Directory.{Directory}
 use Rattle.pas_steps.specs.Views.{View, has_right, KnowsDeed}
 use Rattle.pas_steps.specs.Lists.{Whole}
-use Rattle.pas_steps.specs.Calls.{Leads, AnyView, Calls}
-use Rattle.pas_steps.specs.Desks.{Standing, Adds}
+use Rattle.pas_steps.specs.Calls.{Leads, Calls}
+use Rattle.pas_steps.specs.Desks.{Standing, Adds, AnyView}
 use Rattle.pas_steps.specs.declared.step.Made.{Made}
 use Rattle.pas_plain.specs.Plain.{profile_of, actor_of, PassStands}
 use Rattle.pas_plain.specs.Seats.{region_of, pass_of, DeskStands}
@@ -44,7 +44,7 @@ pub record Wants (page : ℕ) (d : Directory) (desk desk' : Standing) (found : F
   pub offers : List Made
   pub bares : List Made
   pub judged : List Made
-  pub adds : Adds desk desk' (λ v l. AnyView v) (judged ++ (bares ++ (offers ++ asked)))
+  pub adds : Adds desk desk' AnyView (judged ++ (bares ++ (offers ++ asked)))
   pub claimed : Leads desk.seat.profile AnyView (λ v w. Answered found.claimed page d w) asked
   pub offered : MatchOption found.offered (NoneOffered desk.seat.profile d 1 offers) (IsFirstOffered desk.seat.profile d 1 offers)
   pub bare : MatchOption found.bare ((p : ℕ) → page ≤ p → p ≤ desk.seat.profile.pages → Once (DeedHere p) bares) (IsFirstBare desk.seat.profile page bares)

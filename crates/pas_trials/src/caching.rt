@@ -1,7 +1,7 @@
 //! A thread takes blocks from its cache and gives them up again.
-ghost use Rattle.std.specs.Prelude.{◌≡◌, ◌+◌, ◌-◌, ◌^◌, ◌<◌, ◌≤◌, [], false, MatchResult};
+ghost use Rattle.std.specs.Prelude.{ℕ, ◌≡◌, ◌+◌, ◌-◌, ◌^◌, ◌<◌, ◌≤◌, [], false, MatchResult};
 ghost use Rattle.pas_profile.specs.Classes.{has_bit};
-ghost use Rattle.pas_steps.specs.Desks.{Anything, CanCall};
+ghost use Rattle.pas_steps.specs.Desks.{AnyView, CanCall};
 ghost use Rattle.pas_cache.specs.Caches.{cached, AtRest};
 ghost use Rattle.pas_steps.specs.Unknown.{unknown_pages};
 
@@ -23,16 +23,25 @@ fn name_of(answer: &Result<Block, NoRoom>) -> Name
     }
 }
 
-/// Asks for two blocks of one class, frees the first one, and stops the cache.
-pub fn borrow_two<D: Desk>(desk: &mut D, cache: &mut ThreadCache) -> [Result<Block, NoRoom>; 2]
+/// Asks for two blocks of so many bytes, frees the first one, and stops the cache. At most five events, and one for the deed of each page.
+pub fn borrow_two<D: Desk>(
+    desk: &mut D,
+    cache: &mut ThreadCache,
+    size: u32,
+) -> [Result<Block, NoRoom>; 2]
     requires exclusive { has_bit (D.standing desk.old).seat.profile.shared 0 ≡ false }
+    requires size { size ≤ 2048 }
     requires none_logged { (cached cache.old).log ≡ [] }
-    requires can { CanCall (D.standing desk.old) (λ v l. AtRest (D.standing desk.old).seat.profile (cached cache.old) v × (5 + unknown_pages (D.standing desk.old).seat.profile v ≤ D.spare_of desk.old)) }
+    requires can { CanCall (D.standing desk.old) (λ v. AtRest (D.standing desk.old).seat.profile (cached cache.old) v × (5 + unknown_pages (D.standing desk.old).seat.profile v ≤ D.spare_of desk.old)) }
     ensures none_left { (cached cache.new).locals ≡ [] }
-    ensures rest { CanCall (D.standing desk.new) (λ v l. AtRest (D.standing desk.new).seat.profile (cached cache.new) v) }
+    ensures none_logged { (cached cache.new).log ≡ [] }
+    ensures seat { (D.standing desk.new).seat ≡ (D.standing desk.old).seat }
+    ensures rest { CanCall (D.standing desk.new) (AtRest (D.standing desk.new).seat.profile (cached cache.new)) }
+    ensures room { (n : ℕ) → CanCall (D.standing desk.old) (λ v. AtRest (D.standing desk.old).seat.profile (cached cache.old) v × (n + 5 + unknown_pages (D.standing desk.old).seat.profile v ≤ D.spare_of desk.old))
+        → CanCall (D.standing desk.new) (λ v. AtRest (D.standing desk.new).seat.profile (cached cache.new) v × (n + unknown_pages (D.standing desk.new).seat.profile v ≤ D.spare_of desk.new)) }
 {
-    let first = cache.alloc(desk, 0, 24, 16);
-    let second = cache.alloc(desk, 0, 24, 16);
+    let first = cache.alloc(desk, 0, size, 16);
+    let second = cache.alloc(desk, 0, size, 16);
     let _ = cache.free(desk, name_of(&first));
     cache.stop(desk);
     [first, second]
@@ -40,7 +49,7 @@ pub fn borrow_two<D: Desk>(desk: &mut D, cache: &mut ThreadCache) -> [Result<Blo
 
 /// The first and the last free word of page 1, and the words of page 1 among the offered pages of the second class and among the parked pages.
 pub fn words_of_first<D: Desk>(desk: &mut D) -> [u64; 4]
-    requires can { CanCall (D.standing desk.old) Anything }
+    requires can { CanCall (D.standing desk.old) AnyView }
 {
     [
         desk.look(Word::Free(1, 0)),

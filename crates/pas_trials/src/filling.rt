@@ -24,7 +24,7 @@ fn stop_where<D: Desk>(desk: &mut D, slots: Slots, stops: bool)
     requires page { IsPage (D.standing desk.old).seat.profile slots.page }
     requires directory { IsDirectoryOf (D.standing desk.old).seat.profile (directory_of slots) }
     requires starts { AreStarts slots.class slots.starts }
-    requires can { CanCall (D.standing desk.old) (λ v l. MayStop slots v) }
+    requires can { CanCall (D.standing desk.old) (MayStop slots) }
     ensures steps { Steps (D.standing desk.old) (D.standing desk.new) (MayStop slots) }
 {
     if stops {
@@ -35,7 +35,7 @@ fn stop_where<D: Desk>(desk: &mut D, slots: Slots, stops: bool)
 /// Refills the class, and stops the slots where that is asked. At most two events.
 pub fn fill<D: Desk>(desk: &mut D, heap: u8, class: u8, stops: bool) -> Result<Filled, NoRoom>
     requires directory { IsDirectoryOf (D.standing desk.old).seat.profile (class_directory heap class) }
-    requires can { CanCall (D.standing desk.old) (λ v l. SearchRoom (D.standing desk.old).seat.profile (class_directory heap class) 1 (D.spare_of desk.old) v) }
+    requires can { CanCall (D.standing desk.old) (SearchRoom (D.standing desk.old).seat.profile (class_directory heap class) 1 (D.spare_of desk.old)) }
     ensures steps { Steps (D.standing desk.old) (D.standing desk.new) (MaySearch (class_directory heap class)) }
 {
     let slots = match refill(desk, heap, class) {

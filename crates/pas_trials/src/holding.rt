@@ -1,9 +1,8 @@
 //! An actor makes a page its own, and may leave it again.
 ghost use Rattle.std.specs.Prelude.{◌≡◌, ◌≤◌};
 ghost use Rattle.pas_profile.specs.Profiles.{IsPage, IsDirectoryOf};
-ghost use Rattle.pas_steps.specs.Desks.{Anything, CanCall};
+ghost use Rattle.pas_steps.specs.Desks.{AnyView, CanCall};
 ghost use Rattle.pas_rights.specs.Leaves.{MayLeave};
-ghost use Rattle.pas_steps.specs.Calls.{AnyView};
 ghost use Rattle.pas_trials.specs.Trials.{LeftIf, MayLeaveIf, Brings};
 
 use pas_profile::Directory;
@@ -14,7 +13,7 @@ use pas_steps::Desk;
 fn take_words<D: Desk>(desk: &mut D, page: u32, directory: Directory, words: u8)
     requires page { IsPage (D.standing desk.old).seat.profile page }
     requires words { words ≤ 4 }
-    requires can { CanCall (D.standing desk.old) (λ v l. MayLeave page directory v) }
+    requires can { CanCall (D.standing desk.old) (MayLeave page directory) }
     ensures brings { Brings (D.standing desk.old) (D.standing desk.new) (MayLeave page directory) (MayLeave page directory) }
     ensures home { D.home desk.new ≡ D.home desk.old }
 {
@@ -30,7 +29,7 @@ pub fn occupy<D: Desk>(desk: &mut D, page: u32, directory: Directory, words: u8)
     requires page { IsPage (D.standing desk.old).seat.profile page }
     requires directory { IsDirectoryOf (D.standing desk.old).seat.profile directory }
     requires words { words ≤ 4 }
-    requires can { CanCall (D.standing desk.old) Anything }
+    requires can { CanCall (D.standing desk.old) AnyView }
     requires room { 1 ≤ D.spare_of desk.old }
     ensures brings { Brings (D.standing desk.old) (D.standing desk.new) AnyView (MayLeaveIf result page directory) }
     ensures home { D.home desk.new ≡ D.home desk.old }
@@ -48,7 +47,7 @@ pub fn visit<D: Desk>(desk: &mut D, page: u32, directory: Directory, words: u8, 
     requires page { IsPage (D.standing desk.old).seat.profile page }
     requires directory { IsDirectoryOf (D.standing desk.old).seat.profile directory }
     requires words { words ≤ 4 }
-    requires can { CanCall (D.standing desk.old) Anything }
+    requires can { CanCall (D.standing desk.old) AnyView }
     requires room { 1 ≤ D.spare_of desk.old }
     ensures brings { Brings (D.standing desk.old) (D.standing desk.new) AnyView (LeftIf result page) }
     ensures home { D.home desk.new ≡ D.home desk.old }

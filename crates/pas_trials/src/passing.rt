@@ -14,7 +14,7 @@ use pas_utility::Outcomes;
 pub fn age_and_pass<D: Desk>(desk: &mut D, page: u32, epoch: u64, out: &mut Outcomes) -> u64
     requires page { IsPage (D.standing desk.old).seat.profile page }
     requires epoch { epoch < 2 ^ 40 }
-    requires can { CanCall (D.standing desk.old) (λ v l. HasNothing v) }
+    requires can { CanCall (D.standing desk.old) HasNothing }
     requires room { (D.standing desk.old).seat.profile.pages ≤ D.spare_of desk.old }
     requires places { places_of out.old ≡ (D.standing desk.old).seat.profile.pages }
     ensures steps { Steps (D.standing desk.old) (D.standing desk.new) HasNothing }

@@ -29,7 +29,7 @@ pub fn allocate<D: Desk>(desk: &mut D, room: u32, align: u32) -> Allocated
     requires directory { IsDirectoryOf (D.standing desk.old).seat.profile (bitfit_directory 0) }
     requires room { (16 ≤ room) × (room ≤ 2048) × (room % 16 ≡ 0) }
     requires align { IsAlignment align }
-    requires can { CanCall (D.standing desk.old) (λ v l. SearchRoom (D.standing desk.old).seat.profile (bitfit_directory 0) 2 (D.spare_of desk.old) v) }
+    requires can { CanCall (D.standing desk.old) (SearchRoom (D.standing desk.old).seat.profile (bitfit_directory 0) 2 (D.spare_of desk.old)) }
     ensures steps { Steps (D.standing desk.old) (D.standing desk.new) (MaySearch (bitfit_directory 0)) }
 {
     let block = alloc(desk, 0, room, align);
@@ -45,7 +45,7 @@ fn stop_where<D: Desk>(desk: &mut D, slots: Slots, stops: bool)
     requires directory { IsDirectoryOf (D.standing desk.old).seat.profile (shared_directory slots.heap) }
     requires class { IsClass slots.class }
     requires starts { AreStarts slots.class slots.starts }
-    requires can { CanCall (D.standing desk.old) (λ v l. MayStopAt (shared_directory slots.heap) slots v) }
+    requires can { CanCall (D.standing desk.old) (MayStopAt (shared_directory slots.heap) slots) }
     ensures steps { Steps (D.standing desk.old) (D.standing desk.new) (MayStopAt (shared_directory slots.heap) slots) }
 {
     if stops {
@@ -57,7 +57,7 @@ fn stop_where<D: Desk>(desk: &mut D, slots: Slots, stops: bool)
 pub fn fill_shared<D: Desk>(desk: &mut D, class: u8, stops: bool) -> Result<Filled, NoRoom>
     requires class { IsClass class }
     requires directory { IsDirectoryOf (D.standing desk.old).seat.profile (shared_directory 0) }
-    requires can { CanCall (D.standing desk.old) (λ v l. SearchRoom (D.standing desk.old).seat.profile (shared_directory 0) 1 (D.spare_of desk.old) v) }
+    requires can { CanCall (D.standing desk.old) (SearchRoom (D.standing desk.old).seat.profile (shared_directory 0) 1 (D.spare_of desk.old)) }
     ensures steps { Steps (D.standing desk.old) (D.standing desk.new) (MaySearch (shared_directory 0)) }
 {
     let slots = match refill(desk, 0, class) {

@@ -34,7 +34,7 @@ fn may_end(profile: &Profile, name: Name) -> bool
 /// Flushes a log of this one name.
 fn flush_one<D: Desk>(desk: &mut D, name: Name)
     requires name { IsNameOf (D.standing desk.old).seat.profile name }
-    requires can { CanCall (D.standing desk.old) (λ v l. HasNothing v) }
+    requires can { CanCall (D.standing desk.old) HasNothing }
     requires room { 70 ≤ D.spare_of desk.old }
     ensures acts { Acts (D.standing desk.old) (D.standing desk.new) }
     ensures home { D.home desk.new ≡ D.home desk.old }
@@ -57,7 +57,7 @@ impl Intruder for Flusher {
 fn borrow_one<D: Desk>(desk: &mut D, cache: &mut ThreadCache)
     requires locals { (cached cache.old).locals ≡ [] }
     requires log { (cached cache.old).log ≡ [] }
-    requires can { CanCall (D.standing desk.old) (λ v l. HasNothing v) }
+    requires can { CanCall (D.standing desk.old) HasNothing }
     requires room { 70 ≤ D.spare_of desk.old }
     ensures acts { Acts (D.standing desk.old) (D.standing desk.new) }
     ensures locals { (cached cache.new).locals ≡ [] }
@@ -100,7 +100,7 @@ impl Intruder for Borrower {
 
 /// Asks for so many blocks of 512 bytes of heap 0. At most two events for each, and one for the deed of each page.
 pub fn borrow_many<D: Desk>(desk: &mut D, cache: &mut ThreadCache, blocks: u8)
-    requires can { CanCall (D.standing desk.old) (λ v l. AtRest (D.standing desk.old).seat.profile (cached cache.old) v × (2 * blocks + unknown_pages (D.standing desk.old).seat.profile v ≤ D.spare_of desk.old)) }
+    requires can { CanCall (D.standing desk.old) (λ v. AtRest (D.standing desk.old).seat.profile (cached cache.old) v × (2 * blocks + unknown_pages (D.standing desk.old).seat.profile v ≤ D.spare_of desk.old)) }
     ensures borrows { Borrows (cached cache.old) (cached cache.new) (D.standing desk.old) (D.standing desk.new) }
     ensures home { D.home desk.new ≡ D.home desk.old }
 {

@@ -1,8 +1,7 @@
 //! An actor wants a page of a directory.
 ghost use Rattle.std.specs.Prelude.{◌≡◌};
 ghost use Rattle.pas_profile.specs.Profiles.{IsPage, IsDirectoryOf};
-ghost use Rattle.pas_steps.specs.Desks.{Anything, CanCall};
-ghost use Rattle.pas_steps.specs.Calls.{AnyView};
+ghost use Rattle.pas_steps.specs.Desks.{AnyView, CanCall};
 ghost use Rattle.pas_trials.specs.Trials.{Answered, Brings, Wants};
 
 use pas_profile::{Directory, NoRoom, Word, deed_word};
@@ -29,7 +28,7 @@ pub struct Findings {
 pub fn ask<D: Desk>(desk: &mut D, page: u32, directory: Directory) -> Option<bool>
     requires page { IsPage (D.standing desk.old).seat.profile page }
     requires directory { IsDirectoryOf (D.standing desk.old).seat.profile directory }
-    requires can { CanCall (D.standing desk.old) Anything }
+    requires can { CanCall (D.standing desk.old) AnyView }
     ensures brings { Brings (D.standing desk.old) (D.standing desk.new) AnyView (Answered result page directory) }
     ensures home { D.home desk.new ≡ D.home desk.old }
 {
@@ -43,7 +42,7 @@ pub fn ask<D: Desk>(desk: &mut D, page: u32, directory: Directory) -> Option<boo
 pub fn want<D: Desk>(desk: &mut D, page: u32, directory: Directory) -> Findings
     requires page { IsPage (D.standing desk.old).seat.profile page }
     requires directory { IsDirectoryOf (D.standing desk.old).seat.profile directory }
-    requires can { CanCall (D.standing desk.old) Anything }
+    requires can { CanCall (D.standing desk.old) AnyView }
     ensures wants { Wants page directory (D.standing desk.old) (D.standing desk.new) result }
     ensures home { D.home desk.new ≡ D.home desk.old }
 {

@@ -1,18 +1,28 @@
-use Rattle.std.proofs.Common.{refl}
-use Rattle.pas_cache.proofs.Lowest.{block_is, can_give, give_room, gives_lowest}
+use Rattle.std.proofs.Common.{◌+◌, ◌*◌, ◌/◌, ◌≤◌, refl, sym, subst}
+use Rattle.pas_steps.specs.Desks.{CanCall}
+use Rattle.pas_rights.specs.Gives.{MayGive, GivesRun}
+use Rattle.pas_cache.proofs.Lowest.{slot_within, region_within, can_give, gives_lowest}
 use Rattle.pas_cache.proofs.giving.give_lowest.Goals as goal
 
-pub give-requires-clause-can : goal.give-requires-clause-can
-give-requires-clause-can g c =
-    can_give (g.D.Desk.spare_of c.args.desk.now) c.args.slots.now c.in-Some.start c.look.result _ (block_is c.args.slots.now c.in-Some.start c.read_life-turn.result.0 c.look.result c.class_size.result c.read_life-turn.ensures.turn c.class_size.ensures) c.in-Some.ensures
-    (λ v l s. g.met.D.Desk.spares c.args.desk.now v l s) (g.met.D.Desk.limited c.args.desk.now) c.look.ensures.makes c.requires.can
+pub give-block-requires-clause-page : goal.give-block-requires-clause-page
+give-block-requires-clause-page g c = c.requires.can.met.local.page
 
-pub give-requires-clause-room : goal.give-requires-clause-room
-give-requires-clause-room g c =
-    give_room c.args.slots.now c.in-Some.start c.look.result (λ v l s. g.met.D.Desk.spares c.args.desk.now v l s) (λ v l s. g.met.D.Desk.spares c.look.new.self v l s) c.requires.room c.look.ensures.makes c.requires.can
+pub give-block-requires-clause-heap : goal.give-block-requires-clause-heap
+give-block-requires-clause-heap g c = c.requires.can.met.local.directory.heap
+
+pub give-block-requires-clause-some : goal.give-block-requires-clause-some
+give-block-requires-clause-some g c = let slots = c.args.slots.now in let can = c.requires.can in
+    subst (λ n. 1 ≤ n / 16) (sym c.class_size-grains.ensures) (slot_within slots c.in-Some.start c.in-Some.ensures (g.D.Desk.standing c.args.desk.now).seat.profile can.view can.met).0
+
+pub give-block-requires-clause-within : goal.give-block-requires-clause-within
+give-block-requires-clause-within g c = let slots = c.args.slots.now in let can = c.requires.can in let f = (g.D.Desk.standing c.args.desk.now).seat.profile in
+    subst (λ n. slots.page * 256 + c.in-Some.start + n / 16 ≤ 256 * (f.pages + 1)) (sym c.class_size-grains.ensures) (region_within slots c.in-Some.start c.in-Some.ensures f can.view can.met)
+
+pub give-block-requires-clause-can : goal.give-block-requires-clause-can
+give-block-requires-clause-can g c = let slots = c.args.slots.now in let σ = g.D.Desk.standing c.args.desk.now in
+    subst (λ n. CanCall σ (MayGive σ.seat.profile slots.heap slots.page c.in-Some.start (n / 16))) (sym c.class_size-grains.ensures) (can_give slots c.in-Some.start c.in-Some.ensures c.requires.can)
 
 pub returns-clause-gives : goal.returns-clause-gives
-returns-clause-gives g c =
-    gives_lowest (g.D.Desk.spare_of c.args.desk.now) c.args.slots.now _ c.in-Some.start c.look.result c.give.result _ (block_is c.args.slots.now c.in-Some.start c.read_life-turn.result.0 c.look.result c.class_size.result c.read_life-turn.ensures.turn c.class_size.ensures) c.in-Some.ensures
-    (record { page = refl; heap = refl; class = refl; right = refl; starts = c.clear.ensures })
-    (λ v l s. g.met.D.Desk.spares c.args.desk.now v l s) (g.met.D.Desk.limited c.args.desk.now) c.look.ensures.makes c.give.ensures.makes
+returns-clause-gives g c = let slots = c.args.slots.now in let D = g.D.Desk in
+    gives_lowest slots c.in-Some.start c.in-Some.ensures _ c.give-block.result c.requires.can.met.local.class (record { page = refl; heap = refl; class = refl; right = refl; starts = c.clear.ensures })
+    (subst (λ n. GivesRun slots.heap slots.page c.in-Some.start (n / 16) c.give-block.result (D.standing c.args.desk.now) (D.standing c.give-block.new.desk)) c.class_size-grains.ensures c.give-block.ensures.gives)

@@ -32,12 +32,12 @@ pub returns-in-Ended-clause-spare : goal.returns-in-Ended-clause-spare
 returns-in-Ended-clause-spare g c =
     let D = g.D.Desk in let can = c.requires.can in
     let s = entry_ended c.args.entry c.in-Ended.grains c.end_logged-outcome.result.1 c.large_run.result (g.met.D.Desk.valid c.args.desk.now) (is_ended c.args.entry c.in-Ended.grains c.end_logged-outcome.result.1 (came_to (Ended c.in-Ended.grains) c.in-Ended.is c.end_logged-outcome.ensures.ends)) c.return_run.ensures.returns c.large_run.ensures in
-    spare_falls {C = λ v l. MayEnd v} (D.spare_of c.args.desk.now) (D.spare_of c.return_run.new.desk) 1 s.calls.adds can (λ v l stood. g.met.D.Desk.spares c.args.desk.now v l stood) (λ v l stood. g.met.D.Desk.spares c.return_run.new.desk v l stood)
+    spare_falls {C = MayEnd} (D.spare_of c.args.desk.now) (D.spare_of c.return_run.new.desk) 1 s.calls.adds can (λ v l stood. g.met.D.Desk.spares c.args.desk.now v l stood) (λ v l stood. g.met.D.Desk.spares c.return_run.new.desk v l stood)
     (ap (λ (es : List Event). length es) (s.event can.view))
 
 pub returns-in-Refused-clause-spare : goal.returns-in-Refused-clause-spare
 returns-in-Refused-clause-spare g c =
     let D = g.D.Desk in let can = c.requires.can in
     let s = entry_refused c.args.entry c.in-Refused.read c.end_logged-outcome.result.1 c.requires.entry (came_to (Refused c.in-Refused.read) c.in-Refused.is c.end_logged-outcome.ensures.ends) in
-    spare_falls {C = λ v l. MayEnd v} (D.spare_of c.args.desk.now) (D.spare_of c.end_logged-outcome.new.desk) 1 s.calls.adds can (λ v l stood. g.met.D.Desk.spares c.args.desk.now v l stood) (λ v l stood. g.met.D.Desk.spares c.end_logged-outcome.new.desk v l stood)
+    spare_falls {C = MayEnd} (D.spare_of c.args.desk.now) (D.spare_of c.end_logged-outcome.new.desk) 1 s.calls.adds can (λ v l stood. g.met.D.Desk.spares c.args.desk.now v l stood) (λ v l stood. g.met.D.Desk.spares c.end_logged-outcome.new.desk v l stood)
     (ap (λ (es : List Event). length es) (s.event can.view))

@@ -36,7 +36,7 @@ loop-entry-init g c =
       kinds = tt;
       events = λ v is. refl;
       stamps = λ v is. refl;
-      spare = spare_falls {C = λ v l. IsClear v} (D.spare_of c.args.desk.now) (D.spare_of c.look.new.self) 0 calls.adds c.requires.can (λ v l stood. g.met.D.Desk.spares c.args.desk.now v l stood) (λ v l stood. g.met.D.Desk.spares c.look.new.self v l stood) refl;
+      spare = spare_falls {C = IsClear} (D.spare_of c.args.desk.now) (D.spare_of c.look.new.self) 0 calls.adds c.requires.can (λ v l stood. g.met.D.Desk.spares c.args.desk.now v l stood) (λ v l stood. g.met.D.Desk.spares c.look.new.self v l stood) refl;
       home = c.look.ensures.home;
     }
 

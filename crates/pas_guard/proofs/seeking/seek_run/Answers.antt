@@ -63,6 +63,6 @@ pub loop-next-preserved : goal.loop-next-preserved
 loop-next-preserved g c = let i = c.loop-next.invariant in let within = i.so_far.within.0 in let long = c.if-next-from.false in
     let whole : c.loop-next.next ≡ c.loop-next.from + (c.args.pages + 2) = omega (arith, within, long) in record {
       so_far = seek_slide (large_directory c.args.heap) c.args.pages c.loop-next.from c.loop-next.next (c.loop-next.next - 1) whole (omega (arith, whole))
-          (seek_claimed (large_directory c.args.heap) c.args.pages c.loop-next.from c.loop-next.free c.loop-next.next i.so_far whole c.in-None-claim_run.ensures.claims) c.if-are_bare.ensures.looks c.put_and_leave.ensures.leaves;
+          (seek_claimed (large_directory c.args.heap) c.args.pages c.loop-next.from c.loop-next.free c.loop-next.next i.so_far whole c.in-None-claim_run.ensures.claims) c.if-are_bare.ensures.looks c.put_and_leave.ensures.puts;
       home = c.put_and_leave.ensures.home ∙ c.if-are_bare.ensures.home ∙ c.in-None-claim_run.ensures.home ∙ i.home;
     }

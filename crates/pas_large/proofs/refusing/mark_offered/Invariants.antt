@@ -1,6 +1,6 @@
 use Rattle.std.proofs.Common.{◌≡◌, List, length, ◌≤◌}
 use Rattle.pas_steps.specs.declared.step.Made.{Made}
-use Rattle.pas_steps.specs.Desks.{Anything, Adds}
+use Rattle.pas_steps.specs.Desks.{AnyView, Adds}
 use Rattle.pas_steps.specs.Frames.{OnlyScans}
 use Rattle.pas_large.proofs.Refusals.{MarkedBelow}
 use Rattle.pas_large.proofs.refusing.mark_offered.Given as goal
@@ -9,7 +9,7 @@ use Rattle.pas_large.proofs.refusing.mark_offered.Given as goal
 abbrev pub invariant-loop-block : goal.invariant-loop-block
 invariant-loop-block g l = let D = g.D.Desk in record {
   steps : List Made;
-  adds : Adds (D.standing l.fn.desk) (D.standing l.desk) Anything steps;
+  adds : Adds (D.standing l.fn.desk) (D.standing l.desk) AnyView steps;
   scans : OnlyScans steps;
   few : length steps ≤ l.block;
   marked : MarkedBelow l.fn.looked.directory l.block l.looked.unfit steps;

@@ -1,40 +1,45 @@
-use Rattle.std.proofs.Common.{◌%◌, max, sym, ◌∙◌, get_or, arith, leb, eqb}
+use Rattle.std.proofs.Common.{◌%◌, max, sym, ◌∙◌, arith, leb, eqb}
 use Rattle.std.proofs.lemmas.Bool.{le-leb, eq-eqb, ne_eqb, and_from, and_right}
-use Rattle.pas_profile.specs.Classes.{class_sizes}
-use Rattle.pas_profile.proofs.Searches.{begins_at, passed_over, found_here, none_above, after_all, route_found, bitfit_for}
+use Rattle.pas_profile.specs.Classes.{class_size}
+use Rattle.pas_profile.proofs.Sizes.{count_le}
+use Rattle.pas_profile.proofs.Searches.{begins_at, found_at, passed_at, none_above, after_all, route_found, bitfit_for, large_for}
 use Rattle.pas_profile.proofs.routing.route.Goals as goal
-use Rattle.pas_profile.proofs.routing.route.Goals.{then-size-le512+else-loop-class-test, else-size-le512}
+use Rattle.pas_profile.proofs.routing.route.Goals.{then-grains-lt65+else-loop-class-test, else-grains-lt65}
 
 pub loop-class-init : goal.loop-class-init
 loop-class-init c =
-    let b = begins_at c.args.size c.args.align c.div_ceil.result c.if-size-le512.true (omega (arith, c.div_ceil.ensures)) (omega (arith, c.div_ceil.ensures)) in
+    let b = begins_at c.args.classes c.args.size c.args.align c.div_ceil-grains.result c.if-grains-lt65.true (omega (arith, c.div_ceil-grains.ensures)) (omega (arith, c.div_ceil-grains.ensures)) in
     record { rest = b.rest; large = b.large }
 
 pub returns-then-class-align-eq0 : goal.returns-then-class-align-eq0
 returns-then-class-align-eq0 c =
     let class = c.loop-class.class in
     let size = max c.args.size 1 in
-    let block = get_or class_sizes class 0 in
-    let room = le-leb size block (c.loop-class.invariant.large class (omega arith) c.loop-class-test.true) in
+    let block = class_size class in
+    let few = count_le c.args.classes c.requires.classes in
+    let room = le-leb size block (c.loop-class.invariant.large class (omega arith) (omega (arith, few))) in
     let aligned = eq-eqb (block % c.args.align) 0 c.if-class-align-eq0.true in
     let suits = and_from (leb size block) (eqb (block % c.args.align) 0) room aligned in
-    route_found c.args.size c.args.align class (sym c.loop-class.invariant.rest ∙ found_here class_sizes class size c.args.align c.loop-class-test.true suits)
+    route_found c.args.classes c.args.size c.args.align class (sym c.loop-class.invariant.rest ∙ found_at c.args.classes class size c.args.align few c.loop-class-test.true suits)
 
 pub loop-class-preserved : goal.loop-class-preserved
 loop-class-preserved c =
     let class = c.loop-class.class in
     let size = max c.args.size 1 in
-    let block = get_or class_sizes class 0 in
+    let block = class_size class in
     let crooked = ne_eqb (block % c.args.align) 0 c.if-class-align-eq0.false in
     let passed = and_right (leb size block) (eqb (block % c.args.align) 0) crooked in
     record {
-      rest = passed_over class_sizes class size c.args.align c.loop-class-test.true passed ∙ c.loop-class.invariant.rest;
+      rest = passed_at c.args.classes class size c.args.align c.loop-class-test.true passed ∙ c.loop-class.invariant.rest;
       large = λ k ge lt. c.loop-class.invariant.large k (omega (arith, ge)) lt;
     }
 
 pub returns-then-size-le-MOST_BITFIT : goal.returns-then-size-le-MOST_BITFIT
-returns-then-size-le-MOST_BITFIT c = bitfit_for c.args.size c.args.align c.if-size-le-MOST_BITFIT.true
-    (elim c.if-size-le512.branch [
-      | then-size-le512+else-loop-class-test w ↦ after_all c.args.size c.args.align w.loop-class.class w.loop-class-test.false w.loop-class.invariant.rest
-      | else-size-le512 w ↦ none_above c.args.size c.args.align w.if-size-le512.false
+returns-then-size-le-MOST_BITFIT c = bitfit_for c.args.classes c.args.size c.args.align c.if-size-le-MOST_BITFIT.true
+    (elim c.if-grains-lt65.branch [
+      | then-grains-lt65+else-loop-class-test w ↦ after_all c.args.classes c.args.size c.args.align w.loop-class.class w.loop-class-test.false w.loop-class.invariant.rest
+      | else-grains-lt65 w ↦ none_above c.args.classes c.args.size c.args.align (let past = w.if-grains-lt65.false in omega (arith, past, c.div_ceil-grains.ensures))
     ])
+
+pub returns-else-size-le-MOST_BITFIT : goal.returns-else-size-le-MOST_BITFIT
+returns-else-size-le-MOST_BITFIT c = large_for c.args.classes c.args.size c.args.align c.if-size-le-MOST_BITFIT.false

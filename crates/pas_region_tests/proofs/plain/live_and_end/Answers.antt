@@ -19,7 +19,7 @@ use Rattle.pas_plain.proofs.Walk.{At, start, next, can, told, spare}
 use Rattle.pas_region_tests.proofs.plain.live_and_end.Goals as goal
 
 abbrev profile : Profile
-profile = record { pages = 2; threads = 1; age = 1; heaps = 1; shared = 0 }
+profile = record { pages = 2; threads = 1; age = 1; heaps = 1; shared = 0; classes = 16 }
 
 abbrev directory : Directory
 directory = record { heap = 0; kind = Class 0 }
@@ -76,7 +76,7 @@ may_give {a1 = a1} {a2 = a2} {a3 = a3} {a4 = a4} {a5 = a5} x =
     let bearing : KnowsBearing profile v 0 1 = record {
       backed = backed a1 a2 a3 a4 a5 taken;
       directory = directory;
-      of_profile = record { heap = omega arith; kind = omega arith };
+      of_profile = record { heap = omega arith; kind = omega arith; class = omega arith };
       deed = ap (λ a. known_deed (v5 a1 a a3 a4 a5) 1) (told x).1.1.1.0.answer_is;
       of_heap = refl;
       stamped = refl;
@@ -113,7 +113,7 @@ x6 x m = next x m (may_give x)
 pub deed-requires-clause-can : goal.deed-requires-clause-can
 deed-requires-clause-can c =
     let x = next (start c.requires.fresh c.requires.profile c.requires.room) c.look.ensures.makes tt in
-    can (Deed 1 directory) x ((omega arith, omega arith), record { heap = omega arith; kind = omega arith }) tt
+    can (Deed 1 directory) x ((omega arith, omega arith), record { heap = omega arith; kind = omega arith; class = omega arith }) tt
 
 pub deed-requires-clause-room : goal.deed-requires-clause-room
 deed-requires-clause-room c = spare 1 (next (start c.requires.fresh c.requires.profile c.requires.room) c.look.ensures.makes tt) (omega arith)

@@ -1,6 +1,6 @@
 use Rattle.std.proofs.Common.{ℕ, List, length, ap, sym, ◌∙◌, arith, slice_index}
 use Rattle.std.proofs.lemmas.Bool.{eqb-true, eq-eqb}
-use Rattle.pas_replay.proofs.PlanFacts.{plan_bounds}
+use Rattle.pas_plans.proofs.PlanFacts.{plan_bounds}
 use Rattle.pas_replay.proofs.PlansOfOne.{bound_shows, one_shows}
 use Rattle.pas_replay.proofs.alone.is_of_one_thread.Goals as goal
 

@@ -6,7 +6,7 @@ use Rattle.pas_plain.specs.Plain.{profile_of, PassStands}
 use Rattle.pas_plain.specs.declared.pass.PlainPass.{PlainPass}
 use Rattle.pas_trace.specs.Plans.{ops_of}
 use Rattle.pas_trace.specs.declared.plan.Phase.{Phase}
-use Rattle.pas_replay.proofs.PlanFacts.{plan_phases, plan_valid}
+use Rattle.pas_plans.proofs.PlanFacts.{plan_phases, plan_valid}
 use Rattle.pas_replay.proofs.StartAndEnd.{start, shows, handed, handed_back}
 use Rattle.pas_replay.proofs.kit.in_order.Goals as goal
 

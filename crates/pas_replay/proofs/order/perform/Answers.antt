@@ -3,7 +3,7 @@ use Rattle.pas_profile.specs.declared.profile.Profile.{Profile}
 use Rattle.pas_cache.specs.declared.cache.ThreadCache.{ThreadCache}
 use Rattle.pas_trace.specs.declared.plan.What.{What}
 use Rattle.pas_answers.specs.Acts.{acts_of_what}
-use Rattle.pas_replay.specs.Sessions.{idle_in}
+use Rattle.pas_plans.specs.Awake.{idle_in}
 use Rattle.std.proofs.lemmas.List.{length-set, append-nil}
 use Rattle.pas_report.specs.Rooms.{records_in}
 use Rattle.pas_replay.proofs.ActsInOrder.{as_first}

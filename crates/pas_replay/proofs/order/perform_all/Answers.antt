@@ -1,7 +1,7 @@
 use Rattle.std.proofs.Common.{◌∙◌, List, length, get_or, drop_of_length-le, ap, sym}
 use Rattle.pas_trace.specs.declared.plan.Op.{Op}
 use Rattle.pas_answers.specs.Acts.{acts_of_op, acts_of_ops}
-use Rattle.pas_replay.specs.Sessions.{idle_in}
+use Rattle.pas_plans.specs.Awake.{idle_in}
 use Rattle.pas_replay.proofs.ActsInOrder.{as_first, as_idle, past, at_next}
 use Rattle.pas_replay.proofs.order.perform_all.Goals as goal
 

@@ -2,7 +2,8 @@
 use Rattle.std.proofs.Common.{◌≡◌, ◌++◌, List, drop, length}
 use Rattle.pas_profile.specs.declared.profile.Profile.{Profile}
 use Rattle.pas_answers.specs.Acts.{Act, acts_of_ops}
-use Rattle.pas_replay.specs.Sessions.{idle_in, SoFar, IsTaken, hand_at}
+use Rattle.pas_plans.specs.Awake.{idle_in}
+use Rattle.pas_replay.specs.Sessions.{SoFar, IsTaken, hand_at}
 use Rattle.pas_replay.proofs.order.perform_all.Given as goal
 
 abbrev pub invariant-loop-op : goal.invariant-loop-op

@@ -6,9 +6,11 @@ use Rattle.pas_trace.specs.declared.plan.Op.{Op}
 use Rattle.pas_report.specs.Rooms.{records_in}
 use Rattle.pas_report.specs.declared.record.Record.{Record}
 use Rattle.pas_answers.specs.Acts.{Act, Wakes, Ends, acts_of, acts_of_ops, numbers_from}
-use Rattle.pas_replay.specs.Sessions.{SoFar, awake_in, idle_in, hand_of, hand_at}
+use Rattle.pas_replay.specs.Sessions.{SoFar, hand_of, hand_at}
+use Rattle.pas_plans.specs.Awake.{awake_in, idle_in}
 use Rattle.pas_replay.proofs.Sittings.{may_sit}
-use Rattle.pas_replay.proofs.ActsInOrder.{acts_left, as_acts, as_hand, as_first, as_idle, after_mark, next_phase, first_phase, other_phase, last_phase, wakes_first}
+use Rattle.pas_plans.proofs.ActsLeft.{acts_left, next_phase, first_phase, other_phase, last_phase}
+use Rattle.pas_replay.proofs.ActsInOrder.{as_acts, as_hand, as_first, as_idle, after_mark, wakes_first}
 use Rattle.pas_replay.proofs.order.replay.Goals as goal
 use Rattle.pas_replay.proofs.order.replay.Goals.{then-number-gt-UNMARKED, else-number-gt-UNMARKED, After-active-awake, After-push-2}
 

@@ -5,7 +5,7 @@ use Rattle.pas_trace.specs.Plans.{ops_of}
 use Rattle.pas_profile.specs.declared.profile.Profile.{Profile}
 use Rattle.pas_answers.specs.Acts.{acts_of}
 use Rattle.pas_replay.specs.Sessions.{SoFar, IsTaken, hand_of, hand_at}
-use Rattle.pas_replay.proofs.ActsInOrder.{acts_left}
+use Rattle.pas_plans.proofs.ActsLeft.{acts_left}
 use Rattle.pas_replay.proofs.order.replay.Given as goal
 
 abbrev pub invariant-loop-phase : goal.invariant-loop-phase

@@ -4,8 +4,10 @@ use Rattle.pas_bits.specs.Masks.{is_set}
 use Rattle.pas_profile.specs.declared.profile.Profile.{Profile}
 use Rattle.pas_cache.specs.declared.cache.ThreadCache.{ThreadCache}
 use Rattle.pas_answers.specs.Acts.{Act, ReadsEpoch, StopsIdle, numbers_from, idle_stops}
-use Rattle.pas_replay.specs.Sessions.{SoFar, idle_in, hand_at}
-use Rattle.pas_replay.proofs.ActsInOrder.{as_read, next_chosen, next_passed, none_left}
+use Rattle.pas_replay.specs.Sessions.{SoFar, hand_at}
+use Rattle.pas_plans.specs.Awake.{idle_in}
+use Rattle.pas_replay.proofs.ActsInOrder.{as_read}
+use Rattle.pas_plans.proofs.ActsLeft.{next_chosen, next_passed, none_left}
 use Rattle.pas_replay.proofs.Scavenging.{may_scavenge, has_read}
 use Rattle.pas_replay.proofs.order.stop_idle.Goals as goal
 use Rattle.pas_replay.proofs.order.stop_idle.Goals.{then-not-get, else-not-get}

@@ -4,7 +4,8 @@ use Rattle.std.specs.List.{filter}
 use Rattle.pas_bits.specs.Masks.{is_set}
 use Rattle.pas_profile.specs.declared.profile.Profile.{Profile}
 use Rattle.pas_answers.specs.Acts.{Act, ReadsEpoch, numbers_from, idle_stops}
-use Rattle.pas_replay.specs.Sessions.{idle_in, SoFar, HasRead, IsTaken, hand_at}
+use Rattle.pas_plans.specs.Awake.{idle_in}
+use Rattle.pas_replay.specs.Sessions.{SoFar, HasRead, IsTaken, hand_at}
 use Rattle.pas_replay.proofs.order.stop_idle.Given as goal
 
 abbrev pub invariant-loop-index : goal.invariant-loop-index

@@ -6,9 +6,11 @@ use Rattle.pas_profile.specs.declared.profile.Profile.{Profile}
 use Rattle.pas_cache.specs.declared.cache.ThreadCache.{ThreadCache}
 use Rattle.pas_report.specs.declared.records.Records.{Records}
 use Rattle.pas_answers.specs.Acts.{Act, Wakes}
-use Rattle.pas_replay.specs.Sessions.{awake_in, SoFar, hand_at}
+use Rattle.pas_plans.specs.Awake.{awake_in}
+use Rattle.pas_replay.specs.Sessions.{SoFar, hand_at}
 use Rattle.pas_answers.specs.declared.names.Names.{Names}
-use Rattle.pas_replay.proofs.ActsInOrder.{as_acts, next_chosen, next_passed, none_left}
+use Rattle.pas_replay.proofs.ActsInOrder.{as_acts}
+use Rattle.pas_plans.proofs.ActsLeft.{next_chosen, next_passed, none_left}
 use Rattle.pas_replay.proofs.Operations.{has_cache, may_wake, has_woken}
 use Rattle.pas_replay.proofs.order.wake_all.Goals as goal
 use Rattle.pas_replay.proofs.order.wake_all.Goals.{then-get, else-get}

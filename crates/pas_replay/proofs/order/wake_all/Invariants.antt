@@ -6,7 +6,8 @@ use Rattle.pas_bits.specs.Masks.{is_set}
 use Rattle.pas_profile.specs.declared.profile.Profile.{Profile}
 use Rattle.pas_report.specs.declared.records.Records.{Records}
 use Rattle.pas_answers.specs.Acts.{Act, Wakes, numbers_from}
-use Rattle.pas_replay.specs.Sessions.{awake_in, SoFar, IsTaken, hand_at}
+use Rattle.pas_plans.specs.Awake.{awake_in}
+use Rattle.pas_replay.specs.Sessions.{SoFar, IsTaken, hand_at}
 use Rattle.pas_answers.specs.declared.names.Names.{Names}
 use Rattle.pas_replay.proofs.order.wake_all.Given as goal
 

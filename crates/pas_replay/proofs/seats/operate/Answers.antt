@@ -13,8 +13,8 @@ pub answer-requires-clause-can : goal.answer-requires-clause-can
 answer-requires-clause-can c =
     let desk = c.take_seat.new.desk in
     let there = c.index_mut-cache.result.now in
-    subst (λ (g : Profile). CanCall (standing_of desk) (λ v l. MayAnswer g (cached there) c.args.what (spare_at desk) c.args.out.now v)) (ap profile_of (sym c.take_seat.ensures.region_is))
-    (subst (λ (x : Cached). CanCall (standing_of desk) (λ v l. MayAnswer (profile_of c.args.desk.now.region) x c.args.what (spare_at desk) c.args.out.now v))
+    subst (λ (g : Profile). CanCall (standing_of desk) (MayAnswer g (cached there) c.args.what (spare_at desk) c.args.out.now)) (ap profile_of (sym c.take_seat.ensures.region_is))
+    (subst (λ (x : Cached). CanCall (standing_of desk) (MayAnswer (profile_of c.args.desk.now.region) x c.args.what (spare_at desk) c.args.out.now))
     (has_at c.args.actors.now.caches.items c.args.actor there c.requires.can.1 c.index_mut-cache.ensures.value) (may_there c.args.actor c.requires.can.2 c.take_seat.ensures))
 
 pub returns-clause-turn : goal.returns-clause-turn

@@ -1,6 +1,6 @@
 use Rattle.std.proofs.Common.{◌≡◌, ℕ, ◌-◌, length, ◌≤◌, ◌<◌, ◌+◌, ◌/◌, List}
 use Rattle.pas_steps.specs.declared.step.Made.{Made}
-use Rattle.pas_steps.specs.Desks.{Anything, Adds}
+use Rattle.pas_steps.specs.Desks.{AnyView, Adds}
 use Rattle.pas_steps.specs.Past.{Once}
 use Rattle.pas_steps.specs.Frames.{OnlyScans}
 use Rattle.pas_steps.specs.Evidence.{DeedHere, IsSingle}
@@ -12,7 +12,7 @@ use Rattle.pas_scan.proofs.bare.first_without_deed.Given as goal
 abbrev pub invariant-loop-page : goal.invariant-loop-page
 invariant-loop-page g l = let D = g.D.Desk in record {
   steps : List Made;
-  adds : Adds (D.standing l.fn.desk) (D.standing l.desk) Anything steps;
+  adds : Adds (D.standing l.fn.desk) (D.standing l.desk) AnyView steps;
   scans : OnlyScans steps;
   single : IsSingle steps;
   below : Below (l.page + l.page / 64) steps;

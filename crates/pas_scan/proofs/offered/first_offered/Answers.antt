@@ -1,7 +1,7 @@
 use Rattle.std.proofs.Common.{◌≡◌, ◌+◌, ◌-◌, ◌/◌, ◌*◌, ◌++◌, refl, ap, ◌∙◌, arith, length-append}
 use Rattle.pas_profile.specs.Directories.{number_of}
 use Rattle.pas_profile.specs.declared.profile.Profile.{Profile}
-use Rattle.pas_steps.specs.Desks.{Anything}
+use Rattle.pas_steps.specs.Desks.{AnyView}
 use Rattle.pas_steps.proofs.Adding.{adds_call}
 use Rattle.pas_scan.specs.Rows.{words_to}
 use Rattle.pas_scan.proofs.Reading.{eligible_count}
@@ -16,7 +16,7 @@ loop-block-preserved g c =
     let order = row_after (number_of d) (next / 64) block r.steps i.steps r.answers i.answers i.at r.order i.order in
     record {
       steps = r.steps ++ i.steps;
-      adds = adds_call {D = Anything} i.adds r.adds (λ v l stood met. tt);
+      adds = adds_call {D = AnyView} i.adds r.adds (λ v l stood met. tt);
       answers = r.answers ++ i.answers;
       order = order;
       at = omega (arith, i.at, r.count, length-append r.answers i.answers);
@@ -34,7 +34,7 @@ returns-in-Some-clause-found g c =
     let pages : c.profile.result.now.pages ≡ f.pages = ap (λ (x : Profile). x.pages) c.profile.ensures in
     let ends = c.min-row_end.ensures in let within = c.loop-block-test.true in
     let order = row_after (number_of d) (next / 64) block r.steps i.steps r.answers i.answers i.at r.order i.order in
-    let adds = adds_call {D = Anything} i.adds r.adds (λ v l stood met. tt) in
+    let adds = adds_call {D = AnyView} i.adds r.adds (λ v l stood met. tt) in
     let here = shown_within c.read_row-row.result block end page r.rest lowest.from_block lowest.shown in
     let low = lowest.from_block in
     let row : page / 512 ≡ block / 8 = omega (arith, low, here, ends) in

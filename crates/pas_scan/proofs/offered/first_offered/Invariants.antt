@@ -1,6 +1,6 @@
 use Rattle.std.proofs.Common.{◌≡◌, ℕ, ◌+◌, ◌-◌, ◌/◌, length, ◌≤◌, ◌<◌, ◌*◌, List}
 use Rattle.pas_steps.specs.declared.step.Made.{Made}
-use Rattle.pas_steps.specs.Desks.{Anything, Adds}
+use Rattle.pas_steps.specs.Desks.{AnyView, Adds}
 use Rattle.pas_steps.specs.Past.{Once}
 use Rattle.pas_steps.specs.Evidence.{ZeroHere}
 use Rattle.pas_profile.specs.Directories.{number_of}
@@ -11,7 +11,7 @@ use Rattle.pas_scan.proofs.offered.first_offered.Given as goal
 abbrev pub invariant-loop-block : goal.invariant-loop-block
 invariant-loop-block g l = let D = g.D.Desk in record {
   steps : List Made;
-  adds : Adds (D.standing l.fn.desk) (D.standing l.desk) Anything steps;
+  adds : Adds (D.standing l.fn.desk) (D.standing l.desk) AnyView steps;
   answers : List ℕ;
   order : steps ≡ eligible_looks (number_of l.fn.looked.directory) (l.next / 64) answers;
   at : l.next / 64 + length answers ≡ l.block;

@@ -1,6 +1,6 @@
 use Rattle.std.proofs.Common.{◌≡◌, ◌+◌, ◌/◌, List, length}
 use Rattle.pas_steps.specs.declared.step.Made.{Made}
-use Rattle.pas_steps.specs.Desks.{Anything, Adds}
+use Rattle.pas_steps.specs.Desks.{AnyView, Adds}
 use Rattle.pas_steps.specs.Evidence.{IsSingle}
 use Rattle.pas_scan.specs.Scan.{InBlock}
 use Rattle.pas_scan.proofs.Singles.{Below}
@@ -11,7 +11,7 @@ use Rattle.pas_scan.proofs.parked.members.Given as goal
 abbrev pub invariant-loop-page : goal.invariant-loop-page
 invariant-loop-page g l = let D = g.D.Desk in record {
   steps : List Made;
-  adds : Adds (D.standing l.fn.desk) (D.standing l.desk) Anything steps;
+  adds : Adds (D.standing l.fn.desk) (D.standing l.desk) AnyView steps;
   deeds : InBlock l.block steps;
   single : IsSingle steps;
   below : Below (l.page + l.page / 64) steps;

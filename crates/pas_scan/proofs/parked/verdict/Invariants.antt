@@ -1,6 +1,6 @@
 use Rattle.std.proofs.Common.{◌≡◌, ◌≤◌, ◌*◌, List, length}
 use Rattle.pas_steps.specs.declared.step.Made.{Made}
-use Rattle.pas_steps.specs.Desks.{Anything, Adds}
+use Rattle.pas_steps.specs.Desks.{AnyView, Adds}
 use Rattle.pas_steps.specs.Frames.{OnlyScans}
 use Rattle.pas_steps.specs.Evidence.{IsSingle}
 use Rattle.pas_steps.specs.Kinds.{Only}
@@ -12,7 +12,7 @@ use Rattle.pas_scan.proofs.parked.verdict.Given as goal
 abbrev pub invariant-loop-block : goal.invariant-loop-block
 invariant-loop-block g l = let D = g.D.Desk in record {
   steps : List Made;
-  adds : Adds (D.standing l.fn.desk) (D.standing l.desk) Anything steps;
+  adds : Adds (D.standing l.fn.desk) (D.standing l.desk) AnyView steps;
   scans : OnlyScans steps;
   single : IsSingle steps;
   kinds : Only judging steps;

@@ -1,7 +1,7 @@
 use Rattle.std.proofs.Common.{◌≡◌, ℕ, ◌+◌, ◌-◌, ◌<◌, ◌≤◌, List, length, slice_index}
 use Rattle.pas_profile.specs.Directories.{number_of}
 use Rattle.pas_steps.specs.declared.step.Made.{Made}
-use Rattle.pas_steps.specs.Desks.{Anything, Adds}
+use Rattle.pas_steps.specs.Desks.{AnyView, Adds}
 use Rattle.pas_steps.specs.Past.{Once}
 use Rattle.pas_scan.specs.Rows.{eligible_looks, WordReadHere}
 use Rattle.pas_scan.proofs.row.read_row.Given as goal
@@ -10,7 +10,7 @@ use Rattle.pas_scan.proofs.row.read_row.Given as goal
 abbrev pub invariant-loop-word : goal.invariant-loop-word
 invariant-loop-word g l = let D = g.D.Desk in record {
   steps : List Made;
-  adds : Adds (D.standing l.fn.desk) (D.standing l.desk) Anything steps;
+  adds : Adds (D.standing l.fn.desk) (D.standing l.desk) AnyView steps;
   answers : List ℕ;
   order : steps ≡ eligible_looks (number_of l.fn.directory) l.block answers;
   at : l.block + length answers ≡ l.word;

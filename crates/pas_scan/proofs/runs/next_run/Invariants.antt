@@ -1,6 +1,6 @@
 use Rattle.std.proofs.Common.{◌≡◌, ◌+◌, ◌-◌, ◌*◌, ◌≤◌, List, length}
 use Rattle.pas_steps.specs.declared.step.Made.{Made}
-use Rattle.pas_steps.specs.Desks.{Anything, Adds}
+use Rattle.pas_steps.specs.Desks.{AnyView, Adds}
 use Rattle.pas_steps.specs.Kinds.{Only}
 use Rattle.pas_scan.specs.Runs.{large_directory, page_looks}
 use Rattle.pas_scan.proofs.RunsSoFar.{RunSoFar}
@@ -10,7 +10,7 @@ use Rattle.pas_scan.proofs.runs.next_run.Given as goal
 abbrev pub invariant-loop-page : goal.invariant-loop-page
 invariant-loop-page g l = let D = g.D.Desk in record {
   steps : List Made;
-  adds : Adds (D.standing l.fn.desk) (D.standing l.desk) Anything steps;
+  adds : Adds (D.standing l.fn.desk) (D.standing l.desk) AnyView steps;
   kinds : Only page_looks steps;
   few : length steps + 6 * l.next ≤ 6 * l.page;
   most : length steps ≤ 6 * ((D.standing l.fn.desk).seat.profile.pages + 1 - l.next);

@@ -1,6 +1,6 @@
 use Rattle.std.proofs.Common.{◌≡◌, ℕ, ◌<◌, List, length}
 use Rattle.pas_steps.specs.declared.step.Made.{Made}
-use Rattle.pas_steps.specs.Desks.{Anything, Adds}
+use Rattle.pas_steps.specs.Desks.{AnyView, Adds}
 use Rattle.pas_steps.specs.Past.{Once}
 use Rattle.pas_steps.specs.Kinds.{Only}
 use Rattle.pas_scan.specs.Runs.{page_looks, FreeLookHere}
@@ -10,7 +10,7 @@ use Rattle.pas_scan.proofs.usable.are_free.Given as goal
 abbrev pub invariant-loop-word : goal.invariant-loop-word
 invariant-loop-word g l = let D = g.D.Desk in record {
   steps : List Made;
-  adds : Adds (D.standing l.fn.desk) (D.standing l.desk) Anything steps;
+  adds : Adds (D.standing l.fn.desk) (D.standing l.desk) AnyView steps;
   kinds : Only page_looks steps;
   count : length steps ≡ l.word;
   free : (w : ℕ) → w < l.word → Once (FreeLookHere l.page w) steps;

@@ -3,12 +3,12 @@ use Rattle.pas_profile.specs.declared.profile.Profile.{Profile}
 use Rattle.pas_plain.specs.Plain.{PassStands}
 use Rattle.pas_plain.specs.declared.pass.PlainPass.{PlainPass}
 use Rattle.pas_steps.proofs.Called.{next_call}
-use Rattle.pas_shared_trials.proofs.Pops.{last_is}
+use Rattle.pas_shared.proofs.Pops.{last_is}
 use Rattle.pas_scan_timing.proofs.opened.last_offered.Goals as goal
 
 -- the profile of the region
 abbrev timed_profile : Profile
-timed_profile = record { pages = 4096; threads = 1; age = 2; heaps = 1; shared = 0 }
+timed_profile = record { pages = 4096; threads = 1; age = 2; heaps = 1; shared = 0; classes = 16 }
 
 pub visit-requires-clause-can : goal.visit-requires-clause-can
 visit-requires-clause-can c =

@@ -10,28 +10,28 @@ pub returns-then-look-eq0-clause-examines : goal.returns-then-look-eq0-clause-ex
 returns-then-look-eq0-clause-examines g c = bare_page c.args.page c.args.epoch c.look.result c.look.ensures.makes c.if-look-eq0.true
 
 pub returns-in-Some-clause-examines : goal.returns-in-Some-clause-examines
-returns-in-Some-clause-examines g c = used_page c.args.page c.args.epoch c.look.result c.if-look-eq0.false c.look.ensures.makes c.in-Some.used c.in-Some.ensures.looks
+returns-in-Some-clause-examines g c = used_page c.args.page c.args.epoch c.look.result c.if-look-eq0.false c.look.ensures.makes c.in-Some.used c.in-Some.ensures.reads
 
 pub read_directory-directory-requires-clause-can : goal.read_directory-directory-requires-clause-can
-read_directory-directory-requires-clause-can g c = can_read c.args.page c.args.epoch c.look.result c.if-look-eq0.false c.look.ensures.makes c.in_default.ensures.looks c.requires.can
+read_directory-directory-requires-clause-can g c = can_read c.args.page c.args.epoch c.look.result c.if-look-eq0.false c.look.ensures.makes c.in_default.ensures.reads c.requires.can
 
 pub claim-requires-clause-can : goal.claim-requires-clause-can
 claim-requires-clause-can g c =
-    can_claim c.args.page c.args.epoch c.look.result c.if-look-eq0.false c.look.ensures.makes c.in_default.ensures.looks c.read_directory-directory.result c.read_directory-directory.ensures.reads c.requires.can
+    can_claim c.args.page c.args.epoch c.look.result c.if-look-eq0.false c.look.ensures.makes c.in_default.ensures.reads c.read_directory-directory.result c.read_directory-directory.ensures.reads c.requires.can
 
 pub returns-then-not-claim-clause-examines : goal.returns-then-not-claim-clause-examines
 returns-then-not-claim-clause-examines g c = let D = g.D.Desk in let d = c.read_directory-directory.result in
-    page_not_offered c.args.page c.args.epoch c.look.result c.if-look-eq0.false c.look.ensures.makes c.in_default.ensures.looks d c.read_directory-directory.ensures.reads
+    page_not_offered c.args.page c.args.epoch c.look.result c.if-look-eq0.false c.look.ensures.makes c.in_default.ensures.reads d c.read_directory-directory.ensures.reads
     (subst (λ t. Claims c.args.page d (D.standing c.read_directory-directory.new.desk) (D.standing c.claim.new.desk) t) c.if-not-claim.true c.claim.ensures.claims) c.hint.result c.hint.ensures.makes
 
 pub take_page-requires-clause-can : goal.take_page-requires-clause-can
 take_page-requires-clause-can g c = let D = g.D.Desk in let d = c.read_directory-directory.result in
-    can_take c.args.page c.args.epoch c.look.result c.if-look-eq0.false c.look.ensures.makes c.in_default.ensures.looks d c.read_directory-directory.ensures.reads
+    can_take c.args.page c.args.epoch c.look.result c.if-look-eq0.false c.look.ensures.makes c.in_default.ensures.reads d c.read_directory-directory.ensures.reads
     (subst (λ t. Claims c.args.page d (D.standing c.read_directory-directory.new.desk) (D.standing c.claim.new.desk) t) c.if-not-claim.false c.claim.ensures.claims) c.requires.can
 
 pub take_page-requires-clause-room : goal.take_page-requires-clause-room
 take_page-requires-clause-room g c =
-    let D = g.D.Desk in let page = c.args.page in let e = c.args.epoch in let b = c.look.result in let d = c.read_directory-directory.result in let l = c.in_default.ensures.looks in let r = c.read_directory-directory.ensures.reads in
+    let D = g.D.Desk in let page = c.args.page in let e = c.args.epoch in let b = c.look.result in let d = c.read_directory-directory.result in let l = c.in_default.ensures.reads in let r = c.read_directory-directory.ensures.reads in
     let cl = c.claim.ensures.claims in let got = c.claim.result in let some = c.if-look-eq0.false in let first = c.look.ensures.makes in
     let same = same_room quiet refl (D.spare_of c.args.desk.now) (D.spare_of c.claim.new.desk) (asked page e b some first l d r got cl) c.requires.can
     (asks_sized page d got (asking page e b some first l d r got cl) (asks page e b some first l d r got cl)).only (λ v l stood. g.met.D.Desk.spares c.args.desk.now v l stood) (λ v l stood. g.met.D.Desk.spares c.claim.new.desk v l stood) in
@@ -39,5 +39,5 @@ take_page-requires-clause-room g c =
 
 pub returns-clause-examines : goal.returns-clause-examines
 returns-clause-examines g c = let D = g.D.Desk in let d = c.read_directory-directory.result in
-    page_taken c.args.page c.args.epoch c.look.result c.if-look-eq0.false c.look.ensures.makes c.in_default.ensures.looks d c.read_directory-directory.ensures.reads
+    page_taken c.args.page c.args.epoch c.look.result c.if-look-eq0.false c.look.ensures.makes c.in_default.ensures.reads d c.read_directory-directory.ensures.reads
     (subst (λ t. Claims c.args.page d (D.standing c.read_directory-directory.new.desk) (D.standing c.claim.new.desk) t) c.if-not-claim.false c.claim.ensures.claims) c.take_page.ensures.takes

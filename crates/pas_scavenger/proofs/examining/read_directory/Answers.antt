@@ -1,6 +1,6 @@
 use Rattle.std.proofs.Common.{[], ◌∷◌, subst}
 use Rattle.pas_profile.specs.declared.word.Word.TheVariants as Word
-use Rattle.pas_steps.specs.Desks.{Anything, Adds, made}
+use Rattle.pas_steps.specs.Desks.{AnyView, Adds, made}
 use Rattle.pas_steps.specs.declared.step.Step.TheVariants.{Look}
 use Rattle.pas_steps.proofs.Adding.{adds_none, adds_step}
 use Rattle.pas_steps.proofs.ReadDeeds.{directory_told, directory_is}
@@ -19,5 +19,5 @@ returns-clause-reads g c =
     let is = directory_is f c.look.result c.read_deed.result c.in-Some.directory told c.in-Some.is in
     record {
       of_profile = is.1;
-      adds = subst (λ n. Adds (D.standing c.args.desk.now) (D.standing c.look.new.self) Anything (made (Look (Word.Deed c.args.page)) n ∷ [])) is.0 (adds_step adds_none c.look.ensures.makes (λ v l stood met. tt));
+      adds = subst (λ n. Adds (D.standing c.args.desk.now) (D.standing c.look.new.self) AnyView (made (Look (Word.Deed c.args.page)) n ∷ [])) is.0 (adds_step adds_none c.look.ensures.makes (λ v l stood met. tt));
     }

@@ -1,46 +1,35 @@
-use Rattle.std.proofs.Common.{◌/◌, ◌%◌, [], ◌∷◌, refl, ap, sym, ◌∙◌, arith, ◌&&◌}
-use Rattle.std.proofs.Math.ListN.{length-set}
-use Rattle.std.proofs.lemmas.Bool.{eq-eqb}
+use Rattle.std.proofs.Common.{◌≡◌, refl, sym, subst, ◌∙◌, add-one, arith}
+use Rattle.pas_rights.specs.Takes.{HasRight, takes}
+use Rattle.pas_rights.specs.Words.{ones}
+use Rattle.pas_rights.proofs.Takes.{takes_right}
+use Rattle.pas_steps.specs.Desks.{Adds, Makes}
 use Rattle.pas_steps.specs.Views.{all_ones}
-use Rattle.pas_rights.specs.Looks.{are_all_ones}
-use Rattle.pas_steps.proofs.Adding.{adds_none, can_step}
-use Rattle.pas_scavenger.proofs.States.{may_take, more_takes, got_none, got_more}
+use Rattle.pas_steps.specs.declared.step.Step.TheVariants.{Take}
+use Rattle.pas_steps.proofs.Adding.{adds_none, adds_step, can_step}
 use Rattle.pas_scavenger.proofs.taking.take_grains.Goals as goal
 
 pub loop-word-init : goal.loop-word-init
-loop-word-init g c = record { answers = []; so_far = refl; four = refl; got = λ x. got_none (x / 64) (x % 64); adds = adds_none; free = refl; home = refl }
+loop-word-init g c = record { adds = adds_none; home = refl }
 
 pub take-value-requires-clause-can : goal.take-value-requires-clause-can
-take-value-requires-clause-can g c = let i = c.loop-word.invariant in
-    can_step i.adds c.requires.can ((c.requires.page.0, c.requires.page.1), c.loop-word-test.true, omega arith) (λ v l stood right. may_take c.args.page i.answers v right)
+take-value-requires-clause-can g c =
+    can_step c.loop-word.invariant.adds c.requires.can ((c.requires.page.0, c.requires.page.1), c.loop-word-test.true, omega arith) (λ v l stood right. takes_right c.args.page ones ones c.loop-word.word v right)
 
 pub loop-word-preserved : goal.loop-word-preserved
-loop-word-preserved g c =
-    let i = c.loop-word.invariant in let a = c.take-value.result in let word = c.loop-word.word in
-    record {
-      answers = a ∷ i.answers;
-      so_far = omega (arith, i.so_far);
-      four = simp length-set i.four;
-      got = got_more c.loop-word.grains i.answers a word i.so_far (omega (arith, i.four)) i.got;
-      adds = more_takes c.args.page i.answers a word i.so_far i.adds c.take-value.ensures.makes;
-      free = ap (λ t. t && are_all_ones i.answers) (eq-eqb a all_ones c.if-value.false) ∙ i.free;
-      home = c.take-value.ensures.home ∙ i.home;
-    }
+loop-word-preserved g c = let D = g.D.Desk in let i = c.loop-word.invariant in let page = c.args.page in let word = c.loop-word.word in record {
+  adds = subst (λ n. Adds (D.standing c.args.desk.now) (D.standing c.take-value.new.self) (HasRight page) (takes page ones ones n)) (sym (add-one word))
+      (adds_step i.adds (subst (λ a. Makes (D.standing c.loop-word.desk) (D.standing c.take-value.new.self) (Take page word all_ones) a) c.if-value.false c.take-value.ensures.makes) (λ v l stood right. takes_right page ones ones word v right));
+  home = c.take-value.ensures.home ∙ i.home;
+}
 
 pub returns-then-value-clause-takes : goal.returns-then-value-clause-takes
-returns-then-value-clause-takes g c =
-    let i = c.loop-word.invariant in let a = c.take-value.result in let word = c.loop-word.word in
-    record {
-      answers = a ∷ i.answers;
-      read = record { earlier = i.answers; answers_are = refl; word_is = sym i.so_far; within = c.loop-word-test.true; some = c.if-value.true; free = i.free };
-      got = got_more c.loop-word.grains i.answers a word i.so_far (omega (arith, i.four)) i.got;
-      adds = more_takes c.args.page i.answers a word i.so_far i.adds c.take-value.ensures.makes;
-    }
+returns-then-value-clause-takes g c = record {
+  are = record { within = c.loop-word-test.true; some = c.if-value.true };
+  adds = adds_step c.loop-word.invariant.adds c.take-value.ensures.makes (λ v l stood right. takes_right c.args.page ones ones c.loop-word.word v right);
+}
 
 pub returns-clause-takes : goal.returns-clause-takes
-returns-clause-takes g c = let i = c.loop-word.invariant in record {
-  answers = i.answers;
-  read = record { four = omega (arith, i.so_far, c.loop-word.auto.word-end, c.loop-word-test.false); free = i.free };
-  got = i.got;
-  adds = i.adds;
+returns-clause-takes g c = let D = g.D.Desk in let all : c.loop-word.word ≡ 4 = omega (arith, c.loop-word.auto.word-end, c.loop-word-test.false) in record {
+  are = tt;
+  adds = subst (λ n. Adds (D.standing c.args.desk.now) (D.standing c.loop-word.desk) (HasRight c.args.page) (takes c.args.page ones ones n)) all c.loop-word.invariant.adds;
 }

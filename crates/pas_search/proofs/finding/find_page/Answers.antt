@@ -7,7 +7,7 @@ use Rattle.pas_search.proofs.FindingAPage.{ends_offered, ends_bare, ends_refused
 use Rattle.pas_search.proofs.finding.find_page.Goals as goal
 
 pub search_offered-requires-clause-can : goal.search_offered-requires-clause-can
-search_offered-requires-clause-can g c = subst (λ (x : Directory). CanCall (g.D.Desk.standing c.args.desk.now) (λ v l. MaySearch x v)) (sym c.begin-looked.ensures.directory) (may_can c.requires.can)
+search_offered-requires-clause-can g c = subst (λ (x : Directory). CanCall (g.D.Desk.standing c.args.desk.now) (MaySearch x)) (sym c.begin-looked.ensures.directory) (may_can c.requires.can)
 
 pub search_bare-requires-clause-can : goal.search_bare-requires-clause-can
 search_bare-requires-clause-can g c =

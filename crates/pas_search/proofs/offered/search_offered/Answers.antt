@@ -29,7 +29,7 @@ serve-requires-clause-can g c =
 pub serve-requires-clause-room : goal.serve-requires-clause-room
 serve-requires-clause-room g c =
     let i = c.loop-looked.invariant in let d = c.args.looked.now.directory in let h = c.claim.ensures.claims in
-    room_kept {C = λ v l. MaySearch d v} (g.S.Serving.rule c.args.serving.now).events (claim_adds i.tries i.directory c.in-Some.ensures.found h.calls.adds) c.requires.can
+    room_kept {C = MaySearch d} (g.S.Serving.rule c.args.serving.now).events (claim_adds i.tries i.directory c.in-Some.ensures.found h.calls.adds) c.requires.can
     (claim_quiet i.tries i.directory c.in-Some.ensures.found h.calls.adds) (g.met.D.Desk.spares c.args.desk.now) (g.met.D.Desk.spares c.claim.new.desk) c.requires.room
 
 pub returns-in-Some-serve-clause-found : goal.returns-in-Some-serve-clause-found

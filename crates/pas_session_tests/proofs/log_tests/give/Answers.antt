@@ -20,7 +20,7 @@ use Rattle.pas_plain.proofs.Walk.{At, start, next, can, told, spare}
 use Rattle.pas_session_tests.proofs.log_tests.give.Goals as goal
 
 abbrev profile : Profile
-profile = record { pages = 2; threads = 1; age = 1; heaps = 1; shared = 0 }
+profile = record { pages = 2; threads = 1; age = 1; heaps = 1; shared = 0; classes = 16 }
 
 abbrev directory : Directory
 directory = record { heap = 0; kind = Bitfit }
@@ -100,7 +100,7 @@ give_both {a1 = a1} {a2 = a2} {a3 = a3} {a4 = a4} {a5 = a5} {a6 = a6} {a7 = a7} 
     let first : KnowsBearing profile v 0 1 = record {
       backed = backed_first a1 a2 a3 a4 a5 a6 a7 e3;
       directory = directory;
-      of_profile = record { heap = omega arith; kind = tt };
+      of_profile = record { heap = omega arith; kind = tt; class = tt };
       deed = ap (λ a. known_deed (v7 a a2 a3 a4 a5 a6 a7) 1) e1;
       of_heap = refl;
       stamped = refl;
@@ -108,7 +108,7 @@ give_both {a1 = a1} {a2 = a2} {a3 = a3} {a4 = a4} {a5 = a5} {a6 = a6} {a7 = a7} 
     let second : KnowsBearing profile v 0 2 = record {
       backed = backed_second a1 a2 a3 a4 a5 a6 a7 e4;
       directory = directory;
-      of_profile = record { heap = omega arith; kind = tt };
+      of_profile = record { heap = omega arith; kind = tt; class = tt };
       deed = ap (λ a. known_deed (v7 a1 a a3 a4 a5 a6 a7) 2) e2;
       of_heap = refl;
       stamped = refl;
@@ -144,13 +144,13 @@ x8 x m7 m8 = let y = next x m7 tt in next y m8 (give_both y)
 
 -- ---- the goals
 pub deed-requires-clause-can : goal.deed-requires-clause-can
-deed-requires-clause-can c = can (Deed 1 directory) (start c.requires.fresh c.requires.profile c.requires.room) ((omega arith, omega arith), record { heap = omega arith; kind = tt }) tt
+deed-requires-clause-can c = can (Deed 1 directory) (start c.requires.fresh c.requires.profile c.requires.room) ((omega arith, omega arith), record { heap = omega arith; kind = tt; class = tt }) tt
 
 pub deed-requires-clause-room : goal.deed-requires-clause-room
 deed-requires-clause-room c = spare 1 (start c.requires.fresh c.requires.profile c.requires.room) (omega arith)
 
 pub deed-requires-2-clause-can : goal.deed-requires-2-clause-can
-deed-requires-2-clause-can c = can (Deed 2 directory) (next (start c.requires.fresh c.requires.profile c.requires.room) c.deed.ensures.makes tt) ((omega arith, omega arith), record { heap = omega arith; kind = tt }) tt
+deed-requires-2-clause-can c = can (Deed 2 directory) (next (start c.requires.fresh c.requires.profile c.requires.room) c.deed.ensures.makes tt) ((omega arith, omega arith), record { heap = omega arith; kind = tt; class = tt }) tt
 
 pub deed-requires-2-clause-room : goal.deed-requires-2-clause-room
 deed-requires-2-clause-room c = spare 1 (next (start c.requires.fresh c.requires.profile c.requires.room) c.deed.ensures.makes tt) (omega arith)

@@ -1,7 +1,7 @@
 use Rattle.std.proofs.Common.{[], refl}
 use Rattle.pas_plain.specs.Seats.{standing_of}
 use Rattle.pas_segregated.specs.Stops.{class_directory}
-use Rattle.pas_steps.specs.Calls.{AnyView}
+use Rattle.pas_steps.specs.Desks.{AnyView}
 use Rattle.pas_trials.specs.Filling.{Steps}
 use Rattle.pas_session_tests.proofs.Besides.{may_search, beside_then, waits_then, seated_then, rests_beside, others_then}
 use Rattle.pas_session_tests.proofs.slot_tests.refill_beside.Goals as goal

@@ -1,5 +1,9 @@
+use Rattle.pas_cache.proofs.Routes.{is_small}
 use Rattle.pas_shared_trials.proofs.Working.{works_on}
 use Rattle.pas_shared_trials.proofs.storming.ask_once.Goals as goal
+
+pub alloc-requires-clause-route : goal.alloc-requires-clause-route
+alloc-requires-clause-route g c = is_small _ c.args.size 16 c.requires.size
 
 pub returns-in-Ok-clause-working : goal.returns-in-Ok-clause-working
 returns-in-Ok-clause-working g c = works_on c.args.room c.requires.working c.alloc.ensures.allocates.calls

@@ -3,7 +3,7 @@ use Rattle.std.specs.Prelude.{IfSome}
 use Rattle.pas_shared.specs.declared.pass.SharedPass.{SharedPass}
 use Rattle.pas_shared.specs.Passes.{IsPassOf}
 use Rattle.pas_shared_trials.specs.Storms.{HasPass}
-use Rattle.pas_shared_trials.proofs.Pops.{all_more, first_is, others_are}
+use Rattle.pas_shared.proofs.Pops.{all_more, first_is, others_are}
 use Rattle.pas_shared_trials.proofs.workers.gather.Goals as goal
 
 pub loop-worker-preserved : goal.loop-worker-preserved

@@ -1,7 +1,7 @@
 use Rattle.std.proofs.Common.{refl, ◌∙◌}
 use Rattle.pas_shared_trials.specs.Races.{IsFreshPass}
 use Rattle.pas_shared_trials.specs.Storms.{IsReadyForStorm}
-use Rattle.pas_shared_trials.proofs.Pops.{all_more, first_is, others_are}
+use Rattle.pas_shared.proofs.Pops.{all_more, first_is, others_are}
 use Rattle.pas_shared_trials.proofs.workers.storm_workers.Goals as goal
 
 pub loop-pass-preserved-then-actor-lt1 : goal.loop-pass-preserved-then-actor-lt1

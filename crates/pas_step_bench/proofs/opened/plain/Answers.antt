@@ -2,7 +2,7 @@ use Rattle.std.proofs.Common.{[], sym, subst}
 use Rattle.pas_profile.specs.declared.profile.Profile.{Profile}
 use Rattle.pas_plain.specs.Plain.{PassStands}
 use Rattle.pas_plain.specs.declared.pass.PlainPass.{PlainPass}
-use Rattle.pas_shared_trials.proofs.Pops.{last_is}
+use Rattle.pas_shared.proofs.Pops.{last_is}
 use Rattle.pas_step_bench.specs.Repeats.{bench_profile}
 use Rattle.pas_step_bench.proofs.opened.plain.Goals as goal
 

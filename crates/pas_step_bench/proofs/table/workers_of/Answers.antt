@@ -1,5 +1,5 @@
 use Rattle.pas_shared_trials.specs.Races.{IsFreshPass}
-use Rattle.pas_shared_trials.proofs.Pops.{all_more, first_is, others_are}
+use Rattle.pas_shared.proofs.Pops.{all_more, first_is, others_are}
 use Rattle.pas_step_bench.specs.Repeats.{IsReady}
 use Rattle.pas_step_bench.proofs.table.workers_of.Goals as goal
 

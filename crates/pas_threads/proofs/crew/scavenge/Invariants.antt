@@ -3,13 +3,13 @@ use Rattle.std.proofs.Common.{◌≡◌, ◌≤◌, ℕ, List, length}
 use Rattle.pas_profile.specs.declared.profile.Profile.{Profile}
 use Rattle.pas_utility.specs.Outcomes.{places_of}
 use Rattle.pas_answers.specs.Answers.{Progress}
-use Rattle.pas_threads.specs.Works.{Later}
+use Rattle.pas_acts.specs.Works.{Later}
 use Rattle.pas_threads.specs.Lent.{AreDistinct}
-use Rattle.pas_threads.specs.Shares.{scavenger_acts}
+use Rattle.pas_answers.specs.Acts.{scavenger_acts}
 use Rattle.pas_threads.specs.Crews.{crew, CrewAt}
 use Rattle.pas_threads.proofs.ByCrew.{CrewSoFar}
 use Rattle.pas_trace.specs.EveryPlan.{AreSound}
-use Rattle.pas_threads.specs.declared.names.NameBook.{NameBook}
+use Rattle.pas_acts.specs.declared.names.NameBook.{NameBook}
 use Rattle.pas_threads.proofs.crew.scavenge.Given as goal
 
 abbrev pub invariant-loop-op : goal.invariant-loop-op

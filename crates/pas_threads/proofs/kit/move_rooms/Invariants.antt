@@ -2,7 +2,7 @@
 use Rattle.std.proofs.Common.{ℕ, ◌≡◌, ◌≤◌, [], Option, All, length}
 use Rattle.pas_profile.specs.Rooms.{shown}
 use Rattle.pas_profile.specs.declared.room.EventRoom.{EventRoom}
-use Rattle.pas_replay.specs.Kits.{AreRooms}
+use Rattle.pas_plans.specs.Parts.{AreRooms}
 use Rattle.pas_threads.proofs.kit.move_rooms.Given as goal
 
 abbrev pub invariant-loop-other : goal.invariant-loop-other

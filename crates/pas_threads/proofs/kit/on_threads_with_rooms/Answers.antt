@@ -2,7 +2,7 @@ use Rattle.std.proofs.Common.{List, length, map, ap, arith}
 use Rattle.std.proofs.lemmas.List.{length-map}
 use Rattle.pas_trace.specs.Plans.{ops_of}
 use Rattle.pas_trace.specs.declared.plan.Phase.{Phase}
-use Rattle.pas_replay.proofs.PlanFacts.{plan_phases, plan_valid}
+use Rattle.pas_plans.proofs.PlanFacts.{plan_phases, plan_valid}
 use Rattle.pas_threads.proofs.Starting.{handed}
 use Rattle.pas_threads.proofs.Ending.{all_back, all_of_region, shows, replayed_so}
 use Rattle.pas_threads.proofs.kit.on_threads_with_rooms.Goals as goal

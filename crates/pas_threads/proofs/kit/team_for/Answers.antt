@@ -5,8 +5,8 @@ use Rattle.pas_trace.specs.declared.plan.Phase.{Phase}
 use Rattle.pas_answers.specs.Fit.{AllBelow}
 use Rattle.pas_answers.specs.Names.{names_held}
 use Rattle.pas_answers.specs.Replays.{phases_of}
-use Rattle.pas_replay.proofs.NameLimits.{all_higher}
-use Rattle.pas_replay.proofs.PlanFacts.{plan_valid, plan_bounds}
+use Rattle.pas_plans.proofs.NameLimits.{all_higher}
+use Rattle.pas_plans.proofs.PlanFacts.{plan_valid, plan_bounds}
 use Rattle.pas_threads.specs.Kits.{AreEquipped, IsSupplied}
 use Rattle.pas_threads.proofs.kit.team_for.Goals as goal
 

@@ -2,10 +2,10 @@
 use Rattle.std.proofs.Common.{◌≡◌, ℕ, List}
 use Rattle.pas_profile.specs.declared.profile.Profile.{Profile}
 use Rattle.pas_answers.specs.Answers.{Progress}
-use Rattle.pas_threads.specs.Works.{Later}
+use Rattle.pas_acts.specs.Works.{Later}
 use Rattle.pas_threads.specs.Lent.{AreDistinct, AreLent}
 use Rattle.pas_threads.proofs.ByLent.{SoFar}
-use Rattle.pas_threads.specs.declared.names.NameBook.{NameBook}
+use Rattle.pas_acts.specs.declared.names.NameBook.{NameBook}
 use Rattle.pas_threads.proofs.lending.stop_idle.Given as goal
 
 abbrev pub invariant-loop-index : goal.invariant-loop-index

@@ -1,7 +1,7 @@
 use Rattle.std.proofs.Common.{◌≡◌, ◌∙◌, suc, true, false, get_or, ap, sym, refl, arith, List, length}
 use Rattle.std.proofs.lemmas.List.{length-map}
 use Rattle.pas_answers.specs.Acts.{idle_threads, is_active}
-use Rattle.pas_threads.specs.Shares.{owner_in}
+use Rattle.pas_shares.specs.Shares.{owner_in}
 use Rattle.pas_threads.specs.Dealing.{count_in, count_out}
 use Rattle.pas_threads.specs.declared.hands.Hand.{Hand}
 use Rattle.pas_threads.proofs.Dealt.{dealt_sizes, count_most}

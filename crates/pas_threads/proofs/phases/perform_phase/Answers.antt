@@ -8,7 +8,7 @@ use Rattle.pas_threads.specs.Sessions.{AreResting}
 use Rattle.pas_threads.specs.Taken.{IsWithin}
 use Rattle.pas_threads.specs.Turns.{said_by_all}
 use Rattle.pas_threads.specs.declared.workers.Worker.{Worker}
-use Rattle.pas_threads.proofs.NamesBefore.{sound_front, below_front}
+use Rattle.pas_acts.proofs.NamesBefore.{sound_front, below_front}
 use Rattle.pas_threads.proofs.PhaseStarts.{has_begun}
 use Rattle.pas_threads.proofs.PhaseTeams.{WereGathered, WereTaken, may_append, may_gather, may_take, phase_done}
 use Rattle.pas_threads.proofs.phases.perform_phase.Goals as goal

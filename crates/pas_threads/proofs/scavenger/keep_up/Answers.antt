@@ -6,7 +6,7 @@ use Rattle.std.proofs.lemmas.List.{with_items_is}
 use Rattle.pas_utility.specs.Outcomes.{places_of}
 use Rattle.pas_threads.specs.Hands.{standing_of_pass}
 use Rattle.pas_threads.specs.declared.workers.Worker.{Worker}
-use Rattle.pas_threads.specs.Shares.{scavenger_acts}
+use Rattle.pas_answers.specs.Acts.{scavenger_acts}
 use Rattle.pas_threads.specs.Crews.{crew, CrewAt, CrewDid}
 use Rattle.pas_threads.specs.Scavengers.{crew_of}
 use Rattle.pas_threads.proofs.Sitting.{scavenger_seated, scavenger_rose}

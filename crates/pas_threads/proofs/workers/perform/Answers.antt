@@ -1,8 +1,8 @@
 use Rattle.std.proofs.Common.{◌∙◌, [], Some, ap, sym, subst}
 use Rattle.pas_shared.specs.Passes.{IsPassOf}
 use Rattle.pas_shared.specs.declared.region.SharedRegion.{SharedRegion}
-use Rattle.pas_threads.specs.Shares.{own_acts}
-use Rattle.pas_threads.specs.Works.{Works}
+use Rattle.pas_answers.specs.Acts.{own_acts}
+use Rattle.pas_acts.specs.Works.{Works}
 use Rattle.pas_threads.specs.Hands.{kept_by}
 use Rattle.pas_threads.proofs.Sitting.{seated, seated_own, rose, worked}
 use Rattle.pas_threads.proofs.workers.perform.Goals as goal

@@ -1,7 +1,7 @@
 use Rattle.std.proofs.Common.{◌∙◌, Some, refl, ap, sym, subst}
 use Rattle.pas_shared.specs.Passes.{IsPassOf}
 use Rattle.pas_shared.specs.declared.region.SharedRegion.{SharedRegion}
-use Rattle.pas_threads.specs.Scavenges.{StopsThread}
+use Rattle.pas_acts.specs.Scavenges.{StopsThread}
 use Rattle.pas_threads.specs.Hands.{kept_by}
 use Rattle.pas_threads.proofs.Sitting.{seated, rose}
 use Rattle.pas_threads.proofs.workers.stop_lent.Goals as goal

@@ -1,6 +1,6 @@
 use Rattle.std.proofs.Common.{rules, refl, subst, inl, arith}
 use Rattle.pas_io.specs.Inputs.{IsInput}
-use Rattle.pas_top.specs.Outcomes.{outcome_status, outcome_text}
+use Rattle.pas_telling.specs.Outcomes.{outcome_status, outcome_text}
 use Rattle.pas_words.specs.Calls.{IsCall, IsMisread}
 use Rattle.pas_top.specs.Manners.{way_of}
 use Rattle.pas_top.proofs.Summing.{gen_cut_off, gen_summed}

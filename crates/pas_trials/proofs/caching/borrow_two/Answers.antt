@@ -1,17 +1,24 @@
-use Rattle.std.proofs.Common.{◌∙◌, ap, arith}
+use Rattle.std.proofs.Common.{◌+◌, ◌∙◌, ap, arith}
 use Rattle.pas_cache.specs.Caches.{Cached}
-use Rattle.pas_trials.proofs.Borrowed.{admitted, budget_call, rest_call, small_turn, freed_call, stop_room, stopped_call}
 use Rattle.pas_cache.proofs.Budget.{may_allocate, budget_left}
+use Rattle.pas_cache.proofs.Routes.{is_small}
+use Rattle.pas_trials.proofs.Borrowed.{admitted, budget_call, rest_call, budget_as, call_budget, log_after, small_turn, freed_one, freed_call, freed_budget, stop_room, stopped_call, stopped_budget}
 use Rattle.pas_trials.proofs.caching.borrow_two.Goals as goal
 
 pub alloc-first-requires-clause-admitted : goal.alloc-first-requires-clause-admitted
-alloc-first-requires-clause-admitted g c = admitted _ (g.met.D.Desk.valid c.args.desk.now)
+alloc-first-requires-clause-admitted g c = admitted _ c.args.size c.requires.size (g.met.D.Desk.valid c.args.desk.now)
+
+pub alloc-first-requires-clause-route : goal.alloc-first-requires-clause-route
+alloc-first-requires-clause-route g c = is_small _ c.args.size 16 c.requires.size
 
 pub alloc-first-requires-clause-can : goal.alloc-first-requires-clause-can
 alloc-first-requires-clause-can g c = may_allocate 5 (omega arith) (budget_call c.requires.can)
 
 pub alloc-second-requires-clause-admitted : goal.alloc-second-requires-clause-admitted
-alloc-second-requires-clause-admitted g c = admitted _ (g.met.D.Desk.valid c.alloc-first.new.desk)
+alloc-second-requires-clause-admitted g c = admitted _ c.args.size c.requires.size (g.met.D.Desk.valid c.alloc-first.new.desk)
+
+pub alloc-second-requires-clause-route : goal.alloc-second-requires-clause-route
+alloc-second-requires-clause-route g c = is_small _ c.args.size 16 c.requires.size
 
 pub alloc-second-requires-clause-can : goal.alloc-second-requires-clause-can
 alloc-second-requires-clause-can g c =
@@ -28,7 +35,7 @@ free-requires-clause-can g c =
 
 pub stop-requires-clause-room : goal.stop-requires-clause-room
 stop-requires-clause-room g c =
-    stop_room (ap (λ (x : Cached). x.log) c.alloc-second.ensures.allocates.change.cache ∙ (ap (λ (x : Cached). x.log) c.alloc-first.ensures.allocates.change.cache ∙ c.requires.none_logged)) c.free.ensures.frees
+    stop_room (log_after c.alloc-second.ensures.allocates ∙ (log_after c.alloc-first.ensures.allocates ∙ c.requires.none_logged)) c.free.ensures.frees
     (budget_left 1 c.alloc-second.ensures.allocates
     (budget_left 3 c.alloc-first.ensures.allocates (budget_call c.requires.can) (λ v l s. g.met.D.Desk.spares c.args.desk.now v l s) (λ v l s. g.met.D.Desk.spares c.alloc-first.new.desk v l s))
     (λ v l s. g.met.D.Desk.spares c.alloc-first.new.desk v l s) (λ v l s. g.met.D.Desk.spares c.alloc-second.new.desk v l s))
@@ -40,8 +47,23 @@ stop-requires-clause-can g c =
     (budget_left 3 c.alloc-first.ensures.allocates (budget_call c.requires.can) (λ v l s. g.met.D.Desk.spares c.args.desk.now v l s) (λ v l s. g.met.D.Desk.spares c.alloc-first.new.desk v l s))
     (λ v l s. g.met.D.Desk.spares c.alloc-first.new.desk v l s) (λ v l s. g.met.D.Desk.spares c.alloc-second.new.desk v l s)))
 
+pub returns-clause-none_logged : goal.returns-clause-none_logged
+returns-clause-none_logged g c = ap (λ (x : Cached). x.log) c.stop.ensures.stops.cache
+
+pub returns-clause-seat : goal.returns-clause-seat
+returns-clause-seat g c =
+    c.stop.ensures.stops.calls.adds.seat_is ∙ (c.free.ensures.frees.calls.adds.seat_is ∙ (c.alloc-second.ensures.allocates.calls.adds.seat_is ∙ c.alloc-first.ensures.allocates.calls.adds.seat_is))
+
 pub returns-clause-rest : goal.returns-clause-rest
 returns-clause-rest g c =
     stopped_call c.stop.ensures.stops (freed_call c.free.ensures.frees (rest_call (budget_left 1 c.alloc-second.ensures.allocates
     (budget_left 3 c.alloc-first.ensures.allocates (budget_call c.requires.can) (λ v l s. g.met.D.Desk.spares c.args.desk.now v l s) (λ v l s. g.met.D.Desk.spares c.alloc-first.new.desk v l s))
     (λ v l s. g.met.D.Desk.spares c.alloc-first.new.desk v l s) (λ v l s. g.met.D.Desk.spares c.alloc-second.new.desk v l s))))
+
+pub returns-clause-room : goal.returns-clause-room
+returns-clause-room g c n can =
+    let none = log_after c.alloc-second.ensures.allocates ∙ (log_after c.alloc-first.ensures.allocates ∙ c.requires.none_logged) in
+    let first = budget_left (n + 3) c.alloc-first.ensures.allocates (budget_as (n + 3 + 2) (omega arith) (budget_call can)) (λ v l s. g.met.D.Desk.spares c.args.desk.now v l s) (λ v l s. g.met.D.Desk.spares c.alloc-first.new.desk v l s) in
+    let second = budget_left (n + 1) c.alloc-second.ensures.allocates (budget_as (n + 1 + 2) (omega arith) first) (λ v l s. g.met.D.Desk.spares c.alloc-first.new.desk v l s) (λ v l s. g.met.D.Desk.spares c.alloc-second.new.desk v l s) in
+    let freed = freed_budget none c.free.ensures.frees second (λ v l s. g.met.D.Desk.spares c.alloc-second.new.desk v l s) (λ v l s. g.met.D.Desk.spares c.free.new.desk v l s) in
+    call_budget (stopped_budget (freed_one none c.free.ensures.frees).log c.stop.ensures.stops freed (λ v l s. g.met.D.Desk.spares c.free.new.desk v l s) (λ v l s. g.met.D.Desk.spares c.stop.new.desk v l s))

@@ -13,7 +13,7 @@ stop_where-requires-clause-directory g c = let r = c.in-Ok.ensures.refills in
 
 pub stop_where-requires-clause-can : goal.stop_where-requires-clause-can
 stop_where-requires-clause-can g c = let r = c.in-Ok.ensures.refills in let can = c.requires.can in
-    can_call {C = λ v l. MaySearch (class_directory c.args.heap c.args.class) v} {D = λ v l. MayStop c.in-Ok.slots v} r.adds (record { view = can.view; whole = can.whole; stood = can.stood; met = can.met.may })
+    can_call {C = MaySearch (class_directory c.args.heap c.args.class)} {D = MayStop c.in-Ok.slots} r.adds (record { view = can.view; whole = can.whole; stood = can.stood; met = can.met.may })
     (λ v l stood met. may_stop_then r.outcome v met (r.adds.agreed v l stood met))
 
 pub returns : goal.returns

@@ -1,8 +1,8 @@
 use Rattle.std.proofs.Common.{◌≡◌, ℕ, true, ◌∷◌, []}
 use Rattle.pas_profile.specs.declared.directory.Directory.{Directory}
 use Rattle.pas_rights.specs.Leaves.{MayLeave}
-use Rattle.pas_steps.specs.Calls.{AnyView, Calls}
-use Rattle.pas_steps.specs.Desks.{Standing, made, Makes}
+use Rattle.pas_steps.specs.Calls.{Calls}
+use Rattle.pas_steps.specs.Desks.{Standing, made, Makes, AnyView}
 use Rattle.pas_steps.specs.declared.step.Step.TheVariants.{Deed}
 use Rattle.pas_steps.proofs.Adding.{adds_none, can_step}
 use Rattle.pas_steps.proofs.Called.{call_none, call_step, call_then, next_call}

@@ -29,7 +29,7 @@ stop_where-requires-clause-class g c = subst IsClass (sym c.in-Ok.ensures.refill
 
 pub stop_where-requires-clause-can : goal.stop_where-requires-clause-can
 stop_where-requires-clause-can g c = let r = c.in-Ok.ensures.refills in let can = c.requires.can in
-    can_call {C = λ v l. MaySearch (shared_directory 0) v} {D = λ v l. MayStopAt (shared_directory c.in-Ok.slots.heap) c.in-Ok.slots v} r.adds (record { view = can.view; whole = can.whole; stood = can.stood; met = can.met.may })
+    can_call {C = MaySearch (shared_directory 0)} {D = MayStopAt (shared_directory c.in-Ok.slots.heap) c.in-Ok.slots} r.adds (record { view = can.view; whole = can.whole; stood = can.stood; met = can.met.may })
     (λ v l stood met. may_stop_then r.outcome v met (r.adds.agreed v l stood met))
 
 pub returns : goal.returns

@@ -1,10 +1,14 @@
 use Rattle.std.proofs.Common.{arith}
 use Rattle.pas_trials.proofs.Borrowed.{admitted, budget_call}
 use Rattle.pas_cache.proofs.Budget.{may_allocate, budget_left}
+use Rattle.pas_cache.proofs.Routes.{is_small}
 use Rattle.pas_trials.proofs.sizing.borrow_and_end.Goals as goal
 
+pub alloc-block-requires-clause-route : goal.alloc-block-requires-clause-route
+alloc-block-requires-clause-route g c = is_small _ 24 16 (omega arith)
+
 pub alloc-block-requires-clause-admitted : goal.alloc-block-requires-clause-admitted
-alloc-block-requires-clause-admitted g c = admitted _ (g.met.D.Desk.valid c.args.desk.now)
+alloc-block-requires-clause-admitted g c = admitted _ 24 (omega arith) (g.met.D.Desk.valid c.args.desk.now)
 
 pub alloc-block-requires-clause-can : goal.alloc-block-requires-clause-can
 alloc-block-requires-clause-can g c = may_allocate 5 (omega arith) (budget_call c.requires.can)

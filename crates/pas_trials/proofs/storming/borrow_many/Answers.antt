@@ -1,10 +1,14 @@
 use Rattle.std.proofs.Common.{refl, ◌∙◌, arith}
 use Rattle.pas_cache.proofs.Budget.{may_allocate}
+use Rattle.pas_cache.proofs.Routes.{is_small}
 use Rattle.pas_trials.proofs.Borrowing.{none_yet, one_more}
 use Rattle.pas_trials.proofs.storming.borrow_many.Goals as goal
 
 pub loop-done-init : goal.loop-done-init
 loop-done-init g c = (none_yet (omega arith) c.requires.can, refl)
+
+pub alloc-requires-clause-route : goal.alloc-requires-clause-route
+alloc-requires-clause-route g c = is_small _ 512 16 (omega arith)
 
 pub alloc-requires-clause-can : goal.alloc-requires-clause-can
 alloc-requires-clause-can g c = may_allocate _ (omega arith) c.loop-done.invariant.0.room

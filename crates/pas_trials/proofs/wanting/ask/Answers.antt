@@ -2,8 +2,8 @@ use Rattle.std.proofs.Common.{◌≡◌, ℕ, Bool, Some, ◌∷◌, [], ap, sym
 use Rattle.pas_profile.specs.Directories.{deed_word_of}
 use Rattle.pas_profile.specs.declared.directory.Directory.{Directory}
 use Rattle.pas_profile.specs.declared.word.Word.TheVariants as Word
-use Rattle.pas_steps.specs.Calls.{AnyView, Calls, now, Gained, Kept}
-use Rattle.pas_steps.specs.Desks.{Standing, made, Makes}
+use Rattle.pas_steps.specs.Calls.{Calls, now, Gained, Kept}
+use Rattle.pas_steps.specs.Desks.{Standing, made, Makes, AnyView}
 use Rattle.pas_steps.specs.Views.{has_right, KnowsDeed, View}
 use Rattle.pas_steps.specs.declared.step.Step.TheVariants.{Look, TakeRight}
 use Rattle.pas_steps.proofs.Called.{call_none, call_step, call_then, next_call}

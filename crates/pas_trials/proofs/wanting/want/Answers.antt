@@ -1,5 +1,5 @@
 use Rattle.std.proofs.Common.{ap, ◌∙◌}
-use Rattle.pas_steps.specs.Desks.{Anything, Seat}
+use Rattle.pas_steps.specs.Desks.{AnyView, Seat}
 use Rattle.pas_steps.proofs.Adding.{adds_call}
 use Rattle.pas_scan.specs.Marks.{is_marked}
 use Rattle.pas_trials.proofs.Found.{offered_found, bare_found, verdict_found}
@@ -15,7 +15,7 @@ returns-clause-wants g c =
       offers = first.found.steps;
       bares = bare.steps;
       judged = judges.steps;
-      adds = adds_call {D = Anything} (adds_call {D = Anything} (adds_call {D = Anything} ask.calls.adds first.found.adds (λ v l stood m. tt)) bare.adds (λ v l stood m. tt)) judges.adds (λ v l stood m. tt);
+      adds = adds_call {D = AnyView} (adds_call {D = AnyView} (adds_call {D = AnyView} ask.calls.adds first.found.adds (λ v l stood m. tt)) bare.adds (λ v l stood m. tt)) judges.adds (λ v l stood m. tt);
       claimed = ask.calls.leads;
       offered = offered_found c.first_offered-offered.result f d (ap (λ (s : Seat). s.profile) s1) c.begin-looked.ensures.directory c.begin-looked.ensures.next first.found;
       bare = bare_found f (ap (λ (s : Seat). s.profile) s2) bare;

@@ -1,6 +1,7 @@
-use Rattle.std.proofs.Common.{arith}
-use Rattle.pas_bits.proofs.MovedMasks.{both_are}
+use Rattle.std.proofs.Common.{◌&&◌, refl, arith, bit_and}
+use Rattle.pas_bits.proofs.MovedMasks.{words_are}
 use Rattle.pas_bits.proofs.mask.Mask4.both.Goals as goal
+use Rattle.pas_bits.proofs.Words.{bit_of_and}
 
 pub returns : goal.returns
-returns c = both_are c.args.self.now c.args.other.now (omega arith)
+returns c = words_are bit_and (λ s t. s && t) bit_of_and refl c.args.self.now c.args.other.now (omega arith) (omega arith)

@@ -9,7 +9,7 @@ returns-in_err-first c = rw c.from_residual.ensures (none_fits c.args.self.now.c
 
 pub row_from-starts-requires-clause-grains : goal.row_from-starts-requires-clause-grains
 row_from-starts-requires-clause-grains c = let class = c.args.self.now.class in let few = class_grains_le class c.requires.asked in
-    subst (λ size. (1 ≤ size / 16) × (size / 16 < 64)) (sym c.class_size.ensures) (class_grains_positive class c.requires.asked, omega (arith, few))
+    subst (λ size. (1 ≤ size / 16) × (size / 16 ≤ 64)) (sym c.class_size.ensures) (class_grains_positive class c.requires.asked, omega (arith, few))
 
 pub covered-requires-clause-starts : goal.covered-requires-clause-starts
 covered-requires-clause-starts c = let class = c.args.self.now.class in let slots = c.whole_slots-slots in let first = c.in_ok-first in let starts = c.row_from-starts in

@@ -7,7 +7,7 @@ use Rattle.pas_utility.specs.Pools.{room_of}
 use Rattle.pas_answers.specs.Fit.{AllBelow}
 use Rattle.pas_answers.specs.Replays.{phases_of}
 use Rattle.pas_replay.proofs.Opening.{passes_count, fresh_actor}
-use Rattle.pas_replay.proofs.PlanFacts.{plan_valid, plan_bounds}
+use Rattle.pas_plans.proofs.PlanFacts.{plan_valid, plan_bounds}
 use Rattle.pas_replay.proofs.kit.PlainKit.try_new.Goals as goal
 
 pub try_new-requires : goal.try_new-requires

@@ -4,7 +4,7 @@ use Rattle.pas_profile.specs.declared.profile.Profile.{Profile}
 use Rattle.pas_trace.specs.Plans.{bounds_of}
 use Rattle.pas_shared.specs.declared.pass.SharedPass.{SharedPass}
 use Rattle.pas_shared.proofs.Opened.{fresh_many}
-use Rattle.pas_replay.proofs.PlanFacts.{plan_valid, plan_bounds}
+use Rattle.pas_plans.proofs.PlanFacts.{plan_valid, plan_bounds}
 use Rattle.pas_threads.specs.Kits.{AreNew}
 use Rattle.pas_threads.proofs.Starting.{fresh_new, first_taken}
 use Rattle.pas_threads.proofs.kit.SharedKit.made_at.Goals as goal

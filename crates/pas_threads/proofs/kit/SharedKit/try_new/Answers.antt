@@ -1,4 +1,4 @@
-use Rattle.pas_replay.proofs.PlanFacts.{plan_valid}
+use Rattle.pas_plans.proofs.PlanFacts.{plan_valid}
 use Rattle.pas_threads.proofs.kit.SharedKit.try_new.Goals as goal
 
 pub try_new-requires : goal.try_new-requires

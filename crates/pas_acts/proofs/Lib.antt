@@ -1,0 +1,6 @@
+pub mod Places
+pub mod Noting
+pub mod NamesBefore
+pub mod TakingOver
+pub mod Working
+pub mod ByScavenger

@@ -1,0 +1,163 @@
+-- What each thread knows of the names when a phase begins.
+use Rattle.std.proofs.Common.{◌≡◌, ℕ, ◌≤◌, ◌==◌, ◌||◌, Bool, true, false, if◌then◌else◌, inl, inr, List, [], ◌∷◌, ◌++◌, length, Option, Some, None, refl, ap, sym, ◌∙◌, subst, arith, length-append}
+use Rattle.std.proofs.lemmas.Bool.{ne_eqb, eq-eqb, cases_eq, true≢false, or_parts}
+use Rattle.pas_profile.specs.declared.profile.Profile.{Profile}
+use Rattle.pas_profile.specs.declared.name.Name.{Name}
+use Rattle.pas_trace.proofs.Costs.{some_cost}
+use Rattle.pas_trace.specs.EveryPlan.{is_asked, asked_after, asked_by, AreSound, IsSoundWhat, IsActorOf, IsThread}
+use Rattle.pas_trace.specs.EveryPhase.{FreesItsOwn}
+use Rattle.pas_trace.specs.declared.plan.What.{What}
+use Rattle.pas_trace.specs.declared.plan.What.TheVariants.{Alloc, Free, Raw, Flush, Stop, Tick, Pass, Idle}
+use Rattle.pas_trace.specs.declared.plan.Op.{Op}
+use Rattle.pas_answers.specs.Acts.{Act, Operates, Settles, own_acts}
+use Rattle.pas_answers.specs.Answers.{Named, standing_for, Progress}
+use Rattle.pas_answers.specs.Calls.{block_behind, HasTurn}
+use Rattle.pas_answers.specs.Fit.{IsFitWhat, AreFit, IsBelow, AreBelow, cost_of_what, own_costs_of}
+use Rattle.pas_answers.specs.Names.{block_named, names_held}
+use Rattle.pas_answers.specs.Replays.{at_start}
+use Rattle.pas_answers.specs.declared.names.Names.{Names}
+use Rattle.pas_acts.specs.NameBooks.{requests_in, room_for, name_asked, names_asked, names_of, ArePlaced, came_to, known_in, table, NamesAt}
+use Rattle.pas_acts.specs.Works.{KnowsNames}
+use Rattle.pas_acts.specs.declared.names.NameBook.{NameBook}
+use Rattle.pas_acts.specs.declared.names.Requests.{Requests}
+use Rattle.pas_acts.proofs.Noting.{is_same, not_before}
+
+-- ---- a phase and the rest
+pub sound_front : (f : Profile) (asked : List ℕ) (xs ys : List Op) → AreSound f asked (xs ++ ys) → AreSound f asked xs
+sound_front f asked [] ys sound = tt
+sound_front f asked (x ∷ xs) ys sound = (sound.0, sound.1, sound_front f (asked_after x.what asked) xs ys sound.2)
+
+pub sound_back : (f : Profile) (asked : List ℕ) (xs ys : List Op) → AreSound f asked (xs ++ ys) → AreSound f (asked_by asked xs) ys
+sound_back f asked [] ys sound = sound
+sound_back f asked (x ∷ xs) ys sound = sound_back f (asked_after x.what asked) xs ys sound.2
+
+pub below_front : (limit : ℕ) (xs ys : List Op) → AreBelow limit (xs ++ ys) → AreBelow limit xs
+below_front limit [] ys below = tt
+below_front limit (x ∷ xs) ys below = (below.0, below_front limit xs ys below.1)
+
+-- ---- the thread's own operations fit
+-- what was asked for among the first was so among the second
+abbrev IsSmaller : List ℕ → List ℕ → Type 0
+IsSmaller few many = (n : ℕ) → is_asked many n ≡ false → is_asked few n ≡ false
+
+or_false : (s t : Bool) → s ≡ false → t ≡ false → s || t ≡ false
+or_false true t one two = one
+or_false false t one two = two
+
+smaller_after : (what : What) (few many : List ℕ) → IsSmaller few many → IsSmaller (asked_after what few) (asked_after what many)
+smaller_after (Alloc name heap size align) few many small n none = let both = or_parts (name == n) (is_asked many n) none in or_false (name == n) (is_asked few n) both.0 (small n both.1)
+smaller_after (Free name) few many small n none = small n none
+smaller_after (Raw block) few many small n none = small n none
+smaller_after Flush few many small n none = small n none
+smaller_after Stop few many small n none = small n none
+smaller_after (Tick epoch) few many small n none = small n none
+smaller_after Pass few many small n none = small n none
+smaller_after (Idle m) few many small n none = small n none
+
+smaller_if : (t : Bool) (what : What) (few many : List ℕ) → IsSmaller few many → IsSmaller (if t then asked_after what few else few) (asked_after what many)
+smaller_if true what few many small n none = smaller_after what few many small n none
+smaller_if false what few many small n none = small n (not_before what many n none).1
+
+fit_what : (f : Profile) (limit k : ℕ) (few many : List ℕ) (what : What) → 1 ≤ k → IsSmaller few many → IsActorOf f what k → IsSoundWhat f many what → IsBelow limit what → ((n : ℕ) → what ≡ Free n → is_asked few n ≡ true) → IsThread f k × IsFitWhat f limit few what
+fit_what f limit k few many (Alloc name heap size align) some small actor sound below frees = (actor, (below, sound.0, small name sound.1))
+fit_what f limit k few many (Free name) some small actor sound below frees = (actor, frees name refl)
+fit_what f limit k few many (Raw block) some small actor sound below frees = (actor, sound)
+fit_what f limit k few many Flush some small actor sound below frees = (actor, tt)
+fit_what f limit k few many Stop some small actor sound below frees = (actor, tt)
+fit_what f limit k few many (Tick epoch) some small actor sound below frees = absurd (omega (arith, some, actor))
+fit_what f limit k few many Pass some small actor sound below frees = absurd (omega (arith, some, actor))
+fit_what f limit k few many (Idle n) some small actor sound below frees = absurd (omega (arith, some, actor))
+
+fit_if : (t : Bool) (f : Profile) (limit : ℕ) (asked : List ℕ) (op : Op) (acts : List Act) → (t ≡ true → IsThread f op.actor × IsFitWhat f limit asked op.what) → AreFit f limit (if t then asked_after op.what asked else asked) acts
+    → AreFit f limit asked (if t then Operates op ∷ (Settles op.actor ∷ acts) else acts)
+fit_if true f limit asked op acts here rest = let fit = here refl in (fit.0, fit.1, rest)
+fit_if false f limit asked op acts here rest = rest
+
+own_fit : (f : Profile) (limit k : ℕ) (few many : List ℕ) (ops : List Op) → 1 ≤ k → IsSmaller few many → AreSound f many ops → AreBelow limit ops → FreesItsOwn k few ops → AreFit f limit few (own_acts k ops)
+own_fit f limit k few many [] some small sound below frees = tt
+own_fit f limit k few many (op ∷ ops) some small sound below frees =
+    let t = op.actor == k in
+    fit_if t f limit few op (own_acts k ops)
+    (λ is.
+    let same = is_same op.actor k is in
+    fit_what f limit op.actor few many op.what (omega (arith, some, same)) small sound.0 sound.1 below.0 (λ n free. frees.0 n same free))
+    (own_fit f limit k (if t then asked_after op.what few else few) (asked_after op.what many) ops some (smaller_if t op.what few many small) sound.2 below.1 frees.1)
+
+-- ---- there is room for its requests
+few_asked : (what : What) → length (name_asked what) ≤ cost_of_what what
+few_asked (Alloc name heap size align) = let one = some_cost size in omega (arith, one)
+few_asked (Free name) = omega arith
+few_asked (Raw block) = omega arith
+few_asked Flush = omega arith
+few_asked Stop = omega arith
+few_asked (Tick epoch) = omega arith
+few_asked Pass = omega arith
+few_asked (Idle n) = omega arith
+
+pub own_asked : (k : ℕ) (ops : List Op) → length (names_asked (own_acts k ops)) ≤ own_costs_of k (own_acts k ops)
+own_asked k [] = omega arith
+own_asked k (op ∷ ops) =
+    let rest = own_asked k ops in
+    let acts = own_acts k ops in
+    let Holds = λ (t : Bool). length (names_asked (if t then Operates op ∷ (Settles op.actor ∷ acts) else acts)) ≤ own_costs_of k (if t then Operates op ∷ (Settles op.actor ∷ acts) else acts) in
+    elim (cases_eq op.actor k) [
+      | inl same ↦
+          let cost = ap (λ (t : Bool). if t then cost_of_what op.what else 0) (eq-eqb op.actor k same) in
+          let one = few_asked op.what in
+          let both = length-append (name_asked op.what) (names_asked acts) in
+          subst Holds (sym (eq-eqb op.actor k same)) (omega (arith, rest, cost, one, both))
+      | inr other ↦ subst Holds (sym (ne_eqb op.actor k other)) rest
+    ]
+
+-- ---- before a phase
+module _ {f : Profile} {ops : List Op} {book : NameBook} {p : Progress} {names : List Named} (book1 : NameBook) (requests : Requests) (at : NamesAt f ops book p) (same : book1.names ≡ book.names) (none : requests_in requests ≡ []) (are : names ≡ p.names) where
+  only_book : (n : ℕ) → known_in book1 requests n ≡ block_named book.names n
+  only_book n = ap (λ (rs : List Named). came_to (standing_for rs n) (block_named book1.names n)) none ∙ ap (λ (t : Names). block_named t n) same
+
+  book_tells : (n : ℕ) → known_in book1 requests n ≡ block_behind (standing_for names n)
+  book_tells n = only_book n ∙ at.tells n ∙ ap (λ (ns : List Named). block_behind (standing_for ns n)) (sym are)
+
+  book_turns : (n : ℕ) → HasTurn (known_in book1 requests n)
+  book_turns n = subst HasTurn (sym (only_book n)) (at.turns n)
+
+  still_known : (n : ℕ) → is_asked at.asked n ≡ true → (block : Option Name) × (standing_for names n ≡ Some block)
+  still_known n is = let known = at.known n is in (known.0, ap (λ (ns : List Named). standing_for ns n) are ∙ known.1)
+
+  no_names : names_of (requests_in requests) ≡ []
+  no_names = ap names_of none
+
+  -- a thread with these acts, which fit
+  knows_by : (acts : List Act) → AreFit f (names_held book.names) at.asked acts → ArePlaced book1 0 (names_asked acts) → length (names_asked acts) ≤ room_for requests → KnowsNames f acts (table book1 requests) names
+  knows_by acts fit placed room = record {
+    asked = at.asked;
+    fit = subst (λ (t : Names). AreFit f (names_held t) at.asked acts) (sym same) fit;
+    tells = book_tells;
+    turns = book_turns;
+    known = still_known;
+    placed = subst (λ (ns : List ℕ). ArePlaced book1 0 (ns ++ names_asked acts)) (sym no_names) placed;
+    room = let size = ap (λ (rs : List Named). length rs) none in omega (arith, size, room);
+  }
+
+  -- a thread that has no act now
+  pub names_idle : KnowsNames f [] (table book1 requests) names
+  names_idle = knows_by [] tt tt (omega arith)
+
+-- A thread of the phase knows its names once they are noted.
+pub names_before : {f : Profile} {book : NameBook} {p : Progress} {names : List Named} (k : ℕ) (phase rest : List Op) (book1 : NameBook) (requests : Requests) (at : NamesAt f (phase ++ rest) book p) → 1 ≤ k → FreesItsOwn k at.asked phase → book1.names ≡ book.names
+    → ArePlaced book1 0 (names_asked (own_acts k phase)) → requests_in requests ≡ [] → own_costs_of k (own_acts k phase) ≤ room_for requests → names ≡ p.names → KnowsNames f (own_acts k phase) (table book1 requests) names
+names_before {f} {book} k phase rest book1 requests at some frees same placed none room are =
+    let few = own_asked k phase in
+    knows_by book1 requests at same none are (own_acts k phase)
+    (own_fit f (names_held book.names) k at.asked at.asked phase some (λ n is. is) (sound_front f at.asked phase rest at.sound) (below_front (names_held book.names) phase rest at.below) frees) placed (omega (arith, few, room))
+
+-- ---- before the first phase no name stands for a block
+unfoldable pub names_at_start : (f : Profile) (ops : List Op) (book : NameBook) → AreSound f [] ops → AreBelow (names_held book.names) ops → ((n : ℕ) → block_named book.names n ≡ None) → NamesAt f ops book at_start
+names_at_start f ops book sound below none = record {
+  asked = [];
+  sound = sound;
+  below = below;
+  tells = none;
+  turns = λ n block is. absurd (let bad : None ≡ Some block = sym (none n) ∙ is in cc);
+  known = λ n is. absurd (true≢false (sym is));
+  only = λ n is. refl;
+}

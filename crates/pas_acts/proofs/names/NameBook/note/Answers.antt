@@ -1,0 +1,54 @@
+use Rattle.std.proofs.Common.{ℕ, ◌<◌, get_or, length, refl, ap, sym, ◌∙◌, subst, arith, List}
+use Rattle.pas_trace.specs.declared.plan.Op.{Op}
+use Rattle.pas_trace.specs.declared.plan.What.{What}
+use Rattle.pas_trace.specs.declared.plan.What.TheVariants.{Alloc}
+use Rattle.pas_answers.specs.Fit.{IsBelow}
+use Rattle.pas_answers.specs.Names.{names_held}
+use Rattle.pas_answers.specs.declared.names.Names.{Names}
+use Rattle.pas_acts.specs.NameBooks.{names_asked, ArePlaced}
+use Rattle.pas_answers.specs.Acts.{own_acts}
+use Rattle.std.proofs.lemmas.List.{take_all}
+use Rattle.pas_acts.proofs.Noting.{asks_same, no_request, below_at, placed_next, counted, count_small}
+use Rattle.pas_acts.proofs.names.NameBook.note.Goals as goal
+use Rattle.pas_acts.proofs.names.NameBook.note.Goals.{in-Alloc, in_default}
+
+abbrev past : Op
+past = record { line = 0; actor = 0; what = Alloc 0 0 0 0 }
+
+pub loop-op-init : goal.loop-op-init
+loop-op-init c = record { names = refl; placed = λ k. tt; counts = c.new-counts.ensures }
+
+pub add-place-requires : goal.add-place-requires
+add-place-requires c =
+    let count = c.loop-op.invariant.counts (get_or c.args.ops.now c.loop-op.op-index past).actor in
+    let small = count_small (get_or c.args.ops.now c.loop-op.op-index past).actor c.args.ops.now c.loop-op.op-index c.loop-op-test.true in
+    let lt = c.loop-op-test.true in
+    let few = c.requires.few in
+    omega (arith, count, small, lt, few)
+
+pub set_place-requires : goal.set_place-requires
+set_place-requires c =
+    let below = subst (λ (w : What). IsBelow (names_held c.args.self.now.names) w) c.in-Alloc.is (below_at (names_held c.args.self.now.names) c.args.ops.now c.loop-op.op-index past c.requires.below c.loop-op-test.true) in
+    subst (λ (names : Names). c.in-Alloc.name < names_held names) (sym c.loop-op.invariant.names) below
+
+pub loop-op-preserved : goal.loop-op-preserved
+loop-op-preserved c = elim c.match-op.branch [
+  | in-Alloc w ↦
+      let sound = c.requires.sound in
+      let here = w.add-place.ensures.before ∙ c.loop-op.invariant.counts (get_or c.args.ops.now c.loop-op.op-index past).actor in
+      rw (w.self-is, w.counts-is) (record {
+        names = w.set_place.ensures.names ∙ c.loop-op.invariant.names;
+        placed = λ k. placed_next sound.0 sound.1 c.loop-op.self w.set_place.new.self c.args.ops.now c.loop-op.op-index past w.in-Alloc.name w.in-Alloc.heap w.in-Alloc.size w.in-Alloc.align w.add-place.result sound.2 c.loop-op-test.true w.in-Alloc.is
+            w.set_place.ensures.place here k (c.loop-op.invariant.placed k);
+        counts = λ k. w.add-place.ensures.one k
+            ∙ counted c.args.ops.now c.loop-op.op-index past w.in-Alloc.name w.in-Alloc.heap w.in-Alloc.size w.in-Alloc.align k w.add-place.result _ c.loop-op-test.true w.in-Alloc.is here (c.loop-op.invariant.counts k);
+      })
+  | in_default w ↦ rw (w.self-is, w.counts-is) (record {
+    names = c.loop-op.invariant.names;
+    placed = λ k. subst (λ (ns : List ℕ). ArePlaced c.loop-op.self 0 ns) (sym (asks_same k c.args.ops.now c.loop-op.op-index past c.loop-op-test.true (no_request _ w.in_default.not-Alloc))) (c.loop-op.invariant.placed k);
+    counts = λ k. c.loop-op.invariant.counts k ∙ ap (λ (ns : List ℕ). length ns) (sym (asks_same k c.args.ops.now c.loop-op.op-index past c.loop-op-test.true (no_request _ w.in_default.not-Alloc)));
+  })
+]
+
+pub returns-clause-placed : goal.returns-clause-placed
+returns-clause-placed c = λ k. subst (λ (ops : List Op). ArePlaced c.loop-op.self 0 (names_asked (own_acts k ops))) (take_all c.loop-op.op-index c.args.ops.now c.loop-op-test.false) (c.loop-op.invariant.placed k)

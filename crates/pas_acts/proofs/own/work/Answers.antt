@@ -1,0 +1,48 @@
+use Rattle.std.proofs.Common.{◌∙◌, sym, refl, arith}
+use Rattle.pas_trace.specs.declared.plan.Op.{Op}
+use Rattle.pas_trace.specs.declared.plan.What.TheVariants.{Alloc}
+use Rattle.pas_acts.proofs.Working.{begins, stands_before, goes_on, skips, ends}
+use Rattle.pas_acts.proofs.own.work.Goals as goal
+use Rattle.pas_acts.proofs.own.work.Goals.{then-op-actor, else-op-actor}
+
+abbrev past : Op
+past = record { line = 0; actor = 0; what = Alloc 0 0 0 0 }
+
+pub loop-op-init : goal.loop-op-init
+loop-op-init g c = record { far = λ f later p at. begins c.args.ops.now at; number = omega arith; home = refl }
+
+pub overflow_add-number : goal.overflow_add-number
+overflow_add-number g c =
+    let low = c.loop-op.invariant.number in
+    let lt = c.loop-op-test.true in
+    let few = c.requires.few in
+    (omega (arith, low, lt, few))
+
+pub operate-requires : goal.operate-requires
+operate-requires g c =
+    let st = c.requires.stands in
+    let so = c.loop-op.invariant.far st.0 st.1 st.2 st.3 in
+    record { stands = (st.0, _, st.1, so.2.reached, stands_before c.args.ops.now past c.loop-op-test.true (c.if-op-actor.true ∙ c.actor-actor.ensures) so) }
+
+pub loop-op-preserved : goal.loop-op-preserved
+loop-op-preserved g c = elim c.if-op-actor.branch [
+  | then-op-actor w ↦
+      let low = c.loop-op.invariant.number in
+      rw (w.desk-is, w.cache-is, w.requests-is, w.out-is, w.number-is) (record {
+        far = λ f later p at.
+            let so = c.loop-op.invariant.far f later p at in
+            goes_on c.args.ops.now past c.loop-op-test.true (w.if-op-actor.true ∙ c.actor-actor.ensures) so (w.operate.ensures.works f _ later so.2.reached (stands_before c.args.ops.now past c.loop-op-test.true (w.if-op-actor.true ∙ c.actor-actor.ensures) so));
+        number = omega (arith, low);
+        home = w.operate.ensures.home ∙ c.loop-op.invariant.home;
+      })
+  | else-op-actor w ↦
+      let low = c.loop-op.invariant.number in
+      rw (w.desk-is, w.cache-is, w.requests-is, w.out-is, w.number-is) (record {
+        far = λ f later p at. skips c.args.ops.now past c.loop-op-test.true (λ e. w.if-op-actor.false (e ∙ sym c.actor-actor.ensures)) (c.loop-op.invariant.far f later p at);
+        number = omega (arith, low);
+        home = c.loop-op.invariant.home;
+      })
+]
+
+pub returns-clause-works : goal.returns-clause-works
+returns-clause-works g c = λ f later p at. ends c.args.ops.now c.loop-op-test.false (c.loop-op.invariant.far f later p at)

@@ -1,0 +1,3 @@
+pub mod NameBooks
+pub mod Works
+pub mod Scavenges

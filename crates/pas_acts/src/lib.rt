@@ -1,0 +1,9 @@
+//! What one actor of a replay does for its acts, at any desk.
+#![tactic(auto)]
+
+pub mod gate;
+pub mod names;
+pub mod own;
+pub mod scavenging;
+
+pub use gate::{Gate, OpenGate};

@@ -1,0 +1,94 @@
+//! The operations of one thread in a phase, at any desk.
+ghost use Rattle.std.specs.Prelude.{◌≡◌, ◌+◌, ◌<◌, ◌≤◌, ◌^◌, ◌++◌, List, [], ◌∷◌, length};
+ghost use Rattle.pas_profile.specs.declared.profile.Profile.{Profile as TheProfile};
+ghost use Rattle.pas_cache.specs.Caches.{cached};
+ghost use Rattle.pas_answers.specs.Acts.{Act, Operates, Settles, own_acts};
+ghost use Rattle.pas_answers.specs.Answers.{Progress};
+ghost use Rattle.pas_answers.specs.Calls.{named_by, freed_by};
+ghost use Rattle.pas_acts.specs.NameBooks.{requests_in, room_for, names_of, name_asked, ArePlaced, known_in, table};
+ghost use Rattle.pas_acts.specs.Works.{keeps, Later, ThreadAt, Works};
+
+use crate::gate::Gate;
+use crate::names::{NameBook, Requests};
+use pas_answers::answer_meant;
+use pas_cache::ThreadCache;
+use pas_large::NoIndex;
+use pas_profile::Name;
+use pas_report::Records;
+use pas_steps::Desk;
+use pas_trace::{Op, What};
+
+/// What the name that the operation frees stands for to the thread.
+#[inline(always)]
+fn freed(book: &NameBook, requests: &Requests, what: What) -> Option<Name>
+    requires { ArePlaced book.now 0 (names_of (requests_in requests.now)) }
+    ensures { result ≡ freed_by (known_in book.now requests.now) what }
+{
+    match what {
+        What::Free { name } => book.meaning(requests, name),
+        _ => None,
+    }
+}
+
+/// Keeps what the name that the operation asked for came to.
+#[inline(always)]
+fn keep(requests: &mut Requests, what: What, came: Option<Name>)
+    requires { length (requests_in requests.old) + length (name_asked what) ≤ room_for requests.old }
+    ensures kept { requests_in requests.new ≡ requests_in requests.old ++ named_by what came }
+    ensures room { room_for requests.new ≡ room_for requests.old }
+{
+    match what {
+        What::Alloc { name, .. } => requests.push(name, came),
+        _ => {}
+    }
+}
+
+/// Performs an operation of the desk's thread, and hands on the runs of large blocks that its cache noted.
+fn operate<D: Desk>(
+    desk: &mut D,
+    book: &NameBook,
+    cache: &mut ThreadCache,
+    requests: &mut Requests,
+    op: Op,
+    out: &mut Records,
+)
+    requires stands { (f : TheProfile) × (next : List Act) × (later : Later) × (p : Progress) × ThreadAt f op.actor (Operates op ∷ (Settles op.actor ∷ next)) (D.standing desk.old) (keeps (cached cache.old) (table book.now requests.old) out.old) later p }
+    ensures works { (f : TheProfile) (next : List Act) (later : Later) (p : Progress) → ThreadAt f op.actor (Operates op ∷ (Settles op.actor ∷ next)) (D.standing desk.old) (keeps (cached cache.old) (table book.now requests.old) out.old) later p
+        → Works f op.actor (Operates op ∷ (Settles op.actor ∷ [])) next (D.standing desk.old) (D.standing desk.new) (keeps (cached cache.old) (table book.now requests.old) out.old) (keeps (cached cache.new) (table book.now requests.new) out.new) later p }
+    ensures home { D.home desk.new ≡ D.home desk.old }
+{
+    let meant = freed(book, requests, op.what);
+    let came = answer_meant(desk, cache, op.what, meant, out);
+    keep(requests, op.what, came);
+    cache.settle(&mut NoIndex);
+}
+
+/// Performs the operations of the desk's thread among those of a phase, in order, with the gate called round each.
+pub fn work<D: Desk, G: Gate>(
+    desk: &mut D,
+    book: &NameBook,
+    cache: &mut ThreadCache,
+    requests: &mut Requests,
+    ops: &[Op],
+    gate: &G,
+    out: &mut Records,
+)
+    requires few { length ops.now < 2 ^ 32 }
+    requires stands { (f : TheProfile) × (later : Later) × (p : Progress)
+        × ThreadAt f (D.standing desk.old).seat.actor (own_acts (D.standing desk.old).seat.actor ops.now) (D.standing desk.old) (keeps (cached cache.old) (table book.now requests.old) out.old) later p }
+    ensures works { (f : TheProfile) (later : Later) (p : Progress)
+        → ThreadAt f (D.standing desk.old).seat.actor (own_acts (D.standing desk.old).seat.actor ops.now) (D.standing desk.old) (keeps (cached cache.old) (table book.now requests.old) out.old) later p
+        → Works f (D.standing desk.old).seat.actor (own_acts (D.standing desk.old).seat.actor ops.now) [] (D.standing desk.old) (D.standing desk.new) (keeps (cached cache.old) (table book.now requests.old) out.old) (keeps (cached cache.new) (table book.now requests.new) out.new) later p }
+    ensures home { D.home desk.new ≡ D.home desk.old }
+{
+    let actor = desk.actor();
+    let mut number = 0;
+    for op in ops {
+        if op.actor == actor {
+            number += 1;
+            gate.before(actor, number);
+            operate(desk, book, cache, requests, *op, out);
+            gate.after(actor, number);
+        }
+    }
+}

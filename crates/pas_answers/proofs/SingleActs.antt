@@ -1,0 +1,63 @@
+-- What a single act changes and shows, whatever region it is done at.
+use Rattle.std.proofs.Common.{◌≡◌, ◌≢◌, ℕ, ◌-◌, ◌≤◌, Bool, if◌then◌else◌, List, length, refl, ap, ◌∙◌, arith, true, false, [], ◌∷◌, reverse, length-append}
+use Rattle.std.proofs.lemmas.Bool.{eq-eqb, ne_eqb}
+use Rattle.pas_profile.specs.declared.profile.Profile.{Profile}
+use Rattle.pas_cache.specs.Caches.{Cached}
+use Rattle.pas_answers.specs.Answers.{Caches, with_cache, Named, epoch_look, records_of}
+use Rattle.std.proofs.lemmas.List.{length-reverse, length-map}
+use Rattle.pas_profile.specs.declared.event.Event.{Event}
+use Rattle.pas_trace.specs.declared.plan.What.{What}
+use Rattle.pas_trace.specs.declared.plan.What.TheVariants.{Free}
+use Rattle.pas_report.specs.declared.record.Record.{Record}
+use Rattle.pas_answers.specs.Calls.{AreKnown, IsKnown}
+use Rattle.pas_answers.specs.Fit.{IsFitWhat}
+use Rattle.pas_profile.specs.declared.event.Outcome.{Outcome}
+use Rattle.pas_profile.specs.declared.event.Outcome.TheVariants.{Unbacked, Bare, Young, InUse, NotOffered}
+use Rattle.pas_profile.specs.declared.word.Word.TheVariants as Word
+use Rattle.pas_steps.specs.Calls.{Calls}
+use Rattle.pas_steps.specs.Clear.{HasNothing}
+use Rattle.pas_steps.specs.Kinds.{LookEpoch}
+use Rattle.pas_steps.specs.Desks.{Standing, Makes}
+use Rattle.pas_steps.specs.declared.step.Step.TheVariants.{Look}
+use Rattle.pas_steps.proofs.Called.{call_none, call_step}
+use Rattle.pas_steps.proofs.Calls.{does_idly}
+use Rattle.pas_scavenger.specs.Pages.{unback_of}
+use Rattle.pas_scavenger.specs.Passes.{unbacks_in}
+use Rattle.pas_scavenger.proofs.Trying.{nothing_still}
+
+-- ---- caches of which that of thread k became another
+pub its_cache : (caches : Caches) (k : ℕ) (c : Cached) → with_cache caches k c k ≡ c
+its_cache caches k c = ap (λ (b : Bool). if b then c else caches k) (eq-eqb k k refl)
+
+pub other_cache : (caches : Caches) (k j : ℕ) (c : Cached) → j ≢ k → with_cache caches k c j ≡ caches j
+other_cache caches k j c ne = ap (λ (b : Bool). if b then c else caches j) (ne_eqb j k ne)
+
+pub if_same : (t : Bool) (c : ℕ) → t ≡ true → (if t then c else 0) ≡ c
+if_same true c is = refl
+if_same false c is = absurd (let bad : false ≡ true = is in cc)
+
+pub known_if : (f : Profile) (limit : ℕ) (asked : List ℕ) (names : List Named) (what : What) → IsFitWhat f limit asked what → AreKnown asked names → IsKnown names what
+known_if f limit asked names (Free name) fit known = known name fit
+known_if f limit asked names s fit known = tt
+
+pub records_count : (es : List Event) → length (records_of es) ≡ length es
+records_count es = length-map (reverse es) Record.Event ∙ length-reverse es
+
+one_unback : (k epoch page : ℕ) (o : Outcome) → length (unback_of k epoch page o) ≤ 1
+one_unback k epoch page Unbacked = omega arith
+one_unback k epoch page Bare = omega arith
+one_unback k epoch page (Young stamp) = omega arith
+one_unback k epoch page (InUse word value) = omega arith
+one_unback k epoch page NotOffered = omega arith
+
+pub few_unbacks : (k epoch : ℕ) (pairs : List (ℕ × Outcome)) → length (unbacks_in k epoch pairs) ≤ length pairs
+few_unbacks k epoch [] = omega arith
+few_unbacks k epoch (x ∷ pairs) =
+    let one = one_unback k epoch x.0 x.1 in
+    let rest = few_unbacks k epoch pairs in
+    let both = length-append (unback_of k epoch x.0 x.1) (unbacks_in k epoch pairs) in
+    omega (arith, one, rest, both)
+
+pub reads : {σ σ' : Standing} (epoch : ℕ) → Makes σ σ' (Look Word.Epoch) epoch → Calls σ σ' HasNothing (λ v w. HasNothing w) (epoch_look epoch)
+reads {σ} {σ'} epoch makes = call_step (λ v w. HasNothing w) (call_none {R = λ v w. HasNothing w} (λ v met. met)) makes (λ v met is. tt)
+    (λ v met is agrees. nothing_still (does_idly σ.seat.profile (LookEpoch ∷ []) refl (epoch_look epoch) v (refl, tt) (agrees, tt)) met)

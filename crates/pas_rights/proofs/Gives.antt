@@ -1,0 +1,126 @@
+-- A run of grains is given as a block.
+use Rattle.std.proofs.Common.{◌≡◌, ℕ, ◌+◌, ◌*◌, ◌/◌, ◌%◌, ◌^◌, ◌<◌, ◌≤◌, ◌==◌, Bool, true, false, ◌&&◌, if◌then◌else◌, [], ◌∷◌, Some, refl, ap, sym, ◌∙◌, subst, arith, inl}
+use Rattle.std.proofs.lemmas.Bool.{eq-eqb, and_from}
+use Rattle.pas_profile.specs.Lives.{turn_of}
+use Rattle.pas_profile.specs.Profiles.{IsPage, IsDirectoryOf}
+use Rattle.pas_profile.specs.Runs.{in_run, grain_of, length_of}
+use Rattle.pas_profile.specs.declared.directory.Directory.{Directory}
+use Rattle.pas_profile.specs.declared.name.Block.{Block}
+use Rattle.pas_profile.specs.declared.profile.Profile.{Profile}
+use Rattle.pas_profile.specs.declared.word.Word.TheVariants as Word
+use Rattle.pas_profile.proofs.Runs.{run_of, first_of_run}
+use Rattle.pas_steps.specs.Agreement.{Agreed}
+use Rattle.pas_steps.specs.Allowed.{IsBlockOf, KnowsBearing, MayGiveNow}
+use Rattle.pas_steps.specs.Calls.{Kept, Lost, later, grain_fate, freed}
+use Rattle.pas_steps.specs.Desks.{Standing, made, Makes, CanMake, CanCall, Adds}
+use Rattle.pas_steps.specs.Lists.{Whole}
+use Rattle.pas_steps.specs.Views.{View, Gives, Stays, holds, holds_on, knows_backed, known_life, KnowsDeed, is_unstamped}
+use Rattle.pas_steps.specs.declared.step.Step.TheVariants.{Look, Give}
+use Rattle.pas_steps.proofs.Adding.{adds_none, adds_step, can_step, room_left}
+use Rattle.pas_steps.proofs.Backed.{backed_holds}
+use Rattle.pas_steps.proofs.Calls.{does_as, does_step, does_then}
+use Rattle.pas_steps.proofs.Frames.{given_le}
+use Rattle.pas_steps.proofs.SpareRoom.{Spares}
+use Rattle.pas_rights.specs.Gives.{in_piece, MayGive, block_of, give_steps, GaveRun, GivesRun}
+
+-- ---- what may be given
+-- the page is known to bear the directory's blocks
+pub bears_by : {f : Profile} {v : View} (d : Directory) (page : ℕ) → IsDirectoryOf f d → KnowsDeed page d v → knows_backed v page ≡ true → is_unstamped v page ≡ false → KnowsBearing f v d.heap page
+bears_by d page of_profile deed backed stamped = record { backed = backed; directory = d; of_profile = of_profile; deed = deed; of_heap = refl; stamped = stamped }
+
+-- a run on one page
+pub may_give_on : {f : Profile} {v : View} (d : Directory) (page first n : ℕ) → IsDirectoryOf f d → first + n ≤ 256 → ((g : ℕ) → in_piece page first n g → holds v g ≡ true) → KnowsDeed page d v → knows_backed v page ≡ true → is_unstamped v page ≡ false
+    → MayGive f d.heap page first n v
+may_give_on {f} {v} d page first n of_profile within held deed backed stamped = record {
+  held = held;
+  bears = λ g inside.
+      let at = run_of (page * 256 + first) n g inside in let low = at.0 in let high = at.1 in let here : page ≡ g / 256 = omega (arith, low, high, within) in
+      subst (KnowsBearing f v d.heap) here (bears_by d page of_profile deed backed stamped);
+}
+
+given_fate : (t : Bool) (g : ℕ) → later Kept (grain_fate (if t then Gives g else Stays)) ≡ (if t then Lost else Kept)
+given_fate true g = refl
+given_fate false g = refl
+
+-- ---- the block and its grains
+pub block_is : (heap page first n word turn : ℕ) → turn ≡ turn_of word → record { name = record { address = record { 0 = page * 4096 + first * 16 }; turn = turn }; room = n * 16; heap = heap } ≡ block_of heap page first n word
+block_is heap page first n word turn t = ap (λ x. record { name = record { address = record { 0 = page * 4096 + first * 16 }; turn = x }; room = n * 16; heap = heap }) t
+
+-- they are those of the run
+pub run_is : (heap page first n word g : ℕ) → in_run (grain_of (block_of heap page first n word).name) (length_of (block_of heap page first n word)) g ≡ in_run (page * 256 + first) n g
+run_is heap page first n word g =
+    let at : (page * 4096 + first * 16) / 16 ≡ page * 256 + first = omega arith in let long : n * 16 / 16 ≡ n = omega arith in
+    ap (λ x. in_run x (n * 16 / 16) g) at ∙ ap (λ x. in_run (page * 256 + first) x g) long
+
+pub covers : (heap page first n word : ℕ) (block : Block) → block ≡ block_of heap page first n word → (g : ℕ) → in_run (grain_of block.name) (length_of block) g ≡ in_run (page * 256 + first) n g
+covers heap page first n word block is g = ap (λ (b : Block). in_run (grain_of b.name) (length_of b) g) is ∙ run_is heap page first n word g
+
+module _ (heap page first n word : ℕ) where
+  abbrev block : Block
+  block = block_of heap page first n word
+
+  module _ {σ σ1 : Standing} (spare : ℕ) (of_region : IsPage σ.seat.profile page) (of_heap : heap < σ.seat.profile.heaps) (some : 1 ≤ n) (within : page * 256 + first + n ≤ 256 * (σ.seat.profile.pages + 1))
+      (spares : Spares σ spare) (limit : σ.seat.room < 2 ^ 32) (small : first < 256) (look : Makes σ σ1 (Look (Word.Life page first)) word) where
+    abbrev f : Profile
+    f = σ.seat.profile
+
+    of_the_region : IsBlockOf f block
+    of_the_region = let low = of_region.0 in record { first = omega (arith, low); last = omega (arith, within); heap = of_heap; turn = omega arith }
+
+    module _ (v : View) (may : MayGive f heap page first n v) where
+      abbrev looked : View
+      looked = made (Look (Word.Life page first)) word ∷ v
+
+      first_held : holds v (page * 256 + first) ≡ true
+      first_held = may.held (page * 256 + first) (first_of_run (page * 256 + first) n (omega (arith, some)))
+
+      life_read : known_life looked (page * 256 + first) ≡ Some word
+      life_read =
+          let at : first ≡ (page * 256 + first) % 256 = omega (arith, small) in let here : page ≡ (page * 256 + first) / 256 = omega (arith, small) in
+          ap (λ t. if t then Some word else known_life v (page * 256 + first))
+          (and_from ((first == (page * 256 + first) % 256) && (page == (page * 256 + first) / 256)) (holds v (page * 256 + first))
+          (and_from (first == (page * 256 + first) % 256) (page == (page * 256 + first) / 256) (eq-eqb first ((page * 256 + first) % 256) at) (eq-eqb page ((page * 256 + first) / 256) here)) first_held)
+
+      bears : (q : ℕ) → KnowsBearing f v heap q → KnowsBearing f looked heap q
+      bears q b = record { backed = and_from (knows_backed v q) (holds_on v q) b.backed (backed_holds v q b.backed); directory = b.directory; of_profile = b.of_profile; deed = b.deed; of_heap = b.of_heap; stamped = b.stamped }
+
+      may_give : (l : Whole) → σ.stands v l → MayGiveNow f looked block
+      may_give l stood = record {
+        aligned = omega arith;
+        whole = omega arith;
+        some = omega (arith, some);
+        held = λ g inside. may.held g (sym (run_is heap page first n word g) ∙ inside);
+        bears = λ g inside. bears (g / 256) (may.bears g (sym (run_is heap page first n word g) ∙ inside));
+        word = word;
+        known = ap (known_life looked) (omega arith) ∙ life_read;
+        turn_is = refl;
+        few = let room = spares v l stood in let le = given_le σ.seat.actor v in omega (arith, room, le, limit);
+      }
+
+    look_adds : Adds σ σ1 (MayGive f heap page first n) (made (Look (Word.Life page first)) word ∷ [])
+    look_adds = adds_step {step = Look (Word.Life page first)} adds_none look (λ v l stood met. tt)
+
+    pub can_give : (given : Block) → given ≡ block_of heap page first n word → CanCall σ (MayGive σ.seat.profile heap page first n) → CanMake σ1 (Give given)
+    can_give given is can = subst (λ b. CanMake σ1 (Give b)) (sym is) (can_step {step = Give block} look_adds can of_the_region (λ v l stood met. may_give v met l stood))
+
+    pub room_to_give : {spare1 : ℕ} → Spares σ1 spare1 → 1 ≤ spare → CanCall σ (MayGive σ.seat.profile heap page first n) → 1 ≤ spare1
+    room_to_give {spare1} spares1 one can = let now = spares can.view can.whole can.stood in room_left {spare = spare1} 1 look_adds can spares1 (omega (arith, now, one))
+
+    gave : (answer : ℕ) (v : View) → Agreed f v (give_steps page first block word answer) → GaveRun page first n block v (made (Give block) answer ∷ made (Look (Word.Life page first)) word ∷ v)
+    gave answer v agreed = record {
+      does = does_as (freed (in_run (page * 256 + first) n) (λ q. false))
+          (does_then (does_step f (Look (Word.Life page first)) word v refl agreed.1.0) (does_step f (Give block) answer (made (Look (Word.Life page first)) word ∷ v) refl agreed.0))
+          (λ g. inl (given_fate (in_run (grain_of block.name) (length_of block) g) (grain_of block.name) ∙ ap (λ t. if t then Lost else Kept) (run_is heap page first n word g))) (λ q. refl) (λ q h. h);
+      turn = agreed.1.0.turn;
+    }
+
+    pub gives_run : {σ2 : Standing} (answer : ℕ) (given : Block) → given ≡ block_of heap page first n word → Makes σ1 σ2 (Give given) answer → GivesRun heap page first n given σ σ2
+    gives_run {σ2} answer given is give = subst (λ b. GivesRun heap page first n b σ σ2) (sym is) (record {
+      word = word;
+      answer = answer;
+      block_is = refl;
+      calls = record {
+        adds = adds_step {step = Give block} look_adds (subst (λ b. Makes σ1 σ2 (Give b) answer) is give) (λ v l stood met. may_give v met l stood);
+        leads = record { from = λ v met agreed. gave answer v agreed };
+      };
+    })

@@ -1,0 +1,148 @@
+-- Grains of a page are put back, and what follows that; and its right meanwhile.
+use Rattle.std.proofs.Common.{◌≡◌, ℕ, ◌+◌, ◌*◌, ◌/◌, ◌%◌, ◌==◌, Bool, true, false, if◌then◌else◌, List, [], ◌∷◌, ◌++◌, inl, inr, refl, ap, sym, ◌∙◌, subst, arith, append_assoc, length-append, true≢false}
+use Rattle.std.proofs.lemmas.Bool.{and_right, eqb-true}
+use Rattle.pas_profile.specs.declared.directory.Directory.{Directory}
+use Rattle.pas_profile.specs.declared.profile.Profile.{Profile}
+use Rattle.pas_bits.specs.declared.mask.Mask4.{Mask4}
+use Rattle.pas_bits.specs.Masks.{is_set, IsEmpty, HasMember}
+use Rattle.pas_steps.specs.Agreement.{Agreed}
+use Rattle.pas_steps.specs.Calls.{Calls, Fate, Kept, Lost, later, put, ClearAfter, Does}
+use Rattle.pas_steps.specs.Clear.{IsClearOn}
+use Rattle.pas_steps.specs.Desks.{Standing, CanCall, made}
+use Rattle.pas_steps.specs.Frames.{IsOnPage, OnlyOn, GivesUp, KeepsRight}
+use Rattle.pas_steps.specs.Kinds.{Kinds, LookFree, LookBacked, Putting, Unparking, Hinting, Only, returning}
+use Rattle.pas_steps.specs.Views.{View, has_right, KnowsDeed}
+use Rattle.pas_steps.specs.declared.step.Made.{Made}
+use Rattle.pas_steps.specs.declared.step.Step.TheVariants.{Offer, Unpark}
+use Rattle.pas_steps.proofs.Adding.{agreed_first, agreed_later}
+use Rattle.pas_steps.proofs.Apart.{only_both, only_within, rights_same, unstamped_same, examines_same}
+use Rattle.pas_steps.proofs.Called.{call_none, call_as, call_then, call_knows, next_call}
+use Rattle.pas_steps.proofs.Calls.{does_none, does_as, does_then, kept_first, returns_are}
+use Rattle.pas_steps.proofs.Kept.{returns_on}
+use Rattle.pas_steps.proofs.Past.{always_both}
+use Rattle.pas_steps.proofs.Sets.{kept_kept}
+use Rattle.pas_rights.specs.Leaves.{MayLeave, Leaves}
+use Rattle.pas_rights.specs.Looks.{looks_until, is_free, HintsWhere}
+use Rattle.pas_rights.specs.Puts.{masked, MayPut, PutsMask}
+use Rattle.pas_rights.specs.PutsBack.{giving_back, MayPutAndReturn, given_back, PutsAndReturns, MayPutAndLeave, put_and_left, PutsAndLeaves}
+use Rattle.pas_rights.specs.Returns.{ReofferSteps, ReturnSteps, Settles, Returned}
+use Rattle.pas_rights.proofs.Debts.{leave_lacks}
+use Rattle.pas_rights.proofs.Orders.{until_only}
+use Rattle.pas_rights.proofs.Words.{keeps_by}
+
+-- ---- what follows puts keeps a right
+abbrev settling : Kinds
+settling = LookFree ∷ LookBacked ∷ Unparking ∷ Hinting ∷ []
+
+hints_settle : (page : ℕ) (all_free : Bool) (steps : List Made) → HintsWhere all_free page steps → Only settling steps
+hints_settle page true steps (inl h) = subst (Only settling) (sym h.2) (refl, tt)
+hints_settle page true steps (inr h) = subst (Only settling) (sym h.1) (refl, (refl, tt))
+hints_settle page false steps h = subst (Only settling) (sym h) tt
+
+-- the parked bit of a page whose right the actor has is read as 0
+unparks_only : (f : Profile) (page : ℕ) (d : Directory) (steps : List Made) (v : View) → ReofferSteps page d steps → Agreed f v steps → has_right v page ≡ true → Only settling steps
+unparks_only f page d steps v (inl h) agreed right = subst (Only settling) (sym h.2) (refl, tt)
+unparks_only f page d steps v (inr h) agreed right =
+    let here : Agreed f v (made (Offer page d) h.1 ∷ made (Unpark page) h.0 ∷ []) = subst (Agreed f v) h.3 agreed in
+    let whole : 64 * (page / 64) + page % 64 ≡ page = omega arith in
+    absurd (true≢false (sym h.2 ∙ here.1.0.right (page % 64) (omega arith) (ap (has_right v) whole ∙ right)))
+
+pub return_keeps : (f : Profile) (page : ℕ) (d : Directory) (steps : List Made) (v : View) → ReturnSteps page d steps → Agreed f v steps → has_right v page ≡ true → KeepsRight page steps
+return_keeps f page d steps v h agreed right =
+    let looked = looks_until page h.used in
+    let all : Agreed f v (h.after ++ (looked ++ h.first)) = subst (Agreed f v) h.steps_are agreed in
+    let first : Agreed f v h.first = agreed_later f v looked h.first (agreed_later f v h.after (looked ++ h.first) all) in
+    keeps_by page settling steps refl (subst (Only settling) (sym h.steps_are) (only_both settling h.after (looked ++ h.first) (hints_settle page (is_free h.used) h.after h.hints)
+    (only_both settling looked h.first (only_within (LookFree ∷ []) settling looked refl (until_only page h.used)) (unparks_only f page d h.first v h.reoffers first right))))
+
+-- ---- the page is clear again where it was
+clear_again : (t : Bool) (q : ℕ) (v u : View) → (t ≡ true → IsClearOn q v → IsClearOn q u) → ClearAfter (later (if t then Lost else Kept) (if t then Kept else Kept)) q v u → IsClearOn q v → IsClearOn q u
+clear_again true q v u again h = again refl
+clear_again false q v u again h = h
+
+-- a mask that has none
+none_masked : (page : ℕ) (mask : Mask4) (g : ℕ) → IsEmpty mask → masked page mask g ≡ false
+none_masked page mask g empty = and_right (page == g / 256) (is_set mask (g % 256)) (empty (g % 256) (omega arith))
+
+-- steps that follow puts, on the same page
+both_on : (page : ℕ) (ys xs : List Made) → OnlyOn page ys → OnlyOn page xs → OnlyOn page (ys ++ xs)
+both_on page ys xs = always_both (λ m before. IsOnPage page m.step) (λ m before. IsOnPage page m.step) ys xs (λ m before h. h)
+
+pub puts_nothing : {σ : Standing} (page : ℕ) (d : Directory) (mask : Mask4) → IsEmpty mask → PutsAndReturns page d mask σ σ
+puts_nothing page d mask empty = record {
+  steps = [];
+  calls = call_none (λ v met. does_as (given_back (masked page mask)) (does_none v) (λ g. inl (ap (λ t. if t then Lost else Kept) (sym (none_masked page mask g empty)))) (λ q. refl) (λ q h. h));
+  order = inl (empty, refl);
+  kinds = tt;
+  on = tt;
+  few = omega arith;
+  keeps = λ v agreed right. tt;
+}
+
+module _ {σ σ1 : Standing} (page : ℕ) (d : Directory) (mask : Mask4) (puts : PutsMask page mask σ σ1) where
+  -- ---- the puts, for a caller that knows the deed
+  put_call : {B : View → Type 0} → ((v : View) → B v → MayPut page mask v) → ((v : View) → B v → KnowsDeed page d v) → Calls σ σ1 B (λ v w. Does (put (masked page mask) page) v w × KnowsDeed page d w) puts.steps
+  put_call may knows = call_knows page d (call_as (Does (put (masked page mask) page)) puts.calls may (λ v w met does. does)) knows
+
+  -- what settles the page then has it clear again
+  pub settled : {r : Fate} (v w : View) → Settles page r (puts.steps ++ v) w → IsClearOn page v → IsClearOn page w
+  settled v w settles clear =
+      settles.clear (unstamped_same (Putting ∷ []) refl page puts.steps v puts.kinds ∙ clear.stamped) (examines_same (Putting ∷ []) refl page puts.steps v puts.kinds ∙ clear.examined)
+
+  pub clear_after : {r : Fate} (v u : View) → Settles page r (puts.steps ++ v) u → (q : ℕ) → ClearAfter (later (if page == q then Lost else Kept) (if page == q then Kept else Kept)) q v u → IsClearOn q v → IsClearOn q u
+  clear_after v u settles q = clear_again (page == q) q v u (λ e. subst (λ p. IsClearOn p v → IsClearOn p u) (eqb-true page q e) (settled v u settles))
+
+  only_back : (ys : List Made) → Only returning ys → Only giving_back (ys ++ puts.steps)
+  only_back ys only = only_both giving_back ys puts.steps (only_within returning giving_back ys refl only) (only_within (Putting ∷ []) giving_back puts.steps refl puts.kinds)
+
+  -- ---- and what follows every put
+  return_call : Calls σ σ1 (MayPutAndReturn page d mask) (λ v w. Does (put (masked page mask) page) v w × KnowsDeed page d w) puts.steps
+  return_call = put_call (λ v met. met.puts) (λ v met. met.deed)
+
+  pub may_return : CanCall σ (MayPutAndReturn page d mask) → CanCall σ1 (KnowsDeed page d)
+  may_return can = next_call return_call can (λ v met after. after.1)
+
+  module _ {σ2 : Standing} (ret : Returned page d σ1 σ2) where
+    keeps_right : (v : View) → Agreed σ.seat.profile v (ret.steps ++ puts.steps) → has_right v page ≡ true → KeepsRight page (ret.steps ++ puts.steps)
+    keeps_right v agreed right = always_both (λ m before. GivesUp page m.step → ⊥) (λ m before. GivesUp page m.step → ⊥) ret.steps puts.steps (λ m before h. h)
+        (return_keeps σ.seat.profile page d ret.steps (puts.steps ++ v) ret.order (agreed_first σ.seat.profile v ret.steps puts.steps agreed) (rights_same (Putting ∷ []) refl page puts.steps v puts.kinds ∙ right))
+        (keeps_by page (Putting ∷ []) puts.steps refl puts.kinds)
+
+    pub returned_call : Calls σ σ2 (MayPutAndReturn page d mask) (Does (given_back (masked page mask))) (ret.steps ++ puts.steps)
+    returned_call = call_then (Does (given_back (masked page mask))) return_call ret.calls (λ v met after. after.1)
+        (λ v met a b. does_as (given_back (masked page mask)) (does_then a.0 b.does) (λ g. inl refl) (λ q. kept_kept (page == q)) (clear_after v (ret.steps ++ (puts.steps ++ v)) b))
+
+    pub puts_some : HasMember mask → PutsAndReturns page d mask σ σ2
+    puts_some some = record {
+      steps = ret.steps ++ puts.steps;
+      calls = returned_call;
+      order = inr (some, puts.steps, ret.steps, puts.order, ret.order, refl);
+      kinds = only_back ret.steps (returns_are page ret.steps ret.returns);
+      on = both_on page ret.steps puts.steps (returns_on page ret.steps ret.returns) puts.on;
+      few = let all = length-append ret.steps puts.steps in let a = ret.few in let b = puts.few in omega (arith, all, a, b);
+      keeps = keeps_right;
+    }
+
+  -- ---- and the page is left
+  leave_call : Calls σ σ1 (MayPutAndLeave page d (masked page mask)) (λ v w. Does (put (masked page mask) page) v w × KnowsDeed page d w) puts.steps
+  leave_call = put_call (λ v met. record { held = met.held; stamped = met.clear.stamped }) (λ v met. met.deed)
+
+  may_leave : (v : View) → MayPutAndLeave page d (masked page mask) v → Does (put (masked page mask) page) v (puts.steps ++ v) × KnowsDeed page d (puts.steps ++ v) → MayLeave page d (puts.steps ++ v)
+  may_leave v met after = record { right = after.0.right page ∙ met.right; deed = after.1 }
+
+  pub can_leave : CanCall σ (MayPutAndLeave page d (masked page mask)) → CanCall σ1 (MayLeave page d)
+  can_leave can = next_call leave_call can may_leave
+
+  pub puts_and_leaves : {σ2 : Standing} → Leaves page d σ1 σ2 → PutsAndLeaves page d mask σ σ2
+  puts_and_leaves left = record {
+    puts = puts.steps;
+    after = left.steps;
+    calls = call_then (Does (put_and_left page (masked page mask))) leave_call left.calls may_leave
+        (λ v met a b. does_as (put_and_left page (masked page mask)) (does_then a.0 b.does) (λ g. inl refl) (λ q. kept_first (if page == q then Lost else Kept)) (clear_after v (left.steps ++ (puts.steps ++ v)) b));
+    on = both_on page left.steps puts.steps (returns_on page left.steps left.returns) puts.on;
+    kinds = only_back left.steps (returns_are page left.steps left.returns);
+    few = let all = length-append left.steps puts.steps in let a = left.few in let b = puts.few in omega (arith, all, a, b);
+    only_puts = puts.kinds;
+    left = left.left;
+    lacks = λ before. ap (λ s. has_right s page) (append_assoc left.steps puts.steps before) ∙ leave_lacks page d left.steps (puts.steps ++ before) left.order;
+  }

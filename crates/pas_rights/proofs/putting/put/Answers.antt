@@ -1,0 +1,31 @@
+use Rattle.std.proofs.Common.{◌≡◌, [], ◌++◌, refl, ◌∙◌, subst, sym, add-one, arith}
+use Rattle.pas_profile.specs.Profiles.{IsPage}
+use Rattle.pas_steps.specs.Calls.{Calls, Does, put}
+use Rattle.pas_steps.proofs.Called.{call_none, next_call}
+use Rattle.pas_rights.specs.Puts.{MayPut, PutsBelow}
+use Rattle.pas_rights.proofs.Puts.{masked_below, may_put_word, puts_none, puts_more, puts_all}
+use Rattle.pas_rights.proofs.putting.put.Goals as goal
+
+pub loop-word-init : goal.loop-word-init
+loop-word-init g c = record { steps = []; order = refl; calls = call_none (λ v met. puts_none c.args.page c.args.mask.now v); home = refl }
+
+pub put_word-requires-clause-page : goal.put_word-requires-clause-page
+put_word-requires-clause-page g c = subst (λ s. IsPage s.profile c.args.page) (sym c.loop-word.invariant.calls.adds.seat_is) c.requires.page
+
+pub put_word-requires-clause-can : goal.put_word-requires-clause-can
+put_word-requires-clause-can g c = let i = c.loop-word.invariant in
+    next_call i.calls c.requires.can (λ v met d. may_put_word c.args.page c.args.mask.now c.loop-word.word i.steps v i.order met d)
+
+pub loop-word-preserved : goal.loop-word-preserved
+loop-word-preserved g c = let i = c.loop-word.invariant in let p = c.put_word.ensures.puts in record {
+  steps = p.steps ++ i.steps;
+  order = subst (λ n. PutsBelow c.args.page c.args.mask.now n (p.steps ++ i.steps)) (sym (add-one c.loop-word.word)) (p.steps, i.steps, p.order, i.order, refl);
+  calls = puts_more c.args.page c.args.mask.now c.loop-word.word i.steps i.order i.calls p;
+  home = c.put_word.ensures.home ∙ i.home;
+}
+
+pub returns-clause-puts : goal.returns-clause-puts
+returns-clause-puts g c = let i = c.loop-word.invariant in
+    let all : c.loop-word.word ≡ 4 = omega (arith, c.loop-word-test.false, c.loop-word.auto.word-end) in let page = c.args.page in let mask = c.args.mask.now in
+    puts_all page mask i.steps (subst (λ n. PutsBelow page mask n i.steps) all i.order)
+    (subst (λ n. Calls (g.D.Desk.standing c.args.desk.now) (g.D.Desk.standing c.loop-word.desk) (MayPut page mask) (Does (put (masked_below page mask n) page)) i.steps) all i.calls)

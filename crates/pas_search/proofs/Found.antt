@@ -1,0 +1,43 @@
+-- For callers of a search: what it found, and the page that is left at once.
+use Rattle.std.proofs.Common.{◌≡◌, ℕ, ◌/◌, ◌%◌, ◌==◌, Bool, true, false, ◌&&◌, if◌then◌else◌, Ok, refl, sym, ◌∙◌, subst, arith, inl, true≢false}
+use Rattle.std.proofs.lemmas.Bool.{eqb-true, and_parts, false_from_ne_true}
+use Rattle.pas_profile.specs.declared.directory.Directory.{Directory}
+use Rattle.pas_steps.specs.Calls.{Calls, Fate, Kept, Gained, Lost, later, ClearAfter, Effect, on_page, Does}
+use Rattle.pas_steps.specs.Desks.{Standing}
+use Rattle.pas_steps.specs.Views.{View, holds}
+use Rattle.pas_steps.proofs.Calls.{does_as, does_then}
+use Rattle.pas_search.specs.Searches.{MaySearch, KeepsFound, Searches}
+use Rattle.pas_search.specs.Serving.{Rule}
+use Rattle.pas_search.specs.declared.serving.Served.{Served}
+use Rattle.pas_steps.proofs.Sets.{kept_kept}
+
+-- ---- what was found
+-- it is kept, and none of its grains was held
+pub record KeepsNew {Found : Type 0} (rule : Rule Found) (d : Directory) (served : Served Found) (v w : View) : Type 0 where
+  pub found : KeepsFound rule d served v w
+  pub apart : (g : ℕ) → ((served.page == g / 256) && rule.kept served.found (g % 256)) ≡ true → holds v g ≡ false
+
+pub found_call : {Found : Type 0} (rule : Rule Found) (d : Directory) {tells : Bool} {σ σ1 : Standing} (served : Served Found) (searches : Searches rule tells d σ σ1 (Ok served)) → Calls σ σ1 (MaySearch d) (KeepsNew rule d served) searches.steps
+found_call rule d served searches = record {
+  adds = searches.adds;
+  leads = record {
+    from = λ v met agreed. record {
+      found = searches.outcome.keeps.from v met agreed;
+      apart = λ g here.
+          let at = and_parts (served.page == g / 256) (rule.kept served.found (g % 256)) here in let shows = searches.outcome.shows in
+          false_from_ne_true (holds v g) (λ held. true≢false (sym (shows.took (g % 256) (omega arith) at.1) ∙ shows.held.from v met agreed g (sym (eqb-true served.page (g / 256) at.0)) held));
+    };
+  };
+}
+
+-- ---- the page is left
+-- what became of the grains, and of the page's right
+abbrev pub with_right : (ℕ → Fate) → ℕ → Fate → Effect
+with_right grains page right = record { grains = grains; rights = λ q. if page == q then right else Kept; clears = λ q. Kept }
+
+lost_later : (t : Bool) → later (if t then Gained else Kept) (if t then Lost else Kept) ≡ (if t then Lost else Kept)
+lost_later true = refl
+lost_later false = refl
+
+pub left_after : {v w u : View} (grains : ℕ → Fate) (page : ℕ) → Does (with_right grains page Gained) v w → Does (on_page page Lost Kept) w u → Does (with_right grains page Lost) v u
+left_after {v} {w} {u} grains page a b = does_as (with_right grains page Lost) (does_then a b) (λ g. inl refl) (λ q. lost_later (page == q)) (λ q h. subst (λ t. ClearAfter t q v u) (kept_kept (page == q)) h)

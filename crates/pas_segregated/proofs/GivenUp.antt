@@ -1,0 +1,127 @@
+-- What takes and puts leave: the takes of the page, and grains that aren't held. And slots that are given up.
+use Rattle.std.proofs.Common.{◌≡◌, ℕ, zero, suc, ◌+◌, ◌*◌, ◌/◌, ◌%◌, ◌==◌, Bool, true, false, if◌then◌else◌, List, [], ◌∷◌, ◌++◌, refl, ap, sym, ◌∙◌, subst, arith, inl, append_assoc, length-append, ◌&&◌}
+use Rattle.std.proofs.lemmas.Bool.{eq-eqb, and_from, cond_both}
+use Rattle.pas_profile.specs.Classes.{has_bit}
+use Rattle.pas_profile.specs.declared.directory.Directory.{Directory}
+use Rattle.pas_bits.specs.declared.mask.Mask4.{Mask4}
+use Rattle.pas_rights.specs.Leaves.{MayLeave, Leaves}
+use Rattle.pas_rights.specs.Puts.{masked}
+use Rattle.pas_rights.specs.PutsBack.{giving_back, MayPutAndReturn, given_back, PutsAndReturns}
+use Rattle.pas_rights.specs.Takes.{word_take, takes}
+use Rattle.pas_steps.specs.Calls.{Calls, Kept, Lost, later, ClearAfter, Does}
+use Rattle.pas_steps.specs.Desks.{made, Standing, CanCall}
+use Rattle.pas_steps.specs.Effects.{in_mask}
+use Rattle.pas_steps.specs.Evidence.{GetsRight}
+use Rattle.pas_steps.specs.Frames.{IsOnPage}
+use Rattle.pas_steps.specs.Kinds.{Kinds, Deeding, Taking, Giving, Ending, Claiming, kind_of, is_in, Only, returning}
+use Rattle.pas_steps.specs.Views.{View, Puts, Stays, grain_move, held_after, holds, KnowsDeed}
+use Rattle.pas_steps.specs.declared.step.Made.{Made}
+use Rattle.pas_steps.specs.declared.step.Step.{Step}
+use Rattle.pas_steps.specs.declared.step.Step.TheVariants.{Put, Look, Take}
+use Rattle.pas_steps.proofs.Apart.{only_both, same_over, holds_over, only_within}
+use Rattle.pas_steps.proofs.Called.{call_as, call_then, next_call, call_knows}
+use Rattle.pas_steps.proofs.Calls.{does_then, does_as, returns_are, kept_first}
+use Rattle.pas_steps.proofs.Kept.{returns_on}
+use Rattle.pas_steps.proofs.Past.{always_both}
+use Rattle.pas_steps.proofs.Sets.{kept_kept}
+use Rattle.pas_search.specs.Serving.{IsJustGot}
+use Rattle.pas_segregated.specs.Stops.{in_slots, AreGrains, MayStopAt, LeavesWhere, of_slots, StopsAt}
+use Rattle.pas_segregated.specs.Takes.{takes_after, takes_since}
+use Rattle.pas_segregated.specs.declared.slots.Slots.{Slots}
+
+-- ---- the takes
+abbrev counted : Kinds
+counted = Deeding ∷ Taking ∷ Claiming ∷ []
+
+not_counted : (page : ℕ) (s : Step) (a : ℕ) (before : List Made) → is_in counted (kind_of s) ≡ false → takes_after page s a before ≡ before
+not_counted page (Look word) a before h = refl
+not_counted page s a before h = cc
+
+pub back_count : (page : ℕ) (steps before : List Made) → Only giving_back steps → takes_since page (steps ++ before) ≡ takes_since page before
+back_count page = same_over (takes_since page) counted giving_back (λ m before h. not_counted page m.step m.answer (takes_since page before) h) refl
+
+-- takes of the page are counted
+word_count : (page word mask a : ℕ) (t : Bool) (before : List Made) → takes_since page ((if t then [] else made (Take page word mask) a ∷ []) ++ before) ≡ (if t then [] else made (Take page word mask) a ∷ []) ++ takes_since page before
+word_count page word mask a true before = refl
+word_count page word mask a false before = ap (λ t. if t then made (Take page word mask) a ∷ takes_since page before else takes_since page before) (eq-eqb page page refl)
+
+pub takes_count : (page : ℕ) (masks answers : ℕ → ℕ) (n : ℕ) (before : List Made) → takes_since page before ≡ [] → takes_since page (takes page masks answers n ++ before) ≡ takes page masks answers n
+takes_count page masks answers zero before none = none
+takes_count page masks answers (suc n) before none = let here = word_take page n (masks n) (answers n) in let rest = takes page masks answers n in
+    ap (takes_since page) (append_assoc here rest before) ∙ word_count page n (masks n) (answers n) (masks n == 0) (rest ++ before) ∙ ap (λ ts. here ++ ts) (takes_count page masks answers n before none)
+
+-- none was made when the right was just got
+got_none : (page : ℕ) (s : Step) (a : ℕ) (before : List Made) → GetsRight page s a → takes_after page s a before ≡ []
+got_none page s a before (GetsRight.Claims d b set) = ap (λ t. if t then [] else before) (and_from (page == page) (has_bit b (page % 64)) (eq-eqb page page refl) set)
+got_none page s a before (GetsRight.Deeds d b e) = ap (λ t. if t then [] else before) (and_from (page == page) (b == 0) (eq-eqb page page refl) (eq-eqb b 0 e))
+
+pub none_yet : (page : ℕ) (before : List Made) → IsJustGot page before → takes_since page before ≡ []
+none_yet page [] newest = absurd newest
+none_yet page (m ∷ more) newest = got_none page m.step m.answer (takes_since page more) newest
+
+-- ---- grains that aren't held
+abbrev getting : Kinds
+getting = Taking ∷ Giving ∷ Ending ∷ []
+
+not_got : (s : Step) (a g : ℕ) (had : Bool) → is_in getting (kind_of s) ≡ false → had ≡ false → held_after (grain_move s a g) had ≡ false
+not_got (Put q w m) a g had h none = cond_both (in_mask q w m g) Puts Stays (λ m. held_after m had ≡ false) (λ put. refl) (λ other. none)
+not_got s a g had h none = cc
+
+pub back_holds : (g : ℕ) (steps : List Made) (v : View) → Only giving_back steps → holds v g ≡ false → holds (steps ++ v) g ≡ false
+back_holds g = holds_over (λ v. holds v g ≡ false) getting giving_back (λ m v h none. not_got m.step m.answer g (holds v g) h none) refl
+
+-- whether a grain is held afterwards hangs on nothing else of what stood before
+pub same_after : (g : ℕ) (steps : List Made) (u v : View) → holds u g ≡ holds v g → holds (steps ++ u) g ≡ holds (steps ++ v) g
+same_after g [] u v e = e
+same_after g (m ∷ more) u v e = ap (held_after (grain_move m.step m.answer g)) (same_after g more u v e)
+
+-- ---- slots
+-- a right that is given up, where it is
+left_right : (r t : Bool) → r ≡ true → later Kept (if t then Lost else Kept) ≡ (if r && t then Lost else Kept)
+left_right r t has = kept_first (if t then Lost else Kept) ∙ ap (λ x. if x && t then Lost else Kept) (sym has)
+
+module _ (d : Directory) (slots : Slots) (mask : Mask4) (are : AreGrains slots mask) where
+  same_grains : (g : ℕ) → masked slots.page mask g ≡ in_slots slots g
+  same_grains g = ap (λ t. (slots.page == g / 256) && t) (are (g % 256) (omega arith))
+
+  may_put_back : (v : View) → MayStopAt d slots v → MayPutAndReturn slots.page d mask v
+  may_put_back v met = record { deed = met.deed; puts = record { held = λ g here. met.held g (sym (same_grains g) ∙ here); stamped = (met.clear.on slots.page).stamped } }
+
+  pub can_put_back : {σ : Standing} → CanCall σ (MayStopAt d slots) → CanCall σ (MayPutAndReturn slots.page d mask)
+  can_put_back can = record { view = can.view; whole = can.whole; stood = can.stood; met = may_put_back can.view can.met }
+
+  module _ {σ σ1 : Standing} (back : PutsAndReturns slots.page d mask σ σ1) where
+    -- the grains are gone, and the deed is known still
+    back_call : Calls σ σ1 (MayStopAt d slots) (λ v w. Does (given_back (in_slots slots)) v w × KnowsDeed slots.page d w) back.steps
+    back_call = call_knows slots.page d (call_as (Does (given_back (in_slots slots))) back.calls may_put_back
+        (λ v w met does. does_as (given_back (in_slots slots)) does (λ g. inl (ap (λ t. if t then Lost else Kept) (same_grains g))) (λ q. refl) (λ q h. h))) (λ v met. met.deed)
+
+    pub stops_without : slots.right ≡ false → StopsAt d slots σ σ1
+    stops_without none = record {
+      steps = back.steps;
+      calls = call_as (Does (of_slots slots Lost)) back_call (λ v met. met)
+          (λ v w met after. does_as (of_slots slots Lost) after.0 (λ g. inl refl) (λ q. ap (λ t. if t && (slots.page == q) then Lost else Kept) (sym none)) (λ q h. h));
+      order = record { mask = mask; grains = are; back = back.steps; puts = back.order; left = []; leaves = subst (λ t. LeavesWhere t slots.page d []) (sym none) refl; steps_are = refl };
+      kinds = back.kinds;
+      on = back.on;
+      few = let a = back.few in omega (arith, a);
+    }
+
+    -- the page was left
+    may_leave : slots.right ≡ true → (v w : View) → MayStopAt d slots v → Does (given_back (in_slots slots)) v w × KnowsDeed slots.page d w → MayLeave slots.page d w
+    may_leave has v w met after = record { right = after.0.right slots.page ∙ met.right has; deed = after.1 }
+
+    pub can_leave : slots.right ≡ true → CanCall σ (MayStopAt d slots) → CanCall σ1 (MayLeave slots.page d)
+    can_leave has can = next_call back_call can (λ v met after. may_leave has v (back.steps ++ v) met after)
+
+    pub stops_with : {σ2 : Standing} → slots.right ≡ true → Leaves slots.page d σ1 σ2 → StopsAt d slots σ σ2
+    stops_with has left = record {
+      steps = left.steps ++ back.steps;
+      calls = call_then (Does (of_slots slots Lost)) back_call left.calls (λ v met after. may_leave has v (back.steps ++ v) met after)
+          (λ v met a b. does_as (of_slots slots Lost) (does_then a.0 b.does) (λ g. inl refl) (λ q. left_right slots.right (slots.page == q) has)
+          (λ q h. subst (λ t. ClearAfter t q v (left.steps ++ (back.steps ++ v))) (kept_kept (slots.page == q)) h));
+      order = record { mask = mask; grains = are; back = back.steps; puts = back.order; left = left.steps; leaves = subst (λ t. LeavesWhere t slots.page d left.steps) (sym has) left.order; steps_are = refl };
+      kinds = only_both giving_back left.steps back.steps (only_within returning giving_back left.steps refl (returns_are slots.page left.steps left.returns)) back.kinds;
+      on = always_both (λ m before. IsOnPage slots.page m.step) (λ m before. IsOnPage slots.page m.step) left.steps back.steps (λ m before h. h) (returns_on slots.page left.steps left.returns) back.on;
+      few = let all = length-append left.steps back.steps in let a = left.few in let b = back.few in omega (arith, all, a, b);
+    }

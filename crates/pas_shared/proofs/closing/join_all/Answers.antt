@@ -1,0 +1,23 @@
+use Rattle.std.proofs.Common.{◌≡◌, List, [], ◌∷◌, ◌++◌, ap, sym, ◌∙◌, append_assoc}
+use Rattle.pas_shared.specs.Ruled.{joined}
+use Rattle.pas_shared.specs.declared.pass.SharedPass.{SharedPass}
+use Rattle.pas_shared.proofs.Closed.{takes_in}
+use Rattle.pas_shared.proofs.Pops.{last_is}
+use Rattle.pas_shared.proofs.closing.join_all.Goals as goal
+
+-- the last pass, and those before it, are of the table
+pub loop-pass-preserved : goal.loop-pass-preserved
+loop-pass-preserved c =
+    let i = c.loop-pass.invariant in
+    let pass = c.in-Some.pass in
+    let of_table = last_is (λ (p : SharedPass). p.place.seat.table_id ≡ c.args.words.now.table_id) c.loop-pass.passes.items c.pop.new.self.items pass c.in-Some.ensures.items i.2 in
+    let seat = c.loop-pass.seat.me.0 in (
+      c.join.ensures.0,
+      ap (λ m. m.1) c.join.ensures.1 ∙ i.1,
+      of_table.0,
+      (
+        pass ∷ i.3.0,
+        sym (append_assoc c.pop.new.self.items (pass ∷ []) i.3.0) ∙ ap (λ (l : List SharedPass). l ++ i.3.0) (sym c.in-Some.ensures.items) ∙ i.3.1,
+        takes_in seat c.join.new.seat.me pass i.3.0 (c.join.ensures.1 ∙ ap (λ t. (joined seat pass.place.seat.me.0, t)) i.1) i.3.2,
+      ),
+    )

@@ -1,0 +1,22 @@
+-- The records of phases, as they are written.
+use Rattle.std.proofs.Common.{◌≡◌, ℕ, List, [], ◌∷◌, ◌++◌, ap, sym, ◌∙◌, append_assoc}
+use Rattle.std.proofs.lemmas.Bool.{false≢true}
+use Rattle.std.proofs.lemmas.List.{append-nil}
+use Rattle.pas_report.specs.declared.record.Record.{Record}
+use Rattle.pas_answers.specs.Ways.{AreSpoken, by_phases}
+use Rattle.pas_shares.specs.Shares.{ArePhasesArranged}
+
+-- records without a mark are added to those since the last one
+gathers : (threads : ℕ) (since said rest : List Record) → AreSpoken said → by_phases threads since (said ++ rest) ≡ by_phases threads (since ++ said) rest
+gathers threads since [] rest spoken = ap (λ (rs : List Record). by_phases threads rs rest) (sym (append-nil since))
+gathers threads since (Record.Phase n ∷ said) rest spoken = absurd (false≢true spoken.0.1)
+gathers threads since (Record.Close ∷ said) rest spoken = absurd (false≢true spoken.0.1)
+gathers threads since (Record.Event e ∷ said) rest spoken = gathers threads (since ++ Record.Event e ∷ []) said rest spoken.1 ∙ ap (λ (rs : List Record). by_phases threads rs rest) (append_assoc since (Record.Event e ∷ []) said)
+gathers threads since (Record.Said k s ∷ said) rest spoken = gathers threads (since ++ Record.Said k s ∷ []) said rest spoken.1 ∙ ap (λ (rs : List Record). by_phases threads rs rest) (append_assoc since (Record.Said k s ∷ []) said)
+
+pub are_arranged : ArePhasesArranged
+are_arranged threads said spoken = (
+  λ n more. gathers threads [] said (Record.Phase n ∷ more) spoken,
+  λ more. gathers threads [] said (Record.Close ∷ more) spoken,
+  ap (λ (rs : List Record). by_phases threads [] rs) (sym (append-nil said)) ∙ gathers threads [] said [] spoken,
+)

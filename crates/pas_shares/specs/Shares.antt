@@ -1,0 +1,167 @@
+-- What each worker does in a phase, apart from the others, and how the shares of all workers make up the whole phase.
+use Rattle.std.specs.Prelude.{ℕ, ◌+◌, ◌≤◌, ◌≡◌, ◌==◌, true, false, if◌then◌else◌, List, [], ◌∷◌, ◌++◌, Option, Some}
+use Rattle.pas_profile.specs.declared.profile.Profile.{Profile}
+use Rattle.pas_profile.specs.declared.name.Name.{Name}
+use Rattle.pas_steps.specs.Lists.{Whole, part}
+use Rattle.pas_trace.specs.EveryPlan.{asked_after, AreSound}
+use Rattle.pas_trace.specs.declared.plan.What.{What}
+use Rattle.pas_trace.specs.declared.plan.Op.{Op}
+use Rattle.pas_trace.specs.declared.plan.What.TheVariants.{Alloc, Free, Raw, Flush, Stop, Tick, Pass, Idle}
+use Rattle.pas_report.specs.declared.record.Record.{Record}
+use Rattle.pas_answers.specs.Acts.{Act, Operates, Settles, Ticks, MakesPass, ReadsEpoch, StopsIdle, MarksPhase, Wakes, MarksClose, Ends, is_active, idle_threads, acts_of_ops, own_acts, scavenger_acts}
+use Rattle.pas_answers.specs.Answers.{Named, standing_for, Progress, Follows}
+use Rattle.pas_answers.specs.Calls.{AreKnown, OnlyAsked}
+use Rattle.pas_answers.specs.Reaching.{Reaches}
+use Rattle.pas_answers.specs.Fit.{AreFit}
+use Rattle.pas_answers.specs.Ways.{OnThreads, AreSpoken, records_by, by_actors, arranged}
+
+-- ---- workers
+-- Each actor is in the hands of one worker throughout a phase: a thread that has an operation in it is its own worker, and the scavenger has
+-- itself and each thread that is idle. `owner` says whose hands these are.
+abbrev pub Owners : Type 0
+Owners = ℕ → ℕ
+
+-- the actor whose worker makes the act; a mark is of nobody, and stands between two phases
+abbrev pub actor_of_act : Act → ℕ
+actor_of_act (Operates op) = op.actor
+actor_of_act (Settles k) = k
+actor_of_act (Ticks epoch) = 0
+actor_of_act MakesPass = 0
+actor_of_act ReadsEpoch = 0
+actor_of_act (StopsIdle k n) = 0
+actor_of_act (MarksPhase n) = 0
+actor_of_act (Wakes k) = k
+actor_of_act MarksClose = 0
+actor_of_act (Ends k) = k
+
+-- the worker that makes the act has all that it changes in its hands
+abbrev pub IsInHand : Owners → Act → Type 0
+IsInHand owner (Operates op) = Unit {0}
+IsInHand owner (Settles k) = Unit {0}
+IsInHand owner (Ticks epoch) = Unit {0}
+IsInHand owner MakesPass = Unit {0}
+IsInHand owner ReadsEpoch = Unit {0}
+IsInHand owner (StopsIdle k n) = owner k ≡ owner 0
+IsInHand owner (MarksPhase n) = ⊥
+IsInHand owner (Wakes k) = Unit {0}
+IsInHand owner MarksClose = ⊥
+IsInHand owner (Ends k) = Unit {0}
+
+abbrev pub AreInHand : Owners → List Act → Type 0
+AreInHand owner [] = Unit {0}
+AreInHand owner (act ∷ acts) = IsInHand owner act × AreInHand owner acts
+
+-- the acts of worker w among these, in order
+abbrev pub acts_by : Owners → ℕ → List Act → List Act
+acts_by owner w [] = []
+acts_by owner w (act ∷ acts) = if owner (actor_of_act act) == w then act ∷ acts_by owner w acts else acts_by owner w acts
+
+-- ---- names
+-- what the first says of a name the second says too
+abbrev pub AreAmong : List Named → List Named → Type 0
+AreAmong few many = (n : ℕ) (block : Option Name) → standing_for few n ≡ Some block → standing_for many n ≡ Some block
+
+-- the operation asks for this name
+abbrev pub IsRequestOf : ℕ → What → Type 0
+IsRequestOf n (Alloc name heap size align) = name ≡ n
+IsRequestOf n (Free name) = ⊥
+IsRequestOf n (Raw block) = ⊥
+IsRequestOf n Flush = ⊥
+IsRequestOf n Stop = ⊥
+IsRequestOf n (Tick epoch) = ⊥
+IsRequestOf n Pass = ⊥
+IsRequestOf n (Idle m) = ⊥
+
+abbrev pub Asks : ℕ → Act → Type 0
+Asks n (Operates op) = IsRequestOf n op.what
+Asks n (Settles k) = ⊥
+Asks n (Ticks epoch) = ⊥
+Asks n MakesPass = ⊥
+Asks n ReadsEpoch = ⊥
+Asks n (StopsIdle k m) = ⊥
+Asks n (MarksPhase m) = ⊥
+Asks n (Wakes k) = ⊥
+Asks n MarksClose = ⊥
+Asks n (Ends k) = ⊥
+
+-- none of these acts asks for the name
+abbrev pub NoneAsks : ℕ → List Act → Type 0
+NoneAsks n [] = Unit {0}
+NoneAsks n (act ∷ acts) = (Asks n act → ⊥) × NoneAsks n acts
+
+-- the names that were asked for, after an act and after several
+abbrev pub asked_after_act : Act → List ℕ → List ℕ
+asked_after_act (Operates op) asked = asked_after op.what asked
+asked_after_act (Settles k) asked = asked
+asked_after_act (Ticks epoch) asked = asked
+asked_after_act MakesPass asked = asked
+asked_after_act ReadsEpoch asked = asked
+asked_after_act (StopsIdle k n) asked = asked
+asked_after_act (MarksPhase n) asked = asked
+asked_after_act (Wakes k) asked = asked
+asked_after_act MarksClose asked = asked
+asked_after_act (Ends k) asked = asked
+
+abbrev pub asked_after_acts : List Act → List ℕ → List ℕ
+asked_after_acts [] asked = asked
+asked_after_acts (act ∷ acts) asked = asked_after_acts acts (asked_after_act act asked)
+
+-- ---- shares
+-- A worker's own progress is its share of how far the replay has come: of each actor in its hands it has the same part, cache and records, and what
+-- it knows of names is so. The epoch that was read for an idle operation is in the scavenger's hands.
+pub record IsShareOf (owner : Owners) (w : ℕ) (own p : Progress) : Type 0 where
+  pub parts : (k : ℕ) → owner k ≡ w → part k own.list ≡ part k p.list
+  pub caches : (k : ℕ) → owner k ≡ w → own.caches k ≡ p.caches k
+  pub records : (k : ℕ) → owner k ≡ w → records_by k own.records ≡ records_by k p.records
+  pub epoch : owner 0 ≡ w → own.epoch ≡ p.epoch
+  pub names : AreAmong own.names p.names
+
+-- All acts were answered, from p on, and each worker has its share of what came of it. No mark was written, and a name that none of the acts asked for
+-- stands for what it did.
+pub record IsWoven (f : Profile) (owner : Owners) (acts : List Act) (asked : List ℕ) (p : Progress) (own : ℕ → Progress) : Type 0 where
+  pub reached : Progress
+  pub reaches : Reaches f acts p reached
+  pub shares : (w : ℕ) → IsShareOf owner w (own w) reached
+  pub said : List Record
+  pub records_are : reached.records ≡ p.records ++ said
+  pub spoken : AreSpoken said
+  pub only_asked : OnlyAsked (asked_after_acts acts asked) reached.names
+  pub same_names : (n : ℕ) → NoneAsks n acts → standing_for reached.names n ≡ standing_for p.names n
+
+-- ---- the law
+-- Each worker answered its own acts, in order, from its share on: by its own actors' parts, caches and records, and by what it knew of names. Then all
+-- acts are answered, in their order, and each worker's end is its share of that.
+abbrev pub AreWoven : Type 0
+AreWoven = (f : Profile) (owner : Owners) (limit : ℕ) (asked : List ℕ) (acts : List Act) (p : Progress) (before after : ℕ → Progress)
+    → AreFit f limit asked acts → AreInHand owner acts → OnlyAsked asked p.names → ((w : ℕ) → IsShareOf owner w (before w) p)
+    → ((w : ℕ) → Reaches f (acts_by owner w acts) (before w) (after w)) → IsWoven f owner acts asked p after
+
+-- What follows acts that were answered so follows the whole.
+abbrev pub AreJoined : Type 0
+AreJoined = (f : Profile) (acts more : List Act) (p p' : Progress) (l : Whole) (rs : List Record) → Reaches f acts p p' → Follows f more p' l rs → Follows f (acts ++ more) p l rs
+
+-- After acts that were answered so, the names that were asked for stand for something, those that the acts asked for too.
+abbrev pub AreKnownAfter : Type 0
+AreKnownAfter = (f : Profile) (acts : List Act) (asked : List ℕ) (p p' : Progress) → Reaches f acts p p' → AreKnown asked p.names → AreKnown (asked_after_acts acts asked) p'.names
+
+-- ---- the acts of a phase
+-- whose hands an actor is in, in a phase of these operations
+abbrev pub owner_in : List Op → Owners
+owner_in ops k = if is_active ops k then k else 0
+
+-- In a phase of a plan of so many threads all acts are in the hands of their workers. A thread with an operation in it makes the acts of its own
+-- operations, and no other, and the scavenger those of its own.
+abbrev pub ActsAreShared : Type 0
+ActsAreShared = (f : Profile) (threads : ℕ) (asked : List ℕ) (ops : List Op) → AreSound f asked ops
+    → AreInHand (owner_in ops) (acts_of_ops (idle_threads threads ops) ops)
+    × ((k : ℕ) → 1 ≤ k → is_active ops k ≡ true → acts_by (owner_in ops) k (acts_of_ops (idle_threads threads ops) ops) ≡ own_acts k ops)
+    × ((k : ℕ) → 1 ≤ k → is_active ops k ≡ false → acts_by (owner_in ops) k (acts_of_ops (idle_threads threads ops) ops) ≡ [])
+    × (acts_by (owner_in ops) 0 (acts_of_ops (idle_threads threads ops) ops) ≡ scavenger_acts (idle_threads threads ops) ops)
+
+-- ---- the records
+-- Records without a mark, those of a phase, are written actor by actor, from the scavenger to the last thread; then comes the mark, and what follows.
+abbrev pub ArePhasesArranged : Type 0
+ArePhasesArranged = (threads : ℕ) (said : List Record) → AreSpoken said
+    → ((n : ℕ) (more : List Record) → arranged OnThreads threads (said ++ Record.Phase n ∷ more) ≡ by_actors 0 (threads + 1) said ++ Record.Phase n ∷ arranged OnThreads threads more)
+    × ((more : List Record) → arranged OnThreads threads (said ++ Record.Close ∷ more) ≡ by_actors 0 (threads + 1) said ++ Record.Close ∷ arranged OnThreads threads more)
+    × (arranged OnThreads threads said ≡ by_actors 0 (threads + 1) said)

@@ -1,0 +1,19 @@
+//! What holds of workers that each answer their own acts, however their steps interleave. Each law is the contract of an empty function.
+ghost use Rattle.pas_shares.specs.Shares.{AreWoven, AreJoined, AreKnownAfter, ActsAreShared, ArePhasesArranged};
+
+/// What all workers of a phase did, each for itself, answers the acts of the phase in the order of the text.
+pub fn weaving()
+    ensures woven { AreWoven }
+    ensures joined { AreJoined }
+    ensures known { AreKnownAfter }
+{}
+
+/// Each act of a phase is in the hands of one worker: a thread that has an operation in it, or the scavenger.
+pub fn shares()
+    ensures { ActsAreShared }
+{}
+
+/// The records of a phase are written actor by actor, from the scavenger to the last thread, and each mark stays where it is.
+pub fn records()
+    ensures { ArePhasesArranged }
+{}
