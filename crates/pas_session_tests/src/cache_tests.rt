@@ -1,13 +1,7 @@
 //! A cache over a plain desk.
-ghost use Rattle.std.specs.Prelude.{◌≡◌, ◌+◌, ◌≤◌, [], false};
-ghost use Rattle.pas_profile.specs.Classes.{has_bit};
-ghost use Rattle.pas_steps.specs.Desks.{CanCall};
-ghost use Rattle.pas_steps.specs.Unknown.{unknown_pages};
-ghost use Rattle.pas_cache.specs.Caches.{cached, AtRest};
 
-use crate::seating::{large_profile, plain_profile, seated};
+use crate::seating::{plain_profile, seated};
 use pas_cache::ThreadCache;
-use pas_profile::classes::class_size;
 use pas_profile::*;
 use pas_steps::Desk;
 use pas_trials::{borrow_two, words_of_first};
@@ -73,52 +67,5 @@ fn a_cache_gives_slots_of_one_page_and_leaves_it_offered(rt: HostRuntime) -> Res
     assert!(rt; are_first_two(&blocks));
     assert!(rt; are_of_two_blocks(desk.shown()));
     assert!(rt; words_of_first(&mut desk) == [!0b1100, u64::MAX, 2, 0]);
-    Ok(())
-}
-
-/// Whether the answer is a block of so many bytes at this place of the page, where so many blocks were given before.
-fn is_block(answer: &Result<Block, NoRoom>, page: u8, place: u32, room: u32, turn: u64) -> bool {
-    let address = Address((page as u32 * 4096).saturating_add(place));
-    let name = Name { address, turn };
-    *answer
-        == Ok(Block {
-            name,
-            room,
-            heap: 0,
-        })
-}
-
-/// Two blocks of each class, of which the first one ends, and then two more. Whether each class gets a page of its own, whose first slot is given
-/// again after the page was left, and then the slot past that of the block that lives.
-fn serves_each_class<D: Desk>(desk: &mut D, cache: &mut ThreadCache) -> bool
-    requires exclusive { has_bit (D.standing desk.old).seat.profile.shared 0 ≡ false }
-    requires none_logged { (cached cache.old).log ≡ [] }
-    requires can { CanCall (D.standing desk.old) (λ v. AtRest (D.standing desk.old).seat.profile (cached cache.old) v × (200 + unknown_pages (D.standing desk.old).seat.profile v ≤ D.spare_of desk.old)) }
-{
-    for class in 0..20u8 {
-        let size = class_size(class);
-        let [first, second] = borrow_two(desk, cache, size);
-        let [again, third] = borrow_two(desk, cache, size);
-        let page = class + 1;
-        let served = is_block(&first, page, 0, size, 0)
-            && is_block(&second, page, size, size, 0)
-            && is_block(&again, page, 0, size, 1)
-            && is_block(&third, page, size.saturating_mul(2), size, 0);
-        if !served {
-            return false;
-        }
-    }
-    true
-}
-
-#[test]
-fn a_region_of_twenty_classes_serves_each(rt: HostRuntime) -> Result<(), Fail> {
-    let (mut desk, _) = seated(rt.alloc(), large_profile(), 17_000)?;
-    let mut utility = Utility::try_new(rt.alloc(), desk.profile(), &[0, 17_000, 17_000])?;
-    let Some(seat) = utility.cache_seat(1) else {
-        return Err(NoMemory.into());
-    };
-    let mut cache = ThreadCache::new(seat);
-    assert!(rt; serves_each_class(&mut desk, &mut cache));
     Ok(())
 }
